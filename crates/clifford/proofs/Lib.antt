@@ -1,0 +1,2 @@
+pub mod CliffordLaws
+pub mod VectorLaws

@@ -1,0 +1,2 @@
+pub mod Clifford
+pub mod Vectors

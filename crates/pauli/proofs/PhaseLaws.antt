@@ -1,0 +1,104 @@
+-- Powers of i: laws by one test over their two bits, and sums of phases.
+-- Assumes nothing.
+use mathlib.Core.Bool.{Bool, false, true, true≢false}
+use mathlib.Core.Path.{ap, refl, sym, _∙_, _≡_}
+use Prim.Native.Nat.{_<_, ℕ}
+use lib.Dec.{T, eqb, eqb→eq, lit<}
+use Rattle.words.proofs.Finite.{Law, Of, bits, law, test}
+use Rattle.words.proofs.Sums.{Monoid, fold-ext, fold-mul}
+use Rattle.words.specs.Bits.{_⊕_}
+use Rattle.pauli.specs.Pauli.{
+  _+ᵖ_,
+  Phase,
+  exponent,
+  imaginary,
+  i²,
+  i³,
+  i¹,
+  i⁰,
+  minus,
+  power,
+  samePhase,
+  signBit,
+  sumPhase,
+}
+
+pub power-exponent : (a : Phase) → power (exponent a) ≡ a
+unfolding power
+power-exponent i⁰ = refl
+power-exponent i¹ = refl
+power-exponent i² = refl
+power-exponent i³ = refl
+
+pub exponent-lt : (a : Phase) → exponent a < 4
+exponent-lt i⁰ = lit< tt
+exponent-lt i¹ = lit< tt
+exponent-lt i² = lit< tt
+exponent-lt i³ = lit< tt
+
+pub exponent-two : (a : Phase) → eqb (exponent a) 2 ≡ signBit a
+exponent-two i⁰ = refl
+exponent-two i¹ = refl
+exponent-two i² = refl
+exponent-two i³ = refl
+
+pub samePhase→≡ : (a b : Phase) → T (samePhase a b) → a ≡ b
+samePhase→≡ a b t =
+    sym (power-exponent a) ∙ ap power (eqb→eq (exponent a) (exponent b) t) ∙ power-exponent b
+
+-- a law of phases over k bits, by one test
+pub phases : (k : ℕ) (f g : Of k Phase) → T (test samePhase k f g) → Law Phase k f g
+phases = law samePhase samePhase→≡
+
+-- two bits name a power of i
+abbrev two : Bool → Bool → Phase
+two false false = i⁰
+two false true = i¹
+two true false = i²
+two true true = i³
+
+onTurns : (P : Phase → Type 0) → ((a b : Bool) → P (two a b)) → (t : Phase) → P t
+onTurns P h i⁰ = h false false
+onTurns P h i¹ = h false true
+onTurns P h i² = h true false
+onTurns P h i³ = h true true
+
+pub +ᵖ-assoc : (a b c : Phase) → (a +ᵖ b) +ᵖ c ≡ a +ᵖ (b +ᵖ c)
++ᵖ-assoc = onTurns _ λ a a′. onTurns _ λ b b′. onTurns _ λ c c′. phases 6
+    (λ a a′ b b′ c c′. (two a a′ +ᵖ two b b′) +ᵖ two c c′) (λ a a′ b b′ c c′. two a a′
+    +ᵖ (two b b′ +ᵖ two c c′)) tt a a′ b b′ c c′
+
+pub +ᵖ-comm : (a b : Phase) → a +ᵖ b ≡ b +ᵖ a
++ᵖ-comm = onTurns _ λ a a′. onTurns _ λ b b′. phases 4 (λ a a′ b b′. two a a′
+    +ᵖ two b b′) (λ a a′ b b′. two b b′ +ᵖ two a a′) tt a a′ b b′
+
+pub +ᵖ-zero : (a : Phase) → a +ᵖ i⁰ ≡ a
++ᵖ-zero = onTurns _ (phases 2 (λ a a′. two a a′ +ᵖ i⁰) two tt)
+
+pub imaginary-+ᵖ : (a b : Phase) → imaginary (a +ᵖ b) ≡ imaginary a ⊕ imaginary b
+imaginary-+ᵖ = onTurns _ λ a a′. onTurns _ λ b b′. bits 4 (λ a a′ b b′. imaginary (two a a′ +ᵖ two b b′))
+    (λ a a′ b b′. imaginary (two a a′) ⊕ imaginary (two b b′)) tt a a′ b b′
+
+pub phaseMonoid : Monoid Phase i⁰ _+ᵖ_
+phaseMonoid = record { assoc = +ᵖ-assoc; unit-l = λ a. refl; unit-r = +ᵖ-zero }
+
+pub sumPhase-add : (n : ℕ) (f g : ℕ → Phase) → sumPhase n (λ q. f q +ᵖ g q) ≡ sumPhase n f +ᵖ sumPhase n g
+sumPhase-add = fold-mul i⁰ _+ᵖ_ phaseMonoid +ᵖ-comm
+
+pub +ᵖ-left : (a b c : Phase) → a +ᵖ (b +ᵖ c) ≡ b +ᵖ (a +ᵖ c)
++ᵖ-left a b c = sym (+ᵖ-assoc a b c) ∙ ap (λ x. x +ᵖ c) (+ᵖ-comm a b) ∙ +ᵖ-assoc b a c
+
+-- sums of phases agree where the phases do, place by place
+pub sumPhase-pair : (n : ℕ) (f g f′ g′ : ℕ → Phase) → ((q : ℕ) → f q +ᵖ g q ≡ f′ q +ᵖ g′ q) → sumPhase n f
+    +ᵖ sumPhase n g ≡ sumPhase n f′ +ᵖ sumPhase n g′
+sumPhase-pair n f g f′ g′ h = sym (sumPhase-add n f g) ∙ fold-ext i⁰ _+ᵖ_ n (λ q l. h q)
+    ∙ sumPhase-add n f′ g′
+
+pub minus-⊕ : (a b : Bool) → minus (a ⊕ b) ≡ minus a +ᵖ minus b
+minus-⊕ = phases 2 (λ a b. minus (a ⊕ b)) (λ a b. minus a +ᵖ minus b) tt
+
+pub twice : (t : Phase) → imaginary t ≡ false → t +ᵖ t ≡ i⁰
+twice i⁰ h = refl
+twice i¹ h = absurd (true≢false h)
+twice i² h = refl
+twice i³ h = absurd (true≢false h)

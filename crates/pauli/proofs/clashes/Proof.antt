@@ -1,0 +1,19 @@
+use mathlib.Core.Path.{_∙_, sym}
+use borrow.Author.Needs.{needs}
+use Rattle.pauli.specs.Pauli.{i⁰}
+use Rattle.pauli.proofs.WordRows.{anticommute-count}
+use Rattle.pauli.proofs.clashes.Statement.{statement}
+use Rattle.pauli.proofs.clashes.Tie as tie
+
+odd-requires : tie.Need-odd-requires
+odd-requires c κs = search needs
+
+returns : tie.Need-returns
+returns c =
+    let a = c .before .args in
+    c .odd .ensures
+    ∙ sym (anticommute-count 64 (a .z) (a .x) (a .z2) (a .x2) (search needs) (search needs) (search needs) (search needs)
+    i⁰ i⁰)
+
+pub clashes-spec : {M : Type 1} → statement M
+clashes-spec = tie.close (tie.spec odd-requires returns)

@@ -1,0 +1,2 @@
+pub mod Pauli
+pub mod Rows

@@ -1,0 +1,6 @@
+pub mod Finite
+pub mod Sums
+pub mod SearchLaws
+pub mod BitLaws
+pub mod OnesLaws
+pub mod Trailing

@@ -1,0 +1,93 @@
+-- Searches over the numbers below a bound.
+-- Assumes nothing.
+use mathlib.Core.Bool.{_&&_, Bool, cond, false, false≢true, true, true≢false, _||_}
+use mathlib.Core.Logic.{inl, inr, _⊎_}
+use mathlib.Core.Path.{ap, ap₂, refl, subst, sym, _∙_, _≡_}
+use Prim.Native.Nat.{_<_, suc, zero, ℕ, _≤_}
+use native.Mathlib.Nat.{not-suc-le-zero}
+use native.Mathlib.Omega.{arith}
+use Rattle.words.proofs.Sums.{last-or, lt-or-ge}
+use Rattle.words.specs.Search.{IsFirst, every, first, some}
+
+or-r : (a : Bool) → (a || true) ≡ true
+or-r false = refl
+or-r true = refl
+
+pub some-in : (b : ℕ) (f : ℕ → Bool) (i : ℕ) → i < b → f i ≡ true → some b f ≡ true
+unfolding some
+some-in zero f i l e = absurd (not-suc-le-zero l)
+some-in (suc b) f i l e = go (λ k. some-in b f i k e) (last-or l)
+  where
+    go : (i < b → some b f ≡ true) → (i ≡ b) ⊎ (i < b) → (some b f || f b) ≡ true
+    go ih (inl p) = ap (λ v. some b f || v) (ap f (sym p) ∙ e) ∙ or-r (some b f)
+    go ih (inr k) = ap (λ v. v || f b) (ih k)
+
+pub every-at : (b : ℕ) (f : ℕ → Bool) → every b f ≡ true → (i : ℕ) → i < b → f i ≡ true
+unfolding every
+every-at zero f h i l = absurd (not-suc-le-zero l)
+every-at (suc b) f h i l = go (every-at b f (left (every b f) (f b) h) i) (last-or l)
+  where
+    left : (a c : Bool) → (a && c) ≡ true → a ≡ true
+    left true c e = refl
+    left false c e = absurd (false≢true e)
+
+    right : (a c : Bool) → (a && c) ≡ true → c ≡ true
+    right true c e = e
+    right false c e = absurd (false≢true e)
+
+    go : (i < b → f i ≡ true) → (i ≡ b) ⊎ (i < b) → f i ≡ true
+    go ih (inl p) = ap f p ∙ right (every b f) (f b) h
+    go ih (inr k) = ih k
+
+pub every-in : (b : ℕ) (f : ℕ → Bool) → ((i : ℕ) → i < b → f i ≡ true) → every b f ≡ true
+unfolding every
+every-in zero f h = refl
+every-in (suc b) f h = ap₂ _&&_ (every-in b f (λ i l. h i (omega arith))) (h b (omega arith))
+
+pub some-none : (b : ℕ) (f : ℕ → Bool) → ((i : ℕ) → i < b → f i ≡ false) → some b f ≡ false
+unfolding some
+some-none zero f h = refl
+some-none (suc b) f h = ap₂ _||_ (some-none b f (λ i l. h i (omega arith))) (h b (omega arith))
+
+-- a search finds the least, or nothing passes
+pub first-is : (b : ℕ) (f : ℕ → Bool) → IsFirst b f (first b f) ⊎ ((i : ℕ) → i < b → f i ≡ false)
+unfolding first
+first-is zero f = inr (λ i l. absurd (not-suc-le-zero l))
+first-is (suc b) f = go (first-is b f)
+  where
+    keep : {i : ℕ} → IsFirst b f i → IsFirst (suc b) f i
+    keep F = record { below = omega (arith, F .below); passes = F .passes; least = F .least }
+
+    last : (v : Bool) → f b ≡ v → ((i : ℕ) → i < b → f i ≡ false) → IsFirst (suc b) f (cond v b (suc b))
+        ⊎ ((i : ℕ) → i < suc b → f i ≡ false)
+    last true e none = inl (record { below = omega arith; passes = e; least = none })
+    last false e none = inr (λ i l. elim (last-or l) [ inl p ↦ ap f p ∙ e | inr k ↦ none i k ])
+
+    go : IsFirst b f (first b f) ⊎ ((i : ℕ) → i < b → f i ≡ false) → IsFirst (suc b) f (first (suc b) f)
+        ⊎ ((i : ℕ) → i < suc b → f i ≡ false)
+    go (inl F) = inl (subst (IsFirst (suc b) f)
+        (ap (λ v. cond v (first b f) (cond (f b) b (suc b))) (sym (some-in b f _ (F .below) (F .passes))))
+        (keep F))
+    go (inr none) = subst (λ v. IsFirst (suc b) f (cond v (first b f) (cond (f b) b (suc b)))
+        ⊎ ((i : ℕ) → i < suc b → f i ≡ false)) (sym (some-none b f none)) (last (f b) refl none)
+
+-- what is least is found
+pub first-unique : (b : ℕ) (f : ℕ → Bool) (i : ℕ) → IsFirst b f i → first b f ≡ i
+first-unique b f i F = go (first-is b f)
+  where
+    go : IsFirst b f (first b f) ⊎ ((i : ℕ) → i < b → f i ≡ false) → first b f ≡ i
+    go (inr none) = absurd (true≢false (sym (F .passes) ∙ none i (F .below)))
+    go (inl G) = cmp (lt-or-ge (first b f) i) (lt-or-ge i (first b f))
+      where
+        cmp : (first b f < i) ⊎ (i ≤ first b f) → (i < first b f) ⊎ (first b f ≤ i) → first b f ≡ i
+        cmp (inl l) c = absurd (true≢false (sym (G .passes) ∙ F .least (first b f) l))
+        cmp (inr l) (inl k) = absurd (true≢false (sym (F .passes) ∙ G .least i k))
+        cmp (inr l) (inr k) = omega arith
+
+-- where nothing passes, the search answers the bound
+pub first-none : (b : ℕ) (f : ℕ → Bool) → ((i : ℕ) → i < b → f i ≡ false) → first b f ≡ b
+unfolding first
+first-none zero f none = refl
+first-none (suc b) f none =
+    ap₂ (λ u v. cond u (first b f) (cond v b (suc b))) (some-none b f (λ i l. none i (omega arith)))
+    (none b (omega arith))

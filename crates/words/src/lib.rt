@@ -1,0 +1,74 @@
+ghost use mathlib.Core.Path.{_≡_};
+ghost use Prim.Native.Nat.{_-_, _<_, _≤_, _^_};
+ghost use lib.Bits.{bitXor};
+ghost use lib.Count.{ones, trailingZeros};
+ghost use lib.Dec.{leb};
+ghost use Rattle.words.specs.Bits.{bit, dot, isOdd};
+
+// The mask of n qubits: the bits below n are 1. No shift reaches 64.
+pub fn mask(n: usize) -> u64
+    requires { ⌜ (1 ≤ n) × (n ≤ 64) ⌝ }
+    ensures { λ r. ⌜ r ≡ 2 ^ n - 1 ⌝ }
+{
+    0xFFFF_FFFF_FFFF_FFFF >> (64 - n)
+}
+
+// Whether w has a bit at or above n.
+pub fn stray(w: u64, n: usize) -> bool
+    requires { ⌜ (1 ≤ n) × (n ≤ 64) ⌝ }
+    ensures { λ r. ⌜ r ≡ leb (2 ^ n) w ⌝ }
+{
+    mask(n) < w
+}
+
+// Bit q of w.
+pub fn has(w: u64, q: usize) -> bool
+    requires { ⌜ q < 64 ⌝ }
+    ensures { λ r. ⌜ r ≡ bit w q ⌝ }
+{
+    (w >> q) & 1 == 1
+}
+
+// The word with bit q alone.
+pub fn single(q: usize) -> u64
+    requires { ⌜ q < 64 ⌝ }
+    ensures { λ r. ⌜ r ≡ 2 ^ q ⌝ }
+{
+    1 << q
+}
+
+// w with bit q flipped.
+pub fn flip(w: u64, q: usize) -> u64
+    requires { ⌜ q < 64 ⌝ }
+    ensures { λ r. ⌜ r ≡ bitXor w (2 ^ q) ⌝ }
+{
+    w ^ single(q)
+}
+
+// The number of ones.
+pub fn count(w: u64) -> u64
+    ensures { λ r. ⌜ (r ≡ ones w) × (r ≤ 64) ⌝ }
+{
+    u64::count_ones(w) as u64
+}
+
+// Whether the number of ones is odd.
+pub fn odd(w: u64) -> bool
+    ensures { λ r. ⌜ r ≡ isOdd (ones w) ⌝ }
+{
+    u64::count_ones(w) % 2 == 1
+}
+
+// Whether the places where both words have a 1 are odd in number.
+pub fn dot_product(a: u64, b: u64) -> bool
+    ensures { λ r. ⌜ r ≡ dot a b ⌝ }
+{
+    odd(a & b)
+}
+
+// The smallest set bit; 64 where there is none.
+pub fn smallest(w: u64) -> usize
+    ensures { λ r. ⌜ (r ≡ trailingZeros 64 w) × (r ≤ 64) ⌝ }
+{
+    u64::trailing_zeros(w) as usize
+}
