@@ -2,12 +2,28 @@
 -- Assumes nothing.
 use mathlib.Core.Bool.{_&&_, Bool, false, true}
 use mathlib.Core.Path.{ap, refl, sym, _∙_, _≡_}
-use Prim.Native.Nat.{ℕ}
-use lib.Dec.{T, eqb, eqb→eq}
+use Prim.Native.Nat.{_%_, _*_, _+_, _/_, _<_, ℕ}
+use native.Mathlib.Omega.{arith}
+use lib.Dec.{T, eqb, eqb→eq, leb, lit<}
 use Rattle.pauli.proofs.PhaseLaws.{phases}
-use Rattle.pauli.specs.Pauli.{_+ᵖ_, Phase, clash, imaginary, letter, letterPhase, xBit, zBit}
+use Rattle.pauli.specs.Pauli.{
+  _+ᵖ_,
+  Phase,
+  clash,
+  imaginary,
+  i⁰,
+  letter,
+  letterPhase,
+  minus,
+  signBit,
+  xBit,
+  zBit,
+}
+use Rattle.pauli.specs.declared.Letter.{Letter}
+use Rattle.pauli.specs.declared.Letter.the-variants.{I, X, Y, Z}
+use Rattle.words.proofs.BitLaws.{digit-lt}
 use Rattle.words.proofs.Finite.{Law, Of, and-l, and-r, bits, law, sameBit→≡, test}
-use Rattle.words.specs.Bits.{sameBit, _⊕_}
+use Rattle.words.specs.Bits.{digit, isOdd, sameBit, _⊕_}
 use Rattle.words.specs.Search.{first, some}
 use Rattle.clifford.specs.Clifford.{
   Class,
@@ -26,6 +42,7 @@ use Rattle.clifford.specs.Clifford.{
   image,
   imagePhase,
   inverse,
+  letterNumber,
   then,
 }
 
@@ -178,3 +195,77 @@ clash-after = onClifford _
     (letter (zAfter (fromFive a b c d e) z x) (xAfter (fromFive a b c d e) z x))
     (letter (zAfter (fromFive a b c d e) z′ x′) (xAfter (fromFive a b c d e) z′ x′)))
     (λ a b c d e z x z′ x′. clash (letter z x) (letter z′ x′)) tt)
+
+-- ---- letters by number
+pub number-lt : (l : Letter) → letterNumber l < 4
+number-lt I = lit< tt
+number-lt X = lit< tt
+number-lt Y = lit< tt
+number-lt Z = lit< tt
+
+pub numbered-number : (l : Letter) → letter (isOdd (letterNumber l / 2)) (isOdd (letterNumber l)) ≡ l
+numbered-number I = refl
+numbered-number X = refl
+numbered-number Y = refl
+numbered-number Z = refl
+
+-- ---- a law over letters is a law over two bits
+onLetter : (P : Letter → Type 0) → ((z x : Bool) → P (letter z x)) → (l : Letter) → P l
+onLetter P h I = h false false
+onLetter P h X = h false true
+onLetter P h Y = h true true
+onLetter P h Z = h true false
+
+sameLetter→≡ : (a b : Letter) → T (eqb (letterNumber a) (letterNumber b)) → a ≡ b
+sameLetter→≡ a b t =
+    sym (numbered-number a)
+    ∙ ap (λ v. letter (isOdd (v / 2)) (isOdd v)) (eqb→eq (letterNumber a) (letterNumber b) t)
+    ∙ numbered-number b
+
+letters : (k : ℕ) (f g : Of k Letter) → T (test (λ a b. eqb (letterNumber a) (letterNumber b)) k f g)
+    → Law Letter k f g
+letters = law (λ a b. eqb (letterNumber a) (letterNumber b)) sameLetter→≡
+
+-- ---- an image as a number: 4 × sign + 2 z + x
+abbrev pub imageEntry : Clifford → Letter → ℕ
+imageEntry k l = 4 * digit (signBit (imagePhase k l)) + letterNumber (image k l)
+
+pub entry-sign : (k : Clifford) (l : Letter) → minus (leb 4 (imageEntry k l)) ≡ imagePhase k l
+entry-sign = onClifford _ λ a b c d e. onLetter _
+    (phases 7 (λ a b c d e z x. minus (leb 4 (imageEntry (fromFive a b c d e) (letter z x))))
+    (λ a b c d e z x. imagePhase (fromFive a b c d e) (letter z x)) tt a b c d e)
+
+pub entry-letter : (k : Clifford) (l : Letter)
+    → letter (eqb (imageEntry k l / 2 % 2) 1) (eqb (imageEntry k l % 2) 1) ≡ image k l
+entry-letter = onClifford _ λ a b c d e. onLetter _
+    (letters 7 (λ a b c d e z x. letter (eqb (imageEntry (fromFive a b c d e) (letter z x) / 2 % 2) 1)
+    (eqb (imageEntry (fromFive a b c d e) (letter z x) % 2) 1))
+    (λ a b c d e z x. image (fromFive a b c d e) (letter z x)) tt a b c d e)
+
+-- ---- codes are below 24
+class-lt : (m : Class) → classNumber m < 6
+class-lt XZ = lit< tt
+class-lt YZ = lit< tt
+class-lt ZX = lit< tt
+class-lt XY = lit< tt
+class-lt YX = lit< tt
+class-lt ZY = lit< tt
+
+pub codeOf-lt : (k : Clifford) → codeOf k < 24
+codeOf-lt k = omega (arith, class-lt (k .class), digit-lt (k .sx), digit-lt (k .sz))
+
+-- ---- the identity
+pub phaseAfter-id : (z x : Bool) → phaseAfter identityClifford z x ≡ i⁰
+phaseAfter-id = phases 2 (phaseAfter identityClifford) (λ z x. i⁰) tt
+
+pub zAfter-id : (z x : Bool) → zAfter identityClifford z x ≡ z
+zAfter-id = bits 2 (zAfter identityClifford) (λ z x. z) tt
+
+pub xAfter-id : (z x : Bool) → xAfter identityClifford z x ≡ x
+xAfter-id = bits 2 (xAfter identityClifford) (λ z x. x) tt
+
+pub id-then : (k : Clifford) → then identityClifford k ≡ k
+id-then = onClifford _ (cliffords 5 (λ a b c d e. then identityClifford (fromFive a b c d e)) fromFive tt)
+
+pub then-id : (k : Clifford) → then k identityClifford ≡ k
+then-id = onClifford _ (cliffords 5 (λ a b c d e. then (fromFive a b c d e) identityClifford) fromFive tt)

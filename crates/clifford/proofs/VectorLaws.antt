@@ -1,18 +1,10 @@
 -- One code for each qubit: the action respects products, commutation, signs, composition and inverses.
 -- Assumes nothing.
-use mathlib.Core.Bool.{Bool, false}
+use mathlib.Core.Bool.{false}
 use mathlib.Core.Path.{ap, fun-ext, refl, sym, _∙_, _≡_}
 use Prim.Native.Nat.{ℕ}
 use Rattle.pauli.proofs.PauliLaws.{Pauli-path}
-use Rattle.pauli.proofs.PhaseLaws.{
-  +ᵖ-assoc,
-  +ᵖ-left,
-  +ᵖ-zero,
-  imaginary-+ᵖ,
-  phaseMonoid,
-  phases,
-  sumPhase-add,
-}
+use Rattle.pauli.proofs.PhaseLaws.{+ᵖ-assoc, +ᵖ-left, +ᵖ-zero, imaginary-+ᵖ, phaseMonoid, sumPhase-add}
 use Rattle.pauli.specs.Pauli.{
   _+ᵖ_,
   Pauli,
@@ -27,21 +19,21 @@ use Rattle.pauli.specs.Pauli.{
   scaled,
   sumPhase,
 }
-use Rattle.words.proofs.Finite.{bits, ⊕-zero}
+use Rattle.words.proofs.Finite.{⊕-zero}
 use Rattle.words.proofs.Sums.{bitMonoid, fold-ext, fold-hom, fold-unit}
 use Rattle.words.specs.Bits.{_⊕_}
 use Rattle.clifford.proofs.CliffordLaws.{
   clash-after,
   inverse-then,
-  phaseAfter,
+  phaseAfter-id,
   phaseAfter-signed,
   phaseAfter-sum,
   phaseAfter-then,
   then-inverse,
-  xAfter,
+  xAfter-id,
   xAfter-sum,
   xAfter-then,
-  zAfter,
+  zAfter-id,
   zAfter-sum,
   zAfter-then,
 }
@@ -71,9 +63,10 @@ module _ (n : ℕ) where
       regroup : (a b u v s : Phase) → (a +ᵖ b) +ᵖ ((u +ᵖ v) +ᵖ s) ≡ ((a +ᵖ u) +ᵖ (b +ᵖ v)) +ᵖ s
       regroup a b u v s = simp (+ᵖ-assoc, +ᵖ-left)
 
-  pub act-identity : (c : ℕ → Clifford) → act n c identity ≡ identity
+  pub act-identityCodesentity : (c : ℕ → Clifford) → act n c identity ≡ identity
   unfolding act mul
-  act-identity c = Pauli-path (fold-unit i⁰ _+ᵖ_ phaseMonoid n (λ q l. refl)) (λ q. refl) (λ q. refl)
+  act-identityCodesentity c =
+      Pauli-path (fold-unit i⁰ _+ᵖ_ phaseMonoid n (λ q l. refl)) (λ q. refl) (λ q. refl)
 
   pub act-scaled : (c : ℕ → Clifford) (t : Phase) (p : Pauli) → act n c (scaled t p) ≡ scaled t (act n c p)
   unfolding act mul
@@ -88,28 +81,24 @@ module _ (n : ℕ) where
       (λ q. imagePhase (d q) (letterAt (act n c p) q))) ∙ sym (+ᵖ-assoc (p .phase) _ _))
       (λ q. zAfter-then (c q) (d q) (p .z q) (p .x q)) (λ q. xAfter-then (c q) (d q) (p .z q) (p .x q))
 
-  pub act-id : (p : Pauli) → act n (λ q. identityClifford) p ≡ p
+  pub act-identityCodes : (p : Pauli) → act n (λ q. identityClifford) p ≡ p
   unfolding act mul
-  act-id p =
-      Pauli-path (ap (λ w. p .phase +ᵖ w) (fold-unit i⁰ _+ᵖ_ phaseMonoid n (λ q l. p-id (p .z q) (p .x q)))
-      ∙ +ᵖ-zero (p .phase)) (λ q. z-id (p .z q) (p .x q)) (λ q. x-id (p .z q) (p .x q))
-    where
-      p-id : (z x : Bool) → phaseAfter identityClifford z x ≡ i⁰
-      p-id = phases 2 (phaseAfter identityClifford) (λ z x. i⁰) tt
+  act-identityCodes p =
+      Pauli-path (ap (λ w. p .phase
+      +ᵖ w) (fold-unit i⁰ _+ᵖ_ phaseMonoid n (λ q l. phaseAfter-id (p .z q) (p .x q)))
+      ∙ +ᵖ-zero (p .phase)) (λ q. zAfter-id (p .z q) (p .x q)) (λ q. xAfter-id (p .z q) (p .x q))
 
-      z-id : (z x : Bool) → zAfter identityClifford z x ≡ z
-      z-id = bits 2 (zAfter identityClifford) (λ z x. z) tt
-
-      x-id : (z x : Bool) → xAfter identityClifford z x ≡ x
-      x-id = bits 2 (xAfter identityClifford) (λ z x. x) tt
+  -- codes that agree act alike
+  pub act-cong : {c d : ℕ → Clifford} → ((q : ℕ) → c q ≡ d q) → (p : Pauli) → act n c p ≡ act n d p
+  act-cong h p = ap (λ f. act n f p) (fun-ext h)
 
   pub act-inverse : (c : ℕ → Clifford) (p : Pauli) → act n (λ q. inverse (c q)) (act n c p) ≡ p
   act-inverse c p = sym (act-then c (λ q. inverse (c q)) p)
-      ∙ ap (λ f. act n f p) (fun-ext λ q. then-inverse (c q)) ∙ act-id p
+      ∙ act-cong (λ q. then-inverse (c q)) p ∙ act-identityCodes p
 
   pub act-after-inverse : (c : ℕ → Clifford) (p : Pauli) → act n c (act n (λ q. inverse (c q)) p) ≡ p
   act-after-inverse c p = sym (act-then (λ q. inverse (c q)) c p)
-      ∙ ap (λ f. act n f p) (fun-ext λ q. inverse-then (c q)) ∙ act-id p
+      ∙ act-cong (λ q. inverse-then (c q)) p ∙ act-identityCodes p
 
 module _ (n : ℕ) (c : ℕ → Clifford) where
   pub act-imaginary : (p : Pauli) → imaginary ((act n c p) .phase) ≡ imaginary (p .phase)

@@ -78,6 +78,13 @@ fn sum_phase(a: u64, b: u64, c: u64) -> u64
     ((a % 4 + b % 4) + c % 4) % 4
 }
 
+// A generator: a sign bit (true means minus), a z word and an x word.
+pub struct Generator {
+    pub minus: bool,
+    pub z: u64,
+    pub x: u64,
+}
+
 // A row: i to the power phase, times the letters of two words.
 pub struct Row {
     pub phase: u64,

@@ -168,7 +168,7 @@ bit-mask n q l = ap isOdd high-part ∙ odd-ones (n - suc q)
         ap (λ v. eqb v 1) e
 
 -- ---- any bits are those of a word
-digit-lt : (b : Bool) → digit b < 2
+pub digit-lt : (b : Bool) → digit b < 2
 digit-lt false = lit< tt
 digit-lt true = lit< tt
 

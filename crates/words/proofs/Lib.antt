@@ -3,4 +3,5 @@ pub mod Sums
 pub mod SearchLaws
 pub mod BitLaws
 pub mod OnesLaws
+pub mod Places
 pub mod Trailing

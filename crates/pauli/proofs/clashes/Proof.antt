@@ -12,7 +12,8 @@ returns : tie.Need-returns
 returns c =
     let a = c .before .args in
     c .odd .ensures
-    ∙ sym (anticommute-count 64 (a .z) (a .x) (a .z2) (a .x2) (search needs) (search needs) (search needs) (search needs)
+    ∙ sym (anticommute-count 64 (a .z) (a .x) (a .z2) (a .x2) (search needs) (search needs) (search needs)
+    (search needs)
     i⁰ i⁰)
 
 pub clashes-spec : {M : Type 1} → statement M

@@ -42,9 +42,11 @@ returns : tie.Need-returns
 returns c =
     let a = c .before .before .before .before .args in (
       ap₂ (λ u v. (u + v) % 4)
-          (ap₂ (λ u v. 3 * u + 3 * v) (c .before .before .before .count .ensures .0) (c .before .before .count2 .ensures .0))
+          (ap₂ (λ u v. 3 * u + 3 * v) (c .before .before .before .count .ensures .0)
+          (c .before .before .count2 .ensures .0))
           (ap₂ (λ u v. 2 * u + v) (c .before .count3 .ensures .0) (c .count4 .ensures .0))
-          ∙ sym (letters-exponent 64 (a .z) (a .x) (a .z2) (a .x2) (search needs) (search needs) (search needs) (search needs)
+          ∙ sym (letters-exponent 64 (a .z) (a .x) (a .z2) (a .x2) (search needs) (search needs)
+          (search needs) (search needs)
           i⁰ i⁰),
       mod-lt _ (lit< tt),
     )

@@ -20,7 +20,8 @@ returns c =
       row-times 64 (a .self .z) (a .self .x) (a .other .z) (a .other .x) (power (a .self .phase))
           (power (a .other .phase)) _
           (summed .0
-          ∙ ap (λ t. (power (a .self .phase) +ᵖ power (a .other .phase)) +ᵖ t) (ap power letters ∙ power-exponent _)),
+          ∙ ap (λ t. (power (a .self .phase) +ᵖ power (a .other .phase)) +ᵖ t) (ap power letters
+          ∙ power-exponent _)),
       summed .1,
     )
 

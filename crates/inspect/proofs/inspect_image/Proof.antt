@@ -1,0 +1,49 @@
+use mathlib.Core.Path.{_∙_}
+use Rattle.clifford.specs.Clifford.{cliffordOf}
+use Rattle.pauli.specs.Pauli.{letter}
+use Rattle.inspect.proofs.ImageNumber.{image-number}
+use Rattle.inspect.proofs.OfCode.{is-code, no-code}
+use borrow.Author.Needs.{needs}
+use Rattle.inspect.proofs.inspect_image.Statement.{statement}
+use Rattle.inspect.proofs.inspect_image.Tie as tie
+
+returns : tie.Need-returns
+returns c = no-code (c .before .args .a) _ 8 (c .if1 .taken)
+
+letter-of-requires : tie.Need-letter-of-requires
+letter-of-requires c κs = search needs
+
+image-requires : tie.Need-image-requires
+image-requires c κs = search needs
+
+z-bit-requires : tie.Need-z-bit-requires
+z-bit-requires c κs = search needs
+
+x-bit-requires : tie.Need-x-bit-requires
+x-bit-requires c κs = search needs
+
+number-of-requires : tie.Need-number-of-requires
+number-of-requires c κs = search needs
+
+returns-2 : tie.Need-returns-2
+returns-2 c =
+    let imaged = c .before .before .before in
+    let a = imaged .before .before .before .args in
+    is-code (a .a) _ 8 (imaged .before .before .if1 .left)
+    (c .number-of .ensures
+    ∙ image-number (cliffordOf (a .a)) (letter (a .z) (a .x)) (imaged .image .result .minus) _ _
+    (imaged .before .letter-of .ensures)
+    (imaged .image .ensures .0) (imaged .image .ensures .1) (c .before .before .z-bit .ensures)
+    (c .before .x-bit .ensures))
+
+pub inspect-image-spec : {M : Type 1} → statement M
+inspect-image-spec =
+    tie.close
+    (tie.spec
+    returns
+    letter-of-requires
+    image-requires
+    z-bit-requires
+    x-bit-requires
+    number-of-requires
+    returns-2)
