@@ -1,4 +1,4 @@
 pub mod CliffordLaws
 pub mod VectorLaws
-pub mod Tables
+pub mod TableRules
 pub mod Sending

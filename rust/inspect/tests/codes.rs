@@ -17,14 +17,22 @@ fn the_codes_are_the_24_cliffords() {
     let all = one_qubit_cliffords();
     assert_eq!(all.len(), 24);
     for u in &all {
-        let named: Vec<u8> = (0..24).filter(|&c| matrix(c).approx_eq_up_to_phase(u)).collect();
+        let named: Vec<u8> = (0..24)
+            .filter(|&c| matrix(c).approx_eq_up_to_phase(u))
+            .collect();
         assert_eq!(named.len(), 1, "each Clifford has one code");
     }
 }
 
 #[test]
 fn hadamard_phase_gate_and_paulis() {
-    for (code, u) in [(0, Matrix2::I), (1, Matrix2::X), (2, Matrix2::Z), (3, Matrix2::Y), (4, Matrix2::S), (8, Matrix2::H)] {
+    let paulis = [
+        (0, Matrix2::I),
+        (1, Matrix2::X),
+        (2, Matrix2::Z),
+        (3, Matrix2::Y),
+    ];
+    for (code, u) in paulis.into_iter().chain([(4, Matrix2::S), (8, Matrix2::H)]) {
         assert!(matrix(code).approx_eq_up_to_phase(&u), "code {code}");
     }
 }
@@ -35,7 +43,11 @@ fn images_are_conjugations() {
         for letter in 0..4 {
             let sent = conjugate(&matrix(code), &letter_matrix(letter));
             let (phase, to) = letter_of(&sent).expect("a signed letter");
-            assert_eq!(image(code, letter), Some((phase == 2, to)), "code {code}, letter {letter}");
+            assert_eq!(
+                image(code, letter),
+                Some((phase == 2, to)),
+                "code {code}, letter {letter}"
+            );
             assert!(phase == 0 || phase == 2);
         }
     }
@@ -46,7 +58,10 @@ fn composition_is_the_product_of_matrices() {
     for a in 0..24 {
         for b in 0..24 {
             let product = matrix(b) * matrix(a);
-            assert!(matrix(then(a, b)).approx_eq_up_to_phase(&product), "first {a}, then {b}");
+            assert!(
+                matrix(then(a, b)).approx_eq_up_to_phase(&product),
+                "first {a}, then {b}"
+            );
         }
     }
 }
@@ -54,7 +69,10 @@ fn composition_is_the_product_of_matrices() {
 #[test]
 fn inverses_undo() {
     for a in 0..24 {
-        assert!(matrix(inverse(a)).approx_eq_up_to_phase(&matrix(a).dagger()), "inverse of {a}");
+        assert!(
+            matrix(inverse(a)).approx_eq_up_to_phase(&matrix(a).dagger()),
+            "inverse of {a}"
+        );
     }
 }
 
@@ -78,5 +96,8 @@ fn numbers_above_23_are_no_codes() {
 
 #[test]
 fn examples_of_document_01() {
-    assert_eq!((then(8, 8), then(4, 4), then(8, 4), then(4, 8), inverse(12)), (0, 2, 20, 18, 13));
+    assert_eq!(
+        (then(8, 8), then(4, 4), then(8, 4), then(4, 8), inverse(12)),
+        (0, 2, 20, 18, 13)
+    );
 }

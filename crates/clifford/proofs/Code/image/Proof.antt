@@ -6,7 +6,7 @@ use lib.ListN.{getD}
 use Rattle.pauli.specs.Pauli.{letter, minus}
 use Rattle.clifford.specs.Clifford.{cliffordOf}
 use Rattle.clifford.proofs.CliffordLaws.{entry-letter, entry-sign, imageEntry}
-use Rattle.clifford.proofs.Tables.{image-entry, imageTable}
+use Rattle.clifford.proofs.TableRules.{image-entry, imageTable}
 use borrow.Author.Needs.{needs}
 use Rattle.clifford.proofs.Code.image.Statement.{statement}
 use Rattle.clifford.proofs.Code.image.Tie as tie

@@ -3,7 +3,7 @@ use Prim.Native.Nat.{_<_}
 use native.Mathlib.Omega.{arith}
 use Rattle.clifford.specs.Clifford.{cliffordOf, codeOf, inverse}
 use Rattle.clifford.proofs.CliffordLaws.{codeOf-lt}
-use Rattle.clifford.proofs.Tables.{inverse-entry, inverseTable}
+use Rattle.clifford.proofs.TableRules.{inverse-entry, inverseTable}
 use borrow.Author.Needs.{needs}
 use Rattle.clifford.proofs.Code.inverse.Statement.{statement}
 use Rattle.clifford.proofs.Code.inverse.Tie as tie

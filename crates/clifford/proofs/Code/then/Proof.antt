@@ -3,7 +3,7 @@ use Prim.Native.Nat.{_<_}
 use native.Mathlib.Omega.{arith}
 use Rattle.clifford.specs.Clifford.{cliffordOf, codeOf, then}
 use Rattle.clifford.proofs.CliffordLaws.{codeOf-lt}
-use Rattle.clifford.proofs.Tables.{then-entry, thenTable}
+use Rattle.clifford.proofs.TableRules.{then-entry, thenTable}
 use borrow.Author.Needs.{needs}
 use Rattle.clifford.proofs.Code.then.Statement.{statement}
 use Rattle.clifford.proofs.Code.then.Tie as tie
