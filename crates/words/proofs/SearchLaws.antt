@@ -91,3 +91,19 @@ first-none zero f none = refl
 first-none (suc b) f none =
     ap₂ (λ u v. cond u (first b f) (cond v b (suc b))) (some-none b f (λ i l. none i (omega arith)))
     (none b (omega arith))
+
+-- where some does not pass, none does
+pub some-false : (b : ℕ) (f : ℕ → Bool) → some b f ≡ false → (i : ℕ) → i < b → f i ≡ false
+some-false b f e i l = go (f i) refl
+  where
+    go : (v : Bool) → f i ≡ v → v ≡ false
+    go true h = absurd (true≢false (sym (some-in b f i l h) ∙ e))
+    go false h = refl
+
+-- where some passes, the first does
+pub some-true : (b : ℕ) (f : ℕ → Bool) → some b f ≡ true → IsFirst b f (first b f)
+some-true b f e = go (first-is b f)
+  where
+    go : IsFirst b f (first b f) ⊎ ((i : ℕ) → i < b → f i ≡ false) → IsFirst b f (first b f)
+    go (inl F) = F
+    go (inr none) = absurd (true≢false (sym e ∙ some-none b f none))

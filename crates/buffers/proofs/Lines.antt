@@ -1,0 +1,63 @@
+-- The first fitting line.
+-- Assumes nothing.
+use mathlib.Core.Bool.{Bool, cond, false, true}
+use mathlib.Core.List.{_++_, List, [], _∷_}
+use mathlib.Core.Path.{ap, refl, subst, _≡_}
+use Prim.Native.Nat.{_<_, suc, ℕ}
+use native.Mathlib.Nat.{lt-irrefl}
+use native.Mathlib.Omega.{arith}
+use Rattle.buffers.specs.Refusals.{Line, firstFitting, line}
+
+-- a line that holds gives its number, one that does not is passed over
+pub fits : (k : ℕ) {b : Bool} (ls : List Line) → b ≡ true → firstFitting (line k b ∷ ls) ≡ k
+unfolding firstFitting
+fits k ls e = ap (λ b. cond b k (firstFitting ls)) e
+
+pub passed : (k : ℕ) {b : Bool} (ls : List Line) → b ≡ false → firstFitting (line k b ∷ ls) ≡ firstFitting ls
+unfolding firstFitting
+passed k ls e = ap (λ b. cond b k (firstFitting ls)) e
+
+pub none-fits : firstFitting [] ≡ 0
+unfolding firstFitting
+none-fits = refl
+
+-- where a later number comes back, the lines before do not hold: a line whose number is not 0
+pub not-held : (k : ℕ) (b : Bool) (ls : List Line) → firstFitting (line (suc k) b ∷ ls) ≡ 0 →
+    (b ≡ false) × (firstFitting ls ≡ 0)
+unfolding firstFitting
+not-held k true ls e = absurd (suc-not-zero e)
+  where
+    suc-not-zero : suc k ≡ 0 → ⊥
+    suc-not-zero e = omega arith
+not-held k false ls e = (refl, e)
+
+-- ---- more lines after these
+-- a number that came back stays
+pub more-refused : (ls ms : List Line) → (firstFitting ls ≡ 0 → ⊥) → firstFitting (ls ++ ms) ≡ firstFitting ls
+unfolding firstFitting
+more-refused [] ms h = absurd (h refl)
+more-refused (l ∷ ls) ms h = go (l .holds) h (more-refused ls ms)
+  where
+    go : (b : Bool) → (cond b (l .number) (firstFitting ls) ≡ 0 → ⊥) →
+        ((firstFitting ls ≡ 0 → ⊥) → firstFitting (ls ++ ms) ≡ firstFitting ls) →
+        cond b (l .number) (firstFitting (ls ++ ms)) ≡ cond b (l .number) (firstFitting ls)
+    go true h rest = refl
+    go false h rest = rest h
+
+-- the lines have numbers other than 0
+abbrev pub Numbered : List Line → Type 0
+Numbered [] = Unit
+Numbered (l ∷ ls) = (0 < l .number) × Numbered ls
+
+-- where none of these holds, the later ones decide
+pub more-accepted : (ls ms : List Line) → Numbered ls → firstFitting ls ≡ 0 →
+    firstFitting (ls ++ ms) ≡ firstFitting ms
+unfolding firstFitting
+more-accepted [] ms n e = refl
+more-accepted (l ∷ ls) ms n e = go (l .holds) e (more-accepted ls ms (n .1))
+  where
+    go : (b : Bool) → cond b (l .number) (firstFitting ls) ≡ 0 →
+        (firstFitting ls ≡ 0 → firstFitting (ls ++ ms) ≡ firstFitting ms) →
+        cond b (l .number) (firstFitting (ls ++ ms)) ≡ firstFitting ms
+    go true e rest = absurd (lt-irrefl 0 (subst (λ k. 0 < k) e (n .0)))
+    go false e rest = rest e

@@ -1,0 +1,34 @@
+-- Refusals: the lines of a call in checking order, and the number of the first that holds.
+-- Assumes nothing.
+use mathlib.Core.Bool.{Bool, cond, not, _||_}
+use mathlib.Core.List.{List, [], _∷_}
+use Prim.Native.Nat.{ℕ}
+use lib.Dec.{eqb, leb, ltb}
+use lib.ListN.{getD, length}
+use Rattle.words.specs.Search.{some}
+
+-- a line of the published list: its number, and whether it is true of the arguments
+pub record Line : Type 0 where
+  pub number : ℕ
+  pub holds : Bool
+
+abbrev pub line : ℕ → Bool → Line
+line k b = record { number = k; holds = b }
+
+-- "the first in checking order"; 0 where none holds
+unfoldable pub firstFitting : List Line → ℕ
+firstFitting [] = 0
+firstFitting (l ∷ ls) = cond (l .holds) (l .number) (firstFitting ls)
+
+-- ---- tests that several lines share
+-- 2: "n is 0 or above 64"
+abbrev pub badCount : ℕ → Bool
+badCount n = eqb n 0 || ltb 64 n
+
+-- 4: "A buffer's length is not what n or this paper requires"
+abbrev pub otherThan : ℕ → List ℕ → Bool
+otherThan k buffer = not (eqb (length buffer) k)
+
+-- 5, 6: some number of the buffer is b or above. "A word has a bit at or above n" where b is 2 ^ n
+unfoldable pub reaching : ℕ → List ℕ → Bool
+reaching b buffer = some (length buffer) (λ j. leb b (getD buffer j 0))

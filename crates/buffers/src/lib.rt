@@ -1,0 +1,41 @@
+// The tests of lent buffers that several lines of the refusals share.
+use words::stray;
+ghost use mathlib.Core.Path.{_≡_};
+ghost use Prim.Native.Nat.{_^_, _≤_};
+ghost use Rattle.buffers.specs.Refusals.{badCount, reaching};
+
+// Line 2: n is 0 or above 64.
+pub fn bad_count(n: u64) -> bool
+    ensures { λ r. ⌜ r ≡ badCount n ⌝ }
+{
+    (n == 0) | (64 < n)
+}
+
+// Line 6: whether some number of the buffer is b or above.
+pub fn reaches(buffer: &[u8], b: u8) -> bool
+    ensures { λ r. ⌜ r ≡ reaching b (now (buffer .entry)) ⌝ }
+{
+    let mut i = 0;
+    while i < buffer.len() {
+        if b <= buffer[i] {
+            return true;
+        }
+        i += 1;
+    }
+    false
+}
+
+// Line 5: whether some word of the buffer has a bit at or above n.
+pub fn strays(buffer: &[u64], n: usize) -> bool
+    requires { ⌜ (1 ≤ n) × (n ≤ 64) ⌝ }
+    ensures { λ r. ⌜ r ≡ reaching (2 ^ n) (now (buffer .entry)) ⌝ }
+{
+    let mut i = 0;
+    while i < buffer.len() {
+        if stray(buffer[i], n) {
+            return true;
+        }
+        i += 1;
+    }
+    false
+}
