@@ -20,7 +20,7 @@ use Rattle.words.proofs.Places.{put-all, put-other, put-same}
 use Rattle.words.proofs.Sums.{fold-one, lt-or-ge}
 use Rattle.words.specs.Bits.{bit, put, _⊕_}
 use Rattle.clifford.proofs.CliffordLaws.{id-then, phaseAfter-id, then-id, xAfter-id, zAfter-id}
-use Rattle.clifford.proofs.VectorLaws.{act-cong, act-identityCodes, act-then}
+use Rattle.clifford.proofs.VectorLaws.{act-cong, act-id, act-then}
 use Rattle.clifford.specs.Clifford.{Clifford, cliffordOf, identityClifford, image, imagePhase, then}
 use Rattle.clifford.specs.Vectors.{act, codesOf, only}
 
@@ -84,7 +84,7 @@ codesBelow i cs q = cond (ltb q i) (codesOf cs q) identityClifford
 pub sent-none : (n : ℕ) (cs : List ℕ) (p : Pauli) → p ≡ act n (codesBelow 0 cs) p
 sent-none n cs p =
     sym (act-cong n (λ q. ap (λ b. cond b (codesOf cs q) identityClifford) (le-ltb q 0 zero-le)) p
-    ∙ act-identityCodes n p)
+    ∙ act-id n p)
 
 pub sent-more : (n : ℕ) (cs : List ℕ) (i : ℕ) (p r : Pauli) → r ≡ act n (codesBelow i cs) p →
     act n (only i (codesOf cs i)) r ≡ act n (codesBelow (i + 1) cs) p

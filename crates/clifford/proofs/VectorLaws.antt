@@ -5,38 +5,11 @@ use mathlib.Core.Path.{ap, fun-ext, refl, sym, _∙_, _≡_}
 use Prim.Native.Nat.{ℕ}
 use Rattle.pauli.proofs.PauliLaws.{Pauli-path}
 use Rattle.pauli.proofs.PhaseLaws.{+ᵖ-assoc, +ᵖ-left, +ᵖ-zero, imaginary-+ᵖ, phaseMonoid, sumPhase-add}
-use Rattle.pauli.specs.Pauli.{
-  _+ᵖ_,
-  Pauli,
-  Phase,
-  anticommute,
-  identity,
-  imaginary,
-  i⁰,
-  letterAt,
-  letterPhase,
-  mul,
-  scaled,
-  sumPhase,
-}
+use Rattle.pauli.specs.Pauli.{_+ᵖ_, Pauli, Phase, anticommute, identity, imaginary, i⁰, letterAt, letterPhase, mul, scaled, sumPhase}
 use Rattle.words.proofs.Finite.{⊕-zero}
 use Rattle.words.proofs.Sums.{bitMonoid, fold-ext, fold-hom, fold-unit}
 use Rattle.words.specs.Bits.{_⊕_}
-use Rattle.clifford.proofs.CliffordLaws.{
-  clash-after,
-  inverse-then,
-  phaseAfter-id,
-  phaseAfter-signed,
-  phaseAfter-sum,
-  phaseAfter-then,
-  then-inverse,
-  xAfter-id,
-  xAfter-sum,
-  xAfter-then,
-  zAfter-id,
-  zAfter-sum,
-  zAfter-then,
-}
+use Rattle.clifford.proofs.CliffordLaws.{clash-after, inverse-then, phaseAfter-id, phaseAfter-signed, phaseAfter-sum, phaseAfter-then, then-inverse, xAfter-id, xAfter-sum, xAfter-then, zAfter-id, zAfter-sum, zAfter-then}
 use Rattle.clifford.specs.Clifford.{Clifford, identityClifford, imagePhase, inverse, then}
 use Rattle.clifford.specs.Vectors.{act}
 
@@ -63,9 +36,9 @@ module _ (n : ℕ) where
       regroup : (a b u v s : Phase) → (a +ᵖ b) +ᵖ ((u +ᵖ v) +ᵖ s) ≡ ((a +ᵖ u) +ᵖ (b +ᵖ v)) +ᵖ s
       regroup a b u v s = simp (+ᵖ-assoc, +ᵖ-left)
 
-  pub act-identityCodesentity : (c : ℕ → Clifford) → act n c identity ≡ identity
+  pub act-identity : (c : ℕ → Clifford) → act n c identity ≡ identity
   unfolding act mul
-  act-identityCodesentity c =
+  act-identity c =
       Pauli-path (fold-unit i⁰ _+ᵖ_ phaseMonoid n (λ q l. refl)) (λ q. refl) (λ q. refl)
 
   pub act-scaled : (c : ℕ → Clifford) (t : Phase) (p : Pauli) → act n c (scaled t p) ≡ scaled t (act n c p)
@@ -81,9 +54,9 @@ module _ (n : ℕ) where
       (λ q. imagePhase (d q) (letterAt (act n c p) q))) ∙ sym (+ᵖ-assoc (p .phase) _ _))
       (λ q. zAfter-then (c q) (d q) (p .z q) (p .x q)) (λ q. xAfter-then (c q) (d q) (p .z q) (p .x q))
 
-  pub act-identityCodes : (p : Pauli) → act n (λ q. identityClifford) p ≡ p
+  pub act-id : (p : Pauli) → act n (λ q. identityClifford) p ≡ p
   unfolding act mul
-  act-identityCodes p =
+  act-id p =
       Pauli-path (ap (λ w. p .phase
       +ᵖ w) (fold-unit i⁰ _+ᵖ_ phaseMonoid n (λ q l. phaseAfter-id (p .z q) (p .x q)))
       ∙ +ᵖ-zero (p .phase)) (λ q. zAfter-id (p .z q) (p .x q)) (λ q. xAfter-id (p .z q) (p .x q))
@@ -94,11 +67,11 @@ module _ (n : ℕ) where
 
   pub act-inverse : (c : ℕ → Clifford) (p : Pauli) → act n (λ q. inverse (c q)) (act n c p) ≡ p
   act-inverse c p = sym (act-then c (λ q. inverse (c q)) p)
-      ∙ act-cong (λ q. then-inverse (c q)) p ∙ act-identityCodes p
+      ∙ act-cong (λ q. then-inverse (c q)) p ∙ act-id p
 
   pub act-after-inverse : (c : ℕ → Clifford) (p : Pauli) → act n c (act n (λ q. inverse (c q)) p) ≡ p
   act-after-inverse c p = sym (act-then (λ q. inverse (c q)) c p)
-      ∙ act-cong (λ q. inverse-then (c q)) p ∙ act-identityCodes p
+      ∙ act-cong (λ q. inverse-then (c q)) p ∙ act-id p
 
 module _ (n : ℕ) (c : ℕ → Clifford) where
   pub act-imaginary : (p : Pauli) → imaginary ((act n c p) .phase) ≡ imaginary (p .phase)

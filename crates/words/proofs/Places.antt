@@ -1,35 +1,54 @@
--- Equal and other places, and a function changed at one place.
+-- Places: whether two are the same, a function changed at one of them, and a sum with one term.
 -- Assumes nothing.
-use mathlib.Core.Bool.{Bool, cond, false, not, true}
+use mathlib.Core.Bool.{_&&_, Bool, and-false, and-true, cond, false, not, true, true≢false}
 use mathlib.Core.Logic.{_≢_}
 use mathlib.Core.Path.{ap, ap₂, refl, subst, sym, _∙_, _≡_}
-use Prim.Native.Nat.{_^_, ℕ}
+use Prim.Native.Nat.{_<_, _^_, ℕ}
 use native.Mathlib.Decide.{ℕ-discrete}
 use lib.Bits.{bitXor}
 use lib.Dec.{eqb}
 use borrow.Author.Tests.{eq-eqb, ne-eqb}
 use Rattle.words.proofs.BitLaws.{bit-flip}
 use Rattle.words.proofs.Finite.{⊕-zero}
-use Rattle.words.specs.Bits.{bit, put, _⊕_}
+use Rattle.words.proofs.Sums.{bitMonoid, fold-one}
+use Rattle.words.specs.Bits.{bit, parity, put, _⊕_}
 
-pub is-same : (i : ℕ) → eqb i i ≡ true
-is-same i = eq-eqb i i refl
+pub same-place : (i : ℕ) → eqb i i ≡ true
+same-place i = eq-eqb i i refl
 
-pub is-other : {i j : ℕ} → i ≢ j → eqb i j ≡ false
-is-other {i} {j} h = ne-eqb i j h
+pub other-place : {i j : ℕ} → i ≢ j → eqb i j ≡ false
+other-place {i} {j} h = ne-eqb i j h
 
+pub place-comm : (i j : ℕ) → eqb i j ≡ eqb j i
+place-comm i j = go (ℕ-discrete i j)
+  where
+    go : Dec (i ≡ j) → eqb i j ≡ eqb j i
+    go (yes e) = ap (λ v. eqb v j) e ∙ ap (eqb j) (sym e)
+    go (no d) = other-place d ∙ sym (other-place (λ e. d (sym e)))
+
+pub ⊕-cancel : (a b : Bool) → a ⊕ b ≡ false → a ≡ b
+⊕-cancel false b e = sym e
+⊕-cancel true false e = absurd (true≢false e)
+⊕-cancel true true e = refl
+
+-- the only place that counts
+pub parity-at : (n : ℕ) (f : ℕ → Bool) (j : ℕ) → j < n → parity n (λ q. f q && eqb q j) ≡ f j
+parity-at n f j l = fold-one false _⊕_ bitMonoid n j l (λ q k h. ap (λ b. f q && b) (other-place h)
+    ∙ and-false (f q)) ∙ ap (λ b. f j && b) (same-place j) ∙ and-true (f j)
+
+-- the laws of a changed function
 module _ {A : Type 0} where
   pub put-same : (f : ℕ → A) (i : ℕ) (a : A) → put f i a i ≡ a
   unfolding put
-  put-same f i a = ap (λ b. cond b a (f i)) (is-same i)
+  put-same f i a = ap (λ b. cond b a (f i)) (same-place i)
 
   pub put-other : (f : ℕ → A) (i : ℕ) (a : A) (j : ℕ) → j ≢ i → put f i a j ≡ f j
   unfolding put
-  put-other f i a j h = ap (λ b. cond b a (f j)) (is-other h)
+  put-other f i a j h = ap (λ b. cond b a (f j)) (other-place h)
 
   -- a fact of every place of the changed function
-  pub put-all : (P : ℕ → A → Type 0) (f : ℕ → A) (i : ℕ) (a : A) → P i a → (j : ℕ) → (j ≢ i → P j (f j)) →
-      P j (put f i a j)
+  pub put-all : (P : ℕ → A → Type 0) (f : ℕ → A) (i : ℕ) (a : A) → P i a → (j : ℕ) → (j ≢ i → P j (f j))
+      → P j (put f i a j)
   put-all P f i a h j k = go (ℕ-discrete j i)
     where
       go : Dec (j ≡ i) → P j (put f i a j)
@@ -47,8 +66,8 @@ pub bit-put-flipped : (w q : ℕ) (b : Bool) (r : ℕ) {d : Bool} → r ≡ bitX
 bit-put-flipped w q b r {d} e h k j =
     ap (λ v. bit v j) e ∙ bit-flip w q j
     ∙ put-all (λ j v. bit w j ⊕ eqb j q ≡ v) (bit w) q b
-    (ap₂ _⊕_ h (is-same q) ∙ flipped d ∙ sym k) j
-    (λ o. ap (λ s. bit w j ⊕ s) (is-other o) ∙ ⊕-zero (bit w j))
+    (ap₂ _⊕_ h (same-place q) ∙ flipped d ∙ sym k) j
+    (λ o. ap (λ s. bit w j ⊕ s) (other-place o) ∙ ⊕-zero (bit w j))
   where
     flipped : (d : Bool) → d ⊕ true ≡ not d
     flipped false = refl

@@ -54,6 +54,19 @@ module _ {A : Type 0} (e : A) (_·_ : A → A → A) where
         go ih (inr k) = ap₂ _·_ (ih k) (h n (omega arith) (λ q. lt-irrefl n (rw (sym q) at k)))
             ∙ M .unit-r (f i)
 
+    -- factors that are the unit from n on do not count
+    pub fold-more : (n m : ℕ) {f : ℕ → A} → n ≤ m → ((j : ℕ) → n ≤ j → f j ≡ e)
+        → fold e _·_ m f ≡ fold e _·_ n f
+    unfolding fold
+    fold-more n zero {f} l h = let p : 0 ≡ n = omega arith in ap (λ k. fold e _·_ k f) p
+    fold-more n (suc m) {f} l h = go (λ k. fold-more n m k h) (eq-or-lt-of-le l)
+      where
+        go : (n ≤ m → fold e _·_ m f ≡ fold e _·_ n f) → (n ≡ suc m) ⊎ (n < suc m)
+            → fold e _·_ m f · f m ≡ fold e _·_ n f
+        go ih (inl p) = ap (λ k. fold e _·_ k f) (sym p)
+        go ih (inr k) = ap₂ _·_ (ih (le-of-suc-le-suc k)) (h m (le-of-suc-le-suc k))
+            ∙ M .unit-r (fold e _·_ n f)
+
     -- the first factor apart
     pub fold-shift : (n : ℕ) (f : ℕ → A) → fold e _·_ (suc n) f ≡ f zero · fold e _·_ n (λ j. f (suc j))
     unfolding fold

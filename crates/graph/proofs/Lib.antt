@@ -1,0 +1,2 @@
+pub mod GraphGroups
+pub mod Complement

@@ -1,0 +1,1 @@
+// Graphs, their generators and local complementation.

@@ -1,0 +1,12 @@
+pub mod Complementing
+pub mod ColumnLaws
+pub mod PlainRows
+pub mod Equation
+pub mod Unique
+pub mod FirstPass
+pub mod SecondPass
+pub mod GraphForm
+pub mod Reduction
+pub mod ReducedRecords
+pub mod ReducedCodes
+pub mod Maximality

@@ -1,0 +1,1 @@
+// Graph records and the reduced record of a generator list.

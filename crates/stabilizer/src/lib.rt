@@ -1,0 +1,1 @@
+// Generator lists and their groups.
