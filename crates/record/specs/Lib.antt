@@ -1,3 +1,4 @@
 pub mod Records
 pub mod Columns
 pub mod Reduced
+pub mod Lent

@@ -1,3 +1,4 @@
 pub mod Groups
 pub mod Carries
 pub mod Elimination
+pub mod Lists
