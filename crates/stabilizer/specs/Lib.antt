@@ -2,3 +2,4 @@ pub mod Groups
 pub mod Carries
 pub mod Elimination
 pub mod Lists
+pub mod Tableau
