@@ -1,0 +1,3 @@
+pub mod Shearing
+pub mod Pivoting
+pub mod Passing

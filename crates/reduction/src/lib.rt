@@ -1,0 +1,120 @@
+// Reduction by value on an array of 64 rows of two words, z and x, beside one word of signs.
+use pauli::letters_minus;
+use words::flip;
+use words::flip_where;
+use words::has;
+use words::put_bit;
+use words::single;
+use words::smallest;
+ghost use mathlib.Core.Bool.{_&&_, false, true};
+ghost use mathlib.Core.List.{[]};
+ghost use mathlib.Core.Path.{_≡_};
+ghost use Prim.Native.Nat.{ℕ, _<_, _≤_, suc};
+ghost use lib.Dec.{ltb};
+ghost use lib.ListN.{getD};
+ghost use Rattle.pauli.specs.Pauli.{Pauli, anticommute};
+ghost use Rattle.stabilizer.specs.Elimination.{lend, pivotOn, shear};
+ghost use Rattle.reduction.specs.Passes.{Eliminated, Loaded, PivotReady};
+ghost use Rattle.stabilizer.specs.Tableau.{tableau};
+ghost use Rattle.words.specs.Bits.{Word, bit};
+
+// Row a multiplied into each row that the word named names.
+pub fn shear_rows(mut rows: [[u64; 2]; 64], signs: &mut u64, a: usize, named: u64) -> [[u64; 2]; 64]
+    requires { ⌜ (a < 64) × (bit named a ≡ false) ⌝ }
+    requires { ⌜ ((j : ℕ) → bit named j ≡ true → anticommute 64 (tableau (now signs) rows j) (tableau (now signs) rows a) ≡ false) ⌝ }
+    ensures { λ r. ⌜ ((j : ℕ) → tableau (now (signs .exit)) r j ≡ shear 64 (tableau (now (signs .entry)) rows) a (bit named) j) ⌝ }
+{
+    let by = rows[a];
+    let sign = has(*signs, a);
+    let mut rest = named;
+    while rest != 0 {
+        let j = smallest(rest);
+        let row = rows[j];
+        let minus = letters_minus(row[0], row[1], by[0], by[1]);
+        rows[j] = [row[0] ^ by[0], row[1] ^ by[1]];
+        *signs = flip_where(*signs, j, sign != minus);
+        rest = flip(rest, j);
+    }
+    rows
+}
+
+// The rows below n that have x bit q.
+fn column(rows: &[[u64; 2]; 64], n: usize, q: usize) -> u64
+    requires { ⌜ (n ≤ 64) × (q < 64) ⌝ }
+    ensures { λ r. ⌜ ((j : ℕ) → bit r j ≡ (ltb j n && bit (getD (getD (now (rows .entry)) j []) 1 0) q)) ⌝ }
+{
+    let mut word = 0;
+    let mut j = 0;
+    while j < n {
+        let row = rows[j];
+        word = flip_where(word, j, has(row[1], q));
+        j += 1;
+    }
+    word
+}
+
+// Row i, which has x bit q, lends it to row q where that one lacks it.
+fn lend_bit(
+    rows: [[u64; 2]; 64],
+    signs: &mut u64,
+    q: usize,
+    i: usize,
+    holders: u64,
+) -> [[u64; 2]; 64]
+    requires { ⌜ PivotReady (tableau (now signs) rows) q i holders ⌝ }
+    ensures { λ r. ⌜ ((j : ℕ) → tableau (now (signs .exit)) r j ≡ shear 64 (tableau (now (signs .entry)) rows) i (lend (tableau (now (signs .entry)) rows) q) j) ⌝ }
+{
+    if has(holders, q) {
+        return rows;
+    }
+    shear_rows(rows, signs, i, single(q))
+}
+
+// The pivot of column q: row i lends its x bit to row q, and row q clears it from every other row.
+fn pivot_column(
+    rows: [[u64; 2]; 64],
+    signs: &mut u64,
+    q: usize,
+    i: usize,
+    holders: u64,
+) -> [[u64; 2]; 64]
+    requires { ⌜ PivotReady (tableau (now signs) rows) q i holders ⌝ }
+    ensures { λ r. ⌜ ((j : ℕ) → tableau (now (signs .exit)) r j ≡ pivotOn 64 (tableau (now (signs .entry)) rows) q i j) ⌝ }
+{
+    let lent = lend_bit(rows, signs, q, i, holders);
+    shear_rows(lent, signs, q, put_bit(holders, q, false))
+}
+
+// One column of a pass: where an unused row has x bit q, the column gets its pivot.
+fn pass_column(
+    rows: [[u64; 2]; 64],
+    signs: &mut u64,
+    n: usize,
+    q: usize,
+    pivots: &mut u64,
+) -> [[u64; 2]; 64]
+    requires { ⌜ (n ≤ 64) × (q < n) × Loaded n (tableau (now signs) rows) ⌝ }
+    ensures { λ r. ⌜ ((R : ℕ → Pauli) (w : Word) → Eliminated n R w (tableau (now (signs .entry)) rows) (bit (now (pivots .entry))) q → Eliminated n R w (tableau (now (signs .exit)) r) (bit (now (pivots .exit))) (suc q)) ⌝ }
+{
+    let holders = column(&rows, n, q);
+    let free = holders ^ (holders & *pivots);
+    if free == 0 {
+        return rows;
+    }
+    *pivots = put_bit(*pivots, q, true);
+    pivot_column(rows, signs, q, smallest(free), holders)
+}
+
+// A pass over the columns below n. The word pivots names the rows that are pivots already.
+fn pass(mut rows: [[u64; 2]; 64], signs: &mut u64, n: usize, pivots: &mut u64) -> [[u64; 2]; 64]
+    requires { ⌜ (n ≤ 64) × Loaded n (tableau (now signs) rows) ⌝ }
+    ensures { λ r. ⌜ Eliminated n (tableau (now (signs .entry)) rows) (bit (now (pivots .entry))) (tableau (now (signs .exit)) r) (bit (now (pivots .exit))) n ⌝ }
+{
+    let mut q = 0;
+    while q < n {
+        let next = pass_column(rows, signs, n, q, pivots);
+        rows = next;
+        q += 1;
+    }
+    rows
+}
