@@ -91,3 +91,6 @@ twice i³ h = absurd (true≢false h)
 
 pub minus-real : (b : Bool) → imaginary (minus b) ≡ false
 minus-real = bits 1 (λ b. imaginary (minus b)) (λ b. false) tt
+
+pub sign-minus : (b : Bool) → signBit (minus b) ≡ b
+sign-minus = bits 1 (λ b. signBit (minus b)) (λ b. b) tt

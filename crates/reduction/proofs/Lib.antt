@@ -1,3 +1,6 @@
 pub mod Shearing
 pub mod Pivoting
 pub mod Passing
+pub mod Storing
+pub mod Rotating
+pub mod Reading

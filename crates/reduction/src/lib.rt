@@ -3,6 +3,7 @@ use pauli::letters_minus;
 use words::flip;
 use words::flip_where;
 use words::has;
+use words::odd;
 use words::put_bit;
 use words::single;
 use words::smallest;
@@ -11,10 +12,15 @@ ghost use mathlib.Core.List.{[]};
 ghost use mathlib.Core.Path.{_≡_};
 ghost use Prim.Native.Nat.{ℕ, _<_, _≤_, suc};
 ghost use lib.Dec.{ltb};
-ghost use lib.ListN.{getD};
+ghost use lib.ListN.{getD, length};
+ghost use Rattle.clifford.specs.Clifford.{codeOf};
+ghost use Rattle.clifford.specs.Vectors.{act};
 ghost use Rattle.pauli.specs.Pauli.{Pauli, anticommute};
-ghost use Rattle.stabilizer.specs.Elimination.{lend, pivotOn, shear};
+ghost use Rattle.record.specs.Lent.{codeNumbers, neighbourWords};
+ghost use Rattle.record.specs.Reduced.{hadamardWhere, plainCode, recordOf, withHadamard};
 ghost use Rattle.reduction.specs.Passes.{Eliminated, Loaded, PivotReady};
+ghost use Rattle.stabilizer.specs.Elimination.{lend, pivotOn, shear};
+ghost use Rattle.stabilizer.specs.Groups.{Within};
 ghost use Rattle.stabilizer.specs.Tableau.{tableau};
 ghost use Rattle.words.specs.Bits.{Word, bit};
 
@@ -117,4 +123,63 @@ fn pass(mut rows: [[u64; 2]; 64], signs: &mut u64, n: usize, pivots: &mut u64) -
         q += 1;
     }
     rows
+}
+
+// Hadamards on the columns that the word names: z and x are exchanged there, and a sign flips for each Y.
+fn rotate(mut rows: [[u64; 2]; 64], signs: &mut u64, n: usize, columns: u64) -> [[u64; 2]; 64]
+    requires { ⌜ (n ≤ 64) × Loaded n (tableau (now signs) rows) ⌝ }
+    ensures { λ r. ⌜ ((j : ℕ) → tableau (now (signs .exit)) r j ≡ act 64 (hadamardWhere (bit columns)) (tableau (now (signs .entry)) rows j)) ⌝ }
+{
+    let mut i = 0;
+    while i < n {
+        let row = rows[i];
+        let swapped = (row[0] ^ row[1]) & columns;
+        let minus = odd((row[0] & row[1]) & columns);
+        rows[i] = [row[0] ^ swapped, row[1] ^ swapped];
+        *signs = flip_where(*signs, i, minus);
+        i += 1;
+    }
+    rows
+}
+
+// The code of a vertex: 0 for +X, 2 for -X, 4 for +Y, 6 for -Y; followed by 8 where a Hadamard was used.
+fn vertex_code(hadamard: bool, y: bool, minus: bool) -> u8
+    ensures { λ r. ⌜ (r ≡ codeOf (withHadamard hadamard (plainCode y minus))) × (r < 24) ⌝ }
+{
+    if hadamard {
+        if y {
+            if minus { 16 } else { 18 }
+        } else {
+            if minus { 10 } else { 8 }
+        }
+    } else {
+        if y {
+            if minus { 6 } else { 4 }
+        } else {
+            if minus { 2 } else { 0 }
+        }
+    }
+}
+
+// Writes the record of rows that have X or Y at their own place and I or Z elsewhere.
+fn write_record(
+    rows: &[[u64; 2]; 64],
+    signs: u64,
+    n: usize,
+    hadamards: u64,
+    neighbours: &mut [u64],
+    codes: &mut [u8],
+)
+    requires { ⌜ (n ≤ 64) × (length (now neighbours) ≡ n) × (length (now codes) ≡ n) ⌝ }
+    requires { ⌜ ((j : ℕ) → j < n → Within n (tableau signs (now rows) j)) ⌝ }
+    ensures { λ r. ⌜ now (neighbours .exit) ≡ neighbourWords n (recordOf n (bit hadamards) (tableau signs (now (rows .entry)))) ⌝ }
+    ensures { λ r. ⌜ now (codes .exit) ≡ codeNumbers n (recordOf n (bit hadamards) (tableau signs (now (rows .entry)))) ⌝ }
+{
+    let mut q = 0;
+    while q < n {
+        let row = rows[q];
+        neighbours[q] = put_bit(row[0], q, false);
+        codes[q] = vertex_code(has(hadamards, q), has(row[0], q), has(signs, q));
+        q += 1;
+    }
 }

@@ -192,3 +192,9 @@ flip-less w q e = omega (arith, xor-add-and w (2 ^ q), both, pow-pos q)
 
     both : bitAnd w (2 ^ q) ≡ 2 ^ q
     both = bit-ext∞ (bitAnd w (2 ^ q)) (2 ^ q) at-place
+
+-- ---- a word with another's bits alone is no longer
+pub and-lt-right : (n a b : ℕ) → b < 2 ^ n → bitAnd a b < 2 ^ n
+and-lt-right n a b h =
+    lt-of-bits n (bitAnd a b)
+    (λ q l. bit-and a b q ∙ ap (λ v. bit a q && v) (bit-above n b h q l) ∙ and-false (bit a q))
