@@ -4,10 +4,13 @@
 -- what a test that answers v says, where v is b
 use mathlib.Core.Bool.{Bool, false, true, _||_}
 use mathlib.Core.Path.{ap₂, refl, sym, _∙_, _≡_}
+use Prim.Native.Nat.{_^_, _≤_}
+use lib.ListN.{length}
 use Rattle.buffers.proofs.Lines.{fits, none-fits, passed}
-use Rattle.buffers.specs.Refusals.{badCount, firstFitting}
+use Rattle.buffers.specs.Refusals.{badCount, firstFitting, otherThan, reaching}
 use Rattle.pauli.specs.Pauli.{anticommute}
 use Rattle.stabilizer.proofs.Pairs.{lettersOf}
+use Rattle.stabilizer.proofs.SharedTests.{counted, has-length, neither}
 use Rattle.stabilizer.specs.Lists.{
   GeneratorList,
   clashing,
@@ -54,3 +57,24 @@ module _ (l : GeneratorList) (others : Bool) where
           pub not-refused : clashing (l .n) (rows l) ≡ false → 0 ≡ firstFitting (earlyLines l others)
           not-refused h9 =
               sym (passed 2 _ h2 ∙ passed 4 _ h4 ∙ passed 5 _ h5 ∙ passed 6 _ h6 ∙ passed 9 _ h9 ∙ none-fits)
+
+-- ---- what the test of line 9 asks for
+-- line 4 does not hold: each buffer has n places
+pub list-lengths-are : (l : GeneratorList) → listLengths l ≡ false →
+    (length (l .signs) ≡ l .n) × (length (l .z) ≡ l .n) × (length (l .x) ≡ l .n)
+list-lengths-are l e =
+    let h = neither (otherThan (l .n) (l .signs)) (otherThan (l .n) (l .z) || otherThan (l .n) (l .x)) e in
+    let k = neither (otherThan (l .n) (l .z)) (otherThan (l .n) (l .x)) (h .1) in (
+      has-length (l .n) (l .signs) (h .0),
+      has-length (l .n) (l .z) (k .0),
+      has-length (l .n) (l .x) (k .1),
+    )
+
+-- what the test of line 9 asks for, where lines 2, 4 and 5 do not hold
+pub clash-tested : (l : GeneratorList) (others : Bool) → badCount (l .n) ≡ false →
+    (listLengths l || others) ≡ false → listStray l ≡ false →
+    ((l .n ≤ 64) × (length (l .z) ≡ l .n) × (length (l .x) ≡ l .n))
+    × ((reaching (2 ^ (l .n)) (l .z) ≡ false) × (reaching (2 ^ (l .n)) (l .x) ≡ false))
+clash-tested l others h2 h4 h5 =
+    let lengths = list-lengths-are l (neither (listLengths l) others h4 .0) in
+    ((counted (l .n) h2 .1, lengths .1, lengths .2), neither _ _ h5)

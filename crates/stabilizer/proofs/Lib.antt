@@ -9,4 +9,6 @@ pub mod Scanning
 pub mod Pairs
 pub mod SharedTests
 pub mod EarlyLines
+pub mod NumbersTrue
+pub mod Verdicts
 pub mod Accepted

@@ -1,7 +1,7 @@
 use mathlib.Core.Path.{_∙_, refl}
 use borrow.Author.Needs.{needs}
 use Rattle.stabilizer.specs.Lists.{GeneratorList, listLengths}
-use Rattle.stabilizer.proofs.Accepted.{clash-tested}
+use Rattle.stabilizer.proofs.EarlyLines.{clash-tested}
 use Rattle.stabilizer.proofs.EarlyLines.{
   clashing-letters,
   either-says,
