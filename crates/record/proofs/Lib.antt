@@ -14,3 +14,6 @@ pub mod SimpleLines
 pub mod RecordLines
 pub mod SimpleVerdict
 pub mod AcceptedRecords
+pub mod ExpandedRows
+pub mod ExpandedTableau
+pub mod ExpandedBuffers
