@@ -17,3 +17,5 @@ pub mod AcceptedRecords
 pub mod ExpandedRows
 pub mod ExpandedTableau
 pub mod ExpandedBuffers
+pub mod WrittenRecords
+pub mod ExpansionBack

@@ -12,3 +12,5 @@ pub mod EarlyLines
 pub mod NumbersTrue
 pub mod Verdicts
 pub mod Accepted
+pub mod EqualRows
+pub mod ReadBack
