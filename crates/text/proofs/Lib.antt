@@ -1,1 +1,4 @@
 pub mod Feeding
+pub mod Writing
+pub mod HexLaws
+pub mod RecordLaws

@@ -4,9 +4,9 @@
 use mathlib.Core.Path.{_≡_}
 use mathlib.Core.Bool.{cond}
 use mathlib.Core.List.{List, [], _∷_, _++_}
-use Prim.Native.Nat.{ℕ, zero, suc, _+_, _/_, _%_, _^_, _<_}
+use Prim.Native.Nat.{ℕ, zero, suc, _+_, _*_, _/_, _%_, _^_, _≤_, _<_}
 use lib.Dec.{ltb}
-use lib.ListN.{getD}
+use lib.ListN.{length, getD, take, drop}
 
 -- a lower-case hexadecimal digit
 unfoldable pub hexDigit : ℕ → ℕ
@@ -20,6 +20,12 @@ hexText (suc k) w = hexText k (w / 16) ++ hexDigit (w % 16) ∷ []
 -- a decimal number below 100, with no leading zero
 unfoldable pub decimal : ℕ → List ℕ
 decimal k = cond (ltb k 10) ((48 + k) ∷ []) ((48 + k / 10) ∷ (48 + k % 10) ∷ [])
+
+abbrev pub space : List ℕ
+space = 32 ∷ []
+
+abbrev pub newline : List ℕ
+newline = 10 ∷ []
 
 -- "a sign bit (1 means minus), a z word and an x word"; the text's form allows every sign digit
 pub record Line : Type 0 where
@@ -40,7 +46,7 @@ AllFit (l ∷ ls) = Fits l × AllFit ls
 -- "one line per generator, with a decimal sign digit and two words of 16 lower-case hexadecimal digits, fields parted
 -- by one space, every line ended by a newline"
 unfoldable pub lineText : Line → List ℕ
-lineText l = (48 + l .sign) ∷ 32 ∷ hexText 16 (l .z) ++ 32 ∷ hexText 16 (l .x) ++ 10 ∷ []
+lineText l = (48 + l .sign) ∷ [] ++ space ++ hexText 16 (l .z) ++ space ++ hexText 16 (l .x) ++ newline
 
 -- one line after the other
 unfoldable pub linesText : List Line → List ℕ
@@ -65,7 +71,7 @@ HasForm t = (ls : List Line) × TextOf ls t
 
 -- "one line per qubit, with decimal qubit and code and the neighbour word in 16 hexadecimal digits"
 unfoldable pub recordLine : ℕ → ℕ → ℕ → List ℕ
-recordLine q code w = decimal q ++ 32 ∷ decimal code ++ 32 ∷ hexText 16 w ++ 10 ∷ []
+recordLine q code w = decimal q ++ space ++ decimal code ++ space ++ hexText 16 w ++ newline
 
 -- the lines of the qubits below n, rising from 0
 unfoldable pub recordLines : ℕ → List ℕ → List ℕ → List ℕ
@@ -87,4 +93,21 @@ abbrev pub refusedWord : List ℕ
 refusedWord = 114 ∷ 101 ∷ 102 ∷ 117 ∷ 115 ∷ 101 ∷ 100 ∷ 32 ∷ []
 
 unfoldable pub refusedText : ℕ → List ℕ
-refusedText k = refusedWord ++ decimal k ++ 10 ∷ []
+refusedText k = refusedWord ++ decimal k ++ newline
+
+-- out with these bytes from place at on
+unfoldable pub written : List ℕ → ℕ → List ℕ → List ℕ
+written out at bytes = take at out ++ bytes ++ drop (at + length bytes) out
+
+-- the bytes are printed at place at, which turns the buffer from before into after; r is the place behind them
+pub record Printed (bytes : List ℕ) (at : ℕ) (before after : List ℕ) (r : ℕ) : Type 0 where
+  pub end : r ≡ at + length bytes
+  pub out : after ≡ written before at bytes
+
+-- what a record and its buffer must be for the print
+pub record Printable (n : ℕ) (codes neighbours out : List ℕ) : Type 0 where
+  pub qubits : n ≤ 64
+  pub codes-long : n ≤ length codes
+  pub neighbours-long : n ≤ length neighbours
+  pub codes-small : (q : ℕ) → q < n → getD codes q 0 < 24
+  pub room : 22 + n * 23 ≤ length out

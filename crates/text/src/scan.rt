@@ -4,7 +4,7 @@ ghost use mathlib.Core.Path.{_≡_};
 ghost use Prim.Native.Nat.{_+_, _*_, _%_, _^_, _<_};
 ghost use Rattle.text.specs.Scan.{hexValue, push, moved, namesStep, signStep, zStep, xStep, oneMore, step, begin, reading, fed, atSign, verdict};
 
-const NAMES: [u8; 9] = [115, 105, 103, 110, 32, 122, 32, 120, 10];
+const NAMES: [u8; 9] = [b's', b'i', b'g', b'n', b' ', b'z', b' ', b'x', b'\n'];
 
 // What the next byte must be: a byte of the names line, a sign digit, the space after it, a digit of z or the space
 // after the last, a digit of x or the newline. The number counts the bytes of the field that have been read.
