@@ -23,10 +23,10 @@ length-line q code w =
     (omega (arith, length-append (fields ++ hexText 16 w) newline, length-append fields (hexText 16 w),
       length-append (decimal q ++ space) (decimal code ++ space), length-hex 16 w, length-field q, length-field code))
 
-pub length-lines : (n : ℕ) (codes neighbours : List ℕ) → length (recordLines n codes neighbours) ≤ n * 23
+pub length-lines : (n : ℕ) (neighbours codes : List ℕ) → length (recordLines n neighbours codes) ≤ n * 23
 unfolding recordLines
-length-lines zero codes neighbours = omega arith
-length-lines (suc q) codes neighbours =
+length-lines zero neighbours codes = omega arith
+length-lines (suc q) neighbours codes =
     let line = recordLine q (getD codes q 0) (getD neighbours q 0) in
-    omega (arith, length-append (recordLines q codes neighbours) line, length-lines q codes neighbours,
+    omega (arith, length-append (recordLines q neighbours codes) line, length-lines q neighbours codes,
       length-line q (getD codes q 0) (getD neighbours q 0))

@@ -75,9 +75,9 @@ recordLine q code w = decimal q ++ space ++ decimal code ++ space ++ hexText 16 
 
 -- the lines of the qubits below n, rising from 0
 unfoldable pub recordLines : ℕ → List ℕ → List ℕ → List ℕ
-recordLines zero codes neighbours = []
-recordLines (suc q) codes neighbours =
-    recordLines q codes neighbours ++ recordLine q (getD codes q 0) (getD neighbours q 0)
+recordLines zero neighbours codes = []
+recordLines (suc q) neighbours codes =
+    recordLines q neighbours codes ++ recordLine q (getD codes q 0) (getD neighbours q 0)
 
 -- "the names `qubit code neighbours`"
 abbrev pub recordNames : List ℕ
@@ -86,7 +86,7 @@ recordNames =
     ∷ 110 ∷ 101 ∷ 105 ∷ 103 ∷ 104 ∷ 98 ∷ 111 ∷ 117 ∷ 114 ∷ 115 ∷ 10 ∷ []
 
 unfoldable pub recordText : ℕ → List ℕ → List ℕ → List ℕ
-recordText n codes neighbours = recordNames ++ recordLines n codes neighbours
+recordText n neighbours codes = recordNames ++ recordLines n neighbours codes
 
 -- "the one line `refused` and the number"
 abbrev pub refusedWord : List ℕ
@@ -105,9 +105,9 @@ pub record Printed (bytes : List ℕ) (at : ℕ) (before after : List ℕ) (r : 
   pub out : after ≡ written before at bytes
 
 -- what a record and its buffer must be for the print
-pub record Printable (n : ℕ) (codes neighbours out : List ℕ) : Type 0 where
+pub record Printable (n : ℕ) (neighbours codes out : List ℕ) : Type 0 where
   pub qubits : n ≤ 64
-  pub codes-long : n ≤ length codes
   pub neighbours-long : n ≤ length neighbours
+  pub codes-long : n ≤ length codes
   pub codes-small : (q : ℕ) → q < n → getD codes q 0 < 24
   pub room : 22 + n * 23 ≤ length out

@@ -79,9 +79,9 @@ fn put_line(q: u8, code: u8, w: u64, at: usize, out: &mut [u8]) -> usize
 }
 
 // The record of n qubits: the names and a line for each qubit. Returns the number of bytes.
-pub fn print_record(n: usize, codes: &[u8], neighbours: &[u64], out: &mut [u8]) -> usize
-    requires { ⌜ Printable n (now codes) (now neighbours) (now out) ⌝ }
-    ensures { λ r. ⌜ Printed (recordText n (now (codes .entry)) (now (neighbours .entry))) 0 (now (out .entry)) (now (out .exit)) r ⌝ }
+pub fn print_record(n: usize, neighbours: &[u64], codes: &[u8], out: &mut [u8]) -> usize
+    requires { ⌜ Printable n (now neighbours) (now codes) (now out) ⌝ }
+    ensures { λ r. ⌜ Printed (recordText n (now (neighbours .entry)) (now (codes .entry))) 0 (now (out .entry)) (now (out .exit)) r ⌝ }
 {
     let mut at = put_bytes(b"qubit code neighbours\n", 0, out);
     let mut q = 0;

@@ -17,10 +17,10 @@ use Rattle.text.proofs.print.put_bytes.Reads as put-bytes-reads
 use Rattle.text.proofs.print.put_line.Reads as put-line-reads
 
 abbrev Inv-loop : tie.InvT-loop
-Inv-loop n codes neighbours out₀ at₀ q₀ out at q = (q ≤ n) × Printed (recordLines q codes neighbours) at₀ out₀ out at × (length out ≡ length out₀)
+Inv-loop n neighbours codes out₀ at₀ q₀ out at q = (q ≤ n) × Printed (recordLines q neighbours codes) at₀ out₀ out at × (length out ≡ length out₀)
 
 abbrev μ-loop : tie.MeasureT-loop
-μ-loop n codes neighbours out₀ at₀ q₀ out at q = n - q
+μ-loop n neighbours codes out₀ at₀ q₀ out at q = n - q
 
 -- src/print.rt:86:28
 slice-aggregate-put-bytes : tie.Need-slice-aggregate-put-bytes Inv-loop μ-loop
@@ -59,7 +59,7 @@ put-line-requires c κs =
     let start = names .before .before .before .before .before .before in
     let code = start .pre .codes-small (l .loop .q) (c .before .before .before .loop-test .taken) in
     omega (
-      arith, code, length-lines (l .loop .q) (start .args .codes .now) (start .args .neighbours .now),
+      arith, code, length-lines (l .loop .q) (start .args .neighbours .now) (start .args .codes .now),
       l .loop .inv .1 .end, names .put-bytes .ensures .end, names .put-bytes .kept, start .pre .room, start .pre .qubits,
     )
 
@@ -78,9 +78,9 @@ loop-again c =
     let l = c .before .before .before .before .before .before .before in
     let names = l .before .before .before in
     let start = names .before .before .before .before .before .before in
-    let lines = length-lines (l .loop .q) (start .args .codes .now) (start .args .neighbours .now) in (
+    let lines = length-lines (l .loop .q) (start .args .neighbours .now) (start .args .codes .now) in (
       search needs,
-      subst (λ k. Printed (recordLines k (start .args .codes .now) (start .args .neighbours .now))
+      subst (λ k. Printed (recordLines k (start .args .neighbours .now) (start .args .codes .now))
         (names .put-bytes .result) (names .put-bytes .last .1 .1 .0)
         (c .before .before .put-line .last .1 .1 .1 .1 .0) (c .before .before .put-line .result))
       (sym (add-one (l .loop .q)))
@@ -101,7 +101,7 @@ returns c =
     let names = l .before .before .before in
     let start = names .before .before .before .before .before .before in
     let all : l .loop .q ≡ start .args .n = omega arith in
-    subst (λ k. Printed (recordNames ++ recordLines k (start .args .codes .now) (start .args .neighbours .now))
+    subst (λ k. Printed (recordNames ++ recordLines k (start .args .neighbours .now) (start .args .codes .now))
       0 (start .args .out .now) (l .loop .out) (l .loop .at)) all
     (and-then (omega (arith, start .pre .room)) (names .put-bytes .ensures) (l .loop .inv .1))
 
