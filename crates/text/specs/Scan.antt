@@ -2,11 +2,13 @@
 -- read to its newline goes to three buffers of 64 places.
 -- Assumes nothing.
 use mathlib.Core.Bool.{Bool, true, false, _&&_, cond}
-use mathlib.Core.List.{List, [], _∷_}
-use Prim.Native.Nat.{ℕ, _+_, _-_, _*_, _%_, _^_}
+use mathlib.Core.Path.{_≡_}
+use mathlib.Core.Logic.{_↔_}
+use mathlib.Core.List.{List, [], _∷_, map}
+use Prim.Native.Nat.{ℕ, _+_, _-_, _*_, _%_, _^_, min}
 use lib.Dec.{eqb, ltb}
-use lib.ListN.{getD, set}
-use Rattle.text.specs.Text.{listNames}
+use lib.ListN.{length, getD, set, take}
+use Rattle.text.specs.Text.{listNames, Line, TextOf, HasForm}
 use Rattle.text.specs.declared.scan.Scan.{Scan}
 use Rattle.text.specs.declared.scan.Verdict.{Verdict}
 use Rattle.text.specs.declared.scan.Place.{Place}
@@ -125,3 +127,15 @@ atSign Broken = false
 -- the text ends: it has the form where the next byte would start a line
 unfoldable pub verdict : Scan → Verdict
 verdict s = record { «has_form» = atSign (s .place); count = s .count }
+
+-- the lines of the list ls are counted, up to 65, and the first 64 of them stand at the start of the buffers
+pub record Kept (ls : List Line) (w : Reading) : Type 0 where
+  pub count : w .scan .count ≡ min (length ls) 65
+  pub signs : take (length ls) (w .signs) ≡ take 64 (map (λ l. l .sign) ls)
+  pub zs : take (length ls) (w .zs) ≡ take 64 (map (λ l. l .z) ls)
+  pub xs : take (length ls) (w .xs) ≡ take 64 (map (λ l. l .x) ls)
+
+-- the verdict on the text t is right: it says whether t has the form, and then the lines of t are kept
+pub record Judged (t : List ℕ) (w : Reading) : Type 0 where
+  pub form : (verdict (w .scan) .«has_form» ≡ true) ↔ HasForm t
+  pub lines : (ls : List Line) → TextOf ls t → Kept ls w
