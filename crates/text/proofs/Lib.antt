@@ -5,3 +5,4 @@ pub mod RecordLaws
 pub mod DigitLaws
 pub mod FormLaws
 pub mod ScanLine
+pub mod ScanList
