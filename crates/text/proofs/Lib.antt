@@ -6,3 +6,6 @@ pub mod DigitLaws
 pub mod FormLaws
 pub mod ScanLine
 pub mod ScanList
+pub mod ScanSound
+pub mod Verdict
+pub mod Examples

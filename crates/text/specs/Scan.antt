@@ -116,6 +116,11 @@ unfoldable pub fed : Reading → List ℕ → Reading
 fed w [] = w
 fed w (b ∷ bs) = fed (feed w b) bs
 
+-- block after block
+unfoldable pub fedBlocks : Reading → List (List ℕ) → Reading
+fedBlocks w [] = w
+fedBlocks w (block ∷ blocks) = fedBlocks (fed w block) blocks
+
 abbrev pub atSign : Place → Bool
 atSign (Names k) = false
 atSign Sign = true
