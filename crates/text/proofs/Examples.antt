@@ -1,5 +1,5 @@
--- The worked texts of document 01, at the definitions: the input, the output, a refusal, and the verdicts on the input,
--- on the empty text and on the names alone.
+-- The worked texts of document 01, at the definitions: the input, the output, a refusal, and the verdicts on
+-- the input, on the empty text and on the names alone.
 -- Assumes nothing.
 use mathlib.Core.Path.{_≡_, refl}
 use mathlib.Core.Bool.{true, false}
@@ -8,8 +8,8 @@ use Prim.Native.Nat.{ℕ, _+_}
 use lib.ListN.{replicate}
 use Rattle.text.specs.Text.{hexDigit, hexText, decimal, Line, lineText, linesText, listNames, listText}
 use Rattle.text.specs.Text.{recordLine, recordLines, recordText, refusedText}
-use Rattle.text.specs.Scan.{hexValue, push, namesStep, signStep, zStep, xStep, oneMore, step, begin, Reading, reading}
-use Rattle.text.specs.Scan.{feed, fed, verdict}
+use Rattle.text.specs.Scan.{hexValue, push, namesStep, signStep, zStep, xStep, oneMore, step, begin}
+use Rattle.text.specs.Scan.{Reading, reading, feed, fed, verdict}
 use Rattle.text.specs.declared.scan.Verdict.{Verdict}
 
 -- XX and ZZ
@@ -32,9 +32,9 @@ input-text = refl
 
 output-text : recordText 2 (2 ∷ 1 ∷ []) (0 ∷ 8 ∷ [])
     ≡ 113 ∷ 117 ∷ 98 ∷ 105 ∷ 116 ∷ 32 ∷ 99 ∷ 111 ∷ 100 ∷ 101 ∷ 32
-      ∷ 110 ∷ 101 ∷ 105 ∷ 103 ∷ 104 ∷ 98 ∷ 111 ∷ 117 ∷ 114 ∷ 115 ∷ 10
-      ∷ 48 ∷ 32 ∷ 48 ∷ 32 ∷ wordText 2 ++ 10
-      ∷ 49 ∷ 32 ∷ 56 ∷ 32 ∷ wordText 1 ++ 10 ∷ []
+    ∷ 110 ∷ 101 ∷ 105 ∷ 103 ∷ 104 ∷ 98 ∷ 111 ∷ 117 ∷ 114 ∷ 115 ∷ 10
+    ∷ 48 ∷ 32 ∷ 48 ∷ 32 ∷ wordText 2 ++ 10
+    ∷ 49 ∷ 32 ∷ 56 ∷ 32 ∷ wordText 1 ++ 10 ∷ []
 unfolding hexDigit hexText decimal recordLine recordLines recordText
 output-text = refl
 

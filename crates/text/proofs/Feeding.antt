@@ -1,7 +1,7 @@
 -- Feeding a text piece by piece: the reading after two pieces, and after one more byte of a block.
 -- Assumes nothing.
 use mathlib.Core.Path.{_≡_, refl, sym, ap, _∙_}
-use mathlib.Core.Bool.{Bool, true, false, _&&_, cond}
+use mathlib.Core.Bool.{true, false, _&&_, cond}
 use mathlib.Core.List.{List, [], _∷_, _++_}
 use Prim.Native.Nat.{ℕ, _+_, _<_}
 use native.Mathlib.Numerals.{add-one}
@@ -22,7 +22,8 @@ unfolding fed
 fed-one w a b = fed-append w a (b ∷ [])
 
 -- a turn of the loop over a block
-module _ (w now : Reading) (block : List ℕ) (i : ℕ) (inside : i < length block) (sofar : now ≡ fed w (take i block)) where
+module _ (w now : Reading) (block : List ℕ) (i : ℕ) (inside : i < length block)
+    (sofar : now ≡ fed w (take i block)) where
   pub fed-more : fed w (take (i + 1) block) ≡ feed now (getD block i 0)
   fed-more =
       ap (λ k. fed w (take k block)) (add-one i) ∙ ap (fed w) (take-suc block i 0 inside)

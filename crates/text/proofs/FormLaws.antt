@@ -6,7 +6,8 @@ use Prim.Native.Nat.{ℕ, _+_, _^_, _<_}
 use native.Mathlib.Omega.{arith}
 use lib.ListN.{length, take, drop, length-append}
 use lib.Seq.{take-at, drop-at}
-use Rattle.text.specs.Text.{hexText, space, newline, Line, Fits, AllFit, lineText, linesText, listNames, listText, TextOf}
+use Rattle.text.specs.Text.{hexText, space, newline, Line, Fits, AllFit, lineText, linesText, listNames}
+use Rattle.text.specs.Text.{listText, TextOf}
 use Rattle.text.proofs.HexLaws.{length-hex}
 use Rattle.text.proofs.DigitLaws.{readHex, hex-back}
 
@@ -32,10 +33,13 @@ unfolding lineText
 line-injective l m fl fm e =
     let digit : Line → List ℕ = λ k. (48 + k .sign) ∷ [] in
     let upto-z : Line → List ℕ = λ k. digit k ++ space ++ hexText 16 (k .z) in
-    let e₁ = parts-right (upto-z l ++ space ++ hexText 16 (l .x)) newline (upto-z m ++ space ++ hexText 16 (m .x)) newline refl e .0 in
-    let e₂ = parts-right (upto-z l ++ space) (hexText 16 (l .x)) (upto-z m ++ space) (hexText 16 (m .x)) (words-long (l .x) (m .x)) e₁ in
+    let e₁ = parts-right (upto-z l ++ space ++ hexText 16 (l .x)) newline (upto-z m ++ space
+    ++ hexText 16 (m .x)) newline refl e .0 in
+    let e₂ = parts-right (upto-z l ++ space) (hexText 16 (l .x)) (upto-z m
+    ++ space) (hexText 16 (m .x)) (words-long (l .x) (m .x)) e₁ in
     let e₃ = parts-right (upto-z l) space (upto-z m) space refl (e₂ .0) .0 in
-    let e₄ = parts-right (digit l ++ space) (hexText 16 (l .z)) (digit m ++ space) (hexText 16 (m .z)) (words-long (l .z) (m .z)) e₃ in
+    let e₄ = parts-right (digit l ++ space) (hexText 16 (l .z)) (digit m
+    ++ space) (hexText 16 (m .z)) (words-long (l .z) (m .z)) e₃ in
     let digits : digit l ≡ digit m = parts-right (digit l) space (digit m) space refl (e₄ .0) .0 in
     let byte : 48 + l .sign ≡ 48 + m .sign = cc in
     let signs : l .sign ≡ m .sign = omega arith in
@@ -47,8 +51,14 @@ pub length-line : (l : Line) → length (lineText l) ≡ 36
 unfolding lineText
 length-line l =
     let upto-z = (48 + l .sign) ∷ [] ++ space ++ hexText 16 (l .z) in
-    omega (arith, length-append (upto-z ++ space ++ hexText 16 (l .x)) newline,
-      length-append (upto-z ++ space) (hexText 16 (l .x)), length-append upto-z space, length-hex 16 (l .z), length-hex 16 (l .x))
+    omega (
+      arith,
+      length-append (upto-z ++ space ++ hexText 16 (l .x)) newline,
+      length-append (upto-z ++ space) (hexText 16 (l .x)),
+      length-append upto-z space,
+      length-hex 16 (l .z),
+      length-hex 16 (l .x),
+    )
 
 lines-injective : (ls ms : List Line) → AllFit ls → AllFit ms → linesText ls ≡ linesText ms → ls ≡ ms
 unfolding linesText
@@ -58,11 +68,12 @@ lines-injective [] (m ∷ ms) f g e =
 lines-injective (l ∷ ls) [] f g e =
     absurd (omega (arith, length-append (lineText l) (linesText ls), length-line l, ap length e))
 lines-injective (l ∷ ls) (m ∷ ms) f g e =
-    let p = parts-left (lineText l) (linesText ls) (lineText m) (linesText ms) (length-line l ∙ sym (length-line m)) e in
+    let p = parts-left (lineText l) (linesText ls) (lineText m) (linesText ms) (length-line l
+    ∙ sym (length-line m)) e in
     let rest = lines-injective ls ms (f .1) (g .1) (p .1) in
     λ i. line-injective l m (f .0) (g .0) (p .0) i ∷ rest i
 
--- "parsing is the inverse of printing": a text has at most one list
+-- a text is the text of at most one list
 pub list-unique : (ls ms : List Line) (t : List ℕ) → TextOf ls t → TextOf ms t → ls ≡ ms
 unfolding listText
 list-unique ls ms t p q =
@@ -74,13 +85,15 @@ pub lines-append : (ls ms : List Line) → linesText (ls ++ ms) ≡ linesText ls
 unfolding linesText
 lines-append [] ms = refl
 lines-append (l ∷ ls) ms =
-    ap (λ t. lineText l ++ t) (lines-append ls ms) ∙ sym (append-assoc (lineText l) (linesText ls) (linesText ms))
+    ap (λ t. lineText l ++ t) (lines-append ls ms)
+    ∙ sym (append-assoc (lineText l) (linesText ls) (linesText ms))
 
 -- the text with one line more
 pub list-more : (ls : List Line) (l : Line) → listText (ls ++ l ∷ []) ≡ listText ls ++ lineText l
 unfolding listText linesText
 list-more ls l =
-    ap (λ t. listNames ++ t) (lines-append ls (l ∷ []) ∙ ap (λ t. linesText ls ++ t) (append-nil (lineText l)))
+    ap (λ t. listNames ++ t) (lines-append ls (l ∷ [])
+    ∙ ap (λ t. linesText ls ++ t) (append-nil (lineText l)))
 
 pub fit-more : (ls : List Line) (l : Line) → AllFit ls → Fits l → AllFit (ls ++ l ∷ [])
 fit-more [] l f g = (g, tt)

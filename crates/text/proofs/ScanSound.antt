@@ -1,10 +1,10 @@
--- At each place the text so far is a list's text and the part of a line that the scan holds; so a scan that ends at the
--- start of a line has read a text that has the form.
+-- At each place the text so far is a list's text and the part of a line that the scan holds; so a scan that
+-- ends at the start of a line has read a text that has the form.
 -- Assumes nothing.
 use mathlib.Core.Path.{_≡_, refl, sym, ap, ap₂, _∙_, subst}
-use mathlib.Core.Bool.{Bool, true, false, _&&_, and-eq-true-iff, cond, false≢true}
+use mathlib.Core.Bool.{_&&_, and-eq-true-iff, cond}
 use mathlib.Core.List.{List, [], _∷_, _++_, append-assoc, append-nil}
-use Prim.Native.Nat.{ℕ, zero, suc, _+_, _-_, _*_, _^_, _≤_, _<_}
+use Prim.Native.Nat.{ℕ, _+_, _-_, _*_, _^_, _≤_, _<_}
 use native.Mathlib.Nat.{lt-of-lt-of-le}
 use native.Mathlib.Numerals.{add-one}
 use native.Mathlib.Omega.{arith}
@@ -13,7 +13,18 @@ use lib.ListN.{getD, take}
 use lib.Pow.{pow-mono, pow-add}
 use lib.Seq.{take-suc}
 use borrow.Author.Tests.{ltb-true, ltb-false, eqb-true, eqb-false}
-use Rattle.text.specs.Text.{hexText, space, newline, Line, Fits, AllFit, lineText, linesText, listNames, listText, TextOf, HasForm}
+use Rattle.text.specs.Text.{
+  hexText,
+  space,
+  Line,
+  Fits,
+  AllFit,
+  lineText,
+  linesText,
+  listNames,
+  listText,
+}
+use Rattle.text.specs.Text.{HasForm}
 use Rattle.text.specs.Scan.{hexValue, push, moved, namesStep, signStep, zStep, xStep, stepAt, oneMore}
 use Rattle.text.specs.declared.scan.Scan.{Scan}
 use Rattle.text.specs.declared.scan.Place.{Place}
@@ -21,6 +32,7 @@ use Rattle.text.specs.declared.scan.Place.the-variants.{Names, Sign, Spa
 use Rattle.text.proofs.HexLaws.{hex-push}
 use Rattle.text.proofs.DigitLaws.{by-test, digit-value, push-exact}
 use Rattle.text.proofs.FormLaws.{list-more, fit-more}
+use Rattle.text.proofs.ScanLine.{scanAt}
 
 -- the text t is that of a list, with part behind it
 pub record Upto (t part : List ℕ) : Type 0 where
@@ -66,13 +78,14 @@ Sofar (X k) s t = AtX k s t
 Sofar Broken s t = Unit
 
 -- one more byte in the part
-upto-more : {t part : List ℕ} (b : ℕ) (part′ : List ℕ) → part ++ b ∷ [] ≡ part′ → Upto t part → Upto (t ++ b ∷ []) part′
+upto-more : {t part : List ℕ} (b : ℕ) (part′ : List ℕ) → part ++ b ∷ [] ≡ part′ → Upto t part
+    → Upto (t ++ b ∷ []) part′
 upto-more {t} {part} b part′ e u = record {
   lines = u .lines;
   fit = u .fit;
   text =
-    ap (λ l. l ++ b ∷ []) (u .text) ∙ append-assoc (listText (u .lines)) part (b ∷ [])
-    ∙ ap (λ l. listText (u .lines) ++ l) e
+      ap (λ l. l ++ b ∷ []) (u .text) ∙ append-assoc (listText (u .lines)) part (b ∷ [])
+      ∙ ap (λ l. listText (u .lines) ++ l) e;
 }
 
 -- one more digit of a word
@@ -98,40 +111,43 @@ module _ (s : Scan) (t : List ℕ) (b : ℕ) where
   names-sound : (k : ℕ) → Sofar (Names k) s t → After (moved s (namesStep k b))
   unfolding namesStep listText linesText
   names-sound k sofar =
-      by-test (λ p. After (moved s p)) (ltb k 9 && eqb b (getD listNames k 0)) (cond (eqb k 8) Sign (Names (k + 1))) Broken
+      let fits-names = ltb k 9 && eqb b (getD listNames k 0) in
+      by-test (λ p. After (moved s p)) fits-names (cond (eqb k 8) Sign (Names (k + 1))) Broken
       (λ fits.
-        let both = and-eq-true-iff (ltb k 9) (eqb b (getD listNames k 0)) .0 fits in
-        let inside = ltb-true k 9 (both .0) in
-        let next : t ++ b ∷ [] ≡ take (k + 1) listNames =
-          ap₂ (λ l c. l ++ c ∷ []) (sofar .1) (eqb-true b (getD listNames k 0) (both .1))
-          ∙ sym (ap (λ n. take n listNames) (add-one k) ∙ take-suc listNames k 0 inside)
-        in
-        by-test (λ p. After (moved s p)) (eqb k 8) Sign (Names (k + 1))
-        (λ last. ([], record { fit = tt; text = next ∙ ap (λ n. take (n + 1) listNames) (eqb-true k 8 last) }))
-        (λ more. (omega (arith, eqb-false k 8 more), next)))
+      let both = and-eq-true-iff (ltb k 9) (eqb b (getD listNames k 0)) .0 fits in
+      let inside = ltb-true k 9 (both .0) in
+      let next : t ++ b ∷ [] ≡ take (k + 1) listNames =
+      ap₂ (λ l c. l ++ c ∷ []) (sofar .1) (eqb-true b (getD listNames k 0) (both .1))
+      ∙ sym (ap (λ n. take n listNames) (add-one k) ∙ take-suc listNames k 0 inside)
+      in
+      by-test (λ p. After (moved s p)) (eqb k 8) Sign (Names (k + 1))
+      (λ last.
+      let all : t ++ b ∷ [] ≡ listNames = next ∙ ap (λ n. take (n + 1) listNames) (eqb-true k 8 last) in
+      ([], record { fit = tt; text = all }))
+      (λ more. (omega (arith, eqb-false k 8 more), next)))
       (λ _. tt)
 
   sign-sound : Sofar Sign s t → After (signStep s b)
   unfolding signStep
   sign-sound sofar =
-      let read : Scan = record { place = Space; sign = b - 48; z = 0; x = 0; count = s .count } in
+      let read = scanAt (s .count) Space (b - 48) 0 0 in
       by-test After (ltb b 48) (moved s Broken) (cond (ltb b 58) read (moved s Broken))
       (λ _. tt)
       (λ above. by-test After (ltb b 58) read (moved s Broken)
-        (λ below.
-          let h₀ = ltb-false b 48 above in
-          let h₁ = ltb-true b 58 below in
-          let byte : b ≡ 48 + (b - 48) = omega arith in
-          record {
-            upto = record {
-              lines = sofar .0;
-              fit = sofar .1 .fit;
-              text = ap₂ (λ l c. l ++ c ∷ []) (sofar .1 .text) byte
-            };
-            digit = omega arith;
-            fresh = (refl, refl)
-          })
-        (λ _. tt))
+      (λ below.
+      let h₀ = ltb-false b 48 above in
+      let h₁ = ltb-true b 58 below in
+      let byte : b ≡ 48 + (b - 48) = omega arith in
+      record {
+        upto = record {
+          lines = sofar .0;
+          fit = sofar .1 .fit;
+          text = ap₂ (λ l c. l ++ c ∷ []) (sofar .1 .text) byte;
+        };
+        digit = omega arith;
+        fresh = (refl, refl);
+      })
+      (λ _. tt))
 
   space-sound : Sofar Space s t → After (moved s (cond (eqb b 32) (Z 0) Broken))
   unfolding hexText
@@ -142,7 +158,7 @@ module _ (s : Scan) (t : List ℕ) (b : ℕ) where
         digit = sofar .digit;
         inside = omega arith;
         small = omega (arith, sofar .fresh .0);
-        fresh = sofar .fresh .1
+        fresh = sofar .fresh .1;
       })
       (λ _. tt)
 
@@ -150,71 +166,79 @@ module _ (s : Scan) (t : List ℕ) (b : ℕ) where
   unfolding zStep hexText
   z-sound k sofar =
       let v = hexValue b in
-      let read : Scan = record { place = Z (k + 1); sign = s .sign; z = push (s .z) v; x = s .x; count = s .count } in
-      by-test After (ltb k 16) (cond (ltb v 16) read (moved s Broken)) (moved s (cond (eqb b 32) (X 0) Broken))
+      let read = scanAt (s .count) (Z (k + 1)) (s .sign) (push (s .z) v) (s .x) in
+      by-test After (ltb k 16) (cond (ltb v 16) read (moved s Broken))
+      (moved s (cond (eqb b 32) (X 0) Broken))
       (λ t₀. by-test After (ltb v 16) read (moved s Broken)
-        (λ t₁.
-          let more = ltb-true k 16 t₀ in
-          let one = ltb-true v 16 t₁ in
-          record {
-            upto = upto-more b (zPart (k + 1) read)
-              (append-assoc (signPart s ++ space) (hexText k (s .z)) (b ∷ [])
-              ∙ ap (λ l. signPart s ++ space ++ l) (push-digits k (s .z) b more (sofar .small) one)) (sofar .upto);
-            digit = sofar .digit;
-            inside = omega arith;
-            small = push-below k (s .z) v more (sofar .small) one;
-            fresh = sofar .fresh
-          })
-        (λ _. tt))
+      (λ t₁.
+      let more = ltb-true k 16 t₀ in
+      let one = ltb-true v 16 t₁ in
+      record {
+        upto = upto-more b (zPart (k + 1) read)
+            (append-assoc (signPart s ++ space) (hexText k (s .z)) (b ∷ [])
+            ∙ ap (λ l. signPart s ++ space ++ l) (push-digits k (s .z) b more (sofar .small) one))
+            (sofar .upto);
+        digit = sofar .digit;
+        inside = omega arith;
+        small = push-below k (s .z) v more (sofar .small) one;
+        fresh = sofar .fresh;
+      })
+      (λ _. tt))
       (λ t₀. by-test (λ p. After (moved s p)) (eqb b 32) (X 0) Broken
-        (λ fits.
-          let all : k ≡ 16 = omega (arith, ltb-false k 16 t₀, sofar .inside) in
-          record {
-            upto = upto-more b (xPart 0 s)
-              (ap₂ (λ n c. zPart n s ++ c ∷ []) all (eqb-true b 32 fits) ∙ sym (append-nil (zPart 16 s ++ space))) (sofar .upto);
-            digit = sofar .digit;
-            inside = omega arith;
-            z-small = subst (λ n. s .z < 2 ^ (4 * n)) all (sofar .small);
-            small = omega (arith, sofar .fresh)
-          })
-        (λ _. tt))
+      (λ fits.
+      let all : k ≡ 16 = omega (arith, ltb-false k 16 t₀, sofar .inside) in
+      record {
+        upto = upto-more b (xPart 0 s)
+            (ap₂ (λ n c. zPart n s ++ c ∷ []) all (eqb-true b 32 fits)
+            ∙ sym (append-nil (zPart 16 s ++ space))) (sofar .upto);
+        digit = sofar .digit;
+        inside = omega arith;
+        z-small = subst (λ n. s .z < 2 ^ (4 * n)) all (sofar .small);
+        small = omega (arith, sofar .fresh);
+      })
+      (λ _. tt))
 
   x-sound : (k : ℕ) → Sofar (X k) s t → After (xStep k s b)
   unfolding xStep lineText
   x-sound k sofar =
       let v = hexValue b in
-      let read : Scan = record { place = X (k + 1); sign = s .sign; z = s .z; x = push (s .x) v; count = s .count } in
-      let ended : Scan = record { place = Sign; sign = s .sign; z = s .z; x = s .x; count = oneMore (s .count) } in
-      by-test After (ltb k 16) (cond (ltb v 16) read (moved s Broken)) (cond (eqb b 10) ended (moved s Broken))
+      let read = scanAt (s .count) (X (k + 1)) (s .sign) (s .z) (push (s .x) v) in
+      let ended = scanAt (oneMore (s .count)) Sign (s .sign) (s .z) (s .x) in
+      by-test After (ltb k 16) (cond (ltb v 16) read (moved s Broken))
+      (cond (eqb b 10) ended (moved s Broken))
       (λ t₀. by-test After (ltb v 16) read (moved s Broken)
-        (λ t₁.
-          let more = ltb-true k 16 t₀ in
-          let one = ltb-true v 16 t₁ in
-          record {
-            upto = upto-more b (xPart (k + 1) read)
-              (append-assoc (zPart 16 s ++ space) (hexText k (s .x)) (b ∷ [])
-              ∙ ap (λ l. zPart 16 s ++ space ++ l) (push-digits k (s .x) b more (sofar .small) one)) (sofar .upto);
-            digit = sofar .digit;
-            inside = omega arith;
-            z-small = sofar .z-small;
-            small = push-below k (s .x) v more (sofar .small) one
-          })
-        (λ _. tt))
+      (λ t₁.
+      let more = ltb-true k 16 t₀ in
+      let one = ltb-true v 16 t₁ in
+      record {
+        upto = upto-more b (xPart (k + 1) read)
+            (append-assoc (zPart 16 s ++ space) (hexText k (s .x)) (b ∷ [])
+            ∙ ap (λ l. zPart 16 s ++ space ++ l) (push-digits k (s .x) b more (sofar .small) one))
+            (sofar .upto);
+        digit = sofar .digit;
+        inside = omega arith;
+        z-small = sofar .z-small;
+        small = push-below k (s .x) v more (sofar .small) one;
+      })
+      (λ _. tt))
       (λ t₀. by-test After (eqb b 10) ended (moved s Broken)
-        (λ fits.
-          let all : k ≡ 16 = omega (arith, ltb-false k 16 t₀, sofar .inside) in
-          let l : Line = record { sign = s .sign; z = s .z; x = s .x } in
-          let fit : Fits l = record {
-            sign = sofar .digit;
-            z = sofar .z-small;
-            x = subst (λ n. s .x < 2 ^ (4 * n)) all (sofar .small)
-          } in
-          let line = upto-more b (lineText l) (ap₂ (λ n c. xPart n s ++ c ∷ []) all (eqb-true b 10 fits)) (sofar .upto) in
-          (line .lines ++ l ∷ [], record {
-            fit = fit-more (line .lines) l (line .fit) fit;
-            text = line .text ∙ sym (list-more (line .lines) l)
-          }))
-        (λ _. tt))
+      (λ fits.
+      let all : k ≡ 16 = omega (arith, ltb-false k 16 t₀, sofar .inside) in
+      let l : Line = record { sign = s .sign; z = s .z; x = s .x } in
+      let fit : Fits l = record {
+        sign = sofar .digit;
+        z = sofar .z-small;
+        x = subst (λ n. s .x < 2 ^ (4 * n)) all (sofar .small);
+      } in
+      let ends : xPart k s ++ b ∷ [] ≡ lineText l = ap₂ (λ n c. xPart n s ++ c ∷ []) all (eqb-true b 10 fits) in
+      let line = upto-more b (lineText l) ends (sofar .upto) in (
+        line .lines ++ l ∷ [],
+        record {
+          fit = fit-more (line .lines) l (line .fit) fit;
+          text = line .text ∙ sym (list-more (line .lines) l);
+        },
+      ))
+      (λ _. tt))
 
   -- one more byte
   pub step-sound : (p : Place) → s .place ≡ p → Sofar p s t → After (stepAt p s b)

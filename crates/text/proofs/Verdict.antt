@@ -1,5 +1,5 @@
--- The verdict on a text, fed in blocks of any size: it says whether the text has the form, and then the lines of its list
--- are counted and kept.
+-- The verdict on a text, fed in blocks of any size: it says whether the text has the form, and then the lines
+-- of its list are counted and kept.
 -- Assumes nothing.
 use mathlib.Core.Path.{_≡_, refl, sym, ap, _∙_, subst}
 use mathlib.Core.Bool.{Bool, true, false, _&&_, cond, false≢true}
@@ -7,13 +7,25 @@ use mathlib.Core.List.{List, [], _∷_, _++_, flatten, append-assoc, append-nil}
 use Prim.Native.Nat.{ℕ}
 use lib.Dec.{ltb, lit<}
 use lib.ListN.{length}
-use Rattle.text.specs.Text.{Line, TextOf, HasForm}
-use Rattle.text.specs.Scan.{step, begin, Reading, reading, stored, feedNext, feed, fed, fedBlocks, atSign, verdict, Kept, Judged}
+use Rattle.text.specs.Text.{HasForm}
+use Rattle.text.specs.Scan.{
+  step,
+  begin,
+  Reading,
+  reading,
+  stored,
+  feedNext,
+  feed,
+  fed,
+  fedBlocks,
+  atSign,
+}
+use Rattle.text.specs.Scan.{verdict, Judged}
 use Rattle.text.specs.declared.scan.Scan.{Scan}
 use Rattle.text.specs.declared.scan.Place.{Place}
 use Rattle.text.specs.declared.scan.Place.the-variants.{Names, Sign, Space, Z, X, Broken}
 use Rattle.text.proofs.Feeding.{fed-append}
-use Rattle.text.proofs.ScanList.{Read, text-read}
+use Rattle.text.proofs.ScanList.{text-read}
 use Rattle.text.proofs.ScanSound.{Sofar, step-sound}
 
 -- the buffers do not change the scan
@@ -59,10 +71,12 @@ module _ (A B C : List ℕ) (a : length A ≡ 64) (b : length B ≡ 64) (c : len
           ends-sound (w .scan .place) (w .scan) t (fed-sound t [] (reading begin A B C) (lit< tt, refl)),
           λ has. ap atSign (text-read A B C a b c (has .0) t (has .1) .place),
         );
-        lines = λ ls text. text-read A B C a b c ls t text .kept
+        lines = λ ls text. text-read A B C a b c ls t text .kept;
       }
 
   -- the text in blocks of any size, as `scan_block` is fed with them
-  pub blocks-judged : (blocks : List (List ℕ)) → Judged (flatten blocks) (fedBlocks (reading begin A B C) blocks)
+  pub blocks-judged : (blocks : List (List ℕ))
+      → Judged (flatten blocks) (fedBlocks (reading begin A B C) blocks)
   blocks-judged blocks =
-      subst (Judged (flatten blocks)) (sym (blocks-fed (reading begin A B C) blocks)) (text-judged (flatten blocks))
+      subst (Judged (flatten blocks)) (sym (blocks-fed (reading begin A B C) blocks))
+      (text-judged (flatten blocks))

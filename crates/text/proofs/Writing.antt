@@ -1,8 +1,9 @@
--- Writing into a buffer, piece by piece: a byte is a store, and two pieces written one behind the other are one.
+-- Writing into a buffer, piece by piece: a byte is a store, and two pieces written one behind the other are
+-- one.
 -- Assumes nothing.
-use mathlib.Core.Path.{_≡_, refl, sym, ap, _∙_}
+use mathlib.Core.Path.{_≡_, sym, ap, _∙_}
 use mathlib.Core.List.{List, [], _∷_, _++_, append-assoc, append-nil}
-use Prim.Native.Nat.{ℕ, zero, suc, _+_, _≤_, _<_}
+use Prim.Native.Nat.{ℕ, suc, _+_, _≤_, _<_}
 use native.Mathlib.Nat.{add-zero, add-assoc}
 use native.Mathlib.Numerals.{add-one}
 use native.Mathlib.Omega.{arith}
@@ -13,7 +14,8 @@ use Rattle.text.specs.Text.{written, Printed}
 pub write-none : (o : List ℕ) (at : ℕ) → o ≡ written o at []
 unfolding written
 write-none o at =
-    sym (ap (λ k. take at o ++ [] ++ drop k o) (add-zero at) ∙ ap (λ r. r ++ drop at o) (append-nil (take at o))
+    sym (ap (λ k. take at o ++ [] ++ drop k o) (add-zero at)
+    ∙ ap (λ r. r ++ drop at o) (append-nil (take at o))
     ∙ take-append-drop at o)
 
 -- a store
@@ -40,13 +42,14 @@ module _ (o : List ℕ) (at : ℕ) (a : List ℕ) (room : at + length a ≤ leng
       let n = at + length a in
       let p = take at o ++ a in
       let rest : drop (n + length b) (p ++ drop n o) ≡ drop (n + length b) o =
-        ap (λ k. drop (k + length b) (p ++ drop n o)) (sym before) ∙ drop-append-add p (drop n o) (length b)
-        ∙ drop-drop (length b) n o
+      ap (λ k. drop (k + length b) (p ++ drop n o)) (sym before) ∙ drop-append-add p (drop n o) (length b)
+      ∙ drop-drop (length b) n o
       in
       ap (λ r. r ++ b ++ drop (n + length b) (p ++ drop n o)) (take-at p (drop n o) n before)
       ∙ ap (λ r. p ++ b ++ r) rest
       ∙ ap (λ r. r ++ drop (n + length b) o) (append-assoc (take at o) a b)
-      ∙ ap (λ k. take at o ++ (a ++ b) ++ drop k o) (add-assoc at (length a) (length b) ∙ ap (λ k. at + k) (sym (length-append a b)))
+      ∙ ap (λ k. take at o ++ (a ++ b) ++ drop k o) (add-assoc at (length a) (length b)
+      ∙ ap (λ k. at + k) (sym (length-append a b)))
 
 -- one more byte behind a piece
 pub write-next : (o : List ℕ) (at : ℕ) (a : List ℕ) (b : ℕ) → at + length a < length o
@@ -57,7 +60,8 @@ write-next o at a b inside =
     ∙ write-more o at a room (b ∷ [])
 
 -- a turn of the loop that copies a slice
-pub write-taken : (o : List ℕ) (at : ℕ) (bytes : List ℕ) (i : ℕ) → at + length bytes ≤ length o → i < length bytes
+pub write-taken : (o : List ℕ) (at : ℕ) (bytes : List ℕ) (i : ℕ) → at + length bytes ≤ length o
+    → i < length bytes
     → set (written o at (take i bytes)) (at + i) (getD bytes i 0) ≡ written o at (take (i + 1) bytes)
 write-taken o at bytes i room inside =
     let sofar : length (take i bytes) ≡ i = length-take-le i bytes (omega arith) in
@@ -69,8 +73,9 @@ write-taken o at bytes i room inside =
 pub and-then : {a b o o′ o″ : List ℕ} {at r r′ : ℕ} → at + length a ≤ length o
     → Printed a at o o′ r → Printed b r o′ o″ r′ → Printed (a ++ b) at o o″ r′
 and-then {a} {b} {o} {o′} {o″} {at} {r} {r′} room p q = record {
-  end = q .end ∙ ap (λ k. k + length b) (p .end) ∙ add-assoc at (length a) (length b) ∙ ap (λ k. at + k) (sym (length-append a b));
+  end = q .end ∙ ap (λ k. k + length b) (p .end) ∙ add-assoc at (length a) (length b)
+      ∙ ap (λ k. at + k) (sym (length-append a b));
   out =
-    q .out ∙ ap (λ l. written l r b) (p .out) ∙ ap (λ k. written (written o at a) k b) (p .end)
-    ∙ write-more o at a room b
+      q .out ∙ ap (λ l. written l r b) (p .out) ∙ ap (λ k. written (written o at a) k b) (p .end)
+      ∙ write-more o at a room b;
 }

@@ -1,9 +1,9 @@
--- What the scanner of a text does with each byte. Its scan, a few numbers, says what the next byte must be; a line that is
--- read to its newline goes to three buffers of 64 places.
+-- What the scanner of a text does with each byte. Its scan says what the next byte must be and holds the line
+-- being read; a line that is read to its newline goes to three buffers of 64 places.
 -- Assumes nothing.
-use mathlib.Core.Bool.{Bool, true, false, _&&_, cond}
 use mathlib.Core.Path.{_≡_}
 use mathlib.Core.Logic.{_↔_}
+use mathlib.Core.Bool.{Bool, true, false, _&&_, cond}
 use mathlib.Core.List.{List, [], _∷_, map}
 use Prim.Native.Nat.{ℕ, _+_, _-_, _*_, _%_, _^_, min}
 use lib.Dec.{eqb, ltb}
@@ -26,6 +26,7 @@ hexValue b =
 unfoldable pub push : ℕ → ℕ → ℕ
 push w d = w * 16 % 2 ^ 64 + d
 
+-- the scan at another place
 abbrev pub moved : Scan → Place → Scan
 moved s p = record { place = p; sign = s .sign; z = s .z; x = s .x; count = s .count }
 
@@ -53,7 +54,7 @@ zStep k s b =
     (moved s Broken))
     (moved s (cond (eqb b 32) (X 0) Broken))
 
--- one line more; above 65 no more are counted
+-- one line more, of which no more than 65 are counted: n above 64 is refusal 2
 unfoldable pub oneMore : ℕ → ℕ
 oneMore n = cond (ltb n 65) (n + 1) n
 
@@ -68,6 +69,7 @@ xStep k s b =
     (record { place = Sign; sign = s .sign; z = s .z; x = s .x; count = oneMore (s .count) })
     (moved s Broken))
 
+-- at each place
 abbrev pub stepAt : Place → Scan → ℕ → Scan
 stepAt (Names k) s b = moved s (namesStep k b)
 stepAt Sign s b = signStep s b
@@ -121,6 +123,7 @@ unfoldable pub fedBlocks : Reading → List (List ℕ) → Reading
 fedBlocks w [] = w
 fedBlocks w (block ∷ blocks) = fedBlocks (fed w block) blocks
 
+-- whether the next byte would start a line
 abbrev pub atSign : Place → Bool
 atSign (Names k) = false
 atSign Sign = true
@@ -129,7 +132,7 @@ atSign (Z k) = false
 atSign (X k) = false
 atSign Broken = false
 
--- the text ends: it has the form where the next byte would start a line
+-- the text ends: it has the form where the next byte would start a line (refusal 1 is that it has not)
 unfoldable pub verdict : Scan → Verdict
 verdict s = record { «has_form» = atSign (s .place); count = s .count }
 

@@ -1,5 +1,5 @@
--- The text of a generator list and the texts that answer it, as lists of bytes: 10 ends a line, 32 is the space,
--- 48 the digit 0, 97 the letter a.
+-- The text of a generator list and the texts that answer it, as lists of bytes: 10 ends a line, 32 is the
+-- space, 48 the digit 0, 97 the letter a.
 -- Assumes nothing.
 use mathlib.Core.Path.{_≡_}
 use mathlib.Core.Bool.{cond}
@@ -33,18 +33,19 @@ pub record Line : Type 0 where
   pub z : ℕ
   pub x : ℕ
 
--- a digit and two words
+-- one decimal digit and two words of 64 bits
 pub record Fits (l : Line) : Type 0 where
   pub sign : l .sign < 10
   pub z : l .z < 2 ^ 64
   pub x : l .x < 2 ^ 64
 
+-- each line is a digit and two words
 abbrev pub AllFit : List Line → Type 0
 AllFit [] = Unit
 AllFit (l ∷ ls) = Fits l × AllFit ls
 
--- "one line per generator, with a decimal sign digit and two words of 16 lower-case hexadecimal digits, fields parted
--- by one space, every line ended by a newline"
+-- "one line per generator, .. with a decimal sign digit and two words of 16 lower-case hexadecimal digits, fields
+-- parted by one space, every line ended by a newline"
 unfoldable pub lineText : Line → List ℕ
 lineText l = (48 + l .sign) ∷ [] ++ space ++ hexText 16 (l .z) ++ space ++ hexText 16 (l .x) ++ newline
 
@@ -57,6 +58,7 @@ linesText (l ∷ ls) = lineText l ++ linesText ls
 abbrev pub listNames : List ℕ
 listNames = 115 ∷ 105 ∷ 103 ∷ 110 ∷ 32 ∷ 122 ∷ 32 ∷ 120 ∷ 10 ∷ []
 
+-- the text of a generator list
 unfoldable pub listText : List Line → List ℕ
 listText ls = listNames ++ linesText ls
 
@@ -69,7 +71,7 @@ pub record TextOf (ls : List Line) (t : List ℕ) : Type 0 where
 abbrev pub HasForm : List ℕ → Type 0
 HasForm t = (ls : List Line) × TextOf ls t
 
--- "one line per qubit, with decimal qubit and code and the neighbour word in 16 hexadecimal digits"
+-- "one line per qubit, rising from 0, with decimal qubit and code and the neighbour word in 16 hexadecimal digits"
 unfoldable pub recordLine : ℕ → ℕ → ℕ → List ℕ
 recordLine q code w = decimal q ++ space ++ decimal code ++ space ++ hexText 16 w ++ newline
 
@@ -85,6 +87,7 @@ recordNames =
     113 ∷ 117 ∷ 98 ∷ 105 ∷ 116 ∷ 32 ∷ 99 ∷ 111 ∷ 100 ∷ 101 ∷ 32
     ∷ 110 ∷ 101 ∷ 105 ∷ 103 ∷ 104 ∷ 98 ∷ 111 ∷ 117 ∷ 114 ∷ 115 ∷ 10 ∷ []
 
+-- the print of a record
 unfoldable pub recordText : ℕ → List ℕ → List ℕ → List ℕ
 recordText n neighbours codes = recordNames ++ recordLines n neighbours codes
 
@@ -92,6 +95,7 @@ recordText n neighbours codes = recordNames ++ recordLines n neighbours codes
 abbrev pub refusedWord : List ℕ
 refusedWord = 114 ∷ 101 ∷ 102 ∷ 117 ∷ 115 ∷ 101 ∷ 100 ∷ 32 ∷ []
 
+-- the print of refusal k
 unfoldable pub refusedText : ℕ → List ℕ
 refusedText k = refusedWord ++ decimal k ++ newline
 

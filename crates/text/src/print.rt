@@ -3,7 +3,8 @@ ghost use mathlib.Core.Path.{_≡_};
 ghost use mathlib.Core.List.{[], _∷_, _++_};
 ghost use Prim.Native.Nat.{ℕ, _+_, _*_, _<_, _≤_};
 ghost use lib.ListN.{length, getD};
-ghost use Rattle.text.specs.Text.{hexDigit, hexText, decimal, space, recordLine, recordText, refusedText, Printed, Printable};
+ghost use Rattle.text.specs.Text.{hexDigit, hexText, decimal, space, recordLine, recordText, refusedText};
+ghost use Rattle.text.specs.Text.{Printed, Printable};
 
 fn hex_digit(d: u8) -> u8
     requires { ⌜ d < 16 ⌝ }
@@ -81,7 +82,8 @@ fn put_line(q: u8, code: u8, w: u64, at: usize, out: &mut [u8]) -> usize
 // The record of n qubits: the names and a line for each qubit. Returns the number of bytes.
 pub fn print_record(n: usize, neighbours: &[u64], codes: &[u8], out: &mut [u8]) -> usize
     requires { ⌜ Printable n (now neighbours) (now codes) (now out) ⌝ }
-    ensures { λ r. ⌜ Printed (recordText n (now (neighbours .entry)) (now (codes .entry))) 0 (now (out .entry)) (now (out .exit)) r ⌝ }
+    ensures { λ r. ⌜ Printed (recordText n (now (neighbours .entry)) (now (codes .entry))) 0
+        (now (out .entry)) (now (out .exit)) r ⌝ }
 {
     let mut at = put_bytes(b"qubit code neighbours\n", 0, out);
     let mut q = 0;

@@ -2,8 +2,13 @@
 // buffers.
 ghost use mathlib.Core.Path.{_≡_};
 ghost use Prim.Native.Nat.{_+_, _*_, _%_, _^_, _<_};
-ghost use Rattle.text.specs.Scan.{hexValue, push, moved, namesStep, signStep, zStep, xStep, oneMore, step, begin, reading, fed, atSign, verdict};
+ghost use Rattle.text.specs.Scan.{hexValue, push, moved, namesStep, signStep, zStep, xStep, oneMore, step};
+ghost use Rattle.text.specs.Scan.{begin, reading, fed, atSign, verdict};
 
+// The digits of a word.
+const DIGITS: usize = 16;
+
+// The names line.
 const NAMES: [u8; 9] = [b's', b'i', b'g', b'n', b' ', b'z', b' ', b'x', b'\n'];
 
 // What the next byte must be: a byte of the names line, a sign digit, the space after it, a digit of z or the space
@@ -106,7 +111,7 @@ fn sign_step(s: Scan, b: u8) -> Scan
 fn z_step(k: usize, s: Scan, b: u8) -> Scan
     ensures { λ r. ⌜ r ≡ zStep k s b ⌝ }
 {
-    if 16 <= k {
+    if DIGITS <= k {
         if b == 32 {
             return at_place(s, Place::X(0));
         }
@@ -135,7 +140,7 @@ fn one_more(n: usize) -> usize
 fn x_step(k: usize, s: Scan, b: u8) -> Scan
     ensures { λ r. ⌜ r ≡ xStep k s b ⌝ }
 {
-    if 16 <= k {
+    if DIGITS <= k {
         if b == 10 {
             let count = one_more(s.count);
             return Scan {

@@ -1,25 +1,19 @@
-use Rattle.text.specs.Text.{hexDigit}
 use borrow.Author.Tests.{lt-ltb, le-ltb}
 use borrow.Author.Needs.{needs}
+use Rattle.text.specs.Text.{hexDigit}
 use Rattle.text.proofs.print.hex_digit.Statement.{statement}
 use Rattle.text.proofs.print.hex_digit.Tie as tie
-use Rattle.text.proofs.print.hex_digit.Reads as reads
-use Rattle.text.proofs.print.hex_digit.Lts as lts
 
--- src/print.rt:12:17
 add-result : tie.Need-add-result
 add-result c = search needs
 
--- src/print.rt:12:33
 add-result-2 : tie.Need-add-result-2
 add-result-2 c = search needs
 
--- src/print.rt:8:1
 returns : tie.Need-returns
 unfolding hexDigit
 returns c = simp (lt-ltb _ _ (c .if1 .taken))
 
--- src/print.rt:8:1
 returns-2 : tie.Need-returns-2
 unfolding hexDigit
 returns-2 c = simp (le-ltb _ _ (c .if1 .left))

@@ -1,57 +1,46 @@
 use native.Mathlib.Omega.{arith}
-use Rattle.text.proofs.Writing.{and-then}
-use Rattle.text.specs.Text.{decimal}
 use borrow.Author.Tests.{lt-ltb, le-ltb}
 use borrow.Author.Needs.{needs}
+use Rattle.text.specs.Text.{decimal}
+use Rattle.text.proofs.Writing.{and-then}
 use Rattle.text.proofs.print.put_decimal.Statement.{statement}
 use Rattle.text.proofs.print.put_decimal.Tie as tie
-use Rattle.text.proofs.print.put_decimal.Reads as reads
-use Rattle.text.proofs.print.put_decimal.Lts as lts
-use Rattle.text.proofs.print.put.Reads as put-reads
 
--- src/print.rt:41:20
 add-put : tie.Need-add-put
 add-put c = search needs
 
--- src/print.rt:41:9
 put-requires : tie.Need-put-requires
 put-requires c κs = search needs
 
--- src/print.rt:41:9
 same-length : tie.Need-same-length
 same-length c = search needs
 
--- src/print.rt:41:9
 returns : tie.Need-returns
 unfolding decimal
-returns c = simp (lt-ltb _ _ (c .before .before .before .before .if1 .taken)) (c .before .before .put .ensures)
+returns c = simp (lt-ltb _ _ (c .before .before .before .before .if1 .taken))
+    (c .before .before .put .ensures)
 
--- src/print.rt:43:20
 add-put-2 : tie.Need-add-put-2
 add-put-2 c = search needs
 
--- src/print.rt:43:9
 put-requires-2 : tie.Need-put-requires-2
 put-requires-2 c κs = search needs
 
--- src/print.rt:44:9
 add-put-3 : tie.Need-add-put-3
 add-put-3 c = search needs
 
--- src/print.rt:44:5
 put-requires-3 : tie.Need-put-requires-3
 put-requires-3 c κs = search needs
 
--- src/print.rt:36:1
 same-length-2 : tie.Need-same-length-2
 same-length-2 c = search needs
 
--- src/print.rt:36:1
 returns-2 : tie.Need-returns-2
 unfolding decimal
-returns-2 c = 
+returns-2 c =
     let first = c .before .before .before .before .before .before in
-    simp (le-ltb _ _ (first .before .before .if1 .left)) (and-then (omega arith) (first .put2 .ensures) (c .before .before .put3 .ensures))
+    simp (le-ltb _ _ (first .before .before .if1 .left))
+    (and-then (omega arith) (first .put2 .ensures) (c .before .before .put3 .ensures))
 
 pub put-decimal-spec : {M : Type 1} → statement M
 put-decimal-spec =

@@ -1,31 +1,27 @@
-use Rattle.text.proofs.HexLaws.{length-decimal}
-use Rattle.text.proofs.Writing.{and-then}
 use native.Mathlib.Omega.{arith}
 use borrow.Author.Needs.{needs}
+use Rattle.text.proofs.HexLaws.{length-decimal}
+use Rattle.text.proofs.Writing.{and-then}
 use Rattle.text.proofs.print.put_field.Statement.{statement}
 use Rattle.text.proofs.print.put_field.Tie as tie
-use Rattle.text.proofs.print.put_field.Reads as reads
-use Rattle.text.proofs.print.put_field.Lts as lts
-use Rattle.text.proofs.print.put.Reads as put-reads
-use Rattle.text.proofs.print.put_decimal.Reads as put-decimal-reads
 
--- src/print.rt:66:9
 put-decimal-requires : tie.Need-put-decimal-requires
 put-decimal-requires c κs = search needs
 
--- src/print.rt:67:5
 put-requires : tie.Need-put-requires
 put-requires c κs = omega (arith, length-decimal (c .before .before .before .before .before .before .args .k))
 
--- src/print.rt:62:1
 same-length : tie.Need-same-length
 same-length c = search needs
 
--- src/print.rt:62:1
 returns : tie.Need-returns
-returns c = 
+returns c =
     let first = c .before .before .before .before .before .before in
-    and-then (omega (arith, length-decimal (first .before .before .before .args .k), first .before .before .before .pre))
+    and-then (omega (
+      arith,
+      length-decimal (first .before .before .before .args .k),
+      first .before .before .before .pre,
+    ))
     (first .put-decimal .ensures) (c .before .before .put .ensures)
 
 pub put-field-spec : {M : Type 1} → statement M

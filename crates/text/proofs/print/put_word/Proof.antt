@@ -1,95 +1,80 @@
-use Rattle.text.proofs.HexLaws.{length-hex, write-digit}
-use Rattle.text.proofs.Writing.{write-none}
-use Rattle.text.specs.Text.{hexText, written}
-use lib.ListN.{length, set, length-set}
+use mathlib.Core.Path.{_≡_, refl, sym, ap, ap₂, _∙_}
+use Prim.Native.Nat.{_+_, _-_, _*_, _/_, _^_, _≤_, zero-le}
 use native.Mathlib.Omega.{arith}
 use native.Mathlib.Nat.{div-one}
-use Prim.Native.Nat.{_+_, _-_, _*_, _/_, _^_, _≤_, zero-le}
-use mathlib.Core.Path.{_≡_, refl, sym, ap, ap₂, _∙_}
+use lib.ListN.{length, set, length-set}
 use borrow.Author.Needs.{needs}
+use Rattle.text.specs.Text.{hexText, written}
+use Rattle.text.proofs.HexLaws.{length-hex, write-digit}
+use Rattle.text.proofs.Writing.{write-none}
 use Rattle.text.proofs.print.put_word.Statement.{statement}
 use Rattle.text.proofs.print.put_word.Tie as tie
-use Rattle.text.proofs.print.put_word.Reads as reads
-use Rattle.text.proofs.print.put_word.Lts as lts
-use Rattle.text.proofs.print.hex_digit.Reads as hex-digit-reads
 
 abbrev Inv-loop : tie.InvT-loop
-Inv-loop w at out₀ i₀ out i = (i ≤ 16) × (out ≡ written out₀ at (hexText i (w / 2 ^ (64 - 4 * i)))) × (length out ≡ length out₀)
+Inv-loop w at out₀ i₀ out i = (i ≤ 16) × (out ≡ written out₀ at (hexText i (w / 2 ^ (64 - 4 * i))))
+    × (length out ≡ length out₀)
 
 abbrev μ-loop : tie.MeasureT-loop
 μ-loop w at out₀ i₀ out i = 16 - i
 
--- src/print.rt:53:5
 loop-holds : tie.Need-loop-holds Inv-loop μ-loop
 unfolding hexText
 loop-holds c = (zero-le, write-none _ _, refl)
 
--- src/print.rt:54:29
 mul-d : tie.Need-mul-d Inv-loop μ-loop
 mul-d c = search needs
 
--- src/print.rt:54:24
 sub-d : tie.Need-sub-d Inv-loop μ-loop
 sub-d c = search needs
 
--- src/print.rt:54:18
 shr-d : tie.Need-shr-d Inv-loop μ-loop
 shr-d c = search needs
 
--- src/print.rt:55:33
 cast-hex-digit : tie.Need-cast-hex-digit Inv-loop μ-loop
 cast-hex-digit c = search needs
 
--- src/print.rt:55:23
 hex-digit-requires : tie.Need-hex-digit-requires Inv-loop μ-loop
 hex-digit-requires c κs = search needs
 
--- src/print.rt:55:13
 add-out : tie.Need-add-out Inv-loop μ-loop
 add-out c = search needs
 
--- src/print.rt:55:9
 slice-write-out : tie.Need-slice-write-out Inv-loop μ-loop
 slice-write-out c = search needs
 
--- src/print.rt:56:9
 add-i : tie.Need-add-i Inv-loop μ-loop
 add-i c = search needs
 
--- src/print.rt:53:5
 loop-less : tie.Need-loop-less Inv-loop μ-loop
 loop-less c = search needs
 
--- src/print.rt:53:5
 loop-again : tie.Need-loop-again Inv-loop μ-loop
-loop-again c = 
+loop-again c =
     let start = c .before .before .before .before in
     let l = c .before .before .loop in (
       search needs,
       ap₂ (λ out b. set out (start .args .at + l .i) b) (l .inv .1) (c .hex-digit .ensures)
-      ∙ write-digit (start .args .out .now) (start .args .at) (start .args .w) (l .i) (start .pre) (c .before .loop-test .taken),
+          ∙ write-digit (start .args .out .now) (start .args .at) (start .args .w) (l .i) (start .pre)
+          (c .before .loop-test .taken),
       simp length-set (l .inv .2),
     )
 
--- src/print.rt:58:5
 add-result : tie.Need-add-result Inv-loop μ-loop
 add-result c = search needs
 
--- src/print.rt:48:1
 same-length : tie.Need-same-length Inv-loop μ-loop
 same-length c = search needs
 
--- src/print.rt:48:1
 returns : tie.Need-returns Inv-loop μ-loop
-returns c = 
+returns c =
     let a = c .before .before .before .args in
     let l = c .before .loop in
     let all : l .i ≡ 16 = omega arith in
     record {
       end = ap (λ k. a .at + k) (sym (length-hex 16 (a .w)));
       out =
-        l .inv .1 ∙ ap (λ i. written (a .out .now) (a .at) (hexText i (a .w / 2 ^ (64 - 4 * i)))) all
-        ∙ ap (λ v. written (a .out .now) (a .at) (hexText 16 v)) (div-one (a .w))
+          l .inv .1 ∙ ap (λ i. written (a .out .now) (a .at) (hexText i (a .w / 2 ^ (64 - 4 * i)))) all
+          ∙ ap (λ v. written (a .out .now) (a .at) (hexText 16 v)) (div-one (a .w));
     }
 
 pub put-word-spec : {M : Type 1} → statement M

@@ -1,37 +1,32 @@
-use mathlib.Core.Bool.{and-eq-true-iff}
-use borrow.Author.Tests.{ltb-true}
-use Rattle.text.proofs.Feeding.{turn-stored, turn-kept}
 use mathlib.Core.Path.{_≡_, refl, _∙_, ap}
 use mathlib.Core.Logic.{⊎-elim}
+use mathlib.Core.Bool.{and-eq-true-iff}
 use Prim.Native.Nat.{_<_, _≤_, _-_, zero-le}
 use native.Mathlib.Omega.{arith}
 use lib.Dec.{ltb}
 use lib.ListN.{length, take}
 use lib.Seq.{take-all}
-use Rattle.text.specs.Scan.{reading, fed}
+use borrow.Author.Tests.{ltb-true}
 use borrow.Author.Needs.{needs}
+use Rattle.text.specs.Scan.{reading, fed}
+use Rattle.text.proofs.Feeding.{turn-stored, turn-kept}
 use Rattle.text.proofs.scan.scan_block.Statement.{statement}
 use Rattle.text.proofs.scan.scan_block.Tie as tie
-use Rattle.text.proofs.scan.scan_block.Reads as reads
-use Rattle.text.proofs.scan.scan_block.Lts as lts
-use Rattle.text.proofs.scan.scan_byte.Reads as scan-byte-reads
 
 abbrev Inv-loop : tie.InvT-loop
-Inv-loop block signs₀ z₀ x₀ s₀ i₀ signs z x s i = (i ≤ length block) × (reading s signs z x ≡ fed (reading s₀ signs₀ z₀ x₀) (take i block))
+Inv-loop block signs₀ z₀ x₀ s₀ i₀ signs z x s i = (i ≤ length block)
+    × (reading s signs z x ≡ fed (reading s₀ signs₀ z₀ x₀) (take i block))
 
 abbrev μ-loop : tie.MeasureT-loop
 μ-loop block signs₀ z₀ x₀ s₀ i₀ signs z x s i = length block - i
 
--- src/scan.rt:212:5
 loop-holds : tie.Need-loop-holds Inv-loop μ-loop
 unfolding fed
 loop-holds c = (zero-le, refl)
 
--- src/scan.rt:213:33
 shared-slice-read-scan-byte : tie.Need-shared-slice-read-scan-byte Inv-loop μ-loop
 shared-slice-read-scan-byte c = search needs
 
--- src/scan.rt:213:13
 scan-byte-requires : tie.Need-scan-byte-requires Inv-loop μ-loop
 scan-byte-requires c κs = search needs
 
@@ -39,50 +34,50 @@ scan-byte-requires c κs = search needs
 line-below : (c : tie.Then1 Inv-loop μ-loop) → c .before .before .before .before .loop .s .count < 64
 line-below c =
     let row = c .before .before .before .before .loop .s .count in
-    ltb-true row 64 (and-eq-true-iff (ltb row (c .before .scan-byte .result .count)) (ltb row 64) .0 (c .if1 .taken) .1)
+    ltb-true row 64 (and-eq-true-iff (ltb row (c .before .scan-byte .result .count)) (ltb row 64) .0
+    (c .if1 .taken) .1)
 
--- src/scan.rt:217:13
 element-write-signs : tie.Need-element-write-signs Inv-loop μ-loop
 element-write-signs c = line-below c
 
--- src/scan.rt:218:13
 mul-z : tie.Need-mul-z Inv-loop μ-loop
 mul-z c = omega (arith, line-below c)
 
--- src/scan.rt:218:13
 element-write-z : tie.Need-element-write-z Inv-loop μ-loop
 element-write-z c = line-below c
 
--- src/scan.rt:219:13
 mul-x : tie.Need-mul-x Inv-loop μ-loop
 mul-x c = omega (arith, line-below c)
 
--- src/scan.rt:219:13
 element-write-x : tie.Need-element-write-x Inv-loop μ-loop
 element-write-x c = line-below c
 
--- src/scan.rt:222:9
 add-i : tie.Need-add-i Inv-loop μ-loop
 add-i c = search needs
 
--- src/scan.rt:212:5
 loop-less : tie.Need-loop-less Inv-loop μ-loop
 loop-less c = search needs
 
--- src/scan.rt:212:5
 loop-again : tie.Need-loop-again Inv-loop μ-loop
 loop-again c =
     let next = c .before .scan-byte .result in (
       search needs,
       ⊎-elim
-          (λ w. (λ k. reading next (w .1 k) (w .2 k) (w .3 k)) ∙ turn-stored _ (reading (c .before .before .before .before .loop .s) (c .before .before .before .before .loop .signs) (c .before .before .before .before .loop .z) (c .before .before .before .before .loop .x)) _ (c .before .before .before .before .loop .i)
-          (c .before .before .before .loop-test .taken) (c .before .before .before .before .loop .inv .1) _ (c .before .scan-byte .ensures) (w .0 .taken))
-          (λ w. (λ k. reading next (w .1 k) (w .2 k) (w .3 k)) ∙ turn-kept _ (reading (c .before .before .before .before .loop .s) (c .before .before .before .before .loop .signs) (c .before .before .before .before .loop .z) (c .before .before .before .before .loop .x)) _ (c .before .before .before .before .loop .i)
-          (c .before .before .before .loop-test .taken) (c .before .before .before .before .loop .inv .1) _ (c .before .scan-byte .ensures) (w .0 .left))
+          (λ w. (λ k. reading next (w .1 k) (w .2 k) (w .3 k))
+          ∙ turn-stored _ (reading (c .before .before .before .before .loop .s)
+          (c .before .before .before .before .loop .signs) (c .before .before .before .before .loop .z)
+          (c .before .before .before .before .loop .x)) _ (c .before .before .before .before .loop .i)
+          (c .before .before .before .loop-test .taken) (c .before .before .before .before .loop .inv .1) _
+          (c .before .scan-byte .ensures) (w .0 .taken))
+          (λ w. (λ k. reading next (w .1 k) (w .2 k) (w .3 k))
+          ∙ turn-kept _ (reading (c .before .before .before .before .loop .s)
+          (c .before .before .before .before .loop .signs) (c .before .before .before .before .loop .z)
+          (c .before .before .before .before .loop .x)) _ (c .before .before .before .before .loop .i)
+          (c .before .before .before .loop-test .taken) (c .before .before .before .before .loop .inv .1) _
+          (c .before .scan-byte .ensures) (w .0 .left))
           (c .if1 .came),
     )
 
--- src/scan.rt:200:1
 returns : tie.Need-returns Inv-loop μ-loop
 returns c = c .before .loop .inv .1 ∙ ap (fed _) (take-all _ _ (c .loop-test .left))
 

@@ -1,114 +1,99 @@
-use Rattle.text.specs.declared.scan.Place.the-variants.{Z, Broken}
-use Rattle.text.specs.Scan.{moved}
-use borrow.Author.Tests.{eq-eqb, ne-eqb}
-use mathlib.Core.Bool.{cond}
-use Rattle.text.specs.Scan.{step, stepAt}
 use mathlib.Core.Path.{_∙_, ap, sym}
+use mathlib.Core.Bool.{cond}
+use borrow.Author.Tests.{eq-eqb, ne-eqb}
 use borrow.Author.Needs.{needs}
+use Rattle.text.specs.declared.scan.Place.the-variants.{Z, Broken}
+use Rattle.text.specs.Scan.{moved, step, stepAt}
 use Rattle.text.proofs.scan.scan_byte.Statement.{statement}
 use Rattle.text.proofs.scan.scan_byte.Tie as tie
-use Rattle.text.proofs.scan.scan_byte.Reads as reads
-use Rattle.text.proofs.scan.scan_byte.Lts as lts
-use Rattle.text.proofs.scan.at_place.Reads as at-place-reads
-use Rattle.text.proofs.scan.names_step.Reads as names-step-reads
-use Rattle.text.proofs.scan.sign_step.Reads as sign-step-reads
-use Rattle.text.proofs.scan.x_step.Reads as x-step-reads
-use Rattle.text.proofs.scan.z_step.Reads as z-step-reads
 
--- src/scan.rt:184:22
 enum-known-place : tie.Need-enum-known-place
 enum-known-place c = search needs
 
--- src/scan.rt:184:40
 names-step-requires : tie.Need-names-step-requires
 names-step-requires c κs = search needs
 
--- src/scan.rt:184:28
 at-place-requires : tie.Need-at-place-requires
 at-place-requires c κs = search needs
 
--- src/scan.rt:185:24
 enum-told : tie.Need-enum-told
 enum-told c = search needs
 
--- src/scan.rt:185:24
 sign-step-requires : tie.Need-sign-step-requires
 sign-step-requires c κs = search needs
 
--- src/scan.rt:187:16
 enum-told-2 : tie.Need-enum-told-2
 enum-told-2 c = search needs
 
--- src/scan.rt:188:17
 at-place-requires-2 : tie.Need-at-place-requires-2
 at-place-requires-2 c κs = search needs
 
--- src/scan.rt:190:17
 at-place-requires-3 : tie.Need-at-place-requires-3
 at-place-requires-3 c κs = search needs
 
--- src/scan.rt:193:18
 enum-known-place-2 : tie.Need-enum-known-place-2
 enum-known-place-2 c = search needs
 
--- src/scan.rt:193:24
 z-step-requires : tie.Need-z-step-requires
 z-step-requires c κs = search needs
 
--- src/scan.rt:194:18
 enum-known-place-3 : tie.Need-enum-known-place-3
 enum-known-place-3 c = search needs
 
--- src/scan.rt:194:24
 x-step-requires : tie.Need-x-step-requires
 x-step-requires c κs = search needs
 
--- src/scan.rt:195:26
 enum-told-3 : tie.Need-enum-told-3
 enum-told-3 c = search needs
 
--- src/scan.rt:179:1
 returns : tie.Need-returns
 unfolding step
 returns c =
-    c .at-place .ensures ∙ ap (moved (c .before .before .before .before .before .args .s)) (c .before .names-step .ensures)
-    ∙ sym (ap (λ p. stepAt p (c .before .before .before .before .before .args .s) (c .before .before .before .before .before .args .b)) (c .before .before .before .place .given .1))
+    c .at-place .ensures
+    ∙ ap (moved (c .before .before .before .before .before .args .s)) (c .before .names-step .ensures)
+    ∙ sym (ap (λ p. stepAt p (c .before .before .before .before .before .args .s)
+    (c .before .before .before .before .before .args .b)) (c .before .before .before .place .given .1))
 
--- src/scan.rt:179:1
 returns-2 : tie.Need-returns-2
 unfolding step
-returns-2 c = c .sign-step .ensures ∙ sym (ap (λ p. stepAt p (c .before .before .before .args .s) (c .before .before .before .args .b)) (c .before .enum-told .given .1))
+returns-2 c = c .sign-step .ensures
+    ∙ sym (ap (λ p. stepAt p (c .before .before .before .args .s) (c .before .before .before .args .b))
+    (c .before .enum-told .given .1))
 
--- src/scan.rt:179:1
 returns-3 : tie.Need-returns-3
 unfolding step
 returns-3 c =
     c .at-place2 .ensures
-    ∙ ap (λ t. moved (c .before .before .before .before .args .s) (cond t (Z 0) Broken)) (sym (eq-eqb _ _ (c .before .if1 .taken)))
-    ∙ sym (ap (λ p. stepAt p (c .before .before .before .before .args .s) (c .before .before .before .before .args .b)) (c .before .before .enum-told2 .given .1))
+    ∙ ap (λ t. moved (c .before .before .before .before .args .s) (cond t (Z 0) Broken))
+    (sym (eq-eqb _ _ (c .before .if1 .taken)))
+    ∙ sym (ap (λ p. stepAt p (c .before .before .before .before .args .s)
+    (c .before .before .before .before .args .b)) (c .before .before .enum-told2 .given .1))
 
--- src/scan.rt:179:1
 returns-4 : tie.Need-returns-4
 unfolding step
 returns-4 c =
     c .at-place3 .ensures
-    ∙ ap (λ t. moved (c .before .before .before .before .args .s) (cond t (Z 0) Broken)) (sym (ne-eqb _ _ (c .before .if1 .left)))
-    ∙ sym (ap (λ p. stepAt p (c .before .before .before .before .args .s) (c .before .before .before .before .args .b)) (c .before .before .enum-told2 .given .1))
+    ∙ ap (λ t. moved (c .before .before .before .before .args .s) (cond t (Z 0) Broken))
+    (sym (ne-eqb _ _ (c .before .if1 .left)))
+    ∙ sym (ap (λ p. stepAt p (c .before .before .before .before .args .s)
+    (c .before .before .before .before .args .b)) (c .before .before .enum-told2 .given .1))
 
--- src/scan.rt:179:1
 returns-5 : tie.Need-returns-5
 unfolding step
-returns-5 c = c .z-step .ensures ∙ sym (ap (λ p. stepAt p (c .before .before .before .before .args .s) (c .before .before .before .before .args .b)) (c .before .before .place2 .given .1))
+returns-5 c = c .z-step .ensures
+    ∙ sym (ap (λ p. stepAt p (c .before .before .before .before .args .s)
+    (c .before .before .before .before .args .b)) (c .before .before .place2 .given .1))
 
--- src/scan.rt:179:1
 returns-6 : tie.Need-returns-6
 unfolding step
-returns-6 c = c .x-step .ensures ∙ sym (ap (λ p. stepAt p (c .before .before .before .before .args .s) (c .before .before .before .before .args .b)) (c .before .before .place3 .given .1))
+returns-6 c = c .x-step .ensures
+    ∙ sym (ap (λ p. stepAt p (c .before .before .before .before .args .s)
+    (c .before .before .before .before .args .b)) (c .before .before .place3 .given .1))
 
--- src/scan.rt:179:1
 returns-7 : tie.Need-returns-7
 unfolding step
-returns-7 c = sym (ap (λ p. stepAt p (c .before .before .args .s) (c .before .before .args .b)) (c .enum-told3 .given .1))
+returns-7 c = sym (ap (λ p. stepAt p (c .before .before .args .s) (c .before .before .args .b))
+    (c .enum-told3 .given .1))
 
 pub scan-byte-spec : {M : Type 1} → statement M
 scan-byte-spec =

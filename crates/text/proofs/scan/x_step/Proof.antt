@@ -1,58 +1,56 @@
 use borrow.Author.Tests.{lt-ltb, le-ltb, eq-eqb, ne-eqb}
-use Rattle.text.specs.Scan.{xStep}
 use borrow.Author.Needs.{needs}
+use Rattle.text.specs.Scan.{xStep}
 use Rattle.text.proofs.scan.x_step.Statement.{statement}
 use Rattle.text.proofs.scan.x_step.Tie as tie
-use Rattle.text.proofs.scan.x_step.Reads as reads
-use Rattle.text.proofs.scan.x_step.Lts as lts
-use Rattle.text.proofs.scan.at_place.Reads as at-place-reads
-use Rattle.text.proofs.scan.hex_value.Reads as hex-value-reads
-use Rattle.text.proofs.scan.one_more.Reads as one-more-reads
-use Rattle.text.proofs.scan.pushed.Reads as pushed-reads
 
--- src/scan.rt:140:17
 one-more-requires : tie.Need-one-more-requires
 one-more-requires c κs = search needs
 
--- src/scan.rt:141:13
 returns : tie.Need-returns
 unfolding xStep
-returns c = simp (le-ltb _ _ (c .before .before .if1 .taken), eq-eqb _ _ (c .before .if2 .taken), ← c .one-more .ensures)
+returns c = simp (
+  le-ltb _ _ (c .before .before .if1 .taken),
+  eq-eqb _ _ (c .before .if2 .taken),
+  ← c .one-more .ensures,
+)
 
--- src/scan.rt:149:9
 at-place-requires : tie.Need-at-place-requires
 at-place-requires c κs = search needs
 
--- src/scan.rt:149:9
 returns-2 : tie.Need-returns-2
 unfolding xStep
-returns-2 c = simp (le-ltb _ _ (c .before .before .if1 .taken), ne-eqb _ _ (c .before .if2 .left)) (c .at-place .ensures)
+returns-2 c = simp (le-ltb _ _ (c .before .before .if1 .taken), ne-eqb _ _ (c .before .if2 .left))
+    (c .at-place .ensures)
 
--- src/scan.rt:151:9
 hex-value-requires : tie.Need-hex-value-requires
 hex-value-requires c κs = search needs
 
--- src/scan.rt:153:9
 at-place-requires-2 : tie.Need-at-place-requires-2
 at-place-requires-2 c κs = search needs
 
--- src/scan.rt:153:9
 returns-3 : tie.Need-returns-3
 unfolding xStep
-returns-3 c = simp (lt-ltb _ _ (c .before .before .before .if1 .left), ← c .before .before .hex-value .ensures, le-ltb _ _ (c .before .if3 .taken)) (c .at-place2 .ensures)
+returns-3 c = simp (
+  lt-ltb _ _ (c .before .before .before .if1 .left),
+  ← c .before .before .hex-value .ensures,
+  le-ltb _ _ (c .before .if3 .taken),
+) (c .at-place2 .ensures)
 
--- src/scan.rt:155:9
 pushed-requires : tie.Need-pushed-requires
 pushed-requires c κs = search needs
 
--- src/scan.rt:157:25
 add-t12 : tie.Need-add-t12
 add-t12 c = search needs
 
--- src/scan.rt:135:1
 returns-4 : tie.Need-returns-4
 unfolding xStep
-returns-4 c = simp (lt-ltb _ _ (c .before .before .before .if1 .left), ← c .before .before .hex-value .ensures, lt-ltb _ _ (c .before .if3 .left), c .pushed .ensures)
+returns-4 c = simp (
+  lt-ltb _ _ (c .before .before .before .if1 .left),
+  ← c .before .before .hex-value .ensures,
+  lt-ltb _ _ (c .before .if3 .left),
+  c .pushed .ensures,
+)
 
 pub x-step-spec : {M : Type 1} → statement M
 x-step-spec =

@@ -1,57 +1,53 @@
 use borrow.Author.Tests.{lt-ltb, le-ltb, eq-eqb, ne-eqb}
-use Rattle.text.specs.Scan.{zStep}
 use borrow.Author.Needs.{needs}
+use Rattle.text.specs.Scan.{zStep}
 use Rattle.text.proofs.scan.z_step.Statement.{statement}
 use Rattle.text.proofs.scan.z_step.Tie as tie
-use Rattle.text.proofs.scan.z_step.Reads as reads
-use Rattle.text.proofs.scan.z_step.Lts as lts
-use Rattle.text.proofs.scan.at_place.Reads as at-place-reads
-use Rattle.text.proofs.scan.hex_value.Reads as hex-value-reads
-use Rattle.text.proofs.scan.pushed.Reads as pushed-reads
 
--- src/scan.rt:111:13
 at-place-requires : tie.Need-at-place-requires
 at-place-requires c κs = search needs
 
--- src/scan.rt:111:13
 returns : tie.Need-returns
 unfolding zStep
-returns c = simp (le-ltb _ _ (c .before .before .if1 .taken), eq-eqb _ _ (c .before .if2 .taken)) (c .at-place .ensures)
+returns c = simp (le-ltb _ _ (c .before .before .if1 .taken), eq-eqb _ _ (c .before .if2 .taken))
+    (c .at-place .ensures)
 
--- src/scan.rt:113:9
 at-place-requires-2 : tie.Need-at-place-requires-2
 at-place-requires-2 c κs = search needs
 
--- src/scan.rt:113:9
 returns-2 : tie.Need-returns-2
 unfolding zStep
-returns-2 c = simp (le-ltb _ _ (c .before .before .if1 .taken), ne-eqb _ _ (c .before .if2 .left)) (c .at-place2 .ensures)
+returns-2 c = simp (le-ltb _ _ (c .before .before .if1 .taken), ne-eqb _ _ (c .before .if2 .left))
+    (c .at-place2 .ensures)
 
--- src/scan.rt:115:9
 hex-value-requires : tie.Need-hex-value-requires
 hex-value-requires c κs = search needs
 
--- src/scan.rt:117:9
 at-place-requires-3 : tie.Need-at-place-requires-3
 at-place-requires-3 c κs = search needs
 
--- src/scan.rt:117:9
 returns-3 : tie.Need-returns-3
 unfolding zStep
-returns-3 c = simp (lt-ltb _ _ (c .before .before .before .if1 .left), ← c .before .before .hex-value .ensures, le-ltb _ _ (c .before .if3 .taken)) (c .at-place3 .ensures)
+returns-3 c = simp (
+  lt-ltb _ _ (c .before .before .before .if1 .left),
+  ← c .before .before .hex-value .ensures,
+  le-ltb _ _ (c .before .if3 .taken),
+) (c .at-place3 .ensures)
 
--- src/scan.rt:119:9
 pushed-requires : tie.Need-pushed-requires
 pushed-requires c κs = search needs
 
--- src/scan.rt:121:25
 add-t11 : tie.Need-add-t11
 add-t11 c = search needs
 
--- src/scan.rt:106:1
 returns-4 : tie.Need-returns-4
 unfolding zStep
-returns-4 c = simp (lt-ltb _ _ (c .before .before .before .if1 .left), ← c .before .before .hex-value .ensures, lt-ltb _ _ (c .before .if3 .left), c .pushed .ensures)
+returns-4 c = simp (
+  lt-ltb _ _ (c .before .before .before .if1 .left),
+  ← c .before .before .hex-value .ensures,
+  lt-ltb _ _ (c .before .if3 .left),
+  c .pushed .ensures,
+)
 
 pub z-step-spec : {M : Type 1} → statement M
 z-step-spec =
