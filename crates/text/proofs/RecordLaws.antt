@@ -33,10 +33,5 @@ pub length-lines : (n : ℕ) (neighbours codes : List ℕ) → length (recordLin
 unfolding recordLines
 length-lines zero neighbours codes = omega arith
 length-lines (suc q) neighbours codes =
-    let line = recordLine q (getD codes q 0) (getD neighbours q 0) in
-    omega (
-      arith,
-      length-append (recordLines q neighbours codes) line,
-      length-lines q neighbours codes,
-      length-line q (getD codes q 0) (getD neighbours q 0),
-    )
+    simp length-append
+    (omega (arith, length-lines q neighbours codes, length-line q (getD codes q 0) (getD neighbours q 0)))
