@@ -60,21 +60,17 @@ loop-less c = search needs
 
 loop-again : tie.Need-loop-again Inv-loop μ-loop
 loop-again c =
-    let next = c .before .scan-byte .result in (
+    let next = c .before .scan-byte .result in
+    let l = c .before .before .before .before .loop in
+    let sofar = reading (l .s) (l .signs) (l .z) (l .x) in
+    let inside = c .before .before .before .loop-test .taken in
+    let stepped = c .before .scan-byte .ensures in (
       search needs,
       ⊎-elim
           (λ w. (λ k. reading next (w .1 k) (w .2 k) (w .3 k))
-          ∙ turn-stored _ (reading (c .before .before .before .before .loop .s)
-          (c .before .before .before .before .loop .signs) (c .before .before .before .before .loop .z)
-          (c .before .before .before .before .loop .x)) _ (c .before .before .before .before .loop .i)
-          (c .before .before .before .loop-test .taken) (c .before .before .before .before .loop .inv .1) _
-          (c .before .scan-byte .ensures) (w .0 .taken))
+          ∙ turn-stored _ sofar _ (l .i) inside (l .inv .1) _ stepped (w .0 .taken))
           (λ w. (λ k. reading next (w .1 k) (w .2 k) (w .3 k))
-          ∙ turn-kept _ (reading (c .before .before .before .before .loop .s)
-          (c .before .before .before .before .loop .signs) (c .before .before .before .before .loop .z)
-          (c .before .before .before .before .loop .x)) _ (c .before .before .before .before .loop .i)
-          (c .before .before .before .loop-test .taken) (c .before .before .before .before .loop .inv .1) _
-          (c .before .scan-byte .ensures) (w .0 .left))
+          ∙ turn-kept _ sofar _ (l .i) inside (l .inv .1) _ stepped (w .0 .left))
           (c .if1 .came),
     )
 
