@@ -4,3 +4,4 @@ pub mod Passing
 pub mod Storing
 pub mod Rotating
 pub mod Reading
+pub mod Concluding

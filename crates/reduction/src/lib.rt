@@ -3,11 +3,12 @@ use pauli::letters_minus;
 use words::flip;
 use words::flip_where;
 use words::has;
+use words::mask;
 use words::odd;
 use words::put_bit;
 use words::single;
 use words::smallest;
-ghost use mathlib.Core.Bool.{_&&_, false, true};
+ghost use mathlib.Core.Bool.{_&&_, cond, false, not, true};
 ghost use mathlib.Core.List.{[]};
 ghost use mathlib.Core.Path.{_≡_};
 ghost use Prim.Native.Nat.{ℕ, _<_, _≤_, suc};
@@ -17,10 +18,11 @@ ghost use Rattle.clifford.specs.Clifford.{codeOf};
 ghost use Rattle.clifford.specs.Vectors.{act};
 ghost use Rattle.pauli.specs.Pauli.{Pauli, anticommute};
 ghost use Rattle.record.specs.Lent.{codeNumbers, neighbourWords};
-ghost use Rattle.record.specs.Reduced.{hadamardWhere, plainCode, recordOf, withHadamard};
+ghost use Rattle.record.specs.Reduced.{hadamardWhere, plainCode, recordOf, reduced, withHadamard};
 ghost use Rattle.reduction.specs.Passes.{Eliminated, Loaded, PivotReady};
 ghost use Rattle.stabilizer.specs.Elimination.{lend, pivotOn, shear};
 ghost use Rattle.stabilizer.specs.Groups.{Within};
+ghost use Rattle.stabilizer.specs.Lists.{dependent};
 ghost use Rattle.stabilizer.specs.Tableau.{tableau};
 ghost use Rattle.words.specs.Bits.{Word, bit};
 
@@ -182,4 +184,33 @@ fn write_record(
         codes[q] = vertex_code(has(hadamards, q), has(row[0], q), has(signs, q));
         q += 1;
     }
+}
+
+// The reduced record of the tableau's group, where its rows are independent: then it is written, and the answer is true.
+pub fn reduce_tableau(
+    rows: [[u64; 2]; 64],
+    signs: u64,
+    n: usize,
+    neighbours: &mut [u64],
+    codes: &mut [u8],
+) -> bool
+    requires { ⌜ (1 ≤ n) × (n ≤ 64) × (length (now neighbours) ≡ n) × (length (now codes) ≡ n) ⌝ }
+    requires { ⌜ Loaded n (tableau signs rows) ⌝ }
+    ensures { λ r. ⌜ r ≡ not (dependent n (tableau signs rows)) ⌝ }
+    ensures { λ r. ⌜ now (neighbours .exit) ≡ cond r (neighbourWords n (reduced n (tableau signs rows))) (now (neighbours .entry)) ⌝ }
+    ensures { λ r. ⌜ now (codes .exit) ≡ cond r (codeNumbers n (reduced n (tableau signs rows))) (now (codes .entry)) ⌝ }
+{
+    let mut minuses = signs;
+    let mut kept = 0;
+    let first = pass(rows, &mut minuses, n, &mut kept);
+    let all = mask(n);
+    let hadamards = all ^ kept;
+    let rotated = rotate(first, &mut minuses, n, hadamards);
+    let mut pivots = kept;
+    let second = pass(rotated, &mut minuses, n, &mut pivots);
+    if pivots != all {
+        return false;
+    }
+    write_record(&second, minuses, n, hadamards, neighbours, codes);
+    true
 }
