@@ -66,7 +66,8 @@ module _ (n : ℕ) (l : n ≤ 64) (R₀ : ℕ → Pauli) (L : Loaded n R₀) (R�
   pub first-done : FirstPass n R₀ R₁ (bit kept) n
   first-done =
       first-of n
-      (subst (λ w. FirstPass n R₀ R₀ w 0) (sym (fun-ext zero-bit)) (first-start n R₀ (L .commuting) (λ i _. L .within i)))
+      (subst (λ w. FirstPass n R₀ R₀ w 0) (sym (fun-ext zero-bit))
+      (first-start n R₀ (L .commuting) (λ i _. L .within i)))
       E₁
 
   pub loaded-first : Loaded n R₁
@@ -93,7 +94,8 @@ module _ (n : ℕ) (l : n ≤ 64) (R₀ : ℕ → Pauli) (L : Loaded n R₀) (R�
 
       go : (q < n) ⊎ (n ≤ q) → ltb q n ⊕ bit kept q ≡ (ltb q n && not (bit kept q))
       go (inl k) =
-          ap (λ b. b ⊕ bit kept q) (lt-ltb q n k) ∙ flipped (bit kept q) ∙ sym (ap (λ b. b && not (bit kept q)) (lt-ltb q n k))
+          ap (λ b. b ⊕ bit kept q) (lt-ltb q n k) ∙ flipped (bit kept q)
+          ∙ sym (ap (λ b. b && not (bit kept q)) (lt-ltb q n k))
       go (inr k) =
           ap₂ _⊕_ (le-ltb q n k) (kept-below q k) ∙ sym (ap (λ b. b && not (bit kept q)) (le-ltb q n k))
 
@@ -112,7 +114,8 @@ module _ (n : ℕ) (l : n ≤ 64) (R₀ : ℕ → Pauli) (L : Loaded n R₀) (R�
           commuting = subst (Commuting n n) (sym is-rotated)
               (act-commuting n n R₁ (hadamardWhere (failed n (bit kept))) (loaded-first .commuting));
           within = λ j. subst (Within n) (sym (rotated-is j)) (act-within n n _ (loaded-first .within j));
-          beyond = λ j k. rotated-is j ∙ ap (act n (hadamardWhere (failed n (bit kept)))) (loaded-first .beyond j k)
+          beyond = λ j k. rotated-is j
+              ∙ ap (act n (hadamardWhere (failed n (bit kept)))) (loaded-first .beyond j k)
               ∙ act-identity n (hadamardWhere (failed n (bit kept)));
         }
 
@@ -120,7 +123,8 @@ module _ (n : ℕ) (l : n ≤ 64) (R₀ : ℕ → Pauli) (L : Loaded n R₀) (R�
       pub loaded-second : Loaded n R₃
       loaded-second = eliminated-loaded n l loaded-rotated E₂
 
-      second : SecondPass n (λ j. act n (hadamardWhere (failed n (bit kept))) (R₁ j)) R₃ (bit kept) (bit pivots) n
+      second : SecondPass n (λ j. act n (hadamardWhere (failed n (bit kept))) (R₁ j)) R₃ (bit kept)
+          (bit pivots) n
       second =
           subst (λ f. SecondPass n f R₃ (bit kept) (bit pivots) n) is-rotated
           (second-of n (subst (λ f. SecondPass n f f (bit kept) (bit kept) 0) (sym is-rotated)
@@ -149,7 +153,8 @@ module _ (n : ℕ) (l : n ≤ 64) (R₀ : ℕ → Pauli) (L : Loaded n R₀) (R�
               ⊎ ((t : ℕ) → t < n → not (bit pivots t) ≡ false) → dependent n R₀ ≡ true
           go (inl F) =
               not-independent (dependent n R₀) refl
-              (passes-dependent n R₀ R₁ (bit kept) first-done R₃ (bit pivots) second _ (F .below) (not-true _ (F .passes)))
+              (passes-dependent n R₀ R₁ (bit kept) first-done R₃ (bit pivots) second _ (F .below)
+              (not-true _ (F .passes)))
           go (inr none) =
               absurd (differ (bit-ext∞ pivots all
               (λ t. at t (lt-or-ge t n))))
@@ -167,4 +172,5 @@ module _ (n : ℕ) (l : n ≤ 64) (R₀ : ℕ → Pauli) (L : Loaded n R₀) (R�
         pub the-record : recordOf n (bit hadamards) R₃ ≡ reduced n R₀
         the-record =
             ap (λ w. recordOf n w R₃) (fun-ext hadamards-are)
-            ∙ sym (record-path _ _ (passes-equation n R₀ R₁ (bit kept) first-done R₃ (bit pivots) second (every-pivot e)))
+            ∙ sym (record-path _ _
+            (passes-equation n R₀ R₁ (bit kept) first-done R₃ (bit pivots) second (every-pivot e)))

@@ -5,3 +5,4 @@ pub mod Storing
 pub mod Rotating
 pub mod Reading
 pub mod Concluding
+pub mod Loading

@@ -32,7 +32,8 @@ module _ (n : ℕ) (l : n ≤ 64) (R : ℕ → Pauli) (L : Loaded n R) where
   shear-wide a s j = mul-wide n 64 l (L .within j) (chosen-within n (s j) (L .within a))
 
   pub commuting-wide : ((j : ℕ) → imaginary ((R j) .phase) ≡ false) → Commuting 64 64 R
-  commuting-wide signed = record { signed = λ j _. signed j; commute = λ i j _ _. go i j (lt-or-ge i n) (lt-or-ge j n) }
+  commuting-wide signed =
+      record { signed = λ j _. signed j; commute = λ i j _ _. go i j (lt-or-ge i n) (lt-or-ge j n) }
     where
       go : (i j : ℕ) → (i < n) ⊎ (n ≤ i) → (j < n) ⊎ (n ≤ j) → anticommute 64 (R i) (R j) ≡ false
       go i j (inl hi) (inl hj) =
@@ -63,7 +64,8 @@ module _ (n : ℕ) (l : n ≤ 64) (R : ℕ → Pauli) (L : Loaded n R) (q i : �
   loaded-lent : Loaded n (shear n R i (lend R q))
   loaded-lent =
       loaded-shear n l R L i hi (lend R q) (lend-self n R q i hq hi has)
-      (λ j h. ap (λ b. b && not ((R q) .x q)) (other-place {i = j} {j = q} (λ e. lt-irrefl n (omega (arith, hq, e)))))
+      (λ j h. ap (λ b. b && not ((R q) .x q))
+      (other-place {i = j} {j = q} (λ e. lt-irrefl n (omega (arith, hq, e)))))
 
   pub loaded-pivot : Loaded n (pivotOn n R q i)
   loaded-pivot =
@@ -120,7 +122,12 @@ module _ (n q : ℕ) (l : n ≤ 64) (hq : q < n) (R : ℕ → Pauli) (L : Loaded
 
   pub free-row : (free ≡ 0 → ⊥) → (i : ℕ) → i ≡ trailingZeros 64 free → FreeRow i
   free-row nonzero i e =
-      record { below = inside (lt-or-ge i n); unused = unused; has = unused-bit (bit pivots i) ((R i) .x q) unused }
+      record {
+        below = inside (lt-or-ge i n);
+        unused = unused;
+        has =
+            unused-bit (bit pivots i) ((R i) .x q) unused;
+      }
     where
       small : free < 2 ^ 64
       small = lt-of-bits 64 free (λ j k. none-above j (le-trans l k))
@@ -131,9 +138,11 @@ module _ (n q : ℕ) (l : n ≤ 64) (hq : q < n) (R : ℕ → Pauli) (L : Loaded
       inside : (i < n) ⊎ (n ≤ i) → i < n
       inside (inl k) = k
       inside (inr k) =
-          absurd (true≢false (sym (unused-bit (bit pivots i) ((R i) .x q) unused) ∙ ap (λ p. p .x q) (L .beyond i k)))
+          absurd (true≢false (sym (unused-bit (bit pivots i) ((R i) .x q) unused)
+          ∙ ap (λ p. p .x q) (L .beyond i k)))
 
-  pub pivot-ready : (i : ℕ) → FreeRow i → ((j : ℕ) → imaginary ((R j) .phase) ≡ false) → PivotReady R q i holders
+  pub pivot-ready : (i : ℕ) → FreeRow i → ((j : ℕ) → imaginary ((R j) .phase) ≡ false)
+      → PivotReady R q i holders
   pivot-ready i F signed =
       record {
         column = lt-of-lt-of-le hq l;
@@ -148,13 +157,15 @@ module _ (n q : ℕ) (l : n ≤ 64) (hq : q < n) (R : ℕ → Pauli) (L : Loaded
       Eliminated n R₀ w₀ R (bit pivots) (suc q)
   column-skipped e R₀ w₀ E = skip E hq (none-free e)
 
-  pub column-pivoted : (i : ℕ) → FreeRow i → (R′ : ℕ → Pauli) → ((j : ℕ) → R′ j ≡ pivotOn 64 R q i j) → (pivots′ : ℕ) →
+  pub column-pivoted : (i : ℕ) → FreeRow i → (R′ : ℕ → Pauli) → ((j : ℕ) → R′ j ≡ pivotOn 64 R q i j)
+      → (pivots′ : ℕ) →
       ((j : ℕ) → bit pivots′ j ≡ put (bit pivots) q true j) → (R₀ : ℕ → Pauli) (w₀ : Word) →
       Eliminated n R₀ w₀ R (bit pivots) q → Eliminated n R₀ w₀ R′ (bit pivots′) (suc q)
   column-pivoted i F R′ r pivots′ p R₀ w₀ E =
       subst (λ f. Eliminated n R₀ w₀ f (bit pivots′) (suc q))
       (sym (fun-ext (λ j. r j ∙ pivot-wide n l R L q i hq (F .below) (F .has) j)))
-      (subst (λ w. Eliminated n R₀ w₀ (pivotOn n R q i) w (suc q)) (sym (fun-ext p)) (pivot E hq i (F .below) (F .unused)))
+      (subst (λ w. Eliminated n R₀ w₀ (pivotOn n R q i) w (suc q)) (sym (fun-ext p))
+      (pivot E hq i (F .below) (F .unused)))
 
 -- the column counted another way
 pub eliminated-at : {n : ℕ} {R₀ : ℕ → Pauli} {w₀ : Word} {R : ℕ → Pauli} {w : Word} {q q′ : ℕ} → q ≡ q′ →

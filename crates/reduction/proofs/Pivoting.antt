@@ -31,7 +31,10 @@ pub record ColumnBelow (rows : List (List ℕ)) (q word i : ℕ) : Type 0 where
 
 pub column-start : (rows : List (List ℕ)) (q : ℕ) → ColumnBelow rows q 0 0
 column-start rows q =
-    record { named = λ j. zero-bit j ∙ sym (ap (λ b. b && bit (getD (getD rows j []) 1 0) q) (le-ltb j 0 zero-le)) }
+    record {
+      named = λ j. zero-bit j
+          ∙ sym (ap (λ b. b && bit (getD (getD rows j []) 1 0) q) (le-ltb j 0 zero-le));
+    }
 
 pub column-step : (rows : List (List ℕ)) (q word i : ℕ) → ColumnBelow rows q word i → (word′ : ℕ) (b : Bool) →
     b ≡ bit (getD (getD rows i []) 1 0) q → ((j : ℕ) → bit word′ j ≡ bit word j ⊕ (eqb j i && b)) →
@@ -46,13 +49,15 @@ column-step rows q word i C word′ b e h =
         (ltb j i && bit (getD (getD rows j []) 1 0) q) ⊕ (eqb j i && bit (getD (getD rows i []) 1 0) q)
         ≡ (ltb j (i + 1) && bit (getD (getD rows j []) 1 0) q)
     at j (yes p) =
-        subst (λ v. (ltb v i && bit (getD (getD rows v []) 1 0) q) ⊕ (eqb v i && bit (getD (getD rows i []) 1 0) q)
+        subst (λ v. (ltb v i && bit (getD (getD rows v []) 1 0) q)
+        ⊕ (eqb v i && bit (getD (getD rows i []) 1 0) q)
         ≡ (ltb v (i + 1) && bit (getD (getD rows v []) 1 0) q)) (sym p)
         (ap₂ (λ u v. (u && bit (getD (getD rows i []) 1 0) q) ⊕ (v && bit (getD (getD rows i []) 1 0) q))
         (le-ltb i i (le-refl i)) (same-place i)
         ∙ sym (ap (λ u. u && bit (getD (getD rows i []) 1 0) q) (lt-ltb i (i + 1) (omega arith))))
     at j (no d) =
-        ap (λ u. (ltb j i && bit (getD (getD rows j []) 1 0) q) ⊕ (u && bit (getD (getD rows i []) 1 0) q)) (other-place d)
+        ap (λ u. (ltb j i && bit (getD (getD rows j []) 1 0) q)
+        ⊕ (u && bit (getD (getD rows i []) 1 0) q)) (other-place d)
         ∙ ⊕-zero _ ∙ ap (λ u. u && bit (getD (getD rows j []) 1 0) q) (sym (upto-other j i d))
 
 -- ---- the bit lent

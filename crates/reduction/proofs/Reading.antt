@@ -21,18 +21,22 @@ use Rattle.words.proofs.Sums.{lt-or-ge}
 use Rattle.words.specs.Bits.{Word, bit, put, wordOf}
 
 -- the z word without the own place
-pub neighbour-word : (n signs : ℕ) (rows : List (List ℕ)) (q : ℕ) → q < n → Within n (tableau signs rows q) → (v : ℕ) →
+pub neighbour-word : (n signs : ℕ) (rows : List (List ℕ)) (q : ℕ) → q < n → Within n (tableau signs rows q)
+    → (v : ℕ) →
     ((k : ℕ) → bit v k ≡ put (bit (getD (getD rows q []) 0 0)) q false k) →
     v ≡ wordOf n (graphOf n (tableau signs rows) q)
 unfolding graphOf
-neighbour-word n signs rows q l W v h = bit-ext∞ v (wordOf n (graphOf n (tableau signs rows) q)) (λ k. at k (lt-or-ge k n))
+neighbour-word n signs rows q l W v h =
+    bit-ext∞ v (wordOf n (graphOf n (tableau signs rows) q)) (λ k. at k (lt-or-ge k n))
   where
     z : Word
     z = bit (getD (getD rows q []) 0 0)
 
-    without : (k : ℕ) → put (bit (getD (getD rows q []) 0 0)) q false k ≡ (bit (getD (getD rows q []) 0 0) k && not (eqb k q))
+    without : (k : ℕ) → put (bit (getD (getD rows q []) 0 0)) q false k ≡ (bit (getD (getD rows q []) 0 0) k
+        && not (eqb k q))
     without k =
-        put-all (λ k b. b ≡ (bit (getD (getD rows q []) 0 0) k && not (eqb k q))) (bit (getD (getD rows q []) 0 0)) q false
+        put-all (λ k b. b ≡ (bit (getD (getD rows q []) 0 0) k && not (eqb k q)))
+        (bit (getD (getD rows q []) 0 0)) q false
         (sym (ap (λ b. bit (getD (getD rows q []) 0 0) q && not b) (same-place q)
         ∙ and-false (bit (getD (getD rows q []) 0 0) q))) k
         (λ d. sym (ap (λ b. bit (getD (getD rows q []) 0 0) k && not b) (other-place d)
@@ -41,11 +45,13 @@ neighbour-word n signs rows q l W v h = bit-ext∞ v (wordOf n (graphOf n (table
     at : (k : ℕ) → (k < n) ⊎ (n ≤ k) → bit v k ≡ bit (wordOf n (graphOf n (tableau signs rows) q)) k
     at k (inl a) =
         h k ∙ without k
-        ∙ sym (ap (λ b. b && (bit (getD (getD rows q []) 0 0) k && not (eqb k q))) (ap₂ _&&_ (lt-ltb q n l) (lt-ltb k n a)))
+        ∙ sym (ap (λ b. b && (bit (getD (getD rows q []) 0 0) k && not (eqb k q)))
+        (ap₂ _&&_ (lt-ltb q n l) (lt-ltb k n a)))
         ∙ sym (bit-wordOf n (graphOf n (tableau signs rows) q) k a)
     at k (inr a) =
         h k ∙ without k ∙ ap (λ b. b && not (eqb k q)) (W .no-z k a)
-        ∙ sym (bit-above n (wordOf n (graphOf n (tableau signs rows) q)) (wordOf-lt n (graphOf n (tableau signs rows) q)) k a)
+        ∙ sym (bit-above n (wordOf n (graphOf n (tableau signs rows) q))
+        (wordOf-lt n (graphOf n (tableau signs rows) q)) k a)
 
 -- the code by the Hadamard, the letter and the sign
 pub vertex-number : (n hadamards signs : ℕ) (rows : List (List ℕ)) (q : ℕ) → q < n → (v : ℕ) {h y s : Bool} →

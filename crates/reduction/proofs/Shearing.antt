@@ -62,7 +62,8 @@ module _ (rows₀ : List (List ℕ)) (signs₀ a named : ℕ) where
       (ap (λ b. bit named j && not b) (ap (λ v. bit v j) e ∙ zero-bit j) ∙ and-true (bit named j))
 
   -- rest has bits of named alone, so it is a word of 64 bits too
-  pub rest-lt : (rows : List (List ℕ)) (signs rest : ℕ) → Sheared rows signs rest → named < 2 ^ 64 → rest < 2 ^ 64
+  pub rest-lt : (rows : List (List ℕ)) (signs rest : ℕ) → Sheared rows signs rest → named < 2 ^ 64
+      → rest < 2 ^ 64
   rest-lt rows signs rest S h = lt-of-bits 64 rest (λ q l. go q l (bit rest q) refl)
     where
       go : (q : ℕ) → 64 ≤ q → (b : Bool) → bit rest q ≡ b → b ≡ false
@@ -87,7 +88,8 @@ module _ (rows₀ : List (List ℕ)) (signs₀ a named : ℕ) where
     -- it is still what it was
     still : tableau signs rows j ≡ tableau signs₀ rows₀ j
     still = S .sheared j
-        ∙ not-named (bit named j && not (bit rest j)) j (ap (λ b. bit named j && not b) left ∙ and-false (bit named j))
+        ∙ not-named (bit named j && not (bit rest j)) j (ap (λ b. bit named j && not b) left
+        ∙ and-false (bit named j))
 
     module _ (rows′ : List (List ℕ)) (signs′ rest′ : ℕ) (sign minus : Bool) (b : sign ≡ bit signs₀ a)
         (m : minus ≡ signBit ((mul 64 (row i⁰ (getD (getD rows j []) 0 0) (getD (getD rows j []) 1 0))
@@ -104,7 +106,8 @@ module _ (rows₀ : List (List ℕ)) (signs₀ a named : ℕ) where
       here =
           ap₂ (λ (b : Bool) (v : List ℕ). signedRow b (getD v 0 0) (getD v 1 0)) sign-is
           (ap (λ v. getD v j []) r ∙ getD-set-same rows j _ [] (subst (λ k. j < k) (sym (S .long)) hj))
-          ∙ sym (signed-mul 64 (getD (getD rows j []) 0 0) (getD (getD rows j []) 1 0) (getD (getD rows₀ a []) 0 0)
+          ∙ sym (signed-mul 64 (getD (getD rows j []) 0 0) (getD (getD rows j []) 1 0)
+          (getD (getD rows₀ a []) 0 0)
           (getD (getD rows₀ a []) 1 0) (bit signs j) (bit signs₀ a)
           (ap (λ p. anticommute 64 p (tableau signs₀ rows₀ a)) still ∙ commute j is-named))
           ∙ ap (λ p. mul 64 p (tableau signs₀ rows₀ a)) still
@@ -120,7 +123,8 @@ module _ (rows₀ : List (List ℕ)) (signs₀ a named : ℕ) where
       there : (k : ℕ) → k ≢ j → tableau signs′ rows′ k ≡ tableau signs rows k
       there k d =
           ap₂ (λ (b : Bool) (v : List ℕ). signedRow b (getD v 0 0) (getD v 1 0))
-          (s k ∙ ap (λ v. bit signs k ⊕ (v && not (Bool·beq sign minus))) (other-place d) ∙ ⊕-zero (bit signs k))
+          (s k ∙ ap (λ v. bit signs k ⊕ (v && not (Bool·beq sign minus))) (other-place d)
+          ∙ ⊕-zero (bit signs k))
           (ap (λ v. getD v k []) r ∙ getD-set-other rows j k _ [] d)
 
       pub shear-step : Sheared rows′ signs′ rest′
@@ -142,8 +146,10 @@ module _ (rows₀ : List (List ℕ)) (signs₀ a named : ℕ) where
           at : (k : ℕ) → Dec (k ≡ j) → tableau signs′ rows′ k ≡ partly rest′ k
           at k (yes p) =
               subst (λ v. tableau signs′ rows′ v ≡ partly rest′ v) (sym p)
-              (here ∙ ap (λ b. mul 64 (tableau signs₀ rows₀ j) (chosen b (tableau signs₀ rows₀ a))) (sym done-here))
+              (here ∙ ap (λ b. mul 64 (tableau signs₀ rows₀ j) (chosen b (tableau signs₀ rows₀ a)))
+              (sym done-here))
           at k (no d) =
               there k d ∙ S .sheared k
-              ∙ ap (λ b. mul 64 (tableau signs₀ rows₀ k) (chosen (bit named k && not b) (tableau signs₀ rows₀ a)))
+              ∙ ap (λ b. mul 64 (tableau signs₀ rows₀ k)
+              (chosen (bit named k && not b) (tableau signs₀ rows₀ a)))
               (sym (bit-rest k ∙ ap (λ b. bit rest k ⊕ b) (other-place d) ∙ ⊕-zero (bit rest k)))

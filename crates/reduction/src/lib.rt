@@ -19,10 +19,10 @@ ghost use Rattle.clifford.specs.Vectors.{act};
 ghost use Rattle.pauli.specs.Pauli.{Pauli, anticommute};
 ghost use Rattle.record.specs.Lent.{codeNumbers, neighbourWords};
 ghost use Rattle.record.specs.Reduced.{hadamardWhere, plainCode, recordOf, reduced, withHadamard};
-ghost use Rattle.reduction.specs.Passes.{Eliminated, Loaded, PivotReady};
+ghost use Rattle.reduction.specs.Passes.{Eliminated, Loaded, PivotReady, Reducible};
 ghost use Rattle.stabilizer.specs.Elimination.{lend, pivotOn, shear};
 ghost use Rattle.stabilizer.specs.Groups.{Within};
-ghost use Rattle.stabilizer.specs.Lists.{dependent};
+ghost use Rattle.stabilizer.specs.Lists.{dependent, rows};
 ghost use Rattle.stabilizer.specs.Tableau.{tableau};
 ghost use Rattle.words.specs.Bits.{Word, bit};
 
@@ -186,6 +186,27 @@ fn write_record(
     }
 }
 
+// The rows of a lent list, with a word for their signs.
+pub fn load_list(n: usize, signs: &[u8], z: &[u64], x: &[u64], minuses: &mut u64) -> [[u64; 2]; 64]
+    requires { ⌜ (n ≤ 64) × (length (now signs) ≡ n) × (length (now z) ≡ n) × (length (now x) ≡ n) ⌝ }
+    requires { ⌜ now minuses ≡ 0 ⌝ }
+    ensures { λ r. ⌜ ((j : ℕ) → tableau (now (minuses .exit)) r j ≡ rows (record {
+      n = n;
+      signs = now (signs .entry);
+      z = now (z .entry);
+      x = now (x .entry);
+    }) j) ⌝ }
+{
+    let mut loaded = [[0, 0]; 64];
+    let mut j = 0;
+    while j < n {
+        loaded[j] = [z[j], x[j]];
+        *minuses = flip_where(*minuses, j, signs[j] % 2 == 1);
+        j += 1;
+    }
+    loaded
+}
+
 // The reduced record of the tableau's group, where its rows are independent: then it is written, and the answer is true.
 pub fn reduce_tableau(
     rows: [[u64; 2]; 64],
@@ -213,4 +234,39 @@ pub fn reduce_tableau(
     }
     write_record(&second, minuses, n, hadamards, neighbours, codes);
     true
+}
+
+// The reduced record of a lent list, where its generators are independent: then it is written, and the answer is true.
+pub fn reduce_list(
+    n: usize,
+    signs: &[u8],
+    z: &[u64],
+    x: &[u64],
+    neighbours: &mut [u64],
+    codes: &mut [u8],
+) -> bool
+    requires { ⌜ Reducible (record { n = n; signs = now signs; z = now z; x = now x }) ⌝ }
+    requires { ⌜ (length (now neighbours) ≡ n) × (length (now codes) ≡ n) ⌝ }
+    ensures { λ r. ⌜ r ≡ not (dependent n (rows (record {
+      n = n;
+      signs = now (signs .entry);
+      z = now (z .entry);
+      x = now (x .entry);
+    }))) ⌝ }
+    ensures { λ r. ⌜ now (neighbours .exit) ≡ cond r (neighbourWords n (reduced n (rows (record {
+      n = n;
+      signs = now (signs .entry);
+      z = now (z .entry);
+      x = now (x .entry);
+    })))) (now (neighbours .entry)) ⌝ }
+    ensures { λ r. ⌜ now (codes .exit) ≡ cond r (codeNumbers n (reduced n (rows (record {
+      n = n;
+      signs = now (signs .entry);
+      z = now (z .entry);
+      x = now (x .entry);
+    })))) (now (codes .entry)) ⌝ }
+{
+    let mut minuses = 0;
+    let rows = load_list(n, signs, z, x, &mut minuses);
+    reduce_tableau(rows, minuses, n, neighbours, codes)
 }
