@@ -1,7 +1,6 @@
 -- The number that a list is refused with before any elimination, from the answers of the tests in their
 -- order.
 -- Assumes nothing.
--- what a test that answers v says, where v is b
 use mathlib.Core.Bool.{Bool, false, true, _||_}
 use mathlib.Core.Path.{ap₂, refl, sym, _∙_, _≡_}
 use Prim.Native.Nat.{_^_, _≤_}
@@ -21,6 +20,7 @@ use Rattle.stabilizer.specs.Lists.{
   rows,
 }
 
+-- what a test that answers v says, where v is b
 pub says : {v b t : Bool} → v ≡ b → v ≡ t → b ≡ t
 says e h = sym e ∙ h
 

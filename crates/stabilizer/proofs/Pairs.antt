@@ -1,6 +1,5 @@
 -- Line 9 by pairs: each generator is tested against the ones before it, on whole words.
 -- Assumes nothing.
--- ---- searches
 use mathlib.Core.Bool.{Bool, false, true, _||_}
 use mathlib.Core.List.{List}
 use mathlib.Core.Logic.{inl, inr}
@@ -23,6 +22,7 @@ use Rattle.stabilizer.proofs.Within.{anticommute-wide}
 use Rattle.stabilizer.specs.Groups.{Within}
 use Rattle.stabilizer.specs.Lists.{clashing}
 
+-- ---- searches
 pub some-ext : (b : ℕ) (f g : ℕ → Bool) → ((i : ℕ) → i < b → f i ≡ g i) → some b f ≡ some b g
 unfolding some
 some-ext zero f g h = refl
