@@ -28,5 +28,6 @@ fill-step n f buffer i v F l e =
           (getD-set-same buffer i v 0 (subst (λ m. i < m) (sym (F .long)) l) ∙ e);
     }
 
-pub fill-end : (n : ℕ) (f : ℕ → ℕ) (buffer : List ℕ) (i : ℕ) → Filled n f buffer i → n ≤ i → buffer ≡ tabulate n f
+pub fill-end : (n : ℕ) (f : ℕ → ℕ) (buffer : List ℕ) (i : ℕ) → Filled n f buffer i → n ≤ i
+    → buffer ≡ tabulate n f
 fill-end n f buffer i F l = tabulate-is n f buffer (F .long) (λ j k. F .done j (lt-of-lt-of-le k l))

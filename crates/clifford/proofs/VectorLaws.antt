@@ -5,11 +5,38 @@ use mathlib.Core.Path.{ap, fun-ext, refl, sym, _∙_, _≡_}
 use Prim.Native.Nat.{ℕ}
 use Rattle.pauli.proofs.PauliLaws.{Pauli-path}
 use Rattle.pauli.proofs.PhaseLaws.{+ᵖ-assoc, +ᵖ-left, +ᵖ-zero, imaginary-+ᵖ, phaseMonoid, sumPhase-add}
-use Rattle.pauli.specs.Pauli.{_+ᵖ_, Pauli, Phase, anticommute, identity, imaginary, i⁰, letterAt, letterPhase, mul, scaled, sumPhase}
+use Rattle.pauli.specs.Pauli.{
+  _+ᵖ_,
+  Pauli,
+  Phase,
+  anticommute,
+  identity,
+  imaginary,
+  i⁰,
+  letterAt,
+  letterPhase,
+  mul,
+  scaled,
+  sumPhase,
+}
 use Rattle.words.proofs.Finite.{⊕-zero}
 use Rattle.words.proofs.Sums.{bitMonoid, fold-ext, fold-hom, fold-unit}
 use Rattle.words.specs.Bits.{_⊕_}
-use Rattle.clifford.proofs.CliffordLaws.{clash-after, inverse-then, phaseAfter-id, phaseAfter-signed, phaseAfter-sum, phaseAfter-then, then-inverse, xAfter-id, xAfter-sum, xAfter-then, zAfter-id, zAfter-sum, zAfter-then}
+use Rattle.clifford.proofs.CliffordLaws.{
+  clash-after,
+  inverse-then,
+  phaseAfter-id,
+  phaseAfter-signed,
+  phaseAfter-sum,
+  phaseAfter-then,
+  then-inverse,
+  xAfter-id,
+  xAfter-sum,
+  xAfter-then,
+  zAfter-id,
+  zAfter-sum,
+  zAfter-then,
+}
 use Rattle.clifford.specs.Clifford.{Clifford, identityClifford, imagePhase, inverse, then}
 use Rattle.clifford.specs.Vectors.{act}
 

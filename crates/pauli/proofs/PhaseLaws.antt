@@ -7,7 +7,21 @@ use lib.Dec.{T, eqb, eqb→eq, lit<}
 use Rattle.words.proofs.Finite.{Law, Of, bits, law, test}
 use Rattle.words.proofs.Sums.{Monoid, fold-ext, fold-mul}
 use Rattle.words.specs.Bits.{_⊕_}
-use Rattle.pauli.specs.Pauli.{_+ᵖ_, Phase, exponent, imaginary, i², i³, i¹, i⁰, minus, power, samePhase, signBit, sumPhase}
+use Rattle.pauli.specs.Pauli.{
+  _+ᵖ_,
+  Phase,
+  exponent,
+  imaginary,
+  i²,
+  i³,
+  i¹,
+  i⁰,
+  minus,
+  power,
+  samePhase,
+  signBit,
+  sumPhase,
+}
 
 pub power-exponent : (a : Phase) → power (exponent a) ≡ a
 unfolding power

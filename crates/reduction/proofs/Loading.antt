@@ -127,7 +127,8 @@ loaded-list l A =
         (identity-within (l .n))
 
 -- the same of rows that are the list's
-pub loaded-rows : (l : GeneratorList) → Reducible l → (R : ℕ → Pauli) → ((j : ℕ) → R j ≡ rows l j) → Loaded (l .n) R
+pub loaded-rows : (l : GeneratorList) → Reducible l → (R : ℕ → Pauli) → ((j : ℕ) → R j ≡ rows l j)
+    → Loaded (l .n) R
 loaded-rows l A R h = subst (Loaded (l .n)) (sym (fun-ext h)) (loaded-list l A)
 
 -- a list that passes the early lines can be reduced
@@ -149,7 +150,10 @@ pub answered : (n : ℕ) (R R′ : ℕ → Pauli) → ((j : ℕ) → R j ≡ R�
     cs′ ≡ cond r (codeNumbers n (reduced n R)) cs →
     (r ≡ not (dependent n R′))
     × ((nb′ ≡ cond r (neighbourWords n (reduced n R′)) nb) × (cs′ ≡ cond r (codeNumbers n (reduced n R′)) cs))
-answered n R R′ h r nb nb′ cs cs′ er en ec =
-    (er ∙ ap (λ f. not (dependent n f)) (fun-ext h),
-    (en ∙ ap (λ f. cond r (neighbourWords n (reduced n f)) nb) (fun-ext h),
-    ec ∙ ap (λ f. cond r (codeNumbers n (reduced n f)) cs) (fun-ext h)))
+answered n R R′ h r nb nb′ cs cs′ er en ec = (
+  er ∙ ap (λ f. not (dependent n f)) (fun-ext h),
+  (
+    en ∙ ap (λ f. cond r (neighbourWords n (reduced n f)) nb) (fun-ext h),
+    ec ∙ ap (λ f. cond r (codeNumbers n (reduced n f)) cs) (fun-ext h),
+  ),
+)

@@ -2,13 +2,17 @@
 // writes its answer; a refused call changes no lent byte.
 use record::expand_into;
 use record::record_refusal;
-use reduction::load_list;
-use reduction::reduce_tableau;
+use reduction::reduce_list;
 use stabilizer::early_refusal;
+ghost use mathlib.Core.Bool.{not};
+ghost use mathlib.Core.Path.{_≡_};
+ghost use lib.Dec.{eqb};
 ghost use Rattle.sukhlent.specs.Calls.{Checked, Expanded, Reduced};
 
 // Whether a buffer's length is other than n.
-fn other_than(length: usize, n: u64) -> bool {
+fn other_than(length: usize, n: u64) -> bool
+    ensures { λ r. ⌜ r ≡ not (eqb length n) ⌝ }
+{
     length as u64 != n
 }
 
@@ -22,14 +26,13 @@ pub extern "C" fn sukhlent_check(n: u64, signs: &[u8], z: &[u64], x: &[u64]) -> 
         return early;
     }
     let count = n as usize;
-    let mut minuses = 0;
-    let rows = load_list(count, signs, z, x, &mut minuses);
     let mut neighbours = [0u64; 64];
     let mut codes = [0u8; 64];
-    if reduce_tableau(
-        rows,
-        minuses,
+    if reduce_list(
         count,
+        signs,
+        z,
+        x,
         &mut neighbours[..count],
         &mut codes[..count],
     ) {
@@ -49,7 +52,9 @@ pub extern "C" fn sukhlent_reduce(
     neighbours: &mut [u64],
     codes: &mut [u8],
 ) -> u8
-    ensures { λ r. ⌜ Reduced (record { n = n; signs = now (signs .entry); z = now (z .entry); x = now (x .entry) }) (now (neighbours .entry)) (now (codes .entry)) r (now (neighbours .exit)) (now (codes .exit)) ⌝ }
+    ensures { λ r. ⌜ Reduced
+        (record { n = n; signs = now (signs .entry); z = now (z .entry); x = now (x .entry) })
+        (now (neighbours .entry)) (now (codes .entry)) r (now (neighbours .exit)) (now (codes .exit)) ⌝ }
 {
     let others = other_than(neighbours.len(), n) | other_than(codes.len(), n);
     let early = early_refusal(n, signs, z, x, others);
@@ -57,9 +62,7 @@ pub extern "C" fn sukhlent_reduce(
         return early;
     }
     let count = n as usize;
-    let mut minuses = 0;
-    let rows = load_list(count, signs, z, x, &mut minuses);
-    if reduce_tableau(rows, minuses, count, neighbours, codes) {
+    if reduce_list(count, signs, z, x, neighbours, codes) {
         0
     } else {
         10
@@ -76,7 +79,9 @@ pub extern "C" fn sukhlent_expand(
     z: &mut [u64],
     x: &mut [u64],
 ) -> u8
-    ensures { λ r. ⌜ Expanded (record { n = n; neighbours = now (neighbours .entry); codes = now (codes .entry) }) (now (signs .entry)) (now (z .entry)) (now (x .entry)) r (now (signs .exit)) (now (z .exit)) (now (x .exit)) ⌝ }
+    ensures { λ r. ⌜ Expanded
+        (record { n = n; neighbours = now (neighbours .entry); codes = now (codes .entry) })
+        (now (signs .entry)) (now (z .entry)) (now (x .entry)) r (now (signs .exit)) (now (z .exit)) (now (x .exit)) ⌝ }
 {
     let others = other_than(signs.len(), n) | (other_than(z.len(), n) | other_than(x.len(), n));
     let early = record_refusal(n, neighbours, codes, others, false);

@@ -230,7 +230,8 @@ module _ (s : Scan) (t : List ℕ) (b : ℕ) where
         z = sofar .z-small;
         x = subst (λ n. s .x < 2 ^ (4 * n)) all (sofar .small);
       } in
-      let ends : xPart k s ++ b ∷ [] ≡ lineText l = ap₂ (λ n c. xPart n s ++ c ∷ []) all (eqb-true b 10 fits) in
+      let ends : xPart k s ++ b ∷ [] ≡ lineText l =
+      ap₂ (λ n c. xPart n s ++ c ∷ []) all (eqb-true b 10 fits) in
       let line = upto-more b (lineText l) ends (sofar .upto) in (
         line .lines ++ l ∷ [],
         record {

@@ -4,7 +4,25 @@ use mathlib.Core.Bool.{_&&_, Bool, and-false, false, true, _||_}
 use mathlib.Core.Path.{ap, ap₂, refl, subst, sym, _∙_, _≡_}
 use Prim.Native.Nat.{_%_, _*_, _+_, _-_, _/_, _<_, _^_, suc, zero, ℕ, _≤_}
 use native.Mathlib.Decide.{ℕ-discrete}
-use native.Mathlib.Nat.{add-mod, div-add-mod', div-div-eq-div-mul, div-eq-of-lt, div-lt-iff-lt-mul, div-one, le-add-left, le-add-right, lt-of-lt-of-le, mod-lt, mul-div-cancel, mul-mod-left, not-suc-le-zero, one-mul, pow-suc, pow-succ', zero-div}
+use native.Mathlib.Nat.{
+  add-mod,
+  div-add-mod',
+  div-div-eq-div-mul,
+  div-eq-of-lt,
+  div-lt-iff-lt-mul,
+  div-one,
+  le-add-left,
+  le-add-right,
+  lt-of-lt-of-le,
+  mod-lt,
+  mul-div-cancel,
+  mul-mod-left,
+  not-suc-le-zero,
+  one-mul,
+  pow-suc,
+  pow-succ',
+  zero-div,
+}
 use native.Mathlib.Numerals.{add-one}
 use native.Mathlib.Omega.{arith}
 use lib.Arith.{digits-div, digits-lt, digits-mod, lt-one}
@@ -184,7 +202,8 @@ pub flip-less : (w q : ℕ) → bit w q ≡ true → bitXor w (2 ^ q) < w
 flip-less w q e = omega (arith, xor-add-and w (2 ^ q), both, pow-pos q)
   where
     at-place : (j : ℕ) → bit (bitAnd w (2 ^ q)) j ≡ bit (2 ^ q) j
-    at-place j = bit-and w (2 ^ q) j ∙ ap (λ b. bit w j && b) (bit-single q j) ∙ go (ℕ-discrete j q) ∙ sym (bit-single q j)
+    at-place j = bit-and w (2 ^ q) j ∙ ap (λ b. bit w j && b) (bit-single q j) ∙ go (ℕ-discrete j q)
+        ∙ sym (bit-single q j)
       where
         go : Dec (j ≡ q) → (bit w j && eqb j q) ≡ eqb j q
         go (yes p) = ap (λ b. b && eqb j q) (ap (bit w) p ∙ e)

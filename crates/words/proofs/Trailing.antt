@@ -66,7 +66,8 @@ trailing-first k w = go (trailing-is k w)
 pub trailing-set : (k w : ℕ) → w < 2 ^ k → (w ≡ 0 → ⊥) → IsFirst k (bit w) (trailingZeros k w)
 trailing-set k w h nonzero = go (trailing-is k w)
   where
-    go : IsFirst k (bit w) (trailingZeros k w) ⊎ (((q : ℕ) → q < k → bit w q ≡ false) × (trailingZeros k w ≡ k))
+    go : IsFirst k (bit w) (trailingZeros k w)
+        ⊎ (((q : ℕ) → q < k → bit w q ≡ false) × (trailingZeros k w ≡ k))
         → IsFirst k (bit w) (trailingZeros k w)
     go (inl F) = F
     go (inr (none, _)) = absurd (nonzero (bit-ext k w 0 h (pow-pos k) (λ q l. none q l ∙ sym (zero-bit q))))

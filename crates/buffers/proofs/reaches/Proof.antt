@@ -22,7 +22,8 @@ shared-slice-read-if1 c = search needs
 
 returns : tie.Need-returns Inv-loop μ-loop
 returns c = let a = c .before .before .before .before .args in
-    sym (reaches-at (a .b) (a .buffer .now) (c .before .before .before .loop .i) (c .before .before .loop-test .taken) (le-leb _ _ (c .if1 .taken)))
+    sym (reaches-at (a .b) (a .buffer .now) (c .before .before .before .loop .i)
+    (c .before .before .loop-test .taken) (le-leb _ _ (c .if1 .taken)))
 
 add-i : tie.Need-add-i Inv-loop μ-loop
 add-i c = search needs
@@ -32,11 +33,13 @@ loop-less c = omega arith
 
 loop-again : tie.Need-loop-again Inv-loop μ-loop
 loop-again c = let a = c .before .before .before .before .args in
-    none-here (a .b) (a .buffer .now) (c .before .before .before .loop .i) (c .before .before .before .loop .inv)
+    none-here (a .b) (a .buffer .now) (c .before .before .before .loop .i)
+    (c .before .before .before .loop .inv)
     (c .before .before .loop-test .taken) (lt-leb _ _ (c .if1 .left))
 
 returns-2 : tie.Need-returns-2 Inv-loop μ-loop
-returns-2 c = sym (reaches-not (c .before .before .args .b) (c .before .before .args .buffer .now) (c .before .loop .i) (c .loop-test .left) (c .before .loop .inv .none))
+returns-2 c = sym (reaches-not (c .before .before .args .b) (c .before .before .args .buffer .now)
+    (c .before .loop .i) (c .loop-test .left) (c .before .loop .inv .none))
 
 pub reaches-spec : {M : Type 1} → statement M
 reaches-spec =

@@ -27,7 +27,8 @@ stray-requires c κs = search needs
 
 returns : tie.Need-returns Inv-loop μ-loop
 returns c = let a = c .before .before .before .before .before .before .args in
-    sym (reaches-at (2 ^ a .n) (a .buffer .now) (c .before .before .before .before .loop .i) (c .before .before .before .loop-test .taken)
+    sym (reaches-at (2 ^ a .n) (a .buffer .now) (c .before .before .before .before .loop .i)
+    (c .before .before .before .loop-test .taken)
     (sym (c .before .stray .ensures) ∙ c .if1 .taken))
 
 add-i : tie.Need-add-i Inv-loop μ-loop
@@ -38,11 +39,14 @@ loop-less c = omega arith
 
 loop-again : tie.Need-loop-again Inv-loop μ-loop
 loop-again c = let a = c .before .before .before .before .before .before .args in
-    none-here (2 ^ a .n) (a .buffer .now) (c .before .before .before .before .loop .i) (c .before .before .before .before .loop .inv)
+    none-here (2 ^ a .n) (a .buffer .now) (c .before .before .before .before .loop .i)
+    (c .before .before .before .before .loop .inv)
     (c .before .before .before .loop-test .taken) (sym (c .before .stray .ensures) ∙ c .if1 .left)
 
 returns-2 : tie.Need-returns-2 Inv-loop μ-loop
-returns-2 c = sym (reaches-not (2 ^ c .before .before .before .args .n) (c .before .before .before .args .buffer .now) (c .before .loop .i) (c .loop-test .left) (c .before .loop .inv .none))
+returns-2 c = sym (reaches-not (2 ^ c .before .before .before .args .n)
+    (c .before .before .before .args .buffer .now) (c .before .loop .i) (c .loop-test .left)
+    (c .before .loop .inv .none))
 
 pub strays-spec : {M : Type 1} → statement M
 strays-spec =

@@ -45,7 +45,8 @@ loop-again : tie.Need-loop-again Inv-loop μ-loop
 loop-again c = let L = c .before .before .before .before .loop in
     let a = c .before .before .before .before .before .args in (
       omega arith,
-      column-step (a .rows .now) (a .q) (L .word) (L .j) (L .inv .1) _ _ (c .before .has .ensures) (c .flip-where .ensures),
+      column-step (a .rows .now) (a .q) (L .word) (L .j) (L .inv .1) _ _ (c .before .has .ensures)
+          (c .flip-where .ensures),
     )
 
 returns : tie.Need-returns Inv-loop μ-loop

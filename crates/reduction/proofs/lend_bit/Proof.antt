@@ -9,7 +9,8 @@ has-requires c κs = search needs
 
 returns : tie.Need-returns
 returns c = let S = c .before .before in
-    lent-already _ (S .args .q) (S .args .i) (S .args .holders) (S .pre) (sym (c .before .has .ensures) ∙ c .if1 .taken)
+    lent-already _ (S .args .q) (S .args .i) (S .args .holders) (S .pre) (sym (c .before .has .ensures)
+    ∙ c .if1 .taken)
 
 single-requires : tie.Need-single-requires
 single-requires c κs = search needs
@@ -23,7 +24,8 @@ shear-rows-requires c κs = let S = c .before .before .before .before in
 
 returns-2 : tie.Need-returns-2
 returns-2 c = let S = c .before .before .before .before .before in
-    let lacks = sym (c .before .before .before .before .has .ensures) ∙ c .before .before .before .if1 .left in
+    let lacks = sym (c .before .before .before .before .has .ensures)
+    ∙ c .before .before .before .if1 .left in
     λ j. c .shear-rows .ensures j ∙ lent-now _ _ _ _ (S .pre) lacks _ (c .before .single .ensures) j
 
 pub lend-bit-spec : {M : Type 1} → statement M

@@ -21,7 +21,8 @@ shear-rows-requires c κs = let S = c .before .before .before .before in
 returns : tie.Need-returns
 returns c = let S = c .before .before .before .before .before in
     λ j. c .shear-rows .ensures j
-    ∙ cleared _ _ _ _ (S .pre) _ (c .before .before .before .lend-bit .ensures) _ (c .before .put-bit .ensures) j
+    ∙ cleared _ _ _ _ (S .pre) _ (c .before .before .before .lend-bit .ensures) _
+    (c .before .put-bit .ensures) j
 
 pub pivot-column-spec : {M : Type 1} → statement M
 pivot-column-spec =
