@@ -61,3 +61,17 @@ more-accepted (l ∷ ls) ms n e = go (l .holds) e (more-accepted ls ms (n .1))
         cond b (l .number) (firstFitting (ls ++ ms)) ≡ firstFitting ms
     go true e rest = absurd (lt-irrefl 0 (subst (λ k. 0 < k) e (n .0)))
     go false e rest = rest e
+
+-- ---- the number is one of the lines'
+abbrev pub AllBelow : ℕ → List Line → Type 0
+AllBelow b [] = Unit
+AllBelow b (l ∷ ls) = (l .number < b) × AllBelow b ls
+
+pub first-below : (b : ℕ) (ls : List Line) → 0 < b → AllBelow b ls → firstFitting ls < b
+unfolding firstFitting
+first-below b [] p h = p
+first-below b (l ∷ ls) p h = go (l .holds) (first-below b ls p (h .1))
+  where
+    go : (v : Bool) → firstFitting ls < b → cond v (l .number) (firstFitting ls) < b
+    go true rest = h .0
+    go false rest = rest
