@@ -1,0 +1,1 @@
+// The image of a graph under one local Clifford for each vertex.
