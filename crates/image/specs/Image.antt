@@ -10,7 +10,6 @@ use Rattle.pauli.specs.declared.Letter.{Letter}
 use Rattle.record.specs.Lent.{LentRecord, heldRecord, recordLines}
 use Rattle.record.specs.Records.{GraphRecord, complementAll, rowsOf}
 use Rattle.stabilizer.specs.Groups.{InGroup}
-use Rattle.stabilizer.specs.Lists.{rows}
 use Rattle.stabilizer.specs.Membership.{member}
 use Rattle.words.specs.Bits.{Word}
 use Rattle.words.specs.Search.{some}
