@@ -27,8 +27,12 @@ count-put (suc n) f v b l = go (λ k. count-put n f v b k) (last-or l)
     go : (v < n → countBits n (put f v b) + digit (f v) ≡ countBits n f + digit b) → (v ≡ n) ⊎ (v < n) →
         countBits n (put f v b) + digit (put f v b n) + digit (f v) ≡ countBits n f + digit (f n) + digit b
     go ih (inl p) =
-        omega (arith, count-put-above n f v b (omega (arith, p)),
-        ap digit (ap (put f v b) (sym p) ∙ put-same f v b), ap (λ w. digit (f w)) p)
+        omega (
+          arith,
+          count-put-above n f v b (omega (arith, p)),
+          ap digit (ap (put f v b) (sym p) ∙ put-same f v b),
+          ap (λ w. digit (f w)) p,
+        )
     go ih (inr k) = omega (arith, ih k, ap digit (put-other f v b n (λ e. absurd (omega (arith, e)))))
 
 pub count-le : (n : ℕ) (f : Word) → countBits n f ≤ n

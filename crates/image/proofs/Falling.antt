@@ -77,44 +77,51 @@ pair-is S j k e =
 
 -- after j, D is 1 at k; after k, C is 0 at k and D is 1 at j; after j, C is 0 at j
 module _ (n : ℕ) (S : State) (G : Simple n (S .graph)) (j k : ℕ) (a : j < n) (b : k < n) (P : IsPair S j k)
-    where
-  apart : j ≢ k
-  apart e = absurd (omega (arith, P .above, e))
+  where
+    apart : j ≢ k
+    apart e = absurd (omega (arith, P .above, e))
 
-  abbrev S1 : State
-  S1 = step S j
+    abbrev S1 : State
+    S1 = step S j
 
-  abbrev S2 : State
-  S2 = step S1 k
+    abbrev S2 : State
+    S2 = step S1 k
 
-  C1 : S1 .C ≡ put (S .C) j true
-  C1 = C-after S j (P .Cj) (P .Dj)
+    C1 : S1 .C ≡ put (S .C) j true
+    C1 = C-after S j (P .Cj) (P .Dj)
 
-  C1k : put (S .C) j true k ≡ true
-  C1k = put-other (S .C) j true k (λ e. apart (sym e)) ∙ P .Ck
+    C1k : put (S .C) j true k ≡ true
+    C1k = put-other (S .C) j true k (λ e. apart (sym e)) ∙ P .Ck
 
-  C2 : S2 .C ≡ put (put (S .C) j true) k false
-  C2 = C-after S1 k (ap (λ f. f k) C1 ∙ C1k) (D-neighbour S j k (P .edge) (P .Ck) (P .Dk))
-      ∙ ap (λ f. put f k false) C1
+    C2 : S2 .C ≡ put (put (S .C) j true) k false
+    C2 = C-after S1 k (ap (λ f. f k) C1 ∙ C1k) (D-neighbour S j k (P .edge) (P .Ck) (P .Dk))
+        ∙ ap (λ f. put f k false) C1
 
-  C2j : put (put (S .C) j true) k false j ≡ true
-  C2j = put-other (put (S .C) j true) k false j apart ∙ put-same (S .C) j true
+    C2j : put (put (S .C) j true) k false j ≡ true
+    C2j = put-other (put (S .C) j true) k false j apart ∙ put-same (S .C) j true
 
-  -- the edge is still there after j
-  edge1 : S1 .graph k j ≡ true
-  unfolding step
-  edge1 = ap (λ b. S .graph k j ⊕ ((S .graph j k && b) && not (eqb j k))) (G .loopless j)
-      ∙ ap₂ (λ b c. b ⊕ (c && not (eqb j k))) (G .symmetric k j ∙ P .edge) (and-false (S .graph j k))
+    -- the edge is still there after j
+    edge1 : S1 .graph k j ≡ true
+    unfolding step
+    edge1 = ap (λ b. S .graph k j ⊕ ((S .graph j k && b) && not (eqb j k))) (G .loopless j)
+        ∙ ap₂ (λ b c. b ⊕ (c && not (eqb j k))) (G .symmetric k j ∙ P .edge) (and-false (S .graph j k))
 
-  D2j : S2 .D j ≡ true
-  D2j = D-neighbour S1 k j edge1 (ap (λ f. f j) C1 ∙ put-same (S .C) j true)
-      (D-other S j j (G .loopless j) (P .Dj))
+    D2j : S2 .D j ≡ true
+    D2j = D-neighbour S1 k j edge1 (ap (λ f. f j) C1 ∙ put-same (S .C) j true)
+        (D-other S j j (G .loopless j) (P .Dj))
 
-  C3 : (follow S (j ∷ k ∷ j ∷ [])) .C ≡ put (put (put (S .C) j true) k false) j false
-  C3 = C-after S2 j (ap (λ f. f j) C2 ∙ C2j) D2j ∙ ap (λ f. put f j false) C2
+    C3 : (follow S (j ∷ k ∷ j ∷ [])) .C ≡ put (put (put (S .C) j true) k false) j false
+    C3 = C-after S2 j (ap (λ f. f j) C2 ∙ C2j) D2j ∙ ap (λ f. put f j false) C2
 
-  pub fall-joined : countBits n ((follow S (j ∷ k ∷ j ∷ [])) .C) + 2 ≡ countBits n (S .C)
-  fall-joined =
-      omega (arith, ap (countBits n) C3, count-put n (put (put (S .C) j true) k false) j false a,
+    pub fall-joined : countBits n ((follow S (j ∷ k ∷ j ∷ [])) .C) + 2 ≡ countBits n (S .C)
+    fall-joined =
+        omega (
+          arith,
+          ap (countBits n) C3,
+          count-put n (put (put (S .C) j true) k false) j false a,
           ap digit C2j,
-      count-put n (put (S .C) j true) k false b, ap digit C1k, count-put n (S .C) j true a, ap digit (P .Cj))
+          count-put n (put (S .C) j true) k false b,
+          ap digit C1k,
+          count-put n (S .C) j true a,
+          ap digit (P .Cj),
+        )

@@ -4,3 +4,8 @@ pub mod CountLaws
 pub mod Falling
 pub mod Running
 pub mod TrackedBits
+pub mod Refused
+pub mod Signs
+pub mod Unsigned
+pub mod Accepted
+pub mod Exactly

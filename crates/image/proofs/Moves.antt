@@ -30,7 +30,7 @@ module _ (n : ℕ) (S : State) where
       ∙ ap (λ v. v ∷ []) (first-unique n (both S) v F)
   moves-unique (joined j k none J K) =
       ap₂ (λ a b. cond a (single n S) (cond b (triple n S) [])) (some-none n (both S) none)
-          (first-some (hasPair n S) j J)
+      (first-some (hasPair n S) j J)
       ∙ ap (λ j. j ∷ first n (pair S j) ∷ j ∷ []) (first-unique n (hasPair n S) j J)
       ∙ ap (λ k. j ∷ k ∷ j ∷ []) (first-unique n (pair S j) k K)
   moves-unique (stop none apart) =

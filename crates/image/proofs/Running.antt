@@ -65,9 +65,13 @@ unfolding run
 run-fall n zero S G = omega arith
 run-fall n (suc k) S G =
     let ms = moves n S in
-    omega (arith, length-append ms (run n k (follow S ms)), move-fall n S G (moves-are n S),
-    run-fall n k (follow S ms) (follow-simple n S ms G),
-    ap (λ T. countBits n (T .C)) (follow-append S ms (run n k (follow S ms))))
+    omega (
+      arith,
+      length-append ms (run n k (follow S ms)),
+      move-fall n S G (moves-are n S),
+      run-fall n k (follow S ms) (follow-simple n S ms G),
+      ap (λ T. countBits n (T .C)) (follow-append S ms (run n k (follow S ms))),
+    )
 
 -- so the list has at most 3 n / 2 places: 96 where n is 64
 pub run-length : (n k : ℕ) (S : State) → Simple n (S .graph) → 2 * length (run n k S) ≤ 3 * n
@@ -84,7 +88,7 @@ unfolding run
 stopped-run n zero S H = refl
 stopped-run n (suc k) S H =
     ap (λ ms. ms ++ run n k (follow S ms)) (moves-unique n S (stop (H .no-both) (H .no-pair)))
-        ∙ stopped-run n k S H
+    ∙ stopped-run n k S H
 
 -- a move takes a C away, or there is none
 lower : (n : ℕ) (S : State) {ms : List ℕ} → Simple n (S .graph) → Move n S ms →
@@ -102,8 +106,8 @@ pub run-stops : (n k : ℕ) (S : State) → Simple n (S .graph) → countBits n 
     → Stopped n (follow S (run n k S))
 unfolding run
 run-stops n zero S G h = elim (lower n S G (moves-are n S)) [
-    inl e ↦ at-stop n zero S e
-    | inr l ↦ absurd (omega arith)
+  | inl e ↦ at-stop n zero S e
+  | inr l ↦ absurd (omega arith)
 ]
 run-stops n (suc k) S G h =
     go (run-stops n k (follow S (moves n S)) (follow-simple n S (moves n S) G)) (lower n S G (moves-are n S))
@@ -115,4 +119,4 @@ run-stops n (suc k) S G h =
     go ih (inl e) = at-stop n (suc k) S e
     go ih (inr l) =
         subst (Stopped n) (sym (follow-append S (moves n S) (run n k (follow S (moves n S)))))
-            (ih (omega arith))
+        (ih (omega arith))

@@ -32,12 +32,12 @@ C-13 = onClifford _
 D-13 : (k : Clifford) → bitD (then (cliffordOf 13) k) ≡ bitD k
 D-13 = onClifford _
     (bits 5 (λ a b c d e. bitD (then (cliffordOf 13) (fromFive a b c d e)))
-        (λ a b c d e. bitD (fromFive a b c d e)) tt)
+    (λ a b c d e. bitD (fromFive a b c d e)) tt)
 
 C-6 : (k : Clifford) → bitC (then (cliffordOf 6) k) ≡ bitC k
 C-6 = onClifford _
     (bits 5 (λ a b c d e. bitC (then (cliffordOf 6) (fromFive a b c d e)))
-        (λ a b c d e. bitC (fromFive a b c d e)) tt)
+    (λ a b c d e. bitC (fromFive a b c d e)) tt)
 
 D-6 : (k : Clifford) → bitD (then (cliffordOf 6) k) ≡ bitC k ⊕ bitD k
 D-6 = onClifford _
@@ -51,14 +51,14 @@ bits-follow n r G v = λ i. record { graph = complement (r .graph) v; C = fun-ex
   where
     goC : (own u : Bool) (k : Clifford) →
         bitC (cond own (then (cliffordOf 13) k) (cond u (then (cliffordOf 6) k) k)) ≡ cond own (bitC k
-            ⊕ bitD k) (bitC k)
+        ⊕ bitD k) (bitC k)
     goC true u k = C-13 k
     goC false true k = C-6 k
     goC false false k = refl
 
     goD : (own u : Bool) (k : Clifford) → (own && u) ≡ false →
         bitD (cond own (then (cliffordOf 13) k) (cond u (then (cliffordOf 6) k) k)) ≡ cond u (bitC k
-            ⊕ bitD k) (bitD k)
+        ⊕ bitD k) (bitD k)
     goD true true k e = absurd (true≢false e)
     goD true false k e = D-13 k
     goD false true k e = D-6 k

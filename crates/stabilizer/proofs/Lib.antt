@@ -5,3 +5,4 @@ pub mod Carried
 pub mod RowOperations
 pub mod Independence
 pub mod Within
+pub mod MembershipLaws
