@@ -9,3 +9,9 @@ pub mod Signs
 pub mod Unsigned
 pub mod Accepted
 pub mod Exactly
+pub mod Mapping
+pub mod EdgeWords
+pub mod Recoding
+pub mod Stepping
+pub mod StepLists
+pub mod Searching

@@ -91,12 +91,12 @@ stopped-run n (suc k) S H =
     ∙ stopped-run n k S H
 
 -- a move takes a C away, or there is none
-lower : (n : ℕ) (S : State) {ms : List ℕ} → Simple n (S .graph) → Move n S ms →
+pub move-lower : (n : ℕ) (S : State) {ms : List ℕ} → Simple n (S .graph) → Move n S ms →
     Stopped n S ⊎ (countBits n ((follow S ms) .C) < countBits n (S .C))
-lower n S G (alone v F) = inr (omega (arith, fall-alone n S v (F .below) (F .passes)))
-lower n S G (joined j k none J K) =
+move-lower n S G (alone v F) = inr (omega (arith, fall-alone n S v (F .below) (F .passes)))
+move-lower n S G (joined j k none J K) =
     inr (omega (arith, fall-joined n S G j k (J .below) (K .below) (pair-is S j k (K .passes))))
-lower n S G (stop none apart) = inl (record { no-both = none; no-pair = apart })
+move-lower n S G (stop none apart) = inl (record { no-both = none; no-pair = apart })
 
 at-stop : (n k : ℕ) (S : State) → Stopped n S → Stopped n (follow S (run n k S))
 at-stop n k S H = subst (λ ms. Stopped n (follow S ms)) (sym (stopped-run n k S H)) H
@@ -105,12 +105,12 @@ at-stop n k S H = subst (λ ms. Stopped n (follow S ms)) (sym (stopped-run n k S
 pub run-stops : (n k : ℕ) (S : State) → Simple n (S .graph) → countBits n (S .C) ≤ k
     → Stopped n (follow S (run n k S))
 unfolding run
-run-stops n zero S G h = elim (lower n S G (moves-are n S)) [
+run-stops n zero S G h = elim (move-lower n S G (moves-are n S)) [
   | inl e ↦ at-stop n zero S e
   | inr l ↦ absurd (omega arith)
 ]
 run-stops n (suc k) S G h =
-    go (run-stops n k (follow S (moves n S)) (follow-simple n S (moves n S) G)) (lower n S G (moves-are n S))
+    go (run-stops n k (follow S (moves n S)) (follow-simple n S (moves n S) G)) (move-lower n S G (moves-are n S))
   where
     go : (countBits n ((follow S (moves n S)) .C) ≤ k →
         Stopped n (follow (follow S (moves n S)) (run n k (follow S (moves n S)))))
