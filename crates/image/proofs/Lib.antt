@@ -15,3 +15,6 @@ pub mod Recoding
 pub mod Stepping
 pub mod StepLists
 pub mod Searching
+pub mod WordMoves
+pub mod Rounds
+pub mod KindsOfRound
