@@ -18,3 +18,7 @@ pub mod Searching
 pub mod WordMoves
 pub mod Rounds
 pub mod KindsOfRound
+pub mod CodeBits
+pub mod SignBytes
+pub mod Beginning
+pub mod Answering

@@ -4,9 +4,10 @@ use mathlib.Core.List.{List}
 use mathlib.Core.Logic.{inl, inr}
 use mathlib.Core.Path.{refl, subst, sym, _∙_, _≡_}
 use Prim.Native.Nat.{_+_, _<_, ℕ, _≤_}
-use native.Mathlib.Nat.{not-suc-le-zero}
+use native.Mathlib.Nat.{le-of-eq, le-trans, not-suc-le-zero}
 use native.Mathlib.Omega.{arith}
-use lib.ListN.{getD, length, length-set, set}
+use lib.ListN.{List·getD-eq-default, getD, getD-replicate, length, length-replicate, length-set, replicate,
+    set}
 use lib.Seq.{getD-set-other, getD-set-same}
 use borrow.Author.Count.{below-more}
 use Rattle.words.proofs.Sums.{lt-or-ge}
@@ -41,3 +42,28 @@ module _ (P : ℕ → ℕ → Type 0) (xs : List ℕ) where
     inl l ↦ M .done i l
     | inr l ↦ subst (P i) (sym (M .rest i l)) (h i (omega arith))
   ]
+
+-- ---- arrays that start with zeros
+unfoldable pub zeros : ℕ → List ℕ
+zeros n = replicate n 0
+
+pub zeros-long : (n : ℕ) → length (zeros n) ≡ n
+unfolding zeros
+zeros-long n = length-replicate n 0
+
+pub zeros-at : (n i : ℕ) → getD (zeros n) i 0 ≡ 0
+unfolding zeros
+zeros-at n i = elim (lt-or-ge i n) [
+    inl l ↦ getD-replicate n i 0 0 l
+    | inr l ↦ List·getD-eq-default (replicate n 0) 0 (le-trans (le-of-eq (length-replicate n 0)) l)
+]
+
+-- a lent buffer copied into them
+abbrev pub CopyOf : List ℕ → ℕ → ℕ → Type 0
+CopyOf lent i v = v ≡ getD lent i 0
+
+pub copied-all : (m : ℕ) (lent ys : List ℕ) (k : ℕ) → Mapped (CopyOf lent) (zeros m) ys k → length lent ≤ k →
+    k ≤ length lent → (i : ℕ) → getD ys i 0 ≡ getD lent i 0
+copied-all m lent ys k M a b =
+    mapped-end (CopyOf lent) (zeros m) ys (length lent) k M a b
+    (λ i l. zeros-at m i ∙ sym (List·getD-eq-default lent 0 l))

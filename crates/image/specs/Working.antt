@@ -12,6 +12,7 @@ use Rattle.clifford.specs.Clifford.{Clifford, bitC, bitD, image}
 use Rattle.clifford.specs.Vectors.{codesOf}
 use Rattle.graph.specs.Graph.{Graph, Simple}
 use Rattle.pauli.specs.declared.Letter.the-variants.{X}
+use Rattle.record.specs.Lent.{LentRecord, heldRecord}
 use Rattle.record.specs.Records.{GraphRecord, complementAll}
 use Rattle.words.specs.Bits.{bit, digit, wordOf}
 use Rattle.image.specs.Image.{imageGraph, imageMinus, isY, loopLines}
@@ -39,6 +40,12 @@ pub record Tracking (n : ℕ) (w : Working) : Type 0 where
   pub D : (q : ℕ) → q < n → bit (w .d) q ≡ bitD (codesOf (w .codes) q)
   pub above : (q : ℕ) → n ≤ q → bit (w .c) q ≡ false
   pub places : length (w .list) ≡ 96
+
+-- the start: the lent record, and nothing on the list
+pub record Begun (l : LentRecord) (r : Working) : Type 0 where
+  pub held : workingRecord r ≡ heldRecord l
+  pub empty : r .count ≡ 0
+  pub tracking : Tracking (l .n) r
 
 -- r is w complemented at these vertices, one after another, and they are put on the list
 pub record Complemented (n : ℕ) (w : Working) (vertices : List ℕ) (r : Working) : Type 0 where
