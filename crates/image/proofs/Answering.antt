@@ -6,6 +6,7 @@ use mathlib.Core.Logic.{inl, inr, _⊎_}
 use mathlib.Core.Path.{ap, ap₂, refl, sym, _∙_, _≡_}
 use Prim.Native.Nat.{_+_, _<_, _^_, ℕ, _≤_}
 use native.Mathlib.Nat.{zero-add}
+use native.Mathlib.Omega.{arith}
 use lib.Dec.{T, eqb}
 use lib.ListN.{getD, length, take}
 use borrow.Author.Tests.{eq-eqb, le-ltb, lt-ltb}
@@ -26,16 +27,17 @@ use Rattle.words.specs.Bits.{bit, digit, dot, wordOf, _⊕_}
 use Rattle.words.specs.Search.{IsFirst, first, some}
 use Rattle.image.proofs.Accepted.{image-minus}
 use Rattle.image.proofs.Refused.{own-letter}
+use Rattle.image.proofs.Rounds.{room}
 use Rattle.image.proofs.SignBytes.{sign-formula}
 use Rattle.image.proofs.Signs.{minusAt}
-use Rattle.image.proofs.TrackedBits.{image-bits, image-simple}
+use Rattle.image.proofs.TrackedBits.{image-bits, image-length, image-simple}
 use Rattle.image.proofs.WordMoves.{set-bit}
 use Rattle.image.specs.Image.{imageGraph, imageMinus, imageRecord, isY, loopLines, looped, stuck}
 use Rattle.image.specs.Rule.{imageList}
 use Rattle.image.specs.Working.{Begun, Complemented, IsImage, Tracking, WordsOf, workingRecord}
-use Rattle.image.specs.declared.CodeWords.{CodeWords}
 use Rattle.image.specs.declared.ImageAnswer.{ImageAnswer}
-use Rattle.image.specs.declared.Working.{Working}
+use Rattle.image.specs.declared.bits_of_codes.CodeWords.{CodeWords}
+use Rattle.image.specs.declared.complementing.Working.{Working}
 
 -- a set of vertices as a word: some vertex is in it where the word is not 0
 some-word : (n w : ℕ) (f : ℕ → Bool) → ((q : ℕ) → q < n → bit w q ≡ f q) → ((q : ℕ) → n ≤ q → bit w q ≡ false)
@@ -48,7 +50,7 @@ some-word n w f same above = go (first-is n f)
         some-in n f (first n f) (F .below) (F .passes)
         ∙ sym (set-bit w (first n f) (same (first n f) (F .below) ∙ F .passes))
     go (inr N) = some-none n f N ∙ sym (ap not (eq-eqb w 0 (bit-ext∞ w 0 (λ q. elim (lt-or-ge q n) [
-      inl l ↦ same q l ∙ N q l ∙ sym (zero-bit q)
+      | inl l ↦ same q l ∙ N q l ∙ sym (zero-bit q)
       | inr l ↦ above q l ∙ sym (zero-bit q)
     ]))))
 
@@ -115,7 +117,7 @@ pub answered : (l : LentRecord) → AcceptedRecord l → (start end : Working) �
     WordsOf (l .n) (codesOf (end .codes)) k → (a : ImageAnswer) →
     a .number ≡ cond (eqb (end .c) 0) (cond (eqb (k .y) 0) 0 12) 11 → a .graph ≡ end .neighbours →
     ((j : ℕ) → j < l .n → getD (a .signs) j 0 ≡ digit (bit (k .sx) j
-        ⊕ dot (getD (end .neighbours) j 0) (k .sz))) →
+    ⊕ dot (getD (end .neighbours) j 0) (k .sz))) →
     a .list ≡ end .list → a .count ≡ end .count → IsImage (l .n) (heldRecord l) a
 answered l A start end B C k W a number graph signs list count =
     record {
@@ -126,7 +128,8 @@ answered l A start end B C k W a number graph signs list count =
           ∙ e) j m);
       list = ap₂ take count list ∙ C .list
           ∙ ap₂ _++_ (ap (λ c. take c (start .list)) (B .empty)) (ap (imageList n) (B .held));
-      count = count ∙ C .count ∙ ap₂ _+_ (B .empty) (ap (λ s. length (imageList n s)) (B .held)) ∙ zero-add _;
+      count = counted;
+      room = omega (arith, counted, image-length n r G, A .at-most);
     }
   where
     n : ℕ
@@ -143,3 +146,6 @@ answered l A start end B C k W a number graph signs list count =
 
     held : workingRecord end ≡ imageRecord n r
     held = C .held ∙ ap (imageRecord n) (B .held)
+
+    counted : a .count ≡ length (imageList n r)
+    counted = count ∙ C .count ∙ ap₂ _+_ (B .empty) (ap (λ s. length (imageList n s)) (B .held)) ∙ zero-add _

@@ -17,8 +17,8 @@ use Rattle.record.specs.Lent.{LentRecord, heldRecord}
 use Rattle.words.proofs.Sums.{lt-or-ge}
 use Rattle.words.specs.Bits.{bit}
 use Rattle.image.specs.Working.{Begun, WordsOf, workingRecord}
-use Rattle.image.specs.declared.CodeWords.{CodeWords}
-use Rattle.image.specs.declared.Working.{Working}
+use Rattle.image.specs.declared.bits_of_codes.CodeWords.{CodeWords}
+use Rattle.image.specs.declared.complementing.Working.{Working}
 
 module _ (l : LentRecord) (A : AcceptedRecord l) (codes : List ℕ)
     (same-codes : (i : ℕ) → getD codes i 0 ≡ getD (l .codes) i 0) where

@@ -19,7 +19,7 @@ use Rattle.words.proofs.Sums.{lt-or-ge}
 use Rattle.words.specs.Bits.{bit, put}
 use Rattle.image.specs.Image.{isY}
 use Rattle.image.specs.Working.{WordsOf}
-use Rattle.image.specs.declared.CodeWords.{CodeWords}
+use Rattle.image.specs.declared.bits_of_codes.CodeWords.{CodeWords}
 
 -- a word with the bits of f below i
 bits-none : (f : ℕ → Bool) (q : ℕ) → bit 0 q ≡ (ltb q 0 && f q)
@@ -39,7 +39,7 @@ bits-more f w r q b before stored e j = stored j ∙ go (ℕ-discrete j q) (lt-o
     go (no d) (inr l) =
         put-other (bit w) q b j d ∙ before j
         ∙ ap (λ t. t && f j) (le-ltb j q l
-            ∙ sym (le-ltb j (q + 1) (omega (arith, lt-of-le-ne l (λ e. d (sym e))))))
+        ∙ sym (le-ltb j (q + 1) (omega (arith, lt-of-le-ne l (λ e. d (sym e))))))
 
 pub words-none : (k : ℕ → Clifford) → WordsOf 0 k (record { c = 0; d = 0; y = 0; sx = 0; sz = 0 })
 words-none k =

@@ -12,13 +12,20 @@ use Rattle.words.specs.Bits.{bit}
 use Rattle.words.specs.Search.{first}
 use Rattle.image.proofs.CountLaws.{countBits}
 use Rattle.image.proofs.Moves.{Move}
-use Rattle.image.proofs.Rounds.{Reached, alone-falls, joined-falls, room, round-again, round-end,
-    round-less}
+use Rattle.image.proofs.Rounds.{
+  Reached,
+  alone-falls,
+  joined-falls,
+  room,
+  round-again,
+  round-end,
+  round-less,
+}
 use Rattle.image.proofs.Running.{below-at, move-below}
 use Rattle.image.proofs.WordMoves.{joined-below, word-alone, word-joined, word-stopped}
 use Rattle.image.specs.Rule.{State, follow, imageList, stateOf}
 use Rattle.image.specs.Working.{Complemented, Tracking, joinedIn, workingRecord}
-use Rattle.image.specs.declared.Working.{Working}
+use Rattle.image.specs.declared.complementing.Working.{Working}
 
 module _ (n : ℕ) (start w : Working) (small : n ≤ 64) (empty : start .count ≡ 0) (T : Tracking n start)
     (R : Reached n start w) where
@@ -38,9 +45,12 @@ module _ (n : ℕ) (start w : Working) (small : n ≤ 64) (empty : start .count 
     single-falls = alone-falls n S single-move
 
     pub single-ready : (n ≤ 64) × (v < n) × (w .count < 96) × Tracking n w
-    single-ready =
-        (small, below-at (move-below single-move) 0 (lit< tt),
-        omega (arith, room n start w small empty T R (v ∷ []) single-move single-falls), now-tracking)
+    single-ready = (
+      small,
+      below-at (move-below single-move) 0 (lit< tt),
+      omega (arith, room n start w small empty T R (v ∷ []) single-move single-falls),
+      now-tracking,
+    )
 
     pub single-again : (r : Working) → Complemented n w (v ∷ []) r → Reached n start r
     single-again = round-again n start w small empty T R (v ∷ []) single-move single-falls
@@ -69,10 +79,13 @@ module _ (n : ℕ) (start w : Working) (small : n ≤ 64) (empty : start .count 
       triple-falls = joined-falls n S (now-tracking .simple) triple-move
 
       pub triple-ready : (n ≤ 64) × (j < n) × (k < n) × (w .count + 2 < 96) × Tracking n w
-      triple-ready =
-          (small, pair-below some-pair, below-at (move-below triple-move) 1 (lit< tt),
-          omega (arith, room n start w small empty T R (j ∷ k ∷ j ∷ []) triple-move triple-falls),
-              now-tracking)
+      triple-ready = (
+        small,
+        pair-below some-pair,
+        below-at (move-below triple-move) 1 (lit< tt),
+        omega (arith, room n start w small empty T R (j ∷ k ∷ j ∷ []) triple-move triple-falls),
+        now-tracking,
+      )
 
       pub triple-again : (r : Working) → Complemented n w (j ∷ k ∷ j ∷ []) r → Reached n start r
       triple-again = round-again n start w small empty T R (j ∷ k ∷ j ∷ []) triple-move triple-falls

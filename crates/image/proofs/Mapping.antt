@@ -6,8 +6,16 @@ use mathlib.Core.Path.{refl, subst, sym, _∙_, _≡_}
 use Prim.Native.Nat.{_+_, _<_, ℕ, _≤_}
 use native.Mathlib.Nat.{le-of-eq, le-trans, not-suc-le-zero}
 use native.Mathlib.Omega.{arith}
-use lib.ListN.{List·getD-eq-default, getD, getD-replicate, length, length-replicate, length-set, replicate,
-    set}
+use lib.ListN.{
+  List·getD-eq-default,
+  getD,
+  getD-replicate,
+  length,
+  length-replicate,
+  length-set,
+  replicate,
+  set,
+}
 use lib.Seq.{getD-set-other, getD-set-same}
 use borrow.Author.Count.{below-more}
 use Rattle.words.proofs.Sums.{lt-or-ge}
@@ -29,7 +37,7 @@ module _ (P : ℕ → ℕ → Type 0) (xs : List ℕ) where
         long = length-set ys k v ∙ M .long;
         done = below-more (λ i. P i (getD (set ys k v) i 0)) k
             (λ i m. subst (P i) (sym (getD-set-other ys k i v 0 (λ e. absurd (omega (arith, e, m)))))
-                (M .done i m))
+            (M .done i m))
             (subst (P k) (sym (getD-set-same ys k v 0 (omega (arith, M .long)))) h);
         rest = λ i m. getD-set-other ys k i v 0 (λ e. absurd (omega (arith, e, m))) ∙ M .rest i (omega arith);
       }
@@ -39,7 +47,7 @@ module _ (P : ℕ → ℕ → Type 0) (xs : List ℕ) where
       → ((i : ℕ) → n ≤ i → P i (getD xs i 0)) →
       (i : ℕ) → P i (getD ys i 0)
   mapped-end ys n k M a b h i = elim (lt-or-ge i k) [
-    inl l ↦ M .done i l
+    | inl l ↦ M .done i l
     | inr l ↦ subst (P i) (sym (M .rest i l)) (h i (omega arith))
   ]
 
@@ -54,8 +62,8 @@ zeros-long n = length-replicate n 0
 pub zeros-at : (n i : ℕ) → getD (zeros n) i 0 ≡ 0
 unfolding zeros
 zeros-at n i = elim (lt-or-ge i n) [
-    inl l ↦ getD-replicate n i 0 0 l
-    | inr l ↦ List·getD-eq-default (replicate n 0) 0 (le-trans (le-of-eq (length-replicate n 0)) l)
+  | inl l ↦ getD-replicate n i 0 0 l
+  | inr l ↦ List·getD-eq-default (replicate n 0) 0 (le-trans (le-of-eq (length-replicate n 0)) l)
 ]
 
 -- a lent buffer copied into them

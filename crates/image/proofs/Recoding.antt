@@ -21,10 +21,12 @@ CodeAt codes around v q k = (cliffordOf k ≡ recoded (λ _. bit around) v (code
 -- at and above n nothing changes
 pub codes-above : (n around v : ℕ) (codes : List ℕ) → v < n → ((q : ℕ) → n ≤ q → bit around q ≡ false) →
     ((q : ℕ) → getD codes q 0 < 24) → (q : ℕ) → n ≤ q → CodeAt codes around v q (getD codes q 0)
-codes-above n around v codes l none below q m =
-    (sym (ap₂ (λ own near. cond own (then (cliffordOf 13) (codesOf codes q))
-    (cond near (then (cliffordOf 6) (codesOf codes q)) (codesOf codes q)))
-    (other-place {i = q} {j = v} (λ e. absurd (omega (arith, e)))) (none q m)), below q)
+codes-above n around v codes l none below q m = (
+  sym (ap₂ (λ own near. cond own (then (cliffordOf 13) (codesOf codes q))
+      (cond near (then (cliffordOf 6) (codesOf codes q)) (codesOf codes q)))
+      (other-place {i = q} {j = v} (λ e. absurd (omega (arith, e)))) (none q m)),
+  below q,
+)
 
 -- the code that a call of the table hands back
 pub recoded-by : (a old new : ℕ) → new ≡ codeOf (then (cliffordOf a) (cliffordOf old)) →
@@ -35,7 +37,9 @@ recoded-by a old new e = ap cliffordOf e ∙ cliffordOf-codeOf (then (cliffordOf
 pub code-here : (codes : List ℕ) (around v q new : ℕ) (near : Bool) → near ≡ bit around q →
     cliffordOf new ≡ cond (eqb q v) (then (cliffordOf 13) (codesOf codes q))
     (cond near (then (cliffordOf 6) (codesOf codes q)) (codesOf codes q)) → new < 24
-        → CodeAt codes around v q new
-code-here codes around v q new near e h l =
-    (h ∙ ap (λ b. cond (eqb q v) (then (cliffordOf 13) (codesOf codes q))
-    (cond b (then (cliffordOf 6) (codesOf codes q)) (codesOf codes q))) e, l)
+    → CodeAt codes around v q new
+code-here codes around v q new near e h l = (
+  h ∙ ap (λ b. cond (eqb q v) (then (cliffordOf 13) (codesOf codes q))
+      (cond b (then (cliffordOf 6) (codesOf codes q)) (codesOf codes q))) e,
+  l,
+)

@@ -16,7 +16,7 @@ use Rattle.image.proofs.Running.{Stopped, run-length, stopped-run}
 use Rattle.image.proofs.StepLists.{complemented-append, complemented-none, complemented-state}
 use Rattle.image.specs.Rule.{State, follow, imageList, run, stateOf}
 use Rattle.image.specs.Working.{Complemented, Tracking, workingRecord}
-use Rattle.image.specs.declared.Working.{Working}
+use Rattle.image.specs.declared.complementing.Working.{Working}
 
 -- the complementations done so far, and what is left of the list
 pub record Reached (n : ℕ) (start w : Working) : Type 0 where
@@ -80,9 +80,14 @@ module _ (n : ℕ) (start w : Working) (small : n ≤ 64) (empty : start .count 
     -- the list has room
     pub room : w .count + length ms ≤ 96
     room =
-        omega (arith, R .so-far .count, run-length n n (stateOf (workingRecord start)) (T .simple),
-            ap length rest-is,
-        length-append (R .done ++ ms) (run n after (follow S ms)), length-append (R .done) ms)
+        omega (
+          arith,
+          R .so-far .count,
+          run-length n n (stateOf (workingRecord start)) (T .simple),
+          ap length rest-is,
+          length-append (R .done ++ ms) (run n after (follow S ms)),
+          length-append (R .done) ms,
+        )
 
     pub round-again : (r : Working) → Complemented n w ms r → Reached n start r
     round-again r C =
@@ -90,9 +95,15 @@ module _ (n : ℕ) (start w : Working) (small : n ≤ 64) (empty : start .count 
           done = R .done ++ ms;
           so-far = complemented-append (R .so-far) C;
           left = after;
-          enough = omega (arith, one-less, R .enough, falls, count-word n w (R .so-far .tracking),
-              count-word n r (C .tracking),
-              ap (λ s. countBits n (s .C)) state);
+          enough = omega (
+            arith,
+            one-less,
+            R .enough,
+            falls,
+            count-word n w (R .so-far .tracking),
+            count-word n r (C .tracking),
+            ap (λ s. countBits n (s .C)) state,
+          );
           rest = rest-is ∙ ap (λ s. (R .done ++ ms) ++ run n after s) (sym state);
         }
       where
@@ -102,12 +113,17 @@ module _ (n : ℕ) (start w : Working) (small : n ≤ 64) (empty : start .count 
     pub round-less : (r : Working) → Complemented n w ms r
         → countBits n (bit (r .c)) < countBits n (bit (w .c))
     round-less r C =
-        omega (arith, falls, count-word n w (R .so-far .tracking), count-word n r (C .tracking),
-        ap (λ s. countBits n (s .C)) (complemented-state n w r ms (R .so-far .tracking) C))
+        omega (
+          arith,
+          falls,
+          count-word n w (R .so-far .tracking),
+          count-word n r (C .tracking),
+          ap (λ s. countBits n (s .C)) (complemented-state n w r ms (R .so-far .tracking) C),
+        )
 
 pub round-end : (n : ℕ) (start w : Working) → Reached n start w → Stopped n (stateOf (workingRecord w)) →
     Complemented n start (imageList n (workingRecord start)) w
 round-end n start w R H =
     subst (λ vs. Complemented n start vs w)
     (sym (R .rest ∙ ap (λ vs. R .done ++ vs) (stopped-run n (R .left) _ H) ∙ append-nil (R .done)))
-        (R .so-far)
+    (R .so-far)

@@ -13,7 +13,7 @@ use Rattle.words.proofs.Sums.{fold-ext}
 use Rattle.words.specs.Bits.{bit, digit, dot, _⊕_}
 use Rattle.image.proofs.Signs.{minusAt}
 use Rattle.image.specs.Working.{WordsOf, wordGraph}
-use Rattle.image.specs.declared.CodeWords.{CodeWords}
+use Rattle.image.specs.declared.bits_of_codes.CodeWords.{CodeWords}
 
 -- the sign at j: of X at j, and of Z at the neighbours of j
 abbrev pub SignAt : List ℕ → ℕ → ℕ → ℕ → ℕ → Type 0
@@ -32,6 +32,6 @@ pub sign-formula : (n : ℕ) (words : List ℕ) (c : ℕ → Clifford) (k : Code
 sign-formula n words c k W j l h =
     ap₂ _⊕_ (W .SX j ∙ ap (λ b. b && (c j) .sx) (lt-ltb j n l))
     (dot-bits n (getD words j 0) (k .sz) h
-        (lt-of-bits n (k .sz) (λ q m. W .SZ q ∙ ap (λ b. b && (c q) .sz) (le-ltb q n m)))
+    (lt-of-bits n (k .sz) (λ q m. W .SZ q ∙ ap (λ b. b && (c q) .sz) (le-ltb q n m)))
     ∙ fold-ext false _⊕_ n (λ q m. ap (λ b. bit (getD words j 0) q && b)
     (W .SZ q ∙ ap (λ b. b && (c q) .sz) (lt-ltb q n m))))

@@ -11,12 +11,17 @@ use Rattle.record.specs.Records.{complementAll}
 use Rattle.image.proofs.TrackedBits.{all-append, all-bits}
 use Rattle.image.specs.Rule.{follow, stateOf}
 use Rattle.image.specs.Working.{Complemented, Tracking, listed, workingRecord}
-use Rattle.image.specs.declared.Working.{Working}
+use Rattle.image.specs.declared.complementing.Working.{Working}
 
 pub complemented-none : (n : ℕ) (w : Working) → Tracking n w → Complemented n w [] w
 complemented-none n w T =
-    record { held = refl; list = sym (append-nil (listed w)); count = sym (add-zero (w .count)); tracking =
-        T }
+    record {
+      held = refl;
+      list = sym (append-nil (listed w));
+      count = sym (add-zero (w .count));
+      tracking =
+          T;
+    }
 
 pub complemented-append : {n : ℕ} {w u r : Working} {a b : List ℕ} → Complemented n w a u
     → Complemented n u b r →

@@ -24,7 +24,7 @@ use Rattle.words.specs.Bits.{bit, put, _⊕_}
 use Rattle.image.proofs.TrackedBits.{bits-follow}
 use Rattle.image.specs.Rule.{State, single, stateOf, step}
 use Rattle.image.specs.Working.{Complemented, Tracking, wordGraph, workingRecord}
-use Rattle.image.specs.declared.Working.{Working}
+use Rattle.image.specs.declared.complementing.Working.{Working}
 
 module _ (n : ℕ) (w : Working) (v : ℕ) (l : v < n) (T : Tracking n w) where
   abbrev around : ℕ
@@ -38,7 +38,7 @@ module _ (n : ℕ) (w : Working) (v : ℕ) (l : v < n) (T : Tracking n w) where
   unfolding step
   c-after mask e q = bit-xor (w .c) (bitAnd (w .d) mask) q
       ∙ ap (λ b. bit (w .c) q ⊕ b) (bit-and (w .d) mask q
-          ∙ ap (λ b. bit (w .d) q && b) (ap (λ m. bit m q) e ∙ bit-single v q))
+      ∙ ap (λ b. bit (w .d) q && b) (ap (λ m. bit m q) e ∙ bit-single v q))
       ∙ go (ℕ-discrete q v)
     where
       go : Dec (q ≡ v) → bit (w .c) q ⊕ (bit (w .d) q && eqb q v) ≡ put (S .C) v (S .C v ⊕ S .D v) q
@@ -67,7 +67,7 @@ module _ (n : ℕ) (w : Working) (v : ℕ) (l : v < n) (T : Tracking n w) where
   unfolding step
   above-after mask e q k =
       c-after mask e q ∙ put-other (S .C) v (S .C v ⊕ S .D v) q (λ p. absurd (omega (arith, p)))
-          ∙ sym (T .C q) ∙ T .above q k
+      ∙ sym (T .C q) ∙ T .above q k
 
   module _ (small : w .count < 96) (words codes : List ℕ) (mask : ℕ)
       (edges : (i j : ℕ) → wordGraph words i j ≡ complement (wordGraph (w .neighbours)) v i j)

@@ -24,7 +24,7 @@ use Rattle.image.proofs.Moves.{Move, alone, joined}
 use Rattle.image.proofs.Running.{Stopped}
 use Rattle.image.specs.Rule.{State, both, onlyC, pair, stateOf}
 use Rattle.image.specs.Working.{Tracking, joinedIn, workingRecord}
-use Rattle.image.specs.declared.Working.{Working}
+use Rattle.image.specs.declared.complementing.Working.{Working}
 
 -- ---- words with no bit at or above n
 -- the smallest set bit of a word that is not 0
@@ -41,7 +41,7 @@ smallest-in n w h above nonzero = go (trailing-is 64 w)
     go (inl F) = record { below = inside _ (F .passes); passes = F .passes; least = F .least }
     go (inr N) =
         absurd (nonzero (bit-ext∞ w 0 (λ q. elim (lt-or-ge q 64) [
-          inl l ↦ N .0 q l ∙ sym (zero-bit q)
+          | inl l ↦ N .0 q l ∙ sym (zero-bit q)
           | inr l ↦ above q (omega arith) ∙ sym (zero-bit q)
         ])))
 
@@ -120,14 +120,14 @@ module _ (n : ℕ) (small : n ≤ 64) (w : Working) (T : Tracking n w) where
       where
         none : (i : ℕ) → i < n → search i ≡ false
         none i l = elim (first-is n search) [
-          inl F ↦ absurd (omega (arith, F .below, found, e))
+          | inl F ↦ absurd (omega (arith, F .below, found, e))
           | inr N ↦ N i l
         ]
 
     module _ (j : ℕ) (found : j ≡ first n search) (some-pair : j ≡ n → ⊥) where
       first-j : IsFirst n search j
       first-j = elim (first-is n search) [
-        inl F ↦ subst (IsFirst n search) (sym found) F
+        | inl F ↦ subst (IsFirst n search) (sym found) F
         | inr N ↦ absurd (some-pair (found ∙ first-none n search N))
       ]
 
@@ -145,7 +145,7 @@ module _ (n : ℕ) (small : n ≤ 64) (w : Working) (T : Tracking n w) where
       first-k : IsFirst n (bit (among j)) k
       first-k = smallest-in n (among j) small
           (λ q l. among-bit j q ∙ ap (λ b. S .graph j q && b) (sym (T .C q) ∙ T .above q l)
-              ∙ and-false (S .graph j q))
+          ∙ and-false (S .graph j q))
           (λ e. false≢true (ap (λ v. not (eqb v 0)) (sym e) ∙ in-set .1))
 
       to-k : (S .graph j k ≡ true) × (S .C k ≡ true)
@@ -154,7 +154,7 @@ module _ (n : ℕ) (small : n ≤ 64) (w : Working) (T : Tracking n w) where
       -- a smaller neighbour would itself have been found first
       j-below-k : j < k
       j-below-k = elim (lt-or-ge j k) [
-        inl l ↦ l
+        | inl l ↦ l
         | inr l ↦ absurd (not-above (ℕ-discrete k j) l)
       ]
         where

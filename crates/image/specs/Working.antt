@@ -17,9 +17,9 @@ use Rattle.record.specs.Records.{GraphRecord, complementAll}
 use Rattle.words.specs.Bits.{bit, digit, wordOf}
 use Rattle.image.specs.Image.{imageGraph, imageMinus, isY, loopLines}
 use Rattle.image.specs.Rule.{imageList}
-use Rattle.image.specs.declared.CodeWords.{CodeWords}
 use Rattle.image.specs.declared.ImageAnswer.{ImageAnswer}
-use Rattle.image.specs.declared.Working.{Working}
+use Rattle.image.specs.declared.bits_of_codes.CodeWords.{CodeWords}
+use Rattle.image.specs.declared.complementing.Working.{Working}
 
 -- the graph of neighbour words; no neighbours past the array
 abbrev pub wordGraph : List ℕ → Graph
@@ -76,3 +76,4 @@ pub record IsImage (n : ℕ) (r : GraphRecord) (a : ImageAnswer) : Type 0 where
   pub signs : a .number ≡ 0 → (j : ℕ) → j < n → getD (a .signs) j 0 ≡ digit (imageMinus n r j)
   pub list : take (a .count) (a .list) ≡ imageList n r
   pub count : a .count ≡ length (imageList n r)
+  pub room : a .count ≤ 96

@@ -1,29 +1,26 @@
-use Rattle.image.proofs.Beginning.{begun, copied-below}
 use mathlib.Core.Path.{refl}
 use borrow.Author.Needs.{needs}
+use Rattle.image.proofs.Beginning.{begun, copied-below}
 use Rattle.image.proofs.begin.Statement.{statement}
 use Rattle.image.proofs.begin.Tie as tie
-use Rattle.image.proofs.begin.Reads as reads
-use Rattle.image.proofs.begin.Lts as lts
-use Rattle.image.proofs.code_words.Reads as code-words-reads
-use Rattle.image.proofs.copied_codes.Reads as copied-codes-reads
-use Rattle.image.proofs.copied_words.Reads as copied-words-reads
 
--- src/lib.rt:275:9
 copied-codes-requires : tie.Need-copied-codes-requires
 copied-codes-requires c κs = search needs
 
--- src/lib.rt:276:9
 code-words-requires : tie.Need-code-words-requires
-code-words-requires c κs = let s = c .before .before .before in (s .pre .at-most, copied-below _ (s .pre) (c .copied-codes .result) (c .copied-codes .ensures))
+code-words-requires c κs =
+    let s = c .before .before .before in
+    (s .pre .at-most, copied-below _ (s .pre) (c .copied-codes .result) (c .copied-codes .ensures))
 
--- src/lib.rt:278:21
 copied-words-requires : tie.Need-copied-words-requires
 copied-words-requires c κs = search needs
 
--- src/lib.rt:271:1
 returns : tie.Need-returns
-returns c = let s = c .before .before .before .before .before in begun _ (s .pre) (c .before .before .copied-codes .result) (c .before .before .copied-codes .ensures) (c .copied-words .result) _ (c .before .code-words .result) (c .copied-words .ensures) (c .before .code-words .ensures) refl
+returns c =
+    let s = c .before .before .before .before .before in
+    begun _ (s .pre) (c .before .before .copied-codes .result) (c .before .before .copied-codes .ensures)
+    (c .copied-words .result) _ (c .before .code-words .result) (c .copied-words .ensures)
+    (c .before .code-words .ensures) refl
 
 pub begin-spec : {M : Type 1} → statement M
 begin-spec =

@@ -1,15 +1,19 @@
-use Rattle.image.proofs.Mapping.{CopyOf, copied-all, mapped-start, mapped-store, zeros, zeros-long}
-use native.Mathlib.Omega.{arith}
 use mathlib.Core.Path.{refl}
-use Rattle.image.proofs.Mapping.{Mapped}
-use lib.ListN.{getD, length, replicate}
-use Prim.Native.Nat.{_-_, _≤_, zero-le}
-use mathlib.Core.Path.{_≡_}
+use Prim.Native.Nat.{_-_, zero-le, _≤_}
+use native.Mathlib.Omega.{arith}
+use lib.ListN.{length}
 use borrow.Author.Needs.{needs}
+use Rattle.image.proofs.Mapping.{
+  CopyOf,
+  Mapped,
+  copied-all,
+  mapped-start,
+  mapped-store,
+  zeros,
+  zeros-long,
+}
 use Rattle.image.proofs.copied_words.Statement.{statement}
 use Rattle.image.proofs.copied_words.Tie as tie
-use Rattle.image.proofs.copied_words.Reads as reads
-use Rattle.image.proofs.copied_words.Lts as lts
 
 abbrev Inv-loop : tie.InvT-loop
 Inv-loop lent words₀ i₀ words i = (i ≤ length lent) × Mapped (CopyOf lent) (zeros 64) words i
@@ -17,42 +21,39 @@ Inv-loop lent words₀ i₀ words i = (i ≤ length lent) × Mapped (CopyOf lent
 abbrev μ-loop : tie.MeasureT-loop
 μ-loop lent words₀ i₀ words i = length lent - i
 
--- src/lib.rt:249:5
 loop-holds : tie.Need-loop-holds Inv-loop μ-loop
 unfolding zeros
 loop-holds c = (zero-le, mapped-start (CopyOf (c .args .lent .now)) (zeros 64))
 
--- src/lib.rt:250:20
 mul-words : tie.Need-mul-words Inv-loop μ-loop
 mul-words c = search needs
 
--- src/lib.rt:250:20
 shared-slice-read-words : tie.Need-shared-slice-read-words Inv-loop μ-loop
 shared-slice-read-words c = search needs
 
--- src/lib.rt:250:9
 mul-words-2 : tie.Need-mul-words-2 Inv-loop μ-loop
 mul-words-2 c = search needs
 
--- src/lib.rt:250:9
 array-write-words : tie.Need-array-write-words Inv-loop μ-loop
 array-write-words c = search needs
 
--- src/lib.rt:251:9
 add-i : tie.Need-add-i Inv-loop μ-loop
 add-i c = search needs
 
--- src/lib.rt:249:5
 loop-less : tie.Need-loop-less Inv-loop μ-loop
 loop-less c = search needs
 
--- src/lib.rt:249:5
 loop-again : tie.Need-loop-again Inv-loop μ-loop
-loop-again c = let l = c .before .before .loop in (omega arith, mapped-store (CopyOf (c .before .before .before .args .lent .now)) (zeros 64) (l .words) (l .i) _ (l .inv .1) (omega (arith, zeros-long 64)) refl)
+loop-again c =
+    let l = c .before .before .loop in (
+      omega arith,
+      mapped-store (CopyOf (c .before .before .before .args .lent .now)) (zeros 64) (l .words)
+          (l .i) _ (l .inv .1) (omega (arith, zeros-long 64)) refl,
+    )
 
--- src/lib.rt:243:1
 returns : tie.Need-returns Inv-loop μ-loop
-returns c = copied-all 64 (c .before .before .args .lent .now) (c .before .loop .words) (c .before .loop .i) (c .before .loop .inv .1) (omega arith) (omega arith)
+returns c = copied-all 64 (c .before .before .args .lent .now) (c .before .loop .words) (c .before .loop .i)
+    (c .before .loop .inv .1) (omega arith) (omega arith)
 
 pub copied-words-spec : {M : Type 1} → statement M
 copied-words-spec =

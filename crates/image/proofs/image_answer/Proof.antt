@@ -1,39 +1,32 @@
-use Rattle.image.proofs.Answering.{answered}
 use mathlib.Core.Path.{refl}
 use borrow.Author.Needs.{needs}
+use Rattle.image.proofs.Answering.{answered}
 use Rattle.image.proofs.image_answer.Statement.{statement}
 use Rattle.image.proofs.image_answer.Tie as tie
-use Rattle.image.proofs.image_answer.Reads as reads
-use Rattle.image.proofs.image_answer.Lts as lts
-use Rattle.image.proofs.begin.Reads as begin-reads
-use Rattle.image.proofs.code_words.Reads as code-words-reads
-use Rattle.image.proofs.image_number.Reads as image-number-reads
-use Rattle.image.proofs.run_rule.Reads as run-rule-reads
-use Rattle.image.proofs.sign_bytes.Reads as sign-bytes-reads
 
--- src/lib.rt:332:24
 begin-requires : tie.Need-begin-requires
 begin-requires c κs = search needs
 
--- src/lib.rt:332:9
 run-rule-requires : tie.Need-run-rule-requires
 run-rule-requires c κs = search needs
 
--- src/lib.rt:336:9
 code-words-requires : tie.Need-code-words-requires
 code-words-requires c κs = search needs
 
--- src/lib.rt:338:17
 image-number-requires : tie.Need-image-number-requires
 image-number-requires c κs = search needs
 
--- src/lib.rt:340:16
 sign-bytes-requires : tie.Need-sign-bytes-requires
 sign-bytes-requires c κs = search needs
 
--- src/lib.rt:327:1
 returns : tie.Need-returns
-returns c = let s = c .before .before .before .before .before .before .before .before .before .before in let called = c .before .before .before .before .before .before in answered _ (s .pre) (called .before .begin .result) (called .run-rule .result) (called .before .begin .ensures) (called .run-rule .ensures) (c .before .before .code-words .result) (c .before .before .code-words .ensures) _ (c .before .image-number .ensures) refl (c .sign-bytes .ensures) refl refl
+returns c =
+    let s = c .before .before .before .before .before .before .before .before .before .before in
+    let called = c .before .before .before .before .before .before in
+    answered _ (s .pre) (called .before .begin .result) (called .run-rule .result)
+    (called .before .begin .ensures) (called .run-rule .ensures) (c .before .before .code-words .result)
+    (c .before .before .code-words .ensures) _ (c .before .image-number .ensures) refl
+    (c .sign-bytes .ensures) refl refl
 
 pub image-answer-spec : {M : Type 1} → statement M
 image-answer-spec =

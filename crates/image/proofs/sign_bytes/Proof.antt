@@ -1,17 +1,10 @@
-use Rattle.image.proofs.SignBytes.{SignAt}
-use Rattle.image.proofs.Mapping.{mapped-start, mapped-store, zeros, zeros-long}
+use Prim.Native.Nat.{_-_, zero-le, _≤_}
 use native.Mathlib.Omega.{arith}
-use Rattle.image.proofs.Mapping.{Mapped}
-use Rattle.words.specs.Bits.{_⊕_, bit, digit, dot}
-use lib.ListN.{getD, length, replicate}
-use Prim.Native.Nat.{_-_, _≤_, zero-le}
-use mathlib.Core.Path.{_≡_}
 use borrow.Author.Needs.{needs}
+use Rattle.image.proofs.Mapping.{Mapped, mapped-start, mapped-store, zeros, zeros-long}
+use Rattle.image.proofs.SignBytes.{SignAt}
 use Rattle.image.proofs.sign_bytes.Statement.{statement}
 use Rattle.image.proofs.sign_bytes.Tie as tie
-use Rattle.image.proofs.sign_bytes.Reads as reads
-use Rattle.image.proofs.sign_bytes.Lts as lts
-use Rattle.image.proofs.sign_byte.Reads as sign-byte-reads
 
 abbrev Inv-loop : tie.InvT-loop
 Inv-loop sx sz n graph signs₀ j₀ signs j = (j ≤ n) × Mapped (SignAt graph sx sz) (zeros 64) signs j
@@ -19,40 +12,37 @@ Inv-loop sx sz n graph signs₀ j₀ signs j = (j ≤ n) × Mapped (SignAt graph
 abbrev μ-loop : tie.MeasureT-loop
 μ-loop sx sz n graph signs₀ j₀ signs j = n - j
 
--- src/lib.rt:308:5
 loop-holds : tie.Need-loop-holds Inv-loop μ-loop
 unfolding zeros
 loop-holds c = (zero-le, mapped-start (SignAt (c .args .t1) (c .args .sx) (c .args .sz)) (zeros 64))
 
--- src/lib.rt:309:30
 mul-sign-byte : tie.Need-mul-sign-byte Inv-loop μ-loop
 mul-sign-byte c = search needs
 
--- src/lib.rt:309:30
 array-read-sign-byte : tie.Need-array-read-sign-byte Inv-loop μ-loop
 array-read-sign-byte c = search needs
 
--- src/lib.rt:309:20
 sign-byte-requires : tie.Need-sign-byte-requires Inv-loop μ-loop
 sign-byte-requires c κs = search needs
 
--- src/lib.rt:309:9
 array-write-signs : tie.Need-array-write-signs Inv-loop μ-loop
 array-write-signs c = search needs
 
--- src/lib.rt:310:9
 add-j : tie.Need-add-j Inv-loop μ-loop
 add-j c = search needs
 
--- src/lib.rt:308:5
 loop-less : tie.Need-loop-less Inv-loop μ-loop
 loop-less c = search needs
 
--- src/lib.rt:308:5
 loop-again : tie.Need-loop-again Inv-loop μ-loop
-loop-again c = let l = c .before .before .loop in let a = c .before .before .before .args in (omega arith, mapped-store (SignAt (a .t1) (a .sx) (a .sz)) (zeros 64) (l .signs) (l .j) (c .sign-byte .result) (l .inv .1) (omega (arith, zeros-long 64)) (c .sign-byte .ensures))
+loop-again c =
+    let l = c .before .before .loop in
+    let a = c .before .before .before .args in (
+      omega arith,
+      mapped-store (SignAt (a .t1) (a .sx) (a .sz)) (zeros 64) (l .signs) (l .j)
+          (c .sign-byte .result) (l .inv .1) (omega (arith, zeros-long 64)) (c .sign-byte .ensures),
+    )
 
--- src/lib.rt:302:1
 returns : tie.Need-returns Inv-loop μ-loop
 returns c = λ j l. c .before .loop .inv .1 .done j (omega arith)
 
