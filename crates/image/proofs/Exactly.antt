@@ -83,8 +83,8 @@ module _ (n : ℕ) (r : GraphRecord) (G : Simple n (r .graph)) where
 
   -- ---- "the list must lead to the graph"
   module _ (U : UnsignedGraph n (rowsOf n r)) where
-    own : (j : ℕ) → j < n → (q : ℕ) → imageGraph n r j q ≡ U .graph j q
-    own j l q = ap (λ p. p .z q) match
+    leads-below : (j : ℕ) → j < n → (q : ℕ) → imageGraph n r j q ≡ U .graph j q
+    leads-below j l q = ap (λ p. p .z q) match
       where
         s : Word
         s = imageMinus n r
@@ -107,7 +107,7 @@ module _ (n : ℕ) (r : GraphRecord) (G : Simple n (r .graph)) where
     image-leads j q = go (lt-or-ge j n)
       where
         go : (j < n) ⊎ (n ≤ j) → imageGraph n r j q ≡ U .graph j q
-        go (inl l) = own j l q
+        go (inl l) = leads-below j l q
         go (inr l) =
             image-simple n r G .symmetric j q ∙ image-simple n r G .below q j l
             ∙ sym (U .simple .symmetric j q ∙ U .simple .below q j l)

@@ -1,27 +1,20 @@
 -- A single complementation of the image rule takes the C of one vertex away, a triple that of two.
 -- Assumes nothing.
-use mathlib.Core.Bool.{_&&_, Bool, and-false, cond, false, false≢true, not, true}
+use mathlib.Core.Bool.{_&&_, Bool, and-false, cond, false, not, true}
 use mathlib.Core.List.{[], _∷_}
 use mathlib.Core.Logic.{_≢_}
-use mathlib.Core.Path.{ap, ap₂, refl, subst, sym, _∙_, _≡_}
+use mathlib.Core.Path.{ap, ap₂, subst, sym, _∙_, _≡_}
 use Prim.Native.Nat.{_+_, _<_, ℕ}
 use native.Mathlib.Nat.{add-zero}
 use native.Mathlib.Omega.{arith}
 use lib.Dec.{T, eqb, ltb, ltb→lt}
+use borrow.Author.Tests.{not-true}
 use Rattle.graph.specs.Graph.{Simple}
+use Rattle.stabilizer.proofs.MembershipLaws.{both-true}
 use Rattle.words.proofs.Places.{put-other, put-same}
 use Rattle.words.specs.Bits.{digit, put, _⊕_}
 use Rattle.image.proofs.CountLaws.{count-put, countBits}
 use Rattle.image.specs.Rule.{State, both, follow, onlyC, pair, step}
-
--- what a true conjunction and a true negation say
-pub both-true : (a b : Bool) → (a && b) ≡ true → (a ≡ true) × (b ≡ true)
-both-true true b e = (refl, e)
-both-true false b e = absurd (false≢true e)
-
-not-true : (b : Bool) → not b ≡ true → b ≡ false
-not-true false e = refl
-not-true true e = absurd (false≢true e)
 
 -- C at the vertex complemented at; D at a neighbour, and at the other vertices
 module _ (S : State) (v : ℕ) where

@@ -13,13 +13,14 @@ use lib.Count.{trailingZeros}
 use lib.Dec.{T, eqb}
 use lib.ListN.{getD}
 use borrow.Author.Tests.{eqb-true, lt-ltb}
+use Rattle.stabilizer.proofs.MembershipLaws.{both-true}
 use Rattle.words.proofs.BitLaws.{bit-and, bit-ext∞, zero-bit}
 use Rattle.words.proofs.SearchLaws.{first-is, first-none, some-in, some-none}
 use Rattle.words.proofs.Sums.{lt-or-ge}
 use Rattle.words.proofs.Trailing.{trailing-is}
 use Rattle.words.specs.Bits.{bit}
 use Rattle.words.specs.Search.{IsFirst, first}
-use Rattle.image.proofs.Falling.{both-true, pair-is}
+use Rattle.image.proofs.Falling.{pair-is}
 use Rattle.image.proofs.Moves.{Move, alone, joined}
 use Rattle.image.proofs.Running.{Stopped}
 use Rattle.image.specs.Rule.{State, both, onlyC, pair, stateOf}

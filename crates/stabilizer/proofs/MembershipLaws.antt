@@ -19,9 +19,10 @@ use Rattle.stabilizer.specs.Groups.{InGroup, Within, chosen, product}
 use Rattle.stabilizer.specs.Lists.{rows}
 use Rattle.stabilizer.specs.Membership.{equalBelow, member}
 
-conjunct : (a b : Bool) → (a && b) ≡ true → (a ≡ true) × (b ≡ true)
-conjunct true b e = (refl, e)
-conjunct false b e = absurd (false≢true e)
+-- what a true both-trueion says
+pub both-true : (a b : Bool) → (a && b) ≡ true → (a ≡ true) × (b ≡ true)
+both-true true b e = (refl, e)
+both-true false b e = absurd (false≢true e)
 
 bit-same : (b : Bool) → sameBit b b ≡ true
 bit-same false = refl
@@ -49,10 +50,11 @@ equal-is n p r P R e =
     agree q = sameBit (p .z q) (r .z q) && sameBit (p .x q) (r .x q)
 
     b : (samePhase (p .phase) (r .phase) ≡ true) × (every n agree ≡ true)
-    b = conjunct (samePhase (p .phase) (r .phase)) (every n agree) e
+    b = both-true (samePhase (p .phase) (r .phase)) (every n agree) e
 
     place : (q : ℕ) → q < n → (sameBit (p .z q) (r .z q) ≡ true) × (sameBit (p .x q) (r .x q) ≡ true)
-    place q l = conjunct (sameBit (p .z q) (r .z q)) (sameBit (p .x q) (r .x q)) (every-at n agree (b .1) q l)
+    place q l = both-true (sameBit (p .z q) (r .z q)) (sameBit (p .x q) (r .x q))
+        (every-at n agree (b .1) q l)
 
     at-z : (q : ℕ) → (q < n) ⊎ (n ≤ q) → p .z q ≡ r .z q
     at-z q (inl l) = same-bit (p .z q) (r .z q) (place q l .0)
