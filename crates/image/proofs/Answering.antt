@@ -16,7 +16,7 @@ use Rattle.clifford.specs.Clifford.{bitC, image}
 use Rattle.clifford.specs.Vectors.{codesOf}
 use Rattle.graph.specs.Graph.{Simple}
 use Rattle.pauli.specs.Pauli.{letterAt}
-use Rattle.pauli.specs.declared.Letter.the-variants.{X, Y}
+use Rattle.pauli.specs.declared.Letter.the-variants.{X}
 use Rattle.record.specs.Accepted.{AcceptedRecord}
 use Rattle.record.specs.Lent.{LentRecord, heldRecord}
 use Rattle.record.specs.Records.{GraphRecord, rowsOf}
@@ -27,14 +27,14 @@ use Rattle.words.specs.Bits.{bit, digit, dot, wordOf, _⊕_}
 use Rattle.words.specs.Search.{IsFirst, first, some}
 use Rattle.image.proofs.Accepted.{image-minus}
 use Rattle.image.proofs.Refused.{own-letter}
-use Rattle.image.proofs.Rounds.{room}
 use Rattle.image.proofs.SignBytes.{sign-formula}
 use Rattle.image.proofs.Signs.{minusAt}
 use Rattle.image.proofs.TrackedBits.{image-bits, image-length, image-simple}
 use Rattle.image.proofs.WordMoves.{set-bit}
+use Rattle.image.specs.Answer.{IsImage}
 use Rattle.image.specs.Image.{imageGraph, imageMinus, imageRecord, isY, loopLines, looped, stuck}
 use Rattle.image.specs.Rule.{imageList}
-use Rattle.image.specs.Working.{Begun, Complemented, IsImage, Tracking, WordsOf, workingRecord}
+use Rattle.image.specs.Working.{Begun, Complemented, Tracking, WordsOf, workingRecord}
 use Rattle.image.specs.declared.ImageAnswer.{ImageAnswer}
 use Rattle.image.specs.declared.bits_of_codes.CodeWords.{CodeWords}
 use Rattle.image.specs.declared.complementing.Working.{Working}

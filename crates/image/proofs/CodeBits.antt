@@ -12,7 +12,7 @@ use borrow.Author.Tests.{le-ltb, lt-ltb}
 use Rattle.clifford.specs.Clifford.{Clifford, bitC, bitD, image}
 use Rattle.pauli.specs.Pauli.{xBit, zBit}
 use Rattle.pauli.specs.declared.Letter.{Letter}
-use Rattle.pauli.specs.declared.Letter.the-variants.{X, Y}
+use Rattle.pauli.specs.declared.Letter.the-variants.{X}
 use Rattle.words.proofs.BitLaws.{zero-bit}
 use Rattle.words.proofs.Places.{put-other, put-same}
 use Rattle.words.proofs.Sums.{lt-or-ge}

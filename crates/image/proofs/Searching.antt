@@ -1,5 +1,4 @@
--- The searches of the image rule on words: smallest vertices by trailing zeros, and the smallest vertex of an
--- edge.
+-- The search of the image rule that goes up by one: the smallest vertex that passes a test.
 -- Assumes nothing.
 use mathlib.Core.Bool.{Bool, false, true}
 use mathlib.Core.Path.{sym, _≡_}

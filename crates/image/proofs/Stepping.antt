@@ -22,7 +22,7 @@ use Rattle.words.proofs.Finite.{bits, ⊕-zero}
 use Rattle.words.proofs.Places.{other-place, put-other, put-same, same-place}
 use Rattle.words.specs.Bits.{bit, put, _⊕_}
 use Rattle.image.proofs.TrackedBits.{bits-follow}
-use Rattle.image.specs.Rule.{State, single, stateOf, step}
+use Rattle.image.specs.Rule.{State, stateOf, step}
 use Rattle.image.specs.Working.{Complemented, Tracking, wordGraph, workingRecord}
 use Rattle.image.specs.declared.complementing.Working.{Working}
 

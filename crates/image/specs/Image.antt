@@ -15,7 +15,8 @@ use Rattle.words.specs.Bits.{Word}
 use Rattle.words.specs.Search.{some}
 use Rattle.image.specs.Rule.{follow, imageList, stateOf}
 
--- the record at the end: the given one complemented at each vertex of the list. Its group is the image group
+-- the record at the end: the given one complemented at each vertex of the list; its group is the image
+-- group
 abbrev pub imageRecord : ℕ → GraphRecord → GraphRecord
 imageRecord n r = complementAll r (imageList n r)
 
@@ -54,8 +55,7 @@ abbrev pub loopLines : ℕ → GraphRecord → List Line
 loopLines n r = line 11 (stuck n r) ∷ line 12 (looped n r) ∷ []
 
 -- the lines of the call: those of the record, with the buffers lent for the graph, the signs and the list
--- ("The
--- list buffer is 96 bytes"), then 11 and 12
+-- ("The list buffer is 96 bytes"), then 11 and 12
 abbrev pub imageLines : LentRecord → List ℕ → List ℕ → List ℕ → List Line
 imageLines l graph signs list =
     recordLines l (otherThan (l .n) graph || (otherThan (l .n) signs || otherThan 96 list)) false

@@ -11,8 +11,7 @@ use Rattle.words.specs.Bits.{Word, put, _⊕_}
 use Rattle.words.specs.Search.{first, some}
 
 -- the graph as it is, and two bits for each vertex. "C is 1 if the image of Z is X or Y, and D is 1 if the
--- image of X
--- is X or Y"
+-- image of X is X or Y"
 pub record State : Type 0 where
   pub graph : Graph
   pub C : Word
@@ -21,9 +20,8 @@ pub record State : Type 0 where
 abbrev pub stateOf : GraphRecord → State
 stateOf r = record { graph = r .graph; C = λ q. bitC (r .codes q); D = λ q. bitD (r .codes q) }
 
--- complementing at v, "following the bits: at the vertex itself C becomes C + D, at a neighbour D becomes C +
--- D,
--- modulo 2"
+-- complementing at v, "following the bits: at the vertex itself C becomes C + D, at a neighbour D becomes C
+-- + D, modulo 2"
 unfoldable pub step : State → ℕ → State
 step S v =
     record {

@@ -1,4 +1,4 @@
--- What the code's working state holds while the image rule runs, and what the answer is.
+-- What the code's working state holds while the image rule runs.
 -- Assumes nothing.
 use mathlib.Core.Bool.{_&&_, Bool, false, not}
 use mathlib.Core.List.{_++_, List}
@@ -7,17 +7,14 @@ use Prim.Native.Nat.{_+_, _<_, ℕ, _≤_}
 use lib.Bits.{bitAnd}
 use lib.Dec.{eqb, ltb}
 use lib.ListN.{getD, length, take}
-use Rattle.buffers.specs.Refusals.{firstFitting}
 use Rattle.clifford.specs.Clifford.{Clifford, bitC, bitD, image}
 use Rattle.clifford.specs.Vectors.{codesOf}
 use Rattle.graph.specs.Graph.{Graph, Simple}
 use Rattle.pauli.specs.declared.Letter.the-variants.{X}
 use Rattle.record.specs.Lent.{LentRecord, heldRecord}
 use Rattle.record.specs.Records.{GraphRecord, complementAll}
-use Rattle.words.specs.Bits.{bit, digit, wordOf}
-use Rattle.image.specs.Image.{imageGraph, imageMinus, isY, loopLines}
-use Rattle.image.specs.Rule.{imageList}
-use Rattle.image.specs.declared.ImageAnswer.{ImageAnswer}
+use Rattle.words.specs.Bits.{bit}
+use Rattle.image.specs.Image.{isY}
 use Rattle.image.specs.declared.bits_of_codes.CodeWords.{CodeWords}
 use Rattle.image.specs.declared.complementing.Working.{Working}
 
@@ -66,14 +63,3 @@ pub record WordsOf (n : ℕ) (k : ℕ → Clifford) (r : CodeWords) : Type 0 whe
   pub Y : (q : ℕ) → bit (r .y) q ≡ (ltb q n && isY (image (k q) X))
   pub SX : (q : ℕ) → bit (r .sx) q ≡ (ltb q n && (k q) .sx)
   pub SZ : (q : ℕ) → bit (r .sz) q ≡ (ltb q n && (k q) .sz)
-
--- the answer: the number 11, 12 or 0; the words of the image graph; the list, whose first `count` places
--- count; and,
--- where the number is 0, the minus signs
-pub record IsImage (n : ℕ) (r : GraphRecord) (a : ImageAnswer) : Type 0 where
-  pub number : a .number ≡ firstFitting (loopLines n r)
-  pub graph : (j : ℕ) → j < n → getD (a .graph) j 0 ≡ wordOf n (imageGraph n r j)
-  pub signs : a .number ≡ 0 → (j : ℕ) → j < n → getD (a .signs) j 0 ≡ digit (imageMinus n r j)
-  pub list : take (a .count) (a .list) ≡ imageList n r
-  pub count : a .count ≡ length (imageList n r)
-  pub room : a .count ≤ 96

@@ -16,7 +16,8 @@ ghost use lib.ListN.{getD, length};
 ghost use Rattle.words.specs.Bits.{_⊕_, bit, digit, dot};
 ghost use Rattle.record.specs.Accepted.{AcceptedRecord};
 ghost use Rattle.record.specs.Lent.{heldRecord};
-ghost use Rattle.image.specs.Working.{Begun, IsImage};
+ghost use Rattle.image.specs.Answer.{IsImage};
+ghost use Rattle.image.specs.Working.{Begun};
 
 // The number 0, 11 or 12; the neighbour words of the image graph, a sign byte for each vertex, and the list.
 pub struct ImageAnswer {
