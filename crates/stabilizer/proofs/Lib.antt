@@ -14,3 +14,4 @@ pub mod Verdicts
 pub mod Accepted
 pub mod EqualRows
 pub mod ReadBack
+pub mod MembershipLaws

@@ -3,3 +3,4 @@ pub mod Carries
 pub mod Elimination
 pub mod Lists
 pub mod Tableau
+pub mod Membership

@@ -1,0 +1,122 @@
+-- The whole run of the image rule: it stops, and 2 · count ≤ 3 n.
+-- Assumes nothing.
+use mathlib.Core.Bool.{false}
+use mathlib.Core.List.{_++_, List, [], _∷_}
+use mathlib.Core.Logic.{inl, inr, _⊎_}
+use mathlib.Core.Path.{ap, refl, subst, sym, _∙_, _≡_}
+use Prim.Native.Nat.{_*_, _+_, _<_, suc, suc-le-suc, zero, ℕ, _≤_}
+use native.Mathlib.Nat.{not-suc-le-zero}
+use native.Mathlib.Omega.{arith}
+use lib.Dec.{T}
+use lib.ListN.{getD, length, length-append}
+use Rattle.graph.proofs.Complement.{complement-simple}
+use Rattle.graph.specs.Graph.{Simple}
+use Rattle.image.proofs.CountLaws.{count-le, countBits}
+use Rattle.image.proofs.Falling.{fall-alone, fall-joined, pair-is}
+use Rattle.image.proofs.Moves.{Move, alone, joined, moves-are, moves-unique, stop}
+use Rattle.image.specs.Rule.{State, both, follow, moves, pair, run, step}
+
+-- ---- the vertices of a list are below n
+pub data AllBelow (n : ℕ) : List ℕ → Type 0 where
+  nil : AllBelow n []
+  add : (v : ℕ) {vs : List ℕ} → v < n → AllBelow n vs → AllBelow n (v ∷ vs)
+
+pub below-append : {n : ℕ} {a b : List ℕ} → AllBelow n a → AllBelow n b → AllBelow n (a ++ b)
+below-append nil w = w
+below-append (add v l u) w = add v l (below-append u w)
+
+pub move-below : {n : ℕ} {S : State} {ms : List ℕ} → Move n S ms → AllBelow n ms
+move-below (alone v F) = add v (F .below) nil
+move-below (joined j k none J K) = add j (J .below) (add k (K .below) (add j (J .below) nil))
+move-below (stop none apart) = nil
+
+pub run-below : (n k : ℕ) (S : State) → AllBelow n (run n k S)
+unfolding run
+run-below n zero S = nil
+run-below n (suc k) S = below-append (move-below (moves-are n S)) (run-below n k (follow S (moves n S)))
+
+pub below-at : {n : ℕ} {vs : List ℕ} → AllBelow n vs → (i : ℕ) → i < length vs → getD vs i 0 < n
+below-at nil i l = absurd (not-suc-le-zero l)
+below-at (add v h w) zero l = h
+below-at (add v h w) (suc i) (suc-le-suc l) = below-at w i l
+
+-- ---- lists followed one after another
+pub follow-append : (S : State) (a b : List ℕ) → follow S (a ++ b) ≡ follow (follow S a) b
+follow-append S [] b = refl
+follow-append S (v ∷ a) b = follow-append (step S v) a b
+
+pub follow-simple : (n : ℕ) (S : State) (ms : List ℕ) → Simple n (S .graph) → Simple n ((follow S ms) .graph)
+unfolding step
+follow-simple n S [] G = G
+follow-simple n S (v ∷ ms) G = follow-simple n (step S v) ms (complement-simple n (S .graph) G v)
+
+-- ---- how many complementations: each single one takes one C away, each triple two
+abbrev Fall : ℕ → State → List ℕ → Type 0
+Fall n S ms = 2 * length ms + 3 * countBits n ((follow S ms) .C) ≤ 3 * countBits n (S .C)
+
+move-fall : (n : ℕ) (S : State) {ms : List ℕ} → Simple n (S .graph) → Move n S ms → Fall n S ms
+move-fall n S G (alone v F) = omega (arith, fall-alone n S v (F .below) (F .passes))
+move-fall n S G (joined j k none J K) =
+    omega (arith, fall-joined n S G j k (J .below) (K .below) (pair-is S j k (K .passes)))
+move-fall n S G (stop none apart) = omega arith
+
+pub run-fall : (n k : ℕ) (S : State) → Simple n (S .graph) → Fall n S (run n k S)
+unfolding run
+run-fall n zero S G = omega arith
+run-fall n (suc k) S G =
+    let ms = moves n S in
+    omega (
+      arith,
+      length-append ms (run n k (follow S ms)),
+      move-fall n S G (moves-are n S),
+      run-fall n k (follow S ms) (follow-simple n S ms G),
+      ap (λ T. countBits n (T .C)) (follow-append S ms (run n k (follow S ms))),
+    )
+
+-- so the list has at most 3 n / 2 places: 96 where n is 64
+pub run-length : (n k : ℕ) (S : State) → Simple n (S .graph) → 2 * length (run n k S) ≤ 3 * n
+run-length n k S G = omega (arith, run-fall n k S G, count-le n (S .C))
+
+-- ---- the run comes to a stop: no vertex has both bits 1, and no pair is left
+pub record Stopped (n : ℕ) (S : State) : Type 0 where
+  pub no-both : (v : ℕ) → v < n → both S v ≡ false
+  pub no-pair : (j k : ℕ) → j < n → k < n → pair S j k ≡ false
+
+-- a state at a stop stays
+pub stopped-run : (n k : ℕ) (S : State) → Stopped n S → run n k S ≡ []
+unfolding run
+stopped-run n zero S H = refl
+stopped-run n (suc k) S H =
+    ap (λ ms. ms ++ run n k (follow S ms)) (moves-unique n S (stop (H .no-both) (H .no-pair)))
+    ∙ stopped-run n k S H
+
+-- a move takes a C away, or there is none
+pub move-lower : (n : ℕ) (S : State) {ms : List ℕ} → Simple n (S .graph) → Move n S ms →
+    Stopped n S ⊎ (countBits n ((follow S ms) .C) < countBits n (S .C))
+move-lower n S G (alone v F) = inr (omega (arith, fall-alone n S v (F .below) (F .passes)))
+move-lower n S G (joined j k none J K) =
+    inr (omega (arith, fall-joined n S G j k (J .below) (K .below) (pair-is S j k (K .passes))))
+move-lower n S G (stop none apart) = inl (record { no-both = none; no-pair = apart })
+
+at-stop : (n k : ℕ) (S : State) → Stopped n S → Stopped n (follow S (run n k S))
+at-stop n k S H = subst (λ ms. Stopped n (follow S ms)) (sym (stopped-run n k S H)) H
+
+-- as many times as there are vertices with C = 1 are enough
+pub run-stops : (n k : ℕ) (S : State) → Simple n (S .graph) → countBits n (S .C) ≤ k
+    → Stopped n (follow S (run n k S))
+unfolding run
+run-stops n zero S G h = elim (move-lower n S G (moves-are n S)) [
+  | inl e ↦ at-stop n zero S e
+  | inr l ↦ absurd (omega arith)
+]
+run-stops n (suc k) S G h =
+    go (run-stops n k (follow S (moves n S)) (follow-simple n S (moves n S) G)) (move-lower n S G (moves-are n S))
+  where
+    go : (countBits n ((follow S (moves n S)) .C) ≤ k →
+        Stopped n (follow (follow S (moves n S)) (run n k (follow S (moves n S)))))
+        → Stopped n S ⊎ (countBits n ((follow S (moves n S)) .C) < countBits n (S .C))
+        → Stopped n (follow S (run n (suc k) S))
+    go ih (inl e) = at-stop n (suc k) S e
+    go ih (inr l) =
+        subst (Stopped n) (sym (follow-append S (moves n S) (run n k (follow S (moves n S)))))
+        (ih (omega arith))

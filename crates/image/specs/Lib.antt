@@ -1,0 +1,4 @@
+pub mod Rule
+pub mod Image
+pub mod Working
+pub mod Answer

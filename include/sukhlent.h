@@ -1,0 +1,79 @@
+/* The public calls of the graph-state engine, on 1 to 64 qubits.
+ *
+ * Words. Bit q of a word belongs to qubit q, bit 0 lowest.
+ *
+ * Generator list of n generators:
+ *   signs[j]       0 for plus, 1 for minus
+ *   z[j], x[j]     at each qubit the bits (z, x) are 00 for I, 01 for X, 10 for Z, 11 for Y
+ * The generators commute pairwise and are independent modulo 2, signs dropped.
+ *
+ * Record of n vertices:
+ *   neighbours[j]  the neighbours of vertex j; the graph is simple
+ *   codes[j]       4 * class + 2 * sx + sz, 0 to 23: the local Clifford of vertex j. The class gives
+ *                  the letters to which X and Z go: 0 (X,Z), 1 (Y,Z), 2 (Z,X), 3 (X,Y), 4 (Y,X),
+ *                  5 (Z,Y); sx or sz is 1 if that image is negative
+ * Its generator j is +X at j and Z at the neighbours of j, each place then sent through its code.
+ *
+ * Every buffer passes as a pointer and its length in elements, and has n places. Buffers must not
+ * overlap. Buffers that are not const are lent for the answer: what they hold before the call does
+ * not matter.
+ *
+ * Every call answers 0 where it accepts, or the first number of this list whose line is true. A
+ * refused call changes no buffer.
+ *    1  the program's text does not have its form
+ *    2  n is 0 or above 64, or the two lists' n differ
+ *    3  a comparison has n above 20
+ *    4  a buffer's length is not what is required
+ *    5  a word has a bit at or above n
+ *    6  a sign or outcome is above 1, a code above 23, or a Pauli not 1 to 3
+ *    7  a graph is not simple
+ *    8  a qubit number is n or more, CZ or a pivot names one qubit twice, or a pivot's pair has no
+ *       edge
+ *    9  two generators do not commute
+ *   10  the generators are dependent
+ *   11  the image loop stops with some C = 1
+ *   12  it stops with every C = 0, but the image has Y at some vertex's own place
+ *   13  no choice of local Cliffords carries one group to the other
+ * Under each call stand the numbers that it can answer.
+ */
+#ifndef SUKHLENT_H
+#define SUKHLENT_H
+
+#include <stddef.h>
+#include <stdint.h>
+
+#ifdef __cplusplus
+extern "C" {
+#endif
+
+/* Checks a generator list. Writes nothing.
+ * Refusals: 2, 4, 5, 6, 9, 10. */
+uint8_t sukhlent_check(uint64_t n,
+                       const uint8_t *signs, size_t signs_len,
+                       const uint64_t *z, size_t z_len,
+                       const uint64_t *x, size_t x_len);
+
+/* Reduces a generator list: writes the reduced record of its group. Lists of one group give one
+ * record, and lists of different groups give different ones.
+ * Refusals: 2, 4, 5, 6, 9, 10. */
+uint8_t sukhlent_reduce(uint64_t n,
+                        const uint8_t *signs, size_t signs_len,
+                        const uint64_t *z, size_t z_len,
+                        const uint64_t *x, size_t x_len,
+                        uint64_t *neighbours, size_t neighbours_len,
+                        uint8_t *codes, size_t codes_len);
+
+/* Expands a record: writes its n generators, in order.
+ * Refusals: 2, 4, 5, 6, 7. */
+uint8_t sukhlent_expand(uint64_t n,
+                        const uint64_t *neighbours, size_t neighbours_len,
+                        const uint8_t *codes, size_t codes_len,
+                        uint8_t *signs, size_t signs_len,
+                        uint64_t *z, size_t z_len,
+                        uint64_t *x, size_t x_len);
+
+#ifdef __cplusplus
+}
+#endif
+
+#endif

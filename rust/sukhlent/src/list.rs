@@ -1,0 +1,47 @@
+//! Generator lists.
+
+use crate::{raw, Record, Refusal};
+
+/// The generators of a stabilizer group, one place per generator in each field.
+///
+/// At qubit `q` the bits `q` of `z` and `x` are 00 for I, 01 for X, 10 for Z and 11 for Y.
+#[derive(Clone, Debug, Default, PartialEq, Eq, Hash)]
+pub struct GeneratorList {
+    /// 0 for plus, 1 for minus.
+    pub signs: Vec<u8>,
+    /// The qubits with letter Z or Y.
+    pub z: Vec<u64>,
+    /// The qubits with letter X or Y.
+    pub x: Vec<u64>,
+}
+
+impl GeneratorList {
+    /// The number of generators, which is the number of qubits.
+    pub fn n(&self) -> usize {
+        self.signs.len()
+    }
+}
+
+/// Whether the list generates a stabilizer state: n commuting, independent generators.
+pub fn check(list: &GeneratorList) -> Result<(), Refusal> {
+    let number = raw::check(list.n() as u64, &list.signs, &list.z, &list.x);
+    Refusal::unless_accepted(number)
+}
+
+/// The reduced record of the list's group. Equal groups give equal records.
+pub fn reduce(list: &GeneratorList) -> Result<Record, Refusal> {
+    let n = list.n();
+    let mut record = Record {
+        neighbours: vec![0; n],
+        codes: vec![0; n],
+    };
+    let number = raw::reduce(
+        n as u64,
+        &list.signs,
+        &list.z,
+        &list.x,
+        &mut record.neighbours,
+        &mut record.codes,
+    );
+    Refusal::unless_accepted(number).map(|()| record)
+}

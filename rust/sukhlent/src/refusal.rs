@@ -1,0 +1,146 @@
+//! Refusals.
+
+use std::fmt;
+
+/// The reason for which a call refuses, by its number in checking order.
+#[derive(Clone, Copy, Debug, PartialEq, Eq, Hash, PartialOrd, Ord)]
+#[repr(u8)]
+pub enum Refusal {
+    /// A text is not of its form.
+    Form = 1,
+    /// The number of qubits is 0 or above 64, or differs between two lists.
+    Qubits = 2,
+    /// The number of qubits is above 20 in a comparison.
+    Comparison = 3,
+    /// A buffer has a wrong length.
+    Length = 4,
+    /// A word has a bit outside of the qubits.
+    StrayBit = 5,
+    /// A sign, an outcome, a code or a Pauli is none.
+    Value = 6,
+    /// A graph is not simple.
+    Graph = 7,
+    /// A qubit number, or a pair of them, names nothing.
+    Place = 8,
+    /// Two generators anticommute.
+    Anticommuting = 9,
+    /// The generators are dependent.
+    Dependent = 10,
+    /// The image is that of no graph: its x bits have no full rank.
+    NoGraph = 11,
+    /// The image is that of no simple graph: it has a loop.
+    Loop = 12,
+    /// Two states are not locally equivalent.
+    Inequivalent = 13,
+}
+
+impl Refusal {
+    /// Every refusal, in checking order.
+    pub const ALL: [Refusal; 13] = [
+        Refusal::Form,
+        Refusal::Qubits,
+        Refusal::Comparison,
+        Refusal::Length,
+        Refusal::StrayBit,
+        Refusal::Value,
+        Refusal::Graph,
+        Refusal::Place,
+        Refusal::Anticommuting,
+        Refusal::Dependent,
+        Refusal::NoGraph,
+        Refusal::Loop,
+        Refusal::Inequivalent,
+    ];
+
+    /// The number, 1 to 13.
+    pub fn number(self) -> u8 {
+        self as u8
+    }
+
+    /// The refusal with this number.
+    pub fn from_number(number: u8) -> Option<Refusal> {
+        Refusal::ALL.into_iter().find(|r| r.number() == number)
+    }
+
+    /// The answer of a call: 0 is accepted. Panics on a number that is no refusal.
+    pub(crate) fn unless_accepted(number: u8) -> Result<(), Refusal> {
+        match (number, Refusal::from_number(number)) {
+            (0, _) => Ok(()),
+            (_, Some(refusal)) => Err(refusal),
+            (_, None) => panic!("no refusal has the number {number}"),
+        }
+    }
+
+    /// The line of the list of refusals.
+    fn line(self) -> &'static str {
+        match self {
+            Refusal::Form => "the program's text does not have its form",
+            Refusal::Qubits => "n is 0 or above 64, or the two lists' n differ",
+            Refusal::Comparison => "a comparison has n above 20",
+            Refusal::Length => "a buffer's length is not what is required",
+            Refusal::StrayBit => "a word has a bit at or above n",
+            Refusal::Value => {
+                "a sign or outcome is above 1, a code above 23, or a Pauli not 1 to 3"
+            }
+            Refusal::Graph => "a graph is not simple",
+            Refusal::Place => {
+                "a qubit number is n or more, CZ or a pivot names one qubit twice, \
+                 or a pivot's pair has no edge"
+            }
+            Refusal::Anticommuting => "two generators do not commute",
+            Refusal::Dependent => "the generators are dependent",
+            Refusal::NoGraph => "the image loop stops with some C = 1",
+            Refusal::Loop => {
+                "the image loop stops with every C = 0, \
+                 but the image has Y at some vertex's own place"
+            }
+            Refusal::Inequivalent => {
+                "no choice of local Cliffords carries one group to the other"
+            }
+        }
+    }
+}
+
+impl fmt::Display for Refusal {
+    fn fmt(&self, f: &mut fmt::Formatter<'_>) -> fmt::Result {
+        write!(f, "refused {}: {}", self.number(), self.line())
+    }
+}
+
+impl std::error::Error for Refusal {}
+
+#[cfg(test)]
+mod tests {
+    use super::*;
+
+    #[test]
+    fn numbers_lead_back_to_their_refusals() {
+        for (k, refusal) in Refusal::ALL.into_iter().enumerate() {
+            assert_eq!(usize::from(refusal.number()), k + 1);
+            assert_eq!(Refusal::from_number(refusal.number()), Some(refusal));
+            assert_eq!(
+                Refusal::unless_accepted(refusal.number()),
+                Err(refusal),
+                "{refusal}"
+            );
+        }
+        assert_eq!(Refusal::unless_accepted(0), Ok(()));
+        assert!((14..=255).all(|number| Refusal::from_number(number).is_none()));
+    }
+
+    #[test]
+    fn every_refusal_has_its_own_line() {
+        let lines: std::collections::HashSet<_> = Refusal::ALL.map(Refusal::line).into();
+        assert_eq!(lines.len(), 13);
+        assert_eq!(
+            Refusal::Anticommuting.to_string(),
+            "refused 9: two generators do not commute"
+        );
+    }
+
+    #[test]
+    #[should_panic(expected = "no refusal has the number 14")]
+    fn other_numbers_are_no_answers() {
+        let _ = Refusal::unless_accepted(14);
+    }
+}

@@ -1,0 +1,144 @@
+//! Raw calls on guarded buffers, of any lengths and contents.
+//!
+//! Every call asserts that its inputs and all guards keep their contents, and on a refusal the
+//! answer buffers too.
+
+use super::guarded::Guarded;
+use super::reference;
+use sukhlent::{raw, GeneratorList, Record};
+
+/// The arguments of a call on a generator list; answer buffers by their lengths.
+#[derive(Clone, Debug)]
+pub struct ListCall {
+    pub n: u64,
+    pub signs: Vec<u8>,
+    pub z: Vec<u64>,
+    pub x: Vec<u64>,
+    pub neighbours: usize,
+    pub codes: usize,
+}
+
+impl ListCall {
+    /// The call on a list, with lengths as they should be.
+    pub fn on(list: &GeneratorList) -> ListCall {
+        ListCall {
+            n: list.n() as u64,
+            signs: list.signs.clone(),
+            z: list.z.clone(),
+            x: list.x.clone(),
+            neighbours: list.n(),
+            codes: list.n(),
+        }
+    }
+
+    /// The number that `check` answers.
+    pub fn check(&self) -> u8 {
+        let mut signs = Guarded::holding(&self.signs);
+        let mut z = Guarded::holding(&self.z);
+        let mut x = Guarded::holding(&self.x);
+        let number = raw::check(self.n, signs.lent(), z.lent(), x.lent());
+        signs.assert_unchanged("signs");
+        z.assert_unchanged("z");
+        x.assert_unchanged("x");
+        number
+    }
+
+    /// The record that `reduce` writes, or the number of its refusal.
+    pub fn reduce(&self) -> Result<Record, u8> {
+        let mut signs = Guarded::holding(&self.signs);
+        let mut z = Guarded::holding(&self.z);
+        let mut x = Guarded::holding(&self.x);
+        let mut neighbours = Guarded::patterned(self.neighbours);
+        let mut codes = Guarded::patterned(self.codes);
+        let number = raw::reduce(
+            self.n,
+            signs.lent(),
+            z.lent(),
+            x.lent(),
+            neighbours.lent(),
+            codes.lent(),
+        );
+        signs.assert_unchanged("signs");
+        z.assert_unchanged("z");
+        x.assert_unchanged("x");
+        if number != 0 {
+            neighbours.assert_unchanged("neighbours");
+            codes.assert_unchanged("codes");
+            return Err(number);
+        }
+        Ok(Record {
+            neighbours: neighbours.answer("neighbours"),
+            codes: codes.answer("codes"),
+        })
+    }
+
+    /// The number due to the list alone, and with the answer buffers' lengths.
+    pub fn due(&self) -> (u8, u8) {
+        let due = |lengths: &[usize]| {
+            reference::list_refusal(self.n, &self.signs, &self.z, &self.x, lengths)
+        };
+        (due(&[]), due(&[self.neighbours, self.codes]))
+    }
+}
+
+/// The arguments of a call on a record; answer buffers by their lengths.
+#[derive(Clone, Debug)]
+pub struct RecordCall {
+    pub n: u64,
+    pub neighbours: Vec<u64>,
+    pub codes: Vec<u8>,
+    pub signs: usize,
+    pub z: usize,
+    pub x: usize,
+}
+
+impl RecordCall {
+    /// The call on a record, with lengths as they should be.
+    pub fn on(record: &Record) -> RecordCall {
+        let n = record.n();
+        RecordCall {
+            n: n as u64,
+            neighbours: record.neighbours.clone(),
+            codes: record.codes.clone(),
+            signs: n,
+            z: n,
+            x: n,
+        }
+    }
+
+    /// The list that `expand` writes, or the number of its refusal.
+    pub fn expand(&self) -> Result<GeneratorList, u8> {
+        let mut neighbours = Guarded::holding(&self.neighbours);
+        let mut codes = Guarded::holding(&self.codes);
+        let mut signs = Guarded::patterned(self.signs);
+        let mut z = Guarded::patterned(self.z);
+        let mut x = Guarded::patterned(self.x);
+        let number = raw::expand(
+            self.n,
+            neighbours.lent(),
+            codes.lent(),
+            signs.lent(),
+            z.lent(),
+            x.lent(),
+        );
+        neighbours.assert_unchanged("neighbours");
+        codes.assert_unchanged("codes");
+        if number != 0 {
+            signs.assert_unchanged("signs");
+            z.assert_unchanged("z");
+            x.assert_unchanged("x");
+            return Err(number);
+        }
+        Ok(GeneratorList {
+            signs: signs.answer("signs"),
+            z: z.answer("z"),
+            x: x.answer("x"),
+        })
+    }
+
+    /// The number due to the record and the answer buffers' lengths.
+    pub fn due(&self) -> u8 {
+        let lengths = [self.signs, self.z, self.x];
+        reference::record_refusal(self.n, &self.neighbours, &self.codes, &lengths)
+    }
+}

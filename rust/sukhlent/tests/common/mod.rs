@@ -1,0 +1,12 @@
+//! Seeded lists, reference answers by document 01's text, and guarded calls.
+#![allow(dead_code, unused_imports)]
+
+pub mod calls;
+pub mod codes;
+pub mod guarded;
+pub mod reference;
+pub mod seeded;
+
+pub use calls::{ListCall, RecordCall};
+pub use codes::images;
+pub use seeded::{list, mixed, pauli, random_rows, rows, stabilizers, Circuit, Pauli, Random};

@@ -1,0 +1,77 @@
+//! The refusals of lists and records, line by line.
+
+use crate::common::seeded::{rows, Pauli};
+use sukhlent::GeneratorList;
+
+/// The first line that is true of a generator list and of further buffers of n places.
+pub fn list_refusal(n: u64, signs: &[u8], z: &[u64], x: &[u64], others: &[usize]) -> u8 {
+    let lengths = [&[signs.len(), z.len(), x.len()], others].concat();
+    if n == 0 || n > 64 {
+        return 2;
+    }
+    if lengths.iter().any(|&length| length as u64 != n) {
+        return 4;
+    }
+    if z.iter().chain(x).any(|&word| stray(word, n)) {
+        return 5;
+    }
+    if signs.iter().any(|&sign| sign > 1) {
+        return 6;
+    }
+    let rows = rows(&GeneratorList {
+        signs: signs.to_vec(),
+        z: z.to_vec(),
+        x: x.to_vec(),
+    });
+    if rows.iter().any(|a| rows.iter().any(|b| !a.commutes(b))) {
+        return 9;
+    }
+    if dependent(&rows) {
+        return 10;
+    }
+    0
+}
+
+/// The first line that is true of a record and of further buffers of n places.
+pub fn record_refusal(n: u64, neighbours: &[u64], codes: &[u8], others: &[usize]) -> u8 {
+    let lengths = [&[neighbours.len(), codes.len()], others].concat();
+    if n == 0 || n > 64 {
+        return 2;
+    }
+    if lengths.iter().any(|&length| length as u64 != n) {
+        return 4;
+    }
+    if neighbours.iter().any(|&word| stray(word, n)) {
+        return 5;
+    }
+    if codes.iter().any(|&code| code > 23) {
+        return 6;
+    }
+    let n = n as usize;
+    let edge = |a: usize, b: usize| neighbours[a] >> b & 1 == 1;
+    if (0..n).any(|a| edge(a, a) || (0..n).any(|b| edge(a, b) != edge(b, a))) {
+        return 7;
+    }
+    0
+}
+
+/// Whether a word has a bit at or above n.
+fn stray(word: u64, n: u64) -> bool {
+    (n..64).any(|q| word >> q & 1 == 1)
+}
+
+/// Whether some product of generators is the identity, signs dropped.
+fn dependent(rows: &[Pauli]) -> bool {
+    let mut left: Vec<Vec<u8>> = rows.iter().map(|row| row.letters.clone()).collect();
+    while let Some(row) = left.pop() {
+        // A place and a bit of it that this row has: clear them from all the others.
+        let Some(q) = row.iter().position(|&letter| letter != 0) else {
+            return true;
+        };
+        let bit = row[q] & row[q].wrapping_neg();
+        for other in left.iter_mut().filter(|other| other[q] & bit != 0) {
+            other.iter_mut().zip(&row).for_each(|(a, b)| *a ^= b);
+        }
+    }
+    false
+}

@@ -1,0 +1,12 @@
+//! Stabilizer states by seeded random circuits, and letter-by-letter Pauli arithmetic.
+#![allow(dead_code, unused_imports)]
+
+pub mod circuit;
+pub mod lists;
+pub mod pauli;
+pub mod random;
+
+pub use circuit::{stabilizers, Circuit, Gate};
+pub use lists::{list, mixed, random_rows, rows};
+pub use pauli::Pauli;
+pub use random::Random;
