@@ -129,7 +129,7 @@ answered l A start end B C k W a number graph signs list count =
       list = ap₂ take count list ∙ C .list
           ∙ ap₂ _++_ (ap (λ c. take c (start .list)) (B .empty)) (ap (imageList n) (B .held));
       count = counted;
-      room = omega (arith, counted, image-length n r G, A .at-most);
+      room = omega (arith, counted, image-length n r G, A .upto);
     }
   where
     n : ℕ

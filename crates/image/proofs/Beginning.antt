@@ -27,7 +27,7 @@ module _ (l : LentRecord) (A : AcceptedRecord l) (codes : List ℕ)
 
   -- at and above n stands code 0
   no-code : (q : ℕ) → l .n ≤ q → getD codes q 0 ≡ 0
-  no-code q m = same-codes q ∙ List·getD-eq-default (l .codes) 0 (le-trans (le-of-eq (A .numbers)) m)
+  no-code q m = same-codes q ∙ List·getD-eq-default (l .codes) 0 (le-trans (le-of-eq (A .codes-length)) m)
 
   module _ (words list : List ℕ) (k : CodeWords) (same-words : (i : ℕ)
       → getD words i 0 ≡ getD (l .neighbours) i 0)

@@ -14,34 +14,14 @@ use Rattle.buffers.specs.Refusals.{badCount, firstFitting, reaching}
 use Rattle.graph.specs.Graph.{Simple}
 use Rattle.stabilizer.proofs.NumbersTrue.{only-where-true}
 use Rattle.stabilizer.proofs.SharedTests.{counted, neither}
-use Rattle.stabilizer.specs.Groups.{Proper}
 use Rattle.words.proofs.BitLaws.{bit-above, zero-bit}
 use Rattle.words.proofs.Sums.{lt-or-ge}
 use Rattle.words.specs.Bits.{bit}
 use Rattle.record.proofs.RecordLines.{record-lengths-are}
 use Rattle.record.proofs.ReducedRecords.{record-proper}
 use Rattle.record.proofs.SimpleVerdict.{SimpleBelow, simple-exactly}
-use Rattle.record.specs.Lent.{
-  LentRecord,
-  heldRecord,
-  heldRows,
-  notSimple,
-  recordCodes,
-  recordLengths,
-  recordLines,
-  recordStray,
-}
-
--- lines 2, 4, 5, 6 and 7 do not hold
-pub record AcceptedRecord (l : LentRecord) : Type 0 where
-  pub positive : 1 ≤ l .n
-  pub upto : l .n ≤ 64
-  pub neighbours-length : length (l .neighbours) ≡ l .n
-  pub codes-length : length (l .codes) ≡ l .n
-  pub words-below : (j : ℕ) → getD (l .neighbours) j 0 < 2 ^ (l .n)
-  pub codes-below : (q : ℕ) → getD (l .codes) q 0 < 24
-  pub simple : Simple (l .n) ((heldRecord l) .graph)
-  pub proper : Proper (l .n) (heldRows l)
+use Rattle.record.specs.Accepted.{AcceptedRecord}
+use Rattle.record.specs.Lent.{LentRecord, heldRecord, notSimple, recordCodes, recordLengths, recordLines, recordStray}
 
 -- a bound of every place of a buffer, past its end too
 below-everywhere : (b : ℕ) (buffer : List ℕ) → 0 < b → reaching b buffer ≡ false → (j : ℕ)

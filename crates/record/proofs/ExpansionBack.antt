@@ -10,9 +10,10 @@ use Rattle.stabilizer.proofs.GroupLaws.{same-sym, same-trans}
 use Rattle.stabilizer.proofs.ReadBack.{back-formed, back-passes, back-proper, back-same, row-past, rows-back}
 use Rattle.stabilizer.specs.Groups.{Proper, SameGroup}
 use Rattle.stabilizer.specs.Lists.{GeneratorList, listLines, listOf, rows}
-use Rattle.record.proofs.AcceptedRecords.{AcceptedRecord, accepted-record}
+use Rattle.record.proofs.AcceptedRecords.{accepted-record}
 use Rattle.record.proofs.ReducedRecords.{equal-exactly}
 use Rattle.record.proofs.WrittenRecords.{reduced-held-same, reduced-passes, writtenRecord}
+use Rattle.record.specs.Accepted.{AcceptedRecord}
 use Rattle.record.specs.Lent.{LentRecord, heldRows}
 use Rattle.record.specs.Records.{SameRecord}
 use Rattle.record.specs.Reduced.{reduced}

@@ -8,7 +8,8 @@ use lib.ListN.{length}
 use borrow.Author.Tests.{ne-eqb}
 use Rattle.buffers.proofs.Lines.{not-held}
 use Rattle.buffers.specs.Refusals.{firstFitting, otherThan}
-use Rattle.record.proofs.AcceptedRecords.{AcceptedRecord, accepted-record}
+use Rattle.record.proofs.AcceptedRecords.{accepted-record}
+use Rattle.record.specs.Accepted.{AcceptedRecord}
 use Rattle.record.specs.Lent.{LentRecord, heldRows, recordLengths, recordLines}
 use Rattle.stabilizer.proofs.SharedTests.{has-length, neither}
 use Rattle.stabilizer.specs.Lists.{listOf}

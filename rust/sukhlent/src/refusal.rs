@@ -94,9 +94,7 @@ impl Refusal {
                 "the image loop stops with every C = 0, \
                  but the image has Y at some vertex's own place"
             }
-            Refusal::Inequivalent => {
-                "no choice of local Cliffords carries one group to the other"
-            }
+            Refusal::Inequivalent => "no choice of local Cliffords carries one group to the other",
         }
     }
 }

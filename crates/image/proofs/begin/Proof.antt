@@ -10,7 +10,7 @@ copied-codes-requires c κs = search needs
 code-words-requires : tie.Need-code-words-requires
 code-words-requires c κs =
     let s = c .before .before .before in
-    (s .pre .at-most, copied-below _ (s .pre) (c .copied-codes .result) (c .copied-codes .ensures))
+    (s .pre .upto, copied-below _ (s .pre) (c .copied-codes .result) (c .copied-codes .ensures))
 
 copied-words-requires : tie.Need-copied-words-requires
 copied-words-requires c κs = search needs

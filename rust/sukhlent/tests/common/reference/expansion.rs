@@ -1,8 +1,8 @@
 //! The generators of a record.
 
 use crate::common::codes::image;
-use crate::common::seeded::pauli::{Pauli, I, X, Z};
 use crate::common::seeded::list;
+use crate::common::seeded::pauli::{Pauli, I, X, Z};
 use sukhlent::{GeneratorList, Record};
 
 /// Generator j: X at j and Z at the neighbours of j, each place then sent through its code.

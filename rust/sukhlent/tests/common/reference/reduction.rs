@@ -39,8 +39,7 @@ fn kept_qubits(rows: &[Pauli]) -> Vec<bool> {
 
 /// A Hadamard at each qubit that is not kept.
 fn hadamards(row: &mut Pauli, kept: &[bool]) {
-    for (q, letter) in row.letters.iter_mut().enumerate().filter(|(q, _)| !kept[*q]) {
-        assert!(!kept[q]);
+    for (letter, _) in row.letters.iter_mut().zip(kept).filter(|(_, &kept)| !kept) {
         match *letter {
             X => *letter = Z,
             Z => *letter = X,
@@ -82,7 +81,12 @@ fn combinations(rows: &[Pauli]) -> Vec<Pauli> {
 /// The Z places of generator j, its own qubit apart.
 fn neighbours(generator: &Pauli, j: usize) -> u64 {
     let mut word = 0;
-    for (q, &letter) in generator.letters.iter().enumerate().filter(|(q, _)| *q != j) {
+    for (q, &letter) in generator
+        .letters
+        .iter()
+        .enumerate()
+        .filter(|(q, _)| *q != j)
+    {
         assert!(letter == I || letter == Z, "{generator:?} at {q}");
         word |= u64::from(letter == Z) << q;
     }

@@ -1,0 +1,88 @@
+//! The examples of document 01.
+
+mod common;
+
+use common::{list, Pauli};
+use sukhlent::{check, expand, reduce, GeneratorList, Record, Refusal};
+
+fn of(texts: &[&str]) -> GeneratorList {
+    let rows: Vec<Pauli> = texts.iter().map(|text| Pauli::parse(text)).collect();
+    list(&rows)
+}
+
+fn record(neighbours: &[u64], codes: &[u8]) -> Record {
+    Record {
+        neighbours: neighbours.to_vec(),
+        codes: codes.to_vec(),
+    }
+}
+
+fn assert_refused(texts: &[&str], refusal: Refusal) {
+    assert_eq!(check(&of(texts)), Err(refusal), "{texts:?}");
+    assert_eq!(reduce(&of(texts)), Err(refusal), "{texts:?}");
+}
+
+#[test]
+fn bell_states() {
+    let edge = record(&[2, 1], &[0, 8]);
+    assert_eq!(reduce(&of(&["XX", "ZZ"])), Ok(edge.clone()));
+    assert_eq!(reduce(&of(&["-XX", "ZZ"])), Ok(record(&[2, 1], &[2, 8])));
+    assert_eq!(reduce(&of(&["XX", "-YY"])), Ok(edge.clone()));
+    assert_eq!(check(&of(&["XX", "-YY"])), Ok(()));
+    assert_eq!(expand(&edge), Ok(of(&["XX", "ZZ"])));
+}
+
+#[test]
+fn one_qubit() {
+    let codes = [
+        ("X", 0),
+        ("-X", 2),
+        ("Y", 4),
+        ("-Y", 6),
+        ("Z", 8),
+        ("-Z", 10),
+    ];
+    for (text, code) in codes {
+        assert_eq!(reduce(&of(&[text])), Ok(record(&[0], &[code])), "{text}");
+        assert_eq!(expand(&record(&[0], &[code])), Ok(of(&[text])), "{text}");
+    }
+}
+
+#[test]
+fn code_12_sends_x_to_x() {
+    // Codes that a reduction does not give: 12 sends X to X, 13 too, and Z to Y or -Y.
+    assert_eq!(expand(&record(&[0], &[12])), Ok(of(&["X"])));
+    assert_eq!(expand(&record(&[2, 1], &[12, 5])), Ok(of(&["-XZ", "YY"])));
+    assert_eq!(expand(&record(&[2, 1], &[13, 6])), Ok(of(&["XZ", "YY"])));
+}
+
+#[test]
+fn sixty_four_qubits_pass_and_sixty_five_give_2() {
+    let all = |n: usize| GeneratorList {
+        signs: vec![1; n],
+        z: (0..n).map(|q| 1u64.wrapping_shl(q as u32)).collect(),
+        x: vec![0; n],
+    };
+    assert_eq!(check(&all(64)), Ok(()));
+    assert_eq!(reduce(&all(64)), Ok(record(&[0; 64], &[10; 64])));
+    assert_eq!(expand(&record(&[0; 64], &[10; 64])), Ok(all(64)));
+    assert_eq!(check(&all(65)), Err(Refusal::Qubits));
+    assert_eq!(reduce(&all(65)), Err(Refusal::Qubits));
+    assert_eq!(expand(&record(&[0; 65], &[0; 65])), Err(Refusal::Qubits));
+    assert_eq!(check(&GeneratorList::default()), Err(Refusal::Qubits));
+    assert_eq!(expand(&Record::default()), Err(Refusal::Qubits));
+}
+
+#[test]
+fn refused_lists() {
+    assert_refused(&["XI", "ZI"], Refusal::Anticommuting);
+    assert_refused(&["XX", "XX"], Refusal::Dependent);
+    assert_refused(&["XX", "-XX"], Refusal::Dependent);
+    assert_refused(&["XX", "II"], Refusal::Dependent);
+    assert_refused(&["-II", "ZZ"], Refusal::Dependent);
+    assert_refused(&["I"], Refusal::Dependent);
+    assert_refused(&["-I"], Refusal::Dependent);
+    assert_refused(&["XXI", "IXX", "XIX"], Refusal::Dependent);
+    // Dependent and not commuting: the earlier number.
+    assert_refused(&["XII", "ZII", "ZII"], Refusal::Anticommuting);
+}
