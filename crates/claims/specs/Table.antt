@@ -1,8 +1,18 @@
 -- Document 01's examples with a star: what the definitions give, beside what the document says.
 -- Assumes nothing.
-use mathlib.Core.List.{List, [], _∷_, map}
+use mathlib.Core.List.{_++_, List, [], map, _∷_}
 use Prim.Native.Nat.{ℕ}
+use lib.ListN.{replicate}
+use Rattle.buffers.specs.Buffers.{tabulate}
+use Rattle.buffers.specs.Refusals.{firstFitting}
 use Rattle.clifford.specs.Clifford.{cliffordOf, codeOf, inverse, then}
+use Rattle.image.specs.Image.{imageGraph, imageLines, imageMinus}
+use Rattle.image.specs.Rule.{imageList}
+use Rattle.record.specs.Lent.{LentRecord, codeNumbers, heldRecord, neighbourWords}
+use Rattle.record.specs.Reduced.{reduced}
+use Rattle.stabilizer.specs.Lists.{GeneratorList, rows}
+use Rattle.sukhlent.specs.Calls.{checkLines}
+use Rattle.words.specs.Bits.{digit, wordOf}
 
 pub record Example : Type 0 where
   pub given : List ℕ
@@ -18,11 +28,48 @@ composed a b = codeOf (then (cliffordOf a) (cliffordOf b))
 abbrev inverseCode : ℕ → ℕ
 inverseCode a = codeOf (inverse (cliffordOf a))
 
+-- the number, the neighbour words and the codes that a list reduces to
+abbrev reduces : GeneratorList → List ℕ
+reduces l =
+    firstFitting (checkLines l)
+    ∷ (neighbourWords (l .n) (reduced (l .n) (rows l)) ++ codeNumbers (l .n) (reduced (l .n) (rows l)))
+
+-- the number, the image graph, its minus signs and the list of complementations
+abbrev images : LentRecord → List ℕ
+images l =
+    firstFitting (imageLines l (replicate (l .n) 0) (replicate (l .n) 0) (replicate 96 0))
+    ∷ (tabulate (l .n) (λ j. wordOf (l .n) (imageGraph (l .n) (heldRecord l) j))
+    ++ (tabulate (l .n) (λ j. digit (imageMinus (l .n) (heldRecord l) j)) ++ imageList (l .n) (heldRecord l)))
+
+-- the number alone
+abbrev imageNumber : LentRecord → List ℕ
+imageNumber l = firstFitting (imageLines l (replicate (l .n) 0) (replicate (l .n) 0) (replicate 96 0)) ∷ []
+
+abbrev list : ℕ → List ℕ → List ℕ → List ℕ → GeneratorList
+list n s z x = record { n = n; signs = s; z = z; x = x }
+
+abbrev graph : ℕ → List ℕ → List ℕ → LentRecord
+graph n neighbours codes = record { n = n; neighbours = neighbours; codes = codes }
+
 abbrev pub table : List Example
 table =
     -- 8 then 8 is 0; 4 then 4 is 2; 8 then 4 is 20; 4 then 8 is 18; the inverse of 12 is 13
     example (composed 8 8 ∷ composed 4 4 ∷ composed 8 4 ∷ composed 4 8 ∷ inverseCode 12 ∷ [])
     (0 ∷ 2 ∷ 20 ∷ 18 ∷ 13 ∷ [])
+    -- XX, ZZ: one edge, codes 0, 8; -XX, ZZ: codes 2, 8; XX, -YY: as XX, ZZ
+    ∷ example (reduces (list 2 (0 ∷ 0 ∷ []) (0 ∷ 3 ∷ []) (3 ∷ 0 ∷ []))) (0 ∷ 2 ∷ 1 ∷ 0 ∷ 8 ∷ [])
+    ∷ example (reduces (list 2 (1 ∷ 0 ∷ []) (0 ∷ 3 ∷ []) (3 ∷ 0 ∷ []))) (0 ∷ 2 ∷ 1 ∷ 2 ∷ 8 ∷ [])
+    ∷ example (reduces (list 2 (0 ∷ 1 ∷ []) (0 ∷ 3 ∷ []) (3 ∷ 3 ∷ []))) (0 ∷ 2 ∷ 1 ∷ 0 ∷ 8 ∷ [])
+    -- one qubit: +Y gives code 4; -Z gives 10
+    ∷ example (reduces (list 1 (0 ∷ []) (1 ∷ []) (1 ∷ []))) (0 ∷ 0 ∷ 4 ∷ [])
+    ∷ example (reduces (list 1 (1 ∷ []) (1 ∷ []) (0 ∷ []))) (0 ∷ 0 ∷ 10 ∷ [])
+    -- star with centre 0 and leaves 1, 2, codes 12, 4, 4: triangle, no minus signs, list 0
+    ∷ example (images (graph 3 (6 ∷ 1 ∷ 1 ∷ []) (12 ∷ 4 ∷ 4 ∷ []))) (0 ∷ 6 ∷ 5 ∷ 3 ∷ 0 ∷ 0 ∷ 0 ∷ 0 ∷ [])
+    -- one edge, codes 8, 8: the same edge, list 0, 1, 0
+    ∷ example (images (graph 2 (2 ∷ 1 ∷ []) (8 ∷ 8 ∷ []))) (0 ∷ 2 ∷ 1 ∷ 0 ∷ 0 ∷ 0 ∷ 1 ∷ 0 ∷ [])
+    -- one qubit, code 8: refusal 11; code 4: refusal 12
+    ∷ example (imageNumber (graph 1 (0 ∷ []) (8 ∷ []))) (11 ∷ [])
+    ∷ example (imageNumber (graph 1 (0 ∷ []) (4 ∷ []))) (12 ∷ [])
     ∷ []
 
 abbrev pub given : List (List ℕ)

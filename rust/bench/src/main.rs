@@ -14,7 +14,9 @@ use timing::medians;
 type Reduce = fn(u64, &[u8], &[u64], &[u64], &mut [u64], &mut [u8]) -> u8;
 
 /// The number of lists of each size.
-const LISTS: usize = 64;
+const LISTS: usize = 512;
+/// The number of lists in a timed sample.
+const SAMPLE: usize = 8;
 
 fn main() {
     println!("reduce, median time of one list");
@@ -25,13 +27,20 @@ fn main() {
     for n in [8, 16, 32, 64] {
         let lists = lists(n);
         assert_same_answers(&lists);
-        let [engine, plain] = medians([&mut || run(raw::reduce, &lists), &mut || {
-            run(plain::reduce, &lists)
-        }])
-        .map(|time| time / LISTS as f64);
+        let [engine, plain] = [raw::reduce as Reduce, plain::reduce].map(|reduce| {
+            let lists = &lists;
+            move |sample| run(reduce, part(lists, sample))
+        });
+        let [engine, plain] = medians([&engine, &plain]).map(|time| time / SAMPLE as f64);
         let ratio = engine / plain;
         println!("{n:>4} {engine:>9.0} ns {plain:>9.0} ns {ratio:>7.2}");
     }
+}
+
+/// The lists of a sample; the samples go through all lists in turn.
+fn part(lists: &[GeneratorList], sample: usize) -> &[GeneratorList] {
+    let first = sample * SAMPLE % LISTS;
+    &lists[first..first + SAMPLE]
 }
 
 /// Seeded lists of generic states on n qubits.

@@ -87,10 +87,12 @@ fn eliminate(rows: &mut [Row], mut rank: usize, columns: u64, owner: &mut [usize
         };
         rows.swap(rank, found);
         let pivot = rows[rank];
-        for (k, row) in rows.iter_mut().enumerate() {
-            if k != rank && row.x >> q & 1 == 1 {
-                row.multiply(pivot);
-            }
+        let column = rows.iter().enumerate();
+        let mut others = column.fold(0, |word, (k, row)| word | (row.x >> q & 1) << k);
+        others ^= 1 << rank;
+        while others != 0 {
+            rows[others.trailing_zeros() as usize].multiply(pivot);
+            others &= others - 1;
         }
         owner[q] = rank;
         pivots |= 1 << q;
