@@ -16,7 +16,7 @@ use Rattle.reduction.specs.Passes.{Reducible}
 use Rattle.stabilizer.proofs.Accepted.{early-accepted, early-numbered, early-passed}
 use Rattle.stabilizer.proofs.SharedTests.{has-length, neither}
 use Rattle.stabilizer.specs.Lists.{GeneratorList, dependent, earlyLines, listLengths, listLines, rows}
-use Rattle.sukhlent.specs.Calls.{Reduced, reduceLines}
+use Rattle.sukhlent.specs.Calls.{ReduceCall, reduceLines}
 
 -- ---- the early lines, and dependence after them
 module _ (l : GeneratorList) (others : Bool) (k : ℕ) (e : k ≡ firstFitting (earlyLines l others)) where
@@ -62,7 +62,7 @@ module _ (l : GeneratorList) (nb cs : List ℕ) (others : Bool)
   at-lines : {r : ℕ} → r ≡ firstFitting (listLines l others) → r ≡ firstFitting (reduceLines l nb cs)
   at-lines p = p ∙ ap (λ b. firstFitting (listLines l b)) o
 
-  pub reduce-refused : (k ≡ 0 → ⊥) → Reduced l nb cs k nb cs
+  pub reduce-refused : (k ≡ 0 → ⊥) → ReduceCall l nb cs k nb cs
   reduce-refused h =
       record {
         number = at-lines (refused-early l others k e h);
@@ -83,7 +83,7 @@ module _ (l : GeneratorList) (nb cs : List ℕ) (others : Bool)
     module _ (b : Bool) (d : b ≡ not (dependent (l .n) (rows l))) (nb′ cs′ : List ℕ)
         (en : nb′ ≡ cond b (neighbourWords (l .n) (reduced (l .n) (rows l))) nb)
         (ec : cs′ ≡ cond b (codeNumbers (l .n) (reduced (l .n) (rows l))) cs) where
-      pub reduce-accepted : b ≡ true → Reduced l nb cs 0 nb′ cs′
+      pub reduce-accepted : b ≡ true → ReduceCall l nb cs 0 nb′ cs′
       reduce-accepted t =
           record {
             number = at-lines (accepted-last l others k e z b d t);
@@ -91,7 +91,7 @@ module _ (l : GeneratorList) (nb cs : List ℕ) (others : Bool)
             numbers = ec ∙ ap (λ v. cond v (codeNumbers (l .n) (reduced (l .n) (rows l))) cs) t;
           }
 
-      pub reduce-dependent : b ≡ false → Reduced l nb cs 10 nb′ cs′
+      pub reduce-dependent : b ≡ false → ReduceCall l nb cs 10 nb′ cs′
       reduce-dependent t =
           record {
             number = at-lines (refused-last l others k e z b d t);

@@ -13,7 +13,7 @@ use Rattle.record.specs.Accepted.{AcceptedRecord}
 use Rattle.record.specs.Lent.{LentRecord, heldRows, recordLengths, recordLines}
 use Rattle.stabilizer.proofs.SharedTests.{has-length, neither}
 use Rattle.stabilizer.specs.Lists.{listOf}
-use Rattle.sukhlent.specs.Calls.{Expanded, expandLines}
+use Rattle.sukhlent.specs.Calls.{ExpandCall, expandLines}
 
 module _ (l : LentRecord) (s z x : List ℕ) (others : Bool)
     (o : others ≡ (otherThan (l .n) s || (otherThan (l .n) z || otherThan (l .n) x))) (k : ℕ)
@@ -21,7 +21,7 @@ module _ (l : LentRecord) (s z x : List ℕ) (others : Bool)
   at-lines : k ≡ firstFitting (expandLines l s z x)
   at-lines = e ∙ ap (λ b. firstFitting (recordLines l b false)) o
 
-  pub expand-refused : (k ≡ 0 → ⊥) → Expanded l s z x k s z x
+  pub expand-refused : (k ≡ 0 → ⊥) → ExpandCall l s z x k s z x
   expand-refused h =
       record {
         number = at-lines;
@@ -52,6 +52,6 @@ module _ (l : LentRecord) (s z x : List ℕ) (others : Bool)
 
     pub expand-accepted : (s′ z′ x′ : List ℕ) → s′ ≡ (listOf (l .n) (heldRows l)) .signs →
         z′ ≡ (listOf (l .n) (heldRows l)) .z → x′ ≡ (listOf (l .n) (heldRows l)) .x
-        → Expanded l s z x 0 s′ z′ x′
+        → ExpandCall l s z x 0 s′ z′ x′
     expand-accepted s′ z′ x′ es ez ex =
         record { number = sym a ∙ at-lines; sign-bits = es; z-words = ez; x-words = ex }

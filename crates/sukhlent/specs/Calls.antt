@@ -25,17 +25,17 @@ expandLines l signs z x =
     recordLines l (otherThan (l .n) signs || (otherThan (l .n) z || otherThan (l .n) x)) false
 
 -- ---- sukhlent_check
-pub record Checked (l : GeneratorList) (r : ℕ) : Type 0 where
+pub record CheckCall (l : GeneratorList) (r : ℕ) : Type 0 where
   pub number : r ≡ firstFitting (checkLines l)
 
 -- ---- sukhlent_reduce: the reduced record of the list
-pub record Reduced (l : GeneratorList) (neighbours codes : List ℕ) (r : ℕ) (neighbours′ codes′ : List ℕ) : Type 0 where
+pub record ReduceCall (l : GeneratorList) (neighbours codes : List ℕ) (r : ℕ) (neighbours′ codes′ : List ℕ) : Type 0 where
   pub number : r ≡ firstFitting (reduceLines l neighbours codes)
   pub words : neighbours′ ≡ accepted r (neighbourWords (l .n) (reduced (l .n) (rows l))) neighbours
   pub numbers : codes′ ≡ accepted r (codeNumbers (l .n) (reduced (l .n) (rows l))) codes
 
 -- ---- sukhlent_expand: the record's generators in order
-pub record Expanded (l : LentRecord) (signs z x : List ℕ) (r : ℕ) (signs′ z′ x′ : List ℕ) : Type 0 where
+pub record ExpandCall (l : LentRecord) (signs z x : List ℕ) (r : ℕ) (signs′ z′ x′ : List ℕ) : Type 0 where
   pub number : r ≡ firstFitting (expandLines l signs z x)
   pub sign-bits : signs′ ≡ accepted r ((listOf (l .n) (heldRows l)) .signs) signs
   pub z-words : z′ ≡ accepted r ((listOf (l .n) (heldRows l)) .z) z

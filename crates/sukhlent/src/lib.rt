@@ -7,7 +7,7 @@ use stabilizer::early_refusal;
 ghost use mathlib.Core.Bool.{not};
 ghost use mathlib.Core.Path.{_≡_};
 ghost use lib.Dec.{eqb};
-ghost use Rattle.sukhlent.specs.Calls.{Checked, Expanded, Reduced};
+ghost use Rattle.sukhlent.specs.Calls.{CheckCall, ExpandCall, ReduceCall};
 
 // Whether a buffer's length is other than n.
 fn other_than(length: usize, n: u64) -> bool
@@ -19,7 +19,7 @@ fn other_than(length: usize, n: u64) -> bool
 // Lines 2, 4, 5, 6, 9 and 10 of a generator list.
 #[no_mangle]
 pub extern "C" fn sukhlent_check(n: u64, signs: &[u8], z: &[u64], x: &[u64]) -> u8
-    ensures { λ r. ⌜ Checked (record { n = n; signs = now (signs .entry); z = now (z .entry); x = now (x .entry) }) r ⌝ }
+    ensures { λ r. ⌜ CheckCall (record { n = n; signs = now (signs .entry); z = now (z .entry); x = now (x .entry) }) r ⌝ }
 {
     let early = early_refusal(n, signs, z, x, false);
     if early != 0 {
@@ -52,7 +52,7 @@ pub extern "C" fn sukhlent_reduce(
     neighbours: &mut [u64],
     codes: &mut [u8],
 ) -> u8
-    ensures { λ r. ⌜ Reduced
+    ensures { λ r. ⌜ ReduceCall
         (record { n = n; signs = now (signs .entry); z = now (z .entry); x = now (x .entry) })
         (now (neighbours .entry)) (now (codes .entry)) r (now (neighbours .exit)) (now (codes .exit)) ⌝ }
 {
@@ -79,7 +79,7 @@ pub extern "C" fn sukhlent_expand(
     z: &mut [u64],
     x: &mut [u64],
 ) -> u8
-    ensures { λ r. ⌜ Expanded
+    ensures { λ r. ⌜ ExpandCall
         (record { n = n; neighbours = now (neighbours .entry); codes = now (codes .entry) })
         (now (signs .entry)) (now (z .entry)) (now (x .entry)) r (now (signs .exit)) (now (z .exit)) (now (x .exit)) ⌝ }
 {

@@ -1,0 +1,132 @@
+-- Demand 2 of lists and records: each statement from the calls' contracts and the laws below.
+-- Assumes nothing.
+use mathlib.Core.Bool.{false}
+use mathlib.Core.List.{List}
+use mathlib.Core.Path.{ap, subst, sym, _∙_, _≡_}
+use Prim.Native.Nat.{ℕ}
+use lib.ListN.{getD}
+use Rattle.buffers.proofs.Tabulate.{tabulate-at}
+use Rattle.buffers.specs.Buffers.{accepted}
+use Rattle.pauli.specs.Pauli.{Pauli}
+use Rattle.record.proofs.AcceptedRecords.{accepted-record}
+use Rattle.record.proofs.ExpansionBack.{expanded, expansion-back, reduced-expands-back}
+use Rattle.record.proofs.ReducedCodes.{reduced-codes-among}
+use Rattle.record.proofs.ReducedRecords.{equal-exactly}
+use Rattle.record.proofs.Unique.{record-path}
+use Rattle.record.proofs.WrittenRecords.{reduced-back, reduced-held-same, writtenRecord}
+use Rattle.record.specs.Accepted.{AcceptedRecord}
+use Rattle.record.specs.Lent.{LentRecord, codeNumbers, heldRecord, heldRows, neighbourWords}
+use Rattle.record.specs.Records.{SameRecord}
+use Rattle.record.specs.Reduced.{reduced}
+use Rattle.stabilizer.proofs.Accepted.{AcceptedList, accepted-list}
+use Rattle.stabilizer.specs.Groups.{Proper, SameGroup}
+use Rattle.stabilizer.specs.Lists.{GeneratorList, rows}
+use Rattle.sukhlent.specs.Calls.{ExpandCall, ReduceCall}
+use Rattle.claims.specs.SecondDemand.{
+  BroughtBack,
+  EqualExactly,
+  ExpansionBringsBack,
+  ReducedCodes,
+  ReducesToItself,
+  ReductionKeepsGroup,
+}
+
+-- records and lists as they are lent, by their buffers
+lent : {n : ℕ} {nb nb₂ cs cs₂ : List ℕ} → nb ≡ nb₂ → cs ≡ cs₂ →
+    _≡_ {A = LentRecord} (record { n = n; neighbours = nb; codes = cs })
+    (record { n = n; neighbours = nb₂; codes = cs₂ })
+lent {n} p q = λ i. record { n = n; neighbours = p i; codes = q i }
+
+listed : {n : ℕ} {s s₂ z z₂ x x₂ : List ℕ} → s ≡ s₂ → z ≡ z₂ → x ≡ x₂ →
+    _≡_ {A = GeneratorList} (record { n = n; signs = s; z = z; x = x })
+    (record { n = n; signs = s₂; z = z₂; x = x₂ })
+listed {n} p q r = λ i. record { n = n; signs = p i; z = q i; x = r i }
+
+-- ---- an accepted reduction
+module _ (l : GeneratorList) (nb cs nb′ cs′ : List ℕ) (C : ReduceCall l nb cs 0 nb′ cs′) where
+  reduced-list : AcceptedList l
+  reduced-list = accepted-list l _ (sym (C .number))
+
+  -- the buffers hold the reduced record
+  pub holds-reduced : _≡_ {A = LentRecord} (record { n = l .n; neighbours = nb′; codes = cs′ })
+      (writtenRecord (l .n) (reduced (l .n) (rows l)))
+  holds-reduced = lent (C .words) (C .numbers)
+
+pub reduction-keeps-group : ReductionKeepsGroup
+reduction-keeps-group l nb cs nb′ cs′ C =
+    subst (λ r. SameGroup (l .n) (l .n) (rows l) (heldRows r)) (sym (holds-reduced l nb cs nb′ cs′ C))
+    (reduced-held-same (l .n) (rows l) (reduced-list l nb cs nb′ cs′ C .proper))
+
+-- ---- an accepted expansion
+module _ (l : LentRecord) (s z x s′ z′ x′ : List ℕ) (C : ExpandCall l s z x 0 s′ z′ x′) where
+  expanded-record : AcceptedRecord l
+  expanded-record = accepted-record l _ false (sym (C .number))
+
+  -- the buffers hold the record's generators
+  pub holds-expanded : _≡_ {A = GeneratorList} (record { n = l .n; signs = s′; z = z′; x = x′ }) (expanded l)
+  holds-expanded = listed (C .sign-bits) (C .z-words) (C .x-words)
+
+pub expansion-brings-back : ExpansionBringsBack
+expansion-brings-back l s z x s′ z′ x′ C =
+    let B = expansion-back l (expanded-record l s z x s′ z′ x′ C) in
+    subst (BroughtBack l) (sym (holds-expanded l s z x s′ z′ x′ C))
+    (record { accepted = B .passes; group = B .group })
+
+-- ---- equal records exactly if equal groups
+pub equal-records-exactly : EqualExactly
+equal-records-exactly n s z x s₂ z₂ x₂ nb cs nb₂ cs₂ nb′ cs′ nb₂′ cs₂′ C D = (
+  λ e. equal-exactly n R S P Q .0 (same (lent (e .0) (e .1))),
+  λ g. let e = record-path _ _ (equal-exactly n R S P Q .1 g) in (
+    C .words ∙ ap (neighbourWords n) e ∙ sym (D .words),
+    C .numbers ∙ ap (codeNumbers n) e
+        ∙ sym (D .numbers),
+  ),
+)
+  where
+    first-list : GeneratorList
+    first-list = record { n = n; signs = s; z = z; x = x }
+
+    R : ℕ → Pauli
+    R = rows (record { n = n; signs = s; z = z; x = x })
+
+    S : ℕ → Pauli
+    S = rows (record { n = n; signs = s₂; z = z₂; x = x₂ })
+
+    P : Proper n R
+    P = reduced-list _ nb cs nb′ cs′ C .proper
+
+    Q : Proper n S
+    Q = reduced-list _ nb₂ cs₂ nb₂′ cs₂′ D .proper
+
+    same : _≡_ {A = LentRecord} (record { n = n; neighbours = nb′; codes = cs′ })
+        (record { n = n; neighbours = nb₂′; codes = cs₂′ }) → SameRecord (reduced n R) (reduced n S)
+    same e =
+        let p = sym (record-path _ _ (reduced-back n R P))
+        ∙ ap heldRecord (sym (holds-reduced _ nb cs nb′ cs′ C) ∙ e
+        ∙ holds-reduced _ nb₂ cs₂ nb₂′ cs₂′ D) ∙ record-path _ _ (reduced-back n S Q) in
+        record { neighbours = λ i j. ap (λ r. r .graph i j) p; code = λ q. ap (λ r. r .codes q) p }
+
+-- ---- the reduced record of a reduced record's expansion
+pub reduces-to-itself : ReducesToItself
+reduces-to-itself l nb cs nb′ cs′ s z x s′ z′ x′ nb₂ cs₂ nb₂′ cs₂′ C E D = (
+  D .words ∙ ap (λ r. neighbourWords (l .n) r) again ∙ sym (C .words),
+  D .numbers ∙ ap (λ r. codeNumbers (l .n) r) again ∙ sym (C .numbers),
+)
+  where
+    R : ℕ → Pauli
+    R = rows l
+
+    P : AcceptedList l
+    P = reduced-list l nb cs nb′ cs′ C
+
+    again : reduced (l .n) (rows (record { n = l .n; signs = s′; z = z′; x = x′ })) ≡ reduced (l .n) (rows l)
+    again =
+        ap (λ m. reduced (l .n) (rows m))
+        (holds-expanded _ s z x s′ z′ x′ E ∙ ap expanded (holds-reduced l nb cs nb′ cs′ C))
+        ∙ record-path _ _ (reduced-expands-back (l .n) (rows l) (P .proper) (P .formed .positive)
+        (P .formed .upto))
+
+pub reduced-codes : ReducedCodes
+reduced-codes l nb cs nb′ cs′ C q k =
+    let A = reduced-codes-among (l .n) (rows l) (reduced-list l nb cs nb′ cs′ C .proper) q in
+    (A .0, A .1, ap (λ v. getD v q 0) (C .numbers) ∙ tabulate-at (l .n) _ q k ∙ A .2)
