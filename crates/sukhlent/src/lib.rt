@@ -28,18 +28,15 @@ pub extern "C" fn sukhlent_check(n: u64, signs: &[u8], z: &[u64], x: &[u64]) -> 
     let count = n as usize;
     let mut neighbours = [0u64; 64];
     let mut codes = [0u8; 64];
-    if reduce_list(
+    let independent = reduce_list(
         count,
         signs,
         z,
         x,
         &mut neighbours[..count],
         &mut codes[..count],
-    ) {
-        0
-    } else {
-        10
-    }
+    );
+    if independent { 0 } else { 10 }
 }
 
 // The reduced record of a generator list.
