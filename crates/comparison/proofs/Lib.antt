@@ -1,0 +1,5 @@
+pub mod Numerals
+pub mod NumberOrder
+pub mod Members
+pub mod Least
+pub mod InducedCodes
