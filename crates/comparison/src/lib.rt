@@ -1,1 +1,2 @@
 // The comparison of two states.
+mod equations;
