@@ -22,8 +22,7 @@ use Rattle.words.proofs.Sums.{fold-ext, lt-or-ge}
 use Rattle.words.specs.Search.{IsFirst, first, some}
 use Rattle.comparison.proofs.Members.{carries-is}
 use Rattle.comparison.proofs.NumberOrder.{number-order, numbered}
-use Rattle.comparison.specs.Choices.{Agree, Before, FirstDiffers, LeastChoice, carries, choiceAt,
-    classKey, leastCode, leastNumber, noChoice, signKey}
+use Rattle.comparison.specs.Choices.{Agree, Before, FirstDiffers, LeastChoice, carries, choiceAt, classKey, leastCode, leastNumber, noChoice, signKey}
 
 -- ---- the order is one way only
 differs-once : (n : ℕ) (f g : ℕ → ℕ) → FirstDiffers n f g → FirstDiffers n g f → ⊥
@@ -118,7 +117,7 @@ module _ (n : ℕ) (rows others : ℕ → Pauli) (W : (j : ℕ) → j < n → Wi
 
   least-first : (k : ℕ) → IsFirst (24 ^ n) works k → LeastChoice n rows others (choiceAt n k)
   least-first k F =
-      record { works = works-is k .0 (F .passes); least =
+      record { among = works-is k .0 (F .passes); least =
           λ d C. go d C (decLt k (numbered n d .0)) (decLt (numbered n d .0) k) }
     where
       go : (d : ℕ → Clifford) → Carries n d rows others → Dec (k < numbered n d .0)
@@ -164,7 +163,7 @@ module _ (n : ℕ) (rows others : ℕ → Pauli) (W : (j : ℕ) → j < n → Wi
 
   pub least-unique : (c d : ℕ → Clifford) → LeastChoice n rows others c → LeastChoice n rows others d
       → Agree n c d
-  least-unique c d L M = go (L .least d (M .works)) (M .least c (L .works))
+  least-unique c d L M = go (L .least d (M .among)) (M .least c (L .among))
     where
       go : Agree n c d ⊎ Before n c d → Agree n d c ⊎ Before n d c → Agree n c d
       go (inl a) b = a
@@ -177,7 +176,7 @@ module _ (n : ℕ) (rows others : ℕ → Pauli) (W : (j : ℕ) → j < n → Wi
   least-equation c L = (some-choice, least-unique c _ L (least-is some-choice))
     where
       some-choice : noChoice n rows others ≡ false
-      some-choice = never (noChoice n rows others) (λ e. none-carries .0 e c (L .works))
+      some-choice = never (noChoice n rows others) (λ e. none-carries .0 e c (L .among))
         where
           never : (b : Bool) → (b ≡ true → ⊥) → b ≡ false
           never true h = absurd (h refl)

@@ -3,3 +3,4 @@ pub mod NumberOrder
 pub mod Members
 pub mod Least
 pub mod InducedCodes
+pub mod LexicographicStep

@@ -56,10 +56,14 @@ Before n c d =
 abbrev pub Agree : ℕ → (ℕ → Clifford) → (ℕ → Clifford) → Type 0
 Agree n c d = (q : ℕ) → q < n → c q ≡ d q
 
--- "the least choice that does so": it works, "and every other choice that works comes later"
-pub record LeastChoice (n : ℕ) (rows others : ℕ → Pauli) (c : ℕ → Clifford) : Type 0 where
-  pub works : Carries n c rows others
-  pub least : (d : ℕ → Clifford) → Carries n d rows others → Agree n c d ⊎ Before n c d
+-- the least of the choices in K: one of them, "and every other choice .. comes later"
+pub record LeastOf (n : ℕ) (K : (ℕ → Clifford) → Type 0) (c : ℕ → Clifford) : Type 0 where
+  pub among : K c
+  pub least : (d : ℕ → Clifford) → K d → Agree n c d ⊎ Before n c d
+
+-- "Of all choices that work, take the least"
+abbrev pub LeastChoice : ℕ → (ℕ → Pauli) → (ℕ → Pauli) → (ℕ → Clifford) → Type 0
+LeastChoice n rows others = LeastOf n (λ d. Carries n d rows others)
 
 -- ---- the least choice, as an equation
 -- digit q of the number a in base b, of n digits, digit 0 leading

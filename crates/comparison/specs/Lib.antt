@@ -1,3 +1,4 @@
 pub mod Choices
 pub mod Compared
+pub mod Searches
 pub mod Equations

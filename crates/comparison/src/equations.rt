@@ -58,3 +58,21 @@ pub fn holds(e: Equation, w: Assignment) -> bool
     let left = ((e.a & w.a) ^ (e.b & w.b)) ^ ((e.c & w.c) ^ (e.d & w.d));
     odd(left) ^ e.sum
 }
+
+use clifford::send;
+use pauli::Generator;
+ghost use Rattle.pauli.specs.Rows.{generatorOf};
+ghost use Rattle.clifford.specs.Vectors.{act, codesOf};
+ghost use lib.ListN.{getD};
+pub fn sent_through(g: Generator, ch: [u8; 20]) -> Generator
+    requires { ⌜ ((q : ℕ) → getD ch q 0 < 24) ⌝ }
+    ensures { λ r. ⌜ generatorOf r ≡ act 64 (codesOf ch) (generatorOf g) ⌝ }
+{
+    send(g, &ch)
+}
+pub fn gen_at(first: [Generator; 20], r: usize) -> Generator
+    requires { ⌜ r < 20 ⌝ }
+    ensures { λ r. ⌜ r ≡ r ⌝ }
+{
+    first[r]
+}
