@@ -34,7 +34,7 @@ module _ (n : ℕ) (rows others : ℕ → Pauli) (P : Proper n rows) (P′ : Pro
       (graphGenerator (reducedGraph n others))
   induced-carries =
       same-rows n n _ _ _ (λ j l. act-inverse n (reducedCode n others)
-          (graphGenerator (reducedGraph n others) j))
+      (graphGenerator (reducedGraph n others) j))
       (same-sym (same-rows n n _ _ _ (λ j l. sym (steps (graphGenerator (reducedGraph n rows) j)))
       (same-sym (act-same n n undone _ _ carried))))
     where

@@ -117,8 +117,11 @@ module _ (n : ℕ) (rows others : ℕ → Pauli) (W : (j : ℕ) → j < n → Wi
 
   least-first : (k : ℕ) → IsFirst (24 ^ n) works k → LeastChoice n rows others (choiceAt n k)
   least-first k F =
-      record { among = works-is k .0 (F .passes); least =
-          λ d C. go d C (decLt k (numbered n d .0)) (decLt (numbered n d .0) k) }
+      record {
+        among = works-is k .0 (F .passes);
+        least =
+            λ d C. go d C (decLt k (numbered n d .0)) (decLt (numbered n d .0) k);
+      }
     where
       go : (d : ℕ → Clifford) → Carries n d rows others → Dec (k < numbered n d .0)
           → Dec (numbered n d .0 < k)

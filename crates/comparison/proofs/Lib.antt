@@ -4,3 +4,4 @@ pub mod Members
 pub mod Least
 pub mod InducedCodes
 pub mod LexicographicStep
+pub mod EquationLaws

@@ -32,7 +32,7 @@ both-true false b e = absurd (false≢true e)
 pub sameRow-refl : (n : ℕ) (p : Pauli) → sameRow n p p ≡ true
 sameRow-refl n p =
     ap₂ _&&_ (phase (p .phase))
-        (every-in n _ (λ q l. ap₂ _&&_ (sameBit-true {a = p .z q} refl) (sameBit-true {a = p .x q} refl)))
+    (every-in n _ (λ q l. ap₂ _&&_ (sameBit-true {a = p .z q} refl) (sameBit-true {a = p .x q} refl)))
   where
     phase : (t : Phase) → samePhase t t ≡ true
     phase i⁰ = refl
@@ -110,10 +110,10 @@ module _ (n : ℕ) (c : ℕ → Clifford) (rows others : ℕ → Pauli) (W : (j 
             (act-product n n rows c (bit (wordOf n (a .0))) ∙ word-product n (a .0) sent ∙ sym (a .1))
             (member-in n others W′ _ (outside (wordOf n (a .0))) (every-at (2 ^ n)
             (λ v. member n others (act n c (product n n (bit v) rows))) (b .0) (wordOf n (a .0))
-                (wordOf-lt n (a .0))));
+            (wordOf-lt n (a .0))));
         back = λ p a. subst (InGroup n n sent) (word-product n (a .0) others ∙ sym (a .1))
             (member-in n sent sent-within _ (product-within n n (bit (wordOf n (a .0))) others W′)
-                (every-at (2 ^ n)
+            (every-at (2 ^ n)
             (λ v. member n sent (product n n (bit v) others)) (b .1) (wordOf n (a .0)) (wordOf-lt n (a .0))));
       }
     where

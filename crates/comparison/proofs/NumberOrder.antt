@@ -13,10 +13,23 @@ use Rattle.clifford.proofs.CliffordLaws.{cliffords, fromFive, onClifford}
 use Rattle.clifford.specs.Clifford.{Class, Clifford, XY, XZ, YX, YZ, ZX, ZY, classNumber, classOf, cliffordOf}
 use Rattle.words.proofs.BitLaws.{digit-odd}
 use Rattle.words.specs.Bits.{digit}
-use Rattle.comparison.proofs.Numerals.{division-splits, numeral, numeral-digit, numeral-lt,
-    numeral-order}
-use Rattle.comparison.specs.Choices.{Agree, Before, FirstDiffers, choice, choiceAt, classKey, digitAt,
-    signKey}
+use Rattle.comparison.proofs.Numerals.{
+  division-splits,
+  numeral,
+  numeral-digit,
+  numeral-lt,
+  numeral-order,
+}
+use Rattle.comparison.specs.Choices.{
+  Agree,
+  Before,
+  FirstDiffers,
+  choice,
+  choiceAt,
+  classKey,
+  digitAt,
+  signKey,
+}
 
 four-pos : (n : ℕ) → 0 < 4 ^ n
 four-pos zero = subst (λ k. 0 < k) (sym (pow-zero 4)) (lit< tt)
@@ -29,7 +42,7 @@ pub pow-mul : (n : ℕ) → 24 ^ n ≡ 6 ^ n * 4 ^ n
 pow-mul zero = pow-zero 24 ∙ sym (ap₂ _*_ (pow-zero 6) (pow-zero 4))
 pow-mul (suc n) =
     pow-suc 24 n ∙ ap (λ k. k * 24) (pow-mul n) ∙ regroup (6 ^ n) (4 ^ n)
-        ∙ sym (ap₂ _*_ (pow-suc 6 n) (pow-suc 4 n))
+    ∙ sym (ap₂ _*_ (pow-suc 6 n) (pow-suc 4 n))
   where
     regroup : (u v : ℕ) → u * v * 24 ≡ u * 6 * (v * 4)
     regroup u v =
@@ -61,7 +74,7 @@ signKey-lt k = go (k .sx) (k .sz)
 pub code-of-keys : (k : Clifford) → cliffordOf (4 * classKey k + signKey k) ≡ k
 code-of-keys =
     onClifford _ (cliffords 5 (λ a b c d e. let k = fromFive a b c d e in
-        cliffordOf (4 * classKey k + signKey k))
+    cliffordOf (4 * classKey k + signKey k))
     fromFive tt)
 
 class-number : (a : ℕ) → a < 6 → classNumber (classOf a) ≡ a

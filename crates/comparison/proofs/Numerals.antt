@@ -6,8 +6,17 @@ use mathlib.Core.Logic.{inl, inr, _⊎_}
 use mathlib.Core.Path.{ap, subst, subst₂, sym, _∙_, _≡_}
 use Prim.Native.Nat.{_%_, _*_, _+_, _-_, _/_, _<_, _^_, suc, zero, ℕ, _≤_}
 use native.Mathlib.Decide.{decLt}
-use native.Mathlib.Nat.{mul-comm, div-add-mod', div-div-eq-div-mul, div-lt-iff-lt-mul, div-one,
-    le-div-iff-mul-le, not-suc-le-zero, pow-suc, pow-zero}
+use native.Mathlib.Nat.{
+  mul-comm,
+  div-add-mod',
+  div-div-eq-div-mul,
+  div-lt-iff-lt-mul,
+  div-one,
+  le-div-iff-mul-le,
+  not-suc-le-zero,
+  pow-suc,
+  pow-zero,
+}
 use native.Mathlib.Omega.{arith}
 use lib.Arith.{digits-div, digits-lt, digits-mod}
 use lib.Dec.{lit<}
@@ -28,8 +37,11 @@ module _ (b : ℕ) (pos : 0 < b) where
       go : Dec (x / b < y / b) → (x / b < y / b) ⊎ ((x / b ≡ y / b) × (x % b < y % b))
       go (yes h) = inl h
       go (no h) =
-          inr (e, rest (x / b * b) (x % b) (y / b * b) (y % b) (div-add-mod' x b) (div-add-mod' y b)
-              (ap (λ k. k * b) e))
+          inr (
+            e,
+            rest (x / b * b) (x % b) (y / b * b) (y % b) (div-add-mod' x b) (div-add-mod' y b)
+                (ap (λ k. k * b) e),
+          )
         where
           e : x / b ≡ y / b
           e = meet (x / b) (y / b) below h
@@ -64,7 +76,7 @@ module _ (b : ℕ) (pos : 0 < b) where
       none k = omega (arith, k, l)
   numeral-order (suc n) x y h l =
       go (λ k. numeral-order n (x / b) (y / b) (div-lt-iff-lt-mul pos .1 (subst (λ e. y < e) (pow-suc b n) h))
-          k)
+      k)
       (division-splits x y l)
     where
       go : (x / b < y / b → FirstDiffers n (digitAt b n (x / b)) (digitAt b n (y / b)))
