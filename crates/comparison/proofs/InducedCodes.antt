@@ -16,7 +16,6 @@ use Rattle.stabilizer.proofs.Carried.{act-same, carries-same, same-rows}
 use Rattle.stabilizer.proofs.GroupLaws.{same-sym, same-trans}
 use Rattle.stabilizer.specs.Carries.{Carries}
 use Rattle.stabilizer.specs.Groups.{Proper, SameGroup}
-use Rattle.stabilizer.specs.Lists.{rows}
 use Rattle.comparison.specs.Compared.{induced}
 
 module _ (n : ℕ) (rows others : ℕ → Pauli) (P : Proper n rows) (P′ : Proper n others) (c : ℕ → Clifford)

@@ -16,7 +16,6 @@ use Rattle.pauli.specs.declared.Letter.{Letter}
 use Rattle.stabilizer.proofs.Within.{element-within}
 use Rattle.stabilizer.specs.Carries.{Carries}
 use Rattle.stabilizer.specs.Groups.{InGroup, Within}
-use Rattle.stabilizer.specs.Lists.{rows}
 use Rattle.words.proofs.SearchLaws.{some-in, some-none, some-true}
 use Rattle.words.proofs.Sums.{fold-ext, lt-or-ge}
 use Rattle.words.specs.Search.{IsFirst, first, some}

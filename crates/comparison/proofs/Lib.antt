@@ -5,3 +5,5 @@ pub mod Least
 pub mod InducedCodes
 pub mod LexicographicStep
 pub mod EquationLaws
+pub mod ClassEquations
+pub mod SignEquations

@@ -16,7 +16,6 @@ use Rattle.stabilizer.proofs.Carried.{act-product, carries-same}
 use Rattle.stabilizer.proofs.Within.{act-within, product-within}
 use Rattle.stabilizer.specs.Carries.{Carries}
 use Rattle.stabilizer.specs.Groups.{InGroup, SameGroup, Within, chosen, product}
-use Rattle.stabilizer.specs.Lists.{rows}
 use Rattle.words.proofs.BitLaws.{bit-wordOf, wordOf-lt}
 use Rattle.words.proofs.SearchLaws.{every-at, every-in, some-in, some-true}
 use Rattle.words.proofs.Sums.{fold-ext, lt-or-ge}

@@ -13,23 +13,8 @@ use Rattle.clifford.proofs.CliffordLaws.{cliffords, fromFive, onClifford}
 use Rattle.clifford.specs.Clifford.{Class, Clifford, XY, XZ, YX, YZ, ZX, ZY, classNumber, classOf, cliffordOf}
 use Rattle.words.proofs.BitLaws.{digit-odd}
 use Rattle.words.specs.Bits.{digit}
-use Rattle.comparison.proofs.Numerals.{
-  division-splits,
-  numeral,
-  numeral-digit,
-  numeral-lt,
-  numeral-order,
-}
-use Rattle.comparison.specs.Choices.{
-  Agree,
-  Before,
-  FirstDiffers,
-  choice,
-  choiceAt,
-  classKey,
-  digitAt,
-  signKey,
-}
+use Rattle.comparison.proofs.Numerals.{division-splits, numeral, numeral-digit, numeral-lt, numeral-order}
+use Rattle.comparison.specs.Choices.{Agree, Before, FirstDiffers, choice, choiceAt, classKey, digitAt, signKey}
 
 four-pos : (n : ℕ) → 0 < 4 ^ n
 four-pos zero = subst (λ k. 0 < k) (sym (pow-zero 4)) (lit< tt)
@@ -140,7 +125,7 @@ pub choice-above : (n k q : ℕ) → n ≤ q → choice n k q ≡ 0
 unfolding choice
 choice-above n k q l = ap (λ b. cond b (4 * classDigit n k q + signDigit n k q) 0) (le-ltb q n l)
 
-class-injective : (c d : Class) → classNumber c ≡ classNumber d → c ≡ d
+pub class-injective : (c d : Class) → classNumber c ≡ classNumber d → c ≡ d
 class-injective c d e = sym (class-back c) ∙ ap classOf e ∙ class-back d
   where
     class-back : (c : Class) → classOf (classNumber c) ≡ c

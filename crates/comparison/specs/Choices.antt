@@ -11,7 +11,6 @@ use Rattle.clifford.specs.Vectors.{act}
 use Rattle.pauli.specs.Pauli.{Pauli, samePhase}
 use Rattle.stabilizer.specs.Carries.{Carries}
 use Rattle.stabilizer.specs.Groups.{product}
-use Rattle.stabilizer.specs.Lists.{rows}
 use Rattle.words.specs.Bits.{bit, digit, sameBit}
 use Rattle.words.specs.Search.{every, first, some}
 

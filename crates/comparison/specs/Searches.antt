@@ -6,7 +6,6 @@ use Prim.Native.Nat.{_<_, ℕ}
 use Rattle.clifford.specs.Clifford.{Clifford}
 use Rattle.pauli.specs.Pauli.{Pauli}
 use Rattle.stabilizer.specs.Carries.{Carries}
-use Rattle.stabilizer.specs.Lists.{rows}
 use Rattle.comparison.specs.Choices.{LeastOf, classKey, signKey}
 
 -- the choices in B whose keys below qubit q are those of p
