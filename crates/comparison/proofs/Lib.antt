@@ -7,3 +7,4 @@ pub mod LexicographicStep
 pub mod EquationLaws
 pub mod ClassEquations
 pub mod SignEquations
+pub mod Elements

@@ -1,0 +1,41 @@
+-- What the searches are given: the generators of two reduced records, and the codes that undo the second's.
+-- Assumes nothing.
+use mathlib.Core.Bool.{false}
+use mathlib.Core.List.{List}
+use mathlib.Core.Path.{_≡_}
+use Prim.Native.Nat.{_<_, ℕ, _≤_}
+use lib.ListN.{getD}
+use Rattle.clifford.specs.Clifford.{Clifford, inverse}
+use Rattle.clifford.specs.Vectors.{codesOf}
+use Rattle.graph.specs.Graph.{Graph, Simple}
+use Rattle.pauli.specs.Pauli.{Pauli, minus}
+use Rattle.pauli.specs.Rows.{generatorOf}
+use Rattle.pauli.specs.declared.Generator.{Generator}
+use Rattle.record.specs.Records.{recordRow}
+use Rattle.stabilizer.specs.Groups.{Proper}
+use Rattle.words.specs.Search.{first}
+
+-- the generators that an array holds; the identity past its end
+abbrev pub noGenerator : Generator
+noGenerator = record { minus = false; z = 0; x = 0 }
+
+abbrev pub generatorsOf : List Generator → ℕ → Pauli
+generatorsOf gs j = generatorOf (getD gs j noGenerator)
+
+-- every number of the array is a code
+abbrev pub Codes : List ℕ → Type 0
+Codes cs = (q : ℕ) → getD cs q 0 < 24
+
+-- rows of a record with a simple graph, and codes that undo the record's
+pub record Framed (n : ℕ) (rows : ℕ → Pauli) (frame : ℕ → Clifford) : Type 0 where
+  pub graph : Graph
+  pub codes : ℕ → Clifford
+  pub simple : Simple n graph
+  pub generators : (j : ℕ) → j < n → rows j ≡ recordRow n graph codes j
+  pub undoes : (q : ℕ) → q < n → frame q ≡ inverse (codes q)
+
+pub record Setting (n : ℕ) (first second : List Generator) (frame : List ℕ) : Type 0 where
+  pub few : n ≤ 20
+  pub proper : Proper n (generatorsOf first)
+  pub framed : Framed n (generatorsOf second) (codesOf frame)
+  pub codes : Codes frame
