@@ -1,4 +1,5 @@
--- The image of a row commutes with another row exactly if the classes solve the class equation; choices that agree on
+-- The image of a row commutes with another row exactly if the classes solve the class equation; choices that
+-- agree on
 -- classes, or on signs, have assignments that agree.
 -- Assumes nothing.
 use mathlib.Core.Bool.{_&&_, Bool, false, true}
@@ -24,20 +25,29 @@ use Rattle.words.proofs.Sums.{fold-ext, lt-or-ge, parity-add}
 use Rattle.words.specs.Bits.{Word, bit, digit, dot, isOdd, parity, wordOf, _⊕_}
 use Rattle.comparison.proofs.NumberOrder.{class-injective}
 use Rattle.comparison.specs.Choices.{classKey, signKey}
-use Rattle.comparison.specs.Equations.{SameBits, SameOn, classAssignment, classEquation, fails, signAssignment}
+use Rattle.comparison.specs.Equations.{
+  SameBits,
+  SameOn,
+  classAssignment,
+  classEquation,
+  fails,
+  signAssignment,
+}
 
 -- ---- the image of a letter by the bits of its class
 pub z-after : (k : Clifford) (z x : Bool)
     → zAfter k z x ≡ (zBit (imageZ (k .class)) && z) ⊕ (zBit (imageX (k .class)) && x)
 z-after = onClifford _
     (bits 7 (λ a b c d e z x. zAfter (fromFive a b c d e) z x)
-    (λ a b c d e z x. (zBit (imageZ (fromFive a b c d e .class)) && z) ⊕ (zBit (imageX (fromFive a b c d e .class)) && x)) tt)
+    (λ a b c d e z x. (zBit (imageZ (fromFive a b c d e .class)) && z)
+    ⊕ (zBit (imageX (fromFive a b c d e .class)) && x)) tt)
 
 pub x-after : (k : Clifford) (z x : Bool)
     → xAfter k z x ≡ (xBit (imageZ (k .class)) && z) ⊕ (xBit (imageX (k .class)) && x)
 x-after = onClifford _
     (bits 7 (λ a b c d e z x. xAfter (fromFive a b c d e) z x)
-    (λ a b c d e z x. (xBit (imageZ (fromFive a b c d e .class)) && z) ⊕ (xBit (imageX (fromFive a b c d e .class)) && x)) tt)
+    (λ a b c d e z x. (xBit (imageZ (fromFive a b c d e .class)) && z)
+    ⊕ (xBit (imageX (fromFive a b c d e .class)) && x)) tt)
 
 -- ---- sums over words
 pub dot-word : (n u : ℕ) (f : Word) → u < 2 ^ n → dot u (wordOf n f) ≡ parity n (λ q. bit u q && f q)
@@ -79,16 +89,19 @@ module _ (n : ℕ) (k : ℕ → Clifford) (g h : Generator) (W : Within n (gener
           ≡ (((z && hx) && a) ⊕ ((x && hx) && b)) ⊕ (((z && hz) && c) ⊕ ((x && hz) && d))
       regroup =
           bits 8 (λ a b c d z x hz hx. (((a && z) ⊕ (b && x)) && hx) ⊕ (((c && z) ⊕ (d && x)) && hz))
-          (λ a b c d z x hz hx. (((z && hx) && a) ⊕ ((x && hx) && b)) ⊕ (((z && hz) && c) ⊕ ((x && hz) && d))) tt
+          (λ a b c d z x hz hx. (((z && hx) && a) ⊕ ((x && hx) && b))
+          ⊕ (((z && hz) && c) ⊕ ((x && hz) && d))) tt
 
-      word : (u v : ℕ) (f : Word) → u < 2 ^ n → parity n (λ q. (bit u q && bit v q) && f q) ≡ dot (bitAnd u v) (wordOf n f)
+      word : (u v : ℕ) (f : Word) → u < 2 ^ n
+          → parity n (λ q. (bit u q && bit v q) && f q) ≡ dot (bitAnd u v) (wordOf n f)
       word u v f l =
           fold-ext false _⊕_ n (λ q k. ap (λ b. b && f q) (sym (bit-and u v q)))
           ∙ sym (dot-word n (bitAnd u v) f (lt-of-le-of-lt (and-le-l u v) l))
 
 -- ---- every choice that works solves the class equations
 pub class-equation : (n : ℕ) (rows others : ℕ → Pauli) → Proper n rows → Proper n others → (d : ℕ → Clifford)
-    → Carries n d rows others → (i j : ℕ) → i < n → j < n → (g h : Generator) → generatorOf g ≡ rows i → generatorOf h ≡ others j
+    → Carries n d rows others → (i j : ℕ) → i < n → j < n → (g h : Generator) → generatorOf g ≡ rows i
+    → generatorOf h ≡ others j
     → fails (classEquation g h) (classAssignment n d) ≡ false
 class-equation n rows others P P′ d C i j li lj g h eg eh =
     sym (anticommute-classes n d g h (subst (Within n) (sym eg) (P .within i li)))
@@ -98,7 +111,8 @@ class-equation n rows others P P′ d C i j li lj g h eg eh =
 
 -- ---- assignments of choices with equal keys
 -- the bits below q of two words agree where the functions do
-same-words : (n q m : ℕ) (f g : Word) → ((i : ℕ) → bit m i ≡ true → i < q) → ((i : ℕ) → i < q → i < n → f i ≡ g i)
+same-words : (n q m : ℕ) (f g : Word) → ((i : ℕ) → bit m i ≡ true → i < q)
+    → ((i : ℕ) → i < q → i < n → f i ≡ g i)
     → SameBits m (wordOf n f) (wordOf n g)
 same-words n q m f g below h i l = go (lt-or-ge i n)
   where
@@ -108,7 +122,8 @@ same-words n q m f g below h i l = go (lt-or-ge i n)
         bit-above n (wordOf n f) (wordOf-lt n f) i k ∙ sym (bit-above n (wordOf n g) (wordOf-lt n g) i k)
 
 pub same-classes : (n q m : ℕ) (c d : ℕ → Clifford) → ((i : ℕ) → bit m i ≡ true → i < q)
-    → ((i : ℕ) → i < q → classKey (d i) ≡ classKey (c i)) → SameOn m (classAssignment n c) (classAssignment n d)
+    → ((i : ℕ) → i < q → classKey (d i) ≡ classKey (c i))
+    → SameOn m (classAssignment n c) (classAssignment n d)
 unfolding classAssignment
 same-classes n q m c d below h =
     record {

@@ -2,9 +2,9 @@
 -- if no
 -- choice carries the group.
 -- Assumes nothing.
-use mathlib.Core.Bool.{Bool, false, false≢true, not, true, true≢false}
+use mathlib.Core.Bool.{Bool, false, not, true, true≢false}
 use mathlib.Core.Logic.{inl, inr, _↔_, _⊎_}
-use mathlib.Core.Path.{ap, ap₂, refl, subst, sym, _∙_, _≡_}
+use mathlib.Core.Path.{ap, ap₂, subst, sym, _∙_, _≡_}
 use Prim.Native.Nat.{_<_, _^_, ℕ, _≤_}
 use native.Mathlib.Decide.{decLt}
 use native.Mathlib.Omega.{arith}
@@ -19,9 +19,22 @@ use Rattle.stabilizer.specs.Groups.{InGroup, Within}
 use Rattle.words.proofs.SearchLaws.{some-in, some-none, some-true}
 use Rattle.words.proofs.Sums.{fold-ext, lt-or-ge}
 use Rattle.words.specs.Search.{IsFirst, first, some}
+use Rattle.comparison.proofs.Flags.{never-true, not-false, not-true}
 use Rattle.comparison.proofs.Members.{carries-is}
 use Rattle.comparison.proofs.NumberOrder.{number-order, numbered}
-use Rattle.comparison.specs.Choices.{Agree, Before, FirstDiffers, LeastChoice, carries, choiceAt, classKey, leastCode, leastNumber, noChoice, signKey}
+use Rattle.comparison.specs.Choices.{
+  Agree,
+  Before,
+  FirstDiffers,
+  LeastChoice,
+  carries,
+  choiceAt,
+  classKey,
+  leastCode,
+  leastNumber,
+  noChoice,
+  signKey,
+}
 
 -- ---- the order is one way only
 differs-once : (n : ℕ) (f g : ℕ → ℕ) → FirstDiffers n f g → FirstDiffers n g f → ⊥
@@ -141,16 +154,8 @@ module _ (n : ℕ) (rows others : ℕ → Pauli) (W : (j : ℕ) → j < n → Wi
     (λ e d C. true≢false (sym (some-in (24 ^ n) works (numbered n d .0) (numbered n d .1) (found d C))
         ∙ not-true (some (24 ^ n) works) e)),
     (λ h. ap not (some-none (24 ^ n) works
-        (λ k l. never (works k) (λ e. h (choiceAt n k) (works-is k .0 e))))),
+        (λ k l. never-true (works k) (λ e. h (choiceAt n k) (works-is k .0 e))))),
   )
-    where
-      not-true : (b : Bool) → not b ≡ true → b ≡ false
-      not-true true e = absurd (false≢true e)
-      not-true false e = refl
-
-      never : (b : Bool) → (b ≡ true → ⊥) → b ≡ false
-      never true h = absurd (h refl)
-      never false h = refl
 
   -- where some choice does, the equation gives the least
   pub least-is : noChoice n rows others ≡ false
@@ -158,10 +163,6 @@ module _ (n : ℕ) (rows others : ℕ → Pauli) (W : (j : ℕ) → j < n → Wi
   unfolding works leastNumber
   least-is e = least-first (first (24 ^ n) works)
       (some-true (24 ^ n) works (not-false (some (24 ^ n) works) e))
-    where
-      not-false : (b : Bool) → not b ≡ false → b ≡ true
-      not-false true e = refl
-      not-false false e = absurd (true≢false e)
 
   pub least-unique : (c d : ℕ → Clifford) → LeastChoice n rows others c → LeastChoice n rows others d
       → Agree n c d
@@ -178,8 +179,4 @@ module _ (n : ℕ) (rows others : ℕ → Pauli) (W : (j : ℕ) → j < n → Wi
   least-equation c L = (some-choice, least-unique c _ L (least-is some-choice))
     where
       some-choice : noChoice n rows others ≡ false
-      some-choice = never (noChoice n rows others) (λ e. none-carries .0 e c (L .among))
-        where
-          never : (b : Bool) → (b ≡ true → ⊥) → b ≡ false
-          never true h = absurd (h refl)
-          never false h = refl
+      some-choice = never-true (noChoice n rows others) (λ e. none-carries .0 e c (L .among))

@@ -1,4 +1,5 @@
--- One step of a search in the order of the keys: the choices that begin with p, by their key at the next qubit.
+-- One step of a search in the order of the keys: the choices that begin with p, by their key at the next
+-- qubit.
 -- Assumes nothing.
 use mathlib.Core.Bool.{Bool, false, true}
 use mathlib.Core.Logic.{inl, inr, _⊎_}
@@ -30,7 +31,8 @@ module _ (n : ℕ) (K K₁ K₂ : (ℕ → Clifford) → Type 0) (split : (d : �
       go d (inl h) = L .least d h
       go d (inr h) = inr (earlier c d (L .among) h)
 
-  none-first : ((d : ℕ → Clifford) → K₁ d → ⊥) → (b : Bool) (c : ℕ → Clifford) → Found n K₂ b c → Found n K b c
+  none-first : ((d : ℕ → Clifford) → K₁ d → ⊥) → (b : Bool) (c : ℕ → Clifford) → Found n K₂ b c
+      → Found n K b c
   none-first none b c F = found-same n K₂ K in₂ (λ d h. go d (split d h)) b c F
     where
       go : (d : ℕ → Clifford) → K₁ d ⊎ K₂ d → K₂ d
@@ -39,7 +41,8 @@ module _ (n : ℕ) (K K₁ K₂ : (ℕ → Clifford) → Type 0) (split : (d : �
 
 -- ---- the choices in B that begin with p below q, by their key at q
 module _ (n : ℕ) (B : (ℕ → Clifford) → Type 0) (key : Clifford → ℕ)
-    (earlier : (c d : ℕ → Clifford) → B c → B d → FirstDiffers n (λ i. key (c i)) (λ i. key (d i)) → Before n c d)
+    (earlier : (c d : ℕ → Clifford) → B c → B d → FirstDiffers n (λ i. key (c i)) (λ i. key (d i))
+    → Before n c d)
     (q : ℕ) (inside : q < n) (p : ℕ → Clifford) where
   -- .. with v or more at q
   pub record From (v : ℕ) (d : ℕ → Clifford) : Type 0 where
@@ -52,9 +55,11 @@ module _ (n : ℕ) (B : (ℕ → Clifford) → Type 0) (key : Clifford → ℕ)
 
   pub none-tried : Tried 0
   none-tried b c F =
-      found-same n (From 0) (Begins B key q p) (λ d h. h .begins) (λ d h. record { begins = h; more = zero-le }) b c F
+      found-same n (From 0) (Begins B key q p) (λ d h. h .begins)
+      (λ d h. record { begins = h; more = zero-le }) b c F
 
-  pub all-tried : (v : ℕ) → Tried v → ((k : Clifford) → key k < v) → (d : ℕ → Clifford) → Begins B key q p d → ⊥
+  pub all-tried : (v : ℕ) → Tried v → ((k : Clifford) → key k < v) → (d : ℕ → Clifford) → Begins B key q p d
+      → ⊥
   all-tried v T small d h = T false d (λ e k. over e k) d h
     where
       over : (e : ℕ → Clifford) → From v e → ⊥
@@ -64,14 +69,19 @@ module _ (n : ℕ) (B : (ℕ → Clifford) → Type 0) (key : Clifford → ℕ)
           clash l m = omega (arith, l, m)
 
   -- next begins as p does and has v at q
-  module _ (v : ℕ) (next : ℕ → Clifford) (front : (i : ℕ) → i < q → key (next i) ≡ key (p i)) (here : key (next q) ≡ v) where
+  module _ (v : ℕ) (next : ℕ → Clifford) (front : (i : ℕ) → i < q
+      → key (next i) ≡ key (p i)) (here : key (next q) ≡ v) where
     taken : (d : ℕ → Clifford) → From v d → Begins B key (q + 1) next d ⊎ From (v + 1) d
     taken d h = go (decLt v (key (d q)))
       where
         go : Dec (v < key (d q)) → Begins B key (q + 1) next d ⊎ From (v + 1) d
         go (yes l) = inr (record { begins = h .begins; more = rw add-one l })
         go (no l) =
-            inl (record { base = h .begins .base; same = below-more _ _ (λ i k. h .begins .same i k ∙ sym (front i k)) (meet l (h .more) ∙ sym here) })
+            inl (record {
+              base = h .begins .base;
+              same =
+                  below-more _ _ (λ i k. h .begins .same i k ∙ sym (front i k)) (meet l (h .more) ∙ sym here);
+            })
           where
             meet : {a : ℕ} → (v < a → ⊥) → v ≤ a → a ≡ v
             meet x y = omega (arith, x, y)
@@ -111,11 +121,14 @@ module _ (n : ℕ) (B : (ℕ → Clifford) → Type 0) (key : Clifford → ℕ)
         less e l = omega (arith, e, l)
 
     -- the least that begins with next is the least of all
-    pub found-here : Tried v → (c : ℕ → Clifford) → LeastOf n (Begins B key (q + 1) next) c → LeastOf n (Begins B key q p) c
+    pub found-here : Tried v → (c : ℕ → Clifford) → LeastOf n (Begins B key (q + 1) next) c
+        → LeastOf n (Begins B key q p) c
     found-here T c L =
-        T true c (least-first n (From v) (Begins B key (q + 1) next) (From (v + 1)) taken back fewer first-differs c L)
+        T true c (least-first n (From v) (Begins B key (q + 1) next) (From (v + 1)) taken back fewer
+        first-differs c L)
 
     -- none begins with next: go on to v + 1
     pub none-here : Tried v → ((d : ℕ → Clifford) → Begins B key (q + 1) next d → ⊥) → Tried (v + 1)
     none-here T none b c F =
-        T b c (none-first n (From v) (Begins B key (q + 1) next) (From (v + 1)) taken back fewer first-differs none b c F)
+        T b c (none-first n (From v) (Begins B key (q + 1) next) (From (v + 1)) taken back fewer first-differs
+        none b c F)

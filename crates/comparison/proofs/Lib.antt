@@ -1,3 +1,4 @@
+pub mod Flags
 pub mod Numerals
 pub mod NumberOrder
 pub mod Members
@@ -7,4 +8,4 @@ pub mod LexicographicStep
 pub mod EquationLaws
 pub mod ClassEquations
 pub mod SignEquations
-pub mod Elements
+pub mod RecordElements

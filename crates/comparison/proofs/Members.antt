@@ -1,7 +1,7 @@
 -- The tests for equal operators, for elements of a group and for a choice that carries a group say what they
 -- should.
 -- Assumes nothing.
-use mathlib.Core.Bool.{_&&_, Bool, false, false≢true, true}
+use mathlib.Core.Bool.{_&&_, Bool, true}
 use mathlib.Core.Logic.{inl, inr, _↔_, _⊎_}
 use mathlib.Core.Path.{ap, ap₂, refl, subst, sym, _∙_, _≡_}
 use Prim.Native.Nat.{_<_, _^_, ℕ, _≤_}
@@ -21,12 +21,8 @@ use Rattle.words.proofs.SearchLaws.{every-at, every-in, some-in, some-true}
 use Rattle.words.proofs.Sums.{fold-ext, lt-or-ge}
 use Rattle.words.specs.Bits.{Word, bit, sameBit, wordOf}
 use Rattle.words.specs.Search.{IsFirst, every, first}
+use Rattle.comparison.proofs.Flags.{both-true}
 use Rattle.comparison.specs.Choices.{carries, member, sameRow}
-
-both-true : (a b : Bool) → (a && b) ≡ true → (a ≡ true) × (b ≡ true)
-both-true true true e = (refl, refl)
-both-true true false e = absurd (false≢true e)
-both-true false b e = absurd (false≢true e)
 
 pub sameRow-refl : (n : ℕ) (p : Pauli) → sameRow n p p ≡ true
 sameRow-refl n p =

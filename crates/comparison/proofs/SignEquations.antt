@@ -1,4 +1,5 @@
--- The signs of a choice change the sign of a row's image by a parity; elements of a group with the same letters are
+-- The signs of a choice change the sign of a row's image by a parity; elements of a group with the same
+-- letters are
 -- equal; so a choice that works solves the sign equations.
 -- Assumes nothing.
 use mathlib.Core.Bool.{_&&_, Bool, false, true}
@@ -40,7 +41,8 @@ signAt k z x = (x && k .sx) ⊕ (z && k .sz)
 phase-signs : (k : Clifford) (z x : Bool) → phaseAfter k z x ≡ phaseAfter (bare k) z x +ᵖ minus (signAt k z x)
 phase-signs = onClifford _
     (phases 7 (λ a b c d e z x. phaseAfter (fromFive a b c d e) z x)
-    (λ a b c d e z x. phaseAfter (bare (fromFive a b c d e)) z x +ᵖ minus (signAt (fromFive a b c d e) z x)) tt)
+    (λ a b c d e z x. phaseAfter (bare (fromFive a b c d e)) z x
+    +ᵖ minus (signAt (fromFive a b c d e) z x)) tt)
 
 minus-sum : (n : ℕ) (f : Word) → sumPhase n (λ q. minus (f q)) ≡ minus (parity n f)
 minus-sum n f = sym (fold-hom false _⊕_ i⁰ _+ᵖ_ minus refl minus-⊕ n f)
@@ -55,23 +57,29 @@ module _ (n : ℕ) (k : ℕ → Clifford) (g : Generator) (W : Within n (generat
       ap (λ t. minus (g .minus) +ᵖ t)
       (fold-ext i⁰ _+ᵖ_ n (λ q l. phase-signs (k q) (bit (g .z) q) (bit (g .x) q)) ∙ sumPhase-add n _ _)
       ∙ sym (+ᵖ-assoc (minus (g .minus)) _ _)
-      ∙ ap (λ t. (minus (g .minus) +ᵖ sumPhase n (λ q. phaseAfter (bare (k q)) (bit (g .z) q) (bit (g .x) q))) +ᵖ t)
+      ∙ ap (λ t. (minus (g .minus) +ᵖ sumPhase n (λ q. phaseAfter (bare (k q)) (bit (g .z) q) (bit (g .x) q)))
+      +ᵖ t)
       (minus-sum n _ ∙ ap minus signs)
     where
       signs : parity n (λ q. signAt (k q) (bit (g .z) q) (bit (g .x) q))
-          ≡ ((dot (g .x) (wordOf n (λ q. k q .sx)) ⊕ dot (g .z) (wordOf n (λ q. k q .sz))) ⊕ (dot 0 0 ⊕ dot 0 0)) ⊕ false
+          ≡ ((dot (g .x) (wordOf n (λ q. k q .sx)) ⊕ dot (g .z) (wordOf n (λ q. k q .sz)))
+          ⊕ (dot 0 0 ⊕ dot 0 0)) ⊕ false
       signs =
           parity-add n _ _
-          ∙ ap₂ _⊕_ (sym (dot-word n (g .x) _ (x-word-lt n g W))) (sym (dot-word n (g .z) _ (z-word-lt n g W)))
+          ∙ ap₂ _⊕_ (sym (dot-word n (g .x) _ (x-word-lt n g W)))
+          (sym (dot-word n (g .z) _ (z-word-lt n g W)))
           ∙ sym (⊕-zero _) ∙ sym (⊕-zero _)
-          ∙ ap (λ b. ((dot (g .x) (wordOf n (λ q. k q .sx)) ⊕ dot (g .z) (wordOf n (λ q. k q .sz))) ⊕ b) ⊕ false)
+          ∙ ap (λ b. ((dot (g .x) (wordOf n (λ q. k q .sx)) ⊕ dot (g .z) (wordOf n (λ q. k q .sz))) ⊕ b)
+          ⊕ false)
           (sym (ap₂ _⊕_ (zero-dot 0) (zero-dot 0)))
 
 -- ---- elements with the same letters are equal
-pub letters-determine : (n : ℕ) (rows : ℕ → Pauli) → Proper n rows → {p r : Pauli} → InGroup n n rows p → InGroup n n rows r
+pub letters-determine : (n : ℕ) (rows : ℕ → Pauli) → Proper n rows → {p r : Pauli} → InGroup n n rows p
+    → InGroup n n rows r
     → ((q : ℕ) → p .z q ≡ r .z q) → ((q : ℕ) → p .x q ≡ r .x q) → p ≡ r
 letters-determine n rows P {p} {r} a b hz hx =
-    a .1 ∙ fold-ext identity (mul n) n (λ j l. ap (λ v. chosen v (rows j)) (⊕-cancel (a .0 j) (b .0 j) (same j l))) ∙ sym (b .1)
+    a .1 ∙ fold-ext identity (mul n) n
+    (λ j l. ap (λ v. chosen v (rows j)) (⊕-cancel (a .0 j) (b .0 j) (same j l))) ∙ sym (b .1)
   where
     both : mul n p r ≡ product n n (λ j. a .0 j ⊕ b .0 j) rows
     both = ap₂ (mul n) (a .1) (b .1) ∙ product-mul n n rows (P .commuting) (a .0) (b .0)
@@ -93,15 +101,17 @@ image-bare k X = refl
 image-bare k Y = refl
 image-bare k Z = refl
 
-minus-injective : (a b : Bool) → minus a ≡ minus b → a ≡ b
+pub minus-injective : (a b : Bool) → minus a ≡ minus b → a ≡ b
 minus-injective false false e = refl
 minus-injective false true e = ap signBit e
 minus-injective true false e = ap signBit e
 minus-injective true true e = refl
 
-asked : (g : Generator) (s : Bool) (w : Assignment) → fails (signEquation g s) w ≡ fails (signEquation g false) w ⊕ s
+asked : (g : Generator) (s : Bool) (w : Assignment)
+    → fails (signEquation g s) w ≡ fails (signEquation g false) w ⊕ s
 unfolding fails
-asked g s w = ap (λ b. b ⊕ s) (sym (⊕-zero ((dot (g .x) (w .a) ⊕ dot (g .z) (w .b)) ⊕ (dot 0 (w .c) ⊕ dot 0 (w .d)))))
+asked g s w = ap (λ b. b
+    ⊕ s) (sym (⊕-zero ((dot (g .x) (w .a) ⊕ dot (g .z) (w .b)) ⊕ (dot 0 (w .c) ⊕ dot 0 (w .d)))))
 
 shift : (a b c : Bool) → b ⊕ a ≡ c → a ⊕ (b ⊕ c) ≡ false
 shift a b c e = ap (λ k. a ⊕ (b ⊕ k)) (sym e) ∙ bits 2 (λ a b. a ⊕ (b ⊕ (b ⊕ a))) (λ a b. false) tt a b
@@ -114,31 +124,39 @@ module _ (n : ℕ) (rows others : ℕ → Pauli) (P : Proper n rows) (P′ : Pro
   carried : InGroup n n others (act n d (generatorOf g))
   carried = subst (λ p. InGroup n n others (act n d p)) (sym eg) (C .into (rows i) (in-row n n rows i li))
 
-  -- c has the classes of d, and p is the image of g under them, all signs plus; h is an element with p's letters
-  pub sign-equation : (c : ℕ → Clifford) → ((q : ℕ) → q < n → classKey (d q) ≡ classKey (c q)) → (p h : Generator)
+  -- c has the classes of d, and p is the image of g under them, all signs plus; h is an element with p's
+  -- letters
+  pub sign-equation : (c : ℕ → Clifford) → ((q : ℕ) → q < n → classKey (d q) ≡ classKey (c q))
+      → (p h : Generator)
       → generatorOf p ≡ act n (λ q. bare (c q)) (generatorOf g) → InGroup n n others (generatorOf h)
       → p .z ≡ h .z → p .x ≡ h .x
       → fails (signEquation g (p .minus ⊕ h .minus)) (signAssignment n d) ≡ false
   unfolding act
   sign-equation c hc p h ep eh ez ex =
       asked g (p .minus ⊕ h .minus) (signAssignment n d)
-      ∙ shift (fails (signEquation g false) (signAssignment n d)) (p .minus) (h .minus) (minus-injective _ _ signs)
+      ∙ shift (fails (signEquation g false) (signAssignment n d)) (p .minus) (h .minus)
+      (minus-injective _ _ signs)
     where
       bares : act n (λ q. bare (d q)) (generatorOf g) ≡ generatorOf p
       bares =
           act-agree n rows others (P .within) (P′ .within) (λ q. bare (d q)) (λ q. bare (c q))
-          (λ q l. ap (λ m. record { class = m; sx = false; sz = false }) (class-injective _ _ (hc q l))) (generatorOf g) W
+          (λ q l. ap (λ m. record { class = m; sx = false; sz = false }) (class-injective _ _ (hc q l)))
+          (generatorOf g) W
           ∙ sym ep
 
       letter-z : (q : ℕ) → (act n d (generatorOf g)) .z q ≡ bit (h .z) q
       letter-z q =
-          ap zBit (sym (image-bare (d q) (letterAt (generatorOf g) q))) ∙ ap (λ r. r .z q) bares ∙ ap (λ w. bit w q) ez
+          ap zBit (sym (image-bare (d q) (letterAt (generatorOf g) q))) ∙ ap (λ r. r .z q) bares
+          ∙ ap (λ w. bit w q) ez
 
       letter-x : (q : ℕ) → (act n d (generatorOf g)) .x q ≡ bit (h .x) q
       letter-x q =
-          ap xBit (sym (image-bare (d q) (letterAt (generatorOf g) q))) ∙ ap (λ r. r .x q) bares ∙ ap (λ w. bit w q) ex
+          ap xBit (sym (image-bare (d q) (letterAt (generatorOf g) q))) ∙ ap (λ r. r .x q) bares
+          ∙ ap (λ w. bit w q) ex
 
       signs : minus (p .minus ⊕ fails (signEquation g false) (signAssignment n d)) ≡ minus (h .minus)
       signs =
-          minus-⊕ (p .minus) _ ∙ ap (λ r. r .phase +ᵖ minus (fails (signEquation g false) (signAssignment n d))) (sym bares)
-          ∙ sym (image-sign n d g W) ∙ ap (λ r. r .phase) (letters-determine n others P′ carried eh letter-z letter-x)
+          minus-⊕ (p .minus) _
+          ∙ ap (λ r. r .phase +ᵖ minus (fails (signEquation g false) (signAssignment n d))) (sym bares)
+          ∙ sym (image-sign n d g W)
+          ∙ ap (λ r. r .phase) (letters-determine n others P′ carried eh letter-z letter-x)

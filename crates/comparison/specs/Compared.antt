@@ -9,7 +9,15 @@ use Rattle.clifford.specs.Clifford.{Clifford, inverse, then}
 use Rattle.pauli.specs.Pauli.{Pauli}
 use Rattle.record.specs.Reduced.{reducedCode}
 use Rattle.stabilizer.specs.Groups.{chosen}
-use Rattle.stabilizer.specs.Lists.{GeneratorList, clashing, dependent, listLengths, listSigns, listStray, rows}
+use Rattle.stabilizer.specs.Lists.{
+  GeneratorList,
+  clashing,
+  dependent,
+  listLengths,
+  listSigns,
+  listStray,
+  rows,
+}
 use Rattle.comparison.specs.Choices.{noChoice}
 
 -- "at each qubit the first reduced record's code, then the choice's, then the inverse of the second's"

@@ -9,7 +9,8 @@ use Rattle.stabilizer.specs.Carries.{Carries}
 use Rattle.comparison.specs.Choices.{LeastOf, classKey, signKey}
 
 -- the choices in B whose keys below qubit q are those of p
-pub record Begins (B : (ℕ → Clifford) → Type 0) (key : Clifford → ℕ) (q : ℕ) (p d : ℕ → Clifford) : Type 0 where
+pub record Begins (B : (ℕ → Clifford) → Type 0) (key : Clifford → ℕ) (q : ℕ) (p d : ℕ
+    → Clifford) : Type 0 where
   pub base : B d
   pub same : (i : ℕ) → i < q → key (d i) ≡ key (p i)
 

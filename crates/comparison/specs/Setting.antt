@@ -12,7 +12,7 @@ use Rattle.pauli.specs.Pauli.{Pauli, minus}
 use Rattle.pauli.specs.Rows.{generatorOf}
 use Rattle.pauli.specs.declared.Generator.{Generator}
 use Rattle.record.specs.Records.{recordRow}
-use Rattle.stabilizer.specs.Groups.{Proper}
+use Rattle.stabilizer.specs.Groups.{InGroup, Proper}
 use Rattle.words.specs.Search.{first}
 
 -- the generators that an array holds; the identity past its end
@@ -39,3 +39,8 @@ pub record Setting (n : ℕ) (first second : List Generator) (frame : List ℕ) 
   pub proper : Proper n (generatorsOf first)
   pub framed : Framed n (generatorsOf second) (codesOf frame)
   pub codes : Codes frame
+
+-- an element of the group; it is p where p is one
+pub record Guessed (n : ℕ) (rows : ℕ → Pauli) (p h : Pauli) : Type 0 where
+  pub element : InGroup n n rows h
+  pub right : InGroup n n rows p → h ≡ p

@@ -1,2 +1,3 @@
-// The comparison of two states.
+// The comparison of two states: the least choice of codes that carries the one group onto the other.
+mod elements;
 mod equations;

@@ -1,5 +1,5 @@
 use lib.Bits.{bitXor}
-use Rattle.comparison.proofs.EquationLaws.{unequal-bits}
+use Rattle.comparison.proofs.Flags.{unequal-bits}
 use Rattle.comparison.proofs.equations.add.Statement.{statement}
 use Rattle.comparison.proofs.equations.add.Tie as tie
 
