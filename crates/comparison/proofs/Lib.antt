@@ -9,3 +9,4 @@ pub mod EquationLaws
 pub mod ClassEquations
 pub mod SignEquations
 pub mod RecordElements
+pub mod WordsByBits
