@@ -40,41 +40,42 @@ module _ (n : ℕ) (K K₁ K₂ : (ℕ → Clifford) → Type 0) (split : (d : �
       go d (inr h) = h
 
 -- ---- the choices in B that begin with p below q, by their key at q
-module _ (n : ℕ) (B : (ℕ → Clifford) → Type 0) (key : Clifford → ℕ)
-    (earlier : (c d : ℕ → Clifford) → B c → B d → FirstDiffers n (λ i. key (c i)) (λ i. key (d i))
-    → Before n c d)
-    (q : ℕ) (inside : q < n) (p : ℕ → Clifford) where
-  -- .. with v or more at q
-  pub record From (v : ℕ) (d : ℕ → Clifford) : Type 0 where
-    pub begins : Begins B key q p d
-    pub more : v ≤ key (d q)
+-- .. with v or more at q
+pub record From (B : (ℕ → Clifford) → Type 0) (key : Clifford → ℕ) (q : ℕ) (p : ℕ → Clifford) (v : ℕ)
+    (d : ℕ → Clifford) : Type 0 where
+  pub begins : Begins B key q p d
+  pub more : v ≤ key (d q)
 
-  -- no choice with less than v at q is to be looked at: what is found from v on is found of all
-  abbrev pub Tried : ℕ → Type 0
-  Tried v = (b : Bool) (c : ℕ → Clifford) → Found n (From v) b c → Found n (Begins B key q p) b c
+-- no choice with less than v at q is to be looked at: what is found from v on is found of all
+abbrev pub Tried : ℕ → ((ℕ → Clifford) → Type 0) → (Clifford → ℕ) → ℕ → (ℕ → Clifford) → ℕ → Type 0
+Tried n B key q p v =
+    (b : Bool) (c : ℕ → Clifford) → Found n (From B key q p v) b c → Found n (Begins B key q p) b c
 
-  pub none-tried : Tried 0
+module _ (n : ℕ) (B : (ℕ → Clifford) → Type 0) (key : Clifford → ℕ) (q : ℕ) (p : ℕ → Clifford) where
+  pub none-tried : Tried n B key q p 0
   none-tried b c F =
-      found-same n (From 0) (Begins B key q p) (λ d h. h .begins)
-      (λ d h. record { begins = h; more = zero-le }) b c F
+      found-same n (From B key q p 0) (Begins B key q p) (λ d h. h .begins) (λ d h. record { begins = h; more = zero-le })
+      b c F
 
-  pub all-tried : (v : ℕ) → Tried v → ((k : Clifford) → key k < v) → (d : ℕ → Clifford) → Begins B key q p d
-      → ⊥
-  all-tried v T small d h = T false d (λ e k. over e k) d h
+  pub all-tried : (v : ℕ) → Tried n B key q p v → ((k : Clifford) → key k < v) → (d : ℕ → Clifford) → Begins B key q p d → ⊥
+  all-tried v T small d h = T false d over d h
     where
-      over : (e : ℕ → Clifford) → From v e → ⊥
+      over : (e : ℕ → Clifford) → From B key q p v e → ⊥
       over e k = clash (small (e q)) (k .more)
         where
           clash : {a b : ℕ} → a < b → b ≤ a → ⊥
           clash l m = omega (arith, l, m)
 
+module _ (n : ℕ) (B : (ℕ → Clifford) → Type 0) (key : Clifford → ℕ)
+    (earlier : (c d : ℕ → Clifford) → B c → B d → FirstDiffers n (λ i. key (c i)) (λ i. key (d i)) → Before n c d)
+    (q : ℕ) (inside : q < n) (p : ℕ → Clifford) where
   -- next begins as p does and has v at q
   module _ (v : ℕ) (next : ℕ → Clifford) (front : (i : ℕ) → i < q
       → key (next i) ≡ key (p i)) (here : key (next q) ≡ v) where
-    taken : (d : ℕ → Clifford) → From v d → Begins B key (q + 1) next d ⊎ From (v + 1) d
+    taken : (d : ℕ → Clifford) → From B key q p v d → Begins B key (q + 1) next d ⊎ From B key q p (v + 1) d
     taken d h = go (decLt v (key (d q)))
       where
-        go : Dec (v < key (d q)) → Begins B key (q + 1) next d ⊎ From (v + 1) d
+        go : Dec (v < key (d q)) → Begins B key (q + 1) next d ⊎ From B key q p (v + 1) d
         go (yes l) = inr (record { begins = h .begins; more = rw add-one l })
         go (no l) =
             inl (record {
@@ -86,7 +87,7 @@ module _ (n : ℕ) (B : (ℕ → Clifford) → Type 0) (key : Clifford → ℕ)
             meet : {a : ℕ} → (v < a → ⊥) → v ≤ a → a ≡ v
             meet x y = omega (arith, x, y)
 
-    back : (d : ℕ → Clifford) → Begins B key (q + 1) next d → From v d
+    back : (d : ℕ → Clifford) → Begins B key (q + 1) next d → From B key q p v d
     back d h =
         record {
           begins = record { base = h .base; same = λ i l. h .same i (up l) ∙ front i l };
@@ -99,13 +100,13 @@ module _ (n : ℕ) (B : (ℕ → Clifford) → Type 0) (key : Clifford → ℕ)
         last : q < q + 1
         last = omega arith
 
-    fewer : (d : ℕ → Clifford) → From (v + 1) d → From v d
+    fewer : (d : ℕ → Clifford) → From B key q p (v + 1) d → From B key q p v d
     fewer d h = record { begins = h .begins; more = down (h .more) }
       where
         down : {a : ℕ} → v + 1 ≤ a → v ≤ a
         down l = omega (arith, l)
 
-    first-differs : (c d : ℕ → Clifford) → Begins B key (q + 1) next c → From (v + 1) d → Before n c d
+    first-differs : (c d : ℕ → Clifford) → Begins B key (q + 1) next c → From B key q p (v + 1) d → Before n c d
     first-differs c d h k =
         earlier c d (h .base) (k .begins .base) (
           q,
@@ -121,14 +122,14 @@ module _ (n : ℕ) (B : (ℕ → Clifford) → Type 0) (key : Clifford → ℕ)
         less e l = omega (arith, e, l)
 
     -- the least that begins with next is the least of all
-    pub found-here : Tried v → (c : ℕ → Clifford) → LeastOf n (Begins B key (q + 1) next) c
+    pub found-here : Tried n B key q p v → (c : ℕ → Clifford) → LeastOf n (Begins B key (q + 1) next) c
         → LeastOf n (Begins B key q p) c
     found-here T c L =
-        T true c (least-first n (From v) (Begins B key (q + 1) next) (From (v + 1)) taken back fewer
+        T true c (least-first n (From B key q p v) (Begins B key (q + 1) next) (From B key q p (v + 1)) taken back fewer
         first-differs c L)
 
     -- none begins with next: go on to v + 1
-    pub none-here : Tried v → ((d : ℕ → Clifford) → Begins B key (q + 1) next d → ⊥) → Tried (v + 1)
+    pub none-here : Tried n B key q p v → ((d : ℕ → Clifford) → Begins B key (q + 1) next d → ⊥) → Tried n B key q p (v + 1)
     none-here T none b c F =
-        T b c (none-first n (From v) (Begins B key (q + 1) next) (From (v + 1)) taken back fewer first-differs
+        T b c (none-first n (From B key q p v) (Begins B key (q + 1) next) (From B key q p (v + 1)) taken back fewer first-differs
         none b c F)
