@@ -2,12 +2,13 @@
 -- agree on
 -- classes, or on signs, have assignments that agree.
 -- Assumes nothing.
-use mathlib.Core.Bool.{_&&_, Bool, false, true}
+use mathlib.Core.Bool.{_&&_, Bool, false, true, true≢false}
 use mathlib.Core.Logic.{inl, inr, _⊎_}
 use mathlib.Core.Path.{ap, ap₂, refl, subst, sym, _∙_, _≡_}
-use Prim.Native.Nat.{_*_, _+_, _/_, _<_, _^_, ℕ, _≤_}
+use Prim.Native.Nat.{_*_, _+_, _-_, _/_, _<_, _^_, ℕ, _≤_}
 use native.Mathlib.Nat.{lt-of-le-of-lt}
 use lib.Bits.{and-le-l, bitAnd}
+use lib.Pow.{ones-lt}
 use Rattle.clifford.proofs.CliffordLaws.{fromFive, onClifford, xAfter, zAfter}
 use Rattle.clifford.specs.Clifford.{Class, Clifford, imageX, imageZ}
 use Rattle.clifford.specs.Vectors.{act}
@@ -25,14 +26,7 @@ use Rattle.words.proofs.Sums.{fold-ext, lt-or-ge, parity-add}
 use Rattle.words.specs.Bits.{Word, bit, digit, dot, isOdd, parity, wordOf, _⊕_}
 use Rattle.comparison.proofs.NumberOrder.{class-injective}
 use Rattle.comparison.specs.Choices.{classKey, signKey}
-use Rattle.comparison.specs.Equations.{
-  SameBits,
-  SameOn,
-  classAssignment,
-  classEquation,
-  fails,
-  signAssignment,
-}
+use Rattle.comparison.specs.Equations.{SameBits, SameOn, classAssignment, classEquation, fails, signAssignment}
 
 -- ---- the image of a letter by the bits of its class
 pub z-after : (k : Clifford) (z x : Bool)
@@ -110,6 +104,13 @@ class-equation n rows others P P′ d C i j li lj g h eg eh =
     (subst (InGroup n n others) (sym eh) (in-row n n others j lj))
 
 -- ---- assignments of choices with equal keys
+pub mask-below : (q i : ℕ) → bit (2 ^ q - 1) i ≡ true → i < q
+mask-below q i h = go (lt-or-ge i q)
+  where
+    go : (i < q) ⊎ (q ≤ i) → i < q
+    go (inl l) = l
+    go (inr l) = absurd (true≢false (sym h ∙ bit-above q (2 ^ q - 1) (ones-lt q) i l))
+
 -- the bits below q of two words agree where the functions do
 same-words : (n q m : ℕ) (f g : Word) → ((i : ℕ) → bit m i ≡ true → i < q)
     → ((i : ℕ) → i < q → i < n → f i ≡ g i)

@@ -10,3 +10,5 @@ pub mod ClassEquations
 pub mod SignEquations
 pub mod RecordElements
 pub mod WordsByBits
+pub mod NextChoice
+pub mod SignSearch

@@ -29,11 +29,8 @@ use Rattle.comparison.proofs.Least.{act-agree}
 use Rattle.comparison.proofs.NumberOrder.{class-injective}
 use Rattle.comparison.specs.Choices.{classKey}
 use Rattle.comparison.specs.Equations.{fails, signAssignment, signEquation}
+use Rattle.comparison.specs.Setting.{bare}
 use Rattle.comparison.specs.declared.equations.Assignment.{Assignment}
-
--- the class alone, both images positive
-abbrev pub bare : Clifford → Clifford
-bare k = record { class = k .class; sx = false; sz = false }
 
 abbrev signAt : Clifford → Bool → Bool → Bool
 signAt k z x = (x && k .sx) ⊕ (z && k .sz)

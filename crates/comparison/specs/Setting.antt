@@ -30,6 +30,14 @@ generatorsOf gs j = generatorOf (getD gs j noGenerator)
 abbrev pub Codes : List ℕ → Type 0
 Codes cs = (q : ℕ) → getD cs q 0 < 24
 
+-- the class alone, both images positive
+abbrev pub bare : Clifford → Clifford
+bare k = record { class = k .class; sx = false; sz = false }
+
+-- an array of codes without signs
+abbrev pub Bare : List ℕ → Type 0
+Bare choice = (q : ℕ) → codesOf choice q ≡ bare (codesOf choice q)
+
 -- rows of a record with a simple graph, and codes that undo the record's
 pub record Framed (n : ℕ) (rows : ℕ → Pauli) (frame : ℕ → Clifford) : Type 0 where
   pub graph : Graph
