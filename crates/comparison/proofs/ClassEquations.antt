@@ -9,6 +9,7 @@ use Prim.Native.Nat.{_*_, _+_, _-_, _/_, _<_, _^_, ℕ, _≤_}
 use native.Mathlib.Nat.{lt-of-le-of-lt}
 use lib.Bits.{and-le-l, bitAnd}
 use lib.Pow.{ones-lt}
+use borrow.Author.Tests.{eqb-true}
 use Rattle.clifford.proofs.CliffordLaws.{fromFive, onClifford, xAfter, zAfter}
 use Rattle.clifford.specs.Clifford.{Class, Clifford, imageX, imageZ}
 use Rattle.clifford.specs.Vectors.{act}
@@ -19,7 +20,7 @@ use Rattle.stabilizer.proofs.GroupLaws.{elements-commute, in-row}
 use Rattle.stabilizer.proofs.Products.{anticommute-form}
 use Rattle.stabilizer.specs.Carries.{Carries}
 use Rattle.stabilizer.specs.Groups.{InGroup, Proper, Within}
-use Rattle.words.proofs.BitLaws.{bit-above, bit-and, bit-wordOf, lt-of-bits, wordOf-lt}
+use Rattle.words.proofs.BitLaws.{bit-above, bit-and, bit-single, bit-wordOf, lt-of-bits, wordOf-lt}
 use Rattle.words.proofs.Finite.{bits, ⊕-zero}
 use Rattle.words.proofs.OnesLaws.{dot-bits}
 use Rattle.words.proofs.Sums.{fold-ext, lt-or-ge, parity-add}
@@ -111,22 +112,19 @@ mask-below q i h = go (lt-or-ge i q)
     go (inl l) = l
     go (inr l) = absurd (true≢false (sym h ∙ bit-above q (2 ^ q - 1) (ones-lt q) i l))
 
--- the bits below q of two words agree where the functions do
-same-words : (n q m : ℕ) (f g : Word) → ((i : ℕ) → bit m i ≡ true → i < q)
-    → ((i : ℕ) → i < q → i < n → f i ≡ g i)
-    → SameBits m (wordOf n f) (wordOf n g)
-same-words n q m f g below h i l = go (lt-or-ge i n)
+-- the bits at the places of a mask agree where the functions do
+same-words : (n m : ℕ) (f g : Word) → ((i : ℕ) → bit m i ≡ true → f i ≡ g i) → SameBits m (wordOf n f) (wordOf n g)
+same-words n m f g h i l = go (lt-or-ge i n)
   where
     go : (i < n) ⊎ (n ≤ i) → bit (wordOf n f) i ≡ bit (wordOf n g) i
-    go (inl k) = bit-wordOf n f i k ∙ h i (below i l) k ∙ sym (bit-wordOf n g i k)
+    go (inl k) = bit-wordOf n f i k ∙ h i l ∙ sym (bit-wordOf n g i k)
     go (inr k) =
         bit-above n (wordOf n f) (wordOf-lt n f) i k ∙ sym (bit-above n (wordOf n g) (wordOf-lt n g) i k)
 
-pub same-classes : (n q m : ℕ) (c d : ℕ → Clifford) → ((i : ℕ) → bit m i ≡ true → i < q)
-    → ((i : ℕ) → i < q → classKey (d i) ≡ classKey (c i))
+same-classes-on : (n m : ℕ) (c d : ℕ → Clifford) → ((i : ℕ) → bit m i ≡ true → classKey (d i) ≡ classKey (c i))
     → SameOn m (classAssignment n c) (classAssignment n d)
 unfolding classAssignment
-same-classes n q m c d below h =
+same-classes-on n m c d h =
     record {
       a = by (λ k. zBit (imageZ k));
       b = by (λ k. zBit (imageX k));
@@ -135,15 +133,26 @@ same-classes n q m c d below h =
     }
   where
     by : (f : Class → Bool) → SameBits m (wordOf n (λ i. f (c i .class))) (wordOf n (λ i. f (d i .class)))
-    by f = same-words n q m _ _ below (λ i l k. ap f (class-injective _ _ (sym (h i l))))
+    by f = same-words n m _ _ (λ i l. ap f (class-injective _ _ (sym (h i l))))
+
+pub same-classes : (n q m : ℕ) (c d : ℕ → Clifford) → ((i : ℕ) → bit m i ≡ true → i < q)
+    → ((i : ℕ) → i < q → classKey (d i) ≡ classKey (c i)) → SameOn m (classAssignment n c) (classAssignment n d)
+same-classes n q m c d below h = same-classes-on n m c d (λ i l. h i (below i l))
+
+-- .. at one qubit
+pub one-place : (n q : ℕ) (c d : ℕ → Clifford) → classKey (d q) ≡ classKey (c q)
+    → SameOn (2 ^ q) (classAssignment n c) (classAssignment n d)
+one-place n q c d h =
+    same-classes-on n (2 ^ q) c d (λ i l. subst (λ k. classKey (d k) ≡ classKey (c k))
+    (sym (eqb-true i q (sym (bit-single q i) ∙ l))) h)
 
 pub same-signs : (n q m : ℕ) (c d : ℕ → Clifford) → ((i : ℕ) → bit m i ≡ true → i < q)
     → ((i : ℕ) → i < q → signKey (d i) ≡ signKey (c i)) → SameOn m (signAssignment n c) (signAssignment n d)
 unfolding signAssignment
 same-signs n q m c d below h =
     record {
-      a = same-words n q m _ _ below (λ i l k. sx-of (c i .sx) (c i .sz) (d i .sx) (d i .sz) (sym (h i l)));
-      b = same-words n q m _ _ below (λ i l k. sz-of (c i .sx) (c i .sz) (d i .sx) (d i .sz) (sym (h i l)));
+      a = same-words n m _ _ (λ i l. sx-of (c i .sx) (c i .sz) (d i .sx) (d i .sz) (sym (h i (below i l))));
+      b = same-words n m _ _ (λ i l. sz-of (c i .sx) (c i .sz) (d i .sx) (d i .sz) (sym (h i (below i l))));
       c = λ i l. refl;
       d = λ i l. refl;
     }

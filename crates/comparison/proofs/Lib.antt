@@ -12,3 +12,5 @@ pub mod RecordElements
 pub mod WordsByBits
 pub mod NextChoice
 pub mod SignSearch
+pub mod ClassSearch
+pub mod EquationTables
