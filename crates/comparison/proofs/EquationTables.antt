@@ -3,9 +3,12 @@
 use mathlib.Core.Bool.{_&&_, Bool, Bool·beq, false, not, true}
 use mathlib.Core.List.{List}
 use mathlib.Core.Path.{ap, refl, subst, sym, _∙_, _≡_}
-use Prim.Native.Nat.{_<_, _^_, suc, zero, ℕ, _≤_}
+use Prim.Native.Nat.{_+_, _<_, _^_, suc, zero, zero-le, ℕ, _≤_}
+use native.Mathlib.Nat.{lt-of-lt-of-le, not-suc-le-zero}
+use native.Mathlib.Numerals.{add-one}
 use lib.Dec.{T, eqb}
 use lib.ListN.{getD, replicate}
+use borrow.Author.Count.{below-more}
 use borrow.Author.Tests.{eqb-true}
 use Rattle.clifford.proofs.VectorLaws.{act-cong}
 use Rattle.clifford.specs.Clifford.{Clifford}
@@ -19,6 +22,7 @@ use Rattle.words.specs.Search.{first}
 use Rattle.comparison.proofs.ClassEquations.{class-equation, one-place}
 use Rattle.comparison.proofs.EquationLaws.{empty-holds}
 use Rattle.comparison.proofs.Flags.{both-true, unequal-bits}
+use Rattle.comparison.proofs.NumberOrder.{classKey-lt}
 use Rattle.comparison.proofs.SignEquations.{sign-equation}
 use Rattle.comparison.specs.Choices.{classKey}
 use Rattle.comparison.specs.Equations.{SameOn, Solves, classAssignment, classEquation, emptyEquation, equationAt, fails, signAssignment, signEquation}
@@ -38,14 +42,27 @@ empty-table k w i = ap (λ e. fails e w) (all-empty k i) ∙ empty-holds w
 abbrev pub Inserted : List Equation → Equation → List Equation → Type 0
 Inserted table e result = (w : Assignment) → fails e w ≡ false → Solves table w → Solves result w
 
+-- ---- the equations of one generator g with all of the second group
+pub record RowInserted (n : ℕ) (g : Generator) (second : List Generator) (table₀ table : List Equation) : Type 0 where
+  pub kept : (w : Assignment) → ((j : ℕ) → j < n → fails (classEquation g (getD second j noGenerator)) w ≡ false)
+      → Solves table₀ w → Solves table w
+
+pub row-start : (n : ℕ) (g : Generator) (second : List Generator) (table : List Equation) → RowInserted n g second table table
+row-start n g second table = record { kept = λ w h s. s }
+
+pub row-more : (n : ℕ) (g : Generator) (second : List Generator) (table₀ table : List Equation) (e : Equation)
+    (result : List Equation) → RowInserted n g second table₀ table → Inserted table e result → (j : ℕ) → j < n
+    → e ≡ classEquation g (getD second j noGenerator) → RowInserted n g second table₀ result
+row-more n g second table₀ table e result R into j l ee =
+    record { kept = λ w h s. into w (ap (λ f. fails f w) ee ∙ h j l) (R .kept w h s) }
+
 module _ (n : ℕ) (first second : List Generator) (P : Proper n (generatorsOf first)) (P′ : Proper n (generatorsOf second)) where
-  pub class-inserted : (table : List Equation) (e : Equation) (result : List Equation) → ClassTable n first second table
-      → Inserted table e result → (i j : ℕ) → i < n → j < n → (g h : Generator) → g ≡ getD first i noGenerator
-      → h ≡ getD second j noGenerator → e ≡ classEquation g h → ClassTable n first second result
-  class-inserted table e result T into i j li lj g h eg eh ee d C =
-      into (classAssignment n d)
-      (ap (λ f. fails f (classAssignment n d)) ee
-      ∙ class-equation n (generatorsOf first) (generatorsOf second) P P′ d C i j li lj g h (ap generatorOf eg) (ap generatorOf eh))
+  pub row-end : (table₀ table : List Equation) (i : ℕ) → i < n → ClassTable n first second table₀
+      → RowInserted n (getD first i noGenerator) second table₀ table → ClassTable n first second table
+  row-end table₀ table i li T R d C =
+      R .kept (classAssignment n d)
+      (λ j lj. class-equation n (generatorsOf first) (generatorsOf second) P P′ d C i j li lj (getD first i noGenerator)
+      (getD second j noGenerator) refl refl)
       (T d C)
 
   pub sign-inserted : (c : ℕ → Clifford) → ((q : ℕ) → c q ≡ bare (c q)) → n ≤ 64
@@ -77,3 +94,19 @@ pub class-shut : (n : ℕ) (table : List Equation) (q v : ℕ) (choice : List �
 class-shut n table q v choice here w e none d same s =
     none (classAssignment n d)
     (subst (λ u. SameOn (2 ^ q) u (classAssignment n d)) (sym e) (one-place n q (codesOf choice) d (same ∙ sym here))) s
+
+-- the classes below v at qubit q are shut
+pub record ShutBelow (n : ℕ) (table : List Equation) (q v : ℕ) : Type 0 where
+  pub upto : v ≤ 6
+  pub shut : (u : ℕ) → u < v → (d : ℕ → Clifford) → classKey (d q) ≡ u → Solves table (classAssignment n d) → ⊥
+
+pub none-shut : (n : ℕ) (table : List Equation) (q : ℕ) → ShutBelow n table q 0
+none-shut n table q = record { upto = zero-le; shut = λ u l. absurd (not-suc-le-zero l) }
+
+pub one-shut : (n : ℕ) (table : List Equation) (q v : ℕ) → ShutBelow n table q v → v < 6
+    → ((d : ℕ → Clifford) → classKey (d q) ≡ v → Solves table (classAssignment n d) → ⊥) → ShutBelow n table q (v + 1)
+one-shut n table q v S l here = record { upto = rw add-one l; shut = below-more _ _ (S .shut) here }
+
+pub all-shut : (n : ℕ) (table : List Equation) (q v : ℕ) → ShutBelow n table q v → 6 ≤ v → (d : ℕ → Clifford)
+    → Solves table (classAssignment n d) → ⊥
+all-shut n table q v S l d = S .shut (classKey (d q)) (lt-of-lt-of-le (classKey-lt (d q)) l) d refl

@@ -3,13 +3,13 @@
 use mathlib.Core.Bool.{false}
 use mathlib.Core.List.{List}
 use mathlib.Core.Logic.{_≢_}
-use mathlib.Core.Path.{ap, subst, sym, _∙_, _≡_}
-use Prim.Native.Nat.{_%_, _*_, _+_, _/_, _<_, ℕ}
+use mathlib.Core.Path.{ap, refl, subst, sym, _∙_, _≡_}
+use Prim.Native.Nat.{_%_, _*_, _+_, _/_, _<_, suc, zero, ℕ}
 use native.Mathlib.Decide.{ℕ-discrete}
 use native.Mathlib.Nat.{add-zero}
 use native.Mathlib.Omega.{arith}
 use lib.Dec.{eqb, lit<}
-use lib.ListN.{getD, length, set}
+use lib.ListN.{getD, length, replicate, set}
 use lib.Seq.{getD-set-other, getD-set-same}
 use Rattle.clifford.specs.Clifford.{classNumber, classOf, cliffordOf}
 use Rattle.clifford.specs.Vectors.{codesOf}
@@ -94,3 +94,15 @@ module _ (choice : List ℕ) (C : Codes choice) (q v : ℕ) (long : q < length c
           ∙ ap classNumber (class-of-code (getD choice q 0 / 4) v l)
           ∙ ap (λ j. classKey (codesOf choice j)) (sym e)
       go (no o) = ap classKey (code-other choice q (4 * (getD choice q 0 / 4) + v) long i o)
+
+-- ---- the array of codes 0
+zeros-at : (k i : ℕ) → _≡_ {A = ℕ} (getD (replicate k 0) i 0) 0
+zeros-at zero i = refl
+zeros-at (suc k) zero = refl
+zeros-at (suc k) (suc i) = zeros-at k i
+
+pub zeros-codes : (k : ℕ) → Codes (replicate k 0)
+zeros-codes k q = subst (λ c. c < 24) (sym (zeros-at k q)) (lit< tt)
+
+pub zeros-bare : (k : ℕ) → Bare (replicate k 0)
+zeros-bare k q = subst (λ c. cliffordOf c ≡ bare (cliffordOf c)) (sym (zeros-at k q)) refl

@@ -1,4 +1,5 @@
 // The comparison of two states: the least choice of codes that carries the one group onto the other.
+mod assignments;
 mod elements;
 mod equations;
-mod words_of;
+mod tables;

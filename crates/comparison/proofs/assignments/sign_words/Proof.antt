@@ -2,8 +2,8 @@ use Prim.Native.Nat.{_-_}
 use native.Mathlib.Omega.{arith}
 use borrow.Author.Needs.{needs}
 use Rattle.comparison.proofs.WordsByBits.{SignsBelow, all-signs, no-signs, one-sign-more}
-use Rattle.comparison.proofs.words_of.sign_words.Statement.{statement}
-use Rattle.comparison.proofs.words_of.sign_words.Tie as tie
+use Rattle.comparison.proofs.assignments.sign_words.Statement.{statement}
+use Rattle.comparison.proofs.assignments.sign_words.Tie as tie
 
 abbrev Inv-loop : tie.InvT-loop
 Inv-loop n choice a₀ b₀ q₀ a b q = SignsBelow n choice q a b

@@ -2,8 +2,8 @@ use Prim.Native.Nat.{_-_}
 use native.Mathlib.Omega.{arith}
 use borrow.Author.Needs.{needs}
 use Rattle.comparison.proofs.WordsByBits.{ClassesBelow, all-classes, no-classes, one-class-more}
-use Rattle.comparison.proofs.words_of.class_words.Statement.{statement}
-use Rattle.comparison.proofs.words_of.class_words.Tie as tie
+use Rattle.comparison.proofs.assignments.class_words.Statement.{statement}
+use Rattle.comparison.proofs.assignments.class_words.Tie as tie
 
 abbrev Inv-loop : tie.InvT-loop
 Inv-loop n choice a₀ b₀ c₀ d₀ q₀ a b c d q = ClassesBelow n choice q a b c d
