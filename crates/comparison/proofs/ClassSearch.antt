@@ -26,6 +26,11 @@ use Rattle.comparison.specs.Setting.{Answered, ClassTable, Codes, genera
 use Rattle.comparison.specs.declared.equations.Assignment.{Assignment}
 use Rattle.comparison.specs.declared.equations.Equation.{Equation}
 
+-- the classes below v at qubit q are tried
+abbrev pub ClassesTried : ℕ → List Generator → List Generator → List ℕ → ℕ → ℕ → Type 0
+ClassesTried n first second choice q v =
+    Tried n (λ d. Carries n d (generatorsOf first) (generatorsOf second)) classKey q (codesOf choice) v
+
 module _ (n : ℕ) (first second : List Generator) (few : n ≤ 20) where
   abbrev rows : ℕ → Pauli
   rows = generatorsOf first
@@ -77,9 +82,6 @@ module _ (n : ℕ) (first second : List Generator) (few : n ≤ 20) where
       }
 
   -- ---- the loop over the classes of qubit q
-  abbrev pub ClassesTried : List ℕ → ℕ → ℕ → Type 0
-  ClassesTried choice q v = Tried n Works classKey q (codesOf choice) v
-
   module _ (choice : List ℕ) (C : Codes choice) (q : ℕ) (inside : q < n) (long : length choice ≡ 20) (v : ℕ) (small : v < 6) where
     fits : q < length choice
     fits = room few long inside
@@ -87,7 +89,7 @@ module _ (n : ℕ) (first second : List Generator) (few : n ≤ 20) where
         room : {a b : ℕ} → a ≤ 20 → b ≡ 20 → q < a → q < b
         room u v w = omega (arith, u, v, w)
 
-    pub classes-found : ClassesTried choice q v → (b : Bool) (out : List ℕ) → b ≡ true
+    pub classes-found : ClassesTried n first second choice q v → (b : Bool) (out : List ℕ) → b ≡ true
         → Answered n (WithClasses n rows others (q + 1) (codesOf (withClass choice q v))) b out
         → Answered n (WithClasses n rows others q (codesOf choice)) b out
     classes-found T true out e A =
@@ -98,18 +100,18 @@ module _ (n : ℕ) (first second : List Generator) (few : n ≤ 20) where
         }
     classes-found T false out e A = absurd (false≢true e)
 
-    pub classes-missed : ClassesTried choice q v → (b : Bool) (out : List ℕ) → b ≡ false
+    pub classes-missed : ClassesTried n first second choice q v → (b : Bool) (out : List ℕ) → b ≡ false
         → Answered n (WithClasses n rows others (q + 1) (codesOf (withClass choice q v))) b out
-        → ClassesTried choice q (v + 1)
+        → ClassesTried n first second choice q (v + 1)
     classes-missed T true out e A = absurd (true≢false e)
     classes-missed T false out e A =
         none-here n Works classKey classes-decide q inside (codesOf choice) v (codesOf (withClass choice q v))
         (class-front choice C q v fits) (class-here choice C q v fits small) T (A .search)
 
-  pub classes-begin : (choice : List ℕ) (q : ℕ) → ClassesTried choice q 0
+  pub classes-begin : (choice : List ℕ) (q : ℕ) → ClassesTried n first second choice q 0
   classes-begin choice q = none-tried n Works classKey q (codesOf choice)
 
-  pub classes-end : (choice : List ℕ) → Codes choice → (q v : ℕ) → 6 ≤ v → ClassesTried choice q v
+  pub classes-end : (choice : List ℕ) → Codes choice → (q v : ℕ) → 6 ≤ v → ClassesTried n first second choice q v
       → Answered n (WithClasses n rows others q (codesOf choice)) false choice
   classes-end choice C q v l T =
       record {

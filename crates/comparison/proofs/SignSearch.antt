@@ -30,6 +30,11 @@ use Rattle.comparison.specs.Setting.{Answered, Codes, Setting, SignTable
 use Rattle.comparison.specs.declared.equations.Assignment.{Assignment}
 use Rattle.comparison.specs.declared.equations.Equation.{Equation}
 
+-- the signs below v at qubit q are tried
+abbrev pub SignsTried : ℕ → List Generator → List Generator → List ℕ → ℕ → ℕ → Type 0
+SignsTried n first second choice q v =
+    Tried n (WithClasses n (generatorsOf first) (generatorsOf second) n (codesOf choice)) signKey q (codesOf choice) v
+
 module _ (n : ℕ) (first second : List Generator) (frame : List ℕ) (S : Setting n first second frame) where
   abbrev rows : ℕ → Pauli
   rows = generatorsOf first
@@ -85,9 +90,6 @@ module _ (n : ℕ) (first second : List Generator) (frame : List ℕ) (S : Setti
       }
 
   -- ---- the loop over the signs of qubit q
-  abbrev pub SignsTried : List ℕ → ℕ → ℕ → Type 0
-  SignsTried choice q v = Tried n (WithClasses n rows others n (codesOf choice)) signKey q (codesOf choice) v
-
   module _ (choice : List ℕ) (C : Codes choice) (q : ℕ) (inside : q < n) (long : length choice ≡ 20) where
     p : ℕ → Clifford
     p = codesOf choice
@@ -125,7 +127,7 @@ module _ (n : ℕ) (first second : List Generator) (frame : List ℕ) (S : Setti
       unfolding next p
       next-table table T d h = T d (record { base = h .base; same = λ i l. h .same i l ∙ same-class i })
 
-      pub signs-found : SignsTried choice q v → (b : Bool) (out : List ℕ) → b ≡ true
+      pub signs-found : SignsTried n first second choice q v → (b : Bool) (out : List ℕ) → b ≡ true
           → Answered n (WithSigns n rows others (q + 1) (codesOf (withSigns choice q v))) b out
           → Answered n (WithSigns n rows others q (codesOf choice)) b out
       unfolding next p
@@ -138,8 +140,8 @@ module _ (n : ℕ) (first second : List Generator) (frame : List ℕ) (S : Setti
           }
       signs-found T false out e A = absurd (false≢true e)
 
-      pub signs-missed : SignsTried choice q v → (b : Bool) (out : List ℕ) → b ≡ false
-          → Answered n (WithSigns n rows others (q + 1) (codesOf (withSigns choice q v))) b out → SignsTried choice q (v + 1)
+      pub signs-missed : SignsTried n first second choice q v → (b : Bool) (out : List ℕ) → b ≡ false
+          → Answered n (WithSigns n rows others (q + 1) (codesOf (withSigns choice q v))) b out → SignsTried n first second choice q (v + 1)
       unfolding next p
       signs-missed T true out e A = absurd (true≢false e)
       signs-missed T false out e A =
@@ -147,10 +149,10 @@ module _ (n : ℕ) (first second : List Generator) (frame : List ℕ) (S : Setti
           (sign-front choice C q v fits) (sign-here choice C q v fits small) T
           (moved false (codesOf out) (A .search))
 
-  pub signs-begin : (choice : List ℕ) (q : ℕ) → SignsTried choice q 0
+  pub signs-begin : (choice : List ℕ) (q : ℕ) → SignsTried n first second choice q 0
   signs-begin choice q = none-tried n _ signKey q (codesOf choice)
 
-  pub signs-end : (choice : List ℕ) → Codes choice → (q v : ℕ) → 4 ≤ v → SignsTried choice q v
+  pub signs-end : (choice : List ℕ) → Codes choice → (q v : ℕ) → 4 ≤ v → SignsTried n first second choice q v
       → Answered n (WithSigns n rows others q (codesOf choice)) false choice
   signs-end choice C q v l T =
       record {

@@ -2,4 +2,5 @@
 mod assignments;
 mod elements;
 mod equations;
+mod search;
 mod tables;

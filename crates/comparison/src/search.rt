@@ -1,0 +1,62 @@
+// The search for the least choice: classes in rising order, then signs.
+use crate::assignments::class_words;
+use crate::assignments::sign_words;
+use crate::elements::carries;
+use crate::equations::Equation;
+use crate::tables::any_shut;
+use crate::tables::class_table;
+use crate::tables::cut;
+use crate::tables::sign_table;
+use pauli::Generator;
+ghost use mathlib.Core.Path.{_≡_};
+ghost use Prim.Native.Nat.{ℕ, _<_, _≤_};
+ghost use Rattle.clifford.specs.Vectors.{codesOf};
+ghost use Rattle.stabilizer.specs.Carries.{Carries};
+ghost use Rattle.comparison.specs.Searches.{WithClasses, WithSigns};
+ghost use Rattle.comparison.specs.Setting.{Answered, Bare, ClassTable, Codes, Setting, SignTable, generatorsOf};
+
+// Whether a choice was found, and the choice.
+pub struct Answer {
+    pub found: bool,
+    pub choice: [u8; 20],
+}
+
+// The least choice that works with the classes given and the signs given below q.
+fn search_signs(
+    n: usize,
+    first: [Generator; 20],
+    second: [Generator; 20],
+    frame: [u8; 20],
+    table: [Equation; 80],
+    choice: [u8; 20],
+    q: usize,
+) -> Answer
+    requires { ⌜ Setting n first second frame × (q ≤ n) × Codes choice × SignTable n first second (codesOf choice) table ⌝ }
+    ensures { λ r. ⌜ Answered n (WithSigns n (generatorsOf first) (generatorsOf second) q (codesOf choice)) (r .found) (r .choice) ⌝ }
+{
+    let w = sign_words(n, choice);
+    if cut(table, q, w) {
+        return Answer {
+            found: false,
+            choice,
+        };
+    }
+    if q == n {
+        let found = carries(n, first, second, frame, choice);
+        return Answer { found, choice };
+    }
+    let mut v = 0u8;
+    while v < 4 {
+        let mut next = choice;
+        next[q] = 4 * (choice[q] / 4) + v;
+        let answer = search_signs(n, first, second, frame, table, next, q + 1);
+        if answer.found {
+            return answer;
+        }
+        v += 1;
+    }
+    Answer {
+        found: false,
+        choice,
+    }
+}
