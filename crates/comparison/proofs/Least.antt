@@ -2,39 +2,37 @@
 -- if no
 -- choice carries the group.
 -- Assumes nothing.
-use mathlib.Core.Bool.{Bool, false, not, true, true≢false}
+use mathlib.Core.Bool.{Bool, false, false≢true, not, true, true≢false}
+use mathlib.Core.List.{List}
 use mathlib.Core.Logic.{inl, inr, _↔_, _⊎_}
-use mathlib.Core.Path.{ap, ap₂, subst, sym, _∙_, _≡_}
+use mathlib.Core.Path.{ap, ap₂, refl, subst, sym, _∙_, _≡_}
 use Prim.Native.Nat.{_<_, _^_, ℕ, _≤_}
 use native.Mathlib.Decide.{decLt}
 use native.Mathlib.Omega.{arith}
-use Rattle.clifford.specs.Clifford.{Clifford, classNumber, cliffordOf, image, imagePhase}
-use Rattle.clifford.specs.Vectors.{act}
+use lib.Dec.{eqb}
+use lib.ListN.{getD}
+use borrow.Author.Tests.{eqb-true}
+use Rattle.clifford.specs.Clifford.{Clifford, classNumber, cliffordOf, codeOf, image, imagePhase}
+use Rattle.clifford.specs.Vectors.{act, codesOf}
 use Rattle.pauli.proofs.PauliLaws.{Pauli-path}
 use Rattle.pauli.specs.Pauli.{_+ᵖ_, Pauli, i⁰, letter, letterAt, xBit, zBit}
 use Rattle.pauli.specs.declared.Letter.{Letter}
 use Rattle.stabilizer.proofs.Within.{element-within}
 use Rattle.stabilizer.specs.Carries.{Carries}
 use Rattle.stabilizer.specs.Groups.{InGroup, Within}
-use Rattle.words.proofs.SearchLaws.{some-in, some-none, some-true}
+use Rattle.words.proofs.SearchLaws.{every-at, some-in, some-none, some-true}
 use Rattle.words.proofs.Sums.{fold-ext, lt-or-ge}
-use Rattle.words.specs.Search.{IsFirst, first, some}
+use Rattle.words.specs.Search.{IsFirst, every, first, some}
 use Rattle.comparison.proofs.Flags.{never-true, not-false, not-true}
 use Rattle.comparison.proofs.Members.{carries-is}
-use Rattle.comparison.proofs.NumberOrder.{number-order, numbered}
-use Rattle.comparison.specs.Choices.{
-  Agree,
-  Before,
-  FirstDiffers,
-  LeastChoice,
-  carries,
-  choiceAt,
-  classKey,
-  leastCode,
-  leastNumber,
-  noChoice,
-  signKey,
-}
+use Rattle.comparison.proofs.NumberOrder.{choice-lt, number-order, numbered}
+use Rattle.comparison.specs.Choices.{Agree, Before, FirstDiffers, LeastChoice, carries, choiceAt, classKey, leastCode, leastNumber, noChoice, signKey}
+use Rattle.comparison.specs.Setting.{Answered, LeastAnswer}
+
+-- a code below 24 is that of its Clifford
+code-back : (c : ℕ) → c < 24 → codeOf (cliffordOf c) ≡ c
+unfolding every
+code-back c l = eqb-true _ _ (every-at 24 (λ c. eqb (codeOf (cliffordOf c)) c) refl c l)
 
 -- ---- the order is one way only
 differs-once : (n : ℕ) (f g : ℕ → ℕ) → FirstDiffers n f g → FirstDiffers n g f → ⊥
@@ -180,3 +178,18 @@ module _ (n : ℕ) (rows others : ℕ → Pauli) (W : (j : ℕ) → j < n → Wi
     where
       some-choice : noChoice n rows others ≡ false
       some-choice = never-true (noChoice n rows others) (λ e. none-carries .0 e c (L .among))
+
+  -- the least choice found, or none, as an equation on codes
+  pub least-answer : (b : Bool) (out : List ℕ) → Answered n (λ d. Carries n d rows others) b out
+      → LeastAnswer n rows others b out
+  least-answer true out A =
+      record {
+        whether = sym (ap not (least-equation (codesOf out) (A .search) .0));
+        which = λ e q l. sym (code-back (getD out q 0) (A .codes q)) ∙ ap codeOf (least-equation (codesOf out) (A .search) .1 q l)
+            ∙ code-back (leastCode n rows others q) (choice-lt n (leastNumber n rows others) q);
+      }
+  least-answer false out A =
+      record {
+        whether = sym (ap not (none-carries .1 (A .search)));
+        which = λ e. absurd (false≢true e);
+      }

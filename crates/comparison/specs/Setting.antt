@@ -1,6 +1,6 @@
 -- What the searches are given: the generators of two reduced records, and the codes that undo the second's.
 -- Assumes nothing.
-use mathlib.Core.Bool.{Bool, false}
+use mathlib.Core.Bool.{Bool, false, not, true}
 use mathlib.Core.List.{List}
 use mathlib.Core.Path.{_≡_}
 use Prim.Native.Nat.{_<_, ℕ, _≤_}
@@ -15,6 +15,7 @@ use Rattle.record.specs.Records.{recordRow}
 use Rattle.stabilizer.specs.Carries.{Carries}
 use Rattle.stabilizer.specs.Groups.{InGroup, Proper}
 use Rattle.words.specs.Search.{first}
+use Rattle.comparison.specs.Choices.{leastCode, noChoice}
 use Rattle.comparison.specs.Equations.{Solves, classAssignment, signAssignment}
 use Rattle.comparison.specs.Searches.{Found, WithClasses}
 use Rattle.comparison.specs.declared.equations.Equation.{Equation}
@@ -71,3 +72,8 @@ SignTable n first second c table =
 pub record Answered (n : ℕ) (K : (ℕ → Clifford) → Type 0) (found : Bool) (choice : List ℕ) : Type 0 where
   pub search : Found n K found (codesOf choice)
   pub codes : Codes choice
+
+-- the answer of the comparison: the least choice, as an equation
+pub record LeastAnswer (n : ℕ) (rows others : ℕ → Pauli) (found : Bool) (choice : List ℕ) : Type 0 where
+  pub whether : found ≡ not (noChoice n rows others)
+  pub which : found ≡ true → (q : ℕ) → q < n → getD choice q 0 ≡ leastCode n rows others q

@@ -13,7 +13,7 @@ ghost use Prim.Native.Nat.{ℕ, _<_, _≤_};
 ghost use Rattle.clifford.specs.Vectors.{codesOf};
 ghost use Rattle.stabilizer.specs.Carries.{Carries};
 ghost use Rattle.comparison.specs.Searches.{WithClasses, WithSigns};
-ghost use Rattle.comparison.specs.Setting.{Answered, Bare, ClassTable, Codes, Setting, SignTable, generatorsOf};
+ghost use Rattle.comparison.specs.Setting.{Answered, Bare, ClassTable, Codes, LeastAnswer, Setting, SignTable, generatorsOf};
 
 // Whether a choice was found, and the choice.
 pub struct Answer {
@@ -59,4 +59,67 @@ fn search_signs(
         found: false,
         choice,
     }
+}
+
+// The least choice that works with the classes given below q.
+fn search_classes(
+    n: usize,
+    first: [Generator; 20],
+    second: [Generator; 20],
+    frame: [u8; 20],
+    table: [Equation; 80],
+    choice: [u8; 20],
+    q: usize,
+) -> Answer
+    requires { ⌜ Setting n first second frame × (q ≤ n) × Codes choice × Bare choice × ClassTable n first second table ⌝ }
+    ensures { λ r. ⌜ Answered n (WithClasses n (generatorsOf first) (generatorsOf second) q (codesOf choice)) (r .found) (r .choice) ⌝ }
+{
+    let w = class_words(n, choice);
+    if cut(table, q, w) {
+        return Answer {
+            found: false,
+            choice,
+        };
+    }
+    if q == n {
+        let signs = sign_table(n, first, second, frame, choice);
+        let answer = search_signs(n, first, second, frame, signs, choice, 0);
+        return answer;
+    }
+    let mut v = 0u8;
+    while v < 6 {
+        let mut next = choice;
+        next[q] = 4 * v;
+        let answer = search_classes(n, first, second, frame, table, next, q + 1);
+        if answer.found {
+            return answer;
+        }
+        v += 1;
+    }
+    Answer {
+        found: false,
+        choice,
+    }
+}
+
+// The least choice that carries the first group onto the second.
+pub fn least_choice(
+    n: usize,
+    first: [Generator; 20],
+    second: [Generator; 20],
+    frame: [u8; 20],
+) -> Answer
+    requires { ⌜ Setting n first second frame ⌝ }
+    ensures { λ r. ⌜ LeastAnswer n (generatorsOf first) (generatorsOf second) (r .found) (r .choice) ⌝ }
+{
+    let table = class_table(n, first, second);
+    let none = [0u8; 20];
+    if any_shut(table, n) {
+        return Answer {
+            found: false,
+            choice: none,
+        };
+    }
+    let answer = search_classes(n, first, second, frame, table, none, 0);
+    answer
 }

@@ -1,0 +1,342 @@
+use borrow.Author.Needs.{needs}
+use mathlib.Core.Path.{_≡_}
+use Prim.Native.Nat.{ℕ, _<_, _-_, _≤_, zero-le}
+use native.Mathlib.Omega.{arith}
+use lib.ListN.{length}
+use Rattle.comparison.proofs.NextChoice.{class-bare, class-codes}
+use Rattle.comparison.proofs.ClassSearch.{ClassesTried, classes-begin, classes-cut, classes-end, classes-found, classes-leaf, classes-missed}
+use borrow.Fn.Kinds.{In}
+use borrow.Fn.PlainCycle.{Measures, is, falls, and}
+use Rattle.comparison.proofs.search.search_classes.Reads as search-classes
+use Rattle.comparison.proofs.search.search_classes.Kinds as search-classes-kinds
+use Rattle.comparison.proofs.search.+search_classes.Lts-search_classes as search-classes-lts
+use Rattle.comparison.proofs.assignments.class_words.Reads as class-words-reads
+use Rattle.comparison.proofs.search.search_signs.Reads as search-signs-reads
+use Rattle.comparison.proofs.tables.cut.Reads as cut-reads
+use Rattle.comparison.proofs.tables.sign_table.Reads as sign-table-reads
+use Rattle.comparison.proofs.search.+search_classes.{statement}
+use Rattle.comparison.proofs.search.+search_classes.Tie.{close}
+
+abbrev μ-search-classes : Measures 0 search-classes-kinds.ps ℕ
+μ-search-classes κs a = a .0 - a .1 .1 .1 .1 .1 .1 .0
+
+abbrev search-classes-at : ℕ → In 0 search-classes-kinds.ps
+search-classes-at t =
+    and
+    0
+    search-classes-kinds.ps
+    (is 0 search-classes-kinds.ps μ-search-classes t)
+    search-classes.Pre
+
+abbrev search-classes-below : ℕ → In 0 search-classes-kinds.ps
+search-classes-below t =
+    and
+    0
+    search-classes-kinds.ps
+    (falls 0 search-classes-kinds.ps _<_ μ-search-classes t)
+    search-classes.Pre
+
+abbrev search-classes-Inv-loop : search-classes-lts.InvT-loop
+search-classes-Inv-loop n first second frame table choice q v₀ v = (v ≤ 6) × ClassesTried n first second choice q v
+
+abbrev search-classes-μ-loop : search-classes-lts.MeasureT-loop
+search-classes-μ-loop n first second frame table choice q v₀ v = 6 - v
+
+-- src/search.rt:77:9
+search-classes-class-words-requires : (t : ℕ) → search-classes-lts.Need-class-words-requires (
+  class-words-reads.Asked,
+  class-words-reads.Learnt,
+  cut-reads.Asked,
+  cut-reads.Learnt,
+  sign-table-reads.Asked,
+  sign-table-reads.Learnt,
+  search-signs-reads.Asked,
+  search-signs-reads.Learnt,
+  search-classes-below t,
+  search-classes.Post,
+) (search-classes-at t) search-classes.Post search-classes-Inv-loop search-classes-μ-loop
+search-classes-class-words-requires t c κs = (c .pre .1 .0 .few, c .pre .1 .2)
+
+-- src/search.rt:78:8
+search-classes-cut-requires : (t : ℕ) → search-classes-lts.Need-cut-requires (
+  class-words-reads.Asked,
+  class-words-reads.Learnt,
+  cut-reads.Asked,
+  cut-reads.Learnt,
+  sign-table-reads.Asked,
+  sign-table-reads.Learnt,
+  search-signs-reads.Asked,
+  search-signs-reads.Learnt,
+  search-classes-below t,
+  search-classes.Post,
+) (search-classes-at t) search-classes.Post search-classes-Inv-loop search-classes-μ-loop
+search-classes-cut-requires t c κs = let few = c .before .pre .1 .0 .few in let most = c .before .pre .1 .1 in search needs
+
+-- src/search.rt:79:9
+search-classes-returns : (t : ℕ) → search-classes-lts.Need-returns (
+  class-words-reads.Asked,
+  class-words-reads.Learnt,
+  cut-reads.Asked,
+  cut-reads.Learnt,
+  sign-table-reads.Asked,
+  sign-table-reads.Learnt,
+  search-signs-reads.Asked,
+  search-signs-reads.Learnt,
+  search-classes-below t,
+  search-classes.Post,
+) (search-classes-at t) search-classes.Post search-classes-Inv-loop search-classes-μ-loop
+search-classes-returns t c = let s = c .before .before .before in let a = s .args in classes-cut (a .n) (a .first) (a .second) (s .pre .1 .0 .few) (a .choice) (s .pre .1 .2) (a .table) (s .pre .1 .4) (a .q) (c .before .before .class-words .result) (c .before .before .class-words .ensures) (c .before .cut .ensures (c .if1 .taken))
+
+-- src/search.rt:85:13
+search-classes-sign-table-requires : (t : ℕ) → search-classes-lts.Need-sign-table-requires (
+  class-words-reads.Asked,
+  class-words-reads.Learnt,
+  cut-reads.Asked,
+  cut-reads.Learnt,
+  sign-table-reads.Asked,
+  sign-table-reads.Learnt,
+  search-signs-reads.Asked,
+  search-signs-reads.Learnt,
+  search-classes-below t,
+  search-classes.Post,
+) (search-classes-at t) search-classes.Post search-classes-Inv-loop search-classes-μ-loop
+search-classes-sign-table-requires t c κs = let s = c .before .before .before .before in (s .pre .1 .0, s .pre .1 .2, s .pre .1 .3)
+
+-- src/search.rt:86:13
+search-classes-search-signs-requires : (t : ℕ) → search-classes-lts.Need-search-signs-requires (
+  class-words-reads.Asked,
+  class-words-reads.Learnt,
+  cut-reads.Asked,
+  cut-reads.Learnt,
+  sign-table-reads.Asked,
+  sign-table-reads.Learnt,
+  search-signs-reads.Asked,
+  search-signs-reads.Learnt,
+  search-classes-below t,
+  search-classes.Post,
+) (search-classes-at t) search-classes.Post search-classes-Inv-loop search-classes-μ-loop
+search-classes-search-signs-requires t c κs = let s = c .before .before .before .before .before in (s .pre .1 .0, zero-le, s .pre .1 .2, c .sign-table .ensures)
+
+-- src/search.rt:87:9
+search-classes-returns-2 : (t : ℕ) → search-classes-lts.Need-returns-2 (
+  class-words-reads.Asked,
+  class-words-reads.Learnt,
+  cut-reads.Asked,
+  cut-reads.Learnt,
+  sign-table-reads.Asked,
+  sign-table-reads.Learnt,
+  search-signs-reads.Asked,
+  search-signs-reads.Learnt,
+  search-classes-below t,
+  search-classes.Post,
+) (search-classes-at t) search-classes.Post search-classes-Inv-loop search-classes-μ-loop
+search-classes-returns-2 t c = let s = c .before .before .before .before .before .before in let a = s .args in classes-leaf (a .n) (a .first) (a .second) (s .pre .1 .0 .few) (a .choice) (a .q) (c .before .before .if2 .taken) (c .search-signs .result .found) (c .search-signs .result .choice) (c .search-signs .ensures)
+
+-- src/search.rt:90:5
+search-classes-loop-holds : (t : ℕ) → search-classes-lts.Need-loop-holds (
+  class-words-reads.Asked,
+  class-words-reads.Learnt,
+  cut-reads.Asked,
+  cut-reads.Learnt,
+  sign-table-reads.Asked,
+  sign-table-reads.Learnt,
+  search-signs-reads.Asked,
+  search-signs-reads.Learnt,
+  search-classes-below t,
+  search-classes.Post,
+) (search-classes-at t) search-classes.Post search-classes-Inv-loop search-classes-μ-loop
+search-classes-loop-holds t c = let s = c .before .before .before .before in let a = s .args in (zero-le, classes-begin (a .n) (a .first) (a .second) (s .pre .1 .0 .few) (a .choice) (a .q))
+
+-- src/search.rt:92:19
+search-classes-mul-next : (t : ℕ) → search-classes-lts.Need-mul-next (
+  class-words-reads.Asked,
+  class-words-reads.Learnt,
+  cut-reads.Asked,
+  cut-reads.Learnt,
+  sign-table-reads.Asked,
+  sign-table-reads.Learnt,
+  search-signs-reads.Asked,
+  search-signs-reads.Learnt,
+  search-classes-below t,
+  search-classes.Post,
+) (search-classes-at t) search-classes.Post search-classes-Inv-loop search-classes-μ-loop
+search-classes-mul-next t c = search needs
+
+-- src/search.rt:92:9
+search-classes-array-write-next : (t : ℕ) → search-classes-lts.Need-array-write-next (
+  class-words-reads.Asked,
+  class-words-reads.Learnt,
+  cut-reads.Asked,
+  cut-reads.Learnt,
+  sign-table-reads.Asked,
+  sign-table-reads.Learnt,
+  search-signs-reads.Asked,
+  search-signs-reads.Learnt,
+  search-classes-below t,
+  search-classes.Post,
+) (search-classes-at t) search-classes.Post search-classes-Inv-loop search-classes-μ-loop
+search-classes-array-write-next t c = search needs
+
+-- src/search.rt:93:75
+search-classes-add-search-classes : (t : ℕ) → search-classes-lts.Need-add-search-classes (
+  class-words-reads.Asked,
+  class-words-reads.Learnt,
+  cut-reads.Asked,
+  cut-reads.Learnt,
+  sign-table-reads.Asked,
+  sign-table-reads.Learnt,
+  search-signs-reads.Asked,
+  search-signs-reads.Learnt,
+  search-classes-below t,
+  search-classes.Post,
+) (search-classes-at t) search-classes.Post search-classes-Inv-loop search-classes-μ-loop
+search-classes-add-search-classes t c = search needs
+
+-- src/search.rt:93:13
+search-classes-search-classes-requires : (t : ℕ) → search-classes-lts.Need-search-classes-requires (
+  class-words-reads.Asked,
+  class-words-reads.Learnt,
+  cut-reads.Asked,
+  cut-reads.Learnt,
+  sign-table-reads.Asked,
+  sign-table-reads.Learnt,
+  search-signs-reads.Asked,
+  search-signs-reads.Learnt,
+  search-classes-below t,
+  search-classes.Post,
+) (search-classes-at t) search-classes.Post search-classes-Inv-loop search-classes-μ-loop
+search-classes-search-classes-requires t c κs = 
+    let s = c .before .before .before .before .before .before in
+    let a = s .args in
+    let l = c .before .loop in
+    let inside : a .q < a .n = omega (arith, s .pre .1 .1, c .before .before .if2 .left) in
+    let long : length (a .choice) ≡ 20 = s .good .1 .1 .1 .1 .1 .0 .1 .0 .1 in
+    let fits : a .q < length (a .choice) = omega (arith, inside, long, s .pre .1 .0 .few) in
+    let small : l .v < 6 = c .loop-test .taken in
+    (omega arith, (s .pre .1 .0, omega (arith, inside), class-codes (a .choice) (s .pre .1 .2) (a .q) (l .v) fits small,
+    class-bare (a .choice) (s .pre .1 .2) (a .q) (l .v) fits (s .pre .1 .3), s .pre .1 .4))
+
+-- src/search.rt:95:13
+search-classes-returns-3 : (t : ℕ) → search-classes-lts.Need-returns-3 (
+  class-words-reads.Asked,
+  class-words-reads.Learnt,
+  cut-reads.Asked,
+  cut-reads.Learnt,
+  sign-table-reads.Asked,
+  sign-table-reads.Learnt,
+  search-signs-reads.Asked,
+  search-signs-reads.Learnt,
+  search-classes-below t,
+  search-classes.Post,
+) (search-classes-at t) search-classes.Post search-classes-Inv-loop search-classes-μ-loop
+search-classes-returns-3 t c = 
+    let s = c .before .before .before .before .before .before .before .before in
+    let a = s .args in
+    let l = c .before .before .before .loop in
+    let inside : a .q < a .n = omega (arith, s .pre .1 .1, c .before .before .before .before .if2 .left) in
+    let long : length (a .choice) ≡ 20 = s .good .1 .1 .1 .1 .1 .0 .1 .0 .1 in
+    let fits : a .q < length (a .choice) = omega (arith, inside, long, s .pre .1 .0 .few) in
+    let small : l .v < 6 = c .before .before .loop-test .taken in
+    classes-found (a .n) (a .first) (a .second) (s .pre .1 .0 .few) (a .choice) (s .pre .1 .2) (a .q) inside long (l .v) small (l .inv .1) _ _ (c .if3 .taken) (c .before .search-classes .ensures)
+
+-- src/search.rt:97:9
+search-classes-add-v : (t : ℕ) → search-classes-lts.Need-add-v (
+  class-words-reads.Asked,
+  class-words-reads.Learnt,
+  cut-reads.Asked,
+  cut-reads.Learnt,
+  sign-table-reads.Asked,
+  sign-table-reads.Learnt,
+  search-signs-reads.Asked,
+  search-signs-reads.Learnt,
+  search-classes-below t,
+  search-classes.Post,
+) (search-classes-at t) search-classes.Post search-classes-Inv-loop search-classes-μ-loop
+search-classes-add-v t c = search needs
+
+-- src/search.rt:90:5
+search-classes-loop-less : (t : ℕ) → search-classes-lts.Need-loop-less (
+  class-words-reads.Asked,
+  class-words-reads.Learnt,
+  cut-reads.Asked,
+  cut-reads.Learnt,
+  sign-table-reads.Asked,
+  sign-table-reads.Learnt,
+  search-signs-reads.Asked,
+  search-signs-reads.Learnt,
+  search-classes-below t,
+  search-classes.Post,
+) (search-classes-at t) search-classes.Post search-classes-Inv-loop search-classes-μ-loop
+search-classes-loop-less t c = omega arith
+
+-- src/search.rt:90:5
+search-classes-loop-again : (t : ℕ) → search-classes-lts.Need-loop-again (
+  class-words-reads.Asked,
+  class-words-reads.Learnt,
+  cut-reads.Asked,
+  cut-reads.Learnt,
+  sign-table-reads.Asked,
+  sign-table-reads.Learnt,
+  search-signs-reads.Asked,
+  search-signs-reads.Learnt,
+  search-classes-below t,
+  search-classes.Post,
+) (search-classes-at t) search-classes.Post search-classes-Inv-loop search-classes-μ-loop
+search-classes-loop-again t c = 
+    let s = c .before .before .before .before .before .before .before .before in
+    let a = s .args in
+    let l = c .before .before .before .loop in
+    let inside : a .q < a .n = omega (arith, s .pre .1 .1, c .before .before .before .before .if2 .left) in
+    let long : length (a .choice) ≡ 20 = s .good .1 .1 .1 .1 .1 .0 .1 .0 .1 in
+    let fits : a .q < length (a .choice) = omega (arith, inside, long, s .pre .1 .0 .few) in
+    let small : l .v < 6 = c .before .before .loop-test .taken in
+    (omega (arith, small), classes-missed (a .n) (a .first) (a .second) (s .pre .1 .0 .few) (a .choice) (s .pre .1 .2) (a .q) inside long (l .v) small (l .inv .1) _ _ (c .if3 .left) (c .before .search-classes .ensures))
+
+-- src/search.rt:65:1
+search-classes-returns-4 : (t : ℕ) → search-classes-lts.Need-returns-4 (
+  class-words-reads.Asked,
+  class-words-reads.Learnt,
+  cut-reads.Asked,
+  cut-reads.Learnt,
+  sign-table-reads.Asked,
+  sign-table-reads.Learnt,
+  search-signs-reads.Asked,
+  search-signs-reads.Learnt,
+  search-classes-below t,
+  search-classes.Post,
+) (search-classes-at t) search-classes.Post search-classes-Inv-loop search-classes-μ-loop
+search-classes-returns-4 t c = let s = c .before .before .before .before .before .before in let a = s .args in classes-end (a .n) (a .first) (a .second) (s .pre .1 .0 .few) (a .choice) (s .pre .1 .2) (a .q) (c .before .loop .v) (c .loop-test .left) (c .before .loop .inv .1)
+
+pub +search-classes-spec : {M : Type 1} → statement M
++search-classes-spec = close μ-search-classes λ t. search-classes-lts.spec (
+  class-words-reads.Asked,
+  class-words-reads.Learnt,
+  cut-reads.Asked,
+  cut-reads.Learnt,
+  sign-table-reads.Asked,
+  sign-table-reads.Learnt,
+  search-signs-reads.Asked,
+  search-signs-reads.Learnt,
+  search-classes-below t,
+  search-classes.Post,
+)
+    (search-classes-at t)
+    search-classes.Post
+    search-classes-Inv-loop
+    search-classes-μ-loop
+    (search-classes-class-words-requires t)
+    (search-classes-cut-requires t)
+    (search-classes-returns t)
+    (search-classes-sign-table-requires t)
+    (search-classes-search-signs-requires t)
+    (search-classes-returns-2 t)
+    (search-classes-loop-holds t)
+    (search-classes-mul-next t)
+    (search-classes-array-write-next t)
+    (search-classes-add-search-classes t)
+    (search-classes-search-classes-requires t)
+    (search-classes-returns-3 t)
+    (search-classes-add-v t)
+    (search-classes-loop-less t)
+    (search-classes-loop-again t)
+    (search-classes-returns-4 t)
