@@ -205,16 +205,23 @@ search-classes-search-classes-requires : (t : ℕ) → search-classes-lts.Need-s
   search-classes-below t,
   search-classes.Post,
 ) (search-classes-at t) search-classes.Post search-classes-Inv-loop search-classes-μ-loop
-search-classes-search-classes-requires t c κs = 
+search-classes-search-classes-requires t c κs =
     let s = c .before .before .before .before .before .before in
     let a = s .args in
     let l = c .before .loop in
     let inside : a .q < a .n = omega (arith, s .pre .1 .1, c .before .before .if2 .left) in
     let long : length (a .choice) ≡ 20 = s .good .1 .1 .1 .1 .1 .0 .1 .0 .1 in
     let fits : a .q < length (a .choice) = omega (arith, inside, long, s .pre .1 .0 .few) in
-    let small : l .v < 6 = c .loop-test .taken in
-    (omega arith, (s .pre .1 .0, omega (arith, inside), class-codes (a .choice) (s .pre .1 .2) (a .q) (l .v) fits small,
-    class-bare (a .choice) (s .pre .1 .2) (a .q) (l .v) fits (s .pre .1 .3), s .pre .1 .4))
+    let small : l .v < 6 = c .loop-test .taken in (
+      omega arith,
+      (
+        s .pre .1 .0,
+        omega (arith, inside),
+        class-codes (a .choice) (s .pre .1 .2) (a .q) (l .v) fits small,
+        class-bare (a .choice) (s .pre .1 .2) (a .q) (l .v) fits (s .pre .1 .3),
+        s .pre .1 .4,
+      ),
+    )
 
 -- src/search.rt:95:13
 search-classes-returns-3 : (t : ℕ) → search-classes-lts.Need-returns-3 (
@@ -229,7 +236,7 @@ search-classes-returns-3 : (t : ℕ) → search-classes-lts.Need-returns-3 (
   search-classes-below t,
   search-classes.Post,
 ) (search-classes-at t) search-classes.Post search-classes-Inv-loop search-classes-μ-loop
-search-classes-returns-3 t c = 
+search-classes-returns-3 t c =
     let s = c .before .before .before .before .before .before .before .before in
     let a = s .args in
     let l = c .before .before .before .loop in
@@ -282,7 +289,7 @@ search-classes-loop-again : (t : ℕ) → search-classes-lts.Need-loop-again (
   search-classes-below t,
   search-classes.Post,
 ) (search-classes-at t) search-classes.Post search-classes-Inv-loop search-classes-μ-loop
-search-classes-loop-again t c = 
+search-classes-loop-again t c =
     let s = c .before .before .before .before .before .before .before .before in
     let a = s .args in
     let l = c .before .before .before .loop in
