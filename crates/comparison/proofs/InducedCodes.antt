@@ -2,10 +2,11 @@
 -- graph's
 -- group onto the second's.
 -- Assumes nothing.
-use mathlib.Core.Path.{ap, sym, _∙_, _≡_}
+use mathlib.Core.Path.{ap, ap₂, sym, _∙_, _≡_}
 use Prim.Native.Nat.{ℕ}
+use Rattle.clifford.proofs.CliffordLaws.{cliffordOf-codeOf}
 use Rattle.clifford.proofs.VectorLaws.{act-inverse, act-then}
-use Rattle.clifford.specs.Clifford.{Clifford, inverse, then}
+use Rattle.clifford.specs.Clifford.{Clifford, cliffordOf, codeOf, inverse, then}
 use Rattle.clifford.specs.Vectors.{act}
 use Rattle.graph.specs.Graph.{graphGenerator}
 use Rattle.pauli.specs.Pauli.{Pauli}
@@ -42,3 +43,12 @@ module _ (n : ℕ) (rows others : ℕ → Pauli) (P : Proper n rows) (P′ : Pro
       steps p =
           act-then n (λ q. then (reducedCode n rows q) (c q)) undone p
           ∙ ap (act n undone) (act-then n (reducedCode n rows) c p)
+
+-- the code's calls
+pub induced-by-calls : (a b c r s t : ℕ) → r ≡ codeOf (then (cliffordOf a) (cliffordOf b))
+    → s ≡ codeOf (inverse (cliffordOf c)) → t ≡ codeOf (then (cliffordOf r) (cliffordOf s))
+    → t ≡ codeOf (then (then (cliffordOf a) (cliffordOf b)) (inverse (cliffordOf c)))
+induced-by-calls a b c r s t er es et =
+    et ∙ ap₂ (λ u v. codeOf (then (cliffordOf u) (cliffordOf v))) er es
+    ∙ ap₂ (λ u v. codeOf (then u v)) (cliffordOf-codeOf (then (cliffordOf a) (cliffordOf b)))
+    (cliffordOf-codeOf (inverse (cliffordOf c)))

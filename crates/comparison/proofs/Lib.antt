@@ -14,3 +14,5 @@ pub mod NextChoice
 pub mod SignSearch
 pub mod ClassSearch
 pub mod EquationTables
+pub mod Filling
+pub mod ComparedRecords

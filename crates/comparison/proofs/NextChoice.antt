@@ -41,7 +41,7 @@ module _ (choice : List ℕ) (q k : ℕ) (long : q < length choice) where
       go (yes e) = subst P (sym (ap (λ j. getD (set choice q k) j 0) e ∙ getD-set-same choice q k 0 long)) p
       go (no o) = subst P (sym (getD-set-other choice q i k 0 o)) (h i)
 
-below-other : {i q : ℕ} → i < q → i ≢ q
+pub below-other : {i q : ℕ} → i < q → i ≢ q
 below-other l e = omega (arith, l, e)
 
 module _ (choice : List ℕ) (C : Codes choice) (q v : ℕ) (long : q < length choice) where

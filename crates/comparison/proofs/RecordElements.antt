@@ -20,18 +20,7 @@ use Rattle.graph.proofs.GraphGroups.{element-x}
 use Rattle.graph.specs.Graph.{graphGenerator}
 use Rattle.pauli.proofs.PauliLaws.{mul-identity}
 use Rattle.pauli.proofs.WordRows.{signed-mul}
-use Rattle.pauli.specs.Pauli.{
-  Pauli,
-  anticommute,
-  identity,
-  imaginary,
-  i⁰,
-  minus,
-  mul,
-  row,
-  signBit,
-  signedRow,
-}
+use Rattle.pauli.specs.Pauli.{Pauli, anticommute, identity, imaginary, i⁰, minus, mul, row, signBit, signedRow}
 use Rattle.pauli.specs.Rows.{generatorOf}
 use Rattle.pauli.specs.declared.Generator.{Generator}
 use Rattle.record.proofs.Maximality.{inclusion-same}
@@ -57,22 +46,24 @@ same-products : (n : ℕ) (w : Word) (rows others : ℕ → Pauli) → ((j : ℕ
     → product n n w rows ≡ product n n w others
 same-products n w rows others h = fold-ext identity (mul n) n (λ j l. ap (chosen (w j)) (h j l))
 
+-- rows that agree with those of a list
+pub proper-rows : (n : ℕ) (rows others : ℕ → Pauli) → ((j : ℕ) → j < n → rows j ≡ others j) → Proper n others → Proper n rows
+proper-rows n rows others h P =
+    record {
+      commuting = record {
+        signed = λ j l. ap (λ p. imaginary (p .phase)) (h j l) ∙ P .commuting .signed j l;
+        commute = λ i j k l. ap₂ (anticommute n) (h i k) (h j l) ∙ P .commuting .commute i j k l;
+      };
+      independent = λ w t. P .independent w
+          (subst (Trivial n) (same-products n w rows others h) t);
+      within = λ j l. subst (Within n) (sym (h j l)) (P .within j l);
+    }
+
 module _ (n : ℕ) (rows : ℕ → Pauli) (frame : ℕ → Clifford) (F : Framed n rows frame) where
   pub framed-proper : Proper n rows
   framed-proper =
-      record {
-        commuting = record {
-          signed = λ j l. ap (λ p. imaginary (p .phase)) (F .generators j l) ∙ P .commuting .signed j l;
-          commute = λ i j k l. ap₂ (anticommute n) (F .generators i k) (F .generators j l)
-              ∙ P .commuting .commute i j k l;
-        };
-        independent = λ w t. P .independent w
-            (subst (Trivial n) (same-products n w rows _ (F .generators)) t);
-        within = λ j l. subst (Within n) (sym (F .generators j l)) (P .within j l);
-      }
-    where
-      P : Proper n (recordRow n (F .graph) (F .codes))
-      P = record-proper n (record { graph = F .graph; codes = F .codes }) (F .simple)
+      proper-rows n rows (recordRow n (F .graph) (F .codes)) (F .generators)
+      (record-proper n (record { graph = F .graph; codes = F .codes }) (F .simple))
 
   pub element-word : (p : Pauli) → InGroup n n rows p → p ≡ product n n (λ q. (act n frame p) .x q) rows
   element-word p a = a .1 ∙ fold-ext identity (mul n) n (λ j l. ap (λ b. chosen b (rows j)) (sym (word j l)))

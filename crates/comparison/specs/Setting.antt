@@ -4,13 +4,14 @@ use mathlib.Core.Bool.{Bool, false, not, true}
 use mathlib.Core.List.{List}
 use mathlib.Core.Path.{_≡_}
 use Prim.Native.Nat.{_<_, ℕ, _≤_}
-use lib.ListN.{getD}
+use lib.ListN.{getD, length}
 use Rattle.clifford.specs.Clifford.{Clifford, inverse}
 use Rattle.clifford.specs.Vectors.{codesOf}
 use Rattle.graph.specs.Graph.{Graph, Simple}
 use Rattle.pauli.specs.Pauli.{Pauli, minus}
 use Rattle.pauli.specs.Rows.{generatorOf}
 use Rattle.pauli.specs.declared.Generator.{Generator}
+use Rattle.record.specs.Lent.{heldRecord}
 use Rattle.record.specs.Records.{recordRow}
 use Rattle.stabilizer.specs.Carries.{Carries}
 use Rattle.stabilizer.specs.Groups.{InGroup, Proper}
@@ -46,6 +47,13 @@ pub record Framed (n : ℕ) (rows : ℕ → Pauli) (frame : ℕ → Clifford) : 
   pub simple : Simple n graph
   pub generators : (j : ℕ) → j < n → rows j ≡ recordRow n graph codes j
   pub undoes : (q : ℕ) → q < n → frame q ≡ inverse (codes q)
+
+-- lent buffers that hold a record on n vertices
+pub record SoundRecord (n : ℕ) (neighbours codes : List ℕ) : Type 0 where
+  pub neighbours-long : length neighbours ≡ n
+  pub codes-long : length codes ≡ n
+  pub simple : Simple n ((heldRecord (record { n = n; neighbours = neighbours; codes = codes })) .graph)
+  pub codes-sound : Codes codes
 
 pub record Setting (n : ℕ) (first second : List Generator) (frame : List ℕ) : Type 0 where
   pub few : n ≤ 20

@@ -2,5 +2,7 @@
 mod assignments;
 mod elements;
 mod equations;
+mod induced;
+mod records;
 mod search;
 mod tables;
