@@ -31,7 +31,7 @@ use Rattle.words.specs.Search.{first, some}
 use Rattle.comparison.proofs.Members.{carries-is}
 use Rattle.comparison.proofs.RecordElements.{proper-rows}
 use Rattle.comparison.specs.Choices.{carries, choice, choiceAt, leastNumber, noChoice}
-use Rattle.comparison.specs.Setting.{Framed, LeastAnswer, SoundRecord, generatorsOf}
+use Rattle.comparison.specs.Setting.{Codes, Framed, LeastAnswer, Setting, SoundRecord, generatorsOf}
 
 module _ (n : ℕ) (few : n ≤ 20) (neighbours codes : List ℕ) (S : SoundRecord n neighbours codes) where
   abbrev lent : LentRecord
@@ -113,3 +113,26 @@ pub rows-answer : (n : ℕ) (rows rows′ others others′ : ℕ → Pauli) → 
 rows-answer n rows rows′ others others′ P Q h k =
     same-answer n rows rows′ others others′ (proper-rows n rows rows′ h P) P (proper-rows n others others′ k Q) Q
     (same-rows n n rows rows rows′ h same-refl) (same-rows n n others others others′ k same-refl)
+
+-- ---- two lent records, from what the code's calls make
+module _ (n : ℕ) (few : n ≤ 20) (neighbours codes neighbours′ codes′ : List ℕ) (S : SoundRecord n neighbours codes)
+    (S′ : SoundRecord n neighbours′ codes′) (first second : List Generator) (frame : List ℕ)
+    (hf : (j : ℕ) → j < n → generatorsOf first j ≡ heldRows (record { n = n; neighbours = neighbours; codes = codes }) j)
+    (hs : (j : ℕ) → j < n → generatorsOf second j ≡ heldRows (record { n = n; neighbours = neighbours′; codes = codes′ }) j)
+  where
+    pub records-setting : ((q : ℕ) → q < n → getD frame q 0 ≡ codeOf (inverse (codesOf codes′ q))) → Codes frame
+        → Setting n first second frame
+    records-setting undone small =
+        record {
+          few = few;
+          proper = proper-rows n (generatorsOf first) _ hf (held-proper n few neighbours codes S);
+          framed = held-framed n few neighbours′ codes′ S′ second frame hs undone;
+          codes = small;
+        }
+
+    pub records-answer : (b : Bool) (out : List ℕ) → LeastAnswer n (generatorsOf first) (generatorsOf second) b out
+        → LeastAnswer n (heldRows (record { n = n; neighbours = neighbours; codes = codes }))
+        (heldRows (record { n = n; neighbours = neighbours′; codes = codes′ })) b out
+    records-answer =
+        rows-answer n (generatorsOf first) _ (generatorsOf second) _ (held-proper n few neighbours codes S)
+        (held-proper n few neighbours′ codes′ S′) hf hs
