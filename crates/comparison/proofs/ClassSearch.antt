@@ -21,8 +21,8 @@ use Rattle.comparison.proofs.NextChoice.{class-front, class-here, withC
 use Rattle.comparison.proofs.NumberOrder.{classKey-lt}
 use Rattle.comparison.specs.Choices.{Before, FirstDiffers, classKey}
 use Rattle.comparison.specs.Equations.{SameOn, Solves, classAssignment}
-use Rattle.comparison.specs.Searches.{WithClasses, WithSigns}
-use Rattle.comparison.specs.Setting.{Answered, ClassTable, Codes, generatorsOf}
+use Rattle.comparison.specs.Searches.{Answered, ClassTable, WithClasses, WithSigns}
+use Rattle.comparison.specs.Setting.{Codes, generatorsOf}
 use Rattle.comparison.specs.declared.equations.Assignment.{Assignment}
 use Rattle.comparison.specs.declared.equations.Equation.{Equation}
 

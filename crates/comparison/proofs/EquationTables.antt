@@ -26,7 +26,8 @@ use Rattle.comparison.proofs.NumberOrder.{classKey-lt}
 use Rattle.comparison.proofs.SignEquations.{sign-equation}
 use Rattle.comparison.specs.Choices.{classKey}
 use Rattle.comparison.specs.Equations.{SameOn, Solves, classAssignment, classEquation, emptyEquation, equationAt, fails, signAssignment, signEquation}
-use Rattle.comparison.specs.Setting.{ClassTable, SignTable, bare, generatorsOf, noGenerator}
+use Rattle.comparison.specs.Searches.{ClassTable, SignTable}
+use Rattle.comparison.specs.Setting.{bare, generatorsOf, noGenerator}
 use Rattle.comparison.specs.declared.equations.Assignment.{Assignment}
 use Rattle.comparison.specs.declared.equations.Equation.{Equation}
 

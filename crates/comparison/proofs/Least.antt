@@ -27,7 +27,7 @@ use Rattle.comparison.proofs.Flags.{never-true, not-false, not-true}
 use Rattle.comparison.proofs.Members.{carries-is}
 use Rattle.comparison.proofs.NumberOrder.{choice-lt, number-order, numbered}
 use Rattle.comparison.specs.Choices.{Agree, Before, FirstDiffers, LeastChoice, carries, choiceAt, classKey, leastCode, leastNumber, noChoice, signKey}
-use Rattle.comparison.specs.Setting.{Answered, LeastAnswer}
+use Rattle.comparison.specs.Searches.{Answered, LeastAnswer}
 
 -- a code below 24 is that of its Clifford
 code-back : (c : ℕ) → c < 24 → codeOf (cliffordOf c) ≡ c

@@ -25,8 +25,8 @@ use Rattle.comparison.proofs.NumberOrder.{class-injective, code-of-keys
 use Rattle.comparison.proofs.RecordElements.{framed-proper}
 use Rattle.comparison.specs.Choices.{Agree, Before, FirstDiffers, carries, classKey, signKey}
 use Rattle.comparison.specs.Equations.{SameOn, Solves, signAssignment}
-use Rattle.comparison.specs.Searches.{Begins, Found, WithClasses, WithSigns}
-use Rattle.comparison.specs.Setting.{Answered, Codes, Setting, SignTable, generatorsOf}
+use Rattle.comparison.specs.Searches.{Answered, Begins, Found, SignTable, WithClasses, WithSigns}
+use Rattle.comparison.specs.Setting.{Codes, Setting, generatorsOf}
 use Rattle.comparison.specs.declared.equations.Assignment.{Assignment}
 use Rattle.comparison.specs.declared.equations.Equation.{Equation}
 

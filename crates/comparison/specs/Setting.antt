@@ -1,6 +1,6 @@
 -- What the searches are given: the generators of two reduced records, and the codes that undo the second's.
 -- Assumes nothing.
-use mathlib.Core.Bool.{Bool, false, not, true}
+use mathlib.Core.Bool.{false}
 use mathlib.Core.List.{List}
 use mathlib.Core.Path.{_≡_}
 use Prim.Native.Nat.{_<_, ℕ, _≤_}
@@ -13,13 +13,8 @@ use Rattle.pauli.specs.Rows.{generatorOf}
 use Rattle.pauli.specs.declared.Generator.{Generator}
 use Rattle.record.specs.Lent.{heldRecord}
 use Rattle.record.specs.Records.{recordRow}
-use Rattle.stabilizer.specs.Carries.{Carries}
 use Rattle.stabilizer.specs.Groups.{InGroup, Proper}
 use Rattle.words.specs.Search.{first}
-use Rattle.comparison.specs.Choices.{leastCode, noChoice}
-use Rattle.comparison.specs.Equations.{Solves, classAssignment, signAssignment}
-use Rattle.comparison.specs.Searches.{Found, WithClasses}
-use Rattle.comparison.specs.declared.equations.Equation.{Equation}
 
 -- the generators that an array holds; the identity past its end
 abbrev pub noGenerator : Generator
@@ -65,23 +60,3 @@ pub record Setting (n : ℕ) (first second : List Generator) (frame : List ℕ) 
 pub record Guessed (n : ℕ) (rows : ℕ → Pauli) (p h : Pauli) : Type 0 where
   pub element : InGroup n n rows h
   pub right : InGroup n n rows p → h ≡ p
-
--- every choice that works solves the table of the class equations
-abbrev pub ClassTable : ℕ → List Generator → List Generator → List Equation → Type 0
-ClassTable n first second table =
-    (d : ℕ → Clifford) → Carries n d (generatorsOf first) (generatorsOf second) → Solves table (classAssignment n d)
-
--- every choice that works and has the classes of c solves the table of the sign equations
-abbrev pub SignTable : ℕ → List Generator → List Generator → (ℕ → Clifford) → List Equation → Type 0
-SignTable n first second c table =
-    (d : ℕ → Clifford) → WithClasses n (generatorsOf first) (generatorsOf second) n c d → Solves table (signAssignment n d)
-
--- an array of codes that answers a search among the choices in K
-pub record Answered (n : ℕ) (K : (ℕ → Clifford) → Type 0) (found : Bool) (choice : List ℕ) : Type 0 where
-  pub search : Found n K found (codesOf choice)
-  pub codes : Codes choice
-
--- the answer of the comparison: the least choice, as an equation
-pub record LeastAnswer (n : ℕ) (rows others : ℕ → Pauli) (found : Bool) (choice : List ℕ) : Type 0 where
-  pub whether : found ≡ not (noChoice n rows others)
-  pub which : found ≡ true → (q : ℕ) → q < n → getD choice q 0 ≡ leastCode n rows others q

@@ -12,7 +12,8 @@ ghost use Rattle.buffers.specs.Buffers.{tabulate};
 ghost use Rattle.clifford.specs.Clifford.{cliffordOf, codeOf, inverse, then};
 ghost use Rattle.clifford.specs.Vectors.{codesOf};
 ghost use Rattle.record.specs.Lent.{LentRecord, heldRows};
-ghost use Rattle.comparison.specs.Setting.{Codes, LeastAnswer, SoundRecord, generatorsOf};
+ghost use Rattle.comparison.specs.Setting.{Codes, SoundRecord, generatorsOf};
+ghost use Rattle.comparison.specs.Searches.{LeastAnswer};
 
 // The generators of a record.
 fn generators(n: usize, neighbours: &[u64], codes: &[u8]) -> [Generator; 20]

@@ -12,8 +12,8 @@ ghost use mathlib.Core.Path.{_≡_};
 ghost use Prim.Native.Nat.{ℕ, _<_, _≤_};
 ghost use Rattle.clifford.specs.Vectors.{codesOf};
 ghost use Rattle.stabilizer.specs.Carries.{Carries};
-ghost use Rattle.comparison.specs.Searches.{WithClasses, WithSigns};
-ghost use Rattle.comparison.specs.Setting.{Answered, Bare, ClassTable, Codes, LeastAnswer, Setting, SignTable, generatorsOf};
+ghost use Rattle.comparison.specs.Setting.{Bare, Codes, Setting, generatorsOf};
+ghost use Rattle.comparison.specs.Searches.{Answered, ClassTable, LeastAnswer, SignTable, WithClasses, WithSigns};
 
 // Whether a choice was found, and the choice.
 pub struct Answer {

@@ -18,7 +18,8 @@ ghost use Rattle.stabilizer.specs.Groups.{Proper};
 ghost use Rattle.comparison.specs.declared.equations.Assignment.{Assignment};
 ghost use Rattle.comparison.specs.Choices.{classKey};
 ghost use Rattle.comparison.specs.Equations.{SameOn, Solves, classAssignment, classEquation, signEquation};
-ghost use Rattle.comparison.specs.Setting.{Bare, ClassTable, Codes, Setting, SignTable, generatorsOf};
+ghost use Rattle.comparison.specs.Setting.{Bare, Codes, Setting, generatorsOf};
+ghost use Rattle.comparison.specs.Searches.{ClassTable, SignTable};
 
 // The equation on the classes by which the image of g commutes with h.
 fn class_equation(g: Generator, h: Generator) -> Equation

@@ -1,7 +1,7 @@
 use Prim.Native.Nat.{_-_}
 use native.Mathlib.Omega.{arith}
 use borrow.Author.Needs.{needs}
-use Rattle.comparison.specs.Setting.{ClassTable}
+use Rattle.comparison.specs.Searches.{ClassTable}
 use Rattle.comparison.specs.Equations.{classAssignment}
 use Rattle.comparison.proofs.tables.class_table.Statement.{statement}
 use Rattle.comparison.proofs.tables.class_table.Tie as tie

@@ -6,7 +6,8 @@ use lib.ListN.{getD}
 use native.Mathlib.Omega.{arith}
 use borrow.Author.Needs.{needs}
 use Rattle.clifford.specs.Vectors.{codesOf}
-use Rattle.comparison.specs.Setting.{SignTable, generatorsOf, noGenerator}
+use Rattle.comparison.specs.Setting.{generatorsOf, noGenerator}
+use Rattle.comparison.specs.Searches.{SignTable}
 use Rattle.comparison.specs.Equations.{signAssignment}
 use Rattle.comparison.proofs.EquationTables.{sign-inserted}
 use Rattle.comparison.proofs.RecordElements.{framed-proper}
