@@ -36,175 +36,58 @@ search-classes-below t =
     (falls 0 search-classes-kinds.ps _<_ μ-search-classes t)
     search-classes.Pre
 
+-- what is asked of the functions called, and learnt from them
+abbrev claims : ℕ → search-classes-lts.Claims
+claims t = (
+  class-words-reads.Asked,
+  class-words-reads.Learnt,
+  cut-reads.Asked,
+  cut-reads.Learnt,
+  sign-table-reads.Asked,
+  sign-table-reads.Learnt,
+  search-signs-reads.Asked,
+  search-signs-reads.Learnt,
+  search-classes-below t,
+  search-classes.Post,
+)
+
 abbrev search-classes-Inv-loop : search-classes-lts.InvT-loop
 search-classes-Inv-loop n first second frame table choice q v₀ v = (v ≤ 6) × ClassesTried n first second choice q v
 
 abbrev search-classes-μ-loop : search-classes-lts.MeasureT-loop
 search-classes-μ-loop n first second frame table choice q v₀ v = 6 - v
 
--- src/search.rt:77:9
-search-classes-class-words-requires : (t : ℕ) → search-classes-lts.Need-class-words-requires (
-  class-words-reads.Asked,
-  class-words-reads.Learnt,
-  cut-reads.Asked,
-  cut-reads.Learnt,
-  sign-table-reads.Asked,
-  sign-table-reads.Learnt,
-  search-signs-reads.Asked,
-  search-signs-reads.Learnt,
-  search-classes-below t,
-  search-classes.Post,
-) (search-classes-at t) search-classes.Post search-classes-Inv-loop search-classes-μ-loop
+search-classes-class-words-requires : (t : ℕ) → search-classes-lts.Need-class-words-requires (claims t) (search-classes-at t) search-classes.Post search-classes-Inv-loop search-classes-μ-loop
 search-classes-class-words-requires t c κs = (c .pre .1 .0 .few, c .pre .1 .2)
 
--- src/search.rt:78:8
-search-classes-cut-requires : (t : ℕ) → search-classes-lts.Need-cut-requires (
-  class-words-reads.Asked,
-  class-words-reads.Learnt,
-  cut-reads.Asked,
-  cut-reads.Learnt,
-  sign-table-reads.Asked,
-  sign-table-reads.Learnt,
-  search-signs-reads.Asked,
-  search-signs-reads.Learnt,
-  search-classes-below t,
-  search-classes.Post,
-) (search-classes-at t) search-classes.Post search-classes-Inv-loop search-classes-μ-loop
+search-classes-cut-requires : (t : ℕ) → search-classes-lts.Need-cut-requires (claims t) (search-classes-at t) search-classes.Post search-classes-Inv-loop search-classes-μ-loop
 search-classes-cut-requires t c κs = let few = c .before .pre .1 .0 .few in let most = c .before .pre .1 .1 in search needs
 
--- src/search.rt:79:9
-search-classes-returns : (t : ℕ) → search-classes-lts.Need-returns (
-  class-words-reads.Asked,
-  class-words-reads.Learnt,
-  cut-reads.Asked,
-  cut-reads.Learnt,
-  sign-table-reads.Asked,
-  sign-table-reads.Learnt,
-  search-signs-reads.Asked,
-  search-signs-reads.Learnt,
-  search-classes-below t,
-  search-classes.Post,
-) (search-classes-at t) search-classes.Post search-classes-Inv-loop search-classes-μ-loop
+search-classes-returns : (t : ℕ) → search-classes-lts.Need-returns (claims t) (search-classes-at t) search-classes.Post search-classes-Inv-loop search-classes-μ-loop
 search-classes-returns t c = let s = c .before .before .before in let a = s .args in classes-cut (a .n) (a .first) (a .second) (s .pre .1 .0 .few) (a .choice) (s .pre .1 .2) (a .table) (s .pre .1 .4) (a .q) (c .before .before .class-words .result) (c .before .before .class-words .ensures) (c .before .cut .ensures (c .if1 .taken))
 
--- src/search.rt:85:13
-search-classes-sign-table-requires : (t : ℕ) → search-classes-lts.Need-sign-table-requires (
-  class-words-reads.Asked,
-  class-words-reads.Learnt,
-  cut-reads.Asked,
-  cut-reads.Learnt,
-  sign-table-reads.Asked,
-  sign-table-reads.Learnt,
-  search-signs-reads.Asked,
-  search-signs-reads.Learnt,
-  search-classes-below t,
-  search-classes.Post,
-) (search-classes-at t) search-classes.Post search-classes-Inv-loop search-classes-μ-loop
+search-classes-sign-table-requires : (t : ℕ) → search-classes-lts.Need-sign-table-requires (claims t) (search-classes-at t) search-classes.Post search-classes-Inv-loop search-classes-μ-loop
 search-classes-sign-table-requires t c κs = let s = c .before .before .before .before in (s .pre .1 .0, s .pre .1 .2, s .pre .1 .3)
 
--- src/search.rt:86:13
-search-classes-search-signs-requires : (t : ℕ) → search-classes-lts.Need-search-signs-requires (
-  class-words-reads.Asked,
-  class-words-reads.Learnt,
-  cut-reads.Asked,
-  cut-reads.Learnt,
-  sign-table-reads.Asked,
-  sign-table-reads.Learnt,
-  search-signs-reads.Asked,
-  search-signs-reads.Learnt,
-  search-classes-below t,
-  search-classes.Post,
-) (search-classes-at t) search-classes.Post search-classes-Inv-loop search-classes-μ-loop
+search-classes-search-signs-requires : (t : ℕ) → search-classes-lts.Need-search-signs-requires (claims t) (search-classes-at t) search-classes.Post search-classes-Inv-loop search-classes-μ-loop
 search-classes-search-signs-requires t c κs = let s = c .before .before .before .before .before in (s .pre .1 .0, zero-le, s .pre .1 .2, c .sign-table .ensures)
 
--- src/search.rt:87:9
-search-classes-returns-2 : (t : ℕ) → search-classes-lts.Need-returns-2 (
-  class-words-reads.Asked,
-  class-words-reads.Learnt,
-  cut-reads.Asked,
-  cut-reads.Learnt,
-  sign-table-reads.Asked,
-  sign-table-reads.Learnt,
-  search-signs-reads.Asked,
-  search-signs-reads.Learnt,
-  search-classes-below t,
-  search-classes.Post,
-) (search-classes-at t) search-classes.Post search-classes-Inv-loop search-classes-μ-loop
+search-classes-returns-2 : (t : ℕ) → search-classes-lts.Need-returns-2 (claims t) (search-classes-at t) search-classes.Post search-classes-Inv-loop search-classes-μ-loop
 search-classes-returns-2 t c = let s = c .before .before .before .before .before .before in let a = s .args in classes-leaf (a .n) (a .first) (a .second) (s .pre .1 .0 .few) (a .choice) (a .q) (c .before .before .if2 .taken) (c .search-signs .result .found) (c .search-signs .result .choice) (c .search-signs .ensures)
 
--- src/search.rt:90:5
-search-classes-loop-holds : (t : ℕ) → search-classes-lts.Need-loop-holds (
-  class-words-reads.Asked,
-  class-words-reads.Learnt,
-  cut-reads.Asked,
-  cut-reads.Learnt,
-  sign-table-reads.Asked,
-  sign-table-reads.Learnt,
-  search-signs-reads.Asked,
-  search-signs-reads.Learnt,
-  search-classes-below t,
-  search-classes.Post,
-) (search-classes-at t) search-classes.Post search-classes-Inv-loop search-classes-μ-loop
+search-classes-loop-holds : (t : ℕ) → search-classes-lts.Need-loop-holds (claims t) (search-classes-at t) search-classes.Post search-classes-Inv-loop search-classes-μ-loop
 search-classes-loop-holds t c = let s = c .before .before .before .before in let a = s .args in (zero-le, classes-begin (a .n) (a .first) (a .second) (s .pre .1 .0 .few) (a .choice) (a .q))
 
--- src/search.rt:92:19
-search-classes-mul-next : (t : ℕ) → search-classes-lts.Need-mul-next (
-  class-words-reads.Asked,
-  class-words-reads.Learnt,
-  cut-reads.Asked,
-  cut-reads.Learnt,
-  sign-table-reads.Asked,
-  sign-table-reads.Learnt,
-  search-signs-reads.Asked,
-  search-signs-reads.Learnt,
-  search-classes-below t,
-  search-classes.Post,
-) (search-classes-at t) search-classes.Post search-classes-Inv-loop search-classes-μ-loop
+search-classes-mul-next : (t : ℕ) → search-classes-lts.Need-mul-next (claims t) (search-classes-at t) search-classes.Post search-classes-Inv-loop search-classes-μ-loop
 search-classes-mul-next t c = search needs
 
--- src/search.rt:92:9
-search-classes-array-write-next : (t : ℕ) → search-classes-lts.Need-array-write-next (
-  class-words-reads.Asked,
-  class-words-reads.Learnt,
-  cut-reads.Asked,
-  cut-reads.Learnt,
-  sign-table-reads.Asked,
-  sign-table-reads.Learnt,
-  search-signs-reads.Asked,
-  search-signs-reads.Learnt,
-  search-classes-below t,
-  search-classes.Post,
-) (search-classes-at t) search-classes.Post search-classes-Inv-loop search-classes-μ-loop
+search-classes-array-write-next : (t : ℕ) → search-classes-lts.Need-array-write-next (claims t) (search-classes-at t) search-classes.Post search-classes-Inv-loop search-classes-μ-loop
 search-classes-array-write-next t c = search needs
 
--- src/search.rt:93:75
-search-classes-add-search-classes : (t : ℕ) → search-classes-lts.Need-add-search-classes (
-  class-words-reads.Asked,
-  class-words-reads.Learnt,
-  cut-reads.Asked,
-  cut-reads.Learnt,
-  sign-table-reads.Asked,
-  sign-table-reads.Learnt,
-  search-signs-reads.Asked,
-  search-signs-reads.Learnt,
-  search-classes-below t,
-  search-classes.Post,
-) (search-classes-at t) search-classes.Post search-classes-Inv-loop search-classes-μ-loop
+search-classes-add-search-classes : (t : ℕ) → search-classes-lts.Need-add-search-classes (claims t) (search-classes-at t) search-classes.Post search-classes-Inv-loop search-classes-μ-loop
 search-classes-add-search-classes t c = search needs
 
--- src/search.rt:93:13
-search-classes-search-classes-requires : (t : ℕ) → search-classes-lts.Need-search-classes-requires (
-  class-words-reads.Asked,
-  class-words-reads.Learnt,
-  cut-reads.Asked,
-  cut-reads.Learnt,
-  sign-table-reads.Asked,
-  sign-table-reads.Learnt,
-  search-signs-reads.Asked,
-  search-signs-reads.Learnt,
-  search-classes-below t,
-  search-classes.Post,
-) (search-classes-at t) search-classes.Post search-classes-Inv-loop search-classes-μ-loop
+search-classes-search-classes-requires : (t : ℕ) → search-classes-lts.Need-search-classes-requires (claims t) (search-classes-at t) search-classes.Post search-classes-Inv-loop search-classes-μ-loop
 search-classes-search-classes-requires t c κs =
     let s = c .before .before .before .before .before .before in
     let a = s .args in
@@ -223,19 +106,7 @@ search-classes-search-classes-requires t c κs =
       ),
     )
 
--- src/search.rt:95:13
-search-classes-returns-3 : (t : ℕ) → search-classes-lts.Need-returns-3 (
-  class-words-reads.Asked,
-  class-words-reads.Learnt,
-  cut-reads.Asked,
-  cut-reads.Learnt,
-  sign-table-reads.Asked,
-  sign-table-reads.Learnt,
-  search-signs-reads.Asked,
-  search-signs-reads.Learnt,
-  search-classes-below t,
-  search-classes.Post,
-) (search-classes-at t) search-classes.Post search-classes-Inv-loop search-classes-μ-loop
+search-classes-returns-3 : (t : ℕ) → search-classes-lts.Need-returns-3 (claims t) (search-classes-at t) search-classes.Post search-classes-Inv-loop search-classes-μ-loop
 search-classes-returns-3 t c =
     let s = c .before .before .before .before .before .before .before .before in
     let a = s .args in
@@ -246,49 +117,13 @@ search-classes-returns-3 t c =
     let small : l .v < 6 = c .before .before .loop-test .taken in
     classes-found (a .n) (a .first) (a .second) (s .pre .1 .0 .few) (a .choice) (s .pre .1 .2) (a .q) inside long (l .v) small (l .inv .1) _ _ (c .if3 .taken) (c .before .search-classes .ensures)
 
--- src/search.rt:97:9
-search-classes-add-v : (t : ℕ) → search-classes-lts.Need-add-v (
-  class-words-reads.Asked,
-  class-words-reads.Learnt,
-  cut-reads.Asked,
-  cut-reads.Learnt,
-  sign-table-reads.Asked,
-  sign-table-reads.Learnt,
-  search-signs-reads.Asked,
-  search-signs-reads.Learnt,
-  search-classes-below t,
-  search-classes.Post,
-) (search-classes-at t) search-classes.Post search-classes-Inv-loop search-classes-μ-loop
+search-classes-add-v : (t : ℕ) → search-classes-lts.Need-add-v (claims t) (search-classes-at t) search-classes.Post search-classes-Inv-loop search-classes-μ-loop
 search-classes-add-v t c = search needs
 
--- src/search.rt:90:5
-search-classes-loop-less : (t : ℕ) → search-classes-lts.Need-loop-less (
-  class-words-reads.Asked,
-  class-words-reads.Learnt,
-  cut-reads.Asked,
-  cut-reads.Learnt,
-  sign-table-reads.Asked,
-  sign-table-reads.Learnt,
-  search-signs-reads.Asked,
-  search-signs-reads.Learnt,
-  search-classes-below t,
-  search-classes.Post,
-) (search-classes-at t) search-classes.Post search-classes-Inv-loop search-classes-μ-loop
+search-classes-loop-less : (t : ℕ) → search-classes-lts.Need-loop-less (claims t) (search-classes-at t) search-classes.Post search-classes-Inv-loop search-classes-μ-loop
 search-classes-loop-less t c = omega arith
 
--- src/search.rt:90:5
-search-classes-loop-again : (t : ℕ) → search-classes-lts.Need-loop-again (
-  class-words-reads.Asked,
-  class-words-reads.Learnt,
-  cut-reads.Asked,
-  cut-reads.Learnt,
-  sign-table-reads.Asked,
-  sign-table-reads.Learnt,
-  search-signs-reads.Asked,
-  search-signs-reads.Learnt,
-  search-classes-below t,
-  search-classes.Post,
-) (search-classes-at t) search-classes.Post search-classes-Inv-loop search-classes-μ-loop
+search-classes-loop-again : (t : ℕ) → search-classes-lts.Need-loop-again (claims t) (search-classes-at t) search-classes.Post search-classes-Inv-loop search-classes-μ-loop
 search-classes-loop-again t c =
     let s = c .before .before .before .before .before .before .before .before in
     let a = s .args in
@@ -299,34 +134,11 @@ search-classes-loop-again t c =
     let small : l .v < 6 = c .before .before .loop-test .taken in
     (omega (arith, small), classes-missed (a .n) (a .first) (a .second) (s .pre .1 .0 .few) (a .choice) (s .pre .1 .2) (a .q) inside long (l .v) small (l .inv .1) _ _ (c .if3 .left) (c .before .search-classes .ensures))
 
--- src/search.rt:65:1
-search-classes-returns-4 : (t : ℕ) → search-classes-lts.Need-returns-4 (
-  class-words-reads.Asked,
-  class-words-reads.Learnt,
-  cut-reads.Asked,
-  cut-reads.Learnt,
-  sign-table-reads.Asked,
-  sign-table-reads.Learnt,
-  search-signs-reads.Asked,
-  search-signs-reads.Learnt,
-  search-classes-below t,
-  search-classes.Post,
-) (search-classes-at t) search-classes.Post search-classes-Inv-loop search-classes-μ-loop
+search-classes-returns-4 : (t : ℕ) → search-classes-lts.Need-returns-4 (claims t) (search-classes-at t) search-classes.Post search-classes-Inv-loop search-classes-μ-loop
 search-classes-returns-4 t c = let s = c .before .before .before .before .before .before in let a = s .args in classes-end (a .n) (a .first) (a .second) (s .pre .1 .0 .few) (a .choice) (s .pre .1 .2) (a .q) (c .before .loop .v) (c .loop-test .left) (c .before .loop .inv .1)
 
 pub +search-classes-spec : {M : Type 1} → statement M
-+search-classes-spec = close μ-search-classes λ t. search-classes-lts.spec (
-  class-words-reads.Asked,
-  class-words-reads.Learnt,
-  cut-reads.Asked,
-  cut-reads.Learnt,
-  sign-table-reads.Asked,
-  sign-table-reads.Learnt,
-  search-signs-reads.Asked,
-  search-signs-reads.Learnt,
-  search-classes-below t,
-  search-classes.Post,
-)
++search-classes-spec = close μ-search-classes λ t. search-classes-lts.spec (claims t)
     (search-classes-at t)
     search-classes.Post
     search-classes-Inv-loop

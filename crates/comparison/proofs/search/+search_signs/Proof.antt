@@ -31,166 +31,59 @@ search-signs-below t =
     (falls 0 search-signs-kinds.ps _<_ μ-search-signs t)
     search-signs.Pre
 
+-- what is asked of the functions called, and learnt from them
+abbrev claims : ℕ → search-signs-lts.Claims
+claims t = (
+  sign-words-reads.Asked,
+  sign-words-reads.Learnt,
+  cut-reads.Asked,
+  cut-reads.Learnt,
+  carries-reads.Asked,
+  carries-reads.Learnt,
+  search-signs-below t,
+  search-signs.Post,
+)
+
 abbrev search-signs-Inv-loop : search-signs-lts.InvT-loop
 search-signs-Inv-loop n first second frame table q choice v₀ v = (v ≤ 4) × SignsTried n first second choice q v
 
 abbrev search-signs-μ-loop : search-signs-lts.MeasureT-loop
 search-signs-μ-loop n first second frame table q choice v₀ v = 4 - v
 
--- src/search.rt:37:9
-search-signs-sign-words-requires : (t : ℕ) → search-signs-lts.Need-sign-words-requires (
-  sign-words-reads.Asked,
-  sign-words-reads.Learnt,
-  cut-reads.Asked,
-  cut-reads.Learnt,
-  carries-reads.Asked,
-  carries-reads.Learnt,
-  search-signs-below t,
-  search-signs.Post,
-) (search-signs-at t) search-signs.Post search-signs-Inv-loop search-signs-μ-loop
+search-signs-sign-words-requires : (t : ℕ) → search-signs-lts.Need-sign-words-requires (claims t) (search-signs-at t) search-signs.Post search-signs-Inv-loop search-signs-μ-loop
 search-signs-sign-words-requires t c κs = c .pre .1 .0 .few
 
--- src/search.rt:38:8
-search-signs-cut-requires : (t : ℕ) → search-signs-lts.Need-cut-requires (
-  sign-words-reads.Asked,
-  sign-words-reads.Learnt,
-  cut-reads.Asked,
-  cut-reads.Learnt,
-  carries-reads.Asked,
-  carries-reads.Learnt,
-  search-signs-below t,
-  search-signs.Post,
-) (search-signs-at t) search-signs.Post search-signs-Inv-loop search-signs-μ-loop
+search-signs-cut-requires : (t : ℕ) → search-signs-lts.Need-cut-requires (claims t) (search-signs-at t) search-signs.Post search-signs-Inv-loop search-signs-μ-loop
 search-signs-cut-requires t c κs = let few = c .before .pre .1 .0 .few in let most = c .before .pre .1 .1 in search needs
 
--- src/search.rt:39:9
-search-signs-returns : (t : ℕ) → search-signs-lts.Need-returns (
-  sign-words-reads.Asked,
-  sign-words-reads.Learnt,
-  cut-reads.Asked,
-  cut-reads.Learnt,
-  carries-reads.Asked,
-  carries-reads.Learnt,
-  search-signs-below t,
-  search-signs.Post,
-) (search-signs-at t) search-signs.Post search-signs-Inv-loop search-signs-μ-loop
+search-signs-returns : (t : ℕ) → search-signs-lts.Need-returns (claims t) (search-signs-at t) search-signs.Post search-signs-Inv-loop search-signs-μ-loop
 search-signs-returns t c = let s = c .before .before .before in let a = s .args in signs-cut (a .n) (a .first) (a .second) (a .frame) (s .pre .1 .0) (a .t6) (s .pre .1 .2) (a .table) (s .pre .1 .3) (a .q) (c .before .before .sign-words .result) (c .before .before .sign-words .ensures) (c .before .cut .ensures (c .if1 .taken))
 
--- src/search.rt:45:13
-search-signs-carries-requires : (t : ℕ) → search-signs-lts.Need-carries-requires (
-  sign-words-reads.Asked,
-  sign-words-reads.Learnt,
-  cut-reads.Asked,
-  cut-reads.Learnt,
-  carries-reads.Asked,
-  carries-reads.Learnt,
-  search-signs-below t,
-  search-signs.Post,
-) (search-signs-at t) search-signs.Post search-signs-Inv-loop search-signs-μ-loop
+search-signs-carries-requires : (t : ℕ) → search-signs-lts.Need-carries-requires (claims t) (search-signs-at t) search-signs.Post search-signs-Inv-loop search-signs-μ-loop
 search-signs-carries-requires t c κs = let s = c .before .before .before .before in (s .pre .1 .0, s .pre .1 .2)
 
--- src/search.rt:46:9
-search-signs-returns-2 : (t : ℕ) → search-signs-lts.Need-returns-2 (
-  sign-words-reads.Asked,
-  sign-words-reads.Learnt,
-  cut-reads.Asked,
-  cut-reads.Learnt,
-  carries-reads.Asked,
-  carries-reads.Learnt,
-  search-signs-below t,
-  search-signs.Post,
-) (search-signs-at t) search-signs.Post search-signs-Inv-loop search-signs-μ-loop
+search-signs-returns-2 : (t : ℕ) → search-signs-lts.Need-returns-2 (claims t) (search-signs-at t) search-signs.Post search-signs-Inv-loop search-signs-μ-loop
 search-signs-returns-2 t c = let s = c .before .before .before .before .before in let a = s .args in signs-leaf (a .n) (a .first) (a .second) (a .frame) (s .pre .1 .0) (a .t6) (s .pre .1 .2) (a .q) (c .before .if2 .taken) (c .carries .result) (c .carries .ensures)
 
--- src/search.rt:49:5
-search-signs-loop-holds : (t : ℕ) → search-signs-lts.Need-loop-holds (
-  sign-words-reads.Asked,
-  sign-words-reads.Learnt,
-  cut-reads.Asked,
-  cut-reads.Learnt,
-  carries-reads.Asked,
-  carries-reads.Learnt,
-  search-signs-below t,
-  search-signs.Post,
-) (search-signs-at t) search-signs.Post search-signs-Inv-loop search-signs-μ-loop
+search-signs-loop-holds : (t : ℕ) → search-signs-lts.Need-loop-holds (claims t) (search-signs-at t) search-signs.Post search-signs-Inv-loop search-signs-μ-loop
 search-signs-loop-holds t c = let a = c .before .before .before .before .args in (zero-le, signs-begin (a .n) (a .first) (a .second) (a .frame) (c .before .before .before .before .pre .1 .0) (a .t6) (a .q))
 
--- src/search.rt:51:24
-search-signs-array-read-next : (t : ℕ) → search-signs-lts.Need-array-read-next (
-  sign-words-reads.Asked,
-  sign-words-reads.Learnt,
-  cut-reads.Asked,
-  cut-reads.Learnt,
-  carries-reads.Asked,
-  carries-reads.Learnt,
-  search-signs-below t,
-  search-signs.Post,
-) (search-signs-at t) search-signs.Post search-signs-Inv-loop search-signs-μ-loop
+search-signs-array-read-next : (t : ℕ) → search-signs-lts.Need-array-read-next (claims t) (search-signs-at t) search-signs.Post search-signs-Inv-loop search-signs-μ-loop
 search-signs-array-read-next t c = search needs
 
--- src/search.rt:51:19
-search-signs-mul-next : (t : ℕ) → search-signs-lts.Need-mul-next (
-  sign-words-reads.Asked,
-  sign-words-reads.Learnt,
-  cut-reads.Asked,
-  cut-reads.Learnt,
-  carries-reads.Asked,
-  carries-reads.Learnt,
-  search-signs-below t,
-  search-signs.Post,
-) (search-signs-at t) search-signs.Post search-signs-Inv-loop search-signs-μ-loop
+search-signs-mul-next : (t : ℕ) → search-signs-lts.Need-mul-next (claims t) (search-signs-at t) search-signs.Post search-signs-Inv-loop search-signs-μ-loop
 search-signs-mul-next t c = let code = c .before .before .before .before .before .before .pre .1 .2 (c .before .before .before .before .before .before .args .q) in search needs
 
--- src/search.rt:51:19
-search-signs-add-next : (t : ℕ) → search-signs-lts.Need-add-next (
-  sign-words-reads.Asked,
-  sign-words-reads.Learnt,
-  cut-reads.Asked,
-  cut-reads.Learnt,
-  carries-reads.Asked,
-  carries-reads.Learnt,
-  search-signs-below t,
-  search-signs.Post,
-) (search-signs-at t) search-signs.Post search-signs-Inv-loop search-signs-μ-loop
+search-signs-add-next : (t : ℕ) → search-signs-lts.Need-add-next (claims t) (search-signs-at t) search-signs.Post search-signs-Inv-loop search-signs-μ-loop
 search-signs-add-next t c = let code = c .before .before .before .before .before .before .pre .1 .2 (c .before .before .before .before .before .before .args .q) in search needs
 
--- src/search.rt:51:9
-search-signs-array-write-next : (t : ℕ) → search-signs-lts.Need-array-write-next (
-  sign-words-reads.Asked,
-  sign-words-reads.Learnt,
-  cut-reads.Asked,
-  cut-reads.Learnt,
-  carries-reads.Asked,
-  carries-reads.Learnt,
-  search-signs-below t,
-  search-signs.Post,
-) (search-signs-at t) search-signs.Post search-signs-Inv-loop search-signs-μ-loop
+search-signs-array-write-next : (t : ℕ) → search-signs-lts.Need-array-write-next (claims t) (search-signs-at t) search-signs.Post search-signs-Inv-loop search-signs-μ-loop
 search-signs-array-write-next t c = search needs
 
--- src/search.rt:52:73
-search-signs-add-search-signs : (t : ℕ) → search-signs-lts.Need-add-search-signs (
-  sign-words-reads.Asked,
-  sign-words-reads.Learnt,
-  cut-reads.Asked,
-  cut-reads.Learnt,
-  carries-reads.Asked,
-  carries-reads.Learnt,
-  search-signs-below t,
-  search-signs.Post,
-) (search-signs-at t) search-signs.Post search-signs-Inv-loop search-signs-μ-loop
+search-signs-add-search-signs : (t : ℕ) → search-signs-lts.Need-add-search-signs (claims t) (search-signs-at t) search-signs.Post search-signs-Inv-loop search-signs-μ-loop
 search-signs-add-search-signs t c = search needs
 
--- src/search.rt:52:13
-search-signs-search-signs-requires : (t : ℕ) → search-signs-lts.Need-search-signs-requires (
-  sign-words-reads.Asked,
-  sign-words-reads.Learnt,
-  cut-reads.Asked,
-  cut-reads.Learnt,
-  carries-reads.Asked,
-  carries-reads.Learnt,
-  search-signs-below t,
-  search-signs.Post,
-) (search-signs-at t) search-signs.Post search-signs-Inv-loop search-signs-μ-loop
+search-signs-search-signs-requires : (t : ℕ) → search-signs-lts.Need-search-signs-requires (claims t) (search-signs-at t) search-signs.Post search-signs-Inv-loop search-signs-μ-loop
 search-signs-search-signs-requires t c κs =
     let s = c .before .before .before .before .before .before in
     let a = s .args in
@@ -208,17 +101,7 @@ search-signs-search-signs-requires t c κs =
       ),
     )
 
--- src/search.rt:54:13
-search-signs-returns-3 : (t : ℕ) → search-signs-lts.Need-returns-3 (
-  sign-words-reads.Asked,
-  sign-words-reads.Learnt,
-  cut-reads.Asked,
-  cut-reads.Learnt,
-  carries-reads.Asked,
-  carries-reads.Learnt,
-  search-signs-below t,
-  search-signs.Post,
-) (search-signs-at t) search-signs.Post search-signs-Inv-loop search-signs-μ-loop
+search-signs-returns-3 : (t : ℕ) → search-signs-lts.Need-returns-3 (claims t) (search-signs-at t) search-signs.Post search-signs-Inv-loop search-signs-μ-loop
 search-signs-returns-3 t c =
     let s = c .before .before .before .before .before .before .before .before in
     let a = s .args in
@@ -229,43 +112,13 @@ search-signs-returns-3 t c =
     let small : l .v < 4 = c .before .before .loop-test .taken in
     signs-found (a .n) (a .first) (a .second) (a .frame) (s .pre .1 .0) (a .t6) (s .pre .1 .2) (a .q) inside long (l .v) small (l .inv .1) _ _ (c .if3 .taken) (c .before .search-signs .ensures)
 
--- src/search.rt:56:9
-search-signs-add-v : (t : ℕ) → search-signs-lts.Need-add-v (
-  sign-words-reads.Asked,
-  sign-words-reads.Learnt,
-  cut-reads.Asked,
-  cut-reads.Learnt,
-  carries-reads.Asked,
-  carries-reads.Learnt,
-  search-signs-below t,
-  search-signs.Post,
-) (search-signs-at t) search-signs.Post search-signs-Inv-loop search-signs-μ-loop
+search-signs-add-v : (t : ℕ) → search-signs-lts.Need-add-v (claims t) (search-signs-at t) search-signs.Post search-signs-Inv-loop search-signs-μ-loop
 search-signs-add-v t c = search needs
 
--- src/search.rt:49:5
-search-signs-loop-less : (t : ℕ) → search-signs-lts.Need-loop-less (
-  sign-words-reads.Asked,
-  sign-words-reads.Learnt,
-  cut-reads.Asked,
-  cut-reads.Learnt,
-  carries-reads.Asked,
-  carries-reads.Learnt,
-  search-signs-below t,
-  search-signs.Post,
-) (search-signs-at t) search-signs.Post search-signs-Inv-loop search-signs-μ-loop
+search-signs-loop-less : (t : ℕ) → search-signs-lts.Need-loop-less (claims t) (search-signs-at t) search-signs.Post search-signs-Inv-loop search-signs-μ-loop
 search-signs-loop-less t c = omega arith
 
--- src/search.rt:49:5
-search-signs-loop-again : (t : ℕ) → search-signs-lts.Need-loop-again (
-  sign-words-reads.Asked,
-  sign-words-reads.Learnt,
-  cut-reads.Asked,
-  cut-reads.Learnt,
-  carries-reads.Asked,
-  carries-reads.Learnt,
-  search-signs-below t,
-  search-signs.Post,
-) (search-signs-at t) search-signs.Post search-signs-Inv-loop search-signs-μ-loop
+search-signs-loop-again : (t : ℕ) → search-signs-lts.Need-loop-again (claims t) (search-signs-at t) search-signs.Post search-signs-Inv-loop search-signs-μ-loop
 search-signs-loop-again t c =
     let s = c .before .before .before .before .before .before .before .before in
     let a = s .args in
@@ -276,30 +129,11 @@ search-signs-loop-again t c =
     let small : l .v < 4 = c .before .before .loop-test .taken in
     (omega (arith, small), signs-missed (a .n) (a .first) (a .second) (a .frame) (s .pre .1 .0) (a .t6) (s .pre .1 .2) (a .q) inside long (l .v) small (l .inv .1) _ _ (c .if3 .left) (c .before .search-signs .ensures))
 
--- src/search.rt:25:1
-search-signs-returns-4 : (t : ℕ) → search-signs-lts.Need-returns-4 (
-  sign-words-reads.Asked,
-  sign-words-reads.Learnt,
-  cut-reads.Asked,
-  cut-reads.Learnt,
-  carries-reads.Asked,
-  carries-reads.Learnt,
-  search-signs-below t,
-  search-signs.Post,
-) (search-signs-at t) search-signs.Post search-signs-Inv-loop search-signs-μ-loop
+search-signs-returns-4 : (t : ℕ) → search-signs-lts.Need-returns-4 (claims t) (search-signs-at t) search-signs.Post search-signs-Inv-loop search-signs-μ-loop
 search-signs-returns-4 t c = let s = c .before .before .before .before .before .before in let a = s .args in signs-end (a .n) (a .first) (a .second) (a .frame) (s .pre .1 .0) (a .t6) (s .pre .1 .2) (a .q) (c .before .loop .v) (c .loop-test .left) (c .before .loop .inv .1)
 
 pub +search-signs-spec : {M : Type 1} → statement M
-+search-signs-spec = close μ-search-signs λ t. search-signs-lts.spec (
-  sign-words-reads.Asked,
-  sign-words-reads.Learnt,
-  cut-reads.Asked,
-  cut-reads.Learnt,
-  carries-reads.Asked,
-  carries-reads.Learnt,
-  search-signs-below t,
-  search-signs.Post,
-)
++search-signs-spec = close μ-search-signs λ t. search-signs-lts.spec (claims t)
     (search-signs-at t)
     search-signs.Post
     search-signs-Inv-loop
