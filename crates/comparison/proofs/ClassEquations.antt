@@ -27,7 +27,14 @@ use Rattle.words.proofs.Sums.{fold-ext, lt-or-ge, parity-add}
 use Rattle.words.specs.Bits.{Word, bit, digit, dot, isOdd, parity, wordOf, _⊕_}
 use Rattle.comparison.proofs.NumberOrder.{class-injective}
 use Rattle.comparison.specs.Choices.{classKey, signKey}
-use Rattle.comparison.specs.Equations.{SameBits, SameOn, classAssignment, classEquation, fails, signAssignment}
+use Rattle.comparison.specs.Equations.{
+  SameBits,
+  SameOn,
+  classAssignment,
+  classEquation,
+  fails,
+  signAssignment,
+}
 
 -- ---- the image of a letter by the bits of its class
 pub z-after : (k : Clifford) (z x : Bool)
@@ -113,7 +120,8 @@ mask-below q i h = go (lt-or-ge i q)
     go (inr l) = absurd (true≢false (sym h ∙ bit-above q (2 ^ q - 1) (ones-lt q) i l))
 
 -- the bits at the places of a mask agree where the functions do
-same-words : (n m : ℕ) (f g : Word) → ((i : ℕ) → bit m i ≡ true → f i ≡ g i) → SameBits m (wordOf n f) (wordOf n g)
+same-words : (n m : ℕ) (f g : Word) → ((i : ℕ) → bit m i ≡ true → f i ≡ g i)
+    → SameBits m (wordOf n f) (wordOf n g)
 same-words n m f g h i l = go (lt-or-ge i n)
   where
     go : (i < n) ⊎ (n ≤ i) → bit (wordOf n f) i ≡ bit (wordOf n g) i
@@ -121,7 +129,8 @@ same-words n m f g h i l = go (lt-or-ge i n)
     go (inr k) =
         bit-above n (wordOf n f) (wordOf-lt n f) i k ∙ sym (bit-above n (wordOf n g) (wordOf-lt n g) i k)
 
-same-classes-on : (n m : ℕ) (c d : ℕ → Clifford) → ((i : ℕ) → bit m i ≡ true → classKey (d i) ≡ classKey (c i))
+same-classes-on : (n m : ℕ) (c d : ℕ → Clifford)
+    → ((i : ℕ) → bit m i ≡ true → classKey (d i) ≡ classKey (c i))
     → SameOn m (classAssignment n c) (classAssignment n d)
 unfolding classAssignment
 same-classes-on n m c d h =
@@ -136,7 +145,8 @@ same-classes-on n m c d h =
     by f = same-words n m _ _ (λ i l. ap f (class-injective _ _ (sym (h i l))))
 
 pub same-classes : (n q m : ℕ) (c d : ℕ → Clifford) → ((i : ℕ) → bit m i ≡ true → i < q)
-    → ((i : ℕ) → i < q → classKey (d i) ≡ classKey (c i)) → SameOn m (classAssignment n c) (classAssignment n d)
+    → ((i : ℕ) → i < q → classKey (d i) ≡ classKey (c i))
+    → SameOn m (classAssignment n c) (classAssignment n d)
 same-classes n q m c d below h = same-classes-on n m c d (λ i l. h i (below i l))
 
 -- .. at one qubit

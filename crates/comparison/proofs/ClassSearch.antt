@@ -16,7 +16,14 @@ use Rattle.pauli.specs.declared.Generator.{Generator}
 use Rattle.stabilizer.specs.Carries.{Carries}
 use Rattle.words.specs.Search.{first}
 use Rattle.comparison.proofs.ClassEquations.{mask-below, same-classes}
-use Rattle.comparison.proofs.LexicographicStep.{Tried, all-tried, found-here, found-same, none-here, none-tried}
+use Rattle.comparison.proofs.LexicographicStep.{
+  Tried,
+  all-tried,
+  found-here,
+  found-same,
+  none-here,
+  none-tried,
+}
 use Rattle.comparison.proofs.NextChoice.{class-front, class-here, withClass}
 use Rattle.comparison.proofs.NumberOrder.{classKey-lt}
 use Rattle.comparison.specs.Choices.{Before, FirstDiffers, classKey}
@@ -51,7 +58,8 @@ module _ (n : ℕ) (first second : List Generator) (few : n ≤ 20) where
       → Answered n (WithClasses n rows others q (codesOf choice)) b out
   classes-leaf choice q e b out A =
       record {
-        search = found-same n (WithSigns n rows others 0 p) (WithClasses n rows others q p) to back b (codesOf out) (A .search);
+        search = found-same n (WithSigns n rows others 0 p) (WithClasses n rows others q p) to back b
+            (codesOf out) (A .search);
         codes = A .codes;
       }
     where
@@ -69,7 +77,8 @@ module _ (n : ℕ) (first second : List Generator) (few : n ≤ 20) where
           }
 
   -- an equation of the table fails: no choice with these classes works
-  pub classes-cut : (choice : List ℕ) → Codes choice → (table : List Equation) → ClassTable n first second table → (q : ℕ)
+  pub classes-cut : (choice : List ℕ) → Codes choice → (table : List Equation)
+      → ClassTable n first second table → (q : ℕ)
       → (w : Assignment) → w ≡ classAssignment n (codesOf choice)
       → ((v : Assignment) → SameOn (2 ^ q - 1) w v → Solves table v → ⊥)
       → Answered n (WithClasses n rows others q (codesOf choice)) false choice
@@ -82,7 +91,8 @@ module _ (n : ℕ) (first second : List Generator) (few : n ≤ 20) where
       }
 
   -- ---- the loop over the classes of qubit q
-  module _ (choice : List ℕ) (C : Codes choice) (q : ℕ) (inside : q < n) (long : length choice ≡ 20) (v : ℕ) (small : v < 6) where
+  module _ (choice : List ℕ) (C : Codes choice) (q : ℕ) (inside : q < n) (long : length choice ≡ 20) (v : ℕ)
+      (small : v < 6) where
     fits : q < length choice
     fits = room few long inside
       where
@@ -94,8 +104,10 @@ module _ (n : ℕ) (first second : List Generator) (few : n ≤ 20) where
         → Answered n (WithClasses n rows others q (codesOf choice)) b out
     classes-found T true out e A =
         record {
-          search = found-here n Works classKey classes-decide q inside (codesOf choice) v (codesOf (withClass choice q v))
-              (class-front choice C q v fits) (class-here choice C q v fits small) T (codesOf out) (A .search);
+          search = found-here n Works classKey classes-decide q inside (codesOf choice) v
+              (codesOf (withClass choice q v))
+              (class-front choice C q v fits) (class-here choice C q v fits small) T (codesOf out)
+              (A .search);
           codes = A .codes;
         }
     classes-found T false out e A = absurd (false≢true e)
@@ -111,7 +123,8 @@ module _ (n : ℕ) (first second : List Generator) (few : n ≤ 20) where
   pub classes-begin : (choice : List ℕ) (q : ℕ) → ClassesTried n first second choice q 0
   classes-begin choice q = none-tried n Works classKey q (codesOf choice)
 
-  pub classes-end : (choice : List ℕ) → Codes choice → (q v : ℕ) → 6 ≤ v → ClassesTried n first second choice q v
+  pub classes-end : (choice : List ℕ) → Codes choice → (q v : ℕ) → 6 ≤ v
+      → ClassesTried n first second choice q v
       → Answered n (WithClasses n rows others q (codesOf choice)) false choice
   classes-end choice C q v l T =
       record {
@@ -125,6 +138,7 @@ module _ (n : ℕ) (first second : List Generator) (few : n ≤ 20) where
   all-choices choice b out A =
       record {
         search = found-same n (WithClasses n rows others 0 (codesOf choice)) Works (λ d h. h .base)
-            (λ d h. record { base = h; same = λ i l. absurd (not-suc-le-zero l) }) b (codesOf out) (A .search);
+            (λ d h. record { base = h; same = λ i l. absurd (not-suc-le-zero l) }) b (codesOf out)
+            (A .search);
         codes = A .codes;
       }

@@ -20,7 +20,16 @@ use Rattle.words.proofs.OnesLaws.{dot-bits, dot-xor, parity-xor}
 use Rattle.words.proofs.Sums.{bitMonoid, fold-unit}
 use Rattle.words.specs.Bits.{bit, dot, isOdd, _⊕_}
 use Rattle.comparison.proofs.Flags.{both-true, unequal-bits}
-use Rattle.comparison.specs.Equations.{SameBits, SameOn, Solves, added, emptyEquation, equationAt, fails, span}
+use Rattle.comparison.specs.Equations.{
+  SameBits,
+  SameOn,
+  Solves,
+  added,
+  emptyEquation,
+  equationAt,
+  fails,
+  span,
+}
 use Rattle.comparison.specs.declared.equations.Assignment.{Assignment}
 use Rattle.comparison.specs.declared.equations.Equation.{Equation}
 

@@ -26,7 +26,19 @@ use Rattle.words.specs.Search.{IsFirst, every, first, some}
 use Rattle.comparison.proofs.Flags.{never-true, not-false, not-true}
 use Rattle.comparison.proofs.Members.{carries-is}
 use Rattle.comparison.proofs.NumberOrder.{choice-lt, number-order, numbered}
-use Rattle.comparison.specs.Choices.{Agree, Before, FirstDiffers, LeastChoice, carries, choiceAt, classKey, leastCode, leastNumber, noChoice, signKey}
+use Rattle.comparison.specs.Choices.{
+  Agree,
+  Before,
+  FirstDiffers,
+  LeastChoice,
+  carries,
+  choiceAt,
+  classKey,
+  leastCode,
+  leastNumber,
+  noChoice,
+  signKey,
+}
 use Rattle.comparison.specs.Searches.{Answered, LeastAnswer}
 
 -- a code below 24 is that of its Clifford
@@ -185,7 +197,8 @@ module _ (n : ℕ) (rows others : ℕ → Pauli) (W : (j : ℕ) → j < n → Wi
   least-answer true out A =
       record {
         whether = sym (ap not (least-equation (codesOf out) (A .search) .0));
-        which = λ e q l. sym (code-back (getD out q 0) (A .codes q)) ∙ ap codeOf (least-equation (codesOf out) (A .search) .1 q l)
+        which = λ e q l. sym (code-back (getD out q 0) (A .codes q))
+            ∙ ap codeOf (least-equation (codesOf out) (A .search) .1 q l)
             ∙ code-back (leastCode n rows others q) (choice-lt n (leastNumber n rows others) q);
       }
   least-answer false out A =

@@ -54,10 +54,12 @@ Tried n B key q p v =
 module _ (n : ℕ) (B : (ℕ → Clifford) → Type 0) (key : Clifford → ℕ) (q : ℕ) (p : ℕ → Clifford) where
   pub none-tried : Tried n B key q p 0
   none-tried b c F =
-      found-same n (From B key q p 0) (Begins B key q p) (λ d h. h .begins) (λ d h. record { begins = h; more = zero-le })
+      found-same n (From B key q p 0) (Begins B key q p) (λ d h. h .begins)
+      (λ d h. record { begins = h; more = zero-le })
       b c F
 
-  pub all-tried : (v : ℕ) → Tried n B key q p v → ((k : Clifford) → key k < v) → (d : ℕ → Clifford) → Begins B key q p d → ⊥
+  pub all-tried : (v : ℕ) → Tried n B key q p v → ((k : Clifford) → key k < v) → (d : ℕ → Clifford)
+      → Begins B key q p d → ⊥
   all-tried v T small d h = T false d over d h
     where
       over : (e : ℕ → Clifford) → From B key q p v e → ⊥
@@ -67,7 +69,8 @@ module _ (n : ℕ) (B : (ℕ → Clifford) → Type 0) (key : Clifford → ℕ) 
           clash l m = omega (arith, l, m)
 
 module _ (n : ℕ) (B : (ℕ → Clifford) → Type 0) (key : Clifford → ℕ)
-    (earlier : (c d : ℕ → Clifford) → B c → B d → FirstDiffers n (λ i. key (c i)) (λ i. key (d i)) → Before n c d)
+    (earlier : (c d : ℕ → Clifford) → B c → B d → FirstDiffers n (λ i. key (c i)) (λ i. key (d i))
+    → Before n c d)
     (q : ℕ) (inside : q < n) (p : ℕ → Clifford) where
   -- next begins as p does and has v at q
   module _ (v : ℕ) (next : ℕ → Clifford) (front : (i : ℕ) → i < q
@@ -106,7 +109,8 @@ module _ (n : ℕ) (B : (ℕ → Clifford) → Type 0) (key : Clifford → ℕ)
         down : {a : ℕ} → v + 1 ≤ a → v ≤ a
         down l = omega (arith, l)
 
-    first-differs : (c d : ℕ → Clifford) → Begins B key (q + 1) next c → From B key q p (v + 1) d → Before n c d
+    first-differs : (c d : ℕ → Clifford) → Begins B key (q + 1) next c → From B key q p (v + 1) d
+        → Before n c d
     first-differs c d h k =
         earlier c d (h .base) (k .begins .base) (
           q,
@@ -125,11 +129,14 @@ module _ (n : ℕ) (B : (ℕ → Clifford) → Type 0) (key : Clifford → ℕ)
     pub found-here : Tried n B key q p v → (c : ℕ → Clifford) → LeastOf n (Begins B key (q + 1) next) c
         → LeastOf n (Begins B key q p) c
     found-here T c L =
-        T true c (least-first n (From B key q p v) (Begins B key (q + 1) next) (From B key q p (v + 1)) taken back fewer
+        T true c (least-first n (From B key q p v) (Begins B key (q + 1) next) (From B key q p (v + 1)) taken
+        back fewer
         first-differs c L)
 
     -- none begins with next: go on to v + 1
-    pub none-here : Tried n B key q p v → ((d : ℕ → Clifford) → Begins B key (q + 1) next d → ⊥) → Tried n B key q p (v + 1)
+    pub none-here : Tried n B key q p v → ((d : ℕ → Clifford) → Begins B key (q + 1) next d → ⊥)
+        → Tried n B key q p (v + 1)
     none-here T none b c F =
-        T b c (none-first n (From B key q p v) (Begins B key (q + 1) next) (From B key q p (v + 1)) taken back fewer first-differs
+        T b c (none-first n (From B key q p v) (Begins B key (q + 1) next) (From B key q p (v + 1)) taken back
+        fewer first-differs
         none b c F)

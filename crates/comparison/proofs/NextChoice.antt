@@ -34,7 +34,8 @@ module _ (choice : List ℕ) (q k : ℕ) (long : q < length choice) where
   code-other i o = ap cliffordOf (getD-set-other choice q i k 0 o)
 
   -- what holds of every code before, and of the new one
-  pub at-set : (P : ℕ → Type 0) → ((i : ℕ) → P (getD choice i 0)) → P k → (i : ℕ) → P (getD (set choice q k) i 0)
+  pub at-set : (P : ℕ → Type 0) → ((i : ℕ) → P (getD choice i 0)) → P k → (i : ℕ)
+      → P (getD (set choice q k) i 0)
   at-set P h p i = go (ℕ-discrete i q)
     where
       go : Dec (i ≡ q) → P (getD (set choice q k) i 0)
@@ -51,9 +52,11 @@ module _ (choice : List ℕ) (C : Codes choice) (q v : ℕ) (long : q < length c
 
   pub class-here : v < 6 → classKey (codesOf (withClass choice q v) q) ≡ v
   class-here l =
-      ap classKey (code-here choice q (4 * v) long ∙ ap cliffordOf (sym (add-zero (4 * v)))) ∙ classKey-of-code v 0 (lit< tt) l
+      ap classKey (code-here choice q (4 * v) long ∙ ap cliffordOf (sym (add-zero (4 * v))))
+      ∙ classKey-of-code v 0 (lit< tt) l
 
-  pub class-front : (i : ℕ) → i < q → classKey (codesOf (withClass choice q v) i) ≡ classKey (codesOf choice i)
+  pub class-front : (i : ℕ) → i < q
+      → classKey (codesOf (withClass choice q v) i) ≡ classKey (codesOf choice i)
   class-front i l = ap classKey (code-other choice q (4 * v) long i (below-other l))
 
   pub class-bare : Bare choice → Bare (withClass choice q v)
@@ -79,7 +82,8 @@ module _ (choice : List ℕ) (C : Codes choice) (q v : ℕ) (long : q < length c
 
   pub sign-here : v < 4 → signKey (codesOf (withSigns choice q v) q) ≡ v
   sign-here l =
-      ap signKey (code-here choice q (4 * (getD choice q 0 / 4) + v) long) ∙ signKey-of-code (getD choice q 0 / 4) v l
+      ap signKey (code-here choice q (4 * (getD choice q 0 / 4) + v) long)
+      ∙ signKey-of-code (getD choice q 0 / 4) v l
 
   pub sign-front : (i : ℕ) → i < q → signKey (codesOf (withSigns choice q v) i) ≡ signKey (codesOf choice i)
   sign-front i l = ap signKey (code-other choice q (4 * (getD choice q 0 / 4) + v) long i (below-other l))

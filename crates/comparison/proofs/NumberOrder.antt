@@ -13,8 +13,23 @@ use Rattle.clifford.proofs.CliffordLaws.{cliffords, fromFive, onClifford}
 use Rattle.clifford.specs.Clifford.{Class, Clifford, XY, XZ, YX, YZ, ZX, ZY, classNumber, classOf, cliffordOf}
 use Rattle.words.proofs.BitLaws.{digit-odd}
 use Rattle.words.specs.Bits.{digit}
-use Rattle.comparison.proofs.Numerals.{division-splits, numeral, numeral-digit, numeral-lt, numeral-order}
-use Rattle.comparison.specs.Choices.{Agree, Before, FirstDiffers, choice, choiceAt, classKey, digitAt, signKey}
+use Rattle.comparison.proofs.Numerals.{
+  division-splits,
+  numeral,
+  numeral-digit,
+  numeral-lt,
+  numeral-order,
+}
+use Rattle.comparison.specs.Choices.{
+  Agree,
+  Before,
+  FirstDiffers,
+  choice,
+  choiceAt,
+  classKey,
+  digitAt,
+  signKey,
+}
 
 four-pos : (n : ℕ) → 0 < 4 ^ n
 four-pos zero = subst (λ k. 0 < k) (sym (pow-zero 4)) (lit< tt)

@@ -6,7 +6,17 @@ use mathlib.Core.Logic.{inl, inr, _⊎_}
 use mathlib.Core.Path.{ap, subst, subst₂, sym, _∙_, _≡_}
 use Prim.Native.Nat.{_%_, _*_, _+_, _-_, _/_, _<_, _^_, suc, zero, ℕ, _≤_}
 use native.Mathlib.Decide.{decLt}
-use native.Mathlib.Nat.{div-add-mod', div-div-eq-div-mul, div-lt-iff-lt-mul, div-one, le-div-iff-mul-le, mul-comm, not-suc-le-zero, pow-suc, pow-zero}
+use native.Mathlib.Nat.{
+  div-add-mod',
+  div-div-eq-div-mul,
+  div-lt-iff-lt-mul,
+  div-one,
+  le-div-iff-mul-le,
+  mul-comm,
+  not-suc-le-zero,
+  pow-suc,
+  pow-zero,
+}
 use native.Mathlib.Omega.{arith}
 use lib.Arith.{digits-div, digits-lt, digits-mod}
 use lib.Dec.{lit<}

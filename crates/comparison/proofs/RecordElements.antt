@@ -20,7 +20,18 @@ use Rattle.graph.proofs.GraphGroups.{element-x}
 use Rattle.graph.specs.Graph.{graphGenerator}
 use Rattle.pauli.proofs.PauliLaws.{mul-identity}
 use Rattle.pauli.proofs.WordRows.{signed-mul}
-use Rattle.pauli.specs.Pauli.{Pauli, anticommute, identity, imaginary, i⁰, minus, mul, row, signBit, signedRow}
+use Rattle.pauli.specs.Pauli.{
+  Pauli,
+  anticommute,
+  identity,
+  imaginary,
+  i⁰,
+  minus,
+  mul,
+  row,
+  signBit,
+  signedRow,
+}
 use Rattle.pauli.specs.Rows.{generatorOf}
 use Rattle.pauli.specs.declared.Generator.{Generator}
 use Rattle.record.proofs.Maximality.{inclusion-same}
@@ -47,7 +58,8 @@ same-products : (n : ℕ) (w : Word) (rows others : ℕ → Pauli) → ((j : ℕ
 same-products n w rows others h = fold-ext identity (mul n) n (λ j l. ap (chosen (w j)) (h j l))
 
 -- rows that agree with those of a list
-pub proper-rows : (n : ℕ) (rows others : ℕ → Pauli) → ((j : ℕ) → j < n → rows j ≡ others j) → Proper n others → Proper n rows
+pub proper-rows : (n : ℕ) (rows others : ℕ → Pauli) → ((j : ℕ) → j < n → rows j ≡ others j) → Proper n others
+    → Proper n rows
 proper-rows n rows others h P =
     record {
       commuting = record {

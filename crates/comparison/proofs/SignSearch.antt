@@ -18,7 +18,14 @@ use Rattle.stabilizer.specs.Groups.{Proper}
 use Rattle.words.specs.Search.{first}
 use Rattle.comparison.proofs.ClassEquations.{mask-below, same-signs}
 use Rattle.comparison.proofs.Least.{carries-agree}
-use Rattle.comparison.proofs.LexicographicStep.{Tried, all-tried, found-here, found-same, none-here, none-tried}
+use Rattle.comparison.proofs.LexicographicStep.{
+  Tried,
+  all-tried,
+  found-here,
+  found-same,
+  none-here,
+  none-tried,
+}
 use Rattle.comparison.proofs.Members.{carries-is}
 use Rattle.comparison.proofs.NextChoice.{sign-class, sign-front, sign-here, withSigns}
 use Rattle.comparison.proofs.NumberOrder.{class-injective, code-of-keys, signKey-lt}
@@ -33,7 +40,8 @@ use Rattle.comparison.specs.declared.equations.Equation.{Equation}
 -- the signs below v at qubit q are tried
 abbrev pub SignsTried : ℕ → List Generator → List Generator → List ℕ → ℕ → ℕ → Type 0
 SignsTried n first second choice q v =
-    Tried n (WithClasses n (generatorsOf first) (generatorsOf second) n (codesOf choice)) signKey q (codesOf choice) v
+    Tried n (WithClasses n (generatorsOf first) (generatorsOf second) n (codesOf choice)) signKey q
+    (codesOf choice) v
 
 module _ (n : ℕ) (first second : List Generator) (frame : List ℕ) (S : Setting n first second frame) where
   abbrev rows : ℕ → Pauli
@@ -52,7 +60,8 @@ module _ (n : ℕ) (first second : List Generator) (frame : List ℕ) (S : Setti
 
   -- every qubit is fixed: the array is the only choice left
   pub signs-leaf : (choice : List ℕ) → Codes choice → (q : ℕ) → q ≡ n → (b : Bool)
-      → b ≡ carries n (codesOf choice) rows others → Answered n (WithSigns n rows others q (codesOf choice)) b choice
+      → b ≡ carries n (codesOf choice) rows others
+      → Answered n (WithSigns n rows others q (codesOf choice)) b choice
   signs-leaf choice C q e b h = record { search = go b h; codes = C }
     where
       p : ℕ → Clifford
@@ -69,15 +78,21 @@ module _ (n : ℕ) (first second : List Generator) (frame : List ℕ) (S : Setti
       go : (b : Bool) → b ≡ carries n p rows others → Found n (WithSigns n rows others q p) b p
       go true t =
           record {
-            among = record { base = record { base = test .0 (sym t); same = λ i l. refl }; same = λ i l. refl };
+            among = record {
+              base = record { base = test .0 (sym t); same = λ i l. refl };
+              same =
+                  λ i l. refl;
+            };
             least = λ d k. inl (only-one d k);
           }
       go false t =
-          λ d k. true≢false (sym (test .1 (carries-agree n rows others (S .proper .within) (second-proper .within) d p
+          λ d k. true≢false (sym
+          (test .1 (carries-agree n rows others (S .proper .within) (second-proper .within) d p
           (λ i l. sym (only-one d k i l)) (k .base .base))) ∙ sym t)
 
   -- an equation of the table fails: no choice with these signs works
-  pub signs-cut : (choice : List ℕ) → Codes choice → (table : List Equation) → SignTable n first second (codesOf choice) table → (q : ℕ)
+  pub signs-cut : (choice : List ℕ) → Codes choice → (table : List Equation)
+      → SignTable n first second (codesOf choice) table → (q : ℕ)
       → (w : Assignment) → w ≡ signAssignment n (codesOf choice)
       → ((v : Assignment) → SameOn (2 ^ q - 1) w v → Solves table v → ⊥)
       → Answered n (WithSigns n rows others q (codesOf choice)) false choice
@@ -111,12 +126,23 @@ module _ (n : ℕ) (first second : List Generator) (frame : List ℕ) (S : Setti
       -- the array with v put in has the same classes
       to : (d : ℕ → Clifford) → WithSigns n rows others (q + 1) (codesOf next) d
           → Begins (WithClasses n rows others n p) signKey (q + 1) (codesOf next) d
-      to d h = record { base = record { base = h .base .base; same = λ i l. h .base .same i l ∙ same-class i }; same = h .same }
+      to d h = record {
+        base =
+            record { base = h .base .base; same = λ i l. h .base .same i l ∙ same-class i };
+        same = h .same;
+      }
 
       back : (d : ℕ → Clifford) → Begins (WithClasses n rows others n p) signKey (q + 1) (codesOf next) d
           → WithSigns n rows others (q + 1) (codesOf next) d
       back d h =
-          record { base = record { base = h .base .base; same = λ i l. h .base .same i l ∙ sym (same-class i) }; same = h .same }
+          record {
+            base = record {
+              base = h .base .base;
+              same = λ i l. h .base .same i l
+                  ∙ sym (same-class i);
+            };
+            same = h .same;
+          }
 
       moved : (b : Bool) (c : ℕ → Clifford) → Found n (WithSigns n rows others (q + 1) (codesOf next)) b c
           → Found n (Begins (WithClasses n rows others n p) signKey (q + 1) (codesOf next)) b c
@@ -133,7 +159,8 @@ module _ (n : ℕ) (first second : List Generator) (frame : List ℕ) (S : Setti
       unfolding next p
       signs-found T true out e A =
           record {
-            search = found-here n (WithClasses n rows others n p) signKey (signs-decide p) q inside p v (codesOf next)
+            search = found-here n (WithClasses n rows others n p) signKey (signs-decide p) q inside p v
+                (codesOf next)
                 (sign-front choice C q v fits) (sign-here choice C q v fits small) T (codesOf out)
                 (moved true (codesOf out) (A .search));
             codes = A .codes;
@@ -141,7 +168,8 @@ module _ (n : ℕ) (first second : List Generator) (frame : List ℕ) (S : Setti
       signs-found T false out e A = absurd (false≢true e)
 
       pub signs-missed : SignsTried n first second choice q v → (b : Bool) (out : List ℕ) → b ≡ false
-          → Answered n (WithSigns n rows others (q + 1) (codesOf (withSigns choice q v))) b out → SignsTried n first second choice q (v + 1)
+          → Answered n (WithSigns n rows others (q + 1) (codesOf (withSigns choice q v))) b out
+          → SignsTried n first second choice q (v + 1)
       unfolding next p
       signs-missed T true out e A = absurd (true≢false e)
       signs-missed T false out e A =

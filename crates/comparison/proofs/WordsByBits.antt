@@ -62,8 +62,10 @@ no-classes n choice =
 pub one-class-more : (n : ℕ) (choice : List ℕ) (q a b c d : ℕ) → ClassesBelow n choice q a b c d → q < n
     → {x z : Letter} → x ≡ imageX (classOf (getD choice q 0 / 4)) → z ≡ imageZ (classOf (getD choice q 0 / 4))
     → {ba bb bc bd : Bool} (a′ b′ c′ d′ : ℕ)
-    → ba ≡ zBit z → ((j : ℕ) → bit a′ j ≡ put (bit a) q ba j) → bb ≡ zBit x → ((j : ℕ) → bit b′ j ≡ put (bit b) q bb j)
-    → bc ≡ xBit z → ((j : ℕ) → bit c′ j ≡ put (bit c) q bc j) → bd ≡ xBit x → ((j : ℕ) → bit d′ j ≡ put (bit d) q bd j)
+    → ba ≡ zBit z → ((j : ℕ) → bit a′ j ≡ put (bit a) q ba j) → bb ≡ zBit x
+    → ((j : ℕ) → bit b′ j ≡ put (bit b) q bb j)
+    → bc ≡ xBit z → ((j : ℕ) → bit c′ j ≡ put (bit c) q bc j) → bd ≡ xBit x
+    → ((j : ℕ) → bit d′ j ≡ put (bit d) q bd j)
     → ClassesBelow n choice (q + 1) a′ b′ c′ d′
 one-class-more n choice q a b c d S l hx hz a′ b′ c′ d′ ea pa eb pb ec pc ed pd =
     record {
@@ -78,7 +80,14 @@ pub all-classes : (n : ℕ) (choice : List ℕ) (q a b c d : ℕ) → ClassesBel
     → _≡_ {A = Assignment} (record { a = a; b = b; c = c; d = d }) (classAssignment n (codesOf choice))
 unfolding classAssignment
 all-classes n choice q a b c d S l =
-    λ i. record { a = whole-word q n _ a (S .upto) l (S .a-is) i; b = whole-word q n _ b (S .upto) l (S .b-is) i; c = whole-word q n _ c (S .upto) l (S .c-is) i; d = whole-word q n _ d (S .upto) l (S .d-is) i }
+    λ i. record {
+      a = whole-word q n _ a (S .upto) l (S .a-is) i;
+      b =
+          whole-word q n _ b (S .upto) l (S .b-is) i;
+      c = whole-word q n _ c (S .upto) l (S .c-is) i;
+      d =
+          whole-word q n _ d (S .upto) l (S .d-is) i;
+    }
 
 -- the two words of the signs below q
 pub record SignsBelow (n : ℕ) (choice : List ℕ) (q a b : ℕ) : Type 0 where
@@ -102,4 +111,11 @@ one-sign-more n choice q a b S l a′ b′ pa pb =
 pub all-signs : (n : ℕ) (choice : List ℕ) (q a b : ℕ) → SignsBelow n choice q a b → n ≤ q
     → _≡_ {A = Assignment} (record { a = a; b = b; c = 0; d = 0 }) (signAssignment n (codesOf choice))
 unfolding signAssignment
-all-signs n choice q a b S l = λ i. record { a = whole-word q n _ a (S .upto) l (S .a-is) i; b = whole-word q n _ b (S .upto) l (S .b-is) i; c = 0; d = 0 }
+all-signs n choice q a b S l =
+    λ i. record {
+      a = whole-word q n _ a (S .upto) l (S .a-is) i;
+      b =
+          whole-word q n _ b (S .upto) l (S .b-is) i;
+      c = 0;
+      d = 0;
+    }

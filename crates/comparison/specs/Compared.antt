@@ -10,7 +10,15 @@ use Rattle.clifford.specs.Vectors.{codesOf}
 use Rattle.pauli.specs.Pauli.{Pauli}
 use Rattle.record.specs.Reduced.{reducedCode}
 use Rattle.stabilizer.specs.Groups.{chosen}
-use Rattle.stabilizer.specs.Lists.{GeneratorList, clashing, dependent, listLengths, listSigns, listStray, rows}
+use Rattle.stabilizer.specs.Lists.{
+  GeneratorList,
+  clashing,
+  dependent,
+  listLengths,
+  listSigns,
+  listStray,
+  rows,
+}
 use Rattle.words.specs.Search.{first}
 use Rattle.comparison.specs.Choices.{noChoice}
 

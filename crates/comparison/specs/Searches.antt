@@ -3,7 +3,7 @@
 use mathlib.Core.Bool.{Bool, false, not, true}
 use mathlib.Core.List.{List}
 use mathlib.Core.Path.{_≡_}
-use Prim.Native.Nat.{_<_, ℕ}
+use Prim.Native.Nat.{_<_, ℕ, _≤_}
 use lib.ListN.{getD}
 use Rattle.clifford.specs.Clifford.{Clifford}
 use Rattle.clifford.specs.Vectors.{codesOf}
@@ -13,7 +13,7 @@ use Rattle.stabilizer.specs.Carries.{Carries}
 use Rattle.words.specs.Search.{first}
 use Rattle.comparison.specs.Choices.{LeastOf, classKey, leastCode, noChoice, signKey}
 use Rattle.comparison.specs.Equations.{Solves, classAssignment, signAssignment}
-use Rattle.comparison.specs.Setting.{Codes, generatorsOf}
+use Rattle.comparison.specs.Setting.{Bare, Codes, Setting, generatorsOf}
 use Rattle.comparison.specs.declared.equations.Equation.{Equation}
 
 -- the choices in B whose keys below qubit q are those of p
@@ -39,17 +39,46 @@ Found n K false c = (d : ℕ → Clifford) → K d → ⊥
 -- every choice that works solves the table of the class equations
 abbrev pub ClassTable : ℕ → List Generator → List Generator → List Equation → Type 0
 ClassTable n first second table =
-    (d : ℕ → Clifford) → Carries n d (generatorsOf first) (generatorsOf second) → Solves table (classAssignment n d)
+    (d : ℕ → Clifford) → Carries n d (generatorsOf first) (generatorsOf second)
+    → Solves table (classAssignment n d)
 
 -- every choice that works and has the classes of c solves the table of the sign equations
 abbrev pub SignTable : ℕ → List Generator → List Generator → (ℕ → Clifford) → List Equation → Type 0
 SignTable n first second c table =
-    (d : ℕ → Clifford) → WithClasses n (generatorsOf first) (generatorsOf second) n c d → Solves table (signAssignment n d)
+    (d : ℕ → Clifford) → WithClasses n (generatorsOf first) (generatorsOf second) n c d
+    → Solves table (signAssignment n d)
 
 -- an array of codes that answers a search among the choices in K
 pub record Answered (n : ℕ) (K : (ℕ → Clifford) → Type 0) (found : Bool) (choice : List ℕ) : Type 0 where
   pub search : Found n K found (codesOf choice)
   pub codes : Codes choice
+
+-- the state of the search for the signs at qubit q, and its answer
+pub record SignState (n : ℕ) (first second : List Generator) (frame : List ℕ) (table : List Equation)
+    (choice : List ℕ)
+    (q : ℕ) : Type 0 where
+  pub setting : Setting n first second frame
+  pub upto : q ≤ n
+  pub codes : Codes choice
+  pub solved : SignTable n first second (codesOf choice) table
+
+abbrev pub SignsAnswered : ℕ → List Generator → List Generator → ℕ → List ℕ → Bool → List ℕ → Type 0
+SignsAnswered n first second q choice =
+    Answered n (WithSigns n (generatorsOf first) (generatorsOf second) q (codesOf choice))
+
+-- the state of the search for the classes at qubit q, and its answer
+pub record ClassState (n : ℕ) (first second : List Generator) (frame : List ℕ) (table : List Equation)
+    (choice : List ℕ)
+    (q : ℕ) : Type 0 where
+  pub setting : Setting n first second frame
+  pub upto : q ≤ n
+  pub codes : Codes choice
+  pub bare-codes : Bare choice
+  pub solved : ClassTable n first second table
+
+abbrev pub ClassesAnswered : ℕ → List Generator → List Generator → ℕ → List ℕ → Bool → List ℕ → Type 0
+ClassesAnswered n first second q choice =
+    Answered n (WithClasses n (generatorsOf first) (generatorsOf second) q (codesOf choice))
 
 -- the answer of the comparison: the least choice, as an equation
 pub record LeastAnswer (n : ℕ) (rows others : ℕ → Pauli) (found : Bool) (choice : List ℕ) : Type 0 where

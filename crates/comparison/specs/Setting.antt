@@ -11,7 +11,7 @@ use Rattle.graph.specs.Graph.{Graph, Simple}
 use Rattle.pauli.specs.Pauli.{Pauli, minus}
 use Rattle.pauli.specs.Rows.{generatorOf}
 use Rattle.pauli.specs.declared.Generator.{Generator}
-use Rattle.record.specs.Lent.{heldRecord}
+use Rattle.record.specs.Lent.{heldRecord, heldRows}
 use Rattle.record.specs.Records.{recordRow}
 use Rattle.stabilizer.specs.Groups.{InGroup, Proper}
 use Rattle.words.specs.Search.{first}
@@ -42,6 +42,10 @@ pub record Framed (n : ℕ) (rows : ℕ → Pauli) (frame : ℕ → Clifford) : 
   pub simple : Simple n graph
   pub generators : (j : ℕ) → j < n → rows j ≡ recordRow n graph codes j
   pub undoes : (q : ℕ) → q < n → frame q ≡ inverse (codes q)
+
+-- the generators of a lent record
+abbrev pub heldGenerators : ℕ → List ℕ → List ℕ → ℕ → Pauli
+heldGenerators n neighbours codes = heldRows (record { n = n; neighbours = neighbours; codes = codes })
 
 -- lent buffers that hold a record on n vertices
 pub record SoundRecord (n : ℕ) (neighbours codes : List ℕ) : Type 0 where

@@ -1,8 +1,8 @@
 // The codes that a choice induces between two reduced graphs.
 use clifford::Code;
 ghost use mathlib.Core.Path.{_≡_};
-ghost use Prim.Native.Nat.{ℕ, _<_, _≤_};
-ghost use lib.ListN.{getD, length};
+ghost use Prim.Native.Nat.{_<_};
+ghost use lib.ListN.{length};
 ghost use Rattle.buffers.specs.Buffers.{tabulate};
 ghost use Rattle.clifford.specs.Clifford.{cliffordOf, codeOf, inverse, then};
 ghost use Rattle.comparison.specs.Compared.{inducedCode};
@@ -24,9 +24,11 @@ fn induced_code(first: u8, choice: u8, second: u8) -> u8
 
 // .. at each qubit.
 pub fn induced_codes(first: &[u8], choice: &[u8], second: &[u8], induced: &mut [u8])
-    requires { ⌜ (length (now first) ≡ length (now induced)) × (length (now choice) ≡ length (now induced)) × (length (now second) ≡ length (now induced)) ⌝ }
+    requires { ⌜ (length (now first) ≡ length (now induced)) × (length (now choice) ≡ length (now induced)) ⌝ }
+    requires { ⌜ length (now second) ≡ length (now induced) ⌝ }
     requires { ⌜ Codes (now first) × Codes (now choice) × Codes (now second) ⌝ }
-    ensures { λ r. ⌜ now (induced .exit) ≡ tabulate (length (now (induced .entry))) (inducedCode (now (first .entry)) (now (choice .entry)) (now (second .entry))) ⌝ }
+    ensures { λ r. ⌜ now (induced .exit) ≡ tabulate (length (now (induced .entry)))
+        (inducedCode (now (first .entry)) (now (choice .entry)) (now (second .entry))) ⌝ }
 {
     let mut q = 0;
     while q < induced.len() {

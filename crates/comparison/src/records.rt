@@ -8,17 +8,16 @@ use words::single;
 ghost use mathlib.Core.Path.{_≡_};
 ghost use Prim.Native.Nat.{ℕ, _<_, _≤_};
 ghost use lib.ListN.{getD, length};
-ghost use Rattle.buffers.specs.Buffers.{tabulate};
-ghost use Rattle.clifford.specs.Clifford.{cliffordOf, codeOf, inverse, then};
+ghost use Rattle.clifford.specs.Clifford.{codeOf, inverse};
 ghost use Rattle.clifford.specs.Vectors.{codesOf};
-ghost use Rattle.record.specs.Lent.{LentRecord, heldRows};
-ghost use Rattle.comparison.specs.Setting.{Codes, SoundRecord, generatorsOf};
+ghost use Rattle.comparison.specs.Setting.{Codes, SoundRecord, generatorsOf, heldGenerators};
 ghost use Rattle.comparison.specs.Searches.{LeastAnswer};
 
 // The generators of a record.
 fn generators(n: usize, neighbours: &[u64], codes: &[u8]) -> [Generator; 20]
     requires { ⌜ (n ≤ 20) × SoundRecord n (now neighbours) (now codes) ⌝ }
-    ensures { λ r. ⌜ ((j : ℕ) → j < n → generatorsOf r j ≡ heldRows (record { n = n; neighbours = now (neighbours .entry); codes = now (codes .entry) }) j) ⌝ }
+    ensures { λ r. ⌜ ((j : ℕ) → j < n
+        → generatorsOf r j ≡ heldGenerators n (now (neighbours .entry)) (now (codes .entry)) j) ⌝ }
 {
     let mut all = [Generator {
         minus: false,
@@ -63,8 +62,10 @@ pub fn compare_records(
     neighbours2: &[u64],
     codes2: &[u8],
 ) -> Answer
-    requires { ⌜ (n ≤ 20) × SoundRecord n (now neighbours) (now codes) × SoundRecord n (now neighbours2) (now codes2) ⌝ }
-    ensures { λ r. ⌜ LeastAnswer n (heldRows (record { n = n; neighbours = now (neighbours .entry); codes = now (codes .entry) })) (heldRows (record { n = n; neighbours = now (neighbours2 .entry); codes = now (codes2 .entry) })) (r .found) (r .choice) ⌝ }
+    requires { ⌜ (n ≤ 20) × SoundRecord n (now neighbours) (now codes) ⌝ }
+    requires { ⌜ SoundRecord n (now neighbours2) (now codes2) ⌝ }
+    ensures { λ r. ⌜ LeastAnswer n (heldGenerators n (now (neighbours .entry)) (now (codes .entry)))
+        (heldGenerators n (now (neighbours2 .entry)) (now (codes2 .entry))) (r .found) (r .choice) ⌝ }
 {
     let first = generators(n, neighbours, codes);
     let second = generators(n, neighbours2, codes2);

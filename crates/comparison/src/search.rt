@@ -8,12 +8,8 @@ use crate::tables::class_table;
 use crate::tables::cut;
 use crate::tables::sign_table;
 use pauli::Generator;
-ghost use mathlib.Core.Path.{_≡_};
-ghost use Prim.Native.Nat.{ℕ, _<_, _≤_};
-ghost use Rattle.clifford.specs.Vectors.{codesOf};
-ghost use Rattle.stabilizer.specs.Carries.{Carries};
-ghost use Rattle.comparison.specs.Setting.{Bare, Codes, Setting, generatorsOf};
-ghost use Rattle.comparison.specs.Searches.{Answered, ClassTable, LeastAnswer, SignTable, WithClasses, WithSigns};
+ghost use Rattle.comparison.specs.Searches.{ClassState, ClassesAnswered, LeastAnswer, SignState, SignsAnswered};
+ghost use Rattle.comparison.specs.Setting.{Setting, generatorsOf};
 
 // Whether a choice was found, and the choice.
 pub struct Answer {
@@ -31,8 +27,8 @@ fn search_signs(
     choice: [u8; 20],
     q: usize,
 ) -> Answer
-    requires { ⌜ Setting n first second frame × (q ≤ n) × Codes choice × SignTable n first second (codesOf choice) table ⌝ }
-    ensures { λ r. ⌜ Answered n (WithSigns n (generatorsOf first) (generatorsOf second) q (codesOf choice)) (r .found) (r .choice) ⌝ }
+    requires { ⌜ SignState n first second frame table choice q ⌝ }
+    ensures { λ r. ⌜ SignsAnswered n first second q choice (r .found) (r .choice) ⌝ }
 {
     let w = sign_words(n, choice);
     if cut(table, q, w) {
@@ -71,8 +67,8 @@ fn search_classes(
     choice: [u8; 20],
     q: usize,
 ) -> Answer
-    requires { ⌜ Setting n first second frame × (q ≤ n) × Codes choice × Bare choice × ClassTable n first second table ⌝ }
-    ensures { λ r. ⌜ Answered n (WithClasses n (generatorsOf first) (generatorsOf second) q (codesOf choice)) (r .found) (r .choice) ⌝ }
+    requires { ⌜ ClassState n first second frame table choice q ⌝ }
+    ensures { λ r. ⌜ ClassesAnswered n first second q choice (r .found) (r .choice) ⌝ }
 {
     let w = class_words(n, choice);
     if cut(table, q, w) {

@@ -54,13 +54,22 @@ loop-again : tie.Need-loop-again Inv-loop μ-loop
 loop-again c =
     let l = c .before .before .before .before .before .before .before .before .before .before .loop in
     let letters = c .before .before .before .before .before .before .before .before .image-letters .ensures in
-    one-class-more _ _ (l .q) (l .a) (l .b) (l .c) (l .d) (l .inv) (c .before .before .before .before .before .before .before .before .before .loop-test .taken) (letters .0) (letters .1)
-    (c .before .before .before .before .before .before .put-bit .result) (c .before .before .before .before .put-bit2 .result) (c .before .before .put-bit3 .result) (c .put-bit4 .result)
-    (c .before .before .before .before .before .before .before .z-bit .ensures) (c .before .before .before .before .before .before .put-bit .ensures) (c .before .before .before .before .before .z-bit2 .ensures) (c .before .before .before .before .put-bit2 .ensures)
-    (c .before .before .before .x-bit .ensures) (c .before .before .put-bit3 .ensures) (c .before .x-bit2 .ensures) (c .put-bit4 .ensures)
+    one-class-more _ _ (l .q) (l .a) (l .b) (l .c) (l .d) (l .inv)
+    (c .before .before .before .before .before .before .before .before .before .loop-test .taken)
+    (letters .0) (letters .1)
+    (c .before .before .before .before .before .before .put-bit .result)
+    (c .before .before .before .before .put-bit2 .result) (c .before .before .put-bit3 .result)
+    (c .put-bit4 .result)
+    (c .before .before .before .before .before .before .before .z-bit .ensures)
+    (c .before .before .before .before .before .before .put-bit .ensures)
+    (c .before .before .before .before .before .z-bit2 .ensures)
+    (c .before .before .before .before .put-bit2 .ensures)
+    (c .before .before .before .x-bit .ensures) (c .before .before .put-bit3 .ensures)
+    (c .before .x-bit2 .ensures) (c .put-bit4 .ensures)
 
 returns : tie.Need-returns Inv-loop μ-loop
-returns c = let l = c .before .loop in all-classes _ _ (l .q) (l .a) (l .b) (l .c) (l .d) (l .inv) (c .loop-test .left)
+returns c = let l = c .before .loop in
+    all-classes _ _ (l .q) (l .a) (l .b) (l .c) (l .d) (l .inv) (c .loop-test .left)
 
 pub class-words-spec : {M : Type 1} → statement M
 class-words-spec =

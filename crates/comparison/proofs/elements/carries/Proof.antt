@@ -6,12 +6,20 @@ use borrow.Author.Needs.{needs}
 use Rattle.clifford.specs.Vectors.{codesOf}
 use Rattle.comparison.specs.Setting.{generatorsOf}
 use Rattle.comparison.proofs.Flags.{not-false, not-true}
-use Rattle.comparison.proofs.RecordElements.{SentInto, all-sent, framed-proper, none-sent, one-not-sent, one-sent}
+use Rattle.comparison.proofs.RecordElements.{
+  SentInto,
+  all-sent,
+  framed-proper,
+  none-sent,
+  one-not-sent,
+  one-sent,
+}
 use Rattle.comparison.proofs.elements.carries.Statement.{statement}
 use Rattle.comparison.proofs.elements.carries.Tie as tie
 
 abbrev Inv-loop : tie.InvT-loop
-Inv-loop n second frame first choice j₀ j = SentInto n (generatorsOf first) (generatorsOf second) (codesOf choice) j
+Inv-loop n second frame first choice j₀ j =
+    SentInto n (generatorsOf first) (generatorsOf second) (codesOf choice) j
 
 abbrev μ-loop : tie.MeasureT-loop
 μ-loop n second frame first choice j₀ j = n - j
@@ -40,10 +48,13 @@ returns c =
     let a = s .args in
     let l = c .before .before .before .before .before .before .loop in
     let more = c .before .before .before .before .before .loop-test .taken in
-    one-not-sent (a .n) (omega (arith, s .pre .0 .few)) (generatorsOf (a .t2)) (generatorsOf (a .second)) (s .pre .0 .proper)
-    (framed-proper (a .n) (generatorsOf (a .second)) (codesOf (a .frame)) (s .pre .0 .framed)) (codesOf (a .t5)) (l .j) more _
+    one-not-sent (a .n) (omega (arith, s .pre .0 .few)) (generatorsOf (a .t2)) (generatorsOf (a .second))
+    (s .pre .0 .proper)
+    (framed-proper (a .n) (generatorsOf (a .second)) (codesOf (a .frame)) (s .pre .0 .framed))
+    (codesOf (a .t5)) (l .j) more _
     (c .before .before .send .ensures)
-    (λ k. true≢false (sym (c .before .is-element .ensures .1 k) ∙ not-true (c .before .is-element .result) (c .if1 .taken)))
+    (λ k. true≢false (sym (c .before .is-element .ensures .1 k)
+    ∙ not-true (c .before .is-element .result) (c .if1 .taken)))
 
 add-j : tie.Need-add-j Inv-loop μ-loop
 add-j c = search needs
@@ -57,13 +68,18 @@ loop-again c =
     let a = s .args in
     let l = c .before .before .before .before .before .before .loop in
     let more = c .before .before .before .before .before .loop-test .taken in
-    one-sent (a .n) (omega (arith, s .pre .0 .few)) (generatorsOf (a .t2)) (generatorsOf (a .second)) (s .pre .0 .proper)
-    (framed-proper (a .n) (generatorsOf (a .second)) (codesOf (a .frame)) (s .pre .0 .framed)) (codesOf (a .t5)) (l .j) more _
+    one-sent (a .n) (omega (arith, s .pre .0 .few)) (generatorsOf (a .t2)) (generatorsOf (a .second))
+    (s .pre .0 .proper)
+    (framed-proper (a .n) (generatorsOf (a .second)) (codesOf (a .frame)) (s .pre .0 .framed))
+    (codesOf (a .t5)) (l .j) more _
     (c .before .before .send .ensures) (l .inv)
     (c .before .is-element .ensures .0 (not-false (c .before .is-element .result) (c .if1 .left)))
 
 returns-2 : tie.Need-returns-2 Inv-loop μ-loop
-returns-2 c = let s = c .before .before in all-sent (s .args .n) (generatorsOf (s .args .t2)) (generatorsOf (s .args .second)) (s .pre .0 .proper) (framed-proper _ _ _ (s .pre .0 .framed)) (codesOf (s .args .t5)) (c .before .loop .j) (c .loop-test .left) (c .before .loop .inv)
+returns-2 c = let s = c .before .before in
+    all-sent (s .args .n) (generatorsOf (s .args .t2)) (generatorsOf (s .args .second)) (s .pre .0 .proper)
+    (framed-proper _ _ _ (s .pre .0 .framed)) (codesOf (s .args .t5)) (c .before .loop .j)
+    (c .loop-test .left) (c .before .loop .inv)
 
 pub carries-spec : {M : Type 1} → statement M
 carries-spec =

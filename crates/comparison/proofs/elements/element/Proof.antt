@@ -9,7 +9,15 @@ use Rattle.pauli.specs.Rows.{generatorOf}
 use Rattle.pauli.proofs.PauliLaws.{Pauli-path}
 use Rattle.clifford.specs.Vectors.{codesOf}
 use Rattle.comparison.specs.Setting.{generatorsOf}
-use Rattle.comparison.proofs.RecordElements.{Multiplied, framed-proper, guessed, multiplied-off, multiplied-on, next-commutes, none-multiplied}
+use Rattle.comparison.proofs.RecordElements.{
+  Multiplied,
+  framed-proper,
+  guessed,
+  multiplied-off,
+  multiplied-on,
+  next-commutes,
+  none-multiplied,
+}
 use Rattle.comparison.proofs.elements.element.Statement.{statement}
 use Rattle.comparison.proofs.elements.element.Tie as tie
 
@@ -38,7 +46,12 @@ array-copy-out-g : tie.Need-array-copy-out-g Inv-loop μ-loop
 array-copy-out-g c = search needs
 
 times-requires : tie.Need-times-requires Inv-loop μ-loop
-times-requires c κs = let l = c .before .before .before .before .loop in let s = c .before .before .before .before .before .before .before in next-commutes (s .args .n) (omega arith) (generatorsOf (s .args .t2)) (framed-proper (s .args .n) (generatorsOf (s .args .t2)) (codesOf (s .args .t3)) (s .pre .1)) (bit (c .before .before .before .before .before .send .result .x)) (l .j) (generatorOf (l .h)) (l .inv) (c .before .before .before .loop-test .taken)
+times-requires c κs = let l = c .before .before .before .before .loop in let s =
+    c .before .before .before .before .before .before .before in
+    next-commutes (s .args .n) (omega arith) (generatorsOf (s .args .t2))
+    (framed-proper (s .args .n) (generatorsOf (s .args .t2)) (codesOf (s .args .t3)) (s .pre .1))
+    (bit (c .before .before .before .before .before .send .result .x)) (l .j) (generatorOf (l .h)) (l .inv)
+    (c .before .before .before .loop-test .taken)
 
 add-j : tie.Need-add-j Inv-loop μ-loop
 add-j c = search needs
@@ -66,7 +79,10 @@ loop-again c =
     (c .if1 .came)
 
 returns : tie.Need-returns Inv-loop μ-loop
-returns c = let s = c .before .before .before .before in guessed (s .args .n) (omega arith) (generatorsOf (s .args .t2)) (codesOf (s .args .t3)) (s .pre .1) (generatorOf (s .args .p)) (generatorOf (c .before .before .send .result)) (c .before .before .send .ensures) (c .before .loop .j) _ (c .loop-test .left) (c .before .loop .inv)
+returns c = let s = c .before .before .before .before in
+    guessed (s .args .n) (omega arith) (generatorsOf (s .args .t2)) (codesOf (s .args .t3)) (s .pre .1)
+    (generatorOf (s .args .p)) (generatorOf (c .before .before .send .result))
+    (c .before .before .send .ensures) (c .before .loop .j) _ (c .loop-test .left) (c .before .loop .inv)
 
 pub element-spec : {M : Type 1} → statement M
 element-spec =

@@ -14,7 +14,8 @@ then-requires-2 c κs = search needs
 
 returns : tie.Need-returns
 returns c = let a = c .before .before .before .args in
-    induced-by-calls (a .first) (a .choice) (a .second) (c .before .before .then .result .index) (c .before .inverse .result .index) (c .then2 .result .index)
+    induced-by-calls (a .first) (a .choice) (a .second) (c .before .before .then .result .index)
+    (c .before .inverse .result .index) (c .then2 .result .index)
     (c .before .before .then .ensures .0) (c .before .inverse .ensures .0) (c .then2 .ensures .0)
 
 pub induced-code-spec : {M : Type 1} → statement M

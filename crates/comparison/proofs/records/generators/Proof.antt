@@ -12,7 +12,9 @@ use Rattle.comparison.proofs.records.generators.Statement.{statement}
 use Rattle.comparison.proofs.records.generators.Tie as tie
 
 abbrev Inv-loop : tie.InvT-loop
-Inv-loop n neighbours codes all₀ j₀ all j = (length all ≡ 20) × Filled noGenerator n (λ i g. generatorOf g ≡ heldRows (record { n = n; neighbours = neighbours; codes = codes }) i) j all
+Inv-loop n neighbours codes all₀ j₀ all j = (length all ≡ 20)
+    × Filled noGenerator n
+    (λ i g. generatorOf g ≡ heldRows (record { n = n; neighbours = neighbours; codes = codes }) i) j all
 
 abbrev μ-loop : tie.MeasureT-loop
 μ-loop n neighbours codes all₀ j₀ all j = n - j
@@ -53,11 +55,13 @@ loop-again c =
     let fits : l .j < length (l .all) = omega (arith, more, l .inv .0, s .pre .0) in (
       length-set (l .all) (l .j) _ ∙ l .inv .0,
       one-filled noGenerator _ _ (l .j) (l .all) (l .inv .1) more fits _
-          (generator-sent (a .n) (s .pre .0) (a .neighbours .now) (a .codes .now) (s .pre .1) (l .j) more _ (c .before .single .ensures) _ (c .send .ensures)),
+          (generator-sent (a .n) (s .pre .0) (a .neighbours .now) (a .codes .now) (s .pre .1) (l .j) more _
+          (c .before .single .ensures) _ (c .send .ensures)),
     )
 
 returns : tie.Need-returns Inv-loop μ-loop
-returns c = let l = c .before .loop in all-filled noGenerator _ _ (l .j) (l .all) (l .inv .1) (c .loop-test .left)
+returns c = let l = c .before .loop in
+    all-filled noGenerator _ _ (l .j) (l .all) (l .inv .1) (c .loop-test .left)
 
 pub generators-spec : {M : Type 1} → statement M
 generators-spec =

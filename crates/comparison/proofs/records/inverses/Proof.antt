@@ -12,7 +12,8 @@ use Rattle.comparison.proofs.records.inverses.Statement.{statement}
 use Rattle.comparison.proofs.records.inverses.Tie as tie
 
 abbrev Inv-loop : tie.InvT-loop
-Inv-loop n codes all₀ q₀ all q = (length all ≡ 20) × Codes all × Filled 0 n (λ i c. c ≡ codeOf (inverse (codesOf codes i))) q all
+Inv-loop n codes all₀ q₀ all q = (length all ≡ 20) × Codes all
+    × Filled 0 n (λ i c. c ≡ codeOf (inverse (codesOf codes i))) q all
 
 abbrev μ-loop : tie.MeasureT-loop
 μ-loop n codes all₀ q₀ all q = n - q
@@ -47,7 +48,8 @@ loop-again c =
     )
 
 returns : tie.Need-returns Inv-loop μ-loop
-returns c = let l = c .before .loop in (all-filled 0 _ _ (l .q) (l .all) (l .inv .2) (c .loop-test .left), l .inv .1)
+returns c = let l = c .before .loop in
+    (all-filled 0 _ _ (l .q) (l .all) (l .inv .2) (c .loop-test .left), l .inv .1)
 
 pub inverses-spec : {M : Type 1} → statement M
 inverses-spec =

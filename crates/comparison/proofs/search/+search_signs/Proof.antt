@@ -3,7 +3,16 @@ use mathlib.Core.Path.{_≡_}
 use native.Mathlib.Omega.{arith}
 use lib.ListN.{length}
 use Rattle.comparison.proofs.NextChoice.{sign-codes}
-use Rattle.comparison.proofs.SignSearch.{SignsTried, next-table, signs-begin, signs-cut, signs-end, signs-found, signs-leaf, signs-missed}
+use Rattle.comparison.proofs.SignSearch.{
+  SignsTried,
+  next-table,
+  signs-begin,
+  signs-cut,
+  signs-end,
+  signs-found,
+  signs-leaf,
+  signs-missed,
+}
 use Prim.Native.Nat.{ℕ, _<_, _-_, _≤_, zero-le}
 use borrow.Fn.Kinds.{In}
 use borrow.Fn.PlainCycle.{Measures, is, falls, and}
@@ -45,92 +54,155 @@ claims t = (
 )
 
 abbrev search-signs-Inv-loop : search-signs-lts.InvT-loop
-search-signs-Inv-loop n first second frame table q choice v₀ v = (v ≤ 4) × SignsTried n first second choice q v
+search-signs-Inv-loop n first second frame table q choice v₀ v = (v ≤ 4)
+    × SignsTried n first second choice q v
 
 abbrev search-signs-μ-loop : search-signs-lts.MeasureT-loop
 search-signs-μ-loop n first second frame table q choice v₀ v = 4 - v
 
-search-signs-sign-words-requires : (t : ℕ) → search-signs-lts.Need-sign-words-requires (claims t) (search-signs-at t) search-signs.Post search-signs-Inv-loop search-signs-μ-loop
-search-signs-sign-words-requires t c κs = c .pre .1 .0 .few
+search-signs-sign-words-requires : (t : ℕ)
+    → search-signs-lts.Need-sign-words-requires (claims t) (search-signs-at t) search-signs.Post
+    search-signs-Inv-loop search-signs-μ-loop
+search-signs-sign-words-requires t c κs = c .pre .1 .setting .few
 
-search-signs-cut-requires : (t : ℕ) → search-signs-lts.Need-cut-requires (claims t) (search-signs-at t) search-signs.Post search-signs-Inv-loop search-signs-μ-loop
-search-signs-cut-requires t c κs = let few = c .before .pre .1 .0 .few in let most = c .before .pre .1 .1 in search needs
+search-signs-cut-requires : (t : ℕ)
+    → search-signs-lts.Need-cut-requires (claims t) (search-signs-at t) search-signs.Post
+    search-signs-Inv-loop search-signs-μ-loop
+search-signs-cut-requires t c κs = let few = c .before .pre .1 .setting .few in let most =
+    c .before .pre .1 .upto in
+    search needs
 
-search-signs-returns : (t : ℕ) → search-signs-lts.Need-returns (claims t) (search-signs-at t) search-signs.Post search-signs-Inv-loop search-signs-μ-loop
-search-signs-returns t c = let s = c .before .before .before in let a = s .args in signs-cut (a .n) (a .first) (a .second) (a .frame) (s .pre .1 .0) (a .t6) (s .pre .1 .2) (a .table) (s .pre .1 .3) (a .q) (c .before .before .sign-words .result) (c .before .before .sign-words .ensures) (c .before .cut .ensures (c .if1 .taken))
+search-signs-returns : (t : ℕ)
+    → search-signs-lts.Need-returns (claims t) (search-signs-at t) search-signs.Post search-signs-Inv-loop
+    search-signs-μ-loop
+search-signs-returns t c = let s = c .before .before .before in let a = s .args in
+    signs-cut (a .n) (a .first) (a .second) (a .frame) (s .pre .1 .setting) (a .t6) (s .pre .1 .codes)
+    (a .table)
+    (s .pre .1 .solved) (a .q) (c .before .before .sign-words .result)
+    (c .before .before .sign-words .ensures)
+    (c .before .cut .ensures (c .if1 .taken))
 
-search-signs-carries-requires : (t : ℕ) → search-signs-lts.Need-carries-requires (claims t) (search-signs-at t) search-signs.Post search-signs-Inv-loop search-signs-μ-loop
-search-signs-carries-requires t c κs = let s = c .before .before .before .before in (s .pre .1 .0, s .pre .1 .2)
+search-signs-carries-requires : (t : ℕ)
+    → search-signs-lts.Need-carries-requires (claims t) (search-signs-at t) search-signs.Post
+    search-signs-Inv-loop search-signs-μ-loop
+search-signs-carries-requires t c κs = let s = c .before .before .before .before in
+    (s .pre .1 .setting, s .pre .1 .codes)
 
-search-signs-returns-2 : (t : ℕ) → search-signs-lts.Need-returns-2 (claims t) (search-signs-at t) search-signs.Post search-signs-Inv-loop search-signs-μ-loop
-search-signs-returns-2 t c = let s = c .before .before .before .before .before in let a = s .args in signs-leaf (a .n) (a .first) (a .second) (a .frame) (s .pre .1 .0) (a .t6) (s .pre .1 .2) (a .q) (c .before .if2 .taken) (c .carries .result) (c .carries .ensures)
+search-signs-returns-2 : (t : ℕ)
+    → search-signs-lts.Need-returns-2 (claims t) (search-signs-at t) search-signs.Post search-signs-Inv-loop
+    search-signs-μ-loop
+search-signs-returns-2 t c = let s = c .before .before .before .before .before in let a = s .args in
+    signs-leaf (a .n) (a .first) (a .second) (a .frame) (s .pre .1 .setting) (a .t6) (s .pre .1 .codes) (a .q)
+    (c .before .if2 .taken) (c .carries .result) (c .carries .ensures)
 
-search-signs-loop-holds : (t : ℕ) → search-signs-lts.Need-loop-holds (claims t) (search-signs-at t) search-signs.Post search-signs-Inv-loop search-signs-μ-loop
-search-signs-loop-holds t c = let a = c .before .before .before .before .args in (zero-le, signs-begin (a .n) (a .first) (a .second) (a .frame) (c .before .before .before .before .pre .1 .0) (a .t6) (a .q))
+search-signs-loop-holds : (t : ℕ)
+    → search-signs-lts.Need-loop-holds (claims t) (search-signs-at t) search-signs.Post search-signs-Inv-loop
+    search-signs-μ-loop
+search-signs-loop-holds t c = let a = c .before .before .before .before .args in (
+  zero-le,
+  signs-begin (a .n) (a .first) (a .second) (a .frame)
+      (c .before .before .before .before .pre .1 .setting) (a .t6) (a .q),
+)
 
-search-signs-array-read-next : (t : ℕ) → search-signs-lts.Need-array-read-next (claims t) (search-signs-at t) search-signs.Post search-signs-Inv-loop search-signs-μ-loop
+search-signs-array-read-next : (t : ℕ)
+    → search-signs-lts.Need-array-read-next (claims t) (search-signs-at t) search-signs.Post
+    search-signs-Inv-loop search-signs-μ-loop
 search-signs-array-read-next t c = search needs
 
-search-signs-mul-next : (t : ℕ) → search-signs-lts.Need-mul-next (claims t) (search-signs-at t) search-signs.Post search-signs-Inv-loop search-signs-μ-loop
-search-signs-mul-next t c = let code = c .before .before .before .before .before .before .pre .1 .2 (c .before .before .before .before .before .before .args .q) in search needs
+search-signs-mul-next : (t : ℕ)
+    → search-signs-lts.Need-mul-next (claims t) (search-signs-at t) search-signs.Post search-signs-Inv-loop
+    search-signs-μ-loop
+search-signs-mul-next t c = let code =
+    c .before .before .before .before .before .before .pre .1 .codes
+    (c .before .before .before .before .before .before .args .q) in search needs
 
-search-signs-add-next : (t : ℕ) → search-signs-lts.Need-add-next (claims t) (search-signs-at t) search-signs.Post search-signs-Inv-loop search-signs-μ-loop
-search-signs-add-next t c = let code = c .before .before .before .before .before .before .pre .1 .2 (c .before .before .before .before .before .before .args .q) in search needs
+search-signs-add-next : (t : ℕ)
+    → search-signs-lts.Need-add-next (claims t) (search-signs-at t) search-signs.Post search-signs-Inv-loop
+    search-signs-μ-loop
+search-signs-add-next t c = let code =
+    c .before .before .before .before .before .before .pre .1 .codes
+    (c .before .before .before .before .before .before .args .q) in search needs
 
-search-signs-array-write-next : (t : ℕ) → search-signs-lts.Need-array-write-next (claims t) (search-signs-at t) search-signs.Post search-signs-Inv-loop search-signs-μ-loop
+search-signs-array-write-next : (t : ℕ)
+    → search-signs-lts.Need-array-write-next (claims t) (search-signs-at t) search-signs.Post
+    search-signs-Inv-loop search-signs-μ-loop
 search-signs-array-write-next t c = search needs
 
-search-signs-add-search-signs : (t : ℕ) → search-signs-lts.Need-add-search-signs (claims t) (search-signs-at t) search-signs.Post search-signs-Inv-loop search-signs-μ-loop
+search-signs-add-search-signs : (t : ℕ)
+    → search-signs-lts.Need-add-search-signs (claims t) (search-signs-at t) search-signs.Post
+    search-signs-Inv-loop search-signs-μ-loop
 search-signs-add-search-signs t c = search needs
 
-search-signs-search-signs-requires : (t : ℕ) → search-signs-lts.Need-search-signs-requires (claims t) (search-signs-at t) search-signs.Post search-signs-Inv-loop search-signs-μ-loop
+search-signs-search-signs-requires : (t : ℕ)
+    → search-signs-lts.Need-search-signs-requires (claims t) (search-signs-at t) search-signs.Post
+    search-signs-Inv-loop search-signs-μ-loop
 search-signs-search-signs-requires t c κs =
     let s = c .before .before .before .before .before .before in
     let a = s .args in
     let l = c .before .loop in
-    let inside : a .q < a .n = omega (arith, s .pre .1 .1, c .before .before .if2 .left) in
+    let inside : a .q < a .n = omega (arith, s .pre .1 .upto, c .before .before .if2 .left) in
     let long : length (a .t6) ≡ 20 = s .good .1 .1 .1 .1 .1 .0 .1 .0 .1 in
-    let fits : a .q < length (a .t6) = omega (arith, inside, long, s .pre .1 .0 .few) in
+    let fits : a .q < length (a .t6) = omega (arith, inside, long, s .pre .1 .setting .few) in
     let small : l .v < 4 = c .loop-test .taken in (
       omega arith,
-      (
-        s .pre .1 .0,
-        omega (arith, inside),
-        sign-codes (a .t6) (s .pre .1 .2) (a .q) (l .v) fits small,
-        next-table (a .n) (a .first) (a .second) (a .frame) (s .pre .1 .0) (a .t6) (s .pre .1 .2) (a .q) inside long (l .v) small (a .table) (s .pre .1 .3),
-      ),
+      record {
+        setting = s .pre .1 .setting;
+        upto = omega (arith, inside);
+        codes = sign-codes (a .t6) (s .pre .1 .codes) (a .q) (l .v) fits small;
+        solved = next-table (a .n) (a .first) (a .second) (a .frame) (s .pre .1 .setting) (a .t6)
+            (s .pre .1 .codes) (a .q)
+            inside long (l .v) small (a .table) (s .pre .1 .solved);
+      },
     )
 
-search-signs-returns-3 : (t : ℕ) → search-signs-lts.Need-returns-3 (claims t) (search-signs-at t) search-signs.Post search-signs-Inv-loop search-signs-μ-loop
+search-signs-returns-3 : (t : ℕ)
+    → search-signs-lts.Need-returns-3 (claims t) (search-signs-at t) search-signs.Post search-signs-Inv-loop
+    search-signs-μ-loop
 search-signs-returns-3 t c =
     let s = c .before .before .before .before .before .before .before .before in
     let a = s .args in
     let l = c .before .before .before .loop in
-    let inside : a .q < a .n = omega (arith, s .pre .1 .1, c .before .before .before .before .if2 .left) in
+    let inside : a .q < a .n = omega (arith, s .pre .1 .upto, c .before .before .before .before .if2 .left) in
     let long : length (a .t6) ≡ 20 = s .good .1 .1 .1 .1 .1 .0 .1 .0 .1 in
-    let fits : a .q < length (a .t6) = omega (arith, inside, long, s .pre .1 .0 .few) in
+    let fits : a .q < length (a .t6) = omega (arith, inside, long, s .pre .1 .setting .few) in
     let small : l .v < 4 = c .before .before .loop-test .taken in
-    signs-found (a .n) (a .first) (a .second) (a .frame) (s .pre .1 .0) (a .t6) (s .pre .1 .2) (a .q) inside long (l .v) small (l .inv .1) _ _ (c .if3 .taken) (c .before .search-signs .ensures)
+    signs-found (a .n) (a .first) (a .second) (a .frame) (s .pre .1 .setting) (a .t6) (s .pre .1 .codes)
+    (a .q) inside
+    long (l .v) small (l .inv .1) _ _ (c .if3 .taken) (c .before .search-signs .ensures)
 
-search-signs-add-v : (t : ℕ) → search-signs-lts.Need-add-v (claims t) (search-signs-at t) search-signs.Post search-signs-Inv-loop search-signs-μ-loop
+search-signs-add-v : (t : ℕ)
+    → search-signs-lts.Need-add-v (claims t) (search-signs-at t) search-signs.Post search-signs-Inv-loop
+    search-signs-μ-loop
 search-signs-add-v t c = search needs
 
-search-signs-loop-less : (t : ℕ) → search-signs-lts.Need-loop-less (claims t) (search-signs-at t) search-signs.Post search-signs-Inv-loop search-signs-μ-loop
+search-signs-loop-less : (t : ℕ)
+    → search-signs-lts.Need-loop-less (claims t) (search-signs-at t) search-signs.Post search-signs-Inv-loop
+    search-signs-μ-loop
 search-signs-loop-less t c = omega arith
 
-search-signs-loop-again : (t : ℕ) → search-signs-lts.Need-loop-again (claims t) (search-signs-at t) search-signs.Post search-signs-Inv-loop search-signs-μ-loop
+search-signs-loop-again : (t : ℕ)
+    → search-signs-lts.Need-loop-again (claims t) (search-signs-at t) search-signs.Post search-signs-Inv-loop
+    search-signs-μ-loop
 search-signs-loop-again t c =
     let s = c .before .before .before .before .before .before .before .before in
     let a = s .args in
     let l = c .before .before .before .loop in
-    let inside : a .q < a .n = omega (arith, s .pre .1 .1, c .before .before .before .before .if2 .left) in
+    let inside : a .q < a .n = omega (arith, s .pre .1 .upto, c .before .before .before .before .if2 .left) in
     let long : length (a .t6) ≡ 20 = s .good .1 .1 .1 .1 .1 .0 .1 .0 .1 in
-    let fits : a .q < length (a .t6) = omega (arith, inside, long, s .pre .1 .0 .few) in
-    let small : l .v < 4 = c .before .before .loop-test .taken in
-    (omega (arith, small), signs-missed (a .n) (a .first) (a .second) (a .frame) (s .pre .1 .0) (a .t6) (s .pre .1 .2) (a .q) inside long (l .v) small (l .inv .1) _ _ (c .if3 .left) (c .before .search-signs .ensures))
+    let fits : a .q < length (a .t6) = omega (arith, inside, long, s .pre .1 .setting .few) in
+    let small : l .v < 4 = c .before .before .loop-test .taken in (
+      omega (arith, small),
+      signs-missed (a .n) (a .first) (a .second) (a .frame) (s .pre .1 .setting) (a .t6) (s .pre .1 .codes)
+          (a .q)
+          inside long (l .v) small (l .inv .1) _ _ (c .if3 .left) (c .before .search-signs .ensures),
+    )
 
-search-signs-returns-4 : (t : ℕ) → search-signs-lts.Need-returns-4 (claims t) (search-signs-at t) search-signs.Post search-signs-Inv-loop search-signs-μ-loop
-search-signs-returns-4 t c = let s = c .before .before .before .before .before .before in let a = s .args in signs-end (a .n) (a .first) (a .second) (a .frame) (s .pre .1 .0) (a .t6) (s .pre .1 .2) (a .q) (c .before .loop .v) (c .loop-test .left) (c .before .loop .inv .1)
+search-signs-returns-4 : (t : ℕ)
+    → search-signs-lts.Need-returns-4 (claims t) (search-signs-at t) search-signs.Post search-signs-Inv-loop
+    search-signs-μ-loop
+search-signs-returns-4 t c = let s = c .before .before .before .before .before .before in let a = s .args in
+    signs-end (a .n) (a .first) (a .second) (a .frame) (s .pre .1 .setting) (a .t6) (s .pre .1 .codes) (a .q)
+    (c .before .loop .v) (c .loop-test .left) (c .before .loop .inv .1)
 
 pub +search-signs-spec : {M : Type 1} → statement M
 +search-signs-spec = close μ-search-signs λ t. search-signs-lts.spec (claims t)

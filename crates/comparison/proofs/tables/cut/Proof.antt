@@ -18,7 +18,9 @@ broken-requires : tie.Need-broken-requires
 broken-requires c κs = search needs
 
 returns-2 : tie.Need-returns-2
-returns-2 c = let s = c .before .before .before in λ e v h t. c .broken .ensures e v (subst (λ m. SameOn m (s .args .w) v) (sym (c .before .mask .ensures)) h) t
+returns-2 c = let s = c .before .before .before in
+    λ e v h t. c .broken .ensures e v
+    (subst (λ m. SameOn m (s .args .w) v) (sym (c .before .mask .ensures)) h) t
 
 pub cut-spec : {M : Type 1} → statement M
 cut-spec = tie.close (tie.spec returns sub-broken mask-requires broken-requires returns-2)

@@ -29,7 +29,9 @@ loop-less : tie.Need-loop-less Inv-loop μ-loop
 loop-less c = omega arith
 
 loop-again : tie.Need-loop-again Inv-loop μ-loop
-loop-again c = let l = c .before .before .before .loop in one-shut _ _ _ (l .v) (l .inv) (c .before .before .loop-test .taken) (c .before .shut-class .ensures (not-false (c .before .shut-class .result) (c .if1 .left)))
+loop-again c = let l = c .before .before .before .loop in
+    one-shut _ _ _ (l .v) (l .inv) (c .before .before .loop-test .taken)
+    (c .before .shut-class .ensures (not-false (c .before .shut-class .result) (c .if1 .left)))
 
 returns-2 : tie.Need-returns-2 Inv-loop μ-loop
 returns-2 c = λ e. all-shut _ _ _ (c .before .loop .v) (c .before .loop .inv) (c .loop-test .left)

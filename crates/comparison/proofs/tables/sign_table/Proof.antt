@@ -45,10 +45,14 @@ sign-equation-requires : tie.Need-sign-equation-requires Inv-loop μ-loop
 sign-equation-requires c κs = search needs
 
 mul-insert : tie.Need-mul-insert Inv-loop μ-loop
-mul-insert c = let few = c .before .before .before .before .before .before .before .before .before .before .before .before .before .before .before .pre .0 .few in search needs
+mul-insert c = let few =
+    c .before .before .before .before .before .before .before .before .before .before .before .before .before .before .before .pre .0 .few in
+    search needs
 
 insert-requires : tie.Need-insert-requires Inv-loop μ-loop
-insert-requires c κs = let few = c .before .before .before .before .before .before .before .before .before .before .before .before .before .before .before .pre .0 .few in search needs
+insert-requires c κs = let few =
+    c .before .before .before .before .before .before .before .before .before .before .before .before .before .before .before .pre .0 .few in
+    search needs
 
 add-i : tie.Need-add-i Inv-loop μ-loop
 add-i c = search needs
@@ -58,7 +62,8 @@ loop-less c = omega arith
 
 loop-again : tie.Need-loop-again Inv-loop μ-loop
 loop-again c =
-    let s = c .before .before .before .before .before .before .before .before .before .before .before .before in
+    let s =
+    c .before .before .before .before .before .before .before .before .before .before .before .before in
     let a = s .args in
     let l = c .before .before .before .before .before .before .before .before .before .before .loop in
     let g = getD (a .t2) (l .i) noGenerator in
@@ -68,9 +73,12 @@ loop-again c =
     ⊎-elim
     (λ k. subst (SignTable (a .n) (a .t2) (a .second) codes) (sym (k .5))
     (sign-inserted (a .n) (a .t2) (a .second) (s .pre .0 .proper)
-    (framed-proper (a .n) (generatorsOf (a .second)) (codesOf (a .frame)) (s .pre .0 .framed)) codes (s .pre .2)
+    (framed-proper (a .n) (generatorsOf (a .second)) (codesOf (a .frame)) (s .pre .0 .framed)) codes
+    (s .pre .2)
     (omega (arith, s .pre .0 .few)) (l .table) (k .3 .result) (k .4 .result) (l .inv) (k .4 .ensures) (l .i)
-    (c .before .before .before .before .before .before .before .before .before .loop-test .taken) g p h refl (c .before .before .before .before .before .before .send .ensures) (c .before .before .before .before .before .element .ensures .element)
+    (c .before .before .before .before .before .before .before .before .before .loop-test .taken) g p h refl
+    (c .before .before .before .before .before .before .send .ensures)
+    (c .before .before .before .before .before .element .ensures .element)
     (k .0 .taken) (not (Bool·beq (p .minus) (h .minus))) refl (k .3 .ensures)))
     (λ k. subst (SignTable (a .n) (a .t2) (a .second) codes) (sym (k .1)) (l .inv))
     (c .if1 .came)
