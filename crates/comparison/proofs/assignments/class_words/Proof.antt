@@ -68,7 +68,8 @@ loop-again c =
     (c .before .x-bit2 .ensures) (c .put-bit4 .ensures)
 
 returns : tie.Need-returns Inv-loop μ-loop
-returns c = let l = c .before .loop in
+returns c =
+    let l = c .before .loop in
     all-classes _ _ (l .q) (l .a) (l .b) (l .c) (l .d) (l .inv) (c .loop-test .left)
 
 pub class-words-spec : {M : Type 1} → statement M

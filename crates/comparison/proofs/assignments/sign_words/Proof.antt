@@ -30,12 +30,15 @@ loop-less : tie.Need-loop-less Inv-loop μ-loop
 loop-less c = omega arith
 
 loop-again : tie.Need-loop-again Inv-loop μ-loop
-loop-again c = let l = c .before .before .before .loop in
+loop-again c =
+    let l = c .before .before .before .loop in
     one-sign-more _ _ (l .q) (l .a) (l .b) (l .inv) (c .before .before .loop-test .taken)
     (c .before .put-bit .result) (c .put-bit2 .result) (c .before .put-bit .ensures) (c .put-bit2 .ensures)
 
 returns : tie.Need-returns Inv-loop μ-loop
-returns c = let l = c .before .loop in all-signs _ _ (l .q) (l .a) (l .b) (l .inv) (c .loop-test .left)
+returns c =
+    let l = c .before .loop in
+    all-signs _ _ (l .q) (l .a) (l .b) (l .inv) (c .loop-test .left)
 
 pub sign-words-spec : {M : Type 1} → statement M
 sign-words-spec =

@@ -76,7 +76,8 @@ loop-again c =
     (c .before .is-element .ensures .0 (not-false (c .before .is-element .result) (c .if1 .left)))
 
 returns-2 : tie.Need-returns-2 Inv-loop μ-loop
-returns-2 c = let s = c .before .before in
+returns-2 c =
+    let s = c .before .before in
     all-sent (s .args .n) (generatorsOf (s .args .t2)) (generatorsOf (s .args .second)) (s .pre .0 .proper)
     (framed-proper _ _ _ (s .pre .0 .framed)) (codesOf (s .args .t5)) (c .before .loop .j)
     (c .loop-test .left) (c .before .loop .inv)

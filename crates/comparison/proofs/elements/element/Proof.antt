@@ -46,8 +46,9 @@ array-copy-out-g : tie.Need-array-copy-out-g Inv-loop μ-loop
 array-copy-out-g c = search needs
 
 times-requires : tie.Need-times-requires Inv-loop μ-loop
-times-requires c κs = let l = c .before .before .before .before .loop in let s =
-    c .before .before .before .before .before .before .before in
+times-requires c κs =
+    let l = c .before .before .before .before .loop in
+    let s = c .before .before .before .before .before .before .before in
     next-commutes (s .args .n) (omega arith) (generatorsOf (s .args .t2))
     (framed-proper (s .args .n) (generatorsOf (s .args .t2)) (codesOf (s .args .t3)) (s .pre .1))
     (bit (c .before .before .before .before .before .send .result .x)) (l .j) (generatorOf (l .h)) (l .inv)
@@ -79,7 +80,8 @@ loop-again c =
     (c .if1 .came)
 
 returns : tie.Need-returns Inv-loop μ-loop
-returns c = let s = c .before .before .before .before in
+returns c =
+    let s = c .before .before .before .before in
     guessed (s .args .n) (omega arith) (generatorsOf (s .args .t2)) (codesOf (s .args .t3)) (s .pre .1)
     (generatorOf (s .args .p)) (generatorOf (c .before .before .send .result))
     (c .before .before .send .ensures) (c .before .loop .j) _ (c .loop-test .left) (c .before .loop .inv)

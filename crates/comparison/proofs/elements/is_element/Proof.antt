@@ -9,7 +9,8 @@ element-requires : tie.Need-element-requires
 element-requires c κs = search needs
 
 returns : tie.Need-returns
-returns c = let s = c .before .before .before .before .before .before .before in
+returns c =
+    let s = c .before .before .before .before .before .before .before in
     is-element (s .args .n) (generatorsOf (s .args .second))
     (framed-proper (s .args .n) (generatorsOf (s .args .second)) (codesOf (s .args .frame)) (s .pre .1))
     (s .args .p) (c .before .before .before .before .before .before .element .result)

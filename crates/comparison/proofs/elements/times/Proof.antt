@@ -7,7 +7,8 @@ letters-minus-requires : tie.Need-letters-minus-requires
 letters-minus-requires c κs = search needs
 
 returns : tie.Need-returns
-returns c = let a = c .before .before .before .before .before .before .before .args in
+returns c =
+    let a = c .before .before .before .before .before .before .before .args in
     generator-times (a .p) (a .g) (c .before .before .before .before .before .before .letters-minus .result)
     (c .before .before .before .before .before .before .before .pre)
     (c .before .before .before .before .before .before .letters-minus .ensures)

@@ -4,7 +4,8 @@ use Rattle.comparison.proofs.equations.add.Statement.{statement}
 use Rattle.comparison.proofs.equations.add.Tie as tie
 
 returns : tie.Need-returns
-returns c = let a = c .before .before .before .before .before .before .before .before .before .before .args in
+returns c =
+    let a = c .before .before .before .before .before .before .before .before .before .before .args in
     λ i. record {
       a = bitXor (a .e .a) (a .f .a);
       b = bitXor (a .e .b) (a .f .b);

@@ -35,7 +35,8 @@ fails-requires : tie.Need-fails-requires Inv-loop μ-loop
 fails-requires c κs = search needs
 
 returns : tie.Need-returns Inv-loop μ-loop
-returns c = let a = c .before .before .before .before .before .before .args in
+returns c =
+    let a = c .before .before .before .before .before .before .args in
     λ e. broken-found (a .table) (c .before .before .before .before .before .loop .i) (a .m) (a .w)
     (c .before .before .before .equation-at .result) (c .before .before .span .result)
     (c .before .fails .result) (c .before .before .before .equation-at .ensures)

@@ -7,7 +7,8 @@ odd-requires : tie.Need-odd-requires
 odd-requires c κs = search needs
 
 returns : tie.Need-returns
-returns c = let a = c .before .before .before .before .before .before .before .before .before .before .args in
+returns c =
+    let a = c .before .before .before .before .before .before .before .before .before .before .args in
     four-odd (a .e) (a .w) (c .before .odd .result) (c .before .odd .ensures)
 
 pub fails-spec : {M : Type 1} → statement M

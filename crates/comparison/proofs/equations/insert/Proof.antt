@@ -33,7 +33,8 @@ array-set-from-table : tie.Need-array-set-from-table Inv-loop μ-loop
 array-set-from-table c = search needs
 
 returns : tie.Need-returns Inv-loop μ-loop
-returns c = let l = c .before .before .before .before .before .before .loop in
+returns c =
+    let l = c .before .before .before .before .before .before .loop in
     insert-stored _ _ (l .table) (l .left) (l .i - 1)
     (omega (arith, l .inv .0, c .before .before .before .before .before .loop-test .taken)) (l .inv .1)
 
@@ -44,17 +45,20 @@ loop-less : tie.Need-loop-less Inv-loop μ-loop
 loop-less c = omega arith
 
 loop-again : tie.Need-loop-again Inv-loop μ-loop
-loop-again c = let l = c .before .before .before .before .before .before .before .loop in (
-  omega (arith, l .inv .0),
-  insert-added _ _ (l .table) (l .left) (l .i - 1) (c .before .before .before .equation-at .result)
-      (c .add .result) (c .before .before .before .equation-at .ensures) (c .add .ensures) (l .inv .1),
-)
+loop-again c =
+    let l = c .before .before .before .before .before .before .before .loop in (
+      omega (arith, l .inv .0),
+      insert-added _ _ (l .table) (l .left) (l .i - 1) (c .before .before .before .equation-at .result)
+          (c .add .result) (c .before .before .before .equation-at .ensures) (c .add .ensures) (l .inv .1),
+    )
 
 loop-less-2 : tie.Need-loop-less-2 Inv-loop μ-loop
 loop-less-2 c = omega arith
 
 loop-again-2 : tie.Need-loop-again-2 Inv-loop μ-loop
-loop-again-2 c = let l = c .before .before .before .loop in (omega (arith, l .inv .0), l .inv .1)
+loop-again-2 c =
+    let l = c .before .before .before .loop in
+    (omega (arith, l .inv .0), l .inv .1)
 
 returns-2 : tie.Need-returns-2 Inv-loop μ-loop
 returns-2 c = c .before .loop .inv .1 .kept

@@ -13,7 +13,8 @@ then-requires-2 : tie.Need-then-requires-2
 then-requires-2 c κs = search needs
 
 returns : tie.Need-returns
-returns c = let a = c .before .before .before .args in
+returns c =
+    let a = c .before .before .before .args in
     induced-by-calls (a .first) (a .choice) (a .second) (c .before .before .then .result .index)
     (c .before .inverse .result .index) (c .then2 .result .index)
     (c .before .before .then .ensures .0) (c .before .inverse .ensures .0) (c .then2 .ensures .0)

@@ -29,9 +29,10 @@ shared-slice-read-induced-code-3 : tie.Need-shared-slice-read-induced-code-3 Inv
 shared-slice-read-induced-code-3 c = search needs
 
 induced-code-requires : tie.Need-induced-code-requires Inv-loop μ-loop
-induced-code-requires c κs = let s =
-    c .before .before .before .before .before .before .before .before .before in let q =
-    c .before .before .before .before .loop .q in (s .pre .1 .1 .0 q, s .pre .1 .1 .1 q, s .pre .1 .1 .2 q)
+induced-code-requires c κs =
+    let s = c .before .before .before .before .before .before .before .before .before in
+    let q = c .before .before .before .before .loop .q in
+    (s .pre .1 .1 .0 q, s .pre .1 .1 .1 q, s .pre .1 .1 .2 q)
 
 slice-write-induced : tie.Need-slice-write-induced Inv-loop μ-loop
 slice-write-induced c = search needs
@@ -47,8 +48,9 @@ loop-less c = omega (
 )
 
 loop-again : tie.Need-loop-again Inv-loop μ-loop
-loop-again c = let l = c .before .before .before .before .before .loop in let more =
-    c .before .before .before .before .loop-test .taken in (
+loop-again c =
+    let l = c .before .before .before .before .before .loop in
+    let more = c .before .before .before .before .loop-test .taken in (
       length-set (l .induced) (l .q) _
           ∙ l .inv .0,
       one-filled 0 _ _ (l .q) (l .induced) (l .inv .1) (omega (arith, more, l .inv .0)) more _
@@ -59,7 +61,8 @@ same-length : tie.Need-same-length Inv-loop μ-loop
 same-length c = search needs
 
 returns : tie.Need-returns Inv-loop μ-loop
-returns c = let l = c .before .loop in
+returns c =
+    let l = c .before .loop in
     tabulate-is _ _ (l .induced) (l .inv .0)
     (all-filled 0 _ _ (l .q) (l .induced) (l .inv .1) (omega (arith, c .loop-test .left, l .inv .0)))
 

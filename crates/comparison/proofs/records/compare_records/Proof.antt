@@ -10,11 +10,13 @@ generators-requires-2 : tie.Need-generators-requires-2
 generators-requires-2 c κs = search needs
 
 inverses-requires : tie.Need-inverses-requires
-inverses-requires c κs = let s = c .before .before .before .before .before .before in
+inverses-requires c κs =
+    let s = c .before .before .before .before .before .before in
     (s .pre .0 .0, s .pre .1 .codes-long, s .pre .1 .codes-sound)
 
 least-choice-requires : tie.Need-least-choice-requires
-least-choice-requires c κs = let s = c .before .before .before .before .before .before .before in
+least-choice-requires c κs =
+    let s = c .before .before .before .before .before .before .before in
     let a = s .args in
     records-setting (a .n) (s .pre .0 .0) (a .neighbours .now) (a .codes .now) (a .neighbours2 .now)
     (a .codes2 .now) (s .pre .0 .1) (s .pre .1) (c .before .before .generators .result)
@@ -22,7 +24,8 @@ least-choice-requires c κs = let s = c .before .before .before .before .before 
     (c .before .generators2 .ensures) (c .inverses .ensures .0) (c .inverses .ensures .1)
 
 returns : tie.Need-returns
-returns c = let s = c .before .before .before .before .before .before .before .before in
+returns c =
+    let s = c .before .before .before .before .before .before .before .before in
     let a = s .args in
     records-answer (a .n) (s .pre .0 .0) (a .neighbours .now) (a .codes .now) (a .neighbours2 .now)
     (a .codes2 .now) (s .pre .0 .1) (s .pre .1) (c .before .before .before .generators .result)

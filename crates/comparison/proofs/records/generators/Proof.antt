@@ -60,7 +60,8 @@ loop-again c =
     )
 
 returns : tie.Need-returns Inv-loop μ-loop
-returns c = let l = c .before .loop in
+returns c =
+    let l = c .before .loop in
     all-filled noGenerator _ _ (l .j) (l .all) (l .inv .1) (c .loop-test .left)
 
 pub generators-spec : {M : Type 1} → statement M

@@ -48,7 +48,8 @@ loop-again c =
     )
 
 returns : tie.Need-returns Inv-loop μ-loop
-returns c = let l = c .before .loop in
+returns c =
+    let l = c .before .loop in
     (all-filled 0 _ _ (l .q) (l .all) (l .inv .2) (c .loop-test .left), l .inv .1)
 
 pub inverses-spec : {M : Type 1} → statement M

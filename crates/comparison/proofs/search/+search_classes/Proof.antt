@@ -74,14 +74,17 @@ search-classes-class-words-requires t c κs = (c .pre .1 .setting .few, c .pre .
 search-classes-cut-requires : (t : ℕ)
     → search-classes-lts.Need-cut-requires (claims t) (search-classes-at t) search-classes.Post
     search-classes-Inv-loop search-classes-μ-loop
-search-classes-cut-requires t c κs = let few = c .before .pre .1 .setting .few in let most =
-    c .before .pre .1 .upto in
+search-classes-cut-requires t c κs =
+    let few = c .before .pre .1 .setting .few in
+    let most = c .before .pre .1 .upto in
     search needs
 
 search-classes-returns : (t : ℕ)
     → search-classes-lts.Need-returns (claims t) (search-classes-at t) search-classes.Post
     search-classes-Inv-loop search-classes-μ-loop
-search-classes-returns t c = let s = c .before .before .before in let a = s .args in
+search-classes-returns t c =
+    let s = c .before .before .before in
+    let a = s .args in
     classes-cut (a .n) (a .first) (a .second) (s .pre .1 .setting .few) (a .choice) (s .pre .1 .codes)
     (a .table)
     (s .pre .1 .solved) (a .q) (c .before .before .class-words .result)
@@ -91,13 +94,15 @@ search-classes-returns t c = let s = c .before .before .before in let a = s .arg
 search-classes-sign-table-requires : (t : ℕ)
     → search-classes-lts.Need-sign-table-requires (claims t) (search-classes-at t) search-classes.Post
     search-classes-Inv-loop search-classes-μ-loop
-search-classes-sign-table-requires t c κs = let s = c .before .before .before .before in
+search-classes-sign-table-requires t c κs =
+    let s = c .before .before .before .before in
     (s .pre .1 .setting, s .pre .1 .codes, s .pre .1 .bare-codes)
 
 search-classes-search-signs-requires : (t : ℕ)
     → search-classes-lts.Need-search-signs-requires (claims t) (search-classes-at t) search-classes.Post
     search-classes-Inv-loop search-classes-μ-loop
-search-classes-search-signs-requires t c κs = let s = c .before .before .before .before .before in
+search-classes-search-signs-requires t c κs =
+    let s = c .before .before .before .before .before in
     record {
       setting = s .pre .1 .setting;
       upto = zero-le;
@@ -109,7 +114,9 @@ search-classes-search-signs-requires t c κs = let s = c .before .before .before
 search-classes-returns-2 : (t : ℕ)
     → search-classes-lts.Need-returns-2 (claims t) (search-classes-at t) search-classes.Post
     search-classes-Inv-loop search-classes-μ-loop
-search-classes-returns-2 t c = let s = c .before .before .before .before .before .before in let a = s .args in
+search-classes-returns-2 t c =
+    let s = c .before .before .before .before .before .before in
+    let a = s .args in
     classes-leaf (a .n) (a .first) (a .second) (s .pre .1 .setting .few) (a .choice) (a .q)
     (c .before .before .if2 .taken) (c .search-signs .result .found) (c .search-signs .result .choice)
     (c .search-signs .ensures)
@@ -117,7 +124,9 @@ search-classes-returns-2 t c = let s = c .before .before .before .before .before
 search-classes-loop-holds : (t : ℕ)
     → search-classes-lts.Need-loop-holds (claims t) (search-classes-at t) search-classes.Post
     search-classes-Inv-loop search-classes-μ-loop
-search-classes-loop-holds t c = let s = c .before .before .before .before in let a = s .args in
+search-classes-loop-holds t c =
+    let s = c .before .before .before .before in
+    let a = s .args in
     (zero-le, classes-begin (a .n) (a .first) (a .second) (s .pre .1 .setting .few) (a .choice) (a .q))
 
 search-classes-mul-next : (t : ℕ)
@@ -201,7 +210,9 @@ search-classes-loop-again t c =
 search-classes-returns-4 : (t : ℕ)
     → search-classes-lts.Need-returns-4 (claims t) (search-classes-at t) search-classes.Post
     search-classes-Inv-loop search-classes-μ-loop
-search-classes-returns-4 t c = let s = c .before .before .before .before .before .before in let a = s .args in
+search-classes-returns-4 t c =
+    let s = c .before .before .before .before .before .before in
+    let a = s .args in
     classes-end (a .n) (a .first) (a .second) (s .pre .1 .setting .few) (a .choice) (s .pre .1 .codes) (a .q)
     (c .before .loop .v) (c .loop-test .left) (c .before .loop .inv .1)
 

@@ -68,14 +68,17 @@ search-signs-sign-words-requires t c κs = c .pre .1 .setting .few
 search-signs-cut-requires : (t : ℕ)
     → search-signs-lts.Need-cut-requires (claims t) (search-signs-at t) search-signs.Post
     search-signs-Inv-loop search-signs-μ-loop
-search-signs-cut-requires t c κs = let few = c .before .pre .1 .setting .few in let most =
-    c .before .pre .1 .upto in
+search-signs-cut-requires t c κs =
+    let few = c .before .pre .1 .setting .few in
+    let most = c .before .pre .1 .upto in
     search needs
 
 search-signs-returns : (t : ℕ)
     → search-signs-lts.Need-returns (claims t) (search-signs-at t) search-signs.Post search-signs-Inv-loop
     search-signs-μ-loop
-search-signs-returns t c = let s = c .before .before .before in let a = s .args in
+search-signs-returns t c =
+    let s = c .before .before .before in
+    let a = s .args in
     signs-cut (a .n) (a .first) (a .second) (a .frame) (s .pre .1 .setting) (a .t6) (s .pre .1 .codes)
     (a .table)
     (s .pre .1 .solved) (a .q) (c .before .before .sign-words .result)
@@ -85,24 +88,28 @@ search-signs-returns t c = let s = c .before .before .before in let a = s .args 
 search-signs-carries-requires : (t : ℕ)
     → search-signs-lts.Need-carries-requires (claims t) (search-signs-at t) search-signs.Post
     search-signs-Inv-loop search-signs-μ-loop
-search-signs-carries-requires t c κs = let s = c .before .before .before .before in
+search-signs-carries-requires t c κs =
+    let s = c .before .before .before .before in
     (s .pre .1 .setting, s .pre .1 .codes)
 
 search-signs-returns-2 : (t : ℕ)
     → search-signs-lts.Need-returns-2 (claims t) (search-signs-at t) search-signs.Post search-signs-Inv-loop
     search-signs-μ-loop
-search-signs-returns-2 t c = let s = c .before .before .before .before .before in let a = s .args in
+search-signs-returns-2 t c =
+    let s = c .before .before .before .before .before in
+    let a = s .args in
     signs-leaf (a .n) (a .first) (a .second) (a .frame) (s .pre .1 .setting) (a .t6) (s .pre .1 .codes) (a .q)
     (c .before .if2 .taken) (c .carries .result) (c .carries .ensures)
 
 search-signs-loop-holds : (t : ℕ)
     → search-signs-lts.Need-loop-holds (claims t) (search-signs-at t) search-signs.Post search-signs-Inv-loop
     search-signs-μ-loop
-search-signs-loop-holds t c = let a = c .before .before .before .before .args in (
-  zero-le,
-  signs-begin (a .n) (a .first) (a .second) (a .frame)
-      (c .before .before .before .before .pre .1 .setting) (a .t6) (a .q),
-)
+search-signs-loop-holds t c =
+    let a = c .before .before .before .before .args in (
+      zero-le,
+      signs-begin (a .n) (a .first) (a .second) (a .frame)
+          (c .before .before .before .before .pre .1 .setting) (a .t6) (a .q),
+    )
 
 search-signs-array-read-next : (t : ℕ)
     → search-signs-lts.Need-array-read-next (claims t) (search-signs-at t) search-signs.Post
@@ -112,15 +119,15 @@ search-signs-array-read-next t c = search needs
 search-signs-mul-next : (t : ℕ)
     → search-signs-lts.Need-mul-next (claims t) (search-signs-at t) search-signs.Post search-signs-Inv-loop
     search-signs-μ-loop
-search-signs-mul-next t c = let code =
-    c .before .before .before .before .before .before .pre .1 .codes
+search-signs-mul-next t c =
+    let code = c .before .before .before .before .before .before .pre .1 .codes
     (c .before .before .before .before .before .before .args .q) in search needs
 
 search-signs-add-next : (t : ℕ)
     → search-signs-lts.Need-add-next (claims t) (search-signs-at t) search-signs.Post search-signs-Inv-loop
     search-signs-μ-loop
-search-signs-add-next t c = let code =
-    c .before .before .before .before .before .before .pre .1 .codes
+search-signs-add-next t c =
+    let code = c .before .before .before .before .before .before .pre .1 .codes
     (c .before .before .before .before .before .before .args .q) in search needs
 
 search-signs-array-write-next : (t : ℕ)
@@ -200,7 +207,9 @@ search-signs-loop-again t c =
 search-signs-returns-4 : (t : ℕ)
     → search-signs-lts.Need-returns-4 (claims t) (search-signs-at t) search-signs.Post search-signs-Inv-loop
     search-signs-μ-loop
-search-signs-returns-4 t c = let s = c .before .before .before .before .before .before in let a = s .args in
+search-signs-returns-4 t c =
+    let s = c .before .before .before .before .before .before in
+    let a = s .args in
     signs-end (a .n) (a .first) (a .second) (a .frame) (s .pre .1 .setting) (a .t6) (s .pre .1 .codes) (a .q)
     (c .before .loop .v) (c .loop-test .left) (c .before .loop .inv .1)
 

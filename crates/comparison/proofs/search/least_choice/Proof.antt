@@ -11,17 +11,21 @@ use Rattle.comparison.proofs.search.least_choice.Statement.{statement}
 use Rattle.comparison.proofs.search.least_choice.Tie as tie
 
 class-table-requires : tie.Need-class-table-requires
-class-table-requires c κs = let s = c in let a = s .args in (
-  s .pre .few,
-  s .pre .proper,
-  framed-proper (a .n) (generatorsOf (a .second)) (codesOf (a .frame)) (s .pre .framed),
-)
+class-table-requires c κs =
+    let s = c in
+    let a = s .args in (
+      s .pre .few,
+      s .pre .proper,
+      framed-proper (a .n) (generatorsOf (a .second)) (codesOf (a .frame)) (s .pre .framed),
+    )
 
 any-shut-requires : tie.Need-any-shut-requires
 any-shut-requires c κs = c .before .pre .few
 
 returns : tie.Need-returns
-returns c = let s = c .before .before .before in let a = s .args in
+returns c =
+    let s = c .before .before .before in
+    let a = s .args in
     least-answer (a .n) (generatorsOf (a .first)) (generatorsOf (a .second)) (s .pre .proper .within)
     (framed-proper (a .n) (generatorsOf (a .second)) (codesOf (a .frame)) (s .pre .framed) .within) false
     (replicate 20 0) (record {
@@ -41,7 +45,9 @@ search-classes-requires c κs =
     }
 
 returns-2 : tie.Need-returns-2
-returns-2 c = let s = c .before .before .before .before in let a = s .args in
+returns-2 c =
+    let s = c .before .before .before .before in
+    let a = s .args in
     least-answer (a .n) (generatorsOf (a .first)) (generatorsOf (a .second)) (s .pre .proper .within)
     (framed-proper (a .n) (generatorsOf (a .second)) (codesOf (a .frame)) (s .pre .framed) .within)
     (c .search-classes .result .found) (c .search-classes .result .choice)

@@ -42,13 +42,15 @@ loop-less : tie.Need-loop-less Inv-loop μ-loop
 loop-less c = omega arith
 
 loop-again : tie.Need-loop-again Inv-loop μ-loop
-loop-again c = let l = c .before .before .before .before .loop in
+loop-again c =
+    let l = c .before .before .before .before .loop in
     row-more _ _ _ _ (l .table) (c .before .class-equation .result) (c .insert .result) (l .inv)
     (c .insert .ensures) (l .j) (c .before .before .before .loop-test .taken)
     (c .before .class-equation .ensures)
 
 returns : tie.Need-returns Inv-loop μ-loop
-returns c = let s = c .before .before .before in
+returns c =
+    let s = c .before .before .before in
     row-end (s .args .n) (s .args .t3) (s .args .t4) (s .pre .0 .1) (s .pre .0 .2) (s .args .table)
     (c .before .loop .table) (s .args .i) (s .pre .0 .3) (s .pre .1) (c .before .loop .inv)
 

@@ -18,7 +18,8 @@ broken-requires : tie.Need-broken-requires
 broken-requires c κs = search needs
 
 returns-2 : tie.Need-returns-2
-returns-2 c = let s = c .before .before .before in
+returns-2 c =
+    let s = c .before .before .before in
     λ e v h t. c .broken .ensures e v
     (subst (λ m. SameOn m (s .args .w) v) (sym (c .before .mask .ensures)) h) t
 

@@ -29,7 +29,8 @@ loop-less : tie.Need-loop-less Inv-loop μ-loop
 loop-less c = omega arith
 
 loop-again : tie.Need-loop-again Inv-loop μ-loop
-loop-again c = let l = c .before .before .before .loop in
+loop-again c =
+    let l = c .before .before .before .loop in
     one-shut _ _ _ (l .v) (l .inv) (c .before .before .loop-test .taken)
     (c .before .shut-class .ensures (not-false (c .before .shut-class .result) (c .if1 .left)))
 

@@ -18,17 +18,19 @@ single-requires : tie.Need-single-requires
 single-requires c κs = search needs
 
 class-words-requires : tie.Need-class-words-requires
-class-words-requires c κs = let s = c .before in (
-  omega arith,
-  class-codes (replicate 20 0) (zeros-codes 20) (s .args .q) (s .args .v) (omega arith)
-      (omega arith),
-)
+class-words-requires c κs =
+    let s = c .before in (
+      omega arith,
+      class-codes (replicate 20 0) (zeros-codes 20) (s .args .q) (s .args .v) (omega arith)
+          (omega arith),
+    )
 
 broken-requires : tie.Need-broken-requires
 broken-requires c κs = search needs
 
 returns : tie.Need-returns
-returns c = let s = c .before .before .before in
+returns c =
+    let s = c .before .before .before in
     λ e. class-shut (s .args .n) (s .args .table) (s .args .q) (s .args .v)
     (withClass (replicate 20 0) (s .args .q) (s .args .v))
     (class-here (replicate 20 0) (zeros-codes 20) (s .args .q) (s .args .v) (omega arith) (omega arith))

@@ -45,13 +45,15 @@ sign-equation-requires : tie.Need-sign-equation-requires Inv-loop μ-loop
 sign-equation-requires c κs = search needs
 
 mul-insert : tie.Need-mul-insert Inv-loop μ-loop
-mul-insert c = let few =
-    c .before .before .before .before .before .before .before .before .before .before .before .before .before .before .before .pre .0 .few in
+mul-insert c =
+    let test = c .before .before .before .before .before .before .before in
+    let few = test .before .before .before .before .before .before .before .before .pre .0 .few in
     search needs
 
 insert-requires : tie.Need-insert-requires Inv-loop μ-loop
-insert-requires c κs = let few =
-    c .before .before .before .before .before .before .before .before .before .before .before .before .before .before .before .pre .0 .few in
+insert-requires c κs =
+    let test = c .before .before .before .before .before .before .before in
+    let few = test .before .before .before .before .before .before .before .before .pre .0 .few in
     search needs
 
 add-i : tie.Need-add-i Inv-loop μ-loop
