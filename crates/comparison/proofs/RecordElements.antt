@@ -1,0 +1,244 @@
+-- The one product of a record's generators that can be a given row: its word is read off the row's x bits
+-- once the
+-- record's codes are undone.
+-- Assumes nothing.
+use mathlib.Core.Bool.{_&&_, Bool, Bool·beq, false, not, true}
+use mathlib.Core.Logic.{_↔_}
+use mathlib.Core.Path.{ap, ap₂, refl, subst, sym, _∙_, _≡_}
+use Prim.Native.Nat.{_+_, _<_, zero-le, ℕ, _≤_}
+use native.Mathlib.Nat.{lt-of-lt-of-le, lt-trans, not-suc-le-zero}
+use native.Mathlib.Numerals.{add-one}
+use native.Mathlib.Omega.{arith}
+use lib.Bits.{bitXor}
+use lib.Dec.{eqb}
+use borrow.Author.Count.{below-more}
+use borrow.Author.Tests.{eq-eqb, eqb-true}
+use Rattle.clifford.proofs.VectorLaws.{act-inverse}
+use Rattle.clifford.specs.Clifford.{Clifford, inverse}
+use Rattle.clifford.specs.Vectors.{act}
+use Rattle.graph.proofs.GraphGroups.{element-x}
+use Rattle.graph.specs.Graph.{graphGenerator}
+use Rattle.pauli.proofs.PauliLaws.{mul-identity}
+use Rattle.pauli.proofs.WordRows.{signed-mul}
+use Rattle.pauli.specs.Pauli.{
+  Pauli,
+  anticommute,
+  identity,
+  imaginary,
+  i⁰,
+  minus,
+  mul,
+  row,
+  signBit,
+  signedRow,
+}
+use Rattle.pauli.specs.Rows.{generatorOf}
+use Rattle.pauli.specs.declared.Generator.{Generator}
+use Rattle.record.proofs.Maximality.{inclusion-same}
+use Rattle.record.proofs.ReducedRecords.{record-proper}
+use Rattle.record.specs.Records.{recordRow}
+use Rattle.stabilizer.proofs.Carried.{act-product, carries-same}
+use Rattle.stabilizer.proofs.GroupLaws.{in-row}
+use Rattle.stabilizer.proofs.Independence.{act-proper}
+use Rattle.stabilizer.proofs.Products.{anticommute-product}
+use Rattle.stabilizer.proofs.Within.{act-wide, anticommute-wide, element-within, mul-wide, product-within}
+use Rattle.stabilizer.specs.Groups.{InGroup, Proper, Trivial, Within, chosen, product}
+use Rattle.words.proofs.BitLaws.{bit-ext∞}
+use Rattle.words.proofs.Sums.{fold-ext}
+use Rattle.words.specs.Bits.{Word, fold, _⊕_}
+use Rattle.comparison.proofs.Flags.{beq-refl, beq-true, both-true, unequal-bits}
+use Rattle.comparison.proofs.Least.{act-agree}
+use Rattle.comparison.proofs.Members.{carries-is}
+use Rattle.comparison.proofs.SignEquations.{minus-injective}
+use Rattle.comparison.specs.Choices.{carries}
+use Rattle.comparison.specs.Setting.{Framed, Guessed}
+
+same-products : (n : ℕ) (w : Word) (rows others : ℕ → Pauli) → ((j : ℕ) → j < n → rows j ≡ others j)
+    → product n n w rows ≡ product n n w others
+same-products n w rows others h = fold-ext identity (mul n) n (λ j l. ap (chosen (w j)) (h j l))
+
+-- rows that agree with those of a list
+pub proper-rows : (n : ℕ) (rows others : ℕ → Pauli) → ((j : ℕ) → j < n → rows j ≡ others j) → Proper n others
+    → Proper n rows
+proper-rows n rows others h P =
+    record {
+      commuting = record {
+        signed = λ j l. ap (λ p. imaginary (p .phase)) (h j l) ∙ P .commuting .signed j l;
+        commute = λ i j k l. ap₂ (anticommute n) (h i k) (h j l) ∙ P .commuting .commute i j k l;
+      };
+      independent = λ w t. P .independent w
+          (subst (Trivial n) (same-products n w rows others h) t);
+      within = λ j l. subst (Within n) (sym (h j l)) (P .within j l);
+    }
+
+module _ (n : ℕ) (rows : ℕ → Pauli) (frame : ℕ → Clifford) (F : Framed n rows frame) where
+  pub framed-proper : Proper n rows
+  framed-proper =
+      proper-rows n rows (recordRow n (F .graph) (F .codes)) (F .generators)
+      (record-proper n (record { graph = F .graph; codes = F .codes }) (F .simple))
+
+  pub element-word : (p : Pauli) → InGroup n n rows p → p ≡ product n n (λ q. (act n frame p) .x q) rows
+  element-word p a = a .1 ∙ fold-ext identity (mul n) n (λ j l. ap (λ b. chosen b (rows j)) (sym (word j l)))
+    where
+      plain : Pauli
+      plain = product n n (a .0) (graphGenerator (F .graph))
+
+      sent : p ≡ act n (F .codes) plain
+      sent =
+          a .1 ∙ same-products n (a .0) rows (recordRow n (F .graph) (F .codes)) (F .generators)
+          ∙ sym (act-product n n (graphGenerator (F .graph)) (F .codes) (a .0))
+
+      within : Within n p
+      within = element-within n n rows (framed-proper .within) a
+
+      undone : act n frame p ≡ plain
+      undone =
+          act-agree n rows rows (framed-proper .within) (framed-proper .within) frame
+          (λ q. inverse (F .codes q)) (F .undoes)
+          p within
+          ∙ ap (act n (λ q. inverse (F .codes q))) sent ∙ act-inverse n (F .codes) plain
+
+      word : (j : ℕ) → j < n → (act n frame p) .x j ≡ a .0 j
+      word j l = ap (λ r. r .x j) undone ∙ element-x n (F .graph) (F .simple) (a .0) j l
+
+-- ---- the code's products
+pub generator-times : (p g : Generator) (s : Bool) → anticommute 64 (generatorOf p) (generatorOf g) ≡ false
+    → s ≡ signBit ((mul 64 (row i⁰ (p .z) (p .x)) (row i⁰ (g .z) (g .x))) .phase)
+    → signedRow (not (Bool·beq (not (Bool·beq (p .minus) (g .minus))) s)) (bitXor (p .z) (g .z))
+    (bitXor (p .x) (g .x))
+    ≡ mul 64 (generatorOf p) (generatorOf g)
+generator-times p g s e h =
+    ap (λ b. signedRow b (bitXor (p .z) (g .z)) (bitXor (p .x) (g .x)))
+    (unequal-bits (not (Bool·beq (p .minus) (g .minus))) s ∙ ap₂ _⊕_ (unequal-bits (p .minus) (g .minus)) h)
+    ∙ sym (signed-mul 64 (p .z) (p .x) (g .z) (g .x) (p .minus) (g .minus) e)
+
+-- the state of the product: the generators below i are looked at
+pub record Multiplied (n : ℕ) (rows : ℕ → Pauli) (w : Word) (i : ℕ) (p : Pauli) : Type 0 where
+  pub upto : i ≤ n
+  pub is : p ≡ product n i w rows
+
+pub none-multiplied : (n : ℕ) (rows : ℕ → Pauli) (w : Word) (p : Pauli) → p ≡ identity
+    → Multiplied n rows w 0 p
+unfolding fold
+none-multiplied n rows w p e = record { upto = zero-le; is = e }
+
+module _ (n : ℕ) (l : n ≤ 64) (rows : ℕ → Pauli) (P : Proper n rows) (w : Word) (i : ℕ) (p : Pauli)
+    (M : Multiplied n rows w i p) (more : i < n) where
+  prefix-within : Within n p
+  prefix-within = subst (Within n) (sym (M .is))
+      (product-within n i w rows (λ j k. P .within j (lt-trans k more)))
+
+  pub next-commutes : anticommute 64 p (rows i) ≡ false
+  next-commutes =
+      anticommute-wide n 64 l prefix-within (P .within i more)
+      ∙ ap (λ r. anticommute n r (rows i)) (M .is)
+      ∙ anticommute-product n i w rows (rows i) (λ j k. P .commuting .commute j i (lt-trans k more) more)
+
+  pub multiplied-on : (r : Pauli) → w i ≡ true → r ≡ mul 64 p (rows i) → Multiplied n rows w (i + 1) r
+  unfolding fold
+  multiplied-on r t e =
+      record {
+        upto = rw add-one more;
+        is = rw add-one (e ∙ mul-wide n 64 l prefix-within (P .within i more)
+            ∙ ap₂ (mul n) (M .is) (ap (λ b. chosen b (rows i)) (sym t)));
+      }
+
+  pub multiplied-off : w i ≡ false → Multiplied n rows w (i + 1) p
+  unfolding fold
+  multiplied-off t =
+      record {
+        upto = rw add-one more;
+        is = rw add-one (M .is ∙ sym (mul-identity n _)
+            ∙ ap (λ b. mul n (product n i w rows) (chosen b (rows i))) (sym t));
+      }
+
+-- ---- the product at the end
+pub guessed : (n : ℕ) (l : n ≤ 64) (rows : ℕ → Pauli) (frame : ℕ
+    → Clifford) (F : Framed n rows frame) (p s : Pauli)
+    → s ≡ act 64 frame p → (i : ℕ) (h : Pauli) → n ≤ i
+    → Multiplied n rows (s .x) i h → Guessed n rows p h
+guessed n l rows frame F p s e i h k M =
+    record {
+      element = (s .x, whole);
+      right = λ a. whole ∙ ap (λ w. product n n w rows) (ap (λ r. r .x) (e
+          ∙ act-wide n 64 l (element-within n n rows (framed-proper n rows frame F .within) a) frame))
+          ∙ sym (element-word n rows frame F p a);
+    }
+  where
+    whole : h ≡ product n n (s .x) rows
+    whole = subst (λ m. h ≡ product n m (s .x) rows) (meet (M .upto) k) (M .is)
+      where
+        meet : {a b : ℕ} → a ≤ b → b ≤ a → a ≡ b
+        meet u v = omega (arith, u, v)
+
+-- ---- whether a row is an element
+pub is-element : (n : ℕ) (rows : ℕ → Pauli) → Proper n rows → (p h : Generator)
+    → Guessed n rows (generatorOf p) (generatorOf h)
+    → (((eqb (h .z) (p .z) && eqb (h .x) (p .x)) && Bool·beq (h .minus) (p .minus)) ≡ true)
+    ↔ InGroup n n rows (generatorOf p)
+is-element n rows P p h G = (
+  (λ e. subst (InGroup n n rows)
+      (λ i. signedRow (beq-true (h .minus) (p .minus) (parts e .1) i)
+      (eqb-true (h .z) (p .z) (parts e .0 .0) i)
+      (eqb-true (h .x) (p .x) (parts e .0 .1) i)) (G .element)),
+  (λ a. let same = G .right a in
+      ap₂ _&&_ (ap₂ _&&_ (eq-eqb (h .z) (p .z) (bit-ext∞ _ _ (λ q. ap (λ r. r .z q) same)))
+      (eq-eqb (h .x) (p .x) (bit-ext∞ _ _ (λ q. ap (λ r. r .x q) same))))
+      (ap (λ b. Bool·beq (h .minus) b) (sym (minus-injective (h .minus) (p .minus) (ap (λ r. r .phase) same)))
+      ∙ beq-refl (h .minus))),
+)
+  where
+    parts : ((eqb (h .z) (p .z) && eqb (h .x) (p .x)) && Bool·beq (h .minus) (p .minus)) ≡ true
+        → ((eqb (h .z) (p .z) ≡ true) × (eqb (h .x) (p .x) ≡ true)) × (Bool·beq (h .minus) (p .minus) ≡ true)
+    parts e =
+        let s = both-true (eqb (h .z) (p .z) && eqb (h .x) (p .x)) (Bool·beq (h .minus) (p .minus)) e in
+        (both-true (eqb (h .z) (p .z)) (eqb (h .x) (p .x)) (s .0), s .1)
+
+-- ---- a choice works exactly if it sends the generators into the other group
+pub carried-all : (n : ℕ) (rows others : ℕ → Pauli) → Proper n rows → Proper n others → (c : ℕ → Clifford)
+    → ((j : ℕ) → j < n → InGroup n n others (act n c (rows j))) → carries n c rows others ≡ true
+carried-all n rows others P P′ c h =
+    carries-is n c rows others (P .within) (P′ .within) .1
+    (carries-same n c rows others .1
+    (inclusion-same n (λ j. act n c (rows j)) others (act-proper n c rows P) P′ h))
+
+pub carried-not : (n : ℕ) (rows others : ℕ → Pauli) → Proper n rows → Proper n others → (c : ℕ → Clifford)
+    → (j : ℕ) → j < n → (InGroup n n others (act n c (rows j)) → ⊥) → carries n c rows others ≡ false
+carried-not n rows others P P′ c j l h = go (carries n c rows others) refl
+  where
+    go : (b : Bool) → carries n c rows others ≡ b → b ≡ false
+    go true e = absurd (h
+        (carries-is n c rows others (P .within) (P′ .within) .0 e .into (rows j) (in-row n n rows j l)))
+    go false e = refl
+
+-- the code's loop over the generators: those below j are sent into the group
+pub record SentInto (n : ℕ) (rows others : ℕ → Pauli) (c : ℕ → Clifford) (j : ℕ) : Type 0 where
+  pub upto : j ≤ n
+  pub into : (i : ℕ) → i < j → InGroup n n others (act n c (rows i))
+
+pub none-sent : (n : ℕ) (rows others : ℕ → Pauli) (c : ℕ → Clifford) → SentInto n rows others c 0
+none-sent n rows others c = record { upto = zero-le; into = λ i l. absurd (not-suc-le-zero l) }
+
+module _ (n : ℕ) (l : n ≤ 64) (rows others : ℕ → Pauli) (P : Proper n rows) (P′ : Proper n others) (c : ℕ
+    → Clifford)
+    (j : ℕ) (more : j < n) (p : Pauli) (sent : p ≡ act 64 c (rows j)) where
+  sent-wide : p ≡ act n c (rows j)
+  sent-wide = sent ∙ act-wide n 64 l (P .within j more) c
+
+  pub one-sent : SentInto n rows others c j → InGroup n n others p → SentInto n rows others c (j + 1)
+  one-sent S a =
+      record {
+        upto = rw add-one more;
+        into =
+            below-more _ _ (S .into) (subst (InGroup n n others) sent-wide a);
+      }
+
+  pub one-not-sent : (InGroup n n others p → ⊥) → false ≡ carries n c rows others
+  one-not-sent h =
+      sym (carried-not n rows others P P′ c j more (λ a. h (subst (InGroup n n others) (sym sent-wide) a)))
+
+pub all-sent : (n : ℕ) (rows others : ℕ → Pauli) → Proper n rows → Proper n others
+    → (c : ℕ → Clifford) (j : ℕ) → n ≤ j
+    → SentInto n rows others c j → true ≡ carries n c rows others
+all-sent n rows others P P′ c j l S =
+    sym (carried-all n rows others P P′ c (λ i k. S .into i (lt-of-lt-of-le k l)))

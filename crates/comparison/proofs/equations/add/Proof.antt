@@ -1,0 +1,18 @@
+use lib.Bits.{bitXor}
+use Rattle.comparison.proofs.Flags.{unequal-bits}
+use Rattle.comparison.proofs.equations.add.Statement.{statement}
+use Rattle.comparison.proofs.equations.add.Tie as tie
+
+returns : tie.Need-returns
+returns c =
+    let a = c .before .before .before .before .before .before .before .before .before .before .args in
+    λ i. record {
+      a = bitXor (a .e .a) (a .f .a);
+      b = bitXor (a .e .b) (a .f .b);
+      c = bitXor (a .e .c) (a .f .c);
+      d = bitXor (a .e .d) (a .f .d);
+      sum = unequal-bits (a .e .sum) (a .f .sum) i;
+    }
+
+pub add-spec : {M : Type 1} → statement M
+add-spec = tie.close (tie.spec returns)

@@ -1,0 +1,55 @@
+-- The comparison of two lists: the codes that a choice induces between the reduced graphs, and the lines.
+-- Assumes nothing.
+use mathlib.Core.Bool.{Bool, not, _||_}
+use mathlib.Core.List.{_++_, List, [], _∷_}
+use Prim.Native.Nat.{ℕ}
+use lib.Dec.{eqb, ltb}
+use Rattle.buffers.specs.Refusals.{Line, badCount, line, otherThan}
+use Rattle.clifford.specs.Clifford.{Clifford, codeOf, inverse, then}
+use Rattle.clifford.specs.Vectors.{codesOf}
+use Rattle.pauli.specs.Pauli.{Pauli}
+use Rattle.record.specs.Reduced.{reducedCode}
+use Rattle.stabilizer.specs.Groups.{chosen}
+use Rattle.stabilizer.specs.Lists.{
+  GeneratorList,
+  clashing,
+  dependent,
+  listLengths,
+  listSigns,
+  listStray,
+  rows,
+}
+use Rattle.words.specs.Search.{first}
+use Rattle.comparison.specs.Choices.{noChoice}
+
+-- "at each qubit the first reduced record's code, then the choice's, then the inverse of the second's"
+abbrev pub induced : ℕ → (ℕ → Pauli) → (ℕ → Pauli) → (ℕ → Clifford) → ℕ → Clifford
+induced n rows others c q = then (then (reducedCode n rows q) (c q)) (inverse (reducedCode n others q))
+
+-- the same of buffers of codes
+abbrev pub inducedCode : List ℕ → List ℕ → List ℕ → ℕ → ℕ
+inducedCode first choice second q =
+    codeOf (then (then (codesOf first q) (codesOf choice q)) (inverse (codesOf second q)))
+
+-- ---- lines; "With two lists, of the numbers found in either the first in checking order is returned"
+-- 2: "n is 0 or above 64, or the two lists' n differ"
+abbrev pub pairCount : GeneratorList → GeneratorList → Bool
+pairCount l m = badCount (l .n) || (badCount (m .n) || not (eqb (l .n) (m .n)))
+
+-- 4: a list's buffer, the choice's or the complementation list's; "The list buffer is 96 bytes"
+abbrev pub pairLengths : GeneratorList → GeneratorList → List ℕ → List ℕ → Bool
+pairLengths l m chosen list = listLengths l
+    || (listLengths m || (otherThan (l .n) chosen || otherThan 96 list))
+
+-- 2 to 10
+abbrev pub pairLines : GeneratorList → GeneratorList → List ℕ → List ℕ → List Line
+pairLines l m chosen list =
+    line 2 (pairCount l m) ∷ line 3 (ltb 20 (l .n)) ∷ line 4 (pairLengths l m chosen list)
+    ∷ line 5 (listStray l || listStray m) ∷ line 6 (listSigns l || listSigns m)
+    ∷ line 9 (clashing (l .n) (rows l) || clashing (m .n) (rows m))
+    ∷ line 10 (dependent (l .n) (rows l) || dependent (m .n) (rows m)) ∷ []
+
+-- the lines of a comparison in checking order
+abbrev pub compareLines : GeneratorList → GeneratorList → List ℕ → List ℕ → List Line
+compareLines l m chosen list =
+    pairLines l m chosen list ++ (line 13 (noChoice (l .n) (rows l) (rows m)) ∷ [])

@@ -1,0 +1,5 @@
+pub mod Choices
+pub mod Compared
+pub mod Equations
+pub mod Setting
+pub mod Searches

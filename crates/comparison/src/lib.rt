@@ -1,0 +1,8 @@
+// The comparison of two states: the least choice of codes that carries the one group onto the other.
+mod assignments;
+mod elements;
+mod equations;
+mod induced;
+mod records;
+mod search;
+mod tables;
