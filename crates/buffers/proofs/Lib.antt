@@ -2,3 +2,4 @@ pub mod Tabulate
 pub mod Lines
 pub mod Reaching
 pub mod Filling
+pub mod CopiedLists

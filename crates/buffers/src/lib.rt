@@ -1,4 +1,9 @@
 // The tests of lent buffers that several lines of the refusals share.
+mod copying;
+
+pub use copying::copy_bytes;
+pub use copying::copy_list;
+pub use copying::copy_words;
 use words::stray;
 ghost use mathlib.Core.Path.{_≡_};
 ghost use Prim.Native.Nat.{_^_, _≤_};
