@@ -28,7 +28,8 @@ record-refusal-requires c κs = search needs
 
 returns : tie.Need-returns
 returns c =
-    let E = c .before in let O = E .before in
+    let E = c .before in
+    let O = E .before in
     let a = O .before .before .before .before .before .before .before .before .args in
     let l : LentRecord = record { n = a .n; neighbours = a .neighbours .now; codes = a .codes .now } in
     let o = ap₂ _||_ (O .before .before .other-than .ensures)
@@ -38,7 +39,8 @@ returns c =
 
 image-answer-requires : tie.Need-image-answer-requires
 image-answer-requires c κs =
-    let E = c .before in let O = E .before in
+    let E = c .before in
+    let O = E .before in
     let a = O .before .before .before .before .before .before .before .before .args in
     let l : LentRecord = record { n = a .n; neighbours = a .neighbours .now; codes = a .codes .now } in
     let o = ap₂ _||_ (O .before .before .other-than .ensures)
@@ -84,7 +86,8 @@ copy-bytes-requires c κs =
 
 copy-list-requires : tie.Need-copy-list-requires
 copy-list-requires c κs =
-    let P = c .before .before .before .before .before .before .before .before .before .before .before .before .before .before in
+    let W = c .before .before .before .before .before .before .before .before in
+    let P = W .before .before .before .before .before .before in
     let E = P .before .before in
     let O = E .before in
     let a = O .before .before .before .before .before .before .before .before .args in
