@@ -16,3 +16,4 @@ pub mod ClassSearch
 pub mod EquationTables
 pub mod Filling
 pub mod ComparedRecords
+pub mod Answers
