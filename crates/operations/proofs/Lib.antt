@@ -1,0 +1,2 @@
+pub mod Gating
+pub mod Homomorphisms

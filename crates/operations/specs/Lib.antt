@@ -1,0 +1,4 @@
+pub mod Gates
+pub mod Cz
+pub mod Measurement
+pub mod Steps

@@ -1,0 +1,1 @@
+// Operations on records: gates, CZ, measurements, complements and pivots.
