@@ -1,2 +1,5 @@
 pub mod Gating
 pub mod Homomorphisms
+pub mod CzLaws
+pub mod CzValues
+pub mod CzGroups
