@@ -6,3 +6,5 @@ pub mod CzGroups
 pub mod Membership
 pub mod Projection
 pub mod Determined
+pub mod MeasuredRecords
+pub mod AcceptedRecords

@@ -2,3 +2,4 @@ pub mod Gates
 pub mod Cz
 pub mod Measurement
 pub mod Steps
+pub mod Accepted

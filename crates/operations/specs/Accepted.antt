@@ -1,0 +1,17 @@
+-- Records that no line refuses.
+-- Assumes nothing.
+use mathlib.Core.Path.{_≡_}
+use Prim.Native.Nat.{_<_, _^_, ℕ, _≤_}
+use lib.ListN.{getD, length}
+use Rattle.graph.specs.Graph.{Simple}
+use Rattle.record.specs.Lent.{LentRecord, heldRecord}
+
+-- none of lines 2 to 7 holds of the record
+pub record AcceptedRecord (l : LentRecord) : Type 0 where
+  pub positive : 1 ≤ l .n
+  pub at-most : l .n ≤ 64
+  pub words : length (l .neighbours) ≡ l .n
+  pub numbers : length (l .codes) ≡ l .n
+  pub words-below : (j : ℕ) → getD (l .neighbours) j 0 < 2 ^ (l .n)
+  pub codes-below : (q : ℕ) → getD (l .codes) q 0 < 24
+  pub simple : Simple (l .n) ((heldRecord l) .graph)
