@@ -14,7 +14,15 @@ use Rattle.buffers.proofs.Lines.{not-held}
 use Rattle.buffers.proofs.Reaching.{below-all}
 use Rattle.buffers.specs.Refusals.{badCount, firstFitting, otherThan, reaching}
 use Rattle.graph.specs.Graph.{Graph, Simple}
-use Rattle.record.specs.Lent.{LentRecord, heldRecord, notSimple, recordCodes, recordLengths, recordLines, recordStray}
+use Rattle.record.specs.Lent.{
+  LentRecord,
+  heldRecord,
+  notSimple,
+  recordCodes,
+  recordLengths,
+  recordLines,
+  recordStray,
+}
 use Rattle.words.proofs.BitLaws.{bit-above, zero-bit}
 use Rattle.words.proofs.Finite.{sameBit→≡}
 use Rattle.words.proofs.SearchLaws.{some-false}
@@ -40,7 +48,7 @@ not-false false e = absurd (true≢false e)
 right-length : (n : ℕ) (buffer : List ℕ) → otherThan n buffer ≡ false → length buffer ≡ n
 right-length n buffer e = eqb-true (length buffer) n (not-false (eqb (length buffer) n) e)
 
-past-end : (n : ℕ) (buffer : List ℕ) → length buffer ≡ n → (i : ℕ) → n ≤ i → getD buffer i 0 ≡ 0
+pub past-end : (n : ℕ) (buffer : List ℕ) → length buffer ≡ n → (i : ℕ) → n ≤ i → getD buffer i 0 ≡ 0
 past-end n buffer e i l = List·getD-eq-default buffer 0 (le-trans (le-of-eq e) l)
 
 below-everywhere : (b : ℕ) → 0 < b → (buffer : List ℕ) → reaching b buffer ≡ false → (i : ℕ)
@@ -66,7 +74,8 @@ module _ (n : ℕ) (words : List ℕ) (long : length words ≡ n) (below : (j : 
   simple-words e =
       record {
         symmetric = λ i j. edge i j (lt-or-ge i n) (lt-or-ge j n);
-        loopless = λ i. elim (lt-or-ge i n) [ inl l ↦ or-left (θ i i) (lopsided i) (passes i l) | inr l ↦ no-row i i l ];
+        loopless = λ i. elim (lt-or-ge i n)
+            [ inl l ↦ or-left (θ i i) (lopsided i) (passes i l) | inr l ↦ no-row i i l ];
         below = no-bit;
       }
     where
@@ -78,7 +87,8 @@ module _ (n : ℕ) (words : List ℕ) (long : length words ≡ n) (below : (j : 
 
       edge : (i j : ℕ) → (i < n) ⊎ (n ≤ i) → (j < n) ⊎ (n ≤ j) → θ i j ≡ θ j i
       edge i j (inl a) (inl b) = sameBit→≡ (θ i j) (θ j i) (subst T (sym (not-false (sameBit (θ i j) (θ j i))
-          (some-false n (λ j. not (sameBit (θ i j) (θ j i))) (or-right (θ i i) (lopsided i) (passes i a)) j b))) tt)
+          (some-false n (λ j. not (sameBit (θ i j) (θ j i))) (or-right (θ i i) (lopsided i) (passes i a)) j
+          b))) tt)
       edge i j (inl a) (inr b) = no-bit i j b ∙ sym (no-row j i b)
       edge i j (inr a) b = no-row i j a ∙ sym (no-bit j i a)
 

@@ -51,10 +51,12 @@ module _ (n a b : ℕ) (ha : a < n) (hb : b < n) (ab : a ≢ b) (rows : ℕ → 
 
   pub cz-proper : Proper n rows → Proper n (czRows a b rows)
   cz-proper =
-      image-proper n (cz a b) homomorphism (cz-signed a b) (cz-letters n a b ha hb) (cz-within n a b ha hb) rows
+      image-proper n (cz a b) homomorphism (cz-signed a b) (cz-letters n a b ha hb) (cz-within n a b ha hb)
+      rows
 
   -- the new group is exactly the old one sent through CZ
-  pub cz-group : (p : Pauli) → InGroup n n (czRows a b rows) p ↔ ((r : Pauli) × InGroup n n rows r × (p ≡ cz a b r))
+  pub cz-group : (p : Pauli) → InGroup n n (czRows a b rows) p
+      ↔ ((r : Pauli) × InGroup n n rows r × (p ≡ cz a b r))
   cz-group = image-group n (cz a b) homomorphism n rows
 
   -- and it is the group of the reduced record, which is the answer

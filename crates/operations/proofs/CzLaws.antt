@@ -8,7 +8,21 @@ use native.Mathlib.Decide.{ℕ-discrete}
 use lib.Dec.{eqb}
 use Rattle.pauli.proofs.PauliLaws.{Pauli-path}
 use Rattle.pauli.proofs.PhaseLaws.{+ᵖ-assoc, +ᵖ-left, imaginary-+ᵖ, phaseMonoid, phases, sumPhase-add}
-use Rattle.pauli.specs.Pauli.{_+ᵖ_, Pauli, Phase, identity, imaginary, i⁰, letter, letterAt, letterPhase, minus, mul, scaled, sumPhase}
+use Rattle.pauli.specs.Pauli.{
+  _+ᵖ_,
+  Pauli,
+  Phase,
+  identity,
+  imaginary,
+  i⁰,
+  letter,
+  letterAt,
+  letterPhase,
+  minus,
+  mul,
+  scaled,
+  sumPhase,
+}
 use Rattle.words.proofs.Finite.{bits, ⊕-zero}
 use Rattle.words.proofs.Places.{other-place, same-place}
 use Rattle.words.proofs.Sums.{fold-ext, fold-one}
@@ -74,7 +88,8 @@ module _ (n a b : ℕ) (ha : a < n) (hb : b < n) (ab : a ≢ b) where
     | no d ↦ ap (λ c. c && eqb q b) (other-place d)
   ]
 
-  letter-phases : (p r : Pauli) → sumPhase n (λ q. letterPhase (letterAt (cz a b p) q) (letterAt (cz a b r) q))
+  letter-phases : (p r : Pauli)
+      → sumPhase n (λ q. letterPhase (letterAt (cz a b p) q) (letterAt (cz a b r) q))
       ≡ sumPhase n (λ q. letterPhase (letterAt p q) (letterAt r q)) +ᵖ (gainAt p r b a +ᵖ gainAt p r a b)
   unfolding cz gainAt
   letter-phases p r =

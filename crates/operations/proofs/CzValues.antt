@@ -9,7 +9,21 @@ use native.Mathlib.Omega.{arith}
 use lib.Dec.{eqb}
 use Rattle.pauli.proofs.PauliLaws.{Pauli-path, mul-x, mul-z}
 use Rattle.pauli.proofs.PhaseLaws.{+ᵖ-assoc, +ᵖ-zero, phaseMonoid, phases}
-use Rattle.pauli.specs.Pauli.{_+ᵖ_, Pauli, Phase, identity, i², i³, i¹, i⁰, letter, letterPhase, minus, mul, scaled}
+use Rattle.pauli.specs.Pauli.{
+  _+ᵖ_,
+  Pauli,
+  Phase,
+  identity,
+  i²,
+  i³,
+  i¹,
+  i⁰,
+  letter,
+  letterPhase,
+  minus,
+  mul,
+  scaled,
+}
 use Rattle.stabilizer.proofs.Products.{product-x, product-z}
 use Rattle.stabilizer.specs.Groups.{Within, chosen, product}
 use Rattle.words.proofs.Finite.{bits, ⊕-comm, ⊕-zero}
@@ -47,7 +61,8 @@ x-value n a b ab =
 
     apart : (q : ℕ) → letterPhase (letter false (eqb q a)) (letter (eqb q b) false) ≡ i⁰
     apart q = elim (ℕ-discrete q a) [
-      | yes e ↦ ap (λ v. letterPhase (letter false (eqb q a)) (letter v false)) (other-place (λ d. ab (sym e ∙ d)))
+      | yes e ↦ ap (λ v. letterPhase (letter false (eqb q a)) (letter v false))
+          (other-place (λ d. ab (sym e ∙ d)))
           ∙ phases 1 (λ u. letterPhase (letter false u) (letter false false)) (λ u. i⁰) tt (eqb q a)
       | no d ↦ ap (λ v. letterPhase (letter false v) (letter (eqb q b) false)) (other-place d)
     ]
@@ -64,7 +79,8 @@ cz-is n a b ha hb ab =
       x-other = λ q qa qb. Pauli-path (no-sign (eqb a q) (eqb b q))
           (λ t. ap₂ (λ u v. (eqb t a && u) ⊕ (eqb t b && v)) (other-place (λ e. qb (sym e)))
           (other-place (λ e. qa (sym e))) ∙ none (eqb t a) (eqb t b)) (λ t. refl);
-      z-fixed = λ q. Pauli-path refl (λ t. ap (λ c. eqb t q ⊕ c) (none (eqb t a) (eqb t b)) ∙ ⊕-zero (eqb t q))
+      z-fixed = λ q. Pauli-path refl (λ t. ap (λ c. eqb t q ⊕ c) (none (eqb t a) (eqb t b))
+          ∙ ⊕-zero (eqb t q))
           (λ t. refl);
     }
   where
@@ -120,15 +136,18 @@ module _ (n : ℕ) (p : Pauli) (W : Within n p) where
     where
       through : (h : Pauli → Pauli) → Homomorphism n h → h p ≡ scaled (spelled-out .0)
           (mul n (product n n (p .x) (λ j. h (xAt j))) (product n n (p .z) (λ j. h (zAt j))))
-      through h H = ap h (spelled-out .1) ∙ H .on-powers (spelled-out .0) spelled ∙ ap (scaled (spelled-out .0))
-          (H .on-products (product n n (p .x) xAt) (product n n (p .z) zAt) ∙ ap₂ (mul n) (image-product n h H n (p .x) xAt) (image-product n h H n (p .z) zAt))
+      through h H = ap h (spelled-out .1) ∙ H .on-powers (spelled-out .0) spelled
+          ∙ ap (scaled (spelled-out .0))
+          (H .on-products (product n n (p .x) xAt) (product n n (p .z) zAt)
+          ∙ ap₂ (mul n) (image-product n h H n (p .x) xAt) (image-product n h H n (p .z) zAt))
 
 pub cz-homomorphism : (n a b : ℕ) (f : Pauli → Pauli) → IsCz n a b f → Homomorphism n f
 cz-homomorphism n a b f C =
     record { on-identity = C .on-identity; on-products = C .on-products; on-powers = C .on-powers }
 
 -- the values determine the map
-pub cz-only : (n a b : ℕ) → a < n → b < n → a ≢ b → (f : Pauli → Pauli) → IsCz n a b f → (p : Pauli) → Within n p
+pub cz-only : (n a b : ℕ) → a < n → b < n → a ≢ b → (f : Pauli → Pauli) → IsCz n a b f → (p : Pauli)
+    → Within n p
     → f p ≡ cz a b p
 cz-only n a b ha hb ab f C p W =
     agree n p W f (cz a b) (cz-homomorphism n a b f C) (cz-homomorphism n a b (cz a b) D)
@@ -139,5 +158,6 @@ cz-only n a b ha hb ab f C p W =
 
     x-agrees : (j : ℕ) → Dec (j ≡ a) → Dec (j ≡ b) → f (xAt j) ≡ cz a b (xAt j)
     x-agrees j (yes e) d = subst (λ v. f (xAt v) ≡ cz a b (xAt v)) (sym e) (C .x-first ∙ sym (D .x-first))
-    x-agrees j (no d) (yes e) = subst (λ v. f (xAt v) ≡ cz a b (xAt v)) (sym e) (C .x-second ∙ sym (D .x-second))
+    x-agrees j (no d) (yes e) =
+        subst (λ v. f (xAt v) ≡ cz a b (xAt v)) (sym e) (C .x-second ∙ sym (D .x-second))
     x-agrees j (no d) (no e) = C .x-other j d e ∙ sym (D .x-other j d e)

@@ -18,7 +18,16 @@ use Rattle.words.proofs.SearchLaws.{first-is}
 use Rattle.words.specs.Search.{IsFirst}
 use Rattle.operations.proofs.Membership.{member-exactly}
 use Rattle.operations.proofs.Projection.{projected-group, projected-proper}
-use Rattle.operations.specs.Measurement.{Measured, firstAgainst, isDetermined, measuredRows, member, outcome, projected, single}
+use Rattle.operations.specs.Measurement.{
+  Measured,
+  firstAgainst,
+  isDetermined,
+  measuredRows,
+  member,
+  outcome,
+  projected,
+  single,
+}
 
 pub single-within : (n : ℕ) (l : Letter) (q : ℕ) (s : Bool) → q < n → Within n (single l q s)
 single-within n l q s h =
@@ -72,7 +81,8 @@ module _ (n : ℕ) (rows : ℕ → Pauli) (L : Proper n rows) (l : Letter) (q : 
       | inr a ↦ sym (single-anticommute n l q true (rows j))
           ∙ elements-commute n n rows (L .commuting) (in-row n n rows j k) a
     ]),
-    (λ h. determined-exactly .1 (maximal-list n rows L (single l q false) refl (single-within n l q false hq) h)),
+    (λ h. determined-exactly .1
+        (maximal-list n rows L (single l q false) refl (single-within n l q false hq) h)),
   )
 
   -- not both signs
@@ -93,7 +103,8 @@ module _ (n : ℕ) (rows : ℕ → Pauli) (L : Proper n rows) (l : Letter) (q : 
       known false a = determined-exactly .1 (inl a)
       known true a = determined-exactly .1 (inr a)
 
-      absent : (b : Bool) → member n rows (single l q true) ≡ b → InGroup n n rows (single l q false) → b ≡ false
+      absent : (b : Bool) → member n rows (single l q true) ≡ b → InGroup n n rows (single l q false)
+          → b ≡ false
       absent false e a = refl
       absent true e a = absurd (one-sign a (member-single true .0 e))
 
@@ -125,7 +136,8 @@ module _ (n : ℕ) (rows : ℕ → Pauli) (L : Proper n rows) (l : Letter) (q : 
     g = firstAgainst n rows P
 
     -- some generator does not commute; the first one
-    pub first-against : IsFirst n (λ i. anticommute n (rows i) (single l q b)) (firstAgainst n rows (single l q b))
+    pub first-against : IsFirst n (λ i. anticommute n (rows i) (single l q b))
+        (firstAgainst n rows (single l q b))
     first-against = elim (first-is n (λ i. anticommute n (rows i) P)) [
       | inl F ↦ F
       | inr none ↦ absurd (true≢false (sym (determined-commutes .1
@@ -135,7 +147,8 @@ module _ (n : ℕ) (rows : ℕ → Pauli) (L : Proper n rows) (l : Letter) (q : 
     measured-is : measuredRows n rows l q b ≡ projected n rows P g
     measured-is = ap (λ d. cond d rows (projected n rows P g)) open-yet
 
-    pub measured-group : (p : Pauli) → InGroup n n (measuredRows n rows l q b) p ↔ Measured n rows (single l q b) p
+    pub measured-group : (p : Pauli) → InGroup n n (measuredRows n rows l q b) p
+        ↔ Measured n rows (single l q b) p
     measured-group p = subst (λ R. InGroup n n R p ↔ Measured n rows P p) (sym measured-is)
         (projected-group n rows L P (single-signed b) (single-within n l q b hq) g (first-against .below)
         (first-against .passes) p)

@@ -1,4 +1,5 @@
--- Maps of rows that keep products and powers of i: they keep commutation, and carry the group of a list onto the
+-- Maps of rows that keep products and powers of i: they keep commutation, and carry the group of a list onto
+-- the
 -- group of its image.
 -- Assumes nothing.
 use mathlib.Core.Bool.{Bool, false, true}
@@ -7,7 +8,22 @@ use mathlib.Core.Path.{ap, refl, subst, sym, _∙_, _≡_}
 use Prim.Native.Nat.{ℕ}
 use Rattle.pauli.proofs.PauliLaws.{mul-swap}
 use Rattle.pauli.proofs.PhaseLaws.{+ᵖ-assoc, +ᵖ-zero}
-use Rattle.pauli.specs.Pauli.{_+ᵖ_, Pauli, Phase, anticommute, identity, imaginary, i², i³, i¹, i⁰, minus, mul, scaled, signBit}
+use Rattle.pauli.specs.Pauli.{
+  _+ᵖ_,
+  Pauli,
+  Phase,
+  anticommute,
+  identity,
+  imaginary,
+  i²,
+  i³,
+  i¹,
+  i⁰,
+  minus,
+  mul,
+  scaled,
+  signBit,
+}
 use Rattle.stabilizer.specs.Groups.{InGroup, Proper, Trivial, Within, chosen, product}
 use Rattle.stabilizer.specs.Lists.{rows}
 use Rattle.words.proofs.Sums.{fold-ext, fold-hom}

@@ -8,3 +8,6 @@ pub mod Projection
 pub mod Determined
 pub mod MeasuredRecords
 pub mod AcceptedRecords
+pub mod Rewriting
+pub mod WrittenRecords
+pub mod SessionExamples

@@ -1,4 +1,5 @@
--- Measuring a record: the Pauli is determined exactly if its qubit has no neighbours and the code there sends X to it;
+-- Measuring a record: the Pauli is determined exactly if its qubit has no neighbours and the code there sends
+-- X to it;
 -- the sign is then that of this image.
 -- Assumes nothing.
 use mathlib.Core.Bool.{_&&_, Bool, false, false≢true, true, true≢false}
@@ -8,7 +9,20 @@ use Prim.Native.Nat.{_<_, suc, zero, ℕ}
 use native.Mathlib.Decide.{ℕ-discrete}
 use native.Mathlib.Nat.{not-suc-le-zero}
 use lib.Dec.{eqb}
-use Rattle.clifford.specs.Clifford.{Class, Clifford, XY, XZ, YX, YZ, ZX, ZY, image, imagePhase, imageX, imageZ}
+use Rattle.clifford.specs.Clifford.{
+  Class,
+  Clifford,
+  XY,
+  XZ,
+  YX,
+  YZ,
+  ZX,
+  ZY,
+  image,
+  imagePhase,
+  imageX,
+  imageZ,
+}
 use Rattle.clifford.specs.Vectors.{act}
 use Rattle.graph.specs.Graph.{Graph, Simple}
 use Rattle.pauli.proofs.PauliLaws.{Pauli-path}
@@ -149,7 +163,8 @@ module _ (n : ℕ) (r : GraphRecord) (S : Simple n (r .graph)) (q : ℕ) (hq : q
         edge j k d false h = refl
         edge j k d true h = absurd (true≢false (sym (ap (clash (image (c q) Z)) (sym (own-image e))
             ∙ images-clash ((c q) .class))
-            ∙ sym (ap₂ (λ z x. clash (image (c q) (letter z x)) l) h (other-place (λ f. d (sym f)))) ∙ place e j k))
+            ∙ sym (ap₂ (λ z x. clash (image (c q) (letter z x)) l) h (other-place (λ f. d (sym f))))
+            ∙ place e j k))
 
     -- the generator of the vertex is then the Pauli with a sign, and the outcome is that sign
     reading : image (c q) X ≡ l → ((j : ℕ) → θ q j ≡ false)

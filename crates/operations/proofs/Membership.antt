@@ -63,7 +63,8 @@ equal-rows-refl n p = ap₂ _&&_ (eq-eqb (exponent (p .phase)) _ refl)
     same false = refl
     same true = refl
 
-pub member-exactly : (n : ℕ) (rows : ℕ → Pauli) → ((j : ℕ) → j < n → Within n (rows j)) → (p : Pauli) → Within n p
+pub member-exactly : (n : ℕ) (rows : ℕ → Pauli) → ((j : ℕ) → j < n → Within n (rows j)) → (p : Pauli)
+    → Within n p
     → (member n rows p ≡ true) ↔ InGroup n n rows p
 unfolding member
 member-exactly n rows W p Wp = (found, listed)

@@ -1,5 +1,7 @@
--- The group after a measurement that is not determined: generator g does not commute with P, goes into the others
--- that do not, and P takes its place. The rows are a list, and its group is the elements that commute with P, joined
+-- The group after a measurement that is not determined: generator g does not commute with P, goes into the
+-- others
+-- that do not, and P takes its place. The rows are a list, and its group is the elements that commute with P,
+-- joined
 -- by P.
 -- Assumes nothing.
 use mathlib.Core.Bool.{_&&_, Bool, and-false, false, not, true}
@@ -48,7 +50,8 @@ module _ (n : ℕ) (rows : ℕ → Pauli) (L : Proper n rows) (P : Pauli) (signe
   N = projected n rows P g
 
   not-itself : s g ≡ false
-  not-itself = ap (λ b. anticommute n (rows g) P && not b) (same-place g) ∙ and-false (anticommute n (rows g) P)
+  not-itself = ap (λ b. anticommute n (rows g) P && not b) (same-place g)
+      ∙ and-false (anticommute n (rows g) P)
 
   R-commuting : Commuting n n R
   R-commuting = shear-commuting n n rows (L .commuting) g hg s not-itself
@@ -101,7 +104,8 @@ module _ (n : ℕ) (rows : ℕ → Pauli) (L : Proper n rows) (P : Pauli) (signe
   N-clashes : (j : ℕ) → j < n → anticommute n (N j) (rows g) ≡ eqb j g
   N-clashes j l = put-all (λ j r. anticommute n r (rows g) ≡ eqb j g) R g P
       (anticommute-swap n P (rows g) ∙ clashes ∙ sym (same-place g)) j
-      (λ d. elements-commute n n rows (L .commuting) (R-same .back (R j) (in-row n n R j l)) (in-row n n rows g hg)
+      (λ d. elements-commute n n rows (L .commuting) (R-same .back (R j) (in-row n n R j l))
+      (in-row n n rows g hg)
       ∙ sym (other-place d))
 
   pub projected-proper : Proper n (projected n rows P g)
@@ -110,7 +114,8 @@ module _ (n : ℕ) (rows : ℕ → Pauli) (L : Proper n rows) (P : Pauli) (signe
         commuting = N-commuting;
         independent = λ w t. independent-shear n rows g hg s not-itself (L .independent) w
             (subst (Trivial n) (same-product w (left-out w t)) t);
-        within = λ j l. put-all (λ j r. Within n r) R g P W j (λ d. shear-within n rows (L .within) g hg s j l);
+        within = λ j l. put-all (λ j r. Within n r) R g P W j
+            (λ d. shear-within n rows (L .within) g hg s j l);
       }
     where
       left-out : (w : Word) → Trivial n (product n n w N) → w g ≡ false
@@ -160,7 +165,8 @@ module _ (n : ℕ) (rows : ℕ → Pauli) (L : Proper n rows) (P : Pauli) (signe
     unfolding without
     parted j (yes q) = subst (λ v. w v ≡ without v ⊕ (eqb v g && w g)) (sym q)
         (sym (ap₂ (λ a b. a ⊕ (b && w g)) off (same-place g)))
-    parted j (no d) = sym (ap₂ (λ a b. a ⊕ (b && w g)) (put-other w g false j d) (other-place d) ∙ ⊕-zero (w j))
+    parted j (no d) = sym (ap₂ (λ a b. a ⊕ (b && w g)) (put-other w g false j d) (other-place d)
+        ∙ ⊕-zero (w j))
 
     at-g : product n n (λ j. eqb j g && w g) N ≡ chosen (w g) P
     at-g = fold-one identity (mul n) (pauliMonoid n) n g hg

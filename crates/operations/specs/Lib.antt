@@ -3,3 +3,4 @@ pub mod Cz
 pub mod Measurement
 pub mod Steps
 pub mod Accepted
+pub mod Sessions

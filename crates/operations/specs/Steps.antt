@@ -63,7 +63,8 @@ stepped l lines new =
 
 -- "All three answer the reduced record of the new group"
 abbrev pub gate : LentRecord → ℕ → ℕ → Step
-gate l q k = stepped l (gateLines l q k) (reduced (l .n) (rowsOf (l .n) (gated (heldRecord l) q (cliffordOf k))))
+gate l q k = stepped l (gateLines l q k)
+    (reduced (l .n) (rowsOf (l .n) (gated (heldRecord l) q (cliffordOf k))))
 
 abbrev pub controlledZ : LentRecord → ℕ → ℕ → Step
 controlledZ l a b = stepped l (czLines l a b) (reduced (l .n) (czRows a b (heldRows l)))

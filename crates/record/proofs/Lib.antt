@@ -10,3 +10,4 @@ pub mod Reduction
 pub mod ReducedRecords
 pub mod ReducedCodes
 pub mod Maximality
+pub mod ComplementLists
