@@ -11,3 +11,5 @@ pub mod AcceptedRecords
 pub mod Rewriting
 pub mod WrittenRecords
 pub mod SessionExamples
+pub mod Recoding
+pub mod Pivoting

@@ -1,0 +1,41 @@
+use mathlib.Core.Path.{refl}
+use borrow.Author.Needs.{needs}
+use Rattle.operations.proofs.Recoding.{complemented}
+use Rattle.operations.proofs.complement_record.Statement.{statement}
+use Rattle.operations.proofs.complement_record.Tie as tie
+
+mul-recode : tie.Need-mul-recode
+mul-recode c = search needs
+
+slice-read-recode : tie.Need-slice-read-recode
+slice-read-recode c = search needs
+
+recode-requires : tie.Need-recode-requires
+recode-requires c κs = search needs
+
+complement-words-requires : tie.Need-complement-words-requires
+complement-words-requires c κs = search needs
+
+same-length : tie.Need-same-length
+same-length c = search needs
+
+same-length-2 : tie.Need-same-length-2
+same-length-2 c = search needs
+
+returns : tie.Need-returns
+returns c = complemented _ _ _ _ _ _
+    (c .before .before .before .before .before .before .before .before .before .before .before .pre .0) refl
+    (c .before .before .before .before .before .before .recode .ensures)
+    (c .before .before .complement-words .kept .0) (c .before .before .complement-words .ensures)
+
+pub complement-record-spec : {M : Type 1} → statement M
+complement-record-spec =
+    tie.close
+    (tie.spec
+    mul-recode
+    slice-read-recode
+    recode-requires
+    complement-words-requires
+    same-length
+    same-length-2
+    returns)
