@@ -13,3 +13,5 @@ pub mod WrittenRecords
 pub mod SessionExamples
 pub mod Recoding
 pub mod Pivoting
+pub mod TableauLoops
+pub mod CzRows

@@ -1,4 +1,6 @@
 // Operations on records: gates, CZ, measurements, complements and pivots.
+pub mod tableaus;
+
 use clifford::Code;
 use graph::complement_words;
 use words::has;

@@ -18,7 +18,7 @@ ghost use Rattle.stabilizer.specs.Groups.{Commuting, Within};
 ghost use Rattle.stabilizer.specs.Tableau.{tableau};
 ghost use Rattle.words.specs.Bits.{_⊕_, bit};
 ghost use Rattle.operations.specs.Cz.{cz};
-ghost use Rattle.operations.specs.Measurement.{firstAgainst, projected, single as alone};
+ghost use Rattle.operations.specs.Measurement.{firstAgainst, projected, single};
 
 // w with bit q flipped where b says so.
 fn flip_where(w: u64, q: usize, b: bool) -> u64
