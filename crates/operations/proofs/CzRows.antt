@@ -27,9 +27,10 @@ flipped-where w q r b h e j = ap (λ v. bit v j) e ∙ bit-flip w q j
 
 pub kept-where : (w q : ℕ) (b : Bool) → b ≡ false → (j : ℕ) → bit w j ≡ bit w j ⊕ (eqb j q && b)
 kept-where w q b h j =
-    sym (ap (λ c. bit w j ⊕ (eqb j q && c)) h ∙ ap (λ c. bit w j ⊕ c) (and-false (eqb j q)) ∙ ⊕-zero (bit w j))
+    sym (ap (λ c. bit w j ⊕ (eqb j q && c)) h ∙ ap (λ c. bit w j ⊕ c) (and-false (eqb j q))
+    ∙ ⊕-zero (bit w j))
 
-unequal : (a b : Bool) → not (Bool·beq a b) ≡ a ⊕ b
+pub unequal : (a b : Bool) → not (Bool·beq a b) ≡ a ⊕ b
 unequal false false = refl
 unequal false true = refl
 unequal true false = refl
@@ -42,7 +43,8 @@ pub cz-by-calls : (a b : ℕ) (m : Bool) (z x z₁ z₂ : ℕ) {xa xb za zb : Bo
 unfolding cz
 cz-by-calls a b m z x z₁ z₂ {xa} {xb} {za} {zb} exa exb eza ezb h₁ h₂ =
     Pauli-path
-    (ap minus (unequal m ((xa && xb) && not (Bool·beq za zb))) ∙ minus-⊕ m ((xa && xb) && not (Bool·beq za zb))
+    (ap minus (unequal m ((xa && xb) && not (Bool·beq za zb)))
+    ∙ minus-⊕ m ((xa && xb) && not (Bool·beq za zb))
     ∙ ap (λ s. minus m +ᵖ minus s) (ap (λ s. (xa && xb) && s) (unequal za zb)
     ∙ ap₂ (λ u v. (u && v) && (za ⊕ zb)) exa exb
     ∙ ap₂ (λ u v. (bit x a && bit x b) && (u ⊕ v)) eza ezb))
@@ -58,11 +60,13 @@ pub record CzBelow (a b n signs₀ : ℕ) (rows₀ : List (List ℕ)) (signs : �
   pub changed :
       ChangedBelow (czRows a b (tableau signs₀ rows₀)) (tableau signs₀ rows₀) (tableau signs rows) i
 
-pub cz-start : (a b n signs : ℕ) (rows : List (List ℕ)) → length rows ≡ 64 → CzBelow a b n signs rows signs rows 0
+pub cz-start : (a b n signs : ℕ) (rows : List (List ℕ)) → length rows ≡ 64
+    → CzBelow a b n signs rows signs rows 0
 cz-start a b n signs rows l = record { long = l; upto = zero-le; changed = change-start _ _ }
 
 pub cz-more : (a b n signs₀ : ℕ) (rows₀ : List (List ℕ)) (signs : ℕ) (rows : List (List ℕ)) (i signs′ : ℕ)
-    (s : Bool) (z x : ℕ) {m : Bool} → CzBelow a b n signs₀ rows₀ signs rows i → i < n → n ≤ 64 → m ≡ bit signs i
+    (s : Bool) (z x : ℕ) {m : Bool} → CzBelow a b n signs₀ rows₀ signs rows i → i < n → n ≤ 64
+    → m ≡ bit signs i
     → signedRow s z x ≡ cz a b (signedRow m (getD (getD rows i []) 0 0) (getD (getD rows i []) 1 0))
     → ((j : ℕ) → bit signs′ j ≡ put (bit signs) i s j)
     → CzBelow a b n signs₀ rows₀ signs′ (set rows i (z ∷ x ∷ [])) (i + 1)

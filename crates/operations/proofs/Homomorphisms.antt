@@ -44,7 +44,7 @@ cancel-phase a b t e = sym (undo a t) ∙ ap (λ u. u +ᵖ (t +ᵖ (t +ᵖ t))) 
     undo s i² = +ᵖ-assoc s i² i² ∙ +ᵖ-zero s
     undo s i³ = +ᵖ-assoc s i³ i¹ ∙ +ᵖ-zero s
 
-minus-determines : (a b : Bool) → minus a ≡ minus b → a ≡ b
+pub minus-determines : (a b : Bool) → minus a ≡ minus b → a ≡ b
 minus-determines a b e = sym (back a) ∙ ap signBit e ∙ back b
   where
     back : (a : Bool) → signBit (minus a) ≡ a

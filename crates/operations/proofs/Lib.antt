@@ -15,3 +15,6 @@ pub mod Recoding
 pub mod Pivoting
 pub mod TableauLoops
 pub mod CzRows
+pub mod ReadingOff
+pub mod ProjectedRows
+pub mod ProjectionLoop

@@ -1,12 +1,14 @@
 -- The calls that work on a lent record in place: the lines of each in checking order, and what it leaves.
 -- Assumes nothing.
-use mathlib.Core.Bool.{Bool, false, not, _||_}
+use mathlib.Core.Bool.{Bool, cond, false, not, _||_}
 use mathlib.Core.List.{_++_, List, [], _∷_}
+use mathlib.Core.Path.{_≡_}
 use Prim.Native.Nat.{ℕ}
 use lib.Dec.{eqb, leb}
 use Rattle.buffers.specs.Buffers.{accepted}
 use Rattle.buffers.specs.Refusals.{Line, firstFitting, line}
 use Rattle.clifford.specs.Clifford.{cliffordOf}
+use Rattle.pauli.specs.Pauli.{minus}
 use Rattle.record.specs.Lent.{LentRecord, codeNumbers, heldRecord, heldRows, neighbourWords, recordLines}
 use Rattle.record.specs.Records.{GraphRecord, complementAll, complementRecord, rowsOf}
 use Rattle.record.specs.Reduced.{reduced}
@@ -87,6 +89,11 @@ outcomeNumber l pauli q b = digit (outcome (l .n) (heldRows l) (pauliLetter paul
 
 abbrev pub determinedNumber : LentRecord → ℕ → ℕ → ℕ
 determinedNumber l pauli q = digit (isDetermined (l .n) (heldRows l) (pauliLetter pauli) q)
+
+-- what is read off a record before a measurement: whether it is determined, and then the sign
+pub record ReadOff (l : LentRecord) (pauli q : ℕ) (determined minus : Bool) : Type 0 where
+  pub known : determined ≡ isDetermined (l .n) (heldRows l) (pauliLetter pauli) q
+  pub reading : (b : Bool) → outcome (l .n) (heldRows l) (pauliLetter pauli) q b ≡ cond determined minus b
 
 -- ---- sessions: one call after another on the record that the last one left
 pub data Operation : Type 0 where

@@ -3,17 +3,21 @@ pub mod tableaus;
 
 use clifford::Code;
 use graph::complement_words;
+use pauli::Letter;
+use pauli::x_bit;
+use pauli::z_bit;
 use words::has;
 ghost use mathlib.Core.Path.{_≡_};
 ghost use Prim.Native.Nat.{ℕ, _<_, _≤_};
-ghost use lib.ListN.{getD, length};
+ghost use lib.ListN.{getD, length, set};
 ghost use Rattle.buffers.specs.Buffers.{tabulate};
 ghost use Rattle.clifford.specs.Clifford.{cliffordOf, codeOf, then};
 ghost use Rattle.clifford.specs.Vectors.{codesOf};
 ghost use Rattle.record.specs.Records.{complementRecord, recoded};
 ghost use Rattle.words.specs.Bits.{bit};
 ghost use Rattle.operations.specs.Accepted.{AcceptedRecord, Rewritten, recordIn};
-ghost use Rattle.operations.specs.Steps.{pivotRecord};
+ghost use Rattle.operations.specs.Measurement.{pauliLetter};
+ghost use Rattle.operations.specs.Steps.{ReadOff, pivotRecord};
 
 // The number of a code and then another.
 pub fn compose(first: u8, next: u8) -> u8
@@ -72,4 +76,47 @@ pub fn pivot_record(neighbours: &mut [u64], codes: &mut [u8], j: usize, k: usize
     complement_record(neighbours, codes, j);
     complement_record(neighbours, codes, k);
     complement_record(neighbours, codes, j);
+}
+
+// Applies code k after the code held at q.
+pub fn gate_code(codes: &mut [u8], q: usize, k: u8)
+    requires { ⌜ (q < length (now codes)) × ((t : ℕ) → getD (now codes) t 0 < 24) × (k < 24) ⌝ }
+    ensures { λ r. ⌜ now (codes .exit) ≡ set (now (codes .entry)) q
+        (codeOf (then (codesOf (now (codes .entry)) q) (cliffordOf k))) ⌝ }
+{
+    codes[q] = compose(codes[q], k);
+}
+
+// The letter that a Pauli's number names: 1 X, 2 Y, 3 Z.
+pub fn letter_named(pauli: u8) -> Letter
+    requires { ⌜ (1 ≤ pauli) × (pauli ≤ 3) ⌝ }
+    ensures { λ r. ⌜ r ≡ pauliLetter pauli ⌝ }
+{
+    match pauli {
+        1 => Letter::X,
+        2 => Letter::Y,
+        _ => Letter::Z,
+    }
+}
+
+// What a measurement's outcome is read off the record: whether it is determined, and then its sign.
+pub struct Reading {
+    pub determined: bool,
+    pub minus: bool,
+}
+
+// A Pauli is determined where its qubit has no neighbours and the code there sends X to it.
+pub fn read_off(neighbours: &[u64], codes: &[u8], pauli: u8, q: usize) -> Reading
+    requires { ⌜ AcceptedRecord (recordIn (now neighbours) (now codes)) × (q < length (now neighbours)) ⌝ }
+    requires { ⌜ (1 ≤ pauli) × (pauli ≤ 3) ⌝ }
+    ensures { λ r. ⌜ ReadOff (recordIn (now (neighbours .entry)) (now (codes .entry))) pauli q (r .determined) (r .minus) ⌝ }
+{
+    let own = Code { index: codes[q] }.image(Letter::X);
+    let letter = own.letter;
+    let asked = letter_named(pauli);
+    let same = (z_bit(letter) == z_bit(asked)) & (x_bit(letter) == x_bit(asked));
+    Reading {
+        determined: (neighbours[q] == 0) & same,
+        minus: own.minus,
+    }
 }

@@ -23,7 +23,11 @@ flip-where-requires-2 c κs = search needs
 
 returns : tie.Need-returns
 returns c = let g = c .before .before .before .before .before .before .before .args .g in
-    cz-by-calls _ _ (g .minus) (g .z) (g .x) (c .before .flip-where .result) (c .flip-where2 .result) (c .before .before .before .before .before .before .has .ensures) (c .before .before .before .before .before .has2 .ensures) (c .before .before .before .before .has3 .ensures) (c .before .before .before .has4 .ensures) (c .before .flip-where .ensures) (c .flip-where2 .ensures)
+    cz-by-calls _ _ (g .minus) (g .z) (g .x) (c .before .flip-where .result) (c .flip-where2 .result)
+    (c .before .before .before .before .before .before .has .ensures)
+    (c .before .before .before .before .before .has2 .ensures)
+    (c .before .before .before .before .has3 .ensures) (c .before .before .before .has4 .ensures)
+    (c .before .flip-where .ensures) (c .flip-where2 .ensures)
 
 pub cz-row-spec : {M : Type 1} → statement M
 cz-row-spec =

@@ -50,7 +50,9 @@ loop-less c = search needs
 loop-again : tie.Need-loop-again Inv-loop μ-loop
 loop-again c =
     let start = c .before .before .before .before .before .before .before .pre in
-    cz-more _ _ _ _ _ _ _ _ _ (c .before .cz-row .result .minus) _ _ (c .before .before .before .before .before .before .loop .inv) (c .before .before .before .before .before .loop-test .taken) (start .0)
+    cz-more _ _ _ _ _ _ _ _ _ (c .before .cz-row .result .minus) _ _
+    (c .before .before .before .before .before .before .loop .inv)
+    (c .before .before .before .before .before .loop-test .taken) (start .0)
     (c .before .before .has .ensures) (c .before .cz-row .ensures) (c .put-bit .ensures)
 
 returns : tie.Need-returns Inv-loop μ-loop
