@@ -1,3 +1,4 @@
 pub mod Tabulate
 pub mod Lines
 pub mod Reaching
+pub mod Filling

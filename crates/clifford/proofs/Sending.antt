@@ -1,14 +1,12 @@
 -- A row sent through its codes place by place, as the code does it.
 -- Assumes nothing.
-use mathlib.Core.Bool.{Bool, Bool·beq, cond, false, not, true}
+use mathlib.Core.Bool.{Bool, Bool·beq, cond, not}
 use mathlib.Core.List.{List}
 use mathlib.Core.Logic.{inl, inr, _≢_, _⊎_}
-use mathlib.Core.Path.{ap, ap₂, refl, sym, _∙_, _≡_}
+use mathlib.Core.Path.{ap, ap₂, sym, _∙_, _≡_}
 use Prim.Native.Nat.{_+_, _<_, zero-le, ℕ, _≤_}
 use native.Mathlib.Nat.{le-refl, le-trans}
-use native.Mathlib.Numerals.{add-one}
 use native.Mathlib.Omega.{arith}
-use lib.Arith.{lt-of-le-ne}
 use lib.Dec.{ltb}
 use lib.ListN.{List·getD-eq-default, length}
 use borrow.Author.Tests.{le-ltb, lt-ltb}
@@ -16,9 +14,10 @@ use Rattle.pauli.proofs.PauliLaws.{Pauli-path}
 use Rattle.pauli.proofs.PhaseLaws.{minus-⊕, phaseMonoid}
 use Rattle.pauli.specs.Pauli.{_+ᵖ_, Pauli, i⁰, letter, letterAt, minus, signedRow, sumPhase, xBit, zBit}
 use Rattle.pauli.specs.declared.Letter.{Letter}
-use Rattle.words.proofs.Places.{put-all, put-other, put-same}
+use Rattle.words.proofs.Finite.{unequal}
+use Rattle.words.proofs.Places.{put-all, put-other, put-same, upto-other}
 use Rattle.words.proofs.Sums.{fold-one, lt-or-ge}
-use Rattle.words.specs.Bits.{bit, put, _⊕_}
+use Rattle.words.specs.Bits.{bit, put}
 use Rattle.clifford.proofs.CliffordLaws.{id-then, phaseAfter-id, then-id, xAfter-id, zAfter-id}
 use Rattle.clifford.proofs.VectorLaws.{act-cong, act-id, act-then}
 use Rattle.clifford.specs.Clifford.{Clifford, cliffordOf, identityClifford, image, imagePhase, then}
@@ -44,12 +43,6 @@ module _ (n q : ℕ) (l : q < n) (k : Clifford) (p : Pauli) where
       put-all (λ j c. put (p .x) q (xBit (image k (letterAt p q))) j ≡ xBit (image c (letterAt p j)))
       (λ _. identityClifford) q k (put-same (p .x) q _) j
       (λ o. put-other (p .x) q _ j o ∙ sym (xAfter-id (p .z j) (p .x j)))
-
-unequal : (a b : Bool) → not (Bool·beq a b) ≡ a ⊕ b
-unequal false false = refl
-unequal false true = refl
-unequal true false = refl
-unequal true true = refl
 
 -- the letter at q replaced by its image, and the sign multiplied
 pub sent-place : (n q : ℕ) → q < n → (k : Clifford) (s m : Bool) (z x z′ x′ : ℕ) →
@@ -101,12 +94,7 @@ sent-more n cs i p r e =
         ∙ sym (ap (λ b. cond b (codesOf cs i) identityClifford) (lt-ltb i (i + 1) (omega arith)))
 
     elsewhere : (q : ℕ) → q ≢ i → codesBelow i cs q ≡ codesBelow (i + 1) cs q
-    elsewhere q o = ap (λ b. cond b (codesOf cs q) identityClifford) (same-side (lt-or-ge q i))
-      where
-        same-side : (q < i) ⊎ (i ≤ q) → ltb q i ≡ ltb q (i + 1)
-        same-side (inl h) = lt-ltb q i h ∙ sym (lt-ltb q (i + 1) (omega arith))
-        same-side (inr h) = le-ltb q i h
-            ∙ sym (le-ltb q (i + 1) (rw add-one (lt-of-le-ne h (λ e. o (sym e)))))
+    elsewhere q o = ap (λ b. cond b (codesOf cs q) identityClifford) (sym (upto-other q i o))
 
 pub sent-all : (n : ℕ) (cs : List ℕ) (i : ℕ) (p : Pauli) → length cs ≤ i →
     act n (codesBelow i cs) p ≡ act n (codesOf cs) p

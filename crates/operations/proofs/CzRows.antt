@@ -1,12 +1,11 @@
 -- CZ on a row's words, from what the code's calls answer.
 -- Assumes nothing.
-use mathlib.Core.Bool.{_&&_, Bool, Bool·beq, and-false, and-true, false, not, true}
+use mathlib.Core.Bool.{_&&_, Bool, Bool·beq, not}
 use mathlib.Core.List.{List, [], _∷_}
-use mathlib.Core.Path.{ap, ap₂, refl, sym, _∙_, _≡_}
-use Prim.Native.Nat.{_+_, _<_, _^_, zero-le, ℕ, _≤_}
+use mathlib.Core.Path.{ap, ap₂, refl, _∙_, _≡_}
+use Prim.Native.Nat.{_+_, _<_, zero-le, ℕ, _≤_}
 use native.Mathlib.Nat.{le-refl}
 use native.Mathlib.Omega.{arith}
-use lib.Bits.{bitXor}
 use lib.Dec.{eqb}
 use lib.ListN.{getD, length, length-set, set}
 use Rattle.pauli.proofs.PauliLaws.{Pauli-path}
@@ -14,27 +13,10 @@ use Rattle.pauli.proofs.PhaseLaws.{minus-⊕}
 use Rattle.pauli.specs.Pauli.{_+ᵖ_, minus, signedRow}
 use Rattle.stabilizer.specs.Lists.{rows}
 use Rattle.stabilizer.specs.Tableau.{tableau}
-use Rattle.words.proofs.BitLaws.{bit-flip}
-use Rattle.words.proofs.Finite.{⊕-assoc, ⊕-zero}
+use Rattle.words.proofs.Finite.{unequal, ⊕-assoc}
 use Rattle.words.specs.Bits.{bit, put, _⊕_}
 use Rattle.operations.proofs.TableauLoops.{ChangedBelow, change-more, change-start, row-stored}
 use Rattle.operations.specs.Cz.{cz, czRows}
-
-pub flipped-where : (w q r : ℕ) (b : Bool) → b ≡ true → r ≡ bitXor w (2 ^ q) → (j : ℕ)
-    → bit r j ≡ bit w j ⊕ (eqb j q && b)
-flipped-where w q r b h e j = ap (λ v. bit v j) e ∙ bit-flip w q j
-    ∙ ap (λ c. bit w j ⊕ c) (sym (ap (λ c. eqb j q && c) h ∙ and-true (eqb j q)))
-
-pub kept-where : (w q : ℕ) (b : Bool) → b ≡ false → (j : ℕ) → bit w j ≡ bit w j ⊕ (eqb j q && b)
-kept-where w q b h j =
-    sym (ap (λ c. bit w j ⊕ (eqb j q && c)) h ∙ ap (λ c. bit w j ⊕ c) (and-false (eqb j q))
-    ∙ ⊕-zero (bit w j))
-
-pub unequal : (a b : Bool) → not (Bool·beq a b) ≡ a ⊕ b
-unequal false false = refl
-unequal false true = refl
-unequal true false = refl
-unequal true true = refl
 
 pub cz-by-calls : (a b : ℕ) (m : Bool) (z x z₁ z₂ : ℕ) {xa xb za zb : Bool}
     → xa ≡ bit x a → xb ≡ bit x b → za ≡ bit z a → zb ≡ bit z b

@@ -7,9 +7,8 @@ pub mod Membership
 pub mod Projection
 pub mod Determined
 pub mod MeasuredRecords
-pub mod AcceptedRecords
+pub mod UnrefusedRecords
 pub mod Rewriting
-pub mod WrittenRecords
 pub mod SessionExamples
 pub mod Recoding
 pub mod Pivoting

@@ -17,10 +17,9 @@ use Rattle.pauli.specs.declared.Letter.the-variants.{I, X, Y, Z}
 use Rattle.stabilizer.specs.Lists.{rows}
 use Rattle.stabilizer.specs.Tableau.{tableau}
 use Rattle.words.proofs.BitLaws.{bit-single, zero-bit}
-use Rattle.words.proofs.Finite.{bits}
+use Rattle.words.proofs.Finite.{bits, unequal}
 use Rattle.words.proofs.SearchLaws.{first-none, first-unique}
 use Rattle.words.specs.Bits.{bit, _⊕_}
-use Rattle.operations.proofs.CzRows.{unequal}
 use Rattle.operations.proofs.MeasuredRecords.{single-clash}
 use Rattle.operations.specs.Measurement.{firstAgainst, single}
 

@@ -10,17 +10,19 @@ use lib.Dec.{eqb}
 use lib.ListN.{getD, length}
 use borrow.Author.Tests.{eq-eqb, eqb-true}
 use Rattle.clifford.specs.Clifford.{Clifford, cliffordOf, image, imagePhase}
+use Rattle.graph.specs.Graph.{Simple}
 use Rattle.pauli.specs.Pauli.{minus, xBit, zBit}
 use Rattle.pauli.specs.declared.Letter.{Letter}
 use Rattle.pauli.specs.declared.Letter.the-variants.{I, X, Y, Z}
+use Rattle.record.proofs.AcceptedRecords.{accepted-record}
 use Rattle.record.specs.Lent.{heldRecord}
 use Rattle.record.specs.Records.{GraphRecord, rowsOf}
 use Rattle.words.proofs.BitLaws.{bit-ext∞, zero-bit}
 use Rattle.words.specs.Bits.{bit}
 use Rattle.operations.proofs.Homomorphisms.{minus-determines}
 use Rattle.operations.proofs.MeasuredRecords.{determined-alone, outcome-alone, pauli-acts}
-use Rattle.operations.specs.Accepted.{AcceptedRecord, recordIn}
 use Rattle.operations.specs.Cz.{cz}
+use Rattle.operations.specs.InPlace.{Unrefused, recordIn}
 use Rattle.operations.specs.Measurement.{isDetermined, member, outcome, pauliLetter, single}
 use Rattle.operations.specs.Steps.{ReadOff}
 
@@ -61,13 +63,16 @@ both-true : (a b : Bool) → (a && b) ≡ true → (a ≡ true) × (b ≡ true)
 both-true true b e = (refl, e)
 both-true false b e = absurd (false≢true e)
 
-module _ (words codes : List ℕ) (A : AcceptedRecord (recordIn words codes)) (q : ℕ) (hq : q < length words)
+module _ (words codes : List ℕ) (U : Unrefused (recordIn words codes)) (q : ℕ) (hq : q < length words)
     (pauli : ℕ) (lo : 1 ≤ pauli) where
   abbrev n : ℕ
   n = length words
 
   abbrev r : GraphRecord
   r = heldRecord (recordIn words codes)
+
+  simple : Simple (length words) ((heldRecord (recordIn words codes)) .graph)
+  simple = accepted-record (recordIn words codes) false false (U .no-line) .simple
 
   abbrev l : Letter
   l = pauliLetter pauli
@@ -84,7 +89,7 @@ module _ (words codes : List ℕ) (A : AcceptedRecord (recordIn words codes)) (q
     where
       alone : (isDetermined n (rowsOf n r) l q ≡ true)
           ↔ ((image k X ≡ l) × ((j : ℕ) → bit (getD words q 0) j ≡ false))
-      alone = determined-alone n r (A .simple) q hq l (pauli-acts pauli lo)
+      alone = determined-alone n r simple q hq l (pauli-acts pauli lo)
 
       there : test ≡ true → isDetermined n (rowsOf n r) l q ≡ true
       there e = let h = both-true (eqb (getD words q 0) 0) (equalLetters (image k X) l) e in
@@ -115,6 +120,6 @@ module _ (words codes : List ℕ) (A : AcceptedRecord (recordIn words codes)) (q
           (ap₂ Bool·beq (hx ∙ ap xBit eo) (hx′ ∙ ap xBit ea)))
 
       go : (b d : Bool) → d ≡ isDetermined n (rowsOf n r) l q → outcome n (rowsOf n r) l q b ≡ cond d m b
-      go b true e = outcome-alone n r (A .simple) q hq l (pauli-acts pauli lo) (sym e) b
+      go b true e = outcome-alone n r simple q hq l (pauli-acts pauli lo) (sym e) b
           ∙ minus-determines (k .sx) m (sym em)
       go b false e = ap (λ d. cond d (member n (rowsOf n r) (single l q true)) b) (sym e)

@@ -19,13 +19,14 @@ use Rattle.clifford.specs.Vectors.{codesOf}
 use Rattle.graph.proofs.Complement.{complement-simple}
 use Rattle.graph.specs.Graph.{Graph, complement}
 use Rattle.graph.specs.NeighbourWords.{SameGraph, graphIn}
+use Rattle.record.proofs.AcceptedRecords.{AcceptedRecord, accepted-record}
 use Rattle.record.specs.Records.{complementRecord, recoded}
 use Rattle.words.proofs.BitLaws.{lt-of-bits, wordOf-bit}
 use Rattle.words.proofs.Places.{other-place}
 use Rattle.words.proofs.SearchLaws.{every-at}
 use Rattle.words.specs.Bits.{bit, wordOf}
 use Rattle.words.specs.Search.{every}
-use Rattle.operations.specs.Accepted.{AcceptedRecord, Rewritten, recordIn}
+use Rattle.operations.specs.InPlace.{Rewritten, Unrefused, recordIn}
 
 -- a number below 24 is the number of its code
 pub code-number : (c : ℕ) → c < 24 → codeOf (cliffordOf c) ≡ c
@@ -84,19 +85,22 @@ recode-done old a around new q B l =
     (λ j k. B .done j (omega (arith, k, l, B .long)))
 
 -- ---- both buffers of a record
-pub complemented : (words codes words′ codes′ : List ℕ) (a around : ℕ) → AcceptedRecord (recordIn words codes)
+pub complemented : (words codes words′ codes′ : List ℕ) (a around : ℕ) → Unrefused (recordIn words codes)
     → around ≡ getD words a 0
     → codes′ ≡ tabulate (length codes) (recodedNumber codes a around)
     → length words′ ≡ length words → SameGraph (graphIn words′) (complement (graphIn words) a)
     → Rewritten words codes (λ g. complementRecord g a) words′ codes′
-complemented words codes words′ codes′ a around A e coded long edges =
+complemented words codes words′ codes′ a around U e coded long edges =
     record {
       neighbours = tabulate-is (length words) _ words′ long
           (λ j l. sym (wordOf-bit (length words) (getD words′ j 0) (below j))
           ∙ ap (wordOf (length words)) (fun-ext (edges j)));
-      numbers = coded ∙ ap₂ (λ n u. tabulate n (recodedNumber codes a u)) (A .numbers) e;
+      numbers = coded ∙ ap₂ (λ n u. tabulate n (recodedNumber codes a u)) (A .codes-length) e;
     }
   where
+    A : AcceptedRecord (recordIn words codes)
+    A = accepted-record (recordIn words codes) false false (U .no-line)
+
     below : (j : ℕ) → getD words′ j 0 < 2 ^ (length words)
     below j = lt-of-bits (length words) (getD words′ j 0)
         (λ q l. edges j q ∙ complement-simple (length words) (graphIn words) (A .simple) a .below j q l)

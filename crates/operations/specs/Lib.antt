@@ -2,5 +2,5 @@ pub mod Gates
 pub mod Cz
 pub mod Measurement
 pub mod Steps
-pub mod Accepted
+pub mod InPlace
 pub mod Sessions

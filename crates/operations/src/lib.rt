@@ -15,7 +15,7 @@ ghost use Rattle.clifford.specs.Clifford.{cliffordOf, codeOf, then};
 ghost use Rattle.clifford.specs.Vectors.{codesOf};
 ghost use Rattle.record.specs.Records.{complementRecord, recoded};
 ghost use Rattle.words.specs.Bits.{bit};
-ghost use Rattle.operations.specs.Accepted.{AcceptedRecord, Rewritten, recordIn};
+ghost use Rattle.operations.specs.InPlace.{Rewritten, Unrefused, recordIn};
 ghost use Rattle.operations.specs.Measurement.{pauliLetter};
 ghost use Rattle.operations.specs.Steps.{ReadOff, pivotRecord};
 
@@ -58,7 +58,7 @@ fn recode(codes: &mut [u8], a: usize, around: u64)
 
 // Complements the record at vertex a.
 pub fn complement_record(neighbours: &mut [u64], codes: &mut [u8], a: usize)
-    requires { ⌜ AcceptedRecord (recordIn (now neighbours) (now codes)) × (a < length (now neighbours)) ⌝ }
+    requires { ⌜ Unrefused (recordIn (now neighbours) (now codes)) × (a < length (now neighbours)) ⌝ }
     ensures { λ r. ⌜ Rewritten (now (neighbours .entry)) (now (codes .entry)) (λ g. complementRecord g a)
         (now (neighbours .exit)) (now (codes .exit)) ⌝ }
 {
@@ -68,7 +68,7 @@ pub fn complement_record(neighbours: &mut [u64], codes: &mut [u8], a: usize)
 
 // Pivots the record on the edge j, k: complements j, k, j.
 pub fn pivot_record(neighbours: &mut [u64], codes: &mut [u8], j: usize, k: usize)
-    requires { ⌜ AcceptedRecord (recordIn (now neighbours) (now codes)) ⌝ }
+    requires { ⌜ Unrefused (recordIn (now neighbours) (now codes)) ⌝ }
     requires { ⌜ (j < length (now neighbours)) × (k < length (now neighbours)) ⌝ }
     ensures { λ r. ⌜ Rewritten (now (neighbours .entry)) (now (codes .entry)) (λ g. pivotRecord g j k)
         (now (neighbours .exit)) (now (codes .exit)) ⌝ }
@@ -107,7 +107,7 @@ pub struct Reading {
 
 // A Pauli is determined where its qubit has no neighbours and the code there sends X to it.
 pub fn read_off(neighbours: &[u64], codes: &[u8], pauli: u8, q: usize) -> Reading
-    requires { ⌜ AcceptedRecord (recordIn (now neighbours) (now codes)) × (q < length (now neighbours)) ⌝ }
+    requires { ⌜ Unrefused (recordIn (now neighbours) (now codes)) × (q < length (now neighbours)) ⌝ }
     requires { ⌜ (1 ≤ pauli) × (pauli ≤ 3) ⌝ }
     ensures { λ r. ⌜ ReadOff (recordIn (now (neighbours .entry)) (now (codes .entry))) pauli q (r .determined) (r .minus) ⌝ }
 {

@@ -4,7 +4,7 @@ use pauli::Letter;
 use pauli::letters_minus;
 use pauli::x_bit;
 use pauli::z_bit;
-use words::flip;
+use words::flip_where;
 use words::has;
 use words::put_bit;
 use words::single;
@@ -19,14 +19,6 @@ ghost use Rattle.stabilizer.specs.Tableau.{tableau};
 ghost use Rattle.words.specs.Bits.{_⊕_, bit};
 ghost use Rattle.operations.specs.Cz.{cz};
 ghost use Rattle.operations.specs.Measurement.{firstAgainst, projected, single};
-
-// w with bit q flipped where b says so.
-fn flip_where(w: u64, q: usize, b: bool) -> u64
-    requires { ⌜ q < 64 ⌝ }
-    ensures { λ r. ⌜ ((j : ℕ) → bit r j ≡ bit w j ⊕ (eqb j q && b)) ⌝ }
-{
-    if b { flip(w, q) } else { w }
-}
 
 // A row sent through CZ on a and b.
 fn cz_row(g: Generator, a: usize, b: usize) -> Generator

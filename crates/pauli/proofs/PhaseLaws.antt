@@ -7,21 +7,7 @@ use lib.Dec.{T, eqb, eqb→eq, lit<}
 use Rattle.words.proofs.Finite.{Law, Of, bits, law, test}
 use Rattle.words.proofs.Sums.{Monoid, fold-ext, fold-mul}
 use Rattle.words.specs.Bits.{_⊕_}
-use Rattle.pauli.specs.Pauli.{
-  _+ᵖ_,
-  Phase,
-  exponent,
-  imaginary,
-  i²,
-  i³,
-  i¹,
-  i⁰,
-  minus,
-  power,
-  samePhase,
-  signBit,
-  sumPhase,
-}
+use Rattle.pauli.specs.Pauli.{_+ᵖ_, Phase, exponent, imaginary, i², i³, i¹, i⁰, minus, power, samePhase, signBit, sumPhase}
 
 pub power-exponent : (a : Phase) → power (exponent a) ≡ a
 unfolding power
@@ -102,3 +88,9 @@ twice i⁰ h = refl
 twice i¹ h = absurd (true≢false h)
 twice i² h = refl
 twice i³ h = absurd (true≢false h)
+
+pub minus-real : (b : Bool) → imaginary (minus b) ≡ false
+minus-real = bits 1 (λ b. imaginary (minus b)) (λ b. false) tt
+
+pub sign-minus : (b : Bool) → signBit (minus b) ≡ b
+sign-minus = bits 1 (λ b. signBit (minus b)) (λ b. b) tt

@@ -11,3 +11,12 @@ pub mod ReducedRecords
 pub mod ReducedCodes
 pub mod Maximality
 pub mod ComplementLists
+pub mod SimpleLines
+pub mod RecordLines
+pub mod SimpleVerdict
+pub mod AcceptedRecords
+pub mod ExpandedRows
+pub mod ExpandedTableau
+pub mod ExpandedBuffers
+pub mod WrittenRecords
+pub mod ExpansionBack

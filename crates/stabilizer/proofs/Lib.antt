@@ -5,3 +5,12 @@ pub mod Carried
 pub mod RowOperations
 pub mod Independence
 pub mod Within
+pub mod Scanning
+pub mod Pairs
+pub mod SharedTests
+pub mod EarlyLines
+pub mod NumbersTrue
+pub mod Verdicts
+pub mod Accepted
+pub mod EqualRows
+pub mod ReadBack

@@ -1,36 +1,20 @@
 -- The bits of a word: of xor, and, or, a mask and a single bit; words are equal where their bits are.
 -- Assumes nothing.
-
--- ---- the lowest digit
-use mathlib.Core.Bool.{_&&_, Bool, false, true, _||_}
+use mathlib.Core.Bool.{_&&_, Bool, and-false, false, true, _||_}
 use mathlib.Core.Path.{ap, ap₂, refl, subst, sym, _∙_, _≡_}
 use Prim.Native.Nat.{_%_, _*_, _+_, _-_, _/_, _<_, _^_, suc, zero, ℕ, _≤_}
-use native.Mathlib.Nat.{
-  add-mod,
-  div-add-mod',
-  div-div-eq-div-mul,
-  div-eq-of-lt,
-  div-lt-iff-lt-mul,
-  div-one,
-  le-add-left,
-  le-add-right,
-  lt-of-lt-of-le,
-  mod-lt,
-  mul-div-cancel,
-  mul-mod-left,
-  not-suc-le-zero,
-  one-mul,
-  pow-suc,
-  pow-succ',
-  zero-div,
-}
+use native.Mathlib.Decide.{ℕ-discrete}
+use native.Mathlib.Nat.{add-mod, div-add-mod', div-div-eq-div-mul, div-eq-of-lt, div-lt-iff-lt-mul, div-one, le-add-left, le-add-right, lt-of-lt-of-le, mod-lt, mul-div-cancel, mul-mod-left, not-suc-le-zero, one-mul, pow-suc, pow-succ', zero-div}
 use native.Mathlib.Numerals.{add-one}
 use native.Mathlib.Omega.{arith}
 use lib.Arith.{digits-div, digits-lt, digits-mod, lt-one}
-use lib.Bits.{and-mod, and-shr, bitAnd, bitOr, bitXor, or-mod, or-shr, xor-mod, xor-shr}
+use lib.Bits.{and-mod, and-shr, bitAnd, bitOr, bitXor, or-mod, or-shr, xor-add-and, xor-mod, xor-shr}
 use lib.Dec.{eqb, eqb·suc-suc, eqb·suc-zero, eqb·zero-suc, lit<}
 use lib.Pow.{high, ones-lt, ones-split, pow-mono, pow-pos, shr-lt, shr-shr}
+use borrow.Author.Tests.{ne-eqb}
 use Rattle.words.specs.Bits.{Word, bit, digit, isOdd, wordOf, _⊕_}
+
+-- ---- the lowest digit
 
 pub two-cases : (P : ℕ → Type 0) → P 0 → P 1 → (u : ℕ) → u < 2 → P u
 two-cases P a b zero l = a
@@ -194,3 +178,23 @@ bit-wordOf (suc n) f (suc q) l =
 
 pub wordOf-bit : (n w : ℕ) → w < 2 ^ n → wordOf n (bit w) ≡ w
 wordOf-bit n w h = bit-ext n (wordOf n (bit w)) w (wordOf-lt n (bit w)) h (λ q l. bit-wordOf n (bit w) q l)
+
+-- ---- a set bit taken away
+pub flip-less : (w q : ℕ) → bit w q ≡ true → bitXor w (2 ^ q) < w
+flip-less w q e = omega (arith, xor-add-and w (2 ^ q), both, pow-pos q)
+  where
+    at-place : (j : ℕ) → bit (bitAnd w (2 ^ q)) j ≡ bit (2 ^ q) j
+    at-place j = bit-and w (2 ^ q) j ∙ ap (λ b. bit w j && b) (bit-single q j) ∙ go (ℕ-discrete j q) ∙ sym (bit-single q j)
+      where
+        go : Dec (j ≡ q) → (bit w j && eqb j q) ≡ eqb j q
+        go (yes p) = ap (λ b. b && eqb j q) (ap (bit w) p ∙ e)
+        go (no d) = ap (λ b. bit w j && b) (ne-eqb j q d) ∙ and-false (bit w j) ∙ sym (ne-eqb j q d)
+
+    both : bitAnd w (2 ^ q) ≡ 2 ^ q
+    both = bit-ext∞ (bitAnd w (2 ^ q)) (2 ^ q) at-place
+
+-- ---- a word with another's bits alone is no longer
+pub and-lt-right : (n a b : ℕ) → b < 2 ^ n → bitAnd a b < 2 ^ n
+and-lt-right n a b h =
+    lt-of-bits n (bitAnd a b)
+    (λ q l. bit-and a b q ∙ ap (λ v. bit a q && v) (bit-above n b h q l) ∙ and-false (bit a q))

@@ -1,7 +1,7 @@
 -- A law over k bits, proved by one test that antt computes at all 2 ^ k values: `bits k f g tt` proves
 -- f a b .. ≡ g a b .. for all bits a, b, ..
 -- Assumes nothing.
-use mathlib.Core.Bool.{_&&_, Bool, false, true}
+use mathlib.Core.Bool.{_&&_, Bool, Bool·beq, false, not, true}
 use mathlib.Core.Path.{refl, _≡_}
 use Prim.Native.Nat.{suc, zero, ℕ}
 use lib.Dec.{T}
@@ -66,3 +66,7 @@ and-⊕ = bits 3 (λ a b c. a && (b ⊕ c)) (λ a b c. (a && b) ⊕ (a && c)) tt
 
 pub ⊕-and : (a b c : Bool) → ((a ⊕ b) && c) ≡ (a && c) ⊕ (b && c)
 ⊕-and = bits 3 (λ a b c. (a ⊕ b) && c) (λ a b c. (a && c) ⊕ (b && c)) tt
+
+-- `!=` of two bools
+pub unequal : (a b : Bool) → not (Bool·beq a b) ≡ a ⊕ b
+unequal = bits 2 (λ a b. not (Bool·beq a b)) (λ a b. a ⊕ b) tt

@@ -1,16 +1,19 @@
 -- Places: whether two are the same, a function changed at one of them, and a sum with one term.
 -- Assumes nothing.
 use mathlib.Core.Bool.{_&&_, Bool, and-false, and-true, cond, false, not, true, true≢false}
-use mathlib.Core.Logic.{_≢_}
+use mathlib.Core.Logic.{inl, inr, _≢_, _⊎_}
 use mathlib.Core.Path.{ap, ap₂, refl, subst, sym, _∙_, _≡_}
-use Prim.Native.Nat.{_<_, _^_, ℕ}
+use Prim.Native.Nat.{_+_, _<_, _^_, ℕ, _≤_}
 use native.Mathlib.Decide.{ℕ-discrete}
+use native.Mathlib.Numerals.{add-one}
+use native.Mathlib.Omega.{arith}
+use lib.Arith.{lt-of-le-ne}
 use lib.Bits.{bitXor}
-use lib.Dec.{eqb}
-use borrow.Author.Tests.{eq-eqb, ne-eqb}
+use lib.Dec.{eqb, ltb}
+use borrow.Author.Tests.{eq-eqb, le-ltb, lt-ltb, ne-eqb}
 use Rattle.words.proofs.BitLaws.{bit-flip}
 use Rattle.words.proofs.Finite.{⊕-zero}
-use Rattle.words.proofs.Sums.{bitMonoid, fold-one}
+use Rattle.words.proofs.Sums.{bitMonoid, fold-one, lt-or-ge}
 use Rattle.words.specs.Bits.{bit, parity, put, _⊕_}
 
 pub same-place : (i : ℕ) → eqb i i ≡ true
@@ -25,6 +28,14 @@ place-comm i j = go (ℕ-discrete i j)
     go : Dec (i ≡ j) → eqb i j ≡ eqb j i
     go (yes e) = ap (λ v. eqb v j) e ∙ ap (eqb j) (sym e)
     go (no d) = other-place d ∙ sym (other-place (λ e. d (sym e)))
+
+-- a place below i + 1 that is not i is below i
+pub upto-other : (j i : ℕ) → j ≢ i → ltb j (i + 1) ≡ ltb j i
+upto-other j i d = go (lt-or-ge j i)
+  where
+    go : (j < i) ⊎ (i ≤ j) → ltb j (i + 1) ≡ ltb j i
+    go (inl l) = lt-ltb j (i + 1) (omega arith) ∙ sym (lt-ltb j i l)
+    go (inr l) = le-ltb j (i + 1) (rw add-one (lt-of-le-ne l (λ e. d (sym e)))) ∙ sym (le-ltb j i l)
 
 pub ⊕-cancel : (a b : Bool) → a ⊕ b ≡ false → a ≡ b
 ⊕-cancel false b e = sym e
@@ -72,3 +83,11 @@ bit-put-flipped w q b r {d} e h k j =
     flipped : (d : Bool) → d ⊕ true ≡ not d
     flipped false = refl
     flipped true = refl
+
+-- a bit flipped where b is true
+pub bit-flip-where : (w q : ℕ) (b : Bool) (r : ℕ) → r ≡ cond b (bitXor w (2 ^ q)) w →
+    (j : ℕ) → bit r j ≡ bit w j ⊕ (eqb j q && b)
+bit-flip-where w q true r e j =
+    ap (λ v. bit v j) e ∙ bit-flip w q j ∙ ap (λ s. bit w j ⊕ s) (sym (and-true (eqb j q)))
+bit-flip-where w q false r e j =
+    ap (λ v. bit v j) e ∙ sym (ap (λ s. bit w j ⊕ s) (and-false (eqb j q)) ∙ ⊕-zero (bit w j))

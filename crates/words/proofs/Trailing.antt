@@ -1,19 +1,20 @@
 -- Trailing zeros: the smallest set bit of a word.
 -- Assumes nothing.
-
--- the first of k bits that is set, or k where none is
 use mathlib.Core.Bool.{false}
 use mathlib.Core.Logic.{inl, inr, _⊎_}
 use mathlib.Core.Path.{ap, refl, sym, _∙_, _≡_}
-use Prim.Native.Nat.{_%_, _/_, _<_, suc, zero, ℕ}
+use Prim.Native.Nat.{_%_, _/_, _<_, _^_, suc, zero, ℕ}
 use native.Mathlib.Nat.{mod-lt, not-suc-le-zero, zero-lt-suc}
 use native.Mathlib.Omega.{arith}
 use lib.Count.{trailingZeros, under}
 use lib.Dec.{eqb, lit<}
-use Rattle.words.proofs.BitLaws.{bit-suc, bit-zero}
+use lib.Pow.{pow-pos}
+use Rattle.words.proofs.BitLaws.{bit-ext, bit-suc, bit-zero, zero-bit}
 use Rattle.words.proofs.SearchLaws.{first-none, first-unique}
 use Rattle.words.specs.Bits.{bit}
 use Rattle.words.specs.Search.{IsFirst, first}
+
+-- the first of k bits that is set, or k where none is
 
 pub trailing-is : (k w : ℕ) →
     IsFirst k (bit w) (trailingZeros k w) ⊎ (((q : ℕ) → q < k → bit w q ≡ false) × (trailingZeros k w ≡ k))
@@ -60,3 +61,12 @@ trailing-first k w = go (trailing-is k w)
         → trailingZeros k w ≡ first k (bit w)
     go (inl F) = sym (first-unique k (bit w) _ F)
     go (inr (none, e)) = e ∙ sym (first-none k (bit w) none)
+
+-- a word that is not 0 has a smallest set bit
+pub trailing-set : (k w : ℕ) → w < 2 ^ k → (w ≡ 0 → ⊥) → IsFirst k (bit w) (trailingZeros k w)
+trailing-set k w h nonzero = go (trailing-is k w)
+  where
+    go : IsFirst k (bit w) (trailingZeros k w) ⊎ (((q : ℕ) → q < k → bit w q ≡ false) × (trailingZeros k w ≡ k))
+        → IsFirst k (bit w) (trailingZeros k w)
+    go (inl F) = F
+    go (inr (none, _)) = absurd (nonzero (bit-ext k w 0 h (pow-pos k) (λ q l. none q l ∙ sym (zero-bit q))))

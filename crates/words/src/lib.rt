@@ -1,9 +1,10 @@
+ghost use mathlib.Core.Bool.{_&&_};
 ghost use mathlib.Core.Path.{_≡_};
 ghost use Prim.Native.Nat.{ℕ, _-_, _<_, _≤_, _^_};
 ghost use lib.Bits.{bitXor};
 ghost use lib.Count.{ones, trailingZeros};
-ghost use lib.Dec.{leb};
-ghost use Rattle.words.specs.Bits.{bit, dot, isOdd, put};
+ghost use lib.Dec.{eqb, leb};
+ghost use Rattle.words.specs.Bits.{_⊕_, bit, dot, isOdd, put};
 
 // The mask of n qubits: the bits below n are 1. No shift reaches 64.
 pub fn mask(n: usize) -> u64
@@ -43,6 +44,14 @@ pub fn flip(w: u64, q: usize) -> u64
     ensures { λ r. ⌜ r ≡ bitXor w (2 ^ q) ⌝ }
 {
     w ^ single(q)
+}
+
+// w with bit q flipped where b is true.
+pub fn flip_where(w: u64, q: usize, b: bool) -> u64
+    requires { ⌜ q < 64 ⌝ }
+    ensures { λ r. ⌜ ((j : ℕ) → bit r j ≡ bit w j ⊕ (eqb j q && b)) ⌝ }
+{
+    if b { flip(w, q) } else { w }
 }
 
 // w with bit q set to b.

@@ -1,6 +1,7 @@
 use mathlib.Core.Path.{refl}
 use borrow.Author.Needs.{needs}
 use Rattle.operations.proofs.Recoding.{complemented}
+use Rattle.operations.proofs.UnrefusedRecords.{unrefused-codes, unrefused-short, unrefused-simple}
 use Rattle.operations.proofs.complement_record.Statement.{statement}
 use Rattle.operations.proofs.complement_record.Tie as tie
 
@@ -11,10 +12,12 @@ slice-read-recode : tie.Need-slice-read-recode
 slice-read-recode c = search needs
 
 recode-requires : tie.Need-recode-requires
-recode-requires c κs = search needs
+recode-requires c κs = unrefused-codes _ _ (c .before .before .before .before .pre .0)
 
 complement-words-requires : tie.Need-complement-words-requires
-complement-words-requires c κs = search needs
+complement-words-requires c κs =
+    let start = c .before .before .before .before .before .before .before .before .pre in
+    ((unrefused-short _ _ (start .0), start .1), unrefused-simple _ _ (start .0))
 
 same-length : tie.Need-same-length
 same-length c = search needs

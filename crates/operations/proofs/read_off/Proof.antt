@@ -1,13 +1,14 @@
 use borrow.Author.Needs.{needs}
 use Rattle.operations.proofs.ReadingOff.{read-by-calls}
+use Rattle.operations.proofs.UnrefusedRecords.{unrefused-codes, unrefused-place}
 use Rattle.operations.proofs.read_off.Statement.{statement}
 use Rattle.operations.proofs.read_off.Tie as tie
 
 shared-slice-read-t10 : tie.Need-shared-slice-read-t10
-shared-slice-read-t10 c = search needs
+shared-slice-read-t10 c = unrefused-place _ _ (c .before .before .before .pre .0 .0) _ (c .before .before .before .pre .0 .1)
 
 image-requires : tie.Need-image-requires
-image-requires c κs = c .before .before .before .pre .0 .0 .codes-below (c .before .before .before .args .q)
+image-requires c κs = unrefused-codes _ _ (c .before .before .before .pre .0 .0) .1 _
 
 letter-named-requires : tie.Need-letter-named-requires
 letter-named-requires c κs = search needs

@@ -1,0 +1,103 @@
+use mathlib.Core.Path.{_∙_}
+use Prim.Native.Nat.{_-_}
+use native.Mathlib.Omega.{arith}
+use borrow.Author.Needs.{needs}
+use Rattle.record.specs.Lent.{LentRecord, heldRows}
+use Rattle.record.proofs.ExpandedBuffers.{BuffersMade, all-made, none-made, one-made}
+use Rattle.record.proofs.ExpandedRows.{held-row, held-within}
+use Rattle.record.proofs.expand_into.Statement.{statement}
+use Rattle.record.proofs.expand_into.Tie as tie
+
+abbrev Inv-loop : tie.InvT-loop
+Inv-loop n neighbours codes signs₀ z₀ x₀ j₀ signs z x j =
+    BuffersMade n (heldRows (record { n = n; neighbours = neighbours; codes = codes })) signs z x j
+
+abbrev μ-loop : tie.MeasureT-loop
+μ-loop n neighbours codes signs₀ z₀ x₀ j₀ signs z x j = n - j
+
+loop-holds : tie.Need-loop-holds Inv-loop μ-loop
+loop-holds c =
+    let s = c .before .before .before .before .before in
+    none-made (s .args .n) _ (s .args .signs .now) (s .args .z .now) (s .args .x .now) (s .pre .1 .1 .0)
+    (s .pre .1 .1 .1) (s .pre .1 .1 .2)
+
+expanded-row-requires : tie.Need-expanded-row-requires Inv-loop μ-loop
+expanded-row-requires c κs = search needs
+
+sign-digit-requires : tie.Need-sign-digit-requires Inv-loop μ-loop
+sign-digit-requires c κs = search needs
+
+slice-write-signs : tie.Need-slice-write-signs Inv-loop μ-loop
+slice-write-signs c = search needs
+
+mul-z : tie.Need-mul-z Inv-loop μ-loop
+mul-z c = search needs
+
+slice-write-z : tie.Need-slice-write-z Inv-loop μ-loop
+slice-write-z c = search needs
+
+mul-x : tie.Need-mul-x Inv-loop μ-loop
+mul-x c = search needs
+
+slice-write-x : tie.Need-slice-write-x Inv-loop μ-loop
+slice-write-x c = search needs
+
+add-j : tie.Need-add-j Inv-loop μ-loop
+add-j c = search needs
+
+loop-less : tie.Need-loop-less Inv-loop μ-loop
+loop-less c = search needs
+
+loop-again : tie.Need-loop-again Inv-loop μ-loop
+loop-again c =
+    let at = c .before .before in
+    let s = at .before .before .before .before .before .before .before in
+    let a = s .args in
+    let l : LentRecord = record { n = a .n; neighbours = a .neighbours .now; codes = a .codes .now } in
+    let g = c .before .expanded-row .result in
+    let j = at .before .loop .j in
+    one-made (a .n) (heldRows l) (at .before .loop .signs) (at .before .loop .z) (at .before .loop .x) j
+    (at .before .loop .inv) (at .loop-test .taken)
+    (g .minus) (g .z) (g .x) (c .before .expanded-row .ensures
+    ∙ held-row l (s .pre .0 .0) (s .pre .0 .2) j)
+    (held-within l (s .pre .1 .0 .1) j (at .loop-test .taken))
+    (c .sign-digit .ensures)
+
+same-length : tie.Need-same-length Inv-loop μ-loop
+same-length c = search needs
+
+same-length-2 : tie.Need-same-length-2 Inv-loop μ-loop
+same-length-2 c = search needs
+
+same-length-3 : tie.Need-same-length-3 Inv-loop μ-loop
+same-length-3 c = search needs
+
+returns : tie.Need-returns Inv-loop μ-loop
+returns c =
+    let s = c .before .before .before .before .before .before .before in
+    let a = s .args in
+    let l : LentRecord = record { n = a .n; neighbours = a .neighbours .now; codes = a .codes .now } in
+    all-made (a .n) (heldRows l) (c .before .loop .signs) (c .before .loop .z) (c .before .loop .x)
+    (c .before .loop .j) (c .before .loop .inv) (c .loop-test .left)
+
+pub expand-into-spec : {M : Type 1} → statement M
+expand-into-spec =
+    tie.close
+    (tie.spec
+    Inv-loop
+    μ-loop
+    loop-holds
+    expanded-row-requires
+    sign-digit-requires
+    slice-write-signs
+    mul-z
+    slice-write-z
+    mul-x
+    slice-write-x
+    add-j
+    loop-less
+    loop-again
+    same-length
+    same-length-2
+    same-length-3
+    returns)

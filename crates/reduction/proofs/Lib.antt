@@ -1,0 +1,8 @@
+pub mod Shearing
+pub mod Pivoting
+pub mod Passing
+pub mod Storing
+pub mod Rotating
+pub mod Reading
+pub mod Concluding
+pub mod Loading

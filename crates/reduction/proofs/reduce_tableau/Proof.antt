@@ -1,0 +1,99 @@
+use mathlib.Core.Bool.{not}
+use mathlib.Core.Path.{_∙_, ap, refl, sym}
+use borrow.Author.Needs.{needs}
+use Rattle.record.specs.Lent.{codeNumbers, neighbourWords}
+use Rattle.reduction.proofs.Concluding.{complete, left-over, loaded-first, loaded-rotated, loaded-second, the-record}
+use Rattle.reduction.proofs.reduce_tableau.Statement.{statement}
+use Rattle.reduction.proofs.reduce_tableau.Tie as tie
+use Rattle.reduction.proofs.reduce_tableau.Reads as reads
+use Rattle.reduction.proofs.reduce_tableau.Lts as lts
+use Rattle.reduction.proofs.pass.Reads as pass-reads
+use Rattle.reduction.proofs.rotate.Reads as rotate-reads
+use Rattle.reduction.proofs.write_record.Reads as write-record-reads
+use Rattle.words.proofs.mask.Reads as mask-reads
+
+-- src/lib.rt:205:9
+pass-requires : tie.Need-pass-requires
+pass-requires c κs = search needs
+
+-- src/lib.rt:206:9
+mask-requires : tie.Need-mask-requires
+mask-requires c κs = search needs
+
+-- src/lib.rt:208:9
+rotate-requires : tie.Need-rotate-requires
+rotate-requires c κs = let P = c .before .before in
+    let S = P .before .before .before .before .before in
+    (S .pre .0 .1, loaded-first (S .args .n) (S .pre .0 .1) _ (S .pre .1) _ _ (P .pass .ensures) _ (c .before .mask .ensures) _ refl)
+
+-- src/lib.rt:210:18
+pass-requires-2 : tie.Need-pass-requires-2
+pass-requires-2 c κs = let M = c .before .before .before .before in
+    let P = M .before in
+    let S = P .before .before .before .before .before in (
+      S .pre .0 .1,
+      loaded-rotated (S .args .n) (S .pre .0 .1) _ (S .pre .1) _ _ (P .pass .ensures) _ (M .mask .ensures) _ refl _
+          (c .before .before .rotate .ensures),
+    )
+
+-- src/lib.rt:212:9
+returns : tie.Need-returns
+returns c = let Q = c .before in
+    let M = Q .before .before .before .before .before in
+    let P = M .before in
+    let S = P .before .before .before .before .before in
+    let bad = left-over (S .args .n) (S .pre .0 .1) _ (S .pre .1) _ _ (P .pass .ensures) _ (M .mask .ensures) _ refl _
+    (Q .before .before .before .rotate .ensures) _ _ (Q .pass2 .ensures) (c .if1 .taken) in
+    (sym (ap not bad), (refl, refl))
+
+-- src/lib.rt:214:5
+write-record-requires : tie.Need-write-record-requires
+write-record-requires c κs = let Q = c .before .before .before .before in
+    let M = Q .before .before .before .before .before in
+    let P = M .before in
+    let S = P .before .before .before .before .before in (
+      (S .pre .0 .1, S .pre .0 .2, S .pre .0 .3),
+      λ j _. loaded-second (S .args .n) (S .pre .0 .1) _ (S .pre .1) _ _ (P .pass .ensures) _ (M .mask .ensures) _ refl _
+          (Q .before .before .before .rotate .ensures) _ _ (Q .pass2 .ensures) .within j,
+    )
+
+-- src/lib.rt:190:1
+same-length : tie.Need-same-length
+same-length c = search needs
+
+-- src/lib.rt:190:1
+same-length-2 : tie.Need-same-length-2
+same-length-2 c = search needs
+
+-- src/lib.rt:190:1
+returns-2 : tie.Need-returns-2
+returns-2 c = let W = c .before .before .before .before in
+    let Q = W .before .before .before .before .before in
+    let M = Q .before .before .before .before .before in
+    let P = M .before in
+    let S = P .before .before .before .before .before in
+    let same = W .before .before .before .before .if1 .left in
+    let good = complete (S .args .n) (S .pre .0 .1) _ (S .pre .1) _ _ (P .pass .ensures) _ (M .mask .ensures) _ refl _
+    (Q .before .before .before .rotate .ensures) _ _ (Q .pass2 .ensures) same in
+    let r = the-record (S .args .n) (S .pre .0 .1) _ (S .pre .1) _ _ (P .pass .ensures) _ (M .mask .ensures) _ refl _
+    (Q .before .before .before .rotate .ensures) _ _ (Q .pass2 .ensures) same in (
+      sym (ap not good),
+      (
+        W .write-record .ensures .0 ∙ ap (neighbourWords (S .args .n)) r,
+        W .write-record .ensures .1 ∙ ap (codeNumbers (S .args .n)) r,
+      ),
+    )
+
+pub reduce-tableau-spec : {M : Type 1} → statement M
+reduce-tableau-spec =
+    tie.close
+    (tie.spec
+    pass-requires
+    mask-requires
+    rotate-requires
+    pass-requires-2
+    returns
+    write-record-requires
+    same-length
+    same-length-2
+    returns-2)

@@ -1,0 +1,116 @@
+use mathlib.Core.Path.{refl}
+use Prim.Native.Nat.{_-_}
+use native.Mathlib.Omega.{arith}
+use borrow.Author.Needs.{needs}
+use Rattle.reduction.proofs.Rotating.{Rotated, rotate-end, rotate-start, rotate-step}
+use Rattle.reduction.proofs.rotate.Statement.{statement}
+use Rattle.reduction.proofs.rotate.Tie as tie
+use Rattle.reduction.proofs.rotate.Reads as reads
+use Rattle.reduction.proofs.rotate.Lts as lts
+use Rattle.words.proofs.flip_where.Reads as flip-where-reads
+use Rattle.words.proofs.odd.Reads as odd-reads
+
+abbrev Inv-loop : tie.InvT-loop
+Inv-loop signs₀ n columns rows₀ i₀ signs rows i = Rotated rows₀ signs₀ n columns rows signs i
+
+abbrev μ-loop : tie.MeasureT-loop
+μ-loop signs₀ n columns rows₀ i₀ signs rows i = n - i
+
+-- src/lib.rt:134:5
+loop-holds : tie.Need-loop-holds Inv-loop μ-loop
+loop-holds c = rotate-start _ _ _ _ (c .good .0 .1 .0 .1)
+
+-- src/lib.rt:135:19
+mul-row : tie.Need-mul-row Inv-loop μ-loop
+mul-row c = search needs
+
+-- src/lib.rt:135:19
+array-copy-out-row : tie.Need-array-copy-out-row Inv-loop μ-loop
+array-copy-out-row c = search needs
+
+-- src/lib.rt:136:24
+array-read-swapped : tie.Need-array-read-swapped Inv-loop μ-loop
+array-read-swapped c = search needs
+
+-- src/lib.rt:136:33
+array-read-swapped-2 : tie.Need-array-read-swapped-2 Inv-loop μ-loop
+array-read-swapped-2 c = search needs
+
+-- src/lib.rt:137:26
+array-read-odd : tie.Need-array-read-odd Inv-loop μ-loop
+array-read-odd c = search needs
+
+-- src/lib.rt:137:35
+array-read-odd-2 : tie.Need-array-read-odd-2 Inv-loop μ-loop
+array-read-odd-2 c = search needs
+
+-- src/lib.rt:137:13
+odd-requires : tie.Need-odd-requires Inv-loop μ-loop
+odd-requires c κs = search needs
+
+-- src/lib.rt:138:20
+array-read-flip-where : tie.Need-array-read-flip-where Inv-loop μ-loop
+array-read-flip-where c = search needs
+
+-- src/lib.rt:138:38
+array-read-t20 : tie.Need-array-read-t20 Inv-loop μ-loop
+array-read-t20 c = search needs
+
+-- src/lib.rt:138:9
+mul-rows : tie.Need-mul-rows Inv-loop μ-loop
+mul-rows c = search needs
+
+-- src/lib.rt:138:9
+array-set-from-rows : tie.Need-array-set-from-rows Inv-loop μ-loop
+array-set-from-rows c = search needs
+
+-- src/lib.rt:139:18
+flip-where-requires : tie.Need-flip-where-requires Inv-loop μ-loop
+flip-where-requires c κs = search needs
+
+-- src/lib.rt:140:9
+add-i : tie.Need-add-i Inv-loop μ-loop
+add-i c = search needs
+
+-- src/lib.rt:134:5
+loop-less : tie.Need-loop-less Inv-loop μ-loop
+loop-less c = omega arith
+
+-- src/lib.rt:134:5
+loop-again : tie.Need-loop-again Inv-loop μ-loop
+loop-again c = let L = c .before .before .before .before .before .loop in
+    let S = c .before .before .before .before .before .before in
+    rotate-step (S .args .t1) (S .args .signs .now) (S .args .n) (S .args .columns) (L .rows) (L .signs) (L .i) (L .inv)
+    (c .before .before .before .before .loop-test .taken) (S .pre .0) (S .fits .columns .fits) _ _ _ (c .before .before .odd .ensures) refl
+    (c .flip-where .ensures)
+
+-- src/lib.rt:129:1
+returns : tie.Need-returns Inv-loop μ-loop
+returns c = let L = c .before .loop in
+    let S = c .before .before in
+    rotate-end (S .args .t1) (S .args .signs .now) (S .args .n) (S .args .columns) (L .rows) (L .signs) (L .i) (L .inv)
+    (c .loop-test .left) (S .pre .1 .beyond)
+
+pub rotate-spec : {M : Type 1} → statement M
+rotate-spec =
+    tie.close
+    (tie.spec
+    Inv-loop
+    μ-loop
+    loop-holds
+    mul-row
+    array-copy-out-row
+    array-read-swapped
+    array-read-swapped-2
+    array-read-odd
+    array-read-odd-2
+    odd-requires
+    array-read-flip-where
+    array-read-t20
+    mul-rows
+    array-set-from-rows
+    flip-where-requires
+    add-i
+    loop-less
+    loop-again
+    returns)

@@ -1,0 +1,272 @@
+// Reduction by value on an array of 64 rows of two words, z and x, beside one word of signs.
+use pauli::letters_minus;
+use words::flip;
+use words::flip_where;
+use words::has;
+use words::mask;
+use words::odd;
+use words::put_bit;
+use words::single;
+use words::smallest;
+ghost use mathlib.Core.Bool.{_&&_, cond, false, not, true};
+ghost use mathlib.Core.List.{[]};
+ghost use mathlib.Core.Path.{_≡_};
+ghost use Prim.Native.Nat.{ℕ, _<_, _≤_, suc};
+ghost use lib.Dec.{ltb};
+ghost use lib.ListN.{getD, length};
+ghost use Rattle.clifford.specs.Clifford.{codeOf};
+ghost use Rattle.clifford.specs.Vectors.{act};
+ghost use Rattle.pauli.specs.Pauli.{Pauli, anticommute};
+ghost use Rattle.record.specs.Lent.{codeNumbers, neighbourWords};
+ghost use Rattle.record.specs.Reduced.{hadamardWhere, plainCode, recordOf, reduced, withHadamard};
+ghost use Rattle.reduction.specs.Passes.{Eliminated, Loaded, PivotReady, Reducible};
+ghost use Rattle.stabilizer.specs.Elimination.{lend, pivotOn, shear};
+ghost use Rattle.stabilizer.specs.Groups.{Within};
+ghost use Rattle.stabilizer.specs.Lists.{dependent, rows};
+ghost use Rattle.stabilizer.specs.Tableau.{tableau};
+ghost use Rattle.words.specs.Bits.{Word, bit};
+
+// Row a multiplied into each row that the word named names.
+pub fn shear_rows(mut rows: [[u64; 2]; 64], signs: &mut u64, a: usize, named: u64) -> [[u64; 2]; 64]
+    requires { ⌜ (a < 64) × (bit named a ≡ false) ⌝ }
+    requires { ⌜ ((j : ℕ) → bit named j ≡ true → anticommute 64 (tableau (now signs) rows j) (tableau (now signs) rows a) ≡ false) ⌝ }
+    ensures { λ r. ⌜ ((j : ℕ) → tableau (now (signs .exit)) r j ≡ shear 64 (tableau (now (signs .entry)) rows) a (bit named) j) ⌝ }
+{
+    let by = rows[a];
+    let sign = has(*signs, a);
+    let mut rest = named;
+    while rest != 0 {
+        let j = smallest(rest);
+        let row = rows[j];
+        let minus = letters_minus(row[0], row[1], by[0], by[1]);
+        rows[j] = [row[0] ^ by[0], row[1] ^ by[1]];
+        *signs = flip_where(*signs, j, sign != minus);
+        rest = flip(rest, j);
+    }
+    rows
+}
+
+// The rows below n that have x bit q.
+fn column(rows: &[[u64; 2]; 64], n: usize, q: usize) -> u64
+    requires { ⌜ (n ≤ 64) × (q < 64) ⌝ }
+    ensures { λ r. ⌜ ((j : ℕ) → bit r j ≡ (ltb j n && bit (getD (getD (now (rows .entry)) j []) 1 0) q)) ⌝ }
+{
+    let mut word = 0;
+    let mut j = 0;
+    while j < n {
+        let row = rows[j];
+        word = flip_where(word, j, has(row[1], q));
+        j += 1;
+    }
+    word
+}
+
+// Row i, which has x bit q, lends it to row q where that one lacks it.
+fn lend_bit(
+    rows: [[u64; 2]; 64],
+    signs: &mut u64,
+    q: usize,
+    i: usize,
+    holders: u64,
+) -> [[u64; 2]; 64]
+    requires { ⌜ PivotReady (tableau (now signs) rows) q i holders ⌝ }
+    ensures { λ r. ⌜ ((j : ℕ) → tableau (now (signs .exit)) r j ≡ shear 64 (tableau (now (signs .entry)) rows) i (lend (tableau (now (signs .entry)) rows) q) j) ⌝ }
+{
+    if has(holders, q) {
+        return rows;
+    }
+    shear_rows(rows, signs, i, single(q))
+}
+
+// The pivot of column q: row i lends its x bit to row q, and row q clears it from every other row.
+fn pivot_column(
+    rows: [[u64; 2]; 64],
+    signs: &mut u64,
+    q: usize,
+    i: usize,
+    holders: u64,
+) -> [[u64; 2]; 64]
+    requires { ⌜ PivotReady (tableau (now signs) rows) q i holders ⌝ }
+    ensures { λ r. ⌜ ((j : ℕ) → tableau (now (signs .exit)) r j ≡ pivotOn 64 (tableau (now (signs .entry)) rows) q i j) ⌝ }
+{
+    let lent = lend_bit(rows, signs, q, i, holders);
+    shear_rows(lent, signs, q, put_bit(holders, q, false))
+}
+
+// One column of a pass: where an unused row has x bit q, the column gets its pivot.
+fn pass_column(
+    rows: [[u64; 2]; 64],
+    signs: &mut u64,
+    n: usize,
+    q: usize,
+    pivots: &mut u64,
+) -> [[u64; 2]; 64]
+    requires { ⌜ (n ≤ 64) × (q < n) × Loaded n (tableau (now signs) rows) ⌝ }
+    ensures { λ r. ⌜ ((R : ℕ → Pauli) (w : Word) → Eliminated n R w (tableau (now (signs .entry)) rows) (bit (now (pivots .entry))) q → Eliminated n R w (tableau (now (signs .exit)) r) (bit (now (pivots .exit))) (suc q)) ⌝ }
+{
+    let holders = column(&rows, n, q);
+    let free = holders ^ (holders & *pivots);
+    if free == 0 {
+        return rows;
+    }
+    *pivots = put_bit(*pivots, q, true);
+    pivot_column(rows, signs, q, smallest(free), holders)
+}
+
+// A pass over the columns below n. The word pivots names the rows that are pivots already.
+fn pass(mut rows: [[u64; 2]; 64], signs: &mut u64, n: usize, pivots: &mut u64) -> [[u64; 2]; 64]
+    requires { ⌜ (n ≤ 64) × Loaded n (tableau (now signs) rows) ⌝ }
+    ensures { λ r. ⌜ Eliminated n (tableau (now (signs .entry)) rows) (bit (now (pivots .entry))) (tableau (now (signs .exit)) r) (bit (now (pivots .exit))) n ⌝ }
+{
+    let mut q = 0;
+    while q < n {
+        let next = pass_column(rows, signs, n, q, pivots);
+        rows = next;
+        q += 1;
+    }
+    rows
+}
+
+// Hadamards on the columns that the word names: z and x are exchanged there, and a sign flips for each Y.
+fn rotate(mut rows: [[u64; 2]; 64], signs: &mut u64, n: usize, columns: u64) -> [[u64; 2]; 64]
+    requires { ⌜ (n ≤ 64) × Loaded n (tableau (now signs) rows) ⌝ }
+    ensures { λ r. ⌜ ((j : ℕ) → tableau (now (signs .exit)) r j ≡ act 64 (hadamardWhere (bit columns)) (tableau (now (signs .entry)) rows j)) ⌝ }
+{
+    let mut i = 0;
+    while i < n {
+        let row = rows[i];
+        let swapped = (row[0] ^ row[1]) & columns;
+        let minus = odd((row[0] & row[1]) & columns);
+        rows[i] = [row[0] ^ swapped, row[1] ^ swapped];
+        *signs = flip_where(*signs, i, minus);
+        i += 1;
+    }
+    rows
+}
+
+// The code of a vertex: 0 for +X, 2 for -X, 4 for +Y, 6 for -Y; followed by 8 where a Hadamard was used.
+fn vertex_code(hadamard: bool, y: bool, minus: bool) -> u8
+    ensures { λ r. ⌜ (r ≡ codeOf (withHadamard hadamard (plainCode y minus))) × (r < 24) ⌝ }
+{
+    if hadamard {
+        if y {
+            if minus { 16 } else { 18 }
+        } else {
+            if minus { 10 } else { 8 }
+        }
+    } else {
+        if y {
+            if minus { 6 } else { 4 }
+        } else {
+            if minus { 2 } else { 0 }
+        }
+    }
+}
+
+// Writes the record of rows that have X or Y at their own place and I or Z elsewhere.
+fn write_record(
+    rows: &[[u64; 2]; 64],
+    signs: u64,
+    n: usize,
+    hadamards: u64,
+    neighbours: &mut [u64],
+    codes: &mut [u8],
+)
+    requires { ⌜ (n ≤ 64) × (length (now neighbours) ≡ n) × (length (now codes) ≡ n) ⌝ }
+    requires { ⌜ ((j : ℕ) → j < n → Within n (tableau signs (now rows) j)) ⌝ }
+    ensures { λ r. ⌜ now (neighbours .exit) ≡ neighbourWords n (recordOf n (bit hadamards) (tableau signs (now (rows .entry)))) ⌝ }
+    ensures { λ r. ⌜ now (codes .exit) ≡ codeNumbers n (recordOf n (bit hadamards) (tableau signs (now (rows .entry)))) ⌝ }
+{
+    let mut q = 0;
+    while q < n {
+        let row = rows[q];
+        neighbours[q] = put_bit(row[0], q, false);
+        codes[q] = vertex_code(has(hadamards, q), has(row[0], q), has(signs, q));
+        q += 1;
+    }
+}
+
+// The rows of a lent list, with a word for their signs.
+pub fn load_list(n: usize, signs: &[u8], z: &[u64], x: &[u64], minuses: &mut u64) -> [[u64; 2]; 64]
+    requires { ⌜ (n ≤ 64) × (length (now signs) ≡ n) × (length (now z) ≡ n) × (length (now x) ≡ n) ⌝ }
+    requires { ⌜ now minuses ≡ 0 ⌝ }
+    ensures { λ r. ⌜ ((j : ℕ) → tableau (now (minuses .exit)) r j ≡ rows (record {
+      n = n;
+      signs = now (signs .entry);
+      z = now (z .entry);
+      x = now (x .entry);
+    }) j) ⌝ }
+{
+    let mut loaded = [[0, 0]; 64];
+    let mut j = 0;
+    while j < n {
+        loaded[j] = [z[j], x[j]];
+        *minuses = flip_where(*minuses, j, signs[j] % 2 == 1);
+        j += 1;
+    }
+    loaded
+}
+
+// The reduced record of the tableau's group, where its rows are independent: then it is written, and the answer is true.
+pub fn reduce_tableau(
+    rows: [[u64; 2]; 64],
+    signs: u64,
+    n: usize,
+    neighbours: &mut [u64],
+    codes: &mut [u8],
+) -> bool
+    requires { ⌜ (1 ≤ n) × (n ≤ 64) × (length (now neighbours) ≡ n) × (length (now codes) ≡ n) ⌝ }
+    requires { ⌜ Loaded n (tableau signs rows) ⌝ }
+    ensures { λ r. ⌜ r ≡ not (dependent n (tableau signs rows)) ⌝ }
+    ensures { λ r. ⌜ now (neighbours .exit) ≡ cond r (neighbourWords n (reduced n (tableau signs rows))) (now (neighbours .entry)) ⌝ }
+    ensures { λ r. ⌜ now (codes .exit) ≡ cond r (codeNumbers n (reduced n (tableau signs rows))) (now (codes .entry)) ⌝ }
+{
+    let mut minuses = signs;
+    let mut kept = 0;
+    let first = pass(rows, &mut minuses, n, &mut kept);
+    let all = mask(n);
+    let hadamards = all ^ kept;
+    let rotated = rotate(first, &mut minuses, n, hadamards);
+    let mut pivots = kept;
+    let second = pass(rotated, &mut minuses, n, &mut pivots);
+    if pivots != all {
+        return false;
+    }
+    write_record(&second, minuses, n, hadamards, neighbours, codes);
+    true
+}
+
+// The reduced record of a lent list, where its generators are independent: then it is written, and the answer is true.
+pub fn reduce_list(
+    n: usize,
+    signs: &[u8],
+    z: &[u64],
+    x: &[u64],
+    neighbours: &mut [u64],
+    codes: &mut [u8],
+) -> bool
+    requires { ⌜ Reducible (record { n = n; signs = now signs; z = now z; x = now x }) ⌝ }
+    requires { ⌜ (length (now neighbours) ≡ n) × (length (now codes) ≡ n) ⌝ }
+    ensures { λ r. ⌜ r ≡ not (dependent n (rows (record {
+      n = n;
+      signs = now (signs .entry);
+      z = now (z .entry);
+      x = now (x .entry);
+    }))) ⌝ }
+    ensures { λ r. ⌜ now (neighbours .exit) ≡ cond r (neighbourWords n (reduced n (rows (record {
+      n = n;
+      signs = now (signs .entry);
+      z = now (z .entry);
+      x = now (x .entry);
+    })))) (now (neighbours .entry)) ⌝ }
+    ensures { λ r. ⌜ now (codes .exit) ≡ cond r (codeNumbers n (reduced n (rows (record {
+      n = n;
+      signs = now (signs .entry);
+      z = now (z .entry);
+      x = now (x .entry);
+    })))) (now (codes .entry)) ⌝ }
+{
+    let mut minuses = 0;
+    let rows = load_list(n, signs, z, x, &mut minuses);
+    reduce_tableau(rows, minuses, n, neighbours, codes)
+}

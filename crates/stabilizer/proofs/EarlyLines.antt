@@ -1,0 +1,80 @@
+-- The number that a list is refused with before any elimination, from the answers of the tests in their
+-- order.
+-- Assumes nothing.
+use mathlib.Core.Bool.{Bool, false, true, _||_}
+use mathlib.Core.Path.{ap₂, refl, sym, _∙_, _≡_}
+use Prim.Native.Nat.{_^_, _≤_}
+use lib.ListN.{length}
+use Rattle.buffers.proofs.Lines.{fits, none-fits, passed}
+use Rattle.buffers.specs.Refusals.{badCount, firstFitting, otherThan, reaching}
+use Rattle.pauli.specs.Pauli.{anticommute}
+use Rattle.stabilizer.proofs.Pairs.{lettersOf}
+use Rattle.stabilizer.proofs.SharedTests.{counted, has-length, neither}
+use Rattle.stabilizer.specs.Lists.{
+  GeneratorList,
+  clashing,
+  earlyLines,
+  listLengths,
+  listSigns,
+  listStray,
+  rows,
+}
+
+-- what a test that answers v says, where v is b
+pub says : {v b t : Bool} → v ≡ b → v ≡ t → b ≡ t
+says e h = sym e ∙ h
+
+pub either-says : {v w b c t : Bool} → v ≡ b → w ≡ c → (v || w) ≡ t → (b || c) ≡ t
+either-says e f h = sym (ap₂ _||_ e f) ∙ h
+
+-- commutation is a matter of the letters
+pub clashing-letters : (l : GeneratorList)
+    → clashing (l .n) (lettersOf (l .z) (l .x)) ≡ clashing (l .n) (rows l)
+unfolding clashing anticommute
+clashing-letters l = refl
+
+module _ (l : GeneratorList) (others : Bool) where
+  pub refused-2 : badCount (l .n) ≡ true → 2 ≡ firstFitting (earlyLines l others)
+  refused-2 h2 = sym (fits 2 _ h2)
+
+  module _ (h2 : badCount (l .n) ≡ false) where
+    pub refused-4 : (listLengths l || others) ≡ true → 4 ≡ firstFitting (earlyLines l others)
+    refused-4 h4 = sym (passed 2 _ h2 ∙ fits 4 _ h4)
+
+    module _ (h4 : (listLengths l || others) ≡ false) where
+      pub refused-5 : listStray l ≡ true → 5 ≡ firstFitting (earlyLines l others)
+      refused-5 h5 = sym (passed 2 _ h2 ∙ passed 4 _ h4 ∙ fits 5 _ h5)
+
+      module _ (h5 : listStray l ≡ false) where
+        pub refused-6 : listSigns l ≡ true → 6 ≡ firstFitting (earlyLines l others)
+        refused-6 h6 = sym (passed 2 _ h2 ∙ passed 4 _ h4 ∙ passed 5 _ h5 ∙ fits 6 _ h6)
+
+        module _ (h6 : listSigns l ≡ false) where
+          pub refused-9 : clashing (l .n) (rows l) ≡ true → 9 ≡ firstFitting (earlyLines l others)
+          refused-9 h9 =
+              sym (passed 2 _ h2 ∙ passed 4 _ h4 ∙ passed 5 _ h5 ∙ passed 6 _ h6 ∙ fits 9 _ h9)
+
+          pub not-refused : clashing (l .n) (rows l) ≡ false → 0 ≡ firstFitting (earlyLines l others)
+          not-refused h9 =
+              sym (passed 2 _ h2 ∙ passed 4 _ h4 ∙ passed 5 _ h5 ∙ passed 6 _ h6 ∙ passed 9 _ h9 ∙ none-fits)
+
+-- ---- what the test of line 9 asks for
+-- line 4 does not hold: each buffer has n places
+pub list-lengths-are : (l : GeneratorList) → listLengths l ≡ false →
+    (length (l .signs) ≡ l .n) × (length (l .z) ≡ l .n) × (length (l .x) ≡ l .n)
+list-lengths-are l e =
+    let h = neither (otherThan (l .n) (l .signs)) (otherThan (l .n) (l .z) || otherThan (l .n) (l .x)) e in
+    let k = neither (otherThan (l .n) (l .z)) (otherThan (l .n) (l .x)) (h .1) in (
+      has-length (l .n) (l .signs) (h .0),
+      has-length (l .n) (l .z) (k .0),
+      has-length (l .n) (l .x) (k .1),
+    )
+
+-- what the test of line 9 asks for, where lines 2, 4 and 5 do not hold
+pub clash-tested : (l : GeneratorList) (others : Bool) → badCount (l .n) ≡ false →
+    (listLengths l || others) ≡ false → listStray l ≡ false →
+    ((l .n ≤ 64) × (length (l .z) ≡ l .n) × (length (l .x) ≡ l .n))
+    × ((reaching (2 ^ (l .n)) (l .z) ≡ false) × (reaching (2 ^ (l .n)) (l .x) ≡ false))
+clash-tested l others h2 h4 h5 =
+    let lengths = list-lengths-are l (neither (listLengths l) others h4 .0) in
+    ((counted (l .n) h2 .1, lengths .1, lengths .2), neither _ _ h5)

@@ -1,0 +1,63 @@
+-- The worked texts of document 01, at the definitions: the input, the output, a refusal, and the verdicts on
+-- the input, on the empty text and on the names alone.
+-- Assumes nothing.
+use mathlib.Core.Path.{_≡_, refl}
+use mathlib.Core.Bool.{true, false}
+use mathlib.Core.List.{List, [], _∷_, _++_}
+use Prim.Native.Nat.{ℕ, _+_}
+use lib.ListN.{replicate}
+use Rattle.text.specs.Text.{hexDigit, hexText, decimal, Line, lineText, linesText, listNames, listText}
+use Rattle.text.specs.Text.{recordLine, recordLines, recordText, refusedText}
+use Rattle.text.specs.Scan.{hexValue, push, namesStep, signStep, zStep, xStep, oneMore, step, begin}
+use Rattle.text.specs.Scan.{Reading, reading, feed, fed, verdict}
+use Rattle.text.specs.declared.scan.Verdict.{Verdict}
+
+-- XX and ZZ
+bell : List Line
+bell = record { sign = 0; z = 0; x = 3 } ∷ record { sign = 0; z = 3; x = 0 } ∷ []
+
+-- 15 zeros and a digit
+abbrev wordText : ℕ → List ℕ
+wordText d = replicate 15 48 ++ (48 + d) ∷ []
+
+abbrev input : List ℕ
+input =
+    115 ∷ 105 ∷ 103 ∷ 110 ∷ 32 ∷ 122 ∷ 32 ∷ 120 ∷ 10
+    ∷ 48 ∷ 32 ∷ wordText 0 ++ 32 ∷ wordText 3 ++ 10
+    ∷ 48 ∷ 32 ∷ wordText 3 ++ 32 ∷ wordText 0 ++ 10 ∷ []
+
+input-text : listText bell ≡ input
+unfolding bell hexDigit hexText lineText linesText listText
+input-text = refl
+
+output-text : recordText 2 (2 ∷ 1 ∷ []) (0 ∷ 8 ∷ [])
+    ≡ 113 ∷ 117 ∷ 98 ∷ 105 ∷ 116 ∷ 32 ∷ 99 ∷ 111 ∷ 100 ∷ 101 ∷ 32
+    ∷ 110 ∷ 101 ∷ 105 ∷ 103 ∷ 104 ∷ 98 ∷ 111 ∷ 117 ∷ 114 ∷ 115 ∷ 10
+    ∷ 48 ∷ 32 ∷ 48 ∷ 32 ∷ wordText 2 ++ 10
+    ∷ 49 ∷ 32 ∷ 56 ∷ 32 ∷ wordText 1 ++ 10 ∷ []
+unfolding hexDigit hexText decimal recordLine recordLines recordText
+output-text = refl
+
+-- "refused 10"
+refusal-text : refusedText 10 ≡ 114 ∷ 101 ∷ 102 ∷ 117 ∷ 115 ∷ 101 ∷ 100 ∷ 32 ∷ 49 ∷ 48 ∷ 10 ∷ []
+unfolding decimal refusedText
+refusal-text = refl
+
+-- the reading of a text, from empty buffers
+readingOf : List ℕ → Reading
+readingOf t = fed (reading begin (replicate 64 0) (replicate 64 0) (replicate 64 0)) t
+
+judgement : List ℕ → Verdict
+judgement t = verdict (readingOf t .scan)
+
+input-read : judgement input ≡ record { «has_form» = true; count = 2 }
+unfolding judgement readingOf verdict fed feed step namesStep signStep zStep xStep oneMore hexValue push begin
+input-read = refl
+
+empty-read : judgement [] ≡ record { «has_form» = false; count = 0 }
+unfolding judgement readingOf verdict fed begin
+empty-read = refl
+
+names-read : judgement listNames ≡ record { «has_form» = true; count = 0 }
+unfolding judgement readingOf verdict fed feed step namesStep begin
+names-read = refl

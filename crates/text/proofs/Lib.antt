@@ -1,0 +1,12 @@
+pub mod Writing
+pub mod HexLaws
+pub mod DigitLaws
+pub mod RecordLaws
+pub mod FormLaws
+pub mod Feeding
+pub mod ScanLine
+pub mod ScanList
+pub mod ScanSound
+pub mod Verdict
+pub mod KeptLaws
+pub mod Examples

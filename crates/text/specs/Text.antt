@@ -1,0 +1,117 @@
+-- The text of a generator list and the texts that answer it, as lists of bytes: 10 ends a line, 32 is the
+-- space, 48 the digit 0, 97 the letter a.
+-- Assumes nothing.
+use mathlib.Core.Path.{_≡_}
+use mathlib.Core.Bool.{cond}
+use mathlib.Core.List.{List, [], _∷_, _++_}
+use Prim.Native.Nat.{ℕ, zero, suc, _+_, _*_, _/_, _%_, _^_, _≤_, _<_}
+use lib.Dec.{ltb}
+use lib.ListN.{length, getD, take, drop}
+
+-- a lower-case hexadecimal digit
+unfoldable pub hexDigit : ℕ → ℕ
+hexDigit d = cond (ltb d 10) (48 + d) (87 + d)
+
+-- the last k hexadecimal digits of w, the highest first
+unfoldable pub hexText : ℕ → ℕ → List ℕ
+hexText zero w = []
+hexText (suc k) w = hexText k (w / 16) ++ hexDigit (w % 16) ∷ []
+
+-- a decimal number below 100, with no leading zero
+unfoldable pub decimal : ℕ → List ℕ
+decimal k = cond (ltb k 10) ((48 + k) ∷ []) ((48 + k / 10) ∷ (48 + k % 10) ∷ [])
+
+abbrev pub space : List ℕ
+space = 32 ∷ []
+
+abbrev pub newline : List ℕ
+newline = 10 ∷ []
+
+-- "a sign bit (1 means minus), a z word and an x word"; the text's form allows every sign digit
+pub record Line : Type 0 where
+  pub sign : ℕ
+  pub z : ℕ
+  pub x : ℕ
+
+-- one decimal digit and two words of 64 bits
+pub record Fits (l : Line) : Type 0 where
+  pub sign : l .sign < 10
+  pub z : l .z < 2 ^ 64
+  pub x : l .x < 2 ^ 64
+
+-- each line is a digit and two words
+abbrev pub AllFit : List Line → Type 0
+AllFit [] = Unit
+AllFit (l ∷ ls) = Fits l × AllFit ls
+
+-- "one line per generator, .. with a decimal sign digit and two words of 16 lower-case hexadecimal digits, fields
+-- parted by one space, every line ended by a newline"
+unfoldable pub lineText : Line → List ℕ
+lineText l = (48 + l .sign) ∷ [] ++ space ++ hexText 16 (l .z) ++ space ++ hexText 16 (l .x) ++ newline
+
+-- one line after the other
+unfoldable pub linesText : List Line → List ℕ
+linesText [] = []
+linesText (l ∷ ls) = lineText l ++ linesText ls
+
+-- "the line of names `sign z x`"
+abbrev pub listNames : List ℕ
+listNames = 115 ∷ 105 ∷ 103 ∷ 110 ∷ 32 ∷ 122 ∷ 32 ∷ 120 ∷ 10 ∷ []
+
+-- the text of a generator list
+unfoldable pub listText : List Line → List ℕ
+listText ls = listNames ++ linesText ls
+
+-- t is the text of the list ls
+pub record TextOf (ls : List Line) (t : List ℕ) : Type 0 where
+  pub fit : AllFit ls
+  pub text : t ≡ listText ls
+
+-- the text has the form; refusal 1 is that it has not
+abbrev pub HasForm : List ℕ → Type 0
+HasForm t = (ls : List Line) × TextOf ls t
+
+-- "one line per qubit, rising from 0, with decimal qubit and code and the neighbour word in 16 hexadecimal digits"
+unfoldable pub recordLine : ℕ → ℕ → ℕ → List ℕ
+recordLine q code w = decimal q ++ space ++ decimal code ++ space ++ hexText 16 w ++ newline
+
+-- the lines of the qubits below n, rising from 0
+unfoldable pub recordLines : ℕ → List ℕ → List ℕ → List ℕ
+recordLines zero neighbours codes = []
+recordLines (suc q) neighbours codes =
+    recordLines q neighbours codes ++ recordLine q (getD codes q 0) (getD neighbours q 0)
+
+-- "the names `qubit code neighbours`"
+abbrev pub recordNames : List ℕ
+recordNames =
+    113 ∷ 117 ∷ 98 ∷ 105 ∷ 116 ∷ 32 ∷ 99 ∷ 111 ∷ 100 ∷ 101 ∷ 32
+    ∷ 110 ∷ 101 ∷ 105 ∷ 103 ∷ 104 ∷ 98 ∷ 111 ∷ 117 ∷ 114 ∷ 115 ∷ 10 ∷ []
+
+-- the print of a record
+unfoldable pub recordText : ℕ → List ℕ → List ℕ → List ℕ
+recordText n neighbours codes = recordNames ++ recordLines n neighbours codes
+
+-- "the one line `refused` and the number"
+abbrev pub refusedWord : List ℕ
+refusedWord = 114 ∷ 101 ∷ 102 ∷ 117 ∷ 115 ∷ 101 ∷ 100 ∷ 32 ∷ []
+
+-- the print of refusal k
+unfoldable pub refusedText : ℕ → List ℕ
+refusedText k = refusedWord ++ decimal k ++ newline
+
+-- out with these bytes from place at on
+unfoldable pub written : List ℕ → ℕ → List ℕ → List ℕ
+written out at bytes = take at out ++ bytes ++ drop (at + length bytes) out
+
+-- the bytes are printed at place at, which turns the buffer from before into after; r is the place behind them
+pub record Printed (bytes : List ℕ) (at : ℕ) (before after : List ℕ) (r : ℕ) : Type 0 where
+  pub end : r ≡ at + length bytes
+  pub out : after ≡ written before at bytes
+
+-- what a record and its buffer must be for the print
+pub record Printable (n : ℕ) (neighbours codes out : List ℕ) : Type 0 where
+  pub qubits : n ≤ 64
+  pub neighbours-long : n ≤ length neighbours
+  pub codes-long : n ≤ length codes
+  pub codes-small : (q : ℕ) → q < n → getD codes q 0 < 24
+  pub room : 22 + n * 23 ≤ length out
