@@ -2,7 +2,8 @@
 -- Assumes nothing.
 use mathlib.Core.Bool.{_&&_, Bool, Bool·beq, not}
 use mathlib.Core.List.{List, [], _∷_}
-use mathlib.Core.Path.{ap, ap₂, refl, _∙_, _≡_}
+use mathlib.Core.Logic.{inl, inr}
+use mathlib.Core.Path.{ap, ap₂, refl, sym, _∙_, _≡_}
 use Prim.Native.Nat.{_+_, _<_, zero-le, ℕ, _≤_}
 use native.Mathlib.Nat.{le-refl}
 use native.Mathlib.Omega.{arith}
@@ -11,10 +12,13 @@ use lib.ListN.{getD, length, length-set, set}
 use Rattle.pauli.proofs.PauliLaws.{Pauli-path}
 use Rattle.pauli.proofs.PhaseLaws.{minus-⊕}
 use Rattle.pauli.specs.Pauli.{_+ᵖ_, minus, signedRow}
+use Rattle.reduction.specs.Passes.{Loaded}
 use Rattle.stabilizer.specs.Lists.{rows}
 use Rattle.stabilizer.specs.Tableau.{tableau}
 use Rattle.words.proofs.Finite.{unequal, ⊕-assoc}
+use Rattle.words.proofs.Sums.{lt-or-ge}
 use Rattle.words.specs.Bits.{bit, put, _⊕_}
+use Rattle.operations.proofs.CzLaws.{cz-identity}
 use Rattle.operations.proofs.TableauLoops.{ChangedBelow, change-more, change-start, row-stored}
 use Rattle.operations.specs.Cz.{cz, czRows}
 
@@ -61,3 +65,13 @@ cz-more a b n signs₀ rows₀ signs rows i signs′ s z x {m} C l h e r p =
           (r ∙ ap (λ v. cz a b (signedRow v (getD (getD rows i []) 0 0) (getD (getD rows i []) 1 0))) e
           ∙ ap (cz a b) (C .changed .rest i (le-refl i)));
     }
+
+-- all rows, where those at and above n are the identity
+pub cz-done : (a b n signs₀ : ℕ) (rows₀ : List (List ℕ)) (signs : ℕ) (rows : List (List ℕ)) (i : ℕ)
+    → CzBelow a b n signs₀ rows₀ signs rows i → n ≤ i → Loaded n (tableau signs₀ rows₀)
+    → (j : ℕ) → tableau signs rows j ≡ cz a b (tableau signs₀ rows₀ j)
+cz-done a b n signs₀ rows₀ signs rows i C h L j = elim (lt-or-ge j i) [
+  | inl k ↦ C .changed .done j k
+  | inr k ↦ C .changed .rest j k ∙ L .beyond j (omega (arith, h, k))
+      ∙ sym (ap (cz a b) (L .beyond j (omega (arith, h, k))) ∙ cz-identity a b)
+]

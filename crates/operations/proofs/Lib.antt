@@ -16,4 +16,3 @@ pub mod TableauLoops
 pub mod CzRows
 pub mod ReadingOff
 pub mod ProjectedRows
-pub mod ProjectionLoop

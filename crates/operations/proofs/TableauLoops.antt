@@ -2,9 +2,9 @@
 -- Assumes nothing.
 use mathlib.Core.Bool.{Bool}
 use mathlib.Core.List.{List, [], _∷_}
-use mathlib.Core.Path.{ap₂, refl, sym, _∙_, _≡_}
+use mathlib.Core.Path.{ap₂, refl, _∙_, _≡_}
 use Prim.Native.Nat.{_+_, _<_, ℕ, _≤_}
-use native.Mathlib.Nat.{le-refl, not-suc-le-zero}
+use native.Mathlib.Nat.{not-suc-le-zero}
 use native.Mathlib.Omega.{arith}
 use lib.ListN.{getD, length, set}
 use lib.Seq.{getD-set-other, getD-set-same}
@@ -44,13 +44,4 @@ change-more f old new new′ i r C h e =
           (h i ∙ put-same new i r ∙ e);
       rest = λ j l. h j ∙ put-other new i r j (λ d. absurd (omega (arith, d, l)))
           ∙ C .rest j (omega (arith, l));
-    }
-
--- a row that is to stay as it is
-pub change-kept : (f old new new′ : ℕ → Pauli) (i : ℕ) → ChangedBelow f old new i
-    → ((j : ℕ) → new′ j ≡ new j) → f i ≡ old i → ChangedBelow f old new′ (i + 1)
-change-kept f old new new′ i C h e =
-    record {
-      done = below-more _ i (λ j l. h j ∙ C .done j l) (h i ∙ C .rest i (le-refl i) ∙ sym e);
-      rest = λ j l. h j ∙ C .rest j (omega (arith, l));
     }

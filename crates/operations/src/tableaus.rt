@@ -1,24 +1,26 @@
 // CZ and measurements on a tableau: rows of a z word and an x word beside one word of signs.
 use pauli::Generator;
 use pauli::Letter;
-use pauli::letters_minus;
 use pauli::x_bit;
 use pauli::z_bit;
 use words::flip_where;
 use words::has;
 use words::put_bit;
+use reduction::shear_rows;
 use words::single;
-ghost use mathlib.Core.Bool.{Bool, _&&_, false};
+use words::smallest;
+ghost use mathlib.Core.Bool.{_&&_, false};
 ghost use mathlib.Core.Path.{_≡_};
 ghost use Prim.Native.Nat.{ℕ, _<_, _≤_};
-ghost use lib.Dec.{eqb};
-ghost use Rattle.pauli.specs.Pauli.{anticommute, clash, letter, mul};
+ghost use lib.Dec.{eqb, ltb};
+ghost use Rattle.pauli.specs.Pauli.{clash, letter, letterAt};
 ghost use Rattle.pauli.specs.Rows.{generatorOf};
-ghost use Rattle.stabilizer.specs.Groups.{Commuting, Within};
+ghost use Rattle.reduction.specs.Passes.{Loaded};
+ghost use Rattle.stabilizer.specs.Groups.{Independent};
 ghost use Rattle.stabilizer.specs.Tableau.{tableau};
-ghost use Rattle.words.specs.Bits.{_⊕_, bit};
+ghost use Rattle.words.specs.Bits.{bit};
 ghost use Rattle.operations.specs.Cz.{cz};
-ghost use Rattle.operations.specs.Measurement.{firstAgainst, projected, single};
+ghost use Rattle.operations.specs.Measurement.{isDetermined, measuredRows};
 
 // A row sent through CZ on a and b.
 fn cz_row(g: Generator, a: usize, b: usize) -> Generator
@@ -43,8 +45,8 @@ pub fn cz_tableau(
     a: usize,
     b: usize,
 ) -> [[u64; 2]; 64]
-    requires { ⌜ (n ≤ 64) × (a < 64) × (b < 64) ⌝ }
-    ensures { λ r. ⌜ ((j : ℕ) → j < n → tableau (now (signs .exit)) r j ≡ cz a b (tableau (now (signs .entry)) rows j)) ⌝ }
+    requires { ⌜ (n ≤ 64) × (a < n) × (b < n) × Loaded n (tableau (now signs) rows) ⌝ }
+    ensures { λ r. ⌜ ((j : ℕ) → tableau (now (signs .exit)) r j ≡ cz a b (tableau (now (signs .entry)) rows j)) ⌝ }
 {
     let mut i = 0;
     while i < n {
@@ -73,32 +75,20 @@ fn clashes_at(z: u64, x: u64, q: usize, l: Letter) -> bool
     (has(z, q) & x_bit(l)) != (has(x, q) & z_bit(l))
 }
 
-// The first of the first n rows that does not commute with l at q, whatever the signs; n where all commute.
-pub fn first_against(rows: [[u64; 2]; 64], n: usize, l: Letter, q: usize) -> usize
-    requires { ⌜ (n ≤ 64) × (q < n) ⌝ }
-    ensures { λ r. ⌜ ((signs : ℕ) (s : Bool) → r ≡ firstAgainst n (tableau signs rows) (single l q s)) ⌝ }
+// The rows below n that do not commute with l at q.
+fn rows_against(rows: &[[u64; 2]; 64], n: usize, l: Letter, q: usize) -> u64
+    requires { ⌜ (n ≤ 64) × (q < 64) ⌝ }
+    ensures { λ r. ⌜ ((j : ℕ) → bit r j
+        ≡ (ltb j n && clash (letterAt (tableau 0 (now (rows .entry)) j) q) l)) ⌝ }
 {
-    let mut i = 0;
-    while i < n {
-        let row = rows[i];
-        if clashes_at(row[0], row[1], q, l) {
-            return i;
-        }
-        i += 1;
+    let mut word = 0;
+    let mut j = 0;
+    while j < n {
+        let row = rows[j];
+        word = flip_where(word, j, clashes_at(row[0], row[1], q, l));
+        j += 1;
     }
-    n
-}
-
-// The product of two rows that commute.
-fn product_of(g: Generator, h: Generator) -> Generator
-    requires { ⌜ anticommute 64 (generatorOf g) (generatorOf h) ≡ false ⌝ }
-    ensures { λ r. ⌜ generatorOf r ≡ mul 64 (generatorOf g) (generatorOf h) ⌝ }
-{
-    Generator {
-        minus: (g.minus != h.minus) != letters_minus(g.z, g.x, h.z, h.x),
-        z: g.z ^ h.z,
-        x: g.x ^ h.x,
-    }
+    word
 }
 
 // The word with bit q where b says so, and no other.
@@ -109,47 +99,26 @@ fn bit_where(q: usize, b: bool) -> u64
     if b { single(q) } else { 0 }
 }
 
-// The rows after a measurement of l at q that is not determined: row p, which does not commute with l at q, goes into
-// the others that do not, and l at q, with the sign, takes its place.
+// The rows after a measurement of l at q that is not determined: the first row that does not commute with l at q goes
+// into the others that do not, and l at q, with the sign, takes its place.
 pub fn project_tableau(
-    mut rows: [[u64; 2]; 64],
+    rows: [[u64; 2]; 64],
     signs: &mut u64,
     n: usize,
-    p: usize,
     l: Letter,
     q: usize,
     minus: bool,
 ) -> [[u64; 2]; 64]
-    requires { ⌜ (n ≤ 64) × (p < n) × (q < n) ⌝ }
-    requires { ⌜ Commuting n n (tableau (now signs) rows) ⌝ }
-    requires { ⌜ ((j : ℕ) → j < n → Within n (tableau (now signs) rows j)) ⌝ }
-    ensures { λ r. ⌜ ((j : ℕ) → j < n → tableau (now (signs .exit)) r j
-        ≡ projected n (tableau (now (signs .entry)) rows) (single l q minus) p j) ⌝ }
+    requires { ⌜ (n ≤ 64) × (q < n) × Loaded n (tableau (now signs) rows) ⌝ }
+    requires { ⌜ isDetermined n (tableau (now signs) rows) l q ≡ false ⌝ }
+    requires { ⌜ Independent n (tableau (now signs) rows) ⌝ }
+    ensures { λ r. ⌜ ((j : ℕ) → tableau (now (signs .exit)) r j
+        ≡ measuredRows n (tableau (now (signs .entry)) rows) l q minus j) ⌝ }
 {
-    let chosen = rows[p];
-    let chosen_minus = has(*signs, p);
-    let mut i = 0;
-    while i < n {
-        let row = rows[i];
-        if (i != p) & clashes_at(row[0], row[1], q, l) {
-            let g = product_of(
-                Generator {
-                    minus: has(*signs, i),
-                    z: row[0],
-                    x: row[1],
-                },
-                Generator {
-                    minus: chosen_minus,
-                    z: chosen[0],
-                    x: chosen[1],
-                },
-            );
-            rows[i] = [g.z, g.x];
-            *signs = put_bit(*signs, i, g.minus);
-        }
-        i += 1;
-    }
-    rows[p] = [bit_where(q, z_bit(l)), bit_where(q, x_bit(l))];
+    let named = rows_against(&rows, n, l, q);
+    let p = smallest(named);
+    let mut changed = shear_rows(rows, signs, p, put_bit(named, p, false));
+    changed[p] = [bit_where(q, z_bit(l)), bit_where(q, x_bit(l))];
     *signs = put_bit(*signs, p, minus);
-    rows
+    changed
 }

@@ -1,7 +1,6 @@
 use Prim.Native.Nat.{_-_}
-use native.Mathlib.Omega.{arith}
 use borrow.Author.Needs.{needs}
-use Rattle.operations.proofs.CzRows.{CzBelow, cz-more, cz-start}
+use Rattle.operations.proofs.CzRows.{CzBelow, cz-done, cz-more, cz-start}
 use Rattle.operations.proofs.tableaus.cz_tableau.Statement.{statement}
 use Rattle.operations.proofs.tableaus.cz_tableau.Tie as tie
 
@@ -56,7 +55,8 @@ loop-again c =
     (c .before .before .has .ensures) (c .before .cz-row .ensures) (c .put-bit .ensures)
 
 returns : tie.Need-returns Inv-loop μ-loop
-returns c = λ j l. c .before .loop .inv .changed .done j (omega (arith, l, c .loop-test .left))
+returns c =
+    cz-done _ _ _ _ _ _ _ _ (c .before .loop .inv) (c .loop-test .left) (c .before .before .pre .3)
 
 pub cz-tableau-spec : {M : Type 1} → statement M
 cz-tableau-spec =
