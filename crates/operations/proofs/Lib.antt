@@ -16,3 +16,6 @@ pub mod TableauLoops
 pub mod CzRows
 pub mod ReadingOff
 pub mod ProjectedRows
+pub mod GroupAlone
+pub mod AnswersInPlace
+pub mod GatedBuffers

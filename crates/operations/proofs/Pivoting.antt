@@ -9,7 +9,14 @@ use Rattle.graph.proofs.Complement.{complement-simple}
 use Rattle.graph.specs.Graph.{Simple}
 use Rattle.record.specs.Lent.{codeNumbers, heldRecord, neighbourWords}
 use Rattle.record.specs.Records.{GraphRecord, complementRecord}
-use Rattle.operations.proofs.UnrefusedRecords.{complement-above, rewritten-held, rewritten-length, rewritten-unrefused, unrefused-above, unrefused-simple}
+use Rattle.operations.proofs.UnrefusedRecords.{
+  complement-above,
+  rewritten-held,
+  rewritten-length,
+  rewritten-unrefused,
+  unrefused-above,
+  unrefused-simple,
+}
 use Rattle.operations.specs.InPlace.{Rewritten, Unrefused, recordIn}
 use Rattle.operations.specs.Steps.{pivotRecord}
 
@@ -22,7 +29,8 @@ module _ (words codes : List ℕ) (U : Unrefused (recordIn words codes)) (a : �
   new-simple = complement-simple (length words) (old .graph) (unrefused-simple words codes U) a
 
   new-above : (q : ℕ) → length words ≤ q → (complementRecord old a) .codes q ≡ identityClifford
-  new-above = complement-above (length words) old (unrefused-simple words codes U) a ha (unrefused-above words codes U)
+  new-above = complement-above (length words) old (unrefused-simple words codes U) a ha
+      (unrefused-above words codes U)
 
   pub complemented-length : length words′ ≡ length words
   complemented-length =
@@ -32,8 +40,10 @@ module _ (words codes : List ℕ) (U : Unrefused (recordIn words codes)) (a : �
   complemented-unrefused =
       rewritten-unrefused words codes U (λ g. complementRecord g a) words′ codes′ R new-simple new-above
 
-  pub complemented-held : heldRecord (recordIn words′ codes′) ≡ complementRecord (heldRecord (recordIn words codes)) a
-  complemented-held = rewritten-held words codes U (λ g. complementRecord g a) words′ codes′ R new-simple new-above
+  pub complemented-held : heldRecord (recordIn words′ codes′) ≡ complementRecord
+      (heldRecord (recordIn words codes)) a
+  complemented-held = rewritten-held words codes U (λ g. complementRecord g a) words′ codes′ R new-simple
+      new-above
 
   -- so that a further complement may follow
   pub complement-again : (k : ℕ) → k < length words → Unrefused (recordIn words′ codes′)

@@ -9,7 +9,7 @@ use native.Mathlib.Decide.{ℕ-discrete}
 use native.Mathlib.Nat.{le-antisymm, le-refl}
 use native.Mathlib.Omega.{arith}
 use lib.Count.{trailingZeros}
-use lib.Dec.{T, eqb, ltb}
+use lib.Dec.{eqb, ltb}
 use borrow.Author.Tests.{eq-eqb, le-ltb, lt-ltb}
 use Rattle.pauli.proofs.PauliLaws.{Pauli-path}
 use Rattle.pauli.specs.Pauli.{Pauli, anticommute, clash, letter, letterAt, mul, signedRow, xBit, zBit}
@@ -33,7 +33,15 @@ use Rattle.words.specs.Bits.{bit, put, _⊕_}
 use Rattle.words.specs.Search.{IsFirst}
 use Rattle.operations.proofs.Determined.{first-against}
 use Rattle.operations.proofs.MeasuredRecords.{single-clash}
-use Rattle.operations.specs.Measurement.{against, firstAgainst, isDetermined, measuredRows, projected, single}
+use Rattle.operations.specs.Measurement.{
+  against,
+  firstAgainst,
+  isDetermined,
+  measuredRows,
+  projected,
+  single,
+}
+use Rattle.operations.specs.Sessions.{table}
 
 -- ---- from what the code's calls answer
 clash-bits : (z x : Bool) (l : Letter) → (z && xBit l) ⊕ (x && zBit l) ≡ clash (letter z x) l
@@ -64,10 +72,12 @@ pub against-start : (rows : List (List ℕ)) (l : Letter) (q n : ℕ) → Agains
 against-start rows l q n =
     record {
       upto = zero-le;
-      named = λ j. zero-bit j ∙ sym (ap (λ b. b && clash (letterAt (tableau 0 rows j) q) l) (le-ltb j 0 zero-le));
+      named = λ j. zero-bit j
+          ∙ sym (ap (λ b. b && clash (letterAt (tableau 0 rows j) q) l) (le-ltb j 0 zero-le));
     }
 
-pub against-more : (rows : List (List ℕ)) (l : Letter) (q word n i : ℕ) → AgainstBelow rows l q word n i → i < n
+pub against-more : (rows : List (List ℕ)) (l : Letter) (q word n i : ℕ) → AgainstBelow rows l q word n i
+    → i < n
     → (word′ : ℕ) {b : Bool} → b ≡ clash (letterAt (tableau 0 rows i) q) l
     → ((j : ℕ) → bit word′ j ≡ bit word j ⊕ (eqb j i && b)) → AgainstBelow rows l q word′ n (i + 1)
 against-more rows l q word n i A hi word′ {b} e h =
@@ -88,33 +98,37 @@ against-more rows l q word n i A hi word′ {b} e h =
     at j (no d) = ap (λ u. (ltb j i && clashing-row j) ⊕ (u && clashing-row i)) (other-place d)
         ∙ ⊕-zero (ltb j i && clashing-row j) ∙ ap (λ u. u && clashing-row j) (sym (upto-other j i d))
 
-pub against-done : (rows : List (List ℕ)) (l : Letter) (q word n i : ℕ) → AgainstBelow rows l q word n i → n ≤ i
+pub against-done : (rows : List (List ℕ)) (l : Letter) (q word n i : ℕ) → AgainstBelow rows l q word n i
+    → n ≤ i
     → (j : ℕ) → bit word j ≡ (ltb j n && clash (letterAt (tableau 0 rows j) q) l)
 against-done rows l q word n i A h j =
     A .named j ∙ ap (λ m. ltb j m && clash (letterAt (tableau 0 rows j) q) l) (le-antisymm (A .upto) h)
 
 -- ---- the measurement, on the rows of a tableau
-module _ (n : ℕ) (h : n ≤ 64) (T : ℕ → Pauli) (L : Loaded n T) (I : Independent n T) (l : Letter) (q : ℕ) (hq : q < n)
-    (s : Bool) (free : isDetermined n T l q ≡ false) (named p : ℕ)
-    (N : (j : ℕ) → bit named j ≡ (ltb j n && clash (letterAt (T j) q) l)) (least : p ≡ trailingZeros 64 named) where
+module _ (n : ℕ) (h : n ≤ 64) (table : ℕ
+    → Pauli) (L : Loaded n table) (I : Independent n table) (l : Letter) (q : ℕ) (hq : q < n)
+    (s : Bool) (free : isDetermined n table l q ≡ false) (named p : ℕ)
+    (N : (j : ℕ) → bit named j ≡ (ltb j n && clash (letterAt (table j) q) l))
+    (least : p ≡ trailingZeros 64 named) where
   abbrev P : Pauli
   P = single l q s
 
   abbrev g : ℕ
-  g = firstAgainst n T P
+  g = firstAgainst n table P
 
-  list : Proper n T
+  list : Proper n table
   list = record { commuting = L .commuting; independent = I; within = λ j _. L .within j }
 
-  first-row : IsFirst n (λ i. anticommute n (T i) P) g
-  first-row = first-against n T list l q hq free s
+  first-row : IsFirst n (λ i. anticommute n (table i) P) g
+  first-row = first-against n table list l q hq free s
 
   p-is : p ≡ g
   p-is = least ∙ trailing-first 64 named ∙ first-unique 64 (bit named) g (record {
     below = omega (arith, first-row .below, h);
     passes = N g ∙ ap₂ _&&_ (lt-ltb g n (first-row .below))
-        (sym (single-clash n (T g) l q s hq) ∙ first-row .passes);
-    least = λ j m. N j ∙ ap (λ b. ltb j n && b) (sym (single-clash n (T j) l q s hq) ∙ first-row .least j m)
+        (sym (single-clash n (table g) l q s hq) ∙ first-row .passes);
+    least = λ j m. N j ∙ ap (λ b. ltb j n && b) (sym (single-clash n (table j) l q s hq)
+        ∙ first-row .least j m)
         ∙ and-false (ltb j n);
   })
 
@@ -125,36 +139,41 @@ module _ (n : ℕ) (h : n ≤ 64) (T : ℕ → Pauli) (L : Loaded n T) (I : Inde
   chosen-fits = omega (arith, chosen-below, h)
 
   module _ (others : ℕ) (O : (j : ℕ) → bit others j ≡ put (bit named) p false j) where
-    others-are : (j : ℕ) → bit others j ≡ against n T P g j
-    others-are j = O j ∙ put-all (λ j b. b ≡ against n T P g j) (bit named) p false
-        (sym (ap (λ b. anticommute n (T p) P && not b) (eq-eqb p g p-is) ∙ and-false (anticommute n (T p) P))) j
+    others-are : (j : ℕ) → bit others j ≡ against n table P g j
+    others-are j = O j ∙ put-all (λ j b. b ≡ against n table P g j) (bit named) p false
+        (sym (ap (λ b. anticommute n (table p) P && not b) (eq-eqb p g p-is)
+        ∙ and-false (anticommute n (table p) P))) j
         (λ d. N j ∙ go j (lt-or-ge j n)
-        ∙ sym (ap (λ b. anticommute n (T j) P && not b) (other-place (λ e. d (e ∙ sym p-is)))
-        ∙ and-true (anticommute n (T j) P)))
+        ∙ sym (ap (λ b. anticommute n (table j) P && not b) (other-place (λ e. d (e ∙ sym p-is)))
+        ∙ and-true (anticommute n (table j) P)))
       where
-        go : (j : ℕ) → (j < n) ⊎ (n ≤ j) → (ltb j n && clash (letterAt (T j) q) l) ≡ anticommute n (T j) P
-        go j (inl k) = ap (λ b. b && clash (letterAt (T j) q) l) (lt-ltb j n k) ∙ sym (single-clash n (T j) l q s hq)
-        go j (inr k) = ap (λ b. b && clash (letterAt (T j) q) l) (le-ltb j n k)
+        go : (j : ℕ) → (j < n) ⊎ (n ≤ j)
+            → (ltb j n && clash (letterAt (table j) q) l) ≡ anticommute n (table j) P
+        go j (inl k) = ap (λ b. b && clash (letterAt (table j) q) l) (lt-ltb j n k)
+            ∙ sym (single-clash n (table j) l q s hq)
+        go j (inr k) = ap (λ b. b && clash (letterAt (table j) q) l) (le-ltb j n k)
             ∙ sym (ap (λ r. anticommute n r P) (L .beyond j k) ∙ anticommute-identity n P)
 
     pub not-among : bit others p ≡ false
     not-among = O p ∙ put-same (bit named) p false
 
-    pub others-commute : (j : ℕ) → bit others j ≡ true → anticommute 64 (T j) (T p) ≡ false
+    pub others-commute : (j : ℕ) → bit others j ≡ true → anticommute 64 (table j) (table p) ≡ false
     others-commute j e = elim (lt-or-ge j n) [
       | inl k ↦ anticommute-wide n 64 h (L .within j) (L .within p) ∙ L .commuting .commute j p k chosen-below
-      | inr k ↦ ap (λ r. anticommute 64 r (T p)) (L .beyond j k) ∙ anticommute-identity 64 (T p)
+      | inr k ↦ ap (λ r. anticommute 64 r (table p)) (L .beyond j k) ∙ anticommute-identity 64 (table p)
     ]
 
-    pub projected-tableau : (S R : ℕ → Pauli) → ((j : ℕ) → S j ≡ shear 64 T p (bit others) j) → (r : Pauli)
-        → ((j : ℕ) → R j ≡ put S p r j) → r ≡ single l q s → (j : ℕ) → R j ≡ measuredRows n T l q s j
+    pub projected-tableau : (S R : ℕ → Pauli) → ((j : ℕ) → S j ≡ shear 64 table p (bit others) j)
+        → (r : Pauli)
+        → ((j : ℕ) → R j ≡ put S p r j) → r ≡ single l q s → (j : ℕ) → R j ≡ measuredRows n table l q s j
     projected-tableau S R hS r hR e j =
-        hR j ∙ put-all (λ j r. r ≡ projected n T P g j) S p r
-        (e ∙ sym (put-same (shear n T g (against n T P g)) g P) ∙ ap (projected n T P g) (sym p-is)) j
-        (λ d. hS j ∙ shear-wide n h T L p (bit others) j
-        ∙ ap₂ (λ a b. mul n (T j) (chosen b (T a))) p-is (others-are j)
-        ∙ sym (put-other (shear n T g (against n T P g)) g P j (λ f. d (f ∙ sym p-is))))
-        ∙ sym (ap (λ d. cond d T (projected n T P g) j) free)
+        hR j ∙ put-all (λ j r. r ≡ projected n table P g j) S p r
+        (e ∙ sym (put-same (shear n table g (against n table P g)) g P)
+        ∙ ap (projected n table P g) (sym p-is)) j
+        (λ d. hS j ∙ shear-wide n h table L p (bit others) j
+        ∙ ap₂ (λ a b. mul n (table j) (chosen b (table a))) p-is (others-are j)
+        ∙ sym (put-other (shear n table g (against n table P g)) g P j (λ f. d (f ∙ sym p-is))))
+        ∙ sym (ap (λ d. cond d table (projected n table P g) j) free)
 
 -- the letter at q as two words
 pub single-words : (l : Letter) (q : ℕ) (s : Bool) (z x : ℕ) {bz bx : Bool} → bz ≡ zBit l

@@ -26,7 +26,7 @@ use Rattle.operations.specs.InPlace.{Unrefused, recordIn}
 use Rattle.operations.specs.Measurement.{isDetermined, member, outcome, pauliLetter, single}
 use Rattle.operations.specs.Steps.{ReadOff}
 
-same-by-both : (a b : Bool) → (a ≡ true → b ≡ true) → (b ≡ true → a ≡ true) → a ≡ b
+pub same-by-both : (a b : Bool) → (a ≡ true → b ≡ true) → (b ≡ true → a ≡ true) → a ≡ b
 same-by-both true b f g = sym (f refl)
 same-by-both false false f g = refl
 same-by-both false true f g = g refl

@@ -28,6 +28,12 @@ module _ (words codes : List ℕ) (U : Unrefused (recordIn words codes)) where
   pub unrefused-place : (q : ℕ) → q < length words → q < length codes
   unrefused-place q l = subst (λ m. q < m) (sym (A .codes-length)) l
 
+  pub unrefused-long : length codes ≡ length words
+  unrefused-long = A .codes-length
+
+  pub unrefused-count : (1 ≤ length words) × (length words ≤ 64)
+  unrefused-count = (A .positive, A .upto)
+
   pub unrefused-short : length words ≤ 64
   unrefused-short = A .upto
 
@@ -35,7 +41,8 @@ module _ (words codes : List ℕ) (U : Unrefused (recordIn words codes)) where
   unrefused-simple = A .simple
 
   -- code 0 stands at and above n
-  pub unrefused-above : (q : ℕ) → length words ≤ q → (heldRecord (recordIn words codes)) .codes q ≡ identityClifford
+  pub unrefused-above : (q : ℕ) → length words ≤ q
+      → (heldRecord (recordIn words codes)) .codes q ≡ identityClifford
   unrefused-above q k =
       ap cliffordOf (List·getD-eq-default codes 0 (subst (λ m. m ≤ q) (sym (A .codes-length)) k))
 
@@ -44,14 +51,16 @@ pub complement-above : (n : ℕ) (r : GraphRecord) → Simple n (r .graph) → (
     → ((q : ℕ) → n ≤ q → r .codes q ≡ identityClifford)
     → (q : ℕ) → n ≤ q → (complementRecord r a) .codes q ≡ identityClifford
 complement-above n r S a ha above q l =
-    ap₂ (λ b c. cond b (then (cliffordOf 13) (r .codes q)) (cond c (then (cliffordOf 6) (r .codes q)) (r .codes q)))
+    ap₂ (λ b c. cond b (then (cliffordOf 13) (r .codes q))
+    (cond c (then (cliffordOf 6) (r .codes q)) (r .codes q)))
     (other-place {i = q} {j = a} (λ e. absurd (omega (arith, e)))) (S .below a q l) ∙ above q l
 
 -- buffers that were rewritten hold the new record, and no line refuses it
 module _ (words codes : List ℕ) (U : Unrefused (recordIn words codes)) (f : GraphRecord → GraphRecord)
     (words′ codes′ : List ℕ) (R : Rewritten words codes f words′ codes′)
     (S : Simple (length words) ((f (heldRecord (recordIn words codes))) .graph))
-    (above : (q : ℕ) → length words ≤ q → (f (heldRecord (recordIn words codes))) .codes q ≡ identityClifford) where
+    (above : (q : ℕ) → length words ≤ q
+    → (f (heldRecord (recordIn words codes))) .codes q ≡ identityClifford) where
   abbrev new : GraphRecord
   new = f (heldRecord (recordIn words codes))
 
@@ -69,7 +78,8 @@ module _ (words codes : List ℕ) (U : Unrefused (recordIn words codes)) (f : Gr
 
   pub rewritten-held : heldRecord (recordIn words′ codes′) ≡ f (heldRecord (recordIn words codes))
   rewritten-held = ap heldRecord are-written
-      ∙ record-path (heldRecord (writtenRecord (length words) new)) new (record-back (length words) new S above)
+      ∙ record-path (heldRecord (writtenRecord (length words) new)) new
+      (record-back (length words) new S above)
 
   pub rewritten-unrefused : Unrefused (recordIn words′ codes′)
   rewritten-unrefused =

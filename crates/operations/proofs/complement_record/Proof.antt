@@ -26,10 +26,14 @@ same-length-2 : tie.Need-same-length-2
 same-length-2 c = search needs
 
 returns : tie.Need-returns
-returns c = complemented _ _ _ _ _ _
-    (c .before .before .before .before .before .before .before .before .before .before .before .pre .0) refl
-    (c .before .before .before .before .before .before .recode .ensures)
-    (c .before .before .complement-words .kept .0) (c .before .before .complement-words .ensures)
+returns c =
+    let at-complement-words = c .before .before in
+    let at-recode = at-complement-words .before .before .before .before in
+    let begun = at-recode .before .before .before .before .before in
+    complemented _ _ _ _ _ _
+    (begun .pre .0) refl
+    (at-recode .recode .ensures)
+    (at-complement-words .complement-words .kept .0) (at-complement-words .complement-words .ensures)
 
 pub complement-record-spec : {M : Type 1} → statement M
 complement-record-spec =

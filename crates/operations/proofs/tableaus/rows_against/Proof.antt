@@ -38,7 +38,8 @@ loop-less : tie.Need-loop-less Inv-loop μ-loop
 loop-less c = search needs
 
 loop-again : tie.Need-loop-again Inv-loop μ-loop
-loop-again c = against-more _ _ _ _ _ _ (c .before .before .before .before .loop .inv) (c .before .before .before .loop-test .taken) _ (c .before .clashes-at .ensures) (c .flip-where .ensures)
+loop-again c = against-more _ _ _ _ _ _ (c .before .before .before .before .loop .inv)
+    (c .before .before .before .loop-test .taken) _ (c .before .clashes-at .ensures) (c .flip-where .ensures)
 
 returns : tie.Need-returns Inv-loop μ-loop
 returns c = against-done _ _ _ _ _ _ (c .before .loop .inv) (c .loop-test .left)
