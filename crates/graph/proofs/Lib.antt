@@ -1,2 +1,3 @@
 pub mod GraphGroups
 pub mod Complement
+pub mod ComplementWords

@@ -1,1 +1,23 @@
-// Graphs, their generators and local complementation.
+// Graphs as neighbour words, and local complementation on them.
+use words::flip;
+use words::has;
+ghost use Prim.Native.Nat.{_<_, _≤_};
+ghost use lib.ListN.{length};
+ghost use Rattle.graph.specs.Graph.{Simple, complement};
+ghost use Rattle.graph.specs.NeighbourWords.{SameGraph, graphIn};
+
+// Complements the graph at vertex a: every edge between two neighbours of a is flipped, by one xor for each of them.
+pub fn complement_words(neighbours: &mut [u64], a: usize)
+    requires { ⌜ (length (now neighbours) ≤ 64) × (a < length (now neighbours)) ⌝ }
+    requires { ⌜ Simple (length (now neighbours)) (graphIn (now neighbours)) ⌝ }
+    ensures { λ r. ⌜ SameGraph (graphIn (now (neighbours .exit))) (complement (graphIn (now (neighbours .entry))) a) ⌝ }
+{
+    let around = neighbours[a];
+    let mut i = 0;
+    while i < neighbours.len() {
+        if has(around, i) {
+            neighbours[i] = neighbours[i] ^ flip(around, i);
+        }
+        i += 1;
+    }
+}

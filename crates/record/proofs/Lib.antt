@@ -10,6 +10,7 @@ pub mod Reduction
 pub mod ReducedRecords
 pub mod ReducedCodes
 pub mod Maximality
+pub mod ComplementLists
 pub mod SimpleLines
 pub mod RecordLines
 pub mod SimpleVerdict

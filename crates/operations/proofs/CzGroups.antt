@@ -1,0 +1,69 @@
+-- CZ on a list: the image is a list, its group is the image of the group, and the answer has that group.
+-- Assumes nothing.
+use mathlib.Core.Bool.{_&&_, Bool, false}
+use mathlib.Core.Logic.{_↔_, _≢_}
+use mathlib.Core.Path.{ap, ap₂, sym, _∙_, _≡_}
+use Prim.Native.Nat.{_<_, ℕ, _≤_}
+use native.Mathlib.Omega.{arith}
+use lib.Dec.{T, eqb}
+use Rattle.pauli.specs.Pauli.{Pauli}
+use Rattle.record.proofs.ReducedRecords.{same-group}
+use Rattle.record.specs.Records.{rowsOf}
+use Rattle.record.specs.Reduced.{reduced}
+use Rattle.stabilizer.specs.Groups.{InGroup, Proper, Trivial, Within}
+use Rattle.stabilizer.specs.Lists.{rows}
+use Rattle.words.proofs.Finite.{bits}
+use Rattle.words.proofs.Places.{other-place}
+use Rattle.words.specs.Bits.{_⊕_}
+use Rattle.operations.proofs.CzLaws.{cz-signed}
+use Rattle.operations.proofs.CzValues.{cz-homomorphism, cz-is}
+use Rattle.operations.proofs.Homomorphisms.{Homomorphism, image-group, image-proper}
+use Rattle.operations.specs.Cz.{cz, czRows}
+
+pub cz-within : (n a b : ℕ) → a < n → b < n → (p : Pauli) → Within n p → Within n (cz a b p)
+unfolding cz
+cz-within n a b ha hb p W =
+    record {
+      no-x = W .no-x;
+      no-z = λ q l. ap (λ c. c ⊕ ((eqb q a && p .x b) ⊕ (eqb q b && p .x a))) (W .no-z q l)
+          ∙ ap₂ (λ u v. (u && p .x b) ⊕ (v && p .x a)) (away q l a ha) (away q l b hb);
+    }
+  where
+    away : (q : ℕ) → n ≤ q → (c : ℕ) → c < n → eqb q c ≡ false
+    away q l c h = other-place {i = q} {j = c} (λ e. absurd (omega (arith, e)))
+
+-- no letter goes to I
+cz-letters : (n a b : ℕ) → a < n → b < n → (p : Pauli) → Trivial n (cz a b p) → Trivial n p
+unfolding cz
+cz-letters n a b ha hb p T =
+    record {
+      no-x = T .no-x;
+      no-z = λ q l. sym (ap₂ (λ u v. p .z q ⊕ ((eqb q a && u) ⊕ (eqb q b && v))) (T .no-x b hb) (T .no-x a ha)
+          ∙ none (eqb q a) (eqb q b) (p .z q)) ∙ T .no-z q l;
+    }
+  where
+    none : (A B z : Bool) → z ⊕ ((A && false) ⊕ (B && false)) ≡ z
+    none = bits 3 (λ A B z. z ⊕ ((A && false) ⊕ (B && false))) (λ A B z. z) tt
+
+module _ (n a b : ℕ) (ha : a < n) (hb : b < n) (ab : a ≢ b) (rows : ℕ → Pauli) where
+  homomorphism : Homomorphism n (cz a b)
+  homomorphism = cz-homomorphism n a b (cz a b) (cz-is n a b ha hb ab)
+
+  pub cz-proper : Proper n rows → Proper n (czRows a b rows)
+  cz-proper =
+      image-proper n (cz a b) homomorphism (cz-signed a b) (cz-letters n a b ha hb) (cz-within n a b ha hb)
+      rows
+
+  -- the new group is exactly the old one sent through CZ
+  pub cz-group : (p : Pauli) → InGroup n n (czRows a b rows) p
+      ↔ ((r : Pauli) × InGroup n n rows r × (p ≡ cz a b r))
+  cz-group = image-group n (cz a b) homomorphism n rows
+
+  -- and it is the group of the reduced record, which is the answer
+  pub cz-answer : Proper n rows → (p : Pauli)
+      → InGroup n n (rowsOf n (reduced n (czRows a b rows))) p
+      ↔ ((r : Pauli) × InGroup n n rows r × (p ≡ cz a b r))
+  cz-answer P p = (
+    (λ h. cz-group p .0 (same-group n (czRows a b rows) (cz-proper P) .back p h)),
+    (λ h. same-group n (czRows a b rows) (cz-proper P) .there p (cz-group p .1 h)),
+  )

@@ -1,0 +1,6 @@
+pub mod Gates
+pub mod Cz
+pub mod Measurement
+pub mod Steps
+pub mod InPlace
+pub mod Sessions

@@ -1,0 +1,115 @@
+-- The calls that work on a lent record in place: the lines of each in checking order, and what it leaves.
+-- Assumes nothing.
+use mathlib.Core.Bool.{Bool, cond, false, not, _||_}
+use mathlib.Core.List.{_++_, List, [], _∷_}
+use mathlib.Core.Path.{_≡_}
+use Prim.Native.Nat.{ℕ}
+use lib.Dec.{eqb, leb}
+use Rattle.buffers.specs.Buffers.{accepted}
+use Rattle.buffers.specs.Refusals.{Line, firstFitting, line}
+use Rattle.clifford.specs.Clifford.{cliffordOf}
+use Rattle.pauli.specs.Pauli.{minus}
+use Rattle.record.specs.Lent.{LentRecord, codeNumbers, heldRecord, heldRows, neighbourWords, recordLines}
+use Rattle.record.specs.Records.{GraphRecord, complementAll, complementRecord, rowsOf}
+use Rattle.record.specs.Reduced.{reduced}
+use Rattle.words.specs.Bits.{digit, isOdd}
+use Rattle.operations.specs.Cz.{czRows}
+use Rattle.operations.specs.Gates.{gated}
+use Rattle.operations.specs.Measurement.{isDetermined, measuredRows, outcome, pauliLetter}
+
+-- "A pivot on an edge j, k complements j, k, j"
+abbrev pub pivotRecord : GraphRecord → ℕ → ℕ → GraphRecord
+pivotRecord r j k = complementAll r (j ∷ k ∷ j ∷ [])
+
+-- ---- lines
+-- the lines of a record, with a further test for line 6 and the test for line 8
+abbrev pub inPlaceLines : LentRecord → Bool → Bool → List Line
+inPlaceLines l six eight = recordLines l false six ++ (line 8 eight ∷ [])
+
+-- 6: ".. a code above 23"; 8: "A qubit number is n or more"
+abbrev pub gateLines : LentRecord → ℕ → ℕ → List Line
+gateLines l q k = inPlaceLines l (leb 24 k) (leb (l .n) q)
+
+-- 8: ".. CZ .. names one qubit twice"
+abbrev pub czLines : LentRecord → ℕ → ℕ → List Line
+czLines l a b = inPlaceLines l false (leb (l .n) a || (leb (l .n) b || eqb a b))
+
+-- 6: "A sign or outcome is above 1, .. or a Pauli not 1 to 3"
+abbrev pub measureLines : LentRecord → ℕ → ℕ → ℕ → List Line
+measureLines l pauli q b = inPlaceLines l (leb 2 b || (eqb pauli 0 || leb 4 pauli)) (leb (l .n) q)
+
+abbrev pub complementLines : LentRecord → ℕ → List Line
+complementLines l a = inPlaceLines l false (leb (l .n) a)
+
+-- 8: ".. or a pivot names one qubit twice, or a pivot's pair has no edge"
+abbrev pub pivotLines : LentRecord → ℕ → ℕ → List Line
+pivotLines l j k =
+    inPlaceLines l false (leb (l .n) j || (leb (l .n) k || (eqb j k || not ((heldRecord l) .graph j k))))
+
+-- ---- what a call answers: its number, and the record as the buffers then hold it
+pub record Step : Type 0 where
+  pub number : ℕ
+  pub after : LentRecord
+
+-- refused, the record as it was; accepted, the new one
+abbrev pub stepped : LentRecord → List Line → GraphRecord → Step
+stepped l lines new =
+    record {
+      number = firstFitting lines;
+      after = record {
+        n = l .n;
+        neighbours = accepted (firstFitting lines) (neighbourWords (l .n) new) (l .neighbours);
+        codes = accepted (firstFitting lines) (codeNumbers (l .n) new) (l .codes);
+      };
+    }
+
+-- "All three answer the reduced record of the new group"
+abbrev pub gate : LentRecord → ℕ → ℕ → Step
+gate l q k = stepped l (gateLines l q k)
+    (reduced (l .n) (rowsOf (l .n) (gated (heldRecord l) q (cliffordOf k))))
+
+abbrev pub controlledZ : LentRecord → ℕ → ℕ → Step
+controlledZ l a b = stepped l (czLines l a b) (reduced (l .n) (czRows a b (heldRows l)))
+
+abbrev pub measure : LentRecord → ℕ → ℕ → ℕ → Step
+measure l pauli q b =
+    stepped l (measureLines l pauli q b)
+    (reduced (l .n) (measuredRows (l .n) (heldRows l) (pauliLetter pauli) q (isOdd b)))
+
+-- "the answer is the record so rewritten, not reduced"
+abbrev pub complementAt : LentRecord → ℕ → Step
+complementAt l a = stepped l (complementLines l a) (complementRecord (heldRecord l) a)
+
+abbrev pub pivotAt : LentRecord → ℕ → ℕ → Step
+pivotAt l j k = stepped l (pivotLines l j k) (pivotRecord (heldRecord l) j k)
+
+-- a measurement's two further answers: the outcome, and 1 where it was determined
+abbrev pub outcomeNumber : LentRecord → ℕ → ℕ → ℕ → ℕ
+outcomeNumber l pauli q b = digit (outcome (l .n) (heldRows l) (pauliLetter pauli) q (isOdd b))
+
+abbrev pub determinedNumber : LentRecord → ℕ → ℕ → ℕ
+determinedNumber l pauli q = digit (isDetermined (l .n) (heldRows l) (pauliLetter pauli) q)
+
+-- what is read off a record before a measurement: whether it is determined, and then the sign
+pub record ReadOff (l : LentRecord) (pauli q : ℕ) (determined minus : Bool) : Type 0 where
+  pub known : determined ≡ isDetermined (l .n) (heldRows l) (pauliLetter pauli) q
+  pub reading : (b : Bool) → outcome (l .n) (heldRows l) (pauliLetter pauli) q b ≡ cond determined minus b
+
+-- ---- sessions: one call after another on the record that the last one left
+pub data Operation : Type 0 where
+  gateWith : ℕ → ℕ → Operation
+  czOn : ℕ → ℕ → Operation
+  measurementOf : ℕ → ℕ → ℕ → Operation
+  complementOf : ℕ → Operation
+  pivotOf : ℕ → ℕ → Operation
+
+abbrev pub step : LentRecord → Operation → Step
+step l (gateWith q k) = gate l q k
+step l (czOn a b) = controlledZ l a b
+step l (measurementOf pauli q b) = measure l pauli q b
+step l (complementOf a) = complementAt l a
+step l (pivotOf j k) = pivotAt l j k
+
+abbrev pub session : LentRecord → List Operation → LentRecord
+session l [] = l
+session l (o ∷ rest) = session ((step l o) .after) rest
