@@ -9,9 +9,9 @@
  *
  * Record of n vertices:
  *   neighbours[j]  the neighbours of vertex j; the graph is simple
- *   codes[j]       4 * class + 2 * sx + sz, 0 to 23: the local Clifford of vertex j. The class gives
- *                  the letters to which X and Z go: 0 (X,Z), 1 (Y,Z), 2 (Z,X), 3 (X,Y), 4 (Y,X),
- *                  5 (Z,Y); sx or sz is 1 if that image is negative
+ *   codes[j]       4 * class + 2 * sx + sz, 0 to 23: the local Clifford of vertex j. The class
+ *                  gives the letters to which X and Z go: 0 (X,Z), 1 (Y,Z), 2 (Z,X), 3 (X,Y),
+ *                  4 (Y,X), 5 (Z,Y); sx or sz is 1 if that image is negative
  * Its generator j is +X at j and Z at the neighbours of j, each place then sent through its code.
  *
  * Every buffer passes as a pointer and its length in elements, and has n places. Buffers must not

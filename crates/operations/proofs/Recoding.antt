@@ -19,7 +19,8 @@ use Rattle.clifford.specs.Vectors.{codesOf}
 use Rattle.graph.proofs.Complement.{complement-simple}
 use Rattle.graph.specs.Graph.{Graph, complement}
 use Rattle.graph.specs.NeighbourWords.{SameGraph, graphIn}
-use Rattle.record.proofs.AcceptedRecords.{AcceptedRecord, accepted-record}
+use Rattle.record.proofs.AcceptedRecords.{accepted-record}
+use Rattle.record.specs.Accepted.{AcceptedRecord}
 use Rattle.record.specs.Records.{complementRecord, recoded}
 use Rattle.words.proofs.BitLaws.{lt-of-bits, wordOf-bit}
 use Rattle.words.proofs.Places.{other-place}

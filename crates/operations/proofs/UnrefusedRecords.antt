@@ -10,9 +10,10 @@ use Rattle.buffers.proofs.Tabulate.{tabulate-length}
 use Rattle.clifford.specs.Clifford.{cliffordOf, identityClifford, then}
 use Rattle.graph.specs.Graph.{Simple}
 use Rattle.graph.specs.NeighbourWords.{graphIn}
-use Rattle.record.proofs.AcceptedRecords.{AcceptedRecord, accepted-record}
+use Rattle.record.proofs.AcceptedRecords.{accepted-record}
 use Rattle.record.proofs.Unique.{record-path}
 use Rattle.record.proofs.WrittenRecords.{record-back, record-passes, writtenRecord}
+use Rattle.record.specs.Accepted.{AcceptedRecord}
 use Rattle.record.specs.Lent.{codeNumbers, heldRecord, neighbourWords}
 use Rattle.record.specs.Records.{GraphRecord, complementRecord}
 use Rattle.words.proofs.Places.{other-place}

@@ -53,7 +53,8 @@ fn lists(n: usize) -> Vec<GeneratorList> {
     (0..LISTS).map(one).collect()
 }
 
-/// Reduces every list; the answer depends on all records, so that none is left out.
+/// Reduces every list. The answer buffers are used again and again, and not cleared between; the
+/// answer depends on all records, so that none is left out.
 fn run(reduce: Reduce, lists: &[GeneratorList]) -> u64 {
     let (mut neighbours, mut codes) = ([0; 64], [0; 64]);
     lists.iter().fold(0, |sum, list| {

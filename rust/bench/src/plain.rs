@@ -12,14 +12,15 @@ impl Row {
     /// Multiplies another row into this one: moving its X past this Z gives signs.
     fn multiply(&mut self, other: Row) {
         let signs = (self.z & other.x).count_ones();
-        self.phase = self.phase + other.phase + 2 * signs;
+        self.phase = (self.phase + other.phase + 2 * signs) & 3;
         self.z ^= other.z;
         self.x ^= other.x;
     }
 
     /// Applies a Hadamard at each qubit of a word: X Z becomes Z X, which is -X Z.
     fn hadamards(&mut self, qubits: u64) {
-        self.phase += 2 * (self.z & self.x & qubits).count_ones();
+        let signs = (self.z & self.x & qubits).count_ones();
+        self.phase = (self.phase + 2 * signs) & 3;
         let changed = (self.z ^ self.x) & qubits;
         self.z ^= changed;
         self.x ^= changed;

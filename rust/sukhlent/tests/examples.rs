@@ -49,8 +49,8 @@ fn one_qubit() {
 }
 
 #[test]
-fn code_12_sends_x_to_x() {
-    // Codes that a reduction does not give: 12 sends X to X, 13 too, and Z to Y or -Y.
+fn codes_that_no_reduction_gives() {
+    // Code 12 sends X to X and Z to Y; 13 sends Z to -Y; 5 sends X to Y and Z to -Z; 6 X to -Y.
     assert_eq!(expand(&record(&[0], &[12])), Ok(of(&["X"])));
     assert_eq!(expand(&record(&[2, 1], &[12, 5])), Ok(of(&["-XZ", "YY"])));
     assert_eq!(expand(&record(&[2, 1], &[13, 6])), Ok(of(&["XZ", "YY"])));

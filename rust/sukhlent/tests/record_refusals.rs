@@ -2,6 +2,7 @@
 
 mod common;
 
+use common::damage::{flip, put};
 use common::{Random, RecordCall};
 use sukhlent::Record;
 
@@ -31,18 +32,6 @@ const FAULTS: [Fault; 21] = [
     (7, |call| flip(&mut call.neighbours, 6, 0)),
     (7, |call| flip(&mut call.neighbours, 3, 4)),
 ];
-
-fn put(places: &mut [u8], j: usize, value: u8) {
-    if let Some(place) = places.get_mut(j) {
-        *place = value;
-    }
-}
-
-fn flip(words: &mut [u64], j: usize, bit: u32) {
-    if let Some(word) = words.get_mut(j) {
-        *word ^= 1 << bit;
-    }
-}
 
 /// A random record of n vertices with any codes.
 fn base(seed: u64, n: usize) -> RecordCall {

@@ -3,6 +3,7 @@
 
 pub mod calls;
 pub mod codes;
+pub mod damage;
 pub mod guarded;
 pub mod reference;
 pub mod seeded;

@@ -1,0 +1,53 @@
+//! Faults in the arguments of a call. Where a buffer is too short for a fault, it is left out.
+
+use super::calls::ListCall;
+
+/// Takes a place out of a buffer.
+pub fn cut<T>(places: &mut Vec<T>, j: usize) {
+    places.remove(j);
+}
+
+/// Sets a place, where there is one.
+pub fn put<T>(places: &mut [T], j: usize, value: T) {
+    if let Some(place) = places.get_mut(j) {
+        *place = value;
+    }
+}
+
+/// Flips a bit of a word, where there is one.
+pub fn flip(words: &mut [u64], j: usize, bit: u32) {
+    if let Some(word) = words.get_mut(j) {
+        *word ^= 1 << bit;
+    }
+}
+
+/// Makes row a fail to commute with row b, by X or Z at the first qubit where row b acts.
+pub fn anticommute(call: &mut ListCall, a: usize, b: usize) {
+    let (Some(&z), Some(&x)) = (call.z.get(b), call.x.get(b)) else {
+        return;
+    };
+    if z | x == 0 {
+        return;
+    }
+    let clash = |call: &ListCall| {
+        let ones = (call.z[a] & x).count_ones() + (call.x[a] & z).count_ones();
+        ones % 2 == 1
+    };
+    if a < call.z.len() && a < call.x.len() && !clash(call) {
+        let q = (z | x).trailing_zeros();
+        let words = if x >> q & 1 == 1 {
+            &mut call.z
+        } else {
+            &mut call.x
+        };
+        flip(words, a, q);
+    }
+}
+
+/// Puts the letters of row b into row a.
+pub fn repeat(call: &mut ListCall, a: usize, b: usize) {
+    if let (Some(&z), Some(&x)) = (call.z.get(b), call.x.get(b)) {
+        put(&mut call.z, a, z);
+        put(&mut call.x, a, x);
+    }
+}
