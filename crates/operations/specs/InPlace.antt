@@ -6,11 +6,9 @@ use mathlib.Core.Path.{_≡_}
 use Prim.Native.Nat.{ℕ}
 use lib.ListN.{length}
 use Rattle.buffers.specs.Refusals.{firstFitting}
-use Rattle.pauli.specs.Pauli.{minus}
 use Rattle.record.specs.Lent.{LentRecord, codeNumbers, heldRecord, heldRows, neighbourWords, recordLines}
 use Rattle.record.specs.Records.{GraphRecord, rowsOf}
 use Rattle.record.specs.Reduced.{reduced}
-use Rattle.words.specs.Bits.{bit}
 use Rattle.operations.specs.Measurement.{isDetermined, measuredRows, outcome, pauliLetter}
 
 -- the record that two lent buffers hold, n being the length of the first
@@ -22,14 +20,13 @@ pub record Unrefused (l : LentRecord) : Type 0 where
   pub no-line : firstFitting (recordLines l false false) ≡ 0
 
 -- two buffers held a record, and hold what f makes of it
-pub record Rewritten (words codes : List ℕ) (f : GraphRecord
-    → GraphRecord) (words′ codes′ : List ℕ) : Type 0 where
+pub record Rewritten (words codes : List ℕ) (f : GraphRecord → GraphRecord)
+    (words′ codes′ : List ℕ) : Type 0 where
   pub neighbours : words′ ≡ neighbourWords (length words) (f (heldRecord (recordIn words codes)))
   pub numbers : codes′ ≡ codeNumbers (length words) (f (heldRecord (recordIn words codes)))
 
 -- a measurement on two buffers: "All three answer the reduced record of the new group"; whether it was
--- determined, and
--- the outcome
+-- determined, and the outcome
 pub record MeasuredInPlace (words codes : List ℕ) (pauli q : ℕ) (bit : Bool) (determined minus : Bool)
     (words′ codes′ : List ℕ) : Type 0 where
   pub after : Rewritten words codes
