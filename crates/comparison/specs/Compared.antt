@@ -9,7 +9,6 @@ use Rattle.clifford.specs.Clifford.{Clifford, codeOf, inverse, then}
 use Rattle.clifford.specs.Vectors.{codesOf}
 use Rattle.pauli.specs.Pauli.{Pauli}
 use Rattle.record.specs.Reduced.{reducedCode}
-use Rattle.stabilizer.specs.Groups.{chosen}
 use Rattle.stabilizer.specs.Lists.{
   GeneratorList,
   clashing,
@@ -19,7 +18,6 @@ use Rattle.stabilizer.specs.Lists.{
   listStray,
   rows,
 }
-use Rattle.words.specs.Search.{first}
 use Rattle.comparison.specs.Choices.{noChoice}
 
 -- "at each qubit the first reduced record's code, then the choice's, then the inverse of the second's"

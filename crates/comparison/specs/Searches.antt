@@ -10,7 +10,6 @@ use Rattle.clifford.specs.Vectors.{codesOf}
 use Rattle.pauli.specs.Pauli.{Pauli}
 use Rattle.pauli.specs.declared.Generator.{Generator}
 use Rattle.stabilizer.specs.Carries.{Carries}
-use Rattle.words.specs.Search.{first}
 use Rattle.comparison.specs.Choices.{LeastOf, classKey, leastCode, noChoice, signKey}
 use Rattle.comparison.specs.Equations.{Solves, classAssignment, signAssignment}
 use Rattle.comparison.specs.Setting.{Bare, Codes, Setting, generatorsOf}
