@@ -14,7 +14,6 @@ use Rattle.clifford.specs.Vectors.{codesOf}
 use Rattle.pauli.specs.Pauli.{Pauli}
 use Rattle.pauli.specs.declared.Generator.{Generator}
 use Rattle.stabilizer.specs.Carries.{Carries}
-use Rattle.words.specs.Search.{first}
 use Rattle.comparison.proofs.ClassEquations.{mask-below, same-classes}
 use Rattle.comparison.proofs.LexicographicStep.{
   Tried,

@@ -70,17 +70,17 @@ module _ (n : ℕ) (few : n ≤ 20) (neighbours codes : List ℕ) (S : SoundReco
 module _ (n : ℕ) (rows rows′ others others′ : ℕ
     → Pauli) (P : Proper n rows) (P′ : Proper n rows′) (Q : Proper n others)
     (Q′ : Proper n others′) (E : SameGroup n n rows rows′) (F : SameGroup n n others others′) where
-  moved : (a b a′ b′ : ℕ → Pauli) → SameGroup n n a a′ → SameGroup n n b b′ → (c : ℕ → Clifford)
+  carries-moved : (a b a′ b′ : ℕ → Pauli) → SameGroup n n a a′ → SameGroup n n b b′ → (c : ℕ → Clifford)
       → Carries n c a b
       → Carries n c a′ b′
-  moved a b a′ b′ s t c C =
+  carries-moved a b a′ b′ s t c C =
       carries-same n c a′ b′ .1
       (same-trans (act-same n n c a′ a (same-sym s)) (same-trans (carries-same n c a b .0 C) t))
 
   pub carries-groups : (c : ℕ → Clifford) → carries n c rows others ≡ carries n c rows′ others′
   carries-groups c =
-      iff-same _ _ (λ e. test′ .1 (moved rows others rows′ others′ E F c (test .0 e)))
-      (λ e. test .1 (moved rows′ others′ rows others (same-sym E) (same-sym F) c (test′ .0 e)))
+      iff-same _ _ (λ e. test′ .1 (carries-moved rows others rows′ others′ E F c (test .0 e)))
+      (λ e. test .1 (carries-moved rows′ others′ rows others (same-sym E) (same-sym F) c (test′ .0 e)))
     where
       test : (carries n c rows others ≡ true) ↔ Carries n c rows others
       test = carries-is n c rows others (P .within) (Q .within)

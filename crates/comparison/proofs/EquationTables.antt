@@ -19,7 +19,6 @@ use Rattle.pauli.specs.Rows.{generatorOf}
 use Rattle.pauli.specs.declared.Generator.{Generator}
 use Rattle.stabilizer.proofs.Within.{act-wide}
 use Rattle.stabilizer.specs.Groups.{InGroup, Proper, Within}
-use Rattle.words.specs.Search.{first}
 use Rattle.comparison.proofs.ClassEquations.{class-equation, one-place}
 use Rattle.comparison.proofs.EquationLaws.{empty-holds}
 use Rattle.comparison.proofs.Flags.{both-true, unequal-bits}

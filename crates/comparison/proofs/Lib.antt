@@ -17,3 +17,4 @@ pub mod EquationTables
 pub mod Filling
 pub mod ComparedRecords
 pub mod Answers
+pub mod OneQubit

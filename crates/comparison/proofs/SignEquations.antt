@@ -115,8 +115,8 @@ shift a b c e = ap (λ k. a ⊕ (b ⊕ k)) (sym e) ∙ bits 2 (λ a b. a ⊕ (b 
 
 module _ (n : ℕ) (rows others : ℕ → Pauli) (P : Proper n rows) (P′ : Proper n others) (d : ℕ → Clifford)
     (C : Carries n d rows others) (i : ℕ) (li : i < n) (g : Generator) (eg : generatorOf g ≡ rows i) where
-  W : Within n (generatorOf g)
-  W = subst (Within n) (sym eg) (P .within i li)
+  row-within : Within n (generatorOf g)
+  row-within = subst (Within n) (sym eg) (P .within i li)
 
   carried : InGroup n n others (act n d (generatorOf g))
   carried = subst (λ p. InGroup n n others (act n d p)) (sym eg) (C .into (rows i) (in-row n n rows i li))
@@ -138,7 +138,7 @@ module _ (n : ℕ) (rows others : ℕ → Pauli) (P : Proper n rows) (P′ : Pro
       bares =
           act-agree n rows others (P .within) (P′ .within) (λ q. bare (d q)) (λ q. bare (c q))
           (λ q l. ap (λ m. record { class = m; sx = false; sz = false }) (class-injective _ _ (hc q l)))
-          (generatorOf g) W
+          (generatorOf g) row-within
           ∙ sym ep
 
       letter-z : (q : ℕ) → (act n d (generatorOf g)) .z q ≡ bit (h .z) q
@@ -155,5 +155,5 @@ module _ (n : ℕ) (rows others : ℕ → Pauli) (P : Proper n rows) (P′ : Pro
       signs =
           minus-⊕ (p .minus) _
           ∙ ap (λ r. r .phase +ᵖ minus (fails (signEquation g false) (signAssignment n d))) (sym bares)
-          ∙ sym (image-sign n d g W)
+          ∙ sym (image-sign n d g row-within)
           ∙ ap (λ r. r .phase) (letters-determine n others P′ carried eh letter-z letter-x)

@@ -15,7 +15,6 @@ use Rattle.pauli.specs.Pauli.{Pauli}
 use Rattle.pauli.specs.declared.Generator.{Generator}
 use Rattle.stabilizer.specs.Carries.{Carries}
 use Rattle.stabilizer.specs.Groups.{Proper}
-use Rattle.words.specs.Search.{first}
 use Rattle.comparison.proofs.ClassEquations.{mask-below, same-signs}
 use Rattle.comparison.proofs.Least.{carries-agree}
 use Rattle.comparison.proofs.LexicographicStep.{
@@ -124,17 +123,17 @@ module _ (n : ℕ) (first second : List Generator) (frame : List ℕ) (S : Setti
       same-class = sign-class choice C q v fits small
 
       -- the array with v put in has the same classes
-      to : (d : ℕ → Clifford) → WithSigns n rows others (q + 1) (codesOf next) d
+      with-given : (d : ℕ → Clifford) → WithSigns n rows others (q + 1) (codesOf next) d
           → Begins (WithClasses n rows others n p) signKey (q + 1) (codesOf next) d
-      to d h = record {
+      with-given d h = record {
         base =
             record { base = h .base .base; same = λ i l. h .base .same i l ∙ same-class i };
         same = h .same;
       }
 
-      back : (d : ℕ → Clifford) → Begins (WithClasses n rows others n p) signKey (q + 1) (codesOf next) d
+      with-next : (d : ℕ → Clifford) → Begins (WithClasses n rows others n p) signKey (q + 1) (codesOf next) d
           → WithSigns n rows others (q + 1) (codesOf next) d
-      back d h =
+      with-next d h =
           record {
             base = record {
               base = h .base .base;
@@ -144,9 +143,9 @@ module _ (n : ℕ) (first second : List Generator) (frame : List ℕ) (S : Setti
             same = h .same;
           }
 
-      moved : (b : Bool) (c : ℕ → Clifford) → Found n (WithSigns n rows others (q + 1) (codesOf next)) b c
+      found-next : (b : Bool) (c : ℕ → Clifford) → Found n (WithSigns n rows others (q + 1) (codesOf next)) b c
           → Found n (Begins (WithClasses n rows others n p) signKey (q + 1) (codesOf next)) b c
-      moved = found-same n _ _ to back
+      found-next = found-same n _ _ with-given with-next
 
       pub next-table : (table : List Equation) → SignTable n first second (codesOf choice) table
           → SignTable n first second (codesOf (withSigns choice q v)) table
@@ -162,7 +161,7 @@ module _ (n : ℕ) (first second : List Generator) (frame : List ℕ) (S : Setti
             search = found-here n (WithClasses n rows others n p) signKey (signs-decide p) q inside p v
                 (codesOf next)
                 (sign-front choice C q v fits) (sign-here choice C q v fits small) T (codesOf out)
-                (moved true (codesOf out) (A .search));
+                (found-next true (codesOf out) (A .search));
             codes = A .codes;
           }
       signs-found T false out e A = absurd (false≢true e)
@@ -175,7 +174,7 @@ module _ (n : ℕ) (first second : List Generator) (frame : List ℕ) (S : Setti
       signs-missed T false out e A =
           none-here n (WithClasses n rows others n p) signKey (signs-decide p) q inside p v (codesOf next)
           (sign-front choice C q v fits) (sign-here choice C q v fits small) T
-          (moved false (codesOf out) (A .search))
+          (found-next false (codesOf out) (A .search))
 
   pub signs-begin : (choice : List ℕ) (q : ℕ) → SignsTried n first second choice q 0
   signs-begin choice q = none-tried n _ signKey q (codesOf choice)

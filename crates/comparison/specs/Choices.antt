@@ -1,5 +1,4 @@
--- Choices of one code per qubit: which of them carry one group onto another, their order, and the least of
--- them.
+-- Choices of one code per qubit: which of them carry one group onto another, their order, and the least.
 -- Assumes nothing.
 use mathlib.Core.Bool.{_&&_, Bool, cond, not}
 use mathlib.Core.Logic.{_⊎_}
@@ -24,9 +23,8 @@ sameRow n p r = samePhase (p .phase) (r .phase)
 unfoldable pub member : ℕ → (ℕ → Pauli) → Pauli → Bool
 member n rows p = some (2 ^ n) (λ v. sameRow n p (product n n (bit v) rows))
 
--- "sending each place of every element of the first through its qubit's code, signs included, gives exactly
--- the
--- elements of the second"
+-- "sending each place of every element of the first through its qubit's code, signs included, gives
+-- exactly the elements of the second"
 unfoldable pub carries : ℕ → (ℕ → Clifford) → (ℕ → Pauli) → (ℕ → Pauli) → Bool
 carries n c rows others =
     every (2 ^ n) (λ v. member n others (act n c (product n n (bit v) rows)))

@@ -9,7 +9,6 @@ use Rattle.clifford.specs.Clifford.{Clifford, codeOf, inverse, then}
 use Rattle.clifford.specs.Vectors.{codesOf}
 use Rattle.pauli.specs.Pauli.{Pauli}
 use Rattle.record.specs.Reduced.{reducedCode}
-use Rattle.stabilizer.specs.Groups.{chosen}
 use Rattle.stabilizer.specs.Lists.{
   GeneratorList,
   clashing,
@@ -19,14 +18,14 @@ use Rattle.stabilizer.specs.Lists.{
   listStray,
   rows,
 }
-use Rattle.words.specs.Search.{first}
 use Rattle.comparison.specs.Choices.{noChoice}
 
--- "at each qubit the first reduced record's code, then the choice's, then the inverse of the second's"
+-- "at each qubit the first reduced record's code, then the choice's, then the inverse of the second's"; the
+-- choice's alone at and above n, where the records have code 0
 abbrev pub induced : ℕ → (ℕ → Pauli) → (ℕ → Pauli) → (ℕ → Clifford) → ℕ → Clifford
 induced n rows others c q = then (then (reducedCode n rows q) (c q)) (inverse (reducedCode n others q))
 
--- the same of buffers of codes
+-- the same of buffers of codes; 0 at and above their length
 abbrev pub inducedCode : List ℕ → List ℕ → List ℕ → ℕ → ℕ
 inducedCode first choice second q =
     codeOf (then (then (codesOf first q) (codesOf choice q)) (inverse (codesOf second q)))

@@ -10,15 +10,14 @@ use Rattle.clifford.specs.Vectors.{codesOf}
 use Rattle.pauli.specs.Pauli.{Pauli}
 use Rattle.pauli.specs.declared.Generator.{Generator}
 use Rattle.stabilizer.specs.Carries.{Carries}
-use Rattle.words.specs.Search.{first}
 use Rattle.comparison.specs.Choices.{LeastOf, classKey, leastCode, noChoice, signKey}
 use Rattle.comparison.specs.Equations.{Solves, classAssignment, signAssignment}
 use Rattle.comparison.specs.Setting.{Bare, Codes, Setting, generatorsOf}
 use Rattle.comparison.specs.declared.equations.Equation.{Equation}
 
 -- the choices in B whose keys below qubit q are those of p
-pub record Begins (B : (ℕ → Clifford) → Type 0) (key : Clifford → ℕ) (q : ℕ) (p d : ℕ
-    → Clifford) : Type 0 where
+pub record Begins (B : (ℕ → Clifford) → Type 0) (key : Clifford → ℕ) (q : ℕ)
+    (p d : ℕ → Clifford) : Type 0 where
   pub base : B d
   pub same : (i : ℕ) → i < q → key (d i) ≡ key (p i)
 
@@ -55,8 +54,7 @@ pub record Answered (n : ℕ) (K : (ℕ → Clifford) → Type 0) (found : Bool)
 
 -- the state of the search for the signs at qubit q, and its answer
 pub record SignState (n : ℕ) (first second : List Generator) (frame : List ℕ) (table : List Equation)
-    (choice : List ℕ)
-    (q : ℕ) : Type 0 where
+    (choice : List ℕ) (q : ℕ) : Type 0 where
   pub setting : Setting n first second frame
   pub upto : q ≤ n
   pub codes : Codes choice
@@ -68,8 +66,7 @@ SignsAnswered n first second q choice =
 
 -- the state of the search for the classes at qubit q, and its answer
 pub record ClassState (n : ℕ) (first second : List Generator) (frame : List ℕ) (table : List Equation)
-    (choice : List ℕ)
-    (q : ℕ) : Type 0 where
+    (choice : List ℕ) (q : ℕ) : Type 0 where
   pub setting : Setting n first second frame
   pub upto : q ≤ n
   pub codes : Codes choice

@@ -14,7 +14,6 @@ use Rattle.pauli.specs.declared.Generator.{Generator}
 use Rattle.record.specs.Lent.{heldRecord, heldRows}
 use Rattle.record.specs.Records.{recordRow}
 use Rattle.stabilizer.specs.Groups.{InGroup, Proper}
-use Rattle.words.specs.Search.{first}
 
 -- the generators that an array holds; the identity past its end
 abbrev pub noGenerator : Generator

@@ -154,7 +154,7 @@ search-classes-search-classes-requires t c κs =
     let inside : a .q < a .n = omega (arith, s .pre .1 .upto, c .before .before .if2 .left) in
     let long : length (a .choice) ≡ 20 = s .good .1 .1 .1 .1 .1 .0 .1 .0 .1 in
     let fits : a .q < length (a .choice) = omega (arith, inside, long, s .pre .1 .setting .few) in
-    let small : l .v < 6 = c .loop-test .taken in (
+    let small : l .v < 6 = omega (arith, c .loop-test .taken) in (
       omega arith,
       record {
         setting = s .pre .1 .setting;
@@ -175,7 +175,7 @@ search-classes-returns-3 t c =
     let inside : a .q < a .n = omega (arith, s .pre .1 .upto, c .before .before .before .before .if2 .left) in
     let long : length (a .choice) ≡ 20 = s .good .1 .1 .1 .1 .1 .0 .1 .0 .1 in
     let fits : a .q < length (a .choice) = omega (arith, inside, long, s .pre .1 .setting .few) in
-    let small : l .v < 6 = c .before .before .loop-test .taken in
+    let small : l .v < 6 = omega (arith, c .before .before .loop-test .taken) in
     classes-found (a .n) (a .first) (a .second) (s .pre .1 .setting .few) (a .choice) (s .pre .1 .codes)
     (a .q) inside
     long (l .v) small (l .inv .1) _ _ (c .if3 .taken) (c .before .search-classes .ensures)
@@ -200,7 +200,7 @@ search-classes-loop-again t c =
     let inside : a .q < a .n = omega (arith, s .pre .1 .upto, c .before .before .before .before .if2 .left) in
     let long : length (a .choice) ≡ 20 = s .good .1 .1 .1 .1 .1 .0 .1 .0 .1 in
     let fits : a .q < length (a .choice) = omega (arith, inside, long, s .pre .1 .setting .few) in
-    let small : l .v < 6 = c .before .before .loop-test .taken in (
+    let small : l .v < 6 = omega (arith, c .before .before .loop-test .taken) in (
       omega (arith, small),
       classes-missed (a .n) (a .first) (a .second) (s .pre .1 .setting .few) (a .choice) (s .pre .1 .codes)
           (a .q)

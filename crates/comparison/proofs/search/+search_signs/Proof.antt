@@ -150,7 +150,7 @@ search-signs-search-signs-requires t c κs =
     let inside : a .q < a .n = omega (arith, s .pre .1 .upto, c .before .before .if2 .left) in
     let long : length (a .t6) ≡ 20 = s .good .1 .1 .1 .1 .1 .0 .1 .0 .1 in
     let fits : a .q < length (a .t6) = omega (arith, inside, long, s .pre .1 .setting .few) in
-    let small : l .v < 4 = c .loop-test .taken in (
+    let small : l .v < 4 = omega (arith, c .loop-test .taken) in (
       omega arith,
       record {
         setting = s .pre .1 .setting;
@@ -172,7 +172,7 @@ search-signs-returns-3 t c =
     let inside : a .q < a .n = omega (arith, s .pre .1 .upto, c .before .before .before .before .if2 .left) in
     let long : length (a .t6) ≡ 20 = s .good .1 .1 .1 .1 .1 .0 .1 .0 .1 in
     let fits : a .q < length (a .t6) = omega (arith, inside, long, s .pre .1 .setting .few) in
-    let small : l .v < 4 = c .before .before .loop-test .taken in
+    let small : l .v < 4 = omega (arith, c .before .before .loop-test .taken) in
     signs-found (a .n) (a .first) (a .second) (a .frame) (s .pre .1 .setting) (a .t6) (s .pre .1 .codes)
     (a .q) inside
     long (l .v) small (l .inv .1) _ _ (c .if3 .taken) (c .before .search-signs .ensures)
@@ -197,7 +197,7 @@ search-signs-loop-again t c =
     let inside : a .q < a .n = omega (arith, s .pre .1 .upto, c .before .before .before .before .if2 .left) in
     let long : length (a .t6) ≡ 20 = s .good .1 .1 .1 .1 .1 .0 .1 .0 .1 in
     let fits : a .q < length (a .t6) = omega (arith, inside, long, s .pre .1 .setting .few) in
-    let small : l .v < 4 = c .before .before .loop-test .taken in (
+    let small : l .v < 4 = omega (arith, c .before .before .loop-test .taken) in (
       omega (arith, small),
       signs-missed (a .n) (a .first) (a .second) (a .frame) (s .pre .1 .setting) (a .t6) (s .pre .1 .codes)
           (a .q)
