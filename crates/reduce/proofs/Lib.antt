@@ -1,0 +1,5 @@
+pub mod Prints
+pub mod Answering
+pub mod ListPlaces
+pub mod Blocks
+pub mod ReadTexts
