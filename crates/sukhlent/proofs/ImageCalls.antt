@@ -13,19 +13,19 @@ use Rattle.buffers.proofs.Tabulate.{tabulate-cong}
 use Rattle.buffers.specs.Buffers.{tabulate, written}
 use Rattle.buffers.specs.Refusals.{firstFitting, otherThan}
 use Rattle.image.specs.Answer.{IsImage}
-use Rattle.image.specs.Image.{imageLines, imageMinus, imageRecord, loopLines}
-use Rattle.image.specs.Rule.{imageList}
+use Rattle.image.specs.Image.{imageLines, loopLines}
 use Rattle.image.specs.declared.ImageAnswer.{ImageAnswer}
 use Rattle.record.proofs.AcceptedRecords.{accepted-record}
 use Rattle.record.specs.Accepted.{AcceptedRecord}
-use Rattle.record.specs.Lent.{LentRecord, heldRecord, neighbourWords, recordLengths, recordLines}
+use Rattle.record.specs.Lent.{LentRecord, heldRecord, recordLengths, recordLines}
 use Rattle.stabilizer.proofs.SharedTests.{has-length, neither}
-use Rattle.words.specs.Bits.{digit}
 use Rattle.sukhlent.specs.Images.{Imaged}
 
+-- no line of a record has number 0
 record-numbered : (l : LentRecord) (others six : Bool) → Numbered (recordLines l others six)
 record-numbered l others six = (lit< tt, (lit< tt, (lit< tt, (lit< tt, (lit< tt, tt)))))
 
+-- the buffers lent for the graph, the signs and the list
 module _ (l : LentRecord) (g s v : List ℕ) (count : ℕ) where
   -- a number other than 0: nothing is written
   nothing-written : (r : ℕ) → (r ≡ 0 → ⊥) → r ≡ firstFitting (imageLines l g s v)
@@ -33,13 +33,13 @@ module _ (l : LentRecord) (g s v : List ℕ) (count : ℕ) where
   nothing-written r h e =
       record {
         number = e;
-        graph = kept (neighbourWords (l .n) (imageRecord (l .n) (heldRecord l))) g;
-        minus = kept (tabulate (l .n) (λ j. digit (imageMinus (l .n) (heldRecord l) j))) s;
-        places = kept (written (imageList (l .n) (heldRecord l)) v) v;
-        counted = sym (ap (λ b. cond b (length (imageList (l .n) (heldRecord l))) count) (ne-eqb r 0 h));
+        graph = kept _ g;
+        minus = kept _ s;
+        places = kept _ v;
+        counted = kept _ count;
       }
     where
-      kept : (answer old : List ℕ) → old ≡ cond (eqb r 0) answer old
+      kept : {A : Type 0} (answer old : A) → old ≡ cond (eqb r 0) answer old
       kept answer old = sym (ap (λ b. cond b answer old) (ne-eqb r 0 h))
 
   module _ (others : Bool) (o : others ≡ (otherThan (l .n) g || (otherThan (l .n) s || otherThan 96 v)))
@@ -80,19 +80,22 @@ module _ (l : LentRecord) (g s v : List ℕ) (count : ℕ) where
       pub signs-upto : length s ≤ 64
       signs-upto = omega (arith, signs-fit, accepted-held .upto)
 
-      -- 11 and 12 decide
+      -- the answer of the image rule
       module _ (a : ImageAnswer) (A : IsImage (l .n) (heldRecord l) a) where
         -- the list has room for its count
         pub list-has-room : a .count ≤ length v
         list-has-room = subst (λ m. a .count ≤ m) (sym list-fits) (A .room)
 
+        -- 11 and 12 decide
         loop-number : a .number ≡ firstFitting (imageLines l g s v)
         loop-number = at-lines (A .number ∙ sym
             (more-accepted (recordLines l others false) _ (record-numbered l others false) (sym e ∙ z)))
 
+        -- 11 or 12
         pub image-looped : (a .number ≡ 0 → ⊥) → Imaged l g s v count (a .number) g s v count
         image-looped h = nothing-written (a .number) h loop-number
 
+        -- neither: the answer is written
         pub image-accepted : a .number ≡ 0 → (g′ s′ v′ : List ℕ) →
             g′ ≡ tabulate (length g) (λ j. getD (a .graph) j 0) →
             s′ ≡ tabulate (length s) (λ j. getD (a .signs) j 0) → v′ ≡ written (take (a .count) (a .list)) v →
