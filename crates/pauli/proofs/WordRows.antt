@@ -9,41 +9,13 @@ use lib.Arith.{lt-one}
 use lib.Bits.{and-lt, bitAnd, bitXor, xor-lt}
 use lib.Count.{ones, ones-step}
 use lib.Dec.{eqb, lit<}
-use Rattle.words.proofs.BitLaws.{bit-and, bit-suc, bit-xor, bit-zero, half-lt, low-digit}
+use Rattle.words.proofs.BitLaws.{and-lt-right, bit-and, bit-suc, bit-xor, bit-zero, half-lt, low-digit}
 use Rattle.words.proofs.OnesLaws.{parity-ones}
 use Rattle.words.proofs.Sums.{fold-ext, fold-shift}
 use Rattle.words.specs.Bits.{bit, fold, isOdd, _⊕_}
-use Rattle.pauli.proofs.PauliLaws.{
-  Pauli-path,
-  anticommute-letters,
-  clash-form,
-  mul-x,
-  mul-z,
-  signed-product,
-}
+use Rattle.pauli.proofs.PauliLaws.{Pauli-path, anticommute-letters, clash-form, mul-x, mul-z, signed-product}
 use Rattle.pauli.proofs.PhaseLaws.{+ᵖ-assoc, exponent-two, minus-⊕, phaseMonoid, phases, sumPhase-add}
-use Rattle.pauli.specs.Pauli.{
-  _+ᵖ_,
-  Phase,
-  anticommute,
-  exponent,
-  imaginary,
-  i²,
-  i³,
-  i¹,
-  i⁰,
-  letter,
-  letterAt,
-  letterPhase,
-  minus,
-  mul,
-  power,
-  row,
-  signBit,
-  signedRow,
-  sumPhase,
-  timesI,
-}
+use Rattle.pauli.specs.Pauli.{_+ᵖ_, Phase, anticommute, exponent, imaginary, i², i³, i¹, i⁰, letter, letterAt, letterPhase, minus, mul, power, row, signBit, signedRow, sumPhase, timesI}
 
 -- ---- a weighted count of ones as a power of i
 pub power-add : (a b : ℕ) → power (a + b) ≡ power a +ᵖ power b
@@ -51,9 +23,6 @@ unfolding power
 power-add zero b = ap power (zero-add b)
 power-add (suc a) b = ap power (suc-add a b) ∙ ap timesI (power-add a b)
     ∙ sym (+ᵖ-assoc i¹ (power a) (power b))
-
-power-add₄ : (a b c d : ℕ) → power ((a + b) + (c + d)) ≡ (power a +ᵖ power b) +ᵖ (power c +ᵖ power d)
-power-add₄ a b c d = power-add (a + b) (c + d) ∙ ap₂ _+ᵖ_ (power-add a b) (power-add c d)
 
 power-digit : (m w k : ℕ) → power (m * (w % 2 + k)) ≡ cond (isOdd w) (power m) i⁰ +ᵖ power (m * k)
 power-digit m w k =
@@ -71,12 +40,6 @@ power-ones m (suc n) w h =
     (power-ones m n (w / 2) (half-lt n h)
     ∙ fold-ext i⁰ _+ᵖ_ n (λ q l. ap (λ b. cond b (power m) i⁰) (sym (bit-suc w q))))
     ∙ sym (fold-shift i⁰ _+ᵖ_ phaseMonoid n (λ q. cond (bit w q) (power m) i⁰))
-
-power-and : (m n a b : ℕ) → a < 2 ^ n → b < 2 ^ n →
-    power (m * ones (bitAnd a b)) ≡ sumPhase n (λ q. cond (bit a q && bit b q) (power m) i⁰)
-power-and m n a b ha hb =
-    power-ones m n (bitAnd a b) (and-lt n a b ha hb)
-    ∙ fold-ext i⁰ _+ᵖ_ n (λ q l. ap (λ v. cond v (power m) i⁰) (bit-and a b q))
 
 -- an exponent counts modulo 4
 pub power-mod : (k : ℕ) → power (k % 4) ≡ power k
@@ -99,18 +62,25 @@ exponent-power (suc (suc (suc (suc k)))) l = absurd (omega arith)
 pub exponent-mod : (k : ℕ) → exponent (power k) ≡ k % 4
 exponent-mod k = ap exponent (sym (power-mod k)) ∙ exponent-power (k % 4) (mod-lt k (lit< tt))
 
--- ---- the phase of a product: 3 for each Y of either row, 2 for each place with x in the first and z in the
--- second,
--- 1 for each Y of the product
+-- ---- the phase of a product: i for each place where both act and differ, and minus one more for each of these
+-- where the letters stand in falling order: YX, ZY and XZ
+abbrev pub clashWord : ℕ → ℕ → ℕ → ℕ → ℕ
+clashWord z x z′ x′ = bitXor (bitAnd z x′) (bitAnd x z′)
+
+abbrev pub backWord : ℕ → ℕ → ℕ → ℕ → ℕ
+backWord z x z′ x′ = bitAnd (bitXor (bitXor (bitXor x x′) (bitXor z z′)) (bitAnd x z′)) (clashWord z x z′ x′)
+
 abbrev pub countPhase : ℕ → ℕ → ℕ → ℕ → ℕ
-countPhase z x z′ x′ =
-    (3 * ones (bitAnd z x) + 3 * ones (bitAnd z′ x′))
-    + (2 * ones (bitAnd x z′) + ones (bitAnd (bitXor z z′) (bitXor x x′)))
+countPhase z x z′ x′ = ones (clashWord z x z′ x′) + 2 * ones (backWord z x z′ x′)
+
+abbrev clashBit : Bool → Bool → Bool → Bool → Bool
+clashBit z x z′ x′ = (z && x′) ⊕ (x && z′)
+
+abbrev backBit : Bool → Bool → Bool → Bool → Bool
+backBit z x z′ x′ = (((x ⊕ x′) ⊕ (z ⊕ z′)) ⊕ (x && z′)) && clashBit z x z′ x′
 
 abbrev placePhase : Bool → Bool → Bool → Bool → Phase
-placePhase z x z′ x′ =
-    (cond (z && x) (power 3) i⁰ +ᵖ cond (z′ && x′) (power 3) i⁰)
-    +ᵖ (cond (x && z′) (power 2) i⁰ +ᵖ cond ((z ⊕ z′) && (x ⊕ x′)) (power 1) i⁰)
+placePhase z x z′ x′ = cond (clashBit z x z′ x′) (power 1) i⁰ +ᵖ cond (backBit z x z′ x′) (power 2) i⁰
 
 place-phase : (z x z′ x′ : Bool) → letterPhase (letter z x) (letter z′ x′) ≡ placePhase z x z′ x′
 unfolding power
@@ -129,25 +99,31 @@ module _ (n z x z′ x′ : ℕ) (hz : z < 2 ^ n) (hx : x < 2 ^ n) (hz′ : z′
       ∙ sym (parity-ones n _
       (xor-lt n (bitAnd z x′) (bitAnd x z′) (and-lt n z x′ hz hx′) (and-lt n x z′ hx hz′)))
 
+  bit-clash : (q : ℕ) → bit (clashWord z x z′ x′) q ≡ clashBit (bit z q) (bit x q) (bit z′ q) (bit x′ q)
+  bit-clash q = bit-xor (bitAnd z x′) (bitAnd x z′) q ∙ ap₂ _⊕_ (bit-and z x′ q) (bit-and x z′ q)
+
+  bit-back : (q : ℕ) → bit (backWord z x z′ x′) q ≡ backBit (bit z q) (bit x q) (bit z′ q) (bit x′ q)
+  bit-back q =
+      bit-and (bitXor (bitXor (bitXor x x′) (bitXor z z′)) (bitAnd x z′)) (clashWord z x z′ x′) q
+      ∙ ap₂ _&&_
+      (bit-xor (bitXor (bitXor x x′) (bitXor z z′)) (bitAnd x z′) q
+      ∙ ap₂ _⊕_ (bit-xor (bitXor x x′) (bitXor z z′) q ∙ ap₂ _⊕_ (bit-xor x x′ q) (bit-xor z z′ q)) (bit-and x z′ q))
+      (bit-clash q)
+
+  clash-lt : clashWord z x z′ x′ < 2 ^ n
+  clash-lt = xor-lt n (bitAnd z x′) (bitAnd x z′) (and-lt n z x′ hz hx′) (and-lt n x z′ hx hz′)
+
   phase-count :
-      sumPhase n (λ q. letterPhase (letterAt (row s z x) q) (letterAt (row t z′ x′) q)) ≡ power
-      (countPhase z x z′ x′)
+      sumPhase n (λ q. letterPhase (letterAt (row s z x) q) (letterAt (row t z′ x′) q)) ≡ power (countPhase z x z′ x′)
   phase-count =
-      fold-ext i⁰ _+ᵖ_ n (λ q l. place-phase (bit z q) (bit x q) (bit z′ q) (bit x′ q))
-      ∙ sumPhase-add n _ _ ∙ ap₂ _+ᵖ_ (sumPhase-add n _ _) (sumPhase-add n _ _)
+      fold-ext i⁰ _+ᵖ_ n (λ q l. place-phase (bit z q) (bit x q) (bit z′ q) (bit x′ q)) ∙ sumPhase-add n _ _
       ∙ ap₂ _+ᵖ_
-      (ap₂ _+ᵖ_ (sym (power-and 3 n z x hz hx)) (sym (power-and 3 n z′ x′ hz′ hx′)))
-      (ap₂ _+ᵖ_ (sym (power-and 2 n x z′ hx hz′)) product-y)
-      ∙ sym (power-add₄ (3 * ones (bitAnd z x)) (3 * ones (bitAnd z′ x′)) (2 * ones (bitAnd x z′))
-      (ones (bitAnd (bitXor z z′) (bitXor x x′))))
-    where
-      product-y : sumPhase n (λ q. cond ((bit z q ⊕ bit z′ q) && (bit x q ⊕ bit x′ q)) (power 1) i⁰)
-          ≡ power (ones (bitAnd (bitXor z z′) (bitXor x x′)))
-      product-y =
-          fold-ext i⁰ _+ᵖ_ n (λ q l. ap₂ (λ a b. cond (a && b) (power 1) i⁰) (sym (bit-xor z z′ q))
-          (sym (bit-xor x x′ q)))
-          ∙ sym (power-and 1 n (bitXor z z′) (bitXor x x′) (xor-lt n z z′ hz hz′) (xor-lt n x x′ hx hx′))
-          ∙ ap power (one-mul (ones (bitAnd (bitXor z z′) (bitXor x x′))))
+      (fold-ext i⁰ _+ᵖ_ n (λ q l. ap (λ b. cond b (power 1) i⁰) (sym (bit-clash q)))
+      ∙ sym (power-ones 1 n (clashWord z x z′ x′) clash-lt) ∙ ap power (one-mul (ones (clashWord z x z′ x′))))
+      (fold-ext i⁰ _+ᵖ_ n (λ q l. ap (λ b. cond b (power 2) i⁰) (sym (bit-back q)))
+      ∙ sym (power-ones 2 n (backWord z x z′ x′) (and-lt-right n
+      (bitXor (bitXor (bitXor x x′) (bitXor z z′)) (bitAnd x z′)) (clashWord z x z′ x′) clash-lt)))
+      ∙ sym (power-add (ones (clashWord z x z′ x′)) (2 * ones (backWord z x z′ x′)))
 
   -- the product of two rows: xor on the words, and a count for the power of i
   pub row-mul : mul n (row s z x) (row t z′ x′)

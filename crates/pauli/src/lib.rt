@@ -58,11 +58,9 @@ pub fn clashes(z: u64, x: u64, z2: u64, x2: u64) -> bool
 pub fn letters_phase(z: u64, x: u64, z2: u64, x2: u64) -> u64
     ensures { λ r. ⌜ (r ≡ exponent ((mul 64 (row i⁰ z x) (row i⁰ z2 x2)) .phase)) × (r < 4) ⌝ }
 {
-    let y = count(z & x);
-    let y2 = count(z2 & x2);
-    let passed = count(x & z2);
-    let both = count((z ^ z2) & (x ^ x2));
-    ((3 * y + 3 * y2) + (2 * passed + both)) % 4
+    let clash = (z & x2) ^ (x & z2);
+    let back = ((x ^ x2) ^ (z ^ z2) ^ (x & z2)) & clash;
+    (count(clash) + 2 * count(back)) % 4
 }
 
 // Whether the letters of two rows that commute multiply to a minus sign.
