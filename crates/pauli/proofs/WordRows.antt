@@ -13,9 +13,37 @@ use Rattle.words.proofs.BitLaws.{and-lt-right, bit-and, bit-suc, bit-xor, bit-z
 use Rattle.words.proofs.OnesLaws.{parity-ones}
 use Rattle.words.proofs.Sums.{fold-ext, fold-shift}
 use Rattle.words.specs.Bits.{bit, fold, isOdd, _⊕_}
-use Rattle.pauli.proofs.PauliLaws.{Pauli-path, anticommute-letters, clash-form, mul-x, mul-z, signed-product}
+use Rattle.pauli.proofs.PauliLaws.{
+  Pauli-path,
+  anticommute-letters,
+  clash-form,
+  mul-x,
+  mul-z,
+  signed-product,
+}
 use Rattle.pauli.proofs.PhaseLaws.{+ᵖ-assoc, exponent-two, minus-⊕, phaseMonoid, phases, sumPhase-add}
-use Rattle.pauli.specs.Pauli.{_+ᵖ_, Phase, anticommute, exponent, imaginary, i², i³, i¹, i⁰, letter, letterAt, letterPhase, minus, mul, power, row, signBit, signedRow, sumPhase, timesI}
+use Rattle.pauli.specs.Pauli.{
+  _+ᵖ_,
+  Phase,
+  anticommute,
+  exponent,
+  imaginary,
+  i²,
+  i³,
+  i¹,
+  i⁰,
+  letter,
+  letterAt,
+  letterPhase,
+  minus,
+  mul,
+  power,
+  row,
+  signBit,
+  signedRow,
+  sumPhase,
+  timesI,
+}
 
 -- ---- a weighted count of ones as a power of i
 pub power-add : (a b : ℕ) → power (a + b) ≡ power a +ᵖ power b
@@ -62,7 +90,8 @@ exponent-power (suc (suc (suc (suc k)))) l = absurd (omega arith)
 pub exponent-mod : (k : ℕ) → exponent (power k) ≡ k % 4
 exponent-mod k = ap exponent (sym (power-mod k)) ∙ exponent-power (k % 4) (mod-lt k (lit< tt))
 
--- ---- the phase of a product: i for each place where both act and differ, and minus one more for each of these
+-- ---- the phase of a product: i for each place where both act and differ, and minus one more for each of
+-- these
 -- where the letters stand in falling order: YX, ZY and XZ
 abbrev pub clashWord : ℕ → ℕ → ℕ → ℕ → ℕ
 clashWord z x z′ x′ = bitXor (bitAnd z x′) (bitAnd x z′)
@@ -107,14 +136,16 @@ module _ (n z x z′ x′ : ℕ) (hz : z < 2 ^ n) (hx : x < 2 ^ n) (hz′ : z′
       bit-and (bitXor (bitXor (bitXor x x′) (bitXor z z′)) (bitAnd x z′)) (clashWord z x z′ x′) q
       ∙ ap₂ _&&_
       (bit-xor (bitXor (bitXor x x′) (bitXor z z′)) (bitAnd x z′) q
-      ∙ ap₂ _⊕_ (bit-xor (bitXor x x′) (bitXor z z′) q ∙ ap₂ _⊕_ (bit-xor x x′ q) (bit-xor z z′ q)) (bit-and x z′ q))
+      ∙ ap₂ _⊕_ (bit-xor (bitXor x x′) (bitXor z z′) q
+      ∙ ap₂ _⊕_ (bit-xor x x′ q) (bit-xor z z′ q)) (bit-and x z′ q))
       (bit-clash q)
 
   clash-lt : clashWord z x z′ x′ < 2 ^ n
   clash-lt = xor-lt n (bitAnd z x′) (bitAnd x z′) (and-lt n z x′ hz hx′) (and-lt n x z′ hx hz′)
 
   phase-count :
-      sumPhase n (λ q. letterPhase (letterAt (row s z x) q) (letterAt (row t z′ x′) q)) ≡ power (countPhase z x z′ x′)
+      sumPhase n (λ q. letterPhase (letterAt (row s z x) q) (letterAt (row t z′ x′) q)) ≡ power
+      (countPhase z x z′ x′)
   phase-count =
       fold-ext i⁰ _+ᵖ_ n (λ q l. place-phase (bit z q) (bit x q) (bit z′ q) (bit x′ q)) ∙ sumPhase-add n _ _
       ∙ ap₂ _+ᵖ_

@@ -1,6 +1,7 @@
 -- A pass over the columns: the rows stay loaded, and the code's step is the definition's.
 -- Assumes nothing.
 use mathlib.Core.Bool.{_&&_, Bool, and-false, false, not, true, true≢false}
+use mathlib.Core.List.{List}
 use mathlib.Core.Logic.{inl, inr, _⊎_}
 use mathlib.Core.Path.{ap, fun-ext, subst, sym, _∙_, _≡_}
 use Prim.Native.Nat.{_<_, _^_, suc, ℕ, _≤_}
@@ -18,6 +19,8 @@ use Rattle.stabilizer.proofs.RowOperations.{clear-self, lend-self, shear-commut
 use Rattle.stabilizer.proofs.Within.{anticommute-wide, chosen-within, mul-wide, mul-within}
 use Rattle.stabilizer.specs.Elimination.{clear, lend, pivotOn, shear}
 use Rattle.stabilizer.specs.Groups.{Commuting, chosen}
+use Rattle.stabilizer.specs.Lists.{rows}
+use Rattle.stabilizer.specs.Tableau.{tableau}
 use Rattle.words.proofs.BitLaws.{bit-and, bit-xor, lt-of-bits, zero-bit}
 use Rattle.words.proofs.Finite.{bits}
 use Rattle.words.proofs.Places.{other-place}
@@ -171,3 +174,14 @@ module _ (n q : ℕ) (l : n ≤ 64) (hq : q < n) (R : ℕ → Pauli) (L : Loaded
 pub eliminated-at : {n : ℕ} {R₀ : ℕ → Pauli} {w₀ : Word} {R : ℕ → Pauli} {w : Word} {q q′ : ℕ} → q ≡ q′ →
     Eliminated n R₀ w₀ R w q → Eliminated n R₀ w₀ R w q′
 eliminated-at {n} {R₀} {w₀} {R} {w} e E = subst (Eliminated n R₀ w₀ R w) e E
+
+-- the same words under other names
+pub same-state : {n : ℕ} {R₀ : ℕ → Pauli} {w₀ : Word} {signs signs′ pivots pivots′ q : ℕ}
+    {rows rows′ : List (List ℕ)} →
+    signs′ ≡ signs → pivots′ ≡ pivots → rows′ ≡ rows →
+    Eliminated n R₀ w₀ (tableau signs rows) (bit pivots) q
+    → Eliminated n R₀ w₀ (tableau signs′ rows′) (bit pivots′) q
+same-state {n} {R₀} {w₀} {signs} {signs′} {pivots} {pivots′} {q} {rows} {rows′} es ep er E =
+    subst (λ p. Eliminated n R₀ w₀ (tableau signs′ rows′) (bit p) q) (sym ep)
+    (subst (λ s. Eliminated n R₀ w₀ (tableau s rows′) (bit pivots) q) (sym es)
+    (subst (λ v. Eliminated n R₀ w₀ (tableau signs v) (bit pivots) q) (sym er) E))

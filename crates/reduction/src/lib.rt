@@ -93,35 +93,22 @@ fn pivot_column(
     shear_rows(lent, signs, q, put_bit(holders, q, false))
 }
 
-// One column of a pass: where an unused row has x bit q, the column gets its pivot.
-fn pass_column(
-    rows: [[u64; 2]; 64],
-    signs: &mut u64,
-    n: usize,
-    q: usize,
-    pivots: &mut u64,
-) -> [[u64; 2]; 64]
-    requires { ⌜ (n ≤ 64) × (q < n) × Loaded n (tableau (now signs) rows) ⌝ }
-    ensures { λ r. ⌜ ((R : ℕ → Pauli) (w : Word) → Eliminated n R w (tableau (now (signs .entry)) rows) (bit (now (pivots .entry))) q → Eliminated n R w (tableau (now (signs .exit)) r) (bit (now (pivots .exit))) (suc q)) ⌝ }
-{
-    let holders = column(&rows, n, q);
-    let free = holders ^ (holders & *pivots);
-    if free == 0 {
-        return rows;
-    }
-    *pivots = put_bit(*pivots, q, true);
-    pivot_column(rows, signs, q, smallest(free), holders)
-}
-
-// A pass over the columns below n. The word pivots names the rows that are pivots already.
+// A pass over the columns below n: where an unused row has x bit q, column q gets its pivot. The word pivots names the
+// rows that are pivots already.
 fn pass(mut rows: [[u64; 2]; 64], signs: &mut u64, n: usize, pivots: &mut u64) -> [[u64; 2]; 64]
     requires { ⌜ (n ≤ 64) × Loaded n (tableau (now signs) rows) ⌝ }
-    ensures { λ r. ⌜ Eliminated n (tableau (now (signs .entry)) rows) (bit (now (pivots .entry))) (tableau (now (signs .exit)) r) (bit (now (pivots .exit))) n ⌝ }
+    ensures { λ r. ⌜ Eliminated n (tableau (now (signs .entry)) rows) (bit (now (pivots .entry)))
+        (tableau (now (signs .exit)) r) (bit (now (pivots .exit))) n ⌝ }
 {
     let mut q = 0;
     while q < n {
-        let next = pass_column(rows, signs, n, q, pivots);
-        rows = next;
+        let holders = column(&rows, n, q);
+        let free = holders ^ (holders & *pivots);
+        if free != 0 {
+            let next = pivot_column(rows, signs, q, smallest(free), holders);
+            rows = next;
+            *pivots = put_bit(*pivots, q, true);
+        }
         q += 1;
     }
     rows

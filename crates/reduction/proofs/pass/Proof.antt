@@ -1,33 +1,57 @@
-use mathlib.Core.Path.{_≡_, sym}
+use mathlib.Core.Logic.{⊎-elim}
+use mathlib.Core.Path.{_∙_, _≡_, ap, ap₂, refl, sym}
 use Prim.Native.Nat.{_-_, _≤_, zero-le}
 use native.Mathlib.Numerals.{add-one}
 use native.Mathlib.Omega.{arith}
 use borrow.Author.Needs.{needs}
 use Rattle.stabilizer.specs.Tableau.{tableau}
 use Rattle.words.specs.Bits.{bit}
+use Rattle.pauli.proofs.PhaseLaws.{minus-real}
 use Rattle.reduction.specs.Passes.{Eliminated}
 use Rattle.reduction.specs.Passes.Eliminated.{start}
-use Rattle.reduction.proofs.Passing.{eliminated-at, eliminated-loaded}
+use Rattle.reduction.proofs.Passing.{
+  column-pivoted,
+  column-skipped,
+  eliminated-at,
+  eliminated-loaded,
+  free-row,
+  pivot-ready,
+  same-state,
+}
 use Rattle.reduction.proofs.pass.Statement.{statement}
 use Rattle.reduction.proofs.pass.Tie as tie
 
 abbrev Inv-loop : tie.InvT-loop
-Inv-loop rows₀ signs₀ n pivots₀ q₀ rows signs pivots q = (q ≤ n)
+Inv-loop signs₀ n pivots₀ rows₀ q₀ signs pivots rows q = (q ≤ n)
     × Eliminated n (tableau signs₀ rows₀) (bit pivots₀) (tableau signs rows) (bit pivots) q
 
 abbrev μ-loop : tie.MeasureT-loop
-μ-loop rows₀ signs₀ n pivots₀ q₀ rows signs pivots q = n - q
+μ-loop signs₀ n pivots₀ rows₀ q₀ signs pivots rows q = n - q
 
 loop-holds : tie.Need-loop-holds Inv-loop μ-loop
 loop-holds c = (zero-le, start)
 
-pass-column-requires : tie.Need-pass-column-requires Inv-loop μ-loop
-pass-column-requires c κs = let L = c .before .before .before .loop in
-    let S = c .before .before .before .before in (
-      S .pre .0,
-      c .before .before .loop-test .taken,
-      eliminated-loaded (S .args .n) (S .pre .0) (S .pre .1) (L .inv .1),
-    )
+column-requires : tie.Need-column-requires Inv-loop μ-loop
+column-requires c κs = search needs
+
+smallest-requires : tie.Need-smallest-requires Inv-loop μ-loop
+smallest-requires c κs = search needs
+
+pivot-column-requires : tie.Need-pivot-column-requires Inv-loop μ-loop
+pivot-column-requires c κs = let C = c .before .before .before .before in
+    let I = C .before .before in
+    let L = I .before .loop in
+    let S = I .before .before in
+    let a = S .args in
+    pivot-ready (a .n) (L .q) (S .pre .0) (I .loop-test .taken) _
+    (eliminated-loaded (a .n) (S .pre .0) (S .pre .1) (L .inv .1)) _ (L .pivots) _ (C .column .ensures)
+    refl _ (free-row (a .n) (L .q) (S .pre .0) (I .loop-test .taken) _
+    (eliminated-loaded (a .n) (S .pre .0) (S .pre .1) (L .inv .1)) _ (L .pivots) _ (C .column .ensures)
+    refl (c .before .before .if1 .taken) _ (c .smallest .ensures .0))
+    (λ j. minus-real (bit (L .signs) j))
+
+put-bit-requires : tie.Need-put-bit-requires Inv-loop μ-loop
+put-bit-requires c κs = search needs
 
 add-q : tie.Need-add-q Inv-loop μ-loop
 add-q c = search needs
@@ -36,8 +60,28 @@ loop-less : tie.Need-loop-less Inv-loop μ-loop
 loop-less c = omega arith
 
 loop-again : tie.Need-loop-again Inv-loop μ-loop
-loop-again c = let L = c .before .before .before .before .loop in
-    (omega arith, eliminated-at (sym (add-one (L .q))) (c .pass-column .ensures _ _ (L .inv .1)))
+loop-again c = let C = c .before .before in
+    let I = C .before .before in
+    let L = I .before .loop in
+    let S = I .before .before in
+    let a = S .args in (
+      omega arith,
+      eliminated-at (sym (add-one (L .q)))
+          (⊎-elim
+          (λ w. column-pivoted (a .n) (L .q) (S .pre .0) (I .loop-test .taken) _
+          (eliminated-loaded (a .n) (S .pre .0) (S .pre .1) (L .inv .1)) _ (L .pivots) _ (C .column .ensures)
+          refl _
+          (free-row (a .n) (L .q) (S .pre .0) (I .loop-test .taken) _
+          (eliminated-loaded (a .n) (S .pre .0) (S .pre .1) (L .inv .1)) _ (L .pivots) _ (C .column .ensures)
+          refl (w .0 .taken) _ (w .2 .ensures .0)) _
+          (λ j. ap₂ (λ m v. tableau m v j) (w .5) (w .7) ∙ w .3 .ensures j) _
+          (λ j. ap (λ v. bit v j) (w .6) ∙ w .4 .ensures j) _ _ (L .inv .1))
+          (λ w. same-state (w .1) (w .2) (w .3)
+          (column-skipped (a .n) (L .q) (S .pre .0) (I .loop-test .taken) _
+          (eliminated-loaded (a .n) (S .pre .0) (S .pre .1) (L .inv .1)) _ (L .pivots) _ (C .column .ensures)
+          refl (w .0 .left) _ _ (L .inv .1)))
+          (c .if1 .came)),
+    )
 
 returns : tie.Need-returns Inv-loop μ-loop
 returns c = let L = c .before .loop in
@@ -47,4 +91,15 @@ returns c = let L = c .before .loop in
 pub pass-spec : {M : Type 1} → statement M
 pass-spec =
     tie.close
-    (tie.spec Inv-loop μ-loop loop-holds pass-column-requires add-q loop-less loop-again returns)
+    (tie.spec
+    Inv-loop
+    μ-loop
+    loop-holds
+    column-requires
+    smallest-requires
+    pivot-column-requires
+    put-bit-requires
+    add-q
+    loop-less
+    loop-again
+    returns)
