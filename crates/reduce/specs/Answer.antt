@@ -1,6 +1,5 @@
--- What the program prints for the text that it reads: the record of the text's list, or the one line
--- `refused` and
--- the number.
+-- What the program prints for the text that it reads: the record of the text's list, or the one line `refused`
+-- and the number.
 -- Assumes nothing.
 use mathlib.Core.Bool.{cond}
 use mathlib.Core.List.{List, map}
