@@ -3,3 +3,4 @@ pub mod Answering
 pub mod ListPlaces
 pub mod Blocks
 pub mod ReadTexts
+pub mod OneAnswer

@@ -1,6 +1,5 @@
--- What the program prints for the text that it reads: the record of the text's list, or the one line
--- `refused` and
--- the number.
+-- What the program prints for the text that it reads: the record of the text's list, or the one line `refused`
+-- and the number.
 -- Assumes nothing.
 use mathlib.Core.Bool.{cond}
 use mathlib.Core.List.{List, map}
@@ -23,7 +22,8 @@ abbrev pub listRead : List Line → GeneratorList
 listRead ls =
     record { n = length ls; signs = map (λ l. l .sign) ls; z = map (λ l. l .z) ls; x = map (λ l. l .x) ls }
 
--- a list's record, or the number of the first line that holds of the list
+-- "it prints the names `qubit code neighbours` and one line per qubit ..; or the one line `refused` and the number":
+-- the list's record, or the number of the first line that holds of the list
 unfoldable pub printed : GeneratorList → List ℕ
 printed l =
     cond (eqb (firstFitting (checkLines l)) 0)
@@ -53,8 +53,7 @@ listAt n signs z x =
     record { n = n; signs = take (min n 64) signs; z = take (min n 64) z; x = take (min n 64) x }
 
 -- a text was read and scanned, with this verdict; the lines are in the buffers. No contract can name what a
--- read
--- brings: the text is some list of bytes.
+-- read brings, so the text is some list of bytes.
 pub record Scanned (signs z x signs′ z′ x′ : List ℕ) (r : Verdict) : Type 0 where
   pub text : List ℕ
   pub scan : Scan
