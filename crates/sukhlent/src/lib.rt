@@ -1,5 +1,7 @@
 // The public calls. Each checks its arguments in the order of the published list, refuses by number, and otherwise
 // writes its answer; a refused call changes no lent byte.
+mod comparisons;
+
 use record::expand_into;
 use record::record_refusal;
 use reduction::reduce_list;
