@@ -74,6 +74,21 @@ pub choice-long : (n : ℕ) (array choice : List ℕ) → choice ≡ tabulate n 
     → length choice ≡ n
 choice-long n array choice e = ap length e ∙ tabulate-length n (λ q. getD array q 0)
 
+-- the least choice in a buffer of n places
+pub least-held : (n : ℕ) (R S : ℕ → Pauli) (choice′ : List ℕ) → choice′ ≡ tabulate n (leastCode n R S)
+    → (q : ℕ)
+    → codesOf choice′ q ≡ cliffordOf (leastCode n R S q)
+unfolding choice
+least-held n R S choice′ e q = ap (λ v. cliffordOf (getD v q 0)) e ∙ ap cliffordOf (go (lt-or-ge q n))
+  where
+    above : n ≤ q → leastCode n R S q ≡ 0
+    above l = ap (λ b. cond b (4 * digitAt 6 n (leastNumber n R S / 4 ^ n) q
+        + digitAt 4 n (leastNumber n R S % 4 ^ n) q) 0) (le-ltb q n l)
+
+    go : (q < n) ⊎ (n ≤ q) → getD (tabulate n (leastCode n R S)) q 0 ≡ leastCode n R S q
+    go (inl l) = tabulate-at n (leastCode n R S) q l
+    go (inr l) = table-past n (leastCode n R S) q l ∙ sym (above l)
+
 -- ---- the code's answer
 module _ (n : ℕ) (nb cs nb₂ cs₂ : List ℕ) (A : AcceptedRecord (record { n = n; neighbours = nb; codes = cs }))
     (B : AcceptedRecord (record { n = n; neighbours = nb₂; codes = cs₂ })) (found : Bool) (array : List ℕ)
@@ -112,17 +127,8 @@ module _ (n : ℕ) (nb cs nb₂ cs₂ : List ℕ) (A : AcceptedRecord (record { 
       least-written : choice′ ≡ tabulate n (leastCode n R S)
       least-written = e ∙ tabulate-cong n _ _ (λ q l. lists-answer .which t q l)
 
-      choice-above : (q : ℕ) → n ≤ q → leastCode n R S q ≡ 0
-      unfolding choice
-      choice-above q l = ap (λ b. cond b (4 * digitAt 6 n (leastNumber n R S / 4 ^ n) q
-          + digitAt 4 n (leastNumber n R S % 4 ^ n) q) 0) (le-ltb q n l)
-
       choice-at : (q : ℕ) → codesOf choice′ q ≡ cliffordOf (leastCode n R S q)
-      choice-at q = ap (λ v. cliffordOf (getD v q 0)) least-written ∙ ap cliffordOf (go (lt-or-ge q n))
-        where
-          go : (q < n) ⊎ (n ≤ q) → getD (tabulate n (leastCode n R S)) q 0 ≡ leastCode n R S q
-          go (inl l) = tabulate-at n (leastCode n R S) q l
-          go (inr l) = table-past n (leastCode n R S) q l ∙ sym (choice-above q l)
+      choice-at = least-held n R S choice′ least-written
 
       abbrev inducedLent : LentRecord
       inducedLent = record { n = n; neighbours = nb; codes = tabulate n (inducedCode cs choice′ cs₂) }

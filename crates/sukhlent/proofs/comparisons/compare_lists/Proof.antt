@@ -33,8 +33,8 @@ returns : tie.Need-returns
 returns c = let E = c .before in
     let D = E .before .before .before .before .before in
     let C = D .before .before .before .before .before .before .before in
-    let S =
-    C .before .before .before .before .before .before .before .before .before .before .before .before .before .before .before in
+    let known = C .before .before .before .before .before .before .before .before in
+    let S = known .before .before .before .before .before .before .before in
     let a = S .args in
     compare-refused (a .n) (a .signs1 .now) (a .z1 .now) (a .x1 .now) (a .signs2 .now) (a .z2 .now)
     (a .x2 .now)
@@ -49,8 +49,8 @@ compare-reduced-requires c κs = let N = c .before .before .before .before .befo
     let E = N .before in
     let D = E .before .before .before .before .before in
     let C = D .before .before .before .before .before .before .before in
-    let S =
-    C .before .before .before .before .before .before .before .before .before .before .before .before .before .before .before in
+    let known = C .before .before .before .before .before .before .before .before in
+    let S = known .before .before .before .before .before .before .before in
     let a = S .args in
     let z = N .if1 .left in (
       (
@@ -97,8 +97,8 @@ returns-2 c = let Q = c .before .before .before .before in
     let E = N .before in
     let D = E .before .before .before .before .before in
     let C = D .before .before .before .before .before .before .before in
-    let S =
-    C .before .before .before .before .before .before .before .before .before .before .before .before .before .before .before in
+    let known = C .before .before .before .before .before .before .before .before in
+    let S = known .before .before .before .before .before .before .before in
     let a = S .args in
     compare-decided (a .n) (a .signs1 .now) (a .z1 .now) (a .x1 .now) (a .signs2 .now) (a .z2 .now)
     (a .x2 .now)

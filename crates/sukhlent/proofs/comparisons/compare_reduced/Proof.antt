@@ -32,8 +32,8 @@ array-borrow-prefix-induced : tie.Need-array-borrow-prefix-induced
 array-borrow-prefix-induced c = search needs
 
 slice-aggregate-induced-image : tie.Need-slice-aggregate-induced-image
-slice-aggregate-induced-image c = let S =
-    c .before .before .before .before .before .before .before .before .before .before .before .before .before .before .before .before in
+slice-aggregate-induced-image c = let E = c .before .before .before .before .before .before .before in
+    let S = E .before .before .before .before .before .before .before .before .before in
     sym (part-long _ _ (S .pre .0 .0) refl)
 
 induced-image-requires : tie.Need-induced-image-requires
@@ -58,8 +58,8 @@ induced-image-requires c κs = let K = c .before .before .before .before in
 
 copy-list-requires : tie.Need-copy-list-requires
 copy-list-requires c κs = let J = c .before .before .before in
-    let S =
-    J .before .before .before .before .before .before .before .before .before .before .before .before .before .before .before .before .before in
+    let E = J .before .before .before .before .before .before .before .before in
+    let S = E .before .before .before .before .before .before .before .before .before in
     let I = J .induced-image .ensures in
     (I .room, subst (λ k. J .induced-image .result .count ≤ k) (sym (S .pre .1 .1 .1)) (I .room))
 
