@@ -15,6 +15,7 @@ use Rattle.image.specs.Rule.{imageList}
 use Rattle.record.specs.Reduced.{reducedGraph}
 use Rattle.stabilizer.specs.Carries.{Carries}
 use Rattle.stabilizer.specs.Lists.{GeneratorList, rows}
+use Rattle.sukhlent.specs.Calls.{checkLines}
 use Rattle.sukhlent.specs.Comparisons.{CompareCall}
 
 -- "Done one after another": the graph complemented at each vertex of a list
@@ -62,3 +63,18 @@ ThirdDemand =
     (l m : GeneratorList) (choice list : List ℕ) (count r : ℕ) (choice′ list′ : List ℕ) (count′ : ℕ) →
     CompareCall l m choice list count r choice′ list′ count′ → firstFitting (pairLines l m choice list) ≡ 0 →
     Decided l m list r choice′ list′ count′
+
+-- "if lists and buffers are accepted, and the lists describe states on the same number n of qubits, n from 1 to 20"
+pub record AcceptedPair (l m : GeneratorList) (choice list : List ℕ) : Type 0 where
+  pub first : firstFitting (checkLines l) ≡ 0
+  pub second : firstFitting (checkLines m) ≡ 0
+  pub same-count : l .n ≡ m .n
+  pub upto : l .n ≤ 20
+  pub choice-places : length choice ≡ l .n
+  pub list-places : length list ≡ 96
+
+-- then none of lines 2 to 10 holds
+abbrev pub NoLineHolds : Type 0
+NoLineHolds =
+    (l m : GeneratorList) (choice list : List ℕ) → AcceptedPair l m choice list →
+    firstFitting (pairLines l m choice list) ≡ 0
