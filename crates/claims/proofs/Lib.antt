@@ -1,2 +1,4 @@
 pub mod Examples
 pub mod SecondDemandLists
+pub mod ThirdDemandHolds
+pub mod AcceptedPairs

@@ -6,3 +6,7 @@ mod induced;
 mod records;
 mod search;
 mod tables;
+
+pub use induced::induced_codes;
+pub use records::compare_records;
+pub use search::Answer;

@@ -51,8 +51,8 @@ module _ (l : GeneratorList) (others : Bool) (k : ℕ) (e : k ≡ firstFitting (
           not-false true p = refl
           not-false false p = absurd (true≢false p)
 
--- the first n places of a local array of 64
-pub part-long : (n : ℕ) (buffer : List ℕ) → n ≤ 64 → length buffer ≡ 64 → length (take n buffer) ≡ n
+-- the first n places of a local array of k
+pub part-long : {k : ℕ} (n : ℕ) (buffer : List ℕ) → n ≤ k → length buffer ≡ k → length (take n buffer) ≡ n
 part-long n buffer l e = simp length-take (omega (arith, l, e))
 
 -- ---- sukhlent_reduce: its two answer buffers

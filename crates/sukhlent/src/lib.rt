@@ -1,7 +1,9 @@
 // The public calls. Each checks its arguments in the order of the published list, refuses by number, and otherwise
 // writes its answer; a refused call changes no lent byte.
+mod comparisons;
 mod images;
 
+pub use comparisons::sukhlent_compare;
 pub use images::sukhlent_image;
 use record::expand_into;
 use record::record_refusal;
