@@ -14,8 +14,8 @@
  *                  4 (Y,X), 5 (Z,Y); sx or sz is 1 if that image is negative
  * Its generator j is +X at j and Z at the neighbours of j, each place then sent through its code.
  *
- * Every buffer passes as a pointer and its length in elements, and has n places. Buffers must not
- * overlap. Buffers that are not const are lent for the answer: what they hold before the call does
+ * Every buffer passes as a pointer and its length in elements, and has n places where its call
+ * does not say otherwise. Buffers must not overlap. Buffers that are not const are lent for the answer: what they hold before the call does
  * not matter.
  *
  * Every call answers 0 where it accepts, or the first number of this list whose line is true. A
@@ -71,6 +71,35 @@ uint8_t sukhlent_expand(uint64_t n,
                         uint8_t *signs, size_t signs_len,
                         uint64_t *z, size_t z_len,
                         uint64_t *x, size_t x_len);
+
+/* Sends a graph through its codes, by the image rule: writes the image graph, a sign per vertex
+ * (1 for minus) and the vertices at which the graph is complemented, in order. `list` has 96
+ * places; those from *count on keep their values.
+ * Refusals: 2, 4, 5, 6, 7, 11, 12. */
+uint8_t sukhlent_image(uint64_t n,
+                       const uint64_t *neighbours, size_t neighbours_len,
+                       const uint8_t *codes, size_t codes_len,
+                       uint64_t *image, size_t image_len,
+                       uint8_t *signs, size_t signs_len,
+                       uint8_t *list, size_t list_len,
+                       uint64_t *count);
+
+/* Compares the groups of two generator lists on at most 20 qubits: writes the least choice of one
+ * code per qubit that carries the first group onto the second, and the vertices at which the
+ * first reduced graph is complemented, in order, to become the second. `choice` has n places,
+ * `list` 96; those from *count on keep their values.
+ * Refusals: 2, 3, 4, 5, 6, 9, 10, 13. */
+uint8_t sukhlent_compare(uint64_t n1,
+                         const uint8_t *signs1, size_t signs1_len,
+                         const uint64_t *z1, size_t z1_len,
+                         const uint64_t *x1, size_t x1_len,
+                         uint64_t n2,
+                         const uint8_t *signs2, size_t signs2_len,
+                         const uint64_t *z2, size_t z2_len,
+                         const uint64_t *x2, size_t x2_len,
+                         uint8_t *choice, size_t choice_len,
+                         uint8_t *list, size_t list_len,
+                         uint64_t *count);
 
 #ifdef __cplusplus
 }

@@ -17,11 +17,15 @@
 //! # Ok::<(), sukhlent::Refusal>(())
 //! ```
 
+mod comparison;
+mod image;
 mod list;
 pub mod raw;
 mod record;
 mod refusal;
 
+pub use comparison::{compare, Comparison};
+pub use image::{image, Image};
 pub use list::{check, reduce, GeneratorList};
 pub use record::{expand, Record};
 pub use refusal::Refusal;

@@ -42,6 +42,43 @@ mod calls {
             x: *mut u64,
             x_len: usize,
         ) -> u8;
+
+        pub fn sukhlent_image(
+            n: u64,
+            neighbours: *const u64,
+            neighbours_len: usize,
+            codes: *const u8,
+            codes_len: usize,
+            image: *mut u64,
+            image_len: usize,
+            signs: *mut u8,
+            signs_len: usize,
+            list: *mut u8,
+            list_len: usize,
+            count: *mut u64,
+        ) -> u8;
+
+        pub fn sukhlent_compare(
+            n1: u64,
+            signs1: *const u8,
+            signs1_len: usize,
+            z1: *const u64,
+            z1_len: usize,
+            x1: *const u64,
+            x1_len: usize,
+            n2: u64,
+            signs2: *const u8,
+            signs2_len: usize,
+            z2: *const u64,
+            z2_len: usize,
+            x2: *const u64,
+            x2_len: usize,
+            choice: *mut u8,
+            choice_len: usize,
+            list: *mut u8,
+            list_len: usize,
+            count: *mut u64,
+        ) -> u8;
     }
 }
 
@@ -108,6 +145,70 @@ pub fn expand(
             z.len(),
             x.as_mut_ptr(),
             x.len(),
+        )
+    }
+}
+
+/// Writes the graph to which the codes send a graph, its signs, and the complementations.
+pub fn image(
+    n: u64,
+    neighbours: &[u64],
+    codes: &[u8],
+    image: &mut [u64],
+    signs: &mut [u8],
+    list: &mut [u8],
+    count: &mut u64,
+) -> u8 {
+    unsafe {
+        calls::sukhlent_image(
+            n,
+            neighbours.as_ptr(),
+            neighbours.len(),
+            codes.as_ptr(),
+            codes.len(),
+            image.as_mut_ptr(),
+            image.len(),
+            signs.as_mut_ptr(),
+            signs.len(),
+            list.as_mut_ptr(),
+            list.len(),
+            count,
+        )
+    }
+}
+
+/// A generator list as the raw calls take it: n, signs, z and x.
+pub type Lent<'a> = (u64, &'a [u8], &'a [u64], &'a [u64]);
+
+/// Writes the least choice that carries one group onto another, and the complementations.
+pub fn compare(
+    (n1, signs1, z1, x1): Lent,
+    (n2, signs2, z2, x2): Lent,
+    choice: &mut [u8],
+    list: &mut [u8],
+    count: &mut u64,
+) -> u8 {
+    unsafe {
+        calls::sukhlent_compare(
+            n1,
+            signs1.as_ptr(),
+            signs1.len(),
+            z1.as_ptr(),
+            z1.len(),
+            x1.as_ptr(),
+            x1.len(),
+            n2,
+            signs2.as_ptr(),
+            signs2.len(),
+            z2.as_ptr(),
+            z2.len(),
+            x2.as_ptr(),
+            x2.len(),
+            choice.as_mut_ptr(),
+            choice.len(),
+            list.as_mut_ptr(),
+            list.len(),
+            count,
         )
     }
 }
