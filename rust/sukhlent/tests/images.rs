@@ -1,49 +1,18 @@
-//! Graph images: the examples of document 01, and every record of few vertices against the
+//! Graph images: the examples of document 01, and every graph of few vertices against the
 //! generators of the image.
 
 mod common;
 
-use common::codes;
+use common::local::{complemented, complemented_record, numbered_graph, sent};
 use common::reference::reduced;
-use common::{list, rows, Pauli};
-use sukhlent::{expand, image, raw, GeneratorList, Record, Refusal};
+use common::{rows, Pauli, Random};
+use sukhlent::{expand, image, raw, GeneratorList, Image, Record, Refusal};
 
 fn record(neighbours: &[u64], codes: &[u8]) -> Record {
     Record {
         neighbours: neighbours.to_vec(),
         codes: codes.to_vec(),
     }
-}
-
-/// The graph complemented at each vertex of a list.
-fn complemented(neighbours: &[u64], vertices: &[u8]) -> Vec<u64> {
-    let mut graph = neighbours.to_vec();
-    for &v in vertices {
-        let around = graph[v as usize];
-        for a in (0..graph.len()).filter(|a| around >> a & 1 == 1) {
-            graph[a] ^= around & !(1 << a);
-        }
-    }
-    graph
-}
-
-/// Every record of n vertices.
-fn records(n: usize) -> impl Iterator<Item = Record> {
-    let pairs: Vec<_> = (0..n).flat_map(|b| (0..b).map(move |a| (a, b))).collect();
-    let codes = 24usize.pow(n as u32);
-    (0..codes << pairs.len()).map(move |k| {
-        let mut neighbours = vec![0; n];
-        for (e, &(a, b)) in pairs.iter().enumerate() {
-            let bit = (k / codes >> e & 1) as u64;
-            neighbours[a] |= bit << b;
-            neighbours[b] |= bit << a;
-        }
-        let digit = |q| (k % codes / 24usize.pow(q as u32) % 24) as u8;
-        Record {
-            neighbours,
-            codes: (0..n).map(digit).collect(),
-        }
-    })
 }
 
 /// The generators of a graph with signs.
@@ -53,6 +22,26 @@ fn graph_list(neighbours: &[u64], signs: &[u8]) -> GeneratorList {
         z: neighbours.to_vec(),
         x: (0..signs.len()).map(|q| 1 << q).collect(),
     }
+}
+
+/// The digits of k in a base, as codes.
+fn digits(n: usize, k: usize, base: usize) -> Vec<u8> {
+    (0..n as u32)
+        .map(|q| (k / base.pow(q) % base) as u8)
+        .collect()
+}
+
+/// The list leads to the image graph, which stands for the record's group, and is short enough.
+fn assert_image(given: &Record, answer: &Image) {
+    let of_graph = graph_list(&answer.neighbours, &answer.signs);
+    let group = reduced(&expand(given).unwrap());
+    assert_eq!(reduced(&of_graph), group, "{given:?}");
+    let led = complemented(&given.neighbours, &answer.complementations);
+    assert_eq!(led, answer.neighbours, "{given:?}");
+    assert!(
+        2 * answer.complementations.len() <= 3 * given.n(),
+        "{given:?}"
+    );
 }
 
 #[test]
@@ -73,51 +62,92 @@ fn refused_images() {
 }
 
 #[test]
-fn every_record_of_few_vertices() {
+fn thirty_two_edges_fill_the_list() {
+    let edges: Vec<u64> = (0..64).map(|q: u64| 1 << (q ^ 1)).collect();
+    let answer = image(&record(&edges, &[8; 64])).unwrap();
+    assert_eq!(answer.neighbours, edges);
+    let pairs = (0..32).flat_map(|e| [2 * e, 2 * e + 1, 2 * e]);
+    assert_eq!(answer.complementations, pairs.collect::<Vec<u8>>());
+}
+
+#[test]
+fn every_record_of_three_vertices() {
     let mut accepted = 0;
     for n in 1..=3 {
-        for given in records(n) {
-            // The record's group is that of a signed graph exactly if its reduced codes are 0 and 2.
-            let due = reduced(&expand(&given).unwrap());
-            let simple = due.codes.iter().all(|c| [0, 2].contains(c));
-            match image(&given) {
-                Err(Refusal::NoGraph | Refusal::Loop) => assert!(!simple, "{given:?}"),
-                Err(other) => panic!("{given:?}: {other}"),
-                Ok(answer) => {
-                    accepted += 1;
-                    let of_graph = graph_list(&answer.neighbours, &answer.signs);
-                    assert_eq!(reduced(&of_graph), due, "{given:?}");
-                    let led = complemented(&given.neighbours, &answer.complementations);
-                    assert_eq!(led, answer.neighbours, "{given:?}");
-                    assert!(2 * answer.complementations.len() <= 3 * n, "{given:?}");
-                }
+        let codes = 24usize.pow(n as u32);
+        for k in 0..codes << (n * (n - 1) / 2) {
+            let given = record(&numbered_graph(n, k / codes), &digits(n, k % codes, 24));
+            if let Ok(answer) = image(&given) {
+                assert_image(&given, &answer);
+                accepted += 1;
             }
         }
     }
     assert!(accepted > 1000);
 }
 
-#[test]
-fn codes_send_generators_place_by_place() {
-    let given = record(&[6, 1, 1], &[12, 4, 4]);
-    let star = rows(&expand(&record(&[6, 1, 1], &[0, 0, 0])).unwrap());
-    let sent: Vec<Pauli> = star
+/// Whether the group, signs dropped, is that of some graph: each of its generators commutes with
+/// all generators of that graph.
+fn is_some_graphs(list: &GeneratorList, graphs: &[Vec<Pauli>]) -> bool {
+    let given = rows(list);
+    graphs
         .iter()
-        .map(|row| {
-            let mut answer = row.clone();
-            for (q, letter) in answer.letters.iter_mut().enumerate() {
-                let (phase, to) = codes::image(given.codes[q], *letter);
-                answer.phase = (answer.phase + phase) % 4;
-                *letter = to;
-            }
-            answer
-        })
-        .collect();
-    assert_eq!(expand(&given), Ok(list(&sent)));
+        .any(|graph| given.iter().all(|g| graph.iter().all(|h| g.commutes(h))))
 }
 
 #[test]
-fn a_list_of_95_or_97_places_gives_4_and_nothing_is_written() {
+fn refused_exactly_when_the_image_is_no_graphs_on_four_vertices() {
+    for n in 1..=4 {
+        let number = 1 << (n * (n - 1) / 2);
+        let graphs: Vec<_> = (0..number)
+            .map(|k| rows(&graph_list(&numbered_graph(n, k), &vec![0; n])))
+            .collect();
+        for (k, c) in (0..number).flat_map(|k| (0..6usize.pow(n as u32)).map(move |c| (k, c))) {
+            let codes: Vec<u8> = digits(n, c, 6).iter().map(|class| 4 * class).collect();
+            let given = record(&numbered_graph(n, k), &codes);
+            let graph = graph_list(&given.neighbours, &vec![0; n]);
+            let found = is_some_graphs(&sent(&graph, &codes), &graphs);
+            match image(&given) {
+                Ok(answer) => {
+                    assert!(found, "{given:?}");
+                    assert_image(&given, &answer);
+                }
+                Err(Refusal::NoGraph | Refusal::Loop) => assert!(!found, "{given:?}"),
+                Err(other) => panic!("{given:?}: {other}"),
+            }
+        }
+    }
+}
+
+#[test]
+fn complemented_records_of_signed_graphs_on_up_to_64_vertices() {
+    for seed in 0..200 {
+        let mut random = Random::new(12_000 + seed);
+        let n = 1 + random.below(64);
+        let mut neighbours = vec![0u64; n];
+        for (a, b) in (0..n).flat_map(|a| (0..a).map(move |b| (a, b))) {
+            let bit = (random.below(3) == 0) as u64;
+            neighbours[a] |= bit << b;
+            neighbours[b] |= bit << a;
+        }
+        let codes: Vec<u8> = (0..n).map(|_| 2 * random.below(2) as u8).collect();
+        let signs: Vec<u8> = codes.iter().map(|c| c / 2).collect();
+        let mut given = record(&neighbours, &codes);
+        for _ in 0..random.below(2 * n) {
+            given = complemented_record(&given, random.below(n));
+        }
+        let answer = image(&given).unwrap();
+        assert_eq!(
+            (&answer.neighbours, &answer.signs),
+            (&neighbours, &signs),
+            "seed {seed}"
+        );
+        assert_image(&given, &answer);
+    }
+}
+
+#[test]
+fn wrong_places_for_the_list_give_4_and_nothing_is_written() {
     for places in [0, 3, 95, 97] {
         let (mut graph, mut signs, mut list) = ([7; 3], [7; 3], vec![7; places]);
         let mut count = 7;

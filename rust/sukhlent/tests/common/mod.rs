@@ -5,6 +5,7 @@ pub mod calls;
 pub mod codes;
 pub mod damage;
 pub mod guarded;
+pub mod local;
 pub mod reference;
 pub mod seeded;
 
