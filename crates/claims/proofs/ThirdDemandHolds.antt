@@ -48,10 +48,14 @@ use Rattle.sukhlent.specs.Comparisons.{compareList, inducedRecord}
 use Rattle.claims.specs.ThirdDemand.{ComesBack, Decided, ThirdDemand, complementEach, listUnder}
 
 -- a record complemented along a list has the graph complemented along it
-graph-each : (r : GraphRecord) (vs : List ℕ) (i j : ℕ) →
+pub graph-each : (r : GraphRecord) (vs : List ℕ) (i j : ℕ) →
     complementEach (r .graph) vs i j ≡ (complementAll r vs) .graph i j
 graph-each r [] i j = refl
 graph-each r (v ∷ vs) i j = graph-each (complementRecord r v) vs i j
+
+-- at most 3n/2, rounded down
+pub half : (a b : ℕ) → 2 * a ≤ b → a ≤ b / 2
+half a b h = omega (arith, h)
 
 -- ---- none of lines 2 to 10 holds
 record PairPassed (l m : GeneratorList) (choice list : List ℕ) : Type 0 where
@@ -171,9 +175,6 @@ module _ (l m : GeneratorList) (same-number : l .n ≡ m .n) (P : Proper (l .n) 
             ∙ graph-each (inducedRecord n R S) theList i j ∙ leads-to i j
             ∙ ap (λ k. reducedGraph k S i j) same-number;
       }
-    where
-      half : (a b : ℕ) → 2 * a ≤ b → a ≤ b / 2
-      half a b h = omega (arith, h)
 
 -- ---- the demand
 pub third-demand : ThirdDemand

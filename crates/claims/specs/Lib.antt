@@ -1,3 +1,4 @@
 pub mod Table
 pub mod SecondDemand
 pub mod ThirdDemand
+pub mod ImageDemand

@@ -1,0 +1,53 @@
+-- Demand 2, of the public call on the image of a graph: "images follow the same definition".
+-- Assumes nothing.
+use mathlib.Core.Bool.{false, _||_}
+use mathlib.Core.List.{List}
+use mathlib.Core.Logic.{_↔_, _⊎_}
+use mathlib.Core.Path.{_≡_}
+use Prim.Native.Nat.{_*_, _/_, _<_, ℕ, _≤_}
+use lib.Dec.{eqb}
+use lib.ListN.{getD, length, take}
+use Rattle.buffers.specs.Refusals.{firstFitting, otherThan}
+use Rattle.graph.specs.Graph.{Graph, graphGenerator}
+use Rattle.image.specs.Image.{UnsignedGraph}
+use Rattle.image.specs.Rule.{imageList}
+use Rattle.pauli.specs.Pauli.{Pauli, minus, scaled}
+use Rattle.record.specs.Lent.{LentRecord, heldRecord, heldRows, recordLines}
+use Rattle.stabilizer.specs.Groups.{SameGroup}
+use Rattle.sukhlent.specs.Images.{Imaged}
+use Rattle.words.specs.Bits.{bit}
+use Rattle.claims.specs.ThirdDemand.{complementEach}
+
+-- the graph that neighbour words give
+abbrev pub graphIn : List ℕ → Graph
+graphIn neighbours j = bit (getD neighbours j 0)
+
+-- the generators of a graph with "one minus sign bit per vertex"
+abbrev pub signedGenerators : List ℕ → List ℕ → ℕ → Pauli
+signedGenerators neighbours signs j =
+    scaled (minus (eqb (getD signs j 0) 1)) (graphGenerator (graphIn neighbours) j)
+
+-- what comes back
+pub record ImageStands (l : LentRecord) (image′ signs′ list′ : List ℕ) (count′ : ℕ) : Type 0 where
+  -- the image group with its signs is the group of the image graph with its minus signs
+  pub group : SameGroup (l .n) (l .n) (heldRows l) (signedGenerators image′ signs′)
+  -- "the list must lead to the graph"
+  pub leads : (i j : ℕ) → i < l .n →
+      complementEach ((heldRecord l) .graph) (take count′ list′) i j ≡ graphIn image′ i j
+  -- "Its count is the number of complementations done", which fit into the buffer
+  pub amount : count′ ≡ length (imageList (l .n) (heldRecord l))
+  pub few : count′ ≤ 3 * l .n / 2
+
+pub record ImageDecided (l : LentRecord) (r : ℕ) (image′ signs′ list′ : List ℕ) (count′ : ℕ) : Type 0 where
+  -- "One of lines 11 and 12 holds exactly when the image group, signs dropped, is that of no simple graph"
+  pub exactly : ((r ≡ 11) ⊎ (r ≡ 12)) ↔ (UnsignedGraph (l .n) (heldRows l) → ⊥)
+  pub otherwise : (r ≡ 11 → ⊥) → (r ≡ 12 → ⊥) → (r ≡ 0) × ImageStands l image′ signs′ list′ count′
+
+-- for every record and whatever the lent buffers held, where none of lines 2 to 7 holds
+abbrev pub ImagesFollow : Type 0
+ImagesFollow =
+    (l : LentRecord) (image signs list : List ℕ) (count r : ℕ) (image′ signs′ list′ : List ℕ) (count′ : ℕ) →
+    Imaged l image signs list count r image′ signs′ list′ count′ →
+    firstFitting (recordLines l (otherThan (l .n) image
+    || (otherThan (l .n) signs || otherThan 96 list)) false) ≡ 0 →
+    ImageDecided l r image′ signs′ list′ count′
