@@ -8,24 +8,20 @@ use Prim.Native.Nat.{_*_, _/_, _<_, ℕ, _≤_}
 use lib.Dec.{eqb}
 use lib.ListN.{getD, length, take}
 use Rattle.buffers.specs.Refusals.{firstFitting, otherThan}
-use Rattle.graph.specs.Graph.{Graph, graphGenerator}
+use Rattle.graph.specs.Graph.{graphGenerator}
 use Rattle.image.specs.Image.{UnsignedGraph}
 use Rattle.image.specs.Rule.{imageList}
+use Rattle.image.specs.Working.{wordGraph}
 use Rattle.pauli.specs.Pauli.{Pauli, minus, scaled}
 use Rattle.record.specs.Lent.{LentRecord, heldRecord, heldRows, recordLines}
 use Rattle.stabilizer.specs.Groups.{SameGroup}
 use Rattle.sukhlent.specs.Images.{Imaged}
-use Rattle.words.specs.Bits.{bit}
 use Rattle.claims.specs.ThirdDemand.{complementEach}
-
--- the graph that neighbour words give
-abbrev pub graphIn : List ℕ → Graph
-graphIn neighbours j = bit (getD neighbours j 0)
 
 -- the generators of a graph with "one minus sign bit per vertex"
 abbrev pub signedGenerators : List ℕ → List ℕ → ℕ → Pauli
 signedGenerators neighbours signs j =
-    scaled (minus (eqb (getD signs j 0) 1)) (graphGenerator (graphIn neighbours) j)
+    scaled (minus (eqb (getD signs j 0) 1)) (graphGenerator (wordGraph neighbours) j)
 
 -- what comes back
 pub record ImageStands (l : LentRecord) (image′ signs′ list′ : List ℕ) (count′ : ℕ) : Type 0 where
@@ -33,7 +29,7 @@ pub record ImageStands (l : LentRecord) (image′ signs′ list′ : List ℕ) (
   pub group : SameGroup (l .n) (l .n) (heldRows l) (signedGenerators image′ signs′)
   -- "the list must lead to the graph"
   pub leads : (i j : ℕ) → i < l .n →
-      complementEach ((heldRecord l) .graph) (take count′ list′) i j ≡ graphIn image′ i j
+      complementEach ((heldRecord l) .graph) (take count′ list′) i j ≡ wordGraph image′ i j
   -- "Its count is the number of complementations done", which fit into the buffer
   pub amount : count′ ≡ length (imageList (l .n) (heldRecord l))
   pub few : count′ ≤ 3 * l .n / 2

@@ -1,11 +1,13 @@
-//! Graph images: the examples of document 01, and every graph of few vertices against the
-//! generators of the image.
+//! Graph images: the examples of document 01, every graph of few vertices against state vectors,
+//! and signed graphs on up to 64 vertices.
 
 mod common;
 
-use common::local::{complemented, complemented_record, numbered_graph, sent};
+use common::local::{complemented, complemented_record, numbered_graph};
 use common::reference::reduced;
-use common::{rows, Pauli, Random};
+use common::vectors::state_of;
+use common::Random;
+use simulator::{Row, State};
 use sukhlent::{expand, image, raw, GeneratorList, Image, Record, Refusal};
 
 fn record(neighbours: &[u64], codes: &[u8]) -> Record {
@@ -86,27 +88,26 @@ fn every_record_of_three_vertices() {
     assert!(accepted > 1000);
 }
 
-/// Whether the group, signs dropped, is that of some graph: each of its generators commutes with
-/// all generators of that graph.
-fn is_some_graphs(list: &GeneratorList, graphs: &[Vec<Pauli>]) -> bool {
-    let given = rows(list);
-    graphs
-        .iter()
-        .any(|graph| given.iter().all(|g| graph.iter().all(|h| g.commutes(h))))
+/// Whether the group of a state, signs dropped, is that of some graph: each generator of the graph
+/// has expectation +1 or -1.
+fn is_some_graphs(state: &State, graphs: &[Vec<Row>]) -> bool {
+    let certain = |row: &Row| state.expectation(row).re.abs() > 0.5;
+    graphs.iter().any(|graph| graph.iter().all(certain))
 }
 
 #[test]
 fn refused_exactly_when_the_image_is_no_graphs_on_four_vertices() {
     for n in 1..=4 {
         let number = 1 << (n * (n - 1) / 2);
-        let graphs: Vec<_> = (0..number)
-            .map(|k| rows(&graph_list(&numbered_graph(n, k), &vec![0; n])))
-            .collect();
+        let generators = |k| {
+            let graph = numbered_graph(n, k);
+            (0..n).map(|j| Row::new(0, graph[j], 1 << j)).collect()
+        };
+        let graphs: Vec<Vec<Row>> = (0..number).map(generators).collect();
         for (k, c) in (0..number).flat_map(|k| (0..6usize.pow(n as u32)).map(move |c| (k, c))) {
             let codes: Vec<u8> = digits(n, c, 6).iter().map(|class| 4 * class).collect();
             let given = record(&numbered_graph(n, k), &codes);
-            let graph = graph_list(&given.neighbours, &vec![0; n]);
-            let found = is_some_graphs(&sent(&graph, &codes), &graphs);
+            let found = is_some_graphs(&state_of(&given), &graphs);
             match image(&given) {
                 Ok(answer) => {
                     assert!(found, "{given:?}");

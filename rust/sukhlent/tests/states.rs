@@ -3,8 +3,9 @@
 mod common;
 
 use common::seeded::Gate;
-use common::{images, list, mixed, random_rows, stabilizers, Circuit, Random};
-use simulator::{find, Complex, Matrix2, Row, State};
+use common::vectors::state_of;
+use common::{list, mixed, random_rows, stabilizers, Circuit, Random};
+use simulator::{Complex, Matrix2, Row, State};
 use sukhlent::{check, expand, reduce, GeneratorList, Record};
 
 /// The state that a circuit makes of its basis state.
@@ -16,22 +17,6 @@ fn run(circuit: &Circuit) -> State {
             Gate::S(q) => state.apply(q, &Matrix2::S),
             Gate::Cz(a, b) => state.cz(a, b),
         }
-    }
-    state
-}
-
-/// The graph state of a record's graph with the record's Cliffords applied.
-fn state_of(record: &Record) -> State {
-    let n = record.n();
-    let mut state = State::zero(n);
-    (0..n).for_each(|q| state.apply(q, &Matrix2::H));
-    for a in 0..n {
-        let above = (a + 1..n).filter(|b| record.neighbours[a] >> b & 1 == 1);
-        above.for_each(|b| state.cz(a, b));
-    }
-    for (q, &code) in record.codes.iter().enumerate() {
-        let (x, z) = images(code);
-        state.apply(q, &find(x, z));
     }
     state
 }

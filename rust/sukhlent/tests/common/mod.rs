@@ -8,6 +8,7 @@ pub mod guarded;
 pub mod local;
 pub mod reference;
 pub mod seeded;
+pub mod vectors;
 
 pub use calls::{ListCall, RecordCall};
 pub use codes::images;
