@@ -47,16 +47,14 @@ pub record ComesBack (l m : GeneratorList) (list choice′ list′ : List ℕ) (
   pub leads : (i j : ℕ) →
       complementEach (reducedGraph (l .n) (rows l)) (take count′ list′) i j ≡ reducedGraph (m .n) (rows m) i j
 
--- "the comparison refuses them as not equivalent exactly when none of the 24^n choices of a local Clifford
--- per qubit
--- carries the first signed group onto the second. Otherwise .."
+-- "the comparison refuses them as not equivalent exactly when none of the 24^n choices of a local Clifford per
+-- qubit carries the first signed group onto the second. Otherwise .."
 pub record Decided (l m : GeneratorList) (list : List ℕ) (r : ℕ) (choice′ list′ : List ℕ) (count′ : ℕ) : Type
     0 where
   pub exactly : (r ≡ 13) ↔ ((c : ℕ → Clifford) → Carries (l .n) c (rows l) (rows m) → ⊥)
   pub otherwise : (r ≡ 13 → ⊥) → (r ≡ 0) × ComesBack l m list choice′ list′ count′
 
--- "For every two generator lists, and whatever the lent answer buffers held": "lists and buffers are accepted
--- where
+-- "For every two generator lists, and whatever the lent answer buffers held": "lists and buffers are accepted where
 -- none of lines 2 to 10 below holds of the lists, nor line 4 of the buffers"
 abbrev pub ThirdDemand : Type 0
 ThirdDemand =

@@ -1,5 +1,4 @@
--- Equations add, an equation cannot tell apart assignments that agree where it has unknowns, and a table with
--- a sum
+-- Equations add, an equation cannot tell apart assignments that agree where it has unknowns, and a table with a sum
 -- stored keeps its solutions.
 -- Assumes nothing.
 use mathlib.Core.Bool.{_&&_, Bool, Bool·beq, false, not, true, true≢false, _||_}

@@ -1,5 +1,5 @@
--- The tables of equations: the empty one, and one more equation that every choice that works solves; the
--- first test.
+-- The tables of equations: the empty one, and one more equation that every choice that works solves; the first
+-- test.
 -- Assumes nothing.
 use mathlib.Core.Bool.{_&&_, Bool, Bool·beq, false, not, true}
 use mathlib.Core.List.{List}

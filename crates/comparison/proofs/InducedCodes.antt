@@ -1,5 +1,4 @@
--- A choice that carries one list's group onto another's: the codes that it induces carry the first reduced
--- graph's
+-- A choice that carries one list's group onto another's: the codes that it induces carry the first reduced graph's
 -- group onto the second's.
 -- Assumes nothing.
 use mathlib.Core.Path.{ap, ap₂, sym, _∙_, _≡_}

@@ -1,5 +1,4 @@
--- The equation of the least choice: it is the least in document 01's order, the only one, and missing exactly
--- if no
+-- The equation of the least choice: it is the least in document 01's order, the only one, and missing exactly if no
 -- choice carries the group.
 -- Assumes nothing.
 use mathlib.Core.Bool.{Bool, false, false≢true, not, true, true≢false}

@@ -1,5 +1,4 @@
--- One step of a search in the order of the keys: the choices that begin with p, by their key at the next
--- qubit.
+-- One step of a search in the order of the keys: the choices that begin with p, by their key at the next qubit.
 -- Assumes nothing.
 use mathlib.Core.Bool.{Bool, false, true}
 use mathlib.Core.Logic.{inl, inr, _⊎_}

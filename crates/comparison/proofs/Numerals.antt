@@ -1,5 +1,4 @@
--- Numbers written in a base, the leading digit first: their digits, and that their order is that of the first
--- digit
+-- Numbers written in a base, the leading digit first: their digits, and that their order is that of the first digit
 -- that differs.
 -- Assumes nothing.
 use mathlib.Core.Logic.{inl, inr, _⊎_}

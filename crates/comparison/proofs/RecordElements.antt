@@ -1,5 +1,4 @@
--- The one product of a record's generators that can be a given row: its word is read off the row's x bits
--- once the
+-- The one product of a record's generators that can be a given row: its word is read off the row's x bits once the
 -- record's codes are undone.
 -- Assumes nothing.
 use mathlib.Core.Bool.{_&&_, Bool, Bool·beq, false, not, true}

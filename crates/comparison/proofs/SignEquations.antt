@@ -1,5 +1,4 @@
--- The signs of a choice change the sign of a row's image by a parity; elements of a group with the same
--- letters are
+-- The signs of a choice change the sign of a row's image by a parity; elements of a group with the same letters are
 -- equal; so a choice that works solves the sign equations.
 -- Assumes nothing.
 use mathlib.Core.Bool.{_&&_, Bool, false, true}
@@ -121,8 +120,7 @@ module _ (n : ℕ) (rows others : ℕ → Pauli) (P : Proper n rows) (P′ : Pro
   carried : InGroup n n others (act n d (generatorOf g))
   carried = subst (λ p. InGroup n n others (act n d p)) (sym eg) (C .into (rows i) (in-row n n rows i li))
 
-  -- c has the classes of d, and p is the image of g under them, all signs plus; h is an element with p's
-  -- letters
+  -- c has the classes of d, and p is the image of g under them, all signs plus; h is an element with p's letters
   pub sign-equation : (c : ℕ → Clifford) → ((q : ℕ) → q < n → classKey (d q) ≡ classKey (c q))
       → (p h : Generator)
       → generatorOf p ≡ act n (λ q. bare (c q)) (generatorOf g) → InGroup n n others (generatorOf h)

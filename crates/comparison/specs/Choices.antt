@@ -42,8 +42,7 @@ classKey c = classNumber (c .class)
 abbrev pub signKey : Clifford → ℕ
 signKey c = 2 * digit (c .sx) + digit (c .sz)
 
--- "the least by the classes of qubits 0, 1 and so on; among those, the least by 2 × sx + sz in the same
--- order"
+-- "the least by the classes of qubits 0, 1 and so on; among those, the least by 2 × sx + sz in the same order"
 abbrev pub Before : ℕ → (ℕ → Clifford) → (ℕ → Clifford) → Type 0
 Before n c d =
     FirstDiffers n (λ q. classKey (c q)) (λ q. classKey (d q))

@@ -1,5 +1,4 @@
--- Linear equations modulo 2 over four words of unknowns, a bit of each for each qubit: how the searches keep
--- what
+-- Linear equations modulo 2 over four words of unknowns, a bit of each for each qubit: how the searches keep what
 -- every choice that works must satisfy.
 -- Assumes nothing.
 use mathlib.Core.Bool.{Bool, false, true}
@@ -58,9 +57,8 @@ pub record SameOn (m : ℕ) (w v : Assignment) : Type 0 where
   pub d : SameBits m (w .d) (v .d)
 
 -- ---- the unknowns of a choice
--- the classes: at each qubit image z = a z + b x and image x = c z + d x; (a, c) are the bits (z, x) of the
--- image of
--- Z, and (b, d) those of the image of X
+-- the classes: at each qubit image z = a z + b x and image x = c z + d x; (a, c) are the bits (z, x) of the image
+-- of Z, and (b, d) those of the image of X
 unfoldable pub classAssignment : ℕ → (ℕ → Clifford) → Assignment
 classAssignment n k =
     record {

@@ -15,8 +15,7 @@ use Rattle.words.specs.Bits.{Word}
 use Rattle.words.specs.Search.{some}
 use Rattle.image.specs.Rule.{follow, imageList, stateOf}
 
--- the record at the end: the given one complemented at each vertex of the list; its group is the image
--- group
+-- the record at the end: the given one complemented at each vertex of the list; its group is the image group
 abbrev pub imageRecord : ℕ → GraphRecord → GraphRecord
 imageRecord n r = complementAll r (imageList n r)
 

@@ -55,8 +55,7 @@ pub record Complemented (n : ℕ) (w : Working) (vertices : List ℕ) (r : Worki
 abbrev pub joinedIn : List ℕ → ℕ → ℕ → Bool
 joinedIn words c j = bit c j && not (eqb (bitAnd (getD words j 0) c) 0)
 
--- the words of n codes: C, D, X goes to plus or minus Y, the signs of the images of X and Z; no bit at or
--- above n
+-- the words of n codes: C, D, X goes to plus or minus Y, the signs of the images of X and Z; no bit at or above n
 pub record WordsOf (n : ℕ) (k : ℕ → Clifford) (r : CodeWords) : Type 0 where
   pub C : (q : ℕ) → bit (r .c) q ≡ (ltb q n && bitC (k q))
   pub D : (q : ℕ) → bit (r .d) q ≡ (ltb q n && bitD (k q))

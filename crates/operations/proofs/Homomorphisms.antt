@@ -1,5 +1,4 @@
--- Maps of rows that keep products and powers of i: they keep commutation, and carry the group of a list onto
--- the
+-- Maps of rows that keep products and powers of i: they keep commutation, and carry the group of a list onto the
 -- group of its image.
 -- Assumes nothing.
 use mathlib.Core.Bool.{Bool, false, true}

@@ -27,8 +27,7 @@ pub record IsCz (n a b : ℕ) (f : Pauli → Pauli) : Type 0 where
   pub x-other : (q : ℕ) → q ≢ a → q ≢ b → f (xAt q) ≡ xAt q
   pub z-fixed : (q : ℕ) → f (zAt q) ≡ zAt q
 
--- that map: a z bit at one of the two qubits flips where the other has an x bit, and the sign where both have
--- X or
+-- that map: a z bit at one of the two qubits flips where the other has an x bit, and the sign where both have X or
 -- Y and exactly one has Y
 abbrev pub czSign : Bool → Bool → Bool → Bool → Bool
 czSign za xa zb xb = (xa && xb) && (za ⊕ zb)

@@ -47,9 +47,8 @@ isDetermined n rows l q = member n rows (single l q false) || member n rows (sin
 abbrev pub outcome : ℕ → (ℕ → Pauli) → Letter → ℕ → Bool → Bool
 outcome n rows l q b = cond (isDetermined n rows l q) (member n rows (single l q true)) b
 
--- generators of the group afterwards where P is not determined: the first row that does not commute with P
--- goes into
--- the others that do not, and P takes its place
+-- generators of the group afterwards where P is not determined: the first row that does not commute with P goes
+-- into the others that do not, and P takes its place
 abbrev pub against : ℕ → (ℕ → Pauli) → Pauli → ℕ → Word
 against n rows P g j = anticommute n (rows j) P && not (eqb j g)
 

@@ -1,5 +1,4 @@
--- Writing into a buffer, piece by piece: a byte is a store, and two pieces written one behind the other are
--- one.
+-- Writing into a buffer, piece by piece: a byte is a store, and two pieces written one behind the other are one.
 -- Assumes nothing.
 use mathlib.Core.Path.{_≡_, sym, ap, _∙_}
 use mathlib.Core.List.{List, [], _∷_, _++_, append-assoc, append-nil}
