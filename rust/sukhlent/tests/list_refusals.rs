@@ -2,15 +2,12 @@
 
 mod common;
 
-use common::damage::{anticommute, cut, flip, put, repeat};
+use common::damage::{anticommute, cut, each_fault, each_pair, flip, put, repeat, Fault};
 use common::{list, random_rows, ListCall, Random};
-
-/// A fault: its number, and what it does to the arguments.
-type Fault = (u8, fn(&mut ListCall));
 
 /// The faults leave rows 2 to 5 to the lines 5 and 6, rows 0 and 1 to line 9 and the last two to
 /// line 10, so that each fault stays true beside the others.
-const FAULTS: [Fault; 24] = [
+const FAULTS: [Fault<ListCall>; 24] = [
     (2, |call| call.n = 0),
     (2, |call| call.n = 65),
     (2, |call| call.n = u64::MAX),
@@ -57,30 +54,14 @@ fn assert_refused(call: &ListCall, number: u8, what: &str) {
 #[test]
 fn every_fault_gives_its_number() {
     for seed in 0..20 {
-        for (k, (number, damage)) in FAULTS.into_iter().enumerate() {
-            let mut call = base(seed);
-            damage(&mut call);
-            assert_refused(&call, number, &format!("fault {k}, seed {seed}"));
-        }
+        each_fault(&FAULTS, || base(seed), assert_refused);
     }
 }
 
 #[test]
 fn of_two_faults_the_earlier_number_is_given() {
     for seed in 0..20 {
-        for (k, (number, damage)) in FAULTS.into_iter().enumerate() {
-            for (m, (later, further)) in FAULTS.into_iter().enumerate() {
-                if later <= number {
-                    continue;
-                }
-                let what = format!("faults {k} and {m}, seed {seed}");
-                // The later number's fault first, so that it cannot undo the earlier one's.
-                let mut call = base(seed);
-                further(&mut call);
-                damage(&mut call);
-                assert_refused(&call, number, &what);
-            }
-        }
+        each_pair(&FAULTS, || base(seed), assert_refused);
     }
 }
 

@@ -2,14 +2,11 @@
 
 mod common;
 
-use common::damage::{flip, put};
+use common::damage::{each_fault, each_pair, flip, put, Fault};
 use common::{Random, RecordCall};
 use sukhlent::Record;
 
-/// A fault: its number, and what it does to the arguments.
-type Fault = (u8, fn(&mut RecordCall));
-
-const FAULTS: [Fault; 21] = [
+const FAULTS: [Fault<RecordCall>; 21] = [
     (2, |call| call.n = 0),
     (2, |call| call.n = 65),
     (2, |call| call.n = u64::MAX),
@@ -55,28 +52,14 @@ fn assert_refused(call: &RecordCall, number: u8, what: &str) {
 fn every_fault_gives_its_number() {
     for seed in 0..20 {
         assert!(base(seed, 8).expand().is_ok());
-        for (k, (number, damage)) in FAULTS.into_iter().enumerate() {
-            let mut call = base(seed, 8);
-            damage(&mut call);
-            assert_refused(&call, number, &format!("fault {k}, seed {seed}"));
-        }
+        each_fault(&FAULTS, || base(seed, 8), assert_refused);
     }
 }
 
 #[test]
 fn of_two_faults_the_earlier_number_is_given() {
     for seed in 0..20 {
-        for (k, (number, damage)) in FAULTS.into_iter().enumerate() {
-            for (m, (later, further)) in FAULTS.into_iter().enumerate() {
-                if later <= number {
-                    continue;
-                }
-                let mut call = base(seed, 8);
-                further(&mut call);
-                damage(&mut call);
-                assert_refused(&call, number, &format!("faults {k} and {m}, seed {seed}"));
-            }
-        }
+        each_pair(&FAULTS, || base(seed, 8), assert_refused);
     }
 }
 

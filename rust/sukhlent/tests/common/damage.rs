@@ -51,3 +51,38 @@ pub fn repeat(call: &mut ListCall, a: usize, b: usize) {
         put(&mut call.x, a, x);
     }
 }
+
+/// A fault: its number, and what it does to the arguments of a call.
+pub type Fault<C> = (u8, fn(&mut C));
+
+/// Each fault alone gives its number.
+pub fn each_fault<C>(
+    faults: &[Fault<C>],
+    base: impl Fn() -> C,
+    assert_refused: impl Fn(&C, u8, &str),
+) {
+    for (k, (number, damage)) in faults.iter().enumerate() {
+        let mut call = base();
+        damage(&mut call);
+        assert_refused(&call, *number, &format!("fault {k}"));
+    }
+}
+
+/// Of two faults the earlier number is given. The later one's comes first, so that it cannot undo
+/// the earlier one's.
+pub fn each_pair<C>(
+    faults: &[Fault<C>],
+    base: impl Fn() -> C,
+    assert_refused: impl Fn(&C, u8, &str),
+) {
+    for (k, (number, damage)) in faults.iter().enumerate() {
+        for (m, (later, further)) in faults.iter().enumerate() {
+            if number < later {
+                let mut call = base();
+                further(&mut call);
+                damage(&mut call);
+                assert_refused(&call, *number, &format!("faults {k} and {m}"));
+            }
+        }
+    }
+}
