@@ -3,11 +3,12 @@
 use mathlib.Core.Bool.{Bool, false, true}
 use mathlib.Core.Path.{refl, _≡_}
 use Prim.Native.Nat.{ℕ}
+use Rattle.stabilizer.specs.Membership.{member}
 use Rattle.clifford.specs.Vectors.{act}
 use Rattle.pauli.specs.Pauli.{Pauli, mul, signedRow}
 use Rattle.words.specs.Bits.{bit, fold}
 use Rattle.words.specs.Search.{every, first, some}
-use Rattle.comparison.specs.Choices.{carries, choice, leastCode, leastNumber, member}
+use Rattle.comparison.specs.Choices.{carries, choice, leastCode, leastNumber}
 
 one : Bool → ℕ → ℕ → ℕ → Pauli
 one s z x j = signedRow s z x

@@ -7,22 +7,14 @@ use Prim.Native.Nat.{_%_, _*_, _+_, _-_, _/_, _<_, _^_, suc, ℕ}
 use lib.Dec.{ltb}
 use Rattle.clifford.specs.Clifford.{Clifford, classNumber, cliffordOf}
 use Rattle.clifford.specs.Vectors.{act}
-use Rattle.pauli.specs.Pauli.{Pauli, samePhase}
+use Rattle.pauli.specs.Pauli.{Pauli}
 use Rattle.stabilizer.specs.Carries.{Carries}
 use Rattle.stabilizer.specs.Groups.{product}
-use Rattle.words.specs.Bits.{bit, digit, sameBit}
+use Rattle.stabilizer.specs.Membership.{member}
+use Rattle.words.specs.Bits.{bit, digit}
 use Rattle.words.specs.Search.{every, first, some}
 
 -- ---- which choices work, as a test
--- the same operator on n qubits
-abbrev pub sameRow : ℕ → Pauli → Pauli → Bool
-sameRow n p r = samePhase (p .phase) (r .phase)
-    && every n (λ q. sameBit (p .z q) (r .z q) && sameBit (p .x q) (r .x q))
-
--- p is a product of some of the rows
-unfoldable pub member : ℕ → (ℕ → Pauli) → Pauli → Bool
-member n rows p = some (2 ^ n) (λ v. sameRow n p (product n n (bit v) rows))
-
 -- "sending each place of every element of the first through its qubit's code, signs included, gives
 -- exactly the elements of the second"
 unfoldable pub carries : ℕ → (ℕ → Clifford) → (ℕ → Pauli) → (ℕ → Pauli) → Bool

@@ -5,6 +5,7 @@ use mathlib.Core.Logic.{inl, inr, _↔_, _⊎_}
 use mathlib.Core.Path.{ap, refl, subst, sym, _∙_, _≡_}
 use Prim.Native.Nat.{_<_, ℕ}
 use native.Mathlib.Omega.{arith}
+use Rattle.stabilizer.specs.Membership.{member}
 use Rattle.pauli.proofs.PauliLaws.{mul-scaled, square}
 use Rattle.pauli.specs.Pauli.{Pauli, anticommute, imaginary, i², minus, scaled, xBit, zBit}
 use Rattle.pauli.specs.declared.Letter.{Letter}
@@ -16,18 +17,9 @@ use Rattle.stabilizer.specs.Lists.{rows}
 use Rattle.words.proofs.Places.{other-place}
 use Rattle.words.proofs.SearchLaws.{first-is}
 use Rattle.words.specs.Search.{IsFirst}
-use Rattle.operations.proofs.Membership.{member-exactly}
+use Rattle.stabilizer.proofs.MembershipLaws.{member-exactly}
 use Rattle.operations.proofs.Projection.{projected-group, projected-proper}
-use Rattle.operations.specs.Measurement.{
-  Measured,
-  firstAgainst,
-  isDetermined,
-  measuredRows,
-  member,
-  outcome,
-  projected,
-  single,
-}
+use Rattle.operations.specs.Measurement.{Measured, firstAgainst, isDetermined, measuredRows, outcome, projected, single}
 
 pub single-within : (n : ℕ) (l : Letter) (q : ℕ) (s : Bool) → q < n → Within n (single l q s)
 single-within n l q s h =

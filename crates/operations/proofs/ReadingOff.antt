@@ -8,6 +8,7 @@ use Prim.Native.Nat.{_<_, ℕ, _≤_}
 use lib.Dec.{eqb}
 use lib.ListN.{getD, length}
 use borrow.Author.Tests.{eq-eqb, eqb-true}
+use Rattle.stabilizer.specs.Membership.{member}
 use Rattle.clifford.specs.Clifford.{Clifford, cliffordOf, image, imagePhase}
 use Rattle.graph.specs.Graph.{Simple}
 use Rattle.pauli.specs.Pauli.{minus, xBit, zBit}
@@ -22,7 +23,7 @@ use Rattle.operations.proofs.Homomorphisms.{minus-determines}
 use Rattle.operations.proofs.MeasuredRecords.{determined-alone, outcome-alone, pauli-acts}
 use Rattle.operations.specs.Cz.{cz}
 use Rattle.operations.specs.InPlace.{Unrefused, recordIn}
-use Rattle.operations.specs.Measurement.{isDetermined, member, outcome, pauliLetter, single}
+use Rattle.operations.specs.Measurement.{isDetermined, outcome, pauliLetter, single}
 use Rattle.operations.specs.Steps.{ReadOff}
 
 pub same-by-both : (a b : Bool) → (a ≡ true → b ≡ true) → (b ≡ true → a ≡ true) → a ≡ b

@@ -1,6 +1,7 @@
 -- The examples hold of the definitions: one theorem over the table.
 -- Assumes nothing.
 use mathlib.Core.Path.{refl, _≡_}
+use Rattle.stabilizer.specs.Membership.{member}
 use Rattle.buffers.specs.Buffers.{tabulate}
 use Rattle.buffers.specs.Refusals.{firstFitting, reaching}
 use Rattle.clifford.specs.Clifford.{inverse}
@@ -13,7 +14,6 @@ use Rattle.stabilizer.specs.Lists.{clashing, dependent}
 use Rattle.words.specs.Bits.{bit, fold, put, wordOf}
 use Rattle.words.specs.Search.{every, first, some}
 use Rattle.operations.specs.Cz.{cz}
-use Rattle.operations.specs.Measurement.{member}
 use Rattle.operations.specs.Sessions.{expected, given}
 
 pub sessions : given ≡ expected

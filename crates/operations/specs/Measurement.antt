@@ -2,16 +2,17 @@
 -- Assumes nothing.
 use mathlib.Core.Bool.{_&&_, Bool, cond, false, not, true, _||_}
 use mathlib.Core.Path.{_≡_}
-use Prim.Native.Nat.{_^_, suc, zero, ℕ}
+use Prim.Native.Nat.{suc, zero, ℕ}
 use lib.Dec.{eqb}
-use Rattle.pauli.specs.Pauli.{Pauli, anticommute, minus, mul, samePhase, xBit, zBit}
+use Rattle.pauli.specs.Pauli.{Pauli, anticommute, minus, mul, xBit, zBit}
 use Rattle.pauli.specs.declared.Letter.{Letter}
 use Rattle.pauli.specs.declared.Letter.the-variants.{I, X, Y, Z}
 use Rattle.stabilizer.specs.Elimination.{shear}
-use Rattle.stabilizer.specs.Groups.{InGroup, product}
+use Rattle.stabilizer.specs.Groups.{InGroup}
 use Rattle.stabilizer.specs.Lists.{rows}
-use Rattle.words.specs.Bits.{Word, bit, put, sameBit}
-use Rattle.words.specs.Search.{every, first, some}
+use Rattle.stabilizer.specs.Membership.{member}
+use Rattle.words.specs.Bits.{Word, put}
+use Rattle.words.specs.Search.{first}
 
 -- "a Pauli (1 X, 2 Y, 3 Z)"; 0 and numbers above 3 are not used
 abbrev pub pauliLetter : ℕ → Letter
@@ -30,15 +31,6 @@ pub data Measured (n : ℕ) (rows : ℕ → Pauli) (P : Pauli) : Pauli → Type 
   joined : {p : Pauli} → InGroup n n rows p → anticommute n p P ≡ false → Measured n rows P (mul n p P)
 
 -- ---- as functions of the list
--- the same row on n qubits
-abbrev pub equalRows : ℕ → Pauli → Pauli → Bool
-equalRows n p r = samePhase (p .phase) (r .phase)
-    && every n (λ q. sameBit (p .z q) (r .z q) && sameBit (p .x q) (r .x q))
-
--- p is in the group: some product of the rows
-unfoldable pub member : ℕ → (ℕ → Pauli) → Pauli → Bool
-member n rows p = some (2 ^ n) (λ v. equalRows n p (product n n (bit v) rows))
-
 -- "If the Pauli or its negative is in the group, the answer says determined"
 abbrev pub isDetermined : ℕ → (ℕ → Pauli) → Letter → ℕ → Bool
 isDetermined n rows l q = member n rows (single l q false) || member n rows (single l q true)

@@ -19,7 +19,7 @@ use Rattle.stabilizer.specs.Groups.{InGroup, Within, chosen, product}
 use Rattle.stabilizer.specs.Lists.{rows}
 use Rattle.stabilizer.specs.Membership.{equalBelow, member}
 
--- what a true both-trueion says
+-- both of two tests are true
 pub both-true : (a b : Bool) → (a && b) ≡ true → (a ≡ true) × (b ≡ true)
 both-true true b e = (refl, e)
 both-true false b e = absurd (false≢true e)
