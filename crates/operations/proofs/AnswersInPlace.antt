@@ -35,15 +35,18 @@ use Rattle.operations.specs.Cz.{cz, czRows}
 use Rattle.operations.specs.InPlace.{MeasuredInPlace, Rewritten, Unrefused, recordIn}
 use Rattle.operations.specs.Measurement.{
   against,
+  answered,
   firstAgainst,
   isDetermined,
   measuredRows,
+  outcome,
   pauliLetter,
   projected,
   single,
 }
 use Rattle.operations.specs.Sessions.{table}
 use Rattle.operations.specs.Steps.{ReadOff}
+use Rattle.operations.specs.declared.Outcome.the-variants.{Chosen, Determined}
 
 pub loaded-list : (n : ℕ) (R : ℕ → Pauli) → Proper n R → ((j : ℕ) → n ≤ j → R j ≡ identity) → Loaded n R
 loaded-list n R P beyond =
@@ -173,18 +176,22 @@ module _ (words codes words′ codes′ : List ℕ) (pauli q : ℕ) (b d m : Boo
     (λ g. reduced (length words)
     (measuredRows (length words) (rowsOf (length words) g) (pauliLetter pauli) q b))
     words′ codes′) where
-  pub measured-known : d ≡ true → MeasuredInPlace words codes pauli q b true m words′ codes′
-  measured-known e =
-      record {
-        after = after;
-        known = sym e ∙ read .known;
-        reading = sym (read .reading b ∙ ap (λ d. cond d m b) e);
-      }
+  answered-as : (v : Bool) → d ≡ v → cond v (Determined m) (Chosen b)
+      ≡ answered (length words) (heldRows (recordIn words codes)) (pauliLetter pauli) q b
+  answered-as v e = ap (λ d. cond d (Determined m) (Chosen b)) (sym e)
+      ∙ as-outcome d (read .reading b)
+      ∙ ap (λ d. cond d (Determined o) (Chosen o)) (read .known)
+    where
+      o : Bool
+      o = outcome (length words) (heldRows (recordIn words codes)) (pauliLetter pauli) q b
 
-  pub measured-free : d ≡ false → MeasuredInPlace words codes pauli q b false b words′ codes′
-  measured-free e =
-      record {
-        after = after;
-        known = sym e ∙ read .known;
-        reading = sym (read .reading b ∙ ap (λ d. cond d m b) e);
-      }
+      as-outcome : (d : Bool) → o ≡ cond d m b
+          → cond d (Determined m) (Chosen b) ≡ cond d (Determined o) (Chosen o)
+      as-outcome true e = ap Determined (sym e)
+      as-outcome false e = ap Chosen (sym e)
+
+  pub measured-known : d ≡ true → MeasuredInPlace words codes pauli q b (Determined m) words′ codes′
+  measured-known e = record { after = after; answer = answered-as true e }
+
+  pub measured-free : d ≡ false → MeasuredInPlace words codes pauli q b (Chosen b) words′ codes′
+  measured-free e = record { after = after; answer = answered-as false e }

@@ -9,7 +9,8 @@ use Rattle.buffers.specs.Refusals.{firstFitting}
 use Rattle.record.specs.Lent.{LentRecord, codeNumbers, heldRecord, heldRows, neighbourWords, recordLines}
 use Rattle.record.specs.Records.{GraphRecord, rowsOf}
 use Rattle.record.specs.Reduced.{reduced}
-use Rattle.operations.specs.Measurement.{isDetermined, measuredRows, outcome, pauliLetter}
+use Rattle.operations.specs.Measurement.{answered, measuredRows, pauliLetter}
+use Rattle.operations.specs.declared.Outcome.{Outcome}
 
 -- the record that two lent buffers hold, n being the length of the first
 abbrev pub recordIn : List ℕ → List ℕ → LentRecord
@@ -25,13 +26,11 @@ pub record Rewritten (words codes : List ℕ) (f : GraphRecord → GraphRecord)
   pub neighbours : words′ ≡ neighbourWords (length words) (f (heldRecord (recordIn words codes)))
   pub numbers : codes′ ≡ codeNumbers (length words) (f (heldRecord (recordIn words codes)))
 
--- a measurement on two buffers: "All three answer the reduced record of the new group"; whether it was
--- determined, and the outcome
-pub record MeasuredInPlace (words codes : List ℕ) (pauli q : ℕ) (bit : Bool) (determined minus : Bool)
+-- a measurement on two buffers: "All three answer the reduced record of the new group"
+pub record MeasuredInPlace (words codes : List ℕ) (pauli q : ℕ) (bit : Bool) (r : Outcome)
     (words′ codes′ : List ℕ) : Type 0 where
   pub after : Rewritten words codes
       (λ g. reduced (length words)
       (measuredRows (length words) (rowsOf (length words) g) (pauliLetter pauli) q bit))
       words′ codes′
-  pub known : determined ≡ isDetermined (length words) (heldRows (recordIn words codes)) (pauliLetter pauli) q
-  pub reading : minus ≡ outcome (length words) (heldRows (recordIn words codes)) (pauliLetter pauli) q bit
+  pub answer : r ≡ answered (length words) (heldRows (recordIn words codes)) (pauliLetter pauli) q bit

@@ -11,8 +11,10 @@ use Rattle.stabilizer.specs.Elimination.{shear}
 use Rattle.stabilizer.specs.Groups.{InGroup}
 use Rattle.stabilizer.specs.Lists.{rows}
 use Rattle.stabilizer.specs.Membership.{member}
-use Rattle.words.specs.Bits.{Word, put}
+use Rattle.words.specs.Bits.{Word, digit, put}
 use Rattle.words.specs.Search.{first}
+use Rattle.operations.specs.declared.Outcome.{Outcome}
+use Rattle.operations.specs.declared.Outcome.the-variants.{Chosen, Determined}
 
 -- "a Pauli (1 X, 2 Y, 3 Z)"; 0 and numbers above 3 are not used
 abbrev pub pauliLetter : ℕ → Letter
@@ -38,6 +40,20 @@ isDetermined n rows l q = member n rows (single l q false) || member n rows (sin
 -- ".. gives the sign as outcome, ignores the bit"; "Otherwise the outcome is the bit (1 means minus)"
 abbrev pub outcome : ℕ → (ℕ → Pauli) → Letter → ℕ → Bool → Bool
 outcome n rows l q b = cond (isDetermined n rows l q) (member n rows (single l q true)) b
+
+-- what a measurement answers
+abbrev pub answered : ℕ → (ℕ → Pauli) → Letter → ℕ → Bool → Outcome
+answered n rows l q b =
+    cond (isDetermined n rows l q) (Determined (outcome n rows l q b)) (Chosen (outcome n rows l q b))
+
+-- an answer in numbers: the outcome, 1 for minus; and 1 where it was determined, else 0
+abbrev pub outcomeNumber : Outcome → ℕ
+outcomeNumber (Determined s) = digit s
+outcomeNumber (Chosen s) = digit s
+
+abbrev pub determinedNumber : Outcome → ℕ
+determinedNumber (Determined s) = 1
+determinedNumber (Chosen s) = 0
 
 -- generators of the group afterwards where P is not determined: the first row that does not commute with P goes
 -- into the others that do not, and P takes its place

@@ -4,14 +4,14 @@
 use mathlib.Core.List.{_++_, List, [], map, _∷_}
 use Prim.Native.Nat.{ℕ}
 use Rattle.record.specs.Lent.{LentRecord}
+use Rattle.operations.specs.Measurement.{determinedNumber, outcomeNumber}
 use Rattle.operations.specs.Steps.{
   Operation,
   complementOf,
   czOn,
-  determinedNumber,
   gateWith,
+  measuredAnswer,
   measurementOf,
-  outcomeNumber,
   pivotOf,
   step,
 }
@@ -33,7 +33,7 @@ answer l o = (step l o) .number ∷ contents ((step l o) .after)
 
 -- a measurement's two further answers before these
 abbrev reading : LentRecord → ℕ → ℕ → ℕ → List ℕ
-reading l pauli q b = determinedNumber l pauli q ∷ outcomeNumber l pauli q b
+reading l pauli q b = determinedNumber (measuredAnswer l pauli q b) ∷ outcomeNumber (measuredAnswer l pauli q b)
     ∷ answer l (measurementOf pauli q b)
 
 abbrev accepts : LentRecord → List ℕ

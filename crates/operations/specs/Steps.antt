@@ -12,10 +12,11 @@ use Rattle.pauli.specs.Pauli.{minus}
 use Rattle.record.specs.Lent.{LentRecord, codeNumbers, heldRecord, heldRows, neighbourWords, recordLines}
 use Rattle.record.specs.Records.{GraphRecord, complementAll, complementRecord, rowsOf}
 use Rattle.record.specs.Reduced.{reduced}
-use Rattle.words.specs.Bits.{digit, isOdd}
+use Rattle.words.specs.Bits.{isOdd}
 use Rattle.operations.specs.Cz.{czRows}
 use Rattle.operations.specs.Gates.{gated}
-use Rattle.operations.specs.Measurement.{isDetermined, measuredRows, outcome, pauliLetter}
+use Rattle.operations.specs.Measurement.{answered, isDetermined, measuredRows, outcome, pauliLetter}
+use Rattle.operations.specs.declared.Outcome.{Outcome}
 
 -- "A pivot on an edge j, k complements j, k, j"
 abbrev pub pivotRecord : GraphRecord → ℕ → ℕ → GraphRecord
@@ -83,12 +84,9 @@ complementAt l a = stepped l (complementLines l a) (complementRecord (heldRecord
 abbrev pub pivotAt : LentRecord → ℕ → ℕ → Step
 pivotAt l j k = stepped l (pivotLines l j k) (pivotRecord (heldRecord l) j k)
 
--- a measurement's two further answers: the outcome, and 1 where it was determined
-abbrev pub outcomeNumber : LentRecord → ℕ → ℕ → ℕ → ℕ
-outcomeNumber l pauli q b = digit (outcome (l .n) (heldRows l) (pauliLetter pauli) q (isOdd b))
-
-abbrev pub determinedNumber : LentRecord → ℕ → ℕ → ℕ
-determinedNumber l pauli q = digit (isDetermined (l .n) (heldRows l) (pauliLetter pauli) q)
+-- a measurement's further answer
+abbrev pub measuredAnswer : LentRecord → ℕ → ℕ → ℕ → Outcome
+measuredAnswer l pauli q b = answered (l .n) (heldRows l) (pauliLetter pauli) q (isOdd b)
 
 -- what is read off a record before a measurement: whether it is determined, and then the sign
 pub record ReadOff (l : LentRecord) (pauli q : ℕ) (determined minus : Bool) : Type 0 where

@@ -111,7 +111,13 @@ pub fn letter_named(pauli: u8) -> Letter
     }
 }
 
-// What a measurement's outcome is read off the record: whether it is determined, and then its sign.
+// What a measurement answers, with the sign of its outcome: found in the group, or chosen by the bit.
+pub enum Outcome {
+    Determined(bool),
+    Chosen(bool),
+}
+
+// What is read off the record before a measurement: whether it is determined, and then the outcome's sign.
 pub struct Reading {
     pub determined: bool,
     pub minus: bool,
@@ -181,18 +187,17 @@ pub fn cz_record(neighbours: &mut [u64], codes: &mut [u8], a: usize, b: usize)
     reduce_rows(after, signs, neighbours, codes);
 }
 
-// Measures a Pauli at q: whether it is determined, and the outcome, which is the sign where it is and else the bit.
+// Measures a Pauli at q, and leaves the reduced record of the group afterwards.
 pub fn measure_record(
     neighbours: &mut [u64],
     codes: &mut [u8],
     pauli: u8,
     q: usize,
     bit: bool,
-) -> Reading
+) -> Outcome
     requires { ⌜ Unrefused (recordIn (now neighbours) (now codes)) × (q < length (now neighbours)) ⌝ }
     requires { ⌜ (1 ≤ pauli) × (pauli ≤ 3) ⌝ }
-    ensures { λ r. ⌜ MeasuredInPlace (now (neighbours .entry)) (now (codes .entry)) pauli q bit
-        (r .determined) (r .minus)
+    ensures { λ r. ⌜ MeasuredInPlace (now (neighbours .entry)) (now (codes .entry)) pauli q bit r
         (now (neighbours .exit)) (now (codes .exit)) ⌝ }
 {
     let n = neighbours.len();
@@ -202,15 +207,9 @@ pub fn measure_record(
     let rows = expand_tableau(n, neighbours, codes, &mut signs);
     if known.determined {
         reduce_rows(rows, signs, neighbours, codes);
-        return Reading {
-            determined: true,
-            minus: sign,
-        };
+        return Outcome::Determined(sign);
     }
     let after = project_tableau(rows, &mut signs, n, letter_named(pauli), q, bit);
     reduce_rows(after, signs, neighbours, codes);
-    Reading {
-        determined: false,
-        minus: bit,
-    }
+    Outcome::Chosen(bit)
 }
