@@ -7,6 +7,7 @@ use pauli::Letter;
 use pauli::x_bit;
 use pauli::z_bit;
 use record::expand_tableau;
+use record::sign_digit;
 use reduction::reduce_tableau;
 use tableaus::cz_tableau;
 use tableaus::project_tableau;
@@ -28,7 +29,7 @@ ghost use Rattle.words.specs.Bits.{bit};
 ghost use Rattle.operations.specs.InPlace.{MeasuredInPlace, Rewritten, Unrefused, recordIn};
 ghost use Rattle.operations.specs.Cz.{czRows};
 ghost use Rattle.operations.specs.Gates.{gated};
-ghost use Rattle.operations.specs.Measurement.{pauliLetter};
+ghost use Rattle.operations.specs.Measurement.{determinedNumber, outcomeNumber, pauliLetter};
 ghost use Rattle.operations.specs.Steps.{ReadOff, pivotRecord};
 
 // The number of a code and then another.
@@ -115,6 +116,26 @@ pub fn letter_named(pauli: u8) -> Letter
 pub enum Outcome {
     Determined(bool),
     Chosen(bool),
+}
+
+// The outcome's number, 1 for minus.
+pub fn outcome_number(measured: Outcome) -> u8
+    ensures { λ r. ⌜ r ≡ outcomeNumber measured ⌝ }
+{
+    match measured {
+        Outcome::Determined(minus) => sign_digit(minus),
+        Outcome::Chosen(minus) => sign_digit(minus),
+    }
+}
+
+// 1 where the outcome was determined, else 0.
+pub fn determined_number(measured: Outcome) -> u8
+    ensures { λ r. ⌜ r ≡ determinedNumber measured ⌝ }
+{
+    match measured {
+        Outcome::Determined(_) => 1,
+        Outcome::Chosen(_) => 0,
+    }
 }
 
 // What is read off the record before a measurement: whether it is determined, and then the outcome's sign.

@@ -131,7 +131,8 @@ pub fn expand_tableau(n: usize, neighbours: &[u64], codes: &[u8], signs: &mut u6
     rows
 }
 
-fn sign_digit(minus: bool) -> u8
+// A sign as it is lent: 1 means minus.
+pub fn sign_digit(minus: bool) -> u8
     ensures { λ r. ⌜ r ≡ digit minus ⌝ }
 {
     if minus { 1 } else { 0 }

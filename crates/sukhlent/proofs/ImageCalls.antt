@@ -22,7 +22,7 @@ use Rattle.stabilizer.proofs.SharedTests.{has-length, neither}
 use Rattle.sukhlent.specs.Images.{Imaged}
 
 -- no line of a record has number 0
-record-numbered : (l : LentRecord) (others six : Bool) → Numbered (recordLines l others six)
+pub record-numbered : (l : LentRecord) (others six : Bool) → Numbered (recordLines l others six)
 record-numbered l others six = (lit< tt, (lit< tt, (lit< tt, (lit< tt, (lit< tt, tt)))))
 
 -- the buffers lent for the graph, the signs and the list

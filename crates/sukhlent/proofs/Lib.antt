@@ -1,6 +1,8 @@
 pub mod Lists
 pub mod Records
 pub mod ImageCalls
+pub mod InPlaceLines
+pub mod InPlaceCalls
 pub mod PairLines
 pub mod ReducedPairs
 pub mod Comparing

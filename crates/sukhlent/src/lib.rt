@@ -2,9 +2,15 @@
 // writes its answer; a refused call changes no lent byte.
 mod comparisons;
 mod images;
+mod in_place;
 
 pub use comparisons::sukhlent_compare;
 pub use images::sukhlent_image;
+pub use in_place::sukhlent_complement;
+pub use in_place::sukhlent_cz;
+pub use in_place::sukhlent_gate;
+pub use in_place::sukhlent_measure;
+pub use in_place::sukhlent_pivot;
 use record::expand_into;
 use record::record_refusal;
 use reduction::reduce_list;
