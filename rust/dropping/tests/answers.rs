@@ -103,42 +103,66 @@ fn nothing_is_left_out() {
     }
 }
 
-#[test]
-fn every_pair_of_states_on_two_qubits_with_all_equations_left_out() {
-    let graphs = [[0, 0], [2, 1]].map(|neighbours: [u64; 2]| Record {
-        neighbours: neighbours.to_vec(),
-        codes: vec![0; 2],
-    });
-    let lists = graphs.iter().flat_map(|graph| {
-        let of_graph = expand(graph).unwrap();
-        (0..576u16).map(move |c| sent(&of_graph, &[(c / 24) as u8, (c % 24) as u8]))
-    });
-    let states: HashMap<Record, GeneratorList> =
+/// The states on n qubits, one list for each reduced record.
+fn states(n: usize) -> Vec<GeneratorList> {
+    let digit = |k: usize, q| (k / 24usize.pow(q) % 24) as u8;
+    let choice = |k| -> Vec<u8> { (0..n as u32).map(|q| digit(k, q)).collect() };
+    let choices = 0..24usize.pow(n as u32);
+    let graphs = (0..1 << (n * (n - 1) / 2)).map(|k| graph(n, k));
+    let lists = graphs.flat_map(|graph| choices.clone().map(move |k| sent(&graph, &choice(k))));
+    let all: HashMap<Record, GeneratorList> =
         lists.map(|list| (reduce(&list).unwrap(), list)).collect();
-    assert_eq!(states.len(), 60);
-    let mut seen = Seen::default();
-    for first in states.values() {
-        states
-            .values()
-            .for_each(|second| seen.pair(first, second, || true));
+    all.into_values().collect()
+}
+
+#[test]
+fn every_pair_of_states_on_one_and_two_qubits_with_all_equations_left_out() {
+    for (n, number) in [(1, 6), (2, 60)] {
+        let states = states(n);
+        assert_eq!(states.len(), number);
+        let mut seen = Seen::default();
+        for first in &states {
+            let each = states.iter();
+            each.for_each(|second| seen.pair(first, second, || true));
+        }
+        assert_eq!(seen.found + seen.refused, number * number);
+        seen.assert_stepped_back(n as u64);
     }
-    seen.assert_stepped_back(2);
-    assert_eq!(seen.found + seen.refused, 3600);
+}
+
+fn graph(n: usize, k: usize) -> GeneratorList {
+    let neighbours = numbered_graph(n, k);
+    let codes = vec![0; n];
+    expand(&Record { neighbours, codes }).unwrap()
+}
+
+/// Pairs of graphs on n vertices, with so many of 256 equations left out.
+fn graph_pairs(n: usize, step: usize, of_256: u64) {
+    let mut seen = Seen::default();
+    let number = 1 << (n * (n - 1) / 2);
+    for first in (0..number).step_by(step) {
+        for second in 0..number {
+            let leaves_out = leaving((number * first + second) as u64, of_256, 0);
+            seen.pair(&graph(n, first), &graph(n, second), leaves_out);
+        }
+    }
+    seen.assert_stepped_back(n as u64);
+    assert!(seen.found > 0 && seen.refused > 0, "{seen:?}");
 }
 
 #[test]
 fn all_pairs_of_graphs_on_three_vertices_with_all_equations_left_out() {
-    let graph = |k| {
-        let neighbours = numbered_graph(3, k);
-        let codes = vec![0; 3];
-        expand(&Record { neighbours, codes }).unwrap()
-    };
-    let mut seen = Seen::default();
-    for k in 0..64 {
-        seen.pair(&graph(k / 8), &graph(k % 8), || true);
-    }
-    seen.assert_stepped_back(3);
-    assert!(seen.found > 0 && seen.refused > 0, "{seen:?}");
+    graph_pairs(3, 1, 256);
+}
+
+#[test]
+fn all_pairs_of_graphs_on_four_vertices_with_an_eighth_left_out() {
+    graph_pairs(4, 1, 32);
+}
+
+#[test]
+fn graphs_on_five_vertices_with_a_few_left_out() {
+    graph_pairs(5, 41, 8);
 }
 
 #[test]

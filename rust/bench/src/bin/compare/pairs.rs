@@ -8,6 +8,11 @@ use sukhlent::{expand, GeneratorList, Record};
 /// Two lists.
 pub type Pair = (GeneratorList, GeneratorList);
 
+/// Mixed generators of a list's group under local Cliffords.
+fn image(random: &mut Random, given: &GeneratorList, codes: &[u8]) -> GeneratorList {
+    list(&mixed(random, &rows(&sent(given, codes))))
+}
+
 /// Mixed generators of a graph's state under random local Cliffords.
 pub fn state(random: &mut Random, graph: &Graph) -> GeneratorList {
     let n = graph.len();
@@ -16,16 +21,23 @@ pub fn state(random: &mut Random, graph: &Graph) -> GeneratorList {
         codes: vec![0; n],
     };
     let codes: Vec<u8> = (0..n).map(|_| random.below(24) as u8).collect();
-    let image = sent(&expand(&record).expect("a simple graph"), &codes);
-    list(&mixed(random, &rows(&image)))
+    image(random, &expand(&record).expect("a simple graph"), &codes)
 }
 
-/// States of one graph, the second after random local complementations.
+/// A state of a graph and, in one half of the cases, a state of the graph after random local
+/// complementations, in the other the image under the last class at every qubit, which the search
+/// tries last.
 pub fn equivalent(random: &mut Random, graph: &Graph) -> Pair {
     let n = graph.len();
-    let vertices: Vec<u8> = (0..2 * n).map(|_| random.below(n) as u8).collect();
-    let second = complemented(graph, &vertices);
-    (state(random, graph), state(random, &second))
+    let first = state(random, graph);
+    let second = if random.below(2) == 0 {
+        let vertices: Vec<u8> = (0..2 * n).map(|_| random.below(n) as u8).collect();
+        state(random, &complemented(graph, &vertices))
+    } else {
+        let codes: Vec<u8> = (0..n).map(|_| 20 + random.below(4) as u8).collect();
+        image(random, &first, &codes)
+    };
+    (first, second)
 }
 
 /// A pair of a family with different ranks at some cut; local Cliffords keep these ranks.
