@@ -3,3 +3,4 @@ pub mod Lines
 pub mod Reaching
 pub mod Filling
 pub mod CopiedLists
+pub mod Parts

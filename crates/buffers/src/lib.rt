@@ -5,8 +5,10 @@ pub use copying::copy_bytes;
 pub use copying::copy_list;
 pub use copying::copy_words;
 use words::stray;
+ghost use mathlib.Core.Bool.{not};
 ghost use mathlib.Core.Path.{_≡_};
 ghost use Prim.Native.Nat.{_^_, _≤_};
+ghost use lib.Dec.{eqb};
 ghost use Rattle.buffers.specs.Refusals.{badCount, reaching};
 
 // Line 2: n is 0 or above 64.
@@ -14,6 +16,13 @@ pub fn bad_count(n: u64) -> bool
     ensures { λ r. ⌜ r ≡ badCount n ⌝ }
 {
     (n == 0) | (64 < n)
+}
+
+// Line 4: whether a buffer's length is other than n.
+pub fn other_than(length: usize, n: u64) -> bool
+    ensures { λ r. ⌜ r ≡ not (eqb length n) ⌝ }
+{
+    length as u64 != n
 }
 
 // Line 6: whether some number of the buffer is b or above.

@@ -8,9 +8,9 @@ use Rattle.comparison.specs.Choices.{choice}
 use Rattle.comparison.specs.Compared.{pairLines}
 use Rattle.stabilizer.proofs.Accepted.{accepted-list}
 use Rattle.stabilizer.specs.Lists.{GeneratorList, listLines}
-use Rattle.sukhlent.proofs.Comparing.{same-count}
-use Rattle.sukhlent.proofs.PairLines.{pair-number}
-use Rattle.sukhlent.specs.ComparedPairs.{earlierOf}
+use Rattle.compare_call.proofs.Comparing.{same-count}
+use Rattle.compare_call.proofs.PairLines.{pair-number}
+use Rattle.compare_call.specs.ComparedPairs.{earlierOf}
 use Rattle.words.specs.Search.{first}
 use Rattle.claims.specs.ThirdDemand.{NoLineHolds}
 

@@ -23,6 +23,7 @@ use Rattle.operations.specs.Gates.{gated}
 use Rattle.operations.specs.Measurement.{determinedNumber, measuredRows, outcomeNumber, pauliLetter}
 use Rattle.operations.specs.Steps.{inPlaceLines, measureLines, measuredAnswer, pivotRecord, stepped}
 use Rattle.record.proofs.AcceptedRecords.{accepted-record}
+use Rattle.record.proofs.RecordLines.{record-numbered}
 use Rattle.record.specs.Accepted.{AcceptedRecord}
 use Rattle.record.specs.Lent.{
   LentRecord,
@@ -37,12 +38,11 @@ use Rattle.record.specs.Records.{GraphRecord, complementRecord, rowsOf}
 use Rattle.record.specs.Reduced.{reduced}
 use Rattle.stabilizer.proofs.SharedTests.{has-length, neither}
 use Rattle.stabilizer.specs.Lists.{GeneratorList, listLengths, listLines, listOf, rows}
-use Rattle.sukhlent.proofs.ImageCalls.{record-numbered}
-use Rattle.sukhlent.proofs.InPlaceLines.{held-accepted}
-use Rattle.sukhlent.specs.Calls.{ExpandCall, ReduceCall, checkLines, expandLines, reduceLines}
-use Rattle.sukhlent.specs.Comparisons.{CompareCall, compareList}
-use Rattle.sukhlent.specs.Images.{Imaged}
-use Rattle.sukhlent.specs.InPlaceCalls.{InPlaceCall, MeasureCall}
+use Rattle.record_calls.proofs.InPlaceLines.{held-accepted}
+use Rattle.list_calls.specs.Calls.{ExpandCall, ReduceCall, checkLines, expandLines, reduceLines}
+use Rattle.compare_call.specs.Comparisons.{CompareCall, compareList}
+use Rattle.image_call.specs.Images.{Imaged}
+use Rattle.record_calls.specs.InPlaceCalls.{InPlaceCall, MeasureCall}
 use Rattle.words.specs.Bits.{digit, isOdd}
 use Rattle.claims.proofs.ThirdDemandHolds.{third-demand}
 use Rattle.claims.specs.FirstDemand.{
@@ -205,7 +205,8 @@ image-answered : (l : LentRecord) (g s v : List ℕ) (count r : ℕ) (g′ s′ 
 image-answered l g s v count r g′ s′ v′ count′ C =
     answered (imageLines l g s v) r _ (C .number)
     (C .graph, (C .minus, (C .places, (one-place r count _ count′ (C .counted), tt))))
-    (λ z. let p = none-of-all (recordLines l others false) _ (record-numbered l others false) (sym (C .number) ∙ z) .0 in
+    (λ z. let p = none-of-all (recordLines l others false) _ (record-numbered l others false)
+    (sym (C .number) ∙ z) .0 in
     let A = accepted-record l others false p in
     let f = three-fit (l .n) (l .n) 96 g s v (record-others l others false p) in
     let few = image-length (l .n) (heldRecord l) (A .simple) in (

@@ -29,8 +29,8 @@ use Rattle.record.specs.Reduced.{reduced}
 use Rattle.stabilizer.proofs.Carried.{carries-same}
 use Rattle.stabilizer.proofs.GroupLaws.{same-trans}
 use Rattle.stabilizer.specs.Groups.{InGroup, Proper}
-use Rattle.sukhlent.proofs.InPlaceLines.{cz-ready, held-accepted}
-use Rattle.sukhlent.specs.InPlaceCalls.{InPlaceCall}
+use Rattle.record_calls.proofs.InPlaceLines.{cz-ready, held-accepted}
+use Rattle.record_calls.specs.InPlaceCalls.{InPlaceCall}
 use Rattle.claims.specs.OperationsDemand.{CzFollows, Entangled, Gated, GatesFollow, IsReduced, StillRecord, left}
 
 -- an accepted call leaves the new record in the buffers
@@ -61,13 +61,14 @@ module _ (n : ℕ) (R : ℕ → Pauli) (P : Proper n R) (positive : 1 ≤ n) (up
 
 -- ---- gates
 pub gates-follow : GatesFollow
-gates-follow l q k nb′ cs′ C = subst (Gated l q k) (sym (holds-new l (gateLines l q k) (reduced n R) nb′ cs′ C)) (record {
-  still = answer-still n R P (A .positive) (A .upto);
-  answers = answer-reduced n R P (A .positive) (A .upto);
-  group = carries-same n c (heldRows l) (heldRows (writtenRecord n (reduced n R))) .1
-      (same-trans (carries-same n c (heldRows l) R .0 (gate-carries n (heldRecord l) q (cliffordOf k)))
-      (reduced-held-same n R P));
-})
+gates-follow l q k nb′ cs′ C = subst (Gated l q k)
+    (sym (holds-new l (gateLines l q k) (reduced n R) nb′ cs′ C)) (record {
+      still = answer-still n R P (A .positive) (A .upto);
+      answers = answer-reduced n R P (A .positive) (A .upto);
+      group = carries-same n c (heldRows l) (heldRows (writtenRecord n (reduced n R))) .1
+          (same-trans (carries-same n c (heldRows l) R .0 (gate-carries n (heldRecord l) q (cliffordOf k)))
+          (reduced-held-same n R P));
+    })
   where
     n : ℕ
     n = l .n
@@ -86,15 +87,16 @@ gates-follow l q k nb′ cs′ C = subst (Gated l q k) (sym (holds-new l (gateLi
 
 -- ---- CZ
 pub cz-follows : CzFollows
-cz-follows l a b nb′ cs′ C = subst (Entangled l a b) (sym (holds-new l (czLines l a b) (reduced n R) nb′ cs′ C)) (record {
-  still = answer-still n R P (A .positive) (A .upto);
-  answers = answer-reduced n R P (A .positive) (A .upto);
-  is = cz-is n a b ha hb ab;
-  group = λ p. (
-    (λ h. group p .0 (reduced-held-same n R P .back p h)),
-    (λ h. reduced-held-same n R P .there p (group p .1 h)),
-  );
-})
+cz-follows l a b nb′ cs′ C = subst (Entangled l a b)
+    (sym (holds-new l (czLines l a b) (reduced n R) nb′ cs′ C)) (record {
+      still = answer-still n R P (A .positive) (A .upto);
+      answers = answer-reduced n R P (A .positive) (A .upto);
+      is = cz-is n a b ha hb ab;
+      group = λ p. (
+        (λ h. group p .0 (reduced-held-same n R P .back p h)),
+        (λ h. reduced-held-same n R P .there p (group p .1 h)),
+      );
+    })
   where
     n : ℕ
     n = l .n

@@ -24,7 +24,7 @@ use Rattle.record.proofs.AcceptedRecords.{accepted-record}
 use Rattle.record.specs.Lent.{LentRecord, heldRecord, heldRows, neighbourWords, recordLines}
 use Rattle.record.specs.Records.{GraphRecord}
 use Rattle.stabilizer.proofs.Carried.{same-rows}
-use Rattle.sukhlent.specs.Images.{Imaged}
+use Rattle.image_call.specs.Images.{Imaged}
 use Rattle.words.proofs.BitLaws.{bit-above, bit-wordOf, wordOf-lt}
 use Rattle.words.proofs.Sums.{lt-or-ge}
 use Rattle.words.specs.Bits.{bit, digit, wordOf}

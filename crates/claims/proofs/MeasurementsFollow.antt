@@ -9,8 +9,23 @@ use native.Mathlib.Omega.{arith}
 use lib.Dec.{leb}
 use borrow.Author.Tests.{leb-false}
 use Rattle.buffers.specs.Refusals.{firstFitting}
-use Rattle.operations.proofs.Determined.{determined-element, determined-exactly, determined-kept, determined-outcome, measured-group, measured-proper}
-use Rattle.operations.specs.Measurement.{determinedNumber, isDetermined, measuredRows, outcome, outcomeNumber, pauliLetter, single}
+use Rattle.operations.proofs.Determined.{
+  determined-element,
+  determined-exactly,
+  determined-kept,
+  determined-outcome,
+  measured-group,
+  measured-proper,
+}
+use Rattle.operations.specs.Measurement.{
+  determinedNumber,
+  isDetermined,
+  measuredRows,
+  outcome,
+  outcomeNumber,
+  pauliLetter,
+  single,
+}
 use Rattle.operations.specs.Steps.{measureLines}
 use Rattle.operations.specs.declared.Outcome.the-variants.{Chosen, Determined}
 use Rattle.pauli.specs.Pauli.{Pauli}
@@ -21,8 +36,8 @@ use Rattle.record.specs.Lent.{LentRecord, heldRows}
 use Rattle.record.specs.Reduced.{reduced}
 use Rattle.stabilizer.proofs.SharedTests.{neither}
 use Rattle.stabilizer.specs.Groups.{InGroup, Proper, SameGroup}
-use Rattle.sukhlent.proofs.InPlaceLines.{held-accepted, measure-ready, six-passes}
-use Rattle.sukhlent.specs.InPlaceCalls.{MeasureCall}
+use Rattle.record_calls.proofs.InPlaceLines.{held-accepted, measure-ready, six-passes}
+use Rattle.record_calls.specs.InPlaceCalls.{MeasureCall}
 use Rattle.words.specs.Bits.{digit, isOdd}
 use Rattle.claims.proofs.GatesFollow.{answer-reduced, answer-still, holds-new}
 use Rattle.claims.specs.OperationsDemand.{MeasurementStands, MeasurementsFollow}
@@ -92,7 +107,8 @@ module _ (l : LentRecord) (pauli q b answer determined : ℕ) (nb′ cs′ : Lis
   open-yet : determined′ ≡ 0 → isDetermined n held L q ≡ false
   open-yet e = digit-zero _ (sym known ∙ e)
 
-  exactly : (isDetermined n held L q ≡ true) ↔ (InGroup n n held (single L q false) ⊎ InGroup n n held (single L q true))
+  exactly : (isDetermined n held L q ≡ true)
+      ↔ (InGroup n n held (single L q false) ⊎ InGroup n n held (single L q true))
   exactly = determined-exactly n held (A .proper) L q at-qubit
 
   abbrev after : LentRecord
@@ -105,7 +121,8 @@ module _ (l : LentRecord) (pauli q b answer determined : ℕ) (nb′ cs′ : Lis
         answers = answer-reduced n R P (A .positive) (A .upto);
         either = either-digit (isDetermined n held L q) known;
         exactly = ((λ e. exactly .0 (found e)), λ h. known ∙ ap digit (exactly .1 h));
-        sign = λ e. subst (λ s. InGroup n n held (single L q s)) (sym (ap isOdd read ∙ digit-odd (outcome n held L q (isOdd b))))
+        sign = λ e. subst (λ s. InGroup n n held (single L q s))
+            (sym (ap isOdd read ∙ digit-odd (outcome n held L q (isOdd b))))
             (determined-element n held (A .proper) L q at-qubit (found e) (isOdd b));
         kept = λ e. subst (λ S. SameGroup n n S (heldRows after))
             (determined-kept n held (A .proper) L q at-qubit (found e) (isOdd b))

@@ -12,7 +12,18 @@ use Rattle.graph.proofs.Complement.{complement-simple}
 use Rattle.graph.specs.Graph.{Simple}
 use Rattle.operations.proofs.Rewriting.{pivot-same, pivot-simple}
 use Rattle.operations.proofs.UnrefusedRecords.{complement-above}
-use Rattle.operations.specs.Steps.{Operation, complementLines, complementOf, czOn, gateWith, measurementOf, pivotLines, pivotOf, pivotRecord, step}
+use Rattle.operations.specs.Steps.{
+  Operation,
+  complementLines,
+  complementOf,
+  czOn,
+  gateWith,
+  measurementOf,
+  pivotLines,
+  pivotOf,
+  pivotRecord,
+  step,
+}
 use Rattle.record.proofs.Complementing.{complement-same}
 use Rattle.record.proofs.WrittenRecords.{record-back, record-passes, record-rows-back, writtenRecord}
 use Rattle.record.specs.Accepted.{AcceptedRecord}
@@ -22,8 +33,8 @@ use Rattle.stabilizer.proofs.EqualRows.{same-group-equal}
 use Rattle.stabilizer.proofs.GroupLaws.{same-trans}
 use Rattle.stabilizer.proofs.SharedTests.{neither}
 use Rattle.stabilizer.specs.Groups.{SameGroup}
-use Rattle.sukhlent.proofs.InPlaceLines.{complement-ready, eight-passes, held-accepted}
-use Rattle.sukhlent.specs.InPlaceCalls.{InPlaceCall}
+use Rattle.record_calls.proofs.InPlaceLines.{complement-ready, eight-passes, held-accepted}
+use Rattle.record_calls.specs.InPlaceCalls.{InPlaceCall}
 use Rattle.claims.proofs.GatesFollow.{holds-new}
 use Rattle.claims.specs.OperationsDemand.{ComplementsKeep, PivotsKeep, RewrittenAs, SecondAboutFirst, left}
 

@@ -21,7 +21,7 @@ use Rattle.record.specs.Reduced.{reduced}
 use Rattle.stabilizer.proofs.Accepted.{AcceptedList, accepted-list}
 use Rattle.stabilizer.specs.Groups.{Proper, SameGroup}
 use Rattle.stabilizer.specs.Lists.{GeneratorList, rows}
-use Rattle.sukhlent.specs.Calls.{ExpandCall, ReduceCall}
+use Rattle.list_calls.specs.Calls.{ExpandCall, ReduceCall}
 use Rattle.claims.specs.SecondDemand.{
   BroughtBack,
   EqualExactly,

@@ -41,10 +41,10 @@ use Rattle.stabilizer.specs.Lists.{
   listStray,
   rows,
 }
-use Rattle.sukhlent.proofs.Comparing.{counts-agree}
-use Rattle.sukhlent.proofs.PairLines.{last-line, pair-numbered}
-use Rattle.sukhlent.proofs.ReducedPairs.{least-held}
-use Rattle.sukhlent.specs.Comparisons.{compareList, inducedRecord}
+use Rattle.compare_call.proofs.Comparing.{counts-agree}
+use Rattle.compare_call.proofs.PairLines.{last-line, pair-numbered}
+use Rattle.compare_call.proofs.ReducedPairs.{least-held}
+use Rattle.compare_call.specs.Comparisons.{compareList, inducedRecord}
 use Rattle.claims.specs.ThirdDemand.{ComesBack, Decided, ThirdDemand, complementEach, listUnder}
 
 -- a record complemented along a list has the graph complemented along it

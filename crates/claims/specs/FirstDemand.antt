@@ -34,10 +34,10 @@ use Rattle.record.specs.Lent.{LentRecord, codeNumbers, heldRecord, heldRows, ne
 use Rattle.record.specs.Records.{GraphRecord, complementRecord, rowsOf}
 use Rattle.record.specs.Reduced.{reduced}
 use Rattle.stabilizer.specs.Lists.{GeneratorList, listOf, rows}
-use Rattle.sukhlent.specs.Calls.{CheckCall, ExpandCall, ReduceCall, checkLines, expandLines, reduceLines}
-use Rattle.sukhlent.specs.Comparisons.{CompareCall, compareList}
-use Rattle.sukhlent.specs.Images.{Imaged}
-use Rattle.sukhlent.specs.InPlaceCalls.{InPlaceCall, MeasureCall}
+use Rattle.list_calls.specs.Calls.{CheckCall, ExpandCall, ReduceCall, checkLines, expandLines, reduceLines}
+use Rattle.compare_call.specs.Comparisons.{CompareCall, compareList}
+use Rattle.image_call.specs.Images.{Imaged}
+use Rattle.record_calls.specs.InPlaceCalls.{InPlaceCall, MeasureCall}
 use Rattle.words.specs.Bits.{digit, isOdd}
 
 -- "the first fitting number of the published list": that of a line that holds where none before it does; 0 where none

@@ -15,7 +15,7 @@ use Rattle.image.specs.Working.{wordGraph}
 use Rattle.pauli.specs.Pauli.{Pauli, minus, scaled}
 use Rattle.record.specs.Lent.{LentRecord, heldRecord, heldRows, recordLines}
 use Rattle.stabilizer.specs.Groups.{SameGroup}
-use Rattle.sukhlent.specs.Images.{Imaged}
+use Rattle.image_call.specs.Images.{Imaged}
 use Rattle.claims.specs.ThirdDemand.{complementEach}
 
 -- the generators of a graph with "one minus sign bit per vertex"

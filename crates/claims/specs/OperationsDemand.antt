@@ -19,7 +19,7 @@ use Rattle.record.specs.Records.{GraphRecord, SameRecord, complementRecord}
 use Rattle.record.specs.Reduced.{reduced}
 use Rattle.stabilizer.specs.Carries.{Carries}
 use Rattle.stabilizer.specs.Groups.{InGroup, SameGroup}
-use Rattle.sukhlent.specs.InPlaceCalls.{InPlaceCall, MeasureCall}
+use Rattle.record_calls.specs.InPlaceCalls.{InPlaceCall, MeasureCall}
 use Rattle.words.specs.Bits.{isOdd}
 
 -- the record that a call leaves

@@ -10,7 +10,7 @@ use Rattle.buffers.specs.Refusals.{firstFitting}
 use Rattle.record.specs.Lent.{LentRecord, heldRows}
 use Rattle.stabilizer.specs.Groups.{SameGroup}
 use Rattle.stabilizer.specs.Lists.{GeneratorList, rows}
-use Rattle.sukhlent.specs.Calls.{ExpandCall, ReduceCall, checkLines}
+use Rattle.list_calls.specs.Calls.{ExpandCall, ReduceCall, checkLines}
 
 -- "a generator list and its reduced record stand for the same group"
 abbrev pub ReductionKeepsGroup : Type 0

@@ -11,7 +11,7 @@ use Rattle.image.specs.Rule.{imageList}
 use Rattle.record.specs.Lent.{LentRecord, codeNumbers, heldRecord, neighbourWords}
 use Rattle.record.specs.Reduced.{reduced}
 use Rattle.stabilizer.specs.Lists.{GeneratorList, rows}
-use Rattle.sukhlent.specs.Calls.{checkLines}
+use Rattle.list_calls.specs.Calls.{checkLines}
 use Rattle.words.specs.Bits.{digit, wordOf}
 
 pub record Example : Type 0 where

@@ -15,8 +15,8 @@ use Rattle.image.specs.Rule.{imageList}
 use Rattle.record.specs.Reduced.{reducedGraph}
 use Rattle.stabilizer.specs.Carries.{Carries}
 use Rattle.stabilizer.specs.Lists.{GeneratorList, rows}
-use Rattle.sukhlent.specs.Calls.{checkLines}
-use Rattle.sukhlent.specs.Comparisons.{CompareCall}
+use Rattle.list_calls.specs.Calls.{checkLines}
+use Rattle.compare_call.specs.Comparisons.{CompareCall}
 
 -- "Done one after another": the graph complemented at each vertex of a list
 abbrev pub complementEach : Graph → List ℕ → Graph

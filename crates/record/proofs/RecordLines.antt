@@ -3,8 +3,9 @@
 use mathlib.Core.Bool.{Bool, false, true, _||_}
 use mathlib.Core.Path.{sym, _∙_, _≡_}
 use Prim.Native.Nat.{_≤_}
+use lib.Dec.{lit<}
 use lib.ListN.{length}
-use Rattle.buffers.proofs.Lines.{fits, none-fits, passed}
+use Rattle.buffers.proofs.Lines.{Numbered, fits, none-fits, passed}
 use Rattle.buffers.specs.Refusals.{badCount, firstFitting, otherThan}
 use Rattle.stabilizer.proofs.SharedTests.{counted, has-length, neither}
 use Rattle.record.specs.Lent.{
@@ -56,3 +57,7 @@ pub simple-tested : (l : LentRecord) (others : Bool) → badCount (l .n) ≡ fal
     (recordLengths l || others) ≡ false → (l .n ≤ 64) × (length (l .neighbours) ≡ l .n)
 simple-tested l others h2 h4 =
     (counted (l .n) h2 .1, record-lengths-are l (neither (recordLengths l) others h4 .0) .0)
+
+-- no line of a record has number 0
+pub record-numbered : (l : LentRecord) (others six : Bool) → Numbered (recordLines l others six)
+record-numbered l others six = (lit< tt, (lit< tt, (lit< tt, (lit< tt, (lit< tt, tt)))))

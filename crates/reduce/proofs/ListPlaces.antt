@@ -5,7 +5,7 @@ use mathlib.Core.Path.{ap, _≡_}
 use Prim.Native.Nat.{min, ℕ, _≤_}
 use native.Mathlib.Omega.{arith}
 use lib.ListN.{length, take}
-use Rattle.sukhlent.proofs.Lists.{part-long}
+use Rattle.buffers.proofs.Parts.{part-long}
 use Rattle.reduce.specs.Answer.{Lent, listAt, longest, printed}
 
 module _ (n m : ℕ) (e : m ≡ min n 64) where

@@ -1,7 +1,7 @@
 // Reads a generator list from standard input, to its end and in blocks, and prints its reduced record or a refusal.
 use libc::STDIN_FILENO;
 use libc::STDOUT_FILENO;
-use sukhlent::sukhlent_reduce;
+use list_calls::reduce;
 use text::print::print_record;
 use text::print::print_refusal;
 use text::scan::Verdict;
@@ -29,7 +29,7 @@ fn print_reduced(
         (printed (record { n = n; signs = now (signs .entry); z = now (z .entry); x = now (x .entry) }))
         0 (now (out .entry)) (now (out .exit)) r ⌝ }
 {
-    let number = sukhlent_reduce(n as u64, signs, z, x, neighbours, codes);
+    let number = reduce(n as u64, signs, z, x, neighbours, codes);
     if number != 0 {
         return print_refusal(number, out);
     }

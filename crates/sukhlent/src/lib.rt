@@ -1,53 +1,17 @@
-// The public calls. Each checks its arguments in the order of the published list, refuses by number, and otherwise
-// writes its answer; a refused call changes no lent byte.
-mod comparisons;
-mod images;
-mod in_place;
-
-pub use comparisons::sukhlent_compare;
-pub use images::sukhlent_image;
-pub use in_place::sukhlent_complement;
-pub use in_place::sukhlent_cz;
-pub use in_place::sukhlent_gate;
-pub use in_place::sukhlent_measure;
-pub use in_place::sukhlent_pivot;
-use record::expand_into;
-use record::record_refusal;
-use reduction::reduce_list;
-use stabilizer::early_refusal;
-ghost use mathlib.Core.Bool.{not};
-ghost use mathlib.Core.Path.{_≡_};
-ghost use lib.Dec.{eqb};
-ghost use Rattle.sukhlent.specs.Calls.{CheckCall, ExpandCall, ReduceCall};
-
-// Whether a buffer's length is other than n.
-fn other_than(length: usize, n: u64) -> bool
-    ensures { λ r. ⌜ r ≡ not (eqb length n) ⌝ }
-{
-    length as u64 != n
-}
+// The public calls as C sees them. Each passes its arguments on to the proved call that has the same contract.
+ghost use Rattle.compare_call.specs.Comparisons.{CompareCall};
+ghost use Rattle.image_call.specs.Images.{Imaged};
+ghost use Rattle.list_calls.specs.Calls.{CheckCall, ExpandCall, ReduceCall};
+ghost use Rattle.operations.specs.Steps.{complementAt, controlledZ, gate, pivotAt};
+ghost use Rattle.record_calls.specs.InPlaceCalls.{InPlaceCall, MeasureCall};
 
 // Lines 2, 4, 5, 6, 9 and 10 of a generator list.
 #[no_mangle]
 pub extern "C" fn sukhlent_check(n: u64, signs: &[u8], z: &[u64], x: &[u64]) -> u8
-    ensures { λ r. ⌜ CheckCall (record { n = n; signs = now (signs .entry); z = now (z .entry); x = now (x .entry) }) r ⌝ }
+    ensures { λ r. ⌜ CheckCall
+        (record { n = n; signs = now (signs .entry); z = now (z .entry); x = now (x .entry) }) r ⌝ }
 {
-    let early = early_refusal(n, signs, z, x, false);
-    if early != 0 {
-        return early;
-    }
-    let count = n as usize;
-    let mut neighbours = [0u64; 64];
-    let mut codes = [0u8; 64];
-    let independent = reduce_list(
-        count,
-        signs,
-        z,
-        x,
-        &mut neighbours[..count],
-        &mut codes[..count],
-    );
-    if independent { 0 } else { 10 }
+    list_calls::check(n, signs, z, x)
 }
 
 // The reduced record of a generator list.
@@ -64,17 +28,7 @@ pub extern "C" fn sukhlent_reduce(
         (record { n = n; signs = now (signs .entry); z = now (z .entry); x = now (x .entry) })
         (now (neighbours .entry)) (now (codes .entry)) r (now (neighbours .exit)) (now (codes .exit)) ⌝ }
 {
-    let others = other_than(neighbours.len(), n) | other_than(codes.len(), n);
-    let early = early_refusal(n, signs, z, x, others);
-    if early != 0 {
-        return early;
-    }
-    let count = n as usize;
-    if reduce_list(count, signs, z, x, neighbours, codes) {
-        0
-    } else {
-        10
-    }
+    list_calls::reduce(n, signs, z, x, neighbours, codes)
 }
 
 // The generators of a record, in order.
@@ -91,12 +45,141 @@ pub extern "C" fn sukhlent_expand(
         (record { n = n; neighbours = now (neighbours .entry); codes = now (codes .entry) })
         (now (signs .entry)) (now (z .entry)) (now (x .entry)) r (now (signs .exit)) (now (z .exit)) (now (x .exit)) ⌝ }
 {
-    let others = other_than(signs.len(), n) | (other_than(z.len(), n) | other_than(x.len(), n));
-    let early = record_refusal(n, neighbours, codes, others, false);
-    if early != 0 {
-        return early;
-    }
-    let count = n as usize;
-    expand_into(count, neighbours, codes, signs, z, x);
-    0
+    list_calls::expand(n, neighbours, codes, signs, z, x)
+}
+
+// A code applied after the code held at a qubit, and the reduced record.
+#[no_mangle]
+pub extern "C" fn sukhlent_gate(
+    n: u64,
+    neighbours: &mut [u64],
+    codes: &mut [u8],
+    qubit: u64,
+    code: u8,
+) -> u8
+    ensures { λ r. ⌜ InPlaceCall
+        (gate (record { n = n; neighbours = now (neighbours .entry); codes = now (codes .entry) }) qubit code)
+        r (now (neighbours .exit)) (now (codes .exit)) ⌝ }
+{
+    record_calls::gate(n, neighbours, codes, qubit, code)
+}
+
+// CZ on two qubits, and the reduced record.
+#[no_mangle]
+pub extern "C" fn sukhlent_cz(
+    n: u64,
+    neighbours: &mut [u64],
+    codes: &mut [u8],
+    a: u64,
+    b: u64,
+) -> u8
+    ensures { λ r. ⌜ InPlaceCall
+        (controlledZ (record { n = n; neighbours = now (neighbours .entry); codes = now (codes .entry) }) a b)
+        r (now (neighbours .exit)) (now (codes .exit)) ⌝ }
+{
+    record_calls::cz(n, neighbours, codes, a, b)
+}
+
+// A Pauli measured at a qubit: the outcome, whether it was determined, and the reduced record.
+#[no_mangle]
+pub extern "C" fn sukhlent_measure(
+    n: u64,
+    neighbours: &mut [u64],
+    codes: &mut [u8],
+    pauli: u8,
+    qubit: u64,
+    outcome: u8,
+    answer: &mut u8,
+    determined: &mut u8,
+) -> u8
+    ensures { λ r. ⌜ MeasureCall
+        (record { n = n; neighbours = now (neighbours .entry); codes = now (codes .entry) })
+        pauli qubit outcome (now (answer .entry)) (now (determined .entry)) r
+        (now (neighbours .exit)) (now (codes .exit)) (now (answer .exit)) (now (determined .exit)) ⌝ }
+{
+    record_calls::measure(
+        n,
+        neighbours,
+        codes,
+        pauli,
+        qubit,
+        outcome,
+        answer,
+        determined,
+    )
+}
+
+// Local complementation at a vertex; the record is not reduced.
+#[no_mangle]
+pub extern "C" fn sukhlent_complement(
+    n: u64,
+    neighbours: &mut [u64],
+    codes: &mut [u8],
+    a: u64,
+) -> u8
+    ensures { λ r. ⌜ InPlaceCall
+        (complementAt (record { n = n; neighbours = now (neighbours .entry); codes = now (codes .entry) }) a)
+        r (now (neighbours .exit)) (now (codes .exit)) ⌝ }
+{
+    record_calls::complement(n, neighbours, codes, a)
+}
+
+// A pivot on an edge; the record is not reduced.
+#[no_mangle]
+pub extern "C" fn sukhlent_pivot(
+    n: u64,
+    neighbours: &mut [u64],
+    codes: &mut [u8],
+    j: u64,
+    k: u64,
+) -> u8
+    ensures { λ r. ⌜ InPlaceCall
+        (pivotAt (record { n = n; neighbours = now (neighbours .entry); codes = now (codes .entry) }) j k)
+        r (now (neighbours .exit)) (now (codes .exit)) ⌝ }
+{
+    record_calls::pivot(n, neighbours, codes, j, k)
+}
+
+// The image graph, its signs, and the list of the vertices complemented.
+#[no_mangle]
+pub extern "C" fn sukhlent_image(
+    n: u64,
+    neighbours: &[u64],
+    codes: &[u8],
+    image: &mut [u64],
+    signs: &mut [u8],
+    list: &mut [u8],
+    count: &mut u64,
+) -> u8
+    ensures { λ r. ⌜ Imaged
+        (record { n = n; neighbours = now (neighbours .entry); codes = now (codes .entry) })
+        (now (image .entry)) (now (signs .entry)) (now (list .entry)) (now (count .entry)) r
+        (now (image .exit)) (now (signs .exit)) (now (list .exit)) (now (count .exit)) ⌝ }
+{
+    image_call::image(n, neighbours, codes, image, signs, list, count)
+}
+
+// The least choice that carries the group of the first list onto that of the second, and the complementations that
+// turn the first reduced graph into the second.
+#[no_mangle]
+pub extern "C" fn sukhlent_compare(
+    n1: u64,
+    signs1: &[u8],
+    z1: &[u64],
+    x1: &[u64],
+    n2: u64,
+    signs2: &[u8],
+    z2: &[u64],
+    x2: &[u64],
+    choice: &mut [u8],
+    list: &mut [u8],
+    count: &mut u64,
+) -> u8
+    ensures { λ r. ⌜ CompareCall
+        (record { n = n1; signs = now (signs1 .entry); z = now (z1 .entry); x = now (x1 .entry) })
+        (record { n = n2; signs = now (signs2 .entry); z = now (z2 .entry); x = now (x2 .entry) })
+        (now (choice .entry)) (now (list .entry)) (now (count .entry)) r
+        (now (choice .exit)) (now (list .exit)) (now (count .exit)) ⌝ }
+{
+    compare_call::compare(n1, signs1, z1, x1, n2, signs2, z2, x2, choice, list, count)
 }

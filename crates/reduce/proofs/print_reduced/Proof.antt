@@ -6,15 +6,15 @@ use Rattle.reduce.proofs.Prints.{same-print}
 use Rattle.reduce.proofs.print_reduced.Statement.{statement}
 use Rattle.reduce.proofs.print_reduced.Tie as tie
 
-sukhlent-reduce-requires : tie.Need-sukhlent-reduce-requires
-sukhlent-reduce-requires c κs = search needs
+reduce-requires : tie.Need-reduce-requires
+reduce-requires c κs = search needs
 
 print-refusal-requires : tie.Need-print-refusal-requires
 print-refusal-requires c κs = let E = c .before .before .before .before .before .before in
     let S = E .before .before .before .before .before .before .before .before .before in
     let a = S .args in
     let l : GeneratorList = record { n = a .n; signs = a .signs .now; z = a .z .now; x = a .x .now } in
-    (number-small l _ _ _ (S .pre) _ _ _ (E .sukhlent-reduce .ensures), omega (arith, S .pre .room))
+    (number-small l _ _ _ (S .pre) _ _ _ (E .reduce .ensures), omega (arith, S .pre .room))
 
 same-length : tie.Need-same-length
 same-length c = search needs
@@ -30,7 +30,7 @@ returns c = let E = c .before .before .before .before .before .before .before .b
     let S = E .before .before .before .before .before .before .before .before .before in
     let a = S .args in
     let l : GeneratorList = record { n = a .n; signs = a .signs .now; z = a .z .now; x = a .x .now } in
-    same-print (refused-printed l _ _ _ (S .pre) _ _ _ (E .sukhlent-reduce .ensures)
+    same-print (refused-printed l _ _ _ (S .pre) _ _ _ (E .reduce .ensures)
     (c .before .before .before .before .if1 .taken)) (c .before .before .print-refusal .ensures)
 
 print-record-requires : tie.Need-print-record-requires
@@ -38,7 +38,7 @@ print-record-requires c κs = let E = c .before .before .before .before .before 
     let S = E .before .before .before .before .before .before .before .before .before in
     let a = S .args in
     let l : GeneratorList = record { n = a .n; signs = a .signs .now; z = a .z .now; x = a .x .now } in
-    printable l _ _ _ (S .pre) _ _ _ (E .sukhlent-reduce .ensures) (c .before .before .before .if1 .left)
+    printable l _ _ _ (S .pre) _ _ _ (E .reduce .ensures) (c .before .before .before .if1 .left)
 
 same-length-4 : tie.Need-same-length-4
 same-length-4 c = search needs
@@ -55,7 +55,7 @@ returns-2 c = let E =
     let S = E .before .before .before .before .before .before .before .before .before in
     let a = S .args in
     let l : GeneratorList = record { n = a .n; signs = a .signs .now; z = a .z .now; x = a .x .now } in
-    same-print (record-printed l _ _ _ (S .pre) _ _ _ (E .sukhlent-reduce .ensures)
+    same-print (record-printed l _ _ _ (S .pre) _ _ _ (E .reduce .ensures)
     (c .before .before .before .before .before .before .if1 .left))
     (c .before .before .print-record .ensures)
 
@@ -63,7 +63,7 @@ pub print-reduced-spec : {M : Type 1} → statement M
 print-reduced-spec =
     tie.close
     (tie.spec
-    sukhlent-reduce-requires
+    reduce-requires
     print-refusal-requires
     same-length
     same-length-2

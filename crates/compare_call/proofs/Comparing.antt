@@ -1,0 +1,163 @@
+-- The call on two lists, from what the functions below it answer.
+-- Assumes nothing.
+use mathlib.Core.Bool.{Bool, cond, false, not, true, _||_}
+use mathlib.Core.List.{List}
+use mathlib.Core.Path.{ap, ap₂, refl, subst, sym, _∙_, _≡_}
+use Prim.Native.Nat.{_<_, ℕ, _≤_}
+use native.Mathlib.Omega.{arith}
+use lib.Dec.{eqb}
+use lib.ListN.{length}
+use borrow.Author.Tests.{eqb-true, le-ltb, lt-ltb, ne-eqb}
+use Rattle.buffers.proofs.Lines.{fits, more-accepted, more-refused, passed}
+use Rattle.buffers.specs.Buffers.{accepted, tabulate, written}
+use Rattle.buffers.specs.Refusals.{badCount, firstFitting, otherThan}
+use Rattle.comparison.proofs.Flags.{not-false}
+use Rattle.comparison.specs.Choices.{choice, leastCode, noChoice}
+use Rattle.comparison.specs.Compared.{pairCount, pairLines}
+use Rattle.image.proofs.Rounds.{room}
+use Rattle.pauli.specs.Pauli.{Pauli}
+use Rattle.record.specs.Accepted.{AcceptedRecord}
+use Rattle.record.specs.Lent.{codeNumbers, neighbourWords}
+use Rattle.record.specs.Reduced.{reduced}
+use Rattle.stabilizer.proofs.Accepted.{accepted-list}
+use Rattle.stabilizer.proofs.SharedTests.{counted, has-length, length-passes, neither}
+use Rattle.stabilizer.specs.Lists.{GeneratorList, listLengths, rows}
+use Rattle.words.proofs.Finite.{bits}
+use Rattle.compare_call.proofs.PairLines.{earlier-none, last-line, pair-number, pair-numbered}
+use Rattle.compare_call.proofs.ReducedPairs.{reduced-accepted}
+use Rattle.list_calls.specs.Calls.{ReduceCall}
+use Rattle.compare_call.specs.ComparedPairs.{HoldsReduced, PairAnswered, earlierOf}
+use Rattle.compare_call.specs.Comparisons.{CompareCall, compareList}
+
+-- ---- two lists on n qubits, and the reductions of both
+module _ (n : ℕ) (s z x s₂ z₂ x₂ choice list : List ℕ) (positive : 1 ≤ n) (few : n ≤ 20)
+    (long : length choice ≡ n) (room : length list ≡ 96) (nb cs nb₂ cs₂ nb′ cs′ nb₂′ cs₂′ : List ℕ)
+    (nb-long : length nb ≡ n) (cs-long : length cs ≡ n) (nb₂-long : length nb₂ ≡ n)
+    (cs₂-long : length cs₂ ≡ n)
+    (r r₂ early : ℕ) (C : ReduceCall (record { n = n; signs = s; z = z; x = x }) nb cs r nb′ cs′)
+    (D : ReduceCall (record { n = n; signs = s₂; z = z₂; x = x₂ }) nb₂ cs₂ r₂ nb₂′ cs₂′)
+    (e : early ≡ earlierOf r r₂) where
+  abbrev l : GeneratorList
+  l = record { n = n; signs = s; z = z; x = x }
+
+  abbrev m : GeneratorList
+  m = record { n = n; signs = s₂; z = z₂; x = x₂ }
+
+  early-is : early ≡ firstFitting (pairLines l m choice list)
+  early-is =
+      e ∙ ap₂ earlierOf (C .number) (D .number)
+      ∙ sym (pair-number n s z x s₂ z₂ x₂ choice list positive few long room _ _
+      (ap₂ _||_ (length-passes n nb nb-long) (length-passes n cs cs-long))
+      (ap₂ _||_ (length-passes n nb₂ nb₂-long) (length-passes n cs₂ cs₂-long)))
+
+  -- the earlier number comes back
+  pub compare-refused : (count : ℕ) → (early ≡ 0 → ⊥) →
+      CompareCall l m choice list count early choice list count
+  compare-refused count h =
+      record {
+        number = early-is ∙ sym (more-refused (pairLines l m choice list) _ (λ z. h (early-is ∙ z)));
+        codes = sym (ap (λ b. cond b (tabulate n (leastCode n (rows l) (rows m))) choice) (ne-eqb early 0 h));
+        vertices = sym (ap (λ b. cond b (written (compareList n (rows l) (rows m)) list) list)
+            (ne-eqb early 0 h));
+        amount = sym (ap (λ b. cond b (length (compareList n (rows l) (rows m))) count) (ne-eqb early 0 h));
+      }
+
+  module _ (a : early ≡ 0) where
+    none : (r ≡ 0) × (r₂ ≡ 0)
+    none = earlier-none r r₂ (sym e ∙ a)
+
+    pub first-reduced : HoldsReduced n (rows l) nb′ cs′
+    first-reduced =
+        record {
+          proper = (accepted-list l _ (sym (C .number) ∙ none .0)) .proper;
+          words = C .words ∙ ap (λ v. accepted v (neighbourWords n (reduced n (rows l))) nb) (none .0);
+          numbers = C .numbers ∙ ap (λ v. accepted v (codeNumbers n (reduced n (rows l))) cs) (none .0);
+        }
+
+    pub second-reduced : HoldsReduced n (rows m) nb₂′ cs₂′
+    second-reduced =
+        record {
+          proper = (accepted-list m _ (sym (D .number) ∙ none .1)) .proper;
+          words = D .words ∙ ap (λ v. accepted v (neighbourWords n (reduced n (rows m))) nb₂) (none .1);
+          numbers = D .numbers ∙ ap (λ v. accepted v (codeNumbers n (reduced n (rows m))) cs₂) (none .1);
+        }
+
+    pub first-accepted : AcceptedRecord (record { n = n; neighbours = nb′; codes = cs′ })
+    first-accepted = reduced-accepted n (rows l) nb′ cs′ first-reduced positive (omega (arith, few))
+
+    pub second-accepted : AcceptedRecord (record { n = n; neighbours = nb₂′; codes = cs₂′ })
+    second-accepted = reduced-accepted n (rows m) nb₂′ cs₂′ second-reduced positive (omega (arith, few))
+
+    -- and the comparison of the two records decides
+    pub compare-decided : (count k : ℕ) (choice′ list′ : List ℕ) (count′ : ℕ) →
+        ((R S : ℕ → Pauli) → HoldsReduced n R nb′ cs′ → HoldsReduced n S nb₂′ cs₂′ →
+        PairAnswered n R S choice list count k choice′ list′ count′) →
+        CompareCall l m choice list count k choice′ list′ count′
+    compare-decided count k choice′ list′ count′ f =
+        let P = f (rows l) (rows m) first-reduced second-reduced in
+        record {
+          number =
+              P .number ∙ sym (more-accepted (pairLines l m choice list) _ (pair-numbered l m choice list)
+              (sym early-is ∙ a) ∙ last-line (noChoice n (rows l) (rows m)));
+          codes = P .codes;
+          vertices = P .vertices;
+          amount = P .amount;
+        }
+
+-- ---- the lines before the reductions
+module _ (l m : GeneratorList) (choice list : List ℕ) (count : ℕ) where
+  pub refused-2 : pairCount l m ≡ true → CompareCall l m choice list count 2 choice list count
+  refused-2 h = record { number = sym (fits 2 _ h); codes = refl; vertices = refl; amount = refl }
+
+  module _ (p : pairCount l m ≡ false) where
+    pub refused-3 : 20 < l .n → CompareCall l m choice list count 3 choice list count
+    refused-3 h =
+        record {
+          number = sym (passed 2 _ p ∙ fits 3 _ (lt-ltb 20 (l .n) h));
+          codes = refl;
+          vertices = refl;
+          amount = refl;
+        }
+
+    pub counts-agree : l .n ≡ m .n
+    counts-agree =
+        eqb-true (l .n) (m .n) (not-false (eqb (l .n) (m .n))
+        (neither (badCount (m .n)) (not (eqb (l .n) (m .n)))
+        (neither (badCount (l .n)) (badCount (m .n) || not (eqb (l .n) (m .n))) p .1) .1))
+
+    pub at-least-one : 1 ≤ l .n
+    at-least-one =
+        counted (l .n) (neither (badCount (l .n)) (badCount (m .n) || not (eqb (l .n) (m .n))) p .0) .0
+
+    module _ (o : Bool) (e : o ≡ (otherThan (l .n) choice || otherThan 96 list)) where
+      pub refused-4 : l .n ≤ 20 → o ≡ true → CompareCall l m choice list count 4 choice list count
+      refused-4 h t =
+          record {
+            number = sym (passed 2 _ p ∙ passed 3 _ (le-ltb 20 (l .n) h)
+                ∙ fits 4 _ (ap (λ v. listLengths l || (listLengths m || v)) (sym e ∙ t)
+                ∙ last-of-three (listLengths l) (listLengths m)));
+            codes = refl;
+            vertices = refl;
+            amount = refl;
+          }
+        where
+          last-of-three : (a b : Bool) → (a || (b || true)) ≡ true
+          last-of-three = bits 2 (λ a b. a || (b || true)) (λ a b. true) tt
+
+      pub choice-fits : o ≡ false → length choice ≡ l .n
+      choice-fits f =
+          has-length (l .n) choice (neither (otherThan (l .n) choice) (otherThan 96 list) (sym e ∙ f) .0)
+
+      pub list-fits : o ≡ false → length list ≡ 96
+      list-fits f = has-length 96 list (neither (otherThan (l .n) choice) (otherThan 96 list) (sym e ∙ f) .1)
+
+-- two lists on the same number of qubits
+pub same-count : (n n₂ : ℕ) → n ≡ n₂ → (s z x s₂ z₂ x₂ choice list : List ℕ) (count r : ℕ)
+    (choice′ list′ : List ℕ) (count′ : ℕ) →
+    CompareCall (record { n = n; signs = s; z = z; x = x }) (record { n = n; signs = s₂; z = z₂; x = x₂ })
+    choice list count r choice′ list′ count′ →
+    CompareCall (record { n = n; signs = s; z = z; x = x }) (record { n = n₂; signs = s₂; z = z₂; x = x₂ })
+    choice list count r choice′ list′ count′
+same-count n n₂ e s z x s₂ z₂ x₂ choice list count r choice′ list′ count′ =
+    subst (λ k. CompareCall (record { n = n; signs = s; z = z; x = x })
+    (record { n = k; signs = s₂; z = z₂; x = x₂ }) choice list count r choice′ list′ count′) e

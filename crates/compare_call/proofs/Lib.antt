@@ -1,0 +1,4 @@
+pub mod PairLines
+pub mod ReducedPairs
+pub mod Comparing
+pub mod InducedRecords

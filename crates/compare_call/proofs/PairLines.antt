@@ -1,0 +1,115 @@
+-- The number of two lists together is the earlier of their numbers.
+-- Assumes nothing.
+use mathlib.Core.Bool.{Bool, cond, false, not, _||_}
+use mathlib.Core.List.{List, [], _∷_}
+use mathlib.Core.Logic.{inl, inr, _⊎_}
+use mathlib.Core.Path.{ap, ap₂, refl, sym, _∙_, _≡_}
+use Prim.Native.Nat.{_<_, ℕ, _≤_}
+use native.Mathlib.Decide.{ℕ-discrete}
+use native.Mathlib.Omega.{arith}
+use lib.Dec.{eqb, eqb→eq, lit<, ltb}
+use lib.ListN.{length}
+use borrow.Author.Tests.{eq-eqb, le-ltb, lt-ltb, ne-eqb}
+use Rattle.buffers.proofs.Lines.{Numbered, passed}
+use Rattle.buffers.specs.Refusals.{Line, badCount, firstFitting, line}
+use Rattle.comparison.specs.Choices.{choice}
+use Rattle.comparison.specs.Compared.{pairLines}
+use Rattle.image.proofs.Rounds.{room}
+use Rattle.stabilizer.proofs.SharedTests.{count-passes, length-passes}
+use Rattle.stabilizer.specs.Lists.{
+  GeneratorList,
+  clashing,
+  dependent,
+  listLengths,
+  listLines,
+  listSigns,
+  listStray,
+  rows,
+}
+use Rattle.words.proofs.Finite.{Law, Of, law}
+use Rattle.words.proofs.Sums.{lt-or-ge}
+use Rattle.compare_call.specs.ComparedPairs.{earlierOf}
+
+-- lines 4 to 10 of each list, and those of the pair
+module _ (a₄ a₅ a₆ a₉ a₁₀ : Bool) where
+  abbrev laterLines : List Line
+  laterLines = line 4 (a₄ || false) ∷ line 5 a₅ ∷ line 6 a₆ ∷ line 9 a₉ ∷ line 10 a₁₀ ∷ []
+
+abbrev laterOf : Of 10 ℕ
+laterOf a b c d e f g h i j =
+    earlierOf (firstFitting (laterLines a b c d e)) (firstFitting (laterLines f g h i j))
+
+abbrev laterBoth : Of 10 ℕ
+laterBoth a b c d e f g h i j =
+    firstFitting
+    (line 4 (a || (f || false)) ∷ line 5 (b || g) ∷ line 6 (c || h) ∷ line 9 (d || i) ∷ line 10 (e || j) ∷ [])
+
+earlier-later : Law ℕ 10 laterBoth laterOf
+unfolding firstFitting
+earlier-later = law eqb eqb→eq 10 laterBoth laterOf tt
+
+-- no number only where both have none
+pub earlier-none : (a b : ℕ) → earlierOf a b ≡ 0 → (a ≡ 0) × (b ≡ 0)
+earlier-none a b = go (ℕ-discrete a 0) (ℕ-discrete b 0) (lt-or-ge a b)
+  where
+    go : Dec (a ≡ 0) → Dec (b ≡ 0) → (a < b) ⊎ (b ≤ a) → earlierOf a b ≡ 0 → (a ≡ 0) × (b ≡ 0)
+    go (yes h) d l e = (
+      h,
+      sym (ap (λ v. cond v b (cond (eqb b 0) a (cond (ltb a b) a b))) (eq-eqb a 0 h))
+          ∙ e,
+    )
+    go (no h) (yes k) l e =
+        absurd (h (sym (ap₂ (λ u v. cond u b (cond v a (cond (ltb a b) a b))) (ne-eqb a 0 h) (eq-eqb b 0 k))
+        ∙ e))
+    go (no h) (no k) (inl l) e =
+        absurd (h (sym (ap₂ (λ u v. cond u b (cond v a (cond (ltb a b) a b))) (ne-eqb a 0 h) (ne-eqb b 0 k)
+        ∙ ap (λ v. cond v a b) (lt-ltb a b l)) ∙ e))
+    go (no h) (no k) (inr l) e =
+        absurd (k (sym (ap₂ (λ u v. cond u b (cond v a (cond (ltb a b) a b))) (ne-eqb a 0 h) (ne-eqb b 0 k)
+        ∙ ap (λ v. cond v a b) (le-ltb a b l)) ∙ e))
+
+-- ---- two lists on n qubits, n from 1 to 20, with buffers of the right lengths
+module _ (n : ℕ) (s z x s₂ z₂ x₂ choice list : List ℕ) (positive : 1 ≤ n) (few : n ≤ 20)
+    (long : length choice ≡ n) (room : length list ≡ 96) where
+  abbrev pub firstList : GeneratorList
+  firstList = record { n = n; signs = s; z = z; x = x }
+
+  abbrev pub secondList : GeneratorList
+  secondList = record { n = n; signs = s₂; z = z₂; x = x₂ }
+
+  counts : badCount n ≡ false
+  counts = count-passes n positive (omega (arith, few))
+
+  single-number : (l : GeneratorList) (others : Bool) → others ≡ false → badCount (l .n) ≡ false →
+      firstFitting (listLines l others) ≡ firstFitting
+      (laterLines (listLengths l) (listStray l) (listSigns l) (clashing (l .n) (rows l))
+      (dependent (l .n) (rows l)))
+  single-number l others o b = ap (λ v. firstFitting (listLines l v)) o ∙ passed 2 _ b
+
+  pub pair-number : (o o₂ : Bool) → o ≡ false → o₂ ≡ false →
+      firstFitting (pairLines firstList secondList choice list)
+      ≡ earlierOf (firstFitting (listLines firstList o)) (firstFitting (listLines secondList o₂))
+  pair-number o o₂ e e₂ =
+      passed 2 _ (ap₂ _||_ counts (ap₂ _||_ counts (ap not (eq-eqb n n refl))))
+      ∙ passed 3 _ (le-ltb 20 n few)
+      ∙ ap (λ v. firstFitting
+      (line 4 (listLengths firstList || (listLengths secondList || v))
+      ∷ line 5 (listStray firstList || listStray secondList)
+      ∷ line 6 (listSigns firstList || listSigns secondList)
+      ∷ line 9 (clashing n (rows firstList) || clashing n (rows secondList))
+      ∷ line 10 (dependent n (rows firstList) || dependent n (rows secondList)) ∷ []))
+      (ap₂ _||_ (length-passes n choice long) (length-passes 96 list room))
+      ∙ earlier-later (listLengths firstList) (listStray firstList) (listSigns firstList)
+      (clashing n (rows firstList)) (dependent n (rows firstList)) (listLengths secondList)
+      (listStray secondList)
+      (listSigns secondList) (clashing n (rows secondList)) (dependent n (rows secondList))
+      ∙ sym (ap₂ earlierOf (single-number firstList o e counts) (single-number secondList o₂ e₂ counts))
+
+-- ---- the lines of two lists
+pub pair-numbered : (l m : GeneratorList) (choice list : List ℕ) → Numbered (pairLines l m choice list)
+pair-numbered l m choice list =
+    (lit< tt, (lit< tt, (lit< tt, (lit< tt, (lit< tt, (lit< tt, (lit< tt, tt)))))))
+
+pub last-line : (b : Bool) → firstFitting (line 13 b ∷ []) ≡ cond b 13 0
+unfolding firstFitting
+last-line b = refl

@@ -1,0 +1,33 @@
+use mathlib.Core.Path.{sym, _∙_}
+use borrow.Author.Needs.{needs}
+use Rattle.compare_call.proofs.InducedRecords.{made-accepted, made-answer}
+use Rattle.compare_call.proofs.induced_image.Statement.{statement}
+use Rattle.compare_call.proofs.induced_image.Tie as tie
+
+induced-codes-requires : tie.Need-induced-codes-requires
+induced-codes-requires c κs = let q = c .before .before .before .before .before .before .pre in
+    let L = q .1 .0 in (
+      (q .0 .codes-length ∙ sym (L .2), L .0 ∙ sym (L .2)),
+      (L .1 ∙ sym (L .2), (q .0 .codes-below, q .1 .1 .0, q .1 .1 .1)),
+    )
+
+image-answer-requires : tie.Need-image-answer-requires
+image-answer-requires c κs = let P = c .before .before .before in
+    let S = P .before .before .before .before .before .before .before in
+    let a = S .args in
+    made-accepted (a .n) (a .neighbours .now) (a .codes .now) (a .choice .now) (a .codes2 .now) (S .pre .0)
+    (a .induced .now) _ (S .pre .1 .0 .2) (P .induced-codes .ensures)
+
+same-length : tie.Need-same-length
+same-length c = search needs
+
+returns : tie.Need-returns
+returns c = let P = c .before .before .before .before in
+    let S = P .before .before .before .before .before .before .before in
+    let a = S .args in
+    made-answer (a .n) (a .neighbours .now) (a .codes .now) (a .choice .now) (a .codes2 .now) (S .pre .0)
+    (a .induced .now) _ (S .pre .1 .0 .2) (P .induced-codes .ensures) _ (c .image-answer .ensures)
+
+pub induced-image-spec : {M : Type 1} → statement M
+induced-image-spec =
+    tie.close (tie.spec induced-codes-requires image-answer-requires same-length returns)

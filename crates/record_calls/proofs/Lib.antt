@@ -1,0 +1,2 @@
+pub mod InPlaceLines
+pub mod InPlaceCalls

@@ -1,9 +1,0 @@
-pub mod Lists
-pub mod Records
-pub mod ImageCalls
-pub mod InPlaceLines
-pub mod InPlaceCalls
-pub mod PairLines
-pub mod ReducedPairs
-pub mod Comparing
-pub mod InducedRecords
