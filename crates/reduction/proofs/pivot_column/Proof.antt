@@ -10,20 +10,27 @@ lend-bit-requires c κs = search needs
 put-bit-requires : tie.Need-put-bit-requires
 put-bit-requires c κs = search needs
 
-shear-rows-requires : tie.Need-shear-rows-requires
-shear-rows-requires c κs = let S = c .before .before .before .before in
-    let lent = c .before .before .lend-bit .ensures in (
-      (S .pre .column, pivot-not-named _ _ _ _ (S .pre) _ lent _ (c .put-bit .ensures)),
-      cleared-commutes _ _ _ _ (S .pre) _ lent _ (c .put-bit .ensures)
-          (far-row (S .args .rows) (S .args .signs .now) (S .args .q) (S .good .0 .1 .0 .1)),
+shear-in-place-requires : tie.Need-shear-in-place-requires
+shear-in-place-requires c κs = let B = c .before .before .before in
+    let S = B .before .before .before in
+    let lent = B .lend-bit .ensures .1 in (
+      (
+        S .pre .1 .column,
+        pivot-not-named _ _ _ _ (S .pre .1) _ lent _ (c .put-bit .ensures),
+        B .lend-bit .ensures .0,
+      ),
+      cleared-commutes _ _ _ _ (S .pre .1) _ lent _ (c .put-bit .ensures)
+          (far-row (S .args .rows .now) (S .args .signs .now) (S .args .q) (S .pre .0)),
     )
 
 returns : tie.Need-returns
-returns c = let S = c .before .before .before .before .before in
-    λ j. c .shear-rows .ensures j
-    ∙ cleared _ _ _ _ (S .pre) _ (c .before .before .before .lend-bit .ensures) _
-    (c .before .put-bit .ensures) j
+returns c = let B = c .before .before .before .before in
+    let S = B .before .before .before in (
+      c .shear-in-place .ensures .0,
+      λ j. c .shear-in-place .ensures .1 j
+          ∙ cleared _ _ _ _ (S .pre .1) _ (B .lend-bit .ensures .1) _ (c .before .put-bit .ensures) j,
+    )
 
 pub pivot-column-spec : {M : Type 1} → statement M
 pivot-column-spec =
-    tie.close (tie.spec lend-bit-requires put-bit-requires shear-rows-requires returns)
+    tie.close (tie.spec lend-bit-requires put-bit-requires shear-in-place-requires returns)
