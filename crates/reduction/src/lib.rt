@@ -20,7 +20,7 @@ ghost use Rattle.pauli.specs.Pauli.{Pauli, anticommute};
 ghost use Rattle.record.specs.Lent.{codeNumbers, neighbourWords};
 ghost use Rattle.record.specs.Reduced.{hadamardWhere, plainCode, recordOf, reduced, withHadamard};
 ghost use Rattle.reduction.specs.Passes.{Eliminated, Loaded, PivotReady, Reducible};
-ghost use Rattle.stabilizer.specs.Elimination.{lend, pivotOn, shear};
+ghost use Rattle.stabilizer.specs.Elimination.{pivotOn, shear};
 ghost use Rattle.stabilizer.specs.Groups.{Within};
 ghost use Rattle.stabilizer.specs.Lists.{dependent, rows};
 ghost use Rattle.stabilizer.specs.Tableau.{tableau};
@@ -29,9 +29,11 @@ ghost use Rattle.words.specs.Bits.{Word, bit};
 // Row a multiplied into each row that the word named names, in place.
 fn shear_in_place(rows: &mut [[u64; 2]; 64], signs: &mut u64, a: usize, named: u64)
     requires { ⌜ (a < 64) × (bit named a ≡ false) × (length (now rows) ≡ 64) ⌝ }
-    requires { ⌜ ((j : ℕ) → bit named j ≡ true → anticommute 64 (tableau (now signs) (now rows) j) (tableau (now signs) (now rows) a) ≡ false) ⌝ }
+    requires { ⌜ ((j : ℕ) → bit named j ≡ true
+        → anticommute 64 (tableau (now signs) (now rows) j) (tableau (now signs) (now rows) a) ≡ false) ⌝ }
     ensures { λ r. ⌜ length (now (rows .exit)) ≡ 64 ⌝ }
-    ensures { λ r. ⌜ ((j : ℕ) → tableau (now (signs .exit)) (now (rows .exit)) j ≡ shear 64 (tableau (now (signs .entry)) (now (rows .entry))) a (bit named) j) ⌝ }
+    ensures { λ r. ⌜ ((j : ℕ) → tableau (now (signs .exit)) (now (rows .exit)) j
+        ≡ shear 64 (tableau (now (signs .entry)) (now (rows .entry))) a (bit named) j) ⌝ }
 {
     let by = rows[a];
     let sign = has(*signs, a);
@@ -46,11 +48,13 @@ fn shear_in_place(rows: &mut [[u64; 2]; 64], signs: &mut u64, a: usize, named: u
     }
 }
 
-// The same by value.
+// Row a multiplied into each row that the word named names, by value.
 pub fn shear_rows(mut rows: [[u64; 2]; 64], signs: &mut u64, a: usize, named: u64) -> [[u64; 2]; 64]
     requires { ⌜ (a < 64) × (bit named a ≡ false) ⌝ }
-    requires { ⌜ ((j : ℕ) → bit named j ≡ true → anticommute 64 (tableau (now signs) rows j) (tableau (now signs) rows a) ≡ false) ⌝ }
-    ensures { λ r. ⌜ ((j : ℕ) → tableau (now (signs .exit)) r j ≡ shear 64 (tableau (now (signs .entry)) rows) a (bit named) j) ⌝ }
+    requires { ⌜ ((j : ℕ) → bit named j ≡ true
+        → anticommute 64 (tableau (now signs) rows j) (tableau (now signs) rows a) ≡ false) ⌝ }
+    ensures { λ r. ⌜ ((j : ℕ) → tableau (now (signs .exit)) r j
+        ≡ shear 64 (tableau (now (signs .entry)) rows) a (bit named) j) ⌝ }
 {
     shear_in_place(&mut rows, signs, a, named);
     rows
@@ -71,26 +75,18 @@ fn column(rows: &[[u64; 2]; 64], n: usize, q: usize) -> u64
     word
 }
 
-// Row i, which has x bit q, lends it to row q where that one lacks it.
-fn lend_bit(rows: &mut [[u64; 2]; 64], signs: &mut u64, q: usize, i: usize, holders: u64)
-    requires { ⌜ length (now rows) ≡ 64 ⌝ }
-    requires { ⌜ PivotReady (tableau (now signs) (now rows)) q i holders ⌝ }
-    ensures { λ r. ⌜ length (now (rows .exit)) ≡ 64 ⌝ }
-    ensures { λ r. ⌜ ((j : ℕ) → tableau (now (signs .exit)) (now (rows .exit)) j ≡ shear 64 (tableau (now (signs .entry)) (now (rows .entry))) i (lend (tableau (now (signs .entry)) (now (rows .entry))) q) j) ⌝ }
-{
-    if !has(holders, q) {
-        shear_in_place(rows, signs, i, single(q));
-    }
-}
-
-// The pivot of column q: row i lends its x bit to row q, and row q clears it from every other row.
+// The pivot of column q: row i lends its x bit to row q, where that one lacks it, and row q clears it from every
+// other row.
 fn pivot_column(rows: &mut [[u64; 2]; 64], signs: &mut u64, q: usize, i: usize, holders: u64)
     requires { ⌜ length (now rows) ≡ 64 ⌝ }
     requires { ⌜ PivotReady (tableau (now signs) (now rows)) q i holders ⌝ }
     ensures { λ r. ⌜ length (now (rows .exit)) ≡ 64 ⌝ }
-    ensures { λ r. ⌜ ((j : ℕ) → tableau (now (signs .exit)) (now (rows .exit)) j ≡ pivotOn 64 (tableau (now (signs .entry)) (now (rows .entry))) q i j) ⌝ }
+    ensures { λ r. ⌜ ((j : ℕ) → tableau (now (signs .exit)) (now (rows .exit)) j
+        ≡ pivotOn 64 (tableau (now (signs .entry)) (now (rows .entry))) q i j) ⌝ }
 {
-    lend_bit(rows, signs, q, i, holders);
+    if !has(holders, q) {
+        shear_in_place(rows, signs, i, single(q));
+    }
     shear_in_place(rows, signs, q, put_bit(holders, q, false))
 }
 
