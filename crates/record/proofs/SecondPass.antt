@@ -70,13 +70,13 @@ module _ (n : ℕ) (rotated R : ℕ → Pauli) (kept pivoted : Word) (q : ℕ) (
         holds = inv .holds;
       }
 
-  -- the column has its pivot from the first pass
-  pub second-pass-kept : kept q ≡ true → SecondPass n rotated R kept pivoted (suc q)
-  second-pass-kept e = second-pass-skip (λ i l. go i (pivoted i) refl)
+  -- the column has its pivot already
+  pub second-pass-pivoted : pivoted q ≡ true → SecondPass n rotated R kept pivoted (suc q)
+  second-pass-pivoted e = second-pass-skip (λ i l. go i (pivoted i) refl)
     where
       go : (i : ℕ) (b : Bool) → pivoted i ≡ b → (not b && (R i) .x q) ≡ false
       go i true a = refl
-      go i false a = no-bit q (inv .holds q e) i a
+      go i false a = no-bit q e i a
 
   -- an unused row i has the bit: a pivot
   module _ (i : ℕ) (hi : i < n) (e : (not (pivoted i) && (R i) .x q) ≡ true) where

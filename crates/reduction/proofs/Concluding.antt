@@ -4,7 +4,7 @@ use mathlib.Core.Bool.{_&&_, Bool, cond, false, false≢true, not, true, true≢
 use mathlib.Core.Logic.{inl, inr, _⊎_}
 use mathlib.Core.Path.{ap, ap₂, fun-ext, refl, subst, sym, _∙_, _≡_}
 use Prim.Native.Nat.{_-_, _<_, _^_, ℕ, _≤_}
-use native.Mathlib.Nat.{lt-irrefl}
+use native.Mathlib.Nat.{le-refl, lt-irrefl}
 use native.Mathlib.Omega.{arith}
 use lib.Bits.{bitXor}
 use lib.Dec.{ltb}
@@ -14,9 +14,16 @@ use Rattle.clifford.proofs.VectorLaws.{act-cong, act-identity}
 use Rattle.clifford.specs.Clifford.{cliffordOf, identityClifford}
 use Rattle.clifford.specs.Vectors.{act}
 use Rattle.pauli.specs.Pauli.{Pauli}
-use Rattle.record.proofs.FirstPass.{FirstPass, first-pass-pivot, first-pass-skip, first-start}
+use Rattle.record.proofs.FirstPass.{FirstPass, first-pass-pivot, first-pass-skip, first-start, not-both}
 use Rattle.record.proofs.Reduction.{passes-dependent, passes-equation, passes-independent}
-use Rattle.record.proofs.SecondPass.{SecondPass, failed, second-pass-pivot, second-pass-skip, second-start}
+use Rattle.record.proofs.SecondPass.{
+  SecondPass,
+  failed,
+  second-pass-pivot,
+  second-pass-pivoted,
+  second-pass-skip,
+  second-start,
+}
 use Rattle.record.proofs.SimpleLines.{differ}
 use Rattle.record.proofs.Unique.{record-path}
 use Rattle.record.specs.Reduced.{hadamardWhere, recordOf, reduced}
@@ -32,12 +39,14 @@ use Rattle.words.proofs.Sums.{lt-or-ge}
 use Rattle.words.specs.Bits.{Word, bit, _⊕_}
 use Rattle.words.specs.Search.{IsFirst, first}
 use Rattle.reduction.proofs.Passing.{eliminated-loaded}
-use Rattle.reduction.specs.Passes.{Eliminated, Loaded, pivot, skip, start}
+use Rattle.reduction.specs.Passes.{Eliminated, Loaded, pivot, pivoted, skip, start}
 
 -- ---- the passes of the laws, from those of the code
 pub first-of : (n : ℕ) {R : ℕ → Pauli} {w : Word} {q : ℕ} {R₀ : ℕ → Pauli} {w₀ : Word} →
     FirstPass n R₀ R₀ w₀ 0 → Eliminated n R₀ w₀ R w q → FirstPass n R₀ R w q
 first-of n F start = F
+first-of n F (pivoted {q = q} E hq e) =
+    absurd (not-both e (first-of n F E .ahead q (le-refl q)))
 first-of n {R₀ = R₀} F (skip {R = R} {w = w} {q = q} E hq none) =
     first-pass-skip n R₀ R w q hq (first-of n F E) none
 first-of n {R₀ = R₀} F (pivot {R = R} {w = w} {q = q} E hq i hi e) =
@@ -46,6 +55,8 @@ first-of n {R₀ = R₀} F (pivot {R = R} {w = w} {q = q} E hq i hi e) =
 pub second-of : (n : ℕ) {R : ℕ → Pauli} {w : Word} {q : ℕ} {R₀ : ℕ → Pauli} {w₀ : Word} →
     SecondPass n R₀ R₀ w₀ w₀ 0 → Eliminated n R₀ w₀ R w q → SecondPass n R₀ R w₀ w q
 second-of n F start = F
+second-of n {R₀ = R₀} {w₀ = w₀} F (pivoted {R = R} {w = w} {q = q} E hq e) =
+    second-pass-pivoted n R₀ R w₀ w q hq (second-of n F E) e
 second-of n {R₀ = R₀} {w₀ = w₀} F (skip {R = R} {w = w} {q = q} E hq none) =
     second-pass-skip n R₀ R w₀ w q hq (second-of n F E) none
 second-of n {R₀ = R₀} {w₀ = w₀} F (pivot {R = R} {w = w} {q = q} E hq i hi e) =
@@ -55,6 +66,7 @@ second-of n {R₀ = R₀} {w₀ = w₀} F (pivot {R = R} {w = w} {q = q} E hq i 
 pivots-below : (n : ℕ) {R : ℕ → Pauli} {w : Word} {q : ℕ} {R₀ : ℕ → Pauli} {w₀ : Word} →
     ((t : ℕ) → n ≤ t → w₀ t ≡ false) → Eliminated n R₀ w₀ R w q → (t : ℕ) → n ≤ t → w t ≡ false
 pivots-below n h start t l = h t l
+pivots-below n h (pivoted E hq e) t l = pivots-below n h E t l
 pivots-below n h (skip E hq none) t l = pivots-below n h E t l
 pivots-below n h (pivot {w = w} {q = q} E hq i hi e) t l =
     put-other w q true t (λ p. lt-irrefl n (omega (arith, hq, p, l))) ∙ pivots-below n h E t l

@@ -27,7 +27,7 @@ use Rattle.words.proofs.Places.{other-place}
 use Rattle.words.proofs.Sums.{lt-or-ge}
 use Rattle.words.proofs.Trailing.{trailing-set}
 use Rattle.words.specs.Bits.{Word, bit, put, _⊕_}
-use Rattle.reduction.specs.Passes.{Eliminated, Loaded, PivotReady, pivot, skip, start}
+use Rattle.reduction.specs.Passes.{Eliminated, Loaded, PivotReady, pivot, pivoted, skip, start}
 
 -- ---- at 64 qubits and rows instead of n
 module _ (n : ℕ) (l : n ≤ 64) (R : ℕ → Pauli) (L : Loaded n R) where
@@ -84,6 +84,7 @@ module _ (n : ℕ) (l : n ≤ 64) (R : ℕ → Pauli) (L : Loaded n R) (q i : �
 pub eliminated-loaded : (n : ℕ) → n ≤ 64 → {R₀ : ℕ → Pauli} {w₀ : Word} {R : ℕ → Pauli} {w : Word} {q : ℕ} →
     Loaded n R₀ → Eliminated n R₀ w₀ R w q → Loaded n R
 eliminated-loaded n l L start = L
+eliminated-loaded n l L (pivoted E hq e) = eliminated-loaded n l L E
 eliminated-loaded n l L (skip E hq none) = eliminated-loaded n l L E
 eliminated-loaded n l L (pivot {R = R} {w = w} {q = q} E hq i hi e) =
     loaded-pivot n l R (eliminated-loaded n l L E) q i hq hi (unused-bit (w i) ((R i) .x q) e)

@@ -16,10 +16,12 @@ pub record Loaded (n : ℕ) (R : ℕ → Pauli) : Type 0 where
   pub within : (i : ℕ) → Within n (R i)
   pub beyond : (i : ℕ) → n ≤ i → R i ≡ identity
 
--- one pass over the columns below q, from the rows R₀ and the pivots w₀: a column is passed over where no unused
--- row has its x bit, or it gets its pivot from an unused row i that has it
+-- one pass over the columns below q, from the rows R₀ and the pivots w₀: a column is passed over where it has its
+-- pivot already or no unused row has its x bit, or it gets its pivot from an unused row i that has it
 pub data Eliminated (n : ℕ) (R₀ : ℕ → Pauli) (w₀ : Word) : (ℕ → Pauli) → Word → ℕ → Type 0 where
   start : Eliminated n R₀ w₀ R₀ w₀ 0
+  pivoted : {R : ℕ → Pauli} {w : Word} {q : ℕ} → Eliminated n R₀ w₀ R w q → q < n → w q ≡ true →
+      Eliminated n R₀ w₀ R w (suc q)
   skip : {R : ℕ → Pauli} {w : Word} {q : ℕ} → Eliminated n R₀ w₀ R w q → q < n →
       ((i : ℕ) → i < n → (not (w i) && (R i) .x q) ≡ false) → Eliminated n R₀ w₀ R w (suc q)
   pivot : {R : ℕ → Pauli} {w : Word} {q : ℕ} → Eliminated n R₀ w₀ R w q → q < n → (i : ℕ) → i < n →

@@ -20,17 +20,20 @@ ghost use Rattle.pauli.specs.Pauli.{Pauli, anticommute};
 ghost use Rattle.record.specs.Lent.{codeNumbers, neighbourWords};
 ghost use Rattle.record.specs.Reduced.{hadamardWhere, plainCode, recordOf, reduced, withHadamard};
 ghost use Rattle.reduction.specs.Passes.{Eliminated, Loaded, PivotReady, Reducible};
-ghost use Rattle.stabilizer.specs.Elimination.{lend, pivotOn, shear};
+ghost use Rattle.stabilizer.specs.Elimination.{pivotOn, shear};
 ghost use Rattle.stabilizer.specs.Groups.{Within};
 ghost use Rattle.stabilizer.specs.Lists.{dependent, rows};
 ghost use Rattle.stabilizer.specs.Tableau.{tableau};
 ghost use Rattle.words.specs.Bits.{Word, bit};
 
-// Row a multiplied into each row that the word named names.
-pub fn shear_rows(mut rows: [[u64; 2]; 64], signs: &mut u64, a: usize, named: u64) -> [[u64; 2]; 64]
-    requires { ⌜ (a < 64) × (bit named a ≡ false) ⌝ }
-    requires { ⌜ ((j : ℕ) → bit named j ≡ true → anticommute 64 (tableau (now signs) rows j) (tableau (now signs) rows a) ≡ false) ⌝ }
-    ensures { λ r. ⌜ ((j : ℕ) → tableau (now (signs .exit)) r j ≡ shear 64 (tableau (now (signs .entry)) rows) a (bit named) j) ⌝ }
+// Row a multiplied into each row that the word named names, in place.
+fn shear_in_place(rows: &mut [[u64; 2]; 64], signs: &mut u64, a: usize, named: u64)
+    requires { ⌜ (a < 64) × (bit named a ≡ false) × (length (now rows) ≡ 64) ⌝ }
+    requires { ⌜ ((j : ℕ) → bit named j ≡ true
+        → anticommute 64 (tableau (now signs) (now rows) j) (tableau (now signs) (now rows) a) ≡ false) ⌝ }
+    ensures { λ r. ⌜ length (now (rows .exit)) ≡ 64 ⌝ }
+    ensures { λ r. ⌜ ((j : ℕ) → tableau (now (signs .exit)) (now (rows .exit)) j
+        ≡ shear 64 (tableau (now (signs .entry)) (now (rows .entry))) a (bit named) j) ⌝ }
 {
     let by = rows[a];
     let sign = has(*signs, a);
@@ -43,6 +46,17 @@ pub fn shear_rows(mut rows: [[u64; 2]; 64], signs: &mut u64, a: usize, named: u6
         *signs = flip_where(*signs, j, sign != minus);
         rest = flip(rest, j);
     }
+}
+
+// Row a multiplied into each row that the word named names, by value.
+pub fn shear_rows(mut rows: [[u64; 2]; 64], signs: &mut u64, a: usize, named: u64) -> [[u64; 2]; 64]
+    requires { ⌜ (a < 64) × (bit named a ≡ false) ⌝ }
+    requires { ⌜ ((j : ℕ) → bit named j ≡ true
+        → anticommute 64 (tableau (now signs) rows j) (tableau (now signs) rows a) ≡ false) ⌝ }
+    ensures { λ r. ⌜ ((j : ℕ) → tableau (now (signs .exit)) r j
+        ≡ shear 64 (tableau (now (signs .entry)) rows) a (bit named) j) ⌝ }
+{
+    shear_in_place(&mut rows, signs, a, named);
     rows
 }
 
@@ -61,40 +75,23 @@ fn column(rows: &[[u64; 2]; 64], n: usize, q: usize) -> u64
     word
 }
 
-// Row i, which has x bit q, lends it to row q where that one lacks it.
-fn lend_bit(
-    rows: [[u64; 2]; 64],
-    signs: &mut u64,
-    q: usize,
-    i: usize,
-    holders: u64,
-) -> [[u64; 2]; 64]
-    requires { ⌜ PivotReady (tableau (now signs) rows) q i holders ⌝ }
-    ensures { λ r. ⌜ ((j : ℕ) → tableau (now (signs .exit)) r j ≡ shear 64 (tableau (now (signs .entry)) rows) i (lend (tableau (now (signs .entry)) rows) q) j) ⌝ }
+// The pivot of column q: row i lends its x bit to row q, where that one lacks it, and row q clears it from every
+// other row.
+fn pivot_column(rows: &mut [[u64; 2]; 64], signs: &mut u64, q: usize, i: usize, holders: u64)
+    requires { ⌜ length (now rows) ≡ 64 ⌝ }
+    requires { ⌜ PivotReady (tableau (now signs) (now rows)) q i holders ⌝ }
+    ensures { λ r. ⌜ length (now (rows .exit)) ≡ 64 ⌝ }
+    ensures { λ r. ⌜ ((j : ℕ) → tableau (now (signs .exit)) (now (rows .exit)) j
+        ≡ pivotOn 64 (tableau (now (signs .entry)) (now (rows .entry))) q i j) ⌝ }
 {
-    if has(holders, q) {
-        return rows;
+    if !has(holders, q) {
+        shear_in_place(rows, signs, i, single(q));
     }
-    shear_rows(rows, signs, i, single(q))
+    shear_in_place(rows, signs, q, put_bit(holders, q, false))
 }
 
-// The pivot of column q: row i lends its x bit to row q, and row q clears it from every other row.
-fn pivot_column(
-    rows: [[u64; 2]; 64],
-    signs: &mut u64,
-    q: usize,
-    i: usize,
-    holders: u64,
-) -> [[u64; 2]; 64]
-    requires { ⌜ PivotReady (tableau (now signs) rows) q i holders ⌝ }
-    ensures { λ r. ⌜ ((j : ℕ) → tableau (now (signs .exit)) r j ≡ pivotOn 64 (tableau (now (signs .entry)) rows) q i j) ⌝ }
-{
-    let lent = lend_bit(rows, signs, q, i, holders);
-    shear_rows(lent, signs, q, put_bit(holders, q, false))
-}
-
-// A pass over the columns below n: where an unused row has x bit q, column q gets its pivot. The word pivots names the
-// rows that are pivots already.
+// A pass over the columns below n that have no pivot: where an unused row has x bit q, column q gets its pivot. The
+// word pivots names the columns that have one, and so their rows.
 fn pass(mut rows: [[u64; 2]; 64], signs: &mut u64, n: usize, pivots: &mut u64) -> [[u64; 2]; 64]
     requires { ⌜ (n ≤ 64) × Loaded n (tableau (now signs) rows) ⌝ }
     ensures { λ r. ⌜ Eliminated n (tableau (now (signs .entry)) rows) (bit (now (pivots .entry)))
@@ -102,12 +99,13 @@ fn pass(mut rows: [[u64; 2]; 64], signs: &mut u64, n: usize, pivots: &mut u64) -
 {
     let mut q = 0;
     while q < n {
-        let holders = column(&rows, n, q);
-        let free = holders ^ (holders & *pivots);
-        if free != 0 {
-            let next = pivot_column(rows, signs, q, smallest(free), holders);
-            rows = next;
-            *pivots = put_bit(*pivots, q, true);
+        if !has(*pivots, q) {
+            let holders = column(&rows, n, q);
+            let free = holders ^ (holders & *pivots);
+            if free != 0 {
+                pivot_column(&mut rows, signs, q, smallest(free), holders);
+                *pivots = put_bit(*pivots, q, true);
+            }
         }
         q += 1;
     }

@@ -4,26 +4,26 @@ use native.Mathlib.Omega.{arith}
 use borrow.Author.Needs.{needs}
 use Rattle.words.proofs.BitLaws.{flip-less}
 use Rattle.reduction.proofs.Shearing.{Sheared, next-row, shear-end, shear-start, shear-step}
-use Rattle.reduction.proofs.shear_rows.Statement.{statement}
-use Rattle.reduction.proofs.shear_rows.Tie as tie
+use Rattle.reduction.proofs.shear_in_place.Statement.{statement}
+use Rattle.reduction.proofs.shear_in_place.Tie as tie
 
 abbrev Inv-loop : tie.InvT-loop
-Inv-loop signs₀ a named rows₀ by sign rest₀ signs rows rest = Sheared rows₀ signs₀ a named rows signs rest
+Inv-loop rows₀ signs₀ a named by sign rest₀ rows signs rest = Sheared rows₀ signs₀ a named rows signs rest
 
 abbrev μ-loop : tie.MeasureT-loop
-μ-loop signs₀ a named rows₀ by sign rest₀ signs rows rest = rest
+μ-loop rows₀ signs₀ a named by sign rest₀ rows signs rest = rest
 
 mul-by : tie.Need-mul-by Inv-loop μ-loop
 mul-by c = search needs
 
-array-copy-out-by : tie.Need-array-copy-out-by Inv-loop μ-loop
-array-copy-out-by c = search needs
+element-copy-out-by : tie.Need-element-copy-out-by Inv-loop μ-loop
+element-copy-out-by c = search needs
 
 has-requires : tie.Need-has-requires Inv-loop μ-loop
 has-requires c κs = search needs
 
 loop-holds : tie.Need-loop-holds Inv-loop μ-loop
-loop-holds c = shear-start _ _ _ _ (c .before .before .before .good .0 .1 .0 .1)
+loop-holds c = shear-start _ _ _ _ (c .before .before .before .pre .0 .2)
 
 smallest-requires : tie.Need-smallest-requires Inv-loop μ-loop
 smallest-requires c κs = search needs
@@ -31,14 +31,14 @@ smallest-requires c κs = search needs
 mul-row : tie.Need-mul-row Inv-loop μ-loop
 mul-row c = search needs
 
-array-copy-out-row : tie.Need-array-copy-out-row Inv-loop μ-loop
-array-copy-out-row c = let E = c in
+element-copy-out-row : tie.Need-element-copy-out-row Inv-loop μ-loop
+element-copy-out-row c = let E = c in
     let T = E .before in
     let L = T .before .loop in
     let S = T .before .before .before .before .before in
     omega (
       arith,
-      (next-row (S .args .t1) (S .args .signs .now) (S .args .a) (S .args .named) (L .rows)
+      (next-row (S .args .rows .now) (S .args .signs .now) (S .args .a) (S .args .named) (L .rows)
           (L .signs) (L .rest) (L .inv) (S .fits .named .fits) (T .loop-test .taken)
           (E .smallest .ensures .0)) .0,
     )
@@ -58,29 +58,29 @@ array-read-letters-minus-4 c = search needs
 letters-minus-requires : tie.Need-letters-minus-requires Inv-loop μ-loop
 letters-minus-requires c κs = search needs
 
-array-read-t24 : tie.Need-array-read-t24 Inv-loop μ-loop
-array-read-t24 c = search needs
+array-read-t23 : tie.Need-array-read-t23 Inv-loop μ-loop
+array-read-t23 c = search needs
 
-array-read-t33 : tie.Need-array-read-t33 Inv-loop μ-loop
-array-read-t33 c = search needs
+array-read-t32 : tie.Need-array-read-t32 Inv-loop μ-loop
+array-read-t32 c = search needs
 
-array-read-t27 : tie.Need-array-read-t27 Inv-loop μ-loop
-array-read-t27 c = search needs
+array-read-t26 : tie.Need-array-read-t26 Inv-loop μ-loop
+array-read-t26 c = search needs
 
-array-read-t42 : tie.Need-array-read-t42 Inv-loop μ-loop
-array-read-t42 c = search needs
+array-read-t41 : tie.Need-array-read-t41 Inv-loop μ-loop
+array-read-t41 c = search needs
 
-mul-rows : tie.Need-mul-rows Inv-loop μ-loop
-mul-rows c = search needs
+mul-t17 : tie.Need-mul-t17 Inv-loop μ-loop
+mul-t17 c = search needs
 
-array-set-from-rows : tie.Need-array-set-from-rows Inv-loop μ-loop
-array-set-from-rows c = let E = c .before .before in
+element-set-from-rows : tie.Need-element-set-from-rows Inv-loop μ-loop
+element-set-from-rows c = let E = c .before .before in
     let T = E .before in
     let L = T .before .loop in
     let S = T .before .before .before .before .before in
     omega (
       arith,
-      (next-row (S .args .t1) (S .args .signs .now) (S .args .a) (S .args .named) (L .rows)
+      (next-row (S .args .rows .now) (S .args .signs .now) (S .args .a) (S .args .named) (L .rows)
           (L .signs) (L .rest) (L .inv) (S .fits .named .fits) (T .loop-test .taken)
           (E .smallest .ensures .0)) .0,
     )
@@ -92,7 +92,7 @@ flip-where-requires c κs = let E = c .before .before .before in
     let S = T .before .before .before .before .before in
     omega (
       arith,
-      (next-row (S .args .t1) (S .args .signs .now) (S .args .a) (S .args .named) (L .rows)
+      (next-row (S .args .rows .now) (S .args .signs .now) (S .args .a) (S .args .named) (L .rows)
           (L .signs) (L .rest) (L .inv) (S .fits .named .fits) (T .loop-test .taken)
           (E .smallest .ensures .0)) .0,
     )
@@ -104,7 +104,7 @@ flip-requires c κs = let E = c .before .before .before .before in
     let S = T .before .before .before .before .before in
     omega (
       arith,
-      (next-row (S .args .t1) (S .args .signs .now) (S .args .a) (S .args .named) (L .rows)
+      (next-row (S .args .rows .now) (S .args .signs .now) (S .args .a) (S .args .named) (L .rows)
           (L .signs) (L .rest) (L .inv) (S .fits .named .fits) (T .loop-test .taken)
           (E .smallest .ensures .0)) .0,
     )
@@ -116,7 +116,7 @@ loop-less c = let E = c .before .before .before .before .before in
     let S = T .before .before .before .before .before in
     subst (λ v. v < L .rest) (sym (c .flip .ensures))
     (flip-less (L .rest) _
-    ((next-row (S .args .t1) (S .args .signs .now) (S .args .a) (S .args .named) (L .rows) (L .signs)
+    ((next-row (S .args .rows .now) (S .args .signs .now) (S .args .a) (S .args .named) (L .rows) (L .signs)
     (L .rest) (L .inv) (S .fits .named .fits) (T .loop-test .taken) (E .smallest .ensures .0)) .1))
 
 loop-again : tie.Need-loop-again Inv-loop μ-loop
@@ -124,11 +124,11 @@ loop-again c = let E = c .before .before .before .before .before in
     let T = E .before in
     let L = T .before .loop in
     let S = T .before .before .before .before .before in
-    shear-step (S .args .t1) (S .args .signs .now) (S .args .a) (S .args .named) (L .rows) (L .signs)
+    shear-step (S .args .rows .now) (S .args .signs .now) (S .args .a) (S .args .named) (L .rows) (L .signs)
     (L .rest) (E .smallest .result)
-    (L .inv) ((next-row (S .args .t1) (S .args .signs .now) (S .args .a) (S .args .named) (L .rows) (L .signs)
+    (L .inv) ((next-row (S .args .rows .now) (S .args .signs .now) (S .args .a) (S .args .named) (L .rows) (L .signs)
     (L .rest) (L .inv) (S .fits .named .fits) (T .loop-test .taken) (E .smallest .ensures .0)) .1)
-    ((next-row (S .args .t1) (S .args .signs .now) (S .args .a) (S .args .named) (L .rows) (L .signs)
+    ((next-row (S .args .rows .now) (S .args .signs .now) (S .args .a) (S .args .named) (L .rows) (L .signs)
     (L .rest) (L .inv) (S .fits .named .fits) (T .loop-test .taken) (E .smallest .ensures .0)) .0)
     (S .pre .1) _ _ _ (T .before .before .has .result) (c .before .before .before .letters-minus .result)
     (T .before .before .has .ensures)
@@ -137,34 +137,36 @@ loop-again c = let E = c .before .before .before .before .before in
 
 returns : tie.Need-returns Inv-loop μ-loop
 returns c = let L = c .before .loop in
-    let S = c .before .before .before .before .before in
-    shear-end (S .args .t1) (S .args .signs .now) (S .args .a) (S .args .named) (L .rows) (L .signs) (L .rest)
-    (L .inv) (c .loop-test .left)
+    let S = c .before .before .before .before .before in (
+      L .inv .long,
+      shear-end (S .args .rows .now) (S .args .signs .now) (S .args .a) (S .args .named) (L .rows) (L .signs)
+          (L .rest) (L .inv) (c .loop-test .left),
+    )
 
-pub shear-rows-spec : {M : Type 1} → statement M
-shear-rows-spec =
+pub shear-in-place-spec : {M : Type 1} → statement M
+shear-in-place-spec =
     tie.close
     (tie.spec
     Inv-loop
     μ-loop
     mul-by
-    array-copy-out-by
+    element-copy-out-by
     has-requires
     loop-holds
     smallest-requires
     mul-row
-    array-copy-out-row
+    element-copy-out-row
     array-read-letters-minus
     array-read-letters-minus-2
     array-read-letters-minus-3
     array-read-letters-minus-4
     letters-minus-requires
-    array-read-t24
-    array-read-t33
-    array-read-t27
-    array-read-t42
-    mul-rows
-    array-set-from-rows
+    array-read-t23
+    array-read-t32
+    array-read-t26
+    array-read-t41
+    mul-t17
+    element-set-from-rows
     flip-where-requires
     flip-requires
     loop-less
