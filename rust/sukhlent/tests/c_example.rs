@@ -1,16 +1,17 @@
-//! The C example, compiled with the header and the static library, prints its stored output.
+//! The C examples, compiled with the header and the static library, print their stored outputs.
 
 use std::path::Path;
 use std::process::Command;
 
-#[test]
-fn bell_prints_its_stored_output() {
+/// Compiles and runs examples/c/NAME.c, and compares what it prints with NAME.out.
+fn assert_prints_its_stored_output(name: &str) {
     let root = Path::new(env!("CARGO_MANIFEST_DIR")).join("../..");
-    let program = Path::new(env!("CARGO_TARGET_TMPDIR")).join("bell");
+    let example = root.join("examples/c").join(name);
+    let program = Path::new(env!("CARGO_TARGET_TMPDIR")).join(name);
     let compiled = Command::new("cc")
         .args(["-std=c99", "-pedantic", "-Wall", "-Wextra", "-Werror", "-I"])
         .arg(root.join("include"))
-        .arg(root.join("examples/c/bell.c"))
+        .arg(example.with_extension("c"))
         .arg(root.join("target/staticlib/libsukhlent.a"))
         .arg("-o")
         .arg(&program)
@@ -22,6 +23,16 @@ fn bell_prints_its_stored_output() {
 
     let run = Command::new(&program).output().expect("the example runs");
     assert!(run.status.success());
-    let stored = std::fs::read_to_string(root.join("examples/c/bell.out")).unwrap();
+    let stored = std::fs::read_to_string(example.with_extension("out")).unwrap();
     assert_eq!(String::from_utf8_lossy(&run.stdout), stored);
+}
+
+#[test]
+fn bell_prints_its_stored_output() {
+    assert_prints_its_stored_output("bell");
+}
+
+#[test]
+fn session_prints_its_stored_output() {
+    assert_prints_its_stored_output("session");
 }
