@@ -1,21 +1,4 @@
 //! Calls that rewrite a record in place. A refused call leaves the record as it was.
-//!
-//! ```
-//! use sukhlent::{gate, measure, Measured, Pauli, Record};
-//!
-//! // The Bell state XX, ZZ: one edge with a Hadamard at qubit 1.
-//! let mut record = Record {
-//!     neighbours: vec![0b10, 0b01],
-//!     codes: vec![0, 8],
-//! };
-//! let first = measure(&mut record, Pauli::Z, 0, 1)?;
-//! assert_eq!(first, Measured { outcome: 1, determined: false });
-//! assert_eq!(record.codes, [10, 10]);
-//! gate(&mut record, 1, 1)?;
-//! let second = measure(&mut record, Pauli::Z, 1, 1)?;
-//! assert_eq!(second, Measured { outcome: 0, determined: true });
-//! # Ok::<(), sukhlent::Refusal>(())
-//! ```
 
 use crate::{raw, Record, Refusal};
 
@@ -64,6 +47,23 @@ pub fn cz(record: &mut Record, a: usize, b: usize) -> Result<(), Refusal> {
 /// ignored and the group stays.
 ///
 /// Refusals: 2, 4, 5, 6 (also for a bit above 1), 7, 8 for a qubit out of range.
+///
+/// ```
+/// use sukhlent::{gate, measure, Measured, Pauli, Record};
+///
+/// // The Bell state XX, ZZ: one edge with a Hadamard at qubit 1.
+/// let mut record = Record {
+///     neighbours: vec![0b10, 0b01],
+///     codes: vec![0, 8],
+/// };
+/// let first = measure(&mut record, Pauli::Z, 0, 1)?;
+/// assert_eq!(first, Measured { outcome: 1, determined: false });
+/// assert_eq!(record.codes, [10, 10]);
+/// gate(&mut record, 1, 1)?;
+/// let second = measure(&mut record, Pauli::Z, 1, 1)?;
+/// assert_eq!(second, Measured { outcome: 0, determined: true });
+/// # Ok::<(), sukhlent::Refusal>(())
+/// ```
 pub fn measure(
     record: &mut Record,
     pauli: Pauli,
