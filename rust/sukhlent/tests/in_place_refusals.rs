@@ -2,7 +2,7 @@
 
 mod common;
 
-use common::damage::{each_fault, each_pair, flip, put, record_faults, Fault};
+use common::damage::{damage_record, each_fault, each_pair, flip, record_faults, Fault};
 use common::{random_record, Operation, Random, RecordCall};
 use Operation::{Complement, Cz, Gate, Measure, Pivot};
 
@@ -177,9 +177,10 @@ fn seeded_damage_against_the_reference() {
         let mut random = Random::new(20_000 + seed);
         let n = 2 + random.below(9);
         let kind = random.below(5);
-        let mut call = base(seed, n, random_operation(&mut random, kind, n as u64));
+        let operation = Operation::loose(&mut random, kind, n);
+        let mut call = base(seed, n, operation);
         for _ in 0..random.below(3) {
-            damage(&mut random, &mut call);
+            damage_record(&mut random, &mut call);
         }
         let due = call.due();
         assert_judged(&call, due);
@@ -188,32 +189,5 @@ fn seeded_damage_against_the_reference() {
     for counts in counts {
         let all = [0, 2, 4, 5, 6, 7, 8];
         assert!(all.iter().all(|&k| counts[k] > 20), "{counts:?}");
-    }
-}
-
-/// A call of one kind; its arguments may be one too large.
-fn random_operation(random: &mut Random, kind: usize, n: u64) -> Operation {
-    let [a, b] = [0, 1].map(|_| random.below(n as usize + 1) as u64);
-    match kind {
-        0 => Gate(a, random.below(25) as u8),
-        1 => Cz(a, b),
-        2 => Measure(random.below(5) as u8, a, random.below(3) as u8),
-        3 => Complement(a),
-        _ => Pivot(a, b),
-    }
-}
-
-/// One random fault of the record, or none.
-fn damage(random: &mut Random, call: &mut Call) {
-    let n = call.n.clamp(1, 64) as usize;
-    let (a, b) = (random.below(n), random.below(n));
-    match random.below(7) {
-        0 => call.n = [0, 65, u64::MAX][random.below(3)],
-        1 => call.neighbours.truncate(a),
-        2 => call.codes.push(0),
-        3 => flip(&mut call.neighbours, a, random.below(64) as u32),
-        4 => put(&mut call.codes, a, random.word() as u8),
-        5 => flip(&mut call.neighbours, a, b as u32),
-        _ => put(&mut call.codes, a, random.below(24) as u8),
     }
 }

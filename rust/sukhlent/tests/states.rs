@@ -3,10 +3,10 @@
 mod common;
 
 use common::seeded::Gate;
-use common::vectors::state_of;
+use common::vectors::{assert_stabilized, signed_rows, state_of};
 use common::{list, mixed, random_record, random_rows, stabilizers, Circuit, Random};
-use simulator::{Complex, Matrix2, Row, State};
-use sukhlent::{check, expand, reduce, GeneratorList};
+use simulator::{Matrix2, State};
+use sukhlent::{check, expand, reduce};
 
 /// The state that a circuit makes of its basis state.
 fn run(circuit: &Circuit) -> State {
@@ -19,20 +19,6 @@ fn run(circuit: &Circuit) -> State {
         }
     }
     state
-}
-
-fn signed_rows(list: &GeneratorList) -> Vec<Row> {
-    (0..list.n())
-        .map(|j| Row::new(2 * list.signs[j], list.z[j], list.x[j]))
-        .collect()
-}
-
-/// Every generator has expectation +1.
-fn assert_stabilized(state: &State, list: &GeneratorList) {
-    for row in signed_rows(list) {
-        let value = state.expectation(&row);
-        assert!(value.approx_eq(Complex::ONE), "{row:?} has {value:?}");
-    }
 }
 
 #[test]

@@ -1,6 +1,7 @@
 //! Faults in the arguments of a call. Where a buffer is too short for a fault, it is left out.
 
 use super::calls::{ListCall, RecordCall};
+use super::seeded::Random;
 
 /// Takes a place out of a buffer.
 pub fn cut<T>(places: &mut Vec<T>, j: usize) {
@@ -77,6 +78,21 @@ pub fn record_faults<W>() -> Vec<Fault<RecordCall<W>>> {
         (7, |call| flip(&mut call.neighbours, 6, 0)),
         (7, |call| flip(&mut call.neighbours, 3, 4)),
     ]
+}
+
+/// One random fault of a record, or none.
+pub fn damage_record<W>(random: &mut Random, call: &mut RecordCall<W>) {
+    let n = call.n.clamp(1, 64) as usize;
+    let (a, b) = (random.below(n), random.below(n));
+    match random.below(7) {
+        0 => call.n = [0, 65, u64::MAX][random.below(3)],
+        1 => call.neighbours.truncate(a),
+        2 => call.codes.push(0),
+        3 => flip(&mut call.neighbours, a, random.below(64) as u32),
+        4 => put(&mut call.codes, a, random.word() as u8),
+        5 => flip(&mut call.neighbours, a, b as u32),
+        _ => put(&mut call.codes, a, random.below(24) as u8),
+    }
 }
 
 /// Each fault alone gives its number.

@@ -1,5 +1,6 @@
 //! The calls that rewrite a record in place, with their further arguments.
 
+use super::seeded::Random;
 use sukhlent::raw;
 
 /// A call on a record in place.
@@ -26,6 +27,18 @@ impl Operation {
         Operation::Complement(0),
         Operation::Pivot(0, 1),
     ];
+
+    /// A random call of one kind, 0 to 4, on n qubits; each argument may be one too large.
+    pub fn loose(random: &mut Random, kind: usize, n: usize) -> Operation {
+        let [a, b] = [0, 1].map(|_| random.below(n + 1) as u64);
+        match kind {
+            0 => Operation::Gate(a, random.below(25) as u8),
+            1 => Operation::Cz(a, b),
+            2 => Operation::Measure(random.below(5) as u8, a, random.below(3) as u8),
+            3 => Operation::Complement(a),
+            _ => Operation::Pivot(a, b),
+        }
+    }
 
     /// The number that the call answers on a lent record. A measurement writes to the last two.
     pub fn call(
