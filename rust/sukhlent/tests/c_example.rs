@@ -3,15 +3,14 @@
 use std::path::Path;
 use std::process::Command;
 
-/// Compiles and runs examples/c/NAME.c, and compares what it prints with NAME.out.
+/// Compiles and runs examples/c/NAME.c, and compares with examples/c/NAME.out.
 fn assert_prints_its_stored_output(name: &str) {
     let root = Path::new(env!("CARGO_MANIFEST_DIR")).join("../..");
-    let example = root.join("examples/c").join(name);
     let program = Path::new(env!("CARGO_TARGET_TMPDIR")).join(name);
     let compiled = Command::new("cc")
         .args(["-std=c99", "-pedantic", "-Wall", "-Wextra", "-Werror", "-I"])
         .arg(root.join("include"))
-        .arg(example.with_extension("c"))
+        .arg(root.join(format!("examples/c/{name}.c")))
         .arg(root.join("target/staticlib/libsukhlent.a"))
         .arg("-o")
         .arg(&program)
@@ -23,7 +22,7 @@ fn assert_prints_its_stored_output(name: &str) {
 
     let run = Command::new(&program).output().expect("the example runs");
     assert!(run.status.success());
-    let stored = std::fs::read_to_string(example.with_extension("out")).unwrap();
+    let stored = std::fs::read_to_string(root.join(format!("examples/c/{name}.out"))).unwrap();
     assert_eq!(String::from_utf8_lossy(&run.stdout), stored);
 }
 
@@ -33,6 +32,6 @@ fn bell_prints_its_stored_output() {
 }
 
 #[test]
-fn session_prints_its_stored_output() {
-    assert_prints_its_stored_output("session");
+fn in_place_prints_its_stored_output() {
+    assert_prints_its_stored_output("in_place");
 }
