@@ -3,3 +3,6 @@ pub mod SecondDemandLists
 pub mod ThirdDemandHolds
 pub mod AcceptedPairs
 pub mod ImageDemandHolds
+pub mod GatesFollow
+pub mod MeasurementsFollow
+pub mod RewritingsKeep

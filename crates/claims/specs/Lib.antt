@@ -2,3 +2,4 @@ pub mod Table
 pub mod SecondDemand
 pub mod ThirdDemand
 pub mod ImageDemand
+pub mod OperationsDemand

@@ -66,10 +66,10 @@ module _ (l : LentRecord) (six eight : Bool) (e : firstFitting (inPlaceLines l s
   pub held-accepted : AcceptedRecord l
   held-accepted = accepted-record l false six (no-line l six eight e .0)
 
-  six-passes : six ≡ false
+  pub six-passes : six ≡ false
   six-passes = no-line l six eight e .1 .0
 
-  eight-passes : eight ≡ false
+  pub eight-passes : eight ≡ false
   eight-passes = no-line l six eight e .1 .1
 
   -- as the operations on two buffers need it

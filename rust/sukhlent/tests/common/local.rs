@@ -1,7 +1,7 @@
 //! Local Cliffords and local complementations, by document 01's text.
 
 use super::codes::image;
-use super::{list, rows};
+use super::seeded::{list, rows};
 use sukhlent::{GeneratorList, Record};
 
 /// The list with every place sent through its qubit's code.

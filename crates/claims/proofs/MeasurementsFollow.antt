@@ -1,0 +1,132 @@
+-- Demand 2 of measurements, from the call's contract and the laws of operations.
+-- Assumes nothing.
+use mathlib.Core.Bool.{Bool, cond, false, true}
+use mathlib.Core.List.{List}
+use mathlib.Core.Logic.{_↔_, _⊎_, inl, inr}
+use mathlib.Core.Path.{_∙_, _≡_, ap, refl, subst, sym}
+use Prim.Native.Nat.{_<_, suc, zero, ℕ}
+use native.Mathlib.Omega.{arith}
+use lib.Dec.{leb}
+use borrow.Author.Tests.{leb-false}
+use Rattle.buffers.specs.Refusals.{firstFitting}
+use Rattle.operations.proofs.Determined.{determined-element, determined-exactly, determined-kept, determined-outcome, measured-group, measured-proper}
+use Rattle.operations.specs.Measurement.{determinedNumber, isDetermined, measuredRows, outcome, outcomeNumber, pauliLetter, single}
+use Rattle.operations.specs.Steps.{measureLines}
+use Rattle.operations.specs.declared.Outcome.the-variants.{Chosen, Determined}
+use Rattle.pauli.specs.Pauli.{Pauli}
+use Rattle.pauli.specs.declared.Letter.{Letter}
+use Rattle.record.proofs.WrittenRecords.{reduced-held-same, writtenRecord}
+use Rattle.record.specs.Accepted.{AcceptedRecord}
+use Rattle.record.specs.Lent.{LentRecord, heldRows}
+use Rattle.record.specs.Reduced.{reduced}
+use Rattle.stabilizer.proofs.SharedTests.{neither}
+use Rattle.stabilizer.specs.Groups.{InGroup, Proper, SameGroup}
+use Rattle.sukhlent.proofs.InPlaceLines.{held-accepted, measure-ready, six-passes}
+use Rattle.sukhlent.specs.InPlaceCalls.{MeasureCall}
+use Rattle.words.specs.Bits.{digit, isOdd}
+use Rattle.claims.proofs.GatesFollow.{answer-reduced, answer-still, holds-new}
+use Rattle.claims.specs.OperationsDemand.{MeasurementStands, MeasurementsFollow}
+
+-- ---- measurements
+-- the two numbers, by whether it is determined
+both-numbers : (d s : Bool) → (outcomeNumber (cond d (Determined s) (Chosen s)) ≡ digit s)
+    × (determinedNumber (cond d (Determined s) (Chosen s)) ≡ digit d)
+both-numbers true s = (refl, refl)
+both-numbers false s = (refl, refl)
+
+digit-odd : (b : Bool) → isOdd (digit b) ≡ b
+digit-odd true = refl
+digit-odd false = refl
+
+digit-one : (b : Bool) → digit b ≡ 1 → b ≡ true
+digit-one true e = refl
+digit-one false e = absurd (omega (arith, e))
+
+digit-zero : (b : Bool) → digit b ≡ 0 → b ≡ false
+digit-zero true e = absurd (omega (arith, e))
+digit-zero false e = refl
+
+small-digit : (b : ℕ) → b < 2 → digit (isOdd b) ≡ b
+small-digit zero h = refl
+small-digit (suc zero) h = refl
+small-digit (suc (suc b)) h = absurd (omega (arith, h))
+
+module _ (l : LentRecord) (pauli q b answer determined : ℕ) (nb′ cs′ : List ℕ) (answer′ determined′ : ℕ)
+    (C : MeasureCall l pauli q b answer determined 0 nb′ cs′ answer′ determined′) where
+  abbrev n : ℕ
+  n = l .n
+
+  abbrev held : ℕ → Pauli
+  held = heldRows l
+
+  abbrev L : Letter
+  L = pauliLetter pauli
+
+  passes : firstFitting (measureLines l pauli q b) ≡ 0
+  passes = sym (C .step .number)
+
+  A : AcceptedRecord l
+  A = held-accepted l _ _ passes
+
+  at-qubit : q < n
+  at-qubit = subst (λ m. q < m) (A .neighbours-length) (measure-ready l pauli q b passes .0 .1)
+
+  bit-small : b < 2
+  bit-small = leb-false 2 b (neither (leb 2 b) _ (six-passes l _ _ passes) .0)
+
+  abbrev R : ℕ → Pauli
+  R = measuredRows n held L q (isOdd b)
+
+  P : Proper n R
+  P = measured-proper n held (A .proper) L q at-qubit (isOdd b)
+
+  known : determined′ ≡ digit (isDetermined n held L q)
+  known = C .known ∙ both-numbers (isDetermined n held L q) (outcome n held L q (isOdd b)) .1
+
+  read : answer′ ≡ digit (outcome n held L q (isOdd b))
+  read = C .outcome ∙ both-numbers (isDetermined n held L q) (outcome n held L q (isOdd b)) .0
+
+  found : determined′ ≡ 1 → isDetermined n held L q ≡ true
+  found e = digit-one _ (sym known ∙ e)
+
+  open-yet : determined′ ≡ 0 → isDetermined n held L q ≡ false
+  open-yet e = digit-zero _ (sym known ∙ e)
+
+  exactly : (isDetermined n held L q ≡ true) ↔ (InGroup n n held (single L q false) ⊎ InGroup n n held (single L q true))
+  exactly = determined-exactly n held (A .proper) L q at-qubit
+
+  abbrev after : LentRecord
+  after = writtenRecord n (reduced n R)
+
+  stands : MeasurementStands l pauli q b after answer′ determined′
+  stands =
+      record {
+        still = answer-still n R P (A .positive) (A .upto);
+        answers = answer-reduced n R P (A .positive) (A .upto);
+        either = either-digit (isDetermined n held L q) known;
+        exactly = ((λ e. exactly .0 (found e)), λ h. known ∙ ap digit (exactly .1 h));
+        sign = λ e. subst (λ s. InGroup n n held (single L q s)) (sym (ap isOdd read ∙ digit-odd (outcome n held L q (isOdd b))))
+            (determined-element n held (A .proper) L q at-qubit (found e) (isOdd b));
+        kept = λ e. subst (λ S. SameGroup n n S (heldRows after))
+            (determined-kept n held (A .proper) L q at-qubit (found e) (isOdd b))
+            (reduced-held-same n R P);
+        bit = λ e. read ∙ ap digit (determined-outcome n held (A .proper) L q at-qubit (open-yet e) (isOdd b))
+            ∙ small-digit b bit-small;
+        joined = λ e p. (
+          (λ h. measured-group n held (A .proper) L q at-qubit (open-yet e) (isOdd b) p .0
+              (reduced-held-same n R P .back p h)),
+          (λ h. reduced-held-same n R P .there p
+              (measured-group n held (A .proper) L q at-qubit (open-yet e) (isOdd b) p .1 h)),
+        );
+      }
+    where
+      either-digit : (d : Bool) → determined′ ≡ digit d → (determined′ ≡ 0) ⊎ (determined′ ≡ 1)
+      either-digit true e = inr e
+      either-digit false e = inl e
+
+pub measurements-follow : MeasurementsFollow
+measurements-follow l pauli q b answer determined nb′ cs′ answer′ determined′ C =
+    subst (λ r. MeasurementStands l pauli q b r answer′ determined′)
+    (sym (holds-new l (measureLines l pauli q b)
+    (reduced (l .n) (measuredRows (l .n) (heldRows l) (pauliLetter pauli) q (isOdd b))) nb′ cs′ (C .step)))
+    (stands l pauli q b answer determined nb′ cs′ answer′ determined′ C)

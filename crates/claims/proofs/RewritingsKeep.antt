@@ -1,0 +1,113 @@
+-- Complements and pivots keep the group; of two calls the second is about what the first left.
+-- Assumes nothing.
+use mathlib.Core.Bool.{false}
+use mathlib.Core.List.{List}
+use mathlib.Core.Path.{_∙_, _≡_, ap, ap₂, subst, sym}
+use Prim.Native.Nat.{_<_, _≤_, ℕ}
+use lib.Dec.{leb}
+use lib.ListN.{List·getD-eq-default}
+use borrow.Author.Tests.{leb-false}
+use Rattle.clifford.specs.Clifford.{cliffordOf, identityClifford}
+use Rattle.graph.proofs.Complement.{complement-simple}
+use Rattle.graph.specs.Graph.{Simple}
+use Rattle.operations.proofs.Rewriting.{pivot-same, pivot-simple}
+use Rattle.operations.proofs.UnrefusedRecords.{complement-above}
+use Rattle.operations.specs.Steps.{Operation, complementLines, complementOf, czOn, gateWith, measurementOf, pivotLines, pivotOf, pivotRecord, step}
+use Rattle.record.proofs.Complementing.{complement-same}
+use Rattle.record.proofs.WrittenRecords.{record-back, record-passes, record-rows-back, writtenRecord}
+use Rattle.record.specs.Accepted.{AcceptedRecord}
+use Rattle.record.specs.Lent.{LentRecord, heldRecord, heldRows}
+use Rattle.record.specs.Records.{GraphRecord, complementRecord, rowsOf}
+use Rattle.stabilizer.proofs.EqualRows.{same-group-equal}
+use Rattle.stabilizer.proofs.GroupLaws.{same-trans}
+use Rattle.stabilizer.proofs.SharedTests.{neither}
+use Rattle.stabilizer.specs.Groups.{SameGroup}
+use Rattle.sukhlent.proofs.InPlaceLines.{complement-ready, eight-passes, held-accepted}
+use Rattle.sukhlent.specs.InPlaceCalls.{InPlaceCall}
+use Rattle.claims.proofs.GatesFollow.{holds-new}
+use Rattle.claims.specs.OperationsDemand.{ComplementsKeep, PivotsKeep, RewrittenAs, SecondAboutFirst, left}
+
+-- ---- complements and pivots
+-- a record rewritten to one of the same group, with code 0 at and above n
+rewritten-as : (l : LentRecord) → AcceptedRecord l → (new : GraphRecord) → Simple (l .n) (new .graph)
+    → ((q : ℕ) → l .n ≤ q → new .codes q ≡ identityClifford)
+    → SameGroup (l .n) (l .n) (heldRows l) (rowsOf (l .n) new)
+    → RewrittenAs l (writtenRecord (l .n) new) new
+rewritten-as l A new S above same =
+    record {
+      still = record-passes (l .n) new S above (A .positive) (A .upto);
+      holds = record-back (l .n) new S above;
+      group = same-trans same (same-group-equal (l .n) (rowsOf (l .n) new) (heldRows (writtenRecord (l .n) new))
+          (λ j k. sym (record-rows-back (l .n) new S above j)));
+    }
+
+-- code 0 stands at and above n
+held-above : (l : LentRecord) → AcceptedRecord l → (q : ℕ) → l .n ≤ q → (heldRecord l) .codes q ≡ identityClifford
+held-above l A q h =
+    ap cliffordOf (List·getD-eq-default (l .codes) 0 (subst (λ m. m ≤ q) (sym (A .codes-length)) h))
+
+pub complements-keep : ComplementsKeep
+complements-keep l a nb′ cs′ C =
+    subst (λ r. RewrittenAs l r new) (sym (holds-new l (complementLines l a) new nb′ cs′ C))
+    (rewritten-as l A new (complement-simple (l .n) _ (A .simple) a)
+    (complement-above (l .n) (heldRecord l) (A .simple) a below (held-above l A))
+    (complement-same (l .n) (heldRecord l) (A .simple) a below))
+  where
+    new : GraphRecord
+    new = complementRecord (heldRecord l) a
+
+    A : AcceptedRecord l
+    A = held-accepted l _ _ (sym (C .number))
+
+    below : a < l .n
+    below = subst (λ m. a < m) (A .neighbours-length) (complement-ready l a (sym (C .number)) .1)
+
+pub pivots-keep : PivotsKeep
+pivots-keep l j k nb′ cs′ C =
+    subst (λ r. RewrittenAs l r new) (sym (holds-new l (pivotLines l j k) new nb′ cs′ C))
+    (rewritten-as l A new (pivot-simple n held (A .simple) j k)
+    (complement-above n _ simple₂ j bj (complement-above n _ simple₁ k bk
+    (complement-above n held (A .simple) j bj (held-above l A))))
+    (pivot-same n held (A .simple) j k bj bk))
+  where
+    n : ℕ
+    n = l .n
+
+    held : GraphRecord
+    held = heldRecord l
+
+    new : GraphRecord
+    new = pivotRecord held j k
+
+    A : AcceptedRecord l
+    A = held-accepted l _ _ (sym (C .number))
+
+    simple₁ : Simple n ((complementRecord held j) .graph)
+    simple₁ = complement-simple n _ (A .simple) j
+
+    simple₂ : Simple n ((complementRecord (complementRecord held j) k) .graph)
+    simple₂ = complement-simple n _ simple₁ k
+
+    in-range : (leb n j ≡ false) × (leb n k ≡ false)
+    in-range = let t = neither (leb n j) _ (eight-passes l _ _ (sym (C .number))) in
+        (t .0, neither (leb n k) _ (t .1) .0)
+
+    bj : j < n
+    bj = leb-false n j (in-range .0)
+
+    bk : k < n
+    bk = leb-false n k (in-range .1)
+
+-- ---- two calls
+-- what a call leaves is the step's record
+is-after : (l : LentRecord) (o : Operation) (r : ℕ) (nb cs : List ℕ) → InPlaceCall (step l o) r nb cs
+    → left l nb cs ≡ (step l o) .after
+is-after l (gateWith q k) r nb cs C = ap₂ (left l) (C .words) (C .numbers)
+is-after l (czOn a b) r nb cs C = ap₂ (left l) (C .words) (C .numbers)
+is-after l (measurementOf pauli q b) r nb cs C = ap₂ (left l) (C .words) (C .numbers)
+is-after l (complementOf a) r nb cs C = ap₂ (left l) (C .words) (C .numbers)
+is-after l (pivotOf j k) r nb cs C = ap₂ (left l) (C .words) (C .numbers)
+
+pub second-about-first : SecondAboutFirst
+second-about-first l o₁ o₂ r₁ r₂ nb₁ cs₁ nb₂ cs₂ C D =
+    is-after (left l nb₁ cs₁) o₂ r₂ nb₂ cs₂ D ∙ ap (λ r. (step r o₂) .after) (is-after l o₁ r₁ nb₁ cs₁ C)

@@ -1,0 +1,108 @@
+-- Demand 2, of the public calls on a record lent in place: "Gates, CZ, Pauli measurements .. follow the same
+-- definition"; and complements and pivots, which keep the group. Each is said of an accepted call: its number is 0,
+-- and nb′, cs′ are what the two buffers hold at exit.
+-- Assumes nothing.
+use mathlib.Core.Bool.{Bool, false, true}
+use mathlib.Core.List.{List, [], _∷_}
+use mathlib.Core.Logic.{_↔_, _⊎_}
+use mathlib.Core.Path.{_≡_}
+use Prim.Native.Nat.{ℕ}
+use Rattle.buffers.specs.Refusals.{firstFitting}
+use Rattle.clifford.specs.Clifford.{cliffordOf}
+use Rattle.clifford.specs.Vectors.{only}
+use Rattle.operations.specs.Cz.{IsCz, cz}
+use Rattle.operations.specs.Measurement.{Measured, pauliLetter, single}
+use Rattle.operations.specs.Steps.{Operation, complementAt, controlledZ, gate, pivotAt, pivotRecord, session, step}
+use Rattle.pauli.specs.Pauli.{Pauli}
+use Rattle.record.specs.Lent.{LentRecord, codeNumbers, heldRecord, heldRows, neighbourWords, recordLines}
+use Rattle.record.specs.Records.{GraphRecord, SameRecord, complementRecord}
+use Rattle.record.specs.Reduced.{reduced}
+use Rattle.stabilizer.specs.Carries.{Carries}
+use Rattle.stabilizer.specs.Groups.{InGroup, SameGroup}
+use Rattle.sukhlent.specs.InPlaceCalls.{InPlaceCall, MeasureCall}
+use Rattle.words.specs.Bits.{isOdd}
+
+-- the record that a call leaves
+abbrev pub left : LentRecord → List ℕ → List ℕ → LentRecord
+left l nb cs = record { n = l .n; neighbours = nb; codes = cs }
+
+-- it is a record again, so that the next call is about it
+abbrev pub StillRecord : LentRecord → Type 0
+StillRecord l = firstFitting (recordLines l false false) ≡ 0
+
+-- "All three answer the reduced record of the new group"
+pub record IsReduced (l : LentRecord) : Type 0 where
+  pub neighbours : l .neighbours ≡ neighbourWords (l .n) (reduced (l .n) (heldRows l))
+  pub codes : l .codes ≡ codeNumbers (l .n) (reduced (l .n) (heldRows l))
+
+-- ---- "A gate applies a code after the code already held": the group is sent through the code at the qubit
+pub record Gated (l : LentRecord) (q k : ℕ) (after : LentRecord) : Type 0 where
+  pub still : StillRecord after
+  pub answers : IsReduced after
+  pub group : Carries (l .n) (only q (cliffordOf k)) (heldRows l) (heldRows after)
+
+abbrev pub GatesFollow : Type 0
+GatesFollow = (l : LentRecord) (q k : ℕ) (nb′ cs′ : List ℕ) → InPlaceCall (gate l q k) 0 nb′ cs′ →
+    Gated l q k (left l nb′ cs′)
+
+-- ---- "CZ on a and b sends X at a to X at a times Z at b, likewise with a and b exchanged, and fixes Z": the new
+-- group has exactly the images of the elements of the old one
+pub record Entangled (l : LentRecord) (a b : ℕ) (after : LentRecord) : Type 0 where
+  pub still : StillRecord after
+  pub answers : IsReduced after
+  pub is : IsCz (l .n) a b (cz a b)
+  pub group : (p : Pauli) → InGroup (l .n) (l .n) (heldRows after) p
+      ↔ ((r : Pauli) × InGroup (l .n) (l .n) (heldRows l) r × (p ≡ cz a b r))
+
+abbrev pub CzFollows : Type 0
+CzFollows = (l : LentRecord) (a b : ℕ) (nb′ cs′ : List ℕ) → InPlaceCall (controlledZ l a b) 0 nb′ cs′ →
+    Entangled l a b (left l nb′ cs′)
+
+-- ---- measurements
+-- the Pauli measured, with a sign (true means minus)
+abbrev pub signedPauli : ℕ → ℕ → Bool → Pauli
+signedPauli pauli q s = single (pauliLetter pauli) q s
+
+pub record MeasurementStands (l : LentRecord) (pauli q b : ℕ) (after : LentRecord) (answer′ determined′ : ℕ) : Type
+    0 where
+  pub still : StillRecord after
+  pub answers : IsReduced after
+  pub either : (determined′ ≡ 0) ⊎ (determined′ ≡ 1)
+  -- "If the Pauli or its negative is in the group, the answer says determined"
+  pub exactly : (determined′ ≡ 1) ↔ (InGroup (l .n) (l .n) (heldRows l) (signedPauli pauli q false)
+      ⊎ InGroup (l .n) (l .n) (heldRows l) (signedPauli pauli q true))
+  -- ".. gives the sign as outcome, ignores the bit and keeps the group"
+  pub sign : determined′ ≡ 1 → InGroup (l .n) (l .n) (heldRows l) (signedPauli pauli q (isOdd answer′))
+  pub kept : determined′ ≡ 1 → SameGroup (l .n) (l .n) (heldRows l) (heldRows after)
+  -- "Otherwise the outcome is the bit", and the group "the elements that commute with the Pauli, joined by the
+  -- Pauli with that sign"
+  pub bit : determined′ ≡ 0 → answer′ ≡ b
+  pub joined : determined′ ≡ 0 → (p : Pauli) → InGroup (l .n) (l .n) (heldRows after) p
+      ↔ Measured (l .n) (heldRows l) (signedPauli pauli q (isOdd b)) p
+
+abbrev pub MeasurementsFollow : Type 0
+MeasurementsFollow =
+    (l : LentRecord) (pauli q b answer determined : ℕ) (nb′ cs′ : List ℕ) (answer′ determined′ : ℕ) →
+    MeasureCall l pauli q b answer determined 0 nb′ cs′ answer′ determined′ →
+    MeasurementStands l pauli q b (left l nb′ cs′) answer′ determined′
+
+-- ---- "As a rewriting of a record it keeps the group, signs included"; the answer is the record so rewritten
+pub record RewrittenAs (l after : LentRecord) (new : GraphRecord) : Type 0 where
+  pub still : StillRecord after
+  pub holds : SameRecord (heldRecord after) new
+  pub group : SameGroup (l .n) (l .n) (heldRows l) (heldRows after)
+
+abbrev pub ComplementsKeep : Type 0
+ComplementsKeep = (l : LentRecord) (a : ℕ) (nb′ cs′ : List ℕ) → InPlaceCall (complementAt l a) 0 nb′ cs′ →
+    RewrittenAs l (left l nb′ cs′) (complementRecord (heldRecord l) a)
+
+abbrev pub PivotsKeep : Type 0
+PivotsKeep = (l : LentRecord) (j k : ℕ) (nb′ cs′ : List ℕ) → InPlaceCall (pivotAt l j k) 0 nb′ cs′ →
+    RewrittenAs l (left l nb′ cs′) (pivotRecord (heldRecord l) j k)
+
+-- ---- two calls, refused or not: the second is about what the first left
+abbrev pub SecondAboutFirst : Type 0
+SecondAboutFirst =
+    (l : LentRecord) (o₁ o₂ : Operation) (r₁ r₂ : ℕ) (nb₁ cs₁ nb₂ cs₂ : List ℕ) →
+    InPlaceCall (step l o₁) r₁ nb₁ cs₁ → InPlaceCall (step (left l nb₁ cs₁) o₂) r₂ nb₂ cs₂ →
+    left l nb₂ cs₂ ≡ session l (o₁ ∷ o₂ ∷ [])
