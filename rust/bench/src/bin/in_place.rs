@@ -29,13 +29,16 @@ struct Case {
     operation: Operation,
 }
 
+/// Makes a case.
+type Maker = fn(&mut Random) -> Case;
+
 fn main() {
     println!("one call on {N} qubits, median time");
     println!(
         "{:<26} {:>12} {:>12} {:>7}",
         "call", "engine", "tableau", "ratio"
     );
-    let kinds: [(&str, fn(&mut Random) -> Case); 4] = [
+    let kinds: [(&str, Maker); 4] = [
         ("gate", gate),
         ("CZ", cz),
         ("measurement, chosen", chosen),
