@@ -62,6 +62,19 @@ more-accepted (l ∷ ls) ms n e = go (l .holds) e (more-accepted ls ms (n .1))
     go true e rest = absurd (lt-irrefl 0 (subst (λ k. 0 < k) e (n .0)))
     go false e rest = rest e
 
+-- where none of all holds, none of the first and none of the later ones does
+pub none-of-all : (ls ms : List Line) → Numbered ls → firstFitting (ls ++ ms) ≡ 0 →
+    (firstFitting ls ≡ 0) × (firstFitting ms ≡ 0)
+unfolding firstFitting
+none-of-all [] ms n e = (refl, e)
+none-of-all (l ∷ ls) ms n e = go (l .holds) e (none-of-all ls ms (n .1))
+  where
+    go : (b : Bool) → cond b (l .number) (firstFitting (ls ++ ms)) ≡ 0 →
+        (firstFitting (ls ++ ms) ≡ 0 → (firstFitting ls ≡ 0) × (firstFitting ms ≡ 0)) →
+        (cond b (l .number) (firstFitting ls) ≡ 0) × (firstFitting ms ≡ 0)
+    go true e rest = absurd (lt-irrefl 0 (subst (λ k. 0 < k) e (n .0)))
+    go false e rest = rest e
+
 -- ---- the number is one of the lines'
 abbrev pub AllBelow : ℕ → List Line → Type 0
 AllBelow b [] = Unit

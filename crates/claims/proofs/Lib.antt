@@ -6,3 +6,4 @@ pub mod ImageDemandHolds
 pub mod GatesFollow
 pub mod MeasurementsFollow
 pub mod RewritingsKeep
+pub mod FirstDemandHolds

@@ -3,3 +3,4 @@ pub mod SecondDemand
 pub mod ThirdDemand
 pub mod ImageDemand
 pub mod OperationsDemand
+pub mod FirstDemand

@@ -9,7 +9,7 @@ use native.Mathlib.Omega.{arith}
 use lib.Dec.{eqb, leb}
 use lib.ListN.{length}
 use borrow.Author.Tests.{eqb-false, leb-false}
-use Rattle.buffers.proofs.Lines.{fits, more-accepted, more-refused, none-fits, not-held, passed}
+use Rattle.buffers.proofs.Lines.{fits, more-accepted, more-refused, none-fits, none-of-all, not-held, passed}
 use Rattle.buffers.specs.Refusals.{Line, firstFitting, line}
 use Rattle.operations.specs.InPlace.{Unrefused, recordIn}
 use Rattle.operations.specs.Steps.{complementLines, czLines, gateLines, inPlaceLines, measureLines, pivotLines}
@@ -52,15 +52,10 @@ more-eight l six false eight′ k e h more =
 no-line : (l : LentRecord) (six eight : Bool) → firstFitting (inPlaceLines l six eight) ≡ 0 →
     (firstFitting (recordLines l false six) ≡ 0) × ((six ≡ false) × (eight ≡ false))
 no-line l six eight e =
-    let h2 = not-held 1 _ _ e in
-    let h4 = not-held 3 _ _ (h2 .1) in
-    let h5 = not-held 4 _ _ (h4 .1) in
-    let h6 = not-held 5 _ _ (h5 .1) in
-    let h7 = not-held 6 _ _ (h6 .1) in (
-      passed 2 _ (h2 .0) ∙ passed 4 _ (h4 .0) ∙ passed 5 _ (h5 .0) ∙ passed 6 _ (h6 .0) ∙ passed 7 _ (h7 .0)
-          ∙ none-fits,
-      (neither (recordCodes l) six (h6 .0) .1, not-held 7 eight [] (h7 .1) .0),
-    )
+    let p = none-of-all (recordLines l false six) (line 8 eight ∷ []) (record-numbered l false six) e in
+    let h4 = not-held 3 _ _ (not-held 1 _ _ (p .0) .1) in
+    let h6 = not-held 5 _ _ (not-held 4 _ _ (h4 .1) .1) in
+    (p .0, (neither (recordCodes l) six (h6 .0) .1, not-held 7 eight [] (p .1) .0))
 
 module _ (l : LentRecord) (six eight : Bool) (e : firstFitting (inPlaceLines l six eight) ≡ 0) where
   pub held-accepted : AcceptedRecord l
