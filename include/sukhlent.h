@@ -15,7 +15,9 @@
  * Its generator j is +X at j and Z at the neighbours of j, each place then sent through its code.
  *
  * Every buffer passes as a pointer and its length in elements, and has n places where its call
- * does not say otherwise. Buffers must not overlap. Buffers that are not const are lent for the answer: what they hold before the call does
+ * does not say otherwise. Buffers must not overlap. The calls on a record in place (gate, cz,
+ * measure, complement, pivot) read `neighbours` and `codes` and write the new record there. All
+ * other buffers that are not const are lent for the answer: what they hold before the call does
  * not matter.
  *
  * Every call answers 0 where it accepts, or the first number of this list whose line is true. A
@@ -71,6 +73,47 @@ uint8_t sukhlent_expand(uint64_t n,
                         uint8_t *signs, size_t signs_len,
                         uint64_t *z, size_t z_len,
                         uint64_t *x, size_t x_len);
+
+/* Applies a code after the code held at a qubit, and leaves the reduced record of the new group.
+ * Refusals: 2, 4, 5, 6 (also where `code` is above 23), 7, 8 (`qubit` is n or more). */
+uint8_t sukhlent_gate(uint64_t n,
+                      uint64_t *neighbours, size_t neighbours_len,
+                      uint8_t *codes, size_t codes_len,
+                      uint64_t qubit, uint8_t code);
+
+/* Applies CZ to two qubits, and leaves the reduced record of the new group.
+ * Refusals: 2, 4, 5, 6, 7, 8 (`a` or `b` is n or more, or they are the same). */
+uint8_t sukhlent_cz(uint64_t n,
+                    uint64_t *neighbours, size_t neighbours_len,
+                    uint8_t *codes, size_t codes_len,
+                    uint64_t a, uint64_t b);
+
+/* Measures a Pauli (1 X, 2 Y, 3 Z) at a qubit, and leaves the reduced record of the new group.
+ * Where the Pauli or its negative is in the group, writes 1 to *determined and its sign to
+ * *answer (1 for minus), ignores `outcome` and keeps the group. Otherwise writes 0 to
+ * *determined and `outcome` to *answer.
+ * Refusals: 2, 4, 5, 6 (also where `pauli` is not 1 to 3 or `outcome` is above 1), 7, 8 (`qubit`
+ * is n or more). */
+uint8_t sukhlent_measure(uint64_t n,
+                         uint64_t *neighbours, size_t neighbours_len,
+                         uint8_t *codes, size_t codes_len,
+                         uint8_t pauli, uint64_t qubit, uint8_t outcome,
+                         uint8_t *answer, uint8_t *determined);
+
+/* Complements at a vertex: flips every edge between two neighbours of `a`, and rewrites the codes
+ * so that the group stays. The record is not reduced.
+ * Refusals: 2, 4, 5, 6, 7, 8 (`a` is n or more). */
+uint8_t sukhlent_complement(uint64_t n,
+                            uint64_t *neighbours, size_t neighbours_len,
+                            uint8_t *codes, size_t codes_len,
+                            uint64_t a);
+
+/* Pivots on an edge: complements at j, k and j. The group stays; the record is not reduced.
+ * Refusals: 2, 4, 5, 6, 7, 8 (`j` or `k` is n or more, they are the same, or have no edge). */
+uint8_t sukhlent_pivot(uint64_t n,
+                       uint64_t *neighbours, size_t neighbours_len,
+                       uint8_t *codes, size_t codes_len,
+                       uint64_t j, uint64_t k);
 
 /* Sends a graph through its codes, by the image rule: writes the image graph, a sign per vertex
  * (1 for minus) and the vertices at which the graph is complemented, in order. `list` has 96

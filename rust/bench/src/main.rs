@@ -8,7 +8,7 @@ mod seeded;
 
 use seeded::{list, mixed, stabilizers, Circuit, Random};
 use sukhlent::{raw, GeneratorList};
-use timing::medians;
+use timing::{medians, Ready};
 
 /// The signature that both reductions have.
 type Reduce = fn(u64, &[u8], &[u64], &[u64], &mut [u64], &mut [u8]) -> u8;
@@ -29,7 +29,7 @@ fn main() {
         assert_same_answers(&lists);
         let [engine, plain] = [raw::reduce as Reduce, plain::reduce].map(|reduce| {
             let lists = &lists;
-            move |sample| run(reduce, part(lists, sample))
+            move |sample| Box::new(move || run(reduce, part(lists, sample))) as Ready
         });
         let [engine, plain] = medians([&engine, &plain]).map(|time| time / SAMPLE as f64);
         let ratio = engine / plain;

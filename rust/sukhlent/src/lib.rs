@@ -19,6 +19,7 @@
 
 mod comparison;
 mod image;
+mod in_place;
 mod list;
 pub mod raw;
 mod record;
@@ -26,6 +27,7 @@ mod refusal;
 
 pub use comparison::{compare, Comparison};
 pub use image::{image, Image};
+pub use in_place::{complement, cz, gate, measure, pivot, Measured, Pauli};
 pub use list::{check, reduce, GeneratorList};
 pub use record::{expand, Record};
 pub use refusal::Refusal;

@@ -43,6 +43,58 @@ mod calls {
             x_len: usize,
         ) -> u8;
 
+        pub fn sukhlent_gate(
+            n: u64,
+            neighbours: *mut u64,
+            neighbours_len: usize,
+            codes: *mut u8,
+            codes_len: usize,
+            qubit: u64,
+            code: u8,
+        ) -> u8;
+
+        pub fn sukhlent_cz(
+            n: u64,
+            neighbours: *mut u64,
+            neighbours_len: usize,
+            codes: *mut u8,
+            codes_len: usize,
+            a: u64,
+            b: u64,
+        ) -> u8;
+
+        pub fn sukhlent_measure(
+            n: u64,
+            neighbours: *mut u64,
+            neighbours_len: usize,
+            codes: *mut u8,
+            codes_len: usize,
+            pauli: u8,
+            qubit: u64,
+            outcome: u8,
+            answer: *mut u8,
+            determined: *mut u8,
+        ) -> u8;
+
+        pub fn sukhlent_complement(
+            n: u64,
+            neighbours: *mut u64,
+            neighbours_len: usize,
+            codes: *mut u8,
+            codes_len: usize,
+            a: u64,
+        ) -> u8;
+
+        pub fn sukhlent_pivot(
+            n: u64,
+            neighbours: *mut u64,
+            neighbours_len: usize,
+            codes: *mut u8,
+            codes_len: usize,
+            j: u64,
+            k: u64,
+        ) -> u8;
+
         pub fn sukhlent_image(
             n: u64,
             neighbours: *const u64,
@@ -145,6 +197,94 @@ pub fn expand(
             z.len(),
             x.as_mut_ptr(),
             x.len(),
+        )
+    }
+}
+
+/// Applies a code after the code held at a qubit, and reduces the record.
+pub fn gate(n: u64, neighbours: &mut [u64], codes: &mut [u8], qubit: u64, code: u8) -> u8 {
+    unsafe {
+        calls::sukhlent_gate(
+            n,
+            neighbours.as_mut_ptr(),
+            neighbours.len(),
+            codes.as_mut_ptr(),
+            codes.len(),
+            qubit,
+            code,
+        )
+    }
+}
+
+/// Applies CZ to two qubits, and reduces the record.
+pub fn cz(n: u64, neighbours: &mut [u64], codes: &mut [u8], a: u64, b: u64) -> u8 {
+    unsafe {
+        calls::sukhlent_cz(
+            n,
+            neighbours.as_mut_ptr(),
+            neighbours.len(),
+            codes.as_mut_ptr(),
+            codes.len(),
+            a,
+            b,
+        )
+    }
+}
+
+/// Measures a Pauli (1 X, 2 Y, 3 Z) at a qubit, reduces the record, and writes the outcome and
+/// whether it was determined.
+#[allow(clippy::too_many_arguments)]
+pub fn measure(
+    n: u64,
+    neighbours: &mut [u64],
+    codes: &mut [u8],
+    pauli: u8,
+    qubit: u64,
+    outcome: u8,
+    answer: &mut u8,
+    determined: &mut u8,
+) -> u8 {
+    unsafe {
+        calls::sukhlent_measure(
+            n,
+            neighbours.as_mut_ptr(),
+            neighbours.len(),
+            codes.as_mut_ptr(),
+            codes.len(),
+            pauli,
+            qubit,
+            outcome,
+            answer,
+            determined,
+        )
+    }
+}
+
+/// Complements the record at a vertex.
+pub fn complement(n: u64, neighbours: &mut [u64], codes: &mut [u8], a: u64) -> u8 {
+    unsafe {
+        calls::sukhlent_complement(
+            n,
+            neighbours.as_mut_ptr(),
+            neighbours.len(),
+            codes.as_mut_ptr(),
+            codes.len(),
+            a,
+        )
+    }
+}
+
+/// Pivots the record on an edge.
+pub fn pivot(n: u64, neighbours: &mut [u64], codes: &mut [u8], j: u64, k: u64) -> u8 {
+    unsafe {
+        calls::sukhlent_pivot(
+            n,
+            neighbours.as_mut_ptr(),
+            neighbours.len(),
+            codes.as_mut_ptr(),
+            codes.len(),
+            j,
+            k,
         )
     }
 }

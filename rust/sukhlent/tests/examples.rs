@@ -3,7 +3,7 @@
 mod common;
 
 use common::{list, Pauli};
-use sukhlent::{check, expand, reduce, GeneratorList, Record, Refusal};
+use sukhlent::{check, expand, measure, reduce, GeneratorList, Measured, Record, Refusal};
 
 fn of(texts: &[&str]) -> GeneratorList {
     let rows: Vec<Pauli> = texts.iter().map(|text| Pauli::parse(text)).collect();
@@ -54,6 +54,25 @@ fn codes_that_no_reduction_gives() {
     assert_eq!(expand(&record(&[0], &[12])), Ok(of(&["X"])));
     assert_eq!(expand(&record(&[2, 1], &[12, 5])), Ok(of(&["-XZ", "YY"])));
     assert_eq!(expand(&record(&[2, 1], &[13, 6])), Ok(of(&["XZ", "YY"])));
+}
+
+#[test]
+fn z_measured_twice_on_a_bell_state() {
+    let mut state = reduce(&of(&["XX", "ZZ"])).unwrap();
+    let first = measure(&mut state, sukhlent::Pauli::Z, 0, 1);
+    let chosen = Measured {
+        outcome: 1,
+        determined: false,
+    };
+    assert_eq!(first, Ok(chosen));
+    assert_eq!(state, record(&[0, 0], &[10, 10]));
+    let second = measure(&mut state, sukhlent::Pauli::Z, 1, 0);
+    let known = Measured {
+        outcome: 1,
+        determined: true,
+    };
+    assert_eq!(second, Ok(known));
+    assert_eq!(state, record(&[0, 0], &[10, 10]));
 }
 
 #[test]

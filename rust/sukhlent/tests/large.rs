@@ -3,9 +3,8 @@
 mod common;
 
 use common::reference::{expanded, reduced};
-use common::{list, random_rows, ListCall, Random, RecordCall};
+use common::{list, random_record, random_rows, ListCall, Random, RecordCall};
 use std::collections::HashSet;
-use sukhlent::Record;
 
 fn assert_as_reference(seed: u64, n: usize, codes_seen: &mut HashSet<u8>) {
     let list = list(&random_rows(&mut Random::new(seed), n));
@@ -37,15 +36,7 @@ fn lists_on_every_number_of_qubits() {
 #[test]
 fn records_with_any_codes_on_64_qubits() {
     for seed in 0..100 {
-        let mut random = Random::new(9000 + seed);
-        let mut neighbours = vec![0u64; 64];
-        for (a, b) in (0..64).flat_map(|a| (0..a).map(move |b| (a, b))) {
-            let bit = (random.below(2) == 1) as u64;
-            neighbours[a] |= bit << b;
-            neighbours[b] |= bit << a;
-        }
-        let codes = (0..64).map(|_| random.below(24) as u8).collect();
-        let record = Record { neighbours, codes };
+        let record = random_record(&mut Random::new(9000 + seed), 64);
         let list = RecordCall::on(&record).expand().unwrap();
         assert_eq!(list, expanded(&record), "seed {seed}");
         assert_eq!(

@@ -2,8 +2,8 @@
 
 mod common;
 
-use common::{list, random_rows, ListCall, Random, RecordCall};
-use sukhlent::reduce;
+use common::{list, random_rows, Lengths, ListCall, Operation, Random, RecordCall};
+use sukhlent::{reduce, Record};
 
 /// Lengths other than n, among them n modulo 256.
 fn wrong(n: usize) -> impl Iterator<Item = usize> {
@@ -12,10 +12,28 @@ fn wrong(n: usize) -> impl Iterator<Item = usize> {
         .filter(move |&l| l != n)
 }
 
-fn calls(n: usize) -> (ListCall, RecordCall) {
+fn calls(n: usize) -> (ListCall, RecordCall<Lengths>) {
     let list = list(&random_rows(&mut Random::new(n as u64), n));
     let record = reduce(&list).unwrap();
     (ListCall::on(&list), RecordCall::on(&record))
+}
+
+/// The calls in place on the record of a call.
+fn in_place<W>(call: &RecordCall<W>) -> [RecordCall<Operation>; 5] {
+    Operation::EACH.map(|with| RecordCall {
+        n: call.n,
+        neighbours: call.neighbours.clone(),
+        codes: call.codes.clone(),
+        with,
+    })
+}
+
+/// All calls on a record give the number.
+fn assert_refused(call: &RecordCall<Lengths>, number: u8) {
+    assert_eq!(call.expand(), Err(number), "{call:?}");
+    for call in in_place(call) {
+        assert_eq!(call.apply(), Err(number), "{call:?}");
+    }
 }
 
 #[test]
@@ -36,7 +54,7 @@ fn numbers_of_qubits_out_of_range_give_2_whatever_the_buffers() {
             (list.n, record.n) = (n, n);
             assert_eq!(list.check(), 2, "{n}");
             assert_eq!(list.reduce(), Err(2), "{n}");
-            assert_eq!(record.expand(), Err(2), "{n}");
+            assert_refused(&record, 2);
         }
     }
 }
@@ -52,16 +70,12 @@ fn n_places_for_n_out_of_range_give_2() {
             neighbours: n,
             codes: n,
         };
-        let record = RecordCall {
-            n: n as u64,
+        let record = Record {
             neighbours: vec![0; n],
             codes: vec![0; n],
-            signs: n,
-            z: n,
-            x: n,
         };
         assert_eq!((list.check(), list.reduce()), (2, Err(2)), "{n}");
-        assert_eq!(record.expand(), Err(2), "{n}");
+        assert_refused(&RecordCall::on(&record), 2);
     }
 }
 
@@ -97,7 +111,7 @@ fn a_wrong_length_of_a_record_gives_4() {
             let mut codes = right.clone();
             codes.codes.resize(length, 0);
             for call in [neighbours, codes] {
-                assert_eq!(call.expand(), Err(4), "{n} {length}");
+                assert_refused(&call, 4);
             }
         }
     }
@@ -118,10 +132,9 @@ fn a_wrong_length_of_an_answer_buffer_gives_4() {
                 assert_eq!(call.check(), 0, "a check has no answer buffers");
             }
             for (signs, z, x) in [(length, n, n), (n, length, n), (n, n, length)] {
+                let with = Lengths { signs, z, x };
                 let call = RecordCall {
-                    signs,
-                    z,
-                    x,
+                    with,
                     ..record.clone()
                 };
                 assert_eq!(call.expand(), Err(4), "{n} {length}");
@@ -137,7 +150,7 @@ fn another_n_than_the_buffers_have_gives_4() {
         for other in (1..=64).filter(|&other| other != n as u64) {
             (list.n, record.n) = (other, other);
             assert_eq!((list.check(), list.reduce()), (4, Err(4)), "{n} {other}");
-            assert_eq!(record.expand(), Err(4), "{n} {other}");
+            assert_refused(&record, 4);
         }
     }
 }

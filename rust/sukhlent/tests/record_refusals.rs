@@ -2,48 +2,24 @@
 
 mod common;
 
-use common::damage::{each_fault, each_pair, flip, put, Fault};
-use common::{Random, RecordCall};
-use sukhlent::Record;
+use common::damage::{each_fault, each_pair, flip, put, record_faults, Fault};
+use common::{random_record, Lengths, Random, RecordCall};
 
-const FAULTS: [Fault<RecordCall>; 21] = [
-    (2, |call| call.n = 0),
-    (2, |call| call.n = 65),
-    (2, |call| call.n = u64::MAX),
-    (4, |call| call.neighbours.push(0)),
-    (4, |call| call.neighbours.truncate(7)),
-    (4, |call| call.codes.push(0)),
-    (4, |call| call.codes.clear()),
-    (4, |call| call.signs += 1),
-    (4, |call| call.z = 0),
-    (4, |call| call.x -= 1),
-    (4, |call| call.n += 1),
-    (5, |call| flip(&mut call.neighbours, 0, 8)),
-    (5, |call| flip(&mut call.neighbours, 5, 63)),
-    (6, |call| put(&mut call.codes, 0, 24)),
-    (6, |call| put(&mut call.codes, 3, 255)),
-    (6, |call| put(&mut call.codes, 7, 32)),
-    (7, |call| flip(&mut call.neighbours, 0, 0)),
-    (7, |call| flip(&mut call.neighbours, 6, 6)),
-    (7, |call| flip(&mut call.neighbours, 0, 6)),
-    (7, |call| flip(&mut call.neighbours, 6, 0)),
-    (7, |call| flip(&mut call.neighbours, 3, 4)),
-];
-
-/// A random record of n vertices with any codes.
-fn base(seed: u64, n: usize) -> RecordCall {
-    let mut random = Random::new(seed);
-    let mut neighbours = vec![0u64; n];
-    for (a, b) in (0..n).flat_map(|a| (0..a).map(move |b| (a, b))) {
-        let bit = random.below(2) as u64;
-        neighbours[a] |= bit << b;
-        neighbours[b] |= bit << a;
-    }
-    let codes = (0..n).map(|_| random.below(24) as u8).collect();
-    RecordCall::on(&Record { neighbours, codes })
+/// The faults of a record, and of the lengths of the answer buffers.
+fn faults() -> Vec<Fault<RecordCall<Lengths>>> {
+    let mut faults = record_faults::<Lengths>();
+    faults.push((4, |call| call.with.signs += 1));
+    faults.push((4, |call| call.with.z = 0));
+    faults.push((4, |call| call.with.x -= 1));
+    faults
 }
 
-fn assert_refused(call: &RecordCall, number: u8, what: &str) {
+/// A random record of n vertices with any codes.
+fn base(seed: u64, n: usize) -> RecordCall<Lengths> {
+    RecordCall::on(&random_record(&mut Random::new(seed), n))
+}
+
+fn assert_refused(call: &RecordCall<Lengths>, number: u8, what: &str) {
     assert_eq!(call.due(), number, "the fault itself: {what}");
     assert_eq!(call.expand(), Err(number), "{what}: {call:?}");
 }
@@ -52,14 +28,14 @@ fn assert_refused(call: &RecordCall, number: u8, what: &str) {
 fn every_fault_gives_its_number() {
     for seed in 0..20 {
         assert!(base(seed, 8).expand().is_ok());
-        each_fault(&FAULTS, || base(seed, 8), assert_refused);
+        each_fault(&faults(), || base(seed, 8), assert_refused);
     }
 }
 
 #[test]
 fn of_two_faults_the_earlier_number_is_given() {
     for seed in 0..20 {
-        each_pair(&FAULTS, || base(seed, 8), assert_refused);
+        each_pair(&faults(), || base(seed, 8), assert_refused);
     }
 }
 

@@ -3,10 +3,10 @@
 mod common;
 
 use common::seeded::Gate;
-use common::vectors::state_of;
-use common::{list, mixed, random_rows, stabilizers, Circuit, Random};
-use simulator::{Complex, Matrix2, Row, State};
-use sukhlent::{check, expand, reduce, GeneratorList, Record};
+use common::vectors::{assert_stabilized, signed_rows, state_of};
+use common::{list, mixed, random_record, random_rows, stabilizers, Circuit, Random};
+use simulator::{Matrix2, State};
+use sukhlent::{check, expand, reduce};
 
 /// The state that a circuit makes of its basis state.
 fn run(circuit: &Circuit) -> State {
@@ -19,20 +19,6 @@ fn run(circuit: &Circuit) -> State {
         }
     }
     state
-}
-
-fn signed_rows(list: &GeneratorList) -> Vec<Row> {
-    (0..list.n())
-        .map(|j| Row::new(2 * list.signs[j], list.z[j], list.x[j]))
-        .collect()
-}
-
-/// Every generator has expectation +1.
-fn assert_stabilized(state: &State, list: &GeneratorList) {
-    for row in signed_rows(list) {
-        let value = state.expectation(&row);
-        assert!(value.approx_eq(Complex::ONE), "{row:?} has {value:?}");
-    }
 }
 
 #[test]
@@ -61,15 +47,7 @@ fn seeded_records_with_any_codes_against_state_vectors() {
     for seed in 0..400 {
         let mut random = Random::new(1000 + seed);
         let n = 1 + random.below(8);
-        let mut neighbours = vec![0u64; n];
-        for (a, b) in (0..n).flat_map(|a| (0..a).map(move |b| (a, b))) {
-            if random.below(2) == 1 {
-                neighbours[a] |= 1 << b;
-                neighbours[b] |= 1 << a;
-            }
-        }
-        let codes = (0..n).map(|_| random.below(24) as u8).collect();
-        let record = Record { neighbours, codes };
+        let record = random_record(&mut random, n);
         let expanded = expand(&record).unwrap();
         let state = state_of(&record);
         assert_stabilized(&state, &expanded);

@@ -81,38 +81,54 @@ impl ListCall {
     }
 }
 
-/// The arguments of a call on a record; answer buffers by their lengths.
+/// The arguments of a call on a record: the record, and what goes with it.
 #[derive(Clone, Debug)]
-pub struct RecordCall {
+pub struct RecordCall<W> {
     pub n: u64,
     pub neighbours: Vec<u64>,
     pub codes: Vec<u8>,
+    pub with: W,
+}
+
+/// The lengths of the answer buffers of `expand`.
+#[derive(Clone, Debug)]
+pub struct Lengths {
     pub signs: usize,
     pub z: usize,
     pub x: usize,
 }
 
-impl RecordCall {
-    /// The call on a record, with lengths as they should be.
-    pub fn on(record: &Record) -> RecordCall {
-        let n = record.n();
+impl<W> RecordCall<W> {
+    /// The call on a record.
+    pub fn with(record: &Record, with: W) -> RecordCall<W> {
         RecordCall {
-            n: n as u64,
+            n: record.n() as u64,
             neighbours: record.neighbours.clone(),
             codes: record.codes.clone(),
+            with,
+        }
+    }
+}
+
+impl RecordCall<Lengths> {
+    /// The call on a record, with lengths as they should be.
+    pub fn on(record: &Record) -> RecordCall<Lengths> {
+        let n = record.n();
+        let lengths = Lengths {
             signs: n,
             z: n,
             x: n,
-        }
+        };
+        RecordCall::with(record, lengths)
     }
 
     /// The list that `expand` writes, or the number of its refusal.
     pub fn expand(&self) -> Result<GeneratorList, u8> {
         let mut neighbours = Guarded::holding(&self.neighbours);
         let mut codes = Guarded::holding(&self.codes);
-        let mut signs = Guarded::patterned(self.signs);
-        let mut z = Guarded::patterned(self.z);
-        let mut x = Guarded::patterned(self.x);
+        let mut signs = Guarded::patterned(self.with.signs);
+        let mut z = Guarded::patterned(self.with.z);
+        let mut x = Guarded::patterned(self.with.x);
         let number = raw::expand(
             self.n,
             neighbours.lent(),
@@ -138,7 +154,7 @@ impl RecordCall {
 
     /// The number due to the record and the answer buffers' lengths.
     pub fn due(&self) -> u8 {
-        let lengths = [self.signs, self.z, self.x];
+        let lengths = [self.with.signs, self.with.z, self.with.x];
         reference::record_refusal(self.n, &self.neighbours, &self.codes, &lengths)
     }
 }

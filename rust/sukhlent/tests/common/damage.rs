@@ -1,6 +1,7 @@
 //! Faults in the arguments of a call. Where a buffer is too short for a fault, it is left out.
 
-use super::calls::ListCall;
+use super::calls::{ListCall, RecordCall};
+use super::seeded::Random;
 
 /// Takes a place out of a buffer.
 pub fn cut<T>(places: &mut Vec<T>, j: usize) {
@@ -54,6 +55,45 @@ pub fn repeat(call: &mut ListCall, a: usize, b: usize) {
 
 /// A fault: its number, and what it does to the arguments of a call.
 pub type Fault<C> = (u8, fn(&mut C));
+
+/// The faults of a record on 8 vertices, whatever goes with it.
+pub fn record_faults<W>() -> Vec<Fault<RecordCall<W>>> {
+    vec![
+        (2, |call| call.n = 0),
+        (2, |call| call.n = 65),
+        (2, |call| call.n = u64::MAX),
+        (4, |call| call.neighbours.push(0)),
+        (4, |call| call.neighbours.truncate(7)),
+        (4, |call| call.codes.push(0)),
+        (4, |call| call.codes.clear()),
+        (4, |call| call.n += 1),
+        (5, |call| flip(&mut call.neighbours, 0, 8)),
+        (5, |call| flip(&mut call.neighbours, 5, 63)),
+        (6, |call| put(&mut call.codes, 0, 24)),
+        (6, |call| put(&mut call.codes, 3, 255)),
+        (6, |call| put(&mut call.codes, 7, 32)),
+        (7, |call| flip(&mut call.neighbours, 0, 0)),
+        (7, |call| flip(&mut call.neighbours, 6, 6)),
+        (7, |call| flip(&mut call.neighbours, 0, 6)),
+        (7, |call| flip(&mut call.neighbours, 6, 0)),
+        (7, |call| flip(&mut call.neighbours, 3, 4)),
+    ]
+}
+
+/// One random fault of a record, or none.
+pub fn damage_record<W>(random: &mut Random, call: &mut RecordCall<W>) {
+    let n = call.n.clamp(1, 64) as usize;
+    let (a, b) = (random.below(n), random.below(n));
+    match random.below(7) {
+        0 => call.n = [0, 65, u64::MAX][random.below(3)],
+        1 => call.neighbours.truncate(a),
+        2 => call.codes.push(0),
+        3 => flip(&mut call.neighbours, a, random.below(64) as u32),
+        4 => put(&mut call.codes, a, random.word() as u8),
+        5 => flip(&mut call.neighbours, a, b as u32),
+        _ => put(&mut call.codes, a, random.below(24) as u8),
+    }
+}
 
 /// Each fault alone gives its number.
 pub fn each_fault<C>(

@@ -5,11 +5,16 @@ pub mod calls;
 pub mod codes;
 pub mod damage;
 pub mod guarded;
+pub mod in_place;
 pub mod local;
+pub mod operation;
 pub mod reference;
 pub mod seeded;
 pub mod vectors;
 
-pub use calls::{ListCall, RecordCall};
+pub use calls::{Lengths, ListCall, RecordCall};
 pub use codes::images;
-pub use seeded::{list, mixed, pauli, random_rows, rows, stabilizers, Circuit, Pauli, Random};
+pub use operation::Operation;
+pub use seeded::{
+    list, mixed, pauli, random_record, random_rows, rows, stabilizers, Circuit, Pauli, Random,
+};

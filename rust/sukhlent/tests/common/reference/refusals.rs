@@ -1,5 +1,6 @@
 //! The refusals of lists and records, line by line.
 
+use crate::common::operation::Operation;
 use crate::common::seeded::{rows, Pauli};
 use sukhlent::GeneratorList;
 
@@ -53,6 +54,34 @@ pub fn record_refusal(n: u64, neighbours: &[u64], codes: &[u8], others: &[usize]
         return 7;
     }
     0
+}
+
+/// The first line that is true of a call on a record in place.
+pub fn in_place_refusal(n: u64, neighbours: &[u64], codes: &[u8], operation: Operation) -> u8 {
+    let of_record = record_refusal(n, neighbours, codes, &[]);
+    let six = match operation {
+        Operation::Gate(_, code) => code > 23,
+        Operation::Measure(pauli, _, outcome) => !(1..=3).contains(&pauli) || outcome > 1,
+        _ => false,
+    };
+    if six && ![2, 4, 5].contains(&of_record) {
+        return 6;
+    }
+    if of_record != 0 {
+        return of_record;
+    }
+    let eight = match operation {
+        Operation::Gate(q, _) | Operation::Measure(_, q, _) | Operation::Complement(q) => q >= n,
+        Operation::Cz(a, b) => a >= n || b >= n || a == b,
+        Operation::Pivot(j, k) => {
+            j >= n || k >= n || j == k || neighbours[j as usize] >> k & 1 == 0
+        }
+    };
+    if eight {
+        8
+    } else {
+        0
+    }
 }
 
 /// Whether a word has a bit at or above n.

@@ -5,8 +5,10 @@ pub mod circuit;
 pub mod lists;
 pub mod pauli;
 pub mod random;
+pub mod records;
 
 pub use circuit::{stabilizers, Circuit, Gate};
 pub use lists::{list, mixed, random_rows, rows};
 pub use pauli::Pauli;
 pub use random::Random;
+pub use records::random_record;

@@ -1,0 +1,61 @@
+/* Calls on one record, one after another: three qubits are entangled, measured and rewritten.
+ * The last two calls are refused and leave the record as it was. */
+#include <stdio.h>
+
+#include "sukhlent.h"
+
+enum { N = 3 };
+enum { PHASE_GATE = 4, HADAMARD = 8 };
+enum { X = 1, Y = 2, Z = 3 };
+
+/* Qubits in the state +X each: no edge, codes 0. */
+static uint64_t neighbours[N];
+static uint8_t codes[N];
+
+/* Prints a call and its refusal, if any, and the record that it left. */
+static void show(const char *call, uint8_t refusal)
+{
+    printf("%s", call);
+    if (refusal != 0)
+        printf(": refused %d", refusal);
+    printf("\n    codes");
+    for (int q = 0; q < N; q++)
+        printf(" %d", codes[q]);
+    printf(", edges");
+    for (int a = 0; a < N; a++)
+        for (int b = a + 1; b < N; b++)
+            if (neighbours[a] >> b & 1)
+                printf(" %d-%d", a, b);
+    putchar('\n');
+}
+
+static void cz(const char *call, uint64_t a, uint64_t b)
+{
+    show(call, sukhlent_cz(N, neighbours, N, codes, N, a, b));
+}
+
+static void measure(const char *call, uint8_t pauli, uint64_t qubit, uint8_t outcome)
+{
+    uint8_t answer, determined;
+    uint8_t refusal = sukhlent_measure(N, neighbours, N, codes, N, pauli, qubit, outcome,
+                                       &answer, &determined);
+    show(call, refusal);
+    if (refusal == 0)
+        printf("    outcome %d, %s\n", answer, determined ? "determined" : "not determined");
+}
+
+int main(void)
+{
+    cz("CZ on 0, 1", 0, 1);
+    cz("CZ on 0, 2", 0, 2);
+    show("complement at 0", sukhlent_complement(N, neighbours, N, codes, N, 0));
+    show("pivot on 0, 1", sukhlent_pivot(N, neighbours, N, codes, N, 0, 1));
+    show("phase gate on 2", sukhlent_gate(N, neighbours, N, codes, N, 2, PHASE_GATE));
+    show("Hadamard on 1", sukhlent_gate(N, neighbours, N, codes, N, 1, HADAMARD));
+    measure("Z on 0, bit 1", Z, 0, 1);
+    measure("Y on 2, bit 0", Y, 2, 0);
+    measure("X on 1, bit 0", X, 1, 0);
+    cz("CZ on 2, 2", 2, 2);
+    measure("Z on 1, bit 2", Z, 1, 2);
+    return 0;
+}

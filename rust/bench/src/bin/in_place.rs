@@ -1,0 +1,205 @@
+//! Times of gate, CZ and measurement on 64 qubits: the engine through its C calls, and a plain
+//! tableau, on the same seeded states and calls.
+
+#[allow(dead_code)]
+#[path = "../../../sukhlent/tests/common/operation.rs"]
+mod operation;
+#[path = "../../../sukhlent/tests/common/seeded/mod.rs"]
+mod seeded;
+#[path = "../timing.rs"]
+mod timing;
+
+use operation::Operation;
+use seeded::{Circuit, Gate, Random};
+use sukhlent::{reduce, GeneratorList, Record};
+use tableau::{Measured, Tableau};
+use timing::{medians, Ready};
+
+/// The number of qubits.
+const N: usize = 64;
+/// The number of states.
+const STATES: usize = 512;
+/// The number of states in a timed sample, with one call on each.
+const SAMPLE: usize = 8;
+
+/// A state in both forms, and the call on it.
+struct Case {
+    record: Record,
+    tableau: Tableau,
+    operation: Operation,
+}
+
+/// Makes a case.
+type Maker = fn(&mut Random) -> Case;
+
+fn main() {
+    println!("one call on {N} qubits, median time");
+    println!(
+        "{:<26} {:>12} {:>12} {:>7}",
+        "call", "engine", "tableau", "ratio"
+    );
+    let kinds: [(&str, Maker); 4] = [
+        ("gate", gate),
+        ("CZ", cz),
+        ("measurement, chosen", chosen),
+        ("measurement, determined", determined),
+    ];
+    for (name, case) in kinds {
+        let mut random = Random::new(N as u64);
+        let cases: Vec<Case> = (0..STATES).map(|_| case(&mut random)).collect();
+        cases.iter().for_each(assert_same_answers);
+        let engine = |sample| engine_sample(part(&cases, sample));
+        let plain = |sample| tableau_sample(part(&cases, sample));
+        let [engine, plain] = medians([&engine, &plain]).map(|time| time / SAMPLE as f64);
+        let ratio = engine / plain;
+        println!("{name:<26} {engine:>9.0} ns {plain:>9.0} ns {ratio:>7.1}");
+    }
+}
+
+/// The cases of a sample; the samples go through all cases in turn.
+fn part(cases: &[Case], sample: usize) -> &[Case] {
+    let first = sample * SAMPLE % STATES;
+    &cases[first..first + SAMPLE]
+}
+
+/// The calls of a sample on copies of the records.
+fn engine_sample(cases: &[Case]) -> Ready<'static> {
+    let copies = cases
+        .iter()
+        .map(|case| (case.record.clone(), case.operation));
+    let mut copies: Vec<_> = copies.collect();
+    Box::new(move || {
+        copies.iter_mut().fold(0, |sum, (record, operation)| {
+            sum ^ digest(on_record(record, *operation)) ^ record.neighbours[N - 1]
+        })
+    })
+}
+
+/// The calls of a sample on copies of the tableaux.
+fn tableau_sample(cases: &[Case]) -> Ready<'static> {
+    let copies = cases
+        .iter()
+        .map(|case| (case.tableau.clone(), case.operation));
+    let mut copies: Vec<_> = copies.collect();
+    Box::new(move || {
+        copies.iter_mut().fold(0, |sum, (tableau, operation)| {
+            sum ^ digest(on_tableau(tableau, *operation)) ^ tableau.generators()[N - 1].z
+        })
+    })
+}
+
+/// A number that depends on an answer, so that no call is left out.
+fn digest(measured: Option<Measured>) -> u64 {
+    measured.map_or(0, |m| u64::from(m.outcome))
+}
+
+/// Calls the engine.
+fn on_record(record: &mut Record, operation: Operation) -> Option<Measured> {
+    let (mut outcome, mut determined) = (0, 0);
+    let number = operation.call(
+        N as u64,
+        &mut record.neighbours,
+        &mut record.codes,
+        &mut outcome,
+        &mut determined,
+    );
+    assert_eq!(number, 0, "{operation:?} is accepted");
+    matches!(operation, Operation::Measure(..)).then_some(Measured {
+        outcome,
+        determined: determined == 1,
+    })
+}
+
+/// Does the same to a tableau.
+fn on_tableau(tableau: &mut Tableau, operation: Operation) -> Option<Measured> {
+    match operation {
+        Operation::Gate(q, code) => tableau.gate(q as usize, code),
+        Operation::Cz(a, b) => tableau.cz(a as usize, b as usize),
+        Operation::Measure(pauli, q, bit) => return Some(tableau.measure(pauli, q as usize, bit)),
+        _ => panic!("a tableau has no graph: {operation:?}"),
+    }
+    None
+}
+
+/// Panics unless both answer the same and leave the same state.
+fn assert_same_answers(case: &Case) {
+    let (mut record, mut tableau) = (case.record.clone(), case.tableau.clone());
+    let operation = case.operation;
+    let answers = (
+        on_record(&mut record, operation),
+        on_tableau(&mut tableau, operation),
+    );
+    assert_eq!(answers.0, answers.1, "{operation:?}");
+    assert_eq!(record, reduced(&tableau), "{operation:?}");
+}
+
+/// The case of a state and a call.
+fn case(tableau: Tableau, operation: Operation) -> Case {
+    Case {
+        record: reduced(&tableau),
+        tableau,
+        operation,
+    }
+}
+
+fn gate(random: &mut Random) -> Case {
+    let operation = Operation::Gate(random.below(N) as u64, random.below(24) as u8);
+    case(generic(random), operation)
+}
+
+fn cz(random: &mut Random) -> Case {
+    let (a, b) = random.pair_below(N);
+    case(generic(random), Operation::Cz(a as u64, b as u64))
+}
+
+/// A measurement whose outcome is not determined.
+fn chosen(random: &mut Random) -> Case {
+    let tableau = generic(random);
+    loop {
+        let (pauli, q, bit) = (1 + random.below(3), random.below(N), random.below(2));
+        let measured = tableau.clone().measure(pauli as u8, q, bit as u8);
+        if !measured.determined {
+            let operation = Operation::Measure(pauli as u8, q as u64, bit as u8);
+            return case(tableau, operation);
+        }
+    }
+}
+
+/// The same measurement once more.
+fn determined(random: &mut Random) -> Case {
+    let Case {
+        mut tableau,
+        operation,
+        ..
+    } = chosen(random);
+    on_tableau(&mut tableau, operation);
+    case(tableau, operation)
+}
+
+/// The state that a random circuit makes.
+fn generic(random: &mut Random) -> Tableau {
+    let circuit = Circuit::random(random, N, 10 * N);
+    let mut tableau = Tableau::zero(N);
+    for q in (0..N).filter(|q| circuit.start >> q & 1 == 1) {
+        tableau.gate(q, 1);
+    }
+    for gate in circuit.gates {
+        match gate {
+            Gate::H(q) => tableau.gate(q, 8),
+            Gate::S(q) => tableau.gate(q, 4),
+            Gate::Cz(a, b) => tableau.cz(a, b),
+        }
+    }
+    tableau
+}
+
+/// The reduced record of a tableau's group.
+fn reduced(tableau: &Tableau) -> Record {
+    let rows = tableau.generators();
+    let list = GeneratorList {
+        signs: rows.iter().map(|row| row.sign()).collect(),
+        z: rows.iter().map(|row| row.z).collect(),
+        x: rows.iter().map(|row| row.x).collect(),
+    };
+    reduce(&list).expect("a tableau has proper generators")
+}

@@ -1,0 +1,34 @@
+//! What happened in a session.
+
+use std::fmt;
+
+/// The numbers of calls of each kind.
+#[derive(Clone, Debug, Default, PartialEq, Eq)]
+pub struct Counts {
+    pub gates: u64,
+    pub czs: u64,
+    /// Measurements whose outcome was the given bit.
+    pub chosen: u64,
+    /// Measurements whose outcome was determined.
+    pub determined: u64,
+    pub complements: u64,
+    pub pivots: u64,
+    pub refused: u64,
+}
+
+impl fmt::Display for Counts {
+    fn fmt(&self, f: &mut fmt::Formatter<'_>) -> fmt::Result {
+        write!(
+            f,
+            "{} gates, {} CZ, {} outcomes chosen and {} determined, {} complements, {} pivots, \
+             {} refused",
+            self.gates,
+            self.czs,
+            self.chosen,
+            self.determined,
+            self.complements,
+            self.pivots,
+            self.refused
+        )
+    }
+}

@@ -1,0 +1,35 @@
+//! Sessions of seeded calls on one record, compared call by call with a plain tableau.
+//!
+//! After each call the record is compared with the reduced record of the tableau's group, by an
+//! elimination in plain Rust; outcomes with the tableau's; complements and pivots with document
+//! 01's text; refusals with its list.
+
+mod choice;
+mod counts;
+mod session;
+
+#[path = "../../sukhlent/tests/common/mod.rs"]
+mod common;
+
+#[path = "../../bench/src/plain.rs"]
+mod plain;
+
+pub use counts::Counts;
+pub use session::Session;
+
+/// Makes so many calls on n qubits. The error names the call and what is different.
+pub fn run(
+    n: usize,
+    seed: u64,
+    calls: u64,
+    mut progress: impl FnMut(u64, &Counts),
+) -> Result<Counts, String> {
+    let mut session = Session::new(n, seed);
+    for number in 1..=calls {
+        session.step().map_err(|difference| {
+            format!("{n} qubits, seed {seed}, call {number}: {difference}")
+        })?;
+        progress(number, &session.counts);
+    }
+    Ok(session.counts)
+}

@@ -1,0 +1,39 @@
+//! Short sessions on some numbers of qubits.
+
+use sessions::{run, Counts};
+
+fn session(n: usize, seed: u64, calls: u64) -> Counts {
+    run(n, seed, calls, |_, _| ()).unwrap_or_else(|difference| panic!("{difference}"))
+}
+
+#[test]
+fn sixty_four_qubits() {
+    for seed in 1..=3 {
+        let counts = session(64, seed, 6000);
+        let Counts {
+            gates,
+            czs,
+            chosen,
+            determined,
+            complements,
+            pivots,
+            refused,
+        } = counts;
+        let all = [gates, czs, chosen, determined, complements, pivots, refused];
+        assert!(all.iter().all(|&times| times > 100), "{counts}");
+        assert_eq!(all.iter().sum::<u64>(), 6000);
+    }
+}
+
+#[test]
+fn every_number_of_qubits() {
+    for n in 1..=64 {
+        session(n, n as u64, 600);
+    }
+}
+
+#[test]
+fn sessions_of_one_seed_are_the_same() {
+    assert_eq!(session(9, 5, 2000), session(9, 5, 2000));
+    assert_ne!(session(9, 5, 2000), session(9, 6, 2000));
+}

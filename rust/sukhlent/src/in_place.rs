@@ -1,0 +1,109 @@
+//! Calls that rewrite a record in place. A refused call leaves the record as it was.
+
+use crate::{raw, Record, Refusal};
+
+/// A Pauli that can be measured, by its number.
+#[derive(Clone, Copy, Debug, PartialEq, Eq, Hash, PartialOrd, Ord)]
+#[repr(u8)]
+pub enum Pauli {
+    /// The Pauli X.
+    X = 1,
+    /// The Pauli Y.
+    Y = 2,
+    /// The Pauli Z.
+    Z = 3,
+}
+
+/// The answer of a measurement.
+#[derive(Clone, Copy, Debug, PartialEq, Eq, Hash)]
+pub struct Measured {
+    /// 0 for plus, 1 for minus.
+    pub outcome: u8,
+    /// Whether the Pauli or its negative was in the group already.
+    pub determined: bool,
+}
+
+/// Applies a code after the code held at a qubit; the record becomes the reduced one.
+///
+/// Refusals: 2, 4, 5, 6 (also for the given code), 7, 8 for a qubit out of range.
+pub fn gate(record: &mut Record, qubit: usize, code: u8) -> Result<(), Refusal> {
+    let n = record.n() as u64;
+    let (neighbours, codes) = (&mut record.neighbours, &mut record.codes);
+    Refusal::unless_accepted(raw::gate(n, neighbours, codes, qubit as u64, code))
+}
+
+/// Applies CZ to two qubits; the record becomes the reduced one.
+///
+/// Refusals: 2, 4, 5, 6, 7, 8 for a qubit out of range or one qubit twice.
+pub fn cz(record: &mut Record, a: usize, b: usize) -> Result<(), Refusal> {
+    let n = record.n() as u64;
+    let (neighbours, codes) = (&mut record.neighbours, &mut record.codes);
+    Refusal::unless_accepted(raw::cz(n, neighbours, codes, a as u64, b as u64))
+}
+
+/// Measures a Pauli at a qubit; the record becomes the reduced one.
+///
+/// The outcome is the bit (1 for minus) where the Pauli is not determined; otherwise the bit is
+/// ignored and the group stays.
+///
+/// Refusals: 2, 4, 5, 6 (also for a bit above 1), 7, 8 for a qubit out of range.
+///
+/// ```
+/// use sukhlent::{gate, measure, Measured, Pauli, Record};
+///
+/// // The Bell state XX, ZZ: one edge with a Hadamard at qubit 1.
+/// let mut record = Record {
+///     neighbours: vec![0b10, 0b01],
+///     codes: vec![0, 8],
+/// };
+/// let first = measure(&mut record, Pauli::Z, 0, 1)?;
+/// assert_eq!(first, Measured { outcome: 1, determined: false });
+/// assert_eq!(record.codes, [10, 10]);
+/// gate(&mut record, 1, 1)?;
+/// let second = measure(&mut record, Pauli::Z, 1, 1)?;
+/// assert_eq!(second, Measured { outcome: 0, determined: true });
+/// # Ok::<(), sukhlent::Refusal>(())
+/// ```
+pub fn measure(
+    record: &mut Record,
+    pauli: Pauli,
+    qubit: usize,
+    bit: u8,
+) -> Result<Measured, Refusal> {
+    let n = record.n() as u64;
+    let (mut outcome, mut determined) = (0, 0);
+    let number = raw::measure(
+        n,
+        &mut record.neighbours,
+        &mut record.codes,
+        pauli as u8,
+        qubit as u64,
+        bit,
+        &mut outcome,
+        &mut determined,
+    );
+    Refusal::unless_accepted(number).map(|()| Measured {
+        outcome,
+        determined: determined == 1,
+    })
+}
+
+/// Complements the graph at a vertex and rewrites the codes so that the group stays. The record is
+/// not reduced.
+///
+/// Refusals: 2, 4, 5, 6, 7, 8 for a vertex out of range.
+pub fn complement(record: &mut Record, a: usize) -> Result<(), Refusal> {
+    let n = record.n() as u64;
+    let (neighbours, codes) = (&mut record.neighbours, &mut record.codes);
+    Refusal::unless_accepted(raw::complement(n, neighbours, codes, a as u64))
+}
+
+/// Complements at j, k and j again, where j and k have an edge. The record is not reduced, and the
+/// group stays.
+///
+/// Refusals: 2, 4, 5, 6, 7, 8 for a vertex out of range, one vertex twice or a pair with no edge.
+pub fn pivot(record: &mut Record, j: usize, k: usize) -> Result<(), Refusal> {
+    let n = record.n() as u64;
+    let (neighbours, codes) = (&mut record.neighbours, &mut record.codes);
+    Refusal::unless_accepted(raw::pivot(n, neighbours, codes, j as u64, k as u64))
+}

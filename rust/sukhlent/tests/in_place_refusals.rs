@@ -1,0 +1,193 @@
+//! Damaged calls on a record in place: every number, pairs of faults, and every wrong argument.
+
+mod common;
+
+use common::damage::{damage_record, each_fault, each_pair, flip, record_faults, Fault};
+use common::{random_record, Operation, Random, RecordCall};
+use Operation::{Complement, Cz, Gate, Measure, Pivot};
+
+type Call = RecordCall<Operation>;
+
+/// The faults of a call's own arguments on 8 vertices; the last ones have two.
+fn own_faults(operation: Operation) -> Vec<Fault<Call>> {
+    match operation {
+        Gate(..) => vec![
+            (6, |call| call.with = Gate(0, 24)),
+            (6, |call| call.with = Gate(7, 255)),
+            (8, |call| call.with = Gate(8, 0)),
+            (8, |call| call.with = Gate(u64::MAX, 23)),
+            (6, |call| call.with = Gate(8, 24)),
+        ],
+        Cz(..) => vec![
+            (8, |call| call.with = Cz(8, 0)),
+            (8, |call| call.with = Cz(0, 8)),
+            (8, |call| call.with = Cz(u64::MAX, 1 << 32)),
+            (8, |call| call.with = Cz(3, 3)),
+            (8, |call| call.with = Cz(8, 8)),
+        ],
+        Measure(..) => vec![
+            (6, |call| call.with = Measure(0, 0, 0)),
+            (6, |call| call.with = Measure(4, 7, 1)),
+            (6, |call| call.with = Measure(3, 0, 2)),
+            (8, |call| call.with = Measure(1, 8, 0)),
+            (8, |call| call.with = Measure(2, u64::MAX, 1)),
+            (6, |call| call.with = Measure(0, 8, 0)),
+            (6, |call| call.with = Measure(2, 8, 255)),
+        ],
+        Complement(..) => vec![
+            (8, |call| call.with = Complement(8)),
+            (8, |call| call.with = Complement(1 << 32)),
+            (8, |call| call.with = Complement(u64::MAX)),
+        ],
+        Pivot(..) => vec![
+            (8, |call| call.with = Pivot(8, 0)),
+            (8, |call| call.with = Pivot(0, 8)),
+            (8, |call| call.with = Pivot(u64::MAX, 1)),
+            (8, |call| call.with = Pivot(5, 5)),
+            (8, |call| {
+                flip(&mut call.neighbours, 0, 1);
+                flip(&mut call.neighbours, 1, 0);
+            }),
+        ],
+    }
+}
+
+/// A call on a random record of n vertices, of which the first two have an edge.
+fn base(seed: u64, n: usize, operation: Operation) -> Call {
+    let mut record = random_record(&mut Random::new(seed), n);
+    if n > 1 {
+        record.neighbours[0] |= 2;
+        record.neighbours[1] |= 1;
+    }
+    RecordCall::with(&record, operation)
+}
+
+fn assert_refused(call: &Call, number: u8, what: &str) {
+    assert_eq!(call.due(), number, "the fault itself: {what}");
+    assert_eq!(call.apply(), Err(number), "{what}: {call:?}");
+}
+
+fn assert_judged(call: &Call, number: u8) {
+    assert_eq!(call.due(), number, "{call:?}");
+    assert_eq!(call.apply().err().unwrap_or(0), number, "{call:?}");
+}
+
+/// Numbers of qubits that are n or more.
+fn beyond(n: u64) -> impl Iterator<Item = u64> {
+    let far = [64, 65, 128, 256, 1 << 32, 1 << 63, u64::MAX].into_iter();
+    let low_bits = [1 << 8, 1 << 16, 1 << 32, 1 << 63].map(|high| high + n - 1);
+    (n..n + 70)
+        .chain(far.filter(move |&q| q >= n))
+        .chain(low_bits)
+}
+
+#[test]
+fn every_fault_gives_its_number() {
+    for (seed, operation) in (0..20).flat_map(|s| Operation::EACH.map(|o| (s, o))) {
+        let base = || base(seed, 8, operation);
+        assert_judged(&base(), 0);
+        each_fault(&record_faults(), base, assert_refused);
+        each_fault(&own_faults(operation), base, assert_refused);
+    }
+}
+
+#[test]
+fn of_two_faults_the_earlier_number_is_given() {
+    for (seed, operation) in (0..20).flat_map(|s| Operation::EACH.map(|o| (s, o))) {
+        let faults = [record_faults(), own_faults(operation)].concat();
+        each_pair(&faults, || base(seed, 8, operation), assert_refused);
+    }
+}
+
+#[test]
+fn every_code_and_every_qubit_of_a_gate() {
+    for n in [1, 2, 63, 64] {
+        let call = |q, code| base(q ^ u64::from(code), n as usize, Gate(q, code));
+        for (q, code) in (0..n).flat_map(|q| (0..=255).map(move |code| (q, code))) {
+            assert_judged(&call(q, code), if code < 24 { 0 } else { 6 });
+        }
+        for q in beyond(n) {
+            assert_judged(&call(q, 0), 8);
+            assert_judged(&call(q, 23), 8);
+            assert_judged(&call(q, 24), 6);
+        }
+    }
+}
+
+#[test]
+fn every_pauli_every_outcome_and_every_qubit_of_a_measurement() {
+    for n in [1, 2, 63, 64] {
+        let call = |pauli, q, bit| base(n, n as usize, Measure(pauli, q, bit));
+        for value in 0..=255 {
+            let pauli_due = if (1..=3).contains(&value) { 0 } else { 6 };
+            let outcome_due = if value < 2 { 0 } else { 6 };
+            for (bit, pauli) in [(0, 1), (1, 2), (0, 3)] {
+                assert_judged(&call(value, n - 1, bit), pauli_due);
+                assert_judged(&call(pauli, n - 1, value), outcome_due);
+            }
+        }
+        for q in 0..n {
+            assert_judged(&call(1 + (q % 3) as u8, q, (q % 2) as u8), 0);
+        }
+        for q in beyond(n) {
+            assert_judged(&call(3, q, 1), 8);
+            assert_judged(&call(4, q, 1), 6);
+            assert_judged(&call(3, q, 2), 6);
+        }
+    }
+}
+
+#[test]
+fn every_vertex_of_a_complementation() {
+    for n in 1..=64 {
+        let call = |a| base(a, n as usize, Complement(a));
+        (0..n).for_each(|a| assert_judged(&call(a), 0));
+        beyond(n).for_each(|a| assert_judged(&call(a), 8));
+    }
+}
+
+#[test]
+fn every_pair_of_a_cz_and_of_a_pivot() {
+    for n in [1, 2, 8, 63, 64] {
+        let right = base(n, n as usize, Cz(0, 0));
+        let call = |with| Call {
+            with,
+            ..right.clone()
+        };
+        for (a, b) in (0..n).flat_map(|a| (0..n).map(move |b| (a, b))) {
+            let edge = right.neighbours[a as usize] >> b & 1 == 1;
+            assert_judged(&call(Cz(a, b)), if a == b { 8 } else { 0 });
+            assert_judged(&call(Pivot(a, b)), if edge { 0 } else { 8 });
+        }
+        for (a, b) in (0..n).flat_map(|a| beyond(n).map(move |b| (a, b))) {
+            for operation in [Cz(a, b), Cz(b, a), Cz(b, b)] {
+                assert_judged(&call(operation), 8);
+            }
+            for operation in [Pivot(a, b), Pivot(b, a), Pivot(b, b)] {
+                assert_judged(&call(operation), 8);
+            }
+        }
+    }
+}
+
+#[test]
+fn seeded_damage_against_the_reference() {
+    let mut counts = [[0; 9]; 5];
+    for seed in 0..10_000 {
+        let mut random = Random::new(20_000 + seed);
+        let n = 2 + random.below(9);
+        let kind = random.below(5);
+        let operation = Operation::loose(&mut random, kind, n);
+        let mut call = base(seed, n, operation);
+        for _ in 0..random.below(3) {
+            damage_record(&mut random, &mut call);
+        }
+        let due = call.due();
+        assert_judged(&call, due);
+        counts[kind][usize::from(due)] += 1;
+    }
+    for counts in counts {
+        let all = [0, 2, 4, 5, 6, 7, 8];
+        assert!(all.iter().all(|&k| counts[k] > 20), "{counts:?}");
+    }
+}

@@ -1,0 +1,111 @@
+//! Complements and pivots: the record rewritten, its group kept.
+
+mod common;
+
+use common::local::complemented_record;
+use common::reference::{expanded, reduced};
+use common::{random_record, Operation, Random, RecordCall};
+use sukhlent::{complement, gate, pivot, reduce, Record, Refusal};
+
+fn record(neighbours: &[u64], codes: &[u8]) -> Record {
+    Record {
+        neighbours: neighbours.to_vec(),
+        codes: codes.to_vec(),
+    }
+}
+
+/// The record that an accepted call leaves.
+fn after(given: &Record, operation: Operation) -> Record {
+    let (record, measured) = RecordCall::with(given, operation).apply().unwrap();
+    assert_eq!(measured, None);
+    record
+}
+
+#[test]
+fn thirteen_and_six_stand_before_the_codes_held() {
+    // First 13, then 8 sends X to Z and Z to Y; first 6, then 8 sends X to Y and Z to X; first 6,
+    // then 4 fixes X and Z.
+    let mut star = record(&[0b110, 0b001, 0b001], &[8, 8, 4]);
+    assert_eq!(complement(&mut star, 0), Ok(()));
+    assert_eq!(star, record(&[0b110, 0b101, 0b011], &[20, 16, 0]));
+}
+
+#[test]
+fn a_vertex_with_no_neighbours_changes_only_its_code() {
+    let mut three = record(&[0b010, 0b001, 0], &[0, 0, 0]);
+    assert_eq!(complement(&mut three, 2), Ok(()));
+    assert_eq!(three, record(&[0b010, 0b001, 0], &[0, 0, 13]));
+}
+
+#[test]
+fn a_pivot_on_an_edge_alone_exchanges_x_and_z() {
+    // First 13, 6 and 13 at qubit 0; 6, 13 and 6 at qubit 1: X goes to Z up to signs.
+    let mut edge = record(&[2, 1], &[0, 0]);
+    assert_eq!(pivot(&mut edge, 0, 1), Ok(()));
+    assert_eq!(edge.neighbours, [2, 1]);
+    assert!(edge.codes.iter().all(|code| code / 4 == 2), "{edge:?}");
+    assert_eq!(reduced(&expanded(&edge)), record(&[2, 1], &[0, 0]));
+}
+
+#[test]
+fn a_pivot_without_an_edge_is_refused() {
+    let path = record(&[0b010, 0b101, 0b010], &[0, 0, 0]);
+    let mut given = path.clone();
+    assert_eq!(pivot(&mut given, 0, 2), Err(Refusal::Place));
+    assert_eq!(given, path);
+}
+
+#[test]
+fn the_record_is_not_reduced_until_a_gate() {
+    let star = record(&[0b110, 0b001, 0b001], &[0, 0, 0]);
+    let mut given = star.clone();
+    complement(&mut given, 0).unwrap();
+    assert_eq!(given, record(&[0b110, 0b101, 0b011], &[13, 6, 6]));
+    gate(&mut given, 1, 0).unwrap();
+    assert_eq!(given, star);
+}
+
+#[test]
+fn complements_on_up_to_64_vertices() {
+    for seed in 0..400 {
+        let mut random = Random::new(30_000 + seed);
+        let n = 1 + random.below(64);
+        let given = random_record(&mut random, n);
+        let a = random.below(n);
+        let answer = after(&given, Operation::Complement(a as u64));
+        assert_eq!(answer, complemented_record(&given, a), "seed {seed}");
+        assert_same_group(&given, &answer);
+    }
+}
+
+#[test]
+fn pivots_on_up_to_64_vertices() {
+    let mut tried = 0;
+    for seed in 0..400 {
+        let mut random = Random::new(31_000 + seed);
+        let n = 2 + random.below(63);
+        let given = random_record(&mut random, n);
+        let (j, k) = random.pair_below(n);
+        if given.neighbours[j] >> k & 1 == 0 {
+            continue;
+        }
+        let [there, back] = [(j, k), (k, j)].map(|(j, k)| {
+            let answer = after(&given, Operation::Pivot(j as u64, k as u64));
+            let steps = [j, k, j].into_iter();
+            let due = steps.fold(given.clone(), |r, v| complemented_record(&r, v));
+            assert_eq!(answer, due, "seed {seed}");
+            assert_same_group(&given, &answer);
+            answer
+        });
+        assert_eq!(there.neighbours, back.neighbours, "seed {seed}");
+        tried += 1;
+    }
+    assert!(tried > 100, "{tried}");
+}
+
+/// Two records stand for one group: by the reference, and by the engine's reduction.
+fn assert_same_group(a: &Record, b: &Record) {
+    let [a, b] = [a, b].map(expanded);
+    assert_eq!(reduced(&a), reduced(&b));
+    assert_eq!(reduce(&a), reduce(&b));
+}

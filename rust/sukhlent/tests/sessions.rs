@@ -1,0 +1,156 @@
+//! Sessions of calls on one record against state vectors, on up to 8 qubits.
+
+mod common;
+
+use common::damage::damage_record;
+use common::reference::{expanded, reduced};
+use common::vectors::{assert_stabilized, matrix, state_of};
+use common::{random_record, Operation, Random, RecordCall};
+use simulator::{Matrix2, Row, State};
+use std::collections::HashMap;
+use sukhlent::{expand, reduce, Measured, Record};
+
+/// A record and its state vector, and how often something has happened to them.
+struct Session {
+    record: Record,
+    state: State,
+    matrices: Vec<Matrix2>,
+    counts: HashMap<String, usize>,
+}
+
+impl Session {
+    fn new(matrices: &[Matrix2], record: Record) -> Session {
+        Session {
+            state: state_of(&record),
+            record,
+            matrices: matrices.to_vec(),
+            counts: HashMap::new(),
+        }
+    }
+
+    fn count(&mut self, what: &str) {
+        *self.counts.entry(what.to_string()).or_default() += 1;
+    }
+
+    /// Applies one call; where it is due to be refused, asserts just that.
+    fn step(&mut self, operation: Operation) {
+        let call = RecordCall::with(&self.record, operation);
+        let due = call.due();
+        let answer = call.apply();
+        if due != 0 {
+            assert_eq!(answer, Err(due), "{call:?}");
+            self.count(&format!("refused {due}"));
+            return;
+        }
+        let (record, measured) = answer.unwrap_or_else(|number| panic!("{number}: {call:?}"));
+        self.record = record;
+        self.follow(operation, measured);
+        let list = expand(&self.record).unwrap();
+        assert_eq!(list, expanded(&self.record));
+        assert_stabilized(&self.state, &list);
+        if !matches!(operation, Operation::Complement(_) | Operation::Pivot(..)) {
+            assert_eq!(reduce(&list).as_ref(), Ok(&self.record), "{call:?}");
+            assert_eq!(reduced(&list), self.record, "{call:?}");
+        }
+    }
+
+    /// Does to the state vector what was done to the record. Complements and pivots do nothing.
+    fn follow(&mut self, operation: Operation, measured: Option<Measured>) {
+        match operation {
+            Operation::Gate(q, code) => {
+                let matrix = self.matrices[usize::from(code)];
+                self.state.apply(q as usize, &matrix);
+                self.count(&format!("code {code}"));
+            }
+            Operation::Cz(a, b) => {
+                self.state.cz(a as usize, b as usize);
+                self.count("cz");
+            }
+            Operation::Measure(pauli, q, bit) => {
+                let measured = measured.expect("a measurement answers");
+                self.measure(pauli, q, bit, measured);
+            }
+            Operation::Complement(_) => self.count("complement"),
+            Operation::Pivot(..) => self.count("pivot"),
+        }
+    }
+
+    /// Compares an outcome with its probability, and projects the state.
+    fn measure(&mut self, pauli: u8, q: u64, bit: u8, measured: Measured) {
+        let row = match pauli {
+            1 => Row::new(0, 0, 1 << q),
+            2 => Row::new(0, 1 << q, 1 << q),
+            _ => Row::new(0, 1 << q, 0),
+        };
+        let near = |a: f64, b: f64| (a - b).abs() < 1e-9;
+        let minus = self.state.probability(&row, 1);
+        let due = if near(minus, 0.5) {
+            Measured {
+                outcome: bit,
+                determined: false,
+            }
+        } else {
+            assert!(near(minus, 0.0) || near(minus, 1.0), "{minus}");
+            Measured {
+                outcome: minus.round() as u8,
+                determined: true,
+            }
+        };
+        assert_eq!(measured, due, "{row:?}");
+        self.state = self.state.project(&row, due.outcome).unwrap();
+        self.count(&format!(
+            "outcome {} with bit {bit}, determined: {}",
+            due.outcome, due.determined
+        ));
+    }
+
+    /// A call on a damaged record is refused; the record of the session stays as it is.
+    fn refuse(&self, random: &mut Random, operation: Operation) {
+        let mut call = RecordCall::with(&self.record, operation);
+        damage_record(random, &mut call);
+        if call.due() != 0 {
+            assert_eq!(call.apply(), Err(call.due()), "{call:?}");
+        }
+    }
+}
+
+#[test]
+fn seeded_sessions_against_state_vectors() {
+    let matrices: Vec<Matrix2> = (0..24).map(matrix).collect();
+    let mut counts = HashMap::<String, usize>::new();
+    for seed in 0..400 {
+        let mut random = Random::new(40_000 + seed);
+        let n = 1 + seed as usize % 8;
+        let mut session = Session::new(&matrices, random_record(&mut random, n));
+        for _ in 0..200 {
+            let kind = random.below(5);
+            let operation = Operation::loose(&mut random, kind, n);
+            if random.below(8) == 0 {
+                session.refuse(&mut random, operation);
+            }
+            session.step(operation);
+        }
+        for (what, times) in session.counts {
+            *counts.entry(what).or_default() += times;
+        }
+    }
+    assert_all_happened(&counts);
+}
+
+/// Every code, every kind of call, outcome and refusal occurred often.
+fn assert_all_happened(counts: &HashMap<String, usize>) {
+    let codes = (0..24).map(|code| format!("code {code}"));
+    let rest = ["cz", "complement", "pivot", "refused 6", "refused 8"];
+    let chosen = [(0, 0, false), (1, 1, false)];
+    let known = [(0, 0, true), (0, 1, true), (1, 0, true), (1, 1, true)];
+    let outcomes = chosen
+        .into_iter()
+        .chain(known)
+        .map(|(outcome, bit, determined)| {
+            format!("outcome {outcome} with bit {bit}, determined: {determined}")
+        });
+    for what in codes.chain(rest.map(str::to_string)).chain(outcomes) {
+        let times = counts.get(&what).copied().unwrap_or(0);
+        assert!(times > 100, "{what}: {times} times of {counts:?}");
+    }
+}

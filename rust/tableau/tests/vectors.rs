@@ -1,0 +1,96 @@
+//! The tableau against state vectors.
+
+use simulator::{find, Complex, Matrix2, Row, State};
+use tableau::{Measured, Tableau};
+
+/// A multiplicative generator of numbers.
+struct Random(u64);
+
+impl Random {
+    fn below(&mut self, bound: usize) -> usize {
+        self.0 = (self.0)
+            .wrapping_mul(6_364_136_223_846_793_005)
+            .wrapping_add(1_442_695_040_888_963_407);
+        (self.0 >> 33) as usize % bound
+    }
+}
+
+/// The matrix of a code; letters are numbered 2z + x.
+fn matrix(code: u8) -> Matrix2 {
+    let (x, z) = [(1, 2), (3, 2), (2, 1), (1, 3), (3, 1), (2, 3)][usize::from(code / 4)];
+    find((2 * (code / 2 % 2), x), (2 * (code % 2), z))
+}
+
+fn assert_stabilized(state: &State, tableau: &Tableau) {
+    for row in tableau.generators() {
+        let value = state.expectation(&Row::new(2 * row.sign(), row.z, row.x));
+        assert!(value.approx_eq(Complex::ONE), "{row:?} has {value:?}");
+    }
+}
+
+/// The generators commute and are independent.
+fn assert_full(tableau: &Tableau) {
+    let rows = tableau.generators();
+    assert!(rows.iter().all(|a| rows.iter().all(|b| !a.clashes(b))));
+    let mut words: Vec<u128> = rows
+        .iter()
+        .map(|row| u128::from(row.x) << 64 | u128::from(row.z))
+        .collect();
+    while let Some(word) = words.pop() {
+        assert_ne!(word, 0, "dependent: {rows:?}");
+        let lowest = word & word.wrapping_neg();
+        for other in words.iter_mut().filter(|other| **other & lowest != 0) {
+            *other ^= word;
+        }
+    }
+}
+
+fn measure(state: &mut State, pauli: u8, q: usize, bit: u8) -> Measured {
+    let row = match pauli {
+        1 => Row::new(0, 0, 1 << q),
+        2 => Row::new(0, 1 << q, 1 << q),
+        _ => Row::new(0, 1 << q, 0),
+    };
+    let minus = state.probability(&row, 1);
+    let determined = (minus - 0.5).abs() > 0.25;
+    let outcome = if determined { minus.round() as u8 } else { bit };
+    *state = state.project(&row, outcome).unwrap();
+    Measured {
+        outcome,
+        determined,
+    }
+}
+
+#[test]
+fn seeded_calls_against_state_vectors() {
+    let matrices: Vec<Matrix2> = (0..24).map(matrix).collect();
+    let mut seen = [[0; 2]; 2];
+    for seed in 0..200 {
+        let mut random = Random(seed);
+        let n = 1 + seed as usize % 6;
+        let (mut tableau, mut state) = (Tableau::zero(n), State::zero(n));
+        for _ in 0..100 {
+            let (a, b) = (random.below(n), random.below(n));
+            match random.below(3) {
+                0 => {
+                    let code = random.below(24);
+                    tableau.gate(a, code as u8);
+                    state.apply(a, &matrices[code]);
+                }
+                1 if a != b => {
+                    tableau.cz(a, b);
+                    state.cz(a, b);
+                }
+                _ => {
+                    let (pauli, bit) = (1 + random.below(3) as u8, random.below(2) as u8);
+                    let answer = tableau.measure(pauli, a, bit);
+                    assert_eq!(answer, measure(&mut state, pauli, a, bit), "seed {seed}");
+                    seen[usize::from(answer.determined)][usize::from(answer.outcome)] += 1;
+                }
+            }
+            assert_full(&tableau);
+            assert_stabilized(&state, &tableau);
+        }
+    }
+    assert!(seen.iter().flatten().all(|&times| times > 100), "{seen:?}");
+}
