@@ -97,7 +97,7 @@ fn pivots_on_up_to_64_vertices() {
             assert_same_group(&given, &answer);
             answer
         });
-        assert_eq!(there.neighbours, back.neighbours, "seed {seed}");
+        assert_eq!(there, back, "seed {seed}: the order of the ends");
         tried += 1;
     }
     assert!(tried > 100, "{tried}");
