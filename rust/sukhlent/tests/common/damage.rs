@@ -1,6 +1,7 @@
 //! Faults in the arguments of a call. Where a buffer is too short for a fault, it is left out.
 
-use super::calls::ListCall;
+use super::calls::{ListCall, RecordCall};
+use super::seeded::Random;
 
 /// Takes a place out of a buffer.
 pub fn cut<T>(places: &mut Vec<T>, j: usize) {
@@ -49,6 +50,41 @@ pub fn repeat(call: &mut ListCall, a: usize, b: usize) {
     if let (Some(&z), Some(&x)) = (call.z.get(b), call.x.get(b)) {
         put(&mut call.z, a, z);
         put(&mut call.x, a, x);
+    }
+}
+
+/// One random fault of a list, or none.
+pub fn damage_list(random: &mut Random, call: &mut ListCall) {
+    let n = call.n.clamp(1, 64) as usize;
+    let (a, b) = (random.below(n), random.below(n));
+    match random.below(12) {
+        0 => call.n = [0, 65, u64::MAX][random.below(3)],
+        1 => call.z.truncate(a),
+        2 => call.codes = n + 1,
+        3 => flip(&mut call.z, a, random.below(64) as u32),
+        4 => flip(&mut call.x, a, random.below(64) as u32),
+        5 => put(&mut call.signs, a, random.word() as u8),
+        6 => flip(&mut call.z, a, b as u32),
+        7 => flip(&mut call.x, a, b as u32),
+        8 | 9 => repeat(call, a, b),
+        10 => anticommute(call, a, b),
+        _ => put(&mut call.signs, a, random.below(2) as u8),
+    }
+}
+
+/// One random fault of a record, or none.
+pub fn damage_record(random: &mut Random, call: &mut RecordCall) {
+    let n = call.n.clamp(1, 64) as usize;
+    let (a, b) = (random.below(n), random.below(n));
+    match random.below(8) {
+        0 => call.n = [0, 65, u64::MAX][random.below(3)],
+        1 => call.neighbours.truncate(a),
+        2 => call.z = n + 1,
+        3 => flip(&mut call.neighbours, a, random.below(64) as u32),
+        4 => flip(&mut call.neighbours, a, b as u32),
+        5 => put(&mut call.codes, a, random.word() as u8),
+        6 => put(&mut call.codes, a, 24),
+        _ => put(&mut call.codes, a, random.below(24) as u8),
     }
 }
 

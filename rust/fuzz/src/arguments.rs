@@ -1,0 +1,112 @@
+//! Arguments of calls: valid ones, some of them damaged in places, and noise.
+
+use crate::common::damage::{damage_list, damage_record};
+use crate::common::{list, random_rows, ListCall, Random, RecordCall};
+use sukhlent::Record;
+
+/// What is done to valid arguments: mostly nothing or little; one in sixteen calls gets noise.
+enum Harm {
+    Faults(usize),
+    Noise,
+}
+
+fn harm(random: &mut Random) -> Harm {
+    match random.below(16) {
+        0 => Harm::Noise,
+        1..=8 => Harm::Faults(1 + random.below(3)),
+        _ => Harm::Faults(0),
+    }
+}
+
+/// A number of qubits: mostly small, at times any, at times near a bound.
+pub fn size(random: &mut Random) -> usize {
+    match random.below(8) {
+        0 => 1 + random.below(64),
+        1 => [1, 2, 20, 21, 63, 64][random.below(6)],
+        _ => 1 + random.below(8),
+    }
+}
+
+/// A call on a list of n generators.
+pub fn list_call(random: &mut Random, n: usize) -> ListCall {
+    match harm(random) {
+        Harm::Noise => noisy_list(random),
+        Harm::Faults(count) => {
+            let mut call = ListCall::on(&list(&random_rows(random, n)));
+            (0..count).for_each(|_| damage_list(random, &mut call));
+            call
+        }
+    }
+}
+
+/// A call on a record of n vertices.
+pub fn record_call(random: &mut Random, n: usize) -> RecordCall {
+    match harm(random) {
+        Harm::Noise => noisy_record(random),
+        Harm::Faults(count) => {
+            let mut call = RecordCall::on(&record(random, n));
+            (0..count).for_each(|_| damage_record(random, &mut call));
+            call
+        }
+    }
+}
+
+/// A random record. A graph has few edges or many, and codes are of few kinds or any.
+fn record(random: &mut Random, n: usize) -> Record {
+    let (sparse, kinds) = (1 + random.below(4), [1, 2, 24][random.below(3)]);
+    let mut neighbours = vec![0u64; n];
+    for (a, b) in (0..n).flat_map(|a| (0..a).map(move |b| (a, b))) {
+        let bit = (random.below(sparse) == 0) as u64;
+        neighbours[a] |= bit << b;
+        neighbours[b] |= bit << a;
+    }
+    let kinds: Vec<u8> = (0..kinds).map(|_| random.below(24) as u8).collect();
+    let codes = (0..n).map(|_| kinds[random.below(kinds.len())]).collect();
+    Record { neighbours, codes }
+}
+
+/// Any number, often a small one.
+fn number(random: &mut Random) -> u64 {
+    match random.below(4) {
+        0 => random.word(),
+        1 => 1 << random.below(64),
+        _ => random.below(70) as u64,
+    }
+}
+
+/// Places for a list of complementations: mostly 96.
+pub fn list_places(random: &mut Random) -> usize {
+    match random.below(32) {
+        0 => random.below(200),
+        1 => [0, 95, 97][random.below(3)],
+        _ => 96,
+    }
+}
+
+fn noisy_list(random: &mut Random) -> ListCall {
+    let length = random.below(70);
+    ListCall {
+        n: number(random),
+        signs: (0..length).map(|_| random.word() as u8).collect(),
+        z: words(random),
+        x: words(random),
+        neighbours: random.below(200),
+        codes: random.below(200),
+    }
+}
+
+fn noisy_record(random: &mut Random) -> RecordCall {
+    let length = random.below(70);
+    RecordCall {
+        n: number(random),
+        neighbours: words(random),
+        codes: (0..length).map(|_| random.word() as u8).collect(),
+        signs: random.below(200),
+        z: random.below(200),
+        x: random.below(200),
+    }
+}
+
+fn words(random: &mut Random) -> Vec<u64> {
+    (0..random.below(70)).map(|_| number(random)).collect()
+}
