@@ -1,6 +1,7 @@
 //! Arguments of calls: valid ones, some of them damaged in places, and noise.
 
 use crate::common::damage::{damage_list, damage_record};
+use crate::common::local::complemented_record;
 use crate::common::{list, random_rows, ListCall, Random, RecordCall};
 use sukhlent::Record;
 
@@ -51,18 +52,43 @@ pub fn record_call(random: &mut Random, n: usize) -> RecordCall {
     }
 }
 
-/// A random record. A graph has few edges or many, and codes are of few kinds or any.
+/// A random record: every second one stands for a graph state with signs, others have codes of few
+/// kinds or any.
 fn record(random: &mut Random, n: usize) -> Record {
-    let (sparse, kinds) = (1 + random.below(4), [1, 2, 24][random.below(3)]);
+    let neighbours = graph(random, n);
+    let kinds: Vec<u8> = match random.below(4) {
+        0 => (0..24).collect(),
+        1 => (0..2).map(|_| random.below(24) as u8).collect(),
+        _ => return complemented_often(random, &neighbours),
+    };
+    let codes = (0..n).map(|_| kinds[random.below(kinds.len())]).collect();
+    Record { neighbours, codes }
+}
+
+/// A random graph, with few edges or many.
+fn graph(random: &mut Random, n: usize) -> Vec<u64> {
+    let sparse = 1 + random.below(4);
     let mut neighbours = vec![0u64; n];
     for (a, b) in (0..n).flat_map(|a| (0..a).map(move |b| (a, b))) {
         let bit = (random.below(sparse) == 0) as u64;
         neighbours[a] |= bit << b;
         neighbours[b] |= bit << a;
     }
-    let kinds: Vec<u8> = (0..kinds).map(|_| random.below(24) as u8).collect();
-    let codes = (0..n).map(|_| kinds[random.below(kinds.len())]).collect();
-    Record { neighbours, codes }
+    neighbours
+}
+
+/// A graph state with random signs, its record complemented at a few vertices.
+fn complemented_often(random: &mut Random, neighbours: &[u64]) -> Record {
+    let signs = random.word();
+    let codes = (0..neighbours.len()).map(|q| 2 * (signs >> q & 1) as u8);
+    let mut record = Record {
+        neighbours: neighbours.to_vec(),
+        codes: codes.collect(),
+    };
+    for _ in 0..random.below(6) {
+        record = complemented_record(&record, random.below(neighbours.len()));
+    }
+    record
 }
 
 /// Any number, often a small one.
