@@ -11,11 +11,11 @@ use std::arch::asm;
 use sukhlent::{raw, GeneratorList};
 
 /// The painted room, in bytes.
-const ROOM: usize = 6 << 20;
+const ROOM: usize = 1 << 20;
 /// The byte that it is painted with.
 const PAINT: u8 = 0xa5;
 /// The number of seeded arguments for each call.
-const CASES: u64 = 200;
+const CASES: u64 = 100;
 
 /// A call: its name, the number of qubits, and what is measured with a seed.
 type Measured = (&'static str, usize, fn(&mut Random, usize) -> usize);
@@ -93,14 +93,38 @@ fn depth(call: impl FnOnce() -> u8) -> usize {
     ROOM - lowest
 }
 
-fn main() {
-    println!("{:<10}{:>4}{:>12}", "call", "n", "bytes");
-    let measure = || {
-        for (name, n, call) in CALLS {
-            let deepest = (0..CASES).map(|seed| call(&mut Random::new(seed), n)).max();
-            println!("{name:<10}{n:>4}{:>12}", deepest.expect("some cases"));
-        }
+/// The most stack that each call of the table took.
+fn measure() -> Vec<usize> {
+    let deepest = |(_, n, call): &Measured| {
+        let depths = (0..CASES).map(|seed| call(&mut Random::new(seed), *n));
+        depths.max().expect("some cases")
     };
     let thread = std::thread::Builder::new().stack_size(2 * ROOM);
-    thread.spawn(measure).unwrap().join().unwrap();
+    let all = thread.spawn(move || CALLS.iter().map(deepest).collect());
+    all.unwrap().join().unwrap()
+}
+
+fn main() {
+    println!("{:<10}{:>4}{:>12}", "call", "n", "bytes");
+    for ((name, n, _), bytes) in CALLS.iter().zip(measure()) {
+        println!("{name:<10}{n:>4}{bytes:>12}");
+    }
+}
+
+#[cfg(test)]
+mod tests {
+    use super::*;
+
+    const README: &str = include_str!("../../../../README.md");
+
+    #[test]
+    fn no_call_needs_more_than_the_readme_says() {
+        for ((name, n, _), bytes) in CALLS.iter().zip(measure()) {
+            let row = format!("| {name} | {n} | ");
+            let said = README.lines().find_map(|line| line.strip_prefix(&row));
+            let said = said.unwrap_or_else(|| panic!("no line {row}"));
+            let kilobytes: usize = said.trim_end_matches(" kB |").parse().unwrap();
+            assert!(bytes <= 1000 * kilobytes, "{name} on {n}: {bytes} bytes");
+        }
+    }
 }
