@@ -16,7 +16,6 @@ class Copy:
     """The folder target/mutate: crates.txt, crates/ and what is proved of them."""
 
     def __init__(self, root):
-        self.root = root
         self.folder = os.path.join(root, "target", "mutate")
         shutil.rmtree(self.folder, ignore_errors=True)
         os.makedirs(os.path.join(self.folder, "log"))
