@@ -2,7 +2,7 @@
 
 from dataclasses import dataclass
 
-from mutants.source import OPENING, closing, constants_of, functions_of, parts, tokens_of
+from mutants.source import OPENING, closing, constants_of, functions_of, parts, tokens_of, words
 
 MARKS = {
     "+": ["-"], "-": ["+"], "*": ["+"], "/": ["%"], "%": ["/"],
@@ -138,11 +138,14 @@ def variant_edits(tokens, i, declared):
         yield Edit("constant", tokens[i].start, tokens[i].end, new)
 
 
-def local_type(tokens, i, declared):
-    """The type of the value at place i, where it is plain to see."""
-    value, after = tokens[i], tokens[i + 1].text
+def local_type(tokens, function, i, declared):
+    """The type of the local whose name stands at place i, where it is plain to see from its value."""
+    value, after = tokens[i + 2], tokens[i + 3].text
     if value.kind == "number":
-        return next((word for word in INTEGERS if value.text.endswith(word)), "integer")
+        index = ["[", tokens[i].text, "]"]
+        inner = range(function.body[0], function.body[1] - 2)
+        plain = "usize" if any(words(tokens, (k, k + 3)) == index for k in inner) else "integer"
+        return next((word for word in INTEGERS if value.text.endswith(word)), plain)
     if after == "(" and value.text in declared.functions:
         return declared.functions[value.text][0].answer
     if after == "{" and value.text in declared.structs:
@@ -167,11 +170,13 @@ def is_variable(tokens, i):
 
 def variable_edits(tokens, function, declared):
     """A variable exchanged for the next one of its type that is known there."""
-    known = dict(function.parameters)
+    known, coming = dict(function.parameters), {}
     for i in range(*function.body):
         if tokens[i].text == "let":
             name = i + 2 if tokens[i + 1].text == "mut" else i + 1
-            known[tokens[name].text] = local_type(tokens, name + 2, declared)
+            coming = {tokens[name].text: local_type(tokens, function, name, declared)}
+        elif tokens[i].text == ";":
+            known.update(coming)
         elif is_variable(tokens, i) and tokens[i].text in known:
             kind = known[tokens[i].text]
             names = [name for name in known if same_type(known[name], kind)]
