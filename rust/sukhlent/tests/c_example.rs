@@ -35,3 +35,8 @@ fn bell_prints_its_stored_output() {
 fn in_place_prints_its_stored_output() {
     assert_prints_its_stored_output("in_place");
 }
+
+#[test]
+fn session_prints_its_stored_output() {
+    assert_prints_its_stored_output("session");
+}

@@ -2,7 +2,7 @@
 
 mod common;
 
-use common::damage::{anticommute, flip, put, repeat};
+use common::damage::{damage_list, flip};
 use common::{list, random_rows, ListCall, Random};
 
 #[test]
@@ -64,7 +64,7 @@ fn seeded_damage_against_the_reference() {
         let n = 1 + random.below(10);
         let mut call = ListCall::on(&list(&random_rows(&mut random, n)));
         for _ in 0..random.below(4) {
-            damage(&mut random, &mut call);
+            damage_list(&mut random, &mut call);
         }
         let (check, reduce) = call.due();
         assert_eq!(call.check(), check, "seed {seed}: {call:?}");
@@ -79,23 +79,4 @@ fn seeded_damage_against_the_reference() {
         [0, 2, 4, 5, 6, 9, 10].iter().all(|&k| counts[k] > 50),
         "{counts:?}"
     );
-}
-
-/// One random fault, or none.
-fn damage(random: &mut Random, call: &mut ListCall) {
-    let n = call.n.clamp(1, 64) as usize;
-    let (a, b) = (random.below(n), random.below(n));
-    match random.below(12) {
-        0 => call.n = [0, 65, u64::MAX][random.below(3)],
-        1 => call.z.truncate(a),
-        2 => call.codes = n + 1,
-        3 => flip(&mut call.z, a, random.below(64) as u32),
-        4 => flip(&mut call.x, a, random.below(64) as u32),
-        5 => put(&mut call.signs, a, random.word() as u8),
-        6 => flip(&mut call.z, a, b as u32),
-        7 => flip(&mut call.x, a, b as u32),
-        8 | 9 => repeat(call, a, b),
-        10 => anticommute(call, a, b),
-        _ => put(&mut call.signs, a, random.below(2) as u8),
-    }
 }

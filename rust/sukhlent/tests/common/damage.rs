@@ -53,6 +53,25 @@ pub fn repeat(call: &mut ListCall, a: usize, b: usize) {
     }
 }
 
+/// One random fault of a list, or none.
+pub fn damage_list(random: &mut Random, call: &mut ListCall) {
+    let n = call.n.clamp(1, 64) as usize;
+    let (a, b) = (random.below(n), random.below(n));
+    match random.below(12) {
+        0 => call.n = [0, 65, u64::MAX][random.below(3)],
+        1 => call.z.truncate(a),
+        2 => call.codes = n + 1,
+        3 => flip(&mut call.z, a, random.below(64) as u32),
+        4 => flip(&mut call.x, a, random.below(64) as u32),
+        5 => put(&mut call.signs, a, random.word() as u8),
+        6 => flip(&mut call.z, a, b as u32),
+        7 => flip(&mut call.x, a, b as u32),
+        8 | 9 => repeat(call, a, b),
+        10 => anticommute(call, a, b),
+        _ => put(&mut call.signs, a, random.below(2) as u8),
+    }
+}
+
 /// A fault: its number, and what it does to the arguments of a call.
 pub type Fault<C> = (u8, fn(&mut C));
 

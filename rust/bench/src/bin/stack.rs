@@ -1,0 +1,164 @@
+//! The stack that each public call needs, at the largest number of qubits that it takes.
+//!
+//! The room below the caller is painted; the lowest byte that a call changes says how deep it went.
+//! Arguments that pass on the stack are counted with it.
+
+#[path = "../../../sukhlent/tests/common/seeded/mod.rs"]
+mod seeded;
+
+use seeded::{list, mixed, random_rows, Random};
+use std::arch::asm;
+use sukhlent::{raw, GeneratorList};
+
+/// The painted room, in bytes.
+const ROOM: usize = 1 << 20;
+/// The byte that it is painted with.
+const PAINT: u8 = 0xa5;
+/// The number of seeded arguments for each call.
+const CASES: u64 = 100;
+
+/// A call: its name, the number of qubits, and what is measured with a seed.
+type Measured = (&'static str, usize, fn(&mut Random, usize) -> usize);
+
+/// Every public call. All arguments are accepted, so that every step is taken.
+const CALLS: [Measured; 11] = [
+    ("check", 64, |random, n| {
+        let given = list(&random_rows(random, n));
+        depth(|| raw::check(n as u64, &given.signs, &given.z, &given.x))
+    }),
+    ("reduce", 64, |random, n| {
+        let GeneratorList { signs, z, x } = list(&random_rows(random, n));
+        let (mut neighbours, mut codes) = ([0; 64], [0; 64]);
+        depth(|| raw::reduce(n as u64, &signs, &z, &x, &mut neighbours, &mut codes))
+    }),
+    ("expand", 64, |random, n| {
+        let (neighbours, codes) = pairs(random, n);
+        let (mut signs, mut z, mut x) = ([0; 64], [0; 64], [0; 64]);
+        depth(|| raw::expand(n as u64, &neighbours, &codes, &mut signs, &mut z, &mut x))
+    }),
+    ("gate", 64, |random, n| {
+        in_place(random, n, |n, words, codes| {
+            raw::gate(n, words, codes, 0, 8)
+        })
+    }),
+    ("cz", 64, |random, n| {
+        in_place(random, n, |n, words, codes| raw::cz(n, words, codes, 0, 63))
+    }),
+    ("measure", 64, |random, n| {
+        let (mut answer, mut determined) = (0, 0);
+        in_place(random, n, |n, words, codes| {
+            raw::measure(n, words, codes, 3, 0, 1, &mut answer, &mut determined)
+        })
+    }),
+    ("complement", 64, |random, n| {
+        in_place(random, n, |n, words, codes| {
+            raw::complement(n, words, codes, 0)
+        })
+    }),
+    ("pivot", 64, |random, n| {
+        in_place(random, n, |n, words, codes| {
+            raw::pivot(n, words, codes, 0, 1)
+        })
+    }),
+    ("image", 64, |random, n| {
+        let (neighbours, codes) = pairs(random, n);
+        let (mut image, mut signs, mut list, mut count) = ([0; 64], [0; 64], [0; 96], 0);
+        let (image, signs, list) = (&mut image, &mut signs, &mut list);
+        depth(|| {
+            raw::image(
+                n as u64,
+                &neighbours,
+                &codes,
+                image,
+                signs,
+                list,
+                &mut count,
+            )
+        })
+    }),
+    ("compare", 10, of_compare),
+    ("compare", 20, of_compare),
+];
+
+/// A comparison of a state with itself, by other generators. Every comparison that is accepted goes
+/// as deep: through all classes, then through all signs.
+fn of_compare(random: &mut Random, n: usize) -> usize {
+    let rows = random_rows(random, n);
+    let [a, b] = [list(&rows), list(&mixed(random, &rows))];
+    let [a, b] = [&a, &b].map(|list| (n as u64, &*list.signs, &*list.z, &*list.x));
+    let (mut choice, mut list, mut count) = (vec![0; n], [0; 96], 0);
+    depth(|| raw::compare(a, b, &mut choice, &mut list, &mut count))
+}
+
+/// A call on a record in place.
+fn in_place(
+    random: &mut Random,
+    n: usize,
+    call: impl FnOnce(u64, &mut [u64], &mut [u8]) -> u8,
+) -> usize {
+    let (mut neighbours, mut codes) = pairs(random, n);
+    depth(|| call(n as u64, &mut neighbours, &mut codes))
+}
+
+/// The neighbours and the codes of edges in pairs with Hadamards: the image rule fills its list.
+fn pairs(random: &mut Random, n: usize) -> (Vec<u64>, Vec<u8>) {
+    let signs = random.word();
+    let neighbours = (0..n).map(|q| 1 << (q ^ 1));
+    let codes = (0..n).map(|q| 8 + 2 * (signs >> q & 1) as u8);
+    (neighbours.collect(), codes.collect())
+}
+
+/// How many bytes below this function a call writes. Panics where the call refuses, or comes near
+/// the end of the painted room.
+#[inline(never)]
+fn depth(call: impl FnOnce() -> u8) -> usize {
+    let top: usize;
+    // SAFETY: the thread's stack has more than ROOM bytes below this frame, and nobody uses them.
+    unsafe {
+        asm!("mov {}, rsp", out(reg) top, options(nomem, nostack));
+        asm!("rep stosb", inout("rdi") top - ROOM => _, inout("rcx") ROOM => _, in("al") PAINT);
+    }
+    assert_eq!(call(), 0, "the call is accepted");
+    let room = (top - ROOM) as *const u8;
+    // SAFETY: the same bytes, which are written.
+    let changed = (0..ROOM).find(|&k| unsafe { room.add(k).read_volatile() } != PAINT);
+    let lowest = changed.expect("a call writes its return address");
+    assert!(lowest > ROOM / 8, "the room is too small");
+    ROOM - lowest
+}
+
+/// The most stack that each call of the table took.
+fn measure() -> Vec<usize> {
+    let deepest = |(_, n, call): &Measured| {
+        let depths = (0..CASES).map(|seed| call(&mut Random::new(seed), *n));
+        depths.max().expect("some cases")
+    };
+    let thread = std::thread::Builder::new().stack_size(2 * ROOM);
+    let all = thread.spawn(move || CALLS.iter().map(deepest).collect());
+    all.unwrap().join().unwrap()
+}
+
+fn main() {
+    println!("{:<12}{:>4}{:>12}", "call", "n", "bytes");
+    for ((name, n, _), bytes) in CALLS.iter().zip(measure()) {
+        println!("{name:<12}{n:>4}{bytes:>12}");
+    }
+}
+
+#[cfg(test)]
+mod tests {
+    use super::*;
+
+    const README: &str = include_str!("../../../../README.md");
+
+    #[test]
+    fn no_call_needs_more_than_the_readme_says() {
+        for ((name, n, _), bytes) in CALLS.iter().zip(measure()) {
+            let row = format!("| {name} | {n} | ");
+            let said = README.lines().find_map(|line| line.strip_prefix(&row));
+            let said = said.unwrap_or_else(|| panic!("no line {row}"));
+            let kilobytes: usize = said.trim_end_matches(" kB |").parse().unwrap();
+            assert!(bytes <= 1000 * kilobytes, "{name} on {n}: {bytes} bytes");
+        }
+    }
+}

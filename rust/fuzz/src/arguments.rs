@@ -1,0 +1,168 @@
+//! Arguments of calls: valid ones, some of them damaged in places, and noise.
+
+use crate::common::damage::{damage_list, damage_record};
+use crate::common::local::complemented_record;
+use crate::common::{list, random_rows, Lengths, ListCall, Operation, Random, RecordCall};
+use sukhlent::Record;
+
+/// What is done to valid arguments: mostly nothing or little; one in sixteen calls gets noise.
+enum Harm {
+    Faults(usize),
+    Noise,
+}
+
+fn harm(random: &mut Random) -> Harm {
+    match random.below(16) {
+        0 => Harm::Noise,
+        1..=8 => Harm::Faults(1 + random.below(3)),
+        _ => Harm::Faults(0),
+    }
+}
+
+/// A number of qubits: mostly small, at times any, at times near a bound.
+pub fn size(random: &mut Random) -> usize {
+    match random.below(8) {
+        0 => 1 + random.below(64),
+        1 => [1, 2, 20, 21, 63, 64][random.below(6)],
+        _ => 1 + random.below(8),
+    }
+}
+
+/// A call on a list of n generators.
+pub fn list_call(random: &mut Random, n: usize) -> ListCall {
+    match harm(random) {
+        Harm::Noise => noisy_list(random),
+        Harm::Faults(count) => {
+            let mut call = ListCall::on(&list(&random_rows(random, n)));
+            (0..count).for_each(|_| damage_list(random, &mut call));
+            call
+        }
+    }
+}
+
+/// A call on a record of n vertices that writes to three buffers.
+pub fn record_call(random: &mut Random, n: usize) -> RecordCall<Lengths> {
+    let mut lengths = [n; 3];
+    if random.below(16) == 0 {
+        lengths[random.below(3)] = random.below(200);
+    }
+    let [signs, z, x] = lengths;
+    harmed_record(random, n, Lengths { signs, z, x })
+}
+
+/// A call of one kind, 0 to 4, on a record of n vertices in place. Mostly its own arguments are in
+/// range or one too large; at times they are any numbers.
+pub fn in_place_call(random: &mut Random, kind: usize, n: usize) -> RecordCall<Operation> {
+    let operation = match random.below(8) {
+        0 => noisy_operation(random, kind),
+        _ => Operation::loose(random, kind, n),
+    };
+    harmed_record(random, n, operation)
+}
+
+/// A random record, at times harmed, with what goes with it.
+fn harmed_record<W>(random: &mut Random, n: usize, with: W) -> RecordCall<W> {
+    match harm(random) {
+        Harm::Noise => noisy_record(random, with),
+        Harm::Faults(count) => {
+            let mut call = RecordCall::with(&record(random, n), with);
+            (0..count).for_each(|_| damage_record(random, &mut call));
+            call
+        }
+    }
+}
+
+/// A random record: every second one stands for a graph state with signs, others have codes of few
+/// kinds or any.
+fn record(random: &mut Random, n: usize) -> Record {
+    let neighbours = graph(random, n);
+    let kinds: Vec<u8> = match random.below(4) {
+        0 => (0..24).collect(),
+        1 => (0..2).map(|_| random.below(24) as u8).collect(),
+        _ => return complemented_often(random, &neighbours),
+    };
+    let codes = (0..n).map(|_| kinds[random.below(kinds.len())]).collect();
+    Record { neighbours, codes }
+}
+
+/// A random graph, with few edges or many.
+fn graph(random: &mut Random, n: usize) -> Vec<u64> {
+    let sparse = 1 + random.below(4);
+    let mut neighbours = vec![0u64; n];
+    for (a, b) in (0..n).flat_map(|a| (0..a).map(move |b| (a, b))) {
+        let bit = (random.below(sparse) == 0) as u64;
+        neighbours[a] |= bit << b;
+        neighbours[b] |= bit << a;
+    }
+    neighbours
+}
+
+/// A graph state with random signs, its record complemented at a few vertices.
+fn complemented_often(random: &mut Random, neighbours: &[u64]) -> Record {
+    let signs = random.word();
+    let codes = (0..neighbours.len()).map(|q| 2 * (signs >> q & 1) as u8);
+    let mut record = Record {
+        neighbours: neighbours.to_vec(),
+        codes: codes.collect(),
+    };
+    for _ in 0..random.below(6) {
+        record = complemented_record(&record, random.below(neighbours.len()));
+    }
+    record
+}
+
+/// Any number, often a small one.
+fn number(random: &mut Random) -> u64 {
+    match random.below(4) {
+        0 => random.word(),
+        1 => 1 << random.below(64),
+        _ => random.below(70) as u64,
+    }
+}
+
+/// Places for a list of complementations: mostly 96.
+pub fn list_places(random: &mut Random) -> usize {
+    match random.below(32) {
+        0 => random.below(200),
+        1 => [0, 95, 97][random.below(3)],
+        _ => 96,
+    }
+}
+
+fn noisy_list(random: &mut Random) -> ListCall {
+    let length = random.below(70);
+    ListCall {
+        n: number(random),
+        signs: (0..length).map(|_| random.word() as u8).collect(),
+        z: words(random),
+        x: words(random),
+        neighbours: random.below(200),
+        codes: random.below(200),
+    }
+}
+
+fn noisy_record<W>(random: &mut Random, with: W) -> RecordCall<W> {
+    let length = random.below(70);
+    RecordCall {
+        n: number(random),
+        neighbours: words(random),
+        codes: (0..length).map(|_| random.word() as u8).collect(),
+        with,
+    }
+}
+
+fn noisy_operation(random: &mut Random, kind: usize) -> Operation {
+    let [a, b] = [0, 1].map(|_| number(random));
+    let [byte, bit] = [0, 1].map(|_| random.word() as u8);
+    match kind {
+        0 => Operation::Gate(a, byte),
+        1 => Operation::Cz(a, b),
+        2 => Operation::Measure(byte, a, bit),
+        3 => Operation::Complement(a),
+        _ => Operation::Pivot(a, b),
+    }
+}
+
+fn words(random: &mut Random) -> Vec<u64> {
+    (0..random.below(70)).map(|_| number(random)).collect()
+}

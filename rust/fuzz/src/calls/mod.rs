@@ -1,0 +1,61 @@
+//! The public calls, one file for each kind of argument. A call is added by an entry of the table.
+
+mod in_place;
+mod lists;
+mod pairs;
+mod records;
+
+use crate::common::Random;
+
+/// A public call under test.
+pub struct Call {
+    /// The name, without the prefix.
+    pub name: &'static str,
+    /// Makes arguments, calls, and panics where something is not as it must be; answers the
+    /// number of the refusal, or 0.
+    pub once: fn(&mut Random) -> u8,
+}
+
+/// Every public call.
+pub const CALLS: [Call; 10] = [
+    Call {
+        name: "check",
+        once: lists::check,
+    },
+    Call {
+        name: "reduce",
+        once: lists::reduce,
+    },
+    Call {
+        name: "expand",
+        once: records::expand,
+    },
+    Call {
+        name: "gate",
+        once: in_place::gate,
+    },
+    Call {
+        name: "cz",
+        once: in_place::cz,
+    },
+    Call {
+        name: "measure",
+        once: in_place::measure,
+    },
+    Call {
+        name: "complement",
+        once: in_place::complement,
+    },
+    Call {
+        name: "pivot",
+        once: in_place::pivot,
+    },
+    Call {
+        name: "image",
+        once: records::image,
+    },
+    Call {
+        name: "compare",
+        once: pairs::compare,
+    },
+];
