@@ -3,7 +3,7 @@
 use mathlib.Core.Bool.{Bool, cond, false, true, _||_}
 use mathlib.Core.List.{List, [], _∷_}
 use mathlib.Core.Path.{ap, refl, subst, sym, _∙_, _≡_}
-use Prim.Native.Nat.{_*_, ℕ, _≤_}
+use Prim.Native.Nat.{ℕ, _≤_}
 use native.Mathlib.Omega.{arith}
 use lib.Dec.{eqb, lit<}
 use lib.ListN.{drop, length, length-append, length-drop}
@@ -24,16 +24,7 @@ use Rattle.operations.specs.Measurement.{determinedNumber, measuredRows, outcom
 use Rattle.operations.specs.Steps.{inPlaceLines, measureLines, measuredAnswer, pivotRecord, stepped}
 use Rattle.record.proofs.AcceptedRecords.{accepted-record}
 use Rattle.record.proofs.RecordLines.{record-numbered}
-use Rattle.record.specs.Accepted.{AcceptedRecord}
-use Rattle.record.specs.Lent.{
-  LentRecord,
-  codeNumbers,
-  heldRecord,
-  heldRows,
-  neighbourWords,
-  recordLengths,
-  recordLines,
-}
+use Rattle.record.specs.Lent.{LentRecord, codeNumbers, heldRecord, heldRows, neighbourWords, recordLengths, recordLines}
 use Rattle.record.specs.Records.{GraphRecord, complementRecord, rowsOf}
 use Rattle.record.specs.Reduced.{reduced}
 use Rattle.stabilizer.proofs.SharedTests.{has-length, neither}
@@ -52,6 +43,7 @@ use Rattle.claims.specs.FirstDemand.{
   EachOf,
   FirstDemand,
   FirstFits,
+  InOrder,
   Unchanged,
   buffer,
   here,
@@ -100,10 +92,11 @@ each-complete r (b ∷ bs) H z F = (
   each-complete r bs (H .1) z (F .1),
 )
 
-answered : (lines : List Line) (r : ℕ) (bs : List Buffer) → r ≡ firstFitting lines → EachOf (Held r) bs →
-    (r ≡ 0 → EachOf Fills bs) → Answered lines r bs
-answered lines r bs e H F =
+answered : (lines : List Line) (r : ℕ) (bs : List Buffer) → InOrder lines → r ≡ firstFitting lines →
+    EachOf (Held r) bs → (r ≡ 0 → EachOf Fills bs) → Answered lines r bs
+answered lines r bs o e H F =
     record {
+      order = o;
       first = subst (FirstFits lines) (sym e) (first-fits lines);
       refused = each-unchanged r bs H;
       accepted = λ z. each-complete r bs H z (F z);
@@ -143,7 +136,7 @@ reduce-answered : (l : GeneratorList) (nb cs : List ℕ) (r : ℕ) (nb′ cs′ 
     (buffer nb (neighbourWords (l .n) (reduced (l .n) (rows l))) nb′
     ∷ buffer cs (codeNumbers (l .n) (reduced (l .n) (rows l))) cs′ ∷ [])
 reduce-answered l nb cs r nb′ cs′ C =
-    answered (reduceLines l nb cs) r _ (C .number) (C .words, (C .numbers, tt))
+    answered (reduceLines l nb cs) r _ refl (C .number) (C .words, (C .numbers, tt))
     (λ z. let p = two-fit (l .n) (l .n) nb cs (list-others l _ (sym (C .number) ∙ z)) in
     (table-fills (l .n) _ nb (p .0), (table-fills (l .n) _ cs (p .1), tt)))
 
@@ -152,7 +145,7 @@ expand-answered : (l : LentRecord) (s z x : List ℕ) (r : ℕ) (s′ z′ x′ 
     (buffer s ((listOf (l .n) (heldRows l)) .signs) s′ ∷ buffer z ((listOf (l .n) (heldRows l)) .z) z′
     ∷ buffer x ((listOf (l .n) (heldRows l)) .x) x′ ∷ [])
 expand-answered l s z x r s′ z′ x′ C =
-    answered (expandLines l s z x) r _ (C .number) (C .sign-bits, (C .z-words, (C .x-words, tt)))
+    answered (expandLines l s z x) r _ refl (C .number) (C .sign-bits, (C .z-words, (C .x-words, tt)))
     (λ e. let p = three-fit (l .n) (l .n) (l .n) s z x (record-others l _ false (sym (C .number) ∙ e)) in
     (table-fills (l .n) _ s (p .0), (table-fills (l .n) _ z (p .1), (table-fills (l .n) _ x (p .2), tt))))
 
@@ -174,7 +167,7 @@ module _ (l : LentRecord) (six eight : Bool) (new : GraphRecord) (r : ℕ) (nb�
       )
 
   in-place-answered : Answered (inPlaceLines l six eight) r (inPlace l new nb′ cs′)
-  in-place-answered = answered (inPlaceLines l six eight) r (inPlace l new nb′ cs′) (C .number) both-held both-fill
+  in-place-answered = answered (inPlaceLines l six eight) r (inPlace l new nb′ cs′) refl (C .number) both-held both-fill
 
 measure-answered : (l : LentRecord) (pauli q b answer determined r : ℕ) (nb′ cs′ : List ℕ) (answer′ determined′ : ℕ) →
     MeasureCall l pauli q b answer determined r nb′ cs′ answer′ determined′ →
@@ -183,7 +176,7 @@ measure-answered : (l : LentRecord) (pauli q b answer determined r : ℕ) (nb′
     ∷ number determined (determinedNumber (measuredAnswer l pauli q b)) determined′
     ∷ inPlace l (reduced (l .n) (measuredRows (l .n) (heldRows l) (pauliLetter pauli) q (isOdd b))) nb′ cs′)
 measure-answered l pauli q b answer determined r nb′ cs′ answer′ determined′ C =
-    answered (measureLines l pauli q b) r _ (C .step .number) (
+    answered (measureLines l pauli q b) r _ refl (C .step .number) (
       one-place r answer _ answer′ (C .outcome),
       (
         one-place r determined _ determined′ (C .known),
@@ -203,7 +196,7 @@ image-answered : (l : LentRecord) (g s v : List ℕ) (count r : ℕ) (g′ s′ 
     ∷ buffer v (written (imageList (l .n) (heldRecord l)) v) v′
     ∷ number count (length (imageList (l .n) (heldRecord l))) count′ ∷ [])
 image-answered l g s v count r g′ s′ v′ count′ C =
-    answered (imageLines l g s v) r _ (C .number)
+    answered (imageLines l g s v) r _ refl (C .number)
     (C .graph, (C .minus, (C .places, (one-place r count _ count′ (C .counted), tt))))
     (λ z. let p = none-of-all (recordLines l others false) _ (record-numbered l others false)
     (sym (C .number) ∙ z) .0 in
@@ -227,7 +220,7 @@ compare-answered : (l m : GeneratorList) (choice list : List ℕ) (count r : ℕ
     ∷ buffer list (written (compareList (l .n) (rows l) (rows m)) list) list′
     ∷ number count (length (compareList (l .n) (rows l) (rows m))) count′ ∷ [])
 compare-answered l m choice list count r choice′ list′ count′ C =
-    answered (compareLines l m choice list) r _ (C .number)
+    answered (compareLines l m choice list) r _ refl (C .number)
     (C .codes, (C .vertices, (one-place r count _ count′ (C .amount), tt)))
     (λ z. let p = none-of-all (pairLines l m choice list) _ pair-numbered (sym (C .number) ∙ z) .0 in
     let h3 = not-held 2 _ _ (not-held 1 _ _ p .1) in
@@ -251,7 +244,7 @@ compare-answered l m choice list count r choice′ list′ count′ C =
 pub first-demand : FirstDemand
 first-demand =
     record {
-      check = λ l r C. answered (checkLines l) r [] (C .number) tt (λ z. tt);
+      check = λ l r C. answered (checkLines l) r [] refl (C .number) tt (λ z. tt);
       reduce = reduce-answered;
       expand = expand-answered;
       gates = λ l q k r nb′ cs′ C. in-place-answered l _ _

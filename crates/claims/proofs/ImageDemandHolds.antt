@@ -6,8 +6,8 @@ use mathlib.Core.Logic.{inl, inr, _⊎_}
 use mathlib.Core.Path.{ap, ap₂, fun-ext, refl, subst, sym, _∙_, _≡_}
 use Prim.Native.Nat.{_*_, _/_, _<_, ℕ, _≤_}
 use lib.Dec.{eqb, lit<}
-use lib.ListN.{getD, length, take}
-use lib.Seq.{take-append-seam}
+use lib.ListN.{drop, getD, length, take}
+use lib.Seq.{drop-append-seam, take-append-seam}
 use Rattle.buffers.proofs.Lines.{fits, more-accepted, none-fits, passed}
 use Rattle.buffers.proofs.Tabulate.{tabulate-at}
 use Rattle.buffers.specs.Buffers.{accepted, acceptedNumber, tabulate, written}
@@ -25,7 +25,7 @@ use Rattle.record.specs.Lent.{LentRecord, heldRecord, heldRows, neighbourWords,
 use Rattle.record.specs.Records.{GraphRecord}
 use Rattle.stabilizer.proofs.Carried.{same-rows}
 use Rattle.image_call.specs.Images.{Imaged}
-use Rattle.words.proofs.BitLaws.{bit-above, bit-wordOf, wordOf-lt}
+use Rattle.words.proofs.BitLaws.{bit-above, bit-wordOf, digit-lt, wordOf-lt}
 use Rattle.words.proofs.Sums.{lt-or-ge}
 use Rattle.words.specs.Bits.{bit, digit, wordOf}
 use Rattle.claims.proofs.ThirdDemandHolds.{graph-each, half}
@@ -97,7 +97,7 @@ module _ (l : LentRecord) (image signs list : List ℕ) (count r : ℕ) (image�
     the-places : take count′ list′ ≡ imageList m held
     the-places = ap₂ take the-count the-list ∙ take-append-seam (imageList m held) _
 
-    stands : ImageStands l image′ signs′ list′ count′
+    stands : ImageStands l list image′ signs′ list′ count′
     stands =
         record {
           group = same-rows m m (heldRows l) _ (signedGenerators image′ signs′)
@@ -105,6 +105,11 @@ module _ (l : LentRecord) (image signs list : List ℕ) (count r : ℕ) (image�
               (signs-back i h)
               (neighbours-back i h))
               (image-group m held simple-held s k);
+          bits = λ i h. subst (λ v. v < 2) (sym (ap (λ v. getD v i 0) the-signs ∙ tabulate-at m _ i h))
+              (digit-lt (imageMinus m held i));
+          vertices = the-places;
+          past = ap₂ drop the-count the-list ∙ drop-append-seam (imageList m held) _
+              ∙ ap (λ k. drop k list) (sym the-count);
           leads = λ i j h. ap (λ vs. complementEach (held .graph) vs i j) the-places
               ∙ graph-each held (imageList m held) i j ∙ ap (λ f. f j) (neighbours-back i h);
           amount = the-count;
@@ -112,7 +117,7 @@ module _ (l : LentRecord) (image signs list : List ℕ) (count r : ℕ) (image�
               (half (length (imageList m held)) (3 * m) (image-length m held simple-held));
         }
 
-  decided : (a b : Bool) → stuck m held ≡ a → looped m held ≡ b → ImageDecided l r image′ signs′ list′ count′
+  decided : (a b : Bool) → stuck m held ≡ a → looped m held ≡ b → ImageDecided l list r image′ signs′ list′ count′
   decided true b s k =
       let eleven = loop-number ∙ fits 11 _ s in
       record {

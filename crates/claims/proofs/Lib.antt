@@ -7,3 +7,4 @@ pub mod GatesFollow
 pub mod MeasurementsFollow
 pub mod RewritingsKeep
 pub mod FirstDemandHolds
+pub mod AnswerBuffers

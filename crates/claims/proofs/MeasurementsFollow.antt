@@ -120,6 +120,7 @@ module _ (l : LentRecord) (pauli q b answer determined : ℕ) (nb′ cs′ : Lis
         still = answer-still n R P (A .positive) (A .upto);
         answers = answer-reduced n R P (A .positive) (A .upto);
         either = either-digit (isDetermined n held L q) known;
+        outcome = either-digit (outcome n held L q (isOdd b)) read;
         exactly = ((λ e. exactly .0 (found e)), λ h. known ∙ ap digit (exactly .1 h));
         sign = λ e. subst (λ s. InGroup n n held (single L q s))
             (sym (ap isOdd read ∙ digit-odd (outcome n held L q (isOdd b))))
@@ -137,7 +138,7 @@ module _ (l : LentRecord) (pauli q b answer determined : ℕ) (nb′ cs′ : Lis
         );
       }
     where
-      either-digit : (d : Bool) → determined′ ≡ digit d → (determined′ ≡ 0) ⊎ (determined′ ≡ 1)
+      either-digit : {v : ℕ} (d : Bool) → v ≡ digit d → (v ≡ 0) ⊎ (v ≡ 1)
       either-digit true e = inr e
       either-digit false e = inl e
 

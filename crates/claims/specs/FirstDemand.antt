@@ -2,13 +2,14 @@
 -- complete answer .. A call that is refused .. returns the first fitting number of the published list and changes no
 -- lent byte". That a call ends, and touches no other byte, is what a contract of the language means.
 -- Assumes nothing.
-use mathlib.Core.Bool.{false, true}
-use mathlib.Core.List.{List, [], _∷_}
+use mathlib.Core.Bool.{Bool, cond, false, true}
+use mathlib.Core.List.{List, [], map, _∷_}
 use mathlib.Core.Path.{_≡_}
 use Prim.Native.Nat.{ℕ}
+use lib.Dec.{eqb}
 use lib.ListN.{length}
 use Rattle.buffers.specs.Buffers.{tabulate, written}
-use Rattle.buffers.specs.Refusals.{Line}
+use Rattle.buffers.specs.Refusals.{Line, firstFitting}
 use Rattle.comparison.specs.Choices.{leastCode}
 use Rattle.comparison.specs.Compared.{compareLines}
 use Rattle.image.specs.Image.{imageLines, imageMinus, imageRecord}
@@ -47,6 +48,18 @@ pub data FirstFits : List Line → ℕ → Type 0 where
   here : {l : Line} {ls : List Line} → l .holds ≡ true → FirstFits (l ∷ ls) (l .number)
   later : {l : Line} {ls : List Line} {r : ℕ} → l .holds ≡ false → FirstFits ls r → FirstFits (l ∷ ls) r
 
+-- "the published list": the numbers in checking order; a call tests some of them, in that order
+abbrev pub published : List ℕ
+published = 1 ∷ 2 ∷ 3 ∷ 4 ∷ 5 ∷ 6 ∷ 7 ∷ 8 ∷ 9 ∷ 10 ∷ 11 ∷ 12 ∷ 13 ∷ []
+
+abbrev pub within : List ℕ → List ℕ → Bool
+within order [] = true
+within [] (k ∷ ks) = false
+within (o ∷ order) (k ∷ ks) = cond (eqb o k) (within order ks) (within order (k ∷ ks))
+
+abbrev pub InOrder : List Line → Type 0
+InOrder lines = within published (map (λ l. l .number) lines) ≡ true
+
 -- a lent buffer: what it holds before the call, the answer for it, and what it holds after. A lent number is a buffer
 -- of one place
 pub record Buffer : Type 0 where
@@ -74,6 +87,7 @@ EachOf P (b ∷ bs) = P b × EachOf P bs
 
 -- a call with these lines answered r and was lent these buffers for its answer
 pub record Answered (lines : List Line) (r : ℕ) (buffers : List Buffer) : Type 0 where
+  pub order : InOrder lines
   pub first : FirstFits lines r
   pub refused : (r ≡ 0 → ⊥) → EachOf Unchanged buffers
   pub accepted : r ≡ 0 → EachOf Complete buffers
@@ -120,3 +134,16 @@ pub record FirstDemand : Type 0 where
       (buffer choice (tabulate (l .n) (leastCode (l .n) (rows l) (rows m))) choice′
       ∷ buffer list (written (compareList (l .n) (rows l) (rows m)) list) list′
       ∷ number count (length (compareList (l .n) (rows l) (rows m))) count′ ∷ [])
+
+-- "What a buffer lent only for the answer holds before the call makes no line true": buffers of equal lengths give equal
+-- numbers
+pub record AnswerBuffersUnread : Type 0 where
+  pub reduce : (l : GeneratorList) (nb cs nb₂ cs₂ : List ℕ) → length nb ≡ length nb₂ → length cs ≡ length cs₂ →
+      firstFitting (reduceLines l nb cs) ≡ firstFitting (reduceLines l nb₂ cs₂)
+  pub expand : (l : LentRecord) (s z x s₂ z₂ x₂ : List ℕ) → length s ≡ length s₂ → length z ≡ length z₂ →
+      length x ≡ length x₂ → firstFitting (expandLines l s z x) ≡ firstFitting (expandLines l s₂ z₂ x₂)
+  pub images : (l : LentRecord) (g s v g₂ s₂ v₂ : List ℕ) → length g ≡ length g₂ → length s ≡ length s₂ →
+      length v ≡ length v₂ → firstFitting (imageLines l g s v) ≡ firstFitting (imageLines l g₂ s₂ v₂)
+  pub comparisons : (l m : GeneratorList) (choice list choice₂ list₂ : List ℕ) → length choice ≡ length choice₂ →
+      length list ≡ length list₂ →
+      firstFitting (compareLines l m choice list) ≡ firstFitting (compareLines l m choice₂ list₂)

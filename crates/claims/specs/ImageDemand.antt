@@ -6,7 +6,7 @@ use mathlib.Core.Logic.{_↔_, _⊎_}
 use mathlib.Core.Path.{_≡_}
 use Prim.Native.Nat.{_*_, _/_, _<_, ℕ, _≤_}
 use lib.Dec.{eqb}
-use lib.ListN.{getD, length, take}
+use lib.ListN.{drop, getD, length, take}
 use Rattle.buffers.specs.Refusals.{firstFitting, otherThan}
 use Rattle.graph.specs.Graph.{graphGenerator}
 use Rattle.image.specs.Image.{UnsignedGraph}
@@ -24,9 +24,13 @@ signedGenerators neighbours signs j =
     scaled (minus (eqb (getD signs j 0) 1)) (graphGenerator (wordGraph neighbours) j)
 
 -- what comes back
-pub record ImageStands (l : LentRecord) (image′ signs′ list′ : List ℕ) (count′ : ℕ) : Type 0 where
+pub record ImageStands (l : LentRecord) (list image′ signs′ list′ : List ℕ) (count′ : ℕ) : Type 0 where
   -- the image group with its signs is the group of the image graph with its minus signs
   pub group : SameGroup (l .n) (l .n) (heldRows l) (signedGenerators image′ signs′)
+  pub bits : (j : ℕ) → j < l .n → getD signs′ j 0 < 2
+  -- the list is the rule's, and "the list's lent bytes past it keep their values"
+  pub vertices : take count′ list′ ≡ imageList (l .n) (heldRecord l)
+  pub past : drop count′ list′ ≡ drop count′ list
   -- "the list must lead to the graph"
   pub leads : (i j : ℕ) → i < l .n →
       complementEach ((heldRecord l) .graph) (take count′ list′) i j ≡ wordGraph image′ i j
@@ -34,10 +38,11 @@ pub record ImageStands (l : LentRecord) (image′ signs′ list′ : List ℕ) (
   pub amount : count′ ≡ length (imageList (l .n) (heldRecord l))
   pub few : count′ ≤ 3 * l .n / 2
 
-pub record ImageDecided (l : LentRecord) (r : ℕ) (image′ signs′ list′ : List ℕ) (count′ : ℕ) : Type 0 where
+pub record ImageDecided (l : LentRecord) (list : List ℕ) (r : ℕ) (image′ signs′ list′ : List ℕ) (count′ : ℕ) : Type
+    0 where
   -- "One of lines 11 and 12 holds exactly when the image group, signs dropped, is that of no simple graph"
   pub exactly : ((r ≡ 11) ⊎ (r ≡ 12)) ↔ (UnsignedGraph (l .n) (heldRows l) → ⊥)
-  pub otherwise : (r ≡ 11 → ⊥) → (r ≡ 12 → ⊥) → (r ≡ 0) × ImageStands l image′ signs′ list′ count′
+  pub otherwise : (r ≡ 11 → ⊥) → (r ≡ 12 → ⊥) → (r ≡ 0) × ImageStands l list image′ signs′ list′ count′
 
 -- for every record and whatever the lent buffers held, where none of lines 2 to 7 holds
 abbrev pub ImagesFollow : Type 0
@@ -46,4 +51,4 @@ ImagesFollow =
     Imaged l image signs list count r image′ signs′ list′ count′ →
     firstFitting (recordLines l (otherThan (l .n) image
     || (otherThan (l .n) signs || otherThan 96 list)) false) ≡ 0 →
-    ImageDecided l r image′ signs′ list′ count′
+    ImageDecided l list r image′ signs′ list′ count′

@@ -68,6 +68,7 @@ pub record MeasurementStands (l : LentRecord) (pauli q b : ℕ) (after : LentRec
   pub still : StillRecord after
   pub answers : IsReduced after
   pub either : (determined′ ≡ 0) ⊎ (determined′ ≡ 1)
+  pub outcome : (answer′ ≡ 0) ⊎ (answer′ ≡ 1)
   -- "If the Pauli or its negative is in the group, the answer says determined"
   pub exactly : (determined′ ≡ 1) ↔ (InGroup (l .n) (l .n) (heldRows l) (signedPauli pauli q false)
       ⊎ InGroup (l .n) (l .n) (heldRows l) (signedPauli pauli q true))

@@ -1,0 +1,51 @@
+-- What a buffer lent only for the answer holds makes no line true: the lines read its length alone.
+-- Assumes nothing.
+use mathlib.Core.Bool.{Bool, false, not, _||_}
+use mathlib.Core.List.{_++_, List, [], _∷_}
+use mathlib.Core.Path.{ap, ap₂, _∙_, _≡_}
+use Prim.Native.Nat.{ℕ}
+use lib.Dec.{eqb, ltb}
+use Rattle.buffers.specs.Refusals.{Line, firstFitting, line}
+use Rattle.comparison.specs.Compared.{pairCount}
+use Rattle.comparison.specs.Choices.{noChoice}
+use Rattle.image.specs.Image.{loopLines}
+use Rattle.record.specs.Lent.{LentRecord, heldRecord, recordLines}
+use Rattle.stabilizer.specs.Lists.{
+  GeneratorList,
+  clashing,
+  dependent,
+  listLengths,
+  listLines,
+  listSigns,
+  listStray,
+  rows,
+}
+use Rattle.claims.specs.FirstDemand.{AnswerBuffersUnread}
+
+pub answer-buffers-unread : AnswerBuffersUnread
+answer-buffers-unread =
+    record {
+      reduce = λ l nb cs nb₂ cs₂ e f.
+          ap₂ (λ a b. firstFitting (listLines l (not (eqb a (l .n)) || not (eqb b (l .n))))) e f;
+      expand = λ l s z x s₂ z₂ x₂ e f g. of-three l (λ others. recordLines l others false) (l .n) e f g;
+      images = λ l g s v g₂ s₂ v₂ e f h.
+          of-three l (λ others. recordLines l others false ++ loopLines (l .n) (heldRecord l)) 96 e f h;
+      comparisons = λ l m choice list choice₂ list₂ e f.
+          ap₂ (λ a b. firstFitting (linesOf l m (not (eqb a (l .n)) || not (eqb b 96)))) e f;
+    }
+  where
+    -- those of a comparison, by whether an answer buffer has a wrong length
+    linesOf : GeneratorList → GeneratorList → Bool → List Line
+    linesOf l m others =
+        line 2 (pairCount l m) ∷ line 3 (ltb 20 (l .n)) ∷ line 4 (listLengths l || (listLengths m || others))
+        ∷ line 5 (listStray l || listStray m) ∷ line 6 (listSigns l || listSigns m)
+        ∷ line 9 (clashing (l .n) (rows l) || clashing (m .n) (rows m))
+        ∷ line 10 (dependent (l .n) (rows l) || dependent (m .n) (rows m))
+        ∷ line 13 (noChoice (l .n) (rows l) (rows m)) ∷ []
+
+    of-three : (l : LentRecord) (lines : Bool → List Line) (k : ℕ) {a a₂ b b₂ c c₂ : ℕ} → a ≡ a₂ → b ≡ b₂ → c ≡ c₂ →
+        firstFitting (lines (not (eqb a (l .n)) || (not (eqb b (l .n)) || not (eqb c k))))
+        ≡ firstFitting (lines (not (eqb a₂ (l .n)) || (not (eqb b₂ (l .n)) || not (eqb c₂ k))))
+    of-three l lines k {a} {a₂} {b} {b₂} {c} {c₂} e f g =
+        ap₂ (λ a b. firstFitting (lines (not (eqb a (l .n)) || (not (eqb b (l .n)) || not (eqb c k))))) e f
+        ∙ ap (λ c. firstFitting (lines (not (eqb a₂ (l .n)) || (not (eqb b₂ (l .n)) || not (eqb c k))))) g
