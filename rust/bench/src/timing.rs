@@ -6,14 +6,19 @@ use std::time::Instant;
 /// The number of timed samples. They are short, so that few of them are interrupted.
 const SAMPLES: usize = 2000;
 
-/// A sample that is ready to run.
+/// A sample that is ready to run. Its answer depends on all that it does, so that nothing is left
+/// out.
 pub type Ready<'a> = Box<dyn FnMut() -> u64 + 'a>;
 
-/// The median time of one sample of each work, in nanoseconds. The works take turns; each is told
-/// the number of the sample, and what it does to make it ready is not timed.
-pub fn medians<'a, const N: usize>(works: [&dyn Fn(usize) -> Ready<'a>; N]) -> [f64; N] {
+/// Makes a sample of some cases ready.
+pub type Work<C> = for<'a> fn(&'a [C]) -> Ready<'a>;
+
+/// The median time of one case of each work, in nanoseconds. The works take turns on samples of so
+/// many cases, which go through all cases again and again; what a work does to make a sample ready
+/// is not timed.
+pub fn medians<C, const N: usize>(cases: &[C], at_once: usize, works: [Work<C>; N]) -> [f64; N] {
     let mut times: [Vec<u128>; N] = std::array::from_fn(|_| Vec::new());
-    for sample in 0..SAMPLES {
+    for sample in cases.chunks_exact(at_once).cycle().take(SAMPLES) {
         for (work, times) in works.iter().zip(&mut times) {
             let mut ready = work(sample);
             let start = Instant::now();
@@ -23,6 +28,6 @@ pub fn medians<'a, const N: usize>(works: [&dyn Fn(usize) -> Ready<'a>; N]) -> [
     }
     times.map(|mut times| {
         times.sort();
-        times[times.len() / 2] as f64
+        times[times.len() / 2] as f64 / at_once as f64
     })
 }

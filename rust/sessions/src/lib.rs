@@ -11,7 +11,8 @@ mod session;
 #[path = "../../sukhlent/tests/common/mod.rs"]
 mod common;
 
-#[path = "../../bench/src/plain.rs"]
+#[allow(dead_code, unused_imports)]
+#[path = "../../bench/src/plain/mod.rs"]
 mod plain;
 
 pub use counts::Counts;

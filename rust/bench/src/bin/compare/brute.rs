@@ -1,7 +1,7 @@
 //! Brute force: all choices of a class per qubit, in order.
 
-use crate::codes::images;
-use crate::seeded::pauli::{X, Z};
+use bench::codes::images;
+use bench::seeded::pauli::{X, Z};
 use sukhlent::GeneratorList;
 
 /// The letters of a row.

@@ -1,12 +1,10 @@
 //! Families of graphs on 20 vertices.
 
-use crate::seeded::Random;
+use bench::pairs::Graph;
+use bench::seeded::Random;
 
 /// The number of vertices.
 pub const N: usize = 20;
-
-/// The neighbour words of a graph.
-pub type Graph = Vec<u64>;
 
 /// A family of graphs.
 pub struct Family {

@@ -2,22 +2,12 @@
 
 mod brute;
 mod families;
-mod pairs;
 
-#[path = "../../../../sukhlent/tests/common/codes.rs"]
-mod codes;
-#[path = "../../../../sukhlent/tests/common/local.rs"]
-#[allow(dead_code)]
-mod local;
-#[path = "../../plain.rs"]
-mod plain;
-#[path = "../../../../sukhlent/tests/common/seeded/mod.rs"]
-mod seeded;
-
+use bench::local::{complemented, sent};
+use bench::pairs::{differ, equivalent, inequivalent, state, Pair};
+use bench::plain;
+use bench::seeded::Random;
 use families::{FAMILIES, N};
-use local::{complemented, sent};
-use pairs::{equivalent, inequivalent, state, Pair};
-use seeded::Random;
 use std::time::{Duration, Instant};
 use sukhlent::{compare, Comparison, GeneratorList, Record, Refusal};
 
@@ -44,7 +34,8 @@ fn main() {
         for _ in 0..PAIRS {
             let graph = (family.member)(&mut random);
             same.pair(&equivalent(&mut random, &graph), true);
-            other.pair(&inequivalent(&mut random, family), false);
+            let graph = (family.member)(&mut random);
+            other.pair(&inequivalent(&mut random, &graph, family.other), false);
         }
         println!("{:<32}{}{}", family.name, same.columns(), other.columns());
     }
@@ -130,7 +121,7 @@ fn against_brute_force(n: usize) {
     };
     let mut chord = ring(n);
     (chord[0], chord[3]) = (chord[0] | 1 << 3, chord[3] | 1);
-    assert!(pairs::differ(&mut random, &ring(n), &chord));
+    assert!(differ(&mut random, &ring(n), &chord));
 
     let (first, second) = equivalent(&mut random, &ring(n));
     let answer = compare(&first, &second).expect("an equivalent pair");

@@ -1,69 +1,47 @@
-//! Times of gate, CZ and measurement on 64 qubits: the engine through its C calls, and a plain
-//! tableau, on the same seeded states and calls.
+//! Gate, CZ and measurement on a record of 64 qubits, against a plain tableau.
 
-#[allow(dead_code)]
-#[path = "../../../sukhlent/tests/common/operation.rs"]
-mod operation;
-#[path = "../../../sukhlent/tests/common/seeded/mod.rs"]
-mod seeded;
-#[path = "../timing.rs"]
-mod timing;
-
-use operation::Operation;
-use seeded::{Circuit, Gate, Random};
+use super::Line;
+use crate::operation::Operation;
+use crate::seeded::{Circuit, Gate, Random};
+use crate::timing::Ready;
 use sukhlent::{reduce, GeneratorList, Record};
 use tableau::{Measured, Tableau};
-use timing::{medians, Ready};
 
 /// The number of qubits.
 const N: usize = 64;
 /// The number of states.
 const STATES: usize = 512;
 /// The number of states in a timed sample, with one call on each.
-const SAMPLE: usize = 8;
+const AT_ONCE: usize = 8;
 
 /// A state in both forms, and the call on it.
-struct Case {
+pub struct Case {
     record: Record,
     tableau: Tableau,
     operation: Operation,
 }
 
-/// Makes a case.
-type Maker = fn(&mut Random) -> Case;
+/// A call, what it is made on, and how a case is made.
+pub type Kind = (&'static str, &'static str, fn(&mut Random) -> Case);
 
-fn main() {
-    println!("one call on {N} qubits, median time");
-    println!(
-        "{:<26} {:>12} {:>12} {:>7}",
-        "call", "engine", "tableau", "ratio"
-    );
-    let kinds: [(&str, Maker); 4] = [
-        ("gate", gate),
-        ("CZ", cz),
-        ("measurement, chosen", chosen),
-        ("measurement, determined", determined),
-    ];
-    for (name, case) in kinds {
-        let mut random = Random::new(N as u64);
-        let cases: Vec<Case> = (0..STATES).map(|_| case(&mut random)).collect();
-        cases.iter().for_each(assert_same_answers);
-        let engine = |sample| engine_sample(part(&cases, sample));
-        let plain = |sample| tableau_sample(part(&cases, sample));
-        let [engine, plain] = medians([&engine, &plain]).map(|time| time / SAMPLE as f64);
-        let ratio = engine / plain;
-        println!("{name:<26} {engine:>9.0} ns {plain:>9.0} ns {ratio:>7.1}");
-    }
-}
+/// The timed calls.
+pub const KINDS: [Kind; 4] = [
+    ("gate", "random states", gate),
+    ("CZ", "random states", cz),
+    ("measure", "random states, outcome chosen", chosen),
+    ("measure", "random states, determined", determined),
+];
 
-/// The cases of a sample; the samples go through all cases in turn.
-fn part(cases: &[Case], sample: usize) -> &[Case] {
-    let first = sample * SAMPLE % STATES;
-    &cases[first..first + SAMPLE]
+/// The line of a kind of calls.
+pub fn line((call, name, case): Kind) -> Line {
+    let mut random = Random::new(N as u64);
+    let cases: Vec<Case> = (0..STATES).map(|_| case(&mut random)).collect();
+    cases.iter().for_each(assert_same_answers);
+    Line::measured((call, N, name), &cases, AT_ONCE, [engine, in_plain_rust])
 }
 
 /// The calls of a sample on copies of the records.
-fn engine_sample(cases: &[Case]) -> Ready<'static> {
+fn engine(cases: &[Case]) -> Ready<'_> {
     let copies = cases
         .iter()
         .map(|case| (case.record.clone(), case.operation));
@@ -76,7 +54,7 @@ fn engine_sample(cases: &[Case]) -> Ready<'static> {
 }
 
 /// The calls of a sample on copies of the tableaux.
-fn tableau_sample(cases: &[Case]) -> Ready<'static> {
+fn in_plain_rust(cases: &[Case]) -> Ready<'_> {
     let copies = cases
         .iter()
         .map(|case| (case.tableau.clone(), case.operation));

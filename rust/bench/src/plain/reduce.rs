@@ -1,36 +1,7 @@
 //! The reduction in plain Rust: the refusals, then signed Gaussian elimination on words.
 
-/// The operator i^phase X^x Z^z; Y is i X Z.
-#[derive(Clone, Copy, Default)]
-struct Row {
-    z: u64,
-    x: u64,
-    phase: u32,
-}
-
-impl Row {
-    /// Multiplies another row into this one: moving its X past this Z gives signs.
-    fn multiply(&mut self, other: Row) {
-        let signs = (self.z & other.x).count_ones();
-        self.phase = (self.phase + other.phase + 2 * signs) & 3;
-        self.z ^= other.z;
-        self.x ^= other.x;
-    }
-
-    /// Applies a Hadamard at each qubit of a word: X Z becomes Z X, which is -X Z.
-    fn hadamards(&mut self, qubits: u64) {
-        let signs = (self.z & self.x & qubits).count_ones();
-        self.phase = (self.phase + 2 * signs) & 3;
-        let changed = (self.z ^ self.x) & qubits;
-        self.z ^= changed;
-        self.x ^= changed;
-    }
-
-    /// Whether the letters have the sign minus.
-    fn is_minus(&self) -> bool {
-        (self.phase.wrapping_sub((self.z & self.x).count_ones())) & 3 == 2
-    }
-}
+use super::refusals;
+use super::row::Row;
 
 /// The reduced record of a list, or the number of the refusal.
 pub fn reduce(
@@ -41,21 +12,29 @@ pub fn reduce(
     neighbours: &mut [u64],
     codes: &mut [u8],
 ) -> u8 {
-    let lengths = [signs.len(), z.len(), x.len(), neighbours.len(), codes.len()];
-    let refusal = refusal(n, signs, z, x, &lengths);
+    let refusal = refusals::of_list((n, signs, z, x), &[neighbours.len(), codes.len()]);
     if refusal != 0 {
         return refusal;
     }
-    let n = n as usize;
+    if !reduced(signs, z, x, neighbours, codes) {
+        return 10;
+    }
+    0
+}
+
+/// Writes the reduced record of commuting generators, or answers that they are dependent.
+pub fn reduced(
+    signs: &[u8],
+    z: &[u64],
+    x: &[u64],
+    neighbours: &mut [u64],
+    codes: &mut [u8],
+) -> bool {
+    let n = signs.len();
     let mut rows = [Row::default(); 64];
     let rows = &mut rows[..n];
     for (j, row) in rows.iter_mut().enumerate() {
-        let phase = 2 * u32::from(signs[j]) + (z[j] & x[j]).count_ones();
-        *row = Row {
-            z: z[j],
-            x: x[j],
-            phase,
-        };
+        *row = Row::new(signs[j] == 1, z[j], x[j]);
     }
 
     // The pivot rows come first; owner[q] is the pivot row of qubit q.
@@ -66,7 +45,7 @@ pub fn reduce(
     let turned = all ^ kept;
     rows.iter_mut().for_each(|row| row.hadamards(turned));
     if eliminate(rows, rank, turned, &mut owner) != turned {
-        return 10;
+        return false;
     }
     for q in 0..n {
         let row = rows[owner[q]];
@@ -75,7 +54,7 @@ pub fn reduce(
         let hadamard = (turned >> q & 1) as u8;
         codes[q] = 8 * hadamard + 4 * y + 2 * u8::from(row.is_minus());
     }
-    0
+    true
 }
 
 /// Makes a pivot of each column that has an x bit at or below row `rank`, and clears the column
@@ -100,26 +79,4 @@ fn eliminate(rows: &mut [Row], mut rank: usize, columns: u64, owner: &mut [usize
         rank += 1;
     }
     pivots
-}
-
-/// The refusals before that of dependent generators.
-fn refusal(n: u64, signs: &[u8], z: &[u64], x: &[u64], lengths: &[usize]) -> u8 {
-    if n == 0 || n > 64 {
-        return 2;
-    }
-    if lengths.iter().any(|&length| length as u64 != n) {
-        return 4;
-    }
-    let all = u64::MAX >> (64 - n);
-    if z.iter().chain(x).any(|word| word & !all != 0) {
-        return 5;
-    }
-    if signs.iter().any(|&sign| sign > 1) {
-        return 6;
-    }
-    let clash = |a: usize, b: usize| ((z[a] & x[b]) ^ (x[a] & z[b])).count_ones() % 2 == 1;
-    if (0..n as usize).any(|a| (0..a).any(|b| clash(a, b))) {
-        return 9;
-    }
-    0
 }

@@ -1,9 +1,11 @@
 //! Pairs of lists that are known to be equivalent, or known not to be.
 
-use crate::families::{Family, Graph};
 use crate::local::{complemented, sent};
 use crate::seeded::{list, mixed, rows, Random};
 use sukhlent::{expand, GeneratorList, Record};
+
+/// The neighbour words of a graph.
+pub type Graph = Vec<u64>;
 
 /// Two lists.
 pub type Pair = (GeneratorList, GeneratorList);
@@ -40,16 +42,20 @@ pub fn equivalent(random: &mut Random, graph: &Graph) -> Pair {
     (first, second)
 }
 
-/// A pair of a family with different ranks at some cut; local Cliffords keep these ranks.
-pub fn inequivalent(random: &mut Random, family: &Family) -> Pair {
-    let first = (family.member)(random);
+/// States of a graph and of another with a different rank at some cut; local Cliffords keep these
+/// ranks.
+pub fn inequivalent(
+    random: &mut Random,
+    first: &Graph,
+    other: impl Fn(&mut Random, &Graph) -> Graph,
+) -> Pair {
     for _ in 0..1000 {
-        let second = (family.other)(random, &first);
-        if differ(random, &first, &second) {
-            return (state(random, &first), state(random, &second));
+        let second = other(random, first);
+        if differ(random, first, &second) {
+            return (state(random, first), state(random, &second));
         }
     }
-    panic!("{}: no cut tells two graphs apart", family.name);
+    panic!("no cut tells another graph from {first:?}");
 }
 
 /// Whether the graphs are seen to have different ranks at some cut: all sets of up to three

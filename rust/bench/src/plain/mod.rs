@@ -1,0 +1,31 @@
+//! The calls in plain Rust, written from document 01's text on whole words.
+
+mod codes;
+mod compare;
+mod equations;
+mod image;
+mod reduce;
+mod refusals;
+mod row;
+mod search;
+
+pub use compare::compare;
+pub use image::image;
+pub use reduce::reduce;
+
+/// The places of a buffer for a list of complementations.
+const LIST_PLACES: usize = 96;
+
+/// The places of the set bits of a word, rising.
+fn places(mut word: u64) -> impl Iterator<Item = usize> {
+    std::iter::from_fn(move || {
+        let place = (word != 0).then(|| word.trailing_zeros() as usize)?;
+        word &= word - 1;
+        Some(place)
+    })
+}
+
+/// Whether the ones of a word are odd in number.
+fn odd(word: u64) -> bool {
+    word.count_ones() % 2 == 1
+}
