@@ -1,4 +1,5 @@
-//! The examples of document 01 that are about states, followed on state vectors.
+//! The examples of document 01 that are about states, and the comparisons of one qubit, followed on
+//! state vectors.
 
 mod common;
 
@@ -129,7 +130,7 @@ fn the_choices_of_one_qubit_are_the_first_that_carry_the_state() {
         let due = (0..24).find(carries).expect("a code");
         assert_eq!(compare(&first, &second).unwrap().choice, [due], "{a} {b}");
     }
-    // The examples among them.
+    // Two of them as numbers.
     let choice = |a, b| compare(&parsed(&[a]), &parsed(&[b])).unwrap().choice;
     assert_eq!(choice("Z", "Y"), [12]);
     assert_eq!(choice("Y", "X"), [5]);
