@@ -1,9 +1,10 @@
 //! Arguments of calls: valid ones, some of them damaged in places, and noise.
 
 use crate::common::damage::{damage_list, damage_record};
-use crate::common::local::complemented_record;
-use crate::common::{list, random_rows, Lengths, ListCall, Operation, Random, RecordCall};
-use sukhlent::Record;
+use crate::common::local::{complemented_record, sent};
+use crate::common::{list, mixed, random_rows, rows, Operation, Random};
+use crate::common::{ImageLengths, Lengths, ListCall, PairCall, RecordCall};
+use sukhlent::{GeneratorList, Record};
 
 /// What is done to valid arguments: mostly nothing or little; one in sixteen calls gets noise.
 enum Harm {
@@ -40,14 +41,59 @@ pub fn list_call(random: &mut Random, n: usize) -> ListCall {
     }
 }
 
-/// A call on a record of n vertices that writes to three buffers.
-pub fn record_call(random: &mut Random, n: usize) -> RecordCall<Lengths> {
-    let mut lengths = [n; 3];
-    if random.below(16) == 0 {
-        lengths[random.below(3)] = random.below(200);
+/// Two lists to compare: the second is mostly an image of the first, else another list, at times of
+/// another size.
+pub fn pair_call(random: &mut Random) -> PairCall {
+    let n = match random.below(8) {
+        0 => size(random),
+        1 => 20,
+        _ => 1 + random.below(8),
+    };
+    let first = list_call(random, n);
+    let accepted = first.due() == (0, 0);
+    let second = match random.below(8) {
+        0 => {
+            let n = size(random);
+            list_call(random, n)
+        }
+        1 | 2 => list_call(random, n),
+        _ if accepted => ListCall::on(&sent_and_mixed(random, &first.list())),
+        _ => list_call(random, n),
+    };
+    PairCall {
+        choice: first.codes,
+        list: list_places(random),
+        first,
+        second,
     }
-    let [signs, z, x] = lengths;
+}
+
+/// Mixed generators of a list sent through random codes.
+fn sent_and_mixed(random: &mut Random, given: &GeneratorList) -> GeneratorList {
+    let choice: Vec<u8> = (0..given.n()).map(|_| random.below(24) as u8).collect();
+    list(&mixed(random, &rows(&sent(given, &choice))))
+}
+
+/// An expansion of a record of n vertices.
+pub fn expand_call(random: &mut Random, n: usize) -> RecordCall<Lengths> {
+    let [signs, z, x] = lengths(random, n);
     harmed_record(random, n, Lengths { signs, z, x })
+}
+
+/// An image of a record of n vertices.
+pub fn image_call(random: &mut Random, n: usize) -> RecordCall<ImageLengths> {
+    let [image, signs] = lengths(random, n);
+    let list = list_places(random);
+    harmed_record(random, n, ImageLengths { image, signs, list })
+}
+
+/// Lengths of answer buffers: n, and at times one of them any.
+fn lengths<const COUNT: usize>(random: &mut Random, n: usize) -> [usize; COUNT] {
+    let mut lengths = [n; COUNT];
+    if random.below(16) == 0 {
+        lengths[random.below(COUNT)] = random.below(200);
+    }
+    lengths
 }
 
 /// A call of one kind, 0 to 4, on a record of n vertices in place. Mostly its own arguments are in
@@ -121,7 +167,7 @@ fn number(random: &mut Random) -> u64 {
 }
 
 /// Places for a list of complementations: mostly 96.
-pub fn list_places(random: &mut Random) -> usize {
+fn list_places(random: &mut Random) -> usize {
     match random.below(32) {
         0 => random.below(200),
         1 => [0, 95, 97][random.below(3)],

@@ -5,14 +5,9 @@ mod common;
 
 use common::local::{complemented, numbered_graph, sent};
 use common::reference::reduced;
-use common::{list, mixed, random_rows, rows, Pauli, Random};
+use common::{list, mixed, parsed as of, random_rows, rows, Random};
 use std::collections::HashMap;
 use sukhlent::{compare, expand, Comparison, GeneratorList, Record, Refusal};
-
-fn of(texts: &[&str]) -> GeneratorList {
-    let rows: Vec<Pauli> = texts.iter().map(|text| Pauli::parse(text)).collect();
-    list(&rows)
-}
 
 fn graph(neighbours: &[u64]) -> GeneratorList {
     let codes = vec![0; neighbours.len()];

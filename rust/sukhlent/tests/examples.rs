@@ -2,13 +2,8 @@
 
 mod common;
 
-use common::{list, Pauli};
+use common::parsed as of;
 use sukhlent::{check, expand, measure, reduce, GeneratorList, Measured, Record, Refusal};
-
-fn of(texts: &[&str]) -> GeneratorList {
-    let rows: Vec<Pauli> = texts.iter().map(|text| Pauli::parse(text)).collect();
-    list(&rows)
-}
 
 fn record(neighbours: &[u64], codes: &[u8]) -> Record {
     Record {

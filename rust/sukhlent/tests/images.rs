@@ -8,7 +8,7 @@ use common::reference::reduced;
 use common::vectors::state_of;
 use common::Random;
 use simulator::{Row, State};
-use sukhlent::{expand, image, raw, GeneratorList, Image, Record, Refusal};
+use sukhlent::{expand, image, GeneratorList, Image, Record, Refusal};
 
 fn record(neighbours: &[u64], codes: &[u8]) -> Record {
     Record {
@@ -144,24 +144,5 @@ fn complemented_records_of_signed_graphs_on_up_to_64_vertices() {
             "seed {seed}"
         );
         assert_image(&given, &answer);
-    }
-}
-
-#[test]
-fn wrong_places_for_the_list_give_4_and_nothing_is_written() {
-    for places in [0, 3, 95, 97] {
-        let (mut graph, mut signs, mut list) = ([7; 3], [7; 3], vec![7; places]);
-        let mut count = 7;
-        let number = raw::image(
-            3,
-            &[6, 1, 1],
-            &[12, 4, 4],
-            &mut graph,
-            &mut signs,
-            &mut list,
-            &mut count,
-        );
-        assert_eq!((number, graph, signs, count), (4, [7; 3], [7; 3], 7));
-        assert_eq!(list, vec![7; places]);
     }
 }

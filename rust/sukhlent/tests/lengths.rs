@@ -2,7 +2,7 @@
 
 mod common;
 
-use common::{list, random_rows, Lengths, ListCall, Operation, Random, RecordCall};
+use common::{list, random_rows, ImageLengths, Lengths, ListCall, Operation, Random, RecordCall};
 use sukhlent::{reduce, Record};
 
 /// Lengths other than n, among them n modulo 256.
@@ -28,9 +28,18 @@ fn in_place<W>(call: &RecordCall<W>) -> [RecordCall<Operation>; 5] {
     })
 }
 
+/// The image of the record of a call.
+fn image_of<W>(call: &RecordCall<W>) -> RecordCall<ImageLengths> {
+    RecordCall {
+        n: call.n,
+        ..RecordCall::image_of(&call.record())
+    }
+}
+
 /// All calls on a record give the number.
 fn assert_refused(call: &RecordCall<Lengths>, number: u8) {
     assert_eq!(call.expand(), Err(number), "{call:?}");
+    assert_eq!(image_of(call).image(), Err(number), "{call:?}");
     for call in in_place(call) {
         assert_eq!(call.apply(), Err(number), "{call:?}");
     }

@@ -2,44 +2,8 @@
 
 mod common;
 
-use common::damage::{anticommute, cut, each_fault, each_pair, flip, put, repeat, Fault};
+use common::damage::{anticommute, each_fault, each_pair, flip, put, repeat, LIST_FAULTS};
 use common::{list, random_rows, ListCall, Random};
-
-/// The faults leave rows 2 to 5 to the lines 5 and 6, rows 0 and 1 to line 9 and the last two to
-/// line 10, so that each fault stays true beside the others.
-const FAULTS: [Fault<ListCall>; 24] = [
-    (2, |call| call.n = 0),
-    (2, |call| call.n = 65),
-    (2, |call| call.n = u64::MAX),
-    (4, |call| call.signs.push(0)),
-    (4, |call| cut(&mut call.signs, 2)),
-    (4, |call| call.z.push(0)),
-    (4, |call| cut(&mut call.z, 5)),
-    (4, |call| call.x.push(0)),
-    (4, |call| call.x.clear()),
-    (4, |call| call.n -= 1),
-    (5, |call| flip(&mut call.z, 2, 8)),
-    (5, |call| flip(&mut call.z, 5, 63)),
-    (5, |call| flip(&mut call.x, 3, 8)),
-    (5, |call| flip(&mut call.x, 5, 40)),
-    (6, |call| put(&mut call.signs, 0, 2)),
-    (6, |call| put(&mut call.signs, 3, 255)),
-    (6, |call| put(&mut call.signs, 7, 128)),
-    (9, |call| anticommute(call, 0, 1)),
-    (9, |call| anticommute(call, 1, 0)),
-    (9, |call| anticommute(call, 5, 2)),
-    (10, |call| repeat(call, 6, 7)),
-    (10, |call| repeat(call, 7, 6)),
-    (10, |call| {
-        put(&mut call.z, 6, 0);
-        put(&mut call.x, 6, 0);
-    }),
-    (10, |call| {
-        repeat(call, 7, 6);
-        let other = 1 - call.signs[6];
-        put(&mut call.signs, 7, other);
-    }),
-];
 
 fn base(seed: u64) -> ListCall {
     ListCall::on(&list(&random_rows(&mut Random::new(seed), 8)))
@@ -54,14 +18,14 @@ fn assert_refused(call: &ListCall, number: u8, what: &str) {
 #[test]
 fn every_fault_gives_its_number() {
     for seed in 0..20 {
-        each_fault(&FAULTS, || base(seed), assert_refused);
+        each_fault(&LIST_FAULTS, || base(seed), assert_refused);
     }
 }
 
 #[test]
 fn of_two_faults_the_earlier_number_is_given() {
     for seed in 0..20 {
-        each_pair(&FAULTS, || base(seed), assert_refused);
+        each_pair(&LIST_FAULTS, || base(seed), assert_refused);
     }
 }
 
@@ -93,7 +57,7 @@ fn lines_are_judged_over_all_rows() {
 
 #[test]
 fn the_answer_buffers_lengths_stand_before_all_faults_but_those_of_n() {
-    for (number, damage) in FAULTS {
+    for (number, damage) in LIST_FAULTS {
         for (neighbours, codes) in [(7, 8), (9, 8), (8, 0), (8, 64)] {
             let mut call = ListCall {
                 neighbours,

@@ -1,6 +1,5 @@
 //! Calls on one record in place.
 
-use super::records::lent;
 use crate::arguments::{in_place_call, size};
 use crate::common::Random;
 use sukhlent::{expand, reduce, Record, Refusal};
@@ -48,7 +47,7 @@ fn once(random: &mut Random, kind: usize, assert: impl Fn(&Record, &Record)) -> 
     let number = answer.as_ref().err().copied().unwrap_or(0);
     assert_eq!(number, call.due(), "{call:?}");
     if let Ok((after, _)) = answer {
-        assert(&lent(&call), &after);
+        assert(&call.record(), &after);
     }
     number
 }

@@ -31,36 +31,42 @@ impl ListCall {
         }
     }
 
+    /// The list.
+    pub fn list(&self) -> GeneratorList {
+        GeneratorList {
+            signs: self.signs.clone(),
+            z: self.z.clone(),
+            x: self.x.clone(),
+        }
+    }
+
+    /// The list between guards.
+    pub fn guarded(&self) -> GuardedList {
+        GuardedList {
+            n: self.n,
+            signs: Guarded::holding(&self.signs),
+            z: Guarded::holding(&self.z),
+            x: Guarded::holding(&self.x),
+        }
+    }
+
     /// The number that `check` answers.
     pub fn check(&self) -> u8 {
-        let mut signs = Guarded::holding(&self.signs);
-        let mut z = Guarded::holding(&self.z);
-        let mut x = Guarded::holding(&self.x);
-        let number = raw::check(self.n, signs.lent(), z.lent(), x.lent());
-        signs.assert_unchanged("signs");
-        z.assert_unchanged("z");
-        x.assert_unchanged("x");
+        let mut list = self.guarded();
+        let (n, signs, z, x) = list.lent();
+        let number = raw::check(n, signs, z, x);
+        list.assert_unchanged();
         number
     }
 
     /// The record that `reduce` writes, or the number of its refusal.
     pub fn reduce(&self) -> Result<Record, u8> {
-        let mut signs = Guarded::holding(&self.signs);
-        let mut z = Guarded::holding(&self.z);
-        let mut x = Guarded::holding(&self.x);
+        let mut list = self.guarded();
         let mut neighbours = Guarded::patterned(self.neighbours);
         let mut codes = Guarded::patterned(self.codes);
-        let number = raw::reduce(
-            self.n,
-            signs.lent(),
-            z.lent(),
-            x.lent(),
-            neighbours.lent(),
-            codes.lent(),
-        );
-        signs.assert_unchanged("signs");
-        z.assert_unchanged("z");
-        x.assert_unchanged("x");
+        let (n, signs, z, x) = list.lent();
+        let number = raw::reduce(n, signs, z, x, neighbours.lent(), codes.lent());
+        list.assert_unchanged();
         if number != 0 {
             neighbours.assert_unchanged("neighbours");
             codes.assert_unchanged("codes");
@@ -78,6 +84,28 @@ impl ListCall {
             reference::list_refusal(self.n, &self.signs, &self.z, &self.x, lengths)
         };
         (due(&[]), due(&[self.neighbours, self.codes]))
+    }
+}
+
+/// A generator list between guards.
+pub struct GuardedList {
+    n: u64,
+    signs: Guarded<u8>,
+    z: Guarded<u64>,
+    x: Guarded<u64>,
+}
+
+impl GuardedList {
+    /// The list, as the raw calls take it.
+    pub fn lent(&mut self) -> raw::Lent<'_> {
+        (self.n, self.signs.lent(), self.z.lent(), self.x.lent())
+    }
+
+    /// Panics where the list or a guard has changed.
+    pub fn assert_unchanged(&self) {
+        self.signs.assert_unchanged("signs");
+        self.z.assert_unchanged("z");
+        self.x.assert_unchanged("x");
     }
 }
 
@@ -106,6 +134,14 @@ impl<W> RecordCall<W> {
             neighbours: record.neighbours.clone(),
             codes: record.codes.clone(),
             with,
+        }
+    }
+
+    /// The record.
+    pub fn record(&self) -> Record {
+        Record {
+            neighbours: self.neighbours.clone(),
+            codes: self.codes.clone(),
         }
     }
 }

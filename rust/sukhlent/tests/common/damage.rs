@@ -75,6 +75,42 @@ pub fn damage_list(random: &mut Random, call: &mut ListCall) {
 /// A fault: its number, and what it does to the arguments of a call.
 pub type Fault<C> = (u8, fn(&mut C));
 
+/// The faults of a list on 8 qubits. They leave rows 2 to 5 to the lines 5 and 6, rows 0 and 1 to
+/// line 9 and the last two to line 10, so that each fault stays true beside the others.
+pub const LIST_FAULTS: [Fault<ListCall>; 24] = [
+    (2, |call| call.n = 0),
+    (2, |call| call.n = 65),
+    (2, |call| call.n = u64::MAX),
+    (4, |call| call.signs.push(0)),
+    (4, |call| cut(&mut call.signs, 2)),
+    (4, |call| call.z.push(0)),
+    (4, |call| cut(&mut call.z, 5)),
+    (4, |call| call.x.push(0)),
+    (4, |call| call.x.clear()),
+    (4, |call| call.n -= 1),
+    (5, |call| flip(&mut call.z, 2, 8)),
+    (5, |call| flip(&mut call.z, 5, 63)),
+    (5, |call| flip(&mut call.x, 3, 8)),
+    (5, |call| flip(&mut call.x, 5, 40)),
+    (6, |call| put(&mut call.signs, 0, 2)),
+    (6, |call| put(&mut call.signs, 3, 255)),
+    (6, |call| put(&mut call.signs, 7, 128)),
+    (9, |call| anticommute(call, 0, 1)),
+    (9, |call| anticommute(call, 1, 0)),
+    (9, |call| anticommute(call, 5, 2)),
+    (10, |call| repeat(call, 6, 7)),
+    (10, |call| repeat(call, 7, 6)),
+    (10, |call| {
+        put(&mut call.z, 6, 0);
+        put(&mut call.x, 6, 0);
+    }),
+    (10, |call| {
+        repeat(call, 7, 6);
+        let other = 1 - call.signs[6];
+        put(&mut call.signs, 7, other);
+    }),
+];
+
 /// The faults of a record on 8 vertices, whatever goes with it.
 pub fn record_faults<W>() -> Vec<Fault<RecordCall<W>>> {
     vec![

@@ -3,18 +3,24 @@
 
 pub mod calls;
 pub mod codes;
+pub mod complementations;
 pub mod damage;
 pub mod guarded;
+pub mod image;
 pub mod in_place;
 pub mod local;
 pub mod operation;
+pub mod pairs;
 pub mod reference;
 pub mod seeded;
 pub mod vectors;
 
 pub use calls::{Lengths, ListCall, RecordCall};
 pub use codes::images;
+pub use image::ImageLengths;
 pub use operation::Operation;
+pub use pairs::PairCall;
 pub use seeded::{
-    list, mixed, pauli, random_record, random_rows, rows, stabilizers, Circuit, Pauli, Random,
+    list, mixed, parsed, pauli, random_record, random_rows, rows, stabilizers, Circuit, Pauli,
+    Random,
 };

@@ -6,4 +6,4 @@ mod refusals;
 
 pub use expansion::expanded;
 pub use reduction::reduced;
-pub use refusals::{in_place_refusal, list_refusal, record_refusal};
+pub use refusals::{image_refusal, in_place_refusal, list_refusal, pair_refusal, record_refusal};

@@ -1,5 +1,6 @@
 //! The refusals of lists and records, line by line.
 
+use crate::common::complementations::LIST_PLACES;
 use crate::common::operation::Operation;
 use crate::common::seeded::{rows, Pauli};
 use sukhlent::GeneratorList;
@@ -82,6 +83,38 @@ pub fn in_place_refusal(n: u64, neighbours: &[u64], codes: &[u8], operation: Ope
     } else {
         0
     }
+}
+
+/// The first of lines 2 to 7 that is true of an image: of a record, of further buffers of n places
+/// and of the list's places. None where the image rule decides.
+pub fn image_refusal(
+    n: u64,
+    neighbours: &[u64],
+    codes: &[u8],
+    others: &[usize],
+    list: usize,
+) -> Option<u8> {
+    let of_record = record_refusal(n, neighbours, codes, others);
+    first_of(&[(of_record != 0, of_record), (list != LIST_PLACES, 4)])
+}
+
+/// The first of lines 2 to 10 that is true of a comparison: of two lists with their n and the
+/// first line that is true of each, or 0, of the choice's places and of the list's. None where the
+/// search decides.
+pub fn pair_refusal(n: [u64; 2], of_lists: [u8; 2], choice: usize, list: usize) -> Option<u8> {
+    first_of(&[
+        (n[0] != n[1], 2),
+        (n.iter().any(|&n| n > 20), 3),
+        (choice as u64 != n[0] || list != LIST_PLACES, 4),
+        (of_lists[0] != 0, of_lists[0]),
+        (of_lists[1] != 0, of_lists[1]),
+    ])
+}
+
+/// The first number in checking order of the lines that are true.
+fn first_of(lines: &[(bool, u8)]) -> Option<u8> {
+    let held = lines.iter().filter(|(holds, _)| *holds);
+    held.map(|&(_, number)| number).min()
 }
 
 /// Whether a word has a bit at or above n.

@@ -19,6 +19,12 @@ pub fn list(rows: &[Pauli]) -> GeneratorList {
     }
 }
 
+/// The list of generators written as an optional sign and a letter per qubit, qubit 0 first.
+pub fn parsed(texts: &[&str]) -> GeneratorList {
+    let rows: Vec<Pauli> = texts.iter().map(|text| Pauli::parse(text)).collect();
+    list(&rows)
+}
+
 /// The generators of a list.
 pub fn rows(list: &GeneratorList) -> Vec<Pauli> {
     let row = |j: usize| Pauli {

@@ -8,7 +8,7 @@ pub mod random;
 pub mod records;
 
 pub use circuit::{stabilizers, Circuit, Gate};
-pub use lists::{list, mixed, random_rows, rows};
+pub use lists::{list, mixed, parsed, random_rows, rows};
 pub use pauli::Pauli;
 pub use random::Random;
 pub use records::random_record;

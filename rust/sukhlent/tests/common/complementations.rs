@@ -1,0 +1,42 @@
+//! The buffer for a list of complementations, with its count, between guards.
+
+use super::guarded::Guarded;
+
+/// The places that a call requires of the list.
+pub const LIST_PLACES: usize = 96;
+
+/// A list of vertices and its count, lent for the answer.
+pub struct Complementations {
+    list: Guarded<u8>,
+    count: Guarded<u64>,
+}
+
+impl Complementations {
+    /// A list of so many places; list and count are filled with a pattern.
+    pub fn patterned(places: usize) -> Complementations {
+        Complementations {
+            list: Guarded::patterned(places),
+            count: Guarded::patterned(1),
+        }
+    }
+
+    /// The list and the count.
+    pub fn lent(&mut self) -> (&mut [u8], &mut u64) {
+        (self.list.lent(), &mut self.count.lent()[0])
+    }
+
+    /// Panics where the list, the count or a guard has changed.
+    pub fn assert_unchanged(&self) {
+        self.list.assert_unchanged("list");
+        self.count.assert_unchanged("count");
+    }
+
+    /// The vertices up to the count. Panics where a place past them or a guard has changed.
+    pub fn answer(&self) -> Vec<u8> {
+        let count = self.count.answer("count")[0] as usize;
+        let places = self.list.answer("list");
+        let untouched = Guarded::<u8>::patterned(places.len()).answer("pattern");
+        assert_eq!(places[count..], untouched[count..], "past the count");
+        places[..count].to_vec()
+    }
+}

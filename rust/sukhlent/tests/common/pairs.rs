@@ -1,0 +1,67 @@
+//! Comparisons of two generator lists, on guarded buffers of any lengths and contents.
+
+use super::calls::ListCall;
+use super::complementations::{Complementations, LIST_PLACES};
+use super::guarded::Guarded;
+use super::reference;
+use sukhlent::{raw, Comparison, GeneratorList};
+
+/// The arguments of a comparison; answer buffers by their lengths.
+#[derive(Clone, Debug)]
+pub struct PairCall {
+    pub first: ListCall,
+    pub second: ListCall,
+    pub choice: usize,
+    pub list: usize,
+}
+
+impl PairCall {
+    /// The call on two lists, with lengths as they should be.
+    pub fn on(first: &GeneratorList, second: &GeneratorList) -> PairCall {
+        PairCall {
+            first: ListCall::on(first),
+            second: ListCall::on(second),
+            choice: first.n(),
+            list: LIST_PLACES,
+        }
+    }
+
+    /// The comparison that the call writes, or the number of its refusal.
+    ///
+    /// Asserts that the lists and all guards keep their contents, on a refusal the answer buffers
+    /// too, and always the list of complementations past its count.
+    pub fn compare(&self) -> Result<Comparison, u8> {
+        let mut first = self.first.guarded();
+        let mut second = self.second.guarded();
+        let mut choice = Guarded::patterned(self.choice);
+        let mut complementations = Complementations::patterned(self.list);
+        let (list, count) = complementations.lent();
+        let number = raw::compare(first.lent(), second.lent(), choice.lent(), list, count);
+        first.assert_unchanged();
+        second.assert_unchanged();
+        if number != 0 {
+            choice.assert_unchanged("choice");
+            complementations.assert_unchanged();
+            return Err(number);
+        }
+        Ok(Comparison {
+            choice: choice.answer("choice"),
+            complementations: complementations.answer(),
+        })
+    }
+
+    /// The number due to the lists and the buffers' lengths; None where the search decides.
+    pub fn due(&self) -> Option<u8> {
+        let lists = [&self.first, &self.second];
+        let numbers = lists.map(|list| list.due().0);
+        reference::pair_refusal(lists.map(|list| list.n), numbers, self.choice, self.list)
+    }
+
+    /// Panics unless a number is the one due: 0 or 13 where the search decides.
+    pub fn assert_due(&self, number: u8) {
+        match self.due() {
+            Some(due) => assert_eq!(number, due, "{self:?}"),
+            None => assert!([0, 13].contains(&number), "{number}: {self:?}"),
+        }
+    }
+}
