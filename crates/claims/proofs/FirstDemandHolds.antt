@@ -3,7 +3,7 @@
 use mathlib.Core.Bool.{Bool, cond, false, true, _||_}
 use mathlib.Core.List.{List, [], _∷_}
 use mathlib.Core.Path.{ap, refl, subst, sym, _∙_, _≡_}
-use Prim.Native.Nat.{_*_, ℕ, _≤_}
+use Prim.Native.Nat.{ℕ, _≤_}
 use native.Mathlib.Omega.{arith}
 use lib.Dec.{eqb, lit<}
 use lib.ListN.{drop, length, length-append, length-drop}
@@ -24,7 +24,6 @@ use Rattle.operations.specs.Measurement.{determinedNumber, measuredRows, outcom
 use Rattle.operations.specs.Steps.{inPlaceLines, measureLines, measuredAnswer, pivotRecord, stepped}
 use Rattle.record.proofs.AcceptedRecords.{accepted-record}
 use Rattle.record.proofs.RecordLines.{record-numbered}
-use Rattle.record.specs.Accepted.{AcceptedRecord}
 use Rattle.record.specs.Lent.{
   LentRecord,
   codeNumbers,
@@ -36,13 +35,14 @@ use Rattle.record.specs.Lent.{
 }
 use Rattle.record.specs.Records.{GraphRecord, complementRecord, rowsOf}
 use Rattle.record.specs.Reduced.{reduced}
-use Rattle.stabilizer.proofs.SharedTests.{has-length, neither}
+use Rattle.stabilizer.proofs.SharedTests.{has-length}
 use Rattle.stabilizer.specs.Lists.{GeneratorList, listLengths, listLines, listOf, rows}
 use Rattle.record_calls.proofs.InPlaceLines.{held-accepted}
 use Rattle.list_calls.specs.Calls.{ExpandCall, ReduceCall, checkLines, expandLines, reduceLines}
 use Rattle.compare_call.specs.Comparisons.{CompareCall, compareList}
 use Rattle.image_call.specs.Images.{Imaged}
 use Rattle.record_calls.specs.InPlaceCalls.{InPlaceCall, MeasureCall}
+use Rattle.words.proofs.Flags.{neither}
 use Rattle.words.specs.Bits.{digit, isOdd}
 use Rattle.claims.proofs.ThirdDemandHolds.{third-demand}
 use Rattle.claims.specs.FirstDemand.{

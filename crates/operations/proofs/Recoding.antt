@@ -7,11 +7,10 @@ use mathlib.Core.Path.{ap, ap₂, fun-ext, refl, sym, _∙_, _≡_}
 use Prim.Native.Nat.{_+_, _<_, _^_, zero-le, ℕ, _≤_}
 use native.Mathlib.Nat.{le-refl, not-suc-le-zero}
 use native.Mathlib.Omega.{arith}
-use lib.Dec.{eqb}
 use lib.ListN.{getD, length, length-set, set}
 use lib.Seq.{getD-set-other, getD-set-same}
 use borrow.Author.Count.{below-more}
-use borrow.Author.Tests.{eq-eqb, eqb-true}
+use borrow.Author.Tests.{eq-eqb}
 use Rattle.buffers.proofs.Tabulate.{tabulate-is}
 use Rattle.buffers.specs.Buffers.{tabulate}
 use Rattle.clifford.specs.Clifford.{Clifford, cliffordOf, codeOf, then}
@@ -24,16 +23,8 @@ use Rattle.record.specs.Accepted.{AcceptedRecord}
 use Rattle.record.specs.Records.{complementRecord, recoded}
 use Rattle.words.proofs.BitLaws.{lt-of-bits, wordOf-bit}
 use Rattle.words.proofs.Places.{other-place}
-use Rattle.words.proofs.SearchLaws.{every-at}
 use Rattle.words.specs.Bits.{bit, wordOf}
-use Rattle.words.specs.Search.{every}
 use Rattle.operations.specs.InPlace.{Rewritten, Unrefused, recordIn}
-
--- a number below 24 is the number of its code
-pub code-number : (c : ℕ) → c < 24 → codeOf (cliffordOf c) ≡ c
-unfolding every
-code-number c l = eqb-true (codeOf (cliffordOf c)) c
-    (every-at 24 (λ c. eqb (codeOf (cliffordOf c)) c) refl c l)
 
 -- ---- one place
 module _ (θ : Graph) (a : ℕ) (c : ℕ → Clifford) (q r : ℕ) where

@@ -45,10 +45,3 @@ equal-exactly n rows others P Q = (
   (λ E. equation n rows (reduced n others)
       (reduced-carried n others rows (reduced n others) (same-sym E) (reduced-is n others Q))),
 )
-
--- the rows of a reduced record reduce to that record
-pub reduced-again : (n : ℕ) (rows : ℕ → Pauli) → Proper n rows
-    → SameRecord (reduced n (rowsOf n (reduced n rows))) (reduced n rows)
-reduced-again n rows P =
-    equal-exactly n (rowsOf n (reduced n rows)) rows (reduced-proper n rows P) P .1
-    (same-sym (same-group n rows P))
