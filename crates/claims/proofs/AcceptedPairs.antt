@@ -7,7 +7,6 @@ use Rattle.buffers.specs.Refusals.{firstFitting}
 use Rattle.comparison.specs.Compared.{pairLines}
 use Rattle.stabilizer.proofs.Accepted.{accepted-list}
 use Rattle.stabilizer.specs.Lists.{GeneratorList, listLines}
-use Rattle.compare_call.proofs.Comparing.{same-count}
 use Rattle.compare_call.proofs.PairLines.{pair-number}
 use Rattle.compare_call.specs.ComparedPairs.{earlierOf}
 use Rattle.claims.specs.ThirdDemand.{NoLineHolds}

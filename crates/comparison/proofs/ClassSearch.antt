@@ -6,7 +6,6 @@ use mathlib.Core.Logic.{inl}
 use mathlib.Core.Path.{subst, sym, _≡_}
 use Prim.Native.Nat.{_+_, _-_, _<_, _^_, ℕ, _≤_}
 use native.Mathlib.Nat.{lt-of-lt-of-le, not-suc-le-zero}
-use lib.Dec.{T}
 use lib.ListN.{length}
 use Rattle.clifford.specs.Clifford.{Clifford}
 use Rattle.clifford.specs.Vectors.{codesOf}

@@ -7,14 +7,13 @@ use mathlib.Core.Path.{ap, refl, subst, sym, _∙_, _≡_}
 use Prim.Native.Nat.{_+_, _<_, _^_, suc, zero, zero-le, ℕ, _≤_}
 use native.Mathlib.Nat.{lt-of-lt-of-le, not-suc-le-zero}
 use native.Mathlib.Numerals.{add-one}
-use lib.Dec.{T, eqb}
+use lib.Dec.{eqb}
 use lib.ListN.{getD, replicate}
 use borrow.Author.Count.{below-more}
 use borrow.Author.Tests.{eqb-true}
 use Rattle.clifford.proofs.VectorLaws.{act-cong}
 use Rattle.clifford.specs.Clifford.{Clifford}
 use Rattle.clifford.specs.Vectors.{act, codesOf}
-use Rattle.pauli.specs.Pauli.{minus}
 use Rattle.pauli.specs.Rows.{generatorOf}
 use Rattle.pauli.specs.declared.Generator.{Generator}
 use Rattle.stabilizer.proofs.Within.{act-wide}

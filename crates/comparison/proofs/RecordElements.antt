@@ -20,18 +20,7 @@ use Rattle.graph.specs.Graph.{graphGenerator}
 use Rattle.pauli.proofs.PauliLaws.{mul-identity}
 use Rattle.pauli.proofs.PhaseLaws.{minus-injective}
 use Rattle.pauli.proofs.WordRows.{signed-mul}
-use Rattle.pauli.specs.Pauli.{
-  Pauli,
-  anticommute,
-  identity,
-  imaginary,
-  i⁰,
-  minus,
-  mul,
-  row,
-  signBit,
-  signedRow,
-}
+use Rattle.pauli.specs.Pauli.{Pauli, anticommute, identity, imaginary, i⁰, mul, row, signBit, signedRow}
 use Rattle.pauli.specs.Rows.{generatorOf}
 use Rattle.pauli.specs.declared.Generator.{Generator}
 use Rattle.record.proofs.Maximality.{inclusion-same}

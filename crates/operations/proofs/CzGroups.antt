@@ -5,7 +5,7 @@ use mathlib.Core.Logic.{_↔_, _≢_}
 use mathlib.Core.Path.{ap, ap₂, sym, _∙_, _≡_}
 use Prim.Native.Nat.{_<_, ℕ, _≤_}
 use native.Mathlib.Omega.{arith}
-use lib.Dec.{T, eqb}
+use lib.Dec.{eqb}
 use Rattle.pauli.specs.Pauli.{Pauli}
 use Rattle.stabilizer.specs.Groups.{InGroup, Proper, Trivial, Within}
 use Rattle.words.proofs.Finite.{bits}

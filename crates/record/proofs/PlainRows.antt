@@ -49,7 +49,8 @@ module _ (n : ℕ) (θ : Graph) (S : Simple n θ) (y s : Word) where
   pub plain-phase : (j : ℕ) → j < n → (plainRow n θ y s j) .phase ≡ minus (s j)
   unfolding act
   plain-phase j l =
-      fold-ext i⁰ _+ᵖ_ n (λ q k. letter-phase (y q) (s q) (θ j q) (eqb q j) (and-comm (θ j q) (eqb q j) ∙ no-loop n θ S j q))
+      fold-ext i⁰ _+ᵖ_ n (λ q k. letter-phase (y q) (s q) (θ j q) (eqb q j)
+      (and-comm (θ j q) (eqb q j) ∙ no-loop n θ S j q))
       ∙ fold-one i⁰ _+ᵖ_ phaseMonoid n j l (λ q k d. ap (λ b. cond b (minus (s q)) i⁰) (other-place d))
       ∙ ap (λ b. cond b (minus (s j)) i⁰) (same-place j)
     where

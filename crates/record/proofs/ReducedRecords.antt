@@ -33,9 +33,6 @@ reduced-is n rows P = elim (reduction n rows (P .commuting) (P .within)) [
 pub same-group : (n : ℕ) (rows : ℕ → Pauli) → Proper n rows → SameGroup n n rows (rowsOf n (reduced n rows))
 same-group n rows P = reduced-is n rows P .group
 
-pub reduced-proper : (n : ℕ) (rows : ℕ → Pauli) → Proper n rows → Proper n (rowsOf n (reduced n rows))
-reduced-proper n rows P = record-proper n (reduced n rows) (reduced-is n rows P .simple)
-
 -- lists reduce to equal records exactly if their groups are equal
 pub equal-exactly : (n : ℕ) (rows others : ℕ → Pauli) → Proper n rows → Proper n others →
     SameRecord (reduced n rows) (reduced n others) ↔ SameGroup n n rows others
