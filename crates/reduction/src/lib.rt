@@ -11,12 +11,12 @@ use words::smallest;
 ghost use mathlib.Core.Bool.{_&&_, cond, false, not, true};
 ghost use mathlib.Core.List.{[]};
 ghost use mathlib.Core.Path.{_≡_};
-ghost use Prim.Native.Nat.{ℕ, _<_, _≤_, suc};
+ghost use Prim.Native.Nat.{ℕ, _<_, _≤_};
 ghost use lib.Dec.{ltb};
 ghost use lib.ListN.{getD, length};
 ghost use Rattle.clifford.specs.Clifford.{codeOf};
 ghost use Rattle.clifford.specs.Vectors.{act};
-ghost use Rattle.pauli.specs.Pauli.{Pauli, anticommute};
+ghost use Rattle.pauli.specs.Pauli.{anticommute};
 ghost use Rattle.record.specs.Lent.{codeNumbers, neighbourWords};
 ghost use Rattle.record.specs.Reduced.{hadamardWhere, plainCode, recordOf, reduced, withHadamard};
 ghost use Rattle.reduction.specs.Passes.{Eliminated, Loaded, PivotReady, Reducible};
@@ -24,7 +24,7 @@ ghost use Rattle.stabilizer.specs.Elimination.{pivotOn, shear};
 ghost use Rattle.stabilizer.specs.Groups.{Within};
 ghost use Rattle.stabilizer.specs.Lists.{dependent, rows};
 ghost use Rattle.stabilizer.specs.Tableau.{tableau};
-ghost use Rattle.words.specs.Bits.{Word, bit};
+ghost use Rattle.words.specs.Bits.{bit};
 
 // Row a multiplied into each row that the word named names, in place.
 fn shear_in_place(rows: &mut [[u64; 2]; 64], signs: &mut u64, a: usize, named: u64)
