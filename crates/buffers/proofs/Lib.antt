@@ -4,3 +4,4 @@ pub mod Reaching
 pub mod Filling
 pub mod CopiedLists
 pub mod Parts
+pub mod Mapping

@@ -1,11 +1,13 @@
 -- The first fitting line.
 -- Assumes nothing.
-use mathlib.Core.Bool.{Bool, cond, false, true}
+use mathlib.Core.Bool.{_&&_, Bool, and-false, cond, false, true, _||_}
 use mathlib.Core.List.{_++_, List, [], _∷_}
-use mathlib.Core.Path.{ap, refl, subst, _≡_}
+use mathlib.Core.Path.{ap, refl, subst, sym, _∙_, _≡_}
 use Prim.Native.Nat.{_<_, suc, ℕ}
 use native.Mathlib.Nat.{lt-irrefl}
 use native.Mathlib.Omega.{arith}
+use lib.Dec.{eqb}
+use borrow.Author.Tests.{eq-eqb}
 use Rattle.buffers.specs.Refusals.{Line, firstFitting, line}
 
 -- a line that holds gives its number, one that does not is passed over
@@ -88,3 +90,19 @@ first-below b (l ∷ ls) p h = go (l .holds) (first-below b ls p (h .1))
     go : (v : Bool) → firstFitting ls < b → cond v (l .number) (firstFitting ls) < b
     go true rest = h .0
     go false rest = rest
+
+-- ---- "a number comes back only where its line below is true"
+-- some line with this number is true
+abbrev pub trueOf : ℕ → List Line → Bool
+trueOf k [] = false
+trueOf k (l ∷ ls) = (eqb (l .number) k && l .holds) || trueOf k ls
+
+pub only-where-true : (ls : List Line) (k : ℕ) → 0 < k → firstFitting ls ≡ k → trueOf k ls ≡ true
+unfolding firstFitting
+only-where-true [] k h e = absurd (lt-irrefl 0 (subst (λ m. 0 < m) (sym e) h))
+only-where-true (l ∷ ls) k h e = go (l .holds) e (only-where-true ls k h)
+  where
+    go : (b : Bool) → cond b (l .number) (firstFitting ls) ≡ k → (firstFitting ls ≡ k → trueOf k ls ≡ true) →
+        ((eqb (l .number) k && b) || trueOf k ls) ≡ true
+    go true e rest = ap (λ v. (v && true) || trueOf k ls) (eq-eqb (l .number) k e)
+    go false e rest = ap (λ v. v || trueOf k ls) (and-false (eqb (l .number) k)) ∙ rest e

@@ -4,14 +4,11 @@ use mathlib.Core.Bool.{false}
 use mathlib.Core.Path.{ap₂, refl, subst, _∙_, _≡_}
 use Prim.Native.Nat.{ℕ}
 use Rattle.buffers.specs.Refusals.{firstFitting}
-use Rattle.comparison.specs.Choices.{choice}
 use Rattle.comparison.specs.Compared.{pairLines}
 use Rattle.stabilizer.proofs.Accepted.{accepted-list}
 use Rattle.stabilizer.specs.Lists.{GeneratorList, listLines}
-use Rattle.compare_call.proofs.Comparing.{same-count}
 use Rattle.compare_call.proofs.PairLines.{pair-number}
 use Rattle.compare_call.specs.ComparedPairs.{earlierOf}
-use Rattle.words.specs.Search.{first}
 use Rattle.claims.specs.ThirdDemand.{NoLineHolds}
 
 pub no-line-holds : NoLineHolds

@@ -24,16 +24,25 @@ use Rattle.operations.specs.Measurement.{determinedNumber, measuredRows, outcom
 use Rattle.operations.specs.Steps.{inPlaceLines, measureLines, measuredAnswer, pivotRecord, stepped}
 use Rattle.record.proofs.AcceptedRecords.{accepted-record}
 use Rattle.record.proofs.RecordLines.{record-numbered}
-use Rattle.record.specs.Lent.{LentRecord, codeNumbers, heldRecord, heldRows, neighbourWords, recordLengths, recordLines}
+use Rattle.record.specs.Lent.{
+  LentRecord,
+  codeNumbers,
+  heldRecord,
+  heldRows,
+  neighbourWords,
+  recordLengths,
+  recordLines,
+}
 use Rattle.record.specs.Records.{GraphRecord, complementRecord, rowsOf}
 use Rattle.record.specs.Reduced.{reduced}
-use Rattle.stabilizer.proofs.SharedTests.{has-length, neither}
+use Rattle.stabilizer.proofs.SharedTests.{has-length}
 use Rattle.stabilizer.specs.Lists.{GeneratorList, listLengths, listLines, listOf, rows}
 use Rattle.record_calls.proofs.InPlaceLines.{held-accepted}
 use Rattle.list_calls.specs.Calls.{ExpandCall, ReduceCall, checkLines, expandLines, reduceLines}
 use Rattle.compare_call.specs.Comparisons.{CompareCall, compareList}
 use Rattle.image_call.specs.Images.{Imaged}
 use Rattle.record_calls.specs.InPlaceCalls.{InPlaceCall, MeasureCall}
+use Rattle.words.proofs.Flags.{neither}
 use Rattle.words.specs.Bits.{digit, isOdd}
 use Rattle.claims.proofs.ThirdDemandHolds.{third-demand}
 use Rattle.claims.specs.FirstDemand.{

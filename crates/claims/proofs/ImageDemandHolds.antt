@@ -25,17 +25,12 @@ use Rattle.record.specs.Lent.{LentRecord, heldRecord, heldRows, neighbourWords,
 use Rattle.record.specs.Records.{GraphRecord}
 use Rattle.stabilizer.proofs.Carried.{same-rows}
 use Rattle.image_call.specs.Images.{Imaged}
-use Rattle.words.proofs.BitLaws.{bit-above, bit-wordOf, digit-lt, wordOf-lt}
+use Rattle.words.proofs.BitLaws.{bit-above, bit-wordOf, digit-lt, odd-digit, wordOf-lt}
 use Rattle.words.proofs.Sums.{lt-or-ge}
 use Rattle.words.specs.Bits.{bit, digit, wordOf}
 use Rattle.claims.proofs.ThirdDemandHolds.{graph-each, half}
 use Rattle.claims.specs.ImageDemand.{ImageDecided, ImageStands, ImagesFollow, signedGenerators}
 use Rattle.claims.specs.ThirdDemand.{complementEach}
-
--- a sign bit as it is lent
-sign-bit : (b : Bool) → eqb (digit b) 1 ≡ b
-sign-bit false = refl
-sign-bit true = refl
 
 module _ (l : LentRecord) (image signs list : List ℕ) (count r : ℕ) (image′ signs′ list′ : List ℕ)
     (count′ : ℕ)
@@ -92,7 +87,7 @@ module _ (l : LentRecord) (image signs list : List ℕ) (count r : ℕ) (image�
     signs-back : (i : ℕ) → i < m → imageMinus m held i ≡ eqb (getD signs′ i 0) 1
     signs-back i h =
         sym (ap (λ v. eqb (getD v i 0) 1) the-signs ∙ ap (λ v. eqb v 1) (tabulate-at m _ i h)
-        ∙ sign-bit (imageMinus m held i))
+        ∙ odd-digit (imageMinus m held i))
 
     the-places : take count′ list′ ≡ imageList m held
     the-places = ap₂ take the-count the-list ∙ take-append-seam (imageList m held) _

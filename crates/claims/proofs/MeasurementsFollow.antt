@@ -4,9 +4,9 @@ use mathlib.Core.Bool.{Bool, cond, false, true}
 use mathlib.Core.List.{List}
 use mathlib.Core.Logic.{_↔_, _⊎_, inl, inr}
 use mathlib.Core.Path.{_∙_, _≡_, ap, refl, subst, sym}
-use Prim.Native.Nat.{_<_, suc, zero, ℕ}
-use native.Mathlib.Omega.{arith}
-use lib.Dec.{leb}
+use Prim.Native.Nat.{_<_, ℕ}
+use native.Mathlib.Nat.{mod-eq-of-lt}
+use lib.Dec.{eqb, leb}
 use borrow.Author.Tests.{leb-false}
 use Rattle.buffers.specs.Refusals.{firstFitting}
 use Rattle.operations.proofs.Determined.{
@@ -34,10 +34,11 @@ use Rattle.record.proofs.WrittenRecords.{reduced-held-same, writtenRecord}
 use Rattle.record.specs.Accepted.{AcceptedRecord}
 use Rattle.record.specs.Lent.{LentRecord, heldRows}
 use Rattle.record.specs.Reduced.{reduced}
-use Rattle.stabilizer.proofs.SharedTests.{neither}
 use Rattle.stabilizer.specs.Groups.{InGroup, Proper, SameGroup}
 use Rattle.record_calls.proofs.InPlaceLines.{held-accepted, measure-ready, six-passes}
 use Rattle.record_calls.specs.InPlaceCalls.{MeasureCall}
+use Rattle.words.proofs.BitLaws.{digit-odd, odd-digit}
+use Rattle.words.proofs.Flags.{neither}
 use Rattle.words.specs.Bits.{digit, isOdd}
 use Rattle.claims.proofs.GatesFollow.{answer-reduced, answer-still, holds-new}
 use Rattle.claims.specs.OperationsDemand.{MeasurementStands, MeasurementsFollow}
@@ -49,22 +50,12 @@ both-numbers : (d s : Bool) → (outcomeNumber (cond d (Determined s) (Chosen s)
 both-numbers true s = (refl, refl)
 both-numbers false s = (refl, refl)
 
-digit-odd : (b : Bool) → isOdd (digit b) ≡ b
-digit-odd true = refl
-digit-odd false = refl
+odd-of-digit : (b : Bool) → isOdd (digit b) ≡ b
+odd-of-digit true = refl
+odd-of-digit false = refl
 
-digit-one : (b : Bool) → digit b ≡ 1 → b ≡ true
-digit-one true e = refl
-digit-one false e = absurd (omega (arith, e))
-
-digit-zero : (b : Bool) → digit b ≡ 0 → b ≡ false
-digit-zero true e = absurd (omega (arith, e))
-digit-zero false e = refl
-
-small-digit : (b : ℕ) → b < 2 → digit (isOdd b) ≡ b
-small-digit zero h = refl
-small-digit (suc zero) h = refl
-small-digit (suc (suc b)) h = absurd (omega (arith, h))
+of-digit : (b : Bool) {k : ℕ} → digit b ≡ k → b ≡ eqb k 1
+of-digit b e = sym (odd-digit b) ∙ ap (λ k. eqb k 1) e
 
 module _ (l : LentRecord) (pauli q b answer determined : ℕ) (nb′ cs′ : List ℕ) (answer′ determined′ : ℕ)
     (C : MeasureCall l pauli q b answer determined 0 nb′ cs′ answer′ determined′) where
@@ -102,10 +93,10 @@ module _ (l : LentRecord) (pauli q b answer determined : ℕ) (nb′ cs′ : Lis
   read = C .outcome ∙ both-numbers (isDetermined n held L q) (outcome n held L q (isOdd b)) .0
 
   found : determined′ ≡ 1 → isDetermined n held L q ≡ true
-  found e = digit-one _ (sym known ∙ e)
+  found e = of-digit _ (sym known ∙ e)
 
   open-yet : determined′ ≡ 0 → isDetermined n held L q ≡ false
-  open-yet e = digit-zero _ (sym known ∙ e)
+  open-yet e = of-digit _ (sym known ∙ e)
 
   exactly : (isDetermined n held L q ≡ true)
       ↔ (InGroup n n held (single L q false) ⊎ InGroup n n held (single L q true))
@@ -123,13 +114,13 @@ module _ (l : LentRecord) (pauli q b answer determined : ℕ) (nb′ cs′ : Lis
         outcome = either-digit (outcome n held L q (isOdd b)) read;
         exactly = ((λ e. exactly .0 (found e)), λ h. known ∙ ap digit (exactly .1 h));
         sign = λ e. subst (λ s. InGroup n n held (single L q s))
-            (sym (ap isOdd read ∙ digit-odd (outcome n held L q (isOdd b))))
+            (sym (ap isOdd read ∙ odd-of-digit (outcome n held L q (isOdd b))))
             (determined-element n held (A .proper) L q at-qubit (found e) (isOdd b));
         kept = λ e. subst (λ S. SameGroup n n S (heldRows after))
             (determined-kept n held (A .proper) L q at-qubit (found e) (isOdd b))
             (reduced-held-same n R P);
         bit = λ e. read ∙ ap digit (determined-outcome n held (A .proper) L q at-qubit (open-yet e) (isOdd b))
-            ∙ small-digit b bit-small;
+            ∙ digit-odd b ∙ mod-eq-of-lt bit-small;
         joined = λ e p. (
           (λ h. measured-group n held (A .proper) L q at-qubit (open-yet e) (isOdd b) p .0
               (reduced-held-same n R P .back p h)),

@@ -31,10 +31,10 @@ use Rattle.record.specs.Lent.{LentRecord, heldRecord, heldRows}
 use Rattle.record.specs.Records.{GraphRecord, complementRecord, rowsOf}
 use Rattle.stabilizer.proofs.EqualRows.{same-group-equal}
 use Rattle.stabilizer.proofs.GroupLaws.{same-trans}
-use Rattle.stabilizer.proofs.SharedTests.{neither}
 use Rattle.stabilizer.specs.Groups.{SameGroup}
 use Rattle.record_calls.proofs.InPlaceLines.{complement-ready, eight-passes, held-accepted}
 use Rattle.record_calls.specs.InPlaceCalls.{InPlaceCall}
+use Rattle.words.proofs.Flags.{neither}
 use Rattle.claims.proofs.GatesFollow.{holds-new}
 use Rattle.claims.specs.OperationsDemand.{ComplementsKeep, PivotsKeep, RewrittenAs, SecondAboutFirst, left}
 

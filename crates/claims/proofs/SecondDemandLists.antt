@@ -6,7 +6,6 @@ use mathlib.Core.Path.{ap, subst, sym, _∙_, _≡_}
 use Prim.Native.Nat.{ℕ}
 use lib.ListN.{getD}
 use Rattle.buffers.proofs.Tabulate.{tabulate-at}
-use Rattle.buffers.specs.Buffers.{accepted}
 use Rattle.pauli.specs.Pauli.{Pauli}
 use Rattle.record.proofs.AcceptedRecords.{accepted-record}
 use Rattle.record.proofs.ExpansionBack.{expanded, expansion-back, reduced-expands-back}
@@ -83,9 +82,6 @@ equal-records-exactly n s z x s₂ z₂ x₂ nb cs nb₂ cs₂ nb′ cs′ nb₂
   ),
 )
   where
-    first-list : GeneratorList
-    first-list = record { n = n; signs = s; z = z; x = x }
-
     R : ℕ → Pauli
     R = rows (record { n = n; signs = s; z = z; x = x })
 

@@ -29,7 +29,6 @@ use Rattle.record.proofs.ReducedRecords.{reduced-is}
 use Rattle.record.specs.Records.{GraphRecord, complementAll, complementRecord}
 use Rattle.record.specs.Reduced.{reducedGraph}
 use Rattle.stabilizer.proofs.Accepted.{accepted-list}
-use Rattle.stabilizer.proofs.SharedTests.{neither}
 use Rattle.stabilizer.specs.Carries.{Carries}
 use Rattle.stabilizer.specs.Groups.{Proper}
 use Rattle.stabilizer.specs.Lists.{
@@ -45,6 +44,7 @@ use Rattle.compare_call.proofs.Comparing.{counts-agree}
 use Rattle.compare_call.proofs.PairLines.{last-line, pair-numbered}
 use Rattle.compare_call.proofs.ReducedPairs.{least-held}
 use Rattle.compare_call.specs.Comparisons.{compareList, inducedRecord}
+use Rattle.words.proofs.Flags.{neither}
 use Rattle.claims.specs.ThirdDemand.{ComesBack, Decided, ThirdDemand, complementEach, listUnder}
 
 -- a record complemented along a list has the graph complemented along it

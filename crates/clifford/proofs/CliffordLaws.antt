@@ -5,6 +5,7 @@ use mathlib.Core.Path.{ap, refl, sym, _∙_, _≡_}
 use Prim.Native.Nat.{_%_, _*_, _+_, _/_, _<_, ℕ}
 use native.Mathlib.Omega.{arith}
 use lib.Dec.{T, eqb, eqb→eq, leb, lit<}
+use borrow.Author.Tests.{eqb-true}
 use Rattle.pauli.proofs.PhaseLaws.{phases}
 use Rattle.pauli.specs.Pauli.{
   _+ᵖ_,
@@ -23,8 +24,9 @@ use Rattle.pauli.specs.declared.Letter.{Letter}
 use Rattle.pauli.specs.declared.Letter.the-variants.{I, X, Y, Z}
 use Rattle.words.proofs.BitLaws.{digit-lt}
 use Rattle.words.proofs.Finite.{Law, Of, and-l, and-r, bits, law, sameBit→≡, test}
+use Rattle.words.proofs.SearchLaws.{every-at}
 use Rattle.words.specs.Bits.{digit, isOdd, sameBit, _⊕_}
-use Rattle.words.specs.Search.{first, some}
+use Rattle.words.specs.Search.{every, first, some}
 use Rattle.clifford.specs.Clifford.{
   Class,
   Clifford,
@@ -133,7 +135,7 @@ phaseAfter-then = onClifford _ λ a b c d e. onClifford _
 abbrev pub sameClass : Class → Class → Bool
 sameClass a b = eqb (classNumber a) (classNumber b)
 
-classOf-number : (a : Class) → classOf (classNumber a) ≡ a
+pub classOf-number : (a : Class) → classOf (classNumber a) ≡ a
 classOf-number XZ = refl
 classOf-number YZ = refl
 classOf-number ZX = refl
@@ -243,7 +245,7 @@ entry-letter = onClifford _ λ a b c d e. onLetter _
     (λ a b c d e z x. image (fromFive a b c d e) (letter z x)) tt a b c d e)
 
 -- ---- codes are below 24
-class-lt : (m : Class) → classNumber m < 6
+pub class-lt : (m : Class) → classNumber m < 6
 class-lt XZ = lit< tt
 class-lt YZ = lit< tt
 class-lt ZX = lit< tt
@@ -253,6 +255,12 @@ class-lt ZY = lit< tt
 
 pub codeOf-lt : (k : Clifford) → codeOf k < 24
 codeOf-lt k = omega (arith, class-lt (k .class), digit-lt (k .sx), digit-lt (k .sz))
+
+-- a number below 24 is the code of its Clifford
+pub codeOf-cliffordOf : (c : ℕ) → c < 24 → codeOf (cliffordOf c) ≡ c
+unfolding every
+codeOf-cliffordOf c l = eqb-true (codeOf (cliffordOf c)) c
+    (every-at 24 (λ c. eqb (codeOf (cliffordOf c)) c) refl c l)
 
 -- ---- the identity
 pub phaseAfter-id : (z x : Bool) → phaseAfter identityClifford z x ≡ i⁰

@@ -45,7 +45,7 @@ module _ (n q : ℕ) (l : q < n) (k : Clifford) (p : Pauli) where
       (λ o. put-other (p .x) q _ j o ∙ sym (xAfter-id (p .z j) (p .x j)))
 
 -- the letter at q replaced by its image, and the sign multiplied
-pub sent-place : (n q : ℕ) → q < n → (k : Clifford) (s m : Bool) (z x z′ x′ : ℕ) →
+sent-place : (n q : ℕ) → q < n → (k : Clifford) (s m : Bool) (z x z′ x′ : ℕ) →
     minus m ≡ imagePhase k (letter (bit z q) (bit x q)) →
     ((j : ℕ) → bit z′ j ≡ put (bit z) q (zBit (image k (letter (bit z q) (bit x q)))) j) →
     ((j : ℕ) → bit x′ j ≡ put (bit x) q (xBit (image k (letter (bit z q) (bit x q)))) j) →

@@ -7,22 +7,21 @@ use Prim.Native.Nat.{_<_, ℕ, _≤_}
 use native.Mathlib.Omega.{arith}
 use lib.Dec.{eqb}
 use lib.ListN.{length}
-use borrow.Author.Tests.{eqb-true, le-ltb, lt-ltb, ne-eqb}
+use borrow.Author.Tests.{eqb-true, le-ltb, lt-ltb, ne-eqb, not-false}
 use Rattle.buffers.proofs.Lines.{fits, more-accepted, more-refused, passed}
 use Rattle.buffers.specs.Buffers.{accepted, tabulate, written}
 use Rattle.buffers.specs.Refusals.{badCount, firstFitting, otherThan}
-use Rattle.comparison.proofs.Flags.{not-false}
-use Rattle.comparison.specs.Choices.{choice, leastCode, noChoice}
+use Rattle.comparison.specs.Choices.{leastCode, noChoice}
 use Rattle.comparison.specs.Compared.{pairCount, pairLines}
-use Rattle.image.proofs.Rounds.{room}
 use Rattle.pauli.specs.Pauli.{Pauli}
 use Rattle.record.specs.Accepted.{AcceptedRecord}
 use Rattle.record.specs.Lent.{codeNumbers, neighbourWords}
 use Rattle.record.specs.Reduced.{reduced}
 use Rattle.stabilizer.proofs.Accepted.{accepted-list}
-use Rattle.stabilizer.proofs.SharedTests.{counted, has-length, length-passes, neither}
+use Rattle.stabilizer.proofs.SharedTests.{counted, has-length, length-passes}
 use Rattle.stabilizer.specs.Lists.{GeneratorList, listLengths, rows}
 use Rattle.words.proofs.Finite.{bits}
+use Rattle.words.proofs.Flags.{neither}
 use Rattle.compare_call.proofs.PairLines.{earlier-none, last-line, pair-number, pair-numbered}
 use Rattle.compare_call.proofs.ReducedPairs.{reduced-accepted}
 use Rattle.list_calls.specs.Calls.{ReduceCall}

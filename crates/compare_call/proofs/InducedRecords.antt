@@ -11,9 +11,7 @@ use Rattle.buffers.specs.Buffers.{tabulate}
 use Rattle.clifford.proofs.CliffordLaws.{codeOf-lt}
 use Rattle.clifford.specs.Clifford.{inverse, then}
 use Rattle.clifford.specs.Vectors.{codesOf}
-use Rattle.comparison.specs.Choices.{choice}
 use Rattle.comparison.specs.Compared.{inducedCode}
-use Rattle.image.proofs.Rounds.{room}
 use Rattle.image.specs.Answer.{IsImage}
 use Rattle.image.specs.declared.ImageAnswer.{ImageAnswer}
 use Rattle.record.proofs.ReducedRecords.{record-proper}

@@ -12,9 +12,7 @@ use lib.ListN.{length}
 use borrow.Author.Tests.{eq-eqb, le-ltb, lt-ltb, ne-eqb}
 use Rattle.buffers.proofs.Lines.{Numbered, passed}
 use Rattle.buffers.specs.Refusals.{Line, badCount, firstFitting, line}
-use Rattle.comparison.specs.Choices.{choice}
 use Rattle.comparison.specs.Compared.{pairLines}
-use Rattle.image.proofs.Rounds.{room}
 use Rattle.stabilizer.proofs.SharedTests.{count-passes, length-passes}
 use Rattle.stabilizer.specs.Lists.{
   GeneratorList,

@@ -7,7 +7,7 @@ use mathlib.Core.Path.{ap, ap₂, refl, subst, sym, _∙_, _≡_}
 use Prim.Native.Nat.{_%_, _*_, _+_, _/_, _<_, _^_, ℕ, _≤_}
 use lib.Dec.{lit<}
 use lib.ListN.{List·getD-eq-default, getD, length, take}
-use borrow.Author.Tests.{le-ltb}
+use borrow.Author.Tests.{le-ltb, not-false, not-true}
 use Rattle.buffers.proofs.Tabulate.{tabulate-at, tabulate-cong, tabulate-length}
 use Rattle.buffers.specs.Buffers.{tabulate, written}
 use Rattle.buffers.specs.Refusals.{firstFitting}
@@ -15,7 +15,6 @@ use Rattle.clifford.proofs.CliffordLaws.{cliffordOf-codeOf}
 use Rattle.clifford.specs.Clifford.{cliffordOf, inverse, then}
 use Rattle.clifford.specs.Vectors.{codesOf}
 use Rattle.comparison.proofs.ComparedRecords.{same-answer}
-use Rattle.comparison.proofs.Flags.{not-false, not-true}
 use Rattle.comparison.proofs.NumberOrder.{choice-lt}
 use Rattle.comparison.specs.Choices.{choice, digitAt, leastCode, leastNumber, noChoice}
 use Rattle.comparison.specs.Compared.{induced, inducedCode}

@@ -7,12 +7,11 @@ use Prim.Native.Nat.{ℕ}
 use lib.Dec.{eqb, ltb}
 use lib.ListN.{length}
 use Rattle.buffers.specs.Buffers.{accepted, acceptedNumber, tabulate, written}
-use Rattle.comparison.specs.Choices.{choice, leastCode, noChoice}
+use Rattle.comparison.specs.Choices.{leastCode, noChoice}
 use Rattle.pauli.specs.Pauli.{Pauli}
 use Rattle.record.specs.Lent.{codeNumbers, neighbourWords}
 use Rattle.record.specs.Reduced.{reduced}
 use Rattle.stabilizer.specs.Groups.{Proper}
-use Rattle.stabilizer.specs.Lists.{rows}
 use Rattle.compare_call.specs.Comparisons.{compareList}
 
 -- the smaller of two numbers of lines, where 0 stands for none: "of the numbers found in either the first in

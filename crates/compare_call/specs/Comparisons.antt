@@ -8,7 +8,7 @@ use lib.ListN.{length}
 use Rattle.buffers.specs.Buffers.{accepted, acceptedNumber, tabulate, written}
 use Rattle.buffers.specs.Refusals.{firstFitting}
 use Rattle.clifford.specs.Clifford.{cliffordOf}
-use Rattle.comparison.specs.Choices.{choice, leastCode}
+use Rattle.comparison.specs.Choices.{leastCode}
 use Rattle.comparison.specs.Compared.{compareLines, induced}
 use Rattle.image.specs.Rule.{imageList}
 use Rattle.pauli.specs.Pauli.{Pauli}

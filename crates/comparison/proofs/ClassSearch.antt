@@ -6,8 +6,6 @@ use mathlib.Core.Logic.{inl}
 use mathlib.Core.Path.{subst, sym, _≡_}
 use Prim.Native.Nat.{_+_, _-_, _<_, _^_, ℕ, _≤_}
 use native.Mathlib.Nat.{lt-of-lt-of-le, not-suc-le-zero}
-use native.Mathlib.Omega.{arith}
-use lib.Dec.{T}
 use lib.ListN.{length}
 use Rattle.clifford.specs.Clifford.{Clifford}
 use Rattle.clifford.specs.Vectors.{codesOf}
@@ -93,10 +91,7 @@ module _ (n : ℕ) (first second : List Generator) (few : n ≤ 20) where
   module _ (choice : List ℕ) (C : Codes choice) (q : ℕ) (inside : q < n) (long : length choice ≡ 20) (v : ℕ)
       (small : v < 6) where
     fits : q < length choice
-    fits = room few long inside
-      where
-        room : {a b : ℕ} → a ≤ 20 → b ≡ 20 → q < a → q < b
-        room u v w = omega (arith, u, v, w)
+    fits = subst (λ m. q < m) (sym long) (lt-of-lt-of-le inside few)
 
     pub classes-found : ClassesTried n first second choice q v → (b : Bool) (out : List ℕ) → b ≡ true
         → Answered n (WithClasses n rows others (q + 1) (codesOf (withClass choice q v))) b out

@@ -15,17 +15,15 @@ use Rattle.graph.specs.Graph.{graphGenerator}
 use Rattle.pauli.proofs.PauliLaws.{Pauli-path}
 use Rattle.pauli.specs.Pauli.{Pauli, signedRow}
 use Rattle.pauli.specs.declared.Generator.{Generator}
-use Rattle.record.proofs.Equation.{iff-same}
-use Rattle.record.proofs.ReducedRecords.{record-proper, reduced-proper, same-group}
+use Rattle.record.proofs.ReducedRecords.{record-proper}
 use Rattle.record.specs.Lent.{LentRecord, heldRecord, heldRows}
-use Rattle.record.specs.Records.{rowsOf}
-use Rattle.record.specs.Reduced.{reduced}
 use Rattle.stabilizer.proofs.Carried.{act-same, carries-same, same-rows}
 use Rattle.stabilizer.proofs.GroupLaws.{same-refl, same-sym, same-trans}
 use Rattle.stabilizer.proofs.Within.{act-wide}
 use Rattle.stabilizer.specs.Carries.{Carries}
 use Rattle.stabilizer.specs.Groups.{Proper, SameGroup}
 use Rattle.words.proofs.BitLaws.{bit-single}
+use Rattle.words.proofs.Flags.{same-by-both}
 use Rattle.words.specs.Bits.{bit}
 use Rattle.words.specs.Search.{first, some}
 use Rattle.comparison.proofs.Members.{carries-is}
@@ -79,7 +77,7 @@ module _ (n : ℕ) (rows rows′ others others′ : ℕ
 
   pub carries-groups : (c : ℕ → Clifford) → carries n c rows others ≡ carries n c rows′ others′
   carries-groups c =
-      iff-same _ _ (λ e. test′ .1 (carries-moved rows others rows′ others′ E F c (test .0 e)))
+      same-by-both _ _ (λ e. test′ .1 (carries-moved rows others rows′ others′ E F c (test .0 e)))
       (λ e. test .1 (carries-moved rows′ others′ rows others (same-sym E) (same-sym F) c (test′ .0 e)))
     where
       test : (carries n c rows others ≡ true) ↔ Carries n c rows others
@@ -107,17 +105,8 @@ module _ (n : ℕ) (rows rows′ others others′ : ℕ
         which = λ e q l. A .which e q l ∙ ap (λ k. choice n k q) same-least;
       }
 
--- the lists' reduced records answer for the lists
-pub reduced-answer : (n : ℕ) (rows others : ℕ → Pauli) → Proper n rows → Proper n others
-    → (b : Bool) (out : List ℕ)
-    → LeastAnswer n (rowsOf n (reduced n rows)) (rowsOf n (reduced n others)) b out
-    → LeastAnswer n rows others b out
-reduced-answer n rows others P Q =
-    same-answer n _ rows _ others (reduced-proper n rows P) P (reduced-proper n others Q) Q
-    (same-sym (same-group n rows P)) (same-sym (same-group n others Q))
-
 -- rows that agree below n answer for each other
-pub rows-answer : (n : ℕ) (rows rows′ others others′ : ℕ → Pauli) → Proper n rows′ → Proper n others′
+rows-answer : (n : ℕ) (rows rows′ others others′ : ℕ → Pauli) → Proper n rows′ → Proper n others′
     → ((j : ℕ) → j < n → rows j ≡ rows′ j) → ((j : ℕ) → j < n → others j ≡ others′ j)
     → (b : Bool) (out : List ℕ)
     → LeastAnswer n rows others b out → LeastAnswer n rows′ others′ b out

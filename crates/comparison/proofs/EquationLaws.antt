@@ -14,11 +14,11 @@ use lib.Pow.{pow-pos}
 use lib.Seq.{getD-set-other, getD-set-same}
 use borrow.Author.Tests.{eqb-true}
 use Rattle.words.proofs.BitLaws.{bit-and, bit-ext∞, bit-or, lt-pow, zero-bit}
-use Rattle.words.proofs.Finite.{bits}
+use Rattle.words.proofs.Finite.{bits, unequal}
+use Rattle.words.proofs.Flags.{both-true}
 use Rattle.words.proofs.OnesLaws.{dot-bits, dot-xor, parity-xor}
 use Rattle.words.proofs.Sums.{bitMonoid, fold-unit}
 use Rattle.words.specs.Bits.{bit, dot, isOdd, _⊕_}
-use Rattle.comparison.proofs.Flags.{both-true, unequal-bits}
 use Rattle.comparison.specs.Equations.{
   SameBits,
   SameOn,
@@ -69,7 +69,7 @@ pub four-odd : (e : Equation) (w : Assignment) (s : Bool)
     (bitXor (bitAnd (e .c) (w .c)) (bitAnd (e .d) (w .d))))) → not (Bool·beq s (e .sum)) ≡ fails e w
 unfolding fails dot
 four-odd e w s h =
-    unequal-bits s (e .sum)
+    unequal s (e .sum)
     ∙ ap (λ b. b ⊕ e .sum) (h ∙ parity-xor _ _
     ∙ ap₂ _⊕_ (parity-xor (bitAnd (e .a) (w .a)) (bitAnd (e .b) (w .b)))
     (parity-xor (bitAnd (e .c) (w .c)) (bitAnd (e .d) (w .d))))
@@ -129,7 +129,7 @@ module _ (e : Equation) (m : ℕ) (inside : bitOr (span e) m ≡ m) where
       (within-mask m (w .d) (v .d) (e .d) d-in (h .d)))
 
 -- an equation that fails at w fails at all that agree with w on the mask: none of them solves the table
-pub broken-none : (table : List Equation) (i m : ℕ) (w : Assignment) → bitOr (span (equationAt table i)) m ≡ m
+broken-none : (table : List Equation) (i m : ℕ) (w : Assignment) → bitOr (span (equationAt table i)) m ≡ m
     → fails (equationAt table i) w ≡ true → (v : Assignment) → SameOn m w v → Solves table v → ⊥
 broken-none table i m w inside f v h s =
     true≢false (sym f ∙ fails-agree (equationAt table i) m inside w v h ∙ s i)

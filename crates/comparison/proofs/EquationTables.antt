@@ -7,21 +7,21 @@ use mathlib.Core.Path.{ap, refl, subst, sym, _∙_, _≡_}
 use Prim.Native.Nat.{_+_, _<_, _^_, suc, zero, zero-le, ℕ, _≤_}
 use native.Mathlib.Nat.{lt-of-lt-of-le, not-suc-le-zero}
 use native.Mathlib.Numerals.{add-one}
-use lib.Dec.{T, eqb}
+use lib.Dec.{eqb}
 use lib.ListN.{getD, replicate}
 use borrow.Author.Count.{below-more}
 use borrow.Author.Tests.{eqb-true}
 use Rattle.clifford.proofs.VectorLaws.{act-cong}
 use Rattle.clifford.specs.Clifford.{Clifford}
 use Rattle.clifford.specs.Vectors.{act, codesOf}
-use Rattle.pauli.specs.Pauli.{minus}
 use Rattle.pauli.specs.Rows.{generatorOf}
 use Rattle.pauli.specs.declared.Generator.{Generator}
 use Rattle.stabilizer.proofs.Within.{act-wide}
 use Rattle.stabilizer.specs.Groups.{InGroup, Proper, Within}
+use Rattle.words.proofs.Finite.{unequal}
+use Rattle.words.proofs.Flags.{both-true}
 use Rattle.comparison.proofs.ClassEquations.{class-equation, one-place}
 use Rattle.comparison.proofs.EquationLaws.{empty-holds}
-use Rattle.comparison.proofs.Flags.{both-true, unequal-bits}
 use Rattle.comparison.proofs.NumberOrder.{classKey-lt}
 use Rattle.comparison.proofs.SignEquations.{sign-equation}
 use Rattle.comparison.specs.Choices.{classKey}
@@ -91,7 +91,7 @@ module _ (n : ℕ) (first second : List Generator) (P : Proper n (generatorsOf f
   sign-inserted c plain few table e result T into i li g p h eg ep eh same s es ee d D =
       into (signAssignment n d)
       (ap (λ f. fails f (signAssignment n d)) (ee
-      ∙ ap (signEquation g) (es ∙ unequal-bits (p .minus) (h .minus)))
+      ∙ ap (signEquation g) (es ∙ unequal (p .minus) (h .minus)))
       ∙ sign-equation n (generatorsOf first) (generatorsOf second) P P′ d (D .base) i li g (ap generatorOf eg)
       c (D .same) p h
       sent eh (sym (eqb-true (h .z) (p .z) (both .0))) (sym (eqb-true (h .x) (p .x) (both .1))))

@@ -3,12 +3,11 @@
 use mathlib.Core.List.{List}
 use mathlib.Core.Path.{subst, sym}
 use Prim.Native.Nat.{_+_, _<_, zero-le, ℕ, _≤_}
-use native.Mathlib.Nat.{lt-of-lt-of-le, not-suc-le-zero}
+use native.Mathlib.Nat.{lt-of-lt-of-le, ne-of-lt, not-suc-le-zero}
 use native.Mathlib.Numerals.{add-one}
 use lib.ListN.{getD, length, set}
 use lib.Seq.{getD-set-other, getD-set-same}
 use borrow.Author.Count.{below-more}
-use Rattle.comparison.proofs.NextChoice.{below-other}
 
 pub record Filled {A : Type 0} (none : A) (k : ℕ) (P : ℕ → A → Type 0) (i : ℕ) (xs : List A) : Type 0 where
   pub upto : i ≤ k
@@ -24,7 +23,7 @@ one-filled none k P i xs F l long a p =
     record {
       upto = rw add-one l;
       done = below-more _ _
-          (λ j m. subst (P j) (sym (getD-set-other xs i j a none (below-other m))) (F .done j m))
+          (λ j m. subst (P j) (sym (getD-set-other xs i j a none (ne-of-lt m))) (F .done j m))
           (subst (P i) (sym (getD-set-same xs i a none long)) p);
     }
 

@@ -4,13 +4,14 @@
 use mathlib.Core.Bool.{Bool, false, false≢true, not, true, true≢false}
 use mathlib.Core.List.{List}
 use mathlib.Core.Logic.{inl, inr, _↔_, _⊎_}
-use mathlib.Core.Path.{ap, ap₂, refl, subst, sym, _∙_, _≡_}
+use mathlib.Core.Path.{ap, ap₂, subst, sym, _∙_, _≡_}
 use Prim.Native.Nat.{_<_, _^_, ℕ, _≤_}
 use native.Mathlib.Decide.{decLt}
+use native.Mathlib.Nat.{lt-trans, ne-of-lt}
 use native.Mathlib.Omega.{arith}
-use lib.Dec.{eqb}
 use lib.ListN.{getD}
-use borrow.Author.Tests.{eqb-true}
+use borrow.Author.Tests.{not-false, not-true}
+use Rattle.clifford.proofs.CliffordLaws.{codeOf-cliffordOf}
 use Rattle.clifford.specs.Clifford.{Clifford, classNumber, cliffordOf, codeOf, image, imagePhase}
 use Rattle.clifford.specs.Vectors.{act, codesOf}
 use Rattle.pauli.proofs.PauliLaws.{Pauli-path}
@@ -19,10 +20,10 @@ use Rattle.pauli.specs.declared.Letter.{Letter}
 use Rattle.stabilizer.proofs.Within.{element-within}
 use Rattle.stabilizer.specs.Carries.{Carries}
 use Rattle.stabilizer.specs.Groups.{InGroup, Within}
-use Rattle.words.proofs.SearchLaws.{every-at, some-in, some-none, some-true}
+use Rattle.words.proofs.Flags.{never-true}
+use Rattle.words.proofs.SearchLaws.{some-in, some-none, some-true}
 use Rattle.words.proofs.Sums.{fold-ext, lt-or-ge}
-use Rattle.words.specs.Search.{IsFirst, every, first, some}
-use Rattle.comparison.proofs.Flags.{never-true, not-false, not-true}
+use Rattle.words.specs.Search.{IsFirst, first, some}
 use Rattle.comparison.proofs.Members.{carries-is}
 use Rattle.comparison.proofs.NumberOrder.{choice-lt, number-order, numbered}
 use Rattle.comparison.specs.Choices.{
@@ -40,34 +41,23 @@ use Rattle.comparison.specs.Choices.{
 }
 use Rattle.comparison.specs.Searches.{Answered, LeastAnswer}
 
--- a code below 24 is that of its Clifford
-code-back : (c : ℕ) → c < 24 → codeOf (cliffordOf c) ≡ c
-unfolding every
-code-back c l = eqb-true _ _ (every-at 24 (λ c. eqb (codeOf (cliffordOf c)) c) refl c l)
-
 -- ---- the order is one way only
+meet : (u v : ℕ) → (u < v → ⊥) → (v < u → ⊥) → u ≡ v
+meet u v x y = omega (arith, x, y)
+
 differs-once : (n : ℕ) (f g : ℕ → ℕ) → FirstDiffers n f g → FirstDiffers n g f → ⊥
 differs-once n f g d e = go (decLt (d .0) (e .0)) (decLt (e .0) (d .0))
   where
-    clash : {a b : ℕ} → a ≡ b → a < b → ⊥
-    clash p l = omega (arith, p, l)
-
     twice : {a b : ℕ} → a < b → b < a → ⊥
     twice l m = omega (arith, l, m)
 
-    same : (u v : ℕ) → (u < v → ⊥) → (v < u → ⊥) → u ≡ v
-    same u v x y = omega (arith, x, y)
-
     go : Dec (d .0 < e .0) → Dec (e .0 < d .0) → ⊥
-    go (yes l) k = clash (sym (e .2 (d .0) l)) (d .3)
-    go (no l) (yes k) = clash (sym (d .2 (e .0) k)) (e .3)
-    go (no l) (no k) = twice (d .3) (subst (λ q. g q < f q) (sym (same (d .0) (e .0) l k)) (e .3))
+    go (yes l) k = ne-of-lt (d .3) (sym (e .2 (d .0) l))
+    go (no l) (yes k) = ne-of-lt (e .3) (sym (d .2 (e .0) k))
+    go (no l) (no k) = twice (d .3) (subst (λ q. g q < f q) (sym (meet (d .0) (e .0) l k)) (e .3))
 
 differs-not-equal : (n : ℕ) (f g : ℕ → ℕ) → FirstDiffers n f g → ((q : ℕ) → q < n → f q ≡ g q) → ⊥
-differs-not-equal n f g d e = clash (e (d .0) (d .1)) (d .3)
-  where
-    clash : {a b : ℕ} → a ≡ b → a < b → ⊥
-    clash p l = omega (arith, p, l)
+differs-not-equal n f g d e = ne-of-lt (d .3) (e (d .0) (d .1))
 
 before-once : (n : ℕ) (c d : ℕ → Clifford) → Before n c d → Before n d c → ⊥
 before-once n c d (inl a) (inl b) = differs-once n (λ q. classKey (c q)) (λ q. classKey (d q)) a b
@@ -81,15 +71,12 @@ before-once n c d (inr a) (inr b) = differs-once n (λ q. signKey (c q)) (λ q. 
 before-agree : (n : ℕ) (c d e : ℕ → Clifford) → Agree n d e → Before n c d → Before n c e
 before-agree n c d e h = go
   where
-    through : {t q : ℕ} → t < q → q < n → t < n
-    through a b = omega (arith, a, b)
-
     move : (key : Clifford → ℕ) → FirstDiffers n (λ q. key (c q)) (λ q. key (d q))
         → FirstDiffers n (λ q. key (c q)) (λ q. key (e q))
     move key a = (
       a .0,
       a .1,
-      (λ t l. a .2 t l ∙ ap key (h t (through l (a .1)))),
+      (λ t l. a .2 t l ∙ ap key (h t (lt-trans l (a .1)))),
       subst (λ k. key (c (a .0)) < k) (ap key (h (a .0) (a .1))) (a .3),
     )
 
@@ -152,9 +139,6 @@ module _ (n : ℕ) (rows others : ℕ → Pauli) (W : (j : ℕ) → j < n → Wi
       go d C (no a) (yes l) = absurd (true≢false (sym (found d C) ∙ F .least (numbered n d .0) l))
       go d C (no a) (no b) =
           inl (λ q l. ap (λ e. choiceAt n e q) (meet k (numbered n d .0) a b) ∙ numbered n d .2 q l)
-        where
-          meet : (u v : ℕ) → (u < v → ⊥) → (v < u → ⊥) → u ≡ v
-          meet u v x y = omega (arith, x, y)
 
   -- 13 exactly if no choice carries the group
   pub none-carries : (noChoice n rows others ≡ true) ↔ ((d : ℕ → Clifford) → Carries n d rows others → ⊥)
@@ -196,9 +180,9 @@ module _ (n : ℕ) (rows others : ℕ → Pauli) (W : (j : ℕ) → j < n → Wi
   least-answer true out A =
       record {
         whether = sym (ap not (least-equation (codesOf out) (A .search) .0));
-        which = λ e q l. sym (code-back (getD out q 0) (A .codes q))
+        which = λ e q l. sym (codeOf-cliffordOf (getD out q 0) (A .codes q))
             ∙ ap codeOf (least-equation (codesOf out) (A .search) .1 q l)
-            ∙ code-back (leastCode n rows others q) (choice-lt n (leastNumber n rows others) q);
+            ∙ codeOf-cliffordOf (leastCode n rows others q) (choice-lt n (leastNumber n rows others) q);
       }
   least-answer false out A =
       record {

@@ -8,7 +8,6 @@ use native.Mathlib.Decide.{decLt}
 use native.Mathlib.Nat.{le-of-eq}
 use native.Mathlib.Numerals.{add-one}
 use native.Mathlib.Omega.{arith}
-use lib.Dec.{T}
 use borrow.Author.Count.{below-more}
 use Rattle.clifford.specs.Clifford.{Clifford}
 use Rattle.comparison.specs.Choices.{Agree, Before, FirstDiffers, LeastOf}

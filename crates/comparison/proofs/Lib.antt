@@ -1,4 +1,3 @@
-pub mod Flags
 pub mod Numerals
 pub mod NumberOrder
 pub mod Members
@@ -16,5 +15,4 @@ pub mod ClassSearch
 pub mod EquationTables
 pub mod Filling
 pub mod ComparedRecords
-pub mod Answers
 pub mod OneQubit

@@ -14,11 +14,11 @@ use Rattle.stabilizer.specs.Carries.{Carries}
 use Rattle.stabilizer.specs.Groups.{InGroup, SameGroup, Within, chosen, product}
 use Rattle.stabilizer.specs.Membership.{member}
 use Rattle.words.proofs.BitLaws.{bit-wordOf, wordOf-lt}
+use Rattle.words.proofs.Flags.{both-true}
 use Rattle.words.proofs.SearchLaws.{every-at, every-in}
 use Rattle.words.proofs.Sums.{fold-ext}
 use Rattle.words.specs.Bits.{Word, bit, wordOf}
 use Rattle.words.specs.Search.{every}
-use Rattle.comparison.proofs.Flags.{both-true}
 use Rattle.comparison.specs.Choices.{carries}
 
 -- a product names only the bits below n of its word

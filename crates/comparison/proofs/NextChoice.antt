@@ -6,7 +6,7 @@ use mathlib.Core.Logic.{_≢_}
 use mathlib.Core.Path.{ap, refl, subst, sym, _∙_, _≡_}
 use Prim.Native.Nat.{_%_, _*_, _+_, _/_, _<_, suc, zero, ℕ}
 use native.Mathlib.Decide.{ℕ-discrete}
-use native.Mathlib.Nat.{add-zero}
+use native.Mathlib.Nat.{add-zero, ne-of-lt}
 use native.Mathlib.Omega.{arith}
 use lib.Dec.{eqb, lit<}
 use lib.ListN.{getD, length, replicate, set}
@@ -42,9 +42,6 @@ module _ (choice : List ℕ) (q k : ℕ) (long : q < length choice) where
       go (yes e) = subst P (sym (ap (λ j. getD (set choice q k) j 0) e ∙ getD-set-same choice q k 0 long)) p
       go (no o) = subst P (sym (getD-set-other choice q i k 0 o)) (h i)
 
-pub below-other : {i q : ℕ} → i < q → i ≢ q
-below-other l e = omega (arith, l, e)
-
 module _ (choice : List ℕ) (C : Codes choice) (q v : ℕ) (long : q < length choice) where
   -- ---- a class put in
   pub class-codes : v < 6 → Codes (withClass choice q v)
@@ -57,7 +54,7 @@ module _ (choice : List ℕ) (C : Codes choice) (q v : ℕ) (long : q < length c
 
   pub class-front : (i : ℕ) → i < q
       → classKey (codesOf (withClass choice q v) i) ≡ classKey (codesOf choice i)
-  class-front i l = ap classKey (code-other choice q (4 * v) long i (below-other l))
+  class-front i l = ap classKey (code-other choice q (4 * v) long i (ne-of-lt l))
 
   pub class-bare : Bare choice → Bare (withClass choice q v)
   class-bare b =
@@ -86,7 +83,7 @@ module _ (choice : List ℕ) (C : Codes choice) (q v : ℕ) (long : q < length c
       ∙ signKey-of-code (getD choice q 0 / 4) v l
 
   pub sign-front : (i : ℕ) → i < q → signKey (codesOf (withSigns choice q v) i) ≡ signKey (codesOf choice i)
-  sign-front i l = ap signKey (code-other choice q (4 * (getD choice q 0 / 4) + v) long i (below-other l))
+  sign-front i l = ap signKey (code-other choice q (4 * (getD choice q 0 / 4) + v) long i (ne-of-lt l))
 
   pub sign-class : v < 4 → (i : ℕ) → classKey (codesOf (withSigns choice q v) i) ≡ classKey (codesOf choice i)
   sign-class l i = go (ℕ-discrete i q)

@@ -3,14 +3,14 @@
 use mathlib.Core.Bool.{Bool, cond, false, true}
 use mathlib.Core.Logic.{inl, inr, _⊎_}
 use mathlib.Core.Path.{ap, ap₂, refl, subst, subst₂, sym, _∙_, _≡_}
-use Prim.Native.Nat.{_%_, _*_, _+_, _/_, _<_, _^_, suc, zero, ℕ, _≤_}
-use native.Mathlib.Nat.{div-lt-iff-lt-mul, mod-lt, mul-assoc, mul-comm, pow-suc, pow-zero}
+use Prim.Native.Nat.{_%_, _*_, _+_, _/_, _<_, _^_, suc, zero, ℕ}
+use native.Mathlib.Nat.{div-lt-iff-lt-mul, lt-trans, mod-lt, mul-assoc, mul-comm, pow-suc, pow-zero}
 use native.Mathlib.Omega.{arith}
 use lib.Arith.{digits-div, digits-lt, digits-mod}
 use lib.Dec.{lit<, ltb}
-use borrow.Author.Tests.{le-ltb, lt-ltb}
-use Rattle.clifford.proofs.CliffordLaws.{cliffords, fromFive, onClifford}
-use Rattle.clifford.specs.Clifford.{Class, Clifford, XY, XZ, YX, YZ, ZX, ZY, classNumber, classOf, cliffordOf}
+use borrow.Author.Tests.{lt-ltb}
+use Rattle.clifford.proofs.CliffordLaws.{class-lt, classOf-number, cliffords, fromFive, onClifford}
+use Rattle.clifford.specs.Clifford.{Class, Clifford, classNumber, classOf, cliffordOf}
 use Rattle.words.proofs.BitLaws.{digit-odd}
 use Rattle.words.specs.Bits.{digit}
 use Rattle.comparison.proofs.Numerals.{
@@ -52,15 +52,7 @@ pow-mul (suc n) =
 
 -- ---- a code and its two digits
 pub classKey-lt : (k : Clifford) → classKey k < 6
-classKey-lt k = go (k .class)
-  where
-    go : (c : Class) → classNumber c < 6
-    go XZ = lit< tt
-    go YZ = lit< tt
-    go ZX = lit< tt
-    go XY = lit< tt
-    go YX = lit< tt
-    go ZY = lit< tt
+classKey-lt k = class-lt (k .class)
 
 pub signKey-lt : (k : Clifford) → signKey k < 4
 signKey-lt k = go (k .sx) (k .sz)
@@ -136,35 +128,20 @@ choice-lt n k q = go (ltb q n)
     go true = small (classDigit n k q) (signDigit n k q) (mod-lt _ (lit< tt)) (mod-lt _ (lit< tt))
     go false = lit< tt
 
-pub choice-above : (n k q : ℕ) → n ≤ q → choice n k q ≡ 0
-unfolding choice
-choice-above n k q l = ap (λ b. cond b (4 * classDigit n k q + signDigit n k q) 0) (le-ltb q n l)
-
 pub class-injective : (c d : Class) → classNumber c ≡ classNumber d → c ≡ d
-class-injective c d e = sym (class-back c) ∙ ap classOf e ∙ class-back d
-  where
-    class-back : (c : Class) → classOf (classNumber c) ≡ c
-    class-back XZ = refl
-    class-back YZ = refl
-    class-back ZX = refl
-    class-back XY = refl
-    class-back YX = refl
-    class-back ZY = refl
+class-injective c d e = sym (classOf-number c) ∙ ap classOf e ∙ classOf-number d
 
 -- of two numbers the smaller is that of the choice which comes before the other
 pub number-order : (n k m : ℕ) → m < 24 ^ n → k < m → Before n (choiceAt n k) (choiceAt n m)
 number-order n k m h l = go (division-splits (4 ^ n) (four-pos n) k m l)
   where
-    through : {t q : ℕ} → t < q → q < n → t < n
-    through a b = omega (arith, a, b)
-
     move : (key : Clifford → ℕ) (digits : ℕ → ℕ → ℕ)
         → ((k q : ℕ) → q < n → key (choiceAt n k q) ≡ digits k q) → FirstDiffers n (digits k) (digits m)
         → FirstDiffers n (λ q. key (choiceAt n k q)) (λ q. key (choiceAt n m q))
     move key digits e d = (
       d .0,
       d .1,
-      (λ t j. e k t (through j (d .1)) ∙ d .2 t j ∙ sym (e m t (through j (d .1)))),
+      (λ t j. e k t (lt-trans j (d .1)) ∙ d .2 t j ∙ sym (e m t (lt-trans j (d .1)))),
       subst₂ _<_ (sym (e k (d .0) (d .1))) (sym (e m (d .0) (d .1))) (d .3),
     )
 

@@ -11,6 +11,7 @@ use native.Mathlib.Nat.{
   div-lt-iff-lt-mul,
   div-one,
   le-div-iff-mul-le,
+  lt-trans,
   mul-comm,
   not-suc-le-zero,
   pow-suc,
@@ -85,16 +86,13 @@ module _ (b : ℕ) (pos : 0 < b) where
           let d = ih k in (
             d .0,
             up (d .1),
-            (λ t m. digitAt-shift n x t (through m (d .1)) ∙ d .2 t m
-                ∙ sym (digitAt-shift n y t (through m (d .1)))),
+            (λ t m. digitAt-shift n x t (lt-trans m (d .1)) ∙ d .2 t m
+                ∙ sym (digitAt-shift n y t (lt-trans m (d .1)))),
             subst₂ _<_ (sym (digitAt-shift n x (d .0) (d .1))) (sym (digitAt-shift n y (d .0) (d .1))) (d .3),
           )
         where
           up : {q : ℕ} → q < n → q < suc n
           up k = omega (arith, k)
-
-          through : {t q : ℕ} → t < q → q < n → t < n
-          through k m = omega (arith, k, m)
       go ih (inr e) = (
         n,
         omega arith,

@@ -18,19 +18,9 @@ use Rattle.clifford.specs.Vectors.{act}
 use Rattle.graph.proofs.GraphGroups.{element-x}
 use Rattle.graph.specs.Graph.{graphGenerator}
 use Rattle.pauli.proofs.PauliLaws.{mul-identity}
+use Rattle.pauli.proofs.PhaseLaws.{minus-injective}
 use Rattle.pauli.proofs.WordRows.{signed-mul}
-use Rattle.pauli.specs.Pauli.{
-  Pauli,
-  anticommute,
-  identity,
-  imaginary,
-  i⁰,
-  minus,
-  mul,
-  row,
-  signBit,
-  signedRow,
-}
+use Rattle.pauli.specs.Pauli.{Pauli, anticommute, identity, imaginary, i⁰, mul, row, signBit, signedRow}
 use Rattle.pauli.specs.Rows.{generatorOf}
 use Rattle.pauli.specs.declared.Generator.{Generator}
 use Rattle.record.proofs.Maximality.{inclusion-same}
@@ -43,12 +33,12 @@ use Rattle.stabilizer.proofs.Products.{anticommute-product}
 use Rattle.stabilizer.proofs.Within.{act-wide, anticommute-wide, element-within, mul-wide, product-within}
 use Rattle.stabilizer.specs.Groups.{InGroup, Proper, Trivial, Within, chosen, product}
 use Rattle.words.proofs.BitLaws.{bit-ext∞}
+use Rattle.words.proofs.Finite.{unequal}
+use Rattle.words.proofs.Flags.{beq-refl, beq-true, both-true}
 use Rattle.words.proofs.Sums.{fold-ext}
 use Rattle.words.specs.Bits.{Word, fold, _⊕_}
-use Rattle.comparison.proofs.Flags.{beq-refl, beq-true, both-true, unequal-bits}
 use Rattle.comparison.proofs.Least.{act-agree}
 use Rattle.comparison.proofs.Members.{carries-is}
-use Rattle.comparison.proofs.SignEquations.{minus-injective}
 use Rattle.comparison.specs.Choices.{carries}
 use Rattle.comparison.specs.Setting.{Framed, Guessed}
 
@@ -108,7 +98,7 @@ pub generator-times : (p g : Generator) (s : Bool) → anticommute 64 (generator
     ≡ mul 64 (generatorOf p) (generatorOf g)
 generator-times p g s e h =
     ap (λ b. signedRow b (bitXor (p .z) (g .z)) (bitXor (p .x) (g .x)))
-    (unequal-bits (not (Bool·beq (p .minus) (g .minus))) s ∙ ap₂ _⊕_ (unequal-bits (p .minus) (g .minus)) h)
+    (unequal (not (Bool·beq (p .minus) (g .minus))) s ∙ ap₂ _⊕_ (unequal (p .minus) (g .minus)) h)
     ∙ sym (signed-mul 64 (p .z) (p .x) (g .z) (g .x) (p .minus) (g .minus) e)
 
 -- the state of the product: the generators below i are looked at

@@ -1,15 +1,15 @@
 -- The signs of a choice change the sign of a row's image by a parity; elements of a group with the same letters are
 -- equal; so a choice that works solves the sign equations.
 -- Assumes nothing.
-use mathlib.Core.Bool.{_&&_, Bool, false, true}
+use mathlib.Core.Bool.{_&&_, Bool, false}
 use mathlib.Core.Path.{ap, ap₂, refl, subst, sym, _∙_, _≡_}
 use Prim.Native.Nat.{_<_, ℕ}
 use Rattle.clifford.proofs.CliffordLaws.{fromFive, onClifford, phaseAfter}
 use Rattle.clifford.specs.Clifford.{Clifford, image}
 use Rattle.clifford.specs.Vectors.{act}
 use Rattle.pauli.proofs.PauliLaws.{mul-x, mul-z}
-use Rattle.pauli.proofs.PhaseLaws.{+ᵖ-assoc, minus-⊕, phases, sumPhase-add}
-use Rattle.pauli.specs.Pauli.{_+ᵖ_, Pauli, identity, i⁰, letterAt, minus, mul, signBit, sumPhase, xBit, zBit}
+use Rattle.pauli.proofs.PhaseLaws.{+ᵖ-assoc, minus-injective, minus-⊕, phases, sumPhase-add}
+use Rattle.pauli.specs.Pauli.{_+ᵖ_, Pauli, identity, i⁰, letterAt, minus, mul, sumPhase, xBit, zBit}
 use Rattle.pauli.specs.Rows.{generatorOf}
 use Rattle.pauli.specs.declared.Generator.{Generator}
 use Rattle.pauli.specs.declared.Letter.{Letter}
@@ -96,12 +96,6 @@ image-bare k I = refl
 image-bare k X = refl
 image-bare k Y = refl
 image-bare k Z = refl
-
-pub minus-injective : (a b : Bool) → minus a ≡ minus b → a ≡ b
-minus-injective false false e = refl
-minus-injective false true e = ap signBit e
-minus-injective true false e = ap signBit e
-minus-injective true true e = refl
 
 asked : (g : Generator) (s : Bool) (w : Assignment)
     → fails (signEquation g s) w ≡ fails (signEquation g false) w ⊕ s

@@ -6,8 +6,6 @@ use mathlib.Core.Logic.{inl, inr, _↔_}
 use mathlib.Core.Path.{ap₂, refl, subst, sym, _∙_, _≡_}
 use Prim.Native.Nat.{_*_, _+_, _-_, _<_, _^_, ℕ, _≤_}
 use native.Mathlib.Nat.{lt-of-lt-of-le}
-use native.Mathlib.Omega.{arith}
-use lib.Dec.{T}
 use lib.ListN.{length}
 use Rattle.clifford.specs.Clifford.{Clifford, cliffordOf}
 use Rattle.clifford.specs.Vectors.{codesOf}
@@ -109,10 +107,7 @@ module _ (n : ℕ) (first second : List Generator) (frame : List ℕ) (S : Setti
     p = codesOf choice
 
     fits : q < length choice
-    fits = room (S .few) long inside
-      where
-        room : {a b : ℕ} → a ≤ 20 → b ≡ 20 → q < a → q < b
-        room u v w = omega (arith, u, v, w)
+    fits = subst (λ m. q < m) (sym long) (lt-of-lt-of-le inside (S .few))
 
     module _ (v : ℕ) (small : v < 4) where
       next : List ℕ

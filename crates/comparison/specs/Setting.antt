@@ -8,7 +8,7 @@ use lib.ListN.{getD, length}
 use Rattle.clifford.specs.Clifford.{Clifford, inverse}
 use Rattle.clifford.specs.Vectors.{codesOf}
 use Rattle.graph.specs.Graph.{Graph, Simple}
-use Rattle.pauli.specs.Pauli.{Pauli, minus}
+use Rattle.pauli.specs.Pauli.{Pauli}
 use Rattle.pauli.specs.Rows.{generatorOf}
 use Rattle.pauli.specs.declared.Generator.{Generator}
 use Rattle.record.specs.Lent.{heldRecord, heldRows}

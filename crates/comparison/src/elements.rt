@@ -6,7 +6,7 @@ use words::has;
 ghost use mathlib.Core.Path.{_≡_};
 ghost use mathlib.Core.Bool.{false, true};
 ghost use mathlib.Core.Logic.{_↔_};
-ghost use Prim.Native.Nat.{ℕ, _<_, _≤_};
+ghost use Prim.Native.Nat.{_≤_};
 ghost use Rattle.pauli.specs.Pauli.{anticommute, mul};
 ghost use Rattle.pauli.specs.Rows.{generatorOf};
 ghost use Rattle.clifford.specs.Vectors.{codesOf};

@@ -3,9 +3,8 @@ use words::has;
 use words::odd;
 ghost use mathlib.Core.Path.{_≡_};
 ghost use mathlib.Core.Bool.{false, true};
-ghost use Prim.Native.Nat.{ℕ, _<_, _≤_};
+ghost use Prim.Native.Nat.{_<_, _≤_};
 ghost use Rattle.comparison.specs.declared.equations.Assignment.{Assignment};
-ghost use lib.ListN.{set};
 ghost use Rattle.comparison.specs.Equations.{SameOn, Solves, added, equationAt, fails, span};
 
 // The values of the unknowns.

@@ -1,10 +1,11 @@
 -- The group of a graph: the x bits of an element determine it, and a signed row that commutes with every
 -- generator is an element or minus one.
 -- Assumes nothing.
-use mathlib.Core.Bool.{_&&_, and-comm, false, true≢false}
+use mathlib.Core.Bool.{_&&_, and-comm, and-false, false, true≢false}
 use mathlib.Core.Logic.{inl, inr, _⊎_}
 use mathlib.Core.Path.{ap, ap₂, refl, sym, _∙_, _≡_}
 use Prim.Native.Nat.{_<_, ℕ, _≤_}
+use native.Mathlib.Decide.{ℕ-discrete}
 use native.Mathlib.Omega.{arith}
 use lib.Dec.{eqb}
 use Rattle.pauli.proofs.PauliLaws.{Pauli-path}
@@ -47,6 +48,13 @@ equal-or-minus i² i³ h k = absurd (true≢false k)
 equal-or-minus i³ b h k = absurd (true≢false h)
 
 module _ (n : ℕ) (θ : Graph) (S : Simple n θ) where
+  -- no vertex is its own neighbour
+  pub no-loop : (j q : ℕ) → (eqb q j && θ j q) ≡ false
+  no-loop j q = elim (ℕ-discrete q j) [
+    | yes e ↦ ap (λ b. eqb q j && b) (ap (θ j) e ∙ S .loopless j) ∙ and-false (eqb q j)
+    | no d ↦ ap (λ b. b && θ j q) (other-place d)
+  ]
+
   -- a row against generator j: its z bit there, and its x bits at the neighbours of j
   pub anticommute-generator : (p : Pauli) (j : ℕ) → j < n
       → anticommute n p (graphGenerator θ j) ≡ p .z j ⊕ parity n (λ q. p .x q && θ q j)

@@ -7,7 +7,7 @@ use mathlib.Core.Path.{ap, ap₂, refl, sym, _∙_, _≡_}
 use Prim.Native.Nat.{_+_, _<_, _^_, ℕ, _≤_}
 use native.Mathlib.Nat.{zero-add}
 use native.Mathlib.Omega.{arith}
-use lib.Dec.{T, eqb}
+use lib.Dec.{eqb}
 use lib.ListN.{getD, length, take}
 use borrow.Author.Tests.{eq-eqb, le-ltb, lt-ltb}
 use Rattle.buffers.proofs.Lines.{not-held}

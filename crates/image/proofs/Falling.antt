@@ -10,7 +10,7 @@ use native.Mathlib.Omega.{arith}
 use lib.Dec.{T, eqb, ltb, ltb→lt}
 use borrow.Author.Tests.{not-true}
 use Rattle.graph.specs.Graph.{Simple}
-use Rattle.stabilizer.proofs.MembershipLaws.{both-true}
+use Rattle.words.proofs.Flags.{both-true}
 use Rattle.words.proofs.Places.{put-other, put-same}
 use Rattle.words.specs.Bits.{digit, put, _⊕_}
 use Rattle.image.proofs.CountLaws.{count-put, countBits}

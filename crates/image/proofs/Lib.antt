@@ -9,7 +9,6 @@ pub mod Signs
 pub mod Unsigned
 pub mod Accepted
 pub mod Exactly
-pub mod Mapping
 pub mod EdgeWords
 pub mod Recoding
 pub mod Stepping

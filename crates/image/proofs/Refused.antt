@@ -13,9 +13,9 @@ use Rattle.clifford.specs.Clifford.{bitC, image, inverse}
 use Rattle.clifford.specs.Vectors.{act}
 use Rattle.graph.proofs.GraphGroups.{x-determines}
 use Rattle.graph.specs.Graph.{Simple, graphGenerator}
-use Rattle.pauli.specs.Pauli.{identity, letter, letterAt, minus, scaled, xBit, zBit}
-use Rattle.pauli.specs.declared.Letter.{Letter}
-use Rattle.pauli.specs.declared.Letter.the-variants.{I, X, Y, Z}
+use Rattle.pauli.proofs.PauliLaws.{letter-bits}
+use Rattle.pauli.specs.Pauli.{identity, letter, letterAt, minus, scaled, xBit}
+use Rattle.pauli.specs.declared.Letter.the-variants.{X}
 use Rattle.record.specs.Records.{GraphRecord, rowsOf}
 use Rattle.stabilizer.proofs.GroupLaws.{in-identity, in-row}
 use Rattle.words.proofs.Places.{other-place, same-place}
@@ -45,12 +45,6 @@ module _ (n : ℕ) (r : GraphRecord) (G : Simple n (r .graph)) where
   own-letter j =
       letter-bits (image (r .codes j) (letter (r .graph j j) (eqb j j)))
       ∙ ap₂ (λ z x. image (r .codes j) (letter z x)) (G .loopless j) (same-place j)
-    where
-      letter-bits : (l : Letter) → letter (zBit l) (xBit l) ≡ l
-      letter-bits I = refl
-      letter-bits X = refl
-      letter-bits Y = refl
-      letter-bits Z = refl
 
   -- ---- 11: the image of K_j has an empty x part, and only the identity has one in a graph's group
   module _ (H : Stopped n (stateOf r)) (j : ℕ) (l : j < n) (cj : (stateOf r) .C j ≡ true) where

@@ -4,9 +4,7 @@ use mathlib.Core.List.{_++_, List, [], append-assoc, append-nil, _∷_}
 use mathlib.Core.Path.{ap, refl, subst, sym, _∙_, _≡_}
 use Prim.Native.Nat.{_+_, _<_, suc, zero, ℕ, _≤_}
 use native.Mathlib.Omega.{arith}
-use lib.Dec.{T}
 use lib.ListN.{length, length-append}
-use borrow.Fn.PlainCycle.{falls}
 use Rattle.graph.specs.Graph.{Simple}
 use Rattle.words.specs.Bits.{bit}
 use Rattle.image.proofs.CountLaws.{count-cong, count-le, countBits}

@@ -7,35 +7,31 @@ use mathlib.Core.Path.{ap, refl, subst, sym, _∙_, _≡_}
 use Prim.Native.Nat.{_*_, _+_, _<_, suc, suc-le-suc, zero, ℕ, _≤_}
 use native.Mathlib.Nat.{not-suc-le-zero}
 use native.Mathlib.Omega.{arith}
-use lib.Dec.{T}
 use lib.ListN.{getD, length, length-append}
 use Rattle.graph.proofs.Complement.{complement-simple}
 use Rattle.graph.specs.Graph.{Simple}
+use Rattle.record.proofs.ComplementLists.{VerticesBelow, add, nil}
 use Rattle.image.proofs.CountLaws.{count-le, countBits}
 use Rattle.image.proofs.Falling.{fall-alone, fall-joined, pair-is}
 use Rattle.image.proofs.Moves.{Move, alone, joined, moves-are, moves-unique, stop}
 use Rattle.image.specs.Rule.{State, both, follow, moves, pair, run, step}
 
 -- ---- the vertices of a list are below n
-pub data AllBelow (n : ℕ) : List ℕ → Type 0 where
-  nil : AllBelow n []
-  add : (v : ℕ) {vs : List ℕ} → v < n → AllBelow n vs → AllBelow n (v ∷ vs)
-
-pub below-append : {n : ℕ} {a b : List ℕ} → AllBelow n a → AllBelow n b → AllBelow n (a ++ b)
+pub below-append : {n : ℕ} {a b : List ℕ} → VerticesBelow n a → VerticesBelow n b → VerticesBelow n (a ++ b)
 below-append nil w = w
 below-append (add v l u) w = add v l (below-append u w)
 
-pub move-below : {n : ℕ} {S : State} {ms : List ℕ} → Move n S ms → AllBelow n ms
+pub move-below : {n : ℕ} {S : State} {ms : List ℕ} → Move n S ms → VerticesBelow n ms
 move-below (alone v F) = add v (F .below) nil
 move-below (joined j k none J K) = add j (J .below) (add k (K .below) (add j (J .below) nil))
 move-below (stop none apart) = nil
 
-pub run-below : (n k : ℕ) (S : State) → AllBelow n (run n k S)
+pub run-below : (n k : ℕ) (S : State) → VerticesBelow n (run n k S)
 unfolding run
 run-below n zero S = nil
 run-below n (suc k) S = below-append (move-below (moves-are n S)) (run-below n k (follow S (moves n S)))
 
-pub below-at : {n : ℕ} {vs : List ℕ} → AllBelow n vs → (i : ℕ) → i < length vs → getD vs i 0 < n
+pub below-at : {n : ℕ} {vs : List ℕ} → VerticesBelow n vs → (i : ℕ) → i < length vs → getD vs i 0 < n
 below-at nil i l = absurd (not-suc-le-zero l)
 below-at (add v h w) zero l = h
 below-at (add v h w) (suc i) (suc-le-suc l) = below-at w i l

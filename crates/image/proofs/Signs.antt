@@ -1,10 +1,9 @@
 -- Codes that keep the letters: the image of a graph under them is the graph with signs.
 -- Assumes nothing.
-use mathlib.Core.Bool.{_&&_, Bool, and-comm, and-false, cond, false, true≢false}
+use mathlib.Core.Bool.{_&&_, Bool, and-comm, cond, false, true≢false}
 use mathlib.Core.Logic.{inl, inr, _⊎_}
 use mathlib.Core.Path.{ap, ap₂, refl, sym, _∙_, _≡_}
 use Prim.Native.Nat.{_<_, ℕ, _≤_}
-use native.Mathlib.Decide.{ℕ-discrete}
 use native.Mathlib.Omega.{arith}
 use lib.Dec.{eqb}
 use Rattle.clifford.specs.Clifford.{
@@ -23,6 +22,7 @@ use Rattle.clifford.specs.Clifford.{
   imageZ,
 }
 use Rattle.clifford.specs.Vectors.{act}
+use Rattle.graph.proofs.GraphGroups.{no-loop}
 use Rattle.graph.specs.Graph.{Graph, Simple, graphGenerator}
 use Rattle.pauli.proofs.PauliLaws.{Pauli-path}
 use Rattle.pauli.proofs.PhaseLaws.{+ᵖ-zero, minus-⊕, phases}
@@ -75,7 +75,7 @@ module _ (n : ℕ) (θ : Graph) (S : Simple n θ) (c : ℕ → Clifford) (keeps 
   kept-row j l =
       Pauli-path
       (fold-ext i⁰ _+ᵖ_ n (λ q k. signs-phase ((c q) .sx) ((c q) .sz) (θ j q) (eqb q j)
-      (off q (ℕ-discrete q j))
+      (and-comm (θ j q) (eqb q j) ∙ no-loop n θ S j q)
       ∙ sym (minus-⊕ (eqb q j && (c q) .sx) (θ j q && (c q) .sz)))
       ∙ sym (fold-hom false _⊕_ i⁰ _+ᵖ_ minus refl minus-⊕ n (λ q. (eqb q j && (c q) .sx)
       ⊕ (θ j q && (c q) .sz)))
@@ -89,10 +89,6 @@ module _ (n : ℕ) (θ : Graph) (S : Simple n θ) (c : ℕ → Clifford) (keeps 
       (λ q. bits 4 (λ a b z x. xBit (image (signsOnly a b) (letter z x))) (λ a b z x. x) tt ((c q) .sx)
       ((c q) .sz)
       (θ j q) (eqb q j))
-    where
-      off : (q : ℕ) → Dec (q ≡ j) → (θ j q && eqb q j) ≡ false
-      off q (yes e) = ap (λ v. v && eqb q j) (ap (θ j) e ∙ S .loopless j)
-      off q (no d) = ap (λ v. θ j q && v) (other-place d) ∙ and-false (θ j q)
 
   -- generator j of the image is plus or minus generator j of the graph
   pub signed-row : (j : ℕ) → j < n → recordRow n θ c j ≡ scaled (minus (minusAt n θ c j)) (graphGenerator θ j)

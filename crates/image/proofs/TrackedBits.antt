@@ -1,6 +1,6 @@
 -- The bits that the image rule follows are the bits of the rewritten codes, and the record keeps its group.
 -- Assumes nothing.
-use mathlib.Core.Bool.{_&&_, Bool, and-false, cond, false, true, true≢false}
+use mathlib.Core.Bool.{_&&_, Bool, cond, false, true, true≢false}
 use mathlib.Core.List.{_++_, List, [], _∷_}
 use mathlib.Core.Path.{ap, fun-ext, refl, subst, sym, _∙_, _≡_}
 use Prim.Native.Nat.{_*_, ℕ, _≤_}
@@ -10,16 +10,16 @@ use lib.ListN.{length}
 use Rattle.clifford.proofs.CliffordLaws.{fromFive, onClifford}
 use Rattle.clifford.specs.Clifford.{Clifford, bitC, bitD, cliffordOf, then}
 use Rattle.graph.proofs.Complement.{complement-simple}
+use Rattle.graph.proofs.GraphGroups.{no-loop}
 use Rattle.graph.specs.Graph.{Simple, complement}
-use Rattle.record.proofs.Complementing.{complement-same}
+use Rattle.record.proofs.ComplementLists.{complement-all-same, complement-all-simple}
 use Rattle.record.specs.Records.{GraphRecord, complementAll, complementRecord, rowsOf}
-use Rattle.stabilizer.proofs.GroupLaws.{same-refl, same-trans}
 use Rattle.stabilizer.specs.Groups.{SameGroup}
 use Rattle.words.proofs.Finite.{bits}
 use Rattle.words.proofs.Places.{other-place}
 use Rattle.words.specs.Bits.{put, _⊕_}
 use Rattle.image.proofs.CountLaws.{count-le}
-use Rattle.image.proofs.Running.{AllBelow, Stopped, add, nil, run-below, run-length, run-stops}
+use Rattle.image.proofs.Running.{Stopped, run-below, run-length, run-stops}
 use Rattle.image.specs.Image.{imageGraph, imageRecord}
 use Rattle.image.specs.Rule.{follow, imageList, stateOf, step}
 
@@ -77,23 +77,14 @@ bits-follow n r G v = λ i. record { graph = complement (r .graph) v; C = fun-ex
             ap (λ b. cond b (sum q) (bitC (r .codes q))) (other-place d)
             ∙ sym (ap (λ b. cond b (sum v) (bitC (r .codes q))) (other-place d))
 
-    off : (q : ℕ) → Dec (q ≡ v) → (eqb q v && r .graph v q) ≡ false
-    off q (yes e) = ap (λ b. eqb q v && b) (ap (r .graph v) e ∙ G .loopless v) ∙ and-false (eqb q v)
-    off q (no d) = ap (λ b. b && r .graph v q) (other-place d)
-
     at-D : (q : ℕ) → (stateOf (complementRecord r v)) .D q ≡ (step (stateOf r) v) .D q
-    at-D q = goD (eqb q v) (r .graph v q) (r .codes q) (off q (ℕ-discrete q v))
+    at-D q = goD (eqb q v) (r .graph v q) (r .codes q) (no-loop n (r .graph) G v q)
 
 -- ---- complementing at each vertex of a list
 pub all-append : (r : GraphRecord) (a b : List ℕ)
     → complementAll r (a ++ b) ≡ complementAll (complementAll r a) b
 all-append r [] b = refl
 all-append r (v ∷ a) b = all-append (complementRecord r v) a b
-
-pub all-simple : (n : ℕ) (r : GraphRecord) (vs : List ℕ) → Simple n (r .graph)
-    → Simple n ((complementAll r vs) .graph)
-all-simple n r [] G = G
-all-simple n r (v ∷ vs) G = all-simple n (complementRecord r v) vs (complement-simple n (r .graph) G v)
 
 pub all-bits : (n : ℕ) (r : GraphRecord) (vs : List ℕ) → Simple n (r .graph) →
     stateOf (complementAll r vs) ≡ follow (stateOf r) vs
@@ -102,21 +93,14 @@ all-bits n r (v ∷ vs) G =
     all-bits n (complementRecord r v) vs (complement-simple n (r .graph) G v)
     ∙ ap (λ S. follow S vs) (bits-follow n r G v)
 
-pub all-same : (n : ℕ) (r : GraphRecord) {vs : List ℕ} → AllBelow n vs → Simple n (r .graph) →
-    SameGroup n n (rowsOf n r) (rowsOf n (complementAll r vs))
-all-same n r nil G = same-refl
-all-same n r (add v l w) G =
-    same-trans (complement-same n r G v l)
-    (all-same n (complementRecord r v) w (complement-simple n (r .graph) G v))
-
 -- ---- the record that the image rule ends with
 module _ (n : ℕ) (r : GraphRecord) (G : Simple n (r .graph)) where
   pub image-simple : Simple n (imageGraph n r)
-  image-simple = all-simple n r (imageList n r) G
+  image-simple = complement-all-simple n r G (imageList n r)
 
   -- it has the group of the given record
   pub image-same : SameGroup n n (rowsOf n r) (rowsOf n (imageRecord n r))
-  image-same = all-same n r (run-below n n (stateOf r)) G
+  image-same = complement-all-same n r G (run-below n n (stateOf r))
 
   -- its bits are those that the rule followed
   pub image-bits : stateOf (imageRecord n r) ≡ follow (stateOf r) (imageList n r)

@@ -4,8 +4,8 @@ use mathlib.Core.Bool.{_&&_, Bool, false, true}
 use mathlib.Core.Path.{ap, ap₂, refl, sym, _∙_, _≡_}
 use Prim.Native.Nat.{suc, zero, ℕ}
 use Rattle.pauli.proofs.PauliLaws.{mul-scaled, scaled-mul}
-use Rattle.pauli.proofs.PhaseLaws.{+ᵖ-assoc, minus-⊕, twice}
-use Rattle.pauli.specs.Pauli.{_+ᵖ_, Pauli, imaginary, minus, mul, scaled}
+use Rattle.pauli.proofs.PhaseLaws.{+ᵖ-assoc, minus-real, minus-⊕, twice}
+use Rattle.pauli.specs.Pauli.{_+ᵖ_, Pauli, minus, mul, scaled}
 use Rattle.stabilizer.specs.Groups.{InGroup, chosen, product}
 use Rattle.words.specs.Bits.{Word, fold, parity, _⊕_}
 use Rattle.image.specs.Image.{InUnsigned}
@@ -15,14 +15,10 @@ minus-twice s p =
     λ i. record {
       phase =
           (sym (+ᵖ-assoc (minus s) (minus s) (p .phase))
-          ∙ ap (λ t. t +ᵖ p .phase) (twice (minus s) (sign s))) i;
+          ∙ ap (λ t. t +ᵖ p .phase) (twice (minus s) (minus-real s))) i;
       z = p .z;
       x = p .x;
     }
-  where
-    sign : (s : Bool) → imaginary (minus s) ≡ false
-    sign false = refl
-    sign true = refl
 
 module _ (n : ℕ) (s : Word) (rows : ℕ → Pauli) where
   abbrev pub resigned : ℕ → Pauli

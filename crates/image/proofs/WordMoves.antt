@@ -10,11 +10,11 @@ use native.Mathlib.Omega.{arith}
 use lib.Arith.{lt-of-le-ne}
 use lib.Bits.{bitAnd}
 use lib.Count.{trailingZeros}
-use lib.Dec.{T, eqb}
+use lib.Dec.{eqb}
 use lib.ListN.{getD}
 use borrow.Author.Tests.{eqb-true, lt-ltb}
-use Rattle.stabilizer.proofs.MembershipLaws.{both-true}
 use Rattle.words.proofs.BitLaws.{bit-and, bit-ext∞, zero-bit}
+use Rattle.words.proofs.Flags.{both-true}
 use Rattle.words.proofs.SearchLaws.{first-is, first-none, some-in, some-none}
 use Rattle.words.proofs.Sums.{lt-or-ge}
 use Rattle.words.proofs.Trailing.{trailing-is}

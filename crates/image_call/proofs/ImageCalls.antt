@@ -19,7 +19,8 @@ use Rattle.record.proofs.AcceptedRecords.{accepted-record}
 use Rattle.record.proofs.RecordLines.{record-numbered}
 use Rattle.record.specs.Accepted.{AcceptedRecord}
 use Rattle.record.specs.Lent.{LentRecord, heldRecord, recordLengths, recordLines}
-use Rattle.stabilizer.proofs.SharedTests.{has-length, neither}
+use Rattle.stabilizer.proofs.SharedTests.{has-length}
+use Rattle.words.proofs.Flags.{neither}
 use Rattle.image_call.specs.Images.{Imaged}
 
 -- the buffers lent for the graph, the signs and the list

@@ -1,11 +1,11 @@
 -- The calls on generator lists, from what the functions below them answer.
 -- Assumes nothing.
-use mathlib.Core.Bool.{Bool, cond, false, false≢true, not, true, true≢false, _||_}
+use mathlib.Core.Bool.{Bool, cond, false, not, true, _||_}
 use mathlib.Core.List.{List, [], _∷_}
-use mathlib.Core.Path.{ap, refl, sym, _∙_, _≡_}
+use mathlib.Core.Path.{ap, sym, _∙_, _≡_}
 use Prim.Native.Nat.{ℕ}
 use lib.ListN.{length}
-use borrow.Author.Tests.{ne-eqb}
+use borrow.Author.Tests.{ne-eqb, not-false, not-true}
 use Rattle.buffers.proofs.Lines.{fits, more-accepted, more-refused, none-fits, passed}
 use Rattle.buffers.specs.Refusals.{firstFitting, line, otherThan}
 use Rattle.record.specs.Lent.{codeNumbers, neighbourWords}
@@ -13,8 +13,9 @@ use Rattle.record.specs.Reduced.{reduced}
 use Rattle.reduction.proofs.Loading.{early-reducible}
 use Rattle.reduction.specs.Passes.{Reducible}
 use Rattle.stabilizer.proofs.Accepted.{early-accepted, early-numbered, early-passed}
-use Rattle.stabilizer.proofs.SharedTests.{has-length, neither}
+use Rattle.stabilizer.proofs.SharedTests.{has-length}
 use Rattle.stabilizer.specs.Lists.{GeneratorList, dependent, earlyLines, listLengths, listLines, rows}
+use Rattle.words.proofs.Flags.{neither}
 use Rattle.list_calls.specs.Calls.{ReduceCall, reduceLines}
 
 -- ---- the early lines, and dependence after them
@@ -38,17 +39,9 @@ module _ (l : GeneratorList) (others : Bool) (k : ℕ) (e : k ≡ firstFitting (
       pub accepted-last : b ≡ true → 0 ≡ firstFitting (listLines l others)
       accepted-last t = sym (last-line ∙ passed 10 [] (not-true (dependent (l .n) (rows l)) (sym d ∙ t))
           ∙ none-fits)
-        where
-          not-true : (v : Bool) → not v ≡ true → v ≡ false
-          not-true false p = refl
-          not-true true p = absurd (false≢true p)
 
       pub refused-last : b ≡ false → 10 ≡ firstFitting (listLines l others)
       refused-last t = sym (last-line ∙ fits 10 [] (not-false (dependent (l .n) (rows l)) (sym d ∙ t)))
-        where
-          not-false : (v : Bool) → not v ≡ false → v ≡ true
-          not-false true p = refl
-          not-false false p = absurd (true≢false p)
 
 -- ---- sukhlent_reduce: its two answer buffers
 module _ (l : GeneratorList) (nb cs : List ℕ) (others : Bool)

@@ -11,8 +11,9 @@ use Rattle.buffers.specs.Refusals.{firstFitting, otherThan}
 use Rattle.record.proofs.AcceptedRecords.{accepted-record}
 use Rattle.record.specs.Accepted.{AcceptedRecord}
 use Rattle.record.specs.Lent.{LentRecord, heldRows, recordLengths, recordLines}
-use Rattle.stabilizer.proofs.SharedTests.{has-length, neither}
+use Rattle.stabilizer.proofs.SharedTests.{has-length}
 use Rattle.stabilizer.specs.Lists.{listOf}
+use Rattle.words.proofs.Flags.{neither}
 use Rattle.list_calls.specs.Calls.{ExpandCall, expandLines}
 
 module _ (l : LentRecord) (s z x : List ℕ) (others : Bool)

@@ -24,7 +24,7 @@ use Rattle.stabilizer.proofs.Verdicts.{independent-exactly}
 use Rattle.stabilizer.proofs.Within.{identity-within}
 use Rattle.stabilizer.specs.Elimination.{shear}
 use Rattle.stabilizer.specs.Groups.{Independent, Proper, SameGroup, Within, chosen}
-use Rattle.stabilizer.specs.Lists.{dependent, rows}
+use Rattle.stabilizer.specs.Lists.{dependent}
 use Rattle.words.proofs.Places.{put-other}
 use Rattle.words.proofs.Sums.{lt-or-ge}
 use Rattle.operations.proofs.CzGroups.{cz-proper}
@@ -44,7 +44,6 @@ use Rattle.operations.specs.Measurement.{
   projected,
   single,
 }
-use Rattle.operations.specs.Sessions.{table}
 use Rattle.operations.specs.Steps.{ReadOff}
 use Rattle.operations.specs.declared.Outcome.the-variants.{Chosen, Determined}
 

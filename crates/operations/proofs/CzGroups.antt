@@ -5,13 +5,9 @@ use mathlib.Core.Logic.{_↔_, _≢_}
 use mathlib.Core.Path.{ap, ap₂, sym, _∙_, _≡_}
 use Prim.Native.Nat.{_<_, ℕ, _≤_}
 use native.Mathlib.Omega.{arith}
-use lib.Dec.{T, eqb}
+use lib.Dec.{eqb}
 use Rattle.pauli.specs.Pauli.{Pauli}
-use Rattle.record.proofs.ReducedRecords.{same-group}
-use Rattle.record.specs.Records.{rowsOf}
-use Rattle.record.specs.Reduced.{reduced}
 use Rattle.stabilizer.specs.Groups.{InGroup, Proper, Trivial, Within}
-use Rattle.stabilizer.specs.Lists.{rows}
 use Rattle.words.proofs.Finite.{bits}
 use Rattle.words.proofs.Places.{other-place}
 use Rattle.words.specs.Bits.{_⊕_}
@@ -58,12 +54,3 @@ module _ (n a b : ℕ) (ha : a < n) (hb : b < n) (ab : a ≢ b) (rows : ℕ → 
   pub cz-group : (p : Pauli) → InGroup n n (czRows a b rows) p
       ↔ ((r : Pauli) × InGroup n n rows r × (p ≡ cz a b r))
   cz-group = image-group n (cz a b) homomorphism n rows
-
-  -- and it is the group of the reduced record, which is the answer
-  pub cz-answer : Proper n rows → (p : Pauli)
-      → InGroup n n (rowsOf n (reduced n (czRows a b rows))) p
-      ↔ ((r : Pauli) × InGroup n n rows r × (p ≡ cz a b r))
-  cz-answer P p = (
-    (λ h. cz-group p .0 (same-group n (czRows a b rows) (cz-proper P) .back p h)),
-    (λ h. same-group n (czRows a b rows) (cz-proper P) .there p (cz-group p .1 h)),
-  )

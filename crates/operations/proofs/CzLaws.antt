@@ -7,7 +7,15 @@ use Prim.Native.Nat.{_<_, ℕ}
 use native.Mathlib.Decide.{ℕ-discrete}
 use lib.Dec.{eqb}
 use Rattle.pauli.proofs.PauliLaws.{Pauli-path}
-use Rattle.pauli.proofs.PhaseLaws.{+ᵖ-assoc, +ᵖ-left, imaginary-+ᵖ, phaseMonoid, phases, sumPhase-add}
+use Rattle.pauli.proofs.PhaseLaws.{
+  +ᵖ-assoc,
+  +ᵖ-left,
+  imaginary-+ᵖ,
+  minus-real,
+  phaseMonoid,
+  phases,
+  sumPhase-add,
+}
 use Rattle.pauli.specs.Pauli.{
   _+ᵖ_,
   Pauli,
@@ -129,9 +137,5 @@ cz-identity a b = Pauli-path refl (λ q. none (eqb q a) (eqb q b)) (λ q. refl)
 pub cz-signed : (a b : ℕ) (p : Pauli) → imaginary ((cz a b p) .phase) ≡ imaginary (p .phase)
 unfolding cz
 cz-signed a b p = imaginary-+ᵖ (p .phase) _
-    ∙ ap (λ c. imaginary (p .phase) ⊕ c) (signed (czSign (p .z a) (p .x a) (p .z b) (p .x b)))
+    ∙ ap (λ c. imaginary (p .phase) ⊕ c) (minus-real (czSign (p .z a) (p .x a) (p .z b) (p .x b)))
     ∙ ⊕-zero (imaginary (p .phase))
-  where
-    signed : (s : Bool) → imaginary (minus s) ≡ false
-    signed false = refl
-    signed true = refl

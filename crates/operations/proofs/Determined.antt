@@ -5,21 +5,30 @@ use mathlib.Core.Logic.{inl, inr, _↔_, _⊎_}
 use mathlib.Core.Path.{ap, refl, subst, sym, _∙_, _≡_}
 use Prim.Native.Nat.{_<_, ℕ}
 use native.Mathlib.Omega.{arith}
+use Rattle.pauli.proofs.PhaseLaws.{minus-real}
 use Rattle.stabilizer.specs.Membership.{member}
 use Rattle.pauli.proofs.PauliLaws.{mul-scaled, square}
-use Rattle.pauli.specs.Pauli.{Pauli, anticommute, imaginary, i², minus, scaled, xBit, zBit}
+use Rattle.pauli.specs.Pauli.{Pauli, anticommute, i², scaled, xBit, zBit}
 use Rattle.pauli.specs.declared.Letter.{Letter}
 use Rattle.record.proofs.Maximality.{maximal-list}
 use Rattle.stabilizer.proofs.GroupLaws.{elements-commute, in-mul, in-row}
 use Rattle.stabilizer.proofs.Independence.{no-minus}
 use Rattle.stabilizer.specs.Groups.{InGroup, Proper, Within}
-use Rattle.stabilizer.specs.Lists.{rows}
+use Rattle.words.proofs.Flags.{either}
 use Rattle.words.proofs.Places.{other-place}
 use Rattle.words.proofs.SearchLaws.{first-is}
 use Rattle.words.specs.Search.{IsFirst}
 use Rattle.stabilizer.proofs.MembershipLaws.{member-exactly}
 use Rattle.operations.proofs.Projection.{projected-group, projected-proper}
-use Rattle.operations.specs.Measurement.{Measured, firstAgainst, isDetermined, measuredRows, outcome, projected, single}
+use Rattle.operations.specs.Measurement.{
+  Measured,
+  firstAgainst,
+  isDetermined,
+  measuredRows,
+  outcome,
+  projected,
+  single,
+}
 
 pub single-within : (n : ℕ) (l : Letter) (q : ℕ) (s : Bool) → q < n → Within n (single l q s)
 single-within n l q s h =
@@ -28,10 +37,6 @@ single-within n l q s h =
       no-z = λ t k. ap (λ b. b && zBit l) (other-place {i = t} {j = q} (λ e. absurd (omega (arith, e))));
     }
 
-single-signed : (s : Bool) → imaginary (minus s) ≡ false
-single-signed false = refl
-single-signed true = refl
-
 -- its sign has no part in commutation
 pub single-anticommute : (n : ℕ) (l : Letter) (q : ℕ) (s : Bool) (p : Pauli)
     → anticommute n p (single l q s) ≡ anticommute n p (single l q false)
@@ -39,13 +44,10 @@ unfolding anticommute
 single-anticommute n l q s p = refl
 
 module _ (n : ℕ) (rows : ℕ → Pauli) (L : Proper n rows) (l : Letter) (q : ℕ) (hq : q < n) where
-  -- "If the Pauli or its negative is in the group"
-  abbrev Known : Type 0
-  Known = InGroup n n rows (single l q false) ⊎ InGroup n n rows (single l q true)
-
   member-single : (s : Bool) → (member n rows (single l q s) ≡ true) ↔ InGroup n n rows (single l q s)
   member-single s = member-exactly n rows (L .within) (single l q s) (single-within n l q s hq)
 
+  -- "If the Pauli or its negative is in the group"
   pub determined-exactly : (isDetermined n rows l q ≡ true)
       ↔ (InGroup n n rows (single l q false) ⊎ InGroup n n rows (single l q true))
   determined-exactly = (
@@ -59,10 +61,6 @@ module _ (n : ℕ) (rows : ℕ → Pauli) (L : Proper n rows) (l : Letter) (q : 
           ∙ or-true (member n rows (single l q false))
     ]),
   )
-    where
-      either : (a b : Bool) → (a || b) ≡ true → (a ≡ true) ⊎ (b ≡ true)
-      either true b e = inl refl
-      either false b e = inr e
 
   -- and so exactly if it commutes with every generator
   pub determined-commutes : (isDetermined n rows l q ≡ true)
@@ -142,12 +140,12 @@ module _ (n : ℕ) (rows : ℕ → Pauli) (L : Proper n rows) (l : Letter) (q : 
     pub measured-group : (p : Pauli) → InGroup n n (measuredRows n rows l q b) p
         ↔ Measured n rows (single l q b) p
     measured-group p = subst (λ R. InGroup n n R p ↔ Measured n rows P p) (sym measured-is)
-        (projected-group n rows L P (single-signed b) (single-within n l q b hq) g (first-against .below)
+        (projected-group n rows L P (minus-real b) (single-within n l q b hq) g (first-against .below)
         (first-against .passes) p)
 
     open-proper : Proper n (measuredRows n rows l q b)
     open-proper = subst (Proper n) (sym measured-is)
-        (projected-proper n rows L P (single-signed b) (single-within n l q b hq) g (first-against .below)
+        (projected-proper n rows L P (minus-real b) (single-within n l q b hq) g (first-against .below)
         (first-against .passes))
 
   -- in either case the rows afterwards are a list

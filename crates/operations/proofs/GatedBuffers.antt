@@ -22,7 +22,6 @@ use Rattle.record.specs.Reduced.{reduced}
 use Rattle.reduction.specs.Passes.{Loaded}
 use Rattle.stabilizer.proofs.EqualRows.{proper-equal, same-group-equal}
 use Rattle.stabilizer.specs.Groups.{Independent, Proper}
-use Rattle.stabilizer.specs.Lists.{rows}
 use Rattle.words.proofs.Places.{put-all}
 use Rattle.words.specs.Bits.{put}
 use Rattle.operations.proofs.AnswersInPlace.{loaded-list}
@@ -30,7 +29,6 @@ use Rattle.operations.proofs.GroupAlone.{reduced-of-group}
 use Rattle.operations.proofs.UnrefusedRecords.{unrefused-codes, unrefused-place, unrefused-simple}
 use Rattle.operations.specs.Gates.{gated}
 use Rattle.operations.specs.InPlace.{Unrefused, recordIn}
-use Rattle.operations.specs.Sessions.{table}
 
 module _ (words codes : List ℕ) (U : Unrefused (recordIn words codes)) (q : ℕ) (hq : q < length words) (k : ℕ)
     (codes′ : List ℕ) (e : codes′ ≡ set codes q (codeOf (then (codesOf codes q) (cliffordOf k)))) where

@@ -6,12 +6,10 @@ use Rattle.clifford.proofs.CliffordLaws.{then-id}
 use Rattle.clifford.proofs.VectorLaws.{act-cong, act-then}
 use Rattle.clifford.specs.Clifford.{Clifford, then}
 use Rattle.clifford.specs.Vectors.{act, only}
-use Rattle.graph.specs.Graph.{Simple, graphGenerator}
-use Rattle.record.proofs.ReducedRecords.{record-proper, same-group}
+use Rattle.graph.specs.Graph.{graphGenerator}
 use Rattle.record.specs.Records.{GraphRecord, rowsOf}
-use Rattle.record.specs.Reduced.{reduced}
 use Rattle.stabilizer.proofs.Carried.{carries-same, same-rows}
-use Rattle.stabilizer.proofs.GroupLaws.{same-refl, same-trans}
+use Rattle.stabilizer.proofs.GroupLaws.{same-refl}
 use Rattle.stabilizer.specs.Carries.{Carries}
 use Rattle.words.proofs.Places.{put-all, put-other, put-same}
 use Rattle.words.specs.Bits.{put}
@@ -37,11 +35,3 @@ pub gate-carries : (n : ℕ) (r : GraphRecord) (q : ℕ) (k : Clifford)
 gate-carries n r q k =
     carries-same n (only q k) (rowsOf n r) (rowsOf n (gated r q k)) .1
     (same-rows n n _ _ _ (λ j l. sym (gated-row n r q k j)) same-refl)
-
--- and so of the reduced record, which is the answer
-pub gate-answer : (n : ℕ) (r : GraphRecord) → Simple n (r .graph) → (q : ℕ) (k : Clifford)
-    → Carries n (only q k) (rowsOf n r) (rowsOf n (reduced n (rowsOf n (gated r q k))))
-gate-answer n r S q k =
-    carries-same n (only q k) (rowsOf n r) (rowsOf n (reduced n (rowsOf n (gated r q k)))) .1
-    (same-trans (carries-same n (only q k) (rowsOf n r) (rowsOf n (gated r q k)) .0 (gate-carries n r q k))
-    (same-group n (rowsOf n (gated r q k)) (record-proper n (gated r q k) S)))

@@ -12,8 +12,8 @@ use Rattle.record.proofs.Unique.{record-path}
 use Rattle.record.specs.Reduced.{reduced}
 use Rattle.stabilizer.proofs.GroupLaws.{same-sym}
 use Rattle.stabilizer.specs.Groups.{Proper, SameGroup}
+use Rattle.words.proofs.Flags.{same-by-both}
 use Rattle.operations.proofs.Determined.{determined-exactly, determined-kept, measured-group}
-use Rattle.operations.proofs.ReadingOff.{same-by-both}
 use Rattle.operations.specs.Measurement.{Measured, isDetermined, joined, kept, measuredRows, single}
 
 pub reduced-of-group : (n : ℕ) (R S : ℕ → Pauli) → Proper n R → Proper n S → SameGroup n n R S

@@ -6,7 +6,7 @@ use mathlib.Core.Logic.{_↔_}
 use mathlib.Core.Path.{ap, refl, subst, sym, _∙_, _≡_}
 use Prim.Native.Nat.{ℕ}
 use Rattle.pauli.proofs.PauliLaws.{mul-swap}
-use Rattle.pauli.proofs.PhaseLaws.{+ᵖ-assoc, +ᵖ-zero}
+use Rattle.pauli.proofs.PhaseLaws.{+ᵖ-assoc, +ᵖ-zero, minus-injective}
 use Rattle.pauli.specs.Pauli.{
   _+ᵖ_,
   Pauli,
@@ -21,10 +21,8 @@ use Rattle.pauli.specs.Pauli.{
   minus,
   mul,
   scaled,
-  signBit,
 }
 use Rattle.stabilizer.specs.Groups.{InGroup, Proper, Trivial, Within, chosen, product}
-use Rattle.stabilizer.specs.Lists.{rows}
 use Rattle.words.proofs.Sums.{fold-ext, fold-hom}
 use Rattle.words.specs.Bits.{Word}
 
@@ -43,17 +41,10 @@ cancel-phase a b t e = sym (undo a t) ∙ ap (λ u. u +ᵖ (t +ᵖ (t +ᵖ t))) 
     undo s i² = +ᵖ-assoc s i² i² ∙ +ᵖ-zero s
     undo s i³ = +ᵖ-assoc s i³ i¹ ∙ +ᵖ-zero s
 
-pub minus-determines : (a b : Bool) → minus a ≡ minus b → a ≡ b
-minus-determines a b e = sym (back a) ∙ ap signBit e ∙ back b
-  where
-    back : (a : Bool) → signBit (minus a) ≡ a
-    back false = refl
-    back true = refl
-
 module _ (n : ℕ) (f : Pauli → Pauli) (F : Homomorphism n f) where
   pub keeps-anticommute : (p r : Pauli) → anticommute n (f p) (f r) ≡ anticommute n p r
   keeps-anticommute p r =
-      minus-determines _ _ (cancel-phase _ _ ((mul n (f r) (f p)) .phase)
+      minus-injective _ _ (cancel-phase _ _ ((mul n (f r) (f p)) .phase)
       (ap (λ q. q .phase) (sym (mul-swap n (f p) (f r)) ∙ sym (F .on-products p r) ∙ ap f (mul-swap n p r)
       ∙ F .on-powers (minus (anticommute n p r)) (mul n r p)
       ∙ ap (scaled (minus (anticommute n p r))) (F .on-products r p))))

@@ -24,7 +24,7 @@ use Rattle.clifford.specs.Clifford.{
 }
 use Rattle.clifford.specs.Vectors.{act}
 use Rattle.graph.specs.Graph.{Graph, Simple}
-use Rattle.pauli.proofs.PauliLaws.{Pauli-path}
+use Rattle.pauli.proofs.PauliLaws.{Pauli-path, letter-bits}
 use Rattle.pauli.proofs.PhaseLaws.{phaseMonoid}
 use Rattle.pauli.specs.Pauli.{_+ᵖ_, Pauli, anticommute, clash, i⁰, letter, letterAt, xBit, zBit}
 use Rattle.pauli.specs.declared.Letter.{Letter}
@@ -51,12 +51,6 @@ pauli-acts zero l = absurd (not-suc-le-zero l)
 pauli-acts (suc zero) l = refl
 pauli-acts (suc (suc zero)) l = refl
 pauli-acts (suc (suc (suc k))) l = refl
-
-spelled : (l : Letter) → letter (zBit l) (xBit l) ≡ l
-spelled I = refl
-spelled X = refl
-spelled Y = refl
-spelled Z = refl
 
 clash-I : (a : Letter) → clash a I ≡ false
 clash-I I = refl
@@ -107,7 +101,7 @@ single-clash n p l q s h =
     (λ t k d. ap (λ b. clash (letterAt p t) (letter (b && zBit l) (b && xBit l))) (other-place d)
     ∙ clash-I (letterAt p t))
     ∙ ap (λ b. clash (letterAt p q) (letter (b && zBit l) (b && xBit l))) (same-place q)
-    ∙ ap (clash (letterAt p q)) (spelled l)
+    ∙ ap (clash (letterAt p q)) (letter-bits l)
 
 module _ (n : ℕ) (r : GraphRecord) (S : Simple n (r .graph)) (q : ℕ) (hq : q < n) where
   abbrev θ : Graph
@@ -141,7 +135,7 @@ module _ (n : ℕ) (r : GraphRecord) (S : Simple n (r .graph)) (q : ℕ) (hq : q
     place : isDetermined n (rowsOf n r) l q ≡ true → (j : ℕ) → j < n
         → clash (image (c q) (letter (θ j q) (eqb q j))) l ≡ false
     unfolding act
-    place e j k = ap (λ b. clash b l) (sym (spelled (image (c q) (letter (θ j q) (eqb q j)))))
+    place e j k = ap (λ b. clash b l) (sym (letter-bits (image (c q) (letter (θ j q) (eqb q j)))))
         ∙ sym (single-clash n (rowsOf n r j) l q false hq)
         ∙ determined-commutes n (rowsOf n r) (record-proper n r S) l q hq .0 e j k
 

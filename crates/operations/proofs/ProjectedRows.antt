@@ -21,7 +21,6 @@ use Rattle.stabilizer.proofs.Products.{anticommute-identity}
 use Rattle.stabilizer.proofs.Within.{anticommute-wide}
 use Rattle.stabilizer.specs.Elimination.{shear}
 use Rattle.stabilizer.specs.Groups.{Independent, Proper, chosen}
-use Rattle.stabilizer.specs.Lists.{rows}
 use Rattle.stabilizer.specs.Tableau.{tableau}
 use Rattle.words.proofs.BitLaws.{bit-single, zero-bit}
 use Rattle.words.proofs.Finite.{bits, unequal, ⊕-zero}
@@ -41,7 +40,6 @@ use Rattle.operations.specs.Measurement.{
   projected,
   single,
 }
-use Rattle.operations.specs.Sessions.{table}
 
 -- ---- from what the code's calls answer
 clash-bits : (z x : Bool) (l : Letter) → (z && xBit l) ⊕ (x && zBit l) ≡ clash (letter z x) l

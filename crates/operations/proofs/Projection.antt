@@ -8,8 +8,8 @@ use mathlib.Core.Path.{ap, ap₂, fun-ext, refl, subst, sym, _∙_, _≡_}
 use Prim.Native.Nat.{_<_, ℕ}
 use native.Mathlib.Decide.{ℕ-discrete}
 use lib.Dec.{eqb}
-use Rattle.pauli.proofs.PauliLaws.{anticommute-swap, mul-identity, pauliMonoid}
-use Rattle.pauli.specs.Pauli.{Pauli, anticommute, clash, identity, imaginary, letter, mul}
+use Rattle.pauli.proofs.PauliLaws.{anticommute-self, anticommute-swap, mul-identity, pauliMonoid}
+use Rattle.pauli.specs.Pauli.{Pauli, anticommute, identity, imaginary, mul}
 use Rattle.stabilizer.proofs.GroupLaws.{elements-commute, in-mul, in-row}
 use Rattle.stabilizer.proofs.Independence.{independent-shear}
 use Rattle.stabilizer.proofs.Products.{anticommute-form, anticommute-linear, product-bit, product-mul}
@@ -17,17 +17,11 @@ use Rattle.stabilizer.proofs.RowOperations.{shear-bit, shear-commuting, shear-s
 use Rattle.stabilizer.proofs.Within.{shear-within}
 use Rattle.stabilizer.specs.Elimination.{shear}
 use Rattle.stabilizer.specs.Groups.{Commuting, InGroup, Proper, SameGroup, Trivial, Within, chosen, product}
-use Rattle.stabilizer.specs.Lists.{rows}
-use Rattle.words.proofs.Finite.{bits, ⊕-zero}
+use Rattle.words.proofs.Finite.{⊕-zero}
 use Rattle.words.proofs.Places.{other-place, parity-at, put-all, put-other, put-same, same-place}
 use Rattle.words.proofs.Sums.{bitMonoid, fold-ext, fold-one, fold-unit}
 use Rattle.words.specs.Bits.{Word, put, _⊕_}
 use Rattle.operations.specs.Measurement.{Measured, against, joined, kept, projected}
-
-anticommute-self : (n : ℕ) (p : Pauli) → anticommute n p p ≡ false
-unfolding anticommute
-anticommute-self n p = fold-unit false _⊕_ bitMonoid n
-    (λ q l. bits 2 (λ z x. clash (letter z x) (letter z x)) (λ z x. false) tt (p .z q) (p .x q))
 
 anticommute-trivial : (n : ℕ) (p r : Pauli) → Trivial n p → anticommute n p r ≡ false
 anticommute-trivial n p r t =

@@ -1,67 +1,44 @@
 -- A measurement read off a record by the code: what its calls answer is whether it is determined, and the sign.
 -- Assumes nothing.
-use mathlib.Core.Bool.{_&&_, Bool, Bool·beq, cond, false, false≢true, true}
+use mathlib.Core.Bool.{_&&_, Bool, Bool·beq, cond, false, true}
 use mathlib.Core.List.{List}
 use mathlib.Core.Logic.{_↔_}
-use mathlib.Core.Path.{ap, ap₂, refl, subst, sym, _∙_, _≡_}
+use mathlib.Core.Path.{ap, ap₂, subst, sym, _∙_, _≡_}
 use Prim.Native.Nat.{_<_, ℕ, _≤_}
 use lib.Dec.{eqb}
 use lib.ListN.{getD, length}
 use borrow.Author.Tests.{eq-eqb, eqb-true}
+use Rattle.pauli.proofs.PauliLaws.{letter-bits}
+use Rattle.pauli.proofs.PhaseLaws.{minus-injective}
 use Rattle.stabilizer.specs.Membership.{member}
 use Rattle.clifford.specs.Clifford.{Clifford, cliffordOf, image, imagePhase}
 use Rattle.graph.specs.Graph.{Simple}
-use Rattle.pauli.specs.Pauli.{minus, xBit, zBit}
+use Rattle.pauli.specs.Pauli.{letter, minus, xBit, zBit}
 use Rattle.pauli.specs.declared.Letter.{Letter}
-use Rattle.pauli.specs.declared.Letter.the-variants.{I, X, Y, Z}
+use Rattle.pauli.specs.declared.Letter.the-variants.{X}
 use Rattle.record.proofs.AcceptedRecords.{accepted-record}
 use Rattle.record.specs.Lent.{heldRecord}
 use Rattle.record.specs.Records.{GraphRecord, rowsOf}
 use Rattle.words.proofs.BitLaws.{bit-ext∞, zero-bit}
+use Rattle.words.proofs.Flags.{beq-refl, beq-true, both-true, same-by-both}
 use Rattle.words.specs.Bits.{bit}
-use Rattle.operations.proofs.Homomorphisms.{minus-determines}
 use Rattle.operations.proofs.MeasuredRecords.{determined-alone, outcome-alone, pauli-acts}
-use Rattle.operations.specs.Cz.{cz}
 use Rattle.operations.specs.InPlace.{Unrefused, recordIn}
 use Rattle.operations.specs.Measurement.{isDetermined, outcome, pauliLetter, single}
 use Rattle.operations.specs.Steps.{ReadOff}
-
-pub same-by-both : (a b : Bool) → (a ≡ true → b ≡ true) → (b ≡ true → a ≡ true) → a ≡ b
-same-by-both true b f g = sym (f refl)
-same-by-both false false f g = refl
-same-by-both false true f g = g refl
 
 -- equal letters, by their bits
 abbrev pub equalLetters : Letter → Letter → Bool
 equalLetters a b = Bool·beq (zBit a) (zBit b) && Bool·beq (xBit a) (xBit b)
 
 equal-letters : (a b : Letter) → equalLetters a b ≡ true → a ≡ b
-equal-letters I I e = refl
-equal-letters I X e = absurd (false≢true e)
-equal-letters I Y e = absurd (false≢true e)
-equal-letters I Z e = absurd (false≢true e)
-equal-letters X I e = absurd (false≢true e)
-equal-letters X X e = refl
-equal-letters X Y e = absurd (false≢true e)
-equal-letters X Z e = absurd (false≢true e)
-equal-letters Y I e = absurd (false≢true e)
-equal-letters Y X e = absurd (false≢true e)
-equal-letters Y Y e = refl
-equal-letters Y Z e = absurd (false≢true e)
-equal-letters Z I e = absurd (false≢true e)
-equal-letters Z X e = absurd (false≢true e)
-equal-letters Z Y e = absurd (false≢true e)
-equal-letters Z Z e = refl
+equal-letters a b e =
+    let h = both-true (Bool·beq (zBit a) (zBit b)) (Bool·beq (xBit a) (xBit b)) e in
+    sym (letter-bits a) ∙ ap₂ letter (beq-true (zBit a) (zBit b) (h .0)) (beq-true (xBit a) (xBit b) (h .1))
+    ∙ letter-bits b
 
 equal-letters-refl : (a : Letter) → equalLetters a a ≡ true
-equal-letters-refl I = refl
-equal-letters-refl X = refl
-equal-letters-refl Y = refl
-equal-letters-refl Z = refl
-
-both-true : (a b : Bool) → (a && b) ≡ true → (a ≡ true) × (b ≡ true)
-both-true true b e = (refl, e)
-both-true false b e = absurd (false≢true e)
+equal-letters-refl a = ap₂ _&&_ (beq-refl (zBit a)) (beq-refl (xBit a))
 
 module _ (words codes : List ℕ) (U : Unrefused (recordIn words codes)) (q : ℕ) (hq : q < length words)
     (pauli : ℕ) (lo : 1 ≤ pauli) where
@@ -121,5 +98,5 @@ module _ (words codes : List ℕ) (U : Unrefused (recordIn words codes)) (q : �
 
       go : (b d : Bool) → d ≡ isDetermined n (rowsOf n r) l q → outcome n (rowsOf n r) l q b ≡ cond d m b
       go b true e = outcome-alone n r simple q hq l (pauli-acts pauli lo) (sym e) b
-          ∙ minus-determines (k .sx) m (sym em)
+          ∙ minus-injective (k .sx) m (sym em)
       go b false e = ap (λ d. cond d (member n (rowsOf n r) (single l q true)) b) (sym e)

@@ -3,15 +3,13 @@
 use mathlib.Core.Bool.{cond, false, true}
 use mathlib.Core.List.{List}
 use mathlib.Core.Logic.{_≢_}
-use mathlib.Core.Path.{ap, ap₂, fun-ext, refl, sym, _∙_, _≡_}
-use Prim.Native.Nat.{_+_, _<_, _^_, zero-le, ℕ, _≤_}
-use native.Mathlib.Nat.{le-refl, not-suc-le-zero}
+use mathlib.Core.Path.{ap, ap₂, fun-ext, subst, sym, _∙_, _≡_}
+use Prim.Native.Nat.{_+_, _<_, _^_, ℕ, _≤_}
+use native.Mathlib.Nat.{le-refl}
 use native.Mathlib.Omega.{arith}
-use lib.Dec.{eqb}
-use lib.ListN.{getD, length, length-set, set}
-use lib.Seq.{getD-set-other, getD-set-same}
-use borrow.Author.Count.{below-more}
-use borrow.Author.Tests.{eq-eqb, eqb-true}
+use lib.ListN.{getD, length, set}
+use borrow.Author.Tests.{eq-eqb}
+use Rattle.buffers.proofs.Mapping.{Mapped, mapped-store}
 use Rattle.buffers.proofs.Tabulate.{tabulate-is}
 use Rattle.buffers.specs.Buffers.{tabulate}
 use Rattle.clifford.specs.Clifford.{Clifford, cliffordOf, codeOf, then}
@@ -24,16 +22,8 @@ use Rattle.record.specs.Accepted.{AcceptedRecord}
 use Rattle.record.specs.Records.{complementRecord, recoded}
 use Rattle.words.proofs.BitLaws.{lt-of-bits, wordOf-bit}
 use Rattle.words.proofs.Places.{other-place}
-use Rattle.words.proofs.SearchLaws.{every-at}
 use Rattle.words.specs.Bits.{bit, wordOf}
-use Rattle.words.specs.Search.{every}
 use Rattle.operations.specs.InPlace.{Rewritten, Unrefused, recordIn}
-
--- a number below 24 is the number of its code
-pub code-number : (c : ℕ) → c < 24 → codeOf (cliffordOf c) ≡ c
-unfolding every
-code-number c l = eqb-true (codeOf (cliffordOf c)) c
-    (every-at 24 (λ c. eqb (codeOf (cliffordOf c)) c) refl c l)
 
 -- ---- one place
 module _ (θ : Graph) (a : ℕ) (c : ℕ → Clifford) (q r : ℕ) where
@@ -54,33 +44,20 @@ module _ (θ : Graph) (a : ℕ) (c : ℕ → Clifford) (q r : ℕ) where
 abbrev pub recodedNumber : List ℕ → ℕ → ℕ → ℕ → ℕ
 recodedNumber old a around j = codeOf (recoded (λ _. bit around) a (codesOf old) j)
 
-pub record RecodedBelow (old : List ℕ) (a around : ℕ) (new : List ℕ) (q : ℕ) : Type 0 where
-  pub upto : q ≤ length old
-  pub long : length new ≡ length old
-  pub done : (j : ℕ) → j < q → getD new j 0 ≡ recodedNumber old a around j
-  pub rest : (j : ℕ) → q ≤ j → getD new j 0 ≡ getD old j 0
+abbrev pub RecodedAt : List ℕ → ℕ → ℕ → ℕ → ℕ → Type 0
+RecodedAt old a around j v = v ≡ recodedNumber old a around j
 
-pub recode-start : (old : List ℕ) (a around : ℕ) → RecodedBelow old a around old 0
-recode-start old a around =
-    record { upto = zero-le; long = refl; done = λ j l. absurd (not-suc-le-zero l); rest = λ j l. refl }
-
-pub recode-more : (old : List ℕ) (a around : ℕ) (new : List ℕ) (q r : ℕ) → RecodedBelow old a around new q
-    → q < length new → r ≡ codeOf (recoded (λ _. bit around) a (λ _. cliffordOf (getD new q 0)) q)
-    → RecodedBelow old a around (set new q r) (q + 1)
+pub recode-more : (old : List ℕ) (a around : ℕ) (new : List ℕ) (q r : ℕ)
+    → Mapped (RecodedAt old a around) old new q → q < length new
+    → r ≡ codeOf (recoded (λ _. bit around) a (λ _. cliffordOf (getD new q 0)) q)
+    → Mapped (RecodedAt old a around) old (set new q r) (q + 1)
 recode-more old a around new q r B l e =
-    record {
-      upto = omega (arith, l, B .long);
-      long = length-set new q r ∙ B .long;
-      done = below-more _ q
-          (λ j k. getD-set-other new q j r 0 (λ d. absurd (omega (arith, d))) ∙ B .done j k)
-          (getD-set-same new q r 0 l ∙ e
-          ∙ ap (λ v. codeOf (recoded (λ _. bit around) a (λ _. cliffordOf v) q)) (B .rest q (le-refl q)));
-      rest = λ j k. getD-set-other new q j r 0 (λ d. absurd (omega (arith, d, k)))
-          ∙ B .rest j (omega (arith, k));
-    }
+    mapped-store (RecodedAt old a around) old new q r B (subst (λ m. q < m) (B .long) l)
+    (e ∙ ap (λ v. codeOf (recoded (λ _. bit around) a (λ _. cliffordOf v) q)) (B .rest q (le-refl q)))
 
-pub recode-done : (old : List ℕ) (a around : ℕ) (new : List ℕ) (q : ℕ) → RecodedBelow old a around new q
-    → length new ≤ q → new ≡ tabulate (length old) (recodedNumber old a around)
+pub recode-done : (old : List ℕ) (a around : ℕ) (new : List ℕ) (q : ℕ)
+    → Mapped (RecodedAt old a around) old new q → length new ≤ q
+    → new ≡ tabulate (length old) (recodedNumber old a around)
 recode-done old a around new q B l =
     tabulate-is (length old) (recodedNumber old a around) new (B .long)
     (λ j k. B .done j (omega (arith, k, l, B .long)))

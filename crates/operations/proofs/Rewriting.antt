@@ -3,7 +3,7 @@
 use mathlib.Core.List.{[], _∷_}
 use Prim.Native.Nat.{_<_, ℕ}
 use Rattle.graph.specs.Graph.{Simple}
-use Rattle.record.proofs.ComplementLists.{complement-all-same, complement-all-simple}
+use Rattle.record.proofs.ComplementLists.{add, complement-all-same, complement-all-simple, nil}
 use Rattle.record.specs.Records.{GraphRecord, rowsOf}
 use Rattle.stabilizer.specs.Groups.{SameGroup}
 use Rattle.operations.specs.Steps.{pivotRecord}
@@ -14,4 +14,4 @@ pivot-simple n r S j k = complement-all-simple n r S (j ∷ k ∷ j ∷ [])
 
 pub pivot-same : (n : ℕ) (r : GraphRecord) → Simple n (r .graph) → (j k : ℕ) → j < n → k < n
     → SameGroup n n (rowsOf n r) (rowsOf n (pivotRecord r j k))
-pivot-same n r S j k hj hk = complement-all-same n r S (j ∷ k ∷ j ∷ []) (hj, (hk, (hj, tt)))
+pivot-same n r S j k hj hk = complement-all-same n r S (add j hj (add k hk (add j hj nil)))

@@ -10,7 +10,6 @@ use lib.ListN.{getD, length, set}
 use lib.Seq.{getD-set-other, getD-set-same}
 use borrow.Author.Count.{below-more}
 use Rattle.pauli.specs.Pauli.{Pauli, signedRow}
-use Rattle.stabilizer.specs.Lists.{rows}
 use Rattle.stabilizer.specs.Tableau.{tableau}
 use Rattle.words.proofs.Places.{put-all, put-other, put-same}
 use Rattle.words.specs.Bits.{bit, put}

@@ -6,7 +6,6 @@ use mathlib.Core.Path.{_≡_}
 use Prim.Native.Nat.{ℕ}
 use lib.Dec.{eqb}
 use Rattle.pauli.specs.Pauli.{_+ᵖ_, Pauli, Phase, identity, i⁰, minus, mul, scaled}
-use Rattle.stabilizer.specs.Lists.{rows}
 use Rattle.words.specs.Bits.{_⊕_}
 
 -- X alone at a qubit, and Z alone

@@ -9,7 +9,6 @@ use Rattle.pauli.specs.declared.Letter.{Letter}
 use Rattle.pauli.specs.declared.Letter.the-variants.{I, X, Y, Z}
 use Rattle.stabilizer.specs.Elimination.{shear}
 use Rattle.stabilizer.specs.Groups.{InGroup}
-use Rattle.stabilizer.specs.Lists.{rows}
 use Rattle.stabilizer.specs.Membership.{member}
 use Rattle.words.specs.Bits.{Word, digit, put}
 use Rattle.words.specs.Search.{first}

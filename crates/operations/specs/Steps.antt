@@ -8,7 +8,6 @@ use lib.Dec.{eqb, leb}
 use Rattle.buffers.specs.Buffers.{accepted}
 use Rattle.buffers.specs.Refusals.{Line, firstFitting, line}
 use Rattle.clifford.specs.Clifford.{cliffordOf}
-use Rattle.pauli.specs.Pauli.{minus}
 use Rattle.record.specs.Lent.{LentRecord, codeNumbers, heldRecord, heldRows, neighbourWords, recordLines}
 use Rattle.record.specs.Records.{GraphRecord, complementAll, complementRecord, rowsOf}
 use Rattle.record.specs.Reduced.{reduced}

@@ -4,8 +4,8 @@ use mathlib.Core.Bool.{_&&_, Bool, false}
 use mathlib.Core.Path.{ap, ap₂, refl, sym, _∙_, _≡_}
 use Prim.Native.Nat.{ℕ}
 use Rattle.words.proofs.Finite.{bits, ⊕-assoc, ⊕-comm, ⊕-self, ⊕-zero}
-use Rattle.words.proofs.Sums.{Monoid, fold-ext, fold-hom, fold-unit, parity-add}
-use Rattle.words.specs.Bits.{parity, _⊕_}
+use Rattle.words.proofs.Sums.{Monoid, bitMonoid, fold-ext, fold-hom, fold-unit, parity-add}
+use Rattle.words.specs.Bits.{_⊕_}
 use Rattle.pauli.proofs.PhaseLaws.{
   +ᵖ-assoc,
   +ᵖ-comm,
@@ -35,13 +35,24 @@ use Rattle.pauli.specs.Pauli.{
   mul,
   scaled,
   sumPhase,
+  xBit,
+  zBit,
 }
+use Rattle.pauli.specs.declared.Letter.{Letter}
+use Rattle.pauli.specs.declared.Letter.the-variants.{I, X, Y, Z}
 
 -- ---- the group laws. Each is a law of letters, tested, and summed over the places.
 
 pub Pauli-path : {p r : Pauli} → p .phase ≡ r .phase → ((q : ℕ) → p .z q ≡ r .z q)
     → ((q : ℕ) → p .x q ≡ r .x q) → p ≡ r
 Pauli-path {p} {r} ht hz hx = λ i. record { phase = ht i; z = λ q. hz q i; x = λ q. hx q i }
+
+-- a letter is spelled by its two bits
+pub letter-bits : (l : Letter) → letter (zBit l) (xBit l) ≡ l
+letter-bits I = refl
+letter-bits X = refl
+letter-bits Y = refl
+letter-bits Z = refl
 
 abbrev phaseB : Bool → Bool → Bool → Bool → Phase
 phaseB z x z′ x′ = letterPhase (letter z x) (letter z′ x′)
@@ -72,6 +83,9 @@ phase-imaginary = bits 4 (λ a b c d. imaginary (phaseB a b c d)) clashB tt
 clash-sum : (a b c d e f : Bool) → clashB (a ⊕ c) (b ⊕ d) e f ≡ clashB a b e f ⊕ clashB c d e f
 clash-sum = bits 6 (λ a b c d e f. clashB (a ⊕ c) (b ⊕ d) e f) (λ a b c d e f. clashB a b e f
     ⊕ clashB c d e f) tt
+
+clash-self : (a b : Bool) → clashB a b a b ≡ false
+clash-self = bits 2 (λ a b. clashB a b a b) (λ a b. false) tt
 
 clash-swap : (a b c d : Bool) → clashB a b c d ≡ clashB c d a b
 clash-swap = bits 4 clashB (λ a b c d. clashB c d a b) tt
@@ -145,6 +159,10 @@ module _ (n : ℕ) where
   unfolding mul anticommute
   anticommute-swap p r = fold-ext false _⊕_ n (λ q l. clash-swap (p .z q) (p .x q) (r .z q) (r .x q))
 
+  pub anticommute-self : (p : Pauli) → anticommute n p p ≡ false
+  unfolding anticommute
+  anticommute-self p = fold-unit false _⊕_ bitMonoid n (λ q l. clash-self (p .z q) (p .x q))
+
   -- commuting operators with signs: the product has a sign, and the order does not matter
   pub signed-product : (p r : Pauli) → imaginary (p .phase) ≡ false → imaginary (r .phase) ≡ false
       → anticommute n p r ≡ false → imaginary ((mul n p r) .phase) ≡ false
@@ -168,11 +186,6 @@ module _ (n : ℕ) where
   pub mul-x : (p r : Pauli) (q : ℕ) → (mul n p r) .x q ≡ p .x q ⊕ r .x q
   unfolding mul
   mul-x p r q = refl
-
-  pub imaginary-phases : (p r : Pauli)
-      → parity n (λ q. imaginary (letterPhase (letterAt p q) (letterAt r q))) ≡ anticommute n p r
-  unfolding anticommute
-  imaginary-phases p r = fold-ext false _⊕_ n (λ q l. phase-imaginary (p .z q) (p .x q) (r .z q) (r .x q))
 
   -- commutation is a matter of the letters alone
   pub anticommute-letters : (p r : Pauli) (s t : Phase) →

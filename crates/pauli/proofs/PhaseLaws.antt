@@ -2,8 +2,8 @@
 -- Assumes nothing.
 use mathlib.Core.Bool.{Bool, false, true, true≢false}
 use mathlib.Core.Path.{ap, refl, sym, _∙_, _≡_}
-use Prim.Native.Nat.{_<_, ℕ}
-use lib.Dec.{T, eqb, eqb→eq, lit<}
+use Prim.Native.Nat.{ℕ}
+use lib.Dec.{T, eqb, eqb→eq}
 use Rattle.words.proofs.Finite.{Law, Of, bits, law, test}
 use Rattle.words.proofs.Sums.{Monoid, fold-ext, fold-mul}
 use Rattle.words.specs.Bits.{_⊕_}
@@ -29,12 +29,6 @@ power-exponent i⁰ = refl
 power-exponent i¹ = refl
 power-exponent i² = refl
 power-exponent i³ = refl
-
-pub exponent-lt : (a : Phase) → exponent a < 4
-exponent-lt i⁰ = lit< tt
-exponent-lt i¹ = lit< tt
-exponent-lt i² = lit< tt
-exponent-lt i³ = lit< tt
 
 pub exponent-two : (a : Phase) → eqb (exponent a) 2 ≡ signBit a
 exponent-two i⁰ = refl
@@ -108,3 +102,6 @@ minus-real = bits 1 (λ b. imaginary (minus b)) (λ b. false) tt
 
 pub sign-minus : (b : Bool) → signBit (minus b) ≡ b
 sign-minus = bits 1 (λ b. signBit (minus b)) (λ b. b) tt
+
+pub minus-injective : (a b : Bool) → minus a ≡ minus b → a ≡ b
+minus-injective a b e = sym (sign-minus a) ∙ ap signBit e ∙ sign-minus b

@@ -8,20 +8,28 @@ use Prim.Native.Nat.{_<_, _^_, ℕ, _≤_}
 use lib.Dec.{lit<}
 use lib.ListN.{List·getD-eq-default, getD, length}
 use lib.Pow.{pow-pos}
-use Rattle.buffers.proofs.Lines.{not-held}
+use Rattle.buffers.proofs.Lines.{not-held, only-where-true}
 use Rattle.buffers.proofs.Reaching.{below-all}
 use Rattle.buffers.specs.Refusals.{badCount, firstFitting, reaching}
 use Rattle.graph.specs.Graph.{Simple}
-use Rattle.stabilizer.proofs.NumbersTrue.{only-where-true}
-use Rattle.stabilizer.proofs.SharedTests.{counted, neither}
+use Rattle.stabilizer.proofs.SharedTests.{counted}
 use Rattle.words.proofs.BitLaws.{bit-above, zero-bit}
+use Rattle.words.proofs.Flags.{neither}
 use Rattle.words.proofs.Sums.{lt-or-ge}
 use Rattle.words.specs.Bits.{bit}
 use Rattle.record.proofs.RecordLines.{record-lengths-are}
 use Rattle.record.proofs.ReducedRecords.{record-proper}
 use Rattle.record.proofs.SimpleVerdict.{SimpleBelow, simple-exactly}
 use Rattle.record.specs.Accepted.{AcceptedRecord}
-use Rattle.record.specs.Lent.{LentRecord, heldRecord, notSimple, recordCodes, recordLengths, recordLines, recordStray}
+use Rattle.record.specs.Lent.{
+  LentRecord,
+  heldRecord,
+  notSimple,
+  recordCodes,
+  recordLengths,
+  recordLines,
+  recordStray,
+}
 
 -- a bound of every place of a buffer, past its end too
 below-everywhere : (b : ℕ) (buffer : List ℕ) → 0 < b → reaching b buffer ≡ false → (j : ℕ)

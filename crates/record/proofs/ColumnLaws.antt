@@ -1,38 +1,23 @@
 -- Columns that are sums of earlier ones: the test agrees, sums of rows keep the dependence, and for the x
 -- bits of a list it is a matter of the group alone.
 -- Assumes nothing.
-use mathlib.Core.Bool.{_&&_, Bool, and-false, false, true, true≢false}
-use mathlib.Core.Logic.{inl, inr, _↔_}
-use mathlib.Core.Path.{ap, refl, subst, sym, _∙_, _≡_}
+use mathlib.Core.Bool.{_&&_, Bool, and-false, false, true}
+use mathlib.Core.Logic.{_↔_}
+use mathlib.Core.Path.{ap, sym, _∙_, _≡_}
 use Prim.Native.Nat.{_^_, ℕ}
-use lib.Dec.{T}
 use Rattle.pauli.specs.Pauli.{Pauli}
 use Rattle.stabilizer.proofs.GroupLaws.{in-row}
 use Rattle.stabilizer.proofs.Products.{product-x}
 use Rattle.stabilizer.specs.Groups.{InGroup}
 use Rattle.words.proofs.BitLaws.{bit-wordOf, wordOf-lt}
-use Rattle.words.proofs.Finite.{and-⊕, bits, sameBit→≡, ⊕-comm}
-use Rattle.words.proofs.SearchLaws.{every-at, every-in, first-is, some-in, some-none}
+use Rattle.words.proofs.Finite.{and-⊕, bits, ⊕-comm}
+use Rattle.words.proofs.Flags.{sameBit-true, true-sameBit}
+use Rattle.words.proofs.SearchLaws.{every-at, every-in, some-in, some-true}
 use Rattle.words.proofs.Sums.{bitMonoid, fold-ext, fold-hom, fold-swap}
 use Rattle.words.specs.Bits.{Word, bit, parity, sameBit, wordOf, _⊕_}
-use Rattle.words.specs.Search.{IsFirst, every, first, some}
+use Rattle.words.specs.Search.{every, first}
 use Rattle.record.specs.Columns.{ColumnDependent, columnDependent}
 use Rattle.record.specs.Reduced.{xWords}
-
-sameBit-refl : (a : Bool) → sameBit a a ≡ true
-sameBit-refl false = refl
-sameBit-refl true = refl
-
-pub sameBit-true : {a b : Bool} → a ≡ b → sameBit a b ≡ true
-sameBit-true {a} {b} e = ap (sameBit a) (sym e) ∙ sameBit-refl a
-
-pub true-sameBit : (a b : Bool) → sameBit a b ≡ true → a ≡ b
-true-sameBit a b e = sameBit→≡ a b (subst T (sym e) tt)
-
--- a search that succeeds has found something
-pub some-first : (b : ℕ) (f : ℕ → Bool) → some b f ≡ true → IsFirst b f (first b f)
-some-first b f e = elim (first-is b f)
-    [ inl F ↦ F | inr none ↦ absurd (true≢false (sym e ∙ some-none b f none)) ]
 
 -- ---- the test
 module _ (m : ℕ) (M : ℕ → Word) (q : ℕ) where
@@ -45,7 +30,7 @@ module _ (m : ℕ) (M : ℕ → Word) (q : ℕ) where
     (λ e. (
       bit (first (2 ^ q) isSum),
       λ j l. true-sameBit (M j q) (parity q (λ t. bit (first (2 ^ q) isSum) t && M j t))
-          (every-at m _ (some-first (2 ^ q) isSum e .passes) j l),
+          (every-at m _ (some-true (2 ^ q) isSum e .passes) j l),
     )),
     (λ D. some-in (2 ^ q) isSum (wordOf q (D .0)) (wordOf-lt q (D .0))
         (every-in m _ (λ j l. sameBit-true (D .1 j l

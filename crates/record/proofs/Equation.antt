@@ -4,22 +4,24 @@ use mathlib.Core.Bool.{_&&_, Bool, and-false, false, not, true, true≢false}
 use mathlib.Core.Logic.{inl, inr, _⊎_}
 use mathlib.Core.Path.{ap, ap₂, fun-ext, refl, subst, sym, _∙_, _≡_}
 use Prim.Native.Nat.{_<_, _^_, ℕ, _≤_}
-use native.Mathlib.Decide.{ℕ-discrete}
 use lib.Dec.{eqb, ltb}
 use borrow.Author.Tests.{le-ltb, lt-ltb}
 use Rattle.clifford.specs.Vectors.{act}
+use Rattle.graph.proofs.GraphGroups.{no-loop}
 use Rattle.graph.specs.Graph.{Graph, graphGenerator}
-use Rattle.pauli.specs.Pauli.{Pauli, identity, minus, mul, signBit}
+use Rattle.pauli.proofs.PhaseLaws.{sign-minus}
+use Rattle.pauli.specs.Pauli.{Pauli, identity, mul, signBit}
 use Rattle.stabilizer.proofs.Carried.{act-same, same-rows}
 use Rattle.stabilizer.proofs.GroupLaws.{in-row}
 use Rattle.stabilizer.specs.Groups.{InGroup, SameGroup, chosen}
 use Rattle.words.proofs.BitLaws.{bit-wordOf, wordOf-lt}
-use Rattle.words.proofs.Places.{other-place, same-place}
-use Rattle.words.proofs.SearchLaws.{every-at, every-in, some-in}
+use Rattle.words.proofs.Flags.{same-by-both, sameBit-true, true-sameBit}
+use Rattle.words.proofs.Places.{same-place}
+use Rattle.words.proofs.SearchLaws.{every-at, every-in, some-in, some-true}
 use Rattle.words.proofs.Sums.{fold-ext, lt-or-ge}
 use Rattle.words.specs.Bits.{bit, wordOf, _⊕_}
 use Rattle.words.specs.Search.{first}
-use Rattle.record.proofs.ColumnLaws.{column-dependent, sameBit-true, some-first, true-sameBit}
+use Rattle.record.proofs.ColumnLaws.{column-dependent}
 use Rattle.record.proofs.PlainRows.{
   hadamards-last,
   hadamards-twice,
@@ -49,11 +51,6 @@ use Rattle.record.specs.Reduced.{
   ysOf,
 }
 
-pub iff-same : (a b : Bool) → (a ≡ true → b ≡ true) → (b ≡ true → a ≡ true) → a ≡ b
-iff-same false false f g = refl
-iff-same false true f g = g refl
-iff-same true b f g = sym (f refl)
-
 module _ (n : ℕ) (rows : ℕ → Pauli) (r : GraphRecord) (R : Reduced n rows r) where
   -- the qubits that get a Hadamard
   hadamards-are : (q : ℕ) → needsHadamard n rows q ≡ R .hadamards q
@@ -61,7 +58,7 @@ module _ (n : ℕ) (rows : ℕ → Pauli) (r : GraphRecord) (R : Reduced n rows 
     where
       go : (q < n) ⊎ (n ≤ q) → needsHadamard n rows q ≡ R .hadamards q
       go (inl l) = ap (λ b. b && columnDependent n (xWords rows) q) (lt-ltb q n l)
-          ∙ iff-same (columnDependent n (xWords rows) q) (R .hadamards q)
+          ∙ same-by-both (columnDependent n (xWords rows) q) (R .hadamards q)
           (λ e. R .rotated q l .1 (column-dependent n (xWords rows) q .0 e))
           (λ e. column-dependent n (xWords rows) q .1 (R .rotated q l .0 e))
       go (inr l) = ap (λ b. b && columnDependent n (xWords rows) q) (le-ltb q n l) ∙ sym (R .above q l .0)
@@ -86,7 +83,7 @@ module _ (n : ℕ) (rows : ℕ → Pauli) (r : GraphRecord) (R : Reduced n rows 
 
   found-is : (j : ℕ) → j < n → xOnlyAt n (rotatedRows n rows) j (found j) ≡ true
   unfolding found
-  found-is j l = some-first (2 ^ n) (xOnlyAt n (rotatedRows n rows) j)
+  found-is j l = some-true (2 ^ n) (xOnlyAt n (rotatedRows n rows) j)
       (some-in (2 ^ n) _ (wordOf n (m .0)) (wordOf-lt n (m .0)) there) .passes
     where
       m : InGroup n n (rotatedRows n rows) (plain j)
@@ -116,17 +113,13 @@ module _ (n : ℕ) (rows : ℕ → Pauli) (r : GraphRecord) (R : Reduced n rows 
       tidy false true y h = and-false y
       tidy true true y h = absurd (true≢false h)
 
-      no-loop : Dec (q ≡ j) → (eqb q j && θ j q) ≡ false
-      no-loop (yes e) = ap (λ b. eqb q j && b) (ap (θ j) e ∙ R .simple .loopless j) ∙ and-false (eqb q j)
-      no-loop (no d) = ap (λ b. b && θ j q) (other-place d)
-
       go : (j < n) ⊎ (n ≤ j) → (q < n) ⊎ (n ≤ q)
           → ((ltb j n && ltb q n) && ((reducedRow n rows j) .z q && not (eqb q j))) ≡ θ j q
       go (inl l) (inl k) =
           ap₂ (λ a b. (a && b) && ((reducedRow n rows j) .z q && not (eqb q j))) (lt-ltb j n l) (lt-ltb q n k)
           ∙ ap (λ b. b && not (eqb q j)) (ap (λ p. p .z q) (row-equation j l)
           ∙ plain-z n θ (R .ys) (R .minuses) j q)
-          ∙ tidy (θ j q) (eqb q j) (R .ys q) (no-loop (ℕ-discrete q j))
+          ∙ tidy (θ j q) (eqb q j) (R .ys q) (no-loop n θ (R .simple) j q)
       go (inl l) (inr k) =
           ap (λ b. (ltb j n && b) && ((reducedRow n rows j) .z q && not (eqb q j))) (le-ltb q n k)
           ∙ ap (λ b. b && ((reducedRow n rows j) .z q && not (eqb q j))) (and-false (ltb j n))
@@ -139,10 +132,6 @@ module _ (n : ℕ) (rows : ℕ → Pauli) (r : GraphRecord) (R : Reduced n rows 
   code-is q = ap₂ (λ h k. withHadamard h k) (hadamards-are q)
       (ap₂ plainCode (y-is (lt-or-ge q n)) (s-is (lt-or-ge q n))) ∙ sym (R .code q)
     where
-      sign-of : (b : Bool) → signBit (minus b) ≡ b
-      sign-of false = refl
-      sign-of true = refl
-
       y-is : (q < n) ⊎ (n ≤ q) → (ltb q n && (reducedRow n rows q) .z q) ≡ R .ys q
       y-is (inl l) = ap₂ _&&_ (lt-ltb q n l) (ap (λ p. p .z q) (row-equation q l)
           ∙ plain-z n (r .graph) (R .ys) (R .minuses) q q
@@ -152,7 +141,7 @@ module _ (n : ℕ) (rows : ℕ → Pauli) (r : GraphRecord) (R : Reduced n rows 
       s-is : (q < n) ⊎ (n ≤ q) → (ltb q n && signBit ((reducedRow n rows q) .phase)) ≡ R .minuses q
       s-is (inl l) = ap₂ _&&_ (lt-ltb q n l) (ap (λ p. signBit (p .phase)) (row-equation q l)
           ∙ ap signBit (plain-phase n (r .graph) (R .simple) (R .ys) (R .minuses) q l)
-          ∙ sign-of (R .minuses q))
+          ∙ sign-minus (R .minuses q))
       s-is (inr l) = ap (λ b. b && signBit ((reducedRow n rows q) .phase)) (le-ltb q n l)
           ∙ sym (R .above q l .2)
 

@@ -1,6 +1,6 @@
 -- One generator of a record as the code makes it: on words of 64 bits, and as numbers.
 -- Assumes nothing.
-use mathlib.Core.Bool.{Bool, false, true}
+use mathlib.Core.Bool.{Bool, false}
 use mathlib.Core.List.{List}
 use mathlib.Core.Path.{ap, refl, subst, sym, _∙_, _≡_}
 use Prim.Native.Nat.{_<_, _^_, ℕ, _≤_}
@@ -10,7 +10,8 @@ use Rattle.clifford.specs.Clifford.{cliffordOf}
 use Rattle.clifford.specs.Vectors.{act, codesOf}
 use Rattle.graph.specs.Graph.{graphGenerator}
 use Rattle.pauli.proofs.PauliLaws.{Pauli-path}
-use Rattle.pauli.specs.Pauli.{Pauli, minus, signBit, signedRow}
+use Rattle.pauli.proofs.PhaseLaws.{sign-minus}
+use Rattle.pauli.specs.Pauli.{Pauli, signBit, signedRow}
 use Rattle.stabilizer.proofs.Within.{act-wide-codes, act-within}
 use Rattle.stabilizer.specs.Groups.{Within}
 use Rattle.words.proofs.BitLaws.{bit-single, lt-of-bits, wordOf-bit}
@@ -49,11 +50,7 @@ held-within l h j k =
 
 -- ---- the numbers of a generator
 pub sign-of : (m : Bool) (z x : ℕ) {p : Pauli} → signedRow m z x ≡ p → digit m ≡ digit (signBit (p .phase))
-sign-of m z x e = ap digit (sym (go m) ∙ ap (λ p. signBit (p .phase)) e)
-  where
-    go : (m : Bool) → signBit (minus m) ≡ m
-    go false = refl
-    go true = refl
+sign-of m z x e = ap digit (sym (sign-minus m) ∙ ap (λ p. signBit (p .phase)) e)
 
 pub z-of : (n : ℕ) (m : Bool) (z x : ℕ) {p : Pauli} → signedRow m z x ≡ p → Within n p → z ≡ wordOf n (p .z)
 z-of n m z x e W =

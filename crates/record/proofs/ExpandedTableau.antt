@@ -21,7 +21,6 @@ use lib.Seq.{getD-set-other, getD-set-same}
 use borrow.Author.Count.{below-more}
 use Rattle.pauli.proofs.PauliLaws.{Pauli-path}
 use Rattle.pauli.specs.Pauli.{Pauli, identity, minus, signedRow}
-use Rattle.stabilizer.specs.Lists.{rows}
 use Rattle.stabilizer.specs.Tableau.{tableau}
 use Rattle.words.proofs.BitLaws.{zero-bit}
 use Rattle.words.proofs.Places.{put-other, put-same}

@@ -46,7 +46,7 @@ expansion-back l A =
     }
 
 -- a list that has the group of a record reduces to what the expansion of the record reduces to
-pub expansion-reduces : (l : LentRecord) → AcceptedRecord l → (R : ℕ → Pauli) → Proper (l .n) R →
+expansion-reduces : (l : LentRecord) → AcceptedRecord l → (R : ℕ → Pauli) → Proper (l .n) R →
     SameGroup (l .n) (l .n) R (heldRows l)
     → SameRecord (reduced (l .n) (rows (expanded l))) (reduced (l .n) R)
 expansion-reduces l A R P E =

@@ -1,16 +1,15 @@
 -- Rows of a record without Hadamards: X or Y at the own place, I or Z elsewhere, and a sign. And the
 -- Hadamards of a record, which come last.
 -- Assumes nothing.
-use mathlib.Core.Bool.{_&&_, Bool, and-false, cond, false, true}
+use mathlib.Core.Bool.{_&&_, Bool, and-comm, cond, false, true}
 use mathlib.Core.Path.{ap, fun-ext, refl, sym, _∙_, _≡_}
 use Prim.Native.Nat.{_<_, ℕ}
-use native.Mathlib.Decide.{ℕ-discrete}
 use lib.Dec.{eqb}
 use Rattle.clifford.proofs.CliffordLaws.{cliffords, fromFive, onClifford}
 use Rattle.clifford.proofs.VectorLaws.{act-id, act-then}
 use Rattle.clifford.specs.Clifford.{Clifford, cliffordOf, identityClifford, image, imagePhase, then}
 use Rattle.clifford.specs.Vectors.{act}
-use Rattle.graph.proofs.GraphGroups.{x-determines}
+use Rattle.graph.proofs.GraphGroups.{no-loop, x-determines}
 use Rattle.graph.specs.Graph.{Graph, Simple, graphGenerator}
 use Rattle.pauli.proofs.PhaseLaws.{phaseMonoid, phases}
 use Rattle.pauli.specs.Pauli.{_+ᵖ_, Pauli, i⁰, letter, minus, xBit, zBit}
@@ -50,7 +49,8 @@ module _ (n : ℕ) (θ : Graph) (S : Simple n θ) (y s : Word) where
   pub plain-phase : (j : ℕ) → j < n → (plainRow n θ y s j) .phase ≡ minus (s j)
   unfolding act
   plain-phase j l =
-      fold-ext i⁰ _+ᵖ_ n (λ q k. letter-phase (y q) (s q) (θ j q) (eqb q j) (no-y q (ℕ-discrete q j)))
+      fold-ext i⁰ _+ᵖ_ n (λ q k. letter-phase (y q) (s q) (θ j q) (eqb q j)
+      (and-comm (θ j q) (eqb q j) ∙ no-loop n θ S j q))
       ∙ fold-one i⁰ _+ᵖ_ phaseMonoid n j l (λ q k d. ap (λ b. cond b (minus (s q)) i⁰) (other-place d))
       ∙ ap (λ b. cond b (minus (s j)) i⁰) (same-place j)
     where
@@ -61,10 +61,6 @@ module _ (n : ℕ) (θ : Graph) (S : Simple n θ) (y s : Word) where
           ∙ phases 4
           (λ y s z x. cond (z && x) (cond x (minus s) i⁰) (imagePhase (plainCode y s) (letter z x)))
           (λ y s z x. cond x (minus s) i⁰) tt y s z x
-
-      no-y : (q : ℕ) → Dec (q ≡ j) → (θ j q && eqb q j) ≡ false
-      no-y q (yes e) = ap (λ b. b && eqb q j) (ap (θ j) e ∙ S .loopless j)
-      no-y q (no d) = ap (λ b. θ j q && b) (other-place d) ∙ and-false (θ j q)
 
   -- an element with the x bits of row j is row j
   pub plain-determined : (p : Pauli) → InGroup n n (plainRow n θ y s) p → (j : ℕ) → j < n

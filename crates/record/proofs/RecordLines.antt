@@ -7,7 +7,8 @@ use lib.Dec.{lit<}
 use lib.ListN.{length}
 use Rattle.buffers.proofs.Lines.{Numbered, fits, none-fits, passed}
 use Rattle.buffers.specs.Refusals.{badCount, firstFitting, otherThan}
-use Rattle.stabilizer.proofs.SharedTests.{counted, has-length, neither}
+use Rattle.stabilizer.proofs.SharedTests.{counted, has-length}
+use Rattle.words.proofs.Flags.{neither}
 use Rattle.record.specs.Lent.{
   LentRecord,
   heldRecord,

@@ -5,7 +5,6 @@ use mathlib.Core.Bool.{_&&_, Bool, and-false, cond, false, true, true≢false}
 use mathlib.Core.Logic.{inl, inr, _⊎_}
 use mathlib.Core.Path.{ap, ap₂, refl, subst, sym, _∙_, _≡_}
 use Prim.Native.Nat.{_*_, _<_, suc, zero, ℕ, _≤_}
-use native.Mathlib.Decide.{ℕ-discrete}
 use native.Mathlib.Nat.{not-suc-le-zero}
 use native.Mathlib.Omega.{arith}
 use lib.Dec.{eqb, lit<}
@@ -15,7 +14,7 @@ use Rattle.clifford.specs.Vectors.{act}
 use Rattle.pauli.specs.Pauli.{Pauli, letter, signBit, xBit}
 use Rattle.stabilizer.proofs.GroupLaws.{in-row}
 use Rattle.stabilizer.specs.Groups.{Proper}
-use Rattle.words.proofs.Finite.{bits, ⊕-zero}
+use Rattle.words.proofs.Finite.{bits}
 use Rattle.words.proofs.Places.{other-place, same-place}
 use Rattle.words.proofs.Sums.{bitMonoid, fold-unit, last-or, lt-or-ge}
 use Rattle.words.specs.Bits.{_⊕_}
@@ -88,13 +87,6 @@ module _ (n : ℕ) (rows : ℕ → Pauli) (r : GraphRecord) (R : Reduced n rows 
     pub hadamard-no-y : R .ys j ≡ false
     hadamard-no-y = sym (ap₂ (λ a b. a ⊕ (b && R .ys j)) (R .simple .loopless j) (same-place j))
         ∙ place-x j l h
-
-    pub hadamards-apart : (k : ℕ) → k < n → R .hadamards k ≡ true → r .graph j k ≡ false
-    hadamards-apart k m e = elim (ℕ-discrete k j) [
-      | yes p ↦ ap (r .graph j) p ∙ R .simple .loopless j
-      | no d ↦ sym (⊕-zero (r .graph j k)) ∙ ap (λ b. r .graph j k ⊕ (b && R .ys k)) (sym (other-place d))
-          ∙ place-x k m e
-    ]
 
   -- ---- the codes
   pub codes-among : (q : ℕ) → (i : ℕ) × (i < 6) × (codeOf (r .codes q) ≡ 2 * i)

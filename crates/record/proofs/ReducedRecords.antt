@@ -33,9 +33,6 @@ reduced-is n rows P = elim (reduction n rows (P .commuting) (P .within)) [
 pub same-group : (n : ℕ) (rows : ℕ → Pauli) → Proper n rows → SameGroup n n rows (rowsOf n (reduced n rows))
 same-group n rows P = reduced-is n rows P .group
 
-pub reduced-proper : (n : ℕ) (rows : ℕ → Pauli) → Proper n rows → Proper n (rowsOf n (reduced n rows))
-reduced-proper n rows P = record-proper n (reduced n rows) (reduced-is n rows P .simple)
-
 -- lists reduce to equal records exactly if their groups are equal
 pub equal-exactly : (n : ℕ) (rows others : ℕ → Pauli) → Proper n rows → Proper n others →
     SameRecord (reduced n rows) (reduced n others) ↔ SameGroup n n rows others
@@ -45,10 +42,3 @@ equal-exactly n rows others P Q = (
   (λ E. equation n rows (reduced n others)
       (reduced-carried n others rows (reduced n others) (same-sym E) (reduced-is n others Q))),
 )
-
--- the rows of a reduced record reduce to that record
-pub reduced-again : (n : ℕ) (rows : ℕ → Pauli) → Proper n rows
-    → SameRecord (reduced n (rowsOf n (reduced n rows))) (reduced n rows)
-reduced-again n rows P =
-    equal-exactly n (rowsOf n (reduced n rows)) rows (reduced-proper n rows P) P .1
-    (same-sym (same-group n rows P))

@@ -6,11 +6,10 @@ use mathlib.Core.Path.{ap, ap₂, refl, sym, _∙_, _≡_}
 use Prim.Native.Nat.{_<_, ℕ}
 use borrow.Author.Tests.{not-false, not-true}
 use Rattle.graph.specs.Graph.{Graph}
-use Rattle.stabilizer.proofs.SharedTests.{either, neither}
+use Rattle.words.proofs.Flags.{either, neither, sameBit-true, true-sameBit}
 use Rattle.words.proofs.SearchLaws.{some-false, some-in, some-none, some-true}
 use Rattle.words.specs.Bits.{sameBit}
 use Rattle.words.specs.Search.{first, some}
-use Rattle.record.proofs.ColumnLaws.{sameBit-true, true-sameBit}
 use Rattle.record.specs.Lent.{notSimple}
 
 -- a vertex that spoils the graph

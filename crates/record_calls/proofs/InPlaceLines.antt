@@ -17,7 +17,7 @@ use Rattle.record.proofs.AcceptedRecords.{accepted-record}
 use Rattle.record.proofs.RecordLines.{record-numbered}
 use Rattle.record.specs.Accepted.{AcceptedRecord}
 use Rattle.record.specs.Lent.{LentRecord, heldRecord, recordCodes, recordLines}
-use Rattle.stabilizer.proofs.SharedTests.{neither}
+use Rattle.words.proofs.Flags.{neither}
 
 -- ---- the number, from that of the record's lines
 module _ (l : LentRecord) (six eight : Bool) (k : ℕ) (e : k ≡ firstFitting (recordLines l false six)) where

@@ -1,6 +1,6 @@
 -- The passes put together: the reduced record where every column has its pivot, and dependence otherwise.
 -- Assumes nothing.
-use mathlib.Core.Bool.{_&&_, Bool, cond, false, false≢true, not, true, true≢false}
+use mathlib.Core.Bool.{_&&_, Bool, cond, false, not, true}
 use mathlib.Core.Logic.{inl, inr, _⊎_}
 use mathlib.Core.Path.{ap, ap₂, fun-ext, refl, subst, sym, _∙_, _≡_}
 use Prim.Native.Nat.{_-_, _<_, _^_, ℕ, _≤_}
@@ -9,7 +9,7 @@ use native.Mathlib.Omega.{arith}
 use lib.Bits.{bitXor}
 use lib.Dec.{ltb}
 use lib.Pow.{ones-lt}
-use borrow.Author.Tests.{le-ltb, lt-ltb}
+use borrow.Author.Tests.{le-ltb, lt-ltb, not-false, not-true}
 use Rattle.clifford.proofs.VectorLaws.{act-cong, act-identity}
 use Rattle.clifford.specs.Clifford.{cliffordOf, identityClifford}
 use Rattle.clifford.specs.Vectors.{act}
@@ -24,7 +24,6 @@ use Rattle.record.proofs.SecondPass.{
   second-pass-skip,
   second-start,
 }
-use Rattle.record.proofs.SimpleLines.{differ}
 use Rattle.record.proofs.Unique.{record-path}
 use Rattle.record.specs.Reduced.{hadamardWhere, recordOf, reduced}
 use Rattle.stabilizer.proofs.Carried.{act-commuting}
@@ -152,14 +151,6 @@ module _ (n : ℕ) (l : n ≤ 64) (R₀ : ℕ → Pauli) (L : Loaded n R₀) (R�
           not-independent : (v : Bool) → dependent n R₀ ≡ v → (Independent n R₀ → ⊥) → v ≡ true
           not-independent true e H = refl
           not-independent false e H = absurd (H (not-dependent n R₀ e))
-
-          not-true : (b : Bool) → not b ≡ true → b ≡ false
-          not-true false e = refl
-          not-true true e = absurd (false≢true e)
-
-          not-false : (b : Bool) → not b ≡ false → b ≡ true
-          not-false true e = refl
-          not-false false e = absurd (true≢false e)
 
           go : IsFirst n (λ t. not (bit pivots t)) (first n (λ t. not (bit pivots t)))
               ⊎ ((t : ℕ) → t < n → not (bit pivots t) ≡ false) → dependent n R₀ ≡ true

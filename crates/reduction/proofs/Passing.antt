@@ -19,7 +19,6 @@ use Rattle.stabilizer.proofs.RowOperations.{clear-self, lend-self, shear-commut
 use Rattle.stabilizer.proofs.Within.{anticommute-wide, chosen-within, mul-wide, mul-within}
 use Rattle.stabilizer.specs.Elimination.{clear, lend, pivotOn, shear}
 use Rattle.stabilizer.specs.Groups.{Commuting, chosen}
-use Rattle.stabilizer.specs.Lists.{rows}
 use Rattle.stabilizer.specs.Tableau.{tableau}
 use Rattle.words.proofs.BitLaws.{bit-and, bit-xor, lt-of-bits, zero-bit}
 use Rattle.words.proofs.Finite.{bits}
@@ -50,7 +49,7 @@ module _ (n : ℕ) (l : n ≤ 64) (R : ℕ → Pauli) (L : Loaded n R) where
   stays : (b : Bool) (j a : ℕ) → b ≡ false → mul n (R j) (chosen b (R a)) ≡ R j
   stays b j a e = ap (λ b. mul n (R j) (chosen b (R a))) e ∙ mul-identity n (R j)
 
-  pub loaded-shear : (a : ℕ) → a < n → (s : Word) → s a ≡ false → ((j : ℕ) → n ≤ j → s j ≡ false) →
+  loaded-shear : (a : ℕ) → a < n → (s : Word) → s a ≡ false → ((j : ℕ) → n ≤ j → s j ≡ false) →
       Loaded n (shear n R a s)
   loaded-shear a ha s sa far =
       record {
@@ -70,7 +69,7 @@ module _ (n : ℕ) (l : n ≤ 64) (R : ℕ → Pauli) (L : Loaded n R) (q i : �
       (λ j h. ap (λ b. b && not ((R q) .x q))
       (other-place {i = j} {j = q} (λ e. lt-irrefl n (omega (arith, hq, e)))))
 
-  pub loaded-pivot : Loaded n (pivotOn n R q i)
+  loaded-pivot : Loaded n (pivotOn n R q i)
   loaded-pivot =
       loaded-shear n l (shear n R i (lend R q)) loaded-lent q hq (clear (shear n R i (lend R q)) q)
       (clear-self n R q i hq hi has)

@@ -16,7 +16,6 @@ use Rattle.pauli.specs.Pauli.{Pauli, anticommute, mul}
 use Rattle.stabilizer.proofs.RowOperations.{clear-self, lend-self, shear-commuting}
 use Rattle.stabilizer.specs.Elimination.{clear, lend, pivotOn, shear}
 use Rattle.stabilizer.specs.Groups.{chosen}
-use Rattle.stabilizer.specs.Lists.{rows}
 use Rattle.stabilizer.specs.Tableau.{tableau}
 use Rattle.words.proofs.BitLaws.{bit-single, zero-bit}
 use Rattle.words.proofs.Finite.{⊕-zero}
@@ -42,9 +41,6 @@ pub column-step : (rows : List (List ℕ)) (q word i : ℕ) → ColumnBelow rows
 column-step rows q word i C word′ b e h =
     record { named = λ j. h j ∙ ap₂ (λ u v. u ⊕ (eqb j i && v)) (C .named j) e ∙ at j (ℕ-discrete j i) }
   where
-    has-bit : ℕ → Bool
-    has-bit j = bit (getD (getD rows j []) 1 0) q
-
     at : (j : ℕ) → Dec (j ≡ i) →
         (ltb j i && bit (getD (getD rows j []) 1 0) q) ⊕ (eqb j i && bit (getD (getD rows i []) 1 0) q)
         ≡ (ltb j (i + 1) && bit (getD (getD rows j []) 1 0) q)

@@ -13,7 +13,6 @@ use Rattle.pauli.proofs.PhaseLaws.{sign-minus}
 use Rattle.pauli.specs.Pauli.{minus, signBit}
 use Rattle.record.specs.Reduced.{graphOf, minusesOf, plainCode, recordOf, withHadamard, ysOf}
 use Rattle.stabilizer.specs.Groups.{Within}
-use Rattle.stabilizer.specs.Lists.{rows}
 use Rattle.stabilizer.specs.Tableau.{tableau}
 use Rattle.words.proofs.BitLaws.{bit-above, bit-ext∞, bit-wordOf, wordOf-lt}
 use Rattle.words.proofs.Places.{other-place, put-all, same-place}

@@ -13,10 +13,9 @@ use lib.ListN.{getD, length, length-set, set}
 use lib.Seq.{getD-set-other, getD-set-same}
 use Rattle.pauli.proofs.PauliLaws.{mul-identity}
 use Rattle.pauli.proofs.WordRows.{signed-mul}
-use Rattle.pauli.specs.Pauli.{Pauli, anticommute, i⁰, minus, mul, row, signBit, signedRow}
+use Rattle.pauli.specs.Pauli.{Pauli, anticommute, i⁰, mul, row, signBit, signedRow}
 use Rattle.stabilizer.specs.Elimination.{shear}
 use Rattle.stabilizer.specs.Groups.{chosen}
-use Rattle.stabilizer.specs.Lists.{rows}
 use Rattle.stabilizer.specs.Tableau.{tableau}
 use Rattle.words.proofs.BitLaws.{bit-above, bit-flip, lt-of-bits, zero-bit}
 use Rattle.words.proofs.Finite.{unequal, ⊕-assoc, ⊕-zero}

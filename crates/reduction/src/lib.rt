@@ -11,12 +11,12 @@ use words::smallest;
 ghost use mathlib.Core.Bool.{_&&_, cond, false, not, true};
 ghost use mathlib.Core.List.{[]};
 ghost use mathlib.Core.Path.{_≡_};
-ghost use Prim.Native.Nat.{ℕ, _<_, _≤_, suc};
+ghost use Prim.Native.Nat.{ℕ, _<_, _≤_};
 ghost use lib.Dec.{ltb};
 ghost use lib.ListN.{getD, length};
 ghost use Rattle.clifford.specs.Clifford.{codeOf};
 ghost use Rattle.clifford.specs.Vectors.{act};
-ghost use Rattle.pauli.specs.Pauli.{Pauli, anticommute};
+ghost use Rattle.pauli.specs.Pauli.{anticommute};
 ghost use Rattle.record.specs.Lent.{codeNumbers, neighbourWords};
 ghost use Rattle.record.specs.Reduced.{hadamardWhere, plainCode, recordOf, reduced, withHadamard};
 ghost use Rattle.reduction.specs.Passes.{Eliminated, Loaded, PivotReady, Reducible};
@@ -24,7 +24,7 @@ ghost use Rattle.stabilizer.specs.Elimination.{pivotOn, shear};
 ghost use Rattle.stabilizer.specs.Groups.{Within};
 ghost use Rattle.stabilizer.specs.Lists.{dependent, rows};
 ghost use Rattle.stabilizer.specs.Tableau.{tableau};
-ghost use Rattle.words.specs.Bits.{Word, bit};
+ghost use Rattle.words.specs.Bits.{bit};
 
 // Row a multiplied into each row that the word named names, in place.
 fn shear_in_place(rows: &mut [[u64; 2]; 64], signs: &mut u64, a: usize, named: u64)
@@ -115,7 +115,8 @@ fn pass(mut rows: [[u64; 2]; 64], signs: &mut u64, n: usize, pivots: &mut u64) -
 // Hadamards on the columns that the word names: z and x are exchanged there, and a sign flips for each Y.
 fn rotate(mut rows: [[u64; 2]; 64], signs: &mut u64, n: usize, columns: u64) -> [[u64; 2]; 64]
     requires { ⌜ (n ≤ 64) × Loaded n (tableau (now signs) rows) ⌝ }
-    ensures { λ r. ⌜ ((j : ℕ) → tableau (now (signs .exit)) r j ≡ act 64 (hadamardWhere (bit columns)) (tableau (now (signs .entry)) rows j)) ⌝ }
+    ensures { λ r. ⌜ ((j : ℕ) → tableau (now (signs .exit)) r j
+        ≡ act 64 (hadamardWhere (bit columns)) (tableau (now (signs .entry)) rows j)) ⌝ }
 {
     let mut i = 0;
     while i < n {
@@ -159,8 +160,10 @@ fn write_record(
 )
     requires { ⌜ (n ≤ 64) × (length (now neighbours) ≡ n) × (length (now codes) ≡ n) ⌝ }
     requires { ⌜ ((j : ℕ) → j < n → Within n (tableau signs (now rows) j)) ⌝ }
-    ensures { λ r. ⌜ now (neighbours .exit) ≡ neighbourWords n (recordOf n (bit hadamards) (tableau signs (now (rows .entry)))) ⌝ }
-    ensures { λ r. ⌜ now (codes .exit) ≡ codeNumbers n (recordOf n (bit hadamards) (tableau signs (now (rows .entry)))) ⌝ }
+    ensures { λ r. ⌜ now (neighbours .exit)
+        ≡ neighbourWords n (recordOf n (bit hadamards) (tableau signs (now (rows .entry)))) ⌝ }
+    ensures { λ r. ⌜ now (codes .exit)
+        ≡ codeNumbers n (recordOf n (bit hadamards) (tableau signs (now (rows .entry)))) ⌝ }
 {
     let mut q = 0;
     while q < n {
@@ -192,7 +195,8 @@ pub fn load_list(n: usize, signs: &[u8], z: &[u64], x: &[u64], minuses: &mut u64
     loaded
 }
 
-// The reduced record of the tableau's group, where its rows are independent: then it is written, and the answer is true.
+// The reduced record of the tableau's group, where its rows are independent: then it is written, and the answer is
+// true.
 pub fn reduce_tableau(
     rows: [[u64; 2]; 64],
     signs: u64,
@@ -203,8 +207,10 @@ pub fn reduce_tableau(
     requires { ⌜ (1 ≤ n) × (n ≤ 64) × (length (now neighbours) ≡ n) × (length (now codes) ≡ n) ⌝ }
     requires { ⌜ Loaded n (tableau signs rows) ⌝ }
     ensures { λ r. ⌜ r ≡ not (dependent n (tableau signs rows)) ⌝ }
-    ensures { λ r. ⌜ now (neighbours .exit) ≡ cond r (neighbourWords n (reduced n (tableau signs rows))) (now (neighbours .entry)) ⌝ }
-    ensures { λ r. ⌜ now (codes .exit) ≡ cond r (codeNumbers n (reduced n (tableau signs rows))) (now (codes .entry)) ⌝ }
+    ensures { λ r. ⌜ now (neighbours .exit)
+        ≡ cond r (neighbourWords n (reduced n (tableau signs rows))) (now (neighbours .entry)) ⌝ }
+    ensures { λ r. ⌜ now (codes .exit)
+        ≡ cond r (codeNumbers n (reduced n (tableau signs rows))) (now (codes .entry)) ⌝ }
 {
     let mut minuses = signs;
     let mut kept = 0;

@@ -1,8 +1,8 @@
 -- What it means that a list is accepted.
 -- Assumes nothing.
-use mathlib.Core.Bool.{Bool, false, true, _||_}
+use mathlib.Core.Bool.{Bool, false, _||_}
 use mathlib.Core.List.{List}
-use mathlib.Core.Path.{ap, ap₂, refl, subst, sym, _∙_, _≡_}
+use mathlib.Core.Path.{ap, ap₂, subst, sym, _∙_, _≡_}
 use Prim.Native.Nat.{_<_, _^_, ℕ, _≤_}
 use native.Mathlib.Decide.{ℕ-discrete}
 use lib.Dec.{lit<}
@@ -10,11 +10,12 @@ use lib.ListN.{getD, length}
 use Rattle.buffers.proofs.Lines.{Numbered, more-accepted, more-refused, none-fits, not-held, passed}
 use Rattle.buffers.proofs.Reaching.{below-all}
 use Rattle.buffers.specs.Refusals.{badCount, firstFitting, reaching}
-use Rattle.pauli.specs.Pauli.{imaginary, minus}
+use Rattle.pauli.proofs.PhaseLaws.{minus-real}
+use Rattle.words.proofs.Flags.{neither}
 use Rattle.words.specs.Bits.{isOdd}
 use Rattle.stabilizer.proofs.EarlyLines.{list-lengths-are}
 use Rattle.stabilizer.proofs.Pairs.{word-within}
-use Rattle.stabilizer.proofs.SharedTests.{below-passes, count-passes, counted, length-passes, neither}
+use Rattle.stabilizer.proofs.SharedTests.{below-passes, count-passes, counted, length-passes}
 use Rattle.stabilizer.proofs.Verdicts.{independent-exactly, not-clashing, not-dependent}
 use Rattle.stabilizer.specs.Groups.{Commuting, Proper, Within}
 use Rattle.stabilizer.specs.Lists.{
@@ -99,15 +100,11 @@ early-accepted l others e =
       formed = F;
       commuting =
           record {
-            signed = λ j k. minus-signed (isOdd (getD (l .signs) j 0));
+            signed = λ j k. minus-real (isOdd (getD (l .signs) j 0));
             commute = not-clashing (l .n) (rows l) .0 (P .clash);
           };
       within = formed-within l F;
     }
-  where
-    minus-signed : (s : Bool) → imaginary (minus s) ≡ false
-    minus-signed false = refl
-    minus-signed true = refl
 
 -- the early lines have numbers other than 0
 pub early-numbered : (l : GeneratorList) (others : Bool) → Numbered (earlyLines l others)

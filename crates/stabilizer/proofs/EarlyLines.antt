@@ -7,8 +7,9 @@ use lib.ListN.{length}
 use Rattle.buffers.proofs.Lines.{fits, none-fits, passed}
 use Rattle.buffers.specs.Refusals.{badCount, firstFitting, otherThan, reaching}
 use Rattle.pauli.specs.Pauli.{anticommute}
+use Rattle.words.proofs.Flags.{neither}
 use Rattle.stabilizer.proofs.Pairs.{lettersOf}
-use Rattle.stabilizer.proofs.SharedTests.{counted, has-length, neither}
+use Rattle.stabilizer.proofs.SharedTests.{counted, has-length}
 use Rattle.stabilizer.specs.Lists.{
   GeneratorList,
   clashing,

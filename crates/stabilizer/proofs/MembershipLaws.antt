@@ -1,6 +1,6 @@
 -- The membership test is true of the elements of the group and of nothing else.
 -- Assumes nothing.
-use mathlib.Core.Bool.{_&&_, Bool, false, false≢true, true}
+use mathlib.Core.Bool.{_&&_, Bool, true}
 use mathlib.Core.Logic.{inl, inr, _↔_, _⊎_}
 use mathlib.Core.Path.{ap, ap₂, refl, subst, sym, _∙_, _≡_}
 use Prim.Native.Nat.{_<_, _^_, ℕ, _≤_}
@@ -9,24 +9,14 @@ use Rattle.pauli.proofs.PauliLaws.{Pauli-path}
 use Rattle.pauli.proofs.PhaseLaws.{samePhase→≡}
 use Rattle.pauli.specs.Pauli.{Pauli, Phase, identity, i², i³, i¹, i⁰, mul, samePhase}
 use Rattle.words.proofs.BitLaws.{bit-wordOf, wordOf-lt}
-use Rattle.words.proofs.Finite.{sameBit→≡}
+use Rattle.words.proofs.Flags.{both-true, sameBit-refl, true-sameBit}
 use Rattle.words.proofs.SearchLaws.{every-at, every-in, some-in, some-true}
 use Rattle.words.proofs.Sums.{fold-ext, lt-or-ge}
 use Rattle.words.specs.Bits.{bit, sameBit, wordOf}
 use Rattle.words.specs.Search.{every, first}
 use Rattle.stabilizer.proofs.Within.{product-within}
 use Rattle.stabilizer.specs.Groups.{InGroup, Within, chosen, product}
-use Rattle.stabilizer.specs.Lists.{rows}
 use Rattle.stabilizer.specs.Membership.{equalBelow, member}
-
--- both of two tests are true
-pub both-true : (a b : Bool) → (a && b) ≡ true → (a ≡ true) × (b ≡ true)
-both-true true b e = (refl, e)
-both-true false b e = absurd (false≢true e)
-
-bit-same : (b : Bool) → sameBit b b ≡ true
-bit-same false = refl
-bit-same true = refl
 
 phase-same : (t : Phase) → samePhase t t ≡ true
 phase-same i⁰ = refl
@@ -34,14 +24,11 @@ phase-same i¹ = refl
 phase-same i² = refl
 phase-same i³ = refl
 
-same-bit : (a b : Bool) → sameBit a b ≡ true → a ≡ b
-same-bit a b e = sameBit→≡ a b (subst T {x = true} (sym e) tt)
-
 equal-self : (n : ℕ) (p : Pauli) → equalBelow n p p ≡ true
 equal-self n p =
-    ap₂ _&&_ (phase-same (p .phase)) (every-in n _ (λ q l. ap₂ _&&_ (bit-same (p .z q)) (bit-same (p .x q))))
+    ap₂ _&&_ (phase-same (p .phase)) (every-in n _ (λ q l. ap₂ _&&_ (sameBit-refl (p .z q)) (sameBit-refl (p .x q))))
 
-pub equal-is : (n : ℕ) (p r : Pauli) → Within n p → Within n r → equalBelow n p r ≡ true → p ≡ r
+equal-is : (n : ℕ) (p r : Pauli) → Within n p → Within n r → equalBelow n p r ≡ true → p ≡ r
 equal-is n p r P R e =
     Pauli-path (samePhase→≡ (p .phase) (r .phase) (subst T {x = true} (sym (b .0)) tt))
     (λ q. at-z q (lt-or-ge q n)) (λ q. at-x q (lt-or-ge q n))
@@ -57,11 +44,11 @@ equal-is n p r P R e =
         (every-at n agree (b .1) q l)
 
     at-z : (q : ℕ) → (q < n) ⊎ (n ≤ q) → p .z q ≡ r .z q
-    at-z q (inl l) = same-bit (p .z q) (r .z q) (place q l .0)
+    at-z q (inl l) = true-sameBit (p .z q) (r .z q) (place q l .0)
     at-z q (inr l) = P .no-z q l ∙ sym (R .no-z q l)
 
     at-x : (q : ℕ) → (q < n) ⊎ (n ≤ q) → p .x q ≡ r .x q
-    at-x q (inl l) = same-bit (p .x q) (r .x q) (place q l .1)
+    at-x q (inl l) = true-sameBit (p .x q) (r .x q) (place q l .1)
     at-x q (inr l) = P .no-x q l ∙ sym (R .no-x q l)
 
 module _ (n : ℕ) (rows : ℕ → Pauli) where

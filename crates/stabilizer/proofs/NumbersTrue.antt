@@ -1,13 +1,12 @@
--- "a number comes back only where its line below is true", of any lines.
+-- A number comes back from the lines of a list only where its line is true.
 -- Assumes nothing.
-use mathlib.Core.Bool.{_&&_, Bool, and-false, cond, false, or-false, true, _||_}
-use mathlib.Core.List.{List, [], _∷_}
-use mathlib.Core.Path.{ap, subst, sym, _∙_, _≡_}
-use Prim.Native.Nat.{_<_, ℕ}
-use native.Mathlib.Nat.{lt-irrefl}
-use lib.Dec.{eqb, lit<}
-use borrow.Author.Tests.{eq-eqb}
-use Rattle.buffers.specs.Refusals.{Line, badCount, firstFitting}
+use mathlib.Core.Bool.{Bool, or-false, true, _||_}
+use mathlib.Core.List.{[]}
+use mathlib.Core.Path.{sym, _∙_, _≡_}
+use Prim.Native.Nat.{ℕ}
+use lib.Dec.{lit<}
+use Rattle.buffers.proofs.Lines.{only-where-true}
+use Rattle.buffers.specs.Refusals.{badCount, firstFitting}
 use Rattle.stabilizer.specs.Lists.{
   GeneratorList,
   clashing,
@@ -18,21 +17,6 @@ use Rattle.stabilizer.specs.Lists.{
   listStray,
   rows,
 }
-
--- some line with this number is true
-abbrev pub trueOf : ℕ → List Line → Bool
-trueOf k [] = false
-trueOf k (l ∷ ls) = (eqb (l .number) k && l .holds) || trueOf k ls
-
-pub only-where-true : (ls : List Line) (k : ℕ) → 0 < k → firstFitting ls ≡ k → trueOf k ls ≡ true
-unfolding firstFitting
-only-where-true [] k h e = absurd (lt-irrefl 0 (subst (λ m. 0 < m) (sym e) h))
-only-where-true (l ∷ ls) k h e = go (l .holds) e (only-where-true ls k h)
-  where
-    go : (b : Bool) → cond b (l .number) (firstFitting ls) ≡ k → (firstFitting ls ≡ k → trueOf k ls ≡ true) →
-        ((eqb (l .number) k && b) || trueOf k ls) ≡ true
-    go true e rest = ap (λ v. (v && true) || trueOf k ls) (eq-eqb (l .number) k e)
-    go false e rest = ap (λ v. v || trueOf k ls) (and-false (eqb (l .number) k)) ∙ rest e
 
 -- the lines of a list
 pub record ListNumbers (l : GeneratorList) (others : Bool) (r : ℕ) : Type 0 where

@@ -1,62 +1,21 @@
 -- Line 9 by pairs: each generator is tested against the ones before it, on whole words.
 -- Assumes nothing.
-use mathlib.Core.Bool.{Bool, false, true, _||_}
+use mathlib.Core.Bool.{Bool, false}
 use mathlib.Core.List.{List}
-use mathlib.Core.Logic.{inl, inr}
-use mathlib.Core.Path.{ap, ap₂, refl, subst, sym, _∙_, _≡_}
-use Prim.Native.Nat.{_<_, _^_, suc, zero, ℕ, _≤_}
-use native.Mathlib.Nat.{eq-or-lt-of-le, lt-trans}
-use native.Mathlib.Omega.{arith}
+use mathlib.Core.Path.{subst, sym, _∙_, _≡_}
+use Prim.Native.Nat.{_<_, _^_, ℕ, _≤_}
+use native.Mathlib.Nat.{lt-trans}
 use lib.ListN.{getD, length}
 use Rattle.buffers.proofs.Reaching.{below-all}
 use Rattle.buffers.specs.Refusals.{reaching}
-use Rattle.pauli.proofs.PauliLaws.{anticommute-swap}
-use Rattle.pauli.specs.Pauli.{Pauli, Phase, anticommute, clash, i⁰, letter, row}
+use Rattle.pauli.proofs.PauliLaws.{anticommute-self, anticommute-swap}
+use Rattle.pauli.specs.Pauli.{Pauli, Phase, anticommute, i⁰, row}
 use Rattle.words.proofs.BitLaws.{bit-above}
-use Rattle.words.proofs.Finite.{bits}
-use Rattle.words.proofs.SearchLaws.{some-false, some-in, some-none, some-true}
-use Rattle.words.proofs.Sums.{bitMonoid, fold-unit, lt-or-ge}
-use Rattle.words.specs.Bits.{_⊕_}
-use Rattle.words.specs.Search.{first, some}
+use Rattle.words.proofs.SearchLaws.{some-ext, some-pairs}
+use Rattle.words.specs.Search.{some}
 use Rattle.stabilizer.proofs.Within.{anticommute-wide}
 use Rattle.stabilizer.specs.Groups.{Within}
 use Rattle.stabilizer.specs.Lists.{clashing}
-
--- ---- searches
-pub some-ext : (b : ℕ) (f g : ℕ → Bool) → ((i : ℕ) → i < b → f i ≡ g i) → some b f ≡ some b g
-unfolding some
-some-ext zero f g h = refl
-some-ext (suc b) f g h = ap₂ _||_ (some-ext b f g (λ i l. h i (omega arith))) (h b (omega arith))
-
--- of a symmetric test that no number passes with itself, the pairs j < i are enough
-pub some-pairs : (n : ℕ) (f : ℕ → ℕ → Bool) → ((i j : ℕ) → f i j ≡ f j i) → ((i : ℕ) → f i i ≡ false) →
-    some n (λ i. some n (f i)) ≡ some n (λ i. some i (f i))
-some-pairs n f symmetric self = go (some n (λ i. some i (f i))) refl
-  where
-    none : some n (λ i. some i (f i)) ≡ false → (i j : ℕ) → i < n → j < n → f i j ≡ false
-    none e i j k l = elim (lt-or-ge j i) [
-      | inl h ↦ some-false i (f i) (some-false n (λ i. some i (f i)) e i k) j h
-      | inr h ↦ elim (eq-or-lt-of-le h) [
-        | inl p ↦ ap (f i) (sym p) ∙ self i
-        | inr m ↦ symmetric i j ∙ some-false j (f j) (some-false n (λ i. some i (f i)) e j l) i m
-      ]
-    ]
-
-    go : (v : Bool) → some n (λ i. some i (f i)) ≡ v → some n (λ i. some n (f i)) ≡ v
-    go true e =
-        let F = some-true n (λ i. some i (f i)) e in
-        let G = some-true (first n (λ i. some i (f i))) (f (first n (λ i. some i (f i)))) (F .passes) in
-        some-in n (λ i. some n (f i)) _ (F .below)
-        (some-in n (f (first n (λ i. some i (f i)))) _ (lt-trans (G .below) (F .below)) (G .passes))
-    go false e = some-none n (λ i. some n (f i)) (λ i k. some-none n (f i) (λ j l. none e i j k l))
-
--- ---- generators
-pub anticommute-self : (n : ℕ) (p : Pauli) → anticommute n p p ≡ false
-unfolding anticommute
-anticommute-self n p = fold-unit false _⊕_ bitMonoid n (λ q l. clash-self (p .z q) (p .x q))
-  where
-    clash-self : (z x : Bool) → clash (letter z x) (letter z x) ≡ false
-    clash-self = bits 2 (λ z x. clash (letter z x) (letter z x)) (λ z x. false) tt
 
 -- the letters of generator j
 abbrev pub lettersOf : List ℕ → List ℕ → ℕ → Pauli

@@ -1,9 +1,8 @@
 -- What the tests say that the lines of lists and records share: the number of qubits, and a buffer's length.
 -- Assumes nothing.
-use mathlib.Core.Bool.{Bool, false, not, true, true≢false, _||_}
+use mathlib.Core.Bool.{false, not, _||_}
 use mathlib.Core.List.{List}
-use mathlib.Core.Logic.{inl, inr, _⊎_}
-use mathlib.Core.Path.{ap, ap₂, refl, sym, _≡_}
+use mathlib.Core.Path.{ap, ap₂, sym, _≡_}
 use Prim.Native.Nat.{_<_, zero-le, ℕ, _≤_}
 use native.Mathlib.Nat.{le-refl}
 use native.Mathlib.Omega.{arith}
@@ -13,14 +12,7 @@ use lib.ListN.{getD, length}
 use borrow.Author.Tests.{eq-eqb, eqb-false, eqb-true, le-ltb, lt-leb, ltb-false, ne-eqb, not-false}
 use Rattle.buffers.proofs.Reaching.{reaches-not}
 use Rattle.buffers.specs.Refusals.{badCount, otherThan, reaching}
-
-pub neither : (a b : Bool) → (a || b) ≡ false → (a ≡ false) × (b ≡ false)
-neither false b e = (refl, e)
-neither true b e = absurd (true≢false e)
-
-pub either : (a b : Bool) → (a || b) ≡ true → (a ≡ true) ⊎ (b ≡ true)
-either false b e = inr e
-either true b e = inl refl
+use Rattle.words.proofs.Flags.{neither}
 
 -- line 2 does not hold: n is 1 to 64
 pub counted : (n : ℕ) → badCount n ≡ false → (1 ≤ n) × (n ≤ 64)

@@ -9,6 +9,7 @@ use lib.Pow.{pow-pos}
 use borrow.Author.Tests.{eqb-false, eqb-true, not-false, not-true}
 use Rattle.pauli.specs.Pauli.{Pauli, anticommute, identity, mul}
 use Rattle.words.proofs.BitLaws.{bit-ext, bit-wordOf, wordOf-lt, zero-bit}
+use Rattle.words.proofs.Flags.{both-true}
 use Rattle.words.proofs.SearchLaws.{every-at, every-in, first-is, some-false, some-in, some-none, some-true}
 use Rattle.words.proofs.Sums.{fold-ext}
 use Rattle.words.specs.Bits.{Word, bit, wordOf}
@@ -74,13 +75,9 @@ unfolding dependent
 dependent-product n R e =
     let F = some-true (2 ^ n) (letterlessAt n R) e in
     let v = first (2 ^ n) (letterlessAt n R) in
-    let h = both (not (eqb v 0)) (letterless n (product n n (bit v) R)) (F .passes) in
+    let h = both-true (not (eqb v 0)) (letterless n (product n n (bit v) R)) (F .passes) in
     let s = some-bit n v (F .below) (λ z. eqb-false v 0 (not-true (eqb v 0) (h .0)) z) in
     (bit v, s .0, s .1, s .2, letterless-trivial n (product n n (bit v) R) .0 (h .1))
-  where
-    both : (a b : Bool) → (a && b) ≡ true → (a ≡ true) × (b ≡ true)
-    both true b e = (refl, e)
-    both false b e = absurd (false≢true e)
 
 pub dependent-not : (n : ℕ) (R : ℕ → Pauli) → dependent n R ≡ true → Independent n R → ⊥
 dependent-not n R e H =

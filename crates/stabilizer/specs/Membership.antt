@@ -6,7 +6,6 @@ use Rattle.pauli.specs.Pauli.{Pauli, samePhase}
 use Rattle.words.specs.Bits.{bit, sameBit}
 use Rattle.words.specs.Search.{every, some}
 use Rattle.stabilizer.specs.Groups.{product}
-use Rattle.stabilizer.specs.Lists.{rows}
 
 -- equal operators on n qubits: the same phase, and the same letters below n
 abbrev pub equalBelow : ℕ → Pauli → Pauli → Bool

@@ -5,7 +5,6 @@ use Prim.Native.Nat.{ℕ}
 use lib.ListN.{getD}
 use Rattle.pauli.specs.Pauli.{Pauli, signedRow}
 use Rattle.words.specs.Bits.{bit}
-use Rattle.stabilizer.specs.Lists.{rows}
 
 -- row j: its sign is bit j of the sign word; the identity past the array
 abbrev pub tableau : ℕ → List (List ℕ) → ℕ → Pauli

@@ -5,7 +5,7 @@ use buffers::strays;
 use pauli::clashes;
 ghost use mathlib.Core.Bool.{false};
 ghost use mathlib.Core.Path.{_≡_};
-ghost use Prim.Native.Nat.{ℕ, _<_, _≤_, _^_};
+ghost use Prim.Native.Nat.{_<_, _≤_, _^_};
 ghost use lib.ListN.{getD, length};
 ghost use Rattle.buffers.specs.Refusals.{firstFitting, reaching};
 ghost use Rattle.pauli.specs.Pauli.{anticommute, i⁰, row};

@@ -1,8 +1,8 @@
 // The print of a record and of a refusal, into a lent buffer.
 ghost use mathlib.Core.Path.{_≡_};
 ghost use mathlib.Core.List.{[], _∷_, _++_};
-ghost use Prim.Native.Nat.{ℕ, _+_, _*_, _<_, _≤_};
-ghost use lib.ListN.{length, getD};
+ghost use Prim.Native.Nat.{_+_, _<_, _≤_};
+ghost use lib.ListN.{length};
 ghost use Rattle.text.specs.Text.{hexDigit, hexText, decimal, space, recordLine, recordText, refusedText};
 ghost use Rattle.text.specs.Text.{Printed, Printable};
 

@@ -1,7 +1,7 @@
 // Reads the text of a generator list in blocks of any size. A scan is a few numbers; the first 64 lines go to lent
 // buffers.
 ghost use mathlib.Core.Path.{_≡_};
-ghost use Prim.Native.Nat.{_+_, _*_, _%_, _^_, _<_};
+ghost use Prim.Native.Nat.{_<_};
 ghost use Rattle.text.specs.Scan.{hexValue, push, moved, namesStep, signStep, zStep, xStep, oneMore, step};
 ghost use Rattle.text.specs.Scan.{begin, reading, fed, atSign, verdict};
 

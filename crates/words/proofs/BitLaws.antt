@@ -181,7 +181,7 @@ wordOf-lt (suc n) f =
     subst (λ k. wordOf n (λ q. f (suc q)) * 2 + digit (f 0) < k) (sym (pow-suc 2 n))
     (digits-lt (wordOf-lt n (λ q. f (suc q))) (digit-lt (f 0)))
 
-odd-digit : (b : Bool) → eqb (digit b) 1 ≡ b
+pub odd-digit : (b : Bool) → eqb (digit b) 1 ≡ b
 odd-digit false = refl
 odd-digit true = refl
 

@@ -1,4 +1,5 @@
 pub mod Finite
+pub mod Flags
 pub mod Sums
 pub mod SearchLaws
 pub mod BitLaws

@@ -1,17 +1,14 @@
 -- Searches over the numbers below a bound.
 -- Assumes nothing.
-use mathlib.Core.Bool.{_&&_, Bool, cond, false, false≢true, true, true≢false, _||_}
+use mathlib.Core.Bool.{_&&_, Bool, cond, false, or-true, true, true≢false, _||_}
 use mathlib.Core.Logic.{inl, inr, _⊎_}
 use mathlib.Core.Path.{ap, ap₂, refl, subst, sym, _∙_, _≡_}
 use Prim.Native.Nat.{_<_, suc, zero, ℕ, _≤_}
-use native.Mathlib.Nat.{not-suc-le-zero}
+use native.Mathlib.Nat.{eq-or-lt-of-le, lt-trans, not-suc-le-zero}
 use native.Mathlib.Omega.{arith}
+use Rattle.words.proofs.Flags.{both-true}
 use Rattle.words.proofs.Sums.{last-or, lt-or-ge}
 use Rattle.words.specs.Search.{IsFirst, every, first, some}
-
-or-r : (a : Bool) → (a || true) ≡ true
-or-r false = refl
-or-r true = refl
 
 pub some-in : (b : ℕ) (f : ℕ → Bool) (i : ℕ) → i < b → f i ≡ true → some b f ≡ true
 unfolding some
@@ -19,24 +16,16 @@ some-in zero f i l e = absurd (not-suc-le-zero l)
 some-in (suc b) f i l e = go (λ k. some-in b f i k e) (last-or l)
   where
     go : (i < b → some b f ≡ true) → (i ≡ b) ⊎ (i < b) → (some b f || f b) ≡ true
-    go ih (inl p) = ap (λ v. some b f || v) (ap f (sym p) ∙ e) ∙ or-r (some b f)
+    go ih (inl p) = ap (λ v. some b f || v) (ap f (sym p) ∙ e) ∙ or-true (some b f)
     go ih (inr k) = ap (λ v. v || f b) (ih k)
 
 pub every-at : (b : ℕ) (f : ℕ → Bool) → every b f ≡ true → (i : ℕ) → i < b → f i ≡ true
 unfolding every
 every-at zero f h i l = absurd (not-suc-le-zero l)
-every-at (suc b) f h i l = go (every-at b f (left (every b f) (f b) h) i) (last-or l)
+every-at (suc b) f h i l = go (every-at b f (both-true (every b f) (f b) h .0) i) (last-or l)
   where
-    left : (a c : Bool) → (a && c) ≡ true → a ≡ true
-    left true c e = refl
-    left false c e = absurd (false≢true e)
-
-    right : (a c : Bool) → (a && c) ≡ true → c ≡ true
-    right true c e = e
-    right false c e = absurd (false≢true e)
-
     go : (i < b → f i ≡ true) → (i ≡ b) ⊎ (i < b) → f i ≡ true
-    go ih (inl p) = ap f p ∙ right (every b f) (f b) h
+    go ih (inl p) = ap f p ∙ both-true (every b f) (f b) h .1
     go ih (inr k) = ih k
 
 pub every-in : (b : ℕ) (f : ℕ → Bool) → ((i : ℕ) → i < b → f i ≡ true) → every b f ≡ true
@@ -107,3 +96,31 @@ some-true b f e = go (first-is b f)
     go : IsFirst b f (first b f) ⊎ ((i : ℕ) → i < b → f i ≡ false) → IsFirst b f (first b f)
     go (inl F) = F
     go (inr none) = absurd (true≢false (sym e ∙ some-none b f none))
+
+-- searches agree where the tests do
+pub some-ext : (b : ℕ) (f g : ℕ → Bool) → ((i : ℕ) → i < b → f i ≡ g i) → some b f ≡ some b g
+unfolding some
+some-ext zero f g h = refl
+some-ext (suc b) f g h = ap₂ _||_ (some-ext b f g (λ i l. h i (omega arith))) (h b (omega arith))
+
+-- of a symmetric test that no number passes with itself, the pairs j < i are enough
+pub some-pairs : (n : ℕ) (f : ℕ → ℕ → Bool) → ((i j : ℕ) → f i j ≡ f j i) → ((i : ℕ) → f i i ≡ false) →
+    some n (λ i. some n (f i)) ≡ some n (λ i. some i (f i))
+some-pairs n f symmetric self = go (some n (λ i. some i (f i))) refl
+  where
+    none : some n (λ i. some i (f i)) ≡ false → (i j : ℕ) → i < n → j < n → f i j ≡ false
+    none e i j k l = elim (lt-or-ge j i) [
+      | inl h ↦ some-false i (f i) (some-false n (λ i. some i (f i)) e i k) j h
+      | inr h ↦ elim (eq-or-lt-of-le h) [
+        | inl p ↦ ap (f i) (sym p) ∙ self i
+        | inr m ↦ symmetric i j ∙ some-false j (f j) (some-false n (λ i. some i (f i)) e j l) i m
+      ]
+    ]
+
+    go : (v : Bool) → some n (λ i. some i (f i)) ≡ v → some n (λ i. some n (f i)) ≡ v
+    go true e =
+        let F = some-true n (λ i. some i (f i)) e in
+        let G = some-true (first n (λ i. some i (f i))) (f (first n (λ i. some i (f i)))) (F .passes) in
+        some-in n (λ i. some n (f i)) _ (F .below)
+        (some-in n (f (first n (λ i. some i (f i)))) _ (lt-trans (G .below) (F .below)) (G .passes))
+    go false e = some-none n (λ i. some n (f i)) (λ i k. some-none n (f i) (λ j l. none e i j k l))

@@ -1,7 +1,7 @@
 use mathlib.Core.Path.{refl, subst, sym}
 use Prim.Native.Nat.{_≤_}
 use borrow.Author.Needs.{needs}
-use Rattle.comparison.proofs.Flags.{not-false, not-true}
+use borrow.Author.Tests.{not-false, not-true}
 use Rattle.buffers.proofs.Parts.{part-long}
 use Rattle.compare_call.proofs.ReducedPairs.{
   choice-long,

@@ -1,7 +1,7 @@
 use Prim.Native.Nat.{_-_, zero-le, _≤_}
 use native.Mathlib.Omega.{arith}
 use borrow.Author.Needs.{needs}
-use Rattle.image.proofs.Mapping.{Mapped, mapped-start, mapped-store, zeros, zeros-long}
+use Rattle.buffers.proofs.Mapping.{Mapped, mapped-start, mapped-store, zeros, zeros-long}
 use Rattle.image.proofs.SignBytes.{SignAt}
 use Rattle.image.proofs.sign_bytes.Statement.{statement}
 use Rattle.image.proofs.sign_bytes.Tie as tie

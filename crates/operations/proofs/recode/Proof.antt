@@ -4,18 +4,19 @@ use native.Mathlib.Nat.{le-refl}
 use native.Mathlib.Omega.{arith}
 use lib.ListN.{length}
 use borrow.Author.Needs.{needs}
-use Rattle.operations.proofs.Recoding.{RecodedBelow, recode-done, recode-more, recode-start}
+use Rattle.buffers.proofs.Mapping.{Mapped, mapped-start}
+use Rattle.operations.proofs.Recoding.{RecodedAt, recode-done, recode-more}
 use Rattle.operations.proofs.recode.Statement.{statement}
 use Rattle.operations.proofs.recode.Tie as tie
 
 abbrev Inv-loop : tie.InvT-loop
-Inv-loop codes₀ a around q₀ codes q = RecodedBelow codes₀ a around codes q
+Inv-loop codes₀ a around q₀ codes q = Mapped (RecodedAt codes₀ a around) codes₀ codes q
 
 abbrev μ-loop : tie.MeasureT-loop
 μ-loop codes₀ a around q₀ codes q = length codes₀ - q
 
 loop-holds : tie.Need-loop-holds Inv-loop μ-loop
-loop-holds c = recode-start (c .before .args .codes .now) _ _
+loop-holds c = mapped-start _ (c .before .args .codes .now)
 
 slice-read-recoded-at : tie.Need-slice-read-recoded-at Inv-loop μ-loop
 slice-read-recoded-at c = search needs

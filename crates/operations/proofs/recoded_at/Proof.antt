@@ -1,8 +1,9 @@
 use mathlib.Core.Path.{_∙_, sym}
 use borrow.Author.Needs.{needs}
+use Rattle.clifford.proofs.CliffordLaws.{codeOf-cliffordOf}
 use Rattle.clifford.specs.Clifford.{cliffordOf}
 use Rattle.words.specs.Bits.{bit}
-use Rattle.operations.proofs.Recoding.{code-number, recoded-centre, recoded-neighbour, recoded-other}
+use Rattle.operations.proofs.Recoding.{recoded-centre, recoded-neighbour, recoded-other}
 use Rattle.operations.proofs.recoded_at.Statement.{statement}
 use Rattle.operations.proofs.recoded_at.Tie as tie
 
@@ -30,7 +31,7 @@ returns-3 : tie.Need-returns-3
 returns-3 c = let g = c .before .before .before .args in
     recoded-other (λ _. bit (g .around)) (g .a) (λ _. cliffordOf (g .code)) (g .q) _
     (c .before .before .if1 .left) (sym (c .before .has .ensures)
-    ∙ c .if2 .left) (sym (code-number (g .code) (c .before .before .before .pre .0)))
+    ∙ c .if2 .left) (sym (codeOf-cliffordOf (g .code) (c .before .before .before .pre .0)))
 
 pub recoded-at-spec : {M : Type 1} → statement M
 recoded-at-spec =

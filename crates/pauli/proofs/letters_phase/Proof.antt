@@ -23,8 +23,8 @@ add-result c = search needs
 returns : tie.Need-returns
 returns c = let a = c .before .before .args in (
   ap₂ (λ u v. (u + 2 * v) % 4) (c .before .count .ensures .0) (c .count2 .ensures .0)
-      ∙ sym (letters-exponent 64 (a .z) (a .x) (a .z2) (a .x2) (search needs) (search needs) (search needs) (search needs)
-      i⁰ i⁰),
+      ∙ sym (letters-exponent 64 (a .z) (a .x) (a .z2) (a .x2) (search needs) (search needs)
+      (search needs) (search needs) i⁰ i⁰),
   mod-lt _ (lit< tt),
 )
 

@@ -1,4 +1,4 @@
-use mathlib.Core.Path.{_∙_, ap, refl, subst, sym}
+use mathlib.Core.Path.{refl, subst, sym}
 use Prim.Native.Nat.{_<_}
 use native.Mathlib.Omega.{arith}
 use borrow.Author.Needs.{needs}

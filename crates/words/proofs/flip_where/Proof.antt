@@ -12,7 +12,8 @@ flip-requires c κs = search needs
 
 returns : tie.Need-returns
 returns c = let a = c .before .before .args in
-    bit-flip-where (a .w) (a .q) (a .b) _ (c .flip .ensures ∙ ap (λ b. cond b (bitXor (a .w) (2 ^ a .q)) (a .w)) (sym (c .before .if1 .taken)))
+    bit-flip-where (a .w) (a .q) (a .b) _ (c .flip .ensures
+    ∙ ap (λ b. cond b (bitXor (a .w) (2 ^ a .q)) (a .w)) (sym (c .before .if1 .taken)))
 
 returns-2 : tie.Need-returns-2
 returns-2 c = let a = c .before .args in

@@ -1,7 +1,6 @@
-use mathlib.Core.Path.{_∙_, ap, sym}
+use mathlib.Core.Path.{sym, _∙_}
 use mathlib.Core.Bool.{false, true}
 use borrow.Author.Needs.{needs}
-use Rattle.words.specs.Bits.{bit}
 use Rattle.words.proofs.Places.{bit-put-flipped, bit-put-kept}
 use Rattle.words.proofs.put_bit.Statement.{statement}
 use Rattle.words.proofs.put_bit.Tie as tie

@@ -1,5 +1,4 @@
 use mathlib.Core.Path.{_∙_, ap}
-use Prim.Native.Nat.{suc}
 use lib.Dec.{ltb, leb}
 use lib.Pow.{suc-ones}
 use borrow.Author.Needs.{needs}

@@ -3,9 +3,9 @@ use mathlib.Core.Path.{_∙_, sym}
 use Prim.Native.Nat.{_-_}
 use native.Mathlib.Omega.{arith}
 use borrow.Author.Needs.{needs}
+use borrow.Author.Tests.{not-false, not-true}
 use Rattle.clifford.specs.Vectors.{codesOf}
 use Rattle.comparison.specs.Setting.{generatorsOf}
-use Rattle.comparison.proofs.Flags.{not-false, not-true}
 use Rattle.comparison.proofs.RecordElements.{
   SentInto,
   all-sent,

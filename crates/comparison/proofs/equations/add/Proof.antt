@@ -1,5 +1,5 @@
 use lib.Bits.{bitXor}
-use Rattle.comparison.proofs.Flags.{unequal-bits}
+use Rattle.words.proofs.Finite.{unequal}
 use Rattle.comparison.proofs.equations.add.Statement.{statement}
 use Rattle.comparison.proofs.equations.add.Tie as tie
 
@@ -11,7 +11,7 @@ returns c =
       b = bitXor (a .e .b) (a .f .b);
       c = bitXor (a .e .c) (a .f .c);
       d = bitXor (a .e .d) (a .f .d);
-      sum = unequal-bits (a .e .sum) (a .f .sum) i;
+      sum = unequal (a .e .sum) (a .f .sum) i;
     }
 
 pub add-spec : {M : Type 1} → statement M

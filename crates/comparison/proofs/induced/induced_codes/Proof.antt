@@ -1,23 +1,22 @@
-use mathlib.Core.Path.{_∙_, _≡_, refl, sym}
+use mathlib.Core.Path.{refl}
 use Prim.Native.Nat.{_-_}
 use native.Mathlib.Omega.{arith}
-use lib.ListN.{length, length-set}
+use lib.ListN.{length}
 use borrow.Author.Needs.{needs}
+use Rattle.buffers.proofs.Filling.{Filled, fill-end, fill-start, fill-step}
 use Rattle.comparison.specs.Compared.{inducedCode}
-use Rattle.buffers.proofs.Tabulate.{tabulate-is}
-use Rattle.comparison.proofs.Filling.{Filled, all-filled, none-filled, one-filled}
 use Rattle.comparison.proofs.induced.induced_codes.Statement.{statement}
 use Rattle.comparison.proofs.induced.induced_codes.Tie as tie
 
 abbrev Inv-loop : tie.InvT-loop
-Inv-loop first choice second induced₀ q₀ induced q = (length induced ≡ length induced₀)
-    × Filled 0 (length induced₀) (λ q c. c ≡ inducedCode first choice second q) q induced
+Inv-loop first choice second induced₀ q₀ induced q =
+    Filled (length induced₀) (inducedCode first choice second) induced q
 
 abbrev μ-loop : tie.MeasureT-loop
 μ-loop first choice second induced₀ q₀ induced q = length induced₀ - q
 
 loop-holds : tie.Need-loop-holds Inv-loop μ-loop
-loop-holds c = (refl, none-filled 0 _ _ _)
+loop-holds c = fill-start _ _ _ refl
 
 shared-slice-read-induced-code : tie.Need-shared-slice-read-induced-code Inv-loop μ-loop
 shared-slice-read-induced-code c = search needs
@@ -43,19 +42,15 @@ add-q c = search needs
 loop-less : tie.Need-loop-less Inv-loop μ-loop
 loop-less c = omega (
   arith,
-  c .before .before .before .before .before .loop .inv .0,
+  c .before .before .before .before .before .loop .inv .long,
   c .before .before .before .before .loop-test .taken,
 )
 
 loop-again : tie.Need-loop-again Inv-loop μ-loop
 loop-again c =
     let l = c .before .before .before .before .before .loop in
-    let more = c .before .before .before .before .loop-test .taken in (
-      length-set (l .induced) (l .q) _
-          ∙ l .inv .0,
-      one-filled 0 _ _ (l .q) (l .induced) (l .inv .1) (omega (arith, more, l .inv .0)) more _
-          (c .induced-code .ensures),
-    )
+    let more = c .before .before .before .before .loop-test .taken in
+    fill-step _ _ (l .induced) (l .q) _ (l .inv) (omega (arith, more, l .inv .long)) (c .induced-code .ensures)
 
 same-length : tie.Need-same-length Inv-loop μ-loop
 same-length c = search needs
@@ -63,8 +58,7 @@ same-length c = search needs
 returns : tie.Need-returns Inv-loop μ-loop
 returns c =
     let l = c .before .loop in
-    tabulate-is _ _ (l .induced) (l .inv .0)
-    (all-filled 0 _ _ (l .q) (l .induced) (l .inv .1) (omega (arith, c .loop-test .left, l .inv .0)))
+    fill-end _ _ (l .induced) (l .q) (l .inv) (omega (arith, c .loop-test .left, l .inv .long))
 
 pub induced-codes-spec : {M : Type 1} → statement M
 induced-codes-spec =

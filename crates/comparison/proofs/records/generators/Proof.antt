@@ -4,7 +4,7 @@ use native.Mathlib.Omega.{arith}
 use lib.ListN.{length, length-set}
 use borrow.Author.Needs.{needs}
 use Rattle.pauli.specs.Rows.{generatorOf}
-use Rattle.record.specs.Lent.{LentRecord, heldRows}
+use Rattle.record.specs.Lent.{heldRows}
 use Rattle.comparison.specs.Setting.{noGenerator}
 use Rattle.comparison.proofs.ComparedRecords.{generator-sent}
 use Rattle.comparison.proofs.Filling.{Filled, all-filled, none-filled, one-filled}

@@ -2,8 +2,8 @@ use mathlib.Core.Bool.{false≢true}
 use Prim.Native.Nat.{_-_}
 use native.Mathlib.Omega.{arith}
 use borrow.Author.Needs.{needs}
+use borrow.Author.Tests.{not-false}
 use Rattle.comparison.proofs.EquationTables.{ShutBelow, all-shut, none-shut, one-shut}
-use Rattle.comparison.proofs.Flags.{not-false}
 use Rattle.comparison.proofs.tables.shut.Statement.{statement}
 use Rattle.comparison.proofs.tables.shut.Tie as tie
 

@@ -3,8 +3,8 @@ use Prim.Native.Nat.{_-_, zero-le, _≤_}
 use native.Mathlib.Omega.{arith}
 use lib.ListN.{length}
 use borrow.Author.Needs.{needs}
+use Rattle.buffers.proofs.Mapping.{Mapped, mapped-end, mapped-start, mapped-store}
 use Rattle.image.proofs.EdgeWords.{EdgesAt, edges-above}
-use Rattle.image.proofs.Mapping.{Mapped, mapped-end, mapped-start, mapped-store}
 use Rattle.image.proofs.complementing.flip_edges.Statement.{statement}
 use Rattle.image.proofs.complementing.flip_edges.Tie as tie
 

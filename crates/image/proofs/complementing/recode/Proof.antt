@@ -3,7 +3,7 @@ use Prim.Native.Nat.{_-_, zero-le, _≤_}
 use native.Mathlib.Omega.{arith}
 use lib.ListN.{length}
 use borrow.Author.Needs.{needs}
-use Rattle.image.proofs.Mapping.{Mapped, mapped-end, mapped-start, mapped-store}
+use Rattle.buffers.proofs.Mapping.{Mapped, mapped-end, mapped-start, mapped-store}
 use Rattle.image.proofs.Recoding.{CodeAt, code-here, codes-above}
 use Rattle.image.proofs.complementing.recode.Statement.{statement}
 use Rattle.image.proofs.complementing.recode.Tie as tie
