@@ -16,9 +16,8 @@ use Rattle.graph.specs.Graph.{Simple}
 use Rattle.image.proofs.Accepted.{image-group, image-unsigned}
 use Rattle.image.proofs.Exactly.{refused-exactly}
 use Rattle.image.proofs.TrackedBits.{image-length, image-simple}
-use Rattle.image.specs.Image.{imageGraph, imageMinus, imageRecord, loopLines, looped, stuck}
+use Rattle.image.specs.Image.{imageGraph, imageMinus, imageRecord, loopLines, looped, stuck, wordGraph}
 use Rattle.image.specs.Rule.{imageList}
-use Rattle.image.specs.Working.{wordGraph}
 use Rattle.pauli.specs.Pauli.{i⁰, minus, scaled}
 use Rattle.record.proofs.AcceptedRecords.{accepted-record}
 use Rattle.record.specs.Lent.{LentRecord, heldRecord, heldRows, neighbourWords, recordLines}

@@ -9,9 +9,8 @@ use lib.Dec.{eqb}
 use lib.ListN.{drop, getD, length, take}
 use Rattle.buffers.specs.Refusals.{firstFitting, otherThan}
 use Rattle.graph.specs.Graph.{graphGenerator}
-use Rattle.image.specs.Image.{UnsignedGraph}
+use Rattle.image.specs.Image.{UnsignedGraph, wordGraph}
 use Rattle.image.specs.Rule.{imageList}
-use Rattle.image.specs.Working.{wordGraph}
 use Rattle.pauli.specs.Pauli.{Pauli, minus, scaled}
 use Rattle.record.specs.Lent.{LentRecord, heldRecord, heldRows, recordLines}
 use Rattle.stabilizer.specs.Groups.{SameGroup}

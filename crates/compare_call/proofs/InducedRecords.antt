@@ -12,8 +12,8 @@ use Rattle.clifford.proofs.CliffordLaws.{codeOf-lt}
 use Rattle.clifford.specs.Clifford.{inverse, then}
 use Rattle.clifford.specs.Vectors.{codesOf}
 use Rattle.comparison.specs.Compared.{inducedCode}
-use Rattle.image.specs.Answer.{IsImage}
-use Rattle.image.specs.declared.ImageAnswer.{ImageAnswer}
+use Rattle.image_answer.specs.Answer.{IsImage}
+use Rattle.image_answer.specs.declared.ImageAnswer.{ImageAnswer}
 use Rattle.record.proofs.ReducedRecords.{record-proper}
 use Rattle.record.specs.Accepted.{AcceptedRecord}
 use Rattle.record.specs.Lent.{heldRecord}

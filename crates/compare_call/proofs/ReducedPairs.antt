@@ -20,9 +20,9 @@ use Rattle.comparison.specs.Choices.{choice, digitAt, leastCode, leastNumber, n
 use Rattle.comparison.specs.Compared.{induced, inducedCode}
 use Rattle.comparison.specs.Searches.{LeastAnswer}
 use Rattle.comparison.specs.Setting.{Codes, heldGenerators}
-use Rattle.image.specs.Answer.{IsImage}
+use Rattle.image_answer.specs.Answer.{IsImage}
 use Rattle.image.specs.Rule.{imageList}
-use Rattle.image.specs.declared.ImageAnswer.{ImageAnswer}
+use Rattle.image_answer.specs.declared.ImageAnswer.{ImageAnswer}
 use Rattle.pauli.specs.Pauli.{Pauli}
 use Rattle.record.proofs.AcceptedRecords.{accepted-record}
 use Rattle.record.proofs.Unique.{record-path}

@@ -9,15 +9,3 @@ pub mod Signs
 pub mod Unsigned
 pub mod Accepted
 pub mod Exactly
-pub mod EdgeWords
-pub mod Recoding
-pub mod Stepping
-pub mod StepLists
-pub mod Searching
-pub mod WordMoves
-pub mod Rounds
-pub mod KindsOfRound
-pub mod CodeBits
-pub mod SignBytes
-pub mod Beginning
-pub mod Answering

@@ -1,4 +1,2 @@
 pub mod Rule
 pub mod Image
-pub mod Working
-pub mod Answer

@@ -12,9 +12,9 @@ use Rattle.buffers.proofs.Lines.{more-accepted, more-refused, not-held}
 use Rattle.buffers.proofs.Tabulate.{tabulate-cong}
 use Rattle.buffers.specs.Buffers.{tabulate, written}
 use Rattle.buffers.specs.Refusals.{firstFitting, otherThan}
-use Rattle.image.specs.Answer.{IsImage}
+use Rattle.image_answer.specs.Answer.{IsImage}
 use Rattle.image.specs.Image.{imageLines, loopLines}
-use Rattle.image.specs.declared.ImageAnswer.{ImageAnswer}
+use Rattle.image_answer.specs.declared.ImageAnswer.{ImageAnswer}
 use Rattle.record.proofs.AcceptedRecords.{accepted-record}
 use Rattle.record.proofs.RecordLines.{record-numbered}
 use Rattle.record.specs.Accepted.{AcceptedRecord}

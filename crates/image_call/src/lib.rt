@@ -3,7 +3,7 @@ use buffers::copy_bytes;
 use buffers::copy_list;
 use buffers::copy_words;
 use buffers::other_than;
-use image::image_answer;
+use image_answer::image_answer;
 use record::record_refusal;
 ghost use Rattle.image_call.specs.Images.{Imaged};
 

@@ -1,0 +1,3 @@
+pub mod SignBytes
+pub mod Beginning
+pub mod Answering

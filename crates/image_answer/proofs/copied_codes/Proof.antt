@@ -1,0 +1,56 @@
+use mathlib.Core.Path.{refl}
+use Prim.Native.Nat.{_-_, zero-le, _≤_}
+use native.Mathlib.Omega.{arith}
+use lib.ListN.{length}
+use borrow.Author.Needs.{needs}
+use Rattle.buffers.proofs.Mapping.{CopyOf, Mapped, copied-all, mapped-start, mapped-store, zeros, zeros-long}
+use Rattle.image_answer.proofs.copied_codes.Statement.{statement}
+use Rattle.image_answer.proofs.copied_codes.Tie as tie
+
+abbrev Inv-loop : tie.InvT-loop
+Inv-loop lent codes₀ i₀ codes i = (i ≤ length lent) × Mapped (CopyOf lent) (zeros 64) codes i
+
+abbrev μ-loop : tie.MeasureT-loop
+μ-loop lent codes₀ i₀ codes i = length lent - i
+
+loop-holds : tie.Need-loop-holds Inv-loop μ-loop
+unfolding zeros
+loop-holds c = (zero-le, mapped-start (CopyOf (c .args .lent .now)) (zeros 64))
+
+shared-slice-read-codes : tie.Need-shared-slice-read-codes Inv-loop μ-loop
+shared-slice-read-codes c = search needs
+
+array-write-codes : tie.Need-array-write-codes Inv-loop μ-loop
+array-write-codes c = search needs
+
+add-i : tie.Need-add-i Inv-loop μ-loop
+add-i c = search needs
+
+loop-less : tie.Need-loop-less Inv-loop μ-loop
+loop-less c = search needs
+
+loop-again : tie.Need-loop-again Inv-loop μ-loop
+loop-again c =
+    let l = c .before .before .loop in (
+      omega arith,
+      mapped-store (CopyOf (c .before .before .before .args .lent .now)) (zeros 64) (l .codes)
+          (l .i) _ (l .inv .1) (omega (arith, zeros-long 64)) refl,
+    )
+
+returns : tie.Need-returns Inv-loop μ-loop
+returns c = copied-all 64 (c .before .before .args .lent .now) (c .before .loop .codes) (c .before .loop .i)
+    (c .before .loop .inv .1) (omega arith) (omega arith)
+
+pub copied-codes-spec : {M : Type 1} → statement M
+copied-codes-spec =
+    tie.close
+    (tie.spec
+    Inv-loop
+    μ-loop
+    loop-holds
+    shared-slice-read-codes
+    array-write-codes
+    add-i
+    loop-less
+    loop-again
+    returns)

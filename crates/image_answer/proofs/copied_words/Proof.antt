@@ -1,0 +1,64 @@
+use mathlib.Core.Path.{refl}
+use Prim.Native.Nat.{_-_, zero-le, _≤_}
+use native.Mathlib.Omega.{arith}
+use lib.ListN.{length}
+use borrow.Author.Needs.{needs}
+use Rattle.buffers.proofs.Mapping.{CopyOf, Mapped, copied-all, mapped-start, mapped-store, zeros, zeros-long}
+use Rattle.image_answer.proofs.copied_words.Statement.{statement}
+use Rattle.image_answer.proofs.copied_words.Tie as tie
+
+abbrev Inv-loop : tie.InvT-loop
+Inv-loop lent words₀ i₀ words i = (i ≤ length lent) × Mapped (CopyOf lent) (zeros 64) words i
+
+abbrev μ-loop : tie.MeasureT-loop
+μ-loop lent words₀ i₀ words i = length lent - i
+
+loop-holds : tie.Need-loop-holds Inv-loop μ-loop
+unfolding zeros
+loop-holds c = (zero-le, mapped-start (CopyOf (c .args .lent .now)) (zeros 64))
+
+mul-words : tie.Need-mul-words Inv-loop μ-loop
+mul-words c = search needs
+
+shared-slice-read-words : tie.Need-shared-slice-read-words Inv-loop μ-loop
+shared-slice-read-words c = search needs
+
+mul-words-2 : tie.Need-mul-words-2 Inv-loop μ-loop
+mul-words-2 c = search needs
+
+array-write-words : tie.Need-array-write-words Inv-loop μ-loop
+array-write-words c = search needs
+
+add-i : tie.Need-add-i Inv-loop μ-loop
+add-i c = search needs
+
+loop-less : tie.Need-loop-less Inv-loop μ-loop
+loop-less c = search needs
+
+loop-again : tie.Need-loop-again Inv-loop μ-loop
+loop-again c =
+    let l = c .before .before .loop in (
+      omega arith,
+      mapped-store (CopyOf (c .before .before .before .args .lent .now)) (zeros 64) (l .words)
+          (l .i) _ (l .inv .1) (omega (arith, zeros-long 64)) refl,
+    )
+
+returns : tie.Need-returns Inv-loop μ-loop
+returns c = copied-all 64 (c .before .before .args .lent .now) (c .before .loop .words) (c .before .loop .i)
+    (c .before .loop .inv .1) (omega arith) (omega arith)
+
+pub copied-words-spec : {M : Type 1} → statement M
+copied-words-spec =
+    tie.close
+    (tie.spec
+    Inv-loop
+    μ-loop
+    loop-holds
+    mul-words
+    shared-slice-read-words
+    mul-words-2
+    array-write-words
+    add-i
+    loop-less
+    loop-again
+    returns)

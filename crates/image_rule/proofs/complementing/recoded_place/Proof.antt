@@ -1,0 +1,34 @@
+use mathlib.Core.Path.{_∙_}
+use native.Mathlib.Omega.{arith}
+use borrow.Author.Needs.{needs}
+use Rattle.image_rule.proofs.Recoding.{recoded-by}
+use Rattle.image_rule.proofs.complementing.recoded_place.Statement.{statement}
+use Rattle.image_rule.proofs.complementing.recoded_place.Tie as tie
+
+then-requires : tie.Need-then-requires
+then-requires c κs = search needs
+
+then-requires-2 : tie.Need-then-requires-2
+then-requires-2 c κs = search needs
+
+returns : tie.Need-returns
+returns c =
+    let a = c .before .before .args in (
+      recoded-by 13 (a .index) (c .then .result .index) (c .then .ensures .0)
+          ∙ simp (c .before .if1 .taken),
+      c .then .ensures .1,
+    )
+
+returns-2 : tie.Need-returns-2
+returns-2 c =
+    let a = c .before .before .before .args in (
+      recoded-by 6 (a .index) (c .then2 .result .index) (c .then2 .ensures .0)
+          ∙ simp (c .before .before .if1 .left, c .before .if2 .taken),
+      c .then2 .ensures .1,
+    )
+
+returns-3 : tie.Need-returns-3
+returns-3 c = (simp (c .before .if1 .left, c .if2 .left), omega arith)
+
+pub recoded-place-spec : {M : Type 1} → statement M
+recoded-place-spec = tie.close (tie.spec then-requires then-requires-2 returns returns-2 returns-3)
