@@ -8,7 +8,7 @@ use Rattle.comparison.specs.Compared.{pairLines}
 use Rattle.stabilizer.proofs.Accepted.{accepted-list}
 use Rattle.stabilizer.specs.Lists.{GeneratorList, listLines}
 use Rattle.compare_call.proofs.PairLines.{pair-number}
-use Rattle.compare_call.specs.ComparedPairs.{earlierOf}
+use Rattle.comparison_answer.specs.ComparedPairs.{earlierOf}
 use Rattle.claims.specs.ThirdDemand.{NoLineHolds}
 
 pub no-line-holds : NoLineHolds

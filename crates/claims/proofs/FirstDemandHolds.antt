@@ -39,7 +39,8 @@ use Rattle.stabilizer.proofs.SharedTests.{has-length}
 use Rattle.stabilizer.specs.Lists.{GeneratorList, listLengths, listLines, listOf, rows}
 use Rattle.record_calls.proofs.InPlaceLines.{held-accepted}
 use Rattle.list_calls.specs.Calls.{ExpandCall, ReduceCall, checkLines, expandLines, reduceLines}
-use Rattle.compare_call.specs.Comparisons.{CompareCall, compareList}
+use Rattle.compare_call.specs.Comparisons.{CompareCall}
+use Rattle.comparison_answer.specs.ComparedPairs.{compareList}
 use Rattle.image_call.specs.Images.{Imaged}
 use Rattle.record_calls.specs.InPlaceCalls.{InPlaceCall, MeasureCall}
 use Rattle.words.proofs.Flags.{neither}

@@ -42,8 +42,8 @@ use Rattle.stabilizer.specs.Lists.{
 }
 use Rattle.compare_call.proofs.Comparing.{counts-agree}
 use Rattle.compare_call.proofs.PairLines.{last-line, pair-numbered}
-use Rattle.compare_call.proofs.ReducedPairs.{least-held}
-use Rattle.compare_call.specs.Comparisons.{compareList, inducedRecord}
+use Rattle.comparison_answer.proofs.ReducedPairs.{least-held}
+use Rattle.comparison_answer.specs.ComparedPairs.{compareList, inducedRecord}
 use Rattle.words.proofs.Flags.{neither}
 use Rattle.claims.specs.ThirdDemand.{ComesBack, Decided, ThirdDemand, complementEach, listUnder}
 

@@ -36,7 +36,8 @@ use Rattle.record.specs.Records.{GraphRecord, complementRecord, rowsOf}
 use Rattle.record.specs.Reduced.{reduced}
 use Rattle.stabilizer.specs.Lists.{GeneratorList, listOf, rows}
 use Rattle.list_calls.specs.Calls.{CheckCall, ExpandCall, ReduceCall, checkLines, expandLines, reduceLines}
-use Rattle.compare_call.specs.Comparisons.{CompareCall, compareList}
+use Rattle.compare_call.specs.Comparisons.{CompareCall}
+use Rattle.comparison_answer.specs.ComparedPairs.{compareList}
 use Rattle.image_call.specs.Images.{Imaged}
 use Rattle.record_calls.specs.InPlaceCalls.{InPlaceCall, MeasureCall}
 use Rattle.words.specs.Bits.{digit, isOdd}

@@ -23,10 +23,10 @@ use Rattle.stabilizer.specs.Lists.{GeneratorList, listLengths, rows}
 use Rattle.words.proofs.Finite.{bits}
 use Rattle.words.proofs.Flags.{neither}
 use Rattle.compare_call.proofs.PairLines.{earlier-none, last-line, pair-number, pair-numbered}
-use Rattle.compare_call.proofs.ReducedPairs.{reduced-accepted}
+use Rattle.comparison_answer.proofs.ReducedPairs.{reduced-accepted}
 use Rattle.list_calls.specs.Calls.{ReduceCall}
-use Rattle.compare_call.specs.ComparedPairs.{HoldsReduced, PairAnswered, earlierOf}
-use Rattle.compare_call.specs.Comparisons.{CompareCall, compareList}
+use Rattle.comparison_answer.specs.ComparedPairs.{HoldsReduced, PairAnswered, compareList, earlierOf}
+use Rattle.compare_call.specs.Comparisons.{CompareCall}
 
 -- ---- two lists on n qubits, and the reductions of both
 module _ (n : ℕ) (s z x s₂ z₂ x₂ choice list : List ℕ) (positive : 1 ≤ n) (few : n ≤ 20)

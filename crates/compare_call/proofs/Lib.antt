@@ -1,4 +1,2 @@
 pub mod PairLines
-pub mod ReducedPairs
 pub mod Comparing
-pub mod InducedRecords

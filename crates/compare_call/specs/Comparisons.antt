@@ -7,26 +7,10 @@ use Prim.Native.Nat.{ℕ}
 use lib.ListN.{length}
 use Rattle.buffers.specs.Buffers.{accepted, acceptedNumber, tabulate, written}
 use Rattle.buffers.specs.Refusals.{firstFitting}
-use Rattle.clifford.specs.Clifford.{cliffordOf}
 use Rattle.comparison.specs.Choices.{leastCode}
-use Rattle.comparison.specs.Compared.{compareLines, induced}
-use Rattle.image.specs.Rule.{imageList}
-use Rattle.pauli.specs.Pauli.{Pauli}
-use Rattle.record.specs.Records.{GraphRecord}
-use Rattle.record.specs.Reduced.{reducedGraph}
+use Rattle.comparison.specs.Compared.{compareLines}
+use Rattle.comparison_answer.specs.ComparedPairs.{compareList}
 use Rattle.stabilizer.specs.Lists.{GeneratorList, rows}
-
--- the first reduced graph "under the codes that the choice induces between the two"
-abbrev pub inducedRecord : ℕ → (ℕ → Pauli) → (ℕ → Pauli) → GraphRecord
-inducedRecord n rows others =
-    record {
-      graph = reducedGraph n rows;
-      codes = induced n rows others (λ q. cliffordOf (leastCode n rows others q));
-    }
-
--- "The complementation list is that of the image rule, from the first reduced graph to the second"
-abbrev pub compareList : ℕ → (ℕ → Pauli) → (ℕ → Pauli) → List ℕ
-compareList n rows others = imageList n (inducedRecord n rows others)
 
 -- ---- sukhlent_compare: the least choice, the complementation list and its count
 pub record CompareCall (l m : GeneratorList) (choice list : List ℕ) (count r : ℕ) (choice′ list′ : List ℕ)

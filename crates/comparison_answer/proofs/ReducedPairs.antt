@@ -35,8 +35,7 @@ use Rattle.stabilizer.proofs.ReadBack.{table-past}
 use Rattle.stabilizer.specs.Groups.{SameGroup}
 use Rattle.words.proofs.Sums.{lt-or-ge}
 use Rattle.words.specs.Search.{first, some}
-use Rattle.compare_call.specs.ComparedPairs.{HoldsReduced, PairAnswered}
-use Rattle.compare_call.specs.Comparisons.{inducedRecord}
+use Rattle.comparison_answer.specs.ComparedPairs.{HoldsReduced, PairAnswered, inducedRecord}
 
 module _ (n : ℕ) (R : ℕ → Pauli) (nb cs : List ℕ) (H : HoldsReduced n R nb cs) where
   abbrev lent : LentRecord

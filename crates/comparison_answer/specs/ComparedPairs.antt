@@ -7,17 +7,32 @@ use Prim.Native.Nat.{ℕ}
 use lib.Dec.{eqb, ltb}
 use lib.ListN.{length}
 use Rattle.buffers.specs.Buffers.{accepted, acceptedNumber, tabulate, written}
+use Rattle.clifford.specs.Clifford.{cliffordOf}
 use Rattle.comparison.specs.Choices.{leastCode, noChoice}
+use Rattle.comparison.specs.Compared.{induced}
+use Rattle.image.specs.Rule.{imageList}
 use Rattle.pauli.specs.Pauli.{Pauli}
 use Rattle.record.specs.Lent.{codeNumbers, neighbourWords}
-use Rattle.record.specs.Reduced.{reduced}
+use Rattle.record.specs.Records.{GraphRecord}
+use Rattle.record.specs.Reduced.{reduced, reducedGraph}
 use Rattle.stabilizer.specs.Groups.{Proper}
-use Rattle.compare_call.specs.Comparisons.{compareList}
 
 -- the smaller of two numbers of lines, where 0 stands for none: "of the numbers found in either the first in
 -- checking order"
 abbrev pub earlierOf : ℕ → ℕ → ℕ
 earlierOf a b = cond (eqb a 0) b (cond (eqb b 0) a (cond (ltb a b) a b))
+
+-- the first reduced graph "under the codes that the choice induces between the two"
+abbrev pub inducedRecord : ℕ → (ℕ → Pauli) → (ℕ → Pauli) → GraphRecord
+inducedRecord n rows others =
+    record {
+      graph = reducedGraph n rows;
+      codes = induced n rows others (λ q. cliffordOf (leastCode n rows others q));
+    }
+
+-- "The complementation list is that of the image rule, from the first reduced graph to the second"
+abbrev pub compareList : ℕ → (ℕ → Pauli) → (ℕ → Pauli) → List ℕ
+compareList n rows others = imageList n (inducedRecord n rows others)
 
 -- buffers that hold the reduced record of these rows
 pub record HoldsReduced (n : ℕ) (R : ℕ → Pauli) (neighbours codes : List ℕ) : Type 0 where

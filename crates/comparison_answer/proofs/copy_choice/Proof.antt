@@ -4,8 +4,8 @@ use native.Mathlib.Omega.{arith}
 use lib.ListN.{getD, length}
 use borrow.Author.Needs.{needs}
 use Rattle.buffers.proofs.Filling.{Filled, fill-end, fill-start, fill-step}
-use Rattle.compare_call.proofs.copy_choice.Statement.{statement}
-use Rattle.compare_call.proofs.copy_choice.Tie as tie
+use Rattle.comparison_answer.proofs.copy_choice.Statement.{statement}
+use Rattle.comparison_answer.proofs.copy_choice.Tie as tie
 
 abbrev Inv-loop : tie.InvT-loop
 Inv-loop to₀ from i₀ to i = Filled (length to₀) (λ q. getD from q 0) to i

@@ -1,6 +1,6 @@
 use borrow.Author.Tests.{eq-eqb, le-ltb, lt-ltb, ne-eqb}
-use Rattle.compare_call.proofs.earlier.Statement.{statement}
-use Rattle.compare_call.proofs.earlier.Tie as tie
+use Rattle.comparison_answer.proofs.earlier.Statement.{statement}
+use Rattle.comparison_answer.proofs.earlier.Tie as tie
 
 returns : tie.Need-returns
 returns c = simp (eq-eqb _ _ (c .if1 .taken))

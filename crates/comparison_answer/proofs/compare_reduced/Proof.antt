@@ -3,15 +3,15 @@ use Prim.Native.Nat.{_≤_}
 use borrow.Author.Needs.{needs}
 use borrow.Author.Tests.{not-false, not-true}
 use Rattle.buffers.proofs.Parts.{part-long}
-use Rattle.compare_call.proofs.ReducedPairs.{
+use Rattle.comparison_answer.proofs.ReducedPairs.{
   choice-long,
   choice-written,
   chosen-codes,
   pair-accepted,
   pair-refused,
 }
-use Rattle.compare_call.proofs.compare_reduced.Statement.{statement}
-use Rattle.compare_call.proofs.compare_reduced.Tie as tie
+use Rattle.comparison_answer.proofs.compare_reduced.Statement.{statement}
+use Rattle.comparison_answer.proofs.compare_reduced.Tie as tie
 
 compare-records-requires : tie.Need-compare-records-requires
 compare-records-requires c κs = search needs

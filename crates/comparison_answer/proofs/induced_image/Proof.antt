@@ -1,8 +1,8 @@
 use mathlib.Core.Path.{sym, _∙_}
 use borrow.Author.Needs.{needs}
-use Rattle.compare_call.proofs.InducedRecords.{made-accepted, made-answer}
-use Rattle.compare_call.proofs.induced_image.Statement.{statement}
-use Rattle.compare_call.proofs.induced_image.Tie as tie
+use Rattle.comparison_answer.proofs.InducedRecords.{made-accepted, made-answer}
+use Rattle.comparison_answer.proofs.induced_image.Statement.{statement}
+use Rattle.comparison_answer.proofs.induced_image.Tie as tie
 
 induced-codes-requires : tie.Need-induced-codes-requires
 induced-codes-requires c κs = let q = c .before .before .before .before .before .before .pre in

@@ -1,0 +1,2 @@
+pub mod ReducedPairs
+pub mod InducedRecords
