@@ -1,11 +1,11 @@
 // The public calls that rewrite a lent record in place.
-use operations::complement_record;
-use operations::cz_record;
 use operations::determined_number;
-use operations::gate_record;
-use operations::measure_record;
 use operations::outcome_number;
-use operations::pivot_record;
+use operations_records::cz_record;
+use operations_records::gate_record;
+use operations_records::measure_record;
+use operations_rewriting::complement_record;
+use operations_rewriting::pivot_record;
 use record::record_refusal;
 use words::has;
 ghost use mathlib.Core.Path.{_≡_};

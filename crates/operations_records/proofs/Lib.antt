@@ -1,0 +1,3 @@
+pub mod ReadingOff
+pub mod AnswersInPlace
+pub mod GatedBuffers

@@ -1,0 +1,3 @@
+pub mod TableauLoops
+pub mod CzRows
+pub mod ProjectedRows
