@@ -1,8 +1,9 @@
-// CZ and measurements on a tableau: rows of a z word and an x word beside one word of signs.
+// CZ and measurements on a tableau, rows of a z word and an x word beside one word of signs; its reduced record.
 use pauli::Generator;
 use pauli::Letter;
 use pauli::x_bit;
 use pauli::z_bit;
+use reduction::reduce_tableau;
 use reduction::shear_rows;
 use words::flip_where;
 use words::has;
@@ -13,10 +14,13 @@ ghost use mathlib.Core.Bool.{_&&_, false};
 ghost use mathlib.Core.Path.{_≡_};
 ghost use Prim.Native.Nat.{ℕ, _<_, _≤_};
 ghost use lib.Dec.{eqb, ltb};
+ghost use lib.ListN.{length};
 ghost use Rattle.operations.specs.Cz.{cz};
 ghost use Rattle.operations.specs.Measurement.{isDetermined, measuredRows};
 ghost use Rattle.pauli.specs.Pauli.{clash, letter, letterAt};
 ghost use Rattle.pauli.specs.Rows.{generatorOf};
+ghost use Rattle.record.specs.Lent.{codeNumbers, neighbourWords};
+ghost use Rattle.record.specs.Reduced.{reduced};
 ghost use Rattle.reduction.specs.Passes.{Loaded};
 ghost use Rattle.stabilizer.specs.Groups.{Independent};
 ghost use Rattle.stabilizer.specs.Tableau.{tableau};
@@ -121,4 +125,19 @@ pub fn project_tableau(
     changed[p] = [bit_where(q, z_bit(l)), bit_where(q, x_bit(l))];
     *signs = put_bit(*signs, p, minus);
     changed
+}
+
+// Writes the reduced record of the tableau's group into the buffers.
+pub fn reduce_rows(rows: [[u64; 2]; 64], signs: u64, neighbours: &mut [u64], codes: &mut [u8])
+    requires { ⌜ (1 ≤ length (now neighbours)) × (length (now neighbours) ≤ 64)
+        × (length (now codes) ≡ length (now neighbours)) ⌝ }
+    requires { ⌜ Loaded (length (now neighbours)) (tableau signs rows) ⌝ }
+    requires { ⌜ Independent (length (now neighbours)) (tableau signs rows) ⌝ }
+    ensures { λ r. ⌜ now (neighbours .exit) ≡ neighbourWords (length (now (neighbours .entry)))
+        (reduced (length (now (neighbours .entry))) (tableau signs rows)) ⌝ }
+    ensures { λ r. ⌜ now (codes .exit) ≡ codeNumbers (length (now (neighbours .entry)))
+        (reduced (length (now (neighbours .entry))) (tableau signs rows)) ⌝ }
+{
+    let n = neighbours.len();
+    reduce_tableau(rows, signs, n, neighbours, codes);
 }

@@ -1,9 +1,9 @@
 // The public calls that rewrite a lent record in place.
 use operations::determined_number;
 use operations::outcome_number;
-use operations_records::cz_record;
-use operations_records::gate_record;
-use operations_records::measure_record;
+use operations_gates::cz_record;
+use operations_gates::gate_record;
+use operations_measurements::measure_record;
 use operations_rewriting::complement_record;
 use operations_rewriting::pivot_record;
 use record::record_refusal;

@@ -4,7 +4,7 @@
 use mathlib.Core.Bool.{_&&_, Bool, cond, false, not, true}
 use mathlib.Core.List.{List}
 use mathlib.Core.Logic.{inl, inr, _≢_}
-use mathlib.Core.Path.{ap, ap₂, fun-ext, subst, sym, _∙_, _≡_}
+use mathlib.Core.Path.{ap, ap₂, fun-ext, refl, subst, sym, _∙_, _≡_}
 use Prim.Native.Nat.{_<_, ℕ, _≤_}
 use native.Mathlib.Omega.{arith}
 use lib.Dec.{eqb}
@@ -14,27 +14,21 @@ use Rattle.operations.proofs.CzLaws.{cz-identity}
 use Rattle.operations.proofs.Determined.{determined-kept, first-against, measured-proper}
 use Rattle.operations.proofs.GroupAlone.{determined-of-group, measured-of-group, reduced-of-group}
 use Rattle.operations.specs.Cz.{cz, czRows}
-use Rattle.operations.specs.InPlace.{MeasuredInPlace, Rewritten, Unrefused, recordIn}
+use Rattle.operations.specs.InPlace.{Rewritten, Unrefused, recordIn}
 use Rattle.operations.specs.Measurement.{
   against,
-  answered,
   firstAgainst,
   isDetermined,
   measuredRows,
-  outcome,
-  pauliLetter,
   projected,
   single,
 }
-use Rattle.operations.specs.Steps.{ReadOff}
-use Rattle.operations.specs.declared.Outcome.the-variants.{Chosen, Determined}
 use Rattle.pauli.proofs.PauliLaws.{mul-identity}
 use Rattle.pauli.specs.Pauli.{Pauli, anticommute, identity, mul}
 use Rattle.pauli.specs.declared.Letter.{Letter}
-use Rattle.pauli.specs.declared.Letter.the-variants.{X}
 use Rattle.record.proofs.AcceptedRecords.{accepted-record}
 use Rattle.record.specs.Lent.{codeNumbers, heldRecord, heldRows, neighbourWords}
-use Rattle.record.specs.Records.{GraphRecord, rowsOf}
+use Rattle.record.specs.Records.{GraphRecord}
 use Rattle.record.specs.Reduced.{reduced}
 use Rattle.reduction.specs.Passes.{Loaded}
 use Rattle.stabilizer.proofs.EqualRows.{proper-equal, same-group-equal}
@@ -121,33 +115,25 @@ module _ (words codes : List ℕ) (U : Unrefused (recordIn words codes)) (table 
         ≡ isDetermined (length words) (heldRows (recordIn words codes)) l q
     expanded-determined = determined-of-group n l q hq table held expanded-proper held-proper same
 
-    -- the letter that the number names
-    pub still-free : {pauli : ℕ} {d m : Bool} → ReadOff (recordIn words codes) pauli q d m → d ≡ false
-        → l ≡ pauliLetter pauli → isDetermined (length words) table l q ≡ false
-    still-free read e f = expanded-determined ∙ ap (λ l. isDetermined n held l q) f ∙ sym (read .known) ∙ e
+    -- the rows at and above n stay the identity
+    measured-beyond : (j : ℕ) → n ≤ j → measuredRows n table l q b j ≡ identity
+    measured-beyond j h = go (isDetermined n table l q) refl
+      where
+        g : ℕ
+        g = firstAgainst n table (single l q b)
 
-    pub kept-reduced : isDetermined (length words) (heldRows (recordIn words codes)) l q ≡ true
-        → reduced (length words) table
-        ≡ reduced (length words) (measuredRows (length words) (heldRows (recordIn words codes)) l q b)
-    kept-reduced e = reduced-of-group n table held expanded-proper held-proper same
-        ∙ ap (reduced n) (sym (determined-kept n held held-proper l q hq e b))
+        go : (d : Bool) → isDetermined n table l q ≡ d → measuredRows n table l q b j ≡ identity
+        go true e = ap (λ rows. rows j) (determined-kept n table expanded-proper l q hq e b) ∙ beyond j h
+        go false free =
+            ap (λ d. cond d table (projected n table (single l q b) g) j) free
+            ∙ put-other (shear n table g (against n table (single l q b) g)) g (single l q b) j
+            (λ e. absurd (omega (arith, e, h, first-against n table expanded-proper l q hq free b .below)))
+            ∙ ap₂ (λ r c. mul n r (chosen c (table g))) (beyond j h)
+            (ap (λ r. anticommute n r (single l q b) && not (eqb j g)) (beyond j h)
+            ∙ ap (λ c. c && not (eqb j g)) (anticommute-identity n (single l q b)))
+            ∙ mul-identity n identity
 
-    module _ (X : ℕ → Pauli) (changed : (j : ℕ) → X j ≡ measuredRows (length words) table l q b j)
-        (free : isDetermined (length words) table l q ≡ false) where
-      -- the rows at and above n stay the identity
-      measured-beyond : (j : ℕ) → n ≤ j → measuredRows n table l q b j ≡ identity
-      measured-beyond j h =
-          ap (λ d. cond d table (projected n table (single l q b) g) j) free
-          ∙ put-other (shear n table g (against n table (single l q b) g)) g (single l q b) j
-          (λ e. absurd (omega (arith, e, h, first-against n table expanded-proper l q hq free b .below)))
-          ∙ ap₂ (λ r c. mul n r (chosen c (table g))) (beyond j h)
-          (ap (λ r. anticommute n r (single l q b) && not (eqb j g)) (beyond j h)
-          ∙ ap (λ c. c && not (eqb j g)) (anticommute-identity n (single l q b)))
-          ∙ mul-identity n identity
-        where
-          g : ℕ
-          g = firstAgainst n table (single l q b)
-
+    module _ (X : ℕ → Pauli) (changed : (j : ℕ) → X j ≡ measuredRows (length words) table l q b j) where
       pub measured-loaded : Loaded (length words) X
       measured-loaded = subst (Loaded n) (sym (fun-ext changed))
           (loaded-list n (measuredRows n table l q b) (measured-proper n table expanded-proper l q hq b)
@@ -163,34 +149,3 @@ module _ (words codes : List ℕ) (U : Unrefused (recordIn words codes)) (table 
           ∙ reduced-of-group n (measuredRows n table l q b) (measuredRows n held l q b)
           (measured-proper n table expanded-proper l q hq b) (measured-proper n held held-proper l q hq b)
           (measured-of-group n l q hq table held expanded-proper held-proper same b)
-
-pub named-reduced : (n : ℕ) (R : ℕ → Pauli) (q : ℕ) (b : Bool) (pauli : ℕ) {l : Letter}
-    → l ≡ pauliLetter pauli
-    → reduced n (measuredRows n R l q b) ≡ reduced n (measuredRows n R (pauliLetter pauli) q b)
-named-reduced n R q b pauli e = ap (λ l. reduced n (measuredRows n R l q b)) e
-
--- what was read off the record, and the buffers afterwards
-module _ (words codes words′ codes′ : List ℕ) (pauli q : ℕ) (b d m : Bool)
-    (read : ReadOff (recordIn words codes) pauli q d m) (after : Rewritten words codes
-    (λ g. reduced (length words)
-    (measuredRows (length words) (rowsOf (length words) g) (pauliLetter pauli) q b))
-    words′ codes′) where
-  answered-as : (v : Bool) → d ≡ v → cond v (Determined m) (Chosen b)
-      ≡ answered (length words) (heldRows (recordIn words codes)) (pauliLetter pauli) q b
-  answered-as v e = ap (λ d. cond d (Determined m) (Chosen b)) (sym e)
-      ∙ as-outcome d (read .reading b)
-      ∙ ap (λ d. cond d (Determined o) (Chosen o)) (read .known)
-    where
-      o : Bool
-      o = outcome (length words) (heldRows (recordIn words codes)) (pauliLetter pauli) q b
-
-      as-outcome : (d : Bool) → o ≡ cond d m b
-          → cond d (Determined m) (Chosen b) ≡ cond d (Determined o) (Chosen o)
-      as-outcome true e = ap Determined (sym e)
-      as-outcome false e = ap Chosen (sym e)
-
-  pub measured-known : d ≡ true → MeasuredInPlace words codes pauli q b (Determined m) words′ codes′
-  measured-known e = record { after = after; answer = answered-as true e }
-
-  pub measured-free : d ≡ false → MeasuredInPlace words codes pauli q b (Chosen b) words′ codes′
-  measured-free e = record { after = after; answer = answered-as false e }

@@ -6,15 +6,15 @@ use Rattle.operations.proofs.UnrefusedRecords.{
   unrefused-long,
   unrefused-short,
 }
-use Rattle.operations_records.proofs.AnswersInPlace.{
+use Rattle.operations_tableaus.proofs.AnswersInPlace.{
   cz-independent,
   cz-loaded,
   cz-reduced,
   expanded-loaded,
   rewritten-as,
 }
-use Rattle.operations_records.proofs.cz_record.Statement.{statement}
-use Rattle.operations_records.proofs.cz_record.Tie as tie
+use Rattle.operations_gates.proofs.cz_record.Statement.{statement}
+use Rattle.operations_gates.proofs.cz_record.Tie as tie
 
 expand-tableau-requires : tie.Need-expand-tableau-requires
 expand-tableau-requires c κs =

@@ -1,7 +1,7 @@
 use borrow.Author.Needs.{needs}
-use Rattle.operations_records.proofs.AnswersInPlace.{reduced-written}
-use Rattle.operations_records.proofs.reduce_rows.Statement.{statement}
-use Rattle.operations_records.proofs.reduce_rows.Tie as tie
+use Rattle.operations_tableaus.proofs.AnswersInPlace.{reduced-written}
+use Rattle.operations_tableaus.proofs.reduce_rows.Statement.{statement}
+use Rattle.operations_tableaus.proofs.reduce_rows.Tie as tie
 
 reduce-tableau-requires : tie.Need-reduce-tableau-requires
 reduce-tableau-requires c κs = search needs

@@ -2,8 +2,8 @@ use mathlib.Core.Path.{_≡_, ap}
 use native.Mathlib.Omega.{arith}
 use borrow.Author.Needs.{needs}
 use Rattle.operations.specs.Measurement.{pauliLetter}
-use Rattle.operations_records.proofs.letter_named.Statement.{statement}
-use Rattle.operations_records.proofs.letter_named.Tie as tie
+use Rattle.operations_measurements.proofs.letter_named.Statement.{statement}
+use Rattle.operations_measurements.proofs.letter_named.Tie as tie
 
 returns : tie.Need-returns
 returns c = search needs

@@ -17,6 +17,7 @@ use Rattle.operations.proofs.GroupAlone.{reduced-of-group}
 use Rattle.operations.proofs.UnrefusedRecords.{unrefused-codes, unrefused-place, unrefused-simple}
 use Rattle.operations.specs.Gates.{gated}
 use Rattle.operations.specs.InPlace.{Unrefused, recordIn}
+use Rattle.operations_tableaus.proofs.AnswersInPlace.{loaded-list}
 use Rattle.pauli.specs.Pauli.{Pauli, identity}
 use Rattle.record.proofs.AcceptedRecords.{accepted-record}
 use Rattle.record.proofs.ReducedRecords.{record-proper}
@@ -28,7 +29,6 @@ use Rattle.stabilizer.proofs.EqualRows.{proper-equal, same-group-equal}
 use Rattle.stabilizer.specs.Groups.{Independent, Proper}
 use Rattle.words.proofs.Places.{put-all}
 use Rattle.words.specs.Bits.{put}
-use Rattle.operations_records.proofs.AnswersInPlace.{loaded-list}
 
 module _ (words codes : List ℕ) (U : Unrefused (recordIn words codes)) (q : ℕ) (hq : q < length words) (k : ℕ)
     (codes′ : List ℕ) (e : codes′ ≡ set codes q (codeOf (then (codesOf codes q) (cliffordOf k)))) where

@@ -1,8 +1,8 @@
 use mathlib.Core.Path.{ap}
 use lib.ListN.{set}
 use borrow.Author.Needs.{needs}
-use Rattle.operations_records.proofs.gate_code.Statement.{statement}
-use Rattle.operations_records.proofs.gate_code.Tie as tie
+use Rattle.operations_gates.proofs.gate_code.Statement.{statement}
+use Rattle.operations_gates.proofs.gate_code.Tie as tie
 
 slice-read-compose : tie.Need-slice-read-compose
 slice-read-compose c = search needs

@@ -1,8 +1,8 @@
 use borrow.Author.Needs.{needs}
 use Rattle.operations.proofs.UnrefusedRecords.{unrefused-codes, unrefused-place}
-use Rattle.operations_records.proofs.ReadingOff.{read-by-calls}
-use Rattle.operations_records.proofs.read_off.Statement.{statement}
-use Rattle.operations_records.proofs.read_off.Tie as tie
+use Rattle.operations_measurements.proofs.ReadingOff.{read-by-calls}
+use Rattle.operations_measurements.proofs.read_off.Statement.{statement}
+use Rattle.operations_measurements.proofs.read_off.Tie as tie
 
 shared-slice-read-t10 : tie.Need-shared-slice-read-t10
 shared-slice-read-t10 c =

@@ -6,16 +6,16 @@ use Rattle.operations.proofs.UnrefusedRecords.{
   unrefused-place,
   unrefused-short,
 }
-use Rattle.operations_records.proofs.AnswersInPlace.{rewritten-as}
-use Rattle.operations_records.proofs.GatedBuffers.{
+use Rattle.operations_tableaus.proofs.AnswersInPlace.{rewritten-as}
+use Rattle.operations_gates.proofs.GatedBuffers.{
   gated-below,
   gated-independent,
   gated-length,
   gated-loaded,
   gated-reduced,
 }
-use Rattle.operations_records.proofs.gate_record.Statement.{statement}
-use Rattle.operations_records.proofs.gate_record.Tie as tie
+use Rattle.operations_gates.proofs.gate_record.Statement.{statement}
+use Rattle.operations_gates.proofs.gate_record.Tie as tie
 
 gate-code-requires : tie.Need-gate-code-requires
 gate-code-requires c κs =

@@ -1,3 +1,0 @@
-pub mod ReadingOff
-pub mod AnswersInPlace
-pub mod GatedBuffers
