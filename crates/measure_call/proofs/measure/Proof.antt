@@ -1,10 +1,10 @@
 use mathlib.Core.Path.{sym, _∙_}
 use borrow.Author.Needs.{needs}
 use Rattle.record.specs.Lent.{LentRecord}
 use Rattle.record_calls.proofs.InPlaceCalls.{measure-done, measure-refused}
 use Rattle.record_calls.proofs.InPlaceLines.{measure-ready}
-use Rattle.record_calls.proofs.measure.Statement.{statement}
-use Rattle.record_calls.proofs.measure.Tie as tie
+use Rattle.measure_call.proofs.measure.Statement.{statement}
+use Rattle.measure_call.proofs.measure.Tie as tie
 
 in-place-refusal-requires : tie.Need-in-place-refusal-requires
 in-place-refusal-requires c κs = search needs

@@ -2,10 +2,10 @@ use mathlib.Core.Path.{sym, _∙_}
 use borrow.Author.Needs.{needs}
 use Rattle.record.specs.Lent.{LentRecord}
 use Rattle.record.specs.Records.{complementRecord}
 use Rattle.record_calls.proofs.InPlaceCalls.{step-done, step-refused}
 use Rattle.record_calls.proofs.InPlaceLines.{complement-ready}
-use Rattle.record_calls.proofs.complement.Statement.{statement}
-use Rattle.record_calls.proofs.complement.Tie as tie
+use Rattle.rewriting_calls.proofs.complement.Statement.{statement}
+use Rattle.rewriting_calls.proofs.complement.Tie as tie
 
 in-place-refusal-requires : tie.Need-in-place-refusal-requires
 in-place-refusal-requires c κs = search needs

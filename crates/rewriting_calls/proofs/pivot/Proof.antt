@@ -3,16 +3,16 @@ use native.Mathlib.Omega.{arith}
 use borrow.Author.Needs.{needs}
 use Rattle.operations.specs.Steps.{pivotRecord}
 use Rattle.record.specs.Lent.{LentRecord}
 use Rattle.record_calls.proofs.InPlaceCalls.{step-done, step-refused}
 use Rattle.record_calls.proofs.InPlaceLines.{
   edge-passes,
   no-edge-refuses,
   pair-below,
   pair-ready,
   pair-refused,
 }
-use Rattle.record_calls.proofs.pivot.Statement.{statement}
-use Rattle.record_calls.proofs.pivot.Tie as tie
+use Rattle.rewriting_calls.proofs.pivot.Statement.{statement}
+use Rattle.rewriting_calls.proofs.pivot.Tie as tie
 
 in-place-refusal-requires : tie.Need-in-place-refusal-requires
 in-place-refusal-requires c κs = search needs
