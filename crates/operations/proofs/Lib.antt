@@ -9,12 +9,4 @@ pub mod MeasuredRecords
 pub mod UnrefusedRecords
 pub mod Rewriting
 pub mod SessionExamples
-pub mod Recoding
-pub mod Pivoting
-pub mod TableauLoops
-pub mod CzRows
-pub mod ReadingOff
-pub mod ProjectedRows
 pub mod GroupAlone
-pub mod AnswersInPlace
-pub mod GatedBuffers

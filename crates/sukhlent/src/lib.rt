@@ -97,7 +97,7 @@ pub extern "C" fn sukhlent_measure(
         pauli qubit outcome (now (answer .entry)) (now (determined .entry)) r
         (now (neighbours .exit)) (now (codes .exit)) (now (answer .exit)) (now (determined .exit)) ⌝ }
 {
-    record_calls::measure(
+    measure_call::measure(
         n,
         neighbours,
         codes,
@@ -121,7 +121,7 @@ pub extern "C" fn sukhlent_complement(
         (complementAt (record { n = n; neighbours = now (neighbours .entry); codes = now (codes .entry) }) a)
         r (now (neighbours .exit)) (now (codes .exit)) ⌝ }
 {
-    record_calls::complement(n, neighbours, codes, a)
+    rewriting_calls::complement(n, neighbours, codes, a)
 }
 
 // A pivot on an edge; the record is not reduced.
@@ -137,7 +137,7 @@ pub extern "C" fn sukhlent_pivot(
         (pivotAt (record { n = n; neighbours = now (neighbours .entry); codes = now (codes .entry) }) j k)
         r (now (neighbours .exit)) (now (codes .exit)) ⌝ }
 {
-    record_calls::pivot(n, neighbours, codes, j, k)
+    rewriting_calls::pivot(n, neighbours, codes, j, k)
 }
 
 // The image graph, its signs, and the list of the vertices complemented.

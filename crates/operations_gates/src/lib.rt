@@ -1,0 +1,57 @@
+// Gates and CZ on a record in its buffers.
+use operations::compose;
+use operations_tableaus::cz_tableau;
+use operations_tableaus::reduce_rows;
+use record::expand_tableau;
+ghost use mathlib.Core.Logic.{_≢_};
+ghost use mathlib.Core.Path.{_≡_};
+ghost use Prim.Native.Nat.{ℕ, _<_};
+ghost use lib.ListN.{getD, length, set};
+ghost use Rattle.clifford.specs.Clifford.{cliffordOf, codeOf, then};
+ghost use Rattle.clifford.specs.Vectors.{codesOf};
+ghost use Rattle.operations.specs.Cz.{czRows};
+ghost use Rattle.operations.specs.Gates.{gated};
+ghost use Rattle.operations.specs.InPlace.{Rewritten, Unrefused, recordIn};
+ghost use Rattle.record.specs.Records.{rowsOf};
+ghost use Rattle.record.specs.Reduced.{reduced};
+
+// Applies code k after the code held at q.
+pub fn gate_code(codes: &mut [u8], q: usize, k: u8)
+    requires { ⌜ (q < length (now codes)) × ((t : ℕ) → getD (now codes) t 0 < 24) × (k < 24) ⌝ }
+    ensures { λ r. ⌜ now (codes .exit) ≡ set (now (codes .entry)) q
+        (codeOf (then (codesOf (now (codes .entry)) q) (cliffordOf k))) ⌝ }
+{
+    codes[q] = compose(codes[q], k);
+}
+
+// Gate: code k after the code held at q, and the reduced record.
+pub fn gate_record(neighbours: &mut [u64], codes: &mut [u8], q: usize, k: u8)
+    requires { ⌜ Unrefused (recordIn (now neighbours) (now codes)) ⌝ }
+    requires { ⌜ (q < length (now neighbours)) × (k < 24) ⌝ }
+    ensures { λ r. ⌜ Rewritten (now (neighbours .entry)) (now (codes .entry))
+        (λ g. reduced (length (now (neighbours .entry)))
+        (rowsOf (length (now (neighbours .entry))) (gated g q (cliffordOf k))))
+        (now (neighbours .exit)) (now (codes .exit)) ⌝ }
+{
+    gate_code(codes, q, k);
+    let n = neighbours.len();
+    let mut signs = 0;
+    let rows = expand_tableau(n, neighbours, codes, &mut signs);
+    reduce_rows(rows, signs, neighbours, codes);
+}
+
+// CZ on a and b, and the reduced record.
+pub fn cz_record(neighbours: &mut [u64], codes: &mut [u8], a: usize, b: usize)
+    requires { ⌜ Unrefused (recordIn (now neighbours) (now codes)) ⌝ }
+    requires { ⌜ (a < length (now neighbours)) × (b < length (now neighbours)) × (a ≢ b) ⌝ }
+    ensures { λ r. ⌜ Rewritten (now (neighbours .entry)) (now (codes .entry))
+        (λ g. reduced (length (now (neighbours .entry)))
+        (czRows a b (rowsOf (length (now (neighbours .entry))) g)))
+        (now (neighbours .exit)) (now (codes .exit)) ⌝ }
+{
+    let n = neighbours.len();
+    let mut signs = 0;
+    let rows = expand_tableau(n, neighbours, codes, &mut signs);
+    let after = cz_tableau(rows, &mut signs, n, a, b);
+    reduce_rows(after, signs, neighbours, codes);
+}

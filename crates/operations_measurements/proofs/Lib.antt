@@ -1,0 +1,2 @@
+pub mod ReadingOff
+pub mod MeasuredBuffers

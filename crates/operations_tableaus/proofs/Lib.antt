@@ -1,0 +1,4 @@
+pub mod TableauLoops
+pub mod CzRows
+pub mod ProjectedRows
+pub mod AnswersInPlace
