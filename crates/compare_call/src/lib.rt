@@ -2,8 +2,8 @@
 use buffers::bad_count;
 use buffers::copy_list;
 use buffers::other_than;
-use comparison::compare_records;
-use comparison::induced_codes;
+use comparison_groups::induced_codes;
+use comparison_search::compare_records;
 use image::ImageAnswer;
 use image::image_answer;
 use list_calls::reduce;
