@@ -1,5 +1,4 @@
-// The comparison of two states: definitions and laws of choices, equations and searches. The code stands in the crates
-// above.
+// The comparison of two states: definitions and laws. The code that they speak of stands in the crates above.
 
 // The values of the unknowns: four words, a bit of each for each qubit.
 pub struct Assignment {

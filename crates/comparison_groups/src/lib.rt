@@ -1,4 +1,5 @@
-// The two groups that are compared: generators and codes of a record, elements of a group, and what a choice does.
+// The two groups of a comparison: the generators of a record, the elements of a group, whether a choice carries the one
+// onto the other, and the codes that it induces.
 mod elements;
 mod induced;
 mod records;

@@ -1,4 +1,4 @@
-// The search for the least choice: classes in rising order, then signs.
+// The search for the least choice, classes in rising order and then signs, and the comparison of two records by it.
 use comparison::Equation;
 use comparison_equations::class_words;
 use comparison_equations::sign_words;
