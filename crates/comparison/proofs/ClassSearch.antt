@@ -27,8 +27,8 @@ use Rattle.comparison.specs.Choices.{Before, FirstDiffers, classKey}
 use Rattle.comparison.specs.Equations.{SameOn, Solves, classAssignment}
 use Rattle.comparison.specs.Searches.{Answered, ClassTable, WithClasses, WithSigns}
 use Rattle.comparison.specs.Setting.{Codes, generatorsOf}
-use Rattle.comparison.specs.declared.equations.Assignment.{Assignment}
-use Rattle.comparison.specs.declared.equations.Equation.{Equation}
+use Rattle.comparison.specs.declared.Assignment.{Assignment}
+use Rattle.comparison.specs.declared.Equation.{Equation}
 
 -- the classes below v at qubit q are tried
 abbrev pub ClassesTried : ℕ → List Generator → List Generator → List ℕ → ℕ → ℕ → Type 0

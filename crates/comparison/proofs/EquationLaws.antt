@@ -29,8 +29,8 @@ use Rattle.comparison.specs.Equations.{
   fails,
   span,
 }
-use Rattle.comparison.specs.declared.equations.Assignment.{Assignment}
-use Rattle.comparison.specs.declared.equations.Equation.{Equation}
+use Rattle.comparison.specs.declared.Assignment.{Assignment}
+use Rattle.comparison.specs.declared.Equation.{Equation}
 
 pub zero-dot : (w : ℕ) → dot 0 w ≡ false
 zero-dot w = dot-bits w 0 w (pow-pos w) (lt-pow w)

@@ -38,8 +38,8 @@ use Rattle.comparison.specs.Equations.{
 }
 use Rattle.comparison.specs.Searches.{ClassTable, SignTable}
 use Rattle.comparison.specs.Setting.{bare, generatorsOf, noGenerator}
-use Rattle.comparison.specs.declared.equations.Assignment.{Assignment}
-use Rattle.comparison.specs.declared.equations.Equation.{Equation}
+use Rattle.comparison.specs.declared.Assignment.{Assignment}
+use Rattle.comparison.specs.declared.Equation.{Equation}
 
 pub empty-table : (k : ℕ) (w : Assignment) → Solves (replicate k emptyEquation) w
 empty-table k w i = ap (λ e. fails e w) (all-empty k i) ∙ empty-holds w

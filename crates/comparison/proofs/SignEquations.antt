@@ -29,7 +29,7 @@ use Rattle.comparison.proofs.NumberOrder.{class-injective}
 use Rattle.comparison.specs.Choices.{classKey}
 use Rattle.comparison.specs.Equations.{fails, signAssignment, signEquation}
 use Rattle.comparison.specs.Setting.{bare}
-use Rattle.comparison.specs.declared.equations.Assignment.{Assignment}
+use Rattle.comparison.specs.declared.Assignment.{Assignment}
 
 abbrev signAt : Clifford → Bool → Bool → Bool
 signAt k z x = (x && k .sx) ⊕ (z && k .sz)

@@ -31,8 +31,8 @@ use Rattle.comparison.specs.Choices.{Agree, Before, FirstDiffers, carrie
 use Rattle.comparison.specs.Equations.{SameOn, Solves, signAssignment}
 use Rattle.comparison.specs.Searches.{Answered, Begins, Found, SignTable, WithClasses, WithSigns}
 use Rattle.comparison.specs.Setting.{Codes, Setting, generatorsOf}
-use Rattle.comparison.specs.declared.equations.Assignment.{Assignment}
-use Rattle.comparison.specs.declared.equations.Equation.{Equation}
+use Rattle.comparison.specs.declared.Assignment.{Assignment}
+use Rattle.comparison.specs.declared.Equation.{Equation}
 
 -- the signs below v at qubit q are tried
 abbrev pub SignsTried : ℕ → List Generator → List Generator → List ℕ → ℕ → ℕ → Type 0

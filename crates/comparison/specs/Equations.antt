@@ -11,8 +11,8 @@ use Rattle.clifford.specs.Clifford.{Clifford, imageX, imageZ}
 use Rattle.pauli.specs.Pauli.{xBit, zBit}
 use Rattle.pauli.specs.declared.Generator.{Generator}
 use Rattle.words.specs.Bits.{bit, dot, wordOf, _⊕_}
-use Rattle.comparison.specs.declared.equations.Assignment.{Assignment}
-use Rattle.comparison.specs.declared.equations.Equation.{Equation}
+use Rattle.comparison.specs.declared.Assignment.{Assignment}
+use Rattle.comparison.specs.declared.Equation.{Equation}
 
 -- ---- equations
 -- nothing asked

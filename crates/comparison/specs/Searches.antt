@@ -13,7 +13,7 @@ use Rattle.stabilizer.specs.Carries.{Carries}
 use Rattle.comparison.specs.Choices.{LeastOf, classKey, leastCode, noChoice, signKey}
 use Rattle.comparison.specs.Equations.{Solves, classAssignment, signAssignment}
 use Rattle.comparison.specs.Setting.{Bare, Codes, Setting, generatorsOf}
-use Rattle.comparison.specs.declared.equations.Equation.{Equation}
+use Rattle.comparison.specs.declared.Equation.{Equation}
 
 -- the choices in B whose keys below qubit q are those of p
 pub record Begins (B : (ℕ → Clifford) → Type 0) (key : Clifford → ℕ) (q : ℕ)

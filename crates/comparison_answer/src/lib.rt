@@ -1,7 +1,7 @@
 // The comparison of two reduced records: the least choice, the complementation list and its count.
 use buffers::copy_list;
-use comparison::compare_records;
-use comparison::induced_codes;
+use comparison_groups::induced_codes;
+use comparison_search::compare_records;
 use image_answer::ImageAnswer;
 use image_answer::image_answer;
 ghost use mathlib.Core.Path.{_≡_};

@@ -1,0 +1,51 @@
+// The unknowns of a choice as words: the matrices of its classes, and its signs.
+use clifford::image_letters;
+use comparison::Assignment;
+use pauli::x_bit;
+use pauli::z_bit;
+use words::put_bit;
+ghost use mathlib.Core.Path.{_≡_};
+ghost use Prim.Native.Nat.{_≤_};
+ghost use Rattle.clifford.specs.Vectors.{codesOf};
+ghost use Rattle.comparison.specs.Equations.{classAssignment, signAssignment};
+ghost use Rattle.comparison.specs.Setting.{Codes};
+
+// Bit q of the four words is the matrix of the class at q: image z = a z + b x, image x = c z + d x.
+pub fn class_words(n: usize, choice: [u8; 20]) -> Assignment
+    requires { ⌜ (n ≤ 20) × Codes choice ⌝ }
+    ensures { λ r. ⌜ r ≡ classAssignment n (codesOf choice) ⌝ }
+{
+    let mut a = 0;
+    let mut b = 0;
+    let mut c = 0;
+    let mut d = 0;
+    let mut q = 0;
+    while q < n {
+        let letters = image_letters(choice[q] / 4);
+        let z = letters.z;
+        let x = letters.x;
+        a = put_bit(a, q, z_bit(z));
+        b = put_bit(b, q, z_bit(x));
+        c = put_bit(c, q, x_bit(z));
+        d = put_bit(d, q, x_bit(x));
+        q += 1;
+    }
+    Assignment { a, b, c, d }
+}
+
+// Bit q of the first word is sx at q, of the second sz.
+pub fn sign_words(n: usize, choice: [u8; 20]) -> Assignment
+    requires { ⌜ n ≤ 20 ⌝ }
+    ensures { λ r. ⌜ r ≡ signAssignment n (codesOf choice) ⌝ }
+{
+    let mut a = 0;
+    let mut b = 0;
+    let mut q = 0;
+    while q < n {
+        let code = choice[q];
+        a = put_bit(a, q, code / 2 % 2 == 1);
+        b = put_bit(b, q, code % 2 == 1);
+        q += 1;
+    }
+    Assignment { a, b, c: 0, d: 0 }
+}

@@ -1,0 +1,8 @@
+// Linear equations modulo 2 on the codes of a choice, and the values that a choice gives their unknowns.
+mod assignments;
+mod equations;
+
+pub use assignments::class_words;
+pub use assignments::sign_words;
+pub use equations::broken;
+pub use equations::insert;

@@ -1,0 +1,105 @@
+use mathlib.Core.Path.{_∙_, refl, subst, sym}
+use mathlib.Core.Logic.{⊎-elim}
+use Prim.Native.Nat.{_+_, _-_}
+use native.Mathlib.Omega.{arith}
+use borrow.Author.Needs.{needs}
+use Rattle.words.specs.Bits.{bit}
+use Rattle.words.proofs.BitLaws.{zero-bit}
+use Rattle.pauli.specs.Rows.{generatorOf}
+use Rattle.pauli.proofs.PauliLaws.{Pauli-path}
+use Rattle.clifford.specs.Vectors.{codesOf}
+use Rattle.comparison.specs.Setting.{generatorsOf}
+use Rattle.comparison.proofs.RecordElements.{
+  Multiplied,
+  framed-proper,
+  guessed,
+  multiplied-off,
+  multiplied-on,
+  next-commutes,
+  none-multiplied,
+}
+use Rattle.comparison_groups.proofs.elements.element.Statement.{statement}
+use Rattle.comparison_groups.proofs.elements.element.Tie as tie
+
+abbrev Inv-loop : tie.InvT-loop
+Inv-loop n second w h₀ j₀ h j = Multiplied n (generatorsOf second) (bit w) j (generatorOf h)
+
+abbrev μ-loop : tie.MeasureT-loop
+μ-loop n second w h₀ j₀ h j = n - j
+
+slice-aggregate-send : tie.Need-slice-aggregate-send Inv-loop μ-loop
+slice-aggregate-send c = search needs
+
+send-requires : tie.Need-send-requires Inv-loop μ-loop
+send-requires c κs = search needs
+
+loop-holds : tie.Need-loop-holds Inv-loop μ-loop
+loop-holds c = none-multiplied _ _ _ _ (Pauli-path refl zero-bit zero-bit)
+
+has-requires : tie.Need-has-requires Inv-loop μ-loop
+has-requires c κs = search needs
+
+mul-g : tie.Need-mul-g Inv-loop μ-loop
+mul-g c = search needs
+
+array-copy-out-g : tie.Need-array-copy-out-g Inv-loop μ-loop
+array-copy-out-g c = search needs
+
+times-requires : tie.Need-times-requires Inv-loop μ-loop
+times-requires c κs =
+    let l = c .before .before .before .before .loop in
+    let s = c .before .before .before .before .before .before .before in
+    next-commutes (s .args .n) (omega arith) (generatorsOf (s .args .t2))
+    (framed-proper (s .args .n) (generatorsOf (s .args .t2)) (codesOf (s .args .t3)) (s .pre .1))
+    (bit (c .before .before .before .before .before .send .result .x)) (l .j) (generatorOf (l .h)) (l .inv)
+    (c .before .before .before .loop-test .taken)
+
+add-j : tie.Need-add-j Inv-loop μ-loop
+add-j c = search needs
+
+loop-less : tie.Need-loop-less Inv-loop μ-loop
+loop-less c = omega arith
+
+loop-again : tie.Need-loop-again Inv-loop μ-loop
+loop-again c =
+    let s = c .before .before .before .before .before .before in
+    let a = s .args in
+    let l = c .before .before .before .loop in
+    let w = bit (c .before .before .before .before .send .result .x) in
+    let test = c .before .has .ensures in
+    let rows = generatorsOf (a .t2) in
+    let proper = framed-proper (a .n) rows (codesOf (a .t3)) (s .pre .1) in
+    let more = c .before .before .loop-test .taken in
+    ⊎-elim
+    (λ k. subst (λ h. Multiplied (a .n) rows w (l .j + 1) (generatorOf h)) (sym (k .3))
+    (multiplied-on (a .n) (omega arith) rows proper w (l .j) (generatorOf (l .h)) (l .inv) more _
+    (sym test ∙ k .0 .taken) (k .2 .ensures)))
+    (λ k. subst (λ h. Multiplied (a .n) rows w (l .j + 1) (generatorOf h)) (sym (k .1))
+    (multiplied-off (a .n) (omega arith) rows proper w (l .j) (generatorOf (l .h)) (l .inv) more
+    (sym test ∙ k .0 .left)))
+    (c .if1 .came)
+
+returns : tie.Need-returns Inv-loop μ-loop
+returns c =
+    let s = c .before .before .before .before in
+    guessed (s .args .n) (omega arith) (generatorsOf (s .args .t2)) (codesOf (s .args .t3)) (s .pre .1)
+    (generatorOf (s .args .p)) (generatorOf (c .before .before .send .result))
+    (c .before .before .send .ensures) (c .before .loop .j) _ (c .loop-test .left) (c .before .loop .inv)
+
+pub element-spec : {M : Type 1} → statement M
+element-spec =
+    tie.close
+    (tie.spec
+    Inv-loop
+    μ-loop
+    slice-aggregate-send
+    send-requires
+    loop-holds
+    has-requires
+    mul-g
+    array-copy-out-g
+    times-requires
+    add-j
+    loop-less
+    loop-again
+    returns)

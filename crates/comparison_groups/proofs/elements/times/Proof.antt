@@ -1,0 +1,17 @@
+use borrow.Author.Needs.{needs}
+use Rattle.comparison.proofs.RecordElements.{generator-times}
+use Rattle.comparison_groups.proofs.elements.times.Statement.{statement}
+use Rattle.comparison_groups.proofs.elements.times.Tie as tie
+
+letters-minus-requires : tie.Need-letters-minus-requires
+letters-minus-requires c κs = search needs
+
+returns : tie.Need-returns
+returns c =
+    let a = c .before .before .before .before .before .before .before .args in
+    generator-times (a .p) (a .g) (c .before .before .before .before .before .before .letters-minus .result)
+    (c .before .before .before .before .before .before .before .pre)
+    (c .before .before .before .before .before .before .letters-minus .ensures)
+
+pub times-spec : {M : Type 1} → statement M
+times-spec = tie.close (tie.spec letters-minus-requires returns)

@@ -1,0 +1,52 @@
+// A record as the search takes it: its generators, and the codes that undo its codes.
+use clifford::Code;
+use clifford::send;
+use pauli::Generator;
+use words::single;
+ghost use mathlib.Core.Path.{_≡_};
+ghost use Prim.Native.Nat.{ℕ, _<_, _≤_};
+ghost use lib.ListN.{getD, length};
+ghost use Rattle.clifford.specs.Clifford.{codeOf, inverse};
+ghost use Rattle.clifford.specs.Vectors.{codesOf};
+ghost use Rattle.comparison.specs.Setting.{Codes, SoundRecord, generatorsOf, heldGenerators};
+
+// The generators of a record.
+pub fn generators(n: usize, neighbours: &[u64], codes: &[u8]) -> [Generator; 20]
+    requires { ⌜ (n ≤ 20) × SoundRecord n (now neighbours) (now codes) ⌝ }
+    ensures { λ r. ⌜ ((j : ℕ) → j < n
+        → generatorsOf r j ≡ heldGenerators n (now (neighbours .entry)) (now (codes .entry)) j) ⌝ }
+{
+    let mut all = [Generator {
+        minus: false,
+        z: 0,
+        x: 0,
+    }; 20];
+    let mut j = 0;
+    while j < n {
+        let g = Generator {
+            minus: false,
+            z: neighbours[j],
+            x: single(j),
+        };
+        let sent = send(g, codes);
+        all[j] = sent;
+        j += 1;
+    }
+    all
+}
+
+// The codes that undo a record's.
+pub fn inverses(n: usize, codes: &[u8]) -> [u8; 20]
+    requires { ⌜ (n ≤ 20) × (length (now codes) ≡ n) × Codes (now codes) ⌝ }
+    ensures { λ r. ⌜ ((q : ℕ) → q < n → getD r q 0 ≡ codeOf (inverse (codesOf (now (codes .entry)) q))) × Codes r ⌝ }
+{
+    let mut all = [0u8; 20];
+    let mut q = 0;
+    while q < n {
+        let code = Code { index: codes[q] };
+        let undone = code.inverse();
+        all[q] = undone.index;
+        q += 1;
+    }
+    all
+}
