@@ -22,7 +22,7 @@ ghost use Rattle.clifford.specs.Vectors.{codesOf};
 ghost use Rattle.record.specs.Lent.{codeNumbers, neighbourWords};
 ghost use Rattle.record.specs.Records.{complementRecord, recoded, rowsOf};
 ghost use Rattle.record.specs.Reduced.{reduced};
-ghost use Rattle.reduction.specs.Passes.{Loaded};
+ghost use Rattle.reduction_passes.specs.Passes.{Loaded};
 ghost use Rattle.stabilizer.specs.Groups.{Independent};
 ghost use Rattle.stabilizer.specs.Tableau.{tableau};
 ghost use Rattle.words.specs.Bits.{bit};

@@ -9,9 +9,9 @@ use borrow.Author.Tests.{not-false}
 use Rattle.stabilizer.specs.Tableau.{tableau}
 use Rattle.words.specs.Bits.{bit}
 use Rattle.pauli.proofs.PhaseLaws.{minus-real}
-use Rattle.reduction.specs.Passes.{Eliminated}
-use Rattle.reduction.specs.Passes.Eliminated.{pivoted, start}
-use Rattle.reduction.proofs.Passing.{
+use Rattle.reduction_passes.specs.Passes.{Eliminated}
+use Rattle.reduction_passes.specs.Passes.Eliminated.{pivoted, start}
+use Rattle.reduction_passes.proofs.Passing.{
   column-pivoted,
   column-skipped,
   eliminated-at,
@@ -20,8 +20,8 @@ use Rattle.reduction.proofs.Passing.{
   pivot-ready,
   same-state,
 }
-use Rattle.reduction.proofs.pass.Statement.{statement}
-use Rattle.reduction.proofs.pass.Tie as tie
+use Rattle.reduction_passes.proofs.pass.Statement.{statement}
+use Rattle.reduction_passes.proofs.pass.Tie as tie
 
 abbrev Inv-loop : tie.InvT-loop
 Inv-loop signs₀ n pivots₀ rows₀ q₀ signs pivots rows q = (q ≤ n) × (length rows ≡ 64)

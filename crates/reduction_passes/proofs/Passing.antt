@@ -26,7 +26,7 @@ use Rattle.words.proofs.Places.{other-place}
 use Rattle.words.proofs.Sums.{lt-or-ge}
 use Rattle.words.proofs.Trailing.{trailing-set}
 use Rattle.words.specs.Bits.{Word, bit, put, _⊕_}
-use Rattle.reduction.specs.Passes.{Eliminated, Loaded, PivotReady, pivot, pivoted, skip, start}
+use Rattle.reduction_passes.specs.Passes.{Eliminated, Loaded, PivotReady, pivot, pivoted, skip, start}
 
 -- ---- at 64 qubits and rows instead of n
 module _ (n : ℕ) (l : n ≤ 64) (R : ℕ → Pauli) (L : Loaded n R) where

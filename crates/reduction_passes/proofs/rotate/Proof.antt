@@ -2,9 +2,9 @@ use mathlib.Core.Path.{refl}
 use Prim.Native.Nat.{_-_}
 use native.Mathlib.Omega.{arith}
 use borrow.Author.Needs.{needs}
-use Rattle.reduction.proofs.Rotating.{Rotated, rotate-end, rotate-start, rotate-step}
-use Rattle.reduction.proofs.rotate.Statement.{statement}
-use Rattle.reduction.proofs.rotate.Tie as tie
+use Rattle.reduction_passes.proofs.Rotating.{Rotated, rotate-end, rotate-start, rotate-step}
+use Rattle.reduction_passes.proofs.rotate.Statement.{statement}
+use Rattle.reduction_passes.proofs.rotate.Tie as tie
 
 abbrev Inv-loop : tie.InvT-loop
 Inv-loop signs₀ n columns rows₀ i₀ signs rows i = Rotated rows₀ signs₀ n columns rows signs i

@@ -22,7 +22,7 @@ use Rattle.words.proofs.Finite.{⊕-zero}
 use Rattle.words.proofs.Places.{other-place, put-all, put-other, put-same, same-place, upto-other}
 use Rattle.words.proofs.Sums.{lt-or-ge}
 use Rattle.words.specs.Bits.{bit, put, _⊕_}
-use Rattle.reduction.specs.Passes.{PivotReady}
+use Rattle.reduction_passes.specs.Passes.{PivotReady}
 
 -- ---- the word of a column: the rows below i that have x bit q
 pub record ColumnBelow (rows : List (List ℕ)) (q word i : ℕ) : Type 0 where

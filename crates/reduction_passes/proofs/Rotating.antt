@@ -25,7 +25,7 @@ use Rattle.words.proofs.Finite.{bits}
 use Rattle.words.proofs.OnesLaws.{parity-ones}
 use Rattle.words.proofs.Sums.{fold-ext, fold-hom, lt-or-ge}
 use Rattle.words.specs.Bits.{bit, isOdd, _⊕_}
-use Rattle.reduction.proofs.Storing.{stored-elsewhere, stored-here, stored-long}
+use Rattle.reduction_passes.proofs.Storing.{stored-elsewhere, stored-here, stored-long}
 
 -- ---- at one place, by one test
 z-at : (h z x : Bool) → zBit (image (cond h (cliffordOf 8) identityClifford) (letter z x)) ≡ z

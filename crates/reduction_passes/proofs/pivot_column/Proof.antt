@@ -6,7 +6,7 @@ use borrow.Author.Needs.{needs}
 use borrow.Author.Tests.{not-false, not-true}
 use Rattle.stabilizer.specs.Elimination.{lend, shear}
 use Rattle.stabilizer.specs.Tableau.{tableau}
-use Rattle.reduction.proofs.Pivoting.{
+use Rattle.reduction_passes.proofs.Pivoting.{
   cleared,
   cleared-commutes,
   far-row,
@@ -16,8 +16,8 @@ use Rattle.reduction.proofs.Pivoting.{
   lent-now,
   pivot-not-named,
 }
-use Rattle.reduction.proofs.pivot_column.Statement.{statement}
-use Rattle.reduction.proofs.pivot_column.Tie as tie
+use Rattle.reduction_passes.proofs.pivot_column.Statement.{statement}
+use Rattle.reduction_passes.proofs.pivot_column.Tie as tie
 
 has-requires : tie.Need-has-requires
 has-requires c κs = search needs

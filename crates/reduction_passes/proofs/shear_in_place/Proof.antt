@@ -3,9 +3,9 @@ use Prim.Native.Nat.{_<_}
 use native.Mathlib.Omega.{arith}
 use borrow.Author.Needs.{needs}
 use Rattle.words.proofs.BitLaws.{flip-less}
-use Rattle.reduction.proofs.Shearing.{Sheared, next-row, shear-end, shear-start, shear-step}
-use Rattle.reduction.proofs.shear_in_place.Statement.{statement}
-use Rattle.reduction.proofs.shear_in_place.Tie as tie
+use Rattle.reduction_passes.proofs.Shearing.{Sheared, next-row, shear-end, shear-start, shear-step}
+use Rattle.reduction_passes.proofs.shear_in_place.Statement.{statement}
+use Rattle.reduction_passes.proofs.shear_in_place.Tie as tie
 
 abbrev Inv-loop : tie.InvT-loop
 Inv-loop rows₀ signs₀ a named by sign rest₀ rows signs rest = Sheared rows₀ signs₀ a named rows signs rest

@@ -3,11 +3,9 @@
 use mathlib.Core.Bool.{_&&_, false, not, true}
 use mathlib.Core.Path.{_≡_}
 use Prim.Native.Nat.{_<_, suc, ℕ, _≤_}
-use lib.ListN.{length}
 use Rattle.pauli.specs.Pauli.{Pauli, identity}
 use Rattle.stabilizer.specs.Elimination.{pivotOn}
 use Rattle.stabilizer.specs.Groups.{Commuting, Within}
-use Rattle.stabilizer.specs.Lists.{GeneratorList, rows}
 use Rattle.words.specs.Bits.{Word, bit, put}
 
 -- rows of n qubits: signed and commuting, no letter at or above n, the identity from row n on
@@ -34,13 +32,3 @@ pub record PivotReady (R : ℕ → Pauli) (q i holders : ℕ) : Type 0 where
   pub commuting : Commuting 64 64 R
   pub holds : (j : ℕ) → bit holders j ≡ (R j) .x q
   pub has : (R i) .x q ≡ true
-
--- a lent list of 1 to 64 generators that commute, each of n qubits
-pub record Reducible (l : GeneratorList) : Type 0 where
-  pub positive : 1 ≤ l .n
-  pub upto : l .n ≤ 64
-  pub signs-length : length (l .signs) ≡ l .n
-  pub z-length : length (l .z) ≡ l .n
-  pub x-length : length (l .x) ≡ l .n
-  pub commuting : Commuting (l .n) (l .n) (rows l)
-  pub within : (j : ℕ) → j < l .n → Within (l .n) (rows l j)

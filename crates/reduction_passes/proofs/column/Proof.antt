@@ -7,9 +7,9 @@ use lib.Dec.{ltb}
 use lib.ListN.{getD}
 use borrow.Author.Needs.{needs}
 use Rattle.words.specs.Bits.{bit}
-use Rattle.reduction.proofs.Pivoting.{ColumnBelow, column-start, column-step}
-use Rattle.reduction.proofs.column.Statement.{statement}
-use Rattle.reduction.proofs.column.Tie as tie
+use Rattle.reduction_passes.proofs.Pivoting.{ColumnBelow, column-start, column-step}
+use Rattle.reduction_passes.proofs.column.Statement.{statement}
+use Rattle.reduction_passes.proofs.column.Tie as tie
 
 abbrev Inv-loop : tie.InvT-loop
 Inv-loop rows n q word₀ j₀ word j = (j ≤ n) × ColumnBelow rows q word j
