@@ -31,13 +31,17 @@ fn shear_in_place(rows: &mut [[u64; 2]; 64], signs: &mut u64, a: usize, named: u
         ≡ shear 64 (tableau (now (signs .entry)) (now (rows .entry))) a (bit named) j) ⌝ }
 {
     let by = rows[a];
+    let by_z = by[0];
+    let by_x = by[1];
     let sign = has(*signs, a);
     let mut rest = named;
     while rest != 0 {
         let j = smallest(rest);
         let row = rows[j];
-        let minus = letters_minus(row[0], row[1], by[0], by[1]);
-        rows[j] = [row[0] ^ by[0], row[1] ^ by[1]];
+        let z = row[0];
+        let x = row[1];
+        let minus = letters_minus(z, x, by_z, by_x);
+        rows[j] = [z ^ by_z, x ^ by_x];
         *signs = flip_where(*signs, j, sign != minus);
         rest = flip(rest, j);
     }
@@ -116,9 +120,11 @@ pub fn rotate(mut rows: [[u64; 2]; 64], signs: &mut u64, n: usize, columns: u64)
     let mut i = 0;
     while i < n {
         let row = rows[i];
-        let swapped = (row[0] ^ row[1]) & columns;
-        let minus = odd((row[0] & row[1]) & columns);
-        rows[i] = [row[0] ^ swapped, row[1] ^ swapped];
+        let z = row[0];
+        let x = row[1];
+        let swapped = (z ^ x) & columns;
+        let minus = odd((z & x) & columns);
+        rows[i] = [z ^ swapped, x ^ swapped];
         *signs = flip_where(*signs, i, minus);
         i += 1;
     }

@@ -21,26 +21,14 @@ mul-row c = search needs
 array-copy-out-row : tie.Need-array-copy-out-row Inv-loop μ-loop
 array-copy-out-row c = search needs
 
-array-read-swapped : tie.Need-array-read-swapped Inv-loop μ-loop
-array-read-swapped c = search needs
+array-read-z : tie.Need-array-read-z Inv-loop μ-loop
+array-read-z c = search needs
 
-array-read-swapped-2 : tie.Need-array-read-swapped-2 Inv-loop μ-loop
-array-read-swapped-2 c = search needs
-
-array-read-odd : tie.Need-array-read-odd Inv-loop μ-loop
-array-read-odd c = search needs
-
-array-read-odd-2 : tie.Need-array-read-odd-2 Inv-loop μ-loop
-array-read-odd-2 c = search needs
+array-read-x : tie.Need-array-read-x Inv-loop μ-loop
+array-read-x c = search needs
 
 odd-requires : tie.Need-odd-requires Inv-loop μ-loop
 odd-requires c κs = search needs
-
-array-read-flip-where : tie.Need-array-read-flip-where Inv-loop μ-loop
-array-read-flip-where c = search needs
-
-array-read-t20 : tie.Need-array-read-t20 Inv-loop μ-loop
-array-read-t20 c = search needs
 
 mul-rows : tie.Need-mul-rows Inv-loop μ-loop
 mul-rows c = search needs
@@ -82,13 +70,9 @@ rotate-spec =
     loop-holds
     mul-row
     array-copy-out-row
-    array-read-swapped
-    array-read-swapped-2
-    array-read-odd
-    array-read-odd-2
+    array-read-z
+    array-read-x
     odd-requires
-    array-read-flip-where
-    array-read-t20
     mul-rows
     array-set-from-rows
     flip-where-requires

@@ -8,16 +8,22 @@ use Rattle.reduction_passes.proofs.shear_in_place.Statement.{statement}
 use Rattle.reduction_passes.proofs.shear_in_place.Tie as tie
 
 abbrev Inv-loop : tie.InvT-loop
-Inv-loop rows₀ signs₀ a named by sign rest₀ rows signs rest = Sheared rows₀ signs₀ a named rows signs rest
+Inv-loop rows₀ signs₀ a named by-z by-x sign rest₀ rows signs rest = Sheared rows₀ signs₀ a named rows signs rest
 
 abbrev μ-loop : tie.MeasureT-loop
-μ-loop rows₀ signs₀ a named by sign rest₀ rows signs rest = rest
+μ-loop rows₀ signs₀ a named by-z by-x sign rest₀ rows signs rest = rest
 
 mul-by : tie.Need-mul-by Inv-loop μ-loop
 mul-by c = search needs
 
 element-copy-out-by : tie.Need-element-copy-out-by Inv-loop μ-loop
 element-copy-out-by c = search needs
+
+array-read-by-z : tie.Need-array-read-by-z Inv-loop μ-loop
+array-read-by-z c = search needs
+
+array-read-by-x : tie.Need-array-read-by-x Inv-loop μ-loop
+array-read-by-x c = search needs
 
 has-requires : tie.Need-has-requires Inv-loop μ-loop
 has-requires c κs = search needs
@@ -43,35 +49,17 @@ element-copy-out-row c = let E = c in
           (E .smallest .ensures .0)) .0,
     )
 
-array-read-letters-minus : tie.Need-array-read-letters-minus Inv-loop μ-loop
-array-read-letters-minus c = search needs
+array-read-z : tie.Need-array-read-z Inv-loop μ-loop
+array-read-z c = search needs
 
-array-read-letters-minus-2 : tie.Need-array-read-letters-minus-2 Inv-loop μ-loop
-array-read-letters-minus-2 c = search needs
-
-array-read-letters-minus-3 : tie.Need-array-read-letters-minus-3 Inv-loop μ-loop
-array-read-letters-minus-3 c = search needs
-
-array-read-letters-minus-4 : tie.Need-array-read-letters-minus-4 Inv-loop μ-loop
-array-read-letters-minus-4 c = search needs
+array-read-x : tie.Need-array-read-x Inv-loop μ-loop
+array-read-x c = search needs
 
 letters-minus-requires : tie.Need-letters-minus-requires Inv-loop μ-loop
 letters-minus-requires c κs = search needs
 
-array-read-t23 : tie.Need-array-read-t23 Inv-loop μ-loop
-array-read-t23 c = search needs
-
-array-read-t32 : tie.Need-array-read-t32 Inv-loop μ-loop
-array-read-t32 c = search needs
-
-array-read-t26 : tie.Need-array-read-t26 Inv-loop μ-loop
-array-read-t26 c = search needs
-
-array-read-t41 : tie.Need-array-read-t41 Inv-loop μ-loop
-array-read-t41 c = search needs
-
-mul-t17 : tie.Need-mul-t17 Inv-loop μ-loop
-mul-t17 c = search needs
+mul-t25 : tie.Need-mul-t25 Inv-loop μ-loop
+mul-t25 c = search needs
 
 element-set-from-rows : tie.Need-element-set-from-rows Inv-loop μ-loop
 element-set-from-rows c = let E = c .before .before in
@@ -151,21 +139,17 @@ shear-in-place-spec =
     μ-loop
     mul-by
     element-copy-out-by
+    array-read-by-z
+    array-read-by-x
     has-requires
     loop-holds
     smallest-requires
     mul-row
     element-copy-out-row
-    array-read-letters-minus
-    array-read-letters-minus-2
-    array-read-letters-minus-3
-    array-read-letters-minus-4
+    array-read-z
+    array-read-x
     letters-minus-requires
-    array-read-t23
-    array-read-t32
-    array-read-t26
-    array-read-t41
-    mul-t17
+    mul-t25
     element-set-from-rows
     flip-where-requires
     flip-requires
