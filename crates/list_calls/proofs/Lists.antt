@@ -11,7 +11,7 @@ use Rattle.buffers.specs.Refusals.{firstFitting, line, otherThan}
 use Rattle.record.specs.Lent.{codeNumbers, neighbourWords}
 use Rattle.record.specs.Reduced.{reduced}
 use Rattle.reduction.proofs.Loading.{early-reducible}
-use Rattle.reduction.specs.Passes.{Reducible}
+use Rattle.reduction.specs.Reducible.{Reducible}
 use Rattle.stabilizer.proofs.Accepted.{early-accepted, early-numbered, early-passed}
 use Rattle.stabilizer.proofs.SharedTests.{has-length}
 use Rattle.stabilizer.specs.Lists.{GeneratorList, dependent, earlyLines, listLengths, listLines, rows}

@@ -24,7 +24,7 @@ use Rattle.record.proofs.ReducedRecords.{record-proper}
 use Rattle.record.specs.Lent.{heldRecord, heldRows}
 use Rattle.record.specs.Records.{GraphRecord, rowsOf}
 use Rattle.record.specs.Reduced.{reduced}
-use Rattle.reduction.specs.Passes.{Loaded}
+use Rattle.reduction_passes.specs.Passes.{Loaded}
 use Rattle.stabilizer.proofs.EqualRows.{proper-equal, same-group-equal}
 use Rattle.stabilizer.specs.Groups.{Independent, Proper}
 use Rattle.words.proofs.Places.{put-all}

@@ -15,7 +15,7 @@ ghost use Rattle.operations.specs.InPlace.{MeasuredInPlace, Unrefused, recordIn
 ghost use Rattle.operations.specs.Measurement.{isDetermined, measuredRows, pauliLetter};
 ghost use Rattle.operations.specs.Steps.{ReadOff};
 ghost use Rattle.operations.specs.declared.Outcome.the-variants.{Chosen, Determined};
-ghost use Rattle.reduction.specs.Passes.{Loaded};
+ghost use Rattle.reduction_passes.specs.Passes.{Loaded};
 ghost use Rattle.stabilizer.specs.Groups.{Independent};
 ghost use Rattle.stabilizer.specs.Tableau.{tableau};
 

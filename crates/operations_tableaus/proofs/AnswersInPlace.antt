@@ -30,7 +30,7 @@ use Rattle.record.proofs.AcceptedRecords.{accepted-record}
 use Rattle.record.specs.Lent.{codeNumbers, heldRecord, heldRows, neighbourWords}
 use Rattle.record.specs.Records.{GraphRecord}
 use Rattle.record.specs.Reduced.{reduced}
-use Rattle.reduction.specs.Passes.{Loaded}
+use Rattle.reduction_passes.specs.Passes.{Loaded}
 use Rattle.stabilizer.proofs.EqualRows.{proper-equal, same-group-equal}
 use Rattle.stabilizer.proofs.Products.{anticommute-identity}
 use Rattle.stabilizer.proofs.Verdicts.{independent-exactly}

@@ -14,7 +14,7 @@ use Rattle.operations.specs.Cz.{cz, czRows}
 use Rattle.pauli.proofs.PauliLaws.{Pauli-path}
 use Rattle.pauli.proofs.PhaseLaws.{minus-⊕}
 use Rattle.pauli.specs.Pauli.{_+ᵖ_, minus, signedRow}
-use Rattle.reduction.specs.Passes.{Loaded}
+use Rattle.reduction_passes.specs.Passes.{Loaded}
 use Rattle.stabilizer.specs.Tableau.{tableau}
 use Rattle.words.proofs.Finite.{unequal, ⊕-assoc}
 use Rattle.words.proofs.Sums.{lt-or-ge}

@@ -25,8 +25,8 @@ use Rattle.pauli.proofs.PauliLaws.{Pauli-path}
 use Rattle.pauli.specs.Pauli.{Pauli, anticommute, clash, letter, letterAt, mul, signedRow, xBit, zBit}
 use Rattle.pauli.specs.declared.Letter.{Letter}
 use Rattle.pauli.specs.declared.Letter.the-variants.{I, X, Y, Z}
-use Rattle.reduction.proofs.Passing.{shear-wide}
-use Rattle.reduction.specs.Passes.{Loaded}
+use Rattle.reduction_passes.proofs.Passing.{shear-wide}
+use Rattle.reduction_passes.specs.Passes.{Loaded}
 use Rattle.stabilizer.proofs.Products.{anticommute-identity}
 use Rattle.stabilizer.proofs.Within.{anticommute-wide}
 use Rattle.stabilizer.specs.Elimination.{shear}

@@ -2,12 +2,12 @@
 use libc::STDIN_FILENO;
 use libc::STDOUT_FILENO;
 use list_calls::reduce;
-use text::print::print_record;
-use text::print::print_refusal;
 use text::scan::Verdict;
-use text::scan::finish;
-use text::scan::scan_block;
-use text::scan::start;
+use text_print::print_record;
+use text_print::print_refusal;
+use text_scan::finish;
+use text_scan::scan_block;
+use text_scan::start;
 ghost use mathlib.Core.Path.{_≡_};
 ghost use Prim.Native.Nat.{_≤_, min};
 ghost use lib.ListN.{length};

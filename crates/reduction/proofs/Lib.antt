@@ -1,8 +1,3 @@
-pub mod Shearing
-pub mod Pivoting
-pub mod Passing
-pub mod Storing
-pub mod Rotating
 pub mod Reading
 pub mod Concluding
 pub mod Loading

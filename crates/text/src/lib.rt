@@ -1,3 +1,2 @@
-// The text of a generator list, read byte by byte, and the print of a record and of a refusal.
-pub mod print;
+// The text of a generator list, the texts that answer it, and the scan of a text: see specs/ and proofs/.
 pub mod scan;

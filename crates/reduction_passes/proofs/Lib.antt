@@ -1,0 +1,5 @@
+pub mod Shearing
+pub mod Pivoting
+pub mod Passing
+pub mod Storing
+pub mod Rotating

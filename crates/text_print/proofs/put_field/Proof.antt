@@ -1,0 +1,28 @@
+use native.Mathlib.Omega.{arith}
+use borrow.Author.Needs.{needs}
+use Rattle.text.proofs.HexLaws.{length-decimal}
+use Rattle.text.proofs.Writing.{and-then}
+use Rattle.text_print.proofs.put_field.Statement.{statement}
+use Rattle.text_print.proofs.put_field.Tie as tie
+
+put-decimal-requires : tie.Need-put-decimal-requires
+put-decimal-requires c κs = search needs
+
+put-requires : tie.Need-put-requires
+put-requires c κs = omega (arith, length-decimal (c .before .before .before .before .before .before .args .k))
+
+same-length : tie.Need-same-length
+same-length c = search needs
+
+returns : tie.Need-returns
+returns c =
+    let first = c .before .before .before .before .before .before in
+    and-then (omega (
+      arith,
+      length-decimal (first .before .before .before .args .k),
+      first .before .before .before .pre,
+    ))
+    (first .put-decimal .ensures) (c .before .before .put .ensures)
+
+pub put-field-spec : {M : Type 1} → statement M
+put-field-spec = tie.close (tie.spec put-decimal-requires put-requires same-length returns)

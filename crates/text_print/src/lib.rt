@@ -1,0 +1,105 @@
+// The print of a record and of a refusal, into a lent buffer.
+ghost use mathlib.Core.Path.{_≡_};
+ghost use mathlib.Core.List.{[], _∷_, _++_};
+ghost use Prim.Native.Nat.{_+_, _<_, _≤_};
+ghost use lib.ListN.{length};
+ghost use Rattle.text.specs.Text.{hexDigit, hexText, decimal, space, recordLine, recordText, refusedText};
+ghost use Rattle.text.specs.Text.{Printed, Printable};
+
+fn hex_digit(d: u8) -> u8
+    requires { ⌜ d < 16 ⌝ }
+    ensures { λ r. ⌜ r ≡ hexDigit d ⌝ }
+{
+    if d < 10 { 48 + d } else { 87 + d }
+}
+
+fn put(b: u8, at: usize, out: &mut [u8]) -> usize
+    requires { ⌜ at < length (now out) ⌝ }
+    ensures { λ r. ⌜ Printed (b ∷ []) at (now (out .entry)) (now (out .exit)) r ⌝ }
+{
+    out[at] = b;
+    at + 1
+}
+
+fn put_bytes(bytes: &[u8], at: usize, out: &mut [u8]) -> usize
+    requires { ⌜ at + length (now bytes) ≤ length (now out) ⌝ }
+    ensures { λ r. ⌜ Printed (now (bytes .entry)) at (now (out .entry)) (now (out .exit)) r ⌝ }
+{
+    let mut i = 0;
+    while i < bytes.len() {
+        out[at + i] = bytes[i];
+        i += 1;
+    }
+    at + i
+}
+
+// A decimal number below 100.
+fn put_decimal(k: u8, at: usize, out: &mut [u8]) -> usize
+    requires { ⌜ (k < 100) × (at + 2 ≤ length (now out)) ⌝ }
+    ensures { λ r. ⌜ Printed (decimal k) at (now (out .entry)) (now (out .exit)) r ⌝ }
+{
+    if k < 10 {
+        return put(48 + k, at, out);
+    }
+    let next = put(48 + k / 10, at, out);
+    put(48 + k % 10, next, out)
+}
+
+// The word in 16 hexadecimal digits, the highest first.
+fn put_word(w: u64, at: usize, out: &mut [u8]) -> usize
+    requires { ⌜ at + 16 ≤ length (now out) ⌝ }
+    ensures { λ r. ⌜ Printed (hexText 16 w) at (now (out .entry)) (now (out .exit)) r ⌝ }
+{
+    let mut i = 0;
+    while i < 16 {
+        let d = (w >> (60 - 4 * i)) % 16;
+        out[at + i] = hex_digit(d as u8);
+        i += 1;
+    }
+    at + 16
+}
+
+// A decimal number below 100 and the space behind it.
+fn put_field(k: u8, at: usize, out: &mut [u8]) -> usize
+    requires { ⌜ (k < 100) × (at + 3 ≤ length (now out)) ⌝ }
+    ensures { λ r. ⌜ Printed (decimal k ++ space) at (now (out .entry)) (now (out .exit)) r ⌝ }
+{
+    let next = put_decimal(k, at, out);
+    put(32, next, out)
+}
+
+// The line of qubit q.
+fn put_line(q: u8, code: u8, w: u64, at: usize, out: &mut [u8]) -> usize
+    requires { ⌜ (q < 100) × (code < 100) × (at + 23 ≤ length (now out)) ⌝ }
+    ensures { λ r. ⌜ Printed (recordLine q code w) at (now (out .entry)) (now (out .exit)) r ⌝ }
+{
+    let after_q = put_field(q, at, out);
+    let after_code = put_field(code, after_q, out);
+    let after_w = put_word(w, after_code, out);
+    put(10, after_w, out)
+}
+
+// The record of n qubits: the names and a line for each qubit. Returns the number of bytes.
+pub fn print_record(n: usize, neighbours: &[u64], codes: &[u8], out: &mut [u8]) -> usize
+    requires { ⌜ Printable n (now neighbours) (now codes) (now out) ⌝ }
+    ensures { λ r. ⌜ Printed (recordText n (now (neighbours .entry)) (now (codes .entry))) 0
+        (now (out .entry)) (now (out .exit)) r ⌝ }
+{
+    let mut at = put_bytes(b"qubit code neighbours\n", 0, out);
+    let mut q = 0;
+    while q < n {
+        at = put_line(q as u8, codes[q], neighbours[q], at, out);
+        q += 1;
+    }
+    at
+}
+
+// The line of refusal k. Returns the number of bytes.
+pub fn print_refusal(k: u8, out: &mut [u8]) -> usize
+    requires { ⌜ (k < 100) × (11 ≤ length (now out)) ⌝ }
+    ensures { λ r. ⌜ Printed (refusedText k) 0 (now (out .entry)) (now (out .exit)) r ⌝ }
+{
+    let word = put_bytes(b"refused ", 0, out);
+    let number = put_decimal(k, word, out);
+    put(10, number, out)
+}

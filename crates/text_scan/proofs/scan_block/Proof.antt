@@ -1,0 +1,97 @@
+use mathlib.Core.Path.{_≡_, refl, _∙_, ap}
+use mathlib.Core.Logic.{⊎-elim}
+use mathlib.Core.Bool.{and-eq-true-iff}
+use Prim.Native.Nat.{_<_, _≤_, _-_, zero-le}
+use native.Mathlib.Omega.{arith}
+use lib.Dec.{ltb}
+use lib.ListN.{length, take}
+use lib.Seq.{take-all}
+use borrow.Author.Tests.{ltb-true}
+use borrow.Author.Needs.{needs}
+use Rattle.text.specs.Scan.{reading, fed}
+use Rattle.text.proofs.Feeding.{turn-stored, turn-kept}
+use Rattle.text_scan.proofs.scan_block.Statement.{statement}
+use Rattle.text_scan.proofs.scan_block.Tie as tie
+
+abbrev Inv-loop : tie.InvT-loop
+Inv-loop block signs₀ z₀ x₀ s₀ i₀ signs z x s i = (i ≤ length block)
+    × (reading s signs z x ≡ fed (reading s₀ signs₀ z₀ x₀) (take i block))
+
+abbrev μ-loop : tie.MeasureT-loop
+μ-loop block signs₀ z₀ x₀ s₀ i₀ signs z x s i = length block - i
+
+loop-holds : tie.Need-loop-holds Inv-loop μ-loop
+unfolding fed
+loop-holds c = (zero-le, refl)
+
+shared-slice-read-scan-byte : tie.Need-shared-slice-read-scan-byte Inv-loop μ-loop
+shared-slice-read-scan-byte c = search needs
+
+scan-byte-requires : tie.Need-scan-byte-requires Inv-loop μ-loop
+scan-byte-requires c κs = search needs
+
+-- a line is stored only among the first 64
+line-below : (c : tie.Then1 Inv-loop μ-loop) → c .before .before .before .before .loop .s .count < 64
+line-below c =
+    let row = c .before .before .before .before .loop .s .count in
+    ltb-true row 64 (and-eq-true-iff (ltb row (c .before .scan-byte .result .count)) (ltb row 64) .0
+    (c .if1 .taken) .1)
+
+element-write-signs : tie.Need-element-write-signs Inv-loop μ-loop
+element-write-signs c = line-below c
+
+mul-z : tie.Need-mul-z Inv-loop μ-loop
+mul-z c = omega (arith, line-below c)
+
+element-write-z : tie.Need-element-write-z Inv-loop μ-loop
+element-write-z c = line-below c
+
+mul-x : tie.Need-mul-x Inv-loop μ-loop
+mul-x c = omega (arith, line-below c)
+
+element-write-x : tie.Need-element-write-x Inv-loop μ-loop
+element-write-x c = line-below c
+
+add-i : tie.Need-add-i Inv-loop μ-loop
+add-i c = search needs
+
+loop-less : tie.Need-loop-less Inv-loop μ-loop
+loop-less c = search needs
+
+loop-again : tie.Need-loop-again Inv-loop μ-loop
+loop-again c =
+    let next = c .before .scan-byte .result in
+    let l = c .before .before .before .before .loop in
+    let sofar = reading (l .s) (l .signs) (l .z) (l .x) in
+    let inside = c .before .before .before .loop-test .taken in
+    let stepped = c .before .scan-byte .ensures in (
+      search needs,
+      ⊎-elim
+          (λ w. (λ k. reading next (w .1 k) (w .2 k) (w .3 k))
+          ∙ turn-stored _ sofar _ (l .i) inside (l .inv .1) _ stepped (w .0 .taken))
+          (λ w. (λ k. reading next (w .1 k) (w .2 k) (w .3 k))
+          ∙ turn-kept _ sofar _ (l .i) inside (l .inv .1) _ stepped (w .0 .left))
+          (c .if1 .came),
+    )
+
+returns : tie.Need-returns Inv-loop μ-loop
+returns c = c .before .loop .inv .1 ∙ ap (fed _) (take-all _ _ (c .loop-test .left))
+
+pub scan-block-spec : {M : Type 1} → statement M
+scan-block-spec =
+    tie.close
+    (tie.spec
+    Inv-loop
+    μ-loop
+    loop-holds
+    shared-slice-read-scan-byte
+    scan-byte-requires
+    element-write-signs
+    mul-z
+    element-write-z
+    mul-x
+    element-write-x
+    add-i
+    loop-less
+    loop-again
+    returns)

@@ -1,0 +1,11 @@
+use mathlib.Core.Path.{refl}
+use Rattle.text.specs.Scan.{begin}
+use Rattle.text_scan.proofs.start.Statement.{statement}
+use Rattle.text_scan.proofs.start.Tie as tie
+
+returns : tie.Need-returns
+unfolding begin
+returns c = refl
+
+pub start-spec : {M : Type 1} → statement M
+start-spec = tie.close (tie.spec returns)
