@@ -16,7 +16,8 @@ use Rattle.graph.specs.Graph.{Simple}
 use Rattle.image.proofs.Accepted.{image-group, image-unsigned}
 use Rattle.image.proofs.Exactly.{refused-exactly}
 use Rattle.image.proofs.TrackedBits.{image-length, image-simple}
-use Rattle.image.specs.Image.{imageGraph, imageMinus, imageRecord, loopLines, looped, stuck, wordGraph}
+use Rattle.graph.specs.NeighbourWords.{graphIn}
+use Rattle.image.specs.Image.{imageGraph, imageMinus, imageRecord, loopLines, looped, stuck}
 use Rattle.image.specs.Rule.{imageList}
 use Rattle.pauli.specs.Pauli.{i⁰, minus, scaled}
 use Rattle.record.proofs.AcceptedRecords.{accepted-record}
@@ -71,13 +72,13 @@ module _ (l : LentRecord) (image signs list : List ℕ) (count r : ℕ) (image�
     the-count = C .counted ∙ ap (λ v. acceptedNumber v (length (imageList m held)) count) zero-number
 
     -- the words give the image graph back
-    neighbours-back : (i : ℕ) → i < m → imageGraph m held i ≡ wordGraph image′ i
+    neighbours-back : (i : ℕ) → i < m → imageGraph m held i ≡ graphIn image′ i
     neighbours-back i h = fun-ext (λ q. at q (lt-or-ge q m))
       where
         word : getD image′ i 0 ≡ wordOf m (imageGraph m held i)
         word = ap (λ v. getD v i 0) the-graph ∙ tabulate-at m _ i h
 
-        at : (q : ℕ) → (q < m) ⊎ (m ≤ q) → imageGraph m held i q ≡ wordGraph image′ i q
+        at : (q : ℕ) → (q < m) ⊎ (m ≤ q) → imageGraph m held i q ≡ graphIn image′ i q
         at q (inl b) = sym (ap (λ w. bit w q) word ∙ bit-wordOf m (imageGraph m held i) q b)
         at q (inr b) =
             image-simple m held simple-held .below i q b

@@ -9,7 +9,8 @@ use lib.Dec.{eqb}
 use lib.ListN.{drop, getD, length, take}
 use Rattle.buffers.specs.Refusals.{firstFitting, otherThan}
 use Rattle.graph.specs.Graph.{graphGenerator}
-use Rattle.image.specs.Image.{UnsignedGraph, wordGraph}
+use Rattle.graph.specs.NeighbourWords.{graphIn}
+use Rattle.image.specs.Image.{UnsignedGraph}
 use Rattle.image.specs.Rule.{imageList}
 use Rattle.pauli.specs.Pauli.{Pauli, minus, scaled}
 use Rattle.record.specs.Lent.{LentRecord, heldRecord, heldRows, recordLines}
@@ -20,7 +21,7 @@ use Rattle.claims.specs.ThirdDemand.{complementEach}
 -- the generators of a graph with "one minus sign bit per vertex"
 abbrev pub signedGenerators : List ℕ → List ℕ → ℕ → Pauli
 signedGenerators neighbours signs j =
-    scaled (minus (eqb (getD signs j 0) 1)) (graphGenerator (wordGraph neighbours) j)
+    scaled (minus (eqb (getD signs j 0) 1)) (graphGenerator (graphIn neighbours) j)
 
 -- what comes back
 pub record ImageStands (l : LentRecord) (list image′ signs′ list′ : List ℕ) (count′ : ℕ) : Type 0 where
@@ -32,7 +33,7 @@ pub record ImageStands (l : LentRecord) (list image′ signs′ list′ : List �
   pub past : drop count′ list′ ≡ drop count′ list
   -- "the list must lead to the graph"
   pub leads : (i j : ℕ) → i < l .n →
-      complementEach ((heldRecord l) .graph) (take count′ list′) i j ≡ wordGraph image′ i j
+      complementEach ((heldRecord l) .graph) (take count′ list′) i j ≡ graphIn image′ i j
   -- "Its count is the number of complementations done", which fit into the buffer
   pub amount : count′ ≡ length (imageList (l .n) (heldRecord l))
   pub few : count′ ≤ 3 * l .n / 2

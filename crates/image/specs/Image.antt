@@ -3,7 +3,6 @@
 use mathlib.Core.Bool.{_&&_, Bool, false, not, _||_}
 use mathlib.Core.List.{_++_, List, [], _∷_}
 use Prim.Native.Nat.{ℕ}
-use lib.ListN.{getD}
 use Rattle.buffers.specs.Refusals.{Line, line, otherThan}
 use Rattle.graph.specs.Graph.{Graph, Simple, graphGenerator}
 use Rattle.pauli.specs.Pauli.{Pauli, i², letterAt, minus, scaled, xBit, zBit}
@@ -12,13 +11,9 @@ use Rattle.record.specs.Lent.{LentRecord, heldRecord, recordLines}
 use Rattle.record.specs.Records.{GraphRecord, complementAll, rowsOf}
 use Rattle.stabilizer.specs.Groups.{InGroup}
 use Rattle.stabilizer.specs.Membership.{member}
-use Rattle.words.specs.Bits.{Word, bit}
+use Rattle.words.specs.Bits.{Word}
 use Rattle.words.specs.Search.{some}
 use Rattle.image.specs.Rule.{follow, imageList, stateOf}
-
--- the graph of neighbour words; no neighbours past the words
-abbrev pub wordGraph : List ℕ → Graph
-wordGraph words j = bit (getD words j 0)
 
 -- the record at the end: the given one complemented at each vertex of the list; its group is the image group
 abbrev pub imageRecord : ℕ → GraphRecord → GraphRecord

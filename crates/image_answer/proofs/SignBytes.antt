@@ -12,7 +12,7 @@ use Rattle.words.proofs.OnesLaws.{dot-bits}
 use Rattle.words.proofs.Sums.{fold-ext}
 use Rattle.words.specs.Bits.{bit, digit, dot, _⊕_}
 use Rattle.image.proofs.Signs.{minusAt}
-use Rattle.image.specs.Image.{wordGraph}
+use Rattle.graph.specs.NeighbourWords.{graphIn}
 use Rattle.image_rule.specs.Working.{WordsOf}
 use Rattle.image_rule.specs.declared.bits_of_codes.CodeWords.{CodeWords}
 
@@ -29,7 +29,7 @@ sign-by sx sz around j own others a b e f p q = ap₂ (λ a b. digit (a ⊕ b)) 
 -- it is the sign of generator j, where the words hold the signs of the codes
 pub sign-formula : (n : ℕ) (words : List ℕ) (c : ℕ → Clifford) (k : CodeWords) → WordsOf n c k → (j : ℕ)
     → j < n →
-    getD words j 0 < 2 ^ n → bit (k .sx) j ⊕ dot (getD words j 0) (k .sz) ≡ minusAt n (wordGraph words) c j
+    getD words j 0 < 2 ^ n → bit (k .sx) j ⊕ dot (getD words j 0) (k .sz) ≡ minusAt n (graphIn words) c j
 sign-formula n words c k W j l h =
     ap₂ _⊕_ (W .SX j ∙ ap (λ b. b && (c j) .sx) (lt-ltb j n l))
     (dot-bits n (getD words j 0) (k .sz) h

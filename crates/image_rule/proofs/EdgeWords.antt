@@ -12,7 +12,7 @@ use Rattle.graph.specs.Graph.{Simple, complement}
 use Rattle.words.proofs.BitLaws.{bit-flip, bit-xor}
 use Rattle.words.proofs.Finite.{⊕-zero}
 use Rattle.words.specs.Bits.{bit, _⊕_}
-use Rattle.image.specs.Image.{wordGraph}
+use Rattle.graph.specs.NeighbourWords.{graphIn}
 
 flip-bit : (w a q : Bool) (own : Bool) → (own ≡ true → q ≡ true) → w ⊕ (q ⊕ own) ≡ w
     ⊕ ((true && q) && not own)
@@ -36,9 +36,9 @@ flip-far w around i h j =
 
 -- what each word is to be
 abbrev pub EdgesAt : List ℕ → ℕ → ℕ → ℕ → Type 0
-EdgesAt words v i w = (j : ℕ) → bit w j ≡ complement (wordGraph words) v i j
+EdgesAt words v i w = (j : ℕ) → bit w j ≡ complement (graphIn words) v i j
 
 -- at and above n nothing changes
-pub edges-above : (n v : ℕ) (words : List ℕ) → Simple n (wordGraph words) → (i : ℕ) → n ≤ i →
+pub edges-above : (n v : ℕ) (words : List ℕ) → Simple n (graphIn words) → (i : ℕ) → n ≤ i →
     EdgesAt words v i (getD words i 0)
 edges-above n v words S i l = flip-far (getD words i 0) (getD words v 0) i (S .below v i l)

@@ -22,7 +22,7 @@ use Rattle.words.proofs.Places.{other-place, put-other, put-same, same-place}
 use Rattle.words.specs.Bits.{bit, put, _⊕_}
 use Rattle.image.proofs.TrackedBits.{bits-follow}
 use Rattle.image.specs.Rule.{State, stateOf, step}
-use Rattle.image.specs.Image.{wordGraph}
+use Rattle.graph.specs.NeighbourWords.{graphIn}
 use Rattle.image_rule.specs.Working.{Complemented, Tracking, workingRecord}
 use Rattle.image_rule.specs.declared.complementing.Working.{Working}
 
@@ -70,7 +70,7 @@ module _ (n : ℕ) (w : Working) (v : ℕ) (l : v < n) (T : Tracking n w) where
       ∙ sym (T .C q) ∙ T .above q k
 
   module _ (small : w .count < 96) (words codes : List ℕ) (mask : ℕ)
-      (edges : (i j : ℕ) → wordGraph words i j ≡ complement (wordGraph (w .neighbours)) v i j)
+      (edges : (i j : ℕ) → graphIn words i j ≡ complement (graphIn (w .neighbours)) v i j)
       (recodes : (q : ℕ) → codesOf codes q ≡ recoded (λ _. bit around) v (codesOf (w .codes)) q)
       (below : (q : ℕ) → getD codes q 0 < 24) (single : mask ≡ 2 ^ v) where
     abbrev after : Working
@@ -100,7 +100,7 @@ module _ (n : ℕ) (w : Working) (v : ℕ) (l : v < n) (T : Tracking n w) where
           tracking =
               record {
                 simple = subst (λ r. Simple n (r .graph)) (sym held)
-                    (complement-simple n (wordGraph (w .neighbours)) (T .simple) v);
+                    (complement-simple n (graphIn (w .neighbours)) (T .simple) v);
                 codes-below = below;
                 C = λ q. c-after mask single q ∙ ap (λ s. s .C q) (sym state);
                 D = λ q k. d-after q k ∙ ap (λ s. s .D q) (sym state);

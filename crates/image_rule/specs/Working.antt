@@ -14,12 +14,13 @@ use Rattle.pauli.specs.declared.Letter.the-variants.{X}
 use Rattle.record.specs.Lent.{LentRecord, heldRecord}
 use Rattle.record.specs.Records.{GraphRecord, complementAll}
 use Rattle.words.specs.Bits.{bit}
-use Rattle.image.specs.Image.{isY, wordGraph}
+use Rattle.graph.specs.NeighbourWords.{graphIn}
+use Rattle.image.specs.Image.{isY}
 use Rattle.image_rule.specs.declared.bits_of_codes.CodeWords.{CodeWords}
 use Rattle.image_rule.specs.declared.complementing.Working.{Working}
 
 abbrev pub workingRecord : Working → GraphRecord
-workingRecord w = record { graph = wordGraph (w .neighbours); codes = codesOf (w .codes) }
+workingRecord w = record { graph = graphIn (w .neighbours); codes = codesOf (w .codes) }
 
 -- the list so far
 abbrev pub listed : Working → List ℕ
@@ -27,7 +28,7 @@ listed w = take (w .count) (w .list)
 
 -- the graph is simple, and the words c and d have the bits C and D of the codes; c has none at or above n
 pub record Tracking (n : ℕ) (w : Working) : Type 0 where
-  pub simple : Simple n (wordGraph (w .neighbours))
+  pub simple : Simple n (graphIn (w .neighbours))
   pub codes-below : (q : ℕ) → getD (w .codes) q 0 < 24
   pub C : (q : ℕ) → bit (w .c) q ≡ bitC (codesOf (w .codes) q)
   pub D : (q : ℕ) → q < n → bit (w .d) q ≡ bitD (codesOf (w .codes) q)

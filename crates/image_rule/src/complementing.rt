@@ -14,7 +14,7 @@ ghost use Rattle.clifford.specs.Clifford.{cliffordOf, then};
 ghost use Rattle.clifford.specs.Vectors.{codesOf};
 ghost use Rattle.graph.specs.Graph.{Simple, complement};
 ghost use Rattle.record.specs.Records.{recoded};
-ghost use Rattle.image.specs.Image.{wordGraph};
+ghost use Rattle.graph.specs.NeighbourWords.{graphIn};
 ghost use Rattle.image_rule.specs.Working.{Complemented, Tracking};
 
 // The state of the image rule: the graph and the codes as they are, the bits C and D, and the list.
@@ -42,8 +42,8 @@ fn flipped_word(w: u64, around: u64, i: usize) -> u64
 
 // Complementing the graph at v.
 fn flip_edges(neighbours: [u64; 64], n: usize, v: usize) -> [u64; 64]
-    requires { ⌜ (n ≤ 64) × (v < n) × Simple n (wordGraph neighbours) ⌝ }
-    ensures { λ r. ⌜ ((i j : ℕ) → wordGraph r i j ≡ complement (wordGraph neighbours) v i j) ⌝ }
+    requires { ⌜ (n ≤ 64) × (v < n) × Simple n (graphIn neighbours) ⌝ }
+    ensures { λ r. ⌜ ((i j : ℕ) → graphIn r i j ≡ complement (graphIn neighbours) v i j) ⌝ }
 {
     let around = neighbours[v];
     let mut flipped = neighbours;

@@ -3,14 +3,14 @@
 use mathlib.Core.Bool.{Bool, not, _||_}
 use mathlib.Core.List.{List, [], _∷_}
 use Prim.Native.Nat.{_^_, ℕ}
-use lib.ListN.{getD}
 use Rattle.buffers.specs.Buffers.{tabulate}
 use Rattle.buffers.specs.Refusals.{Line, badCount, line, otherThan, reaching}
 use Rattle.clifford.specs.Clifford.{codeOf}
 use Rattle.clifford.specs.Vectors.{codesOf}
 use Rattle.graph.specs.Graph.{Graph}
+use Rattle.graph.specs.NeighbourWords.{graphIn}
 use Rattle.pauli.specs.Pauli.{Pauli}
-use Rattle.words.specs.Bits.{bit, sameBit, wordOf}
+use Rattle.words.specs.Bits.{sameBit, wordOf}
 use Rattle.words.specs.Search.{some}
 use Rattle.record.specs.Records.{GraphRecord, rowsOf}
 
@@ -22,7 +22,7 @@ pub record LentRecord : Type 0 where
 
 -- what the buffers hold; no neighbour and code 0 at and above their length
 abbrev pub heldRecord : LentRecord → GraphRecord
-heldRecord l = record { graph = λ j. bit (getD (l .neighbours) j 0); codes = codesOf (l .codes) }
+heldRecord l = record { graph = graphIn (l .neighbours); codes = codesOf (l .codes) }
 
 -- its generators
 abbrev pub heldRows : LentRecord → ℕ → Pauli
