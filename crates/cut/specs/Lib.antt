@@ -1,2 +1,3 @@
 pub mod Rank
 pub mod Cut
+pub mod Kernel
