@@ -3,12 +3,13 @@
 -- Assumes nothing.
 use mathlib.Core.Bool.{_&&_, Bool, false, not, true}
 use mathlib.Core.Logic.{_↔_}
-use mathlib.Core.Path.{ap, ap₂, fun-ext, refl, sym, _∙_, _≡_}
+use mathlib.Core.Path.{ap, ap₂, fun-ext, sym, _∙_, _≡_}
 use Prim.Native.Nat.{_+_, _<_, _^_, suc, ℕ}
 use native.Mathlib.Nat.{le-antisymm, le-refl, lt-irrefl, one-mul, two-pow-succ}
 use native.Mathlib.Omega.{arith}
 use lib.Bits.{bitXor, xor-lt, xor-shifted}
 use lib.Dec.{eqb}
+use borrow.Author.Tests.{not-true}
 use Rattle.record.specs.Columns.{columnDependent}
 use Rattle.words.proofs.BitLaws.{bit-above, bit-ext∞, bit-single, bit-xor}
 use Rattle.words.proofs.Finite.{bits, ⊕-and, ⊕-self}
@@ -30,13 +31,9 @@ pub in-kernel : (m n : ℕ) (M : ℕ → Word) (v : ℕ) →
     (inKernel m n M v ≡ true) ↔ ((j : ℕ) → j < m → parity n (λ t. bit v t && M j t) ≡ false)
 unfolding inKernel
 in-kernel m n M v = (
-  (λ e j l. no-not (sumAt n M (bit v) j) (every-at m _ e j l)),
+  (λ e j l. not-true (sumAt n M (bit v) j) (every-at m _ e j l)),
   (λ h. every-in m _ (λ j l. ap not (h j l))),
 )
-  where
-    no-not : (b : Bool) → not b ≡ true → b ≡ false
-    no-not false e = refl
-    no-not true e = sym e
 
 -- two words add as numbers
 xor-sum : (n : ℕ) (M : ℕ → Word) (v d j : ℕ)

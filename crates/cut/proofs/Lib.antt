@@ -1,3 +1,8 @@
 pub mod Counting
 pub mod KernelLaws
 pub mod RankLaws
+pub mod Sides
+pub mod OneSidedElements
+pub mod CutOfGroups
+pub mod CutKept
+pub mod Examples
