@@ -23,8 +23,8 @@ abbrev ring : List ℕ
 ring = 10 ∷ 5 ∷ 10 ∷ 5 ∷ []
 
 -- 0-1 and 2-3
-abbrev bellPairs : List ℕ
-bellPairs = 2 ∷ 1 ∷ 8 ∷ 4 ∷ []
+abbrev bells : List ℕ
+bells = 2 ∷ 1 ∷ 8 ∷ 4 ∷ []
 
 -- sides as words: 1 is {0}, 3 is {0, 1}, 5 is {0, 2}, 15 has every vertex
 pub stars : (across star 0 ∷ across star 1 ∷ across star 2 ∷ across star 3 ∷ across star 15 ∷ [])
@@ -37,7 +37,7 @@ pub rings : (across ring 0 ∷ across ring 1 ∷ across ring 3 ∷ across ring 5
 unfolding fold columnDependent some every bit
 rings = refl
 
-pub pairs : (across bellPairs 0 ∷ across bellPairs 1 ∷ across bellPairs 3 ∷ across bellPairs 5 ∷ across bellPairs 15 ∷ [])
+pub pairs : (across bells 0 ∷ across bells 1 ∷ across bells 3 ∷ across bells 5 ∷ across bells 15 ∷ [])
     ≡ (0 ∷ 1 ∷ 0 ∷ 2 ∷ 0 ∷ [])
 unfolding fold columnDependent some every bit
 pairs = refl
