@@ -3,13 +3,16 @@
 use mathlib.Core.Bool.{_&&_, Bool, and-true, false, not, true}
 use mathlib.Core.Logic.{inl, inr, _⊎_}
 use mathlib.Core.Path.{ap, ap₂, refl, subst, sym, _∙_, _≡_}
-use Prim.Native.Nat.{_+_, _<_, _≤_, suc, zero, zero-le, ℕ}
-use native.Mathlib.Nat.{add-assoc, add-suc, add-zero, lt-irrefl, not-suc-le-zero}
+use Prim.Native.Nat.{_+_, _<_, _^_, _≤_, suc, zero, zero-le, ℕ}
+use native.Mathlib.Nat.{add-assoc, add-suc, add-zero, le-antisymm, lt-irrefl, not-suc-le-zero}
 use native.Mathlib.Omega.{arith}
+use lib.Bits.{bitXor, xor-lt}
 use lib.Dec.{eqb}
+use Rattle.words.proofs.BitLaws.{bit-ext∞, bit-xor}
+use Rattle.words.proofs.Finite.{bits}
 use Rattle.words.proofs.Places.{other-place, same-place}
 use Rattle.words.proofs.Sums.{fold-ext, last-or}
-use Rattle.words.specs.Bits.{digit, fold}
+use Rattle.words.specs.Bits.{bit, digit, fold, _⊕_}
 use Rattle.cut.specs.Kernel.{count}
 
 pub count-ext : (b : ℕ) (f g : ℕ → Bool) → ((v : ℕ) → v < b → f v ≡ g v) → count b f ≡ count b g
@@ -26,6 +29,17 @@ count-upto zero f = zero-le
 count-upto (suc b) f = go (f b) (count-upto b f)
   where
     go : (v : Bool) → count b f ≤ b → count b f + digit v ≤ suc b
+    go false h = omega arith
+    go true h = omega arith
+
+-- those that pass, and those that do not
+pub count-both : (b : ℕ) (f : ℕ → Bool) → count b f + count b (λ v. not (f v)) ≡ b
+unfolding fold
+count-both zero f = refl
+count-both (suc b) f = go (f b) (count-both b f)
+  where
+    go : (s : Bool) → count b f + count b (λ v. not (f v)) ≡ b
+        → (count b f + digit s) + (count b (λ v. not (f v)) + digit (not s)) ≡ suc b
     go false h = omega arith
     go true h = omega arith
 
@@ -98,3 +112,27 @@ count-le (suc b) f c h J = go (f b) refl (count-le b f c)
           apart = λ v w l k. J .apart v w (up l) (up k);
         }) in
         omega (arith, fewer, count-except c h (J .to b last e) (J .below b last e) (J .passes b last e))
+
+-- ---- words
+xor-apart : (d v w : ℕ) → bitXor v d ≡ bitXor w d → v ≡ w
+xor-apart d v w e = bit-ext∞ v w (λ t. back (bit v t) (bit d t)
+    ∙ ap (λ b. b ⊕ bit d t) (sym (bit-xor v d t) ∙ ap (λ u. bit u t) e ∙ bit-xor w d t)
+    ∙ sym (back (bit w t) (bit d t)))
+  where
+    back : (a b : Bool) → a ≡ (a ⊕ b) ⊕ b
+    back = bits 2 (λ a b. a) (λ a b. (a ⊕ b) ⊕ b) tt
+
+-- adding a word exchanges the words that pass two tests
+pub count-exchange : (n d : ℕ) → d < 2 ^ n → (f g : ℕ → Bool) → ((v : ℕ) → f v ≡ true → g (bitXor v d) ≡ true)
+    → ((v : ℕ) → g v ≡ true → f (bitXor v d) ≡ true) → count (2 ^ n) f ≡ count (2 ^ n) g
+count-exchange n d h f g forth back = le-antisymm (count-le (2 ^ n) f (2 ^ n) g (added f g forth))
+    (count-le (2 ^ n) g (2 ^ n) f (added g f back))
+  where
+    added : (f g : ℕ → Bool) → ((v : ℕ) → f v ≡ true → g (bitXor v d) ≡ true) → Injection (2 ^ n) f (2 ^ n) g
+    added f g k =
+        record {
+          to = λ v l e. bitXor v d;
+          below = λ v l e. xor-lt n v d l h;
+          passes = λ v l e. k v e;
+          apart = λ v w l m e c. xor-apart d v w;
+        }

@@ -5,13 +5,13 @@ use mathlib.Core.Bool.{_&&_, Bool, false, not, true}
 use mathlib.Core.Logic.{_↔_}
 use mathlib.Core.Path.{ap, ap₂, fun-ext, sym, _∙_, _≡_}
 use Prim.Native.Nat.{_+_, _<_, _^_, suc, ℕ}
-use native.Mathlib.Nat.{le-antisymm, le-refl, lt-irrefl, one-mul, two-pow-succ}
+use native.Mathlib.Nat.{le-refl, lt-irrefl, one-mul, two-pow-succ}
 use native.Mathlib.Omega.{arith}
-use lib.Bits.{bitXor, xor-lt, xor-shifted}
+use lib.Bits.{bitXor, xor-shifted}
 use lib.Dec.{eqb}
 use borrow.Author.Tests.{not-true}
 use Rattle.record.specs.Columns.{columnDependent}
-use Rattle.words.proofs.BitLaws.{bit-above, bit-ext∞, bit-single, bit-xor}
+use Rattle.words.proofs.BitLaws.{bit-above, bit-single, bit-xor}
 use Rattle.words.proofs.Finite.{bits, ⊕-and, ⊕-self}
 use Rattle.words.proofs.Flags.{sameBit-true, true-sameBit}
 use Rattle.words.proofs.Places.{other-place, same-place}
@@ -19,11 +19,11 @@ use Rattle.words.proofs.SearchLaws.{every-at, every-in, some-false, some-true}
 use Rattle.words.proofs.Sums.{fold-ext, parity-add}
 use Rattle.words.specs.Bits.{Word, bit, fold, parity, sameBit, _⊕_}
 use Rattle.words.specs.Search.{IsFirst, every, first}
-use Rattle.cut.proofs.Counting.{count-add, count-ext, count-le, count-none}
+use Rattle.cut.proofs.Counting.{count-add, count-exchange, count-ext, count-none}
 use Rattle.cut.specs.Kernel.{count, inKernel, kernelSize}
 
 -- the sum of the columns that a word chooses, in row j
-abbrev sumAt : ℕ → (ℕ → Word) → Word → Word
+abbrev pub sumAt : ℕ → (ℕ → Word) → Word → Word
 sumAt n M w j = parity n (λ t. w t && M j t)
 
 -- ---- the test
@@ -36,19 +36,11 @@ in-kernel m n M v = (
 )
 
 -- two words add as numbers
-xor-sum : (n : ℕ) (M : ℕ → Word) (v d j : ℕ)
+pub xor-sum : (n : ℕ) (M : ℕ → Word) (v d j : ℕ)
     → sumAt n M (bit (bitXor v d)) j ≡ sumAt n M (bit v) j ⊕ sumAt n M (bit d) j
 xor-sum n M v d j =
     fold-ext false _⊕_ n (λ t l. ap (λ b. b && M j t) (bit-xor v d t) ∙ ⊕-and (bit v t) (bit d t) (M j t))
     ∙ parity-add n _ _
-
-xor-apart : (d v w : ℕ) → bitXor v d ≡ bitXor w d → v ≡ w
-xor-apart d v w e = bit-ext∞ v w (λ t. back (bit v t) (bit d t)
-    ∙ ap (λ b. b ⊕ bit d t) (sym (bit-xor v d t) ∙ ap (λ u. bit u t) e ∙ bit-xor w d t)
-    ∙ sym (back (bit w t) (bit d t)))
-  where
-    back : (a b : Bool) → a ≡ (a ⊕ b) ⊕ b
-    back = bits 2 (λ a b. a) (λ a b. (a ⊕ b) ⊕ b) tt
 
 -- ---- one column more
 module _ (m : ℕ) (M : ℕ → Word) (q : ℕ) where
@@ -97,19 +89,11 @@ module _ (m : ℕ) (M : ℕ → Word) (q : ℕ) where
   -- one does: adding it exchanges the words that name column q and those of the kernel
   sums-kernel : columnDependent m M q ≡ true → count (2 ^ q) isSum ≡ kernelSize m q M
   unfolding columnDependent
-  sums-kernel e = le-antisymm (count-le (2 ^ q) isSum (2 ^ q) (inKernel m q M) (record {
-    to = λ v l k. bitXor v d;
-    below = λ v l k. xor-lt q v d l (D .below);
-    passes = λ v l k. in-kernel m q M (bitXor v d) .1 (λ j h. xor-sum q M v d j
-        ∙ ap₂ _⊕_ (sym (named v k j h)) (sym (named d (D .passes) j h)) ∙ ⊕-self (M j q));
-    apart = λ v w l k e g. xor-apart d v w;
-  })) (count-le (2 ^ q) (inKernel m q M) (2 ^ q) isSum (record {
-    to = λ v l k. bitXor v d;
-    below = λ v l k. xor-lt q v d l (D .below);
-    passes = λ v l k. every-in m _ (λ j h. sameBit-true (named d (D .passes) j h
-        ∙ sym (xor-sum q M v d j ∙ ap (λ b. b ⊕ sumAt q M (bit d) j) (in-kernel m q M v .0 k j h))));
-    apart = λ v w l k e g. xor-apart d v w;
-  }))
+  sums-kernel e = count-exchange q d (D .below) isSum (inKernel m q M)
+      (λ v k. in-kernel m q M (bitXor v d) .1 (λ j h. xor-sum q M v d j
+      ∙ ap₂ _⊕_ (sym (named v k j h)) (sym (named d (D .passes) j h)) ∙ ⊕-self (M j q)))
+      (λ v k. every-in m _ (λ j h. sameBit-true (named d (D .passes) j h
+      ∙ sym (xor-sum q M v d j ∙ ap (λ b. b ⊕ sumAt q M (bit d) j) (in-kernel m q M v .0 k j h)))))
     where
       d : ℕ
       d = first (2 ^ q) isSum
