@@ -6,5 +6,7 @@ pub mod ImageDemandHolds
 pub mod GatesFollow
 pub mod MeasurementsFollow
 pub mod RewritingsKeep
+pub mod CzInsideSide
+pub mod CutDemandHolds
 pub mod FirstDemandHolds
 pub mod AnswerBuffers

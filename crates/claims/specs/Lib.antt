@@ -3,4 +3,5 @@ pub mod SecondDemand
 pub mod ThirdDemand
 pub mod ImageDemand
 pub mod OperationsDemand
+pub mod CutDemand
 pub mod FirstDemand

@@ -1,0 +1,10 @@
+pub mod Counting
+pub mod KernelLaws
+pub mod RankLaws
+pub mod EvenWords
+pub mod Transposed
+pub mod Sides
+pub mod OneSidedElements
+pub mod CutOfGroups
+pub mod CutKept
+pub mod Examples

@@ -1,0 +1,4 @@
+pub mod Rank
+pub mod Cut
+pub mod Kernel
+pub mod OneSided
