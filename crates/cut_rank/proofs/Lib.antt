@@ -1,0 +1,4 @@
+mod Spans
+mod Remainders
+mod Elimination
+mod Crossings
