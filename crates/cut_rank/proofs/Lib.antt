@@ -1,4 +1,4 @@
-mod Spans
-mod Remainders
-mod Elimination
-mod Crossings
+pub mod Spans
+pub mod Remainders
+pub mod Elimination
+pub mod Crossings
