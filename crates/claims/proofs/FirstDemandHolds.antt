@@ -40,6 +40,7 @@ use Rattle.stabilizer.specs.Lists.{GeneratorList, listLengths, listLines, listO
 use Rattle.record_calls.proofs.InPlaceLines.{held-accepted}
 use Rattle.list_calls.specs.Calls.{ExpandCall, ReduceCall, checkLines, expandLines, reduceLines}
 use Rattle.compare_call.specs.Comparisons.{CompareCall, compareList}
+use Rattle.cut_call.specs.Cuts.{cutLines}
 use Rattle.image_call.specs.Images.{Imaged}
 use Rattle.record_calls.specs.InPlaceCalls.{InPlaceCall, MeasureCall}
 use Rattle.words.proofs.Flags.{neither}
@@ -263,5 +264,7 @@ first-demand =
       complements = λ l a r nb′ cs′ C. in-place-answered l _ _ (complementRecord (heldRecord l) a) r nb′ cs′ C;
       pivots = λ l j k r nb′ cs′ C. in-place-answered l _ _ (pivotRecord (heldRecord l) j k) r nb′ cs′ C;
       images = image-answered;
+      cuts = λ l side rank r rank′ C. answered (cutLines l side) r _ refl (C .number)
+          (one-place r rank _ rank′ (C .ranked), tt) (λ z. (refl, tt));
       comparisons = compare-answered;
     }

@@ -37,9 +37,11 @@ use Rattle.record.specs.Reduced.{reduced}
 use Rattle.stabilizer.specs.Lists.{GeneratorList, listOf, rows}
 use Rattle.list_calls.specs.Calls.{CheckCall, ExpandCall, ReduceCall, checkLines, expandLines, reduceLines}
 use Rattle.compare_call.specs.Comparisons.{CompareCall, compareList}
+use Rattle.cut.specs.Cut.{cutRank}
+use Rattle.cut_call.specs.Cuts.{CutCall, cutLines}
 use Rattle.image_call.specs.Images.{Imaged}
 use Rattle.record_calls.specs.InPlaceCalls.{InPlaceCall, MeasureCall}
-use Rattle.words.specs.Bits.{digit, isOdd}
+use Rattle.words.specs.Bits.{bit, digit, isOdd}
 
 -- "the first fitting number of the published list": that of a line that holds where none before it does; 0 where none
 -- holds
@@ -128,6 +130,8 @@ pub record FirstDemand : Type 0 where
       ∷ buffer s (tabulate (l .n) (λ j. digit (imageMinus (l .n) (heldRecord l) j))) s′
       ∷ buffer v (written (imageList (l .n) (heldRecord l)) v) v′
       ∷ number count (length (imageList (l .n) (heldRecord l))) count′ ∷ [])
+  pub cuts : (l : LentRecord) (side rank r rank′ : ℕ) → CutCall l side rank r rank′ →
+      Answered (cutLines l side) r (number rank (cutRank (l .n) (bit side) ((heldRecord l) .graph)) rank′ ∷ [])
   pub comparisons : (l m : GeneratorList) (choice list : List ℕ) (count r : ℕ) (choice′ list′ : List ℕ)
       (count′ : ℕ) → CompareCall l m choice list count r choice′ list′ count′ →
       Answered (compareLines l m choice list) r
