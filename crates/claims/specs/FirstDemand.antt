@@ -31,14 +31,14 @@ use Rattle.operations.specs.Steps.{
   pivotRecord,
 }
 use Rattle.clifford.specs.Clifford.{cliffordOf}
+use Rattle.cut.specs.Cut.{cutRank}
+use Rattle.cut_call.specs.Cuts.{CutCall, cutLines}
 use Rattle.record.specs.Lent.{LentRecord, codeNumbers, heldRecord, heldRows, neighbourWords}
 use Rattle.record.specs.Records.{GraphRecord, complementRecord, rowsOf}
 use Rattle.record.specs.Reduced.{reduced}
 use Rattle.stabilizer.specs.Lists.{GeneratorList, listOf, rows}
 use Rattle.list_calls.specs.Calls.{CheckCall, ExpandCall, ReduceCall, checkLines, expandLines, reduceLines}
 use Rattle.compare_call.specs.Comparisons.{CompareCall, compareList}
-use Rattle.cut.specs.Cut.{cutRank}
-use Rattle.cut_call.specs.Cuts.{CutCall, cutLines}
 use Rattle.image_call.specs.Images.{Imaged}
 use Rattle.record_calls.specs.InPlaceCalls.{InPlaceCall, MeasureCall}
 use Rattle.words.specs.Bits.{bit, digit, isOdd}
