@@ -127,6 +127,15 @@ uint8_t sukhlent_image(uint64_t n,
                        uint8_t *list, size_t list_len,
                        uint64_t *count);
 
+/* Reads the entanglement between two sides of the qubits: writes to *rank the rank modulo 2 of the
+ * edges of a record between the side that the word `side` marks and the other. An empty or full
+ * side gives 0.
+ * Refusals: 2, 4, 5 (also where `side` has a bit at or above n), 6, 7. */
+uint8_t sukhlent_cut(uint64_t n,
+                     const uint64_t *neighbours, size_t neighbours_len,
+                     const uint8_t *codes, size_t codes_len,
+                     uint64_t side, uint64_t *rank);
+
 /* Compares the groups of two generator lists on at most 20 qubits: writes the least choice of one
  * code per qubit that carries the first group onto the second, and the vertices at which the
  * first reduced graph is complemented, in order, to become the second. `choice` has n places,

@@ -16,7 +16,7 @@ use Rattle.pauli.proofs.PhaseLaws.{+ᵖ-assoc, +ᵖ-zero, phases}
 use Rattle.pauli.specs.Pauli.{_+ᵖ_, Pauli, Phase, i⁰, minus}
 use Rattle.record.specs.Records.{GraphRecord, rowsOf}
 use Rattle.stabilizer.specs.Groups.{InGroup}
-use Rattle.words.proofs.Finite.{bits}
+use Rattle.words.proofs.Finite.{bits, ⊕-twice}
 use Rattle.words.proofs.Places.{other-place, place-comm, same-place}
 use Rattle.words.specs.Bits.{Word, _⊕_}
 
@@ -30,7 +30,7 @@ cz-twice a b p =
     ∙ ap (λ C. signs true (eqb a b) C true (p .z a) (p .x a) (p .z b) (p .x b)) (place-comm b a)
     ∙ no-sign (eqb a b) (p .z a) (p .x a) (p .z b) (p .x b))
     ∙ +ᵖ-zero (p .phase))
-    (λ q. back (p .z q) ((eqb q a && p .x b) ⊕ (eqb q b && p .x a))) (λ q. refl)
+    (λ q. ⊕-twice (p .z q) ((eqb q a && p .x b) ⊕ (eqb q b && p .x a))) (λ q. refl)
   where
     -- the signs of the two rounds; A, B, C, D: a is a, a is b, b is a, b is b
     signs : Bool → Bool → Bool → Bool → Bool → Bool → Bool → Bool → Phase
@@ -40,9 +40,6 @@ cz-twice a b p =
 
     no-sign : (e za xa zb xb : Bool) → signs true e e true za xa zb xb ≡ i⁰
     no-sign = phases 5 (λ e. signs true e e true) (λ e za xa zb xb. i⁰) tt
-
-    back : (z u : Bool) → (z ⊕ u) ⊕ u ≡ z
-    back = bits 2 (λ z u. (z ⊕ u) ⊕ u) (λ z u. z) tt
 
 module _ (n : ℕ) (side : Word) (a b : ℕ) (ha : a < n) (hb : b < n) (inside : side a ≡ side b) where
   pub cz-avoids : (p : Pauli) → Avoids n side p → Avoids n side (cz a b p)

@@ -35,6 +35,7 @@ use Rattle.record.specs.Lent.{
 }
 use Rattle.record.specs.Records.{GraphRecord, complementRecord, rowsOf}
 use Rattle.record.specs.Reduced.{reduced}
+use Rattle.cut_call.specs.Cuts.{cutLines}
 use Rattle.stabilizer.proofs.SharedTests.{has-length}
 use Rattle.stabilizer.specs.Lists.{GeneratorList, listLengths, listLines, listOf, rows}
 use Rattle.record_calls.proofs.InPlaceLines.{held-accepted}
@@ -264,5 +265,7 @@ first-demand =
       complements = λ l a r nb′ cs′ C. in-place-answered l _ _ (complementRecord (heldRecord l) a) r nb′ cs′ C;
       pivots = λ l j k r nb′ cs′ C. in-place-answered l _ _ (pivotRecord (heldRecord l) j k) r nb′ cs′ C;
       images = image-answered;
+      cuts = λ l side rank r rank′ C. answered (cutLines l side) r _ refl (C .number)
+          (one-place r rank _ rank′ (C .ranked), tt) (λ z. (refl, tt));
       comparisons = compare-answered;
     }

@@ -31,6 +31,8 @@ use Rattle.operations.specs.Steps.{
   pivotRecord,
 }
 use Rattle.clifford.specs.Clifford.{cliffordOf}
+use Rattle.cut.specs.Cut.{cutRank}
+use Rattle.cut_call.specs.Cuts.{CutCall, cutLines}
 use Rattle.record.specs.Lent.{LentRecord, codeNumbers, heldRecord, heldRows, neighbourWords}
 use Rattle.record.specs.Records.{GraphRecord, complementRecord, rowsOf}
 use Rattle.record.specs.Reduced.{reduced}
@@ -40,7 +42,7 @@ use Rattle.compare_call.specs.Comparisons.{CompareCall}
 use Rattle.comparison_answer.specs.ComparedPairs.{compareList}
 use Rattle.image_call.specs.Images.{Imaged}
 use Rattle.record_calls.specs.InPlaceCalls.{InPlaceCall, MeasureCall}
-use Rattle.words.specs.Bits.{digit, isOdd}
+use Rattle.words.specs.Bits.{bit, digit, isOdd}
 
 -- "the first fitting number of the published list": that of a line that holds where none before it does; 0 where none
 -- holds
@@ -129,6 +131,8 @@ pub record FirstDemand : Type 0 where
       ∷ buffer s (tabulate (l .n) (λ j. digit (imageMinus (l .n) (heldRecord l) j))) s′
       ∷ buffer v (written (imageList (l .n) (heldRecord l)) v) v′
       ∷ number count (length (imageList (l .n) (heldRecord l))) count′ ∷ [])
+  pub cuts : (l : LentRecord) (side rank r rank′ : ℕ) → CutCall l side rank r rank′ →
+      Answered (cutLines l side) r (number rank (cutRank (l .n) (bit side) ((heldRecord l) .graph)) rank′ ∷ [])
   pub comparisons : (l m : GeneratorList) (choice list : List ℕ) (count r : ℕ) (choice′ list′ : List ℕ)
       (count′ : ℕ) → CompareCall l m choice list count r choice′ list′ count′ →
       Answered (compareLines l m choice list) r

@@ -9,7 +9,7 @@ use native.Mathlib.Omega.{arith}
 use lib.Bits.{bitXor, xor-lt}
 use lib.Dec.{eqb}
 use Rattle.words.proofs.BitLaws.{bit-ext∞, bit-xor}
-use Rattle.words.proofs.Finite.{bits}
+use Rattle.words.proofs.Finite.{bits, ⊕-twice}
 use Rattle.words.proofs.Places.{other-place, same-place}
 use Rattle.words.proofs.Sums.{fold-ext, last-or}
 use Rattle.words.specs.Bits.{bit, digit, fold, _⊕_}
@@ -115,12 +115,9 @@ count-le (suc b) f c h J = go (f b) refl (count-le b f c)
 
 -- ---- words
 xor-apart : (d v w : ℕ) → bitXor v d ≡ bitXor w d → v ≡ w
-xor-apart d v w e = bit-ext∞ v w (λ t. back (bit v t) (bit d t)
+xor-apart d v w e = bit-ext∞ v w (λ t. sym (⊕-twice (bit v t) (bit d t))
     ∙ ap (λ b. b ⊕ bit d t) (sym (bit-xor v d t) ∙ ap (λ u. bit u t) e ∙ bit-xor w d t)
-    ∙ sym (back (bit w t) (bit d t)))
-  where
-    back : (a b : Bool) → a ≡ (a ⊕ b) ⊕ b
-    back = bits 2 (λ a b. a) (λ a b. (a ⊕ b) ⊕ b) tt
+    ∙ ⊕-twice (bit w t) (bit d t))
 
 -- adding a word exchanges the words that pass two tests
 pub count-exchange : (n d : ℕ) → d < 2 ^ n → (f g : ℕ → Bool) → ((v : ℕ) → f v ≡ true → g (bitXor v d) ≡ true)

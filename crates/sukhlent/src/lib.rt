@@ -1,5 +1,6 @@
 // The public calls as C sees them. Each passes its arguments on to the proved call that has the same contract.
 ghost use Rattle.compare_call.specs.Comparisons.{CompareCall};
+ghost use Rattle.cut_call.specs.Cuts.{CutCall};
 ghost use Rattle.image_call.specs.Images.{Imaged};
 ghost use Rattle.list_calls.specs.Calls.{CheckCall, ExpandCall, ReduceCall};
 ghost use Rattle.operations.specs.Steps.{complementAt, controlledZ, gate, pivotAt};
@@ -157,6 +158,22 @@ pub extern "C" fn sukhlent_image(
         (now (image .exit)) (now (signs .exit)) (now (list .exit)) (now (count .exit)) ⌝ }
 {
     image_call::image(n, neighbours, codes, image, signs, list, count)
+}
+
+// The rank of the edges between the marked side of a record's vertices and the other.
+#[no_mangle]
+pub extern "C" fn sukhlent_cut(
+    n: u64,
+    neighbours: &[u64],
+    codes: &[u8],
+    side: u64,
+    rank: &mut u64,
+) -> u8
+    ensures { λ r. ⌜ CutCall
+        (record { n = n; neighbours = now (neighbours .entry); codes = now (codes .entry) }) side
+        (now (rank .entry)) r (now (rank .exit)) ⌝ }
+{
+    cut_call::cut(n, neighbours, codes, side, rank)
 }
 
 // The least choice that carries the group of the first list onto that of the second, and the complementations that

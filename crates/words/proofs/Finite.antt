@@ -58,6 +58,9 @@ pub ⊕-comm : (a b : Bool) → a ⊕ b ≡ b ⊕ a
 pub ⊕-self : (a : Bool) → a ⊕ a ≡ false
 ⊕-self = bits 1 (λ a. a ⊕ a) (λ a. false) tt
 
+pub ⊕-twice : (a b : Bool) → (a ⊕ b) ⊕ b ≡ a
+⊕-twice = bits 2 (λ a b. (a ⊕ b) ⊕ b) (λ a b. a) tt
+
 pub ⊕-zero : (a : Bool) → a ⊕ false ≡ a
 ⊕-zero = bits 1 (λ a. a ⊕ false) (λ a. a) tt
 

@@ -3,7 +3,7 @@
 use crate::common::damage::{damage_list, damage_record};
 use crate::common::local::{complemented_record, sent};
 use crate::common::{list, mixed, random_rows, rows, Operation, Random};
-use crate::common::{ImageLengths, Lengths, ListCall, PairCall, RecordCall};
+use crate::common::{ImageLengths, Lengths, ListCall, PairCall, RecordCall, Side};
 use sukhlent::{GeneratorList, Record};
 
 /// What is done to valid arguments: mostly nothing or little; one in sixteen calls gets noise.
@@ -85,6 +85,15 @@ pub fn image_call(random: &mut Random, n: usize) -> RecordCall<ImageLengths> {
     let [image, signs] = lengths(random, n);
     let list = list_places(random);
     harmed_record(random, n, ImageLengths { image, signs, list })
+}
+
+/// A cut of a record of n vertices: mostly into sides of its own vertices, at times by any word.
+pub fn cut_call(random: &mut Random, n: usize) -> RecordCall<Side> {
+    let side = match random.below(8) {
+        0 => number(random),
+        _ => random.word() >> (64 - n),
+    };
+    harmed_record(random, n, Side(side))
 }
 
 /// Lengths of answer buffers: n, and at times one of them any.

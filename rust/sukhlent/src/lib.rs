@@ -18,6 +18,7 @@
 //! ```
 
 mod comparison;
+mod cut;
 mod image;
 mod in_place;
 mod list;
@@ -26,6 +27,7 @@ mod record;
 mod refusal;
 
 pub use comparison::{compare, Comparison};
+pub use cut::cut;
 pub use image::{image, Image};
 pub use in_place::{complement, cz, gate, measure, pivot, Measured, Pauli};
 pub use list::{check, reduce, GeneratorList};

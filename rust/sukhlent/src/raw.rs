@@ -110,6 +110,16 @@ mod calls {
             count: *mut u64,
         ) -> u8;
 
+        pub fn sukhlent_cut(
+            n: u64,
+            neighbours: *const u64,
+            neighbours_len: usize,
+            codes: *const u8,
+            codes_len: usize,
+            side: u64,
+            rank: *mut u64,
+        ) -> u8;
+
         pub fn sukhlent_compare(
             n1: u64,
             signs1: *const u8,
@@ -313,6 +323,21 @@ pub fn image(
             list.as_mut_ptr(),
             list.len(),
             count,
+        )
+    }
+}
+
+/// Writes the rank of the edges between the marked side of a record's vertices and the other.
+pub fn cut(n: u64, neighbours: &[u64], codes: &[u8], side: u64, rank: &mut u64) -> u8 {
+    unsafe {
+        calls::sukhlent_cut(
+            n,
+            neighbours.as_ptr(),
+            neighbours.len(),
+            codes.as_ptr(),
+            codes.len(),
+            side,
+            rank,
         )
     }
 }

@@ -2,7 +2,8 @@
 
 mod common;
 
-use common::{list, random_rows, ImageLengths, Lengths, ListCall, Operation, Random, RecordCall};
+use common::{list, random_rows, Operation, Random};
+use common::{ImageLengths, Lengths, ListCall, RecordCall, Side};
 use sukhlent::{reduce, Record};
 
 /// Lengths other than n, among them n modulo 256.
@@ -36,10 +37,19 @@ fn image_of<W>(call: &RecordCall<W>) -> RecordCall<ImageLengths> {
     }
 }
 
+/// A cut of the record of a call.
+fn cut_of<W>(call: &RecordCall<W>) -> RecordCall<Side> {
+    RecordCall {
+        n: call.n,
+        ..RecordCall::cut_of(&call.record(), 1)
+    }
+}
+
 /// All calls on a record give the number.
 fn assert_refused(call: &RecordCall<Lengths>, number: u8) {
     assert_eq!(call.expand(), Err(number), "{call:?}");
     assert_eq!(image_of(call).image(), Err(number), "{call:?}");
+    assert_eq!(cut_of(call).cut(), Err(number), "{call:?}");
     for call in in_place(call) {
         assert_eq!(call.apply(), Err(number), "{call:?}");
     }

@@ -21,7 +21,7 @@ const CASES: u64 = 100;
 type Measured = (&'static str, usize, fn(&mut Random, usize) -> usize);
 
 /// Every public call. All arguments are accepted, so that every step is taken.
-const CALLS: [Measured; 11] = [
+const CALLS: [Measured; 12] = [
     ("check", 64, |random, n| {
         let given = list(&random_rows(random, n));
         depth(|| raw::check(n as u64, &given.signs, &given.z, &given.x))
@@ -75,6 +75,13 @@ const CALLS: [Measured; 11] = [
                 &mut count,
             )
         })
+    }),
+    ("cut", 64, |random, n| {
+        let (neighbours, codes) = pairs(random, n);
+        // One vertex of each pair: every column joins the basis.
+        let side = 0x5555_5555_5555_5555;
+        let mut rank = 0;
+        depth(|| raw::cut(n as u64, &neighbours, &codes, side, &mut rank))
     }),
     ("compare", 10, of_compare),
     ("compare", 20, of_compare),

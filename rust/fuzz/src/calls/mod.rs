@@ -17,7 +17,7 @@ pub struct Call {
 }
 
 /// Every public call.
-pub const CALLS: [Call; 10] = [
+pub const CALLS: [Call; 11] = [
     Call {
         name: "check",
         once: lists::check,
@@ -53,6 +53,10 @@ pub const CALLS: [Call; 10] = [
     Call {
         name: "image",
         once: records::image,
+    },
+    Call {
+        name: "cut",
+        once: records::cut,
     },
     Call {
         name: "compare",

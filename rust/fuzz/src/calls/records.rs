@@ -1,7 +1,8 @@
 //! Calls on one record.
 
-use crate::arguments::{expand_call, image_call, size};
+use crate::arguments::{cut_call, expand_call, image_call, size};
 use crate::common::local::complemented;
+use crate::common::reference::cut_rank;
 use crate::common::{ImageLengths, Random, RecordCall};
 use sukhlent::{check, expand as expanded, reduce, GeneratorList, Image};
 
@@ -27,6 +28,19 @@ pub fn image(random: &mut Random) -> u8 {
     call.assert_due(number);
     if let Ok(image) = answer {
         assert_stands_for(&call, image);
+    }
+    number
+}
+
+/// A rank is that of plain elimination.
+pub fn cut(random: &mut Random) -> u8 {
+    let n = size(random);
+    let call = cut_call(random, n);
+    let answer = call.cut();
+    let number = answer.err().unwrap_or(0);
+    assert_eq!(number, call.due(), "{call:?}");
+    if let Ok(rank) = answer {
+        assert_eq!(rank, cut_rank(&call.neighbours, call.with.0), "{call:?}");
     }
     number
 }

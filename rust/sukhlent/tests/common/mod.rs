@@ -4,6 +4,7 @@
 pub mod calls;
 pub mod codes;
 pub mod complementations;
+pub mod cut;
 pub mod damage;
 pub mod guarded;
 pub mod image;
@@ -17,6 +18,7 @@ pub mod vectors;
 
 pub use calls::{Lengths, ListCall, RecordCall};
 pub use codes::images;
+pub use cut::Side;
 pub use image::ImageLengths;
 pub use operation::Operation;
 pub use pairs::PairCall;

@@ -98,6 +98,15 @@ pub fn image_refusal(
     first_of(&[(of_record != 0, of_record), (list != LIST_PLACES, 4)])
 }
 
+/// The first line that is true of a cut: of a record and of the side.
+pub fn cut_refusal(n: u64, neighbours: &[u64], codes: &[u8], side: u64) -> u8 {
+    match record_refusal(n, neighbours, codes, &[]) {
+        number @ (2 | 4) => number,
+        _ if stray(side, n) => 5,
+        number => number,
+    }
+}
+
 /// The first of lines 2 to 10 that is true of a comparison: of two lists with their n and the
 /// first line that is true of each, or 0, of the choice's places and of the list's. None where the
 /// search decides.

@@ -1,0 +1,2 @@
+pub mod CutLines
+pub mod CutCalls

@@ -1,0 +1,4 @@
+pub mod Spans
+pub mod Remainders
+pub mod Elimination
+pub mod Crossings

@@ -1,0 +1,29 @@
+use borrow.Author.Needs.{needs}
+use mathlib.Core.Path.{sym, _∙_}
+use Rattle.cut_rank.proofs.Crossings.{crossing-word, no-crossing}
+use Rattle.cut_rank.proofs.crossing_column.Statement.{statement}
+use Rattle.cut_rank.proofs.crossing_column.Tie as tie
+
+has-requires : tie.Need-has-requires
+has-requires c κs = search needs
+
+mul-result : tie.Need-mul-result
+mul-result c = search needs
+
+shared-slice-read-result : tie.Need-shared-slice-read-result
+shared-slice-read-result c = search needs
+
+returns : tie.Need-returns
+returns c =
+    let a = c .before .before .before .args in
+    no-crossing (a .neighbours .now) (a .side) (a .k) (sym (c .before .has .ensures) ∙ c .if1 .taken)
+
+returns-2 : tie.Need-returns-2
+returns-2 c =
+    let H = c .before .before in
+    let S = H .before .before in
+    crossing-word (S .args .neighbours .now) (S .args .side) (S .args .k) (S .pre .1)
+    (sym (H .has .ensures) ∙ c .before .if1 .left)
+
+pub crossing-column-spec : {M : Type 1} → statement M
+crossing-column-spec = tie.close (tie.spec has-requires mul-result shared-slice-read-result returns returns-2)
