@@ -1,9 +1,12 @@
 //! Answers by document 01's text, written plainly.
 
 mod expansion;
+mod membership;
 mod reduction;
 mod refusals;
 
 pub use expansion::expanded;
+pub use membership::is_element;
 pub use reduction::reduced;
-pub use refusals::{image_refusal, in_place_refusal, list_refusal, pair_refusal, record_refusal};
+pub use refusals::{argument_refusal, image_refusal, in_place_refusal};
+pub use refusals::{list_refusal, pair_refusal, record_refusal};
