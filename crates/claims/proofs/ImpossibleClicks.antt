@@ -1,7 +1,6 @@
 -- Impossible clicks are refused, from the call's contract: exactly these, and nothing is written.
 -- Assumes nothing.
-use mathlib.Core.Bool.{Bool, cond, not, true}
-use mathlib.Core.List.{List}
+use mathlib.Core.Bool.{cond, not, true}
 use mathlib.Core.Logic.{_↔_}
 use mathlib.Core.Path.{_∙_, _≡_, ap, ap₂, subst, sym}
 use Prim.Native.Nat.{_<_, ℕ}
@@ -11,7 +10,7 @@ use borrow.Author.Tests.{ne-eqb}
 use Rattle.buffers.specs.Refusals.{firstFitting}
 use Rattle.operations.proofs.Contradicted.{contradicts-exactly}
 use Rattle.operations.specs.Measurement.{contradicts, pauliLetter}
-use Rattle.operations.specs.Steps.{argumentLines, measureLines}
+use Rattle.operations.specs.Steps.{argumentLines}
 use Rattle.record.specs.Lent.{LentRecord, heldRows}
 use Rattle.record_calls.proofs.InPlaceLines.{held-accepted, measure-ready}
 use Rattle.record_calls.proofs.MeasureLines.{fourteen-exactly}

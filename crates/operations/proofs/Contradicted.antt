@@ -3,7 +3,7 @@
 -- Assumes nothing.
 use mathlib.Core.Bool.{_&&_, Bool, cond, false, false≢true, not, true}
 use mathlib.Core.Logic.{_↔_}
-use mathlib.Core.Path.{ap₂, refl, subst, sym, _∙_, _≡_}
+use mathlib.Core.Path.{ap₂, refl, subst, _∙_, _≡_}
 use Prim.Native.Nat.{_<_, ℕ}
 use Rattle.pauli.specs.Pauli.{Pauli}
 use Rattle.pauli.specs.declared.Letter.{Letter}

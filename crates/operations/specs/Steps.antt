@@ -34,7 +34,8 @@ gateLines l q k = inPlaceLines l (leb 24 k) (leb (l .n) q)
 abbrev pub czLines : LentRecord → ℕ → ℕ → List Line
 czLines l a b = inPlaceLines l false (leb (l .n) a || (leb (l .n) b || eqb a b))
 
--- the lines of a measurement before its outcome is looked at. 6: "A sign or outcome is above 1, .. or a Pauli not 1 to 3"
+-- the lines of a measurement before its outcome is looked at.
+-- 6: "A sign or outcome is above 1, .. or a Pauli not 1 to 3"
 abbrev pub argumentLines : LentRecord → ℕ → ℕ → ℕ → List Line
 argumentLines l pauli q b = inPlaceLines l (leb 2 b || (eqb pauli 0 || leb 4 pauli)) (leb (l .n) q)
 

@@ -1,4 +1,4 @@
--- The lines of the calls on a record lent in place: the number, and what it means that none of them holds.
+-- The lines of the calls on a record lent in place: what it means that none of them holds, and a pivot's pair.
 -- Assumes nothing.
 use mathlib.Core.Bool.{Bool, false, not, true, true≢false, _||_}
 use mathlib.Core.List.{List, [], _∷_}
