@@ -20,8 +20,8 @@
  * other buffers that are not const are lent for the answer: what they hold before the call does
  * not matter.
  *
- * Every call answers 0 where it accepts, or the first number of this list whose line is true. A
- * refused call changes no buffer.
+ * Every call answers 0 where it accepts, or the first number of this list whose line is true; the
+ * list is in checking order. A refused call changes no buffer.
  *    1  the program's text does not have its form
  *    2  n is 0 or above 64, or the two lists' n differ
  *    3  a comparison has n above 20
@@ -33,6 +33,7 @@
  *       edge
  *    9  two generators do not commute
  *   10  the generators are dependent
+ *   14  a determined outcome contradicts the supplied bit
  *   11  the image loop stops with some C = 1
  *   12  it stops with every C = 0, but the image has Y at some vertex's own place
  *   13  no choice of local Cliffords carries one group to the other
@@ -90,10 +91,10 @@ uint8_t sukhlent_cz(uint64_t n,
 
 /* Measures a Pauli (1 X, 2 Y, 3 Z) at a qubit, and leaves the reduced record of the new group.
  * Where the Pauli or its negative is in the group, writes 1 to *determined and its sign to
- * *answer (1 for minus), ignores `outcome` and keeps the group. Otherwise writes 0 to
- * *determined and `outcome` to *answer.
+ * *answer (1 for minus) and keeps the group; an `outcome` that is not this sign is refused.
+ * Otherwise writes 0 to *determined and `outcome` to *answer.
  * Refusals: 2, 4, 5, 6 (also where `pauli` is not 1 to 3 or `outcome` is above 1), 7, 8 (`qubit`
- * is n or more). */
+ * is n or more), 14. */
 uint8_t sukhlent_measure(uint64_t n,
                          uint64_t *neighbours, size_t neighbours_len,
                          uint8_t *codes, size_t codes_len,

@@ -1,5 +1,5 @@
 /* Calls on one record, one after another: three qubits are entangled, measured and rewritten.
- * The last two calls are refused and leave the record as it was. */
+ * Some calls are refused and leave the record as it was. */
 #include <stdio.h>
 
 #include "sukhlent.h"
@@ -54,6 +54,7 @@ int main(void)
     show("Hadamard on 1", sukhlent_gate(N, neighbours, N, codes, N, 1, HADAMARD));
     measure("Z on 0, bit 1", Z, 0, 1);
     measure("Y on 2, bit 0", Y, 2, 0);
+    measure("Y on 2, bit 1", Y, 2, 1);
     measure("X on 1, bit 0", X, 1, 0);
     cz("CZ on 2, 2", 2, 2);
     measure("Z on 1, bit 2", Z, 1, 2);

@@ -24,6 +24,7 @@ use Rattle.operations.specs.Measurement.{determinedNumber, measuredRows, outcom
 use Rattle.operations.specs.Steps.{inPlaceLines, measureLines, measuredAnswer, pivotRecord, stepped}
 use Rattle.record.proofs.AcceptedRecords.{accepted-record}
 use Rattle.record.proofs.RecordLines.{record-numbered}
+use Rattle.record.specs.Accepted.{AcceptedRecord}
 use Rattle.record.specs.Lent.{
   LentRecord,
   codeNumbers,
@@ -39,6 +40,7 @@ use Rattle.cut_call.specs.Cuts.{cutLines}
 use Rattle.stabilizer.proofs.SharedTests.{has-length}
 use Rattle.stabilizer.specs.Lists.{GeneratorList, listLengths, listLines, listOf, rows}
 use Rattle.record_calls.proofs.InPlaceLines.{held-accepted}
+use Rattle.record_calls.proofs.MeasureLines.{measure-accepted}
 use Rattle.list_calls.specs.Calls.{ExpandCall, ReduceCall, checkLines, expandLines, reduceLines}
 use Rattle.compare_call.specs.Comparisons.{CompareCall}
 use Rattle.comparison_answer.specs.ComparedPairs.{compareList}
@@ -161,24 +163,28 @@ expand-answered l s z x r s′ z′ x′ C =
     (table-fills (l .n) _ s (p .0), (table-fills (l .n) _ z (p .1), (table-fills (l .n) _ x (p .2), tt))))
 
 -- ---- calls in place
-module _ (l : LentRecord) (six eight : Bool) (new : GraphRecord) (r : ℕ) (nb′ cs′ : List ℕ)
-    (C : InPlaceCall (stepped l (inPlaceLines l six eight) new) r nb′ cs′) where
-  at-number : (answer old : List ℕ) → accepted (firstFitting (inPlaceLines l six eight)) answer old
-      ≡ accepted r answer old
+module _ (l : LentRecord) (lines : List Line) (new : GraphRecord) (r : ℕ) (nb′ cs′ : List ℕ)
+    (C : InPlaceCall (stepped l lines new) r nb′ cs′) where
+  at-number : (answer old : List ℕ) → accepted (firstFitting lines) answer old ≡ accepted r answer old
   at-number answer old = ap (λ k. accepted k answer old) (sym (C .number))
 
   both-held : EachOf (Held r) (inPlace l new nb′ cs′)
   both-held = (C .words ∙ at-number _ _, (C .numbers ∙ at-number _ _, tt))
 
-  both-fill : r ≡ 0 → EachOf Fills (inPlace l new nb′ cs′)
-  both-fill z =
-      let A = held-accepted l six eight (sym (C .number) ∙ z) in (
+  both-fill : (firstFitting lines ≡ 0 → AcceptedRecord l) → r ≡ 0 → EachOf Fills (inPlace l new nb′ cs′)
+  both-fill passes z =
+      let A = passes (sym (C .number) ∙ z) in (
         table-fills (l .n) _ (l .neighbours) (A .neighbours-length),
         (table-fills (l .n) _ (l .codes) (A .codes-length), tt),
       )
 
-  in-place-answered : Answered (inPlaceLines l six eight) r (inPlace l new nb′ cs′)
-  in-place-answered = answered (inPlaceLines l six eight) r (inPlace l new nb′ cs′) refl (C .number) both-held both-fill
+in-place-answered : (l : LentRecord) (six eight : Bool) (new : GraphRecord) (r : ℕ) (nb′ cs′ : List ℕ) →
+    InPlaceCall (stepped l (inPlaceLines l six eight) new) r nb′ cs′ →
+    Answered (inPlaceLines l six eight) r (inPlace l new nb′ cs′)
+in-place-answered l six eight new r nb′ cs′ C =
+    answered (inPlaceLines l six eight) r (inPlace l new nb′ cs′) refl (C .number)
+    (both-held l (inPlaceLines l six eight) new r nb′ cs′ C)
+    (both-fill l (inPlaceLines l six eight) new r nb′ cs′ C (held-accepted l six eight))
 
 measure-answered : (l : LentRecord) (pauli q b answer determined r : ℕ) (nb′ cs′ : List ℕ) (answer′ determined′ : ℕ) →
     MeasureCall l pauli q b answer determined r nb′ cs′ answer′ determined′ →
@@ -191,10 +197,16 @@ measure-answered l pauli q b answer determined r nb′ cs′ answer′ determine
       one-place r answer _ answer′ (C .outcome),
       (
         one-place r determined _ determined′ (C .known),
-        both-held l _ _ new r nb′ cs′ (C .step),
+        both-held l (measureLines l pauli q b) new r nb′ cs′ (C .step),
       ),
     )
-    (λ z. (refl, (refl, both-fill l _ _ new r nb′ cs′ (C .step) z)))
+    (λ z. (
+      refl,
+      (
+        refl,
+        both-fill l (measureLines l pauli q b) new r nb′ cs′ (C .step) (measure-accepted l pauli q b) z,
+      ),
+    ))
   where
     new : GraphRecord
     new = reduced (l .n) (measuredRows (l .n) (heldRows l) (pauliLetter pauli) q (isOdd b))

@@ -5,6 +5,7 @@ pub mod AcceptedPairs
 pub mod ImageDemandHolds
 pub mod GatesFollow
 pub mod MeasurementsFollow
+pub mod ImpossibleClicks
 pub mod RewritingsKeep
 pub mod CzInsideSide
 pub mod CutDemandHolds

@@ -9,15 +9,16 @@ use native.Mathlib.Nat.{mod-eq-of-lt}
 use lib.Dec.{eqb, leb}
 use borrow.Author.Tests.{leb-false}
 use Rattle.buffers.specs.Refusals.{firstFitting}
+use Rattle.operations.proofs.Contradicted.{agreed-outcome}
 use Rattle.operations.proofs.Determined.{
   determined-element,
   determined-exactly,
   determined-kept,
-  determined-outcome,
   measured-group,
   measured-proper,
 }
 use Rattle.operations.specs.Measurement.{
+  contradicts,
   determinedNumber,
   isDetermined,
   measuredRows,
@@ -26,7 +27,7 @@ use Rattle.operations.specs.Measurement.{
   pauliLetter,
   single,
 }
-use Rattle.operations.specs.Steps.{measureLines}
+use Rattle.operations.specs.Steps.{argumentLines, measureLines}
 use Rattle.operations.specs.declared.Outcome.the-variants.{Chosen, Determined}
 use Rattle.pauli.specs.Pauli.{Pauli}
 use Rattle.pauli.specs.declared.Letter.{Letter}
@@ -36,6 +37,7 @@ use Rattle.record.specs.Lent.{LentRecord, heldRows}
 use Rattle.record.specs.Reduced.{reduced}
 use Rattle.stabilizer.specs.Groups.{InGroup, Proper, SameGroup}
 use Rattle.record_calls.proofs.InPlaceLines.{held-accepted, measure-ready, six-passes}
+use Rattle.record_calls.proofs.MeasureLines.{measure-passes}
 use Rattle.record_calls.specs.InPlaceCalls.{MeasureCall}
 use Rattle.words.proofs.BitLaws.{digit-odd, odd-digit}
 use Rattle.words.proofs.Flags.{neither}
@@ -68,17 +70,17 @@ module _ (l : LentRecord) (pauli q b answer determined : ℕ) (nb′ cs′ : Lis
   abbrev L : Letter
   L = pauliLetter pauli
 
-  passes : firstFitting (measureLines l pauli q b) ≡ 0
-  passes = sym (C .step .number)
+  lines : (firstFitting (argumentLines l pauli q b) ≡ 0) × (contradicts n held L q (isOdd b) ≡ false)
+  lines = measure-passes l pauli q b (sym (C .step .number))
 
   A : AcceptedRecord l
-  A = held-accepted l _ _ passes
+  A = held-accepted l _ _ (lines .0)
 
   at-qubit : q < n
-  at-qubit = subst (λ m. q < m) (A .neighbours-length) (measure-ready l pauli q b passes .0 .1)
+  at-qubit = subst (λ m. q < m) (A .neighbours-length) (measure-ready l pauli q b (lines .0) .0 .1)
 
   bit-small : b < 2
-  bit-small = leb-false 2 b (neither (leb 2 b) _ (six-passes l _ _ passes) .0)
+  bit-small = leb-false 2 b (neither (leb 2 b) _ (six-passes l _ _ (lines .0)) .0)
 
   abbrev R : ℕ → Pauli
   R = measuredRows n held L q (isOdd b)
@@ -91,6 +93,10 @@ module _ (l : LentRecord) (pauli q b answer determined : ℕ) (nb′ cs′ : Lis
 
   read : answer′ ≡ digit (outcome n held L q (isOdd b))
   read = C .outcome ∙ both-numbers (isDetermined n held L q) (outcome n held L q (isOdd b)) .0
+
+  -- the outcome is the bit in either case
+  bit-read : answer′ ≡ b
+  bit-read = read ∙ ap digit (agreed-outcome n held L q (isOdd b) (lines .1)) ∙ digit-odd b ∙ mod-eq-of-lt bit-small
 
   found : determined′ ≡ 1 → isDetermined n held L q ≡ true
   found e = of-digit _ (sym known ∙ e)
@@ -116,11 +122,11 @@ module _ (l : LentRecord) (pauli q b answer determined : ℕ) (nb′ cs′ : Lis
         sign = λ e. subst (λ s. InGroup n n held (single L q s))
             (sym (ap isOdd read ∙ odd-of-digit (outcome n held L q (isOdd b))))
             (determined-element n held (A .proper) L q at-qubit (found e) (isOdd b));
+        agrees = λ e. sym bit-read;
         kept = λ e. subst (λ S. SameGroup n n S (heldRows after))
             (determined-kept n held (A .proper) L q at-qubit (found e) (isOdd b))
             (reduced-held-same n R P);
-        bit = λ e. read ∙ ap digit (determined-outcome n held (A .proper) L q at-qubit (open-yet e) (isOdd b))
-            ∙ digit-odd b ∙ mod-eq-of-lt bit-small;
+        bit = λ e. bit-read;
         joined = λ e p. (
           (λ h. measured-group n held (A .proper) L q at-qubit (open-yet e) (isOdd b) p .0
               (reduced-held-same n R P .back p h)),

@@ -1,8 +1,8 @@
 -- Demand 2, of the public calls on a record lent in place: "Gates, CZ, Pauli measurements .. follow the same
--- definition"; and complements and pivots, which keep the group. Each is said of an accepted call: its number is 0,
--- and nb′, cs′ are what the two buffers hold at exit.
+-- definition"; and complements and pivots, which keep the group. Each, but for the measurements that are refused, is said
+-- of an accepted call: its number is 0, and nb′, cs′ are what the two buffers hold at exit.
 -- Assumes nothing.
-use mathlib.Core.Bool.{Bool, false, true}
+use mathlib.Core.Bool.{Bool, false, not, true}
 use mathlib.Core.List.{List, [], _∷_}
 use mathlib.Core.Logic.{_↔_, _⊎_}
 use mathlib.Core.Path.{_≡_}
@@ -12,7 +12,17 @@ use Rattle.clifford.specs.Clifford.{cliffordOf}
 use Rattle.clifford.specs.Vectors.{only}
 use Rattle.operations.specs.Cz.{IsCz, cz}
 use Rattle.operations.specs.Measurement.{Measured, pauliLetter, single}
-use Rattle.operations.specs.Steps.{Operation, complementAt, controlledZ, gate, pivotAt, pivotRecord, session, step}
+use Rattle.operations.specs.Steps.{
+  Operation,
+  argumentLines,
+  complementAt,
+  controlledZ,
+  gate,
+  pivotAt,
+  pivotRecord,
+  session,
+  step,
+}
 use Rattle.pauli.specs.Pauli.{Pauli}
 use Rattle.record.specs.Lent.{LentRecord, codeNumbers, heldRecord, heldRows, neighbourWords, recordLines}
 use Rattle.record.specs.Records.{GraphRecord, SameRecord, complementRecord}
@@ -72,8 +82,9 @@ pub record MeasurementStands (l : LentRecord) (pauli q b : ℕ) (after : LentRec
   -- "If the Pauli or its negative is in the group, the answer says determined"
   pub exactly : (determined′ ≡ 1) ↔ (InGroup (l .n) (l .n) (heldRows l) (signedPauli pauli q false)
       ⊎ InGroup (l .n) (l .n) (heldRows l) (signedPauli pauli q true))
-  -- ".. gives the sign as outcome, ignores the bit and keeps the group"
+  -- ".. gives the sign as outcome .. and keeps the group"; the bit is no longer ignored (02, §4): it is that sign
   pub sign : determined′ ≡ 1 → InGroup (l .n) (l .n) (heldRows l) (signedPauli pauli q (isOdd answer′))
+  pub agrees : determined′ ≡ 1 → b ≡ answer′
   pub kept : determined′ ≡ 1 → SameGroup (l .n) (l .n) (heldRows l) (heldRows after)
   -- "Otherwise the outcome is the bit", and the group "the elements that commute with the Pauli, joined by the
   -- Pauli with that sign"
@@ -86,6 +97,23 @@ MeasurementsFollow =
     (l : LentRecord) (pauli q b answer determined : ℕ) (nb′ cs′ : List ℕ) (answer′ determined′ : ℕ) →
     MeasureCall l pauli q b answer determined 0 nb′ cs′ answer′ determined′ →
     MeasurementStands l pauli q b (left l nb′ cs′) answer′ determined′
+
+-- ---- impossible clicks: "where bit and sign differ, the call is refused and the record kept" (02, §4)
+pub record ImpossibleClick (l : LentRecord) (pauli q b answer determined r : ℕ) (nb′ cs′ : List ℕ)
+    (answer′ determined′ : ℕ) : Type 0 where
+  -- 14 comes back exactly if no earlier line holds and the Pauli with the sign that the bit does not have is in the
+  -- group
+  pub exactly : (r ≡ 14) ↔ ((firstFitting (argumentLines l pauli q b) ≡ 0)
+      × InGroup (l .n) (l .n) (heldRows l) (signedPauli pauli q (not (isOdd b))))
+  -- and nothing is written
+  pub record-kept : r ≡ 14 → left l nb′ cs′ ≡ l
+  pub answers-kept : r ≡ 14 → (answer′ ≡ answer) × (determined′ ≡ determined)
+
+abbrev pub ImpossibleClicksRefused : Type 0
+ImpossibleClicksRefused =
+    (l : LentRecord) (pauli q b answer determined r : ℕ) (nb′ cs′ : List ℕ) (answer′ determined′ : ℕ) →
+    MeasureCall l pauli q b answer determined r nb′ cs′ answer′ determined′ →
+    ImpossibleClick l pauli q b answer determined r nb′ cs′ answer′ determined′
 
 -- ---- "As a rewriting of a record it keeps the group, signs included"; the answer is the record so rewritten
 pub record RewrittenAs (l after : LentRecord) (new : GraphRecord) : Type 0 where

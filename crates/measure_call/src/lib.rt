@@ -1,9 +1,39 @@
 // The public call that measures a Pauli on a lent record in place.
 use operations::determined_number;
 use operations::outcome_number;
+use operations_measurements::contradicted;
 use operations_measurements::measure_record;
 use record_calls::in_place_refusal;
+ghost use mathlib.Core.Path.{_≡_};
+ghost use Rattle.buffers.specs.Refusals.{firstFitting};
+ghost use Rattle.operations.specs.Steps.{measureLines};
 ghost use Rattle.record_calls.specs.InPlaceCalls.{MeasureCall};
+
+// The number of the first line of a measurement that holds: those of its arguments, and 14 where a determined outcome
+// contradicts the supplied bit.
+fn measure_refusal(
+    n: u64,
+    neighbours: &[u64],
+    codes: &[u8],
+    pauli: u8,
+    qubit: u64,
+    outcome: u8,
+) -> u8
+    ensures { λ r. ⌜ r ≡ firstFitting (measureLines
+        (record { n = n; neighbours = now (neighbours .entry); codes = now (codes .entry) })
+        pauli qubit outcome) ⌝ }
+{
+    let six = (2 <= outcome) | ((pauli == 0) | (4 <= pauli));
+    let early = in_place_refusal(n, neighbours, codes, six, n <= qubit);
+    if early != 0 {
+        return early;
+    }
+    if contradicted(neighbours, codes, pauli, qubit as usize, outcome % 2 == 1) {
+        14
+    } else {
+        0
+    }
+}
 
 // A Pauli measured at a qubit: the outcome, whether it was determined, and the reduced record.
 pub fn measure(
@@ -21,8 +51,7 @@ pub fn measure(
         pauli qubit outcome (now (answer .entry)) (now (determined .entry)) r
         (now (neighbours .exit)) (now (codes .exit)) (now (answer .exit)) (now (determined .exit)) ⌝ }
 {
-    let six = (2 <= outcome) | ((pauli == 0) | (4 <= pauli));
-    let early = in_place_refusal(n, neighbours, codes, six, n <= qubit);
+    let early = measure_refusal(n, neighbours, codes, pauli, qubit, outcome);
     if early != 0 {
         return early;
     }

@@ -115,9 +115,6 @@ module _ (n : ℕ) (rows : ℕ → Pauli) (L : Proper n rows) (l : Letter) (q : 
   determined-kept e b =
       ap (λ d. cond d rows (projected n rows (single l q b) (firstAgainst n rows (single l q b)))) e
 
-  pub determined-outcome : isDetermined n rows l q ≡ false → (b : Bool) → outcome n rows l q b ≡ b
-  determined-outcome e b = ap (λ d. cond d (member n rows (single l q true)) b) e
-
   module _ (open-yet : isDetermined n rows l q ≡ false) (b : Bool) where
     abbrev P : Pauli
     P = single l q b

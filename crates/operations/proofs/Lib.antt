@@ -5,6 +5,7 @@ pub mod CzValues
 pub mod CzGroups
 pub mod Projection
 pub mod Determined
+pub mod Contradicted
 pub mod MeasuredRecords
 pub mod UnrefusedRecords
 pub mod Rewriting

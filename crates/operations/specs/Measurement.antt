@@ -10,7 +10,7 @@ use Rattle.pauli.specs.declared.Letter.the-variants.{I, X, Y, Z}
 use Rattle.stabilizer.specs.Elimination.{shear}
 use Rattle.stabilizer.specs.Groups.{InGroup}
 use Rattle.stabilizer.specs.Membership.{member}
-use Rattle.words.specs.Bits.{Word, digit, put}
+use Rattle.words.specs.Bits.{Word, digit, put, _⊕_}
 use Rattle.words.specs.Search.{first}
 use Rattle.operations.specs.declared.Outcome.{Outcome}
 use Rattle.operations.specs.declared.Outcome.the-variants.{Chosen, Determined}
@@ -36,9 +36,13 @@ pub data Measured (n : ℕ) (rows : ℕ → Pauli) (P : Pauli) : Pauli → Type 
 abbrev pub isDetermined : ℕ → (ℕ → Pauli) → Letter → ℕ → Bool
 isDetermined n rows l q = member n rows (single l q false) || member n rows (single l q true)
 
--- ".. gives the sign as outcome, ignores the bit"; "Otherwise the outcome is the bit (1 means minus)"
+-- ".. gives the sign as outcome"; "Otherwise the outcome is the bit (1 means minus)"
 abbrev pub outcome : ℕ → (ℕ → Pauli) → Letter → ℕ → Bool → Bool
 outcome n rows l q b = cond (isDetermined n rows l q) (member n rows (single l q true)) b
+
+-- "a determined outcome contradicts the supplied bit": "where bit and sign differ" (02, §4)
+abbrev pub contradicts : ℕ → (ℕ → Pauli) → Letter → ℕ → Bool → Bool
+contradicts n rows l q b = isDetermined n rows l q && (outcome n rows l q b ⊕ b)
 
 -- what a measurement answers
 abbrev pub answered : ℕ → (ℕ → Pauli) → Letter → ℕ → Bool → Outcome

@@ -1,5 +1,5 @@
--- Document 01's example of a measurement, and sessions of complements, gates, CZ and pivots: what the definitions
--- give, beside what is expected.
+-- Document 01's example of a measurement, as document 02 changes it, and sessions of complements, gates, CZ and
+-- pivots: what the definitions give, beside what is expected.
 -- Assumes nothing.
 use mathlib.Core.List.{_++_, List, [], map, _∷_}
 use Prim.Native.Nat.{ℕ}
@@ -39,6 +39,9 @@ reading l pauli q b = determinedNumber (measuredAnswer l pauli q b) ∷ outcomeN
 abbrev accepts : LentRecord → List ℕ
 accepts l = 0 ∷ contents l
 
+abbrev refuses : ℕ → LentRecord → List ℕ
+refuses k l = k ∷ contents l
+
 abbrev number : LentRecord → Operation → ℕ
 number l o = (step l o) .number
 
@@ -53,8 +56,9 @@ abbrev pub table : List Example
 table =
     -- "XX, ZZ with Z measured on qubit 0, outcome 1: not determined; codes 10, 10, no edge"
     example (reading (edge 0 8) 3 0 1) (0 ∷ 1 ∷ accepts (apart 10 10))
-    -- "Then Z on qubit 1 with bit 0: determined, 1"
-    ∷ example (reading (apart 10 10) 3 1 0) (1 ∷ 1 ∷ accepts (apart 10 10))
+    -- "The second measurement in 01's example, Z on qubit 1 with bit 0, is now refused; with bit 1 it is determined"
+    ∷ example (answer (apart 10 10) (measurementOf 3 1 0)) (refuses 14 (apart 10 10))
+    ∷ example (reading (apart 10 10) 3 1 1) (1 ∷ 1 ∷ accepts (apart 10 10))
     -- complementing an edge at 0: 13 and 6 come before the codes held
     ∷ example (answer (edge 0 0) (complementOf 0)) (accepts (edge 13 6))
     ∷ example (answer (edge 8 0) (complementOf 0)) (accepts (edge 20 6))

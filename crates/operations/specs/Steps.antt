@@ -14,7 +14,7 @@ use Rattle.record.specs.Reduced.{reduced}
 use Rattle.words.specs.Bits.{isOdd}
 use Rattle.operations.specs.Cz.{czRows}
 use Rattle.operations.specs.Gates.{gated}
-use Rattle.operations.specs.Measurement.{answered, isDetermined, measuredRows, outcome, pauliLetter}
+use Rattle.operations.specs.Measurement.{answered, contradicts, isDetermined, measuredRows, outcome, pauliLetter}
 use Rattle.operations.specs.declared.Outcome.{Outcome}
 
 -- "A pivot on an edge j, k complements j, k, j"
@@ -34,9 +34,16 @@ gateLines l q k = inPlaceLines l (leb 24 k) (leb (l .n) q)
 abbrev pub czLines : LentRecord → ℕ → ℕ → List Line
 czLines l a b = inPlaceLines l false (leb (l .n) a || (leb (l .n) b || eqb a b))
 
+-- the lines of a measurement before its outcome is looked at.
 -- 6: "A sign or outcome is above 1, .. or a Pauli not 1 to 3"
+abbrev pub argumentLines : LentRecord → ℕ → ℕ → ℕ → List Line
+argumentLines l pauli q b = inPlaceLines l (leb 2 b || (eqb pauli 0 || leb 4 pauli)) (leb (l .n) q)
+
+-- 14: "a determined outcome contradicts the supplied bit" (02, §4), after these
 abbrev pub measureLines : LentRecord → ℕ → ℕ → ℕ → List Line
-measureLines l pauli q b = inPlaceLines l (leb 2 b || (eqb pauli 0 || leb 4 pauli)) (leb (l .n) q)
+measureLines l pauli q b =
+    argumentLines l pauli q b
+    ++ (line 14 (contradicts (l .n) (heldRows l) (pauliLetter pauli) q (isOdd b)) ∷ [])
 
 abbrev pub complementLines : LentRecord → ℕ → List Line
 complementLines l a = inPlaceLines l false (leb (l .n) a)

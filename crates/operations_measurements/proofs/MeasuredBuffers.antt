@@ -1,13 +1,14 @@
 -- A measurement by what was read off the record: whether it is determined, the answer, and the buffers afterwards.
 -- Assumes nothing.
-use mathlib.Core.Bool.{Bool, cond, false, true}
+use mathlib.Core.Bool.{_&&_, Bool, Bool·beq, cond, false, not, true}
 use mathlib.Core.List.{List}
-use mathlib.Core.Path.{ap, sym, _∙_, _≡_}
+use mathlib.Core.Path.{ap, refl, sym, _∙_, _≡_}
 use Prim.Native.Nat.{ℕ}
 use lib.ListN.{length}
 use Rattle.operations.specs.InPlace.{MeasuredInPlace, recordIn}
 use Rattle.operations.specs.Measurement.{
   answered,
+  contradicts,
   firstAgainst,
   isDetermined,
   measuredRows,
@@ -24,12 +25,30 @@ use Rattle.pauli.specs.Pauli.{Pauli}
 use Rattle.pauli.specs.declared.Letter.{Letter}
 use Rattle.record.specs.Lent.{codeNumbers, heldRows, neighbourWords}
 use Rattle.record.specs.Reduced.{reduced}
+use Rattle.words.proofs.Finite.{unequal}
+use Rattle.words.specs.Bits.{_⊕_}
 
 -- determined: the rows stay
 pub determined-stay : (n : ℕ) (R : ℕ → Pauli) (l : Letter) (q : ℕ) (b : Bool) {d : Bool}
     → d ≡ isDetermined n R l q → d ≡ true → (j : ℕ) → R j ≡ measuredRows n R l q b j
 determined-stay n R l q b e t j =
     sym (ap (λ d. cond d R (projected n R (single l q b) (firstAgainst n R (single l q b))) j) (sym e ∙ t))
+
+-- a bit that differs from the sign read off is contradicted
+pub contradicted-as-read : (words codes : List ℕ) (pauli q : ℕ) (d m : Bool)
+    → ReadOff (recordIn words codes) pauli q d m → (b : Bool)
+    → (d && not (Bool·beq m b))
+    ≡ contradicts (length words) (heldRows (recordIn words codes)) (pauliLetter pauli) q b
+contradicted-as-read words codes pauli q d m read b =
+    ap (λ v. d && v) (unequal m b) ∙ as-outcome d (read .reading b)
+    ∙ ap (λ v. v && (o ⊕ b)) (read .known)
+  where
+    o : Bool
+    o = outcome (length words) (heldRows (recordIn words codes)) (pauliLetter pauli) q b
+
+    as-outcome : (d : Bool) → o ≡ cond d m b → (d && (m ⊕ b)) ≡ (d && (o ⊕ b))
+    as-outcome true e = ap (λ v. v ⊕ b) (sym e)
+    as-outcome false e = refl
 
 module _ (words codes : List ℕ) (pauli q : ℕ) (d m : Bool) (read : ReadOff (recordIn words codes) pauli q d m)
     {l : Letter} (named : l ≡ pauliLetter pauli) where

@@ -12,9 +12,10 @@ ghost use mathlib.Core.Path.{_≡_};
 ghost use Prim.Native.Nat.{ℕ, _<_, _≤_};
 ghost use lib.ListN.{length};
 ghost use Rattle.operations.specs.InPlace.{MeasuredInPlace, Unrefused, recordIn};
-ghost use Rattle.operations.specs.Measurement.{isDetermined, measuredRows, pauliLetter};
+ghost use Rattle.operations.specs.Measurement.{contradicts, isDetermined, measuredRows, pauliLetter};
 ghost use Rattle.operations.specs.Steps.{ReadOff};
 ghost use Rattle.operations.specs.declared.Outcome.the-variants.{Chosen, Determined};
+ghost use Rattle.record.specs.Lent.{heldRows};
 ghost use Rattle.reduction_passes.specs.Passes.{Loaded};
 ghost use Rattle.stabilizer.specs.Groups.{Independent};
 ghost use Rattle.stabilizer.specs.Tableau.{tableau};
@@ -52,6 +53,17 @@ pub fn read_off(neighbours: &[u64], codes: &[u8], pauli: u8, q: usize) -> Readin
         determined: (neighbours[q] == 0) & same,
         minus: own.minus,
     }
+}
+
+// Whether a determined outcome contradicts the supplied bit.
+pub fn contradicted(neighbours: &[u64], codes: &[u8], pauli: u8, q: usize, bit: bool) -> bool
+    requires { ⌜ Unrefused (recordIn (now neighbours) (now codes)) × (q < length (now neighbours)) ⌝ }
+    requires { ⌜ (1 ≤ pauli) × (pauli ≤ 3) ⌝ }
+    ensures { λ r. ⌜ r ≡ contradicts (length (now (neighbours .entry)))
+        (heldRows (recordIn (now (neighbours .entry)) (now (codes .entry)))) (pauliLetter pauli) q bit ⌝ }
+{
+    let known = read_off(neighbours, codes, pauli, q);
+    known.determined & (known.minus != bit)
 }
 
 // The rows after a measurement of l at q: the same where it is determined.

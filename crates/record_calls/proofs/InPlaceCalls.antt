@@ -17,15 +17,13 @@ use Rattle.record.specs.Records.{GraphRecord, rowsOf}
 use Rattle.record.specs.Reduced.{reduced}
 use Rattle.words.specs.Bits.{isOdd}
 use Rattle.record_calls.proofs.InPlaceLines.{held-accepted}
+use Rattle.record_calls.proofs.MeasureLines.{measure-accepted}
 use Rattle.record_calls.specs.InPlaceCalls.{InPlaceCall, MeasureCall}
 
-module _ (l : LentRecord) (six eight : Bool) (k : ℕ) (e : k ≡ firstFitting (inPlaceLines l six eight)) where
-  abbrev lines : List Line
-  lines = inPlaceLines l six eight
-
+module _ (l : LentRecord) (lines : List Line) (k : ℕ) (e : k ≡ firstFitting lines) where
   -- refused: both buffers are as they were
   pub step-refused : (k ≡ 0 → ⊥) → (F : ℕ → GraphRecord → GraphRecord)
-      → InPlaceCall (stepped l (inPlaceLines l six eight) (F (l .n) (heldRecord l))) k (l .neighbours) (l .codes)
+      → InPlaceCall (stepped l lines (F (l .n) (heldRecord l))) k (l .neighbours) (l .codes)
   step-refused h F =
       record {
         number = e;
@@ -37,22 +35,26 @@ module _ (l : LentRecord) (six eight : Bool) (k : ℕ) (e : k ≡ firstFitting (
       kept answer old = sym (ap (λ b. cond b answer old) (ne-eqb (firstFitting lines) 0 (λ z. h (e ∙ z))))
 
   -- accepted: they hold the new record
-  pub step-done : k ≡ 0 → (F : ℕ → GraphRecord → GraphRecord)
+  done-by-lines : k ≡ 0 → length (l .neighbours) ≡ l .n → (F : ℕ → GraphRecord → GraphRecord)
       → (neighbours′ codes′ : List ℕ)
       → Rewritten (l .neighbours) (l .codes) (F (length (l .neighbours))) neighbours′ codes′
-      → InPlaceCall (stepped l (inPlaceLines l six eight) (F (l .n) (heldRecord l))) 0 neighbours′ codes′
-  step-done z F neighbours′ codes′ R =
+      → InPlaceCall (stepped l lines (F (l .n) (heldRecord l))) 0 neighbours′ codes′
+  done-by-lines z long F neighbours′ codes′ R =
       record {
         number = sym z ∙ e;
         words = R .neighbours ∙ ap (λ m. neighbourWords m (F m (heldRecord l))) long ∙ taken _ (l .neighbours);
         numbers = R .numbers ∙ ap (λ m. codeNumbers m (F m (heldRecord l))) long ∙ taken _ (l .codes);
       }
     where
-      long : length (l .neighbours) ≡ l .n
-      long = held-accepted l six eight (sym e ∙ z) .neighbours-length
-
       taken : (answer old : List ℕ) → answer ≡ cond (eqb (firstFitting lines) 0) answer old
       taken answer old = sym (ap (λ b. cond b answer old) (eq-eqb (firstFitting lines) 0 (sym e ∙ z)))
+
+pub step-done : (l : LentRecord) (six eight : Bool) (k : ℕ) → k ≡ firstFitting (inPlaceLines l six eight) → k ≡ 0
+    → (F : ℕ → GraphRecord → GraphRecord) (neighbours′ codes′ : List ℕ)
+    → Rewritten (l .neighbours) (l .codes) (F (length (l .neighbours))) neighbours′ codes′
+    → InPlaceCall (stepped l (inPlaceLines l six eight) (F (l .n) (heldRecord l))) 0 neighbours′ codes′
+step-done l six eight k e z =
+    done-by-lines l (inPlaceLines l six eight) k e z (held-accepted l six eight (sym e ∙ z) .neighbours-length)
 
 -- ---- a measurement
 module _ (l : LentRecord) (pauli q b answer determined k : ℕ) (e : k ≡ firstFitting (measureLines l pauli q b)) where
@@ -64,7 +66,7 @@ module _ (l : LentRecord) (pauli q b answer determined k : ℕ) (e : k ≡ first
       MeasureCall l pauli q b answer determined k (l .neighbours) (l .codes) answer determined
   measure-refused h =
       record {
-        step = step-refused l _ _ k e h left;
+        step = step-refused l (measureLines l pauli q b) k e h left;
         outcome = kept _ answer;
         known = kept _ determined;
       }
@@ -78,13 +80,14 @@ module _ (l : LentRecord) (pauli q b answer determined k : ℕ) (e : k ≡ first
       → MeasureCall l pauli q b answer determined 0 neighbours′ codes′ answer′ determined′
   measure-done z r neighbours′ codes′ M answer′ determined′ ea ed =
       record {
-        step = step-done l _ _ k e z
-            left neighbours′ codes′ (M .after);
+        step = done-by-lines l (measureLines l pauli q b) k e z long left neighbours′ codes′ (M .after);
         outcome = ea ∙ ap outcomeNumber answers;
         known = ed ∙ ap determinedNumber answers;
       }
     where
+      long : length (l .neighbours) ≡ l .n
+      long = measure-accepted l pauli q b (sym e ∙ z) .neighbours-length
+
       answers : r ≡ measuredAnswer l pauli q b
       answers = M .answer ∙ ap (λ m. measuredAnswer
-          (record { n = m; neighbours = l .neighbours; codes = l .codes }) pauli q b)
-          (held-accepted l _ _ (sym e ∙ z) .neighbours-length)
+          (record { n = m; neighbours = l .neighbours; codes = l .codes }) pauli q b) long

@@ -1,4 +1,4 @@
--- The lines of the calls on a record lent in place: the number, and what it means that none of them holds.
+-- The lines of the calls on a record lent in place: what it means that none of them holds, and a pivot's pair.
 -- Assumes nothing.
 use mathlib.Core.Bool.{Bool, false, not, true, true≢false, _||_}
 use mathlib.Core.List.{List, [], _∷_}
@@ -12,27 +12,12 @@ use borrow.Author.Tests.{eqb-false, leb-false}
 use Rattle.buffers.proofs.Lines.{fits, more-accepted, more-refused, none-fits, none-of-all, not-held, passed}
 use Rattle.buffers.specs.Refusals.{Line, firstFitting, line}
 use Rattle.operations.specs.InPlace.{Unrefused, recordIn}
-use Rattle.operations.specs.Steps.{complementLines, czLines, gateLines, inPlaceLines, measureLines, pivotLines}
+use Rattle.operations.specs.Steps.{argumentLines, complementLines, czLines, gateLines, inPlaceLines, pivotLines}
 use Rattle.record.proofs.AcceptedRecords.{accepted-record}
 use Rattle.record.proofs.RecordLines.{record-numbered}
 use Rattle.record.specs.Accepted.{AcceptedRecord}
 use Rattle.record.specs.Lent.{LentRecord, heldRecord, recordCodes, recordLines}
 use Rattle.words.proofs.Flags.{neither}
-
--- ---- the number, from that of the record's lines
-module _ (l : LentRecord) (six eight : Bool) (k : ℕ) (e : k ≡ firstFitting (recordLines l false six)) where
-  pub record-refuses : (k ≡ 0 → ⊥) → k ≡ firstFitting (inPlaceLines l six eight)
-  record-refuses h = e ∙ sym (more-refused (recordLines l false six) (line 8 eight ∷ []) (λ z. h (e ∙ z)))
-
-  eight-decides : k ≡ 0 → firstFitting (inPlaceLines l six eight) ≡ firstFitting (line 8 eight ∷ [])
-  eight-decides z = more-accepted (recordLines l false six) (line 8 eight ∷ []) (record-numbered l false six)
-      (sym e ∙ z)
-
-  pub eight-refuses : k ≡ 0 → eight ≡ true → 8 ≡ firstFitting (inPlaceLines l six eight)
-  eight-refuses z t = sym (eight-decides z ∙ fits 8 [] t)
-
-  pub none-refuses : k ≡ 0 → eight ≡ false → 0 ≡ firstFitting (inPlaceLines l six eight)
-  none-refuses z t = sym (eight-decides z ∙ passed 8 [] t ∙ none-fits)
 
 -- a number stays where line 8 holds the more
 more-eight : (l : LentRecord) (six eight eight′ : Bool) (k : ℕ) → k ≡ firstFitting (inPlaceLines l six eight)
@@ -101,7 +86,7 @@ module _ (l : LentRecord) where
         (has-qubit l _ _ e a (t .0), has-qubit l _ _ e b (u .0), eqb-false a b (u .1)),
       )
 
-  pub measure-ready : (pauli q b : ℕ) → firstFitting (measureLines l pauli q b) ≡ 0 →
+  pub measure-ready : (pauli q b : ℕ) → firstFitting (argumentLines l pauli q b) ≡ 0 →
       (Ready l × (q < length (l .neighbours))) × ((1 ≤ pauli) × (pauli ≤ 3))
   measure-ready pauli q b e =
       let t = neither (leb 2 b) _ (six-passes l _ _ e) in

@@ -13,6 +13,9 @@ pub struct Counts {
     pub determined: u64,
     pub complements: u64,
     pub pivots: u64,
+    /// Measurements whose bit the state forbids.
+    pub impossible: u64,
+    /// Calls with arguments that are out of range.
     pub refused: u64,
 }
 
@@ -20,12 +23,13 @@ impl fmt::Display for Counts {
     fn fmt(&self, f: &mut fmt::Formatter<'_>) -> fmt::Result {
         write!(
             f,
-            "{} gates, {} CZ, {} outcomes chosen and {} determined, {} complements, {} pivots, \
-             {} refused",
+            "{} gates, {} CZ, {} outcomes chosen, {} determined and {} impossible, \
+             {} complements, {} pivots, {} refused",
             self.gates,
             self.czs,
             self.chosen,
             self.determined,
+            self.impossible,
             self.complements,
             self.pivots,
             self.refused

@@ -1,8 +1,8 @@
 //! Sessions of seeded calls on one record, compared call by call with a plain tableau.
 //!
 //! After each call the record is compared with the reduced record of the tableau's group, by an
-//! elimination in plain Rust; outcomes with the tableau's; complements and pivots with document
-//! 01's text; refusals with its list.
+//! elimination in plain Rust; outcomes, and bits that the state forbids, with the tableau's;
+//! complements and pivots with document 01's text; refusals with its list.
 
 mod choice;
 mod counts;

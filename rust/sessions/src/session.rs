@@ -2,7 +2,7 @@
 
 use crate::choice::next;
 use crate::common::local::complemented_record;
-use crate::common::reference::{expanded, in_place_refusal};
+use crate::common::reference::{argument_refusal, expanded};
 use crate::common::{Operation, Random};
 use crate::counts::Counts;
 use crate::plain;
@@ -41,69 +41,71 @@ impl Session {
         let operation = next(&mut self.random, &self.record, self.number);
         self.number += 1;
         let before = self.record.clone();
-        let n = before.n() as u64;
-        let due = in_place_refusal(n, &before.neighbours, &before.codes, operation);
+        let due = self.due(operation);
         let mut measured = UNTOUCHED;
         let number = operation.call(
-            n,
+            before.n() as u64,
             &mut self.record.neighbours,
             &mut self.record.codes,
             &mut measured.0,
             &mut measured.1,
         );
-        let what = || format!("{operation:?} on {before:?}");
-        same("the number", number, due).map_err(|e| format!("{}: {e}", what()))?;
-        if due == 0 {
-            self.follow(operation, &before, measured)
-        } else {
-            self.counts.refused += 1;
-            same("the refused record", &self.record, &before)
-                .and_then(|()| same("the outcome of a refusal", measured, UNTOUCHED))
-        }
-        .map_err(|e| format!("{}: {e}", what()))
+        same("the number", number, due.err().unwrap_or(0))
+            .and_then(|()| same("the outcome", measured, due.unwrap_or(UNTOUCHED)))
+            .and_then(|()| match due {
+                Ok(_) => self.compare(operation, &before),
+                Err(_) => same("the refused record", &self.record, &before),
+            })
+            .map_err(|e| format!("{operation:?} on {before:?}: {e}"))?;
+        self.count(operation, due);
+        Ok(())
     }
 
-    /// Does to the tableau what was done to the record, and compares the two.
-    fn follow(
-        &mut self,
-        operation: Operation,
-        before: &Record,
-        measured: (u8, u8),
-    ) -> Result<(), String> {
-        let mut outcome = UNTOUCHED;
-        match operation {
-            Operation::Gate(q, code) => {
-                self.tableau.gate(q as usize, code);
-                self.counts.gates += 1;
-            }
-            Operation::Cz(a, b) => {
-                self.tableau.cz(a as usize, b as usize);
-                self.counts.czs += 1;
-            }
-            Operation::Measure(pauli, q, bit) => {
-                let answer = self.tableau.measure(pauli, q as usize, bit);
-                outcome = (answer.outcome, u8::from(answer.determined));
-                self.counts.determined += u64::from(answer.determined);
-                self.counts.chosen += u64::from(!answer.determined);
-            }
-            Operation::Complement(a) => {
-                self.assert_complemented(before, &[a])?;
-                self.counts.complements += 1;
-            }
-            Operation::Pivot(j, k) => {
-                self.assert_complemented(before, &[j, k, j])?;
-                self.counts.pivots += 1;
-            }
+    /// Does to the tableau what is to be done to the record. What the call is to leave in the
+    /// places of an outcome, or the number of its refusal: 14 where the tableau refuses the bit.
+    fn due(&mut self, operation: Operation) -> Result<(u8, u8), u8> {
+        let Record { neighbours, codes } = &self.record;
+        match argument_refusal(neighbours.len() as u64, neighbours, codes, operation) {
+            0 => (),
+            number => return Err(number),
         }
-        same("the outcome", measured, outcome)?;
+        match operation {
+            Operation::Gate(q, code) => self.tableau.gate(q as usize, code),
+            Operation::Cz(a, b) => self.tableau.cz(a as usize, b as usize),
+            Operation::Measure(pauli, q, bit) => {
+                let answer = self.tableau.measure(pauli, q as usize, bit).ok_or(14)?;
+                return Ok((answer.outcome, u8::from(answer.determined)));
+            }
+            Operation::Complement(_) | Operation::Pivot(..) => (),
+        }
+        Ok(UNTOUCHED)
+    }
+
+    fn count(&mut self, operation: Operation, due: Result<(u8, u8), u8>) {
+        let counts = &mut self.counts;
+        *match (due, operation) {
+            (Err(14), _) => &mut counts.impossible,
+            (Err(_), _) => &mut counts.refused,
+            (_, Operation::Gate(..)) => &mut counts.gates,
+            (_, Operation::Cz(..)) => &mut counts.czs,
+            (Ok((_, 0)), Operation::Measure(..)) => &mut counts.chosen,
+            (_, Operation::Measure(..)) => &mut counts.determined,
+            (_, Operation::Complement(_)) => &mut counts.complements,
+            (_, Operation::Pivot(..)) => &mut counts.pivots,
+        } += 1;
+    }
+
+    /// Compares the record that an accepted call left with the tableau, which has been changed
+    /// alike.
+    fn compare(&self, operation: Operation, before: &Record) -> Result<(), String> {
         let of_tableau = reduced(&of_tableau(&self.tableau));
         match operation {
-            Operation::Complement(_) | Operation::Pivot(..) => {
-                let of_record = reduced(&expanded(&self.record));
-                same("the group", of_record, of_tableau)
-            }
-            _ => same("the record", &self.record, &of_tableau),
+            Operation::Complement(a) => self.assert_complemented(before, &[a])?,
+            Operation::Pivot(j, k) => self.assert_complemented(before, &[j, k, j])?,
+            _ => return same("the record", &self.record, &of_tableau),
         }
+        let of_record = reduced(&expanded(&self.record));
+        same("the group", of_record, of_tableau)
     }
 
     /// The record is the one before, complemented at each vertex.

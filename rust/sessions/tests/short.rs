@@ -17,9 +17,11 @@ fn sixty_four_qubits() {
             determined,
             complements,
             pivots,
+            impossible,
             refused,
         } = counts;
-        let all = [gates, czs, chosen, determined, complements, pivots, refused];
+        let outcomes = [chosen, determined, impossible];
+        let all = [&outcomes, &[gates, czs, complements, pivots, refused][..]].concat();
         assert!(all.iter().all(|&times| times > 100), "{counts}");
         assert_eq!(all.iter().sum::<u64>(), 6000);
     }

@@ -43,13 +43,14 @@ pub fn cz(record: &mut Record, a: usize, b: usize) -> Result<(), Refusal> {
 
 /// Measures a Pauli at a qubit; the record becomes the reduced one.
 ///
-/// The outcome is the bit (1 for minus) where the Pauli is not determined; otherwise the bit is
-/// ignored and the group stays.
+/// The outcome is the bit (1 for minus). Where the Pauli is determined the group stays, and a bit
+/// that the state forbids is refused.
 ///
-/// Refusals: 2, 4, 5, 6 (also for a bit above 1), 7, 8 for a qubit out of range.
+/// Refusals: 2, 4, 5, 6 (also for a bit above 1), 7, 8 for a qubit out of range, 14 for a bit that
+/// is not the determined outcome.
 ///
 /// ```
-/// use sukhlent::{gate, measure, Measured, Pauli, Record};
+/// use sukhlent::{measure, Measured, Pauli, Record, Refusal};
 ///
 /// // The Bell state XX, ZZ: one edge with a Hadamard at qubit 1.
 /// let mut record = Record {
@@ -59,9 +60,11 @@ pub fn cz(record: &mut Record, a: usize, b: usize) -> Result<(), Refusal> {
 /// let first = measure(&mut record, Pauli::Z, 0, 1)?;
 /// assert_eq!(first, Measured { outcome: 1, determined: false });
 /// assert_eq!(record.codes, [10, 10]);
-/// gate(&mut record, 1, 1)?;
+/// // Qubit 1 is in the same state now: a click 0 is impossible.
+/// let click = measure(&mut record, Pauli::Z, 1, 0);
+/// assert_eq!(click, Err(Refusal::Contradiction));
 /// let second = measure(&mut record, Pauli::Z, 1, 1)?;
-/// assert_eq!(second, Measured { outcome: 0, determined: true });
+/// assert_eq!(second, Measured { outcome: 1, determined: true });
 /// # Ok::<(), sukhlent::Refusal>(())
 /// ```
 pub fn measure(

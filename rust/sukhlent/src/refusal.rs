@@ -2,7 +2,7 @@
 
 use std::fmt;
 
-/// The reason for which a call refuses, by its number in checking order.
+/// The reason for which a call refuses, by its number.
 #[derive(Clone, Copy, Debug, PartialEq, Eq, Hash, PartialOrd, Ord)]
 #[repr(u8)]
 pub enum Refusal {
@@ -32,11 +32,13 @@ pub enum Refusal {
     Loop = 12,
     /// Two states are not locally equivalent.
     Inequivalent = 13,
+    /// A supplied outcome is one that the state forbids.
+    Contradiction = 14,
 }
 
 impl Refusal {
     /// Every refusal, in checking order.
-    pub const ALL: [Refusal; 13] = [
+    pub const ALL: [Refusal; 14] = [
         Refusal::Form,
         Refusal::Qubits,
         Refusal::Comparison,
@@ -47,12 +49,13 @@ impl Refusal {
         Refusal::Place,
         Refusal::Anticommuting,
         Refusal::Dependent,
+        Refusal::Contradiction,
         Refusal::NoGraph,
         Refusal::Loop,
         Refusal::Inequivalent,
     ];
 
-    /// The number, 1 to 13.
+    /// The number, 1 to 14.
     pub fn number(self) -> u8 {
         self as u8
     }
@@ -89,6 +92,7 @@ impl Refusal {
             }
             Refusal::Anticommuting => "two generators do not commute",
             Refusal::Dependent => "the generators are dependent",
+            Refusal::Contradiction => "a determined outcome contradicts the supplied bit",
             Refusal::NoGraph => "the image loop stops with some C = 1",
             Refusal::Loop => {
                 "the image loop stops with every C = 0, \
@@ -113,8 +117,7 @@ mod tests {
 
     #[test]
     fn numbers_lead_back_to_their_refusals() {
-        for (k, refusal) in Refusal::ALL.into_iter().enumerate() {
-            assert_eq!(usize::from(refusal.number()), k + 1);
+        for refusal in Refusal::ALL {
             assert_eq!(Refusal::from_number(refusal.number()), Some(refusal));
             assert_eq!(
                 Refusal::unless_accepted(refusal.number()),
@@ -123,13 +126,22 @@ mod tests {
             );
         }
         assert_eq!(Refusal::unless_accepted(0), Ok(()));
-        assert!((14..=255).all(|number| Refusal::from_number(number).is_none()));
+        let mut numbers = Refusal::ALL.map(Refusal::number);
+        numbers.sort();
+        assert!(numbers.into_iter().eq(1..=14));
+        assert!((15..=255).all(|number| Refusal::from_number(number).is_none()));
+    }
+
+    #[test]
+    fn fourteen_is_checked_after_ten() {
+        let order = Refusal::ALL.map(Refusal::number);
+        assert_eq!(order, [1, 2, 3, 4, 5, 6, 7, 8, 9, 10, 14, 11, 12, 13]);
     }
 
     #[test]
     fn every_refusal_has_its_own_line() {
         let lines: std::collections::HashSet<_> = Refusal::ALL.map(Refusal::line).into();
-        assert_eq!(lines.len(), 13);
+        assert_eq!(lines.len(), 14);
         assert_eq!(
             Refusal::Anticommuting.to_string(),
             "refused 9: two generators do not commute"
@@ -137,8 +149,8 @@ mod tests {
     }
 
     #[test]
-    #[should_panic(expected = "no refusal has the number 14")]
+    #[should_panic(expected = "no refusal has the number 15")]
     fn other_numbers_are_no_answers() {
-        let _ = Refusal::unless_accepted(14);
+        let _ = Refusal::unless_accepted(15);
     }
 }

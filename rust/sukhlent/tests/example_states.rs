@@ -71,19 +71,29 @@ fn z_measured_twice_on_a_bell_state() {
     let bell = parsed(&["XX", "ZZ"]);
     let mut record = reduce(&bell).unwrap();
     let mut state = vector(&bell);
-    // Qubit, bit, probability of outcome 1, and the answer.
-    let steps = [(0, 1, 0.5, (1, false)), (1, 0, 1.0, (1, true))];
-    for (q, bit, probability, (outcome, determined)) in steps {
+    // Qubit, bit, the bit's probability, and whether it is determined where it is possible.
+    let steps = [
+        (0, 1, 0.5, Some(false)),
+        (1, 0, 0.0, None),
+        (1, 1, 1.0, Some(true)),
+    ];
+    for (q, bit, probability, determined) in steps {
         let z = Row::new(0, 1 << q, 0);
-        assert!(near(state.probability(&z, 1), probability), "qubit {q}");
-        let answer = measure(&mut record, Pauli::Z, q, bit).unwrap();
-        let due = Measured {
-            outcome,
+        assert!(near(state.probability(&z, bit), probability), "qubit {q}");
+        let answer = measure(&mut record, Pauli::Z, q, bit);
+        let due = determined.map(|determined| Measured {
+            outcome: bit,
             determined,
-        };
-        assert_eq!(answer, due);
-        let after = state.project(&z, outcome).expect("a possible outcome");
-        assert_eq!(same(&after, &state), determined, "kept where determined");
+        });
+        assert_eq!(answer, due.ok_or(Refusal::Contradiction));
+        let after = state.project(&z, bit);
+        assert_eq!(
+            after.is_none(),
+            determined.is_none(),
+            "refused where impossible"
+        );
+        let after = after.unwrap_or_else(|| state.clone());
+        assert_eq!(same(&after, &state), determined != Some(false), "kept");
         assert_stands_for(&record, &after);
         state = after;
     }

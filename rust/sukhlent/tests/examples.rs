@@ -61,7 +61,10 @@ fn z_measured_twice_on_a_bell_state() {
     };
     assert_eq!(first, Ok(chosen));
     assert_eq!(state, record(&[0, 0], &[10, 10]));
-    let second = measure(&mut state, sukhlent::Pauli::Z, 1, 0);
+    let forbidden = measure(&mut state, sukhlent::Pauli::Z, 1, 0);
+    assert_eq!(forbidden, Err(Refusal::Contradiction));
+    assert_eq!(state, record(&[0, 0], &[10, 10]));
+    let second = measure(&mut state, sukhlent::Pauli::Z, 1, 1);
     let known = Measured {
         outcome: 1,
         determined: true,

@@ -3,7 +3,10 @@
 mod common;
 
 use common::damage::{damage_record, each_fault, each_pair, flip, record_faults, Fault};
-use common::{random_record, Operation, Random, RecordCall};
+use common::reference::expanded;
+use common::seeded::pauli::{X, Y, Z};
+use common::{images, random_record, rows, Operation, Pauli, Random, RecordCall};
+use sukhlent::Record;
 use Operation::{Complement, Cz, Gate, Measure, Pivot};
 
 type Call = RecordCall<Operation>;
@@ -33,6 +36,9 @@ fn own_faults(operation: Operation) -> Vec<Fault<Call>> {
             (8, |call| call.with = Measure(2, u64::MAX, 1)),
             (6, |call| call.with = Measure(0, 8, 0)),
             (6, |call| call.with = Measure(2, 8, 255)),
+            (14, |call| contradict(call, 1, 2, 0)),
+            (14, |call| contradict(call, 2, 6, 0)),
+            (14, |call| contradict(call, 3, 8, 1)),
         ],
         Complement(..) => vec![
             (8, |call| call.with = Complement(8)),
@@ -50,6 +56,20 @@ fn own_faults(operation: Operation) -> Vec<Fault<Call>> {
             }),
         ],
     }
+}
+
+/// Takes the edges at a vertex.
+fn isolate(call: &mut Call, v: usize) {
+    let words = call.neighbours.iter_mut();
+    words.for_each(|word| *word &= !(1 << v));
+    call.neighbours[v] = 0;
+}
+
+/// Leaves vertex 5 alone with a code, and measures a Pauli there.
+fn contradict(call: &mut Call, pauli: u8, code: u8, bit: u8) {
+    isolate(call, 5);
+    call.codes[5] = code;
+    call.with = Measure(pauli, 5, bit);
 }
 
 /// A call on a random record of n vertices, of which the first two have an edge.
@@ -118,16 +138,26 @@ fn every_code_and_every_qubit_of_a_gate() {
 fn every_pauli_every_outcome_and_every_qubit_of_a_measurement() {
     for n in [1, 2, 63, 64] {
         let call = |pauli, q, bit| base(n, n as usize, Measure(pauli, q, bit));
+        let assert_due = |pauli, q, bit| {
+            let call = call(pauli, q, bit);
+            let six = !(1..=3).contains(&pauli) || bit > 1;
+            assert_judged(
+                &call,
+                if six {
+                    6
+                } else {
+                    click_due(&call, pauli, q, bit)
+                },
+            );
+        };
         for value in 0..=255 {
-            let pauli_due = if (1..=3).contains(&value) { 0 } else { 6 };
-            let outcome_due = if value < 2 { 0 } else { 6 };
             for (bit, pauli) in [(0, 1), (1, 2), (0, 3)] {
-                assert_judged(&call(value, n - 1, bit), pauli_due);
-                assert_judged(&call(pauli, n - 1, value), outcome_due);
+                assert_due(value, n - 1, bit);
+                assert_due(pauli, n - 1, value);
             }
         }
         for q in 0..n {
-            assert_judged(&call(1 + (q % 3) as u8, q, (q % 2) as u8), 0);
+            assert_due(1 + (q % 3) as u8, q, (q % 2) as u8);
         }
         for q in beyond(n) {
             assert_judged(&call(3, q, 1), 8);
@@ -135,6 +165,47 @@ fn every_pauli_every_outcome_and_every_qubit_of_a_measurement() {
             assert_judged(&call(3, q, 2), 6);
         }
     }
+}
+
+/// 14 where the qubit is alone and its code sends X to the Pauli with the other sign, else 0.
+fn click_due(call: &Call, pauli: u8, q: u64, bit: u8) -> u8 {
+    let q = q as usize;
+    let other = (2 * (1 - bit), [X, Y, Z][usize::from(pauli) - 1]);
+    let forbidden = call.neighbours[q] == 0 && images(call.codes[q]).0 == other;
+    14 * u8::from(forbidden)
+}
+
+/// The record of two vertices with an edge or none, by its codes.
+fn two_vertices(edge: bool, codes: [u8; 2]) -> Record {
+    let neighbours = if edge { [2, 1] } else { [0, 0] };
+    Record {
+        neighbours: neighbours.to_vec(),
+        codes: codes.to_vec(),
+    }
+}
+
+#[test]
+fn a_bit_is_refused_exactly_where_the_group_has_the_other_sign() {
+    let codes = || (0..24).flat_map(|a| (0..24).map(move |b| [a, b]));
+    let records = [false, true].into_iter();
+    let records = records.flat_map(|edge| codes().map(move |codes| two_vertices(edge, codes)));
+    let mut counts = [0; 2];
+    for record in records {
+        let [first, second]: [Pauli; 2] = rows(&expanded(&record)).try_into().unwrap();
+        let group = [Pauli::identity(2), first.times(&second), first, second];
+        for (pauli, letter) in [(1, X), (2, Y), (3, Z)] {
+            for (q, bit) in [(0, 0), (0, 1), (1, 0), (1, 1)] {
+                let mut other = Pauli::single(2, q, letter);
+                other.phase = 2 * (1 - bit);
+                let forbidden = group.contains(&other);
+                let call = RecordCall::with(&record, Measure(pauli, q as u64, bit));
+                assert_judged(&call, if forbidden { 14 } else { 0 });
+                counts[usize::from(forbidden)] += 1;
+            }
+        }
+    }
+    // Without an edge one Pauli of three is determined, and one of two bits forbidden.
+    assert_eq!(counts, [2 * 576 * 12 - 576 * 2, 576 * 2]);
 }
 
 #[test]
@@ -172,13 +243,16 @@ fn every_pair_of_a_cz_and_of_a_pivot() {
 
 #[test]
 fn seeded_damage_against_the_reference() {
-    let mut counts = [[0; 9]; 5];
+    let mut counts = [[0; 15]; 5];
     for seed in 0..10_000 {
         let mut random = Random::new(20_000 + seed);
         let n = 2 + random.below(9);
         let kind = random.below(5);
         let operation = Operation::loose(&mut random, kind, n);
         let mut call = base(seed, n, operation);
+        if let Measure(_, q @ 2.., _) = operation {
+            isolate(&mut call, (q as usize).min(n - 1));
+        }
         for _ in 0..random.below(3) {
             damage_record(&mut random, &mut call);
         }
@@ -186,8 +260,9 @@ fn seeded_damage_against_the_reference() {
         assert_judged(&call, due);
         counts[kind][usize::from(due)] += 1;
     }
-    for counts in counts {
+    for (kind, counts) in counts.iter().enumerate() {
         let all = [0, 2, 4, 5, 6, 7, 8];
         assert!(all.iter().all(|&k| counts[k] > 20), "{counts:?}");
+        assert_eq!(counts[14] > 20, kind == 2, "{counts:?}");
     }
 }

@@ -39,7 +39,7 @@ impl Session {
         let answer = call.apply();
         if due != 0 {
             assert_eq!(answer, Err(due), "{call:?}");
-            self.count(&format!("refused {due}"));
+            self.refused(operation, due);
             return;
         }
         let (record, measured) = answer.unwrap_or_else(|number| panic!("{number}: {call:?}"));
@@ -52,6 +52,20 @@ impl Session {
             assert_eq!(reduce(&list).as_ref(), Ok(&self.record), "{call:?}");
             assert_eq!(reduced(&list), self.record, "{call:?}");
         }
+    }
+
+    /// Counts a refusal. Where it is 14, the state forbids the bit.
+    fn refused(&mut self, operation: Operation, due: u8) {
+        self.count(&format!("refused {due}"));
+        if due != 14 {
+            return;
+        }
+        let Operation::Measure(pauli, q, bit) = operation else {
+            panic!("{operation:?} is no measurement");
+        };
+        let probability = self.state.probability(&row(pauli, q), bit);
+        assert!(near(probability, 0.0), "{operation:?}: {probability}");
+        self.count(&format!("bit {bit} forbidden"));
     }
 
     /// Does to the state vector what was done to the record. Complements and pivots do nothing.
@@ -77,31 +91,17 @@ impl Session {
 
     /// Compares an outcome with its probability, and projects the state.
     fn measure(&mut self, pauli: u8, q: u64, bit: u8, measured: Measured) {
-        let row = match pauli {
-            1 => Row::new(0, 0, 1 << q),
-            2 => Row::new(0, 1 << q, 1 << q),
-            _ => Row::new(0, 1 << q, 0),
-        };
-        let near = |a: f64, b: f64| (a - b).abs() < 1e-9;
-        let minus = self.state.probability(&row, 1);
-        let due = if near(minus, 0.5) {
-            Measured {
-                outcome: bit,
-                determined: false,
-            }
-        } else {
-            assert!(near(minus, 0.0) || near(minus, 1.0), "{minus}");
-            Measured {
-                outcome: minus.round() as u8,
-                determined: true,
-            }
+        let row = row(pauli, q);
+        let probability = self.state.probability(&row, bit);
+        let determined = !near(probability, 0.5);
+        assert!(!determined || near(probability, 1.0), "{probability}");
+        let due = Measured {
+            outcome: bit,
+            determined,
         };
         assert_eq!(measured, due, "{row:?}");
-        self.state = self.state.project(&row, due.outcome).unwrap();
-        self.count(&format!(
-            "outcome {} with bit {bit}, determined: {}",
-            due.outcome, due.determined
-        ));
+        self.state = self.state.project(&row, bit).unwrap();
+        self.count(&format!("outcome {bit}, determined: {determined}"));
     }
 
     /// A call on a damaged record is refused; the record of the session stays as it is.
@@ -112,6 +112,19 @@ impl Session {
             assert_eq!(call.apply(), Err(call.due()), "{call:?}");
         }
     }
+}
+
+/// A Pauli at a qubit.
+fn row(pauli: u8, q: u64) -> Row {
+    match pauli {
+        1 => Row::new(0, 0, 1 << q),
+        2 => Row::new(0, 1 << q, 1 << q),
+        _ => Row::new(0, 1 << q, 0),
+    }
+}
+
+fn near(a: f64, b: f64) -> bool {
+    (a - b).abs() < 1e-9
 }
 
 #[test]
@@ -140,16 +153,20 @@ fn seeded_sessions_against_state_vectors() {
 /// Every code, every kind of call, outcome and refusal occurred often.
 fn assert_all_happened(counts: &HashMap<String, usize>) {
     let codes = (0..24).map(|code| format!("code {code}"));
-    let rest = ["cz", "complement", "pivot", "refused 6", "refused 8"];
-    let chosen = [(0, 0, false), (1, 1, false)];
-    let known = [(0, 0, true), (0, 1, true), (1, 0, true), (1, 1, true)];
-    let outcomes = chosen
-        .into_iter()
-        .chain(known)
-        .map(|(outcome, bit, determined)| {
-            format!("outcome {outcome} with bit {bit}, determined: {determined}")
-        });
-    for what in codes.chain(rest.map(str::to_string)).chain(outcomes) {
+    let rest = [
+        "cz",
+        "complement",
+        "pivot",
+        "refused 6",
+        "refused 8",
+        "outcome 0, determined: false",
+        "outcome 1, determined: false",
+        "outcome 0, determined: true",
+        "outcome 1, determined: true",
+        "bit 0 forbidden",
+        "bit 1 forbidden",
+    ];
+    for what in codes.chain(rest.map(str::to_string)) {
         let times = counts.get(&what).copied().unwrap_or(0);
         assert!(times > 100, "{what}: {times} times of {counts:?}");
     }

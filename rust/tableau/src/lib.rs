@@ -61,9 +61,9 @@ impl Tableau {
         }
     }
 
-    /// Measures a Pauli (1 X, 2 Y, 3 Z) at a qubit; the bit is the outcome where it is not
-    /// determined. Panics on other numbers.
-    pub fn measure(&mut self, pauli: u8, q: usize, bit: u8) -> Measured {
+    /// Measures a Pauli (1 X, 2 Y, 3 Z) at a qubit; the bit is the outcome. None, and the state as
+    /// it was, where the other outcome is certain. Panics on other numbers.
+    pub fn measure(&mut self, pauli: u8, q: usize, bit: u8) -> Option<Measured> {
         assert!((1..=3).contains(&pauli) && bit < 2, "{pauli}, bit {bit}");
         assert!(q < self.n(), "qubit {q}");
         let measured = Row::single(pauli, q);
@@ -71,15 +71,16 @@ impl Tableau {
         match clashing {
             Some(j) => {
                 self.replace(j, measured.with_sign(bit));
-                Measured {
+                Some(Measured {
                     outcome: bit,
                     determined: false,
-                }
+                })
             }
-            None => Measured {
-                outcome: self.sign_of(&measured),
+            None if self.sign_of(&measured) == bit => Some(Measured {
+                outcome: bit,
                 determined: true,
-            },
+            }),
+            None => None,
         }
     }
 

@@ -45,26 +45,27 @@ fn assert_full(tableau: &Tableau) {
     }
 }
 
-fn measure(state: &mut State, pauli: u8, q: usize, bit: u8) -> Measured {
+fn measure(state: &mut State, pauli: u8, q: usize, bit: u8) -> Option<Measured> {
     let row = match pauli {
         1 => Row::new(0, 0, 1 << q),
         2 => Row::new(0, 1 << q, 1 << q),
         _ => Row::new(0, 1 << q, 0),
     };
-    let minus = state.probability(&row, 1);
-    let determined = (minus - 0.5).abs() > 0.25;
-    let outcome = if determined { minus.round() as u8 } else { bit };
-    *state = state.project(&row, outcome).unwrap();
-    Measured {
-        outcome,
-        determined,
+    let probability = state.probability(&row, bit);
+    if probability < 0.25 {
+        return None;
     }
+    *state = state.project(&row, bit).unwrap();
+    Some(Measured {
+        outcome: bit,
+        determined: probability > 0.75,
+    })
 }
 
 #[test]
 fn seeded_calls_against_state_vectors() {
     let matrices: Vec<Matrix2> = (0..24).map(matrix).collect();
-    let mut seen = [[0; 2]; 2];
+    let mut seen = [[0; 2]; 3];
     for seed in 0..200 {
         let mut random = Random(seed);
         let n = 1 + seed as usize % 6;
@@ -85,7 +86,8 @@ fn seeded_calls_against_state_vectors() {
                     let (pauli, bit) = (1 + random.below(3) as u8, random.below(2) as u8);
                     let answer = tableau.measure(pauli, a, bit);
                     assert_eq!(answer, measure(&mut state, pauli, a, bit), "seed {seed}");
-                    seen[usize::from(answer.determined)][usize::from(answer.outcome)] += 1;
+                    let kind = answer.map_or(2, |answer| usize::from(answer.determined));
+                    seen[kind][usize::from(bit)] += 1;
                 }
             }
             assert_full(&tableau);

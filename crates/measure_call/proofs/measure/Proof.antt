@@ -3,11 +3,12 @@ use borrow.Author.Needs.{needs}
 use Rattle.record.specs.Lent.{LentRecord}
 use Rattle.record_calls.proofs.InPlaceCalls.{measure-done, measure-refused}
 use Rattle.record_calls.proofs.InPlaceLines.{measure-ready}
+use Rattle.record_calls.proofs.MeasureLines.{measure-passes}
 use Rattle.measure_call.proofs.measure.Statement.{statement}
 use Rattle.measure_call.proofs.measure.Tie as tie
 
-in-place-refusal-requires : tie.Need-in-place-refusal-requires
-in-place-refusal-requires c κs = search needs
+measure-refusal-requires : tie.Need-measure-refusal-requires
+measure-refusal-requires c κs = search needs
 
 same-length : tie.Need-same-length
 same-length c = search needs
@@ -21,7 +22,7 @@ returns c =
     let a = E .before .before .before .before .before .args in
     let l : LentRecord = record { n = a .n; neighbours = a .neighbours .now; codes = a .codes .now } in
     measure-refused l (a .pauli) (a .qubit) (a .outcome) (a .answer .now) (a .determined .now) _
-    (E .in-place-refusal .ensures) (c .if1 .taken)
+    (E .measure-refusal .ensures) (c .if1 .taken)
 
 measure-record-requires : tie.Need-measure-record-requires
 measure-record-requires c κs =
@@ -29,7 +30,8 @@ measure-record-requires c κs =
     let E = D .before in
     let a = E .before .before .before .before .before .args in
     let l : LentRecord = record { n = a .n; neighbours = a .neighbours .now; codes = a .codes .now } in
-    measure-ready l (a .pauli) (a .qubit) (a .outcome) (sym (E .in-place-refusal .ensures) ∙ D .if1 .left)
+    measure-ready l (a .pauli) (a .qubit) (a .outcome)
+    (measure-passes l (a .pauli) (a .qubit) (a .outcome) (sym (E .measure-refusal .ensures) ∙ D .if1 .left) .0)
 
 outcome-number-requires : tie.Need-outcome-number-requires
 outcome-number-requires c κs = search needs
@@ -52,14 +54,14 @@ returns-2 c =
     let a = E .before .before .before .before .before .args in
     let l : LentRecord = record { n = a .n; neighbours = a .neighbours .now; codes = a .codes .now } in
     measure-done l (a .pauli) (a .qubit) (a .outcome) (a .answer .now) (a .determined .now) _
-    (E .in-place-refusal .ensures) (D .if1 .left) _ _ _ (G .measure-record .ensures) _ _
+    (E .measure-refusal .ensures) (D .if1 .left) _ _ _ (G .measure-record .ensures) _ _
     (N .outcome-number .ensures) (c .determined-number .ensures)
 
 pub measure-spec : {M : Type 1} → statement M
 measure-spec =
     tie.close
     (tie.spec
-    in-place-refusal-requires
+    measure-refusal-requires
     same-length
     same-length-2
     returns

@@ -1,6 +1,7 @@
 use mathlib.Core.Path.{sym, _∙_}
 use borrow.Author.Needs.{needs}
 use Rattle.operations.specs.Cz.{czRows}
+use Rattle.operations.specs.Steps.{czLines}
 use Rattle.record.specs.Lent.{LentRecord}
 use Rattle.record.specs.Records.{rowsOf}
 use Rattle.record.specs.Reduced.{reduced}
@@ -23,7 +24,7 @@ returns c =
     let E = c .before in
     let a = E .before .before .before .before .before .args in
     let l : LentRecord = record { n = a .n; neighbours = a .neighbours .now; codes = a .codes .now } in
-    step-refused l _ _ _ (E .in-place-refusal .ensures) (c .if1 .taken)
+    step-refused l (czLines l (a .a) (a .b)) _ (E .in-place-refusal .ensures) (c .if1 .taken)
     (λ m g. reduced m (czRows (a .a) (a .b) (rowsOf m g)))
 
 cz-record-requires : tie.Need-cz-record-requires

@@ -2,6 +2,7 @@ use mathlib.Core.Path.{sym, _∙_}
 use borrow.Author.Needs.{needs}
 use Rattle.clifford.specs.Clifford.{cliffordOf}
 use Rattle.operations.specs.Gates.{gated}
+use Rattle.operations.specs.Steps.{gateLines}
 use Rattle.record.specs.Lent.{LentRecord}
 use Rattle.record.specs.Records.{rowsOf}
 use Rattle.record.specs.Reduced.{reduced}
@@ -24,7 +25,7 @@ returns c =
     let E = c .before in
     let a = E .before .before .before .before .before .args in
     let l : LentRecord = record { n = a .n; neighbours = a .neighbours .now; codes = a .codes .now } in
-    step-refused l _ _ _ (E .in-place-refusal .ensures) (c .if1 .taken)
+    step-refused l (gateLines l (a .qubit) (a .code)) _ (E .in-place-refusal .ensures) (c .if1 .taken)
     (λ m g. reduced m (rowsOf m (gated g (a .qubit) (cliffordOf (a .code)))))
 
 gate-record-requires : tie.Need-gate-record-requires

@@ -1,5 +1,6 @@
 use mathlib.Core.Path.{sym, _∙_}
 use borrow.Author.Needs.{needs}
+use Rattle.operations.specs.Steps.{complementLines}
 use Rattle.record.specs.Lent.{LentRecord}
 use Rattle.record.specs.Records.{complementRecord}
 use Rattle.record_calls.proofs.InPlaceCalls.{step-done, step-refused}
@@ -21,7 +22,7 @@ returns c =
     let E = c .before in
     let a = E .before .before .before .before .before .args in
     let l : LentRecord = record { n = a .n; neighbours = a .neighbours .now; codes = a .codes .now } in
-    step-refused l _ _ _ (E .in-place-refusal .ensures) (c .if1 .taken)
+    step-refused l (complementLines l (a .a)) _ (E .in-place-refusal .ensures) (c .if1 .taken)
     (λ m g. complementRecord g (a .a))
 
 complement-record-requires : tie.Need-complement-record-requires

@@ -1,7 +1,7 @@
 use mathlib.Core.Path.{refl, sym, _∙_}
 use native.Mathlib.Omega.{arith}
 use borrow.Author.Needs.{needs}
-use Rattle.operations.specs.Steps.{pivotRecord}
+use Rattle.operations.specs.Steps.{pivotLines, pivotRecord}
 use Rattle.record.specs.Lent.{LentRecord}
 use Rattle.record_calls.proofs.InPlaceCalls.{step-done, step-refused}
 use Rattle.record_calls.proofs.InPlaceLines.{
@@ -28,7 +28,8 @@ returns c =
     let E = c .before in
     let a = E .before .before .before .before .before .args in
     let l : LentRecord = record { n = a .n; neighbours = a .neighbours .now; codes = a .codes .now } in
-    step-refused l _ _ _ (pair-refused l (a .j) (a .k) _ (E .in-place-refusal .ensures) (c .if1 .taken))
+    step-refused l (pivotLines l (a .j) (a .k)) _
+    (pair-refused l (a .j) (a .k) _ (E .in-place-refusal .ensures) (c .if1 .taken))
     (c .if1 .taken) (λ m g. pivotRecord g (a .j) (a .k))
 
 mul-has : tie.Need-mul-has
@@ -66,7 +67,7 @@ returns-2 c =
     let E = D .before in
     let a = E .before .before .before .before .before .args in
     let l : LentRecord = record { n = a .n; neighbours = a .neighbours .now; codes = a .codes .now } in
-    step-refused l _ _ 8
+    step-refused l (pivotLines l (a .j) (a .k)) 8
     (no-edge-refuses l (a .j) (a .k) _ (E .in-place-refusal .ensures) (D .if1 .left) _ (H .has .ensures)
     (c .if2 .taken)) (λ e. absurd (omega (arith, e))) (λ m g. pivotRecord g (a .j) (a .k))
 

@@ -93,7 +93,10 @@ fn on_tableau(tableau: &mut Tableau, operation: Operation) -> Option<Measured> {
     match operation {
         Operation::Gate(q, code) => tableau.gate(q as usize, code),
         Operation::Cz(a, b) => tableau.cz(a as usize, b as usize),
-        Operation::Measure(pauli, q, bit) => return Some(tableau.measure(pauli, q as usize, bit)),
+        Operation::Measure(pauli, q, bit) => {
+            let measured = tableau.measure(pauli, q as usize, bit);
+            return Some(measured.expect("a possible outcome"));
+        }
         _ => panic!("a tableau has no graph: {operation:?}"),
     }
     None
@@ -136,7 +139,7 @@ fn chosen(random: &mut Random) -> Case {
     loop {
         let (pauli, q, bit) = (1 + random.below(3), random.below(N), random.below(2));
         let measured = tableau.clone().measure(pauli as u8, q, bit as u8);
-        if !measured.determined {
+        if measured.is_some_and(|measured| !measured.determined) {
             let operation = Operation::Measure(pauli as u8, q as u64, bit as u8);
             return case(tableau, operation);
         }

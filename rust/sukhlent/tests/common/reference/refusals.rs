@@ -2,8 +2,10 @@
 
 use crate::common::complementations::LIST_PLACES;
 use crate::common::operation::Operation;
+use crate::common::reference::{expanded, is_element};
+use crate::common::seeded::pauli::{X, Y, Z};
 use crate::common::seeded::{rows, Pauli};
-use sukhlent::GeneratorList;
+use sukhlent::{GeneratorList, Record};
 
 /// The first line that is true of a generator list and of further buffers of n places.
 pub fn list_refusal(n: u64, signs: &[u8], z: &[u64], x: &[u64], others: &[usize]) -> u8 {
@@ -59,6 +61,28 @@ pub fn record_refusal(n: u64, neighbours: &[u64], codes: &[u8], others: &[usize]
 
 /// The first line that is true of a call on a record in place.
 pub fn in_place_refusal(n: u64, neighbours: &[u64], codes: &[u8], operation: Operation) -> u8 {
+    match (argument_refusal(n, neighbours, codes, operation), operation) {
+        (0, Operation::Measure(pauli, q, bit)) => {
+            let record = Record {
+                neighbours: neighbours.to_vec(),
+                codes: codes.to_vec(),
+            };
+            14 * u8::from(contradicted(&record, pauli, q as usize, bit))
+        }
+        (number, _) => number,
+    }
+}
+
+/// Whether the Pauli with the sign that the bit does not have is in a record's group.
+fn contradicted(record: &Record, pauli: u8, q: usize, bit: u8) -> bool {
+    let letter = [X, Y, Z][usize::from(pauli) - 1];
+    let mut other = Pauli::single(record.n(), q, letter);
+    other.phase = 2 * (1 - bit);
+    is_element(&rows(&expanded(record)), &other)
+}
+
+/// The first line before 14 that is true of a call on a record in place.
+pub fn argument_refusal(n: u64, neighbours: &[u64], codes: &[u8], operation: Operation) -> u8 {
     let of_record = record_refusal(n, neighbours, codes, &[]);
     let six = match operation {
         Operation::Gate(_, code) => code > 23,

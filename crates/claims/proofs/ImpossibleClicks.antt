@@ -1,0 +1,48 @@
+-- Impossible clicks are refused, from the call's contract: exactly these, and nothing is written.
+-- Assumes nothing.
+use mathlib.Core.Bool.{cond, not, true}
+use mathlib.Core.Logic.{_↔_}
+use mathlib.Core.Path.{_∙_, _≡_, ap, ap₂, subst, sym}
+use Prim.Native.Nat.{_<_, ℕ}
+use native.Mathlib.Omega.{arith}
+use lib.Dec.{eqb}
+use borrow.Author.Tests.{ne-eqb}
+use Rattle.buffers.specs.Refusals.{firstFitting}
+use Rattle.operations.proofs.Contradicted.{contradicts-exactly}
+use Rattle.operations.specs.Measurement.{contradicts, pauliLetter}
+use Rattle.operations.specs.Steps.{argumentLines}
+use Rattle.record.specs.Lent.{LentRecord, heldRows}
+use Rattle.record_calls.proofs.InPlaceLines.{held-accepted, measure-ready}
+use Rattle.record_calls.proofs.MeasureLines.{fourteen-exactly}
+use Rattle.stabilizer.specs.Groups.{InGroup}
+use Rattle.words.specs.Bits.{isOdd}
+use Rattle.claims.specs.OperationsDemand.{ImpossibleClicksRefused, left, signedPauli}
+
+-- where the arguments are in order, the bit is contradicted exactly if the Pauli with the other sign is in the group
+contradicted-by-group : (l : LentRecord) (pauli q b : ℕ) → firstFitting (argumentLines l pauli q b) ≡ 0
+    → (contradicts (l .n) (heldRows l) (pauliLetter pauli) q (isOdd b) ≡ true)
+    ↔ InGroup (l .n) (l .n) (heldRows l) (signedPauli pauli q (not (isOdd b)))
+contradicted-by-group l pauli q b e =
+    let A = held-accepted l _ _ e in
+    contradicts-exactly (l .n) (heldRows l) (pauliLetter pauli) q (isOdd b) (A .proper)
+    (subst (λ m. q < m) (A .neighbours-length) (measure-ready l pauli q b e .0 .1))
+
+pub impossible-clicks-refused : ImpossibleClicksRefused
+impossible-clicks-refused l pauli q b answer determined r nb′ cs′ answer′ determined′ C =
+    record {
+      exactly = (
+        (λ e. let h = fourteen-exactly l pauli q b .0 (sym (C .step .number) ∙ e) in
+            (h .0, contradicted-by-group l pauli q b (h .0) .0 (h .1))),
+        (λ h. C .step .number ∙ fourteen-exactly l pauli q b .1
+            (h .0, contradicted-by-group l pauli q b (h .0) .1 (h .1))),
+      );
+      record-kept = λ e. ap₂ (left l) (C .step .words ∙ old (sym (C .step .number) ∙ e) _ _)
+          (C .step .numbers ∙ old (sym (C .step .number) ∙ e) _ _);
+      answers-kept = λ e. (C .outcome ∙ old e _ _, C .known ∙ old e _ _);
+    }
+  where
+    not-accepted : {k : ℕ} → k ≡ 14 → k ≡ 0 → ⊥
+    not-accepted e z = omega (arith, e, z)
+
+    old : {A : Type 0} {k : ℕ} → k ≡ 14 → (new old : A) → cond (eqb k 0) new old ≡ old
+    old {k = k} e new was = ap (λ b. cond b new was) (ne-eqb k 0 (not-accepted e))

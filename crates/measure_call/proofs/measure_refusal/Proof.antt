@@ -1,0 +1,47 @@
+use mathlib.Core.Path.{sym, _∙_}
+use borrow.Author.Needs.{needs}
+use Rattle.record.specs.Lent.{LentRecord}
+use Rattle.record_calls.proofs.InPlaceLines.{measure-ready}
+use Rattle.record_calls.proofs.MeasureLines.{agreed-passes, arguments-refuse, contradicted-refuses}
+use Rattle.measure_call.proofs.measure_refusal.Statement.{statement}
+use Rattle.measure_call.proofs.measure_refusal.Tie as tie
+
+in-place-refusal-requires : tie.Need-in-place-refusal-requires
+in-place-refusal-requires c κs = search needs
+
+returns : tie.Need-returns
+returns c =
+    let E = c .before in
+    let a = E .before .before .before .args in
+    let l : LentRecord = record { n = a .n; neighbours = a .neighbours .now; codes = a .codes .now } in
+    arguments-refuse l (a .pauli) (a .qubit) (a .outcome) _ (E .in-place-refusal .ensures) (c .if1 .taken)
+
+contradicted-requires : tie.Need-contradicted-requires
+contradicted-requires c κs =
+    let E = c .before in
+    let a = E .before .before .before .args in
+    let l : LentRecord = record { n = a .n; neighbours = a .neighbours .now; codes = a .codes .now } in
+    measure-ready l (a .pauli) (a .qubit) (a .outcome) (sym (E .in-place-refusal .ensures) ∙ c .if1 .left)
+
+returns-2 : tie.Need-returns-2
+returns-2 c =
+    let D = c .before .before in
+    let E = D .before in
+    let a = E .before .before .before .args in
+    let l : LentRecord = record { n = a .n; neighbours = a .neighbours .now; codes = a .codes .now } in
+    contradicted-refuses l (a .pauli) (a .qubit) (a .outcome) _ (E .in-place-refusal .ensures) (D .if1 .left) _
+    (c .before .contradicted .ensures) (c .if2 .taken)
+
+returns-3 : tie.Need-returns-3
+returns-3 c =
+    let D = c .before .before in
+    let E = D .before in
+    let a = E .before .before .before .args in
+    let l : LentRecord = record { n = a .n; neighbours = a .neighbours .now; codes = a .codes .now } in
+    agreed-passes l (a .pauli) (a .qubit) (a .outcome) _ (E .in-place-refusal .ensures) (D .if1 .left) _
+    (c .before .contradicted .ensures) (c .if2 .left)
+
+pub measure-refusal-spec : {M : Type 1} → statement M
+measure-refusal-spec =
+    tie.close
+    (tie.spec in-place-refusal-requires returns contradicted-requires returns-2 returns-3)
