@@ -20,7 +20,7 @@ use Rattle.graph.specs.Graph.{graphGenerator}
 use Rattle.pauli.proofs.PauliLaws.{mul-identity}
 use Rattle.pauli.proofs.PhaseLaws.{minus-injective}
 use Rattle.pauli.proofs.WordRows.{signed-mul}
-use Rattle.pauli.specs.Pauli.{Pauli, anticommute, identity, imaginary, i⁰, mul, row, signBit, signedRow}
+use Rattle.pauli.specs.Pauli.{Pauli, anticommute, identity, imaginary, i⁰, minus, mul, row, signedRow}
 use Rattle.pauli.specs.Rows.{generatorOf}
 use Rattle.pauli.specs.declared.Generator.{Generator}
 use Rattle.record.proofs.Maximality.{inclusion-same}
@@ -91,15 +91,15 @@ module _ (n : ℕ) (rows : ℕ → Pauli) (frame : ℕ → Clifford) (F : Framed
       word j l = ap (λ r. r .x j) undone ∙ element-x n (F .graph) (F .simple) (a .0) j l
 
 -- ---- the code's products
-pub generator-times : (p g : Generator) (s : Bool) → anticommute 64 (generatorOf p) (generatorOf g) ≡ false
-    → s ≡ signBit ((mul 64 (row i⁰ (p .z) (p .x)) (row i⁰ (g .z) (g .x))) .phase)
+pub generator-times : (p g : Generator) (s : Bool)
+    → (mul 64 (row i⁰ (p .z) (p .x)) (row i⁰ (g .z) (g .x))) .phase ≡ minus s
     → signedRow (not (Bool·beq (not (Bool·beq (p .minus) (g .minus))) s)) (bitXor (p .z) (g .z))
     (bitXor (p .x) (g .x))
     ≡ mul 64 (generatorOf p) (generatorOf g)
-generator-times p g s e h =
+generator-times p g s h =
     ap (λ b. signedRow b (bitXor (p .z) (g .z)) (bitXor (p .x) (g .x)))
-    (unequal (not (Bool·beq (p .minus) (g .minus))) s ∙ ap₂ _⊕_ (unequal (p .minus) (g .minus)) h)
-    ∙ sym (signed-mul 64 (p .z) (p .x) (g .z) (g .x) (p .minus) (g .minus) e)
+    (unequal (not (Bool·beq (p .minus) (g .minus))) s ∙ ap (λ b. b ⊕ s) (unequal (p .minus) (g .minus)))
+    ∙ sym (signed-mul 64 (p .z) (p .x) (g .z) (g .x) (p .minus) (g .minus) s h)
 
 -- the state of the product: the generators below i are looked at
 pub record Multiplied (n : ℕ) (rows : ℕ → Pauli) (w : Word) (i : ℕ) (p : Pauli) : Type 0 where
