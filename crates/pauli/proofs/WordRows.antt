@@ -72,7 +72,7 @@ power-mod k = sym (ap power (sym (div-add-mod' k 4)) ∙ power-add (k / 4 * 4) (
     fours zero = refl
     fours (suc j) = ap power (suc-mul j 4) ∙ power-add (j * 4) 4 ∙ ap (λ t. t +ᵖ power 4) (fours j)
 
-exponent-power : (k : ℕ) → k < 4 → exponent (power k) ≡ k
+pub exponent-power : (k : ℕ) → k < 4 → exponent (power k) ≡ k
 unfolding power
 exponent-power zero l = refl
 exponent-power (suc zero) l = refl
