@@ -137,6 +137,18 @@ uint8_t sukhlent_cut(uint64_t n,
                      const uint8_t *codes, size_t codes_len,
                      uint64_t side, uint64_t *rank);
 
+/* Multiplies rows of a list, which need neither commute nor be independent: the word `chosen`
+ * names the rows, bit j for row j, and they are taken in index order. Writes the letters of the
+ * product to *product_z and *product_x, and the power of i in front of them, 0 to 3, to *phase
+ * (X times Y is iZ: phase 1, letter Z). The empty word gives the identity with phase 0.
+ * Refusals: 2, 4, 5 (also where `chosen` has a bit at or above n), 6. */
+uint8_t sukhlent_product(uint64_t n,
+                         const uint8_t *signs, size_t signs_len,
+                         const uint64_t *z, size_t z_len,
+                         const uint64_t *x, size_t x_len,
+                         uint64_t chosen,
+                         uint64_t *product_z, uint64_t *product_x, uint8_t *phase);
+
 /* Compares the groups of two generator lists on at most 20 qubits: writes the least choice of one
  * code per qubit that carries the first group onto the second, and the vertices at which the
  * first reduced graph is complemented, in order, to become the second. `choice` has n places,

@@ -45,6 +45,7 @@ use Rattle.list_calls.specs.Calls.{ExpandCall, ReduceCall, checkLines, expandLi
 use Rattle.compare_call.specs.Comparisons.{CompareCall}
 use Rattle.comparison_answer.specs.ComparedPairs.{compareList}
 use Rattle.image_call.specs.Images.{Imaged}
+use Rattle.product_call.specs.Products.{productLines}
 use Rattle.record_calls.specs.InPlaceCalls.{InPlaceCall, MeasureCall}
 use Rattle.words.proofs.Flags.{neither}
 use Rattle.words.specs.Bits.{digit, isOdd}
@@ -279,5 +280,10 @@ first-demand =
       images = image-answered;
       cuts = λ l side rank r rank′ C. answered (cutLines l side) r _ refl (C .number)
           (one-place r rank _ rank′ (C .ranked), tt) (λ z. (refl, tt));
+      products = λ l chosen z x phase r z′ x′ phase′ C. answered (productLines l chosen) r _ refl (C .number) (
+        one-place r z _ z′ (C .z-word),
+        (one-place r x _ x′ (C .x-word), (one-place r phase _ phase′ (C .turns), tt)),
+      )
+          (λ e. (refl, (refl, (refl, tt))));
       comparisons = compare-answered;
     }

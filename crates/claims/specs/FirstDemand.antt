@@ -41,8 +41,10 @@ use Rattle.list_calls.specs.Calls.{CheckCall, ExpandCall, ReduceCall, checkLine
 use Rattle.compare_call.specs.Comparisons.{CompareCall}
 use Rattle.comparison_answer.specs.ComparedPairs.{compareList}
 use Rattle.image_call.specs.Images.{Imaged}
+use Rattle.pauli.specs.Pauli.{exponent}
+use Rattle.product_call.specs.Products.{ProductCall, chosenProduct, productLines}
 use Rattle.record_calls.specs.InPlaceCalls.{InPlaceCall, MeasureCall}
-use Rattle.words.specs.Bits.{bit, digit, isOdd}
+use Rattle.words.specs.Bits.{bit, digit, isOdd, wordOf}
 
 -- "the first fitting number of the published list": that of a line that holds where none before it does; 0 where none
 -- holds
@@ -134,6 +136,11 @@ pub record FirstDemand : Type 0 where
       ∷ number count (length (imageList (l .n) (heldRecord l))) count′ ∷ [])
   pub cuts : (l : LentRecord) (side rank r rank′ : ℕ) → CutCall l side rank r rank′ →
       Answered (cutLines l side) r (number rank (cutRank (l .n) (bit side) ((heldRecord l) .graph)) rank′ ∷ [])
+  pub products : (l : GeneratorList) (chosen z x phase r z′ x′ phase′ : ℕ) →
+      ProductCall l chosen z x phase r z′ x′ phase′ → Answered (productLines l chosen) r
+      (number z (wordOf (l .n) ((chosenProduct l chosen) .z)) z′
+      ∷ number x (wordOf (l .n) ((chosenProduct l chosen) .x)) x′
+      ∷ number phase (exponent ((chosenProduct l chosen) .phase)) phase′ ∷ [])
   pub comparisons : (l m : GeneratorList) (choice list : List ℕ) (count r : ℕ) (choice′ list′ : List ℕ)
       (count′ : ℕ) → CompareCall l m choice list count r choice′ list′ count′ →
       Answered (compareLines l m choice list) r

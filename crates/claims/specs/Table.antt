@@ -1,4 +1,5 @@
--- Document 01's examples with a star: what the definitions give, beside what the document says.
+-- Document 01's examples with a star, and those of the request on products: what the definitions give, beside what the
+-- text says.
 -- Assumes nothing.
 use mathlib.Core.List.{_++_, List, [], map, _∷_}
 use Prim.Native.Nat.{ℕ}
@@ -11,6 +12,8 @@ use Rattle.image.specs.Rule.{imageList}
 use Rattle.record.specs.Lent.{LentRecord, codeNumbers, heldRecord, neighbourWords}
 use Rattle.record.specs.Reduced.{reduced}
 use Rattle.stabilizer.specs.Lists.{GeneratorList, rows}
+use Rattle.pauli.specs.Pauli.{exponent}
+use Rattle.product_call.specs.Products.{chosenProduct, productLines}
 use Rattle.list_calls.specs.Calls.{checkLines}
 use Rattle.words.specs.Bits.{digit, wordOf}
 
@@ -45,6 +48,12 @@ images l =
 abbrev imageNumber : LentRecord → List ℕ
 imageNumber l = firstFitting (imageLines l (replicate (l .n) 0) (replicate (l .n) 0) (replicate 96 0)) ∷ []
 
+-- the number, the words of the product of the rows that the word chooses, and its power of i
+abbrev multiplies : GeneratorList → ℕ → List ℕ
+multiplies l chosen =
+    firstFitting (productLines l chosen) ∷ wordOf (l .n) ((chosenProduct l chosen) .z)
+    ∷ wordOf (l .n) ((chosenProduct l chosen) .x) ∷ exponent ((chosenProduct l chosen) .phase) ∷ []
+
 abbrev list : ℕ → List ℕ → List ℕ → List ℕ → GeneratorList
 list n s z x = record { n = n; signs = s; z = z; x = x }
 
@@ -70,6 +79,10 @@ table =
     -- one qubit, code 8: refusal 11; code 4: refusal 12
     ∷ example (imageNumber (graph 1 (0 ∷ []) (8 ∷ []))) (11 ∷ [])
     ∷ example (imageNumber (graph 1 (0 ∷ []) (4 ∷ []))) (12 ∷ [])
+    -- of the request on products: XY = iZ, YX = -iZ; of two qubits with the rows XI, -YI
+    ∷ example (multiplies (list 2 (0 ∷ 0 ∷ []) (0 ∷ 1 ∷ []) (1 ∷ 1 ∷ [])) 3) (0 ∷ 1 ∷ 0 ∷ 1 ∷ [])
+    ∷ example (multiplies (list 2 (0 ∷ 0 ∷ []) (1 ∷ 0 ∷ []) (1 ∷ 1 ∷ [])) 3) (0 ∷ 1 ∷ 0 ∷ 3 ∷ [])
+    ∷ example (multiplies (list 2 (0 ∷ 1 ∷ []) (0 ∷ 1 ∷ []) (1 ∷ 1 ∷ [])) 3) (0 ∷ 1 ∷ 0 ∷ 3 ∷ [])
     ∷ []
 
 abbrev pub given : List (List ℕ)

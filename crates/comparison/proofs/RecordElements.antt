@@ -5,9 +5,8 @@ use mathlib.Core.Bool.{_&&_, Bool, Bool·beq, false, not, true}
 use mathlib.Core.Logic.{_↔_}
 use mathlib.Core.Path.{ap, ap₂, refl, subst, sym, _∙_, _≡_}
 use Prim.Native.Nat.{_+_, _<_, zero-le, ℕ, _≤_}
-use native.Mathlib.Nat.{lt-of-lt-of-le, lt-trans, not-suc-le-zero}
+use native.Mathlib.Nat.{lt-of-lt-of-le, not-suc-le-zero}
 use native.Mathlib.Numerals.{add-one}
-use native.Mathlib.Omega.{arith}
 use lib.Bits.{bitXor}
 use lib.Dec.{eqb}
 use borrow.Author.Count.{below-more}
@@ -17,10 +16,9 @@ use Rattle.clifford.specs.Clifford.{Clifford, inverse}
 use Rattle.clifford.specs.Vectors.{act}
 use Rattle.graph.proofs.GraphGroups.{element-x}
 use Rattle.graph.specs.Graph.{graphGenerator}
-use Rattle.pauli.proofs.PauliLaws.{mul-identity}
 use Rattle.pauli.proofs.PhaseLaws.{minus-injective}
 use Rattle.pauli.proofs.WordRows.{signed-mul}
-use Rattle.pauli.specs.Pauli.{Pauli, anticommute, identity, imaginary, i⁰, mul, row, signBit, signedRow}
+use Rattle.pauli.specs.Pauli.{Pauli, anticommute, identity, imaginary, i⁰, minus, mul, row, signedRow}
 use Rattle.pauli.specs.Rows.{generatorOf}
 use Rattle.pauli.specs.declared.Generator.{Generator}
 use Rattle.record.proofs.Maximality.{inclusion-same}
@@ -29,14 +27,14 @@ use Rattle.record.specs.Records.{recordRow}
 use Rattle.stabilizer.proofs.Carried.{act-product, carries-same}
 use Rattle.stabilizer.proofs.GroupLaws.{in-row}
 use Rattle.stabilizer.proofs.Independence.{act-proper}
-use Rattle.stabilizer.proofs.Products.{anticommute-product}
-use Rattle.stabilizer.proofs.Within.{act-wide, anticommute-wide, element-within, mul-wide, product-within}
+use Rattle.stabilizer.proofs.Multiplying.{Multiplied, all-multiplied}
+use Rattle.stabilizer.proofs.Within.{act-wide, element-within}
 use Rattle.stabilizer.specs.Groups.{InGroup, Proper, Trivial, Within, chosen, product}
 use Rattle.words.proofs.BitLaws.{bit-ext∞}
 use Rattle.words.proofs.Finite.{unequal}
 use Rattle.words.proofs.Flags.{beq-refl, beq-true, both-true}
 use Rattle.words.proofs.Sums.{fold-ext}
-use Rattle.words.specs.Bits.{Word, fold, _⊕_}
+use Rattle.words.specs.Bits.{Word, _⊕_}
 use Rattle.comparison.proofs.Least.{act-agree}
 use Rattle.comparison.proofs.Members.{carries-is}
 use Rattle.comparison.specs.Choices.{carries}
@@ -91,55 +89,15 @@ module _ (n : ℕ) (rows : ℕ → Pauli) (frame : ℕ → Clifford) (F : Framed
       word j l = ap (λ r. r .x j) undone ∙ element-x n (F .graph) (F .simple) (a .0) j l
 
 -- ---- the code's products
-pub generator-times : (p g : Generator) (s : Bool) → anticommute 64 (generatorOf p) (generatorOf g) ≡ false
-    → s ≡ signBit ((mul 64 (row i⁰ (p .z) (p .x)) (row i⁰ (g .z) (g .x))) .phase)
+pub generator-times : (p g : Generator) (s : Bool)
+    → (mul 64 (row i⁰ (p .z) (p .x)) (row i⁰ (g .z) (g .x))) .phase ≡ minus s
     → signedRow (not (Bool·beq (not (Bool·beq (p .minus) (g .minus))) s)) (bitXor (p .z) (g .z))
     (bitXor (p .x) (g .x))
     ≡ mul 64 (generatorOf p) (generatorOf g)
-generator-times p g s e h =
+generator-times p g s h =
     ap (λ b. signedRow b (bitXor (p .z) (g .z)) (bitXor (p .x) (g .x)))
-    (unequal (not (Bool·beq (p .minus) (g .minus))) s ∙ ap₂ _⊕_ (unequal (p .minus) (g .minus)) h)
-    ∙ sym (signed-mul 64 (p .z) (p .x) (g .z) (g .x) (p .minus) (g .minus) e)
-
--- the state of the product: the generators below i are looked at
-pub record Multiplied (n : ℕ) (rows : ℕ → Pauli) (w : Word) (i : ℕ) (p : Pauli) : Type 0 where
-  pub upto : i ≤ n
-  pub is : p ≡ product n i w rows
-
-pub none-multiplied : (n : ℕ) (rows : ℕ → Pauli) (w : Word) (p : Pauli) → p ≡ identity
-    → Multiplied n rows w 0 p
-unfolding fold
-none-multiplied n rows w p e = record { upto = zero-le; is = e }
-
-module _ (n : ℕ) (l : n ≤ 64) (rows : ℕ → Pauli) (P : Proper n rows) (w : Word) (i : ℕ) (p : Pauli)
-    (M : Multiplied n rows w i p) (more : i < n) where
-  prefix-within : Within n p
-  prefix-within = subst (Within n) (sym (M .is))
-      (product-within n i w rows (λ j k. P .within j (lt-trans k more)))
-
-  pub next-commutes : anticommute 64 p (rows i) ≡ false
-  next-commutes =
-      anticommute-wide n 64 l prefix-within (P .within i more)
-      ∙ ap (λ r. anticommute n r (rows i)) (M .is)
-      ∙ anticommute-product n i w rows (rows i) (λ j k. P .commuting .commute j i (lt-trans k more) more)
-
-  pub multiplied-on : (r : Pauli) → w i ≡ true → r ≡ mul 64 p (rows i) → Multiplied n rows w (i + 1) r
-  unfolding fold
-  multiplied-on r t e =
-      record {
-        upto = rw add-one more;
-        is = rw add-one (e ∙ mul-wide n 64 l prefix-within (P .within i more)
-            ∙ ap₂ (mul n) (M .is) (ap (λ b. chosen b (rows i)) (sym t)));
-      }
-
-  pub multiplied-off : w i ≡ false → Multiplied n rows w (i + 1) p
-  unfolding fold
-  multiplied-off t =
-      record {
-        upto = rw add-one more;
-        is = rw add-one (M .is ∙ sym (mul-identity n _)
-            ∙ ap (λ b. mul n (product n i w rows) (chosen b (rows i))) (sym t));
-      }
+    (unequal (not (Bool·beq (p .minus) (g .minus))) s ∙ ap (λ b. b ⊕ s) (unequal (p .minus) (g .minus)))
+    ∙ sym (signed-mul 64 (p .z) (p .x) (g .z) (g .x) (p .minus) (g .minus) s h)
 
 -- ---- the product at the end
 pub guessed : (n : ℕ) (l : n ≤ 64) (rows : ℕ → Pauli) (frame : ℕ
@@ -155,10 +113,7 @@ guessed n l rows frame F p s e i h k M =
     }
   where
     whole : h ≡ product n n (s .x) rows
-    whole = subst (λ m. h ≡ product n m (s .x) rows) (meet (M .upto) k) (M .is)
-      where
-        meet : {a b : ℕ} → a ≤ b → b ≤ a → a ≡ b
-        meet u v = omega (arith, u, v)
+    whole = all-multiplied n rows (s .x) i h k M
 
 -- ---- whether a row is an element
 pub is-element : (n : ℕ) (rows : ℕ → Pauli) → Proper n rows → (p h : Generator)

@@ -12,7 +12,7 @@ use Rattle.record.specs.Lent.{codeNumbers, neighbourWords}
 use Rattle.record.specs.Reduced.{reduced}
 use Rattle.reduction.proofs.Loading.{early-reducible}
 use Rattle.reduction.specs.Reducible.{Reducible}
-use Rattle.stabilizer.proofs.Accepted.{early-accepted, early-numbered, early-passed}
+use Rattle.stabilizer.proofs.Accepted.{early-accepted, early-form, early-numbered}
 use Rattle.stabilizer.proofs.SharedTests.{has-length}
 use Rattle.stabilizer.specs.Lists.{GeneratorList, dependent, earlyLines, listLengths, listLines, rows}
 use Rattle.words.proofs.Flags.{neither}
@@ -29,7 +29,7 @@ module _ (l : GeneratorList) (others : Bool) (k : ℕ) (e : k ≡ firstFitting (
     reducible = early-reducible l (early-accepted l others (sym e ∙ z))
 
     pub no-others : others ≡ false
-    no-others = neither (listLengths l) others (early-passed l others (sym e ∙ z) .lengths) .1
+    no-others = neither (listLengths l) others (early-form l others (sym e ∙ z) .lengths) .1
 
     -- dependence decides
     last-line : firstFitting (listLines l others) ≡ firstFitting (line 10 (dependent (l .n) (rows l)) ∷ [])

@@ -13,14 +13,7 @@ use Rattle.words.proofs.BitLaws.{and-lt-right, bit-and, bit-suc, bit-xor, bit-z
 use Rattle.words.proofs.OnesLaws.{parity-ones}
 use Rattle.words.proofs.Sums.{fold-ext, fold-shift}
 use Rattle.words.specs.Bits.{bit, fold, isOdd, _⊕_}
-use Rattle.pauli.proofs.PauliLaws.{
-  Pauli-path,
-  anticommute-letters,
-  clash-form,
-  mul-x,
-  mul-z,
-  signed-product,
-}
+use Rattle.pauli.proofs.PauliLaws.{Pauli-path, clash-form, mul-x, mul-z, signed-product}
 use Rattle.pauli.proofs.PhaseLaws.{+ᵖ-assoc, exponent-two, minus-⊕, phaseMonoid, phases, sumPhase-add}
 use Rattle.pauli.specs.Pauli.{
   _+ᵖ_,
@@ -79,7 +72,7 @@ power-mod k = sym (ap power (sym (div-add-mod' k 4)) ∙ power-add (k / 4 * 4) (
     fours zero = refl
     fours (suc j) = ap power (suc-mul j 4) ∙ power-add (j * 4) 4 ∙ ap (λ t. t +ᵖ power 4) (fours j)
 
-exponent-power : (k : ℕ) → k < 4 → exponent (power k) ≡ k
+pub exponent-power : (k : ℕ) → k < 4 → exponent (power k) ≡ k
 unfolding power
 exponent-power zero l = refl
 exponent-power (suc zero) l = refl
@@ -180,12 +173,6 @@ pub row-phase : (n z x z′ x′ : ℕ) (s t : Phase) →
 unfolding mul
 row-phase n z x z′ x′ s t = refl
 
--- a minus sign is the exponent 2
-pub letters-sign : (n z x z′ x′ k : ℕ) → k ≡ exponent ((mul n (row i⁰ z x) (row i⁰ z′ x′)) .phase) →
-    eqb k 2 ≡ signBit ((mul n (row i⁰ z x) (row i⁰ z′ x′)) .phase)
-letters-sign n z x z′ x′ k e =
-    ap (λ j. eqb j 2) e ∙ exponent-two ((mul n (row i⁰ z x) (row i⁰ z′ x′)) .phase)
-
 -- the product as the code has it: its phase, and xor on the words
 pub row-times : (n z x z′ x′ : ℕ) (s t u : Phase) →
     u ≡ (s +ᵖ t) +ᵖ (mul n (row i⁰ z x) (row i⁰ z′ x′)) .phase →
@@ -194,21 +181,24 @@ row-times n z x z′ x′ s t u e =
     Pauli-path (e ∙ sym (row-phase n z x z′ x′ s t)) (λ q. bit-xor z z′ q ∙ sym (mul-z n _ _ q))
     (λ q. bit-xor x x′ q ∙ sym (mul-x n _ _ q))
 
--- ---- signed rows that commute: the product's sign
+-- ---- signs
 signed : (t : Phase) → imaginary t ≡ false → t ≡ minus (signBit t)
 signed i⁰ e = refl
 signed i¹ e = absurd (true≢false e)
 signed i² e = refl
 signed i³ e = absurd (true≢false e)
 
-pub signed-mul : (n z x z′ x′ : ℕ) (s t : Bool) → anticommute n (signedRow s z x) (signedRow t z′ x′) ≡ false
-    →
-    mul n (signedRow s z x) (signedRow t z′ x′)
-    ≡ signedRow ((s ⊕ t) ⊕ signBit ((mul n (row i⁰ z x) (row i⁰ z′ x′)) .phase)) (bitXor z z′) (bitXor x x′)
-signed-mul n z x z′ x′ s t e =
+-- rows that commute: the phase of their letters' product is a sign, minus where its exponent is 2
+pub letters-sign : (n z x z′ x′ k : ℕ) → anticommute n (row i⁰ z x) (row i⁰ z′ x′) ≡ false →
+    k ≡ exponent ((mul n (row i⁰ z x) (row i⁰ z′ x′)) .phase) →
+    (mul n (row i⁰ z x) (row i⁰ z′ x′)) .phase ≡ minus (eqb k 2)
+letters-sign n z x z′ x′ k h e =
+    signed _ (signed-product n (row i⁰ z x) (row i⁰ z′ x′) refl refl h)
+    ∙ ap minus (sym (ap (λ j. eqb j 2) e ∙ exponent-two ((mul n (row i⁰ z x) (row i⁰ z′ x′)) .phase)))
+
+-- signed rows whose letters' product has the sign m
+pub signed-mul : (n z x z′ x′ : ℕ) (s t m : Bool) → (mul n (row i⁰ z x) (row i⁰ z′ x′)) .phase ≡ minus m →
+    mul n (signedRow s z x) (signedRow t z′ x′) ≡ signedRow ((s ⊕ t) ⊕ m) (bitXor z z′) (bitXor x x′)
+signed-mul n z x z′ x′ s t m e =
     sym (row-times n z x z′ x′ (minus s) (minus t) _
-    (minus-⊕ (s ⊕ t) _ ∙ ap₂ _+ᵖ_ (minus-⊕ s t) (sym (signed _ even))))
-  where
-    even : imaginary ((mul n (row i⁰ z x) (row i⁰ z′ x′)) .phase) ≡ false
-    even = signed-product n (row i⁰ z x) (row i⁰ z′ x′) refl refl
-        (anticommute-letters n (signedRow s z x) (signedRow t z′ x′) i⁰ i⁰ ∙ e)
+    (minus-⊕ (s ⊕ t) m ∙ ap₂ _+ᵖ_ (minus-⊕ s t) (sym e)))

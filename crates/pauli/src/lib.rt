@@ -1,10 +1,11 @@
 // Rows of the code: a product is xor on the words and a count of ones for the power of i; so is commutation.
 use words::count;
 use words::odd;
+ghost use mathlib.Core.Bool.{false};
 ghost use mathlib.Core.Path.{_≡_};
 ghost use Prim.Native.Nat.{_<_};
-ghost use Rattle.pauli.specs.Pauli.{_+ᵖ_, anticommute, exponent, i⁰, letter, mul};
-ghost use Rattle.pauli.specs.Pauli.{power, row, signBit, xBit, zBit};
+ghost use Rattle.pauli.specs.Pauli.{_+ᵖ_, anticommute, exponent, i⁰, letter, minus, mul};
+ghost use Rattle.pauli.specs.Pauli.{power, row, xBit, zBit};
 ghost use Rattle.pauli.specs.Rows.{pauliOf};
 
 // The letter at a place: of the pair (z, x), 00 is I, 01 is X, 10 is Z, 11 is Y.
@@ -63,9 +64,10 @@ pub fn letters_phase(z: u64, x: u64, z2: u64, x2: u64) -> u64
     (count(clash) + 2 * count(back)) % 4
 }
 
-// Whether the letters of two rows that commute multiply to a minus sign.
+// The sign of the product of the letters of two rows that commute; true means minus.
 pub fn letters_minus(z: u64, x: u64, z2: u64, x2: u64) -> bool
-    ensures { λ r. ⌜ r ≡ signBit ((mul 64 (row i⁰ z x) (row i⁰ z2 x2)) .phase) ⌝ }
+    requires { ⌜ anticommute 64 (row i⁰ z x) (row i⁰ z2 x2) ≡ false ⌝ }
+    ensures { λ r. ⌜ (mul 64 (row i⁰ z x) (row i⁰ z2 x2)) .phase ≡ minus r ⌝ }
 {
     letters_phase(z, x, z2, x2) == 2
 }

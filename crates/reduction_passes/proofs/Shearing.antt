@@ -11,9 +11,9 @@ use lib.Count.{trailingZeros}
 use lib.Dec.{eqb}
 use lib.ListN.{getD, length, length-set, set}
 use lib.Seq.{getD-set-other, getD-set-same}
-use Rattle.pauli.proofs.PauliLaws.{mul-identity}
+use Rattle.pauli.proofs.PauliLaws.{anticommute-letters, mul-identity}
 use Rattle.pauli.proofs.WordRows.{signed-mul}
-use Rattle.pauli.specs.Pauli.{Pauli, anticommute, i⁰, mul, row, signBit, signedRow}
+use Rattle.pauli.specs.Pauli.{Pauli, anticommute, i⁰, minus, mul, row, signedRow}
 use Rattle.stabilizer.specs.Elimination.{shear}
 use Rattle.stabilizer.specs.Groups.{chosen}
 use Rattle.stabilizer.specs.Tableau.{tableau}
@@ -90,12 +90,20 @@ module _ (rows₀ : List (List ℕ)) (signs₀ a named : ℕ) where
         ∙ not-named (bit named j && not (bit rest j)) j (ap (λ b. bit named j && not b) left
         ∙ and-false (bit named j))
 
-    module _ (rows′ : List (List ℕ)) (signs′ rest′ : ℕ) (sign minus : Bool) (b : sign ≡ bit signs₀ a)
-        (m : minus ≡ signBit ((mul 64 (row i⁰ (getD (getD rows j []) 0 0) (getD (getD rows j []) 1 0))
-        (row i⁰ (getD (getD rows₀ a []) 0 0) (getD (getD rows₀ a []) 1 0))) .phase))
+    -- it commutes with row a, so the letters of their product have a sign
+    pub next-commutes :
+        anticommute 64 (row i⁰ (getD (getD rows j []) 0 0) (getD (getD rows j []) 1 0))
+        (row i⁰ (getD (getD rows₀ a []) 0 0) (getD (getD rows₀ a []) 1 0)) ≡ false
+    next-commutes =
+        anticommute-letters 64 (tableau signs rows j) (tableau signs₀ rows₀ a) i⁰ i⁰
+        ∙ ap (λ p. anticommute 64 p (tableau signs₀ rows₀ a)) still ∙ commute j is-named
+
+    module _ (rows′ : List (List ℕ)) (signs′ rest′ : ℕ) (sign negative : Bool) (b : sign ≡ bit signs₀ a)
+        (m : (mul 64 (row i⁰ (getD (getD rows j []) 0 0) (getD (getD rows j []) 1 0))
+        (row i⁰ (getD (getD rows₀ a []) 0 0) (getD (getD rows₀ a []) 1 0))) .phase ≡ minus negative)
         (r : rows′ ≡ set rows j (bitXor (getD (getD rows j []) 0 0) (getD (getD rows₀ a []) 0 0)
         ∷ bitXor (getD (getD rows j []) 1 0) (getD (getD rows₀ a []) 1 0) ∷ []))
-        (s : (k : ℕ) → bit signs′ k ≡ bit signs k ⊕ (eqb k j && not (Bool·beq sign minus)))
+        (s : (k : ℕ) → bit signs′ k ≡ bit signs k ⊕ (eqb k j && not (Bool·beq sign negative)))
         (f : rest′ ≡ bitXor rest (2 ^ j)) where
       bit-rest : (k : ℕ) → bit rest′ k ≡ bit rest k ⊕ eqb k j
       bit-rest k = ap (λ v. bit v k) f ∙ bit-flip rest j k
@@ -107,22 +115,19 @@ module _ (rows₀ : List (List ℕ)) (signs₀ a named : ℕ) where
           (ap (λ v. getD v j []) r ∙ getD-set-same rows j _ [] (subst (λ k. j < k) (sym (S .long)) hj))
           ∙ sym (signed-mul 64 (getD (getD rows j []) 0 0) (getD (getD rows j []) 1 0)
           (getD (getD rows₀ a []) 0 0)
-          (getD (getD rows₀ a []) 1 0) (bit signs j) (bit signs₀ a)
-          (ap (λ p. anticommute 64 p (tableau signs₀ rows₀ a)) still ∙ commute j is-named))
+          (getD (getD rows₀ a []) 1 0) (bit signs j) (bit signs₀ a) negative m)
           ∙ ap (λ p. mul 64 p (tableau signs₀ rows₀ a)) still
         where
-          sign-is : bit signs′ j ≡ (bit signs j ⊕ bit signs₀ a) ⊕ signBit ((mul 64
-              (row i⁰ (getD (getD rows j []) 0 0) (getD (getD rows j []) 1 0))
-              (row i⁰ (getD (getD rows₀ a []) 0 0) (getD (getD rows₀ a []) 1 0))) .phase)
+          sign-is : bit signs′ j ≡ (bit signs j ⊕ bit signs₀ a) ⊕ negative
           sign-is =
-              s j ∙ ap (λ v. bit signs j ⊕ (v && not (Bool·beq sign minus))) (same-place j)
-              ∙ ap (λ v. bit signs j ⊕ v) (unequal sign minus ∙ ap₂ _⊕_ b m)
-              ∙ sym (⊕-assoc (bit signs j) (bit signs₀ a) _)
+              s j ∙ ap (λ v. bit signs j ⊕ (v && not (Bool·beq sign negative))) (same-place j)
+              ∙ ap (λ v. bit signs j ⊕ v) (unequal sign negative ∙ ap (λ v. v ⊕ negative) b)
+              ∙ sym (⊕-assoc (bit signs j) (bit signs₀ a) negative)
 
       there : (k : ℕ) → k ≢ j → tableau signs′ rows′ k ≡ tableau signs rows k
       there k d =
           ap₂ (λ (b : Bool) (v : List ℕ). signedRow b (getD v 0 0) (getD v 1 0))
-          (s k ∙ ap (λ v. bit signs k ⊕ (v && not (Bool·beq sign minus))) (other-place d)
+          (s k ∙ ap (λ v. bit signs k ⊕ (v && not (Bool·beq sign negative))) (other-place d)
           ∙ ⊕-zero (bit signs k))
           (ap (λ v. getD v k []) r ∙ getD-set-other rows j k _ [] d)
 

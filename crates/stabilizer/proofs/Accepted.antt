@@ -7,26 +7,32 @@ use Prim.Native.Nat.{_<_, _^_, ℕ, _≤_}
 use native.Mathlib.Decide.{ℕ-discrete}
 use lib.Dec.{lit<}
 use lib.ListN.{getD, length}
-use Rattle.buffers.proofs.Lines.{Numbered, more-accepted, more-refused, none-fits, not-held, passed}
+use Rattle.buffers.proofs.Lines.{
+  Numbered,
+  more-accepted,
+  more-refused,
+  none-fits,
+  none-of-all,
+  not-held,
+  passed,
+}
 use Rattle.buffers.proofs.Reaching.{below-all}
-use Rattle.buffers.specs.Refusals.{badCount, firstFitting, reaching}
+use Rattle.buffers.specs.Refusals.{firstFitting, reaching}
 use Rattle.pauli.proofs.PhaseLaws.{minus-real}
 use Rattle.words.proofs.Flags.{neither}
 use Rattle.words.specs.Bits.{isOdd}
-use Rattle.stabilizer.proofs.EarlyLines.{list-lengths-are}
+use Rattle.stabilizer.proofs.EarlyLines.{FormPassed, form-numbered, form-passed, list-lengths-are}
 use Rattle.stabilizer.proofs.Pairs.{word-within}
 use Rattle.stabilizer.proofs.SharedTests.{below-passes, count-passes, counted, length-passes}
 use Rattle.stabilizer.proofs.Verdicts.{independent-exactly, not-clashing, not-dependent}
 use Rattle.stabilizer.specs.Groups.{Commuting, Proper, Within}
 use Rattle.stabilizer.specs.Lists.{
   GeneratorList,
-  clashing,
   dependent,
   earlyLines,
+  formLines,
   listLengths,
   listLines,
-  listSigns,
-  listStray,
   rows,
 }
 
@@ -53,25 +59,7 @@ pub record AcceptedList (l : GeneratorList) : Type 0 where
   pub formed : WellFormed l
   pub proper : Proper (l .n) (rows l)
 
--- the lines passed over, one by one
-pub record EarlyPassed (l : GeneratorList) (others : Bool) : Type 0 where
-  pub count : badCount (l .n) ≡ false
-  pub lengths : (listLengths l || others) ≡ false
-  pub strays : listStray l ≡ false
-  pub signs : listSigns l ≡ false
-  pub clash : clashing (l .n) (rows l) ≡ false
-
-pub early-passed : (l : GeneratorList) (others : Bool) → firstFitting (earlyLines l others) ≡ 0 →
-    EarlyPassed l others
-early-passed l others e =
-    let h2 = not-held 1 _ _ e in
-    let h4 = not-held 3 _ _ (h2 .1) in
-    let h5 = not-held 4 _ _ (h4 .1) in
-    let h6 = not-held 5 _ _ (h5 .1) in
-    let h9 = not-held 8 _ _ (h6 .1) in
-    record { count = h2 .0; lengths = h4 .0; strays = h5 .0; signs = h6 .0; clash = h9 .0 }
-
-pub well-formed : (l : GeneratorList) (others : Bool) → EarlyPassed l others → WellFormed l
+pub well-formed : (l : GeneratorList) (others : Bool) → FormPassed l others → WellFormed l
 well-formed l others P =
     let lengths = list-lengths-are l (neither (listLengths l) others (P .lengths) .0) in
     let strays = neither (reaching (2 ^ (l .n)) (l .z)) (reaching (2 ^ (l .n)) (l .x)) (P .strays) in
@@ -91,17 +79,20 @@ pub formed-within : (l : GeneratorList) → WellFormed l → (j : ℕ) → j < l
 formed-within l F j k =
     word-within (l .n) _ (getD (l .z) j 0) (getD (l .x) j 0) (F .z-below j k) (F .x-below j k)
 
+pub early-form : (l : GeneratorList) (others : Bool) → firstFitting (earlyLines l others) ≡ 0 → FormPassed l others
+early-form l others e = form-passed l others (none-of-all (formLines l others) _ (form-numbered l others) e .0)
+
 pub early-accepted : (l : GeneratorList) (others : Bool) → firstFitting (earlyLines l others) ≡ 0
     → EarlyAccepted l
 early-accepted l others e =
-    let P = early-passed l others e in
-    let F = well-formed l others P in
+    let h9 = none-of-all (formLines l others) _ (form-numbered l others) e .1 in
+    let F = well-formed l others (early-form l others e) in
     record {
       formed = F;
       commuting =
           record {
             signed = λ j k. minus-real (isOdd (getD (l .signs) j 0));
-            commute = not-clashing (l .n) (rows l) .0 (P .clash);
+            commute = not-clashing (l .n) (rows l) .0 (not-held 8 _ _ h9 .0);
           };
       within = formed-within l F;
     }

@@ -5,6 +5,7 @@ pub mod Carried
 pub mod RowOperations
 pub mod Independence
 pub mod Within
+pub mod Multiplying
 pub mod Scanning
 pub mod Pairs
 pub mod SharedTests

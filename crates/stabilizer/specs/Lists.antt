@@ -57,11 +57,15 @@ letterless n p = every n (λ q. not (p .x q) && not (p .z q))
 unfoldable pub dependent : ℕ → (ℕ → Pauli) → Bool
 dependent n R = some (2 ^ n) (λ v. not (eqb v 0) && letterless n (product n n (bit v) R))
 
--- the lines that are read off the buffers before any elimination; `others`: a further buffer has a wrong length
+-- the lines of any list of rows, which need neither commute nor be independent; `others`: a further buffer has a wrong
+-- length
+abbrev pub formLines : GeneratorList → Bool → List Line
+formLines l others =
+    line 2 (badCount (l .n)) ∷ line 4 (listLengths l || others) ∷ line 5 (listStray l) ∷ line 6 (listSigns l) ∷ []
+
+-- the lines that are read off the buffers before any elimination
 abbrev pub earlyLines : GeneratorList → Bool → List Line
-earlyLines l others =
-    line 2 (badCount (l .n)) ∷ line 4 (listLengths l || others) ∷ line 5 (listStray l) ∷ line 6 (listSigns l)
-    ∷ line 9 (clashing (l .n) (rows l)) ∷ []
+earlyLines l others = formLines l others ++ (line 9 (clashing (l .n) (rows l)) ∷ [])
 
 -- the lines of a list in checking order
 abbrev pub listLines : GeneratorList → Bool → List Line

@@ -10,7 +10,7 @@ ghost use lib.ListN.{getD, length};
 ghost use Rattle.buffers.specs.Refusals.{firstFitting, reaching};
 ghost use Rattle.pauli.specs.Pauli.{anticommute, i⁰, row};
 ghost use Rattle.words.specs.Search.{some};
-ghost use Rattle.stabilizer.specs.Lists.{clashing, earlyLines, listLengths};
+ghost use Rattle.stabilizer.specs.Lists.{clashing, earlyLines, formLines, listLengths};
 
 // Line 4: one of the three buffers does not have n places.
 fn list_lengths(n: usize, signs: &[u8], z: &[u64], x: &[u64]) -> bool
@@ -56,10 +56,10 @@ fn some_clash(n: usize, z: &[u64], x: &[u64]) -> bool
     false
 }
 
-// The first line of a list that holds, of those that need no elimination; 0 where none does. `others`: a further
-// buffer of the call has a wrong length.
-pub fn early_refusal(n: u64, signs: &[u8], z: &[u64], x: &[u64], others: bool) -> u8
-    ensures { λ r. ⌜ r ≡ firstFitting (earlyLines (record {
+// The first of lines 2, 4, 5 and 6 of a list that holds; 0 where none does. `others`: a further buffer of the call has
+// a wrong length.
+pub fn form_refusal(n: u64, signs: &[u8], z: &[u64], x: &[u64], others: bool) -> u8
+    ensures { λ r. ⌜ r ≡ firstFitting (formLines (record {
       n = n;
       signs = now (signs .entry);
       z = now (z .entry);
@@ -79,7 +79,23 @@ pub fn early_refusal(n: u64, signs: &[u8], z: &[u64], x: &[u64], others: bool) -
     if reaches(signs, 2) {
         return 6;
     }
-    if some_clash(count, z, x) {
+    0
+}
+
+// The first line of a list that holds, of those that need no elimination; 0 where none does.
+pub fn early_refusal(n: u64, signs: &[u8], z: &[u64], x: &[u64], others: bool) -> u8
+    ensures { λ r. ⌜ r ≡ firstFitting (earlyLines (record {
+      n = n;
+      signs = now (signs .entry);
+      z = now (z .entry);
+      x = now (x .entry);
+    }) others) ⌝ }
+{
+    let number = form_refusal(n, signs, z, x, others);
+    if number != 0 {
+        return number;
+    }
+    if some_clash(n as usize, z, x) {
         return 9;
     }
     0

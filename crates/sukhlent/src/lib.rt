@@ -4,6 +4,7 @@ ghost use Rattle.cut_call.specs.Cuts.{CutCall};
 ghost use Rattle.image_call.specs.Images.{Imaged};
 ghost use Rattle.list_calls.specs.Calls.{CheckCall, ExpandCall, ReduceCall};
 ghost use Rattle.operations.specs.Steps.{complementAt, controlledZ, gate, pivotAt};
+ghost use Rattle.product_call.specs.Products.{ProductCall};
 ghost use Rattle.record_calls.specs.InPlaceCalls.{InPlaceCall, MeasureCall};
 
 // Lines 2, 4, 5, 6, 9 and 10 of a generator list.
@@ -174,6 +175,26 @@ pub extern "C" fn sukhlent_cut(
         (now (rank .entry)) r (now (rank .exit)) ⌝ }
 {
     cut_call::cut(n, neighbours, codes, side, rank)
+}
+
+// The product of the rows that a word chooses, and the power of i in front of its letters.
+#[no_mangle]
+pub extern "C" fn sukhlent_product(
+    n: u64,
+    signs: &[u8],
+    z: &[u64],
+    x: &[u64],
+    chosen: u64,
+    product_z: &mut u64,
+    product_x: &mut u64,
+    phase: &mut u8,
+) -> u8
+    ensures { λ r. ⌜ ProductCall
+        (record { n = n; signs = now (signs .entry); z = now (z .entry); x = now (x .entry) }) chosen
+        (now («product_z» .entry)) (now («product_x» .entry)) (now (phase .entry)) r
+        (now («product_z» .exit)) (now («product_x» .exit)) (now (phase .exit)) ⌝ }
+{
+    product_call::product(n, signs, z, x, chosen, product_z, product_x, phase)
 }
 
 // The least choice that carries the group of the first list onto that of the second, and the complementations that

@@ -41,6 +41,21 @@ pub fn list_call(random: &mut Random, n: usize) -> ListCall {
     }
 }
 
+/// A product of rows of a list of n, of any letters every second time: mostly of its own rows, at
+/// times by any word.
+pub fn product_call(random: &mut Random, n: usize) -> (ListCall, u64) {
+    let mut call = list_call(random, n);
+    if random.below(2) == 0 {
+        let words = call.z.iter_mut().chain(&mut call.x);
+        words.for_each(|word| *word ^= random.word() >> (64 - n));
+    }
+    let chosen = match random.below(8) {
+        0 => number(random),
+        _ => random.word() >> (64 - n),
+    };
+    (call, chosen)
+}
+
 /// Two lists to compare: the second is mostly an image of the first, else another list, at times of
 /// another size.
 pub fn pair_call(random: &mut Random) -> PairCall {

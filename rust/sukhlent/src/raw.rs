@@ -120,6 +120,20 @@ mod calls {
             rank: *mut u64,
         ) -> u8;
 
+        pub fn sukhlent_product(
+            n: u64,
+            signs: *const u8,
+            signs_len: usize,
+            z: *const u64,
+            z_len: usize,
+            x: *const u64,
+            x_len: usize,
+            chosen: u64,
+            product_z: *mut u64,
+            product_x: *mut u64,
+            phase: *mut u8,
+        ) -> u8;
+
         pub fn sukhlent_compare(
             n1: u64,
             signs1: *const u8,
@@ -344,6 +358,31 @@ pub fn cut(n: u64, neighbours: &[u64], codes: &[u8], side: u64, rank: &mut u64) 
 
 /// A generator list as the raw calls take it: n, signs, z and x.
 pub type Lent<'a> = (u64, &'a [u8], &'a [u64], &'a [u64]);
+
+/// Writes the product of the rows that a word chooses, and its power of i.
+pub fn product(
+    (n, signs, z, x): Lent,
+    chosen: u64,
+    product_z: &mut u64,
+    product_x: &mut u64,
+    phase: &mut u8,
+) -> u8 {
+    unsafe {
+        calls::sukhlent_product(
+            n,
+            signs.as_ptr(),
+            signs.len(),
+            z.as_ptr(),
+            z.len(),
+            x.as_ptr(),
+            x.len(),
+            chosen,
+            product_z,
+            product_x,
+            phase,
+        )
+    }
+}
 
 /// Writes the least choice that carries one group onto another, and the complementations.
 pub fn compare(

@@ -73,6 +73,7 @@ fn numbers_of_qubits_out_of_range_give_2_whatever_the_buffers() {
             (list.n, record.n) = (n, n);
             assert_eq!(list.check(), 2, "{n}");
             assert_eq!(list.reduce(), Err(2), "{n}");
+            assert_eq!(list.product(1), Err(2), "{n}");
             assert_refused(&record, 2);
         }
     }
@@ -94,6 +95,7 @@ fn n_places_for_n_out_of_range_give_2() {
             codes: vec![0; n],
         };
         assert_eq!((list.check(), list.reduce()), (2, Err(2)), "{n}");
+        assert_eq!(list.product(0), Err(2), "{n}");
         assert_refused(&RecordCall::on(&record), 2);
     }
 }
@@ -114,6 +116,7 @@ fn a_wrong_length_of_a_list_gives_4() {
             for call in [signs, z, x] {
                 assert_eq!(call.check(), 4, "{n} {length}");
                 assert_eq!(call.reduce(), Err(4), "{n} {length}");
+                assert_eq!(call.product(1), Err(4), "{n} {length}");
             }
         }
     }

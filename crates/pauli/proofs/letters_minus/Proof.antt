@@ -9,7 +9,7 @@ letters-phase-requires c κs = search needs
 returns : tie.Need-returns
 returns c =
     let a = c .before .args in
-    letters-sign 64 (a .z) (a .x) (a .z2) (a .x2) _ (c .letters-phase .ensures .0)
+    letters-sign 64 (a .z) (a .x) (a .z2) (a .x2) _ (c .before .pre) (c .letters-phase .ensures .0)
 
 pub letters-minus-spec : {M : Type 1} → statement M
 letters-minus-spec = tie.close (tie.spec letters-phase-requires returns)

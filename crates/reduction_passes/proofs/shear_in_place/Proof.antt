@@ -3,7 +3,14 @@ use Prim.Native.Nat.{_<_}
 use native.Mathlib.Omega.{arith}
 use borrow.Author.Needs.{needs}
 use Rattle.words.proofs.BitLaws.{flip-less}
-use Rattle.reduction_passes.proofs.Shearing.{Sheared, next-row, shear-end, shear-start, shear-step}
+use Rattle.reduction_passes.proofs.Shearing.{
+  Sheared,
+  next-commutes,
+  next-row,
+  shear-end,
+  shear-start,
+  shear-step,
+}
 use Rattle.reduction_passes.proofs.shear_in_place.Statement.{statement}
 use Rattle.reduction_passes.proofs.shear_in_place.Tie as tie
 
@@ -56,7 +63,15 @@ array-read-x : tie.Need-array-read-x Inv-loop μ-loop
 array-read-x c = search needs
 
 letters-minus-requires : tie.Need-letters-minus-requires Inv-loop μ-loop
-letters-minus-requires c κs = search needs
+letters-minus-requires c κs =
+    let E = c .before in
+    let T = E .before in
+    let L = T .before .loop in
+    let S = T .before .before .before .before .before in
+    let N = next-row (S .args .rows .now) (S .args .signs .now) (S .args .a) (S .args .named) (L .rows) (L .signs)
+    (L .rest) (L .inv) (S .fits .named .fits) (T .loop-test .taken) (E .smallest .ensures .0) in
+    next-commutes (S .args .rows .now) (S .args .signs .now) (S .args .a) (S .args .named) (L .rows) (L .signs)
+    (L .rest) (E .smallest .result) (L .inv) (N .1) (N .0) (S .pre .1)
 
 mul-t25 : tie.Need-mul-t25 Inv-loop μ-loop
 mul-t25 c = search needs

@@ -1,129 +1,56 @@
-use mathlib.Core.Path.{_∙_, refl}
+use mathlib.Core.Path.{_∙_}
 use borrow.Author.Needs.{needs}
-use Rattle.stabilizer.specs.Lists.{GeneratorList, listLengths}
-use Rattle.stabilizer.proofs.EarlyLines.{clash-tested}
+use Rattle.stabilizer.specs.Lists.{GeneratorList}
 use Rattle.stabilizer.proofs.EarlyLines.{
+  clash-tested,
   clashing-letters,
-  either-says,
-  not-refused,
-  refused-2,
-  refused-4,
+  refused-9,
+  refused-by-none,
+  refused-form,
+  says,
 }
-use Rattle.stabilizer.proofs.EarlyLines.{refused-5, refused-6, refused-9, says}
-use Rattle.stabilizer.proofs.SharedTests.{counted}
 use Rattle.stabilizer.proofs.early_refusal.Statement.{statement}
 use Rattle.stabilizer.proofs.early_refusal.Tie as tie
 
-bad-count-requires : tie.Need-bad-count-requires
-bad-count-requires c κs = search needs
+form-refusal-requires : tie.Need-form-refusal-requires
+form-refusal-requires c κs = search needs
 
 returns : tie.Need-returns
 returns c =
-    let a = c .before .before .before .before .before .args in
+    let E = c .before in
+    let a = E .before .before .before .before .args in
     let l : GeneratorList = record { n = a .n; signs = a .signs .now; z = a .z .now; x = a .x .now } in
-    refused-2 l (a .others) (says (c .before .bad-count .ensures) (c .if1 .taken))
-
-list-lengths-requires : tie.Need-list-lengths-requires
-list-lengths-requires c κs = search needs
-
-returns-2 : tie.Need-returns-2
-returns-2 c =
-    let past2 = c .before .before in
-    let a = past2 .before .before .before .before .before .args in
-    let l : GeneratorList = record { n = a .n; signs = a .signs .now; z = a .z .now; x = a .x .now } in
-    refused-4 l (a .others) (says (past2 .before .bad-count .ensures) (past2 .if1 .left))
-    (either-says {b = listLengths l} (c .before .list-lengths .ensures) refl (c .if2 .taken))
-
-strays-requires : tie.Need-strays-requires
-strays-requires c κs =
-    let past2 = c .before .before in counted _ (says (past2 .before .bad-count .ensures) (past2 .if1 .left))
-
-strays-requires-2 : tie.Need-strays-requires-2
-strays-requires-2 c κs =
-    let past2 = c .before .before .before in
-    counted _ (says (past2 .before .bad-count .ensures) (past2 .if1 .left))
-
-returns-3 : tie.Need-returns-3
-returns-3 c =
-    let past4 = c .before .before .before in
-    let past2 = past4 .before .before in
-    let a = past2 .before .before .before .before .before .args in
-    let l : GeneratorList = record { n = a .n; signs = a .signs .now; z = a .z .now; x = a .x .now } in
-    refused-5 l (a .others) (says (past2 .before .bad-count .ensures) (past2 .if1 .left))
-    (either-says {b = listLengths l} (past4 .before .list-lengths .ensures) refl (past4 .if2 .left))
-    (either-says (c .before .before .strays .ensures) (c .before .strays2 .ensures) (c .if3 .taken))
-
-reaches-requires : tie.Need-reaches-requires
-reaches-requires c κs = search needs
-
-returns-4 : tie.Need-returns-4
-returns-4 c =
-    let past5 = c .before .before in
-    let past4 = past5 .before .before .before in
-    let past2 = past4 .before .before in
-    let a = past2 .before .before .before .before .before .args in
-    let l : GeneratorList = record { n = a .n; signs = a .signs .now; z = a .z .now; x = a .x .now } in
-    refused-6 l (a .others) (says (past2 .before .bad-count .ensures) (past2 .if1 .left))
-    (either-says {b = listLengths l} (past4 .before .list-lengths .ensures) refl (past4 .if2 .left))
-    (either-says (past5 .before .before .strays .ensures) (past5 .before .strays2 .ensures)
-    (past5 .if3 .left))
-    (says (c .before .reaches .ensures) (c .if4 .taken))
+    refused-form l (a .others) _ (E .form-refusal .ensures) (c .if1 .taken)
 
 some-clash-requires : tie.Need-some-clash-requires
 some-clash-requires c κs =
-    let past5 = c .before .before in
-    let past4 = past5 .before .before .before in
-    let past2 = past4 .before .before in
-    let a = past2 .before .before .before .before .before .args in
+    let E = c .before in
+    let a = E .before .before .before .before .args in
     let l : GeneratorList = record { n = a .n; signs = a .signs .now; z = a .z .now; x = a .x .now } in
-    clash-tested l (a .others) (says (past2 .before .bad-count .ensures) (past2 .if1 .left))
-    (either-says {b = listLengths l} (past4 .before .list-lengths .ensures) refl (past4 .if2 .left))
-    (either-says (past5 .before .before .strays .ensures) (past5 .before .strays2 .ensures)
-    (past5 .if3 .left))
+    clash-tested l (a .others) _ (E .form-refusal .ensures) (c .if1 .left)
 
-returns-5 : tie.Need-returns-5
-returns-5 c =
-    let past6 = c .before .before in
-    let past5 = past6 .before .before in
-    let past4 = past5 .before .before .before in
-    let past2 = past4 .before .before in
-    let a = past2 .before .before .before .before .before .args in
+returns-2 : tie.Need-returns-2
+returns-2 c =
+    let E = c .before .before .before in
+    let a = E .before .before .before .before .args in
     let l : GeneratorList = record { n = a .n; signs = a .signs .now; z = a .z .now; x = a .x .now } in
-    refused-9 l (a .others) (says (past2 .before .bad-count .ensures) (past2 .if1 .left))
-    (either-says {b = listLengths l} (past4 .before .list-lengths .ensures) refl (past4 .if2 .left))
-    (either-says (past5 .before .before .strays .ensures) (past5 .before .strays2 .ensures)
-    (past5 .if3 .left))
-    (says (past6 .before .reaches .ensures) (past6 .if4 .left))
-    (says (c .before .some-clash .ensures ∙ clashing-letters l) (c .if5 .taken))
+    refused-9 l (a .others) _ (E .form-refusal .ensures) (c .before .before .if1 .left)
+    (says (c .before .some-clash .ensures ∙ clashing-letters l) (c .if2 .taken))
 
-returns-6 : tie.Need-returns-6
-returns-6 c =
-    let past6 = c .before .before in
-    let past5 = past6 .before .before in
-    let past4 = past5 .before .before .before in
-    let past2 = past4 .before .before in
-    let a = past2 .before .before .before .before .before .args in
+returns-3 : tie.Need-returns-3
+returns-3 c =
+    let E = c .before .before .before in
+    let a = E .before .before .before .before .args in
     let l : GeneratorList = record { n = a .n; signs = a .signs .now; z = a .z .now; x = a .x .now } in
-    not-refused l (a .others) (says (past2 .before .bad-count .ensures) (past2 .if1 .left))
-    (either-says {b = listLengths l} (past4 .before .list-lengths .ensures) refl (past4 .if2 .left))
-    (either-says (past5 .before .before .strays .ensures) (past5 .before .strays2 .ensures)
-    (past5 .if3 .left))
-    (says (past6 .before .reaches .ensures) (past6 .if4 .left))
-    (says (c .before .some-clash .ensures ∙ clashing-letters l) (c .if5 .left))
+    refused-by-none l (a .others) _ (E .form-refusal .ensures) (c .before .before .if1 .left)
+    (says (c .before .some-clash .ensures ∙ clashing-letters l) (c .if2 .left))
 
 pub early-refusal-spec : {M : Type 1} → statement M
 early-refusal-spec =
     tie.close
     (tie.spec
-    bad-count-requires
+    form-refusal-requires
     returns
-    list-lengths-requires
-    returns-2
-    strays-requires
-    strays-requires-2
-    returns-3
-    reaches-requires
-    returns-4
     some-clash-requires
-    returns-5
-    returns-6)
+    returns-2
+    returns-3)

@@ -21,7 +21,7 @@ const CASES: u64 = 100;
 type Measured = (&'static str, usize, fn(&mut Random, usize) -> usize);
 
 /// Every public call. All arguments are accepted, so that every step is taken.
-const CALLS: [Measured; 12] = [
+const CALLS: [Measured; 13] = [
     ("check", 64, |random, n| {
         let given = list(&random_rows(random, n));
         depth(|| raw::check(n as u64, &given.signs, &given.z, &given.x))
@@ -82,6 +82,12 @@ const CALLS: [Measured; 12] = [
         let side = 0x5555_5555_5555_5555;
         let mut rank = 0;
         depth(|| raw::cut(n as u64, &neighbours, &codes, side, &mut rank))
+    }),
+    ("product", 64, |random, n| {
+        let given = list(&random_rows(random, n));
+        let lent = (n as u64, &*given.signs, &*given.z, &*given.x);
+        let (mut z, mut x, mut phase) = (0, 0, 0);
+        depth(|| raw::product(lent, u64::MAX, &mut z, &mut x, &mut phase))
     }),
     ("compare", 10, of_compare),
     ("compare", 20, of_compare),

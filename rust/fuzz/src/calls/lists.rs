@@ -1,6 +1,6 @@
 //! Calls on one generator list.
 
-use crate::arguments::{list_call, size};
+use crate::arguments::{list_call, product_call, size};
 use crate::common::{Random, RecordCall};
 use sukhlent::{reduce as reduced, GeneratorList};
 
@@ -31,4 +31,13 @@ pub fn reduce(random: &mut Random) -> u8 {
         }
         Err(number) => number,
     }
+}
+
+/// A product is that of the letters.
+pub fn product(random: &mut Random) -> u8 {
+    let n = size(random);
+    let (call, chosen) = product_call(random, n);
+    let answer = call.product(chosen);
+    assert_eq!(answer, call.product_due(chosen), "{chosen:x}: {call:?}");
+    answer.err().unwrap_or(0)
 }

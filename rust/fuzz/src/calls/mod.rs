@@ -17,7 +17,7 @@ pub struct Call {
 }
 
 /// Every public call.
-pub const CALLS: [Call; 11] = [
+pub const CALLS: [Call; 12] = [
     Call {
         name: "check",
         once: lists::check,
@@ -57,6 +57,10 @@ pub const CALLS: [Call; 11] = [
     Call {
         name: "cut",
         once: records::cut,
+    },
+    Call {
+        name: "product",
+        once: lists::product,
     },
     Call {
         name: "compare",

@@ -9,15 +9,8 @@ use Rattle.pauli.specs.Rows.{generatorOf}
 use Rattle.pauli.proofs.PauliLaws.{Pauli-path}
 use Rattle.clifford.specs.Vectors.{codesOf}
 use Rattle.comparison.specs.Setting.{generatorsOf}
-use Rattle.comparison.proofs.RecordElements.{
-  Multiplied,
-  framed-proper,
-  guessed,
-  multiplied-off,
-  multiplied-on,
-  next-commutes,
-  none-multiplied,
-}
+use Rattle.comparison.proofs.RecordElements.{framed-proper, guessed}
+use Rattle.stabilizer.proofs.Multiplying.{Multiplied, multiplied-off, multiplied-on, next-commutes, none-multiplied}
 use Rattle.comparison_groups.proofs.elements.element.Statement.{statement}
 use Rattle.comparison_groups.proofs.elements.element.Tie as tie
 
@@ -49,10 +42,10 @@ times-requires : tie.Need-times-requires Inv-loop μ-loop
 times-requires c κs =
     let l = c .before .before .before .before .loop in
     let s = c .before .before .before .before .before .before .before in
-    next-commutes (s .args .n) (omega arith) (generatorsOf (s .args .t2))
-    (framed-proper (s .args .n) (generatorsOf (s .args .t2)) (codesOf (s .args .t3)) (s .pre .1))
+    let proper = framed-proper (s .args .n) (generatorsOf (s .args .t2)) (codesOf (s .args .t3)) (s .pre .1) in
+    next-commutes (s .args .n) (omega arith) (generatorsOf (s .args .t2)) (proper .within)
     (bit (c .before .before .before .before .before .send .result .x)) (l .j) (generatorOf (l .h)) (l .inv)
-    (c .before .before .before .loop-test .taken)
+    (c .before .before .before .loop-test .taken) (proper .commuting)
 
 add-j : tie.Need-add-j Inv-loop μ-loop
 add-j c = search needs
@@ -72,10 +65,10 @@ loop-again c =
     let more = c .before .before .loop-test .taken in
     ⊎-elim
     (λ k. subst (λ h. Multiplied (a .n) rows w (l .j + 1) (generatorOf h)) (sym (k .3))
-    (multiplied-on (a .n) (omega arith) rows proper w (l .j) (generatorOf (l .h)) (l .inv) more _
+    (multiplied-on (a .n) (omega arith) rows (proper .within) w (l .j) (generatorOf (l .h)) (l .inv) more _
     (sym test ∙ k .0 .taken) (k .2 .ensures)))
     (λ k. subst (λ h. Multiplied (a .n) rows w (l .j + 1) (generatorOf h)) (sym (k .1))
-    (multiplied-off (a .n) (omega arith) rows proper w (l .j) (generatorOf (l .h)) (l .inv) more
+    (multiplied-off (a .n) (omega arith) rows (proper .within) w (l .j) (generatorOf (l .h)) (l .inv) more
     (sym test ∙ k .0 .left)))
     (c .if1 .came)
 

@@ -1,16 +1,20 @@
-use borrow.Author.Needs.{needs}
+use mathlib.Core.Path.{_∙_}
+use Rattle.pauli.proofs.PauliLaws.{anticommute-letters}
+use Rattle.pauli.specs.Pauli.{i⁰}
+use Rattle.pauli.specs.Rows.{generatorOf}
 use Rattle.comparison.proofs.RecordElements.{generator-times}
 use Rattle.comparison_groups.proofs.elements.times.Statement.{statement}
 use Rattle.comparison_groups.proofs.elements.times.Tie as tie
 
 letters-minus-requires : tie.Need-letters-minus-requires
-letters-minus-requires c κs = search needs
+letters-minus-requires c κs =
+    let a = c .args in
+    anticommute-letters 64 (generatorOf (a .p)) (generatorOf (a .g)) i⁰ i⁰ ∙ c .pre
 
 returns : tie.Need-returns
 returns c =
     let a = c .before .before .before .before .before .before .before .args in
     generator-times (a .p) (a .g) (c .before .before .before .before .before .before .letters-minus .result)
-    (c .before .before .before .before .before .before .before .pre)
     (c .before .before .before .before .before .before .letters-minus .ensures)
 
 pub times-spec : {M : Type 1} → statement M

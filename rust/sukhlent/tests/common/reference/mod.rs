@@ -3,12 +3,14 @@
 mod cut;
 mod expansion;
 mod membership;
+mod product;
 mod reduction;
 mod refusals;
 
 pub use cut::cut_rank;
 pub use expansion::expanded;
 pub use membership::is_element;
+pub use product::product;
 pub use reduction::reduced;
 pub use refusals::{argument_refusal, cut_refusal, image_refusal, in_place_refusal};
-pub use refusals::{list_refusal, pair_refusal, record_refusal};
+pub use refusals::{list_refusal, pair_refusal, product_refusal, record_refusal};

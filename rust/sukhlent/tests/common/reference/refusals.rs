@@ -131,6 +131,16 @@ pub fn cut_refusal(n: u64, neighbours: &[u64], codes: &[u8], side: u64) -> u8 {
     }
 }
 
+/// The first line that is true of a product: of a list, its lines 9 and 10 apart, and of the word.
+pub fn product_refusal(n: u64, signs: &[u8], z: &[u64], x: &[u64], chosen: u64) -> u8 {
+    match list_refusal(n, signs, z, x, &[]) {
+        number @ (2 | 4) => number,
+        _ if stray(chosen, n) => 5,
+        number @ (5 | 6) => number,
+        _ => 0,
+    }
+}
+
 /// The first of lines 2 to 10 that is true of a comparison: of two lists with their n and the
 /// first line that is true of each, or 0, of the choice's places and of the list's. None where the
 /// search decides.

@@ -1,0 +1,3 @@
+pub mod ProductLines
+pub mod PartProducts
+pub mod ProductCalls

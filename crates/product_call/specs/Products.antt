@@ -1,0 +1,32 @@
+-- What the call on a product of rows promises, for all arguments. A name with a prime is what the lent number holds at
+-- exit.
+-- Assumes nothing.
+use mathlib.Core.Bool.{_||_}
+use mathlib.Core.List.{List, [], _∷_}
+use mathlib.Core.Path.{_≡_}
+use Prim.Native.Nat.{_^_, ℕ}
+use lib.Dec.{leb}
+use Rattle.buffers.specs.Buffers.{acceptedNumber}
+use Rattle.buffers.specs.Refusals.{Line, badCount, firstFitting, line}
+use Rattle.pauli.specs.Pauli.{Pauli, exponent}
+use Rattle.stabilizer.specs.Groups.{product}
+use Rattle.stabilizer.specs.Lists.{GeneratorList, listLengths, listSigns, listStray, rows}
+use Rattle.words.specs.Bits.{bit, wordOf}
+
+-- "These rows need neither commute nor be independent, so only 2, 4, 5 and 6 are checked". 5: also a word of chosen
+-- rows with a bit at or above n
+abbrev pub productLines : GeneratorList → ℕ → List Line
+productLines l chosen =
+    line 2 (badCount (l .n)) ∷ line 4 (listLengths l) ∷ line 5 (listStray l || leb (2 ^ (l .n)) chosen)
+    ∷ line 6 (listSigns l) ∷ []
+
+-- "a word chooses the rows, which are taken in index order"
+abbrev pub chosenProduct : GeneratorList → ℕ → Pauli
+chosenProduct l chosen = product (l .n) (l .n) (bit chosen) (rows l)
+
+-- ---- sukhlent_product: "the answer is the product and its phase", "a power of i from 0 to 3"
+pub record ProductCall (l : GeneratorList) (chosen z x phase r z′ x′ phase′ : ℕ) : Type 0 where
+  pub number : r ≡ firstFitting (productLines l chosen)
+  pub z-word : z′ ≡ acceptedNumber r (wordOf (l .n) ((chosenProduct l chosen) .z)) z
+  pub x-word : x′ ≡ acceptedNumber r (wordOf (l .n) ((chosenProduct l chosen) .x)) x
+  pub turns : phase′ ≡ acceptedNumber r (exponent ((chosenProduct l chosen) .phase)) phase
