@@ -2,11 +2,11 @@
 -- Assumes nothing.
 use mathlib.Core.Bool.{_&&_, Bool, false, true}
 use mathlib.Core.Path.{ap, refl, sym, _∙_, _≡_}
-use Prim.Native.Nat.{_%_, _*_, _+_, _/_, _<_, ℕ}
+use Prim.Native.Nat.{_<_, ℕ}
 use native.Mathlib.Omega.{arith}
-use lib.Dec.{T, eqb, eqb→eq, leb, lit<}
+use lib.Dec.{T, eqb, eqb→eq, lit<}
 use borrow.Author.Tests.{eqb-true}
-use Rattle.pauli.proofs.PhaseLaws.{phases}
+use Rattle.pauli.proofs.PhaseLaws.{+ᵖ-assoc, minus-⊕, phases}
 use Rattle.pauli.specs.Pauli.{
   _+ᵖ_,
   Phase,
@@ -20,12 +20,10 @@ use Rattle.pauli.specs.Pauli.{
   xBit,
   zBit,
 }
-use Rattle.pauli.specs.declared.Letter.{Letter}
-use Rattle.pauli.specs.declared.Letter.the-variants.{I, X, Y, Z}
 use Rattle.words.proofs.BitLaws.{digit-lt}
 use Rattle.words.proofs.Finite.{Law, Of, and-l, and-r, bits, law, sameBit→≡, test}
 use Rattle.words.proofs.SearchLaws.{every-at}
-use Rattle.words.specs.Bits.{digit, isOdd, sameBit, _⊕_}
+use Rattle.words.specs.Bits.{sameBit, _⊕_}
 use Rattle.words.specs.Search.{every, first, some}
 use Rattle.clifford.specs.Clifford.{
   Class,
@@ -43,8 +41,9 @@ use Rattle.clifford.specs.Clifford.{
   identityClifford,
   image,
   imagePhase,
+  imageX,
+  imageZ,
   inverse,
-  letterNumber,
   then,
 }
 
@@ -108,28 +107,57 @@ phaseAfter-sum = onClifford _
     (phases 9 (λ a b c d e. productFirst (fromFive a b c d e)) (λ a b c d e. imagesFirst (fromFive a b c d e))
     tt)
 
--- the images under a composite are those of the images: 24 · 24 cliffords, 4 letters, by one test
+-- ---- the images under a composite are those of the images
+-- the letters, by one test over 6 · 6 classes: it looks at no sign
 pub zAfter-then : (k m : Clifford) (z x : Bool)
     → zAfter (then k m) z x ≡ zAfter m (zAfter k z x) (xAfter k z x)
-zAfter-then = onClifford _ λ a b c d e. onClifford _
-    (bits 12 (λ a b c d e a′ b′ c′ d′ e′. zAfter (then (fromFive a b c d e) (fromFive a′ b′ c′ d′ e′)))
-    (λ a b c d e a′ b′ c′ d′ e′ z x. zAfter (fromFive a′ b′ c′ d′ e′) (zAfter (fromFive a b c d e) z x)
-    (xAfter (fromFive a b c d e) z x)) tt a b c d e)
+zAfter-then = onClifford _ λ a b c d e. onClifford _ λ a′ b′ c′ d′ e′.
+    bits 8 (λ a b c a′ b′ c′. zAfter (then (fromFive a b c d e) (fromFive a′ b′ c′ d′ e′)))
+    (λ a b c a′ b′ c′ z x. zAfter (fromFive a′ b′ c′ d′ e′) (zAfter (fromFive a b c d e) z x)
+    (xAfter (fromFive a b c d e) z x)) tt a b c a′ b′ c′
 
 pub xAfter-then : (k m : Clifford) (z x : Bool)
     → xAfter (then k m) z x ≡ xAfter m (zAfter k z x) (xAfter k z x)
-xAfter-then = onClifford _ λ a b c d e. onClifford _
-    (bits 12 (λ a b c d e a′ b′ c′ d′ e′. xAfter (then (fromFive a b c d e) (fromFive a′ b′ c′ d′ e′)))
-    (λ a b c d e a′ b′ c′ d′ e′ z x. xAfter (fromFive a′ b′ c′ d′ e′) (zAfter (fromFive a b c d e) z x)
-    (xAfter (fromFive a b c d e) z x)) tt a b c d e)
+xAfter-then = onClifford _ λ a b c d e. onClifford _ λ a′ b′ c′ d′ e′.
+    bits 8 (λ a b c a′ b′ c′. xAfter (then (fromFive a b c d e) (fromFive a′ b′ c′ d′ e′)))
+    (λ a b c a′ b′ c′ z x. xAfter (fromFive a′ b′ c′ d′ e′) (zAfter (fromFive a b c d e) z x)
+    (xAfter (fromFive a b c d e) z x)) tt a b c a′ b′ c′
+
+-- the phases: the signs of the first one are a factor, so the test is over 6 · 24 cliffords
+abbrev plain : Clifford → Clifford
+plain k = record { class = k .class; sx = false; sz = false }
+
+abbrev signs : Clifford → Bool → Bool → Bool
+signs k z x = (x && k .sx) ⊕ (z && k .sz)
+
+phaseAfter-signs : (k : Clifford) (z x : Bool) → phaseAfter k z x ≡ minus (signs k z x) +ᵖ phaseAfter (plain k) z x
+phaseAfter-signs = onClifford _
+    (phases 7 (λ a b c d e. phaseAfter (fromFive a b c d e))
+    (λ a b c d e z x. minus (signs (fromFive a b c d e) z x) +ᵖ phaseAfter (plain (fromFive a b c d e)) z x) tt)
+
+signs-⊕ : (z x a b a′ b′ : Bool) → (x && (a ⊕ a′)) ⊕ (z && (b ⊕ b′)) ≡ ((x && a) ⊕ (z && b)) ⊕ ((x && a′) ⊕ (z && b′))
+signs-⊕ = bits 6 (λ z x a b a′ b′. (x && (a ⊕ a′)) ⊕ (z && (b ⊕ b′)))
+    (λ z x a b a′ b′. ((x && a) ⊕ (z && b)) ⊕ ((x && a′) ⊕ (z && b′))) tt
+
+plain-then : (k m : Clifford) (z x : Bool) → phaseAfter (then (plain k) m) z x ≡ phaseAfter (plain k) z x
+    +ᵖ phaseAfter m (zAfter k z x) (xAfter k z x)
+plain-then = onClifford _ λ a b c d e. onClifford _
+    (phases 10 (λ a b c a′ b′ c′ d′ e′. phaseAfter (then (plain (fromFive a b c d e)) (fromFive a′ b′ c′ d′ e′)))
+    (λ a b c a′ b′ c′ d′ e′ z x. phaseAfter (plain (fromFive a b c d e)) z x
+    +ᵖ phaseAfter (fromFive a′ b′ c′ d′ e′) (zAfter (fromFive a b c d e) z x)
+    (xAfter (fromFive a b c d e) z x)) tt a b c)
 
 pub phaseAfter-then : (k m : Clifford) (z x : Bool) → phaseAfter (then k m) z x ≡ phaseAfter k z x
     +ᵖ phaseAfter m (zAfter k z x) (xAfter k z x)
-phaseAfter-then = onClifford _ λ a b c d e. onClifford _
-    (phases 12 (λ a b c d e a′ b′ c′ d′ e′. phaseAfter (then (fromFive a b c d e) (fromFive a′ b′ c′ d′ e′)))
-    (λ a b c d e a′ b′ c′ d′ e′ z x. phaseAfter (fromFive a b c d e) z x
-    +ᵖ phaseAfter (fromFive a′ b′ c′ d′ e′) (zAfter (fromFive a b c d e) z x)
-    (xAfter (fromFive a b c d e) z x)) tt a b c d e)
+phaseAfter-then k m z x =
+    phaseAfter-signs (then k m) z x
+    ∙ ap (λ t. t +ᵖ phaseAfter (plain (then k m)) z x)
+    (ap minus (signs-⊕ z x (k .sx) (k .sz) ((then (plain k) m) .sx) ((then (plain k) m) .sz))
+    ∙ minus-⊕ (signs k z x) (signs (then (plain k) m) z x))
+    ∙ +ᵖ-assoc (minus (signs k z x)) (minus (signs (then (plain k) m) z x)) (phaseAfter (plain (then k m)) z x)
+    ∙ ap (λ t. minus (signs k z x) +ᵖ t) (sym (phaseAfter-signs (then (plain k) m) z x) ∙ plain-then k m z x)
+    ∙ sym (+ᵖ-assoc (minus (signs k z x)) (phaseAfter (plain k) z x) _)
+    ∙ ap (λ t. t +ᵖ phaseAfter m (zAfter k z x) (xAfter k z x)) (sym (phaseAfter-signs k z x))
 
 -- equality of cliffords is that of fromFive bits
 abbrev pub sameClass : Class → Class → Bool
@@ -168,17 +196,41 @@ sameClifford→≡ a b t =
 pub cliffords : (k : ℕ) (f g : Of k Clifford) → T (test sameClifford k f g) → Law Clifford k f g
 cliffords = law sameClifford sameClifford→≡
 
-pub then-inverse : (k : Clifford) → then k (inverse k) ≡ identityClifford
+-- ---- the inverse
+-- classes 4 and 5 undo each other, the others themselves
+abbrev pub inverseClass : Class → Class
+inverseClass XZ = XZ
+inverseClass YZ = YZ
+inverseClass ZX = ZX
+inverseClass XY = XY
+inverseClass YX = ZY
+inverseClass ZY = YX
+
+-- X and Z go back to the letters from which they come, with the signs of these
+abbrev pub undone : Clifford → Clifford
+undone k =
+    record {
+      class = inverseClass (k .class);
+      sx = signBit (imagePhase k (imageX (inverseClass (k .class))));
+      sz = signBit (imagePhase k (imageZ (inverseClass (k .class))));
+    }
+
+pub inverse-is : (k : Clifford) → inverse k ≡ undone k
 unfolding inverse first some
-then-inverse = onClifford _
-    (cliffords 5 (λ a b c d e. then (fromFive a b c d e) (inverse (fromFive a b c d e)))
-    (λ a b c d e. identityClifford) tt)
+inverse-is = onClifford _
+    (cliffords 5 (λ a b c d e. inverse (fromFive a b c d e)) (λ a b c d e. undone (fromFive a b c d e)) tt)
+
+pub then-inverse : (k : Clifford) → then k (inverse k) ≡ identityClifford
+then-inverse k = ap (then k) (inverse-is k)
+    ∙ onClifford (λ k. then k (undone k) ≡ identityClifford)
+    (cliffords 5 (λ a b c d e. then (fromFive a b c d e) (undone (fromFive a b c d e)))
+    (λ a b c d e. identityClifford) tt) k
 
 pub inverse-then : (k : Clifford) → then (inverse k) k ≡ identityClifford
-unfolding inverse first some
-inverse-then = onClifford _
-    (cliffords 5 (λ a b c d e. then (inverse (fromFive a b c d e)) (fromFive a b c d e))
-    (λ a b c d e. identityClifford) tt)
+inverse-then k = ap (λ m. then m k) (inverse-is k)
+    ∙ onClifford (λ k. then (undone k) k ≡ identityClifford)
+    (cliffords 5 (λ a b c d e. then (undone (fromFive a b c d e)) (fromFive a b c d e))
+    (λ a b c d e. identityClifford) tt) k
 
 pub cliffordOf-codeOf : (k : Clifford) → cliffordOf (codeOf k) ≡ k
 cliffordOf-codeOf = onClifford _
@@ -197,52 +249,6 @@ clash-after = onClifford _
     (letter (zAfter (fromFive a b c d e) z x) (xAfter (fromFive a b c d e) z x))
     (letter (zAfter (fromFive a b c d e) z′ x′) (xAfter (fromFive a b c d e) z′ x′)))
     (λ a b c d e z x z′ x′. clash (letter z x) (letter z′ x′)) tt)
-
--- ---- letters by number
-pub number-lt : (l : Letter) → letterNumber l < 4
-number-lt I = lit< tt
-number-lt X = lit< tt
-number-lt Y = lit< tt
-number-lt Z = lit< tt
-
-pub numbered-number : (l : Letter) → letter (isOdd (letterNumber l / 2)) (isOdd (letterNumber l)) ≡ l
-numbered-number I = refl
-numbered-number X = refl
-numbered-number Y = refl
-numbered-number Z = refl
-
--- ---- a law over letters is a law over two bits
-onLetter : (P : Letter → Type 0) → ((z x : Bool) → P (letter z x)) → (l : Letter) → P l
-onLetter P h I = h false false
-onLetter P h X = h false true
-onLetter P h Y = h true true
-onLetter P h Z = h true false
-
-sameLetter→≡ : (a b : Letter) → T (eqb (letterNumber a) (letterNumber b)) → a ≡ b
-sameLetter→≡ a b t =
-    sym (numbered-number a)
-    ∙ ap (λ v. letter (isOdd (v / 2)) (isOdd v)) (eqb→eq (letterNumber a) (letterNumber b) t)
-    ∙ numbered-number b
-
-letters : (k : ℕ) (f g : Of k Letter) → T (test (λ a b. eqb (letterNumber a) (letterNumber b)) k f g)
-    → Law Letter k f g
-letters = law (λ a b. eqb (letterNumber a) (letterNumber b)) sameLetter→≡
-
--- ---- an image as a number: 4 × sign + 2 z + x
-abbrev pub imageEntry : Clifford → Letter → ℕ
-imageEntry k l = 4 * digit (signBit (imagePhase k l)) + letterNumber (image k l)
-
-pub entry-sign : (k : Clifford) (l : Letter) → minus (leb 4 (imageEntry k l)) ≡ imagePhase k l
-entry-sign = onClifford _ λ a b c d e. onLetter _
-    (phases 7 (λ a b c d e z x. minus (leb 4 (imageEntry (fromFive a b c d e) (letter z x))))
-    (λ a b c d e z x. imagePhase (fromFive a b c d e) (letter z x)) tt a b c d e)
-
-pub entry-letter : (k : Clifford) (l : Letter)
-    → letter (eqb (imageEntry k l / 2 % 2) 1) (eqb (imageEntry k l % 2) 1) ≡ image k l
-entry-letter = onClifford _ λ a b c d e. onLetter _
-    (letters 7 (λ a b c d e z x. letter (eqb (imageEntry (fromFive a b c d e) (letter z x) / 2 % 2) 1)
-    (eqb (imageEntry (fromFive a b c d e) (letter z x) % 2) 1))
-    (λ a b c d e z x. image (fromFive a b c d e) (letter z x)) tt a b c d e)
 
 -- ---- codes are below 24
 pub class-lt : (m : Class) → classNumber m < 6

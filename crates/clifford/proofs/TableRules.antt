@@ -1,20 +1,15 @@
--- The constant tables of the source, and their rules, each by one computed test over the whole table.
+-- The constant table of the source, and its rule, by one computed test over the whole table.
 -- Assumes nothing.
 use mathlib.Core.Bool.{_&&_, Bool, true}
 use mathlib.Core.List.{List, [], _∷_}
-use mathlib.Core.Path.{ap, ap₂, subst, _∙_, _≡_}
+use mathlib.Core.Path.{ap₂, subst, _∙_, _≡_}
 use Prim.Native.Nat.{_%_, _*_, _+_, _/_, _<_, suc, zero, ℕ}
 use native.Mathlib.Nat.{add-suc, add-zero, le-of-suc-le-suc, not-suc-le-zero, suc-add, zero-add}
 use native.Mathlib.Omega.{arith}
 use lib.Dec.{T, eqb, eqb→eq}
 use lib.ListN.{getD, length}
-use Rattle.pauli.specs.Pauli.{letter}
-use Rattle.pauli.specs.declared.Letter.{Letter}
 use Rattle.words.proofs.Finite.{and-l, and-r}
-use Rattle.words.specs.Bits.{isOdd}
-use Rattle.words.specs.Search.{first, some}
-use Rattle.clifford.proofs.CliffordLaws.{imageEntry, number-lt, numbered-number}
-use Rattle.clifford.specs.Clifford.{cliffordOf, codeOf, inverse, letterNumber, then}
+use Rattle.clifford.specs.Clifford.{cliffordOf, codeOf, then}
 
 -- ---- any table of numbers: a test at each entry and its place
 abbrev testFrom : (ℕ → ℕ → Bool) → ℕ → List ℕ → Bool
@@ -96,37 +91,3 @@ then-entry a b ha hb =
     entry (λ k. codeOf (then (cliffordOf (k / 24)) (cliffordOf (k % 24)))) thenTable tt (24 * a
     + b) (omega arith)
     ∙ ap₂ (λ u v. codeOf (then (cliffordOf u) (cliffordOf v))) quotient rest
-
--- ---- inverses
-unfoldable pub inverseTable : List ℕ
-inverseTable =
-    0 ∷ 1 ∷ 2 ∷ 3 ∷ 6 ∷ 5 ∷ 4 ∷ 7 ∷ 8 ∷ 10 ∷ 9 ∷ 11 ∷ 13 ∷ 12 ∷ 14 ∷ 15 ∷ 20 ∷ 23 ∷ 21 ∷ 22 ∷ 16 ∷ 18 ∷ 19
-    ∷ 17 ∷ []
-
-pub inverse-entry : (a : ℕ) → a < 24 → getD inverseTable a 0 ≡ codeOf (inverse (cliffordOf a))
-unfolding inverseTable inverse first some
-inverse-entry a h = entry (λ k. codeOf (inverse (cliffordOf k))) inverseTable tt a h
-
--- ---- images: entry 4 c + 2 z + x is 4 × sign + 2 z + x of the image
-unfoldable pub imageTable : List ℕ
-imageTable =
-    0 ∷ 1 ∷ 2 ∷ 3 ∷ 0 ∷ 1 ∷ 6 ∷ 7 ∷ 0 ∷ 5 ∷ 2 ∷ 7 ∷ 0 ∷ 5 ∷ 6 ∷ 3 ∷
-    0 ∷ 3 ∷ 2 ∷ 5 ∷ 0 ∷ 3 ∷ 6 ∷ 1 ∷ 0 ∷ 7 ∷ 2 ∷ 1 ∷ 0 ∷ 7 ∷ 6 ∷ 5 ∷
-    0 ∷ 2 ∷ 1 ∷ 7 ∷ 0 ∷ 2 ∷ 5 ∷ 3 ∷ 0 ∷ 6 ∷ 1 ∷ 3 ∷ 0 ∷ 6 ∷ 5 ∷ 7 ∷
-    0 ∷ 1 ∷ 3 ∷ 6 ∷ 0 ∷ 1 ∷ 7 ∷ 2 ∷ 0 ∷ 5 ∷ 3 ∷ 2 ∷ 0 ∷ 5 ∷ 7 ∷ 6 ∷
-    0 ∷ 3 ∷ 1 ∷ 2 ∷ 0 ∷ 3 ∷ 5 ∷ 6 ∷ 0 ∷ 7 ∷ 1 ∷ 6 ∷ 0 ∷ 7 ∷ 5 ∷ 2 ∷
-    0 ∷ 2 ∷ 3 ∷ 1 ∷ 0 ∷ 2 ∷ 7 ∷ 5 ∷ 0 ∷ 6 ∷ 3 ∷ 5 ∷ 0 ∷ 6 ∷ 7 ∷ 1 ∷ []
-
--- a letter by its number
-abbrev numbered : ℕ → Letter
-numbered l = letter (isOdd (l / 2)) (isOdd l)
-
-pub image-entry : (c : ℕ) (l : Letter) → c < 24
-    → getD imageTable (4 * c + letterNumber l) 0 ≡ imageEntry (cliffordOf c) l
-unfolding imageTable
-image-entry c l h =
-    let quotient : (4 * c + letterNumber l) / 4 ≡ c = omega (arith, number-lt l) in
-    let rest : (4 * c + letterNumber l) % 4 ≡ letterNumber l = omega (arith, number-lt l) in
-    entry (λ k. imageEntry (cliffordOf (k / 4)) (numbered (k % 4))) imageTable tt (4 * c + letterNumber l)
-    (omega (arith, number-lt l))
-    ∙ ap₂ (λ u v. imageEntry (cliffordOf u) v) quotient (ap numbered rest ∙ numbered-number l)

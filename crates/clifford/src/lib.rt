@@ -1,4 +1,5 @@
-// The 24 local Cliffords as codes: 4 × class + 2 × sx + sz. Tables of composition, images and inverses.
+// The 24 local Cliffords as codes: 4 × class + 2 × sx + sz. Composition is a table; images and inverses are worked out
+// from the class and the signs.
 mod tables;
 
 use pauli::Generator;
@@ -6,37 +7,17 @@ use pauli::Letter;
 use pauli::letter_of;
 use pauli::x_bit;
 use pauli::z_bit;
-use tables::IMAGES;
-use tables::INVERSES;
 use tables::THEN;
 use words::has;
 use words::put_bit;
 ghost use mathlib.Core.Path.{_≡_};
 ghost use Prim.Native.Nat.{ℕ, _<_, _≤_};
 ghost use lib.ListN.{getD, length};
-ghost use Rattle.pauli.specs.Pauli.{minus};
+ghost use Rattle.pauli.specs.Pauli.{letterProduct, minus};
 ghost use Rattle.pauli.specs.Rows.{generatorOf};
 ghost use Rattle.clifford.specs.Clifford.{bitC, bitD, classOf, cliffordOf, codeOf, imageX, imageZ};
-ghost use Rattle.clifford.specs.Clifford.{image, imagePhase, inverse, letterNumber, then};
+ghost use Rattle.clifford.specs.Clifford.{image, imagePhase, inverse, then};
 ghost use Rattle.clifford.specs.Vectors.{act, codesOf, only};
-
-fn wide(k: u8) -> usize
-    ensures { λ r. ⌜ r ≡ k ⌝ }
-{
-    k as usize
-}
-
-// A letter as a number: 2z + x.
-fn letter_number(l: Letter) -> usize
-    ensures { λ r. ⌜ (r ≡ letterNumber l) × (r < 4) ⌝ }
-{
-    match l {
-        Letter::I => 0,
-        Letter::X => 1,
-        Letter::Y => 3,
-        Letter::Z => 2,
-    }
-}
 
 // The letters to which X and Z go.
 pub struct ImageLetters {
@@ -49,31 +30,55 @@ pub fn image_letters(class: u8) -> ImageLetters
     requires { ⌜ class < 6 ⌝ }
     ensures { λ r. ⌜ (r .x ≡ imageX (classOf class)) × (r .z ≡ imageZ (classOf class)) ⌝ }
 {
+    let x = Letter::X;
+    let y = Letter::Y;
+    let z = Letter::Z;
     match class {
-        0 => ImageLetters {
-            x: Letter::X,
-            z: Letter::Z,
-        },
-        1 => ImageLetters {
-            x: Letter::Y,
-            z: Letter::Z,
-        },
-        2 => ImageLetters {
-            x: Letter::Z,
-            z: Letter::X,
-        },
-        3 => ImageLetters {
-            x: Letter::X,
-            z: Letter::Y,
-        },
-        4 => ImageLetters {
-            x: Letter::Y,
-            z: Letter::X,
-        },
-        _ => ImageLetters {
-            x: Letter::Z,
-            z: Letter::Y,
-        },
+        0 => ImageLetters { x, z },
+        1 => ImageLetters { x: y, z },
+        2 => ImageLetters { x: z, z: x },
+        3 => ImageLetters { x, z: y },
+        4 => ImageLetters { x: y, z: x },
+        _ => ImageLetters { x: z, z: y },
+    }
+}
+
+// The product of two letters, its phase dropped.
+fn product(a: Letter, b: Letter) -> Letter
+    ensures { λ r. ⌜ r ≡ letterProduct a b ⌝ }
+{
+    letter_of(z_bit(a) != z_bit(b), x_bit(a) != x_bit(b))
+}
+
+// The letter to which a code sends a letter: Y goes to the product of those of X and Z.
+fn image_letter(index: u8, letter: Letter) -> Letter
+    requires { ⌜ index < 24 ⌝ }
+    ensures { λ r. ⌜ r ≡ image (cliffordOf index) letter ⌝ }
+{
+    let letters = image_letters(index / 4);
+    let x = letters.x;
+    let z = letters.z;
+    match letter {
+        Letter::I => letter,
+        Letter::X => x,
+        Letter::Y => product(x, z),
+        Letter::Z => z,
+    }
+}
+
+// Whether the image of a letter is negative. That of Y has the signs of X and Z, and one more in classes 1 to 3: there i
+// times the product of the two letters is negative.
+fn image_minus(index: u8, letter: Letter) -> bool
+    requires { ⌜ index < 24 ⌝ }
+    ensures { λ r. ⌜ minus r ≡ imagePhase (cliffordOf index) letter ⌝ }
+{
+    let x = index / 2 % 2 == 1;
+    let z = index % 2 == 1;
+    match letter {
+        Letter::I => false,
+        Letter::X => x,
+        Letter::Y => (x != z) != ((4 <= index) & (index < 16)),
+        Letter::Z => z,
     }
 }
 
@@ -95,20 +100,26 @@ impl Code {
         ensures { λ r. ⌜ r .index ≡ codeOf (then (cliffordOf (self .index)) (cliffordOf (next .index))) ⌝ }
         ensures { λ r. ⌜ r .index < 24 ⌝ }
     {
-        let a = wide(self.index);
-        let b = wide(next.index);
+        let a = self.index as usize;
+        let b = next.index as usize;
         let index = THEN[24 * a + b];
         Code { index }
     }
 
-    // The code that undoes this one.
+    // The code that undoes this one. Classes 4 and 5 undo each other, the others themselves; X and Z go back to the
+    // letters from which they come, with the signs of these.
     pub fn inverse(self) -> Code
         requires { ⌜ self .index < 24 ⌝ }
         ensures { λ r. ⌜ (r .index ≡ codeOf (inverse (cliffordOf (self .index)))) × (r .index < 24) ⌝ }
     {
-        let a = wide(self.index);
-        let index = INVERSES[a];
-        Code { index }
+        let index = self.index;
+        let class = index / 4;
+        let back = 4 * (class ^ class / 4);
+        let x = image_minus(index, image_letter(back, Letter::X));
+        let z = image_minus(index, image_letter(back, Letter::Z));
+        Code {
+            index: back + 2 * (x as u8) + z as u8,
+        }
     }
 
     // The image of a letter.
@@ -117,12 +128,10 @@ impl Code {
         ensures { λ r. ⌜ r .letter ≡ image (cliffordOf (self .index)) letter ⌝ }
         ensures { λ r. ⌜ minus (r .minus) ≡ imagePhase (cliffordOf (self .index)) letter ⌝ }
     {
-        let c = wide(self.index);
-        let l = letter_number(letter);
-        let entry = IMAGES[4 * c + l];
+        let index = self.index;
         SignedLetter {
-            minus: 4 <= entry,
-            letter: letter_of(entry / 2 % 2 == 1, entry % 2 == 1),
+            minus: image_minus(index, letter),
+            letter: image_letter(index, letter),
         }
     }
 

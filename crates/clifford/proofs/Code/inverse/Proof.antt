@@ -1,27 +1,69 @@
-use mathlib.Core.Path.{_∙_, ap, subst, sym}
-use Prim.Native.Nat.{_<_}
 use native.Mathlib.Omega.{arith}
-use Rattle.clifford.specs.Clifford.{cliffordOf, codeOf, inverse}
-use Rattle.clifford.proofs.CliffordLaws.{codeOf-lt}
-use Rattle.clifford.proofs.TableRules.{inverse-entry, inverseTable}
+use Rattle.clifford.proofs.Digits.{back-lt, byte-lt, inverse-by-calls}
 use borrow.Author.Needs.{needs}
 use Rattle.clifford.proofs.Code.inverse.Statement.{statement}
 use Rattle.clifford.proofs.Code.inverse.Tie as tie
 
-wide-requires : tie.Need-wide-requires
-wide-requires c κs = search needs
+mul-back : tie.Need-mul-back
+mul-back c = omega (arith, back-lt (c .args .self .index) (c .pre))
 
-array-read-index : tie.Need-array-read-index
-array-read-index c = search needs
+image-letter-requires : tie.Need-image-letter-requires
+image-letter-requires c κs = omega (arith, back-lt (c .args .self .index) (c .pre))
 
-returns : tie.Need-returns
-unfolding inverseTable
-returns c =
-    let a = c .wide .result in
-    let e = inverse-entry a (omega arith) in (
-      e ∙ ap (λ u. codeOf (inverse (cliffordOf u))) (c .wide .ensures),
-      subst (λ v. v < 24) (sym e) (codeOf-lt (inverse (cliffordOf a))),
+image-minus-requires : tie.Need-image-minus-requires
+image-minus-requires c κs = search needs
+
+image-letter-requires-2 : tie.Need-image-letter-requires-2
+image-letter-requires-2 c κs =
+    omega (arith, back-lt (c .before .before .args .self .index) (c .before .before .pre))
+
+image-minus-requires-2 : tie.Need-image-minus-requires-2
+image-minus-requires-2 c κs = search needs
+
+cast-t7 : tie.Need-cast-t7
+cast-t7 c = search needs
+
+mul-t8 : tie.Need-mul-t8
+mul-t8 c = omega (arith, byte-lt (c .before .before .image-minus .result))
+
+add-t11 : tie.Need-add-t11
+add-t11 c =
+    let start = c .before .before .before .before in
+    omega (arith, back-lt (start .args .self .index) (start .pre), byte-lt (c .before .before .image-minus .result))
+
+cast-t12 : tie.Need-cast-t12
+cast-t12 c = search needs
+
+add-t13 : tie.Need-add-t13
+add-t13 c =
+    let start = c .before .before .before .before in
+    omega (
+      arith,
+      back-lt (start .args .self .index) (start .pre),
+      byte-lt (c .before .before .image-minus .result),
+      byte-lt (c .image-minus2 .result),
     )
 
+returns : tie.Need-returns
+returns c =
+    let first = c .before .before in
+    let start = first .before .before in
+    inverse-by-calls (start .args .self .index) (start .pre) (first .image-minus .result) (c .image-minus2 .result)
+    (first .before .image-letter .ensures) (first .image-minus .ensures) (c .before .image-letter2 .ensures)
+    (c .image-minus2 .ensures)
+
 pub inverse-spec : {M : Type 1} → statement M
-inverse-spec = tie.close (tie.spec wide-requires array-read-index returns)
+inverse-spec =
+    tie.close
+    (tie.spec
+    mul-back
+    image-letter-requires
+    image-minus-requires
+    image-letter-requires-2
+    image-minus-requires-2
+    cast-t7
+    mul-t8
+    add-t11
+    cast-t12
+    add-t13
+    returns)
