@@ -73,13 +73,6 @@ imagePhase k Y = i¹ +ᵖ ((minus (k .sx) +ᵖ minus (k .sz))
     +ᵖ letterPhase (imageX (k .class)) (imageZ (k .class)))
 imagePhase k Z = minus (k .sz)
 
--- a letter as a number, 2 z + x
-abbrev pub letterNumber : Letter → ℕ
-letterNumber I = 0
-letterNumber X = 1
-letterNumber Y = 3
-letterNumber Z = 2
-
 -- "C is 1 if the image of Z is X or Y, and D is 1 if the image of X is X or Y"
 abbrev pub bitC : Clifford → Bool
 bitC k = xBit (image k Z)
