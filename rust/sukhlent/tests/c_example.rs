@@ -32,6 +32,11 @@ fn bell_prints_its_stored_output() {
 }
 
 #[test]
+fn cut_prints_its_stored_output() {
+    assert_prints_its_stored_output("cut");
+}
+
+#[test]
 fn in_place_prints_its_stored_output() {
     assert_prints_its_stored_output("in_place");
 }
