@@ -7,25 +7,76 @@ use lib.Bits.{bitXor}
 use lib.Dec.{T, eqb, leb, lit<, ltb}
 use mir.Val.{boolByte}
 use borrow.Author.Tests.{eqb-true, ltb-true}
+use Rattle.pauli.proofs.PauliLaws.{letter-bits}
 use Rattle.pauli.proofs.PhaseLaws.{samePhase→≡, sign-minus}
-use Rattle.pauli.specs.Pauli.{minus, samePhase, signBit}
+use Rattle.pauli.specs.Pauli.{letter, minus, samePhase, signBit, xBit, zBit}
 use Rattle.pauli.specs.declared.Letter.{Letter}
-use Rattle.pauli.specs.declared.Letter.the-variants.{X, Y, Z}
+use Rattle.pauli.specs.declared.Letter.the-variants.{I, X, Y, Z}
+use Rattle.words.proofs.Finite.{unequal, ⊕-zero}
 use Rattle.words.proofs.SearchLaws.{every-at}
-use Rattle.words.specs.Bits.{isOdd}
+use Rattle.words.specs.Bits.{isOdd, _⊕_}
 use Rattle.words.specs.Search.{every}
 use Rattle.clifford.proofs.CliffordLaws.{codeOf-lt, inverse-is, undone}
-use Rattle.clifford.specs.Clifford.{cliffordOf, codeOf, image, imagePhase, inverse}
+use Rattle.clifford.specs.Clifford.{
+  Clifford,
+  cliffordOf,
+  codeOf,
+  image,
+  imagePhase,
+  imageX,
+  imageZ,
+  inverse,
+}
 
--- ---- the sign of the image of Y, by one test over the 24 codes
-abbrev yMinus : ℕ → Bool
-yMinus c = not (Bool·beq (not (Bool·beq (isOdd (c / 2)) (isOdd c))) (leb 4 c && ltb c 16))
+-- ---- the letter of an image, bit by bit: that of X where the letter has an X, times that of Z where it has a Z
+abbrev imageBit : Letter → Bool → Bool → Bool
+imageBit l a b = (xBit l && a) ⊕ (zBit l && b)
 
-pub y-minus : (c : ℕ) → c < 24 → minus (yMinus c) ≡ imagePhase (cliffordOf c) Y
+image-bits : (k : Clifford) (l : Letter) →
+    letter (imageBit l (zBit (imageX (k .class))) (zBit (imageZ (k .class))))
+    (imageBit l (xBit (imageX (k .class))) (xBit (imageZ (k .class)))) ≡ image k l
+image-bits k I = refl
+image-bits k X =
+    ap₂ letter (⊕-zero (zBit (imageX (k .class)))) (⊕-zero (xBit (imageX (k .class)))) ∙ letter-bits _
+image-bits k Y = refl
+image-bits k Z = letter-bits (imageZ (k .class))
+
+-- .. from what the code's calls answer
+abbrev codedBit : Bool → Bool → Bool → Bool → Bool
+codedBit x z a b = not (Bool·beq (x && a) (z && b))
+
+pub letter-by-calls : (k : Clifford) (l : Letter) (x z za zb xa xb : Bool) {a b r : Letter} →
+    a ≡ imageX (k .class) → b ≡ imageZ (k .class) → x ≡ xBit l → z ≡ zBit l →
+    za ≡ zBit a → zb ≡ zBit b → xa ≡ xBit a → xb ≡ xBit b →
+    r ≡ letter (codedBit x z za zb) (codedBit x z xa xb) → r ≡ image k l
+letter-by-calls k l x z za zb xa xb ea eb ex ez eza ezb exa exb er =
+    er ∙ ap₂ letter (bit-is za zb (eza ∙ ap zBit ea) (ezb ∙ ap zBit eb))
+    (bit-is xa xb (exa ∙ ap xBit ea) (exb ∙ ap xBit eb))
+    ∙ image-bits k l
+  where
+    bit-is : (u v : Bool) {u′ v′ : Bool} → u ≡ u′ → v ≡ v′ → codedBit x z u v ≡ imageBit l u′ v′
+    bit-is u v eu ev = unequal (x && u) (z && v) ∙ ap₂ _⊕_ (ap₂ _&&_ ex eu) (ap₂ _&&_ ez ev)
+
+-- ---- the sign of an image, by one test over the 24 codes for each letter
+abbrev imageMinus : ℕ → Bool → Bool → Bool
+imageMinus c x z =
+    not (Bool·beq (not (Bool·beq (x && isOdd (c / 2)) (z && isOdd c))) ((x && z) && (leb 4 c && ltb c 16)))
+
+abbrev minusHolds : Letter → ℕ → Bool
+minusHolds l c = samePhase (minus (imageMinus c (xBit l) (zBit l))) (imagePhase (cliffordOf c) l)
+
+minus-holds : (l : Letter) → every 24 (minusHolds l) ≡ true
 unfolding every
-y-minus c l =
-    samePhase→≡ _ _
-    (subst T (sym (every-at 24 (λ c. samePhase (minus (yMinus c)) (imagePhase (cliffordOf c) Y)) refl c l)) tt)
+minus-holds I = refl
+minus-holds X = refl
+minus-holds Y = refl
+minus-holds Z = refl
+
+pub image-minus : (c : ℕ) → c < 24 → (l : Letter) (x z : Bool) → x ≡ xBit l → z ≡ zBit l →
+    minus (imageMinus c x z) ≡ imagePhase (cliffordOf c) l
+image-minus c h l x z ex ez =
+    ap₂ (λ x z. minus (imageMinus c x z)) ex ez
+    ∙ samePhase→≡ _ _ (subst T (sym (every-at 24 (minusHolds l) (minus-holds l) c h)) tt)
 
 -- ---- the inverse
 -- its class, as the code of that class without signs
@@ -43,9 +94,13 @@ backWith c s t = back c + 2 * boolByte s + boolByte t
 abbrev signOf : ℕ → Letter → Bool
 signOf c l = signBit (imagePhase (cliffordOf c) l)
 
--- the signs of the letters to which X and Z go back, by one test over the 24 codes
+-- the letter to which X or Z goes back, from which it came
+abbrev cameFrom : ℕ → Letter → Letter
+cameFrom c l = image (cliffordOf (back c)) l
+
+-- with the signs of these it is the inverse, by one test over the 24 codes
 abbrev inverseCode : ℕ → ℕ
-inverseCode c = backWith c (signOf c (image (cliffordOf (back c)) X)) (signOf c (image (cliffordOf (back c)) Z))
+inverseCode c = backWith c (signOf c (cameFrom c X)) (signOf c (cameFrom c Z))
 
 inverse-code : (c : ℕ) → c < 24 → inverseCode c ≡ codeOf (inverse (cliffordOf c))
 unfolding every
@@ -56,8 +111,8 @@ inverse-code c l =
 
 -- .. from what the code's calls answer
 pub inverse-by-calls : (c : ℕ) → c < 24 → (s t : Bool) {l m : Letter} →
-    l ≡ image (cliffordOf (back c)) X → minus s ≡ imagePhase (cliffordOf c) l →
-    m ≡ image (cliffordOf (back c)) Z → minus t ≡ imagePhase (cliffordOf c) m →
+    l ≡ cameFrom c X → minus s ≡ imagePhase (cliffordOf c) l →
+    m ≡ cameFrom c Z → minus t ≡ imagePhase (cliffordOf c) m →
     (backWith c s t ≡ codeOf (inverse (cliffordOf c))) × (backWith c s t < 24)
 inverse-by-calls c h s t el es em et =
     let e = ap₂ (backWith c) (sign-is s el es) (sign-is t em et) ∙ inverse-code c h in

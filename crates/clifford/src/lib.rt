@@ -13,7 +13,7 @@ use words::put_bit;
 ghost use mathlib.Core.Path.{_≡_};
 ghost use Prim.Native.Nat.{ℕ, _<_, _≤_};
 ghost use lib.ListN.{getD, length};
-ghost use Rattle.pauli.specs.Pauli.{letterProduct, minus};
+ghost use Rattle.pauli.specs.Pauli.{minus};
 ghost use Rattle.pauli.specs.Rows.{generatorOf};
 ghost use Rattle.clifford.specs.Clifford.{bitC, bitD, classOf, cliffordOf, codeOf, imageX, imageZ};
 ghost use Rattle.clifford.specs.Clifford.{image, imagePhase, inverse, then};
@@ -43,43 +43,33 @@ pub fn image_letters(class: u8) -> ImageLetters
     }
 }
 
-// The product of two letters, its phase dropped.
-fn product(a: Letter, b: Letter) -> Letter
-    ensures { λ r. ⌜ r ≡ letterProduct a b ⌝ }
-{
-    letter_of(z_bit(a) != z_bit(b), x_bit(a) != x_bit(b))
-}
-
-// The letter to which a code sends a letter: Y goes to the product of those of X and Z.
+// The letter to which a code sends a letter, bit by bit: the image of X where the letter has an X, times that of Z where
+// it has a Z.
 fn image_letter(index: u8, letter: Letter) -> Letter
     requires { ⌜ index < 24 ⌝ }
     ensures { λ r. ⌜ r ≡ image (cliffordOf index) letter ⌝ }
 {
     let letters = image_letters(index / 4);
-    let x = letters.x;
-    let z = letters.z;
-    match letter {
-        Letter::I => letter,
-        Letter::X => x,
-        Letter::Y => product(x, z),
-        Letter::Z => z,
-    }
+    let to_x = letters.x;
+    let to_z = letters.z;
+    let x = x_bit(letter);
+    let z = z_bit(letter);
+    letter_of(
+        (x & z_bit(to_x)) != (z & z_bit(to_z)),
+        (x & x_bit(to_x)) != (z & x_bit(to_z)),
+    )
 }
 
-// Whether the image of a letter is negative. That of Y has the signs of X and Z, and one more in classes 1 to 3: there i
-// times the product of the two letters is negative.
+// Whether the image of a letter is negative. That of Y, i times the image of X times the image of Z, has both signs, and
+// one more in classes 1 to 3: these exchange two letters, as XZ is -iY and YZ is iX.
 fn image_minus(index: u8, letter: Letter) -> bool
     requires { ⌜ index < 24 ⌝ }
     ensures { λ r. ⌜ minus r ≡ imagePhase (cliffordOf index) letter ⌝ }
 {
-    let x = index / 2 % 2 == 1;
-    let z = index % 2 == 1;
-    match letter {
-        Letter::I => false,
-        Letter::X => x,
-        Letter::Y => (x != z) != ((4 <= index) & (index < 16)),
-        Letter::Z => z,
-    }
+    let x = x_bit(letter);
+    let z = z_bit(letter);
+    let exchange = (4 <= index) & (index < 16);
+    ((x & (index / 2 % 2 == 1)) != (z & (index % 2 == 1))) != (x & z & exchange)
 }
 
 // The image of a letter: a sign and a letter.

@@ -1,6 +1,5 @@
-use mathlib.Core.Path.{_∙_, ap, ap₂, sym}
-use Rattle.pauli.specs.Pauli.{letterProduct}
-use Rattle.clifford.specs.Clifford.{cliffordOf, image}
+use Rattle.clifford.specs.Clifford.{cliffordOf}
+use Rattle.clifford.proofs.Digits.{letter-by-calls}
 use borrow.Author.Needs.{needs}
 use Rattle.clifford.proofs.image_letter.Statement.{statement}
 use Rattle.clifford.proofs.image_letter.Tie as tie
@@ -8,54 +7,52 @@ use Rattle.clifford.proofs.image_letter.Tie as tie
 image-letters-requires : tie.Need-image-letters-requires
 image-letters-requires c κs = search needs
 
-enum-told : tie.Need-enum-told
-enum-told c = search needs
+x-bit-requires : tie.Need-x-bit-requires
+x-bit-requires c κs = search needs
 
-enum-told-2 : tie.Need-enum-told-2
-enum-told-2 c = search needs
+z-bit-requires : tie.Need-z-bit-requires
+z-bit-requires c κs = search needs
 
-enum-told-3 : tie.Need-enum-told-3
-enum-told-3 c = search needs
+z-bit-requires-2 : tie.Need-z-bit-requires-2
+z-bit-requires-2 c κs = search needs
 
-product-requires : tie.Need-product-requires
-product-requires c κs = search needs
+z-bit-requires-3 : tie.Need-z-bit-requires-3
+z-bit-requires-3 c κs = search needs
 
-enum-told-4 : tie.Need-enum-told-4
-enum-told-4 c = search needs
+x-bit-requires-2 : tie.Need-x-bit-requires-2
+x-bit-requires-2 c κs = search needs
+
+x-bit-requires-3 : tie.Need-x-bit-requires-3
+x-bit-requires-3 c κs = search needs
+
+letter-of-requires : tie.Need-letter-of-requires
+letter-of-requires c κs = search needs
 
 returns : tie.Need-returns
-returns c = search needs
-
-returns-2 : tie.Need-returns-2
-returns-2 c =
-    let called = c .before .before in
-    called .image-letters .ensures .0
-    ∙ ap (image (cliffordOf (called .before .args .index))) (sym (c .enum-told2 .given .1))
-
-returns-3 : tie.Need-returns-3
-returns-3 c =
-    let called = c .before .before .before in
-    c .product .ensures
-    ∙ ap₂ letterProduct (called .image-letters .ensures .0) (called .image-letters .ensures .1)
-    ∙ ap (image (cliffordOf (called .before .args .index))) (sym (c .before .enum-told3 .given .1))
-
-returns-4 : tie.Need-returns-4
-returns-4 c =
-    let called = c .before .before in
-    called .image-letters .ensures .1
-    ∙ ap (image (cliffordOf (called .before .args .index))) (sym (c .enum-told4 .given .1))
+returns c =
+    let xb = c .before in
+    let xa = xb .before in
+    let zb = xa .before in
+    let za = zb .before in
+    let z = za .before in
+    let x = z .before in
+    let letters = x .before in
+    let a = letters .before .args in
+    letter-by-calls (cliffordOf (a .index)) (a .letter) (x .x-bit .result) (z .z-bit .result) (za .z-bit2 .result)
+    (zb .z-bit3 .result) (xa .x-bit2 .result) (xb .x-bit3 .result) (letters .image-letters .ensures .0)
+    (letters .image-letters .ensures .1) (x .x-bit .ensures) (z .z-bit .ensures) (za .z-bit2 .ensures)
+    (zb .z-bit3 .ensures) (xa .x-bit2 .ensures) (xb .x-bit3 .ensures) (c .letter-of .ensures)
 
 pub image-letter-spec : {M : Type 1} → statement M
 image-letter-spec =
     tie.close
     (tie.spec
     image-letters-requires
-    enum-told
-    enum-told-2
-    enum-told-3
-    product-requires
-    enum-told-4
-    returns
-    returns-2
-    returns-3
-    returns-4)
+    x-bit-requires
+    z-bit-requires
+    z-bit-requires-2
+    z-bit-requires-3
+    x-bit-requires-2
+    x-bit-requires-3
+    letter-of-requires
+    returns)
