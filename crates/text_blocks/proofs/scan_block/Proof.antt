@@ -10,8 +10,8 @@ use borrow.Author.Tests.{ltb-true}
 use borrow.Author.Needs.{needs}
 use Rattle.text.specs.Scan.{reading, fed}
 use Rattle.text.proofs.Feeding.{turn-stored, turn-kept}
-use Rattle.text_scan.proofs.scan_block.Statement.{statement}
-use Rattle.text_scan.proofs.scan_block.Tie as tie
+use Rattle.text_blocks.proofs.scan_block.Statement.{statement}
+use Rattle.text_blocks.proofs.scan_block.Tie as tie
 
 abbrev Inv-loop : tie.InvT-loop
 Inv-loop block signs₀ z₀ x₀ s₀ i₀ signs z x s i = (i ≤ length block)

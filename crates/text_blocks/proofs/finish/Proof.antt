@@ -1,7 +1,7 @@
 use borrow.Author.Needs.{needs}
 use Rattle.text.specs.Scan.{verdict}
-use Rattle.text_scan.proofs.finish.Statement.{statement}
-use Rattle.text_scan.proofs.finish.Tie as tie
+use Rattle.text_blocks.proofs.finish.Statement.{statement}
+use Rattle.text_blocks.proofs.finish.Tie as tie
 
 at-sign-requires : tie.Need-at-sign-requires
 at-sign-requires c κs = search needs

@@ -1,7 +1,7 @@
 use mathlib.Core.Path.{refl}
 use Rattle.text.specs.Scan.{begin}
-use Rattle.text_scan.proofs.start.Statement.{statement}
-use Rattle.text_scan.proofs.start.Tie as tie
+use Rattle.text_blocks.proofs.start.Statement.{statement}
+use Rattle.text_blocks.proofs.start.Tie as tie
 
 returns : tie.Need-returns
 unfolding begin
