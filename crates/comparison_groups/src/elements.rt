@@ -1,5 +1,5 @@
 // Elements of the group of the second record: found by their x bits once the record's codes are undone.
-use clifford::send;
+use clifford_rows::send;
 use pauli::Generator;
 use pauli::letters_minus;
 use words::has;

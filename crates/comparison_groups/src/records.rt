@@ -1,6 +1,6 @@
 // A record as the search takes it: its generators, and the codes that undo its codes.
 use clifford::Code;
-use clifford::send;
+use clifford_rows::send;
 use pauli::Generator;
 use words::single;
 ghost use mathlib.Core.Path.{_≡_};

@@ -1,5 +1,5 @@
 // The tables of what every choice that works must satisfy, and the first test.
-use clifford::send;
+use clifford_rows::send;
 use comparison::Assignment;
 use comparison::Equation;
 use comparison_equations::broken;

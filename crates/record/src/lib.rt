@@ -2,7 +2,7 @@
 use buffers::bad_count;
 use buffers::reaches;
 use buffers::strays;
-use clifford::send;
+use clifford_rows::send;
 use pauli::Generator;
 use words::has;
 use words::put_bit;

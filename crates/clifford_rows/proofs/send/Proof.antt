@@ -3,11 +3,11 @@ use Prim.Native.Nat.{_-_, _≤_, zero-le}
 use native.Mathlib.Omega.{arith}
 use lib.ListN.{length}
 use Rattle.pauli.specs.Rows.{generatorOf}
 use Rattle.clifford.specs.Vectors.{act}
 use Rattle.clifford.proofs.Sending.{codesBelow, sent-all, sent-more, sent-none}
 use borrow.Author.Needs.{needs}
-use Rattle.clifford.proofs.send.Statement.{statement}
-use Rattle.clifford.proofs.send.Tie as tie
+use Rattle.clifford_rows.proofs.send.Statement.{statement}
+use Rattle.clifford_rows.proofs.send.Tie as tie
 
 abbrev Inv-loop : tie.InvT-loop
 Inv-loop codes sent₀ q₀ sent q =

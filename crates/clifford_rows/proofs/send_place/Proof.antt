@@ -1,9 +1,9 @@
 use native.Mathlib.Omega.{arith}
 use Rattle.clifford.specs.Clifford.{cliffordOf}
 use Rattle.clifford.proofs.Sending.{sent-by-calls}
 use borrow.Author.Needs.{needs}
-use Rattle.clifford.proofs.send_place.Statement.{statement}
-use Rattle.clifford.proofs.send_place.Tie as tie
+use Rattle.clifford_rows.proofs.send_place.Statement.{statement}
+use Rattle.clifford_rows.proofs.send_place.Tie as tie
 
 has-requires : tie.Need-has-requires
 has-requires c κs = search needs
