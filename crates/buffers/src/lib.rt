@@ -1,4 +1,4 @@
-// The tests of lent buffers that several lines of the refusals share.
+// The tests of lent buffers that several lines of the refusals share, copies into them, and signs as they are lent.
 mod copying;
 
 pub use copying::copy_bytes;
@@ -10,6 +10,7 @@ ghost use mathlib.Core.Path.{_≡_};
 ghost use Prim.Native.Nat.{_^_, _≤_};
 ghost use lib.Dec.{eqb};
 ghost use Rattle.buffers.specs.Refusals.{badCount, reaching};
+ghost use Rattle.words.specs.Bits.{digit};
 
 // Line 2: n is 0 or above 64.
 pub fn bad_count(n: u64) -> bool
@@ -52,4 +53,11 @@ pub fn strays(buffer: &[u64], n: usize) -> bool
         i += 1;
     }
     false
+}
+
+// A sign as it is lent: 1 means minus.
+pub fn sign_digit(minus: bool) -> u8
+    ensures { λ r. ⌜ r ≡ digit minus ⌝ }
+{
+    if minus { 1 } else { 0 }
 }

@@ -1,6 +1,6 @@
 // The public call on a cut of a record's vertices into two sides.
 use cut_rank::cut_rank;
-use record::record_refusal;
+use record_checks::record_refusal;
 use words::stray;
 ghost use mathlib.Core.Path.{_≡_};
 ghost use Rattle.buffers.specs.Refusals.{firstFitting};

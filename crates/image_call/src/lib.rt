@@ -4,7 +4,7 @@ use buffers::copy_list;
 use buffers::copy_words;
 use buffers::other_than;
 use image_answer::image_answer;
-use record::record_refusal;
+use record_checks::record_refusal;
 ghost use Rattle.image_call.specs.Images.{Imaged};
 
 // The image graph, its signs, and the list of the vertices complemented.

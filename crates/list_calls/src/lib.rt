@@ -1,7 +1,7 @@
 // The public calls on generator lists and records: check, reduce, expand.
 use buffers::other_than;
-use record::expand_into;
-use record::record_refusal;
+use record_checks::record_refusal;
+use record_expansion::expand_into;
 use reduction::reduce_list;
 use stabilizer::early_refusal;
 ghost use Rattle.list_calls.specs.Calls.{CheckCall, ExpandCall, ReduceCall};

@@ -2,7 +2,7 @@
 use operations::compose;
 use operations_tableaus::cz_tableau;
 use operations_tableaus::reduce_rows;
-use record::expand_tableau;
+use record_expansion::expand_tableau;
 ghost use mathlib.Core.Logic.{_≢_};
 ghost use mathlib.Core.Path.{_≡_};
 ghost use Prim.Native.Nat.{ℕ, _<_};

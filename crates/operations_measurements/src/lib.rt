@@ -6,7 +6,7 @@ use operations_tableaus::reduce_rows;
 use pauli::Letter;
 use pauli::x_bit;
 use pauli::z_bit;
-use record::expand_tableau;
+use record_expansion::expand_tableau;
 ghost use mathlib.Core.Bool.{cond};
 ghost use mathlib.Core.Path.{_≡_};
 ghost use Prim.Native.Nat.{ℕ, _<_, _≤_};

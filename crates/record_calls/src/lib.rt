@@ -1,7 +1,7 @@
 // The public calls that rewrite a lent record in place: their refusal, and gate and cz.
 use operations_gates::cz_record;
 use operations_gates::gate_record;
-use record::record_refusal;
+use record_checks::record_refusal;
 ghost use mathlib.Core.Path.{_≡_};
 ghost use Rattle.buffers.specs.Refusals.{firstFitting};
 ghost use Rattle.operations.specs.Steps.{controlledZ, gate, inPlaceLines};

@@ -1,7 +1,7 @@
 use borrow.Author.Needs.{needs}
 use Rattle.record.proofs.ExpandedRows.{sent-row}
-use Rattle.record.proofs.expanded_row.Statement.{statement}
-use Rattle.record.proofs.expanded_row.Tie as tie
+use Rattle.record_expansion.proofs.expanded_row.Statement.{statement}
+use Rattle.record_expansion.proofs.expanded_row.Tie as tie
 
 mul-t5 : tie.Need-mul-t5
 mul-t5 c = search needs

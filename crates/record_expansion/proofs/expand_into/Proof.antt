@@ -1,11 +1,11 @@
 use mathlib.Core.Path.{_∙_}
 use Prim.Native.Nat.{_-_}
 use borrow.Author.Needs.{needs}
 use Rattle.record.specs.Lent.{LentRecord, heldRows}
 use Rattle.record.proofs.ExpandedBuffers.{BuffersMade, all-made, none-made, one-made}
 use Rattle.record.proofs.ExpandedRows.{held-row, held-within}
-use Rattle.record.proofs.expand_into.Statement.{statement}
-use Rattle.record.proofs.expand_into.Tie as tie
+use Rattle.record_expansion.proofs.expand_into.Statement.{statement}
+use Rattle.record_expansion.proofs.expand_into.Tie as tie
 
 abbrev Inv-loop : tie.InvT-loop
 Inv-loop n neighbours codes signs₀ z₀ x₀ j₀ signs z x j =

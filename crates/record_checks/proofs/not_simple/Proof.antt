@@ -4,9 +4,9 @@ use Prim.Native.Nat.{_-_}
 use native.Mathlib.Omega.{arith}
 use borrow.Author.Needs.{needs}
 use Rattle.stabilizer.proofs.Scanning.{NoneSoFar, found-at, found-nowhere, none-at, none-at-first}
 use Rattle.record.proofs.SimpleLines.{not-simple-words, notSimpleAt}
-use Rattle.record.proofs.not_simple.Statement.{statement}
-use Rattle.record.proofs.not_simple.Tie as tie
+use Rattle.record_checks.proofs.not_simple.Statement.{statement}
+use Rattle.record_checks.proofs.not_simple.Tie as tie
 
 abbrev Inv-loop : tie.InvT-loop
 Inv-loop n neighbours i₀ i = NoneSoFar n (notSimpleAt n neighbours) i

@@ -1,11 +1,11 @@
 use mathlib.Core.Path.{_∙_}
 use Prim.Native.Nat.{_-_}
 use borrow.Author.Needs.{needs}
 use Rattle.record.specs.Lent.{LentRecord, heldRows}
 use Rattle.record.proofs.ExpandedRows.{held-row}
 use Rattle.record.proofs.ExpandedTableau.{RowsMade, all-rows-made, no-row-made, row-made}
-use Rattle.record.proofs.expand_tableau.Statement.{statement}
-use Rattle.record.proofs.expand_tableau.Tie as tie
+use Rattle.record_expansion.proofs.expand_tableau.Statement.{statement}
+use Rattle.record_expansion.proofs.expand_tableau.Tie as tie
 
 abbrev Inv-loop : tie.InvT-loop
 Inv-loop n neighbours codes signs rows₀ word₀ j₀ rows word j =

@@ -2,16 +2,16 @@ use mathlib.Core.Path.{refl}
 use borrow.Author.Needs.{needs}
 use Rattle.stabilizer.proofs.EarlyLines.{either-says, says}
 use Rattle.stabilizer.proofs.SharedTests.{counted}
 use Rattle.record.specs.Lent.{LentRecord, recordCodes, recordLengths}
 use Rattle.record.proofs.RecordLines.{record-not-refused, record-refused-2, record-refused-4}
 use Rattle.record.proofs.RecordLines.{
   record-refused-5,
   record-refused-6,
   record-refused-7,
   simple-tested,
 }
-use Rattle.record.proofs.record_refusal.Statement.{statement}
-use Rattle.record.proofs.record_refusal.Tie as tie
+use Rattle.record_checks.proofs.record_refusal.Statement.{statement}
+use Rattle.record_checks.proofs.record_refusal.Tie as tie
 
 bad-count-requires : tie.Need-bad-count-requires
 bad-count-requires c κs = search needs

@@ -2,9 +2,9 @@ use Prim.Native.Nat.{_-_}
 use native.Mathlib.Omega.{arith}
 use borrow.Author.Needs.{needs}
 use Rattle.stabilizer.proofs.Scanning.{NoneSoFar, found-at, found-nowhere, none-at, none-at-first}
 use Rattle.record.proofs.SimpleLines.{differ, oneEnded}
-use Rattle.record.proofs.one_ended.Statement.{statement}
-use Rattle.record.proofs.one_ended.Tie as tie
+use Rattle.record_checks.proofs.one_ended.Statement.{statement}
+use Rattle.record_checks.proofs.one_ended.Tie as tie
 
 abbrev Inv-loop : tie.InvT-loop
 Inv-loop n neighbours i j₀ j = NoneSoFar n (oneEnded neighbours i) j
