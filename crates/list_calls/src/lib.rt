@@ -3,7 +3,7 @@ use buffers::other_than;
 use record_checks::record_refusal;
 use record_expansion::expand_into;
 use reduction::reduce_list;
-use stabilizer::early_refusal;
+use stabilizer_checks::early_refusal;
 ghost use Rattle.list_calls.specs.Calls.{CheckCall, ExpandCall, ReduceCall};
 
 // Lines 2, 4, 5, 6, 9 and 10 of a generator list.

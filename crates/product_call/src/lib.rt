@@ -1,6 +1,6 @@
 // The public call on products of rows, which need neither commute nor be independent.
 use pauli::Row;
-use stabilizer::form_refusal;
+use stabilizer_checks::form_refusal;
 use words::has;
 use words::stray;
 ghost use mathlib.Core.Path.{_≡_};

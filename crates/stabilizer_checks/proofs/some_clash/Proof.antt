@@ -2,10 +2,10 @@ use mathlib.Core.Path.{_∙_}
 use Prim.Native.Nat.{_-_}
 use native.Mathlib.Omega.{arith}
 use borrow.Author.Needs.{needs}
 use Rattle.stabilizer.proofs.Pairs.{clashesEarlier, clashing-words}
 use Rattle.stabilizer.proofs.Scanning.{NoneSoFar, found-at, found-nowhere, none-at, none-at-first}
-use Rattle.stabilizer.proofs.some_clash.Statement.{statement}
-use Rattle.stabilizer.proofs.some_clash.Tie as tie
+use Rattle.stabilizer_checks.proofs.some_clash.Statement.{statement}
+use Rattle.stabilizer_checks.proofs.some_clash.Tie as tie
 
 abbrev Inv-loop : tie.InvT-loop
 Inv-loop n z x i₀ i = NoneSoFar n (clashesEarlier z x) i

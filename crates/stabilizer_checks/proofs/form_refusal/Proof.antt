@@ -10,9 +10,9 @@ use Rattle.stabilizer.proofs.EarlyLines.{
   refused-6,
   says,
 }
 use Rattle.stabilizer.proofs.SharedTests.{counted}
-use Rattle.stabilizer.proofs.form_refusal.Statement.{statement}
-use Rattle.stabilizer.proofs.form_refusal.Tie as tie
+use Rattle.stabilizer_checks.proofs.form_refusal.Statement.{statement}
+use Rattle.stabilizer_checks.proofs.form_refusal.Tie as tie
 
 bad-count-requires : tie.Need-bad-count-requires
 bad-count-requires c κs = search needs

@@ -9,8 +9,8 @@ use Rattle.stabilizer.proofs.EarlyLines.{
   refused-form,
   says,
 }
-use Rattle.stabilizer.proofs.early_refusal.Statement.{statement}
-use Rattle.stabilizer.proofs.early_refusal.Tie as tie
+use Rattle.stabilizer_checks.proofs.early_refusal.Statement.{statement}
+use Rattle.stabilizer_checks.proofs.early_refusal.Tie as tie
 
 form-refusal-requires : tie.Need-form-refusal-requires
 form-refusal-requires c κs = search needs

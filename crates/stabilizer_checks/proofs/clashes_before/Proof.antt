@@ -1,10 +1,10 @@
 use Prim.Native.Nat.{_-_}
 use native.Mathlib.Omega.{arith}
 use borrow.Author.Needs.{needs}
 use Rattle.stabilizer.proofs.Pairs.{clashesWith}
 use Rattle.stabilizer.proofs.Scanning.{NoneSoFar, found-at, found-nowhere, none-at, none-at-first}
-use Rattle.stabilizer.proofs.clashes_before.Statement.{statement}
-use Rattle.stabilizer.proofs.clashes_before.Tie as tie
+use Rattle.stabilizer_checks.proofs.clashes_before.Statement.{statement}
+use Rattle.stabilizer_checks.proofs.clashes_before.Tie as tie
 
 abbrev Inv-loop : tie.InvT-loop
 Inv-loop z x i j₀ j = NoneSoFar i (clashesWith z x i) j
