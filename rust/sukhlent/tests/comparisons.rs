@@ -1,11 +1,9 @@
 //! Comparison: the examples of document 01, states on few qubits against all choices, and images
 //! of states on up to 20.
 
-mod common;
-
-use common::local::{complemented, numbered_graph, sent};
-use common::reference::reduced;
-use common::{list, mixed, parsed as of, random_rows, rows, Random};
+use crate::common::local::{complemented, numbered_graph, sent};
+use crate::common::reference::reduced;
+use crate::common::{list, mixed, parsed as of, random_rows, rows, Random};
 use std::collections::HashMap;
 use sukhlent::{compare, expand, Comparison, GeneratorList, Record, Refusal};
 

@@ -1,10 +1,8 @@
 //! Damaged cuts: every number, pairs of faults, and every stray bit of a side.
 
-mod common;
-
-use common::damage::{damage_record, each_fault, each_pair, record_faults, Fault};
-use common::reference::cut_rank;
-use common::{random_record, Random, RecordCall, Side};
+use crate::common::damage::{damage_record, each_fault, each_pair, record_faults, Fault};
+use crate::common::reference::cut_rank;
+use crate::common::{random_record, Random, RecordCall, Side};
 
 type Call = RecordCall<Side>;
 

@@ -1,11 +1,9 @@
 //! Cuts: known ranks, plain elimination on up to 64 vertices, state vectors on few, and what keeps
 //! the number.
 
-mod common;
-
-use common::reference::cut_rank;
-use common::vectors::state_of;
-use common::{random_record, Random, RecordCall};
+use crate::common::reference::cut_rank;
+use crate::common::vectors::state_of;
+use crate::common::{random_record, Random, RecordCall};
 use simulator::{Complex, State, TOLERANCE};
 use sukhlent::{complement, cut, cz, gate, pivot, Record};
 

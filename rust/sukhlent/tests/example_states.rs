@@ -1,10 +1,8 @@
 //! The examples of document 01 that are about states, and the comparisons of one qubit, followed on
 //! state vectors.
 
-mod common;
-
-use common::vectors::{assert_stabilized, matrix, signed_rows, state_of};
-use common::{parsed, rows};
+use crate::common::vectors::{assert_stabilized, matrix, signed_rows, state_of};
+use crate::common::{parsed, rows};
 use simulator::{Matrix2, Row, State};
 use sukhlent::{check, compare, expand, measure, reduce};
 use sukhlent::{GeneratorList, Measured, Pauli, Record, Refusal};

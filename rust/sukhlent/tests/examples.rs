@@ -1,8 +1,6 @@
 //! The examples of document 01.
 
-mod common;
-
-use common::parsed as of;
+use crate::common::parsed as of;
 use sukhlent::{check, expand, measure, reduce, GeneratorList, Measured, Record, Refusal};
 
 fn record(neighbours: &[u64], codes: &[u8]) -> Record {

@@ -1,9 +1,7 @@
 //! Every list and every record on few qubits.
 
-mod common;
-
-use common::reference::{expanded, list_refusal, reduced};
-use common::{ListCall, RecordCall};
+use crate::common::reference::{expanded, list_refusal, reduced};
+use crate::common::{ListCall, RecordCall};
 use std::collections::HashMap;
 use sukhlent::{raw, GeneratorList, Record};
 

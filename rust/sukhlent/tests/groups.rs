@@ -1,8 +1,6 @@
 //! The record depends on the group alone.
 
-mod common;
-
-use common::{list, mixed, random_rows, Random};
+use crate::common::{list, mixed, random_rows, Random};
 use sukhlent::{expand, reduce, Record};
 
 /// Whether a record is a reduced one: its codes are among 0, 2, 4, 6, 8, 10, and a vertex with 8

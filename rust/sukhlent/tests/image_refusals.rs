@@ -1,10 +1,8 @@
 //! Damaged images: every number, pairs of faults, and what an accepted one leaves alone.
 
-mod common;
-
-use common::damage::{damage_record, each_fault, each_pair, record_faults, Fault};
-use common::local::complemented_record;
-use common::{random_record, ImageLengths, Random, RecordCall};
+use crate::common::damage::{damage_record, each_fault, each_pair, record_faults, Fault};
+use crate::common::local::complemented_record;
+use crate::common::{random_record, ImageLengths, Random, RecordCall};
 use sukhlent::{image, Record, Refusal};
 
 type Call = RecordCall<ImageLengths>;

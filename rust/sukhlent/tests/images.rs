@@ -1,12 +1,10 @@
 //! Graph images: the examples of document 01, every graph of few vertices against state vectors,
 //! and signed graphs on up to 64 vertices.
 
-mod common;
-
-use common::local::{complemented, complemented_record, numbered_graph};
-use common::reference::reduced;
-use common::vectors::state_of;
-use common::Random;
+use crate::common::local::{complemented, complemented_record, numbered_graph};
+use crate::common::reference::reduced;
+use crate::common::vectors::state_of;
+use crate::common::Random;
 use simulator::{Row, State};
 use sukhlent::{expand, image, GeneratorList, Image, Record, Refusal};
 

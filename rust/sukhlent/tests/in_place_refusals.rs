@@ -1,11 +1,9 @@
 //! Damaged calls on a record in place: every number, pairs of faults, and every wrong argument.
 
-mod common;
-
-use common::damage::{damage_record, each_fault, each_pair, flip, record_faults, Fault};
-use common::reference::expanded;
-use common::seeded::pauli::{X, Y, Z};
-use common::{images, random_record, rows, Operation, Pauli, Random, RecordCall};
+use crate::common::damage::{damage_record, each_fault, each_pair, flip, record_faults, Fault};
+use crate::common::reference::expanded;
+use crate::common::seeded::pauli::{X, Y, Z};
+use crate::common::{images, random_record, rows, Operation, Pauli, Random, RecordCall};
 use sukhlent::Record;
 use Operation::{Complement, Cz, Gate, Measure, Pivot};
 

@@ -1,9 +1,7 @@
 //! Lists and records on up to 64 qubits against the reference.
 
-mod common;
-
-use common::reference::{expanded, reduced};
-use common::{list, random_record, random_rows, ListCall, Random, RecordCall};
+use crate::common::reference::{expanded, reduced};
+use crate::common::{list, random_record, random_rows, ListCall, Random, RecordCall};
 use std::collections::HashSet;
 
 fn assert_as_reference(seed: u64, n: usize, codes_seen: &mut HashSet<u8>) {

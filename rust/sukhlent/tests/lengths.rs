@@ -1,9 +1,7 @@
 //! Numbers of qubits and lengths of buffers that are not as they should be.
 
-mod common;
-
-use common::{list, random_rows, Operation, Random};
-use common::{ImageLengths, Lengths, ListCall, RecordCall, Side};
+use crate::common::{list, random_rows, Operation, Random};
+use crate::common::{ImageLengths, Lengths, ListCall, RecordCall, Side};
 use sukhlent::{reduce, Record};
 
 /// Lengths other than n, among them n modulo 256.

@@ -1,9 +1,7 @@
 //! Damaged generator lists: every place, and seeded damage against the reference.
 
-mod common;
-
-use common::damage::{damage_list, flip};
-use common::{list, random_rows, ListCall, Random};
+use crate::common::damage::{damage_list, flip};
+use crate::common::{list, random_rows, ListCall, Random};
 
 #[test]
 fn stray_bits_of_every_number_of_qubits() {

@@ -1,9 +1,7 @@
 //! Damaged generator lists: every number, and pairs of faults.
 
-mod common;
-
-use common::damage::{anticommute, each_fault, each_pair, flip, put, repeat, LIST_FAULTS};
-use common::{list, random_rows, ListCall, Random};
+use crate::common::damage::{anticommute, each_fault, each_pair, flip, put, repeat, LIST_FAULTS};
+use crate::common::{list, random_rows, ListCall, Random};
 
 fn base(seed: u64) -> ListCall {
     ListCall::on(&list(&random_rows(&mut Random::new(seed), 8)))

@@ -1,11 +1,9 @@
 //! Damaged comparisons: every number, faults in one list and in both, and what an accepted one
 //! leaves alone.
 
-mod common;
-
-use common::damage::{damage_list, each_fault, each_pair, LIST_FAULTS};
-use common::local::sent;
-use common::{list, mixed, parsed, random_rows, rows, ListCall, PairCall, Random};
+use crate::common::damage::{damage_list, each_fault, each_pair, LIST_FAULTS};
+use crate::common::local::sent;
+use crate::common::{list, mixed, parsed, random_rows, rows, ListCall, PairCall, Random};
 use sukhlent::{compare, GeneratorList, Refusal};
 
 /// A list on n qubits, and mixed generators of its image under random codes.

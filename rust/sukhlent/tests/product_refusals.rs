@@ -1,9 +1,7 @@
 //! Damaged products of rows: every number, pairs of faults, and every stray bit of the word.
 
-mod common;
-
-use common::damage::{damage_list, each_fault, each_pair, Fault, LIST_FAULTS};
-use common::{list, random_rows, ListCall, Random};
+use crate::common::damage::{damage_list, each_fault, each_pair, Fault, LIST_FAULTS};
+use crate::common::{list, random_rows, ListCall, Random};
 
 /// The rows of a random state of n qubits.
 fn base(seed: u64, n: usize) -> ListCall {

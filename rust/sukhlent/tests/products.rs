@@ -1,10 +1,8 @@
 //! Products of rows: matrices on few qubits, a plain product letter by letter on up to 64, and rows
 //! that commute.
 
-mod common;
-
-use common::vectors::signed_rows;
-use common::{list, parsed, random_rows, reference, ListCall, Random};
+use crate::common::vectors::signed_rows;
+use crate::common::{list, parsed, random_rows, reference, ListCall, Random};
 use simulator::{row_matrix, Matrix, Row};
 use sukhlent::{product, GeneratorList, Product};
 

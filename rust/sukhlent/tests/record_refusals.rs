@@ -1,9 +1,7 @@
 //! Damaged records: every number, and pairs of faults.
 
-mod common;
-
-use common::damage::{each_fault, each_pair, flip, put, record_faults, Fault};
-use common::{random_record, Lengths, Random, RecordCall};
+use crate::common::damage::{each_fault, each_pair, flip, put, record_faults, Fault};
+use crate::common::{random_record, Lengths, Random, RecordCall};
 
 /// The faults of a record, and of the lengths of the answer buffers.
 fn faults() -> Vec<Fault<RecordCall<Lengths>>> {

@@ -1,10 +1,8 @@
 //! Complements and pivots: the record rewritten, its group kept.
 
-mod common;
-
-use common::local::complemented_record;
-use common::reference::{expanded, reduced};
-use common::{random_record, Operation, Random, RecordCall};
+use crate::common::local::complemented_record;
+use crate::common::reference::{expanded, reduced};
+use crate::common::{random_record, Operation, Random, RecordCall};
 use sukhlent::{complement, gate, pivot, reduce, Record, Refusal};
 
 fn record(neighbours: &[u64], codes: &[u8]) -> Record {

@@ -1,11 +1,9 @@
 //! Sessions of calls on one record against state vectors, on up to 8 qubits.
 
-mod common;
-
-use common::damage::damage_record;
-use common::reference::{expanded, reduced};
-use common::vectors::{assert_stabilized, matrix, state_of};
-use common::{random_record, Operation, Random, RecordCall};
+use crate::common::damage::damage_record;
+use crate::common::reference::{expanded, reduced};
+use crate::common::vectors::{assert_stabilized, matrix, state_of};
+use crate::common::{random_record, Operation, Random, RecordCall};
 use simulator::{Matrix2, Row, State};
 use std::collections::HashMap;
 use sukhlent::{expand, reduce, Measured, Record};

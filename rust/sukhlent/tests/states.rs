@@ -1,10 +1,8 @@
 //! Reduction and expansion against state vectors, on up to 8 qubits.
 
-mod common;
-
-use common::seeded::Gate;
-use common::vectors::{assert_stabilized, signed_rows, state_of};
-use common::{list, mixed, random_record, random_rows, stabilizers, Circuit, Random};
+use crate::common::seeded::Gate;
+use crate::common::vectors::{assert_stabilized, signed_rows, state_of};
+use crate::common::{list, mixed, random_record, random_rows, stabilizers, Circuit, Random};
 use simulator::{Matrix2, State};
 use sukhlent::{check, expand, reduce};
 

@@ -1,0 +1,29 @@
+//! The tests of the calls, of the program and of the examples, one file to a subject.
+
+mod common;
+
+mod c_example;
+mod comparisons;
+mod cut_refusals;
+mod cuts;
+mod example_states;
+mod examples;
+mod exhaustive;
+mod groups;
+mod image_refusals;
+mod images;
+mod in_place_refusals;
+mod large;
+mod lengths;
+mod library;
+mod list_damage;
+mod list_refusals;
+mod pair_refusals;
+mod product_refusals;
+mod products;
+mod program;
+mod record_refusals;
+mod rewriting;
+mod rust_example;
+mod sessions;
+mod states;
