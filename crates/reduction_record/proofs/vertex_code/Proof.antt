@@ -1,7 +1,7 @@
 use lib.Dec.{lit<}
-use Rattle.reduction.proofs.Reading.{vertex-code-is}
-use Rattle.reduction.proofs.vertex_code.Statement.{statement}
-use Rattle.reduction.proofs.vertex_code.Tie as tie
+use Rattle.reduction_record.proofs.Reading.{vertex-code-is}
+use Rattle.reduction_record.proofs.vertex_code.Statement.{statement}
+use Rattle.reduction_record.proofs.vertex_code.Tie as tie
 
 returns : tie.Need-returns
 returns c = (

@@ -7,9 +7,9 @@ use Rattle.clifford.specs.Clifford.{codeOf}
 use Rattle.record.specs.Reduced.{graphOf, recordOf}
 use Rattle.stabilizer.specs.Tableau.{tableau}
 use Rattle.words.specs.Bits.{bit, wordOf}
-use Rattle.reduction.proofs.Reading.{neighbour-word, vertex-number}
-use Rattle.reduction.proofs.write_record.Statement.{statement}
-use Rattle.reduction.proofs.write_record.Tie as tie
+use Rattle.reduction_record.proofs.Reading.{neighbour-word, vertex-number}
+use Rattle.reduction_record.proofs.write_record.Statement.{statement}
+use Rattle.reduction_record.proofs.write_record.Tie as tie
 
 abbrev Inv-loop : tie.InvT-loop
 Inv-loop rows signs n hadamards neighbours₀ codes₀ q₀ neighbours codes q = (q ≤ n)
