@@ -1,0 +1,12 @@
+pub mod Digits
+pub mod Separators
+pub mod OpLaws
+pub mod Steps
+pub mod Feeding
+pub mod StepLine
+pub mod ScanJob
+pub mod ScanSound
+pub mod Verdict
+pub mod KeptLaws
+pub mod Unique
+pub mod Examples
