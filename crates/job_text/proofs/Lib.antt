@@ -1,0 +1,16 @@
+pub mod Digits
+pub mod Separators
+pub mod OpLaws
+pub mod Steps
+pub mod Feeding
+pub mod StepLine
+pub mod ScanJob
+pub mod Sofar
+pub mod ScanSound
+pub mod Verdict
+pub mod KeptLaws
+pub mod Accepted
+pub mod ReadBack
+pub mod Unique
+pub mod ResultLaws
+pub mod Examples
