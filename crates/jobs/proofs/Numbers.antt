@@ -3,7 +3,7 @@
 use mathlib.Core.Bool.{_&&_, Bool, cond, false, or-true, true, true≢false, _||_}
 use mathlib.Core.List.{_++_, List, [], _∷_}
 use mathlib.Core.Path.{_∙_, _≡_, ap, ap₂, refl, sym}
-use Prim.Native.Nat.{_%_, _+_, _/_, ℕ}
+use Prim.Native.Nat.{ℕ}
 use lib.Dec.{eqb, leb}
 use lib.ListN.{drop}
 use borrow.Author.Tests.{eq-eqb, ne-eqb}
@@ -42,7 +42,6 @@ use Rattle.record.specs.Lent.{
 use Rattle.record.specs.Records.{GraphRecord, complementRecord, rowsOf}
 use Rattle.record.specs.Reduced.{reduced}
 use Rattle.words.specs.Bits.{isOdd}
-use Rattle.words.proofs.Flags.{neither}
 use Rattle.jobs.specs.Asked.{argumentsOf, asked, linesOf, numberOf, unusedSet, withTest}
 use Rattle.jobs.specs.Runs.{afterStep}
 use Rattle.jobs.specs.declared.Step.{Step}

@@ -7,16 +7,15 @@ use lib.Dec.{eqb, ltb}
 use lib.ListN.{getD-replicate, length-replicate, replicate}
 use borrow.Author.Tests.{eqb-true, le-ltb, lt-ltb}
 use Rattle.buffers.proofs.Tabulate.{tabulate-is}
-use Rattle.buffers.specs.Buffers.{tabulate}
 use Rattle.buffers.specs.Refusals.{firstFitting}
-use Rattle.clifford.specs.Clifford.{Clifford, cliffordOf, codeOf, identityClifford, image, imagePhase}
+use Rattle.clifford.specs.Clifford.{cliffordOf, codeOf, identityClifford, image, imagePhase}
 use Rattle.clifford.specs.Vectors.{act}
 use Rattle.graph.specs.Graph.{Simple}
 use Rattle.operations.specs.Cz.{zAt}
 use Rattle.pauli.proofs.PhaseLaws.{phaseMonoid}
-use Rattle.pauli.specs.Pauli.{_+ᵖ_, Pauli, i⁰, letter, sumPhase, xBit, zBit}
+use Rattle.pauli.specs.Pauli.{_+ᵖ_, i⁰, letter, xBit, zBit}
 use Rattle.record.proofs.WrittenRecords.{record-passes, record-rows-back, writtenRecord}
-use Rattle.record.specs.Lent.{LentRecord, heldRows, recordLines}
+use Rattle.record.specs.Lent.{heldRows, recordLines}
 use Rattle.record.specs.Records.{GraphRecord, rowsOf}
 use Rattle.words.proofs.Sums.{fold-unit}
 use Rattle.words.specs.Bits.{wordOf}
