@@ -11,3 +11,5 @@ pub mod CzInsideSide
 pub mod CutDemandHolds
 pub mod FirstDemandHolds
 pub mod AnswerBuffers
+pub mod JobSteps
+pub mod JobsStand

@@ -5,3 +5,4 @@ pub mod ImageDemand
 pub mod OperationsDemand
 pub mod CutDemand
 pub mod FirstDemand
+pub mod JobDemand

@@ -15,3 +15,11 @@ pub struct Step {
     pub b: u16,
     pub value: u16,
 }
+
+// What a step answers: the number of its refusal, and of an accepted measurement the outcome and whether it was
+// determined.
+pub struct Answer {
+    pub refusal: u8,
+    pub outcome: u8,
+    pub determined: u8,
+}
