@@ -5,6 +5,7 @@ pub mod Steps
 pub mod Feeding
 pub mod StepLine
 pub mod ScanJob
+pub mod Sofar
 pub mod ScanSound
 pub mod Verdict
 pub mod KeptLaws

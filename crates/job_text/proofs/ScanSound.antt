@@ -1,7 +1,7 @@
--- At each place the text so far is a job's text and the part of a line that the scan holds; so a scan that ends at
--- the start of a line has read a text that has the form.
+-- Each byte keeps what is known of the text so far; so a scan that ends at the start of a line has read a text that
+-- has the form.
 -- Assumes nothing.
-use mathlib.Core.Path.{_≡_, refl, sym, ap, ap₂, _∙_, subst}
+use mathlib.Core.Path.{_≡_, sym, ap, ap₂, _∙_, subst}
 use mathlib.Core.Logic.{⊎-elim}
 use mathlib.Core.Bool.{_&&_, and-eq-true-iff, cond}
 use mathlib.Core.List.{List, [], _∷_, _++_, append-assoc, append-nil}
@@ -10,18 +10,16 @@ use native.Mathlib.Nat.{eq-or-lt-of-le}
 use native.Mathlib.Numerals.{add-one}
 use native.Mathlib.Omega.{arith}
 use lib.Dec.{eqb, ltb, lit<}
-use lib.ListN.{length, getD, take, length-append, List·getD-append}
+use lib.ListN.{getD, take, length-append, List·getD-append}
 use lib.Seq.{take-suc, take-all, getD-append-add, getD-append-seam}
-use borrow.Author.Tests.{lt-ltb, le-ltb, ltb-true, ltb-false, eqb-true, eqb-false}
-use Rattle.jobs.specs.declared.Op.{Op}
-use Rattle.jobs.specs.declared.Op.the-variants.{Gate, Cz, Measure, Complement, Pivot}
+use borrow.Author.Tests.{lt-ltb, le-ltb, ltb-true, eqb-true, eqb-false}
 use Rattle.jobs.specs.declared.Step.{Step}
 use Rattle.text.proofs.DigitLaws.{by-test}
 use Rattle.text.specs.Text.{space, newline}
 use Rattle.words.proofs.Sums.{lt-or-ge}
-use Rattle.job_text.specs.Text.{field, opWord, Fits, AllFit, stepText, qubitsLine, stepNames, jobHead}
+use Rattle.job_text.specs.Text.{field, opWord, Fits, stepText, qubitsLine, stepNames, jobHead}
 use Rattle.job_text.specs.Text.{jobText}
-use Rattle.job_text.specs.Scan.{moved, withOp, withNumber, headBytes, headStep, letters, firstOp, afterO}
+use Rattle.job_text.specs.Scan.{moved, withOp, withNumber, headBytes, headStep, letters}
 use Rattle.job_text.specs.Scan.{opFor, wordStep, digitValue, firstStep, separator, ended, moreStep, stepAt}
 use Rattle.job_text.specs.declared.scan.Field.{Field}
 use Rattle.job_text.specs.declared.scan.Field.the-variants.{N, A, B, Value}
@@ -31,84 +29,8 @@ use Rattle.job_text.specs.declared.scan.Scan.{Scan}
 use Rattle.job_text.proofs.Digits.{digit-value, digits-first, digits-push}
 use Rattle.job_text.proofs.OpLaws.{letter-at, space-last, same-start}
 use Rattle.job_text.proofs.Steps.{job-none, job-more, fit-more}
-
--- the text t is that of a job on n qubits, with part behind it
-pub record Upto (n : ℕ) (t part : List ℕ) : Type 0 where
-  pub steps : List Step
-  pub few : n < 1000
-  pub fit : AllFit steps
-  pub text : t ≡ jobText n steps ++ part
-
--- the part of a line before each field
-abbrev aPart : Op → List ℕ
-aPart op = opWord op ++ space
-
-abbrev bPart : Op → ℕ → List ℕ
-bPart op a = aPart op ++ field a ++ space
-
-abbrev valuePart : Op → ℕ → ℕ → List ℕ
-valuePart op a b = bPart op a ++ field b ++ space
-
--- the text t ends directly before the field f
-abbrev pub Before : Field → ℕ → Op → ℕ → ℕ → List ℕ → Type 0
-Before N n op a b t = t ≡ qubitsLine
-Before A n op a b t = Upto n t (aPart op)
-Before B n op a b t = Upto n t (bPart op a) × (a < 1000)
-Before Value n op a b t = Upto n t (valuePart op a b) × (a < 1000) × (b < 1000)
-
--- .. or with the field's digits so far behind that, whose number is v
-pub record Inside (f : Field) (n : ℕ) (op : Op) (a b v : ℕ) (t : List ℕ) : Type 0 where
-  pub start : List ℕ
-  pub before : Before f n op a b start
-  pub small : v < 1000
-  pub text : t ≡ start ++ field v
-
--- the head up to byte k of those that are the same in every job
-abbrev headPart : ℕ → ℕ → List ℕ
-headPart k n = cond (ltb k 7) (take k qubitsLine) (qubitsLine ++ field n ++ newline ++ take (k - 7) stepNames)
-
-pub record AtHead (k n : ℕ) (t : List ℕ) : Type 0 where
-  pub inside : k < 20
-  pub few : n < 1000
-  pub text : t ≡ headPart k n
-
--- k letters of an operation
-pub record AtWord (k n : ℕ) (op : Op) (t : List ℕ) : Type 0 where
-  pub inside : k ≤ length (opWord op)
-  pub upto : Upto n t (take k (aPart op))
-
--- what is known of the text t where the scan s is at a place
-abbrev pub Sofar : Place → Scan → List ℕ → Type 0
-Sofar (Head k) s t = AtHead k (s .n) t
-Sofar (Word k) s t = AtWord k (s .n) (s .op) t
-Sofar (First f) s t = Before f (s .n) (s .op) (s .a) (s .b) t
-Sofar (More f) s t = Inside f (s .n) (s .op) (s .a) (s .b) (s .number) t
-Sofar Broken s t = Unit
-
--- one more byte in the part
-upto-more : {n : ℕ} {t part : List ℕ} (b : ℕ) (part′ : List ℕ) → part ++ b ∷ [] ≡ part′ → Upto n t part
-    → Upto n (t ++ b ∷ []) part′
-upto-more {n} {t} {part} b part′ e u = record {
-  steps = u .steps;
-  few = u .few;
-  fit = u .fit;
-  text =
-      ap (λ l. l ++ b ∷ []) (u .text) ∙ append-assoc (jobText n (u .steps)) part (b ∷ [])
-      ∙ ap (λ l. jobText n (u .steps) ++ l) e;
-}
-
--- a field and one more byte behind the part
-upto-field : {n : ℕ} {t start part : List ℕ} (v b : ℕ) → t ≡ start ++ field v → Upto n start part
-    → Upto n (t ++ b ∷ []) (part ++ field v ++ b ∷ [])
-upto-field {n} {t} {start} {part} v b e u = record {
-  steps = u .steps;
-  few = u .few;
-  fit = u .fit;
-  text =
-      ap (λ l. l ++ b ∷ []) (e ∙ ap (λ l. l ++ field v) (u .text)
-      ∙ append-assoc (jobText n (u .steps)) part (field v))
-      ∙ append-assoc (jobText n (u .steps)) (part ++ field v) (b ∷ []);
-}
+use Rattle.job_text.proofs.Sofar.{Upto, aPart, bPart, valuePart, Before, Inside, AtHead, AtWord, Sofar}
+use Rattle.job_text.proofs.Sofar.{upto-more, upto-field}
 
 module _ (s : Scan) (t : List ℕ) (b : ℕ) where
   abbrev After : Scan → Type 0

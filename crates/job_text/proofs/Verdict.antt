@@ -6,21 +6,22 @@ use mathlib.Core.Bool.{Bool, true, false, _&&_, cond, false≢true}
 use mathlib.Core.List.{List, [], _∷_, _++_, flatten, append-assoc, append-nil}
 use Prim.Native.Nat.{ℕ, _<_}
 use lib.Dec.{ltb, lit<}
-use lib.ListN.{length, take}
+use lib.ListN.{length, take, replicate, length-replicate}
 use borrow.Author.Tests.{eqb-true}
 use Rattle.jobs.specs.declared.Op.{Op}
 use Rattle.jobs.specs.declared.Step.{Step}
 use Rattle.text.specs.Text.{space}
 use Rattle.job_text.specs.Text.{AllFit, opWord, jobText, HasJobForm}
 use Rattle.job_text.specs.Scan.{step, begin, reading, stored, feedNext, feed, fed, fedBlocks, atLine}
-use Rattle.job_text.specs.Scan.{Kept, Judged}
+use Rattle.job_text.specs.Scan.{Kept, Judged, noStep, empty}
 use Rattle.job_text.specs.declared.scan.Place.{Place}
 use Rattle.job_text.specs.declared.scan.Place.the-variants.{Head, Word, First, More, Broken}
 use Rattle.job_text.specs.declared.scan.Reading.{Reading}
 use Rattle.job_text.specs.declared.scan.Scan.{Scan}
 use Rattle.job_text.proofs.Feeding.{blocks-fed}
 use Rattle.job_text.proofs.ScanJob.{text-read}
-use Rattle.job_text.proofs.ScanSound.{AtWord, Sofar, step-sound}
+use Rattle.job_text.proofs.ScanSound.{step-sound}
+use Rattle.job_text.proofs.Sofar.{AtWord, Sofar}
 
 -- the array does not change the scan
 scan-next : (w : Reading) (next : Scan) → feedNext w next .scan ≡ next
@@ -86,3 +87,8 @@ module _ (S : List Step) (whole : length S ≡ 4096) where
       → Kept n steps (fed (reading begin S) (jobText n steps))
   read-back n steps few fit =
       text-judged (jobText n steps) .job n steps (record { few = few; fit = fit; text = refl })
+
+-- the text, from an array of no steps
+pub empty-judged : (t : List ℕ) → Judged t (fed empty t)
+unfolding empty
+empty-judged t = text-judged (replicate 4096 noStep) (length-replicate 4096 noStep) t

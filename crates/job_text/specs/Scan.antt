@@ -7,7 +7,7 @@ use mathlib.Core.Bool.{Bool, true, false, _&&_, cond}
 use mathlib.Core.List.{List, [], _∷_, _++_}
 use Prim.Native.Nat.{ℕ, _+_, _-_, _*_, min}
 use lib.Dec.{eqb, ltb}
-use lib.ListN.{length, getD, set, take}
+use lib.ListN.{length, getD, set, take, replicate}
 use Rattle.buffers.specs.Refusals.{firstFitting}
 use Rattle.jobs.specs.declared.Op.{Op}
 use Rattle.jobs.specs.declared.Op.the-variants.{Gate, Cz, Measure, Complement, Pivot}
@@ -166,6 +166,13 @@ begin = record { place = Head 0; n = 0; op = Gate; a = 0; b = 0; number = 0; cou
 
 abbrev pub reading : Scan → List Step → Reading
 reading s steps = record { scan = s; steps = steps }
+
+-- before a text is read
+abbrev pub noStep : Step
+noStep = record { op = Gate; a = 0; b = 0; value = 0 }
+
+unfoldable pub empty : Reading
+empty = reading begin (replicate 4096 noStep)
 
 -- the step that the scan holds
 abbrev pub stepOf : Scan → Step

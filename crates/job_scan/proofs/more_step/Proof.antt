@@ -1,0 +1,100 @@
+use Prim.Native.Nat.{_<_}
+use Rattle.job_scan.proofs.at_place.Reads as at-place-reads
+use Rattle.job_scan.proofs.digit_value.Reads as digit-value-reads
+use Rattle.job_scan.proofs.field_end.Reads as field-end-reads
+use Rattle.job_scan.proofs.more_step.Lts as lts
+use Rattle.job_scan.proofs.more_step.Reads as reads
+use Rattle.job_scan.proofs.separator_of.Reads as separator-of-reads
+use Rattle.job_scan.proofs.with_number.Reads as with-number-reads
+use Rattle.job_text.specs.Scan.{moreStep}
+use borrow.Author.Needs.{needs}
+use borrow.Author.Tests.{lt-ltb, le-ltb, ltb-true, eq-eqb, ne-eqb}
+use lib.Dec.{ltb}
+use mathlib.Core.Bool.{and-eq-true-iff}
+use mathlib.Core.Path.{sym, _∙_}
+use native.Mathlib.Omega.{arith}
+use Rattle.job_scan.proofs.more_step.Statement.{statement}
+use Rattle.job_scan.proofs.more_step.Tie as tie
+
+digit-value-requires : tie.Need-digit-value-requires
+digit-value-requires c κs = search needs
+
+-- the number has fewer than three digits
+short : (c : tie.Then2) → c .before .before .before .args .s .number < 100
+short c =
+    let v = c .before .before .before .args .s .number in
+    ltb-true v 100 (and-eq-true-iff (ltb 0 v) (ltb v 100) .0 (c .if2 .taken) .1)
+
+mul-with-number : tie.Need-mul-with-number
+mul-with-number c = omega (arith, short c)
+
+cast-with-number : tie.Need-cast-with-number
+cast-with-number c = search needs
+
+add-with-number : tie.Need-add-with-number
+add-with-number c = omega (arith, short c, c .before .if1 .taken)
+
+with-number-requires : tie.Need-with-number-requires
+with-number-requires c κs = search needs
+
+returns : tie.Need-returns
+unfolding moreStep
+returns c = simp (
+  ← c .before .before .before .digit-value .ensures,
+  lt-ltb _ _ (c .before .before .if1 .taken),
+  c .before .if2 .taken,
+) (c .with-number .ensures)
+
+at-place-requires : tie.Need-at-place-requires
+at-place-requires c κs = search needs
+
+returns-2 : tie.Need-returns-2
+unfolding moreStep
+returns-2 c = simp (
+  ← c .before .before .before .digit-value .ensures,
+  lt-ltb _ _ (c .before .before .if1 .taken),
+  c .before .if2 .left,
+) (c .at-place .ensures)
+
+separator-of-requires : tie.Need-separator-of-requires
+separator-of-requires c κs = search needs
+
+field-end-requires : tie.Need-field-end-requires
+field-end-requires c κs = search needs
+
+returns-3 : tie.Need-returns-3
+unfolding moreStep
+returns-3 c = simp (
+  ← c .before .before .before .before .digit-value .ensures,
+  le-ltb _ _ (c .before .before .before .if1 .left),
+  eq-eqb _ _ (c .before .if3 .taken ∙ c .before .before .separator-of .ensures),
+) (c .field-end .ensures)
+
+at-place-requires-2 : tie.Need-at-place-requires-2
+at-place-requires-2 c κs = search needs
+
+returns-4 : tie.Need-returns-4
+unfolding moreStep
+returns-4 c = simp (
+  ← c .before .before .before .before .digit-value .ensures,
+  le-ltb _ _ (c .before .before .before .if1 .left),
+  ne-eqb _ _ (λ e. c .before .if3 .left (e ∙ sym (c .before .before .separator-of .ensures))),
+) (c .at-place2 .ensures)
+
+pub more-step-spec : {M : Type 1} → statement M
+more-step-spec =
+    tie.close
+    (tie.spec
+    digit-value-requires
+    mul-with-number
+    cast-with-number
+    add-with-number
+    with-number-requires
+    returns
+    at-place-requires
+    returns-2
+    separator-of-requires
+    field-end-requires
+    returns-3
+    at-place-requires-2
+    returns-4)
