@@ -3,21 +3,33 @@
 use mathlib.Core.Path.{_≡_, refl, ap}
 use mathlib.Core.Bool.{false}
 use mathlib.Core.List.{List, [], _∷_}
-use Prim.Native.Nat.{ℕ, zero, suc, _/_, _%_, _≤_, _<_}
+use Prim.Native.Nat.{ℕ, zero, suc, _+_, _*_, _/_, _%_, _≤_, _<_}
 use native.Mathlib.Nat.{mod-lt}
 use native.Mathlib.Omega.{arith}
 use lib.Dec.{eqb, lit<}
 use lib.ListN.{length}
 use borrow.Author.Tests.{eq-eqb, ne-eqb, eqb-false}
 use Rattle.jobs.specs.Asked.{unusedSet}
-use Rattle.jobs.specs.declared.Op.the-variants.{Gate, Cz}
+use Rattle.jobs.specs.declared.Op.the-variants.{Gate, Cz, Measure}
 use Rattle.jobs.specs.declared.Step.{Step}
 use Rattle.job_text.specs.Text.{Fits, AllFit}
 use Rattle.text.proofs.DigitLaws.{by-test}
 use Rattle.generator.specs.Draws.{draw}
-use Rattle.generator.specs.Drawn.{does, drawn, qubitA, qubitB, stepOf}
-use Rattle.generator.specs.Shapes.{AllDrawable, Drawable}
+use Rattle.generator.specs.Drawn.{does, drawn, drawnCode, drawnOutcome, qubitA, qubitB, stepOf}
+use Rattle.generator.specs.Shapes.{AllDrawable, Drawable, Small}
 use Rattle.generator.specs.Shapes.Drawable.{gate, cz, measure}
+
+-- "d mod 3 of 0, 1, 2 picks gate, cz, measure"
+pub gate-picked : (n d : ℕ) → d % 3 ≡ 0 → stepOf n d ≡ does Gate (qubitA n d) 0 (drawnCode d)
+unfolding stepOf
+gate-picked n d picks = simp (eq-eqb (d % 3) 0 picks)
+
+pub measure-picked : (n d : ℕ) → (d % 3 ≡ 0 → ⊥) → (d % 3 ≡ 1 → ⊥)
+    → stepOf n d ≡ does Measure (qubitA n d) 0 (2 * (d / 32768 % 3) + drawnOutcome d)
+unfolding stepOf
+measure-picked n d no-gate no-cz =
+    simp (ne-eqb (d % 3) 0 no-gate, ne-eqb (d % 3) 1 no-cz)
+    (ap (λ p. does Measure (qubitA n d) 0 (2 * p + drawnOutcome d)) (omega arith))
 
 -- "A cz with a = b becomes a gate with code 8 on a"
 module _ (n d : ℕ) (picks : d % 3 ≡ 1) where
@@ -56,12 +68,6 @@ pub unused-none : {n : ℕ} {s : Step} → Drawable n s → unusedSet (s .op) (s
 unused-none (gate h k) = refl
 unused-none (cz h k differ) = refl
 unused-none (measure h k) = refl
-
--- the numbers have at most two digits
-pub record Small (s : Step) : Type 0 where
-  pub a : s .a < 100
-  pub b : s .b < 100
-  pub value : s .value < 100
 
 module _ {n : ℕ} (few : n ≤ 64) where
   pub small : {s : Step} → Drawable n s → Small s

@@ -13,7 +13,7 @@ fn hex_digit(d: u8) -> u8
     if d < 10 { 48 + d } else { 87 + d }
 }
 
-fn put(b: u8, at: usize, out: &mut [u8]) -> usize
+pub fn put(b: u8, at: usize, out: &mut [u8]) -> usize
     requires { ⌜ at < length (now out) ⌝ }
     ensures { λ r. ⌜ Printed (b ∷ []) at (now (out .entry)) (now (out .exit)) r ⌝ }
 {
@@ -21,7 +21,7 @@ fn put(b: u8, at: usize, out: &mut [u8]) -> usize
     at + 1
 }
 
-fn put_bytes(bytes: &[u8], at: usize, out: &mut [u8]) -> usize
+pub fn put_bytes(bytes: &[u8], at: usize, out: &mut [u8]) -> usize
     requires { ⌜ at + length (now bytes) ≤ length (now out) ⌝ }
     ensures { λ r. ⌜ Printed (now (bytes .entry)) at (now (out .entry)) (now (out .exit)) r ⌝ }
 {
@@ -34,7 +34,7 @@ fn put_bytes(bytes: &[u8], at: usize, out: &mut [u8]) -> usize
 }
 
 // A decimal number below 100.
-fn put_decimal(k: u8, at: usize, out: &mut [u8]) -> usize
+pub fn put_decimal(k: u8, at: usize, out: &mut [u8]) -> usize
     requires { ⌜ (k < 100) × (at + 2 ≤ length (now out)) ⌝ }
     ensures { λ r. ⌜ Printed (decimal k) at (now (out .entry)) (now (out .exit)) r ⌝ }
 {
@@ -60,7 +60,7 @@ fn put_word(w: u64, at: usize, out: &mut [u8]) -> usize
 }
 
 // A decimal number below 100 and the space behind it.
-fn put_field(k: u8, at: usize, out: &mut [u8]) -> usize
+pub fn put_field(k: u8, at: usize, out: &mut [u8]) -> usize
     requires { ⌜ (k < 100) × (at + 3 ≤ length (now out)) ⌝ }
     ensures { λ r. ⌜ Printed (decimal k ++ space) at (now (out .entry)) (now (out .exit)) r ⌝ }
 {
