@@ -1,35 +1,28 @@
 -- The length of the text: at most 15 bytes for a step, and 61,463 in all.
 -- Assumes nothing.
-use mathlib.Core.Path.{_≡_, sym, subst}
+use mathlib.Core.Path.{_≡_, sym, ap, subst}
 use mathlib.Core.List.{List, [], _∷_}
-use Prim.Native.Nat.{ℕ, _+_, _*_, _/_, _≤_, _<_}
+use Prim.Native.Nat.{ℕ, _+_, _*_, _≤_, _<_}
 use native.Mathlib.Omega.{arith}
 use lib.Dec.{lit<}
 use lib.ListN.{length, length-append}
-use borrow.Author.Tests.{lt-ltb}
 use Rattle.jobs.specs.declared.Op.{Op}
 use Rattle.jobs.specs.declared.Op.the-variants.{Gate, Cz, Measure}
 use Rattle.jobs.specs.declared.Step.{Step}
-use Rattle.text.specs.Text.{decimal}
 use Rattle.text.proofs.HexLaws.{length-decimal}
-use Rattle.job_text.specs.Text.{digits, field, jobHead, jobText, opWord, stepText, stepsText}
+use Rattle.job_text.proofs.Digits.{one-place, two-places}
+use Rattle.job_text.specs.Text.{field, jobHead, jobText, opWord, stepText, stepsText}
 use Rattle.generator.specs.Drawn.{drawn, generatedText}
 use Rattle.generator.specs.Lines.{room}
 use Rattle.generator.specs.Shapes.{AllDrawable, Drawable}
 use Rattle.generator.specs.Shapes.Drawable.{gate, cz, measure}
 use Rattle.generator.proofs.Shapes.{all-drawable, length-drawn}
 
--- a field below 100 is a decimal number as `reduce` prints it
-pub field-decimal : (v : ℕ) → v < 100 → field v ≡ decimal v
-unfolding digits decimal
-field-decimal v few = simp (lt-ltb (v / 10) 10 (omega arith))
-
 two-digits : (v : ℕ) → v < 100 → length (field v) ≤ 2
-two-digits v few = subst (λ l. length l ≤ 2) (sym (field-decimal v few)) (length-decimal v)
+two-digits v few = subst (λ l. length l ≤ 2) (sym (two-places 1 v few)) (length-decimal v)
 
 one-digit : (v : ℕ) → v < 10 → length (field v) ≡ 1
-unfolding digits
-one-digit v few = simp (lt-ltb v 10 few)
+one-digit v few = ap length (one-place 2 v few)
 
 -- a line is as long as its parts
 pub length-line : (op : Op) (a b value : ℕ)

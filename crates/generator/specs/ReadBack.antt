@@ -5,7 +5,7 @@ use mathlib.Core.List.{List}
 use Prim.Native.Nat.{ℕ}
 use lib.ListN.{length, take}
 use Rattle.jobs.specs.declared.Step.{Step}
-use Rattle.job_text.specs.Scan.{begin, fed, reading, verdict}
+use Rattle.job_text.specs.Scan.{empty, fed, verdict}
 use Rattle.job_text.specs.Text.{JobTextOf}
 use Rattle.job_text.specs.declared.scan.Reading.{Reading}
 
@@ -16,9 +16,8 @@ pub record Scanned (n : ℕ) (steps : List Step) (w : Reading) : Type 0 where
   pub count : w .scan .count ≡ length steps
   pub kept : take (length steps) (w .steps) ≡ steps
 
--- the text has the form, for this job and no other, and the program's scan of it keeps exactly this job, whatever its
--- array of 4,096 places held before
+-- the text has the form, for this job and no other, and the scan of it keeps exactly this job
 pub record ReadsBack (n : ℕ) (steps : List Step) (t : List ℕ) : Type 0 where
   pub job : JobTextOf n steps t
   pub only : (m : ℕ) (others : List Step) → JobTextOf m others t → (m ≡ n) × (others ≡ steps)
-  pub scan : (S : List Step) → length S ≡ 4096 → Scanned n steps (fed (reading begin S) t)
+  pub scan : Scanned n steps (fed empty t)

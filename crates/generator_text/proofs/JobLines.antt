@@ -6,12 +6,13 @@ use Prim.Native.Nat.{ℕ, suc, _+_, _-_, _*_, _≤_, _<_}
 use native.Mathlib.Nat.{add-zero}
 use native.Mathlib.Omega.{arith}
 use lib.ListN.{length, length-append}
-use Rattle.generator.proofs.Lengths.{field-decimal, length-head, length-step}
+use Rattle.generator.proofs.Lengths.{length-head, length-step}
 use Rattle.generator.proofs.Shapes.{drawable, small}
 use Rattle.generator.specs.Drawn.{drawn, generatedText, stepOf}
 use Rattle.generator.specs.Draws.{draw}
 use Rattle.generator.specs.Lines.{room}
 use Rattle.generator.specs.Shapes.{Drawable, Small}
+use Rattle.job_text.proofs.Digits.{two-places}
 use Rattle.job_text.specs.Text.{field, jobHead, jobText, qubitsLine, stepNames, stepText, stepsText}
 use Rattle.jobs.specs.declared.Step.{Step}
 use Rattle.text.proofs.Writing.{and-then, write-none}
@@ -21,7 +22,7 @@ use Rattle.text.specs.Text.{Printed, decimal, newline}
 pub head-parts : (n : ℕ) → n ≤ 64 → qubitsLine ++ decimal n ++ (10 ∷ stepNames) ≡ jobHead n
 unfolding jobHead
 head-parts n few =
-    ap (λ l. qubitsLine ++ l ++ (10 ∷ stepNames)) (sym (field-decimal n (omega arith)))
+    ap (λ l. qubitsLine ++ l ++ (10 ∷ stepNames)) (sym (two-places 1 n (omega arith)))
     ∙ sym (append-assoc (qubitsLine ++ field n) newline stepNames)
 
 -- the lines of the first steps stand from place at₀ on; `left` steps are still to be drawn, from the state s

@@ -6,8 +6,8 @@ use Prim.Native.Nat.{ℕ, _+_, _/_, _%_, _≤_}
 use native.Mathlib.Omega.{arith}
 use lib.Dec.{lit≤, ltb}
 use lib.ListN.{length, length-append, take}
-use Rattle.generator.proofs.Lengths.{field-decimal}
 use Rattle.generator.specs.Shapes.{Small}
+use Rattle.job_text.proofs.Digits.{two-places}
 use Rattle.job_text.specs.Scan.{letters}
 use Rattle.job_text.specs.Text.{opWord, stepText}
 use Rattle.jobs.specs.declared.Op.{Op}
@@ -70,9 +70,9 @@ module _ (s : Step) (small : Small s) where
   step-parts =
       simp (
         append-assoc,
-        field-decimal (s .a) (small .a),
-        field-decimal (s .b) (small .b),
-        field-decimal (s .value) (small .value),
+        two-places 1 (s .a) (small .a),
+        two-places 1 (s .b) (small .b),
+        two-places 1 (s .value) (small .value),
       )
 
   long :

@@ -79,13 +79,19 @@ fn put_line(q: u8, code: u8, w: u64, at: usize, out: &mut [u8]) -> usize
     put(10, after_w, out)
 }
 
-// The record of n qubits: the names and a line for each qubit. Returns the number of bytes.
-pub fn print_record(n: usize, neighbours: &[u64], codes: &[u8], out: &mut [u8]) -> usize
-    requires { ⌜ Printable n (now neighbours) (now codes) (now out) ⌝ }
-    ensures { λ r. ⌜ Printed (recordText n (now (neighbours .entry)) (now (codes .entry))) 0
+// The record of n qubits, from a place on: the names and a line for each qubit. Returns the place behind it.
+pub fn print_record(
+    n: usize,
+    neighbours: &[u64],
+    codes: &[u8],
+    from: usize,
+    out: &mut [u8],
+) -> usize
+    requires { ⌜ Printable n (now neighbours) (now codes) from (now out) ⌝ }
+    ensures { λ r. ⌜ Printed (recordText n (now (neighbours .entry)) (now (codes .entry))) from
         (now (out .entry)) (now (out .exit)) r ⌝ }
 {
-    let mut at = put_bytes(b"qubit code neighbours\n", 0, out);
+    let mut at = put_bytes(b"qubit code neighbours\n", from, out);
     let mut q = 0;
     while q < n {
         at = put_line(q as u8, codes[q], neighbours[q], at, out);

@@ -1,5 +1,4 @@
 use Rattle.job_scan.proofs.at_line.Lts as lts
-use Rattle.job_scan.proofs.at_line.Reads as reads
 use Rattle.job_text.specs.Scan.{atLine}
 use borrow.Author.Needs.{needs}
 use mathlib.Core.Path.{ap, sym}

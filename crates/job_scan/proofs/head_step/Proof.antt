@@ -1,5 +1,4 @@
 use Rattle.job_scan.proofs.head_step.Lts as lts
-use Rattle.job_scan.proofs.head_step.Reads as reads
 use Rattle.job_text.specs.Scan.{headStep}
 use borrow.Author.Needs.{needs}
 use borrow.Author.Tests.{lt-ltb, le-ltb, eq-eqb, ne-eqb}

@@ -1,7 +1,5 @@
 use Rattle.buffers.specs.Refusals.{firstFitting}
-use Rattle.job_scan.proofs.at_line.Reads as at-line-reads
 use Rattle.job_scan.proofs.judge.Lts as lts
-use Rattle.job_scan.proofs.judge.Reads as reads
 use Rattle.job_text.specs.Scan.{verdict}
 use borrow.Author.Needs.{needs}
 use borrow.Author.Tests.{lt-ltb, le-ltb}

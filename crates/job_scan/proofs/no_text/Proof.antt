@@ -1,6 +1,4 @@
 use Rattle.job_scan.proofs.no_text.Lts as lts
-use Rattle.job_scan.proofs.no_text.Reads as reads
-use Rattle.job_scan.proofs.start.Reads as start-reads
 use Rattle.job_text.specs.Scan.{empty, noStep, reading}
 use borrow.Author.Needs.{needs}
 use lib.ListN.{replicate}

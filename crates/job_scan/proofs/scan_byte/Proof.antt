@@ -1,10 +1,4 @@
-use Rattle.job_scan.proofs.at_place.Reads as at-place-reads
-use Rattle.job_scan.proofs.first_step.Reads as first-step-reads
-use Rattle.job_scan.proofs.head_step.Reads as head-step-reads
-use Rattle.job_scan.proofs.more_step.Reads as more-step-reads
 use Rattle.job_scan.proofs.scan_byte.Lts as lts
-use Rattle.job_scan.proofs.scan_byte.Reads as reads
-use Rattle.job_scan.proofs.word_step.Reads as word-step-reads
 use Rattle.job_text.specs.Scan.{moved, step, stepAt}
 use borrow.Author.Needs.{needs}
 use mathlib.Core.Path.{_∙_, ap, sym}

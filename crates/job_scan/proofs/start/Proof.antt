@@ -1,5 +1,4 @@
 use Rattle.job_scan.proofs.start.Lts as lts
-use Rattle.job_scan.proofs.start.Reads as reads
 use Rattle.job_text.specs.Scan.{begin}
 use mathlib.Core.Path.{refl}
 use Rattle.job_scan.proofs.start.Statement.{statement}

@@ -1,12 +1,9 @@
-use Rattle.job_scan.proofs.after_o.Reads as after-o-reads
-use Rattle.job_scan.proofs.first_op.Reads as first-op-reads
-use Rattle.job_scan.proofs.op_for.Lts as lts
-use Rattle.job_scan.proofs.op_for.Reads as reads
+use Rattle.job_scan_words.proofs.op_for.Lts as lts
 use Rattle.job_text.specs.Scan.{opFor}
 use borrow.Author.Needs.{needs}
 use borrow.Author.Tests.{eq-eqb, ne-eqb}
-use Rattle.job_scan.proofs.op_for.Statement.{statement}
-use Rattle.job_scan.proofs.op_for.Tie as tie
+use Rattle.job_scan_words.proofs.op_for.Statement.{statement}
+use Rattle.job_scan_words.proofs.op_for.Tie as tie
 
 first-op-requires : tie.Need-first-op-requires
 first-op-requires c κs = search needs

@@ -1,10 +1,5 @@
 use Prim.Native.Nat.{ℕ, _+_, _<_}
-use Rattle.job_scan.proofs.at_place.Reads as at-place-reads
-use Rattle.job_scan.proofs.letters_of.Reads as letters-of-reads
-use Rattle.job_scan.proofs.op_for.Reads as op-for-reads
-use Rattle.job_scan.proofs.with_op.Reads as with-op-reads
-use Rattle.job_scan.proofs.word_step.Lts as lts
-use Rattle.job_scan.proofs.word_step.Reads as reads
+use Rattle.job_scan_words.proofs.word_step.Lts as lts
 use Rattle.job_text.specs.Scan.{letters, moved, opFor, withOp, wordStep}
 use Rattle.job_text.specs.declared.scan.Field.the-variants.{A}
 use Rattle.job_text.specs.declared.scan.Place.the-variants.{Broken, First, Word}
@@ -15,8 +10,8 @@ use borrow.Author.Tests.{lt-ltb, le-ltb, eq-eqb, ne-eqb}
 use lib.ListN.{getD}
 use mathlib.Core.List.{List}
 use mathlib.Core.Path.{_≡_, ap, sym, _∙_}
-use Rattle.job_scan.proofs.word_step.Statement.{statement}
-use Rattle.job_scan.proofs.word_step.Tie as tie
+use Rattle.job_scan_words.proofs.word_step.Statement.{statement}
+use Rattle.job_scan_words.proofs.word_step.Tie as tie
 
 module _ (k : ℕ) (s : Scan) (b : ℕ) (o : Op) (word : List ℕ) (op : o ≡ opFor k (s .op) b)
     (whole : word ≡ letters o) (inside : k < 11) where
@@ -40,12 +35,12 @@ module _ (k : ℕ) (s : Scan) (b : ℕ) (o : Op) (word : List ℕ) (op : o ≡ o
       ap (λ p. withOp s p (Word (k + 1))) op
       ∙ simp (lt-ltb k 11 inside, eq-eqb b (getD (letters (opFor k (s .op) b)) k 0) (on ∙ letter), ne-eqb b 32 more)
 
-at-place-requires : tie.Need-at-place-requires
-at-place-requires c κs = search needs
+with-op-requires : tie.Need-with-op-requires
+with-op-requires c κs = search needs
 
 returns : tie.Need-returns
 unfolding wordStep
-returns c = simp (le-ltb _ _ (c .before .if1 .taken)) (c .at-place .ensures)
+returns c = simp (le-ltb _ _ (c .before .if1 .taken)) (c .with-op .ensures)
 
 op-for-requires : tie.Need-op-for-requires
 op-for-requires c κs = search needs
@@ -56,36 +51,36 @@ letters-of-requires c κs = search needs
 array-read-if2 : tie.Need-array-read-if2
 array-read-if2 c = search needs
 
-at-place-requires-2 : tie.Need-at-place-requires-2
-at-place-requires-2 c κs = search needs
+with-op-requires-2 : tie.Need-with-op-requires-2
+with-op-requires-2 c κs = search needs
 
 returns-2 : tie.Need-returns-2
 returns-2 c =
     let l = c .before .before in
-    c .at-place2 .ensures
+    c .with-op2 .ensures
     ∙ other-letter _ (l .before .before .before .args .s) _ _ _ (l .before .op-for .ensures) (l .letters-of .ensures)
     (l .before .before .if1 .left) (c .before .if2 .taken)
 
-with-op-requires : tie.Need-with-op-requires
-with-op-requires c κs = search needs
+with-op-requires-3 : tie.Need-with-op-requires-3
+with-op-requires-3 c κs = search needs
 
 returns-3 : tie.Need-returns-3
 returns-3 c =
     let l = c .before .before .before in
-    c .with-op .ensures
+    c .with-op3 .ensures
     ∙ last-letter _ (l .before .before .before .args .s) _ _ _ (l .before .op-for .ensures) (l .letters-of .ensures)
     (l .before .before .if1 .left) (c .before .before .if2 .left) (c .before .if3 .taken)
 
 add-t16 : tie.Need-add-t16
 add-t16 c = search needs
 
-with-op-requires-2 : tie.Need-with-op-requires-2
-with-op-requires-2 c κs = search needs
+with-op-requires-4 : tie.Need-with-op-requires-4
+with-op-requires-4 c κs = search needs
 
 returns-4 : tie.Need-returns-4
 returns-4 c =
     let l = c .before .before .before in
-    c .with-op2 .ensures
+    c .with-op4 .ensures
     ∙ next-letter _ (l .before .before .before .args .s) _ _ _ (l .before .op-for .ensures) (l .letters-of .ensures)
     (l .before .before .if1 .left) (c .before .before .if2 .left) (c .before .if3 .left)
 
@@ -93,15 +88,15 @@ pub word-step-spec : {M : Type 1} → statement M
 word-step-spec =
     tie.close
     (tie.spec
-    at-place-requires
+    with-op-requires
     returns
     op-for-requires
     letters-of-requires
     array-read-if2
-    at-place-requires-2
+    with-op-requires-2
     returns-2
-    with-op-requires
+    with-op-requires-3
     returns-3
     add-t16
-    with-op-requires-2
+    with-op-requires-4
     returns-4)

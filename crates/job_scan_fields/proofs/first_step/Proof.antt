@@ -1,13 +1,9 @@
-use Rattle.job_scan.proofs.at_place.Reads as at-place-reads
-use Rattle.job_scan.proofs.digit_value.Reads as digit-value-reads
-use Rattle.job_scan.proofs.first_step.Lts as lts
-use Rattle.job_scan.proofs.first_step.Reads as reads
-use Rattle.job_scan.proofs.with_number.Reads as with-number-reads
+use Rattle.job_scan_fields.proofs.first_step.Lts as lts
 use Rattle.job_text.specs.Scan.{firstStep}
 use borrow.Author.Needs.{needs}
 use borrow.Author.Tests.{lt-ltb, le-ltb}
-use Rattle.job_scan.proofs.first_step.Statement.{statement}
-use Rattle.job_scan.proofs.first_step.Tie as tie
+use Rattle.job_scan_fields.proofs.first_step.Statement.{statement}
+use Rattle.job_scan_fields.proofs.first_step.Tie as tie
 
 digit-value-requires : tie.Need-digit-value-requires
 digit-value-requires c κs = search needs
@@ -23,13 +19,13 @@ unfolding firstStep
 returns c = simp (← c .before .before .digit-value .ensures, lt-ltb _ _ (c .before .if1 .taken))
     (c .with-number .ensures)
 
-at-place-requires : tie.Need-at-place-requires
-at-place-requires c κs = search needs
+with-number-requires-2 : tie.Need-with-number-requires-2
+with-number-requires-2 c κs = search needs
 
 returns-2 : tie.Need-returns-2
 unfolding firstStep
 returns-2 c = simp (← c .before .before .digit-value .ensures, le-ltb _ _ (c .before .if1 .left))
-    (c .at-place .ensures)
+    (c .with-number2 .ensures)
 
 pub first-step-spec : {M : Type 1} → statement M
 first-step-spec =
@@ -39,5 +35,5 @@ first-step-spec =
     cast-with-number
     with-number-requires
     returns
-    at-place-requires
+    with-number-requires-2
     returns-2)

@@ -1,11 +1,5 @@
 use Prim.Native.Nat.{_<_}
-use Rattle.job_scan.proofs.at_place.Reads as at-place-reads
-use Rattle.job_scan.proofs.digit_value.Reads as digit-value-reads
-use Rattle.job_scan.proofs.field_end.Reads as field-end-reads
-use Rattle.job_scan.proofs.more_step.Lts as lts
-use Rattle.job_scan.proofs.more_step.Reads as reads
-use Rattle.job_scan.proofs.separator_of.Reads as separator-of-reads
-use Rattle.job_scan.proofs.with_number.Reads as with-number-reads
+use Rattle.job_scan_fields.proofs.more_step.Lts as lts
 use Rattle.job_text.specs.Scan.{moreStep}
 use borrow.Author.Needs.{needs}
 use borrow.Author.Tests.{lt-ltb, le-ltb, ltb-true, eq-eqb, ne-eqb}
@@ -13,8 +7,8 @@ use lib.Dec.{ltb}
 use mathlib.Core.Bool.{and-eq-true-iff}
 use mathlib.Core.Path.{sym, _∙_}
 use native.Mathlib.Omega.{arith}
-use Rattle.job_scan.proofs.more_step.Statement.{statement}
-use Rattle.job_scan.proofs.more_step.Tie as tie
+use Rattle.job_scan_fields.proofs.more_step.Statement.{statement}
+use Rattle.job_scan_fields.proofs.more_step.Tie as tie
 
 digit-value-requires : tie.Need-digit-value-requires
 digit-value-requires c κs = search needs
@@ -45,8 +39,8 @@ returns c = simp (
   c .before .if2 .taken,
 ) (c .with-number .ensures)
 
-at-place-requires : tie.Need-at-place-requires
-at-place-requires c κs = search needs
+with-number-requires-2 : tie.Need-with-number-requires-2
+with-number-requires-2 c κs = search needs
 
 returns-2 : tie.Need-returns-2
 unfolding moreStep
@@ -54,7 +48,7 @@ returns-2 c = simp (
   ← c .before .before .before .digit-value .ensures,
   lt-ltb _ _ (c .before .before .if1 .taken),
   c .before .if2 .left,
-) (c .at-place .ensures)
+) (c .with-number2 .ensures)
 
 separator-of-requires : tie.Need-separator-of-requires
 separator-of-requires c κs = search needs
@@ -70,8 +64,8 @@ returns-3 c = simp (
   eq-eqb _ _ (c .before .if3 .taken ∙ c .before .before .separator-of .ensures),
 ) (c .field-end .ensures)
 
-at-place-requires-2 : tie.Need-at-place-requires-2
-at-place-requires-2 c κs = search needs
+with-number-requires-3 : tie.Need-with-number-requires-3
+with-number-requires-3 c κs = search needs
 
 returns-4 : tie.Need-returns-4
 unfolding moreStep
@@ -79,7 +73,7 @@ returns-4 c = simp (
   ← c .before .before .before .before .digit-value .ensures,
   le-ltb _ _ (c .before .before .before .if1 .left),
   ne-eqb _ _ (λ e. c .before .if3 .left (e ∙ sym (c .before .before .separator-of .ensures))),
-) (c .at-place2 .ensures)
+) (c .with-number3 .ensures)
 
 pub more-step-spec : {M : Type 1} → statement M
 more-step-spec =
@@ -91,10 +85,10 @@ more-step-spec =
     add-with-number
     with-number-requires
     returns
-    at-place-requires
+    with-number-requires-2
     returns-2
     separator-of-requires
     field-end-requires
     returns-3
-    at-place-requires-2
+    with-number-requires-3
     returns-4)

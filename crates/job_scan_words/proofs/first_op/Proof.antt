@@ -1,9 +1,8 @@
-use Rattle.job_scan.proofs.first_op.Lts as lts
-use Rattle.job_scan.proofs.first_op.Reads as reads
+use Rattle.job_scan_words.proofs.first_op.Lts as lts
 use Rattle.job_text.specs.Scan.{firstOp}
 use borrow.Author.Tests.{eq-eqb, ne-eqb}
-use Rattle.job_scan.proofs.first_op.Statement.{statement}
-use Rattle.job_scan.proofs.first_op.Tie as tie
+use Rattle.job_scan_words.proofs.first_op.Statement.{statement}
+use Rattle.job_scan_words.proofs.first_op.Tie as tie
 
 returns : tie.Need-returns
 unfolding firstOp

@@ -1,10 +1,9 @@
-use Rattle.job_scan.proofs.one_more.Lts as lts
-use Rattle.job_scan.proofs.one_more.Reads as reads
+use Rattle.job_scan_fields.proofs.one_more.Lts as lts
 use Rattle.job_text.specs.Scan.{oneMore}
 use borrow.Author.Needs.{needs}
 use borrow.Author.Tests.{lt-ltb, le-ltb}
-use Rattle.job_scan.proofs.one_more.Statement.{statement}
-use Rattle.job_scan.proofs.one_more.Tie as tie
+use Rattle.job_scan_fields.proofs.one_more.Statement.{statement}
+use Rattle.job_scan_fields.proofs.one_more.Tie as tie
 
 add-result : tie.Need-add-result
 add-result c = search needs

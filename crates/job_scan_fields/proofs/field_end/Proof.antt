@@ -1,14 +1,12 @@
 use Prim.Native.Nat.{ℕ}
-use Rattle.job_scan.proofs.field_end.Lts as lts
-use Rattle.job_scan.proofs.field_end.Reads as reads
-use Rattle.job_scan.proofs.one_more.Reads as one-more-reads
+use Rattle.job_scan_fields.proofs.field_end.Lts as lts
 use Rattle.job_text.specs.Scan.{ended}
 use Rattle.job_text.specs.declared.scan.Place.the-variants.{Word}
 use Rattle.job_text.specs.declared.scan.Scan.{Scan}
 use borrow.Author.Needs.{needs}
 use mathlib.Core.Path.{ap, sym, _∙_}
-use Rattle.job_scan.proofs.field_end.Statement.{statement}
-use Rattle.job_scan.proofs.field_end.Tie as tie
+use Rattle.job_scan_fields.proofs.field_end.Statement.{statement}
+use Rattle.job_scan_fields.proofs.field_end.Tie as tie
 
 -- the scan at the start of a line, with k steps counted
 abbrev counted : Scan → ℕ → Scan

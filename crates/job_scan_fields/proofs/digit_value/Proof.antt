@@ -1,9 +1,8 @@
-use Rattle.job_scan.proofs.digit_value.Lts as lts
-use Rattle.job_scan.proofs.digit_value.Reads as reads
+use Rattle.job_scan_fields.proofs.digit_value.Lts as lts
 use Rattle.job_text.specs.Scan.{digitValue}
 use borrow.Author.Tests.{lt-ltb, le-ltb}
-use Rattle.job_scan.proofs.digit_value.Statement.{statement}
-use Rattle.job_scan.proofs.digit_value.Tie as tie
+use Rattle.job_scan_fields.proofs.digit_value.Statement.{statement}
+use Rattle.job_scan_fields.proofs.digit_value.Tie as tie
 
 returns : tie.Need-returns
 unfolding digitValue
