@@ -3,11 +3,12 @@
 
 mod common;
 
+use common::damage::Fault;
 use common::{GenerateCall, Random};
 use sukhlent::{generate, raw, Refusal};
 
 /// Each fault with its number, in checking order.
-const FAULTS: [(u8, fn(&mut GenerateCall)); 4] = [
+const FAULTS: [Fault<GenerateCall>; 4] = [
     (15, |call| call.count = 4097),
     (2, |call| call.n = 65),
     (4, |call| call.places -= 1),
