@@ -1,0 +1,109 @@
+// Runs a step of a job on a lent record in place.
+use jobs::Answer;
+use jobs::Op;
+use jobs::Step;
+use measure_call::measure;
+use record::record_refusal;
+use record_calls::cz;
+use record_calls::gate;
+use rewriting_calls::complement;
+use rewriting_calls::pivot;
+ghost use mathlib.Core.Path.{_≡_};
+ghost use Prim.Native.Nat.{_%_, _+_, _/_, _<_};
+ghost use Rattle.jobs.specs.Asked.{unusedSet};
+ghost use Rattle.record_calls.specs.InPlaceCalls.{MeasureCall};
+ghost use Rattle.jobs_run.specs.StepRuns.{StepRun, wrongValue};
+
+// Whether a field that the operation does not use is not 0.
+fn unused_set(op: Op, b: u16, value: u16) -> bool
+    ensures { λ r. ⌜ r ≡ unusedSet op b value ⌝ }
+{
+    match op {
+        Op::Gate => b != 0,
+        Op::Cz => value != 0,
+        Op::Measure => b != 0,
+        Op::Complement => (b != 0) | (value != 0),
+        Op::Pivot => value != 0,
+    }
+}
+
+// Whether the value is no code, or for a measurement no Pauli and outcome.
+fn wrong_value(op: Op, value: u16) -> bool
+    ensures { λ r. ⌜ r ≡ wrongValue op value ⌝ }
+{
+    match op {
+        Op::Gate => 24 <= value,
+        Op::Cz => false,
+        Op::Measure => 6 <= value,
+        Op::Complement => false,
+        Op::Pivot => false,
+    }
+}
+
+// A measurement with the value 2 × (Pauli − 1) + outcome. A refused one answers 0 and 0.
+fn run_measurement(
+    n: u64,
+    neighbours: &mut [u64],
+    codes: &mut [u8],
+    qubit: u64,
+    value: u16,
+) -> Answer
+    requires { ⌜ value < 6 ⌝ }
+    ensures { λ r. ⌜ MeasureCall
+        (record { n = n; neighbours = now (neighbours .entry); codes = now (codes .entry) })
+        (value / 2 + 1) qubit (value % 2) 0 0 (r .refusal)
+        (now (neighbours .exit)) (now (codes .exit)) (r .outcome) (r .determined) ⌝ }
+{
+    let pauli = (value / 2 + 1) as u8;
+    let bit = (value % 2) as u8;
+    let mut outcome = 0;
+    let mut determined = 0;
+    let refusal = measure(
+        n,
+        neighbours,
+        codes,
+        pauli,
+        qubit,
+        bit,
+        &mut outcome,
+        &mut determined,
+    );
+    Answer {
+        refusal,
+        outcome,
+        determined,
+    }
+}
+
+// The answer of a step without outcome.
+fn plain(refusal: u8) -> Answer
+    ensures { λ r. ⌜ r ≡ record { refusal = refusal; outcome = 0; determined = 0 } ⌝ }
+{
+    Answer {
+        refusal,
+        outcome: 0,
+        determined: 0,
+    }
+}
+
+// One step: its refusal, outcome and determined, and the record as it leaves it.
+pub fn run_step(n: u64, neighbours: &mut [u64], codes: &mut [u8], s: Step) -> Answer
+    ensures { λ r. ⌜ StepRun
+        (record { n = n; neighbours = now (neighbours .entry); codes = now (codes .entry) })
+        s r (now (neighbours .exit)) (now (codes .exit)) ⌝ }
+{
+    let op = s.op;
+    let a = s.a as u64;
+    let b = s.b as u64;
+    let value = s.value;
+    if unused_set(op, s.b, value) | wrong_value(op, value) {
+        return plain(record_refusal(n, neighbours, codes, false, true));
+    }
+    match op {
+        Op::Gate => plain(gate(n, neighbours, codes, a, value as u8)),
+        Op::Cz => plain(cz(n, neighbours, codes, a, b)),
+        Op::Measure => run_measurement(n, neighbours, codes, a, value),
+        Op::Complement => plain(complement(n, neighbours, codes, a)),
+        Op::Pivot => plain(pivot(n, neighbours, codes, a, b)),
+    }
+}
