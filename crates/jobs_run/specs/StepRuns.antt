@@ -3,7 +3,7 @@
 use mathlib.Core.Bool.{Bool, false}
 use mathlib.Core.List.{List}
 use mathlib.Core.Path.{_≡_}
-use Prim.Native.Nat.{ℕ}
+use Prim.Native.Nat.{_<_, ℕ}
 use lib.Dec.{leb}
 use Rattle.jobs.specs.Runs.{afterStep, answerOf}
 use Rattle.jobs.specs.declared.Answer.{Answer}
@@ -25,3 +25,8 @@ wrongValue Cz value = false
 wrongValue Measure value = leb 6 value
 wrongValue Complement value = false
 wrongValue Pivot value = false
+
+-- no measurement, and of a gate the value is a code
+pub record Rewriting (op : Op) (value : ℕ) : Type 0 where
+  pub code : op ≡ Gate → value < 24
+  pub no-outcome : op ≡ Measure → ⊥

@@ -10,9 +10,10 @@ use rewriting_calls::complement;
 use rewriting_calls::pivot;
 ghost use mathlib.Core.Path.{_≡_};
 ghost use Prim.Native.Nat.{_%_, _+_, _/_, _<_};
-ghost use Rattle.jobs.specs.Asked.{unusedSet};
-ghost use Rattle.record_calls.specs.InPlaceCalls.{MeasureCall};
-ghost use Rattle.jobs_run.specs.StepRuns.{StepRun, wrongValue};
+ghost use Rattle.jobs.specs.Asked.{operation, unusedSet};
+ghost use Rattle.operations.specs.Steps.{step};
+ghost use Rattle.record_calls.specs.InPlaceCalls.{InPlaceCall, MeasureCall};
+ghost use Rattle.jobs_run.specs.StepRuns.{Rewriting, StepRun, wrongValue};
 
 // Whether a field that the operation does not use is not 0.
 fn unused_set(op: Op, b: u16, value: u16) -> bool
@@ -75,14 +76,27 @@ fn run_measurement(
     }
 }
 
-// The answer of a step without outcome.
-fn plain(refusal: u8) -> Answer
-    ensures { λ r. ⌜ r ≡ record { refusal = refusal; outcome = 0; determined = 0 } ⌝ }
+// The operations without outcome, by the calls.
+fn rewrite(
+    n: u64,
+    neighbours: &mut [u64],
+    codes: &mut [u8],
+    op: Op,
+    a: u64,
+    b: u64,
+    value: u16,
+) -> u8
+    requires { ⌜ Rewriting op value ⌝ }
+    ensures { λ r. ⌜ InPlaceCall
+        (step (record { n = n; neighbours = now (neighbours .entry); codes = now (codes .entry) })
+        (operation op a b value)) r (now (neighbours .exit)) (now (codes .exit)) ⌝ }
 {
-    Answer {
-        refusal,
-        outcome: 0,
-        determined: 0,
+    match op {
+        Op::Gate => gate(n, neighbours, codes, a, value as u8),
+        Op::Cz => cz(n, neighbours, codes, a, b),
+        Op::Complement => complement(n, neighbours, codes, a),
+        Op::Pivot => pivot(n, neighbours, codes, a, b),
+        Op::Measure => 0,
     }
 }
 
@@ -93,17 +107,23 @@ pub fn run_step(n: u64, neighbours: &mut [u64], codes: &mut [u8], s: Step) -> An
         s r (now (neighbours .exit)) (now (codes .exit)) ⌝ }
 {
     let op = s.op;
-    let a = s.a as u64;
-    let b = s.b as u64;
     let value = s.value;
     if unused_set(op, s.b, value) | wrong_value(op, value) {
-        return plain(record_refusal(n, neighbours, codes, false, true));
+        let wrong = record_refusal(n, neighbours, codes, false, true);
+        return Answer {
+            refusal: wrong,
+            outcome: 0,
+            determined: 0,
+        };
     }
-    match op {
-        Op::Gate => plain(gate(n, neighbours, codes, a, value as u8)),
-        Op::Cz => plain(cz(n, neighbours, codes, a, b)),
-        Op::Measure => run_measurement(n, neighbours, codes, a, value),
-        Op::Complement => plain(complement(n, neighbours, codes, a)),
-        Op::Pivot => plain(pivot(n, neighbours, codes, a, b)),
+    let a = s.a as u64;
+    if let Op::Measure = op {
+        return run_measurement(n, neighbours, codes, a, value);
+    }
+    let refusal = rewrite(n, neighbours, codes, op, a, s.b as u64, value);
+    Answer {
+        refusal,
+        outcome: 0,
+        determined: 0,
     }
 }
