@@ -1,4 +1,5 @@
 pub mod Numbers
 pub mod Starting
 pub mod Stepwise
+pub mod Printing
 pub mod JobExamples
