@@ -1,0 +1,50 @@
+use Rattle.job_scan.proofs.head_step.Lts as lts
+use Rattle.job_text.specs.Scan.{headStep}
+use borrow.Author.Needs.{needs}
+use borrow.Author.Tests.{lt-ltb, le-ltb, eq-eqb, ne-eqb}
+use Rattle.job_scan.proofs.head_step.Statement.{statement}
+use Rattle.job_scan.proofs.head_step.Tie as tie
+
+returns : tie.Need-returns
+unfolding headStep
+returns c = simp (le-ltb _ _ (c .if1 .taken))
+
+array-read-if2 : tie.Need-array-read-if2
+array-read-if2 c = search needs
+
+returns-2 : tie.Need-returns-2
+unfolding headStep
+returns-2 c = simp (lt-ltb _ _ (c .before .if1 .left), ne-eqb _ _ (c .if2 .taken))
+
+returns-3 : tie.Need-returns-3
+unfolding headStep
+returns-3 c = simp (
+  lt-ltb _ _ (c .before .before .if1 .left),
+  eq-eqb _ _ (c .before .if2 .left),
+  eq-eqb _ _ (c .if3 .taken),
+)
+
+returns-4 : tie.Need-returns-4
+unfolding headStep
+returns-4 c = simp (
+  lt-ltb _ _ (c .before .before .before .if1 .left),
+  eq-eqb _ _ (c .before .before .if2 .left),
+  ne-eqb _ _ (c .before .if3 .left),
+  eq-eqb _ _ (c .if4 .taken),
+)
+
+add-t9 : tie.Need-add-t9
+add-t9 c = search needs
+
+returns-5 : tie.Need-returns-5
+unfolding headStep
+returns-5 c = simp (
+  lt-ltb _ _ (c .before .before .before .if1 .left),
+  eq-eqb _ _ (c .before .before .if2 .left),
+  ne-eqb _ _ (c .before .if3 .left),
+  ne-eqb _ _ (c .if4 .left),
+)
+
+pub head-step-spec : {M : Type 1} → statement M
+head-step-spec =
+    tie.close (tie.spec returns array-read-if2 returns-2 returns-3 returns-4 add-t9 returns-5)

@@ -1,0 +1,12 @@
+use Rattle.job_scan.proofs.start.Lts as lts
+use Rattle.job_text.specs.Scan.{begin}
+use mathlib.Core.Path.{refl}
+use Rattle.job_scan.proofs.start.Statement.{statement}
+use Rattle.job_scan.proofs.start.Tie as tie
+
+returns : tie.Need-returns
+unfolding begin
+returns c = refl
+
+pub start-spec : {M : Type 1} → statement M
+start-spec = tie.close (tie.spec returns)

@@ -1,0 +1,102 @@
+use Prim.Native.Nat.{ℕ, _+_, _<_}
+use Rattle.job_scan_words.proofs.word_step.Lts as lts
+use Rattle.job_text.specs.Scan.{letters, moved, opFor, withOp, wordStep}
+use Rattle.job_text.specs.declared.scan.Field.the-variants.{A}
+use Rattle.job_text.specs.declared.scan.Place.the-variants.{Broken, First, Word}
+use Rattle.job_text.specs.declared.scan.Scan.{Scan}
+use Rattle.jobs.specs.declared.Op.{Op}
+use borrow.Author.Needs.{needs}
+use borrow.Author.Tests.{lt-ltb, le-ltb, eq-eqb, ne-eqb}
+use lib.ListN.{getD}
+use mathlib.Core.List.{List}
+use mathlib.Core.Path.{_≡_, ap, sym, _∙_}
+use Rattle.job_scan_words.proofs.word_step.Statement.{statement}
+use Rattle.job_scan_words.proofs.word_step.Tie as tie
+
+module _ (k : ℕ) (s : Scan) (b : ℕ) (o : Op) (word : List ℕ) (op : o ≡ opFor k (s .op) b)
+    (whole : word ≡ letters o) (inside : k < 11) where
+  letter : getD word k 0 ≡ getD (letters (opFor k (s .op) b)) k 0
+  letter = ap (λ l. getD l k 0) (whole ∙ ap letters op)
+
+  other-letter : (b ≡ getD word k 0 → ⊥) → moved s Broken ≡ wordStep k s b
+  unfolding wordStep
+  other-letter off =
+      simp (lt-ltb k 11 inside, ne-eqb b (getD (letters (opFor k (s .op) b)) k 0) (λ e. off (e ∙ sym letter)))
+
+  last-letter : b ≡ getD word k 0 → b ≡ 32 → withOp s o (First A) ≡ wordStep k s b
+  unfolding wordStep
+  last-letter on end =
+      ap (λ p. withOp s p (First A)) op
+      ∙ simp (lt-ltb k 11 inside, eq-eqb b (getD (letters (opFor k (s .op) b)) k 0) (on ∙ letter), eq-eqb b 32 end)
+
+  next-letter : b ≡ getD word k 0 → (b ≡ 32 → ⊥) → withOp s o (Word (k + 1)) ≡ wordStep k s b
+  unfolding wordStep
+  next-letter on more =
+      ap (λ p. withOp s p (Word (k + 1))) op
+      ∙ simp (lt-ltb k 11 inside, eq-eqb b (getD (letters (opFor k (s .op) b)) k 0) (on ∙ letter), ne-eqb b 32 more)
+
+with-op-requires : tie.Need-with-op-requires
+with-op-requires c κs = search needs
+
+returns : tie.Need-returns
+unfolding wordStep
+returns c = simp (le-ltb _ _ (c .before .if1 .taken)) (c .with-op .ensures)
+
+op-for-requires : tie.Need-op-for-requires
+op-for-requires c κs = search needs
+
+letters-of-requires : tie.Need-letters-of-requires
+letters-of-requires c κs = search needs
+
+array-read-if2 : tie.Need-array-read-if2
+array-read-if2 c = search needs
+
+with-op-requires-2 : tie.Need-with-op-requires-2
+with-op-requires-2 c κs = search needs
+
+returns-2 : tie.Need-returns-2
+returns-2 c =
+    let l = c .before .before in
+    c .with-op2 .ensures
+    ∙ other-letter _ (l .before .before .before .args .s) _ _ _ (l .before .op-for .ensures) (l .letters-of .ensures)
+    (l .before .before .if1 .left) (c .before .if2 .taken)
+
+with-op-requires-3 : tie.Need-with-op-requires-3
+with-op-requires-3 c κs = search needs
+
+returns-3 : tie.Need-returns-3
+returns-3 c =
+    let l = c .before .before .before in
+    c .with-op3 .ensures
+    ∙ last-letter _ (l .before .before .before .args .s) _ _ _ (l .before .op-for .ensures) (l .letters-of .ensures)
+    (l .before .before .if1 .left) (c .before .before .if2 .left) (c .before .if3 .taken)
+
+add-t16 : tie.Need-add-t16
+add-t16 c = search needs
+
+with-op-requires-4 : tie.Need-with-op-requires-4
+with-op-requires-4 c κs = search needs
+
+returns-4 : tie.Need-returns-4
+returns-4 c =
+    let l = c .before .before .before in
+    c .with-op4 .ensures
+    ∙ next-letter _ (l .before .before .before .args .s) _ _ _ (l .before .op-for .ensures) (l .letters-of .ensures)
+    (l .before .before .if1 .left) (c .before .before .if2 .left) (c .before .if3 .left)
+
+pub word-step-spec : {M : Type 1} → statement M
+word-step-spec =
+    tie.close
+    (tie.spec
+    with-op-requires
+    returns
+    op-for-requires
+    letters-of-requires
+    array-read-if2
+    with-op-requires-2
+    returns-2
+    with-op-requires-3
+    returns-3
+    add-t16
+    with-op-requires-4
+    returns-4)

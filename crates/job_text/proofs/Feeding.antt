@@ -1,0 +1,81 @@
+-- Feeding a text piece by piece: the reading after two pieces, after one more byte of a block, and after bytes that
+-- end no step.
+-- Assumes nothing.
+use mathlib.Core.Path.{_≡_, refl, sym, ap, _∙_}
+use mathlib.Core.Bool.{true, false, _&&_, cond}
+use mathlib.Core.List.{List, [], _∷_, _++_, flatten}
+use Prim.Native.Nat.{ℕ, _+_, _<_}
+use native.Mathlib.Nat.{le-of-eq}
+use native.Mathlib.Numerals.{add-one}
+use lib.Dec.{ltb}
+use lib.ListN.{length, getD, take}
+use lib.Seq.{take-suc}
+use borrow.Author.Tests.{le-ltb}
+use Rattle.jobs.specs.declared.Step.{Step}
+use Rattle.job_text.specs.Scan.{reading, stored, feedNext, feed, fed, fedBlocks, step}
+use Rattle.job_text.specs.declared.scan.Reading.{Reading}
+use Rattle.job_text.specs.declared.scan.Scan.{Scan}
+
+-- the reading after a text a ++ b is that after b, fed to the reading after a
+pub fed-append : (w : Reading) (a b : List ℕ) → fed w (a ++ b) ≡ fed (fed w a) b
+unfolding fed
+fed-append w [] b = refl
+fed-append w (c ∷ a) b = fed-append (feed w c) a b
+
+pub fed-one : (w : Reading) (a : List ℕ) (b : ℕ) → fed w (a ++ b ∷ []) ≡ feed (fed w a) b
+unfolding fed
+fed-one w a b = fed-append w a (b ∷ [])
+
+-- blocks fed one after the other are fed as the text that they make
+pub blocks-fed : (w : Reading) (blocks : List (List ℕ)) → fedBlocks w blocks ≡ fed w (flatten blocks)
+unfolding fedBlocks fed flatten
+blocks-fed w [] = refl
+blocks-fed w (block ∷ blocks) = blocks-fed (fed w block) blocks ∙ sym (fed-append w block (flatten blocks))
+
+-- a turn of the loop over a block
+module _ (w now : Reading) (block : List ℕ) (i : ℕ) (inside : i < length block)
+    (sofar : now ≡ fed w (take i block)) where
+  fed-more : fed w (take (i + 1) block) ≡ feed now (getD block i 0)
+  fed-more =
+      ap (λ k. fed w (take k block)) (add-one i) ∙ ap (fed w) (take-suc block i 0 inside)
+      ∙ fed-one w (take i block) (getD block i 0) ∙ ap (λ v. feed v (getD block i 0)) (sym sofar)
+
+  module _ (next : Scan) (stepped : next ≡ step (now .scan) (getD block i 0)) where
+    turn : feedNext now next ≡ fed w (take (i + 1) block)
+    unfolding feed
+    turn = ap (feedNext now) stepped ∙ sym fed-more
+
+    pub turn-stored : (ltb (now .scan .count) (next .count) && ltb (now .scan .count) 4096) ≡ true
+        → stored now next ≡ fed w (take (i + 1) block)
+    turn-stored ends = ap (λ t. cond t (stored now next) (reading next (now .steps))) (sym ends) ∙ turn
+
+    pub turn-kept : (ltb (now .scan .count) (next .count) && ltb (now .scan .count) 4096) ≡ false
+        → reading next (now .steps) ≡ fed w (take (i + 1) block)
+    turn-kept on = ap (λ t. cond t (stored now next) (reading next (now .steps))) (sym on) ∙ turn
+
+-- a byte that ends no step leaves the array
+pub feed-keeps : (w : Reading) (b : ℕ) (next : Scan) → step (w .scan) b ≡ next → next .count ≡ w .scan .count
+    → feed w b ≡ reading next (w .steps)
+unfolding feed
+feed-keeps w b next e same =
+    ap (feedNext w) e
+    ∙ ap (λ t. cond (t && ltb (w .scan .count) 4096) (stored w next) (reading next (w .steps)))
+    (le-ltb (w .scan .count) (next .count) (le-of-eq same))
+
+-- the scan after these bytes
+unfoldable pub ran : Scan → List ℕ → Scan
+ran s [] = s
+ran s (b ∷ bs) = ran (step s b) bs
+
+-- none of them ends a step
+abbrev pub Quiet : Scan → List ℕ → Type 0
+Quiet s [] = Unit
+Quiet s (b ∷ bs) = (step s b .count ≡ s .count) × Quiet (step s b) bs
+
+pub quiet-fed : (bs : List ℕ) (s : Scan) (steps : List Step) → Quiet s bs
+    → fed (reading s steps) bs ≡ reading (ran s bs) steps
+unfolding fed ran
+quiet-fed [] s steps quiet = refl
+quiet-fed (b ∷ bs) s steps quiet =
+    ap (λ w. fed w bs) (feed-keeps (reading s steps) b (step s b) refl (quiet .0))
+    ∙ quiet-fed bs (step s b) steps (quiet .1)

@@ -1,0 +1,13 @@
+pub mod Digits
+pub mod Separators
+pub mod OpLaws
+pub mod Steps
+pub mod Feeding
+pub mod StepLine
+pub mod ScanJob
+pub mod Sofar
+pub mod ScanSound
+pub mod Verdict
+pub mod KeptLaws
+pub mod Unique
+pub mod Examples
