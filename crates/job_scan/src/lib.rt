@@ -12,28 +12,7 @@ ghost use mathlib.Core.Path.{_≡_};
 ghost use Rattle.job_text.specs.Scan.{moved, headStep, step, begin, empty, fed, atLine, verdict};
 
 // The bytes of the head that are the same in every job.
-const HEAD: [u8; 20] = [
-    b'q',
-    b'u',
-    b'b',
-    b'i',
-    b't',
-    b's',
-    b'\n',
-    b'o',
-    b'p',
-    b' ',
-    b'a',
-    b' ',
-    b'b',
-    b' ',
-    b'v',
-    b'a',
-    b'l',
-    b'u',
-    b'e',
-    b'\n',
-];
+const HEAD: [u8; 20] = *b"qubits\nop a b value\n";
 
 fn at_place(s: Scan, place: Place) -> Scan
     ensures { λ r. ⌜ r ≡ moved s place ⌝ }

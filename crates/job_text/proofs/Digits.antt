@@ -9,6 +9,7 @@ use native.Mathlib.Omega.{arith}
 use lib.Dec.{ltb, lit<}
 use borrow.Author.Tests.{lt-ltb, le-ltb, ltb-true, ltb-false}
 use Rattle.text.proofs.DigitLaws.{by-test, readDecimal}
+use Rattle.text.specs.Text.{decimal}
 use Rattle.job_text.specs.Text.{digits}
 use Rattle.job_text.specs.Scan.{digitValue}
 
@@ -28,32 +29,28 @@ digit-value b =
     Right : ℕ → Type 0
     Right v = v < 10 → b ≡ 48 + v
 
--- two places are enough for a number below 100
-digits-one : (v : ℕ) → v < 10 → digits 2 v ≡ digits 1 v
+-- one place is enough for a number below 10
+pub one-place : (k v : ℕ) → v < 10 → digits (suc k) v ≡ (48 + v) ∷ []
 unfolding digits
-digits-one v small = simp (lt-ltb v 10 small)
+one-place k v small = simp (lt-ltb v 10 small)
 
-digits-two : (v : ℕ) → v < 100 → digits 3 v ≡ digits 2 v
-unfolding digits
-digits-two v small =
-    ap (λ l. cond (ltb v 10) ((48 + v) ∷ []) (l ++ (48 + v % 10) ∷ []))
-    (digits-one (v / 10) (omega arith))
+-- two places for a number below 100
+pub two-places : (k v : ℕ) → v < 100 → digits (suc (suc k)) v ≡ decimal v
+unfolding digits decimal
+two-places k v small =
+    ap (λ l. cond (ltb v 10) ((48 + v) ∷ []) (l ++ (48 + v % 10) ∷ [])) (one-place k (v / 10) (omega arith))
 
--- one digit
-pub digits-first : (d : ℕ) → d < 10 → digits 3 d ≡ (48 + d) ∷ []
+-- the last digit, and those before it
+pub digits-last : (k v : ℕ) → 10 ≤ v → digits (suc k) v ≡ digits k (v / 10) ++ (48 + v % 10) ∷ []
 unfolding digits
-digits-first d small = simp (lt-ltb d 10 small)
-
-three : (u : ℕ) → 10 ≤ u → digits 3 u ≡ digits 2 (u / 10) ++ (48 + u % 10) ∷ []
-unfolding digits
-three u long = simp (le-ltb u 10 long)
+digits-last k v long = simp (le-ltb v 10 long)
 
 -- one digit more at the low end
 pub digits-push : (v d : ℕ) → 0 < v → v < 100 → d < 10 → digits 3 (v * 10 + d) ≡ digits 3 v ++ (48 + d) ∷ []
 digits-push v d some small one =
-    three (v * 10 + d) (omega arith)
+    digits-last 2 (v * 10 + d) (omega arith)
     ∙ ap₂ (λ m e. digits 2 m ++ (48 + e) ∷ []) (omega arith) (omega arith)
-    ∙ ap (λ l. l ++ (48 + d) ∷ []) (sym (digits-two v small))
+    ∙ ap (λ l. l ++ (48 + d) ∷ []) (two-places 0 v small ∙ sym (two-places 1 v small))
 
 read-append : (a : ℕ) (s t : List ℕ) → readDecimal a (s ++ t) ≡ readDecimal (readDecimal a s) t
 unfolding readDecimal

@@ -10,4 +10,5 @@ pub mod ScanSound
 pub mod Verdict
 pub mod KeptLaws
 pub mod Unique
+pub mod ResultLaws
 pub mod Examples

@@ -26,7 +26,7 @@ use Rattle.job_text.specs.declared.scan.Field.the-variants.{N, A, B, Val
 use Rattle.job_text.specs.declared.scan.Place.{Place}
 use Rattle.job_text.specs.declared.scan.Place.the-variants.{Head, Word, First, More, Broken}
 use Rattle.job_text.specs.declared.scan.Scan.{Scan}
-use Rattle.job_text.proofs.Digits.{digit-value, digits-first, digits-push}
+use Rattle.job_text.proofs.Digits.{digit-value, one-place, digits-push}
 use Rattle.job_text.proofs.OpLaws.{letter-at, space-last, same-start}
 use Rattle.job_text.proofs.Steps.{job-none, job-more, fit-more}
 use Rattle.job_text.proofs.Sofar.{Upto, aPart, bPart, valuePart, Before, Inside, AtHead, AtWord, Sofar}
@@ -154,7 +154,7 @@ module _ (s : Scan) (t : List ℕ) (b : ℕ) where
         start = t;
         before = sofar;
         small = omega arith;
-        text = ap (λ l. t ++ l) (ap (λ c. c ∷ []) (digit-value b small) ∙ sym (digits-first d small));
+        text = ap (λ l. t ++ l) (ap (λ c. c ∷ []) (digit-value b small) ∙ sym (one-place 2 d small));
       })
       (λ _. tt)
 

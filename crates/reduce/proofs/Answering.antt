@@ -93,7 +93,7 @@ module _ (l : GeneratorList) (nb cs out : List ℕ) (L : Lent (l .n) nb cs out) 
           (refusedText (firstFitting (checkLines l))))
           (eq-eqb (firstFitting (checkLines l)) 0 passes))
 
-      pub printable : Printable (l .n) nb′ cs′ out
+      pub printable : Printable (l .n) nb′ cs′ 0 out
       printable =
           record {
             qubits = few;

@@ -1,7 +1,7 @@
 -- What was printed, and where it ends in its buffer.
 -- Assumes nothing.
 use mathlib.Core.List.{List}
-use mathlib.Core.Path.{ap, subst, _∙_, _≡_}
+use mathlib.Core.Path.{ap, _∙_, _≡_}
 use Prim.Native.Nat.{_+_, ℕ, _≤_}
 use native.Mathlib.Omega.{arith}
 use lib.ListN.{drop, length, length-append, length-drop, take}
@@ -26,9 +26,3 @@ pub printed-part : (bytes before after : List ℕ) (r : ℕ) → Printed bytes 0
     length after ≡ length before → length (take r after) ≡ r
 printed-part bytes before after r P e =
     length-take-le r after (printed-fits bytes before after r P e)
-
--- equal bytes
-pub same-print : {bytes bytes′ before after : List ℕ} {at r : ℕ} → bytes ≡ bytes′ →
-    Printed bytes at before after r → Printed bytes′ at before after r
-same-print {before = before} {after = after} {at = at} {r = r} e P =
-    subst (λ b. Printed b at before after r) e P

@@ -1,6 +1,6 @@
 -- Writing into a buffer, piece by piece: a byte is a store, and two pieces written one behind the other are one.
 -- Assumes nothing.
-use mathlib.Core.Path.{_≡_, sym, ap, _∙_}
+use mathlib.Core.Path.{_≡_, sym, ap, _∙_, subst}
 use mathlib.Core.List.{List, [], _∷_, _++_, append-assoc, append-nil}
 use Prim.Native.Nat.{ℕ, suc, _+_, _≤_, _<_}
 use native.Mathlib.Nat.{add-zero, add-assoc}
@@ -78,3 +78,9 @@ and-then {a} {b} {o} {o′} {o″} {at} {r} {r′} room p q = record {
       q .out ∙ ap (λ l. written l r b) (p .out) ∙ ap (λ k. written (written o at a) k b) (p .end)
       ∙ write-more o at a room b;
 }
+
+-- equal bytes
+pub same-print : {bytes bytes′ before after : List ℕ} {at r : ℕ} → bytes ≡ bytes′
+    → Printed bytes at before after r → Printed bytes′ at before after r
+same-print {before = before} {after = after} {at = at} {r = r} e P =
+    subst (λ b. Printed b at before after r) e P

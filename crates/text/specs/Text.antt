@@ -108,10 +108,10 @@ pub record Printed (bytes : List ℕ) (at : ℕ) (before after : List ℕ) (r : 
   pub end : r ≡ at + length bytes
   pub out : after ≡ written before at bytes
 
--- what a record and its buffer must be for the print
-pub record Printable (n : ℕ) (neighbours codes out : List ℕ) : Type 0 where
+-- what a record and its buffer must be for the print from place at on
+pub record Printable (n : ℕ) (neighbours codes : List ℕ) (at : ℕ) (out : List ℕ) : Type 0 where
   pub qubits : n ≤ 64
   pub neighbours-long : n ≤ length neighbours
   pub codes-long : n ≤ length codes
   pub codes-small : (q : ℕ) → q < n → getD codes q 0 < 24
-  pub room : 22 + n * 23 ≤ length out
+  pub room : at + 22 + n * 23 ≤ length out

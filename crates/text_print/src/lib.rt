@@ -13,7 +13,7 @@ fn hex_digit(d: u8) -> u8
     if d < 10 { 48 + d } else { 87 + d }
 }
 
-fn put(b: u8, at: usize, out: &mut [u8]) -> usize
+pub fn put(b: u8, at: usize, out: &mut [u8]) -> usize
     requires { ⌜ at < length (now out) ⌝ }
     ensures { λ r. ⌜ Printed (b ∷ []) at (now (out .entry)) (now (out .exit)) r ⌝ }
 {
@@ -21,7 +21,7 @@ fn put(b: u8, at: usize, out: &mut [u8]) -> usize
     at + 1
 }
 
-fn put_bytes(bytes: &[u8], at: usize, out: &mut [u8]) -> usize
+pub fn put_bytes(bytes: &[u8], at: usize, out: &mut [u8]) -> usize
     requires { ⌜ at + length (now bytes) ≤ length (now out) ⌝ }
     ensures { λ r. ⌜ Printed (now (bytes .entry)) at (now (out .entry)) (now (out .exit)) r ⌝ }
 {
@@ -34,7 +34,7 @@ fn put_bytes(bytes: &[u8], at: usize, out: &mut [u8]) -> usize
 }
 
 // A decimal number below 100.
-fn put_decimal(k: u8, at: usize, out: &mut [u8]) -> usize
+pub fn put_decimal(k: u8, at: usize, out: &mut [u8]) -> usize
     requires { ⌜ (k < 100) × (at + 2 ≤ length (now out)) ⌝ }
     ensures { λ r. ⌜ Printed (decimal k) at (now (out .entry)) (now (out .exit)) r ⌝ }
 {
@@ -60,7 +60,7 @@ fn put_word(w: u64, at: usize, out: &mut [u8]) -> usize
 }
 
 // A decimal number below 100 and the space behind it.
-fn put_field(k: u8, at: usize, out: &mut [u8]) -> usize
+pub fn put_field(k: u8, at: usize, out: &mut [u8]) -> usize
     requires { ⌜ (k < 100) × (at + 3 ≤ length (now out)) ⌝ }
     ensures { λ r. ⌜ Printed (decimal k ++ space) at (now (out .entry)) (now (out .exit)) r ⌝ }
 {
@@ -79,13 +79,19 @@ fn put_line(q: u8, code: u8, w: u64, at: usize, out: &mut [u8]) -> usize
     put(10, after_w, out)
 }
 
-// The record of n qubits: the names and a line for each qubit. Returns the number of bytes.
-pub fn print_record(n: usize, neighbours: &[u64], codes: &[u8], out: &mut [u8]) -> usize
-    requires { ⌜ Printable n (now neighbours) (now codes) (now out) ⌝ }
-    ensures { λ r. ⌜ Printed (recordText n (now (neighbours .entry)) (now (codes .entry))) 0
+// The record of n qubits, from a place on: the names and a line for each qubit. Returns the place behind it.
+pub fn print_record(
+    n: usize,
+    neighbours: &[u64],
+    codes: &[u8],
+    from: usize,
+    out: &mut [u8],
+) -> usize
+    requires { ⌜ Printable n (now neighbours) (now codes) from (now out) ⌝ }
+    ensures { λ r. ⌜ Printed (recordText n (now (neighbours .entry)) (now (codes .entry))) from
         (now (out .entry)) (now (out .exit)) r ⌝ }
 {
-    let mut at = put_bytes(b"qubit code neighbours\n", 0, out);
+    let mut at = put_bytes(b"qubit code neighbours\n", from, out);
     let mut q = 0;
     while q < n {
         at = put_line(q as u8, codes[q], neighbours[q], at, out);

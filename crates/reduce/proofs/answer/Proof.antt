@@ -1,7 +1,7 @@
 use mathlib.Core.Path.{refl, sym}
 use borrow.Author.Needs.{needs}
 use Rattle.reduce.proofs.ListPlaces.{lent-places, places-long, places-printed}
-use Rattle.reduce.proofs.Prints.{same-print}
+use Rattle.text.proofs.Writing.{same-print}
 use Rattle.reduce.proofs.answer.Statement.{statement}
 use Rattle.reduce.proofs.answer.Tie as tie
 

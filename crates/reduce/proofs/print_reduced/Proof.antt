@@ -2,7 +2,7 @@ use native.Mathlib.Omega.{arith}
 use borrow.Author.Needs.{needs}
 use Rattle.stabilizer.specs.Lists.{GeneratorList}
 use Rattle.reduce.proofs.Answering.{number-small, printable, record-printed, refused-printed}
-use Rattle.reduce.proofs.Prints.{same-print}
+use Rattle.text.proofs.Writing.{same-print}
 use Rattle.reduce.proofs.print_reduced.Statement.{statement}
 use Rattle.reduce.proofs.print_reduced.Tie as tie
 

@@ -13,11 +13,11 @@ use Rattle.text_print.proofs.print_record.Statement.{statement}
 use Rattle.text_print.proofs.print_record.Tie as tie
 
 abbrev Inv-loop : tie.InvT-loop
-Inv-loop n neighbours codes out₀ at₀ q₀ out at q = (q ≤ n)
+Inv-loop n neighbours codes from out₀ at₀ q₀ out at q = (q ≤ n)
     × Printed (recordLines q neighbours codes) at₀ out₀ out at × (length out ≡ length out₀)
 
 abbrev μ-loop : tie.MeasureT-loop
-μ-loop n neighbours codes out₀ at₀ q₀ out at q = n - q
+μ-loop n neighbours codes from out₀ at₀ q₀ out at q = n - q
 
 slice-aggregate-put-bytes : tie.Need-slice-aggregate-put-bytes Inv-loop μ-loop
 slice-aggregate-put-bytes c = search needs
@@ -99,7 +99,7 @@ returns c =
     let all : l .loop .q ≡ start .args .n = omega arith in
     subst (λ k. Printed (recordNames
     ++ recordLines k (start .args .neighbours .now) (start .args .codes .now))
-    0 (start .args .out .now) (l .loop .out) (l .loop .at)) all
+    (start .args .from) (start .args .out .now) (l .loop .out) (l .loop .at)) all
     (and-then (omega (arith, start .pre .room)) (names .put-bytes .ensures) (l .loop .inv .1))
 
 pub print-record-spec : {M : Type 1} → statement M

@@ -1,0 +1,105 @@
+use Prim.Native.Nat.{_+_, _%_}
+use Prim.Native.Nat.{_/_}
+use Rattle.job_print.proofs.put_number.Lts as lts
+use Rattle.job_text.proofs.ResultLaws.{number-long, number-short}
+use Rattle.text.proofs.HexLaws.{length-decimal}
+use Rattle.text.proofs.Writing.{and-then, same-print}
+use Rattle.text.specs.Text.{decimal}
+use borrow.Author.Needs.{needs}
+use lib.ListN.{length-append}
+use mathlib.Core.List.{[], _∷_}
+use native.Mathlib.Omega.{arith}
+use Rattle.job_print.proofs.put_number.Statement.{statement}
+use Rattle.job_print.proofs.put_number.Tie as tie
+
+cast-put-decimal : tie.Need-cast-put-decimal
+cast-put-decimal c = search needs
+
+put-decimal-requires : tie.Need-put-decimal-requires
+put-decimal-requires c κs = search needs
+
+same-length : tie.Need-same-length
+same-length c = search needs
+
+returns : tie.Need-returns
+returns c = same-print (number-short _ (c .before .before .before .before .if1 .taken))
+    (c .before .before .put-decimal .ensures)
+
+cast-put-decimal-2 : tie.Need-cast-put-decimal-2
+cast-put-decimal-2 c = search needs
+
+put-decimal-requires-2 : tie.Need-put-decimal-requires-2
+put-decimal-requires-2 c κs = search needs
+
+cast-put : tie.Need-cast-put
+cast-put c = search needs
+
+add-put : tie.Need-add-put
+add-put c = search needs
+
+put-requires : tie.Need-put-requires
+put-requires c κs =
+    let hundreds = c .before .before .before in
+    let start = hundreds .before .before .before .before in
+    omega (
+      arith,
+      length-decimal (start .args .k / 100),
+      hundreds .put-decimal2 .ensures .end,
+      hundreds .put-decimal2 .kept,
+      start .pre,
+    )
+
+cast-put-2 : tie.Need-cast-put-2
+cast-put-2 c = search needs
+
+add-put-2 : tie.Need-add-put-2
+add-put-2 c = search needs
+
+put-requires-2 : tie.Need-put-requires-2
+put-requires-2 c κs =
+    let tens = c .before .before .before in
+    let hundreds = tens .before .before .before .before in
+    let start = hundreds .before .before .before .before in
+    omega (
+      arith,
+      length-decimal (start .args .k / 100),
+      hundreds .put-decimal2 .ensures .end,
+      hundreds .put-decimal2 .kept,
+      tens .put .ensures .end,
+      tens .put .kept,
+      start .pre,
+    )
+
+same-length-2 : tie.Need-same-length-2
+same-length-2 c = search needs
+
+returns-2 : tie.Need-returns-2
+returns-2 c =
+    let tens = c .before .before .before .before .before .before in
+    let hundreds = tens .before .before .before .before in
+    let start = hundreds .before .before .before .before in
+    let k = start .args .k in
+    let long = length-decimal (k / 100) in
+    same-print (number-long k (hundreds .before .before .if1 .left) (start .pre .0))
+    (and-then (omega (arith, long, length-append (decimal (k / 100)) ((48 + k / 10 % 10) ∷ []), start .pre))
+    (and-then (omega (arith, long, start .pre)) (hundreds .put-decimal2 .ensures) (tens .put .ensures))
+    (c .before .before .put2 .ensures))
+
+pub put-number-spec : {M : Type 1} → statement M
+put-number-spec =
+    tie.close
+    (tie.spec
+    cast-put-decimal
+    put-decimal-requires
+    same-length
+    returns
+    cast-put-decimal-2
+    put-decimal-requires-2
+    cast-put
+    add-put
+    put-requires
+    cast-put-2
+    add-put-2
+    put-requires-2
+    same-length-2
+    returns-2)
