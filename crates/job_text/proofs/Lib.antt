@@ -9,6 +9,8 @@ pub mod Sofar
 pub mod ScanSound
 pub mod Verdict
 pub mod KeptLaws
+pub mod Accepted
+pub mod ReadBack
 pub mod Unique
 pub mod ResultLaws
 pub mod Examples

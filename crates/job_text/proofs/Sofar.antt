@@ -12,7 +12,6 @@ use Rattle.jobs.specs.declared.Step.{Step}
 use Rattle.text.specs.Text.{space, newline}
 use Rattle.job_text.specs.Text.{field, opWord, AllFit, qubitsLine, stepNames}
 use Rattle.job_text.specs.Text.{jobText}
-use Rattle.job_text.specs.Scan.{letters}
 use Rattle.job_text.specs.declared.scan.Field.{Field}
 use Rattle.job_text.specs.declared.scan.Field.the-variants.{N, A, B, Value}
 use Rattle.job_text.specs.declared.scan.Place.{Place}

@@ -4,7 +4,7 @@ use mathlib.Core.Path.{_≡_, refl, ap, _∙_}
 use mathlib.Core.List.{List, [], _∷_, _++_}
 use Prim.Native.Nat.{ℕ, zero, suc, _+_, _*_, _/_, _%_, _^_, _<_}
 use native.Mathlib.Omega.{arith}
-use lib.Dec.{ltb, lit<}
+use lib.Dec.{ltb}
 use borrow.Author.Tests.{lt-ltb, ltb-true, ltb-false}
 use Rattle.jobs.specs.declared.Op.{Op}
 use Rattle.jobs.specs.declared.Op.the-variants.{Gate, Cz, Measure, Complement, Pivot}
@@ -15,13 +15,13 @@ use Rattle.job_text.specs.Text.{digits, field, opWord, Fits, stepText}
 use Rattle.job_text.specs.Scan.{firstOp, opFor, wordStep, digitValue, firstStep, moreStep, step, oneMore}
 use Rattle.job_text.specs.Scan.{reading, feedNext, feed, fed}
 use Rattle.job_text.specs.declared.scan.Field.{Field}
-use Rattle.job_text.specs.declared.scan.Field.the-variants.{N, A, B, Value}
+use Rattle.job_text.specs.declared.scan.Field.the-variants.{A, B, Value}
 use Rattle.job_text.specs.declared.scan.Place.{Place}
-use Rattle.job_text.specs.declared.scan.Place.the-variants.{Head, Word, First, More}
+use Rattle.job_text.specs.declared.scan.Place.the-variants.{Word, First, More}
 use Rattle.job_text.specs.declared.scan.Reading.{Reading}
 use Rattle.job_text.specs.declared.scan.Scan.{Scan}
 use Rattle.job_text.proofs.Digits.{value-digit, fewer-digits}
-use Rattle.job_text.proofs.Feeding.{fed-append, fed-one, feed-keeps, Quiet, ran, quiet-fed}
+use Rattle.job_text.proofs.Feeding.{fed-append, fed-one, feed-keeps, ran, quiet-fed}
 
 -- a scan at the place p
 abbrev pub scanAt : ℕ → ℕ → Place → Op → ℕ → ℕ → ℕ → Scan
