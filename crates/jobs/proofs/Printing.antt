@@ -12,7 +12,17 @@ use Rattle.buffers.specs.Refusals.{Line, firstFitting}
 use Rattle.clifford.proofs.CliffordLaws.{codeOf-lt}
 use Rattle.clifford.specs.Clifford.{codeOf}
 use Rattle.operations.specs.Measurement.{determinedNumber, outcomeNumber}
-use Rattle.operations.specs.Steps.{Operation, complementOf, czOn, gateWith, measuredAnswer, measurementOf, pivotOf, step, stepped}
+use Rattle.operations.specs.Steps.{
+  Operation,
+  complementOf,
+  czOn,
+  gateWith,
+  measuredAnswer,
+  measurementOf,
+  pivotOf,
+  step,
+  stepped,
+}
 use Rattle.operations.specs.declared.Outcome.{Outcome}
 use Rattle.operations.specs.declared.Outcome.the-variants.{Chosen, Determined}
 use Rattle.record.specs.Lent.{LentRecord, codeNumbers, neighbourWords}
@@ -86,7 +96,8 @@ run-sized n l S (s ∷ rest) = run-sized n (afterStep l s) (step-sized n l S s) 
 below-100 : (l : LentRecord) (b : Bool) (o : Operation) → AllBelow 100 (withTest 6 b (linesOf l o))
 below-100 l b (gateWith q k) = (lit< tt, (lit< tt, (lit< tt, (lit< tt, (lit< tt, (lit< tt, tt))))))
 below-100 l b (czOn a c) = (lit< tt, (lit< tt, (lit< tt, (lit< tt, (lit< tt, (lit< tt, tt))))))
-below-100 l b (measurementOf pauli q c) = (lit< tt, (lit< tt, (lit< tt, (lit< tt, (lit< tt, (lit< tt, (lit< tt, tt)))))))
+below-100 l b (measurementOf pauli q c) =
+    (lit< tt, (lit< tt, (lit< tt, (lit< tt, (lit< tt, (lit< tt, (lit< tt, tt)))))))
 below-100 l b (complementOf a) = (lit< tt, (lit< tt, (lit< tt, (lit< tt, (lit< tt, (lit< tt, tt))))))
 below-100 l b (pivotOf j k) = (lit< tt, (lit< tt, (lit< tt, (lit< tt, (lit< tt, (lit< tt, tt))))))
 
