@@ -1,4 +1,5 @@
 pub mod Numbers
+pub mod WrongFields
 pub mod Starting
 pub mod Stepwise
 pub mod Printing

@@ -1,2 +1,1 @@
-pub mod WrongFields
 pub mod Running

@@ -17,7 +17,7 @@ use Rattle.jobs.proofs.Numbers.{
   refused-keeps,
   six-refuses,
 }
-use Rattle.jobs.specs.Asked.{asked, numberOf, operation, unusedSet}
+use Rattle.jobs.specs.Asked.{asked, numberOf, operation, unusedSet, wrongValue}
 use Rattle.jobs.specs.Runs.{afterStep, answerOf, determinedOf, outcomeOf}
 use Rattle.jobs.specs.declared.Answer.{Answer}
 use Rattle.jobs.specs.declared.Op.{Op}
@@ -27,8 +27,8 @@ use Rattle.operations.specs.Steps.{step}
 use Rattle.record.specs.Lent.{LentRecord, recordLines}
 use Rattle.record_calls.specs.InPlaceCalls.{InPlaceCall, MeasureCall}
 use Rattle.words.proofs.Flags.{neither}
-use Rattle.jobs_run.proofs.WrongFields.{fields-refuse}
-use Rattle.jobs_run.specs.StepRuns.{Rewriting, StepRun, wrongValue}
+use Rattle.jobs.proofs.WrongFields.{fields-refuse}
+use Rattle.jobs_run.specs.StepRuns.{Rewriting, StepRun}
 
 abbrev answer : ℕ → ℕ → ℕ → Answer
 answer k o d = record { refusal = k; outcome = o; determined = d }

@@ -2,44 +2,19 @@
 use jobs::Answer;
 use jobs::Op;
 use jobs::Step;
+use jobs::unused_set;
+use jobs::wrong_value;
 use measure_call::measure;
 use record::record_refusal;
 use record_calls::cz;
 use record_calls::gate;
 use rewriting_calls::complement;
 use rewriting_calls::pivot;
-ghost use mathlib.Core.Path.{_≡_};
 ghost use Prim.Native.Nat.{_%_, _+_, _/_, _<_};
-ghost use Rattle.jobs.specs.Asked.{operation, unusedSet};
+ghost use Rattle.jobs.specs.Asked.{operation};
 ghost use Rattle.operations.specs.Steps.{step};
 ghost use Rattle.record_calls.specs.InPlaceCalls.{InPlaceCall, MeasureCall};
-ghost use Rattle.jobs_run.specs.StepRuns.{Rewriting, StepRun, wrongValue};
-
-// Whether a field that the operation does not use is not 0.
-fn unused_set(op: Op, b: u16, value: u16) -> bool
-    ensures { λ r. ⌜ r ≡ unusedSet op b value ⌝ }
-{
-    match op {
-        Op::Gate => b != 0,
-        Op::Cz => value != 0,
-        Op::Measure => b != 0,
-        Op::Complement => (b != 0) | (value != 0),
-        Op::Pivot => value != 0,
-    }
-}
-
-// Whether the value is no code, or for a measurement no Pauli and outcome.
-fn wrong_value(op: Op, value: u16) -> bool
-    ensures { λ r. ⌜ r ≡ wrongValue op value ⌝ }
-{
-    match op {
-        Op::Gate => 24 <= value,
-        Op::Cz => false,
-        Op::Measure => 6 <= value,
-        Op::Complement => false,
-        Op::Pivot => false,
-    }
-}
+ghost use Rattle.jobs_run.specs.StepRuns.{Rewriting, StepRun};
 
 // A measurement with the value 2 × (Pauli − 1) + outcome. A refused one answers 0 and 0.
 fn run_measurement(

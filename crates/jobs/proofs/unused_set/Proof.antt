@@ -1,6 +1,6 @@
 use borrow.Author.Needs.{needs}
-use Rattle.jobs_run.proofs.unused_set.Statement.{statement}
-use Rattle.jobs_run.proofs.unused_set.Tie as tie
+use Rattle.jobs.proofs.unused_set.Statement.{statement}
+use Rattle.jobs.proofs.unused_set.Tie as tie
 
 enum-told : tie.Need-enum-told
 enum-told c = search needs

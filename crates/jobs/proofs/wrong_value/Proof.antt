@@ -1,6 +1,6 @@
 use borrow.Author.Needs.{needs}
-use Rattle.jobs_run.proofs.wrong_value.Statement.{statement}
-use Rattle.jobs_run.proofs.wrong_value.Tie as tie
+use Rattle.jobs.proofs.wrong_value.Statement.{statement}
+use Rattle.jobs.proofs.wrong_value.Tie as tie
 
 enum-told : tie.Need-enum-told
 enum-told c = search needs

@@ -9,14 +9,13 @@ use lib.Dec.{eqb, leb}
 use lib.ListN.{drop}
 use borrow.Author.Tests.{le-leb, lt-leb, ne-eqb}
 use Rattle.buffers.specs.Refusals.{firstFitting}
 use Rattle.jobs.proofs.Numbers.{with-six}
-use Rattle.jobs.specs.Asked.{linesOf, operation, unusedSet, withTest}
+use Rattle.jobs.specs.Asked.{linesOf, operation, unusedSet, withTest, wrongValue}
 use Rattle.jobs.specs.declared.Op.{Op}
 use Rattle.jobs.specs.declared.Op.the-variants.{Complement, Cz, Gate, Measure, Pivot}
 use Rattle.operations.specs.Steps.{complementLines, czLines, gateLines, measureLines, pivotLines}
 use Rattle.record.specs.Lent.{LentRecord, recordLines}
 use Rattle.words.proofs.Sums.{lt-or-ge}
-use Rattle.jobs_run.specs.StepRuns.{wrongValue}
 
 -- a measurement's value gives a Pauli 1 to 3 and an outcome, unless it is 6 or more
 pub measure-six : (v : ℕ) → (leb 2 (v % 2) || (eqb (v / 2 + 1) 0 || leb 4 (v / 2 + 1))) ≡ leb 6 v
