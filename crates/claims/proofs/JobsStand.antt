@@ -93,7 +93,10 @@ module _ (l : LentRecord) (G : Group) (S : StandsFor l G) where
 
       accepted-stands : StandsFor (afterStep l s) (AfterStep l G s)
       accepted-stands = subst (λ r. StandsFor r (AfterStep l G s)) (sym (accepted-leaves l s z))
-          (record { still = O .still; elements = λ p. ((λ h. changed accepted-not-refused (O .elements p .0 h)), back) })
+          (record {
+            still = O .still;
+            elements = λ p. ((λ h. changed accepted-not-refused (O .elements p .0 h)), back);
+          })
         where
           left : LentRecord
           left = (step l (asked s)) .after

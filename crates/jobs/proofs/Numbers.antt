@@ -2,7 +2,7 @@
 -- Assumes nothing.
 use mathlib.Core.Bool.{_&&_, Bool, cond, false, or-true, true, true≢false, _||_}
 use mathlib.Core.List.{_++_, List, [], _∷_}
-use mathlib.Core.Path.{_∙_, _≡_, ap, ap₂, refl, sym}
+use mathlib.Core.Path.{_∙_, _≡_, ap, ap₂, refl, subst, sym}
 use Prim.Native.Nat.{ℕ}
 use lib.Dec.{eqb, leb}
 use lib.ListN.{drop}
@@ -113,13 +113,25 @@ module _ (l : LentRecord) (s : Step) where
   number-of-operation e =
       ap (λ b. firstFitting (withTest 6 b (linesOf l (asked s)))) e ∙ without-test 6 (linesOf l (asked s))
 
+-- the record that an accepted operation leaves
+abbrev pub made : LentRecord → Operation → GraphRecord
+made l (gateWith q k) = reduced (l .n) (rowsOf (l .n) (gated (heldRecord l) q (cliffordOf k)))
+made l (czOn a b) = reduced (l .n) (czRows a b (heldRows l))
+made l (measurementOf pauli q b) =
+    reduced (l .n) (measuredRows (l .n) (heldRows l) (pauliLetter pauli) q (isOdd b))
+made l (complementOf a) = complementRecord (heldRecord l) a
+made l (pivotOf j k) = pivotRecord (heldRecord l) j k
+
+pub operation-step : (l : LentRecord) (o : Operation) → step l o ≡ stepped l (linesOf l o) (made l o)
+operation-step l (gateWith q k) = refl
+operation-step l (czOn a b) = refl
+operation-step l (measurementOf pauli q b) = refl
+operation-step l (complementOf a) = refl
+operation-step l (pivotOf j k) = refl
+
 -- an operation's number is that of its lines
 pub operation-number : (l : LentRecord) (o : Operation) → (step l o) .number ≡ firstFitting (linesOf l o)
-operation-number l (gateWith q k) = refl
-operation-number l (czOn a b) = refl
-operation-number l (measurementOf pauli q b) = refl
-operation-number l (complementOf a) = refl
-operation-number l (pivotOf j k) = refl
+operation-number l o = ap (λ t. t .number) (operation-step l o)
 
 -- a refused operation leaves the record
 stepped-kept : (l : LentRecord) (lines : List Line) (new : GraphRecord)
@@ -134,14 +146,9 @@ stepped-kept l lines new = go (eqb (firstFitting lines) 0) _ _
 
 operation-kept : (l : LentRecord) (o : Operation)
     → cond (eqb (firstFitting (linesOf l o)) 0) ((step l o) .after) l ≡ (step l o) .after
-operation-kept l (gateWith q k) =
-    stepped-kept l (gateLines l q k) (reduced (l .n) (rowsOf (l .n) (gated (heldRecord l) q (cliffordOf k))))
-operation-kept l (czOn a b) = stepped-kept l (czLines l a b) (reduced (l .n) (czRows a b (heldRows l)))
-operation-kept l (measurementOf pauli q b) =
-    stepped-kept l (measureLines l pauli q b)
-    (reduced (l .n) (measuredRows (l .n) (heldRows l) (pauliLetter pauli) q (isOdd b)))
-operation-kept l (complementOf a) = stepped-kept l (complementLines l a) (complementRecord (heldRecord l) a)
-operation-kept l (pivotOf j k) = stepped-kept l (pivotLines l j k) (pivotRecord (heldRecord l) j k)
+operation-kept l o =
+    subst (λ t. cond (eqb (firstFitting (linesOf l o)) 0) (t .after) l ≡ t .after) (sym (operation-step l o))
+    (stepped-kept l (linesOf l o) (made l o))
 
 module _ (l : LentRecord) (s : Step) where
   pub left-by-operation : unusedSet (s .op) (s .b) (s .value) ≡ false → afterStep l s ≡ (step l (asked s)) .after

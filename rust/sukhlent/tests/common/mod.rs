@@ -13,6 +13,7 @@ pub mod in_place;
 pub mod local;
 pub mod operation;
 pub mod pairs;
+pub mod process;
 pub mod product;
 pub mod reference;
 pub mod seeded;
