@@ -23,11 +23,13 @@
  * Every call answers 0 where it accepts, or the first number of this list whose line is true; the
  * list is in checking order. A refused call changes no buffer.
  *    1  the program's text does not have its form
+ *   15  a job has more than 4,096 steps
  *    2  n is 0 or above 64, or the two lists' n differ
  *    3  a comparison has n above 20
  *    4  a buffer's length is not what is required
  *    5  a word has a bit at or above n
- *    6  a sign or outcome is above 1, a code above 23, or a Pauli not 1 to 3
+ *    6  a sign or outcome is above 1, a code above 23, a Pauli not 1 to 3, or a
+ *       seed 0
  *    7  a graph is not simple
  *    8  a qubit number is n or more, CZ or a pivot names one qubit twice, or a pivot's pair has no
  *       edge
@@ -165,6 +167,14 @@ uint8_t sukhlent_compare(uint64_t n1,
                          uint8_t *choice, size_t choice_len,
                          uint8_t *list, size_t list_len,
                          uint64_t *count);
+
+/* Writes the text of a job that anyone can repeat: `count` steps on n qubits, at most 4,096, drawn
+ * one after the other from `seed`, which is not 0. `text` has 61,463 places; those from *length
+ * on, which is the length of the text, keep their values.
+ * Refusals: 15, 2, 4, 6 (`seed` is 0). */
+uint8_t sukhlent_generate(uint64_t n, uint64_t count, uint64_t seed,
+                          uint8_t *text, size_t text_len,
+                          uint64_t *length);
 
 #ifdef __cplusplus
 }

@@ -5,9 +5,10 @@ use mathlib.Core.List.{_++_, List, [], _∷_}
 use mathlib.Core.Path.{ap, ap₂, _∙_, _≡_}
 use Prim.Native.Nat.{ℕ}
 use lib.Dec.{eqb, ltb}
-use Rattle.buffers.specs.Refusals.{Line, firstFitting, line}
+use Rattle.buffers.specs.Refusals.{Line, badCount, firstFitting, line}
 use Rattle.comparison.specs.Compared.{pairCount}
 use Rattle.comparison.specs.Choices.{noChoice}
+use Rattle.generator.specs.Lines.{room}
 use Rattle.image.specs.Image.{loopLines}
 use Rattle.record.specs.Lent.{LentRecord, heldRecord, recordLines}
 use Rattle.stabilizer.specs.Lists.{
@@ -32,8 +33,14 @@ answer-buffers-unread =
           of-three l (λ others. recordLines l others false ++ loopLines (l .n) (heldRecord l)) 96 e f h;
       comparisons = λ l m choice list choice₂ list₂ e f.
           ap₂ (λ a b. firstFitting (linesOf l m (not (eqb a (l .n)) || not (eqb b 96)))) e f;
+      generations = λ n count seed text text₂ e. ap (λ a. firstFitting (jobLinesOf n count seed (not (eqb a room)))) e;
     }
   where
+    -- those of the generator, by whether its buffer has a wrong length
+    jobLinesOf : ℕ → ℕ → ℕ → Bool → List Line
+    jobLinesOf n count seed other =
+        line 15 (ltb 4096 count) ∷ line 2 (badCount n) ∷ line 4 other ∷ line 6 (eqb seed 0) ∷ []
+
     -- those of a comparison, by whether an answer buffer has a wrong length
     linesOf : GeneratorList → GeneratorList → Bool → List Line
     linesOf l m others =

@@ -1,16 +1,15 @@
 -- Demand 1, from the calls' contracts.
 -- Assumes nothing.
-use mathlib.Core.Bool.{Bool, cond, false, true, _||_}
+use mathlib.Core.Bool.{Bool, cond, false, _||_}
 use mathlib.Core.List.{List, [], _∷_}
-use mathlib.Core.Path.{ap, refl, subst, sym, _∙_, _≡_}
-use Prim.Native.Nat.{ℕ, _≤_}
+use mathlib.Core.Path.{ap, refl, sym, _∙_, _≡_}
+use Prim.Native.Nat.{ℕ}
 use native.Mathlib.Omega.{arith}
-use lib.Dec.{eqb, lit<}
-use lib.ListN.{drop, length, length-append, length-drop}
-use borrow.Author.Tests.{eq-eqb, ltb-false, ne-eqb}
+use lib.Dec.{lit<}
+use lib.ListN.{length}
+use borrow.Author.Tests.{eq-eqb, ltb-false}
 use Rattle.buffers.proofs.Lines.{Numbered, none-of-all, not-held}
-use Rattle.buffers.proofs.Tabulate.{tabulate-length}
-use Rattle.buffers.specs.Buffers.{accepted, acceptedNumber, tabulate, written}
+use Rattle.buffers.specs.Buffers.{accepted, tabulate, written}
 use Rattle.buffers.specs.Refusals.{Line, firstFitting, otherThan}
 use Rattle.clifford.specs.Clifford.{cliffordOf}
 use Rattle.comparison.specs.Compared.{compareLines, pairLines}
@@ -44,86 +43,19 @@ use Rattle.record_calls.proofs.MeasureLines.{measure-accepted}
 use Rattle.list_calls.specs.Calls.{ExpandCall, ReduceCall, checkLines, expandLines, reduceLines}
 use Rattle.compare_call.specs.Comparisons.{CompareCall}
 use Rattle.comparison_answer.specs.ComparedPairs.{compareList}
+use Rattle.generate_call.proofs.GenerateLines.{accepted-job}
+use Rattle.generate_call.specs.Generated.{GenerateCall}
+use Rattle.generator.proofs.Lengths.{length-text}
+use Rattle.generator.specs.Drawn.{generatedText}
+use Rattle.generator.specs.Lines.{generateLines}
 use Rattle.image_call.specs.Images.{Imaged}
 use Rattle.product_call.specs.Products.{productLines}
 use Rattle.record_calls.specs.InPlaceCalls.{InPlaceCall, MeasureCall}
 use Rattle.words.proofs.Flags.{neither}
 use Rattle.words.specs.Bits.{digit, isOdd}
+use Rattle.claims.proofs.Answering.{Fills, Held, answered, one-place, table-fills, written-fills}
 use Rattle.claims.proofs.ThirdDemandHolds.{third-demand}
-use Rattle.claims.specs.FirstDemand.{
-  Answered,
-  Buffer,
-  Complete,
-  EachOf,
-  FirstDemand,
-  FirstFits,
-  InOrder,
-  Unchanged,
-  buffer,
-  here,
-  inPlace,
-  later,
-  none,
-  number,
-}
-
--- ---- the number
-first-fits : (ls : List Line) → FirstFits ls (firstFitting ls)
-unfolding firstFitting
-first-fits [] = none
-first-fits (l ∷ ls) = go (l .holds) refl (first-fits ls)
-  where
-    go : (b : Bool) → l .holds ≡ b → FirstFits ls (firstFitting ls) →
-        FirstFits (l ∷ ls) (cond b (l .number) (firstFitting ls))
-    go true e rest = here e
-    go false e rest = later e rest
-
--- ---- the buffers
--- as the contracts have it
-abbrev Held : ℕ → Buffer → Type 0
-Held r b = b .after ≡ accepted r (b .answer) (b .before)
-
--- a lent number
-one-place : (r before answer after : ℕ) → after ≡ acceptedNumber r answer before → Held r (number before answer after)
-one-place r before answer after e = ap (λ v. v ∷ []) e ∙ go (eqb r 0)
-  where
-    go : (b : Bool) → _≡_ {A = List ℕ} (cond b answer before ∷ []) (cond b (answer ∷ []) (before ∷ []))
-    go true = refl
-    go false = refl
-
-abbrev Fills : Buffer → Type 0
-Fills b = length (b .answer) ≡ length (b .before)
-
-each-unchanged : (r : ℕ) (bs : List Buffer) → EachOf (Held r) bs → (r ≡ 0 → ⊥) → EachOf Unchanged bs
-each-unchanged r [] H h = tt
-each-unchanged r (b ∷ bs) H h =
-    (H .0 ∙ ap (λ v. cond v (b .answer) (b .before)) (ne-eqb r 0 h), each-unchanged r bs (H .1) h)
-
-each-complete : (r : ℕ) (bs : List Buffer) → EachOf (Held r) bs → r ≡ 0 → EachOf Fills bs → EachOf Complete bs
-each-complete r [] H z F = tt
-each-complete r (b ∷ bs) H z F = (
-  record { written = H .0 ∙ ap (λ v. cond v (b .answer) (b .before)) (eq-eqb r 0 z); places = F .0 },
-  each-complete r bs (H .1) z (F .1),
-)
-
-answered : (lines : List Line) (r : ℕ) (bs : List Buffer) → InOrder lines → r ≡ firstFitting lines →
-    EachOf (Held r) bs → (r ≡ 0 → EachOf Fills bs) → Answered lines r bs
-answered lines r bs o e H F =
-    record {
-      order = o;
-      first = subst (FirstFits lines) (sym e) (first-fits lines);
-      refused = each-unchanged r bs H;
-      accepted = λ z. each-complete r bs H z (F z);
-    }
-
--- an answer with a place for each of n
-table-fills : (n : ℕ) (f : ℕ → ℕ) (old : List ℕ) → length old ≡ n → length (tabulate n f) ≡ length old
-table-fills n f old e = tabulate-length n f ∙ sym e
-
--- a list at the start of a buffer
-written-fills : (new old : List ℕ) → length new ≤ length old → length (written new old) ≡ length old
-written-fills new old h =
-    length-append new (drop (length new) old) ∙ omega (arith, length-drop (length new) old, h)
+use Rattle.claims.specs.FirstDemand.{Answered, EachOf, FirstDemand, buffer, inPlace, number}
 
 -- ---- line 4 does not hold: the buffers lent for the answer have their lengths
 list-others : (l : GeneratorList) (others : Bool) → firstFitting (listLines l others) ≡ 0 → others ≡ false
@@ -265,6 +197,19 @@ compare-answered l m choice list count r choice′ list′ count′ C =
     pair-numbered : Numbered (pairLines l m choice list)
     pair-numbered = (lit< tt, (lit< tt, (lit< tt, (lit< tt, (lit< tt, (lit< tt, (lit< tt, tt)))))))
 
+-- ---- the generator
+generate-answered : (n count seed : ℕ) (text : List ℕ) (size r : ℕ) (text′ : List ℕ) (size′ : ℕ) →
+    GenerateCall n count seed text size r text′ size′ → Answered (generateLines n count seed text) r
+    (buffer text (written (generatedText n count seed) text) text′
+    ∷ number size (length (generatedText n count seed)) size′ ∷ [])
+generate-answered n count seed text size r text′ size′ C =
+    answered (generateLines n count seed text) r _ refl (C .number)
+    (C .bytes, (one-place r size _ size′ (C .long), tt))
+    (λ z.
+    let job = accepted-job n count seed text (sym (C .number) ∙ z) in
+    let fits = length-text {n = n} (job .1) count seed (job .0) (job .2) in
+    (written-fills (generatedText n count seed) text (omega (arith, fits, job .3)), (refl, tt)))
+
 pub first-demand : FirstDemand
 first-demand =
     record {
@@ -286,4 +231,5 @@ first-demand =
       )
           (λ e. (refl, (refl, (refl, tt))));
       comparisons = compare-answered;
+      generations = generate-answered;
     }

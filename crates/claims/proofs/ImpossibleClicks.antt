@@ -19,7 +19,7 @@ use Rattle.words.specs.Bits.{isOdd}
 use Rattle.claims.specs.OperationsDemand.{ImpossibleClicksRefused, left, signedPauli}
 
 -- where the arguments are in order, the bit is contradicted exactly if the Pauli with the other sign is in the group
-contradicted-by-group : (l : LentRecord) (pauli q b : ℕ) → firstFitting (argumentLines l pauli q b) ≡ 0
+pub contradicted-by-group : (l : LentRecord) (pauli q b : ℕ) → firstFitting (argumentLines l pauli q b) ≡ 0
     → (contradicts (l .n) (heldRows l) (pauliLetter pauli) q (isOdd b) ≡ true)
     ↔ InGroup (l .n) (l .n) (heldRows l) (signedPauli pauli q (not (isOdd b)))
 contradicted-by-group l pauli q b e =

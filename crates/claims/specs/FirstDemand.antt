@@ -40,6 +40,9 @@ use Rattle.stabilizer.specs.Lists.{GeneratorList, listOf, rows}
 use Rattle.list_calls.specs.Calls.{CheckCall, ExpandCall, ReduceCall, checkLines, expandLines, reduceLines}
 use Rattle.compare_call.specs.Comparisons.{CompareCall}
 use Rattle.comparison_answer.specs.ComparedPairs.{compareList}
+use Rattle.generate_call.specs.Generated.{GenerateCall}
+use Rattle.generator.specs.Drawn.{generatedText}
+use Rattle.generator.specs.Lines.{generateLines}
 use Rattle.image_call.specs.Images.{Imaged}
 use Rattle.pauli.specs.Pauli.{exponent}
 use Rattle.product_call.specs.Products.{ProductCall, chosenProduct, productLines}
@@ -54,9 +57,9 @@ pub data FirstFits : List Line → ℕ → Type 0 where
   later : {l : Line} {ls : List Line} {r : ℕ} → l .holds ≡ false → FirstFits ls r → FirstFits (l ∷ ls) r
 
 -- "the published list": the numbers in checking order; a call tests some of them, in that order. 14 is "checked after
--- 10" (02, §4)
+-- 10" (02, §4), 15 "directly after 1 and so before 2" (02, §5)
 abbrev pub published : List ℕ
-published = 1 ∷ 2 ∷ 3 ∷ 4 ∷ 5 ∷ 6 ∷ 7 ∷ 8 ∷ 9 ∷ 10 ∷ 14 ∷ 11 ∷ 12 ∷ 13 ∷ []
+published = 1 ∷ 15 ∷ 2 ∷ 3 ∷ 4 ∷ 5 ∷ 6 ∷ 7 ∷ 8 ∷ 9 ∷ 10 ∷ 14 ∷ 11 ∷ 12 ∷ 13 ∷ []
 
 abbrev pub within : List ℕ → List ℕ → Bool
 within order [] = true
@@ -147,6 +150,10 @@ pub record FirstDemand : Type 0 where
       (buffer choice (tabulate (l .n) (leastCode (l .n) (rows l) (rows m))) choice′
       ∷ buffer list (written (compareList (l .n) (rows l) (rows m)) list) list′
       ∷ number count (length (compareList (l .n) (rows l) (rows m))) count′ ∷ [])
+  pub generations : (n count seed : ℕ) (text : List ℕ) (size r : ℕ) (text′ : List ℕ) (size′ : ℕ) →
+      GenerateCall n count seed text size r text′ size′ → Answered (generateLines n count seed text) r
+      (buffer text (written (generatedText n count seed) text) text′
+      ∷ number size (length (generatedText n count seed)) size′ ∷ [])
 
 -- "What a buffer lent only for the answer holds before the call makes no line true": buffers of equal lengths give equal
 -- numbers
@@ -160,3 +167,5 @@ pub record AnswerBuffersUnread : Type 0 where
   pub comparisons : (l m : GeneratorList) (choice list choice₂ list₂ : List ℕ) → length choice ≡ length choice₂ →
       length list ≡ length list₂ →
       firstFitting (compareLines l m choice list) ≡ firstFitting (compareLines l m choice₂ list₂)
+  pub generations : (n count seed : ℕ) (text text₂ : List ℕ) → length text ≡ length text₂ →
+      firstFitting (generateLines n count seed text) ≡ firstFitting (generateLines n count seed text₂)

@@ -5,3 +5,5 @@ pub mod ImageDemand
 pub mod OperationsDemand
 pub mod CutDemand
 pub mod FirstDemand
+pub mod GeneratorDemand
+pub mod JobDemand

@@ -1,4 +1,6 @@
 // Jobs: sessions written as steps, each with its operation, its qubits and a value: see specs/ and proofs/.
+ghost use mathlib.Core.Path.{_≡_};
+ghost use Rattle.jobs.specs.Asked.{unusedSet, wrongValue};
 
 pub enum Op {
     Gate,
@@ -14,4 +16,38 @@ pub struct Step {
     pub a: u16,
     pub b: u16,
     pub value: u16,
+}
+
+// What a step answers: the number of its refusal, and of an accepted measurement the outcome and whether it was
+// determined.
+pub struct Answer {
+    pub refusal: u8,
+    pub outcome: u8,
+    pub determined: u8,
+}
+
+// Whether a field that the operation does not use is not 0.
+pub fn unused_set(op: Op, b: u16, value: u16) -> bool
+    ensures { λ r. ⌜ r ≡ unusedSet op b value ⌝ }
+{
+    match op {
+        Op::Gate => b != 0,
+        Op::Cz => value != 0,
+        Op::Measure => b != 0,
+        Op::Complement => (b != 0) | (value != 0),
+        Op::Pivot => value != 0,
+    }
+}
+
+// Whether the value is no code, or for a measurement no Pauli and outcome.
+pub fn wrong_value(op: Op, value: u16) -> bool
+    ensures { λ r. ⌜ r ≡ wrongValue op value ⌝ }
+{
+    match op {
+        Op::Gate => 24 <= value,
+        Op::Cz => false,
+        Op::Measure => 6 <= value,
+        Op::Complement => false,
+        Op::Pivot => false,
+    }
 }

@@ -1,4 +1,3 @@
-pub mod Prints
 pub mod Answering
 pub mod ListPlaces
 pub mod Blocks

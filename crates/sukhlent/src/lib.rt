@@ -1,6 +1,7 @@
 // The public calls as C sees them. Each passes its arguments on to the proved call that has the same contract.
 ghost use Rattle.compare_call.specs.Comparisons.{CompareCall};
 ghost use Rattle.cut_call.specs.Cuts.{CutCall};
+ghost use Rattle.generate_call.specs.Generated.{GenerateCall};
 ghost use Rattle.image_call.specs.Images.{Imaged};
 ghost use Rattle.list_calls.specs.Calls.{CheckCall, ExpandCall, ReduceCall};
 ghost use Rattle.operations.specs.Steps.{complementAt, controlledZ, gate, pivotAt};
@@ -220,4 +221,19 @@ pub extern "C" fn sukhlent_compare(
         (now (choice .exit)) (now (list .exit)) (now (count .exit)) ⌝ }
 {
     compare_call::compare(n1, signs1, z1, x1, n2, signs2, z2, x2, choice, list, count)
+}
+
+// The text of the job of `count` steps that is drawn from a seed, at the start of the buffer, and its length.
+#[no_mangle]
+pub extern "C" fn sukhlent_generate(
+    n: u64,
+    count: u64,
+    seed: u64,
+    text: &mut [u8],
+    length: &mut u64,
+) -> u8
+    ensures { λ r. ⌜ GenerateCall n count seed (now (text .entry)) (now (length .entry)) r
+        (now (text .exit)) (now (length .exit)) ⌝ }
+{
+    generate_call::generate(n, count, seed, text, length)
 }

@@ -1,4 +1,5 @@
 pub mod Writing
+pub mod Prints
 pub mod HexLaws
 pub mod DigitLaws
 pub mod RecordLaws

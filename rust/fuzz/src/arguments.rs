@@ -3,7 +3,7 @@
 use crate::common::damage::{damage_list, damage_record};
 use crate::common::local::{complemented_record, sent};
 use crate::common::{list, mixed, random_rows, rows, Operation, Random};
-use crate::common::{ImageLengths, Lengths, ListCall, PairCall, RecordCall, Side};
+use crate::common::{GenerateCall, ImageLengths, Lengths, ListCall, PairCall, RecordCall, Side};
 use sukhlent::{GeneratorList, Record};
 
 /// What is done to valid arguments: mostly nothing or little; one in sixteen calls gets noise.
@@ -109,6 +109,26 @@ pub fn cut_call(random: &mut Random, n: usize) -> RecordCall<Side> {
         _ => random.word() >> (64 - n),
     };
     harmed_record(random, n, Side(side))
+}
+
+/// A job: mostly of few steps, at times near the limit, at times with any numbers or another buffer.
+pub fn generate_call(random: &mut Random) -> GenerateCall {
+    let n = match random.below(8) {
+        0 => number(random),
+        _ => size(random) as u64,
+    };
+    let count = match random.below(16) {
+        0 => number(random),
+        1 => 4090 + random.below(10) as u64,
+        _ => random.below(40) as u64,
+    };
+    let mut call = GenerateCall::of(n, count, random.word());
+    match random.below(16) {
+        0 => call.places = random.below(1 << 17),
+        1 => call.seed = 0,
+        _ => (),
+    }
+    call
 }
 
 /// Lengths of answer buffers: n, and at times one of them any.

@@ -19,6 +19,7 @@
 
 mod comparison;
 mod cut;
+mod generator;
 mod image;
 mod in_place;
 mod list;
@@ -29,6 +30,7 @@ mod refusal;
 
 pub use comparison::{compare, Comparison};
 pub use cut::cut;
+pub use generator::generate;
 pub use image::{image, Image};
 pub use in_place::{complement, cz, gate, measure, pivot, Measured, Pauli};
 pub use list::{check, reduce, GeneratorList};

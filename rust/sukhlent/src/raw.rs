@@ -155,8 +155,20 @@ mod calls {
             list_len: usize,
             count: *mut u64,
         ) -> u8;
+
+        pub fn sukhlent_generate(
+            n: u64,
+            count: u64,
+            seed: u64,
+            text: *mut u8,
+            text_len: usize,
+            length: *mut u64,
+        ) -> u8;
     }
 }
+
+/// The bytes of a buffer that is lent for the text of a job.
+pub const JOB_PLACES: usize = 61_463;
 
 /// Checks a generator list.
 pub fn check(n: u64, signs: &[u8], z: &[u64], x: &[u64]) -> u8 {
@@ -415,4 +427,9 @@ pub fn compare(
             count,
         )
     }
+}
+
+/// Writes the text of the job of `count` steps on n qubits that is drawn from a seed.
+pub fn generate(n: u64, count: u64, seed: u64, text: &mut [u8], length: &mut u64) -> u8 {
+    unsafe { calls::sukhlent_generate(n, count, seed, text.as_mut_ptr(), text.len(), length) }
 }

@@ -16,7 +16,7 @@ pub enum Refusal {
     Length = 4,
     /// A word has a bit outside of the qubits.
     StrayBit = 5,
-    /// A sign, an outcome, a code or a Pauli is none.
+    /// A sign, an outcome, a code, a Pauli or a seed is none.
     Value = 6,
     /// A graph is not simple.
     Graph = 7,
@@ -34,12 +34,15 @@ pub enum Refusal {
     Inequivalent = 13,
     /// A supplied outcome is one that the state forbids.
     Contradiction = 14,
+    /// A job has more than 4,096 steps.
+    Steps = 15,
 }
 
 impl Refusal {
     /// Every refusal, in checking order.
-    pub const ALL: [Refusal; 14] = [
+    pub const ALL: [Refusal; 15] = [
         Refusal::Form,
+        Refusal::Steps,
         Refusal::Qubits,
         Refusal::Comparison,
         Refusal::Length,
@@ -55,7 +58,7 @@ impl Refusal {
         Refusal::Inequivalent,
     ];
 
-    /// The number, 1 to 14.
+    /// The number, 1 to 15.
     pub fn number(self) -> u8 {
         self as u8
     }
@@ -83,7 +86,7 @@ impl Refusal {
             Refusal::Length => "a buffer's length is not what is required",
             Refusal::StrayBit => "a word has a bit at or above n",
             Refusal::Value => {
-                "a sign or outcome is above 1, a code above 23, or a Pauli not 1 to 3"
+                "a sign or outcome is above 1, a code above 23, a Pauli not 1 to 3, or a seed 0"
             }
             Refusal::Graph => "a graph is not simple",
             Refusal::Place => {
@@ -93,6 +96,7 @@ impl Refusal {
             Refusal::Anticommuting => "two generators do not commute",
             Refusal::Dependent => "the generators are dependent",
             Refusal::Contradiction => "a determined outcome contradicts the supplied bit",
+            Refusal::Steps => "a job has more than 4,096 steps",
             Refusal::NoGraph => "the image loop stops with some C = 1",
             Refusal::Loop => {
                 "the image loop stops with every C = 0, \
@@ -128,20 +132,20 @@ mod tests {
         assert_eq!(Refusal::unless_accepted(0), Ok(()));
         let mut numbers = Refusal::ALL.map(Refusal::number);
         numbers.sort();
-        assert!(numbers.into_iter().eq(1..=14));
-        assert!((15..=255).all(|number| Refusal::from_number(number).is_none()));
+        assert!(numbers.into_iter().eq(1..=15));
+        assert!((16..=255).all(|number| Refusal::from_number(number).is_none()));
     }
 
     #[test]
-    fn fourteen_is_checked_after_ten() {
+    fn fourteen_is_checked_after_ten_and_fifteen_after_one() {
         let order = Refusal::ALL.map(Refusal::number);
-        assert_eq!(order, [1, 2, 3, 4, 5, 6, 7, 8, 9, 10, 14, 11, 12, 13]);
+        assert_eq!(order, [1, 15, 2, 3, 4, 5, 6, 7, 8, 9, 10, 14, 11, 12, 13]);
     }
 
     #[test]
     fn every_refusal_has_its_own_line() {
         let lines: std::collections::HashSet<_> = Refusal::ALL.map(Refusal::line).into();
-        assert_eq!(lines.len(), 14);
+        assert_eq!(lines.len(), 15);
         assert_eq!(
             Refusal::Anticommuting.to_string(),
             "refused 9: two generators do not commute"
@@ -149,8 +153,8 @@ mod tests {
     }
 
     #[test]
-    #[should_panic(expected = "no refusal has the number 15")]
+    #[should_panic(expected = "no refusal has the number 16")]
     fn other_numbers_are_no_answers() {
-        let _ = Refusal::unless_accepted(15);
+        let _ = Refusal::unless_accepted(16);
     }
 }

@@ -1,4 +1,4 @@
-//! The tests of the calls, of the program and of the examples, one file to a subject.
+//! The tests of the calls, of the programs and of the examples, one file to a subject.
 
 mod common;
 
@@ -9,10 +9,14 @@ mod cuts;
 mod example_states;
 mod examples;
 mod exhaustive;
+mod generate_refusals;
+mod generated;
 mod groups;
 mod image_refusals;
 mod images;
 mod in_place_refusals;
+mod job_runs;
+mod job_texts;
 mod large;
 mod lengths;
 mod library;

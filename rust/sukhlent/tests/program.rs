@@ -1,52 +1,17 @@
 //! The program `reduce`, run as a process: its texts, its refusals and their order, and its input in blocks.
-use std::io::{ErrorKind, Write};
-use std::path::PathBuf;
-use std::process::{Child, Command, Stdio};
-use std::thread::sleep;
+use crate::common::process::{refused, Program};
 use std::time::Duration;
 
 const NAMES: &str = "sign z x\n";
-
-fn program() -> PathBuf {
-    PathBuf::from(env!("CARGO_MANIFEST_DIR")).join("../../target/bin/reduce")
-}
-
-fn started() -> Child {
-    let path = program();
-    Command::new(&path)
-        .stdin(Stdio::piped())
-        .stdout(Stdio::piped())
-        .spawn()
-        .unwrap_or_else(|e| panic!("{}: {e}", path.display()))
-}
+const REDUCE: Program = Program("reduce");
 
 /// What the program prints for an input that comes in these pieces, with a pause after each.
 fn run_pieces<'a>(pieces: impl Iterator<Item = &'a [u8]>, pause: Duration) -> String {
-    let mut child = started();
-    let mut input = child.stdin.take().unwrap();
-    for piece in pieces {
-        match input.write_all(piece).and_then(|()| input.flush()) {
-            Err(e) if e.kind() == ErrorKind::BrokenPipe => {
-                panic!("the program did not read to the end")
-            }
-            other => other.unwrap(),
-        }
-        if !pause.is_zero() {
-            sleep(pause);
-        }
-    }
-    drop(input);
-    let out = child.wait_with_output().unwrap();
-    assert!(out.status.success(), "{:?}", out.status);
-    String::from_utf8(out.stdout).unwrap()
+    REDUCE.run_pieces(pieces, pause)
 }
 
 fn run(input: &[u8]) -> String {
-    run_pieces(std::iter::once(input), Duration::ZERO)
-}
-
-fn refused(k: u32) -> String {
-    format!("refused {k}\n")
+    REDUCE.run(input)
 }
 
 #[track_caller]

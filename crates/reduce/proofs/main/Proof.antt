@@ -1,6 +1,6 @@
 use mathlib.Core.Path.{sym}
 use borrow.Author.Needs.{needs}
-use Rattle.reduce.proofs.Prints.{printed-fits, printed-part}
+use Rattle.text.proofs.Prints.{printed-fits, printed-part}
 use Rattle.reduce.proofs.main.Statement.{statement}
 use Rattle.reduce.proofs.main.Tie as tie
 

@@ -21,7 +21,7 @@ const CASES: u64 = 100;
 type Measured = (&'static str, usize, fn(&mut Random, usize) -> usize);
 
 /// Every public call. All arguments are accepted, so that every step is taken.
-const CALLS: [Measured; 13] = [
+const CALLS: [Measured; 14] = [
     ("check", 64, |random, n| {
         let given = list(&random_rows(random, n));
         depth(|| raw::check(n as u64, &given.signs, &given.z, &given.x))
@@ -91,6 +91,11 @@ const CALLS: [Measured; 13] = [
     }),
     ("compare", 10, of_compare),
     ("compare", 20, of_compare),
+    ("generate", 64, |random, n| {
+        let (mut text, mut length) = (vec![0; raw::JOB_PLACES], 0);
+        let seed = random.word() | 1;
+        depth(|| raw::generate(n as u64, 4096, seed, &mut text, &mut length))
+    }),
 ];
 
 /// A comparison of a state with itself, by other generators. Every comparison that is accepted goes

@@ -1,5 +1,6 @@
 //! The public calls, one file for each kind of argument. A call is added by an entry of the table.
 
+mod generator;
 mod in_place;
 mod lists;
 mod pairs;
@@ -17,7 +18,7 @@ pub struct Call {
 }
 
 /// Every public call.
-pub const CALLS: [Call; 12] = [
+pub const CALLS: [Call; 13] = [
     Call {
         name: "check",
         once: lists::check,
@@ -65,5 +66,9 @@ pub const CALLS: [Call; 12] = [
     Call {
         name: "compare",
         once: pairs::compare,
+    },
+    Call {
+        name: "generate",
+        once: generator::generate,
     },
 ];

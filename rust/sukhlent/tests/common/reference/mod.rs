@@ -2,6 +2,7 @@
 
 mod cut;
 mod expansion;
+mod generator;
 mod membership;
 mod product;
 mod reduction;
@@ -9,6 +10,7 @@ mod refusals;
 
 pub use cut::cut_rank;
 pub use expansion::expanded;
+pub use generator::{draw, generate_refusal, job_text, step, steps, Step};
 pub use membership::is_element;
 pub use product::product;
 pub use reduction::reduced;

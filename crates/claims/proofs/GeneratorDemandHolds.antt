@@ -1,0 +1,35 @@
+-- The generator's demand, from the call's contract and the laws of the text.
+-- Assumes nothing.
+use mathlib.Core.Path.{ap, ap₂, refl, subst, sym, _∙_, _≡_}
+use lib.ListN.{drop, length, take}
+use lib.Seq.{drop-at, take-at}
+use Rattle.generate_call.proofs.GenerateLines.{accepted-job}
+use Rattle.generator.proofs.Lengths.{length-text}
+use Rattle.generator.proofs.ReadsBack.{reads-back}
+use Rattle.generator.proofs.Shapes.{all-drawable, length-drawn}
+use Rattle.generator.specs.Drawn.{drawn, generatedText}
+use Rattle.generator.specs.Lines.{room}
+use Rattle.generator.specs.ReadBack.{ReadsBack}
+use Prim.Native.Nat.{_≤_}
+use Rattle.claims.specs.GeneratorDemand.{GeneratorDemand}
+
+pub generator-demand : GeneratorDemand
+generator-demand n count seed text size text′ size′ C =
+    let job = accepted-job n count seed text (sym (C .number)) in
+    let t = generatedText n count seed in
+    let text-part : take size′ text′ ≡ t =
+    ap₂ take (C .long) (C .bytes) ∙ take-at t (drop (length t) text) (length t) refl
+    in
+    let past-part : drop size′ text′ ≡ drop size′ text =
+    ap₂ drop (C .long) (C .bytes) ∙ drop-at t (drop (length t) text) (length t) refl
+    ∙ ap (λ k. drop k text) (sym (C .long))
+    in
+    record {
+      steps = length-drawn n count seed;
+      shapes = all-drawable n (job .0) count seed;
+      back =
+          subst (ReadsBack n (drawn n count seed)) (sym text-part)
+          (reads-back n (job .0) (job .1) count seed (job .2));
+      fits = subst (λ k. k ≤ room) (sym (C .long)) (length-text {n = n} (job .1) count seed (job .0) (job .2));
+      past = past-part;
+    }

@@ -1,0 +1,24 @@
+-- The generator: "The job text it writes must read back as the steps drawn"; the bytes "past the text keep their values"
+-- (02, §6). Said of an accepted call: the call's number is 0, and text′, size′ are what is held at exit.
+-- Assumes nothing.
+use mathlib.Core.List.{List}
+use mathlib.Core.Path.{_≡_}
+use Prim.Native.Nat.{ℕ, _≤_}
+use lib.ListN.{drop, length, take}
+use Rattle.generate_call.specs.Generated.{GenerateCall}
+use Rattle.generator.specs.Drawn.{drawn}
+use Rattle.generator.specs.ReadBack.{ReadsBack}
+use Rattle.generator.specs.Shapes.{AllDrawable}
+
+pub record Generated (n count seed : ℕ) (text text′ : List ℕ) (size′ : ℕ) : Type 0 where
+  -- one step for each draw, with unused fields 0 and no CZ on one qubit
+  pub steps : length (drawn n count seed) ≡ count
+  pub shapes : AllDrawable n (drawn n count seed)
+  -- the text is the buffer's first size′ bytes
+  pub back : ReadsBack n (drawn n count seed) (take size′ text′)
+  pub fits : size′ ≤ 61463
+  pub past : drop size′ text′ ≡ drop size′ text
+
+abbrev pub GeneratorDemand : Type 0
+GeneratorDemand = (n count seed : ℕ) (text : List ℕ) (size : ℕ) (text′ : List ℕ) (size′ : ℕ) →
+    GenerateCall n count seed text size 0 text′ size′ → Generated n count seed text text′ size′

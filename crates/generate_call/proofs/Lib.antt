@@ -1,0 +1,2 @@
+pub mod GenerateLines
+pub mod GenerateCalls

@@ -1,0 +1,4 @@
+pub mod Shapes
+pub mod Lengths
+pub mod ReadsBack
+pub mod Examples

@@ -1,0 +1,50 @@
+-- "The job text it writes must read back as the steps drawn".
+-- Assumes nothing.
+use mathlib.Core.Path.{ap, refl, sym, _∙_}
+use mathlib.Core.List.{List}
+use Prim.Native.Nat.{ℕ, _≤_, _<_}
+use native.Mathlib.Omega.{arith}
+use lib.ListN.{length, take}
+use Rattle.jobs.specs.declared.Step.{Step}
+use Rattle.job_text.specs.Text.{AllFit, JobTextOf}
+use Rattle.job_text.proofs.ReadBack.{back, back-accepted, back-count, back-qubits, back-steps}
+use Rattle.job_text.proofs.Unique.{job-unique}
+use Rattle.generator.specs.Drawn.{drawn, generatedText}
+use Rattle.generator.specs.ReadBack.{ReadsBack, Scanned}
+use Rattle.generator.proofs.Shapes.{all-drawable, all-fit, length-drawn}
+
+module _ (n : ℕ) (some : 0 < n) (few : n ≤ 64) (count seed : ℕ) (short : count ≤ 4096) where
+  abbrev steps : List Step
+  steps = drawn n count seed
+
+  abbrev text : List ℕ
+  text = generatedText n count seed
+
+  fit : AllFit steps
+  fit = all-fit few steps (all-drawable n some count seed)
+
+  -- the text has the form
+  has-form : JobTextOf n steps text
+  has-form = record { few = omega arith; fit = fit; text = refl }
+
+  long : length steps ≤ 4096
+  long = omega (arith, length-drawn n count seed)
+
+  scanned : Scanned n steps (back n steps some few long fit)
+  scanned =
+      let counted = back-count n steps some few long fit in
+      record {
+        number = back-accepted n steps some few long fit;
+        qubits = back-qubits n steps some few long fit;
+        count = counted;
+        kept =
+            ap (λ k. take k (back n steps some few long fit .steps)) (sym counted)
+            ∙ back-steps n steps some few long fit;
+      }
+
+  pub reads-back : ReadsBack n steps text
+  reads-back = record {
+    job = has-form;
+    only = λ m others p. job-unique m n others steps text p has-form;
+    scan = scanned;
+  }

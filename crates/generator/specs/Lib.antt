@@ -1,0 +1,5 @@
+pub mod Draws
+pub mod Drawn
+pub mod Shapes
+pub mod Lines
+pub mod ReadBack

@@ -1,0 +1,23 @@
+-- What it means that a text reads back as the steps of a job.
+-- Assumes nothing.
+use mathlib.Core.Path.{_≡_}
+use mathlib.Core.List.{List}
+use Prim.Native.Nat.{ℕ}
+use lib.ListN.{length, take}
+use Rattle.jobs.specs.declared.Step.{Step}
+use Rattle.job_text.specs.Scan.{empty, fed, verdict}
+use Rattle.job_text.specs.Text.{JobTextOf}
+use Rattle.job_text.specs.declared.scan.Reading.{Reading}
+
+-- what the scan of a text ends with: the text is accepted, and n and the steps are kept
+pub record Scanned (n : ℕ) (steps : List Step) (w : Reading) : Type 0 where
+  pub number : verdict (w .scan) ≡ 0
+  pub qubits : w .scan .n ≡ n
+  pub count : w .scan .count ≡ length steps
+  pub kept : take (length steps) (w .steps) ≡ steps
+
+-- the text has the form, for this job and no other, and the scan of it keeps exactly this job
+pub record ReadsBack (n : ℕ) (steps : List Step) (t : List ℕ) : Type 0 where
+  pub job : JobTextOf n steps t
+  pub only : (m : ℕ) (others : List Step) → JobTextOf m others t → (m ≡ n) × (others ≡ steps)
+  pub scan : Scanned n steps (fed empty t)

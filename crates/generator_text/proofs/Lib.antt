@@ -1,0 +1,2 @@
+pub mod StepLines
+pub mod JobLines

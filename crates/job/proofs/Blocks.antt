@@ -1,0 +1,22 @@
+-- The text read so far, block after block.
+-- Assumes nothing.
+use mathlib.Core.List.{List, [], _++_}
+use mathlib.Core.Path.{_∙_, _≡_, ap, sym}
+use Prim.Native.Nat.{ℕ}
+use Rattle.job_text.proofs.Feeding.{fed-append}
+use Rattle.job_text.specs.Scan.{empty, fed}
+use Rattle.job_text.specs.declared.scan.Reading.{Reading}
+use Rattle.job.specs.Answer.{ScannedJob}
+
+-- nothing is read
+pub no-block : (r : Reading) → r ≡ empty → ScannedJob r
+unfolding fed
+no-block r e = record { text = []; scanned = e }
+
+-- a block more
+pub one-block : (r r′ : Reading) (block : List ℕ) → ScannedJob r → r′ ≡ fed r block → ScannedJob r′
+one-block r r′ block S e =
+    record {
+      text = S .text ++ block;
+      scanned = e ∙ ap (λ w. fed w block) (S .scanned) ∙ sym (fed-append empty (S .text) block);
+    }

@@ -1,0 +1,6 @@
+pub mod Numbers
+pub mod WrongFields
+pub mod Starting
+pub mod Stepwise
+pub mod Printing
+pub mod JobExamples

@@ -1,0 +1,133 @@
+-- What the print of a run needs: every record of it has n places and codes below 24, and each answer has small numbers.
+-- Assumes nothing.
+use mathlib.Core.Bool.{Bool, cond, false, true}
+use mathlib.Core.List.{List, [], _∷_}
+use mathlib.Core.Path.{_∙_, _≡_, refl, subst, sym}
+use Prim.Native.Nat.{_<_, ℕ}
+use lib.Dec.{eqb, lit<}
+use lib.ListN.{getD, getD-replicate, length, length-replicate}
+use Rattle.buffers.proofs.Lines.{AllBelow, first-below}
+use Rattle.buffers.proofs.Tabulate.{tabulate-at, tabulate-length}
+use Rattle.buffers.specs.Refusals.{Line, firstFitting}
+use Rattle.clifford.proofs.CliffordLaws.{codeOf-lt}
+use Rattle.clifford.specs.Clifford.{codeOf}
+use Rattle.operations.specs.Measurement.{determinedNumber, outcomeNumber}
+use Rattle.operations.specs.Steps.{
+  Operation,
+  complementOf,
+  czOn,
+  gateWith,
+  measuredAnswer,
+  measurementOf,
+  pivotOf,
+  step,
+  stepped,
+}
+use Rattle.operations.specs.declared.Outcome.{Outcome}
+use Rattle.operations.specs.declared.Outcome.the-variants.{Chosen, Determined}
+use Rattle.record.specs.Lent.{LentRecord, codeNumbers, neighbourWords}
+use Rattle.record.specs.Records.{GraphRecord}
+use Rattle.words.specs.Bits.{digit, wordOf}
+use Rattle.jobs.proofs.Numbers.{made, operation-step}
+use Rattle.jobs.specs.Asked.{asked, linesOf, numberOf, unusedSet, withTest}
+use Rattle.jobs.specs.Runs.{afterStep, answerOf, determinedOf, outcomeOf, run, started}
+use Rattle.jobs.specs.declared.Step.{Step}
+
+-- ---- records
+pub record Sized (n : ℕ) (l : LentRecord) : Type 0 where
+  pub qubits : l .n ≡ n
+  pub neighbours-long : length (l .neighbours) ≡ n
+  pub codes-long : length (l .codes) ≡ n
+  pub codes-small : (q : ℕ) → q < n → getD (l .codes) q 0 < 24
+
+pub started-sized : (n : ℕ) → Sized n (started n)
+started-sized n =
+    record {
+      qubits = refl;
+      neighbours-long = length-replicate n 0;
+      codes-long = length-replicate n 8;
+      codes-small = λ q h. subst (λ k. k < 24) (sym (getD-replicate n q 8 0 h)) (lit< tt);
+    }
+
+module _ (n : ℕ) (l : LentRecord) (S : Sized n l) where
+  -- accepted, the buffers hold a record on n vertices; refused, what they held
+  stepped-sized : (lines : List Line) (new : GraphRecord) → Sized n ((stepped l lines new) .after)
+  stepped-sized lines new = go (eqb (firstFitting lines) 0)
+    where
+      go : (b : Bool) → Sized n (record {
+        n = l .n;
+        neighbours = cond b (neighbourWords (l .n) new) (l .neighbours);
+        codes = cond b (codeNumbers (l .n) new) (l .codes);
+      })
+      go true =
+          record {
+            qubits = S .qubits;
+            neighbours-long = tabulate-length (l .n) (λ j. wordOf (l .n) (new .graph j)) ∙ S .qubits;
+            codes-long = tabulate-length (l .n) (λ q. codeOf (new .codes q)) ∙ S .qubits;
+            codes-small = λ q h. subst (λ k. k < 24)
+                (sym (tabulate-at (l .n) (λ q. codeOf (new .codes q)) q (subst (λ m. q < m) (sym (S .qubits)) h)))
+                (codeOf-lt (new .codes q));
+          }
+      go false =
+          record {
+            qubits = S .qubits;
+            neighbours-long = S .neighbours-long;
+            codes-long = S .codes-long;
+            codes-small = S .codes-small;
+          }
+
+  operation-sized : (o : Operation) → Sized n ((step l o) .after)
+  operation-sized o =
+      subst (λ t. Sized n (t .after)) (sym (operation-step l o)) (stepped-sized (linesOf l o) (made l o))
+
+  pub step-sized : (s : Step) → Sized n (afterStep l s)
+  step-sized s = go (eqb (numberOf l s) 0)
+    where
+      go : (b : Bool) → Sized n (cond b ((step l (asked s)) .after) l)
+      go true = operation-sized (asked s)
+      go false = S
+
+pub run-sized : (n : ℕ) (l : LentRecord) → Sized n l → (steps : List Step) → Sized n (run l steps)
+unfolding run
+run-sized n l S [] = S
+run-sized n l S (s ∷ rest) = run-sized n (afterStep l s) (step-sized n l S s) rest
+
+-- ---- answers
+below-100 : (l : LentRecord) (b : Bool) (o : Operation) → AllBelow 100 (withTest 6 b (linesOf l o))
+below-100 l b (gateWith q k) = (lit< tt, (lit< tt, (lit< tt, (lit< tt, (lit< tt, (lit< tt, tt))))))
+below-100 l b (czOn a c) = (lit< tt, (lit< tt, (lit< tt, (lit< tt, (lit< tt, (lit< tt, tt))))))
+below-100 l b (measurementOf pauli q c) =
+    (lit< tt, (lit< tt, (lit< tt, (lit< tt, (lit< tt, (lit< tt, (lit< tt, tt)))))))
+below-100 l b (complementOf a) = (lit< tt, (lit< tt, (lit< tt, (lit< tt, (lit< tt, (lit< tt, tt))))))
+below-100 l b (pivotOf j k) = (lit< tt, (lit< tt, (lit< tt, (lit< tt, (lit< tt, (lit< tt, tt))))))
+
+-- the refusal has at most two digits
+pub refusal-small : (l : LentRecord) (s : Step) → (answerOf l s) .refusal < 100
+refusal-small l s = first-below 100 (withTest 6 (unusedSet (s .op) (s .b) (s .value)) (linesOf l (asked s)))
+    (lit< tt) (below-100 l (unusedSet (s .op) (s .b) (s .value)) (asked s))
+
+-- the outcome and determined have one
+digit-small : (b : Bool) → digit b < 10
+digit-small true = lit< tt
+digit-small false = lit< tt
+
+outcome-digit : (r : Outcome) → (outcomeNumber r < 10) × (determinedNumber r < 10)
+outcome-digit (Determined b) = (digit-small b, lit< tt)
+outcome-digit (Chosen b) = (digit-small b, lit< tt)
+
+outcomes-small : (l : LentRecord) (o : Operation) → (outcomeOf l o < 10) × (determinedOf l o < 10)
+outcomes-small l (gateWith q k) = (lit< tt, lit< tt)
+outcomes-small l (czOn a b) = (lit< tt, lit< tt)
+outcomes-small l (measurementOf pauli q b) = outcome-digit (measuredAnswer l pauli q b)
+outcomes-small l (complementOf a) = (lit< tt, lit< tt)
+outcomes-small l (pivotOf j k) = (lit< tt, lit< tt)
+
+pub outcome-small : (l : LentRecord) (s : Step) → ((answerOf l s) .outcome < 10) × ((answerOf l s) .determined < 10)
+outcome-small l s = (
+  go (eqb (numberOf l s) 0) (outcomes-small l (asked s) .0),
+  go (eqb (numberOf l s) 0) (outcomes-small l (asked s) .1),
+)
+  where
+    go : {v : ℕ} (b : Bool) → v < 10 → cond b v 0 < 10
+    go true h = h
+    go false h = lit< tt

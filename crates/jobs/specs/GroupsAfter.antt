@@ -1,0 +1,83 @@
+-- The group after the steps of a job, as the definitions give it on groups. A group is given by its elements; the
+-- record beside it tells n, and the edges by which a pivot is refused.
+-- Assumes nothing.
+use mathlib.Core.Bool.{Bool, false, not, true}
+use mathlib.Core.List.{List, [], _∷_}
+use mathlib.Core.Logic.{_⊎_}
+use mathlib.Core.Path.{_≡_}
+use Prim.Native.Nat.{ℕ}
+use Rattle.buffers.specs.Refusals.{firstFitting}
+use Rattle.clifford.specs.Clifford.{cliffordOf}
+use Rattle.clifford.specs.Vectors.{act, only}
+use Rattle.operations.specs.Cz.{cz, zAt}
+use Rattle.operations.specs.Measurement.{pauliLetter, single}
+use Rattle.operations.specs.Steps.{Operation, complementOf, czOn, gateWith, measurementOf, pivotOf}
+use Rattle.pauli.specs.Pauli.{Pauli, anticommute, mul}
+use Rattle.pauli.specs.declared.Letter.{Letter}
+use Rattle.record.specs.Lent.{LentRecord}
+use Rattle.stabilizer.specs.Groups.{InGroup}
+use Rattle.words.specs.Bits.{isOdd}
+use Rattle.jobs.specs.Asked.{argumentsOf, asked, unusedSet, withTest}
+use Rattle.jobs.specs.Runs.{afterStep}
+use Rattle.jobs.specs.declared.Step.{Step}
+
+-- a group, by its elements
+abbrev pub Group : Type 1
+Group = Pauli → Type 0
+
+-- "All qubits start in +Z": all products of Z at single qubits
+abbrev pub StartGroup : ℕ → Group
+StartGroup n = InGroup n n zAt
+
+-- ---- what an accepted operation makes of a group
+-- the images of its elements under a map
+abbrev pub Sent : (Pauli → Pauli) → Group → Group
+Sent f G p = (r : Pauli) × G r × (p ≡ f r)
+
+-- "the Pauli or its negative is in the group"
+abbrev pub IsDetermined : Group → Letter → ℕ → Type 0
+IsDetermined G l q = G (single l q false) ⊎ G (single l q true)
+
+-- the group after a measurement with the outcome b (true means minus)
+pub data AfterMeasurement (n : ℕ) (G : Pauli → Type 0) (l : Letter) (q : ℕ) (b : Bool) : Pauli → Type 0 where
+  -- "the answer says determined .. and keeps the group"
+  same : {p : Pauli} → IsDetermined G l q → G p → AfterMeasurement n G l q b p
+  -- otherwise "the elements that commute with the Pauli, joined by the Pauli with that sign"
+  kept : {p : Pauli} → (IsDetermined G l q → ⊥) → G p → anticommute n p (single l q b) ≡ false →
+      AfterMeasurement n G l q b p
+  joined : {p : Pauli} → (IsDetermined G l q → ⊥) → G p → anticommute n p (single l q b) ≡ false →
+      AfterMeasurement n G l q b (mul n p (single l q b))
+
+-- "A gate applies a code"; "CZ on a and b"; complements and pivots keep the group
+abbrev pub AfterOperation : ℕ → Group → Operation → Group
+AfterOperation n G (gateWith q k) = Sent (act n (only q (cliffordOf k))) G
+AfterOperation n G (czOn a b) = Sent (cz a b) G
+AfterOperation n G (measurementOf pauli q b) = AfterMeasurement n G (pauliLetter pauli) q (isOdd b)
+AfterOperation n G (complementOf a) = G
+AfterOperation n G (pivotOf j k) = G
+
+-- ---- which steps are refused
+-- "a determined outcome contradicts the supplied bit": the Pauli with the other sign is in the group
+abbrev pub Impossible : Group → Operation → Type 0
+Impossible G (gateWith q k) = ⊥
+Impossible G (czOn a b) = ⊥
+Impossible G (measurementOf pauli q b) = G (single (pauliLetter pauli) q (not (isOdd b)))
+Impossible G (complementOf a) = ⊥
+Impossible G (pivotOf j k) = ⊥
+
+pub data Refused (l : LentRecord) (G : Pauli → Type 0) (s : Step) : Type 0 where
+  -- 6 and 8
+  by-fields : (firstFitting (withTest 6 (unusedSet (s .op) (s .b) (s .value)) (argumentsOf l (asked s))) ≡ 0 → ⊥) →
+      Refused l G s
+  -- 14
+  by-group : Impossible G (asked s) → Refused l G s
+
+-- ---- the group after a step, "refused steps counting as no change"
+pub data AfterStep (l : LentRecord) (G : Pauli → Type 0) (s : Step) : Pauli → Type 0 where
+  unchanged : {p : Pauli} → Refused l G s → G p → AfterStep l G s p
+  changed : {p : Pauli} → (Refused l G s → ⊥) → AfterOperation (l .n) G (asked s) p → AfterStep l G s p
+
+-- and after one step after the other
+abbrev pub GroupAfter : LentRecord → Group → List Step → Group
+GroupAfter l G [] = G
+GroupAfter l G (s ∷ rest) = GroupAfter (afterStep l s) (AfterStep l G s) rest

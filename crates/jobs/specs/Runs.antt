@@ -1,0 +1,70 @@
+-- Runs of a job: the record that it starts from, the record after each step, and what each step answers.
+-- Assumes nothing.
+use mathlib.Core.Bool.{cond}
+use mathlib.Core.List.{List, [], _∷_}
+use Prim.Native.Nat.{ℕ}
+use lib.Dec.{eqb}
+use lib.ListN.{replicate, take}
+use Rattle.buffers.specs.Buffers.{acceptedNumber}
+use Rattle.operations.specs.Measurement.{determinedNumber, outcomeNumber}
+use Rattle.operations.specs.Steps.{
+  Operation,
+  complementOf,
+  czOn,
+  gateWith,
+  measuredAnswer,
+  measurementOf,
+  pivotOf,
+  step,
+}
+use Rattle.record.specs.Lent.{LentRecord}
+use Rattle.jobs.specs.Asked.{asked, numberOf}
+use Rattle.jobs.specs.declared.Answer.{Answer}
+use Rattle.jobs.specs.declared.Step.{Step}
+
+-- "All qubits start in +Z, with code 8 and no edge"
+abbrev pub started : ℕ → LentRecord
+started n = record { n = n; neighbours = replicate n 0; codes = replicate n 8 }
+
+-- "A refused step changes nothing": else the record is what the operation leaves
+abbrev pub afterStep : LentRecord → Step → LentRecord
+afterStep l s = cond (eqb (numberOf l s) 0) ((step l (asked s)) .after) l
+
+-- ".. and the job continues"
+unfoldable pub run : LentRecord → List Step → LentRecord
+run l [] = l
+run l (s ∷ rest) = run (afterStep l s) rest
+
+-- "the record after the first k steps" of a job on n qubits
+abbrev pub recordAfter : ℕ → List Step → ℕ → LentRecord
+recordAfter n steps k = run (started n) (take k steps)
+
+-- ---- answers
+-- a measurement's outcome and whether it is determined. "Fields without meaning print 0"
+abbrev pub outcomeOf : LentRecord → Operation → ℕ
+outcomeOf l (gateWith q k) = 0
+outcomeOf l (czOn a b) = 0
+outcomeOf l (measurementOf pauli q b) = outcomeNumber (measuredAnswer l pauli q b)
+outcomeOf l (complementOf a) = 0
+outcomeOf l (pivotOf j k) = 0
+
+abbrev pub determinedOf : LentRecord → Operation → ℕ
+determinedOf l (gateWith q k) = 0
+determinedOf l (czOn a b) = 0
+determinedOf l (measurementOf pauli q b) = determinedNumber (measuredAnswer l pauli q b)
+determinedOf l (complementOf a) = 0
+determinedOf l (pivotOf j k) = 0
+
+-- "refusal outcome determined" of a step on a record
+abbrev pub answerOf : LentRecord → Step → Answer
+answerOf l s =
+    record {
+      refusal = numberOf l s;
+      outcome = acceptedNumber (numberOf l s) (outcomeOf l (asked s)) 0;
+      determined = acceptedNumber (numberOf l s) (determinedOf l (asked s)) 0;
+    }
+
+-- of each step
+unfoldable pub answers : LentRecord → List Step → List Answer
+answers l [] = []
+answers l (s ∷ rest) = answerOf l s ∷ answers (afterStep l s) rest

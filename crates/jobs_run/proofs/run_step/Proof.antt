@@ -1,0 +1,122 @@
+use borrow.Author.Needs.{needs}
+use Rattle.record.specs.Lent.{LentRecord}
+use Rattle.jobs_run.proofs.Running.{
+  measured-run,
+  not-measure,
+  plain-run,
+  rewriting,
+  value-small,
+  wrong-by,
+  wrong-run,
+}
+use Rattle.jobs_run.proofs.run_step.Statement.{statement}
+use Rattle.jobs_run.proofs.run_step.Tie as tie
+
+unused-set-requires : tie.Need-unused-set-requires
+unused-set-requires c κs = search needs
+
+wrong-value-requires : tie.Need-wrong-value-requires
+wrong-value-requires c κs = search needs
+
+record-refusal-requires : tie.Need-record-refusal-requires
+record-refusal-requires c κs = search needs
+
+same-length : tie.Need-same-length
+same-length c = search needs
+
+same-length-2 : tie.Need-same-length-2
+same-length-2 c = search needs
+
+returns : tie.Need-returns
+returns c =
+    let I = c .before .before .before in
+    let W = I .before in
+    let a = W .before .before .before .before .args in
+    let l : LentRecord = record { n = a .n; neighbours = a .neighbours .now; codes = a .codes .now } in
+    wrong-run l (a .s) (wrong-by l (a .s) (W .before .unused-set .ensures) (W .wrong-value .ensures) (I .if1 .taken))
+    _ (c .record-refusal .ensures)
+
+cast-a : tie.Need-cast-a
+cast-a c = search needs
+
+enum-told : tie.Need-enum-told
+enum-told c = search needs
+
+run-measurement-requires : tie.Need-run-measurement-requires
+run-measurement-requires c κs =
+    let T = c .before .before in
+    let E = T .before .before .before in
+    let W = E .before in
+    let a = W .before .before .before .before .args in
+    let l : LentRecord = record { n = a .n; neighbours = a .neighbours .now; codes = a .codes .now } in
+    let e = wrong-by l (a .s) (W .before .unused-set .ensures) (W .wrong-value .ensures) (E .if1 .left) in
+    value-small l (a .s) e (T .enum-told .given .1)
+
+same-length-3 : tie.Need-same-length-3
+same-length-3 c = search needs
+
+same-length-4 : tie.Need-same-length-4
+same-length-4 c = search needs
+
+returns-2 : tie.Need-returns-2
+returns-2 c =
+    let C = c .before .before .before .before in
+    let T = C .before .before .before in
+    let E = T .before .before .before in
+    let W = E .before in
+    let a = W .before .before .before .before .args in
+    let l : LentRecord = record { n = a .n; neighbours = a .neighbours .now; codes = a .codes .now } in
+    let e = wrong-by l (a .s) (W .before .unused-set .ensures) (W .wrong-value .ensures) (E .if1 .left) in
+    measured-run l (a .s) e (T .enum-told .given .1) _ _ _ (C .run-measurement .ensures)
+
+cast-rewrite : tie.Need-cast-rewrite
+cast-rewrite c = search needs
+
+rewrite-requires : tie.Need-rewrite-requires
+rewrite-requires c κs =
+    let M = c .before .before .before in
+    let E = M .before .before in
+    let W = E .before in
+    let a = W .before .before .before .before .args in
+    let l : LentRecord = record { n = a .n; neighbours = a .neighbours .now; codes = a .codes .now } in
+    let e = wrong-by l (a .s) (W .before .unused-set .ensures) (W .wrong-value .ensures) (E .if1 .left) in
+    rewriting l (a .s) e (M .match .keys2)
+
+same-length-5 : tie.Need-same-length-5
+same-length-5 c = search needs
+
+same-length-6 : tie.Need-same-length-6
+same-length-6 c = search needs
+
+returns-3 : tie.Need-returns-3
+returns-3 c =
+    let C = c .before .before .before .before in
+    let M = C .before .before .before .before in
+    let E = M .before .before in
+    let W = E .before in
+    let a = W .before .before .before .before .args in
+    let l : LentRecord = record { n = a .n; neighbours = a .neighbours .now; codes = a .codes .now } in
+    let e = wrong-by l (a .s) (W .before .unused-set .ensures) (W .wrong-value .ensures) (E .if1 .left) in
+    plain-run l (a .s) e (not-measure l (a .s) (M .match .keys2)) _ _ _ (C .rewrite .ensures)
+
+pub run-step-spec : {M : Type 1} → statement M
+run-step-spec =
+    tie.close
+    (tie.spec
+    unused-set-requires
+    wrong-value-requires
+    record-refusal-requires
+    same-length
+    same-length-2
+    returns
+    cast-a
+    enum-told
+    run-measurement-requires
+    same-length-3
+    same-length-4
+    returns-2
+    cast-rewrite
+    rewrite-requires
+    same-length-5
+    same-length-6
+    returns-3)

@@ -1,0 +1,54 @@
+//! The programs, run as processes.
+
+use std::io::{ErrorKind, Write};
+use std::path::PathBuf;
+use std::process::{Child, Command, Stdio};
+use std::thread::sleep;
+use std::time::Duration;
+
+/// A program of the repository, by its name.
+#[derive(Clone, Copy)]
+pub struct Program(pub &'static str);
+
+impl Program {
+    fn started(self) -> Child {
+        let folder = PathBuf::from(env!("CARGO_MANIFEST_DIR")).join("../../target/bin");
+        let path = folder.join(self.0);
+        Command::new(&path)
+            .stdin(Stdio::piped())
+            .stdout(Stdio::piped())
+            .spawn()
+            .unwrap_or_else(|e| panic!("{}: {e}", path.display()))
+    }
+
+    /// What it prints for an input that comes in these pieces, with a pause after each.
+    pub fn run_pieces<'a>(self, pieces: impl Iterator<Item = &'a [u8]>, pause: Duration) -> String {
+        let mut child = self.started();
+        let mut input = child.stdin.take().unwrap();
+        for piece in pieces {
+            match input.write_all(piece).and_then(|()| input.flush()) {
+                Err(e) if e.kind() == ErrorKind::BrokenPipe => {
+                    panic!("the program did not read to the end")
+                }
+                other => other.unwrap(),
+            }
+            if !pause.is_zero() {
+                sleep(pause);
+            }
+        }
+        drop(input);
+        let out = child.wait_with_output().unwrap();
+        assert!(out.status.success(), "{:?}", out.status);
+        String::from_utf8(out.stdout).unwrap()
+    }
+
+    /// What it prints for an input.
+    pub fn run(self, input: &[u8]) -> String {
+        self.run_pieces(std::iter::once(input), Duration::ZERO)
+    }
+}
+
+/// The print of a refusal.
+pub fn refused(k: u32) -> String {
+    format!("refused {k}\n")
+}

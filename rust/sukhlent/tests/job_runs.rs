@@ -1,0 +1,157 @@
+//! Jobs run by the program against state vectors, step by step, on up to 8 qubits.
+use crate::common::process::Program;
+use crate::common::reference::expanded;
+use crate::common::vectors::{assert_stabilized, matrix};
+use crate::common::Random;
+use simulator::{Matrix2, Row, State};
+use std::collections::HashMap;
+use sukhlent::Record;
+
+/// The line of a step: operation, a, b and value.
+type Step = (&'static str, usize, usize, usize);
+
+/// Refusal, outcome and determined.
+type Answer = (u32, u8, u8);
+
+/// A random step on n qubits. Each number may be too large, and an unused field not 0.
+fn step(random: &mut Random, n: usize) -> Step {
+    let [a, b] = [0, 1].map(|_| {
+        let bound = n + usize::from(random.below(8) == 0);
+        random.below(bound)
+    });
+    let stray = |random: &mut Random| usize::from(random.below(12) == 0);
+    match random.below(9) {
+        0 => ("complement", a, stray(random), stray(random)),
+        1 | 2 => ("pivot", a, b, stray(random)),
+        3 | 4 => ("gate", a, stray(random), random.below(26)),
+        5 => ("measure", a, stray(random), random.below(7)),
+        _ => ("cz", a, b, stray(random)),
+    }
+}
+
+/// The refusals 6 and 8 of a step on a record.
+fn due(record: &Record, (op, a, b, value): Step) -> u32 {
+    let n = record.n();
+    let (unused, known) = match op {
+        "gate" => (b, value < 24),
+        "measure" => (b, value < 6),
+        "complement" => (b + value, true),
+        _ => (value, true),
+    };
+    let edge = || record.neighbours[a] >> b & 1 == 1;
+    match op {
+        _ if unused != 0 || !known => 6,
+        _ if a >= n => 8,
+        "cz" if b >= n || a == b => 8,
+        "pivot" if b >= n || a == b || !edge() => 8,
+        _ => 0,
+    }
+}
+
+/// A Pauli at a qubit.
+fn row(pauli: usize, q: usize) -> Row {
+    match pauli {
+        1 => Row::new(0, 0, 1 << q),
+        2 => Row::new(0, 1 << q, 1 << q),
+        _ => Row::new(0, 1 << q, 0),
+    }
+}
+
+/// Does a step to the state vector. What the program is to answer, the record being as given.
+fn follow(matrices: &[Matrix2], state: &mut State, record: &Record, step: Step) -> Answer {
+    let number = due(record, step);
+    if number != 0 {
+        return (number, 0, 0);
+    }
+    let (op, a, b, value) = step;
+    match op {
+        "gate" => state.apply(a, &matrices[value]),
+        "cz" => state.cz(a, b),
+        "measure" => {
+            let (measured, bit) = (row(value / 2 + 1, a), (value % 2) as u8);
+            let probability = state.probability(&measured, bit);
+            let Some(after) = state.project(&measured, bit) else {
+                return (14, 0, 0);
+            };
+            *state = after;
+            assert!((probability * 2.0 - 1.0).abs() < 1e-9 || probability > 1.0 - 1e-9);
+            return (0, bit, u8::from(probability > 0.75));
+        }
+        _ => (),
+    }
+    (0, 0, 0)
+}
+
+/// The lines of the steps, and the record, that the program prints for a job.
+fn run(n: usize, steps: &[Step]) -> (Vec<String>, Record) {
+    let mut text = format!("qubits\n{n}\nop a b value\n");
+    for (op, a, b, value) in steps {
+        text += &format!("{op} {a} {b} {value}\n");
+    }
+    let out = Program("job").run(text.as_bytes());
+    let lines: Vec<String> = out.lines().map(String::from).collect();
+    assert_eq!(lines.len(), 2 + steps.len() + n, "{out}");
+    assert_eq!(lines[0], "step refusal outcome determined");
+    assert_eq!(lines[1 + steps.len()], "qubit code neighbours");
+    let mut record = Record {
+        neighbours: Vec::new(),
+        codes: Vec::new(),
+    };
+    for (q, line) in lines[2 + steps.len()..].iter().enumerate() {
+        let fields: Vec<&str> = line.split(' ').collect();
+        assert_eq!((fields.len(), fields[0]), (3, q.to_string().as_str()));
+        record.codes.push(fields[1].parse().unwrap());
+        let word = u64::from_str_radix(fields[2], 16).unwrap();
+        record.neighbours.push(word);
+    }
+    (lines[1..=steps.len()].to_vec(), record)
+}
+
+// For each k the program runs the first k steps: the record stands for the state after them, and the lines are those of
+// the whole job.
+#[test]
+fn seeded_jobs_against_state_vectors() {
+    let matrices: Vec<Matrix2> = (0..24).map(matrix).collect();
+    let mut counts = HashMap::<String, usize>::new();
+    for n in 1..=8 {
+        let mut random = Random::new(50_000 + n as u64);
+        let steps: Vec<Step> = (0..400).map(|_| step(&mut random, n)).collect();
+        let (whole, last) = run(n, &steps);
+        let mut state = State::zero(n);
+        let (_, mut record) = run(n, &[]);
+        assert_stabilized(&state, &expanded(&record));
+        for (k, &step) in steps.iter().enumerate() {
+            let (refusal, outcome, determined) = follow(&matrices, &mut state, &record, step);
+            let line = format!("{k} {refusal} {outcome} {determined}");
+            assert_eq!(whole[k], line, "{step:?} on {record:?}");
+            let (lines, after) = run(n, &steps[..=k]);
+            assert_eq!(lines, whole[..=k], "{n} qubits");
+            if refusal != 0 {
+                assert_eq!(after, record, "{step:?}");
+            }
+            assert_stabilized(&state, &expanded(&after));
+            record = after;
+            let what = match (refusal, step.0) {
+                (0, "measure") => format!("measured, determined {determined}"),
+                (0, op) => op.to_string(),
+                _ => format!("refused {refusal}"),
+            };
+            *counts.entry(what).or_default() += 1;
+        }
+        assert_eq!(record, last);
+    }
+    for what in [
+        "gate",
+        "cz",
+        "complement",
+        "pivot",
+        "measured, determined 0",
+        "measured, determined 1",
+        "refused 6",
+        "refused 8",
+        "refused 14",
+    ] {
+        let times = counts.get(what).copied().unwrap_or(0);
+        assert!(times >= 20, "{what}: {times} times");
+    }
+}
