@@ -15,7 +15,8 @@ use Rattle.jobs.specs.declared.Step.{Step}
 use Rattle.record.specs.Lent.{LentRecord}
 use Rattle.text.proofs.Writing.{and-then, length-written}
 use Rattle.text.specs.Text.{Printable, Printed, recordText}
-use Rattle.job.specs.Answer.{Fresh, StepsRun, answered, longest, resultsOf}
+use Rattle.job_steps.specs.StepsRun.{StepsRun, resultsOf}
+use Rattle.job.specs.Answer.{Fresh, answered, longest}
 
 -- the first n places of a buffer of equal numbers
 pub repeated-part : (n m v : ℕ) → n ≤ m → take n (replicate m v) ≡ replicate n v

@@ -2,32 +2,21 @@
 -- line `refused` and the number.
 -- Assumes nothing.
 use mathlib.Core.Bool.{cond}
-use mathlib.Core.List.{List, _++_}
+use mathlib.Core.List.{List}
 use mathlib.Core.Path.{_≡_}
 use Prim.Native.Nat.{_*_, _+_, ℕ, _≤_}
 use lib.Dec.{eqb}
-use lib.ListN.{getD, length, replicate}
+use lib.ListN.{length, replicate}
 use Rattle.buffers.specs.Refusals.{firstFitting}
+use Rattle.job_steps.specs.StepsRun.{linesRoom, resultsOf}
 use Rattle.job_text.specs.Lines.{jobLines}
-use Rattle.job_text.specs.Results.{Result, jobAnswer, resultLines, resultNames}
+use Rattle.job_text.specs.Results.{jobAnswer}
 use Rattle.job_text.specs.Scan.{empty, fed}
 use Rattle.job_text.specs.Text.{HasJobForm, JobTextOf}
 use Rattle.job_text.specs.declared.scan.Reading.{Reading}
 use Rattle.jobs.specs.Runs.{answers, run, started}
-use Rattle.jobs.specs.declared.Answer.{Answer}
 use Rattle.jobs.specs.declared.Step.{Step}
-use Rattle.record.specs.Lent.{LentRecord}
 use Rattle.text.specs.Text.{Printed, refusedText}
-
--- what is printed of step k of a run
-abbrev pub noAnswer : Answer
-noAnswer = record { refusal = 0; outcome = 0; determined = 0 }
-
-abbrev pub resultOf : Answer → Result
-resultOf r = record { refusal = r .refusal; outcome = r .outcome; determined = r .determined }
-
-abbrev pub resultsOf : LentRecord → List Step → ℕ → Result
-resultsOf l steps k = resultOf (getD (answers l steps) k noAnswer)
 
 -- "one line per step with steps counted from 0, and then the record": the answer to an accepted job
 abbrev pub answered : ℕ → List Step → List ℕ
@@ -49,15 +38,7 @@ pub record Answers (t bytes : List ℕ) : Type 0 where
 -- ---- what the functions promise
 -- room for every answer: the names, 4,096 lines and the record of 64 qubits
 abbrev pub longest : ℕ
-longest = 32 + 4096 * 14 + 22 + 64 * 23
-
--- the steps were run from the record l on: the record after the last is in the buffers, and the names and the line of
--- each are printed
-pub record StepsRun (l : LentRecord) (steps : List Step) (neighbours′ codes′ before after : List ℕ) (r : ℕ) : Type
-    0 where
-  pub words : neighbours′ ≡ (run l steps) .neighbours
-  pub numbers : codes′ ≡ (run l steps) .codes
-  pub out : Printed (resultNames ++ resultLines (length steps) (resultsOf l steps)) 0 before after r
+longest = linesRoom + 22 + 64 * 23
 
 -- the buffers hold the record that a job starts from, and there is room
 pub record Fresh (n : ℕ) (neighbours codes : List ℕ) (count : ℕ) (out : List ℕ) : Type 0 where

@@ -1,13 +1,11 @@
 // Reads a job from standard input, to its end and in blocks, runs its steps, and prints what each answers and the
 // record after the last; or a refusal.
-use job_print::print_result;
-use job_print::print_result_names;
 use job_scan::judge;
 use job_scan::no_text;
 use job_scan::scan_block;
+use job_steps::run_steps;
 use job_text::scan::Reading;
 use jobs::Step;
-use jobs_run::run_step;
 use libc::STDIN_FILENO;
 use libc::STDOUT_FILENO;
 use text_print::print_record;
@@ -15,32 +13,7 @@ use text_print::print_refusal;
 ghost use Prim.Native.Nat.{_≤_};
 ghost use lib.ListN.{length, take};
 ghost use Rattle.text.specs.Text.{Printed};
-ghost use Rattle.job.specs.Answer.{Fresh, Responded, ScannedJob, StepsRun, answered, longest};
-
-// Runs the first steps from a record on, and prints the names and the line of each.
-fn run_steps(
-    n: u64,
-    neighbours: &mut [u64],
-    codes: &mut [u8],
-    count: usize,
-    steps: [Step; 4096],
-    out: &mut [u8],
-) -> usize
-    requires { ⌜ (count ≤ 4096) × (longest ≤ length (now out)) ⌝ }
-    ensures { λ r. ⌜ StepsRun
-        (record { n = n; neighbours = now (neighbours .entry); codes = now (codes .entry) }) (take count steps)
-        (now (neighbours .exit)) (now (codes .exit)) (now (out .entry)) (now (out .exit)) r ⌝ }
-{
-    let mut at = print_result_names(0, out);
-    let mut k = 0;
-    while k < count {
-        let s = steps[k];
-        let r = run_step(n, neighbours, codes, s);
-        at = print_result(k as u16, r.refusal, r.outcome, r.determined, at, out);
-        k += 1;
-    }
-    at
-}
+ghost use Rattle.job.specs.Answer.{Fresh, Responded, ScannedJob, answered, longest};
 
 // Runs the first steps of a job, and prints its answer.
 fn print_run(

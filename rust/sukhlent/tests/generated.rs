@@ -1,6 +1,7 @@
 //! Jobs that the generator writes: against a generator written from the request's words, and read
 //! back line by line.
 
+use crate::common::process::Program;
 use crate::common::reference::{draw, steps, Step};
 use crate::common::{GenerateCall, Random};
 use sukhlent::{cz, gate, generate, measure, raw, Pauli, Record, Refusal};
@@ -112,31 +113,42 @@ fn no_step_is_a_job() {
     }
 }
 
-/// The qubits start in +Z; only an impossible click is refused.
-#[test]
-fn the_calls_take_every_step_but_impossible_clicks() {
-    for (n, seed) in [(1, 3), (2, 1), (7, 5), (64, 1)] {
-        let mut record = Record {
-            neighbours: vec![0; n],
-            codes: vec![8; n],
-        };
-        let mut impossible = 0;
-        for (op, a, b, value) in parsed(&generate(n, 600, seed).unwrap()).1 {
-            let (a, b, value) = (a as usize, b as usize, value as u8);
-            let answer = match op {
-                "gate" => gate(&mut record, a, value),
-                "cz" => cz(&mut record, a, b),
-                _ => {
-                    let pauli = [Pauli::X, Pauli::Y, Pauli::Z][usize::from(value / 2)];
-                    measure(&mut record, pauli, a, value % 2).map(|_| ())
-                }
-            };
-            match answer {
-                Ok(()) => (),
-                Err(Refusal::Contradiction) => impossible += 1,
-                Err(other) => panic!("{op} {a} {b} {value}: {other}"),
+/// What the program prints of a job: each step is done by a public call, from +Z on. Only
+/// impossible clicks are refused.
+fn answered(n: usize, steps: &[Step]) -> String {
+    let (neighbours, codes) = (vec![0; n], vec![8; n]);
+    let mut record = Record { neighbours, codes };
+    let mut text = String::from("step refusal outcome determined\n");
+    for (k, &(op, a, b, value)) in steps.iter().enumerate() {
+        let (a, b, value) = (a as usize, b as usize, value as u8);
+        let answer = match op {
+            "gate" => gate(&mut record, a, value).map(|()| (0, 0)),
+            "cz" => cz(&mut record, a, b).map(|()| (0, 0)),
+            _ => {
+                let pauli = [Pauli::X, Pauli::Y, Pauli::Z][usize::from(value / 2)];
+                let measured = measure(&mut record, pauli, a, value % 2);
+                measured.map(|m| (m.outcome, u8::from(m.determined)))
             }
-        }
-        assert!(impossible < 300, "{n}: {impossible}");
+        };
+        text += &match answer {
+            Ok((outcome, determined)) => format!("{k} 0 {outcome} {determined}\n"),
+            Err(Refusal::Contradiction) => format!("{k} 14 0 0\n"),
+            Err(other) => panic!("{op} {a} {b} {value}: {other}"),
+        };
+    }
+    text += "qubit code neighbours\n";
+    for (q, (word, code)) in record.neighbours.iter().zip(&record.codes).enumerate() {
+        text += &format!("{q} {code} {word:016x}\n");
+    }
+    text
+}
+
+#[test]
+fn the_program_runs_every_step_as_the_calls_do() {
+    for (n, count, seed) in [(1, 50, 3), (2, 300, 1), (7, 4096, 5), (64, 4096, 1)] {
+        let text = generate(n, count, seed).unwrap();
+        let (_, steps) = parsed(&text);
+        let printed = Program("job").run(text.as_bytes());
+        assert_eq!(printed, answered(n, &steps), "{n} {count} {seed}");
     }
 }

@@ -18,7 +18,7 @@ use Rattle.jobs_run.specs.StepRuns.{StepRun}
 use Rattle.record.specs.Lent.{LentRecord}
 use Rattle.text.proofs.Writing.{and-then, length-written, write-none}
 use Rattle.text.specs.Text.{Printed}
-use Rattle.job.specs.Answer.{StepsRun, longest, noAnswer, resultOf, resultsOf}
+use Rattle.job_steps.specs.StepsRun.{StepsRun, linesRoom, noAnswer, resultOf, resultsOf}
 
 -- after k of the steps, with their lines printed from a place on
 pub record Upto (l : LentRecord) (steps : List Step) (from : ℕ) (before : List ℕ) (k : ℕ) (nb cs out : List ℕ)
@@ -41,7 +41,7 @@ none-run l steps from before =
     }
 
 -- behind the names there is room for the lines
-pub names-room : (first before : List ℕ) (from : ℕ) → longest ≤ length first
+pub names-room : (first before : List ℕ) (from : ℕ) → linesRoom ≤ length first
     → Printed resultNames 0 first before from → from + 4096 * 14 ≤ length before
 names-room first before from room P =
     omega (arith, P .end, ap length (P .out) ∙ length-written first 0 resultNames (omega arith))
@@ -54,7 +54,7 @@ module _ (l : LentRecord) (array : List Step) (count : ℕ) (few : count ≤ 409
   all = length-take-le count array (omega arith)
 
   -- all of them, behind the names
-  pub all-run : (first before nb cs out : List ℕ) (from at : ℕ) → longest ≤ length first
+  pub all-run : (first before nb cs out : List ℕ) (from at : ℕ) → linesRoom ≤ length first
       → Printed resultNames 0 first before from → (k : ℕ) → count ≤ k → Upto l steps from before k nb cs out at
       → StepsRun l steps nb cs first out at
   all-run first before nb cs out from at room names k end U =

@@ -4,9 +4,9 @@ use lib.ListN.{length, take}
 use native.Mathlib.Omega.{arith}
 use borrow.Author.Needs.{needs}
 use Rattle.record.specs.Lent.{LentRecord}
-use Rattle.job.proofs.Looping.{Upto, all-run, answer-small, line-fits, names-room, none-run, one-run}
-use Rattle.job.proofs.run_steps.Statement.{statement}
-use Rattle.job.proofs.run_steps.Tie as tie
+use Rattle.job_steps.proofs.Looping.{Upto, all-run, answer-small, line-fits, names-room, none-run, one-run}
+use Rattle.job_steps.proofs.run_steps.Statement.{statement}
+use Rattle.job_steps.proofs.run_steps.Tie as tie
 
 abbrev Inv-loop : tie.InvT-loop
 Inv-loop n neighbours₀ codes₀ count out₀ steps at₀ k₀ neighbours codes out at k =
