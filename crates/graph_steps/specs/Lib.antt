@@ -1,0 +1,3 @@
+pub mod ReducedForms
+pub mod Settling
+pub mod Steps
