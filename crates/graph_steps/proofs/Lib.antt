@@ -1,1 +1,3 @@
 pub mod ReducedForms
+pub mod Totals
+pub mod Settling
