@@ -1,3 +1,5 @@
 pub mod ReducedForms
 pub mod Totals
 pub mod Settling
+pub mod Places
+pub mod SignsMoved
