@@ -5,3 +5,5 @@ pub mod Places
 pub mod SignsMoved
 pub mod ZRows
 pub mod CzProducts
+pub mod Reaching
+pub mod CzSteps
