@@ -7,3 +7,4 @@ pub mod ZRows
 pub mod CzProducts
 pub mod Reaching
 pub mod CzSteps
+pub mod CuttingOff

@@ -74,7 +74,7 @@ split n θ S a =
 single-x : (a : ℕ) → xAt a ≡ single X a false
 single-x a = Pauli-path refl (λ q. sym (and-false (eqb q a))) (λ q. sym (and-true (eqb q a)))
 
-single-z : (a : ℕ) → single Z a false ≡ zAt a
+pub single-z : (a : ℕ) → single Z a false ≡ zAt a
 single-z a = Pauli-path refl (λ q. and-true (eqb q a)) (λ q. and-false (eqb q a))
 
 -- Z twice is nothing
