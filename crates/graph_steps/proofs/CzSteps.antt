@@ -166,11 +166,14 @@ module _ (n : ℕ) (r : GraphRecord) (S : Simple n (r .graph)) (F : ReducedForm 
   pub cz-form : ReducedForm n (czRecord r a b)
   cz-form =
       record {
-        low = λ q l. pauli-low false (czTurned r a b q) (c q) (F .low q l);
+        settled =
+            record {
+              low = λ q l. pauli-low false (czTurned r a b q) (c q) (F .settled .low q l);
+              smaller = λ q j l e h. F .settled .smaller q j l (still q e)
+                  (sym (edges (θ q j) (B j) (A j) (reach-kept n r S F a ha q l (still q e))
+                  (reach-kept n r S F b hb q l (still q e))) ∙ h);
+            };
         even = λ q l. ap (λ k. k .sz) (pauli-then false (czTurned r a b q) (c q)) ∙ F .even q l;
-        smaller = λ q j l e h. F .smaller q j l (still q e)
-            (sym (edges (θ q j) (B j) (A j) (reach-kept n r S F a ha q l (still q e)) (reach-kept n r S F b hb q l (still q e)))
-            ∙ h);
         above = λ q l. ap₂ (λ v k. then (pauliCode false v) k) (turned-above q l) (F .above q l)
             ∙ cliffords 0 (then (pauliCode false false) identityClifford) identityClifford tt;
       }

@@ -8,3 +8,4 @@ pub mod CzProducts
 pub mod Reaching
 pub mod CzSteps
 pub mod CuttingOff
+pub mod Keeping

@@ -1,4 +1,4 @@
--- The search of the image rule that goes up by one: the smallest vertex that passes a test.
+-- A search that goes up by one: the smallest vertex that passes a test.
 -- Assumes nothing.
 use mathlib.Core.Bool.{Bool, false, true}
 use mathlib.Core.Path.{sym, _≡_}
@@ -9,7 +9,6 @@ use borrow.Author.Count.{below-more}
 use Rattle.words.proofs.SearchLaws.{first-none, first-unique}
 use Rattle.words.specs.Search.{first}
 
--- ---- a search that goes up by one
 pub record NotYet (f : ℕ → Bool) (n j : ℕ) : Type 0 where
   pub upto : j ≤ n
   pub none : (i : ℕ) → i < j → f i ≡ false
