@@ -18,6 +18,7 @@ use Rattle.operations.proofs.UnrefusedRecords.{
   rewritten-length,
   rewritten-unrefused,
   unrefused-above,
+  unrefused-long,
   unrefused-simple,
 }
 use Rattle.operations.specs.InPlace.{Rewritten, Unrefused, recordIn}
@@ -50,6 +51,11 @@ kept-trans words codes words₁ codes₁ words₂ codes₂ K L =
           (subst (λ n. SameGroup n n (rowsOf n (heldRecord (recordIn words₁ codes₁)))
           (rowsOf n (heldRecord (recordIn words₂ codes₂)))) (K .long) (L .group));
     }
+
+pub kept-codes-long : (words codes words′ codes′ : List ℕ) → Unrefused (recordIn words codes)
+    → Kept words codes words′ codes′ → length codes′ ≡ length codes
+kept-codes-long words codes words′ codes′ U K =
+    unrefused-long words′ codes′ (K .unrefused) ∙ K .long ∙ sym (unrefused-long words codes U)
 
 -- buffers rewritten by a step that keeps the group
 module _ (words codes : List ℕ) (U : Unrefused (recordIn words codes)) (f : GraphRecord → GraphRecord)

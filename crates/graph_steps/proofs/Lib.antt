@@ -9,3 +9,4 @@ pub mod Reaching
 pub mod CzSteps
 pub mod CuttingOff
 pub mod Keeping
+pub mod OutOfPlace
