@@ -126,7 +126,7 @@ module _ (n : ℕ) (r : GraphRecord) (S : Simple n (r .graph)) (F : ReducedForm 
           none : (q : ℕ) → q < n → (R e) .x q ≡ false
           none q l = sym (ap (λ v. (chosen v (R e)) .x q) h) ∙ element-no-x n r S F e he q l
 
-  cz-simple : Simple n ((czRecord r a b) .graph)
+  pub cz-simple : Simple n ((czRecord r a b) .graph)
   cz-simple =
       record {
         symmetric = λ k l. ap (λ t. t ⊕ ((A k && B l) ⊕ (B k && A l))) (S .symmetric k l)
@@ -155,7 +155,7 @@ module _ (n : ℕ) (r : GraphRecord) (S : Simple n (r .graph)) (F : ReducedForm 
       (chosen-in (A j) gb (element-in b hb))) (chosen-in (B j) ga (element-in a ha))))
 
   -- ---- the form
-  turned-above : (q : ℕ) → n ≤ q → czTurned r a b q ≡ false
+  pub turned-above : (q : ℕ) → n ≤ q → czTurned r a b q ≡ false
   turned-above q l =
       ap₂ (λ u v. (u && v) ⊕ ((reachMinus r a && v) ⊕ (reachMinus r b && u))) (reach-below n r S F a ha q l)
       (reach-below n r S F b hb q l) ∙ none (reachMinus r a) (reachMinus r b)

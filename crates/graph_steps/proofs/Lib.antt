@@ -10,3 +10,4 @@ pub mod CzSteps
 pub mod CuttingOff
 pub mod Keeping
 pub mod OutOfPlace
+pub mod OverSets

@@ -1,0 +1,4 @@
+pub mod ReachedSets
+pub mod JoinedSets
+pub mod TurnedCodes
+pub mod CzBuffers
