@@ -21,7 +21,7 @@ ghost use Rattle.record.specs.Lent.{heldRecord};
 ghost use Rattle.words.specs.Bits.{_⊕_, bit};
 
 // The word where b is true, else no bit.
-fn where_true(b: bool, word: u64) -> u64
+pub fn where_true(b: bool, word: u64) -> u64
     ensures { λ r. ⌜ ((q : ℕ) → bit r q ≡ (b && bit word q)) ⌝ }
 {
     if b { word } else { 0 }

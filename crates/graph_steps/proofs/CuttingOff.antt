@@ -78,7 +78,7 @@ z-acts XY = refl
 z-acts YX = refl
 z-acts ZY = refl
 
-clash-self : (l : Letter) → clash l l ≡ false
+pub clash-self : (l : Letter) → clash l l ≡ false
 clash-self I = refl
 clash-self X = refl
 clash-self Y = refl

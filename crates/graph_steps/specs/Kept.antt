@@ -6,7 +6,11 @@ use mathlib.Core.Path.{_≡_}
 use Prim.Native.Nat.{_/_, _<_, _^_, ℕ}
 use lib.Dec.{eqb, leb}
 use lib.ListN.{getD, length}
+use Rattle.clifford.specs.Clifford.{image}
+use Rattle.clifford.specs.Vectors.{codesOf}
 use Rattle.operations.specs.InPlace.{Rewritten, Unrefused, recordIn}
+use Rattle.pauli.specs.declared.Letter.{Letter}
+use Rattle.pauli.specs.declared.Letter.the-variants.{Z}
 use Rattle.record.specs.Lent.{heldRecord, heldRows}
 use Rattle.record.specs.Records.{rowsOf}
 use Rattle.record.specs.Reduced.{reduced}
@@ -42,3 +46,8 @@ pub record Normalised (words codes words′ codes′ : List ℕ) : Type 0 where
   pub kept : Kept words codes words′ codes′
   pub form : ReducedForm (length words) (heldRecord (recordIn words′ codes′))
   pub after : Rewritten words codes (λ g. reduced (length words) (rowsOf (length words) g)) words′ codes′
+
+-- the code at q sends Z to plus or minus this letter
+pub record Faced (words codes : List ℕ) (q : ℕ) (l : Letter) (words′ codes′ : List ℕ) : Type 0 where
+  pub kept : Kept words codes words′ codes′
+  pub sends-z : image (codesOf codes′ q) Z ≡ l
