@@ -9,6 +9,7 @@ use lib.ListN.{getD, length}
 use Rattle.clifford.specs.Clifford.{image}
 use Rattle.clifford.specs.Vectors.{codesOf}
 use Rattle.operations.specs.InPlace.{Rewritten, Unrefused, recordIn}
+use Rattle.operations.specs.Measurement.{measuredRows}
 use Rattle.pauli.specs.declared.Letter.{Letter}
 use Rattle.pauli.specs.declared.Letter.the-variants.{Z}
 use Rattle.record.specs.Lent.{heldRecord, heldRows}
@@ -51,3 +52,11 @@ pub record Normalised (words codes words′ codes′ : List ℕ) : Type 0 where
 pub record Faced (words codes : List ℕ) (q : ℕ) (l : Letter) (words′ codes′ : List ℕ) : Type 0 where
   pub kept : Kept words codes words′ codes′
   pub sends-z : image (codesOf codes′ q) Z ≡ l
+
+-- two buffers held a record, and hold one with the group after a measurement of l at q
+pub record GroupMeasured (words codes : List ℕ) (l : Letter) (q : ℕ) (b : Bool) (words′ codes′ : List ℕ) : Type 0 where
+  pub long : length words′ ≡ length words
+  pub unrefused : Unrefused (recordIn words′ codes′)
+  pub group : SameGroup (length words) (length words)
+      (measuredRows (length words) (heldRows (recordIn words codes)) l q b)
+      (rowsOf (length words) (heldRecord (recordIn words′ codes′)))
