@@ -1,6 +1,6 @@
 -- A vertex cut off in the buffers of a record.
 -- Assumes nothing.
-use mathlib.Core.Bool.{_&&_, Bool, and-false, false, not, true}
+use mathlib.Core.Bool.{_&&_, Bool, and-false, cond, false, not, true}
 use mathlib.Core.List.{List}
 use mathlib.Core.Path.{ap, ap₂, fun-ext, refl, subst, sym, _∙_, _≡_}
 use Prim.Native.Nat.{_*_, _+_, _<_, _^_, ℕ, _≤_}
@@ -13,6 +13,7 @@ use Rattle.clifford.specs.Clifford.{cliffordOf, codeOf, then}
 use Rattle.clifford.specs.Vectors.{codesOf}
 use Rattle.graph.specs.Graph.{Simple}
 use Rattle.graph.specs.NeighbourWords.{SameGraph, graphIn}
+use Rattle.graph_steps.proofs.CzSteps.{z-before}
 use Rattle.graph_steps.specs.Steps.{cutOff, hadamardCode, pauliCode}
 use Rattle.operations.proofs.UnrefusedRecords.{unrefused-long, unrefused-simple}
 use Rattle.operations.specs.InPlace.{Rewritten, Unrefused, recordIn}
@@ -51,7 +52,8 @@ module _ (words codes : List ℕ) (U : Unrefused (recordIn words codes)) (q : �
 
   pub cut-written : (w : ℕ) (codes₁ words′ codes′ : List ℕ) (v : ℕ) → q < length codes
       → ((j : ℕ) → bit w j ≡ (t && bit (getD words q 0) j))
-      → codes₁ ≡ tabulate (length codes) (λ j. codeOf (then (pauliCode false (bit w j)) (codesOf codes j)))
+      → codes₁ ≡ tabulate (length codes)
+      (λ j. codeOf (cond (bit w j) (then (cliffordOf 2) (codesOf codes j)) (codesOf codes j)))
       → v ≡ codeOf (then (hadamardCode t) (codesOf codes q)) → codes′ ≡ set codes₁ q v
       → length words′ ≡ length words → SameGraph (graphIn words′) (partedFrom (graphIn words) q)
       → Rewritten words codes (λ g. cutOff g q t) words′ codes′
@@ -75,4 +77,5 @@ module _ (words codes : List ℕ) (U : Unrefused (recordIn words codes)) (q : �
           ∙ put-all (λ j c. getD (set codes₁ q v) j 0 ≡ codeOf c) _ q (then (hadamardCode t) (r .codes q))
           (getD-set-same codes₁ q v 0 (subst (λ m. q < m) (sym long₁) hq) ∙ ev) j
           (λ d. getD-set-other codes₁ q j v 0 d ∙ ap (λ c. getD c j 0) e₁ ∙ tabulate-at (length codes) _ j l
-          ∙ ap (λ b. codeOf (then (pauliCode false b) (codesOf codes j))) (hw j))
+          ∙ ap codeOf (z-before (bit w j) (codesOf codes j)
+          ∙ ap (λ b. then (pauliCode false b) (codesOf codes j)) (hw j)))

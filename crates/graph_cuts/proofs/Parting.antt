@@ -12,7 +12,7 @@ use lib.ListN.{getD, length, set}
 use lib.Seq.{getD-set-other, getD-set-same}
 use Rattle.graph.specs.Graph.{Graph, Simple}
 use Rattle.graph.specs.NeighbourWords.{SameGraph, graphIn}
-use Rattle.graph_steps.proofs.OverSets.{Over, next-named, over-end, over-start, over-step}
+use Rattle.buffers.proofs.OverSets.{Over, next-named, over-end, over-start, over-step}
 use Rattle.words.proofs.BitLaws.{bit-flip, lt-of-bits, zero-bit}
 use Rattle.words.proofs.Finite.{⊕-zero}
 use Rattle.words.proofs.Places.{other-place, same-place}

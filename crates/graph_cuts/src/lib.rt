@@ -1,9 +1,9 @@
 // A vertex made ready for a measurement, and cut off by it, in the buffers of a record.
 use clifford::Code;
-use graph_joins::turn_codes;
 use graph_joins::where_true;
 use operations::compose;
 use operations_rewriting::complement_record;
+use operations_rewriting::put_before;
 use pauli::Letter;
 use pauli::x_bit;
 use pauli::z_bit;
@@ -95,7 +95,7 @@ pub fn cut_off(neighbours: &mut [u64], codes: &mut [u8], q: usize, t: bool)
 {
     let around = neighbours[q];
     let code = codes[q];
-    turn_codes(codes, where_true(t, around));
+    put_before(codes, where_true(t, around), 2);
     codes[q] = with_hadamard(t, code);
     part_edges(neighbours, q);
 }

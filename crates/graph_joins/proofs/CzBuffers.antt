@@ -1,6 +1,6 @@
 -- CZ on the buffers of a record of reduced form: what its calls leave is the record that CZ makes.
 -- Assumes nothing.
-use mathlib.Core.Bool.{_&&_, Bool, false}
+use mathlib.Core.Bool.{_&&_, Bool, cond, false}
 use mathlib.Core.List.{List}
 use mathlib.Core.Logic.{_≢_}
 use mathlib.Core.Path.{ap, ap₂, fun-ext, subst, sym, _∙_, _≡_}
@@ -8,11 +8,11 @@ use Prim.Native.Nat.{_<_, _^_, ℕ, _≤_}
 use lib.ListN.{getD, length}
 use Rattle.buffers.proofs.Tabulate.{tabulate-cong, tabulate-is}
 use Rattle.buffers.specs.Buffers.{tabulate}
-use Rattle.clifford.specs.Clifford.{codeOf, then}
+use Rattle.clifford.specs.Clifford.{cliffordOf, codeOf, then}
 use Rattle.clifford.specs.Vectors.{codesOf}
 use Rattle.graph.specs.Graph.{Simple}
 use Rattle.graph.specs.NeighbourWords.{SameGraph, graphIn}
-use Rattle.graph_steps.proofs.CzSteps.{cz-simple, turned-above}
+use Rattle.graph_steps.proofs.CzSteps.{cz-simple, turned-above, z-before}
 use Rattle.graph_steps.proofs.Reaching.{reach-below}
 use Rattle.graph_steps.specs.ReducedForms.{ReducedForm}
 use Rattle.graph_steps.specs.Steps.{czRecord, czTurned, joinedBy, pauliCode, reach, reachMinus}
@@ -59,15 +59,17 @@ module _ (words codes : List ℕ) (U : Unrefused (recordIn words codes))
         → ((q : ℕ) → bit wb q ≡ reach (heldRecord (recordIn words codes)) b q)
         → ((q : ℕ) → bit t q ≡ czTurned (heldRecord (recordIn words codes)) a b q)
         → length words′ ≡ length words → SameGraph (graphIn words′) (joinedBy (graphIn words) (bit wa) (bit wb))
-        → codes′ ≡ tabulate (length codes) (λ q. codeOf (then (pauliCode false (bit t q)) (codesOf codes q)))
+        → codes′ ≡ tabulate (length codes)
+        (λ q. codeOf (cond (bit t q) (then (cliffordOf 2) (codesOf codes q)) (codesOf codes q)))
         → Rewritten words codes (λ g. czRecord g a b) words′ codes′
     cz-written wa wb t words′ codes′ hwa hwb ht long edges coded =
         record {
           neighbours = tabulate-is n _ words′ long
               (λ j l. sym (wordOf-bit n (getD words′ j 0) (below j)) ∙ ap (wordOf n) (fun-ext (graph j)));
-          numbers = coded ∙ ap (λ m. tabulate m (λ q. codeOf (then (pauliCode false (bit t q)) (codesOf codes q))))
-              (unrefused-long words codes U)
-              ∙ tabulate-cong n _ _ (λ q l. ap (λ v. codeOf (then (pauliCode false v) (codesOf codes q))) (ht q));
+          numbers = coded ∙ ap (λ m. tabulate m (λ q. codeOf (cond (bit t q) (then (cliffordOf 2) (codesOf codes q))
+              (codesOf codes q)))) (unrefused-long words codes U)
+              ∙ tabulate-cong n _ _ (λ q l. ap codeOf (z-before (bit t q) (codesOf codes q)
+              ∙ ap (λ v. then (pauliCode false v) (codesOf codes q)) (ht q)));
         }
       where
         graph : (j q : ℕ) → graphIn words′ j q ≡ (czRecord r a b) .graph j q

@@ -8,7 +8,7 @@ use lib.Bits.{bitOr, bitXor}
 use lib.Count.{trailingZeros}
 use lib.ListN.{getD, length, set}
 use Rattle.graph.specs.NeighbourWords.{SameGraph, graphIn}
-use Rattle.graph_steps.proofs.OverSets.{Over, next-named, over-end, over-start, over-step}
+use Rattle.buffers.proofs.OverSets.{Over, next-named, over-end, over-start, over-step}
 use Rattle.graph_steps.specs.Steps.{joinedBy}
 use Rattle.words.proofs.BitLaws.{bit-above, bit-or, lt-of-bits}
 use Rattle.words.proofs.Finite.{⊕-zero}

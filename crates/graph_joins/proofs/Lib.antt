@@ -1,4 +1,3 @@
 pub mod ReachedSets
 pub mod JoinedSets
-pub mod TurnedCodes
 pub mod CzBuffers

@@ -1,21 +1,19 @@
 // CZ on a record of reduced form, in its buffers: edges between two sets of vertices are flipped.
-use graph_moves::with_pauli;
+use operations_rewriting::put_before;
 use words::flip;
 use words::has;
 use words::single;
 use words::smallest;
-ghost use mathlib.Core.Bool.{_&&_, cond, false};
+ghost use mathlib.Core.Bool.{_&&_, cond};
 ghost use mathlib.Core.Logic.{_≢_};
 ghost use mathlib.Core.Path.{_≡_};
 ghost use Prim.Native.Nat.{ℕ, _<_, _≤_, _^_};
 ghost use lib.Dec.{eqb};
-ghost use lib.ListN.{getD, length};
-ghost use Rattle.buffers.specs.Buffers.{tabulate};
-ghost use Rattle.clifford.specs.Clifford.{bitC, cliffordOf, codeOf, then};
-ghost use Rattle.clifford.specs.Vectors.{codesOf};
+ghost use lib.ListN.{length};
+ghost use Rattle.clifford.specs.Clifford.{bitC, cliffordOf};
 ghost use Rattle.graph.specs.NeighbourWords.{SameGraph, graphIn};
 ghost use Rattle.graph_steps.specs.ReducedForms.{ReducedForm};
-ghost use Rattle.graph_steps.specs.Steps.{czRecord, joinedBy, pauliCode};
+ghost use Rattle.graph_steps.specs.Steps.{czRecord, joinedBy};
 ghost use Rattle.operations.specs.InPlace.{Rewritten, Unrefused, recordIn};
 ghost use Rattle.record.specs.Lent.{heldRecord};
 ghost use Rattle.words.specs.Bits.{_⊕_, bit};
@@ -76,21 +74,6 @@ fn join_sets(neighbours: &mut [u64], to_a: u64, to_b: u64)
     }
 }
 
-// Z before the codes of the vertices that the word names.
-pub fn turn_codes(codes: &mut [u8], word: u64)
-    requires { ⌜ (length (now codes) ≤ 64) × (word < 2 ^ (length (now codes)))
-        × ((q : ℕ) → getD (now codes) q 0 < 24) ⌝ }
-    ensures { λ r. ⌜ now (codes .exit) ≡ tabulate (length (now (codes .entry)))
-        (λ q. codeOf (then (pauliCode false (bit word q)) (codesOf (now (codes .entry)) q))) ⌝ }
-{
-    let mut rest = word;
-    while rest != 0 {
-        let i = smallest(rest);
-        codes[i] = with_pauli(false, true, codes[i]);
-        rest = flip(rest, i);
-    }
-}
-
 // CZ on a and b.
 pub fn cz_reduced(neighbours: &mut [u64], codes: &mut [u8], a: usize, b: usize)
     requires { ⌜ Unrefused (recordIn (now neighbours) (now codes)) ⌝ }
@@ -105,5 +88,5 @@ pub fn cz_reduced(neighbours: &mut [u64], codes: &mut [u8], a: usize, b: usize)
     let to_b = reach_word(neighbours[b], code_b, b);
     let turned = turned_word(to_a, to_b, reach_minus(code_a), reach_minus(code_b));
     join_sets(neighbours, to_a, to_b);
-    turn_codes(codes, turned);
+    put_before(codes, turned, 2);
 }

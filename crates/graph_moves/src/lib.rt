@@ -31,7 +31,7 @@ fn odd_codes(codes: &[u8]) -> u64
 }
 
 // The code with a Pauli before it: u, the image of Z changes its sign; v, that of X does.
-pub fn with_pauli(u: bool, v: bool, code: u8) -> u8
+fn with_pauli(u: bool, v: bool, code: u8) -> u8
     requires { ⌜ code < 24 ⌝ }
     ensures { λ r. ⌜ (r ≡ codeOf (then (pauliCode u v) (cliffordOf code))) × (r < 24) ⌝ }
 {

@@ -1,13 +1,13 @@
 -- CZ on a record of reduced form: the edges between two sets of vertices are flipped, and the record is reduced again.
 -- Assumes nothing.
-use mathlib.Core.Bool.{_&&_, Bool, and-comm, and-false, false, true}
+use mathlib.Core.Bool.{_&&_, Bool, and-comm, and-false, cond, false, true}
 use mathlib.Core.Logic.{_≢_}
 use mathlib.Core.Path.{ap, ap₂, refl, subst, sym, _∙_, _≡_}
 use Prim.Native.Nat.{_<_, ℕ, _≤_}
 use native.Mathlib.Omega.{arith}
 use Rattle.clifford.proofs.CliffordLaws.{cliffords, fromFive, onClifford}
 use Rattle.clifford.proofs.VectorLaws.{act-identity, act-mul, act-scaled, act-then}
-use Rattle.clifford.specs.Clifford.{Clifford, bitC, classNumber, codeOf, identityClifford, then}
+use Rattle.clifford.specs.Clifford.{Clifford, bitC, cliffordOf, codeOf, identityClifford, then}
 use Rattle.clifford.specs.Vectors.{act}
 use Rattle.graph.specs.Graph.{Graph, Simple, graphGenerator}
 use Rattle.operations.proofs.CzGroups.{cz-proper}
@@ -37,6 +37,11 @@ pub pauli-then : (u v : Bool) (k : Clifford) → then (pauliCode u v) k ≡ reco
 pauli-then u v = onClifford _ (λ a b c d e. cliffords 7
     (λ u v a b c d e. then (pauliCode u v) (fromFive a b c d e))
     (λ u v a b c d e. record { class = (fromFive a b c d e) .class; sx = v ⊕ d; sz = u ⊕ e }) tt u v a b c d e)
+
+-- code 2 before the code, or nothing
+pub z-before : (b : Bool) (k : Clifford) → cond b (then (cliffordOf 2) k) k ≡ then (pauliCode false b) k
+z-before true k = refl
+z-before false k = sym (pauli-then false false k)
 
 -- so a low code stays low
 pub pauli-low : (u v : Bool) (k : Clifford) → codeOf k < 12 → codeOf (then (pauliCode u v) k) < 12

@@ -10,4 +10,3 @@ pub mod CzSteps
 pub mod CuttingOff
 pub mod Keeping
 pub mod OutOfPlace
-pub mod OverSets

@@ -4,20 +4,19 @@ use buffers::reaches;
 use buffers::strays;
 use clifford::send;
 use pauli::Generator;
+use words::flip;
 use words::has;
-use words::put_bit;
 use words::single;
-ghost use mathlib.Core.Bool.{not};
+use words::smallest;
+ghost use mathlib.Core.Bool.{_&&_, not};
 ghost use mathlib.Core.Path.{_≡_};
 ghost use Prim.Native.Nat.{ℕ, _<_, _≤_, _^_};
 ghost use lib.ListN.{getD, length};
 ghost use Rattle.buffers.specs.Refusals.{firstFitting};
 ghost use Rattle.clifford.specs.Vectors.{codesOf};
-ghost use Rattle.pauli.specs.Pauli.{identity};
 ghost use Rattle.pauli.specs.Rows.{generatorOf};
 ghost use Rattle.stabilizer.specs.Lists.{listOf};
-ghost use Rattle.stabilizer.specs.Tableau.{tableau};
-ghost use Rattle.words.specs.Bits.{bit, digit, sameBit};
+ghost use Rattle.words.specs.Bits.{bit, digit};
 ghost use Rattle.words.specs.Search.{some};
 ghost use Rattle.record.specs.Lent.{heldRows, notSimple, recordLengths, recordLines};
 ghost use Rattle.record.specs.Records.{recordRow};
@@ -36,15 +35,17 @@ fn record_lengths(n: usize, neighbours: &[u64], codes: &[u8]) -> bool
 // Whether vertex i has an edge that its other end does not have.
 fn one_ended(n: usize, neighbours: &[u64], i: usize) -> bool
     requires { ⌜ (n ≤ 64) × (length (now neighbours) ≡ n) × (i < n) ⌝ }
-    ensures { λ r. ⌜ r ≡ some n (λ j. not (sameBit (bit (getD (now (neighbours .entry)) i 0) j)
-        (bit (getD (now (neighbours .entry)) j 0) i))) ⌝ }
+    requires { ⌜ getD (now neighbours) i 0 < 2 ^ n ⌝ }
+    ensures { λ r. ⌜ r ≡ some n (λ j. bit (getD (now (neighbours .entry)) i 0) j
+        && not (bit (getD (now (neighbours .entry)) j 0) i)) ⌝ }
 {
-    let mut j = 0;
-    while j < n {
-        if has(neighbours[i], j) != has(neighbours[j], i) {
+    let mut rest = neighbours[i];
+    while rest != 0 {
+        let j = smallest(rest);
+        if !has(neighbours[j], i) {
             return true;
         }
-        j += 1;
+        rest = flip(rest, j);
     }
     false
 }
@@ -52,6 +53,7 @@ fn one_ended(n: usize, neighbours: &[u64], i: usize) -> bool
 // Line 7: the graph is not simple.
 fn not_simple(n: usize, neighbours: &[u64]) -> bool
     requires { ⌜ (n ≤ 64) × (length (now neighbours) ≡ n) ⌝ }
+    requires { ⌜ ((j : ℕ) → j < n → getD (now neighbours) j 0 < 2 ^ n) ⌝ }
     ensures { λ r. ⌜ r ≡ notSimple n (λ j. bit (getD (now (neighbours .entry)) j 0)) ⌝ }
 {
     let mut i = 0;
@@ -105,30 +107,6 @@ fn expanded_row(neighbours: &[u64], codes: &[u8], j: usize) -> Generator
         x: single(j),
     };
     send(plus, codes)
-}
-
-// Expansion into the tableau: its rows and their signs. The rows at and above n are the identity.
-pub fn expand_tableau(n: usize, neighbours: &[u64], codes: &[u8], signs: &mut u64) -> [[u64; 2]; 64]
-    requires { ⌜ (n ≤ 64) × (length (now neighbours) ≡ n) × (length (now codes) ≡ n) ⌝ }
-    requires { ⌜ ((q : ℕ) → getD (now codes) q 0 < 24) ⌝ }
-    ensures { λ r. ⌜ ((j : ℕ) → j < n → tableau (now (signs .exit)) r j ≡ heldRows (record {
-      n = n;
-      neighbours = now (neighbours .entry);
-      codes = now (codes .entry);
-    }) j) ⌝ }
-    ensures { λ r. ⌜ ((j : ℕ) → n ≤ j → tableau (now (signs .exit)) r j ≡ identity) ⌝ }
-{
-    let mut rows = [[0, 0]; 64];
-    let mut word = 0;
-    let mut j = 0;
-    while j < n {
-        let g = expanded_row(neighbours, codes, j);
-        rows[j] = [g.z, g.x];
-        word = put_bit(word, j, g.minus);
-        j += 1;
-    }
-    *signs = word;
-    rows
 }
 
 // A sign as it is lent: 1 means minus.

@@ -1,5 +1,6 @@
 use mathlib.Core.Path.{refl, subst, sym}
 use Prim.Native.Nat.{_<_}
+use lib.Dec.{lit<}
 use borrow.Author.Needs.{needs}
 use Rattle.operations.proofs.UnrefusedRecords.{unrefused-codes, unrefused-place, unrefused-short, unrefused-simple}
 use Rattle.graph_cuts.proofs.CutBuffers.{cut-written, turned-below}
@@ -20,14 +21,12 @@ slice-read-code c =
 where-true-requires : tie.Need-where-true-requires
 where-true-requires c κs = search needs
 
-turn-codes-requires : tie.Need-turn-codes-requires
-turn-codes-requires c κs =
+put-before-requires : tie.Need-put-before-requires
+put-before-requires c κs =
     let begun = c .before .before .before .before .before .before in
-    let codes = unrefused-codes _ _ (begun .pre .0) in
     (
-      codes .0,
-      turned-below _ _ (begun .pre .0) (begun .args .q) (begun .args .t) _ (c .where-true .ensures),
-      codes .1,
+      unrefused-codes _ _ (begun .pre .0),
+      (turned-below _ _ (begun .pre .0) (begun .args .q) (begun .args .t) _ (c .where-true .ensures), lit< tt),
     )
 
 with-hadamard-requires : tie.Need-with-hadamard-requires
@@ -39,7 +38,7 @@ slice-write-codes : tie.Need-slice-write-codes
 slice-write-codes c =
     let at-turn = c .before .before .before in
     let begun = at-turn .before .before .before .before .before .before .before in
-    subst (λ m. begun .args .q < m) (sym (at-turn .turn-codes .kept .0))
+    subst (λ m. begun .args .q < m) (sym (at-turn .put-before .kept .0))
     (unrefused-place _ _ (begun .pre .0) _ (begun .pre .1))
 
 part-edges-requires : tie.Need-part-edges-requires
@@ -63,7 +62,7 @@ returns c =
     let begun = at-where .before .before .before .before .before .before in
     let start = begun .pre in
     cut-written _ _ (start .0) (begun .args .q) (begun .args .t) _ _ _ _ _ (unrefused-place _ _ (start .0) _ (start .1))
-    (at-where .where-true .ensures) (at-turn .turn-codes .ensures) (at-hadamard .with-hadamard .ensures) refl
+    (at-where .where-true .ensures) (at-turn .put-before .ensures) (at-hadamard .with-hadamard .ensures) refl
     (at-part .part-edges .kept .0) (at-part .part-edges .ensures)
 
 pub cut-off-spec : {M : Type 1} → statement M
@@ -74,7 +73,7 @@ cut-off-spec =
     slice-read-around
     slice-read-code
     where-true-requires
-    turn-codes-requires
+    put-before-requires
     with-hadamard-requires
     slice-write-codes
     part-edges-requires

@@ -2,7 +2,7 @@ use mathlib.Core.Path.{subst, sym}
 use Prim.Native.Nat.{_<_}
 use native.Mathlib.Omega.{arith}
 use borrow.Author.Needs.{needs}
-use Rattle.graph_steps.proofs.OverSets.{next-in, next-less, next-short}
+use Rattle.buffers.proofs.OverSets.{next-in, next-less, next-short}
 use Rattle.graph_cuts.proofs.Parting.{Parting, part-end, part-more, part-start}
 use Rattle.graph_cuts.proofs.part_edges.Statement.{statement}
 use Rattle.graph_cuts.proofs.part_edges.Tie as tie

@@ -1,4 +1,5 @@
 use native.Mathlib.Omega.{arith}
+use lib.Dec.{lit<}
 use borrow.Author.Needs.{needs}
 use Rattle.operations.proofs.UnrefusedRecords.{unrefused-codes, unrefused-place, unrefused-short}
 use Rattle.operations.specs.InPlace.{recordIn}
@@ -63,8 +64,8 @@ join-sets-requires c κs =
       reach-fits _ _ (start .0) (start .1 .0) _ (start .1 .1 .1) _ (at-b .reach-word2 .ensures),
     )
 
-turn-codes-requires : tie.Need-turn-codes-requires
-turn-codes-requires c κs =
+put-before-requires : tie.Need-put-before-requires
+put-before-requires c κs =
     let at-turned = c .before .before .before .before .before in
     let at-minus-b = at-turned .before in
     let at-minus-a = at-minus-b .before in
@@ -72,14 +73,15 @@ turn-codes-requires c κs =
     let at-a = at-b .before .before in
     let begun = at-a .before .before .before .before .before .before in
     let start = begun .pre in
-    let codes = unrefused-codes _ _ (start .0) in
     (
-      codes .0,
-      turned-fits _ _ (start .0) (start .1 .0) _ _ (start .1 .1 .0) (start .1 .1 .1) (start .1 .1 .2) _
+      unrefused-codes _ _ (start .0),
+      (
+        turned-fits _ _ (start .0) (start .1 .0) _ _ (start .1 .1 .0) (start .1 .1 .1) (start .1 .1 .2) _
           (turned-by-calls (heldRecord (recordIn (begun .args .neighbours .now) (begun .args .codes .now)))
           (begun .args .a) (begun .args .b) _ _ _ (at-a .reach-word .ensures) (at-b .reach-word2 .ensures)
           (at-minus-a .reach-minus .ensures) (at-minus-b .reach-minus2 .ensures) (at-turned .turned-word .ensures)),
-      codes .1,
+        lit< tt,
+      ),
     )
 
 same-length : tie.Need-same-length
@@ -104,7 +106,7 @@ returns c =
     (turned-by-calls (heldRecord (recordIn (begun .args .neighbours .now) (begun .args .codes .now)))
     (begun .args .a) (begun .args .b) _ _ _ (at-a .reach-word .ensures) (at-b .reach-word2 .ensures)
     (at-minus-a .reach-minus .ensures) (at-minus-b .reach-minus2 .ensures) (at-turned .turned-word .ensures))
-    (at-join .join-sets .kept .0) (at-join .join-sets .ensures) (at-turn .turn-codes .ensures)
+    (at-join .join-sets .kept .0) (at-join .join-sets .ensures) (at-turn .put-before .ensures)
 
 pub cz-reduced-spec : {M : Type 1} → statement M
 cz-reduced-spec =
@@ -122,7 +124,7 @@ cz-reduced-spec =
     reach-minus-requires-2
     turned-word-requires
     join-sets-requires
-    turn-codes-requires
+    put-before-requires
     same-length
     same-length-2
     returns)

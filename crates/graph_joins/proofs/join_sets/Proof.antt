@@ -1,6 +1,6 @@
 use native.Mathlib.Omega.{arith}
 use borrow.Author.Needs.{needs}
-use Rattle.graph_steps.proofs.OverSets.{next-in, next-less, next-short}
+use Rattle.buffers.proofs.OverSets.{next-in, next-less, next-short}
 use Rattle.graph_joins.proofs.JoinedSets.{Joining, join-end, join-more, join-start}
 use Rattle.graph_joins.proofs.join_sets.Statement.{statement}
 use Rattle.graph_joins.proofs.join_sets.Tie as tie
