@@ -5,3 +5,4 @@ pub mod Filling
 pub mod CopiedLists
 pub mod Parts
 pub mod Mapping
+pub mod OverSets

@@ -1,6 +1,6 @@
 // Graphs as neighbour words, and local complementation on them.
 use words::flip;
-use words::has;
+use words::smallest;
 ghost use Prim.Native.Nat.{_<_, _≤_};
 ghost use lib.ListN.{length};
 ghost use Rattle.graph.specs.Graph.{Simple, complement};
@@ -13,11 +13,10 @@ pub fn complement_words(neighbours: &mut [u64], a: usize)
     ensures { λ r. ⌜ SameGraph (graphIn (now (neighbours .exit))) (complement (graphIn (now (neighbours .entry))) a) ⌝ }
 {
     let around = neighbours[a];
-    let mut i = 0;
-    while i < neighbours.len() {
-        if has(around, i) {
-            neighbours[i] = neighbours[i] ^ flip(around, i);
-        }
-        i += 1;
+    let mut rest = around;
+    while rest != 0 {
+        let i = smallest(rest);
+        neighbours[i] = neighbours[i] ^ flip(around, i);
+        rest = flip(rest, i);
     }
 }

@@ -18,15 +18,15 @@ use Rattle.image.specs.Rule.{State, both, follow, onlyC, pair, step}
 
 -- C at the vertex complemented at; D at a neighbour, and at the other vertices
 module _ (S : State) (v : ℕ) where
-  C-after : {c d : Bool} → S .C v ≡ c → S .D v ≡ d → (step S v) .C ≡ put (S .C) v (c ⊕ d)
+  pub C-after : {c d : Bool} → S .C v ≡ c → S .D v ≡ d → (step S v) .C ≡ put (S .C) v (c ⊕ d)
   unfolding step
   C-after p q = ap (put (S .C) v) (ap₂ _⊕_ p q)
 
-  D-neighbour : (u : ℕ) {c d : Bool} → S .graph v u ≡ true → S .C u ≡ c → S .D u ≡ d → (step S v) .D u ≡ c ⊕ d
+  pub D-neighbour : (u : ℕ) {c d : Bool} → S .graph v u ≡ true → S .C u ≡ c → S .D u ≡ d → (step S v) .D u ≡ c ⊕ d
   unfolding step
   D-neighbour u e p q = ap (λ b. cond b (S .C u ⊕ S .D u) (S .D u)) e ∙ ap₂ _⊕_ p q
 
-  D-other : (u : ℕ) {d : Bool} → S .graph v u ≡ false → S .D u ≡ d → (step S v) .D u ≡ d
+  pub D-other : (u : ℕ) {d : Bool} → S .graph v u ≡ false → S .D u ≡ d → (step S v) .D u ≡ d
   unfolding step
   D-other u e q = ap (λ b. cond b (S .C u ⊕ S .D u) (S .D u)) e ∙ q
 

@@ -1,6 +1,7 @@
 pub mod Examples
 pub mod Moves
 pub mod CountLaws
+pub mod Searching
 pub mod Falling
 pub mod Running
 pub mod TrackedBits

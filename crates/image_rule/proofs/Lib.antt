@@ -2,7 +2,6 @@ pub mod EdgeWords
 pub mod Recoding
 pub mod Stepping
 pub mod StepLists
-pub mod Searching
 pub mod WordMoves
 pub mod Rounds
 pub mod KindsOfRound

@@ -1,8 +1,8 @@
--- What is answered depends on the group alone: the reduced record, whether a measurement is determined, and the
--- group afterwards.
+-- What is answered depends on the group alone: the reduced record, the group after CZ, whether a measurement is
+-- determined, and the group afterwards.
 -- Assumes nothing.
 use mathlib.Core.Bool.{Bool, false, true}
-use mathlib.Core.Logic.{inl, inr}
+use mathlib.Core.Logic.{inl, inr, _≢_}
 use mathlib.Core.Path.{refl, subst, sym, _∙_, _≡_}
 use Prim.Native.Nat.{_<_, ℕ}
 use Rattle.pauli.specs.Pauli.{Pauli}
@@ -11,14 +11,25 @@ use Rattle.record.proofs.ReducedRecords.{equal-exactly}
 use Rattle.record.proofs.Unique.{record-path}
 use Rattle.record.specs.Reduced.{reduced}
 use Rattle.stabilizer.proofs.GroupLaws.{same-sym}
-use Rattle.stabilizer.specs.Groups.{Proper, SameGroup}
+use Rattle.stabilizer.specs.Groups.{InGroup, Proper, SameGroup}
 use Rattle.words.proofs.Flags.{same-by-both}
+use Rattle.operations.proofs.CzGroups.{cz-group}
 use Rattle.operations.proofs.Determined.{determined-exactly, determined-kept, measured-group}
+use Rattle.operations.specs.Cz.{czRows}
 use Rattle.operations.specs.Measurement.{Measured, isDetermined, joined, kept, measuredRows, single}
 
 pub reduced-of-group : (n : ℕ) (R S : ℕ → Pauli) → Proper n R → Proper n S → SameGroup n n R S
     → reduced n R ≡ reduced n S
 reduced-of-group n R S P Q E = record-path (reduced n R) (reduced n S) (equal-exactly n R S P Q .1 E)
+
+pub cz-of-group : (n a b : ℕ) → a < n → b < n → a ≢ b → (R S : ℕ → Pauli) → SameGroup n n R S
+    → SameGroup n n (czRows a b R) (czRows a b S)
+cz-of-group n a b ha hb ab R S E = record { there = moved R S (E .there); back = moved S R (E .back) }
+  where
+    moved : (A B : ℕ → Pauli) → ((p : Pauli) → InGroup n n A p → InGroup n n B p)
+        → (p : Pauli) → InGroup n n (czRows a b A) p → InGroup n n (czRows a b B) p
+    moved A B h p i = let f = cz-group n a b ha hb ab A p .0 i in
+        cz-group n a b ha hb ab B p .1 (f .0, h (f .0) (f .1), f .2)
 
 module _ (n : ℕ) (l : Letter) (q : ℕ) (hq : q < n) where
   determined-there : (R S : ℕ → Pauli) → Proper n R → Proper n S → SameGroup n n R S

@@ -84,7 +84,7 @@ image-acts YX = refl
 image-acts ZY = refl
 
 -- X and Z go to letters that do not commute
-images-clash : (k : Class) → clash (imageZ k) (imageX k) ≡ true
+pub images-clash : (k : Class) → clash (imageZ k) (imageX k) ≡ true
 images-clash XZ = refl
 images-clash YZ = refl
 images-clash ZX = refl

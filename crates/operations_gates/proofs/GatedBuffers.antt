@@ -1,96 +1,131 @@
--- A gate on a buffer of codes: the buffer holds the gated codes, and expands to the gated record's rows.
+-- A gate on a buffer of codes: the buffers hold the gated record, and no line refuses it. CZ after a reduction answers
+-- the reduced record of the new group.
 -- Assumes nothing.
 use mathlib.Core.Bool.{false}
 use mathlib.Core.List.{List}
+use mathlib.Core.Logic.{_≢_}
 use mathlib.Core.Path.{ap, subst, sym, _∙_, _≡_}
 use Prim.Native.Nat.{_<_, ℕ, _≤_}
-use native.Mathlib.Decide.{ℕ-discrete}
+use native.Mathlib.Omega.{arith}
 use lib.ListN.{getD, length, length-set, set}
 use lib.Seq.{getD-set-other, getD-set-same}
-use Rattle.clifford.proofs.CliffordLaws.{cliffordOf-codeOf, codeOf-lt}
-use Rattle.clifford.proofs.VectorLaws.{act-cong}
-use Rattle.clifford.specs.Clifford.{Clifford, cliffordOf, codeOf, then}
+use Rattle.buffers.proofs.Tabulate.{tabulate-is}
+use Rattle.clifford.proofs.CliffordLaws.{codeOf-cliffordOf}
+use Rattle.clifford.specs.Clifford.{Clifford, cliffordOf, codeOf, identityClifford, then}
 use Rattle.clifford.specs.Vectors.{codesOf}
-use Rattle.graph.specs.Graph.{graphGenerator}
-use Rattle.graph.specs.NeighbourWords.{graphIn}
-use Rattle.operations.proofs.GroupAlone.{reduced-of-group}
-use Rattle.operations.proofs.UnrefusedRecords.{unrefused-codes, unrefused-place, unrefused-simple}
+use Rattle.graph.specs.Graph.{Simple}
+use Rattle.graph_steps.proofs.CzSteps.{cz-reduced-form}
+use Rattle.graph_steps.proofs.Keeping.{held-words}
+use Rattle.graph_steps.specs.Kept.{Normalised}
+use Rattle.graph_steps.specs.ReducedForms.{ReducedForm}
+use Rattle.graph_steps.specs.Steps.{czRecord}
+use Rattle.operations.proofs.CzGroups.{cz-proper}
+use Rattle.operations.proofs.GroupAlone.{cz-of-group, reduced-of-group}
+use Rattle.operations.proofs.UnrefusedRecords.{
+  rewritten-held,
+  rewritten-unrefused,
+  unrefused-above,
+  unrefused-codes,
+  unrefused-long,
+  unrefused-place,
+  unrefused-simple,
+}
+use Rattle.operations.specs.Cz.{czRows}
 use Rattle.operations.specs.Gates.{gated}
-use Rattle.operations.specs.InPlace.{Unrefused, recordIn}
-use Rattle.operations_tableaus.proofs.AnswersInPlace.{loaded-list}
-use Rattle.pauli.specs.Pauli.{Pauli, identity}
-use Rattle.record.proofs.AcceptedRecords.{accepted-record}
+use Rattle.operations.specs.InPlace.{Rewritten, Unrefused, recordIn}
+use Rattle.pauli.specs.Pauli.{Pauli}
 use Rattle.record.proofs.ReducedRecords.{record-proper}
-use Rattle.record.specs.Lent.{heldRecord, heldRows}
+use Rattle.record.specs.Lent.{codeNumbers, heldRecord, neighbourWords}
 use Rattle.record.specs.Records.{GraphRecord, rowsOf}
 use Rattle.record.specs.Reduced.{reduced}
-use Rattle.reduction_passes.specs.Passes.{Loaded}
-use Rattle.stabilizer.proofs.EqualRows.{proper-equal, same-group-equal}
-use Rattle.stabilizer.specs.Groups.{Independent, Proper}
-use Rattle.words.proofs.Places.{put-all}
+use Rattle.words.proofs.Places.{put-all, put-other}
 use Rattle.words.specs.Bits.{put}
 
+-- ---- a gate
 module _ (words codes : List ℕ) (U : Unrefused (recordIn words codes)) (q : ℕ) (hq : q < length words) (k : ℕ)
     (codes′ : List ℕ) (e : codes′ ≡ set codes q (codeOf (then (codesOf codes q) (cliffordOf k)))) where
+  abbrev n : ℕ
+  n = length words
+
   abbrev new : Clifford
   new = then (codesOf codes q) (cliffordOf k)
 
   hc : q < length codes
   hc = unrefused-place words codes U q hq
 
-  places : (P : ℕ → ℕ → Type 0) → P q (codeOf (then (codesOf codes q) (cliffordOf k)))
-      → ((t : ℕ) → P t (getD codes t 0)) → (t : ℕ) → P t (getD codes′ t 0)
-  places P here there t = elim (ℕ-discrete t q) [
-    | yes d ↦ subst (λ v. P v (getD codes′ v 0)) (sym d)
-        (subst (P q) (sym (ap (λ c. getD c q 0) e ∙ getD-set-same codes q (codeOf new) 0 hc)) here)
-    | no d ↦ subst (P t) (sym (ap (λ c. getD c t 0) e ∙ getD-set-other codes q t (codeOf new) 0 d)) (there t)
-  ]
+  gated-at : (t : ℕ) → getD codes′ t 0 ≡ codeOf (put (codesOf codes) q new t)
+  gated-at t = put-all (λ t c. getD codes′ t 0 ≡ codeOf c) (codesOf codes) q new
+      (ap (λ c. getD c q 0) e ∙ getD-set-same codes q (codeOf new) 0 hc) t
+      (λ d. ap (λ c. getD c t 0) e ∙ getD-set-other codes q t (codeOf new) 0 d
+      ∙ sym (codeOf-cliffordOf (getD codes t 0) (unrefused-codes words codes U .1 t)))
 
-  pub gated-length : length codes′ ≡ length words
-  gated-length = ap length e ∙ length-set codes q _
-      ∙ accepted-record (recordIn words codes) false false (U .no-line) .codes-length
+  gated-rewritten : Rewritten words codes (λ g. gated g q (cliffordOf k)) words codes′
+  gated-rewritten =
+      record {
+        neighbours = held-words words codes U;
+        numbers = tabulate-is n _ codes′ (ap length e ∙ length-set codes q _ ∙ unrefused-long words codes U)
+            (λ t l. gated-at t);
+      }
 
-  pub gated-below : (t : ℕ) → getD codes′ t 0 < 24
-  gated-below = places (λ t v. v < 24) (codeOf-lt new) (unrefused-codes words codes U .1)
+  gated-above : (t : ℕ) → n ≤ t → put (codesOf codes) q new t ≡ identityClifford
+  gated-above t l = put-other (codesOf codes) q new t (λ d. absurd (omega (arith, d))) ∙ unrefused-above words codes U t l
 
-  gated-held : (t : ℕ) → codesOf codes′ t ≡ put (codesOf codes) q new t
-  gated-held t = put-all (λ t c. codesOf codes′ t ≡ c) (codesOf codes) q new
-      (ap (λ c. cliffordOf (getD c q 0)) e ∙ ap cliffordOf (getD-set-same codes q (codeOf new) 0 hc)
-      ∙ cliffordOf-codeOf new) t
-      (λ d. ap (λ c. cliffordOf (getD c t 0)) e ∙ ap cliffordOf (getD-set-other codes q t (codeOf new) 0 d))
+  pub gated-unrefused : Unrefused (recordIn words codes′)
+  gated-unrefused = rewritten-unrefused words codes U (λ g. gated g q (cliffordOf k)) words codes′ gated-rewritten
+      (unrefused-simple words codes U) gated-above
 
-  abbrev n : ℕ
-  n = length words
+  pub gated-reduced : (words″ codes″ : List ℕ) → Normalised words codes′ words″ codes″
+      → Rewritten words codes (λ g. reduced (length words) (rowsOf (length words) (gated g q (cliffordOf k)))) words″ codes″
+  gated-reduced words″ codes″ N =
+      record {
+        neighbours = N .after .neighbours ∙ ap (λ g. neighbourWords n (reduced n (rowsOf n g))) held;
+        numbers = N .after .numbers ∙ ap (λ g. codeNumbers n (reduced n (rowsOf n g))) held;
+      }
+    where
+      held : heldRecord (recordIn words codes′) ≡ gated (heldRecord (recordIn words codes)) q (cliffordOf k)
+      held = rewritten-held words codes U (λ g. gated g q (cliffordOf k)) words codes′ gated-rewritten
+          (unrefused-simple words codes U) gated-above
 
-  gated-record : GraphRecord
-  gated-record = gated (heldRecord (recordIn words codes)) q (cliffordOf k)
+-- ---- CZ
+module _ (words codes words₁ codes₁ : List ℕ) (U : Unrefused (recordIn words codes))
+    (N : Normalised words codes words₁ codes₁) where
+  abbrev m : ℕ
+  m = length words
 
-  gated-rows : (j : ℕ) → heldRows (recordIn words codes′) j ≡ rowsOf n gated-record j
-  unfolding gated-record
-  gated-rows j = act-cong n gated-held (graphGenerator (graphIn words) j)
+  -- the counts as they are after the reduction
+  pub reduced-place : (a : ℕ) → a < length words → a < length words₁
+  reduced-place a l = subst (λ k. a < k) (sym (N .kept .long)) l
 
-  module _ (table : ℕ → Pauli) (rows : (j : ℕ) → j < length words
-      → table j ≡ heldRows (recordIn words codes′) j)
-      (beyond : (j : ℕ) → length words ≤ j → table j ≡ identity) where
-    list : Proper n (rowsOf n gated-record)
-    unfolding gated-record
-    list = record-proper n gated-record (unrefused-simple words codes U)
+  pub reduced-here : ReducedForm (length words₁) (heldRecord (recordIn words₁ codes₁))
+  reduced-here = subst (λ k. ReducedForm k (heldRecord (recordIn words₁ codes₁))) (sym (N .kept .long)) (N .form)
 
-    agree : (j : ℕ) → j < n → table j ≡ rowsOf n gated-record j
-    agree j l = rows j l ∙ gated-rows j
+  module _ (a b : ℕ) (ha : a < length words) (hb : b < length words) (ab : a ≢ b) where
+    pub cz-answered : (words₂ codes₂ : List ℕ) → Rewritten words₁ codes₁ (λ g. czRecord g a b) words₂ codes₂
+        → Rewritten words codes (λ g. reduced (length words) (czRows a b (rowsOf (length words) g))) words₂ codes₂
+    cz-answered words₂ codes₂ R =
+        record {
+          neighbours = R .neighbours ∙ ap (λ k. neighbourWords k (czRecord held₁ a b)) (N .kept .long)
+              ∙ ap (neighbourWords m) is-reduced;
+          numbers = R .numbers ∙ ap (λ k. codeNumbers k (czRecord held₁ a b)) (N .kept .long)
+              ∙ ap (codeNumbers m) is-reduced;
+        }
+      where
+        held : GraphRecord
+        held = heldRecord (recordIn words codes)
 
-    proper : Proper n table
-    proper = proper-equal n (rowsOf n gated-record) table (λ j l. sym (agree j l)) list
+        held₁ : GraphRecord
+        held₁ = heldRecord (recordIn words₁ codes₁)
 
-    pub gated-loaded : Loaded (length words) table
-    gated-loaded = loaded-list n table proper beyond
+        S : Simple m (held .graph)
+        S = unrefused-simple words codes U
 
-    pub gated-independent : Independent (length words) table
-    gated-independent = proper .independent
+        S₁ : Simple m (held₁ .graph)
+        S₁ = subst (λ k. Simple k (held₁ .graph)) (N .kept .long) (unrefused-simple words₁ codes₁ (N .kept .unrefused))
 
-    pub gated-reduced : reduced (length words) table
-        ≡ reduced (length words)
-        (rowsOf (length words) (gated (heldRecord (recordIn words codes)) q (cliffordOf k)))
-    unfolding gated-record
-    gated-reduced = reduced-of-group n table (rowsOf n gated-record) proper list
-        (same-group-equal n table (rowsOf n gated-record) agree)
+        is-reduced : czRecord held₁ a b ≡ reduced m (czRows a b (rowsOf m held))
+        is-reduced =
+            sym (cz-reduced-form m held₁ S₁ (N .form) a b ha hb ab)
+            ∙ sym (reduced-of-group m (czRows a b (rowsOf m held)) (czRows a b (rowsOf m held₁))
+            (cz-proper m a b ha hb ab (rowsOf m held) (record-proper m held S))
+            (cz-proper m a b ha hb ab (rowsOf m held₁) (record-proper m held₁ S₁))
+            (cz-of-group m a b ha hb ab (rowsOf m held) (rowsOf m held₁) (N .kept .group)))

@@ -1,8 +1,7 @@
 // Gates and CZ on a record in its buffers.
+use graph_joins::cz_reduced;
+use graph_moves::normalise;
 use operations::compose;
-use operations_tableaus::cz_tableau;
-use operations_tableaus::reduce_rows;
-use record_expansion::expand_tableau;
 ghost use mathlib.Core.Logic.{_≢_};
 ghost use mathlib.Core.Path.{_≡_};
 ghost use Prim.Native.Nat.{ℕ, _<_};
@@ -34,10 +33,7 @@ pub fn gate_record(neighbours: &mut [u64], codes: &mut [u8], q: usize, k: u8)
         (now (neighbours .exit)) (now (codes .exit)) ⌝ }
 {
     gate_code(codes, q, k);
-    let n = neighbours.len();
-    let mut signs = 0;
-    let rows = expand_tableau(n, neighbours, codes, &mut signs);
-    reduce_rows(rows, signs, neighbours, codes);
+    normalise(neighbours, codes);
 }
 
 // CZ on a and b, and the reduced record.
@@ -49,9 +45,6 @@ pub fn cz_record(neighbours: &mut [u64], codes: &mut [u8], a: usize, b: usize)
         (czRows a b (rowsOf (length (now (neighbours .entry))) g)))
         (now (neighbours .exit)) (now (codes .exit)) ⌝ }
 {
-    let n = neighbours.len();
-    let mut signs = 0;
-    let rows = expand_tableau(n, neighbours, codes, &mut signs);
-    let after = cz_tableau(rows, &mut signs, n, a, b);
-    reduce_rows(after, signs, neighbours, codes);
+    normalise(neighbours, codes);
+    cz_reduced(neighbours, codes, a, b);
 }

@@ -1,2 +1,3 @@
 pub mod ReadingOff
+pub mod MeasuredGroups
 pub mod MeasuredBuffers

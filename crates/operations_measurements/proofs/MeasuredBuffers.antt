@@ -2,37 +2,27 @@
 -- Assumes nothing.
 use mathlib.Core.Bool.{_&&_, Bool, Bool·beq, cond, false, not, true}
 use mathlib.Core.List.{List}
-use mathlib.Core.Path.{ap, refl, sym, _∙_, _≡_}
-use Prim.Native.Nat.{ℕ}
+use mathlib.Core.Path.{ap, refl, subst, sym, _∙_, _≡_}
+use Prim.Native.Nat.{_<_, ℕ}
 use lib.ListN.{length}
-use Rattle.operations.specs.InPlace.{MeasuredInPlace, recordIn}
-use Rattle.operations.specs.Measurement.{
-  answered,
-  contradicts,
-  firstAgainst,
-  isDetermined,
-  measuredRows,
-  outcome,
-  pauliLetter,
-  projected,
-  single,
-}
+use Rattle.graph.specs.Graph.{Simple}
+use Rattle.graph_steps.specs.Kept.{GroupMeasured, Normalised}
+use Rattle.operations.proofs.Determined.{measured-proper}
+use Rattle.operations.proofs.GroupAlone.{reduced-of-group}
+use Rattle.operations.proofs.UnrefusedRecords.{unrefused-simple}
+use Rattle.operations.specs.InPlace.{MeasuredInPlace, Unrefused, recordIn}
+use Rattle.operations.specs.Measurement.{answered, contradicts, isDetermined, measuredRows, outcome, pauliLetter}
 use Rattle.operations.specs.Steps.{ReadOff}
 use Rattle.operations.specs.declared.Outcome.{Outcome}
 use Rattle.operations.specs.declared.Outcome.the-variants.{Chosen, Determined}
-use Rattle.operations_tableaus.proofs.AnswersInPlace.{rewritten-as}
 use Rattle.pauli.specs.Pauli.{Pauli}
 use Rattle.pauli.specs.declared.Letter.{Letter}
-use Rattle.record.specs.Lent.{codeNumbers, heldRows, neighbourWords}
+use Rattle.record.proofs.ReducedRecords.{record-proper}
+use Rattle.record.specs.Lent.{codeNumbers, heldRecord, heldRows, neighbourWords}
+use Rattle.record.specs.Records.{GraphRecord, rowsOf}
 use Rattle.record.specs.Reduced.{reduced}
 use Rattle.words.proofs.Finite.{unequal}
-use Rattle.words.specs.Bits.{_⊕_}
-
--- determined: the rows stay
-pub determined-stay : (n : ℕ) (R : ℕ → Pauli) (l : Letter) (q : ℕ) (b : Bool) {d : Bool}
-    → d ≡ isDetermined n R l q → d ≡ true → (j : ℕ) → R j ≡ measuredRows n R l q b j
-determined-stay n R l q b e t j =
-    sym (ap (λ d. cond d R (projected n R (single l q b) (firstAgainst n R (single l q b))) j) (sym e ∙ t))
+use Rattle.words.specs.Bits.{bit, _⊕_}
 
 -- a bit that differs from the sign read off is contradicted
 pub contradicted-as-read : (words codes : List ℕ) (pauli q : ℕ) (d m : Bool)
@@ -55,38 +45,50 @@ module _ (words codes : List ℕ) (pauli q : ℕ) (d m : Bool) (read : ReadOff (
   abbrev n : ℕ
   n = length words
 
-  abbrev held : ℕ → Pauli
-  held = heldRows (recordIn words codes)
+  abbrev rows : ℕ → Pauli
+  rows = heldRows (recordIn words codes)
 
-  -- of the letter that the number names, in rows of the same group
-  pub determined-as-read : (table : ℕ → Pauli)
-      → isDetermined (length words) table l q
-      ≡ isDetermined (length words) (heldRows (recordIn words codes)) l q
-      → d ≡ isDetermined (length words) table l q
-  determined-as-read table e = read .known ∙ sym (ap (λ l. isDetermined n held l q) named) ∙ sym e
+  -- of the letter that the number names
+  pub determined-as-read : d ≡ isDetermined (length words) (heldRows (recordIn words codes)) l q
+  determined-as-read = read .known ∙ sym (ap (λ l. isDetermined n rows l q) named)
 
-  answered-as-read : (b : Bool) → cond d (Determined m) (Chosen b) ≡ answered n held (pauliLetter pauli) q b
+  answered-as-read : (b : Bool) → cond d (Determined m) (Chosen b) ≡ answered n rows (pauliLetter pauli) q b
   answered-as-read b =
       as-outcome d (read .reading b) ∙ ap (λ d. cond d (Determined o) (Chosen o)) (read .known)
     where
       o : Bool
-      o = outcome n held (pauliLetter pauli) q b
+      o = outcome n rows (pauliLetter pauli) q b
 
       as-outcome : (d : Bool) → o ≡ cond d m b
           → cond d (Determined m) (Chosen b) ≡ cond d (Determined o) (Chosen o)
       as-outcome true e = ap Determined (sym e)
       as-outcome false e = ap Chosen (sym e)
 
-  pub measured-as-read : {words′ codes′ : List ℕ} (table : ℕ → Pauli) (b : Bool) (r : Outcome)
-      → r ≡ cond d (Determined m) (Chosen b)
-      → words′ ≡ neighbourWords (length words) (reduced (length words) table)
-      → codes′ ≡ codeNumbers (length words) (reduced (length words) table)
-      → reduced (length words) table
-      ≡ reduced (length words) (measuredRows (length words) (heldRows (recordIn words codes)) l q b)
-      → MeasuredInPlace words codes pauli q b r words′ codes′
-  measured-as-read table b r e ew ec h =
+  pub measured-as-read : Unrefused (recordIn words codes) → q < length words
+      → (b : Bool) (r : Outcome) → r ≡ cond d (Determined m) (Chosen b)
+      → (words₁ codes₁ : List ℕ) → GroupMeasured words codes l q b words₁ codes₁
+      → (words₂ codes₂ : List ℕ) → Normalised words₁ codes₁ words₂ codes₂
+      → MeasuredInPlace words codes pauli q b r words₂ codes₂
+  measured-as-read U hq b r e words₁ codes₁ G words₂ codes₂ N =
       record {
-        after = rewritten-as words codes _ _ _ _ ew ec
-            (h ∙ ap (λ l. reduced n (measuredRows n held l q b)) named);
+        after =
+            record {
+              neighbours = N .after .neighbours
+                  ∙ ap (λ k. neighbourWords k (reduced k (rowsOf k held₁))) (G .long) ∙ ap (neighbourWords n) same;
+              numbers = N .after .numbers
+                  ∙ ap (λ k. codeNumbers k (reduced k (rowsOf k held₁))) (G .long) ∙ ap (codeNumbers n) same;
+            };
         answer = e ∙ answered-as-read b;
       }
+    where
+      held₁ : GraphRecord
+      held₁ = heldRecord (recordIn words₁ codes₁)
+
+      S₁ : Simple n (held₁ .graph)
+      S₁ = subst (λ k. Simple k (held₁ .graph)) (G .long) (unrefused-simple words₁ codes₁ (G .unrefused))
+
+      same : reduced n (rowsOf n held₁) ≡ reduced n (measuredRows n rows (pauliLetter pauli) q b)
+      same = sym (reduced-of-group n (measuredRows n rows l q b) (rowsOf n held₁)
+          (measured-proper n rows (record-proper n (heldRecord (recordIn words codes)) (unrefused-simple words codes U)) l q hq b)
+          (record-proper n held₁ S₁) (G .group))
+          ∙ ap (λ l. reduced n (measuredRows n rows l q b)) named

@@ -10,13 +10,13 @@ use lib.ListN.{getD, length}
 use borrow.Author.Tests.{eq-eqb, eqb-true}
 use Rattle.clifford.specs.Clifford.{Clifford, cliffordOf, image, imagePhase}
 use Rattle.graph.specs.Graph.{Simple}
+use Rattle.graph_cuts.proofs.SentLetters.{equal-letters, equal-letters-refl, equalLetters}
 use Rattle.operations.proofs.MeasuredRecords.{determined-alone, outcome-alone, pauli-acts}
 use Rattle.operations.specs.InPlace.{Unrefused, recordIn}
 use Rattle.operations.specs.Measurement.{isDetermined, outcome, pauliLetter, single}
 use Rattle.operations.specs.Steps.{ReadOff}
-use Rattle.pauli.proofs.PauliLaws.{letter-bits}
 use Rattle.pauli.proofs.PhaseLaws.{minus-injective}
-use Rattle.pauli.specs.Pauli.{letter, minus, xBit, zBit}
+use Rattle.pauli.specs.Pauli.{minus, xBit, zBit}
 use Rattle.pauli.specs.declared.Letter.{Letter}
 use Rattle.pauli.specs.declared.Letter.the-variants.{X}
 use Rattle.record.proofs.AcceptedRecords.{accepted-record}
@@ -24,21 +24,8 @@ use Rattle.record.specs.Lent.{heldRecord}
 use Rattle.record.specs.Records.{GraphRecord, rowsOf}
 use Rattle.stabilizer.specs.Membership.{member}
 use Rattle.words.proofs.BitLaws.{bit-ext∞, zero-bit}
-use Rattle.words.proofs.Flags.{beq-refl, beq-true, both-true, same-by-both}
+use Rattle.words.proofs.Flags.{both-true, same-by-both}
 use Rattle.words.specs.Bits.{bit}
-
--- equal letters, by their bits
-abbrev pub equalLetters : Letter → Letter → Bool
-equalLetters a b = Bool·beq (zBit a) (zBit b) && Bool·beq (xBit a) (xBit b)
-
-equal-letters : (a b : Letter) → equalLetters a b ≡ true → a ≡ b
-equal-letters a b e =
-    let h = both-true (Bool·beq (zBit a) (zBit b)) (Bool·beq (xBit a) (xBit b)) e in
-    sym (letter-bits a) ∙ ap₂ letter (beq-true (zBit a) (zBit b) (h .0)) (beq-true (xBit a) (xBit b) (h .1))
-    ∙ letter-bits b
-
-equal-letters-refl : (a : Letter) → equalLetters a a ≡ true
-equal-letters-refl a = ap₂ _&&_ (beq-refl (zBit a)) (beq-refl (xBit a))
 
 module _ (words codes : List ℕ) (U : Unrefused (recordIn words codes)) (q : ℕ) (hq : q < length words)
     (pauli : ℕ) (lo : 1 ≤ pauli) where

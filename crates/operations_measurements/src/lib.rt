@@ -1,24 +1,23 @@
 // Measurements on a record in its buffers.
 use clifford::Code;
+use graph_cuts::cut_off;
+use graph_cuts::face_z;
+use graph_moves::normalise;
 use operations::Outcome;
-use operations_tableaus::project_tableau;
-use operations_tableaus::reduce_rows;
 use pauli::Letter;
 use pauli::x_bit;
 use pauli::z_bit;
-use record_expansion::expand_tableau;
-ghost use mathlib.Core.Bool.{cond};
+ghost use mathlib.Core.Bool.{cond, false};
 ghost use mathlib.Core.Path.{_≡_};
-ghost use Prim.Native.Nat.{ℕ, _<_, _≤_};
+ghost use Prim.Native.Nat.{_<_, _≤_};
 ghost use lib.ListN.{length};
+ghost use Rattle.graph_steps.specs.Kept.{GroupMeasured};
 ghost use Rattle.operations.specs.InPlace.{MeasuredInPlace, Unrefused, recordIn};
-ghost use Rattle.operations.specs.Measurement.{contradicts, isDetermined, measuredRows, pauliLetter};
+ghost use Rattle.operations.specs.Measurement.{contradicts, isDetermined, pauliLetter};
 ghost use Rattle.operations.specs.Steps.{ReadOff};
 ghost use Rattle.operations.specs.declared.Outcome.the-variants.{Chosen, Determined};
+ghost use Rattle.pauli.specs.declared.Letter.the-variants.{I};
 ghost use Rattle.record.specs.Lent.{heldRows};
-ghost use Rattle.reduction_passes.specs.Passes.{Loaded};
-ghost use Rattle.stabilizer.specs.Groups.{Independent};
-ghost use Rattle.stabilizer.specs.Tableau.{tableau};
 
 // The letter that a Pauli's number names: 1 X, 2 Y, 3 Z.
 pub fn letter_named(pauli: u8) -> Letter
@@ -66,26 +65,40 @@ pub fn contradicted(neighbours: &[u64], codes: &[u8], pauli: u8, q: usize, bit: 
     known.determined & (known.minus != bit)
 }
 
-// The rows after a measurement of l at q: the same where it is determined.
-fn measured_tableau(
-    rows: [[u64; 2]; 64],
-    signs: &mut u64,
-    n: usize,
+// The group after a measurement of l at q that is not determined: the code at q is turned so that l stands for Z of the
+// graph, and the vertex is cut off.
+fn measure_open(neighbours: &mut [u64], codes: &mut [u8], l: Letter, q: usize, bit: bool)
+    requires { ⌜ Unrefused (recordIn (now neighbours) (now codes)) × (q < length (now neighbours)) ⌝ }
+    requires { ⌜ isDetermined (length (now neighbours)) (heldRows (recordIn (now neighbours) (now codes))) l q ≡ false ⌝ }
+    requires { ⌜ (l ≡ I → ⊥) ⌝ }
+    ensures { λ r. ⌜ GroupMeasured (now (neighbours .entry)) (now (codes .entry)) l q bit
+        (now (neighbours .exit)) (now (codes .exit)) ⌝ }
+{
+    face_z(neighbours, codes, q, l);
+    let minus = codes[q] % 2 == 1;
+    cut_off(neighbours, codes, q, bit != minus);
+}
+
+// The group after a measurement of l at q: the same where it is determined.
+fn measure_group(
+    neighbours: &mut [u64],
+    codes: &mut [u8],
     l: Letter,
     q: usize,
-    minus: bool,
+    bit: bool,
     determined: bool,
-) -> [[u64; 2]; 64]
-    requires { ⌜ (n ≤ 64) × (q < n) × Loaded n (tableau (now signs) rows) ⌝ }
-    requires { ⌜ determined ≡ isDetermined n (tableau (now signs) rows) l q ⌝ }
-    requires { ⌜ Independent n (tableau (now signs) rows) ⌝ }
-    ensures { λ r. ⌜ ((j : ℕ) → tableau (now (signs .exit)) r j
-        ≡ measuredRows n (tableau (now (signs .entry)) rows) l q minus j) ⌝ }
+)
+    requires { ⌜ Unrefused (recordIn (now neighbours) (now codes)) × (q < length (now neighbours)) ⌝ }
+    requires { ⌜ determined
+        ≡ isDetermined (length (now neighbours)) (heldRows (recordIn (now neighbours) (now codes))) l q ⌝ }
+    requires { ⌜ (l ≡ I → ⊥) ⌝ }
+    ensures { λ r. ⌜ GroupMeasured (now (neighbours .entry)) (now (codes .entry)) l q bit
+        (now (neighbours .exit)) (now (codes .exit)) ⌝ }
 {
     if determined {
-        return rows;
+        return;
     }
-    project_tableau(rows, signs, n, l, q, minus)
+    measure_open(neighbours, codes, l, q, bit);
 }
 
 // What is answered: the sign that was read off where the measurement is determined, else the bit.
@@ -112,19 +125,15 @@ pub fn measure_record(
     ensures { λ r. ⌜ MeasuredInPlace (now (neighbours .entry)) (now (codes .entry)) pauli q bit r
         (now (neighbours .exit)) (now (codes .exit)) ⌝ }
 {
-    let n = neighbours.len();
     let known = read_off(neighbours, codes, pauli, q);
-    let mut signs = 0;
-    let rows = expand_tableau(n, neighbours, codes, &mut signs);
-    let after = measured_tableau(
-        rows,
-        &mut signs,
-        n,
+    measure_group(
+        neighbours,
+        codes,
         letter_named(pauli),
         q,
         bit,
         known.determined,
     );
-    reduce_rows(after, signs, neighbours, codes);
+    normalise(neighbours, codes);
     outcome_of(known, bit)
 }

@@ -1,2 +1,3 @@
+pub mod PuttingBefore
 pub mod Recoding
 pub mod Pivoting

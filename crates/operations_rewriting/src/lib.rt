@@ -1,53 +1,44 @@
 // Complements and pivots of a record in its buffers.
 use graph::complement_words;
 use operations::compose;
-use words::has;
+use words::flip;
+use words::smallest;
+ghost use mathlib.Core.Bool.{cond};
 ghost use mathlib.Core.Path.{_≡_};
-ghost use Prim.Native.Nat.{ℕ, _<_, _≤_};
+ghost use Prim.Native.Nat.{ℕ, _<_, _≤_, _^_};
 ghost use lib.ListN.{getD, length};
 ghost use Rattle.buffers.specs.Buffers.{tabulate};
-ghost use Rattle.clifford.specs.Clifford.{cliffordOf, codeOf};
+ghost use Rattle.clifford.specs.Clifford.{cliffordOf, codeOf, then};
 ghost use Rattle.clifford.specs.Vectors.{codesOf};
 ghost use Rattle.operations.specs.InPlace.{Rewritten, Unrefused, recordIn};
 ghost use Rattle.operations.specs.Steps.{pivotRecord};
-ghost use Rattle.record.specs.Records.{complementRecord, recoded};
+ghost use Rattle.record.specs.Records.{complementRecord};
 ghost use Rattle.words.specs.Bits.{bit};
 
-// The code at q after complementing at a, whose neighbours are the bits of `around`: 13 at a and 6 at its neighbours,
-// then the code held.
-fn recoded_at(code: u8, q: usize, a: usize, around: u64) -> u8
-    requires { ⌜ (code < 24) × (q < 64) ⌝ }
-    ensures { λ r. ⌜ r ≡ codeOf (recoded (λ _. bit around) a (λ _. cliffordOf code) q) ⌝ }
-{
-    if q == a {
-        return compose(13, code);
-    }
-    if has(around, q) {
-        return compose(6, code);
-    }
-    code
-}
-
-// All codes after complementing at a.
-fn recode(codes: &mut [u8], a: usize, around: u64)
+// Code k before the codes of the vertices that the word names.
+pub fn put_before(codes: &mut [u8], word: u64, k: u8)
     requires { ⌜ (length (now codes) ≤ 64) × ((q : ℕ) → getD (now codes) q 0 < 24) ⌝ }
-    ensures { λ r. ⌜ now (codes .exit) ≡ tabulate (length (now (codes .entry)))
-        (λ q. codeOf (recoded (λ _. bit around) a (codesOf (now (codes .entry))) q)) ⌝ }
+    requires { ⌜ (word < 2 ^ (length (now codes))) × (k < 24) ⌝ }
+    ensures { λ r. ⌜ now (codes .exit) ≡ tabulate (length (now (codes .entry))) (λ q. codeOf (cond (bit word q)
+        (then (cliffordOf k) (codesOf (now (codes .entry)) q)) (codesOf (now (codes .entry)) q))) ⌝ }
 {
-    let mut q = 0;
-    while q < codes.len() {
-        codes[q] = recoded_at(codes[q], q, a, around);
-        q += 1;
+    let mut rest = word;
+    while rest != 0 {
+        let i = smallest(rest);
+        codes[i] = compose(k, codes[i]);
+        rest = flip(rest, i);
     }
 }
 
-// Complements the record at vertex a.
+// Complements the record at vertex a: 6 before the codes of its neighbours, and 13 before its own.
 pub fn complement_record(neighbours: &mut [u64], codes: &mut [u8], a: usize)
     requires { ⌜ Unrefused (recordIn (now neighbours) (now codes)) × (a < length (now neighbours)) ⌝ }
     ensures { λ r. ⌜ Rewritten (now (neighbours .entry)) (now (codes .entry)) (λ g. complementRecord g a)
         (now (neighbours .exit)) (now (codes .exit)) ⌝ }
 {
-    recode(codes, a, neighbours[a]);
+    let own = compose(13, codes[a]);
+    put_before(codes, neighbours[a], 6);
+    codes[a] = own;
     complement_words(neighbours, a);
 }
 

@@ -16,7 +16,6 @@ pub mod RecordLines
 pub mod SimpleVerdict
 pub mod AcceptedRecords
 pub mod ExpandedRows
-pub mod ExpandedTableau
 pub mod ExpandedBuffers
 pub mod WrittenRecords
 pub mod ExpansionBack

@@ -1,11 +1,12 @@
 -- The number that a record is refused with, from the answers of the tests in their order.
 -- Assumes nothing.
 use mathlib.Core.Bool.{Bool, false, true, _||_}
-use mathlib.Core.Path.{sym, _∙_, _≡_}
-use Prim.Native.Nat.{_≤_}
+use mathlib.Core.Path.{subst, sym, _∙_, _≡_}
+use Prim.Native.Nat.{_<_, _^_, ℕ, _≤_}
 use lib.Dec.{lit<}
-use lib.ListN.{length}
+use lib.ListN.{getD, length}
 use Rattle.buffers.proofs.Lines.{Numbered, fits, none-fits, passed}
+use Rattle.buffers.proofs.Reaching.{below-all}
 use Rattle.buffers.specs.Refusals.{badCount, firstFitting, otherThan}
 use Rattle.stabilizer.proofs.SharedTests.{counted, has-length}
 use Rattle.words.proofs.Flags.{neither}
@@ -55,9 +56,15 @@ record-lengths-are l e =
 
 -- what the test of line 7 asks for
 pub simple-tested : (l : LentRecord) (others : Bool) → badCount (l .n) ≡ false →
-    (recordLengths l || others) ≡ false → (l .n ≤ 64) × (length (l .neighbours) ≡ l .n)
-simple-tested l others h2 h4 =
-    (counted (l .n) h2 .1, record-lengths-are l (neither (recordLengths l) others h4 .0) .0)
+    (recordLengths l || others) ≡ false → recordStray l ≡ false
+    → ((l .n ≤ 64) × (length (l .neighbours) ≡ l .n)) × ((j : ℕ) → j < l .n → getD (l .neighbours) j 0 < 2 ^ (l .n))
+simple-tested l others h2 h4 h5 = (
+  (counted (l .n) h2 .1, long),
+  λ j k. below-all (2 ^ (l .n)) (l .neighbours) h5 j (subst (λ m. j < m) (sym long) k),
+)
+  where
+    long : length (l .neighbours) ≡ l .n
+    long = record-lengths-are l (neither (recordLengths l) others h4 .0) .0
 
 -- no line of a record has number 0
 pub record-numbered : (l : LentRecord) (others six : Bool) → Numbered (recordLines l others six)

@@ -2,14 +2,16 @@
 use buffers::bad_count;
 use buffers::reaches;
 use buffers::strays;
+use words::flip;
 use words::has;
-ghost use mathlib.Core.Bool.{not};
+use words::smallest;
+ghost use mathlib.Core.Bool.{_&&_, not};
 ghost use mathlib.Core.Path.{_≡_};
-ghost use Prim.Native.Nat.{_<_, _≤_};
+ghost use Prim.Native.Nat.{ℕ, _<_, _≤_, _^_};
 ghost use lib.ListN.{getD, length};
 ghost use Rattle.buffers.specs.Refusals.{firstFitting};
 ghost use Rattle.record.specs.Lent.{notSimple, recordLengths, recordLines};
-ghost use Rattle.words.specs.Bits.{bit, sameBit};
+ghost use Rattle.words.specs.Bits.{bit};
 ghost use Rattle.words.specs.Search.{some};
 
 // Line 4: one of the two buffers does not have n places.
@@ -26,15 +28,17 @@ fn record_lengths(n: usize, neighbours: &[u64], codes: &[u8]) -> bool
 // Whether vertex i has an edge that its other end does not have.
 fn one_ended(n: usize, neighbours: &[u64], i: usize) -> bool
     requires { ⌜ (n ≤ 64) × (length (now neighbours) ≡ n) × (i < n) ⌝ }
-    ensures { λ r. ⌜ r ≡ some n (λ j. not (sameBit (bit (getD (now (neighbours .entry)) i 0) j)
-        (bit (getD (now (neighbours .entry)) j 0) i))) ⌝ }
+    requires { ⌜ getD (now neighbours) i 0 < 2 ^ n ⌝ }
+    ensures { λ r. ⌜ r ≡ some n (λ j. bit (getD (now (neighbours .entry)) i 0) j
+        && not (bit (getD (now (neighbours .entry)) j 0) i)) ⌝ }
 {
-    let mut j = 0;
-    while j < n {
-        if has(neighbours[i], j) != has(neighbours[j], i) {
+    let mut rest = neighbours[i];
+    while rest != 0 {
+        let j = smallest(rest);
+        if !has(neighbours[j], i) {
             return true;
         }
-        j += 1;
+        rest = flip(rest, j);
     }
     false
 }
@@ -42,6 +46,7 @@ fn one_ended(n: usize, neighbours: &[u64], i: usize) -> bool
 // Line 7: the graph is not simple.
 fn not_simple(n: usize, neighbours: &[u64]) -> bool
     requires { ⌜ (n ≤ 64) × (length (now neighbours) ≡ n) ⌝ }
+    requires { ⌜ ((j : ℕ) → j < n → getD (now neighbours) j 0 < 2 ^ n) ⌝ }
     ensures { λ r. ⌜ r ≡ notSimple n (λ j. bit (getD (now (neighbours .entry)) j 0)) ⌝ }
 {
     let mut i = 0;

@@ -1,19 +1,16 @@
-// The generators of a record, into a tableau or into lent buffers.
+// The generators of a record, into lent buffers.
 use buffers::sign_digit;
 use clifford_rows::send;
 use pauli::Generator;
-use words::put_bit;
 use words::single;
 ghost use mathlib.Core.Path.{_≡_};
 ghost use Prim.Native.Nat.{ℕ, _<_, _≤_, _^_};
 ghost use lib.ListN.{getD, length};
 ghost use Rattle.clifford.specs.Vectors.{codesOf};
-ghost use Rattle.pauli.specs.Pauli.{identity};
 ghost use Rattle.pauli.specs.Rows.{generatorOf};
 ghost use Rattle.record.specs.Lent.{heldRows};
 ghost use Rattle.record.specs.Records.{recordRow};
 ghost use Rattle.stabilizer.specs.Lists.{listOf};
-ghost use Rattle.stabilizer.specs.Tableau.{tableau};
 ghost use Rattle.words.specs.Bits.{bit};
 
 // Generator j: X at j and Z at the neighbours of j, sign plus, each place then sent through its vertex's code.
@@ -29,30 +26,6 @@ fn expanded_row(neighbours: &[u64], codes: &[u8], j: usize) -> Generator
         x: single(j),
     };
     send(plus, codes)
-}
-
-// Expansion into the tableau: its rows and their signs. The rows at and above n are the identity.
-pub fn expand_tableau(n: usize, neighbours: &[u64], codes: &[u8], signs: &mut u64) -> [[u64; 2]; 64]
-    requires { ⌜ (n ≤ 64) × (length (now neighbours) ≡ n) × (length (now codes) ≡ n) ⌝ }
-    requires { ⌜ ((q : ℕ) → getD (now codes) q 0 < 24) ⌝ }
-    ensures { λ r. ⌜ ((j : ℕ) → j < n → tableau (now (signs .exit)) r j ≡ heldRows (record {
-      n = n;
-      neighbours = now (neighbours .entry);
-      codes = now (codes .entry);
-    }) j) ⌝ }
-    ensures { λ r. ⌜ ((j : ℕ) → n ≤ j → tableau (now (signs .exit)) r j ≡ identity) ⌝ }
-{
-    let mut rows = [[0, 0]; 64];
-    let mut word = 0;
-    let mut j = 0;
-    while j < n {
-        let g = expanded_row(neighbours, codes, j);
-        rows[j] = [g.z, g.x];
-        word = put_bit(word, j, g.minus);
-        j += 1;
-    }
-    *signs = word;
-    rows
 }
 
 // Expansion into three lent buffers.

@@ -47,18 +47,6 @@ fn shear_in_place(rows: &mut [[u64; 2]; 64], signs: &mut u64, a: usize, named: u
     }
 }
 
-// Row a multiplied into each row that the word named names, by value.
-pub fn shear_rows(mut rows: [[u64; 2]; 64], signs: &mut u64, a: usize, named: u64) -> [[u64; 2]; 64]
-    requires { ⌜ (a < 64) × (bit named a ≡ false) ⌝ }
-    requires { ⌜ ((j : ℕ) → bit named j ≡ true
-        → anticommute 64 (tableau (now signs) rows j) (tableau (now signs) rows a) ≡ false) ⌝ }
-    ensures { λ r. ⌜ ((j : ℕ) → tableau (now (signs .exit)) r j
-        ≡ shear 64 (tableau (now (signs .entry)) rows) a (bit named) j) ⌝ }
-{
-    shear_in_place(&mut rows, signs, a, named);
-    rows
-}
-
 // The rows below n that have x bit q.
 fn column(rows: &[[u64; 2]; 64], n: usize, q: usize) -> u64
     requires { ⌜ (n ≤ 64) × (q < 64) ⌝ }

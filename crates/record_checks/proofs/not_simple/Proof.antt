@@ -27,7 +27,10 @@ has-requires : tie.Need-has-requires Inv-loop μ-loop
 has-requires c κs = search needs
 
 one-ended-requires : tie.Need-one-ended-requires Inv-loop μ-loop
-one-ended-requires c κs = search needs
+one-ended-requires c κs =
+    let inside = c .before .before in
+    let start = inside .before .before .before .pre in
+    ((start .0 .0, start .0 .1, inside .loop-test .taken), start .1 _ (inside .loop-test .taken))
 
 returns : tie.Need-returns Inv-loop μ-loop
 returns c =

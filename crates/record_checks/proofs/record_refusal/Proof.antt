@@ -72,6 +72,7 @@ not-simple-requires c κs =
     let l : LentRecord = record { n = a .n; neighbours = a .neighbours .now; codes = a .codes .now } in
     simple-tested l (a .others) (says (past2 .before .bad-count .ensures) (past2 .if1 .left))
     (either-says {b = recordLengths l} (past4 .before .record-lengths .ensures) refl (past4 .if2 .left))
+    (says (past5 .before .strays .ensures) (past5 .if3 .left))
 
 returns-5 : tie.Need-returns-5
 returns-5 c =

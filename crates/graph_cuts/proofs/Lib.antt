@@ -1,0 +1,4 @@
+pub mod SentLetters
+pub mod Facing
+pub mod Parting
+pub mod CutBuffers

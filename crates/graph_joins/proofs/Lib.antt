@@ -1,0 +1,3 @@
+pub mod ReachedSets
+pub mod JoinedSets
+pub mod CzBuffers

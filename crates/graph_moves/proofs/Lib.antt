@@ -1,0 +1,2 @@
+pub mod OddWords
+pub mod Signs

@@ -1,0 +1,2 @@
+pub mod TopBit
+pub mod SettlingLoop

@@ -1,0 +1,94 @@
+use native.Mathlib.Omega.{arith}
+use borrow.Author.Needs.{needs}
+use Rattle.graph_steps.proofs.Keeping.{complement-nearer, pivot-nearer}
+use Rattle.graph_steps.proofs.OutOfPlace.{complement-less, larger-below, pivot-less, word-reaches}
+use Rattle.operations.proofs.UnrefusedRecords.{unrefused-place, unrefused-short}
+use Rattle.graph_settling.proofs.settle_at.Statement.{statement}
+use Rattle.graph_settling.proofs.settle_at.Tie as tie
+
+mul-word : tie.Need-mul-word
+mul-word c = search needs
+
+slice-read-word : tie.Need-slice-read-word
+slice-read-word c = search needs
+
+slice-read-code : tie.Need-slice-read-code
+slice-read-code c =
+    let start = c .before .before .before .before .pre in
+    unrefused-place _ _ (start .0 .0) _ (start .0 .1)
+
+shr-if1 : tie.Need-shr-if1
+shr-if1 c =
+    let start = c .before .before .before .before .pre in
+    omega (arith, start .0 .1, unrefused-short _ _ (start .0 .0))
+
+largest-requires : tie.Need-largest-requires
+largest-requires c κs =
+    let branch = c .before .before in
+    let start = branch .before .before .before .before .before .pre in
+    word-reaches _ _ (start .0 .0) _ (start .0 .1) (start .1) (branch .if1 .taken)
+
+pivot-record-requires : tie.Need-pivot-record-requires
+pivot-record-requires c κs =
+    let branch = c .before .before .before in
+    let start = branch .before .before .before .before .before .pre in
+    let top = c .largest .ensures in (
+      start .0 .0,
+      (
+        start .0 .1,
+        larger-below _ _ (start .0 .0) _ (start .0 .1) (start .1) (branch .if1 .taken) _ (top .0) (top .1),
+      ),
+    )
+
+complement-record-requires : tie.Need-complement-record-requires
+complement-record-requires c κs = search needs
+
+same-length : tie.Need-same-length
+same-length c = search needs
+
+same-length-2 : tie.Need-same-length-2
+same-length-2 c = search needs
+
+returns : tie.Need-returns
+returns c =
+    let at-pivot = c .before .before .before .before in
+    let at-largest = at-pivot .before in
+    let branch = at-largest .before .before .before in
+    let start = branch .before .before .before .before .before .pre in
+    let top = at-largest .largest .ensures in
+    pivot-nearer _ _ (start .0 .0) _ _ _ _ (start .0 .1)
+    (larger-below _ _ (start .0 .0) _ (start .0 .1) (start .1) (branch .if1 .taken) _ (top .0) (top .1))
+    (at-pivot .pivot-record .ensures)
+    (pivot-less _ _ (start .0 .0) _ (start .0 .1) (start .1) (branch .if1 .taken) _ (top .0) (top .1))
+
+same-length-3 : tie.Need-same-length-3
+same-length-3 c = search needs
+
+same-length-4 : tie.Need-same-length-4
+same-length-4 c = search needs
+
+returns-2 : tie.Need-returns-2
+returns-2 c =
+    let at-complement = c .before .before .before .before in
+    let branch = at-complement .before .before .before in
+    let start = branch .before .before .before .before .before .pre in
+    complement-nearer _ _ (start .0 .0) _ _ _ (start .0 .1) (at-complement .complement-record .ensures)
+    (complement-less _ _ (start .0 .0) _ (start .0 .1) (start .1) (branch .if1 .left))
+
+pub settle-at-spec : {M : Type 1} → statement M
+settle-at-spec =
+    tie.close
+    (tie.spec
+    mul-word
+    slice-read-word
+    slice-read-code
+    shr-if1
+    largest-requires
+    pivot-record-requires
+    complement-record-requires
+    same-length
+    same-length-2
+    returns
+    same-length-3
+    same-length-4
+    returns-2)

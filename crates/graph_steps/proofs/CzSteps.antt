@@ -1,0 +1,200 @@
+-- CZ on a record of reduced form: the edges between two sets of vertices are flipped, and the record is reduced again.
+-- Assumes nothing.
+use mathlib.Core.Bool.{_&&_, Bool, and-comm, and-false, cond, false, true}
+use mathlib.Core.Logic.{_≢_}
+use mathlib.Core.Path.{ap, ap₂, refl, subst, sym, _∙_, _≡_}
+use Prim.Native.Nat.{_<_, ℕ, _≤_}
+use native.Mathlib.Omega.{arith}
+use Rattle.clifford.proofs.CliffordLaws.{cliffords, fromFive, onClifford}
+use Rattle.clifford.proofs.VectorLaws.{act-identity, act-mul, act-scaled, act-then}
+use Rattle.clifford.specs.Clifford.{Clifford, bitC, cliffordOf, codeOf, identityClifford, then}
+use Rattle.clifford.specs.Vectors.{act}
+use Rattle.graph.specs.Graph.{Graph, Simple, graphGenerator}
+use Rattle.operations.proofs.CzGroups.{cz-proper}
+use Rattle.operations.proofs.GroupAlone.{reduced-of-group}
+use Rattle.operations.specs.Cz.{cz, czRows, zAt}
+use Rattle.pauli.specs.Pauli.{Pauli, identity, minus, mul, scaled}
+use Rattle.record.proofs.Maximality.{inclusion-same}
+use Rattle.record.proofs.ReducedRecords.{record-proper}
+use Rattle.record.specs.Records.{GraphRecord, rowsOf}
+use Rattle.record.specs.Reduced.{reduced}
+use Rattle.stabilizer.proofs.GroupLaws.{in-identity, in-mul, in-row}
+use Rattle.stabilizer.specs.Groups.{Commuting, InGroup, Proper, SameGroup, chosen}
+use Rattle.words.proofs.BitLaws.{digit-lt}
+use Rattle.words.proofs.Finite.{bits}
+use Rattle.words.proofs.Sums.{bitMonoid, fold-unit}
+use Rattle.words.specs.Bits.{Word, digit, parity, _⊕_}
+use Rattle.graph_steps.proofs.CzProducts.{same-products}
+use Rattle.graph_steps.proofs.Places.{pauli-generator}
+use Rattle.graph_steps.proofs.Reaching.{element, element-no-x, reach-below, reach-kept, reach-z, x-reach}
+use Rattle.graph_steps.proofs.ReducedForms.{form-reduced}
+use Rattle.graph_steps.proofs.ZRows.{chosen-zs, cz-fixed, cz-product, joined-generator, zs, zs-commute}
+use Rattle.graph_steps.specs.ReducedForms.{ReducedForm}
+use Rattle.graph_steps.specs.Steps.{czRecord, czTurned, joinedBy, pauliCode, reach, reachMinus}
+
+-- a Pauli before a code: the signs alone change
+pub pauli-then : (u v : Bool) (k : Clifford) → then (pauliCode u v) k ≡ record { class = k .class; sx = v ⊕ k .sx; sz = u ⊕ k .sz }
+pauli-then u v = onClifford _ (λ a b c d e. cliffords 7
+    (λ u v a b c d e. then (pauliCode u v) (fromFive a b c d e))
+    (λ u v a b c d e. record { class = (fromFive a b c d e) .class; sx = v ⊕ d; sz = u ⊕ e }) tt u v a b c d e)
+
+-- code 2 before the code, or nothing
+pub z-before : (b : Bool) (k : Clifford) → cond b (then (cliffordOf 2) k) k ≡ then (pauliCode false b) k
+z-before true k = refl
+z-before false k = sym (pauli-then false false k)
+
+-- so a low code stays low
+pub pauli-low : (u v : Bool) (k : Clifford) → codeOf k < 12 → codeOf (then (pauliCode u v) k) < 12
+pauli-low u v k l = subst (λ m. codeOf m < 12) (sym (pauli-then u v k))
+    (omega (arith, digit-lt (v ⊕ k .sx), digit-lt (u ⊕ k .sz)))
+
+module _ (n : ℕ) (r : GraphRecord) (S : Simple n (r .graph)) (F : ReducedForm n r) (a b : ℕ) (ha : a < n) (hb : b < n)
+    (ab : a ≢ b) where
+  abbrev θ : Graph
+  θ = r .graph
+
+  abbrev c : ℕ → Clifford
+  c = r .codes
+
+  abbrev A : Word
+  A = reach r a
+
+  abbrev B : Word
+  B = reach r b
+
+  abbrev R : ℕ → Pauli
+  R = rowsOf n r
+
+  abbrev ga : Pauli
+  ga = element n r S F a ha
+
+  abbrev gb : Pauli
+  gb = element n r S F b hb
+
+  -- ---- a generator afterwards
+  act-chosen : (v : Bool) (p : Pauli) → act n c (chosen v p) ≡ chosen v (act n c p)
+  act-chosen false p = act-identity n c
+  act-chosen true p = refl
+
+  gated-z : (v : Bool) (w : Word) → act n c (zs (λ q. v && w q)) ≡ chosen v (act n c (zs w))
+  gated-z v w = ap (act n c) (sym (chosen-zs v w)) ∙ act-chosen v (zs w)
+
+  generator-after : (j : ℕ) → act n c (graphGenerator (joinedBy θ A B) j)
+      ≡ mul n (mul n (R j) (chosen (A j) (scaled (minus (reachMinus r b)) (mul n gb (zAt b)))))
+      (chosen (B j) (scaled (minus (reachMinus r a)) (mul n ga (zAt a))))
+  generator-after j =
+      ap (act n c) (joined-generator n θ j (λ q. A j && B q) (λ q. B j && A q) (and-comm (A j) (B j)))
+      ∙ act-mul n c (mul n (graphGenerator θ j) (zs (λ q. A j && B q))) (zs (λ q. B j && A q))
+      ∙ ap₂ (mul n)
+      (act-mul n c (graphGenerator θ j) (zs (λ q. A j && B q))
+      ∙ ap (mul n (R j)) (gated-z (A j) B ∙ ap (chosen (A j)) (reach-z n r S F b hb)))
+      (gated-z (B j) A ∙ ap (chosen (B j)) (reach-z n r S F a ha))
+
+  no-parity : (φ : Graph) (j : ℕ) → parity n (λ q. φ j q && false) ≡ false
+  no-parity φ j = fold-unit false _⊕_ bitMonoid n (λ q l. and-false (φ j q))
+
+  row-after : (j : ℕ) → j < n → rowsOf n (czRecord r a b) j
+      ≡ mul n (mul n (cz a b (rowsOf n r j)) (chosen (reach r a j) gb)) (chosen (reach r b j) ga)
+  row-after j l =
+      act-then n (λ q. pauliCode false (czTurned r a b q)) c (graphGenerator (joinedBy θ A B) j)
+      ∙ ap (act n c)
+      (pauli-generator n (λ q. false) (czTurned r a b) (joinedBy θ A B) j l
+      ∙ ap (λ v. scaled (minus (v ⊕ czTurned r a b j)) (graphGenerator (joinedBy θ A B) j)) (no-parity (joinedBy θ A B) j))
+      ∙ act-scaled n c (minus (czTurned r a b j)) (graphGenerator (joinedBy θ A B) j)
+      ∙ ap (scaled (minus (czTurned r a b j))) (generator-after j)
+      ∙ same-products n (R j) (zAt a) (zAt b) ga gb
+      (zs-commute n gb (zAt b) (element-no-x n r S F b hb) (λ q l. refl))
+      (zs-commute n ga (zAt a) (element-no-x n r S F a ha) (λ q l. refl))
+      (zs-commute n gb (zAt a) (element-no-x n r S F b hb) (λ q l. refl))
+      (A j) (B j) (reachMinus r a) (reachMinus r b)
+      ∙ ap (λ p. mul n (mul n p (chosen (A j) gb)) (chosen (B j) ga))
+      (sym (cz-product n a b ha hb ab (R j)
+      ∙ ap₂ (λ u v. scaled (minus (u && v)) (mul n (mul n (R j) (chosen u (zAt b))) (chosen v (zAt a))))
+      (x-reach n r S F a ha j) (x-reach n r S F b hb j)))
+
+  -- ---- the group
+  proper : Proper n (czRows a b R)
+  proper = cz-proper n a b ha hb ab R (record-proper n r S)
+
+  chosen-in : (v : Bool) (p : Pauli) → InGroup n n (czRows a b R) p → InGroup n n (czRows a b R) (chosen v p)
+  chosen-in false p i = in-identity n n (czRows a b R)
+  chosen-in true p i = i
+
+  element-in : (e : ℕ) (he : e < n) → InGroup n n (czRows a b R) (element n r S F e he)
+  element-in e he = go (bitC (c e)) refl
+    where
+      go : (v : Bool) → bitC (c e) ≡ v → InGroup n n (czRows a b R) (chosen v (R e))
+      go false h = in-identity n n (czRows a b R)
+      go true h = subst (InGroup n n (czRows a b R))
+          (cz-fixed a b (R e) (none a ha) (none b hb)) (in-row n n (czRows a b R) e he)
+        where
+          none : (q : ℕ) → q < n → (R e) .x q ≡ false
+          none q l = sym (ap (λ v. (chosen v (R e)) .x q) h) ∙ element-no-x n r S F e he q l
+
+  pub cz-simple : Simple n ((czRecord r a b) .graph)
+  cz-simple =
+      record {
+        symmetric = λ k l. ap (λ t. t ⊕ ((A k && B l) ⊕ (B k && A l))) (S .symmetric k l)
+            ∙ turn (θ l k) (A k) (B l) (B k) (A l);
+        loopless = λ k. ap (λ t. t ⊕ ((A k && B k) ⊕ (B k && A k))) (S .loopless k) ∙ cancel (A k) (B k);
+        below = λ k q l. ap (λ t. t ⊕ ((A k && B q) ⊕ (B k && A q))) (S .below k q l)
+            ∙ ap₂ (λ u v. (A k && v) ⊕ (B k && u)) (reach-below n r S F a ha q l) (reach-below n r S F b hb q l)
+            ∙ none (A k) (B k);
+      }
+    where
+      turn : (t u v w x : Bool) → t ⊕ ((u && v) ⊕ (w && x)) ≡ t ⊕ ((x && w) ⊕ (v && u))
+      turn = bits 5 (λ t u v w x. t ⊕ ((u && v) ⊕ (w && x))) (λ t u v w x. t ⊕ ((x && w) ⊕ (v && u))) tt
+
+      cancel : (u v : Bool) → (u && v) ⊕ (v && u) ≡ false
+      cancel = bits 2 (λ u v. (u && v) ⊕ (v && u)) (λ u v. false) tt
+
+      none : (u v : Bool) → (u && false) ⊕ (v && false) ≡ false
+      none = bits 2 (λ u v. (u && false) ⊕ (v && false)) (λ u v. false) tt
+
+  cz-same : SameGroup n n (rowsOf n (czRecord r a b)) (czRows a b R)
+  cz-same =
+      inclusion-same n (rowsOf n (czRecord r a b)) (czRows a b R) (record-proper n (czRecord r a b) cz-simple) proper
+      (λ j l. subst (InGroup n n (czRows a b R)) (sym (row-after j l))
+      (in-mul n n (czRows a b R) (proper .commuting)
+      (in-mul n n (czRows a b R) (proper .commuting) (in-row n n (czRows a b R) j l)
+      (chosen-in (A j) gb (element-in b hb))) (chosen-in (B j) ga (element-in a ha))))
+
+  -- ---- the form
+  pub turned-above : (q : ℕ) → n ≤ q → czTurned r a b q ≡ false
+  turned-above q l =
+      ap₂ (λ u v. (u && v) ⊕ ((reachMinus r a && v) ⊕ (reachMinus r b && u))) (reach-below n r S F a ha q l)
+      (reach-below n r S F b hb q l) ∙ none (reachMinus r a) (reachMinus r b)
+    where
+      none : (u v : Bool) → (u && false) ⊕ (v && false) ≡ false
+      none = bits 2 (λ u v. (u && false) ⊕ (v && false)) (λ u v. false) tt
+
+  pub cz-form : ReducedForm n (czRecord r a b)
+  cz-form =
+      record {
+        settled =
+            record {
+              low = λ q l. pauli-low false (czTurned r a b q) (c q) (F .settled .low q l);
+              smaller = λ q j l e h. F .settled .smaller q j l (still q e)
+                  (sym (edges (θ q j) (B j) (A j) (reach-kept n r S F a ha q l (still q e))
+                  (reach-kept n r S F b hb q l (still q e))) ∙ h);
+            };
+        even = λ q l. ap (λ k. k .sz) (pauli-then false (czTurned r a b q) (c q)) ∙ F .even q l;
+        above = λ q l. ap₂ (λ v k. then (pauliCode false v) k) (turned-above q l) (F .above q l)
+            ∙ cliffords 0 (then (pauliCode false false) identityClifford) identityClifford tt;
+      }
+    where
+      still : (q : ℕ) → bitC (then (pauliCode false (czTurned r a b q)) (c q)) ≡ true → bitC (c q) ≡ true
+      still q e = sym (ap bitC (pauli-then false (czTurned r a b q) (c q))) ∙ e
+
+      edges : (t v w : Bool) {u x : Bool} → u ≡ false → x ≡ false → t ⊕ ((u && v) ⊕ (x && w)) ≡ t
+      edges t v w e f = ap₂ (λ u x. t ⊕ ((u && v) ⊕ (x && w))) e f ∙ nothing t
+        where
+          nothing : (t : Bool) → t ⊕ false ≡ t
+          nothing false = refl
+          nothing true = refl
+
+  pub cz-reduced-form : reduced n (czRows a b (rowsOf n r)) ≡ czRecord r a b
+  cz-reduced-form =
+      sym (reduced-of-group n (rowsOf n (czRecord r a b)) (czRows a b R) (record-proper n (czRecord r a b) cz-simple) proper
+      cz-same)
+      ∙ form-reduced n (czRecord r a b) cz-simple cz-form

@@ -1,0 +1,12 @@
+pub mod ReducedForms
+pub mod Totals
+pub mod Settling
+pub mod Places
+pub mod SignsMoved
+pub mod ZRows
+pub mod CzProducts
+pub mod Reaching
+pub mod CzSteps
+pub mod CuttingOff
+pub mod Keeping
+pub mod OutOfPlace

@@ -1,0 +1,213 @@
+-- Vertices out of place, by the numbers in the buffers: what a step at the first of them finds, and that a record
+-- without any is settled.
+-- Assumes nothing.
+use mathlib.Core.Bool.{_&&_, Bool, and-false, false, not, or-true, true, true≢false, _||_}
+use mathlib.Core.List.{List}
+use mathlib.Core.Logic.{inl, inr, _⊎_}
+use mathlib.Core.Path.{ap, ap₂, refl, subst, sym, _∙_, _≡_}
+use Prim.Native.Nat.{_+_, _-_, _/_, _<_, _^_, ℕ, _≤_}
+use native.Mathlib.Nat.{div-eq-of-lt, lt-of-lt-of-le, zero-div}
+use native.Mathlib.Omega.{arith}
+use lib.Dec.{eqb, leb, ltb}
+use lib.ListN.{getD, length}
+use lib.Pow.{pow-mono}
+use borrow.Author.Tests.{
+  eq-eqb,
+  eqb-false,
+  eqb-true,
+  le-leb,
+  le-ltb,
+  leb-false,
+  leb-true,
+  lt-leb,
+  lt-ltb,
+  ltb-true,
+  not-false,
+  not-true,
+}
+use Rattle.clifford.proofs.CliffordLaws.{codeOf-cliffordOf}
+use Rattle.clifford.specs.Clifford.{ZY, bitC, bitD, classOf, cliffordOf}
+use Rattle.graph.specs.Graph.{Simple}
+use Rattle.operations.proofs.UnrefusedRecords.{unrefused-simple}
+use Rattle.operations.specs.InPlace.{Unrefused, recordIn}
+use Rattle.operations.specs.Steps.{pivotRecord}
+use Rattle.record.proofs.AcceptedRecords.{accepted-record}
+use Rattle.record.specs.Accepted.{AcceptedRecord}
+use Rattle.record.specs.Lent.{heldRecord}
+use Rattle.record.specs.Records.{GraphRecord, complementRecord}
+use Rattle.words.proofs.BitLaws.{bit-above, bit-shr, zero-bit}
+use Rattle.words.proofs.Flags.{both-true, either, neither, true-sameBit}
+use Rattle.words.proofs.SearchLaws.{every-at, first-is, first-none}
+use Rattle.words.proofs.Sums.{lt-or-ge}
+use Rattle.words.specs.Bits.{bit, sameBit}
+use Rattle.words.specs.Search.{IsFirst, every, first}
+use Rattle.graph_steps.proofs.Settling.{nearer-alone, nearer-joined, nearer-turned}
+use Rattle.graph_steps.specs.Kept.{unsettled}
+use Rattle.graph_steps.specs.ReducedForms.{Settled}
+use Rattle.graph_steps.specs.Settling.{distance}
+
+-- ---- codes by their numbers
+pub number-C : (k : ℕ) → k < 24 → bitC (cliffordOf k) ≡ leb 8 k
+unfolding every
+number-C k l = true-sameBit _ _ (every-at 24 (λ k. sameBit (bitC (cliffordOf k)) (leb 8 k)) refl k l)
+
+number-D : (k : ℕ) → k < 24 → bitD (cliffordOf k) ≡ ((leb 8 k && (leb 12 k && ltb k 20)) || not (leb 8 k))
+unfolding every
+number-D k l = true-sameBit _ _ (every-at 24
+    (λ k. sameBit (bitD (cliffordOf k)) ((leb 8 k && (leb 12 k && ltb k 20)) || not (leb 8 k))) refl k l)
+
+-- ---- a word without bits at and above a place
+none-from : (w j q : ℕ) → w / 2 ^ j ≡ 0 → j ≤ q → bit w q ≡ false
+none-from w j q e l = ap (bit w) {x = q} {y = j + (q - j)} (omega arith) ∙ sym (bit-shr w j (q - j)) ∙ ap (λ v. bit v (q - j)) e
+    ∙ zero-bit (q - j)
+
+module _ (words codes : List ℕ) (U : Unrefused (recordIn words codes)) where
+  abbrev n : ℕ
+  n = length words
+
+  abbrev A : AcceptedRecord (recordIn words codes)
+  A = accepted-record (recordIn words codes) false false (U .no-line)
+
+  abbrev r : GraphRecord
+  r = heldRecord (recordIn words codes)
+
+  simple : Simple (length words) ((heldRecord (recordIn words codes)) .graph)
+  simple = unrefused-simple words codes U
+
+  abbrev k : ℕ → ℕ
+  k q = getD codes q 0
+
+  abbrev w : ℕ → ℕ
+  w q = getD words q 0
+
+  -- a vertex in place with C = 1 has no bit at or above its own place
+  placed : (q j : ℕ) → unsettled words codes q ≡ false → bitC (r .codes q) ≡ true → q ≤ j → bit (w q) j ≡ false
+  placed q j e c l = none-from (w q) q j
+      (eqb-true (w q / 2 ^ q) 0 (not-false (eqb (w q / 2 ^ q) 0) (go (leb 8 (k q)) (sym (number-C (k q) (A .codes-below q)) ∙ c)
+      (neither (leb 12 (k q)) (leb 8 (k q) && not (eqb (w q / 2 ^ q) 0)) e .1)))) l
+    where
+      go : (b : Bool) → b ≡ true → (b && not (eqb (w q / 2 ^ q) 0)) ≡ false → not (eqb (w q / 2 ^ q) 0) ≡ false
+      go true h f = f
+      go false h f = absurd (true≢false (sym h))
+
+  pub none-unsettled : ((q : ℕ) → q < length words → unsettled words codes q ≡ false)
+      → Settled (length words) (heldRecord (recordIn words codes))
+  none-unsettled h =
+      record {
+        low = λ q l. subst (λ m. m < 12) (sym (codeOf-cliffordOf (k q) (A .codes-below q)))
+            (leb-false 12 (k q) (neither (leb 12 (k q)) _ (h q l) .0));
+        smaller = λ q j l c e. elim (lt-or-ge j q) [
+          | inl m ↦ m
+          | inr m ↦ absurd (true≢false (sym e ∙ placed q j (h q l) c m))
+        ];
+      }
+
+  -- ---- the first vertex out of place
+  module _ (j : ℕ) (hj : j < length words) (first-one : j ≡ first (length words) (unsettled words codes)) where
+    found : IsFirst n (unsettled words codes) j
+    found = elim (first-is n (unsettled words codes)) [
+      | inl F ↦ subst (IsFirst n (unsettled words codes)) (sym first-one) F
+      | inr none ↦ absurd (omega (arith, hj, first-one ∙ first-none n (unsettled words codes) none))
+    ]
+
+    below : k j < 24
+    below = A .codes-below j
+
+    -- a step by a pivot
+    module _ (taken : ((ltb (getD codes j 0) 12 || leb 20 (getD codes j 0))
+        && not (eqb (getD words j 0 / 2 ^ j) 0)) ≡ true) where
+      parts : ((ltb (k j) 12 || leb 20 (k j)) ≡ true) × (not (eqb (w j / 2 ^ j) 0) ≡ true)
+      parts = both-true (ltb (k j) 12 || leb 20 (k j)) (not (eqb (w j / 2 ^ j) 0)) taken
+
+      reaches : w j / 2 ^ j ≡ 0 → ⊥
+      reaches = eqb-false (w j / 2 ^ j) 0 (not-true (eqb (w j / 2 ^ j) 0) (parts .1))
+
+      range : (8 ≤ k j) × ((k j < 12) ⊎ (20 ≤ k j))
+      range = elim (either (ltb (k j) 12) (leb 20 (k j)) (parts .0)) [
+        | inl e ↦ (low (ltb-true (k j) 12 e) (either (leb 12 (k j)) _ (found .passes)), inl (ltb-true (k j) 12 e))
+        | inr e ↦ (omega (arith, leb-true 20 (k j) e), inr (leb-true 20 (k j) e))
+      ]
+        where
+          low : k j < 12 → (leb 12 (k j) ≡ true) ⊎ ((leb 8 (k j) && not (eqb (w j / 2 ^ j) 0)) ≡ true) → 8 ≤ k j
+          low l (inl e) = absurd (omega (arith, leb-true 12 (k j) e))
+          low l (inr e) = leb-true 8 (k j) (both-true (leb 8 (k j)) _ e .0)
+
+      own-C : bitC (r .codes j) ≡ true
+      own-C = number-C (k j) below ∙ le-leb 8 (k j) (range .0)
+
+      own-D : bitD (r .codes j) ≡ false
+      own-D = number-D (k j) below ∙ elim (range .1) [
+        | inl l ↦ ap₂ (λ a b. (a && (b && ltb (k j) 20)) || not a) (le-leb 8 (k j) (range .0)) (lt-leb 12 (k j) l)
+        | inr l ↦ ap₂ (λ a b. (a && (leb 12 (k j) && b)) || not a) (le-leb 8 (k j) (range .0)) (le-ltb (k j) 20 l)
+            ∙ none (leb 12 (k j))
+      ]
+        where
+          none : (b : Bool) → ((true && (b && false)) || not true) ≡ false
+          none false = refl
+          none true = refl
+
+      pub word-reaches : getD words j 0 ≡ 0 → ⊥
+      word-reaches e = reaches (ap (λ v. v / 2 ^ j) e ∙ zero-div (2 ^ j))
+
+      module _ (m : ℕ) (set : bit (getD words j 0) m ≡ true) (top : getD words j 0 < 2 ^ (m + 1)) where
+        pub larger-below : m < length words
+        larger-below = elim (lt-or-ge m n) [
+          | inl l ↦ l
+          | inr l ↦ absurd (true≢false (sym set ∙ bit-above n (w j) (A .words-below j) m l))
+        ]
+
+        larger : j < m
+        larger = elim (lt-or-ge j m) [
+          | inl l ↦ l
+          | inr l ↦ elim (lt-or-ge m j) [
+            | inl o ↦ absurd (reaches (div-eq-of-lt (lt-of-lt-of-le top (pow-mono {i = m + 1} {j = j} (omega arith)))))
+            | inr o ↦ absurd (true≢false (sym set ∙ ap (bit (w j)) {x = m} {y = j} (omega arith) ∙ simple .loopless j))
+          ]
+        ]
+
+        pub pivot-less : distance (length words) (pivotRecord (heldRecord (recordIn words codes)) j m)
+            < distance (length words) (heldRecord (recordIn words codes))
+        pivot-less = nearer-joined n r simple j m hj larger-below larger set own-C own-D
+
+    -- a step by a complementation
+    module _ (left : ((ltb (getD codes j 0) 12 || leb 20 (getD codes j 0))
+        && not (eqb (getD words j 0 / 2 ^ j) 0)) ≡ false) where
+      -- no larger neighbour: class 5, and the smaller neighbours, which are in place, have C = 0
+      turned : 20 ≤ k j → w j / 2 ^ j ≡ 0 → distance n (complementRecord r j) < distance n r
+      turned l e =
+          nearer-turned n r simple j hj (ap classOf {x = k j / 4} {y = 5} (omega (arith, l, below)))
+          (λ q h. kept q h (bitC (r .codes q)) refl)
+        where
+          kept : (q : ℕ) → bit (w j) q ≡ true → (b : Bool) → bitC (r .codes q) ≡ b → b ≡ false
+          kept q h false c = refl
+          kept q h true c = elim (lt-or-ge q j) [
+            | inl l ↦ absurd (true≢false (sym h ∙ simple .symmetric j q
+                ∙ placed q j (found .least q l) c (omega arith)))
+            | inr l ↦ absurd (true≢false (sym h ∙ none-from (w j) j q e l))
+          ]
+
+      alone : 12 ≤ k j → k j < 20 → distance n (complementRecord r j) < distance n r
+      alone l m =
+          nearer-alone n r simple j hj (number-C (k j) below ∙ le-leb 8 (k j) (omega arith))
+          (number-D (k j) below
+          ∙ ap₂ (λ a b. (a && (b && ltb (k j) 20)) || not a) (le-leb 8 (k j) (omega arith)) (le-leb 12 (k j) l)
+          ∙ ap (λ c. (true && (true && c)) || not true) (lt-ltb (k j) 20 m))
+
+      none-larger : (ltb (k j) 12 || leb 20 (k j)) ≡ true → w j / 2 ^ j ≡ 0
+      none-larger e = eqb-true (w j / 2 ^ j) 0 (not-false (eqb (w j / 2 ^ j) 0)
+          (sym (ap (λ a. a && not (eqb (w j / 2 ^ j) 0)) e) ∙ left))
+
+      pub complement-less : distance (length words) (complementRecord (heldRecord (recordIn words codes)) j)
+          < distance (length words) (heldRecord (recordIn words codes))
+      complement-less = elim (lt-or-ge (k j) 12) [
+        | inl l ↦ absurd (in-place l (none-larger (ap (λ a. a || leb 20 (k j)) (lt-ltb (k j) 12 l))))
+        | inr l ↦ elim (lt-or-ge (k j) 20) [
+          | inl m ↦ alone l m
+          | inr m ↦ turned m (none-larger (ap (λ a. ltb (k j) 12 || a) (le-leb 20 (k j) m) ∙ or-true (ltb (k j) 12)))
+        ]
+      ]
+        where
+          in-place : k j < 12 → w j / 2 ^ j ≡ 0 → ⊥
+          in-place l e = true≢false (sym (found .passes)
+              ∙ ap₂ (λ a b. a || (leb 8 (k j) && not b)) (lt-leb 12 (k j) l) (eq-eqb (w j / 2 ^ j) 0 e)
+              ∙ and-false (leb 8 (k j)))

@@ -1,0 +1,95 @@
+-- Codes acting on rows place by place: Pauli codes, a row that acts at one place, and rows of I and Z.
+-- Assumes nothing.
+use mathlib.Core.Bool.{_&&_, Bool, and-comm, and-false, cond, false, true, true≢false}
+use mathlib.Core.Path.{ap, ap₂, refl, subst, sym, _∙_, _≡_}
+use Prim.Native.Nat.{_<_, ℕ}
+use native.Mathlib.Decide.{ℕ-discrete}
+use lib.Dec.{eqb}
+use Rattle.clifford.specs.Clifford.{Clifford, image, imagePhase}
+use Rattle.clifford.specs.Vectors.{act}
+use Rattle.graph.specs.Graph.{Graph, graphGenerator}
+use Rattle.operations.specs.Measurement.{single}
+use Rattle.pauli.proofs.PauliLaws.{Pauli-path, letter-bits}
+use Rattle.pauli.proofs.PhaseLaws.{+ᵖ-comm, +ᵖ-zero, minus-⊕, phaseMonoid, phases}
+use Rattle.pauli.specs.Pauli.{
+  _+ᵖ_,
+  Pauli,
+  i⁰,
+  letter,
+  letterAt,
+  minus,
+  scaled,
+  sumPhase,
+  xBit,
+  zBit,
+}
+use Rattle.pauli.specs.declared.Letter.{Letter}
+use Rattle.pauli.specs.declared.Letter.the-variants.{I}
+use Rattle.words.proofs.Finite.{bits}
+use Rattle.words.proofs.Places.{other-place, parity-at, same-place}
+use Rattle.words.proofs.Sums.{fold-ext, fold-hom, fold-one, parity-add}
+use Rattle.words.specs.Bits.{Word, parity, _⊕_}
+use Rattle.graph_steps.specs.Steps.{pauliCode}
+
+-- ---- Paulis
+-- a Pauli code keeps letters, and its sign is that of the bits that it does not commute with
+pauli-phase : (u v z x : Bool) → imagePhase (pauliCode u v) (letter z x) ≡ minus ((z && u) ⊕ (x && v))
+pauli-phase = phases 4 (λ u v z x. imagePhase (pauliCode u v) (letter z x)) (λ u v z x. minus ((z && u) ⊕ (x && v))) tt
+
+pauli-z : (u v z x : Bool) → zBit (image (pauliCode u v) (letter z x)) ≡ z
+pauli-z = bits 4 (λ u v z x. zBit (image (pauliCode u v) (letter z x))) (λ u v z x. z) tt
+
+pauli-x : (u v z x : Bool) → xBit (image (pauliCode u v) (letter z x)) ≡ x
+pauli-x = bits 4 (λ u v z x. xBit (image (pauliCode u v) (letter z x))) (λ u v z x. x) tt
+
+-- the sign of a sum of signs
+minus-parity : (n : ℕ) (f : Word) → sumPhase n (λ q. minus (f q)) ≡ minus (parity n f)
+minus-parity n f = sym (fold-hom false _⊕_ i⁰ _+ᵖ_ minus refl minus-⊕ n f)
+
+pub pauli-act : (n : ℕ) (u v : Word) (p : Pauli)
+    → act n (λ q. pauliCode (u q) (v q)) p
+    ≡ record { phase = p .phase +ᵖ minus (parity n (λ q. (p .z q && u q) ⊕ (p .x q && v q))); z = p .z; x = p .x }
+unfolding act
+pauli-act n u v p =
+    Pauli-path
+    (ap (λ t. p .phase +ᵖ t)
+    (fold-ext i⁰ _+ᵖ_ n (λ q l. pauli-phase (u q) (v q) (p .z q) (p .x q)) ∙ minus-parity n _))
+    (λ q. pauli-z (u q) (v q) (p .z q) (p .x q)) (λ q. pauli-x (u q) (v q) (p .z q) (p .x q))
+
+-- on a generator of a graph: the bits of u at the neighbours, and v at the vertex
+pub pauli-generator : (n : ℕ) (u v : Word) (θ : Graph) (j : ℕ) → j < n
+    → act n (λ q. pauliCode (u q) (v q)) (graphGenerator θ j)
+    ≡ scaled (minus (parity n (λ q. θ j q && u q) ⊕ v j)) (graphGenerator θ j)
+pauli-generator n u v θ j l =
+    pauli-act n u v (graphGenerator θ j)
+    ∙ Pauli-path
+    (ap minus (parity-add n (λ q. θ j q && u q) (λ q. eqb q j && v q)
+    ∙ ap (λ b. parity n (λ q. θ j q && u q) ⊕ b)
+    (fold-ext false _⊕_ n (λ q k. and-comm (eqb q j) (v q)) ∙ parity-at n v j l))
+    ∙ sym (+ᵖ-zero (minus (parity n (λ q. θ j q && u q) ⊕ v j))))
+    (λ q. refl) (λ q. refl)
+
+-- ---- one place
+pub act-single : (n : ℕ) (c : ℕ → Clifford) (l : Letter) (a : ℕ) (s : Bool) → a < n
+    → act n c (single l a s)
+    ≡ scaled (imagePhase (c a) l) (single (image (c a) l) a s)
+unfolding act
+act-single n c l a s h =
+    Pauli-path
+    (ap (λ t. minus s +ᵖ t)
+    (fold-one i⁰ _+ᵖ_ phaseMonoid n a h (λ q k d. ap (imagePhase (c q)) (ap (λ b. letter (b && zBit l) (b && xBit l)) (other-place d)))
+    ∙ ap (imagePhase (c a)) (here (same-place a)))
+    ∙ +ᵖ-comm (minus s) (imagePhase (c a) l))
+    (λ q. bit-at zBit refl q (ℕ-discrete q a)) (λ q. bit-at xBit refl q (ℕ-discrete q a))
+  where
+    here : {b : Bool} → b ≡ true → letter (b && zBit l) (b && xBit l) ≡ l
+    here e = ap (λ b. letter (b && zBit l) (b && xBit l)) e ∙ letter-bits l
+
+    bit-at : (f : Letter → Bool) → f I ≡ false → (q : ℕ) → Dec (q ≡ a)
+        → f (image (c q) (letter (eqb q a && zBit l) (eqb q a && xBit l))) ≡ (eqb q a && f (image (c a) l))
+    bit-at f none q (yes e) =
+        subst (λ v. f (image (c v) (letter (eqb v a && zBit l) (eqb v a && xBit l))) ≡ (eqb v a && f (image (c a) l))) (sym e)
+        (ap (λ m. f (image (c a) m)) (here (same-place a)) ∙ ap (λ b. b && f (image (c a) l)) (sym (same-place a)))
+    bit-at f none q (no d) =
+        ap (λ b. f (image (c q) (letter (b && zBit l) (b && xBit l)))) (other-place d) ∙ none
+        ∙ ap (λ b. b && f (image (c a) l)) (sym (other-place d))

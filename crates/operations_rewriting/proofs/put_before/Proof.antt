@@ -1,0 +1,98 @@
+use mathlib.Core.Path.{subst, sym}
+use Prim.Native.Nat.{_<_}
+use borrow.Author.Needs.{needs}
+use Rattle.buffers.proofs.OverSets.{next-in, next-less, next-named, next-short}
+use Rattle.operations_rewriting.proofs.PuttingBefore.{Putting, put-end, put-more, put-start}
+use Rattle.operations_rewriting.proofs.put_before.Statement.{statement}
+use Rattle.operations_rewriting.proofs.put_before.Tie as tie
+
+abbrev Inv-loop : tie.InvT-loop
+Inv-loop codes₀ word k rest₀ codes rest = Putting codes₀ word k codes rest
+
+abbrev μ-loop : tie.MeasureT-loop
+μ-loop codes₀ word k rest₀ codes rest = rest
+
+loop-holds : tie.Need-loop-holds Inv-loop μ-loop
+loop-holds c = let start = c .before in put-start _ (start .args .word) (start .args .k) (start .pre .0 .1) (start .pre .1 .0)
+
+smallest-requires : tie.Need-smallest-requires Inv-loop μ-loop
+smallest-requires c κs = search needs
+
+slice-read-compose : tie.Need-slice-read-compose Inv-loop μ-loop
+slice-read-compose c =
+    let at-smallest = c .before in
+    let inside = at-smallest .before in
+    let start = inside .before .before .before in
+    next-in _ _ _ _ _ (inside .before .loop .inv) (start .pre .0 .0) (inside .loop-test .taken) _
+    (at-smallest .smallest .ensures .0)
+
+compose-requires : tie.Need-compose-requires Inv-loop μ-loop
+compose-requires c κs =
+    let at-smallest = c .before in
+    let inside = at-smallest .before in
+    let start = inside .before .before .before in
+    let inv = inside .before .loop .inv in
+    let i = at-smallest .smallest .result in (
+      start .pre .1 .1,
+      subst (λ v. v < 24)
+          (sym (inv .left i (next-named _ _ _ _ _ inv (start .pre .0 .0) (inside .loop-test .taken) _ (at-smallest .smallest .ensures .0))))
+          (start .pre .0 .1 i),
+    )
+
+slice-write-codes : tie.Need-slice-write-codes Inv-loop μ-loop
+slice-write-codes c =
+    let at-smallest = c .before .before in
+    let inside = at-smallest .before in
+    let start = inside .before .before .before in
+    next-in _ _ _ _ _ (inside .before .loop .inv) (start .pre .0 .0) (inside .loop-test .taken) _
+    (at-smallest .smallest .ensures .0)
+
+flip-requires : tie.Need-flip-requires Inv-loop μ-loop
+flip-requires c κs =
+    let at-smallest = c .before .before in
+    let inside = at-smallest .before in
+    let start = inside .before .before .before in
+    next-short _ _ _ _ _ (inside .before .loop .inv) (start .pre .0 .0) (inside .loop-test .taken) _
+    (at-smallest .smallest .ensures .0)
+
+loop-less : tie.Need-loop-less Inv-loop μ-loop
+loop-less c =
+    let at-smallest = c .before .before .before in
+    let inside = at-smallest .before in
+    let start = inside .before .before .before in
+    next-less _ _ _ _ _ (inside .before .loop .inv) (start .pre .0 .0) (inside .loop-test .taken) _
+    (at-smallest .smallest .ensures .0) _ (c .flip .ensures)
+
+loop-again : tie.Need-loop-again Inv-loop μ-loop
+loop-again c =
+    let at-smallest = c .before .before .before in
+    let inside = at-smallest .before in
+    let start = inside .before .before .before in
+    put-more _ (start .args .word) (start .args .k) _ _ (inside .before .loop .inv) (start .pre .0 .0)
+    (inside .loop-test .taken) _ (at-smallest .smallest .ensures .0) _ _ (c .before .compose .ensures .0)
+    (c .flip .ensures)
+
+same-length : tie.Need-same-length Inv-loop μ-loop
+same-length c = search needs
+
+returns : tie.Need-returns Inv-loop μ-loop
+returns c =
+    let start = c .before .before .before in
+    put-end _ (start .args .word) (start .args .k) _ _ (c .before .loop .inv) (c .loop-test .left)
+
+pub put-before-spec : {M : Type 1} → statement M
+put-before-spec =
+    tie.close
+    (tie.spec
+    Inv-loop
+    μ-loop
+    loop-holds
+    smallest-requires
+    slice-read-compose
+    compose-requires
+    slice-write-codes
+    flip-requires
+    loop-less
+    loop-again
+    same-length
+    returns)

@@ -1,4 +1,0 @@
-pub mod TableauLoops
-pub mod CzRows
-pub mod ProjectedRows
-pub mod AnswersInPlace
