@@ -13,7 +13,7 @@ use Rattle.clifford.specs.Clifford.{cliffordOf, codeOf, then}
 use Rattle.clifford.specs.Vectors.{codesOf}
 use Rattle.graph.specs.Graph.{Simple}
 use Rattle.graph.specs.NeighbourWords.{SameGraph, graphIn}
-use Rattle.graph_steps.proofs.CzSteps.{z-before}
+use Rattle.graph_steps.proofs.Places.{z-before}
 use Rattle.graph_steps.specs.Steps.{cutOff, hadamardCode, pauliCode}
 use Rattle.operations.proofs.UnrefusedRecords.{unrefused-long, unrefused-simple}
 use Rattle.operations.specs.InPlace.{Rewritten, Unrefused, recordIn}

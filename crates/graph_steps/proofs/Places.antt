@@ -4,8 +4,10 @@ use mathlib.Core.Bool.{_&&_, Bool, and-comm, and-false, cond, false, true, true�
 use mathlib.Core.Path.{ap, ap₂, refl, subst, sym, _∙_, _≡_}
 use Prim.Native.Nat.{_<_, ℕ}
 use native.Mathlib.Decide.{ℕ-discrete}
+use native.Mathlib.Omega.{arith}
 use lib.Dec.{eqb}
-use Rattle.clifford.specs.Clifford.{Clifford, image, imagePhase}
+use Rattle.clifford.proofs.CliffordLaws.{cliffords, fromFive, onClifford}
+use Rattle.clifford.specs.Clifford.{Clifford, cliffordOf, codeOf, image, imagePhase, then}
 use Rattle.clifford.specs.Vectors.{act}
 use Rattle.graph.specs.Graph.{Graph, graphGenerator}
 use Rattle.operations.specs.Measurement.{single}
@@ -25,6 +27,7 @@ use Rattle.pauli.specs.Pauli.{
 }
 use Rattle.pauli.specs.declared.Letter.{Letter}
 use Rattle.pauli.specs.declared.Letter.the-variants.{I}
+use Rattle.words.proofs.BitLaws.{digit-lt}
 use Rattle.words.proofs.Finite.{bits}
 use Rattle.words.proofs.Places.{other-place, parity-at, same-place}
 use Rattle.words.proofs.Sums.{fold-ext, fold-hom, fold-one, parity-add}
@@ -68,6 +71,23 @@ pauli-generator n u v θ j l =
     (fold-ext false _⊕_ n (λ q k. and-comm (eqb q j) (v q)) ∙ parity-at n v j l))
     ∙ sym (+ᵖ-zero (minus (parity n (λ q. θ j q && u q) ⊕ v j))))
     (λ q. refl) (λ q. refl)
+
+-- ---- a Pauli before a code
+-- the signs alone change
+pub pauli-then : (u v : Bool) (k : Clifford) → then (pauliCode u v) k ≡ record { class = k .class; sx = v ⊕ k .sx; sz = u ⊕ k .sz }
+pauli-then u v = onClifford _ (λ a b c d e. cliffords 7
+    (λ u v a b c d e. then (pauliCode u v) (fromFive a b c d e))
+    (λ u v a b c d e. record { class = (fromFive a b c d e) .class; sx = v ⊕ d; sz = u ⊕ e }) tt u v a b c d e)
+
+-- code 2 before the code, or nothing
+pub z-before : (b : Bool) (k : Clifford) → cond b (then (cliffordOf 2) k) k ≡ then (pauliCode false b) k
+z-before true k = refl
+z-before false k = sym (pauli-then false false k)
+
+-- so a low code stays low
+pub pauli-low : (u v : Bool) (k : Clifford) → codeOf k < 12 → codeOf (then (pauliCode u v) k) < 12
+pauli-low u v k l = subst (λ m. codeOf m < 12) (sym (pauli-then u v k))
+    (omega (arith, digit-lt (v ⊕ k .sx), digit-lt (u ⊕ k .sz)))
 
 -- ---- one place
 pub act-single : (n : ℕ) (c : ℕ → Clifford) (l : Letter) (a : ℕ) (s : Bool) → a < n

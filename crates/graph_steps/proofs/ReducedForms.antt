@@ -69,7 +69,7 @@ module _ (n : ℕ) (r : GraphRecord) (S : Simple n (r .graph)) (F : ReducedForm 
 
   pub form-x : (j q : ℕ) → q < n → (rowsOf n r j) .x q ≡ cond (bitC (r .codes q)) (r .graph j q) (eqb q j)
   unfolding act
-  form-x j q l = low-x ((r .codes q) .class) ((r .codes q) .sx) ((r .codes q) .sz) (r .graph j q) (eqb q j) (F .settled .low q l)
+  form-x j q l = low-x ((r .codes q) .class) ((r .codes q) .sx) ((r .codes q) .sz) (r .graph j q) (eqb q j) (F .low q l)
 
   x-rotated : (j q : ℕ) → q < n → rotated q ≡ true → (rowsOf n r j) .x q ≡ r .graph j q
   x-rotated j q l e = form-x j q l ∙ ap (λ b. cond b (r .graph j q) (eqb q j)) e
@@ -83,7 +83,7 @@ module _ (n : ℕ) (r : GraphRecord) (S : Simple n (r .graph)) (F : ReducedForm 
     where
       go : (b : Bool) → r .graph q j ≡ b → b ≡ false
       go false h = refl
-      go true h = absurd (omega (arith, F .settled .smaller q j l e h))
+      go true h = absurd (omega (arith, F .smaller q j l e h))
 
   pub apart : (q j : ℕ) → q < n → j < n → bitC (r .codes q) ≡ true → bitC (r .codes j) ≡ true → r .graph q j ≡ false
   apart q j l m e f = elim (lt-or-ge j q) [
@@ -137,7 +137,7 @@ module _ (n : ℕ) (r : GraphRecord) (S : Simple n (r .graph)) (F : ReducedForm 
         ys = λ q. isYZ ((r .codes q) .class);
         minuses = λ q. (r .codes q) .sx;
         code = λ q. elim (lt-or-ge q n) [
-          | inl l ↦ low-code ((r .codes q) .class) ((r .codes q) .sx) ((r .codes q) .sz) (F .settled .low q l) (F .even q l)
+          | inl l ↦ low-code ((r .codes q) .class) ((r .codes q) .sx) ((r .codes q) .sz) (F .low q l) (F .even q l)
           | inr l ↦ F .above q l ∙ sym (ap (λ k. withHadamard (bitC k) (plainCode (isYZ (k .class)) (k .sx))) (F .above q l))
         ];
         rotated = λ q l. (depends q l, λ D. dependent q l D (rotated q) refl);

@@ -2,7 +2,7 @@
 use clifford::Code;
 use graph_cuts::cut_off;
 use graph_cuts::face_z;
-use graph_moves::normalise;
+use graph_settling::normalise;
 use operations::Outcome;
 use pauli::Letter;
 use pauli::x_bit;
