@@ -4,7 +4,6 @@ use mathlib.Core.Bool.{_&&_, Bool, and-comm, and-false, false, true}
 use mathlib.Core.Logic.{_≢_}
 use mathlib.Core.Path.{ap, ap₂, refl, subst, sym, _∙_, _≡_}
 use Prim.Native.Nat.{_<_, ℕ, _≤_}
-use native.Mathlib.Omega.{arith}
 use Rattle.clifford.proofs.CliffordLaws.{cliffords}
 use Rattle.clifford.proofs.VectorLaws.{act-identity, act-mul, act-scaled, act-then}
 use Rattle.clifford.specs.Clifford.{Clifford, bitC, identityClifford, then}
@@ -13,13 +12,13 @@ use Rattle.graph.specs.Graph.{Graph, Simple, graphGenerator}
 use Rattle.operations.proofs.CzGroups.{cz-proper}
 use Rattle.operations.proofs.GroupAlone.{reduced-of-group}
 use Rattle.operations.specs.Cz.{cz, czRows, zAt}
-use Rattle.pauli.specs.Pauli.{Pauli, identity, minus, mul, scaled}
+use Rattle.pauli.specs.Pauli.{Pauli, minus, mul, scaled}
 use Rattle.record.proofs.Maximality.{inclusion-same}
 use Rattle.record.proofs.ReducedRecords.{record-proper}
 use Rattle.record.specs.Records.{GraphRecord, rowsOf}
 use Rattle.record.specs.Reduced.{reduced}
 use Rattle.stabilizer.proofs.GroupLaws.{in-identity, in-mul, in-row}
-use Rattle.stabilizer.specs.Groups.{Commuting, InGroup, Proper, SameGroup, chosen}
+use Rattle.stabilizer.specs.Groups.{InGroup, Proper, SameGroup, chosen}
 use Rattle.words.proofs.Finite.{bits}
 use Rattle.words.proofs.Sums.{bitMonoid, fold-unit}
 use Rattle.words.specs.Bits.{Word, parity, _⊕_}
@@ -82,7 +81,8 @@ module _ (n : ℕ) (r : GraphRecord) (S : Simple n (r .graph)) (F : ReducedForm 
       act-then n (λ q. pauliCode false (czTurned r a b q)) c (graphGenerator (joinedBy θ A B) j)
       ∙ ap (act n c)
       (pauli-generator n (λ q. false) (czTurned r a b) (joinedBy θ A B) j l
-      ∙ ap (λ v. scaled (minus (v ⊕ czTurned r a b j)) (graphGenerator (joinedBy θ A B) j)) (no-parity (joinedBy θ A B) j))
+      ∙ ap (λ v. scaled (minus (v ⊕ czTurned r a b j)) (graphGenerator (joinedBy θ A B) j))
+      (no-parity (joinedBy θ A B) j))
       ∙ act-scaled n c (minus (czTurned r a b j)) (graphGenerator (joinedBy θ A B) j)
       ∙ ap (scaled (minus (czTurned r a b j))) (generator-after j)
       ∙ same-products n (R j) (zAt a) (zAt b) ga gb
@@ -175,6 +175,7 @@ module _ (n : ℕ) (r : GraphRecord) (S : Simple n (r .graph)) (F : ReducedForm 
 
   pub cz-reduced-form : reduced n (czRows a b (rowsOf n r)) ≡ czRecord r a b
   cz-reduced-form =
-      sym (reduced-of-group n (rowsOf n (czRecord r a b)) (czRows a b R) (record-proper n (czRecord r a b) cz-simple) proper
+      sym (reduced-of-group n (rowsOf n (czRecord r a b)) (czRows a b R)
+      (record-proper n (czRecord r a b) cz-simple) proper
       cz-same)
       ∙ form-reduced n (czRecord r a b) cz-simple cz-form

@@ -1,7 +1,7 @@
 -- Vertices out of place, by the numbers in the buffers: what a step at the first of them finds, and that a record
 -- without any has the reduced form.
 -- Assumes nothing.
-use mathlib.Core.Bool.{_&&_, Bool, and-false, false, not, or-true, true, true≢false, _||_}
+use mathlib.Core.Bool.{_&&_, Bool, false, not, or-true, true, true≢false, _||_}
 use mathlib.Core.List.{List}
 use mathlib.Core.Logic.{inl, inr, _⊎_}
 use mathlib.Core.Path.{ap, ap₂, refl, subst, sym, _∙_, _≡_}
@@ -12,7 +12,6 @@ use lib.Dec.{eqb, leb, ltb}
 use lib.ListN.{getD, length}
 use lib.Pow.{pow-mono}
 use borrow.Author.Tests.{
-  eq-eqb,
   eqb-false,
   eqb-true,
   le-leb,
@@ -26,7 +25,7 @@ use borrow.Author.Tests.{
   not-true,
 }
 use Rattle.clifford.proofs.CliffordLaws.{codeOf-cliffordOf}
-use Rattle.clifford.specs.Clifford.{ZY, bitC, bitD, classOf, cliffordOf}
+use Rattle.clifford.specs.Clifford.{bitC, bitD, classOf, cliffordOf}
 use Rattle.graph.specs.Graph.{Simple}
 use Rattle.operations.proofs.UnrefusedRecords.{unrefused-above, unrefused-simple}
 use Rattle.operations.specs.InPlace.{Unrefused, recordIn}
@@ -59,7 +58,8 @@ number-D k l = true-sameBit _ _ (every-at 24
 
 -- ---- a word without bits at and above a place
 none-from : (w j q : ℕ) → w / 2 ^ j ≡ 0 → j ≤ q → bit w q ≡ false
-none-from w j q e l = ap (bit w) {x = q} {y = j + (q - j)} (omega arith) ∙ sym (bit-shr w j (q - j)) ∙ ap (λ v. bit v (q - j)) e
+none-from w j q e l = ap (bit w) {x = q} {y = j + (q - j)} (omega arith) ∙ sym (bit-shr w j (q - j))
+    ∙ ap (λ v. bit v (q - j)) e
     ∙ zero-bit (q - j)
 
 module _ (words codes : List ℕ) (U : Unrefused (recordIn words codes)) where

@@ -1,7 +1,7 @@
 -- Codes acting on rows place by place: Pauli codes, a row that acts at one place, and rows of I and Z.
 -- Assumes nothing.
-use mathlib.Core.Bool.{_&&_, Bool, and-comm, and-false, cond, false, true, true≢false}
-use mathlib.Core.Path.{ap, ap₂, refl, subst, sym, _∙_, _≡_}
+use mathlib.Core.Bool.{_&&_, Bool, and-comm, cond, false, true}
+use mathlib.Core.Path.{ap, refl, subst, sym, _∙_, _≡_}
 use Prim.Native.Nat.{_<_, ℕ}
 use native.Mathlib.Decide.{ℕ-discrete}
 use native.Mathlib.Omega.{arith}
@@ -13,18 +13,7 @@ use Rattle.graph.specs.Graph.{Graph, graphGenerator}
 use Rattle.operations.specs.Measurement.{single}
 use Rattle.pauli.proofs.PauliLaws.{Pauli-path, letter-bits}
 use Rattle.pauli.proofs.PhaseLaws.{+ᵖ-comm, +ᵖ-zero, minus-⊕, phaseMonoid, phases}
-use Rattle.pauli.specs.Pauli.{
-  _+ᵖ_,
-  Pauli,
-  i⁰,
-  letter,
-  letterAt,
-  minus,
-  scaled,
-  sumPhase,
-  xBit,
-  zBit,
-}
+use Rattle.pauli.specs.Pauli.{_+ᵖ_, Pauli, i⁰, letter, minus, scaled, sumPhase, xBit, zBit}
 use Rattle.pauli.specs.declared.Letter.{Letter}
 use Rattle.pauli.specs.declared.Letter.the-variants.{I}
 use Rattle.words.proofs.BitLaws.{digit-lt}
@@ -74,7 +63,8 @@ pauli-generator n u v θ j l =
 
 -- ---- a Pauli before a code
 -- the signs alone change
-pub pauli-then : (u v : Bool) (k : Clifford) → then (pauliCode u v) k ≡ record { class = k .class; sx = v ⊕ k .sx; sz = u ⊕ k .sz }
+pub pauli-then : (u v : Bool) (k : Clifford) → then (pauliCode u v) k
+    ≡ record { class = k .class; sx = v ⊕ k .sx; sz = u ⊕ k .sz }
 pauli-then u v = onClifford _ (λ a b c d e. cliffords 7
     (λ u v a b c d e. then (pauliCode u v) (fromFive a b c d e))
     (λ u v a b c d e. record { class = (fromFive a b c d e) .class; sx = v ⊕ d; sz = u ⊕ e }) tt u v a b c d e)
@@ -97,7 +87,8 @@ unfolding act
 act-single n c l a s h =
     Pauli-path
     (ap (λ t. minus s +ᵖ t)
-    (fold-one i⁰ _+ᵖ_ phaseMonoid n a h (λ q k d. ap (imagePhase (c q)) (ap (λ b. letter (b && zBit l) (b && xBit l)) (other-place d)))
+    (fold-one i⁰ _+ᵖ_ phaseMonoid n a h
+    (λ q k d. ap (imagePhase (c q)) (ap (λ b. letter (b && zBit l) (b && xBit l)) (other-place d)))
     ∙ ap (imagePhase (c a)) (here (same-place a)))
     ∙ +ᵖ-comm (minus s) (imagePhase (c a) l))
     (λ q. bit-at zBit refl q (ℕ-discrete q a)) (λ q. bit-at xBit refl q (ℕ-discrete q a))
@@ -108,7 +99,8 @@ act-single n c l a s h =
     bit-at : (f : Letter → Bool) → f I ≡ false → (q : ℕ) → Dec (q ≡ a)
         → f (image (c q) (letter (eqb q a && zBit l) (eqb q a && xBit l))) ≡ (eqb q a && f (image (c a) l))
     bit-at f none q (yes e) =
-        subst (λ v. f (image (c v) (letter (eqb v a && zBit l) (eqb v a && xBit l))) ≡ (eqb v a && f (image (c a) l))) (sym e)
+        subst (λ v. f (image (c v) (letter (eqb v a && zBit l) (eqb v a && xBit l))) ≡ (eqb v a && f (image (c a) l)))
+        (sym e)
         (ap (λ m. f (image (c a) m)) (here (same-place a)) ∙ ap (λ b. b && f (image (c a) l)) (sym (same-place a)))
     bit-at f none q (no d) =
         ap (λ b. f (image (c q) (letter (b && zBit l) (b && xBit l)))) (other-place d) ∙ none

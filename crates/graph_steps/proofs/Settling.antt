@@ -3,9 +3,8 @@
 use mathlib.Core.Bool.{_&&_, Bool, and-false, cond, false, not, true}
 use mathlib.Core.List.{[], _∷_}
 use mathlib.Core.Logic.{_≢_}
-use mathlib.Core.Path.{ap, ap₂, refl, subst, sym, _∙_, _≡_}
+use mathlib.Core.Path.{ap, ap₂, refl, sym, _∙_, _≡_}
 use Prim.Native.Nat.{_*_, _+_, _-_, _<_, ℕ}
-use native.Mathlib.Decide.{ℕ-discrete}
 use native.Mathlib.Omega.{arith}
 use lib.Dec.{eqb}
 use Rattle.clifford.specs.Clifford.{
@@ -44,7 +43,8 @@ module _ (n : ℕ) (r : GraphRecord) (G : Simple n (r .graph)) where
   places f = total (λ q. n - q) n f
 
   -- the sum over the vertices with C = 1 falls, whatever becomes of class 5
-  falls : (s : GraphRecord) → places (λ q. bitC (s .codes q)) < places (λ q. bitC (r .codes q)) → unrest n s < unrest n r
+  falls : (s : GraphRecord) → places (λ q. bitC (s .codes q)) < places (λ q. bitC (r .codes q))
+      → unrest n s < unrest n r
   unfolding unrest
   falls s l = first-less n (places (λ q. bitC (s .codes q))) (places (λ q. bitC (r .codes q))) _ _ l (total-le n _)
 
@@ -141,10 +141,12 @@ module _ (n : ℕ) (r : GraphRecord) (G : Simple n (r .graph)) where
     new-five : (q : ℕ) → isZY ((complementRecord r j .codes q) .class) ≡ put (λ q. isZY ((r .codes q) .class)) j false q
     new-five q =
         put-all (λ q b. isZY ((recoded (r .graph) j (r .codes) q) .class) ≡ b) (λ q. isZY ((r .codes q) .class)) j false
-        (ap (λ b. isZY ((cond b (then (cliffordOf 13) (r .codes j)) (cond (r .graph j j) (then (cliffordOf 6) (r .codes j)) (r .codes j))) .class))
+        (ap (λ b. isZY ((cond b (then (cliffordOf 13) (r .codes j))
+        (cond (r .graph j j) (then (cliffordOf 6) (r .codes j)) (r .codes j))) .class))
         (same-place j)
         ∙ ap (λ c. isZY (classWith (imageX c) (letterProduct (imageX c) (imageZ c)))) five) q
-        (λ d. ap (λ b. isZY ((cond b (then (cliffordOf 13) (r .codes q)) (cond (r .graph j q) (then (cliffordOf 6) (r .codes q)) (r .codes q))) .class))
+        (λ d. ap (λ b. isZY ((cond b (then (cliffordOf 13) (r .codes q))
+        (cond (r .graph j q) (then (cliffordOf 6) (r .codes q)) (r .codes q))) .class))
         (other-place d) ∙ go d (r .graph j q) refl)
       where
         go : q ≢ j → (b : Bool) → r .graph j q ≡ b
@@ -154,7 +156,8 @@ module _ (n : ℕ) (r : GraphRecord) (G : Simple n (r .graph)) where
           where
             after : q ≢ j → r .graph j q ≡ true → bitC (then (cliffordOf 6) (r .codes q)) ≡ false
             after d h =
-                sym (ap₂ (λ a b. bitC (cond a (then (cliffordOf 13) (r .codes q)) (cond b (then (cliffordOf 6) (r .codes q)) (r .codes q))))
+                sym (ap₂ (λ a b. bitC (cond a (then (cliffordOf 13) (r .codes q))
+                (cond b (then (cliffordOf 6) (r .codes q)) (r .codes q))))
                 (other-place d) h)
                 ∙ ap (λ f. f q) new-C ∙ put-other ((stateOf r) .C) j true q d ∙ kept q h
 
@@ -164,7 +167,8 @@ module _ (n : ℕ) (r : GraphRecord) (G : Simple n (r .graph)) where
         omega (
           arith,
           ap (λ m. m * (n + 1)) same,
-          total-cong (λ q. 1) n (λ q. isZY ((complementRecord r j .codes q) .class)) (put (λ q. isZY ((r .codes q) .class)) j false) (λ q l. new-five q),
+          total-cong (λ q. 1) n (λ q. isZY ((complementRecord r j .codes q) .class))
+              (put (λ q. isZY ((r .codes q) .class)) j false) (λ q l. new-five q),
           total-put (λ q. 1) n (λ q. isZY ((r .codes q) .class)) j false hj,
           ap {B = ℕ} (λ c. cond (isZY c) 1 0) five,
         )
@@ -190,7 +194,8 @@ module _ (n : ℕ) (r : GraphRecord) (G : Simple n (r .graph)) where
         arith,
         ap (λ m. (m * (n + 1) + total (λ q. 1) n (λ q. isZY ((signMoved r a .codes q) .class))) * (n + 1)) same-C,
         ap (λ m. (places (λ q. bitC (r .codes q)) * (n + 1) + m) * (n + 1)) same-ZY,
-        total-cong (λ q. 1) n (λ q. (signMoved r a .codes q) .sz) (put (λ q. (r .codes q) .sz) a false) (λ q l. signs q),
+        total-cong (λ q. 1) n (λ q. (signMoved r a .codes q) .sz) (put (λ q. (r .codes q) .sz) a false)
+            (λ q l. signs q),
         total-put (λ q. 1) n (λ q. (r .codes q) .sz) a false ha,
         ap {B = ℕ} (λ b. cond b 1 0) e,
       )
@@ -207,7 +212,8 @@ module _ (n : ℕ) (r : GraphRecord) (G : Simple n (r .graph)) where
       same-C = total-cong (λ q. n - q) n (λ q. bitC (signMoved r a .codes q)) (λ q. bitC (r .codes q))
           (λ q l. ap bitC (after q))
 
-      same-ZY : total (λ q. 1) n (λ q. isZY ((signMoved r a .codes q) .class)) ≡ total (λ q. 1) n (λ q. isZY ((r .codes q) .class))
+      same-ZY : total (λ q. 1) n (λ q. isZY ((signMoved r a .codes q) .class))
+          ≡ total (λ q. 1) n (λ q. isZY ((r .codes q) .class))
       same-ZY = total-cong (λ q. 1) n (λ q. isZY ((signMoved r a .codes q) .class)) (λ q. isZY ((r .codes q) .class))
           (λ q l. ap (λ k. isZY (k .class)) (after q))
 

@@ -4,7 +4,7 @@ use mathlib.Core.Bool.{Bool, cond, false, true}
 use Prim.Native.Nat.{_*_, _+_, _-_, ℕ}
 use Rattle.clifford.specs.Clifford.{Class, XY, XZ, YX, YZ, ZX, ZY, bitC}
 use Rattle.record.specs.Records.{GraphRecord}
-use Rattle.words.specs.Bits.{Word, digit, fold}
+use Rattle.words.specs.Bits.{Word, fold}
 
 -- the weights of the places below n where the word is 1
 unfoldable pub total : (ℕ → ℕ) → ℕ → Word → ℕ

@@ -69,7 +69,8 @@ pub fn contradicted(neighbours: &[u64], codes: &[u8], pauli: u8, q: usize, bit: 
 // graph, and the vertex is cut off.
 fn measure_open(neighbours: &mut [u64], codes: &mut [u8], l: Letter, q: usize, bit: bool)
     requires { ⌜ Unrefused (recordIn (now neighbours) (now codes)) × (q < length (now neighbours)) ⌝ }
-    requires { ⌜ isDetermined (length (now neighbours)) (heldRows (recordIn (now neighbours) (now codes))) l q ≡ false ⌝ }
+    requires { ⌜ isDetermined (length (now neighbours)) (heldRows (recordIn (now neighbours) (now codes))) l q
+        ≡ false ⌝ }
     requires { ⌜ (l ≡ I → ⊥) ⌝ }
     ensures { λ r. ⌜ GroupMeasured (now (neighbours .entry)) (now (codes .entry)) l q bit
         (now (neighbours .exit)) (now (codes .exit)) ⌝ }
@@ -126,7 +127,14 @@ pub fn measure_record(
         (now (neighbours .exit)) (now (codes .exit)) ⌝ }
 {
     let known = read_off(neighbours, codes, pauli, q);
-    measure_group(neighbours, codes, letter_named(pauli), q, bit, known.determined);
+    measure_group(
+        neighbours,
+        codes,
+        letter_named(pauli),
+        q,
+        bit,
+        known.determined,
+    );
     normalise(neighbours, codes);
     outcome_of(known, bit)
 }

@@ -23,8 +23,7 @@ where-true-requires c κs = search needs
 
 put-before-requires : tie.Need-put-before-requires
 put-before-requires c κs =
-    let begun = c .before .before .before .before .before .before in
-    (
+    let begun = c .before .before .before .before .before .before in (
       unrefused-codes _ _ (begun .pre .0),
       (turned-below _ _ (begun .pre .0) (begun .args .q) (begun .args .t) _ (c .where-true .ensures), lit< tt),
     )

@@ -30,8 +30,7 @@ complement-record-requires c κs =
     let branch = at-smallest .before .before in
     let begun = branch .before .before .before .before .before in
     let start = begun .pre in
-    let x = branch .before .sends .ensures .0 (branch .if1 .taken) in
-    (
+    let x = branch .before .sends .ensures .0 (branch .if1 .taken) in (
       start .0 .0,
       neighbour-below _ _ (start .0 .0) (begun .args .q) (start .0 .1) (begun .args .l) _
           (at-smallest .smallest .ensures .0) (start .1 x),
@@ -52,8 +51,7 @@ returns c =
     let start = begun .pre in
     let x = branch .before .sends .ensures .0 (branch .if1 .taken) in
     let e = at-smallest .smallest .ensures .0 in
-    let R = at-complement .complement-record .ensures in
-    (
+    let R = at-complement .complement-record .ensures in (
       faces-y-kept _ _ (start .0 .0) (begun .args .q) (start .0 .1) (begun .args .l) _ e (start .1 x) _ _ R,
       faces-y _ _ (start .0 .0) (begun .args .q) (start .0 .1) (begun .args .l) _ e (start .1 x) _ _ R x,
     )

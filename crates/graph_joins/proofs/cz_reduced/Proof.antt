@@ -57,8 +57,7 @@ join-sets-requires : tie.Need-join-sets-requires
 join-sets-requires c κs =
     let at-b = c .before .before .before .before in
     let at-a = at-b .before .before in
-    let start = at-a .before .before .before .before .before .before .pre in
-    (
+    let start = at-a .before .before .before .before .before .before .pre in (
       unrefused-short _ _ (start .0),
       reach-fits _ _ (start .0) (start .1 .0) _ (start .1 .1 .0) _ (at-a .reach-word .ensures),
       reach-fits _ _ (start .0) (start .1 .0) _ (start .1 .1 .1) _ (at-b .reach-word2 .ensures),
@@ -72,14 +71,13 @@ put-before-requires c κs =
     let at-b = at-minus-a .before in
     let at-a = at-b .before .before in
     let begun = at-a .before .before .before .before .before .before in
-    let start = begun .pre in
-    (
+    let start = begun .pre in (
       unrefused-codes _ _ (start .0),
       (
         turned-fits _ _ (start .0) (start .1 .0) _ _ (start .1 .1 .0) (start .1 .1 .1) (start .1 .1 .2) _
-          (turned-by-calls (heldRecord (recordIn (begun .args .neighbours .now) (begun .args .codes .now)))
-          (begun .args .a) (begun .args .b) _ _ _ (at-a .reach-word .ensures) (at-b .reach-word2 .ensures)
-          (at-minus-a .reach-minus .ensures) (at-minus-b .reach-minus2 .ensures) (at-turned .turned-word .ensures)),
+            (turned-by-calls (heldRecord (recordIn (begun .args .neighbours .now) (begun .args .codes .now)))
+            (begun .args .a) (begun .args .b) _ _ _ (at-a .reach-word .ensures) (at-b .reach-word2 .ensures)
+            (at-minus-a .reach-minus .ensures) (at-minus-b .reach-minus2 .ensures) (at-turned .turned-word .ensures)),
         lit< tt,
       ),
     )

@@ -52,7 +52,8 @@ same-length c = c .before .loop .inv .kept .long
 
 same-length-2 : tie.Need-same-length-2 Inv-loop μ-loop
 same-length-2 c =
-    kept-codes-long _ _ _ _ (c .before .before .before .before .before .before .before .pre) (c .before .loop .inv .kept)
+    kept-codes-long _ _ _ _ (c .before .before .before .before .before .before .before .pre)
+    (c .before .loop .inv .kept)
 
 returns : tie.Need-returns Inv-loop μ-loop
 returns c =

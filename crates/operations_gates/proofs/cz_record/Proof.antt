@@ -10,8 +10,7 @@ cz-reduced-requires : tie.Need-cz-reduced-requires
 cz-reduced-requires c κs =
     let at-normalise = c .before .before .before .before .before .before in
     let start = at-normalise .before .before .before .before .before .pre in
-    let done = at-normalise .normalise .ensures in
-    (
+    let done = at-normalise .normalise .ensures in (
       done .kept .unrefused,
       (
         reduced-here _ _ _ _ (start .0) done,

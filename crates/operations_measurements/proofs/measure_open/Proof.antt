@@ -8,8 +8,7 @@ use Rattle.operations_measurements.proofs.measure_open.Tie as tie
 face-z-requires : tie.Need-face-z-requires
 face-z-requires c κs =
     let begun = c .before .before .before .before in
-    let start = begun .pre in
-    (
+    let start = begun .pre in (
       start .0,
       (
         open-neighbour _ _ (start .0 .0) (begun .args .q) (start .0 .1) (begun .args .l) (start .1 .1) (start .1 .0),
