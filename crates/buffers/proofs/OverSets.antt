@@ -1,6 +1,6 @@
 -- A loop over the places that a word names, smallest first: each is changed once, and the others stay.
 -- Assumes nothing.
-use mathlib.Core.Bool.{Bool, false, true, true≢false}
+use mathlib.Core.Bool.{false, true, true≢false}
 use mathlib.Core.List.{List}
 use mathlib.Core.Logic.{inl, inr, _≢_}
 use mathlib.Core.Path.{ap, refl, subst, sym, _∙_, _≡_}
@@ -18,7 +18,6 @@ use Rattle.words.proofs.Places.{other-place, same-place}
 use Rattle.words.proofs.Sums.{lt-or-ge}
 use Rattle.words.proofs.Trailing.{trailing-set}
 use Rattle.words.specs.Bits.{bit, _⊕_}
-use Rattle.words.specs.Search.{IsFirst}
 
 -- of the places in `all` those in `rest` are still to come, and hold what they held; P holds at all others
 pub record Over (P : ℕ → ℕ → Type 0) (all : ℕ) (old new : List ℕ) (rest : ℕ) : Type 0 where
@@ -60,7 +59,8 @@ module _ (P : ℕ → ℕ → Type 0) (all : ℕ) (old new : List ℕ) (rest : �
     over-step v rest′ p f =
         record {
           long = length-set new i v ∙ O .long;
-          below = lt-of-bits (length old) rest′ (λ q l. other q (λ d. none q l d) ∙ bit-above (length old) rest (O .below) q l);
+          below = lt-of-bits (length old) rest′
+              (λ q l. other q (λ d. none q l d) ∙ bit-above (length old) rest (O .below) q l);
           named = λ q h. elim (ℕ-discrete q i) [
             | yes d ↦ absurd (true≢false (sym h ∙ ap (bit rest′) d ∙ here))
             | no d ↦ O .named q (sym (other q d) ∙ h)
@@ -77,7 +77,8 @@ module _ (P : ℕ → ℕ → Type 0) (all : ℕ) (old new : List ℕ) (rest : �
         }
       where
         other : (q : ℕ) → q ≢ i → bit rest′ q ≡ bit rest q
-        other q d = ap (λ m. bit m q) f ∙ bit-flip rest i q ∙ ap (λ b. bit rest q ⊕ b) (other-place d) ∙ ⊕-zero (bit rest q)
+        other q d = ap (λ m. bit m q) f ∙ bit-flip rest i q ∙ ap (λ b. bit rest q ⊕ b) (other-place d)
+            ∙ ⊕-zero (bit rest q)
 
         here : bit rest′ i ≡ false
         here = ap (λ m. bit m i) f ∙ bit-flip rest i i ∙ ap (λ b. bit rest i ⊕ b) (same-place i)

@@ -3,7 +3,7 @@
 use mathlib.Core.Bool.{_&&_, Bool, and-false, false, not, true}
 use mathlib.Core.List.{List}
 use mathlib.Core.Path.{ap, ap₂, refl, sym, _∙_, _≡_}
-use Prim.Native.Nat.{_<_, _^_, ℕ, _≤_}
+use Prim.Native.Nat.{_^_, ℕ, _≤_}
 use native.Mathlib.Decide.{ℕ-discrete}
 use lib.Bits.{bitXor}
 use lib.Count.{trailingZeros}

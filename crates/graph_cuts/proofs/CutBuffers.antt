@@ -2,7 +2,7 @@
 -- Assumes nothing.
 use mathlib.Core.Bool.{_&&_, Bool, and-false, cond, false, not, true}
 use mathlib.Core.List.{List}
-use mathlib.Core.Path.{ap, ap₂, fun-ext, refl, subst, sym, _∙_, _≡_}
+use mathlib.Core.Path.{ap, fun-ext, refl, subst, sym, _∙_, _≡_}
 use Prim.Native.Nat.{_*_, _+_, _<_, _^_, ℕ, _≤_}
 use lib.Dec.{eqb}
 use lib.ListN.{getD, length, length-set, set}
@@ -13,16 +13,15 @@ use Rattle.clifford.specs.Clifford.{cliffordOf, codeOf, then}
 use Rattle.clifford.specs.Vectors.{codesOf}
 use Rattle.graph.specs.Graph.{Simple}
 use Rattle.graph.specs.NeighbourWords.{SameGraph, graphIn}
-use Rattle.graph_steps.proofs.CzSteps.{z-before}
+use Rattle.graph_steps.proofs.Places.{z-before}
 use Rattle.graph_steps.specs.Steps.{cutOff, hadamardCode, pauliCode}
 use Rattle.operations.proofs.UnrefusedRecords.{unrefused-long, unrefused-simple}
 use Rattle.operations.specs.InPlace.{Rewritten, Unrefused, recordIn}
-use Rattle.record.proofs.AcceptedRecords.{accepted-record}
 use Rattle.record.specs.Lent.{heldRecord}
 use Rattle.record.specs.Records.{GraphRecord}
-use Rattle.words.proofs.BitLaws.{bit-above, lt-of-bits, wordOf-bit}
+use Rattle.words.proofs.BitLaws.{lt-of-bits, wordOf-bit}
 use Rattle.words.proofs.Places.{put-all}
-use Rattle.words.specs.Bits.{bit, digit, put, wordOf}
+use Rattle.words.specs.Bits.{bit, digit, wordOf}
 use Rattle.graph_cuts.proofs.Parting.{partedFrom}
 
 -- a Hadamard's number
@@ -31,7 +30,8 @@ hadamard-number false = refl
 hadamard-number true = refl
 
 pub hadamard-by-calls : (t : Bool) (code : ℕ) {a r : ℕ} → a ≡ digit t
-    → r ≡ codeOf (then (cliffordOf (8 + 2 * a)) (cliffordOf code)) → r ≡ codeOf (then (hadamardCode t) (cliffordOf code))
+    → r ≡ codeOf (then (cliffordOf (8 + 2 * a)) (cliffordOf code))
+    → r ≡ codeOf (then (hadamardCode t) (cliffordOf code))
 hadamard-by-calls t code ea e =
     e ∙ ap (λ k. codeOf (then k (cliffordOf code))) (ap (λ a. cliffordOf (8 + 2 * a)) ea ∙ hadamard-number t)
 

@@ -27,10 +27,10 @@ use Rattle.words.proofs.Places.{other-place, same-place}
 use Rattle.words.proofs.Sums.{lt-or-ge}
 use Rattle.words.proofs.Trailing.{trailing-set}
 use Rattle.words.specs.Bits.{bit}
-use Rattle.words.specs.Search.{IsFirst}
 use Rattle.graph_cuts.proofs.SentLetters.{six-x, third, thirteen-z, y-not-x}
 
-module _ (words codes : List ℕ) (U : Unrefused (recordIn words codes)) (q : ℕ) (hq : q < length words) (l : Letter) where
+module _ (words codes : List ℕ) (U : Unrefused (recordIn words codes)) (q : ℕ) (hq : q < length words)
+    (l : Letter) where
   abbrev n : ℕ
   n = length words
 
@@ -47,7 +47,8 @@ module _ (words codes : List ℕ) (U : Unrefused (recordIn words codes)) (q : �
   module _ (k : ℕ) (e : k ≡ trailingZeros 64 (getD words q 0)) (some-neighbour : getD words q 0 ≡ 0 → ⊥) where
     edge : bit (getD words q 0) k ≡ true
     edge = ap (bit (getD words q 0)) e
-        ∙ trailing-set 64 (getD words q 0) (lt-of-lt-of-le below (pow-mono (unrefused-short words codes U))) some-neighbour
+        ∙ trailing-set 64 (getD words q 0) (lt-of-lt-of-le below (pow-mono (unrefused-short words codes U)))
+        some-neighbour
         .passes
 
     pub neighbour-below : k < length words
@@ -65,8 +66,10 @@ module _ (words codes : List ℕ) (U : Unrefused (recordIn words codes)) (q : �
         where
           code : codesOf codes′ q ≡ then (cliffordOf 6) (r .codes q)
           code = ap (λ g. g .codes q) (complemented-held words codes U k neighbour-below words′ codes′ R)
-              ∙ ap₂ (λ a b. cond a (then (cliffordOf 13) (r .codes q)) (cond b (then (cliffordOf 6) (r .codes q)) (r .codes q)))
-              (other-place {i = q} {j = k} (λ d. true≢false (sym edge ∙ ap (bit (getD words q 0)) (sym d) ∙ simple .loopless q)))
+              ∙ ap₂ (λ a b. cond a (then (cliffordOf 13) (r .codes q))
+              (cond b (then (cliffordOf 6) (r .codes q)) (r .codes q)))
+              (other-place {i = q} {j = k}
+              (λ d. true≢false (sym edge ∙ ap (bit (getD words q 0)) (sym d) ∙ simple .loopless q)))
               (simple .symmetric k q ∙ edge)
 
   -- ---- at the vertex itself
@@ -77,12 +80,14 @@ module _ (words codes : List ℕ) (U : Unrefused (recordIn words codes)) (q : �
       where
         code : codesOf codes′ q ≡ then (cliffordOf 13) (r .codes q)
         code = ap (λ g. g .codes q) (complemented-held words codes U q hq words′ codes′ R)
-            ∙ ap (λ a. cond a (then (cliffordOf 13) (r .codes q)) (cond (r .graph q q) (then (cliffordOf 6) (r .codes q)) (r .codes q)))
+            ∙ ap (λ a. cond a (then (cliffordOf 13) (r .codes q))
+            (cond (r .graph q q) (then (cliffordOf 6) (r .codes q)) (r .codes q)))
             (same-place q)
 
 -- ---- one after the other
 module _ (words codes words₁ codes₁ : List ℕ) (K : Kept words codes words₁ codes₁) (q : ℕ) (l : Letter) where
-  pub faced-already : {t : Bool} → (t ≡ true) ↔ (image (codesOf codes₁ q) Z ≡ l) → t ≡ true → Faced words codes q l words₁ codes₁
+  pub faced-already : {t : Bool} → (t ≡ true) ↔ (image (codesOf codes₁ q) Z ≡ l) → t ≡ true
+      → Faced words codes q l words₁ codes₁
   faced-already h e = record { kept = K; sends-z = h .0 e }
 
   pub still-below : q < length words → q < length words₁

@@ -1,6 +1,6 @@
 -- The loop that removes the edges at a vertex.
 -- Assumes nothing.
-use mathlib.Core.Bool.{_&&_, Bool, and-false, and-true, false, not, true}
+use mathlib.Core.Bool.{_&&_, and-false, and-true, false, not, true}
 use mathlib.Core.List.{List}
 use mathlib.Core.Path.{ap, ap₂, refl, subst, sym, _∙_, _≡_}
 use Prim.Native.Nat.{_<_, _^_, ℕ, _≤_}
@@ -48,7 +48,8 @@ module _ (old : List ℕ) (q : ℕ) (S : Simple (length old) (graphIn old)) wher
         → v ≡ bitXor (getD new i 0) (2 ^ q) → rest′ ≡ bitXor rest (2 ^ i) → Parting old q (set new i v) rest′
     part-more s z i e v rest′ h f =
         over-step (PartedAt old q) (getD old q 0) old new rest P s z i e v rest′
-        (at i v (λ l d. value l ∙ ap₂ _⊕_ (ap (θ i) d ∙ S .symmetric i q ∙ P .named i named) (ap (λ m. eqb m q) d ∙ same-place q))
+        (at i v (λ l d. value l ∙ ap₂ _⊕_ (ap (θ i) d ∙ S .symmetric i q ∙ P .named i named)
+        (ap (λ m. eqb m q) d ∙ same-place q))
         (λ l d. value l ∙ ap (λ b. θ i l ⊕ b) (other-place d) ∙ ⊕-zero (θ i l))) f
       where
         named : bit rest i ≡ true

@@ -81,7 +81,8 @@ third k l i x z = go (k .class) l i x z
 pub six-x : (k : Clifford) → image (then (cliffordOf 6) k) X ≡ image k Y
 six-x k = go (k .class)
   where
-    go : (c : Class) → imageX (classWith (letterProduct (imageX c) (imageZ c)) (imageZ c)) ≡ letterProduct (imageX c) (imageZ c)
+    go : (c : Class) → imageX (classWith (letterProduct (imageX c) (imageZ c)) (imageZ c))
+        ≡ letterProduct (imageX c) (imageZ c)
     go XZ = refl
     go YZ = refl
     go ZX = refl
@@ -104,7 +105,8 @@ y-not-x k e = true≢false (sym (apart (k .class)) ∙ ap (λ l. clash l (image 
 pub thirteen-z : (k : Clifford) → image (then (cliffordOf 13) k) Z ≡ image k Y
 thirteen-z k = go (k .class)
   where
-    go : (c : Class) → imageZ (classWith (imageX c) (letterProduct (imageX c) (imageZ c))) ≡ letterProduct (imageX c) (imageZ c)
+    go : (c : Class) → imageZ (classWith (imageX c) (letterProduct (imageX c) (imageZ c)))
+        ≡ letterProduct (imageX c) (imageZ c)
     go XZ = refl
     go YZ = refl
     go ZX = refl

@@ -12,7 +12,8 @@ use Rattle.clifford.specs.Clifford.{cliffordOf, codeOf, then}
 use Rattle.clifford.specs.Vectors.{codesOf}
 use Rattle.graph.specs.Graph.{Simple}
 use Rattle.graph.specs.NeighbourWords.{SameGraph, graphIn}
-use Rattle.graph_steps.proofs.CzSteps.{cz-simple, turned-above, z-before}
+use Rattle.graph_steps.proofs.CzSteps.{cz-simple, turned-above}
+use Rattle.graph_steps.proofs.Places.{z-before}
 use Rattle.graph_steps.proofs.Reaching.{reach-below}
 use Rattle.graph_steps.specs.ReducedForms.{ReducedForm}
 use Rattle.graph_steps.specs.Steps.{czRecord, czTurned, joinedBy, pauliCode, reach, reachMinus}

@@ -1,6 +1,6 @@
 -- The loop that flips the edges between two sets.
 -- Assumes nothing.
-use mathlib.Core.Bool.{_&&_, Bool, false, _||_}
+use mathlib.Core.Bool.{_&&_, _||_}
 use mathlib.Core.List.{List}
 use mathlib.Core.Path.{ap, ap₂, sym, _∙_, _≡_}
 use Prim.Native.Nat.{_<_, _^_, ℕ, _≤_}
@@ -21,7 +21,8 @@ JoinedAt old a b i v = (l : ℕ) → bit v l ≡ joinedBy (graphIn old) (bit a) 
 abbrev pub Joining : List ℕ → ℕ → ℕ → List ℕ → ℕ → Type 0
 Joining old a b new rest = Over (JoinedAt old a b) (bitOr a b) old new rest
 
-pub join-start : (old : List ℕ) (a b : ℕ) → a < 2 ^ (length old) → b < 2 ^ (length old) → Joining old a b old (bitOr a b)
+pub join-start : (old : List ℕ) (a b : ℕ) → a < 2 ^ (length old) → b < 2 ^ (length old)
+    → Joining old a b old (bitOr a b)
 join-start old a b ha hb =
     over-start (JoinedAt old a b) old (bitOr a b)
     (lt-of-bits (length old) (bitOr a b) (λ q l. bit-or a b q

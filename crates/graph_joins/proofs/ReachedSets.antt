@@ -1,14 +1,14 @@
 -- The sets of a CZ and its signs, word by word.
 -- Assumes nothing.
-use mathlib.Core.Bool.{_&&_, Bool, cond, false, true}
+use mathlib.Core.Bool.{Bool, cond}
 use mathlib.Core.Path.{ap, ap₂, sym, _∙_, _≡_}
 use Prim.Native.Nat.{_<_, _^_, ℕ, _≤_}
-use lib.Bits.{bitAnd, bitXor}
+use lib.Bits.{bitXor}
 use lib.Dec.{eqb}
 use borrow.Author.Tests.{le-leb, lt-leb}
 use Rattle.clifford.specs.Clifford.{bitC, cliffordOf}
 use Rattle.graph_steps.proofs.OutOfPlace.{number-C}
-use Rattle.words.proofs.BitLaws.{bit-and, bit-single, bit-xor}
+use Rattle.words.proofs.BitLaws.{bit-single, bit-xor}
 use Rattle.words.specs.Bits.{bit, _⊕_}
 
 pub reached-own : (word code a r : ℕ) → code < 24 → code < 8 → r ≡ 2 ^ a

@@ -1,2 +1,3 @@
 pub mod TopBit
+pub mod SignBuffers
 pub mod SettlingLoop

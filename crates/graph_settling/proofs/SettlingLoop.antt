@@ -1,15 +1,15 @@
--- The loop that settles a record: the group is kept, and at its end no vertex is out of place.
+-- The loop of steps towards the reduced form: the group is kept, and at its end no vertex is out of place.
 -- Assumes nothing.
 use mathlib.Core.List.{List}
 use mathlib.Core.Logic.{inl, inr}
-use mathlib.Core.Path.{subst, sym, _≡_}
+use mathlib.Core.Path.{subst, _≡_}
 use Prim.Native.Nat.{_<_, ℕ, _≤_}
 use native.Mathlib.Omega.{arith}
 use lib.ListN.{length}
-use Rattle.graph_steps.proofs.Keeping.{kept-refl, kept-trans}
+use Rattle.graph_steps.proofs.Keeping.{form-normalised, kept-refl, kept-trans}
 use Rattle.graph_steps.proofs.OutOfPlace.{none-unsettled}
-use Rattle.graph_steps.specs.Kept.{Kept, Nearer, SettledInPlace, unsettled}
-use Rattle.graph_steps.specs.ReducedForms.{Settled}
+use Rattle.graph_steps.specs.Kept.{Kept, Nearer, Normalised, unsettled}
+use Rattle.graph_steps.specs.ReducedForms.{ReducedForm}
 use Rattle.graph_steps.specs.Settling.{distance}
 use Rattle.operations.specs.InPlace.{Unrefused, recordIn}
 use Rattle.record.specs.Lent.{heldRecord}
@@ -37,13 +37,11 @@ module _ (words codes words₁ codes₁ : List ℕ) (j : ℕ) (S : Settling word
     settling-less = subst (λ n. distance n (heldRecord (recordIn words₂ codes₂))
         < distance n (heldRecord (recordIn words₁ codes₁))) (S .kept .long) (N .less)
 
-  pub settling-end : length words₁ ≤ j → SettledInPlace words codes words₁ codes₁
-  settling-end l =
-      record {
-        kept = S .kept;
-        settled = subst (λ n. Settled n (heldRecord (recordIn words₁ codes₁))) (S .kept .long)
-            (elim (first-is (length words₁) (unsettled words₁ codes₁)) [
-              | inl F ↦ absurd (omega (arith, F .below, S .next, l))
-              | inr none ↦ none-unsettled words₁ codes₁ (S .kept .unrefused) none
-            ]);
-      }
+  pub settling-end : Unrefused (recordIn words codes) → length words₁ ≤ j → Normalised words codes words₁ codes₁
+  settling-end U l =
+      form-normalised words codes words₁ codes₁ U (S .kept)
+      (subst (λ n. ReducedForm n (heldRecord (recordIn words₁ codes₁))) (S .kept .long)
+      (elim (first-is (length words₁) (unsettled words₁ codes₁)) [
+        | inl F ↦ absurd (omega (arith, F .below, S .next, l))
+        | inr none ↦ none-unsettled words₁ codes₁ (S .kept .unrefused) none
+      ]))

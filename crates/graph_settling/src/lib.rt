@@ -1,14 +1,16 @@
-// Complementations and pivots that bring a record to the form of a reduced one, up to signs.
+// A record brought to its reduced form in its buffers, by steps on the graph and its codes that keep the group.
 use operations_rewriting::complement_record;
 use operations_rewriting::pivot_record;
+use operations_rewriting::recode;
 ghost use mathlib.Core.Bool.{_&&_, _||_, not, true};
 ghost use mathlib.Core.Path.{_≡_};
 ghost use Prim.Native.Nat.{ℕ, _+_, _/_, _<_, _^_};
 ghost use lib.Dec.{eqb, leb};
 ghost use lib.ListN.{length};
-ghost use Rattle.graph_steps.specs.Kept.{Nearer, SettledInPlace, unsettled};
-ghost use Rattle.operations.specs.InPlace.{Unrefused, recordIn};
-ghost use Rattle.words.specs.Bits.{bit};
+ghost use Rattle.graph_steps.specs.Kept.{Nearer, Normalised, unsettled};
+ghost use Rattle.graph_steps.specs.Steps.{signMoved};
+ghost use Rattle.operations.specs.InPlace.{Rewritten, Unrefused, recordIn};
+ghost use Rattle.words.specs.Bits.{bit, isOdd};
 ghost use Rattle.words.specs.Search.{first};
 
 // The largest set bit of a word that is not 0.
@@ -22,9 +24,9 @@ fn largest(w: u64) -> usize
 // Whether vertex j, with this code and this neighbour word, is out of place.
 fn is_unsettled(word: u64, code: u8, j: usize) -> bool
     requires { ⌜ j < 64 ⌝ }
-    ensures { λ r. ⌜ r ≡ (leb 12 code || (leb 8 code && not (eqb (word / 2 ^ j) 0))) ⌝ }
+    ensures { λ r. ⌜ r ≡ (leb 12 code || (isOdd code || (leb 8 code && not (eqb (word / 2 ^ j) 0)))) ⌝ }
 {
-    (12 <= code) | ((8 <= code) & (word >> j != 0))
+    (12 <= code) | ((code % 2 == 1) | ((8 <= code) & (word >> j != 0)))
 }
 
 // The smallest vertex out of place; n where there is none.
@@ -43,8 +45,17 @@ fn first_unsettled(neighbours: &[u64], codes: &[u8]) -> usize
     neighbours.len()
 }
 
+// X before the code of vertex a, and Z before those of its neighbours.
+fn move_sign(neighbours: &[u64], codes: &mut [u8], a: usize)
+    requires { ⌜ Unrefused (recordIn (now neighbours) (now codes)) × (a < length (now neighbours)) ⌝ }
+    ensures { λ r. ⌜ Rewritten (now (neighbours .entry)) (now (codes .entry)) (λ g. signMoved g a)
+        (now (neighbours .entry)) (now (codes .exit)) ⌝ }
+{
+    recode(neighbours, codes, a, 1, 2);
+}
+
 // One step at the smallest vertex out of place: where C = 1, D = 0 and it has a larger neighbour, a pivot with the
-// largest; otherwise a complementation.
+// largest; with another code from 12, a complementation; else the code is odd, and its sign is moved.
 fn settle_at(neighbours: &mut [u64], codes: &mut [u8], j: usize)
     requires { ⌜ Unrefused (recordIn (now neighbours) (now codes)) × (j < length (now neighbours)) ⌝ }
     requires { ⌜ j ≡ first (length (now neighbours)) (unsettled (now neighbours) (now codes)) ⌝ }
@@ -53,17 +64,19 @@ fn settle_at(neighbours: &mut [u64], codes: &mut [u8], j: usize)
 {
     let word = neighbours[j];
     let code = codes[j];
-    if ((code < 12) | (20 <= code)) & (word >> j != 0) {
+    if (8 <= code) & (((code < 12) | (20 <= code)) & (word >> j != 0)) {
         pivot_record(neighbours, codes, j, largest(word));
-    } else {
+    } else if 12 <= code {
         complement_record(neighbours, codes, j);
+    } else {
+        move_sign(neighbours, codes, j);
     }
 }
 
-// Such steps until no vertex is out of place.
-pub fn settle(neighbours: &mut [u64], codes: &mut [u8])
+// Such steps until no vertex is out of place: then the buffers hold the reduced record of the group.
+pub fn normalise(neighbours: &mut [u64], codes: &mut [u8])
     requires { ⌜ Unrefused (recordIn (now neighbours) (now codes)) ⌝ }
-    ensures { λ r. ⌜ SettledInPlace (now (neighbours .entry)) (now (codes .entry))
+    ensures { λ r. ⌜ Normalised (now (neighbours .entry)) (now (codes .entry))
         (now (neighbours .exit)) (now (codes .exit)) ⌝ }
 {
     let mut j = first_unsettled(neighbours, codes);

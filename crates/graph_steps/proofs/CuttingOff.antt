@@ -58,11 +58,11 @@ use Rattle.record.specs.Records.{GraphRecord, rowsOf}
 use Rattle.stabilizer.proofs.GroupLaws.{in-identity, in-row}
 use Rattle.stabilizer.proofs.Products.{anticommute-identity}
 use Rattle.stabilizer.specs.Groups.{SameGroup, chosen}
-use Rattle.words.proofs.Finite.{bits, ⊕-self, ⊕-twice, ⊕-zero}
+use Rattle.words.proofs.Finite.{bits, ⊕-twice, ⊕-zero}
 use Rattle.words.proofs.Flags.{never-true}
 use Rattle.words.proofs.Places.{other-place, put-other, put-same, same-place}
 use Rattle.words.proofs.Sums.{bitMonoid, fold-ext, fold-unit}
-use Rattle.words.specs.Bits.{Word, parity, put, _⊕_}
+use Rattle.words.specs.Bits.{_⊕_}
 use Rattle.graph_steps.proofs.CzProducts.{scaled-scaled}
 use Rattle.graph_steps.proofs.Places.{act-single, pauli-generator}
 use Rattle.graph_steps.proofs.Reaching.{single-z}
@@ -254,7 +254,8 @@ module _ (n : ℕ) (r : GraphRecord) (S : Simple n (r .graph)) (q : ℕ) (hq : q
 
       go : j ≢ q → (v : Bool)
           → Measured n R P (scaled (minus (t && v)) (mul n (R j) (chosen v (single l q ((c q) .sz)))))
-      go d true = subst (Measured n R P) (minus-twice ∙ ap (λ s. scaled (minus s) (mul n (R j) (single l q ((c q) .sz)))) (sym (one t)))
+      go d true = subst (Measured n R P)
+          (minus-twice ∙ ap (λ s. scaled (minus s) (mul n (R j) (single l q ((c q) .sz)))) (sym (one t)))
           (joined (in-row n n R j h) (commutes j d))
         where
           one : (u : Bool) → (u && true) ≡ u

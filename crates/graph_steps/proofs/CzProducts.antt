@@ -6,7 +6,7 @@ use mathlib.Core.Path.{ap, ap₂, refl, sym, _∙_, _≡_}
 use Prim.Native.Nat.{ℕ}
 use Rattle.pauli.proofs.PauliLaws.{identity-mul, mul-assoc, mul-identity, mul-scaled, scaled-mul}
 use Rattle.pauli.proofs.PhaseLaws.{+ᵖ-assoc, phases}
-use Rattle.pauli.specs.Pauli.{_+ᵖ_, Pauli, Phase, i⁰, minus, mul, scaled}
+use Rattle.pauli.specs.Pauli.{_+ᵖ_, Pauli, Phase, minus, mul, scaled}
 use Rattle.stabilizer.specs.Groups.{chosen}
 use Rattle.words.specs.Bits.{_⊕_}
 
@@ -38,7 +38,8 @@ module _ (n : ℕ) where
   chosen-commute true false g z e = mul-identity n g ∙ sym (identity-mul n g)
   chosen-commute true true g z e = e
 
-  reordered : (p zb za gb ga : Pauli) → mul n gb zb ≡ mul n zb gb → mul n ga za ≡ mul n za ga → mul n gb za ≡ mul n za gb
+  reordered : (p zb za gb ga : Pauli) → mul n gb zb ≡ mul n zb gb → mul n ga za ≡ mul n za ga
+      → mul n gb za ≡ mul n za gb
       → mul n (mul n p (mul n gb zb)) (mul n ga za) ≡ mul n (mul n (mul n (mul n p zb) za) gb) ga
   reordered p zb za gb ga k1 k2 k3 =
       ap₂ (λ u v. mul n (mul n p u) v) k1 k2
@@ -52,7 +53,8 @@ module _ (n : ℕ) where
     pub same-products : (A B sa sb : Bool)
         → scaled (minus ((A && B) ⊕ ((sa && B) ⊕ (sb && A))))
         (mul n (mul n p (chosen A (scaled (minus sb) (mul n gb zb)))) (chosen B (scaled (minus sa) (mul n ga za))))
-        ≡ mul n (mul n (scaled (minus (A && B)) (mul n (mul n p (chosen A zb)) (chosen B za))) (chosen A gb)) (chosen B ga)
+        ≡ mul n (mul n (scaled (minus (A && B)) (mul n (mul n p (chosen A zb)) (chosen B za))) (chosen A gb))
+        (chosen B ga)
     same-products A B sa sb =
         ap (scaled t)
         (ap₂ (λ u v. mul n (mul n p u) v) (chosen-scaled A sb (mul n gb zb)) (chosen-scaled B sa (mul n ga za))

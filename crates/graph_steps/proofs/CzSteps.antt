@@ -1,52 +1,34 @@
 -- CZ on a record of reduced form: the edges between two sets of vertices are flipped, and the record is reduced again.
 -- Assumes nothing.
-use mathlib.Core.Bool.{_&&_, Bool, and-comm, and-false, cond, false, true}
+use mathlib.Core.Bool.{_&&_, Bool, and-comm, and-false, false, true}
 use mathlib.Core.Logic.{_≢_}
 use mathlib.Core.Path.{ap, ap₂, refl, subst, sym, _∙_, _≡_}
 use Prim.Native.Nat.{_<_, ℕ, _≤_}
-use native.Mathlib.Omega.{arith}
-use Rattle.clifford.proofs.CliffordLaws.{cliffords, fromFive, onClifford}
+use Rattle.clifford.proofs.CliffordLaws.{cliffords}
 use Rattle.clifford.proofs.VectorLaws.{act-identity, act-mul, act-scaled, act-then}
-use Rattle.clifford.specs.Clifford.{Clifford, bitC, cliffordOf, codeOf, identityClifford, then}
+use Rattle.clifford.specs.Clifford.{Clifford, bitC, identityClifford, then}
 use Rattle.clifford.specs.Vectors.{act}
 use Rattle.graph.specs.Graph.{Graph, Simple, graphGenerator}
 use Rattle.operations.proofs.CzGroups.{cz-proper}
 use Rattle.operations.proofs.GroupAlone.{reduced-of-group}
 use Rattle.operations.specs.Cz.{cz, czRows, zAt}
-use Rattle.pauli.specs.Pauli.{Pauli, identity, minus, mul, scaled}
+use Rattle.pauli.specs.Pauli.{Pauli, minus, mul, scaled}
 use Rattle.record.proofs.Maximality.{inclusion-same}
 use Rattle.record.proofs.ReducedRecords.{record-proper}
 use Rattle.record.specs.Records.{GraphRecord, rowsOf}
 use Rattle.record.specs.Reduced.{reduced}
 use Rattle.stabilizer.proofs.GroupLaws.{in-identity, in-mul, in-row}
-use Rattle.stabilizer.specs.Groups.{Commuting, InGroup, Proper, SameGroup, chosen}
-use Rattle.words.proofs.BitLaws.{digit-lt}
+use Rattle.stabilizer.specs.Groups.{InGroup, Proper, SameGroup, chosen}
 use Rattle.words.proofs.Finite.{bits}
 use Rattle.words.proofs.Sums.{bitMonoid, fold-unit}
-use Rattle.words.specs.Bits.{Word, digit, parity, _⊕_}
+use Rattle.words.specs.Bits.{Word, parity, _⊕_}
 use Rattle.graph_steps.proofs.CzProducts.{same-products}
-use Rattle.graph_steps.proofs.Places.{pauli-generator}
+use Rattle.graph_steps.proofs.Places.{pauli-generator, pauli-low, pauli-then}
 use Rattle.graph_steps.proofs.Reaching.{element, element-no-x, reach-below, reach-kept, reach-z, x-reach}
 use Rattle.graph_steps.proofs.ReducedForms.{form-reduced}
 use Rattle.graph_steps.proofs.ZRows.{chosen-zs, cz-fixed, cz-product, joined-generator, zs, zs-commute}
 use Rattle.graph_steps.specs.ReducedForms.{ReducedForm}
 use Rattle.graph_steps.specs.Steps.{czRecord, czTurned, joinedBy, pauliCode, reach, reachMinus}
-
--- a Pauli before a code: the signs alone change
-pub pauli-then : (u v : Bool) (k : Clifford) → then (pauliCode u v) k ≡ record { class = k .class; sx = v ⊕ k .sx; sz = u ⊕ k .sz }
-pauli-then u v = onClifford _ (λ a b c d e. cliffords 7
-    (λ u v a b c d e. then (pauliCode u v) (fromFive a b c d e))
-    (λ u v a b c d e. record { class = (fromFive a b c d e) .class; sx = v ⊕ d; sz = u ⊕ e }) tt u v a b c d e)
-
--- code 2 before the code, or nothing
-pub z-before : (b : Bool) (k : Clifford) → cond b (then (cliffordOf 2) k) k ≡ then (pauliCode false b) k
-z-before true k = refl
-z-before false k = sym (pauli-then false false k)
-
--- so a low code stays low
-pub pauli-low : (u v : Bool) (k : Clifford) → codeOf k < 12 → codeOf (then (pauliCode u v) k) < 12
-pauli-low u v k l = subst (λ m. codeOf m < 12) (sym (pauli-then u v k))
-    (omega (arith, digit-lt (v ⊕ k .sx), digit-lt (u ⊕ k .sz)))
 
 module _ (n : ℕ) (r : GraphRecord) (S : Simple n (r .graph)) (F : ReducedForm n r) (a b : ℕ) (ha : a < n) (hb : b < n)
     (ab : a ≢ b) where
@@ -99,7 +81,8 @@ module _ (n : ℕ) (r : GraphRecord) (S : Simple n (r .graph)) (F : ReducedForm 
       act-then n (λ q. pauliCode false (czTurned r a b q)) c (graphGenerator (joinedBy θ A B) j)
       ∙ ap (act n c)
       (pauli-generator n (λ q. false) (czTurned r a b) (joinedBy θ A B) j l
-      ∙ ap (λ v. scaled (minus (v ⊕ czTurned r a b j)) (graphGenerator (joinedBy θ A B) j)) (no-parity (joinedBy θ A B) j))
+      ∙ ap (λ v. scaled (minus (v ⊕ czTurned r a b j)) (graphGenerator (joinedBy θ A B) j))
+      (no-parity (joinedBy θ A B) j))
       ∙ act-scaled n c (minus (czTurned r a b j)) (graphGenerator (joinedBy θ A B) j)
       ∙ ap (scaled (minus (czTurned r a b j))) (generator-after j)
       ∙ same-products n (R j) (zAt a) (zAt b) ga gb
@@ -171,13 +154,10 @@ module _ (n : ℕ) (r : GraphRecord) (S : Simple n (r .graph)) (F : ReducedForm 
   pub cz-form : ReducedForm n (czRecord r a b)
   cz-form =
       record {
-        settled =
-            record {
-              low = λ q l. pauli-low false (czTurned r a b q) (c q) (F .settled .low q l);
-              smaller = λ q j l e h. F .settled .smaller q j l (still q e)
-                  (sym (edges (θ q j) (B j) (A j) (reach-kept n r S F a ha q l (still q e))
-                  (reach-kept n r S F b hb q l (still q e))) ∙ h);
-            };
+        low = λ q l. pauli-low false (czTurned r a b q) (c q) (F .low q l);
+        smaller = λ q j l e h. F .smaller q j l (still q e)
+            (sym (edges (θ q j) (B j) (A j) (reach-kept n r S F a ha q l (still q e))
+            (reach-kept n r S F b hb q l (still q e))) ∙ h);
         even = λ q l. ap (λ k. k .sz) (pauli-then false (czTurned r a b q) (c q)) ∙ F .even q l;
         above = λ q l. ap₂ (λ v k. then (pauliCode false v) k) (turned-above q l) (F .above q l)
             ∙ cliffords 0 (then (pauliCode false false) identityClifford) identityClifford tt;
@@ -195,6 +175,7 @@ module _ (n : ℕ) (r : GraphRecord) (S : Simple n (r .graph)) (F : ReducedForm 
 
   pub cz-reduced-form : reduced n (czRows a b (rowsOf n r)) ≡ czRecord r a b
   cz-reduced-form =
-      sym (reduced-of-group n (rowsOf n (czRecord r a b)) (czRows a b R) (record-proper n (czRecord r a b) cz-simple) proper
+      sym (reduced-of-group n (rowsOf n (czRecord r a b)) (czRows a b R)
+      (record-proper n (czRecord r a b) cz-simple) proper
       cz-same)
       ∙ form-reduced n (czRecord r a b) cz-simple cz-form

@@ -1,7 +1,7 @@
 pub mod ReducedForms
 pub mod Totals
-pub mod Settling
 pub mod Places
+pub mod Settling
 pub mod SignsMoved
 pub mod ZRows
 pub mod CzProducts

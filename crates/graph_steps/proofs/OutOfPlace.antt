@@ -1,7 +1,7 @@
 -- Vertices out of place, by the numbers in the buffers: what a step at the first of them finds, and that a record
--- without any is settled.
+-- without any has the reduced form.
 -- Assumes nothing.
-use mathlib.Core.Bool.{_&&_, Bool, and-false, false, not, or-true, true, true≢false, _||_}
+use mathlib.Core.Bool.{_&&_, Bool, false, not, or-true, true, true≢false, _||_}
 use mathlib.Core.List.{List}
 use mathlib.Core.Logic.{inl, inr, _⊎_}
 use mathlib.Core.Path.{ap, ap₂, refl, subst, sym, _∙_, _≡_}
@@ -12,7 +12,6 @@ use lib.Dec.{eqb, leb, ltb}
 use lib.ListN.{getD, length}
 use lib.Pow.{pow-mono}
 use borrow.Author.Tests.{
-  eq-eqb,
   eqb-false,
   eqb-true,
   le-leb,
@@ -26,9 +25,9 @@ use borrow.Author.Tests.{
   not-true,
 }
 use Rattle.clifford.proofs.CliffordLaws.{codeOf-cliffordOf}
-use Rattle.clifford.specs.Clifford.{ZY, bitC, bitD, classOf, cliffordOf}
+use Rattle.clifford.specs.Clifford.{bitC, bitD, classOf, cliffordOf}
 use Rattle.graph.specs.Graph.{Simple}
-use Rattle.operations.proofs.UnrefusedRecords.{unrefused-simple}
+use Rattle.operations.proofs.UnrefusedRecords.{unrefused-above, unrefused-simple}
 use Rattle.operations.specs.InPlace.{Unrefused, recordIn}
 use Rattle.operations.specs.Steps.{pivotRecord}
 use Rattle.record.proofs.AcceptedRecords.{accepted-record}
@@ -39,12 +38,13 @@ use Rattle.words.proofs.BitLaws.{bit-above, bit-shr, zero-bit}
 use Rattle.words.proofs.Flags.{both-true, either, neither, true-sameBit}
 use Rattle.words.proofs.SearchLaws.{every-at, first-is, first-none}
 use Rattle.words.proofs.Sums.{lt-or-ge}
-use Rattle.words.specs.Bits.{bit, sameBit}
+use Rattle.words.specs.Bits.{bit, isOdd, sameBit}
 use Rattle.words.specs.Search.{IsFirst, every, first}
-use Rattle.graph_steps.proofs.Settling.{nearer-alone, nearer-joined, nearer-turned}
+use Rattle.graph_steps.proofs.Settling.{calmer, nearer-alone, nearer-joined, nearer-signed, nearer-turned}
 use Rattle.graph_steps.specs.Kept.{unsettled}
-use Rattle.graph_steps.specs.ReducedForms.{Settled}
-use Rattle.graph_steps.specs.Settling.{distance}
+use Rattle.graph_steps.specs.ReducedForms.{ReducedForm}
+use Rattle.graph_steps.specs.Settling.{distance, unrest}
+use Rattle.graph_steps.specs.Steps.{signMoved}
 
 -- ---- codes by their numbers
 pub number-C : (k : ℕ) → k < 24 → bitC (cliffordOf k) ≡ leb 8 k
@@ -58,7 +58,8 @@ number-D k l = true-sameBit _ _ (every-at 24
 
 -- ---- a word without bits at and above a place
 none-from : (w j q : ℕ) → w / 2 ^ j ≡ 0 → j ≤ q → bit w q ≡ false
-none-from w j q e l = ap (bit w) {x = q} {y = j + (q - j)} (omega arith) ∙ sym (bit-shr w j (q - j)) ∙ ap (λ v. bit v (q - j)) e
+none-from w j q e l = ap (bit w) {x = q} {y = j + (q - j)} (omega arith) ∙ sym (bit-shr w j (q - j))
+    ∙ ap (λ v. bit v (q - j)) e
     ∙ zero-bit (q - j)
 
 module _ (words codes : List ℕ) (U : Unrefused (recordIn words codes)) where
@@ -83,19 +84,22 @@ module _ (words codes : List ℕ) (U : Unrefused (recordIn words codes)) where
   -- a vertex in place with C = 1 has no bit at or above its own place
   placed : (q j : ℕ) → unsettled words codes q ≡ false → bitC (r .codes q) ≡ true → q ≤ j → bit (w q) j ≡ false
   placed q j e c l = none-from (w q) q j
-      (eqb-true (w q / 2 ^ q) 0 (not-false (eqb (w q / 2 ^ q) 0) (go (leb 8 (k q)) (sym (number-C (k q) (A .codes-below q)) ∙ c)
-      (neither (leb 12 (k q)) (leb 8 (k q) && not (eqb (w q / 2 ^ q) 0)) e .1)))) l
+      (eqb-true (w q / 2 ^ q) 0 (not-false (eqb (w q / 2 ^ q) 0)
+      (go (leb 8 (k q)) (sym (number-C (k q) (A .codes-below q)) ∙ c)
+      (neither (isOdd (k q)) (leb 8 (k q) && not (eqb (w q / 2 ^ q) 0)) (neither (leb 12 (k q)) _ e .1) .1)))) l
     where
       go : (b : Bool) → b ≡ true → (b && not (eqb (w q / 2 ^ q) 0)) ≡ false → not (eqb (w q / 2 ^ q) 0) ≡ false
       go true h f = f
       go false h f = absurd (true≢false (sym h))
 
   pub none-unsettled : ((q : ℕ) → q < length words → unsettled words codes q ≡ false)
-      → Settled (length words) (heldRecord (recordIn words codes))
+      → ReducedForm (length words) (heldRecord (recordIn words codes))
   none-unsettled h =
       record {
         low = λ q l. subst (λ m. m < 12) (sym (codeOf-cliffordOf (k q) (A .codes-below q)))
             (leb-false 12 (k q) (neither (leb 12 (k q)) _ (h q l) .0));
+        even = λ q l. neither (isOdd (k q)) _ (neither (leb 12 (k q)) _ (h q l) .1) .0;
+        above = unrefused-above words codes U;
         smaller = λ q j l c e. elim (lt-or-ge j q) [
           | inl m ↦ m
           | inr m ↦ absurd (true≢false (sym e ∙ placed q j (h q l) c m))
@@ -113,24 +117,26 @@ module _ (words codes : List ℕ) (U : Unrefused (recordIn words codes)) where
     below : k j < 24
     below = A .codes-below j
 
+    abbrev pivots : Bool
+    pivots = leb 8 (k j) && ((ltb (k j) 12 || leb 20 (k j)) && not (eqb (w j / 2 ^ j) 0))
+
     -- a step by a pivot
-    module _ (taken : ((ltb (getD codes j 0) 12 || leb 20 (getD codes j 0))
-        && not (eqb (getD words j 0 / 2 ^ j) 0)) ≡ true) where
+    module _ (taken : (leb 8 (getD codes j 0) && ((ltb (getD codes j 0) 12 || leb 20 (getD codes j 0))
+        && not (eqb (getD words j 0 / 2 ^ j) 0))) ≡ true) where
       parts : ((ltb (k j) 12 || leb 20 (k j)) ≡ true) × (not (eqb (w j / 2 ^ j) 0) ≡ true)
-      parts = both-true (ltb (k j) 12 || leb 20 (k j)) (not (eqb (w j / 2 ^ j) 0)) taken
+      parts = both-true (ltb (k j) 12 || leb 20 (k j)) (not (eqb (w j / 2 ^ j) 0)) (both-true (leb 8 (k j)) _ taken .1)
 
       reaches : w j / 2 ^ j ≡ 0 → ⊥
       reaches = eqb-false (w j / 2 ^ j) 0 (not-true (eqb (w j / 2 ^ j) 0) (parts .1))
 
       range : (8 ≤ k j) × ((k j < 12) ⊎ (20 ≤ k j))
-      range = elim (either (ltb (k j) 12) (leb 20 (k j)) (parts .0)) [
-        | inl e ↦ (low (ltb-true (k j) 12 e) (either (leb 12 (k j)) _ (found .passes)), inl (ltb-true (k j) 12 e))
-        | inr e ↦ (omega (arith, leb-true 20 (k j) e), inr (leb-true 20 (k j) e))
-      ]
-        where
-          low : k j < 12 → (leb 12 (k j) ≡ true) ⊎ ((leb 8 (k j) && not (eqb (w j / 2 ^ j) 0)) ≡ true) → 8 ≤ k j
-          low l (inl e) = absurd (omega (arith, leb-true 12 (k j) e))
-          low l (inr e) = leb-true 8 (k j) (both-true (leb 8 (k j)) _ e .0)
+      range = (
+        leb-true 8 (k j) (both-true (leb 8 (k j)) _ taken .0),
+        elim (either (ltb (k j) 12) (leb 20 (k j)) (parts .0)) [
+          | inl e ↦ inl (ltb-true (k j) 12 e)
+          | inr e ↦ inr (leb-true 20 (k j) e)
+        ],
+      )
 
       own-C : bitC (r .codes j) ≡ true
       own-C = number-C (k j) below ∙ le-leb 8 (k j) (range .0)
@@ -167,13 +173,14 @@ module _ (words codes : List ℕ) (U : Unrefused (recordIn words codes)) where
 
         pub pivot-less : distance (length words) (pivotRecord (heldRecord (recordIn words codes)) j m)
             < distance (length words) (heldRecord (recordIn words codes))
-        pivot-less = nearer-joined n r simple j m hj larger-below larger set own-C own-D
+        pivot-less = calmer n r simple (pivotRecord r j m)
+            (nearer-joined n r simple j m hj larger-below larger set own-C own-D)
 
-    -- a step by a complementation
-    module _ (left : ((ltb (getD codes j 0) 12 || leb 20 (getD codes j 0))
-        && not (eqb (getD words j 0 / 2 ^ j) 0)) ≡ false) where
+    -- another step
+    module _ (left : (leb 8 (getD codes j 0) && ((ltb (getD codes j 0) 12 || leb 20 (getD codes j 0))
+        && not (eqb (getD words j 0 / 2 ^ j) 0))) ≡ false) where
       -- no larger neighbour: class 5, and the smaller neighbours, which are in place, have C = 0
-      turned : 20 ≤ k j → w j / 2 ^ j ≡ 0 → distance n (complementRecord r j) < distance n r
+      turned : 20 ≤ k j → w j / 2 ^ j ≡ 0 → unrest n (complementRecord r j) < unrest n r
       turned l e =
           nearer-turned n r simple j hj (ap classOf {x = k j / 4} {y = 5} (omega (arith, l, below)))
           (λ q h. kept q h (bitC (r .codes q)) refl)
@@ -186,28 +193,40 @@ module _ (words codes : List ℕ) (U : Unrefused (recordIn words codes)) where
             | inr l ↦ absurd (true≢false (sym h ∙ none-from (w j) j q e l))
           ]
 
-      alone : 12 ≤ k j → k j < 20 → distance n (complementRecord r j) < distance n r
+      alone : 12 ≤ k j → k j < 20 → unrest n (complementRecord r j) < unrest n r
       alone l m =
           nearer-alone n r simple j hj (number-C (k j) below ∙ le-leb 8 (k j) (omega arith))
           (number-D (k j) below
           ∙ ap₂ (λ a b. (a && (b && ltb (k j) 20)) || not a) (le-leb 8 (k j) (omega arith)) (le-leb 12 (k j) l)
           ∙ ap (λ c. (true && (true && c)) || not true) (lt-ltb (k j) 20 m))
 
-      none-larger : (ltb (k j) 12 || leb 20 (k j)) ≡ true → w j / 2 ^ j ≡ 0
-      none-larger e = eqb-true (w j / 2 ^ j) 0 (not-false (eqb (w j / 2 ^ j) 0)
-          (sym (ap (λ a. a && not (eqb (w j / 2 ^ j) 0)) e) ∙ left))
+      none-larger : 8 ≤ k j → (ltb (k j) 12 || leb 20 (k j)) ≡ true → w j / 2 ^ j ≡ 0
+      none-larger l e = eqb-true (w j / 2 ^ j) 0 (not-false (eqb (w j / 2 ^ j) 0)
+          (sym (ap₂ (λ a b. a && (b && not (eqb (w j / 2 ^ j) 0))) (le-leb 8 (k j) l) e) ∙ left))
 
-      pub complement-less : distance (length words) (complementRecord (heldRecord (recordIn words codes)) j)
+      -- by a complementation
+      pub complement-less : 12 ≤ getD codes j 0
+          → distance (length words) (complementRecord (heldRecord (recordIn words codes)) j)
           < distance (length words) (heldRecord (recordIn words codes))
-      complement-less = elim (lt-or-ge (k j) 12) [
-        | inl l ↦ absurd (in-place l (none-larger (ap (λ a. a || leb 20 (k j)) (lt-ltb (k j) 12 l))))
-        | inr l ↦ elim (lt-or-ge (k j) 20) [
-          | inl m ↦ alone l m
-          | inr m ↦ turned m (none-larger (ap (λ a. ltb (k j) 12 || a) (le-leb 20 (k j) m) ∙ or-true (ltb (k j) 12)))
-        ]
-      ]
+      complement-less l = calmer n r simple (complementRecord r j) (elim (lt-or-ge (k j) 20) [
+        | inl m ↦ alone l m
+        | inr m ↦ turned m (none-larger (omega arith)
+            (ap (λ a. ltb (k j) 12 || a) (le-leb 20 (k j) m) ∙ or-true (ltb (k j) 12)))
+      ])
+
+      -- by moving a sign
+      pub sign-less : getD codes j 0 < 12 → distance (length words) (signMoved (heldRecord (recordIn words codes)) j)
+          < distance (length words) (heldRecord (recordIn words codes))
+      sign-less l = nearer-signed n r simple j hj (odd (either (leb 12 (k j)) _ (found .passes)))
         where
-          in-place : k j < 12 → w j / 2 ^ j ≡ 0 → ⊥
-          in-place l e = true≢false (sym (found .passes)
-              ∙ ap₂ (λ a b. a || (leb 8 (k j) && not b)) (lt-leb 12 (k j) l) (eq-eqb (w j / 2 ^ j) 0 e)
-              ∙ and-false (leb 8 (k j)))
+          last : (isOdd (k j) ≡ true) ⊎ ((leb 8 (k j) && not (eqb (w j / 2 ^ j) 0)) ≡ true) → isOdd (k j) ≡ true
+          last (inl e) = e
+          last (inr e) =
+              let h = both-true (leb 8 (k j)) (not (eqb (w j / 2 ^ j) 0)) e in
+              absurd (true≢false (sym (ap₂ (λ a b. a && b) (h .0)
+              (ap₂ (λ a b. (a || leb 20 (k j)) && b) (lt-ltb (k j) 12 l) (h .1))) ∙ left))
+
+          odd : (leb 12 (k j) ≡ true) ⊎ ((isOdd (k j) || (leb 8 (k j) && not (eqb (w j / 2 ^ j) 0))) ≡ true)
+              → isOdd (k j) ≡ true
+          odd (inl e) = absurd (omega (arith, leb-true 12 (k j) e))
+          odd (inr e) = last (either (isOdd (k j)) _ e)

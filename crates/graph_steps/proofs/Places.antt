@@ -1,30 +1,22 @@
 -- Codes acting on rows place by place: Pauli codes, a row that acts at one place, and rows of I and Z.
 -- Assumes nothing.
-use mathlib.Core.Bool.{_&&_, Bool, and-comm, and-false, cond, false, true, true≢false}
-use mathlib.Core.Path.{ap, ap₂, refl, subst, sym, _∙_, _≡_}
+use mathlib.Core.Bool.{_&&_, Bool, and-comm, cond, false, true}
+use mathlib.Core.Path.{ap, refl, subst, sym, _∙_, _≡_}
 use Prim.Native.Nat.{_<_, ℕ}
 use native.Mathlib.Decide.{ℕ-discrete}
+use native.Mathlib.Omega.{arith}
 use lib.Dec.{eqb}
-use Rattle.clifford.specs.Clifford.{Clifford, image, imagePhase}
+use Rattle.clifford.proofs.CliffordLaws.{cliffords, fromFive, onClifford}
+use Rattle.clifford.specs.Clifford.{Clifford, cliffordOf, codeOf, image, imagePhase, then}
 use Rattle.clifford.specs.Vectors.{act}
 use Rattle.graph.specs.Graph.{Graph, graphGenerator}
 use Rattle.operations.specs.Measurement.{single}
 use Rattle.pauli.proofs.PauliLaws.{Pauli-path, letter-bits}
 use Rattle.pauli.proofs.PhaseLaws.{+ᵖ-comm, +ᵖ-zero, minus-⊕, phaseMonoid, phases}
-use Rattle.pauli.specs.Pauli.{
-  _+ᵖ_,
-  Pauli,
-  i⁰,
-  letter,
-  letterAt,
-  minus,
-  scaled,
-  sumPhase,
-  xBit,
-  zBit,
-}
+use Rattle.pauli.specs.Pauli.{_+ᵖ_, Pauli, i⁰, letter, minus, scaled, sumPhase, xBit, zBit}
 use Rattle.pauli.specs.declared.Letter.{Letter}
 use Rattle.pauli.specs.declared.Letter.the-variants.{I}
+use Rattle.words.proofs.BitLaws.{digit-lt}
 use Rattle.words.proofs.Finite.{bits}
 use Rattle.words.proofs.Places.{other-place, parity-at, same-place}
 use Rattle.words.proofs.Sums.{fold-ext, fold-hom, fold-one, parity-add}
@@ -69,6 +61,24 @@ pauli-generator n u v θ j l =
     ∙ sym (+ᵖ-zero (minus (parity n (λ q. θ j q && u q) ⊕ v j))))
     (λ q. refl) (λ q. refl)
 
+-- ---- a Pauli before a code
+-- the signs alone change
+pub pauli-then : (u v : Bool) (k : Clifford) → then (pauliCode u v) k
+    ≡ record { class = k .class; sx = v ⊕ k .sx; sz = u ⊕ k .sz }
+pauli-then u v = onClifford _ (λ a b c d e. cliffords 7
+    (λ u v a b c d e. then (pauliCode u v) (fromFive a b c d e))
+    (λ u v a b c d e. record { class = (fromFive a b c d e) .class; sx = v ⊕ d; sz = u ⊕ e }) tt u v a b c d e)
+
+-- code 2 before the code, or nothing
+pub z-before : (b : Bool) (k : Clifford) → cond b (then (cliffordOf 2) k) k ≡ then (pauliCode false b) k
+z-before true k = refl
+z-before false k = sym (pauli-then false false k)
+
+-- so a low code stays low
+pub pauli-low : (u v : Bool) (k : Clifford) → codeOf k < 12 → codeOf (then (pauliCode u v) k) < 12
+pauli-low u v k l = subst (λ m. codeOf m < 12) (sym (pauli-then u v k))
+    (omega (arith, digit-lt (v ⊕ k .sx), digit-lt (u ⊕ k .sz)))
+
 -- ---- one place
 pub act-single : (n : ℕ) (c : ℕ → Clifford) (l : Letter) (a : ℕ) (s : Bool) → a < n
     → act n c (single l a s)
@@ -77,7 +87,8 @@ unfolding act
 act-single n c l a s h =
     Pauli-path
     (ap (λ t. minus s +ᵖ t)
-    (fold-one i⁰ _+ᵖ_ phaseMonoid n a h (λ q k d. ap (imagePhase (c q)) (ap (λ b. letter (b && zBit l) (b && xBit l)) (other-place d)))
+    (fold-one i⁰ _+ᵖ_ phaseMonoid n a h
+    (λ q k d. ap (imagePhase (c q)) (ap (λ b. letter (b && zBit l) (b && xBit l)) (other-place d)))
     ∙ ap (imagePhase (c a)) (here (same-place a)))
     ∙ +ᵖ-comm (minus s) (imagePhase (c a) l))
     (λ q. bit-at zBit refl q (ℕ-discrete q a)) (λ q. bit-at xBit refl q (ℕ-discrete q a))
@@ -88,7 +99,8 @@ act-single n c l a s h =
     bit-at : (f : Letter → Bool) → f I ≡ false → (q : ℕ) → Dec (q ≡ a)
         → f (image (c q) (letter (eqb q a && zBit l) (eqb q a && xBit l))) ≡ (eqb q a && f (image (c a) l))
     bit-at f none q (yes e) =
-        subst (λ v. f (image (c v) (letter (eqb v a && zBit l) (eqb v a && xBit l))) ≡ (eqb v a && f (image (c a) l))) (sym e)
+        subst (λ v. f (image (c v) (letter (eqb v a && zBit l) (eqb v a && xBit l))) ≡ (eqb v a && f (image (c a) l)))
+        (sym e)
         (ap (λ m. f (image (c a) m)) (here (same-place a)) ∙ ap (λ b. b && f (image (c a) l)) (sym (same-place a)))
     bit-at f none q (no d) =
         ap (λ b. f (image (c q) (letter (b && zBit l) (b && xBit l)))) (other-place d) ∙ none

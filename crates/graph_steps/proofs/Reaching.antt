@@ -2,7 +2,6 @@
 -- whose codes keep Z.
 -- Assumes nothing.
 use mathlib.Core.Bool.{_&&_, Bool, and-false, and-true, cond, false, true, true≢false}
-use mathlib.Core.Logic.{inl, inr}
 use mathlib.Core.Path.{ap, ap₂, refl, subst, sym, _∙_, _≡_}
 use Prim.Native.Nat.{_<_, ℕ, _≤_}
 use native.Mathlib.Omega.{arith}
@@ -99,7 +98,7 @@ module _ (n : ℕ) (r : GraphRecord) (S : Simple n (r .graph)) (F : ReducedForm 
   keeps-z true e q h = kept-z (c q) (kept (bitC (c q)) refl) (F .even q below)
     where
       below : q < n
-      below = omega (arith, F .settled .smaller a q ha e h)
+      below = omega (arith, F .smaller a q ha e h)
 
       kept : (b : Bool) → bitC (c q) ≡ b → b ≡ false
       kept false f = refl
@@ -118,7 +117,7 @@ module _ (n : ℕ) (r : GraphRecord) (S : Simple n (r .graph)) (F : ReducedForm 
 
       own : act n c (xAt a) ≡ scaled m (zAt a)
       own = ap (act n c) (single-x a) ∙ act-single n c X a false ha
-          ∙ ap (scaled m) (ap (λ l. single l a false) (rotated-x (c a) (F .settled .low a ha) e) ∙ single-z a)
+          ∙ ap (scaled m) (ap (λ l. single l a false) (rotated-x (c a) (F .low a ha) e) ∙ single-z a)
 
       row : rowsOf n r a ≡ scaled m (mul n (zs (θ a)) (zAt a))
       row = ap (act n c) (split n θ S a) ∙ act-mul n c (zs (θ a)) (xAt a)

@@ -1,14 +1,12 @@
 -- A record of reduced form is the reduced record of its own group.
 -- Assumes nothing.
 use mathlib.Core.Bool.{_&&_, Bool, and-false, cond, false, true, true≢false}
-use mathlib.Core.Logic.{inl, inr, _⊎_}
-use mathlib.Core.Path.{ap, ap₂, refl, subst, sym, _∙_, _≡_}
+use mathlib.Core.Logic.{inl, inr}
+use mathlib.Core.Path.{ap, refl, sym, _∙_, _≡_}
 use Prim.Native.Nat.{_<_, ℕ, _≤_}
-use native.Mathlib.Decide.{ℕ-discrete}
-use native.Mathlib.Nat.{lt-irrefl}
 use native.Mathlib.Omega.{arith}
-use lib.Dec.{eqb, ltb}
-use Rattle.clifford.specs.Clifford.{Class, Clifford, XY, XZ, YX, YZ, ZX, ZY, bitC, codeOf, identityClifford, image}
+use lib.Dec.{eqb}
+use Rattle.clifford.specs.Clifford.{Class, XY, XZ, YX, YZ, ZX, ZY, bitC, codeOf, image}
 use Rattle.clifford.specs.Vectors.{act}
 use Rattle.graph.specs.Graph.{Simple}
 use Rattle.pauli.specs.Pauli.{letter, xBit}
@@ -20,7 +18,7 @@ use Rattle.record.specs.Reduced.{Reduced, plainCode, reduced, withHadamard, xWo
 use Rattle.stabilizer.proofs.GroupLaws.{same-refl}
 use Rattle.words.proofs.Places.{other-place, same-place}
 use Rattle.words.proofs.Sums.{bitMonoid, fold-ext, fold-one, fold-unit, lt-or-ge}
-use Rattle.words.specs.Bits.{digit, parity, _⊕_}
+use Rattle.words.specs.Bits.{parity, _⊕_}
 use Rattle.graph_steps.specs.ReducedForms.{ReducedForm}
 
 -- class 1
@@ -34,7 +32,8 @@ isYZ ZY = false
 
 -- a code below 12 with a plus at the image of Z
 low-code : (c : Class) (s t : Bool) → codeOf (record { class = c; sx = s; sz = t }) < 12 → t ≡ false
-    → record { class = c; sx = s; sz = t } ≡ withHadamard (bitC (record { class = c; sx = s; sz = t })) (plainCode (isYZ c) s)
+    → record { class = c; sx = s; sz = t } ≡ withHadamard (bitC (record { class = c; sx = s; sz = t }))
+    (plainCode (isYZ c) s)
 low-code c s true l e = absurd (true≢false e)
 low-code XZ s false l e = refl
 low-code YZ s false l e = refl
@@ -46,7 +45,8 @@ low-code ZY s false l e = absurd (omega (arith, l))
 
 -- the x bit after such a code: the own place where it is kept, the edge where it is rotated
 low-x : (c : Class) (s t : Bool) (z x : Bool) → codeOf (record { class = c; sx = s; sz = t }) < 12
-    → xBit (image (record { class = c; sx = s; sz = t }) (letter z x)) ≡ cond (bitC (record { class = c; sx = s; sz = t })) z x
+    → xBit (image (record { class = c; sx = s; sz = t }) (letter z x))
+    ≡ cond (bitC (record { class = c; sx = s; sz = t })) z x
 low-x XZ s t false false l = refl
 low-x XZ s t false true l = refl
 low-x XZ s t true false l = refl
@@ -69,7 +69,7 @@ module _ (n : ℕ) (r : GraphRecord) (S : Simple n (r .graph)) (F : ReducedForm 
 
   pub form-x : (j q : ℕ) → q < n → (rowsOf n r j) .x q ≡ cond (bitC (r .codes q)) (r .graph j q) (eqb q j)
   unfolding act
-  form-x j q l = low-x ((r .codes q) .class) ((r .codes q) .sx) ((r .codes q) .sz) (r .graph j q) (eqb q j) (F .settled .low q l)
+  form-x j q l = low-x ((r .codes q) .class) ((r .codes q) .sx) ((r .codes q) .sz) (r .graph j q) (eqb q j) (F .low q l)
 
   x-rotated : (j q : ℕ) → q < n → rotated q ≡ true → (rowsOf n r j) .x q ≡ r .graph j q
   x-rotated j q l e = form-x j q l ∙ ap (λ b. cond b (r .graph j q) (eqb q j)) e
@@ -83,7 +83,7 @@ module _ (n : ℕ) (r : GraphRecord) (S : Simple n (r .graph)) (F : ReducedForm 
     where
       go : (b : Bool) → r .graph q j ≡ b → b ≡ false
       go false h = refl
-      go true h = absurd (omega (arith, F .settled .smaller q j l e h))
+      go true h = absurd (omega (arith, F .smaller q j l e h))
 
   pub apart : (q j : ℕ) → q < n → j < n → bitC (r .codes q) ≡ true → bitC (r .codes j) ≡ true → r .graph q j ≡ false
   apart q j l m e f = elim (lt-or-ge j q) [
@@ -137,8 +137,9 @@ module _ (n : ℕ) (r : GraphRecord) (S : Simple n (r .graph)) (F : ReducedForm 
         ys = λ q. isYZ ((r .codes q) .class);
         minuses = λ q. (r .codes q) .sx;
         code = λ q. elim (lt-or-ge q n) [
-          | inl l ↦ low-code ((r .codes q) .class) ((r .codes q) .sx) ((r .codes q) .sz) (F .settled .low q l) (F .even q l)
-          | inr l ↦ F .above q l ∙ sym (ap (λ k. withHadamard (bitC k) (plainCode (isYZ (k .class)) (k .sx))) (F .above q l))
+          | inl l ↦ low-code ((r .codes q) .class) ((r .codes q) .sx) ((r .codes q) .sz) (F .low q l) (F .even q l)
+          | inr l ↦ F .above q l
+              ∙ sym (ap (λ k. withHadamard (bitC k) (plainCode (isYZ (k .class)) (k .sx))) (F .above q l))
         ];
         rotated = λ q l. (depends q l, λ D. dependent q l D (rotated q) refl);
         above = λ q l. (
@@ -149,7 +150,8 @@ module _ (n : ℕ) (r : GraphRecord) (S : Simple n (r .graph)) (F : ReducedForm 
         group = same-refl;
       }
     where
-      dependent : (q : ℕ) → q < n → ColumnDependent n (xWords (rowsOf n r)) q → (b : Bool) → rotated q ≡ b → rotated q ≡ true
+      dependent : (q : ℕ) → q < n → ColumnDependent n (xWords (rowsOf n r)) q → (b : Bool) → rotated q ≡ b
+          → rotated q ≡ true
       dependent q l D true e = e
       dependent q l D false e = absurd (stands q l e D)
 

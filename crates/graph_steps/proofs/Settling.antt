@@ -1,11 +1,10 @@
--- The steps of the settling loop: each brings the record nearer to the reduced form.
+-- The steps towards the reduced form: each lowers the distance.
 -- Assumes nothing.
 use mathlib.Core.Bool.{_&&_, Bool, and-false, cond, false, not, true}
 use mathlib.Core.List.{[], _∷_}
 use mathlib.Core.Logic.{_≢_}
-use mathlib.Core.Path.{ap, ap₂, refl, subst, sym, _∙_, _≡_}
+use mathlib.Core.Path.{ap, ap₂, refl, sym, _∙_, _≡_}
 use Prim.Native.Nat.{_*_, _+_, _-_, _<_, ℕ}
-use native.Mathlib.Decide.{ℕ-discrete}
 use native.Mathlib.Omega.{arith}
 use lib.Dec.{eqb}
 use Rattle.clifford.specs.Clifford.{
@@ -34,21 +33,24 @@ use Rattle.pauli.specs.Pauli.{letterProduct}
 use Rattle.record.specs.Records.{GraphRecord, complementRecord, recoded}
 use Rattle.words.proofs.Places.{other-place, put-all, put-other, put-same, same-place}
 use Rattle.words.specs.Bits.{Word, put, _⊕_}
+use Rattle.graph_steps.proofs.Places.{pauli-then}
 use Rattle.graph_steps.proofs.Totals.{at-most, first-less, total-cong, total-le, total-put}
-use Rattle.graph_steps.specs.Settling.{distance, isZY, total}
+use Rattle.graph_steps.specs.Settling.{distance, isZY, total, unrest}
+use Rattle.graph_steps.specs.Steps.{signMoved}
 
 module _ (n : ℕ) (r : GraphRecord) (G : Simple n (r .graph)) where
   abbrev places : Word → ℕ
   places f = total (λ q. n - q) n f
 
   -- the sum over the vertices with C = 1 falls, whatever becomes of class 5
-  falls : (s : GraphRecord) → places (λ q. bitC (s .codes q)) < places (λ q. bitC (r .codes q)) → distance n s < distance n r
-  unfolding distance
+  falls : (s : GraphRecord) → places (λ q. bitC (s .codes q)) < places (λ q. bitC (r .codes q))
+      → unrest n s < unrest n r
+  unfolding unrest
   falls s l = first-less n (places (λ q. bitC (s .codes q))) (places (λ q. bitC (r .codes q))) _ _ l (total-le n _)
 
   -- ---- C = D = 1
   pub nearer-alone : (j : ℕ) → j < n → bitC (r .codes j) ≡ true → bitD (r .codes j) ≡ true
-      → distance n (complementRecord r j) < distance n r
+      → unrest n (complementRecord r j) < unrest n r
   nearer-alone j l c d =
       falls (complementRecord r j)
       (omega (
@@ -97,7 +99,7 @@ module _ (n : ℕ) (r : GraphRecord) (G : Simple n (r .graph)) where
     C3 : (follow S0 (j ∷ k ∷ j ∷ [])) .C ≡ put (S2 .C) j false
     C3 = C-after S2 j C2j (D-neighbour S1 k j edge1 C1j (D-other S0 j j (G .loopless j) d))
 
-    pub nearer-joined : distance n (pivotRecord r j k) < distance n r
+    pub nearer-joined : unrest n (pivotRecord r j k) < unrest n r
     nearer-joined =
         falls (pivotRecord r j k)
         (omega (
@@ -139,10 +141,12 @@ module _ (n : ℕ) (r : GraphRecord) (G : Simple n (r .graph)) where
     new-five : (q : ℕ) → isZY ((complementRecord r j .codes q) .class) ≡ put (λ q. isZY ((r .codes q) .class)) j false q
     new-five q =
         put-all (λ q b. isZY ((recoded (r .graph) j (r .codes) q) .class) ≡ b) (λ q. isZY ((r .codes q) .class)) j false
-        (ap (λ b. isZY ((cond b (then (cliffordOf 13) (r .codes j)) (cond (r .graph j j) (then (cliffordOf 6) (r .codes j)) (r .codes j))) .class))
+        (ap (λ b. isZY ((cond b (then (cliffordOf 13) (r .codes j))
+        (cond (r .graph j j) (then (cliffordOf 6) (r .codes j)) (r .codes j))) .class))
         (same-place j)
         ∙ ap (λ c. isZY (classWith (imageX c) (letterProduct (imageX c) (imageZ c)))) five) q
-        (λ d. ap (λ b. isZY ((cond b (then (cliffordOf 13) (r .codes q)) (cond (r .graph j q) (then (cliffordOf 6) (r .codes q)) (r .codes q))) .class))
+        (λ d. ap (λ b. isZY ((cond b (then (cliffordOf 13) (r .codes q))
+        (cond (r .graph j q) (then (cliffordOf 6) (r .codes q)) (r .codes q))) .class))
         (other-place d) ∙ go d (r .graph j q) refl)
       where
         go : q ≢ j → (b : Bool) → r .graph j q ≡ b
@@ -152,17 +156,19 @@ module _ (n : ℕ) (r : GraphRecord) (G : Simple n (r .graph)) where
           where
             after : q ≢ j → r .graph j q ≡ true → bitC (then (cliffordOf 6) (r .codes q)) ≡ false
             after d h =
-                sym (ap₂ (λ a b. bitC (cond a (then (cliffordOf 13) (r .codes q)) (cond b (then (cliffordOf 6) (r .codes q)) (r .codes q))))
+                sym (ap₂ (λ a b. bitC (cond a (then (cliffordOf 13) (r .codes q))
+                (cond b (then (cliffordOf 6) (r .codes q)) (r .codes q))))
                 (other-place d) h)
                 ∙ ap (λ f. f q) new-C ∙ put-other ((stateOf r) .C) j true q d ∙ kept q h
 
-    pub nearer-turned : distance n (complementRecord r j) < distance n r
-    unfolding distance
+    pub nearer-turned : unrest n (complementRecord r j) < unrest n r
+    unfolding unrest
     nearer-turned =
         omega (
           arith,
           ap (λ m. m * (n + 1)) same,
-          total-cong (λ q. 1) n (λ q. isZY ((complementRecord r j .codes q) .class)) (put (λ q. isZY ((r .codes q) .class)) j false) (λ q l. new-five q),
+          total-cong (λ q. 1) n (λ q. isZY ((complementRecord r j .codes q) .class))
+              (put (λ q. isZY ((r .codes q) .class)) j false) (λ q l. new-five q),
           total-put (λ q. 1) n (λ q. isZY ((r .codes q) .class)) j false hj,
           ap {B = ℕ} (λ c. cond (isZY c) 1 0) five,
         )
@@ -174,3 +180,44 @@ module _ (n : ℕ) (r : GraphRecord) (G : Simple n (r .graph)) where
           total-put (λ q. n - q) n ((stateOf r) .C) j true hj,
           ap (λ b. cond b (n - j) 0) own-C,
         )
+
+  -- ---- signs
+  -- less unrest is nearer, whatever becomes of the signs
+  pub calmer : (s : GraphRecord) → unrest n s < unrest n r → distance n s < distance n r
+  unfolding distance
+  calmer s l = first-less n (unrest n s) (unrest n r) _ _ l (total-le n _)
+
+  pub nearer-signed : (a : ℕ) → a < n → (r .codes a) .sz ≡ true → distance n (signMoved r a) < distance n r
+  unfolding distance unrest
+  nearer-signed a ha e =
+      omega (
+        arith,
+        ap (λ m. (m * (n + 1) + total (λ q. 1) n (λ q. isZY ((signMoved r a .codes q) .class))) * (n + 1)) same-C,
+        ap (λ m. (places (λ q. bitC (r .codes q)) * (n + 1) + m) * (n + 1)) same-ZY,
+        total-cong (λ q. 1) n (λ q. (signMoved r a .codes q) .sz) (put (λ q. (r .codes q) .sz) a false)
+            (λ q l. signs q),
+        total-put (λ q. 1) n (λ q. (r .codes q) .sz) a false ha,
+        ap {B = ℕ} (λ b. cond b 1 0) e,
+      )
+    where
+      after : (q : ℕ) → signMoved r a .codes q
+          ≡ record {
+            class = (r .codes q) .class;
+            sx = r .graph a q ⊕ (r .codes q) .sx;
+            sz = eqb q a ⊕ (r .codes q) .sz;
+          }
+      after q = pauli-then (eqb q a) (r .graph a q) (r .codes q)
+
+      same-C : places (λ q. bitC (signMoved r a .codes q)) ≡ places (λ q. bitC (r .codes q))
+      same-C = total-cong (λ q. n - q) n (λ q. bitC (signMoved r a .codes q)) (λ q. bitC (r .codes q))
+          (λ q l. ap bitC (after q))
+
+      same-ZY : total (λ q. 1) n (λ q. isZY ((signMoved r a .codes q) .class))
+          ≡ total (λ q. 1) n (λ q. isZY ((r .codes q) .class))
+      same-ZY = total-cong (λ q. 1) n (λ q. isZY ((signMoved r a .codes q) .class)) (λ q. isZY ((r .codes q) .class))
+          (λ q l. ap (λ k. isZY (k .class)) (after q))
+
+      signs : (q : ℕ) → (signMoved r a .codes q) .sz ≡ put (λ q. (r .codes q) .sz) a false q
+      signs q = ap (λ k. k .sz) (after q)
+          ∙ put-all (λ q b. eqb q a ⊕ (r .codes q) .sz ≡ b) (λ q. (r .codes q) .sz) a false
+          (ap₂ _⊕_ (same-place a) e) q (λ d. ap (λ b. b ⊕ (r .codes q) .sz) (other-place d))

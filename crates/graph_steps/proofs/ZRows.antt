@@ -16,8 +16,6 @@ use Rattle.pauli.specs.Pauli.{
   _+ᵖ_,
   Pauli,
   Phase,
-  anticommute,
-  identity,
   i⁰,
   letter,
   letterAt,
@@ -34,8 +32,8 @@ use Rattle.stabilizer.proofs.Products.{anticommute-form}
 use Rattle.stabilizer.specs.Groups.{chosen}
 use Rattle.words.proofs.Finite.{bits, ⊕-assoc, ⊕-zero}
 use Rattle.words.proofs.Places.{other-place, same-place}
-use Rattle.words.proofs.Sums.{bitMonoid, fold-ext, fold-one, fold-unit}
-use Rattle.words.specs.Bits.{Word, parity, _⊕_}
+use Rattle.words.proofs.Sums.{bitMonoid, fold-one, fold-unit}
+use Rattle.words.specs.Bits.{Word, _⊕_}
 
 -- Z at the places of a word
 abbrev pub zs : Word → Pauli
@@ -117,7 +115,8 @@ cz-signs : (za xa zb xb : Bool)
     → minus (xa && xb) +ᵖ (letterPhase (letter zb xb) (letter xa false) +ᵖ letterPhase (letter za xa) (letter xb false))
     ≡ minus (czSign za xa zb xb)
 cz-signs = phases 4
-    (λ za xa zb xb. minus (xa && xb) +ᵖ (letterPhase (letter zb xb) (letter xa false) +ᵖ letterPhase (letter za xa) (letter xb false)))
+    (λ za xa zb xb. minus (xa && xb) +ᵖ
+    (letterPhase (letter zb xb) (letter xa false) +ᵖ letterPhase (letter za xa) (letter xb false)))
     (λ za xa zb xb. minus (czSign za xa zb xb)) tt
 
 none-there : (z x : Bool) → letterPhase (letter z x) I ≡ i⁰
@@ -136,7 +135,8 @@ module _ (n a b : ℕ) (ha : a < n) (hb : b < n) (ab : a ≢ b) (p : Pauli) wher
       ≡ letterPhase (letter (f c) (g c)) (letter v false)
   one-z f g v c h =
       fold-one i⁰ _+ᵖ_ phaseMonoid n c h
-      (λ q k d. ap (λ t. letterPhase (letter (f q) (g q)) (letter t false)) (ap (λ t. v && t) (other-place d) ∙ and-false v)
+      (λ q k d. ap (λ t. letterPhase (letter (f q) (g q)) (letter t false))
+      (ap (λ t. v && t) (other-place d) ∙ and-false v)
       ∙ none-there (f q) (g q))
       ∙ ap (λ t. letterPhase (letter (f c) (g c)) (letter t false)) (ap (λ t. v && t) (same-place c) ∙ and-true v)
 

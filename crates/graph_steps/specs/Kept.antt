@@ -16,7 +16,8 @@ use Rattle.record.specs.Lent.{heldRecord, heldRows}
 use Rattle.record.specs.Records.{rowsOf}
 use Rattle.record.specs.Reduced.{reduced}
 use Rattle.stabilizer.specs.Groups.{SameGroup}
-use Rattle.graph_steps.specs.ReducedForms.{ReducedForm, Settled}
+use Rattle.words.specs.Bits.{isOdd}
+use Rattle.graph_steps.specs.ReducedForms.{ReducedForm}
 use Rattle.graph_steps.specs.Settling.{distance}
 
 -- two buffers held a record, and hold one with the same group, which no line refuses
@@ -26,21 +27,17 @@ pub record Kept (words codes words′ codes′ : List ℕ) : Type 0 where
   pub group : SameGroup (length words) (length words) (heldRows (recordIn words codes))
       (rowsOf (length words) (heldRecord (recordIn words′ codes′)))
 
--- a vertex out of place: its code is 12 or more, or it is 8 or more and the vertex has a larger neighbour
+-- a vertex out of place: its code is 12 or more, or odd, or it is 8 or more and the vertex has a larger neighbour
 abbrev pub unsettled : List ℕ → List ℕ → ℕ → Bool
 unsettled words codes j =
-    leb 12 (getD codes j 0) || (leb 8 (getD codes j 0) && not (eqb (getD words j 0 / 2 ^ j) 0))
+    leb 12 (getD codes j 0)
+    || (isOdd (getD codes j 0) || (leb 8 (getD codes j 0) && not (eqb (getD words j 0 / 2 ^ j) 0)))
 
 -- one step towards the reduced form
 pub record Nearer (words codes words′ codes′ : List ℕ) : Type 0 where
   pub kept : Kept words codes words′ codes′
   pub less : distance (length words) (heldRecord (recordIn words′ codes′))
       < distance (length words) (heldRecord (recordIn words codes))
-
--- all of them
-pub record SettledInPlace (words codes words′ codes′ : List ℕ) : Type 0 where
-  pub kept : Kept words codes words′ codes′
-  pub settled : Settled (length words) (heldRecord (recordIn words′ codes′))
 
 -- the reduced form is reached: the buffers hold the reduced record of the group
 pub record Normalised (words codes words′ codes′ : List ℕ) : Type 0 where

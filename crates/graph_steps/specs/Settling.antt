@@ -1,10 +1,10 @@
--- How far a record is from the reduced form: a number that every complementation and pivot of the settling loop lowers.
+-- How far a record is from the reduced form: a number that every step towards it lowers.
 -- Assumes nothing.
 use mathlib.Core.Bool.{Bool, cond, false, true}
 use Prim.Native.Nat.{_*_, _+_, _-_, ℕ}
 use Rattle.clifford.specs.Clifford.{Class, XY, XZ, YX, YZ, ZX, ZY, bitC}
 use Rattle.record.specs.Records.{GraphRecord}
-use Rattle.words.specs.Bits.{Word, digit, fold}
+use Rattle.words.specs.Bits.{Word, fold}
 
 -- the weights of the places below n where the word is 1
 unfoldable pub total : (ℕ → ℕ) → ℕ → Word → ℕ
@@ -20,7 +20,11 @@ isZY YX = false
 isZY ZY = true
 
 -- the vertices with C = 1 count, the smaller the more; then those of class 5
-unfoldable pub distance : ℕ → GraphRecord → ℕ
-distance n r =
+unfoldable pub unrest : ℕ → GraphRecord → ℕ
+unrest n r =
     total (λ q. n - q) n (λ q. bitC (r .codes q)) * (n + 1)
     + total (λ q. 1) n (λ q. isZY ((r .codes q) .class))
+
+-- and last those whose image of Z is negative
+unfoldable pub distance : ℕ → GraphRecord → ℕ
+distance n r = unrest n r * (n + 1) + total (λ q. 1) n (λ q. (r .codes q) .sz)

@@ -1,4 +1,4 @@
--- Steps on a graph and its codes: signs moved off the images of Z, CZ, and a measured vertex cut off.
+-- Steps on a graph and its codes: a sign moved off the image of Z, CZ, and a measured vertex cut off.
 -- Assumes nothing.
 use mathlib.Core.Bool.{_&&_, Bool, cond, false, not}
 use Prim.Native.Nat.{ℕ}
@@ -6,21 +6,17 @@ use lib.Dec.{eqb}
 use Rattle.clifford.specs.Clifford.{Clifford, XZ, ZX, bitC, then}
 use Rattle.graph.specs.Graph.{Graph}
 use Rattle.record.specs.Records.{GraphRecord}
-use Rattle.words.specs.Bits.{Word, parity, put, _⊕_}
+use Rattle.words.specs.Bits.{Word, put, _⊕_}
 
 -- a Pauli as a code: u, the image of Z is negative; v, that of X is
 abbrev pub pauliCode : Bool → Bool → Clifford
 pauliCode u v = record { class = XZ; sx = v; sz = u }
 
 -- ---- signs
--- X at the vertices that m names, and Z at each vertex that has an odd number of them as neighbours, before the codes:
--- the product of the generators that m names, which changes nothing
-abbrev pub signsMoved : ℕ → GraphRecord → Word → GraphRecord
-signsMoved n r m =
-    record {
-      graph = r .graph;
-      codes = λ q. then (pauliCode (m q) (parity n (λ t. r .graph q t && m t))) (r .codes q);
-    }
+-- X before the code at a, and Z before those of its neighbours: a generator of the graph, which changes nothing
+abbrev pub signMoved : GraphRecord → ℕ → GraphRecord
+signMoved r a =
+    record { graph = r .graph; codes = λ q. then (pauliCode (eqb q a) (r .graph a q)) (r .codes q) }
 
 -- ---- CZ on a record of reduced form
 -- Z at a is, up to a sign, the product of Z over these vertices of the graph: a itself where its code keeps Z, and the

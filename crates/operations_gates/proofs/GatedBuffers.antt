@@ -1,7 +1,6 @@
 -- A gate on a buffer of codes: the buffers hold the gated record, and no line refuses it. CZ after a reduction answers
 -- the reduced record of the new group.
 -- Assumes nothing.
-use mathlib.Core.Bool.{false}
 use mathlib.Core.List.{List}
 use mathlib.Core.Logic.{_≢_}
 use mathlib.Core.Path.{ap, subst, sym, _∙_, _≡_}
@@ -33,7 +32,6 @@ use Rattle.operations.proofs.UnrefusedRecords.{
 use Rattle.operations.specs.Cz.{czRows}
 use Rattle.operations.specs.Gates.{gated}
 use Rattle.operations.specs.InPlace.{Rewritten, Unrefused, recordIn}
-use Rattle.pauli.specs.Pauli.{Pauli}
 use Rattle.record.proofs.ReducedRecords.{record-proper}
 use Rattle.record.specs.Lent.{codeNumbers, heldRecord, neighbourWords}
 use Rattle.record.specs.Records.{GraphRecord, rowsOf}
@@ -68,14 +66,16 @@ module _ (words codes : List ℕ) (U : Unrefused (recordIn words codes)) (q : �
       }
 
   gated-above : (t : ℕ) → n ≤ t → put (codesOf codes) q new t ≡ identityClifford
-  gated-above t l = put-other (codesOf codes) q new t (λ d. absurd (omega (arith, d))) ∙ unrefused-above words codes U t l
+  gated-above t l = put-other (codesOf codes) q new t (λ d. absurd (omega (arith, d)))
+      ∙ unrefused-above words codes U t l
 
   pub gated-unrefused : Unrefused (recordIn words codes′)
   gated-unrefused = rewritten-unrefused words codes U (λ g. gated g q (cliffordOf k)) words codes′ gated-rewritten
       (unrefused-simple words codes U) gated-above
 
   pub gated-reduced : (words″ codes″ : List ℕ) → Normalised words codes′ words″ codes″
-      → Rewritten words codes (λ g. reduced (length words) (rowsOf (length words) (gated g q (cliffordOf k)))) words″ codes″
+      → Rewritten words codes (λ g. reduced (length words) (rowsOf (length words) (gated g q (cliffordOf k)))) words″
+      codes″
   gated-reduced words″ codes″ N =
       record {
         neighbours = N .after .neighbours ∙ ap (λ g. neighbourWords n (reduced n (rowsOf n g))) held;

@@ -1,6 +1,6 @@
 // Gates and CZ on a record in its buffers.
 use graph_joins::cz_reduced;
-use graph_moves::normalise;
+use graph_settling::normalise;
 use operations::compose;
 ghost use mathlib.Core.Logic.{_≢_};
 ghost use mathlib.Core.Path.{_≡_};

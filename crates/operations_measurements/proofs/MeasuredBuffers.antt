@@ -22,7 +22,7 @@ use Rattle.record.specs.Lent.{codeNumbers, heldRecord, heldRows, neighbourWords
 use Rattle.record.specs.Records.{GraphRecord, rowsOf}
 use Rattle.record.specs.Reduced.{reduced}
 use Rattle.words.proofs.Finite.{unequal}
-use Rattle.words.specs.Bits.{bit, _⊕_}
+use Rattle.words.specs.Bits.{_⊕_}
 
 -- a bit that differs from the sign read off is contradicted
 pub contradicted-as-read : (words codes : List ℕ) (pauli q : ℕ) (d m : Bool)
@@ -89,6 +89,7 @@ module _ (words codes : List ℕ) (pauli q : ℕ) (d m : Bool) (read : ReadOff (
 
       same : reduced n (rowsOf n held₁) ≡ reduced n (measuredRows n rows (pauliLetter pauli) q b)
       same = sym (reduced-of-group n (measuredRows n rows l q b) (rowsOf n held₁)
-          (measured-proper n rows (record-proper n (heldRecord (recordIn words codes)) (unrefused-simple words codes U)) l q hq b)
+          (measured-proper n rows
+          (record-proper n (heldRecord (recordIn words codes)) (unrefused-simple words codes U)) l q hq b)
           (record-proper n held₁ S₁) (G .group))
           ∙ ap (λ l. reduced n (measuredRows n rows l q b)) named

@@ -14,10 +14,15 @@ use Rattle.graph_steps.specs.Steps.{cutOff}
 use Rattle.operations.proofs.Determined.{determined-kept}
 use Rattle.operations.proofs.GroupAlone.{measured-of-group}
 use Rattle.operations.proofs.MeasuredRecords.{acts, determined-alone, pauli-acts}
-use Rattle.operations.proofs.UnrefusedRecords.{rewritten-held, rewritten-length, rewritten-unrefused, unrefused-above, unrefused-simple}
+use Rattle.operations.proofs.UnrefusedRecords.{
+  rewritten-held,
+  rewritten-length,
+  rewritten-unrefused,
+  unrefused-above,
+  unrefused-simple,
+}
 use Rattle.operations.specs.InPlace.{Rewritten, Unrefused, recordIn}
 use Rattle.operations.specs.Measurement.{isDetermined, measuredRows, pauliLetter}
-use Rattle.pauli.specs.Pauli.{Pauli}
 use Rattle.pauli.specs.declared.Letter.{Letter}
 use Rattle.pauli.specs.declared.Letter.the-variants.{I, X, Y, Z}
 use Rattle.record.proofs.ReducedRecords.{record-proper}
@@ -40,7 +45,8 @@ pub named-acts : (k : ℕ) {l : Letter} → 1 ≤ k → l ≡ pauliLetter k → 
 named-acts k h e i = true≢false (sym (pauli-acts k h) ∙ ap acts (sym e ∙ i))
 
 -- ---- the group afterwards
-module _ (words codes : List ℕ) (U : Unrefused (recordIn words codes)) (q : ℕ) (hq : q < length words) (l : Letter) where
+module _ (words codes : List ℕ) (U : Unrefused (recordIn words codes)) (q : ℕ) (hq : q < length words)
+    (l : Letter) where
   abbrev n : ℕ
   n = length words
 
@@ -51,7 +57,8 @@ module _ (words codes : List ℕ) (U : Unrefused (recordIn words codes)) (q : �
   simple = unrefused-simple words codes U
 
   -- determined: it stays
-  pub measured-determined : (b : Bool) {d : Bool} → d ≡ isDetermined (length words) (heldRows (recordIn words codes)) l q
+  pub measured-determined : (b : Bool) {d : Bool}
+      → d ≡ isDetermined (length words) (heldRows (recordIn words codes)) l q
       → d ≡ true → GroupMeasured words codes l q b words codes
   measured-determined b e t =
       record {
@@ -85,7 +92,8 @@ module _ (words codes : List ℕ) (U : Unrefused (recordIn words codes)) (q : �
               (record-proper n held₁ S₁) (F .kept .group) b)
               (subst (λ g. SameGroup n n (measuredRows n (rowsOf n held₁) l q b) (rowsOf n g))
               (sym (rewritten-held words₁ codes₁ U₁ f words₂ codes₂ R₁ S₂ above))
-              (subst (λ m. SameGroup n n (measuredRows n (rowsOf n held₁) m q b) (rowsOf n (cutOff held₁ q s))) (F .sends-z)
+              (subst (λ m. SameGroup n n (measuredRows n (rowsOf n held₁) m q b) (rowsOf n (cutOff held₁ q s)))
+              (F .sends-z)
               (same-sym (cut-same n held₁ S₁ q hq b))));
         }
       where

@@ -2,7 +2,7 @@
 use clifford::Code;
 use graph_cuts::cut_off;
 use graph_cuts::face_z;
-use graph_moves::normalise;
+use graph_settling::normalise;
 use operations::Outcome;
 use pauli::Letter;
 use pauli::x_bit;
@@ -69,7 +69,8 @@ pub fn contradicted(neighbours: &[u64], codes: &[u8], pauli: u8, q: usize, bit: 
 // graph, and the vertex is cut off.
 fn measure_open(neighbours: &mut [u64], codes: &mut [u8], l: Letter, q: usize, bit: bool)
     requires { ⌜ Unrefused (recordIn (now neighbours) (now codes)) × (q < length (now neighbours)) ⌝ }
-    requires { ⌜ isDetermined (length (now neighbours)) (heldRows (recordIn (now neighbours) (now codes))) l q ≡ false ⌝ }
+    requires { ⌜ isDetermined (length (now neighbours)) (heldRows (recordIn (now neighbours) (now codes))) l q
+        ≡ false ⌝ }
     requires { ⌜ (l ≡ I → ⊥) ⌝ }
     ensures { λ r. ⌜ GroupMeasured (now (neighbours .entry)) (now (codes .entry)) l q bit
         (now (neighbours .exit)) (now (codes .exit)) ⌝ }

@@ -6,6 +6,7 @@ use words::smallest;
 ghost use mathlib.Core.Bool.{cond};
 ghost use mathlib.Core.Path.{_≡_};
 ghost use Prim.Native.Nat.{ℕ, _<_, _≤_, _^_};
+ghost use lib.Dec.{eqb};
 ghost use lib.ListN.{getD, length};
 ghost use Rattle.buffers.specs.Buffers.{tabulate};
 ghost use Rattle.clifford.specs.Clifford.{cliffordOf, codeOf, then};
@@ -30,15 +31,26 @@ pub fn put_before(codes: &mut [u8], word: u64, k: u8)
     }
 }
 
-// Complements the record at vertex a: 6 before the codes of its neighbours, and 13 before its own.
+// A code before that of vertex a, and another before those of its neighbours.
+pub fn recode(neighbours: &[u64], codes: &mut [u8], a: usize, own: u8, near: u8)
+    requires { ⌜ Unrefused (recordIn (now neighbours) (now codes)) × (a < length (now neighbours)) ⌝ }
+    requires { ⌜ (own < 24) × (near < 24) ⌝ }
+    ensures { λ r. ⌜ now (codes .exit) ≡ tabulate (length (now (neighbours .entry))) (λ q. codeOf (cond (eqb q a)
+        (then (cliffordOf own) (codesOf (now (codes .entry)) q)) (cond (bit (getD (now (neighbours .entry)) a 0) q)
+        (then (cliffordOf near) (codesOf (now (codes .entry)) q)) (codesOf (now (codes .entry)) q)))) ⌝ }
+{
+    let first = compose(own, codes[a]);
+    put_before(codes, neighbours[a], near);
+    codes[a] = first;
+}
+
+// Complements the record at vertex a: 13 before its code, and 6 before those of its neighbours.
 pub fn complement_record(neighbours: &mut [u64], codes: &mut [u8], a: usize)
     requires { ⌜ Unrefused (recordIn (now neighbours) (now codes)) × (a < length (now neighbours)) ⌝ }
     ensures { λ r. ⌜ Rewritten (now (neighbours .entry)) (now (codes .entry)) (λ g. complementRecord g a)
         (now (neighbours .exit)) (now (codes .exit)) ⌝ }
 {
-    let own = compose(13, codes[a]);
-    put_before(codes, neighbours[a], 6);
-    codes[a] = own;
+    recode(neighbours, codes, a, 13, 6);
     complement_words(neighbours, a);
 }
 

@@ -14,7 +14,7 @@ use lib.Pow.{pow-mono}
 use Rattle.graph.specs.Graph.{Graph}
 use Rattle.words.proofs.BitLaws.{bit-above, bit-flip, flip-less, zero-bit}
 use Rattle.words.proofs.Finite.{⊕-zero}
-use Rattle.words.proofs.Flags.{both-true, either, same-by-both}
+use Rattle.words.proofs.Flags.{either, same-by-both}
 use Rattle.words.proofs.Places.{other-place, same-place}
 use Rattle.words.proofs.SearchLaws.{some-in, some-none, some-true}
 use Rattle.words.proofs.Sums.{lt-or-ge}
@@ -66,7 +66,8 @@ module _ (n : ℕ) (neighbours : List ℕ) (i rest : ℕ) (E : EndsSeen n neighb
       (ap₂ (λ u v. u && not v) (E .named j here) (sym f) ∙ h))
 
   -- it has it
-  pub end-found : {b : Bool} → b ≡ bit (getD neighbours j 0) i → not b ≡ false → (rest′ : ℕ) → rest′ ≡ bitXor rest (2 ^ j)
+  pub end-found : {b : Bool} → b ≡ bit (getD neighbours j 0) i → not b ≡ false → (rest′ : ℕ) → rest′
+      ≡ bitXor rest (2 ^ j)
       → EndsSeen n neighbours i rest′
   end-found f h rest′ g =
       record {
@@ -85,7 +86,8 @@ module _ (n : ℕ) (neighbours : List ℕ) (i rest : ℕ) (E : EndsSeen n neighb
       }
     where
       other : (q : ℕ) → q ≢ j → bit rest′ q ≡ bit rest q
-      other q d = ap (λ m. bit m q) g ∙ bit-flip rest j q ∙ ap (λ b. bit rest q ⊕ b) (other-place d) ∙ ⊕-zero (bit rest q)
+      other q d = ap (λ m. bit m q) g ∙ bit-flip rest j q ∙ ap (λ b. bit rest q ⊕ b) (other-place d)
+          ∙ ⊕-zero (bit rest q)
 
       gone : bit rest′ j ≡ false
       gone = ap (λ m. bit m j) g ∙ bit-flip rest j j ∙ ap₂ _⊕_ here (same-place j)

@@ -1,8 +1,10 @@
 //! What the benchmarks share: the calls in plain Rust, seeded cases, and times.
 
 pub mod calls;
+pub mod load;
 pub mod pairs;
 pub mod plain;
+pub mod session;
 mod timing;
 
 #[path = "../../sukhlent/tests/common/codes.rs"]

@@ -12,7 +12,8 @@ slice-read-sends c =
     let at-face = c .before .before .before .before .before in
     let begun = at-face .before .before .before .before .before in
     let kept = at-face .face-y .ensures .0 in
-    unrefused-place _ _ (kept .unrefused) _ (still-below _ _ _ _ kept (begun .args .q) (begun .args .l) (begun .pre .0 .1))
+    unrefused-place _ _ (kept .unrefused) _
+    (still-below _ _ _ _ kept (begun .args .q) (begun .args .l) (begun .pre .0 .1))
 
 sends-requires : tie.Need-sends-requires
 sends-requires c κs =

@@ -25,7 +25,8 @@ mul-joined-word c =
     let start = inside .before .before .before in
     omega (
       arith,
-      next-short _ _ _ _ _ (inside .before .loop .inv) (start .pre .0) (inside .loop-test .taken) _ (c .smallest .ensures .0),
+      next-short _ _ _ _ _ (inside .before .loop .inv) (start .pre .0) (inside .loop-test .taken) _
+          (c .smallest .ensures .0),
     )
 
 slice-read-joined-word : tie.Need-slice-read-joined-word Inv-loop μ-loop

@@ -23,7 +23,8 @@ returns c = λ l.
     let at-has2 = c .before in
     let at-has = at-has2 .before .before in
     let a = at-has .before .args in
-    turned-bits (a .word) _ _ (λ l. at-has .has .result && bit (a .to-b) l) (λ l. at-has2 .has2 .result && bit (a .to-a) l)
+    turned-bits (a .word) _ _ (λ l. at-has .has .result && bit (a .to-b) l)
+    (λ l. at-has2 .has2 .result && bit (a .to-a) l)
     (at-has2 .before .where-true .ensures) (c .where-true2 .ensures) l
     ∙ ap₂ (λ u v. bit (a .word) l ⊕ ((u && bit (a .to-b) l) ⊕ (v && bit (a .to-a) l))) (at-has .has .ensures)
     (at-has2 .has2 .ensures)

@@ -1,8 +1,9 @@
 use native.Mathlib.Omega.{arith}
 use borrow.Author.Needs.{needs}
 use Rattle.graph_steps.proofs.Keeping.{complement-nearer, pivot-nearer}
-use Rattle.graph_steps.proofs.OutOfPlace.{complement-less, larger-below, pivot-less, word-reaches}
+use Rattle.graph_steps.proofs.OutOfPlace.{complement-less, larger-below, pivot-less, sign-less, word-reaches}
 use Rattle.operations.proofs.UnrefusedRecords.{unrefused-place, unrefused-short}
+use Rattle.graph_settling.proofs.SignBuffers.{sign-nearer}
 use Rattle.graph_settling.proofs.settle_at.Statement.{statement}
 use Rattle.graph_settling.proofs.settle_at.Tie as tie
 
@@ -43,6 +44,9 @@ pivot-record-requires c κs =
 complement-record-requires : tie.Need-complement-record-requires
 complement-record-requires c κs = search needs
 
+move-sign-requires : tie.Need-move-sign-requires
+move-sign-requires c κs = search needs
+
 same-length : tie.Need-same-length
 same-length c = search needs
 
@@ -71,9 +75,23 @@ returns-2 : tie.Need-returns-2
 returns-2 c =
     let at-complement = c .before .before .before .before in
     let branch = at-complement .before .before .before in
-    let start = branch .before .before .before .before .before .pre in
+    let start = branch .before .before .before .before .before .before .pre in
     complement-nearer _ _ (start .0 .0) _ _ _ (start .0 .1) (at-complement .complement-record .ensures)
-    (complement-less _ _ (start .0 .0) _ (start .0 .1) (start .1) (branch .if1 .left))
+    (complement-less _ _ (start .0 .0) _ (start .0 .1) (start .1) (branch .before .if1 .left) (branch .if2 .taken))
+
+same-length-5 : tie.Need-same-length-5
+same-length-5 c = search needs
+
+same-length-6 : tie.Need-same-length-6
+same-length-6 c = search needs
+
+returns-3 : tie.Need-returns-3
+returns-3 c =
+    let at-sign = c .before .before in
+    let branch = at-sign .before .before .before in
+    let start = branch .before .before .before .before .before .before .pre in
+    sign-nearer _ _ (start .0 .0) _ (start .0 .1) _ (at-sign .move-sign .ensures)
+    (sign-less _ _ (start .0 .0) _ (start .0 .1) (start .1) (branch .before .if1 .left) (branch .if2 .left))
 
 pub settle-at-spec : {M : Type 1} → statement M
 settle-at-spec =
@@ -86,9 +104,13 @@ settle-at-spec =
     largest-requires
     pivot-record-requires
     complement-record-requires
+    move-sign-requires
     same-length
     same-length-2
     returns
     same-length-3
     same-length-4
-    returns-2)
+    returns-2
+    same-length-5
+    same-length-6
+    returns-3)

@@ -8,7 +8,8 @@ returns : tie.Need-returns
 returns c =
     let begun = c .before .before .before in
     let start = begun .pre in
-    measured-determined _ _ (start .0 .0) (begun .args .q) (start .0 .1) (begun .args .l) (begun .args .bit) (start .1 .0)
+    measured-determined _ _ (start .0 .0) (begun .args .q) (start .0 .1) (begun .args .l) (begun .args .bit)
+    (start .1 .0)
     (c .if1 .taken)
 
 measure-open-requires : tie.Need-measure-open-requires

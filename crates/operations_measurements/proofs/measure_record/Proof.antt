@@ -43,7 +43,8 @@ returns c =
     let at-read = at-letter .before .before .before in
     let begun = at-read .before .before .before .before .before in
     let start = begun .pre in
-    measured-as-read _ _ _ _ _ _ (at-read .read-off .ensures) (at-letter .letter-named .ensures) (start .0 .0) (start .0 .1)
+    measured-as-read _ _ _ _ _ _ (at-read .read-off .ensures) (at-letter .letter-named .ensures) (start .0 .0)
+    (start .0 .1)
     (begun .args .bit) _ (c .outcome-of .ensures) _ _ (at-measure .measure-group .ensures) _ _
     (at-normalise .normalise .ensures)
 

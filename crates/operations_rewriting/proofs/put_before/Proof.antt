@@ -13,7 +13,8 @@ abbrev μ-loop : tie.MeasureT-loop
 μ-loop codes₀ word k rest₀ codes rest = rest
 
 loop-holds : tie.Need-loop-holds Inv-loop μ-loop
-loop-holds c = let start = c .before in put-start _ (start .args .word) (start .args .k) (start .pre .0 .1) (start .pre .1 .0)
+loop-holds c = let start = c .before in put-start _ (start .args .word) (start .args .k) (start .pre .0 .1)
+    (start .pre .1 .0)
 
 smallest-requires : tie.Need-smallest-requires Inv-loop μ-loop
 smallest-requires c κs = search needs
@@ -35,7 +36,8 @@ compose-requires c κs =
     let i = at-smallest .smallest .result in (
       start .pre .1 .1,
       subst (λ v. v < 24)
-          (sym (inv .left i (next-named _ _ _ _ _ inv (start .pre .0 .0) (inside .loop-test .taken) _ (at-smallest .smallest .ensures .0))))
+          (sym (inv .left i (next-named _ _ _ _ _ inv (start .pre .0 .0) (inside .loop-test .taken) _
+          (at-smallest .smallest .ensures .0))))
           (start .pre .0 .1 i),
     )
 

@@ -12,6 +12,7 @@ mod search;
 pub use compare::compare;
 pub use image::image;
 pub use reduce::reduce;
+pub use row::Row;
 
 /// The places of a buffer for a list of complementations.
 const LIST_PLACES: usize = 96;

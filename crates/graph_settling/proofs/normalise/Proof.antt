@@ -11,8 +11,8 @@ use Rattle.graph_settling.proofs.SettlingLoop.{
   settling-more,
   settling-start,
 }
-use Rattle.graph_settling.proofs.settle.Statement.{statement}
-use Rattle.graph_settling.proofs.settle.Tie as tie
+use Rattle.graph_settling.proofs.normalise.Statement.{statement}
+use Rattle.graph_settling.proofs.normalise.Tie as tie
 
 abbrev Inv-loop : tie.InvT-loop
 Inv-loop neighbours₀ codes₀ j₀ neighbours codes j = Settling neighbours₀ codes₀ neighbours codes j
@@ -52,13 +52,16 @@ same-length c = c .before .loop .inv .kept .long
 
 same-length-2 : tie.Need-same-length-2 Inv-loop μ-loop
 same-length-2 c =
-    kept-codes-long _ _ _ _ (c .before .before .before .before .before .before .before .pre) (c .before .loop .inv .kept)
+    kept-codes-long _ _ _ _ (c .before .before .before .before .before .before .before .pre)
+    (c .before .loop .inv .kept)
 
 returns : tie.Need-returns Inv-loop μ-loop
-returns c = settling-end _ _ _ _ _ (c .before .loop .inv) (c .loop-test .left)
+returns c =
+    settling-end _ _ _ _ _ (c .before .loop .inv) (c .before .before .before .before .before .before .before .pre)
+    (c .loop-test .left)
 
-pub settle-spec : {M : Type 1} → statement M
-settle-spec =
+pub normalise-spec : {M : Type 1} → statement M
+normalise-spec =
     tie.close
     (tie.spec
     Inv-loop

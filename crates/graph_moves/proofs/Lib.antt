@@ -1,2 +1,0 @@
-pub mod OddWords
-pub mod Signs

@@ -1,0 +1,61 @@
+//! A job of steps in three ways: by the calls, by expanding, changing the list and reducing, and on a
+//! plain tableau. All qubits start in +Z.
+
+mod calls;
+mod lists;
+mod plain;
+
+pub use calls::Calls;
+pub use lists::Lists;
+pub use plain::Plain;
+
+use crate::operation::Operation;
+use sukhlent::{reduce, GeneratorList, Record};
+use tableau::Measured;
+
+/// What a step answers.
+#[derive(Clone, Copy, Debug, PartialEq, Eq)]
+pub enum Answer {
+    /// A gate or a CZ.
+    Done,
+    /// A measurement.
+    Measured(Measured),
+    /// A measurement whose outcome the state forbids: nothing changes.
+    Refused,
+}
+
+/// One way.
+pub trait Session {
+    /// All qubits in +Z.
+    fn start(n: usize) -> Self;
+
+    /// A gate, a CZ or a measurement with good arguments.
+    fn step(&mut self, operation: Operation) -> Answer;
+
+    /// The reduced record of the state.
+    fn record(&self) -> Record;
+}
+
+/// A job from its start; the sum depends on every answer.
+pub fn run<S: Session>(n: usize, job: &[Operation]) -> (S, u64) {
+    let mut session = S::start(n);
+    let sum = job.iter().fold(0, |sum: u64, &operation| {
+        let digit = match session.step(operation) {
+            Answer::Done => 0,
+            Answer::Measured(measured) => 1 + u64::from(measured.outcome),
+            Answer::Refused => 3,
+        };
+        sum.wrapping_mul(5).wrapping_add(digit)
+    });
+    (session, sum)
+}
+
+/// The buffers of the starting record: code 8 and no edge.
+fn start_buffers(n: usize) -> (Vec<u64>, Vec<u8>) {
+    (vec![0; n], vec![8; n])
+}
+
+/// The record of a list of generators.
+fn record_of(signs: Vec<u8>, z: Vec<u64>, x: Vec<u64>) -> Record {
+    reduce(&GeneratorList { signs, z, x }).expect("a list of proper generators")
+}
