@@ -16,3 +16,4 @@ pub mod EquationTables
 pub mod Filling
 pub mod ComparedRecords
 pub mod OneQubit
+pub mod SettledChoices

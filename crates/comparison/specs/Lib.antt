@@ -3,3 +3,4 @@ pub mod Compared
 pub mod Equations
 pub mod Setting
 pub mod Searches
+pub mod Settled
