@@ -17,3 +17,4 @@ pub mod Filling
 pub mod ComparedRecords
 pub mod OneQubit
 pub mod SettledChoices
+pub mod ChoicesByParts

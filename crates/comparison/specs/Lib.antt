@@ -4,3 +4,4 @@ pub mod Equations
 pub mod Setting
 pub mod Searches
 pub mod Settled
+pub mod PartChoices

@@ -96,6 +96,21 @@ module _ (n : ℕ) (θ : Graph) where
           clash true e f = false≢true f
           clash false e f = false≢true e
 
+  -- two vertices of a part lie in one another's
+  pub part-together : ((i j : ℕ) → θ i j ≡ θ j i) → (q i j : ℕ) → q < n → i < n → j < n → partOf n θ q i ≡ true
+      → partOf n θ q j ≡ true → partOf n θ i j ≡ true
+  part-together symmetric q i j k l m a b = in-part i j (λ v C h. go v C h (bit v q) refl)
+    where
+      clash : (v : Bool) → v ≡ true → not v ≡ true → ⊥
+      clash true e f = false≢true f
+      clash false e f = false≢true e
+
+      go : (v : ℕ) → Closed n θ (bit v) → bit v i ≡ true → (x : Bool) → bit v q ≡ x → bit v j ≡ true
+      go v C h true e = part-within (bit v) C q j k m e b
+      go v C h false e =
+          absurd (clash (bit v i) h
+          (part-within (λ t. not (bit v t)) (rest-closed symmetric (bit v) C) q i k l (ap not e) a))
+
 -- graphs with the same closed sets have the same parts
 pub same-parts : (n : ℕ) (θ φ : Graph) → ((s : Word) → Closed n θ s → Closed n φ s)
     → ((s : Word) → Closed n φ s → Closed n θ s) → (q t : ℕ) → partOf n θ q t ≡ partOf n φ q t
