@@ -40,14 +40,13 @@ pub carries-on : (n : ℕ) (s : Word) (c : ℕ → Clifford) (rows others : ℕ 
 carries-on n s c rows others K =
     record {
       into = λ p a A. K .into p a;
-      onto = λ p a A. let b = K .onto p a in
-          (
-            b .0,
-            b .1,
-            subst (ActsOn n s) (ap (act n (λ q. inverse (c q))) (b .2) ∙ act-inverse n c (b .0))
-                (avoids-act n (λ q. not (s q)) (λ q. inverse (c q)) p A),
-            b .2,
-          );
+      onto = λ p a A. let b = K .onto p a in (
+        b .0,
+        b .1,
+        subst (ActsOn n s) (ap (act n (λ q. inverse (c q))) (b .2) ∙ act-inverse n c (b .0))
+            (avoids-act n (λ q. not (s q)) (λ q. inverse (c q)) p A),
+        b .2,
+      );
     }
 
 -- equal groups have equal elements that act on a set
@@ -130,7 +129,7 @@ module _ (n : ℕ) (r t : GraphRecord) (R : Simple n (r .graph)) (T : Simple n (
         sent j l =
             let F = head-is j l in
             let inside : partOf n (r .graph) (head j) j ≡ true = part-together n (r .graph) (R .symmetric) j (head j) j l
-                (F .below) l (F .passes) (part-has n (r .graph) j) in
+            (F .below) l (F .passes) (part-has n (r .graph) j) in
             subst (InGroup n n (rowsOf n t))
             (same-sent n r t R T (partOf n (r .graph) j) (part-closed n (r .graph) j l) (serving (head j) .0) made
             (λ u k a. ap (λ q. serving q .0 u) (sym (same-head j u l k a))) j l (part-has n (r .graph) j))

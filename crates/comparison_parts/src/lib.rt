@@ -44,9 +44,10 @@ fn compare_listed(
     ensures { λ r. ⌜ PartAnswer n (now (neighbours .entry)) (now (codes .entry)) (now (neighbours2 .entry))
         (now (codes2 .entry)) (length (now (words .entry))) at (r .found) (r .choice) ⌝ }
 {
+    let k = words.len();
     extract(neighbours, codes, at, words, numbers);
     extract(neighbours2, codes2, at, words2, numbers2);
-    compare_records(words.len(), words, numbers, words2, numbers2)
+    compare_records(k, words, numbers, words2, numbers2)
 }
 
 // The choice with the codes of a part at its vertices.
@@ -83,7 +84,10 @@ fn compare_island(
         (held n (now (neighbours2 .entry)) (now (codes2 .entry))) island choice (r .found) (r .choice) ⌝ }
 {
     if spread(neighbours2, island) != island {
-        return Whole { found: false, choice };
+        return Whole {
+            found: false,
+            choice,
+        };
     }
     let listed = vertices(island);
     let k = listed.count;
@@ -106,11 +110,17 @@ fn compare_island(
         &mut numbers2[..k],
     );
     if !answer.found {
-        return Whole { found: false, choice };
+        return Whole {
+            found: false,
+            choice,
+        };
     }
     let chosen = answer.choice;
     let whole = placed(at, k, chosen, choice);
-    Whole { found: true, choice: whole }
+    Whole {
+        found: true,
+        choice: whole,
+    }
 }
 
 // The least choice that carries the group of the first record onto that of the second; no part of the first graph has
@@ -135,10 +145,16 @@ pub fn compare_parts(
         let whole = compare_island(n, neighbours, codes, neighbours2, codes2, island, choice);
         let next = whole.choice;
         if !whole.found {
-            return Whole { found: false, choice: next };
+            return Whole {
+                found: false,
+                choice: next,
+            };
         }
         choice = next;
         rest = rest ^ (rest & island);
     }
-    Whole { found: true, choice }
+    Whole {
+        found: true,
+        choice,
+    }
 }

@@ -30,7 +30,6 @@ numbered-or-not (suc k) e q = go (ℕ-discrete (e k) q) (numbered-or-not k e q)
 
 module _ {A : Type 0} (unit : A) (_·_ : A → A → A) (M : Monoid A unit _·_) where
   infixl 70 _·_
-
   pub fold-along : (n k : ℕ) (e : ℕ → ℕ) → ((i j : ℕ) → i < j → j < k → e i < e j)
       → ((i : ℕ) → i < k → e i < n) → (f : ℕ → A)
       → ((q : ℕ) → q < n → ((i : ℕ) → i < k → e i ≡ q → ⊥) → f q ≡ unit)

@@ -47,9 +47,11 @@ loop-less c = omega arith
 loop-again : tie.Need-loop-again Inv-loop μ-loop
 loop-again c =
     let H = c .before in
-    let L = H .before .before in
-    (omega arith, compressed-more (L .before .args .t2) (L .before .args .w) (L .loop .bits) (L .loop .i) _ _
-    (L .loop .inv .1) (H .has .ensures) (c .flip-where .ensures))
+    let L = H .before .before in (
+      omega arith,
+      compressed-more (L .before .args .t2) (L .before .args .w) (L .loop .bits) (L .loop .i) _ _
+          (L .loop .inv .1) (H .has .ensures) (c .flip-where .ensures),
+    )
 
 -- src/lib.rt:38:1
 returns : tie.Need-returns Inv-loop μ-loop

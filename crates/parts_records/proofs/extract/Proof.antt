@@ -89,9 +89,10 @@ loop-less c =
 loop-again : tie.Need-loop-again Inv-loop μ-loop
 loop-again c =
     let I = c .before .before .before in
-    let L = I .before in
-    (fill-step _ _ (L .loop .words) (L .loop .i) _ (L .loop .inv .0) (I .loop-test .taken) (c .before .compress .ensures),
-    fill-step _ _ (L .loop .numbers) (L .loop .i) _ (L .loop .inv .1) (I .loop-test .taken) refl)
+    let L = I .before in (
+      fill-step _ _ (L .loop .words) (L .loop .i) _ (L .loop .inv .0) (I .loop-test .taken) (c .before .compress .ensures),
+      fill-step _ _ (L .loop .numbers) (L .loop .i) _ (L .loop .inv .1) (I .loop-test .taken) refl,
+    )
 
 -- src/lib.rt:53:1
 same-length : tie.Need-same-length Inv-loop μ-loop
@@ -106,9 +107,10 @@ same-length-2 c =
 -- src/lib.rt:53:1
 returns : tie.Need-returns Inv-loop μ-loop
 returns c =
-    let L = c .before in
-    (fill-end _ _ (L .loop .words) (L .loop .i) (L .loop .inv .0) (c .loop-test .left),
-    fill-end _ _ (L .loop .numbers) (L .loop .i) (L .loop .inv .1) (c .loop-test .left))
+    let L = c .before in (
+      fill-end _ _ (L .loop .words) (L .loop .i) (L .loop .inv .0) (c .loop-test .left),
+      fill-end _ _ (L .loop .numbers) (L .loop .i) (L .loop .inv .1) (c .loop-test .left),
+    )
 
 pub extract-spec : {M : Type 1} → statement M
 extract-spec =

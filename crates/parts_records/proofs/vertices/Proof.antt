@@ -37,8 +37,11 @@ smallest-requires c κs = search needs
 mul-at : tie.Need-mul-at Inv-loop μ-loop
 mul-at c =
     let L = c .before .before in
-    omega (arith, room (L .before .args .island) (L .loop .at) (L .loop .k) (L .loop .rest) (L .loop .inv)
-    (c .before .loop-test .taken) _ (c .smallest .ensures .0))
+    omega (
+      arith,
+      room (L .before .args .island) (L .loop .at) (L .loop .k) (L .loop .rest) (L .loop .inv)
+          (c .before .loop-test .taken) _ (c .smallest .ensures .0),
+    )
 
 -- src/lib.rt:30:9
 array-write-at : tie.Need-array-write-at Inv-loop μ-loop
@@ -52,8 +55,11 @@ array-write-at c =
 add-k : tie.Need-add-k Inv-loop μ-loop
 add-k c =
     let L = c .before .before in
-    omega (arith, room (L .before .args .island) (L .loop .at) (L .loop .k) (L .loop .rest) (L .loop .inv)
-    (c .before .loop-test .taken) _ (c .smallest .ensures .0))
+    omega (
+      arith,
+      room (L .before .args .island) (L .loop .at) (L .loop .k) (L .loop .rest) (L .loop .inv)
+          (c .before .loop-test .taken) _ (c .smallest .ensures .0),
+    )
 
 -- src/lib.rt:32:9
 flip-requires : tie.Need-flip-requires Inv-loop μ-loop

@@ -46,13 +46,15 @@ loop-again : tie.Need-loop-again Inv-loop μ-loop
 loop-again c =
     let L = c .before .before .before in
     let a = L .before .before .args in
-    let seen = sym (c .before .has .ensures) in
-    (omega arith, ⊎-elim
-    (λ w. passed-joined (a .neighbours .now) (a .marked) (L .loop .reached) (L .loop .i) _ (L .loop .inv .1)
-    (seen ∙ w .0 .taken) (w .2))
-    (λ w. passed-kept (a .neighbours .now) (a .marked) (L .loop .reached) (L .loop .i) _ (L .loop .inv .1)
-    (seen ∙ w .0 .left) (w .1))
-    (c .if1 .came))
+    let seen = sym (c .before .has .ensures) in (
+      omega arith,
+      ⊎-elim
+          (λ w. passed-joined (a .neighbours .now) (a .marked) (L .loop .reached) (L .loop .i) _ (L .loop .inv .1)
+          (seen ∙ w .0 .taken) (w .2))
+          (λ w. passed-kept (a .neighbours .now) (a .marked) (L .loop .reached) (L .loop .i) _ (L .loop .inv .1)
+          (seen ∙ w .0 .left) (w .1))
+          (c .if1 .came),
+    )
 
 -- src/lib.rt:15:1
 returns : tie.Need-returns Inv-loop μ-loop
