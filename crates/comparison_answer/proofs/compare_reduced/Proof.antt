@@ -31,17 +31,19 @@ use Rattle.parts_words.proofs.part_above.Reads as part-above-reads
 part-above-requires : tie.Need-part-above-requires
 part-above-requires c κs =
     let S = c .before .before .before .before .before .before in
-    let F = S .pre .0 in
-    (omega (arith, F .neighbours-length, F .upto),
-    subst (λ m. Simple m (graphIn (S .args .neighbours .now))) (sym (F .neighbours-length)) (F .simple))
+    let F = S .pre .0 in (
+      omega (arith, F .neighbours-length, F .upto),
+      subst (λ m. Simple m (graphIn (S .args .neighbours .now))) (sym (F .neighbours-length)) (F .simple),
+    )
 
 -- src/lib.rt:88:33
 part-above-requires-2 : tie.Need-part-above-requires-2
 part-above-requires-2 c κs =
     let S = c .before .before .before .before .before .before .before in
-    let F = S .pre .1 .0 in
-    (omega (arith, F .neighbours-length, F .upto),
-    subst (λ m. Simple m (graphIn (S .args .neighbours2 .now))) (sym (F .neighbours-length)) (F .simple))
+    let F = S .pre .1 .0 in (
+      omega (arith, F .neighbours-length, F .upto),
+      subst (λ m. Simple m (graphIn (S .args .neighbours2 .now))) (sym (F .neighbours-length)) (F .simple),
+    )
 
 -- src/lib.rt:89:9
 returns : tie.Need-returns
@@ -56,10 +58,11 @@ returns c =
 compare-parts-requires : tie.Need-compare-parts-requires
 compare-parts-requires c κs =
     let S = c .before .before .before .before .before .before .before .before .before in
-    let a = S .args in
-    ((S .pre .0 .positive, accepted-pair (a .n) (a .neighbours .now) (a .codes .now) (a .neighbours2 .now) (a .codes2 .now) (S .pre .0) (S .pre .1 .0)),
-    first-small _ _ (large-tests (a .n) (a .neighbours .now) (a .neighbours2 .now) _ _ _ (S .pre .0 .neighbours-length)
-    (S .pre .1 .0 .neighbours-length) (c .before .before .part-above .ensures) (c .before .part-above2 .ensures) (c .if1 .left)))
+    let a = S .args in (
+      (S .pre .0 .positive, accepted-pair (a .n) (a .neighbours .now) (a .codes .now) (a .neighbours2 .now) (a .codes2 .now) (S .pre .0) (S .pre .1 .0)),
+      first-small _ _ (large-tests (a .n) (a .neighbours .now) (a .neighbours2 .now) _ _ _ (S .pre .0 .neighbours-length)
+          (S .pre .1 .0 .neighbours-length) (c .before .before .part-above .ensures) (c .before .part-above2 .ensures) (c .if1 .left)),
+    )
 
 -- src/lib.rt:93:9
 returns-2 : tie.Need-returns-2
@@ -100,11 +103,17 @@ induced-image-requires c κs =
     let small = (large-tests (a .n) (a .neighbours .now) (a .neighbours2 .now) _ _ _ (S .pre .0 .neighbours-length)
     (S .pre .1 .0 .neighbours-length) (E₁ .before .before .part-above .ensures) (E₁ .before .part-above2 .ensures) (E₁ .if1 .left)) in
     let x = T .compare-parts .result .choice in
-    let e = choice-written (a .n) x (a .choice .now) _ (S .pre .1 .1 .0) (K .copy-choice .ensures) in
-    (S .pre .0,
-    ((choice-long (a .n) x _ e, S .pre .1 .0 .codes-length, part-long _ _ (S .pre .0 .upto) refl),
-    (chosen-codes (a .n) (a .neighbours .now) (a .codes .now) (a .neighbours2 .now) (a .codes2 .now) (S .pre .0) (S .pre .1 .0) small
-    (T .compare-parts .result .found) (T .compare-parts .result .choice) (T .compare-parts .ensures) (not-false _ (E .if2 .left)) _ e, S .pre .1 .0 .codes-below)))
+    let e = choice-written (a .n) x (a .choice .now) _ (S .pre .1 .1 .0) (K .copy-choice .ensures) in (
+      S .pre .0,
+      (
+        (choice-long (a .n) x _ e, S .pre .1 .0 .codes-length, part-long _ _ (S .pre .0 .upto) refl),
+        (
+          chosen-codes (a .n) (a .neighbours .now) (a .codes .now) (a .neighbours2 .now) (a .codes2 .now) (S .pre .0) (S .pre .1 .0) small
+              (T .compare-parts .result .found) (T .compare-parts .result .choice) (T .compare-parts .ensures) (not-false _ (E .if2 .left)) _ e,
+          S .pre .1 .0 .codes-below,
+        ),
+      ),
+    )
 
 -- src/lib.rt:100:5
 copy-list-requires : tie.Need-copy-list-requires
