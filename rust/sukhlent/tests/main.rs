@@ -13,6 +13,7 @@ mod groups;
 mod image_refusals;
 mod images;
 mod in_place_refusals;
+mod islands;
 mod large;
 mod lengths;
 mod library;

@@ -3,6 +3,7 @@
 mod cut;
 mod expansion;
 mod membership;
+mod parts;
 mod product;
 mod reduction;
 mod refusals;
@@ -10,6 +11,7 @@ mod refusals;
 pub use cut::cut_rank;
 pub use expansion::expanded;
 pub use membership::is_element;
+pub use parts::parts;
 pub use product::product;
 pub use reduction::reduced;
 pub use refusals::{argument_refusal, cut_refusal, image_refusal, in_place_refusal};
