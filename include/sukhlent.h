@@ -25,7 +25,6 @@
  *    1  the program's text does not have its form
  *   15  a job has more than 4,096 steps
  *    2  n is 0 or above 64, or the two lists' n differ
- *    3  a comparison has n above 20
  *    4  a buffer's length is not what is required
  *    5  a word has a bit at or above n
  *    6  a sign or outcome is above 1, a code above 23, a Pauli not 1 to 3, or a
@@ -35,6 +34,7 @@
  *       edge
  *    9  two generators do not commute
  *   10  the generators are dependent
+ *    3  a connected part of either reduced graph of a comparison has more than 20 vertices
  *   14  a determined outcome contradicts the supplied bit
  *   11  the image loop stops with some C = 1
  *   12  it stops with every C = 0, but the image has Y at some vertex's own place
@@ -151,11 +151,11 @@ uint8_t sukhlent_product(uint64_t n,
                          uint64_t chosen,
                          uint64_t *product_z, uint64_t *product_x, uint8_t *phase);
 
-/* Compares the groups of two generator lists on at most 20 qubits: writes the least choice of one
- * code per qubit that carries the first group onto the second, and the vertices at which the
- * first reduced graph is complemented, in order, to become the second. `choice` has n places,
- * `list` 96; those from *count on keep their values.
- * Refusals: 2, 3, 4, 5, 6, 9, 10, 13. */
+/* Compares the groups of two generator lists whose reduced graphs have no connected part of more
+ * than 20 vertices: writes the least choice of one code per qubit that carries the first group
+ * onto the second, and the vertices at which the first reduced graph is complemented, in order, to
+ * become the second. `choice` has n places, `list` 96; those from *count on keep their values.
+ * Refusals: 2, 4, 5, 6, 9, 10, 3, 13. */
 uint8_t sukhlent_compare(uint64_t n1,
                          const uint8_t *signs1, size_t signs1_len,
                          const uint64_t *z1, size_t z1_len,

@@ -1,4 +1,4 @@
--- Two lists that are accepted one by one, on one number of qubits up to 20: no line holds of the pair.
+-- Two lists that are accepted one by one, on one number of qubits: none of lines 2 to 10 holds of the pair.
 -- Assumes nothing.
 use mathlib.Core.Bool.{false}
 use mathlib.Core.Path.{ap₂, refl, subst, _∙_, _≡_}
@@ -16,7 +16,7 @@ no-line-holds l m choice list A =
     subst (λ k. firstFitting (listLines (second k) false) ≡ 0
     → firstFitting (pairLines l (second k) choice list) ≡ 0) (A .same-count)
     (λ e. pair-number (l .n) (l .signs) (l .z) (l .x) (m .signs) (m .z) (m .x) choice list
-    ((accepted-list l false (A .first)) .formed .positive) (A .upto) (A .choice-places) (A .list-places) false false
+    ((accepted-list l false (A .first)) .formed .positive) ((accepted-list l false (A .first)) .formed .upto) (A .choice-places) (A .list-places) false false
     refl refl ∙ ap₂ earlierOf (A .first) e)
     (A .second)
   where

@@ -6,7 +6,7 @@ use mathlib.Core.Path.{ap, ap₂, _∙_, _≡_}
 use Prim.Native.Nat.{ℕ}
 use lib.Dec.{eqb, ltb}
 use Rattle.buffers.specs.Refusals.{Line, badCount, firstFitting, line}
-use Rattle.comparison.specs.Compared.{pairCount}
+use Rattle.comparison.specs.Compared.{largePart, pairCount}
 use Rattle.comparison.specs.Choices.{noChoice}
 use Rattle.generator.specs.Lines.{room}
 use Rattle.image.specs.Image.{loopLines}
@@ -44,11 +44,11 @@ answer-buffers-unread =
     -- those of a comparison, by whether an answer buffer has a wrong length
     linesOf : GeneratorList → GeneratorList → Bool → List Line
     linesOf l m others =
-        line 2 (pairCount l m) ∷ line 3 (ltb 20 (l .n)) ∷ line 4 (listLengths l || (listLengths m || others))
+        line 2 (pairCount l m) ∷ line 4 (listLengths l || (listLengths m || others))
         ∷ line 5 (listStray l || listStray m) ∷ line 6 (listSigns l || listSigns m)
         ∷ line 9 (clashing (l .n) (rows l) || clashing (m .n) (rows m))
         ∷ line 10 (dependent (l .n) (rows l) || dependent (m .n) (rows m))
-        ∷ line 13 (noChoice (l .n) (rows l) (rows m)) ∷ []
+        ∷ line 3 (largePart l || largePart m) ∷ line 13 (noChoice (l .n) (rows l) (rows m)) ∷ []
 
     of-three : (l : LentRecord) (lines : Bool → List Line) (k : ℕ) {a a₂ b b₂ c c₂ : ℕ} → a ≡ a₂ → b ≡ b₂ → c ≡ c₂ →
         firstFitting (lines (not (eqb a (l .n)) || (not (eqb b (l .n)) || not (eqb c k))))

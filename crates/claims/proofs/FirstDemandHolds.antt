@@ -12,7 +12,7 @@ use Rattle.buffers.proofs.Lines.{Numbered, none-of-all, not-held}
 use Rattle.buffers.specs.Buffers.{accepted, tabulate, written}
 use Rattle.buffers.specs.Refusals.{Line, firstFitting, otherThan}
 use Rattle.clifford.specs.Clifford.{cliffordOf}
-use Rattle.comparison.specs.Compared.{compareLines, pairLines}
+use Rattle.comparison.specs.Compared.{compareLines, largePart, pairLines}
 use Rattle.image.proofs.TrackedBits.{image-length}
 use Rattle.comparison.specs.Choices.{leastCode}
 use Rattle.image.specs.Image.{imageLines, imageMinus, imageRecord}
@@ -41,6 +41,7 @@ use Rattle.stabilizer.specs.Lists.{GeneratorList, listLengths, listLines, listO
 use Rattle.record_calls.proofs.InPlaceLines.{held-accepted}
 use Rattle.record_calls.proofs.MeasureLines.{measure-accepted}
 use Rattle.list_calls.specs.Calls.{ExpandCall, ReduceCall, checkLines, expandLines, reduceLines}
+use Rattle.compare_call.proofs.Comparing.{at-most-64}
 use Rattle.compare_call.specs.Comparisons.{CompareCall}
 use Rattle.comparison_answer.specs.ComparedPairs.{compareList}
 use Rattle.generate_call.proofs.GenerateLines.{accepted-job}
@@ -54,6 +55,7 @@ use Rattle.record_calls.specs.InPlaceCalls.{InPlaceCall, MeasureCall}
 use Rattle.words.proofs.Flags.{neither}
 use Rattle.words.specs.Bits.{digit, isOdd}
 use Rattle.claims.proofs.Answering.{Fills, Held, answered, one-place, table-fills, written-fills}
+use Rattle.claims.proofs.PartsDemandHolds.{small-parts}
 use Rattle.claims.proofs.ThirdDemandHolds.{third-demand}
 use Rattle.claims.specs.FirstDemand.{Answered, EachOf, FirstDemand, buffer, inPlace, number}
 
@@ -178,24 +180,27 @@ compare-answered : (l m : GeneratorList) (choice list : List ℕ) (count r : ℕ
 compare-answered l m choice list count r choice′ list′ count′ C =
     answered (compareLines l m choice list) r _ refl (C .number)
     (C .codes, (C .vertices, (one-place r count _ count′ (C .amount), tt)))
-    (λ z. let p = none-of-all (pairLines l m choice list) _ pair-numbered (sym (C .number) ∙ z) .0 in
-    let h3 = not-held 2 _ _ (not-held 1 _ _ p .1) in
-    let h4 = not-held 3 _ _ (h3 .1) in
+    (λ z. let all = none-of-all (pairLines l m choice list) _ pair-numbered (sym (C .number) ∙ z) in
+    let p = all .0 in
+    let h2 = not-held 1 _ _ p in
+    let h4 = not-held 3 _ _ (h2 .1) in
+    let small = neither (largePart l) (largePart m) (not-held 2 _ _ (all .1) .0) in
     let f = two-fit (l .n) 96 choice list (neither (listLengths m) _ (neither (listLengths l) _ (h4 .0) .1) .1) in
-    let back = third-demand l m choice list count r choice′ list′ count′ C p .otherwise
+    let back = third-demand l m choice list count r choice′ list′ count′ C p (small-parts l (small .0))
+    (small-parts m (small .1)) .otherwise
     (λ e. absurd (omega (arith, sym z ∙ e))) .1 in
     let counted = C .amount
     ∙ ap (λ b. cond b (length (compareList (l .n) (rows l) (rows m))) count) (eq-eqb r 0 z) in (
       table-fills (l .n) _ choice (f .0),
       (
         written-fills (compareList (l .n) (rows l) (rows m)) list
-            (omega (arith, back .few, ltb-false 20 (l .n) (h3 .0), counted, f .1)),
+            (omega (arith, back .few, at-most-64 l m choice list count (h2 .0), counted, f .1)),
         (refl, tt),
       ),
     ))
   where
     pair-numbered : Numbered (pairLines l m choice list)
-    pair-numbered = (lit< tt, (lit< tt, (lit< tt, (lit< tt, (lit< tt, (lit< tt, (lit< tt, tt)))))))
+    pair-numbered = (lit< tt, (lit< tt, (lit< tt, (lit< tt, (lit< tt, (lit< tt, tt))))))
 
 -- ---- the generator
 generate-answered : (n count seed : ℕ) (text : List ℕ) (size r : ℕ) (text′ : List ℕ) (size′ : ℕ) →

@@ -9,10 +9,10 @@ use native.Mathlib.Omega.{arith}
 use lib.Dec.{eqb}
 use lib.ListN.{drop, getD, length, take}
 use lib.Seq.{drop-append-seam, take-append-seam}
-use Rattle.buffers.proofs.Lines.{more-accepted, none-fits, not-held, passed}
+use Rattle.buffers.proofs.Lines.{fits, more-accepted, none-fits, not-held, passed}
 use Rattle.buffers.proofs.Tabulate.{tabulate-at, tabulate-length}
 use Rattle.buffers.specs.Buffers.{accepted, acceptedNumber, tabulate, written}
-use Rattle.buffers.specs.Refusals.{badCount, firstFitting, otherThan}
+use Rattle.buffers.specs.Refusals.{badCount, firstFitting, line, otherThan}
 use Rattle.clifford.specs.Clifford.{Clifford, cliffordOf}
 use Rattle.clifford.specs.Vectors.{codesOf}
 use Rattle.comparison.proofs.InducedCodes.{induced-carries}
@@ -41,10 +41,11 @@ use Rattle.stabilizer.specs.Lists.{
   rows,
 }
 use Rattle.compare_call.proofs.Comparing.{counts-agree}
-use Rattle.compare_call.proofs.PairLines.{last-line, pair-numbered}
+use Rattle.compare_call.proofs.PairLines.{pair-numbered}
 use Rattle.comparison_answer.proofs.ReducedPairs.{least-held}
 use Rattle.comparison_answer.specs.ComparedPairs.{compareList, inducedRecord}
 use Rattle.words.proofs.Flags.{neither}
+use Rattle.claims.proofs.PartsDemandHolds.{no-large}
 use Rattle.claims.specs.ThirdDemand.{ComesBack, Decided, ThirdDemand, complementEach, listUnder}
 
 -- a record complemented along a list has the graph complemented along it
@@ -70,8 +71,7 @@ pair-passed : (l m : GeneratorList) (choice list : List ℕ) → firstFitting (p
     PairPassed l m choice list
 pair-passed l m choice list e =
     let h₂ = not-held 1 _ _ e in
-    let h₃ = not-held 2 _ _ (h₂ .1) in
-    let h₄ = not-held 3 _ _ (h₃ .1) in
+    let h₄ = not-held 3 _ _ (h₂ .1) in
     let h₅ = not-held 4 _ _ (h₄ .1) in
     let h₆ = not-held 5 _ _ (h₅ .1) in
     let h₉ = not-held 8 _ _ (h₆ .1) in
@@ -178,7 +178,7 @@ module _ (l m : GeneratorList) (same-number : l .n ≡ m .n) (P : Proper (l .n) 
 
 -- ---- the demand
 pub third-demand : ThirdDemand
-third-demand l m choice list count r choice′ list′ count′ C e =
+third-demand l m choice list count r choice′ list′ count′ C e small small₂ =
     go (noChoice (l .n) (rows l) (rows m)) refl
   where
     K : PairPassed l m choice list
@@ -197,7 +197,12 @@ third-demand l m choice list count r choice′ list′ count′ C e =
     number : (b : Bool) → noChoice (l .n) (rows l) (rows m) ≡ b → r ≡ cond b 13 0
     number b h =
         C .number ∙ more-accepted (pairLines l m choice list) _ (pair-numbered l m choice list) e
-        ∙ last-line (noChoice (l .n) (rows l) (rows m)) ∙ ap (λ v. cond v 13 0) h
+        ∙ passed 3 _ (ap₂ _||_ (no-large l small) (no-large m small₂)) ∙ last b h
+      where
+        last : (b : Bool) → noChoice (l .n) (rows l) (rows m) ≡ b
+            → firstFitting (line 13 (noChoice (l .n) (rows l) (rows m)) ∷ []) ≡ cond b 13 0
+        last true k = fits 13 _ k
+        last false k = passed 13 _ k ∙ none-fits
 
     differ : (a : ℕ) → a ≡ 0 → a ≡ 13 → ⊥
     differ a x y = omega (arith, x, y)

@@ -57,9 +57,9 @@ pub data FirstFits : List Line → ℕ → Type 0 where
   later : {l : Line} {ls : List Line} {r : ℕ} → l .holds ≡ false → FirstFits ls r → FirstFits (l ∷ ls) r
 
 -- "the published list": the numbers in checking order; a call tests some of them, in that order. 14 is "checked after
--- 10" (02, §4), 15 "directly after 1 and so before 2" (02, §5)
+-- 10" (02, §4), and so is 3 (02, §9), 15 "directly after 1 and so before 2" (02, §5)
 abbrev pub published : List ℕ
-published = 1 ∷ 15 ∷ 2 ∷ 3 ∷ 4 ∷ 5 ∷ 6 ∷ 7 ∷ 8 ∷ 9 ∷ 10 ∷ 14 ∷ 11 ∷ 12 ∷ 13 ∷ []
+published = 1 ∷ 15 ∷ 2 ∷ 4 ∷ 5 ∷ 6 ∷ 7 ∷ 8 ∷ 9 ∷ 10 ∷ 3 ∷ 14 ∷ 11 ∷ 12 ∷ 13 ∷ []
 
 abbrev pub within : List ℕ → List ℕ → Bool
 within order [] = true

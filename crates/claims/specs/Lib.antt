@@ -1,5 +1,6 @@
 pub mod Table
 pub mod SecondDemand
+pub mod PartsDemand
 pub mod ThirdDemand
 pub mod ImageDemand
 pub mod OperationsDemand

@@ -17,6 +17,7 @@ use Rattle.stabilizer.specs.Carries.{Carries}
 use Rattle.stabilizer.specs.Lists.{GeneratorList, rows}
 use Rattle.list_calls.specs.Calls.{checkLines}
 use Rattle.compare_call.specs.Comparisons.{CompareCall}
+use Rattle.claims.specs.PartsDemand.{SmallParts}
 
 -- "Done one after another": the graph complemented at each vertex of a list
 abbrev pub complementEach : Graph → List ℕ → Graph
@@ -55,23 +56,24 @@ pub record Decided (l m : GeneratorList) (list : List ℕ) (r : ℕ) (choice′ 
   pub otherwise : (r ≡ 13 → ⊥) → (r ≡ 0) × ComesBack l m list choice′ list′ count′
 
 -- "For every two generator lists, and whatever the lent answer buffers held": "lists and buffers are accepted where
--- none of lines 2 to 10 below holds of the lists, nor line 4 of the buffers"
+-- none of lines 2 to 10 below holds of the lists, nor line 4 of the buffers"; and "demand 3 holds for n up to 64 where no
+-- part is larger than 20" (02, §9)
 abbrev pub ThirdDemand : Type 0
 ThirdDemand =
     (l m : GeneratorList) (choice list : List ℕ) (count r : ℕ) (choice′ list′ : List ℕ) (count′ : ℕ) →
     CompareCall l m choice list count r choice′ list′ count′ → firstFitting (pairLines l m choice list) ≡ 0 →
-    Decided l m list r choice′ list′ count′
+    SmallParts l → SmallParts m → Decided l m list r choice′ list′ count′
 
--- "if lists and buffers are accepted, and the lists describe states on the same number n of qubits, n from 1 to 20"
+-- "if lists and buffers are accepted, and the lists describe states on the same number n of qubits"; an accepted list has
+-- n from 1 to 64
 pub record AcceptedPair (l m : GeneratorList) (choice list : List ℕ) : Type 0 where
   pub first : firstFitting (checkLines l) ≡ 0
   pub second : firstFitting (checkLines m) ≡ 0
   pub same-count : l .n ≡ m .n
-  pub upto : l .n ≤ 20
   pub choice-places : length choice ≡ l .n
   pub list-places : length list ≡ 96
 
--- then none of lines 2 to 10 holds
+-- then none of lines 2 to 10 holds of the pair
 abbrev pub NoLineHolds : Type 0
 NoLineHolds =
     (l m : GeneratorList) (choice list : List ℕ) → AcceptedPair l m choice list →

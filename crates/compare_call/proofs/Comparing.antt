@@ -4,14 +4,13 @@ use mathlib.Core.Bool.{Bool, cond, false, not, true, _||_}
 use mathlib.Core.List.{List}
 use mathlib.Core.Path.{ap, ap₂, refl, subst, sym, _∙_, _≡_}
 use Prim.Native.Nat.{_<_, ℕ, _≤_}
-use native.Mathlib.Omega.{arith}
 use lib.Dec.{eqb}
 use lib.ListN.{length}
-use borrow.Author.Tests.{eqb-true, le-ltb, lt-ltb, ne-eqb, not-false}
+use borrow.Author.Tests.{eqb-true, ne-eqb, not-false}
 use Rattle.buffers.proofs.Lines.{fits, more-accepted, more-refused, passed}
 use Rattle.buffers.specs.Buffers.{accepted, tabulate, written}
 use Rattle.buffers.specs.Refusals.{badCount, firstFitting, otherThan}
-use Rattle.comparison.specs.Choices.{leastCode, noChoice}
+use Rattle.comparison.specs.Choices.{leastCode}
 use Rattle.comparison.specs.Compared.{pairCount, pairLines}
 use Rattle.pauli.specs.Pauli.{Pauli}
 use Rattle.record.specs.Accepted.{AcceptedRecord}
@@ -22,14 +21,14 @@ use Rattle.stabilizer.proofs.SharedTests.{counted, has-length, length-passes}
 use Rattle.stabilizer.specs.Lists.{GeneratorList, listLengths, rows}
 use Rattle.words.proofs.Finite.{bits}
 use Rattle.words.proofs.Flags.{neither}
-use Rattle.compare_call.proofs.PairLines.{earlier-none, last-line, pair-number, pair-numbered}
+use Rattle.compare_call.proofs.PairLines.{earlier-none, pair-number, pair-numbered}
 use Rattle.comparison_answer.proofs.ReducedPairs.{reduced-accepted}
 use Rattle.list_calls.specs.Calls.{ReduceCall}
 use Rattle.comparison_answer.specs.ComparedPairs.{HoldsReduced, PairAnswered, compareList, earlierOf}
 use Rattle.compare_call.specs.Comparisons.{CompareCall}
 
 -- ---- two lists on n qubits, and the reductions of both
-module _ (n : ℕ) (s z x s₂ z₂ x₂ choice list : List ℕ) (positive : 1 ≤ n) (few : n ≤ 20)
+module _ (n : ℕ) (s z x s₂ z₂ x₂ choice list : List ℕ) (positive : 1 ≤ n) (few : n ≤ 64)
     (long : length choice ≡ n) (room : length list ≡ 96) (nb cs nb₂ cs₂ nb′ cs′ nb₂′ cs₂′ : List ℕ)
     (nb-long : length nb ≡ n) (cs-long : length cs ≡ n) (nb₂-long : length nb₂ ≡ n)
     (cs₂-long : length cs₂ ≡ n)
@@ -82,10 +81,10 @@ module _ (n : ℕ) (s z x s₂ z₂ x₂ choice list : List ℕ) (positive : 1 �
         }
 
     pub first-accepted : AcceptedRecord (record { n = n; neighbours = nb′; codes = cs′ })
-    first-accepted = reduced-accepted n (rows l) nb′ cs′ first-reduced positive (omega (arith, few))
+    first-accepted = reduced-accepted n (rows l) nb′ cs′ first-reduced positive few
 
     pub second-accepted : AcceptedRecord (record { n = n; neighbours = nb₂′; codes = cs₂′ })
-    second-accepted = reduced-accepted n (rows m) nb₂′ cs₂′ second-reduced positive (omega (arith, few))
+    second-accepted = reduced-accepted n (rows m) nb₂′ cs₂′ second-reduced positive few
 
     -- and the comparison of the two records decides
     pub compare-decided : (count k : ℕ) (choice′ list′ : List ℕ) (count′ : ℕ) →
@@ -97,7 +96,7 @@ module _ (n : ℕ) (s z x s₂ z₂ x₂ choice list : List ℕ) (positive : 1 �
         record {
           number =
               P .number ∙ sym (more-accepted (pairLines l m choice list) _ (pair-numbered l m choice list)
-              (sym early-is ∙ a) ∙ last-line (noChoice n (rows l) (rows m)));
+              (sym early-is ∙ a));
           codes = P .codes;
           vertices = P .vertices;
           amount = P .amount;
@@ -109,15 +108,6 @@ module _ (l m : GeneratorList) (choice list : List ℕ) (count : ℕ) where
   refused-2 h = record { number = sym (fits 2 _ h); codes = refl; vertices = refl; amount = refl }
 
   module _ (p : pairCount l m ≡ false) where
-    pub refused-3 : 20 < l .n → CompareCall l m choice list count 3 choice list count
-    refused-3 h =
-        record {
-          number = sym (passed 2 _ p ∙ fits 3 _ (lt-ltb 20 (l .n) h));
-          codes = refl;
-          vertices = refl;
-          amount = refl;
-        }
-
     pub counts-agree : l .n ≡ m .n
     counts-agree =
         eqb-true (l .n) (m .n) (not-false (eqb (l .n) (m .n))
@@ -128,11 +118,15 @@ module _ (l m : GeneratorList) (choice list : List ℕ) (count : ℕ) where
     at-least-one =
         counted (l .n) (neither (badCount (l .n)) (badCount (m .n) || not (eqb (l .n) (m .n))) p .0) .0
 
+    pub at-most-64 : l .n ≤ 64
+    at-most-64 =
+        counted (l .n) (neither (badCount (l .n)) (badCount (m .n) || not (eqb (l .n) (m .n))) p .0) .1
+
     module _ (o : Bool) (e : o ≡ (otherThan (l .n) choice || otherThan 96 list)) where
-      pub refused-4 : l .n ≤ 20 → o ≡ true → CompareCall l m choice list count 4 choice list count
-      refused-4 h t =
+      pub refused-4 : o ≡ true → CompareCall l m choice list count 4 choice list count
+      refused-4 t =
           record {
-            number = sym (passed 2 _ p ∙ passed 3 _ (le-ltb 20 (l .n) h)
+            number = sym (passed 2 _ p
                 ∙ fits 4 _ (ap (λ v. listLengths l || (listLengths m || v)) (sym e ∙ t)
                 ∙ last-of-three (listLengths l) (listLengths m)));
             codes = refl;

@@ -6,7 +6,6 @@ use mathlib.Core.Logic.{inl, inr, _⊎_}
 use mathlib.Core.Path.{ap, ap₂, refl, sym, _∙_, _≡_}
 use Prim.Native.Nat.{_<_, ℕ, _≤_}
 use native.Mathlib.Decide.{ℕ-discrete}
-use native.Mathlib.Omega.{arith}
 use lib.Dec.{eqb, eqb→eq, lit<, ltb}
 use lib.ListN.{length}
 use borrow.Author.Tests.{eq-eqb, le-ltb, lt-ltb, ne-eqb}
@@ -66,8 +65,8 @@ earlier-none a b = go (ℕ-discrete a 0) (ℕ-discrete b 0) (lt-or-ge a b)
         absurd (k (sym (ap₂ (λ u v. cond u b (cond v a (cond (ltb a b) a b))) (ne-eqb a 0 h) (ne-eqb b 0 k)
         ∙ ap (λ v. cond v a b) (le-ltb a b l)) ∙ e))
 
--- ---- two lists on n qubits, n from 1 to 20, with buffers of the right lengths
-module _ (n : ℕ) (s z x s₂ z₂ x₂ choice list : List ℕ) (positive : 1 ≤ n) (few : n ≤ 20)
+-- ---- two lists on n qubits, n from 1 to 64, with buffers of the right lengths
+module _ (n : ℕ) (s z x s₂ z₂ x₂ choice list : List ℕ) (positive : 1 ≤ n) (few : n ≤ 64)
     (long : length choice ≡ n) (room : length list ≡ 96) where
   abbrev pub firstList : GeneratorList
   firstList = record { n = n; signs = s; z = z; x = x }
@@ -76,7 +75,7 @@ module _ (n : ℕ) (s z x s₂ z₂ x₂ choice list : List ℕ) (positive : 1 �
   secondList = record { n = n; signs = s₂; z = z₂; x = x₂ }
 
   counts : badCount n ≡ false
-  counts = count-passes n positive (omega (arith, few))
+  counts = count-passes n positive few
 
   single-number : (l : GeneratorList) (others : Bool) → others ≡ false → badCount (l .n) ≡ false →
       firstFitting (listLines l others) ≡ firstFitting
@@ -89,7 +88,6 @@ module _ (n : ℕ) (s z x s₂ z₂ x₂ choice list : List ℕ) (positive : 1 �
       ≡ earlierOf (firstFitting (listLines firstList o)) (firstFitting (listLines secondList o₂))
   pair-number o o₂ e e₂ =
       passed 2 _ (ap₂ _||_ counts (ap₂ _||_ counts (ap not (eq-eqb n n refl))))
-      ∙ passed 3 _ (le-ltb 20 n few)
       ∙ ap (λ v. firstFitting
       (line 4 (listLengths firstList || (listLengths secondList || v))
       ∷ line 5 (listStray firstList || listStray secondList)
@@ -106,8 +104,4 @@ module _ (n : ℕ) (s z x s₂ z₂ x₂ choice list : List ℕ) (positive : 1 �
 -- ---- the lines of two lists
 pub pair-numbered : (l m : GeneratorList) (choice list : List ℕ) → Numbered (pairLines l m choice list)
 pair-numbered l m choice list =
-    (lit< tt, (lit< tt, (lit< tt, (lit< tt, (lit< tt, (lit< tt, (lit< tt, tt)))))))
-
-pub last-line : (b : Bool) → firstFitting (line 13 b ∷ []) ≡ cond b 13 0
-unfolding firstFitting
-last-line b = refl
+    (lit< tt, (lit< tt, (lit< tt, (lit< tt, (lit< tt, (lit< tt, tt))))))

@@ -36,7 +36,7 @@ fn compare_lists(
     list: &mut [u8],
     count: &mut u64,
 ) -> u8
-    requires { ⌜ (1 ≤ n) × (n ≤ 20) × (length (now choice) ≡ n) × (length (now list) ≡ 96) ⌝ }
+    requires { ⌜ (1 ≤ n) × (n ≤ 64) × (length (now choice) ≡ n) × (length (now list) ≡ 96) ⌝ }
     requires { ⌜ (length (now neighbours1) ≡ n) × (length (now codes1) ≡ n) × (length (now neighbours2) ≡ n)
         × (length (now codes2) ≡ n) ⌝ }
     ensures { λ r. ⌜ CompareCall
@@ -87,17 +87,14 @@ pub fn compare(
     if pair_count(n1, n2) {
         return 2;
     }
-    if 20 < n1 {
-        return 3;
-    }
     if other_than(choice.len(), n1) | other_than(list.len(), 96) {
         return 4;
     }
     let n = n1 as usize;
-    let mut neighbours1 = [0u64; 20];
-    let mut codes1 = [0u8; 20];
-    let mut neighbours2 = [0u64; 20];
-    let mut codes2 = [0u8; 20];
+    let mut neighbours1 = [0u64; 64];
+    let mut codes1 = [0u8; 64];
+    let mut neighbours2 = [0u64; 64];
+    let mut codes2 = [0u8; 64];
     compare_lists(
         n1,
         signs1,

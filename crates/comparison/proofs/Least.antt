@@ -84,6 +84,23 @@ before-agree n c d e h = go
     go (inl a) = inl (move classKey a)
     go (inr a) = inr ((λ q l. a .0 q l ∙ ap (λ k. k .class) (h q l)), move signKey (a .1))
 
+-- .. and so may the earlier one
+agree-before : (n : ℕ) (c d e : ℕ → Clifford) → Agree n c d → Before n c e → Before n d e
+agree-before n c d e h = go
+  where
+    move : (key : Clifford → ℕ) → FirstDiffers n (λ q. key (c q)) (λ q. key (e q))
+        → FirstDiffers n (λ q. key (d q)) (λ q. key (e q))
+    move key a = (
+      a .0,
+      a .1,
+      (λ t l. ap key (sym (h t (lt-trans l (a .1)))) ∙ a .2 t l),
+      subst (λ k. k < key (e (a .0))) (ap key (h (a .0) (a .1))) (a .3),
+    )
+
+    go : Before n c e → Before n d e
+    go (inl a) = inl (move classKey a)
+    go (inr a) = inr ((λ q l. ap (λ k. k .class) (sym (h q l)) ∙ a .0 q l), move signKey (a .1))
+
 -- ---- what lies at and above n does not matter
 module _ (n : ℕ) (rows others : ℕ → Pauli) (W : (j : ℕ) → j < n → Within n (rows j))
     (W′ : (j : ℕ) → j < n → Within n (others j)) where
@@ -109,6 +126,14 @@ module _ (n : ℕ) (rows others : ℕ → Pauli) (W : (j : ℕ) → j < n → Wi
         onto = λ p a. let b = C .onto p a in
             (b .0, b .1, b .2 ∙ act-agree c d h (b .0) (element-within n n rows W (b .1)));
       }
+
+  pub least-agree : (c d : ℕ → Clifford) → Agree n c d → LeastChoice n rows others c → LeastChoice n rows others d
+  least-agree c d h L =
+      record { among = carries-agree c d h (L .among); least = λ e K. go e (L .least e K) }
+    where
+      go : (e : ℕ → Clifford) → Agree n c e ⊎ Before n c e → Agree n d e ⊎ Before n d e
+      go e (inl a) = inl (λ q l. sym (h q l) ∙ a q l)
+      go e (inr b) = inr (agree-before n c d e h b)
 
   -- ---- the search by numbers
   works : ℕ → Bool

@@ -16,3 +16,5 @@ pub mod EquationTables
 pub mod Filling
 pub mod ComparedRecords
 pub mod OneQubit
+pub mod SettledChoices
+pub mod ChoicesByParts

@@ -3,12 +3,13 @@
 use mathlib.Core.Bool.{Bool, not, _||_}
 use mathlib.Core.List.{_++_, List, [], _∷_}
 use Prim.Native.Nat.{ℕ}
-use lib.Dec.{eqb, ltb}
+use lib.Dec.{eqb}
 use Rattle.buffers.specs.Refusals.{Line, badCount, line, otherThan}
 use Rattle.clifford.specs.Clifford.{Clifford, codeOf, inverse, then}
 use Rattle.clifford.specs.Vectors.{codesOf}
+use Rattle.parts.specs.Parts.{partAbove}
 use Rattle.pauli.specs.Pauli.{Pauli}
-use Rattle.record.specs.Reduced.{reducedCode}
+use Rattle.record.specs.Reduced.{reducedCode, reducedGraph}
 use Rattle.stabilizer.specs.Lists.{
   GeneratorList,
   clashing,
@@ -40,15 +41,20 @@ abbrev pub pairLengths : GeneratorList → GeneratorList → List ℕ → List �
 pairLengths l m chosen list = listLengths l
     || (listLengths m || (otherThan (l .n) chosen || otherThan 96 list))
 
--- 2 to 10
+-- 2 to 10 of the lists, and 4 of the buffers
 abbrev pub pairLines : GeneratorList → GeneratorList → List ℕ → List ℕ → List Line
 pairLines l m chosen list =
-    line 2 (pairCount l m) ∷ line 3 (ltb 20 (l .n)) ∷ line 4 (pairLengths l m chosen list)
+    line 2 (pairCount l m) ∷ line 4 (pairLengths l m chosen list)
     ∷ line 5 (listStray l || listStray m) ∷ line 6 (listSigns l || listSigns m)
     ∷ line 9 (clashing (l .n) (rows l) || clashing (m .n) (rows m))
     ∷ line 10 (dependent (l .n) (rows l) || dependent (m .n) (rows m)) ∷ []
 
--- the lines of a comparison in checking order
+-- 3: "a part exceeds 20", of the reduced graph of a list
+abbrev pub largePart : GeneratorList → Bool
+largePart l = partAbove 20 (l .n) (reducedGraph (l .n) (rows l))
+
+-- the lines of a comparison in checking order; 3 "is checked after 10"
 abbrev pub compareLines : GeneratorList → GeneratorList → List ℕ → List ℕ → List Line
 compareLines l m chosen list =
-    pairLines l m chosen list ++ (line 13 (noChoice (l .n) (rows l) (rows m)) ∷ [])
+    pairLines l m chosen list
+    ++ (line 3 (largePart l || largePart m) ∷ line 13 (noChoice (l .n) (rows l) (rows m)) ∷ [])

@@ -3,3 +3,5 @@ pub mod Compared
 pub mod Equations
 pub mod Setting
 pub mod Searches
+pub mod Settled
+pub mod PartChoices

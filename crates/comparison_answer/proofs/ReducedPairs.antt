@@ -1,6 +1,6 @@
 -- Buffers that hold reduced records: what the comparison of two of them answers for the lists.
 -- Assumes nothing.
-use mathlib.Core.Bool.{Bool, cond, false, true}
+use mathlib.Core.Bool.{Bool, cond, false, true, _||_}
 use mathlib.Core.List.{List}
 use mathlib.Core.Logic.{inl, inr, _⊎_}
 use mathlib.Core.Path.{ap, ap₂, refl, subst, sym, _∙_, _≡_}
@@ -8,6 +8,7 @@ use Prim.Native.Nat.{_%_, _*_, _+_, _/_, _<_, _^_, ℕ, _≤_}
 use lib.Dec.{lit<}
 use lib.ListN.{List·getD-eq-default, getD, length, take}
 use borrow.Author.Tests.{le-ltb, not-false, not-true}
+use Rattle.buffers.proofs.Lines.{fits, none-fits, passed}
 use Rattle.buffers.proofs.Tabulate.{tabulate-at, tabulate-cong, tabulate-length}
 use Rattle.buffers.specs.Buffers.{tabulate, written}
 use Rattle.buffers.specs.Refusals.{firstFitting}
@@ -20,19 +21,23 @@ use Rattle.comparison.specs.Choices.{choice, digitAt, leastCode, leastNumber, n
 use Rattle.comparison.specs.Compared.{induced, inducedCode}
 use Rattle.comparison.specs.Searches.{LeastAnswer}
 use Rattle.comparison.specs.Setting.{Codes, heldGenerators}
+use Rattle.comparison_parts.specs.Islands.{SoundPair}
+use Rattle.graph.specs.NeighbourWords.{graphIn}
 use Rattle.image_answer.specs.Answer.{IsImage}
 use Rattle.image.specs.Rule.{imageList}
 use Rattle.image_answer.specs.declared.ImageAnswer.{ImageAnswer}
+use Rattle.parts.specs.Parts.{partAbove}
 use Rattle.pauli.specs.Pauli.{Pauli}
 use Rattle.record.proofs.AcceptedRecords.{accepted-record}
 use Rattle.record.proofs.Unique.{record-path}
 use Rattle.record.proofs.WrittenRecords.{reduced-back, reduced-held-same, reduced-passes, writtenRecord}
 use Rattle.record.specs.Accepted.{AcceptedRecord}
 use Rattle.record.specs.Lent.{LentRecord, heldRecord, heldRows, recordLines}
-use Rattle.record.specs.Reduced.{reduced}
+use Rattle.record.specs.Reduced.{reduced, reducedGraph}
 use Rattle.stabilizer.proofs.GroupLaws.{same-sym}
 use Rattle.stabilizer.proofs.ReadBack.{table-past}
 use Rattle.stabilizer.specs.Groups.{SameGroup}
+use Rattle.words.proofs.Flags.{neither}
 use Rattle.words.proofs.Sums.{lt-or-ge}
 use Rattle.words.specs.Search.{first, some}
 use Rattle.comparison_answer.specs.ComparedPairs.{HoldsReduced, PairAnswered, inducedRecord}
@@ -87,9 +92,60 @@ least-held n R S choice′ e q = ap (λ v. cliffordOf (getD v q 0)) e ∙ ap cli
     go (inl l) = tabulate-at n (leastCode n R S) q l
     go (inr l) = table-past n (leastCode n R S) q l ∙ sym (above l)
 
+-- ---- line 3
+-- the graphs in the buffers are the reduced ones
+large-held : (n : ℕ) (R S : ℕ → Pauli) (nb cs nb₂ cs₂ : List ℕ) → HoldsReduced n R nb cs → HoldsReduced n S nb₂ cs₂
+    → (partAbove 20 n (graphIn nb) || partAbove 20 n (graphIn nb₂))
+    ≡ (partAbove 20 n (reducedGraph n R) || partAbove 20 n (reducedGraph n S))
+large-held n R S nb cs nb₂ cs₂ H K =
+    ap₂ (λ u v. partAbove 20 n (u .graph) || partAbove 20 n (v .graph)) (held-is n R nb cs H) (held-is n S nb₂ cs₂ K)
+
+pub pair-large : (n : ℕ) (nb cs nb₂ cs₂ : List ℕ)
+    → (partAbove 20 n (graphIn nb) || partAbove 20 n (graphIn nb₂)) ≡ true → (R S : ℕ → Pauli)
+    → HoldsReduced n R nb cs → HoldsReduced n S nb₂ cs₂ → (choice list : List ℕ) (count : ℕ)
+    → PairAnswered n R S choice list count 3 choice list count
+pair-large n nb cs nb₂ cs₂ e R S H K choice list count =
+    record {
+      number = sym (fits 3 _ (sym (large-held n R S nb cs nb₂ cs₂ H K) ∙ e));
+      codes = refl;
+      vertices = refl;
+      amount = refl;
+    }
+
+-- the two tests of the code, on buffers of n places
+pub large-tests : (n : ℕ) (nb nb₂ : List ℕ) (a b v : Bool) → length nb ≡ n → length nb₂ ≡ n
+    → a ≡ partAbove 20 (length nb) (graphIn nb) → b ≡ partAbove 20 (length nb₂) (graphIn nb₂) → (a || b) ≡ v
+    → (partAbove 20 n (graphIn nb) || partAbove 20 n (graphIn nb₂)) ≡ v
+large-tests n nb nb₂ a b v l m ea eb e =
+    sym (ap₂ _||_ (ea ∙ ap (λ k. partAbove 20 k (graphIn nb)) l) (eb ∙ ap (λ k. partAbove 20 k (graphIn nb₂)) m)) ∙ e
+
+pub first-small : (a b : Bool) → (a || b) ≡ false → a ≡ false
+first-small a b e = neither a b e .0
+
+-- what the search takes
+pub accepted-pair : (n : ℕ) (nb cs nb₂ cs₂ : List ℕ) → AcceptedRecord (record { n = n; neighbours = nb; codes = cs })
+    → AcceptedRecord (record { n = n; neighbours = nb₂; codes = cs₂ }) → SoundPair n nb cs nb₂ cs₂
+accepted-pair n nb cs nb₂ cs₂ A B =
+    record {
+      upto = A .upto;
+      first = record {
+        neighbours-long = A .neighbours-length;
+        codes-long = A .codes-length;
+        simple = A .simple;
+        codes-sound = A .codes-below;
+      };
+      second = record {
+        neighbours-long = B .neighbours-length;
+        codes-long = B .codes-length;
+        simple = B .simple;
+        codes-sound = B .codes-below;
+      };
+    }
+
 -- ---- the code's answer
 module _ (n : ℕ) (nb cs nb₂ cs₂ : List ℕ) (A : AcceptedRecord (record { n = n; neighbours = nb; codes = cs }))
-    (B : AcceptedRecord (record { n = n; neighbours = nb₂; codes = cs₂ })) (found : Bool) (array : List ℕ)
+    (B : AcceptedRecord (record { n = n; neighbours = nb₂; codes = cs₂ }))
+    (small : (partAbove 20 n (graphIn nb) || partAbove 20 n (graphIn nb₂)) ≡ false) (found : Bool) (array : List ℕ)
     (L : LeastAnswer n (heldGenerators n nb cs) (heldGenerators n nb₂ cs₂) found array) where
   -- the codes of a choice found
   pub chosen-codes : found ≡ true → (choice : List ℕ) → choice ≡ tabulate n (λ q. getD array q 0)
@@ -109,12 +165,15 @@ module _ (n : ℕ) (nb cs nb₂ cs₂ : List ℕ) (A : AcceptedRecord (record { 
         (B .proper)
         (K .proper) (held-same n R nb cs H) (held-same n S nb₂ cs₂ K) found array L
 
+    no-large : (partAbove 20 n (reducedGraph n R) || partAbove 20 n (reducedGraph n S)) ≡ false
+    no-large = sym (large-held n R S nb cs nb₂ cs₂ H K) ∙ small
+
     -- none found
     pub pair-refused : (choice list : List ℕ) (count : ℕ) → found ≡ false →
         PairAnswered n R S choice list count 13 choice list count
     pair-refused choice list count f =
         record {
-          number = sym (ap (λ b. cond b 13 0) (not-false (noChoice n R S) (sym (lists-answer .whether) ∙ f)));
+          number = sym (passed 3 _ no-large ∙ fits 13 _ (not-false (noChoice n R S) (sym (lists-answer .whether) ∙ f)));
           codes = refl;
           vertices = refl;
           amount = refl;
@@ -171,8 +230,8 @@ module _ (n : ℕ) (nb cs nb₂ cs₂ : List ℕ) (A : AcceptedRecord (record { 
             PairAnswered n R S choice list count 0 choice′ list′ count′
         pair-accepted choice list list′ count count′ el ec =
             record {
-              number = sym (ap (λ b. cond b 13 0)
-                  (not-true (noChoice n R S) (sym (lists-answer .whether) ∙ t)));
+              number = sym (passed 3 _ no-large
+                  ∙ passed 13 _ (not-true (noChoice n R S) (sym (lists-answer .whether) ∙ t)) ∙ none-fits);
               codes = least-written;
               vertices = el ∙ ap (λ v. written v list) (M .list ∙ ap (imageList n) induced-is);
               amount = ec ∙ M .count ∙ ap (λ r. length (imageList n r)) induced-is;

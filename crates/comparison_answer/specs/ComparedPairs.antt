@@ -1,16 +1,18 @@
 -- What the parts of the comparison answer: the reduced records of two lists, and the comparison of two records.
 -- Assumes nothing.
-use mathlib.Core.Bool.{cond}
-use mathlib.Core.List.{List}
+use mathlib.Core.Bool.{cond, _||_}
+use mathlib.Core.List.{List, [], _∷_}
 use mathlib.Core.Path.{_≡_}
 use Prim.Native.Nat.{ℕ}
 use lib.Dec.{eqb, ltb}
 use lib.ListN.{length}
 use Rattle.buffers.specs.Buffers.{accepted, acceptedNumber, tabulate, written}
+use Rattle.buffers.specs.Refusals.{Line, firstFitting, line}
 use Rattle.clifford.specs.Clifford.{cliffordOf}
 use Rattle.comparison.specs.Choices.{leastCode, noChoice}
 use Rattle.comparison.specs.Compared.{induced}
 use Rattle.image.specs.Rule.{imageList}
+use Rattle.parts.specs.Parts.{partAbove}
 use Rattle.pauli.specs.Pauli.{Pauli}
 use Rattle.record.specs.Lent.{codeNumbers, neighbourWords}
 use Rattle.record.specs.Records.{GraphRecord}
@@ -40,10 +42,16 @@ pub record HoldsReduced (n : ℕ) (R : ℕ → Pauli) (neighbours codes : List �
   pub words : neighbours ≡ neighbourWords n (reduced n R)
   pub numbers : codes ≡ codeNumbers n (reduced n R)
 
--- 13 where no choice works, else the least choice, the complementation list and its count
+-- 3 where a part of either reduced graph exceeds 20, then 13
+abbrev pub partLines : ℕ → (ℕ → Pauli) → (ℕ → Pauli) → List Line
+partLines n rows others =
+    line 3 (partAbove 20 n (reducedGraph n rows) || partAbove 20 n (reducedGraph n others))
+    ∷ line 13 (noChoice n rows others) ∷ []
+
+-- 3 where a part is too large, 13 where no choice works, else the least choice, the complementation list and its count
 pub record PairAnswered (n : ℕ) (rows others : ℕ → Pauli) (choice list : List ℕ) (count r : ℕ)
     (choice′ list′ : List ℕ) (count′ : ℕ) : Type 0 where
-  pub number : r ≡ cond (noChoice n rows others) 13 0
+  pub number : r ≡ firstFitting (partLines n rows others)
   pub codes : choice′ ≡ accepted r (tabulate n (leastCode n rows others)) choice
   pub vertices : list′ ≡ accepted r (written (compareList n rows others) list) list
   pub amount : count′ ≡ acceptedNumber r (length (compareList n rows others)) count

@@ -1,9 +1,10 @@
 // The comparison of two reduced records: the least choice, the complementation list and its count.
 use buffers::copy_list;
 use comparison_groups::induced_codes;
-use comparison_search::compare_records;
+use comparison_parts::compare_parts;
 use image_answer::ImageAnswer;
 use image_answer::image_answer;
+use parts_words::part_above;
 ghost use mathlib.Core.Path.{_≡_};
 ghost use Prim.Native.Nat.{ℕ, _≤_};
 ghost use lib.ListN.{getD, length};
@@ -30,8 +31,8 @@ pub fn earlier(a: u8, b: u8) -> u8
 }
 
 // The codes of a choice for every place of the buffer.
-fn copy_choice(from: [u8; 20], to: &mut [u8])
-    requires { ⌜ length (now to) ≤ 20 ⌝ }
+fn copy_choice(from: [u8; 64], to: &mut [u8])
+    requires { ⌜ length (now to) ≤ 64 ⌝ }
     ensures { λ r. ⌜ now (to .exit) ≡ tabulate (length (now (to .entry))) (λ q. getD from q 0) ⌝ }
 {
     let mut i = 0;
@@ -64,7 +65,8 @@ fn induced_image(
     image_answer(n, neighbours, induced)
 }
 
-// The comparison of two reduced records: 13, or the least choice, the complementation list and its count.
+// The comparison of two reduced records: 3 where a part of either has more than 20 vertices, 13, or the least choice, the
+// complementation list and its count.
 pub fn compare_reduced(
     n: usize,
     neighbours: &[u64],
@@ -75,7 +77,7 @@ pub fn compare_reduced(
     list: &mut [u8],
     count: &mut u64,
 ) -> u8
-    requires { ⌜ (n ≤ 20) × AcceptedRecord (record { n = n; neighbours = now neighbours; codes = now codes }) ⌝ }
+    requires { ⌜ AcceptedRecord (record { n = n; neighbours = now neighbours; codes = now codes }) ⌝ }
     requires { ⌜ AcceptedRecord (record { n = n; neighbours = now neighbours2; codes = now codes2 }) ⌝ }
     requires { ⌜ (length (now choice) ≡ n) × (length (now list) ≡ 96) ⌝ }
     ensures { λ r. ⌜ ((R S : ℕ → Pauli) → HoldsReduced n R (now (neighbours .entry)) (now (codes .entry))
@@ -83,13 +85,16 @@ pub fn compare_reduced(
         → PairAnswered n R S (now (choice .entry)) (now (list .entry)) (now (count .entry)) r (now (choice .exit))
         (now (list .exit)) (now (count .exit))) ⌝ }
 {
-    let least = compare_records(n, neighbours, codes, neighbours2, codes2);
+    if part_above(neighbours) | part_above(neighbours2) {
+        return 3;
+    }
+    let least = compare_parts(n, neighbours, codes, neighbours2, codes2);
     if !least.found {
         return 13;
     }
     let chosen = least.choice;
     copy_choice(chosen, choice);
-    let mut induced = [0u8; 20];
+    let mut induced = [0u8; 64];
     let answer = induced_image(n, neighbours, codes, choice, codes2, &mut induced[..n]);
     let vertices = answer.list;
     copy_list(vertices, answer.count, list);

@@ -52,13 +52,13 @@ count-add a (suc b) f =
     ∙ add-assoc (count a f) (count b (λ v. f (a + v))) (digit (f (a + b)))
 
 -- ---- one number less
-abbrev except : (ℕ → Bool) → ℕ → ℕ → Bool
+abbrev pub except : (ℕ → Bool) → ℕ → ℕ → Bool
 except f u v = f v && not (eqb v u)
 
 kept : (f : ℕ → Bool) (u v : ℕ) → (v ≡ u → ⊥) → except f u v ≡ f v
 kept f u v d = ap (λ b. f v && not b) (other-place d) ∙ and-true (f v)
 
-count-except : (b : ℕ) (f : ℕ → Bool) (u : ℕ) → u < b → f u ≡ true → count b f ≡ suc (count b (except f u))
+pub count-except : (b : ℕ) (f : ℕ → Bool) (u : ℕ) → u < b → f u ≡ true → count b f ≡ suc (count b (except f u))
 unfolding fold
 count-except zero f u l e = absurd (not-suc-le-zero l)
 count-except (suc b) f u l e = go (λ k. count-except b f u k e) (last-or l)

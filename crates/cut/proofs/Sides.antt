@@ -21,7 +21,7 @@ zero-column m M q h = column-dependent m M q .1
     ((λ t. false), λ j l. h j l ∙ sym (fold-unit false _⊕_ bitMonoid q (λ t k. refl)))
 
 module _ (n : ℕ) (side : Word) (θ : Graph) where
-  no-edges : ((j q : ℕ) → j < n → q < n → crossing side θ j q ≡ false) → cutRank n side θ ≡ 0
+  pub no-edges : ((j q : ℕ) → j < n → q < n → crossing side θ j q ≡ false) → cutRank n side θ ≡ 0
   no-edges h = rank-none n n (crossing side θ) (λ q l. zero-column n (crossing side θ) q (λ j k. h j q k l))
 
   pub empty-side : ((q : ℕ) → q < n → side q ≡ false) → cutRank n side θ ≡ 0

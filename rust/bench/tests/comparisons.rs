@@ -3,9 +3,9 @@
 use bench::calls::compare::{lent, Compare};
 use bench::local::sent;
 use bench::plain;
-use bench::seeded::{list, mixed, random_rows, rows, Random};
+use bench::seeded::{list, mixed, random_islands, random_rows, random_sizes, rows, Random};
 use sukhlent::raw::{self, Lent};
-use sukhlent::GeneratorList;
+use sukhlent::{expand, GeneratorList};
 
 /// The number that both calls give; they leave the same in buffers of so many places.
 fn number(first: Lent, second: Lent, places: usize, list_places: usize) -> u8 {
@@ -43,12 +43,41 @@ fn equivalent_pairs_and_others() {
 }
 
 #[test]
+fn islands() {
+    let mut counts = [0; 14];
+    for seed in 0..1000 {
+        let mut random = Random::new(seed);
+        let n = 1 + random.below(64);
+        let largest = [4, 20, 24][random.below(3)];
+        let mut sizes = random_sizes(&mut random, n, largest);
+        let [first, second] = [0, 1].map(|k| {
+            if k == 1 && random.below(2) == 0 {
+                sizes = random_sizes(&mut random, n, largest);
+            }
+            let record = random_islands(&mut random, &sizes);
+            list(&mixed(&mut random, &rows(&expand(&record).unwrap())))
+        });
+        let other = list(&mixed(&mut random, &rows(&first)));
+        counts[usize::from(number(lent(&first), lent(&second), n, 96))] += 1;
+        counts[usize::from(number(lent(&first), lent(&other), n, 96))] += 1;
+    }
+    let reached = [0, 3, 13].iter().all(|&k| counts[k] > 100);
+    assert!(reached, "{counts:?}");
+}
+
+#[test]
 fn damaged_pairs() {
     let mut counts = [0; 14];
     for seed in 0..4000 {
         let mut random = Random::new(seed);
         let n = 1 + random.below(22);
-        let mut lists = pair(&mut random, n);
+        let mut lists = if random.below(8) == 0 {
+            let record = random_islands(&mut random, &[n]);
+            let given = expand(&record).unwrap();
+            [given.clone(), given]
+        } else {
+            pair(&mut random, n)
+        };
         let (mut places, mut list_places) = (n, 96);
         let mut numbers = [n as u64; 2];
         for _ in 0..2 {
@@ -74,6 +103,6 @@ fn damaged_pairs() {
     }
     let reached = [0, 2, 3, 4, 5, 6, 9, 10, 13]
         .iter()
-        .all(|&k| counts[k] > 20);
+        .all(|&k| counts[k] > 5);
     assert!(reached, "{counts:?}");
 }

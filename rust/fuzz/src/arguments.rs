@@ -2,9 +2,10 @@
 
 use crate::common::damage::{damage_list, damage_record};
 use crate::common::local::{complemented_record, sent};
-use crate::common::{list, mixed, random_rows, rows, Operation, Random};
+use crate::common::{list, mixed, random_islands, random_rows, random_sizes, rows};
 use crate::common::{GenerateCall, ImageLengths, Lengths, ListCall, PairCall, RecordCall, Side};
-use sukhlent::{GeneratorList, Record};
+use crate::common::{Operation, Random};
+use sukhlent::{expand, GeneratorList, Record};
 
 /// What is done to valid arguments: mostly nothing or little; one in sixteen calls gets noise.
 enum Harm {
@@ -64,7 +65,10 @@ pub fn pair_call(random: &mut Random) -> PairCall {
         1 => 20,
         _ => 1 + random.below(8),
     };
-    let first = list_call(random, n);
+    let first = match random.below(4) {
+        0 => island_call(random),
+        _ => list_call(random, n),
+    };
     let accepted = first.due() == (0, 0);
     let second = match random.below(8) {
         0 => {
@@ -81,6 +85,16 @@ pub fn pair_call(random: &mut Random) -> PairCall {
         first,
         second,
     }
+}
+
+/// A call on a list whose reduced graph falls into islands, at times one of more than 20 vertices.
+fn island_call(random: &mut Random) -> ListCall {
+    let n = size(random);
+    let largest = [4, 20, 24][random.below(3)];
+    let sizes = random_sizes(random, n, largest);
+    let record = random_islands(random, &sizes);
+    let given = expand(&record).expect("a simple graph");
+    ListCall::on(&list(&mixed(random, &rows(&given))))
 }
 
 /// Mixed generators of a list sent through random codes.

@@ -18,8 +18,9 @@ fn lent(list: &GeneratorList) -> Lent<'_> {
     (list.n() as u64, &list.signs, &list.z, &list.x)
 }
 
-/// Compares two states on at most 20 qubits; `Refusal::Inequivalent` where no choice carries the
-/// first group onto the second.
+/// Compares two states: `Refusal::Comparison` where a connected part of either reduced graph has
+/// more than 20 vertices, `Refusal::Inequivalent` where no choice carries the first group onto the
+/// second.
 pub fn compare(first: &GeneratorList, second: &GeneratorList) -> Result<Comparison, Refusal> {
     let mut answer = Comparison {
         choice: vec![0; first.n()],

@@ -10,7 +10,7 @@ pub enum Refusal {
     Form = 1,
     /// The number of qubits is 0 or above 64, or differs between two lists.
     Qubits = 2,
-    /// The number of qubits is above 20 in a comparison.
+    /// A connected part of a compared state's reduced graph has more than 20 vertices.
     Comparison = 3,
     /// A buffer has a wrong length.
     Length = 4,
@@ -44,7 +44,6 @@ impl Refusal {
         Refusal::Form,
         Refusal::Steps,
         Refusal::Qubits,
-        Refusal::Comparison,
         Refusal::Length,
         Refusal::StrayBit,
         Refusal::Value,
@@ -52,6 +51,7 @@ impl Refusal {
         Refusal::Place,
         Refusal::Anticommuting,
         Refusal::Dependent,
+        Refusal::Comparison,
         Refusal::Contradiction,
         Refusal::NoGraph,
         Refusal::Loop,
@@ -82,7 +82,6 @@ impl Refusal {
         match self {
             Refusal::Form => "the program's text does not have its form",
             Refusal::Qubits => "n is 0 or above 64, or the two lists' n differ",
-            Refusal::Comparison => "a comparison has n above 20",
             Refusal::Length => "a buffer's length is not what is required",
             Refusal::StrayBit => "a word has a bit at or above n",
             Refusal::Value => {
@@ -95,6 +94,9 @@ impl Refusal {
             }
             Refusal::Anticommuting => "two generators do not commute",
             Refusal::Dependent => "the generators are dependent",
+            Refusal::Comparison => {
+                "a connected part of either reduced graph of a comparison has more than 20 vertices"
+            }
             Refusal::Contradiction => "a determined outcome contradicts the supplied bit",
             Refusal::Steps => "a job has more than 4,096 steps",
             Refusal::NoGraph => "the image loop stops with some C = 1",
@@ -137,9 +139,9 @@ mod tests {
     }
 
     #[test]
-    fn fourteen_is_checked_after_ten_and_fifteen_after_one() {
+    fn three_and_fourteen_are_checked_after_ten_and_fifteen_after_one() {
         let order = Refusal::ALL.map(Refusal::number);
-        assert_eq!(order, [1, 15, 2, 3, 4, 5, 6, 7, 8, 9, 10, 14, 11, 12, 13]);
+        assert_eq!(order, [1, 15, 2, 4, 5, 6, 7, 8, 9, 10, 3, 14, 11, 12, 13]);
     }
 
     #[test]

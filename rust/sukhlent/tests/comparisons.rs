@@ -39,14 +39,23 @@ fn one_qubit() {
 }
 
 #[test]
-fn twenty_qubits_pass_and_twenty_one_give_3() {
+fn twenty_one_qubits_give_3_as_one_part_and_pass_as_islands() {
     let all = |n: usize| GeneratorList {
         signs: vec![0; n],
         z: vec![0; n],
         x: (0..n).map(|q| 1 << q).collect(),
     };
-    assert_eq!(compare(&all(20), &all(20)).unwrap().choice, [0; 20]);
-    assert_eq!(compare(&all(21), &all(21)), Err(Refusal::Comparison));
+    let star = |n: usize| {
+        let mut star = all(n);
+        star.z = (0..n).map(|q| u64::from(q > 0)).collect();
+        star.z[0] = (1 << n) - 2;
+        star
+    };
+    for n in [20, 21, 64] {
+        assert_eq!(compare(&all(n), &all(n)).unwrap().choice, vec![0; n]);
+    }
+    assert_eq!(compare(&star(20), &star(20)).unwrap().choice, [0; 20]);
+    assert_eq!(compare(&star(21), &star(21)), Err(Refusal::Comparison));
     assert_eq!(compare(&all(3), &all(4)), Err(Refusal::Qubits));
 }
 

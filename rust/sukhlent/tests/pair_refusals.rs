@@ -3,7 +3,9 @@
 
 use crate::common::damage::{damage_list, each_fault, each_pair, LIST_FAULTS};
 use crate::common::local::sent;
-use crate::common::{list, mixed, parsed, random_rows, rows, ListCall, PairCall, Random};
+use crate::common::reference::expanded;
+use crate::common::{list, mixed, parsed, random_islands, random_rows, rows};
+use crate::common::{ListCall, PairCall, Random};
 use sukhlent::{compare, GeneratorList, Refusal};
 
 /// A list on n qubits, and mixed generators of its image under random codes.
@@ -180,13 +182,21 @@ fn numbers_of_qubits_out_of_range_give_2_whatever_the_buffers() {
     }
 }
 
+/// A comparison of a connected state on n qubits with its image.
+fn connected(seed: u64, n: usize) -> PairCall {
+    let mut random = Random::new(seed);
+    let first = expanded(&random_islands(&mut random, &[n]));
+    let choice: Vec<u8> = (0..n).map(|_| random.below(24) as u8).collect();
+    PairCall::on(&first, &sent(&first, &choice))
+}
+
 #[test]
-fn more_than_twenty_qubits_give_3_whatever_else_is_wrong() {
+fn a_part_of_more_than_twenty_gives_3_where_nothing_else_is_wrong() {
     for n in 1..=20 {
-        assert!(base(3, n).compare().is_ok(), "{n}");
+        assert!(connected(3, n).compare().is_ok(), "{n}");
     }
     for n in 21..=64 {
-        let right = base(3, n);
+        let right = connected(3, n);
         assert_refused(&right, 3, "right lists");
         for (choice, list) in [(n + 1, 96), (n, 95), (n, 97), (0, 0)] {
             let call = PairCall {
@@ -194,15 +204,12 @@ fn more_than_twenty_qubits_give_3_whatever_else_is_wrong() {
                 list,
                 ..right.clone()
             };
-            assert_refused(&call, 3, "a length");
+            assert_refused(&call, 4, "a length");
         }
         for seed in 0..10 {
-            let mut random = Random::new(seed);
             let mut call = right.clone();
-            damage_list(&mut random, &mut call.first);
-            damage_list(&mut random, &mut call.second);
-            (call.first.n, call.second.n) = (n as u64, n as u64);
-            assert_refused(&call, 3, "damaged lists");
+            damage_list(&mut Random::new(seed), &mut call.first);
+            call.assert_due(call.compare().expect_err("a large part"));
         }
     }
 }
@@ -257,14 +264,14 @@ fn seeded_damage_against_the_reference() {
     let mut counts = [0; 14];
     for seed in 0..6000 {
         let mut random = Random::new(40_000 + seed);
-        let n = match random.below(8) {
-            0 => 19 + random.below(4),
-            _ => 1 + random.below(8),
+        let n = 1 + random.below(8);
+        let mut call = match random.below(8) {
+            0 => connected(seed, 19 + random.below(4)),
+            _ => base(seed, n),
         };
-        let mut call = base(seed, n);
         match random.below(8) {
             0 => call.second = base(seed, 1 + random.below(8)).first,
-            1 | 2 => call.second = base(seed + 1, n).first,
+            1 | 2 => call.second = base(seed + 1, call.choice).first,
             _ => (),
         }
         for _ in 0..random.below(3) {

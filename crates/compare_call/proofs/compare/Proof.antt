@@ -4,11 +4,11 @@ use borrow.Author.Needs.{needs}
 use Rattle.stabilizer.specs.Lists.{GeneratorList}
 use Rattle.compare_call.proofs.Comparing.{
   at-least-one,
+  at-most-64,
   choice-fits,
   counts-agree,
   list-fits,
   refused-2,
-  refused-3,
   refused-4,
   same-count,
 }
@@ -28,26 +28,15 @@ returns c = let P = c .before in
     refused-2 l m (a .choice .now) (a .list .now) (a .count .now) (sym (P .pair-count .ensures)
     ∙ c .if1 .taken)
 
-returns-2 : tie.Need-returns-2
-returns-2 c = let P1 = c .before in
-    let P = P1 .before in
-    let S = P .before .before .before .before .before .before .before .before .before in
-    let a = S .args in
-    let l : GeneratorList = record { n = a .n1; signs = a .signs1 .now; z = a .z1 .now; x = a .x1 .now } in
-    let m : GeneratorList = record { n = a .n2; signs = a .signs2 .now; z = a .z2 .now; x = a .x2 .now } in
-    refused-3 l m (a .choice .now) (a .list .now) (a .count .now) (sym (P .pair-count .ensures)
-    ∙ P1 .if1 .left) (c .if2 .taken)
-
 other-than-requires : tie.Need-other-than-requires
 other-than-requires c κs = search needs
 
 other-than-requires-2 : tie.Need-other-than-requires-2
 other-than-requires-2 c κs = search needs
 
-returns-3 : tie.Need-returns-3
-returns-3 c = let O = c .before in
-    let P2 = O .before .before in
-    let P1 = P2 .before in
+returns-2 : tie.Need-returns-2
+returns-2 c = let O = c .before in
+    let P1 = O .before .before in
     let P = P1 .before in
     let S = P .before .before .before .before .before .before .before .before .before in
     let a = S .args in
@@ -55,57 +44,108 @@ returns-3 c = let O = c .before in
     let m : GeneratorList = record { n = a .n2; signs = a .signs2 .now; z = a .z2 .now; x = a .x2 .now } in
     refused-4 l m (a .choice .now) (a .list .now) (a .count .now) (sym (P .pair-count .ensures)
     ∙ P1 .if1 .left) _
-    (ap₂ _||_ (O .before .other-than .ensures) (O .other-than2 .ensures)) (P2 .if2 .left) (c .if3 .taken)
+    (ap₂ _||_ (O .before .other-than .ensures) (O .other-than2 .ensures)) (c .if2 .taken)
 
 array-borrow-prefix-neighbours1 : tie.Need-array-borrow-prefix-neighbours1
-array-borrow-prefix-neighbours1 c = search needs
-
-slice-aggregate-compare-lists : tie.Need-slice-aggregate-compare-lists
-slice-aggregate-compare-lists c = let P2 = c .before .before .before .before in
-    sym (part-long _ _ (P2 .if2 .left) refl)
-
-array-borrow-prefix-codes1 : tie.Need-array-borrow-prefix-codes1
-array-borrow-prefix-codes1 c = search needs
-
-slice-aggregate-compare-lists-2 : tie.Need-slice-aggregate-compare-lists-2
-slice-aggregate-compare-lists-2 c = let P2 = c .before .before .before .before .before in
-    sym (part-long _ _ (P2 .if2 .left) refl)
-
-array-borrow-prefix-neighbours2 : tie.Need-array-borrow-prefix-neighbours2
-array-borrow-prefix-neighbours2 c = search needs
-
-slice-aggregate-compare-lists-3 : tie.Need-slice-aggregate-compare-lists-3
-slice-aggregate-compare-lists-3 c = let P2 = c .before .before .before .before .before .before in
-    sym (part-long _ _ (P2 .if2 .left) refl)
-
-array-borrow-prefix-codes2 : tie.Need-array-borrow-prefix-codes2
-array-borrow-prefix-codes2 c = search needs
-
-slice-aggregate-compare-lists-4 : tie.Need-slice-aggregate-compare-lists-4
-slice-aggregate-compare-lists-4 c = let P2 = c .before .before .before .before .before .before .before in
-    sym (part-long _ _ (P2 .if2 .left) refl)
-
-compare-lists-requires : tie.Need-compare-lists-requires
-compare-lists-requires c κs = let P3 = c .before .before .before .before .before .before .before in
-    let O = P3 .before in
-    let P2 = O .before .before in
-    let P1 = P2 .before in
+array-borrow-prefix-neighbours1 c =
+    let P1 = c .before .before .before in
     let P = P1 .before in
     let S = P .before .before .before .before .before .before .before .before .before in
     let a = S .args in
     let l : GeneratorList = record { n = a .n1; signs = a .signs1 .now; z = a .z1 .now; x = a .x1 .now } in
     let m : GeneratorList = record { n = a .n2; signs = a .signs2 .now; z = a .z2 .now; x = a .x2 .now } in
-    let few = P2 .if2 .left in (
+    at-most-64 l m (a .choice .now) (a .list .now) (a .count .now) (sym (P .pair-count .ensures) ∙ P1 .if1 .left)
+
+slice-aggregate-compare-lists : tie.Need-slice-aggregate-compare-lists
+slice-aggregate-compare-lists c =
+    let P1 = c .before .before .before .before in
+    let P = P1 .before in
+    let S = P .before .before .before .before .before .before .before .before .before in
+    let a = S .args in
+    let l : GeneratorList = record { n = a .n1; signs = a .signs1 .now; z = a .z1 .now; x = a .x1 .now } in
+    let m : GeneratorList = record { n = a .n2; signs = a .signs2 .now; z = a .z2 .now; x = a .x2 .now } in
+    sym (part-long _ _ (at-most-64 l m (a .choice .now) (a .list .now) (a .count .now) (sym (P .pair-count .ensures) ∙ P1 .if1 .left)) refl)
+
+array-borrow-prefix-codes1 : tie.Need-array-borrow-prefix-codes1
+array-borrow-prefix-codes1 c =
+    let P1 = c .before .before .before .before in
+    let P = P1 .before in
+    let S = P .before .before .before .before .before .before .before .before .before in
+    let a = S .args in
+    let l : GeneratorList = record { n = a .n1; signs = a .signs1 .now; z = a .z1 .now; x = a .x1 .now } in
+    let m : GeneratorList = record { n = a .n2; signs = a .signs2 .now; z = a .z2 .now; x = a .x2 .now } in
+    at-most-64 l m (a .choice .now) (a .list .now) (a .count .now) (sym (P .pair-count .ensures) ∙ P1 .if1 .left)
+
+slice-aggregate-compare-lists-2 : tie.Need-slice-aggregate-compare-lists-2
+slice-aggregate-compare-lists-2 c =
+    let P1 = c .before .before .before .before .before in
+    let P = P1 .before in
+    let S = P .before .before .before .before .before .before .before .before .before in
+    let a = S .args in
+    let l : GeneratorList = record { n = a .n1; signs = a .signs1 .now; z = a .z1 .now; x = a .x1 .now } in
+    let m : GeneratorList = record { n = a .n2; signs = a .signs2 .now; z = a .z2 .now; x = a .x2 .now } in
+    sym (part-long _ _ (at-most-64 l m (a .choice .now) (a .list .now) (a .count .now) (sym (P .pair-count .ensures) ∙ P1 .if1 .left)) refl)
+
+array-borrow-prefix-neighbours2 : tie.Need-array-borrow-prefix-neighbours2
+array-borrow-prefix-neighbours2 c =
+    let P1 = c .before .before .before .before .before in
+    let P = P1 .before in
+    let S = P .before .before .before .before .before .before .before .before .before in
+    let a = S .args in
+    let l : GeneratorList = record { n = a .n1; signs = a .signs1 .now; z = a .z1 .now; x = a .x1 .now } in
+    let m : GeneratorList = record { n = a .n2; signs = a .signs2 .now; z = a .z2 .now; x = a .x2 .now } in
+    at-most-64 l m (a .choice .now) (a .list .now) (a .count .now) (sym (P .pair-count .ensures) ∙ P1 .if1 .left)
+
+slice-aggregate-compare-lists-3 : tie.Need-slice-aggregate-compare-lists-3
+slice-aggregate-compare-lists-3 c =
+    let P1 = c .before .before .before .before .before .before in
+    let P = P1 .before in
+    let S = P .before .before .before .before .before .before .before .before .before in
+    let a = S .args in
+    let l : GeneratorList = record { n = a .n1; signs = a .signs1 .now; z = a .z1 .now; x = a .x1 .now } in
+    let m : GeneratorList = record { n = a .n2; signs = a .signs2 .now; z = a .z2 .now; x = a .x2 .now } in
+    sym (part-long _ _ (at-most-64 l m (a .choice .now) (a .list .now) (a .count .now) (sym (P .pair-count .ensures) ∙ P1 .if1 .left)) refl)
+
+array-borrow-prefix-codes2 : tie.Need-array-borrow-prefix-codes2
+array-borrow-prefix-codes2 c =
+    let P1 = c .before .before .before .before .before .before in
+    let P = P1 .before in
+    let S = P .before .before .before .before .before .before .before .before .before in
+    let a = S .args in
+    let l : GeneratorList = record { n = a .n1; signs = a .signs1 .now; z = a .z1 .now; x = a .x1 .now } in
+    let m : GeneratorList = record { n = a .n2; signs = a .signs2 .now; z = a .z2 .now; x = a .x2 .now } in
+    at-most-64 l m (a .choice .now) (a .list .now) (a .count .now) (sym (P .pair-count .ensures) ∙ P1 .if1 .left)
+
+slice-aggregate-compare-lists-4 : tie.Need-slice-aggregate-compare-lists-4
+slice-aggregate-compare-lists-4 c =
+    let P1 = c .before .before .before .before .before .before .before in
+    let P = P1 .before in
+    let S = P .before .before .before .before .before .before .before .before .before in
+    let a = S .args in
+    let l : GeneratorList = record { n = a .n1; signs = a .signs1 .now; z = a .z1 .now; x = a .x1 .now } in
+    let m : GeneratorList = record { n = a .n2; signs = a .signs2 .now; z = a .z2 .now; x = a .x2 .now } in
+    sym (part-long _ _ (at-most-64 l m (a .choice .now) (a .list .now) (a .count .now) (sym (P .pair-count .ensures) ∙ P1 .if1 .left)) refl)
+
+compare-lists-requires : tie.Need-compare-lists-requires
+compare-lists-requires c κs = let P3 = c .before .before .before .before .before .before .before in
+    let O = P3 .before in
+    let P1 = O .before .before in
+    let P = P1 .before in
+    let S = P .before .before .before .before .before .before .before .before .before in
+    let a = S .args in
+    let l : GeneratorList = record { n = a .n1; signs = a .signs1 .now; z = a .z1 .now; x = a .x1 .now } in
+    let m : GeneratorList = record { n = a .n2; signs = a .signs2 .now; z = a .z2 .now; x = a .x2 .now } in
+    let few = at-most-64 l m (a .choice .now) (a .list .now) (a .count .now) (sym (P .pair-count .ensures) ∙ P1 .if1 .left) in (
       (
         at-least-one l m (a .choice .now) (a .list .now) (a .count .now) (sym (P .pair-count .ensures)
             ∙ P1 .if1 .left),
         few,
         choice-fits l m (a .choice .now) (a .list .now) (a .count .now) (sym (P .pair-count .ensures)
             ∙ P1 .if1 .left) _ (ap₂ _||_ (O .before .other-than .ensures) (O .other-than2 .ensures))
-            (P3 .if3 .left),
+            (P3 .if2 .left),
         list-fits l m (a .choice .now) (a .list .now) (a .count .now) (sym (P .pair-count .ensures)
             ∙ P1 .if1 .left) _ (ap₂ _||_ (O .before .other-than .ensures) (O .other-than2 .ensures))
-            (P3 .if3 .left),
+            (P3 .if2 .left),
       ),
       (part-long _ _ few refl, part-long _ _ few refl, part-long _ _ few refl, part-long _ _ few refl),
     )
@@ -116,12 +156,11 @@ same-length c = search needs
 same-length-2 : tie.Need-same-length-2
 same-length-2 c = search needs
 
-returns-4 : tie.Need-returns-4
-returns-4 c = let Q = c .before .before .before .before .before .before .before .before in
+returns-3 : tie.Need-returns-3
+returns-3 c = let Q = c .before .before .before .before .before .before .before .before in
     let P3 = Q .before .before .before .before .before .before .before .before in
     let O = P3 .before in
-    let P2 = O .before .before in
-    let P1 = P2 .before in
+    let P1 = O .before .before in
     let P = P1 .before in
     let S = P .before .before .before .before .before .before .before .before .before in
     let a = S .args in
@@ -139,10 +178,9 @@ compare-spec =
     (tie.spec
     pair-count-requires
     returns
-    returns-2
     other-than-requires
     other-than-requires-2
-    returns-3
+    returns-2
     array-borrow-prefix-neighbours1
     slice-aggregate-compare-lists
     array-borrow-prefix-codes1
@@ -154,4 +192,4 @@ compare-spec =
     compare-lists-requires
     same-length
     same-length-2
-    returns-4)
+    returns-3)

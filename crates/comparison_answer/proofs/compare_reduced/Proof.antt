@@ -1,97 +1,165 @@
 use mathlib.Core.Path.{refl, subst, sym}
 use Prim.Native.Nat.{_≤_}
-use borrow.Author.Needs.{needs}
+use native.Mathlib.Omega.{arith}
 use borrow.Author.Tests.{not-false, not-true}
 use Rattle.buffers.proofs.Parts.{part-long}
+use Rattle.graph.specs.Graph.{Simple}
+use Rattle.graph.specs.NeighbourWords.{graphIn}
 use Rattle.comparison_answer.proofs.ReducedPairs.{
+  accepted-pair,
   choice-long,
   choice-written,
   chosen-codes,
+  first-small,
+  large-tests,
   pair-accepted,
+  pair-large,
   pair-refused,
 }
+use borrow.Author.Needs.{needs}
 use Rattle.comparison_answer.proofs.compare_reduced.Statement.{statement}
 use Rattle.comparison_answer.proofs.compare_reduced.Tie as tie
+use Rattle.comparison_answer.proofs.compare_reduced.Reads as reads
+use Rattle.comparison_answer.proofs.compare_reduced.Lts as lts
+use Rattle.buffers.proofs.copy_list.Reads as copy-list-reads
+use Rattle.comparison_answer.proofs.copy_choice.Reads as copy-choice-reads
+use Rattle.comparison_answer.proofs.induced_image.Reads as induced-image-reads
+use Rattle.comparison_parts.proofs.compare_parts.Reads as compare-parts-reads
+use Rattle.parts_words.proofs.part_above.Reads as part-above-reads
 
-compare-records-requires : tie.Need-compare-records-requires
-compare-records-requires c κs = search needs
+-- src/lib.rt:88:8
+part-above-requires : tie.Need-part-above-requires
+part-above-requires c κs =
+    let S = c .before .before .before .before .before .before in
+    let F = S .pre .0 in (
+      omega (arith, F .neighbours-length, F .upto),
+      subst (λ m. Simple m (graphIn (S .args .neighbours .now))) (sym (F .neighbours-length)) (F .simple),
+    )
 
+-- src/lib.rt:88:33
+part-above-requires-2 : tie.Need-part-above-requires-2
+part-above-requires-2 c κs =
+    let S = c .before .before .before .before .before .before .before in
+    let F = S .pre .1 .0 in (
+      omega (arith, F .neighbours-length, F .upto),
+      subst (λ m. Simple m (graphIn (S .args .neighbours2 .now))) (sym (F .neighbours-length)) (F .simple),
+    )
+
+-- src/lib.rt:89:9
 returns : tie.Need-returns
-returns c = let T = c .before .before in
-    let S = T .before .before .before .before .before .before .before in
+returns c =
+    let S = c .before .before .before .before .before .before .before .before .before in
     let a = S .args in
-    λ R R₂ H H₂. pair-refused (a .n) (a .neighbours .now) (a .codes .now) (a .neighbours2 .now)
-    (a .codes2 .now) (S .pre .0 .1)
-    (S .pre .1 .0) _ _ (T .compare-records .ensures) R R₂ H H₂
-    (a .choice .now) (a .list .now) (a .count .now) (not-true _ (c .if1 .taken))
+    λ R R₂ H H₂. pair-large (a .n) (a .neighbours .now) (a .codes .now) (a .neighbours2 .now) (a .codes2 .now)
+    (large-tests (a .n) (a .neighbours .now) (a .neighbours2 .now) _ _ _ (S .pre .0 .neighbours-length)
+    (S .pre .1 .0 .neighbours-length) (c .before .before .part-above .ensures) (c .before .part-above2 .ensures) (c .if1 .taken)) R R₂ H H₂ (a .choice .now) (a .list .now) (a .count .now)
 
+-- src/lib.rt:91:9
+compare-parts-requires : tie.Need-compare-parts-requires
+compare-parts-requires c κs =
+    let S = c .before .before .before .before .before .before .before .before .before in
+    let a = S .args in (
+      (S .pre .0 .positive, accepted-pair (a .n) (a .neighbours .now) (a .codes .now) (a .neighbours2 .now) (a .codes2 .now) (S .pre .0) (S .pre .1 .0)),
+      first-small _ _ (large-tests (a .n) (a .neighbours .now) (a .neighbours2 .now) _ _ _ (S .pre .0 .neighbours-length)
+          (S .pre .1 .0 .neighbours-length) (c .before .before .part-above .ensures) (c .before .part-above2 .ensures) (c .if1 .left)),
+    )
+
+-- src/lib.rt:93:9
+returns-2 : tie.Need-returns-2
+returns-2 c =
+    let T = c .before .before in
+    let E₁ = T .before in
+    let S = E₁ .before .before .before .before .before .before .before .before .before in
+    let a = S .args in
+    let small = (large-tests (a .n) (a .neighbours .now) (a .neighbours2 .now) _ _ _ (S .pre .0 .neighbours-length)
+    (S .pre .1 .0 .neighbours-length) (E₁ .before .before .part-above .ensures) (E₁ .before .part-above2 .ensures) (E₁ .if1 .left)) in
+    λ R R₂ H H₂. pair-refused (a .n) (a .neighbours .now) (a .codes .now) (a .neighbours2 .now) (a .codes2 .now) (S .pre .0) (S .pre .1 .0) small
+    (T .compare-parts .result .found) (T .compare-parts .result .choice) (T .compare-parts .ensures) R R₂ H H₂
+    (a .choice .now) (a .list .now) (a .count .now) (not-true _ (c .if2 .taken))
+
+-- src/lib.rt:96:5
 copy-choice-requires : tie.Need-copy-choice-requires
 copy-choice-requires c κs = search needs
 
+-- src/lib.rt:98:70
 array-borrow-prefix-induced : tie.Need-array-borrow-prefix-induced
 array-borrow-prefix-induced c = search needs
 
+-- src/lib.rt:98:70
 slice-aggregate-induced-image : tie.Need-slice-aggregate-induced-image
-slice-aggregate-induced-image c = let E = c .before .before .before .before .before .before .before in
-    let S = E .before .before .before .before .before .before .before .before .before in
-    sym (part-long _ _ (S .pre .0 .0) refl)
+slice-aggregate-induced-image c =
+    let S = c .before .before .before .before .before .before .before .before .before .before .before .before .before .before .before .before .before .before .before in
+    sym (part-long _ _ (S .pre .0 .upto) refl)
 
+-- src/lib.rt:98:9
 induced-image-requires : tie.Need-induced-image-requires
-induced-image-requires c κs = let K = c .before .before .before .before in
+induced-image-requires c κs =
+    let K = c .before .before .before .before in
     let E = K .before .before .before in
     let T = E .before .before in
-    let S = T .before .before .before .before .before .before .before in
+    let E₁ = T .before in
+    let S = E₁ .before .before .before .before .before .before .before .before .before in
     let a = S .args in
-    let x = T .compare-records .result .choice in
+    let small = (large-tests (a .n) (a .neighbours .now) (a .neighbours2 .now) _ _ _ (S .pre .0 .neighbours-length)
+    (S .pre .1 .0 .neighbours-length) (E₁ .before .before .part-above .ensures) (E₁ .before .part-above2 .ensures) (E₁ .if1 .left)) in
+    let x = T .compare-parts .result .choice in
     let e = choice-written (a .n) x (a .choice .now) _ (S .pre .1 .1 .0) (K .copy-choice .ensures) in (
-      S .pre .0 .1,
+      S .pre .0,
       (
-        (choice-long (a .n) x _ e, S .pre .1 .0 .codes-length, part-long _ _ (S .pre .0 .0) refl),
+        (choice-long (a .n) x _ e, S .pre .1 .0 .codes-length, part-long _ _ (S .pre .0 .upto) refl),
         (
-          chosen-codes (a .n) (a .neighbours .now) (a .codes .now) (a .neighbours2 .now) (a .codes2 .now)
-              (S .pre .0 .1)
-              (S .pre .1 .0) _ _ (T .compare-records .ensures) (not-false _ (E .if1 .left)) _ e,
+          chosen-codes (a .n) (a .neighbours .now) (a .codes .now) (a .neighbours2 .now) (a .codes2 .now) (S .pre .0) (S .pre .1 .0) small
+              (T .compare-parts .result .found) (T .compare-parts .result .choice) (T .compare-parts .ensures) (not-false _ (E .if2 .left)) _ e,
           S .pre .1 .0 .codes-below,
         ),
       ),
     )
 
+-- src/lib.rt:100:5
 copy-list-requires : tie.Need-copy-list-requires
-copy-list-requires c κs = let J = c .before .before .before in
-    let E = J .before .before .before .before .before .before .before .before in
-    let S = E .before .before .before .before .before .before .before .before .before in
+copy-list-requires c κs =
+    let J = c .before .before .before in
+    let S = J .before .before .before .before .before .before .before .before .before .before .before .before .before .before .before .before .before .before .before .before in
     let I = J .induced-image .ensures in
     (I .room, subst (λ k. J .induced-image .result .count ≤ k) (sym (S .pre .1 .1 .1)) (I .room))
 
+-- src/lib.rt:70:1
 same-length : tie.Need-same-length
 same-length c = search needs
 
+-- src/lib.rt:70:1
 same-length-2 : tie.Need-same-length-2
 same-length-2 c = search needs
 
-returns-2 : tie.Need-returns-2
-returns-2 c = let L = c .before .before in
-    let J = L .before .before .before .before in
+-- src/lib.rt:70:1
+returns-3 : tie.Need-returns-3
+returns-3 c =
+    let M = c .before .before in
+    let J = M .before .before .before .before in
     let K = J .before .before .before .before .before in
     let E = K .before .before .before in
     let T = E .before .before in
-    let S = T .before .before .before .before .before .before .before in
+    let E₁ = T .before in
+    let S = E₁ .before .before .before .before .before .before .before .before .before in
     let a = S .args in
-    let x = T .compare-records .result .choice in
+    let small = (large-tests (a .n) (a .neighbours .now) (a .neighbours2 .now) _ _ _ (S .pre .0 .neighbours-length)
+    (S .pre .1 .0 .neighbours-length) (E₁ .before .before .part-above .ensures) (E₁ .before .part-above2 .ensures) (E₁ .if1 .left)) in
+    let x = T .compare-parts .result .choice in
     let e = choice-written (a .n) x (a .choice .now) _ (S .pre .1 .1 .0) (K .copy-choice .ensures) in
-    λ R R₂ H H₂. pair-accepted (a .n) (a .neighbours .now) (a .codes .now) (a .neighbours2 .now)
-    (a .codes2 .now) (S .pre .0 .1)
-    (S .pre .1 .0) _ _ (T .compare-records .ensures) R R₂ H H₂
-    (not-false _ (E .if1 .left)) _ e _ (J .induced-image .ensures) (a .choice .now) (a .list .now) _
-    (a .count .now) _
-    (L .copy-list .ensures) refl
+    λ R R₂ H H₂. pair-accepted (a .n) (a .neighbours .now) (a .codes .now) (a .neighbours2 .now) (a .codes2 .now) (S .pre .0) (S .pre .1 .0) small
+    (T .compare-parts .result .found) (T .compare-parts .result .choice) (T .compare-parts .ensures) R R₂ H H₂
+    (not-false _ (E .if2 .left)) _ e _ (J .induced-image .ensures) (a .choice .now) (a .list .now) _ (a .count .now) _
+    (M .copy-list .ensures) refl
 
 pub compare-reduced-spec : {M : Type 1} → statement M
 compare-reduced-spec =
     tie.close
     (tie.spec
-    compare-records-requires
+    part-above-requires
+    part-above-requires-2
     returns
+    compare-parts-requires
+    returns-2
     copy-choice-requires
     array-borrow-prefix-induced
     slice-aggregate-induced-image
@@ -99,4 +167,4 @@ compare-reduced-spec =
     copy-list-requires
     same-length
     same-length-2
-    returns-2)
+    returns-3)

@@ -6,9 +6,9 @@
 #[path = "../../../sukhlent/tests/common/seeded/mod.rs"]
 mod seeded;
 
-use seeded::{list, mixed, random_rows, Random};
+use seeded::{list, mixed, random_islands, random_rows, rows, Pauli, Random};
 use std::arch::asm;
-use sukhlent::{raw, GeneratorList};
+use sukhlent::{expand, raw, GeneratorList};
 
 /// The painted room, in bytes.
 const ROOM: usize = 1 << 20;
@@ -91,6 +91,10 @@ const CALLS: [Measured; 14] = [
     }),
     ("compare", 10, of_compare),
     ("compare", 20, of_compare),
+    ("compare", 64, |random, n| {
+        let record = random_islands(random, &[20, 20, 20, n - 60]);
+        of_pair(random, &rows(&expand(&record).expect("a simple graph")))
+    }),
     ("generate", 64, |random, n| {
         let (mut text, mut length) = (vec![0; raw::JOB_PLACES], 0);
         let seed = random.word() | 1;
@@ -102,7 +106,13 @@ const CALLS: [Measured; 14] = [
 /// as deep: through all classes, then through all signs.
 fn of_compare(random: &mut Random, n: usize) -> usize {
     let rows = random_rows(random, n);
-    let [a, b] = [list(&rows), list(&mixed(random, &rows))];
+    of_pair(random, &rows)
+}
+
+/// A comparison of the state of some rows with itself.
+fn of_pair(random: &mut Random, rows: &[Pauli]) -> usize {
+    let n = rows.len();
+    let [a, b] = [list(rows), list(&mixed(random, rows))];
     let [a, b] = [&a, &b].map(|list| (n as u64, &*list.signs, &*list.z, &*list.x));
     let (mut choice, mut list, mut count) = (vec![0; n], [0; 96], 0);
     depth(|| raw::compare(a, b, &mut choice, &mut list, &mut count))

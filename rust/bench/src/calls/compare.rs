@@ -3,7 +3,7 @@
 use super::Line;
 use crate::pairs::{equivalent, inequivalent, Pair};
 use crate::plain;
-use crate::seeded::{random_record, Random};
+use crate::seeded::{random_islands, random_record, Random};
 use crate::timing::Ready;
 use sukhlent::raw::{self, Lent};
 use sukhlent::GeneratorList;
@@ -19,7 +19,7 @@ const AT_ONCE: usize = 1;
 /// What a comparison writes.
 #[derive(Debug, PartialEq)]
 struct Answer {
-    choice: [u8; 20],
+    choice: [u8; 64],
     list: [u8; 96],
     count: u64,
 }
@@ -39,6 +39,24 @@ pub fn line(n: usize, are_equivalent: bool) -> Line {
     pairs
         .iter()
         .for_each(|pair| assert_same_answers(pair, number));
+    Line::measured(
+        ("compare", n, name),
+        &pairs,
+        AT_ONCE,
+        [engine, in_plain_rust],
+    )
+}
+
+/// The line of 64 qubits in islands of these sizes, on equivalent pairs.
+pub fn islands(sizes: &[usize], name: &'static str) -> Line {
+    let mut random = Random::new(64);
+    let one = |_| {
+        let graph = random_islands(&mut random, sizes).neighbours;
+        equivalent(&mut random, &graph)
+    };
+    let pairs: Vec<Pair> = (0..PAIRS).map(one).collect();
+    pairs.iter().for_each(|pair| assert_same_answers(pair, 0));
+    let n = sizes.iter().sum();
     Line::measured(
         ("compare", n, name),
         &pairs,
@@ -78,7 +96,7 @@ fn run(compare: Compare, pairs: &[Pair]) -> u64 {
 impl Answer {
     fn empty() -> Answer {
         Answer {
-            choice: [0; 20],
+            choice: [0; 64],
             list: [0; 96],
             count: 0,
         }

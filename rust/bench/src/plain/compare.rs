@@ -5,12 +5,13 @@ use super::image::Rule;
 use super::reduce::reduced;
 use super::refusals;
 use super::search::{least_choice, Group};
-use super::LIST_PLACES;
+use super::{places, LIST_PLACES};
 use sukhlent::raw::Lent;
 
-/// A reduced record on at most 20 qubits.
+/// A reduced record.
 struct Record {
-    neighbours: [u64; 20],
+    neighbours: [u64; 64],
+    numbers: [u8; 64],
     codes: Codes,
 }
 
@@ -31,8 +32,10 @@ pub fn compare(
     let (Some(a), Some(b)) = (record(first), record(second)) else {
         return 10;
     };
-    let [from, to] = [&a, &b].map(|record| Group::new(&record.neighbours[..n], &record.codes));
-    let Some(least) = least_choice(n, &from, &to) else {
+    if [&a, &b].into_iter().any(|record| has_large_part(record, n)) {
+        return 3;
+    }
+    let Some(least) = least_by_parts(n, &a, &b) else {
         return 13;
     };
     choice.copy_from_slice(&least[..n]);
@@ -48,9 +51,6 @@ fn refusal(first: Lent, second: Lent, choice: usize, list: usize) -> u8 {
     if n == 0 || n > 64 || n != second.0 {
         return 2;
     }
-    if n > 20 {
-        return 3;
-    }
     if choice as u64 != n || list != LIST_PLACES {
         return 4;
     }
@@ -62,10 +62,59 @@ fn refusal(first: Lent, second: Lent, choice: usize, list: usize) -> u8 {
 /// The reduced record of a list, unless its generators are dependent.
 fn record((_, signs, z, x): Lent) -> Option<Record> {
     let n = signs.len();
-    let (mut neighbours, mut codes) = ([0; 20], [0; 20]);
-    let found = reduced(signs, z, x, &mut neighbours[..n], &mut codes[..n]);
+    let (mut neighbours, mut numbers) = ([0; 64], [0; 64]);
+    let found = reduced(signs, z, x, &mut neighbours[..n], &mut numbers[..n]);
     found.then(|| Record {
         neighbours,
-        codes: Codes::new(&codes[..n]),
+        numbers,
+        codes: Codes::new(&numbers[..n]),
     })
+}
+
+/// The part of a vertex.
+fn part(neighbours: &[u64; 64], q: usize) -> u64 {
+    let (mut part, mut fresh) = (1 << q, 1 << q);
+    while fresh != 0 {
+        let around = neighbours[fresh.trailing_zeros() as usize] & !part;
+        part |= around;
+        fresh = fresh & (fresh - 1) | around;
+    }
+    part
+}
+
+/// Whether a part has more than 20 vertices.
+fn has_large_part(record: &Record, n: usize) -> bool {
+    (0..n).any(|q| part(&record.neighbours, q).count_ones() > 20)
+}
+
+/// The least choice, part after part.
+fn least_by_parts(n: usize, a: &Record, b: &Record) -> Option<[u8; 64]> {
+    let mut choice = [0; 64];
+    let mut rest = u64::MAX >> (64 - n);
+    while rest != 0 {
+        let island = part(&a.neighbours, rest.trailing_zeros() as usize);
+        if places(island).any(|q| b.neighbours[q] & !island != 0) {
+            return None;
+        }
+        let [from, to] = [a, b].map(|record| group(record, island));
+        let least = least_choice(island.count_ones() as usize, &from, &to)?;
+        for (q, code) in places(island).zip(least) {
+            choice[q] = code;
+        }
+        rest &= !island;
+    }
+    Some(choice)
+}
+
+/// The group of a part, its vertices in rising order.
+fn group(record: &Record, island: u64) -> Group {
+    let (mut neighbours, mut numbers) = ([0; 20], [0; 20]);
+    for (i, q) in places(island).enumerate() {
+        let bits = places(island).enumerate();
+        let bit = |(j, p): (usize, usize)| (record.neighbours[q] >> p & 1) << j;
+        neighbours[i] = bits.map(bit).sum();
+        numbers[i] = record.numbers[q];
+    }
+    let k = island.count_ones() as usize;
+    Group::new(&neighbours[..k], &Codes::new(&numbers[..k]))
 }

@@ -54,7 +54,9 @@ impl PairCall {
     pub fn due(&self) -> Option<u8> {
         let lists = [&self.first, &self.second];
         let numbers = lists.map(|list| list.due().0);
-        reference::pair_refusal(lists.map(|list| list.n), numbers, self.choice, self.list)
+        let counts = lists.map(|list| list.n);
+        let early = reference::pair_refusal(counts, numbers, self.choice, self.list);
+        early.or_else(|| lists.into_iter().any(has_large_part).then_some(3))
     }
 
     /// Panics unless a number is the one due: 0 or 13 where the search decides.
@@ -64,4 +66,10 @@ impl PairCall {
             None => assert!([0, 13].contains(&number), "{number}: {self:?}"),
         }
     }
+}
+
+/// Whether a part of the reduced graph of an accepted list has more than 20 vertices.
+fn has_large_part(call: &ListCall) -> bool {
+    let parts = reference::parts(&reference::reduced(&call.list()).neighbours);
+    parts.iter().any(|part| part.len() > 20)
 }

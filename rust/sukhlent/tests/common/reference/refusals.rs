@@ -142,12 +142,11 @@ pub fn product_refusal(n: u64, signs: &[u8], z: &[u64], x: &[u64], chosen: u64) 
 }
 
 /// The first of lines 2 to 10 that is true of a comparison: of two lists with their n and the
-/// first line that is true of each, or 0, of the choice's places and of the list's. None where the
-/// search decides.
+/// first line that is true of each, or 0, of the choice's places and of the list's. None where line
+/// 3 or the search decides.
 pub fn pair_refusal(n: [u64; 2], of_lists: [u8; 2], choice: usize, list: usize) -> Option<u8> {
     first_of(&[
         (n[0] != n[1], 2),
-        (n.iter().any(|&n| n > 20), 3),
         (choice as u64 != n[0] || list != LIST_PLACES, 4),
         (of_lists[0] != 0, of_lists[0]),
         (of_lists[1] != 0, of_lists[1]),

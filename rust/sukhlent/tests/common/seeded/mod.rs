@@ -2,12 +2,14 @@
 #![allow(dead_code, unused_imports)]
 
 pub mod circuit;
+pub mod islands;
 pub mod lists;
 pub mod pauli;
 pub mod random;
 pub mod records;
 
 pub use circuit::{stabilizers, Circuit, Gate};
+pub use islands::{random_islands, random_sizes};
 pub use lists::{list, mixed, parsed, random_rows, rows};
 pub use pauli::Pauli;
 pub use random::Random;

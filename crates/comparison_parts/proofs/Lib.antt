@@ -1,0 +1,4 @@
+pub mod Placing
+pub mod PartBuffers
+pub mod IslandLaws
+pub mod Parting

@@ -1,0 +1,140 @@
+use mathlib.Core.Path.{subst, sym}
+use native.Mathlib.Omega.{arith}
+use lib.ListN.{replicate}
+use borrow.Author.Tests.{not-false, not-true}
+use Rattle.comparison.proofs.NextChoice.{zeros-codes}
+use Rattle.graph.specs.Graph.{Simple}
+use Rattle.graph.specs.NeighbourWords.{graphIn}
+use Rattle.comparison_parts.proofs.Parting.{
+  all-answer,
+  next-island,
+  none-answer,
+  progress-start,
+  progress-step,
+  rest-falls,
+  vertex-in-buffer,
+}
+use Rattle.comparison_parts.specs.Islands.{IslandAnswer, Progress, held}
+use borrow.Author.Needs.{needs}
+use Rattle.comparison_parts.proofs.compare_parts.Statement.{statement}
+use Rattle.comparison_parts.proofs.compare_parts.Tie as tie
+use Rattle.comparison_parts.proofs.compare_parts.Reads as reads
+use Rattle.comparison_parts.proofs.compare_parts.Lts as lts
+use Rattle.comparison_parts.proofs.compare_island.Reads as compare-island-reads
+use Rattle.parts_words.proofs.part.Reads as part-reads
+use Rattle.words.proofs.mask.Reads as mask-reads
+use Rattle.words.proofs.smallest.Reads as smallest-reads
+
+abbrev Inv-loop : tie.InvT-loop
+Inv-loop n neighbours codes neighbours2 codes2 choice₀ rest₀ choice rest =
+    Progress n (held n neighbours codes) (held n neighbours2 codes2) rest choice
+
+abbrev μ-loop : tie.MeasureT-loop
+μ-loop n neighbours codes neighbours2 codes2 choice₀ rest₀ choice rest = rest
+
+-- src/lib.rt:131:9
+mask-requires : tie.Need-mask-requires Inv-loop μ-loop
+mask-requires c κs = search needs
+
+-- src/lib.rt:132:5
+loop-holds : tie.Need-loop-holds Inv-loop μ-loop
+loop-holds c =
+    let S = c .before .before .before .before .before in
+    let a = S .args in
+    progress-start (a .n) (a .neighbours .now) (a .codes .now) (a .neighbours2 .now) (a .codes2 .now) (S .pre .0 .1) _ (c .mask .ensures) (replicate 64 0) (zeros-codes 64)
+
+-- src/lib.rt:133:13
+smallest-requires : tie.Need-smallest-requires Inv-loop μ-loop
+smallest-requires c κs = search needs
+
+-- src/lib.rt:134:13
+part-requires : tie.Need-part-requires Inv-loop μ-loop
+part-requires c κs =
+    let L = c .before .before in
+    let S = L .before .before .before .before .before .before in
+    let a = S .args in
+    let F = S .pre .0 .1 .first in (
+      (
+        omega (arith, F .neighbours-long, S .pre .0 .1 .upto),
+        vertex-in-buffer (a .n) (a .neighbours .now) (a .codes .now) (a .neighbours2 .now) (a .codes2 .now) (S .pre .0 .1) (L .loop .rest) (L .loop .choice) (L .loop .inv)
+            (c .before .loop-test .taken) _ (c .smallest .ensures .0),
+      ),
+      subst (λ m. Simple m (graphIn (a .neighbours .now))) (sym (F .neighbours-long)) (F .simple),
+    )
+
+-- src/lib.rt:135:13
+compare-island-requires : tie.Need-compare-island-requires Inv-loop μ-loop
+compare-island-requires c κs =
+    let Q = c .before in
+    let L = Q .before .before in
+    let S = L .before .before .before .before .before .before in
+    let a = S .args in (
+      S .pre .0 .1,
+      next-island (a .n) (a .neighbours .now) (a .codes .now) (a .neighbours2 .now) (a .codes2 .now) (S .pre .0 .1) (L .loop .rest) (L .loop .choice) (L .loop .inv)
+          (Q .before .loop-test .taken) _ (Q .smallest .ensures .0) (S .pre .1) _ (c .part .ensures),
+    )
+
+-- src/lib.rt:138:13
+returns : tie.Need-returns Inv-loop μ-loop
+returns c =
+    let I = c .before .before .before in
+    let Q = I .before .before in
+    let L = Q .before .before in
+    let S = L .before .before .before .before .before .before in
+    let a = S .args in
+    none-answer (a .n) (a .neighbours .now) (a .codes .now) (a .neighbours2 .now) (a .codes2 .now) (S .pre .0 .1) (L .loop .rest) (L .loop .choice) (L .loop .inv)
+    (Q .before .loop-test .taken) _ (Q .smallest .ensures .0) (S .pre .1) _ (I .before .part .ensures) _
+    (subst (λ f. IslandAnswer (a .n) (held (a .n) (a .neighbours .now) (a .codes .now))
+    (held (a .n) (a .neighbours2 .now) (a .codes2 .now)) (I .before .part .result) (L .loop .choice) f
+    (I .compare-island .result .choice)) (not-true _ (c .if1 .taken))
+    (I .compare-island .ensures))
+
+-- src/lib.rt:132:5
+loop-less : tie.Need-loop-less Inv-loop μ-loop
+loop-less c =
+    let I = c .before .before .before in
+    let Q = I .before .before in
+    let L = Q .before .before in
+    let S = L .before .before .before .before .before .before in
+    let a = S .args in
+    rest-falls (a .n) (a .neighbours .now) (a .codes .now) (a .neighbours2 .now) (a .codes2 .now) (S .pre .0 .1) (L .loop .rest) (L .loop .choice) (L .loop .inv)
+    (Q .before .loop-test .taken) _ (Q .smallest .ensures .0) (S .pre .1) _ (I .before .part .ensures)
+
+-- src/lib.rt:132:5
+loop-again : tie.Need-loop-again Inv-loop μ-loop
+loop-again c =
+    let I = c .before .before .before in
+    let Q = I .before .before in
+    let L = Q .before .before in
+    let S = L .before .before .before .before .before .before in
+    let a = S .args in
+    progress-step (a .n) (a .neighbours .now) (a .codes .now) (a .neighbours2 .now) (a .codes2 .now) (S .pre .0 .1) (L .loop .rest) (L .loop .choice) (L .loop .inv)
+    (Q .before .loop-test .taken) _ (Q .smallest .ensures .0) (S .pre .1) _ (I .before .part .ensures) _
+    (subst (λ f. IslandAnswer (a .n) (held (a .n) (a .neighbours .now) (a .codes .now))
+    (held (a .n) (a .neighbours2 .now) (a .codes2 .now)) (I .before .part .result) (L .loop .choice) f
+    (I .compare-island .result .choice)) (not-false _ (c .if1 .left))
+    (I .compare-island .ensures))
+
+-- src/lib.rt:118:1
+returns-2 : tie.Need-returns-2 Inv-loop μ-loop
+returns-2 c =
+    let S = c .before .before .before .before .before .before .before in
+    let a = S .args in
+    all-answer (a .n) (a .neighbours .now) (a .codes .now) (a .neighbours2 .now) (a .codes2 .now) (S .pre .0 .1) (c .before .loop .rest) (c .before .loop .choice) (c .before .loop .inv)
+    (c .loop-test .left)
+
+pub compare-parts-spec : {M : Type 1} → statement M
+compare-parts-spec =
+    tie.close
+    (tie.spec
+    Inv-loop
+    μ-loop
+    mask-requires
+    loop-holds
+    smallest-requires
+    part-requires
+    compare-island-requires
+    returns
+    loop-less
+    loop-again
+    returns-2)

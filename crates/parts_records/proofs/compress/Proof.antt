@@ -1,0 +1,77 @@
+use Prim.Native.Nat.{_-_, _≤_, zero-le}
+use native.Mathlib.Omega.{arith}
+use Rattle.parts_records.proofs.Listing.{Compressed, compressed-all, compressed-more, compressed-none}
+use borrow.Author.Needs.{needs}
+use Rattle.parts_records.proofs.compress.Statement.{statement}
+use Rattle.parts_records.proofs.compress.Tie as tie
+use Rattle.parts_records.proofs.compress.Reads as reads
+use Rattle.parts_records.proofs.compress.Lts as lts
+use Rattle.words.proofs.flip_where.Reads as flip-where-reads
+use Rattle.words.proofs.has.Reads as has-reads
+
+abbrev Inv-loop : tie.InvT-loop
+Inv-loop w k at bits₀ i₀ bits i = (i ≤ k) × Compressed at w bits i
+
+abbrev μ-loop : tie.MeasureT-loop
+μ-loop w k at bits₀ i₀ bits i = k - i
+
+-- src/lib.rt:44:5
+loop-holds : tie.Need-loop-holds Inv-loop μ-loop
+loop-holds c = (zero-le, compressed-none (c .args .t2) (c .args .w))
+
+-- src/lib.rt:45:17
+mul-v : tie.Need-mul-v Inv-loop μ-loop
+mul-v c = search needs
+
+-- src/lib.rt:45:17
+array-read-v : tie.Need-array-read-v Inv-loop μ-loop
+array-read-v c = search needs
+
+-- src/lib.rt:46:36
+has-requires : tie.Need-has-requires Inv-loop μ-loop
+has-requires c κs = c .before .before .pre .1 (c .before .loop .i) (c .loop-test .taken)
+
+-- src/lib.rt:46:9
+flip-where-requires : tie.Need-flip-where-requires Inv-loop μ-loop
+flip-where-requires c κs = search needs
+
+-- src/lib.rt:47:9
+add-i : tie.Need-add-i Inv-loop μ-loop
+add-i c = search needs
+
+-- src/lib.rt:44:5
+loop-less : tie.Need-loop-less Inv-loop μ-loop
+loop-less c = omega arith
+
+-- src/lib.rt:44:5
+loop-again : tie.Need-loop-again Inv-loop μ-loop
+loop-again c =
+    let H = c .before in
+    let L = H .before .before in (
+      omega arith,
+      compressed-more (L .before .args .t2) (L .before .args .w) (L .loop .bits) (L .loop .i) _ _
+          (L .loop .inv .1) (H .has .ensures) (c .flip-where .ensures),
+    )
+
+-- src/lib.rt:38:1
+returns : tie.Need-returns Inv-loop μ-loop
+returns c =
+    let L = c .before in
+    compressed-all (L .before .args .t2) (L .before .args .w) (L .before .args .k) (L .loop .bits) (L .loop .i)
+    (L .loop .inv .0) (c .loop-test .left) (L .loop .inv .1)
+
+pub compress-spec : {M : Type 1} → statement M
+compress-spec =
+    tie.close
+    (tie.spec
+    Inv-loop
+    μ-loop
+    loop-holds
+    mul-v
+    array-read-v
+    has-requires
+    flip-where-requires
+    add-i
+    loop-less
+    loop-again
+    returns)

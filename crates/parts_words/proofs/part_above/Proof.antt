@@ -1,0 +1,88 @@
+use Prim.Native.Nat.{_-_}
+use native.Mathlib.Omega.{arith}
+use lib.ListN.{length}
+use borrow.Author.Tests.{le-ltb, lt-ltb}
+use Rattle.graph.specs.NeighbourWords.{graphIn}
+use Rattle.parts.specs.Parts.{partAbove}
+use Rattle.stabilizer.proofs.Scanning.{NoneSoFar, found-at, found-nowhere, none-at, none-at-first}
+use Rattle.parts_words.proofs.Spreading.{isLarge, large-is}
+use borrow.Author.Needs.{needs}
+use Rattle.parts_words.proofs.part_above.Statement.{statement}
+use Rattle.parts_words.proofs.part_above.Tie as tie
+use Rattle.parts_words.proofs.part_above.Reads as reads
+use Rattle.parts_words.proofs.part_above.Lts as lts
+use Rattle.parts_words.proofs.part.Reads as part-reads
+use Rattle.words.proofs.count.Reads as count-reads
+
+abbrev Inv-loop : tie.InvT-loop
+Inv-loop neighbours q₀ q =
+    NoneSoFar (length neighbours) (isLarge (length neighbours) (graphIn neighbours)) q
+
+abbrev μ-loop : tie.MeasureT-loop
+μ-loop neighbours q₀ q = length neighbours - q
+
+-- src/lib.rt:53:5
+loop-holds : tie.Need-loop-holds Inv-loop μ-loop
+loop-holds c = none-at-first _ _
+
+-- src/lib.rt:54:23
+part-requires : tie.Need-part-requires Inv-loop μ-loop
+part-requires c κs = search needs
+
+-- src/lib.rt:54:17
+count-requires : tie.Need-count-requires Inv-loop μ-loop
+count-requires c κs = search needs
+
+-- src/lib.rt:55:13
+returns : tie.Need-returns Inv-loop μ-loop
+unfolding partAbove
+returns c =
+    let P = c .before .before in
+    let L = P .before .before in
+    let nb = L .before .before .args .neighbours .now in
+    let n = length nb in
+    found-at n (isLarge n (graphIn nb)) (L .loop .q) (P .before .loop-test .taken)
+    (large-is n (graphIn nb) (L .loop .q) _ _ (P .part .ensures) (c .before .count .ensures .0))
+    (lt-ltb 20 _ (c .if1 .taken))
+
+-- src/lib.rt:57:9
+add-q : tie.Need-add-q Inv-loop μ-loop
+add-q c = search needs
+
+-- src/lib.rt:53:5
+loop-less : tie.Need-loop-less Inv-loop μ-loop
+loop-less c = omega arith
+
+-- src/lib.rt:53:5
+loop-again : tie.Need-loop-again Inv-loop μ-loop
+loop-again c =
+    let P = c .before .before in
+    let L = P .before .before in
+    let nb = L .before .before .args .neighbours .now in
+    let n = length nb in
+    none-at n (isLarge n (graphIn nb)) (L .loop .q) (L .loop .inv) (P .before .loop-test .taken)
+    (large-is n (graphIn nb) (L .loop .q) _ _ (P .part .ensures) (c .before .count .ensures .0))
+    (le-ltb 20 _ (c .if1 .left))
+
+-- src/lib.rt:47:1
+returns-2 : tie.Need-returns-2 Inv-loop μ-loop
+unfolding partAbove
+returns-2 c =
+    let nb = c .before .before .before .args .neighbours .now in
+    found-nowhere (length nb) (isLarge (length nb) (graphIn nb)) (c .before .loop .q) (c .before .loop .inv)
+    (c .loop-test .left)
+
+pub part-above-spec : {M : Type 1} → statement M
+part-above-spec =
+    tie.close
+    (tie.spec
+    Inv-loop
+    μ-loop
+    loop-holds
+    part-requires
+    count-requires
+    returns
+    add-q
+    loop-less
+    loop-again
+    returns-2)
