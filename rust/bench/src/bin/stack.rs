@@ -21,7 +21,7 @@ const CASES: u64 = 100;
 type Measured = (&'static str, usize, fn(&mut Random, usize) -> usize);
 
 /// Every public call. All arguments are accepted, so that every step is taken.
-const CALLS: [Measured; 14] = [
+const CALLS: [Measured; 15] = [
     ("check", 64, |random, n| {
         let given = list(&random_rows(random, n));
         depth(|| raw::check(n as u64, &given.signs, &given.z, &given.x))
