@@ -1,5 +1,6 @@
 pub mod Examples
 pub mod SecondDemandLists
+pub mod PartsReached
 pub mod PartsDemandHolds
 pub mod ThirdDemandHolds
 pub mod AcceptedPairs

@@ -1,6 +1,7 @@
 -- Of the parts of reduced graphs (02, §9): "Show that equivalent states have the same parts, and that, where the parts
 -- agree, a working choice exists exactly if each has one"; and which comparisons 3 refuses.
 -- Assumes nothing.
+use mathlib.Core.Bool.{true}
 use mathlib.Core.List.{List}
 use mathlib.Core.Logic.{_↔_, _⊎_}
 use mathlib.Core.Path.{_≡_}
@@ -10,7 +11,8 @@ use Rattle.clifford.specs.Clifford.{Clifford}
 use Rattle.comparison.specs.Compared.{pairLines}
 use Rattle.comparison.specs.PartChoices.{CarriesOn}
 use Rattle.cut.specs.Kernel.{count}
-use Rattle.parts.specs.Parts.{partOf}
+use Rattle.graph.specs.Graph.{Graph}
+use Rattle.parts.specs.Parts.{Path, partOf}
 use Rattle.record.specs.Reduced.{reducedGraph}
 use Rattle.stabilizer.specs.Carries.{Carries}
 use Rattle.stabilizer.specs.Lists.{GeneratorList, rows}
@@ -33,6 +35,10 @@ SmallParts l = (q : ℕ) → q < l .n → partSize l q ≤ 20
 -- "a part exceeds 20"
 abbrev pub LargePart : GeneratorList → Type 0
 LargePart l = (q : ℕ) × (q < l .n) × (20 < partSize l q)
+
+-- (the part of a vertex is what paths of edges reach from it, in any graph)
+abbrev pub PartsAreReached : Type 0
+PartsAreReached = (n : ℕ) (θ : Graph) (q t : ℕ) → q < n → t < n → (partOf n θ q t ≡ true) ↔ Path n θ q t
 
 -- two accepted lists on one number of qubits
 pub record Accepted (l m : GeneratorList) : Type 0 where

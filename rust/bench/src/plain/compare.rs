@@ -73,7 +73,7 @@ fn record((_, signs, z, x): Lent) -> Option<Record> {
 
 /// The part of a vertex.
 fn part(neighbours: &[u64; 64], q: usize) -> u64 {
-    let (mut part, mut fresh) = (1 << q, 1 << q);
+    let (mut part, mut fresh) = (1u64 << q, 1u64 << q);
     while fresh != 0 {
         let around = neighbours[fresh.trailing_zeros() as usize] & !part;
         part |= around;
