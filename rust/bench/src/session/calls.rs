@@ -1,28 +1,31 @@
 //! The calls on a lent record.
 
-use super::{start_buffers, Answer, Session};
+use super::{start_record, Answer, Session};
 use crate::operation::Operation;
 use sukhlent::Record;
 use tableau::Measured;
 
-pub struct Calls {
-    neighbours: Vec<u64>,
-    codes: Vec<u8>,
+pub struct Calls(Record);
+
+impl Calls {
+    /// A session that starts with a record, reduced or not.
+    pub fn on(record: Record) -> Calls {
+        Calls(record)
+    }
 }
 
 impl Session for Calls {
     fn start(n: usize) -> Calls {
-        let (neighbours, codes) = start_buffers(n);
-        Calls { neighbours, codes }
+        Calls::on(start_record(n))
     }
 
     fn step(&mut self, operation: Operation) -> Answer {
-        let n = self.codes.len() as u64;
+        let n = self.0.codes.len() as u64;
         let (mut outcome, mut determined) = (0, 0);
         let number = operation.call(
             n,
-            &mut self.neighbours,
-            &mut self.codes,
+            &mut self.0.neighbours,
+            &mut self.0.codes,
             &mut outcome,
             &mut determined,
         );
@@ -38,9 +41,6 @@ impl Session for Calls {
     }
 
     fn record(&self) -> Record {
-        Record {
-            neighbours: self.neighbours.clone(),
-            codes: self.codes.clone(),
-        }
+        self.0.clone()
     }
 }

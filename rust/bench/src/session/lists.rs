@@ -1,6 +1,6 @@
 //! The record expanded, the list changed and reduced.
 
-use super::{start_buffers, Answer, Session};
+use super::{start_record, Answer, Session};
 use crate::codes::image;
 use crate::operation::Operation;
 use crate::plain::Row;
@@ -9,8 +9,7 @@ use sukhlent::{raw, Record};
 use tableau::Measured;
 
 pub struct Lists {
-    neighbours: Vec<u64>,
-    codes: Vec<u8>,
+    record: Record,
     signs: Vec<u8>,
     z: Vec<u64>,
     x: Vec<u64>,
@@ -18,14 +17,7 @@ pub struct Lists {
 
 impl Session for Lists {
     fn start(n: usize) -> Lists {
-        let (neighbours, codes) = start_buffers(n);
-        Lists {
-            neighbours,
-            codes,
-            signs: vec![0; n],
-            z: vec![0; n],
-            x: vec![0; n],
-        }
+        Lists::on(start_record(n))
     }
 
     fn step(&mut self, operation: Operation) -> Answer {
@@ -43,24 +35,32 @@ impl Session for Lists {
     }
 
     fn record(&self) -> Record {
-        Record {
-            neighbours: self.neighbours.clone(),
-            codes: self.codes.clone(),
-        }
+        self.record.clone()
     }
 }
 
 impl Lists {
+    /// A session that starts with a record, reduced or not.
+    pub fn on(record: Record) -> Lists {
+        let n = record.codes.len();
+        Lists {
+            record,
+            signs: vec![0; n],
+            z: vec![0; n],
+            x: vec![0; n],
+        }
+    }
+
     fn expand(&mut self) {
-        let n = self.codes.len() as u64;
+        let n = self.signs.len() as u64;
         let (signs, z, x) = (&mut self.signs, &mut self.z, &mut self.x);
-        let number = raw::expand(n, &self.neighbours, &self.codes, signs, z, x);
+        let number = raw::expand(n, &self.record.neighbours, &self.record.codes, signs, z, x);
         assert_eq!(number, 0, "the record is accepted");
     }
 
     fn reduce(&mut self) {
-        let n = self.codes.len() as u64;
-        let (neighbours, codes) = (&mut self.neighbours, &mut self.codes);
+        let n = self.signs.len() as u64;
+        let (neighbours, codes) = (&mut self.record.neighbours, &mut self.record.codes);
         let number = raw::reduce(n, &self.signs, &self.z, &self.x, neighbours, codes);
         assert_eq!(number, 0, "the list is accepted");
     }

@@ -50,9 +50,12 @@ pub fn run<S: Session>(n: usize, job: &[Operation]) -> (S, u64) {
     (session, sum)
 }
 
-/// The buffers of the starting record: code 8 and no edge.
-fn start_buffers(n: usize) -> (Vec<u64>, Vec<u8>) {
-    (vec![0; n], vec![8; n])
+/// The starting record: code 8 and no edge.
+fn start_record(n: usize) -> Record {
+    Record {
+        neighbours: vec![0; n],
+        codes: vec![8; n],
+    }
 }
 
 /// The record of a list of generators.
