@@ -3,8 +3,8 @@
 use crate::common::damage::{damage_list, damage_record};
 use crate::common::local::{complemented_record, sent};
 use crate::common::{list, mixed, random_islands, random_rows, random_sizes, rows};
-use crate::common::{Operation, Random};
 use crate::common::{ImageLengths, Lengths, ListCall, PairCall, RecordCall, Side};
+use crate::common::{Operation, Random};
 use sukhlent::{expand, GeneratorList, Record};
 
 /// What is done to valid arguments: mostly nothing or little; one in sixteen calls gets noise.
