@@ -20,7 +20,10 @@ fn main() {
     for (sizes, name) in [
         (&[1; 64][..], "equivalent pairs, 64 islands of one"),
         (&[2; 32], "equivalent pairs, 32 islands of two"),
-        (&[20, 20, 20, 4], "equivalent pairs, islands of 20, 20, 20, 4"),
+        (
+            &[20, 20, 20, 4],
+            "equivalent pairs, islands of 20, 20, 20, 4",
+        ),
     ] {
         println!("{}", compare::islands(sizes, name));
     }

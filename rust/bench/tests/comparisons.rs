@@ -70,8 +70,13 @@ fn damaged_pairs() {
     let mut counts = [0; 14];
     for seed in 0..4000 {
         let mut random = Random::new(seed);
-        let n = 1 + random.below(22);
-        let mut lists = if random.below(8) == 0 {
+        let connected = random.below(4) == 0;
+        let n = if connected {
+            19 + random.below(4)
+        } else {
+            1 + random.below(22)
+        };
+        let mut lists = if connected {
             let record = random_islands(&mut random, &[n]);
             let given = expand(&record).unwrap();
             [given.clone(), given]
@@ -103,6 +108,6 @@ fn damaged_pairs() {
     }
     let reached = [0, 2, 3, 4, 5, 6, 9, 10, 13]
         .iter()
-        .all(|&k| counts[k] > 5);
+        .all(|&k| counts[k] > 20);
     assert!(reached, "{counts:?}");
 }

@@ -156,7 +156,13 @@ fn parts_that_differ_give_13() {
 fn one_island_that_is_not_equivalent_gives_13() {
     // Fifteen paths of four vertices and a star, against sixteen paths.
     let record = |star: usize| {
-        let inner = |k: usize| if k == star { [14, 1, 1, 1] } else { [2, 5, 10, 4] };
+        let inner = |k: usize| {
+            if k == star {
+                [14, 1, 1, 1]
+            } else {
+                [2, 5, 10, 4]
+            }
+        };
         let words = (0..16).flat_map(|k| inner(k).map(move |word: u64| word << (4 * k)));
         expanded(&Record {
             neighbours: words.collect(),

@@ -6,7 +6,7 @@
 #[path = "../../../sukhlent/tests/common/seeded/mod.rs"]
 mod seeded;
 
-use seeded::{list, mixed, random_islands, random_rows, rows, Pauli, Random};
+use seeded::{list, mixed, random_islands, random_rows, rows, Random};
 use std::arch::asm;
 use sukhlent::{expand, raw, GeneratorList};
 
@@ -91,10 +91,7 @@ const CALLS: [Measured; 15] = [
     }),
     ("compare", 10, of_compare),
     ("compare", 20, of_compare),
-    ("compare", 64, |random, n| {
-        let record = random_islands(random, &[20, 20, 20, n - 60]);
-        of_pair(random, &rows(&expand(&record).expect("a simple graph")))
-    }),
+    ("compare", 64, of_compare),
     ("generate", 64, |random, n| {
         let (mut text, mut length) = (vec![0; raw::JOB_PLACES], 0);
         let seed = random.word() | 1;
@@ -102,17 +99,20 @@ const CALLS: [Measured; 15] = [
     }),
 ];
 
-/// A comparison of a state with itself, by other generators. Every comparison that is accepted goes
-/// as deep: through all classes, then through all signs.
+/// A comparison of a state with itself, by other generators. The state is in parts of 20, or in one
+/// part. Every comparison that is accepted goes as deep as its largest part is large: through all
+/// its classes, then through all its signs.
 fn of_compare(random: &mut Random, n: usize) -> usize {
-    let rows = random_rows(random, n);
-    of_pair(random, &rows)
-}
-
-/// A comparison of the state of some rows with itself.
-fn of_pair(random: &mut Random, rows: &[Pauli]) -> usize {
-    let n = rows.len();
-    let [a, b] = [list(rows), list(&mixed(random, rows))];
+    let sizes = [20, 20, 20, 20].map(|size: usize| size.min(n));
+    let mut rest = n;
+    let fitting = sizes.map(|size| {
+        let taken = size.min(rest);
+        rest -= taken;
+        taken
+    });
+    let record = random_islands(random, &fitting);
+    let rows = rows(&expand(&record).expect("a simple graph"));
+    let [a, b] = [list(&rows), list(&mixed(random, &rows))];
     let [a, b] = [&a, &b].map(|list| (n as u64, &*list.signs, &*list.z, &*list.x));
     let (mut choice, mut list, mut count) = (vec![0; n], [0; 96], 0);
     depth(|| raw::compare(a, b, &mut choice, &mut list, &mut count))
