@@ -1,4 +1,2 @@
-pub mod Placing
-pub mod PartBuffers
 pub mod IslandLaws
 pub mod Parting

@@ -2,12 +2,12 @@ use mathlib.Core.Path.{ap, sym, _∙_}
 use native.Mathlib.Omega.{arith}
 use lib.ListN.{length}
 use Rattle.parts_records.specs.Listed.{partCodes, partWords}
-use Rattle.comparison_parts.proofs.PartBuffers.{first-sound, part-answered, second-sound}
+use Rattle.comparison_islands.proofs.PartBuffers.{first-sound, part-answered, second-sound}
 use borrow.Author.Needs.{needs}
-use Rattle.comparison_parts.proofs.compare_listed.Statement.{statement}
-use Rattle.comparison_parts.proofs.compare_listed.Tie as tie
-use Rattle.comparison_parts.proofs.compare_listed.Reads as reads
-use Rattle.comparison_parts.proofs.compare_listed.Lts as lts
+use Rattle.comparison_islands.proofs.compare_listed.Statement.{statement}
+use Rattle.comparison_islands.proofs.compare_listed.Tie as tie
+use Rattle.comparison_islands.proofs.compare_listed.Reads as reads
+use Rattle.comparison_islands.proofs.compare_listed.Lts as lts
 use Rattle.comparison_search.proofs.compare_records.Reads as compare-records-reads
 use Rattle.parts_records.proofs.extract.Reads as extract-reads
 

@@ -33,7 +33,7 @@ use Rattle.stabilizer.specs.Groups.{Proper}
 use Rattle.words.proofs.BitLaws.{bit-above, bit-wordOf, wordOf-lt, zero-bit}
 use Rattle.words.proofs.Sums.{lt-or-ge}
 use Rattle.words.specs.Bits.{Word, bit}
-use Rattle.comparison_parts.specs.Islands.{NumberedPair, PartAnswer, held, partOfRecord}
+use Rattle.comparison_islands.specs.Islands.{NumberedPair, PartAnswer, held, partOfRecord}
 
 -- ---- one record
 module _ (n : ℕ) (nb cs : List ℕ) (s : Word) (k : ℕ) (at : List ℕ) (N : Numbers n s k (λ i. getD at i 0))

@@ -1,11 +1,11 @@
 use Prim.Native.Nat.{_-_, _≤_, zero-le}
 use native.Mathlib.Omega.{arith}
-use Rattle.comparison_parts.proofs.Placing.{Placing, placing-end, placing-start, placing-step}
+use Rattle.comparison_islands.proofs.Placing.{Placing, placing-end, placing-start, placing-step}
 use borrow.Author.Needs.{needs}
-use Rattle.comparison_parts.proofs.placed.Statement.{statement}
-use Rattle.comparison_parts.proofs.placed.Tie as tie
-use Rattle.comparison_parts.proofs.placed.Reads as reads
-use Rattle.comparison_parts.proofs.placed.Lts as lts
+use Rattle.comparison_islands.proofs.placed.Statement.{statement}
+use Rattle.comparison_islands.proofs.placed.Tie as tie
+use Rattle.comparison_islands.proofs.placed.Reads as reads
+use Rattle.comparison_islands.proofs.placed.Lts as lts
 
 abbrev Inv-loop : tie.InvT-loop
 Inv-loop k at chosen whole₀ i₀ whole i = (i ≤ k) × Placing at chosen whole₀ whole i
