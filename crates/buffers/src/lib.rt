@@ -30,14 +30,13 @@ pub fn other_than(length: usize, n: u64) -> bool
 pub fn reaches(buffer: &[u8], b: u8) -> bool
     ensures { λ r. ⌜ r ≡ reaching b (now (buffer .entry)) ⌝ }
 {
+    let mut found = false;
     let mut i = 0;
     while i < buffer.len() {
-        if b <= buffer[i] {
-            return true;
-        }
+        found = found | (b <= buffer[i]);
         i += 1;
     }
-    false
+    found
 }
 
 // Line 5: whether some word of the buffer has a bit at or above n.
@@ -45,14 +44,13 @@ pub fn strays(buffer: &[u64], n: usize) -> bool
     requires { ⌜ (1 ≤ n) × (n ≤ 64) ⌝ }
     ensures { λ r. ⌜ r ≡ reaching (2 ^ n) (now (buffer .entry)) ⌝ }
 {
+    let mut all = 0;
     let mut i = 0;
     while i < buffer.len() {
-        if stray(buffer[i], n) {
-            return true;
-        }
+        all = all | buffer[i];
         i += 1;
     }
-    false
+    stray(all, n)
 }
 
 // A sign as it is lent: 1 means minus.

@@ -1,45 +1,40 @@
 -- Demand 2 of gates and CZ, from the calls' contracts and the laws of operations.
 -- Assumes nothing.
-use mathlib.Core.Bool.{cond, false}
+use mathlib.Core.Bool.{false}
 use mathlib.Core.List.{List}
 use mathlib.Core.Logic.{_↔_, _≢_}
 use mathlib.Core.Path.{_∙_, _≡_, ap, ap₂, subst, sym}
 use Prim.Native.Nat.{_<_, _≤_, ℕ}
-use lib.Dec.{eqb}
 use lib.ListN.{length}
-use borrow.Author.Tests.{eq-eqb}
-use Rattle.buffers.specs.Refusals.{Line, firstFitting}
 use Rattle.clifford.specs.Clifford.{Clifford, cliffordOf}
 use Rattle.clifford.specs.Vectors.{only}
+use Rattle.contracts.specs.Calls.{Call}
 use Rattle.operations.proofs.CzGroups.{cz-group, cz-proper}
 use Rattle.operations.proofs.CzValues.{cz-is}
 use Rattle.operations.proofs.Gating.{gate-carries}
 use Rattle.operations.proofs.GroupAlone.{reduced-of-group}
 use Rattle.operations.specs.Cz.{cz, czRows}
 use Rattle.operations.specs.Gates.{gated}
-use Rattle.operations.specs.Steps.{czLines, gateLines, stepped}
+use Rattle.operations.specs.Steps.{Operation, czOn, gateWith, made}
 use Rattle.pauli.specs.Pauli.{Pauli}
 use Rattle.record.proofs.AcceptedRecords.{accepted-record}
 use Rattle.record.proofs.ReducedRecords.{record-proper}
 use Rattle.record.proofs.WrittenRecords.{reduced-held-same, reduced-passes, writtenRecord}
 use Rattle.record.specs.Accepted.{AcceptedRecord}
 use Rattle.record.specs.Lent.{LentRecord, codeNumbers, heldRecord, heldRows, neighbourWords}
-use Rattle.record.specs.Records.{GraphRecord, rowsOf}
+use Rattle.record.specs.Records.{rowsOf}
 use Rattle.record.specs.Reduced.{reduced}
 use Rattle.stabilizer.proofs.Carried.{carries-same}
 use Rattle.stabilizer.proofs.GroupLaws.{same-trans}
 use Rattle.stabilizer.specs.Groups.{InGroup, Proper}
 use Rattle.record_calls.proofs.InPlaceLines.{cz-ready, held-accepted}
-use Rattle.record_calls.specs.InPlaceCalls.{InPlaceCall}
+use Rattle.record_calls.specs.InPlaceCalls.{inPlaceCall}
 use Rattle.claims.specs.OperationsDemand.{CzFollows, Entangled, Gated, GatesFollow, IsReduced, StillRecord, left}
 
 -- an accepted call leaves the new record in the buffers
-pub holds-new : (l : LentRecord) (lines : List Line) (new : GraphRecord) (nb′ cs′ : List ℕ)
-    → InPlaceCall (stepped l lines new) 0 nb′ cs′ → left l nb′ cs′ ≡ writtenRecord (l .n) new
-holds-new l lines new nb′ cs′ C = ap₂ (left l) (C .words ∙ taken _ _) (C .numbers ∙ taken _ _)
-  where
-    taken : (answer old : List ℕ) → cond (eqb (firstFitting lines) 0) answer old ≡ answer
-    taken answer old = ap (λ b. cond b answer old) (eq-eqb (firstFitting lines) 0 (sym (C .number)))
+pub holds-new : (l : LentRecord) (o : Operation) (nb′ cs′ : List ℕ) → Call (inPlaceCall l o nb′ cs′) 0
+    → left l nb′ cs′ ≡ writtenRecord (l .n) (made l o)
+holds-new l o nb′ cs′ C = ap₂ (left l) (C .held .0) (C .held .1 .0)
 
 -- ---- the reduced record of a list as the answer
 module _ (n : ℕ) (R : ℕ → Pauli) (P : Proper n R) (positive : 1 ≤ n) (upto : n ≤ 64) where
@@ -62,7 +57,7 @@ module _ (n : ℕ) (R : ℕ → Pauli) (P : Proper n R) (positive : 1 ≤ n) (up
 -- ---- gates
 pub gates-follow : GatesFollow
 gates-follow l q k nb′ cs′ C = subst (Gated l q k)
-    (sym (holds-new l (gateLines l q k) (reduced n R) nb′ cs′ C)) (record {
+    (sym (holds-new l (gateWith q k) nb′ cs′ C)) (record {
       still = answer-still n R P (A .positive) (A .upto);
       answers = answer-reduced n R P (A .positive) (A .upto);
       group = carries-same n c (heldRows l) (heldRows (writtenRecord n (reduced n R))) .1
@@ -88,7 +83,7 @@ gates-follow l q k nb′ cs′ C = subst (Gated l q k)
 -- ---- CZ
 pub cz-follows : CzFollows
 cz-follows l a b nb′ cs′ C = subst (Entangled l a b)
-    (sym (holds-new l (czLines l a b) (reduced n R) nb′ cs′ C)) (record {
+    (sym (holds-new l (czOn a b) nb′ cs′ C)) (record {
       still = answer-still n R P (A .positive) (A .upto);
       answers = answer-reduced n R P (A .positive) (A .upto);
       is = cz-is n a b ha hb ab;

@@ -24,7 +24,9 @@ use Rattle.record.proofs.AcceptedRecords.{accepted-record}
 use Rattle.record.specs.Lent.{LentRecord, heldRecord, heldRows, neighbourWords, recordLines}
 use Rattle.record.specs.Records.{GraphRecord}
 use Rattle.stabilizer.proofs.Carried.{same-rows}
-use Rattle.image_call.specs.Images.{Imaged}
+use Rattle.contracts.proofs.Calling.{written-all}
+use Rattle.contracts.specs.Calls.{Call}
+use Rattle.image_call.specs.Images.{imageCall}
 use Rattle.words.proofs.BitLaws.{bit-above, bit-wordOf, digit-lt, odd-digit, wordOf-lt}
 use Rattle.words.proofs.Sums.{lt-or-ge}
 use Rattle.words.specs.Bits.{bit, digit, wordOf}
@@ -34,7 +36,7 @@ use Rattle.claims.specs.ThirdDemand.{complementEach}
 
 module _ (l : LentRecord) (image signs list : List ℕ) (count r : ℕ) (image′ signs′ list′ : List ℕ)
     (count′ : ℕ)
-    (C : Imaged l image signs list count r image′ signs′ list′ count′)
+    (C : Call (imageCall l image signs list count image′ signs′ list′ count′) r)
     (e : firstFitting
     (recordLines l (otherThan (l .n) image || (otherThan (l .n) signs || otherThan 96 list)) false) ≡ 0) where
   abbrev m : ℕ
@@ -59,17 +61,16 @@ module _ (l : LentRecord) (image signs list : List ℕ) (count r : ℕ) (image�
     zero-number = loop-number ∙ passed 11 _ s ∙ passed 12 _ k ∙ none-fits
 
     the-graph : image′ ≡ neighbourWords m (imageRecord m held)
-    the-graph = C .graph ∙ ap (λ v. accepted v (neighbourWords m (imageRecord m held)) image) zero-number
+    the-graph = written-all C zero-number .0
 
     the-signs : signs′ ≡ tabulate m (λ j. digit (imageMinus m held j))
-    the-signs = C .minus
-        ∙ ap (λ v. accepted v (tabulate m (λ j. digit (imageMinus m held j))) signs) zero-number
+    the-signs = written-all C zero-number .1 .0
 
     the-list : list′ ≡ written (imageList m held) list
-    the-list = C .places ∙ ap (λ v. accepted v (written (imageList m held) list) list) zero-number
+    the-list = written-all C zero-number .1 .1 .0
 
     the-count : count′ ≡ length (imageList m held)
-    the-count = C .counted ∙ ap (λ v. acceptedNumber v (length (imageList m held)) count) zero-number
+    the-count = written-all C zero-number .1 .1 .1 .0
 
     -- the words give the image graph back
     neighbours-back : (i : ℕ) → i < m → imageGraph m held i ≡ graphIn image′ i

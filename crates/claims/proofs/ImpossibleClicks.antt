@@ -1,13 +1,12 @@
 -- Impossible clicks are refused, from the call's contract: exactly these, and nothing is written.
 -- Assumes nothing.
-use mathlib.Core.Bool.{cond, not, true}
+use mathlib.Core.Bool.{not, true}
 use mathlib.Core.Logic.{_↔_}
-use mathlib.Core.Path.{_∙_, _≡_, ap, ap₂, subst, sym}
+use mathlib.Core.Path.{_∙_, _≡_, ap₂, subst, sym}
 use Prim.Native.Nat.{_<_, ℕ}
 use native.Mathlib.Omega.{arith}
-use lib.Dec.{eqb}
-use borrow.Author.Tests.{ne-eqb}
 use Rattle.buffers.specs.Refusals.{firstFitting}
+use Rattle.contracts.proofs.Calling.{kept-all}
 use Rattle.operations.proofs.Contradicted.{contradicts-exactly}
 use Rattle.operations.specs.Measurement.{contradicts, pauliLetter}
 use Rattle.operations.specs.Steps.{argumentLines}
@@ -31,18 +30,14 @@ pub impossible-clicks-refused : ImpossibleClicksRefused
 impossible-clicks-refused l pauli q b answer determined r nb′ cs′ answer′ determined′ C =
     record {
       exactly = (
-        (λ e. let h = fourteen-exactly l pauli q b .0 (sym (C .step .number) ∙ e) in
+        (λ e. let h = fourteen-exactly l pauli q b .0 (sym (C .number) ∙ e) in
             (h .0, contradicted-by-group l pauli q b (h .0) .0 (h .1))),
-        (λ h. C .step .number ∙ fourteen-exactly l pauli q b .1
+        (λ h. C .number ∙ fourteen-exactly l pauli q b .1
             (h .0, contradicted-by-group l pauli q b (h .0) .1 (h .1))),
       );
-      record-kept = λ e. ap₂ (left l) (C .step .words ∙ old (sym (C .step .number) ∙ e) _ _)
-          (C .step .numbers ∙ old (sym (C .step .number) ∙ e) _ _);
-      answers-kept = λ e. (C .outcome ∙ old e _ _, C .known ∙ old e _ _);
+      record-kept = λ e. let k = kept-all C (not-accepted e) in ap₂ (left l) (k .1 .1 .0) (k .1 .1 .1 .0);
+      answers-kept = λ e. let k = kept-all C (not-accepted e) in (k .0, k .1 .0);
     }
   where
     not-accepted : {k : ℕ} → k ≡ 14 → k ≡ 0 → ⊥
     not-accepted e z = omega (arith, e, z)
-
-    old : {A : Type 0} {k : ℕ} → k ≡ 14 → (new old : A) → cond (eqb k 0) new old ≡ old
-    old {k = k} e new was = ap (λ b. cond b new was) (ne-eqb k 0 (not-accepted e))

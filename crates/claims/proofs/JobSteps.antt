@@ -2,11 +2,14 @@
 -- definitions give.
 -- Assumes nothing.
 use mathlib.Core.Logic.{_↔_, inl, inr, ⊎-elim}
-use mathlib.Core.Path.{_∙_, _≡_, refl, subst, sym}
+use mathlib.Core.Path.{_∙_, _≡_, ap, refl, subst, sym}
 use Prim.Native.Nat.{ℕ}
 use native.Mathlib.Omega.{arith}
+use Rattle.buffers.specs.Buffers.{accepted}
+use Rattle.buffers.specs.Refusals.{firstFitting}
 use Rattle.clifford.specs.Clifford.{cliffordOf}
 use Rattle.clifford.specs.Vectors.{act, only}
+use Rattle.contracts.specs.Calls.{Call}
 use Rattle.jobs.specs.GroupsAfter.AfterMeasurement.{joined, kept, same}
 use Rattle.jobs.specs.GroupsAfter.{AfterMeasurement, AfterOperation, Group, IsDetermined, Sent}
 use Rattle.operations.specs.Cz.{cz}
@@ -14,23 +17,22 @@ use Rattle.operations.specs.Measurement.Measured.{joined as group-joined, kept 
 use Rattle.operations.specs.Measurement.{Measured, determinedNumber, outcomeNumber, pauliLetter, single}
 use Rattle.operations.specs.Steps.{
   Operation,
-  Step,
-  complementAt,
   complementOf,
-  controlledZ,
+  czLines,
   czOn,
-  gate,
+  gateLines,
   gateWith,
-  measure,
+  leaves,
+  linesOf,
+  made,
+  measureLines,
   measuredAnswer,
   measurementOf,
-  pivotAt,
   pivotOf,
-  step,
 }
 use Rattle.pauli.specs.Pauli.{Pauli}
-use Rattle.record.specs.Lent.{LentRecord, heldRows}
-use Rattle.record_calls.specs.InPlaceCalls.{InPlaceCall}
+use Rattle.record.specs.Lent.{LentRecord, codeNumbers, heldRows, neighbourWords}
+use Rattle.record_calls.specs.InPlaceCalls.{inPlaceCall}
 use Rattle.stabilizer.specs.Groups.{InGroup, SameGroup}
 use Rattle.words.specs.Bits.{isOdd}
 use Rattle.claims.proofs.GatesFollow.{cz-follows, gates-follow}
@@ -40,15 +42,23 @@ use Rattle.claims.specs.JobDemand.{StandsFor}
 use Rattle.claims.specs.OperationsDemand.{Entangled, Gated, MeasurementStands}
 
 -- what a step leaves is what its call leaves
-call-of : (s : Step) → s .number ≡ 0 → InPlaceCall s 0 (s .after .neighbours) (s .after .codes)
-call-of s z = record { number = sym z; words = refl; numbers = refl }
+call-of : (l : LentRecord) (o : Operation) → firstFitting (linesOf l o) ≡ 0
+    → Call (inPlaceCall l o (leaves l o .neighbours) (leaves l o .codes)) 0
+call-of l o z =
+    record {
+      number = sym z;
+      held = (
+        ap (λ k. accepted k (neighbourWords (l .n) (made l o)) (l .neighbours)) z,
+        (ap (λ k. accepted k (codeNumbers (l .n) (made l o)) (l .codes)) z, tt),
+      );
+    }
 
 module _ (l : LentRecord) (G : Group) (S : StandsFor l G) where
   abbrev Old : Pauli → Type 0
   Old = InGroup (l .n) (l .n) (heldRows l)
 
-  gate-stands : (q k : ℕ) → (gate l q k) .number ≡ 0
-      → StandsFor ((gate l q k) .after) (Sent (act (l .n) (only q (cliffordOf k))) G)
+  gate-stands : (q k : ℕ) → firstFitting (gateLines l q k) ≡ 0
+      → StandsFor (leaves l (gateWith q k)) (Sent (act (l .n) (only q (cliffordOf k))) G)
   gate-stands q k z =
       record {
         still = F .still;
@@ -60,13 +70,13 @@ module _ (l : LentRecord) (G : Group) (S : StandsFor l G) where
       }
     where
       after : LentRecord
-      after = (gate l q k) .after
+      after = leaves l (gateWith q k)
 
       F : Gated l q k after
-      F = gates-follow l q k _ _ (call-of (gate l q k) z)
+      F = gates-follow l q k _ _ (call-of l (gateWith q k) z)
 
-  cz-stands : (a b : ℕ) → (controlledZ l a b) .number ≡ 0
-      → StandsFor ((controlledZ l a b) .after) (Sent (cz a b) G)
+  cz-stands : (a b : ℕ) → firstFitting (czLines l a b) ≡ 0
+      → StandsFor (leaves l (czOn a b)) (Sent (cz a b) G)
   cz-stands a b z =
       record {
         still = F .still;
@@ -76,13 +86,13 @@ module _ (l : LentRecord) (G : Group) (S : StandsFor l G) where
         );
       }
     where
-      F : Entangled l a b ((controlledZ l a b) .after)
-      F = cz-follows l a b _ _ (call-of (controlledZ l a b) z)
+      F : Entangled l a b (leaves l (czOn a b))
+      F = cz-follows l a b _ _ (call-of l (czOn a b) z)
 
   -- ---- measurements
-  module _ (pauli q b : ℕ) (z : (measure l pauli q b) .number ≡ 0) where
+  module _ (pauli q b : ℕ) (z : firstFitting (measureLines l pauli q b) ≡ 0) where
     abbrev after : LentRecord
-    after = (measure l pauli q b) .after
+    after = leaves l (measurementOf pauli q b)
 
     abbrev New : Pauli → Type 0
     New = InGroup (l .n) (l .n) (heldRows after)
@@ -95,7 +105,7 @@ module _ (l : LentRecord) (G : Group) (S : StandsFor l G) where
 
     M : MeasurementStands l pauli q b after (outcomeNumber (measuredAnswer l pauli q b)) known
     M = measurements-follow l pauli q b 0 0 _ _ _ _
-        (record { step = call-of (measure l pauli q b) z; outcome = refl; known = refl })
+        (record { number = sym z; held = (refl, (refl, call-of l (measurementOf pauli q b) z .held)) })
 
     in-group : IsDetermined G (pauliLetter pauli) q ↔ (known ≡ 1)
     in-group = (
@@ -143,14 +153,14 @@ module _ (l : LentRecord) (G : Group) (S : StandsFor l G) where
   same-elements-kept K p = ((λ h. S .elements p .0 (K .back p h)), (λ h. K .there p (S .elements p .1 h)))
 
   -- ---- an accepted operation
-  pub operation-stands : (o : Operation) → (step l o) .number ≡ 0
-      → StandsFor ((step l o) .after) (AfterOperation (l .n) G o)
+  pub operation-stands : (o : Operation) → firstFitting (linesOf l o) ≡ 0
+      → StandsFor (leaves l o) (AfterOperation (l .n) G o)
   operation-stands (gateWith q k) z = gate-stands q k z
   operation-stands (czOn a b) z = cz-stands a b z
   operation-stands (measurementOf pauli q b) z = measure-stands pauli q b z
   operation-stands (complementOf a) z =
-      let F = complements-keep l a _ _ (call-of (complementAt l a) z) in
+      let F = complements-keep l a _ _ (call-of l (complementOf a) z) in
       record { still = F .still; elements = same-elements-kept (F .group) }
   operation-stands (pivotOf j k) z =
-      let F = pivots-keep l j k _ _ (call-of (pivotAt l j k) z) in
+      let F = pivots-keep l j k _ _ (call-of l (pivotOf j k) z) in
       record { still = F .still; elements = same-elements-kept (F .group) }

@@ -12,14 +12,13 @@ use Rattle.jobs.proofs.Numbers.{
   accepted-leaves,
   accepted-unset,
   number-of-operation,
-  operation-number,
   refused-keeps,
   set-refuses-fields,
   six-refuses,
   without-test,
 }
 use Rattle.jobs.proofs.Starting.{started-passes, started-rows}
-use Rattle.jobs.specs.Asked.{argumentsOf, asked, linesOf, numberOf, unusedSet, withTest}
+use Rattle.jobs.specs.Asked.{argumentsOf, asked, numberOf, unusedSet, withTest}
 use Rattle.jobs.specs.GroupsAfter.AfterStep.{changed, unchanged}
 use Rattle.jobs.specs.GroupsAfter.Refused.{by-fields, by-group}
 use Rattle.jobs.specs.GroupsAfter.{AfterOperation, AfterStep, Group, Impossible, Refused, StartGroup}
@@ -27,10 +26,21 @@ use Rattle.jobs.specs.Runs.{afterStep, run, started}
 use Rattle.jobs.specs.declared.Step.{Step}
 use Rattle.operations.specs.Cz.{zAt}
 use Rattle.operations.specs.Measurement.{contradicts, pauliLetter}
-use Rattle.operations.specs.Steps.{Operation, argumentLines, complementOf, czOn, gateWith, measurementOf, pivotOf, step}
+use Rattle.contracts.proofs.Fitting.{decides}
+use Rattle.contracts.specs.Answers.{later, none}
+use Rattle.operations.specs.Steps.{
+  Operation,
+  argumentLines,
+  complementOf,
+  czOn,
+  gateWith,
+  leaves,
+  linesOf,
+  measurementOf,
+  pivotOf,
+}
 use Rattle.pauli.specs.Pauli.{Pauli}
 use Rattle.record.specs.Lent.{LentRecord, heldRows}
-use Rattle.record_calls.proofs.LastLines.{none-refuses}
 use Rattle.record_calls.proofs.MeasureLines.{measure-passes}
 use Rattle.stabilizer.proofs.EqualRows.{same-group-equal}
 use Rattle.stabilizer.specs.Groups.{InGroup}
@@ -66,8 +76,7 @@ module _ (l : LentRecord) (G : Group) (S : StandsFor l G) where
           → d ≡ contradicts (l .n) (heldRows l) (pauliLetter pauli) q (isOdd b)
           → contradicts (l .n) (heldRows l) (pauliLetter pauli) q (isOdd b) ≡ true
       contradicted true e = sym e
-      contradicted false e = absurd (h (sym (none-refuses (argumentLines l pauli q b)
-          (lit< tt, (lit< tt, (lit< tt, (lit< tt, (lit< tt, (lit< tt, tt)))))) 14 _ 0 (sym z) refl (sym e))))
+      contradicted false e = absurd (h (sym (decides (argumentLines l pauli q b) refl (sym z) refl (later (sym e) none))))
   impossible (complementOf a) h z = absurd (h z)
   impossible (pivotOf j k) h z = absurd (h z)
 
@@ -99,10 +108,10 @@ module _ (l : LentRecord) (G : Group) (S : StandsFor l G) where
           })
         where
           left : LentRecord
-          left = (step l (asked s)) .after
+          left = leaves l (asked s)
 
           O : StandsFor left (AfterOperation (l .n) G (asked s))
-          O = operation-stands l G S (asked s) (operation-number l (asked s) ∙ no-line)
+          O = operation-stands l G S (asked s) no-line
 
           back : {p : Pauli} → AfterStep l G s p → InGroup (left .n) (left .n) (heldRows left) p
           back (unchanged r g) = absurd (accepted-not-refused r)

@@ -11,9 +11,9 @@ pub mod ImpossibleClicks
 pub mod RewritingsKeep
 pub mod CzInsideSide
 pub mod CutDemandHolds
-pub mod Answering
 pub mod FirstDemandHolds
 pub mod AnswerBuffers
 pub mod GeneratorDemandHolds
 pub mod JobSteps
 pub mod JobsStand
+pub mod SentencesHold

@@ -27,7 +27,7 @@ use Rattle.operations.specs.Measurement.{
   pauliLetter,
   single,
 }
-use Rattle.operations.specs.Steps.{argumentLines, measureLines}
+use Rattle.operations.specs.Steps.{argumentLines, measurementOf}
 use Rattle.operations.specs.declared.Outcome.the-variants.{Chosen, Determined}
 use Rattle.pauli.specs.Pauli.{Pauli}
 use Rattle.pauli.specs.declared.Letter.{Letter}
@@ -38,7 +38,8 @@ use Rattle.record.specs.Reduced.{reduced}
 use Rattle.stabilizer.specs.Groups.{InGroup, Proper, SameGroup}
 use Rattle.record_calls.proofs.InPlaceLines.{held-accepted, measure-ready, six-passes}
 use Rattle.record_calls.proofs.MeasureLines.{measure-passes}
-use Rattle.record_calls.specs.InPlaceCalls.{MeasureCall}
+use Rattle.contracts.specs.Calls.{Call}
+use Rattle.record_calls.specs.InPlaceCalls.{measureCall}
 use Rattle.words.proofs.BitLaws.{digit-odd, odd-digit}
 use Rattle.words.proofs.Flags.{neither}
 use Rattle.words.specs.Bits.{digit, isOdd}
@@ -60,7 +61,7 @@ of-digit : (b : Bool) {k : ℕ} → digit b ≡ k → b ≡ eqb k 1
 of-digit b e = sym (odd-digit b) ∙ ap (λ k. eqb k 1) e
 
 module _ (l : LentRecord) (pauli q b answer determined : ℕ) (nb′ cs′ : List ℕ) (answer′ determined′ : ℕ)
-    (C : MeasureCall l pauli q b answer determined 0 nb′ cs′ answer′ determined′) where
+    (C : Call (measureCall l pauli q b answer determined nb′ cs′ answer′ determined′) 0) where
   abbrev n : ℕ
   n = l .n
 
@@ -71,7 +72,7 @@ module _ (l : LentRecord) (pauli q b answer determined : ℕ) (nb′ cs′ : Lis
   L = pauliLetter pauli
 
   lines : (firstFitting (argumentLines l pauli q b) ≡ 0) × (contradicts n held L q (isOdd b) ≡ false)
-  lines = measure-passes l pauli q b (sym (C .step .number))
+  lines = measure-passes l pauli q b (sym (C .number))
 
   A : AcceptedRecord l
   A = held-accepted l _ _ (lines .0)
@@ -89,10 +90,10 @@ module _ (l : LentRecord) (pauli q b answer determined : ℕ) (nb′ cs′ : Lis
   P = measured-proper n held (A .proper) L q at-qubit (isOdd b)
 
   known : determined′ ≡ digit (isDetermined n held L q)
-  known = C .known ∙ both-numbers (isDetermined n held L q) (outcome n held L q (isOdd b)) .1
+  known = C .held .1 .0 ∙ both-numbers (isDetermined n held L q) (outcome n held L q (isOdd b)) .1
 
   read : answer′ ≡ digit (outcome n held L q (isOdd b))
-  read = C .outcome ∙ both-numbers (isDetermined n held L q) (outcome n held L q (isOdd b)) .0
+  read = C .held .0 ∙ both-numbers (isDetermined n held L q) (outcome n held L q (isOdd b)) .0
 
   -- the outcome is the bit in either case
   bit-read : answer′ ≡ b
@@ -142,6 +143,5 @@ module _ (l : LentRecord) (pauli q b answer determined : ℕ) (nb′ cs′ : Lis
 pub measurements-follow : MeasurementsFollow
 measurements-follow l pauli q b answer determined nb′ cs′ answer′ determined′ C =
     subst (λ r. MeasurementStands l pauli q b r answer′ determined′)
-    (sym (holds-new l (measureLines l pauli q b)
-    (reduced (l .n) (measuredRows (l .n) (heldRows l) (pauliLetter pauli) q (isOdd b))) nb′ cs′ (C .step)))
+    (sym (holds-new l (measurementOf pauli q b) nb′ cs′ (record { number = C .number; held = C .held .1 .1 })))
     (stands l pauli q b answer determined nb′ cs′ answer′ determined′ C)

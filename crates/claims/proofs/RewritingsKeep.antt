@@ -8,21 +8,17 @@ use lib.Dec.{leb}
 use lib.ListN.{List·getD-eq-default}
 use borrow.Author.Tests.{leb-false}
 use Rattle.clifford.specs.Clifford.{cliffordOf, identityClifford}
+use Rattle.contracts.specs.Calls.{Call}
 use Rattle.graph.proofs.Complement.{complement-simple}
 use Rattle.graph.specs.Graph.{Simple}
 use Rattle.operations.proofs.Rewriting.{pivot-same, pivot-simple}
 use Rattle.operations.proofs.UnrefusedRecords.{complement-above}
 use Rattle.operations.specs.Steps.{
   Operation,
-  complementLines,
   complementOf,
-  czOn,
-  gateWith,
-  measurementOf,
-  pivotLines,
+  leaves,
   pivotOf,
   pivotRecord,
-  step,
 }
 use Rattle.record.proofs.Complementing.{complement-same}
 use Rattle.record.proofs.WrittenRecords.{record-back, record-passes, record-rows-back, writtenRecord}
@@ -32,8 +28,9 @@ use Rattle.record.specs.Records.{GraphRecord, complementRecord, rowsOf}
 use Rattle.stabilizer.proofs.EqualRows.{same-group-equal}
 use Rattle.stabilizer.proofs.GroupLaws.{same-trans}
 use Rattle.stabilizer.specs.Groups.{SameGroup}
+use Rattle.record_calls.proofs.InPlaceCalls.{left-by-call}
 use Rattle.record_calls.proofs.InPlaceLines.{complement-ready, eight-passes, held-accepted}
-use Rattle.record_calls.specs.InPlaceCalls.{InPlaceCall}
+use Rattle.record_calls.specs.InPlaceCalls.{inPlaceCall}
 use Rattle.words.proofs.Flags.{neither}
 use Rattle.claims.proofs.GatesFollow.{holds-new}
 use Rattle.claims.specs.OperationsDemand.{ComplementsKeep, PivotsKeep, RewrittenAs, SecondAboutFirst, left}
@@ -59,7 +56,7 @@ held-above l A q h =
 
 pub complements-keep : ComplementsKeep
 complements-keep l a nb′ cs′ C =
-    subst (λ r. RewrittenAs l r new) (sym (holds-new l (complementLines l a) new nb′ cs′ C))
+    subst (λ r. RewrittenAs l r new) (sym (holds-new l (complementOf a) nb′ cs′ C))
     (rewritten-as l A new (complement-simple (l .n) _ (A .simple) a)
     (complement-above (l .n) (heldRecord l) (A .simple) a below (held-above l A))
     (complement-same (l .n) (heldRecord l) (A .simple) a below))
@@ -75,7 +72,7 @@ complements-keep l a nb′ cs′ C =
 
 pub pivots-keep : PivotsKeep
 pivots-keep l j k nb′ cs′ C =
-    subst (λ r. RewrittenAs l r new) (sym (holds-new l (pivotLines l j k) new nb′ cs′ C))
+    subst (λ r. RewrittenAs l r new) (sym (holds-new l (pivotOf j k) nb′ cs′ C))
     (rewritten-as l A new (pivot-simple n held (A .simple) j k)
     (complement-above n _ simple₂ j bj (complement-above n _ simple₁ k bk
     (complement-above n held (A .simple) j bj (held-above l A))))
@@ -111,14 +108,10 @@ pivots-keep l j k nb′ cs′ C =
 
 -- ---- two calls
 -- what a call leaves is the step's record
-is-after : (l : LentRecord) (o : Operation) (r : ℕ) (nb cs : List ℕ) → InPlaceCall (step l o) r nb cs
-    → left l nb cs ≡ (step l o) .after
-is-after l (gateWith q k) r nb cs C = ap₂ (left l) (C .words) (C .numbers)
-is-after l (czOn a b) r nb cs C = ap₂ (left l) (C .words) (C .numbers)
-is-after l (measurementOf pauli q b) r nb cs C = ap₂ (left l) (C .words) (C .numbers)
-is-after l (complementOf a) r nb cs C = ap₂ (left l) (C .words) (C .numbers)
-is-after l (pivotOf j k) r nb cs C = ap₂ (left l) (C .words) (C .numbers)
+is-after : (l : LentRecord) (o : Operation) (r : ℕ) (nb cs : List ℕ) → Call (inPlaceCall l o nb cs) r
+    → left l nb cs ≡ leaves l o
+is-after l o r nb cs C = ap₂ (left l) (left-by-call l o C .0) (left-by-call l o C .1)
 
 pub second-about-first : SecondAboutFirst
 second-about-first l o₁ o₂ r₁ r₂ nb₁ cs₁ nb₂ cs₂ C D =
-    is-after (left l nb₁ cs₁) o₂ r₂ nb₂ cs₂ D ∙ ap (λ r. (step r o₂) .after) (is-after l o₁ r₁ nb₁ cs₁ C)
+    is-after (left l nb₁ cs₁) o₂ r₂ nb₂ cs₂ D ∙ ap (λ r. leaves r o₂) (is-after l o₁ r₁ nb₁ cs₁ C)

@@ -20,7 +20,8 @@ use Rattle.record.specs.Reduced.{reduced}
 use Rattle.stabilizer.proofs.Accepted.{AcceptedList, accepted-list}
 use Rattle.stabilizer.specs.Groups.{Proper, SameGroup}
 use Rattle.stabilizer.specs.Lists.{GeneratorList, rows}
-use Rattle.list_calls.specs.Calls.{ExpandCall, ReduceCall}
+use Rattle.contracts.specs.Calls.{Call}
+use Rattle.list_calls.specs.Calls.{expandCall, reduceCall}
 use Rattle.claims.specs.SecondDemand.{
   BroughtBack,
   EqualExactly,
@@ -42,14 +43,14 @@ listed : {n : ℕ} {s s₂ z z₂ x x₂ : List ℕ} → s ≡ s₂ → z ≡ z�
 listed {n} p q r = λ i. record { n = n; signs = p i; z = q i; x = r i }
 
 -- ---- an accepted reduction
-module _ (l : GeneratorList) (nb cs nb′ cs′ : List ℕ) (C : ReduceCall l nb cs 0 nb′ cs′) where
+module _ (l : GeneratorList) (nb cs nb′ cs′ : List ℕ) (C : Call (reduceCall l nb cs nb′ cs′) 0) where
   reduced-list : AcceptedList l
   reduced-list = accepted-list l _ (sym (C .number))
 
   -- the buffers hold the reduced record
   pub holds-reduced : _≡_ {A = LentRecord} (record { n = l .n; neighbours = nb′; codes = cs′ })
       (writtenRecord (l .n) (reduced (l .n) (rows l)))
-  holds-reduced = lent (C .words) (C .numbers)
+  holds-reduced = lent (C .held .0) (C .held .1 .0)
 
 pub reduction-keeps-group : ReductionKeepsGroup
 reduction-keeps-group l nb cs nb′ cs′ C =
@@ -57,13 +58,13 @@ reduction-keeps-group l nb cs nb′ cs′ C =
     (reduced-held-same (l .n) (rows l) (reduced-list l nb cs nb′ cs′ C .proper))
 
 -- ---- an accepted expansion
-module _ (l : LentRecord) (s z x s′ z′ x′ : List ℕ) (C : ExpandCall l s z x 0 s′ z′ x′) where
+module _ (l : LentRecord) (s z x s′ z′ x′ : List ℕ) (C : Call (expandCall l s z x s′ z′ x′) 0) where
   expanded-record : AcceptedRecord l
   expanded-record = accepted-record l _ false (sym (C .number))
 
   -- the buffers hold the record's generators
   pub holds-expanded : _≡_ {A = GeneratorList} (record { n = l .n; signs = s′; z = z′; x = x′ }) (expanded l)
-  holds-expanded = listed (C .sign-bits) (C .z-words) (C .x-words)
+  holds-expanded = listed (C .held .0) (C .held .1 .0) (C .held .1 .1 .0)
 
 pub expansion-brings-back : ExpansionBringsBack
 expansion-brings-back l s z x s′ z′ x′ C =
@@ -76,37 +77,43 @@ pub equal-records-exactly : EqualExactly
 equal-records-exactly n s z x s₂ z₂ x₂ nb cs nb₂ cs₂ nb′ cs′ nb₂′ cs₂′ C D = (
   λ e. equal-exactly n R S P Q .0 (same (lent (e .0) (e .1))),
   λ g. let e = record-path _ _ (equal-exactly n R S P Q .1 g) in (
-    C .words ∙ ap (neighbourWords n) e ∙ sym (D .words),
-    C .numbers ∙ ap (codeNumbers n) e
-        ∙ sym (D .numbers),
+    C .held .0 ∙ ap (neighbourWords n) e ∙ sym (D .held .0),
+    C .held .1 .0 ∙ ap (codeNumbers n) e
+        ∙ sym (D .held .1 .0),
   ),
 )
   where
+    l : GeneratorList
+    l = record { n = n; signs = s; z = z; x = x }
+
+    m : GeneratorList
+    m = record { n = n; signs = s₂; z = z₂; x = x₂ }
+
     R : ℕ → Pauli
-    R = rows (record { n = n; signs = s; z = z; x = x })
+    R = rows l
 
     S : ℕ → Pauli
-    S = rows (record { n = n; signs = s₂; z = z₂; x = x₂ })
+    S = rows m
 
     P : Proper n R
-    P = reduced-list _ nb cs nb′ cs′ C .proper
+    P = reduced-list l nb cs nb′ cs′ C .proper
 
     Q : Proper n S
-    Q = reduced-list _ nb₂ cs₂ nb₂′ cs₂′ D .proper
+    Q = reduced-list m nb₂ cs₂ nb₂′ cs₂′ D .proper
 
     same : _≡_ {A = LentRecord} (record { n = n; neighbours = nb′; codes = cs′ })
         (record { n = n; neighbours = nb₂′; codes = cs₂′ }) → SameRecord (reduced n R) (reduced n S)
     same e =
         let p = sym (record-path _ _ (reduced-back n R P))
-        ∙ ap heldRecord (sym (holds-reduced _ nb cs nb′ cs′ C) ∙ e
-        ∙ holds-reduced _ nb₂ cs₂ nb₂′ cs₂′ D) ∙ record-path _ _ (reduced-back n S Q) in
+        ∙ ap heldRecord (sym (holds-reduced l nb cs nb′ cs′ C) ∙ e
+        ∙ holds-reduced m nb₂ cs₂ nb₂′ cs₂′ D) ∙ record-path _ _ (reduced-back n S Q) in
         record { neighbours = λ i j. ap (λ r. r .graph i j) p; code = λ q. ap (λ r. r .codes q) p }
 
 -- ---- the reduced record of a reduced record's expansion
 pub reduces-to-itself : ReducesToItself
 reduces-to-itself l nb cs nb′ cs′ s z x s′ z′ x′ nb₂ cs₂ nb₂′ cs₂′ C E D = (
-  D .words ∙ ap (λ r. neighbourWords (l .n) r) again ∙ sym (C .words),
-  D .numbers ∙ ap (λ r. codeNumbers (l .n) r) again ∙ sym (C .numbers),
+  D .held .0 ∙ ap (λ r. neighbourWords (l .n) r) again ∙ sym (C .held .0),
+  D .held .1 .0 ∙ ap (λ r. codeNumbers (l .n) r) again ∙ sym (C .held .1 .0),
 )
   where
     R : ℕ → Pauli
@@ -118,11 +125,11 @@ reduces-to-itself l nb cs nb′ cs′ s z x s′ z′ x′ nb₂ cs₂ nb₂′ 
     again : reduced (l .n) (rows (record { n = l .n; signs = s′; z = z′; x = x′ })) ≡ reduced (l .n) (rows l)
     again =
         ap (λ m. reduced (l .n) (rows m))
-        (holds-expanded _ s z x s′ z′ x′ E ∙ ap expanded (holds-reduced l nb cs nb′ cs′ C))
+        (holds-expanded (record { n = l .n; neighbours = nb′; codes = cs′ }) s z x s′ z′ x′ E ∙ ap expanded (holds-reduced l nb cs nb′ cs′ C))
         ∙ record-path _ _ (reduced-expands-back (l .n) (rows l) (P .proper) (P .formed .positive)
         (P .formed .upto))
 
 pub reduced-codes : ReducedCodes
 reduced-codes l nb cs nb′ cs′ C q k =
     let A = reduced-codes-among (l .n) (rows l) (reduced-list l nb cs nb′ cs′ C .proper) q in
-    (A .0, A .1, ap (λ v. getD v q 0) (C .numbers) ∙ tabulate-at (l .n) _ q k ∙ A .2)
+    (A .0, A .1, ap (λ v. getD v q 0) (C .held .1 .0) ∙ tabulate-at (l .n) _ q k ∙ A .2)

@@ -40,7 +40,9 @@ use Rattle.stabilizer.specs.Lists.{
   listStray,
   rows,
 }
+use Rattle.contracts.proofs.Calling.{written-all}
 use Rattle.compare_call.proofs.Comparing.{counts-agree}
+use Rattle.contracts.proofs.Calling.{written-all}
 use Rattle.compare_call.proofs.PairLines.{pair-numbered}
 use Rattle.comparison_answer.proofs.ReducedPairs.{least-held}
 use Rattle.comparison_answer.specs.ComparedPairs.{compareList, inducedRecord}
@@ -222,11 +224,7 @@ third-demand l m choice list count r choice′ list′ count′ C e small small�
           otherwise = λ _. (
             number false h,
             comes-back l m (same-number l m choice list K) P Q h list choice′ list′ count′
-                (C .codes ∙ ap (λ v. accepted v (tabulate (l .n) (leastCode (l .n) (rows l) (rows m))) choice)
-                (number false h))
-                (C .vertices ∙ ap (λ v. accepted v (written (compareList (l .n) (rows l) (rows m)) list) list)
-                (number false h))
-                (C .amount ∙ ap (λ v. acceptedNumber v (length (compareList (l .n) (rows l) (rows m))) count)
-                (number false h)),
+                (written-all C (number false h) .0) (written-all C (number false h) .1 .0)
+                (written-all C (number false h) .1 .1 .0),
           );
         }

@@ -5,7 +5,8 @@ use mathlib.Core.List.{List}
 use mathlib.Core.Path.{_≡_}
 use Prim.Native.Nat.{ℕ, _≤_}
 use lib.ListN.{drop, length, take}
-use Rattle.generate_call.specs.Generated.{GenerateCall}
+use Rattle.contracts.specs.Calls.{Call}
+use Rattle.generate_call.specs.Generated.{generateCall}
 use Rattle.generator.specs.Drawn.{drawn}
 use Rattle.generator.specs.ReadBack.{ReadsBack}
 use Rattle.generator.specs.Shapes.{AllDrawable}
@@ -21,4 +22,4 @@ pub record Generated (n count seed : ℕ) (text text′ : List ℕ) (size′ : �
 
 abbrev pub GeneratorDemand : Type 0
 GeneratorDemand = (n count seed : ℕ) (text : List ℕ) (size : ℕ) (text′ : List ℕ) (size′ : ℕ) →
-    GenerateCall n count seed text size 0 text′ size′ → Generated n count seed text text′ size′
+    Call (generateCall n count seed text size text′ size′) 0 → Generated n count seed text text′ size′

@@ -8,3 +8,4 @@ pub mod CutDemand
 pub mod FirstDemand
 pub mod GeneratorDemand
 pub mod JobDemand
+pub mod Sentences

@@ -10,18 +10,18 @@ use Prim.Native.Nat.{ℕ}
 use Rattle.buffers.specs.Refusals.{firstFitting}
 use Rattle.clifford.specs.Clifford.{cliffordOf}
 use Rattle.clifford.specs.Vectors.{only}
+use Rattle.contracts.specs.Calls.{Call}
 use Rattle.operations.specs.Cz.{IsCz, cz}
 use Rattle.operations.specs.Measurement.{Measured, pauliLetter, single}
 use Rattle.operations.specs.Steps.{
   Operation,
   argumentLines,
-  complementAt,
-  controlledZ,
-  gate,
-  pivotAt,
+  complementOf,
+  czOn,
+  gateWith,
+  pivotOf,
   pivotRecord,
   session,
-  step,
 }
 use Rattle.pauli.specs.Pauli.{Pauli}
 use Rattle.record.specs.Lent.{LentRecord, codeNumbers, heldRecord, heldRows, neighbourWords, recordLines}
@@ -29,7 +29,7 @@ use Rattle.record.specs.Records.{GraphRecord, SameRecord, complementRecord}
 use Rattle.record.specs.Reduced.{reduced}
 use Rattle.stabilizer.specs.Carries.{Carries}
 use Rattle.stabilizer.specs.Groups.{InGroup, SameGroup}
-use Rattle.record_calls.specs.InPlaceCalls.{InPlaceCall, MeasureCall}
+use Rattle.record_calls.specs.InPlaceCalls.{inPlaceCall, measureCall}
 use Rattle.words.specs.Bits.{isOdd}
 
 -- the record that a call leaves
@@ -52,7 +52,7 @@ pub record Gated (l : LentRecord) (q k : ℕ) (after : LentRecord) : Type 0 wher
   pub group : Carries (l .n) (only q (cliffordOf k)) (heldRows l) (heldRows after)
 
 abbrev pub GatesFollow : Type 0
-GatesFollow = (l : LentRecord) (q k : ℕ) (nb′ cs′ : List ℕ) → InPlaceCall (gate l q k) 0 nb′ cs′ →
+GatesFollow = (l : LentRecord) (q k : ℕ) (nb′ cs′ : List ℕ) → Call (inPlaceCall l (gateWith q k) nb′ cs′) 0 →
     Gated l q k (left l nb′ cs′)
 
 -- ---- "CZ on a and b sends X at a to X at a times Z at b, likewise with a and b exchanged, and fixes Z": the new
@@ -65,7 +65,7 @@ pub record Entangled (l : LentRecord) (a b : ℕ) (after : LentRecord) : Type 0 
       ↔ ((r : Pauli) × InGroup (l .n) (l .n) (heldRows l) r × (p ≡ cz a b r))
 
 abbrev pub CzFollows : Type 0
-CzFollows = (l : LentRecord) (a b : ℕ) (nb′ cs′ : List ℕ) → InPlaceCall (controlledZ l a b) 0 nb′ cs′ →
+CzFollows = (l : LentRecord) (a b : ℕ) (nb′ cs′ : List ℕ) → Call (inPlaceCall l (czOn a b) nb′ cs′) 0 →
     Entangled l a b (left l nb′ cs′)
 
 -- ---- measurements
@@ -95,7 +95,7 @@ pub record MeasurementStands (l : LentRecord) (pauli q b : ℕ) (after : LentRec
 abbrev pub MeasurementsFollow : Type 0
 MeasurementsFollow =
     (l : LentRecord) (pauli q b answer determined : ℕ) (nb′ cs′ : List ℕ) (answer′ determined′ : ℕ) →
-    MeasureCall l pauli q b answer determined 0 nb′ cs′ answer′ determined′ →
+    Call (measureCall l pauli q b answer determined nb′ cs′ answer′ determined′) 0 →
     MeasurementStands l pauli q b (left l nb′ cs′) answer′ determined′
 
 -- ---- impossible clicks: "where bit and sign differ, the call is refused and the record kept" (02, §4)
@@ -112,7 +112,7 @@ pub record ImpossibleClick (l : LentRecord) (pauli q b answer determined r : ℕ
 abbrev pub ImpossibleClicksRefused : Type 0
 ImpossibleClicksRefused =
     (l : LentRecord) (pauli q b answer determined r : ℕ) (nb′ cs′ : List ℕ) (answer′ determined′ : ℕ) →
-    MeasureCall l pauli q b answer determined r nb′ cs′ answer′ determined′ →
+    Call (measureCall l pauli q b answer determined nb′ cs′ answer′ determined′) r →
     ImpossibleClick l pauli q b answer determined r nb′ cs′ answer′ determined′
 
 -- ---- "As a rewriting of a record it keeps the group, signs included"; the answer is the record so rewritten
@@ -122,16 +122,16 @@ pub record RewrittenAs (l after : LentRecord) (new : GraphRecord) : Type 0 where
   pub group : SameGroup (l .n) (l .n) (heldRows l) (heldRows after)
 
 abbrev pub ComplementsKeep : Type 0
-ComplementsKeep = (l : LentRecord) (a : ℕ) (nb′ cs′ : List ℕ) → InPlaceCall (complementAt l a) 0 nb′ cs′ →
+ComplementsKeep = (l : LentRecord) (a : ℕ) (nb′ cs′ : List ℕ) → Call (inPlaceCall l (complementOf a) nb′ cs′) 0 →
     RewrittenAs l (left l nb′ cs′) (complementRecord (heldRecord l) a)
 
 abbrev pub PivotsKeep : Type 0
-PivotsKeep = (l : LentRecord) (j k : ℕ) (nb′ cs′ : List ℕ) → InPlaceCall (pivotAt l j k) 0 nb′ cs′ →
+PivotsKeep = (l : LentRecord) (j k : ℕ) (nb′ cs′ : List ℕ) → Call (inPlaceCall l (pivotOf j k) nb′ cs′) 0 →
     RewrittenAs l (left l nb′ cs′) (pivotRecord (heldRecord l) j k)
 
 -- ---- two calls, refused or not: the second is about what the first left
 abbrev pub SecondAboutFirst : Type 0
 SecondAboutFirst =
     (l : LentRecord) (o₁ o₂ : Operation) (r₁ r₂ : ℕ) (nb₁ cs₁ nb₂ cs₂ : List ℕ) →
-    InPlaceCall (step l o₁) r₁ nb₁ cs₁ → InPlaceCall (step (left l nb₁ cs₁) o₂) r₂ nb₂ cs₂ →
+    Call (inPlaceCall l o₁ nb₁ cs₁) r₁ → Call (inPlaceCall (left l nb₁ cs₁) o₂ nb₂ cs₂) r₂ →
     left l nb₂ cs₂ ≡ session l (o₁ ∷ o₂ ∷ [])

@@ -18,7 +18,8 @@ use Rattle.stabilizer.specs.Carries.{Carries}
 use Rattle.stabilizer.specs.Lists.{GeneratorList, rows}
 use Rattle.list_calls.specs.Calls.{checkLines}
 use Rattle.words.specs.Bits.{Word}
-use Rattle.compare_call.specs.Comparisons.{CompareCall}
+use Rattle.contracts.specs.Calls.{Call}
+use Rattle.compare_call.specs.Comparisons.{compareCall}
 
 -- the connected part of vertex q in a list's reduced graph
 abbrev pub part : GeneratorList → ℕ → Word
@@ -63,5 +64,5 @@ PartsDecide = (l m : GeneratorList) → Accepted l m → ((q t : ℕ) → part l
 abbrev pub LargePartsRefused : Type 0
 LargePartsRefused =
     (l m : GeneratorList) (choice list : List ℕ) (counted r : ℕ) (choice′ list′ : List ℕ) (counted′ : ℕ) →
-    CompareCall l m choice list counted r choice′ list′ counted′ → firstFitting (pairLines l m choice list) ≡ 0 →
+    Call (compareCall l m choice list counted choice′ list′ counted′) r → firstFitting (pairLines l m choice list) ≡ 0 →
     (r ≡ 3) ↔ (LargePart l ⊎ LargePart m)

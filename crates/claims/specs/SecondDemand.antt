@@ -7,15 +7,16 @@ use mathlib.Core.Path.{_≡_}
 use Prim.Native.Nat.{_*_, _<_, ℕ}
 use lib.ListN.{getD}
 use Rattle.buffers.specs.Refusals.{firstFitting}
+use Rattle.contracts.specs.Calls.{Call}
 use Rattle.record.specs.Lent.{LentRecord, heldRows}
 use Rattle.stabilizer.specs.Groups.{SameGroup}
 use Rattle.stabilizer.specs.Lists.{GeneratorList, rows}
-use Rattle.list_calls.specs.Calls.{ExpandCall, ReduceCall, checkLines}
+use Rattle.list_calls.specs.Calls.{checkLines, expandCall, reduceCall}
 
 -- "a generator list and its reduced record stand for the same group"
 abbrev pub ReductionKeepsGroup : Type 0
 ReductionKeepsGroup =
-    (l : GeneratorList) (nb cs nb′ cs′ : List ℕ) → ReduceCall l nb cs 0 nb′ cs′ →
+    (l : GeneratorList) (nb cs nb′ cs′ : List ℕ) → Call (reduceCall l nb cs nb′ cs′) 0 →
     SameGroup (l .n) (l .n) (rows l) (heldRows (record { n = l .n; neighbours = nb′; codes = cs′ }))
 
 -- "expansion brings that group back": the list written is accepted, and has the record's group
@@ -25,15 +26,15 @@ pub record BroughtBack (l : LentRecord) (back : GeneratorList) : Type 0 where
 
 abbrev pub ExpansionBringsBack : Type 0
 ExpansionBringsBack =
-    (l : LentRecord) (s z x s′ z′ x′ : List ℕ) → ExpandCall l s z x 0 s′ z′ x′ →
+    (l : LentRecord) (s z x s′ z′ x′ : List ℕ) → Call (expandCall l s z x s′ z′ x′) 0 →
     BroughtBack l (record { n = l .n; signs = s′; z = z′; x = x′ })
 
 -- "two accepted lists reduce to equal records exactly if their groups are equal"
 abbrev pub EqualExactly : Type 0
 EqualExactly =
     (n : ℕ) (s z x s₂ z₂ x₂ nb cs nb₂ cs₂ nb′ cs′ nb₂′ cs₂′ : List ℕ) →
-    ReduceCall (record { n = n; signs = s; z = z; x = x }) nb cs 0 nb′ cs′ →
-    ReduceCall (record { n = n; signs = s₂; z = z₂; x = x₂ }) nb₂ cs₂ 0 nb₂′ cs₂′ →
+    Call (reduceCall (record { n = n; signs = s; z = z; x = x }) nb cs nb′ cs′) 0 →
+    Call (reduceCall (record { n = n; signs = s₂; z = z₂; x = x₂ }) nb₂ cs₂ nb₂′ cs₂′) 0 →
     ((nb′ ≡ nb₂′) × (cs′ ≡ cs₂′))
     ↔ SameGroup n n (rows (record { n = n; signs = s; z = z; x = x }))
     (rows (record { n = n; signs = s₂; z = z₂; x = x₂ }))
@@ -42,13 +43,13 @@ EqualExactly =
 abbrev pub ReducesToItself : Type 0
 ReducesToItself =
     (l : GeneratorList) (nb cs nb′ cs′ s z x s′ z′ x′ nb₂ cs₂ nb₂′ cs₂′ : List ℕ)
-    → ReduceCall l nb cs 0 nb′ cs′ →
-    ExpandCall (record { n = l .n; neighbours = nb′; codes = cs′ }) s z x 0 s′ z′ x′ →
-    ReduceCall (record { n = l .n; signs = s′; z = z′; x = x′ }) nb₂ cs₂ 0 nb₂′ cs₂′ →
+    → Call (reduceCall l nb cs nb′ cs′) 0 →
+    Call (expandCall (record { n = l .n; neighbours = nb′; codes = cs′ }) s z x s′ z′ x′) 0 →
+    Call (reduceCall (record { n = l .n; signs = s′; z = z′; x = x′ }) nb₂ cs₂ nb₂′ cs₂′) 0 →
     (nb₂′ ≡ nb′) × (cs₂′ ≡ cs′)
 
 -- reduced codes are among 0, 2, 4, 6, 8 and 10
 abbrev pub ReducedCodes : Type 0
 ReducedCodes =
-    (l : GeneratorList) (nb cs nb′ cs′ : List ℕ) → ReduceCall l nb cs 0 nb′ cs′ → (q : ℕ) → q < l .n →
+    (l : GeneratorList) (nb cs nb′ cs′ : List ℕ) → Call (reduceCall l nb cs nb′ cs′) 0 → (q : ℕ) → q < l .n →
     (i : ℕ) × (i < 6) × (getD cs′ q 0 ≡ 2 * i)

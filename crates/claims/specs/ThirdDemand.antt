@@ -16,7 +16,8 @@ use Rattle.record.specs.Reduced.{reducedGraph}
 use Rattle.stabilizer.specs.Carries.{Carries}
 use Rattle.stabilizer.specs.Lists.{GeneratorList, rows}
 use Rattle.list_calls.specs.Calls.{checkLines}
-use Rattle.compare_call.specs.Comparisons.{CompareCall}
+use Rattle.contracts.specs.Calls.{Call}
+use Rattle.compare_call.specs.Comparisons.{compareCall}
 use Rattle.claims.specs.PartsDemand.{SmallParts}
 
 -- "Done one after another": the graph complemented at each vertex of a list
@@ -61,7 +62,7 @@ pub record Decided (l m : GeneratorList) (list : List ℕ) (r : ℕ) (choice′ 
 abbrev pub ThirdDemand : Type 0
 ThirdDemand =
     (l m : GeneratorList) (choice list : List ℕ) (count r : ℕ) (choice′ list′ : List ℕ) (count′ : ℕ) →
-    CompareCall l m choice list count r choice′ list′ count′ → firstFitting (pairLines l m choice list) ≡ 0 →
+    Call (compareCall l m choice list count choice′ list′ count′) r → firstFitting (pairLines l m choice list) ≡ 0 →
     SmallParts l → SmallParts m → Decided l m list r choice′ list′ count′
 
 -- "if lists and buffers are accepted, and the lists describe states on the same number n of qubits"; an accepted list has

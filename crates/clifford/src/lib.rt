@@ -77,6 +77,55 @@ pub struct Code {
     pub index: u8,
 }
 
+// The codes 1 and 2 and then another: a sign is flipped.
+fn after_one(b: u8) -> u8
+    requires { ⌜ b < 24 ⌝ }
+    ensures { λ r. ⌜ (r ≡ codeOf (then (cliffordOf 1) (cliffordOf b))) × (r < 24) ⌝ }
+{
+    b ^ 1
+}
+
+fn after_two(b: u8) -> u8
+    requires { ⌜ b < 24 ⌝ }
+    ensures { λ r. ⌜ (r ≡ codeOf (then (cliffordOf 2) (cliffordOf b))) × (r < 24) ⌝ }
+{
+    b ^ 2
+}
+
+// The code 6 and then another, by the row of the table in two words, five bits for each entry.
+fn after_six(b: u8) -> u8
+    requires { ⌜ b < 24 ⌝ }
+    ensures { λ r. ⌜ (r ≡ codeOf (then (cliffordOf 6) (cliffordOf b))) × (r < 24) ⌝ }
+{
+    if b < 12 {
+        ((0x8ca7008860390a6u64 >> (5 * b)) % 32) as u8
+    } else {
+        ((0x7b1ae5a12aadaf4u64 >> (5 * (b - 12))) % 32) as u8
+    }
+}
+
+// The code 13 and then another, by the row of the table in two words, five bits for each entry.
+fn after_thirteen(b: u8) -> u8
+    requires { ⌜ b < 24 ⌝ }
+    ensures { λ r. ⌜ (r ≡ codeOf (then (cliffordOf 13) (cliffordOf b))) × (r < 24) ⌝ }
+{
+    if b < 12 {
+        ((0xb5eb494e307b98du64 >> (5 * b)) % 32) as u8
+    } else {
+        ((0x5a9093988510c20u64 >> (5 * (b - 12))) % 32) as u8
+    }
+}
+
+// The entry of the table.
+fn entry(first: u8, next: u8) -> u8
+    requires { ⌜ (first < 24) × (next < 24) ⌝ }
+    ensures { λ r. ⌜ (r ≡ codeOf (then (cliffordOf first) (cliffordOf next))) × (r < 24) ⌝ }
+{
+    let a = first as usize;
+    let b = next as usize;
+    THEN[24 * a + b]
+}
+
 impl Code {
     // First this code, then the next.
     pub fn then(self, next: Code) -> Code
@@ -84,10 +133,25 @@ impl Code {
         ensures { λ r. ⌜ r .index ≡ codeOf (then (cliffordOf (self .index)) (cliffordOf (next .index))) ⌝ }
         ensures { λ r. ⌜ r .index < 24 ⌝ }
     {
-        let a = self.index as usize;
-        let b = next.index as usize;
-        let index = THEN[24 * a + b];
-        Code { index }
+        let first = self.index;
+        let b = next.index;
+        match first {
+            1 => Code {
+                index: after_one(b),
+            },
+            2 => Code {
+                index: after_two(b),
+            },
+            6 => Code {
+                index: after_six(b),
+            },
+            13 => Code {
+                index: after_thirteen(b),
+            },
+            _ => Code {
+                index: entry(first, b),
+            },
+        }
     }
 
     // The code that undoes this one. Classes 4 and 5 undo each other, the others themselves; X and Z go back to the

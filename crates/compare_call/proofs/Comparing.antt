@@ -1,21 +1,20 @@
 -- The call on two lists, from what the functions below it answer.
 -- Assumes nothing.
-use mathlib.Core.Bool.{Bool, cond, false, not, true, _||_}
+use mathlib.Core.Bool.{Bool, false, not, true, _||_}
 use mathlib.Core.List.{List}
 use mathlib.Core.Path.{ap, ap₂, refl, subst, sym, _∙_, _≡_}
 use Prim.Native.Nat.{_<_, ℕ, _≤_}
 use lib.Dec.{eqb}
 use lib.ListN.{length}
-use borrow.Author.Tests.{eqb-true, ne-eqb, not-false}
-use Rattle.buffers.proofs.Lines.{fits, more-accepted, more-refused, passed}
-use Rattle.buffers.specs.Buffers.{accepted, tabulate, written}
+use borrow.Author.Tests.{eqb-true, not-false}
+use Rattle.buffers.proofs.Lines.{fits, more-accepted, passed}
 use Rattle.buffers.specs.Refusals.{badCount, firstFitting, otherThan}
-use Rattle.comparison.specs.Choices.{leastCode}
 use Rattle.comparison.specs.Compared.{pairCount, pairLines}
+use Rattle.contracts.proofs.Calling.{refused, written-all}
+use Rattle.contracts.proofs.Fitting.{stays}
+use Rattle.contracts.specs.Calls.{Call}
 use Rattle.pauli.specs.Pauli.{Pauli}
 use Rattle.record.specs.Accepted.{AcceptedRecord}
-use Rattle.record.specs.Lent.{codeNumbers, neighbourWords}
-use Rattle.record.specs.Reduced.{reduced}
 use Rattle.stabilizer.proofs.Accepted.{accepted-list}
 use Rattle.stabilizer.proofs.SharedTests.{counted, has-length, length-passes}
 use Rattle.stabilizer.specs.Lists.{GeneratorList, listLengths, rows}
@@ -23,17 +22,17 @@ use Rattle.words.proofs.Finite.{bits}
 use Rattle.words.proofs.Flags.{neither}
 use Rattle.compare_call.proofs.PairLines.{earlier-none, pair-number, pair-numbered}
 use Rattle.comparison_answer.proofs.ReducedPairs.{reduced-accepted}
-use Rattle.list_calls.specs.Calls.{ReduceCall}
-use Rattle.comparison_answer.specs.ComparedPairs.{HoldsReduced, PairAnswered, compareList, earlierOf}
-use Rattle.compare_call.specs.Comparisons.{CompareCall}
+use Rattle.list_calls.specs.Calls.{reduceCall}
+use Rattle.comparison_answer.specs.ComparedPairs.{HoldsReduced, PairAnswered, earlierOf}
+use Rattle.compare_call.specs.Comparisons.{compareCall}
 
 -- ---- two lists on n qubits, and the reductions of both
 module _ (n : ℕ) (s z x s₂ z₂ x₂ choice list : List ℕ) (positive : 1 ≤ n) (few : n ≤ 64)
     (long : length choice ≡ n) (room : length list ≡ 96) (nb cs nb₂ cs₂ nb′ cs′ nb₂′ cs₂′ : List ℕ)
     (nb-long : length nb ≡ n) (cs-long : length cs ≡ n) (nb₂-long : length nb₂ ≡ n)
     (cs₂-long : length cs₂ ≡ n)
-    (r r₂ early : ℕ) (C : ReduceCall (record { n = n; signs = s; z = z; x = x }) nb cs r nb′ cs′)
-    (D : ReduceCall (record { n = n; signs = s₂; z = z₂; x = x₂ }) nb₂ cs₂ r₂ nb₂′ cs₂′)
+    (r r₂ early : ℕ) (C : Call (reduceCall (record { n = n; signs = s; z = z; x = x }) nb cs nb′ cs′) r)
+    (D : Call (reduceCall (record { n = n; signs = s₂; z = z₂; x = x₂ }) nb₂ cs₂ nb₂′ cs₂′) r₂)
     (e : early ≡ earlierOf r r₂) where
   abbrev l : GeneratorList
   l = record { n = n; signs = s; z = z; x = x }
@@ -50,15 +49,8 @@ module _ (n : ℕ) (s z x s₂ z₂ x₂ choice list : List ℕ) (positive : 1 �
 
   -- the earlier number comes back
   pub compare-refused : (count : ℕ) → (early ≡ 0 → ⊥) →
-      CompareCall l m choice list count early choice list count
-  compare-refused count h =
-      record {
-        number = early-is ∙ sym (more-refused (pairLines l m choice list) _ (λ z. h (early-is ∙ z)));
-        codes = sym (ap (λ b. cond b (tabulate n (leastCode n (rows l) (rows m))) choice) (ne-eqb early 0 h));
-        vertices = sym (ap (λ b. cond b (written (compareList n (rows l) (rows m)) list) list)
-            (ne-eqb early 0 h));
-        amount = sym (ap (λ b. cond b (length (compareList n (rows l) (rows m))) count) (ne-eqb early 0 h));
-      }
+      Call (compareCall l m choice list count choice list count) early
+  compare-refused count h = refused _ (stays (pairLines l m choice list) _ early-is h) h (refl, (refl, (refl, tt)))
 
   module _ (a : early ≡ 0) where
     none : (r ≡ 0) × (r₂ ≡ 0)
@@ -68,16 +60,16 @@ module _ (n : ℕ) (s z x s₂ z₂ x₂ choice list : List ℕ) (positive : 1 �
     first-reduced =
         record {
           proper = (accepted-list l _ (sym (C .number) ∙ none .0)) .proper;
-          words = C .words ∙ ap (λ v. accepted v (neighbourWords n (reduced n (rows l))) nb) (none .0);
-          numbers = C .numbers ∙ ap (λ v. accepted v (codeNumbers n (reduced n (rows l))) cs) (none .0);
+          words = written-all C (none .0) .0;
+          numbers = written-all C (none .0) .1 .0;
         }
 
     pub second-reduced : HoldsReduced n (rows m) nb₂′ cs₂′
     second-reduced =
         record {
           proper = (accepted-list m _ (sym (D .number) ∙ none .1)) .proper;
-          words = D .words ∙ ap (λ v. accepted v (neighbourWords n (reduced n (rows m))) nb₂) (none .1);
-          numbers = D .numbers ∙ ap (λ v. accepted v (codeNumbers n (reduced n (rows m))) cs₂) (none .1);
+          words = written-all D (none .1) .0;
+          numbers = written-all D (none .1) .1 .0;
         }
 
     pub first-accepted : AcceptedRecord (record { n = n; neighbours = nb′; codes = cs′ })
@@ -90,22 +82,20 @@ module _ (n : ℕ) (s z x s₂ z₂ x₂ choice list : List ℕ) (positive : 1 �
     pub compare-decided : (count k : ℕ) (choice′ list′ : List ℕ) (count′ : ℕ) →
         ((R S : ℕ → Pauli) → HoldsReduced n R nb′ cs′ → HoldsReduced n S nb₂′ cs₂′ →
         PairAnswered n R S choice list count k choice′ list′ count′) →
-        CompareCall l m choice list count k choice′ list′ count′
+        Call (compareCall l m choice list count choice′ list′ count′) k
     compare-decided count k choice′ list′ count′ f =
         let P = f (rows l) (rows m) first-reduced second-reduced in
         record {
           number =
               P .number ∙ sym (more-accepted (pairLines l m choice list) _ (pair-numbered l m choice list)
               (sym early-is ∙ a));
-          codes = P .codes;
-          vertices = P .vertices;
-          amount = P .amount;
+          held = (P .codes, (P .vertices, (P .amount, tt)));
         }
 
 -- ---- the lines before the reductions
 module _ (l m : GeneratorList) (choice list : List ℕ) (count : ℕ) where
-  pub refused-2 : pairCount l m ≡ true → CompareCall l m choice list count 2 choice list count
-  refused-2 h = record { number = sym (fits 2 _ h); codes = refl; vertices = refl; amount = refl }
+  pub refused-2 : pairCount l m ≡ true → Call (compareCall l m choice list count choice list count) 2
+  refused-2 h = record { number = sym (fits 2 _ h); held = (refl, (refl, (refl, tt))) }
 
   module _ (p : pairCount l m ≡ false) where
     pub counts-agree : l .n ≡ m .n
@@ -123,15 +113,13 @@ module _ (l m : GeneratorList) (choice list : List ℕ) (count : ℕ) where
         counted (l .n) (neither (badCount (l .n)) (badCount (m .n) || not (eqb (l .n) (m .n))) p .0) .1
 
     module _ (o : Bool) (e : o ≡ (otherThan (l .n) choice || otherThan 96 list)) where
-      pub refused-4 : o ≡ true → CompareCall l m choice list count 4 choice list count
+      pub refused-4 : o ≡ true → Call (compareCall l m choice list count choice list count) 4
       refused-4 t =
           record {
             number = sym (passed 2 _ p
                 ∙ fits 4 _ (ap (λ v. listLengths l || (listLengths m || v)) (sym e ∙ t)
                 ∙ last-of-three (listLengths l) (listLengths m)));
-            codes = refl;
-            vertices = refl;
-            amount = refl;
+            held = (refl, (refl, (refl, tt)));
           }
         where
           last-of-three : (a b : Bool) → (a || (b || true)) ≡ true
@@ -147,10 +135,10 @@ module _ (l m : GeneratorList) (choice list : List ℕ) (count : ℕ) where
 -- two lists on the same number of qubits
 pub same-count : (n n₂ : ℕ) → n ≡ n₂ → (s z x s₂ z₂ x₂ choice list : List ℕ) (count r : ℕ)
     (choice′ list′ : List ℕ) (count′ : ℕ) →
-    CompareCall (record { n = n; signs = s; z = z; x = x }) (record { n = n; signs = s₂; z = z₂; x = x₂ })
-    choice list count r choice′ list′ count′ →
-    CompareCall (record { n = n; signs = s; z = z; x = x }) (record { n = n₂; signs = s₂; z = z₂; x = x₂ })
-    choice list count r choice′ list′ count′
+    Call (compareCall (record { n = n; signs = s; z = z; x = x }) (record { n = n; signs = s₂; z = z₂; x = x₂ })
+    choice list count choice′ list′ count′) r →
+    Call (compareCall (record { n = n; signs = s; z = z; x = x }) (record { n = n₂; signs = s₂; z = z₂; x = x₂ })
+    choice list count choice′ list′ count′) r
 same-count n n₂ e s z x s₂ z₂ x₂ choice list count r choice′ list′ count′ =
-    subst (λ k. CompareCall (record { n = n; signs = s; z = z; x = x })
-    (record { n = k; signs = s₂; z = z₂; x = x₂ }) choice list count r choice′ list′ count′) e
+    subst (λ k. Call (compareCall (record { n = n; signs = s; z = z; x = x })
+    (record { n = k; signs = s₂; z = z₂; x = x₂ }) choice list count choice′ list′ count′) r) e

@@ -9,8 +9,9 @@ ghost use mathlib.Core.Path.{_≡_};
 ghost use Prim.Native.Nat.{_≤_};
 ghost use lib.Dec.{eqb};
 ghost use lib.ListN.{length};
+ghost use Rattle.contracts.specs.Calls.{Call};
 ghost use Rattle.buffers.specs.Refusals.{badCount};
-ghost use Rattle.compare_call.specs.Comparisons.{CompareCall};
+ghost use Rattle.compare_call.specs.Comparisons.{compareCall};
 
 // Line 2: n is 0 or above 64, or the two lists' n differ.
 fn pair_count(n: u64, n2: u64) -> bool
@@ -39,11 +40,11 @@ fn compare_lists(
     requires { ⌜ (1 ≤ n) × (n ≤ 64) × (length (now choice) ≡ n) × (length (now list) ≡ 96) ⌝ }
     requires { ⌜ (length (now neighbours1) ≡ n) × (length (now codes1) ≡ n) × (length (now neighbours2) ≡ n)
         × (length (now codes2) ≡ n) ⌝ }
-    ensures { λ r. ⌜ CompareCall
+    ensures { λ r. ⌜ Call (compareCall
         (record { n = n; signs = now (signs1 .entry); z = now (z1 .entry); x = now (x1 .entry) })
         (record { n = n; signs = now (signs2 .entry); z = now (z2 .entry); x = now (x2 .entry) })
-        (now (choice .entry)) (now (list .entry)) (now (count .entry)) r
-        (now (choice .exit)) (now (list .exit)) (now (count .exit)) ⌝ }
+        (now (choice .entry)) (now (list .entry)) (now (count .entry))
+        (now (choice .exit)) (now (list .exit)) (now (count .exit))) r ⌝ }
 {
     let first = reduce(n, signs1, z1, x1, neighbours1, codes1);
     let second = reduce(n, signs2, z2, x2, neighbours2, codes2);
@@ -78,11 +79,11 @@ pub fn compare(
     list: &mut [u8],
     count: &mut u64,
 ) -> u8
-    ensures { λ r. ⌜ CompareCall
+    ensures { λ r. ⌜ Call (compareCall
         (record { n = n1; signs = now (signs1 .entry); z = now (z1 .entry); x = now (x1 .entry) })
         (record { n = n2; signs = now (signs2 .entry); z = now (z2 .entry); x = now (x2 .entry) })
-        (now (choice .entry)) (now (list .entry)) (now (count .entry)) r
-        (now (choice .exit)) (now (list .exit)) (now (count .exit)) ⌝ }
+        (now (choice .entry)) (now (list .entry)) (now (count .entry))
+        (now (choice .exit)) (now (list .exit)) (now (count .exit))) r ⌝ }
 {
     if pair_count(n1, n2) {
         return 2;

@@ -1,14 +1,12 @@
 -- The image of a row commutes with another row exactly if the classes solve the class equation; choices that agree
 -- on classes, or on signs, have assignments that agree.
 -- Assumes nothing.
-use mathlib.Core.Bool.{_&&_, Bool, false, true, true≢false}
+use mathlib.Core.Bool.{_&&_, Bool, false, true}
 use mathlib.Core.Logic.{inl, inr, _⊎_}
 use mathlib.Core.Path.{ap, ap₂, refl, subst, sym, _∙_, _≡_}
-use Prim.Native.Nat.{_*_, _+_, _-_, _/_, _<_, _^_, ℕ, _≤_}
+use Prim.Native.Nat.{_*_, _+_, _/_, _<_, _^_, ℕ, _≤_}
 use native.Mathlib.Nat.{lt-of-le-of-lt}
 use lib.Bits.{and-le-l, bitAnd}
-use lib.Pow.{ones-lt}
-use borrow.Author.Tests.{eqb-true}
 use Rattle.clifford.proofs.CliffordLaws.{fromFive, onClifford, xAfter, zAfter}
 use Rattle.clifford.specs.Clifford.{Class, Clifford, imageX, imageZ}
 use Rattle.clifford.specs.Vectors.{act}
@@ -19,21 +17,15 @@ use Rattle.stabilizer.proofs.GroupLaws.{elements-commute, in-row}
 use Rattle.stabilizer.proofs.Products.{anticommute-form}
 use Rattle.stabilizer.specs.Carries.{Carries}
 use Rattle.stabilizer.specs.Groups.{InGroup, Proper, Within}
-use Rattle.words.proofs.BitLaws.{bit-above, bit-and, bit-single, bit-wordOf, lt-of-bits, wordOf-lt}
+use Rattle.words.proofs.BitLaws.{bit-above, bit-and, bit-wordOf, lt-of-bits, wordOf-lt}
 use Rattle.words.proofs.Finite.{bits, ⊕-zero}
 use Rattle.words.proofs.OnesLaws.{dot-bits}
 use Rattle.words.proofs.Sums.{fold-ext, lt-or-ge, parity-add}
 use Rattle.words.specs.Bits.{Word, bit, digit, dot, isOdd, parity, wordOf, _⊕_}
+use Rattle.comparison.proofs.EquationLaws.{SameBelow}
 use Rattle.comparison.proofs.NumberOrder.{class-injective}
 use Rattle.comparison.specs.Choices.{classKey, signKey}
-use Rattle.comparison.specs.Equations.{
-  SameBits,
-  SameOn,
-  classAssignment,
-  classEquation,
-  fails,
-  signAssignment,
-}
+use Rattle.comparison.specs.Equations.{classAssignment, classEquation, fails, signAssignment}
 
 -- ---- the image of a letter by the bits of its class
 pub z-after : (k : Clifford) (z x : Bool)
@@ -64,7 +56,7 @@ pub x-word-lt : (n : ℕ) (g : Generator) → Within n (generatorOf g) → g .x 
 x-word-lt n g W = lt-of-bits n (g .x) (W .no-x)
 
 module _ (n : ℕ) (k : ℕ → Clifford) (g h : Generator) (W : Within n (generatorOf g)) where
-  anticommute-classes : anticommute n (act n k (generatorOf g)) (generatorOf h)
+  pub anticommute-classes : anticommute n (act n k (generatorOf g)) (generatorOf h)
       ≡ fails (classEquation g h) (classAssignment n k)
   unfolding act fails classAssignment
   anticommute-classes =
@@ -111,28 +103,19 @@ class-equation n rows others P P′ d C i j li lj g h eg eh =
     (subst (InGroup n n others) (sym eh) (in-row n n others j lj))
 
 -- ---- assignments of choices with equal keys
-pub mask-below : (q i : ℕ) → bit (2 ^ q - 1) i ≡ true → i < q
-mask-below q i h = go (lt-or-ge i q)
-  where
-    go : (i < q) ⊎ (q ≤ i) → i < q
-    go (inl l) = l
-    go (inr l) = absurd (true≢false (sym h ∙ bit-above q (2 ^ q - 1) (ones-lt q) i l))
-
--- the bits at the places of a mask agree where the functions do
-same-words : (n m : ℕ) (f g : Word) → ((i : ℕ) → bit m i ≡ true → f i ≡ g i)
-    → SameBits m (wordOf n f) (wordOf n g)
-same-words n m f g h i l = go (lt-or-ge i n)
+words-below : (n q : ℕ) (f g : Word) → ((i : ℕ) → i < q → f i ≡ g i) → (i : ℕ) → i < q
+    → bit (wordOf n f) i ≡ bit (wordOf n g) i
+words-below n q f g h i l = go (lt-or-ge i n)
   where
     go : (i < n) ⊎ (n ≤ i) → bit (wordOf n f) i ≡ bit (wordOf n g) i
     go (inl k) = bit-wordOf n f i k ∙ h i l ∙ sym (bit-wordOf n g i k)
     go (inr k) =
         bit-above n (wordOf n f) (wordOf-lt n f) i k ∙ sym (bit-above n (wordOf n g) (wordOf-lt n g) i k)
 
-same-classes-on : (n m : ℕ) (c d : ℕ → Clifford)
-    → ((i : ℕ) → bit m i ≡ true → classKey (d i) ≡ classKey (c i))
-    → SameOn m (classAssignment n c) (classAssignment n d)
+pub same-classes : (n q : ℕ) (c d : ℕ → Clifford) → ((i : ℕ) → i < q → classKey (d i) ≡ classKey (c i))
+    → SameBelow q (classAssignment n c) (classAssignment n d)
 unfolding classAssignment
-same-classes-on n m c d h =
+same-classes n q c d h =
     record {
       a = by (λ k. zBit (imageZ k));
       b = by (λ k. zBit (imageX k));
@@ -140,28 +123,17 @@ same-classes-on n m c d h =
       d = by (λ k. xBit (imageX k));
     }
   where
-    by : (f : Class → Bool) → SameBits m (wordOf n (λ i. f (c i .class))) (wordOf n (λ i. f (d i .class)))
-    by f = same-words n m _ _ (λ i l. ap f (class-injective _ _ (sym (h i l))))
+    by : (f : Class → Bool) → (i : ℕ) → i < q
+        → bit (wordOf n (λ i. f (c i .class))) i ≡ bit (wordOf n (λ i. f (d i .class))) i
+    by f = words-below n q _ _ (λ i l. ap f (class-injective _ _ (sym (h i l))))
 
-pub same-classes : (n q m : ℕ) (c d : ℕ → Clifford) → ((i : ℕ) → bit m i ≡ true → i < q)
-    → ((i : ℕ) → i < q → classKey (d i) ≡ classKey (c i))
-    → SameOn m (classAssignment n c) (classAssignment n d)
-same-classes n q m c d below h = same-classes-on n m c d (λ i l. h i (below i l))
-
--- .. at one qubit
-pub one-place : (n q : ℕ) (c d : ℕ → Clifford) → classKey (d q) ≡ classKey (c q)
-    → SameOn (2 ^ q) (classAssignment n c) (classAssignment n d)
-one-place n q c d h =
-    same-classes-on n (2 ^ q) c d (λ i l. subst (λ k. classKey (d k) ≡ classKey (c k))
-    (sym (eqb-true i q (sym (bit-single q i) ∙ l))) h)
-
-pub same-signs : (n q m : ℕ) (c d : ℕ → Clifford) → ((i : ℕ) → bit m i ≡ true → i < q)
-    → ((i : ℕ) → i < q → signKey (d i) ≡ signKey (c i)) → SameOn m (signAssignment n c) (signAssignment n d)
+pub same-signs : (n q : ℕ) (c d : ℕ → Clifford) → ((i : ℕ) → i < q → signKey (d i) ≡ signKey (c i))
+    → SameBelow q (signAssignment n c) (signAssignment n d)
 unfolding signAssignment
-same-signs n q m c d below h =
+same-signs n q c d h =
     record {
-      a = same-words n m _ _ (λ i l. sx-of (c i .sx) (c i .sz) (d i .sx) (d i .sz) (sym (h i (below i l))));
-      b = same-words n m _ _ (λ i l. sz-of (c i .sx) (c i .sz) (d i .sx) (d i .sz) (sym (h i (below i l))));
+      a = words-below n q _ _ (λ i l. sx-of (c i .sx) (c i .sz) (d i .sx) (d i .sz) (sym (h i l)));
+      b = words-below n q _ _ (λ i l. sz-of (c i .sx) (c i .sz) (d i .sx) (d i .sz) (sym (h i l)));
       c = λ i l. refl;
       d = λ i l. refl;
     }

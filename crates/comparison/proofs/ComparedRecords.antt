@@ -12,6 +12,7 @@ use Rattle.clifford.specs.Clifford.{Clifford, cliffordOf, codeOf, inverse}
 use Rattle.clifford.specs.Vectors.{act, codesOf}
 use Rattle.graph.proofs.GraphGroups.{graph-within}
 use Rattle.graph.specs.Graph.{graphGenerator}
+use Rattle.graph.specs.NeighbourWords.{graphIn}
 use Rattle.pauli.proofs.PauliLaws.{Pauli-path}
 use Rattle.pauli.specs.Pauli.{Pauli, signedRow}
 use Rattle.pauli.specs.declared.Generator.{Generator}
@@ -30,7 +31,7 @@ use Rattle.comparison.proofs.Members.{carries-is}
 use Rattle.comparison.proofs.RecordElements.{proper-rows}
 use Rattle.comparison.specs.Choices.{carries, choice, choiceAt, leastNumber, noChoice}
 use Rattle.comparison.specs.Searches.{LeastAnswer}
-use Rattle.comparison.specs.Setting.{Codes, Framed, Setting, SoundRecord, generatorsOf, heldGenerators}
+use Rattle.comparison.specs.Setting.{Codes, Connected, Framed, Setting, SoundRecord, generatorsOf, heldGenerators}
 
 module _ (n : ℕ) (few : n ≤ 20) (neighbours codes : List ℕ) (S : SoundRecord n neighbours codes) where
   abbrev lent : LentRecord
@@ -125,12 +126,19 @@ module _ (n : ℕ) (few : n ≤ 20) (neighbours codes neighbours′ codes′ : L
     → generatorsOf second j ≡ heldGenerators n neighbours′ codes′ j)
   where
     pub records-setting : ((q : ℕ) → q < n → getD frame q 0 ≡ codeOf (inverse (codesOf codes′ q)))
-        → Codes frame
+        → Codes frame → Connected n (graphIn neighbours)
         → Setting n first second frame
-    records-setting undone small =
+    records-setting undone small connected =
         record {
           few = few;
           proper = proper-rows n (generatorsOf first) _ hf (held-proper n few neighbours codes S);
+          joined = record {
+            graph = graphIn neighbours;
+            codes = codesOf codes;
+            simple = S .simple;
+            generators = hf;
+            connected = connected;
+          };
           framed = held-framed n few neighbours′ codes′ S′ second frame hs undone;
           codes = small;
         }

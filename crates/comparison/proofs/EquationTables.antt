@@ -1,134 +1,200 @@
--- The tables of equations: the empty one, and one more equation that every choice that works solves; the first
--- test.
+-- The tables of equations: one more equation, those on the classes and those on the signs.
 -- Assumes nothing.
 use mathlib.Core.Bool.{_&&_, Bool, Bool·beq, false, not, true}
 use mathlib.Core.List.{List}
-use mathlib.Core.Path.{ap, refl, subst, sym, _∙_, _≡_}
-use Prim.Native.Nat.{_+_, _<_, _^_, suc, zero, zero-le, ℕ, _≤_}
-use native.Mathlib.Nat.{lt-of-lt-of-le, not-suc-le-zero}
-use native.Mathlib.Numerals.{add-one}
-use lib.Dec.{eqb}
-use lib.ListN.{getD, replicate}
-use borrow.Author.Count.{below-more}
-use borrow.Author.Tests.{eqb-true}
-use Rattle.clifford.proofs.VectorLaws.{act-cong}
-use Rattle.clifford.specs.Clifford.{Clifford}
-use Rattle.clifford.specs.Vectors.{act, codesOf}
+use mathlib.Core.Logic.{inl, inr, _⊎_}
+use mathlib.Core.Path.{ap, ap₂, refl, subst, sym, _∙_, _≡_}
+use Prim.Native.Nat.{_%_, _*_, _+_, _/_, _<_, suc, zero, ℕ, _≤_}
+use native.Mathlib.Nat.{not-suc-le-zero}
+use native.Mathlib.Omega.{arith}
+use lib.Bits.{bitAnd}
+use lib.ListN.{getD, length, replicate}
 use Rattle.pauli.specs.Rows.{generatorOf}
 use Rattle.pauli.specs.declared.Generator.{Generator}
-use Rattle.stabilizer.proofs.Within.{act-wide}
-use Rattle.stabilizer.specs.Groups.{InGroup, Proper, Within}
-use Rattle.words.proofs.Finite.{unequal}
-use Rattle.words.proofs.Flags.{both-true}
-use Rattle.comparison.proofs.ClassEquations.{class-equation, one-place}
-use Rattle.comparison.proofs.EquationLaws.{empty-holds}
-use Rattle.comparison.proofs.NumberOrder.{classKey-lt}
-use Rattle.comparison.proofs.SignEquations.{sign-equation}
-use Rattle.comparison.specs.Choices.{classKey}
+use Rattle.stabilizer.specs.Groups.{Within}
+use Rattle.words.proofs.BitLaws.{bit-and, zero-bit}
+use Rattle.words.proofs.Sums.{last-or}
+use Rattle.words.specs.Bits.{bit}
+use Rattle.comparison.proofs.EquationLaws.{Short, empty-holds, fails-zero, zeroAssignment}
 use Rattle.comparison.specs.Equations.{
-  SameOn,
+  Inserted,
   Solves,
-  classAssignment,
+  Triangular,
   classEquation,
   emptyEquation,
+  emptyRows,
   equationAt,
   fails,
-  signAssignment,
   signEquation,
+  tableOf,
+  unknown,
+  wordAt,
 }
-use Rattle.comparison.specs.Searches.{ClassTable, SignTable}
-use Rattle.comparison.specs.Setting.{bare, generatorsOf, noGenerator}
+use Rattle.comparison.specs.Searches.{ClassAsked, ClassTable, TableOf}
+use Rattle.comparison.specs.Setting.{noGenerator}
 use Rattle.comparison.specs.declared.Assignment.{Assignment}
 use Rattle.comparison.specs.declared.Equation.{Equation}
 
-pub empty-table : (k : ℕ) (w : Assignment) → Solves (replicate k emptyEquation) w
-empty-table k w i = ap (λ e. fails e w) (all-empty k i) ∙ empty-holds w
-  where
-    all-empty : (k i : ℕ) → equationAt (replicate k emptyEquation) i ≡ emptyEquation
-    all-empty zero i = refl
-    all-empty (suc k) zero = refl
-    all-empty (suc k) (suc i) = all-empty k i
+-- ---- a table without equations
+module _ where
+  all-empty : (k i : ℕ) → equationAt (replicate k emptyEquation) i ≡ emptyEquation
+  all-empty zero i = refl
+  all-empty (suc k) zero = refl
+  all-empty (suc k) (suc i) = all-empty k i
 
--- what an insertion does
-abbrev pub Inserted : List Equation → Equation → List Equation → Type 0
-Inserted table e result = (w : Assignment) → fails e w ≡ false → Solves table w → Solves result w
-
--- ---- the equations of one generator g with all of the second group
-pub record RowInserted (n : ℕ) (g : Generator) (second : List Generator) (table₀ table : List Equation) : Type
-    0 where
-  pub kept : (w : Assignment)
-      → ((j : ℕ) → j < n → fails (classEquation g (getD second j noGenerator)) w ≡ false)
-      → Solves table₀ w → Solves table w
-
-pub row-start : (n : ℕ) (g : Generator) (second : List Generator) (table : List Equation)
-    → RowInserted n g second table table
-row-start n g second table = record { kept = λ w h s. s }
-
-pub row-more : (n : ℕ) (g : Generator) (second : List Generator) (table₀ table : List Equation) (e : Equation)
-    (result : List Equation) → RowInserted n g second table₀ table → Inserted table e result → (j : ℕ) → j < n
-    → e ≡ classEquation g (getD second j noGenerator) → RowInserted n g second table₀ result
-row-more n g second table₀ table e result R into j l ee =
-    record { kept = λ w h s. into w (ap (λ f. fails f w) ee ∙ h j l) (R .kept w h s) }
-
-module _ (n : ℕ) (first second : List Generator) (P : Proper n (generatorsOf first))
-    (P′ : Proper n (generatorsOf second)) where
-  pub row-end : (table₀ table : List Equation) (i : ℕ) → i < n → ClassTable n first second table₀
-      → RowInserted n (getD first i noGenerator) second table₀ table → ClassTable n first second table
-  row-end table₀ table i li T R d C =
-      R .kept (classAssignment n d)
-      (λ j lj. class-equation n (generatorsOf first) (generatorsOf second) P P′ d C i j li lj
-      (getD first i noGenerator)
-      (getD second j noGenerator) refl refl)
-      (T d C)
-
-  pub sign-inserted : (c : ℕ → Clifford) → ((q : ℕ) → c q ≡ bare (c q)) → n ≤ 64
-      → (table : List Equation) (e : Equation) (result : List Equation) → SignTable n first second c table
-      → Inserted table e result → (i : ℕ) → i < n → (g p h : Generator) → g ≡ getD first i noGenerator
-      → generatorOf p ≡ act 64 c (generatorOf g) → InGroup n n (generatorsOf second) (generatorOf h)
-      → (eqb (h .z) (p .z) && eqb (h .x) (p .x)) ≡ true → (s : Bool)
-      → s ≡ not (Bool·beq (p .minus) (h .minus))
-      → e ≡ signEquation g s → SignTable n first second c result
-  sign-inserted c plain few table e result T into i li g p h eg ep eh same s es ee d D =
-      into (signAssignment n d)
-      (ap (λ f. fails f (signAssignment n d)) (ee
-      ∙ ap (signEquation g) (es ∙ unequal (p .minus) (h .minus)))
-      ∙ sign-equation n (generatorsOf first) (generatorsOf second) P P′ d (D .base) i li g (ap generatorOf eg)
-      c (D .same) p h
-      sent eh (sym (eqb-true (h .z) (p .z) (both .0))) (sym (eqb-true (h .x) (p .x) (both .1))))
-      (T d D)
+  pub empty-table : Triangular (replicate 80 emptyEquation)
+  empty-table =
+      record {
+        long = refl;
+        above = λ i j l. ap (λ e. unknown e j) (all-empty 80 i) ∙ nothing j;
+        leading = λ i. inr (all-empty 80 i);
+      }
     where
-      both : (eqb (h .z) (p .z) ≡ true) × (eqb (h .x) (p .x) ≡ true)
-      both = both-true (eqb (h .z) (p .z)) (eqb (h .x) (p .x)) same
+      nothing : (j : ℕ) → unknown emptyEquation j ≡ false
+      nothing j = go (j % 4)
+        where
+          go : (l : ℕ) → bit (wordAt l 0 0 0 0) (j / 4) ≡ false
+          go zero = zero-bit (j / 4)
+          go (suc zero) = zero-bit (j / 4)
+          go (suc (suc zero)) = zero-bit (j / 4)
+          go (suc (suc (suc l))) = zero-bit (j / 4)
 
-      sent : generatorOf p ≡ act n (λ q. bare (c q)) (generatorOf g)
-      sent =
-          ep ∙ act-wide n 64 few (subst (Within n) (sym (ap generatorOf eg)) (P .within i li)) c
-          ∙ act-cong n plain (generatorOf g)
+  pub empty-solved : (w : Assignment) → Solves (replicate 80 emptyEquation) w
+  empty-solved w i = ap (λ e. fails e w) (all-empty 80 i) ∙ empty-holds w
 
--- ---- the first test: a class that fails an equation on its qubit alone
-pub class-shut : (n : ℕ) (table : List Equation) (q v : ℕ) (choice : List ℕ) → classKey (codesOf choice q) ≡ v
-    → (w : Assignment) → w ≡ classAssignment n (codesOf choice)
-    → ((u : Assignment) → SameOn (2 ^ q) w u → Solves table u → ⊥)
-    → (d : ℕ → Clifford) → classKey (d q) ≡ v → Solves table (classAssignment n d) → ⊥
-class-shut n table q v choice here w e none d same s =
-    none (classAssignment n d)
-    (subst (λ u. SameOn (2 ^ q) u (classAssignment n d)) (sym e)
-    (one-place n q (codesOf choice) d (same ∙ sym here))) s
+-- nothing asked
+pub nothing-asked : (A : Equation → Type 0) → ((e : Equation) → A e → ⊥) → (table : List Equation) → Triangular table
+    → ((w : Assignment) → Solves table w) → TableOf A table
+nothing-asked A none table T S =
+    record { triangular = T; kept = λ w h. S w; asks = λ w s e a. absurd (none e a) }
 
--- the classes below v at qubit q are shut
-pub record ShutBelow (n : ℕ) (table : List Equation) (q v : ℕ) : Type 0 where
-  pub upto : v ≤ 6
-  pub shut : (u : ℕ) → u < v → (d : ℕ → Clifford) → classKey (d q) ≡ u → Solves table (classAssignment n d)
-      → ⊥
+-- ---- one equation more, if there is a common solution
+pub one-asked : (A B : Equation → Type 0) (table : List Equation) (e : Equation) (result : List Equation)
+    → TableOf A table → Inserted table e result → ((f : Equation) → B f → A f ⊎ (f ≡ e))
+    → ((f : Equation) → A f → B f) → B e → (v : Assignment) → ((f : Equation) → B f → fails f v ≡ false)
+    → TableOf B result
+one-asked A B table e result T I split old new v known =
+    record {
+      triangular = I .triangular;
+      kept = keep;
+      asks = λ w s f b. ask w s f (split f b);
+    }
+  where
+    keep : (w : Assignment) → ((f : Equation) → B f → fails f w ≡ false) → Solves result w
+    keep w h = I .kept w (h e new) (T .kept w (λ f a. h f (old f a)))
 
-pub none-shut : (n : ℕ) (table : List Equation) (q : ℕ) → ShutBelow n table q 0
-none-shut n table q = record { upto = zero-le; shut = λ u l. absurd (not-suc-le-zero l) }
+    ask : (w : Assignment) → Solves result w → (f : Equation) → A f ⊎ (f ≡ e) → fails f w ≡ false
+    ask w s f (inl a) = T .asks w (I .older w s) f a
+    ask w s f (inr p) = ap (λ f. fails f w) p ∙ I .constant w v s (keep v known) ∙ known e new
 
-pub one-shut : (n : ℕ) (table : List Equation) (q v : ℕ) → ShutBelow n table q v → v < 6
-    → ((d : ℕ → Clifford) → classKey (d q) ≡ v → Solves table (classAssignment n d) → ⊥)
-    → ShutBelow n table q (v + 1)
-one-shut n table q v S l here = record { upto = rw add-one l; shut = below-more _ _ (S .shut) here }
+pub asked-same : (A B : Equation → Type 0) (table : List Equation) → ((f : Equation) → B f → A f)
+    → ((f : Equation) → A f → B f) → TableOf A table → TableOf B table
+asked-same A B table back to T =
+    record {
+      triangular = T .triangular;
+      kept = λ w h. T .kept w (λ f a. h f (to f a));
+      asks = λ w s f b. T .asks w s f (back f b);
+    }
 
-pub all-shut : (n : ℕ) (table : List Equation) (q v : ℕ) → ShutBelow n table q v → 6 ≤ v → (d : ℕ → Clifford)
-    → Solves table (classAssignment n d) → ⊥
-all-shut n table q v S l d = S .shut (classKey (d q)) (lt-of-lt-of-le (classKey-lt (d q)) l) d refl
+-- ---- the equations have no unknowns from qubit n on
+by-words : (n : ℕ) (e : Equation) → ((q : ℕ) → n ≤ q → bit (e .a) q ≡ false) → ((q : ℕ) → n ≤ q → bit (e .b) q ≡ false)
+    → ((q : ℕ) → n ≤ q → bit (e .c) q ≡ false) → ((q : ℕ) → n ≤ q → bit (e .d) q ≡ false) → Short n e
+by-words n e a b c d j l = go (j % 4)
+  where
+    quarter : (n j : ℕ) → 4 * n ≤ j → n ≤ j / 4
+    quarter n j l = omega (arith, l)
+
+    go : (k : ℕ) → bit (wordAt k (e .a) (e .b) (e .c) (e .d)) (j / 4) ≡ false
+    go zero = a (j / 4) (quarter n j l)
+    go (suc zero) = b (j / 4) (quarter n j l)
+    go (suc (suc zero)) = c (j / 4) (quarter n j l)
+    go (suc (suc (suc k))) = d (j / 4) (quarter n j l)
+
+pub class-short : (n : ℕ) (g h : Generator) → Within n (generatorOf g) → Short n (classEquation g h)
+class-short n g h W =
+    by-words n (classEquation g h) (part (g .z) (h .x) (W .no-z)) (part (g .x) (h .x) (W .no-x))
+    (part (g .z) (h .z) (W .no-z)) (part (g .x) (h .z) (W .no-x))
+  where
+    part : (u v : ℕ) → ((q : ℕ) → n ≤ q → bit u q ≡ false) → (q : ℕ) → n ≤ q → bit (bitAnd u v) q ≡ false
+    part u v k q l = bit-and u v q ∙ ap (λ b. b && bit v q) (k q l)
+
+pub sign-short : (n : ℕ) (g : Generator) (s : Bool) → Within n (generatorOf g) → Short n (signEquation g s)
+sign-short n g s W =
+    by-words n (signEquation g s) (W .no-x) (W .no-z) (λ q l. zero-bit q) (λ q l. zero-bit q)
+
+-- ---- the equations on the classes
+module _ (n : ℕ) (first second : List Generator) where
+  pub class-start : (table : List Equation) → Triangular table → ((w : Assignment) → Solves table w)
+      → ClassTable n first second 0 0 table
+  class-start table T S = nothing-asked (ClassAsked n first second 0 0) (λ e a. none (a .3)) table T S
+    where
+      none : {s t : ℕ} → (s < 0) ⊎ ((s ≡ 0) × (t < 0)) → ⊥
+      none (inl l) = not-suc-le-zero l
+      none (inr p) = not-suc-le-zero (p .1)
+
+  pub class-more : (i j : ℕ) → j < n → (table : List Equation) (e : Equation) (result : List Equation)
+      → ClassTable n first second i j table → e ≡ classEquation (getD first i noGenerator) (getD second j noGenerator)
+      → Inserted table e result → ClassTable n first second i (j + 1) result
+  class-more i j l table e result T he I =
+      one-asked (ClassAsked n first second i j) (ClassAsked n first second i (j + 1)) table e result T I
+      (λ f b. split f (b .0) (b .1) (b .2) (b .3) (b .4))
+      (λ f a. (a .0, a .1, a .2, wider (a .3), a .4)) (i, j, l, inr (refl, omega arith), he) zeroAssignment
+      (λ f b. ap (λ f. fails f zeroAssignment) (b .4) ∙ fails-zero _)
+    where
+      wider : {s t : ℕ} → (s < i) ⊎ ((s ≡ i) × (t < j)) → (s < i) ⊎ ((s ≡ i) × (t < j + 1))
+      wider (inl l) = inl l
+      wider (inr p) = inr (p .0, up (p .1))
+        where
+          up : {t : ℕ} → t < j → t < j + 1
+          up l = omega (arith, l)
+
+      split : (f : Equation) (s t : ℕ) → t < n → (s < i) ⊎ ((s ≡ i) × (t < j + 1))
+          → f ≡ classEquation (getD first s noGenerator) (getD second t noGenerator)
+          → ClassAsked n first second i j f ⊎ (f ≡ e)
+      split f s t m (inl k) h = inl (s, t, m, inl k, h)
+      split f s t m (inr p) h = go (last-or (less (p .1)))
+        where
+          less : t < j + 1 → t < suc j
+          less l = omega (arith, l)
+
+          go : (t ≡ j) ⊎ (t < j) → ClassAsked n first second i j f ⊎ (f ≡ e)
+          go (inr k) = inl (s, t, m, inr (p .0, k), h)
+          go (inl q) =
+              inr (h ∙ ap₂ (λ s t. classEquation (getD first s noGenerator) (getD second t noGenerator)) (p .0) q ∙ sym he)
+
+  pub class-row : (i j : ℕ) → n ≤ j → (table : List Equation) → ClassTable n first second i j table
+      → ClassTable n first second (i + 1) 0 table
+  class-row i j l table T =
+      asked-same (ClassAsked n first second i j) (ClassAsked n first second (i + 1) 0) table
+      (λ f b. (b .0, b .1, b .2, back (b .1) (b .2) (b .3), b .4)) (λ f a. (a .0, a .1, a .2, to (a .3), a .4)) T
+    where
+      back : {s : ℕ} (t : ℕ) → t < n → (s < i + 1) ⊎ ((s ≡ i + 1) × (t < 0)) → (s < i) ⊎ ((s ≡ i) × (t < j))
+      back {s} t m (inl k) = go (last-or (less k))
+        where
+          less : s < i + 1 → s < suc i
+          less l = omega (arith, l)
+
+          go : (s ≡ i) ⊎ (s < i) → (s < i) ⊎ ((s ≡ i) × (t < j))
+          go (inr k) = inl k
+          go (inl p) = inr (p, wide m l)
+            where
+              wide : t < n → n ≤ j → t < j
+              wide a b = omega (arith, a, b)
+      back t m (inr p) = absurd (not-suc-le-zero (p .1))
+
+      to : {s t : ℕ} → (s < i) ⊎ ((s ≡ i) × (t < j)) → (s < i + 1) ⊎ ((s ≡ i + 1) × (t < 0))
+      to {s} (inl k) = inl (up k)
+        where
+          up : s < i → s < i + 1
+          up l = omega (arith, l)
+      to {s} (inr p) = inl (here (p .0))
+        where
+          here : s ≡ i → s < i + 1
+          here e = omega (arith, e)
+
+-- the code's table without equations
+pub empty-rows : (rows : List (List ℕ)) → rows ≡ emptyRows → Triangular (tableOf rows)
+empty-rows rows e = subst (λ r. Triangular (tableOf r)) (sym e) empty-table
+
+pub empty-rows-solved : (rows : List (List ℕ)) → rows ≡ emptyRows → (w : Assignment) → Solves (tableOf rows) w
+empty-rows-solved rows e w = subst (λ r. Solves (tableOf r) w) (sym e) (empty-solved w)

@@ -16,15 +16,8 @@ use Rattle.clifford.specs.Vectors.{codesOf}
 use Rattle.words.specs.Bits.{isOdd}
 use Rattle.comparison.proofs.NumberOrder.{class-of-code, classKey-of-code, signKey-of-code}
 use Rattle.comparison.specs.Choices.{classKey, signKey}
+use Rattle.comparison.specs.Searches.{withClass, withSigns}
 use Rattle.comparison.specs.Setting.{Bare, Codes, bare}
-
--- the class v and both signs plus at q
-abbrev pub withClass : List ℕ → ℕ → ℕ → List ℕ
-withClass choice q v = set choice q (4 * v)
-
--- the signs v at q, the class kept
-abbrev pub withSigns : List ℕ → ℕ → ℕ → List ℕ
-withSigns choice q v = set choice q (4 * (getD choice q 0 / 4) + v)
 
 module _ (choice : List ℕ) (q k : ℕ) (long : q < length choice) where
   code-here : codesOf (set choice q k) q ≡ cliffordOf k

@@ -12,13 +12,27 @@ use lib.Dec.{eqb}
 use borrow.Author.Count.{below-more}
 use borrow.Author.Tests.{eq-eqb, eqb-true}
 use Rattle.clifford.proofs.VectorLaws.{act-inverse}
-use Rattle.clifford.specs.Clifford.{Clifford, inverse}
+use Rattle.clifford.specs.Clifford.{Clifford, image, inverse}
 use Rattle.clifford.specs.Vectors.{act}
 use Rattle.graph.proofs.GraphGroups.{element-x}
 use Rattle.graph.specs.Graph.{graphGenerator}
 use Rattle.pauli.proofs.PhaseLaws.{minus-injective}
 use Rattle.pauli.proofs.WordRows.{signed-mul}
-use Rattle.pauli.specs.Pauli.{Pauli, anticommute, identity, imaginary, i⁰, minus, mul, row, signedRow}
+use Rattle.pauli.specs.Pauli.{
+  Pauli,
+  anticommute,
+  identity,
+  imaginary,
+  i⁰,
+  i²,
+  letter,
+  minus,
+  mul,
+  row,
+  scaled,
+  signedRow,
+  xBit,
+}
 use Rattle.pauli.specs.Rows.{generatorOf}
 use Rattle.pauli.specs.declared.Generator.{Generator}
 use Rattle.record.proofs.Maximality.{inclusion-same}
@@ -100,6 +114,11 @@ generator-times p g s h =
     ∙ sym (signed-mul 64 (p .z) (p .x) (g .z) (g .x) (p .minus) (g .minus) s h)
 
 -- ---- the product at the end
+-- the letters of an image do not depend on the sign
+act-x : (n : ℕ) (c : ℕ → Clifford) (p r : Pauli) → p .z ≡ r .z → p .x ≡ r .x → (act n c p) .x ≡ (act n c r) .x
+unfolding act
+act-x n c p r hz hx = λ i q. xBit (image (c q) (letter (hz i q) (hx i q)))
+
 pub guessed : (n : ℕ) (l : n ≤ 64) (rows : ℕ → Pauli) (frame : ℕ
     → Clifford) (F : Framed n rows frame) (p s : Pauli)
     → s ≡ act 64 frame p → (i : ℕ) (h : Pauli) → n ≤ i
@@ -110,79 +129,24 @@ guessed n l rows frame F p s e i h k M =
       right = λ a. whole ∙ ap (λ w. product n n w rows) (ap (λ r. r .x) (e
           ∙ act-wide n 64 l (element-within n n rows (framed-proper n rows frame F .within) a) frame))
           ∙ sym (element-word n rows frame F p a);
+      negative = λ a. whole ∙ ap (λ w. product n n w rows) (ap (λ r. r .x) (e
+          ∙ act-wide n 64 l (again (element-within n n rows (framed-proper n rows frame F .within) a)) frame)
+          ∙ letters) ∙ sym (element-word n rows frame F (scaled i² p) a);
     }
   where
+    again : Within n (scaled i² p) → Within n p
+    again W = record { no-x = W .no-x; no-z = W .no-z }
+
+    letters : (act n frame p) .x ≡ (act n frame (scaled i² p)) .x
+    letters = act-x n frame p (scaled i² p) refl refl
+
     whole : h ≡ product n n (s .x) rows
     whole = all-multiplied n rows (s .x) i h k M
 
--- ---- whether a row is an element
-pub is-element : (n : ℕ) (rows : ℕ → Pauli) → Proper n rows → (p h : Generator)
-    → Guessed n rows (generatorOf p) (generatorOf h)
-    → (((eqb (h .z) (p .z) && eqb (h .x) (p .x)) && Bool·beq (h .minus) (p .minus)) ≡ true)
-    ↔ InGroup n n rows (generatorOf p)
-is-element n rows P p h G = (
-  (λ e. subst (InGroup n n rows)
-      (λ i. signedRow (beq-true (h .minus) (p .minus) (parts e .1) i)
-      (eqb-true (h .z) (p .z) (parts e .0 .0) i)
-      (eqb-true (h .x) (p .x) (parts e .0 .1) i)) (G .element)),
-  (λ a. let same = G .right a in
-      ap₂ _&&_ (ap₂ _&&_ (eq-eqb (h .z) (p .z) (bit-ext∞ _ _ (λ q. ap (λ r. r .z q) same)))
-      (eq-eqb (h .x) (p .x) (bit-ext∞ _ _ (λ q. ap (λ r. r .x q) same))))
-      (ap (λ b. Bool·beq (h .minus) b) (sym (minus-injective (h .minus) (p .minus) (ap (λ r. r .phase) same)))
-      ∙ beq-refl (h .minus))),
-)
-  where
-    parts : ((eqb (h .z) (p .z) && eqb (h .x) (p .x)) && Bool·beq (h .minus) (p .minus)) ≡ true
-        → ((eqb (h .z) (p .z) ≡ true) × (eqb (h .x) (p .x) ≡ true)) × (Bool·beq (h .minus) (p .minus) ≡ true)
-    parts e =
-        let s = both-true (eqb (h .z) (p .z) && eqb (h .x) (p .x)) (Bool·beq (h .minus) (p .minus)) e in
-        (both-true (eqb (h .z) (p .z)) (eqb (h .x) (p .x)) (s .0), s .1)
-
--- ---- a choice works exactly if it sends the generators into the other group
+-- ---- a choice works if it sends the generators into the other group
 pub carried-all : (n : ℕ) (rows others : ℕ → Pauli) → Proper n rows → Proper n others → (c : ℕ → Clifford)
     → ((j : ℕ) → j < n → InGroup n n others (act n c (rows j))) → carries n c rows others ≡ true
 carried-all n rows others P P′ c h =
     carries-is n c rows others (P .within) (P′ .within) .1
     (carries-same n c rows others .1
     (inclusion-same n (λ j. act n c (rows j)) others (act-proper n c rows P) P′ h))
-
-pub carried-not : (n : ℕ) (rows others : ℕ → Pauli) → Proper n rows → Proper n others → (c : ℕ → Clifford)
-    → (j : ℕ) → j < n → (InGroup n n others (act n c (rows j)) → ⊥) → carries n c rows others ≡ false
-carried-not n rows others P P′ c j l h = go (carries n c rows others) refl
-  where
-    go : (b : Bool) → carries n c rows others ≡ b → b ≡ false
-    go true e = absurd (h
-        (carries-is n c rows others (P .within) (P′ .within) .0 e .into (rows j) (in-row n n rows j l)))
-    go false e = refl
-
--- the code's loop over the generators: those below j are sent into the group
-pub record SentInto (n : ℕ) (rows others : ℕ → Pauli) (c : ℕ → Clifford) (j : ℕ) : Type 0 where
-  pub upto : j ≤ n
-  pub into : (i : ℕ) → i < j → InGroup n n others (act n c (rows i))
-
-pub none-sent : (n : ℕ) (rows others : ℕ → Pauli) (c : ℕ → Clifford) → SentInto n rows others c 0
-none-sent n rows others c = record { upto = zero-le; into = λ i l. absurd (not-suc-le-zero l) }
-
-module _ (n : ℕ) (l : n ≤ 64) (rows others : ℕ → Pauli) (P : Proper n rows) (P′ : Proper n others) (c : ℕ
-    → Clifford)
-    (j : ℕ) (more : j < n) (p : Pauli) (sent : p ≡ act 64 c (rows j)) where
-  sent-wide : p ≡ act n c (rows j)
-  sent-wide = sent ∙ act-wide n 64 l (P .within j more) c
-
-  pub one-sent : SentInto n rows others c j → InGroup n n others p → SentInto n rows others c (j + 1)
-  one-sent S a =
-      record {
-        upto = rw add-one more;
-        into =
-            below-more _ _ (S .into) (subst (InGroup n n others) sent-wide a);
-      }
-
-  pub one-not-sent : (InGroup n n others p → ⊥) → false ≡ carries n c rows others
-  one-not-sent h =
-      sym (carried-not n rows others P P′ c j more (λ a. h (subst (InGroup n n others) (sym sent-wide) a)))
-
-pub all-sent : (n : ℕ) (rows others : ℕ → Pauli) → Proper n rows → Proper n others
-    → (c : ℕ → Clifford) (j : ℕ) → n ≤ j
-    → SentInto n rows others c j → true ≡ carries n c rows others
-all-sent n rows others P P′ c j l S =
-    sym (carried-all n rows others P P′ c (λ i k. S .into i (lt-of-lt-of-le k l)))

@@ -34,48 +34,10 @@ use Rattle.words.proofs.SearchLaws.{first-is}
 use Rattle.words.proofs.Sums.{fold-ext, lt-or-ge}
 use Rattle.words.specs.Bits.{Word}
 use Rattle.words.specs.Search.{IsFirst, first}
+use Rattle.comparison.proofs.KeyOrder.{keys-least}
 use Rattle.comparison.proofs.Least.{carries-agree}
-use Rattle.comparison.proofs.NumberOrder.{class-injective, code-of-keys}
 use Rattle.comparison.specs.Choices.{Agree, Before, FirstDiffers, LeastChoice, classKey, signKey}
 use Rattle.comparison.specs.Settled.{Settled}
-
--- ---- the first place where two functions differ, or none
-abbrev Equal : ℕ → (ℕ → ℕ) → (ℕ → ℕ) → Type 0
-Equal n f g = (q : ℕ) → q < n → f q ≡ g q
-
-record Differs (n : ℕ) (f g : ℕ → ℕ) : Type 0 where
-  place : ℕ
-  below : place < n
-  unequal : f place ≡ g place → ⊥
-  before : (t : ℕ) → t < place → f t ≡ g t
-
-module _ (n : ℕ) (f g : ℕ → ℕ) where
-  abbrev differ : ℕ → Bool
-  differ q = not (eqb (f q) (g q))
-
-  same : (q : ℕ) → differ q ≡ false → f q ≡ g q
-  same q e = eqb-true (f q) (g q) (not-false (eqb (f q) (g q)) e)
-
-  unlike : (q : ℕ) → differ q ≡ true → f q ≡ g q → ⊥
-  unlike q e h = true≢false (sym (eq-eqb (f q) (g q) h) ∙ not-true (eqb (f q) (g q)) e)
-
-  differ-or-not : Differs n f g ⊎ Equal n f g
-  differ-or-not = go (first-is n differ)
-    where
-      go : IsFirst n differ (first n differ) ⊎ ((i : ℕ) → i < n → differ i ≡ false) → Differs n f g ⊎ Equal n f g
-      go (inl F) = inl (record {
-        place = first n differ;
-        below = F .below;
-        unequal = unlike (first n differ) (F .passes);
-        before = λ t l. same t (F .least t l);
-      })
-      go (inr h) = inr (λ q l. same q (h q l))
-
-less : (a b : ℕ) → a ≤ b → (a ≡ b → ⊥) → a < b
-less a b l d = omega (arith, l, d)
-
-equal-codes : (c d : Clifford) → classKey c ≡ classKey d → signKey c ≡ signKey d → c ≡ d
-equal-codes c d e f = sym (code-of-keys c) ∙ ap₂ (λ a b. cliffordOf (4 * a + b)) e f ∙ code-of-keys d
 
 -- ---- settled everywhere
 module _ (n : ℕ) (r t : GraphRecord) (R : Simple n (r .graph)) (T : Simple n (t .graph)) where
@@ -86,35 +48,9 @@ module _ (n : ℕ) (r t : GraphRecord) (R : Simple n (r .graph)) (T : Simple n (
         among = carries-same n c (rowsOf n r) (rowsOf n t) .1
             (inclusion-same n (λ j. act n c (rowsOf n r j)) (rowsOf n t)
             (act-proper n c (rowsOf n r) (record-proper n r R)) (record-proper n t T) (λ j l. S j l .sent));
-        least = λ d K. classes d K (differ-or-not n (λ q. classKey (c q)) (λ q. classKey (d q)));
+        least = λ d K. keys-least n c d (λ q l h. S q l .class-least d K (λ u k _. h u k))
+            (λ e q l h. S q l .sign-least d K (λ u k _. e u k) (λ u k _. h u k));
       }
-    where
-      signs : (d : ℕ → Clifford) → Carries n d (rowsOf n r) (rowsOf n t)
-          → Equal n (λ q. classKey (c q)) (λ q. classKey (d q))
-          → Differs n (λ q. signKey (c q)) (λ q. signKey (d q)) ⊎ Equal n (λ q. signKey (c q)) (λ q. signKey (d q))
-          → Agree n c d ⊎ Before n c d
-      signs d K h (inr e) = inl (λ q l. equal-codes (c q) (d q) (h q l) (e q l))
-      signs d K h (inl D) = inr (inr (
-        (λ q l. class-injective _ _ (h q l)),
-        (
-          D .place,
-          D .below,
-          D .before,
-          less _ _ (S (D .place) (D .below) .sign-least d K (λ u l _. h u l) (λ u l _. D .before u l)) (D .unequal),
-        ),
-      ))
-
-      classes : (d : ℕ → Clifford) → Carries n d (rowsOf n r) (rowsOf n t)
-          → Differs n (λ q. classKey (c q)) (λ q. classKey (d q))
-          ⊎ Equal n (λ q. classKey (c q)) (λ q. classKey (d q))
-          → Agree n c d ⊎ Before n c d
-      classes d K (inl D) = inr (inl (
-        D .place,
-        D .below,
-        D .before,
-        less _ _ (S (D .place) (D .below) .class-least d K (λ u l _. D .before u l)) (D .unequal),
-      ))
-      classes d K (inr h) = signs d K h (differ-or-not n (λ q. signKey (c q)) (λ q. signKey (d q)))
 
   -- ---- the part alone matters
   act-on : (f g : ℕ → Clifford) (p : Pauli)

@@ -7,7 +7,7 @@ use Prim.Native.Nat.{_<_, ℕ}
 use Rattle.clifford.proofs.CliffordLaws.{fromFive, onClifford, phaseAfter}
 use Rattle.clifford.specs.Clifford.{Clifford, image}
 use Rattle.clifford.specs.Vectors.{act}
-use Rattle.pauli.proofs.PauliLaws.{mul-x, mul-z}
+use Rattle.pauli.proofs.PauliLaws.{Pauli-path, mul-x, mul-z}
 use Rattle.pauli.proofs.PhaseLaws.{+ᵖ-assoc, minus-injective, minus-⊕, phases, sumPhase-add}
 use Rattle.pauli.specs.Pauli.{_+ᵖ_, Pauli, identity, i⁰, letterAt, minus, mul, sumPhase, xBit, zBit}
 use Rattle.pauli.specs.Rows.{generatorOf}
@@ -149,3 +149,42 @@ module _ (n : ℕ) (rows others : ℕ → Pauli) (P : Proper n rows) (P′ : Pro
           ∙ ap (λ r. r .phase +ᵖ minus (fails (signEquation g false) (signAssignment n d))) (sym bares)
           ∙ sym (image-sign n d g row-within)
           ∙ ap (λ r. r .phase) (letters-determine n others P′ carried eh letter-z letter-x)
+
+-- ---- and a choice that solves the equation sends the row to the element
+pub sign-sends : (n : ℕ) (rows others : ℕ → Pauli) → Proper n rows → Proper n others → (d : ℕ → Clifford) (i : ℕ)
+    → i < n → (g : Generator) → generatorOf g ≡ rows i
+    → (c : ℕ → Clifford) → ((q : ℕ) → q < n → classKey (d q) ≡ classKey (c q))
+    → (p h : Generator) → generatorOf p ≡ act n (λ q. bare (c q)) (generatorOf g) → p .z ≡ h .z → p .x ≡ h .x
+    → fails (signEquation g (p .minus ⊕ h .minus)) (signAssignment n d) ≡ false
+    → act n d (generatorOf g) ≡ generatorOf h
+unfolding act
+sign-sends n rows others P P′ d i li g eg c hc p h ep ez ex e = Pauli-path phase letter-z letter-x
+  where
+    within : Within n (generatorOf g)
+    within = subst (Within n) (sym eg) (P .within i li)
+
+    bares : act n (λ q. bare (d q)) (generatorOf g) ≡ generatorOf p
+    bares =
+        act-agree n rows others (P .within) (P′ .within) (λ q. bare (d q)) (λ q. bare (c q))
+        (λ q l. ap (λ m. record { class = m; sx = false; sz = false }) (class-injective _ _ (hc q l)))
+        (generatorOf g) within
+        ∙ sym ep
+
+    letter-z : (q : ℕ) → (act n d (generatorOf g)) .z q ≡ bit (h .z) q
+    letter-z q =
+        ap zBit (sym (image-bare (d q) (letterAt (generatorOf g) q))) ∙ ap (λ r. r .z q) bares
+        ∙ ap (λ w. bit w q) ez
+
+    letter-x : (q : ℕ) → (act n d (generatorOf g)) .x q ≡ bit (h .x) q
+    letter-x q =
+        ap xBit (sym (image-bare (d q) (letterAt (generatorOf g) q))) ∙ ap (λ r. r .x q) bares
+        ∙ ap (λ w. bit w q) ex
+
+    change : fails (signEquation g false) (signAssignment n d) ≡ p .minus ⊕ h .minus
+    change = ⊕-cancel _ _ (sym (asked g (p .minus ⊕ h .minus) (signAssignment n d)) ∙ e)
+
+    phase : (act n d (generatorOf g)) .phase ≡ minus (h .minus)
+    phase =
+        image-sign n d g within ∙ ap₂ (λ r b. r .phase +ᵖ minus b) bares change
+        ∙ sym (minus-⊕ (p .minus) (p .minus ⊕ h .minus))
+        ∙ ap minus (bits 2 (λ a b. a ⊕ (a ⊕ b)) (λ a b. b) tt (p .minus) (h .minus))

@@ -4,10 +4,9 @@ use comparison::Equation;
 use words::has;
 use words::odd;
 ghost use mathlib.Core.Path.{_≡_};
-ghost use mathlib.Core.Bool.{false, true};
-ghost use Prim.Native.Nat.{_<_, _≤_};
-ghost use Rattle.comparison.specs.declared.Assignment.{Assignment};
-ghost use Rattle.comparison.specs.Equations.{SameOn, Solves, added, equationAt, fails, span};
+ghost use mathlib.Core.Bool.{false};
+ghost use Prim.Native.Nat.{ℕ, _<_, _≤_};
+ghost use Rattle.comparison.specs.Equations.{Inserted, QubitTested, Triangular, added, equationOf, fails, span, tableOf, unknown};
 
 // The sum of two equations.
 fn add(e: Equation, f: Equation) -> Equation
@@ -40,6 +39,7 @@ fn span(e: Equation) -> u64
 // Whether an equation has unknown i % 4 at qubit i / 4.
 fn has_unknown(e: Equation, i: usize) -> bool
     requires { ⌜ i < 80 ⌝ }
+    ensures { λ r. ⌜ r ≡ unknown e i ⌝ }
 {
     match i % 4 {
         0 => has(e.a, i / 4),
@@ -49,45 +49,55 @@ fn has_unknown(e: Equation, i: usize) -> bool
     }
 }
 
-// The equation at a place of the table.
-fn equation_at(table: [Equation; 80], i: usize) -> Equation
-    requires { ⌜ i < 80 ⌝ }
-    ensures { λ r. ⌜ r ≡ equationAt table i ⌝ }
+// The equation of a row.
+fn equation(row: [u64; 5]) -> Equation
+    ensures { λ r. ⌜ r ≡ equationOf row ⌝ }
 {
-    table[i]
+    Equation {
+        a: row[0],
+        b: row[1],
+        c: row[2],
+        d: row[3],
+        sum: row[4] == 1,
+    }
 }
 
-// The table with an equation stored, or a sum of it with stored ones, at the place of its last unknown, or with
-// nothing stored.
-pub fn insert(mut table: [Equation; 80], m: usize, e: Equation) -> [Equation; 80]
-    requires { ⌜ m ≤ 80 ⌝ }
-    ensures { λ r. ⌜ ((w : Assignment) → fails e w ≡ false → Solves table w → Solves r w) ⌝ }
+// The row of an equation.
+fn row(e: Equation) -> [u64; 5]
+    ensures { λ r. ⌜ equationOf r ≡ e ⌝ }
+{
+    [e.a, e.b, e.c, e.d, if e.sum { 1 } else { 0 }]
+}
+
+// Stores an equation, or a sum of it with stored ones, at the place of its last unknown, or nothing.
+pub fn insert(table: &mut [[u64; 5]; 80], m: usize, e: Equation)
+    requires { ⌜ (m ≤ 80) × Triangular (tableOf (now table)) × ((j : ℕ) → m ≤ j → unknown e j ≡ false) ⌝ }
+    ensures { λ r. ⌜ Inserted (tableOf (now (table .entry))) e (tableOf (now (table .exit))) ⌝ }
 {
     let mut left = e;
     let mut i = m;
     while 0 < i {
         i -= 1;
         if has_unknown(left, i) {
-            let p = equation_at(table, i);
+            let p = equation(table[i]);
             if span(p) == 0 {
-                table[i] = left;
-                return table;
+                table[i] = row(left);
+                return;
             }
             left = add(left, p);
         }
     }
-    table
 }
 
-// Whether an equation of qubit q, with unknowns at the qubits of the mask only, fails.
-pub fn broken(table: [Equation; 80], q: usize, m: u64, w: Assignment) -> bool
+// Whether an equation of qubit q fails: one whose last unknown is of qubit q.
+pub fn broken(table: &[[u64; 5]; 80], q: usize, w: Assignment) -> bool
     requires { ⌜ q < 20 ⌝ }
-    ensures { λ r. ⌜ (r ≡ true → (v : Assignment) → SameOn m w v → Solves table v → ⊥) ⌝ }
+    ensures { λ r. ⌜ QubitTested (tableOf (now (table .entry))) q w r ⌝ }
 {
     let mut i = 4 * q;
     while i < 4 * q + 4 {
-        let e = equation_at(table, i);
-        if (span(e) | m == m) & fails(e, w) {
+        let e = equation(table[i]);
+        if fails(e, w) {
             return true;
         }
         i += 1;

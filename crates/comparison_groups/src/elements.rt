@@ -4,15 +4,12 @@ use pauli::Generator;
 use pauli::letters_minus;
 use words::has;
 ghost use mathlib.Core.Path.{_≡_};
-ghost use mathlib.Core.Bool.{false, true};
-ghost use mathlib.Core.Logic.{_↔_};
+ghost use mathlib.Core.Bool.{false};
 ghost use Prim.Native.Nat.{_≤_};
 ghost use Rattle.pauli.specs.Pauli.{anticommute, mul};
 ghost use Rattle.pauli.specs.Rows.{generatorOf};
 ghost use Rattle.clifford.specs.Vectors.{codesOf};
-ghost use Rattle.stabilizer.specs.Groups.{InGroup};
-ghost use Rattle.comparison.specs.Choices.{carries};
-ghost use Rattle.comparison.specs.Setting.{Codes, Framed, Guessed, Setting, generatorsOf};
+ghost use Rattle.comparison.specs.Setting.{Codes, Framed, Guessed, generatorsOf};
 
 // The product of two generators that commute.
 fn times(p: Generator, g: Generator) -> Generator
@@ -27,7 +24,7 @@ fn times(p: Generator, g: Generator) -> Generator
     }
 }
 
-// An element of the second group: the row itself if that is one.
+// An element of the second group: the row itself, or its negative, if that is one.
 pub fn element(n: usize, second: [Generator; 20], frame: [u8; 20], p: Generator) -> Generator
     requires { ⌜ (n ≤ 20) × Framed n (generatorsOf second) (codesOf frame) × Codes frame ⌝ }
     ensures { λ r. ⌜ Guessed n (generatorsOf second) (generatorOf p) (generatorOf r) ⌝ }
@@ -48,35 +45,4 @@ pub fn element(n: usize, second: [Generator; 20], frame: [u8; 20], p: Generator)
         j += 1;
     }
     h
-}
-
-// Whether a row is an element of the second group.
-fn is_element(n: usize, second: [Generator; 20], frame: [u8; 20], p: Generator) -> bool
-    requires { ⌜ (n ≤ 20) × Framed n (generatorsOf second) (codesOf frame) × Codes frame ⌝ }
-    ensures { λ r. ⌜ (r ≡ true) ↔ InGroup n n (generatorsOf second) (generatorOf p) ⌝ }
-{
-    let h = element(n, second, frame, p);
-    ((h.z == p.z) & (h.x == p.x)) & (h.minus == p.minus)
-}
-
-// Whether a choice carries the first group onto the second.
-pub fn carries(
-    n: usize,
-    first: [Generator; 20],
-    second: [Generator; 20],
-    frame: [u8; 20],
-    choice: [u8; 20],
-) -> bool
-    requires { ⌜ Setting n first second frame × Codes choice ⌝ }
-    ensures { λ r. ⌜ r ≡ carries n (codesOf choice) (generatorsOf first) (generatorsOf second) ⌝ }
-{
-    let mut j = 0;
-    while j < n {
-        let p = send(first[j], &choice);
-        if !is_element(n, second, frame, p) {
-            return false;
-        }
-        j += 1;
-    }
-    true
 }

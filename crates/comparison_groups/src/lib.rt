@@ -1,10 +1,9 @@
-// The two groups of a comparison: the generators of a record, the elements of a group, whether a choice carries the one
-// onto the other, and the codes that it induces.
+// The two groups of a comparison: the generators of a record, the elements of a group, and the codes that a choice
+// induces.
 mod elements;
 mod induced;
 mod records;
 
-pub use elements::carries;
 pub use elements::element;
 pub use induced::induced_codes;
 pub use records::generators;

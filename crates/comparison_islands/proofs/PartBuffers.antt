@@ -13,15 +13,16 @@ use Rattle.buffers.proofs.Tabulate.{tabulate-at, tabulate-length}
 use Rattle.clifford.specs.Clifford.{Clifford, cliffordOf}
 use Rattle.clifford.specs.Vectors.{act, codesOf}
 use Rattle.comparison.proofs.ComparedRecords.{same-answer}
+use Rattle.comparison.proofs.ConnectedParts.{part-connected}
 use Rattle.comparison.proofs.Least.{act-agree}
 use Rattle.comparison.specs.Searches.{LeastAnswer}
-use Rattle.comparison.specs.Setting.{Codes, SoundRecord, heldGenerators}
+use Rattle.comparison.specs.Setting.{Codes, Connected, SoundRecord, heldGenerators}
 use Rattle.graph.proofs.GraphGroups.{graph-proper}
 use Rattle.graph.specs.Graph.{Graph, Simple, graphGenerator}
 use Rattle.graph.specs.NeighbourWords.{graphIn}
 use Rattle.parts.proofs.PlacedRows.{part-simple}
 use Rattle.parts.specs.Numbered.{Numbers, partGraph}
-use Rattle.parts.specs.Parts.{Closed}
+use Rattle.parts.specs.Parts.{Closed, partOf}
 use Rattle.parts_records.specs.Listed.{partCodes, partWord, partWords}
 use Rattle.pauli.specs.Pauli.{Pauli}
 use Rattle.record.proofs.ReducedRecords.{record-proper}
@@ -73,6 +74,9 @@ module _ (n : ℕ) (nb cs : List ℕ) (s : Word) (k : ℕ) (at : List ℕ) (N : 
   small : Simple k (partGraph k e (graphIn nb))
   small = part-simple n s k e N (graphIn nb) (S .simple) C
 
+  pub words-connected : ((i j : ℕ) → i < k → j < k → partOf n (graphIn nb) (e i) (e j) ≡ true) → Connected k (graphIn words)
+  words-connected t = subst (Connected k) (sym graph-is) (part-connected n (graphIn nb) s k e N C t)
+
   pub part-sound : SoundRecord k words numbers
   part-sound =
       record {
@@ -114,6 +118,10 @@ module _ (n : ℕ) (nb cs nb₂ cs₂ : List ℕ) (island k : ℕ) (at : List �
   pub second-sound : SoundRecord k words₂ numbers₂
   second-sound =
       part-sound n nb₂ cs₂ (bit island) k at (G .numbers) (G .pair .second) (G .closed₂) words₂ numbers₂ ew₂ en₂
+
+  pub first-connected : Connected k (graphIn words)
+  first-connected =
+      words-connected n nb cs (bit island) k at (G .numbers) (G .pair .first) (G .closed) words numbers ew en (G .together)
 
   pub part-answered : (found : Bool) (choice : List ℕ)
       → LeastAnswer k (heldGenerators k words numbers) (heldGenerators k words₂ numbers₂) found choice

@@ -13,7 +13,7 @@ use Rattle.comparison.specs.Setting.{Codes, SoundRecord}
 use Rattle.cut.specs.Kernel.{count}
 use Rattle.graph.specs.NeighbourWords.{graphIn}
 use Rattle.parts.specs.Numbered.{Numbers, partGraph}
-use Rattle.parts.specs.Parts.{Closed, partAbove}
+use Rattle.parts.specs.Parts.{Closed, partAbove, partOf}
 use Rattle.parts_words.specs.Spreads.{PartWord}
 use Rattle.record.specs.Lent.{heldRecord}
 use Rattle.record.specs.Records.{GraphRecord, rowsOf}
@@ -30,13 +30,14 @@ pub record SoundPair (n : ℕ) (nb cs nb₂ cs₂ : List ℕ) : Type 0 where
   pub first : SoundRecord n nb cs
   pub second : SoundRecord n nb₂ cs₂
 
--- .. and k vertices, listed, that no edge of either graph leaves
+-- .. and k vertices, listed, that no edge of either graph leaves, of one part of the first
 pub record NumberedPair (n : ℕ) (nb cs nb₂ cs₂ : List ℕ) (island k : ℕ) (at : List ℕ) : Type 0 where
   pub pair : SoundPair n nb cs nb₂ cs₂
   pub few : k ≤ 20
   pub numbers : Numbers n (bit island) k (λ i. getD at i 0)
   pub closed : Closed n (graphIn nb) (bit island)
   pub closed₂ : Closed n (graphIn nb₂) (bit island)
+  pub together : (i j : ℕ) → i < k → j < k → partOf n (graphIn nb) (getD at i 0) (getD at j 0) ≡ true
 
 -- a record in the numbers of a part
 abbrev pub partOfRecord : ℕ → List ℕ → GraphRecord → GraphRecord

@@ -131,10 +131,6 @@ module _ (n : ℕ) (nb cs nb₂ cs₂ : List ℕ) (island : ℕ) (P : SoundPair 
           onto = λ q l a. M .onto q (lt-of-lt-of-le l (P .upto)) a;
         }
 
-    pub numbered-pair : NumberedPair n nb cs nb₂ cs₂ island k at
-    numbered-pair =
-        record { pair = P; few = few; numbers = numbers; closed = island-closed; closed₂ = D }
-
     abbrev e : ℕ → ℕ
     e i = getD at i 0
 
@@ -151,6 +147,10 @@ module _ (n : ℕ) (nb cs nb₂ cs₂ : List ℕ) (island : ℕ) (P : SoundPair 
         part-together n (graphIn nb) (P .first .simple .symmetric) (I .vertex) (e i) (e j) (I .below)
         (numbers .below i l) (numbers .below j m) (sym (I .word .marks (e i) (numbers .below i l)) ∙ M .inside i l)
         (sym (I .word .marks (e j) (numbers .below j m)) ∙ M .inside j m)
+
+    pub numbered-pair : NumberedPair n nb cs nb₂ cs₂ island k at
+    numbered-pair =
+        record { pair = P; few = few; numbers = numbers; closed = island-closed; closed₂ = D; together = together }
 
     module _ (found : Bool) (chosen : List ℕ) (A : PartAnswer n nb cs nb₂ cs₂ k at found chosen) where
       pub part-refused : found ≡ false → (choice : List ℕ) → IslandAnswer n r t island choice false choice

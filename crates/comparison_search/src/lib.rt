@@ -1,18 +1,20 @@
-// The search for the least choice, classes in rising order and then signs, and the comparison of two records by it.
-use comparison::Equation;
-use comparison_equations::class_words;
-use comparison_equations::sign_words;
-use comparison_groups::carries;
+// The least choice: for each qubit in turn the first class that the equations allow, then for each the first signs; and
+// the comparison of two records by it. Neither loop steps back: at most 6 classes and 4 signs are tried at a qubit.
 use comparison_groups::generators;
 use comparison_groups::inverses;
-use comparison_tables::any_shut;
 use comparison_tables::class_table;
-use comparison_tables::cut;
+use comparison_tables::least_class;
+use comparison_tables::least_sign;
 use comparison_tables::sign_table;
 use pauli::Generator;
+ghost use mathlib.Core.Path.{_≡_};
 ghost use Prim.Native.Nat.{_≤_};
-ghost use Rattle.comparison.specs.Searches.{ClassState, ClassesAnswered, LeastAnswer, SignState, SignsAnswered};
-ghost use Rattle.comparison.specs.Setting.{Setting, SoundRecord, generatorsOf, heldGenerators};
+ghost use lib.ListN.{length};
+ghost use Rattle.comparison.specs.Choices.{classKey, signKey};
+ghost use Rattle.comparison.specs.Equations.{Triangular, classAssignment, signAssignment, tableOf};
+ghost use Rattle.comparison.specs.Searches.{ClassesAnswered, Extendable, LeastAnswer, SignsChosen};
+ghost use Rattle.comparison.specs.Setting.{Codes, Connected, Setting, SoundRecord, generatorsOf, heldGenerators};
+ghost use Rattle.graph.specs.NeighbourWords.{graphIn};
 
 // Whether a choice was found, and the choice.
 pub struct Answer {
@@ -20,85 +22,46 @@ pub struct Answer {
     pub choice: [u8; 20],
 }
 
-// The least choice that works with the classes given and the signs given below q.
-fn search_signs(
-    n: usize,
-    first: [Generator; 20],
-    second: [Generator; 20],
-    frame: [u8; 20],
-    table: [Equation; 80],
-    choice: [u8; 20],
-    q: usize,
-) -> Answer
-    requires { ⌜ SignState n first second frame table choice q ⌝ }
-    ensures { λ r. ⌜ SignsAnswered n first second q choice (r .found) (r .choice) ⌝ }
+// For each qubit in turn the first class that the equations allow. There is none at the first qubit, or always one.
+fn least_classes(n: usize, table: &[[u64; 5]; 80]) -> Answer
+    requires { ⌜ (n ≤ 20) × Triangular (tableOf (now table))
+        × Extendable (classAssignment n) classKey 1 n (tableOf (now table)) ⌝ }
+    ensures { λ r. ⌜ ClassesAnswered n (tableOf (now (table .entry))) (r .found) (r .choice) ⌝ }
 {
-    let w = sign_words(n, choice);
-    if cut(table, q, w) {
-        return Answer {
-            found: false,
-            choice,
-        };
-    }
-    if q == n {
-        let found = carries(n, first, second, frame, choice);
-        return Answer { found, choice };
-    }
-    let mut v = 0u8;
-    while v < 4 {
-        let mut next = choice;
-        next[q] = 4 * (choice[q] / 4) + v;
-        let answer = search_signs(n, first, second, frame, table, next, q + 1);
-        if answer.found {
-            return answer;
+    let mut choice = [0u8; 20];
+    let mut q = 0;
+    while q < n {
+        let v = least_class(table, n, choice, q);
+        if 6 <= v {
+            return Answer {
+                found: false,
+                choice,
+            };
         }
-        v += 1;
+        choice[q] = 4 * v;
+        q += 1;
     }
     Answer {
-        found: false,
+        found: true,
         choice,
     }
 }
 
-// The least choice that works with the classes given below q.
-fn search_classes(
-    n: usize,
-    first: [Generator; 20],
-    second: [Generator; 20],
-    frame: [u8; 20],
-    table: [Equation; 80],
-    choice: [u8; 20],
-    q: usize,
-) -> Answer
-    requires { ⌜ ClassState n first second frame table choice q ⌝ }
-    ensures { λ r. ⌜ ClassesAnswered n first second q choice (r .found) (r .choice) ⌝ }
+// For each qubit in turn the first signs that the equations allow, the classes kept.
+fn least_signs(n: usize, table: &[[u64; 5]; 80], classes: [u8; 20]) -> [u8; 20]
+    requires { ⌜ (n ≤ 20) × Triangular (tableOf (now table))
+        × Extendable (signAssignment n) signKey 0 n (tableOf (now table)) ⌝ }
+    requires { ⌜ Codes classes ⌝ }
+    ensures { λ r. ⌜ SignsChosen n (tableOf (now (table .entry))) classes n r ⌝ }
 {
-    let w = class_words(n, choice);
-    if cut(table, q, w) {
-        return Answer {
-            found: false,
-            choice,
-        };
+    let mut choice = classes;
+    let mut q = 0;
+    while q < n {
+        let v = least_sign(table, n, choice, q);
+        choice[q] = 4 * (choice[q] / 4) + v;
+        q += 1;
     }
-    if q == n {
-        let signs = sign_table(n, first, second, frame, choice);
-        let answer = search_signs(n, first, second, frame, signs, choice, 0);
-        return answer;
-    }
-    let mut v = 0u8;
-    while v < 6 {
-        let mut next = choice;
-        next[q] = 4 * v;
-        let answer = search_classes(n, first, second, frame, table, next, q + 1);
-        if answer.found {
-            return answer;
-        }
-        v += 1;
-    }
-    Answer {
-        found: false,
-        choice,
-    }
+    choice
 }
 
 // The least choice that carries the first group onto the second.
@@ -111,16 +74,20 @@ fn least_choice(
     requires { ⌜ Setting n first second frame ⌝ }
     ensures { λ r. ⌜ LeastAnswer n (generatorsOf first) (generatorsOf second) (r .found) (r .choice) ⌝ }
 {
-    let table = class_table(n, first, second);
-    let none = [0u8; 20];
-    if any_shut(table, n) {
-        return Answer {
-            found: false,
-            choice: none,
-        };
+    let mut table = [[0u64; 5]; 80];
+    class_table(&mut table, n, first, second);
+    let answer = least_classes(n, &table);
+    if !answer.found {
+        return answer;
     }
-    let answer = search_classes(n, first, second, frame, table, none, 0);
-    answer
+    let classes = answer.choice;
+    let mut signs = [[0u64; 5]; 80];
+    sign_table(&mut signs, n, first, second, frame, classes);
+    let choice = least_signs(n, &signs, classes);
+    Answer {
+        found: true,
+        choice,
+    }
 }
 
 // The least choice that carries the group of the first record onto that of the second.
@@ -132,7 +99,7 @@ pub fn compare_records(
     codes2: &[u8],
 ) -> Answer
     requires { ⌜ (n ≤ 20) × SoundRecord n (now neighbours) (now codes) ⌝ }
-    requires { ⌜ SoundRecord n (now neighbours2) (now codes2) ⌝ }
+    requires { ⌜ SoundRecord n (now neighbours2) (now codes2) × Connected n (graphIn (now neighbours)) ⌝ }
     ensures { λ r. ⌜ LeastAnswer n (heldGenerators n (now (neighbours .entry)) (now (codes .entry)))
         (heldGenerators n (now (neighbours2 .entry)) (now (codes2 .entry))) (r .found) (r .choice) ⌝ }
 {

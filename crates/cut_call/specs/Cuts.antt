@@ -2,11 +2,10 @@
 -- Assumes nothing.
 use mathlib.Core.Bool.{_||_}
 use mathlib.Core.List.{List, [], _∷_}
-use mathlib.Core.Path.{_≡_}
 use Prim.Native.Nat.{_^_, ℕ}
 use lib.Dec.{leb}
-use Rattle.buffers.specs.Buffers.{acceptedNumber}
-use Rattle.buffers.specs.Refusals.{Line, badCount, firstFitting, line}
+use Rattle.buffers.specs.Refusals.{Line, badCount, line}
+use Rattle.contracts.specs.Calls.{Contract, contract, number}
 use Rattle.cut.specs.Cut.{cutRank}
 use Rattle.record.specs.Lent.{LentRecord, heldRecord, notSimple, recordCodes, recordLengths, recordStray}
 use Rattle.words.specs.Bits.{bit}
@@ -19,6 +18,6 @@ cutLines l side =
 
 -- ---- sukhlent_cut: "takes a record and a word that marks one side, and answers the rank modulo 2 of the edges between
 -- the sides"
-pub record CutCall (l : LentRecord) (side rank r rank′ : ℕ) : Type 0 where
-  pub number : r ≡ firstFitting (cutLines l side)
-  pub ranked : rank′ ≡ acceptedNumber r (cutRank (l .n) (bit side) ((heldRecord l) .graph)) rank
+abbrev pub cutCall : LentRecord → ℕ → ℕ → ℕ → Contract
+cutCall l side rank rank′ =
+    contract (cutLines l side) (number rank (cutRank (l .n) (bit side) ((heldRecord l) .graph)) rank′ ∷ [])

@@ -4,7 +4,8 @@ use record_checks::record_refusal;
 use words::stray;
 ghost use mathlib.Core.Path.{_≡_};
 ghost use Rattle.buffers.specs.Refusals.{firstFitting};
-ghost use Rattle.cut_call.specs.Cuts.{CutCall, cutLines};
+ghost use Rattle.contracts.specs.Calls.{Call};
+ghost use Rattle.cut_call.specs.Cuts.{cutCall, cutLines};
 
 // The first line that holds; 0 where none does. Lines 2 and 4 come before the test of the side, 6 and 7 after it.
 fn cut_refusal(n: u64, neighbours: &[u64], codes: &[u8], side: u64) -> u8
@@ -26,9 +27,9 @@ fn cut_refusal(n: u64, neighbours: &[u64], codes: &[u8], side: u64) -> u8
 
 // The rank of the edges between the marked side and the other.
 pub fn cut(n: u64, neighbours: &[u64], codes: &[u8], side: u64, rank: &mut u64) -> u8
-    ensures { λ r. ⌜ CutCall
+    ensures { λ r. ⌜ Call (cutCall
         (record { n = n; neighbours = now (neighbours .entry); codes = now (codes .entry) }) side
-        (now (rank .entry)) r (now (rank .exit)) ⌝ }
+        (now (rank .entry)) (now (rank .exit))) r ⌝ }
 {
     let number = cut_refusal(n, neighbours, codes, side);
     if number != 0 {

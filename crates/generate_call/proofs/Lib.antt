@@ -1,2 +1,1 @@
-pub mod GenerateLines
 pub mod GenerateCalls

@@ -4,7 +4,8 @@ use buffers::other_than;
 use generator_text::put_job;
 ghost use mathlib.Core.Path.{_≡_};
 ghost use Rattle.buffers.specs.Refusals.{firstFitting};
-ghost use Rattle.generate_call.specs.Generated.{GenerateCall};
+ghost use Rattle.contracts.specs.Calls.{Call};
+ghost use Rattle.generate_call.specs.Generated.{generateCall};
 ghost use Rattle.generator.specs.Lines.{generateLines};
 
 // The first line that holds; 0 where none does.
@@ -28,8 +29,8 @@ fn generate_refusal(n: u64, count: u64, seed: u64, text: &[u8]) -> u8
 
 // The text of the job of `count` steps drawn from the seed, at the start of the buffer, and its length.
 pub fn generate(n: u64, count: u64, seed: u64, text: &mut [u8], length: &mut u64) -> u8
-    ensures { λ r. ⌜ GenerateCall n count seed (now (text .entry)) (now (length .entry)) r
-        (now (text .exit)) (now (length .exit)) ⌝ }
+    ensures { λ r. ⌜ Call (generateCall n count seed (now (text .entry)) (now (length .entry))
+        (now (text .exit)) (now (length .exit))) r ⌝ }
 {
     let number = generate_refusal(n, count, seed, text);
     if number != 0 {

@@ -1,3 +1,5 @@
 pub mod TopBit
 pub mod SignBuffers
+pub mod Untouched
+pub mod FoundWords
 pub mod SettlingLoop

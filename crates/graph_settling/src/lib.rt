@@ -2,6 +2,10 @@
 use operations_rewriting::complement_record;
 use operations_rewriting::pivot_record;
 use operations_rewriting::recode;
+use words::flip;
+use words::flip_where;
+use words::single;
+use words::smallest;
 ghost use mathlib.Core.Bool.{_&&_, _||_, not, true};
 ghost use mathlib.Core.Path.{_≡_};
 ghost use Prim.Native.Nat.{ℕ, _+_, _/_, _<_, _^_};
@@ -10,8 +14,9 @@ ghost use lib.ListN.{length};
 ghost use Rattle.graph_steps.specs.Kept.{Nearer, Normalised, unsettled};
 ghost use Rattle.graph_steps.specs.Steps.{signMoved};
 ghost use Rattle.operations.specs.InPlace.{Rewritten, Unrefused, recordIn};
-ghost use Rattle.words.specs.Bits.{bit, isOdd};
+ghost use Rattle.words.specs.Bits.{_⊕_, bit, isOdd};
 ghost use Rattle.words.specs.Search.{first};
+ghost use Rattle.graph_settling.specs.Watching.{Advanced, Elsewhere, Watched};
 
 // The largest set bit of a word that is not 0.
 fn largest(w: u64) -> usize
@@ -29,20 +34,30 @@ fn is_unsettled(word: u64, code: u8, j: usize) -> bool
     (12 <= code) | ((code % 2 == 1) | ((8 <= code) & (word >> j != 0)))
 }
 
-// The smallest vertex out of place; n where there is none.
-fn first_unsettled(neighbours: &[u64], codes: &[u8]) -> usize
-    requires { ⌜ Unrefused (recordIn (now neighbours) (now codes)) ⌝ }
-    ensures { λ r. ⌜ r ≡ first (length (now (neighbours .entry)))
-        (unsettled (now (neighbours .entry)) (now (codes .entry))) ⌝ }
+// The word with vertex i besides, if that is out of place. A code below 8 that is even says at once that it is not.
+fn marked(all: u64, word: u64, code: u8, i: usize) -> u64
+    requires { ⌜ i < 64 ⌝ }
+    ensures { λ r. ⌜ ((q : ℕ) → bit r q ≡ bit all q ⊕ (eqb q i
+        && (leb 12 code || (isOdd code || (leb 8 code && not (eqb (word / 2 ^ i) 0)))))) ⌝ }
 {
-    let mut j = 0;
-    while j < neighbours.len() {
-        if is_unsettled(neighbours[j], codes[j], j) {
-            return j;
-        }
-        j += 1;
+    if (code % 2 == 1) | (8 <= code) {
+        return flip_where(all, i, is_unsettled(word, code, i));
     }
-    neighbours.len()
+    all
+}
+
+// The vertices out of place.
+fn out_of_place(neighbours: &[u64], codes: &[u8]) -> u64
+    requires { ⌜ Unrefused (recordIn (now neighbours) (now codes)) ⌝ }
+    ensures { λ r. ⌜ Watched (now (neighbours .entry)) (now (codes .entry)) r ⌝ }
+{
+    let mut all = 0;
+    let mut i = 0;
+    while i < neighbours.len() {
+        all = marked(all, neighbours[i], codes[i], i);
+        i += 1;
+    }
+    all
 }
 
 // X before the code of vertex a, and Z before those of its neighbours.
@@ -55,33 +70,67 @@ fn move_sign(neighbours: &[u64], codes: &mut [u8], a: usize)
 }
 
 // One step at the smallest vertex out of place: where C = 1, D = 0 and it has a larger neighbour, a pivot with the
-// largest; with another code from 12, a complementation; else the code is odd, and its sign is moved.
-fn settle_at(neighbours: &mut [u64], codes: &mut [u8], j: usize)
+// largest; with another code from 12, a complementation; else the code is odd, and its sign is moved. Answers the
+// vertices that it may change.
+fn settle_at(neighbours: &mut [u64], codes: &mut [u8], j: usize) -> u64
     requires { ⌜ Unrefused (recordIn (now neighbours) (now codes)) × (j < length (now neighbours)) ⌝ }
     requires { ⌜ j ≡ first (length (now neighbours)) (unsettled (now neighbours) (now codes)) ⌝ }
     ensures { λ r. ⌜ Nearer (now (neighbours .entry)) (now (codes .entry))
+        (now (neighbours .exit)) (now (codes .exit)) ⌝ }
+    ensures { λ r. ⌜ Elsewhere r (now (neighbours .entry)) (now (codes .entry))
         (now (neighbours .exit)) (now (codes .exit)) ⌝ }
 {
     let word = neighbours[j];
     let code = codes[j];
     if (8 <= code) & (((code < 12) | (20 <= code)) & (word >> j != 0)) {
-        pivot_record(neighbours, codes, j, largest(word));
+        let k = largest(word);
+        let others = neighbours[k];
+        pivot_record(neighbours, codes, j, k);
+        word | others
     } else if 12 <= code {
         complement_record(neighbours, codes, j);
+        word | single(j)
     } else {
         move_sign(neighbours, codes, j);
+        word | single(j)
     }
 }
 
-// Such steps until no vertex is out of place: then the buffers hold the reduced record of the group.
+// A look at the smallest vertex that may be out of place: if it is, a step, and what the step may change is added; else
+// it is dropped.
+fn settle_next(neighbours: &mut [u64], codes: &mut [u8], rest: u64) -> u64
+    requires { ⌜ Unrefused (recordIn (now neighbours) (now codes)) ⌝ }
+    requires { ⌜ Watched (now neighbours) (now codes) rest × (rest ≡ 0 → ⊥) ⌝ }
+    ensures { λ r. ⌜ Advanced (now (neighbours .entry)) (now (codes .entry)) rest
+        (now (neighbours .exit)) (now (codes .exit)) r ⌝ }
+{
+    let j = smallest(rest);
+    if !is_unsettled(neighbours[j], codes[j], j) {
+        return flip(rest, j);
+    }
+    rest | settle_at(neighbours, codes, j)
+}
+
+// Such steps until no vertex is out of place: then the buffers hold the reduced record of the group. `touched` has
+// every vertex that is out of place before.
+pub fn normalise_from(neighbours: &mut [u64], codes: &mut [u8], touched: u64)
+    requires { ⌜ Unrefused (recordIn (now neighbours) (now codes)) ⌝ }
+    requires { ⌜ Watched (now neighbours) (now codes) touched ⌝ }
+    ensures { λ r. ⌜ Normalised (now (neighbours .entry)) (now (codes .entry))
+        (now (neighbours .exit)) (now (codes .exit)) ⌝ }
+{
+    let mut rest = touched;
+    while rest != 0 {
+        rest = settle_next(neighbours, codes, rest);
+    }
+}
+
+// The same where nothing is known of the record.
 pub fn normalise(neighbours: &mut [u64], codes: &mut [u8])
     requires { ⌜ Unrefused (recordIn (now neighbours) (now codes)) ⌝ }
     ensures { λ r. ⌜ Normalised (now (neighbours .entry)) (now (codes .entry))
         (now (neighbours .exit)) (now (codes .exit)) ⌝ }
 {
-    let mut j = first_unsettled(neighbours, codes);
-    while j < neighbours.len() {
-        settle_at(neighbours, codes, j);
-        j = first_unsettled(neighbours, codes);
-    }
+    let touched = out_of_place(neighbours, codes);
+    normalise_from(neighbours, codes, touched);
 }

@@ -1,17 +1,18 @@
 -- The call on the image of a graph, from what the functions below it answer.
 -- Assumes nothing.
-use mathlib.Core.Bool.{Bool, cond, false, _||_}
+use mathlib.Core.Bool.{Bool, false, _||_}
 use mathlib.Core.List.{_++_, List}
-use mathlib.Core.Path.{ap, subst, sym, _∙_, _≡_}
+use mathlib.Core.Path.{ap, refl, subst, sym, _∙_, _≡_}
 use Prim.Native.Nat.{ℕ, _≤_}
 use native.Mathlib.Omega.{arith}
-use lib.Dec.{eqb}
 use lib.ListN.{getD, length, take}
-use borrow.Author.Tests.{ne-eqb}
-use Rattle.buffers.proofs.Lines.{more-accepted, more-refused, not-held}
+use Rattle.buffers.proofs.Lines.{more-accepted, not-held}
 use Rattle.buffers.proofs.Tabulate.{tabulate-cong}
 use Rattle.buffers.specs.Buffers.{tabulate, written}
 use Rattle.buffers.specs.Refusals.{firstFitting, otherThan}
+use Rattle.contracts.proofs.Calling.{done, refused}
+use Rattle.contracts.proofs.Fitting.{stays}
+use Rattle.contracts.specs.Calls.{Call}
 use Rattle.image_answer.specs.Answer.{IsImage}
 use Rattle.image.specs.Image.{imageLines, loopLines}
 use Rattle.image_answer.specs.declared.ImageAnswer.{ImageAnswer}
@@ -21,25 +22,10 @@ use Rattle.record.specs.Accepted.{AcceptedRecord}
 use Rattle.record.specs.Lent.{LentRecord, heldRecord, recordLengths, recordLines}
 use Rattle.stabilizer.proofs.SharedTests.{has-length}
 use Rattle.words.proofs.Flags.{neither}
-use Rattle.image_call.specs.Images.{Imaged}
+use Rattle.image_call.specs.Images.{imageCall}
 
 -- the buffers lent for the graph, the signs and the list
 module _ (l : LentRecord) (g s v : List ℕ) (count : ℕ) where
-  -- a number other than 0: nothing is written
-  nothing-written : (r : ℕ) → (r ≡ 0 → ⊥) → r ≡ firstFitting (imageLines l g s v)
-      → Imaged l g s v count r g s v count
-  nothing-written r h e =
-      record {
-        number = e;
-        graph = kept _ g;
-        minus = kept _ s;
-        places = kept _ v;
-        counted = kept _ count;
-      }
-    where
-      kept : {A : Type 0} (answer old : A) → old ≡ cond (eqb r 0) answer old
-      kept answer old = sym (ap (λ b. cond b answer old) (ne-eqb r 0 h))
-
   module _ (others : Bool) (o : others ≡ (otherThan (l .n) g || (otherThan (l .n) s || otherThan 96 v)))
       (k : ℕ) (e : k ≡ firstFitting (recordLines l others false)) where
     at-lines : {r : ℕ} → r ≡ firstFitting (recordLines l others false ++ loopLines (l .n) (heldRecord l))
@@ -47,9 +33,9 @@ module _ (l : LentRecord) (g s v : List ℕ) (count : ℕ) where
     at-lines p = p ∙ ap (λ b. firstFitting (recordLines l b false ++ loopLines (l .n) (heldRecord l))) o
 
     -- the record is refused
-    pub image-refused : (k ≡ 0 → ⊥) → Imaged l g s v count k g s v count
-    image-refused h = nothing-written k h
-        (at-lines (e ∙ sym (more-refused (recordLines l others false) _ (λ z. h (e ∙ z)))))
+    pub image-refused : (k ≡ 0 → ⊥) → Call (imageCall l g s v count g s v count) k
+    image-refused h =
+        refused _ (at-lines (stays (recordLines l others false) _ e h)) h (refl, (refl, (refl, (refl, tt))))
 
     module _ (z : k ≡ 0) where
       pub accepted-held : AcceptedRecord l
@@ -90,21 +76,20 @@ module _ (l : LentRecord) (g s v : List ℕ) (count : ℕ) where
             (more-accepted (recordLines l others false) _ (record-numbered l others false) (sym e ∙ z)))
 
         -- 11 or 12
-        pub image-looped : (a .number ≡ 0 → ⊥) → Imaged l g s v count (a .number) g s v count
-        image-looped h = nothing-written (a .number) h loop-number
+        pub image-looped : (a .number ≡ 0 → ⊥) → Call (imageCall l g s v count g s v count) (a .number)
+        image-looped h = refused _ loop-number h (refl, (refl, (refl, (refl, tt))))
 
         -- neither: the answer is written
         pub image-accepted : a .number ≡ 0 → (g′ s′ v′ : List ℕ) →
             g′ ≡ tabulate (length g) (λ j. getD (a .graph) j 0) →
             s′ ≡ tabulate (length s) (λ j. getD (a .signs) j 0) → v′ ≡ written (take (a .count) (a .list)) v →
-            Imaged l g s v count 0 g′ s′ v′ (a .count)
+            Call (imageCall l g s v count g′ s′ v′ (a .count)) 0
         image-accepted y g′ s′ v′ eg es ev =
-            record {
-              number = sym y ∙ loop-number;
-              graph = eg ∙ ap (λ m. tabulate m (λ j. getD (a .graph) j 0)) graph-fits
-                  ∙ tabulate-cong (l .n) _ _ (A .graph);
-              minus = es ∙ ap (λ m. tabulate m (λ j. getD (a .signs) j 0)) signs-fit
-                  ∙ tabulate-cong (l .n) _ _ (A .signs y);
-              places = ev ∙ ap (λ vs. written vs v) (A .list);
-              counted = A .count;
-            }
+            done _ loop-number y (
+              eg ∙ ap (λ m. tabulate m (λ j. getD (a .graph) j 0)) graph-fits ∙ tabulate-cong (l .n) _ _ (A .graph),
+              (
+                es ∙ ap (λ m. tabulate m (λ j. getD (a .signs) j 0)) signs-fit
+                    ∙ tabulate-cong (l .n) _ _ (A .signs y),
+                (ev ∙ ap (λ vs. written vs v) (A .list), (A .count, tt)),
+              ),
+            )

@@ -5,7 +5,8 @@ use buffers::copy_words;
 use buffers::other_than;
 use image_answer::image_answer;
 use record_checks::record_refusal;
-ghost use Rattle.image_call.specs.Images.{Imaged};
+ghost use Rattle.contracts.specs.Calls.{Call};
+ghost use Rattle.image_call.specs.Images.{imageCall};
 
 // The image graph, its signs, and the list of the vertices complemented.
 pub fn image(
@@ -17,10 +18,10 @@ pub fn image(
     list: &mut [u8],
     count: &mut u64,
 ) -> u8
-    ensures { λ r. ⌜ Imaged
+    ensures { λ r. ⌜ Call (imageCall
         (record { n = n; neighbours = now (neighbours .entry); codes = now (codes .entry) })
-        (now (image .entry)) (now (signs .entry)) (now (list .entry)) (now (count .entry)) r
-        (now (image .exit)) (now (signs .exit)) (now (list .exit)) (now (count .exit)) ⌝ }
+        (now (image .entry)) (now (signs .entry)) (now (list .entry)) (now (count .entry))
+        (now (image .exit)) (now (signs .exit)) (now (list .exit)) (now (count .exit))) r ⌝ }
 {
     let others = other_than(image.len(), n)
         | (other_than(signs.len(), n) | other_than(list.len(), 96));

@@ -2,17 +2,13 @@
 -- Assumes nothing.
 use mathlib.Core.Bool.{_&&_, Bool, cond, false, or-true, true, true≢false, _||_}
 use mathlib.Core.List.{_++_, List, [], _∷_}
-use mathlib.Core.Path.{_∙_, _≡_, ap, ap₂, refl, subst, sym}
+use mathlib.Core.Path.{_∙_, _≡_, ap, ap₂, refl, sym}
 use Prim.Native.Nat.{ℕ}
 use lib.Dec.{eqb, leb}
 use lib.ListN.{drop}
 use borrow.Author.Tests.{eq-eqb, ne-eqb}
 use Rattle.buffers.proofs.Lines.{not-held}
 use Rattle.buffers.specs.Refusals.{Line, badCount, firstFitting}
-use Rattle.clifford.specs.Clifford.{cliffordOf}
-use Rattle.operations.specs.Cz.{czRows}
-use Rattle.operations.specs.Gates.{gated}
-use Rattle.operations.specs.Measurement.{measuredRows, pauliLetter}
 use Rattle.operations.specs.Steps.{
   Operation,
   argumentLines,
@@ -22,27 +18,21 @@ use Rattle.operations.specs.Steps.{
   czOn,
   gateLines,
   gateWith,
+  leaves,
+  linesOf,
   measureLines,
   measurementOf,
   pivotLines,
   pivotOf,
-  pivotRecord,
-  step,
-  stepped,
 }
 use Rattle.record.specs.Lent.{
   LentRecord,
-  heldRecord,
-  heldRows,
   recordCodes,
   recordLengths,
   recordLines,
   recordStray,
 }
-use Rattle.record.specs.Records.{GraphRecord, complementRecord, rowsOf}
-use Rattle.record.specs.Reduced.{reduced}
-use Rattle.words.specs.Bits.{isOdd}
-use Rattle.jobs.specs.Asked.{argumentsOf, asked, linesOf, numberOf, unusedSet, withTest}
+use Rattle.jobs.specs.Asked.{argumentsOf, asked, numberOf, unusedSet, withTest}
 use Rattle.jobs.specs.Runs.{afterStep}
 use Rattle.jobs.specs.declared.Step.{Step}
 
@@ -113,30 +103,10 @@ module _ (l : LentRecord) (s : Step) where
   number-of-operation e =
       ap (λ b. firstFitting (withTest 6 b (linesOf l (asked s)))) e ∙ without-test 6 (linesOf l (asked s))
 
--- the record that an accepted operation leaves
-abbrev pub made : LentRecord → Operation → GraphRecord
-made l (gateWith q k) = reduced (l .n) (rowsOf (l .n) (gated (heldRecord l) q (cliffordOf k)))
-made l (czOn a b) = reduced (l .n) (czRows a b (heldRows l))
-made l (measurementOf pauli q b) =
-    reduced (l .n) (measuredRows (l .n) (heldRows l) (pauliLetter pauli) q (isOdd b))
-made l (complementOf a) = complementRecord (heldRecord l) a
-made l (pivotOf j k) = pivotRecord (heldRecord l) j k
-
-pub operation-step : (l : LentRecord) (o : Operation) → step l o ≡ stepped l (linesOf l o) (made l o)
-operation-step l (gateWith q k) = refl
-operation-step l (czOn a b) = refl
-operation-step l (measurementOf pauli q b) = refl
-operation-step l (complementOf a) = refl
-operation-step l (pivotOf j k) = refl
-
--- an operation's number is that of its lines
-pub operation-number : (l : LentRecord) (o : Operation) → (step l o) .number ≡ firstFitting (linesOf l o)
-operation-number l o = ap (λ t. t .number) (operation-step l o)
-
 -- a refused operation leaves the record
-stepped-kept : (l : LentRecord) (lines : List Line) (new : GraphRecord)
-    → cond (eqb (firstFitting lines) 0) ((stepped l lines new) .after) l ≡ (stepped l lines new) .after
-stepped-kept l lines new = go (eqb (firstFitting lines) 0) _ _
+operation-kept : (l : LentRecord) (o : Operation)
+    → cond (eqb (firstFitting (linesOf l o)) 0) (leaves l o) l ≡ leaves l o
+operation-kept l o = go (eqb (firstFitting (linesOf l o)) 0) _ _
   where
     go : (b : Bool) (words codes : List ℕ) → cond b
         (record { n = l .n; neighbours = cond b words (l .neighbours); codes = cond b codes (l .codes) }) l
@@ -144,21 +114,15 @@ stepped-kept l lines new = go (eqb (firstFitting lines) 0) _ _
     go true words codes = refl
     go false words codes = refl
 
-operation-kept : (l : LentRecord) (o : Operation)
-    → cond (eqb (firstFitting (linesOf l o)) 0) ((step l o) .after) l ≡ (step l o) .after
-operation-kept l o =
-    subst (λ t. cond (eqb (firstFitting (linesOf l o)) 0) (t .after) l ≡ t .after) (sym (operation-step l o))
-    (stepped-kept l (linesOf l o) (made l o))
-
 module _ (l : LentRecord) (s : Step) where
-  pub left-by-operation : unusedSet (s .op) (s .b) (s .value) ≡ false → afterStep l s ≡ (step l (asked s)) .after
+  pub left-by-operation : unusedSet (s .op) (s .b) (s .value) ≡ false → afterStep l s ≡ leaves l (asked s)
   left-by-operation e =
-      ap (λ k. cond (eqb k 0) ((step l (asked s)) .after) l) (number-of-operation l s e)
+      ap (λ k. cond (eqb k 0) (leaves l (asked s)) l) (number-of-operation l s e)
       ∙ operation-kept l (asked s)
 
   -- "A refused step changes nothing"
   pub refused-keeps : (numberOf l s ≡ 0 → ⊥) → afterStep l s ≡ l
-  refused-keeps h = ap (λ b. cond b ((step l (asked s)) .after) l) (ne-eqb (numberOf l s) 0 h)
+  refused-keeps h = ap (λ b. cond b (leaves l (asked s)) l) (ne-eqb (numberOf l s) 0 h)
 
   -- an accepted one has no unused field set
   pub accepted-unset : numberOf l s ≡ 0 → unusedSet (s .op) (s .b) (s .value) ≡ false
@@ -168,5 +132,5 @@ module _ (l : LentRecord) (s : Step) where
       go true e = absurd (six-refuses l (sym (set-refuses l (asked s)) ∙ e))
       go false e = refl
 
-  pub accepted-leaves : numberOf l s ≡ 0 → afterStep l s ≡ (step l (asked s)) .after
-  accepted-leaves z = ap (λ b. cond b ((step l (asked s)) .after) l) (eq-eqb (numberOf l s) 0 z)
+  pub accepted-leaves : numberOf l s ≡ 0 → afterStep l s ≡ leaves l (asked s)
+  accepted-leaves z = ap (λ b. cond b (leaves l (asked s)) l) (eq-eqb (numberOf l s) 0 z)

@@ -8,7 +8,7 @@ use lib.Dec.{eqb, lit<}
 use lib.ListN.{getD, getD-replicate, length, length-replicate}
 use Rattle.buffers.proofs.Lines.{AllBelow, first-below}
 use Rattle.buffers.proofs.Tabulate.{tabulate-at, tabulate-length}
-use Rattle.buffers.specs.Refusals.{Line, firstFitting}
+use Rattle.buffers.specs.Refusals.{firstFitting}
 use Rattle.clifford.proofs.CliffordLaws.{codeOf-lt}
 use Rattle.clifford.specs.Clifford.{codeOf}
 use Rattle.operations.specs.Measurement.{determinedNumber, outcomeNumber}
@@ -17,19 +17,19 @@ use Rattle.operations.specs.Steps.{
   complementOf,
   czOn,
   gateWith,
+  leaves,
+  linesOf,
+  made,
   measuredAnswer,
   measurementOf,
   pivotOf,
-  step,
-  stepped,
 }
 use Rattle.operations.specs.declared.Outcome.{Outcome}
 use Rattle.operations.specs.declared.Outcome.the-variants.{Chosen, Determined}
 use Rattle.record.specs.Lent.{LentRecord, codeNumbers, neighbourWords}
 use Rattle.record.specs.Records.{GraphRecord}
 use Rattle.words.specs.Bits.{digit, wordOf}
-use Rattle.jobs.proofs.Numbers.{made, operation-step}
-use Rattle.jobs.specs.Asked.{asked, linesOf, numberOf, unusedSet, withTest}
+use Rattle.jobs.specs.Asked.{asked, numberOf, unusedSet, withTest}
 use Rattle.jobs.specs.Runs.{afterStep, answerOf, determinedOf, outcomeOf, run, started}
 use Rattle.jobs.specs.declared.Step.{Step}
 
@@ -51,9 +51,12 @@ started-sized n =
 
 module _ (n : ℕ) (l : LentRecord) (S : Sized n l) where
   -- accepted, the buffers hold a record on n vertices; refused, what they held
-  stepped-sized : (lines : List Line) (new : GraphRecord) → Sized n ((stepped l lines new) .after)
-  stepped-sized lines new = go (eqb (firstFitting lines) 0)
+  operation-sized : (o : Operation) → Sized n (leaves l o)
+  operation-sized o = go (eqb (firstFitting (linesOf l o)) 0)
     where
+      new : GraphRecord
+      new = made l o
+
       go : (b : Bool) → Sized n (record {
         n = l .n;
         neighbours = cond b (neighbourWords (l .n) new) (l .neighbours);
@@ -76,14 +79,10 @@ module _ (n : ℕ) (l : LentRecord) (S : Sized n l) where
             codes-small = S .codes-small;
           }
 
-  operation-sized : (o : Operation) → Sized n ((step l o) .after)
-  operation-sized o =
-      subst (λ t. Sized n (t .after)) (sym (operation-step l o)) (stepped-sized (linesOf l o) (made l o))
-
   pub step-sized : (s : Step) → Sized n (afterStep l s)
   step-sized s = go (eqb (numberOf l s) 0)
     where
-      go : (b : Bool) → Sized n (cond b ((step l (asked s)) .after) l)
+      go : (b : Bool) → Sized n (cond b (leaves l (asked s)) l)
       go true = operation-sized (asked s)
       go false = S
 

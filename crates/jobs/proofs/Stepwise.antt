@@ -8,9 +8,8 @@ use native.Mathlib.Nat.{le-of-suc-le-suc, not-suc-le-zero}
 use native.Mathlib.Numerals.{add-one}
 use lib.Dec.{eqb}
 use lib.ListN.{getD, length, take}
-use Rattle.operations.specs.Steps.{step}
+use Rattle.operations.specs.Steps.{leaves}
 use Rattle.record.specs.Lent.{LentRecord}
-use Rattle.jobs.proofs.Numbers.{operation-step}
 use Rattle.jobs.specs.Asked.{asked, numberOf}
 use Rattle.jobs.specs.Runs.{afterStep, answerOf, answers, run}
 use Rattle.jobs.specs.declared.Answer.{Answer}
@@ -45,8 +44,8 @@ answer-at l (s ∷ rest) (suc k) other none h = answer-at (afterStep l s) rest k
 pub step-qubits : (l : LentRecord) (s : Step) → (afterStep l s) .n ≡ l .n
 step-qubits l s = go (eqb (numberOf l s) 0)
   where
-    go : (b : Bool) → (cond b ((step l (asked s)) .after) l) .n ≡ l .n
-    go true = ap (λ t. t .after .n) (operation-step l (asked s))
+    go : (b : Bool) → (cond b (leaves l (asked s)) l) .n ≡ l .n
+    go true = refl
     go false = refl
 
 pub run-qubits : (l : LentRecord) (steps : List Step) → (run l steps) .n ≡ l .n

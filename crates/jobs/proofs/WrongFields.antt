@@ -10,10 +10,10 @@ use lib.ListN.{drop}
 use borrow.Author.Tests.{le-leb, lt-leb, ne-eqb}
 use Rattle.buffers.specs.Refusals.{firstFitting}
 use Rattle.jobs.proofs.Numbers.{with-six}
-use Rattle.jobs.specs.Asked.{linesOf, operation, unusedSet, withTest, wrongValue}
+use Rattle.jobs.specs.Asked.{operation, unusedSet, withTest, wrongValue}
 use Rattle.jobs.specs.declared.Op.{Op}
 use Rattle.jobs.specs.declared.Op.the-variants.{Complement, Cz, Gate, Measure, Pivot}
-use Rattle.operations.specs.Steps.{complementLines, czLines, gateLines, measureLines, pivotLines}
+use Rattle.operations.specs.Steps.{complementLines, czLines, gateLines, linesOf, measureLines, pivotLines}
 use Rattle.record.specs.Lent.{LentRecord, recordLines}
 use Rattle.words.proofs.Sums.{lt-or-ge}
 

@@ -14,7 +14,7 @@ use Rattle.operations.specs.Steps.{
   czOn,
   gateLines,
   gateWith,
-  measureLines,
+  linesOf,
   measurementOf,
   pivotLines,
   pivotOf,
@@ -53,21 +53,13 @@ wrongValue Complement value = false
 wrongValue Pivot value = false
 
 -- ---- lines
--- those of an operation's arguments: they read n, and for a pivot the edges
+-- those of an operation's arguments: they read n, and for a pivot the edges; a measurement has 14 after these
 abbrev pub argumentsOf : LentRecord → Operation → List Line
 argumentsOf l (gateWith q k) = gateLines l q k
 argumentsOf l (czOn a b) = czLines l a b
 argumentsOf l (measurementOf pauli q b) = argumentLines l pauli q b
 argumentsOf l (complementOf a) = complementLines l a
 argumentsOf l (pivotOf j k) = pivotLines l j k
-
--- all of them: a measurement has 14 after these
-abbrev pub linesOf : LentRecord → Operation → List Line
-linesOf l (gateWith q k) = gateLines l q k
-linesOf l (czOn a b) = czLines l a b
-linesOf l (measurementOf pauli q b) = measureLines l pauli q b
-linesOf l (complementOf a) = complementLines l a
-linesOf l (pivotOf j k) = pivotLines l j k
 
 -- lines with a further test joined into the one with number k
 abbrev pub withTest : ℕ → Bool → List Line → List Line

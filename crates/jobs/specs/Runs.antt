@@ -12,10 +12,10 @@ use Rattle.operations.specs.Steps.{
   complementOf,
   czOn,
   gateWith,
+  leaves,
   measuredAnswer,
   measurementOf,
   pivotOf,
-  step,
 }
 use Rattle.record.specs.Lent.{LentRecord}
 use Rattle.jobs.specs.Asked.{asked, numberOf}
@@ -28,7 +28,7 @@ started n = record { n = n; neighbours = replicate n 0; codes = replicate n 8 }
 
 -- "A refused step changes nothing": else the record is what the operation leaves
 abbrev pub afterStep : LentRecord → Step → LentRecord
-afterStep l s = cond (eqb (numberOf l s) 0) ((step l (asked s)) .after) l
+afterStep l s = cond (eqb (numberOf l s) 0) (leaves l (asked s)) l
 
 -- ".. and the job continues"
 unfoldable pub run : LentRecord → List Step → LentRecord

@@ -10,10 +10,10 @@ use types.Run.{OneOf, miss}
 use denote.Enum.Declared.{tagOf}
 use Rattle.jobs.proofs.Op.{the-type}
 use Rattle.buffers.specs.Refusals.{firstFitting}
+use Rattle.contracts.specs.Calls.{Call}
 use Rattle.jobs.proofs.Numbers.{
   left-by-operation,
   number-of-operation,
-  operation-number,
   refused-keeps,
   six-refuses,
 }
@@ -23,9 +23,10 @@ use Rattle.jobs.specs.declared.Answer.{Answer}
 use Rattle.jobs.specs.declared.Op.{Op}
 use Rattle.jobs.specs.declared.Op.the-variants.{Complement, Cz, Gate, Measure, Pivot}
 use Rattle.jobs.specs.declared.Step.{Step}
-use Rattle.operations.specs.Steps.{step}
+use Rattle.operations.specs.Steps.{leaves}
 use Rattle.record.specs.Lent.{LentRecord, recordLines}
-use Rattle.record_calls.specs.InPlaceCalls.{InPlaceCall, MeasureCall}
+use Rattle.record_calls.proofs.InPlaceCalls.{left-by-call}
+use Rattle.record_calls.specs.InPlaceCalls.{inPlaceCall, measureCall}
 use Rattle.words.proofs.Flags.{neither}
 use Rattle.jobs.proofs.WrongFields.{fields-refuse}
 use Rattle.jobs_run.specs.StepRuns.{Rewriting, StepRun}
@@ -39,8 +40,8 @@ Others op = OneOf (0 ∷ 1 ∷ 3 ∷ 4 ∷ []) (tagOf the-type op)
 
 -- the calls without outcome: the operation is known
 pub by-operation : (l : LentRecord) {op known : Op} (a b v : ℕ) {k : ℕ} {nb cs : List ℕ} → op ≡ known
-    → InPlaceCall (step l (operation known a b v)) k nb cs → InPlaceCall (step l (operation op a b v)) k nb cs
-by-operation l a b v {k} {nb} {cs} e C = subst (λ o. InPlaceCall (step l (operation o a b v)) k nb cs) (sym e) C
+    → Call (inPlaceCall l (operation known a b v) nb cs) k → Call (inPlaceCall l (operation op a b v) nb cs) k
+by-operation l a b v {k} {nb} {cs} e C = subst (λ o. Call (inPlaceCall l (operation o a b v) nb cs) k) (sym e) C
 
 -- an operation that is no measurement has no outcome
 plain-outcome : (l : LentRecord) (op : Op) (a b v : ℕ) → (op ≡ Measure → ⊥)
@@ -104,7 +105,7 @@ module _ (l : LentRecord) (s : Step) where
     unset : unusedSet (s .op) (s .b) (s .value) ≡ false
     unset = neither (unusedSet (s .op) (s .b) (s .value)) (wrongValue (s .op) (s .value)) e .0
 
-    called : (k : ℕ) (nb cs : List ℕ) → InPlaceCall (step l (asked s)) k nb cs → (outcome determined : ℕ)
+    called : (k : ℕ) (nb cs : List ℕ) → Call (inPlaceCall l (asked s) nb cs) k → (outcome determined : ℕ)
         → outcome ≡ cond (eqb k 0) (outcomeOf l (asked s)) 0
         → determined ≡ cond (eqb k 0) (determinedOf l (asked s)) 0
         → StepRun l s (answer k outcome determined) nb cs
@@ -113,18 +114,18 @@ module _ (l : LentRecord) (s : Step) where
           answer = (λ i. answer k (eo i) (ed i))
               ∙ ap (λ m. answer m (cond (eqb m 0) (outcomeOf l (asked s)) 0)
               (cond (eqb m 0) (determinedOf l (asked s)) 0)) number;
-          words = C .words ∙ ap (λ m. m .neighbours) (sym left);
-          numbers = C .numbers ∙ ap (λ m. m .codes) (sym left);
+          words = left-by-call l (asked s) C .0 ∙ ap (λ m. m .neighbours) (sym left);
+          numbers = left-by-call l (asked s) C .1 ∙ ap (λ m. m .codes) (sym left);
         }
       where
         number : k ≡ numberOf l s
-        number = C .number ∙ operation-number l (asked s) ∙ sym (number-of-operation l s unset)
+        number = C .number ∙ sym (number-of-operation l s unset)
 
-        left : afterStep l s ≡ (step l (asked s)) .after
+        left : afterStep l s ≡ leaves l (asked s)
         left = left-by-operation l s unset
 
     -- without outcome
-    pub plain-run : (s .op ≡ Measure → ⊥) → (k : ℕ) (nb cs : List ℕ) → InPlaceCall (step l (asked s)) k nb cs
+    pub plain-run : (s .op ≡ Measure → ⊥) → (k : ℕ) (nb cs : List ℕ) → Call (inPlaceCall l (asked s) nb cs) k
         → StepRun l s (answer k 0 0) nb cs
     plain-run h k nb cs C = called k nb cs C 0 0 (none (zeros .0)) (none (zeros .1))
       where
@@ -140,11 +141,11 @@ module _ (l : LentRecord) (s : Step) where
 
     -- with it
     pub measured-run : s .op ≡ Measure → (nb cs : List ℕ) (r : Answer)
-        → MeasureCall l (s .value / 2 + 1) (s .a) (s .value % 2) 0 0 (r .refusal) nb cs (r .outcome) (r .determined)
+        → Call (measureCall l (s .value / 2 + 1) (s .a) (s .value % 2) 0 0 nb cs (r .outcome) (r .determined)) (r .refusal)
         → StepRun l s r nb cs
     measured-run g nb cs r C = called (r .refusal) nb cs
-        (by-operation l (s .a) (s .b) (s .value) g (C .step)) (r .outcome) (r .determined)
-        (C .outcome ∙ ap (λ op. cond (eqb (r .refusal) 0) (outcomeOf l (operation op (s .a) (s .b) (s .value))) 0)
+        (by-operation l (s .a) (s .b) (s .value) g (record { number = C .number; held = C .held .1 .1 })) (r .outcome) (r .determined)
+        (C .held .0 ∙ ap (λ op. cond (eqb (r .refusal) 0) (outcomeOf l (operation op (s .a) (s .b) (s .value))) 0)
         (sym g))
-        (C .known ∙ ap (λ op. cond (eqb (r .refusal) 0) (determinedOf l (operation op (s .a) (s .b) (s .value))) 0)
+        (C .held .1 .0 ∙ ap (λ op. cond (eqb (r .refusal) 0) (determinedOf l (operation op (s .a) (s .b) (s .value))) 0)
         (sym g))

@@ -4,16 +4,17 @@ use jobs::Op;
 use jobs::Step;
 use jobs::unused_set;
 use jobs::wrong_value;
-use measure_call::measure;
-use record_calls::cz;
-use record_calls::gate;
-use record_checks::record_refusal;
-use rewriting_calls::complement;
-use rewriting_calls::pivot;
+use measure_call::measure_known;
+use record_calls::cz_known;
+use record_calls::gate_known;
+use record_calls::known_refusal;
+use rewriting_calls::complement_known;
+use rewriting_calls::pivot_known;
 ghost use Prim.Native.Nat.{_%_, _+_, _/_, _<_};
+ghost use Rattle.contracts.specs.Calls.{Call};
 ghost use Rattle.jobs.specs.Asked.{operation};
-ghost use Rattle.operations.specs.Steps.{step};
-ghost use Rattle.record_calls.specs.InPlaceCalls.{InPlaceCall, MeasureCall};
+ghost use Rattle.record_calls.specs.InPlaceCalls.{inPlaceCall, measureCall};
+ghost use Rattle.record_calls.specs.Knowing.{Known};
 ghost use Rattle.jobs_run.specs.StepRuns.{Rewriting, StepRun};
 
 // A measurement with the value 2 × (Pauli − 1) + outcome. A refused one answers 0 and 0.
@@ -23,18 +24,20 @@ fn run_measurement(
     codes: &mut [u8],
     qubit: u64,
     value: u16,
+    known: bool,
 ) -> Answer
     requires { ⌜ value < 6 ⌝ }
-    ensures { λ r. ⌜ MeasureCall
+    requires { ⌜ Known known (record { n = n; neighbours = now neighbours; codes = now codes }) ⌝ }
+    ensures { λ r. ⌜ Call (measureCall
         (record { n = n; neighbours = now (neighbours .entry); codes = now (codes .entry) })
-        (value / 2 + 1) qubit (value % 2) 0 0 (r .refusal)
-        (now (neighbours .exit)) (now (codes .exit)) (r .outcome) (r .determined) ⌝ }
+        (value / 2 + 1) qubit (value % 2) 0 0
+        (now (neighbours .exit)) (now (codes .exit)) (r .outcome) (r .determined)) (r .refusal) ⌝ }
 {
     let pauli = (value / 2 + 1) as u8;
     let bit = (value % 2) as u8;
     let mut outcome = 0;
     let mut determined = 0;
-    let refusal = measure(
+    let refusal = measure_known(
         n,
         neighbours,
         codes,
@@ -43,6 +46,7 @@ fn run_measurement(
         bit,
         &mut outcome,
         &mut determined,
+        known,
     );
     Answer {
         refusal,
@@ -60,23 +64,26 @@ fn rewrite(
     a: u64,
     b: u64,
     value: u16,
+    known: bool,
 ) -> u8
     requires { ⌜ Rewriting op value ⌝ }
-    ensures { λ r. ⌜ InPlaceCall
-        (step (record { n = n; neighbours = now (neighbours .entry); codes = now (codes .entry) })
-        (operation op a b value)) r (now (neighbours .exit)) (now (codes .exit)) ⌝ }
+    requires { ⌜ Known known (record { n = n; neighbours = now neighbours; codes = now codes }) ⌝ }
+    ensures { λ r. ⌜ Call (inPlaceCall
+        (record { n = n; neighbours = now (neighbours .entry); codes = now (codes .entry) })
+        (operation op a b value) (now (neighbours .exit)) (now (codes .exit))) r ⌝ }
 {
     match op {
-        Op::Gate => gate(n, neighbours, codes, a, value as u8),
-        Op::Cz => cz(n, neighbours, codes, a, b),
-        Op::Complement => complement(n, neighbours, codes, a),
-        Op::Pivot => pivot(n, neighbours, codes, a, b),
+        Op::Gate => gate_known(n, neighbours, codes, a, value as u8, known),
+        Op::Cz => cz_known(n, neighbours, codes, a, b, known),
+        Op::Complement => complement_known(n, neighbours, codes, a, known),
+        Op::Pivot => pivot_known(n, neighbours, codes, a, b, known),
         Op::Measure => 0,
     }
 }
 
-// One step: its refusal, outcome and determined, and the record as it leaves it.
-pub fn run_step(n: u64, neighbours: &mut [u64], codes: &mut [u8], s: Step) -> Answer
+// One step: its refusal, outcome and determined, and the record as it leaves it. `known`: no line refuses the record.
+pub fn run_step(n: u64, neighbours: &mut [u64], codes: &mut [u8], s: Step, known: bool) -> Answer
+    requires { ⌜ Known known (record { n = n; neighbours = now neighbours; codes = now codes }) ⌝ }
     ensures { λ r. ⌜ StepRun
         (record { n = n; neighbours = now (neighbours .entry); codes = now (codes .entry) })
         s r (now (neighbours .exit)) (now (codes .exit)) ⌝ }
@@ -84,7 +91,7 @@ pub fn run_step(n: u64, neighbours: &mut [u64], codes: &mut [u8], s: Step) -> An
     let op = s.op;
     let value = s.value;
     if unused_set(op, s.b, value) | wrong_value(op, value) {
-        let wrong = record_refusal(n, neighbours, codes, false, true);
+        let wrong = known_refusal(n, neighbours, codes, true, known);
         return Answer {
             refusal: wrong,
             outcome: 0,
@@ -93,9 +100,9 @@ pub fn run_step(n: u64, neighbours: &mut [u64], codes: &mut [u8], s: Step) -> An
     }
     let a = s.a as u64;
     if let Op::Measure = op {
-        return run_measurement(n, neighbours, codes, a, value);
+        return run_measurement(n, neighbours, codes, a, value, known);
     }
-    let refusal = rewrite(n, neighbours, codes, op, a, s.b as u64, value);
+    let refusal = rewrite(n, neighbours, codes, op, a, s.b as u64, value, known);
     Answer {
         refusal,
         outcome: 0,

@@ -1,22 +1,26 @@
 -- The calls on generator lists, from what the functions below them answer.
 -- Assumes nothing.
 use mathlib.Core.Bool.{Bool, cond, false, not, true, _||_}
-use mathlib.Core.List.{List, [], _∷_}
-use mathlib.Core.Path.{ap, sym, _∙_, _≡_}
+use mathlib.Core.List.{List}
+use mathlib.Core.Path.{ap, refl, sym, _∙_, _≡_}
 use Prim.Native.Nat.{ℕ}
 use lib.ListN.{length}
-use borrow.Author.Tests.{ne-eqb, not-false, not-true}
-use Rattle.buffers.proofs.Lines.{fits, more-accepted, more-refused, none-fits, passed}
-use Rattle.buffers.specs.Refusals.{firstFitting, line, otherThan}
+use borrow.Author.Tests.{not-false, not-true}
+use Rattle.buffers.proofs.Lines.{more-refused}
+use Rattle.buffers.specs.Refusals.{firstFitting, otherThan}
+use Rattle.contracts.proofs.Calling.{refused}
+use Rattle.contracts.proofs.Fitting.{first-is, none-holds, passing}
+use Rattle.contracts.specs.Answers.{here, later, none}
+use Rattle.contracts.specs.Calls.{Call}
 use Rattle.record.specs.Lent.{codeNumbers, neighbourWords}
 use Rattle.record.specs.Reduced.{reduced}
 use Rattle.reduction.proofs.Loading.{early-reducible}
 use Rattle.reduction.specs.Reducible.{Reducible}
-use Rattle.stabilizer.proofs.Accepted.{early-accepted, early-form, early-numbered}
+use Rattle.stabilizer.proofs.Accepted.{early-accepted, early-form}
 use Rattle.stabilizer.proofs.SharedTests.{has-length}
 use Rattle.stabilizer.specs.Lists.{GeneratorList, dependent, earlyLines, listLengths, listLines, rows}
 use Rattle.words.proofs.Flags.{neither}
-use Rattle.list_calls.specs.Calls.{ReduceCall, reduceLines}
+use Rattle.list_calls.specs.Calls.{reduceCall, reduceLines}
 
 -- ---- the early lines, and dependence after them
 module _ (l : GeneratorList) (others : Bool) (k : ℕ) (e : k ≡ firstFitting (earlyLines l others)) where
@@ -32,16 +36,14 @@ module _ (l : GeneratorList) (others : Bool) (k : ℕ) (e : k ≡ firstFitting (
     no-others = neither (listLengths l) others (early-form l others (sym e ∙ z) .lengths) .1
 
     -- dependence decides
-    last-line : firstFitting (listLines l others) ≡ firstFitting (line 10 (dependent (l .n) (rows l)) ∷ [])
-    last-line = more-accepted (earlyLines l others) _ (early-numbered l others) (sym e ∙ z)
-
     module _ (b : Bool) (d : b ≡ not (dependent (l .n) (rows l))) where
       pub accepted-last : b ≡ true → 0 ≡ firstFitting (listLines l others)
-      accepted-last t = sym (last-line ∙ passed 10 [] (not-true (dependent (l .n) (rows l)) (sym d ∙ t))
-          ∙ none-fits)
+      accepted-last t = first-is (passing (earlyLines l others) (none-holds (earlyLines l others) refl (sym e ∙ z))
+          (later (not-true (dependent (l .n) (rows l)) (sym d ∙ t)) none))
 
       pub refused-last : b ≡ false → 10 ≡ firstFitting (listLines l others)
-      refused-last t = sym (last-line ∙ fits 10 [] (not-false (dependent (l .n) (rows l)) (sym d ∙ t)))
+      refused-last t = first-is (passing (earlyLines l others) (none-holds (earlyLines l others) refl (sym e ∙ z))
+          (here (not-false (dependent (l .n) (rows l)) (sym d ∙ t))))
 
 -- ---- sukhlent_reduce: its two answer buffers
 module _ (l : GeneratorList) (nb cs : List ℕ) (others : Bool)
@@ -50,13 +52,8 @@ module _ (l : GeneratorList) (nb cs : List ℕ) (others : Bool)
   at-lines : {r : ℕ} → r ≡ firstFitting (listLines l others) → r ≡ firstFitting (reduceLines l nb cs)
   at-lines p = p ∙ ap (λ b. firstFitting (listLines l b)) o
 
-  pub reduce-refused : (k ≡ 0 → ⊥) → ReduceCall l nb cs k nb cs
-  reduce-refused h =
-      record {
-        number = at-lines (refused-early l others k e h);
-        words = sym (ap (λ b. cond b (neighbourWords (l .n) (reduced (l .n) (rows l))) nb) (ne-eqb k 0 h));
-        numbers = sym (ap (λ b. cond b (codeNumbers (l .n) (reduced (l .n) (rows l))) cs) (ne-eqb k 0 h));
-      }
+  pub reduce-refused : (k ≡ 0 → ⊥) → Call (reduceCall l nb cs nb cs) k
+  reduce-refused h = refused _ (at-lines (refused-early l others k e h)) h (refl, (refl, tt))
 
   module _ (z : k ≡ 0) where
     both-fit : (otherThan (l .n) nb || otherThan (l .n) cs) ≡ false
@@ -71,18 +68,10 @@ module _ (l : GeneratorList) (nb cs : List ℕ) (others : Bool)
     module _ (b : Bool) (d : b ≡ not (dependent (l .n) (rows l))) (nb′ cs′ : List ℕ)
         (en : nb′ ≡ cond b (neighbourWords (l .n) (reduced (l .n) (rows l))) nb)
         (ec : cs′ ≡ cond b (codeNumbers (l .n) (reduced (l .n) (rows l))) cs) where
-      pub reduce-accepted : b ≡ true → ReduceCall l nb cs 0 nb′ cs′
+      pub reduce-accepted : b ≡ true → Call (reduceCall l nb cs nb′ cs′) 0
       reduce-accepted t =
-          record {
-            number = at-lines (accepted-last l others k e z b d t);
-            words = en ∙ ap (λ v. cond v (neighbourWords (l .n) (reduced (l .n) (rows l))) nb) t;
-            numbers = ec ∙ ap (λ v. cond v (codeNumbers (l .n) (reduced (l .n) (rows l))) cs) t;
-          }
+          record { number = at-lines (accepted-last l others k e z b d t); held = (simp t at en, (simp t at ec, tt)) }
 
-      pub reduce-dependent : b ≡ false → ReduceCall l nb cs 10 nb′ cs′
+      pub reduce-dependent : b ≡ false → Call (reduceCall l nb cs nb′ cs′) 10
       reduce-dependent t =
-          record {
-            number = at-lines (refused-last l others k e z b d t);
-            words = en ∙ ap (λ v. cond v (neighbourWords (l .n) (reduced (l .n) (rows l))) nb) t;
-            numbers = ec ∙ ap (λ v. cond v (codeNumbers (l .n) (reduced (l .n) (rows l))) cs) t;
-          }
+          record { number = at-lines (refused-last l others k e z b d t); held = (simp t at en, (simp t at ec, tt)) }

@@ -1,20 +1,21 @@
 -- The call on a record that writes a list, from what the functions below it answer.
 -- Assumes nothing.
-use mathlib.Core.Bool.{Bool, cond, false, _||_}
+use mathlib.Core.Bool.{Bool, false, _||_}
 use mathlib.Core.List.{List}
-use mathlib.Core.Path.{ap, sym, _∙_, _≡_}
+use mathlib.Core.Path.{ap, refl, sym, _∙_, _≡_}
 use Prim.Native.Nat.{ℕ}
 use lib.ListN.{length}
-use borrow.Author.Tests.{ne-eqb}
 use Rattle.buffers.proofs.Lines.{not-held}
 use Rattle.buffers.specs.Refusals.{firstFitting, otherThan}
+use Rattle.contracts.proofs.Calling.{done, refused}
+use Rattle.contracts.specs.Calls.{Call}
 use Rattle.record.proofs.AcceptedRecords.{accepted-record}
 use Rattle.record.specs.Accepted.{AcceptedRecord}
 use Rattle.record.specs.Lent.{LentRecord, heldRows, recordLengths, recordLines}
 use Rattle.stabilizer.proofs.SharedTests.{has-length}
 use Rattle.stabilizer.specs.Lists.{listOf}
 use Rattle.words.proofs.Flags.{neither}
-use Rattle.list_calls.specs.Calls.{ExpandCall, expandLines}
+use Rattle.list_calls.specs.Calls.{expandCall, expandLines}
 
 module _ (l : LentRecord) (s z x : List ℕ) (others : Bool)
     (o : others ≡ (otherThan (l .n) s || (otherThan (l .n) z || otherThan (l .n) x))) (k : ℕ)
@@ -22,14 +23,8 @@ module _ (l : LentRecord) (s z x : List ℕ) (others : Bool)
   at-lines : k ≡ firstFitting (expandLines l s z x)
   at-lines = e ∙ ap (λ b. firstFitting (recordLines l b false)) o
 
-  pub expand-refused : (k ≡ 0 → ⊥) → ExpandCall l s z x k s z x
-  expand-refused h =
-      record {
-        number = at-lines;
-        sign-bits = sym (ap (λ b. cond b ((listOf (l .n) (heldRows l)) .signs) s) (ne-eqb k 0 h));
-        z-words = sym (ap (λ b. cond b ((listOf (l .n) (heldRows l)) .z) z) (ne-eqb k 0 h));
-        x-words = sym (ap (λ b. cond b ((listOf (l .n) (heldRows l)) .x) x) (ne-eqb k 0 h));
-      }
+  pub expand-refused : (k ≡ 0 → ⊥) → Call (expandCall l s z x s z x) k
+  expand-refused h = refused _ at-lines h (refl, (refl, (refl, tt)))
 
   module _ (a : k ≡ 0) where
     pub accepted-held : AcceptedRecord l
@@ -52,7 +47,6 @@ module _ (l : LentRecord) (s z x : List ℕ) (others : Bool)
     x-fit = has-length (l .n) x (neither (otherThan (l .n) z) (otherThan (l .n) x) words-fit .1)
 
     pub expand-accepted : (s′ z′ x′ : List ℕ) → s′ ≡ (listOf (l .n) (heldRows l)) .signs →
-        z′ ≡ (listOf (l .n) (heldRows l)) .z → x′ ≡ (listOf (l .n) (heldRows l)) .x
-        → ExpandCall l s z x 0 s′ z′ x′
-    expand-accepted s′ z′ x′ es ez ex =
-        record { number = sym a ∙ at-lines; sign-bits = es; z-words = ez; x-words = ex }
+        z′ ≡ (listOf (l .n) (heldRows l)) .z → x′ ≡ (listOf (l .n) (heldRows l)) .x →
+        Call (expandCall l s z x s′ z′ x′) 0
+    expand-accepted s′ z′ x′ es ez ex = done _ at-lines a (es, (ez, (ex, tt)))

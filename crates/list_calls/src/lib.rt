@@ -4,12 +4,13 @@ use record_checks::record_refusal;
 use record_expansion::expand_into;
 use reduction::reduce_list;
 use stabilizer_checks::early_refusal;
-ghost use Rattle.list_calls.specs.Calls.{CheckCall, ExpandCall, ReduceCall};
+ghost use Rattle.contracts.specs.Calls.{Call};
+ghost use Rattle.list_calls.specs.Calls.{checkCall, expandCall, reduceCall};
 
 // Lines 2, 4, 5, 6, 9 and 10 of a generator list.
 pub fn check(n: u64, signs: &[u8], z: &[u64], x: &[u64]) -> u8
-    ensures { λ r. ⌜ CheckCall
-        (record { n = n; signs = now (signs .entry); z = now (z .entry); x = now (x .entry) }) r ⌝ }
+    ensures { λ r. ⌜ Call (checkCall
+        (record { n = n; signs = now (signs .entry); z = now (z .entry); x = now (x .entry) })) r ⌝ }
 {
     let early = early_refusal(n, signs, z, x, false);
     if early != 0 {
@@ -38,9 +39,9 @@ pub fn reduce(
     neighbours: &mut [u64],
     codes: &mut [u8],
 ) -> u8
-    ensures { λ r. ⌜ ReduceCall
+    ensures { λ r. ⌜ Call (reduceCall
         (record { n = n; signs = now (signs .entry); z = now (z .entry); x = now (x .entry) })
-        (now (neighbours .entry)) (now (codes .entry)) r (now (neighbours .exit)) (now (codes .exit)) ⌝ }
+        (now (neighbours .entry)) (now (codes .entry)) (now (neighbours .exit)) (now (codes .exit))) r ⌝ }
 {
     let others = other_than(neighbours.len(), n) | other_than(codes.len(), n);
     let early = early_refusal(n, signs, z, x, others);
@@ -64,9 +65,10 @@ pub fn expand(
     z: &mut [u64],
     x: &mut [u64],
 ) -> u8
-    ensures { λ r. ⌜ ExpandCall
+    ensures { λ r. ⌜ Call (expandCall
         (record { n = n; neighbours = now (neighbours .entry); codes = now (codes .entry) })
-        (now (signs .entry)) (now (z .entry)) (now (x .entry)) r (now (signs .exit)) (now (z .exit)) (now (x .exit)) ⌝ }
+        (now (signs .entry)) (now (z .entry)) (now (x .entry))
+        (now (signs .exit)) (now (z .exit)) (now (x .exit))) r ⌝ }
 {
     let others = other_than(signs.len(), n) | (other_than(z.len(), n) | other_than(x.len(), n));
     let early = record_refusal(n, neighbours, codes, others, false);

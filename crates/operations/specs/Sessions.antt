@@ -3,6 +3,7 @@
 -- Assumes nothing.
 use mathlib.Core.List.{_++_, List, [], map, _∷_}
 use Prim.Native.Nat.{ℕ}
+use Rattle.buffers.specs.Refusals.{firstFitting}
 use Rattle.record.specs.Lent.{LentRecord}
 use Rattle.operations.specs.Measurement.{determinedNumber, outcomeNumber}
 use Rattle.operations.specs.Steps.{
@@ -10,10 +11,11 @@ use Rattle.operations.specs.Steps.{
   complementOf,
   czOn,
   gateWith,
+  leaves,
+  linesOf,
   measuredAnswer,
   measurementOf,
   pivotOf,
-  step,
 }
 
 -- a record on two vertices, joined by an edge or apart
@@ -29,7 +31,7 @@ contents l = l .neighbours ++ l .codes
 
 -- a call's number and what it leaves
 abbrev answer : LentRecord → Operation → List ℕ
-answer l o = (step l o) .number ∷ contents ((step l o) .after)
+answer l o = firstFitting (linesOf l o) ∷ contents (leaves l o)
 
 -- a measurement's two further answers before these
 abbrev reading : LentRecord → ℕ → ℕ → ℕ → List ℕ
@@ -43,7 +45,7 @@ abbrev refuses : ℕ → LentRecord → List ℕ
 refuses k l = k ∷ contents l
 
 abbrev number : LentRecord → Operation → ℕ
-number l o = (step l o) .number
+number l o = firstFitting (linesOf l o)
 
 pub record Example : Type 0 where
   pub given : List ℕ

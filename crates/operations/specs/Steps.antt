@@ -53,42 +53,39 @@ abbrev pub pivotLines : LentRecord → ℕ → ℕ → List Line
 pivotLines l j k =
     inPlaceLines l false (leb (l .n) j || (leb (l .n) k || (eqb j k || not ((heldRecord l) .graph j k))))
 
--- ---- what a call answers: its number, and the record as the buffers then hold it
-pub record Step : Type 0 where
-  pub number : ℕ
-  pub after : LentRecord
+-- ---- the operations
+pub data Operation : Type 0 where
+  gateWith : ℕ → ℕ → Operation
+  czOn : ℕ → ℕ → Operation
+  measurementOf : ℕ → ℕ → ℕ → Operation
+  complementOf : ℕ → Operation
+  pivotOf : ℕ → ℕ → Operation
 
--- refused, the record as it was; accepted, the new one
-abbrev pub stepped : LentRecord → List Line → GraphRecord → Step
-stepped l lines new =
-    record {
-      number = firstFitting lines;
-      after = record {
-        n = l .n;
-        neighbours = accepted (firstFitting lines) (neighbourWords (l .n) new) (l .neighbours);
-        codes = accepted (firstFitting lines) (codeNumbers (l .n) new) (l .codes);
-      };
-    }
+abbrev pub linesOf : LentRecord → Operation → List Line
+linesOf l (gateWith q k) = gateLines l q k
+linesOf l (czOn a b) = czLines l a b
+linesOf l (measurementOf pauli q b) = measureLines l pauli q b
+linesOf l (complementOf a) = complementLines l a
+linesOf l (pivotOf j k) = pivotLines l j k
 
--- "All three answer the reduced record of the new group"
-abbrev pub gate : LentRecord → ℕ → ℕ → Step
-gate l q k = stepped l (gateLines l q k)
-    (reduced (l .n) (rowsOf (l .n) (gated (heldRecord l) q (cliffordOf k))))
-
-abbrev pub controlledZ : LentRecord → ℕ → ℕ → Step
-controlledZ l a b = stepped l (czLines l a b) (reduced (l .n) (czRows a b (heldRows l)))
-
-abbrev pub measure : LentRecord → ℕ → ℕ → ℕ → Step
-measure l pauli q b =
-    stepped l (measureLines l pauli q b)
-    (reduced (l .n) (measuredRows (l .n) (heldRows l) (pauliLetter pauli) q (isOdd b)))
-
+-- the new record of an accepted one. "All three answer the reduced record of the new group"; of a complement and a pivot
 -- "the answer is the record so rewritten, not reduced"
-abbrev pub complementAt : LentRecord → ℕ → Step
-complementAt l a = stepped l (complementLines l a) (complementRecord (heldRecord l) a)
+abbrev pub made : LentRecord → Operation → GraphRecord
+made l (gateWith q k) = reduced (l .n) (rowsOf (l .n) (gated (heldRecord l) q (cliffordOf k)))
+made l (czOn a b) = reduced (l .n) (czRows a b (heldRows l))
+made l (measurementOf pauli q b) =
+    reduced (l .n) (measuredRows (l .n) (heldRows l) (pauliLetter pauli) q (isOdd b))
+made l (complementOf a) = complementRecord (heldRecord l) a
+made l (pivotOf j k) = pivotRecord (heldRecord l) j k
 
-abbrev pub pivotAt : LentRecord → ℕ → ℕ → Step
-pivotAt l j k = stepped l (pivotLines l j k) (pivotRecord (heldRecord l) j k)
+-- what the buffers hold after it: refused, the record as it was; accepted, the new one
+abbrev pub leaves : LentRecord → Operation → LentRecord
+leaves l o =
+    record {
+      n = l .n;
+      neighbours = accepted (firstFitting (linesOf l o)) (neighbourWords (l .n) (made l o)) (l .neighbours);
+      codes = accepted (firstFitting (linesOf l o)) (codeNumbers (l .n) (made l o)) (l .codes);
+    }
 
 -- a measurement's further answer
 abbrev pub measuredAnswer : LentRecord → ℕ → ℕ → ℕ → Outcome
@@ -100,20 +97,6 @@ pub record ReadOff (l : LentRecord) (pauli q : ℕ) (determined minus : Bool) : 
   pub reading : (b : Bool) → outcome (l .n) (heldRows l) (pauliLetter pauli) q b ≡ cond determined minus b
 
 -- ---- sessions: one call after another on the record that the last one left
-pub data Operation : Type 0 where
-  gateWith : ℕ → ℕ → Operation
-  czOn : ℕ → ℕ → Operation
-  measurementOf : ℕ → ℕ → ℕ → Operation
-  complementOf : ℕ → Operation
-  pivotOf : ℕ → ℕ → Operation
-
-abbrev pub step : LentRecord → Operation → Step
-step l (gateWith q k) = gate l q k
-step l (czOn a b) = controlledZ l a b
-step l (measurementOf pauli q b) = measure l pauli q b
-step l (complementOf a) = complementAt l a
-step l (pivotOf j k) = pivotAt l j k
-
 abbrev pub session : LentRecord → List Operation → LentRecord
 session l [] = l
-session l (o ∷ rest) = session ((step l o) .after) rest
+session l (o ∷ rest) = session (leaves l o) rest

@@ -3,11 +3,10 @@
 -- Assumes nothing.
 use mathlib.Core.Bool.{_||_}
 use mathlib.Core.List.{List, [], _∷_}
-use mathlib.Core.Path.{_≡_}
 use Prim.Native.Nat.{_^_, ℕ}
 use lib.Dec.{leb}
-use Rattle.buffers.specs.Buffers.{acceptedNumber}
-use Rattle.buffers.specs.Refusals.{Line, badCount, firstFitting, line}
+use Rattle.buffers.specs.Refusals.{Line, badCount, line}
+use Rattle.contracts.specs.Calls.{Contract, contract, number}
 use Rattle.pauli.specs.Pauli.{Pauli, exponent}
 use Rattle.stabilizer.specs.Groups.{product}
 use Rattle.stabilizer.specs.Lists.{GeneratorList, listLengths, listSigns, listStray, rows}
@@ -25,8 +24,9 @@ abbrev pub chosenProduct : GeneratorList → ℕ → Pauli
 chosenProduct l chosen = product (l .n) (l .n) (bit chosen) (rows l)
 
 -- ---- sukhlent_product: "the answer is the product and its phase", "a power of i from 0 to 3"
-pub record ProductCall (l : GeneratorList) (chosen z x phase r z′ x′ phase′ : ℕ) : Type 0 where
-  pub number : r ≡ firstFitting (productLines l chosen)
-  pub z-word : z′ ≡ acceptedNumber r (wordOf (l .n) ((chosenProduct l chosen) .z)) z
-  pub x-word : x′ ≡ acceptedNumber r (wordOf (l .n) ((chosenProduct l chosen) .x)) x
-  pub turns : phase′ ≡ acceptedNumber r (exponent ((chosenProduct l chosen) .phase)) phase
+abbrev pub productCall : GeneratorList → ℕ → ℕ → ℕ → ℕ → ℕ → ℕ → ℕ → Contract
+productCall l chosen z x phase z′ x′ phase′ =
+    contract (productLines l chosen)
+    (number z (wordOf (l .n) ((chosenProduct l chosen) .z)) z′
+    ∷ number x (wordOf (l .n) ((chosenProduct l chosen) .x)) x′
+    ∷ number phase (exponent ((chosenProduct l chosen) .phase)) phase′ ∷ [])

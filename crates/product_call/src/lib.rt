@@ -6,10 +6,11 @@ use words::stray;
 ghost use mathlib.Core.Path.{_≡_};
 ghost use Prim.Native.Nat.{_<_};
 ghost use lib.ListN.{getD, length};
+ghost use Rattle.contracts.specs.Calls.{Call};
 ghost use Rattle.buffers.specs.Refusals.{firstFitting};
 ghost use Rattle.pauli.specs.Pauli.{signedRow};
 ghost use Rattle.pauli.specs.Rows.{pauliOf};
-ghost use Rattle.product_call.specs.Products.{ProductCall, chosenProduct, productLines};
+ghost use Rattle.product_call.specs.Products.{chosenProduct, productCall, productLines};
 ghost use Rattle.words.specs.Bits.{isOdd};
 
 // The first line that holds; 0 where none does. Lines 2 and 4 come before the test of the word that chooses, 6 after
@@ -81,10 +82,10 @@ pub fn product(
     product_x: &mut u64,
     phase: &mut u8,
 ) -> u8
-    ensures { λ r. ⌜ ProductCall
+    ensures { λ r. ⌜ Call (productCall
         (record { n = n; signs = now (signs .entry); z = now (z .entry); x = now (x .entry) }) chosen
-        (now («product_z» .entry)) (now («product_x» .entry)) (now (phase .entry)) r
-        (now («product_z» .exit)) (now («product_x» .exit)) (now (phase .exit)) ⌝ }
+        (now («product_z» .entry)) (now («product_x» .entry)) (now (phase .entry))
+        (now («product_z» .exit)) (now («product_x» .exit)) (now (phase .exit))) r ⌝ }
 {
     let number = product_refusal(n, signs, z, x, chosen);
     if number != 0 {

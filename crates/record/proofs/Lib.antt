@@ -11,7 +11,6 @@ pub mod ReducedRecords
 pub mod ReducedCodes
 pub mod Maximality
 pub mod ComplementLists
-pub mod SimpleLines
 pub mod RecordLines
 pub mod SimpleVerdict
 pub mod AcceptedRecords

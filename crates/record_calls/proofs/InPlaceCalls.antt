@@ -1,93 +1,87 @@
 -- The calls on a record lent in place, from what the functions below them answer.
 -- Assumes nothing.
-use mathlib.Core.Bool.{Bool, cond}
 use mathlib.Core.List.{List}
 use mathlib.Core.Path.{ap, sym, _∙_, _≡_}
 use Prim.Native.Nat.{ℕ}
-use lib.Dec.{eqb}
 use lib.ListN.{length}
-use borrow.Author.Tests.{eq-eqb, ne-eqb}
-use Rattle.buffers.specs.Refusals.{Line, firstFitting}
-use Rattle.operations.specs.InPlace.{MeasuredInPlace, Rewritten}
-use Rattle.operations.specs.Measurement.{determinedNumber, measuredRows, outcomeNumber, pauliLetter}
-use Rattle.operations.specs.Steps.{inPlaceLines, measureLines, measuredAnswer, stepped}
+use Rattle.buffers.specs.Buffers.{accepted}
+use Rattle.buffers.specs.Refusals.{firstFitting}
+use Rattle.contracts.proofs.Calling.{done}
+use Rattle.contracts.specs.Answers.{Written}
+use Rattle.contracts.specs.Calls.{Call, EachOf}
+use Rattle.operations.specs.InPlace.{MeasuredInPlace}
+use Rattle.operations.specs.Measurement.{determinedNumber, outcomeNumber}
+use Rattle.operations.specs.Steps.{
+  Operation,
+  complementOf,
+  czOn,
+  gateWith,
+  leaves,
+  linesOf,
+  made,
+  measureLines,
+  measuredAnswer,
+  measurementOf,
+  pivotOf,
+}
 use Rattle.operations.specs.declared.Outcome.{Outcome}
-use Rattle.record.specs.Lent.{LentRecord, codeNumbers, heldRecord, neighbourWords}
-use Rattle.record.specs.Records.{GraphRecord, rowsOf}
-use Rattle.record.specs.Reduced.{reduced}
+use Rattle.record.specs.Accepted.{AcceptedRecord}
+use Rattle.record.specs.Lent.{LentRecord, codeNumbers, neighbourWords}
+use Rattle.record.specs.Records.{GraphRecord}
 use Rattle.words.specs.Bits.{isOdd}
 use Rattle.record_calls.proofs.InPlaceLines.{held-accepted}
 use Rattle.record_calls.proofs.MeasureLines.{measure-accepted}
-use Rattle.record_calls.specs.InPlaceCalls.{InPlaceCall, MeasureCall}
+use Rattle.record_calls.specs.InPlaceCalls.{inPlaceCall, measureCall, recordLent}
 
-module _ (l : LentRecord) (lines : List Line) (k : ℕ) (e : k ≡ firstFitting lines) where
-  -- refused: both buffers are as they were
-  pub step-refused : (k ≡ 0 → ⊥) → (F : ℕ → GraphRecord → GraphRecord)
-      → InPlaceCall (stepped l lines (F (l .n) (heldRecord l))) k (l .neighbours) (l .codes)
-  step-refused h F =
-      record {
-        number = e;
-        words = kept (neighbourWords (l .n) (F (l .n) (heldRecord l))) (l .neighbours);
-        numbers = kept (codeNumbers (l .n) (F (l .n) (heldRecord l))) (l .codes);
-      }
-    where
-      kept : (answer old : List ℕ) → old ≡ cond (eqb (firstFitting lines) 0) answer old
-      kept answer old = sym (ap (λ b. cond b answer old) (ne-eqb (firstFitting lines) 0 (λ z. h (e ∙ z))))
+-- no line of an operation holds: the record is accepted
+pub operation-accepted : (l : LentRecord) (o : Operation) → firstFitting (linesOf l o) ≡ 0 → AcceptedRecord l
+operation-accepted l (gateWith q k) e = held-accepted l _ _ e
+operation-accepted l (czOn a b) e = held-accepted l _ _ e
+operation-accepted l (measurementOf pauli q b) e = measure-accepted l pauli q b e
+operation-accepted l (complementOf a) e = held-accepted l _ _ e
+operation-accepted l (pivotOf j k) e = held-accepted l _ _ e
 
-  -- accepted: they hold the new record
-  done-by-lines : k ≡ 0 → length (l .neighbours) ≡ l .n → (F : ℕ → GraphRecord → GraphRecord)
-      → (neighbours′ codes′ : List ℕ)
-      → Rewritten (l .neighbours) (l .codes) (F (length (l .neighbours))) neighbours′ codes′
-      → InPlaceCall (stepped l lines (F (l .n) (heldRecord l))) 0 neighbours′ codes′
-  done-by-lines z long F neighbours′ codes′ R =
-      record {
-        number = sym z ∙ e;
-        words = R .neighbours ∙ ap (λ m. neighbourWords m (F m (heldRecord l))) long ∙ taken _ (l .neighbours);
-        numbers = R .numbers ∙ ap (λ m. codeNumbers m (F m (heldRecord l))) long ∙ taken _ (l .codes);
-      }
-    where
-      taken : (answer old : List ℕ) → answer ≡ cond (eqb (firstFitting lines) 0) answer old
-      taken answer old = sym (ap (λ b. cond b answer old) (eq-eqb (firstFitting lines) 0 (sym e ∙ z)))
+module _ (l : LentRecord) (o : Operation) {k : ℕ} (e : k ≡ firstFitting (linesOf l o)) (z : k ≡ 0) where
+  pub long : length (l .neighbours) ≡ l .n
+  long = operation-accepted l o (sym e ∙ z) .neighbours-length
 
-pub step-done : (l : LentRecord) (six eight : Bool) (k : ℕ) → k ≡ firstFitting (inPlaceLines l six eight) → k ≡ 0
-    → (F : ℕ → GraphRecord → GraphRecord) (neighbours′ codes′ : List ℕ)
-    → Rewritten (l .neighbours) (l .codes) (F (length (l .neighbours))) neighbours′ codes′
-    → InPlaceCall (stepped l (inPlaceLines l six eight) (F (l .n) (heldRecord l))) 0 neighbours′ codes′
-step-done l six eight k e z =
-    done-by-lines l (inPlaceLines l six eight) k e z (held-accepted l six eight (sym e ∙ z) .neighbours-length)
+  -- the new record on m vertices
+  abbrev At : ℕ → GraphRecord
+  At m = made (record { n = m; neighbours = l .neighbours; codes = l .codes }) o
+
+  -- the operations on two buffers take n from their lengths
+  module _ {nb′ cs′ : List ℕ} (en : nb′ ≡ neighbourWords (length (l .neighbours)) (At (length (l .neighbours))))
+      (ec : cs′ ≡ codeNumbers (length (l .neighbours)) (At (length (l .neighbours)))) where
+    pub both-written : EachOf Written (recordLent l o nb′ cs′)
+    both-written = (en ∙ ap (λ m. neighbourWords m (At m)) long, (ec ∙ ap (λ m. codeNumbers m (At m)) long, tt))
+
+    pub in-place-done : Call (inPlaceCall l o nb′ cs′) 0
+    in-place-done = done _ e z both-written
+
+-- what the buffers hold after a call is what its operation leaves
+pub left-by-call : (l : LentRecord) (o : Operation) {r : ℕ} {nb′ cs′ : List ℕ} → Call (inPlaceCall l o nb′ cs′) r →
+    (nb′ ≡ leaves l o .neighbours) × (cs′ ≡ leaves l o .codes)
+left-by-call l o C = (
+  C .held .0 ∙ ap (λ k. accepted k (neighbourWords (l .n) (made l o)) (l .neighbours)) (C .number),
+  C .held .1 .0 ∙ ap (λ k. accepted k (codeNumbers (l .n) (made l o)) (l .codes)) (C .number),
+)
 
 -- ---- a measurement
-module _ (l : LentRecord) (pauli q b answer determined k : ℕ) (e : k ≡ firstFitting (measureLines l pauli q b)) where
-  -- the record that is left
-  abbrev left : ℕ → GraphRecord → GraphRecord
-  left m g = reduced m (measuredRows m (rowsOf m g) (pauliLetter pauli) q (isOdd b))
-
-  pub measure-refused : (k ≡ 0 → ⊥) →
-      MeasureCall l pauli q b answer determined k (l .neighbours) (l .codes) answer determined
-  measure-refused h =
-      record {
-        step = step-refused l (measureLines l pauli q b) k e h left;
-        outcome = kept _ answer;
-        known = kept _ determined;
-      }
-    where
-      kept : (new old : ℕ) → old ≡ cond (eqb k 0) new old
-      kept new old = sym (ap (λ b. cond b new old) (ne-eqb k 0 h))
-
-  pub measure-done : k ≡ 0 → (r : Outcome) (neighbours′ codes′ : List ℕ)
-      → MeasuredInPlace (l .neighbours) (l .codes) pauli q (isOdd b) r neighbours′ codes′
-      → (answer′ determined′ : ℕ) → answer′ ≡ outcomeNumber r → determined′ ≡ determinedNumber r
-      → MeasureCall l pauli q b answer determined 0 neighbours′ codes′ answer′ determined′
-  measure-done z r neighbours′ codes′ M answer′ determined′ ea ed =
-      record {
-        step = done-by-lines l (measureLines l pauli q b) k e z long left neighbours′ codes′ (M .after);
-        outcome = ea ∙ ap outcomeNumber answers;
-        known = ed ∙ ap determinedNumber answers;
-      }
-    where
-      long : length (l .neighbours) ≡ l .n
-      long = measure-accepted l pauli q b (sym e ∙ z) .neighbours-length
-
-      answers : r ≡ measuredAnswer l pauli q b
-      answers = M .answer ∙ ap (λ m. measuredAnswer
-          (record { n = m; neighbours = l .neighbours; codes = l .codes }) pauli q b) long
+pub measure-done : (l : LentRecord) (pauli q b answer determined k : ℕ) → k ≡ firstFitting (measureLines l pauli q b) →
+    k ≡ 0 → (r : Outcome) (nb′ cs′ : List ℕ) →
+    MeasuredInPlace (l .neighbours) (l .codes) pauli q (isOdd b) r nb′ cs′ →
+    (answer′ determined′ : ℕ) → answer′ ≡ outcomeNumber r → determined′ ≡ determinedNumber r →
+    Call (measureCall l pauli q b answer determined nb′ cs′ answer′ determined′) 0
+measure-done l pauli q b answer determined k e z r nb′ cs′ M answer′ determined′ ea ed =
+    done _ e z (
+      ea ∙ ap outcomeNumber answers,
+      (
+        ed ∙ ap determinedNumber answers,
+        both-written l (measurementOf pauli q b) e z (M .after .neighbours) (M .after .numbers),
+      ),
+    )
+  where
+    answers : r ≡ measuredAnswer l pauli q b
+    answers = M .answer ∙ ap (λ m. measuredAnswer
+        (record { n = m; neighbours = l .neighbours; codes = l .codes }) pauli q b)
+        (long l (measurementOf pauli q b) e z)

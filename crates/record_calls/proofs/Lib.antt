@@ -1,4 +1,4 @@
-pub mod LastLines
 pub mod InPlaceLines
 pub mod MeasureLines
 pub mod InPlaceCalls
+pub mod KnownRecords

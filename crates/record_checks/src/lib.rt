@@ -2,17 +2,17 @@
 use buffers::bad_count;
 use buffers::reaches;
 use buffers::strays;
-use words::flip;
+use transposition::transpose;
 use words::has;
-use words::smallest;
-ghost use mathlib.Core.Bool.{_&&_, not};
+use words::mask;
 ghost use mathlib.Core.Path.{_≡_};
-ghost use Prim.Native.Nat.{ℕ, _<_, _≤_, _^_};
+ghost use Prim.Native.Nat.{ℕ, _≤_};
 ghost use lib.ListN.{getD, length};
 ghost use Rattle.buffers.specs.Refusals.{firstFitting};
 ghost use Rattle.record.specs.Lent.{notSimple, recordLengths, recordLines};
-ghost use Rattle.words.specs.Bits.{bit};
+ghost use Rattle.words.specs.Bits.{_⊕_, bit};
 ghost use Rattle.words.specs.Search.{some};
+ghost use Rattle.record_checks.specs.Copies.{Copied};
 
 // Line 4: one of the two buffers does not have n places.
 fn record_lengths(n: usize, neighbours: &[u64], codes: &[u8]) -> bool
@@ -25,38 +25,56 @@ fn record_lengths(n: usize, neighbours: &[u64], codes: &[u8]) -> bool
     (neighbours.len() != n) | (codes.len() != n)
 }
 
-// Whether vertex i has an edge that its other end does not have.
-fn one_ended(n: usize, neighbours: &[u64], i: usize) -> bool
-    requires { ⌜ (n ≤ 64) × (length (now neighbours) ≡ n) × (i < n) ⌝ }
-    requires { ⌜ getD (now neighbours) i 0 < 2 ^ n ⌝ }
-    ensures { λ r. ⌜ r ≡ some n (λ j. bit (getD (now (neighbours .entry)) i 0) j
-        && not (bit (getD (now (neighbours .entry)) j 0) i)) ⌝ }
-{
-    let mut rest = neighbours[i];
-    while rest != 0 {
-        let j = smallest(rest);
-        if !has(neighbours[j], i) {
-            return true;
-        }
-        rest = flip(rest, j);
-    }
-    false
-}
-
-// Line 7: the graph is not simple.
-fn not_simple(n: usize, neighbours: &[u64]) -> bool
-    requires { ⌜ (n ≤ 64) × (length (now neighbours) ≡ n) ⌝ }
-    requires { ⌜ ((j : ℕ) → j < n → getD (now neighbours) j 0 < 2 ^ n) ⌝ }
-    ensures { λ r. ⌜ r ≡ notSimple n (λ j. bit (getD (now (neighbours .entry)) j 0)) ⌝ }
+// The first n words, copied into a square.
+fn square_of(n: usize, words: &[u64], rows: &mut [u64; 64])
+    requires { ⌜ (n ≤ 64) × (length (now words) ≡ n) × (length (now rows) ≡ 64) ⌝ }
+    ensures { λ r. ⌜ Copied n (now (words .entry)) (now (rows .exit)) ⌝ }
 {
     let mut i = 0;
     while i < n {
-        if has(neighbours[i], i) | one_ended(n, neighbours, i) {
-            return true;
-        }
+        rows[i] = words[i];
         i += 1;
     }
-    false
+}
+
+// The columns at which one of the first n words differs from its row.
+fn unequal(n: usize, words: &[u64], rows: &[u64; 64]) -> u64
+    requires { ⌜ (n ≤ 64) × (length (now words) ≡ n) ⌝ }
+    ensures { λ r. ⌜ ((c : ℕ) → bit r c ≡ some n (λ i. bit (getD (now (words .entry)) i 0) c
+        ⊕ bit (getD (now (rows .entry)) i 0) c)) ⌝ }
+{
+    let mut all = 0;
+    let mut i = 0;
+    while i < n {
+        all = all | (words[i] ^ rows[i]);
+        i += 1;
+    }
+    all
+}
+
+// Whether some vertex is its own neighbour.
+fn own_neighbour(n: usize, neighbours: &[u64]) -> bool
+    requires { ⌜ (n ≤ 64) × (length (now neighbours) ≡ n) ⌝ }
+    ensures { λ r. ⌜ r ≡ some n (λ i. bit (getD (now (neighbours .entry)) i 0) i) ⌝ }
+{
+    let mut found = false;
+    let mut i = 0;
+    while i < n {
+        found = found | has(neighbours[i], i);
+        i += 1;
+    }
+    found
+}
+
+// Line 7: the graph is not simple. Its square of bits is compared with the transpose.
+fn not_simple(n: usize, neighbours: &[u64]) -> bool
+    requires { ⌜ (1 ≤ n) × (n ≤ 64) × (length (now neighbours) ≡ n) ⌝ }
+    ensures { λ r. ⌜ r ≡ notSimple n (λ j. bit (getD (now (neighbours .entry)) j 0)) ⌝ }
+{
+    let mut rows = [0; 64];
+    square_of(n, neighbours, &mut rows);
+    transpose(&mut rows, n);
+    own_neighbour(n, neighbours) | (unequal(n, neighbours, &rows) & mask(n) != 0)
 }
 
 // The first line of a record that holds; 0 where none does. `others`: a further buffer of the call has a wrong

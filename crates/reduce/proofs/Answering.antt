@@ -11,16 +11,17 @@ use lib.ListN.{getD, length}
 use borrow.Author.Tests.{eq-eqb, lt-ltb, ne-eqb}
 use Rattle.buffers.proofs.Lines.{first-below, fits}
 use Rattle.buffers.proofs.Tabulate.{tabulate-at, tabulate-length}
-use Rattle.buffers.specs.Buffers.{accepted}
 use Rattle.buffers.specs.Refusals.{firstFitting, otherThan}
 use Rattle.clifford.proofs.CliffordLaws.{codeOf-lt}
 use Rattle.clifford.specs.Clifford.{codeOf}
+use Rattle.contracts.proofs.Calling.{written-all}
+use Rattle.contracts.specs.Calls.{Call}
 use Rattle.record.specs.Lent.{codeNumbers, neighbourWords}
 use Rattle.record.specs.Reduced.{reduced}
 use Rattle.stabilizer.proofs.Accepted.{accepted-list}
 use Rattle.stabilizer.proofs.SharedTests.{length-passes}
 use Rattle.stabilizer.specs.Lists.{GeneratorList, listLines, rows}
-use Rattle.list_calls.specs.Calls.{ReduceCall, checkLines, reduceLines}
+use Rattle.list_calls.specs.Calls.{checkLines, reduceCall, reduceLines}
 use Rattle.text.specs.Text.{Printable, recordText, refusedText}
 use Rattle.words.proofs.Sums.{lt-or-ge}
 use Rattle.words.specs.Bits.{wordOf}
@@ -50,7 +51,7 @@ module _ (l : GeneratorList) (nb cs out : List ℕ) (L : Lent (l .n) nb cs out) 
           ap₂ (λ a b. firstFitting (listLines l (a || b)))
           (length-passes (l .n) nb (L .words-fit h)) (length-passes (l .n) cs (L .codes-fit h))
 
-  module _ (number : ℕ) (nb′ cs′ : List ℕ) (R : ReduceCall l nb cs number nb′ cs′) where
+  module _ (number : ℕ) (nb′ cs′ : List ℕ) (R : Call (reduceCall l nb cs nb′ cs′) number) where
     abbrev answerWords : List ℕ
     answerWords = neighbourWords (l .n) (reduced (l .n) (rows l))
 
@@ -80,10 +81,10 @@ module _ (l : GeneratorList) (nb cs out : List ℕ) (L : Lent (l .n) nb cs out) 
       passes = sym number-is ∙ z
 
       words-are : nb′ ≡ answerWords
-      words-are = R .words ∙ ap (λ k. accepted k answerWords nb) z
+      words-are = written-all R z .0
 
       codes-are : cs′ ≡ answerCodes
-      codes-are = R .numbers ∙ ap (λ k. accepted k answerCodes cs) z
+      codes-are = written-all R z .1 .0
 
       pub record-printed : recordText (l .n) nb′ cs′ ≡ printed l
       unfolding printed

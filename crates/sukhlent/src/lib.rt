@@ -1,18 +1,21 @@
 // The public calls as C sees them. Each passes its arguments on to the proved call that has the same contract.
-ghost use Rattle.compare_call.specs.Comparisons.{CompareCall};
-ghost use Rattle.cut_call.specs.Cuts.{CutCall};
-ghost use Rattle.generate_call.specs.Generated.{GenerateCall};
-ghost use Rattle.image_call.specs.Images.{Imaged};
-ghost use Rattle.list_calls.specs.Calls.{CheckCall, ExpandCall, ReduceCall};
-ghost use Rattle.operations.specs.Steps.{complementAt, controlledZ, gate, pivotAt};
-ghost use Rattle.product_call.specs.Products.{ProductCall};
-ghost use Rattle.record_calls.specs.InPlaceCalls.{InPlaceCall, MeasureCall};
+mod ties;
+
+ghost use Rattle.compare_call.specs.Comparisons.{compareCall};
+ghost use Rattle.contracts.specs.Calls.{Call};
+ghost use Rattle.cut_call.specs.Cuts.{cutCall};
+ghost use Rattle.generate_call.specs.Generated.{generateCall};
+ghost use Rattle.image_call.specs.Images.{imageCall};
+ghost use Rattle.list_calls.specs.Calls.{checkCall, expandCall, reduceCall};
+ghost use Rattle.operations.specs.Steps.{complementOf, czOn, gateWith, pivotOf};
+ghost use Rattle.product_call.specs.Products.{productCall};
+ghost use Rattle.record_calls.specs.InPlaceCalls.{inPlaceCall, measureCall};
 
 // Lines 2, 4, 5, 6, 9 and 10 of a generator list.
 #[no_mangle]
 pub extern "C" fn sukhlent_check(n: u64, signs: &[u8], z: &[u64], x: &[u64]) -> u8
-    ensures { λ r. ⌜ CheckCall
-        (record { n = n; signs = now (signs .entry); z = now (z .entry); x = now (x .entry) }) r ⌝ }
+    ensures { λ r. ⌜ Call (checkCall
+        (record { n = n; signs = now (signs .entry); z = now (z .entry); x = now (x .entry) })) r ⌝ }
 {
     list_calls::check(n, signs, z, x)
 }
@@ -27,9 +30,9 @@ pub extern "C" fn sukhlent_reduce(
     neighbours: &mut [u64],
     codes: &mut [u8],
 ) -> u8
-    ensures { λ r. ⌜ ReduceCall
+    ensures { λ r. ⌜ Call (reduceCall
         (record { n = n; signs = now (signs .entry); z = now (z .entry); x = now (x .entry) })
-        (now (neighbours .entry)) (now (codes .entry)) r (now (neighbours .exit)) (now (codes .exit)) ⌝ }
+        (now (neighbours .entry)) (now (codes .entry)) (now (neighbours .exit)) (now (codes .exit))) r ⌝ }
 {
     list_calls::reduce(n, signs, z, x, neighbours, codes)
 }
@@ -44,9 +47,10 @@ pub extern "C" fn sukhlent_expand(
     z: &mut [u64],
     x: &mut [u64],
 ) -> u8
-    ensures { λ r. ⌜ ExpandCall
+    ensures { λ r. ⌜ Call (expandCall
         (record { n = n; neighbours = now (neighbours .entry); codes = now (codes .entry) })
-        (now (signs .entry)) (now (z .entry)) (now (x .entry)) r (now (signs .exit)) (now (z .exit)) (now (x .exit)) ⌝ }
+        (now (signs .entry)) (now (z .entry)) (now (x .entry))
+        (now (signs .exit)) (now (z .exit)) (now (x .exit))) r ⌝ }
 {
     list_calls::expand(n, neighbours, codes, signs, z, x)
 }
@@ -60,9 +64,9 @@ pub extern "C" fn sukhlent_gate(
     qubit: u64,
     code: u8,
 ) -> u8
-    ensures { λ r. ⌜ InPlaceCall
-        (gate (record { n = n; neighbours = now (neighbours .entry); codes = now (codes .entry) }) qubit code)
-        r (now (neighbours .exit)) (now (codes .exit)) ⌝ }
+    ensures { λ r. ⌜ Call (inPlaceCall
+        (record { n = n; neighbours = now (neighbours .entry); codes = now (codes .entry) })
+        (gateWith qubit code) (now (neighbours .exit)) (now (codes .exit))) r ⌝ }
 {
     record_calls::gate(n, neighbours, codes, qubit, code)
 }
@@ -76,9 +80,9 @@ pub extern "C" fn sukhlent_cz(
     a: u64,
     b: u64,
 ) -> u8
-    ensures { λ r. ⌜ InPlaceCall
-        (controlledZ (record { n = n; neighbours = now (neighbours .entry); codes = now (codes .entry) }) a b)
-        r (now (neighbours .exit)) (now (codes .exit)) ⌝ }
+    ensures { λ r. ⌜ Call (inPlaceCall
+        (record { n = n; neighbours = now (neighbours .entry); codes = now (codes .entry) })
+        (czOn a b) (now (neighbours .exit)) (now (codes .exit))) r ⌝ }
 {
     record_calls::cz(n, neighbours, codes, a, b)
 }
@@ -95,10 +99,10 @@ pub extern "C" fn sukhlent_measure(
     answer: &mut u8,
     determined: &mut u8,
 ) -> u8
-    ensures { λ r. ⌜ MeasureCall
+    ensures { λ r. ⌜ Call (measureCall
         (record { n = n; neighbours = now (neighbours .entry); codes = now (codes .entry) })
-        pauli qubit outcome (now (answer .entry)) (now (determined .entry)) r
-        (now (neighbours .exit)) (now (codes .exit)) (now (answer .exit)) (now (determined .exit)) ⌝ }
+        pauli qubit outcome (now (answer .entry)) (now (determined .entry))
+        (now (neighbours .exit)) (now (codes .exit)) (now (answer .exit)) (now (determined .exit))) r ⌝ }
 {
     measure_call::measure(
         n,
@@ -120,9 +124,9 @@ pub extern "C" fn sukhlent_complement(
     codes: &mut [u8],
     a: u64,
 ) -> u8
-    ensures { λ r. ⌜ InPlaceCall
-        (complementAt (record { n = n; neighbours = now (neighbours .entry); codes = now (codes .entry) }) a)
-        r (now (neighbours .exit)) (now (codes .exit)) ⌝ }
+    ensures { λ r. ⌜ Call (inPlaceCall
+        (record { n = n; neighbours = now (neighbours .entry); codes = now (codes .entry) })
+        (complementOf a) (now (neighbours .exit)) (now (codes .exit))) r ⌝ }
 {
     rewriting_calls::complement(n, neighbours, codes, a)
 }
@@ -136,9 +140,9 @@ pub extern "C" fn sukhlent_pivot(
     j: u64,
     k: u64,
 ) -> u8
-    ensures { λ r. ⌜ InPlaceCall
-        (pivotAt (record { n = n; neighbours = now (neighbours .entry); codes = now (codes .entry) }) j k)
-        r (now (neighbours .exit)) (now (codes .exit)) ⌝ }
+    ensures { λ r. ⌜ Call (inPlaceCall
+        (record { n = n; neighbours = now (neighbours .entry); codes = now (codes .entry) })
+        (pivotOf j k) (now (neighbours .exit)) (now (codes .exit))) r ⌝ }
 {
     rewriting_calls::pivot(n, neighbours, codes, j, k)
 }
@@ -154,10 +158,10 @@ pub extern "C" fn sukhlent_image(
     list: &mut [u8],
     count: &mut u64,
 ) -> u8
-    ensures { λ r. ⌜ Imaged
+    ensures { λ r. ⌜ Call (imageCall
         (record { n = n; neighbours = now (neighbours .entry); codes = now (codes .entry) })
-        (now (image .entry)) (now (signs .entry)) (now (list .entry)) (now (count .entry)) r
-        (now (image .exit)) (now (signs .exit)) (now (list .exit)) (now (count .exit)) ⌝ }
+        (now (image .entry)) (now (signs .entry)) (now (list .entry)) (now (count .entry))
+        (now (image .exit)) (now (signs .exit)) (now (list .exit)) (now (count .exit))) r ⌝ }
 {
     image_call::image(n, neighbours, codes, image, signs, list, count)
 }
@@ -171,9 +175,9 @@ pub extern "C" fn sukhlent_cut(
     side: u64,
     rank: &mut u64,
 ) -> u8
-    ensures { λ r. ⌜ CutCall
+    ensures { λ r. ⌜ Call (cutCall
         (record { n = n; neighbours = now (neighbours .entry); codes = now (codes .entry) }) side
-        (now (rank .entry)) r (now (rank .exit)) ⌝ }
+        (now (rank .entry)) (now (rank .exit))) r ⌝ }
 {
     cut_call::cut(n, neighbours, codes, side, rank)
 }
@@ -190,10 +194,10 @@ pub extern "C" fn sukhlent_product(
     product_x: &mut u64,
     phase: &mut u8,
 ) -> u8
-    ensures { λ r. ⌜ ProductCall
+    ensures { λ r. ⌜ Call (productCall
         (record { n = n; signs = now (signs .entry); z = now (z .entry); x = now (x .entry) }) chosen
-        (now («product_z» .entry)) (now («product_x» .entry)) (now (phase .entry)) r
-        (now («product_z» .exit)) (now («product_x» .exit)) (now (phase .exit)) ⌝ }
+        (now («product_z» .entry)) (now («product_x» .entry)) (now (phase .entry))
+        (now («product_z» .exit)) (now («product_x» .exit)) (now (phase .exit))) r ⌝ }
 {
     product_call::product(n, signs, z, x, chosen, product_z, product_x, phase)
 }
@@ -214,11 +218,11 @@ pub extern "C" fn sukhlent_compare(
     list: &mut [u8],
     count: &mut u64,
 ) -> u8
-    ensures { λ r. ⌜ CompareCall
+    ensures { λ r. ⌜ Call (compareCall
         (record { n = n1; signs = now (signs1 .entry); z = now (z1 .entry); x = now (x1 .entry) })
         (record { n = n2; signs = now (signs2 .entry); z = now (z2 .entry); x = now (x2 .entry) })
-        (now (choice .entry)) (now (list .entry)) (now (count .entry)) r
-        (now (choice .exit)) (now (list .exit)) (now (count .exit)) ⌝ }
+        (now (choice .entry)) (now (list .entry)) (now (count .entry))
+        (now (choice .exit)) (now (list .exit)) (now (count .exit))) r ⌝ }
 {
     compare_call::compare(n1, signs1, z1, x1, n2, signs2, z2, x2, choice, list, count)
 }
@@ -232,8 +236,8 @@ pub extern "C" fn sukhlent_generate(
     text: &mut [u8],
     length: &mut u64,
 ) -> u8
-    ensures { λ r. ⌜ GenerateCall n count seed (now (text .entry)) (now (length .entry)) r
-        (now (text .exit)) (now (length .exit)) ⌝ }
+    ensures { λ r. ⌜ Call (generateCall n count seed (now (text .entry)) (now (length .entry))
+        (now (text .exit)) (now (length .exit))) r ⌝ }
 {
     generate_call::generate(n, count, seed, text, length)
 }

@@ -27,8 +27,8 @@ pub fn state(random: &mut Random, graph: &Graph) -> GeneratorList {
 }
 
 /// A state of a graph and, in one half of the cases, a state of the graph after random local
-/// complementations, in the other the image under the last class at every qubit, which the search
-/// tries last.
+/// complementations, in the other the image under the last class at every qubit, which is
+/// tried last.
 pub fn equivalent(random: &mut Random, graph: &Graph) -> Pair {
     let n = graph.len();
     let first = state(random, graph);

@@ -1,35 +1,27 @@
-use mathlib.Core.Path.{_∙_, sym}
+use mathlib.Core.Path.{_∙_}
 use Prim.Native.Nat.{_-_, _^_}
 use native.Mathlib.Omega.{arith}
+use lib.Dec.{leb}
 use lib.ListN.{length}
 use borrow.Author.Needs.{needs}
-use Rattle.buffers.proofs.Reaching.{NoneBelow, none-here, none-yet, reaches-at, reaches-not}
+use Rattle.buffers.proofs.Reaching.{SomeBelow, some-all, some-here-or, some-yet-or}
 use Rattle.buffers.proofs.strays.Statement.{statement}
 use Rattle.buffers.proofs.strays.Tie as tie
 
 abbrev Inv-loop : tie.InvT-loop
-Inv-loop buffer n i₀ i = NoneBelow (2 ^ n) buffer i
+Inv-loop buffer n all₀ i₀ all i = SomeBelow (2 ^ n) buffer (leb (2 ^ n) all) i
 
 abbrev μ-loop : tie.MeasureT-loop
-μ-loop buffer n i₀ i = length buffer - i
+μ-loop buffer n all₀ i₀ all i = length buffer - i
 
 loop-holds : tie.Need-loop-holds Inv-loop μ-loop
-loop-holds c = none-yet (2 ^ c .before .args .n) (c .before .args .buffer .now)
+loop-holds c = some-yet-or (c .before .args .n) (c .before .args .buffer .now)
 
-mul-stray : tie.Need-mul-stray Inv-loop μ-loop
-mul-stray c = search needs
+mul-all : tie.Need-mul-all Inv-loop μ-loop
+mul-all c = search needs
 
-shared-slice-read-stray : tie.Need-shared-slice-read-stray Inv-loop μ-loop
-shared-slice-read-stray c = search needs
-
-stray-requires : tie.Need-stray-requires Inv-loop μ-loop
-stray-requires c κs = search needs
-
-returns : tie.Need-returns Inv-loop μ-loop
-returns c = let a = c .before .before .before .before .before .before .args in
-    sym (reaches-at (2 ^ a .n) (a .buffer .now) (c .before .before .before .before .loop .i)
-    (c .before .before .before .loop-test .taken)
-    (sym (c .before .stray .ensures) ∙ c .if1 .taken))
+shared-slice-read-all : tie.Need-shared-slice-read-all Inv-loop μ-loop
+shared-slice-read-all c = search needs
 
 add-i : tie.Need-add-i Inv-loop μ-loop
 add-i c = search needs
@@ -38,15 +30,22 @@ loop-less : tie.Need-loop-less Inv-loop μ-loop
 loop-less c = omega arith
 
 loop-again : tie.Need-loop-again Inv-loop μ-loop
-loop-again c = let a = c .before .before .before .before .before .before .args in
-    none-here (2 ^ a .n) (a .buffer .now) (c .before .before .before .before .loop .i)
-    (c .before .before .before .before .loop .inv)
-    (c .before .before .before .loop-test .taken) (sym (c .before .stray .ensures) ∙ c .if1 .left)
+loop-again c =
+    let inside = c .before in
+    let a = inside .before .before .before .args in
+    some-here-or (a .n) (a .buffer .now) (inside .before .loop .all) (inside .before .loop .i)
+    (inside .before .loop .inv) (inside .loop-test .taken)
 
-returns-2 : tie.Need-returns-2 Inv-loop μ-loop
-returns-2 c = sym (reaches-not (2 ^ c .before .before .before .args .n)
-    (c .before .before .before .args .buffer .now) (c .before .loop .i) (c .loop-test .left)
-    (c .before .loop .inv .none))
+stray-requires : tie.Need-stray-requires Inv-loop μ-loop
+stray-requires c κs = search needs
+
+returns : tie.Need-returns Inv-loop μ-loop
+returns c =
+    let outside = c .before in
+    let a = outside .before .before .before .args in
+    c .stray .ensures
+    ∙ some-all (2 ^ a .n) (a .buffer .now) (leb (2 ^ a .n) (outside .before .loop .all)) (outside .before .loop .i)
+    (outside .before .loop .inv) (outside .loop-test .left)
 
 pub strays-spec : {M : Type 1} → statement M
 strays-spec =
@@ -55,11 +54,10 @@ strays-spec =
     Inv-loop
     μ-loop
     loop-holds
-    mul-stray
-    shared-slice-read-stray
-    stray-requires
-    returns
+    mul-all
+    shared-slice-read-all
     add-i
     loop-less
     loop-again
-    returns-2)
+    stray-requires
+    returns)

@@ -2,7 +2,7 @@ use mathlib.Core.Path.{ap, sym, _∙_}
 use native.Mathlib.Omega.{arith}
 use lib.ListN.{length}
 use Rattle.parts_records.specs.Listed.{partCodes, partWords}
-use Rattle.comparison_islands.proofs.PartBuffers.{first-sound, part-answered, second-sound}
+use Rattle.comparison_islands.proofs.PartBuffers.{first-connected, first-sound, part-answered, second-sound}
 use borrow.Author.Needs.{needs}
 use Rattle.comparison_islands.proofs.compare_listed.Statement.{statement}
 use Rattle.comparison_islands.proofs.compare_listed.Tie as tie
@@ -51,7 +51,10 @@ compare-records-requires c κs =
     let ew = E .extract2 .ensures .0 ∙ ap (λ m. partWords m (a .at) (a .neighbours2 .now)) (S .pre .1 .1) in
     let en = E .extract2 .ensures .1 ∙ ap (λ m. partCodes m (a .at) (a .codes2 .now)) (S .pre .1 .1) in (
       (G .few, first-sound (a .n) (a .neighbours .now) (a .codes .now) (a .neighbours2 .now) (a .codes2 .now) (a .island) k (a .at) G _ _ _ _ (H .extract .ensures .0) (H .extract .ensures .1) ew en),
-      second-sound (a .n) (a .neighbours .now) (a .codes .now) (a .neighbours2 .now) (a .codes2 .now) (a .island) k (a .at) G _ _ _ _ (H .extract .ensures .0) (H .extract .ensures .1) ew en,
+      (
+        second-sound (a .n) (a .neighbours .now) (a .codes .now) (a .neighbours2 .now) (a .codes2 .now) (a .island) k (a .at) G _ _ _ _ (H .extract .ensures .0) (H .extract .ensures .1) ew en,
+        first-connected (a .n) (a .neighbours .now) (a .codes .now) (a .neighbours2 .now) (a .codes2 .now) (a .island) k (a .at) G _ _ _ _ (H .extract .ensures .0) (H .extract .ensures .1) ew en,
+      ),
     )
 
 -- src/lib.rt:27:1

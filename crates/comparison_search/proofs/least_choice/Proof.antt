@@ -1,60 +1,90 @@
-use mathlib.Core.Bool.{false}
-use Prim.Native.Nat.{zero-le}
-use lib.ListN.{replicate}
+use mathlib.Core.Bool.{false, true}
+use mathlib.Core.Path.{refl, subst, sym}
+use borrow.Author.Tests.{not-false, not-true}
 use Rattle.clifford.specs.Vectors.{codesOf}
+use Rattle.comparison.specs.Equations.{tableOf}
+use Rattle.comparison.specs.Searches.{LeastAnswer}
 use Rattle.comparison.specs.Setting.{generatorsOf}
-use Rattle.comparison.proofs.ClassSearch.{all-choices}
+use Rattle.comparison.proofs.ClassExtension.{classes-extend, classes-send}
 use Rattle.comparison.proofs.Least.{least-answer}
-use Rattle.comparison.proofs.NextChoice.{zeros-bare, zeros-codes}
+use Rattle.comparison.proofs.LeastChosen.{chosen-works, none-works}
 use Rattle.comparison.proofs.RecordElements.{framed-proper}
+use Rattle.comparison.proofs.SignExtension.{signs-extend}
 use Rattle.comparison_search.proofs.least_choice.Statement.{statement}
 use Rattle.comparison_search.proofs.least_choice.Tie as tie
 
 class-table-requires : tie.Need-class-table-requires
-class-table-requires c κs =
-    let s = c in
-    let a = s .args in (
-      s .pre .few,
-      s .pre .proper,
-      framed-proper (a .n) (generatorsOf (a .second)) (codesOf (a .frame)) (s .pre .framed),
-    )
+class-table-requires c κs = (c .before .pre .few, c .before .pre .proper, refl)
 
-any-shut-requires : tie.Need-any-shut-requires
-any-shut-requires c κs = c .before .pre .few
+least-classes-requires : tie.Need-least-classes-requires
+least-classes-requires c κs =
+    let s = c .before .before .before in
+    let a = s .args in
+    let T = c .before .class-table in (
+      s .pre .few,
+      T .ensures .triangular,
+      classes-extend (a .n) (a .first) (a .second) (a .frame) (s .pre) (tableOf (T .last .0)) (T .ensures),
+    )
 
 returns : tie.Need-returns
 returns c =
-    let s = c .before .before .before in
+    let s = c .before .before .before .before .before .before in
     let a = s .args in
-    least-answer (a .n) (generatorsOf (a .first)) (generatorsOf (a .second)) (s .pre .proper .within)
+    let T = c .before .before .before .before .class-table in
+    let A = c .before .before .least-classes in
+    let none = not-true (A .result .found) (c .if1 .taken) in
+    subst (λ b. LeastAnswer (a .n) (generatorsOf (a .first)) (generatorsOf (a .second)) b (A .result .choice)) (sym none)
+    (least-answer (a .n) (generatorsOf (a .first)) (generatorsOf (a .second)) (s .pre .proper .within)
     (framed-proper (a .n) (generatorsOf (a .second)) (codesOf (a .frame)) (s .pre .framed) .within) false
-    (replicate 20 0) (record {
-      search =
-          λ d C. c .before .any-shut .ensures (c .if1 .taken) d (c .before .before .class-table .ensures d C);
-      codes = zeros-codes 20;
-    })
+    (A .result .choice)
+    (none-works (a .n) (a .first) (a .second) (a .frame) (s .pre) (tableOf (T .last .0)) (T .ensures) (A .result .found)
+    (A .result .choice) (A .ensures) none))
 
-search-classes-requires : tie.Need-search-classes-requires
-search-classes-requires c κs =
-    record {
-      setting = c .before .before .before .pre;
-      upto = zero-le;
-      codes = zeros-codes 20;
-      bare-codes = zeros-bare 20;
-      solved = c .before .before .class-table .ensures;
-    }
+sign-table-requires : tie.Need-sign-table-requires
+sign-table-requires c κs =
+    let s = c .before .before .before .before .before .before .before .before in
+    let a = s .args in
+    let T = c .before .before .before .before .before .before .class-table in
+    let A = c .before .before .before .before .least-classes in
+    let C = A .ensures .some (not-false (A .result .found) (c .before .before .if1 .left)) in (
+      (s .pre, C .codes, C .bare-codes),
+      (
+        classes-send (a .n) (a .first) (a .second) (a .frame) (s .pre) (tableOf (T .last .0)) (T .ensures)
+            (codesOf (A .result .choice)) (C .chosen .hold),
+        refl,
+      ),
+    )
+
+least-signs-requires : tie.Need-least-signs-requires
+least-signs-requires c κs =
+    let s = c .before .before .before .before .before .before .before .before .before .before in
+    let a = s .args in
+    let A = c .before .before .before .before .before .before .least-classes in
+    let U = c .before .sign-table in (
+      (
+        s .pre .few,
+        U .ensures .0 .triangular,
+        signs-extend (a .n) (a .first) (a .second) (a .frame) (s .pre) (codesOf (A .result .choice))
+            (tableOf (U .last .0)) (U .ensures),
+      ),
+      A .ensures .codes,
+    )
 
 returns-2 : tie.Need-returns-2
 returns-2 c =
-    let s = c .before .before .before .before in
+    let s = c .before .before .before .before .before .before .before .before .before .before .before in
     let a = s .args in
+    let T = c .before .before .before .before .before .before .before .before .before .class-table in
+    let A = c .before .before .before .before .before .before .before .least-classes in
+    let C = A .ensures .some (not-false (A .result .found) (c .before .before .before .before .before .if1 .left)) in
+    let U = c .before .before .sign-table in
     least-answer (a .n) (generatorsOf (a .first)) (generatorsOf (a .second)) (s .pre .proper .within)
-    (framed-proper (a .n) (generatorsOf (a .second)) (codesOf (a .frame)) (s .pre .framed) .within)
-    (c .search-classes .result .found) (c .search-classes .result .choice)
-    (all-choices (a .n) (a .first) (a .second) (s .pre .few) (replicate 20 0) _ _
-    (c .search-classes .ensures))
+    (framed-proper (a .n) (generatorsOf (a .second)) (codesOf (a .frame)) (s .pre .framed) .within) true
+    (c .least-signs .result)
+    (chosen-works (a .n) (a .first) (a .second) (a .frame) (s .pre) (tableOf (T .last .0)) (T .ensures)
+    (A .result .choice) C (tableOf (U .last .0)) (U .ensures) (c .least-signs .result) (c .least-signs .ensures))
 
 pub least-choice-spec : {M : Type 1} → statement M
 least-choice-spec =
     tie.close
-    (tie.spec class-table-requires any-shut-requires returns search-classes-requires returns-2)
+    (tie.spec class-table-requires least-classes-requires returns sign-table-requires least-signs-requires returns-2)

@@ -1,12 +1,21 @@
+use mathlib.Core.List.{List}
+use mathlib.Core.Path.{ap, refl, _∙_, _≡_}
 use Prim.Native.Nat.{_-_}
+use lib.ListN.{getD}
 use native.Mathlib.Omega.{arith}
 use borrow.Author.Needs.{needs}
-use Rattle.comparison.proofs.EquationTables.{RowInserted, row-end, row-more, row-start}
+use Rattle.pauli.specs.declared.Generator.{Generator}
+use Rattle.comparison.specs.Equations.{classEquation, tableOf, unknown}
+use Rattle.comparison.specs.Searches.{ClassTable}
+use Rattle.comparison.specs.Setting.{noGenerator}
+use Rattle.comparison.proofs.EquationTables.{class-more, class-row, class-short}
 use Rattle.comparison_tables.proofs.class_rows.Statement.{statement}
 use Rattle.comparison_tables.proofs.class_rows.Tie as tie
 
 abbrev Inv-loop : tie.InvT-loop
-Inv-loop table₀ n i second g j₀ table j = RowInserted n g second table₀ table
+Inv-loop table₀ n i second g j₀ table j =
+    (first : List Generator) → g ≡ getD first i noGenerator → ClassTable n first second i 0 (tableOf table₀)
+    → ClassTable n first second i j (tableOf table)
 
 abbrev μ-loop : tie.MeasureT-loop
 μ-loop table₀ n i second g j₀ table j = n - j
@@ -18,7 +27,7 @@ array-copy-out-g : tie.Need-array-copy-out-g Inv-loop μ-loop
 array-copy-out-g c = search needs
 
 loop-holds : tie.Need-loop-holds Inv-loop μ-loop
-loop-holds c = row-start _ _ _ _
+loop-holds c = λ first e T. T
 
 mul-h : tie.Need-mul-h Inv-loop μ-loop
 mul-h c = search needs
@@ -33,7 +42,16 @@ mul-insert : tie.Need-mul-insert Inv-loop μ-loop
 mul-insert c = search needs
 
 insert-requires : tie.Need-insert-requires Inv-loop μ-loop
-insert-requires c κs = search needs
+insert-requires c κs =
+    let s = c .before .before .before .before .before .before in
+    let l = c .before .before .before .before .loop in
+    let T = l .inv (s .args .t3) refl (s .pre .1) in (
+      omega (arith, s .pre .0 .0),
+      T .triangular,
+      (λ j k. ap (λ e. unknown e j) (c .before .class-equation .ensures)
+          ∙ class-short (s .args .n) (getD (s .args .t3) (s .args .i) noGenerator) (getD (s .args .t4) (l .j) noGenerator)
+          (s .pre .0 .1 .within (s .args .i) (s .pre .0 .2)) j k),
+    )
 
 add-j : tie.Need-add-j Inv-loop μ-loop
 add-j c = search needs
@@ -43,16 +61,19 @@ loop-less c = omega arith
 
 loop-again : tie.Need-loop-again Inv-loop μ-loop
 loop-again c =
-    let l = c .before .before .before .before .loop in
-    row-more _ _ _ _ (l .table) (c .before .class-equation .result) (c .insert .result) (l .inv)
-    (c .insert .ensures) (l .j) (c .before .before .before .loop-test .taken)
-    (c .before .class-equation .ensures)
+    let s = c .before .before .before .before .before .before .before in
+    let l = c .before .before .before .before .before .loop in
+    λ first e T. class-more (s .args .n) first (s .args .t4) (s .args .i) (l .j)
+    (c .before .before .before .before .loop-test .taken) (tableOf (l .table)) (c .before .before .class-equation .result) _
+    (l .inv first e T)
+    (c .before .before .class-equation .ensures ∙ ap (λ g. classEquation g (getD (s .args .t4) (l .j) noGenerator)) e)
+    (c .insert .ensures)
 
 returns : tie.Need-returns Inv-loop μ-loop
 returns c =
     let s = c .before .before .before in
-    row-end (s .args .n) (s .args .t3) (s .args .t4) (s .pre .0 .1) (s .pre .0 .2) (s .args .table)
-    (c .before .loop .table) (s .args .i) (s .pre .0 .3) (s .pre .1) (c .before .loop .inv)
+    class-row (s .args .n) (s .args .t3) (s .args .t4) (s .args .i) (c .before .loop .j) (c .loop-test .left)
+    (tableOf (c .before .loop .table)) (c .before .loop .inv (s .args .t3) refl (s .pre .1))
 
 pub class-rows-spec : {M : Type 1} → statement M
 class-rows-spec =

@@ -1,30 +1,33 @@
 use mathlib.Core.Bool.{Bool·beq, not}
-use mathlib.Core.Logic.{⊎-elim}
-use mathlib.Core.Path.{refl, subst, sym}
-use Prim.Native.Nat.{_-_}
-use lib.ListN.{getD}
+use mathlib.Core.Path.{ap, subst, _∙_}
+use Prim.Native.Nat.{_-_, _≤_, zero-le}
+use native.Mathlib.Nat.{le-antisymm}
 use native.Mathlib.Omega.{arith}
+use lib.ListN.{getD}
 use borrow.Author.Needs.{needs}
 use Rattle.clifford.specs.Vectors.{codesOf}
-use Rattle.comparison.specs.Setting.{generatorsOf, noGenerator}
+use Rattle.comparison.specs.Equations.{tableOf, unknown}
 use Rattle.comparison.specs.Searches.{SignTable}
-use Rattle.comparison.specs.Equations.{signAssignment}
-use Rattle.comparison.proofs.EquationTables.{sign-inserted}
-use Rattle.comparison.proofs.RecordElements.{framed-proper}
+use Rattle.comparison.specs.Setting.{noGenerator}
+use Rattle.comparison.proofs.EquationTables.{empty-rows, empty-rows-solved, sign-short}
+use Rattle.comparison.proofs.SignExtension.{sign-found, sign-more, sign-start}
 use Rattle.comparison_tables.proofs.sign_table.Statement.{statement}
 use Rattle.comparison_tables.proofs.sign_table.Tie as tie
 
 abbrev Inv-loop : tie.InvT-loop
-Inv-loop n second frame first choice table₀ i₀ table i = SignTable n first second (codesOf choice) table
+Inv-loop table₀ n second frame first choice i₀ table i = (i ≤ n) × SignTable n first second (codesOf choice) i (tableOf table)
 
 abbrev μ-loop : tie.MeasureT-loop
-μ-loop n second frame first choice table₀ i₀ table i = n - i
-
-no-equations-requires : tie.Need-no-equations-requires Inv-loop μ-loop
-no-equations-requires c κs = search needs
+μ-loop table₀ n second frame first choice i₀ table i = n - i
 
 loop-holds : tie.Need-loop-holds Inv-loop μ-loop
-loop-holds c = λ d h. c .no-equations .ensures (signAssignment _ d)
+loop-holds c =
+    let a = c .args in (
+      zero-le,
+      sign-start (a .n) (a .t3) (a .second) (a .frame) (c .pre .0 .0) (codesOf (a .t6)) (c .pre .1 .0)
+          (tableOf (a .table .now)) (empty-rows (a .table .now) (c .pre .1 .1))
+          (empty-rows-solved (a .table .now) (c .pre .1 .1)),
+    )
 
 mul-g : tie.Need-mul-g Inv-loop μ-loop
 mul-g c = search needs
@@ -46,15 +49,21 @@ sign-equation-requires c κs = search needs
 
 mul-insert : tie.Need-mul-insert Inv-loop μ-loop
 mul-insert c =
-    let test = c .before .before .before .before .before .before .before in
-    let few = test .before .before .before .before .before .before .before .before .pre .0 .few in
+    let few = c .before .before .before .before .before .before .before .before .before .before .pre .0 .0 .few in
     search needs
 
 insert-requires : tie.Need-insert-requires Inv-loop μ-loop
 insert-requires c κs =
-    let test = c .before .before .before .before .before .before .before in
-    let few = test .before .before .before .before .before .before .before .before .pre .0 .few in
-    search needs
+    let s = c .before .before .before .before .before .before .before .before .before .before in
+    let a = s .args in
+    let l = c .before .before .before .before .before .before .before .before .before .loop in (
+      omega (arith, s .pre .0 .0 .few),
+      l .inv .1 .0 .triangular,
+      (λ j k. ap (λ e. unknown e j) (c .before .sign-equation .ensures)
+          ∙ sign-short (a .n) (getD (a .t3) (l .i) noGenerator)
+          (not (Bool·beq (c .before .before .before .before .before .send .result .minus) (c .before .before .before .before .element .result .minus)))
+          (s .pre .0 .0 .proper .within (l .i) (c .before .before .before .before .before .before .before .before .loop-test .taken)) j k),
+    )
 
 add-i : tie.Need-add-i Inv-loop μ-loop
 add-i c = search needs
@@ -64,29 +73,27 @@ loop-less c = omega arith
 
 loop-again : tie.Need-loop-again Inv-loop μ-loop
 loop-again c =
-    let s =
-    c .before .before .before .before .before .before .before .before .before .before .before .before in
+    let s = c .before .before .before .before .before .before .before .before .before .before .before in
     let a = s .args in
     let l = c .before .before .before .before .before .before .before .before .before .before .loop in
-    let g = getD (a .t2) (l .i) noGenerator in
-    let p = c .before .before .before .before .before .before .send .result in
-    let h = c .before .before .before .before .before .element .result in
-    let codes = codesOf (a .t5) in
-    ⊎-elim
-    (λ k. subst (SignTable (a .n) (a .t2) (a .second) codes) (sym (k .5))
-    (sign-inserted (a .n) (a .t2) (a .second) (s .pre .0 .proper)
-    (framed-proper (a .n) (generatorsOf (a .second)) (codesOf (a .frame)) (s .pre .0 .framed)) codes
-    (s .pre .2)
-    (omega (arith, s .pre .0 .few)) (l .table) (k .3 .result) (k .4 .result) (l .inv) (k .4 .ensures) (l .i)
-    (c .before .before .before .before .before .before .before .before .before .loop-test .taken) g p h refl
-    (c .before .before .before .before .before .before .send .ensures)
-    (c .before .before .before .before .before .element .ensures .element)
-    (k .0 .taken) (not (Bool·beq (p .minus) (h .minus))) refl (k .3 .ensures)))
-    (λ k. subst (SignTable (a .n) (a .t2) (a .second) codes) (sym (k .1)) (l .inv))
-    (c .if1 .came)
+    let more = c .before .before .before .before .before .before .before .before .before .loop-test .taken in
+    let codes = codesOf (a .t6) in
+    let p = c .before .before .before .before .before .before .send in
+    let h = c .before .before .before .before .before .element in
+    let e = c .before .before .sign-equation in (
+      omega (arith, more),
+      sign-more (a .n) (a .t3) (a .second) (a .frame) (s .pre .0 .0) codes (s .pre .1 .0) (l .i) more (tableOf (l .table))
+          (e .result) _ (l .inv .1)
+          (sign-found (a .n) (a .t3) (a .second) (a .frame) (s .pre .0 .0) codes (s .pre .1 .0) (s .pre .0 .2) (l .i) more
+          (p .result) (h .result) (p .ensures) (h .ensures) (e .result) (e .ensures)) (c .insert .ensures),
+    )
 
 returns : tie.Need-returns Inv-loop μ-loop
-returns c = c .before .loop .inv
+returns c =
+    let a = c .before .before .args in
+    let l = c .before .loop in
+    subst (λ k. SignTable (a .n) (a .t3) (a .second) (codesOf (a .t6)) k (tableOf (l .table)))
+    (le-antisymm (l .inv .0) (c .loop-test .left)) (l .inv .1)
 
 pub sign-table-spec : {M : Type 1} → statement M
 sign-table-spec =
@@ -94,7 +101,6 @@ sign-table-spec =
     (tie.spec
     Inv-loop
     μ-loop
-    no-equations-requires
     loop-holds
     mul-g
     array-copy-out-g

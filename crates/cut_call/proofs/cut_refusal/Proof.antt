@@ -44,7 +44,7 @@ returns-4 c =
     let E = T .before .before in
     let a = E .before .before .before .args in
     let l : LentRecord = record { n = a .n; neighbours = a .neighbours .now; codes = a .codes .now } in
-    side-good l (a .side) _ (E .record-refusal .ensures) (T .before .if1 .left) (T .if2 .left)
+    side-good l (a .side) _ (E .record-refusal .ensures)
     (says (c .before .stray .ensures) (c .if3 .left))
 
 pub cut-refusal-spec : {M : Type 1} → statement M

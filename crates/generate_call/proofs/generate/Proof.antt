@@ -1,5 +1,7 @@
+use mathlib.Core.Path.{refl, sym, _∙_}
 use borrow.Author.Needs.{needs}
-use Rattle.generate_call.proofs.GenerateCalls.{generate-accepted, generate-job, generate-refused}
+use Rattle.contracts.proofs.Calling.{refused}
+use Rattle.generate_call.proofs.GenerateCalls.{accepted-job, generate-accepted}
 use Rattle.generate_call.proofs.generate.Statement.{statement}
 use Rattle.generate_call.proofs.generate.Tie as tie
 
@@ -11,17 +13,14 @@ same-length c = search needs
 
 returns : tie.Need-returns
 returns c =
-    let E = c .before in
-    let a = E .before .before .before .args in
-    generate-refused (a .n) (a .count) (a .seed) (a .text .now) (a .length .now) _ (E .generate-refusal .ensures)
-    (c .if1 .taken)
+    refused _ (c .before .generate-refusal .ensures) (c .if1 .taken) (refl, (refl, tt))
 
 put-job-requires : tie.Need-put-job-requires
 put-job-requires c κs =
     let E = c .before .before in
     let a = E .before .before .before .args in
-    generate-job (a .n) (a .count) (a .seed) (a .text .now) (a .length .now) _ (E .generate-refusal .ensures)
-    (c .before .if1 .left)
+    accepted-job (a .n) (a .count) (a .seed) (a .text .now)
+    (sym (E .generate-refusal .ensures) ∙ c .before .if1 .left)
 
 same-length-2 : tie.Need-same-length-2
 same-length-2 c = search needs
@@ -31,7 +30,7 @@ returns-2 c =
     let P = c .before .before in
     let E = P .before .before .before in
     let a = E .before .before .before .args in
-    generate-accepted (a .n) (a .count) (a .seed) (a .text .now) (a .length .now) _ (E .generate-refusal .ensures)
+    generate-accepted (a .n) (a .count) (a .seed) (a .text .now) (E .generate-refusal .ensures)
     (P .before .before .if1 .left) _ _ (P .put-job .ensures)
 
 pub generate-spec : {M : Type 1} → statement M

@@ -4,6 +4,7 @@ use Rattle.graph_steps.proofs.Keeping.{complement-nearer, pivot-nearer}
 use Rattle.graph_steps.proofs.OutOfPlace.{complement-less, larger-below, pivot-less, sign-less, word-reaches}
 use Rattle.operations.proofs.UnrefusedRecords.{unrefused-place, unrefused-short}
 use Rattle.graph_settling.proofs.SignBuffers.{sign-nearer}
+use Rattle.graph_settling.proofs.Untouched.{complement-touches, pivot-touches, sign-touches}
 use Rattle.graph_settling.proofs.settle_at.Statement.{statement}
 use Rattle.graph_settling.proofs.settle_at.Tie as tie
 
@@ -25,27 +26,51 @@ shr-if1 c =
 
 largest-requires : tie.Need-largest-requires
 largest-requires c κs =
+    let start = c .before .before .before .before .before .pre in
+    word-reaches _ _ (start .0 .0) _ (start .0 .1) (start .1) (c .if1 .taken)
+
+mul-others : tie.Need-mul-others
+mul-others c =
+    let branch = c .before in
+    let start = branch .before .before .before .before .before .pre in
+    let top = c .largest .ensures in
+    omega (
+      arith,
+      unrefused-short _ _ (start .0 .0),
+      larger-below _ _ (start .0 .0) _ (start .0 .1) (start .1) (branch .if1 .taken) _ (top .0) (top .1),
+    )
+
+slice-read-others : tie.Need-slice-read-others
+slice-read-others c =
     let branch = c .before .before in
     let start = branch .before .before .before .before .before .pre in
-    word-reaches _ _ (start .0 .0) _ (start .0 .1) (start .1) (branch .if1 .taken)
+    let top = c .before .largest .ensures in
+    larger-below _ _ (start .0 .0) _ (start .0 .1) (start .1) (branch .if1 .taken) _ (top .0) (top .1)
 
 pivot-record-requires : tie.Need-pivot-record-requires
 pivot-record-requires c κs =
-    let branch = c .before .before .before in
+    let at-largest = c .before .before .before in
+    let branch = at-largest .before in
     let start = branch .before .before .before .before .before .pre in
-    let top = c .largest .ensures in (
-      start .0 .0,
-      (
-        start .0 .1,
-        larger-below _ _ (start .0 .0) _ (start .0 .1) (start .1) (branch .if1 .taken) _ (top .0) (top .1),
-      ),
-    )
+    let top = at-largest .largest .ensures in
+    (start .0 .0, (start .0 .1, larger-below _ _ (start .0 .0) _ (start .0 .1) (start .1) (branch .if1 .taken) _ (top .0) (top .1)))
 
 complement-record-requires : tie.Need-complement-record-requires
 complement-record-requires c κs = search needs
 
+single-requires : tie.Need-single-requires
+single-requires c κs =
+    let start = c .before .before .before .before .before .before .before .before .before .before .before .before .before
+    .pre in
+    omega (arith, start .0 .1, unrefused-short _ _ (start .0 .0))
+
 move-sign-requires : tie.Need-move-sign-requires
 move-sign-requires c κs = search needs
+
+single-requires-2 : tie.Need-single-requires-2
+single-requires-2 c κs =
+    let start = c .before .before .before .before .before .before .before .before .before .before .before .pre in
+    omega (arith, start .0 .1, unrefused-short _ _ (start .0 .0))
 
 same-length : tie.Need-same-length
 same-length c = search needs
@@ -56,14 +81,16 @@ same-length-2 c = search needs
 returns : tie.Need-returns
 returns c =
     let at-pivot = c .before .before .before .before in
-    let at-largest = at-pivot .before in
-    let branch = at-largest .before .before .before in
+    let at-largest = at-pivot .before .before .before .before in
+    let branch = at-largest .before in
     let start = branch .before .before .before .before .before .pre in
-    let top = at-largest .largest .ensures in
-    pivot-nearer _ _ (start .0 .0) _ _ _ _ (start .0 .1)
-    (larger-below _ _ (start .0 .0) _ (start .0 .1) (start .1) (branch .if1 .taken) _ (top .0) (top .1))
-    (at-pivot .pivot-record .ensures)
-    (pivot-less _ _ (start .0 .0) _ (start .0 .1) (start .1) (branch .if1 .taken) _ (top .0) (top .1))
+    let top = at-largest .largest .ensures in (
+      pivot-nearer _ _ (start .0 .0) _ _ _ _ (start .0 .1)
+          (larger-below _ _ (start .0 .0) _ (start .0 .1) (start .1) (branch .if1 .taken) _ (top .0) (top .1))
+          (at-pivot .pivot-record .ensures)
+          (pivot-less _ _ (start .0 .0) _ (start .0 .1) (start .1) (branch .if1 .taken) _ (top .0) (top .1)),
+      pivot-touches _ _ (start .0 .0) _ _ _ _ (top .0) (at-pivot .pivot-record .ensures),
+    )
 
 same-length-3 : tie.Need-same-length-3
 same-length-3 c = search needs
@@ -73,11 +100,14 @@ same-length-4 c = search needs
 
 returns-2 : tie.Need-returns-2
 returns-2 c =
-    let at-complement = c .before .before .before .before in
+    let at-complement = c .before .before .before .before .before in
     let branch = at-complement .before .before .before in
-    let start = branch .before .before .before .before .before .before .pre in
-    complement-nearer _ _ (start .0 .0) _ _ _ (start .0 .1) (at-complement .complement-record .ensures)
-    (complement-less _ _ (start .0 .0) _ (start .0 .1) (start .1) (branch .before .if1 .left) (branch .if2 .taken))
+    let start = branch .before .before .before .before .before .before .pre in (
+      complement-nearer _ _ (start .0 .0) _ _ _ (start .0 .1) (at-complement .complement-record .ensures)
+          (complement-less _ _ (start .0 .0) _ (start .0 .1) (start .1) (branch .before .if1 .left) (branch .if2 .taken)),
+      complement-touches _ _ (start .0 .0) _ _ _ (start .0 .1) _ (c .single .ensures)
+          (at-complement .complement-record .ensures),
+    )
 
 same-length-5 : tie.Need-same-length-5
 same-length-5 c = search needs
@@ -87,11 +117,13 @@ same-length-6 c = search needs
 
 returns-3 : tie.Need-returns-3
 returns-3 c =
-    let at-sign = c .before .before in
+    let at-sign = c .before .before .before in
     let branch = at-sign .before .before .before in
-    let start = branch .before .before .before .before .before .before .pre in
-    sign-nearer _ _ (start .0 .0) _ (start .0 .1) _ (at-sign .move-sign .ensures)
-    (sign-less _ _ (start .0 .0) _ (start .0 .1) (start .1) (branch .before .if1 .left) (branch .if2 .left))
+    let start = branch .before .before .before .before .before .before .pre in (
+      sign-nearer _ _ (start .0 .0) _ (start .0 .1) _ (at-sign .move-sign .ensures)
+          (sign-less _ _ (start .0 .0) _ (start .0 .1) (start .1) (branch .before .if1 .left) (branch .if2 .left)),
+      sign-touches _ _ (start .0 .0) _ _ _ (start .0 .1) _ (c .single2 .ensures) (at-sign .move-sign .ensures),
+    )
 
 pub settle-at-spec : {M : Type 1} → statement M
 settle-at-spec =
@@ -102,9 +134,13 @@ settle-at-spec =
     slice-read-code
     shr-if1
     largest-requires
+    mul-others
+    slice-read-others
     pivot-record-requires
     complement-record-requires
+    single-requires
     move-sign-requires
+    single-requires-2
     same-length
     same-length-2
     returns

@@ -1,31 +1,44 @@
 use mathlib.Core.Path.{_≡_, refl}
 use Prim.Native.Nat.{_-_}
+use lib.Dec.{eqb}
 use lib.ListN.{length, take}
 use native.Mathlib.Omega.{arith}
 use borrow.Author.Needs.{needs}
+use Rattle.jobs_run.proofs.KeptRecords.{step-known}
 use Rattle.record.specs.Lent.{LentRecord}
+use Rattle.record_calls.proofs.KnownRecords.{known-by}
+use Rattle.record_calls.specs.Knowing.{Known}
 use Rattle.job_steps.proofs.Looping.{Upto, all-run, answer-small, line-fits, names-room, none-run, one-run}
 use Rattle.job_steps.proofs.run_steps.Statement.{statement}
 use Rattle.job_steps.proofs.run_steps.Tie as tie
 
 abbrev Inv-loop : tie.InvT-loop
-Inv-loop n neighbours₀ codes₀ count out₀ steps at₀ k₀ neighbours codes out at k =
+Inv-loop n neighbours₀ codes₀ count out₀ steps known at₀ k₀ neighbours codes out at k =
     Upto (record { n = n; neighbours = neighbours₀; codes = codes₀ }) (take count steps) at₀ out₀ k neighbours codes
     out at
     × (length neighbours ≡ length neighbours₀) × (length codes ≡ length codes₀) × (length out ≡ length out₀)
+    × Known known (record { n = n; neighbours = neighbours; codes = codes })
 
 abbrev μ-loop : tie.MeasureT-loop
-μ-loop n neighbours₀ codes₀ count out₀ steps at₀ k₀ neighbours codes out at k = count - k
+μ-loop n neighbours₀ codes₀ count out₀ steps known at₀ k₀ neighbours codes out at k = count - k
+
+record-refusal-requires : tie.Need-record-refusal-requires Inv-loop μ-loop
+record-refusal-requires c κs = search needs
 
 print-result-names-requires : tie.Need-print-result-names-requires Inv-loop μ-loop
 print-result-names-requires c κs = search needs
 
 loop-holds : tie.Need-loop-holds Inv-loop μ-loop
 loop-holds c =
-    let S = c .before .before .before .before .before .before .before in
+    let S = c .before .before .before .before .before .before .before .before .before .before in
     let a = S .args in
-    let l : LentRecord = record { n = a .n; neighbours = a .neighbours .now; codes = a .codes .now } in
-    (none-run l (take (a .count) (a .t5)) _ _, refl, refl, refl)
+    let l : LentRecord = record { n = a .n; neighbours = a .neighbours .now; codes = a .codes .now } in (
+      none-run l (take (a .count) (a .t5)) _ _,
+      refl,
+      refl,
+      refl,
+      known-by l _ (c .before .before .before .before .record-refusal .ensures),
+    )
 
 mul-s : tie.Need-mul-s Inv-loop μ-loop
 mul-s c = search needs
@@ -34,7 +47,7 @@ array-copy-out-s : tie.Need-array-copy-out-s Inv-loop μ-loop
 array-copy-out-s c = search needs
 
 run-step-requires : tie.Need-run-step-requires Inv-loop μ-loop
-run-step-requires c κs = search needs
+run-step-requires c κs = c .before .before .before .before .loop .inv .4
 
 cast-print-result : tie.Need-cast-print-result Inv-loop μ-loop
 cast-print-result c = search needs
@@ -45,7 +58,7 @@ print-result-requires c κs =
     let I = c .before .before .before .before .before .before .before .before .before in
     let A = I .before in
     let N = A .before .before .before in
-    let S = A .before .before .before .before .before .before .before .before in
+    let S = A .before .before .before .before .before .before .before .before .before .before .before in
     let a = S .args in
     let l : LentRecord = record { n = a .n; neighbours = a .neighbours .now; codes = a .codes .now } in
     let long = S .good .1 .1 .1 .1 .0 .1 .0 .1 in
@@ -72,7 +85,7 @@ loop-again c =
     let I = c .before .before .before .before .before .before .before .before .before .before .before .before in
     let A = I .before in
     let N = A .before .before .before in
-    let S = A .before .before .before .before .before .before .before .before in
+    let S = A .before .before .before .before .before .before .before .before .before .before .before in
     let a = S .args in
     let l : LentRecord = record { n = a .n; neighbours = a .neighbours .now; codes = a .codes .now } in
     let long = S .good .1 .1 .1 .1 .0 .1 .0 .1 in
@@ -82,6 +95,9 @@ loop-again c =
       search needs,
       search needs,
       search needs,
+      step-known (a .n) (A .loop .neighbours) (A .loop .codes)
+          (eqb (A .before .before .before .before .before .record-refusal .result) 0) (A .loop .inv .4) _ _ _ _
+          (R .run-step .ensures),
     )
 
 same-length : tie.Need-same-length Inv-loop μ-loop
@@ -97,7 +113,7 @@ returns : tie.Need-returns Inv-loop μ-loop
 returns c =
     let A = c .before in
     let N = A .before .before .before in
-    let S = A .before .before .before .before .before .before .before .before in
+    let S = A .before .before .before .before .before .before .before .before .before .before .before in
     let a = S .args in
     let l : LentRecord = record { n = a .n; neighbours = a .neighbours .now; codes = a .codes .now } in
     let long = S .good .1 .1 .1 .1 .0 .1 .0 .1 in
@@ -111,6 +127,7 @@ run-steps-spec =
     (tie.spec
     Inv-loop
     μ-loop
+    record-refusal-requires
     print-result-names-requires
     loop-holds
     mul-s

@@ -18,8 +18,8 @@ unused-set-requires c κs = search needs
 wrong-value-requires : tie.Need-wrong-value-requires
 wrong-value-requires c κs = search needs
 
-record-refusal-requires : tie.Need-record-refusal-requires
-record-refusal-requires c κs = search needs
+known-refusal-requires : tie.Need-known-refusal-requires
+known-refusal-requires c κs = search needs
 
 same-length : tie.Need-same-length
 same-length c = search needs
@@ -34,7 +34,7 @@ returns c =
     let a = W .before .before .before .before .args in
     let l : LentRecord = record { n = a .n; neighbours = a .neighbours .now; codes = a .codes .now } in
     wrong-run l (a .s) (wrong-by l (a .s) (W .before .unused-set .ensures) (W .wrong-value .ensures) (I .if1 .taken))
-    _ (c .record-refusal .ensures)
+    _ (c .known-refusal .ensures)
 
 cast-a : tie.Need-cast-a
 cast-a c = search needs
@@ -50,7 +50,7 @@ run-measurement-requires c κs =
     let a = W .before .before .before .before .args in
     let l : LentRecord = record { n = a .n; neighbours = a .neighbours .now; codes = a .codes .now } in
     let e = wrong-by l (a .s) (W .before .unused-set .ensures) (W .wrong-value .ensures) (E .if1 .left) in
-    value-small l (a .s) e (T .enum-told .given .1)
+    (value-small l (a .s) e (T .enum-told .given .1), W .before .before .before .before .pre)
 
 same-length-3 : tie.Need-same-length-3
 same-length-3 c = search needs
@@ -80,7 +80,7 @@ rewrite-requires c κs =
     let a = W .before .before .before .before .args in
     let l : LentRecord = record { n = a .n; neighbours = a .neighbours .now; codes = a .codes .now } in
     let e = wrong-by l (a .s) (W .before .unused-set .ensures) (W .wrong-value .ensures) (E .if1 .left) in
-    rewriting l (a .s) e (M .match .keys2)
+    (rewriting l (a .s) e (M .match .keys2), W .before .before .before .before .pre)
 
 same-length-5 : tie.Need-same-length-5
 same-length-5 c = search needs
@@ -105,7 +105,7 @@ run-step-spec =
     (tie.spec
     unused-set-requires
     wrong-value-requires
-    record-refusal-requires
+    known-refusal-requires
     same-length
     same-length-2
     returns

@@ -2,6 +2,7 @@ use mathlib.Core.Bool.{false}
 use mathlib.Core.Path.{refl, sym}
 use native.Mathlib.Omega.{arith}
 use borrow.Author.Needs.{needs}
+use Rattle.contracts.proofs.Calling.{refused}
 use Rattle.stabilizer.specs.Lists.{GeneratorList}
 use Rattle.list_calls.proofs.Lists.{accepted-last, reducible, refused-early, refused-last}
 use Rattle.buffers.proofs.Parts.{part-long}
@@ -16,7 +17,7 @@ returns c = let E = c .before in
     let S = E .before .before .before .before in
     let a = S .args in
     let l : GeneratorList = record { n = a .n; signs = a .signs .now; z = a .z .now; x = a .x .now } in
-    record { number = refused-early l false _ (E .early-refusal .ensures) (c .if1 .taken) }
+    refused _ (refused-early l false _ (E .early-refusal .ensures) (c .if1 .taken)) (c .if1 .taken) tt
 
 array-borrow-prefix-neighbours : tie.Need-array-borrow-prefix-neighbours
 array-borrow-prefix-neighbours c = let E = c .before in
@@ -68,6 +69,7 @@ returns-2 c = let E = c .before .before .before .before .before .before .before 
     record {
       number = accepted-last l false _ (E .early-refusal .ensures)
           (T .before .before .before .if1 .left) _ (T .reduce-list .ensures .0) (c .if2 .taken);
+      held = tt;
     }
 
 returns-3 : tie.Need-returns-3
@@ -79,6 +81,7 @@ returns-3 c = let E = c .before .before .before .before .before .before .before 
     record {
       number = refused-last l false _ (E .early-refusal .ensures)
           (T .before .before .before .if1 .left) _ (T .reduce-list .ensures .0) (c .if2 .left);
+      held = tt;
     }
 
 pub check-spec : {M : Type 1} → statement M

@@ -1,8 +1,11 @@
-use mathlib.Core.Path.{sym, _∙_}
+use mathlib.Core.Path.{refl, sym, _∙_}
 use borrow.Author.Needs.{needs}
+use Rattle.contracts.proofs.Fitting.{decides, stays}
+use Rattle.contracts.specs.Answers.{here, later, none}
+use Rattle.operations.specs.Steps.{argumentLines}
 use Rattle.record.specs.Lent.{LentRecord}
 use Rattle.record_calls.proofs.InPlaceLines.{measure-ready}
-use Rattle.record_calls.proofs.MeasureLines.{agreed-passes, arguments-refuse, contradicted-refuses}
+use Rattle.record_calls.proofs.MeasureLines.{found}
 use Rattle.measure_call.proofs.measure_refusal.Statement.{statement}
 use Rattle.measure_call.proofs.measure_refusal.Tie as tie
 
@@ -14,7 +17,7 @@ returns c =
     let E = c .before in
     let a = E .before .before .before .args in
     let l : LentRecord = record { n = a .n; neighbours = a .neighbours .now; codes = a .codes .now } in
-    arguments-refuse l (a .pauli) (a .qubit) (a .outcome) _ (E .in-place-refusal .ensures) (c .if1 .taken)
+    stays (argumentLines l (a .pauli) (a .qubit) (a .outcome)) _ (E .in-place-refusal .ensures) (c .if1 .taken)
 
 contradicted-requires : tie.Need-contradicted-requires
 contradicted-requires c κs =
@@ -29,8 +32,9 @@ returns-2 c =
     let E = D .before in
     let a = E .before .before .before .args in
     let l : LentRecord = record { n = a .n; neighbours = a .neighbours .now; codes = a .codes .now } in
-    contradicted-refuses l (a .pauli) (a .qubit) (a .outcome) _ (E .in-place-refusal .ensures) (D .if1 .left) _
-    (c .before .contradicted .ensures) (c .if2 .taken)
+    decides (argumentLines l (a .pauli) (a .qubit) (a .outcome)) refl (E .in-place-refusal .ensures) (D .if1 .left)
+    (here (found l (a .pauli) (a .qubit) (a .outcome) (E .in-place-refusal .ensures) (D .if1 .left)
+    (c .before .contradicted .ensures) (c .if2 .taken)))
 
 returns-3 : tie.Need-returns-3
 returns-3 c =
@@ -38,8 +42,9 @@ returns-3 c =
     let E = D .before in
     let a = E .before .before .before .args in
     let l : LentRecord = record { n = a .n; neighbours = a .neighbours .now; codes = a .codes .now } in
-    agreed-passes l (a .pauli) (a .qubit) (a .outcome) _ (E .in-place-refusal .ensures) (D .if1 .left) _
-    (c .before .contradicted .ensures) (c .if2 .left)
+    decides (argumentLines l (a .pauli) (a .qubit) (a .outcome)) refl (E .in-place-refusal .ensures) (D .if1 .left)
+    (later (found l (a .pauli) (a .qubit) (a .outcome) (E .in-place-refusal .ensures) (D .if1 .left)
+    (c .before .contradicted .ensures) (c .if2 .left)) none)
 
 pub measure-refusal-spec : {M : Type 1} → statement M
 measure-refusal-spec =

@@ -44,7 +44,7 @@ returns-4 c =
     let E = T .before .before in
     let a = E .before .before .before .before .args in
     let l : GeneratorList = record { n = a .n; signs = a .signs .now; z = a .z .now; x = a .x .now } in
-    word-good l (a .chosen) _ (E .form-refusal .ensures) (T .before .if1 .left) (T .if2 .left)
+    word-good l (a .chosen) _ (E .form-refusal .ensures)
     (says (c .before .stray .ensures) (c .if3 .left))
 
 pub product-refusal-spec : {M : Type 1} → statement M

@@ -1,15 +1,11 @@
 use mathlib.Core.Path.{refl}
 use borrow.Author.Needs.{needs}
+use Rattle.contracts.proofs.Fitting.{first-is}
+use Rattle.contracts.specs.Answers.{here, later, none}
 use Rattle.stabilizer.proofs.EarlyLines.{either-says, says}
 use Rattle.stabilizer.proofs.SharedTests.{counted}
-use Rattle.record.specs.Lent.{LentRecord, recordCodes, recordLengths}
-use Rattle.record.proofs.RecordLines.{record-not-refused, record-refused-2, record-refused-4}
-use Rattle.record.proofs.RecordLines.{
-  record-refused-5,
-  record-refused-6,
-  record-refused-7,
-  simple-tested,
-}
+use Rattle.record.specs.Lent.{LentRecord, recordLengths}
+use Rattle.record.proofs.RecordLines.{square-tested}
 use Rattle.record_checks.proofs.record_refusal.Statement.{statement}
 use Rattle.record_checks.proofs.record_refusal.Tie as tie
 
@@ -17,10 +13,7 @@ bad-count-requires : tie.Need-bad-count-requires
 bad-count-requires c κs = search needs
 
 returns : tie.Need-returns
-returns c =
-    let a = c .before .before .before .before .args in
-    let l : LentRecord = record { n = a .n; neighbours = a .neighbours .now; codes = a .codes .now } in
-    record-refused-2 l (a .others) (a .six) (says (c .before .bad-count .ensures) (c .if1 .taken))
+returns c = first-is (here (says (c .before .bad-count .ensures) (c .if1 .taken)))
 
 record-lengths-requires : tie.Need-record-lengths-requires
 record-lengths-requires c κs = search needs
@@ -28,10 +21,8 @@ record-lengths-requires c κs = search needs
 returns-2 : tie.Need-returns-2
 returns-2 c =
     let past2 = c .before .before in
-    let a = past2 .before .before .before .before .args in
-    let l : LentRecord = record { n = a .n; neighbours = a .neighbours .now; codes = a .codes .now } in
-    record-refused-4 l (a .others) (a .six) (says (past2 .before .bad-count .ensures) (past2 .if1 .left))
-    (either-says {b = recordLengths l} (c .before .record-lengths .ensures) refl (c .if2 .taken))
+    first-is (later (says (past2 .before .bad-count .ensures) (past2 .if1 .left))
+    (here (either-says (c .before .record-lengths .ensures) refl (c .if2 .taken))))
 
 strays-requires : tie.Need-strays-requires
 strays-requires c κs =
@@ -42,11 +33,9 @@ returns-3 : tie.Need-returns-3
 returns-3 c =
     let past4 = c .before .before in
     let past2 = past4 .before .before in
-    let a = past2 .before .before .before .before .args in
-    let l : LentRecord = record { n = a .n; neighbours = a .neighbours .now; codes = a .codes .now } in
-    record-refused-5 l (a .others) (a .six) (says (past2 .before .bad-count .ensures) (past2 .if1 .left))
-    (either-says {b = recordLengths l} (past4 .before .record-lengths .ensures) refl (past4 .if2 .left))
-    (says (c .before .strays .ensures) (c .if3 .taken))
+    first-is (later (says (past2 .before .bad-count .ensures) (past2 .if1 .left))
+    (later (either-says (past4 .before .record-lengths .ensures) refl (past4 .if2 .left))
+    (here (says (c .before .strays .ensures) (c .if3 .taken)))))
 
 reaches-requires : tie.Need-reaches-requires
 reaches-requires c κs = search needs
@@ -56,12 +45,10 @@ returns-4 c =
     let past5 = c .before .before in
     let past4 = past5 .before .before in
     let past2 = past4 .before .before in
-    let a = past2 .before .before .before .before .args in
-    let l : LentRecord = record { n = a .n; neighbours = a .neighbours .now; codes = a .codes .now } in
-    record-refused-6 l (a .others) (a .six) (says (past2 .before .bad-count .ensures) (past2 .if1 .left))
-    (either-says {b = recordLengths l} (past4 .before .record-lengths .ensures) refl (past4 .if2 .left))
-    (says (past5 .before .strays .ensures) (past5 .if3 .left))
-    (either-says {b = recordCodes l} (c .before .reaches .ensures) refl (c .if4 .taken))
+    first-is (later (says (past2 .before .bad-count .ensures) (past2 .if1 .left))
+    (later (either-says (past4 .before .record-lengths .ensures) refl (past4 .if2 .left))
+    (later (says (past5 .before .strays .ensures) (past5 .if3 .left))
+    (here (either-says (c .before .reaches .ensures) refl (c .if4 .taken))))))
 
 not-simple-requires : tie.Need-not-simple-requires
 not-simple-requires c κs =
@@ -70,9 +57,8 @@ not-simple-requires c κs =
     let past2 = past4 .before .before in
     let a = past2 .before .before .before .before .args in
     let l : LentRecord = record { n = a .n; neighbours = a .neighbours .now; codes = a .codes .now } in
-    simple-tested l (a .others) (says (past2 .before .bad-count .ensures) (past2 .if1 .left))
+    square-tested l (a .others) (says (past2 .before .bad-count .ensures) (past2 .if1 .left))
     (either-says {b = recordLengths l} (past4 .before .record-lengths .ensures) refl (past4 .if2 .left))
-    (says (past5 .before .strays .ensures) (past5 .if3 .left))
 
 returns-5 : tie.Need-returns-5
 returns-5 c =
@@ -80,13 +66,11 @@ returns-5 c =
     let past5 = past6 .before .before in
     let past4 = past5 .before .before in
     let past2 = past4 .before .before in
-    let a = past2 .before .before .before .before .args in
-    let l : LentRecord = record { n = a .n; neighbours = a .neighbours .now; codes = a .codes .now } in
-    record-refused-7 l (a .others) (a .six) (says (past2 .before .bad-count .ensures) (past2 .if1 .left))
-    (either-says {b = recordLengths l} (past4 .before .record-lengths .ensures) refl (past4 .if2 .left))
-    (says (past5 .before .strays .ensures) (past5 .if3 .left))
-    (either-says {b = recordCodes l} (past6 .before .reaches .ensures) refl (past6 .if4 .left))
-    (says (c .before .not-simple .ensures) (c .if5 .taken))
+    first-is (later (says (past2 .before .bad-count .ensures) (past2 .if1 .left))
+    (later (either-says (past4 .before .record-lengths .ensures) refl (past4 .if2 .left))
+    (later (says (past5 .before .strays .ensures) (past5 .if3 .left))
+    (later (either-says (past6 .before .reaches .ensures) refl (past6 .if4 .left))
+    (here (says (c .before .not-simple .ensures) (c .if5 .taken)))))))
 
 returns-6 : tie.Need-returns-6
 returns-6 c =
@@ -94,13 +78,11 @@ returns-6 c =
     let past5 = past6 .before .before in
     let past4 = past5 .before .before in
     let past2 = past4 .before .before in
-    let a = past2 .before .before .before .before .args in
-    let l : LentRecord = record { n = a .n; neighbours = a .neighbours .now; codes = a .codes .now } in
-    record-not-refused l (a .others) (a .six) (says (past2 .before .bad-count .ensures) (past2 .if1 .left))
-    (either-says {b = recordLengths l} (past4 .before .record-lengths .ensures) refl (past4 .if2 .left))
-    (says (past5 .before .strays .ensures) (past5 .if3 .left))
-    (either-says {b = recordCodes l} (past6 .before .reaches .ensures) refl (past6 .if4 .left))
-    (says (c .before .not-simple .ensures) (c .if5 .left))
+    first-is (later (says (past2 .before .bad-count .ensures) (past2 .if1 .left))
+    (later (either-says (past4 .before .record-lengths .ensures) refl (past4 .if2 .left))
+    (later (says (past5 .before .strays .ensures) (past5 .if3 .left))
+    (later (either-says (past6 .before .reaches .ensures) refl (past6 .if4 .left))
+    (later (says (c .before .not-simple .ensures) (c .if5 .left)) none)))))
 
 pub record-refusal-spec : {M : Type 1} → statement M
 record-refusal-spec =

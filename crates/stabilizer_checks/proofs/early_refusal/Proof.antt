@@ -1,14 +1,9 @@
-use mathlib.Core.Path.{_∙_}
+use mathlib.Core.Path.{refl, _∙_}
 use borrow.Author.Needs.{needs}
-use Rattle.stabilizer.specs.Lists.{GeneratorList}
-use Rattle.stabilizer.proofs.EarlyLines.{
-  clash-tested,
-  clashing-letters,
-  refused-9,
-  refused-by-none,
-  refused-form,
-  says,
-}
+use Rattle.contracts.proofs.Fitting.{decides, stays}
+use Rattle.contracts.specs.Answers.{here, later, none}
+use Rattle.stabilizer.specs.Lists.{GeneratorList, formLines}
+use Rattle.stabilizer.proofs.EarlyLines.{clash-tested, clashing-letters, says}
 use Rattle.stabilizer_checks.proofs.early_refusal.Statement.{statement}
 use Rattle.stabilizer_checks.proofs.early_refusal.Tie as tie
 
@@ -20,7 +15,7 @@ returns c =
     let E = c .before in
     let a = E .before .before .before .before .args in
     let l : GeneratorList = record { n = a .n; signs = a .signs .now; z = a .z .now; x = a .x .now } in
-    refused-form l (a .others) _ (E .form-refusal .ensures) (c .if1 .taken)
+    stays (formLines l (a .others)) _ (E .form-refusal .ensures) (c .if1 .taken)
 
 some-clash-requires : tie.Need-some-clash-requires
 some-clash-requires c κs =
@@ -34,16 +29,16 @@ returns-2 c =
     let E = c .before .before .before in
     let a = E .before .before .before .before .args in
     let l : GeneratorList = record { n = a .n; signs = a .signs .now; z = a .z .now; x = a .x .now } in
-    refused-9 l (a .others) _ (E .form-refusal .ensures) (c .before .before .if1 .left)
-    (says (c .before .some-clash .ensures ∙ clashing-letters l) (c .if2 .taken))
+    decides (formLines l (a .others)) refl (E .form-refusal .ensures) (c .before .before .if1 .left)
+    (here (says (c .before .some-clash .ensures ∙ clashing-letters l) (c .if2 .taken)))
 
 returns-3 : tie.Need-returns-3
 returns-3 c =
     let E = c .before .before .before in
     let a = E .before .before .before .before .args in
     let l : GeneratorList = record { n = a .n; signs = a .signs .now; z = a .z .now; x = a .x .now } in
-    refused-by-none l (a .others) _ (E .form-refusal .ensures) (c .before .before .if1 .left)
-    (says (c .before .some-clash .ensures ∙ clashing-letters l) (c .if2 .left))
+    decides (formLines l (a .others)) refl (E .form-refusal .ensures) (c .before .before .if1 .left)
+    (later (says (c .before .some-clash .ensures ∙ clashing-letters l) (c .if2 .left)) none)
 
 pub early-refusal-spec : {M : Type 1} → statement M
 early-refusal-spec =

@@ -1,15 +1,8 @@
 use mathlib.Core.Path.{refl}
 use borrow.Author.Needs.{needs}
-use Rattle.stabilizer.specs.Lists.{GeneratorList, listLengths}
-use Rattle.stabilizer.proofs.EarlyLines.{
-  either-says,
-  not-refused,
-  refused-2,
-  refused-4,
-  refused-5,
-  refused-6,
-  says,
-}
+use Rattle.contracts.proofs.Fitting.{first-is}
+use Rattle.contracts.specs.Answers.{here, later, none}
+use Rattle.stabilizer.proofs.EarlyLines.{either-says, says}
 use Rattle.stabilizer.proofs.SharedTests.{counted}
 use Rattle.stabilizer_checks.proofs.form_refusal.Statement.{statement}
 use Rattle.stabilizer_checks.proofs.form_refusal.Tie as tie
@@ -18,10 +11,7 @@ bad-count-requires : tie.Need-bad-count-requires
 bad-count-requires c κs = search needs
 
 returns : tie.Need-returns
-returns c =
-    let a = c .before .before .before .before .before .args in
-    let l : GeneratorList = record { n = a .n; signs = a .signs .now; z = a .z .now; x = a .x .now } in
-    refused-2 l (a .others) (says (c .before .bad-count .ensures) (c .if1 .taken))
+returns c = first-is (here (says (c .before .bad-count .ensures) (c .if1 .taken)))
 
 list-lengths-requires : tie.Need-list-lengths-requires
 list-lengths-requires c κs = search needs
@@ -29,10 +19,8 @@ list-lengths-requires c κs = search needs
 returns-2 : tie.Need-returns-2
 returns-2 c =
     let past2 = c .before .before in
-    let a = past2 .before .before .before .before .before .args in
-    let l : GeneratorList = record { n = a .n; signs = a .signs .now; z = a .z .now; x = a .x .now } in
-    refused-4 l (a .others) (says (past2 .before .bad-count .ensures) (past2 .if1 .left))
-    (either-says {b = listLengths l} (c .before .list-lengths .ensures) refl (c .if2 .taken))
+    first-is (later (says (past2 .before .bad-count .ensures) (past2 .if1 .left))
+    (here (either-says (c .before .list-lengths .ensures) refl (c .if2 .taken))))
 
 strays-requires : tie.Need-strays-requires
 strays-requires c κs =
@@ -47,11 +35,9 @@ returns-3 : tie.Need-returns-3
 returns-3 c =
     let past4 = c .before .before .before in
     let past2 = past4 .before .before in
-    let a = past2 .before .before .before .before .before .args in
-    let l : GeneratorList = record { n = a .n; signs = a .signs .now; z = a .z .now; x = a .x .now } in
-    refused-5 l (a .others) (says (past2 .before .bad-count .ensures) (past2 .if1 .left))
-    (either-says {b = listLengths l} (past4 .before .list-lengths .ensures) refl (past4 .if2 .left))
-    (either-says (c .before .before .strays .ensures) (c .before .strays2 .ensures) (c .if3 .taken))
+    first-is (later (says (past2 .before .bad-count .ensures) (past2 .if1 .left))
+    (later (either-says (past4 .before .list-lengths .ensures) refl (past4 .if2 .left))
+    (here (either-says (c .before .before .strays .ensures) (c .before .strays2 .ensures) (c .if3 .taken)))))
 
 reaches-requires : tie.Need-reaches-requires
 reaches-requires c κs = search needs
@@ -61,26 +47,20 @@ returns-4 c =
     let past5 = c .before .before in
     let past4 = past5 .before .before .before in
     let past2 = past4 .before .before in
-    let a = past2 .before .before .before .before .before .args in
-    let l : GeneratorList = record { n = a .n; signs = a .signs .now; z = a .z .now; x = a .x .now } in
-    refused-6 l (a .others) (says (past2 .before .bad-count .ensures) (past2 .if1 .left))
-    (either-says {b = listLengths l} (past4 .before .list-lengths .ensures) refl (past4 .if2 .left))
-    (either-says (past5 .before .before .strays .ensures) (past5 .before .strays2 .ensures)
-    (past5 .if3 .left))
-    (says (c .before .reaches .ensures) (c .if4 .taken))
+    first-is (later (says (past2 .before .bad-count .ensures) (past2 .if1 .left))
+    (later (either-says (past4 .before .list-lengths .ensures) refl (past4 .if2 .left))
+    (later (either-says (past5 .before .before .strays .ensures) (past5 .before .strays2 .ensures) (past5 .if3 .left))
+    (here (says (c .before .reaches .ensures) (c .if4 .taken))))))
 
 returns-5 : tie.Need-returns-5
 returns-5 c =
     let past5 = c .before .before in
     let past4 = past5 .before .before .before in
     let past2 = past4 .before .before in
-    let a = past2 .before .before .before .before .before .args in
-    let l : GeneratorList = record { n = a .n; signs = a .signs .now; z = a .z .now; x = a .x .now } in
-    not-refused l (a .others) (says (past2 .before .bad-count .ensures) (past2 .if1 .left))
-    (either-says {b = listLengths l} (past4 .before .list-lengths .ensures) refl (past4 .if2 .left))
-    (either-says (past5 .before .before .strays .ensures) (past5 .before .strays2 .ensures)
-    (past5 .if3 .left))
-    (says (c .before .reaches .ensures) (c .if4 .left))
+    first-is (later (says (past2 .before .bad-count .ensures) (past2 .if1 .left))
+    (later (either-says (past4 .before .list-lengths .ensures) refl (past4 .if2 .left))
+    (later (either-says (past5 .before .before .strays .ensures) (past5 .before .strays2 .ensures) (past5 .if3 .left))
+    (later (says (c .before .reaches .ensures) (c .if4 .left)) none))))
 
 pub form-refusal-spec : {M : Type 1} → statement M
 form-refusal-spec =

@@ -1,23 +1,23 @@
-use mathlib.Core.Bool.{false≢true}
+use mathlib.Core.Path.{sym, _∙_}
 use Prim.Native.Nat.{_*_, _+_, _-_, _≤_}
-use native.Mathlib.Nat.{le-refl}
 use native.Mathlib.Omega.{arith}
 use borrow.Author.Needs.{needs}
-use Rattle.comparison.proofs.EquationLaws.{broken-found}
+use Rattle.comparison.specs.Equations.{tableOf}
+use Rattle.comparison.proofs.EquationLaws.{TestedBelow, all-hold, none-tested, one-fails, one-holds, row-at}
 use Rattle.comparison_equations.proofs.equations.broken.Statement.{statement}
 use Rattle.comparison_equations.proofs.equations.broken.Tie as tie
 
 abbrev Inv-loop : tie.InvT-loop
-Inv-loop table q m w i₀ i = (4 * q ≤ i)
+Inv-loop table q w i₀ i = (i ≤ 4 * q + 4) × TestedBelow (tableOf table) q w i
 
 abbrev μ-loop : tie.MeasureT-loop
-μ-loop table q m w i₀ i = (4 * q + 4) - i
+μ-loop table q w i₀ i = (4 * q + 4) - i
 
 mul-i : tie.Need-mul-i Inv-loop μ-loop
 mul-i c = search needs
 
 loop-holds : tie.Need-loop-holds Inv-loop μ-loop
-loop-holds c = le-refl _
+loop-holds c = (omega arith, none-tested _ _ _)
 
 mul-loop : tie.Need-mul-loop Inv-loop μ-loop
 mul-loop c = search needs
@@ -25,11 +25,14 @@ mul-loop c = search needs
 add-loop : tie.Need-add-loop Inv-loop μ-loop
 add-loop c = search needs
 
-equation-at-requires : tie.Need-equation-at-requires Inv-loop μ-loop
-equation-at-requires c κs = search needs
+mul-equation : tie.Need-mul-equation Inv-loop μ-loop
+mul-equation c = search needs
 
-span-requires : tie.Need-span-requires Inv-loop μ-loop
-span-requires c κs = search needs
+element-copy-out-equation : tie.Need-element-copy-out-equation Inv-loop μ-loop
+element-copy-out-equation c = search needs
+
+equation-requires : tie.Need-equation-requires Inv-loop μ-loop
+equation-requires c κs = search needs
 
 fails-requires : tie.Need-fails-requires Inv-loop μ-loop
 fails-requires c κs = search needs
@@ -37,10 +40,11 @@ fails-requires c κs = search needs
 returns : tie.Need-returns Inv-loop μ-loop
 returns c =
     let a = c .before .before .before .before .before .before .args in
-    λ e. broken-found (a .table) (c .before .before .before .before .before .loop .i) (a .m) (a .w)
-    (c .before .before .before .equation-at .result) (c .before .before .span .result)
-    (c .before .fails .result) (c .before .before .before .equation-at .ensures)
-    (c .before .before .span .ensures) (c .before .fails .ensures) (c .if1 .taken)
+    let l = c .before .before .before .before .before .loop in
+    let e = c .before .before .equation in
+    one-fails (tableOf (a .table .now)) (a .q) (a .w) (l .i) (l .inv .1) (c .before .before .before .before .loop-test .taken)
+    (e .result) (c .before .fails .result) (e .ensures ∙ sym (row-at (a .table .now) (l .i)))
+    (c .before .fails .ensures) (c .if1 .taken)
 
 add-i : tie.Need-add-i Inv-loop μ-loop
 add-i c = search needs
@@ -49,10 +53,20 @@ loop-less : tie.Need-loop-less Inv-loop μ-loop
 loop-less c = omega arith
 
 loop-again : tie.Need-loop-again Inv-loop μ-loop
-loop-again c = omega (arith, c .before .before .before .before .before .loop .inv)
+loop-again c =
+    let a = c .before .before .before .before .before .before .args in
+    let l = c .before .before .before .before .before .loop in
+    let e = c .before .before .equation in (
+      omega (arith, c .before .before .before .before .loop-test .taken),
+      one-holds (tableOf (a .table .now)) (a .q) (a .w) (l .i) (l .inv .1) (e .result)
+          (c .before .fails .result) (e .ensures ∙ sym (row-at (a .table .now) (l .i))) (c .before .fails .ensures)
+          (c .if1 .left),
+    )
 
 returns-2 : tie.Need-returns-2 Inv-loop μ-loop
-returns-2 c = λ e. absurd (false≢true e)
+returns-2 c =
+    let a = c .before .before .args in
+    all-hold (tableOf (a .table .now)) (a .q) (a .w) (c .before .loop .i) (c .before .loop .inv .1) (c .loop-test .left)
 
 pub broken-spec : {M : Type 1} → statement M
 broken-spec =
@@ -64,8 +78,9 @@ broken-spec =
     loop-holds
     mul-loop
     add-loop
-    equation-at-requires
-    span-requires
+    mul-equation
+    element-copy-out-equation
+    equation-requires
     fails-requires
     returns
     add-i

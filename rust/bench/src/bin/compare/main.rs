@@ -1,4 +1,4 @@
-//! Times and tries of `compare` over families of states on 20 qubits, and brute force.
+//! Times of `compare` over families of states on 20 qubits, and brute force.
 
 mod brute;
 mod families;
@@ -16,17 +16,16 @@ const PAIRS: u64 = 100;
 /// The number of times that a pair is compared; the least time counts.
 const RUNS: usize = 5;
 
-/// The times and tries of one kind of pairs.
+/// The times of one kind of pairs.
 #[derive(Default)]
 struct Measured {
     times: Vec<Duration>,
-    worst_tries: u64,
 }
 
 fn main() {
     println!("compare on {N} qubits, {PAIRS} pairs of each kind, each the least time of {RUNS}");
-    println!("{:<32}{:^32}{:^32}", "", "equivalent", "not equivalent");
-    let columns = format!("{:>11}{:>11}{:>10}", "mean", "worst", "tries");
+    println!("{:<32}{:^22}{:^22}", "", "equivalent", "not equivalent");
+    let columns = format!("{:>11}{:>11}", "mean", "worst");
     println!("{:<32}{columns}{columns}", "family");
     for family in &FAMILIES {
         let mut random = Random::new(20);
@@ -51,17 +50,13 @@ impl Measured {
         let (time, answer) = timed(first, second);
         assert_right(first, second, &answer, equivalent);
         self.times.push(time);
-        let search = dropping::search(first, second, || false);
-        assert_eq!(search.choice, answer.ok().map(|answer| answer.choice));
-        assert!(search.tries < 10 * N as u64, "{} tries", search.tries);
-        self.worst_tries = self.worst_tries.max(search.tries);
     }
 
     fn columns(&self) -> String {
         let mean = self.times.iter().sum::<Duration>() / self.times.len() as u32;
         let worst = self.times.iter().max().unwrap();
         let [mean, worst] = [mean, *worst].map(micros);
-        format!("{mean:>8.0} µs{worst:>8.0} µs{:>10}", self.worst_tries)
+        format!("{mean:>8.0} µs{worst:>8.0} µs")
     }
 }
 

@@ -1,0 +1,60 @@
+-- Powers of i times a Gaussian integer: turns add, and a number that a turn keeps is 0.
+-- Assumes nothing.
+use mathlib.Core.Bool.{false, true≢false}
+use mathlib.Core.Path.{_∙_, _≡_, ap, refl, subst, sym}
+use Prim.Native.Nat.{suc, zero}
+use lib.IntN.{ℤ, negsuc, negℤ, pos}
+use Rattle.pauli.specs.Pauli.{_+ᵖ_, Phase, i¹, i², i³, i⁰, samePhase, timesI}
+use Rattle.amplitude.specs.Vectors.{Gaussian, none, turnBy}
+
+neg-neg : (k : ℤ) → negℤ (negℤ k) ≡ k
+neg-neg (pos zero) = refl
+neg-neg (pos (suc k)) = refl
+neg-neg (negsuc k) = refl
+
+gaussian : {z u : Gaussian} → z .re ≡ u .re → z .im ≡ u .im → z ≡ u
+gaussian a b = λ i. record { re = a i; im = b i }
+
+-- one quarter turn more
+turn-once : (b : Phase) (z : Gaussian) → turnBy (timesI b) z ≡ turnBy i¹ (turnBy b z)
+turn-once i⁰ z = refl
+turn-once i¹ z = refl
+turn-once i² z = gaussian (sym (neg-neg (z .im))) refl
+turn-once i³ z = gaussian (sym (neg-neg (z .re))) refl
+
+pub turn-add : (a b : Phase) (z : Gaussian) → turnBy (a +ᵖ b) z ≡ turnBy a (turnBy b z)
+turn-add i⁰ b z = refl
+turn-add i¹ b z = turn-once b z
+turn-add i² b z = turn-once (timesI b) z ∙ ap (turnBy i¹) (turn-once b z)
+turn-add i³ b z =
+    turn-once (timesI (timesI b)) z ∙ ap (turnBy i¹) (turn-once (timesI b) z ∙ ap (turnBy i¹) (turn-once b z))
+    ∙ sym (turn-once i² (turnBy b z))
+
+pub turn-none : (a : Phase) → turnBy a none ≡ none
+turn-none i⁰ = refl
+turn-none i¹ = refl
+turn-none i² = refl
+turn-none i³ = refl
+
+-- a number that is its own negative is 0
+own-negative : (k : ℤ) → k ≡ negℤ k → k ≡ pos 0
+own-negative (pos zero) e = refl
+own-negative (pos (suc k)) e = absurd (apart e)
+  where
+    apart : pos (suc k) ≡ negsuc k → ⊥
+    apart e = subst (λ z. elim z as (λ z. Type 0) [ pos k ↦ Unit | negsuc k ↦ ⊥ ]) e tt
+own-negative (negsuc k) e = absurd (apart e)
+  where
+    apart : negsuc k ≡ pos (suc k) → ⊥
+    apart e = subst (λ z. elim z as (λ z. Type 0) [ pos k ↦ ⊥ | negsuc k ↦ Unit ]) e tt
+
+-- a number that a turn other than by 1 keeps is 0
+pub turned-none : (t : Phase) (z : Gaussian) → samePhase t i⁰ ≡ false → z ≡ turnBy t z → z ≡ none
+turned-none i⁰ z h e = absurd (true≢false h)
+turned-none i¹ z h e =
+    let a = own-negative (z .re) (ap (λ u. u .re) e ∙ ap negℤ (ap (λ u. u .im) e)) in
+    gaussian a (ap (λ u. u .im) e ∙ a)
+turned-none i² z h e = gaussian (own-negative (z .re) (ap (λ u. u .re) e)) (own-negative (z .im) (ap (λ u. u .im) e))
+turned-none i³ z h e =
+    let b = own-negative (z .im) (ap (λ u. u .im) e ∙ ap negℤ (ap (λ u. u .re) e)) in
+    gaussian (ap (λ u. u .re) e ∙ b) b

@@ -1,0 +1,51 @@
+use borrow.Author.Needs.{needs}
+use mathlib.Core.Path.{sym, ap, _∙_}
+use lib.Ieee.{ofBits}
+use Rattle.amplitude.specs.Plotting.{nought, plotted}
+use Rattle.amplitude_lines.proofs.plot_line.Statement.{statement}
+use Rattle.amplitude_lines.proofs.plot_line.Tie as tie
+use Rattle.amplitude_lines.proofs.plot_line.Reads as reads
+use Rattle.amplitude_lines.proofs.plot_line.Lts as lts
+use Rattle.amplitude_lines.proofs.halves.Reads as halves-reads
+
+enum-told : tie.Need-enum-told
+enum-told c = search needs
+
+enum-known-a : tie.Need-enum-known-a
+enum-known-a c = search needs
+
+halves-requires : tie.Need-halves-requires
+halves-requires c κs = search needs
+
+enum-known-a-2 : tie.Need-enum-known-a-2
+enum-known-a-2 c = search needs
+
+halves-requires-2 : tie.Need-halves-requires-2
+halves-requires-2 c κs = search needs
+
+returns : tie.Need-returns
+unfolding ofBits
+returns c = ap (λ a. plotted a (c .before .before .args .r)) (sym (c .enum-told .given .1))
+
+returns-2 : tie.Need-returns-2
+unfolding ofBits
+returns-2 c = ap (λ p. record { re = c .before .before .a .given .0 .0; im = nought; p = p }) (c .halves .ensures)
+    ∙ ap (λ a. plotted a (c .before .before .before .before .args .r)) (sym (c .before .before .a .given .1))
+
+returns-3 : tie.Need-returns-3
+unfolding ofBits
+returns-3 c = ap (λ p. record { re = nought; im = c .before .before .a2 .given .0 .0; p = p }) (c .halves2 .ensures)
+    ∙ ap (λ a. plotted a (c .before .before .before .before .args .r)) (sym (c .before .before .a2 .given .1))
+
+pub plot-line-spec : {M : Type 1} → statement M
+plot-line-spec =
+    tie.close
+    (tie.spec
+    enum-told
+    enum-known-a
+    halves-requires
+    enum-known-a-2
+    halves-requires-2
+    returns
+    returns-2
+    returns-3)

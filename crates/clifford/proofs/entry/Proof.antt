@@ -1,0 +1,29 @@
+use mathlib.Core.Path.{subst, sym}
+use Prim.Native.Nat.{_<_}
+use Rattle.clifford.specs.Clifford.{cliffordOf, then}
+use Rattle.clifford.proofs.CliffordLaws.{codeOf-lt}
+use Rattle.clifford.proofs.TableRules.{then-entry, thenTable}
+use borrow.Author.Needs.{needs}
+use Rattle.clifford.proofs.entry.Statement.{statement}
+use Rattle.clifford.proofs.entry.Tie as tie
+
+mul-result : tie.Need-mul-result
+mul-result c = search needs
+
+add-result : tie.Need-add-result
+add-result c = search needs
+
+array-read-result : tie.Need-array-read-result
+array-read-result c = search needs
+
+returns : tie.Need-returns
+unfolding thenTable
+returns c =
+    let start = c in
+    let a = start .args .first in
+    let b = start .args .next in
+    let e = then-entry a b (start .pre .0) (start .pre .1) in
+    (e, subst (λ v. v < 24) (sym e) (codeOf-lt (then (cliffordOf a) (cliffordOf b))))
+
+pub entry-spec : {M : Type 1} → statement M
+entry-spec = tie.close (tie.spec mul-result add-result array-read-result returns)

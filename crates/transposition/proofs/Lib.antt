@@ -1,0 +1,4 @@
+pub mod RoundTests
+pub mod PairWords
+pub mod Exchanging
+pub mod Rounds

@@ -1,0 +1,87 @@
+-- Lines with a further test, and lines with one put in: none holds exactly if none held and the new test is false.
+-- Assumes nothing.
+use mathlib.Core.Bool.{_&&_, Bool, cond, false, true, true≢false, _||_}
+use mathlib.Core.List.{List, [], _∷_}
+use mathlib.Core.Logic.{_↔_}
+use mathlib.Core.Path.{ap, refl, subst, sym, _∙_, _≡_}
+use Prim.Native.Nat.{_<_, suc, ℕ}
+use native.Mathlib.Nat.{lt-irrefl}
+use native.Mathlib.Omega.{arith}
+use lib.Dec.{eqb}
+use Rattle.buffers.proofs.Lines.{Numbered}
+use Rattle.buffers.specs.Refusals.{Line, firstFitting, line}
+use Rattle.jobs.proofs.Numbers.{without-test}
+use Rattle.jobs.specs.Asked.{withTest}
+use Rattle.used.specs.Used.{insertedAfter}
+
+-- some line has the number k
+abbrev pub hasNumber : ℕ → List Line → Bool
+hasNumber k [] = false
+hasNumber k (l ∷ ls) = eqb (l .number) k || hasNumber k ls
+
+not-zero : (k : ℕ) → 0 < k → k ≡ 0 → ⊥
+not-zero k p e = lt-irrefl 0 (subst (λ m. 0 < m) e p)
+
+-- a further test that holds refuses
+test-refuses : (k : ℕ) (ls : List Line) → Numbered ls → hasNumber k ls ≡ true
+    → firstFitting (withTest k true ls) ≡ 0 → ⊥
+unfolding firstFitting
+test-refuses k [] N h e = true≢false (sym h)
+test-refuses k (l ∷ ls) N h e = go (l .holds) (eqb (l .number) k) h e (test-refuses k ls (N .1))
+  where
+    go : (v t : Bool) → (t || hasNumber k ls) ≡ true
+        → cond (v || (t && true)) (l .number) (firstFitting (withTest k true ls)) ≡ 0
+        → (hasNumber k ls ≡ true → firstFitting (withTest k true ls) ≡ 0 → ⊥) → ⊥
+    go true t h e rest = not-zero (l .number) (N .0) e
+    go false true h e rest = not-zero (l .number) (N .0) e
+    go false false h e rest = rest h e
+
+pub test-passes : (k : ℕ) (b : Bool) (ls : List Line) → Numbered ls → hasNumber k ls ≡ true
+    → (firstFitting (withTest k b ls) ≡ 0) ↔ ((firstFitting ls ≡ 0) × (b ≡ false))
+test-passes k true ls N h = (
+  (λ e. absurd (test-refuses k ls N h e)),
+  (λ p. absurd (true≢false (p .1))),
+)
+test-passes k false ls N h = (
+  (λ e. (sym (without-test k ls) ∙ e, refl)),
+  (λ p. without-test k ls ∙ p .0),
+)
+
+-- ---- a line put in
+-- one that does not hold changes nothing
+pub inserted-none : (k m : ℕ) (ls : List Line) → firstFitting (insertedAfter k (line m false) ls) ≡ firstFitting ls
+unfolding firstFitting
+inserted-none k m [] = refl
+inserted-none k m (l ∷ ls) =
+    ap (cond (l .holds) (l .number)) (go (eqb (l .number) k) ∙ inserted-none k m ls)
+  where
+    go : (t : Bool) → firstFitting (cond t (line m false ∷ insertedAfter k (line m false) ls)
+        (insertedAfter k (line m false) ls)) ≡ firstFitting (insertedAfter k (line m false) ls)
+    go true = refl
+    go false = refl
+
+-- one that holds refuses
+inserted-refuses : (k m : ℕ) (ls : List Line) → Numbered ls → hasNumber k ls ≡ true
+    → firstFitting (insertedAfter k (line (suc m) true) ls) ≡ 0 → ⊥
+unfolding firstFitting
+inserted-refuses k m [] N h e = true≢false (sym h)
+inserted-refuses k m (l ∷ ls) N h e = go (l .holds) (eqb (l .number) k) h e (inserted-refuses k m ls (N .1))
+  where
+    go : (v t : Bool) → (t || hasNumber k ls) ≡ true
+        → cond v (l .number) (firstFitting (cond t (line (suc m) true ∷ insertedAfter k (line (suc m) true) ls)
+        (insertedAfter k (line (suc m) true) ls))) ≡ 0
+        → (hasNumber k ls ≡ true → firstFitting (insertedAfter k (line (suc m) true) ls) ≡ 0 → ⊥) → ⊥
+    go true t h e rest = not-zero (l .number) (N .0) e
+    go false true h e rest = not-zero (suc m) (omega arith) e
+    go false false h e rest = rest h e
+
+pub inserted-passes : (k m : ℕ) (b : Bool) (ls : List Line) → Numbered ls → hasNumber k ls ≡ true
+    → (firstFitting (insertedAfter k (line (suc m) b) ls) ≡ 0) ↔ ((firstFitting ls ≡ 0) × (b ≡ false))
+inserted-passes k m true ls N h = (
+  (λ e. absurd (inserted-refuses k m ls N h e)),
+  (λ p. absurd (true≢false (p .1))),
+)
+inserted-passes k m false ls N h = (
+  (λ e. (sym (inserted-none k (suc m) ls) ∙ e, refl)),
+  (λ p. inserted-none k (suc m) ls ∙ p .0),
+)
