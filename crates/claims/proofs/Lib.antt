@@ -1,9 +1,10 @@
 pub mod Examples
+pub mod LinesExactly
 pub mod SecondDemandLists
 pub mod PartsReached
+pub mod AcceptedPairs
 pub mod PartsDemandHolds
 pub mod ThirdDemandHolds
-pub mod AcceptedPairs
 pub mod ImageDemandHolds
 pub mod GatesFollow
 pub mod MeasurementsFollow
@@ -11,6 +12,10 @@ pub mod ImpossibleClicks
 pub mod RewritingsKeep
 pub mod CzInsideSide
 pub mod CutDemandHolds
+pub mod InPlaceExactly
+pub mod AcceptedCallsHold
+pub mod TakenRecords
+pub mod ListDemandHolds
 pub mod FirstDemandHolds
 pub mod AnswerBuffers
 pub mod GeneratorDemandHolds

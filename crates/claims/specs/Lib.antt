@@ -4,6 +4,8 @@ pub mod PartsDemand
 pub mod ThirdDemand
 pub mod ImageDemand
 pub mod OperationsDemand
+pub mod AcceptedCalls
+pub mod ListDemand
 pub mod CutDemand
 pub mod FirstDemand
 pub mod GeneratorDemand
