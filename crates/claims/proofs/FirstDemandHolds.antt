@@ -2,8 +2,9 @@
 -- Assumes nothing.
 use mathlib.Core.Bool.{Bool, false, _||_}
 use mathlib.Core.List.{List}
-use mathlib.Core.Path.{refl, sym, _∙_, _≡_}
+use mathlib.Core.Path.{refl, subst, sym, _∙_, _≡_}
 use Prim.Native.Nat.{ℕ, _≤_}
+use native.Mathlib.Decide.{ℕ-discrete}
 use native.Mathlib.Omega.{arith}
 use lib.ListN.{drop, length, length-append, length-drop}
 use Rattle.buffers.proofs.Lines.{none-of-all, not-held}
@@ -14,7 +15,9 @@ use Rattle.compare_call.proofs.PairLines.{pair-numbered}
 use Rattle.compare_call.specs.Comparisons.{compareCall}
 use Rattle.comparison.specs.Compared.{largePart, pairLines}
 use Rattle.comparison_answer.specs.ComparedPairs.{compareList}
-use Rattle.contracts.proofs.Calling.{every-call-answers}
+use Rattle.contracts.proofs.Calling.{done, every-call-answers, refused}
+use Rattle.contracts.proofs.Fitting.{first-is}
+use Rattle.contracts.specs.Calls.{Call}
 use Rattle.generate_call.proofs.GenerateCalls.{accepted-job}
 use Rattle.generate_call.specs.Generated.{generateCall}
 use Rattle.generator.proofs.Lengths.{length-text}
@@ -34,7 +37,7 @@ use Rattle.claims.proofs.AcceptedPairs.{accepted-pair}
 use Rattle.claims.proofs.LinesExactly.{list-exactly, record-exactly, three-fit, two-fit}
 use Rattle.claims.proofs.PartsDemandHolds.{small-parts}
 use Rattle.claims.proofs.ThirdDemandHolds.{third-demand}
-use Rattle.claims.specs.FirstDemand.{Conforms, FirstDemand, InOrder}
+use Rattle.claims.specs.FirstDemand.{AnswersSayAll, Conforms, FirstDemand, InOrder}
 
 -- an answer with a place for each of n
 table-fills : (n : ℕ) (f : ℕ → ℕ) (old : List ℕ) → length old ≡ n → length (tabulate n f) ≡ length old
@@ -147,3 +150,11 @@ first-demand =
       comparisons = compare-conforms;
       generations = generate-conforms;
     }
+
+-- ---- and back: what a call answers is its contract
+pub answers-say-all : AnswersSayAll
+answers-say-all c r A = go (ℕ-discrete r 0)
+  where
+    go : Dec (r ≡ 0) → Call c r
+    go (yes z) = subst (Call c) (sym z) (done c (first-is (A .first)) z (A .accepted z))
+    go (no h) = refused c (first-is (A .first)) h (A .refused h)

@@ -12,8 +12,10 @@ pub mod ImpossibleClicks
 pub mod RewritingsKeep
 pub mod CzInsideSide
 pub mod CutDemandHolds
+pub mod ProductDemandHolds
 pub mod InPlaceExactly
 pub mod AcceptedCallsHold
+pub mod ComparedByParts
 pub mod TakenRecords
 pub mod ListDemandHolds
 pub mod FirstDemandHolds

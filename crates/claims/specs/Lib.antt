@@ -7,6 +7,7 @@ pub mod OperationsDemand
 pub mod AcceptedCalls
 pub mod ListDemand
 pub mod CutDemand
+pub mod ProductDemand
 pub mod FirstDemand
 pub mod GeneratorDemand
 pub mod JobDemand
