@@ -3,16 +3,16 @@
 use mathlib.Core.List.{List}
 use mathlib.Core.Path.{subst, _≡_}
 use Prim.Native.Nat.{ℕ}
-use Rattle.compare_call.specs.Comparisons.{compareCall}
+use Rattle.call_compare.specs.Comparisons.{compareCall}
 use Rattle.contracts.specs.Calls.{Call, Contract}
-use Rattle.cut_call.specs.Cuts.{cutCall}
-use Rattle.generate_call.specs.Generated.{generateCall}
-use Rattle.image_call.specs.Images.{imageCall}
-use Rattle.list_calls.specs.Calls.{checkCall, expandCall, reduceCall}
+use Rattle.call_cut.specs.Cuts.{cutCall}
+use Rattle.call_generate.specs.Generated.{generateCall}
+use Rattle.call_image.specs.Images.{imageCall}
+use Rattle.call_lists.specs.Calls.{checkCall, expandCall, reduceCall}
 use Rattle.operations.specs.Steps.{complementOf, czOn, gateWith, pivotOf}
-use Rattle.product_call.specs.Products.{productCall}
+use Rattle.call_product.specs.Products.{productCall}
 use Rattle.record.specs.Lent.{LentRecord}
-use Rattle.record_calls.specs.InPlaceCalls.{inPlaceCall, measureCall}
+use Rattle.call_gates.specs.InPlaceCalls.{inPlaceCall, measureCall}
 use Rattle.stabilizer.specs.Lists.{GeneratorList}
 use Rattle.claims.proofs.CutDemandHolds.{complements-keep-ranks, cz-keeps-ranks, gates-keep-ranks, pivots-keep-ranks}
 use Rattle.claims.proofs.FirstDemandHolds.{first-demand}

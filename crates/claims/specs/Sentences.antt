@@ -8,17 +8,17 @@ use mathlib.Core.Path.{_≡_}
 use Prim.Native.Nat.{_*_, _<_, ℕ}
 use lib.ListN.{getD}
 use Rattle.buffers.specs.Refusals.{firstFitting, otherThan}
-use Rattle.compare_call.specs.Comparisons.{compareCall}
+use Rattle.call_compare.specs.Comparisons.{compareCall}
 use Rattle.comparison.specs.Compared.{pairLines}
-use Rattle.cut_call.specs.Cuts.{cutCall}
-use Rattle.generate_call.specs.Generated.{generateCall}
-use Rattle.image_call.specs.Images.{imageCall}
-use Rattle.list_calls.specs.Calls.{checkCall, expandCall, reduceCall}
+use Rattle.call_cut.specs.Cuts.{cutCall}
+use Rattle.call_generate.specs.Generated.{generateCall}
+use Rattle.call_image.specs.Images.{imageCall}
+use Rattle.call_lists.specs.Calls.{checkCall, expandCall, reduceCall}
 use Rattle.operations.specs.Steps.{complementOf, czOn, gateWith, pivotOf, pivotRecord}
-use Rattle.product_call.specs.Products.{productCall}
+use Rattle.call_product.specs.Products.{productCall}
 use Rattle.record.specs.Lent.{LentRecord, heldRecord, heldRows, recordLines}
 use Rattle.record.specs.Records.{complementRecord}
-use Rattle.record_calls.specs.InPlaceCalls.{inPlaceCall, measureCall}
+use Rattle.call_gates.specs.InPlaceCalls.{inPlaceCall, measureCall}
 use Rattle.stabilizer.specs.Groups.{SameGroup}
 use Rattle.stabilizer.specs.Lists.{GeneratorList, rows}
 use Rattle.words.specs.Bits.{Word}
