@@ -7,6 +7,7 @@ pub mod AcceptedPairs
 pub mod ImageDemandHolds
 pub mod GatesFollow
 pub mod MeasurementsFollow
+pub mod SessionDemandHolds
 pub mod ImpossibleClicks
 pub mod RewritingsKeep
 pub mod CzInsideSide

@@ -4,6 +4,7 @@ pub mod PartsDemand
 pub mod ThirdDemand
 pub mod ImageDemand
 pub mod OperationsDemand
+pub mod SessionDemand
 pub mod CutDemand
 pub mod FirstDemand
 pub mod GeneratorDemand

@@ -1,0 +1,149 @@
+-- The request on faster sessions, of the public calls: "For every record the answer equals the one from expanding,
+-- changing the list and reducing" (02, §7). Each is said of an accepted call: its number is 0, and nb′, cs′ are what
+-- the two buffers hold at exit.
+-- Assumes nothing.
+use mathlib.Core.List.{_++_, List, [], map, _∷_}
+use mathlib.Core.Path.{_≡_}
+use Prim.Native.Nat.{_<_, ℕ}
+use lib.ListN.{length}
+use Rattle.buffers.specs.Refusals.{firstFitting}
+use Rattle.clifford.specs.Clifford.{cliffordOf}
+use Rattle.clifford.specs.Vectors.{act, only}
+use Rattle.contracts.specs.Calls.{Call}
+use Rattle.list_calls.specs.Calls.{expandCall, expandLines, reduceCall, reduceLines}
+use Rattle.operations.specs.Cz.{cz}
+use Rattle.operations.specs.Measurement.{answered, determinedNumber, measuredRows, outcomeNumber, pauliLetter}
+use Rattle.operations.specs.Steps.{Operation, czOn, gateWith, leaves, measurementOf}
+use Rattle.pauli.specs.Pauli.{Pauli}
+use Rattle.record.specs.Lent.{LentRecord, codeNumbers, heldRows, neighbourWords}
+use Rattle.record.specs.Reduced.{reduced}
+use Rattle.record_calls.specs.InPlaceCalls.{inPlaceCall, measureCall}
+use Rattle.stabilizer.specs.Groups.{SameGroup}
+use Rattle.stabilizer.specs.Lists.{GeneratorList, listOf, rows}
+use Rattle.words.specs.Bits.{isOdd}
+
+-- ---- changing a list: what each operation makes of the generators R
+abbrev pub Change : Type 0
+Change = (ℕ → Pauli) → ℕ → Pauli
+
+-- "A gate applies a code": each generator is sent through it at qubit q
+abbrev pub gateChange : ℕ → ℕ → ℕ → Change
+gateChange n q k R j = act n (only q (cliffordOf k)) (R j)
+
+-- "CZ on a and b sends X at a to X at a times Z at b, likewise with a and b exchanged, and fixes Z": each generator is
+-- sent so
+abbrev pub czChange : ℕ → ℕ → Change
+czChange a b R j = cz a b (R j)
+
+-- "If the Pauli or its negative is in the group", the list stays. Otherwise the first generator that does not commute
+-- with the Pauli goes into the others that do not, and the Pauli, with the sign of the bit, takes its place
+abbrev pub measureChange : ℕ → ℕ → ℕ → ℕ → Change
+measureChange n pauli q b R = measuredRows n R (pauliLetter pauli) q (isOdd b)
+
+-- the changed list, in three buffers again
+abbrev pub changed : Change → GeneratorList → GeneratorList
+changed f m = listOf (m .n) (f (rows m))
+
+-- ---- "the one from expanding, changing the list and reducing"
+-- the list in three buffers
+abbrev pub listIn : ℕ → List ℕ → List ℕ → List ℕ → GeneratorList
+listIn n s z x = record { n = n; signs = s; z = z; x = x }
+
+-- the list m, changed and reduced, leaves nb′, cs′
+pub record ReducesTo (m : GeneratorList) (f : (ℕ → Pauli) → ℕ → Pauli) (nb′ cs′ : List ℕ) : Type 0 where
+  -- the changed list holds the changed generators, one after the other, and no line refuses to reduce it into two
+  -- buffers with n places
+  pub generators : (j : ℕ) → j < m .n → rows (changed f m) j ≡ f (rows m) j
+  pub accepted : (nb cs : List ℕ) → length nb ≡ m .n → length cs ≡ m .n →
+      firstFitting (reduceLines (changed f m) nb cs) ≡ 0
+  -- these then hold nb′, cs′
+  pub equal : (nb cs nb₂ cs₂ : List ℕ) → Call (reduceCall (changed f m) nb cs nb₂ cs₂) 0 →
+      (nb₂ ≡ nb′) × (cs₂ ≡ cs′)
+  -- and so for every other list of the same group, however it was changed
+  pub equal-all : (s z x nb cs nb₂ cs₂ : List ℕ) →
+      SameGroup (m .n) (m .n) (f (rows m)) (rows (listIn (m .n) s z x)) →
+      Call (reduceCall (listIn (m .n) s z x) nb cs nb₂ cs₂) 0 → (nb₂ ≡ nb′) × (cs₂ ≡ cs′)
+
+pub record ByExpanding (l : LentRecord) (f : (ℕ → Pauli) → ℕ → Pauli) (nb′ cs′ : List ℕ) : Type 0 where
+  -- no line refuses to expand the record into three buffers with n places
+  pub accepted : (s z x : List ℕ) → length s ≡ l .n → length z ≡ l .n → length x ≡ l .n →
+      firstFitting (expandLines l s z x) ≡ 0
+  -- and what they then hold, changed and reduced, leaves nb′, cs′
+  pub equal : (s z x s′ z′ x′ : List ℕ) → Call (expandCall l s z x s′ z′ x′) 0 →
+      ReducesTo (listIn (l .n) s′ z′ x′) f nb′ cs′
+
+-- ---- of each call
+abbrev pub GatesByExpanding : Type 0
+GatesByExpanding = (l : LentRecord) (q k : ℕ) (nb′ cs′ : List ℕ) → Call (inPlaceCall l (gateWith q k) nb′ cs′) 0 →
+    ByExpanding l (gateChange (l .n) q k) nb′ cs′
+
+abbrev pub CzByExpanding : Type 0
+CzByExpanding = (l : LentRecord) (a b : ℕ) (nb′ cs′ : List ℕ) → Call (inPlaceCall l (czOn a b) nb′ cs′) 0 →
+    ByExpanding l (czChange a b) nb′ cs′
+
+-- a measurement's two numbers are those that the list answers
+pub record MeasuredByExpanding (l : LentRecord) (pauli q b : ℕ) (nb′ cs′ : List ℕ) (answer′ determined′ : ℕ) : Type
+    0 where
+  pub left : ByExpanding l (measureChange (l .n) pauli q b) nb′ cs′
+  pub outcome : (s z x s′ z′ x′ : List ℕ) → Call (expandCall l s z x s′ z′ x′) 0 →
+      answer′ ≡ outcomeNumber (answered (l .n) (rows (listIn (l .n) s′ z′ x′)) (pauliLetter pauli) q (isOdd b))
+  pub determined : (s z x s′ z′ x′ : List ℕ) → Call (expandCall l s z x s′ z′ x′) 0 →
+      determined′ ≡ determinedNumber (answered (l .n) (rows (listIn (l .n) s′ z′ x′)) (pauliLetter pauli) q (isOdd b))
+
+abbrev pub MeasurementsByExpanding : Type 0
+MeasurementsByExpanding =
+    (l : LentRecord) (pauli q b answer determined : ℕ) (nb′ cs′ : List ℕ) (answer′ determined′ : ℕ) →
+    Call (measureCall l pauli q b answer determined nb′ cs′ answer′ determined′) 0 →
+    MeasuredByExpanding l pauli q b nb′ cs′ answer′ determined′
+
+-- ---- examples: the list that a record is expanded to, changed; the record that this reduces to; and the one that the
+-- operation leaves
+abbrev inNumbers : GeneratorList → List (List ℕ)
+inNumbers m = m .signs ∷ m .z ∷ m .x ∷ []
+
+abbrev reducedNumbers : GeneratorList → List (List ℕ)
+reducedNumbers m = neighbourWords (m .n) (reduced (m .n) (rows m)) ∷ codeNumbers (m .n) (reduced (m .n) (rows m)) ∷ []
+
+abbrev contents : LentRecord → List (List ℕ)
+contents l = l .neighbours ∷ l .codes ∷ []
+
+abbrev bothWays : LentRecord → Operation → Change → List (List ℕ)
+bothWays l o f = inNumbers (changed f (listOf (l .n) (heldRows l)))
+    ++ (reducedNumbers (changed f (listOf (l .n) (heldRows l))) ++ contents (leaves l o))
+
+-- XX, ZZ, and -ZI, -IZ
+abbrev joined : LentRecord
+joined = record { n = 2; neighbours = 2 ∷ 1 ∷ []; codes = 0 ∷ 8 ∷ [] }
+
+abbrev apart : LentRecord
+apart = record { n = 2; neighbours = 0 ∷ 0 ∷ []; codes = 10 ∷ 10 ∷ [] }
+
+pub record Example : Type 0 where
+  pub given : List (List ℕ)
+  pub expected : List (List ℕ)
+
+-- signs, z words and x words; then, for both ways, neighbour words and codes
+abbrev example : List (List ℕ) → List ℕ → List ℕ → List ℕ → List ℕ → List ℕ → Example
+example given s z x nb cs = record { given = given; expected = s ∷ z ∷ x ∷ nb ∷ cs ∷ nb ∷ cs ∷ [] }
+
+abbrev pub table : List Example
+table =
+    -- a Hadamard on qubit 0: ZX, XZ
+    example (bothWays joined (gateWith 0 8) (gateChange 2 0 8)) (0 ∷ 0 ∷ []) (1 ∷ 2 ∷ []) (2 ∷ 1 ∷ []) (2 ∷ 1 ∷ [])
+    (0 ∷ 0 ∷ [])
+    -- CZ: YY, ZZ
+    ∷ example (bothWays joined (czOn 0 1) (czChange 0 1)) (0 ∷ 0 ∷ []) (3 ∷ 3 ∷ []) (3 ∷ 0 ∷ []) (2 ∷ 1 ∷ [])
+    (2 ∷ 8 ∷ [])
+    -- Z on qubit 0 with outcome 1, not determined: -ZI, ZZ
+    ∷ example (bothWays joined (measurementOf 3 0 1) (measureChange 2 3 0 1)) (1 ∷ 0 ∷ []) (1 ∷ 3 ∷ []) (0 ∷ 0 ∷ [])
+    (0 ∷ 0 ∷ []) (10 ∷ 10 ∷ [])
+    -- Z on qubit 1 with bit 1, determined: -ZI, -IZ as they were
+    ∷ example (bothWays apart (measurementOf 3 1 1) (measureChange 2 3 1 1)) (1 ∷ 1 ∷ []) (1 ∷ 2 ∷ []) (0 ∷ 0 ∷ [])
+    (0 ∷ 0 ∷ []) (10 ∷ 10 ∷ [])
+    ∷ []
+
+abbrev pub given : List (List (List ℕ))
+given = map (λ e. e .given) table
+
+abbrev pub expected : List (List (List ℕ))
+expected = map (λ e. e .expected) table
