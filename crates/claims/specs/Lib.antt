@@ -5,6 +5,7 @@ pub mod ThirdDemand
 pub mod ImageDemand
 pub mod OperationsDemand
 pub mod SessionDemand
+pub mod SessionTable
 pub mod CutDemand
 pub mod FirstDemand
 pub mod GeneratorDemand

@@ -1,22 +1,22 @@
 -- The request on faster sessions, of the public calls: "For every record the answer equals the one from expanding,
--- changing the list and reducing" (02, §7). Each is said of an accepted call: its number is 0, and nb′, cs′ are what
--- the two buffers hold at exit.
+-- changing the list and reducing" (02, §7): of an accepted call, whose number is 0, what the two buffers nb′, cs′ hold
+-- at exit; and of every call its number.
 -- Assumes nothing.
-use mathlib.Core.List.{_++_, List, [], map, _∷_}
+use mathlib.Core.List.{_++_, List, [], _∷_}
+use mathlib.Core.Logic.{_≢_}
 use mathlib.Core.Path.{_≡_}
-use Prim.Native.Nat.{_<_, ℕ}
+use Prim.Native.Nat.{_<_, ℕ, _≤_}
 use lib.ListN.{length}
-use Rattle.buffers.specs.Refusals.{firstFitting}
+use Rattle.buffers.specs.Refusals.{firstFitting, line}
 use Rattle.clifford.specs.Clifford.{cliffordOf}
 use Rattle.clifford.specs.Vectors.{act, only}
 use Rattle.contracts.specs.Calls.{Call}
 use Rattle.list_calls.specs.Calls.{expandCall, expandLines, reduceCall, reduceLines}
 use Rattle.operations.specs.Cz.{cz}
-use Rattle.operations.specs.Measurement.{answered, determinedNumber, measuredRows, outcomeNumber, pauliLetter}
-use Rattle.operations.specs.Steps.{Operation, czOn, gateWith, leaves, measurementOf}
+use Rattle.operations.specs.Measurement.{answered, contradicts, determinedNumber, measuredRows, outcomeNumber, pauliLetter}
+use Rattle.operations.specs.Steps.{czOn, gateWith}
 use Rattle.pauli.specs.Pauli.{Pauli}
-use Rattle.record.specs.Lent.{LentRecord, codeNumbers, heldRows, neighbourWords}
-use Rattle.record.specs.Reduced.{reduced}
+use Rattle.record.specs.Lent.{LentRecord}
 use Rattle.record_calls.specs.InPlaceCalls.{inPlaceCall, measureCall}
 use Rattle.stabilizer.specs.Groups.{SameGroup}
 use Rattle.stabilizer.specs.Lists.{GeneratorList, listOf, rows}
@@ -96,54 +96,30 @@ MeasurementsByExpanding =
     Call (measureCall l pauli q b answer determined nb′ cs′ answer′ determined′) 0 →
     MeasuredByExpanding l pauli q b nb′ cs′ answer′ determined′
 
--- ---- examples: the list that a record is expanded to, changed; the record that this reduces to; and the one that the
--- operation leaves
-abbrev inNumbers : GeneratorList → List (List ℕ)
-inNumbers m = m .signs ∷ m .z ∷ m .x ∷ []
+-- ---- the number of a call whose arguments are in order: that of expanding the record into three buffers with n places
+pub record NumberByExpanding (l : LentRecord) (r : ℕ) : Type 0 where
+  pub equal : (s z x s′ z′ x′ : List ℕ) (e : ℕ) → length s ≡ l .n → length z ≡ l .n → length x ≡ l .n →
+      Call (expandCall l s z x s′ z′ x′) e → r ≡ e
 
-abbrev reducedNumbers : GeneratorList → List (List ℕ)
-reducedNumbers m = neighbourWords (m .n) (reduced (m .n) (rows m)) ∷ codeNumbers (m .n) (reduced (m .n) (rows m)) ∷ []
+abbrev pub GateNumbersByExpanding : Type 0
+GateNumbersByExpanding =
+    (l : LentRecord) (q k r : ℕ) (nb′ cs′ : List ℕ) → q < l .n → k < 24 →
+    Call (inPlaceCall l (gateWith q k) nb′ cs′) r → NumberByExpanding l r
 
-abbrev contents : LentRecord → List (List ℕ)
-contents l = l .neighbours ∷ l .codes ∷ []
+abbrev pub CzNumbersByExpanding : Type 0
+CzNumbersByExpanding =
+    (l : LentRecord) (a b r : ℕ) (nb′ cs′ : List ℕ) → a < l .n → b < l .n → a ≢ b →
+    Call (inPlaceCall l (czOn a b) nb′ cs′) r → NumberByExpanding l r
 
-abbrev bothWays : LentRecord → Operation → Change → List (List ℕ)
-bothWays l o f = inNumbers (changed f (listOf (l .n) (heldRows l)))
-    ++ (reducedNumbers (changed f (listOf (l .n) (heldRows l))) ++ contents (leaves l o))
+-- of a measurement, where expanding is accepted: 14 where the list's outcome contradicts the bit
+pub record MeasureNumberByExpanding (l : LentRecord) (pauli q b r : ℕ) : Type 0 where
+  pub equal : (s z x s′ z′ x′ : List ℕ) (e : ℕ) → length s ≡ l .n → length z ≡ l .n → length x ≡ l .n →
+      Call (expandCall l s z x s′ z′ x′) e → r ≡ firstFitting (expandLines l s z x
+      ++ (line 14 (contradicts (l .n) (rows (listIn (l .n) s′ z′ x′)) (pauliLetter pauli) q (isOdd b)) ∷ []))
 
--- XX, ZZ, and -ZI, -IZ
-abbrev joined : LentRecord
-joined = record { n = 2; neighbours = 2 ∷ 1 ∷ []; codes = 0 ∷ 8 ∷ [] }
-
-abbrev apart : LentRecord
-apart = record { n = 2; neighbours = 0 ∷ 0 ∷ []; codes = 10 ∷ 10 ∷ [] }
-
-pub record Example : Type 0 where
-  pub given : List (List ℕ)
-  pub expected : List (List ℕ)
-
--- signs, z words and x words; then, for both ways, neighbour words and codes
-abbrev example : List (List ℕ) → List ℕ → List ℕ → List ℕ → List ℕ → List ℕ → Example
-example given s z x nb cs = record { given = given; expected = s ∷ z ∷ x ∷ nb ∷ cs ∷ nb ∷ cs ∷ [] }
-
-abbrev pub table : List Example
-table =
-    -- a Hadamard on qubit 0: ZX, XZ
-    example (bothWays joined (gateWith 0 8) (gateChange 2 0 8)) (0 ∷ 0 ∷ []) (1 ∷ 2 ∷ []) (2 ∷ 1 ∷ []) (2 ∷ 1 ∷ [])
-    (0 ∷ 0 ∷ [])
-    -- CZ: YY, ZZ
-    ∷ example (bothWays joined (czOn 0 1) (czChange 0 1)) (0 ∷ 0 ∷ []) (3 ∷ 3 ∷ []) (3 ∷ 0 ∷ []) (2 ∷ 1 ∷ [])
-    (2 ∷ 8 ∷ [])
-    -- Z on qubit 0 with outcome 1, not determined: -ZI, ZZ
-    ∷ example (bothWays joined (measurementOf 3 0 1) (measureChange 2 3 0 1)) (1 ∷ 0 ∷ []) (1 ∷ 3 ∷ []) (0 ∷ 0 ∷ [])
-    (0 ∷ 0 ∷ []) (10 ∷ 10 ∷ [])
-    -- Z on qubit 1 with bit 1, determined: -ZI, -IZ as they were
-    ∷ example (bothWays apart (measurementOf 3 1 1) (measureChange 2 3 1 1)) (1 ∷ 1 ∷ []) (1 ∷ 2 ∷ []) (0 ∷ 0 ∷ [])
-    (0 ∷ 0 ∷ []) (10 ∷ 10 ∷ [])
-    ∷ []
-
-abbrev pub given : List (List (List ℕ))
-given = map (λ e. e .given) table
-
-abbrev pub expected : List (List (List ℕ))
-expected = map (λ e. e .expected) table
+abbrev pub MeasureNumbersByExpanding : Type 0
+MeasureNumbersByExpanding =
+    (l : LentRecord) (pauli q b answer determined r : ℕ) (nb′ cs′ : List ℕ) (answer′ determined′ : ℕ) →
+    1 ≤ pauli → pauli ≤ 3 → q < l .n → b < 2 →
+    Call (measureCall l pauli q b answer determined nb′ cs′ answer′ determined′) r →
+    MeasureNumberByExpanding l pauli q b r
