@@ -4,10 +4,10 @@ pub mod PartsDemand
 pub mod ThirdDemand
 pub mod ImageDemand
 pub mod OperationsDemand
-pub mod SessionDemand
-pub mod SessionTable
 pub mod CutDemand
 pub mod FirstDemand
 pub mod GeneratorDemand
+pub mod SessionDemand
+pub mod SessionTable
 pub mod JobDemand
 pub mod Sentences

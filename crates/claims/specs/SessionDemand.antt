@@ -49,17 +49,17 @@ changed f m = listOf (m .n) (f (rows m))
 abbrev pub listIn : ℕ → List ℕ → List ℕ → List ℕ → GeneratorList
 listIn n s z x = record { n = n; signs = s; z = z; x = x }
 
--- the list m, changed and reduced, leaves nb′, cs′
+-- what the list m, changed and reduced, leaves is nb′, cs′
 pub record ReducesTo (m : GeneratorList) (f : (ℕ → Pauli) → ℕ → Pauli) (nb′ cs′ : List ℕ) : Type 0 where
   -- the changed list holds the changed generators, one after the other, and no line refuses to reduce it into two
   -- buffers with n places
   pub generators : (j : ℕ) → j < m .n → rows (changed f m) j ≡ f (rows m) j
   pub accepted : (nb cs : List ℕ) → length nb ≡ m .n → length cs ≡ m .n →
       firstFitting (reduceLines (changed f m) nb cs) ≡ 0
-  -- these then hold nb′, cs′
+  -- reducing it leaves nb′, cs′ there
   pub equal : (nb cs nb₂ cs₂ : List ℕ) → Call (reduceCall (changed f m) nb cs nb₂ cs₂) 0 →
       (nb₂ ≡ nb′) × (cs₂ ≡ cs′)
-  -- and so for every other list of the same group, however it was changed
+  -- and so does every other accepted list of that group, however it was made
   pub equal-all : (s z x nb cs nb₂ cs₂ : List ℕ) →
       SameGroup (m .n) (m .n) (f (rows m)) (rows (listIn (m .n) s z x)) →
       Call (reduceCall (listIn (m .n) s z x) nb cs nb₂ cs₂) 0 → (nb₂ ≡ nb′) × (cs₂ ≡ cs′)
@@ -81,7 +81,7 @@ abbrev pub CzByExpanding : Type 0
 CzByExpanding = (l : LentRecord) (a b : ℕ) (nb′ cs′ : List ℕ) → Call (inPlaceCall l (czOn a b) nb′ cs′) 0 →
     ByExpanding l (czChange a b) nb′ cs′
 
--- a measurement's two numbers are those that the list answers
+-- a measurement: besides, its two further numbers are those that the list gives
 pub record MeasuredByExpanding (l : LentRecord) (pauli q b : ℕ) (nb′ cs′ : List ℕ) (answer′ determined′ : ℕ) : Type
     0 where
   pub left : ByExpanding l (measureChange (l .n) pauli q b) nb′ cs′
