@@ -12,7 +12,7 @@ use Rattle.buffers.specs.Refusals.{firstFitting}
 use Rattle.clifford.specs.Clifford.{Clifford, cliffordOf}
 use Rattle.clifford.specs.Vectors.{act}
 use Rattle.contracts.specs.Calls.{Call}
-use Rattle.list_calls.specs.Calls.{expandCall, reduceCall}
+use Rattle.call_lists.specs.Calls.{expandCall, reduceCall}
 use Rattle.operations.proofs.CzGroups.{cz-proper}
 use Rattle.operations.proofs.Determined.{measured-proper}
 use Rattle.operations.proofs.Gating.{gated-row}
@@ -27,8 +27,8 @@ use Rattle.record.proofs.ExpansionBack.{ExpandedBack, expanded, expansion-back}
 use Rattle.record.specs.Accepted.{AcceptedRecord}
 use Rattle.record.specs.Lent.{LentRecord, codeNumbers, heldRecord, heldRows, neighbourWords}
 use Rattle.record.specs.Reduced.{reduced}
-use Rattle.record_calls.proofs.InPlaceLines.{eight-passes, held-accepted, six-passes}
-use Rattle.record_calls.proofs.MeasureLines.{measure-passes}
+use Rattle.call_gates.proofs.InPlaceLines.{eight-passes, held-accepted, six-passes}
+use Rattle.call_gates.proofs.MeasureLines.{measure-passes}
 use Rattle.stabilizer.proofs.Accepted.{accepted-list}
 use Rattle.stabilizer.proofs.Carried.{act-same}
 use Rattle.stabilizer.proofs.GroupLaws.{same-trans}

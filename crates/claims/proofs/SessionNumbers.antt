@@ -13,7 +13,7 @@ use borrow.Author.Tests.{lt-leb, ne-eqb}
 use Rattle.buffers.proofs.Lines.{more-refused}
 use Rattle.buffers.specs.Refusals.{Line, firstFitting, line, otherThan}
 use Rattle.contracts.specs.Calls.{Call}
-use Rattle.list_calls.specs.Calls.{expandCall, expandLines}
+use Rattle.call_lists.specs.Calls.{expandCall, expandLines}
 use Rattle.operations.specs.Measurement.{contradicts, pauliLetter, single}
 use Rattle.operations.specs.Steps.{inPlaceLines}
 use Rattle.pauli.specs.Pauli.{Pauli}

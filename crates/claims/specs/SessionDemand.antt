@@ -11,13 +11,13 @@ use Rattle.buffers.specs.Refusals.{firstFitting, line}
 use Rattle.clifford.specs.Clifford.{cliffordOf}
 use Rattle.clifford.specs.Vectors.{act, only}
 use Rattle.contracts.specs.Calls.{Call}
-use Rattle.list_calls.specs.Calls.{expandCall, expandLines, reduceCall, reduceLines}
+use Rattle.call_lists.specs.Calls.{expandCall, expandLines, reduceCall, reduceLines}
 use Rattle.operations.specs.Cz.{cz}
 use Rattle.operations.specs.Measurement.{answered, contradicts, determinedNumber, measuredRows, outcomeNumber, pauliLetter}
 use Rattle.operations.specs.Steps.{czOn, gateWith}
 use Rattle.pauli.specs.Pauli.{Pauli}
 use Rattle.record.specs.Lent.{LentRecord}
-use Rattle.record_calls.specs.InPlaceCalls.{inPlaceCall, measureCall}
+use Rattle.call_gates.specs.InPlaceCalls.{inPlaceCall, measureCall}
 use Rattle.stabilizer.specs.Groups.{SameGroup}
 use Rattle.stabilizer.specs.Lists.{GeneratorList, listOf, rows}
 use Rattle.words.specs.Bits.{isOdd}
