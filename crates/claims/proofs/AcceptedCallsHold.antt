@@ -9,19 +9,19 @@ use native.Mathlib.Omega.{arith}
 use borrow.Author.Tests.{eqb-false, le-ltb, ltb-false, ne-eqb}
 use Rattle.buffers.proofs.Lines.{none-of-all, not-held}
 use Rattle.buffers.specs.Refusals.{firstFitting, otherThan}
-use Rattle.compare_call.proofs.PairLines.{pair-numbered}
-use Rattle.compare_call.specs.Comparisons.{compareCall}
+use Rattle.call_compare.proofs.PairLines.{pair-numbered}
+use Rattle.call_compare.specs.Comparisons.{compareCall}
 use Rattle.comparison.specs.Compared.{largePart, pairLines}
 use Rattle.contracts.proofs.Fitting.{none-fits-of, none-holds}
 use Rattle.contracts.specs.Calls.{Call, Contract}
-use Rattle.cut_call.proofs.CutLines.{accepted-cut, side-good}
-use Rattle.cut_call.specs.Cuts.{cutLines}
+use Rattle.call_cut.proofs.CutLines.{accepted-cut, side-good}
+use Rattle.call_cut.specs.Cuts.{cutLines}
 use Rattle.generator.specs.Lines.{generateLines, room}
 use Rattle.image.proofs.Accepted.{image-unsigned}
 use Rattle.image.specs.Image.{loopLines}
-use Rattle.image_call.specs.Images.{imageCall}
-use Rattle.product_call.proofs.ProductLines.{accepted-rows, word-good}
-use Rattle.product_call.specs.Products.{productLines}
+use Rattle.call_image.specs.Images.{imageCall}
+use Rattle.call_product.proofs.ProductLines.{accepted-rows, word-good}
+use Rattle.call_product.specs.Products.{productLines}
 use Rattle.record.proofs.RecordLines.{record-numbered}
 use Rattle.record.specs.Lent.{LentRecord, heldRecord, recordLines}
 use Rattle.stabilizer.proofs.SharedTests.{count-passes, counted, has-length, length-passes}

@@ -6,12 +6,12 @@ use mathlib.Core.List.{List}
 use mathlib.Core.Path.{ap₂, refl, subst, sym, _∙_, _≡_}
 use Prim.Native.Nat.{ℕ}
 use Rattle.buffers.specs.Refusals.{badCount, firstFitting}
-use Rattle.compare_call.proofs.Comparing.{counts-agree}
-use Rattle.compare_call.proofs.PairLines.{pair-number}
+use Rattle.call_compare.proofs.Comparing.{counts-agree}
+use Rattle.call_compare.proofs.PairLines.{pair-number}
 use Rattle.comparison.specs.Compared.{pairLines}
 use Rattle.comparison_answer.specs.ComparedPairs.{earlierOf}
 use Rattle.contracts.proofs.Fitting.{none-fits-of, none-holds}
-use Rattle.list_calls.specs.Calls.{checkLines}
+use Rattle.call_lists.specs.Calls.{checkLines}
 use Rattle.stabilizer.proofs.Accepted.{accepted-list}
 use Rattle.stabilizer.specs.Groups.{Proper}
 use Rattle.stabilizer.specs.Lists.{

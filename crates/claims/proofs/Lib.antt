@@ -8,6 +8,9 @@ pub mod ThirdDemandHolds
 pub mod ImageDemandHolds
 pub mod GatesFollow
 pub mod MeasurementsFollow
+pub mod SessionNumbers
+pub mod SessionDemandHolds
+pub mod SessionExamples
 pub mod ImpossibleClicks
 pub mod RewritingsKeep
 pub mod CzInsideSide

@@ -7,8 +7,8 @@ use lib.Dec.{lit<}
 use Rattle.pauli.proofs.PauliLaws.{Pauli-path, mul-identity}
 use Rattle.pauli.proofs.PhaseLaws.{power-exponent}
 use Rattle.pauli.specs.Pauli.{Pauli, Phase, exponent, i⁰, i¹, i², i³, mul, power, row}
-use Rattle.product_call.proofs.ProductLines.{accepted-rows}
-use Rattle.product_call.specs.Products.{chosenProduct}
+use Rattle.call_product.proofs.ProductLines.{accepted-rows}
+use Rattle.call_product.specs.Products.{chosenProduct}
 use Rattle.stabilizer.proofs.Accepted.{formed-within}
 use Rattle.stabilizer.proofs.ReadBack.{word-back}
 use Rattle.stabilizer.proofs.Within.{product-within}

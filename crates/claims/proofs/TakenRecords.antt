@@ -9,7 +9,7 @@ use Rattle.buffers.specs.Refusals.{firstFitting}
 use Rattle.operations.specs.Steps.{argumentLines, measureLines}
 use Rattle.record.specs.Accepted.{AcceptedRecord}
 use Rattle.record.specs.Lent.{LentRecord}
-use Rattle.record_calls.proofs.MeasureLines.{fourteen-exactly}
+use Rattle.call_gates.proofs.MeasureLines.{fourteen-exactly}
 use Rattle.claims.proofs.AcceptedCallsHold.{accepted-exactly}
 use Rattle.claims.proofs.ImageDemandHolds.{images-follow}
 use Rattle.claims.proofs.InPlaceExactly.{against, agreed-passes, argument-lines}

@@ -33,7 +33,7 @@ use Rattle.stabilizer.specs.Groups.{Proper}
 use Rattle.stabilizer.specs.Lists.{GeneratorList, rows}
 use Rattle.contracts.proofs.Calling.{written-all}
 use Rattle.contracts.proofs.Calling.{written-all}
-use Rattle.compare_call.proofs.PairLines.{pair-numbered}
+use Rattle.call_compare.proofs.PairLines.{pair-numbered}
 use Rattle.comparison_answer.proofs.ReducedPairs.{least-held}
 use Rattle.comparison_answer.specs.ComparedPairs.{compareList, inducedRecord}
 use Rattle.claims.proofs.AcceptedPairs.{accepted-pair, first-proper, no-line-holds, second-proper}

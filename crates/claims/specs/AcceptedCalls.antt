@@ -9,18 +9,18 @@ use mathlib.Core.Path.{_≡_}
 use Prim.Native.Nat.{_<_, _^_, ℕ, _≤_}
 use lib.ListN.{getD, length}
 use Rattle.clifford.specs.Clifford.{Clifford}
-use Rattle.compare_call.specs.Comparisons.{compareCall}
+use Rattle.call_compare.specs.Comparisons.{compareCall}
 use Rattle.contracts.specs.Calls.{Call}
-use Rattle.cut_call.specs.Cuts.{cutCall}
-use Rattle.generate_call.specs.Generated.{generateCall}
+use Rattle.call_cut.specs.Cuts.{cutCall}
+use Rattle.call_generate.specs.Generated.{generateCall}
 use Rattle.image.specs.Image.{UnsignedGraph}
-use Rattle.image_call.specs.Images.{imageCall}
-use Rattle.list_calls.specs.Calls.{checkCall, expandCall, reduceCall}
+use Rattle.call_image.specs.Images.{imageCall}
+use Rattle.call_lists.specs.Calls.{checkCall, expandCall, reduceCall}
 use Rattle.operations.specs.Steps.{complementOf, czOn, gateWith, pivotOf}
-use Rattle.product_call.specs.Products.{productCall}
+use Rattle.call_product.specs.Products.{productCall}
 use Rattle.record.specs.Accepted.{AcceptedRecord}
 use Rattle.record.specs.Lent.{LentRecord, heldRecord, heldRows}
-use Rattle.record_calls.specs.InPlaceCalls.{inPlaceCall, measureCall}
+use Rattle.call_gates.specs.InPlaceCalls.{inPlaceCall, measureCall}
 use Rattle.stabilizer.specs.Carries.{Carries}
 use Rattle.stabilizer.specs.Groups.{InGroup, Proper}
 use Rattle.stabilizer.specs.Lists.{GeneratorList, rows}

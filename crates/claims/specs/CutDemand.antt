@@ -9,10 +9,10 @@ use Prim.Native.Nat.{_*_, _-_, _^_, ℕ}
 use Rattle.contracts.specs.Calls.{Call}
 use Rattle.cut.specs.Cut.{crossing, cutRank}
 use Rattle.cut.specs.Kernel.{kernelSize}
-use Rattle.cut_call.specs.Cuts.{cutCall}
+use Rattle.call_cut.specs.Cuts.{cutCall}
 use Rattle.operations.specs.Steps.{complementOf, czOn, gateWith, pivotOf}
 use Rattle.record.specs.Lent.{LentRecord, heldRecord}
-use Rattle.record_calls.specs.InPlaceCalls.{inPlaceCall}
+use Rattle.call_gates.specs.InPlaceCalls.{inPlaceCall}
 use Rattle.words.specs.Bits.{Word, bit}
 use Rattle.claims.specs.OperationsDemand.{left}
 

@@ -9,7 +9,7 @@ use lib.Dec.{eqb}
 use Rattle.clifford.specs.Vectors.{act}
 use Rattle.contracts.specs.Calls.{Call}
 use Rattle.graph.specs.Graph.{Graph, Simple}
-use Rattle.list_calls.specs.Calls.{checkCall, expandCall, reduceCall}
+use Rattle.call_lists.specs.Calls.{checkCall, expandCall, reduceCall}
 use Rattle.pauli.specs.Pauli.{Pauli, anticommute, minus}
 use Rattle.record.specs.Columns.{ColumnDependent}
 use Rattle.record.specs.Lent.{LentRecord, heldRecord, heldRows}
