@@ -3,7 +3,7 @@
 use mathlib.Core.Bool.{false}
 use mathlib.Core.List.{List}
 use mathlib.Core.Logic.{_↔_, _≢_}
-use mathlib.Core.Path.{_∙_, _≡_, ap, ap₂, subst, sym}
+use mathlib.Core.Path.{_≡_, ap, ap₂, subst, sym}
 use Prim.Native.Nat.{_<_, _≤_, ℕ}
 use lib.ListN.{length}
 use Rattle.clifford.specs.Clifford.{Clifford, cliffordOf}

@@ -11,7 +11,7 @@ use lib.Seq.{drop-append-seam, take-append-seam}
 use Rattle.buffers.proofs.Lines.{fits, more-accepted, none-fits, passed}
 use Rattle.buffers.proofs.Tabulate.{tabulate-at}
 use Rattle.clifford.specs.Clifford.{identityClifford}
-use Rattle.buffers.specs.Buffers.{accepted, acceptedNumber, tabulate, written}
+use Rattle.buffers.specs.Buffers.{tabulate, written}
 use Rattle.buffers.specs.Refusals.{firstFitting, otherThan}
 use Rattle.graph.specs.Graph.{Simple}
 use Rattle.image.proofs.Accepted.{image-group, image-unsigned}
@@ -29,9 +29,8 @@ use Rattle.stabilizer.proofs.Carried.{same-rows}
 use Rattle.contracts.proofs.Calling.{written-all}
 use Rattle.contracts.specs.Calls.{Call}
 use Rattle.call_image.specs.Images.{imageCall}
-use Rattle.words.proofs.BitLaws.{bit-above, bit-wordOf, digit-lt, odd-digit, wordOf-lt}
-use Rattle.words.proofs.Sums.{lt-or-ge}
-use Rattle.words.specs.Bits.{bit, digit, wordOf}
+use Rattle.words.proofs.BitLaws.{digit-lt, odd-digit}
+use Rattle.words.specs.Bits.{digit}
 use Rattle.claims.proofs.ThirdDemandHolds.{graph-each, half}
 use Rattle.claims.specs.ImageDemand.{ImageDecided, ImageStands, ImagesFollow, signedGenerators}
 use Rattle.claims.specs.ThirdDemand.{complementEach}

@@ -1,14 +1,11 @@
 -- Document 01's sentences on lists, groups and reduced records, from the calls' contracts.
 -- Assumes nothing.
 use mathlib.Core.Bool.{_&&_, Bool, false, true}
-use mathlib.Core.List.{List}
 use mathlib.Core.Path.{_≡_, _∙_, ap, refl, subst, sym}
 use Prim.Native.Nat.{_<_, ℕ}
 use lib.Dec.{eqb}
 use borrow.Author.Tests.{eqb-true}
 use Rattle.clifford.specs.Vectors.{act}
-use Rattle.contracts.specs.Calls.{Call}
-use Rattle.call_lists.specs.Calls.{reduceCall}
 use Rattle.pauli.proofs.PauliLaws.{Pauli-path}
 use Rattle.pauli.specs.Pauli.{Pauli}
 use Rattle.record.proofs.AcceptedRecords.{accepted-record}
@@ -33,6 +30,7 @@ use Rattle.claims.specs.ListDemand.{
   ChecksTell,
   ListBroughtBack,
   RecordGroups,
+  RecordsTaken,
   ReducedInWords,
   ReducedTo,
   ReductionAnswers,
@@ -51,6 +49,9 @@ checks-tell l r C =
 
 pub record-groups : RecordGroups
 record-groups l e = in-group-generated (l .n) (l .n) _ (accepted-record l false false e .proper .commuting)
+
+pub records-taken : RecordsTaken
+records-taken l e = taken-by-all l (accepted-record l false false e)
 
 -- ---- reduced records
 module _ (n : ℕ) (R : ℕ → Pauli) (r : GraphRecord) (F : Reduced n R r) where
@@ -99,8 +100,7 @@ reduction-answers l nb cs nb′ cs′ C =
     let F = reduced-is (l .n) (rows l) (A .proper) in
     subst (ReducedTo l) (sym (holds-reduced l nb cs nb′ cs′ C))
     (record {
-      taken = taken-by-all _ (accepted-record _ false false
-          (reduced-passes (l .n) (rows l) (A .proper) (A .formed .positive) (A .formed .upto)));
+      taken = records-taken _ (reduced-passes (l .n) (rows l) (A .proper) (A .formed .positive) (A .formed .upto));
       form = subst (Reduced (l .n) (rows l))
           (sym (record-path _ _ (reduced-back (l .n) (rows l) (A .proper)))) F;
       words = subst (ReducedInWords (l .n) (rows l))

@@ -13,7 +13,7 @@ use Rattle.stabilizer.proofs.Accepted.{formed-within}
 use Rattle.stabilizer.proofs.ReadBack.{word-back}
 use Rattle.stabilizer.proofs.Within.{product-within}
 use Rattle.stabilizer.specs.Groups.{Within, chosen, product}
-use Rattle.stabilizer.specs.Lists.{GeneratorList, rows}
+use Rattle.stabilizer.specs.Lists.{rows}
 use Rattle.words.proofs.BitLaws.{wordOf-lt}
 use Rattle.words.specs.Bits.{Word, bit, fold}
 use Rattle.claims.specs.ProductDemand.{ProductOf, ProductsAnswer, none, passed, taken}

@@ -43,6 +43,10 @@ ChecksTell = (l : GeneratorList) (r : ℕ) → Call (checkCall l) r → Checked 
 abbrev pub RecordGroups : Type 0
 RecordGroups = (l : LentRecord) → StillRecord l → AllProducts (l .n) (heldRows l)
 
+-- a record that a call leaves is taken by every call on records
+abbrev pub RecordsTaken : Type 0
+RecordsTaken = (l : LentRecord) → StillRecord l → TakenByAll l
+
 -- ---- reduced records
 -- X at j, or Y, with a sign, and Z at the neighbours of j
 abbrev pub ownRow : Graph → ℕ → Bool → Bool → Pauli
