@@ -43,7 +43,8 @@ by-lines C = ((λ z. sym (C .number) ∙ z), λ e. C .number ∙ e)
 cut-lines : (l : LentRecord) (side : ℕ) → (firstFitting (cutLines l side) ≡ 0) ↔ CutFits l side
 cut-lines l side = (
   (λ e. let A = accepted-cut l side e in (A .held, A .below)),
-  (λ h. sym (side-good l side 0 (sym (record-exactly l false false .1 (h .0, refl, refl))) (below-exactly _ side .1 (h .1)))),
+  (λ h. sym (side-good l side 0 (sym (record-exactly l false false .1 (h .0, refl, refl)))
+      (below-exactly _ side .1 (h .1)))),
 )
 
 product-lines : (l : GeneratorList) (chosen : ℕ) → (firstFitting (productLines l chosen) ≡ 0) ↔ ProductFits l chosen

@@ -1,6 +1,6 @@
--- Which calls are accepted, in the documents' words: the number of each exported function is 0 exactly if this holds of its
--- arguments. A record is `AcceptedRecord`: 1 to 64 vertices, n places in each buffer, no bit at or above n, codes below 24,
--- a simple graph.
+-- Which calls are accepted, in the documents' words: the number of each exported function is 0 exactly if this holds of
+-- its arguments. A record is `AcceptedRecord`: 1 to 64 vertices, n places in each buffer, no bit at or above n, codes
+-- below 24, a simple graph.
 -- Assumes nothing.
 use mathlib.Core.Bool.{not, true}
 use mathlib.Core.List.{List}
@@ -52,7 +52,8 @@ ReduceFits l nb cs = IsList l × (length nb ≡ l .n) × (length cs ≡ l .n)
 abbrev pub ProductFits : GeneratorList → ℕ → Type 0
 ProductFits l chosen = IsRows l × (chosen < 2 ^ (l .n))
 
--- two lists on one number of qubits, no part larger than 20, and some choice that carries the first group onto the second
+-- two lists on one number of qubits, no part larger than 20, and some choice that carries the first group onto the
+-- second
 pub record CompareFits (l m : GeneratorList) (choice list : List ℕ) : Type 0 where
   pub first : IsList l
   pub second : IsList m
@@ -135,8 +136,8 @@ pub record AcceptedExactly : Type 0 where
   pub generate : (n count seed : ℕ) (text : List ℕ) (size : ℕ) (text′ : List ℕ) (size′ r : ℕ) →
       Call (generateCall n count seed text size text′ size′) r → (r ≡ 0) ↔ GenerateFits n count seed text
 
--- ---- a record that every call on records takes, where the other arguments are in order; a measurement may be refused by
--- 14, an image by 11 or 12
+-- ---- a record that every call on records takes, where the other arguments are in order; a measurement may be refused
+-- by 14, an image by 11 or 12
 pub record TakenByAll (l : LentRecord) : Type 0 where
   pub expand : (s z x s′ z′ x′ : List ℕ) (r : ℕ) → Call (expandCall l s z x s′ z′ x′) r → length s ≡ l .n →
       length z ≡ l .n → length x ≡ l .n → r ≡ 0
