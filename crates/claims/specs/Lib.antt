@@ -8,4 +8,5 @@ pub mod CutDemand
 pub mod FirstDemand
 pub mod GeneratorDemand
 pub mod JobDemand
+pub mod ProgramDemand
 pub mod Sentences
