@@ -90,7 +90,8 @@ module _ (n : ℕ) (steps : List Step) where
 
   module _ (few : length steps ≤ 4096) where
     number-sizes : (n ≡ 0) ⊎ (64 < n) → firstFitting (jobLines n (length steps)) ≡ 2
-    number-sizes h = passed 15 (line 2 (badCount n) ∷ []) (le-ltb 4096 (length steps) few) ∙ fits 2 [] (⊎-elim none many h)
+    number-sizes h =
+        passed 15 (line 2 (badCount n) ∷ []) (le-ltb 4096 (length steps) few) ∙ fits 2 [] (⊎-elim none many h)
       where
         none : n ≡ 0 → badCount n ≡ true
         none z = ap (λ b. b || ltb 64 n) (eq-eqb n 0 z)
@@ -125,7 +126,8 @@ module _ (n : ℕ) (steps : List Step) where
       → jobPrinted n steps ≡ refusedText k
   unfolding jobPrinted
   job-refused k e f =
-      ap (λ m. cond (eqb m 0) (answered n steps) (refusedText m)) e ∙ ap (λ b. cond b (answered n steps) (refusedText k)) f
+      ap (λ m. cond (eqb m 0) (answered n steps) (refusedText m)) e
+      ∙ ap (λ b. cond b (answered n steps) (refusedText k)) f
 
 pub job-texts-answered : JobTextsAnswered
 job-texts-answered t before after end R =

@@ -16,7 +16,8 @@ array-share-prefix-out c =
 
 slice-aggregate-write-all : tie.Need-slice-aggregate-write-all
 slice-aggregate-write-all c =
-    sym (printed-part _ _ _ _ (c .before .before .respond .ensures .response .out) (c .before .before .respond .kept .0))
+    sym (printed-part _ _ _ _ (c .before .before .respond .ensures .response .out)
+    (c .before .before .respond .kept .0))
 
 write-all-requires : tie.Need-write-all-requires
 write-all-requires c κs = search needs

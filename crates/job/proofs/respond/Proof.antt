@@ -1,4 +1,5 @@
 use borrow.Author.Needs.{needs}
+use Rattle.claims.proofs.ProgramDemandHolds.{job-texts-answered}
 use Rattle.job.proofs.respond.Statement.{statement}
 use Rattle.job.proofs.respond.Tie as tie
 
@@ -15,7 +16,8 @@ returns : tie.Need-returns
 returns c =
     let R = c .before .before in
     let S = R .before .before .read-job .ensures in
-    record { text = S .text; response = R .reply .ensures (S .text) (S .scanned) }
+    let P = R .reply .ensures (S .text) (S .scanned) in
+    record { text = S .text; response = P; answered = job-texts-answered _ _ _ _ P }
 
 pub respond-spec : {M : Type 1} → statement M
 respond-spec = tie.close (tie.spec read-job-requires reply-requires same-length returns)

@@ -10,7 +10,9 @@ same-length : tie.Need-same-length
 same-length c = search needs
 
 returns : tie.Need-returns
-returns c = formed-responds _ _ _ _ _ _ _ (c .before .before .before .before .if1 .taken) (c .before .before .answer .ensures)
+returns c =
+    formed-responds _ _ _ _ _ _ _ (c .before .before .before .before .if1 .taken)
+    (c .before .before .answer .ensures)
 
 print-refusal-requires : tie.Need-print-refusal-requires
 print-refusal-requires c κs = search needs

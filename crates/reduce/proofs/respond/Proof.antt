@@ -1,4 +1,5 @@
 use borrow.Author.Needs.{needs}
+use Rattle.claims.proofs.ProgramDemandHolds.{list-texts-answered}
 use Rattle.reduce.proofs.respond.Statement.{statement}
 use Rattle.reduce.proofs.respond.Tie as tie
 
@@ -15,10 +16,8 @@ returns : tie.Need-returns
 returns c =
     let R = c .before .before in
     let S = R .before .before .read-list .ensures in
-    record {
-      text = S .text;
-      response = R .reply .ensures (S .text) (record { scan = S .scan; lines = S .lines; judged = S .judged });
-    }
+    let P = R .reply .ensures (S .text) (record { scan = S .scan; lines = S .lines; judged = S .judged }) in
+    record { text = S .text; response = P; answered = list-texts-answered _ _ _ _ P }
 
 pub respond-spec : {M : Type 1} → statement M
 respond-spec = tie.close (tie.spec read-list-requires reply-requires same-length returns)
