@@ -26,4 +26,6 @@ pub mod AnswerBuffers
 pub mod GeneratorDemandHolds
 pub mod JobSteps
 pub mod JobsStand
+pub mod StepLines
+pub mod ProgramDemandHolds
 pub mod SentencesHold

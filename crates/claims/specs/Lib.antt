@@ -13,4 +13,5 @@ pub mod GeneratorDemand
 pub mod SessionDemand
 pub mod SessionTable
 pub mod JobDemand
+pub mod ProgramDemand
 pub mod Sentences
