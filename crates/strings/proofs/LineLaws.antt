@@ -1,6 +1,6 @@
 -- One line of a text of Pauli strings: its bytes by column, and the row that it stands for.
 -- Assumes nothing.
-use mathlib.Core.Bool.{Bool, false, true, _||_}
+use mathlib.Core.Bool.{_&&_, Bool, false, true, _||_}
 use mathlib.Core.List.{List}
 use mathlib.Core.Logic.{inl, inr}
 use mathlib.Core.Path.{ap, ap₂, refl, subst, sym, _∙_, _≡_}
