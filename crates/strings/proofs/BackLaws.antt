@@ -26,7 +26,7 @@ pub record SameRow (n : ℕ) (p r : Pauli) : Type 0 where
   pub z : (q : ℕ) → q < n → p .z q ≡ r .z q
   pub x : (q : ℕ) → q < n → p .x q ≡ r .x q
 
-word-cong : (n : ℕ) (f g : Word) → ((q : ℕ) → q < n → f q ≡ g q) → wordOf n f ≡ wordOf n g
+pub word-cong : (n : ℕ) (f g : Word) → ((q : ℕ) → q < n → f q ≡ g q) → wordOf n f ≡ wordOf n g
 word-cong n f g h =
     bit-ext n (wordOf n f) (wordOf n g) (wordOf-lt n f) (wordOf-lt n g)
     (λ q l. bit-wordOf n f q l ∙ h q l ∙ sym (bit-wordOf n g q l))

@@ -1,6 +1,6 @@
 -- One line of a text of Pauli strings: its bytes by column, and the row that it stands for.
 -- Assumes nothing.
-use mathlib.Core.Bool.{_&&_, Bool, false, true, _||_}
+use mathlib.Core.Bool.{_&&_, Bool, cond, false, true, _||_}
 use mathlib.Core.List.{List}
 use mathlib.Core.Logic.{inl, inr}
 use mathlib.Core.Path.{ap, ap₂, refl, subst, sym, _∙_, _≡_}
@@ -14,10 +14,11 @@ use Rattle.buffers.proofs.Tabulate.{tabulate-at, tabulate-cong, tabulate-length
 use Rattle.buffers.specs.Buffers.{tabulate}
 use Rattle.pauli.proofs.PauliLaws.{letter-bits}
 use Rattle.pauli.proofs.PhaseLaws.{sign-minus}
-use Rattle.pauli.specs.Pauli.{Pauli, letterAt, signBit}
+use Rattle.pauli.specs.Pauli.{Pauli, letterAt, signBit, xBit, zBit}
 use Rattle.pauli.specs.declared.Letter.{Letter}
 use Rattle.pauli.specs.declared.Letter.the-variants.{I, X, Y, Z}
 use Rattle.text.specs.Text.{newline}
+use Rattle.words.proofs.Finite.{bits}
 use Rattle.words.proofs.Flags.{both-true, either}
 use Rattle.words.proofs.SearchLaws.{every-at, every-in}
 use Rattle.words.proofs.Sums.{last-or}
@@ -64,6 +65,20 @@ letter-written b h = elim (either (eqb b 73 || eqb b 88) (eqb b 89 || eqb b 90) 
     | inr d ↦ subst (λ v. letterByte (letterOf v) ≡ v) (sym (eqb-true b 90 d)) refl
   ]
 ]
+
+-- the bits of a letter, by two tests of its byte
+pub z-read : (b : ℕ) → zBit (letterOf b) ≡ (eqb b 89 || eqb b 90)
+z-read b = go (eqb b 88) refl
+  where
+    go : (v : Bool) → eqb b 88 ≡ v → zBit (letterOf b) ≡ (eqb b 89 || eqb b 90)
+    go true e = subst (λ v. zBit (letterOf v) ≡ (eqb v 89 || eqb v 90)) (sym (eqb-true b 88 e)) refl
+    go false e =
+        ap (λ v. zBit (cond v X (cond (eqb b 89) Y (cond (eqb b 90) Z I)))) e
+        ∙ bits 2 (λ u v. zBit (cond u Y (cond v Z I))) (λ u v. u || v) tt (eqb b 89) (eqb b 90)
+
+pub x-read : (b : ℕ) → xBit (letterOf b) ≡ (eqb b 88 || eqb b 89)
+x-read b =
+    bits 3 (λ u v w. xBit (cond u X (cond v Y (cond w Z I)))) (λ u v w. u || v) tt (eqb b 88) (eqb b 89) (eqb b 90)
 
 -- ---- the bytes of a line by column
 module _ (n : ℕ) (p : Pauli) where

@@ -6,11 +6,12 @@ use Prim.Native.Nat.{_*_, _+_, suc, ℕ}
 use lib.Dec.{eqb}
 use lib.ListN.{getD, length}
 use Rattle.buffers.specs.Refusals.{Line, badCount, line, otherThan}
-use Rattle.pauli.specs.Pauli.{Pauli, minus, xBit, zBit}
+use Rattle.pauli.specs.Pauli.{Pauli, minus, signBit, xBit, zBit}
+use Rattle.pauli.specs.declared.Generator.{Generator}
 use Rattle.pauli.specs.declared.Letter.{Letter}
 use Rattle.pauli.specs.declared.Letter.the-variants.{I, X, Y, Z}
 use Rattle.stabilizer.specs.Lists.{GeneratorList, clashing, dependent, listLines, listOf, rows}
-use Rattle.words.specs.Bits.{digit}
+use Rattle.words.specs.Bits.{digit, wordOf}
 use Rattle.words.specs.Search.{every}
 use Rattle.strings.specs.Strings.{textSize}
 
@@ -51,6 +52,10 @@ rowOf byte =
       z = λ q. zBit (letterOf (byte (suc q)));
       x = λ q. xBit (letterOf (byte (suc q)));
     }
+
+-- a row as a sign and the words of its first n letters
+abbrev pub generatorIn : ℕ → Pauli → Generator
+generatorIn n p = record { minus = signBit (p .phase); z = wordOf n (p .z); x = wordOf n (p .x) }
 
 -- "Reading such a text gives the generator list"
 abbrev pub stringList : List ℕ → GeneratorList
