@@ -31,10 +31,10 @@ word-cong n f g h =
     bit-ext n (wordOf n f) (wordOf n g) (wordOf-lt n f) (wordOf-lt n g)
     (λ q l. bit-wordOf n f q l ∙ h q l ∙ sym (bit-wordOf n g q l))
 
-abbrev buffers : ℕ → List ℕ → List ℕ → List ℕ → GeneratorList
+abbrev pub buffers : ℕ → List ℕ → List ℕ → List ℕ → GeneratorList
 buffers n s z x = record { n = n; signs = s; z = z; x = x }
 
-same-buffers : (n : ℕ) {s z x s′ z′ x′ : List ℕ} → s ≡ s′ → z ≡ z′ → x ≡ x′ → buffers n s z x ≡ buffers n s′ z′ x′
+pub same-buffers : (n : ℕ) {s z x s′ z′ x′ : List ℕ} → s ≡ s′ → z ≡ z′ → x ≡ x′ → buffers n s z x ≡ buffers n s′ z′ x′
 same-buffers n {s} {z} {x} {s′} {z′} {x′} es ez ex =
     ap (λ v. buffers n v z x) es ∙ ap (λ v. buffers n s′ v x) ez ∙ ap (λ v. buffers n s′ z′ v) ex
 

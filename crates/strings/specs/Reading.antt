@@ -1,7 +1,7 @@
 -- A text of Pauli strings by position: whether it has the form, and the generator list that it stands for.
 -- Assumes nothing.
 use mathlib.Core.Bool.{_&&_, Bool, cond, not, _||_}
-use mathlib.Core.List.{List, [], _∷_}
+use mathlib.Core.List.{_++_, List, [], _∷_}
 use Prim.Native.Nat.{_*_, _+_, suc, ℕ}
 use lib.Dec.{eqb}
 use lib.ListN.{getD, length}
@@ -63,13 +63,18 @@ stringList t = listOf (lineCount t) (λ j. rowOf (byteAt (lineCount t) t j))
 
 -- ---- lines in checking order
 -- reading: "Lines of unequal length, a count of lines unlike the count of letters, other characters or a missing newline
--- give 1; an empty text gives 2. 01's checks follow from 2 on." The three buffers have a place for each line; 5 and 6 hold
--- of no list that is read
-abbrev pub readLines : List ℕ → List ℕ → List ℕ → List ℕ → List Line
-readLines t signs z x =
+-- give 1; an empty text gives 2. 01's checks follow from 2 on." The three buffers have a place for each line
+abbrev pub formedLines : List ℕ → List ℕ → List ℕ → List ℕ → List Line
+formedLines t signs z x =
     line 1 (not (stringForm t)) ∷ line 2 (badCount (lineCount t))
-    ∷ line 4 (otherThan (lineCount t) signs || (otherThan (lineCount t) z || otherThan (lineCount t) x))
-    ∷ line 9 (clashing (lineCount t) (rows (stringList t))) ∷ line 10 (dependent (lineCount t) (rows (stringList t))) ∷ []
+    ∷ line 4 (otherThan (lineCount t) signs || (otherThan (lineCount t) z || otherThan (lineCount t) x)) ∷ []
+
+-- of the list that is read; 5 and 6 hold of none
+abbrev pub judgedLines : GeneratorList → List Line
+judgedLines l = line 9 (clashing (l .n) (rows l)) ∷ line 10 (dependent (l .n) (rows l)) ∷ []
+
+abbrev pub readLines : List ℕ → List ℕ → List ℕ → List ℕ → List Line
+readLines t signs z x = formedLines t signs z x ++ judgedLines (stringList t)
 
 -- writing: the list's lines; the buffer has the bytes of the text
 abbrev pub writeLines : GeneratorList → List ℕ → List Line
