@@ -41,7 +41,8 @@ module _ (n : ℕ) (R : ℕ → Pauli) where
     (
       ap (λ b. b || false) (ap₂ _||_ (place _) (ap₂ _||_ (place _) (place _))),
       (
-        ap₂ _||_ (table-passes (2 ^ n) _ (λ j. wordOf-lt n ((R j) .z))) (table-passes (2 ^ n) _ (λ j. wordOf-lt n ((R j) .x))),
+        ap₂ _||_ (table-passes (2 ^ n) _ (λ j. wordOf-lt n ((R j) .z)))
+            (table-passes (2 ^ n) _ (λ j. wordOf-lt n ((R j) .x))),
         (table-passes 2 _ (λ j. digit-lt (signBit ((R j) .phase))), tt),
       ),
     ),
@@ -64,6 +65,14 @@ part-of n array f e = sym (ap length e ∙ tabulate-length n f)
 pub part-room : (n : ℕ) (array : List ℕ) (f : ℕ → ℕ) → take n array ≡ tabulate n f → n ≤ length array
 part-room n array f e = omega (arith, part-of n array f e, length-take n array)
 
+-- what it means that lines 1, 2 and 4 do not hold of a text with n newlines
+pub record Formed (t signs zs xs : List ℕ) (n : ℕ) : Type 0 where
+  pub few : n ≤ 64
+  pub size : length t ≡ textSize n
+  pub signs-fit : length signs ≡ n
+  pub z-fit : length zs ≡ n
+  pub x-fit : length xs ≡ n
+
 -- ---- the call: a text t with n newlines, and what the first lines answer
 module _ (t signs zs xs : List ℕ) (n : ℕ) (c : n ≡ lineCount t) {k : ℕ}
     (e : k ≡ firstFitting (formedLines t signs zs xs)) where
@@ -77,23 +86,20 @@ module _ (t signs zs xs : List ℕ) (n : ℕ) (c : n ≡ lineCount t) {k : ℕ}
     good-count : badCount n ≡ false
     good-count = ap badCount c ∙ passed .1 .0
 
-    pub read-few : n ≤ 64
-    read-few = counted n good-count .1
-
-    pub read-size : length t ≡ textSize n
-    read-size = form-size t (not-false (stringForm t) (passed .0)) ∙ ap textSize (sym c)
-
     fitting : (otherThan n signs || (otherThan n zs || otherThan n xs)) ≡ false
     fitting = ap (λ m. otherThan m signs || (otherThan m zs || otherThan m xs)) c ∙ passed .1 .1 .0
 
-    pub signs-fit : length signs ≡ n
-    signs-fit = has-length n signs (neither (otherThan n signs) _ fitting .0)
-
-    pub zs-fit : length zs ≡ n
-    zs-fit = has-length n zs (neither (otherThan n zs) _ (neither (otherThan n signs) _ fitting .1) .0)
-
-    pub xs-fit : length xs ≡ n
-    xs-fit = has-length n xs (neither (otherThan n zs) _ (neither (otherThan n signs) _ fitting .1) .1)
+    pub read-formed : Formed t signs zs xs n
+    read-formed =
+        let h = neither (otherThan n signs) _ fitting in
+        let g = neither (otherThan n zs) _ (h .1) in
+        record {
+          few = counted n good-count .1;
+          size = form-size t (not-false (stringForm t) (passed .0)) ∙ ap textSize (sym c);
+          signs-fit = has-length n signs (h .0);
+          z-fit = has-length n zs (g .0);
+          x-fit = has-length n xs (g .1);
+        }
 
     -- the arrays that hold the list, and the number of the check
     module _ (s₁ z₁ x₁ : List ℕ) (es : take n s₁ ≡ (listOf n (λ j. rowOf (byteAt n t j))) .signs)
@@ -128,9 +134,10 @@ module _ (t signs zs xs : List ℕ) (n : ℕ) (c : n ≡ lineCount t) {k : ℕ}
           Call (readStringsCall t signs zs xs s′ z′ x′) 0
       read-done y {s′} {z′} {x′} ps pz px =
           done _ at-call y (
-            copied signs s₁ _ signs-fit es ps ∙ ap (λ m. (listOf m (λ j. rowOf (byteAt m t j))) .signs) c,
+            copied signs s₁ _ (read-formed .signs-fit) es ps
+                ∙ ap (λ m. (listOf m (λ j. rowOf (byteAt m t j))) .signs) c,
             (
-              copied zs z₁ _ zs-fit ez pz ∙ ap (λ m. (listOf m (λ j. rowOf (byteAt m t j))) .z) c,
-              (copied xs x₁ _ xs-fit ex px ∙ ap (λ m. (listOf m (λ j. rowOf (byteAt m t j))) .x) c, tt),
+              copied zs z₁ _ (read-formed .z-fit) ez pz ∙ ap (λ m. (listOf m (λ j. rowOf (byteAt m t j))) .z) c,
+              (copied xs x₁ _ (read-formed .x-fit) ex px ∙ ap (λ m. (listOf m (λ j. rowOf (byteAt m t j))) .x) c, tt),
             ),
           )

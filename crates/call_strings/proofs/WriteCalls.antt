@@ -23,7 +23,8 @@ module _ (l : GeneratorList) (text : List ℕ) where
   pub write-count : badCount (l .n) ≡ true → Call (writeStringsCall l text text) 2
   write-count h = refused _ (first-is (here h)) (λ e. absurd (omega arith)) (refl, tt)
 
-  pub write-size : badCount (l .n) ≡ false → otherThan (textSize (l .n)) text ≡ true → Call (writeStringsCall l text text) 4
+  pub write-size : badCount (l .n) ≡ false → otherThan (textSize (l .n)) text ≡ true →
+      Call (writeStringsCall l text text) 4
   write-size h e =
       refused _ (first-is (later h (here (ap (λ b. listLengths l || b) e ∙ or-true (listLengths l)))))
       (λ e. absurd (omega arith)) (refl, tt)

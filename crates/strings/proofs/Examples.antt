@@ -34,7 +34,8 @@ minus-y : List ℕ
 minus-y = 45 ∷ 89 ∷ 10 ∷ []
 
 -- XI and -ZY: the leftmost letter is qubit 0
-written-texts : map written (bell ∷ list 1 (1 ∷ []) (1 ∷ []) (1 ∷ []) ∷ list 2 (0 ∷ 1 ∷ []) (0 ∷ 3 ∷ []) (1 ∷ 2 ∷ []) ∷ [])
+written-texts : map written (bell ∷ list 1 (1 ∷ []) (1 ∷ []) (1 ∷ [])
+    ∷ list 2 (0 ∷ 1 ∷ []) (0 ∷ 3 ∷ []) (1 ∷ 2 ∷ []) ∷ [])
     ≡ bellText ∷ minus-y ∷ (43 ∷ 88 ∷ 73 ∷ 10 ∷ 45 ∷ 90 ∷ 89 ∷ 10 ∷ []) ∷ []
 unfolding minus-y stringLine stringLines tabulate bit
 written-texts = refl
@@ -52,8 +53,8 @@ short-texts = refl
 -- one qubit: +I; -Y; +x; a carriage return; a blank last line
 one-qubit : map (readInto 1) ((43 ∷ 73 ∷ 10 ∷ []) ∷ minus-y ∷ (43 ∷ 120 ∷ 10 ∷ []) ∷ (43 ∷ 88 ∷ 13 ∷ 10 ∷ [])
     ∷ (43 ∷ 88 ∷ 10 ∷ 10 ∷ []) ∷ []) ≡ 10 ∷ 0 ∷ 1 ∷ 1 ∷ 1 ∷ []
-unfolding minus-y firstFitting stringForm lineFits lineCount every some clashing dependent anticommute fold mul bit wordOf
-    tabulate
+unfolding minus-y firstFitting stringForm lineFits lineCount every some clashing dependent anticommute fold mul bit
+    wordOf tabulate
 one-qubit = refl
 
 -- two qubits: +XX, -ZZ; +XX, -XX; +XI, +ZI; and the first into buffers of three places

@@ -87,7 +87,8 @@ module _ (n : ℕ) (p : Pauli) where
 
   pub length-line : length (stringLine n p) ≡ n + 2
   unfolding stringLine
-  length-line = ap suc (length-append letters newline) ∙ omega (arith, tabulate-length n (λ q. letterByte (letterAt p q)))
+  length-line =
+      ap suc (length-append letters newline) ∙ omega (arith, tabulate-length n (λ q. letterByte (letterAt p q)))
 
   pub line-sign : getD (stringLine n p) 0 0 ≡ signByte (signBit (p .phase))
   unfolding stringLine
@@ -96,7 +97,8 @@ module _ (n : ℕ) (p : Pauli) where
   pub line-letter : (q : ℕ) → q < n → getD (stringLine n p) (suc q) 0 ≡ letterByte (letterAt p q)
   unfolding stringLine
   line-letter q l =
-      List·getD-append letters newline 0 q (subst (λ k. q < k) (sym (tabulate-length n (λ q. letterByte (letterAt p q)))) l)
+      List·getD-append letters newline 0 q
+      (subst (λ k. q < k) (sym (tabulate-length n (λ q. letterByte (letterAt p q)))) l)
       ∙ tabulate-at n (λ q. letterByte (letterAt p q)) q l
 
   pub line-end : getD (stringLine n p) (suc n) 0 ≡ 10

@@ -38,7 +38,8 @@ lineFits n byte = isSign (byte 0) && (every n (λ q. isLetter (byte (suc q))) &&
 -- as many lines as newlines, and as many letters in each
 unfoldable pub stringForm : List ℕ → Bool
 stringForm t =
-    eqb (length t) (textSize (lineCount t)) && every (lineCount t) (λ j. lineFits (lineCount t) (byteAt (lineCount t) t j))
+    eqb (length t) (textSize (lineCount t))
+    && every (lineCount t) (λ j. lineFits (lineCount t) (byteAt (lineCount t) t j))
 
 -- ---- the list
 abbrev pub letterOf : ℕ → Letter
@@ -62,8 +63,8 @@ abbrev pub stringList : List ℕ → GeneratorList
 stringList t = listOf (lineCount t) (λ j. rowOf (byteAt (lineCount t) t j))
 
 -- ---- lines in checking order
--- reading: "Lines of unequal length, a count of lines unlike the count of letters, other characters or a missing newline
--- give 1; an empty text gives 2. 01's checks follow from 2 on." The three buffers have a place for each line
+-- reading: "Lines of unequal length, a count of lines unlike the count of letters, other characters or a missing
+-- newline give 1; an empty text gives 2. 01's checks follow from 2 on." The three buffers have a place for each line
 abbrev pub formedLines : List ℕ → List ℕ → List ℕ → List ℕ → List Line
 formedLines t signs z x =
     line 1 (not (stringForm t)) ∷ line 2 (badCount (lineCount t))

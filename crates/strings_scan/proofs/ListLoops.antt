@@ -64,7 +64,8 @@ module _ (t : List ℕ) (n : ℕ) where
 
   pub all-rows : (signs z x : List ℕ) {from j : ℕ} → RowsRead t n signs z x from j → n ≤ j → n ≤ 64 →
       (take n signs ≡ (listOf n (λ j. rowOf (byteAt n t j))) .signs)
-      × ((take n z ≡ (listOf n (λ j. rowOf (byteAt n t j))) .z) × (take n x ≡ (listOf n (λ j. rowOf (byteAt n t j))) .x))
+      × ((take n z ≡ (listOf n (λ j. rowOf (byteAt n t j))) .z)
+      × (take n x ≡ (listOf n (λ j. rowOf (byteAt n t j))) .x))
   all-rows signs z x {from} {j} L l few =
       let all : j ≡ n = omega (arith, L .upto) in (
         filled-part n _ signs few (subst (Filled 64 _ signs) all (L .signs-read)),

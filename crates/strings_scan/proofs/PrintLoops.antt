@@ -55,8 +55,8 @@ module _ (n : ℕ) (f : ℕ → ℕ) (at : ℕ) (out₀ : List ℕ) (room : at +
 -- ---- a line: its sign, its letters, its newline
 pub line-put : (n : ℕ) (m : Bool) (z x at : ℕ) (out₀ : List ℕ) {b : ℕ} {out out′ out″ : List ℕ} {r r′ r″ : ℕ} →
     at + (n + 2) ≤ length out₀ → b ≡ signByte m → Printed (b ∷ []) at out₀ out r →
-    Printed (tabulate n (λ q. letterByte (letter (bit z q) (bit x q)))) r out out′ r′ → Printed newline r′ out′ out″ r″ →
-    Printed (stringLine n (signedRow m z x)) at out₀ out″ r″
+    Printed (tabulate n (λ q. letterByte (letter (bit z q) (bit x q)))) r out out′ r′ →
+    Printed newline r′ out′ out″ r″ → Printed (stringLine n (signedRow m z x)) at out₀ out″ r″
 unfolding stringLine
 line-put n m z x at out₀ room e S L N =
     let letters = tabulate n (λ q. letterByte (letter (bit z q) (bit x q))) in

@@ -112,7 +112,8 @@ letter-at part t from q some e = e ∙ ap (λ k. digit (part (letterOf (getD t (
 abbrev generator : Bool → ℕ → ℕ → Generator
 generator m z x = record { minus = m; z = z; x = x }
 
-pub row-read : (t : List ℕ) (from n : ℕ) {z x q : ℕ} → LettersRead n (bitsFrom zBit t from) (bitsFrom xBit t from) z x q →
+pub row-read : (t : List ℕ) (from n : ℕ) {z x q : ℕ} →
+    LettersRead n (bitsFrom zBit t from) (bitsFrom xBit t from) z x q →
     q ≤ 0 → generator (eqb (getD t from 0) 45) z x ≡ generatorIn n (rowOf (λ c. getD t (from + c) 0))
 row-read t from n {z} {x} {q} L l =
     let words = all-read n (bitsFrom zBit t from) (bitsFrom xBit t from) L l in

@@ -51,7 +51,8 @@ returns-3 c =
     let a = s .before .before .before .before .before in
     first-is (later (ap not (sym (s .string-form .ensures)) ∙ n .before .if1 .left)
     (later (ap badCount (sym (a .pre)) ∙ sym (n .bad-count .ensures) ∙ e .if2 .left)
-    (here (fitting (a .args .signs .now) (a .args .z .now) (a .args .x .now) (a .pre) (x .before .before .other-than .ensures) (x .before .other-than2 .ensures)
+    (here (fitting (a .args .signs .now) (a .args .z .now) (a .args .x .now) (a .pre)
+    (x .before .before .other-than .ensures) (x .before .other-than2 .ensures)
     (x .other-than3 .ensures) ∙ c .if3 .taken))))
 
 returns-4 : tie.Need-returns-4
@@ -63,7 +64,8 @@ returns-4 c =
     let a = s .before .before .before .before .before in
     first-is (later (ap not (sym (s .string-form .ensures)) ∙ n .before .if1 .left)
     (later (ap badCount (sym (a .pre)) ∙ sym (n .bad-count .ensures) ∙ e .if2 .left)
-    (later (fitting (a .args .signs .now) (a .args .z .now) (a .args .x .now) (a .pre) (x .before .before .other-than .ensures) (x .before .other-than2 .ensures)
+    (later (fitting (a .args .signs .now) (a .args .z .now) (a .args .x .now) (a .pre)
+    (x .before .before .other-than .ensures) (x .before .other-than2 .ensures)
     (x .other-than3 .ensures) ∙ c .if3 .left) none)))
 
 pub formed-refusal-spec : {M : Type 1} → statement M

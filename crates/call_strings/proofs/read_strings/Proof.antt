@@ -1,6 +1,6 @@
-use native.Mathlib.Nat.{le-of-eq, le-trans}
+use native.Mathlib.Omega.{arith}
 use borrow.Author.Needs.{needs}
-use Rattle.call_strings.proofs.ReadCalls.{part-of, part-room, read-done, read-few, read-judged, read-refused, read-size, signs-fit, xs-fit, zs-fit}
+use Rattle.call_strings.proofs.ReadCalls.{part-of, part-room, read-done, read-formed, read-judged, read-refused}
 use Rattle.call_strings.proofs.read_strings.Statement.{statement}
 use Rattle.call_strings.proofs.read_strings.Tie as tie
 
@@ -24,18 +24,17 @@ returns c =
     let f = c .before in
     let n = f .before .before .before .before in
     let a = n .before .before .before .before .before .args in
-    read-refused (a .text .now) (a .signs .now) (a .z .now) (a .x .now) _ (n .line-count .ensures) (f .formed-refusal .ensures)
-    (c .if1 .taken)
+    read-refused (a .text .now) (a .signs .now) (a .z .now) (a .x .now) _ (n .line-count .ensures)
+    (f .formed-refusal .ensures) (c .if1 .taken)
 
 read-rows-requires : tie.Need-read-rows-requires
 read-rows-requires c κs =
     let f = c .before in
     let n = f .before .before .before .before in
-    let a = n .before .before .before .before .before .args in (
-      read-few (a .text .now) (a .signs .now) (a .z .now) (a .x .now) _ (n .line-count .ensures) (f .formed-refusal .ensures)
-          (c .if1 .left),
-      read-size (a .text .now) (a .signs .now) (a .z .now) (a .x .now) _ (n .line-count .ensures) (f .formed-refusal .ensures) (c .if1 .left),
-    )
+    let a = n .before .before .before .before .before .args in
+    let F = read-formed (a .text .now) (a .signs .now) (a .z .now) (a .x .now) _ (n .line-count .ensures)
+    (f .formed-refusal .ensures) (c .if1 .left) in
+    (F .few, F .size)
 
 array-share-prefix-own-signs : tie.Need-array-share-prefix-own-signs
 array-share-prefix-own-signs c = part-room _ _ _ (c .before .before .before .read-rows .ensures .0)
@@ -74,8 +73,9 @@ returns-2 c =
     let f = r .before .before in
     let n = f .before .before .before .before in
     let a = n .before .before .before .before .before .args in
-    read-judged (a .text .now) (a .signs .now) (a .z .now) (a .x .now) _ (n .line-count .ensures) (f .formed-refusal .ensures)
-    (r .before .if1 .left) _ _ _ (r .read-rows .ensures .0) (r .read-rows .ensures .1 .0) (r .read-rows .ensures .1 .1)
+    read-judged (a .text .now) (a .signs .now) (a .z .now) (a .x .now) _ (n .line-count .ensures)
+    (f .formed-refusal .ensures) (r .before .if1 .left) _ _ _ (r .read-rows .ensures .0)
+    (r .read-rows .ensures .1 .0) (r .read-rows .ensures .1 .1)
     (k .check .ensures) (c .if2 .taken)
 
 copy-bytes-requires : tie.Need-copy-bytes-requires
@@ -85,8 +85,9 @@ copy-bytes-requires c κs =
     let f = r .before .before in
     let n = f .before .before .before .before in
     let a = n .before .before .before .before .before .args in
-    le-trans (le-of-eq (signs-fit (a .text .now) (a .signs .now) (a .z .now) (a .x .now) _ (n .line-count .ensures) (f .formed-refusal .ensures)
-    (r .before .if1 .left))) (read-few (a .text .now) (a .signs .now) (a .z .now) (a .x .now) _ (n .line-count .ensures) (f .formed-refusal .ensures) (r .before .if1 .left))
+    let F = read-formed (a .text .now) (a .signs .now) (a .z .now) (a .x .now) _ (n .line-count .ensures)
+    (f .formed-refusal .ensures) (r .before .if1 .left) in
+    omega (arith, F .few, F .signs-fit)
 
 copy-words-requires : tie.Need-copy-words-requires
 copy-words-requires c κs =
@@ -95,8 +96,9 @@ copy-words-requires c κs =
     let f = r .before .before in
     let n = f .before .before .before .before in
     let a = n .before .before .before .before .before .args in
-    le-trans (le-of-eq (zs-fit (a .text .now) (a .signs .now) (a .z .now) (a .x .now) _ (n .line-count .ensures) (f .formed-refusal .ensures)
-    (r .before .if1 .left))) (read-few (a .text .now) (a .signs .now) (a .z .now) (a .x .now) _ (n .line-count .ensures) (f .formed-refusal .ensures) (r .before .if1 .left))
+    let F = read-formed (a .text .now) (a .signs .now) (a .z .now) (a .x .now) _ (n .line-count .ensures)
+    (f .formed-refusal .ensures) (r .before .if1 .left) in
+    omega (arith, F .few, F .z-fit)
 
 copy-words-requires-2 : tie.Need-copy-words-requires-2
 copy-words-requires-2 c κs =
@@ -105,8 +107,9 @@ copy-words-requires-2 c κs =
     let f = r .before .before in
     let n = f .before .before .before .before in
     let a = n .before .before .before .before .before .args in
-    le-trans (le-of-eq (xs-fit (a .text .now) (a .signs .now) (a .z .now) (a .x .now) _ (n .line-count .ensures) (f .formed-refusal .ensures)
-    (r .before .if1 .left))) (read-few (a .text .now) (a .signs .now) (a .z .now) (a .x .now) _ (n .line-count .ensures) (f .formed-refusal .ensures) (r .before .if1 .left))
+    let F = read-formed (a .text .now) (a .signs .now) (a .z .now) (a .x .now) _ (n .line-count .ensures)
+    (f .formed-refusal .ensures) (r .before .if1 .left) in
+    omega (arith, F .few, F .x-fit)
 
 same-length-7 : tie.Need-same-length-7
 same-length-7 c = search needs
@@ -127,8 +130,9 @@ returns-3 c =
     let f = r .before .before in
     let n = f .before .before .before .before in
     let a = n .before .before .before .before .before .args in
-    read-done (a .text .now) (a .signs .now) (a .z .now) (a .x .now) _ (n .line-count .ensures) (f .formed-refusal .ensures)
-    (r .before .if1 .left) _ _ _ (r .read-rows .ensures .0) (r .read-rows .ensures .1 .0) (r .read-rows .ensures .1 .1)
+    read-done (a .text .now) (a .signs .now) (a .z .now) (a .x .now) _ (n .line-count .ensures)
+    (f .formed-refusal .ensures) (r .before .if1 .left) _ _ _ (r .read-rows .ensures .0)
+    (r .read-rows .ensures .1 .0) (r .read-rows .ensures .1 .1)
     (k .check .ensures) (ps .before .before .if2 .left) (ps .copy-bytes .ensures) (pz .copy-words .ensures)
     (px .copy-words2 .ensures)
 

@@ -53,7 +53,8 @@ returns-3 c =
     let o = k .before .before in
     let a = o .before .before .before .before .before .before .before .args in
     let l : GeneratorList = record { n = a .n; signs = a .signs .now; z = a .z .now; x = a .x .now } in
-    write-refused l (a .text .now) (sym (o .other-than .ensures) ∙ k .before .if2 .left) (k .check .ensures) (c .if3 .taken)
+    write-refused l (a .text .now) (sym (o .other-than .ensures) ∙ k .before .if2 .left) (k .check .ensures)
+    (c .if3 .taken)
 
 put-strings-requires : tie.Need-put-strings-requires
 put-strings-requires c κs =

@@ -44,7 +44,8 @@ loop-again c =
     let l = c .before .before .before in
     let t = l .before .before .args .text .now in (
       search needs,
-      ap₂ _+_ (l .loop .inv .1) (c .newline-digit .ensures) ∙ sym (count-more t (l .loop .i) (c .before .before .loop-test .taken)),
+      ap₂ _+_ (l .loop .inv .1) (c .newline-digit .ensures)
+          ∙ sym (count-more t (l .loop .i) (c .before .before .loop-test .taken)),
       omega (arith, l .loop .inv .2, c .newline-digit .ensures, digit-lt (eqb (getD t (l .loop .i) 0) 10)),
     )
 

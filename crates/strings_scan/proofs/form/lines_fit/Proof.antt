@@ -50,7 +50,8 @@ loop-again c =
     let s = c .before .before .before .before in
     let l = c .before .before .loop in (
       one-tested _ _ (l .inv .0) (c .before .loop-test .taken)
-          (c .line-fits .ensures ∙ ap (λ k. lineFits (s .args .n) (λ i. getD (s .args .text .now) (k + i) 0)) (l .inv .1)),
+          (c .line-fits .ensures
+          ∙ ap (λ k. lineFits (s .args .n) (λ i. getD (s .args .text .now) (k + i) 0)) (l .inv .1)),
       ap (λ k. k + (s .args .n + 2)) (l .inv .1) ∙ next-line (s .args .n) (l .j),
     )
 

@@ -5,7 +5,16 @@ use borrow.Author.Needs.{needs}
 use Rattle.pauli.specs.Pauli.{xBit, zBit}
 use Rattle.strings.specs.Reading.{letterOf}
 use Rattle.words.proofs.BitLaws.{digit-lt}
-use Rattle.strings_scan.proofs.RowLoops.{LettersRead, bitsFrom, letter-at, none-read, one-read, row-read, x-room, z-room}
+use Rattle.strings_scan.proofs.RowLoops.{
+  LettersRead,
+  bitsFrom,
+  letter-at,
+  none-read,
+  one-read,
+  row-read,
+  x-room,
+  z-room,
+}
 use Rattle.strings_scan.proofs.reading.string_row.Statement.{statement}
 use Rattle.strings_scan.proofs.reading.string_row.Tie as tie
 
