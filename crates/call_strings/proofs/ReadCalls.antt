@@ -15,7 +15,7 @@ use Rattle.buffers.specs.Refusals.{badCount, firstFitting, otherThan, reaching}
 use Rattle.contracts.proofs.Calling.{done, refused}
 use Rattle.contracts.proofs.Fitting.{NoneHolds, decides, fits-at, none-fits-of, none-holds, stays}
 use Rattle.contracts.specs.Calls.{Call}
-use Rattle.list_calls.specs.Calls.{checkCall}
+use Rattle.call_lists.specs.Calls.{checkCall}
 use Rattle.pauli.specs.Pauli.{Pauli, signBit}
 use Rattle.stabilizer.proofs.EarlyLines.{form-numbered}
 use Rattle.stabilizer.proofs.SharedTests.{below-passes, counted, has-length, length-passes}

@@ -11,7 +11,7 @@ use Rattle.contracts.proofs.Calling.{done, no-line, refused}
 use Rattle.contracts.proofs.Fitting.{first-is}
 use Rattle.contracts.specs.Answers.{here, later}
 use Rattle.contracts.specs.Calls.{Call}
-use Rattle.list_calls.specs.Calls.{checkCall}
+use Rattle.call_lists.specs.Calls.{checkCall}
 use Rattle.stabilizer.proofs.Accepted.{accepted-list}
 use Rattle.stabilizer.proofs.SharedTests.{has-length}
 use Rattle.stabilizer.specs.Lists.{GeneratorList, listLengths, listLines, rows}

@@ -3,7 +3,7 @@ use buffers::bad_count;
 use buffers::copy_bytes;
 use buffers::copy_words;
 use buffers::other_than;
-use list_calls::check;
+use call_lists::check;
 use strings_scan::line_count;
 use strings_scan::put_strings;
 use strings_scan::read_rows;
