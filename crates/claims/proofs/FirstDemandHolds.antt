@@ -16,6 +16,7 @@ use Rattle.call_compare.specs.Comparisons.{compareCall}
 use Rattle.comparison.specs.Compared.{compareLines, largePart, pairLines}
 use Rattle.comparison_answer.specs.ComparedPairs.{compareList}
 use Rattle.contracts.proofs.Calling.{every-call-answers}
+use Rattle.contracts.proofs.Fitting.{none-holds}
 use Rattle.call_generate.proofs.GenerateCalls.{accepted-job}
 use Rattle.call_generate.specs.Generated.{generateCall}
 use Rattle.generator.proofs.Lengths.{length-text}
@@ -30,6 +31,9 @@ use Rattle.record.specs.Lent.{LentRecord, heldRecord, recordLengths, recordLine
 use Rattle.call_gates.proofs.InPlaceCalls.{operation-accepted}
 use Rattle.stabilizer.proofs.SharedTests.{has-length}
 use Rattle.stabilizer.specs.Lists.{GeneratorList, listLengths, listLines, rows}
+use Rattle.strings.proofs.TextLaws.{length-lines}
+use Rattle.strings.specs.Reading.{lineCount, readLines}
+use Rattle.strings.specs.Strings.{textSize}
 use Rattle.words.proofs.Flags.{neither}
 use Rattle.claims.proofs.PartsDemandHolds.{small-parts}
 use Rattle.claims.proofs.ThirdDemandHolds.{third-demand}
@@ -167,4 +171,17 @@ first-demand =
       products = λ l chosen z x phase z′ x′ phase′. record { order = refl; complete = λ e. (tt, (tt, (tt, tt))) };
       comparisons = compare-conforms;
       generations = generate-conforms;
+      reads = λ t s z x s′ z′ x′. record {
+        order = refl;
+        complete = λ e. let n = lineCount t in
+            let p = three-fit n n n s z x (none-holds (readLines t s z x) refl e .1 .1 .0) in
+            (table-fills n _ s (p .0), (table-fills n _ z (p .1), (table-fills n _ x (p .2), tt)));
+      };
+      writes = λ l text text′. record {
+        order = refl;
+        complete = λ e. (
+          length-lines (l .n) (l .n) (rows l) ∙ sym (has-length (textSize (l .n)) text (list-others l _ e)),
+          tt,
+        );
+      };
     }

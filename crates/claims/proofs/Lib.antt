@@ -17,6 +17,7 @@ pub mod CutDemandHolds
 pub mod FirstDemandHolds
 pub mod AnswerBuffers
 pub mod GeneratorDemandHolds
+pub mod StringsDemandHolds
 pub mod JobSteps
 pub mod JobsStand
 pub mod SentencesHold

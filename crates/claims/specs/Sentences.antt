@@ -16,6 +16,7 @@ use Rattle.call_image.specs.Images.{imageCall}
 use Rattle.call_lists.specs.Calls.{checkCall, expandCall, reduceCall}
 use Rattle.operations.specs.Steps.{complementOf, czOn, gateWith, pivotOf, pivotRecord}
 use Rattle.call_product.specs.Products.{productCall}
+use Rattle.call_strings.specs.StringCalls.{readStringsCall, writeStringsCall}
 use Rattle.record.specs.Lent.{LentRecord, heldRecord, heldRows, recordLines}
 use Rattle.record.specs.Records.{complementRecord}
 use Rattle.call_gates.specs.InPlaceCalls.{inPlaceCall, measureCall}
@@ -37,6 +38,7 @@ use Rattle.claims.specs.SessionDemand.{
   czChange,
   gateChange,
 }
+use Rattle.claims.specs.StringsDemand.{FormTold, ListComesBack, TextComesBack, listLeft}
 use Rattle.claims.specs.ThirdDemand.{Decided}
 
 pub record CheckSays (l : GeneratorList) (r : ℕ) : Type 0 where
@@ -106,3 +108,12 @@ pub record ProductSays (l : GeneratorList) (chosen z x phase z′ x′ phase′ 
 pub record GenerateSays (n count seed : ℕ) (text : List ℕ) (size : ℕ) (text′ : List ℕ) (size′ r : ℕ) : Type 0 where
   pub answered : Answered (generateCall n count seed text size text′ size′) r
   pub back : r ≡ 0 → Generated n count seed text text′ size′
+
+pub record ReadStringsSays (t s z x s′ z′ x′ : List ℕ) (r : ℕ) : Type 0 where
+  pub answered : Answered (readStringsCall t s z x s′ z′ x′) r
+  pub form : FormTold t r
+  pub back : r ≡ 0 → TextComesBack t (listLeft s s′ z′ x′)
+
+pub record WriteStringsSays (l : GeneratorList) (text text′ : List ℕ) (r : ℕ) : Type 0 where
+  pub answered : Answered (writeStringsCall l text text′) r
+  pub back : r ≡ 0 → ListComesBack l text′
