@@ -109,11 +109,13 @@ pub record GenerateSays (n count seed : ℕ) (text : List ℕ) (size : ℕ) (tex
   pub answered : Answered (generateCall n count seed text size text′ size′) r
   pub back : r ≡ 0 → Generated n count seed text text′ size′
 
+-- of read_strings: demand 1, its number 1, and the text written again
 pub record ReadStringsSays (t s z x s′ z′ x′ : List ℕ) (r : ℕ) : Type 0 where
   pub answered : Answered (readStringsCall t s z x s′ z′ x′) r
   pub form : FormTold t r
   pub back : r ≡ 0 → TextComesBack t (listLeft s s′ z′ x′)
 
+-- of write_strings: demand 1, and the list read again
 pub record WriteStringsSays (l : GeneratorList) (text text′ : List ℕ) (r : ℕ) : Type 0 where
   pub answered : Answered (writeStringsCall l text text′) r
   pub back : r ≡ 0 → ListComesBack l text′

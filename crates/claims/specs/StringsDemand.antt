@@ -32,6 +32,7 @@ abbrev pub TextComesBack : List ℕ → GeneratorList → Type 0
 TextComesBack t l = (text text′ : List ℕ) (r : ℕ) → length text ≡ length t → Call (writeStringsCall l text text′) r →
     (r ≡ 0) × (text′ ≡ t)
 
+-- the sentences of the request, of every call
 pub record StringsDemand : Type 0 where
   pub form : (t s z x s′ z′ x′ : List ℕ) (r : ℕ) → Call (readStringsCall t s z x s′ z′ x′) r → FormTold t r
   pub list-back : (l : GeneratorList) (text text′ : List ℕ) → Call (writeStringsCall l text text′) 0 →

@@ -6,12 +6,11 @@ use Prim.Native.Nat.{_*_, _+_, suc, ℕ}
 use lib.Dec.{eqb}
 use lib.ListN.{getD, length}
 use Rattle.buffers.specs.Refusals.{Line, badCount, line, otherThan}
-use Rattle.pauli.specs.Pauli.{Pauli, minus, signBit, xBit, zBit}
-use Rattle.pauli.specs.declared.Generator.{Generator}
+use Rattle.pauli.specs.Pauli.{Pauli, minus, xBit, zBit}
 use Rattle.pauli.specs.declared.Letter.{Letter}
 use Rattle.pauli.specs.declared.Letter.the-variants.{I, X, Y, Z}
 use Rattle.stabilizer.specs.Lists.{GeneratorList, clashing, dependent, listLines, listOf, rows}
-use Rattle.words.specs.Bits.{digit, wordOf}
+use Rattle.words.specs.Bits.{digit}
 use Rattle.words.specs.Search.{every}
 use Rattle.strings.specs.Strings.{textSize}
 
@@ -25,9 +24,11 @@ abbrev pub byteAt : ℕ → List ℕ → ℕ → ℕ → ℕ
 byteAt n t j c = getD t (j * (n + 2) + c) 0
 
 -- ---- the form
+-- "a plus or an ASCII hyphen for minus"
 abbrev pub isSign : ℕ → Bool
 isSign b = eqb b 43 || eqb b 45
 
+-- "letters of I, X, Y, Z"
 abbrev pub isLetter : ℕ → Bool
 isLetter b = (eqb b 73 || eqb b 88) || (eqb b 89 || eqb b 90)
 
@@ -42,6 +43,7 @@ stringForm t =
     && every (lineCount t) (λ j. lineFits (lineCount t) (byteAt (lineCount t) t j))
 
 -- ---- the list
+-- the letter of a byte; I where it is none of the others
 abbrev pub letterOf : ℕ → Letter
 letterOf b = cond (eqb b 88) X (cond (eqb b 89) Y (cond (eqb b 90) Z I))
 
@@ -53,10 +55,6 @@ rowOf byte =
       z = λ q. zBit (letterOf (byte (suc q)));
       x = λ q. xBit (letterOf (byte (suc q)));
     }
-
--- a row as a sign and the words of its first n letters
-abbrev pub generatorIn : ℕ → Pauli → Generator
-generatorIn n p = record { minus = signBit (p .phase); z = wordOf n (p .z); x = wordOf n (p .x) }
 
 -- "Reading such a text gives the generator list"
 abbrev pub stringList : List ℕ → GeneratorList
@@ -74,6 +72,7 @@ formedLines t signs z x =
 abbrev pub judgedLines : GeneratorList → List Line
 judgedLines l = line 9 (clashing (l .n) (rows l)) ∷ line 10 (dependent (l .n) (rows l)) ∷ []
 
+-- 1, 2, 4, 9, 10
 abbrev pub readLines : List ℕ → List ℕ → List ℕ → List ℕ → List Line
 readLines t signs z x = formedLines t signs z x ++ judgedLines (stringList t)
 

@@ -14,9 +14,10 @@ use Rattle.buffers.specs.Buffers.{tabulate}
 use Rattle.pauli.specs.Pauli.{signBit}
 use Rattle.pauli.specs.declared.Generator.{Generator}
 use Rattle.stabilizer.specs.Lists.{listOf}
-use Rattle.strings.specs.Reading.{byteAt, generatorIn, rowOf}
+use Rattle.strings.specs.Reading.{byteAt, rowOf}
 use Rattle.words.specs.Bits.{digit, wordOf}
 use Rattle.strings_scan.proofs.SizeLaws.{next-line}
+use Rattle.strings_scan.specs.internal.Generators.{generatorIn}
 
 -- an array whose first n places are filled
 filled-part : (n : ℕ) (f : ℕ → ℕ) (array : List ℕ) → n ≤ 64 → Filled 64 f array n → take n array ≡ tabulate n f

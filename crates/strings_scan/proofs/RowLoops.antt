@@ -15,9 +15,10 @@ use Rattle.pauli.specs.Pauli.{xBit, zBit}
 use Rattle.pauli.specs.declared.Generator.{Generator}
 use Rattle.pauli.specs.declared.Letter.{Letter}
 use Rattle.strings.proofs.BackLaws.{word-cong}
-use Rattle.strings.specs.Reading.{generatorIn, letterOf, rowOf}
+use Rattle.strings.specs.Reading.{letterOf, rowOf}
 use Rattle.words.proofs.BitLaws.{wordOf-lt}
 use Rattle.words.specs.Bits.{Word, digit, wordOf}
+use Rattle.strings_scan.specs.internal.Generators.{generatorIn}
 
 -- the bits from q on, the first of them lowest
 abbrev pub wordFrom : ℕ → Word → ℕ → ℕ

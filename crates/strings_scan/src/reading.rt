@@ -6,8 +6,9 @@ ghost use Prim.Native.Nat.{_+_, _≤_};
 ghost use lib.ListN.{getD, length, take};
 ghost use Rattle.pauli.specs.Pauli.{xBit, zBit};
 ghost use Rattle.stabilizer.specs.Lists.{listOf};
-ghost use Rattle.strings.specs.Reading.{byteAt, generatorIn, letterOf, rowOf};
+ghost use Rattle.strings.specs.Reading.{byteAt, letterOf, rowOf};
 ghost use Rattle.strings.specs.Strings.{textSize};
+ghost use Rattle.strings_scan.specs.internal.Generators.{generatorIn};
 ghost use Rattle.words.specs.Bits.{digit};
 
 // The z bit of a letter.
