@@ -32,3 +32,5 @@ mod rewriting;
 mod rust_example;
 mod sessions;
 mod states;
+mod strings;
+mod strings_refusals;
