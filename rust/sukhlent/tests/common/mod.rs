@@ -17,6 +17,7 @@ pub mod process;
 pub mod product;
 pub mod reference;
 pub mod seeded;
+pub mod strings;
 pub mod vectors;
 
 pub use calls::{Lengths, ListCall, RecordCall};
@@ -30,3 +31,4 @@ pub use seeded::{
     list, mixed, parsed, pauli, random_islands, random_record, random_rows, random_sizes, rows,
     stabilizers, Circuit, Pauli, Random,
 };
+pub use strings::ReadCall;
