@@ -48,6 +48,9 @@ done c e z W = record { number = sym z ∙ e; held = each-done (c .lent) W }
 
 -- ---- what its caller learns
 module _ {c : Contract} {r : ℕ} (C : Call c r) where
+  pub no-line : r ≡ 0 → firstFitting (c .lines) ≡ 0
+  no-line z = sym (C .number) ∙ z
+
   pub kept-all : (r ≡ 0 → ⊥) → EachOf Unchanged (c .lent)
   kept-all h = each-unchanged r h (c .lent) (C .held)
 
