@@ -18,10 +18,11 @@ pub fn read_strings(text: &[u8], signs: &mut [u8], z: &mut [u64], x: &mut [u64])
     let (mut own_signs, mut own_z, mut own_x) = ([0; 64], [0; 64], [0; 64]);
     for (j, line) in text.chunks_exact(n + 2).enumerate() {
         own_signs[j] = u8::from(line[0] == b'-');
-        for (q, letter) in line[1..=n].iter().enumerate() {
-            own_z[j] |= u64::from(matches!(letter, b'Y' | b'Z')) << q;
-            own_x[j] |= u64::from(matches!(letter, b'X' | b'Y')) << q;
-        }
+        let letters = line[1..=n].iter().rev();
+        (own_z[j], own_x[j]) = letters.fold((0, 0), |(z, x), letter| {
+            let [in_z, in_x] = [matches!(letter, b'Y' | b'Z'), matches!(letter, b'X' | b'Y')];
+            (z << 1 | u64::from(in_z), x << 1 | u64::from(in_x))
+        });
     }
     let refusal = check((n as u64, &own_signs[..n], &own_z[..n], &own_x[..n]));
     if refusal == 0 {
