@@ -1,7 +1,7 @@
 // The public calls that complement and pivot a lent record in place.
+use call_gates::in_place_refusal;
 use operations_rewriting::complement_record;
 use operations_rewriting::pivot_record;
-use call_gates::in_place_refusal;
 use words::has;
 ghost use Rattle.contracts.specs.Calls.{Call};
 ghost use Rattle.operations.specs.Steps.{complementOf, pivotOf};

@@ -1,9 +1,9 @@
 // The public call that measures a Pauli on a lent record in place.
+use call_gates::in_place_refusal;
 use operations::determined_number;
 use operations::outcome_number;
 use operations_measurements::contradicted;
 use operations_measurements::measure_record;
-use call_gates::in_place_refusal;
 ghost use mathlib.Core.Path.{_≡_};
 ghost use Rattle.contracts.specs.Calls.{Call};
 ghost use Rattle.buffers.specs.Refusals.{firstFitting};

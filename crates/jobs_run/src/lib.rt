@@ -1,15 +1,15 @@
 // Runs a step of a job on a lent record in place.
+use call_complement::complement_known;
+use call_complement::pivot_known;
+use call_gates::cz_known;
+use call_gates::gate_known;
+use call_gates::known_refusal;
+use call_measure::measure_known;
 use jobs::Answer;
 use jobs::Op;
 use jobs::Step;
 use jobs::unused_set;
 use jobs::wrong_value;
-use call_measure::measure_known;
-use call_gates::cz_known;
-use call_gates::gate_known;
-use call_gates::known_refusal;
-use call_complement::complement_known;
-use call_complement::pivot_known;
 ghost use Prim.Native.Nat.{_%_, _+_, _/_, _<_};
 ghost use Rattle.contracts.specs.Calls.{Call};
 ghost use Rattle.jobs.specs.Asked.{operation};
