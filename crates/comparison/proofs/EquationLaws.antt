@@ -1,43 +1,22 @@
--- Equations add, an equation cannot tell apart assignments that agree where it has unknowns, and a triangular table with
--- an equation inserted.
+-- Equations add, and an equation cannot tell apart assignments that agree where it has unknowns.
 -- Assumes nothing.
-use mathlib.Core.Bool.{_&&_, Bool, Bool·beq, false, not, true, true≢false, false≢true, _||_}
-use mathlib.Core.List.{List, [], _∷_}
+use mathlib.Core.Bool.{_&&_, Bool, Bool·beq, false, not, _||_}
 use mathlib.Core.Logic.{inl, inr, _⊎_}
-use mathlib.Core.Path.{ap, ap₂, refl, subst, sym, _∙_, _≡_}
-use Prim.Native.Nat.{_%_, _*_, _+_, _-_, _/_, _<_, _≤_, suc, zero, zero-le, ℕ}
-use native.Mathlib.Decide.{ℕ-discrete}
-use native.Mathlib.Nat.{le-refl, lt-of-lt-of-le, not-suc-le-zero}
+use mathlib.Core.Path.{ap, ap₂, sym, _∙_, _≡_}
+use Prim.Native.Nat.{_%_, _*_, _+_, _/_, _<_, _≤_, suc, zero, ℕ}
+use native.Mathlib.Nat.{not-suc-le-zero}
 use native.Mathlib.Omega.{arith}
-use lib.Arith.{lt-of-le-ne}
 use lib.Bits.{bitAnd, bitOr, bitXor}
 use lib.Count.{ones}
 use lib.Dec.{lit<}
-use lib.ListN.{List·getD-map, getD, length, length-map, length-set, set}
 use lib.Pow.{pow-pos}
-use lib.Seq.{getD-set-other, getD-set-same}
-use borrow.Author.Count.{below-more}
 use Rattle.words.proofs.BitLaws.{bit-and, bit-ext∞, bit-or, bit-xor, lt-pow, zero-bit}
-use Rattle.words.proofs.Finite.{bits, unequal, ⊕-zero}
+use Rattle.words.proofs.Finite.{bits, unequal}
 use Rattle.words.proofs.Flags.{neither}
 use Rattle.words.proofs.OnesLaws.{dot-bits, dot-comm, dot-xor, parity-xor}
 use Rattle.words.proofs.Sums.{bitMonoid, fold-unit, lt-or-ge}
 use Rattle.words.specs.Bits.{bit, dot, isOdd, _⊕_}
-use Rattle.comparison.specs.Equations.{
-  Inserted,
-  QubitTested,
-  Solves,
-  Triangular,
-  added,
-  emptyEquation,
-  equationAt,
-  equationOf,
-  fails,
-  span,
-  tableOf,
-  unknown,
-  wordAt,
-}
+use Rattle.comparison.specs.Equations.{added, emptyEquation, fails, span, unknown, wordAt}
 use Rattle.comparison.specs.declared.Assignment.{Assignment}
 use Rattle.comparison.specs.declared.Equation.{Equation}
 
@@ -139,7 +118,7 @@ fails-below e m h w v s =
     (ap₂ _⊕_ (dot-below m (e .c) (w .c) (v .c) (short-word e m h 2 (lit< tt)) (s .c))
     (dot-below m (e .d) (w .d) (v .d) (short-word e m h 3 (lit< tt)) (s .d)))
 
-no-unknowns : (e : Equation) → ((j : ℕ) → unknown e j ≡ false) → (w : Assignment) → fails e w ≡ e .sum
+pub no-unknowns : (e : Equation) → ((j : ℕ) → unknown e j ≡ false) → (w : Assignment) → fails e w ≡ e .sum
 no-unknowns e h w = fails-below e 0 (λ j l. h j) w zeroAssignment nothing ∙ fails-zero e
   where
     nothing : SameBelow 0 w zeroAssignment
@@ -183,174 +162,7 @@ no-span e h j = go (j % 4)
     go (suc (suc zero)) = neither (bit (e .c) (j / 4)) (bit (e .d) (j / 4)) (two .1) .0
     go (suc (suc (suc l))) = neither (bit (e .c) (j / 4)) (bit (e .d) (j / 4)) (two .1) .1
 
--- ---- insertion
--- the state of an insertion: no unknown from i on is left, and on the table's solutions what is left is the equation
-pub record Inserting (table₀ : List Equation) (e : Equation) (table : List Equation) (left : Equation) (i : ℕ) : Type
-    0 where
-  pub same : table ≡ table₀
-  pub above : (j : ℕ) → i ≤ j → unknown left j ≡ false
-  pub rest : (w : Assignment) → Solves table w → fails left w ≡ fails e w
-
-pub insert-start : (table : List Equation) (e : Equation) (m : ℕ) → ((j : ℕ) → m ≤ j → unknown e j ≡ false) → Inserting table e table e m
-insert-start table e m h = record { same = refl; above = h; rest = λ w s. refl }
-
-module _ (table₀ : List Equation) (e : Equation) (T₀ : Triangular table₀) (table : List Equation) (left : Equation)
-    (k : ℕ) (more : 0 < k) (inv : Inserting table₀ e table left k) where
-  abbrev i : ℕ
-  i = k - 1
-
-  S : Inserting table₀ e table left (suc i)
-  S = subst (Inserting table₀ e table left) (omega (arith, more)) inv
-
-  T : Triangular table
-  T = subst Triangular (sym (S .same)) T₀
-
-  down : (r : Equation) → unknown r i ≡ false → ((j : ℕ) → suc i ≤ j → unknown r j ≡ false)
-      → (j : ℕ) → i ≤ j → unknown r j ≡ false
-  down r h k j l = go (ℕ-discrete j i)
-    where
-      go : Dec (j ≡ i) → unknown r j ≡ false
-      go (yes p) = ap (unknown r) p ∙ h
-      go (no p) = k j (lt-of-le-ne l (λ q. p (sym q)))
-
-  pub insert-skipped : unknown left i ≡ false → Inserting table₀ e table left i
-  insert-skipped h = record { same = S .same; above = down left h (S .above); rest = S .rest }
-
-  pub insert-added : unknown left i ≡ true → (p r : Equation) → p ≡ equationAt table i → (span p ≡ 0 → ⊥)
-      → r ≡ added left p → Inserting table₀ e table r i
-  insert-added h p r hp some hr =
-      record {
-        same = S .same;
-        above = down r (ap (λ f. unknown f i) hr ∙ unknown-added left p i ∙ ap₂ _⊕_ h (leads (T .leading i)))
-            (λ j l. ap (λ f. unknown f j) hr ∙ unknown-added left p j
-            ∙ ap₂ _⊕_ (S .above j l) (ap (λ f. unknown f j) hp ∙ T .above i j l));
-        rest = λ w s. ap (λ f. fails f w) hr ∙ fails-added left p w
-            ∙ ap (λ b. fails left w ⊕ b) (ap (λ f. fails f w) hp ∙ s i) ∙ ⊕-zero (fails left w) ∙ S .rest w s;
-      }
-    where
-      leads : (unknown (equationAt table i) i ≡ true) ⊎ (equationAt table i ≡ emptyEquation) → unknown p i ≡ true
-      leads (inl t) = ap (λ f. unknown f i) hp ∙ t
-      leads (inr t) = absurd (some (ap span (hp ∙ t)))
-
-  pub insert-stored : i < 80 → unknown left i ≡ true → (p : Equation) → p ≡ equationAt table i → span p ≡ 0
-      → Inserted table₀ e (set table i left)
-  insert-stored l h p hp none =
-      record {
-        triangular = record {
-          long = length-set table i left ∙ T .long;
-          above = λ j k m. above j k m (ℕ-discrete j i);
-          leading = λ j. leading j (ℕ-discrete j i);
-        };
-        kept = λ w f s j. holds w (S .rest w (now w s) ∙ f) (now w s) j (ℕ-discrete j i);
-        older = λ w s. subst (λ t. Solves t w) (S .same) (before w s);
-        constant = λ w v s t. asked w s ∙ sym (asked v t);
-      }
-    where
-      here : equationAt (set table i left) i ≡ left
-      here = getD-set-same table i left emptyEquation (subst (λ n. i < n) (sym (T .long)) l)
-
-      there : (j : ℕ) → (j ≡ i → ⊥) → equationAt (set table i left) j ≡ equationAt table j
-      there j o = getD-set-other table i j left emptyEquation o
-
-      now : (w : Assignment) → Solves table₀ w → Solves table w
-      now w s = subst (λ t. Solves t w) (sym (S .same)) s
-
-      at : (j : ℕ) → j ≡ i → equationAt (set table i left) j ≡ left
-      at j q = ap (equationAt (set table i left)) q ∙ here
-
-      above : (j k : ℕ) → j < k → Dec (j ≡ i) → unknown (equationAt (set table i left) j) k ≡ false
-      above j k m (yes q) = ap (λ f. unknown f k) (at j q) ∙ S .above k (subst (λ t. suc t ≤ k) q m)
-      above j k m (no q) = ap (λ f. unknown f k) (there j q) ∙ T .above j k m
-
-      leading : (j : ℕ) → Dec (j ≡ i) → (unknown (equationAt (set table i left) j) j ≡ true)
-          ⊎ (equationAt (set table i left) j ≡ emptyEquation)
-      leading j (yes q) = inl (ap (λ f. unknown f j) (at j q) ∙ ap (unknown left) q ∙ h)
-      leading j (no q) =
-          subst (λ f. (unknown f j ≡ true) ⊎ (f ≡ emptyEquation)) (sym (there j q)) (T .leading j)
-
-      holds : (w : Assignment) → fails left w ≡ false → Solves table w → (j : ℕ) → Dec (j ≡ i)
-          → fails (equationAt (set table i left) j) w ≡ false
-      holds w f s j (yes q) = ap (λ f. fails f w) (at j q) ∙ f
-      holds w f s j (no q) = ap (λ f. fails f w) (there j q) ∙ s j
-
-      empty : (unknown (equationAt table i) i ≡ true) ⊎ (equationAt table i ≡ emptyEquation)
-          → equationAt table i ≡ emptyEquation
-      empty (inr t) = t
-      empty (inl t) = absurd (true≢false (sym t ∙ ap (λ f. unknown f i) (sym hp) ∙ no-span p none i))
-
-      before : (w : Assignment) → Solves (set table i left) w → Solves table w
-      before w s j = go (ℕ-discrete j i)
-        where
-          go : Dec (j ≡ i) → fails (equationAt table j) w ≡ false
-          go (yes q) = ap (λ f. fails f w) (ap (equationAt table) q ∙ empty (T .leading i)) ∙ empty-holds w
-          go (no q) = ap (λ f. fails f w) (sym (there j q)) ∙ s j
-
-      asked : (w : Assignment) → Solves (set table i left) w → fails e w ≡ false
-      asked w s = sym (S .rest w (before w s)) ∙ ap (λ f. fails f w) (sym here) ∙ s i
-
--- nothing is left but a sum
-pub insert-nothing : (table₀ : List Equation) (e : Equation) → Triangular table₀ → (table : List Equation)
-    (left : Equation) → Inserting table₀ e table left 0 → Inserted table₀ e table
-insert-nothing table₀ e T₀ table left S =
-    record {
-      triangular = subst Triangular (sym (S .same)) T₀;
-      kept = λ w f s. subst (λ t. Solves t w) (sym (S .same)) s;
-      older = λ w s. subst (λ t. Solves t w) (S .same) s;
-      constant = λ w v s t. value w s ∙ sym (value v t);
-    }
-  where
-    value : (w : Assignment) → Solves table w → fails e w ≡ left .sum
-    value w s = sym (S .rest w s) ∙ no-unknowns left (λ j. S .above j zero-le) w
-
 -- what the code has of a word, of four, and of a number
 pub unknown-by : (e : Equation) (i l : ℕ) (r : Bool) → i % 4 ≡ l
     → r ≡ bit (wordAt l (e .a) (e .b) (e .c) (e .d)) (i / 4) → r ≡ unknown e i
 unknown-by e i l r h k = k ∙ ap (λ l. bit (wordAt l (e .a) (e .b) (e .c) (e .d)) (i / 4)) (sym h)
-
--- ---- the equations of one qubit tested in turn
-pub record TestedBelow (table : List Equation) (q : ℕ) (w : Assignment) (i : ℕ) : Type 0 where
-  pub from : 4 * q ≤ i
-  pub hold : (j : ℕ) → 4 * q ≤ j → j < i → fails (equationAt table j) w ≡ false
-
-module _ (table : List Equation) (q : ℕ) (w : Assignment) where
-  pub none-tested : TestedBelow table q w (4 * q)
-  none-tested = record { from = le-refl _; hold = λ j l k. absurd (clash l k) }
-    where
-      clash : {a b : ℕ} → a ≤ b → b < a → ⊥
-      clash l k = omega (arith, l, k)
-
-  module _ (i : ℕ) (T : TestedBelow table q w i) where
-    pub one-holds : (e : Equation) (f : Bool) → e ≡ equationAt table i → f ≡ fails e w → f ≡ false
-        → TestedBelow table q w (i + 1)
-    one-holds e f he hf h =
-        record {
-          from = omega (arith, T .from);
-          hold = λ j l k. below-more (λ j. 4 * q ≤ j → fails (equationAt table j) w ≡ false) i
-              (λ j k l. T .hold j l k) (λ l. ap (λ e. fails e w) (sym he) ∙ sym hf ∙ h) j k l;
-        }
-
-    pub one-fails : i < 4 * q + 4 → (e : Equation) (f : Bool) → e ≡ equationAt table i → f ≡ fails e w → f ≡ true
-        → QubitTested table q w true
-    one-fails l e f he hf h =
-        record {
-          found = λ _. (i, T .from, l, ap (λ e. fails e w) (sym he) ∙ sym hf ∙ h);
-          hold = λ p. absurd (true≢false p);
-        }
-
-    pub all-hold : 4 * q + 4 ≤ i → QubitTested table q w false
-    all-hold l = record {
-      found = λ p. absurd (false≢true p);
-      hold = λ _ j k m. T .hold j k (lt-of-lt-of-le m l);
-    }
-
--- ---- the rows of a table
-pub row-at : (rows : List (List ℕ)) (i : ℕ) → equationAt (tableOf rows) i ≡ equationOf (getD rows i [])
-row-at rows i = List·getD-map equationOf rows i []
-
-pub row-set : (rows : List (List ℕ)) (i : ℕ) (r : List ℕ) → tableOf (set rows i r) ≡ set (tableOf rows) i (equationOf r)
-row-set [] i r = refl
-row-set (x ∷ rows) zero r = refl
-row-set (x ∷ rows) (suc i) r = ap (λ t. equationOf x ∷ t) (row-set rows i r)
-
-pub rows-long : (rows : List (List ℕ)) → Triangular (tableOf rows) → length rows ≡ 80
-rows-long rows T = sym (length-map rows equationOf) ∙ T .long

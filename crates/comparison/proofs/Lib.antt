@@ -4,6 +4,8 @@ pub mod Members
 pub mod Least
 pub mod InducedCodes
 pub mod EquationLaws
+pub mod Insertion
+pub mod QubitEquations
 pub mod ClassEquations
 pub mod SignEquations
 pub mod RecordElements

@@ -4,17 +4,15 @@ use native.Mathlib.Omega.{arith}
 use lib.ListN.{set}
 use borrow.Author.Needs.{needs}
 use Rattle.comparison.specs.Equations.{Inserted, tableOf}
-use Rattle.comparison.proofs.EquationLaws.{
+use Rattle.comparison.proofs.Insertion.{
   Inserting,
   insert-added,
   insert-nothing,
   insert-skipped,
   insert-start,
   insert-stored,
-  row-at,
-  row-set,
-  rows-long,
 }
+use Rattle.comparison.proofs.QubitEquations.{row-at, row-set}
 use Rattle.comparison_equations.proofs.equations.insert.Statement.{statement}
 use Rattle.comparison_equations.proofs.equations.insert.Tie as tie
 
