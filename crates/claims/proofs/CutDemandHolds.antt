@@ -3,30 +3,50 @@
 use mathlib.Core.Bool.{false}
 use mathlib.Core.List.{List}
 use mathlib.Core.Logic.{_≢_}
-use mathlib.Core.Path.{subst, sym, _≡_}
-use Prim.Native.Nat.{_<_, ℕ}
+use mathlib.Core.Path.{ap, subst, sym, _∙_, _≡_}
+use Prim.Native.Nat.{_*_, _<_, _^_, ℕ}
 use lib.ListN.{length}
 use Rattle.clifford.specs.Clifford.{cliffordOf}
 use Rattle.clifford.specs.Vectors.{only}
 use Rattle.cut.proofs.CutKept.{carried-cut, same-group-cut}
-use Rattle.graph.specs.Graph.{Simple}
+use Rattle.cut.proofs.RankLaws.{rank-kernel}
+use Rattle.cut.proofs.Sides.{empty-word, full-word}
+use Rattle.cut.specs.Cut.{crossing, cutRank}
+use Rattle.cut.specs.Kernel.{kernelSize}
+use Rattle.graph.specs.Graph.{Graph, Simple}
 use Rattle.record.proofs.AcceptedRecords.{accepted-record}
 use Rattle.record.specs.Accepted.{AcceptedRecord}
 use Rattle.record.specs.Lent.{LentRecord, heldRecord}
 use Rattle.record.specs.Records.{GraphRecord}
 use Rattle.call_gates.proofs.InPlaceLines.{cz-ready, held-accepted}
-use Rattle.words.specs.Bits.{Word}
+use Rattle.words.specs.Bits.{Word, bit}
 use Rattle.claims.proofs.CzInsideSide.{entangled-cut}
 use Rattle.claims.proofs.GatesFollow.{cz-follows, gates-follow}
 use Rattle.claims.proofs.RewritingsKeep.{complements-keep, pivots-keep}
 use Rattle.claims.specs.CutDemand.{
   ComplementsKeepRanks,
+  CutsAnswer,
   CzKeepsRanks,
   GatesKeepRanks,
   PivotsKeepRanks,
   rankAcross,
 }
 use Rattle.claims.specs.OperationsDemand.{Entangled, Gated, RewrittenAs, StillRecord, left}
+
+pub cuts-answer : CutsAnswer
+cuts-answer l side rank rank′ C =
+    record {
+      rank = C .held .0;
+      sums = ap (λ k. 2 ^ k * kernelSize (l .n) (l .n) M) (C .held .0) ∙ rank-kernel (l .n) (l .n) M;
+      empty = λ e. C .held .0 ∙ ap (λ s. cutRank (l .n) (bit s) θ) e ∙ empty-word (l .n) θ;
+      full = λ e. C .held .0 ∙ ap (λ s. cutRank (l .n) (bit s) θ) e ∙ full-word (l .n) θ;
+    }
+  where
+    θ : Graph
+    θ = (heldRecord l) .graph
+
+    M : Graph
+    M = crossing (bit side) θ
 
 -- the graph of what a call leaves is simple
 left-simple : (l : LentRecord) (nb cs : List ℕ) → StillRecord (left l nb cs)

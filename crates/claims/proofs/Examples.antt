@@ -1,11 +1,13 @@
--- The starred examples hold of the definitions: one theorem over the table.
+-- The examples hold of the definitions: one theorem over the table.
 -- Assumes nothing.
 use mathlib.Core.Path.{refl, _≡_}
 use Rattle.buffers.specs.Buffers.{tabulate}
 use Rattle.buffers.specs.Refusals.{firstFitting, reaching}
 use Rattle.clifford.specs.Clifford.{inverse}
 use Rattle.clifford.specs.Vectors.{act}
+use Rattle.comparison.specs.Choices.{carries, choice, leastNumber}
 use Rattle.image.specs.Image.{looped, stuck}
+use Rattle.parts.specs.Parts.{closed, partAbove, partOf}
 use Rattle.image.specs.Rule.{moves, run, step}
 use Rattle.pauli.specs.Pauli.{anticommute, mul}
 use Rattle.record.specs.Columns.{columnDependent}
@@ -20,5 +22,5 @@ use Rattle.claims.specs.Table.{expected, given}
 pub examples : given ≡ expected
 unfolding inverse first some every fold put bit wordOf mul anticommute act clashing dependent columnDependent
     reducedRow graphOf ysOf minusesOf tabulate firstFitting reaching notSimple step moves run member stuck
-    looped
+    looped carries choice leastNumber closed partOf partAbove
 examples = refl

@@ -1,21 +1,23 @@
 -- Demand 1: the lines of each call stand in the published order, and its answers fill the buffers.
 -- Assumes nothing.
 use mathlib.Core.Bool.{Bool, false, _||_}
-use mathlib.Core.List.{List, [], _∷_}
-use mathlib.Core.Path.{refl, sym, _∙_, _≡_}
+use mathlib.Core.List.{List}
+use mathlib.Core.Path.{refl, subst, sym, _∙_, _≡_}
 use Prim.Native.Nat.{ℕ, _≤_}
+use native.Mathlib.Decide.{ℕ-discrete}
 use native.Mathlib.Omega.{arith}
 use lib.ListN.{drop, length, length-append, length-drop}
 use Rattle.buffers.proofs.Lines.{none-of-all, not-held}
 use Rattle.buffers.proofs.Tabulate.{tabulate-length}
 use Rattle.buffers.specs.Buffers.{tabulate, written}
-use Rattle.buffers.specs.Refusals.{firstFitting, otherThan}
-use Rattle.call_compare.proofs.Comparing.{at-most-64}
+use Rattle.buffers.specs.Refusals.{otherThan}
 use Rattle.call_compare.proofs.PairLines.{pair-numbered}
 use Rattle.call_compare.specs.Comparisons.{compareCall}
-use Rattle.comparison.specs.Compared.{compareLines, largePart, pairLines}
+use Rattle.comparison.specs.Compared.{largePart, pairLines}
 use Rattle.comparison_answer.specs.ComparedPairs.{compareList}
-use Rattle.contracts.proofs.Calling.{every-call-answers}
+use Rattle.contracts.proofs.Calling.{done, every-call-answers, refused}
+use Rattle.contracts.proofs.Fitting.{first-is}
+use Rattle.contracts.specs.Calls.{Call}
 use Rattle.call_generate.proofs.GenerateCalls.{accepted-job}
 use Rattle.call_generate.specs.Generated.{generateCall}
 use Rattle.generator.proofs.Lengths.{length-text}
@@ -26,14 +28,16 @@ use Rattle.call_image.specs.Images.{imageCall}
 use Rattle.operations.specs.Steps.{Operation, complementOf, czOn, gateWith, linesOf, measurementOf, pivotOf}
 use Rattle.record.proofs.AcceptedRecords.{accepted-record}
 use Rattle.record.proofs.RecordLines.{record-numbered}
-use Rattle.record.specs.Lent.{LentRecord, heldRecord, recordLengths, recordLines}
+use Rattle.record.specs.Lent.{LentRecord, heldRecord, recordLines}
 use Rattle.call_gates.proofs.InPlaceCalls.{operation-accepted}
-use Rattle.stabilizer.proofs.SharedTests.{has-length}
-use Rattle.stabilizer.specs.Lists.{GeneratorList, listLengths, listLines, rows}
+use Rattle.stabilizer.proofs.Accepted.{accepted-list}
+use Rattle.stabilizer.specs.Lists.{GeneratorList, rows}
 use Rattle.words.proofs.Flags.{neither}
+use Rattle.claims.proofs.AcceptedPairs.{accepted-pair}
+use Rattle.claims.proofs.LinesExactly.{list-exactly, record-exactly, three-fit, two-fit}
 use Rattle.claims.proofs.PartsDemandHolds.{small-parts}
 use Rattle.claims.proofs.ThirdDemandHolds.{third-demand}
-use Rattle.claims.specs.FirstDemand.{Conforms, FirstDemand, InOrder}
+use Rattle.claims.specs.FirstDemand.{AnswersSayAll, Conforms, FirstDemand, InOrder}
 
 -- an answer with a place for each of n
 table-fills : (n : ℕ) (f : ℕ → ℕ) (old : List ℕ) → length old ≡ n → length (tabulate n f) ≡ length old
@@ -43,25 +47,6 @@ table-fills n f old e = tabulate-length n f ∙ sym e
 written-fills : (new old : List ℕ) → length new ≤ length old → length (written new old) ≡ length old
 written-fills new old h =
     length-append new (drop (length new) old) ∙ omega (arith, length-drop (length new) old, h)
-
--- ---- line 4 does not hold: the buffers lent for the answer have their lengths
-list-others : (l : GeneratorList) (others : Bool) → firstFitting (listLines l others) ≡ 0 → others ≡ false
-list-others l others e = neither (listLengths l) others (not-held 3 _ _ (not-held 1 _ _ e .1) .0) .1
-
-record-others : (l : LentRecord) (others six : Bool) → firstFitting (recordLines l others six) ≡ 0 → others ≡ false
-record-others l others six e = neither (recordLengths l) others (not-held 3 _ _ (not-held 1 _ _ e .1) .0) .1
-
-two-fit : (n k : ℕ) (a b : List ℕ) → (otherThan n a || otherThan k b) ≡ false → (length a ≡ n) × (length b ≡ k)
-two-fit n k a b e =
-    let h = neither (otherThan n a) (otherThan k b) e in
-    (has-length n a (h .0), has-length k b (h .1))
-
-three-fit : (n m k : ℕ) (a b c : List ℕ) → (otherThan n a || (otherThan m b || otherThan k c)) ≡ false →
-    (length a ≡ n) × (length b ≡ m) × (length c ≡ k)
-three-fit n m k a b c e =
-    let h = neither (otherThan n a) (otherThan m b || otherThan k c) e in
-    let t = two-fit m k b c (h .1) in
-    (has-length n a (h .0), t .0, t .1)
 
 -- ---- calls in place
 in-order : (l : LentRecord) (o : Operation) → InOrder (linesOf l o)
@@ -79,7 +64,7 @@ image-conforms l g s v count g′ s′ v′ count′ =
       order = refl;
       complete = λ z. let p = none-of-all (recordLines l others false) _ (record-numbered l others false) z .0 in
           let A = accepted-record l others false p in
-          let f = three-fit (l .n) (l .n) 96 g s v (record-others l others false p) in
+          let f = three-fit (l .n) (l .n) 96 g s v .0 (record-exactly l others false .0 p .1) in
           let few = image-length (l .n) (heldRecord l) (A .simple) in (
             table-fills (l .n) _ g (f .0),
             (
@@ -99,18 +84,15 @@ compare-conforms l m choice list count choice′ list′ count′ =
     record {
       order = refl;
       complete = λ z. let all = none-of-all (pairLines l m choice list) _ (pair-numbered l m choice list) z in
-          let h2 = not-held 1 _ _ (all .0) in
-          let h4 = not-held 3 _ _ (h2 .1) in
+          let A = accepted-pair l m choice list (all .0) in
           let small = neither (largePart l) (largePart m) (not-held 2 _ _ (all .1) .0) in
-          let f = two-fit (l .n) 96 choice list
-          (neither (listLengths m) _ (neither (listLengths l) _ (h4 .0) .1) .1) in
           let back = third-demand l m choice list count 0 _ _ _
           (record { number = sym z; held = (refl, (refl, (refl, tt))) }) (all .0) (small-parts l (small .0))
           (small-parts m (small .1)) .otherwise (λ e. absurd (omega (arith, e))) .1 in (
-            table-fills (l .n) _ choice (f .0),
+            table-fills (l .n) _ choice (A .choice-places),
             (
               written-fills (compareList (l .n) (rows l) (rows m)) list
-                  (omega (arith, back .few, at-most-64 l m choice list count (h2 .0), f .1)),
+                  (omega (arith, back .few, accepted-list l false (A .first) .formed .upto, A .list-places)),
               (tt, tt),
             ),
           );
@@ -134,12 +116,12 @@ first-demand =
       check = λ l. record { order = refl; complete = λ z. tt };
       reduce = λ l nb cs nb′ cs′. record {
         order = refl;
-        complete = λ z. let p = two-fit (l .n) (l .n) nb cs (list-others l _ z) in
+        complete = λ z. let p = two-fit (l .n) (l .n) nb cs .0 (list-exactly l _ .0 z .1) in
             (table-fills (l .n) _ nb (p .0), (table-fills (l .n) _ cs (p .1), tt));
       };
       expand = λ l s z x s′ z′ x′. record {
         order = refl;
-        complete = λ e. let p = three-fit (l .n) (l .n) (l .n) s z x (record-others l _ false e) in
+        complete = λ e. let p = three-fit (l .n) (l .n) (l .n) s z x .0 (record-exactly l _ false .0 e .1) in
             (table-fills (l .n) _ s (p .0), (table-fills (l .n) _ z (p .1), (table-fills (l .n) _ x (p .2), tt)));
       };
       in-place = λ l o nb′ cs′. record {
@@ -168,3 +150,11 @@ first-demand =
       comparisons = compare-conforms;
       generations = generate-conforms;
     }
+
+-- ---- and back: what a call answers is its contract
+pub answers-say-all : AnswersSayAll
+answers-say-all c r A = go (ℕ-discrete r 0)
+  where
+    go : Dec (r ≡ 0) → Call c r
+    go (yes z) = subst (Call c) (sym z) (done c (first-is (A .first)) z (A .accepted z))
+    go (no h) = refused c (first-is (A .first)) h (A .refused h)

@@ -3,7 +3,7 @@
 use mathlib.Core.Bool.{false}
 use mathlib.Core.List.{List}
 use mathlib.Core.Logic.{_↔_, _≢_}
-use mathlib.Core.Path.{_∙_, _≡_, ap, ap₂, subst, sym}
+use mathlib.Core.Path.{_≡_, ap, ap₂, subst, sym}
 use Prim.Native.Nat.{_<_, _≤_, ℕ}
 use lib.ListN.{length}
 use Rattle.clifford.specs.Clifford.{Clifford, cliffordOf}
@@ -60,6 +60,7 @@ gates-follow l q k nb′ cs′ C = subst (Gated l q k)
     (sym (holds-new l (gateWith q k) nb′ cs′ C)) (record {
       still = answer-still n R P (A .positive) (A .upto);
       answers = answer-reduced n R P (A .positive) (A .upto);
+      applied = reduced-held-same n R P;
       group = carries-same n c (heldRows l) (heldRows (writtenRecord n (reduced n R))) .1
           (same-trans (carries-same n c (heldRows l) R .0 (gate-carries n (heldRecord l) q (cliffordOf k)))
           (reduced-held-same n R P));

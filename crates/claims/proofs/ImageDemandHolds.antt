@@ -10,7 +10,8 @@ use lib.ListN.{drop, getD, length, take}
 use lib.Seq.{drop-append-seam, take-append-seam}
 use Rattle.buffers.proofs.Lines.{fits, more-accepted, none-fits, passed}
 use Rattle.buffers.proofs.Tabulate.{tabulate-at}
-use Rattle.buffers.specs.Buffers.{accepted, acceptedNumber, tabulate, written}
+use Rattle.clifford.specs.Clifford.{identityClifford}
+use Rattle.buffers.specs.Buffers.{tabulate, written}
 use Rattle.buffers.specs.Refusals.{firstFitting, otherThan}
 use Rattle.graph.specs.Graph.{Simple}
 use Rattle.image.proofs.Accepted.{image-group, image-unsigned}
@@ -21,15 +22,15 @@ use Rattle.image.specs.Image.{imageGraph, imageMinus, imageRecord, loopLines, l
 use Rattle.image.specs.Rule.{imageList}
 use Rattle.pauli.specs.Pauli.{i⁰, minus, scaled}
 use Rattle.record.proofs.AcceptedRecords.{accepted-record}
+use Rattle.record.proofs.WrittenRecords.{record-back}
 use Rattle.record.specs.Lent.{LentRecord, heldRecord, heldRows, neighbourWords, recordLines}
 use Rattle.record.specs.Records.{GraphRecord}
 use Rattle.stabilizer.proofs.Carried.{same-rows}
 use Rattle.contracts.proofs.Calling.{written-all}
 use Rattle.contracts.specs.Calls.{Call}
 use Rattle.call_image.specs.Images.{imageCall}
-use Rattle.words.proofs.BitLaws.{bit-above, bit-wordOf, digit-lt, odd-digit, wordOf-lt}
-use Rattle.words.proofs.Sums.{lt-or-ge}
-use Rattle.words.specs.Bits.{bit, digit, wordOf}
+use Rattle.words.proofs.BitLaws.{digit-lt, odd-digit}
+use Rattle.words.specs.Bits.{digit}
 use Rattle.claims.proofs.ThirdDemandHolds.{graph-each, half}
 use Rattle.claims.specs.ImageDemand.{ImageDecided, ImageStands, ImagesFollow, signedGenerators}
 use Rattle.claims.specs.ThirdDemand.{complementEach}
@@ -73,17 +74,14 @@ module _ (l : LentRecord) (image signs list : List ℕ) (count r : ℕ) (image�
     the-count = written-all C zero-number .1 .1 .1 .0
 
     -- the words give the image graph back
-    neighbours-back : (i : ℕ) → i < m → imageGraph m held i ≡ graphIn image′ i
-    neighbours-back i h = fun-ext (λ q. at q (lt-or-ge q m))
-      where
-        word : getD image′ i 0 ≡ wordOf m (imageGraph m held i)
-        word = ap (λ v. getD v i 0) the-graph ∙ tabulate-at m _ i h
+    same-graph : (i q : ℕ) → imageGraph m held i q ≡ graphIn image′ i q
+    same-graph i q =
+        sym (ap (λ w. graphIn w i q) the-graph ∙ record-back m
+        (record { graph = imageGraph m held; codes = λ q. identityClifford }) (image-simple m held simple-held)
+        (λ q k. refl) .neighbours i q)
 
-        at : (q : ℕ) → (q < m) ⊎ (m ≤ q) → imageGraph m held i q ≡ graphIn image′ i q
-        at q (inl b) = sym (ap (λ w. bit w q) word ∙ bit-wordOf m (imageGraph m held i) q b)
-        at q (inr b) =
-            image-simple m held simple-held .below i q b
-            ∙ sym (ap (λ w. bit w q) word ∙ bit-above m (wordOf m (imageGraph m held i)) (wordOf-lt m _) q b)
+    neighbours-back : (i : ℕ) → imageGraph m held i ≡ graphIn image′ i
+    neighbours-back i = fun-ext (same-graph i)
 
     signs-back : (i : ℕ) → i < m → imageMinus m held i ≡ eqb (getD signs′ i 0) 1
     signs-back i h =
@@ -96,18 +94,19 @@ module _ (l : LentRecord) (image signs list : List ℕ) (count r : ℕ) (image�
     stands : ImageStands l list image′ signs′ list′ count′
     stands =
         record {
+          simple = subst (Simple m) (fun-ext neighbours-back) (image-simple m held simple-held);
           group = same-rows m m (heldRows l) _ (signedGenerators image′ signs′)
               (λ i h. ap₂ (λ b θ. scaled (minus b) (record { phase = i⁰; z = θ; x = λ q. eqb q i }))
               (signs-back i h)
-              (neighbours-back i h))
+              (neighbours-back i))
               (image-group m held simple-held s k);
           bits = λ i h. subst (λ v. v < 2) (sym (ap (λ v. getD v i 0) the-signs ∙ tabulate-at m _ i h))
               (digit-lt (imageMinus m held i));
           vertices = the-places;
           past = ap₂ drop the-count the-list ∙ drop-append-seam (imageList m held) _
               ∙ ap (λ k. drop k list) (sym the-count);
-          leads = λ i j h. ap (λ vs. complementEach (held .graph) vs i j) the-places
-              ∙ graph-each held (imageList m held) i j ∙ ap (λ f. f j) (neighbours-back i h);
+          leads = λ i j. ap (λ vs. complementEach (held .graph) vs i j) the-places
+              ∙ graph-each held (imageList m held) i j ∙ same-graph i j;
           amount = the-count;
           few = subst (λ v. v ≤ 3 * m / 2) (sym the-count)
               (half (length (imageList m held)) (3 * m) (image-length m held simple-held));

@@ -147,6 +147,17 @@ module _ (l : LentRecord) (G : Group) (S : StandsFor l G) where
     measure-stands : StandsFor after After
     measure-stands = record { still = M .still; elements = ⊎-elim joined-elements same-elements (M .either) }
 
+    -- what it answers: determined where the group says so, and the bit, which is then the sign found
+    pub answer-stands : ((known ≡ 1) ↔ IsDetermined G (pauliLetter pauli) q)
+        × (outcomeNumber (measuredAnswer l pauli q b) ≡ b)
+        × (IsDetermined G (pauliLetter pauli) q
+        → G (single (pauliLetter pauli) q (isOdd (outcomeNumber (measuredAnswer l pauli q b)))))
+    answer-stands = (
+      (in-group .1, in-group .0),
+      ⊎-elim (M .bit) (λ e. sym (M .agrees e)) (M .either),
+      (λ d. S .elements _ .0 (M .sign (in-group .0 d))),
+    )
+
   -- ---- complements and pivots
   same-elements-kept : {rows : ℕ → Pauli} → SameGroup (l .n) (l .n) (heldRows l) rows
       → (p : Pauli) → InGroup (l .n) (l .n) rows p ↔ G p

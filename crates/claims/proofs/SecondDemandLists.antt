@@ -70,7 +70,7 @@ pub expansion-brings-back : ExpansionBringsBack
 expansion-brings-back l s z x s′ z′ x′ C =
     let B = expansion-back l (expanded-record l s z x s′ z′ x′ C) in
     subst (BroughtBack l) (sym (holds-expanded l s z x s′ z′ x′ C))
-    (record { accepted = B .passes; group = B .group })
+    (record { accepted = B .passes; generators = B .generators; group = B .group })
 
 -- ---- equal records exactly if equal groups
 pub equal-records-exactly : EqualExactly

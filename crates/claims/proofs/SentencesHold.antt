@@ -14,14 +14,24 @@ use Rattle.call_product.specs.Products.{productCall}
 use Rattle.record.specs.Lent.{LentRecord}
 use Rattle.call_gates.specs.InPlaceCalls.{inPlaceCall, measureCall}
 use Rattle.stabilizer.specs.Lists.{GeneratorList}
-use Rattle.claims.proofs.CutDemandHolds.{complements-keep-ranks, cz-keeps-ranks, gates-keep-ranks, pivots-keep-ranks}
+use Rattle.claims.proofs.AcceptedCallsHold.{accepted-exactly}
+use Rattle.claims.proofs.ComparedByParts.{compared-by-parts}
+use Rattle.claims.proofs.CutDemandHolds.{
+  complements-keep-ranks,
+  cuts-answer,
+  cz-keeps-ranks,
+  gates-keep-ranks,
+  pivots-keep-ranks,
+}
 use Rattle.claims.proofs.FirstDemandHolds.{first-demand}
 use Rattle.claims.proofs.GatesFollow.{cz-follows, gates-follow}
 use Rattle.claims.proofs.GeneratorDemandHolds.{generator-demand}
 use Rattle.claims.proofs.ImageDemandHolds.{images-follow}
 use Rattle.claims.proofs.ImpossibleClicks.{impossible-clicks-refused}
+use Rattle.claims.proofs.ListDemandHolds.{checks-tell, reduction-answers}
 use Rattle.claims.proofs.MeasurementsFollow.{measurements-follow}
 use Rattle.claims.proofs.PartsDemandHolds.{large-parts-refused}
+use Rattle.claims.proofs.ProductDemandHolds.{products-answer}
 use Rattle.claims.proofs.RewritingsKeep.{complements-keep, pivots-keep}
 use Rattle.claims.proofs.SecondDemandLists.{expansion-brings-back, reduced-codes, reduction-keeps-group}
 use Rattle.claims.proofs.SessionDemandHolds.{cz-by-expanding, gates-by-expanding, measurements-by-expanding}
@@ -30,7 +40,7 @@ use Rattle.claims.proofs.SessionNumbers.{
   gate-numbers-by-expanding,
   measure-numbers-by-expanding,
 }
-use Rattle.claims.proofs.ThirdDemandHolds.{third-demand}
+use Rattle.claims.proofs.ThirdDemandHolds.{third-demand, third-demand-to-20}
 use Rattle.claims.specs.FirstDemand.{Answered, Conforms}
 use Rattle.claims.specs.Sentences.{
   CheckSays,
@@ -57,13 +67,20 @@ at-zero : {c : Contract} {r : ℕ} → Call c r → r ≡ 0 → Call c 0
 at-zero {c} C z = subst (Call c) z C
 
 pub check-says : (l : GeneratorList) (r : ℕ) → Call (checkCall l) r → CheckSays l r
-check-says l r C = record { answered = answered (first-demand .check l) C }
+check-says l r C =
+    record {
+      answered = answered (first-demand .check l) C;
+      accepted = accepted-exactly .check l r C;
+      tells = checks-tell l r C;
+    }
 
 pub reduce-says : (l : GeneratorList) (nb cs nb′ cs′ : List ℕ) (r : ℕ) → Call (reduceCall l nb cs nb′ cs′) r →
     ReduceSays l nb cs nb′ cs′ r
 reduce-says l nb cs nb′ cs′ r C =
     record {
       answered = answered (first-demand .reduce l nb cs nb′ cs′) C;
+      accepted = accepted-exactly .reduce l nb cs nb′ cs′ r C;
+      form = λ z. reduction-answers l nb cs nb′ cs′ (at-zero C z);
       group = λ z. reduction-keeps-group l nb cs nb′ cs′ (at-zero C z);
       codes = λ z. reduced-codes l nb cs nb′ cs′ (at-zero C z);
     }
@@ -73,6 +90,7 @@ pub gate-says : (l : LentRecord) (q k : ℕ) (nb′ cs′ : List ℕ) (r : ℕ) 
 gate-says l q k nb′ cs′ r C =
     record {
       answered = answered (first-demand .in-place l (gateWith q k) nb′ cs′) C;
+      accepted = accepted-exactly .gate l q k nb′ cs′ r C;
       group = λ z. gates-follow l q k nb′ cs′ (at-zero C z);
       ranks = λ z. gates-keep-ranks l q k nb′ cs′ (at-zero C z);
       by-expanding = λ z. gates-by-expanding l q k nb′ cs′ (at-zero C z);
@@ -85,6 +103,7 @@ pub measure-says : (l : LentRecord) (pauli q b answer determined : ℕ) (nb′ c
 measure-says l pauli q b answer determined nb′ cs′ answer′ determined′ r C =
     record {
       answered = answered (first-demand .measurements l pauli q b answer determined nb′ cs′ answer′ determined′) C;
+      accepted = accepted-exactly .measure l pauli q b answer determined nb′ cs′ answer′ determined′ r C;
       group = λ z. measurements-follow l pauli q b answer determined nb′ cs′ answer′ determined′ (at-zero C z);
       impossible = impossible-clicks-refused l pauli q b answer determined r nb′ cs′ answer′ determined′ C;
       by-expanding = λ z. measurements-by-expanding l pauli q b answer determined nb′ cs′ answer′ determined′
@@ -99,6 +118,9 @@ pub compare-says : (l m : GeneratorList) (choice list : List ℕ) (count : ℕ) 
 compare-says l m choice list count choice′ list′ count′ r C =
     record {
       answered = answered (first-demand .comparisons l m choice list count choice′ list′ count′) C;
+      accepted = accepted-exactly .compare l m choice list count choice′ list′ count′ r C;
+      to-20 = third-demand-to-20 l m choice list count r choice′ list′ count′ C;
+      parts = compared-by-parts l m choice list count r choice′ list′ count′ C;
       large = large-parts-refused l m choice list count r choice′ list′ count′ C;
       decided = third-demand l m choice list count r choice′ list′ count′ C;
     }
@@ -108,6 +130,7 @@ pub expand-says : (l : LentRecord) (s z x s′ z′ x′ : List ℕ) (r : ℕ) �
 expand-says l s z x s′ z′ x′ r C =
     record {
       answered = answered (first-demand .expand l s z x s′ z′ x′) C;
+      accepted = accepted-exactly .expand l s z x s′ z′ x′ r C;
       group = λ e. expansion-brings-back l s z x s′ z′ x′ (at-zero C e);
     }
 
@@ -116,6 +139,7 @@ pub cz-says : (l : LentRecord) (a b : ℕ) (nb′ cs′ : List ℕ) (r : ℕ) �
 cz-says l a b nb′ cs′ r C =
     record {
       answered = answered (first-demand .in-place l (czOn a b) nb′ cs′) C;
+      accepted = accepted-exactly .cz l a b nb′ cs′ r C;
       group = λ z. cz-follows l a b nb′ cs′ (at-zero C z);
       ranks = λ z. cz-keeps-ranks l a b nb′ cs′ (at-zero C z);
       by-expanding = λ z. cz-by-expanding l a b nb′ cs′ (at-zero C z);
@@ -127,6 +151,7 @@ pub complement-says : (l : LentRecord) (a : ℕ) (nb′ cs′ : List ℕ) (r : �
 complement-says l a nb′ cs′ r C =
     record {
       answered = answered (first-demand .in-place l (complementOf a) nb′ cs′) C;
+      accepted = accepted-exactly .complement l a nb′ cs′ r C;
       group = λ z. complements-keep l a nb′ cs′ (at-zero C z);
       ranks = λ z. complements-keep-ranks l a nb′ cs′ (at-zero C z);
     }
@@ -136,6 +161,7 @@ pub pivot-says : (l : LentRecord) (j k : ℕ) (nb′ cs′ : List ℕ) (r : ℕ)
 pivot-says l j k nb′ cs′ r C =
     record {
       answered = answered (first-demand .in-place l (pivotOf j k) nb′ cs′) C;
+      accepted = accepted-exactly .pivot l j k nb′ cs′ r C;
       group = λ z. pivots-keep l j k nb′ cs′ (at-zero C z);
       ranks = λ z. pivots-keep-ranks l j k nb′ cs′ (at-zero C z);
     }
@@ -146,22 +172,33 @@ pub image-says : (l : LentRecord) (image signs list : List ℕ) (count : ℕ) (i
 image-says l image signs list count image′ signs′ list′ count′ r C =
     record {
       answered = answered (first-demand .images l image signs list count image′ signs′ list′ count′) C;
+      accepted = accepted-exactly .image l image signs list count image′ signs′ list′ count′ r C;
       decided = images-follow l image signs list count r image′ signs′ list′ count′ C;
     }
 
 pub cut-says : (l : LentRecord) (side rank rank′ r : ℕ) → Call (cutCall l side rank rank′) r →
     CutSays l side rank rank′ r
-cut-says l side rank rank′ r C = record { answered = answered (first-demand .cuts l side rank rank′) C }
+cut-says l side rank rank′ r C =
+    record {
+      answered = answered (first-demand .cuts l side rank rank′) C;
+      accepted = accepted-exactly .cut l side rank rank′ r C;
+      answer = λ z. cuts-answer l side rank rank′ (at-zero C z);
+    }
 
 pub product-says : (l : GeneratorList) (chosen z x phase z′ x′ phase′ r : ℕ) →
     Call (productCall l chosen z x phase z′ x′ phase′) r → ProductSays l chosen z x phase z′ x′ phase′ r
 product-says l chosen z x phase z′ x′ phase′ r C =
-    record { answered = answered (first-demand .products l chosen z x phase z′ x′ phase′) C }
+    record {
+      answered = answered (first-demand .products l chosen z x phase z′ x′ phase′) C;
+      accepted = accepted-exactly .product l chosen z x phase z′ x′ phase′ r C;
+      answer = λ e. products-answer l chosen z x phase z′ x′ phase′ (at-zero C e);
+    }
 
 pub generate-says : (n count seed : ℕ) (text : List ℕ) (size : ℕ) (text′ : List ℕ) (size′ r : ℕ) →
     Call (generateCall n count seed text size text′ size′) r → GenerateSays n count seed text size text′ size′ r
 generate-says n count seed text size text′ size′ r C =
     record {
       answered = answered (first-demand .generations n count seed text size text′ size′) C;
+      accepted = accepted-exactly .generate n count seed text size text′ size′ r C;
       back = λ z. generator-demand n count seed text size text′ size′ (at-zero C z);
     }

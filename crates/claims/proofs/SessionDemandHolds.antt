@@ -39,8 +39,9 @@ use Rattle.stabilizer.specs.Groups.{Proper, SameGroup}
 use Rattle.stabilizer.specs.Lists.{listLines, rows}
 use Rattle.words.proofs.Flags.{neither}
 use Rattle.words.specs.Bits.{isOdd}
+use Rattle.claims.proofs.LinesExactly.{three-fit}
 use Rattle.claims.proofs.SecondDemandLists.{holds-expanded}
-use Rattle.claims.proofs.SessionNumbers.{expanded-rows, member-equal, record-decides, three-pass}
+use Rattle.claims.proofs.SessionNumbers.{expanded-rows, member-equal, record-decides}
 use Rattle.claims.specs.SessionDemand.{
   ByExpanding,
   CzByExpanding,
@@ -126,7 +127,7 @@ module _ (l : LentRecord) (six eight : Bool) (no-line : firstFitting (inPlaceLin
     by-expanding =
         record {
           accepted = λ s z x d e g. sym (record-decides l (six-passes l six eight no-line)
-              (eight-passes l six eight no-line) (three-pass n s z x d e g) []) ∙ no-line;
+              (eight-passes l six eight no-line) (three-fit n n n s z x .1 (d, e, g)) []) ∙ no-line;
           equal = λ s z x s′ z′ x′ D. subst (λ m. ReducesTo m f nb′ cs′) (sym (holds-expanded l s z x s′ z′ x′ D))
               reduces-to;
         }

@@ -8,10 +8,9 @@ use Prim.Native.Nat.{_<_, _^_, ℕ}
 use native.Mathlib.Decide.{ℕ-discrete}
 use native.Mathlib.Omega.{arith}
 use lib.Dec.{eqb, leb}
-use lib.ListN.{length}
 use borrow.Author.Tests.{lt-leb, ne-eqb}
 use Rattle.buffers.proofs.Lines.{more-refused}
-use Rattle.buffers.specs.Refusals.{Line, firstFitting, line, otherThan}
+use Rattle.buffers.specs.Refusals.{Line, firstFitting, line}
 use Rattle.contracts.specs.Calls.{Call}
 use Rattle.call_lists.specs.Calls.{expandCall, expandLines}
 use Rattle.operations.specs.Measurement.{contradicts, pauliLetter, single}
@@ -23,11 +22,11 @@ use Rattle.record.proofs.ExpansionBack.{expansion-back}
 use Rattle.record.specs.Accepted.{AcceptedRecord}
 use Rattle.record.specs.Lent.{LentRecord, heldRows, recordLines}
 use Rattle.stabilizer.proofs.EqualRows.{product-equal}
-use Rattle.stabilizer.proofs.SharedTests.{length-passes}
 use Rattle.stabilizer.specs.Lists.{rows}
 use Rattle.stabilizer.specs.Membership.{equalBelow, member}
 use Rattle.words.specs.Bits.{_⊕_, bit, isOdd}
 use Rattle.words.specs.Search.{some}
+use Rattle.claims.proofs.LinesExactly.{three-fit}
 use Rattle.claims.proofs.SecondDemandLists.{holds-expanded}
 use Rattle.claims.specs.SessionDemand.{
   CzNumbersByExpanding,
@@ -37,12 +36,6 @@ use Rattle.claims.specs.SessionDemand.{
 }
 
 -- ---- lines
--- three buffers with n places
-pub three-pass : (n : ℕ) (s z x : List ℕ) → length s ≡ n → length z ≡ n → length x ≡ n →
-    (otherThan n s || (otherThan n z || otherThan n x)) ≡ false
-three-pass n s z x a b c =
-    ap₂ _||_ (length-passes n s a) (ap₂ _||_ (length-passes n z b) (length-passes n x c))
-
 -- where no line holds of the further arguments, the record's lines decide, and those after them
 pub record-decides : (l : LentRecord) {six eight others : Bool} → six ≡ false → eight ≡ false → others ≡ false →
     (after : List Line) →
@@ -70,7 +63,7 @@ module _ (n : ℕ) (R S : ℕ → Pauli) (h : (j : ℕ) → j < n → R j ≡ S 
 pub gate-numbers-by-expanding : GateNumbersByExpanding
 gate-numbers-by-expanding l q k r nb′ cs′ hq hk C = record {
   equal = λ s z x s′ z′ x′ e a b c D. C .number
-      ∙ record-decides l (lt-leb 24 k hk) (lt-leb (l .n) q hq) (three-pass (l .n) s z x a b c) []
+      ∙ record-decides l (lt-leb 24 k hk) (lt-leb (l .n) q hq) (three-fit (l .n) (l .n) (l .n) s z x .1 (a, b, c)) []
       ∙ sym (D .number);
 }
 
@@ -79,7 +72,7 @@ cz-numbers-by-expanding l a b r nb′ cs′ ha hb ab C = record {
   equal = λ s z x s′ z′ x′ e d f g D. C .number
       ∙ record-decides l (λ i. false)
       (ap₂ _||_ (lt-leb (l .n) a ha) (ap₂ _||_ (lt-leb (l .n) b hb) (ne-eqb a b ab)))
-      (three-pass (l .n) s z x d f g) []
+      (three-fit (l .n) (l .n) (l .n) s z x .1 (d, f, g)) []
       ∙ sym (D .number);
 }
 
@@ -87,7 +80,8 @@ cz-numbers-by-expanding l a b r nb′ cs′ ha hb ab C = record {
 pub measure-numbers-by-expanding : MeasureNumbersByExpanding
 measure-numbers-by-expanding l pauli q b answer determined r nb′ cs′ answer′ determined′ hp hp₂ hq hb C = record {
   equal = λ s z x s′ z′ x′ e c d g D. C .number
-      ∙ record-decides l six (lt-leb (l .n) q hq) (three-pass (l .n) s z x c d g) (after (heldRows l))
+      ∙ record-decides l six (lt-leb (l .n) q hq) (three-fit (l .n) (l .n) (l .n) s z x .1 (c, d, g))
+      (after (heldRows l))
       ∙ by-list s z x s′ z′ x′ e D (ℕ-discrete (firstFitting (expandLines l s z x)) 0);
 }
   where

@@ -1,25 +1,25 @@
 -- Demand 3 from the contract of the comparison, and the laws of the least choice and of the image rule.
 -- Assumes nothing.
-use mathlib.Core.Bool.{Bool, cond, false, not, true, true≢false, _||_}
+use mathlib.Core.Bool.{Bool, cond, false, true, true≢false, _||_}
 use mathlib.Core.List.{List, [], _∷_}
 use mathlib.Core.Logic.{_↔_}
 use mathlib.Core.Path.{ap, ap₂, fun-ext, refl, subst, sym, _∙_, _≡_}
 use Prim.Native.Nat.{_*_, _/_, _<_, ℕ, _≤_}
 use native.Mathlib.Omega.{arith}
-use lib.Dec.{eqb}
 use lib.ListN.{drop, getD, length, take}
 use lib.Seq.{drop-append-seam, take-append-seam}
-use Rattle.buffers.proofs.Lines.{fits, more-accepted, none-fits, not-held, passed}
+use Rattle.buffers.proofs.Lines.{fits, more-accepted, none-fits, passed}
 use Rattle.buffers.proofs.Tabulate.{tabulate-at, tabulate-length}
-use Rattle.buffers.specs.Buffers.{accepted, acceptedNumber, tabulate, written}
-use Rattle.buffers.specs.Refusals.{badCount, firstFitting, line, otherThan}
+use Rattle.buffers.specs.Buffers.{tabulate, written}
+use Rattle.buffers.specs.Refusals.{firstFitting, line}
 use Rattle.clifford.specs.Clifford.{Clifford, cliffordOf}
 use Rattle.clifford.specs.Vectors.{codesOf}
 use Rattle.comparison.proofs.InducedCodes.{induced-carries}
 use Rattle.comparison.proofs.Least.{least-is, none-carries}
 use Rattle.comparison.proofs.NumberOrder.{choice-lt}
 use Rattle.comparison.specs.Choices.{LeastChoice, leastCode, leastNumber, noChoice}
-use Rattle.comparison.specs.Compared.{induced, pairCount, pairLengths, pairLines}
+use Rattle.comparison.specs.Compared.{induced, pairLines}
+use Rattle.cut.proofs.Counting.{count-upto}
 use Rattle.graph.specs.Graph.{Simple}
 use Rattle.image.proofs.Exactly.{same-leads}
 use Rattle.image.proofs.TrackedBits.{image-length}
@@ -28,27 +28,18 @@ use Rattle.pauli.specs.Pauli.{Pauli}
 use Rattle.record.proofs.ReducedRecords.{reduced-is}
 use Rattle.record.specs.Records.{GraphRecord, complementAll, complementRecord}
 use Rattle.record.specs.Reduced.{reducedGraph}
-use Rattle.stabilizer.proofs.Accepted.{accepted-list}
 use Rattle.stabilizer.specs.Carries.{Carries}
 use Rattle.stabilizer.specs.Groups.{Proper}
-use Rattle.stabilizer.specs.Lists.{
-  GeneratorList,
-  clashing,
-  dependent,
-  listLengths,
-  listSigns,
-  listStray,
-  rows,
-}
+use Rattle.stabilizer.specs.Lists.{GeneratorList, rows}
 use Rattle.contracts.proofs.Calling.{written-all}
-use Rattle.call_compare.proofs.Comparing.{counts-agree}
 use Rattle.contracts.proofs.Calling.{written-all}
 use Rattle.call_compare.proofs.PairLines.{pair-numbered}
 use Rattle.comparison_answer.proofs.ReducedPairs.{least-held}
 use Rattle.comparison_answer.specs.ComparedPairs.{compareList, inducedRecord}
-use Rattle.words.proofs.Flags.{neither}
+use Rattle.claims.proofs.AcceptedPairs.{accepted-pair, first-proper, no-line-holds, second-proper}
 use Rattle.claims.proofs.PartsDemandHolds.{no-large}
-use Rattle.claims.specs.ThirdDemand.{ComesBack, Decided, ThirdDemand, complementEach, listUnder}
+use Rattle.claims.specs.PartsDemand.{SmallParts, part}
+use Rattle.claims.specs.ThirdDemand.{AcceptedPair, ComesBack, Decided, ThirdDemand, ThirdDemandTo20, complementEach, listUnder}
 
 -- a record complemented along a list has the graph complemented along it
 pub graph-each : (r : GraphRecord) (vs : List ℕ) (i j : ℕ) →
@@ -59,66 +50,6 @@ graph-each r (v ∷ vs) i j = graph-each (complementRecord r v) vs i j
 -- at most 3n/2, rounded down
 pub half : (a b : ℕ) → 2 * a ≤ b → a ≤ b / 2
 half a b h = omega (arith, h)
-
--- ---- none of lines 2 to 10 holds
-record PairPassed (l m : GeneratorList) (choice list : List ℕ) : Type 0 where
-  two : pairCount l m ≡ false
-  four : pairLengths l m choice list ≡ false
-  five : (listStray l || listStray m) ≡ false
-  six : (listSigns l || listSigns m) ≡ false
-  nine : (clashing (l .n) (rows l) || clashing (m .n) (rows m)) ≡ false
-  ten : (dependent (l .n) (rows l) || dependent (m .n) (rows m)) ≡ false
-
-pair-passed : (l m : GeneratorList) (choice list : List ℕ) → firstFitting (pairLines l m choice list) ≡ 0 →
-    PairPassed l m choice list
-pair-passed l m choice list e =
-    let h₂ = not-held 1 _ _ e in
-    let h₄ = not-held 3 _ _ (h₂ .1) in
-    let h₅ = not-held 4 _ _ (h₄ .1) in
-    let h₆ = not-held 5 _ _ (h₅ .1) in
-    let h₉ = not-held 8 _ _ (h₆ .1) in
-    let h₁₀ = not-held 9 _ _ (h₉ .1) in
-    record { two = h₂ .0; four = h₄ .0; five = h₅ .0; six = h₆ .0; nine = h₉ .0; ten = h₁₀ .0 }
-
--- one list alone
-list-proper : (l : GeneratorList) → badCount (l .n) ≡ false → listLengths l ≡ false → listStray l ≡ false →
-    listSigns l ≡ false → clashing (l .n) (rows l) ≡ false → dependent (l .n) (rows l) ≡ false →
-    Proper (l .n) (rows l)
-list-proper l two four five six nine ten =
-    accepted-list l false
-    (passed 2 _ two ∙ passed 4 _ (ap (λ b. b || false) four) ∙ passed 5 _ five ∙ passed 6 _ six
-    ∙ passed 9 _ nine
-    ∙ passed 10 _ ten ∙ none-fits) .proper
-
-module _ (l m : GeneratorList) (choice list : List ℕ) (K : PairPassed l m choice list) where
-  counts : (badCount (l .n) ≡ false) × (badCount (m .n) ≡ false)
-  counts =
-      let h = neither (badCount (l .n)) (badCount (m .n) || not (eqb (l .n) (m .n))) (K .two) in
-      (h .0, neither (badCount (m .n)) (not (eqb (l .n) (m .n))) (h .1) .0)
-
-  lengths : (listLengths l ≡ false) × (listLengths m ≡ false)
-  lengths =
-      let h = neither (listLengths l)
-      (listLengths m || (otherThan (l .n) choice || otherThan 96 list)) (K .four) in
-      (h .0, neither (listLengths m) (otherThan (l .n) choice || otherThan 96 list) (h .1) .0)
-
-  same-number : l .n ≡ m .n
-  same-number = counts-agree l m choice list 0 (K .two)
-
-  first-proper : Proper (l .n) (rows l)
-  first-proper =
-      list-proper l (counts .0) (lengths .0) (neither (listStray l) (listStray m) (K .five) .0)
-      (neither (listSigns l) (listSigns m) (K .six) .0)
-      (neither (clashing (l .n) (rows l)) (clashing (m .n) (rows m)) (K .nine) .0)
-      (neither (dependent (l .n) (rows l)) (dependent (m .n) (rows m)) (K .ten) .0)
-
-  second-proper : Proper (l .n) (rows m)
-  second-proper =
-      subst (λ k. Proper k (rows m)) (sym same-number)
-      (list-proper m (counts .1) (lengths .1) (neither (listStray l) (listStray m) (K .five) .1)
-      (neither (listSigns l) (listSigns m) (K .six) .1)
-      (neither (clashing (l .n) (rows l)) (clashing (m .n) (rows m)) (K .nine) .1)
-      (neither (dependent (l .n) (rows l)) (dependent (m .n) (rows m)) (K .ten) .1))
 
 -- ---- some choice works
 module _ (l m : GeneratorList) (same-number : l .n ≡ m .n) (P : Proper (l .n) (rows l))
@@ -183,14 +114,14 @@ pub third-demand : ThirdDemand
 third-demand l m choice list count r choice′ list′ count′ C e small small₂ =
     go (noChoice (l .n) (rows l) (rows m)) refl
   where
-    K : PairPassed l m choice list
-    K = pair-passed l m choice list e
+    A : AcceptedPair l m choice list
+    A = accepted-pair l m choice list e
 
     P : Proper (l .n) (rows l)
-    P = first-proper l m choice list K
+    P = first-proper A
 
     Q : Proper (l .n) (rows m)
-    Q = second-proper l m choice list K
+    Q = second-proper A
 
     none : (noChoice (l .n) (rows l) (rows m) ≡ true)
         ↔ ((c : ℕ → Clifford) → Carries (l .n) c (rows l) (rows m) → ⊥)
@@ -223,8 +154,17 @@ third-demand l m choice list count r choice′ list′ count′ C e small small�
           );
           otherwise = λ _. (
             number false h,
-            comes-back l m (same-number l m choice list K) P Q h list choice′ list′ count′
+            comes-back l m (A .same-count) P Q h list choice′ list′ count′
                 (written-all C (number false h) .0) (written-all C (number false h) .1 .0)
                 (written-all C (number false h) .1 .1 .0),
           );
         }
+
+-- ---- up to 20 qubits: no part of a graph on at most 20 vertices is larger
+pub few-small : (l : GeneratorList) → l .n ≤ 20 → SmallParts l
+few-small l h q k = omega (arith, count-upto (l .n) (part l q), h)
+
+pub third-demand-to-20 : ThirdDemandTo20
+third-demand-to-20 l m choice list count r choice′ list′ count′ C A h =
+    third-demand l m choice list count r choice′ list′ count′ C (no-line-holds l m choice list A)
+    (few-small l h) (few-small m (subst (λ k. k ≤ 20) (A .same-count) h))

@@ -1,21 +1,35 @@
--- Of cuts: "gates on single qubits, and CZ inside a side, never change the number, and complementing at any vertex
--- doesn't either". Each is said of an accepted call on any record, reduced or not, and of every cut: the call's number
--- is 0, and nb′, cs′ are what the two buffers hold at exit.
+-- Of cuts: "answers the rank modulo 2 of the edges between the sides. An empty or full side gives 0"; and "gates on
+-- single qubits, and CZ inside a side, never change the number, and complementing at any vertex doesn't either". Each is
+-- said of an accepted call on any record, reduced or not, and of every cut: the call's number is 0, and a name with a
+-- prime is what is held at exit.
 -- Assumes nothing.
 use mathlib.Core.List.{List}
 use mathlib.Core.Path.{_≡_}
-use Prim.Native.Nat.{ℕ}
+use Prim.Native.Nat.{_*_, _-_, _^_, ℕ}
 use Rattle.contracts.specs.Calls.{Call}
-use Rattle.cut.specs.Cut.{cutRank}
+use Rattle.cut.specs.Cut.{crossing, cutRank}
+use Rattle.cut.specs.Kernel.{kernelSize}
+use Rattle.call_cut.specs.Cuts.{cutCall}
 use Rattle.operations.specs.Steps.{complementOf, czOn, gateWith, pivotOf}
 use Rattle.record.specs.Lent.{LentRecord, heldRecord}
 use Rattle.call_gates.specs.InPlaceCalls.{inPlaceCall}
-use Rattle.words.specs.Bits.{Word}
+use Rattle.words.specs.Bits.{Word, bit}
 use Rattle.claims.specs.OperationsDemand.{left}
 
 -- the rank across a cut of the graph that a lent record holds
 abbrev pub rankAcross : Word → LentRecord → ℕ
 rankAcross side l = cutRank (l .n) side ((heldRecord l) .graph)
+
+-- what an accepted call on a cut answers
+pub record CutAnswer (l : LentRecord) (side rank′ : ℕ) : Type 0 where
+  pub rank : rank′ ≡ rankAcross (bit side) l
+  -- modulo 2: of the 2^n choices of columns, one in 2^rank adds to 0
+  pub sums : 2 ^ rank′ * kernelSize (l .n) (l .n) (crossing (bit side) ((heldRecord l) .graph)) ≡ 2 ^ (l .n)
+  pub empty : side ≡ 0 → rank′ ≡ 0
+  pub full : side ≡ 2 ^ (l .n) - 1 → rank′ ≡ 0
+
+abbrev pub CutsAnswer : Type 0
+CutsAnswer = (l : LentRecord) (side rank rank′ : ℕ) → Call (cutCall l side rank rank′) 0 → CutAnswer l side rank′
 
 -- "gates on single qubits"
 abbrev pub GatesKeepRanks : Type 0

@@ -12,7 +12,7 @@ use Rattle.buffers.specs.Refusals.{Line, firstFitting}
 use Rattle.call_compare.specs.Comparisons.{compareCall}
 use Rattle.comparison.specs.Compared.{compareLines}
 use Rattle.contracts.specs.Answers.{Answers, EveryCallAnswers}
-use Rattle.contracts.specs.Calls.{Contract, EachOf, Lent, buffer, number}
+use Rattle.contracts.specs.Calls.{Call, Contract, EachOf, Lent, buffer, number}
 use Rattle.call_cut.specs.Cuts.{cutCall}
 use Rattle.call_generate.specs.Generated.{generateCall}
 use Rattle.generator.specs.Lines.{generateLines}
@@ -52,6 +52,11 @@ pub record Conforms (c : Contract) : Type 0 where
 pub record Answered (c : Contract) (r : ℕ) : Type 0 where
   pub answers : Answers c r
   pub conforms : Conforms c
+
+-- what a call answers is all that its contract says: a sentence about two calls with these contracts is one about any
+-- two functions of which demand 1 holds
+abbrev pub AnswersSayAll : Type 0
+AnswersSayAll = (c : Contract) (r : ℕ) → Answers c r → Call c r
 
 pub record FirstDemand : Type 0 where
   pub every : EveryCallAnswers

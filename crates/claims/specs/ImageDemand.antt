@@ -8,7 +8,7 @@ use Prim.Native.Nat.{_*_, _/_, _<_, ℕ, _≤_}
 use lib.Dec.{eqb}
 use lib.ListN.{drop, getD, length, take}
 use Rattle.buffers.specs.Refusals.{firstFitting, otherThan}
-use Rattle.graph.specs.Graph.{graphGenerator}
+use Rattle.graph.specs.Graph.{Simple, graphGenerator}
 use Rattle.graph.specs.NeighbourWords.{graphIn}
 use Rattle.image.specs.Image.{UnsignedGraph}
 use Rattle.image.specs.Rule.{imageList}
@@ -26,6 +26,8 @@ signedGenerators neighbours signs j =
 
 -- what comes back
 pub record ImageStands (l : LentRecord) (list image′ signs′ list′ : List ℕ) (count′ : ℕ) : Type 0 where
+  -- "The graph is simple: symmetric, no vertex its own neighbour"
+  pub simple : Simple (l .n) (graphIn image′)
   -- the image group with its signs is the group of the image graph with its minus signs
   pub group : SameGroup (l .n) (l .n) (heldRows l) (signedGenerators image′ signs′)
   pub bits : (j : ℕ) → j < l .n → getD signs′ j 0 < 2
@@ -33,7 +35,7 @@ pub record ImageStands (l : LentRecord) (list image′ signs′ list′ : List �
   pub vertices : take count′ list′ ≡ imageList (l .n) (heldRecord l)
   pub past : drop count′ list′ ≡ drop count′ list
   -- "the list must lead to the graph"
-  pub leads : (i j : ℕ) → i < l .n →
+  pub leads : (i j : ℕ) →
       complementEach ((heldRecord l) .graph) (take count′ list′) i j ≡ graphIn image′ i j
   -- "Its count is the number of complementations done", which fit into the buffer
   pub amount : count′ ≡ length (imageList (l .n) (heldRecord l))

@@ -4,10 +4,14 @@ pub mod PartsDemand
 pub mod ThirdDemand
 pub mod ImageDemand
 pub mod OperationsDemand
+pub mod AcceptedCalls
+pub mod ListDemand
 pub mod CutDemand
+pub mod ProductDemand
 pub mod FirstDemand
 pub mod GeneratorDemand
 pub mod SessionDemand
 pub mod SessionTable
 pub mod JobDemand
+pub mod ProgramDemand
 pub mod Sentences

@@ -12,6 +12,7 @@ use Rattle.clifford.specs.Clifford.{cliffordOf}
 use Rattle.clifford.specs.Vectors.{only}
 use Rattle.contracts.specs.Calls.{Call}
 use Rattle.operations.specs.Cz.{IsCz, cz}
+use Rattle.operations.specs.Gates.{gated}
 use Rattle.operations.specs.Measurement.{Measured, pauliLetter, single}
 use Rattle.operations.specs.Steps.{
   Operation,
@@ -25,7 +26,7 @@ use Rattle.operations.specs.Steps.{
 }
 use Rattle.pauli.specs.Pauli.{Pauli}
 use Rattle.record.specs.Lent.{LentRecord, codeNumbers, heldRecord, heldRows, neighbourWords, recordLines}
-use Rattle.record.specs.Records.{GraphRecord, SameRecord, complementRecord}
+use Rattle.record.specs.Records.{GraphRecord, SameRecord, complementRecord, rowsOf}
 use Rattle.record.specs.Reduced.{reduced}
 use Rattle.stabilizer.specs.Carries.{Carries}
 use Rattle.stabilizer.specs.Groups.{InGroup, SameGroup}
@@ -45,10 +46,11 @@ pub record IsReduced (l : LentRecord) : Type 0 where
   pub neighbours : l .neighbours ≡ neighbourWords (l .n) (reduced (l .n) (heldRows l))
   pub codes : l .codes ≡ codeNumbers (l .n) (reduced (l .n) (heldRows l))
 
--- ---- "A gate applies a code after the code already held": the group is sent through the code at the qubit
+-- ---- "A gate applies a code after the code already held": so the group is sent through the code at the qubit
 pub record Gated (l : LentRecord) (q k : ℕ) (after : LentRecord) : Type 0 where
   pub still : StillRecord after
   pub answers : IsReduced after
+  pub applied : SameGroup (l .n) (l .n) (rowsOf (l .n) (gated (heldRecord l) q (cliffordOf k))) (heldRows after)
   pub group : Carries (l .n) (only q (cliffordOf k)) (heldRows l) (heldRows after)
 
 abbrev pub GatesFollow : Type 0

@@ -66,3 +66,17 @@ LargePartsRefused =
     (l m : GeneratorList) (choice list : List ℕ) (counted r : ℕ) (choice′ list′ : List ℕ) (counted′ : ℕ) →
     Call (compareCall l m choice list counted choice′ list′ counted′) r → firstFitting (pairLines l m choice list) ≡ 0 →
     (r ≡ 3) ↔ (LargePart l ⊎ LargePart m)
+
+-- the two sentences of the call itself
+pub record DecidedByParts (l m : GeneratorList) (choice list : List ℕ) (r : ℕ) : Type 0 where
+  -- "equivalent states have the same parts"
+  pub same : r ≡ 0 → (q t : ℕ) → part l q t ≡ part m q t
+  -- "where the parts agree, a working choice exists exactly if each has one"
+  pub each : firstFitting (pairLines l m choice list) ≡ 0 → SmallParts l → SmallParts m →
+      ((q t : ℕ) → part l q t ≡ part m q t) →
+      (r ≡ 0) ↔ ((q : ℕ) → q < l .n → (c : ℕ → Clifford) × CarriesOn (l .n) (part l q) c (rows l) (rows m))
+
+abbrev pub ComparedByParts : Type 0
+ComparedByParts =
+    (l m : GeneratorList) (choice list : List ℕ) (counted r : ℕ) (choice′ list′ : List ℕ) (counted′ : ℕ) →
+    Call (compareCall l m choice list counted choice′ list′ counted′) r → DecidedByParts l m choice list r

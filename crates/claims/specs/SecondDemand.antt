@@ -19,9 +19,11 @@ ReductionKeepsGroup =
     (l : GeneratorList) (nb cs nb′ cs′ : List ℕ) → Call (reduceCall l nb cs nb′ cs′) 0 →
     SameGroup (l .n) (l .n) (rows l) (heldRows (record { n = l .n; neighbours = nb′; codes = cs′ }))
 
--- "expansion brings that group back": the list written is accepted, and has the record's group
+-- "expansion brings that group back": the list written is accepted, and has the record's group; "Expansion writes
+-- these n generators in order j"
 pub record BroughtBack (l : LentRecord) (back : GeneratorList) : Type 0 where
   pub accepted : firstFitting (checkLines back) ≡ 0
+  pub generators : (j : ℕ) → j < l .n → rows back j ≡ heldRows l j
   pub group : SameGroup (l .n) (l .n) (heldRows l) (rows back)
 
 abbrev pub ExpansionBringsBack : Type 0

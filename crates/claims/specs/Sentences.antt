@@ -1,5 +1,6 @@
--- What the demands say of each exported function, in one record: demand 1, and then the demands that speak of its
--- answer. The functions of the crate `sukhlent` that are named after these have them as contracts.
+-- What the documents say of each exported function, in one record: demand 1, which arguments it accepts, and then the
+-- sentences of the demands and of the requests that speak of its answer. The functions of the crate `sukhlent` that are
+-- named after these have them as contracts.
 -- Assumes nothing.
 use mathlib.Core.Bool.{false, _||_}
 use mathlib.Core.List.{List}
@@ -22,12 +23,29 @@ use Rattle.call_gates.specs.InPlaceCalls.{inPlaceCall, measureCall}
 use Rattle.stabilizer.specs.Groups.{SameGroup}
 use Rattle.stabilizer.specs.Lists.{GeneratorList, rows}
 use Rattle.words.specs.Bits.{Word}
-use Rattle.claims.specs.CutDemand.{rankAcross}
+use Rattle.claims.specs.AcceptedCalls.{
+  CompareFits,
+  ComplementFits,
+  CutFits,
+  CzFits,
+  ExpandFits,
+  GateFits,
+  GenerateFits,
+  ImageFits,
+  IsList,
+  MeasureFits,
+  PivotFits,
+  ProductFits,
+  ReduceFits,
+}
+use Rattle.claims.specs.CutDemand.{CutAnswer, rankAcross}
 use Rattle.claims.specs.FirstDemand.{Answered}
 use Rattle.claims.specs.GeneratorDemand.{Generated}
 use Rattle.claims.specs.ImageDemand.{ImageDecided}
+use Rattle.claims.specs.ListDemand.{Checked, ReducedTo}
 use Rattle.claims.specs.OperationsDemand.{Entangled, Gated, ImpossibleClick, MeasurementStands, RewrittenAs, left}
-use Rattle.claims.specs.PartsDemand.{LargePart, SmallParts}
+use Rattle.claims.specs.PartsDemand.{DecidedByParts, LargePart, SmallParts}
+use Rattle.claims.specs.ProductDemand.{ProductAnswer}
 use Rattle.claims.specs.SecondDemand.{BroughtBack}
 use Rattle.claims.specs.SessionDemand.{
   ByExpanding,
@@ -37,23 +55,29 @@ use Rattle.claims.specs.SessionDemand.{
   czChange,
   gateChange,
 }
-use Rattle.claims.specs.ThirdDemand.{Decided}
+use Rattle.claims.specs.ThirdDemand.{AcceptedPair, Decided}
 
 pub record CheckSays (l : GeneratorList) (r : ℕ) : Type 0 where
   pub answered : Answered (checkCall l) r
+  pub accepted : (r ≡ 0) ↔ IsList l
+  pub tells : Checked l r
 
 pub record ReduceSays (l : GeneratorList) (nb cs nb′ cs′ : List ℕ) (r : ℕ) : Type 0 where
   pub answered : Answered (reduceCall l nb cs nb′ cs′) r
+  pub accepted : (r ≡ 0) ↔ ReduceFits l nb cs
   pub group : r ≡ 0 →
       SameGroup (l .n) (l .n) (rows l) (heldRows (record { n = l .n; neighbours = nb′; codes = cs′ }))
+  pub form : r ≡ 0 → ReducedTo l (record { n = l .n; neighbours = nb′; codes = cs′ })
   pub codes : r ≡ 0 → (q : ℕ) → q < l .n → (i : ℕ) × (i < 6) × (getD cs′ q 0 ≡ 2 * i)
 
 pub record ExpandSays (l : LentRecord) (s z x s′ z′ x′ : List ℕ) (r : ℕ) : Type 0 where
   pub answered : Answered (expandCall l s z x s′ z′ x′) r
+  pub accepted : (r ≡ 0) ↔ ExpandFits l s z x
   pub group : r ≡ 0 → BroughtBack l (record { n = l .n; signs = s′; z = z′; x = x′ })
 
 pub record GateSays (l : LentRecord) (q k : ℕ) (nb′ cs′ : List ℕ) (r : ℕ) : Type 0 where
   pub answered : Answered (inPlaceCall l (gateWith q k) nb′ cs′) r
+  pub accepted : (r ≡ 0) ↔ GateFits l q k
   pub group : r ≡ 0 → Gated l q k (left l nb′ cs′)
   pub ranks : r ≡ 0 → (side : Word) → rankAcross side (left l nb′ cs′) ≡ rankAcross side l
   pub by-expanding : r ≡ 0 → ByExpanding l (gateChange (l .n) q k) nb′ cs′
@@ -61,6 +85,7 @@ pub record GateSays (l : LentRecord) (q k : ℕ) (nb′ cs′ : List ℕ) (r : �
 
 pub record CzSays (l : LentRecord) (a b : ℕ) (nb′ cs′ : List ℕ) (r : ℕ) : Type 0 where
   pub answered : Answered (inPlaceCall l (czOn a b) nb′ cs′) r
+  pub accepted : (r ≡ 0) ↔ CzFits l a b
   pub group : r ≡ 0 → Entangled l a b (left l nb′ cs′)
   pub ranks : r ≡ 0 → (side : Word) → side a ≡ side b → rankAcross side (left l nb′ cs′) ≡ rankAcross side l
   pub by-expanding : r ≡ 0 → ByExpanding l (czChange a b) nb′ cs′
@@ -68,17 +93,20 @@ pub record CzSays (l : LentRecord) (a b : ℕ) (nb′ cs′ : List ℕ) (r : ℕ
 
 pub record ComplementSays (l : LentRecord) (a : ℕ) (nb′ cs′ : List ℕ) (r : ℕ) : Type 0 where
   pub answered : Answered (inPlaceCall l (complementOf a) nb′ cs′) r
+  pub accepted : (r ≡ 0) ↔ ComplementFits l a
   pub group : r ≡ 0 → RewrittenAs l (left l nb′ cs′) (complementRecord (heldRecord l) a)
   pub ranks : r ≡ 0 → (side : Word) → rankAcross side (left l nb′ cs′) ≡ rankAcross side l
 
 pub record PivotSays (l : LentRecord) (j k : ℕ) (nb′ cs′ : List ℕ) (r : ℕ) : Type 0 where
   pub answered : Answered (inPlaceCall l (pivotOf j k) nb′ cs′) r
+  pub accepted : (r ≡ 0) ↔ PivotFits l j k
   pub group : r ≡ 0 → RewrittenAs l (left l nb′ cs′) (pivotRecord (heldRecord l) j k)
   pub ranks : r ≡ 0 → (side : Word) → rankAcross side (left l nb′ cs′) ≡ rankAcross side l
 
 pub record MeasureSays (l : LentRecord) (pauli q b answer determined : ℕ) (nb′ cs′ : List ℕ)
     (answer′ determined′ r : ℕ) : Type 0 where
   pub answered : Answered (measureCall l pauli q b answer determined nb′ cs′ answer′ determined′) r
+  pub accepted : (r ≡ 0) ↔ MeasureFits l pauli q b
   pub group : r ≡ 0 → MeasurementStands l pauli q b (left l nb′ cs′) answer′ determined′
   pub impossible : ImpossibleClick l pauli q b answer determined r nb′ cs′ answer′ determined′
   pub by-expanding : r ≡ 0 → MeasuredByExpanding l pauli q b nb′ cs′ answer′ determined′
@@ -87,22 +115,32 @@ pub record MeasureSays (l : LentRecord) (pauli q b answer determined : ℕ) (nb�
 pub record CompareSays (l m : GeneratorList) (choice list : List ℕ) (count : ℕ) (choice′ list′ : List ℕ)
     (count′ r : ℕ) : Type 0 where
   pub answered : Answered (compareCall l m choice list count choice′ list′ count′) r
-  pub large : firstFitting (pairLines l m choice list) ≡ 0 → (r ≡ 3) ↔ (LargePart l ⊎ LargePart m)
+  pub accepted : (r ≡ 0) ↔ CompareFits l m choice list
+  -- demand 3 word for word; and for n up to 64 where no part is larger than 20 (02, §9)
+  pub to-20 : AcceptedPair l m choice list → l .n ≤ 20 → Decided l m list r choice′ list′ count′
   pub decided : firstFitting (pairLines l m choice list) ≡ 0 → SmallParts l → SmallParts m →
       Decided l m list r choice′ list′ count′
+  pub large : firstFitting (pairLines l m choice list) ≡ 0 → (r ≡ 3) ↔ (LargePart l ⊎ LargePart m)
+  pub parts : DecidedByParts l m choice list r
 
 pub record ImageSays (l : LentRecord) (image signs list : List ℕ) (count : ℕ) (image′ signs′ list′ : List ℕ)
     (count′ r : ℕ) : Type 0 where
   pub answered : Answered (imageCall l image signs list count image′ signs′ list′ count′) r
+  pub accepted : (r ≡ 0) ↔ ImageFits l image signs list
   pub decided : firstFitting (recordLines l (otherThan (l .n) image
       || (otherThan (l .n) signs || otherThan 96 list)) false) ≡ 0 → ImageDecided l list r image′ signs′ list′ count′
 
 pub record CutSays (l : LentRecord) (side rank rank′ r : ℕ) : Type 0 where
   pub answered : Answered (cutCall l side rank rank′) r
+  pub accepted : (r ≡ 0) ↔ CutFits l side
+  pub answer : r ≡ 0 → CutAnswer l side rank′
 
 pub record ProductSays (l : GeneratorList) (chosen z x phase z′ x′ phase′ r : ℕ) : Type 0 where
   pub answered : Answered (productCall l chosen z x phase z′ x′ phase′) r
+  pub accepted : (r ≡ 0) ↔ ProductFits l chosen
+  pub answer : r ≡ 0 → ProductAnswer l chosen z′ x′ phase′
 
 pub record GenerateSays (n count seed : ℕ) (text : List ℕ) (size : ℕ) (text′ : List ℕ) (size′ r : ℕ) : Type 0 where
   pub answered : Answered (generateCall n count seed text size text′ size′) r
+  pub accepted : (r ≡ 0) ↔ GenerateFits n count seed text
   pub back : r ≡ 0 → Generated n count seed text text′ size′

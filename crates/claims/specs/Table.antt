@@ -1,5 +1,5 @@
--- Document 01's examples with a star, and those of the request on products: what the definitions give, beside what the
--- text says.
+-- Document 01's examples with a star, those of the request on products, and least choices on one qubit: what the
+-- definitions give, beside what the text says.
 -- Assumes nothing.
 use mathlib.Core.List.{_++_, List, [], map, _∷_}
 use Prim.Native.Nat.{ℕ}
@@ -7,6 +7,9 @@ use lib.ListN.{replicate}
 use Rattle.buffers.specs.Buffers.{tabulate}
 use Rattle.buffers.specs.Refusals.{firstFitting}
 use Rattle.clifford.specs.Clifford.{cliffordOf, codeOf, inverse, then}
+use Rattle.comparison.specs.Choices.{leastCode}
+use Rattle.comparison.specs.Compared.{compareLines}
+use Rattle.comparison_answer.specs.ComparedPairs.{compareList}
 use Rattle.image.specs.Image.{imageGraph, imageLines, imageMinus}
 use Rattle.image.specs.Rule.{imageList}
 use Rattle.record.specs.Lent.{LentRecord, codeNumbers, heldRecord, neighbourWords}
@@ -54,8 +57,18 @@ multiplies l chosen =
     firstFitting (productLines l chosen) ∷ wordOf (l .n) ((chosenProduct l chosen) .z)
     ∷ wordOf (l .n) ((chosenProduct l chosen) .x) ∷ exponent ((chosenProduct l chosen) .phase) ∷ []
 
+-- the number, the least choice and the complementation list of two lists
+abbrev compares : GeneratorList → GeneratorList → List ℕ
+compares l m =
+    firstFitting (compareLines l m (replicate (l .n) 0) (replicate 96 0))
+    ∷ (tabulate (l .n) (leastCode (l .n) (rows l) (rows m)) ++ compareList (l .n) (rows l) (rows m))
+
 abbrev list : ℕ → List ℕ → List ℕ → List ℕ → GeneratorList
 list n s z x = record { n = n; signs = s; z = z; x = x }
+
+-- one generator on one qubit
+abbrev one : ℕ → ℕ → ℕ → GeneratorList
+one s z x = list 1 (s ∷ []) (z ∷ []) (x ∷ [])
 
 abbrev graph : ℕ → List ℕ → List ℕ → LentRecord
 graph n neighbours codes = record { n = n; neighbours = neighbours; codes = codes }
@@ -83,6 +96,11 @@ table =
     ∷ example (multiplies (list 2 (0 ∷ 0 ∷ []) (0 ∷ 1 ∷ []) (1 ∷ 1 ∷ [])) 3) (0 ∷ 1 ∷ 0 ∷ 1 ∷ [])
     ∷ example (multiplies (list 2 (0 ∷ 0 ∷ []) (1 ∷ 0 ∷ []) (1 ∷ 1 ∷ [])) 3) (0 ∷ 1 ∷ 0 ∷ 3 ∷ [])
     ∷ example (multiplies (list 2 (0 ∷ 1 ∷ []) (0 ∷ 1 ∷ []) (1 ∷ 1 ∷ [])) 3) (0 ∷ 1 ∷ 0 ∷ 3 ∷ [])
+    -- least choices on one qubit: +Y to +X is 5, +X to +Y is 4; +Z to +Y is 12, with the list 0; +X to -X is 2
+    ∷ example (compares (one 0 1 1) (one 0 0 1)) (0 ∷ 5 ∷ [])
+    ∷ example (compares (one 0 0 1) (one 0 1 1)) (0 ∷ 4 ∷ [])
+    ∷ example (compares (one 0 1 0) (one 0 1 1)) (0 ∷ 12 ∷ 0 ∷ [])
+    ∷ example (compares (one 0 0 1) (one 1 0 1)) (0 ∷ 2 ∷ [])
     ∷ []
 
 abbrev pub given : List (List ℕ)

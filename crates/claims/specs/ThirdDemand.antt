@@ -79,3 +79,10 @@ abbrev pub NoLineHolds : Type 0
 NoLineHolds =
     (l m : GeneratorList) (choice list : List ℕ) → AcceptedPair l m choice list →
     firstFitting (pairLines l m choice list) ≡ 0
+
+-- demand 3 word for word, "n from 1 to 20": without a hypothesis on parts
+abbrev pub ThirdDemandTo20 : Type 0
+ThirdDemandTo20 =
+    (l m : GeneratorList) (choice list : List ℕ) (count r : ℕ) (choice′ list′ : List ℕ) (count′ : ℕ) →
+    Call (compareCall l m choice list count choice′ list′ count′) r → AcceptedPair l m choice list → l .n ≤ 20 →
+    Decided l m list r choice′ list′ count′

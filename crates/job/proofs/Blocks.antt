@@ -6,7 +6,7 @@ use Prim.Native.Nat.{ℕ}
 use Rattle.job_text.proofs.Feeding.{fed-append}
 use Rattle.job_text.specs.Scan.{empty, fed}
 use Rattle.job_text.specs.declared.scan.Reading.{Reading}
-use Rattle.job.specs.Answer.{ScannedJob}
+use Rattle.job.specs.Reads.{ScannedJob}
 
 -- nothing is read
 pub no-block : (r : Reading) → r ≡ empty → ScannedJob r

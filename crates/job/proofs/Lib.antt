@@ -1,4 +1,1 @@
 pub mod Blocks
-pub mod Starting
-pub mod Answering
-pub mod OneAnswer

@@ -1,45 +1,15 @@
-// Reads a job from standard input, to its end and in blocks, runs its steps, and prints what each answers and the
-// record after the last; or a refusal.
-use job_scan::judge;
+// Reads a job from standard input, to its end and in blocks, and prints the answer to it, which `reply` of job_reply
+// makes of what was scanned.
+use job_reply::reply;
 use job_scan::no_text;
 use job_scan::scan_block;
-use job_steps::run_steps;
 use job_text::scan::Reading;
-use jobs::Step;
 use libc::STDIN_FILENO;
 use libc::STDOUT_FILENO;
-use text_print::print_record;
-use text_print::print_refusal;
 ghost use Prim.Native.Nat.{_≤_};
-ghost use lib.ListN.{length, take};
-ghost use Rattle.text.specs.Text.{Printed};
-ghost use Rattle.job.specs.Answer.{Fresh, Responded, ScannedJob, answered, longest};
-
-// Runs the first steps of a job, and prints its answer.
-fn print_run(
-    n: usize,
-    neighbours: &mut [u64],
-    codes: &mut [u8],
-    count: usize,
-    steps: [Step; 4096],
-    out: &mut [u8],
-) -> usize
-    requires { ⌜ Fresh n (now neighbours) (now codes) count (now out) ⌝ }
-    ensures { λ r. ⌜ Printed (answered n (take count steps)) 0 (now (out .entry)) (now (out .exit)) r ⌝ }
-{
-    let at = run_steps(n as u64, neighbours, codes, count, steps, out);
-    print_record(n, neighbours, codes, at, out)
-}
-
-// Prints the answer to a job, whose steps stand at the start of the array.
-fn answer(n: usize, count: usize, steps: [Step; 4096], out: &mut [u8]) -> usize
-    requires { ⌜ (n ≤ 64) × (count ≤ 4096) × (longest ≤ length (now out)) ⌝ }
-    ensures { λ r. ⌜ Printed (answered n (take count steps)) 0 (now (out .entry)) (now (out .exit)) r ⌝ }
-{
-    let mut neighbours = [0u64; 64];
-    let mut codes = [8u8; 64];
-    print_run(n, &mut neighbours[..n], &mut codes[..n], count, steps, out)
-}
+ghost use lib.ListN.{length};
+ghost use Rattle.job_reply.specs.Room.{longest};
+ghost use Rattle.job.specs.Reads.{Responded, ScannedJob};
 
 // Reads standard input to its end, block after block.
 fn read_job() -> Reading
@@ -66,13 +36,7 @@ fn respond(out: &mut [u8]) -> usize
     ensures { λ r. ⌜ Responded (now (out .entry)) (now (out .exit)) r ⌝ }
 {
     let reading = read_job();
-    let scan = reading.scan;
-    let number = judge(scan);
-    if number != 0 {
-        return print_refusal(number, out);
-    }
-    let steps = reading.steps;
-    answer(scan.n as usize, scan.count, steps, out)
+    reply(reading, out)
 }
 
 fn main() {

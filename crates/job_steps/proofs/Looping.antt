@@ -7,6 +7,7 @@ use native.Mathlib.Nat.{add-zero}
 use native.Mathlib.Omega.{arith}
 use lib.ListN.{getD, length, take}
 use lib.Seq.{getD-take, length-take-le, take-all}
+use Rattle.job_text.specs.Answer.{noAnswer, resultOf, resultsOf}
 use Rattle.job_text.proofs.ResultLaws.{length-results, results-more}
 use Rattle.job_text.specs.Results.{resultLine, resultLines, resultNames}
 use Rattle.jobs.proofs.Printing.{outcome-small, refusal-small}
@@ -18,7 +19,7 @@ use Rattle.jobs_run.specs.StepRuns.{StepRun}
 use Rattle.record.specs.Lent.{LentRecord}
 use Rattle.text.proofs.Writing.{and-then, length-written, write-none}
 use Rattle.text.specs.Text.{Printed}
-use Rattle.job_steps.specs.StepsRun.{StepsRun, linesRoom, noAnswer, resultOf, resultsOf}
+use Rattle.job_steps.specs.StepsRun.{StepsRun, linesRoom}
 
 -- after k of the steps, with their lines printed from a place on
 pub record Upto (l : LentRecord) (steps : List Step) (from : ℕ) (before : List ℕ) (k : ℕ) (nb cs out : List ℕ)

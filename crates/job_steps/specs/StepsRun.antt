@@ -3,23 +3,13 @@
 use mathlib.Core.List.{List, _++_}
 use mathlib.Core.Path.{_≡_}
 use Prim.Native.Nat.{_*_, _+_, ℕ}
-use lib.ListN.{getD, length}
-use Rattle.job_text.specs.Results.{Result, resultLines, resultNames}
-use Rattle.jobs.specs.Runs.{answers, run}
-use Rattle.jobs.specs.declared.Answer.{Answer}
+use lib.ListN.{length}
+use Rattle.job_text.specs.Answer.{resultsOf}
+use Rattle.job_text.specs.Results.{resultLines, resultNames}
+use Rattle.jobs.specs.Runs.{run}
 use Rattle.jobs.specs.declared.Step.{Step}
 use Rattle.record.specs.Lent.{LentRecord}
 use Rattle.text.specs.Text.{Printed}
-
--- what is printed of step k of a run
-abbrev pub noAnswer : Answer
-noAnswer = record { refusal = 0; outcome = 0; determined = 0 }
-
-abbrev pub resultOf : Answer → Result
-resultOf r = record { refusal = r .refusal; outcome = r .outcome; determined = r .determined }
-
-abbrev pub resultsOf : LentRecord → List Step → ℕ → Result
-resultsOf l steps k = resultOf (getD (answers l steps) k noAnswer)
 
 -- room for the names and 4,096 lines
 abbrev pub linesRoom : ℕ

@@ -12,5 +12,6 @@ pub mod KeptLaws
 pub mod Accepted
 pub mod ReadBack
 pub mod Unique
+pub mod TextAnswers
 pub mod ResultLaws
 pub mod Examples

@@ -1,4 +1,5 @@
 pub mod Text
 pub mod Lines
 pub mod Results
+pub mod Answer
 pub mod Scan

@@ -27,6 +27,7 @@ mod pair_refusals;
 mod product_refusals;
 mod products;
 mod program;
+mod program_input;
 mod record_refusals;
 mod rewriting;
 mod rust_example;

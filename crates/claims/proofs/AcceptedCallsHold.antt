@@ -1,0 +1,175 @@
+-- Each call is accepted exactly if its arguments fit, from the contracts.
+-- Assumes nothing.
+use mathlib.Core.Bool.{Bool, false, _||_}
+use mathlib.Core.List.{List}
+use mathlib.Core.Logic.{Iff·trans, inl, inr, _↔_}
+use mathlib.Core.Path.{_≡_, _∙_, refl, sym}
+use Prim.Native.Nat.{ℕ}
+use native.Mathlib.Omega.{arith}
+use borrow.Author.Tests.{eqb-false, le-ltb, ltb-false, ne-eqb}
+use Rattle.buffers.proofs.Lines.{none-of-all, not-held}
+use Rattle.buffers.specs.Refusals.{firstFitting, otherThan}
+use Rattle.call_compare.proofs.PairLines.{pair-numbered}
+use Rattle.call_compare.specs.Comparisons.{compareCall}
+use Rattle.comparison.specs.Compared.{largePart, pairLines}
+use Rattle.contracts.proofs.Fitting.{none-fits-of, none-holds}
+use Rattle.contracts.specs.Calls.{Call, Contract}
+use Rattle.call_cut.proofs.CutLines.{accepted-cut, side-good}
+use Rattle.call_cut.specs.Cuts.{cutLines}
+use Rattle.generator.specs.Lines.{generateLines, room}
+use Rattle.image.proofs.Accepted.{image-unsigned}
+use Rattle.image.specs.Image.{loopLines}
+use Rattle.call_image.specs.Images.{imageCall}
+use Rattle.call_product.proofs.ProductLines.{accepted-rows, word-good}
+use Rattle.call_product.specs.Products.{productLines}
+use Rattle.record.proofs.RecordLines.{record-numbered}
+use Rattle.record.specs.Lent.{LentRecord, heldRecord, recordLines}
+use Rattle.stabilizer.proofs.SharedTests.{count-passes, counted, has-length, length-passes}
+use Rattle.stabilizer.specs.Lists.{GeneratorList, listStray}
+use Rattle.words.proofs.Flags.{neither}
+use Rattle.claims.proofs.AcceptedPairs.{accepted-pair, no-line-holds}
+use Rattle.claims.proofs.ImageDemandHolds.{images-follow}
+use Rattle.claims.proofs.InPlaceExactly.{complement-lines, cz-lines, gate-lines, measure-lines, pivot-lines}
+use Rattle.claims.proofs.LinesExactly.{below-exactly, formed-rows, list-exactly, more-exactly, record-exactly, rows-pass, three-fit, two-fit}
+use Rattle.claims.proofs.PartsDemandHolds.{small-parts}
+use Rattle.claims.proofs.ThirdDemandHolds.{third-demand}
+use Rattle.claims.specs.AcceptedCalls.{AcceptedExactly, CompareFits, CutFits, GenerateFits, ImageFits, ProductFits}
+
+-- a call answers 0 exactly if no line holds
+by-lines : {c : Contract} {r : ℕ} → Call c r → (r ≡ 0) ↔ (firstFitting (c .lines) ≡ 0)
+by-lines C = ((λ z. sym (C .number) ∙ z), λ e. C .number ∙ e)
+
+-- ---- cuts and products
+cut-lines : (l : LentRecord) (side : ℕ) → (firstFitting (cutLines l side) ≡ 0) ↔ CutFits l side
+cut-lines l side = (
+  (λ e. let A = accepted-cut l side e in (A .held, A .below)),
+  (λ h. sym (side-good l side 0 (sym (record-exactly l false false .1 (h .0, refl, refl)))
+      (below-exactly _ side .1 (h .1)))),
+)
+
+product-lines : (l : GeneratorList) (chosen : ℕ) → (firstFitting (productLines l chosen) ≡ 0) ↔ ProductFits l chosen
+product-lines l chosen = (
+  (λ e. (
+    formed-rows l (accepted-rows l chosen e),
+    below-exactly _ chosen .0 (neither (listStray l) _ (none-holds (productLines l chosen) refl e .1 .1 .0) .1),
+  )),
+  (λ h. sym (word-good l chosen 0 (sym (rows-pass l (h .0))) (below-exactly _ chosen .1 (h .1)))),
+)
+
+-- ---- images
+module _ (l : LentRecord) (image signs list : List ℕ) (count : ℕ) (image′ signs′ list′ : List ℕ) (count′ r : ℕ)
+    (C : Call (imageCall l image signs list count image′ signs′ list′ count′) r) where
+  abbrev others : Bool
+  others = otherThan (l .n) image || (otherThan (l .n) signs || otherThan 96 list)
+
+  image-exactly : (r ≡ 0) ↔ ImageFits l image signs list
+  image-exactly = (
+    (λ z. let p = more-exactly (recordLines l others false) (loopLines (l .n) (heldRecord l))
+        (record-numbered l others false) .0 (sym (C .number) ∙ z) in
+        let h = record-exactly l others false .0 (p .0) in
+        let f = three-fit (l .n) (l .n) 96 image signs list .0 (h .1) in
+        let k = none-holds (loopLines (l .n) (heldRecord l)) refl (p .1) in
+        record {
+          held = h .0;
+          image-places = f .0;
+          signs-places = f .1;
+          list-places = f .2;
+          is-graph = image-unsigned (l .n) (heldRecord l) (h .0 .simple) (k .0) (k .1 .0);
+        }),
+    (λ F. let D = images-follow l image signs list count r image′ signs′ list′ count′ C
+        (record-exactly l others false .1 (
+          F .held,
+          three-fit (l .n) (l .n) 96 image signs list .1 (F .image-places, F .signs-places, F .list-places),
+          refl,
+        )) in
+        D .otherwise (λ e. D .exactly .0 (inl e) (F .is-graph)) (λ e. D .exactly .0 (inr e) (F .is-graph)) .0),
+  )
+
+-- ---- comparisons
+module _ (l m : GeneratorList) (choice list : List ℕ) (count : ℕ) (choice′ list′ : List ℕ) (count′ r : ℕ)
+    (C : Call (compareCall l m choice list count choice′ list′ count′) r) where
+  compare-exactly : (r ≡ 0) ↔ CompareFits l m choice list
+  compare-exactly = (
+    (λ z. let p = none-of-all (pairLines l m choice list) _ (pair-numbered l m choice list) (sym (C .number) ∙ z) in
+        let A = accepted-pair l m choice list (p .0) in
+        let small = neither (largePart l) (largePart m) (not-held 2 _ _ (p .1) .0) in
+        let S = small-parts l (small .0) in
+        let T = small-parts m (small .1) in
+        let back = third-demand l m choice list count r choice′ list′ count′ C (p .0) S T .otherwise
+        (λ e. differ z e) .1 in
+        record {
+          first = list-exactly l false .0 (A .first) .0;
+          second = list-exactly m false .0 (A .second) .0;
+          same-count = A .same-count;
+          choice-places = A .choice-places;
+          list-places = A .list-places;
+          small-first = S;
+          small-second = T;
+          equivalent = (_, back .least .among);
+        }),
+    (λ F. let D = third-demand l m choice list count r choice′ list′ count′ C
+        (no-line-holds l m choice list (record {
+          first = list-exactly l false .1 (F .first, refl);
+          second = list-exactly m false .1 (F .second, refl);
+          same-count = F .same-count;
+          choice-places = F .choice-places;
+          list-places = F .list-places;
+        })) (F .small-first) (F .small-second) in
+        D .otherwise (λ e. D .exactly .0 e (F .equivalent .0) (F .equivalent .1)) .0),
+  )
+    where
+      differ : {k : ℕ} → k ≡ 0 → k ≡ 13 → ⊥
+      differ e f = omega (arith, e, f)
+
+-- ---- the generator
+generate-lines : (n count seed : ℕ) (text : List ℕ) →
+    (firstFitting (generateLines n count seed text) ≡ 0) ↔ GenerateFits n count seed text
+generate-lines n count seed text = (
+  (λ e. let h = none-holds (generateLines n count seed text) refl e in
+      let between = counted n (h .1 .0) in
+      record {
+        few = ltb-false 4096 count (h .0);
+        positive = between .0;
+        upto = between .1;
+        places = has-length room text (h .1 .1 .0);
+        seeded = eqb-false seed 0 (h .1 .1 .1 .0);
+      }),
+  (λ F. none-fits-of (generateLines n count seed text) (
+    le-ltb 4096 count (F .few),
+    (
+      count-passes n (F .positive) (F .upto),
+      (length-passes room text (F .places), (ne-eqb seed 0 (F .seeded), tt)),
+    ),
+  )),
+)
+
+pub accepted-exactly : AcceptedExactly
+accepted-exactly =
+    record {
+      check = λ l r C. (
+        (λ z. list-exactly l false .0 (by-lines C .0 z) .0),
+        (λ L. by-lines C .1 (list-exactly l false .1 (L, refl))),
+      );
+      reduce = λ l nb cs nb′ cs′ r C. (
+        (λ z. let h = list-exactly l _ .0 (by-lines C .0 z) in
+            let f = two-fit (l .n) (l .n) nb cs .0 (h .1) in (h .0, f .0, f .1)),
+        (λ F. by-lines C .1 (list-exactly l _ .1 (F .0, two-fit (l .n) (l .n) nb cs .1 (F .1, F .2)))),
+      );
+      expand = λ l s z x s′ z′ x′ r C. (
+        (λ e. let h = record-exactly l _ false .0 (by-lines C .0 e) in
+            let f = three-fit (l .n) (l .n) (l .n) s z x .0 (h .1) in (h .0, f .0, f .1, f .2)),
+        (λ F. by-lines C .1 (record-exactly l _ false .1
+            (F .0, three-fit (l .n) (l .n) (l .n) s z x .1 (F .1, F .2, F .3), refl))),
+      );
+      gate = λ l q k nb′ cs′ r C. Iff·trans (by-lines C) (gate-lines l q k);
+      cz = λ l a b nb′ cs′ r C. Iff·trans (by-lines C) (cz-lines l a b);
+      measure = λ l pauli q b answer determined nb′ cs′ answer′ determined′ r C.
+          Iff·trans (by-lines C) (measure-lines l pauli q b);
+      complement = λ l a nb′ cs′ r C. Iff·trans (by-lines C) (complement-lines l a);
+      pivot = λ l j k nb′ cs′ r C. Iff·trans (by-lines C) (pivot-lines l j k);
+      image = image-exactly;
+      cut = λ l side rank rank′ r C. Iff·trans (by-lines C) (cut-lines l side);
+      product = λ l chosen z x phase z′ x′ phase′ r C. Iff·trans (by-lines C) (product-lines l chosen);
+      compare = compare-exactly;
+      generate = λ n count seed text size text′ size′ r C. Iff·trans (by-lines C) (generate-lines n count seed text);
+    }

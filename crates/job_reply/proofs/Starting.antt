@@ -1,0 +1,91 @@
+-- The run of a job from its start, and the print of it.
+-- Assumes nothing.
+use mathlib.Core.List.{List, _++_, _∷_}
+use mathlib.Core.Path.{_∙_, _≡_, ap, ap₂, refl, subst, sym}
+use Prim.Native.Nat.{_*_, _+_, _<_, _≤_, suc, zero, ℕ}
+use native.Mathlib.Nat.{le-of-suc-le-suc, not-suc-le-zero}
+use native.Mathlib.Omega.{arith}
+use lib.ListN.{getD, length, length-append, replicate, take}
+use lib.Seq.{length-take-le}
+use Rattle.job_text.proofs.ResultLaws.{length-results}
+use Rattle.job_text.specs.Answer.{answered, resultsOf}
+use Rattle.job_text.specs.Results.{jobAnswer, resultLines, resultNames}
+use Rattle.jobs.proofs.Printing.{run-sized, started-sized}
+use Rattle.jobs.specs.Runs.{started}
+use Rattle.jobs.specs.declared.Step.{Step}
+use Rattle.record.specs.Lent.{LentRecord}
+use Rattle.text.proofs.Writing.{and-then, length-written}
+use Rattle.text.specs.Text.{Printable, Printed, recordText}
+use Rattle.job_steps.specs.StepsRun.{StepsRun}
+use Rattle.job_reply.specs.Room.{Fresh, longest}
+
+-- the first n places of a buffer of equal numbers
+pub repeated-part : (n m v : ℕ) → n ≤ m → take n (replicate m v) ≡ replicate n v
+repeated-part zero m v h = refl
+repeated-part (suc n) zero v h = absurd (not-suc-le-zero h)
+repeated-part (suc n) (suc m) v h = ap (λ t. v ∷ t) (repeated-part n m v (le-of-suc-le-suc h))
+
+-- the first steps of the array
+pub all-taken : (count : ℕ) (array : List Step) → count ≤ 4096 → length array ≡ 4096
+    → length (take count array) ≡ count
+all-taken count array few long = length-take-le count array (omega arith)
+
+-- buffers of 64 places hold the record that a job starts from
+pub fresh : (n count : ℕ) (out : List ℕ) → n ≤ 64 → count ≤ 4096 → longest ≤ length out
+    → Fresh n (take n (replicate 64 0)) (take n (replicate 64 8)) count out
+fresh n count out upto few room =
+    record {
+      upto = upto;
+      no-edge = repeated-part n 64 0 upto;
+      eights = repeated-part n 64 8 upto;
+      few = few;
+      room = room;
+    }
+
+module _ (n : ℕ) (nb cs : List ℕ) (count : ℕ) (steps : List Step) (few : length steps ≡ count) (before : List ℕ)
+    (F : Fresh n nb cs count before) (nb′ cs′ out : List ℕ) (at : ℕ)
+    (R : StepsRun (record { n = n; neighbours = nb; codes = cs }) steps nb′ cs′ before out at) where
+  -- the record at the start
+  start : _≡_ {A = LentRecord} (record { n = n; neighbours = nb; codes = cs }) (started n)
+  start = λ i. record { n = n; neighbours = F .no-edge i; codes = F .eights i }
+
+  ran : StepsRun (started n) steps nb′ cs′ before out at
+  ran = subst (λ l. StepsRun l steps nb′ cs′ before out at) start R
+
+  abbrev lines : List ℕ
+  lines = resultNames ++ resultLines (length steps) (resultsOf (started n) steps)
+
+  short : length lines ≤ 32 + 4096 * 14
+  short = omega (
+    arith,
+    length-append resultNames (resultLines (length steps) (resultsOf (started n) steps)),
+    length-results (length steps) (resultsOf (started n) steps),
+    F .few,
+    few,
+  )
+
+  -- the record can be printed behind the lines
+  pub record-printable : Printable n nb′ cs′ at out
+  record-printable =
+      let S = run-sized n (started n) (started-sized n) steps in
+      record {
+        qubits = F .upto;
+        neighbours-long = omega (arith, ap length (ran .words), S .neighbours-long);
+        codes-long = omega (arith, ap length (ran .numbers), S .codes-long);
+        codes-small = λ q h. subst (λ c. getD c q 0 < 24) (sym (ran .numbers)) (S .codes-small q h);
+        room = omega (
+          arith,
+          short,
+          F .upto,
+          F .room,
+          ran .out .end,
+          ap length (ran .out .out) ∙ length-written before 0 lines (omega (arith, short, F .room)),
+        );
+      }
+
+  pub all-printed : (out′ : List ℕ) (r : ℕ) → Printed (recordText n nb′ cs′) at out out′ r
+      → Printed (answered n steps) 0 before out′ r
+  unfolding jobAnswer
+  all-printed out′ r P =
+      and-then (omega (arith, short, F .room)) (ran .out)
+      (subst (λ t. Printed t at out out′ r) (ap₂ (recordText n) (ran .words) (ran .numbers)) P)

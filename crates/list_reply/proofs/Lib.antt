@@ -1,0 +1,4 @@
+pub mod Answering
+pub mod ListPlaces
+pub mod ReadTexts
+pub mod OneAnswer

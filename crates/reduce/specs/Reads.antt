@@ -1,0 +1,14 @@
+-- What the program promises of the text that it reads. No contract can name what a read brings, so the text is some
+-- list of bytes.
+-- Assumes nothing.
+use mathlib.Core.List.{List}
+use Prim.Native.Nat.{ℕ}
+use lib.ListN.{take}
+use Rattle.claims.specs.ProgramDemand.{ListTextAnswered}
+use Rattle.list_reply.specs.Answer.{ResponseTo}
+
+-- a text was read, and its answer printed; the bytes up to there say of the text what the demands say
+pub record Responded (before after : List ℕ) (r : ℕ) : Type 0 where
+  pub text : List ℕ
+  pub response : ResponseTo text before after r
+  pub answered : ListTextAnswered text (take r after)
