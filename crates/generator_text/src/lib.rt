@@ -1,6 +1,6 @@
 // The text of the job that is drawn, in a lent buffer.
-use generator_steps::draw;
-use generator_steps::drawn_step;
+use generator::draw;
+use generator::drawn_step;
 use jobs::Op;
 use jobs::Step;
 use text_print::put;

@@ -16,7 +16,7 @@ use Rattle.jobs.specs.declared.Step.{Step}
 use Rattle.record.specs.Lent.{LentRecord}
 use Rattle.text.proofs.Writing.{and-then, length-written}
 use Rattle.text.specs.Text.{Printable, Printed, recordText}
-use Rattle.job_steps.specs.StepsRun.{StepsRun}
+use Rattle.jobs_run.specs.StepsRun.{StepsRun}
 use Rattle.job_reply.specs.Room.{Fresh, longest}
 
 -- the first n places of a buffer of equal numbers

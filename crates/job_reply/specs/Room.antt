@@ -4,7 +4,7 @@ use mathlib.Core.List.{List}
 use mathlib.Core.Path.{_≡_}
 use Prim.Native.Nat.{_*_, _+_, ℕ, _≤_}
 use lib.ListN.{length, replicate}
-use Rattle.job_steps.specs.StepsRun.{linesRoom}
+use Rattle.jobs_run.specs.StepsRun.{linesRoom}
 
 -- room for every answer: the names, 4,096 lines and the record of 64 qubits
 abbrev pub longest : ℕ

@@ -1,9 +1,9 @@
 // Answers the text of a job that was scanned: runs its steps, and prints what each answers and the record after the
 // last; or a refusal.
 use job_scan::judge;
-use job_steps::run_steps;
 use job_text::scan::Reading;
 use jobs::Step;
+use jobs_run::run_steps;
 use text_print::print_record;
 use text_print::print_refusal;
 ghost use mathlib.Core.List.{List};

@@ -1,6 +1,9 @@
 // Gates and CZ on a record in its buffers.
-use graph_joins::cz_reduced;
+mod joins;
+
+use crate::joins::cz_reduced;
 use graph_settling::normalise;
+pub use joins::where_true;
 use operations::compose;
 ghost use mathlib.Core.Logic.{_≢_};
 ghost use mathlib.Core.Path.{_≡_};

@@ -1,7 +1,9 @@
 // Measurements on a record in its buffers.
+mod isolation;
+
+use crate::isolation::cut_off;
+use crate::isolation::face_z;
 use clifford::Code;
-use graph_cuts::cut_off;
-use graph_cuts::face_z;
 use graph_settling::normalise;
 use operations::Outcome;
 use pauli::Letter;

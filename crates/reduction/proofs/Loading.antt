@@ -23,8 +23,8 @@ use Rattle.words.proofs.BitLaws.{zero-bit}
 use Rattle.words.proofs.Places.{other-place}
 use Rattle.words.proofs.Sums.{lt-or-ge}
 use Rattle.words.specs.Bits.{bit, isOdd, _⊕_}
-use Rattle.reduction_passes.proofs.Storing.{stored-elsewhere, stored-here, stored-long}
-use Rattle.reduction_passes.specs.Passes.{Loaded}
+use Rattle.reduction.proofs.Storing.{stored-elsewhere, stored-here, stored-long}
+use Rattle.reduction.specs.Passes.{Loaded}
 use Rattle.reduction.specs.Reducible.{Reducible}
 
 abbrev blankRow : List ℕ

@@ -1,7 +1,10 @@
 // Reduction by value on an array of 64 rows of two words, z and x, beside one word of signs.
-use reduction_passes::pass;
-use reduction_passes::rotate;
-use reduction_record::write_record;
+mod passes;
+mod reading_off;
+
+use crate::passes::pass;
+use crate::passes::rotate;
+use crate::reading_off::write_record;
 use words::flip_where;
 use words::mask;
 ghost use mathlib.Core.Bool.{cond, not};
@@ -11,7 +14,7 @@ ghost use lib.ListN.{length};
 ghost use Rattle.record.specs.Lent.{codeNumbers, neighbourWords};
 ghost use Rattle.record.specs.Reduced.{reduced};
 ghost use Rattle.reduction.specs.Reducible.{Reducible};
-ghost use Rattle.reduction_passes.specs.Passes.{Loaded};
+ghost use Rattle.reduction.specs.Passes.{Loaded};
 ghost use Rattle.stabilizer.specs.Lists.{dependent, rows};
 ghost use Rattle.stabilizer.specs.Tableau.{tableau};
 
