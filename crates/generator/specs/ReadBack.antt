@@ -5,7 +5,9 @@ use mathlib.Core.List.{List}
 use Prim.Native.Nat.{ℕ}
 use lib.ListN.{length, take}
 use Rattle.jobs.specs.declared.Step.{Step}
-use Rattle.job_text.specs.Scan.{empty, fed, verdict}
+use Rattle.buffers.specs.Refusals.{firstFitting}
+use Rattle.job_text.specs.Lines.{jobLines}
+use Rattle.job_text.specs.Scan.{verdict}
 use Rattle.job_text.specs.Text.{JobTextOf}
 use Rattle.job_text.specs.declared.scan.Reading.{Reading}
 
@@ -16,8 +18,8 @@ pub record Scanned (n : ℕ) (steps : List Step) (w : Reading) : Type 0 where
   pub count : w .scan .count ≡ length steps
   pub kept : take (length steps) (w .steps) ≡ steps
 
--- the text has the form, for this job and no other, and the scan of it keeps exactly this job
+-- "must read back as the steps drawn": the text is that of this job and of no other, and no line of a job text refuses it
 pub record ReadsBack (n : ℕ) (steps : List Step) (t : List ℕ) : Type 0 where
   pub job : JobTextOf n steps t
   pub only : (m : ℕ) (others : List Step) → JobTextOf m others t → (m ≡ n) × (others ≡ steps)
-  pub scan : Scanned n steps (fed empty t)
+  pub accepted : firstFitting (jobLines n (length steps)) ≡ 0

@@ -16,7 +16,7 @@ use Rattle.job_text.proofs.KeptLaws.{count-few, steps-few, text-number}
 use Rattle.job_text.proofs.Verdict.{empty-judged}
 
 -- no line holds of a job on 1 to 64 qubits with at most 4,096 steps
-lines-pass : (n count : ℕ) → 1 ≤ n → n ≤ 64 → count ≤ 4096 → firstFitting (jobLines n count) ≡ 0
+pub lines-pass : (n count : ℕ) → 1 ≤ n → n ≤ 64 → count ≤ 4096 → firstFitting (jobLines n count) ≡ 0
 unfolding firstFitting
 lines-pass n count some upto few =
     simp (le-ltb 4096 count few, ne-eqb n 0 (λ e. omega arith), le-ltb 64 n upto)
