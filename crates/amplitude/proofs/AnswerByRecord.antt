@@ -4,7 +4,7 @@ use mathlib.Core.Bool.{Bool, cond, false, true}
 use mathlib.Core.Path.{_∙_, _≡_, ap, refl, sym}
 use Prim.Native.Nat.{ℕ}
 use Rattle.graph.specs.Graph.{Simple}
-use Rattle.graph_steps.specs.ReducedForms.{ReducedForm}
+use Rattle.graph_steps.specs.internal.ReducedForms.{ReducedForm}
 use Rattle.pauli.proofs.PhaseLaws.{+ᵖ-assoc, +ᵖ-zero}
 use Rattle.pauli.specs.Pauli.{_+ᵖ_, Pauli, Phase, exponent, i¹, i², i³, i⁰}
 use Rattle.record.proofs.ReducedRecords.{record-proper, reduced-is}
@@ -18,8 +18,8 @@ use Rattle.amplitude.proofs.CountedWords.{support-fits}
 use Rattle.amplitude.proofs.FormOfReduced.{form-of-reduced}
 use Rattle.amplitude.proofs.KeptRatios.{ratio-by-turns}
 use Rattle.amplitude.proofs.LowestOfRecord.{lowest-of-record}
-use Rattle.amplitude.specs.ByRecord.{over, recordAnswer}
-use Rattle.amplitude.specs.KeptTurns.{fitsAt, keptTurns}
+use Rattle.amplitude.specs.internal.ByRecord.{over, recordAnswer}
+use Rattle.amplitude.specs.internal.KeptTurns.{fitsAt, keptTurns}
 use Rattle.amplitude.specs.Plotting.{turned}
 use Rattle.amplitude.specs.Ratios.{amplitudeOf, lowest, ratio, supported}
 use Rattle.amplitude.specs.declared.Amplitude.{Amplitude}

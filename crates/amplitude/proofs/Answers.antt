@@ -16,7 +16,8 @@ use Rattle.amplitude.proofs.Support.{supported-exactly, supported-of-gr
 use Rattle.amplitude.specs.Plotting.{floatOf, halves, nought, plotted, turned}
 use Rattle.amplitude.specs.Ratios.{Leads, chosenBy, leading, lowest, ratio, supported}
 use Rattle.amplitude.specs.Turns.{turnsAt}
-use Rattle.amplitude.specs.Vectors.{OfGroup, PlotsVector, none, one, turnBy}
+use Rattle.amplitude.specs.internal.Vectors.{OfGroup}
+use Rattle.amplitude.specs.Vectors.{PlotsVector, none, one, turnBy}
 use Rattle.amplitude.specs.declared.Amplitude.{Amplitude}
 use Rattle.amplitude.specs.declared.Amplitude.the-variants.{Imag, Nothing, Real}
 

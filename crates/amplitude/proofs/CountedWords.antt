@@ -12,7 +12,7 @@ use Rattle.clifford.specs.Clifford.{bitC}
 use Rattle.cut.proofs.Counting.{count-add, count-ext}
 use Rattle.cut.specs.Kernel.{count}
 use Rattle.graph.specs.Graph.{Simple}
-use Rattle.graph_steps.specs.ReducedForms.{ReducedForm}
+use Rattle.graph_steps.specs.internal.ReducedForms.{ReducedForm}
 use Rattle.pauli.specs.Pauli.{Pauli}
 use Rattle.record.proofs.ColumnLaws.{column-dependent}
 use Rattle.record.proofs.ReducedRecords.{record-proper, reduced-is}
@@ -31,7 +31,7 @@ use Rattle.amplitude.proofs.Answers.{of-group}
 use Rattle.amplitude.proofs.FormOfReduced.{code-c-of, form-of-reduced}
 use Rattle.amplitude.proofs.FormWords.{Solves, solves-supported, supported-solves}
 use Rattle.amplitude.proofs.Support.{supported-exactly}
-use Rattle.amplitude.specs.KeptTurns.{fitsAt}
+use Rattle.amplitude.specs.internal.KeptTurns.{fitsAt}
 use Rattle.amplitude.specs.Ratios.{supported}
 use Rattle.amplitude.specs.Vectors.{WordsCount}
 

@@ -4,7 +4,7 @@
 use mathlib.Core.Bool.{true}
 use mathlib.Core.Path.{_∙_, _≡_, ap, refl, sym}
 use Prim.Native.Nat.{_^_, ℕ}
-use Rattle.graph_steps.specs.ReducedForms.{ReducedForm}
+use Rattle.graph_steps.specs.internal.ReducedForms.{ReducedForm}
 use Rattle.pauli.specs.Pauli.{Pauli}
 use Rattle.record.proofs.ReducedRecords.{reduced-is}
 use Rattle.record.specs.Records.{GraphRecord, rowsOf}
@@ -19,7 +19,8 @@ use Rattle.words.specs.Search.{IsFirst, every, first}
 use Rattle.amplitude.proofs.FormOfReduced.{form-of-reduced}
 use Rattle.amplitude.proofs.FormWords.{between, first-solves, first-word, leads-between, Solves, solves-supported, supported-solves}
 use Rattle.amplitude.proofs.Support.{named, supported-exactly, supported-ext, supported-of-group, turns-agree}
-use Rattle.amplitude.specs.Ratios.{Leads, Supported, chosenBy, leading, lowest, ratio, supported}
+use Rattle.amplitude.specs.Ratios.{Leads, chosenBy, leading, lowest, ratio, supported}
+use Rattle.amplitude.specs.internal.Ratios.{Supported}
 use Rattle.amplitude.specs.Turns.{turnsAt}
 
 module _ (n : ℕ) (R : ℕ → Pauli) (P : Proper n R) where

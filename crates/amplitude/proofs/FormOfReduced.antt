@@ -11,7 +11,7 @@ use native.Mathlib.Omega.{arith}
 use lib.Dec.{eqb}
 use Rattle.clifford.specs.Clifford.{bitC, image}
 use Rattle.clifford.specs.Vectors.{act}
-use Rattle.graph_steps.specs.ReducedForms.{ReducedForm}
+use Rattle.graph_steps.specs.internal.ReducedForms.{ReducedForm}
 use Rattle.pauli.specs.Pauli.{Pauli, letter, xBit}
 use Rattle.record.proofs.ColumnLaws.{element-dependent}
 use Rattle.record.proofs.ReducedCodes.{reduced-codes-among}

@@ -10,7 +10,7 @@ use lib.Dec.{eqb}
 use Rattle.clifford.specs.Clifford.{bitC}
 use Rattle.graph.specs.Graph.{Simple}
 use Rattle.graph_steps.proofs.ReducedForms.{apart, form-x}
-use Rattle.graph_steps.specs.ReducedForms.{ReducedForm}
+use Rattle.graph_steps.specs.internal.ReducedForms.{ReducedForm}
 use Rattle.pauli.proofs.PhaseLaws.{minus-injective, minus-⊕}
 use Rattle.pauli.specs.Pauli.{_+ᵖ_, Pauli, i⁰, minus}
 use Rattle.record.specs.Records.{GraphRecord, rowsOf}
@@ -24,7 +24,8 @@ use Rattle.words.specs.Bits.{Word, _⊕_, fold, parity}
 use Rattle.amplitude.proofs.FormRows.{diagonal-turns, rotated-diagonal, rotated-phase, rotated-z}
 use Rattle.amplitude.proofs.Support.{turns-ext, turns-identity}
 use Rattle.amplitude.proofs.TurnLaws.{turns-mul}
-use Rattle.amplitude.specs.Ratios.{Diagonal, Leads, Supported}
+use Rattle.amplitude.specs.internal.Ratios.{Diagonal, Supported}
+use Rattle.amplitude.specs.Ratios.{Leads}
 use Rattle.amplitude.specs.Turns.{turnsAt}
 
 -- three bits with sum 0

@@ -6,7 +6,7 @@ use Prim.Native.Nat.{ℕ}
 use native.Mathlib.Nat.{le-refl}
 use Rattle.clifford.specs.Clifford.{bitC}
 use Rattle.graph.specs.Graph.{Simple}
-use Rattle.graph_steps.specs.ReducedForms.{ReducedForm}
+use Rattle.graph_steps.specs.internal.ReducedForms.{ReducedForm}
 use Rattle.pauli.proofs.PauliLaws.{mul-x, square}
 use Rattle.pauli.proofs.PhaseLaws.{+ᵖ-assoc, +ᵖ-comm, +ᵖ-zero}
 use Rattle.pauli.specs.Pauli.{_+ᵖ_, Pauli, Phase, i⁰, mul}
@@ -21,7 +21,7 @@ use Rattle.amplitude.proofs.FormWords.{Solves, between, first-solves, f
 use Rattle.amplitude.proofs.KeptRows.{products-turn}
 use Rattle.amplitude.proofs.Support.{supported-exactly, turns-ext, turns-identity}
 use Rattle.amplitude.proofs.TurnLaws.{turns-mul}
-use Rattle.amplitude.specs.KeptTurns.{keptBits, keptTurns}
+use Rattle.amplitude.specs.internal.KeptTurns.{keptBits, keptTurns}
 use Rattle.amplitude.specs.Ratios.{Leads, lowest, ratio, supported}
 use Rattle.amplitude.specs.Turns.{turnsAt}
 

@@ -15,7 +15,7 @@ use Rattle.stabilizer.proofs.GroupLaws.{same-refl}
 use Rattle.stabilizer.specs.Groups.{Proper, SameGroup}
 use Rattle.words.specs.Bits.{wordOf}
 use Rattle.amplitude.proofs.LowestWord.{lowest-by-measuring}
-use Rattle.amplitude.specs.Measuring.{MeasuredDown, outcomesDown, recordsDown}
+use Rattle.amplitude.specs.internal.Measuring.{MeasuredDown, outcomesDown, recordsDown}
 use Rattle.amplitude.specs.Ratios.{lowest}
 
 module _ (n : ℕ) (r : GraphRecord) (S : Simple n (r .graph)) where

@@ -21,8 +21,9 @@ use Rattle.words.specs.Bits.{Word, _⊕_, bit, digit, wordOf}
 use Rattle.amplitude.proofs.Existence.{lowest-supported}
 use Rattle.amplitude.proofs.MeasuredWords.{forbidden-bit, supported-measured}
 use Rattle.amplitude.proofs.Support.{supported-exactly, supported-ext, supported-of-group}
-use Rattle.amplitude.specs.Measuring.{MeasuredDown}
-use Rattle.amplitude.specs.Ratios.{Supported, lowest, supported}
+use Rattle.amplitude.specs.internal.Measuring.{MeasuredDown}
+use Rattle.amplitude.specs.internal.Ratios.{Supported}
+use Rattle.amplitude.specs.Ratios.{lowest, supported}
 
 -- ---- the highest bit where two numbers differ decides
 pub bit-less : (a c q : ℕ) → bit a q ≡ false → bit c q ≡ true → ((t : ℕ) → q < t → bit a t ≡ bit c t) → a < c

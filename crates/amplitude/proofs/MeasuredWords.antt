@@ -24,7 +24,7 @@ use Rattle.words.specs.Bits.{Word, _⊕_}
 use Rattle.amplitude.proofs.FormRows.{diagonal-turns}
 use Rattle.amplitude.proofs.Support.{turns-ext}
 use Rattle.amplitude.proofs.TurnLaws.{turns-mul}
-use Rattle.amplitude.specs.Ratios.{Diagonal, Supported}
+use Rattle.amplitude.specs.internal.Ratios.{Diagonal, Supported}
 use Rattle.amplitude.specs.Turns.{turnsAt}
 
 module _ (n q : ℕ) (hq : q < n) where

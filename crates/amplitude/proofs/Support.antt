@@ -17,7 +17,8 @@ use Rattle.words.specs.Bits.{Word, _⊕_, bit, wordOf}
 use Rattle.words.specs.Search.{some}
 use lib.Dec.{T}
 use Rattle.amplitude.proofs.TurnLaws.{turns-mul}
-use Rattle.amplitude.specs.Ratios.{Supported, chosenBy, supported}
+use Rattle.amplitude.specs.internal.Ratios.{Supported}
+use Rattle.amplitude.specs.Ratios.{chosenBy, supported}
 use Rattle.amplitude.specs.Turns.{letterTurns, turnsAt}
 
 -- only the bits below n count

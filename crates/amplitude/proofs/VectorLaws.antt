@@ -21,9 +21,20 @@ use Rattle.amplitude.proofs.Existence.{any-element, leading-leads, lowe
 use Rattle.amplitude.proofs.Support.{supported-exactly, supported-ext, supported-moved, turns-ext, turns-identity}
 use Rattle.amplitude.proofs.TurnLaws.{turns-mul}
 use Rattle.amplitude.proofs.Turning.{turn-add, turn-none, turned-none}
-use Rattle.amplitude.specs.Ratios.{Diagonal, Leads, chosenBy, leading, lowest, ratio, supported}
+use Rattle.amplitude.specs.internal.Ratios.{Diagonal}
+use Rattle.amplitude.specs.Ratios.{Leads, chosenBy, leading, lowest, ratio, supported}
 use Rattle.amplitude.specs.Turns.{turnsAt}
-use Rattle.amplitude.specs.Vectors.{AnyElementFixes, LowestLeast, OnlyVector, Stabilized, amplitudes, movedTo, none, one, turnBy}
+use Rattle.amplitude.specs.Vectors.{
+  AnyElementFixes,
+  LowestLeast,
+  OnlyVector,
+  Stabilized,
+  amplitudes,
+  movedTo,
+  none,
+  one,
+  turnBy,
+}
 
 -- where not every number passes, one does not
 fails : (b : ℕ) (f : ℕ → Bool) → every b f ≡ false → (i : ℕ) × (f i ≡ false)

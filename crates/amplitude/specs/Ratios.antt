@@ -1,11 +1,11 @@
 -- The words with a nonzero amplitude, and each amplitude over that of the smallest of them (02, §11), by search over
 -- the products of the generators.
 -- Assumes nothing.
-use mathlib.Core.Bool.{Bool, _||_, cond, false}
+use mathlib.Core.Bool.{Bool, _||_, cond}
 use mathlib.Core.Path.{_≡_}
 use Prim.Native.Nat.{_<_, _^_, ℕ}
 use Rattle.pauli.specs.Pauli.{Pauli, Phase, exponent, i⁰, samePhase}
-use Rattle.stabilizer.specs.Groups.{InGroup, product}
+use Rattle.stabilizer.specs.Groups.{product}
 use Rattle.words.specs.Bits.{Word, _⊕_, bit, sameBit}
 use Rattle.words.specs.Search.{every, first, some}
 use Rattle.amplitude.specs.Plotting.{turned}
@@ -14,14 +14,6 @@ use Rattle.amplitude.specs.declared.Amplitude.{Amplitude}
 use Rattle.amplitude.specs.declared.Amplitude.the-variants.{Nothing}
 
 -- ---- as relations
--- no x bit on the n qubits: the element only gives each word a power of i
-abbrev pub Diagonal : ℕ → Pauli → Type 0
-Diagonal n p = (q : ℕ) → q < n → p .x q ≡ false
-
--- the amplitude at y can be other than 0: every diagonal element of the group keeps its sign there
-abbrev pub Supported : ℕ → (ℕ → Pauli) → Word → Type 0
-Supported n R y = (p : Pauli) → InGroup n n R p → Diagonal n p → turnsAt n p y ≡ i⁰
-
 -- "whose x part leads from that word to y"
 abbrev pub Leads : ℕ → Pauli → Word → Word → Type 0
 Leads n p a b = (q : ℕ) → q < n → p .x q ≡ a q ⊕ b q

@@ -75,13 +75,6 @@ pub record PlotsVector (n : ℕ) (R : ℕ → Pauli) (y : ℕ) : Type 0 where
   pub imaginary : (rank : ℕ) → (plotted (amplitudeOf n R y) rank) .im ≡ floatOf ((amplitudes n R y) .im)
   pub probability : (rank : ℕ) → (plotted (amplitudeOf n R y) rank) .p ≡ cond (supported n R y) (halves rank) nought
 
--- the answers depend on the group alone
-pub record OfGroup (n : ℕ) (R S : ℕ → Pauli) : Type 0 where
-  pub support : (y : ℕ) → supported n R y ≡ supported n S y
-  pub smallest : lowest n R ≡ lowest n S
-  pub vector : (y : ℕ) → amplitudes n R y ≡ amplitudes n S y
-  pub answer : (y : ℕ) → amplitudeOf n R y ≡ amplitudeOf n S y
-
 -- "exactly 2^−r with r the rank of the x words": as many words are supported, so that the probabilities add up to 1
 abbrev pub WordsCount : ℕ → (ℕ → Pauli) → Type 0
 WordsCount n R = count (2 ^ n) (supported n R) ≡ 2 ^ rank n n (xWords R)

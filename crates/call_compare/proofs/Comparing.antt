@@ -23,7 +23,7 @@ use Rattle.words.proofs.Flags.{neither}
 use Rattle.call_compare.proofs.PairLines.{earlier-none, pair-number, pair-numbered}
 use Rattle.comparison_answer.proofs.ReducedPairs.{reduced-accepted}
 use Rattle.call_lists.specs.Calls.{reduceCall}
-use Rattle.comparison_answer.specs.ComparedPairs.{HoldsReduced, PairAnswered, earlierOf}
+use Rattle.comparison_answer.specs.internal.ComparedPairs.{HoldsReduced, PairAnswered, earlierOf}
 use Rattle.call_compare.specs.Comparisons.{compareCall}
 
 -- ---- two lists on n qubits, and the reductions of both

@@ -25,7 +25,7 @@ use Rattle.stabilizer.specs.Lists.{
 }
 use Rattle.words.proofs.Finite.{Law, Of, law}
 use Rattle.words.proofs.Sums.{lt-or-ge}
-use Rattle.comparison_answer.specs.ComparedPairs.{earlierOf}
+use Rattle.comparison_answer.specs.internal.ComparedPairs.{earlierOf}
 
 -- lines 4 to 10 of each list, and those of the pair
 module _ (a₄ a₅ a₆ a₉ a₁₀ : Bool) where

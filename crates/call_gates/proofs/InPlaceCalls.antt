@@ -9,7 +9,7 @@ use Rattle.buffers.specs.Refusals.{firstFitting}
 use Rattle.contracts.proofs.Calling.{done}
 use Rattle.contracts.specs.Answers.{Written}
 use Rattle.contracts.specs.Calls.{Call, EachOf}
-use Rattle.operations.specs.InPlace.{MeasuredInPlace}
+use Rattle.operations.specs.internal.InPlace.{MeasuredInPlace}
 use Rattle.operations.specs.Measurement.{determinedNumber, outcomeNumber}
 use Rattle.operations.specs.Steps.{
   Operation,

@@ -11,7 +11,7 @@ use lib.ListN.{length}
 use borrow.Author.Tests.{eqb-false, leb-false}
 use Rattle.buffers.proofs.Lines.{fits, more-accepted, more-refused, none-fits, none-of-all, not-held, passed}
 use Rattle.buffers.specs.Refusals.{Line, firstFitting, line}
-use Rattle.operations.specs.InPlace.{Unrefused, recordIn}
+use Rattle.operations.specs.internal.InPlace.{Unrefused, recordIn}
 use Rattle.operations.specs.Steps.{argumentLines, complementLines, czLines, gateLines, inPlaceLines, pivotLines}
 use Rattle.record.proofs.AcceptedRecords.{accepted-record}
 use Rattle.record.proofs.RecordLines.{record-numbered}

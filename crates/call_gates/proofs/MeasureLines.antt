@@ -8,7 +8,7 @@ use lib.ListN.{length}
 use Rattle.buffers.specs.Refusals.{firstFitting}
 use Rattle.contracts.proofs.Fitting.{decides, fits-at, is-first, none-fits-of, none-holds, skips}
 use Rattle.contracts.specs.Answers.{here}
-use Rattle.operations.specs.InPlace.{recordIn}
+use Rattle.operations.specs.internal.InPlace.{recordIn}
 use Rattle.operations.specs.Measurement.{contradicts, pauliLetter}
 use Rattle.operations.specs.Steps.{argumentLines, measureLines}
 use Rattle.record.specs.Accepted.{AcceptedRecord}

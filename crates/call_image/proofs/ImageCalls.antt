@@ -13,7 +13,7 @@ use Rattle.buffers.specs.Refusals.{firstFitting, otherThan}
 use Rattle.contracts.proofs.Calling.{done, refused}
 use Rattle.contracts.proofs.Fitting.{stays}
 use Rattle.contracts.specs.Calls.{Call}
-use Rattle.image_answer.specs.Answer.{IsImage}
+use Rattle.image_answer.specs.internal.Answer.{IsImage}
 use Rattle.image.specs.Image.{imageLines, loopLines}
 use Rattle.image_answer.specs.declared.ImageAnswer.{ImageAnswer}
 use Rattle.record.proofs.AcceptedRecords.{accepted-record}

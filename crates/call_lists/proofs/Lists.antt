@@ -15,7 +15,7 @@ use Rattle.contracts.specs.Calls.{Call}
 use Rattle.record.specs.Lent.{codeNumbers, neighbourWords}
 use Rattle.record.specs.Reduced.{reduced}
 use Rattle.reduction.proofs.Loading.{early-reducible}
-use Rattle.reduction.specs.Reducible.{Reducible}
+use Rattle.reduction.specs.internal.Reducible.{Reducible}
 use Rattle.stabilizer.proofs.Accepted.{early-accepted, early-form}
 use Rattle.stabilizer.proofs.SharedTests.{has-length}
 use Rattle.stabilizer.specs.Lists.{GeneratorList, dependent, earlyLines, listLengths, listLines, rows}

@@ -8,7 +8,7 @@ use lib.ListN.{getD, length}
 use Rattle.buffers.specs.Refusals.{firstFitting}
 use Rattle.pauli.proofs.PauliLaws.{Pauli-path}
 use Rattle.pauli.specs.Pauli.{identity, minus, mul, power, row, signedRow}
-use Rattle.pauli.specs.Rows.{pauliOf}
+use Rattle.pauli.specs.internal.Rows.{pauliOf}
 use Rattle.pauli.specs.declared.Row.{Row}
 use Rattle.words.proofs.BitLaws.{two-cases, zero-bit}
 use Rattle.words.specs.Bits.{bit, isOdd}

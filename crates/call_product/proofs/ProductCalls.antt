@@ -7,7 +7,7 @@ use Rattle.buffers.specs.Refusals.{firstFitting}
 use Rattle.contracts.specs.Calls.{Call}
 use Rattle.pauli.proofs.WordRows.{exponent-power}
 use Rattle.pauli.specs.Pauli.{exponent}
-use Rattle.pauli.specs.Rows.{pauliOf}
+use Rattle.pauli.specs.internal.Rows.{pauliOf}
 use Rattle.pauli.specs.declared.Row.{Row}
 use Rattle.words.proofs.BitLaws.{bit-ext∞}
 use Rattle.words.specs.Bits.{Word, bit, wordOf}

@@ -17,7 +17,7 @@ use Rattle.stabilizer.specs.Lists.{clashing, dependent}
 use Rattle.stabilizer.specs.Membership.{member}
 use Rattle.words.specs.Bits.{bit, fold, put, wordOf}
 use Rattle.words.specs.Search.{every, first, some}
-use Rattle.claims.specs.Table.{expected, given}
+use Rattle.claims.specs.internal.Table.{expected, given}
 
 pub examples : given ≡ expected
 unfolding inverse first some every fold put bit wordOf mul anticommute act clashing dependent columnDependent

@@ -12,7 +12,8 @@ use Rattle.cut.proofs.Counting.{count-except, count-ext, except}
 use Rattle.cut.specs.Kernel.{count}
 use Rattle.graph.specs.Graph.{Graph}
 use Rattle.parts.proofs.PartLaws.{closed-is, part-within, path-in-part}
-use Rattle.parts.specs.Parts.{Closed, Path, along, closed, here, partOf}
+use Rattle.parts.specs.internal.Parts.{Closed}
+use Rattle.parts.specs.Parts.{Path, along, closed, here, partOf}
 use Rattle.words.proofs.Finite.{bits}
 use Rattle.words.proofs.Flags.{both-true, either, neither}
 use Rattle.words.proofs.SearchLaws.{every-in, first-is}

@@ -13,13 +13,7 @@ use Rattle.graph.proofs.Complement.{complement-simple}
 use Rattle.graph.specs.Graph.{Simple}
 use Rattle.operations.proofs.Rewriting.{pivot-same, pivot-simple}
 use Rattle.operations.proofs.UnrefusedRecords.{complement-above}
-use Rattle.operations.specs.Steps.{
-  Operation,
-  complementOf,
-  leaves,
-  pivotOf,
-  pivotRecord,
-}
+use Rattle.operations.specs.Steps.{Operation, complementOf, leaves, pivotOf, pivotRecord}
 use Rattle.record.proofs.Complementing.{complement-same}
 use Rattle.record.proofs.WrittenRecords.{record-back, record-passes, record-rows-back, writtenRecord}
 use Rattle.record.specs.Accepted.{AcceptedRecord}

@@ -14,7 +14,7 @@ use Rattle.stabilizer.specs.Lists.{clashing, dependent}
 use Rattle.stabilizer.specs.Membership.{member}
 use Rattle.words.specs.Bits.{bit, fold, put, wordOf}
 use Rattle.words.specs.Search.{every, first, some}
-use Rattle.claims.specs.SessionTable.{expected, given}
+use Rattle.claims.specs.internal.SessionTable.{expected, given}
 
 pub both-ways : given ≡ expected
 unfolding fold put bit wordOf some every first power mul anticommute inverse act tabulate firstFitting

@@ -1,4 +1,3 @@
-pub mod Table
 pub mod SecondDemand
 pub mod PartsDemand
 pub mod ThirdDemand
@@ -11,7 +10,7 @@ pub mod ProductDemand
 pub mod FirstDemand
 pub mod GeneratorDemand
 pub mod SessionDemand
-pub mod SessionTable
 pub mod JobDemand
 pub mod ProgramDemand
 pub mod Sentences
+pub mod internal

@@ -15,7 +15,8 @@ use Rattle.cut.proofs.OneSidedElements.{avoids-act}
 use Rattle.cut.specs.OneSided.{Avoids}
 use Rattle.graph.specs.Graph.{Graph, Simple, graphGenerator}
 use Rattle.parts.proofs.PartLaws.{part-closed, part-has, part-together}
-use Rattle.parts.specs.Parts.{Closed, partOf}
+use Rattle.parts.specs.internal.Parts.{Closed}
+use Rattle.parts.specs.Parts.{partOf}
 use Rattle.pauli.specs.Pauli.{Pauli}
 use Rattle.record.proofs.Maximality.{inclusion-same}
 use Rattle.record.proofs.ReducedRecords.{record-proper}

@@ -16,7 +16,7 @@ use Rattle.clifford.specs.Clifford.Class.{XZ, YZ, ZX, XY, YX, ZY}
 use Rattle.clifford.specs.Vectors.{act}
 use Rattle.pauli.proofs.PauliLaws.{anticommute-swap}
 use Rattle.pauli.specs.Pauli.{Pauli, anticommute, i², letter, scaled, xBit, zBit}
-use Rattle.pauli.specs.Rows.{generatorOf}
+use Rattle.pauli.specs.internal.Rows.{generatorOf}
 use Rattle.pauli.specs.declared.Generator.{Generator}
 use Rattle.record.proofs.Maximality.{maximal-list}
 use Rattle.record.specs.Records.{GraphRecord, rowsOf}
@@ -28,7 +28,8 @@ use Rattle.words.proofs.Finite.{bits, ⊕-zero}
 use Rattle.words.proofs.OnesLaws.{parity-ones}
 use Rattle.words.proofs.Places.{⊕-cancel}
 use Rattle.words.proofs.Sums.{fold-ext, parity-add}
-use Rattle.words.specs.Bits.{bit, dot, parity, _⊕_}
+use Rattle.words.specs.Bits.{bit, parity, _⊕_}
+use Rattle.words.specs.internal.Bits.{dot}
 use Rattle.comparison.proofs.ClassEquations.{anticommute-classes, x-word-lt, z-word-lt}
 use Rattle.comparison.proofs.Determinants.{Matrices, det, det-closed, sendBy}
 use Rattle.comparison.proofs.EquationLaws.{SameBelow, fails-below}
@@ -36,9 +37,9 @@ use Rattle.comparison.proofs.EquationTables.{class-short}
 use Rattle.comparison.proofs.Extension.{extended}
 use Rattle.comparison.proofs.RecordElements.{framed-proper}
 use Rattle.comparison.specs.Choices.{classKey}
-use Rattle.comparison.specs.Equations.{Solves, classAssignment, classEquation, equationAt, fails}
-use Rattle.comparison.specs.Searches.{ClassTable, Extendable, SentUpToSign}
-use Rattle.comparison.specs.Setting.{Setting, bare, generatorsOf, noGenerator}
+use Rattle.comparison.specs.internal.Equations.{Solves, classAssignment, classEquation, equationAt, fails}
+use Rattle.comparison.specs.internal.Searches.{ClassTable, Extendable, SentUpToSign}
+use Rattle.comparison.specs.internal.Setting.{Setting, bare, generatorsOf, noGenerator}
 use Rattle.comparison.specs.declared.Assignment.{Assignment}
 use Rattle.comparison.specs.declared.Equation.{Equation}
 

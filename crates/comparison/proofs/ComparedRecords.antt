@@ -30,8 +30,16 @@ use Rattle.words.specs.Search.{first, some}
 use Rattle.comparison.proofs.Members.{carries-is}
 use Rattle.comparison.proofs.RecordElements.{proper-rows}
 use Rattle.comparison.specs.Choices.{carries, choice, choiceAt, leastNumber, noChoice}
-use Rattle.comparison.specs.Searches.{LeastAnswer}
-use Rattle.comparison.specs.Setting.{Codes, Connected, Framed, Setting, SoundRecord, generatorsOf, heldGenerators}
+use Rattle.comparison.specs.internal.Searches.{LeastAnswer}
+use Rattle.comparison.specs.internal.Setting.{
+  Codes,
+  Connected,
+  Framed,
+  Setting,
+  SoundRecord,
+  generatorsOf,
+  heldGenerators,
+}
 
 module _ (n : ℕ) (few : n ≤ 20) (neighbours codes : List ℕ) (S : SoundRecord n neighbours codes) where
   abbrev lent : LentRecord

@@ -9,14 +9,14 @@ use native.Mathlib.Nat.{not-suc-le-zero}
 use native.Mathlib.Omega.{arith}
 use lib.Bits.{bitAnd}
 use lib.ListN.{getD, length, replicate}
-use Rattle.pauli.specs.Rows.{generatorOf}
+use Rattle.pauli.specs.internal.Rows.{generatorOf}
 use Rattle.pauli.specs.declared.Generator.{Generator}
 use Rattle.stabilizer.specs.Groups.{Within}
 use Rattle.words.proofs.BitLaws.{bit-and, zero-bit}
 use Rattle.words.proofs.Sums.{last-or}
 use Rattle.words.specs.Bits.{bit}
 use Rattle.comparison.proofs.EquationLaws.{Short, empty-holds, fails-zero, zeroAssignment}
-use Rattle.comparison.specs.Equations.{
+use Rattle.comparison.specs.internal.Equations.{
   Inserted,
   Solves,
   Triangular,
@@ -30,8 +30,8 @@ use Rattle.comparison.specs.Equations.{
   unknown,
   wordAt,
 }
-use Rattle.comparison.specs.Searches.{ClassAsked, ClassTable, TableOf}
-use Rattle.comparison.specs.Setting.{noGenerator}
+use Rattle.comparison.specs.internal.Searches.{ClassAsked, ClassTable, TableOf}
+use Rattle.comparison.specs.internal.Setting.{noGenerator}
 use Rattle.comparison.specs.declared.Assignment.{Assignment}
 use Rattle.comparison.specs.declared.Equation.{Equation}
 

@@ -14,9 +14,10 @@ use Rattle.words.proofs.Finite.{bits, ⊕-zero}
 use Rattle.words.proofs.OnesLaws.{dot-xor-r, parity-ones}
 use Rattle.words.proofs.Places.{other-place, parity-at}
 use Rattle.words.proofs.Sums.{fold-ext, last-or, lt-or-ge}
-use Rattle.words.specs.Bits.{bit, dot, parity, _⊕_}
+use Rattle.words.specs.Bits.{bit, parity, _⊕_}
+use Rattle.words.specs.internal.Bits.{dot}
 use Rattle.comparison.proofs.EquationLaws.{SameBelow, Short, empty-holds, fails-below}
-use Rattle.comparison.specs.Equations.{
+use Rattle.comparison.specs.internal.Equations.{
   Solves,
   Triangular,
   emptyEquation,

@@ -13,8 +13,8 @@ use Rattle.clifford.specs.Clifford.{Clifford}
 use Rattle.words.proofs.Sums.{last-or, lt-or-ge}
 use Rattle.comparison.proofs.EquationLaws.{SameBelow, fails-below}
 use Rattle.comparison.proofs.Extension.{row-short, rows-below}
-use Rattle.comparison.specs.Equations.{QubitTested, Solves, Triangular, equationAt, fails}
-use Rattle.comparison.specs.Searches.{Chosen, FirstFit}
+use Rattle.comparison.specs.internal.Equations.{QubitTested, Solves, Triangular, equationAt, fails}
+use Rattle.comparison.specs.internal.Searches.{Chosen, FirstFit}
 use Rattle.comparison.specs.declared.Assignment.{Assignment}
 use Rattle.comparison.specs.declared.Equation.{Equation}
 

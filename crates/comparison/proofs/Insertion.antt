@@ -12,7 +12,17 @@ use lib.ListN.{length-set, set}
 use lib.Seq.{getD-set-other, getD-set-same}
 use Rattle.words.proofs.Finite.{⊕-zero}
 use Rattle.words.specs.Bits.{_⊕_}
-use Rattle.comparison.specs.Equations.{Inserted, Solves, Triangular, added, emptyEquation, equationAt, fails, span, unknown}
+use Rattle.comparison.specs.internal.Equations.{
+  Inserted,
+  Solves,
+  Triangular,
+  added,
+  emptyEquation,
+  equationAt,
+  fails,
+  span,
+  unknown,
+}
 use Rattle.comparison.specs.declared.Assignment.{Assignment}
 use Rattle.comparison.specs.declared.Equation.{Equation}
 use Rattle.comparison.proofs.EquationLaws.{fails-added, no-span, no-unknowns, unknown-added, empty-holds}

@@ -39,7 +39,7 @@ use Rattle.comparison.specs.Choices.{
   noChoice,
   signKey,
 }
-use Rattle.comparison.specs.Searches.{Answered, LeastAnswer}
+use Rattle.comparison.specs.internal.Searches.{Answered, LeastAnswer}
 
 -- ---- the order is one way only
 meet : (u v : ℕ) → (u < v → ⊥) → (v < u → ⊥) → u ≡ v

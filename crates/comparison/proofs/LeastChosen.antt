@@ -34,8 +34,15 @@ use Rattle.comparison.proofs.NumberOrder.{classKey-lt, signKey-lt}
 use Rattle.comparison.proofs.RecordElements.{carried-all, framed-proper}
 use Rattle.comparison.proofs.SignExtension.{signs-kept, signs-send}
 use Rattle.comparison.specs.Choices.{classKey, signKey}
-use Rattle.comparison.specs.Equations.{Solves, Triangular, classAssignment, classEquation, fails, signAssignment}
-use Rattle.comparison.specs.Searches.{
+use Rattle.comparison.specs.internal.Equations.{
+  Solves,
+  Triangular,
+  classAssignment,
+  classEquation,
+  fails,
+  signAssignment,
+}
+use Rattle.comparison.specs.internal.Searches.{
   Answered,
   Chosen,
   ClassTable,
@@ -48,7 +55,7 @@ use Rattle.comparison.specs.Searches.{
   withClass,
   withSigns,
 }
-use Rattle.comparison.specs.Setting.{Codes, Setting, generatorsOf, noGenerator}
+use Rattle.comparison.specs.internal.Setting.{Codes, Setting, generatorsOf, noGenerator}
 use Rattle.comparison.specs.declared.Equation.{Equation}
 
 -- ---- the loop over the classes

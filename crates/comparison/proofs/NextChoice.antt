@@ -16,8 +16,8 @@ use Rattle.clifford.specs.Vectors.{codesOf}
 use Rattle.words.specs.Bits.{isOdd}
 use Rattle.comparison.proofs.NumberOrder.{class-of-code, classKey-of-code, signKey-of-code}
 use Rattle.comparison.specs.Choices.{classKey, signKey}
-use Rattle.comparison.specs.Searches.{withClass, withSigns}
-use Rattle.comparison.specs.Setting.{Bare, Codes, bare}
+use Rattle.comparison.specs.internal.Searches.{withClass, withSigns}
+use Rattle.comparison.specs.internal.Setting.{Bare, Codes, bare}
 
 module _ (choice : List ℕ) (q k : ℕ) (long : q < length choice) where
   code-here : codesOf (set choice q k) q ≡ cliffordOf k

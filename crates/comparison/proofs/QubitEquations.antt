@@ -8,7 +8,7 @@ use native.Mathlib.Nat.{le-refl, lt-of-lt-of-le}
 use native.Mathlib.Omega.{arith}
 use lib.ListN.{List·getD-map, getD, set}
 use borrow.Author.Count.{below-more}
-use Rattle.comparison.specs.Equations.{QubitTested, equationAt, equationOf, fails, tableOf}
+use Rattle.comparison.specs.internal.Equations.{QubitTested, equationAt, equationOf, fails, tableOf}
 use Rattle.comparison.specs.declared.Assignment.{Assignment}
 use Rattle.comparison.specs.declared.Equation.{Equation}
 

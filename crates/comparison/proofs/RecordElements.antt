@@ -33,7 +33,7 @@ use Rattle.pauli.specs.Pauli.{
   signedRow,
   xBit,
 }
-use Rattle.pauli.specs.Rows.{generatorOf}
+use Rattle.pauli.specs.internal.Rows.{generatorOf}
 use Rattle.pauli.specs.declared.Generator.{Generator}
 use Rattle.record.proofs.Maximality.{inclusion-same}
 use Rattle.record.proofs.ReducedRecords.{record-proper}
@@ -52,7 +52,7 @@ use Rattle.words.specs.Bits.{Word, _⊕_}
 use Rattle.comparison.proofs.Least.{act-agree}
 use Rattle.comparison.proofs.Members.{carries-is}
 use Rattle.comparison.specs.Choices.{carries}
-use Rattle.comparison.specs.Setting.{Framed, Guessed}
+use Rattle.comparison.specs.internal.Setting.{Framed, Guessed}
 
 same-products : (n : ℕ) (w : Word) (rows others : ℕ → Pauli) → ((j : ℕ) → j < n → rows j ≡ others j)
     → product n n w rows ≡ product n n w others

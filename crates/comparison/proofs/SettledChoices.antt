@@ -17,8 +17,9 @@ use Rattle.graph.specs.Graph.{Graph, Simple, graphGenerator}
 use Rattle.parts.proofs.PartLaws.{part-closed, part-has, part-within, rest-closed}
 use Rattle.parts.proofs.PlacedGroups.{part-carried, part-sent, partRecord}
 use Rattle.parts.proofs.PlacedRows.{part-simple}
-use Rattle.parts.specs.Numbered.{Numbers}
-use Rattle.parts.specs.Parts.{Closed, partOf}
+use Rattle.parts.specs.internal.Numbered.{Numbers}
+use Rattle.parts.specs.internal.Parts.{Closed}
+use Rattle.parts.specs.Parts.{partOf}
 use Rattle.pauli.proofs.PauliLaws.{Pauli-path}
 use Rattle.pauli.specs.Pauli.{_+ᵖ_, Pauli, i⁰, letter, letterAt, xBit, zBit}
 use Rattle.pauli.specs.declared.Letter.{Letter}
@@ -37,7 +38,7 @@ use Rattle.words.specs.Search.{IsFirst, first}
 use Rattle.comparison.proofs.KeyOrder.{keys-least}
 use Rattle.comparison.proofs.Least.{carries-agree}
 use Rattle.comparison.specs.Choices.{Agree, Before, FirstDiffers, LeastChoice, classKey, signKey}
-use Rattle.comparison.specs.Settled.{Settled}
+use Rattle.comparison.specs.internal.Settled.{Settled}
 
 -- ---- settled everywhere
 module _ (n : ℕ) (r t : GraphRecord) (R : Simple n (r .graph)) (T : Simple n (t .graph)) where

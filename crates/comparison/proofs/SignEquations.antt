@@ -10,7 +10,7 @@ use Rattle.clifford.specs.Vectors.{act}
 use Rattle.pauli.proofs.PauliLaws.{Pauli-path, mul-x, mul-z}
 use Rattle.pauli.proofs.PhaseLaws.{+ᵖ-assoc, minus-injective, minus-⊕, phases, sumPhase-add}
 use Rattle.pauli.specs.Pauli.{_+ᵖ_, Pauli, identity, i⁰, letterAt, minus, mul, sumPhase, xBit, zBit}
-use Rattle.pauli.specs.Rows.{generatorOf}
+use Rattle.pauli.specs.internal.Rows.{generatorOf}
 use Rattle.pauli.specs.declared.Generator.{Generator}
 use Rattle.pauli.specs.declared.Letter.{Letter}
 use Rattle.pauli.specs.declared.Letter.the-variants.{I, X, Y, Z}
@@ -21,14 +21,15 @@ use Rattle.stabilizer.specs.Groups.{InGroup, Proper, Trivial, Within, chosen, p
 use Rattle.words.proofs.Finite.{bits, ⊕-self, ⊕-zero}
 use Rattle.words.proofs.Places.{⊕-cancel}
 use Rattle.words.proofs.Sums.{fold-ext, fold-hom, parity-add}
-use Rattle.words.specs.Bits.{Word, bit, dot, parity, wordOf, _⊕_}
+use Rattle.words.specs.Bits.{Word, bit, parity, wordOf, _⊕_}
+use Rattle.words.specs.internal.Bits.{dot}
 use Rattle.comparison.proofs.ClassEquations.{dot-word, x-word-lt, z-word-lt}
 use Rattle.comparison.proofs.EquationLaws.{zero-dot}
 use Rattle.comparison.proofs.Least.{act-agree}
 use Rattle.comparison.proofs.NumberOrder.{class-injective}
 use Rattle.comparison.specs.Choices.{classKey}
-use Rattle.comparison.specs.Equations.{fails, signAssignment, signEquation}
-use Rattle.comparison.specs.Setting.{bare}
+use Rattle.comparison.specs.internal.Equations.{fails, signAssignment, signEquation}
+use Rattle.comparison.specs.internal.Setting.{bare}
 use Rattle.comparison.specs.declared.Assignment.{Assignment}
 
 abbrev signAt : Clifford → Bool → Bool → Bool

@@ -19,7 +19,7 @@ use Rattle.clifford.specs.Vectors.{act}
 use Rattle.graph.specs.Graph.{graphGenerator}
 use Rattle.pauli.proofs.PhaseLaws.{minus-injective, minus-⊕}
 use Rattle.pauli.specs.Pauli.{Pauli, anticommute, i⁰, i², minus, scaled}
-use Rattle.pauli.specs.Rows.{generatorOf}
+use Rattle.pauli.specs.internal.Rows.{generatorOf}
 use Rattle.pauli.specs.declared.Generator.{Generator}
 use Rattle.stabilizer.proofs.Products.{anticommute-form}
 use Rattle.stabilizer.proofs.Within.{act-wide}
@@ -29,7 +29,8 @@ use Rattle.words.proofs.BitLaws.{bit-ext∞, bit-wordOf}
 use Rattle.words.proofs.Finite.{bits, unequal, ⊕-comm, ⊕-self, ⊕-zero}
 use Rattle.words.proofs.Places.{parity-at}
 use Rattle.words.proofs.Sums.{bitMonoid, fold-ext, fold-unit, last-or, lt-or-ge}
-use Rattle.words.specs.Bits.{Word, bit, digit, dot, parity, wordOf, _⊕_}
+use Rattle.words.specs.Bits.{Word, bit, digit, parity, wordOf, _⊕_}
+use Rattle.words.specs.internal.Bits.{dot}
 use Rattle.comparison.proofs.ClassEquations.{dot-word, x-word-lt, z-word-lt}
 use Rattle.comparison.proofs.EquationLaws.{SameBelow, fails-below, zero-dot}
 use Rattle.comparison.proofs.EquationTables.{nothing-asked, one-asked, sign-short}
@@ -37,7 +38,7 @@ use Rattle.comparison.proofs.Extension.{extended}
 use Rattle.comparison.proofs.RecordElements.{framed-proper}
 use Rattle.comparison.proofs.SignEquations.{letters-determine, sign-equation, sign-sends}
 use Rattle.comparison.specs.Choices.{classKey, signKey}
-use Rattle.comparison.specs.Equations.{
+use Rattle.comparison.specs.internal.Equations.{
   Inserted,
   Solves,
   Triangular,
@@ -46,8 +47,8 @@ use Rattle.comparison.specs.Equations.{
   signAssignment,
   signEquation,
 }
-use Rattle.comparison.specs.Searches.{Extendable, SentUpToSign, SignAsked, SignFor, SignTable}
-use Rattle.comparison.specs.Setting.{Guessed, Setting, bare, generatorsOf, noGenerator}
+use Rattle.comparison.specs.internal.Searches.{Extendable, SentUpToSign, SignAsked, SignFor, SignTable}
+use Rattle.comparison.specs.internal.Setting.{Guessed, Setting, bare, generatorsOf, noGenerator}
 use Rattle.comparison.specs.declared.Assignment.{Assignment}
 use Rattle.comparison.specs.declared.Equation.{Equation}
 

@@ -5,31 +5,17 @@ use mathlib.Core.List.{_++_, List, [], _∷_}
 use Prim.Native.Nat.{ℕ}
 use lib.Dec.{eqb}
 use Rattle.buffers.specs.Refusals.{Line, badCount, line, otherThan}
-use Rattle.clifford.specs.Clifford.{Clifford, codeOf, inverse, then}
-use Rattle.clifford.specs.Vectors.{codesOf}
+use Rattle.clifford.specs.Clifford.{Clifford, inverse, then}
 use Rattle.parts.specs.Parts.{partAbove}
 use Rattle.pauli.specs.Pauli.{Pauli}
 use Rattle.record.specs.Reduced.{reducedCode, reducedGraph}
-use Rattle.stabilizer.specs.Lists.{
-  GeneratorList,
-  clashing,
-  dependent,
-  listLengths,
-  listSigns,
-  listStray,
-  rows,
-}
+use Rattle.stabilizer.specs.Lists.{GeneratorList, clashing, dependent, listLengths, listSigns, listStray, rows}
 use Rattle.comparison.specs.Choices.{noChoice}
 
 -- "at each qubit the first reduced record's code, then the choice's, then the inverse of the second's"; the
 -- choice's alone at and above n, where the records have code 0
 abbrev pub induced : ℕ → (ℕ → Pauli) → (ℕ → Pauli) → (ℕ → Clifford) → ℕ → Clifford
 induced n rows others c q = then (then (reducedCode n rows q) (c q)) (inverse (reducedCode n others q))
-
--- the same of buffers of codes; 0 at and above their length
-abbrev pub inducedCode : List ℕ → List ℕ → List ℕ → ℕ → ℕ
-inducedCode first choice second q =
-    codeOf (then (then (codesOf first q) (codesOf choice q)) (inverse (codesOf second q)))
 
 -- ---- lines; "With two lists, of the numbers found in either the first in checking order is returned"
 -- 2: "n is 0 or above 64, or the two lists' n differ"

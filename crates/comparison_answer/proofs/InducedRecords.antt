@@ -11,8 +11,8 @@ use Rattle.buffers.specs.Buffers.{tabulate}
 use Rattle.clifford.proofs.CliffordLaws.{codeOf-lt}
 use Rattle.clifford.specs.Clifford.{inverse, then}
 use Rattle.clifford.specs.Vectors.{codesOf}
-use Rattle.comparison.specs.Compared.{inducedCode}
-use Rattle.image_answer.specs.Answer.{IsImage}
+use Rattle.comparison.specs.internal.Compared.{inducedCode}
+use Rattle.image_answer.specs.internal.Answer.{IsImage}
 use Rattle.image_answer.specs.declared.ImageAnswer.{ImageAnswer}
 use Rattle.record.proofs.ReducedRecords.{record-proper}
 use Rattle.record.specs.Accepted.{AcceptedRecord}

@@ -15,15 +15,16 @@ use Rattle.clifford.specs.Vectors.{act, codesOf}
 use Rattle.comparison.proofs.ComparedRecords.{same-answer}
 use Rattle.comparison.proofs.ConnectedParts.{part-connected}
 use Rattle.comparison.proofs.Least.{act-agree}
-use Rattle.comparison.specs.Searches.{LeastAnswer}
-use Rattle.comparison.specs.Setting.{Codes, Connected, SoundRecord, heldGenerators}
+use Rattle.comparison.specs.internal.Searches.{LeastAnswer}
+use Rattle.comparison.specs.internal.Setting.{Codes, Connected, SoundRecord, heldGenerators}
 use Rattle.graph.proofs.GraphGroups.{graph-proper}
 use Rattle.graph.specs.Graph.{Graph, Simple, graphGenerator}
 use Rattle.graph.specs.NeighbourWords.{graphIn}
 use Rattle.parts.proofs.PlacedRows.{part-simple}
-use Rattle.parts.specs.Numbered.{Numbers, partGraph}
-use Rattle.parts.specs.Parts.{Closed, partOf}
-use Rattle.parts_records.specs.Listed.{partCodes, partWord, partWords}
+use Rattle.parts.specs.internal.Numbered.{Numbers, partGraph}
+use Rattle.parts.specs.internal.Parts.{Closed}
+use Rattle.parts.specs.Parts.{partOf}
+use Rattle.parts_records.specs.internal.Listed.{partCodes, partWord, partWords}
 use Rattle.pauli.specs.Pauli.{Pauli}
 use Rattle.record.proofs.ReducedRecords.{record-proper}
 use Rattle.record.specs.Records.{GraphRecord, rowsOf}
@@ -34,7 +35,7 @@ use Rattle.stabilizer.specs.Groups.{Proper}
 use Rattle.words.proofs.BitLaws.{bit-above, bit-wordOf, wordOf-lt, zero-bit}
 use Rattle.words.proofs.Sums.{lt-or-ge}
 use Rattle.words.specs.Bits.{Word, bit}
-use Rattle.comparison_component.specs.Islands.{NumberedPair, PartAnswer, held, partOfRecord}
+use Rattle.comparison_component.specs.internal.Islands.{NumberedPair, PartAnswer, held, partOfRecord}
 
 -- ---- one record
 module _ (n : ℕ) (nb cs : List ℕ) (s : Word) (k : ℕ) (at : List ℕ) (N : Numbers n s k (λ i. getD at i 0))

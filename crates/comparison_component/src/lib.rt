@@ -5,7 +5,7 @@ use parts_records::extract;
 ghost use mathlib.Core.Path.{_≡_};
 ghost use Prim.Native.Nat.{ℕ, _<_, _≤_};
 ghost use lib.ListN.{getD, length};
-ghost use Rattle.comparison_component.specs.Islands.{NumberedPair, PartAnswer};
+ghost use Rattle.comparison_component.specs.internal.Islands.{NumberedPair, PartAnswer};
 
 // The least choice of a part, with room for its two records.
 pub fn compare_listed(

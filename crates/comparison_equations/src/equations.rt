@@ -6,7 +6,17 @@ use words::odd;
 ghost use mathlib.Core.Path.{_≡_};
 ghost use mathlib.Core.Bool.{false};
 ghost use Prim.Native.Nat.{ℕ, _<_, _≤_};
-ghost use Rattle.comparison.specs.Equations.{Inserted, QubitTested, Triangular, added, equationOf, fails, span, tableOf, unknown};
+ghost use Rattle.comparison.specs.internal.Equations.{
+  Inserted,
+  QubitTested,
+  Triangular,
+  added,
+  equationOf,
+  fails,
+  span,
+  tableOf,
+  unknown,
+};
 
 // The sum of two equations.
 fn add(e: Equation, f: Equation) -> Equation

@@ -16,8 +16,8 @@ use Rattle.comparison.proofs.Least.{least-agree, least-is, none-carries}
 use Rattle.comparison.proofs.NumberOrder.{choice-lt}
 use Rattle.comparison.proofs.SettledChoices.{part-settled}
 use Rattle.comparison.specs.Choices.{LeastChoice, leastCode, leastNumber, noChoice}
-use Rattle.comparison.specs.Settled.{Settled}
-use Rattle.comparison.specs.Setting.{Codes}
+use Rattle.comparison.specs.internal.Settled.{Settled}
+use Rattle.comparison.specs.internal.Setting.{Codes}
 use Rattle.cut.specs.Kernel.{count}
 use Rattle.graph.specs.Graph.{Graph, Simple}
 use Rattle.graph.specs.NeighbourWords.{graphIn}
@@ -26,10 +26,11 @@ use Rattle.parts.proofs.PartLaws.{both, closed-ext, part-closed, part-together}
 use Rattle.parts.proofs.PlacedGroups.{part-carried}
 use Rattle.parts.proofs.PlacedRows.{part-simple}
 use Rattle.parts.proofs.SameParts.{carried-closed}
-use Rattle.parts.specs.Numbered.{Numbers}
-use Rattle.parts.specs.Parts.{Closed, partOf}
+use Rattle.parts.specs.internal.Numbered.{Numbers}
+use Rattle.parts.specs.internal.Parts.{Closed}
+use Rattle.parts.specs.Parts.{partOf}
 use Rattle.parts_words.proofs.Spreading.{ones-count}
-use Rattle.parts_words.specs.Spreads.{spreadTo}
+use Rattle.parts_words.specs.internal.Spreads.{spreadTo}
 use Rattle.pauli.specs.Pauli.{Pauli}
 use Rattle.record.proofs.ReducedRecords.{record-proper}
 use Rattle.record.specs.Records.{GraphRecord, rowsOf}
@@ -41,7 +42,7 @@ use Rattle.words.proofs.SearchLaws.{some-in, some-true}
 use Rattle.words.proofs.Sums.{lt-or-ge}
 use Rattle.words.specs.Bits.{bit}
 use Rattle.words.specs.Search.{first, some}
-use Rattle.comparison_component.specs.Islands.{
+use Rattle.comparison_component.specs.internal.Islands.{
   Island,
   IslandAnswer,
   NumberedPair,

@@ -17,16 +17,17 @@ use Rattle.clifford.specs.Clifford.{Clifford, cliffordOf}
 use Rattle.clifford.specs.Vectors.{codesOf}
 use Rattle.comparison.proofs.Least.{least-answer}
 use Rattle.comparison.proofs.SettledChoices.{settled-agree, settled-least}
-use Rattle.comparison.specs.Searches.{LeastAnswer}
-use Rattle.comparison.specs.Settled.{Settled}
-use Rattle.comparison.specs.Setting.{Codes, heldGenerators}
+use Rattle.comparison.specs.internal.Searches.{LeastAnswer}
+use Rattle.comparison.specs.internal.Settled.{Settled}
+use Rattle.comparison.specs.internal.Setting.{Codes, heldGenerators}
 use Rattle.cut.proofs.Counting.{count-ext}
 use Rattle.cut.specs.Kernel.{count}
 use Rattle.graph.specs.Graph.{Graph}
 use Rattle.graph.specs.NeighbourWords.{graphIn}
 use Rattle.parts.proofs.PartLaws.{part-has, part-within, rest-closed}
-use Rattle.parts.specs.Parts.{Closed, partAbove, partOf}
-use Rattle.parts_words.specs.Spreads.{PartWord}
+use Rattle.parts.specs.internal.Parts.{Closed}
+use Rattle.parts.specs.Parts.{partAbove, partOf}
+use Rattle.parts_words.specs.internal.Spreads.{PartWord}
 use Rattle.record.proofs.ReducedRecords.{record-proper}
 use Rattle.record.specs.Records.{GraphRecord, rowsOf}
 use Rattle.stabilizer.specs.Carries.{Carries}
@@ -40,7 +41,7 @@ use Rattle.words.proofs.Trailing.{trailing-set}
 use Rattle.words.specs.Bits.{bit, _⊕_}
 use Rattle.words.specs.Search.{IsFirst}
 use Rattle.comparison_parts.proofs.IslandLaws.{island-closed}
-use Rattle.comparison_component.specs.Islands.{Island, IslandAnswer, Progress, SoundPair, held}
+use Rattle.comparison_component.specs.internal.Islands.{Island, IslandAnswer, Progress, SoundPair, held}
 
 module _ (n : ℕ) (nb cs nb₂ cs₂ : List ℕ) (P : SoundPair n nb cs nb₂ cs₂) where
   abbrev r : GraphRecord

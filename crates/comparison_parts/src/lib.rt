@@ -9,11 +9,11 @@ use words::smallest;
 ghost use mathlib.Core.Bool.{false};
 ghost use mathlib.Core.Path.{_≡_};
 ghost use Prim.Native.Nat.{_≤_};
-ghost use Rattle.comparison.specs.Searches.{LeastAnswer};
-ghost use Rattle.comparison.specs.Setting.{heldGenerators};
+ghost use Rattle.comparison.specs.internal.Searches.{LeastAnswer};
+ghost use Rattle.comparison.specs.internal.Setting.{heldGenerators};
 ghost use Rattle.graph.specs.NeighbourWords.{graphIn};
 ghost use Rattle.parts.specs.Parts.{partAbove};
-ghost use Rattle.comparison_component.specs.Islands.{Island, IslandAnswer, SoundPair, held};
+ghost use Rattle.comparison_component.specs.internal.Islands.{Island, IslandAnswer, SoundPair, held};
 
 // Whether a choice was found, and the choice.
 pub struct Whole {

@@ -11,9 +11,16 @@ ghost use mathlib.Core.Path.{_≡_};
 ghost use Prim.Native.Nat.{_≤_};
 ghost use lib.ListN.{length};
 ghost use Rattle.comparison.specs.Choices.{classKey, signKey};
-ghost use Rattle.comparison.specs.Equations.{Triangular, classAssignment, signAssignment, tableOf};
-ghost use Rattle.comparison.specs.Searches.{ClassesAnswered, Extendable, LeastAnswer, SignsChosen};
-ghost use Rattle.comparison.specs.Setting.{Codes, Connected, Setting, SoundRecord, generatorsOf, heldGenerators};
+ghost use Rattle.comparison.specs.internal.Equations.{Triangular, classAssignment, signAssignment, tableOf};
+ghost use Rattle.comparison.specs.internal.Searches.{ClassesAnswered, Extendable, LeastAnswer, SignsChosen};
+ghost use Rattle.comparison.specs.internal.Setting.{
+  Codes,
+  Connected,
+  Setting,
+  SoundRecord,
+  generatorsOf,
+  heldGenerators,
+};
 ghost use Rattle.graph.specs.NeighbourWords.{graphIn};
 
 // Whether a choice was found, and the choice.

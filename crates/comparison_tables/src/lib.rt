@@ -12,7 +12,7 @@ ghost use mathlib.Core.Path.{_≡_};
 ghost use Prim.Native.Nat.{ℕ, _+_, _<_, _≤_};
 ghost use Rattle.clifford.specs.Vectors.{codesOf};
 ghost use Rattle.stabilizer.specs.Groups.{Proper};
-ghost use Rattle.comparison.specs.Equations.{
+ghost use Rattle.comparison.specs.internal.Equations.{
   classAssignment,
   classEquation,
   emptyRows,
@@ -20,8 +20,15 @@ ghost use Rattle.comparison.specs.Equations.{
   signEquation,
   tableOf,
 };
-ghost use Rattle.comparison.specs.Setting.{Bare, Codes, Setting, generatorsOf};
-ghost use Rattle.comparison.specs.Searches.{ClassTable, FirstFit, SentUpToSign, SignTable, withClass, withSigns};
+ghost use Rattle.comparison.specs.internal.Setting.{Bare, Codes, Setting, generatorsOf};
+ghost use Rattle.comparison.specs.internal.Searches.{
+  ClassTable,
+  FirstFit,
+  SentUpToSign,
+  SignTable,
+  withClass,
+  withSigns,
+};
 
 // The equation on the classes by which the image of g commutes with h.
 fn class_equation(g: Generator, h: Generator) -> Equation

@@ -17,7 +17,8 @@ use Rattle.cut.proofs.OneSidedElements.{avoids-kernel, clear-on-side, k
 use Rattle.cut.proofs.RankLaws.{rank-by-kernels}
 use Rattle.cut.specs.Cut.{crossing, cutRank}
 use Rattle.cut.specs.Kernel.{inKernel}
-use Rattle.cut.specs.OneSided.{Avoids, Embeds}
+use Rattle.cut.specs.OneSided.{Avoids}
+use Rattle.cut.specs.internal.OneSided.{Embeds}
 
 module _ (n : ℕ) (side : Word) (r s : GraphRecord) (R : Simple n (r .graph)) (S : Simple n (s .graph))
     (E : Embeds n side (rowsOf n r) (rowsOf n s)) where

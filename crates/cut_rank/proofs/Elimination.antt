@@ -28,7 +28,7 @@ use Rattle.words.proofs.Trailing.{trailing-set}
 use Rattle.words.specs.Bits.{Word, bit, digit, fold, _⊕_}
 use Rattle.words.specs.Search.{IsFirst}
 use Rattle.cut_rank.proofs.Spans.{Spanned, span-add, span-cases, span-ext, span-more, span-next, span-zero}
-use Rattle.cut_rank.specs.Basis.{Added, Echelon, Remainder, none, one}
+use Rattle.cut_rank.specs.internal.Basis.{Added, Echelon, Remainder, none, one}
 
 -- after the columns before k: each word of the basis is a sum of them, and a sum of them has its smallest set bit at
 -- a place where the basis holds a word

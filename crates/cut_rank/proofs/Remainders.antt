@@ -15,7 +15,7 @@ use Rattle.words.proofs.Sums.{lt-or-ge}
 use Rattle.words.proofs.Trailing.{trailing-is, trailing-set}
 use Rattle.words.specs.Bits.{bit, _⊕_}
 use Rattle.words.specs.Search.{IsFirst}
-use Rattle.cut_rank.specs.Basis.{Added, Echelon, Remainder, none, one}
+use Rattle.cut_rank.specs.internal.Basis.{Added, Echelon, Remainder, none, one}
 
 -- the loop's invariant
 pub record Reducing (basis : List ℕ) (w rest : ℕ) : Type 0 where

@@ -10,7 +10,8 @@ use Rattle.job_text.specs.Text.{AllFit, JobTextOf}
 use Rattle.job_text.proofs.ReadBack.{back, back-accepted, back-count, back-qubits, back-steps, lines-pass}
 use Rattle.job_text.proofs.Unique.{job-unique}
 use Rattle.generator.specs.Drawn.{drawn, generatedText}
-use Rattle.generator.specs.ReadBack.{ReadsBack, Scanned}
+use Rattle.generator.specs.ReadBack.{ReadsBack}
+use Rattle.generator.specs.internal.ReadBack.{Scanned}
 use Rattle.generator.proofs.Shapes.{all-drawable, all-fit, length-drawn}
 
 module _ (n : ℕ) (some : 0 < n) (few : n ≤ 64) (count seed : ℕ) (short : count ≤ 4096) where

@@ -16,7 +16,8 @@ use Rattle.job_text.specs.Text.{Fits, AllFit}
 use Rattle.text.proofs.DigitLaws.{by-test}
 use Rattle.generator.specs.Draws.{draw}
 use Rattle.generator.specs.Drawn.{does, drawn, drawnCode, drawnOutcome, qubitA, qubitB, stepOf}
-use Rattle.generator.specs.Shapes.{AllDrawable, Drawable, Small}
+use Rattle.generator.specs.Shapes.{AllDrawable, Drawable}
+use Rattle.generator.specs.internal.Shapes.{Small}
 use Rattle.generator.specs.Shapes.Drawable.{gate, cz, measure}
 
 -- "d mod 3 of 0, 1, 2 picks gate, cz, measure"

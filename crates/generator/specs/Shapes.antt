@@ -16,9 +16,3 @@ pub data Drawable (n : ℕ) : Step → Type 0 where
 abbrev pub AllDrawable : ℕ → List Step → Type 0
 AllDrawable n [] = Unit
 AllDrawable n (s ∷ ss) = Drawable n s × AllDrawable n ss
-
--- the numbers of a step have at most two digits
-pub record Small (s : Step) : Type 0 where
-  pub a : s .a < 100
-  pub b : s .b < 100
-  pub value : s .value < 100

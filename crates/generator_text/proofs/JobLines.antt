@@ -11,7 +11,8 @@ use Rattle.generator.proofs.Shapes.{drawable, small}
 use Rattle.generator.specs.Drawn.{drawn, generatedText, stepOf}
 use Rattle.generator.specs.Draws.{draw}
 use Rattle.generator.specs.Lines.{room}
-use Rattle.generator.specs.Shapes.{Drawable, Small}
+use Rattle.generator.specs.Shapes.{Drawable}
+use Rattle.generator.specs.internal.Shapes.{Small}
 use Rattle.job_text.proofs.Digits.{two-places}
 use Rattle.job_text.specs.Text.{field, jobHead, jobText, qubitsLine, stepNames, stepText, stepsText}
 use Rattle.jobs.specs.declared.Step.{Step}

@@ -15,7 +15,8 @@ use Rattle.words.proofs.Finite.{⊕-zero}
 use Rattle.words.proofs.Places.{other-place, same-place}
 use Rattle.words.specs.Bits.{bit, _⊕_}
 use Rattle.graph.specs.Graph.{Graph, Simple, complement}
-use Rattle.graph.specs.NeighbourWords.{SameGraph, graphIn}
+use Rattle.graph.specs.internal.NeighbourWords.{SameGraph}
+use Rattle.graph.specs.NeighbourWords.{graphIn}
 
 abbrev pub ComplementedAt : List ℕ → ℕ → ℕ → ℕ → Type 0
 ComplementedAt old a i v = (q : ℕ) → bit v q ≡ complement (graphIn old) a i q

@@ -9,13 +9,13 @@ use native.Mathlib.Omega.{arith}
 use lib.Dec.{eqb, leb, ltb}
 use lib.ListN.{length}
 use borrow.Author.Tests.{le-ltb, leb-false, lt-leb, lt-ltb}
-use Rattle.graph_steps.specs.Kept.{unsettled}
+use Rattle.graph_steps.specs.internal.Kept.{unsettled}
 use Rattle.words.proofs.BitLaws.{lt-of-bits, zero-bit}
 use Rattle.words.proofs.Finite.{⊕-zero}
 use Rattle.words.proofs.Flags.{neither}
 use Rattle.words.proofs.Places.{other-place, same-place, upto-other}
 use Rattle.words.specs.Bits.{bit, isOdd, _⊕_}
-use Rattle.graph_settling.specs.Watching.{Watched}
+use Rattle.graph_settling.specs.internal.Watching.{Watched}
 
 -- those below i
 pub record Found (f : ℕ → Bool) (n all i : ℕ) : Type 0 where

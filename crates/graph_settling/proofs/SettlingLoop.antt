@@ -15,11 +15,11 @@ use lib.ListN.{getD, length}
 use lib.Pow.{pow-mono}
 use Rattle.graph_steps.proofs.Keeping.{form-normalised, kept-refl, kept-trans}
 use Rattle.graph_steps.proofs.OutOfPlace.{none-unsettled}
-use Rattle.graph_steps.specs.Kept.{Kept, Nearer, Normalised, unsettled}
-use Rattle.graph_steps.specs.ReducedForms.{ReducedForm}
-use Rattle.graph_steps.specs.Settling.{distance}
+use Rattle.graph_steps.specs.internal.Kept.{Kept, Nearer, Normalised, unsettled}
+use Rattle.graph_steps.specs.internal.ReducedForms.{ReducedForm}
+use Rattle.graph_steps.specs.internal.Settling.{distance}
 use Rattle.operations.proofs.UnrefusedRecords.{unrefused-short}
-use Rattle.operations.specs.InPlace.{Unrefused, recordIn}
+use Rattle.operations.specs.internal.InPlace.{Unrefused, recordIn}
 use Rattle.record.specs.Lent.{heldRecord}
 use Rattle.words.proofs.BitLaws.{bit-above, bit-flip, bit-or, flip-less, zero-bit}
 use Rattle.words.proofs.Finite.{⊕-zero}
@@ -30,7 +30,7 @@ use Rattle.words.proofs.Sums.{lt-or-ge}
 use Rattle.words.proofs.Trailing.{trailing-set}
 use Rattle.words.specs.Bits.{bit, isOdd, _⊕_}
 use Rattle.words.specs.Search.{IsFirst, first}
-use Rattle.graph_settling.specs.Watching.{Advanced, Elsewhere, Watched}
+use Rattle.graph_settling.specs.internal.Watching.{Advanced, Elsewhere, Watched}
 
 -- ---- a look at the smallest vertex of the word
 module _ (words codes : List ℕ) (U : Unrefused (recordIn words codes)) (rest : ℕ) (W : Watched words codes rest)

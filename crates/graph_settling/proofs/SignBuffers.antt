@@ -17,11 +17,11 @@ use Rattle.graph.specs.Graph.{Simple}
 use Rattle.graph_steps.proofs.Keeping.{held-words, rewritten-nearer}
 use Rattle.graph_steps.proofs.Places.{z-before}
 use Rattle.graph_steps.proofs.SignsMoved.{sign-moved-row}
-use Rattle.graph_steps.specs.Kept.{Nearer}
-use Rattle.graph_steps.specs.Settling.{distance}
-use Rattle.graph_steps.specs.Steps.{pauliCode, signMoved}
+use Rattle.graph_steps.specs.internal.Kept.{Nearer}
+use Rattle.graph_steps.specs.internal.Settling.{distance}
+use Rattle.graph_steps.specs.internal.Steps.{pauliCode, signMoved}
 use Rattle.operations.proofs.UnrefusedRecords.{unrefused-above, unrefused-simple}
-use Rattle.operations.specs.InPlace.{Rewritten, Unrefused, recordIn}
+use Rattle.operations.specs.internal.InPlace.{Rewritten, Unrefused, recordIn}
 use Rattle.record.specs.Lent.{heldRecord}
 use Rattle.record.specs.Records.{GraphRecord, rowsOf}
 use Rattle.stabilizer.proofs.EqualRows.{same-group-equal}

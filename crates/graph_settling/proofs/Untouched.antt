@@ -14,9 +14,9 @@ use Rattle.clifford.proofs.CliffordLaws.{codeOf-cliffordOf}
 use Rattle.clifford.specs.Clifford.{cliffordOf, codeOf, then}
 use Rattle.graph.specs.Graph.{Graph, Simple, complement}
 use Rattle.graph_steps.proofs.Places.{z-before}
-use Rattle.graph_steps.specs.Steps.{pauliCode, signMoved}
+use Rattle.graph_steps.specs.internal.Steps.{pauliCode, signMoved}
 use Rattle.operations.proofs.UnrefusedRecords.{unrefused-simple}
-use Rattle.operations.specs.InPlace.{Rewritten, Unrefused, recordIn}
+use Rattle.operations.specs.internal.InPlace.{Rewritten, Unrefused, recordIn}
 use Rattle.operations.specs.Steps.{pivotRecord}
 use Rattle.record.proofs.AcceptedRecords.{accepted-record}
 use Rattle.record.specs.Accepted.{AcceptedRecord}
@@ -27,7 +27,7 @@ use Rattle.words.proofs.Finite.{⊕-zero}
 use Rattle.words.proofs.Flags.{neither}
 use Rattle.words.proofs.Places.{other-place}
 use Rattle.words.specs.Bits.{bit, wordOf, _⊕_}
-use Rattle.graph_settling.specs.Watching.{Elsewhere}
+use Rattle.graph_settling.specs.internal.Watching.{Elsewhere}
 
 -- two records have the same neighbours and the same code at q
 record SameAt (q : ℕ) (r s : GraphRecord) : Type 0 where

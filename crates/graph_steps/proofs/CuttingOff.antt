@@ -67,7 +67,7 @@ use Rattle.graph_steps.proofs.CzProducts.{scaled-scaled}
 use Rattle.graph_steps.proofs.Places.{act-single, pauli-generator}
 use Rattle.graph_steps.proofs.Reaching.{single-z}
 use Rattle.graph_steps.proofs.ZRows.{chosen-zs, zs}
-use Rattle.graph_steps.specs.Steps.{cutOff, hadamardCode, pauliCode}
+use Rattle.graph_steps.specs.internal.Steps.{cutOff, hadamardCode, pauliCode}
 
 -- ---- letters
 z-acts : (k : Class) → acts (imageZ k) ≡ true

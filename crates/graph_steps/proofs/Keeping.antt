@@ -21,7 +21,7 @@ use Rattle.operations.proofs.UnrefusedRecords.{
   unrefused-long,
   unrefused-simple,
 }
-use Rattle.operations.specs.InPlace.{Rewritten, Unrefused, recordIn}
+use Rattle.operations.specs.internal.InPlace.{Rewritten, Unrefused, recordIn}
 use Rattle.operations.specs.Steps.{pivotRecord}
 use Rattle.record.proofs.AcceptedRecords.{accepted-record}
 use Rattle.record.proofs.Complementing.{complement-same}
@@ -34,9 +34,9 @@ use Rattle.stabilizer.proofs.GroupLaws.{same-refl, same-trans}
 use Rattle.stabilizer.specs.Groups.{SameGroup}
 use Rattle.words.proofs.BitLaws.{wordOf-bit}
 use Rattle.graph_steps.proofs.ReducedForms.{form-reduced}
-use Rattle.graph_steps.specs.Kept.{Kept, Nearer, Normalised}
-use Rattle.graph_steps.specs.ReducedForms.{ReducedForm}
-use Rattle.graph_steps.specs.Settling.{distance}
+use Rattle.graph_steps.specs.internal.Kept.{Kept, Nearer, Normalised}
+use Rattle.graph_steps.specs.internal.ReducedForms.{ReducedForm}
+use Rattle.graph_steps.specs.internal.Settling.{distance}
 
 pub kept-refl : (words codes : List ℕ) → Unrefused (recordIn words codes) → Kept words codes words codes
 kept-refl words codes U = record { long = refl; unrefused = U; group = same-refl }

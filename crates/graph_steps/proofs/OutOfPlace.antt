@@ -28,7 +28,7 @@ use Rattle.clifford.proofs.CliffordLaws.{codeOf-cliffordOf}
 use Rattle.clifford.specs.Clifford.{bitC, bitD, classOf, cliffordOf}
 use Rattle.graph.specs.Graph.{Simple}
 use Rattle.operations.proofs.UnrefusedRecords.{unrefused-above, unrefused-simple}
-use Rattle.operations.specs.InPlace.{Unrefused, recordIn}
+use Rattle.operations.specs.internal.InPlace.{Unrefused, recordIn}
 use Rattle.operations.specs.Steps.{pivotRecord}
 use Rattle.record.proofs.AcceptedRecords.{accepted-record}
 use Rattle.record.specs.Accepted.{AcceptedRecord}
@@ -41,10 +41,10 @@ use Rattle.words.proofs.Sums.{lt-or-ge}
 use Rattle.words.specs.Bits.{bit, isOdd, sameBit}
 use Rattle.words.specs.Search.{IsFirst, every, first}
 use Rattle.graph_steps.proofs.Settling.{calmer, nearer-alone, nearer-joined, nearer-signed, nearer-turned}
-use Rattle.graph_steps.specs.Kept.{unsettled}
-use Rattle.graph_steps.specs.ReducedForms.{ReducedForm}
-use Rattle.graph_steps.specs.Settling.{distance, unrest}
-use Rattle.graph_steps.specs.Steps.{signMoved}
+use Rattle.graph_steps.specs.internal.Kept.{unsettled}
+use Rattle.graph_steps.specs.internal.ReducedForms.{ReducedForm}
+use Rattle.graph_steps.specs.internal.Settling.{distance, unrest}
+use Rattle.graph_steps.specs.internal.Steps.{signMoved}
 
 -- ---- codes by their numbers
 pub number-C : (k : ℕ) → k < 24 → bitC (cliffordOf k) ≡ leb 8 k

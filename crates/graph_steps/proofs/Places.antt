@@ -21,7 +21,7 @@ use Rattle.words.proofs.Finite.{bits}
 use Rattle.words.proofs.Places.{other-place, parity-at, same-place}
 use Rattle.words.proofs.Sums.{fold-ext, fold-hom, fold-one, parity-add}
 use Rattle.words.specs.Bits.{Word, parity, _⊕_}
-use Rattle.graph_steps.specs.Steps.{pauliCode}
+use Rattle.graph_steps.specs.internal.Steps.{pauliCode}
 
 -- ---- Paulis
 -- a Pauli code keeps letters, and its sign is that of the bits that it does not commute with

@@ -28,8 +28,8 @@ use Rattle.graph_steps.proofs.CzProducts.{scaled-scaled}
 use Rattle.graph_steps.proofs.Places.{act-single}
 use Rattle.graph_steps.proofs.ReducedForms.{apart, form-x}
 use Rattle.graph_steps.proofs.ZRows.{zs, zs-kept}
-use Rattle.graph_steps.specs.ReducedForms.{ReducedForm}
-use Rattle.graph_steps.specs.Steps.{reach, reachMinus}
+use Rattle.graph_steps.specs.internal.ReducedForms.{ReducedForm}
+use Rattle.graph_steps.specs.internal.Steps.{reach, reachMinus}
 
 -- a code with C = 0 keeps Z, up to its sign
 kept-z : (k : Clifford) → bitC k ≡ false → k .sz ≡ false → (image k Z ≡ Z) × (imagePhase k Z ≡ i⁰)

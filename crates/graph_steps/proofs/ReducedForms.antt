@@ -19,7 +19,7 @@ use Rattle.stabilizer.proofs.GroupLaws.{same-refl}
 use Rattle.words.proofs.Places.{other-place, same-place}
 use Rattle.words.proofs.Sums.{bitMonoid, fold-ext, fold-one, fold-unit, lt-or-ge}
 use Rattle.words.specs.Bits.{parity, _⊕_}
-use Rattle.graph_steps.specs.ReducedForms.{ReducedForm}
+use Rattle.graph_steps.specs.internal.ReducedForms.{ReducedForm}
 
 -- class 1
 abbrev isYZ : Class → Bool

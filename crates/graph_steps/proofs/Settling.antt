@@ -35,8 +35,8 @@ use Rattle.words.proofs.Places.{other-place, put-all, put-other, put-same, same
 use Rattle.words.specs.Bits.{Word, put, _⊕_}
 use Rattle.graph_steps.proofs.Places.{pauli-then}
 use Rattle.graph_steps.proofs.Totals.{at-most, first-less, total-cong, total-le, total-put}
-use Rattle.graph_steps.specs.Settling.{distance, isZY, total, unrest}
-use Rattle.graph_steps.specs.Steps.{signMoved}
+use Rattle.graph_steps.specs.internal.Settling.{distance, isZY, total, unrest}
+use Rattle.graph_steps.specs.internal.Steps.{signMoved}
 
 module _ (n : ℕ) (r : GraphRecord) (G : Simple n (r .graph)) where
   abbrev places : Word → ℕ

@@ -9,7 +9,7 @@ use native.Mathlib.Omega.{arith}
 use Rattle.words.proofs.Places.{put-other, put-same}
 use Rattle.words.proofs.Sums.{fold-ext, last-or}
 use Rattle.words.specs.Bits.{Word, fold, put}
-use Rattle.graph_steps.specs.Settling.{total}
+use Rattle.graph_steps.specs.internal.Settling.{total}
 
 module _ (weight : ℕ → ℕ) where
   abbrev at : Bool → ℕ → ℕ

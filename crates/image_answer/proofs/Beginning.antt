@@ -16,7 +16,7 @@ use Rattle.record.specs.Accepted.{AcceptedRecord}
 use Rattle.record.specs.Lent.{LentRecord, heldRecord}
 use Rattle.words.proofs.Sums.{lt-or-ge}
 use Rattle.words.specs.Bits.{bit}
-use Rattle.image_rule.specs.Working.{Begun, WordsOf, workingRecord}
+use Rattle.image_rule.specs.internal.Working.{Begun, WordsOf, workingRecord}
 use Rattle.image_rule.specs.declared.bits_of_codes.CodeWords.{CodeWords}
 use Rattle.image_rule.specs.declared.complementing.Working.{Working}
 

@@ -23,7 +23,7 @@ use Rattle.words.specs.Bits.{bit, put, _⊕_}
 use Rattle.image.proofs.TrackedBits.{bits-follow}
 use Rattle.image.specs.Rule.{State, stateOf, step}
 use Rattle.graph.specs.NeighbourWords.{graphIn}
-use Rattle.image_rule.specs.Working.{Complemented, Tracking, workingRecord}
+use Rattle.image_rule.specs.internal.Working.{Complemented, Tracking, workingRecord}
 use Rattle.image_rule.specs.declared.complementing.Working.{Working}
 
 module _ (n : ℕ) (w : Working) (v : ℕ) (l : v < n) (T : Tracking n w) where

@@ -24,7 +24,7 @@ use Rattle.image.proofs.Falling.{pair-is}
 use Rattle.image.proofs.Moves.{Move, alone, joined}
 use Rattle.image.proofs.Running.{Stopped}
 use Rattle.image.specs.Rule.{State, both, onlyC, pair, stateOf}
-use Rattle.image_rule.specs.Working.{Tracking, joinedIn, workingRecord}
+use Rattle.image_rule.specs.internal.Working.{Tracking, joinedIn, workingRecord}
 use Rattle.image_rule.specs.declared.complementing.Working.{Working}
 
 -- ---- words with no bit at or above n

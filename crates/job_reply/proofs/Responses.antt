@@ -6,7 +6,7 @@ use Prim.Native.Nat.{ℕ}
 use lib.ListN.{take}
 use Rattle.job_text.proofs.TextAnswers.{accepted-answers, refused-answers}
 use Rattle.job_text.specs.Answer.{Answers, ResponseTo, answered}
-use Rattle.job_text.specs.Scan.{empty, fed, verdict}
+use Rattle.job_text.specs.internal.Scan.{empty, fed, verdict}
 use Rattle.job_text.specs.declared.scan.Reading.{Reading}
 use Rattle.text.specs.Text.{Printed, refusedText}
 

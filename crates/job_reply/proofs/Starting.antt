@@ -15,9 +15,11 @@ use Rattle.jobs.specs.Runs.{started}
 use Rattle.jobs.specs.declared.Step.{Step}
 use Rattle.record.specs.Lent.{LentRecord}
 use Rattle.text.proofs.Writing.{and-then, length-written}
-use Rattle.text.specs.Text.{Printable, Printed, recordText}
-use Rattle.jobs_run.specs.StepsRun.{StepsRun}
-use Rattle.job_reply.specs.Room.{Fresh, longest}
+use Rattle.text.specs.internal.Text.{Printable}
+use Rattle.text.specs.Text.{Printed, recordText}
+use Rattle.jobs_run.specs.internal.StepsRun.{StepsRun}
+use Rattle.job_reply.specs.internal.Room.{Fresh}
+use Rattle.job_reply.specs.Room.{longest}
 
 -- the first n places of a buffer of equal numbers
 pub repeated-part : (n m v : ℕ) → n ≤ m → take n (replicate m v) ≡ replicate n v

@@ -12,8 +12,9 @@ ghost use Prim.Native.Nat.{ℕ, _≤_};
 ghost use lib.ListN.{length, take};
 ghost use Rattle.text.specs.Text.{Printed};
 ghost use Rattle.job_text.specs.Answer.{ResponseTo, answered};
-ghost use Rattle.job_text.specs.Scan.{empty, fed};
-ghost use Rattle.job_reply.specs.Room.{Fresh, longest};
+ghost use Rattle.job_text.specs.internal.Scan.{empty, fed};
+ghost use Rattle.job_reply.specs.internal.Room.{Fresh};
+ghost use Rattle.job_reply.specs.Room.{longest};
 
 // Runs the first steps of a job, and prints its answer.
 fn print_run(

@@ -15,7 +15,7 @@ use Rattle.stabilizer.proofs.SharedTests.{counted}
 use Rattle.words.proofs.Sums.{lt-or-ge}
 use Rattle.job_text.specs.Lines.{jobLines}
 use Rattle.job_text.specs.Text.{JobTextOf, HasJobForm}
-use Rattle.job_text.specs.Scan.{atLine, verdict, Judged}
+use Rattle.job_text.specs.internal.Scan.{atLine, verdict, Judged}
 use Rattle.job_text.specs.declared.scan.Reading.{Reading}
 use Rattle.job_text.proofs.KeptLaws.{count-many, count-few, steps-few}
 

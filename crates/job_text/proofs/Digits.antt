@@ -11,7 +11,7 @@ use borrow.Author.Tests.{lt-ltb, le-ltb, ltb-false}
 use Rattle.text.proofs.DigitLaws.{by-test, readDecimal}
 use Rattle.text.specs.Text.{decimal}
 use Rattle.job_text.specs.Text.{digits}
-use Rattle.job_text.specs.Scan.{digitValue}
+use Rattle.job_text.specs.internal.Scan.{digitValue}
 
 pub value-digit : (d : ℕ) → d < 10 → digitValue (48 + d) ≡ d
 unfolding digitValue

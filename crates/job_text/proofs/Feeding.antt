@@ -12,7 +12,7 @@ use lib.ListN.{length, getD, take}
 use lib.Seq.{take-suc}
 use borrow.Author.Tests.{le-ltb}
 use Rattle.jobs.specs.declared.Step.{Step}
-use Rattle.job_text.specs.Scan.{reading, stored, feedNext, feed, fed, fedBlocks, step}
+use Rattle.job_text.specs.internal.Scan.{reading, stored, feedNext, feed, fed, fedBlocks, step}
 use Rattle.job_text.specs.declared.scan.Reading.{Reading}
 use Rattle.job_text.specs.declared.scan.Scan.{Scan}
 

@@ -15,9 +15,10 @@ use borrow.Author.Tests.{lt-ltb}
 use Rattle.buffers.specs.Refusals.{Line, line, firstFitting, badCount}
 use Rattle.jobs.specs.declared.Step.{Step}
 use Rattle.words.proofs.Sums.{lt-or-ge}
-use Rattle.job_text.specs.Lines.{jobLines, textLines, TextNumber}
+use Rattle.job_text.specs.Lines.{jobLines}
+use Rattle.job_text.specs.internal.Lines.{textLines, TextNumber}
 use Rattle.job_text.specs.Text.{HasJobForm}
-use Rattle.job_text.specs.Scan.{atLine, verdict, Kept, Judged}
+use Rattle.job_text.specs.internal.Scan.{atLine, verdict, Kept, Judged}
 use Rattle.job_text.specs.declared.scan.Reading.{Reading}
 
 module _ (n : ℕ) (steps : List Step) (w : Reading) (kept : Kept n steps w) where

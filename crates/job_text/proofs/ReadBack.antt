@@ -10,7 +10,7 @@ use Rattle.buffers.specs.Refusals.{firstFitting}
 use Rattle.jobs.specs.declared.Step.{Step}
 use Rattle.job_text.specs.Lines.{jobLines}
 use Rattle.job_text.specs.Text.{AllFit, jobText, JobTextOf}
-use Rattle.job_text.specs.Scan.{empty, fed, verdict, Kept}
+use Rattle.job_text.specs.internal.Scan.{empty, fed, verdict, Kept}
 use Rattle.job_text.specs.declared.scan.Reading.{Reading}
 use Rattle.job_text.proofs.KeptLaws.{count-few, steps-few, text-number}
 use Rattle.job_text.proofs.Verdict.{empty-judged}

@@ -18,8 +18,8 @@ use Rattle.text.specs.Text.{newline}
 use Rattle.words.proofs.Sums.{lt-or-ge}
 use Rattle.job_text.specs.Text.{field, Fits, AllFit, stepText, stepsText, qubitsLine, stepNames, jobHead}
 use Rattle.job_text.specs.Text.{jobText, JobTextOf}
-use Rattle.job_text.specs.Scan.{headStep, moreStep, digitValue, step, oneMore, begin, reading, stored}
-use Rattle.job_text.specs.Scan.{feedNext, feed, fed, Kept}
+use Rattle.job_text.specs.internal.Scan.{headStep, moreStep, digitValue, step, oneMore, begin, reading, stored}
+use Rattle.job_text.specs.internal.Scan.{feedNext, feed, fed, Kept}
 use Rattle.job_text.specs.declared.scan.Field.the-variants.{N, Value}
 use Rattle.job_text.specs.declared.scan.Place.the-variants.{Head, Word, First, More}
 use Rattle.job_text.specs.declared.scan.Reading.{Reading}

@@ -12,8 +12,8 @@ use Rattle.jobs.specs.declared.Step.{Step}
 use Rattle.text.proofs.DigitLaws.{by-test}
 use Rattle.text.specs.Text.{space}
 use Rattle.job_text.specs.Text.{digits, field, opWord, Fits, stepText}
-use Rattle.job_text.specs.Scan.{firstOp, opFor, wordStep, digitValue, firstStep, moreStep, step, oneMore}
-use Rattle.job_text.specs.Scan.{reading, feedNext, feed, fed}
+use Rattle.job_text.specs.internal.Scan.{firstOp, opFor, wordStep, digitValue, firstStep, moreStep, step, oneMore}
+use Rattle.job_text.specs.internal.Scan.{reading, feedNext, feed, fed}
 use Rattle.job_text.specs.declared.scan.Field.{Field}
 use Rattle.job_text.specs.declared.scan.Field.the-variants.{A, B, Value}
 use Rattle.job_text.specs.declared.scan.Place.{Place}

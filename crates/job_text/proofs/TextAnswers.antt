@@ -14,8 +14,9 @@ use Rattle.buffers.specs.Refusals.{badCount, firstFitting}
 use Rattle.text.specs.Text.{refusedText}
 use Rattle.words.proofs.Flags.{neither}
 use Rattle.job_text.specs.Answer.{Answers, answered, printed}
-use Rattle.job_text.specs.Lines.{TextNumber, jobLines, textLines}
-use Rattle.job_text.specs.Scan.{Judged, atLine, empty, fed, verdict}
+use Rattle.job_text.specs.internal.Lines.{TextNumber, textLines}
+use Rattle.job_text.specs.Lines.{jobLines}
+use Rattle.job_text.specs.internal.Scan.{Judged, atLine, empty, fed, verdict}
 use Rattle.job_text.specs.Text.{HasJobForm}
 use Rattle.job_text.specs.declared.scan.Reading.{Reading}
 use Rattle.job_text.specs.declared.scan.Scan.{Scan}

@@ -13,7 +13,7 @@ use Rattle.text.proofs.DigitLaws.{readDecimal}
 use Rattle.text.specs.Text.{space, newline}
 use Rattle.job_text.specs.Text.{field, opWord, Fits, AllFit, stepText, stepsText, qubitsLine, stepNames}
 use Rattle.job_text.specs.Text.{jobHead, jobText, JobTextOf}
-use Rattle.job_text.specs.Scan.{firstOp, opFor}
+use Rattle.job_text.specs.internal.Scan.{firstOp, opFor}
 use Rattle.job_text.proofs.Digits.{digits-back}
 use Rattle.job_text.proofs.OpLaws.{op-without}
 use Rattle.job_text.proofs.Separators.{parts-at, digits-without}

@@ -12,8 +12,8 @@ use Rattle.jobs.specs.declared.Op.{Op}
 use Rattle.jobs.specs.declared.Step.{Step}
 use Rattle.text.specs.Text.{space}
 use Rattle.job_text.specs.Text.{AllFit, opWord, jobText, HasJobForm}
-use Rattle.job_text.specs.Scan.{step, begin, reading, stored, feedNext, feed, fed, fedBlocks, atLine}
-use Rattle.job_text.specs.Scan.{Kept, Judged, noStep, empty}
+use Rattle.job_text.specs.internal.Scan.{step, begin, reading, stored, feedNext, feed, fed, fedBlocks, atLine}
+use Rattle.job_text.specs.internal.Scan.{Kept, Judged, noStep, empty}
 use Rattle.job_text.specs.declared.scan.Place.{Place}
 use Rattle.job_text.specs.declared.scan.Place.the-variants.{Head, Word, First, More, Broken}
 use Rattle.job_text.specs.declared.scan.Reading.{Reading}

@@ -14,7 +14,7 @@ use Rattle.stabilizer.specs.Lists.{clashing, dependent}
 use Rattle.stabilizer.specs.Membership.{member}
 use Rattle.words.specs.Bits.{bit, fold, put, wordOf}
 use Rattle.words.specs.Search.{every, first, some}
-use Rattle.jobs.specs.JobTable.{expected, given}
+use Rattle.jobs.specs.internal.JobTable.{expected, given}
 use Rattle.jobs.specs.Runs.{answers, run}
 
 pub jobs-run : given ≡ expected

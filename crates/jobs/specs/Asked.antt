@@ -1,9 +1,9 @@
 -- What a step of a job asks: its operation, the fields that it does not use, and its lines in checking order.
 -- Assumes nothing.
-use mathlib.Core.Bool.{_&&_, Bool, false, not, _||_}
+use mathlib.Core.Bool.{_&&_, Bool, not, _||_}
 use mathlib.Core.List.{List, [], _∷_}
 use Prim.Native.Nat.{_%_, _+_, _/_, ℕ}
-use lib.Dec.{eqb, leb}
+use lib.Dec.{eqb}
 use Rattle.buffers.specs.Refusals.{Line, firstFitting, line}
 use Rattle.operations.specs.Steps.{
   Operation,
@@ -43,14 +43,6 @@ unusedSet Cz b value = not (eqb value 0)
 unusedSet Measure b value = not (eqb b 0)
 unusedSet Complement b value = not (eqb b 0) || not (eqb value 0)
 unusedSet Pivot b value = not (eqb value 0)
-
--- the value is no code, or for a measurement no Pauli and outcome: line 6 of its call
-abbrev pub wrongValue : Op → ℕ → Bool
-wrongValue Gate value = leb 24 value
-wrongValue Cz value = false
-wrongValue Measure value = leb 6 value
-wrongValue Complement value = false
-wrongValue Pivot value = false
 
 -- ---- lines
 -- those of an operation's arguments: they read n, and for a pivot the edges; a measurement has 14 after these

@@ -15,11 +15,12 @@ use Rattle.jobs.proofs.Stepwise.{answer-at, run-next, run-none, run-qubits}
 use Rattle.jobs.specs.Runs.{answers, run}
 use Rattle.jobs.specs.declared.Answer.{Answer}
 use Rattle.jobs.specs.declared.Step.{Step}
-use Rattle.jobs_run.specs.StepRuns.{StepRun}
+use Rattle.jobs_run.specs.internal.StepRuns.{StepRun}
 use Rattle.record.specs.Lent.{LentRecord}
 use Rattle.text.proofs.Writing.{and-then, length-written, write-none}
 use Rattle.text.specs.Text.{Printed}
-use Rattle.jobs_run.specs.StepsRun.{StepsRun, linesRoom}
+use Rattle.jobs_run.specs.internal.StepsRun.{StepsRun}
+use Rattle.jobs_run.specs.StepsRun.{linesRoom}
 
 -- after k of the steps, with their lines printed from a place on
 pub record Upto (l : LentRecord) (steps : List Step) (from : ℕ) (before : List ℕ) (k : ℕ) (nb cs out : List ℕ)

@@ -17,7 +17,8 @@ use Rattle.jobs.proofs.Numbers.{
   refused-keeps,
   six-refuses,
 }
-use Rattle.jobs.specs.Asked.{asked, numberOf, operation, unusedSet, wrongValue}
+use Rattle.jobs.specs.Asked.{asked, numberOf, operation, unusedSet}
+use Rattle.jobs.specs.internal.Asked.{wrongValue}
 use Rattle.jobs.specs.Runs.{afterStep, answerOf, determinedOf, outcomeOf}
 use Rattle.jobs.specs.declared.Answer.{Answer}
 use Rattle.jobs.specs.declared.Op.{Op}
@@ -29,7 +30,7 @@ use Rattle.call_gates.proofs.InPlaceCalls.{left-by-call}
 use Rattle.call_gates.specs.InPlaceCalls.{inPlaceCall, measureCall}
 use Rattle.words.proofs.Flags.{neither}
 use Rattle.jobs.proofs.WrongFields.{fields-refuse}
-use Rattle.jobs_run.specs.StepRuns.{Rewriting, StepRun}
+use Rattle.jobs_run.specs.internal.StepRuns.{Rewriting, StepRun}
 
 abbrev answer : ℕ → ℕ → ℕ → Answer
 answer k o d = record { refusal = k; outcome = o; determined = d }

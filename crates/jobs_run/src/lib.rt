@@ -17,8 +17,8 @@ ghost use Prim.Native.Nat.{_%_, _+_, _/_, _<_};
 ghost use Rattle.contracts.specs.Calls.{Call};
 ghost use Rattle.jobs.specs.Asked.{operation};
 ghost use Rattle.call_gates.specs.InPlaceCalls.{inPlaceCall, measureCall};
-ghost use Rattle.call_gates.specs.Knowing.{Known};
-ghost use Rattle.jobs_run.specs.StepRuns.{Rewriting, StepRun};
+ghost use Rattle.call_gates.specs.internal.Knowing.{Known};
+ghost use Rattle.jobs_run.specs.internal.StepRuns.{Rewriting, StepRun};
 
 // A measurement with the value 2 × (Pauli − 1) + outcome. A refused one answers 0 and 0.
 fn run_measurement(

@@ -6,7 +6,8 @@ use jobs::Step;
 use record_checks::record_refusal;
 ghost use Prim.Native.Nat.{_≤_};
 ghost use lib.ListN.{length, take};
-ghost use Rattle.jobs_run.specs.StepsRun.{StepsRun, linesRoom};
+ghost use Rattle.jobs_run.specs.internal.StepsRun.{StepsRun};
+ghost use Rattle.jobs_run.specs.StepsRun.{linesRoom};
 
 // Runs the first steps from a record on, and prints the names and the line of each. The lines of the record alone are
 // looked at once: a step leaves a record that none of them refuses.

@@ -4,10 +4,10 @@ use mathlib.Core.List.{_++_, List, []}
 use mathlib.Core.Path.{ap, sym, _∙_, _≡_}
 use Prim.Native.Nat.{ℕ}
 use Rattle.text.proofs.Feeding.{fed-append}
-use Rattle.text.specs.Scan.{begin, fed, reading, verdict}
+use Rattle.text.specs.internal.Scan.{begin, fed, reading, verdict}
 use Rattle.text.specs.declared.scan.Scan.{Scan}
 use Rattle.text.specs.declared.scan.Verdict.{Verdict}
-use Rattle.list_input.specs.Scanned.{Scanned}
+use Rattle.list_input.specs.internal.Scanned.{Scanned}
 
 -- the scan has been fed with some text
 abbrev pub Fed : List ℕ → List ℕ → List ℕ → Scan → List ℕ → List ℕ → List ℕ → Type 0

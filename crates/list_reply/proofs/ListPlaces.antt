@@ -7,7 +7,8 @@ use native.Mathlib.Omega.{arith}
 use lib.ListN.{length, take}
 use Rattle.buffers.proofs.Parts.{part-long}
 use Rattle.list_reply.specs.Answer.{printed}
-use Rattle.list_reply.specs.Places.{Lent, listAt, longest}
+use Rattle.list_reply.specs.internal.Places.{Lent, listAt}
+use Rattle.list_reply.specs.Places.{longest}
 
 module _ (n m : ℕ) (e : m ≡ min n 64) where
   pub places-long : (buffer : List ℕ) → length buffer ≡ 64 → length (take m buffer) ≡ m

@@ -10,12 +10,12 @@ use native.Mathlib.Omega.{arith}
 use lib.ListN.{length, length-append, replicate}
 use Rattle.buffers.specs.Refusals.{firstFitting}
 use Rattle.text.proofs.FormLaws.{list-unique}
-use Rattle.text.specs.Scan.{Reading, begin, fed, reading, verdict}
+use Rattle.text.specs.internal.Scan.{Reading, begin, fed, reading, verdict}
 use Rattle.text.specs.Text.{HasForm, TextOf, linesText, listNames, listText, refusedText}
 use Rattle.text.specs.declared.scan.Verdict.{Verdict}
 use Rattle.list_reply.proofs.ReadTexts.{formed-answers, malformed-answers, says-form}
 use Rattle.list_reply.specs.Answer.{Answers, listRead, printed}
-use Rattle.list_reply.specs.Places.{ScanOf}
+use Rattle.list_reply.specs.internal.Places.{ScanOf}
 
 module _ (t : List ℕ) where
   -- the text, scanned into buffers of zeros

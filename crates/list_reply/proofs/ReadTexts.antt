@@ -10,13 +10,13 @@ use native.Mathlib.Omega.{arith}
 use lib.ListN.{length, replicate, take}
 use Rattle.text.proofs.KeptLaws.{count-few, count-many, signs-few, xs-few, zs-few}
 use Rattle.text.proofs.Verdict.{text-judged}
-use Rattle.text.specs.Scan.{Judged, Kept, Reading, reading, verdict}
+use Rattle.text.specs.internal.Scan.{Judged, Kept, Reading, reading, verdict}
 use Rattle.text.specs.Text.{HasForm, Line, Printed, refusedText}
 use Rattle.text.specs.declared.scan.Verdict.{Verdict}
 use Rattle.words.proofs.Sums.{lt-or-ge}
 use Rattle.list_reply.proofs.Answering.{too-many-printed}
 use Rattle.list_reply.specs.Answer.{Answers, ResponseTo, listRead, printed}
-use Rattle.list_reply.specs.Places.{ScanOf, listAt}
+use Rattle.list_reply.specs.internal.Places.{ScanOf, listAt}
 
 module _ (t : List ℕ) (v : Verdict) (signs z x : List ℕ) (S : ScanOf t v signs z x) where
   -- the verdict and the list are those of the text

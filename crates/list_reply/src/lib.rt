@@ -9,7 +9,8 @@ ghost use Prim.Native.Nat.{ℕ, _≤_, min};
 ghost use lib.ListN.{length};
 ghost use Rattle.text.specs.Text.{Printed};
 ghost use Rattle.list_reply.specs.Answer.{ResponseTo, printed};
-ghost use Rattle.list_reply.specs.Places.{Lent, ScanOf, listAt, longest};
+ghost use Rattle.list_reply.specs.internal.Places.{Lent, ScanOf, listAt};
+ghost use Rattle.list_reply.specs.Places.{longest};
 
 // Reduces a list and prints its record, or the refusal's number.
 fn print_reduced(

@@ -14,7 +14,7 @@ use Rattle.stabilizer.specs.Lists.{clashing, dependent}
 use Rattle.words.specs.Bits.{bit, fold, put, wordOf}
 use Rattle.words.specs.Search.{every, first, some}
 use Rattle.operations.specs.Cz.{cz}
-use Rattle.operations.specs.Sessions.{expected, given}
+use Rattle.operations.specs.internal.Sessions.{expected, given}
 
 pub sessions : given ≡ expected
 unfolding fold put bit wordOf some every first power mul anticommute inverse act tabulate firstFitting

@@ -1,8 +1,7 @@
 -- The calls that work on a lent record in place: the lines of each in checking order, and what it leaves.
 -- Assumes nothing.
-use mathlib.Core.Bool.{Bool, cond, false, not, _||_}
+use mathlib.Core.Bool.{Bool, false, not, _||_}
 use mathlib.Core.List.{_++_, List, [], _∷_}
-use mathlib.Core.Path.{_≡_}
 use Prim.Native.Nat.{ℕ}
 use lib.Dec.{eqb, leb}
 use Rattle.buffers.specs.Buffers.{accepted}
@@ -14,7 +13,7 @@ use Rattle.record.specs.Reduced.{reduced}
 use Rattle.words.specs.Bits.{isOdd}
 use Rattle.operations.specs.Cz.{czRows}
 use Rattle.operations.specs.Gates.{gated}
-use Rattle.operations.specs.Measurement.{answered, contradicts, isDetermined, measuredRows, outcome, pauliLetter}
+use Rattle.operations.specs.Measurement.{answered, contradicts, measuredRows, pauliLetter}
 use Rattle.operations.specs.declared.Outcome.{Outcome}
 
 -- "A pivot on an edge j, k complements j, k, j"
@@ -90,11 +89,6 @@ leaves l o =
 -- a measurement's further answer
 abbrev pub measuredAnswer : LentRecord → ℕ → ℕ → ℕ → Outcome
 measuredAnswer l pauli q b = answered (l .n) (heldRows l) (pauliLetter pauli) q (isOdd b)
-
--- what is read off a record before a measurement: whether it is determined, and then the sign
-pub record ReadOff (l : LentRecord) (pauli q : ℕ) (determined minus : Bool) : Type 0 where
-  pub known : determined ≡ isDetermined (l .n) (heldRows l) (pauliLetter pauli) q
-  pub reading : (b : Bool) → outcome (l .n) (heldRows l) (pauliLetter pauli) q b ≡ cond determined minus b
 
 -- ---- sessions: one call after another on the record that the last one left
 abbrev pub session : LentRecord → List Operation → LentRecord

@@ -7,9 +7,10 @@ use Prim.Native.Nat.{_<_, _^_, ℕ, _≤_}
 use lib.Bits.{bitOr, bitXor}
 use lib.Count.{trailingZeros}
 use lib.ListN.{getD, length, set}
-use Rattle.graph.specs.NeighbourWords.{SameGraph, graphIn}
+use Rattle.graph.specs.internal.NeighbourWords.{SameGraph}
+use Rattle.graph.specs.NeighbourWords.{graphIn}
 use Rattle.buffers.proofs.OverSets.{Over, next-named, over-end, over-start, over-step}
-use Rattle.graph_steps.specs.Steps.{joinedBy}
+use Rattle.graph_steps.specs.internal.Steps.{joinedBy}
 use Rattle.words.proofs.BitLaws.{bit-above, bit-or, lt-of-bits}
 use Rattle.words.proofs.Finite.{⊕-zero}
 use Rattle.words.proofs.Flags.{neither}

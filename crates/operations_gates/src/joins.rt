@@ -11,10 +11,11 @@ ghost use Prim.Native.Nat.{ℕ, _<_, _≤_, _^_};
 ghost use lib.Dec.{eqb};
 ghost use lib.ListN.{length};
 ghost use Rattle.clifford.specs.Clifford.{bitC, cliffordOf};
-ghost use Rattle.graph.specs.NeighbourWords.{SameGraph, graphIn};
-ghost use Rattle.graph_steps.specs.ReducedForms.{ReducedForm};
-ghost use Rattle.graph_steps.specs.Steps.{czRecord, joinedBy};
-ghost use Rattle.operations.specs.InPlace.{Rewritten, Unrefused, recordIn};
+ghost use Rattle.graph.specs.internal.NeighbourWords.{SameGraph};
+ghost use Rattle.graph.specs.NeighbourWords.{graphIn};
+ghost use Rattle.graph_steps.specs.internal.ReducedForms.{ReducedForm};
+ghost use Rattle.graph_steps.specs.internal.Steps.{czRecord, joinedBy};
+ghost use Rattle.operations.specs.internal.InPlace.{Rewritten, Unrefused, recordIn};
 ghost use Rattle.record.specs.Lent.{heldRecord};
 ghost use Rattle.words.specs.Bits.{_⊕_, bit};
 

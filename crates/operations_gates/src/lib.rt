@@ -13,7 +13,7 @@ ghost use Rattle.clifford.specs.Clifford.{cliffordOf, codeOf, then};
 ghost use Rattle.clifford.specs.Vectors.{codesOf};
 ghost use Rattle.operations.specs.Cz.{czRows};
 ghost use Rattle.operations.specs.Gates.{gated};
-ghost use Rattle.operations.specs.InPlace.{Rewritten, Unrefused, recordIn};
+ghost use Rattle.operations.specs.internal.InPlace.{Rewritten, Unrefused, recordIn};
 ghost use Rattle.record.specs.Records.{rowsOf};
 ghost use Rattle.record.specs.Reduced.{reduced};
 

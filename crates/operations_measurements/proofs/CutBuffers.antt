@@ -12,11 +12,12 @@ use Rattle.buffers.specs.Buffers.{tabulate}
 use Rattle.clifford.specs.Clifford.{cliffordOf, codeOf, then}
 use Rattle.clifford.specs.Vectors.{codesOf}
 use Rattle.graph.specs.Graph.{Simple}
-use Rattle.graph.specs.NeighbourWords.{SameGraph, graphIn}
+use Rattle.graph.specs.internal.NeighbourWords.{SameGraph}
+use Rattle.graph.specs.NeighbourWords.{graphIn}
 use Rattle.graph_steps.proofs.Places.{z-before}
-use Rattle.graph_steps.specs.Steps.{cutOff, hadamardCode, pauliCode}
+use Rattle.graph_steps.specs.internal.Steps.{cutOff, hadamardCode, pauliCode}
 use Rattle.operations.proofs.UnrefusedRecords.{unrefused-long, unrefused-simple}
-use Rattle.operations.specs.InPlace.{Rewritten, Unrefused, recordIn}
+use Rattle.operations.specs.internal.InPlace.{Rewritten, Unrefused, recordIn}
 use Rattle.record.specs.Lent.{heldRecord}
 use Rattle.record.specs.Records.{GraphRecord}
 use Rattle.words.proofs.BitLaws.{lt-of-bits, wordOf-bit}

@@ -13,9 +13,9 @@ use Rattle.clifford.specs.Clifford.{cliffordOf, image, then}
 use Rattle.clifford.specs.Vectors.{codesOf}
 use Rattle.graph.specs.Graph.{Simple}
 use Rattle.graph_steps.proofs.Keeping.{complement-kept, kept-trans}
-use Rattle.graph_steps.specs.Kept.{Faced, Kept}
+use Rattle.graph_steps.specs.internal.Kept.{Faced, Kept}
 use Rattle.operations.proofs.UnrefusedRecords.{unrefused-short, unrefused-simple}
-use Rattle.operations.specs.InPlace.{Rewritten, Unrefused, recordIn}
+use Rattle.operations.specs.internal.InPlace.{Rewritten, Unrefused, recordIn}
 use Rattle.operations_rewriting.proofs.Pivoting.{complemented-held}
 use Rattle.pauli.specs.declared.Letter.{Letter}
 use Rattle.pauli.specs.declared.Letter.the-variants.{I, X, Z}

@@ -6,13 +6,13 @@ use mathlib.Core.Path.{ap, refl, subst, sym, _∙_, _≡_}
 use Prim.Native.Nat.{_<_, ℕ}
 use lib.ListN.{length}
 use Rattle.graph.specs.Graph.{Simple}
-use Rattle.graph_steps.specs.Kept.{GroupMeasured, Normalised}
+use Rattle.graph_steps.specs.internal.Kept.{GroupMeasured, Normalised}
 use Rattle.operations.proofs.Determined.{measured-proper}
 use Rattle.operations.proofs.GroupAlone.{reduced-of-group}
 use Rattle.operations.proofs.UnrefusedRecords.{unrefused-simple}
-use Rattle.operations.specs.InPlace.{MeasuredInPlace, Unrefused, recordIn}
+use Rattle.operations.specs.internal.InPlace.{MeasuredInPlace, Unrefused, recordIn}
 use Rattle.operations.specs.Measurement.{answered, contradicts, isDetermined, measuredRows, outcome, pauliLetter}
-use Rattle.operations.specs.Steps.{ReadOff}
+use Rattle.operations.specs.internal.Steps.{ReadOff}
 use Rattle.operations.specs.declared.Outcome.{Outcome}
 use Rattle.operations.specs.declared.Outcome.the-variants.{Chosen, Determined}
 use Rattle.pauli.specs.Pauli.{Pauli}

@@ -9,8 +9,8 @@ use Rattle.clifford.specs.Clifford.{identityClifford, image}
 use Rattle.clifford.specs.Vectors.{codesOf}
 use Rattle.graph.specs.Graph.{Simple}
 use Rattle.graph_steps.proofs.CuttingOff.{cut-above, cut-same, cut-simple}
-use Rattle.graph_steps.specs.Kept.{Faced, GroupMeasured}
-use Rattle.graph_steps.specs.Steps.{cutOff}
+use Rattle.graph_steps.specs.internal.Kept.{Faced, GroupMeasured}
+use Rattle.graph_steps.specs.internal.Steps.{cutOff}
 use Rattle.operations.proofs.Determined.{determined-kept}
 use Rattle.operations.proofs.GroupAlone.{measured-of-group}
 use Rattle.operations.proofs.MeasuredRecords.{acts, determined-alone, pauli-acts}
@@ -21,7 +21,7 @@ use Rattle.operations.proofs.UnrefusedRecords.{
   unrefused-above,
   unrefused-simple,
 }
-use Rattle.operations.specs.InPlace.{Rewritten, Unrefused, recordIn}
+use Rattle.operations.specs.internal.InPlace.{Rewritten, Unrefused, recordIn}
 use Rattle.operations.specs.Measurement.{isDetermined, measuredRows, pauliLetter}
 use Rattle.pauli.specs.declared.Letter.{Letter}
 use Rattle.pauli.specs.declared.Letter.the-variants.{I, X, Y, Z}

@@ -11,7 +11,8 @@ use lib.Dec.{eqb}
 use lib.ListN.{getD, length, set}
 use lib.Seq.{getD-set-other, getD-set-same}
 use Rattle.graph.specs.Graph.{Graph, Simple}
-use Rattle.graph.specs.NeighbourWords.{SameGraph, graphIn}
+use Rattle.graph.specs.internal.NeighbourWords.{SameGraph}
+use Rattle.graph.specs.NeighbourWords.{graphIn}
 use Rattle.buffers.proofs.OverSets.{Over, next-named, over-end, over-start, over-step}
 use Rattle.words.proofs.BitLaws.{bit-flip, lt-of-bits, zero-bit}
 use Rattle.words.proofs.Finite.{⊕-zero}

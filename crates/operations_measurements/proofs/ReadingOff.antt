@@ -12,9 +12,9 @@ use Rattle.clifford.specs.Clifford.{Clifford, cliffordOf, image, imagePhase}
 use Rattle.graph.specs.Graph.{Simple}
 use Rattle.operations_measurements.proofs.SentLetters.{equal-letters, equal-letters-refl, equalLetters}
 use Rattle.operations.proofs.MeasuredRecords.{determined-alone, outcome-alone, pauli-acts}
-use Rattle.operations.specs.InPlace.{Unrefused, recordIn}
+use Rattle.operations.specs.internal.InPlace.{Unrefused, recordIn}
 use Rattle.operations.specs.Measurement.{isDetermined, outcome, pauliLetter, single}
-use Rattle.operations.specs.Steps.{ReadOff}
+use Rattle.operations.specs.internal.Steps.{ReadOff}
 use Rattle.pauli.proofs.PhaseLaws.{minus-injective}
 use Rattle.pauli.specs.Pauli.{minus, xBit, zBit}
 use Rattle.pauli.specs.declared.Letter.{Letter}

@@ -19,10 +19,11 @@ ghost use lib.ListN.{getD, length};
 ghost use Rattle.clifford.specs.Clifford.{cliffordOf, codeOf, image, then};
 ghost use Rattle.clifford.specs.Vectors.{codesOf};
 ghost use Rattle.graph.specs.Graph.{Simple};
-ghost use Rattle.graph.specs.NeighbourWords.{SameGraph, graphIn};
-ghost use Rattle.graph_steps.specs.Kept.{Faced, Kept};
-ghost use Rattle.graph_steps.specs.Steps.{cutOff, hadamardCode};
-ghost use Rattle.operations.specs.InPlace.{Rewritten, Unrefused, recordIn};
+ghost use Rattle.graph.specs.internal.NeighbourWords.{SameGraph};
+ghost use Rattle.graph.specs.NeighbourWords.{graphIn};
+ghost use Rattle.graph_steps.specs.internal.Kept.{Faced, Kept};
+ghost use Rattle.graph_steps.specs.internal.Steps.{cutOff, hadamardCode};
+ghost use Rattle.operations.specs.internal.InPlace.{Rewritten, Unrefused, recordIn};
 ghost use Rattle.pauli.specs.declared.Letter.the-variants.{I, X};
 
 // Whether the code sends a letter to plus or minus another.

@@ -15,7 +15,7 @@ use Rattle.operations.proofs.UnrefusedRecords.{
   unrefused-above,
   unrefused-simple,
 }
-use Rattle.operations.specs.InPlace.{Rewritten, Unrefused, recordIn}
+use Rattle.operations.specs.internal.InPlace.{Rewritten, Unrefused, recordIn}
 use Rattle.operations.specs.Steps.{pivotRecord}
 use Rattle.record.specs.Lent.{codeNumbers, heldRecord, neighbourWords}
 use Rattle.record.specs.Records.{GraphRecord, complementRecord}

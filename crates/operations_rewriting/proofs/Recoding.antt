@@ -14,8 +14,9 @@ use Rattle.clifford.specs.Clifford.{Clifford, cliffordOf, codeOf, then}
 use Rattle.clifford.specs.Vectors.{codesOf}
 use Rattle.graph.proofs.Complement.{complement-simple}
 use Rattle.graph.specs.Graph.{complement}
-use Rattle.graph.specs.NeighbourWords.{SameGraph, graphIn}
-use Rattle.operations.specs.InPlace.{Rewritten, Unrefused, recordIn}
+use Rattle.graph.specs.internal.NeighbourWords.{SameGraph}
+use Rattle.graph.specs.NeighbourWords.{graphIn}
+use Rattle.operations.specs.internal.InPlace.{Rewritten, Unrefused, recordIn}
 use Rattle.record.proofs.AcceptedRecords.{accepted-record}
 use Rattle.record.specs.Accepted.{AcceptedRecord}
 use Rattle.record.specs.Records.{complementRecord, recoded}

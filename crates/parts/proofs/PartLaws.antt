@@ -11,7 +11,8 @@ use Rattle.words.proofs.Flags.{both-true, same-by-both}
 use Rattle.words.proofs.SearchLaws.{every-at, every-in}
 use Rattle.words.specs.Bits.{Word, bit, wordOf}
 use Rattle.words.specs.Search.{every}
-use Rattle.parts.specs.Parts.{Closed, Path, along, closed, here, partOf}
+use Rattle.parts.specs.internal.Parts.{Closed}
+use Rattle.parts.specs.Parts.{Path, along, closed, here, partOf}
 
 -- a test of the form 'a implies b'
 pub implied : (a b : Bool) → (not a || b) ≡ true → a ≡ true → b ≡ true

@@ -31,8 +31,8 @@ use Rattle.parts.proofs.PlacedRows.{
   placed-scaled,
   placed-unique,
 }
-use Rattle.parts.specs.Numbered.{Numbers, Placed, partGraph}
-use Rattle.parts.specs.Parts.{Closed}
+use Rattle.parts.specs.internal.Numbered.{Numbers, Placed, partGraph}
+use Rattle.parts.specs.internal.Parts.{Closed}
 
 -- a record in the numbers of a set
 abbrev pub partRecord : ℕ → (ℕ → ℕ) → GraphRecord → GraphRecord

@@ -37,8 +37,8 @@ use Rattle.words.proofs.Places.{other-place, same-place}
 use Rattle.words.proofs.Sums.{bitMonoid, fold-ext, lt-or-ge}
 use Rattle.words.specs.Bits.{Word, _⊕_}
 use Rattle.parts.proofs.Along.{fold-along, numbered-or-not}
-use Rattle.parts.specs.Numbered.{Numbers, Placed, partGraph}
-use Rattle.parts.specs.Parts.{Closed}
+use Rattle.parts.specs.internal.Numbered.{Numbers, Placed, partGraph}
+use Rattle.parts.specs.internal.Parts.{Closed}
 
 module _ (n : ℕ) (s : Word) (k : ℕ) (e : ℕ → ℕ) (N : Numbers n s k e) where
   abbrev pub At : Pauli → Pauli → Type 0

@@ -23,7 +23,8 @@ use Rattle.words.proofs.Sums.{bitMonoid, fold-unit, last-or}
 use Rattle.words.proofs.Finite.{bits}
 use Rattle.words.specs.Bits.{Word, digit, fold, parity, _⊕_}
 use Rattle.parts.proofs.PartLaws.{same-parts}
-use Rattle.parts.specs.Parts.{Closed, partOf}
+use Rattle.parts.specs.internal.Parts.{Closed}
+use Rattle.parts.specs.Parts.{partOf}
 
 -- none is counted where the count is 0
 count-zero : (b : ℕ) (f : ℕ → Bool) → count b f ≡ 0 → (v : ℕ) → v < b → f v ≡ false

@@ -9,10 +9,6 @@ use Rattle.graph.specs.Graph.{Graph}
 use Rattle.words.specs.Bits.{Word, bit}
 use Rattle.words.specs.Search.{every, some}
 
--- no edge leads from a marked vertex to one that is not
-abbrev pub Closed : ℕ → Graph → Word → Type 0
-Closed n θ s = (i j : ℕ) → i < n → j < n → s i ≡ true → θ i j ≡ true → s j ≡ true
-
 -- the same as a test
 unfoldable pub closed : ℕ → Graph → Word → Bool
 closed n θ s = every n (λ i. every n (λ j. not (s i && θ i j) || s j))

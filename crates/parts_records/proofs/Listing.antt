@@ -16,13 +16,13 @@ use lib.Seq.{getD-set-other, getD-set-same}
 use borrow.Author.Tests.{le-ltb, lt-ltb}
 use Rattle.cut.proofs.Counting.{count-except, count-ext, count-none, except}
 use Rattle.cut.specs.Kernel.{count}
-use Rattle.parts.specs.Numbered.{Numbers}
+use Rattle.parts.specs.internal.Numbered.{Numbers}
 use Rattle.words.proofs.BitLaws.{bit-above, bit-ext, bit-ext∞, bit-flip, bit-wordOf, lt-of-bits, wordOf-lt, zero-bit}
 use Rattle.words.proofs.Places.{other-place, same-place, upto-other}
 use Rattle.words.proofs.Trailing.{trailing-set}
 use Rattle.words.specs.Bits.{bit, wordOf, _⊕_}
 use Rattle.words.specs.Search.{IsFirst}
-use Rattle.parts_records.specs.Listed.{partWord}
+use Rattle.parts_records.specs.internal.Listed.{partWord}
 
 -- ---- the loop that lists: k vertices are listed, the others are in `rest`
 pub record Listing (island : ℕ) (at : List ℕ) (k rest : ℕ) : Type 0 where

@@ -8,9 +8,9 @@ ghost use Prim.Native.Nat.{ℕ, _<_, _≤_};
 ghost use lib.ListN.{getD, length};
 ghost use Rattle.buffers.specs.Buffers.{tabulate};
 ghost use Rattle.cut.specs.Kernel.{count};
-ghost use Rattle.parts.specs.Numbered.{Numbers};
+ghost use Rattle.parts.specs.internal.Numbered.{Numbers};
 ghost use Rattle.words.specs.Bits.{bit, wordOf};
-ghost use Rattle.parts_records.specs.Listed.{partCodes, partWord, partWords};
+ghost use Rattle.parts_records.specs.internal.Listed.{partCodes, partWord, partWords};
 
 // The vertices of a set of at most 20, in rising order, and how many there are.
 pub struct Places {

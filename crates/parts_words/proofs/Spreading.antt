@@ -20,7 +20,8 @@ use Rattle.cut.specs.Kernel.{count}
 use Rattle.graph.specs.Graph.{Graph, Simple}
 use Rattle.graph.specs.NeighbourWords.{graphIn}
 use Rattle.parts.proofs.PartLaws.{both, of-part, part-closed, part-has}
-use Rattle.parts.specs.Parts.{Closed, partAbove, partOf}
+use Rattle.parts.specs.internal.Parts.{Closed}
+use Rattle.parts.specs.Parts.{partAbove, partOf}
 use Rattle.words.proofs.BitLaws.{
   bit-above,
   bit-and,
@@ -39,7 +40,7 @@ use Rattle.words.proofs.SearchLaws.{some-in, some-none, some-true}
 use Rattle.words.proofs.Sums.{Monoid, fold-ext, fold-shift}
 use Rattle.words.specs.Bits.{Word, bit, digit, fold}
 use Rattle.words.specs.Search.{first, some}
-use Rattle.parts_words.specs.Spreads.{PartWord, spreadTo}
+use Rattle.parts_words.specs.internal.Spreads.{PartWord, spreadTo}
 
 -- ---- one step: the vertices below i are passed
 abbrev pub Passed : List ℕ → ℕ → ℕ → ℕ → Type 0

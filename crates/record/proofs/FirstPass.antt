@@ -16,7 +16,7 @@ use Rattle.stabilizer.proofs.Independence.{independent-pivot}
 use Rattle.stabilizer.proofs.Products.{x-linear}
 use Rattle.stabilizer.proofs.RowOperations.{pivot-column, pivot-commuting, pivot-keeps, pivot-same}
 use Rattle.stabilizer.proofs.Within.{pivot-within}
-use Rattle.stabilizer.specs.Elimination.{pivotOn}
+use Rattle.stabilizer.specs.internal.Elimination.{pivotOn}
 use Rattle.stabilizer.specs.Groups.{Commuting, Independent, SameGroup, Within}
 use Rattle.words.proofs.Places.{other-place, parity-at, place-comm, put-other, put-same}
 use Rattle.words.proofs.SearchLaws.{first-is}

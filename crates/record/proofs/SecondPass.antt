@@ -19,7 +19,7 @@ use Rattle.stabilizer.proofs.Independence.{independent-pivot}
 use Rattle.stabilizer.proofs.Products.{Linear, anticommute-form, x-linear, z-linear}
 use Rattle.stabilizer.proofs.RowOperations.{pivot-column, pivot-commuting, pivot-keeps, pivot-same}
 use Rattle.stabilizer.proofs.Within.{act-within, pivot-within}
-use Rattle.stabilizer.specs.Elimination.{pivotOn}
+use Rattle.stabilizer.specs.internal.Elimination.{pivotOn}
 use Rattle.stabilizer.specs.Groups.{Commuting, Independent, SameGroup, Trivial, Within}
 use Rattle.words.proofs.Finite.{bits, ⊕-zero}
 use Rattle.words.proofs.Places.{other-place, parity-at, place-comm, put-other, put-same}

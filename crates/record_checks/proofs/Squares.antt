@@ -19,7 +19,7 @@ use Rattle.words.proofs.Finite.{bits}
 use Rattle.words.proofs.SearchLaws.{some-ext, some-false, some-true}
 use Rattle.words.specs.Bits.{bit, sameBit, _⊕_}
 use Rattle.words.specs.Search.{first, some}
-use Rattle.record_checks.specs.Copies.{Copied}
+use Rattle.record_checks.specs.internal.Copies.{Copied}
 
 -- ---- the copy: its first i words
 pub record CopiedTo (i n : ℕ) (words rows : List ℕ) : Type 0 where

@@ -18,14 +18,14 @@ use Rattle.stabilizer.proofs.Accepted.{EarlyAccepted}
 use Rattle.stabilizer.proofs.Within.{identity-within}
 use Rattle.stabilizer.specs.Groups.{Within}
 use Rattle.stabilizer.specs.Lists.{GeneratorList, dependent, rows}
-use Rattle.stabilizer.specs.Tableau.{tableau}
+use Rattle.stabilizer.specs.internal.Tableau.{tableau}
 use Rattle.words.proofs.BitLaws.{zero-bit}
 use Rattle.words.proofs.Places.{other-place}
 use Rattle.words.proofs.Sums.{lt-or-ge}
 use Rattle.words.specs.Bits.{bit, isOdd, _⊕_}
 use Rattle.reduction.proofs.Storing.{stored-elsewhere, stored-here, stored-long}
-use Rattle.reduction.specs.Passes.{Loaded}
-use Rattle.reduction.specs.Reducible.{Reducible}
+use Rattle.reduction.specs.internal.Passes.{Loaded}
+use Rattle.reduction.specs.internal.Reducible.{Reducible}
 
 abbrev blankRow : List ℕ
 blankRow = 0 ∷ 0 ∷ []

@@ -17,16 +17,17 @@ use Rattle.record.proofs.FirstPass.{unused-bit}
 use Rattle.stabilizer.proofs.Products.{anticommute-identity}
 use Rattle.stabilizer.proofs.RowOperations.{clear-self, lend-self, shear-commuting}
 use Rattle.stabilizer.proofs.Within.{anticommute-wide, chosen-within, mul-wide, mul-within}
-use Rattle.stabilizer.specs.Elimination.{clear, lend, pivotOn, shear}
+use Rattle.stabilizer.specs.internal.Elimination.{clear, lend, pivotOn}
+use Rattle.stabilizer.specs.Elimination.{shear}
 use Rattle.stabilizer.specs.Groups.{Commuting, chosen}
-use Rattle.stabilizer.specs.Tableau.{tableau}
+use Rattle.stabilizer.specs.internal.Tableau.{tableau}
 use Rattle.words.proofs.BitLaws.{bit-and, bit-xor, lt-of-bits, zero-bit}
 use Rattle.words.proofs.Finite.{bits}
 use Rattle.words.proofs.Places.{other-place}
 use Rattle.words.proofs.Sums.{lt-or-ge}
 use Rattle.words.proofs.Trailing.{trailing-set}
 use Rattle.words.specs.Bits.{Word, bit, put, _⊕_}
-use Rattle.reduction.specs.Passes.{Eliminated, Loaded, PivotReady, pivot, pivoted, skip, start}
+use Rattle.reduction.specs.internal.Passes.{Eliminated, Loaded, PivotReady, pivot, pivoted, skip, start}
 
 -- ---- at 64 qubits and rows instead of n
 module _ (n : ℕ) (l : n ≤ 64) (R : ℕ → Pauli) (L : Loaded n R) where

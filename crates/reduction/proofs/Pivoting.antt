@@ -14,15 +14,16 @@ use borrow.Author.Tests.{eqb-true, le-ltb, lt-ltb}
 use Rattle.pauli.proofs.PauliLaws.{mul-identity}
 use Rattle.pauli.specs.Pauli.{Pauli, anticommute, mul}
 use Rattle.stabilizer.proofs.RowOperations.{clear-self, lend-self, shear-commuting}
-use Rattle.stabilizer.specs.Elimination.{clear, lend, pivotOn, shear}
+use Rattle.stabilizer.specs.internal.Elimination.{clear, lend, pivotOn}
+use Rattle.stabilizer.specs.Elimination.{shear}
 use Rattle.stabilizer.specs.Groups.{chosen}
-use Rattle.stabilizer.specs.Tableau.{tableau}
+use Rattle.stabilizer.specs.internal.Tableau.{tableau}
 use Rattle.words.proofs.BitLaws.{bit-single, zero-bit}
 use Rattle.words.proofs.Finite.{⊕-zero}
 use Rattle.words.proofs.Places.{other-place, put-all, put-other, put-same, same-place, upto-other}
 use Rattle.words.proofs.Sums.{lt-or-ge}
 use Rattle.words.specs.Bits.{bit, put, _⊕_}
-use Rattle.reduction.specs.Passes.{PivotReady}
+use Rattle.reduction.specs.internal.Passes.{PivotReady}
 
 -- ---- the word of a column: the rows below i that have x bit q
 pub record ColumnBelow (rows : List (List ℕ)) (q word i : ℕ) : Type 0 where

@@ -13,7 +13,7 @@ use Rattle.pauli.proofs.PhaseLaws.{sign-minus}
 use Rattle.pauli.specs.Pauli.{minus, signBit}
 use Rattle.record.specs.Reduced.{graphOf, minusesOf, plainCode, recordOf, withHadamard, ysOf}
 use Rattle.stabilizer.specs.Groups.{Within}
-use Rattle.stabilizer.specs.Tableau.{tableau}
+use Rattle.stabilizer.specs.internal.Tableau.{tableau}
 use Rattle.words.proofs.BitLaws.{bit-above, bit-ext∞, bit-wordOf, wordOf-lt}
 use Rattle.words.proofs.Places.{other-place, put-all, same-place}
 use Rattle.words.proofs.Sums.{lt-or-ge}

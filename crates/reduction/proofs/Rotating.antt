@@ -19,7 +19,7 @@ use Rattle.pauli.proofs.PauliLaws.{Pauli-path}
 use Rattle.pauli.proofs.PhaseLaws.{minus-⊕, phases}
 use Rattle.pauli.specs.Pauli.{_+ᵖ_, identity, i⁰, letter, minus, signedRow, sumPhase, xBit, zBit}
 use Rattle.record.specs.Reduced.{hadamardWhere}
-use Rattle.stabilizer.specs.Tableau.{tableau}
+use Rattle.stabilizer.specs.internal.Tableau.{tableau}
 use Rattle.words.proofs.BitLaws.{and-lt-right, bit-and, bit-xor}
 use Rattle.words.proofs.Finite.{bits}
 use Rattle.words.proofs.OnesLaws.{parity-ones}

@@ -16,7 +16,7 @@ use Rattle.pauli.proofs.WordRows.{signed-mul}
 use Rattle.pauli.specs.Pauli.{Pauli, anticommute, i⁰, minus, mul, row, signedRow}
 use Rattle.stabilizer.specs.Elimination.{shear}
 use Rattle.stabilizer.specs.Groups.{chosen}
-use Rattle.stabilizer.specs.Tableau.{tableau}
+use Rattle.stabilizer.specs.internal.Tableau.{tableau}
 use Rattle.words.proofs.BitLaws.{bit-above, bit-flip, lt-of-bits, zero-bit}
 use Rattle.words.proofs.Finite.{unequal, ⊕-assoc, ⊕-zero}
 use Rattle.words.proofs.Places.{other-place, same-place}

@@ -1,2 +1,1 @@
-pub mod Reducible
-pub mod Passes
+pub mod internal

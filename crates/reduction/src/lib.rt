@@ -13,10 +13,10 @@ ghost use Prim.Native.Nat.{ℕ, _<_, _≤_};
 ghost use lib.ListN.{length};
 ghost use Rattle.record.specs.Lent.{codeNumbers, neighbourWords};
 ghost use Rattle.record.specs.Reduced.{reduced};
-ghost use Rattle.reduction.specs.Reducible.{Reducible};
-ghost use Rattle.reduction.specs.Passes.{Loaded};
+ghost use Rattle.reduction.specs.internal.Reducible.{Reducible};
+ghost use Rattle.reduction.specs.internal.Passes.{Loaded};
 ghost use Rattle.stabilizer.specs.Lists.{dependent, rows};
-ghost use Rattle.stabilizer.specs.Tableau.{tableau};
+ghost use Rattle.stabilizer.specs.internal.Tableau.{tableau};
 
 // The rows of a lent list, with a word for their signs.
 pub fn load_list(n: usize, signs: &[u8], z: &[u64], x: &[u64], minuses: &mut u64) -> [[u64; 2]; 64]

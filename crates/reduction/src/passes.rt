@@ -16,9 +16,10 @@ ghost use lib.ListN.{getD, length};
 ghost use Rattle.clifford.specs.Vectors.{act};
 ghost use Rattle.pauli.specs.Pauli.{anticommute};
 ghost use Rattle.record.specs.Reduced.{hadamardWhere};
-ghost use Rattle.reduction.specs.Passes.{Eliminated, Loaded, PivotReady};
-ghost use Rattle.stabilizer.specs.Elimination.{pivotOn, shear};
-ghost use Rattle.stabilizer.specs.Tableau.{tableau};
+ghost use Rattle.reduction.specs.internal.Passes.{Eliminated, Loaded, PivotReady};
+ghost use Rattle.stabilizer.specs.internal.Elimination.{pivotOn};
+ghost use Rattle.stabilizer.specs.Elimination.{shear};
+ghost use Rattle.stabilizer.specs.internal.Tableau.{tableau};
 ghost use Rattle.words.specs.Bits.{bit};
 
 // Row a multiplied into each row that the word named names, in place.

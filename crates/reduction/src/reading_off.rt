@@ -8,7 +8,7 @@ ghost use Rattle.clifford.specs.Clifford.{codeOf};
 ghost use Rattle.record.specs.Lent.{codeNumbers, neighbourWords};
 ghost use Rattle.record.specs.Reduced.{plainCode, recordOf, withHadamard};
 ghost use Rattle.stabilizer.specs.Groups.{Within};
-ghost use Rattle.stabilizer.specs.Tableau.{tableau};
+ghost use Rattle.stabilizer.specs.internal.Tableau.{tableau};
 ghost use Rattle.words.specs.Bits.{bit};
 
 // The code of a vertex: 0 for +X, 2 for -X, 4 for +Y, 6 for -Y; followed by 8 where a Hadamard was used.

@@ -25,7 +25,8 @@ use Rattle.stabilizer.proofs.RowOperations.{
   shear-undo,
 }
 use Rattle.stabilizer.proofs.Within.{act-within}
-use Rattle.stabilizer.specs.Elimination.{clear, lend, pivotOn, shear}
+use Rattle.stabilizer.specs.internal.Elimination.{clear, lend, pivotOn}
+use Rattle.stabilizer.specs.Elimination.{shear}
 use Rattle.stabilizer.specs.Groups.{Commuting, InGroup, Independent, Proper, Trivial, chosen, product}
 
 -- rows with the x bits of the unit matrix are independent

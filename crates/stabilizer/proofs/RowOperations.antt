@@ -19,7 +19,8 @@ use Rattle.stabilizer.proofs.GroupLaws.{
   same-trans,
 }
 use Rattle.stabilizer.proofs.Products.{Linear, chosen-mul, x-linear}
-use Rattle.stabilizer.specs.Elimination.{clear, lend, pivotOn, shear}
+use Rattle.stabilizer.specs.internal.Elimination.{clear, lend, pivotOn}
+use Rattle.stabilizer.specs.Elimination.{shear}
 use Rattle.stabilizer.specs.Groups.{Commuting, InGroup, SameGroup, chosen}
 
 -- ---- one row multiplied into others

@@ -25,7 +25,8 @@ use Rattle.pauli.specs.Pauli.{
 }
 use Rattle.words.proofs.Sums.{bitMonoid, fold-more}
 use Rattle.words.specs.Bits.{Word, fold, _⊕_}
-use Rattle.stabilizer.specs.Elimination.{clear, lend, pivotOn, shear}
+use Rattle.stabilizer.specs.internal.Elimination.{clear, lend, pivotOn}
+use Rattle.stabilizer.specs.Elimination.{shear}
 use Rattle.stabilizer.specs.Groups.{InGroup, Within, chosen, product}
 
 -- ---- what is kept

@@ -10,7 +10,7 @@ use native.Mathlib.Omega.{arith}
 use lib.Dec.{ltb, lit<}
 use borrow.Author.Tests.{lt-ltb, le-ltb, ltb-true, ltb-false}
 use Rattle.text.specs.Text.{hexDigit, hexText, decimal}
-use Rattle.text.specs.Scan.{hexValue, push}
+use Rattle.text.specs.internal.Scan.{hexValue, push}
 
 -- a statement of a case distinction, by its two cases
 module _ {A : Type 0} (P : A → Type 0) where

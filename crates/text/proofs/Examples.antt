@@ -8,8 +8,8 @@ use Prim.Native.Nat.{ℕ, _+_}
 use lib.ListN.{replicate}
 use Rattle.text.specs.Text.{hexDigit, hexText, decimal, Line, lineText, linesText, listNames, listText}
 use Rattle.text.specs.Text.{recordLine, recordLines, recordText, refusedText}
-use Rattle.text.specs.Scan.{hexValue, push, namesStep, signStep, zStep, xStep, oneMore, step, begin}
-use Rattle.text.specs.Scan.{Reading, reading, feed, fed, verdict}
+use Rattle.text.specs.internal.Scan.{hexValue, push, namesStep, signStep, zStep, xStep, oneMore, step, begin}
+use Rattle.text.specs.internal.Scan.{Reading, reading, feed, fed, verdict}
 use Rattle.text.specs.declared.scan.Verdict.{Verdict}
 
 -- XX and ZZ

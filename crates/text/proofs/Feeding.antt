@@ -8,7 +8,7 @@ use native.Mathlib.Numerals.{add-one}
 use lib.Dec.{ltb}
 use lib.ListN.{length, getD, take}
 use lib.Seq.{take-suc}
-use Rattle.text.specs.Scan.{Reading, reading, stored, feedNext, feed, fed, step}
+use Rattle.text.specs.internal.Scan.{Reading, reading, stored, feedNext, feed, fed, step}
 use Rattle.text.specs.declared.scan.Scan.{Scan}
 
 -- the reading after a text a ++ b is that after b, fed to the reading after a

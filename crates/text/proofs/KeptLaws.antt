@@ -8,7 +8,7 @@ use native.Mathlib.Omega.{arith}
 use lib.ListN.{length, take, length-map}
 use lib.Seq.{take-all}
 use Rattle.text.specs.Text.{Line}
-use Rattle.text.specs.Scan.{Reading, Kept}
+use Rattle.text.specs.internal.Scan.{Reading, Kept}
 
 module _ (ls : List Line) (w : Reading) (kept : Kept ls w) where
   pub count-many : 64 < length ls → w .scan .count ≡ 65

@@ -10,8 +10,8 @@ use native.Mathlib.Omega.{arith}
 use lib.Dec.{ltb}
 use borrow.Author.Tests.{lt-ltb, le-ltb}
 use Rattle.text.specs.Text.{hexDigit, hexText, space, Line, Fits, lineText}
-use Rattle.text.specs.Scan.{signStep, zStep, xStep, step, oneMore, Reading, reading, stored, feedNext}
-use Rattle.text.specs.Scan.{feed, fed}
+use Rattle.text.specs.internal.Scan.{signStep, zStep, xStep, step, oneMore, Reading, reading, stored, feedNext}
+use Rattle.text.specs.internal.Scan.{feed, fed}
 use Rattle.text.specs.declared.scan.Scan.{Scan}
 use Rattle.text.specs.declared.scan.Place.{Place}
 use Rattle.text.specs.declared.scan.Place.the-variants.{Sign, Space, Z, X}

@@ -14,8 +14,8 @@ use lib.Seq.{take-all, take-suc-set, take-append-le}
 use borrow.Author.Tests.{lt-ltb, le-ltb}
 use Rattle.words.proofs.Sums.{lt-or-ge}
 use Rattle.text.specs.Text.{Line, Fits, AllFit, lineText, linesText, listNames, listText, TextOf}
-use Rattle.text.specs.Scan.{namesStep, step, oneMore, begin, Reading, reading, stored, feedNext, feed}
-use Rattle.text.specs.Scan.{fed, Kept}
+use Rattle.text.specs.internal.Scan.{namesStep, step, oneMore, begin, Reading, reading, stored, feedNext, feed}
+use Rattle.text.specs.internal.Scan.{fed, Kept}
 use Rattle.text.specs.declared.scan.Scan.{Scan}
 use Rattle.text.specs.declared.scan.Place.the-variants.{Sign, X}
 use Rattle.text.proofs.Feeding.{fed-append}

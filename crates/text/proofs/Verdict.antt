@@ -8,7 +8,7 @@ use Prim.Native.Nat.{ℕ}
 use lib.Dec.{ltb, lit<}
 use lib.ListN.{length}
 use Rattle.text.specs.Text.{HasForm}
-use Rattle.text.specs.Scan.{
+use Rattle.text.specs.internal.Scan.{
   step,
   begin,
   Reading,
@@ -20,7 +20,7 @@ use Rattle.text.specs.Scan.{
   fedBlocks,
   atSign,
 }
-use Rattle.text.specs.Scan.{verdict, Judged}
+use Rattle.text.specs.internal.Scan.{verdict, Judged}
 use Rattle.text.specs.declared.scan.Scan.{Scan}
 use Rattle.text.specs.declared.scan.Place.{Place}
 use Rattle.text.specs.declared.scan.Place.the-variants.{Names, Sign, Space, Z, X, Broken}

@@ -4,7 +4,7 @@
 use mathlib.Core.Path.{_≡_}
 use mathlib.Core.Bool.{cond}
 use mathlib.Core.List.{List, [], _∷_, _++_}
-use Prim.Native.Nat.{ℕ, zero, suc, _+_, _*_, _/_, _%_, _^_, _≤_, _<_}
+use Prim.Native.Nat.{ℕ, zero, suc, _+_, _/_, _%_, _^_, _<_}
 use lib.Dec.{ltb}
 use lib.ListN.{length, getD, take, drop}
 
@@ -107,11 +107,3 @@ written out at bytes = take at out ++ bytes ++ drop (at + length bytes) out
 pub record Printed (bytes : List ℕ) (at : ℕ) (before after : List ℕ) (r : ℕ) : Type 0 where
   pub end : r ≡ at + length bytes
   pub out : after ≡ written before at bytes
-
--- what a record and its buffer must be for the print from place at on
-pub record Printable (n : ℕ) (neighbours codes : List ℕ) (at : ℕ) (out : List ℕ) : Type 0 where
-  pub qubits : n ≤ 64
-  pub neighbours-long : n ≤ length neighbours
-  pub codes-long : n ≤ length codes
-  pub codes-small : (q : ℕ) → q < n → getD codes q 0 < 24
-  pub room : at + 22 + n * 23 ≤ length out

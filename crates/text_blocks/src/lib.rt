@@ -5,7 +5,7 @@ use text::scan::Scan;
 use text::scan::Verdict;
 use text_scan::scan_byte;
 ghost use mathlib.Core.Path.{_≡_};
-ghost use Rattle.text.specs.Scan.{atSign, begin, fed, reading, verdict};
+ghost use Rattle.text.specs.internal.Scan.{atSign, begin, fed, reading, verdict};
 
 // The scan of the empty text.
 pub fn start() -> Scan

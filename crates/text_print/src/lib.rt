@@ -4,7 +4,8 @@ ghost use mathlib.Core.List.{[], _∷_, _++_};
 ghost use Prim.Native.Nat.{_+_, _<_, _≤_};
 ghost use lib.ListN.{length};
 ghost use Rattle.text.specs.Text.{hexDigit, hexText, decimal, space, recordLine, recordText, refusedText};
-ghost use Rattle.text.specs.Text.{Printed, Printable};
+ghost use Rattle.text.specs.Text.{Printed};
+ghost use Rattle.text.specs.internal.Text.{Printable};
 
 fn hex_digit(d: u8) -> u8
     requires { ⌜ d < 16 ⌝ }

@@ -3,7 +3,7 @@ use text::scan::Place;
 use text::scan::Scan;
 ghost use mathlib.Core.Path.{_≡_};
 ghost use Prim.Native.Nat.{_<_};
-ghost use Rattle.text.specs.Scan.{hexValue, push, moved, namesStep, signStep, zStep, xStep, oneMore, step};
+ghost use Rattle.text.specs.internal.Scan.{hexValue, push, moved, namesStep, signStep, zStep, xStep, oneMore, step};
 
 // The digits of a word.
 const DIGITS: usize = 16;

@@ -15,7 +15,7 @@ use lib.Seq.{getD-set-other, getD-set-same}
 use borrow.Author.Tests.{not-false, not-true}
 use Rattle.words.specs.Bits.{bit}
 use Rattle.transposition.proofs.PairWords.{lower-bit, upper-bit}
-use Rattle.transposition.specs.Squares.{Exchanged, Fits, Round, crossed, lacks}
+use Rattle.transposition.specs.internal.Squares.{Exchanged, Fits, Round, crossed, lacks}
 
 -- the upper row of the pair that row r is in
 abbrev pub upper : ℕ → ℕ → ℕ

@@ -14,7 +14,7 @@ use Rattle.words.proofs.Finite.{bits, ⊕-zero}
 use Rattle.words.proofs.Places.{same-place}
 use Rattle.words.proofs.Sums.{lt-or-ge}
 use Rattle.words.specs.Bits.{bit, _⊕_}
-use Rattle.transposition.specs.Squares.{Round, lacks}
+use Rattle.transposition.specs.internal.Squares.{Round, lacks}
 
 -- ---- a word shifted up
 -- only the bits below n

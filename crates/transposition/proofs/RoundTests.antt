@@ -10,7 +10,7 @@ use Rattle.words.proofs.Flags.{both-true, true-sameBit}
 use Rattle.words.proofs.SearchLaws.{every-at}
 use Rattle.words.specs.Bits.{bit, sameBit}
 use Rattle.words.specs.Search.{every}
-use Rattle.transposition.specs.Squares.{Fits, Round, Size, eight, full, half, lacks, sixteen}
+use Rattle.transposition.specs.internal.Squares.{Fits, Round, Size, eight, full, half, lacks, sixteen}
 
 -- a test that follows from another
 abbrev follows : Bool → Bool → Bool

@@ -11,7 +11,7 @@ use borrow.Author.Tests.{eqb-true}
 use Rattle.words.proofs.SearchLaws.{every-at}
 use Rattle.words.specs.Bits.{bit}
 use Rattle.words.specs.Search.{every}
-use Rattle.transposition.specs.Squares.{Exchanged, Transposed, crossed, lacks}
+use Rattle.transposition.specs.internal.Squares.{Exchanged, Transposed, crossed, lacks}
 
 -- the row, after rounds with these numbers, the last round first
 unfoldable origin : List ℕ → ℕ → ℕ → ℕ

@@ -17,7 +17,8 @@ use Rattle.words.proofs.Flags.{either}
 use Rattle.words.proofs.SearchLaws.{some-none}
 use Rattle.words.specs.Bits.{bit}
 use Rattle.used.specs.Used.{UsedRecord, usedAfter, usedCode, usedLines, usedStep, usedStray, usedWrong}
-use Rattle.used.specs.UsedLaws.{MeasuredMarks, UsedDemand, UsedLeft, UsedPasses}
+use Rattle.used.specs.internal.UsedLaws.{MeasuredMarks}
+use Rattle.used.specs.UsedLaws.{UsedDemand, UsedLeft, UsedPasses}
 use Rattle.used.proofs.AcceptedSteps.{after-made, made-passes}
 use Rattle.used.proofs.AddedLines.{test-passes}
 use Rattle.used.proofs.UsedPassing.{used-passes, used-step}

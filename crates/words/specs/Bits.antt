@@ -2,8 +2,6 @@
 -- Assumes nothing.
 use mathlib.Core.Bool.{Bool, true, false, cond}
 use Prim.Native.Nat.{ℕ, zero, suc, _+_, _*_, _/_, _%_, _^_}
-use lib.Bits.{bitAnd}
-use lib.Count.{ones}
 use lib.Dec.{eqb}
 
 -- addition modulo 2
@@ -55,7 +53,3 @@ bit w q = isOdd (w / 2 ^ q)
 unfoldable pub wordOf : ℕ → Word → ℕ
 wordOf zero f = 0
 wordOf (suc n) f = wordOf n (λ q. f (suc q)) * 2 + digit (f 0)
-
--- the places where both words have a 1 are odd in number
-unfoldable pub dot : ℕ → ℕ → Bool
-dot a b = isOdd (ones (bitAnd a b))

@@ -2,7 +2,7 @@ use mathlib.Core.Path.{_∙_, _≡_}
 use Prim.Native.Nat.{_-_, _≤_, zero-le}
 use native.Mathlib.Omega.{arith}
 use lib.ListN.{length}
-use Rattle.pauli.specs.Rows.{generatorOf}
+use Rattle.pauli.specs.internal.Rows.{generatorOf}
 use Rattle.clifford.specs.Vectors.{act}
 use Rattle.clifford.proofs.Sending.{codesBelow, sent-all, sent-more, sent-none}
 use borrow.Author.Needs.{needs}

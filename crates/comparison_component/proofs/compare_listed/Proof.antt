@@ -1,7 +1,7 @@
 use mathlib.Core.Path.{ap, sym, _∙_}
 use native.Mathlib.Omega.{arith}
 use lib.ListN.{length}
-use Rattle.parts_records.specs.Listed.{partCodes, partWords}
+use Rattle.parts_records.specs.internal.Listed.{partCodes, partWords}
 use Rattle.comparison_component.proofs.PartBuffers.{first-connected, first-sound, part-answered, second-sound}
 use borrow.Author.Needs.{needs}
 use Rattle.comparison_component.proofs.compare_listed.Statement.{statement}

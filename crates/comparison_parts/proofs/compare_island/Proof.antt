@@ -9,7 +9,7 @@ use Rattle.comparison_parts.proofs.IslandLaws.{
   part-accepted,
   part-refused,
 }
-use Rattle.comparison_component.specs.Islands.{NumberedPair, PartAnswer}
+use Rattle.comparison_component.specs.internal.Islands.{NumberedPair, PartAnswer}
 use borrow.Author.Needs.{needs}
 use Rattle.comparison_parts.proofs.compare_island.Statement.{statement}
 use Rattle.comparison_parts.proofs.compare_island.Tie as tie

@@ -2,9 +2,9 @@ use mathlib.Core.Bool.{false, true}
 use mathlib.Core.Path.{refl, subst, sym}
 use borrow.Author.Tests.{not-false, not-true}
 use Rattle.clifford.specs.Vectors.{codesOf}
-use Rattle.comparison.specs.Equations.{tableOf}
-use Rattle.comparison.specs.Searches.{LeastAnswer}
-use Rattle.comparison.specs.Setting.{generatorsOf}
+use Rattle.comparison.specs.internal.Equations.{tableOf}
+use Rattle.comparison.specs.internal.Searches.{LeastAnswer}
+use Rattle.comparison.specs.internal.Setting.{generatorsOf}
 use Rattle.comparison.proofs.ClassExtension.{classes-extend, classes-send}
 use Rattle.comparison.proofs.Least.{least-answer}
 use Rattle.comparison.proofs.LeastChosen.{chosen-works, none-works}

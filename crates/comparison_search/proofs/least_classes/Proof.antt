@@ -3,8 +3,8 @@ use mathlib.Core.Path.{refl}
 use Prim.Native.Nat.{_-_}
 use native.Mathlib.Omega.{arith}
 use borrow.Author.Needs.{needs}
-use Rattle.comparison.specs.Equations.{tableOf}
-use Rattle.comparison.specs.Searches.{ClassesChosen}
+use Rattle.comparison.specs.internal.Equations.{tableOf}
+use Rattle.comparison.specs.internal.Searches.{ClassesChosen}
 use Rattle.comparison.proofs.LeastChosen.{classes-begin, classes-end, classes-more, classes-none}
 use Rattle.comparison_search.proofs.least_classes.Statement.{statement}
 use Rattle.comparison_search.proofs.least_classes.Tie as tie

@@ -1,8 +1,8 @@
 use Prim.Native.Nat.{_-_}
 use native.Mathlib.Omega.{arith}
 use borrow.Author.Needs.{needs}
-use Rattle.comparison.specs.Equations.{tableOf}
-use Rattle.comparison.specs.Searches.{SignsChosen}
+use Rattle.comparison.specs.internal.Equations.{tableOf}
+use Rattle.comparison.specs.internal.Searches.{SignsChosen}
 use Rattle.comparison.proofs.LeastChosen.{signs-begin, signs-end, signs-fit, signs-more}
 use Rattle.comparison_search.proofs.least_signs.Statement.{statement}
 use Rattle.comparison_search.proofs.least_signs.Tie as tie

@@ -5,9 +5,9 @@ use lib.ListN.{getD}
 use native.Mathlib.Omega.{arith}
 use borrow.Author.Needs.{needs}
 use Rattle.pauli.specs.declared.Generator.{Generator}
-use Rattle.comparison.specs.Equations.{classEquation, tableOf, unknown}
-use Rattle.comparison.specs.Searches.{ClassTable}
-use Rattle.comparison.specs.Setting.{noGenerator}
+use Rattle.comparison.specs.internal.Equations.{classEquation, tableOf, unknown}
+use Rattle.comparison.specs.internal.Searches.{ClassTable}
+use Rattle.comparison.specs.internal.Setting.{noGenerator}
 use Rattle.comparison.proofs.EquationTables.{class-more, class-row, class-short}
 use Rattle.comparison_tables.proofs.class_rows.Statement.{statement}
 use Rattle.comparison_tables.proofs.class_rows.Tie as tie

@@ -3,8 +3,8 @@ use Prim.Native.Nat.{_-_, _≤_, zero-le}
 use native.Mathlib.Nat.{le-antisymm}
 use native.Mathlib.Omega.{arith}
 use borrow.Author.Needs.{needs}
-use Rattle.comparison.specs.Equations.{tableOf}
-use Rattle.comparison.specs.Searches.{ClassTable}
+use Rattle.comparison.specs.internal.Equations.{tableOf}
+use Rattle.comparison.specs.internal.Searches.{ClassTable}
 use Rattle.comparison.proofs.EquationTables.{class-start, empty-rows, empty-rows-solved}
 use Rattle.comparison_tables.proofs.class_table.Statement.{statement}
 use Rattle.comparison_tables.proofs.class_table.Tie as tie

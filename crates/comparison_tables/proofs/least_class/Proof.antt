@@ -5,8 +5,8 @@ use lib.ListN.{length}
 use borrow.Author.Needs.{needs}
 use borrow.Author.Tests.{not-false, not-true}
 use Rattle.clifford.specs.Vectors.{codesOf}
-use Rattle.comparison.specs.Equations.{classAssignment, tableOf}
-use Rattle.comparison.specs.Searches.{withClass}
+use Rattle.comparison.specs.internal.Equations.{classAssignment, tableOf}
+use Rattle.comparison.specs.internal.Searches.{withClass}
 use Rattle.comparison.proofs.FirstChoices.{MissedBelow, none-fits, none-missed, one-fits, one-missed}
 use Rattle.comparison.proofs.NextChoice.{class-codes}
 use Rattle.comparison_tables.proofs.least_class.Statement.{statement}

@@ -3,8 +3,8 @@ use native.Mathlib.Omega.{arith}
 use borrow.Author.Needs.{needs}
 use borrow.Author.Tests.{not-false, not-true}
 use Rattle.clifford.specs.Vectors.{codesOf}
-use Rattle.comparison.specs.Equations.{signAssignment, tableOf}
-use Rattle.comparison.specs.Searches.{withSigns}
+use Rattle.comparison.specs.internal.Equations.{signAssignment, tableOf}
+use Rattle.comparison.specs.internal.Searches.{withSigns}
 use Rattle.comparison.proofs.FirstChoices.{MissedBelow, none-fits, none-missed, one-fits, one-missed}
 use Rattle.comparison_tables.proofs.least_sign.Statement.{statement}
 use Rattle.comparison_tables.proofs.least_sign.Tie as tie

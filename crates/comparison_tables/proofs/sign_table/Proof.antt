@@ -6,9 +6,9 @@ use native.Mathlib.Omega.{arith}
 use lib.ListN.{getD}
 use borrow.Author.Needs.{needs}
 use Rattle.clifford.specs.Vectors.{codesOf}
-use Rattle.comparison.specs.Equations.{tableOf, unknown}
-use Rattle.comparison.specs.Searches.{SignTable}
-use Rattle.comparison.specs.Setting.{noGenerator}
+use Rattle.comparison.specs.internal.Equations.{tableOf, unknown}
+use Rattle.comparison.specs.internal.Searches.{SignTable}
+use Rattle.comparison.specs.internal.Setting.{noGenerator}
 use Rattle.comparison.proofs.EquationTables.{empty-rows, empty-rows-solved, sign-short}
 use Rattle.comparison.proofs.SignExtension.{sign-found, sign-more, sign-start}
 use Rattle.comparison_tables.proofs.sign_table.Statement.{statement}

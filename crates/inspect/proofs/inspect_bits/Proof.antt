@@ -1,6 +1,6 @@
 use mathlib.Core.Bool.{false}
 use mathlib.Core.Path.{_∙_, ap₂}
-use Rattle.inspect.specs.Answers.{number}
+use Rattle.inspect.specs.internal.Answers.{number}
 use Rattle.inspect.proofs.OfCode.{is-code, no-code}
 use borrow.Author.Needs.{needs}
 use Rattle.inspect.proofs.inspect_bits.Statement.{statement}

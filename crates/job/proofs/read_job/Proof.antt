@@ -2,7 +2,7 @@ use mathlib.Core.Path.{_≡_}
 use lib.ListN.{length}
 use borrow.Author.Needs.{needs}
 use Rattle.job.proofs.Blocks.{no-block, one-block}
-use Rattle.job.specs.Reads.{ScannedJob}
+use Rattle.job.specs.internal.Reads.{ScannedJob}
 use Rattle.job.proofs.read_job.Statement.{statement}
 use Rattle.job.proofs.read_job.Tie as tie
 

@@ -1,5 +1,5 @@
 use Rattle.job_scan.proofs.at_line.Lts as lts
-use Rattle.job_text.specs.Scan.{atLine}
+use Rattle.job_text.specs.internal.Scan.{atLine}
 use borrow.Author.Needs.{needs}
 use mathlib.Core.Path.{ap, sym}
 use Rattle.job_scan.proofs.at_line.Statement.{statement}

@@ -1,5 +1,5 @@
 use Rattle.job_scan.proofs.head_step.Lts as lts
-use Rattle.job_text.specs.Scan.{headStep}
+use Rattle.job_text.specs.internal.Scan.{headStep}
 use borrow.Author.Needs.{needs}
 use borrow.Author.Tests.{lt-ltb, le-ltb, eq-eqb, ne-eqb}
 use Rattle.job_scan.proofs.head_step.Statement.{statement}

@@ -1,6 +1,6 @@
 use Rattle.buffers.specs.Refusals.{firstFitting}
 use Rattle.job_scan.proofs.judge.Lts as lts
-use Rattle.job_text.specs.Scan.{verdict}
+use Rattle.job_text.specs.internal.Scan.{verdict}
 use borrow.Author.Needs.{needs}
 use borrow.Author.Tests.{lt-ltb, le-ltb}
 use Rattle.job_scan.proofs.judge.Statement.{statement}

@@ -1,5 +1,5 @@
 use Rattle.job_scan.proofs.no_text.Lts as lts
-use Rattle.job_text.specs.Scan.{empty, noStep, reading}
+use Rattle.job_text.specs.internal.Scan.{empty, noStep, reading}
 use borrow.Author.Needs.{needs}
 use lib.ListN.{replicate}
 use mathlib.Core.Path.{ap}

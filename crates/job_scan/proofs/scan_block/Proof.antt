@@ -9,7 +9,7 @@ use mathlib.Core.Path.{_≡_, refl, _∙_, ap}
 use native.Mathlib.Omega.{arith}
 use Prim.Native.Nat.{_<_, _≤_, _-_, zero-le}
 use Rattle.job_text.proofs.Feeding.{turn-kept, turn-stored}
-use Rattle.job_text.specs.Scan.{fed, reading}
+use Rattle.job_text.specs.internal.Scan.{fed, reading}
 use Rattle.job_scan.proofs.scan_block.Statement.{statement}
 use Rattle.job_scan.proofs.scan_block.Tie as tie
 

@@ -1,5 +1,5 @@
 use Rattle.job_scan.proofs.scan_byte.Lts as lts
-use Rattle.job_text.specs.Scan.{moved, step, stepAt}
+use Rattle.job_text.specs.internal.Scan.{moved, step, stepAt}
 use borrow.Author.Needs.{needs}
 use mathlib.Core.Path.{_∙_, ap, sym}
 use Rattle.job_scan.proofs.scan_byte.Statement.{statement}

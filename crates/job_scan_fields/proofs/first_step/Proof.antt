@@ -1,5 +1,5 @@
 use Rattle.job_scan_fields.proofs.first_step.Lts as lts
-use Rattle.job_text.specs.Scan.{firstStep}
+use Rattle.job_text.specs.internal.Scan.{firstStep}
 use borrow.Author.Needs.{needs}
 use borrow.Author.Tests.{lt-ltb, le-ltb}
 use Rattle.job_scan_fields.proofs.first_step.Statement.{statement}

@@ -1,5 +1,5 @@
 use Rattle.job_scan_words.proofs.op_for.Lts as lts
-use Rattle.job_text.specs.Scan.{opFor}
+use Rattle.job_text.specs.internal.Scan.{opFor}
 use borrow.Author.Needs.{needs}
 use borrow.Author.Tests.{eq-eqb, ne-eqb}
 use Rattle.job_scan_words.proofs.op_for.Statement.{statement}

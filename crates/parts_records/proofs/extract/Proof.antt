@@ -3,7 +3,7 @@ use Prim.Native.Nat.{_-_, _<_}
 use native.Mathlib.Omega.{arith}
 use lib.ListN.{getD, length}
 use Rattle.buffers.proofs.Filling.{Filled, fill-end, fill-start, fill-step}
-use Rattle.parts_records.specs.Listed.{partWord}
+use Rattle.parts_records.specs.internal.Listed.{partWord}
 use borrow.Author.Needs.{needs}
 use Rattle.parts_records.proofs.extract.Statement.{statement}
 use Rattle.parts_records.proofs.extract.Tie as tie

@@ -1,5 +1,5 @@
 use borrow.Author.Needs.{needs}
-use Rattle.text.specs.Scan.{verdict}
+use Rattle.text.specs.internal.Scan.{verdict}
 use Rattle.text_blocks.proofs.finish.Statement.{statement}
 use Rattle.text_blocks.proofs.finish.Tie as tie
 

@@ -8,7 +8,7 @@ use lib.ListN.{length, take}
 use lib.Seq.{take-all}
 use borrow.Author.Tests.{ltb-true}
 use borrow.Author.Needs.{needs}
-use Rattle.text.specs.Scan.{reading, fed}
+use Rattle.text.specs.internal.Scan.{reading, fed}
 use Rattle.text.proofs.Feeding.{turn-stored, turn-kept}
 use Rattle.text_blocks.proofs.scan_block.Statement.{statement}
 use Rattle.text_blocks.proofs.scan_block.Tie as tie

@@ -1,5 +1,5 @@
 use mathlib.Core.Path.{refl}
-use Rattle.text.specs.Scan.{begin}
+use Rattle.text.specs.internal.Scan.{begin}
 use Rattle.text_blocks.proofs.start.Statement.{statement}
 use Rattle.text_blocks.proofs.start.Tie as tie
 

@@ -1,6 +1,6 @@
 use borrow.Author.Tests.{lt-ltb, le-ltb}
 use borrow.Author.Needs.{needs}
-use Rattle.text.specs.Scan.{hexValue}
+use Rattle.text.specs.internal.Scan.{hexValue}
 use Rattle.text_scan.proofs.hex_value.Statement.{statement}
 use Rattle.text_scan.proofs.hex_value.Tie as tie
 

@@ -1,6 +1,6 @@
 use borrow.Author.Tests.{lt-ltb, le-ltb}
 use borrow.Author.Needs.{needs}
-use Rattle.text.specs.Scan.{oneMore}
+use Rattle.text.specs.internal.Scan.{oneMore}
 use Rattle.text_scan.proofs.one_more.Statement.{statement}
 use Rattle.text_scan.proofs.one_more.Tie as tie
 

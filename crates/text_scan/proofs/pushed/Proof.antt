@@ -1,6 +1,6 @@
 use mathlib.Core.Path.{refl}
 use borrow.Author.Needs.{needs}
-use Rattle.text.specs.Scan.{push}
+use Rattle.text.specs.internal.Scan.{push}
 use Rattle.text_scan.proofs.pushed.Statement.{statement}
 use Rattle.text_scan.proofs.pushed.Tie as tie
 

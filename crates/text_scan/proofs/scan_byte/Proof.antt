@@ -3,7 +3,7 @@ use mathlib.Core.Bool.{cond}
 use borrow.Author.Tests.{eq-eqb, ne-eqb}
 use borrow.Author.Needs.{needs}
 use Rattle.text.specs.declared.scan.Place.the-variants.{Z, Broken}
-use Rattle.text.specs.Scan.{moved, step, stepAt}
+use Rattle.text.specs.internal.Scan.{moved, step, stepAt}
 use Rattle.text_scan.proofs.scan_byte.Statement.{statement}
 use Rattle.text_scan.proofs.scan_byte.Tie as tie
 

@@ -1,6 +1,6 @@
 use borrow.Author.Tests.{lt-ltb, le-ltb}
 use borrow.Author.Needs.{needs}
-use Rattle.text.specs.Scan.{signStep}
+use Rattle.text.specs.internal.Scan.{signStep}
 use Rattle.text_scan.proofs.sign_step.Statement.{statement}
 use Rattle.text_scan.proofs.sign_step.Tie as tie
 

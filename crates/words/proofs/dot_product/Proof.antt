@@ -1,5 +1,5 @@
 use borrow.Author.Needs.{needs}
-use Rattle.words.specs.Bits.{dot}
+use Rattle.words.specs.internal.Bits.{dot}
 use Rattle.words.proofs.dot_product.Statement.{statement}
 use Rattle.words.proofs.dot_product.Tie as tie
 

@@ -2,7 +2,7 @@ use mathlib.Core.Path.{sym, _∙_}
 use Prim.Native.Nat.{_*_, _+_, _-_, _≤_}
 use native.Mathlib.Omega.{arith}
 use borrow.Author.Needs.{needs}
-use Rattle.comparison.specs.Equations.{tableOf}
+use Rattle.comparison.specs.internal.Equations.{tableOf}
 use Rattle.comparison.proofs.QubitEquations.{TestedBelow, all-hold, none-tested, one-fails, one-holds, row-at}
 use Rattle.comparison_equations.proofs.equations.broken.Statement.{statement}
 use Rattle.comparison_equations.proofs.equations.broken.Tie as tie

@@ -3,7 +3,7 @@ use Prim.Native.Nat.{_≤_, _-_}
 use native.Mathlib.Omega.{arith}
 use lib.ListN.{set}
 use borrow.Author.Needs.{needs}
-use Rattle.comparison.specs.Equations.{Inserted, tableOf}
+use Rattle.comparison.specs.internal.Equations.{Inserted, tableOf}
 use Rattle.comparison.proofs.Insertion.{
   Inserting,
   insert-added,

@@ -5,10 +5,10 @@ use native.Mathlib.Omega.{arith}
 use borrow.Author.Needs.{needs}
 use Rattle.words.specs.Bits.{bit}
 use Rattle.words.proofs.BitLaws.{zero-bit}
-use Rattle.pauli.specs.Rows.{generatorOf}
+use Rattle.pauli.specs.internal.Rows.{generatorOf}
 use Rattle.pauli.proofs.PauliLaws.{Pauli-path}
 use Rattle.clifford.specs.Vectors.{codesOf}
-use Rattle.comparison.specs.Setting.{generatorsOf}
+use Rattle.comparison.specs.internal.Setting.{generatorsOf}
 use Rattle.comparison.proofs.RecordElements.{framed-proper, guessed}
 use Rattle.stabilizer.proofs.Multiplying.{Multiplied, multiplied-off, multiplied-on, next-commutes, none-multiplied}
 use Rattle.comparison_groups.proofs.elements.element.Statement.{statement}

@@ -4,7 +4,7 @@ use native.Mathlib.Omega.{arith}
 use lib.ListN.{length}
 use borrow.Author.Needs.{needs}
 use Rattle.buffers.proofs.Filling.{Filled, fill-end, fill-start, fill-step}
-use Rattle.comparison.specs.Compared.{inducedCode}
+use Rattle.comparison.specs.internal.Compared.{inducedCode}
 use Rattle.comparison_groups.proofs.induced.induced_codes.Statement.{statement}
 use Rattle.comparison_groups.proofs.induced.induced_codes.Tie as tie
 

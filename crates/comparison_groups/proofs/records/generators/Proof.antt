@@ -3,9 +3,9 @@ use Prim.Native.Nat.{_-_, _<_}
 use native.Mathlib.Omega.{arith}
 use lib.ListN.{length, length-set}
 use borrow.Author.Needs.{needs}
-use Rattle.pauli.specs.Rows.{generatorOf}
+use Rattle.pauli.specs.internal.Rows.{generatorOf}
 use Rattle.record.specs.Lent.{heldRows}
-use Rattle.comparison.specs.Setting.{noGenerator}
+use Rattle.comparison.specs.internal.Setting.{noGenerator}
 use Rattle.comparison.proofs.ComparedRecords.{generator-sent}
 use Rattle.comparison.proofs.Filling.{Filled, all-filled, none-filled, one-filled}
 use Rattle.comparison_groups.proofs.records.generators.Statement.{statement}

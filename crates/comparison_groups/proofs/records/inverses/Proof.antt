@@ -5,7 +5,7 @@ use lib.ListN.{length, length-set}
 use borrow.Author.Needs.{needs}
 use Rattle.clifford.specs.Clifford.{codeOf, inverse}
 use Rattle.clifford.specs.Vectors.{codesOf}
-use Rattle.comparison.specs.Setting.{Codes}
+use Rattle.comparison.specs.internal.Setting.{Codes}
 use Rattle.comparison.proofs.Filling.{Filled, all-filled, none-filled, one-filled}
 use Rattle.comparison.proofs.NextChoice.{at-set, zeros-codes}
 use Rattle.comparison_groups.proofs.records.inverses.Statement.{statement}

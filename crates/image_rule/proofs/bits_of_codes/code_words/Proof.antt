@@ -4,7 +4,7 @@ use native.Mathlib.Nat.{le-antisymm}
 use native.Mathlib.Omega.{arith}
 use borrow.Author.Needs.{needs}
 use Rattle.clifford.specs.Vectors.{codesOf}
-use Rattle.image_rule.specs.Working.{WordsOf}
+use Rattle.image_rule.specs.internal.Working.{WordsOf}
 use Rattle.image_rule.proofs.CodeBits.{words-none}
 use Rattle.image_rule.proofs.bits_of_codes.code_words.Statement.{statement}
 use Rattle.image_rule.proofs.bits_of_codes.code_words.Tie as tie

@@ -1,7 +1,7 @@
 use mathlib.Core.Path.{sym, _∙_}
 use Prim.Native.Nat.{_-_}
 use borrow.Author.Needs.{needs}
-use Rattle.image_rule.specs.Working.{joinedIn}
+use Rattle.image_rule.specs.internal.Working.{joinedIn}
 use Rattle.image.proofs.Searching.{NotYet, found-here, found-none, not-here, not-yet}
 use Rattle.image_rule.proofs.image_loop.first_joined.Statement.{statement}
 use Rattle.image_rule.proofs.image_loop.first_joined.Tie as tie

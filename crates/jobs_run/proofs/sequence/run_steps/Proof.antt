@@ -7,7 +7,7 @@ use borrow.Author.Needs.{needs}
 use Rattle.jobs_run.proofs.KeptRecords.{step-known}
 use Rattle.record.specs.Lent.{LentRecord}
 use Rattle.call_gates.proofs.KnownRecords.{known-by}
-use Rattle.call_gates.specs.Knowing.{Known}
+use Rattle.call_gates.specs.internal.Knowing.{Known}
 use Rattle.jobs_run.proofs.Looping.{Upto, all-run, answer-small, line-fits, names-room, none-run, one-run}
 use Rattle.jobs_run.proofs.sequence.run_steps.Statement.{statement}
 use Rattle.jobs_run.proofs.sequence.run_steps.Tie as tie

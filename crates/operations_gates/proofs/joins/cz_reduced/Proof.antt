@@ -2,7 +2,7 @@ use native.Mathlib.Omega.{arith}
 use lib.Dec.{lit<}
 use borrow.Author.Needs.{needs}
 use Rattle.operations.proofs.UnrefusedRecords.{unrefused-codes, unrefused-place, unrefused-short}
-use Rattle.operations.specs.InPlace.{recordIn}
+use Rattle.operations.specs.internal.InPlace.{recordIn}
 use Rattle.record.specs.Lent.{heldRecord}
 use Rattle.operations_gates.proofs.CzBuffers.{cz-written, reach-fits, turned-by-calls, turned-fits}
 use Rattle.operations_gates.proofs.joins.cz_reduced.Statement.{statement}

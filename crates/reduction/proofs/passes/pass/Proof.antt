@@ -6,11 +6,11 @@ use native.Mathlib.Omega.{arith}
 use lib.ListN.{length}
 use borrow.Author.Needs.{needs}
 use borrow.Author.Tests.{not-false}
-use Rattle.stabilizer.specs.Tableau.{tableau}
+use Rattle.stabilizer.specs.internal.Tableau.{tableau}
 use Rattle.words.specs.Bits.{bit}
 use Rattle.pauli.proofs.PhaseLaws.{minus-real}
-use Rattle.reduction.specs.Passes.{Eliminated}
-use Rattle.reduction.specs.Passes.Eliminated.{pivoted, start}
+use Rattle.reduction.specs.internal.Passes.{Eliminated}
+use Rattle.reduction.specs.internal.Passes.Eliminated.{pivoted, start}
 use Rattle.reduction.proofs.Passing.{
   column-pivoted,
   column-skipped,

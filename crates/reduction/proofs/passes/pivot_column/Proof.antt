@@ -4,8 +4,9 @@ use Prim.Native.Nat.{ℕ}
 use lib.ListN.{length}
 use borrow.Author.Needs.{needs}
 use borrow.Author.Tests.{not-false, not-true}
-use Rattle.stabilizer.specs.Elimination.{lend, shear}
-use Rattle.stabilizer.specs.Tableau.{tableau}
+use Rattle.stabilizer.specs.internal.Elimination.{lend}
+use Rattle.stabilizer.specs.Elimination.{shear}
+use Rattle.stabilizer.specs.internal.Tableau.{tableau}
 use Rattle.reduction.proofs.Pivoting.{
   cleared,
   cleared-commutes,

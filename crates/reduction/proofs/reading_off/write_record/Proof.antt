@@ -5,7 +5,7 @@ use borrow.Author.Needs.{needs}
 use Rattle.buffers.proofs.Filling.{Filled, fill-end, fill-start, fill-step}
 use Rattle.clifford.specs.Clifford.{codeOf}
 use Rattle.record.specs.Reduced.{graphOf, recordOf}
-use Rattle.stabilizer.specs.Tableau.{tableau}
+use Rattle.stabilizer.specs.internal.Tableau.{tableau}
 use Rattle.words.specs.Bits.{bit, wordOf}
 use Rattle.reduction.proofs.Reading.{neighbour-word, vertex-number}
 use Rattle.reduction.proofs.reading_off.write_record.Statement.{statement}
