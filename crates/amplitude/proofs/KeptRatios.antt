@@ -22,7 +22,7 @@ use Rattle.amplitude.proofs.KeptRows.{products-turn}
 use Rattle.amplitude.proofs.Support.{supported-exactly, turns-ext, turns-identity}
 use Rattle.amplitude.proofs.TurnLaws.{turns-mul}
 use Rattle.amplitude.specs.internal.KeptTurns.{keptBits, keptTurns}
-use Rattle.amplitude.specs.Ratios.{Leads, lowest, ratio, supported}
+use Rattle.amplitude.specs.Ratios.{Leads, lowest, ratio, isSupported}
 use Rattle.amplitude.specs.Turns.{turnsAt}
 
 module _ (n : ℕ) (r : GraphRecord) (S : Simple n (r .graph)) (F : ReducedForm n r) where
@@ -73,11 +73,11 @@ module _ (n : ℕ) (r : GraphRecord) (S : Simple n (r .graph)) (F : ReducedForm 
       other : (a b : Bool) → a ⊕ (a ⊕ b) ≡ b
       other = bits 2 (λ a b. a ⊕ (a ⊕ b)) (λ a b. b) tt
 
-  solves : (y : ℕ) → supported n rows y ≡ true → Solves n r S F (bit y)
+  solves : (y : ℕ) → isSupported n rows y ≡ true → Solves n r S F (bit y)
   solves y e = supported-solves n r S F (bit y) (supported-exactly n rows y .0 e)
 
   -- the ratio and the turns of the smallest word are the turns of the word
-  pub ratio-by-turns : (y : ℕ) → supported n (rowsOf n r) y ≡ true
+  pub ratio-by-turns : (y : ℕ) → isSupported n (rowsOf n r) y ≡ true
       → ratio n (rowsOf n r) y +ᵖ keptTurns n r (bit (lowest n (rowsOf n r))) ≡ keptTurns n r (bit y)
   ratio-by-turns y e =
       ap (λ t. t +ᵖ keptTurns n r low) (sym (any-element n rows P y e (mul n (element (bit y)) (element low))

@@ -22,13 +22,13 @@ Leads n p a b = (q : ℕ) → q < n → p .x q ≡ a q ⊕ b q
 abbrev pub chosenBy : ℕ → (ℕ → Pauli) → ℕ → Pauli
 chosenBy n R v = product n n (bit v) R
 
-unfoldable pub supported : ℕ → (ℕ → Pauli) → ℕ → Bool
-supported n R y = every (2 ^ n) (λ v. some n (λ q. (chosenBy n R v) .x q)
+unfoldable pub isSupported : ℕ → (ℕ → Pauli) → ℕ → Bool
+isSupported n R y = every (2 ^ n) (λ v. some n (λ q. (chosenBy n R v) .x q)
     || samePhase (turnsAt n (chosenBy n R v) (bit y)) i⁰)
 
 -- "the smallest word with a nonzero amplitude"
 abbrev pub lowest : ℕ → (ℕ → Pauli) → ℕ
-lowest n R = first (2 ^ n) (supported n R)
+lowest n R = first (2 ^ n) (isSupported n R)
 
 -- the first element "whose x part leads from that word to y"
 unfoldable pub leading : ℕ → (ℕ → Pauli) → ℕ → ℕ → ℕ
@@ -40,4 +40,4 @@ ratio n R y = turnsAt n (chosenBy n R (leading n R (lowest n R) y)) (bit (lowest
 
 -- "the answer is nothing, exactly where the amplitude is 0, or a value on the real axis, or .. on the imaginary axis"
 abbrev pub amplitudeOf : ℕ → (ℕ → Pauli) → ℕ → Amplitude
-amplitudeOf n R y = cond (supported n R y) (turned (exponent (ratio n R y))) Nothing
+amplitudeOf n R y = cond (isSupported n R y) (turned (exponent (ratio n R y))) Nothing

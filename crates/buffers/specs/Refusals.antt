@@ -8,15 +8,15 @@ use lib.ListN.{getD, length}
 use Rattle.words.specs.Search.{some}
 
 -- a line of the published list: its number, and whether it is true of the arguments
-pub record Line : Type 0 where
+pub record Refusal : Type 0 where
   pub number : ℕ
   pub holds : Bool
 
-abbrev pub line : ℕ → Bool → Line
+abbrev pub line : ℕ → Bool → Refusal
 line k b = record { number = k; holds = b }
 
 -- "the first in checking order"; 0 where none holds
-unfoldable pub firstFitting : List Line → ℕ
+unfoldable pub firstFitting : List Refusal → ℕ
 firstFitting [] = 0
 firstFitting (l ∷ ls) = cond (l .holds) (l .number) (firstFitting ls)
 

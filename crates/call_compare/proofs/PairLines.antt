@@ -10,7 +10,7 @@ use lib.Dec.{eqb, eqb→eq, lit<, ltb}
 use lib.ListN.{length}
 use borrow.Author.Tests.{eq-eqb, le-ltb, lt-ltb, ne-eqb}
 use Rattle.buffers.proofs.Lines.{Numbered, passed}
-use Rattle.buffers.specs.Refusals.{Line, badCount, firstFitting, line}
+use Rattle.buffers.specs.Refusals.{Refusal, badCount, firstFitting, line}
 use Rattle.comparison.specs.Compared.{pairLines}
 use Rattle.stabilizer.proofs.SharedTests.{count-passes, length-passes}
 use Rattle.stabilizer.specs.Lists.{
@@ -29,7 +29,7 @@ use Rattle.comparison_answer.specs.internal.ComparedPairs.{earlierOf}
 
 -- lines 4 to 10 of each list, and those of the pair
 module _ (a₄ a₅ a₆ a₉ a₁₀ : Bool) where
-  abbrev laterLines : List Line
+  abbrev laterLines : List Refusal
   laterLines = line 4 (a₄ || false) ∷ line 5 a₅ ∷ line 6 a₆ ∷ line 9 a₉ ∷ line 10 a₁₀ ∷ []
 
 abbrev laterOf : Of 10 ℕ

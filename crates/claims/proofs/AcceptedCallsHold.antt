@@ -11,7 +11,7 @@ use Rattle.buffers.proofs.Lines.{none-of-all, not-held}
 use Rattle.buffers.specs.Refusals.{firstFitting, otherThan}
 use Rattle.call_compare.proofs.PairLines.{pair-numbered}
 use Rattle.call_compare.specs.Comparisons.{compareCall}
-use Rattle.comparison.specs.Compared.{largePart, pairLines}
+use Rattle.comparison.specs.Compared.{hasLargePart, pairLines}
 use Rattle.contracts.proofs.Fitting.{none-fits-of, none-holds}
 use Rattle.contracts.specs.Calls.{Call, Contract}
 use Rattle.call_cut.proofs.CutLines.{accepted-cut, side-good}
@@ -92,7 +92,7 @@ module _ (l m : GeneratorList) (choice list : List ℕ) (count : ℕ) (choice′
   compare-exactly = (
     (λ z. let p = none-of-all (pairLines l m choice list) _ (pair-numbered l m choice list) (sym (C .number) ∙ z) in
         let A = accepted-pair l m choice list (p .0) in
-        let small = neither (largePart l) (largePart m) (not-held 2 _ _ (p .1) .0) in
+        let small = neither (hasLargePart l) (hasLargePart m) (not-held 2 _ _ (p .1) .0) in
         let S = small-parts l (small .0) in
         let T = small-parts m (small .1) in
         let back = third-demand l m choice list count r choice′ list′ count′ C (p .0) S T .otherwise

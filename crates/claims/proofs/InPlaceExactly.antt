@@ -16,7 +16,7 @@ use Rattle.record.specs.Lent.{LentRecord, heldRecord, heldRows}
 use Rattle.call_gates.proofs.MeasureLines.{measure-passes}
 use Rattle.words.proofs.Flags.{neither, never-true}
 use Rattle.words.specs.Bits.{isOdd}
-use Rattle.claims.proofs.ImpossibleClicks.{contradicted-by-group}
+use Rattle.claims.proofs.Contradictions.{contradicted-by-group}
 use Rattle.claims.proofs.LinesExactly.{below-exactly, both-pass, last-exactly, more-exactly, record-and}
 use Rattle.claims.specs.AcceptedCalls.{ComplementFits, CzFits, GateFits, MeasureFits, PivotFits}
 

@@ -13,7 +13,7 @@ use Rattle.cut.specs.Kernel.{count}
 use Rattle.graph.specs.Graph.{Graph}
 use Rattle.parts.proofs.PartLaws.{closed-is, part-within, path-in-part}
 use Rattle.parts.specs.internal.Parts.{Closed}
-use Rattle.parts.specs.Parts.{Path, along, closed, here, partOf}
+use Rattle.parts.specs.Parts.{Path, along, isClosed, here, partOf}
 use Rattle.words.proofs.Finite.{bits}
 use Rattle.words.proofs.Flags.{both-true, either, neither}
 use Rattle.words.proofs.SearchLaws.{every-in, first-is}
@@ -31,9 +31,9 @@ every-false b f e = go (first-is b (λ i. not (f i)))
     go (inr h) = absurd (true≢false (sym (every-in b f (λ i l. not-false (f i) (h i l))) ∙ e))
 
 -- an edge that leaves a set
-leaving : (n : ℕ) (θ : Graph) (s : Word) → closed n θ s ≡ false
+leaving : (n : ℕ) (θ : Graph) (s : Word) → isClosed n θ s ≡ false
     → (i : ℕ) × (j : ℕ) × (i < n) × (j < n) × (s i ≡ true) × (θ i j ≡ true) × (s j ≡ false)
-unfolding closed
+unfolding isClosed
 leaving n θ s e =
     let a = every-false n (λ i. every n (λ j. not (s i && θ i j) || s j)) e in
     let i = a .0 in
@@ -49,7 +49,7 @@ module _ (n : ℕ) (θ : Graph) (q : ℕ) (l : q < n) where
     paths : (v : ℕ) → s v ≡ true → Path n θ q v
 
   -- one vertex more
-  module _ (s : Word) (R : ReachedSet s) (e : closed n θ s ≡ false) where
+  module _ (s : Word) (R : ReachedSet s) (e : isClosed n θ s ≡ false) where
     found : (i : ℕ) × (j : ℕ) × (i < n) × (j < n) × (s i ≡ true) × (θ i j ≡ true) × (s j ≡ false)
     found = leaving n θ s e
 
@@ -78,14 +78,14 @@ module _ (n : ℕ) (θ : Graph) (q : ℕ) (l : q < n) where
 
   grown : (m : ℕ) (s : Word) → count n (λ v. not (s v)) ≤ m → ReachedSet s
       → (t : Word) × Closed n θ t × ReachedSet t
-  grown zero s few R = go (closed n θ s) refl
+  grown zero s few R = go (isClosed n θ s) refl
     where
-      go : (b : Bool) → closed n θ s ≡ b → (t : Word) × Closed n θ t × ReachedSet t
+      go : (b : Bool) → isClosed n θ s ≡ b → (t : Word) × Closed n θ t × ReachedSet t
       go true e = (s, closed-is n θ s .0 e, R)
       go false e = absurd (omega (arith, few, one-less s R e))
-  grown (suc m) s few R = go (closed n θ s) refl (grown m)
+  grown (suc m) s few R = go (isClosed n θ s) refl (grown m)
     where
-      go : (b : Bool) → closed n θ s ≡ b
+      go : (b : Bool) → isClosed n θ s ≡ b
           → ((t : Word) → count n (λ v. not (t v)) ≤ m → ReachedSet t → (t : Word) × Closed n θ t × ReachedSet t)
           → (t : Word) × Closed n θ t × ReachedSet t
       go true e more = (s, closed-is n θ s .0 e, R)

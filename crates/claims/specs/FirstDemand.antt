@@ -8,13 +8,13 @@ use mathlib.Core.Path.{_≡_}
 use Prim.Native.Nat.{ℕ}
 use lib.Dec.{eqb}
 use lib.ListN.{length}
-use Rattle.buffers.specs.Refusals.{Line, firstFitting}
+use Rattle.buffers.specs.Refusals.{Refusal, firstFitting}
 use Rattle.call_compare.specs.Comparisons.{compareCall}
 use Rattle.comparison.specs.Compared.{compareLines}
 use Rattle.contracts.specs.Answers.{Answers, EveryCallAnswers}
 use Rattle.contracts.specs.Calls.{Call, Contract, EachOf, Lent, buffer, number}
 use Rattle.call_cut.specs.Cuts.{cutCall}
-use Rattle.call_generate.specs.Generated.{generateCall}
+use Rattle.call_generate.specs.Generation.{generateCall}
 use Rattle.generator.specs.Lines.{generateLines}
 use Rattle.image.specs.Image.{imageLines}
 use Rattle.call_image.specs.Images.{imageCall}
@@ -30,13 +30,13 @@ use Rattle.stabilizer.specs.Lists.{GeneratorList}
 abbrev pub published : List ℕ
 published = 1 ∷ 15 ∷ 2 ∷ 4 ∷ 5 ∷ 6 ∷ 7 ∷ 8 ∷ 9 ∷ 10 ∷ 3 ∷ 14 ∷ 11 ∷ 12 ∷ 13 ∷ []
 
-abbrev pub within : List ℕ → List ℕ → Bool
-within order [] = true
-within [] (k ∷ ks) = false
-within (o ∷ order) (k ∷ ks) = cond (eqb o k) (within order ks) (within order (k ∷ ks))
+abbrev pub isSubsequence : List ℕ → List ℕ → Bool
+isSubsequence order [] = true
+isSubsequence [] (k ∷ ks) = false
+isSubsequence (o ∷ order) (k ∷ ks) = cond (eqb o k) (isSubsequence order ks) (isSubsequence order (k ∷ ks))
 
-abbrev pub InOrder : List Line → Type 0
-InOrder lines = within published (map (λ l. l .number) lines) ≡ true
+abbrev pub InOrder : List Refusal → Type 0
+InOrder lines = isSubsequence published (map (λ l. l .number) lines) ≡ true
 
 -- "a complete answer": it fills the buffer
 abbrev pub Fills : Lent → Type 0

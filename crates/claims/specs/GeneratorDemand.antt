@@ -6,12 +6,12 @@ use mathlib.Core.Path.{_≡_}
 use Prim.Native.Nat.{ℕ, _≤_}
 use lib.ListN.{drop, length, take}
 use Rattle.contracts.specs.Calls.{Call}
-use Rattle.call_generate.specs.Generated.{generateCall}
+use Rattle.call_generate.specs.Generation.{generateCall}
 use Rattle.generator.specs.Drawn.{drawn}
 use Rattle.generator.specs.ReadBack.{ReadsBack}
 use Rattle.generator.specs.Shapes.{AllDrawable}
 
-pub record Generated (n count seed : ℕ) (text text′ : List ℕ) (size′ : ℕ) : Type 0 where
+pub record JobGenerated (n count seed : ℕ) (text text′ : List ℕ) (size′ : ℕ) : Type 0 where
   -- one step for each draw, with unused fields 0 and no CZ on one qubit
   pub steps : length (drawn n count seed) ≡ count
   pub shapes : AllDrawable n (drawn n count seed)
@@ -22,4 +22,4 @@ pub record Generated (n count seed : ℕ) (text text′ : List ℕ) (size′ : �
 
 abbrev pub GeneratorDemand : Type 0
 GeneratorDemand = (n count seed : ℕ) (text : List ℕ) (size : ℕ) (text′ : List ℕ) (size′ : ℕ) →
-    Call (generateCall n count seed text size text′ size′) 0 → Generated n count seed text text′ size′
+    Call (generateCall n count seed text size text′ size′) 0 → JobGenerated n count seed text text′ size′

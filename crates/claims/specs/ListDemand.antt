@@ -14,7 +14,7 @@ use Rattle.pauli.specs.Pauli.{Pauli, anticommute, minus}
 use Rattle.record.specs.Columns.{ColumnDependent}
 use Rattle.record.specs.Lent.{LentRecord, heldRecord, heldRows}
 use Rattle.record.specs.Records.{GraphRecord}
-use Rattle.record.specs.Reduced.{Reduced, hadamardWhere, plainCode, withHadamard, xWords}
+use Rattle.record.specs.Reduced.{ReductionOf, hadamardWhere, plainCode, withHadamard, xWords}
 use Rattle.stabilizer.specs.Groups.{Generated, InGroup, Independent, SameGroup}
 use Rattle.stabilizer.specs.Lists.{GeneratorList, rows}
 use Rattle.words.specs.Bits.{Word, _⊕_}
@@ -73,7 +73,7 @@ pub record ReducedInWords (n : ℕ) (R : ℕ → Pauli) (r : GraphRecord) : Type
 -- the record that a reduction leaves: every call on a record takes it, and it is document 01's
 pub record ReducedTo (l : GeneratorList) (r : LentRecord) : Type 0 where
   pub taken : TakenByAll r
-  pub form : Reduced (l .n) (rows l) (heldRecord r)
+  pub form : ReductionOf (l .n) (rows l) (heldRecord r)
   pub words : ReducedInWords (l .n) (rows l) (heldRecord r)
 
 abbrev pub ReductionAnswers : Type 0

@@ -47,7 +47,7 @@ pub record IsReduced (l : LentRecord) : Type 0 where
   pub codes : l .codes ≡ codeNumbers (l .n) (reduced (l .n) (heldRows l))
 
 -- ---- "A gate applies a code after the code already held": so the group is sent through the code at the qubit
-pub record Gated (l : LentRecord) (q k : ℕ) (after : LentRecord) : Type 0 where
+pub record GateStands (l : LentRecord) (q k : ℕ) (after : LentRecord) : Type 0 where
   pub still : StillRecord after
   pub answers : IsReduced after
   pub applied : SameGroup (l .n) (l .n) (rowsOf (l .n) (gated (heldRecord l) q (cliffordOf k))) (heldRows after)
@@ -55,11 +55,11 @@ pub record Gated (l : LentRecord) (q k : ℕ) (after : LentRecord) : Type 0 wher
 
 abbrev pub GatesFollow : Type 0
 GatesFollow = (l : LentRecord) (q k : ℕ) (nb′ cs′ : List ℕ) → Call (inPlaceCall l (gateWith q k) nb′ cs′) 0 →
-    Gated l q k (left l nb′ cs′)
+    GateStands l q k (left l nb′ cs′)
 
 -- ---- "CZ on a and b sends X at a to X at a times Z at b, likewise with a and b exchanged, and fixes Z": the new
 -- group has exactly the images of the elements of the old one
-pub record Entangled (l : LentRecord) (a b : ℕ) (after : LentRecord) : Type 0 where
+pub record CzStands (l : LentRecord) (a b : ℕ) (after : LentRecord) : Type 0 where
   pub still : StillRecord after
   pub answers : IsReduced after
   pub is : IsCz (l .n) a b (cz a b)
@@ -68,7 +68,7 @@ pub record Entangled (l : LentRecord) (a b : ℕ) (after : LentRecord) : Type 0 
 
 abbrev pub CzFollows : Type 0
 CzFollows = (l : LentRecord) (a b : ℕ) (nb′ cs′ : List ℕ) → Call (inPlaceCall l (czOn a b) nb′ cs′) 0 →
-    Entangled l a b (left l nb′ cs′)
+    CzStands l a b (left l nb′ cs′)
 
 -- ---- measurements
 -- the Pauli measured, with a sign (true means minus)
@@ -100,8 +100,8 @@ MeasurementsFollow =
     Call (measureCall l pauli q b answer determined nb′ cs′ answer′ determined′) 0 →
     MeasurementStands l pauli q b (left l nb′ cs′) answer′ determined′
 
--- ---- impossible clicks: "where bit and sign differ, the call is refused and the record kept" (02, §4)
-pub record ImpossibleClick (l : LentRecord) (pauli q b answer determined r : ℕ) (nb′ cs′ : List ℕ)
+-- ---- contradicted outcomes: "where bit and sign differ, the call is refused and the record kept" (02, §4)
+pub record OutcomeContradicted (l : LentRecord) (pauli q b answer determined r : ℕ) (nb′ cs′ : List ℕ)
     (answer′ determined′ : ℕ) : Type 0 where
   -- 14 comes back exactly if no earlier line holds and the Pauli with the sign that the bit does not have is in the
   -- group
@@ -111,11 +111,11 @@ pub record ImpossibleClick (l : LentRecord) (pauli q b answer determined r : ℕ
   pub record-kept : r ≡ 14 → left l nb′ cs′ ≡ l
   pub answers-kept : r ≡ 14 → (answer′ ≡ answer) × (determined′ ≡ determined)
 
-abbrev pub ImpossibleClicksRefused : Type 0
-ImpossibleClicksRefused =
+abbrev pub ContradictionsRefused : Type 0
+ContradictionsRefused =
     (l : LentRecord) (pauli q b answer determined r : ℕ) (nb′ cs′ : List ℕ) (answer′ determined′ : ℕ) →
     Call (measureCall l pauli q b answer determined nb′ cs′ answer′ determined′) r →
-    ImpossibleClick l pauli q b answer determined r nb′ cs′ answer′ determined′
+    OutcomeContradicted l pauli q b answer determined r nb′ cs′ answer′ determined′
 
 -- ---- "As a rewriting of a record it keeps the group, signs included"; the answer is the record so rewritten
 pub record RewrittenAs (l after : LentRecord) (new : GraphRecord) : Type 0 where

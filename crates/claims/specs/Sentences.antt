@@ -12,7 +12,7 @@ use Rattle.buffers.specs.Refusals.{firstFitting, otherThan}
 use Rattle.call_compare.specs.Comparisons.{compareCall}
 use Rattle.comparison.specs.Compared.{pairLines}
 use Rattle.call_cut.specs.Cuts.{cutCall}
-use Rattle.call_generate.specs.Generated.{generateCall}
+use Rattle.call_generate.specs.Generation.{generateCall}
 use Rattle.call_image.specs.Images.{imageCall}
 use Rattle.call_lists.specs.Calls.{checkCall, expandCall, reduceCall}
 use Rattle.operations.specs.Steps.{complementOf, czOn, gateWith, pivotOf, pivotRecord}
@@ -40,10 +40,17 @@ use Rattle.claims.specs.AcceptedCalls.{
 }
 use Rattle.claims.specs.CutDemand.{CutAnswer, rankAcross}
 use Rattle.claims.specs.FirstDemand.{Answered}
-use Rattle.claims.specs.GeneratorDemand.{Generated}
+use Rattle.claims.specs.GeneratorDemand.{JobGenerated}
 use Rattle.claims.specs.ImageDemand.{ImageDecided}
 use Rattle.claims.specs.ListDemand.{Checked, ReducedTo}
-use Rattle.claims.specs.OperationsDemand.{Entangled, Gated, ImpossibleClick, MeasurementStands, RewrittenAs, left}
+use Rattle.claims.specs.OperationsDemand.{
+  CzStands,
+  GateStands,
+  OutcomeContradicted,
+  MeasurementStands,
+  RewrittenAs,
+  left,
+}
 use Rattle.claims.specs.PartsDemand.{DecidedByParts, LargePart, SmallParts}
 use Rattle.claims.specs.ProductDemand.{ProductAnswer}
 use Rattle.claims.specs.SecondDemand.{BroughtBack}
@@ -78,7 +85,7 @@ pub record ExpandSays (l : LentRecord) (s z x s′ z′ x′ : List ℕ) (r : �
 pub record GateSays (l : LentRecord) (q k : ℕ) (nb′ cs′ : List ℕ) (r : ℕ) : Type 0 where
   pub answered : Answered (inPlaceCall l (gateWith q k) nb′ cs′) r
   pub accepted : (r ≡ 0) ↔ GateFits l q k
-  pub group : r ≡ 0 → Gated l q k (left l nb′ cs′)
+  pub group : r ≡ 0 → GateStands l q k (left l nb′ cs′)
   pub ranks : r ≡ 0 → (side : Word) → rankAcross side (left l nb′ cs′) ≡ rankAcross side l
   pub by-expanding : r ≡ 0 → ByExpanding l (gateChange (l .n) q k) nb′ cs′
   pub number-by-expanding : q < l .n → k < 24 → NumberByExpanding l r
@@ -86,7 +93,7 @@ pub record GateSays (l : LentRecord) (q k : ℕ) (nb′ cs′ : List ℕ) (r : �
 pub record CzSays (l : LentRecord) (a b : ℕ) (nb′ cs′ : List ℕ) (r : ℕ) : Type 0 where
   pub answered : Answered (inPlaceCall l (czOn a b) nb′ cs′) r
   pub accepted : (r ≡ 0) ↔ CzFits l a b
-  pub group : r ≡ 0 → Entangled l a b (left l nb′ cs′)
+  pub group : r ≡ 0 → CzStands l a b (left l nb′ cs′)
   pub ranks : r ≡ 0 → (side : Word) → side a ≡ side b → rankAcross side (left l nb′ cs′) ≡ rankAcross side l
   pub by-expanding : r ≡ 0 → ByExpanding l (czChange a b) nb′ cs′
   pub number-by-expanding : a < l .n → b < l .n → a ≢ b → NumberByExpanding l r
@@ -108,7 +115,7 @@ pub record MeasureSays (l : LentRecord) (pauli q b answer determined : ℕ) (nb�
   pub answered : Answered (measureCall l pauli q b answer determined nb′ cs′ answer′ determined′) r
   pub accepted : (r ≡ 0) ↔ MeasureFits l pauli q b
   pub group : r ≡ 0 → MeasurementStands l pauli q b (left l nb′ cs′) answer′ determined′
-  pub impossible : ImpossibleClick l pauli q b answer determined r nb′ cs′ answer′ determined′
+  pub contradicted : OutcomeContradicted l pauli q b answer determined r nb′ cs′ answer′ determined′
   pub by-expanding : r ≡ 0 → MeasuredByExpanding l pauli q b nb′ cs′ answer′ determined′
   pub number-by-expanding : 1 ≤ pauli → pauli ≤ 3 → q < l .n → b < 2 → MeasureNumberByExpanding l pauli q b r
 
@@ -143,4 +150,4 @@ pub record ProductSays (l : GeneratorList) (chosen z x phase z′ x′ phase′ 
 pub record GenerateSays (n count seed : ℕ) (text : List ℕ) (size : ℕ) (text′ : List ℕ) (size′ r : ℕ) : Type 0 where
   pub answered : Answered (generateCall n count seed text size text′ size′) r
   pub accepted : (r ≡ 0) ↔ GenerateFits n count seed text
-  pub back : r ≡ 0 → Generated n count seed text text′ size′
+  pub back : r ≡ 0 → JobGenerated n count seed text text′ size′

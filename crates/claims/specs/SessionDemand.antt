@@ -13,7 +13,14 @@ use Rattle.clifford.specs.Vectors.{act, only}
 use Rattle.contracts.specs.Calls.{Call}
 use Rattle.call_lists.specs.Calls.{expandCall, expandLines, reduceCall, reduceLines}
 use Rattle.operations.specs.Cz.{cz}
-use Rattle.operations.specs.Measurement.{answered, contradicts, determinedNumber, measuredRows, outcomeNumber, pauliLetter}
+use Rattle.operations.specs.Measurement.{
+  measuredOutcome,
+  contradicts,
+  determinedNumber,
+  measuredRows,
+  outcomeNumber,
+  pauliLetter,
+}
 use Rattle.operations.specs.Steps.{czOn, gateWith}
 use Rattle.pauli.specs.Pauli.{Pauli}
 use Rattle.record.specs.Lent.{LentRecord}
@@ -86,9 +93,9 @@ pub record MeasuredByExpanding (l : LentRecord) (pauli q b : ℕ) (nb′ cs′ :
     0 where
   pub left : ByExpanding l (measureChange (l .n) pauli q b) nb′ cs′
   pub outcome : (s z x s′ z′ x′ : List ℕ) → Call (expandCall l s z x s′ z′ x′) 0 →
-      answer′ ≡ outcomeNumber (answered (l .n) (rows (listIn (l .n) s′ z′ x′)) (pauliLetter pauli) q (isOdd b))
+      answer′ ≡ outcomeNumber (measuredOutcome (l .n) (rows (listIn (l .n) s′ z′ x′)) (pauliLetter pauli) q (isOdd b))
   pub determined : (s z x s′ z′ x′ : List ℕ) → Call (expandCall l s z x s′ z′ x′) 0 →
-      determined′ ≡ determinedNumber (answered (l .n) (rows (listIn (l .n) s′ z′ x′)) (pauliLetter pauli) q (isOdd b))
+      determined′ ≡ determinedNumber (measuredOutcome (l .n) (rows (listIn (l .n) s′ z′ x′)) (pauliLetter pauli) q (isOdd b))
 
 abbrev pub MeasurementsByExpanding : Type 0
 MeasurementsByExpanding =

@@ -32,7 +32,7 @@ use Rattle.words.proofs.SearchLaws.{first-is, first-unique}
 use Rattle.words.proofs.Sums.{lt-or-ge}
 use Rattle.words.specs.Bits.{Word}
 use Rattle.words.specs.Search.{IsFirst, first}
-use Rattle.comparison.proofs.SettledChoices.{same-sent}
+use Rattle.comparison.proofs.LeastAtVertices.{same-sent}
 use Rattle.comparison.specs.PartChoices.{ActsOn, CarriesOn}
 
 -- ---- a choice that works serves every set

@@ -39,7 +39,7 @@ use Rattle.comparison.proofs.RecordElements.{framed-proper}
 use Rattle.comparison.specs.Choices.{classKey}
 use Rattle.comparison.specs.internal.Equations.{Solves, classAssignment, classEquation, equationAt, fails}
 use Rattle.comparison.specs.internal.Searches.{ClassTable, Extendable, SentUpToSign}
-use Rattle.comparison.specs.internal.Setting.{Setting, bare, generatorsOf, noGenerator}
+use Rattle.comparison.specs.internal.Setting.{Setting, withoutSigns, generatorsOf, noGenerator}
 use Rattle.comparison.specs.declared.Assignment.{Assignment}
 use Rattle.comparison.specs.declared.Equation.{Equation}
 
@@ -225,16 +225,16 @@ module _ (n : ℕ) (first second : List Generator) (frame : List ℕ) (S : Setti
   unfolding classAssignment
   classes-send c h i k =
       maximal-list n (generatorsOf second) proper p
-      (act-imaginary n (λ q. bare (c q)) (generatorsOf first i) ∙ S .proper .commuting .signed i k)
-      (act-within n n (λ q. bare (c q)) (S .proper .within i k))
+      (act-imaginary n (λ q. withoutSigns (c q)) (generatorsOf first i) ∙ S .proper .commuting .signed i k)
+      (act-within n n (λ q. withoutSigns (c q)) (S .proper .within i k))
       (λ j l. anticommute-swap n (generatorsOf second j) p
-      ∙ anticommute-classes n (λ q. bare (c q)) (gen i) (other j) (S .proper .within i k)
+      ∙ anticommute-classes n (λ q. withoutSigns (c q)) (gen i) (other j) (S .proper .within i k)
       ∙ sym (fails-below (classEquation (gen i) (other j)) n
       (class-short n (gen i) (other j) (S .proper .within i k)) (R .0) (classAssignment n c) (R .1))
       ∙ asked (R .0) (R .2) i j k l)
     where
       p : Pauli
-      p = act n (λ q. bare (c q)) (generatorsOf first i)
+      p = act n (λ q. withoutSigns (c q)) (generatorsOf first i)
 
       proper : Proper n (generatorsOf second)
       proper = framed-proper n (generatorsOf second) _ (S .framed)

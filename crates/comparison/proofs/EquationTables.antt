@@ -26,7 +26,7 @@ use Rattle.comparison.specs.internal.Equations.{
   equationAt,
   fails,
   signEquation,
-  tableOf,
+  equationsIn,
   unknown,
   wordAt,
 }
@@ -193,8 +193,8 @@ module _ (n : ℕ) (first second : List Generator) where
           here e = omega (arith, e)
 
 -- the code's table without equations
-pub empty-rows : (rows : List (List ℕ)) → rows ≡ emptyRows → Triangular (tableOf rows)
-empty-rows rows e = subst (λ r. Triangular (tableOf r)) (sym e) empty-table
+pub empty-rows : (rows : List (List ℕ)) → rows ≡ emptyRows → Triangular (equationsIn rows)
+empty-rows rows e = subst (λ r. Triangular (equationsIn r)) (sym e) empty-table
 
-pub empty-rows-solved : (rows : List (List ℕ)) → rows ≡ emptyRows → (w : Assignment) → Solves (tableOf rows) w
-empty-rows-solved rows e w = subst (λ r. Solves (tableOf r) w) (sym e) (empty-solved w)
+pub empty-rows-solved : (rows : List (List ℕ)) → rows ≡ emptyRows → (w : Assignment) → Solves (equationsIn rows) w
+empty-rows-solved rows e w = subst (λ r. Solves (equationsIn r) w) (sym e) (empty-solved w)

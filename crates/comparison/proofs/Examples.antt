@@ -10,7 +10,7 @@ use Rattle.stabilizer.specs.Lists.{rows}
 use Rattle.stabilizer.specs.Membership.{member}
 use Rattle.words.specs.Bits.{bit, fold, put, wordOf}
 use Rattle.words.specs.Search.{every, first, some}
-use Rattle.comparison.specs.Choices.{carries, choice, leastCode, leastNumber, noChoice}
+use Rattle.comparison.specs.Choices.{isCarrying, choice, leastCode, leastNumber, noChoice}
 
 -- one generator on one qubit
 abbrev one : ℕ → ℕ → ℕ → ℕ → Pauli
@@ -23,5 +23,5 @@ given =
     ∷ leastCode 1 (one 0 0 1) (one 1 0 1) 0 ∷ leastCode 1 (one 0 0 1) (one 1 1 0) 0 ∷ []
 
 pub choice-examples : given ≡ (5 ∷ 4 ∷ 12 ∷ 2 ∷ 10 ∷ [])
-unfolding carries member act mul fold put bit wordOf some every first choice leastNumber
+unfolding isCarrying member act mul fold put bit wordOf some every first choice leastNumber
 choice-examples = refl

@@ -14,7 +14,7 @@ use Rattle.words.proofs.Sums.{last-or, lt-or-ge}
 use Rattle.comparison.proofs.EquationLaws.{SameBelow, fails-below}
 use Rattle.comparison.proofs.Extension.{row-short, rows-below}
 use Rattle.comparison.specs.internal.Equations.{QubitTested, Solves, Triangular, equationAt, fails}
-use Rattle.comparison.specs.internal.Searches.{Chosen, FirstFit}
+use Rattle.comparison.specs.internal.Searches.{LeastBelow, FirstFit}
 use Rattle.comparison.specs.declared.Assignment.{Assignment}
 use Rattle.comparison.specs.declared.Equation.{Equation}
 
@@ -101,7 +101,7 @@ module _ (A : (ℕ → Clifford) → Assignment) (key : Clifford → ℕ) (table
       → v < bound
   one-fit d s h l = lt-of-le-of-lt (not-before d s h) l
 
-  pub one-chosen : v < bound → Chosen A key table q c → Chosen A key table (q + 1) (next v)
+  pub one-chosen : v < bound → LeastBelow A key table q c → LeastBelow A key table (q + 1) (next v)
   one-chosen small C =
       record { hold = λ i l. rows i (lt-or-ge i (4 * q)) l; least = λ t l d s h. least t (last-or (up t l)) d s h }
     where
@@ -126,6 +126,6 @@ module _ (A : (ℕ → Clifford) → Assignment) (key : Clifford → ℕ) (table
           (not-before d s (λ u l. h u (subst (λ t. u < t) (sym p) l) ∙ front v small u l)))
 
 pub none-chosen : (A : (ℕ → Clifford) → Assignment) (key : Clifford → ℕ) (table : List Equation) (c : ℕ → Clifford)
-    → Chosen A key table 0 c
+    → LeastBelow A key table 0 c
 none-chosen A key table c =
     record { hold = λ i l. absurd (not-suc-le-zero l); least = λ t l. absurd (not-suc-le-zero l) }

@@ -43,8 +43,8 @@ use Rattle.comparison.specs.internal.Equations.{
   signAssignment,
 }
 use Rattle.comparison.specs.internal.Searches.{
-  Answered,
-  Chosen,
+  SearchAnswered,
+  LeastBelow,
   ClassTable,
   ClassesAnswered,
   ClassesChosen,
@@ -188,12 +188,12 @@ module _ (n : ℕ) (first second : List Generator) (frame : List ℕ) (S : Setti
       go e i j l (inr k) p = absurd (not-suc-le-zero (k .1))
 
   pub none-works : (found : Bool) (choice : List ℕ) → ClassesAnswered n table found choice → found ≡ false
-      → Answered n Works false choice
+      → SearchAnswered n Works false choice
   none-works found choice A e = record { search = λ d K. A .none e d (classes-kept d K); codes = A .codes }
 
   pub chosen-works : (classes : List ℕ) → ClassesChosen n table n classes → (signs : List Equation)
       → SignTable n first second (codesOf classes) n signs → (choice : List ℕ) → SignsChosen n signs classes n choice
-      → Answered n Works true choice
+      → SearchAnswered n Works true choice
   chosen-works classes A signs T′ choice B =
       record {
         search = record {

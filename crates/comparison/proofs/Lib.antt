@@ -15,7 +15,7 @@ pub mod EquationTables
 pub mod Filling
 pub mod ComparedRecords
 pub mod OneQubit
-pub mod SettledChoices
+pub mod LeastAtVertices
 pub mod ChoicesByParts
 pub mod Examples
 pub mod Determinants

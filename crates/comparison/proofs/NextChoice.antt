@@ -17,7 +17,7 @@ use Rattle.words.specs.Bits.{isOdd}
 use Rattle.comparison.proofs.NumberOrder.{class-of-code, classKey-of-code, signKey-of-code}
 use Rattle.comparison.specs.Choices.{classKey, signKey}
 use Rattle.comparison.specs.internal.Searches.{withClass, withSigns}
-use Rattle.comparison.specs.internal.Setting.{Bare, Codes, bare}
+use Rattle.comparison.specs.internal.Setting.{NoSigns, Codes, withoutSigns}
 
 module _ (choice : List ℕ) (q k : ℕ) (long : q < length choice) where
   code-here : codesOf (set choice q k) q ≡ cliffordOf k
@@ -49,9 +49,9 @@ module _ (choice : List ℕ) (C : Codes choice) (q v : ℕ) (long : q < length c
       → classKey (codesOf (withClass choice q v) i) ≡ classKey (codesOf choice i)
   class-front i l = ap classKey (code-other choice q (4 * v) long i (ne-of-lt l))
 
-  pub class-bare : Bare choice → Bare (withClass choice q v)
+  pub class-bare : NoSigns choice → NoSigns (withClass choice q v)
   class-bare b =
-      at-set choice q (4 * v) long (λ k. cliffordOf k ≡ bare (cliffordOf k)) b
+      at-set choice q (4 * v) long (λ k. cliffordOf k ≡ withoutSigns (cliffordOf k)) b
       (λ i. record { class = classOf (4 * v / 4); sx = even-half i; sz = even i })
     where
       half : (k : ℕ) → 4 * k / 2 % 2 ≡ 0
@@ -98,5 +98,5 @@ zeros-at (suc k) (suc i) = zeros-at k i
 pub zeros-codes : (k : ℕ) → Codes (replicate k 0)
 zeros-codes k q = subst (λ c. c < 24) (sym (zeros-at k q)) (lit< tt)
 
-pub zeros-bare : (k : ℕ) → Bare (replicate k 0)
-zeros-bare k q = subst (λ c. cliffordOf c ≡ bare (cliffordOf c)) (sym (zeros-at k q)) refl
+pub zeros-bare : (k : ℕ) → NoSigns (replicate k 0)
+zeros-bare k q = subst (λ c. cliffordOf c ≡ withoutSigns (cliffordOf c)) (sym (zeros-at k q)) refl

@@ -51,7 +51,7 @@ use Rattle.words.proofs.Sums.{fold-ext}
 use Rattle.words.specs.Bits.{Word, _⊕_}
 use Rattle.comparison.proofs.Least.{act-agree}
 use Rattle.comparison.proofs.Members.{carries-is}
-use Rattle.comparison.specs.Choices.{carries}
+use Rattle.comparison.specs.Choices.{isCarrying}
 use Rattle.comparison.specs.internal.Setting.{Framed, Guessed}
 
 same-products : (n : ℕ) (w : Word) (rows others : ℕ → Pauli) → ((j : ℕ) → j < n → rows j ≡ others j)
@@ -145,7 +145,7 @@ guessed n l rows frame F p s e i h k M =
 
 -- ---- a choice works if it sends the generators into the other group
 pub carried-all : (n : ℕ) (rows others : ℕ → Pauli) → Proper n rows → Proper n others → (c : ℕ → Clifford)
-    → ((j : ℕ) → j < n → InGroup n n others (act n c (rows j))) → carries n c rows others ≡ true
+    → ((j : ℕ) → j < n → InGroup n n others (act n c (rows j))) → isCarrying n c rows others ≡ true
 carried-all n rows others P P′ c h =
     carries-is n c rows others (P .within) (P′ .within) .1
     (carries-same n c rows others .1

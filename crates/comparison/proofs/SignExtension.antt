@@ -48,7 +48,7 @@ use Rattle.comparison.specs.internal.Equations.{
   signEquation,
 }
 use Rattle.comparison.specs.internal.Searches.{Extendable, SentUpToSign, SignAsked, SignFor, SignTable}
-use Rattle.comparison.specs.internal.Setting.{Guessed, Setting, bare, generatorsOf, noGenerator}
+use Rattle.comparison.specs.internal.Setting.{Guessed, Setting, withoutSigns, generatorsOf, noGenerator}
 use Rattle.comparison.specs.declared.Assignment.{Assignment}
 use Rattle.comparison.specs.declared.Equation.{Equation}
 
@@ -62,7 +62,7 @@ module _ (n : ℕ) (first second : List Generator) (frame : List ℕ) (S : Setti
 
     module _ (sent : SentUpToSign n first second c) where
       abbrev Image : ℕ → Pauli
-      Image j = act n (λ q. bare (c q)) (generatorsOf first j)
+      Image j = act n (λ q. withoutSigns (c q)) (generatorsOf first j)
 
       -- ---- which images are to change their sign
       abbrev which : (p : Pauli) → InGroup n n (generatorsOf second) p ⊎ InGroup n n (generatorsOf second) (scaled i² p) → Bool
@@ -187,7 +187,7 @@ module _ (n : ℕ) (first second : List Generator) (frame : List ℕ) (S : Setti
                   (sign-flag j (subst (λ t. t < n) (sym p) l) f G ∙ ap flag p ∙ sym (sign-flag i l e F)) ∙ sym (F .is))
 
       -- the equation that the code makes, from the image and the element found
-      pub sign-found : ((q : ℕ) → c q ≡ bare (c q)) → (i : ℕ) → i < n → (p h : Generator)
+      pub sign-found : ((q : ℕ) → c q ≡ withoutSigns (c q)) → (i : ℕ) → i < n → (p h : Generator)
           → generatorOf p ≡ act 64 c (generatorsOf first i)
           → Guessed n (generatorsOf second) (generatorOf p) (generatorOf h) → (e : Equation)
           → e ≡ signEquation (gen i) (not (Bool·beq (p .minus) (h .minus))) → SignFor n first second c i e
@@ -205,13 +205,13 @@ module _ (n : ℕ) (first second : List Generator) (frame : List ℕ) (S : Setti
           wide : n ≤ 20 → n ≤ 64
           wide k = omega (arith, k)
 
-          image : generatorOf p ≡ act n (λ q. bare (c q)) (generatorsOf first i)
+          image : generatorOf p ≡ act n (λ q. withoutSigns (c q)) (generatorsOf first i)
           image = ep ∙ act-wide n 64 (wide (S .few)) (S .proper .within i l) c ∙ act-cong n plain (generatorsOf first i)
 
           -- the letters are those of the image, in each case
           go : (f : Pauli → Bool) → f (generatorOf p) ≡ f (scaled i² (generatorOf p))
-              → InGroup n n (generatorsOf second) (act n (λ q. bare (c q)) (generatorsOf first i))
-              ⊎ InGroup n n (generatorsOf second) (scaled i² (act n (λ q. bare (c q)) (generatorsOf first i)))
+              → InGroup n n (generatorsOf second) (act n (λ q. withoutSigns (c q)) (generatorsOf first i))
+              ⊎ InGroup n n (generatorsOf second) (scaled i² (act n (λ q. withoutSigns (c q)) (generatorsOf first i)))
               → f (generatorOf p) ≡ f (generatorOf h)
           go f e (inl a) = ap f (sym (G .right (subst (InGroup n n (generatorsOf second)) (sym image) a)))
           go f e (inr a) =

@@ -17,8 +17,8 @@ use Rattle.words.specs.Search.{every, first, some}
 -- ---- which choices work, as a test
 -- "sending each place of every element of the first through its qubit's code, signs included, gives
 -- exactly the elements of the second"
-unfoldable pub carries : ℕ → (ℕ → Clifford) → (ℕ → Pauli) → (ℕ → Pauli) → Bool
-carries n c rows others =
+unfoldable pub isCarrying : ℕ → (ℕ → Clifford) → (ℕ → Pauli) → (ℕ → Pauli) → Bool
+isCarrying n c rows others =
     every (2 ^ n) (λ v. member n others (act n c (product n n (bit v) rows)))
     && every (2 ^ n) (λ v. member n (λ j. act n c (rows j)) (product n n (bit v) others))
 
@@ -68,7 +68,7 @@ choiceAt n k q = cliffordOf (choice n k q)
 
 -- the number of the first choice that works; 24^n where none does
 unfoldable pub leastNumber : ℕ → (ℕ → Pauli) → (ℕ → Pauli) → ℕ
-leastNumber n rows others = first (24 ^ n) (λ k. carries n (choiceAt n k) rows others)
+leastNumber n rows others = first (24 ^ n) (λ k. isCarrying n (choiceAt n k) rows others)
 
 -- the code of qubit q in the least choice that works; 0 at and above n
 abbrev pub leastCode : ℕ → (ℕ → Pauli) → (ℕ → Pauli) → ℕ → ℕ
@@ -76,4 +76,4 @@ leastCode n rows others q = choice n (leastNumber n rows others) q
 
 -- 13: "No choice of local Cliffords carries one group to the other"
 abbrev pub noChoice : ℕ → (ℕ → Pauli) → (ℕ → Pauli) → Bool
-noChoice n rows others = not (some (24 ^ n) (λ k. carries n (choiceAt n k) rows others))
+noChoice n rows others = not (some (24 ^ n) (λ k. isCarrying n (choiceAt n k) rows others))

@@ -4,7 +4,7 @@ use mathlib.Core.Bool.{Bool, not, _||_}
 use mathlib.Core.List.{_++_, List, [], _∷_}
 use Prim.Native.Nat.{ℕ}
 use lib.Dec.{eqb}
-use Rattle.buffers.specs.Refusals.{Line, badCount, line, otherThan}
+use Rattle.buffers.specs.Refusals.{Refusal, badCount, line, otherThan}
 use Rattle.clifford.specs.Clifford.{Clifford, inverse, then}
 use Rattle.parts.specs.Parts.{partAbove}
 use Rattle.pauli.specs.Pauli.{Pauli}
@@ -28,7 +28,7 @@ pairLengths l m chosen list = listLengths l
     || (listLengths m || (otherThan (l .n) chosen || otherThan 96 list))
 
 -- 2 to 10 of the lists, and 4 of the buffers
-abbrev pub pairLines : GeneratorList → GeneratorList → List ℕ → List ℕ → List Line
+abbrev pub pairLines : GeneratorList → GeneratorList → List ℕ → List ℕ → List Refusal
 pairLines l m chosen list =
     line 2 (pairCount l m) ∷ line 4 (pairLengths l m chosen list)
     ∷ line 5 (listStray l || listStray m) ∷ line 6 (listSigns l || listSigns m)
@@ -36,11 +36,11 @@ pairLines l m chosen list =
     ∷ line 10 (dependent (l .n) (rows l) || dependent (m .n) (rows m)) ∷ []
 
 -- 3: "a part exceeds 20", of the reduced graph of a list
-abbrev pub largePart : GeneratorList → Bool
-largePart l = partAbove 20 (l .n) (reducedGraph (l .n) (rows l))
+abbrev pub hasLargePart : GeneratorList → Bool
+hasLargePart l = partAbove 20 (l .n) (reducedGraph (l .n) (rows l))
 
 -- the lines of a comparison in checking order; 3 "is checked after 10"
-abbrev pub compareLines : GeneratorList → GeneratorList → List ℕ → List ℕ → List Line
+abbrev pub compareLines : GeneratorList → GeneratorList → List ℕ → List ℕ → List Refusal
 compareLines l m chosen list =
     pairLines l m chosen list
-    ++ (line 3 (largePart l || largePart m) ∷ line 13 (noChoice (l .n) (rows l) (rows m)) ∷ [])
+    ++ (line 3 (hasLargePart l || hasLargePart m) ∷ line 13 (noChoice (l .n) (rows l) (rows m)) ∷ [])

@@ -2,4 +2,4 @@ pub mod Compared
 pub mod Equations
 pub mod Searches
 pub mod Setting
-pub mod Settled
+pub mod LeastAt

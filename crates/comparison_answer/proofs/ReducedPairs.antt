@@ -22,7 +22,7 @@ use Rattle.comparison.specs.Compared.{induced}
 use Rattle.comparison.specs.internal.Compared.{inducedCode}
 use Rattle.comparison.specs.internal.Searches.{LeastAnswer}
 use Rattle.comparison.specs.internal.Setting.{Codes, heldGenerators}
-use Rattle.comparison_component.specs.internal.Islands.{SoundPair}
+use Rattle.comparison_component.specs.internal.Components.{SoundPair}
 use Rattle.graph.specs.NeighbourWords.{graphIn}
 use Rattle.image_answer.specs.internal.Answer.{IsImage}
 use Rattle.image.specs.Rule.{imageList}

@@ -9,7 +9,7 @@ use native.Mathlib.Omega.{arith}
 use lib.Dec.{eqb, leb, ltb}
 use lib.ListN.{length}
 use borrow.Author.Tests.{le-ltb, leb-false, lt-leb, lt-ltb}
-use Rattle.graph_steps.specs.internal.Kept.{unsettled}
+use Rattle.graph_steps.specs.internal.KeptGroups.{unsettled}
 use Rattle.words.proofs.BitLaws.{lt-of-bits, zero-bit}
 use Rattle.words.proofs.Finite.{⊕-zero}
 use Rattle.words.proofs.Flags.{neither}

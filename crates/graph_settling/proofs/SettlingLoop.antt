@@ -15,7 +15,7 @@ use lib.ListN.{getD, length}
 use lib.Pow.{pow-mono}
 use Rattle.graph_steps.proofs.Keeping.{form-normalised, kept-refl, kept-trans}
 use Rattle.graph_steps.proofs.OutOfPlace.{none-unsettled}
-use Rattle.graph_steps.specs.internal.Kept.{Kept, Nearer, Normalised, unsettled}
+use Rattle.graph_steps.specs.internal.KeptGroups.{GroupKept, Nearer, Normalised, unsettled}
 use Rattle.graph_steps.specs.internal.ReducedForms.{ReducedForm}
 use Rattle.graph_steps.specs.internal.Settling.{distance}
 use Rattle.operations.proofs.UnrefusedRecords.{unrefused-short}
@@ -102,7 +102,7 @@ module _ (words codes : List ℕ) (U : Unrefused (recordIn words codes)) (rest :
 
 -- ---- the loop
 pub record Settling (words codes words₁ codes₁ : List ℕ) (rest : ℕ) : Type 0 where
-  pub kept : Kept words codes words₁ codes₁
+  pub kept : GroupKept words codes words₁ codes₁
   pub watched : Watched words₁ codes₁ rest
 
 pub settling-start : (words codes : List ℕ) (rest : ℕ) → Unrefused (recordIn words codes) → Watched words codes rest

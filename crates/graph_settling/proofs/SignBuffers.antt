@@ -17,7 +17,7 @@ use Rattle.graph.specs.Graph.{Simple}
 use Rattle.graph_steps.proofs.Keeping.{held-words, rewritten-nearer}
 use Rattle.graph_steps.proofs.Places.{z-before}
 use Rattle.graph_steps.proofs.SignsMoved.{sign-moved-row}
-use Rattle.graph_steps.specs.internal.Kept.{Nearer}
+use Rattle.graph_steps.specs.internal.KeptGroups.{Nearer}
 use Rattle.graph_steps.specs.internal.Settling.{distance}
 use Rattle.graph_steps.specs.internal.Steps.{pauliCode, signMoved}
 use Rattle.operations.proofs.UnrefusedRecords.{unrefused-above, unrefused-simple}

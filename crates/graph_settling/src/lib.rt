@@ -11,7 +11,7 @@ ghost use mathlib.Core.Path.{_≡_};
 ghost use Prim.Native.Nat.{ℕ, _+_, _/_, _<_, _^_};
 ghost use lib.Dec.{eqb, leb};
 ghost use lib.ListN.{length};
-ghost use Rattle.graph_steps.specs.internal.Kept.{Nearer, Normalised, unsettled};
+ghost use Rattle.graph_steps.specs.internal.KeptGroups.{Nearer, Normalised, unsettled};
 ghost use Rattle.graph_steps.specs.internal.Steps.{signMoved};
 ghost use Rattle.operations.specs.internal.InPlace.{Rewritten, Unrefused, recordIn};
 ghost use Rattle.words.specs.Bits.{_⊕_, bit, isOdd};

@@ -14,7 +14,7 @@ use Rattle.record.proofs.Equation.{equation}
 use Rattle.record.proofs.Unique.{record-path}
 use Rattle.record.specs.Columns.{ColumnDependent}
 use Rattle.record.specs.Records.{GraphRecord, rowsOf}
-use Rattle.record.specs.Reduced.{Reduced, plainCode, reduced, withHadamard, xWords}
+use Rattle.record.specs.Reduced.{ReductionOf, plainCode, reduced, withHadamard, xWords}
 use Rattle.stabilizer.proofs.GroupLaws.{same-refl}
 use Rattle.words.proofs.Places.{other-place, same-place}
 use Rattle.words.proofs.Sums.{bitMonoid, fold-ext, fold-one, fold-unit, lt-or-ge}
@@ -129,7 +129,7 @@ module _ (n : ℕ) (r : GraphRecord) (S : Simple n (r .graph)) (F : ReducedForm 
       none t k false f = x-kept q t (omega arith) f ∙ other-place {i = t} {j = q} (λ d. absurd (omega (arith, d)))
       none t k true f = x-rotated q t (omega arith) f ∙ S .symmetric q t ∙ no-larger t q (omega arith) f (omega arith)
 
-  pub form-is-reduced : Reduced n (rowsOf n r) r
+  pub form-is-reduced : ReductionOf n (rowsOf n r) r
   form-is-reduced =
       record {
         simple = S;

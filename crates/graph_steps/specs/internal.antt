@@ -1,4 +1,4 @@
-pub mod Kept
+pub mod KeptGroups
 pub mod ReducedForms
 pub mod Settling
 pub mod Steps

@@ -3,7 +3,7 @@
 use mathlib.Core.Bool.{_&&_, Bool, false, not, _||_}
 use mathlib.Core.List.{_++_, List, [], _∷_}
 use Prim.Native.Nat.{ℕ}
-use Rattle.buffers.specs.Refusals.{Line, line, otherThan}
+use Rattle.buffers.specs.Refusals.{Refusal, line, otherThan}
 use Rattle.graph.specs.Graph.{Graph, Simple, graphGenerator}
 use Rattle.pauli.specs.Pauli.{Pauli, i², letterAt, minus, scaled, xBit, zBit}
 use Rattle.pauli.specs.declared.Letter.{Letter}
@@ -50,12 +50,12 @@ unfoldable pub looped : ℕ → GraphRecord → Bool
 looped n r = not (stuck n r) && some n (λ j. isY (letterAt (rowsOf n (imageRecord n r) j) j))
 
 -- the two lines in checking order
-abbrev pub loopLines : ℕ → GraphRecord → List Line
+abbrev pub loopLines : ℕ → GraphRecord → List Refusal
 loopLines n r = line 11 (stuck n r) ∷ line 12 (looped n r) ∷ []
 
 -- the lines of the call: those of the record, with the buffers lent for the graph, the signs and the list
 -- ("The list buffer is 96 bytes"), then 11 and 12
-abbrev pub imageLines : LentRecord → List ℕ → List ℕ → List ℕ → List Line
+abbrev pub imageLines : LentRecord → List ℕ → List ℕ → List ℕ → List Refusal
 imageLines l graph signs list =
     recordLines l (otherThan (l .n) graph || (otherThan (l .n) signs || otherThan 96 list)) false
     ++ loopLines (l .n) (heldRecord l)

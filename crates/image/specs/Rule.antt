@@ -22,8 +22,8 @@ stateOf r = record { graph = r .graph; C = λ q. bitC (r .codes q); D = λ q. bi
 
 -- complementing at v, "following the bits: at the vertex itself C becomes C + D, at a neighbour D becomes C
 -- + D, modulo 2"
-unfoldable pub step : State → ℕ → State
-step S v =
+unfoldable pub complementedAt : State → ℕ → State
+complementedAt S v =
     record {
       graph = complement (S .graph) v;
       C = put (S .C) v (S .C v ⊕ S .D v);
@@ -32,7 +32,7 @@ step S v =
 
 abbrev pub follow : State → List ℕ → State
 follow S [] = S
-follow S (v ∷ vs) = follow (step S v) vs
+follow S (v ∷ vs) = follow (complementedAt S v) vs
 
 -- ---- the next complementations
 -- "whose two bits are both 1"

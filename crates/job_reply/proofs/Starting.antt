@@ -8,7 +8,7 @@ use native.Mathlib.Omega.{arith}
 use lib.ListN.{getD, length, length-append, replicate, take}
 use lib.Seq.{length-take-le}
 use Rattle.job_text.proofs.ResultLaws.{length-results}
-use Rattle.job_text.specs.Answer.{answered, resultsOf}
+use Rattle.job_text.specs.Answer.{runText, resultsOf}
 use Rattle.job_text.specs.Results.{jobAnswer, resultLines, resultNames}
 use Rattle.jobs.proofs.Printing.{run-sized, started-sized}
 use Rattle.jobs.specs.Runs.{started}
@@ -86,7 +86,7 @@ module _ (n : ℕ) (nb cs : List ℕ) (count : ℕ) (steps : List Step) (few : l
       }
 
   pub all-printed : (out′ : List ℕ) (r : ℕ) → Printed (recordText n nb′ cs′) at out out′ r
-      → Printed (answered n steps) 0 before out′ r
+      → Printed (runText n steps) 0 before out′ r
   unfolding jobAnswer
   all-printed out′ r P =
       and-then (omega (arith, short, F .room)) (ran .out)

@@ -12,16 +12,16 @@ use lib.Dec.{ltb}
 use lib.ListN.{length, take}
 use lib.Seq.{take-all}
 use borrow.Author.Tests.{lt-ltb}
-use Rattle.buffers.specs.Refusals.{Line, line, firstFitting, badCount}
+use Rattle.buffers.specs.Refusals.{Refusal, line, firstFitting, badCount}
 use Rattle.jobs.specs.declared.Step.{Step}
 use Rattle.words.proofs.Sums.{lt-or-ge}
 use Rattle.job_text.specs.Lines.{jobLines}
 use Rattle.job_text.specs.internal.Lines.{textLines, TextNumber}
 use Rattle.job_text.specs.Text.{HasJobForm}
-use Rattle.job_text.specs.internal.Scan.{atLine, verdict, Kept, Judged}
+use Rattle.job_text.specs.internal.Scan.{atLine, verdict, StepsKept, Judged}
 use Rattle.job_text.specs.declared.scan.Reading.{Reading}
 
-module _ (n : ℕ) (steps : List Step) (w : Reading) (kept : Kept n steps w) where
+module _ (n : ℕ) (steps : List Step) (w : Reading) (kept : StepsKept n steps w) where
   pub count-many : 4096 < length steps → w .scan .count ≡ 4097
   count-many many = kept .count ∙ min-eq-right {n = 4097} {m = length steps} (omega arith)
 
@@ -46,7 +46,7 @@ module _ (n : ℕ) (steps : List Step) (w : Reading) (kept : Kept n steps w) whe
   same-lines =
       ap₂ (λ a b. firstFitting (lines a b)) (kept .qubits) count-tells
     where
-      lines : ℕ → Bool → List Line
+      lines : ℕ → Bool → List Refusal
       lines a b = line 15 b ∷ line 2 (badCount a) ∷ []
 
 -- the scan of a text ends with the text's number

@@ -10,7 +10,7 @@ use Rattle.buffers.specs.Refusals.{firstFitting}
 use Rattle.jobs.specs.declared.Step.{Step}
 use Rattle.job_text.specs.Lines.{jobLines}
 use Rattle.job_text.specs.Text.{AllFit, jobText, JobTextOf}
-use Rattle.job_text.specs.internal.Scan.{empty, fed, verdict, Kept}
+use Rattle.job_text.specs.internal.Scan.{empty, fed, verdict, StepsKept}
 use Rattle.job_text.specs.declared.scan.Reading.{Reading}
 use Rattle.job_text.proofs.KeptLaws.{count-few, steps-few, text-number}
 use Rattle.job_text.proofs.Verdict.{empty-judged}
@@ -30,7 +30,7 @@ module _ (n : ℕ) (steps : List Step) (some : 1 ≤ n) (upto : n ≤ 64) (few :
   written : JobTextOf n steps (jobText n steps)
   written = record { few = omega arith; fit = fit; text = refl }
 
-  kept : Kept n steps back
+  kept : StepsKept n steps back
   kept = empty-judged (jobText n steps) .job n steps written
 
   pub back-accepted : verdict (back .scan) ≡ 0

@@ -8,7 +8,7 @@ use lib.Dec.{eqb, leb}
 use lib.ListN.{drop}
 use borrow.Author.Tests.{eq-eqb, ne-eqb}
 use Rattle.buffers.proofs.Lines.{not-held}
-use Rattle.buffers.specs.Refusals.{Line, badCount, firstFitting}
+use Rattle.buffers.specs.Refusals.{Refusal, badCount, firstFitting}
 use Rattle.operations.specs.Steps.{
   Operation,
   argumentLines,
@@ -37,7 +37,7 @@ use Rattle.jobs.specs.Runs.{afterStep}
 use Rattle.jobs.specs.declared.Step.{Step}
 
 -- a further test that does not hold changes nothing
-pub without-test : (k : ℕ) (ls : List Line) → firstFitting (withTest k false ls) ≡ firstFitting ls
+pub without-test : (k : ℕ) (ls : List Refusal) → firstFitting (withTest k false ls) ≡ firstFitting ls
 unfolding firstFitting
 without-test k [] = refl
 without-test k (l ∷ ls) =
@@ -49,7 +49,7 @@ without-test k (l ∷ ls) =
     flag false false = refl
 
 -- where line 6 holds of an argument or by the further test, no later line matters
-pub with-six : (l : LentRecord) (six b : Bool) (rest : List Line) → (six || b) ≡ true
+pub with-six : (l : LentRecord) (six b : Bool) (rest : List Refusal) → (six || b) ≡ true
     → firstFitting (withTest 6 b (recordLines l false six ++ rest)) ≡ firstFitting (recordLines l false true)
 unfolding firstFitting
 with-six l six b rest e =

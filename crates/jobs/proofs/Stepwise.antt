@@ -11,7 +11,7 @@ use lib.ListN.{getD, length, take}
 use Rattle.operations.specs.Steps.{leaves}
 use Rattle.record.specs.Lent.{LentRecord}
 use Rattle.jobs.specs.Asked.{asked, numberOf}
-use Rattle.jobs.specs.Runs.{afterStep, answerOf, answers, run}
+use Rattle.jobs.specs.Runs.{afterStep, answerOf, stepAnswers, run}
 use Rattle.jobs.specs.declared.Answer.{Answer}
 use Rattle.jobs.specs.declared.Step.{Step}
 
@@ -34,8 +34,8 @@ run-next l steps k other h = ap (λ m. run l (take m steps)) (add-one k) ∙ nex
 
 -- the answer of step k is that on the record after the first k steps
 pub answer-at : (l : LentRecord) (steps : List Step) (k : ℕ) (other : Step) (none : Answer) → k < length steps
-    → getD (answers l steps) k none ≡ answerOf (run l (take k steps)) (getD steps k other)
-unfolding run answers
+    → getD (stepAnswers l steps) k none ≡ answerOf (run l (take k steps)) (getD steps k other)
+unfolding run stepAnswers
 answer-at l [] k other none h = absurd (not-suc-le-zero h)
 answer-at l (s ∷ rest) zero other none h = refl
 answer-at l (s ∷ rest) (suc k) other none h = answer-at (afterStep l s) rest k other none (le-of-suc-le-suc h)

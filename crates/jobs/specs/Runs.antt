@@ -65,6 +65,6 @@ answerOf l s =
     }
 
 -- of each step
-unfoldable pub answers : LentRecord → List Step → List Answer
-answers l [] = []
-answers l (s ∷ rest) = answerOf l s ∷ answers (afterStep l s) rest
+unfoldable pub stepAnswers : LentRecord → List Step → List Answer
+stepAnswers l [] = []
+stepAnswers l (s ∷ rest) = answerOf l s ∷ stepAnswers (afterStep l s) rest

@@ -12,7 +12,7 @@ use Rattle.job_text.proofs.ResultLaws.{length-results, results-more}
 use Rattle.job_text.specs.Results.{resultLine, resultLines, resultNames}
 use Rattle.jobs.proofs.Printing.{outcome-small, refusal-small}
 use Rattle.jobs.proofs.Stepwise.{answer-at, run-next, run-none, run-qubits}
-use Rattle.jobs.specs.Runs.{answers, run}
+use Rattle.jobs.specs.Runs.{stepAnswers, run}
 use Rattle.jobs.specs.declared.Answer.{Answer}
 use Rattle.jobs.specs.declared.Step.{Step}
 use Rattle.jobs_run.specs.internal.StepRuns.{StepRun}
@@ -130,7 +130,7 @@ module _ (l : LentRecord) (array : List Step) (count : ℕ) (few : count ≤ 409
                 (and-then fits (U .printed) line);
           }
         where
-          same : r ≡ getD (answers l steps) k noAnswer
+          same : r ≡ getD (stepAnswers l steps) k noAnswer
           same = ran .answer ∙ sym (answer-at l steps k other noAnswer inside)
 
           line : Printed (resultLine k (resultsOf l steps k)) at out out′ at′

@@ -17,7 +17,7 @@ use Rattle.jobs.proofs.Numbers.{
   refused-keeps,
   six-refuses,
 }
-use Rattle.jobs.specs.Asked.{asked, numberOf, operation, unusedSet}
+use Rattle.jobs.specs.Asked.{asked, numberOf, operationOf, unusedSet}
 use Rattle.jobs.specs.internal.Asked.{wrongValue}
 use Rattle.jobs.specs.Runs.{afterStep, answerOf, determinedOf, outcomeOf}
 use Rattle.jobs.specs.declared.Answer.{Answer}
@@ -41,12 +41,12 @@ Others op = OneOf (0 ∷ 1 ∷ 3 ∷ 4 ∷ []) (tagOf the-type op)
 
 -- the calls without outcome: the operation is known
 pub by-operation : (l : LentRecord) {op known : Op} (a b v : ℕ) {k : ℕ} {nb cs : List ℕ} → op ≡ known
-    → Call (inPlaceCall l (operation known a b v) nb cs) k → Call (inPlaceCall l (operation op a b v) nb cs) k
-by-operation l a b v {k} {nb} {cs} e C = subst (λ o. Call (inPlaceCall l (operation o a b v) nb cs) k) (sym e) C
+    → Call (inPlaceCall l (operationOf known a b v) nb cs) k → Call (inPlaceCall l (operationOf op a b v) nb cs) k
+by-operation l a b v {k} {nb} {cs} e C = subst (λ o. Call (inPlaceCall l (operationOf o a b v) nb cs) k) (sym e) C
 
 -- an operation that is no measurement has no outcome
 plain-outcome : (l : LentRecord) (op : Op) (a b v : ℕ) → (op ≡ Measure → ⊥)
-    → (outcomeOf l (operation op a b v) ≡ 0) × (determinedOf l (operation op a b v) ≡ 0)
+    → (outcomeOf l (operationOf op a b v) ≡ 0) × (determinedOf l (operationOf op a b v) ≡ 0)
 plain-outcome l Gate a b v h = (refl, refl)
 plain-outcome l Cz a b v h = (refl, refl)
 plain-outcome l Measure a b v h = absurd (h refl)
@@ -146,7 +146,7 @@ module _ (l : LentRecord) (s : Step) where
         → StepRun l s r nb cs
     measured-run g nb cs r C = called (r .refusal) nb cs
         (by-operation l (s .a) (s .b) (s .value) g (record { number = C .number; held = C .held .1 .1 })) (r .outcome) (r .determined)
-        (C .held .0 ∙ ap (λ op. cond (eqb (r .refusal) 0) (outcomeOf l (operation op (s .a) (s .b) (s .value))) 0)
+        (C .held .0 ∙ ap (λ op. cond (eqb (r .refusal) 0) (outcomeOf l (operationOf op (s .a) (s .b) (s .value))) 0)
         (sym g))
-        (C .held .1 .0 ∙ ap (λ op. cond (eqb (r .refusal) 0) (determinedOf l (operation op (s .a) (s .b) (s .value))) 0)
+        (C .held .1 .0 ∙ ap (λ op. cond (eqb (r .refusal) 0) (determinedOf l (operationOf op (s .a) (s .b) (s .value))) 0)
         (sym g))

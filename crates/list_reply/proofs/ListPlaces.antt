@@ -6,7 +6,7 @@ use Prim.Native.Nat.{min, ℕ, _≤_}
 use native.Mathlib.Omega.{arith}
 use lib.ListN.{length, take}
 use Rattle.buffers.proofs.Parts.{part-long}
-use Rattle.list_reply.specs.Answer.{printed}
+use Rattle.list_reply.specs.Answer.{answerText}
 use Rattle.list_reply.specs.internal.Places.{Lent, listAt}
 use Rattle.list_reply.specs.Places.{longest}
 
@@ -24,7 +24,7 @@ module _ (n m : ℕ) (e : m ≡ min n 64) where
       }
 
   pub places-printed : (signs z x : List ℕ) →
-      printed (record { n = n; signs = take m signs; z = take m z; x = take m x }) ≡ printed
+      answerText (record { n = n; signs = take m signs; z = take m z; x = take m x }) ≡ answerText
       (listAt n signs z x)
   places-printed signs z x =
-      ap (λ k. printed (record { n = n; signs = take k signs; z = take k z; x = take k x })) e
+      ap (λ k. answerText (record { n = n; signs = take k signs; z = take k z; x = take k x })) e

@@ -45,8 +45,8 @@ abbrev pub contradicts : ℕ → (ℕ → Pauli) → Letter → ℕ → Bool →
 contradicts n rows l q b = isDetermined n rows l q && (outcome n rows l q b ⊕ b)
 
 -- what a measurement answers
-abbrev pub answered : ℕ → (ℕ → Pauli) → Letter → ℕ → Bool → Outcome
-answered n rows l q b =
+abbrev pub measuredOutcome : ℕ → (ℕ → Pauli) → Letter → ℕ → Bool → Outcome
+measuredOutcome n rows l q b =
     cond (isDetermined n rows l q) (Determined (outcome n rows l q b)) (Chosen (outcome n rows l q b))
 
 -- an answer in numbers: the outcome, 1 for minus; and 1 where it was determined, else 0

@@ -15,7 +15,7 @@ use Rattle.clifford.specs.Vectors.{codesOf}
 use Rattle.graph.specs.Graph.{Simple}
 use Rattle.graph_steps.proofs.CzSteps.{cz-reduced-form}
 use Rattle.graph_steps.proofs.Keeping.{held-words}
-use Rattle.graph_steps.specs.internal.Kept.{Normalised}
+use Rattle.graph_steps.specs.internal.KeptGroups.{Normalised}
 use Rattle.graph_steps.specs.internal.ReducedForms.{ReducedForm}
 use Rattle.graph_steps.specs.internal.Steps.{czRecord}
 use Rattle.operations.proofs.CzGroups.{cz-proper}

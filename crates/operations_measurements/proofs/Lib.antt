@@ -2,6 +2,6 @@ pub mod ReadingOff
 pub mod MeasuredGroups
 pub mod MeasuredBuffers
 pub mod SentLetters
-pub mod Facing
-pub mod Parting
-pub mod CutBuffers
+pub mod BringingToZ
+pub mod RemovedEdges
+pub mod IsolatedBuffers

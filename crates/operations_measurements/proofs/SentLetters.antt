@@ -19,7 +19,7 @@ use Rattle.clifford.specs.Clifford.{
   imageZ,
   then,
 }
-use Rattle.graph_steps.proofs.CuttingOff.{clash-self}
+use Rattle.graph_steps.proofs.Isolation.{clash-self}
 use Rattle.pauli.proofs.PauliLaws.{letter-bits}
 use Rattle.pauli.specs.Pauli.{clash, letter, letterProduct, xBit, zBit}
 use Rattle.pauli.specs.declared.Letter.{Letter}

@@ -1,4 +1,4 @@
-// A vertex made ready for a measurement, and cut off by it, in the buffers of a record.
+// A vertex made ready for a measurement, and isolated by it, in the buffers of a record.
 use buffers::sign_digit;
 use clifford::Code;
 use operations::compose;
@@ -21,8 +21,8 @@ ghost use Rattle.clifford.specs.Vectors.{codesOf};
 ghost use Rattle.graph.specs.Graph.{Simple};
 ghost use Rattle.graph.specs.internal.NeighbourWords.{SameGraph};
 ghost use Rattle.graph.specs.NeighbourWords.{graphIn};
-ghost use Rattle.graph_steps.specs.internal.Kept.{Faced, Kept};
-ghost use Rattle.graph_steps.specs.internal.Steps.{cutOff, hadamardCode};
+ghost use Rattle.graph_steps.specs.internal.KeptGroups.{BroughtToZ, GroupKept};
+ghost use Rattle.graph_steps.specs.internal.Steps.{isolated, hadamardCode};
 ghost use Rattle.operations.specs.internal.InPlace.{Rewritten, Unrefused, recordIn};
 ghost use Rattle.pauli.specs.declared.Letter.the-variants.{I, X};
 
@@ -37,10 +37,10 @@ fn sends(code: u8, from: Letter, to: Letter) -> bool
 }
 
 // Where the code at q sends X to the letter, complements at a neighbour: then it sends Y there.
-fn face_y(neighbours: &mut [u64], codes: &mut [u8], q: usize, l: Letter)
+fn clear_x(neighbours: &mut [u64], codes: &mut [u8], q: usize, l: Letter)
     requires { ⌜ Unrefused (recordIn (now neighbours) (now codes)) × (q < length (now neighbours)) ⌝ }
     requires { ⌜ (image (codesOf (now codes) q) X ≡ l → getD (now neighbours) q 0 ≡ 0 → ⊥) ⌝ }
-    ensures { λ r. ⌜ Kept (now (neighbours .entry)) (now (codes .entry)) (now (neighbours .exit)) (now (codes .exit)) ⌝ }
+    ensures { λ r. ⌜ GroupKept (now (neighbours .entry)) (now (codes .entry)) (now (neighbours .exit)) (now (codes .exit)) ⌝ }
     ensures { λ r. ⌜ (image (codesOf (now (codes .exit)) q) X ≡ l → ⊥) ⌝ }
 {
     if sends(codes[q], Letter::X, l) {
@@ -50,14 +50,14 @@ fn face_y(neighbours: &mut [u64], codes: &mut [u8], q: usize, l: Letter)
 }
 
 // Complements until the code at q sends Z to the letter, which is not I.
-pub fn face_z(neighbours: &mut [u64], codes: &mut [u8], q: usize, l: Letter)
+pub fn bring_to_z(neighbours: &mut [u64], codes: &mut [u8], q: usize, l: Letter)
     requires { ⌜ Unrefused (recordIn (now neighbours) (now codes)) × (q < length (now neighbours)) ⌝ }
     requires { ⌜ (image (codesOf (now codes) q) X ≡ l → getD (now neighbours) q 0 ≡ 0 → ⊥) ⌝ }
     requires { ⌜ (l ≡ I → ⊥) ⌝ }
-    ensures { λ r. ⌜ Faced (now (neighbours .entry)) (now (codes .entry)) q l
+    ensures { λ r. ⌜ BroughtToZ (now (neighbours .entry)) (now (codes .entry)) q l
         (now (neighbours .exit)) (now (codes .exit)) ⌝ }
 {
-    face_y(neighbours, codes, q, l);
+    clear_x(neighbours, codes, q, l);
     if sends(codes[q], Letter::Z, l) {
         return;
     }
@@ -65,7 +65,7 @@ pub fn face_z(neighbours: &mut [u64], codes: &mut [u8], q: usize, l: Letter)
 }
 
 // The edges at q removed.
-fn part_edges(neighbours: &mut [u64], q: usize)
+fn remove_edges(neighbours: &mut [u64], q: usize)
     requires { ⌜ (length (now neighbours) ≤ 64) × (q < length (now neighbours)) ⌝ }
     requires { ⌜ Simple (length (now neighbours)) (graphIn (now neighbours)) ⌝ }
     ensures { λ r. ⌜ SameGraph (graphIn (now (neighbours .exit)))
@@ -88,15 +88,15 @@ fn with_hadamard(t: bool, code: u8) -> u8
     compose(8 + 2 * sign_digit(t), code)
 }
 
-// Cuts off vertex q, whose Z before the code has the sign t.
-pub fn cut_off(neighbours: &mut [u64], codes: &mut [u8], q: usize, t: bool)
+// Isolates vertex q, whose Z before the code has the sign t.
+pub fn isolate(neighbours: &mut [u64], codes: &mut [u8], q: usize, t: bool)
     requires { ⌜ Unrefused (recordIn (now neighbours) (now codes)) × (q < length (now neighbours)) ⌝ }
-    ensures { λ r. ⌜ Rewritten (now (neighbours .entry)) (now (codes .entry)) (λ g. cutOff g q t)
+    ensures { λ r. ⌜ Rewritten (now (neighbours .entry)) (now (codes .entry)) (λ g. isolated g q t)
         (now (neighbours .exit)) (now (codes .exit)) ⌝ }
 {
     let around = neighbours[q];
     let code = codes[q];
     put_before(codes, where_true(t, around), 2);
     codes[q] = with_hadamard(t, code);
-    part_edges(neighbours, q);
+    remove_edges(neighbours, q);
 }

@@ -16,7 +16,7 @@ use Rattle.cut.specs.Kernel.{count}
 use Rattle.cut.specs.Rank.{rank}
 use Rattle.graph.specs.Graph.{Graph, Simple}
 use Rattle.record.proofs.ColumnLaws.{column-dependent}
-use Rattle.record.specs.Columns.{columnDependent}
+use Rattle.record.specs.Columns.{isColumnDependent}
 use Rattle.record.specs.Records.{GraphRecord, rowsOf}
 use Rattle.stabilizer.specs.Carries.{Carries}
 use Rattle.words.proofs.Sums.{bitMonoid, fold-unit, last-or}
@@ -45,8 +45,8 @@ count-zero (suc b) f e v l = go (f b) refl (last-or l) (λ h. count-zero b f h v
 
 -- a matrix of rank 0 has no 1
 module _ (m n : ℕ) (M : ℕ → Word) (e : rank m n M ≡ 0) where
-  dependent : (q : ℕ) → q < n → columnDependent m M q ≡ true
-  dependent q l = not-false (columnDependent m M q) (count-zero n (λ q. not (columnDependent m M q)) e q l)
+  dependent : (q : ℕ) → q < n → isColumnDependent m M q ≡ true
+  dependent q l = not-false (isColumnDependent m M q) (count-zero n (λ q. not (isColumnDependent m M q)) e q l)
 
   upto : (b : ℕ) → b ≤ n → (q : ℕ) → q < b → (j : ℕ) → j < m → M j q ≡ false
   upto zero h q l j k = absurd (not-suc-le-zero l)

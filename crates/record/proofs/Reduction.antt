@@ -33,7 +33,7 @@ use Rattle.record.proofs.SecondPass.{
 }
 use Rattle.record.specs.Columns.{ColumnDependent}
 use Rattle.record.specs.Records.{GraphRecord, SameRecord}
-use Rattle.record.specs.Reduced.{Reduced, hadamardWhere, minusesOf, recordOf, reduced, xWords, ysOf}
+use Rattle.record.specs.Reduced.{ReductionOf, hadamardWhere, minusesOf, recordOf, reduced, xWords, ysOf}
 
 module _ (n : ℕ) (input R₁ : ℕ → Pauli) (kept : Word) (P : FirstPass n input R₁ kept n) (R : ℕ → Pauli)
     (pivoted : Word)
@@ -61,7 +61,7 @@ module _ (n : ℕ) (input R₁ : ℕ → Pauli) (kept : Word) (P : FirstPass n i
     passes-independent = P .independent .1 (subst (Independent n) (fun-ext undone)
         (independent-act n hadamards _ (Q .independent .1 (unit-independent n R pivots))))
 
-    pub passes-reduced : Reduced n input (recordOf n (failed n kept) R)
+    pub passes-reduced : ReductionOf n input (recordOf n (failed n kept) R)
     unfolding ysOf minusesOf
     passes-reduced =
         record {
@@ -100,7 +100,7 @@ module _ (n : ℕ) (input R₁ : ℕ → Pauli) (kept : Word) (P : FirstPass n i
 -- ---- the verdict
 pub record HasReduced (n : ℕ) (input : ℕ → Pauli) : Type 0 where
   pub answer : GraphRecord
-  pub is-reduced : Reduced n input answer
+  pub is-reduced : ReductionOf n input answer
   pub independent : Independent n input
 
 pub reduction : (n : ℕ) (input : ℕ → Pauli) → Commuting n n input → ((i : ℕ) → i < n → Within n (input i))

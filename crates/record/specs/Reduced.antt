@@ -12,7 +12,7 @@ use Rattle.pauli.specs.Pauli.{Pauli, signBit}
 use Rattle.stabilizer.specs.Groups.{SameGroup, product}
 use Rattle.words.specs.Bits.{Word, bit, sameBit}
 use Rattle.words.specs.Search.{every, first}
-use Rattle.record.specs.Columns.{ColumnDependent, columnDependent}
+use Rattle.record.specs.Columns.{ColumnDependent, isColumnDependent}
 use Rattle.record.specs.Records.{GraphRecord, rowsOf}
 
 -- "The code is 0 for +X, 2 for -X, 4 for +Y, 6 for -Y": y, the letter is Y; s, the sign is minus
@@ -28,7 +28,7 @@ abbrev pub xWords : (ℕ → Pauli) → ℕ → Word
 xWords rows j = (rows j) .x
 
 -- ---- the relation: r has the list's group and the form that document 01 gives the reduced record
-pub record Reduced (n : ℕ) (rows : ℕ → Pauli) (r : GraphRecord) : Type 0 where
+pub record ReductionOf (n : ℕ) (rows : ℕ → Pauli) (r : GraphRecord) : Type 0 where
   pub simple : Simple n (r .graph)
   -- where a Hadamard is used, where the letter is Y, where the sign is minus; nowhere at or above n
   pub hadamards : Word
@@ -44,7 +44,7 @@ pub record Reduced (n : ℕ) (rows : ℕ → Pauli) (r : GraphRecord) : Type 0 w
 -- ---- the function
 -- the qubits that get a Hadamard; none at or above n
 abbrev pub needsHadamard : ℕ → (ℕ → Pauli) → Word
-needsHadamard n rows q = ltb q n && columnDependent n (xWords rows) q
+needsHadamard n rows q = ltb q n && isColumnDependent n (xWords rows) q
 
 -- a Hadamard at each qubit that the word names, the identity elsewhere
 abbrev pub hadamardWhere : Word → ℕ → Clifford

@@ -10,7 +10,7 @@ use lib.ListN.{List·getD-eq-default}
 use borrow.Author.Tests.{eqb-false, leb-false, not-false}
 use Rattle.buffers.proofs.Lines.{none-of-all, not-held}
 use Rattle.buffers.specs.Buffers.{accepted}
-use Rattle.buffers.specs.Refusals.{Line, firstFitting}
+use Rattle.buffers.specs.Refusals.{Refusal, firstFitting}
 use Rattle.clifford.specs.Clifford.{cliffordOf, identityClifford}
 use Rattle.graph.proofs.Complement.{complement-simple}
 use Rattle.graph.specs.Graph.{Simple}
@@ -54,7 +54,7 @@ use Rattle.words.specs.Bits.{isOdd}
 
 module _ (l : LentRecord) where
   -- the lines of the record, the further test of line 6, and the lines after them
-  parted : (six : Bool) (rest : List Line) → firstFitting (recordLines l false six ++ rest) ≡ 0
+  parted : (six : Bool) (rest : List Refusal) → firstFitting (recordLines l false six ++ rest) ≡ 0
       → AcceptedRecord l × (six ≡ false) × (firstFitting rest ≡ 0)
   parted six rest e =
       let h = none-of-all (recordLines l false six) rest (record-numbered l false six) e in

@@ -5,7 +5,7 @@ use mathlib.Core.List.{List, [], _∷_}
 use Prim.Native.Nat.{_^_, ℕ}
 use lib.Dec.{eqb, leb, ltb}
 use lib.ListN.{getD}
-use Rattle.buffers.specs.Refusals.{Line, firstFitting, line}
+use Rattle.buffers.specs.Refusals.{Refusal, firstFitting, line}
 use Rattle.jobs.specs.Asked.{withTest}
 use Rattle.operations.specs.Steps.{Operation, complementOf, czOn, gateWith, leaves, linesOf, measurementOf, pivotOf}
 use Rattle.record.specs.Lent.{LentRecord, recordLines}
@@ -18,7 +18,7 @@ pub record UsedRecord : Type 0 where
   pub used : ℕ
 
 -- the line put in directly after the one with number k
-abbrev pub insertedAfter : ℕ → Line → List Line → List Line
+abbrev pub insertedAfter : ℕ → Refusal → List Refusal → List Refusal
 insertedAfter k new [] = []
 insertedAfter k new (l ∷ ls) = l ∷ cond (eqb (l .number) k) (new ∷ insertedAfter k new ls) (insertedAfter k new ls)
 
@@ -35,7 +35,7 @@ usedWrong u = some (u .held .n) (λ q. bit (u .used) q
 abbrev pub usedStray : UsedRecord → Bool
 usedStray u = leb (2 ^ (u .held .n)) (u .used)
 
-abbrev pub usedLines : UsedRecord → Bool → Bool → Bool → List Line
+abbrev pub usedLines : UsedRecord → Bool → Bool → Bool → List Refusal
 usedLines u others five six =
     withTest 7 (usedWrong u) (withTest 5 (usedStray u || five) (recordLines (u .held) others six))
 
@@ -48,7 +48,7 @@ namesUsed u (complementOf a) = bit (u .used) a
 namesUsed u (pivotOf j k) = bit (u .used) j || bit (u .used) k
 
 -- the lines of the operation as they stand, with these tests; 16 is "checked directly after 8"
-abbrev pub usedLinesOf : UsedRecord → Operation → List Line
+abbrev pub usedLinesOf : UsedRecord → Operation → List Refusal
 usedLinesOf u o = insertedAfter 8 (line 16 (namesUsed u o))
     (withTest 7 (usedWrong u) (withTest 5 (usedStray u) (linesOf (u .held) o)))
 

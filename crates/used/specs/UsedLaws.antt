@@ -6,7 +6,7 @@ use mathlib.Core.Logic.{_↔_}
 use mathlib.Core.Path.{_≡_}
 use Prim.Native.Nat.{ℕ}
 use lib.ListN.{getD}
-use Rattle.buffers.specs.Refusals.{Line, firstFitting}
+use Rattle.buffers.specs.Refusals.{Refusal, firstFitting}
 use Rattle.jobs.specs.Asked.{argumentsOf, withTest}
 use Rattle.operations.specs.Steps.{Operation, leaves, linesOf}
 use Rattle.record.specs.Lent.{LentRecord}
@@ -34,7 +34,7 @@ pub record UsedLeft (u : UsedRecord) (o : Operation) (v : UsedRecord) : Type 0 w
   pub passes : firstFitting (usedLines v false false false) ≡ 0
 
 -- the lines before 16
-abbrev pub earlierLines : UsedRecord → Operation → List Line
+abbrev pub earlierLines : UsedRecord → Operation → List Refusal
 earlierLines u o = withTest 7 (usedWrong u) (withTest 5 (usedStray u) (argumentsOf (u .held) o))
 
 -- 16, "checked directly after 8": exactly if no earlier line holds and "the call names a used qubit"

@@ -33,8 +33,8 @@ equationOf row =
       sum = eqb (getD row 4 0) 1;
     }
 
-abbrev pub tableOf : List (List ℕ) → List Equation
-tableOf rows = map equationOf rows
+abbrev pub equationsIn : List (List ℕ) → List Equation
+equationsIn rows = map equationOf rows
 
 -- a table without equations
 abbrev pub emptyRows : List (List ℕ)

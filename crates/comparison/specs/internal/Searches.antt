@@ -24,7 +24,7 @@ use Rattle.comparison.specs.internal.Equations.{
   signAssignment,
   signEquation,
 }
-use Rattle.comparison.specs.internal.Setting.{Bare, Codes, bare, generatorsOf, noGenerator}
+use Rattle.comparison.specs.internal.Setting.{NoSigns, Codes, withoutSigns, generatorsOf, noGenerator}
 use Rattle.comparison.specs.declared.Assignment.{Assignment}
 use Rattle.comparison.specs.declared.Equation.{Equation}
 
@@ -50,7 +50,7 @@ pub record SignFor (n : ℕ) (first second : List Generator) (c : ℕ → Cliffo
   -- the image under the classes alone, and the element of the second group that has its letters
   pub sent : Generator
   pub element : Generator
-  pub image : generatorOf sent ≡ act n (λ q. bare (c q)) (generatorsOf first j)
+  pub image : generatorOf sent ≡ act n (λ q. withoutSigns (c q)) (generatorsOf first j)
   pub inside : InGroup n n (generatorsOf second) (generatorOf element)
   pub same-z : sent .z ≡ element .z
   pub same-x : sent .x ≡ element .x
@@ -67,13 +67,13 @@ SignTable n first second c i table =
 -- the classes of c send each generator into the second group, or its negative
 abbrev pub SentUpToSign : ℕ → List Generator → List Generator → (ℕ → Clifford) → Type 0
 SentUpToSign n first second c =
-    (j : ℕ) → j < n → InGroup n n (generatorsOf second) (act n (λ q. bare (c q)) (generatorsOf first j))
-    ⊎ InGroup n n (generatorsOf second) (scaled i² (act n (λ q. bare (c q)) (generatorsOf first j)))
+    (j : ℕ) → j < n → InGroup n n (generatorsOf second) (act n (λ q. withoutSigns (c q)) (generatorsOf first j))
+    ⊎ InGroup n n (generatorsOf second) (scaled i² (act n (λ q. withoutSigns (c q)) (generatorsOf first j)))
 
 -- ---- the loops, for the classes or for the signs: A are the unknowns of a choice
 -- a choice satisfies the equations of the qubits below q, and at each of these no solution that has its keys before has
 -- a smaller one
-pub record Chosen (A : (ℕ → Clifford) → Assignment) (key : Clifford → ℕ) (table : List Equation) (q : ℕ)
+pub record LeastBelow (A : (ℕ → Clifford) → Assignment) (key : Clifford → ℕ) (table : List Equation) (q : ℕ)
     (c : ℕ → Clifford) : Type 0 where
   pub hold : (i : ℕ) → i < 4 * q → fails (equationAt table i) (A c) ≡ false
   pub least : (t : ℕ) → t < q → (d : ℕ → Clifford) → Solves table (A d)
@@ -106,8 +106,8 @@ pub record ClassesChosen (n : ℕ) (table : List Equation) (q : ℕ) (choice : L
   pub upto : q ≤ n
   pub long : length choice ≡ 20
   pub codes : Codes choice
-  pub bare-codes : Bare choice
-  pub chosen : Chosen (classAssignment n) classKey table q (codesOf choice)
+  pub bare-codes : NoSigns choice
+  pub chosen : LeastBelow (classAssignment n) classKey table q (codesOf choice)
 
 -- .. and its answer
 pub record ClassesAnswered (n : ℕ) (table : List Equation) (found : Bool) (choice : List ℕ) : Type 0 where
@@ -121,7 +121,7 @@ pub record SignsChosen (n : ℕ) (table : List Equation) (start : List ℕ) (q :
   pub long : length choice ≡ 20
   pub codes : Codes choice
   pub classes : (i : ℕ) → classKey (codesOf choice i) ≡ classKey (codesOf start i)
-  pub chosen : Chosen (signAssignment n) signKey table q (codesOf choice)
+  pub chosen : LeastBelow (signAssignment n) signKey table q (codesOf choice)
 
 -- ---- the answer
 -- the answer of a search among the choices in K: the least of them, or that there is none
@@ -130,7 +130,7 @@ Found n K true c = LeastOf n K c
 Found n K false c = (d : ℕ → Clifford) → K d → ⊥
 
 -- an array of codes that answers a search among the choices in K
-pub record Answered (n : ℕ) (K : (ℕ → Clifford) → Type 0) (found : Bool) (choice : List ℕ) : Type 0 where
+pub record SearchAnswered (n : ℕ) (K : (ℕ → Clifford) → Type 0) (found : Bool) (choice : List ℕ) : Type 0 where
   pub search : Found n K found (codesOf choice)
   pub codes : Codes choice
 

@@ -29,12 +29,12 @@ abbrev pub Codes : List ℕ → Type 0
 Codes cs = (q : ℕ) → getD cs q 0 < 24
 
 -- the class alone, both images positive
-abbrev pub bare : Clifford → Clifford
-bare k = record { class = k .class; sx = false; sz = false }
+abbrev pub withoutSigns : Clifford → Clifford
+withoutSigns k = record { class = k .class; sx = false; sz = false }
 
 -- an array of codes without signs
-abbrev pub Bare : List ℕ → Type 0
-Bare choice = (q : ℕ) → codesOf choice q ≡ bare (codesOf choice q)
+abbrev pub NoSigns : List ℕ → Type 0
+NoSigns choice = (q : ℕ) → codesOf choice q ≡ withoutSigns (codesOf choice q)
 
 -- rows of a record with a simple graph, and codes that undo the record's
 pub record Framed (n : ℕ) (rows : ℕ → Pauli) (frame : ℕ → Clifford) : Type 0 where
@@ -49,7 +49,7 @@ abbrev pub Connected : ℕ → Graph → Type 0
 Connected n θ = (s : Word) → Closed n θ s → s 0 ≡ true → (q : ℕ) → q < n → s q ≡ true
 
 -- rows of a record with a simple connected graph
-pub record Joined (n : ℕ) (rows : ℕ → Pauli) : Type 0 where
+pub record ConnectedRows (n : ℕ) (rows : ℕ → Pauli) : Type 0 where
   pub graph : Graph
   pub codes : ℕ → Clifford
   pub simple : Simple n graph
@@ -70,7 +70,7 @@ pub record SoundRecord (n : ℕ) (neighbours codes : List ℕ) : Type 0 where
 pub record Setting (n : ℕ) (first second : List Generator) (frame : List ℕ) : Type 0 where
   pub few : n ≤ 20
   pub proper : Proper n (generatorsOf first)
-  pub joined : Joined n (generatorsOf first)
+  pub joined : ConnectedRows n (generatorsOf first)
   pub framed : Framed n (generatorsOf second) (codesOf frame)
   pub codes : Codes frame
 

@@ -8,7 +8,7 @@ use Prim.Native.Nat.{ℕ}
 use lib.Dec.{eqb, ltb}
 use lib.ListN.{length}
 use Rattle.buffers.specs.Buffers.{accepted, acceptedNumber, tabulate, written}
-use Rattle.buffers.specs.Refusals.{Line, firstFitting, line}
+use Rattle.buffers.specs.Refusals.{Refusal, firstFitting, line}
 use Rattle.comparison.specs.Choices.{leastCode, noChoice}
 use Rattle.parts.specs.Parts.{partAbove}
 use Rattle.pauli.specs.Pauli.{Pauli}
@@ -29,7 +29,7 @@ pub record HoldsReduced (n : ℕ) (R : ℕ → Pauli) (neighbours codes : List �
   pub numbers : codes ≡ codeNumbers n (reduced n R)
 
 -- 3 where a part of either reduced graph exceeds 20, then 13
-abbrev pub partLines : ℕ → (ℕ → Pauli) → (ℕ → Pauli) → List Line
+abbrev pub partLines : ℕ → (ℕ → Pauli) → (ℕ → Pauli) → List Refusal
 partLines n rows others =
     line 3 (partAbove 20 n (reducedGraph n rows) || partAbove 20 n (reducedGraph n others))
     ∷ line 13 (noChoice n rows others) ∷ []

@@ -50,10 +50,10 @@ compare-records-requires c κs =
     let k = length (a .words .now) in
     let ew = E .extract2 .ensures .0 ∙ ap (λ m. partWords m (a .at) (a .neighbours2 .now)) (S .pre .1 .1) in
     let en = E .extract2 .ensures .1 ∙ ap (λ m. partCodes m (a .at) (a .codes2 .now)) (S .pre .1 .1) in (
-      (G .few, first-sound (a .n) (a .neighbours .now) (a .codes .now) (a .neighbours2 .now) (a .codes2 .now) (a .island) k (a .at) G _ _ _ _ (H .extract .ensures .0) (H .extract .ensures .1) ew en),
+      (G .few, first-sound (a .n) (a .neighbours .now) (a .codes .now) (a .neighbours2 .now) (a .codes2 .now) (a .component) k (a .at) G _ _ _ _ (H .extract .ensures .0) (H .extract .ensures .1) ew en),
       (
-        second-sound (a .n) (a .neighbours .now) (a .codes .now) (a .neighbours2 .now) (a .codes2 .now) (a .island) k (a .at) G _ _ _ _ (H .extract .ensures .0) (H .extract .ensures .1) ew en,
-        first-connected (a .n) (a .neighbours .now) (a .codes .now) (a .neighbours2 .now) (a .codes2 .now) (a .island) k (a .at) G _ _ _ _ (H .extract .ensures .0) (H .extract .ensures .1) ew en,
+        second-sound (a .n) (a .neighbours .now) (a .codes .now) (a .neighbours2 .now) (a .codes2 .now) (a .component) k (a .at) G _ _ _ _ (H .extract .ensures .0) (H .extract .ensures .1) ew en,
+        first-connected (a .n) (a .neighbours .now) (a .codes .now) (a .neighbours2 .now) (a .codes2 .now) (a .component) k (a .at) G _ _ _ _ (H .extract .ensures .0) (H .extract .ensures .1) ew en,
       ),
     )
 
@@ -84,7 +84,7 @@ returns c =
     let k = length (a .words .now) in
     let ew = E .extract2 .ensures .0 ∙ ap (λ m. partWords m (a .at) (a .neighbours2 .now)) (S .pre .1 .1) in
     let en = E .extract2 .ensures .1 ∙ ap (λ m. partCodes m (a .at) (a .codes2 .now)) (S .pre .1 .1) in
-    part-answered (a .n) (a .neighbours .now) (a .codes .now) (a .neighbours2 .now) (a .codes2 .now) (a .island) k (a .at) G _ _ _ _ (H .extract .ensures .0) (H .extract .ensures .1) ew en
+    part-answered (a .n) (a .neighbours .now) (a .codes .now) (a .neighbours2 .now) (a .codes2 .now) (a .component) k (a .at) G _ _ _ _ (H .extract .ensures .0) (H .extract .ensures .1) ew en
     _ _ (c .compare-records .ensures)
 
 pub compare-listed-spec : {M : Type 1} → statement M

@@ -5,7 +5,7 @@ use lib.ListN.{getD}
 use native.Mathlib.Omega.{arith}
 use borrow.Author.Needs.{needs}
 use Rattle.pauli.specs.declared.Generator.{Generator}
-use Rattle.comparison.specs.internal.Equations.{classEquation, tableOf, unknown}
+use Rattle.comparison.specs.internal.Equations.{classEquation, equationsIn, unknown}
 use Rattle.comparison.specs.internal.Searches.{ClassTable}
 use Rattle.comparison.specs.internal.Setting.{noGenerator}
 use Rattle.comparison.proofs.EquationTables.{class-more, class-row, class-short}
@@ -14,8 +14,8 @@ use Rattle.comparison_tables.proofs.class_rows.Tie as tie
 
 abbrev Inv-loop : tie.InvT-loop
 Inv-loop table₀ n i second g j₀ table j =
-    (first : List Generator) → g ≡ getD first i noGenerator → ClassTable n first second i 0 (tableOf table₀)
-    → ClassTable n first second i j (tableOf table)
+    (first : List Generator) → g ≡ getD first i noGenerator → ClassTable n first second i 0 (equationsIn table₀)
+    → ClassTable n first second i j (equationsIn table)
 
 abbrev μ-loop : tie.MeasureT-loop
 μ-loop table₀ n i second g j₀ table j = n - j
@@ -64,7 +64,7 @@ loop-again c =
     let s = c .before .before .before .before .before .before .before in
     let l = c .before .before .before .before .before .loop in
     λ first e T. class-more (s .args .n) first (s .args .t4) (s .args .i) (l .j)
-    (c .before .before .before .before .loop-test .taken) (tableOf (l .table)) (c .before .before .class-equation .result) _
+    (c .before .before .before .before .loop-test .taken) (equationsIn (l .table)) (c .before .before .class-equation .result) _
     (l .inv first e T)
     (c .before .before .class-equation .ensures ∙ ap (λ g. classEquation g (getD (s .args .t4) (l .j) noGenerator)) e)
     (c .insert .ensures)
@@ -73,7 +73,7 @@ returns : tie.Need-returns Inv-loop μ-loop
 returns c =
     let s = c .before .before .before in
     class-row (s .args .n) (s .args .t3) (s .args .t4) (s .args .i) (c .before .loop .j) (c .loop-test .left)
-    (tableOf (c .before .loop .table)) (c .before .loop .inv (s .args .t3) refl (s .pre .1))
+    (equationsIn (c .before .loop .table)) (c .before .loop .inv (s .args .t3) refl (s .pre .1))
 
 pub class-rows-spec : {M : Type 1} → statement M
 class-rows-spec =

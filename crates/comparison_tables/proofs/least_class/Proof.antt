@@ -5,7 +5,7 @@ use lib.ListN.{length}
 use borrow.Author.Needs.{needs}
 use borrow.Author.Tests.{not-false, not-true}
 use Rattle.clifford.specs.Vectors.{codesOf}
-use Rattle.comparison.specs.internal.Equations.{classAssignment, tableOf}
+use Rattle.comparison.specs.internal.Equations.{classAssignment, equationsIn}
 use Rattle.comparison.specs.internal.Searches.{withClass}
 use Rattle.comparison.proofs.FirstChoices.{MissedBelow, none-fits, none-missed, one-fits, one-missed}
 use Rattle.comparison.proofs.NextChoice.{class-codes}
@@ -13,7 +13,7 @@ use Rattle.comparison_tables.proofs.least_class.Statement.{statement}
 use Rattle.comparison_tables.proofs.least_class.Tie as tie
 
 abbrev Inv-loop : tie.InvT-loop
-Inv-loop table n choice q v₀ v = MissedBelow (classAssignment n) (tableOf table) q (λ u. codesOf (withClass choice q u)) 6 v
+Inv-loop table n choice q v₀ v = MissedBelow (classAssignment n) (equationsIn table) q (λ u. codesOf (withClass choice q u)) 6 v
 
 abbrev μ-loop : tie.MeasureT-loop
 μ-loop table n choice q v₀ v = 6 - v
@@ -44,7 +44,7 @@ returns : tie.Need-returns Inv-loop μ-loop
 returns c =
     let a = c .before .before .before .before .before .args in
     let l = c .before .before .before .before .loop in
-    one-fits (classAssignment (a .n)) (tableOf (a .table .now)) (a .q) (λ u. codesOf (withClass (a .choice) (a .q) u)) 6 (l .v) (l .inv)
+    one-fits (classAssignment (a .n)) (equationsIn (a .table .now)) (a .q) (λ u. codesOf (withClass (a .choice) (a .q) u)) 6 (l .v) (l .inv)
     (c .before .before .class-words .result) (c .before .before .class-words .ensures) (c .before .broken .result)
     (c .before .broken .ensures) (not-true (c .before .broken .result) (c .if1 .taken))
 
@@ -58,7 +58,7 @@ loop-again : tie.Need-loop-again Inv-loop μ-loop
 loop-again c =
     let a = c .before .before .before .before .before .args in
     let l = c .before .before .before .before .loop in
-    one-missed (classAssignment (a .n)) (tableOf (a .table .now)) (a .q) (λ u. codesOf (withClass (a .choice) (a .q) u)) 6 (l .v) (l .inv)
+    one-missed (classAssignment (a .n)) (equationsIn (a .table .now)) (a .q) (λ u. codesOf (withClass (a .choice) (a .q) u)) 6 (l .v) (l .inv)
     (c .before .before .before .loop-test .taken) (c .before .before .class-words .result)
     (c .before .before .class-words .ensures) (c .before .broken .result)
     (c .before .broken .ensures) (not-false (c .before .broken .result) (c .if1 .left))
@@ -66,7 +66,7 @@ loop-again c =
 returns-2 : tie.Need-returns-2 Inv-loop μ-loop
 returns-2 c =
     let a = c .before .before .args in
-    none-fits (classAssignment (a .n)) (tableOf (a .table .now)) (a .q) (λ u. codesOf (withClass (a .choice) (a .q) u)) 6 (c .before .loop .v)
+    none-fits (classAssignment (a .n)) (equationsIn (a .table .now)) (a .q) (λ u. codesOf (withClass (a .choice) (a .q) u)) 6 (c .before .loop .v)
     (c .before .loop .inv) (c .loop-test .left)
 
 pub least-class-spec : {M : Type 1} → statement M

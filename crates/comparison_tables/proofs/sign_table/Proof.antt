@@ -6,7 +6,7 @@ use native.Mathlib.Omega.{arith}
 use lib.ListN.{getD}
 use borrow.Author.Needs.{needs}
 use Rattle.clifford.specs.Vectors.{codesOf}
-use Rattle.comparison.specs.internal.Equations.{tableOf, unknown}
+use Rattle.comparison.specs.internal.Equations.{equationsIn, unknown}
 use Rattle.comparison.specs.internal.Searches.{SignTable}
 use Rattle.comparison.specs.internal.Setting.{noGenerator}
 use Rattle.comparison.proofs.EquationTables.{empty-rows, empty-rows-solved, sign-short}
@@ -15,7 +15,7 @@ use Rattle.comparison_tables.proofs.sign_table.Statement.{statement}
 use Rattle.comparison_tables.proofs.sign_table.Tie as tie
 
 abbrev Inv-loop : tie.InvT-loop
-Inv-loop table₀ n second frame first choice i₀ table i = (i ≤ n) × SignTable n first second (codesOf choice) i (tableOf table)
+Inv-loop table₀ n second frame first choice i₀ table i = (i ≤ n) × SignTable n first second (codesOf choice) i (equationsIn table)
 
 abbrev μ-loop : tie.MeasureT-loop
 μ-loop table₀ n second frame first choice i₀ table i = n - i
@@ -25,7 +25,7 @@ loop-holds c =
     let a = c .args in (
       zero-le,
       sign-start (a .n) (a .t3) (a .second) (a .frame) (c .pre .0 .0) (codesOf (a .t6)) (c .pre .1 .0)
-          (tableOf (a .table .now)) (empty-rows (a .table .now) (c .pre .1 .1))
+          (equationsIn (a .table .now)) (empty-rows (a .table .now) (c .pre .1 .1))
           (empty-rows-solved (a .table .now) (c .pre .1 .1)),
     )
 
@@ -82,7 +82,7 @@ loop-again c =
     let h = c .before .before .before .before .before .element in
     let e = c .before .before .sign-equation in (
       omega (arith, more),
-      sign-more (a .n) (a .t3) (a .second) (a .frame) (s .pre .0 .0) codes (s .pre .1 .0) (l .i) more (tableOf (l .table))
+      sign-more (a .n) (a .t3) (a .second) (a .frame) (s .pre .0 .0) codes (s .pre .1 .0) (l .i) more (equationsIn (l .table))
           (e .result) _ (l .inv .1)
           (sign-found (a .n) (a .t3) (a .second) (a .frame) (s .pre .0 .0) codes (s .pre .1 .0) (s .pre .0 .2) (l .i) more
           (p .result) (h .result) (p .ensures) (h .ensures) (e .result) (e .ensures)) (c .insert .ensures),
@@ -92,7 +92,7 @@ returns : tie.Need-returns Inv-loop μ-loop
 returns c =
     let a = c .before .before .args in
     let l = c .before .loop in
-    subst (λ k. SignTable (a .n) (a .t3) (a .second) (codesOf (a .t6)) k (tableOf (l .table)))
+    subst (λ k. SignTable (a .n) (a .t3) (a .second) (codesOf (a .t6)) k (equationsIn (l .table)))
     (le-antisymm (l .inv .0) (c .loop-test .left)) (l .inv .1)
 
 pub sign-table-spec : {M : Type 1} → statement M

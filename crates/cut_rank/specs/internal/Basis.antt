@@ -15,11 +15,11 @@ pub record Echelon (basis : List ℕ) : Type 0 where
   pub smallest : (i : ℕ) → (getD basis i 0 ≡ 0 → ⊥) → IsFirst 64 (bit (getD basis i 0)) i
 
 -- r is w with words of the basis added to it, one after another
-pub data Added (basis : List ℕ) (w : ℕ) : ℕ → Type 0 where
-  none : Added basis w w
-  one : {r : ℕ} (i : ℕ) → Added basis w r → Added basis w (bitXor r (getD basis i 0))
+pub data SumOf (basis : List ℕ) (w : ℕ) : ℕ → Type 0 where
+  none : SumOf basis w w
+  one : {r : ℕ} (i : ℕ) → SumOf basis w r → SumOf basis w (bitXor r (getD basis i 0))
 
 -- .. and no more can be added: r is 0, or the basis holds no word with r's smallest set bit
 pub record Remainder (basis : List ℕ) (w r : ℕ) : Type 0 where
-  pub added : Added basis w r
+  pub added : SumOf basis w r
   pub last : (r ≡ 0 → ⊥) → getD basis (trailingZeros 64 r) 0 ≡ 0

@@ -3,7 +3,7 @@ use Prim.Native.Nat.{_-_}
 use native.Mathlib.Omega.{arith}
 use lib.ListN.{length}
 use borrow.Author.Needs.{needs}
-use Rattle.graph_steps.specs.internal.Kept.{unsettled}
+use Rattle.graph_steps.specs.internal.KeptGroups.{unsettled}
 use Rattle.operations.proofs.UnrefusedRecords.{unrefused-place, unrefused-short}
 use Rattle.graph_settling.proofs.FoundWords.{Found, found-none, found-one, found-watched}
 use Rattle.graph_settling.proofs.out_of_place.Statement.{statement}

@@ -5,7 +5,7 @@ use mathlib.Core.List.{List}
 use mathlib.Core.Path.{_≡_}
 use Prim.Native.Nat.{_*_, _+_, _<_, _^_, ℕ}
 use lib.ListN.{getD, length}
-use Rattle.graph_steps.specs.internal.Kept.{Kept, unsettled}
+use Rattle.graph_steps.specs.internal.KeptGroups.{GroupKept, unsettled}
 use Rattle.graph_steps.specs.internal.Settling.{distance}
 use Rattle.operations.specs.internal.InPlace.{recordIn}
 use Rattle.record.specs.Lent.{heldRecord}
@@ -24,7 +24,7 @@ pub record Elsewhere (touched : ℕ) (words codes words′ codes′ : List ℕ) 
 
 -- a look at one vertex: the group stays, and the record is nearer to the reduced form, or the word smaller
 pub record Advanced (words codes : List ℕ) (rest : ℕ) (words′ codes′ : List ℕ) (rest′ : ℕ) : Type 0 where
-  pub kept : Kept words codes words′ codes′
+  pub kept : GroupKept words codes words′ codes′
   pub watched : Watched words′ codes′ rest′
   pub less : distance (length words) (heldRecord (recordIn words′ codes′)) * 2 ^ 64 + rest′
       < distance (length words) (heldRecord (recordIn words codes)) * 2 ^ 64 + rest

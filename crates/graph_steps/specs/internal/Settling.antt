@@ -20,11 +20,11 @@ isZY YX = false
 isZY ZY = true
 
 -- the vertices with C = 1 count, the smaller the more; then those of class 5
-unfoldable pub unrest : ℕ → GraphRecord → ℕ
-unrest n r =
+unfoldable pub codeWeight : ℕ → GraphRecord → ℕ
+codeWeight n r =
     total (λ q. n - q) n (λ q. bitC (r .codes q)) * (n + 1)
     + total (λ q. 1) n (λ q. isZY ((r .codes q) .class))
 
 -- and last those whose image of Z is negative
 unfoldable pub distance : ℕ → GraphRecord → ℕ
-distance n r = unrest n r * (n + 1) + total (λ q. 1) n (λ q. (r .codes q) .sz)
+distance n r = codeWeight n r * (n + 1) + total (λ q. 1) n (λ q. (r .codes q) .sz)

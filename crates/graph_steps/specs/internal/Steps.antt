@@ -1,4 +1,4 @@
--- Steps on a graph and its codes: a sign moved off the image of Z, CZ, and a measured vertex cut off.
+-- Steps on a graph and its codes: a sign moved off the image of Z, CZ, and a measured vertex isolated.
 -- Assumes nothing.
 use mathlib.Core.Bool.{_&&_, Bool, cond, false, not}
 use Prim.Native.Nat.{ℕ}
@@ -50,8 +50,8 @@ abbrev pub hadamardCode : Bool → Clifford
 hadamardCode t = record { class = ZX; sx = t; sz = false }
 
 -- its edges go; its state is that of Z with sign t before the code, and where t is 1 its neighbours get Z
-abbrev pub cutOff : GraphRecord → ℕ → Bool → GraphRecord
-cutOff r q t =
+abbrev pub isolated : GraphRecord → ℕ → Bool → GraphRecord
+isolated r q t =
     record {
       graph = λ k l. r .graph k l && (not (eqb k q) && not (eqb l q));
       codes = put (λ j. then (pauliCode false (t && r .graph q j)) (r .codes j)) q (then (hadamardCode t) (r .codes q));

@@ -9,13 +9,13 @@ use mathlib.Core.Path.{_≡_, refl, _∙_, ap}
 use native.Mathlib.Omega.{arith}
 use Prim.Native.Nat.{_<_, _≤_, _-_, zero-le}
 use Rattle.job_text.proofs.Feeding.{turn-kept, turn-stored}
-use Rattle.job_text.specs.internal.Scan.{fed, reading}
+use Rattle.job_text.specs.internal.Scan.{fed, asReading}
 use Rattle.job_scan.proofs.scan_block.Statement.{statement}
 use Rattle.job_scan.proofs.scan_block.Tie as tie
 
 abbrev Inv-loop : tie.InvT-loop
 Inv-loop block scan₀ steps₀ i₀ scan steps i = (i ≤ length block)
-    × (reading scan steps ≡ fed (reading scan₀ steps₀) (take i block))
+    × (asReading scan steps ≡ fed (asReading scan₀ steps₀) (take i block))
 
 abbrev μ-loop : tie.MeasureT-loop
 μ-loop block scan₀ steps₀ i₀ scan steps i = length block - i
@@ -53,14 +53,14 @@ loop-again : tie.Need-loop-again Inv-loop μ-loop
 loop-again c =
     let next = c .before .scan-byte .result in
     let l = c .before .before .before .before .loop in
-    let sofar = reading (l .scan) (l .steps) in
+    let sofar = asReading (l .scan) (l .steps) in
     let inside = c .before .before .before .loop-test .taken in
     let stepped = c .before .scan-byte .ensures in (
       search needs,
       ⊎-elim
-          (λ w. (λ k. reading next (w .1 k))
+          (λ w. (λ k. asReading next (w .1 k))
           ∙ turn-stored _ sofar _ (l .i) inside (l .inv .1) _ stepped (w .0 .taken))
-          (λ w. (λ k. reading next (w .1 k))
+          (λ w. (λ k. asReading next (w .1 k))
           ∙ turn-kept _ sofar _ (l .i) inside (l .inv .1) _ stepped (w .0 .left))
           (c .if1 .came),
     )

@@ -1,5 +1,5 @@
 use Rattle.job_scan.proofs.scan_byte.Lts as lts
-use Rattle.job_text.specs.internal.Scan.{moved, step, stepAt}
+use Rattle.job_text.specs.internal.Scan.{moved, scanByte, stepAt}
 use borrow.Author.Needs.{needs}
 use mathlib.Core.Path.{_∙_, ap, sym}
 use Rattle.job_scan.proofs.scan_byte.Statement.{statement}
@@ -36,7 +36,7 @@ enum-told : tie.Need-enum-told
 enum-told c = search needs
 
 returns : tie.Need-returns
-unfolding step
+unfolding scanByte
 returns c =
     c .at-place .ensures
     ∙ ap (moved (c .before .before .before .before .before .args .s)) (c .before .head-step .ensures)
@@ -44,25 +44,25 @@ returns c =
     (c .before .before .before .before .before .args .b)) (c .before .before .before .place .given .1))
 
 returns-2 : tie.Need-returns-2
-unfolding step
+unfolding scanByte
 returns-2 c = c .word-step .ensures
     ∙ sym (ap (λ p. stepAt p (c .before .before .before .before .args .s)
     (c .before .before .before .before .args .b)) (c .before .before .place2 .given .1))
 
 returns-3 : tie.Need-returns-3
-unfolding step
+unfolding scanByte
 returns-3 c = c .first-step .ensures
     ∙ sym (ap (λ p. stepAt p (c .before .before .before .before .args .s)
     (c .before .before .before .before .args .b)) (c .before .before .place3 .given .1))
 
 returns-4 : tie.Need-returns-4
-unfolding step
+unfolding scanByte
 returns-4 c = c .more-step .ensures
     ∙ sym (ap (λ p. stepAt p (c .before .before .before .before .args .s)
     (c .before .before .before .before .args .b)) (c .before .before .place4 .given .1))
 
 returns-5 : tie.Need-returns-5
-unfolding step
+unfolding scanByte
 returns-5 c = sym (ap (λ p. stepAt p (c .before .before .args .s) (c .before .before .args .b))
     (c .enum-told .given .1))
 

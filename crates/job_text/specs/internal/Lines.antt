@@ -5,13 +5,13 @@ use mathlib.Core.Bool.{Bool, not}
 use mathlib.Core.List.{List, _∷_}
 use Prim.Native.Nat.{ℕ}
 use lib.ListN.{length}
-use Rattle.buffers.specs.Refusals.{Line, line, firstFitting}
+use Rattle.buffers.specs.Refusals.{Refusal, line, firstFitting}
 use Rattle.jobs.specs.declared.Step.{Step}
 use Rattle.job_text.specs.Text.{HasJobForm, JobTextOf}
 use Rattle.job_text.specs.Lines.{jobLines}
 
 -- 1: "The program's text does not have its form"
-abbrev pub textLines : Bool → ℕ → ℕ → List Line
+abbrev pub textLines : Bool → ℕ → ℕ → List Refusal
 textLines formed n count = line 1 (not formed) ∷ jobLines n count
 
 -- k is the number of the text t; 0 where it is accepted

@@ -157,22 +157,22 @@ stepAt (More f) s b = moreStep f s b
 stepAt Broken s b = s
 
 -- the scan after one more byte
-unfoldable pub step : Scan → ℕ → Scan
-step s b = stepAt (s .place) s b
+unfoldable pub scanByte : Scan → ℕ → Scan
+scanByte s b = stepAt (s .place) s b
 
 -- the scan of the empty text
 unfoldable pub begin : Scan
 begin = record { place = Head 0; n = 0; op = Gate; a = 0; b = 0; number = 0; count = 0 }
 
-abbrev pub reading : Scan → List Step → Reading
-reading s steps = record { scan = s; steps = steps }
+abbrev pub asReading : Scan → List Step → Reading
+asReading s steps = record { scan = s; steps = steps }
 
 -- before a text is read
 abbrev pub noStep : Step
 noStep = record { op = Gate; a = 0; b = 0; value = 0 }
 
 unfoldable pub empty : Reading
-empty = reading begin (replicate 4096 noStep)
+empty = asReading begin (replicate 4096 noStep)
 
 -- the step that the scan holds
 abbrev pub stepOf : Scan → Step
@@ -180,17 +180,17 @@ stepOf s = record { op = s .op; a = s .a; b = s .b; value = s .number }
 
 -- it is stored behind the steps before it
 abbrev pub stored : Reading → Scan → Reading
-stored w next = reading next (set (w .steps) (w .scan .count) (stepOf (w .scan)))
+stored w next = asReading next (set (w .steps) (w .scan .count) (stepOf (w .scan)))
 
 -- one more byte: where it ends one of the first 4,096 steps, that step is stored
 abbrev pub feedNext : Reading → Scan → Reading
 feedNext w next =
     cond (ltb (w .scan .count) (next .count) && ltb (w .scan .count) 4096)
     (stored w next)
-    (reading next (w .steps))
+    (asReading next (w .steps))
 
 unfoldable pub feed : Reading → ℕ → Reading
-feed w b = feedNext w (step (w .scan) b)
+feed w b = feedNext w (scanByte (w .scan) b)
 
 -- one more byte after the other
 unfoldable pub fed : Reading → List ℕ → Reading
@@ -215,7 +215,7 @@ unfoldable pub verdict : Scan → ℕ
 verdict s = firstFitting (textLines (atLine (s .place)) (s .n) (s .count))
 
 -- n is kept, the steps are counted, up to 4,097, and the first 4,096 of them stand at the start of the array
-pub record Kept (n : ℕ) (ss : List Step) (w : Reading) : Type 0 where
+pub record StepsKept (n : ℕ) (ss : List Step) (w : Reading) : Type 0 where
   pub qubits : w .scan .n ≡ n
   pub count : w .scan .count ≡ min (length ss) 4097
   pub steps : take (length ss) (w .steps) ≡ take 4096 ss
@@ -223,4 +223,4 @@ pub record Kept (n : ℕ) (ss : List Step) (w : Reading) : Type 0 where
 -- the scan of the text t is right: its place says whether t has the form, and then the job is kept
 pub record Judged (t : List ℕ) (w : Reading) : Type 0 where
   pub form : (atLine (w .scan .place) ≡ true) ↔ HasJobForm t
-  pub job : (n : ℕ) (steps : List Step) → JobTextOf n steps t → Kept n steps w
+  pub job : (n : ℕ) (steps : List Step) → JobTextOf n steps t → StepsKept n steps w

@@ -3,7 +3,7 @@
 use mathlib.Core.List.{_++_, List, [], map, _∷_}
 use Prim.Native.Nat.{ℕ}
 use Rattle.record.specs.Lent.{LentRecord}
-use Rattle.jobs.specs.Runs.{answers, run, started}
+use Rattle.jobs.specs.Runs.{stepAnswers, run, started}
 use Rattle.jobs.specs.declared.Answer.{Answer}
 use Rattle.jobs.specs.declared.Op.{Op}
 use Rattle.jobs.specs.declared.Op.the-variants.{Complement, Cz, Gate, Measure, Pivot}
@@ -21,7 +21,7 @@ abbrev contents : LentRecord → List (List ℕ)
 contents l = l .neighbours ∷ l .codes ∷ []
 
 abbrev ran : ℕ → List Step → List (List ℕ)
-ran n steps = lines (answers (started n) steps) ++ contents (run (started n) steps)
+ran n steps = lines (stepAnswers (started n) steps) ++ contents (run (started n) steps)
 
 abbrev answer : ℕ → ℕ → ℕ → List ℕ
 answer refusal outcome determined = refusal ∷ outcome ∷ determined ∷ []

@@ -3,7 +3,7 @@
 use mathlib.Core.List.{List}
 use mathlib.Core.Path.{_≡_}
 use Prim.Native.Nat.{ℕ}
-use Rattle.text.specs.internal.Scan.{begin, fed, reading, verdict}
+use Rattle.text.specs.internal.Scan.{begin, fed, asReading, verdict}
 use Rattle.text.specs.declared.scan.Scan.{Scan}
 use Rattle.text.specs.declared.scan.Verdict.{Verdict}
 
@@ -12,5 +12,5 @@ use Rattle.text.specs.declared.scan.Verdict.{Verdict}
 pub record Scanned (signs z x signs′ z′ x′ : List ℕ) (r : Verdict) : Type 0 where
   pub text : List ℕ
   pub scan : Scan
-  pub lines : reading scan signs′ z′ x′ ≡ fed (reading begin signs z x) text
+  pub lines : asReading scan signs′ z′ x′ ≡ fed (asReading begin signs z x) text
   pub judged : r ≡ verdict scan

@@ -5,7 +5,7 @@ use mathlib.Core.Path.{_≡_}
 use Prim.Native.Nat.{min, ℕ, _≤_}
 use lib.ListN.{length, replicate, take}
 use Rattle.stabilizer.specs.Lists.{GeneratorList}
-use Rattle.text.specs.internal.Scan.{begin, fed, reading, verdict}
+use Rattle.text.specs.internal.Scan.{begin, fed, asReading, verdict}
 use Rattle.text.specs.declared.scan.Scan.{Scan}
 use Rattle.text.specs.declared.scan.Verdict.{Verdict}
 use Rattle.list_reply.specs.Places.{longest}
@@ -13,7 +13,7 @@ use Rattle.list_reply.specs.Places.{longest}
 -- the text t was scanned into buffers of zeros: this is the verdict on it, and this is what the buffers hold
 pub record ScanOf (t : List ℕ) (v : Verdict) (signs z x : List ℕ) : Type 0 where
   pub scan : Scan
-  pub lines : reading scan signs z x ≡ fed (reading begin (replicate 64 0) (replicate 64 0) (replicate 64 0)) t
+  pub lines : asReading scan signs z x ≡ fed (asReading begin (replicate 64 0) (replicate 64 0) (replicate 64 0)) t
   pub judged : v ≡ verdict scan
 
 -- the list of n generators at the start of buffers of 64 places

@@ -9,7 +9,7 @@ use Rattle.buffers.specs.Refusals.{firstFitting}
 use Rattle.record.specs.Lent.{LentRecord, codeNumbers, heldRecord, heldRows, neighbourWords, recordLines}
 use Rattle.record.specs.Records.{GraphRecord, rowsOf}
 use Rattle.record.specs.Reduced.{reduced}
-use Rattle.operations.specs.Measurement.{answered, measuredRows, pauliLetter}
+use Rattle.operations.specs.Measurement.{measuredOutcome, measuredRows, pauliLetter}
 use Rattle.operations.specs.declared.Outcome.{Outcome}
 
 -- the record that two lent buffers hold, n being the length of the first
@@ -33,4 +33,4 @@ pub record MeasuredInPlace (words codes : List ℕ) (pauli q : ℕ) (bit : Bool)
       (λ g. reduced (length words)
       (measuredRows (length words) (rowsOf (length words) g) (pauliLetter pauli) q bit))
       words′ codes′
-  pub answer : r ≡ answered (length words) (heldRows (recordIn words codes)) (pauliLetter pauli) q bit
+  pub answer : r ≡ measuredOutcome (length words) (heldRows (recordIn words codes)) (pauliLetter pauli) q bit

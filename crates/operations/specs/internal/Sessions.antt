@@ -34,8 +34,8 @@ abbrev answer : LentRecord → Operation → List ℕ
 answer l o = firstFitting (linesOf l o) ∷ contents (leaves l o)
 
 -- a measurement's two further answers before these
-abbrev reading : LentRecord → ℕ → ℕ → ℕ → List ℕ
-reading l pauli q b = determinedNumber (measuredAnswer l pauli q b) ∷ outcomeNumber (measuredAnswer l pauli q b)
+abbrev measuring : LentRecord → ℕ → ℕ → ℕ → List ℕ
+measuring l pauli q b = determinedNumber (measuredAnswer l pauli q b) ∷ outcomeNumber (measuredAnswer l pauli q b)
     ∷ answer l (measurementOf pauli q b)
 
 abbrev accepts : LentRecord → List ℕ
@@ -57,10 +57,10 @@ example a b = record { given = a; expected = b }
 abbrev pub table : List Example
 table =
     -- "XX, ZZ with Z measured on qubit 0, outcome 1: not determined; codes 10, 10, no edge"
-    example (reading (edge 0 8) 3 0 1) (0 ∷ 1 ∷ accepts (apart 10 10))
+    example (measuring (edge 0 8) 3 0 1) (0 ∷ 1 ∷ accepts (apart 10 10))
     -- "The second measurement in 01's example, Z on qubit 1 with bit 0, is now refused; with bit 1 it is determined"
     ∷ example (answer (apart 10 10) (measurementOf 3 1 0)) (refuses 14 (apart 10 10))
-    ∷ example (reading (apart 10 10) 3 1 1) (1 ∷ 1 ∷ accepts (apart 10 10))
+    ∷ example (measuring (apart 10 10) 3 1 1) (1 ∷ 1 ∷ accepts (apart 10 10))
     -- complementing an edge at 0: 13 and 6 come before the codes held
     ∷ example (answer (edge 0 0) (complementOf 0)) (accepts (edge 13 6))
     ∷ example (answer (edge 8 0) (complementOf 0)) (accepts (edge 20 6))

@@ -3,7 +3,7 @@ use Prim.Native.Nat.{_-_, _<_}
 use native.Mathlib.Omega.{arith}
 use lib.ListN.{getD, length}
 use Rattle.buffers.proofs.Filling.{Filled, fill-end, fill-start, fill-step}
-use Rattle.parts_records.specs.internal.Listed.{partWord}
+use Rattle.parts_records.specs.internal.Listed.{renumbered}
 use borrow.Author.Needs.{needs}
 use Rattle.parts_records.proofs.extract.Statement.{statement}
 use Rattle.parts_records.proofs.extract.Tie as tie
@@ -13,7 +13,7 @@ use Rattle.parts_records.proofs.compress.Reads as compress-reads
 
 abbrev Inv-loop : tie.InvT-loop
 Inv-loop neighbours codes words₀ numbers₀ at k i₀ words numbers i =
-    Filled (length words₀) (λ i. partWord (length words₀) at (getD neighbours (getD at i 0) 0)) words i
+    Filled (length words₀) (λ i. renumbered (length words₀) at (getD neighbours (getD at i 0) 0)) words i
     × Filled (length words₀) (λ i. getD codes (getD at i 0) 0) numbers i
 
 abbrev μ-loop : tie.MeasureT-loop

@@ -7,12 +7,12 @@ use Rattle.buffers.specs.Buffers.{tabulate}
 use Rattle.words.specs.Bits.{bit, wordOf}
 
 -- the bits of a word at the k listed vertices
-abbrev pub partWord : ℕ → List ℕ → ℕ → ℕ
-partWord k at w = wordOf k (λ i. bit w (getD at i 0))
+abbrev pub renumbered : ℕ → List ℕ → ℕ → ℕ
+renumbered k at w = wordOf k (λ i. bit w (getD at i 0))
 
 -- their neighbour words, in their numbers
 abbrev pub partWords : ℕ → List ℕ → List ℕ → List ℕ
-partWords k at neighbours = tabulate k (λ i. partWord k at (getD neighbours (getD at i 0) 0))
+partWords k at neighbours = tabulate k (λ i. renumbered k at (getD neighbours (getD at i 0) 0))
 
 -- their codes
 abbrev pub partCodes : ℕ → List ℕ → List ℕ → List ℕ

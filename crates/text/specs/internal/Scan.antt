@@ -8,7 +8,7 @@ use mathlib.Core.List.{List, [], _∷_, map}
 use Prim.Native.Nat.{ℕ, _+_, _-_, _*_, _%_, _^_, min}
 use lib.Dec.{eqb, ltb}
 use lib.ListN.{length, getD, set, take}
-use Rattle.text.specs.Text.{listNames, Line, TextOf, HasForm}
+use Rattle.text.specs.Text.{listNames, ListLine, TextOf, HasForm}
 use Rattle.text.specs.declared.scan.Scan.{Scan}
 use Rattle.text.specs.declared.scan.Verdict.{Verdict}
 use Rattle.text.specs.declared.scan.Place.{Place}
@@ -79,8 +79,8 @@ stepAt (X k) s b = xStep k s b
 stepAt Broken s b = s
 
 -- the scan after one more byte
-unfoldable pub step : Scan → ℕ → Scan
-step s b = stepAt (s .place) s b
+unfoldable pub scanByte : Scan → ℕ → Scan
+scanByte s b = stepAt (s .place) s b
 
 -- the scan of the empty text
 unfoldable pub begin : Scan
@@ -93,13 +93,13 @@ pub record Reading : Type 0 where
   pub zs : List ℕ
   pub xs : List ℕ
 
-abbrev pub reading : Scan → List ℕ → List ℕ → List ℕ → Reading
-reading s signs zs xs = record { scan = s; signs = signs; zs = zs; xs = xs }
+abbrev pub asReading : Scan → List ℕ → List ℕ → List ℕ → Reading
+asReading s signs zs xs = record { scan = s; signs = signs; zs = zs; xs = xs }
 
 -- the line that the scan holds, stored behind the lines before it
 abbrev pub stored : Reading → Scan → Reading
 stored w next =
-    reading next (set (w .signs) (w .scan .count) (w .scan .sign))
+    asReading next (set (w .signs) (w .scan .count) (w .scan .sign))
     (set (w .zs) (w .scan .count) (w .scan .z))
     (set (w .xs) (w .scan .count) (w .scan .x))
 
@@ -108,10 +108,10 @@ abbrev pub feedNext : Reading → Scan → Reading
 feedNext w next =
     cond (ltb (w .scan .count) (next .count) && ltb (w .scan .count) 64)
     (stored w next)
-    (reading next (w .signs) (w .zs) (w .xs))
+    (asReading next (w .signs) (w .zs) (w .xs))
 
 unfoldable pub feed : Reading → ℕ → Reading
-feed w b = feedNext w (step (w .scan) b)
+feed w b = feedNext w (scanByte (w .scan) b)
 
 -- one more byte after the other
 unfoldable pub fed : Reading → List ℕ → Reading
@@ -137,7 +137,7 @@ unfoldable pub verdict : Scan → Verdict
 verdict s = record { «has_form» = atSign (s .place); count = s .count }
 
 -- the lines of the list ls are counted, up to 65, and the first 64 of them stand at the start of the buffers
-pub record Kept (ls : List Line) (w : Reading) : Type 0 where
+pub record LinesKept (ls : List ListLine) (w : Reading) : Type 0 where
   pub count : w .scan .count ≡ min (length ls) 65
   pub signs : take (length ls) (w .signs) ≡ take 64 (map (λ l. l .sign) ls)
   pub zs : take (length ls) (w .zs) ≡ take 64 (map (λ l. l .z) ls)
@@ -146,4 +146,4 @@ pub record Kept (ls : List Line) (w : Reading) : Type 0 where
 -- the verdict on the text t is right: it says whether t has the form, and then the lines of t are kept
 pub record Judged (t : List ℕ) (w : Reading) : Type 0 where
   pub form : (verdict (w .scan) .«has_form» ≡ true) ↔ HasForm t
-  pub lines : (ls : List Line) → TextOf ls t → Kept ls w
+  pub lines : (ls : List ListLine) → TextOf ls t → LinesKept ls w

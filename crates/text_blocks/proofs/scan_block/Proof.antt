@@ -8,14 +8,14 @@ use lib.ListN.{length, take}
 use lib.Seq.{take-all}
 use borrow.Author.Tests.{ltb-true}
 use borrow.Author.Needs.{needs}
-use Rattle.text.specs.internal.Scan.{reading, fed}
+use Rattle.text.specs.internal.Scan.{asReading, fed}
 use Rattle.text.proofs.Feeding.{turn-stored, turn-kept}
 use Rattle.text_blocks.proofs.scan_block.Statement.{statement}
 use Rattle.text_blocks.proofs.scan_block.Tie as tie
 
 abbrev Inv-loop : tie.InvT-loop
 Inv-loop block signs₀ z₀ x₀ s₀ i₀ signs z x s i = (i ≤ length block)
-    × (reading s signs z x ≡ fed (reading s₀ signs₀ z₀ x₀) (take i block))
+    × (asReading s signs z x ≡ fed (asReading s₀ signs₀ z₀ x₀) (take i block))
 
 abbrev μ-loop : tie.MeasureT-loop
 μ-loop block signs₀ z₀ x₀ s₀ i₀ signs z x s i = length block - i
@@ -62,14 +62,14 @@ loop-again : tie.Need-loop-again Inv-loop μ-loop
 loop-again c =
     let next = c .before .scan-byte .result in
     let l = c .before .before .before .before .loop in
-    let sofar = reading (l .s) (l .signs) (l .z) (l .x) in
+    let sofar = asReading (l .s) (l .signs) (l .z) (l .x) in
     let inside = c .before .before .before .loop-test .taken in
     let stepped = c .before .scan-byte .ensures in (
       search needs,
       ⊎-elim
-          (λ w. (λ k. reading next (w .1 k) (w .2 k) (w .3 k))
+          (λ w. (λ k. asReading next (w .1 k) (w .2 k) (w .3 k))
           ∙ turn-stored _ sofar _ (l .i) inside (l .inv .1) _ stepped (w .0 .taken))
-          (λ w. (λ k. reading next (w .1 k) (w .2 k) (w .3 k))
+          (λ w. (λ k. asReading next (w .1 k) (w .2 k) (w .3 k))
           ∙ turn-kept _ sofar _ (l .i) inside (l .inv .1) _ stepped (w .0 .left))
           (c .if1 .came),
     )

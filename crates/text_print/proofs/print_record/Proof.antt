@@ -6,7 +6,7 @@ use native.Mathlib.Nat.{add-zero}
 use native.Mathlib.Omega.{arith}
 use lib.ListN.{length}
 use borrow.Author.Needs.{needs}
-use Rattle.text.specs.Text.{recordNames, recordLines, recordText, Printed}
+use Rattle.text.specs.Text.{recordNames, qubitLines, recordText, Printed}
 use Rattle.text.proofs.RecordLaws.{length-lines}
 use Rattle.text.proofs.Writing.{and-then, write-none}
 use Rattle.text_print.proofs.print_record.Statement.{statement}
@@ -14,7 +14,7 @@ use Rattle.text_print.proofs.print_record.Tie as tie
 
 abbrev Inv-loop : tie.InvT-loop
 Inv-loop n neighbours codes from out₀ at₀ q₀ out at q = (q ≤ n)
-    × Printed (recordLines q neighbours codes) at₀ out₀ out at × (length out ≡ length out₀)
+    × Printed (qubitLines q neighbours codes) at₀ out₀ out at × (length out ≡ length out₀)
 
 abbrev μ-loop : tie.MeasureT-loop
 μ-loop n neighbours codes from out₀ at₀ q₀ out at q = n - q
@@ -26,7 +26,7 @@ put-bytes-requires : tie.Need-put-bytes-requires Inv-loop μ-loop
 put-bytes-requires c κs = search needs
 
 loop-holds : tie.Need-loop-holds Inv-loop μ-loop
-unfolding recordLines
+unfolding qubitLines
 loop-holds c = (zero-le, record { end = sym (add-zero _); out = write-none _ _ }, refl)
 
 cast-put-line : tie.Need-cast-put-line Inv-loop μ-loop
@@ -65,14 +65,14 @@ loop-less : tie.Need-loop-less Inv-loop μ-loop
 loop-less c = search needs
 
 loop-again : tie.Need-loop-again Inv-loop μ-loop
-unfolding recordLines
+unfolding qubitLines
 loop-again c =
     let l = c .before .before .before .before .before .before .before in
     let names = l .before .before .before in
     let start = names .before .before .before .before .before .before in
     let lines = length-lines (l .loop .q) (start .args .neighbours .now) (start .args .codes .now) in (
       search needs,
-      subst (λ k. Printed (recordLines k (start .args .neighbours .now) (start .args .codes .now))
+      subst (λ k. Printed (qubitLines k (start .args .neighbours .now) (start .args .codes .now))
           (names .put-bytes .result) (names .put-bytes .last .1 .1 .0)
           (c .before .before .put-line .last .1 .1 .1 .1 .0) (c .before .before .put-line .result))
           (sym (add-one (l .loop .q)))
@@ -98,7 +98,7 @@ returns c =
     let start = names .before .before .before .before .before .before in
     let all : l .loop .q ≡ start .args .n = omega arith in
     subst (λ k. Printed (recordNames
-    ++ recordLines k (start .args .neighbours .now) (start .args .codes .now))
+    ++ qubitLines k (start .args .neighbours .now) (start .args .codes .now))
     (start .args .from) (start .args .out .now) (l .loop .out) (l .loop .at)) all
     (and-then (omega (arith, start .pre .room)) (names .put-bytes .ensures) (l .loop .inv .1))
 

@@ -4,13 +4,13 @@ use native.Mathlib.Omega.{arith}
 use lib.Seq.{take-all}
 use lib.ListN.{length, getD, take, set, length-set}
 use borrow.Author.Needs.{needs}
-use Rattle.text.specs.Text.{written}
+use Rattle.text.specs.Text.{overwritten}
 use Rattle.text.proofs.Writing.{write-none, write-taken}
 use Rattle.text_print.proofs.put_bytes.Statement.{statement}
 use Rattle.text_print.proofs.put_bytes.Tie as tie
 
 abbrev Inv-loop : tie.InvT-loop
-Inv-loop bytes at out₀ i₀ out i = (i ≤ length bytes) × (out ≡ written out₀ at (take i bytes))
+Inv-loop bytes at out₀ i₀ out i = (i ≤ length bytes) × (out ≡ overwritten out₀ at (take i bytes))
     × (length out ≡ length out₀)
 
 abbrev μ-loop : tie.MeasureT-loop
@@ -56,7 +56,7 @@ returns c =
     let all : c .before .loop .i ≡ length (c .before .before .args .bytes .now) = omega arith in
     record {
       end = ap (λ k. c .before .before .args .at + k) all;
-      out = c .before .loop .inv .1 ∙ ap (written _ _) (take-all _ _ (c .loop-test .left));
+      out = c .before .loop .inv .1 ∙ ap (overwritten _ _) (take-all _ _ (c .loop-test .left));
     }
 
 pub put-bytes-spec : {M : Type 1} → statement M

@@ -4,14 +4,14 @@ use native.Mathlib.Omega.{arith}
 use native.Mathlib.Nat.{div-one}
 use lib.ListN.{length, set, length-set}
 use borrow.Author.Needs.{needs}
-use Rattle.text.specs.Text.{hexText, written}
+use Rattle.text.specs.Text.{hexText, overwritten}
 use Rattle.text.proofs.HexLaws.{length-hex, write-digit}
 use Rattle.text.proofs.Writing.{write-none}
 use Rattle.text_print.proofs.put_word.Statement.{statement}
 use Rattle.text_print.proofs.put_word.Tie as tie
 
 abbrev Inv-loop : tie.InvT-loop
-Inv-loop w at out₀ i₀ out i = (i ≤ 16) × (out ≡ written out₀ at (hexText i (w / 2 ^ (64 - 4 * i))))
+Inv-loop w at out₀ i₀ out i = (i ≤ 16) × (out ≡ overwritten out₀ at (hexText i (w / 2 ^ (64 - 4 * i))))
     × (length out ≡ length out₀)
 
 abbrev μ-loop : tie.MeasureT-loop
@@ -73,8 +73,8 @@ returns c =
     record {
       end = ap (λ k. a .at + k) (sym (length-hex 16 (a .w)));
       out =
-          l .inv .1 ∙ ap (λ i. written (a .out .now) (a .at) (hexText i (a .w / 2 ^ (64 - 4 * i)))) all
-          ∙ ap (λ v. written (a .out .now) (a .at) (hexText 16 v)) (div-one (a .w));
+          l .inv .1 ∙ ap (λ i. overwritten (a .out .now) (a .at) (hexText i (a .w / 2 ^ (64 - 4 * i)))) all
+          ∙ ap (λ v. overwritten (a .out .now) (a .at) (hexText 16 v)) (div-one (a .w));
     }
 
 pub put-word-spec : {M : Type 1} → statement M

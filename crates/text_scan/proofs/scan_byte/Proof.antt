@@ -3,7 +3,7 @@ use mathlib.Core.Bool.{cond}
 use borrow.Author.Tests.{eq-eqb, ne-eqb}
 use borrow.Author.Needs.{needs}
 use Rattle.text.specs.declared.scan.Place.the-variants.{Z, Broken}
-use Rattle.text.specs.internal.Scan.{moved, step, stepAt}
+use Rattle.text.specs.internal.Scan.{moved, scanByte, stepAt}
 use Rattle.text_scan.proofs.scan_byte.Statement.{statement}
 use Rattle.text_scan.proofs.scan_byte.Tie as tie
 
@@ -47,7 +47,7 @@ enum-told-3 : tie.Need-enum-told-3
 enum-told-3 c = search needs
 
 returns : tie.Need-returns
-unfolding step
+unfolding scanByte
 returns c =
     c .at-place .ensures
     ∙ ap (moved (c .before .before .before .before .before .args .s)) (c .before .names-step .ensures)
@@ -55,13 +55,13 @@ returns c =
     (c .before .before .before .before .before .args .b)) (c .before .before .before .place .given .1))
 
 returns-2 : tie.Need-returns-2
-unfolding step
+unfolding scanByte
 returns-2 c = c .sign-step .ensures
     ∙ sym (ap (λ p. stepAt p (c .before .before .before .args .s) (c .before .before .before .args .b))
     (c .before .enum-told .given .1))
 
 returns-3 : tie.Need-returns-3
-unfolding step
+unfolding scanByte
 returns-3 c =
     c .at-place2 .ensures
     ∙ ap (λ t. moved (c .before .before .before .before .args .s) (cond t (Z 0) Broken))
@@ -70,7 +70,7 @@ returns-3 c =
     (c .before .before .before .before .args .b)) (c .before .before .enum-told2 .given .1))
 
 returns-4 : tie.Need-returns-4
-unfolding step
+unfolding scanByte
 returns-4 c =
     c .at-place3 .ensures
     ∙ ap (λ t. moved (c .before .before .before .before .args .s) (cond t (Z 0) Broken))
@@ -79,19 +79,19 @@ returns-4 c =
     (c .before .before .before .before .args .b)) (c .before .before .enum-told2 .given .1))
 
 returns-5 : tie.Need-returns-5
-unfolding step
+unfolding scanByte
 returns-5 c = c .z-step .ensures
     ∙ sym (ap (λ p. stepAt p (c .before .before .before .before .args .s)
     (c .before .before .before .before .args .b)) (c .before .before .place2 .given .1))
 
 returns-6 : tie.Need-returns-6
-unfolding step
+unfolding scanByte
 returns-6 c = c .x-step .ensures
     ∙ sym (ap (λ p. stepAt p (c .before .before .before .before .args .s)
     (c .before .before .before .before .args .b)) (c .before .before .place3 .given .1))
 
 returns-7 : tie.Need-returns-7
-unfolding step
+unfolding scanByte
 returns-7 c = sym (ap (λ p. stepAt p (c .before .before .args .s) (c .before .before .args .b))
     (c .enum-told3 .given .1))
 

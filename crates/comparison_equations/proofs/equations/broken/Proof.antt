@@ -2,13 +2,13 @@ use mathlib.Core.Path.{sym, _∙_}
 use Prim.Native.Nat.{_*_, _+_, _-_, _≤_}
 use native.Mathlib.Omega.{arith}
 use borrow.Author.Needs.{needs}
-use Rattle.comparison.specs.internal.Equations.{tableOf}
+use Rattle.comparison.specs.internal.Equations.{equationsIn}
 use Rattle.comparison.proofs.QubitEquations.{TestedBelow, all-hold, none-tested, one-fails, one-holds, row-at}
 use Rattle.comparison_equations.proofs.equations.broken.Statement.{statement}
 use Rattle.comparison_equations.proofs.equations.broken.Tie as tie
 
 abbrev Inv-loop : tie.InvT-loop
-Inv-loop table q w i₀ i = (i ≤ 4 * q + 4) × TestedBelow (tableOf table) q w i
+Inv-loop table q w i₀ i = (i ≤ 4 * q + 4) × TestedBelow (equationsIn table) q w i
 
 abbrev μ-loop : tie.MeasureT-loop
 μ-loop table q w i₀ i = (4 * q + 4) - i
@@ -42,7 +42,7 @@ returns c =
     let a = c .before .before .before .before .before .before .args in
     let l = c .before .before .before .before .before .loop in
     let e = c .before .before .equation in
-    one-fails (tableOf (a .table .now)) (a .q) (a .w) (l .i) (l .inv .1) (c .before .before .before .before .loop-test .taken)
+    one-fails (equationsIn (a .table .now)) (a .q) (a .w) (l .i) (l .inv .1) (c .before .before .before .before .loop-test .taken)
     (e .result) (c .before .fails .result) (e .ensures ∙ sym (row-at (a .table .now) (l .i)))
     (c .before .fails .ensures) (c .if1 .taken)
 
@@ -58,7 +58,7 @@ loop-again c =
     let l = c .before .before .before .before .before .loop in
     let e = c .before .before .equation in (
       omega (arith, c .before .before .before .before .loop-test .taken),
-      one-holds (tableOf (a .table .now)) (a .q) (a .w) (l .i) (l .inv .1) (e .result)
+      one-holds (equationsIn (a .table .now)) (a .q) (a .w) (l .i) (l .inv .1) (e .result)
           (c .before .fails .result) (e .ensures ∙ sym (row-at (a .table .now) (l .i))) (c .before .fails .ensures)
           (c .if1 .left),
     )
@@ -66,7 +66,7 @@ loop-again c =
 returns-2 : tie.Need-returns-2 Inv-loop μ-loop
 returns-2 c =
     let a = c .before .before .args in
-    all-hold (tableOf (a .table .now)) (a .q) (a .w) (c .before .loop .i) (c .before .loop .inv .1) (c .loop-test .left)
+    all-hold (equationsIn (a .table .now)) (a .q) (a .w) (c .before .loop .i) (c .before .loop .inv .1) (c .loop-test .left)
 
 pub broken-spec : {M : Type 1} → statement M
 broken-spec =

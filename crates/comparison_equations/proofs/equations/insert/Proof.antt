@@ -3,7 +3,7 @@ use Prim.Native.Nat.{_≤_, _-_}
 use native.Mathlib.Omega.{arith}
 use lib.ListN.{set}
 use borrow.Author.Needs.{needs}
-use Rattle.comparison.specs.internal.Equations.{Inserted, tableOf}
+use Rattle.comparison.specs.internal.Equations.{Inserted, equationsIn}
 use Rattle.comparison.proofs.Insertion.{
   Inserting,
   insert-added,
@@ -17,13 +17,13 @@ use Rattle.comparison_equations.proofs.equations.insert.Statement.{stat
 use Rattle.comparison_equations.proofs.equations.insert.Tie as tie
 
 abbrev Inv-loop : tie.InvT-loop
-Inv-loop table₀ m left₀ i₀ table left i = (i ≤ 80) × Inserting (tableOf table₀) left₀ (tableOf table) left i
+Inv-loop table₀ m left₀ i₀ table left i = (i ≤ 80) × Inserting (equationsIn table₀) left₀ (equationsIn table) left i
 
 abbrev μ-loop : tie.MeasureT-loop
 μ-loop table₀ m left₀ i₀ table left i = i
 
 loop-holds : tie.Need-loop-holds Inv-loop μ-loop
-loop-holds c = (c .pre .0, insert-start (tableOf (c .args .table .now)) (c .args .e) (c .args .m) (c .pre .2))
+loop-holds c = (c .pre .0, insert-start (equationsIn (c .args .table .now)) (c .args .e) (c .args .m) (c .pre .2))
 
 sub-i : tie.Need-sub-i Inv-loop μ-loop
 sub-i c = search needs
@@ -57,9 +57,9 @@ returns c =
     let s = c .before .before .before .before .before .before .before .before .before in
     let l = c .before .before .before .before .before .before .before .before .loop in
     let e = c .before .before .before .equation in
-    subst (Inserted (tableOf (s .args .table .now)) (s .args .e))
-    (sym (row-set (l .table) (l .i - 1) (c .row .result) ∙ ap (set (tableOf (l .table)) (l .i - 1)) (c .row .ensures)))
-    (insert-stored (tableOf (s .args .table .now)) (s .args .e) (s .pre .1) (tableOf (l .table)) (l .left) (l .i)
+    subst (Inserted (equationsIn (s .args .table .now)) (s .args .e))
+    (sym (row-set (l .table) (l .i - 1) (c .row .result) ∙ ap (set (equationsIn (l .table)) (l .i - 1)) (c .row .ensures)))
+    (insert-stored (equationsIn (s .args .table .now)) (s .args .e) (s .pre .1) (equationsIn (l .table)) (l .left) (l .i)
     (c .before .before .before .before .before .before .before .loop-test .taken) (l .inv .1) (omega (arith, l .inv .0, c .before .before .before .before .before .before .before .loop-test .taken))
     (sym (c .before .before .before .before .before .before .has-unknown .ensures) ∙ c .before .before .before .before .before .if1 .taken) (e .result)
     (e .ensures ∙ sym (row-at (l .table) (l .i - 1))) (sym (c .before .before .span .ensures) ∙ c .before .if2 .taken))
@@ -76,7 +76,7 @@ loop-again c =
     let l = c .before .before .before .before .before .before .before .before .loop in
     let e = c .before .before .before .equation in (
       omega (arith, l .inv .0),
-      insert-added (tableOf (s .args .table .now)) (s .args .e) (s .pre .1) (tableOf (l .table)) (l .left) (l .i)
+      insert-added (equationsIn (s .args .table .now)) (s .args .e) (s .pre .1) (equationsIn (l .table)) (l .left) (l .i)
           (c .before .before .before .before .before .before .before .loop-test .taken) (l .inv .1)
           (sym (c .before .before .before .before .before .before .has-unknown .ensures) ∙ c .before .before .before .before .before .if1 .taken) (e .result) (c .add .result)
           (e .ensures ∙ sym (row-at (l .table) (l .i - 1)))
@@ -91,7 +91,7 @@ loop-again-2 c =
     let s = c .before .before .before .before in
     let l = c .before .before .before .loop in (
       omega (arith, l .inv .0),
-      insert-skipped (tableOf (s .args .table .now)) (s .args .e) (s .pre .1) (tableOf (l .table)) (l .left) (l .i)
+      insert-skipped (equationsIn (s .args .table .now)) (s .args .e) (s .pre .1) (equationsIn (l .table)) (l .left) (l .i)
           (c .before .before .loop-test .taken) (l .inv .1) (sym (c .before .has-unknown .ensures) ∙ c .if1 .left),
     )
 
@@ -99,8 +99,8 @@ returns-2 : tie.Need-returns-2 Inv-loop μ-loop
 returns-2 c =
     let s = c .before .before in
     let l = c .before .loop in
-    insert-nothing (tableOf (s .args .table .now)) (s .args .e) (s .pre .1) (tableOf (l .table)) (l .left)
-    (subst (Inserting (tableOf (s .args .table .now)) (s .args .e) (tableOf (l .table)) (l .left))
+    insert-nothing (equationsIn (s .args .table .now)) (s .args .e) (s .pre .1) (equationsIn (l .table)) (l .left)
+    (subst (Inserting (equationsIn (s .args .table .now)) (s .args .e) (equationsIn (l .table)) (l .left))
     (omega (arith, c .loop-test .left)) (l .inv .1))
 
 pub insert-spec : {M : Type 1} → statement M

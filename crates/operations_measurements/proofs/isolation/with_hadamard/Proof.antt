@@ -1,7 +1,7 @@
 use native.Mathlib.Omega.{arith}
 use borrow.Author.Needs.{needs}
 use Rattle.words.proofs.BitLaws.{digit-lt}
-use Rattle.operations_measurements.proofs.CutBuffers.{hadamard-by-calls}
+use Rattle.operations_measurements.proofs.IsolatedBuffers.{hadamard-by-calls}
 use Rattle.operations_measurements.proofs.isolation.with_hadamard.Statement.{statement}
 use Rattle.operations_measurements.proofs.isolation.with_hadamard.Tie as tie
 

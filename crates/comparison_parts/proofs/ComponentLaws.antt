@@ -14,9 +14,9 @@ use Rattle.clifford.specs.Clifford.{Clifford, cliffordOf}
 use Rattle.clifford.specs.Vectors.{codesOf}
 use Rattle.comparison.proofs.Least.{least-agree, least-is, none-carries}
 use Rattle.comparison.proofs.NumberOrder.{choice-lt}
-use Rattle.comparison.proofs.SettledChoices.{part-settled}
+use Rattle.comparison.proofs.LeastAtVertices.{part-least-at}
 use Rattle.comparison.specs.Choices.{LeastChoice, leastCode, leastNumber, noChoice}
-use Rattle.comparison.specs.internal.Settled.{Settled}
+use Rattle.comparison.specs.internal.LeastAt.{LeastAt}
 use Rattle.comparison.specs.internal.Setting.{Codes}
 use Rattle.cut.specs.Kernel.{count}
 use Rattle.graph.specs.Graph.{Graph, Simple}
@@ -42,92 +42,92 @@ use Rattle.words.proofs.SearchLaws.{some-in, some-true}
 use Rattle.words.proofs.Sums.{lt-or-ge}
 use Rattle.words.specs.Bits.{bit}
 use Rattle.words.specs.Search.{first, some}
-use Rattle.comparison_component.specs.internal.Islands.{
-  Island,
-  IslandAnswer,
+use Rattle.comparison_component.specs.internal.Components.{
+  Component,
+  ComponentAnswer,
   NumberedPair,
   PartAnswer,
   SoundPair,
-  held,
+  recordHeld,
   partOfRecord,
 }
 
-module _ (n : ℕ) (nb cs nb₂ cs₂ : List ℕ) (island : ℕ) (P : SoundPair n nb cs nb₂ cs₂) (I : Island n nb island) where
+module _ (n : ℕ) (nb cs nb₂ cs₂ : List ℕ) (component : ℕ) (P : SoundPair n nb cs nb₂ cs₂) (I : Component n nb component) where
   abbrev r : GraphRecord
-  r = held n nb cs
+  r = recordHeld n nb cs
 
   abbrev t : GraphRecord
-  t = held n nb₂ cs₂
+  t = recordHeld n nb₂ cs₂
 
-  pub island-closed : Closed n (graphIn nb) (bit island)
-  island-closed =
-      closed-ext n (graphIn nb) (partOf n (graphIn nb) (I .vertex)) (bit island) (λ q l. sym (I .word .marks q l))
+  pub component-closed : Closed n (graphIn nb) (bit component)
+  component-closed =
+      closed-ext n (graphIn nb) (partOf n (graphIn nb) (I .vertex)) (bit component) (λ q l. sym (I .word .marks q l))
       (part-closed n (graphIn nb) (I .vertex) (I .below))
 
-  island-below : (q : ℕ) → bit island q ≡ true → q < n
-  island-below q a = go (lt-or-ge q n)
+  component-below : (q : ℕ) → bit component q ≡ true → q < n
+  component-below q a = go (lt-or-ge q n)
     where
       go : (q < n) ⊎ (n ≤ q) → q < n
       go (inl l) = l
-      go (inr l) = absurd (true≢false (sym a ∙ bit-above n island (I .word .below) q l))
+      go (inr l) = absurd (true≢false (sym a ∙ bit-above n component (I .word .below) q l))
 
-  pub island-few : count 64 (bit island) ≤ 20
-  island-few = subst (λ k. k ≤ 20)
-      (sym (ones-count n island (I .word .below))
-      ∙ ones-count 64 island (lt-of-lt-of-le (I .word .below) (pow-mono (P .upto)))) (I .few)
+  pub component-few : count 64 (bit component) ≤ 20
+  component-few = subst (λ k. k ≤ 20)
+      (sym (ones-count n component (I .word .below))
+      ∙ ones-count 64 component (lt-of-lt-of-le (I .word .below) (pow-mono (P .upto)))) (I .few)
 
   -- ---- the test of the second graph
-  module _ (x : ℕ) (h : (j : ℕ) → bit x j ≡ spreadTo (length nb₂) (graphIn nb₂) (bit island) j) where
-    spreads : (j : ℕ) → bit x j ≡ spreadTo n (graphIn nb₂) (bit island) j
-    spreads j = h j ∙ ap (λ m. spreadTo m (graphIn nb₂) (bit island) j) (P .second .neighbours-long)
+  module _ (x : ℕ) (h : (j : ℕ) → bit x j ≡ spreadTo (length nb₂) (graphIn nb₂) (bit component) j) where
+    spreads : (j : ℕ) → bit x j ≡ spreadTo n (graphIn nb₂) (bit component) j
+    spreads j = h j ∙ ap (λ m. spreadTo m (graphIn nb₂) (bit component) j) (P .second .neighbours-long)
 
-    pub kept-closed : x ≡ island → Closed n (graphIn nb₂) (bit island)
+    pub kept-closed : x ≡ component → Closed n (graphIn nb₂) (bit component)
     kept-closed e i j k l a b =
         ap (λ w. bit w j) (sym e) ∙ spreads j
-        ∙ ap (λ v. bit island j || v) (some-in n (λ i. bit island i && graphIn nb₂ i j) i k (both a b))
-        ∙ or-true (bit island j)
+        ∙ ap (λ v. bit component j || v) (some-in n (λ i. bit component i && graphIn nb₂ i j) i k (both a b))
+        ∙ or-true (bit component j)
       where
         or-true : (a : Bool) → (a || true) ≡ true
         or-true false = refl
         or-true true = refl
 
-    closed-kept : Closed n (graphIn nb₂) (bit island) → x ≡ island
-    closed-kept C = bit-ext∞ x island (λ j. spreads j
-        ∙ same-by-both _ _ (λ e. go j (either (bit island j) (some n (λ i. bit island i && graphIn nb₂ i j)) e))
-        (λ e. ap (λ b. b || some n (λ i. bit island i && graphIn nb₂ i j)) e))
+    closed-kept : Closed n (graphIn nb₂) (bit component) → x ≡ component
+    closed-kept C = bit-ext∞ x component (λ j. spreads j
+        ∙ same-by-both _ _ (λ e. go j (either (bit component j) (some n (λ i. bit component i && graphIn nb₂ i j)) e))
+        (λ e. ap (λ b. b || some n (λ i. bit component i && graphIn nb₂ i j)) e))
       where
-        inside : (i j : ℕ) → i < n → bit island i ≡ true → graphIn nb₂ i j ≡ true → (j < n) ⊎ (n ≤ j)
-            → bit island j ≡ true
+        inside : (i j : ℕ) → i < n → bit component i ≡ true → graphIn nb₂ i j ≡ true → (j < n) ⊎ (n ≤ j)
+            → bit component j ≡ true
         inside i j k a b (inl l) = C i j k l a b
         inside i j k a b (inr l) = absurd (true≢false (sym b ∙ P .second .simple .below i j l))
 
-        go : (j : ℕ) → (bit island j ≡ true) ⊎ (some n (λ i. bit island i && graphIn nb₂ i j) ≡ true)
-            → bit island j ≡ true
+        go : (j : ℕ) → (bit component j ≡ true) ⊎ (some n (λ i. bit component i && graphIn nb₂ i j) ≡ true)
+            → bit component j ≡ true
         go j (inl a) = a
         go j (inr a) =
-            let F = some-true n (λ i. bit island i && graphIn nb₂ i j) a in
-            let b = both-true (bit island (first n (λ i. bit island i && graphIn nb₂ i j)))
-            (graphIn nb₂ (first n (λ i. bit island i && graphIn nb₂ i j)) j) (F .passes) in
+            let F = some-true n (λ i. bit component i && graphIn nb₂ i j) a in
+            let b = both-true (bit component (first n (λ i. bit component i && graphIn nb₂ i j)))
+            (graphIn nb₂ (first n (λ i. bit component i && graphIn nb₂ i j)) j) (F .passes) in
             inside _ j (F .below) (b .0) (b .1) (lt-or-ge j n)
 
-    pub leaves-refused : (x ≡ island → ⊥) → (choice : List ℕ) → IslandAnswer n r t island choice false choice
+    pub leaves-refused : (x ≡ component → ⊥) → (choice : List ℕ) → ComponentAnswer n r t component choice false choice
     leaves-refused d choice =
         record {
           none = λ e c K. d (closed-kept
-              (carried-closed n r t (P .first .simple) (P .second .simple) c K (bit island) island-closed));
-          settled = λ e. absurd (false≢true e);
+              (carried-closed n r t (P .first .simple) (P .second .simple) c K (bit component) component-closed));
+          least-at = λ e. absurd (false≢true e);
           kept = λ q a. refl;
           codes = λ C. C;
         }
 
   -- ---- the vertices listed
-  module _ (k : ℕ) (at : List ℕ) (few : k ≤ 20) (M : Numbers 64 (bit island) k (λ i. getD at i 0))
-      (D : Closed n (graphIn nb₂) (bit island)) where
-    numbers : Numbers n (bit island) k (λ i. getD at i 0)
+  module _ (k : ℕ) (at : List ℕ) (few : k ≤ 20) (M : Numbers 64 (bit component) k (λ i. getD at i 0))
+      (D : Closed n (graphIn nb₂) (bit component)) where
+    numbers : Numbers n (bit component) k (λ i. getD at i 0)
     numbers =
         record {
           rising = M .rising;
-          below = λ i l. island-below (getD at i 0) (M .inside i l);
+          below = λ i l. component-below (getD at i 0) (M .inside i l);
           inside = M .inside;
           onto = λ q l a. M .onto q (lt-of-lt-of-le l (P .upto)) a;
         }
@@ -137,11 +137,11 @@ module _ (n : ℕ) (nb cs nb₂ cs₂ : List ℕ) (island : ℕ) (P : SoundPair 
 
     proper : Proper k (rowsOf k (partOfRecord k at r))
     proper = record-proper k (partOfRecord k at r)
-        (part-simple n (bit island) k e numbers (graphIn nb) (P .first .simple) island-closed)
+        (part-simple n (bit component) k e numbers (graphIn nb) (P .first .simple) component-closed)
 
     proper₂ : Proper k (rowsOf k (partOfRecord k at t))
     proper₂ = record-proper k (partOfRecord k at t)
-        (part-simple n (bit island) k e numbers (graphIn nb₂) (P .second .simple) D)
+        (part-simple n (bit component) k e numbers (graphIn nb₂) (P .second .simple) D)
 
     together : (i j : ℕ) → i < k → j < k → partOf n (graphIn nb) (e i) (e j) ≡ true
     together i j l m =
@@ -149,20 +149,20 @@ module _ (n : ℕ) (nb cs nb₂ cs₂ : List ℕ) (island : ℕ) (P : SoundPair 
         (numbers .below i l) (numbers .below j m) (sym (I .word .marks (e i) (numbers .below i l)) ∙ M .inside i l)
         (sym (I .word .marks (e j) (numbers .below j m)) ∙ M .inside j m)
 
-    pub numbered-pair : NumberedPair n nb cs nb₂ cs₂ island k at
+    pub numbered-pair : NumberedPair n nb cs nb₂ cs₂ component k at
     numbered-pair =
-        record { pair = P; few = few; numbers = numbers; closed = island-closed; closed₂ = D; together = together }
+        record { pair = P; few = few; numbers = numbers; closed = component-closed; closed₂ = D; together = together }
 
     module _ (found : Bool) (chosen : List ℕ) (A : PartAnswer n nb cs nb₂ cs₂ k at found chosen) where
-      pub part-refused : found ≡ false → (choice : List ℕ) → IslandAnswer n r t island choice false choice
+      pub part-refused : found ≡ false → (choice : List ℕ) → ComponentAnswer n r t component choice false choice
       part-refused f choice =
           record {
             none = λ _ d K. none-carries k (rowsOf k (partOfRecord k at r)) (rowsOf k (partOfRecord k at t))
                 (proper .within) (proper₂ .within) .0
                 (not-false (noChoice k (rowsOf k (partOfRecord k at r)) (rowsOf k (partOfRecord k at t)))
                 (sym (A .whether) ∙ f)) (λ i. d (e i))
-                (part-carried n (bit island) k e numbers r t (P .first .simple) (P .second .simple) island-closed D d K);
-            settled = λ e. absurd (false≢true e);
+                (part-carried n (bit component) k e numbers r t (P .first .simple) (P .second .simple) component-closed D d K);
+            least-at = λ e. absurd (false≢true e);
             kept = λ q a. refl;
             codes = λ C. C;
           }
@@ -184,15 +184,15 @@ module _ (n : ℕ) (nb cs nb₂ cs₂ : List ℕ) (island : ℕ) (P : SoundPair 
             (λ i. codesOf new (e i)) (λ i l. ap cliffordOf (sym (code-at i l)))
             (least-is k R S (proper .within) (proper₂ .within) (not-true (noChoice k R S) (sym (A .whether) ∙ f)))
 
-        pub part-accepted : IslandAnswer n r t island old true new
+        pub part-accepted : ComponentAnswer n r t component old true new
         part-accepted =
             record {
               none = λ g. absurd (true≢false g);
-              settled = λ _ q l a. let w = numbers .onto q l a in
-                  subst (Settled n r t (codesOf new)) (w .2)
-                  (part-settled n r t (P .first .simple) (P .second .simple) (bit island) k e numbers island-closed D
+              least-at = λ _ q l a. let w = numbers .onto q l a in
+                  subst (LeastAt n r t (codesOf new)) (w .2)
+                  (part-least-at n r t (P .first .simple) (P .second .simple) (bit component) k e numbers component-closed D
                   together (codesOf new) least (w .0) (w .1));
-              kept = λ q a. same q (λ i l g. true≢false (sym (M .inside i l) ∙ ap (bit island) g ∙ a));
+              kept = λ q a. same q (λ i l g. true≢false (sym (M .inside i l) ∙ ap (bit component) g ∙ a));
               codes = λ C q. code C q (numbered-or-not k e q);
             }
           where

@@ -38,13 +38,13 @@ use Rattle.words.specs.Search.{IsFirst, first}
 use Rattle.comparison.proofs.KeyOrder.{keys-least}
 use Rattle.comparison.proofs.Least.{carries-agree}
 use Rattle.comparison.specs.Choices.{Agree, Before, FirstDiffers, LeastChoice, classKey, signKey}
-use Rattle.comparison.specs.internal.Settled.{Settled}
+use Rattle.comparison.specs.internal.LeastAt.{LeastAt}
 
 -- ---- settled everywhere
 module _ (n : ℕ) (r t : GraphRecord) (R : Simple n (r .graph)) (T : Simple n (t .graph)) where
-  pub settled-least : (c : ℕ → Clifford) → ((q : ℕ) → q < n → Settled n r t c q)
+  pub least-at-least : (c : ℕ → Clifford) → ((q : ℕ) → q < n → LeastAt n r t c q)
       → LeastChoice n (rowsOf n r) (rowsOf n t) c
-  settled-least c S =
+  least-at-least c S =
       record {
         among = carries-same n c (rowsOf n r) (rowsOf n t) .1
             (inclusion-same n (λ j. act n c (rowsOf n r j)) (rowsOf n t)
@@ -103,9 +103,9 @@ module _ (n : ℕ) (r t : GraphRecord) (R : Simple n (r .graph)) (T : Simple n (
           lower : (u : ℕ) → n ≤ u → q < u
           lower u k = omega (arith, l, k)
 
-  pub settled-agree : (c d : ℕ → Clifford) (q : ℕ) → q < n
-      → ((u : ℕ) → u < n → partOf n (r .graph) q u ≡ true → c u ≡ d u) → Settled n r t c q → Settled n r t d q
-  settled-agree c d q l h S =
+  pub least-at-agree : (c d : ℕ → Clifford) (q : ℕ) → q < n
+      → ((u : ℕ) → u < n → partOf n (r .graph) q u ≡ true → c u ≡ d u) → LeastAt n r t c q → LeastAt n r t d q
+  least-at-agree c d q l h S =
       record {
         sent = subst (InGroup n n (rowsOf n t))
             (same-sent (partOf n (r .graph) q) (part-closed n (r .graph) q l) c d h q l (part-has n (r .graph) q))
@@ -147,9 +147,9 @@ module _ (n : ℕ) (r t : GraphRecord) (R : Simple n (r .graph)) (T : Simple n (
         go (no a) (yes m) = equal (F .2 i m)
         go (no a) (no b) = subst (λ v. f v ≤ g v) (meet a b) (weaken (F .3))
 
-    pub part-settled : LeastChoice k (rowsOf k small) (rowsOf k other) (λ i. c (e i)) → (i : ℕ) → i < k
-        → Settled n r t c (e i)
-    part-settled L i l =
+    pub part-least-at : LeastChoice k (rowsOf k small) (rowsOf k other) (λ i. c (e i)) → (i : ℕ) → i < k
+        → LeastAt n r t c (e i)
+    part-least-at L i l =
         record {
           sent = part-sent n s k e N r t R T C D c (L .among) i l;
           class-least = λ d K h. class-le d (L .least (λ j. d (e j)) (part-carried n s k e N r t R T C D d K)) h;

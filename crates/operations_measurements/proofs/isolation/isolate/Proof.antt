@@ -3,9 +3,9 @@ use Prim.Native.Nat.{_<_}
 use lib.Dec.{lit<}
 use borrow.Author.Needs.{needs}
 use Rattle.operations.proofs.UnrefusedRecords.{unrefused-codes, unrefused-place, unrefused-short, unrefused-simple}
-use Rattle.operations_measurements.proofs.CutBuffers.{cut-written, turned-below}
-use Rattle.operations_measurements.proofs.isolation.cut_off.Statement.{statement}
-use Rattle.operations_measurements.proofs.isolation.cut_off.Tie as tie
+use Rattle.operations_measurements.proofs.IsolatedBuffers.{isolated-written, turned-below}
+use Rattle.operations_measurements.proofs.isolation.isolate.Statement.{statement}
+use Rattle.operations_measurements.proofs.isolation.isolate.Tie as tie
 
 mul-around : tie.Need-mul-around
 mul-around c = search needs
@@ -40,8 +40,8 @@ slice-write-codes c =
     subst (λ m. begun .args .q < m) (sym (at-turn .put-before .kept .0))
     (unrefused-place _ _ (begun .pre .0) _ (begun .pre .1))
 
-part-edges-requires : tie.Need-part-edges-requires
-part-edges-requires c κs =
+remove-edges-requires : tie.Need-remove-edges-requires
+remove-edges-requires c κs =
     let begun = c .before .before .before .before .before .before .before .before .before .before .before in
     let start = begun .pre in
     ((unrefused-short _ _ (start .0), start .1), unrefused-simple _ _ (start .0))
@@ -60,12 +60,12 @@ returns c =
     let at-where = at-turn .before in
     let begun = at-where .before .before .before .before .before .before in
     let start = begun .pre in
-    cut-written _ _ (start .0) (begun .args .q) (begun .args .t) _ _ _ _ _ (unrefused-place _ _ (start .0) _ (start .1))
+    isolated-written _ _ (start .0) (begun .args .q) (begun .args .t) _ _ _ _ _ (unrefused-place _ _ (start .0) _ (start .1))
     (at-where .where-true .ensures) (at-turn .put-before .ensures) (at-hadamard .with-hadamard .ensures) refl
-    (at-part .part-edges .kept .0) (at-part .part-edges .ensures)
+    (at-part .remove-edges .kept .0) (at-part .remove-edges .ensures)
 
-pub cut-off-spec : {M : Type 1} → statement M
-cut-off-spec =
+pub isolate-spec : {M : Type 1} → statement M
+isolate-spec =
     tie.close
     (tie.spec
     mul-around
@@ -75,7 +75,7 @@ cut-off-spec =
     put-before-requires
     with-hadamard-requires
     slice-write-codes
-    part-edges-requires
+    remove-edges-requires
     same-length
     same-length-2
     returns)

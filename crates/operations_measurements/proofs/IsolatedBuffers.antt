@@ -1,4 +1,4 @@
--- A vertex cut off in the buffers of a record.
+-- A vertex isolated in the buffers of a record.
 -- Assumes nothing.
 use mathlib.Core.Bool.{_&&_, Bool, and-false, cond, false, not, true}
 use mathlib.Core.List.{List}
@@ -15,7 +15,7 @@ use Rattle.graph.specs.Graph.{Simple}
 use Rattle.graph.specs.internal.NeighbourWords.{SameGraph}
 use Rattle.graph.specs.NeighbourWords.{graphIn}
 use Rattle.graph_steps.proofs.Places.{z-before}
-use Rattle.graph_steps.specs.internal.Steps.{cutOff, hadamardCode, pauliCode}
+use Rattle.graph_steps.specs.internal.Steps.{isolated, hadamardCode, pauliCode}
 use Rattle.operations.proofs.UnrefusedRecords.{unrefused-long, unrefused-simple}
 use Rattle.operations.specs.internal.InPlace.{Rewritten, Unrefused, recordIn}
 use Rattle.record.specs.Lent.{heldRecord}
@@ -23,7 +23,7 @@ use Rattle.record.specs.Records.{GraphRecord}
 use Rattle.words.proofs.BitLaws.{lt-of-bits, wordOf-bit}
 use Rattle.words.proofs.Places.{put-all}
 use Rattle.words.specs.Bits.{bit, digit, wordOf}
-use Rattle.operations_measurements.proofs.Parting.{partedFrom}
+use Rattle.operations_measurements.proofs.RemovedEdges.{partedFrom}
 
 -- a Hadamard's number
 hadamard-number : (t : Bool) → cliffordOf (8 + 2 * digit t) ≡ hadamardCode t
@@ -51,14 +51,14 @@ module _ (words codes : List ℕ) (U : Unrefused (recordIn words codes)) (q : �
   turned-below w h = lt-of-bits (length codes) w (λ j l. h j
       ∙ ap (λ b. t && b) (simple .below q j (subst (λ m. m ≤ j) (unrefused-long words codes U) l)) ∙ and-false t)
 
-  pub cut-written : (w : ℕ) (codes₁ words′ codes′ : List ℕ) (v : ℕ) → q < length codes
+  pub isolated-written : (w : ℕ) (codes₁ words′ codes′ : List ℕ) (v : ℕ) → q < length codes
       → ((j : ℕ) → bit w j ≡ (t && bit (getD words q 0) j))
       → codes₁ ≡ tabulate (length codes)
       (λ j. codeOf (cond (bit w j) (then (cliffordOf 2) (codesOf codes j)) (codesOf codes j)))
       → v ≡ codeOf (then (hadamardCode t) (codesOf codes q)) → codes′ ≡ set codes₁ q v
       → length words′ ≡ length words → SameGraph (graphIn words′) (partedFrom (graphIn words) q)
-      → Rewritten words codes (λ g. cutOff g q t) words′ codes′
-  cut-written w codes₁ words′ codes′ v hq hw e₁ ev e′ long edges =
+      → Rewritten words codes (λ g. isolated g q t) words′ codes′
+  isolated-written w codes₁ words′ codes′ v hq hw e₁ ev e′ long edges =
       record {
         neighbours = tabulate-is n _ words′ long
             (λ j l. sym (wordOf-bit n (getD words′ j 0) (below j)) ∙ ap (wordOf n) (fun-ext (edges j)));
@@ -73,7 +73,7 @@ module _ (words codes : List ℕ) (U : Unrefused (recordIn words codes)) (q : �
       below j = lt-of-bits n (getD words′ j 0)
           (λ l m. edges j l ∙ ap (λ b. b && (not (eqb j q) && not (eqb l q))) (simple .below j l m))
 
-      place : (j : ℕ) → j < length codes → getD codes′ j 0 ≡ codeOf ((cutOff r q t) .codes j)
+      place : (j : ℕ) → j < length codes → getD codes′ j 0 ≡ codeOf ((isolated r q t) .codes j)
       place j l = ap (λ c. getD c j 0) e′
           ∙ put-all (λ j c. getD (set codes₁ q v) j 0 ≡ codeOf c) _ q (then (hadamardCode t) (r .codes q))
           (getD-set-same codes₁ q v 0 (subst (λ m. q < m) (sym long₁) hq) ∙ ev) j

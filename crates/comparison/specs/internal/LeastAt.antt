@@ -12,7 +12,7 @@ use Rattle.stabilizer.specs.Carries.{Carries}
 use Rattle.stabilizer.specs.Groups.{InGroup}
 use Rattle.comparison.specs.Choices.{classKey, signKey}
 
-pub record Settled (n : ℕ) (r t : GraphRecord) (c : ℕ → Clifford) (q : ℕ) : Type 0 where
+pub record LeastAt (n : ℕ) (r t : GraphRecord) (c : ℕ → Clifford) (q : ℕ) : Type 0 where
   -- generator q goes into the second group
   pub sent : InGroup n n (rowsOf n t) (act n c (rowsOf n r q))
   -- a choice that works and has the classes of c at the earlier vertices of the part has no smaller class here

@@ -1,22 +1,22 @@
-//! Records whose graphs fall into islands.
+//! Records whose graphs fall into components.
 
 use super::random::Random;
 use sukhlent::Record;
 
-/// A record with islands of these sizes: their vertices lie anywhere among the qubits, a path leads
+/// A record with components of these sizes: their vertices lie anywhere among the qubits, a path leads
 /// through each, further edges have probability one half, and the codes are any.
-pub fn random_islands(random: &mut Random, sizes: &[usize]) -> Record {
+pub fn random_components(random: &mut Random, sizes: &[usize]) -> Record {
     let n: usize = sizes.iter().sum();
     let mut order: Vec<usize> = (0..n).collect();
     (1..n).for_each(|k| order.swap(k, random.below(k + 1)));
     let mut neighbours = vec![0u64; n];
     let mut rest = &order[..];
     for &size in sizes {
-        let (island, others) = rest.split_at(size);
+        let (component, others) = rest.split_at(size);
         for (i, j) in (0..size).flat_map(|i| (0..i).map(move |j| (i, j))) {
             let edge = i == j + 1 || random.below(2) == 0;
-            neighbours[island[i]] |= u64::from(edge) << island[j];
-            neighbours[island[j]] |= u64::from(edge) << island[i];
+            neighbours[component[i]] |= u64::from(edge) << component[j];
+            neighbours[component[j]] |= u64::from(edge) << component[i];
         }
         rest = others;
     }
@@ -24,7 +24,7 @@ pub fn random_islands(random: &mut Random, sizes: &[usize]) -> Record {
     Record { neighbours, codes }
 }
 
-/// Sizes of islands, each at most the largest, on n qubits in all.
+/// Sizes of components, each at most the largest, on n qubits in all.
 pub fn random_sizes(random: &mut Random, n: usize, largest: usize) -> Vec<usize> {
     let mut sizes = Vec::new();
     let mut rest = n;

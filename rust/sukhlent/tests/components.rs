@@ -1,20 +1,20 @@
-//! Comparison part by part: states on up to 64 qubits whose graphs fall into islands.
+//! Comparison part by part: states on up to 64 qubits whose graphs fall into components.
 
 use crate::common::local::{complemented, sent};
 use crate::common::reference::{expanded, parts, reduced};
-use crate::common::{list, mixed, random_islands, random_sizes, rows, PairCall, Random};
+use crate::common::{list, mixed, random_components, random_sizes, rows, PairCall, Random};
 use sukhlent::{compare, GeneratorList, Record, Refusal};
 
-/// A state with islands of these sizes, and mixed generators of its image under random codes.
+/// A state with components of these sizes, and mixed generators of its image under random codes.
 fn pair(random: &mut Random, sizes: &[usize]) -> [GeneratorList; 2] {
-    let first = expanded(&random_islands(random, sizes));
+    let first = expanded(&random_components(random, sizes));
     let choice: Vec<u8> = first.signs.iter().map(|_| random.below(24) as u8).collect();
     let [a, b] = [first.clone(), sent(&first, &choice)];
     [a, b].map(|given| list(&mixed(random, &rows(&given))))
 }
 
 /// The part of a record on some of its vertices, in their order.
-fn island(record: &Record, vertices: &[usize]) -> GeneratorList {
+fn component(record: &Record, vertices: &[usize]) -> GeneratorList {
     let word = |&a: &usize| {
         let bits = vertices.iter().enumerate();
         bits.fold(0, |w, (i, &b)| w | (record.neighbours[a] >> b & 1) << i)
@@ -32,7 +32,7 @@ fn assert_by_parts([first, second]: &[GeneratorList; 2]) {
     let [from, to] = [first, second].map(reduced);
     assert_eq!(parts(&from.neighbours), parts(&to.neighbours));
     for vertices in parts(&from.neighbours) {
-        let alone = compare(&island(&from, &vertices), &island(&to, &vertices)).unwrap();
+        let alone = compare(&component(&from, &vertices), &component(&to, &vertices)).unwrap();
         let there: Vec<u8> = vertices.iter().map(|&q| answer.choice[q]).collect();
         assert_eq!(there, alone.choice, "{vertices:?}");
     }
@@ -43,7 +43,7 @@ fn assert_by_parts([first, second]: &[GeneratorList; 2]) {
 }
 
 #[test]
-fn sixty_four_qubits_in_islands() {
+fn sixty_four_qubits_in_components() {
     for (seed, sizes) in [
         &[1; 64][..],
         &[2; 32],
@@ -60,7 +60,7 @@ fn sixty_four_qubits_in_islands() {
 }
 
 #[test]
-fn seeded_islands_on_every_number_of_qubits() {
+fn seeded_components_on_every_number_of_qubits() {
     for n in 1..=64 {
         for seed in 0..3 {
             let mut random = Random::new(64 * seed + n as u64);
@@ -153,7 +153,7 @@ fn parts_that_differ_give_13() {
 }
 
 #[test]
-fn one_island_that_is_not_equivalent_gives_13() {
+fn one_component_that_is_not_equivalent_gives_13() {
     // Fifteen paths of four vertices and a star, against sixteen paths.
     let record = |star: usize| {
         let inner = |k: usize| {
@@ -178,10 +178,10 @@ fn one_island_that_is_not_equivalent_gives_13() {
 }
 
 #[test]
-fn the_same_islands_on_other_qubits_give_13() {
+fn the_same_components_on_other_qubits_give_13() {
     let mut random = Random::new(5);
     for _ in 0..50 {
-        let record = random_islands(&mut random, &[3, 4, 5]);
+        let record = random_components(&mut random, &[3, 4, 5]);
         let turned = |word: u64| (word << 1 | word >> 11) & 0xFFF;
         let mut neighbours: Vec<u64> = record.neighbours.iter().map(|&w| turned(w)).collect();
         neighbours.rotate_right(1);

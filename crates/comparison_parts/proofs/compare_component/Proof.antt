@@ -1,20 +1,20 @@
 use mathlib.Core.Path.{refl, subst, sym, _∙_}
 use borrow.Author.Tests.{not-false, not-true}
 use Rattle.buffers.proofs.Parts.{part-long}
-use Rattle.comparison_parts.proofs.IslandLaws.{
-  island-few,
+use Rattle.comparison_parts.proofs.ComponentLaws.{
+  component-few,
   kept-closed,
   leaves-refused,
   numbered-pair,
   part-accepted,
   part-refused,
 }
-use Rattle.comparison_component.specs.internal.Islands.{NumberedPair, PartAnswer}
+use Rattle.comparison_component.specs.internal.Components.{NumberedPair, PartAnswer}
 use borrow.Author.Needs.{needs}
-use Rattle.comparison_parts.proofs.compare_island.Statement.{statement}
-use Rattle.comparison_parts.proofs.compare_island.Tie as tie
-use Rattle.comparison_parts.proofs.compare_island.Reads as reads
-use Rattle.comparison_parts.proofs.compare_island.Lts as lts
+use Rattle.comparison_parts.proofs.compare_component.Statement.{statement}
+use Rattle.comparison_parts.proofs.compare_component.Tie as tie
+use Rattle.comparison_parts.proofs.compare_component.Reads as reads
+use Rattle.comparison_parts.proofs.compare_component.Lts as lts
 use Rattle.comparison_component.proofs.compare_listed.Reads as compare-listed-reads
 use Rattle.comparison_component.proofs.placed.Reads as placed-reads
 use Rattle.parts_records.proofs.vertices.Reads as vertices-reads
@@ -29,7 +29,7 @@ returns : tie.Need-returns
 returns c =
     let S = c .before .before .before .before .before .before in
     let a = S .args in
-    leaves-refused (a .n) (a .neighbours .now) (a .codes .now) (a .neighbours2 .now) (a .codes2 .now) (a .island) (S .pre .0) (S .pre .1) _ (c .before .spread .ensures)
+    leaves-refused (a .n) (a .neighbours .now) (a .codes .now) (a .neighbours2 .now) (a .codes2 .now) (a .component) (S .pre .0) (S .pre .1) _ (c .before .spread .ensures)
     (c .if1 .taken) (a .choice)
 
 -- src/lib.rt:88:9
@@ -37,7 +37,7 @@ vertices-requires : tie.Need-vertices-requires
 vertices-requires c κs =
     let S = c .before .before .before .before .before .before in
     let a = S .args in
-    island-few (a .n) (a .neighbours .now) (a .codes .now) (a .neighbours2 .now) (a .codes2 .now) (a .island) (S .pre .0) (S .pre .1)
+    component-few (a .n) (a .neighbours .now) (a .codes .now) (a .neighbours2 .now) (a .codes2 .now) (a .component) (S .pre .0) (S .pre .1)
 
 -- src/lib.rt:103:9
 array-borrow-prefix-words : tie.Need-array-borrow-prefix-words
@@ -86,9 +86,9 @@ compare-listed-requires c κs =
     let S = K .before .before .before .before .before .before .before in
     let a = S .args in
     let few = K .vertices .ensures .0 in (
-      subst (λ m. NumberedPair (a .n) (a .neighbours .now) (a .codes .now) (a .neighbours2 .now) (a .codes2 .now) (a .island) m (K .vertices .result .at)) (sym (part-long _ _ few refl))
-          (numbered-pair (a .n) (a .neighbours .now) (a .codes .now) (a .neighbours2 .now) (a .codes2 .now) (a .island) (S .pre .0) (S .pre .1) (K .vertices .result .count) (K .vertices .result .at) few (K .vertices .ensures .1)
-          (kept-closed (a .n) (a .neighbours .now) (a .codes .now) (a .neighbours2 .now) (a .codes2 .now) (a .island) (S .pre .0) (S .pre .1) _ (K .before .before .spread .ensures) (K .before .if1 .left))),
+      subst (λ m. NumberedPair (a .n) (a .neighbours .now) (a .codes .now) (a .neighbours2 .now) (a .codes2 .now) (a .component) m (K .vertices .result .at)) (sym (part-long _ _ few refl))
+          (numbered-pair (a .n) (a .neighbours .now) (a .codes .now) (a .neighbours2 .now) (a .codes2 .now) (a .component) (S .pre .0) (S .pre .1) (K .vertices .result .count) (K .vertices .result .at) few (K .vertices .ensures .1)
+          (kept-closed (a .n) (a .neighbours .now) (a .codes .now) (a .neighbours2 .now) (a .codes2 .now) (a .component) (S .pre .0) (S .pre .1) _ (K .before .before .spread .ensures) (K .before .if1 .left))),
       (
         part-long _ _ few refl ∙ sym (part-long _ _ few refl),
         part-long _ _ few refl ∙ sym (part-long _ _ few refl),
@@ -103,9 +103,9 @@ returns-2 c =
     let K = L .before .before .before .before .before .before in
     let S = K .before .before .before .before .before .before .before in
     let a = S .args in
-    part-refused (a .n) (a .neighbours .now) (a .codes .now) (a .neighbours2 .now) (a .codes2 .now) (a .island) (S .pre .0) (S .pre .1) (K .vertices .result .count) (K .vertices .result .at)
+    part-refused (a .n) (a .neighbours .now) (a .codes .now) (a .neighbours2 .now) (a .codes2 .now) (a .component) (S .pre .0) (S .pre .1) (K .vertices .result .count) (K .vertices .result .at)
     (K .vertices .ensures .0) (K .vertices .ensures .1)
-    (kept-closed (a .n) (a .neighbours .now) (a .codes .now) (a .neighbours2 .now) (a .codes2 .now) (a .island) (S .pre .0) (S .pre .1) _ (K .before .before .spread .ensures) (K .before .if1 .left))
+    (kept-closed (a .n) (a .neighbours .now) (a .codes .now) (a .neighbours2 .now) (a .codes2 .now) (a .component) (S .pre .0) (S .pre .1) _ (K .before .before .spread .ensures) (K .before .if1 .left))
     (L .compare-listed .result .found) (L .compare-listed .result .choice)
     (subst (λ m. PartAnswer (a .n) (a .neighbours .now) (a .codes .now) (a .neighbours2 .now) (a .codes2 .now) m (K .vertices .result .at) (L .compare-listed .result .found)
     (L .compare-listed .result .choice))
@@ -126,16 +126,16 @@ returns-3 c =
     let K = L .before .before .before .before .before .before in
     let S = K .before .before .before .before .before .before .before in
     let a = S .args in
-    part-accepted (a .n) (a .neighbours .now) (a .codes .now) (a .neighbours2 .now) (a .codes2 .now) (a .island) (S .pre .0) (S .pre .1) (K .vertices .result .count) (K .vertices .result .at)
+    part-accepted (a .n) (a .neighbours .now) (a .codes .now) (a .neighbours2 .now) (a .codes2 .now) (a .component) (S .pre .0) (S .pre .1) (K .vertices .result .count) (K .vertices .result .at)
     (K .vertices .ensures .0) (K .vertices .ensures .1)
-    (kept-closed (a .n) (a .neighbours .now) (a .codes .now) (a .neighbours2 .now) (a .codes2 .now) (a .island) (S .pre .0) (S .pre .1) _ (K .before .before .spread .ensures) (K .before .if1 .left))
+    (kept-closed (a .n) (a .neighbours .now) (a .codes .now) (a .neighbours2 .now) (a .codes2 .now) (a .component) (S .pre .0) (S .pre .1) _ (K .before .before .spread .ensures) (K .before .if1 .left))
     (L .compare-listed .result .found) (L .compare-listed .result .choice)
     (subst (λ m. PartAnswer (a .n) (a .neighbours .now) (a .codes .now) (a .neighbours2 .now) (a .codes2 .now) m (K .vertices .result .at) (L .compare-listed .result .found)
     (L .compare-listed .result .choice))
     (part-long _ _ (K .vertices .ensures .0) refl) (L .compare-listed .ensures)) (not-false _ (E .if2 .left)) (a .choice) _ (c .placed .ensures .0) (c .placed .ensures .1)
 
-pub compare-island-spec : {M : Type 1} → statement M
-compare-island-spec =
+pub compare-component-spec : {M : Type 1} → statement M
+compare-component-spec =
     tie.close
     (tie.spec
     spread-requires

@@ -13,7 +13,7 @@ use Rattle.clifford.specs.Clifford.{cliffordOf, image, then}
 use Rattle.clifford.specs.Vectors.{codesOf}
 use Rattle.graph.specs.Graph.{Simple}
 use Rattle.graph_steps.proofs.Keeping.{complement-kept, kept-trans}
-use Rattle.graph_steps.specs.internal.Kept.{Faced, Kept}
+use Rattle.graph_steps.specs.internal.KeptGroups.{BroughtToZ, GroupKept}
 use Rattle.operations.proofs.UnrefusedRecords.{unrefused-short, unrefused-simple}
 use Rattle.operations.specs.internal.InPlace.{Rewritten, Unrefused, recordIn}
 use Rattle.operations_rewriting.proofs.Pivoting.{complemented-held}
@@ -58,11 +58,11 @@ module _ (words codes : List ℕ) (U : Unrefused (recordIn words codes)) (q : �
     ]
 
     module _ (words′ codes′ : List ℕ) (R : Rewritten words codes (λ g. complementRecord g k) words′ codes′) where
-      pub faces-y-kept : Kept words codes words′ codes′
-      faces-y-kept = complement-kept words codes U words′ codes′ k neighbour-below R
+      pub clears-x-kept : GroupKept words codes words′ codes′
+      clears-x-kept = complement-kept words codes U words′ codes′ k neighbour-below R
 
-      pub faces-y : image (codesOf codes q) X ≡ l → image (codesOf codes′ q) X ≡ l → ⊥
-      faces-y x x′ = y-not-x (r .codes q) (sym (six-x (r .codes q)) ∙ sym (ap (λ c. image c X) code) ∙ x′ ∙ sym x)
+      pub clears-x : image (codesOf codes q) X ≡ l → image (codesOf codes′ q) X ≡ l → ⊥
+      clears-x x x′ = y-not-x (r .codes q) (sym (six-x (r .codes q)) ∙ sym (ap (λ c. image c X) code) ∙ x′ ∙ sym x)
         where
           code : codesOf codes′ q ≡ then (cliffordOf 6) (r .codes q)
           code = ap (λ g. g .codes q) (complemented-held words codes U k neighbour-below words′ codes′ R)
@@ -74,9 +74,9 @@ module _ (words codes : List ℕ) (U : Unrefused (recordIn words codes)) (q : �
 
   -- ---- at the vertex itself
   module _ (words′ codes′ : List ℕ) (R : Rewritten words codes (λ g. complementRecord g q) words′ codes′) where
-    faces-z : (l ≡ I → ⊥) → (image (codesOf codes q) X ≡ l → ⊥) → (image (codesOf codes q) Z ≡ l → ⊥)
+    brings-z : (l ≡ I → ⊥) → (image (codesOf codes q) X ≡ l → ⊥) → (image (codesOf codes q) Z ≡ l → ⊥)
         → image (codesOf codes′ q) Z ≡ l
-    faces-z i x z = ap (λ c. image c Z) code ∙ thirteen-z (r .codes q) ∙ third (r .codes q) l i x z
+    brings-z i x z = ap (λ c. image c Z) code ∙ thirteen-z (r .codes q) ∙ third (r .codes q) l i x z
       where
         code : codesOf codes′ q ≡ then (cliffordOf 13) (r .codes q)
         code = ap (λ g. g .codes q) (complemented-held words codes U q hq words′ codes′ R)
@@ -85,22 +85,22 @@ module _ (words codes : List ℕ) (U : Unrefused (recordIn words codes)) (q : �
             (same-place q)
 
 -- ---- one after the other
-module _ (words codes words₁ codes₁ : List ℕ) (K : Kept words codes words₁ codes₁) (q : ℕ) (l : Letter) where
-  pub faced-already : {t : Bool} → (t ≡ true) ↔ (image (codesOf codes₁ q) Z ≡ l) → t ≡ true
-      → Faced words codes q l words₁ codes₁
-  faced-already h e = record { kept = K; sends-z = h .0 e }
+module _ (words codes words₁ codes₁ : List ℕ) (K : GroupKept words codes words₁ codes₁) (q : ℕ) (l : Letter) where
+  pub brought-already : {t : Bool} → (t ≡ true) ↔ (image (codesOf codes₁ q) Z ≡ l) → t ≡ true
+      → BroughtToZ words codes q l words₁ codes₁
+  brought-already h e = record { kept = K; sends-z = h .0 e }
 
   pub still-below : q < length words → q < length words₁
   still-below h = subst (λ m. q < m) (sym (K .long)) h
 
-  pub faced : (hq : q < length words) → (l ≡ I → ⊥) → (image (codesOf codes₁ q) X ≡ l → ⊥)
+  pub brought : (hq : q < length words) → (l ≡ I → ⊥) → (image (codesOf codes₁ q) X ≡ l → ⊥)
       → {t : Bool} → (t ≡ true) ↔ (image (codesOf codes₁ q) Z ≡ l) → t ≡ false
       → (words₂ codes₂ : List ℕ) → Rewritten words₁ codes₁ (λ g. complementRecord g q) words₂ codes₂
-      → Faced words codes q l words₂ codes₂
-  faced hq i x h e words₂ codes₂ R =
+      → BroughtToZ words codes q l words₂ codes₂
+  brought hq i x h e words₂ codes₂ R =
       record {
         kept = kept-trans words codes words₁ codes₁ words₂ codes₂ K
             (complement-kept words₁ codes₁ (K .unrefused) words₂ codes₂ q (still-below hq) R);
-        sends-z = faces-z words₁ codes₁ (K .unrefused) q (still-below hq) l words₂ codes₂ R i x
+        sends-z = brings-z words₁ codes₁ (K .unrefused) q (still-below hq) l words₂ codes₂ R i x
             (λ z. true≢false (sym (h .1 z) ∙ e));
       }

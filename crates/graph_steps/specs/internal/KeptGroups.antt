@@ -21,7 +21,7 @@ use Rattle.graph_steps.specs.internal.ReducedForms.{ReducedForm}
 use Rattle.graph_steps.specs.internal.Settling.{distance}
 
 -- two buffers held a record, and hold one with the same group, which no line refuses
-pub record Kept (words codes words′ codes′ : List ℕ) : Type 0 where
+pub record GroupKept (words codes words′ codes′ : List ℕ) : Type 0 where
   pub long : length words′ ≡ length words
   pub unrefused : Unrefused (recordIn words′ codes′)
   pub group : SameGroup (length words) (length words) (heldRows (recordIn words codes))
@@ -35,19 +35,19 @@ unsettled words codes j =
 
 -- one step towards the reduced form
 pub record Nearer (words codes words′ codes′ : List ℕ) : Type 0 where
-  pub kept : Kept words codes words′ codes′
+  pub kept : GroupKept words codes words′ codes′
   pub less : distance (length words) (heldRecord (recordIn words′ codes′))
       < distance (length words) (heldRecord (recordIn words codes))
 
 -- the reduced form is reached: the buffers hold the reduced record of the group
 pub record Normalised (words codes words′ codes′ : List ℕ) : Type 0 where
-  pub kept : Kept words codes words′ codes′
+  pub kept : GroupKept words codes words′ codes′
   pub form : ReducedForm (length words) (heldRecord (recordIn words′ codes′))
   pub after : Rewritten words codes (λ g. reduced (length words) (rowsOf (length words) g)) words′ codes′
 
 -- the code at q sends Z to plus or minus this letter
-pub record Faced (words codes : List ℕ) (q : ℕ) (l : Letter) (words′ codes′ : List ℕ) : Type 0 where
-  pub kept : Kept words codes words′ codes′
+pub record BroughtToZ (words codes : List ℕ) (q : ℕ) (l : Letter) (words′ codes′ : List ℕ) : Type 0 where
+  pub kept : GroupKept words codes words′ codes′
   pub sends-z : image (codesOf codes′ q) Z ≡ l
 
 -- two buffers held a record, and hold one with the group after a measurement of l at q

@@ -3,9 +3,9 @@ use Prim.Native.Nat.{_<_}
 use native.Mathlib.Omega.{arith}
 use borrow.Author.Needs.{needs}
 use Rattle.buffers.proofs.OverSets.{next-in, next-less, next-short}
-use Rattle.operations_measurements.proofs.Parting.{Parting, part-end, part-more, part-start}
-use Rattle.operations_measurements.proofs.isolation.part_edges.Statement.{statement}
-use Rattle.operations_measurements.proofs.isolation.part_edges.Tie as tie
+use Rattle.operations_measurements.proofs.RemovedEdges.{Parting, part-end, part-more, part-start}
+use Rattle.operations_measurements.proofs.isolation.remove_edges.Statement.{statement}
+use Rattle.operations_measurements.proofs.isolation.remove_edges.Tie as tie
 
 abbrev Inv-loop : tie.InvT-loop
 Inv-loop neighbours₀ q rest₀ neighbours rest = Parting neighbours₀ q neighbours rest
@@ -107,8 +107,8 @@ returns c =
     part-end _ (start .args .q) (start .pre .1) _ _ inv
     (subst (λ m. start .args .q < m) (sym (inv .long)) (start .pre .0 .1)) (c .loop-test .left)
 
-pub part-edges-spec : {M : Type 1} → statement M
-part-edges-spec =
+pub remove-edges-spec : {M : Type 1} → statement M
+remove-edges-spec =
     tie.close
     (tie.spec
     Inv-loop

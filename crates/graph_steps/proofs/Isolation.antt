@@ -1,4 +1,4 @@
--- A vertex whose Z is measured and cut off: the group of the record is the group after the measurement.
+-- A vertex whose Z is measured and isolated: the group of the record is the group after the measurement.
 -- Assumes nothing.
 use mathlib.Core.Bool.{_&&_, Bool, and-comm, and-false, cond, false, not, true, true≢false}
 use mathlib.Core.Logic.{_≢_}
@@ -67,7 +67,7 @@ use Rattle.graph_steps.proofs.CzProducts.{scaled-scaled}
 use Rattle.graph_steps.proofs.Places.{act-single, pauli-generator}
 use Rattle.graph_steps.proofs.Reaching.{single-z}
 use Rattle.graph_steps.proofs.ZRows.{chosen-zs, zs}
-use Rattle.graph_steps.specs.internal.Steps.{cutOff, hadamardCode, pauliCode}
+use Rattle.graph_steps.specs.internal.Steps.{isolated, hadamardCode, pauliCode}
 
 -- ---- letters
 z-acts : (k : Class) → acts (imageZ k) ≡ true
@@ -139,14 +139,14 @@ module _ (n : ℕ) (r : GraphRecord) (S : Simple n (r .graph)) (q : ℕ) (hq : q
   P = single l q b
 
   abbrev after : GraphRecord
-  after = cutOff r q t
+  after = isolated r q t
 
   abbrev R : ℕ → Pauli
   R = rowsOf n r
 
   -- ---- the graph
-  pub cut-simple : Simple n ((cutOff r q (b ⊕ (r .codes q) .sz)) .graph)
-  cut-simple =
+  pub isolated-simple : Simple n ((isolated r q (b ⊕ (r .codes q) .sz)) .graph)
+  isolated-simple =
       record {
         symmetric = λ i j. ap₂ _&&_ (S .symmetric i j) (and-comm (not (eqb i q)) (not (eqb j q)));
         loopless = λ i. ap (λ e. e && (not (eqb i q) && not (eqb i q))) (S .loopless i);
@@ -176,7 +176,7 @@ module _ (n : ℕ) (r : GraphRecord) (S : Simple n (r .graph)) (q : ℕ) (hq : q
   -- ---- the generators
   own-row : rowsOf n after q ≡ P
   own-row =
-      alone-row n after cut-simple q hq no-edge
+      alone-row n after isolated-simple q hq no-edge
       ∙ ap (λ k. single (image k X) q (k .sx)) (put-same _ q (then (hadamardCode t) (c q)))
       ∙ ap₂ (λ m s. single m q s) (hadamard-x ((c q) .class))
       (ap (λ s. t ⊕ s) (sign-minus ((c q) .sz)) ∙ ⊕-twice b ((c q) .sz))
@@ -205,7 +205,7 @@ module _ (n : ℕ) (r : GraphRecord) (S : Simple n (r .graph)) (q : ℕ) (hq : q
       → rowsOf n after j ≡ scaled (minus (t && θ q j)) (mul n (R j) (chosen (θ q j) (single l q ((c q) .sz))))
   other-row j h d =
       act-agree n (after .codes) (λ i. then (pauliCode false (t && θ q i)) (c i)) (graphGenerator (after .graph) j) q
-      (λ i e. put-other _ q (then (hadamardCode t) (c q)) i e) (cut-simple .symmetric j q ∙ no-edge j)
+      (λ i e. put-other _ q (then (hadamardCode t) (c q)) i e) (isolated-simple .symmetric j q ∙ no-edge j)
       (other-place (λ e. d (sym e)))
       ∙ act-then n (λ i. pauliCode false (t && θ q i)) c (graphGenerator (after .graph) j)
       ∙ ap (act n c)
@@ -270,16 +270,16 @@ module _ (n : ℕ) (r : GraphRecord) (S : Simple n (r .graph)) (q : ℕ) (hq : q
   open-z = never-true (isDetermined n R l q) (λ e. true≢false (sym (images-clash ((c q) .class))
       ∙ ap (clash l) (determined-alone n r S q hq l (z-acts ((c q) .class)) .0 e .0) ∙ clash-self l))
 
-  pub cut-same : SameGroup n n (rowsOf n (cutOff r q (b ⊕ (r .codes q) .sz)))
+  pub isolated-same : SameGroup n n (rowsOf n (isolated r q (b ⊕ (r .codes q) .sz)))
       (measuredRows n (rowsOf n r) (image (r .codes q) Z) q b)
-  cut-same =
-      inclusion-same n (rowsOf n after) (measuredRows n R l q b) (record-proper n after cut-simple)
+  isolated-same =
+      inclusion-same n (rowsOf n after) (measuredRows n R l q b) (record-proper n after isolated-simple)
       (measured-proper n R (record-proper n r S) l q hq b)
       (λ j h. measured-group n R (record-proper n r S) l q hq open-z b (rowsOf n after j) .1 (member j h))
 
-  pub cut-above : ((i : ℕ) → n ≤ i → r .codes i ≡ identityClifford)
-      → (i : ℕ) → n ≤ i → (cutOff r q (b ⊕ (r .codes q) .sz)) .codes i ≡ identityClifford
-  cut-above above i h =
+  pub isolated-above : ((i : ℕ) → n ≤ i → r .codes i ≡ identityClifford)
+      → (i : ℕ) → n ≤ i → (isolated r q (b ⊕ (r .codes q) .sz)) .codes i ≡ identityClifford
+  isolated-above above i h =
       put-other _ q (then (hadamardCode t) (c q)) i (λ e. absurd (omega (arith, e)))
       ∙ ap₂ (λ v k. then (pauliCode false v) k) (ap (λ v. t && v) (S .below q i h) ∙ and-false t) (above i h)
       ∙ cliffords 0 (then (pauliCode false false) identityClifford) identityClifford tt

@@ -3,9 +3,9 @@ use mathlib.Core.Path.{sym, _∙_}
 use borrow.Author.Needs.{needs}
 use Rattle.graph_steps.proofs.Keeping.{kept-refl}
 use Rattle.operations.proofs.UnrefusedRecords.{unrefused-codes, unrefused-place}
-use Rattle.operations_measurements.proofs.Facing.{faces-y, faces-y-kept, neighbour-below}
-use Rattle.operations_measurements.proofs.isolation.face_y.Statement.{statement}
-use Rattle.operations_measurements.proofs.isolation.face_y.Tie as tie
+use Rattle.operations_measurements.proofs.BringingToZ.{clears-x, clears-x-kept, neighbour-below}
+use Rattle.operations_measurements.proofs.isolation.clear_x.Statement.{statement}
+use Rattle.operations_measurements.proofs.isolation.clear_x.Tie as tie
 
 slice-read-sends : tie.Need-slice-read-sends
 slice-read-sends c =
@@ -52,8 +52,8 @@ returns c =
     let x = branch .before .sends .ensures .0 (branch .if1 .taken) in
     let e = at-smallest .smallest .ensures .0 in
     let R = at-complement .complement-record .ensures in (
-      faces-y-kept _ _ (start .0 .0) (begun .args .q) (start .0 .1) (begun .args .l) _ e (start .1 x) _ _ R,
-      faces-y _ _ (start .0 .0) (begun .args .q) (start .0 .1) (begun .args .l) _ e (start .1 x) _ _ R x,
+      clears-x-kept _ _ (start .0 .0) (begun .args .q) (start .0 .1) (begun .args .l) _ e (start .1 x) _ _ R,
+      clears-x _ _ (start .0 .0) (begun .args .q) (start .0 .1) (begun .args .l) _ e (start .1 x) _ _ R x,
     )
 
 returns-2 : tie.Need-returns-2
@@ -61,8 +61,8 @@ returns-2 c =
     let start = c .before .before .before .before .before .pre in
     (kept-refl _ _ (start .0 .0), λ x. true≢false (sym (c .before .sends .ensures .1 x) ∙ c .if1 .left))
 
-pub face-y-spec : {M : Type 1} → statement M
-face-y-spec =
+pub clear-x-spec : {M : Type 1} → statement M
+clear-x-spec =
     tie.close
     (tie.spec
     slice-read-sends

@@ -1,4 +1,4 @@
--- Impossible clicks are refused, from the call's contract: exactly these, and nothing is written.
+-- Contradicted outcomes are refused, from the call's contract: exactly these, and nothing is written.
 -- Assumes nothing.
 use mathlib.Core.Bool.{not, true}
 use mathlib.Core.Logic.{_↔_}
@@ -15,7 +15,7 @@ use Rattle.call_gates.proofs.InPlaceLines.{held-accepted, measure-ready}
 use Rattle.call_gates.proofs.MeasureLines.{fourteen-exactly}
 use Rattle.stabilizer.specs.Groups.{InGroup}
 use Rattle.words.specs.Bits.{isOdd}
-use Rattle.claims.specs.OperationsDemand.{ImpossibleClicksRefused, left, signedPauli}
+use Rattle.claims.specs.OperationsDemand.{ContradictionsRefused, left, signedPauli}
 
 -- where the arguments are in order, the bit is contradicted exactly if the Pauli with the other sign is in the group
 pub contradicted-by-group : (l : LentRecord) (pauli q b : ℕ) → firstFitting (argumentLines l pauli q b) ≡ 0
@@ -26,8 +26,8 @@ contradicted-by-group l pauli q b e =
     contradicts-exactly (l .n) (heldRows l) (pauliLetter pauli) q (isOdd b) (A .proper)
     (subst (λ m. q < m) (A .neighbours-length) (measure-ready l pauli q b e .0 .1))
 
-pub impossible-clicks-refused : ImpossibleClicksRefused
-impossible-clicks-refused l pauli q b answer determined r nb′ cs′ answer′ determined′ C =
+pub contradictions-refused : ContradictionsRefused
+contradictions-refused l pauli q b answer determined r nb′ cs′ answer′ determined′ C =
     record {
       exactly = (
         (λ e. let h = fourteen-exactly l pauli q b .0 (sym (C .number) ∙ e) in

@@ -4,7 +4,7 @@ use mathlib.Core.List.{List, [], _∷_}
 use Prim.Native.Nat.{ℕ}
 use lib.ListN.{length}
 use Rattle.buffers.specs.Buffers.{written}
-use Rattle.contracts.specs.Calls.{Contract, buffer, contract, number}
+use Rattle.contracts.specs.Calls.{Contract, buffer, contractOf, number}
 use Rattle.generator.specs.Drawn.{generatedText}
 use Rattle.generator.specs.Lines.{generateLines}
 
@@ -12,6 +12,6 @@ use Rattle.generator.specs.Lines.{generateLines}
 -- past the text keep their values"
 abbrev pub generateCall : ℕ → ℕ → ℕ → List ℕ → ℕ → List ℕ → ℕ → Contract
 generateCall n count seed text size text′ size′ =
-    contract (generateLines n count seed text)
+    contractOf (generateLines n count seed text)
     (buffer text (written (generatedText n count seed) text) text′
     ∷ number size (length (generatedText n count seed)) size′ ∷ [])
