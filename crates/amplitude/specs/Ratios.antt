@@ -22,6 +22,7 @@ Leads n p a b = (q : ℕ) → q < n → p .x q ≡ a q ⊕ b q
 abbrev pub chosenBy : ℕ → (ℕ → Pauli) → ℕ → Pauli
 chosenBy n R v = product n n (bit v) R
 
+-- the same as a test, by search over the products of the generators
 unfoldable pub isSupported : ℕ → (ℕ → Pauli) → ℕ → Bool
 isSupported n R y = every (2 ^ n) (λ v. some n (λ q. (chosenBy n R v) .x q)
     || samePhase (turnsAt n (chosenBy n R v) (bit y)) i⁰)

@@ -22,9 +22,11 @@ pub record Gaussian : Type 0 where
   pub re : ℤ
   pub im : ℤ
 
+-- 0
 abbrev pub none : Gaussian
 none = record { re = pos 0; im = pos 0 }
 
+-- 1
 abbrev pub one : Gaussian
 one = record { re = pos 1; im = pos 0 }
 

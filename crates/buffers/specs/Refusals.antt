@@ -12,6 +12,7 @@ pub record Refusal : Type 0 where
   pub number : ℕ
   pub holds : Bool
 
+-- a line with its number and its test
 abbrev pub line : ℕ → Bool → Refusal
 line k b = record { number = k; holds = b }
 

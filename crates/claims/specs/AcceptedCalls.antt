@@ -68,9 +68,11 @@ pub record CompareFits (l m : GeneratorList) (choice list : List ℕ) : Type 0 w
 abbrev pub ExpandFits : LentRecord → List ℕ → List ℕ → List ℕ → Type 0
 ExpandFits l s z x = AcceptedRecord l × (length s ≡ l .n) × (length z ≡ l .n) × (length x ≡ l .n)
 
+-- a record, a qubit and a code
 abbrev pub GateFits : LentRecord → ℕ → ℕ → Type 0
 GateFits l q k = AcceptedRecord l × (q < l .n) × (k < 24)
 
+-- a record and two qubits
 abbrev pub CzFits : LentRecord → ℕ → ℕ → Type 0
 CzFits l a b = AcceptedRecord l × (a < l .n) × (b < l .n) × (a ≢ b)
 
@@ -83,9 +85,11 @@ pub record MeasureFits (l : LentRecord) (pauli q b : ℕ) : Type 0 where
   pub bit : b < 2
   pub possible : InGroup (l .n) (l .n) (heldRows l) (signedPauli pauli q (not (isOdd b))) → ⊥
 
+-- a record and a vertex
 abbrev pub ComplementFits : LentRecord → ℕ → Type 0
 ComplementFits l a = AcceptedRecord l × (a < l .n)
 
+-- a record and an edge of its graph
 abbrev pub PivotFits : LentRecord → ℕ → ℕ → Type 0
 PivotFits l j k = AcceptedRecord l × (j < l .n) × (k < l .n) × ((heldRecord l) .graph j k ≡ true)
 
@@ -97,6 +101,7 @@ pub record ImageFits (l : LentRecord) (image signs list : List ℕ) : Type 0 whe
   pub list-places : length list ≡ 96
   pub is-graph : UnsignedGraph (l .n) (heldRows l)
 
+-- a record and a word that marks a side
 abbrev pub CutFits : LentRecord → ℕ → Type 0
 CutFits l side = AcceptedRecord l × (side < 2 ^ (l .n))
 

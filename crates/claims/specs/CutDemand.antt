@@ -28,6 +28,7 @@ pub record CutAnswer (l : LentRecord) (side rank′ : ℕ) : Type 0 where
   pub empty : side ≡ 0 → rank′ ≡ 0
   pub full : side ≡ 2 ^ (l .n) - 1 → rank′ ≡ 0
 
+-- of every accepted call
 abbrev pub CutsAnswer : Type 0
 CutsAnswer = (l : LentRecord) (side rank rank′ : ℕ) → Call (cutCall l side rank rank′) 0 → CutAnswer l side rank′
 
@@ -46,6 +47,7 @@ abbrev pub ComplementsKeepRanks : Type 0
 ComplementsKeepRanks = (l : LentRecord) (a : ℕ) (nb′ cs′ : List ℕ) → Call (inPlaceCall l (complementOf a) nb′ cs′) 0 →
     (side : Word) → rankAcross side (left l nb′ cs′) ≡ rankAcross side l
 
+-- a pivot, which is three complements, likewise
 abbrev pub PivotsKeepRanks : Type 0
 PivotsKeepRanks = (l : LentRecord) (j k : ℕ) (nb′ cs′ : List ℕ) → Call (inPlaceCall l (pivotOf j k) nb′ cs′) 0 →
     (side : Word) → rankAcross side (left l nb′ cs′) ≡ rankAcross side l

@@ -30,11 +30,13 @@ use Rattle.stabilizer.specs.Lists.{GeneratorList}
 abbrev pub published : List ℕ
 published = 1 ∷ 15 ∷ 2 ∷ 4 ∷ 5 ∷ 6 ∷ 7 ∷ 8 ∷ 9 ∷ 10 ∷ 3 ∷ 14 ∷ 11 ∷ 12 ∷ 13 ∷ []
 
+-- whether the numbers stand in the order of a list, some of its numbers left out
 abbrev pub isSubsequence : List ℕ → List ℕ → Bool
 isSubsequence order [] = true
 isSubsequence [] (k ∷ ks) = false
 isSubsequence (o ∷ order) (k ∷ ks) = cond (eqb o k) (isSubsequence order ks) (isSubsequence order (k ∷ ks))
 
+-- "in checking order": a call's lines stand in the order of the published list
 abbrev pub InOrder : List Refusal → Type 0
 InOrder lines = isSubsequence published (map (λ l. l .number) lines) ≡ true
 
@@ -58,6 +60,7 @@ pub record Answered (c : Contract) (r : ℕ) : Type 0 where
 abbrev pub AnswersSayAll : Type 0
 AnswersSayAll = (c : Contract) (r : ℕ) → Answers c r → Call c r
 
+-- demand 1 of every public call: what any contract of the one shape says, and what is to show of each call
 pub record FirstDemand : Type 0 where
   pub every : EveryCallAnswers
   pub check : (l : GeneratorList) → Conforms (checkCall l)

@@ -11,6 +11,7 @@ use Rattle.generator.specs.Drawn.{drawn}
 use Rattle.generator.specs.ReadBack.{ReadsBack}
 use Rattle.generator.specs.Shapes.{AllDrawable}
 
+-- what an accepted call of the generator writes
 pub record JobGenerated (n count seed : ℕ) (text text′ : List ℕ) (size′ : ℕ) : Type 0 where
   -- one step for each draw, with unused fields 0 and no CZ on one qubit
   pub steps : length (drawn n count seed) ≡ count
@@ -20,6 +21,7 @@ pub record JobGenerated (n count seed : ℕ) (text text′ : List ℕ) (size′ 
   pub fits : size′ ≤ 61463
   pub past : drop size′ text′ ≡ drop size′ text
 
+-- of every accepted call
 abbrev pub GeneratorDemand : Type 0
 GeneratorDemand = (n count seed : ℕ) (text : List ℕ) (size : ℕ) (text′ : List ℕ) (size′ : ℕ) →
     Call (generateCall n count seed text size text′ size′) 0 → JobGenerated n count seed text text′ size′

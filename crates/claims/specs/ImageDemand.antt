@@ -41,6 +41,7 @@ pub record ImageStands (l : LentRecord) (list image′ signs′ list′ : List �
   pub amount : count′ ≡ length (imageList (l .n) (heldRecord l))
   pub few : count′ ≤ 3 * l .n / 2
 
+-- which records are refused by 11 or 12, and what comes back otherwise
 pub record ImageDecided (l : LentRecord) (list : List ℕ) (r : ℕ) (image′ signs′ list′ : List ℕ) (count′ : ℕ) : Type
     0 where
   -- "One of lines 11 and 12 holds exactly when the image group, signs dropped, is that of no simple graph"

@@ -20,6 +20,7 @@ pub record StandsFor (l : LentRecord) (G : Pauli → Type 0) : Type 0 where
   pub still : StillRecord l
   pub elements : (p : Pauli) → InGroup (l .n) (l .n) (heldRows l) p ↔ G p
 
+-- of every job, after any number of its steps
 abbrev pub JobsStand : Type 0
 JobsStand = (n : ℕ) → 1 ≤ n → n ≤ 64 → (steps : List Step) (k : ℕ) →
     StandsFor (recordAfter n steps k) (GroupAfter (started n) (StartGroup n) (take k steps))

@@ -36,6 +36,7 @@ pub record Checked (l : GeneratorList) (r : ℕ) : Type 0 where
   pub clash : r ≡ 9 → TwoClash (l .n) (rows l)
   pub dependence : r ≡ 10 → Independent (l .n) (rows l) → ⊥
 
+-- of every call
 abbrev pub ChecksTell : Type 0
 ChecksTell = (l : GeneratorList) (r : ℕ) → Call (checkCall l) r → Checked l r
 
@@ -76,6 +77,7 @@ pub record ReducedTo (l : GeneratorList) (r : LentRecord) : Type 0 where
   pub form : ReductionOf (l .n) (rows l) (heldRecord r)
   pub words : ReducedInWords (l .n) (rows l) (heldRecord r)
 
+-- of every accepted call
 abbrev pub ReductionAnswers : Type 0
 ReductionAnswers = (l : GeneratorList) (nb cs nb′ cs′ : List ℕ) → Call (reduceCall l nb cs nb′ cs′) 0 →
     ReducedTo l (record { n = l .n; neighbours = nb′; codes = cs′ })

@@ -53,6 +53,7 @@ pub record GateStands (l : LentRecord) (q k : ℕ) (after : LentRecord) : Type 0
   pub applied : SameGroup (l .n) (l .n) (rowsOf (l .n) (gated (heldRecord l) q (cliffordOf k))) (heldRows after)
   pub group : Carries (l .n) (only q (cliffordOf k)) (heldRows l) (heldRows after)
 
+-- of every accepted call
 abbrev pub GatesFollow : Type 0
 GatesFollow = (l : LentRecord) (q k : ℕ) (nb′ cs′ : List ℕ) → Call (inPlaceCall l (gateWith q k) nb′ cs′) 0 →
     GateStands l q k (left l nb′ cs′)
@@ -66,6 +67,7 @@ pub record CzStands (l : LentRecord) (a b : ℕ) (after : LentRecord) : Type 0 w
   pub group : (p : Pauli) → InGroup (l .n) (l .n) (heldRows after) p
       ↔ ((r : Pauli) × InGroup (l .n) (l .n) (heldRows l) r × (p ≡ cz a b r))
 
+-- of every accepted call
 abbrev pub CzFollows : Type 0
 CzFollows = (l : LentRecord) (a b : ℕ) (nb′ cs′ : List ℕ) → Call (inPlaceCall l (czOn a b) nb′ cs′) 0 →
     CzStands l a b (left l nb′ cs′)
@@ -75,6 +77,7 @@ CzFollows = (l : LentRecord) (a b : ℕ) (nb′ cs′ : List ℕ) → Call (inPl
 abbrev pub signedPauli : ℕ → ℕ → Bool → Pauli
 signedPauli pauli q s = single (pauliLetter pauli) q s
 
+-- what an accepted measurement answers and leaves
 pub record MeasurementStands (l : LentRecord) (pauli q b : ℕ) (after : LentRecord) (answer′ determined′ : ℕ) : Type
     0 where
   pub still : StillRecord after
@@ -94,6 +97,7 @@ pub record MeasurementStands (l : LentRecord) (pauli q b : ℕ) (after : LentRec
   pub joined : determined′ ≡ 0 → (p : Pauli) → InGroup (l .n) (l .n) (heldRows after) p
       ↔ Measured (l .n) (heldRows l) (signedPauli pauli q (isOdd b)) p
 
+-- of every accepted call
 abbrev pub MeasurementsFollow : Type 0
 MeasurementsFollow =
     (l : LentRecord) (pauli q b answer determined : ℕ) (nb′ cs′ : List ℕ) (answer′ determined′ : ℕ) →
@@ -111,6 +115,7 @@ pub record OutcomeContradicted (l : LentRecord) (pauli q b answer determined r :
   pub record-kept : r ≡ 14 → left l nb′ cs′ ≡ l
   pub answers-kept : r ≡ 14 → (answer′ ≡ answer) × (determined′ ≡ determined)
 
+-- of every call, with any number
 abbrev pub ContradictionsRefused : Type 0
 ContradictionsRefused =
     (l : LentRecord) (pauli q b answer determined r : ℕ) (nb′ cs′ : List ℕ) (answer′ determined′ : ℕ) →
@@ -123,10 +128,12 @@ pub record RewrittenAs (l after : LentRecord) (new : GraphRecord) : Type 0 where
   pub holds : SameRecord (heldRecord after) new
   pub group : SameGroup (l .n) (l .n) (heldRows l) (heldRows after)
 
+-- of every accepted complement
 abbrev pub ComplementsKeep : Type 0
 ComplementsKeep = (l : LentRecord) (a : ℕ) (nb′ cs′ : List ℕ) → Call (inPlaceCall l (complementOf a) nb′ cs′) 0 →
     RewrittenAs l (left l nb′ cs′) (complementRecord (heldRecord l) a)
 
+-- of every accepted pivot
 abbrev pub PivotsKeep : Type 0
 PivotsKeep = (l : LentRecord) (j k : ℕ) (nb′ cs′ : List ℕ) → Call (inPlaceCall l (pivotOf j k) nb′ cs′) 0 →
     RewrittenAs l (left l nb′ cs′) (pivotRecord (heldRecord l) j k)

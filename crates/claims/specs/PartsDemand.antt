@@ -76,6 +76,7 @@ pub record DecidedByParts (l m : GeneratorList) (choice list : List ℕ) (r : �
       ((q t : ℕ) → part l q t ≡ part m q t) →
       (r ≡ 0) ↔ ((q : ℕ) → q < l .n → (c : ℕ → Clifford) × CarriesOn (l .n) (part l q) c (rows l) (rows m))
 
+-- of every call
 abbrev pub ComparedByParts : Type 0
 ComparedByParts =
     (l m : GeneratorList) (choice list : List ℕ) (counted r : ℕ) (choice′ list′ : List ℕ) (counted′ : ℕ) →

@@ -56,6 +56,7 @@ pub record ListTextAnswered (t bytes : List ℕ) : Type 0 where
   pub accepted : (ls : List ListLine) → TextOf ls t → firstFitting (checkLines (listRead ls)) ≡ 0 →
       RecordPrinted (listRead ls) bytes
 
+-- of every response of `reduce`
 abbrev pub ListTextsAnswered : Type 0
 ListTextsAnswered =
     (t before after : List ℕ) (end : ℕ) → ListResponse t before after end → ListTextAnswered t (take end after)
@@ -113,6 +114,7 @@ pub record JobTextAnswered (t bytes : List ℕ) : Type 0 where
   pub accepted : (n : ℕ) (steps : List Step) → JobTextOf n steps t → length steps ≤ 4096 → 1 ≤ n → n ≤ 64 →
       JobPrinted n steps bytes
 
+-- of every response of `job`
 abbrev pub JobTextsAnswered : Type 0
 JobTextsAnswered =
     (t before after : List ℕ) (end : ℕ) → JobResponse t before after end → JobTextAnswered t (take end after)

@@ -26,6 +26,7 @@ pub record BroughtBack (l : LentRecord) (back : GeneratorList) : Type 0 where
   pub generators : (j : ℕ) → j < l .n → rows back j ≡ heldRows l j
   pub group : SameGroup (l .n) (l .n) (heldRows l) (rows back)
 
+-- of every accepted call
 abbrev pub ExpansionBringsBack : Type 0
 ExpansionBringsBack =
     (l : LentRecord) (s z x s′ z′ x′ : List ℕ) → Call (expandCall l s z x s′ z′ x′) 0 →

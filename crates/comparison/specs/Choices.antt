@@ -27,6 +27,7 @@ isCarrying n c rows others =
 abbrev pub FirstDiffers : ℕ → (ℕ → ℕ) → (ℕ → ℕ) → Type 0
 FirstDiffers n f g = (q : ℕ) × (q < n) × ((t : ℕ) → t < q → f t ≡ g t) × (f q < g q)
 
+-- the number of its class
 abbrev pub classKey : Clifford → ℕ
 classKey c = classNumber (c .class)
 
@@ -63,6 +64,7 @@ digitAt b n a q = a / b ^ (n - suc q) % b
 unfoldable pub choice : ℕ → ℕ → ℕ → ℕ
 choice n k q = cond (ltb q n) (4 * digitAt 6 n (k / 4 ^ n) q + digitAt 4 n (k % 4 ^ n) q) 0
 
+-- choice number k, as Cliffords
 abbrev pub choiceAt : ℕ → ℕ → ℕ → Clifford
 choiceAt n k q = cliffordOf (choice n k q)
 

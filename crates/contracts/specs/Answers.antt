@@ -24,6 +24,7 @@ abbrev pub HoldsAnswer : Lent → Type 0
 HoldsAnswer (buffer before answer after) = after ≡ answer
 HoldsAnswer (number before answer after) = after ≡ answer
 
+-- the three together: which number, what a refused call leaves, what an accepted one does
 pub record Answers (c : Contract) (r : ℕ) : Type 0 where
   pub first : FirstFits (c .lines) r
   pub refused : (r ≡ 0 → ⊥) → EachOf Unchanged (c .lent)

@@ -13,6 +13,7 @@ pub data Lent : Type 0 where
   buffer : List ℕ → List ℕ → List ℕ → Lent
   number : ℕ → ℕ → ℕ → Lent
 
+-- P holds of each that is lent
 abbrev pub EachOf : (Lent → Type 0) → List Lent → Type 0
 EachOf P [] = Unit
 EachOf P (b ∷ bs) = P b × EachOf P bs
@@ -27,6 +28,7 @@ pub record Contract : Type 0 where
   pub lines : List Refusal
   pub lent : List Lent
 
+-- a contract with these lines and these buffers
 abbrev pub contractOf : List Refusal → List Lent → Contract
 contractOf lines lent = record { lines = lines; lent = lent }
 

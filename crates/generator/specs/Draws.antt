@@ -7,6 +7,7 @@ use lib.Bits.{bitXor}
 abbrev pub shiftedLeft : ℕ → ℕ → ℕ
 shiftedLeft s k = (s * 2 ^ k) % 2 ^ 64
 
+-- s shifted right
 abbrev pub shiftedRight : ℕ → ℕ → ℕ
 shiftedRight s k = s / 2 ^ k
 
@@ -14,6 +15,7 @@ shiftedRight s k = s / 2 ^ k
 abbrev pub xorLeft : ℕ → ℕ → ℕ
 xorLeft k s = bitXor s (shiftedLeft s k)
 
+-- "s xor s shifted right"
 abbrev pub xorRight : ℕ → ℕ → ℕ
 xorRight k s = bitXor s (shiftedRight s k)
 

@@ -19,6 +19,7 @@ use Rattle.image.specs.Rule.{follow, imageList, stateOf}
 abbrev pub imageRecord : ℕ → GraphRecord → GraphRecord
 imageRecord n r = complementAll r (imageList n r)
 
+-- the image graph: that record's graph
 abbrev pub imageGraph : ℕ → GraphRecord → Graph
 imageGraph n r = (imageRecord n r) .graph
 
@@ -31,6 +32,7 @@ imageMinus n r j = member n (rowsOf n r) (scaled i² (graphGenerator (imageGraph
 abbrev pub InUnsigned : ℕ → (ℕ → Pauli) → Pauli → Type 0
 InUnsigned n rows p = (s : Bool) × InGroup n n rows (scaled (minus s) p)
 
+-- "signs dropped, .. that of a simple graph": equal groups, up to the sign of each element
 pub record UnsignedGraph (n : ℕ) (rows : ℕ → Pauli) : Type 0 where
   pub graph : Graph
   pub simple : Simple n graph
@@ -42,6 +44,7 @@ pub record UnsignedGraph (n : ℕ) (rows : ℕ → Pauli) : Type 0 where
 unfoldable pub stuck : ℕ → GraphRecord → Bool
 stuck n r = some n ((follow (stateOf r) (imageList n r)) .C)
 
+-- whether a letter is Y
 abbrev pub isY : Letter → Bool
 isY l = zBit l && xBit l
 

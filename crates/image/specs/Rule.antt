@@ -17,6 +17,7 @@ pub record State : Type 0 where
   pub C : Word
   pub D : Word
 
+-- the bits of a record's codes
 abbrev pub stateOf : GraphRecord → State
 stateOf r = record { graph = r .graph; C = λ q. bitC (r .codes q); D = λ q. bitD (r .codes q) }
 
@@ -30,6 +31,7 @@ complementedAt S v =
       D = λ u. cond (S .graph v u) (S .C u ⊕ S .D u) (S .D u);
     }
 
+-- complementing at each vertex of a list, one after another
 abbrev pub follow : State → List ℕ → State
 follow S [] = S
 follow S (v ∷ vs) = follow (complementedAt S v) vs
@@ -47,6 +49,7 @@ onlyC S v = S .C v && not (S .D v)
 abbrev pub pair : State → ℕ → ℕ → Bool
 pair S j k = ltb j k && (S .graph j k && (onlyC S j && onlyC S k))
 
+-- whether some k forms such a pair with j
 abbrev pub hasPair : ℕ → State → ℕ → Bool
 hasPair n S j = some n (pair S j)
 

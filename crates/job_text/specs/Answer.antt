@@ -17,13 +17,15 @@ use Rattle.job_text.specs.Lines.{jobLines}
 use Rattle.job_text.specs.Results.{Result, jobAnswer}
 use Rattle.job_text.specs.Text.{HasJobForm, JobTextOf}
 
--- what is printed of step k of a run
+-- the answer of no step
 abbrev pub noAnswer : Answer
 noAnswer = record { refusal = 0; outcome = 0; determined = 0 }
 
+-- what is printed of an answer
 abbrev pub resultOf : Answer → Result
 resultOf r = record { refusal = r .refusal; outcome = r .outcome; determined = r .determined }
 
+-- what is printed of step k of a run from the record l
 abbrev pub resultsOf : LentRecord → List Step → ℕ → Result
 resultsOf l steps k = resultOf (getD (stepAnswers l steps) k noAnswer)
 

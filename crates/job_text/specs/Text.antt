@@ -53,6 +53,7 @@ stepsText (s ∷ ss) = stepText s ++ stepsText ss
 abbrev pub qubitsLine : List ℕ
 qubitsLine = 113 ∷ 117 ∷ 98 ∷ 105 ∷ 116 ∷ 115 ∷ 10 ∷ []
 
+-- "then the line `op a b value`"
 abbrev pub stepNames : List ℕ
 stepNames = 111 ∷ 112 ∷ 32 ∷ 97 ∷ 32 ∷ 98 ∷ 32 ∷ 118 ∷ 97 ∷ 108 ∷ 117 ∷ 101 ∷ 10 ∷ []
 

@@ -33,6 +33,7 @@ operationOf Measure a b value = measurementOf (value / 2 + 1) a (value % 2)
 operationOf Complement a b value = complementOf a
 operationOf Pivot a b value = pivotOf a b
 
+-- what a step asks
 abbrev pub asked : Step → Operation
 asked s = operationOf (s .op) (s .a) (s .b) (s .value)
 

@@ -65,6 +65,7 @@ IsContradicted G (measurementOf pauli q b) = G (single (pauliLetter pauli) q (no
 IsContradicted G (complementOf a) = ⊥
 IsContradicted G (pivotOf j k) = ⊥
 
+-- a step is refused: by its fields, which give 6 or 8, or by the group, which gives 14
 pub data Refused (l : LentRecord) (G : Pauli → Type 0) (s : Step) : Type 0 where
   -- 6 and 8
   by-fields : (firstFitting (withTest 6 (unusedSet (s .op) (s .b) (s .value)) (argumentsOf l (asked s))) ≡ 0 → ⊥) →

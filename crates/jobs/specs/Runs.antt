@@ -48,6 +48,7 @@ outcomeOf l (measurementOf pauli q b) = outcomeNumber (measuredAnswer l pauli q 
 outcomeOf l (complementOf a) = 0
 outcomeOf l (pivotOf j k) = 0
 
+-- 1 where the outcome is determined
 abbrev pub determinedOf : LentRecord → Operation → ℕ
 determinedOf l (gateWith q k) = 0
 determinedOf l (czOn a b) = 0

@@ -44,6 +44,7 @@ measureLines l pauli q b =
     argumentLines l pauli q b
     ++ (line 14 (contradicts (l .n) (heldRows l) (pauliLetter pauli) q (isOdd b)) ∷ [])
 
+-- 8: "A qubit number is n or more", for the vertex of a complement
 abbrev pub complementLines : LentRecord → ℕ → List Refusal
 complementLines l a = inPlaceLines l false (leb (l .n) a)
 
@@ -60,6 +61,7 @@ pub data Operation : Type 0 where
   complementOf : ℕ → Operation
   pivotOf : ℕ → ℕ → Operation
 
+-- the lines of each
 abbrev pub linesOf : LentRecord → Operation → List Refusal
 linesOf l (gateWith q k) = gateLines l q k
 linesOf l (czOn a b) = czLines l a b

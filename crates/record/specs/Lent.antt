@@ -32,6 +32,7 @@ heldRows l = rowsOf (l .n) (heldRecord l)
 abbrev pub neighbourWords : ℕ → GraphRecord → List ℕ
 neighbourWords n r = tabulate n (λ j. wordOf n (r .graph j))
 
+-- and its codes, one number for each vertex
 abbrev pub codeNumbers : ℕ → GraphRecord → List ℕ
 codeNumbers n r = tabulate n (λ q. codeOf (r .codes q))
 

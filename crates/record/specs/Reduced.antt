@@ -50,6 +50,7 @@ needsHadamard n rows q = ltb q n && isColumnDependent n (xWords rows) q
 abbrev pub hadamardWhere : Word → ℕ → Clifford
 hadamardWhere h q = cond (h q) (cliffordOf 8) identityClifford
 
+-- the list with these Hadamards
 abbrev pub rotatedRows : ℕ → (ℕ → Pauli) → ℕ → Pauli
 rotatedRows n rows j = act n (hadamardWhere (needsHadamard n rows)) (rows j)
 
@@ -57,6 +58,7 @@ rotatedRows n rows j = act n (hadamardWhere (needsHadamard n rows)) (rows j)
 abbrev pub xOnlyAt : ℕ → (ℕ → Pauli) → ℕ → ℕ → Bool
 xOnlyAt n rows j v = every n (λ q. sameBit ((product n n (bit v) rows) .x q) (eqb q j))
 
+-- that generator, for qubit j
 unfoldable pub reducedRow : ℕ → (ℕ → Pauli) → ℕ → Pauli
 reducedRow n rows j =
     product n n (bit (first (2 ^ n) (xOnlyAt n (rotatedRows n rows) j))) (rotatedRows n rows)
@@ -69,6 +71,7 @@ graphOf n rows j q = (ltb j n && ltb q n) && ((rows j) .z q && not (eqb q j))
 unfoldable pub ysOf : ℕ → (ℕ → Pauli) → Word
 ysOf n rows q = ltb q n && (rows q) .z q
 
+-- whether the sign is minus; false at and above n
 unfoldable pub minusesOf : ℕ → (ℕ → Pauli) → Word
 minusesOf n rows q = ltb q n && signBit ((rows q) .phase)
 
@@ -88,5 +91,6 @@ reduced n rows = recordOf n (needsHadamard n rows) (reducedRow n rows)
 abbrev pub reducedGraph : ℕ → (ℕ → Pauli) → Graph
 reducedGraph n rows = (reduced n rows) .graph
 
+-- the codes of that record
 abbrev pub reducedCode : ℕ → (ℕ → Pauli) → ℕ → Clifford
 reducedCode n rows = (reduced n rows) .codes

@@ -54,6 +54,7 @@ clashing n R = some n (λ i. some n (λ j. anticommute n (R i) (R j)))
 abbrev pub letterless : ℕ → Pauli → Bool
 letterless n p = every n (λ q. not (p .x q) && not (p .z q))
 
+-- some product of them, not the empty one, is letterless
 unfoldable pub dependent : ℕ → (ℕ → Pauli) → Bool
 dependent n R = some (2 ^ n) (λ v. not (eqb v 0) && letterless n (product n n (bit v) R))
 

@@ -21,9 +21,11 @@ hexText (suc k) w = hexText k (w / 16) ++ hexDigit (w % 16) ∷ []
 unfoldable pub decimal : ℕ → List ℕ
 decimal k = cond (ltb k 10) ((48 + k) ∷ []) ((48 + k / 10) ∷ (48 + k % 10) ∷ [])
 
+-- "fields parted by one space"
 abbrev pub space : List ℕ
 space = 32 ∷ []
 
+-- "every line ended by a newline"
 abbrev pub newline : List ℕ
 newline = 10 ∷ []
 

@@ -35,6 +35,7 @@ usedWrong u = some (u .held .n) (λ q. bit (u .used) q
 abbrev pub usedStray : UsedRecord → Bool
 usedStray u = leb (2 ^ (u .held .n)) (u .used)
 
+-- the lines of a record with its used word, in checking order
 abbrev pub usedLines : UsedRecord → Bool → Bool → Bool → List Refusal
 usedLines u others five six =
     withTest 7 (usedWrong u) (withTest 5 (usedStray u || five) (recordLines (u .held) others six))
@@ -60,10 +61,12 @@ usedAfter u (measurementOf pauli q b) = wordOf (u .held .n) (λ t. bit (u .used)
 usedAfter u (complementOf a) = u .used
 usedAfter u (pivotOf j k) = u .used
 
+-- what a step leaves: its number, and the record and the used word after it
 pub record UsedStep : Type 0 where
   pub number : ℕ
   pub after : UsedRecord
 
+-- a step on a record with its used word
 abbrev pub usedStep : UsedRecord → Operation → UsedStep
 usedStep u o =
     record {

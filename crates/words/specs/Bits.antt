@@ -33,9 +33,11 @@ Word = ℕ → Bool
 abbrev pub parity : ℕ → Word → Bool
 parity = fold false _⊕_
 
+-- whether a number is odd: its bit 0
 abbrev pub isOdd : ℕ → Bool
 isOdd n = eqb (n % 2) 1
 
+-- a bit as a number
 abbrev pub digit : Bool → ℕ
 digit false = 0
 digit true = 1
