@@ -3,7 +3,7 @@
 use mathlib.Core.Bool.{Bool, false, not, true, _||_}
 use mathlib.Core.List.{List}
 use mathlib.Core.Path.{ap, ap₂, refl, subst, sym, _∙_, _≡_}
-use Prim.Native.Nat.{_<_, ℕ, _≤_}
+use Prim.Native.Nat.{ℕ, _≤_}
 use lib.Dec.{eqb}
 use lib.ListN.{length}
 use borrow.Author.Tests.{eqb-true, not-false}

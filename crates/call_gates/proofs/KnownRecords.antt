@@ -1,8 +1,7 @@
 -- A record that no line refuses: what a further argument makes of it.
 -- Assumes nothing.
 use mathlib.Core.Bool.{Bool, cond, false, or-true, true}
-use mathlib.Core.List.{List, [], _∷_}
-use mathlib.Core.Path.{ap, refl, subst, sym, _∙_, _≡_}
+use mathlib.Core.Path.{refl, subst, sym, _∙_, _≡_}
 use Prim.Native.Nat.{ℕ}
 use lib.Dec.{eqb}
 use borrow.Author.Tests.{eqb-true}

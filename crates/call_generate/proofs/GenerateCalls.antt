@@ -1,8 +1,7 @@
 -- The generator's call, from what the functions below it answer.
 -- Assumes nothing.
-use mathlib.Core.Bool.{false, true}
 use mathlib.Core.List.{List, _++_}
-use mathlib.Core.Path.{ap, refl, sym, _∙_, _≡_}
+use mathlib.Core.Path.{ap, refl, _∙_, _≡_}
 use Prim.Native.Nat.{_<_, ℕ, _≤_}
 use native.Mathlib.Nat.{zero-add}
 use lib.ListN.{drop, length}

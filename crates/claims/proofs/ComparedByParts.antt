@@ -2,7 +2,6 @@
 -- Assumes nothing.
 use mathlib.Core.Logic.{_↔_}
 use mathlib.Core.Path.{_≡_, refl}
-use Prim.Native.Nat.{ℕ}
 use Rattle.claims.proofs.AcceptedCallsHold.{accepted-exactly}
 use Rattle.claims.proofs.AcceptedPairs.{accepted-pair}
 use Rattle.claims.proofs.LinesExactly.{list-exactly}

@@ -16,7 +16,7 @@ use Rattle.pauli.proofs.PhaseLaws.{+ᵖ-assoc, +ᵖ-zero, phases}
 use Rattle.pauli.specs.Pauli.{_+ᵖ_, Pauli, Phase, i⁰, minus}
 use Rattle.record.specs.Records.{GraphRecord, rowsOf}
 use Rattle.stabilizer.specs.Groups.{InGroup}
-use Rattle.words.proofs.Finite.{bits, ⊕-twice}
+use Rattle.words.proofs.Finite.{⊕-twice}
 use Rattle.words.proofs.Places.{other-place, place-comm, same-place}
 use Rattle.words.specs.Bits.{Word, _⊕_}
 

@@ -5,7 +5,6 @@ use mathlib.Core.List.{[], _∷_}
 use mathlib.Core.Path.{_∙_, _≡_, ap, refl, subst, sym}
 use Prim.Native.Nat.{ℕ}
 use native.Mathlib.Decide.{ℕ-discrete}
-use lib.Dec.{lit<}
 use lib.ListN.{take}
 use Rattle.buffers.specs.Refusals.{firstFitting}
 use Rattle.jobs.proofs.Numbers.{

@@ -1,9 +1,9 @@
 -- The parts of the reduced graphs of two lists.
 -- Assumes nothing.
 use mathlib.Core.Bool.{Bool, false, false≢true, true, true≢false, _||_}
-use mathlib.Core.List.{List, [], _∷_}
+use mathlib.Core.List.{[], _∷_}
 use mathlib.Core.Logic.{_↔_, inl, inr, _⊎_}
-use mathlib.Core.Path.{ap, ap₂, refl, subst, sym, _∙_, _≡_}
+use mathlib.Core.Path.{ap, refl, subst, sym, _∙_, _≡_}
 use Prim.Native.Nat.{_<_, ℕ}
 use native.Mathlib.Omega.{arith}
 use lib.Dec.{ltb}
@@ -15,12 +15,11 @@ use Rattle.comparison.proofs.ChoicesByParts.{on-groups, works-by-parts}
 use Rattle.comparison.specs.Choices.{noChoice}
 use Rattle.comparison.specs.Compared.{hasLargePart, pairLines}
 use Rattle.comparison.specs.PartChoices.{CarriesOn}
-use Rattle.cut.specs.Kernel.{count}
 use Rattle.parts.proofs.SameParts.{carried-parts}
 use Rattle.parts.specs.Parts.{partAbove, partOf}
 use Rattle.pauli.specs.Pauli.{Pauli}
 use Rattle.record.proofs.ReducedRecords.{reduced-is, same-group}
-use Rattle.record.specs.Records.{GraphRecord, rowsOf}
+use Rattle.record.specs.Records.{rowsOf}
 use Rattle.record.specs.Reduced.{reduced, reducedGraph}
 use Rattle.stabilizer.proofs.Accepted.{accepted-list}
 use Rattle.stabilizer.proofs.Carried.{act-same, carries-same}
@@ -31,7 +30,7 @@ use Rattle.stabilizer.specs.Lists.{GeneratorList, rows}
 use Rattle.call_compare.proofs.PairLines.{pair-numbered}
 use Rattle.words.proofs.Flags.{either}
 use Rattle.words.proofs.SearchLaws.{some-false, some-in, some-none, some-true}
-use Rattle.words.specs.Search.{first, some}
+use Rattle.words.specs.Search.{first}
 use Rattle.claims.specs.PartsDemand.{
   AcceptedLists,
   EquivalentHaveSameParts,

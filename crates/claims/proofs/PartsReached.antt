@@ -1,9 +1,9 @@
 -- Paths of edges reach the whole part: a set of reached vertices that some edge leaves is made larger by one vertex.
 -- Assumes nothing.
 use mathlib.Core.Bool.{_&&_, Bool, false, not, true, true≢false, _||_}
-use mathlib.Core.Logic.{_↔_, inl, inr, _⊎_}
-use mathlib.Core.Path.{ap, ap₂, refl, subst, sym, _∙_, _≡_}
-use Prim.Native.Nat.{_+_, _<_, _≤_, suc, zero, ℕ}
+use mathlib.Core.Logic.{inl, inr, _⊎_}
+use mathlib.Core.Path.{ap, refl, subst, sym, _∙_, _≡_}
+use Prim.Native.Nat.{_<_, _≤_, suc, zero, ℕ}
 use native.Mathlib.Nat.{le-refl}
 use native.Mathlib.Omega.{arith}
 use lib.Dec.{eqb}
@@ -13,7 +13,7 @@ use Rattle.cut.specs.Kernel.{count}
 use Rattle.graph.specs.Graph.{Graph}
 use Rattle.parts.proofs.PartLaws.{closed-is, part-within, path-in-part}
 use Rattle.parts.specs.internal.Parts.{Closed}
-use Rattle.parts.specs.Parts.{Path, along, isClosed, here, partOf}
+use Rattle.parts.specs.Parts.{Path, along, isClosed, here}
 use Rattle.words.proofs.Finite.{bits}
 use Rattle.words.proofs.Flags.{both-true, either, neither}
 use Rattle.words.proofs.SearchLaws.{every-in, first-is}

@@ -32,7 +32,6 @@ use Rattle.stabilizer.specs.Carries.{Carries}
 use Rattle.stabilizer.specs.Groups.{Proper}
 use Rattle.stabilizer.specs.Lists.{GeneratorList, rows}
 use Rattle.contracts.proofs.Calling.{written-all}
-use Rattle.contracts.proofs.Calling.{written-all}
 use Rattle.call_compare.proofs.PairLines.{pair-numbered}
 use Rattle.comparison_answer.proofs.ReducedPairs.{least-held}
 use Rattle.comparison_answer.specs.ComparedPairs.{compareList, inducedRecord}

@@ -3,7 +3,7 @@
 -- Assumes nothing.
 use mathlib.Core.Bool.{Bool, false, not, true, true≢false}
 use mathlib.Core.Logic.{_↔_, inl, inr, _⊎_}
-use mathlib.Core.Path.{ap, ap₂, refl, subst, sym, _∙_, _≡_}
+use mathlib.Core.Path.{ap, refl, subst, sym, _∙_, _≡_}
 use Prim.Native.Nat.{_<_, _≤_, ℕ}
 use native.Mathlib.Nat.{lt-trans}
 use native.Mathlib.Omega.{arith}
@@ -12,8 +12,7 @@ use Rattle.clifford.proofs.VectorLaws.{act-inverse}
 use Rattle.clifford.specs.Clifford.{Clifford, identityClifford, inverse}
 use Rattle.clifford.specs.Vectors.{act}
 use Rattle.cut.proofs.OneSidedElements.{avoids-act}
-use Rattle.cut.specs.OneSided.{Avoids}
-use Rattle.graph.specs.Graph.{Graph, Simple, graphGenerator}
+use Rattle.graph.specs.Graph.{Simple, graphGenerator}
 use Rattle.parts.proofs.PartLaws.{part-closed, part-has, part-together}
 use Rattle.parts.specs.internal.Parts.{Closed}
 use Rattle.parts.specs.Parts.{partOf}

@@ -5,9 +5,9 @@
 use mathlib.Core.Bool.{_&&_, Bool, false, true}
 use mathlib.Core.List.{List}
 use mathlib.Core.Logic.{inl, inr, _⊎_}
-use mathlib.Core.Path.{ap, ap₂, refl, subst, sym, _∙_, _≡_}
+use mathlib.Core.Path.{ap, ap₂, refl, sym, _∙_, _≡_}
 use Prim.Native.Nat.{_*_, _<_, _^_, _≤_, ℕ}
-use native.Mathlib.Nat.{le-refl, le-trans, lt-of-le-of-lt, lt-of-lt-of-le, not-suc-le-zero}
+use native.Mathlib.Nat.{le-trans, lt-of-le-of-lt, lt-of-lt-of-le, not-suc-le-zero}
 use lib.Bits.{and-le-l, bitAnd}
 use lib.ListN.{getD}
 use Rattle.clifford.proofs.VectorLaws.{act-imaginary}
@@ -15,14 +15,14 @@ use Rattle.clifford.specs.Clifford.{Class, Clifford, classNumber, classWith, im
 use Rattle.clifford.specs.Clifford.Class.{XZ, YZ, ZX, XY, YX, ZY}
 use Rattle.clifford.specs.Vectors.{act}
 use Rattle.pauli.proofs.PauliLaws.{anticommute-swap}
-use Rattle.pauli.specs.Pauli.{Pauli, anticommute, i², letter, scaled, xBit, zBit}
+use Rattle.pauli.specs.Pauli.{Pauli, anticommute, letter, xBit, zBit}
 use Rattle.pauli.specs.internal.Rows.{generatorOf}
 use Rattle.pauli.specs.declared.Generator.{Generator}
 use Rattle.record.proofs.Maximality.{maximal-list}
 use Rattle.record.specs.Records.{GraphRecord, rowsOf}
 use Rattle.stabilizer.proofs.Products.{anticommute-form}
 use Rattle.stabilizer.proofs.Within.{act-within}
-use Rattle.stabilizer.specs.Groups.{InGroup, Proper, Within}
+use Rattle.stabilizer.specs.Groups.{Proper, Within}
 use Rattle.words.proofs.BitLaws.{bit-and, bit-wordOf}
 use Rattle.words.proofs.Finite.{bits, ⊕-zero}
 use Rattle.words.proofs.OnesLaws.{parity-ones}

@@ -1,7 +1,7 @@
 -- A part of a graph is connected in its own numbers.
 -- Assumes nothing.
-use mathlib.Core.Bool.{_&&_, Bool, true}
-use mathlib.Core.Path.{ap, subst, sym, _∙_, _≡_}
+use mathlib.Core.Bool.{_&&_, true}
+use mathlib.Core.Path.{ap, subst, _∙_, _≡_}
 use Prim.Native.Nat.{_<_, ℕ}
 use native.Mathlib.Nat.{lt-of-le-of-lt}
 use Prim.Native.Nat.{zero-le}
@@ -16,7 +16,7 @@ use Rattle.parts.specs.Parts.{partOf}
 use Rattle.words.proofs.Flags.{both-true}
 use Rattle.words.proofs.SearchLaws.{some-in, some-true}
 use Rattle.words.specs.Bits.{Word}
-use Rattle.words.specs.Search.{IsFirst, first, some}
+use Rattle.words.specs.Search.{first, some}
 use Rattle.comparison.specs.internal.Setting.{Connected}
 
 module _ (n : ℕ) (θ : Graph) (s : Word) (k : ℕ) (e : ℕ → ℕ) (N : Numbers n s k e) (C : Closed n θ s)

@@ -4,7 +4,7 @@
 use mathlib.Core.Bool.{_&&_, Bool, false, true}
 use mathlib.Core.Logic.{inl, inr, _⊎_}
 use mathlib.Core.Path.{ap, ap₂, refl, sym, _∙_, _≡_}
-use Prim.Native.Nat.{_<_, _≤_, ℕ}
+use Prim.Native.Nat.{_<_, ℕ}
 use lib.Dec.{eqb}
 use Rattle.clifford.proofs.CliffordLaws.{clash-after}
 use Rattle.clifford.specs.Clifford.{Clifford}

@@ -1,6 +1,6 @@
 -- The tables of equations: one more equation, those on the classes and those on the signs.
 -- Assumes nothing.
-use mathlib.Core.Bool.{_&&_, Bool, Bool·beq, false, not, true}
+use mathlib.Core.Bool.{_&&_, Bool, false}
 use mathlib.Core.List.{List}
 use mathlib.Core.Logic.{inl, inr, _⊎_}
 use mathlib.Core.Path.{ap, ap₂, refl, subst, sym, _∙_, _≡_}
@@ -8,7 +8,7 @@ use Prim.Native.Nat.{_%_, _*_, _+_, _/_, _<_, suc, zero, ℕ, _≤_}
 use native.Mathlib.Nat.{not-suc-le-zero}
 use native.Mathlib.Omega.{arith}
 use lib.Bits.{bitAnd}
-use lib.ListN.{getD, length, replicate}
+use lib.ListN.{getD, replicate}
 use Rattle.pauli.specs.internal.Rows.{generatorOf}
 use Rattle.pauli.specs.declared.Generator.{Generator}
 use Rattle.stabilizer.specs.Groups.{Within}

@@ -1,6 +1,5 @@
 -- Worked examples of the least choice, on one and two qubits.
 -- Assumes nothing.
-use mathlib.Core.Bool.{Bool, false, true}
 use mathlib.Core.List.{List, [], _∷_}
 use mathlib.Core.Path.{refl, _≡_}
 use Prim.Native.Nat.{ℕ}
@@ -10,7 +9,7 @@ use Rattle.stabilizer.specs.Lists.{rows}
 use Rattle.stabilizer.specs.Membership.{member}
 use Rattle.words.specs.Bits.{bit, fold, put, wordOf}
 use Rattle.words.specs.Search.{every, first, some}
-use Rattle.comparison.specs.Choices.{isCarrying, choice, leastCode, leastNumber, noChoice}
+use Rattle.comparison.specs.Choices.{isCarrying, choice, leastCode, leastNumber}
 
 -- one generator on one qubit
 abbrev one : ℕ → ℕ → ℕ → ℕ → Pauli

@@ -1,22 +1,20 @@
 -- A choice that is settled at every vertex is the least that works; what happens outside a vertex's part does not matter;
 -- and the least choice of a part, in its numbers, settles its vertices.
 -- Assumes nothing.
-use mathlib.Core.Bool.{Bool, false, not, true, true≢false}
+use mathlib.Core.Bool.{Bool, false, true, true≢false}
 use mathlib.Core.Logic.{inl, inr, _⊎_}
 use mathlib.Core.Path.{ap, ap₂, refl, subst, sym, _∙_, _≡_}
-use Prim.Native.Nat.{_*_, _+_, _<_, _≤_, ℕ}
+use Prim.Native.Nat.{_<_, _≤_, ℕ}
 use native.Mathlib.Decide.{decLt}
-use native.Mathlib.Nat.{le-refl, lt-trans, ne-of-lt}
+use native.Mathlib.Nat.{lt-trans, ne-of-lt}
 use native.Mathlib.Omega.{arith}
 use lib.Dec.{eqb}
-use borrow.Author.Tests.{eq-eqb, eqb-true, not-false, not-true}
 use Rattle.clifford.proofs.VectorLaws.{act-then}
-use Rattle.clifford.specs.Clifford.{Clifford, classNumber, cliffordOf, image, imagePhase, then}
+use Rattle.clifford.specs.Clifford.{Clifford, classNumber, image, imagePhase, then}
 use Rattle.clifford.specs.Vectors.{act}
-use Rattle.graph.specs.Graph.{Graph, Simple, graphGenerator}
-use Rattle.parts.proofs.PartLaws.{part-closed, part-has, part-within, rest-closed}
+use Rattle.graph.specs.Graph.{Simple, graphGenerator}
+use Rattle.parts.proofs.PartLaws.{part-closed, part-has}
 use Rattle.parts.proofs.PlacedGroups.{part-carried, part-sent, partRecord}
-use Rattle.parts.proofs.PlacedRows.{part-simple}
 use Rattle.parts.specs.internal.Numbered.{Numbers}
 use Rattle.parts.specs.internal.Parts.{Closed}
 use Rattle.parts.specs.Parts.{partOf}
@@ -28,15 +26,11 @@ use Rattle.record.proofs.ReducedRecords.{record-proper}
 use Rattle.record.specs.Records.{GraphRecord, rowsOf}
 use Rattle.stabilizer.proofs.Carried.{carries-same}
 use Rattle.stabilizer.proofs.Independence.{act-proper}
-use Rattle.stabilizer.specs.Carries.{Carries}
 use Rattle.stabilizer.specs.Groups.{InGroup}
 use Rattle.words.proofs.Places.{other-place}
-use Rattle.words.proofs.SearchLaws.{first-is}
 use Rattle.words.proofs.Sums.{fold-ext, lt-or-ge}
 use Rattle.words.specs.Bits.{Word}
-use Rattle.words.specs.Search.{IsFirst, first}
 use Rattle.comparison.proofs.KeyOrder.{keys-least}
-use Rattle.comparison.proofs.Least.{carries-agree}
 use Rattle.comparison.specs.Choices.{Agree, Before, FirstDiffers, LeastChoice, classKey, signKey}
 use Rattle.comparison.specs.internal.LeastAt.{LeastAt}
 

@@ -44,7 +44,6 @@ use Rattle.comparison.specs.internal.Equations.{
 }
 use Rattle.comparison.specs.internal.Searches.{
   SearchAnswered,
-  LeastBelow,
   ClassTable,
   ClassesAnswered,
   ClassesChosen,

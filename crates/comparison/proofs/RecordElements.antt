@@ -1,22 +1,15 @@
 -- The one product of a record's generators that can be a given row: its word is read off the row's x bits once the
 -- record's codes are undone.
 -- Assumes nothing.
-use mathlib.Core.Bool.{_&&_, Bool, Bool·beq, false, not, true}
-use mathlib.Core.Logic.{_↔_}
+use mathlib.Core.Bool.{Bool, Bool·beq, not, true}
 use mathlib.Core.Path.{ap, ap₂, refl, subst, sym, _∙_, _≡_}
-use Prim.Native.Nat.{_+_, _<_, zero-le, ℕ, _≤_}
-use native.Mathlib.Nat.{lt-of-lt-of-le, not-suc-le-zero}
-use native.Mathlib.Numerals.{add-one}
+use Prim.Native.Nat.{_<_, ℕ, _≤_}
 use lib.Bits.{bitXor}
-use lib.Dec.{eqb}
-use borrow.Author.Count.{below-more}
-use borrow.Author.Tests.{eq-eqb, eqb-true}
 use Rattle.clifford.proofs.VectorLaws.{act-inverse}
 use Rattle.clifford.specs.Clifford.{Clifford, image, inverse}
 use Rattle.clifford.specs.Vectors.{act}
 use Rattle.graph.proofs.GraphGroups.{element-x}
 use Rattle.graph.specs.Graph.{graphGenerator}
-use Rattle.pauli.proofs.PhaseLaws.{minus-injective}
 use Rattle.pauli.proofs.WordRows.{signed-mul}
 use Rattle.pauli.specs.Pauli.{
   Pauli,
@@ -39,14 +32,11 @@ use Rattle.record.proofs.Maximality.{inclusion-same}
 use Rattle.record.proofs.ReducedRecords.{record-proper}
 use Rattle.record.specs.Records.{recordRow}
 use Rattle.stabilizer.proofs.Carried.{act-product, carries-same}
-use Rattle.stabilizer.proofs.GroupLaws.{in-row}
 use Rattle.stabilizer.proofs.Independence.{act-proper}
 use Rattle.stabilizer.proofs.Multiplying.{Multiplied, all-multiplied}
 use Rattle.stabilizer.proofs.Within.{act-wide, element-within}
 use Rattle.stabilizer.specs.Groups.{InGroup, Proper, Trivial, Within, chosen, product}
-use Rattle.words.proofs.BitLaws.{bit-ext∞}
 use Rattle.words.proofs.Finite.{unequal}
-use Rattle.words.proofs.Flags.{beq-refl, beq-true, both-true}
 use Rattle.words.proofs.Sums.{fold-ext}
 use Rattle.words.specs.Bits.{Word, _⊕_}
 use Rattle.comparison.proofs.Least.{act-agree}

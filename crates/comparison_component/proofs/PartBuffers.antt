@@ -1,33 +1,31 @@
 -- Buffers that hold the record of a part: the search on them answers for the part.
 -- Assumes nothing.
-use mathlib.Core.Bool.{_&&_, Bool, and-false, false, true}
+use mathlib.Core.Bool.{_&&_, Bool, and-false, true}
 use mathlib.Core.List.{List}
 use mathlib.Core.Logic.{inl, inr, _⊎_}
-use mathlib.Core.Path.{ap, ap₂, fun-ext, refl, subst, sym, _∙_, _≡_}
+use mathlib.Core.Path.{ap, ap₂, fun-ext, subst, sym, _∙_, _≡_}
 use Prim.Native.Nat.{_<_, _≤_, ℕ}
-use native.Mathlib.Omega.{arith}
 use lib.Dec.{lit<, ltb}
 use lib.ListN.{getD, length}
 use borrow.Author.Tests.{le-ltb, lt-ltb}
 use Rattle.buffers.proofs.Tabulate.{tabulate-at, tabulate-length}
-use Rattle.clifford.specs.Clifford.{Clifford, cliffordOf}
+use Rattle.clifford.specs.Clifford.{cliffordOf}
 use Rattle.clifford.specs.Vectors.{act, codesOf}
 use Rattle.comparison.proofs.ComparedRecords.{same-answer}
 use Rattle.comparison.proofs.ConnectedParts.{part-connected}
 use Rattle.comparison.proofs.Least.{act-agree}
 use Rattle.comparison.specs.internal.Searches.{LeastAnswer}
-use Rattle.comparison.specs.internal.Setting.{Codes, Connected, SoundRecord, heldGenerators}
+use Rattle.comparison.specs.internal.Setting.{Connected, SoundRecord, heldGenerators}
 use Rattle.graph.proofs.GraphGroups.{graph-proper}
-use Rattle.graph.specs.Graph.{Graph, Simple, graphGenerator}
+use Rattle.graph.specs.Graph.{Simple, graphGenerator}
 use Rattle.graph.specs.NeighbourWords.{graphIn}
 use Rattle.parts.proofs.PlacedRows.{part-simple}
 use Rattle.parts.specs.internal.Numbered.{Numbers, partGraph}
 use Rattle.parts.specs.internal.Parts.{Closed}
 use Rattle.parts.specs.Parts.{partOf}
 use Rattle.parts_records.specs.internal.Listed.{partCodes, renumbered, partWords}
-use Rattle.pauli.specs.Pauli.{Pauli}
 use Rattle.record.proofs.ReducedRecords.{record-proper}
-use Rattle.record.specs.Records.{GraphRecord, rowsOf}
+use Rattle.record.specs.Records.{rowsOf}
 use Rattle.stabilizer.proofs.Carried.{same-rows}
 use Rattle.stabilizer.proofs.GroupLaws.{same-refl}
 use Rattle.stabilizer.proofs.ReadBack.{table-past}

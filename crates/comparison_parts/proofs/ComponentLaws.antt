@@ -1,16 +1,15 @@
 -- One part compared: what the search on the part's record says of the whole records.
 -- Assumes nothing.
-use mathlib.Core.Bool.{_&&_, Bool, false, false≢true, not, true, true≢false, _||_}
+use mathlib.Core.Bool.{_&&_, Bool, false, false≢true, true, true≢false, _||_}
 use mathlib.Core.List.{List}
 use mathlib.Core.Logic.{inl, inr, _⊎_}
-use mathlib.Core.Path.{ap, ap₂, refl, subst, sym, _∙_, _≡_}
-use Prim.Native.Nat.{_<_, _≤_, _^_, ℕ}
+use mathlib.Core.Path.{ap, refl, subst, sym, _∙_, _≡_}
+use Prim.Native.Nat.{_<_, _≤_, ℕ}
 use native.Mathlib.Nat.{lt-of-lt-of-le}
-use native.Mathlib.Omega.{arith}
 use lib.ListN.{getD, length}
 use lib.Pow.{pow-mono}
 use borrow.Author.Tests.{not-false, not-true}
-use Rattle.clifford.specs.Clifford.{Clifford, cliffordOf}
+use Rattle.clifford.specs.Clifford.{cliffordOf}
 use Rattle.clifford.specs.Vectors.{codesOf}
 use Rattle.comparison.proofs.Least.{least-agree, least-is, none-carries}
 use Rattle.comparison.proofs.NumberOrder.{choice-lt}
@@ -19,7 +18,6 @@ use Rattle.comparison.specs.Choices.{LeastChoice, leastCode, leastNumber, noCho
 use Rattle.comparison.specs.internal.LeastAt.{LeastAt}
 use Rattle.comparison.specs.internal.Setting.{Codes}
 use Rattle.cut.specs.Kernel.{count}
-use Rattle.graph.specs.Graph.{Graph, Simple}
 use Rattle.graph.specs.NeighbourWords.{graphIn}
 use Rattle.parts.proofs.Along.{numbered-or-not}
 use Rattle.parts.proofs.PartLaws.{both, closed-ext, part-closed, part-together}
@@ -34,7 +32,6 @@ use Rattle.parts_words.specs.internal.Spreads.{spreadTo}
 use Rattle.pauli.specs.Pauli.{Pauli}
 use Rattle.record.proofs.ReducedRecords.{record-proper}
 use Rattle.record.specs.Records.{GraphRecord, rowsOf}
-use Rattle.stabilizer.specs.Carries.{Carries}
 use Rattle.stabilizer.specs.Groups.{Proper}
 use Rattle.words.proofs.BitLaws.{bit-above, bit-ext∞}
 use Rattle.words.proofs.Flags.{both-true, either, same-by-both}

@@ -4,16 +4,16 @@ use mathlib.Core.Bool.{_&&_, Bool, false, false≢true, not, true, true≢false}
 use mathlib.Core.List.{List}
 use mathlib.Core.Logic.{inl, inr, _⊎_}
 use mathlib.Core.Path.{ap, ap₂, refl, subst, sym, _∙_, _≡_}
-use Prim.Native.Nat.{_*_, _+_, _-_, _<_, _≤_, _^_, zero, suc, ℕ}
+use Prim.Native.Nat.{_*_, _+_, _-_, _<_, _≤_, _^_, ℕ}
 use native.Mathlib.Nat.{lt-of-lt-of-le}
 use native.Mathlib.Omega.{arith}
 use lib.Bits.{bitAnd, bitXor, xor-add-and}
 use lib.Count.{trailingZeros}
-use lib.Dec.{lit<, ltb}
-use lib.ListN.{getD, length}
+use lib.Dec.{ltb}
+use lib.ListN.{length}
 use lib.Pow.{pow-mono, pow-pos}
 use borrow.Author.Tests.{ltb-false}
-use Rattle.clifford.specs.Clifford.{Clifford, cliffordOf}
+use Rattle.clifford.specs.Clifford.{cliffordOf}
 use Rattle.clifford.specs.Vectors.{codesOf}
 use Rattle.comparison.proofs.Least.{least-answer}
 use Rattle.comparison.proofs.LeastAtVertices.{least-at-agree, least-at-least}
@@ -22,7 +22,6 @@ use Rattle.comparison.specs.internal.LeastAt.{LeastAt}
 use Rattle.comparison.specs.internal.Setting.{Codes, heldGenerators}
 use Rattle.cut.proofs.Counting.{count-ext}
 use Rattle.cut.specs.Kernel.{count}
-use Rattle.graph.specs.Graph.{Graph}
 use Rattle.graph.specs.NeighbourWords.{graphIn}
 use Rattle.parts.proofs.PartLaws.{part-has, part-within, rest-closed}
 use Rattle.parts.specs.internal.Parts.{Closed}
@@ -30,8 +29,6 @@ use Rattle.parts.specs.Parts.{partAbove, partOf}
 use Rattle.parts_words.specs.internal.Spreads.{PartWord}
 use Rattle.record.proofs.ReducedRecords.{record-proper}
 use Rattle.record.specs.Records.{GraphRecord, rowsOf}
-use Rattle.stabilizer.specs.Carries.{Carries}
-use Rattle.stabilizer.specs.Groups.{Proper}
 use Rattle.words.proofs.BitLaws.{bit-above, bit-and, bit-ext∞, bit-mask, bit-xor, lt-of-bits, zero-bit}
 use Rattle.words.proofs.Finite.{bits}
 use Rattle.words.proofs.Flags.{both-true}

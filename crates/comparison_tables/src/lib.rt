@@ -9,7 +9,7 @@ use comparison_equations::sign_words;
 use comparison_groups::element;
 use pauli::Generator;
 ghost use mathlib.Core.Path.{_≡_};
-ghost use Prim.Native.Nat.{ℕ, _+_, _<_, _≤_};
+ghost use Prim.Native.Nat.{_+_, _<_, _≤_};
 ghost use Rattle.clifford.specs.Vectors.{codesOf};
 ghost use Rattle.stabilizer.specs.Groups.{Proper};
 ghost use Rattle.comparison.specs.internal.Equations.{

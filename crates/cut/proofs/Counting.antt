@@ -9,7 +9,7 @@ use native.Mathlib.Omega.{arith}
 use lib.Bits.{bitXor, xor-lt}
 use lib.Dec.{eqb}
 use Rattle.words.proofs.BitLaws.{bit-ext∞, bit-xor}
-use Rattle.words.proofs.Finite.{bits, ⊕-twice}
+use Rattle.words.proofs.Finite.{⊕-twice}
 use Rattle.words.proofs.Places.{other-place, same-place}
 use Rattle.words.proofs.Sums.{fold-ext, last-or}
 use Rattle.words.specs.Bits.{bit, digit, fold, _⊕_}

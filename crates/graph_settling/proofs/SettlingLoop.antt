@@ -11,7 +11,7 @@ use native.Mathlib.Omega.{arith}
 use lib.Bits.{bitOr, bitXor, or-lt}
 use lib.Count.{trailingZeros}
 use lib.Dec.{eqb, leb}
-use lib.ListN.{getD, length}
+use lib.ListN.{length}
 use lib.Pow.{pow-mono}
 use Rattle.graph_steps.proofs.Keeping.{form-normalised, kept-refl, kept-trans}
 use Rattle.graph_steps.proofs.OutOfPlace.{none-unsettled}

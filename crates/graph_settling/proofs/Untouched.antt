@@ -1,10 +1,9 @@
 -- What the steps leave as it was: every vertex but the one of the step and its neighbours.
 -- Assumes nothing.
-use mathlib.Core.Bool.{_&&_, Bool, and-false, cond, false, not, true, true≢false, _||_}
+use mathlib.Core.Bool.{_&&_, and-false, cond, false, not, true, true≢false}
 use mathlib.Core.List.{List}
 use mathlib.Core.Path.{ap, ap₂, refl, subst, sym, _∙_, _≡_}
 use Prim.Native.Nat.{_<_, _^_, ℕ}
-use native.Mathlib.Decide.{ℕ-discrete}
 use lib.Bits.{bitOr, or-lt}
 use lib.Dec.{eqb}
 use lib.ListN.{getD, length}

@@ -23,7 +23,6 @@ use Rattle.stabilizer.specs.Groups.{chosen}
 use Rattle.words.proofs.Finite.{⊕-zero}
 use Rattle.words.proofs.Places.{other-place, place-comm}
 use Rattle.words.proofs.Sums.{fold-unit}
-use Rattle.words.specs.Bits.{_⊕_}
 use Rattle.graph_steps.proofs.CzProducts.{scaled-scaled}
 use Rattle.graph_steps.proofs.Places.{act-single}
 use Rattle.graph_steps.proofs.ReducedForms.{apart, form-x}

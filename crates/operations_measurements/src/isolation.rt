@@ -13,7 +13,7 @@ use words::smallest;
 ghost use mathlib.Core.Bool.{_&&_, not, true};
 ghost use mathlib.Core.Logic.{_↔_};
 ghost use mathlib.Core.Path.{_≡_};
-ghost use Prim.Native.Nat.{ℕ, _<_, _≤_};
+ghost use Prim.Native.Nat.{_<_, _≤_};
 ghost use lib.Dec.{eqb};
 ghost use lib.ListN.{getD, length};
 ghost use Rattle.clifford.specs.Clifford.{cliffordOf, codeOf, image, then};

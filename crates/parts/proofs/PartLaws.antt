@@ -1,8 +1,8 @@
 -- Parts: the test of closed sets agrees, a part is the least closed set that has its vertex, and the vertices of a
 -- part have the same one.
 -- Assumes nothing.
-use mathlib.Core.Bool.{_&&_, Bool, false, false≢true, not, true, true≢false, _||_}
-use mathlib.Core.Logic.{_↔_, inl, inr, _⊎_}
+use mathlib.Core.Bool.{_&&_, Bool, false, false≢true, not, true, _||_}
+use mathlib.Core.Logic.{_↔_}
 use mathlib.Core.Path.{ap, ap₂, fun-ext, refl, sym, _∙_, _≡_}
 use Prim.Native.Nat.{_<_, _^_, ℕ}
 use Rattle.graph.specs.Graph.{Graph}

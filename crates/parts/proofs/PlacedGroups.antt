@@ -3,15 +3,15 @@
 -- Assumes nothing.
 use mathlib.Core.Bool.{Bool, false, true}
 use mathlib.Core.Logic.{inl, inr, _⊎_}
-use mathlib.Core.Path.{ap, ap₂, refl, subst, sym, _∙_, _≡_}
+use mathlib.Core.Path.{ap, subst, sym, _∙_, _≡_}
 use Prim.Native.Nat.{_<_, _≤_, suc, zero, ℕ}
 use native.Mathlib.Nat.{le-refl}
 use native.Mathlib.Omega.{arith}
 use Rattle.clifford.specs.Clifford.{Clifford}
 use Rattle.clifford.specs.Vectors.{act}
-use Rattle.graph.specs.Graph.{Graph, Simple}
+use Rattle.graph.specs.Graph.{Simple}
 use Rattle.pauli.proofs.PauliLaws.{mul-scaled, square}
-use Rattle.pauli.specs.Pauli.{Pauli, anticommute, identity, imaginary, i², mul, scaled}
+use Rattle.pauli.specs.Pauli.{Pauli, identity, imaginary, i², mul, scaled}
 use Rattle.record.proofs.Maximality.{inclusion-same, maximal-list}
 use Rattle.record.proofs.ReducedRecords.{record-proper}
 use Rattle.record.specs.Records.{GraphRecord, rowsOf}

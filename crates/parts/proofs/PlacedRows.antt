@@ -1,7 +1,7 @@
 -- Rows of a set of vertices, in its numbers and among all vertices: products, codes, commutation and the generators of a
 -- graph with no edge that leaves the set.
 -- Assumes nothing.
-use mathlib.Core.Bool.{_&&_, Bool, and-false, false, true, true≢false}
+use mathlib.Core.Bool.{_&&_, Bool, and-false, false, true}
 use mathlib.Core.Logic.{inl, inr, _⊎_}
 use mathlib.Core.Path.{ap, ap₂, refl, sym, _∙_, _≡_}
 use Prim.Native.Nat.{_<_, _≤_, ℕ}
@@ -31,7 +31,6 @@ use Rattle.pauli.specs.Pauli.{
   xBit,
   zBit,
 }
-use Rattle.pauli.specs.declared.Letter.{Letter}
 use Rattle.words.proofs.Finite.{bits}
 use Rattle.words.proofs.Places.{other-place, same-place}
 use Rattle.words.proofs.Sums.{bitMonoid, fold-ext, lt-or-ge}

@@ -1,9 +1,9 @@
 -- "equivalent states have the same parts": no edge leaves a set of vertices exactly if the rank across its cut is 0,
 -- and a choice of codes keeps every rank.
 -- Assumes nothing.
-use mathlib.Core.Bool.{_&&_, Bool, false, false≢true, not, true, true≢false}
+use mathlib.Core.Bool.{_&&_, Bool, false, not, true, true≢false}
 use mathlib.Core.Logic.{inl, inr, _⊎_}
-use mathlib.Core.Path.{ap, ap₂, refl, subst, sym, _∙_, _≡_}
+use mathlib.Core.Path.{ap, ap₂, refl, sym, _∙_, _≡_}
 use Prim.Native.Nat.{_+_, _<_, _≤_, suc, zero, ℕ}
 use native.Mathlib.Nat.{le-refl, not-suc-le-zero}
 use native.Mathlib.Omega.{arith}
@@ -20,8 +20,7 @@ use Rattle.record.specs.Columns.{isColumnDependent}
 use Rattle.record.specs.Records.{GraphRecord, rowsOf}
 use Rattle.stabilizer.specs.Carries.{Carries}
 use Rattle.words.proofs.Sums.{bitMonoid, fold-unit, last-or}
-use Rattle.words.proofs.Finite.{bits}
-use Rattle.words.specs.Bits.{Word, digit, fold, parity, _⊕_}
+use Rattle.words.specs.Bits.{Word, digit, fold, _⊕_}
 use Rattle.parts.proofs.PartLaws.{same-parts}
 use Rattle.parts.specs.internal.Parts.{Closed}
 use Rattle.parts.specs.Parts.{partOf}

@@ -1,12 +1,12 @@
 -- The vertices of a set listed in rising order, and words in their numbers.
 -- Assumes nothing.
-use mathlib.Core.Bool.{_&&_, Bool, and-false, false, not, true, true≢false}
+use mathlib.Core.Bool.{_&&_, Bool, false, not, true, true≢false}
 use mathlib.Core.List.{List}
 use mathlib.Core.Logic.{inl, inr, _⊎_}
 use mathlib.Core.Path.{ap, ap₂, refl, subst, sym, _∙_, _≡_}
-use Prim.Native.Nat.{_+_, _<_, _≤_, _^_, suc, zero, zero-le, ℕ}
+use Prim.Native.Nat.{_+_, _<_, _≤_, _^_, suc, zero-le, ℕ}
 use native.Mathlib.Decide.{decLt, ℕ-discrete}
-use native.Mathlib.Nat.{add-zero, lt-irrefl, not-suc-le-zero}
+use native.Mathlib.Nat.{lt-irrefl, not-suc-le-zero}
 use native.Mathlib.Omega.{arith}
 use lib.Bits.{bitXor}
 use lib.Count.{trailingZeros}
@@ -14,13 +14,13 @@ use lib.Dec.{eqb, ltb}
 use lib.ListN.{getD, length, length-set, set}
 use lib.Seq.{getD-set-other, getD-set-same}
 use borrow.Author.Tests.{le-ltb, lt-ltb}
-use Rattle.cut.proofs.Counting.{count-except, count-ext, count-none, except}
+use Rattle.cut.proofs.Counting.{count-except, count-ext, except}
 use Rattle.cut.specs.Kernel.{count}
 use Rattle.parts.specs.internal.Numbered.{Numbers}
-use Rattle.words.proofs.BitLaws.{bit-above, bit-ext, bit-ext∞, bit-flip, bit-wordOf, lt-of-bits, wordOf-lt, zero-bit}
+use Rattle.words.proofs.BitLaws.{bit-above, bit-ext, bit-flip, bit-wordOf, lt-of-bits, wordOf-lt, zero-bit}
 use Rattle.words.proofs.Places.{other-place, same-place, upto-other}
 use Rattle.words.proofs.Trailing.{trailing-set}
-use Rattle.words.specs.Bits.{bit, wordOf, _⊕_}
+use Rattle.words.specs.Bits.{bit, _⊕_}
 use Rattle.words.specs.Search.{IsFirst}
 use Rattle.parts_records.specs.internal.Listed.{renumbered}
 

@@ -6,10 +6,9 @@ use words::smallest;
 ghost use mathlib.Core.Path.{_≡_};
 ghost use Prim.Native.Nat.{ℕ, _<_, _≤_};
 ghost use lib.ListN.{getD, length};
-ghost use Rattle.buffers.specs.Buffers.{tabulate};
 ghost use Rattle.cut.specs.Kernel.{count};
 ghost use Rattle.parts.specs.internal.Numbered.{Numbers};
-ghost use Rattle.words.specs.Bits.{bit, wordOf};
+ghost use Rattle.words.specs.Bits.{bit};
 ghost use Rattle.parts_records.specs.internal.Listed.{partCodes, renumbered, partWords};
 
 // The vertices of a set of at most 20, in rising order, and how many there are.

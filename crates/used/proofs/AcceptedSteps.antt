@@ -3,7 +3,7 @@
 use mathlib.Core.Bool.{Bool, false, true, _||_}
 use mathlib.Core.List.{_++_, List}
 use mathlib.Core.Logic.{_≢_}
-use mathlib.Core.Path.{ap, subst, sym, _∙_, _≡_}
+use mathlib.Core.Path.{ap, subst, sym, _≡_}
 use Prim.Native.Nat.{_<_, ℕ, _≤_}
 use lib.Dec.{eqb, leb}
 use lib.ListN.{List·getD-eq-default}

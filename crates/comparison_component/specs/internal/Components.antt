@@ -14,7 +14,7 @@ use Rattle.cut.specs.Kernel.{count}
 use Rattle.graph.specs.NeighbourWords.{graphIn}
 use Rattle.parts.specs.internal.Numbered.{Numbers, partGraph}
 use Rattle.parts.specs.internal.Parts.{Closed}
-use Rattle.parts.specs.Parts.{partAbove, partOf}
+use Rattle.parts.specs.Parts.{partOf}
 use Rattle.parts_words.specs.internal.Spreads.{PartWord}
 use Rattle.record.specs.Lent.{heldRecord}
 use Rattle.record.specs.Records.{GraphRecord, rowsOf}

@@ -9,7 +9,7 @@ use lib.Dec.{eqb, ltb}
 use lib.ListN.{getD, length, take}
 use Rattle.clifford.specs.Clifford.{Clifford, bitC, bitD, image}
 use Rattle.clifford.specs.Vectors.{codesOf}
-use Rattle.graph.specs.Graph.{Graph, Simple}
+use Rattle.graph.specs.Graph.{Simple}
 use Rattle.pauli.specs.declared.Letter.the-variants.{X}
 use Rattle.record.specs.Lent.{LentRecord, heldRecord}
 use Rattle.record.specs.Records.{GraphRecord, complementAll}

@@ -4,7 +4,6 @@ use mathlib.Core.Bool.{_&&_, false, true}
 use mathlib.Core.Path.{_≡_}
 use Prim.Native.Nat.{_<_, _≤_, ℕ}
 use lib.Dec.{ltb}
-use Rattle.clifford.specs.Clifford.{Clifford}
 use Rattle.graph.specs.Graph.{Graph}
 use Rattle.pauli.specs.Pauli.{Pauli}
 use Rattle.words.specs.Bits.{Word}
