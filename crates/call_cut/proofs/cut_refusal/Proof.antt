@@ -5,9 +5,6 @@ use Rattle.call_cut.proofs.CutLines.{number-2, number-4, side-good, sid
 use Rattle.call_cut.proofs.cut_refusal.Statement.{statement}
 use Rattle.call_cut.proofs.cut_refusal.Tie as tie
 
-record-refusal-requires : tie.Need-record-refusal-requires
-record-refusal-requires c κs = search needs
-
 returns : tie.Need-returns
 returns c =
     let E = c .before in
@@ -48,6 +45,4 @@ returns-4 c =
     (says (c .before .stray .ensures) (c .if3 .left))
 
 pub cut-refusal-spec : {M : Type 1} → statement M
-cut-refusal-spec =
-    tie.close
-    (tie.spec record-refusal-requires returns returns-2 stray-requires returns-3 returns-4)
+cut-refusal-spec = tie.close (tie.spec (λ c κs. search needs) returns returns-2 stray-requires returns-3 returns-4)

@@ -7,9 +7,6 @@ use Rattle.record.specs.Lent.{LentRecord, recordLines}
 use Rattle.call_gates.proofs.in_place_refusal.Statement.{statement}
 use Rattle.call_gates.proofs.in_place_refusal.Tie as tie
 
-known-refusal-requires : tie.Need-known-refusal-requires
-known-refusal-requires c κs = search needs
-
 returns : tie.Need-returns
 returns c =
     let E = c .before in
@@ -34,4 +31,4 @@ returns-3 c =
     (later (c .if2 .left) none)
 
 pub in-place-refusal-spec : {M : Type 1} → statement M
-in-place-refusal-spec = tie.close (tie.spec known-refusal-requires returns returns-2 returns-3)
+in-place-refusal-spec = tie.close (tie.spec (λ c κs. search needs) returns returns-2 returns-3)

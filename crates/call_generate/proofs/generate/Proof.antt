@@ -5,12 +5,6 @@ use Rattle.call_generate.proofs.GenerateCalls.{accepted-job, generate-a
 use Rattle.call_generate.proofs.generate.Statement.{statement}
 use Rattle.call_generate.proofs.generate.Tie as tie
 
-generate-refusal-requires : tie.Need-generate-refusal-requires
-generate-refusal-requires c κs = search needs
-
-same-length : tie.Need-same-length
-same-length c = search needs
-
 returns : tie.Need-returns
 returns c =
     refused _ (c .before .generate-refusal .ensures) (c .if1 .taken) (refl, (refl, tt))
@@ -21,9 +15,6 @@ put-job-requires c κs =
     let a = E .before .before .before .args in
     accepted-job (a .n) (a .count) (a .seed) (a .text .now)
     (sym (E .generate-refusal .ensures) ∙ c .before .if1 .left)
-
-same-length-2 : tie.Need-same-length-2
-same-length-2 c = search needs
 
 returns-2 : tie.Need-returns-2
 returns-2 c =
@@ -36,10 +27,4 @@ returns-2 c =
 pub generate-spec : {M : Type 1} → statement M
 generate-spec =
     tie.close
-    (tie.spec
-    generate-refusal-requires
-    same-length
-    returns
-    put-job-requires
-    same-length-2
-    returns-2)
+    (tie.spec (λ c κs. search needs) (λ c. search needs) returns put-job-requires (λ c. search needs) returns-2)

@@ -9,9 +9,6 @@ use Rattle.call_gates.proofs.MeasureLines.{found}
 use Rattle.call_measure.proofs.measure_refusal.Statement.{statement}
 use Rattle.call_measure.proofs.measure_refusal.Tie as tie
 
-in-place-refusal-requires : tie.Need-in-place-refusal-requires
-in-place-refusal-requires c κs = search needs
-
 returns : tie.Need-returns
 returns c =
     let E = c .before in
@@ -47,6 +44,4 @@ returns-3 c =
     (c .before .contradicted .ensures) (c .if2 .left)) none)
 
 pub measure-refusal-spec : {M : Type 1} → statement M
-measure-refusal-spec =
-    tie.close
-    (tie.spec in-place-refusal-requires returns contradicted-requires returns-2 returns-3)
+measure-refusal-spec = tie.close (tie.spec (λ c κs. search needs) returns contradicted-requires returns-2 returns-3)

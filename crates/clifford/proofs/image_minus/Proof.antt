@@ -3,12 +3,6 @@ use borrow.Author.Needs.{needs}
 use Rattle.clifford.proofs.image_minus.Statement.{statement}
 use Rattle.clifford.proofs.image_minus.Tie as tie
 
-x-bit-requires : tie.Need-x-bit-requires
-x-bit-requires c κs = search needs
-
-z-bit-requires : tie.Need-z-bit-requires
-z-bit-requires c κs = search needs
-
 returns : tie.Need-returns
 returns c =
     let start = c .before .before in
@@ -16,4 +10,4 @@ returns c =
     (c .before .x-bit .ensures) (c .z-bit .ensures)
 
 pub image-minus-spec : {M : Type 1} → statement M
-image-minus-spec = tie.close (tie.spec x-bit-requires z-bit-requires returns)
+image-minus-spec = tie.close (tie.spec (λ c κs. search needs) (λ c κs. search needs) returns)

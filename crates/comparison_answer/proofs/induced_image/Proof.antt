@@ -18,9 +18,6 @@ image-answer-requires c κs = let P = c .before .before .before in
     made-accepted (a .n) (a .neighbours .now) (a .codes .now) (a .choice .now) (a .codes2 .now) (S .pre .0)
     (a .induced .now) _ (S .pre .1 .0 .2) (P .induced-codes .ensures)
 
-same-length : tie.Need-same-length
-same-length c = search needs
-
 returns : tie.Need-returns
 returns c = let P = c .before .before .before .before in
     let S = P .before .before .before .before .before .before .before in
@@ -29,5 +26,4 @@ returns c = let P = c .before .before .before .before in
     (a .induced .now) _ (S .pre .1 .0 .2) (P .induced-codes .ensures) _ (c .image-answer .ensures)
 
 pub induced-image-spec : {M : Type 1} → statement M
-induced-image-spec =
-    tie.close (tie.spec induced-codes-requires image-answer-requires same-length returns)
+induced-image-spec = tie.close (tie.spec induced-codes-requires image-answer-requires (λ c. search needs) returns)

@@ -58,21 +58,9 @@ compare-records-requires c κs =
     )
 
 -- src/lib.rt:27:1
-same-length : tie.Need-same-length
-same-length c = search needs
-
 -- src/lib.rt:27:1
-same-length-2 : tie.Need-same-length-2
-same-length-2 c = search needs
-
 -- src/lib.rt:27:1
-same-length-3 : tie.Need-same-length-3
-same-length-3 c = search needs
-
 -- src/lib.rt:27:1
-same-length-4 : tie.Need-same-length-4
-same-length-4 c = search needs
-
 -- src/lib.rt:27:1
 returns : tie.Need-returns
 returns c =
@@ -90,12 +78,5 @@ returns c =
 pub compare-listed-spec : {M : Type 1} → statement M
 compare-listed-spec =
     tie.close
-    (tie.spec
-    extract-requires
-    extract-requires-2
-    compare-records-requires
-    same-length
-    same-length-2
-    same-length-3
-    same-length-4
-    returns)
+    (tie.spec extract-requires extract-requires-2 compare-records-requires (λ c. search needs) (λ c. search needs)
+    (λ c. search needs) (λ c. search needs) returns)

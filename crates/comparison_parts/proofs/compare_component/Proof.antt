@@ -21,9 +21,6 @@ use Rattle.parts_records.proofs.vertices.Reads as vertices-reads
 use Rattle.parts_words.proofs.spread.Reads as spread-reads
 
 -- src/lib.rt:85:8
-spread-requires : tie.Need-spread-requires
-spread-requires c κs = search needs
-
 -- src/lib.rt:86:9
 returns : tie.Need-returns
 returns c =
@@ -40,9 +37,6 @@ vertices-requires c κs =
     component-few (a .n) (a .neighbours .now) (a .codes .now) (a .neighbours2 .now) (a .codes2 .now) (a .component) (S .pre .0) (S .pre .1)
 
 -- src/lib.rt:103:9
-array-borrow-prefix-words : tie.Need-array-borrow-prefix-words
-array-borrow-prefix-words c = search needs
-
 -- src/lib.rt:103:9
 slice-aggregate-compare-listed : tie.Need-slice-aggregate-compare-listed
 slice-aggregate-compare-listed c =
@@ -50,9 +44,6 @@ slice-aggregate-compare-listed c =
     sym (part-long _ _ (K .vertices .ensures .0) refl)
 
 -- src/lib.rt:104:9
-array-borrow-prefix-numbers : tie.Need-array-borrow-prefix-numbers
-array-borrow-prefix-numbers c = search needs
-
 -- src/lib.rt:104:9
 slice-aggregate-compare-listed-2 : tie.Need-slice-aggregate-compare-listed-2
 slice-aggregate-compare-listed-2 c =
@@ -60,9 +51,6 @@ slice-aggregate-compare-listed-2 c =
     sym (part-long _ _ (K .vertices .ensures .0) refl)
 
 -- src/lib.rt:105:9
-array-borrow-prefix-words2 : tie.Need-array-borrow-prefix-words2
-array-borrow-prefix-words2 c = search needs
-
 -- src/lib.rt:105:9
 slice-aggregate-compare-listed-3 : tie.Need-slice-aggregate-compare-listed-3
 slice-aggregate-compare-listed-3 c =
@@ -70,9 +58,6 @@ slice-aggregate-compare-listed-3 c =
     sym (part-long _ _ (K .vertices .ensures .0) refl)
 
 -- src/lib.rt:106:9
-array-borrow-prefix-numbers2 : tie.Need-array-borrow-prefix-numbers2
-array-borrow-prefix-numbers2 c = search needs
-
 -- src/lib.rt:106:9
 slice-aggregate-compare-listed-4 : tie.Need-slice-aggregate-compare-listed-4
 slice-aggregate-compare-listed-4 c =
@@ -137,19 +122,6 @@ returns-3 c =
 pub compare-component-spec : {M : Type 1} → statement M
 compare-component-spec =
     tie.close
-    (tie.spec
-    spread-requires
-    returns
-    vertices-requires
-    array-borrow-prefix-words
-    slice-aggregate-compare-listed
-    array-borrow-prefix-numbers
-    slice-aggregate-compare-listed-2
-    array-borrow-prefix-words2
-    slice-aggregate-compare-listed-3
-    array-borrow-prefix-numbers2
-    slice-aggregate-compare-listed-4
-    compare-listed-requires
-    returns-2
-    placed-requires
-    returns-3)
+    (tie.spec (λ c κs. search needs) returns vertices-requires (λ c. search needs) slice-aggregate-compare-listed
+    (λ c. search needs) slice-aggregate-compare-listed-2 (λ c. search needs) slice-aggregate-compare-listed-3
+    (λ c. search needs) slice-aggregate-compare-listed-4 compare-listed-requires returns-2 placed-requires returns-3)

@@ -33,9 +33,6 @@ abbrev μ-loop : tie.MeasureT-loop
 μ-loop n neighbours codes neighbours2 codes2 choice₀ rest₀ choice rest = rest
 
 -- src/lib.rt:131:9
-mask-requires : tie.Need-mask-requires Inv-loop μ-loop
-mask-requires c κs = search needs
-
 -- src/lib.rt:132:5
 loop-holds : tie.Need-loop-holds Inv-loop μ-loop
 loop-holds c =
@@ -44,9 +41,6 @@ loop-holds c =
     progress-start (a .n) (a .neighbours .now) (a .codes .now) (a .neighbours2 .now) (a .codes2 .now) (S .pre .0 .1) _ (c .mask .ensures) (replicate 64 0) (zeros-codes 64)
 
 -- src/lib.rt:133:13
-smallest-requires : tie.Need-smallest-requires Inv-loop μ-loop
-smallest-requires c κs = search needs
-
 -- src/lib.rt:134:13
 part-requires : tie.Need-part-requires Inv-loop μ-loop
 part-requires c κs =
@@ -126,15 +120,5 @@ returns-2 c =
 pub compare-parts-spec : {M : Type 1} → statement M
 compare-parts-spec =
     tie.close
-    (tie.spec
-    Inv-loop
-    μ-loop
-    mask-requires
-    loop-holds
-    smallest-requires
-    part-requires
-    compare-component-requires
-    returns
-    loop-less
-    loop-again
-    returns-2)
+    (tie.spec Inv-loop μ-loop (λ c κs. search needs) loop-holds (λ c κs. search needs) part-requires
+    compare-component-requires returns loop-less loop-again returns-2)

@@ -3,12 +3,6 @@ use Rattle.comparison.proofs.ComparedRecords.{records-answer, records-setting}
 use Rattle.comparison_search.proofs.compare_records.Statement.{statement}
 use Rattle.comparison_search.proofs.compare_records.Tie as tie
 
-generators-requires : tie.Need-generators-requires
-generators-requires c κs = search needs
-
-generators-requires-2 : tie.Need-generators-requires-2
-generators-requires-2 c κs = search needs
-
 inverses-requires : tie.Need-inverses-requires
 inverses-requires c κs =
     let s = c .before .before .before .before .before .before in
@@ -35,10 +29,4 @@ returns c =
 
 pub compare-records-spec : {M : Type 1} → statement M
 compare-records-spec =
-    tie.close
-    (tie.spec
-    generators-requires
-    generators-requires-2
-    inverses-requires
-    least-choice-requires
-    returns)
+    tie.close (tie.spec (λ c κs. search needs) (λ c κs. search needs) inverses-requires least-choice-requires returns)

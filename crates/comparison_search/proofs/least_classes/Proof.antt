@@ -29,21 +29,12 @@ returns c =
     (c .before .before .loop-test .taken) (c .before .least-class .result) (c .before .least-class .ensures)
     (c .if1 .taken) false refl
 
-mul-choice : tie.Need-mul-choice Inv-loop μ-loop
-mul-choice c = search needs
-
 array-write-choice : tie.Need-array-write-choice Inv-loop μ-loop
 array-write-choice c =
     let s = c .before .before .before .before in
     let few = s .pre .0 in
     let long = c .before .before .before .loop .inv .long in
     search needs
-
-add-q : tie.Need-add-q Inv-loop μ-loop
-add-q c = search needs
-
-loop-less : tie.Need-loop-less Inv-loop μ-loop
-loop-less c = omega arith
 
 loop-again : tie.Need-loop-again Inv-loop μ-loop
 loop-again c =
@@ -62,15 +53,5 @@ returns-2 c =
 pub least-classes-spec : {M : Type 1} → statement M
 least-classes-spec =
     tie.close
-    (tie.spec
-    Inv-loop
-    μ-loop
-    loop-holds
-    least-class-requires
-    returns
-    mul-choice
-    array-write-choice
-    add-q
-    loop-less
-    loop-again
-    returns-2)
+    (tie.spec Inv-loop μ-loop loop-holds least-class-requires returns (λ c. search needs) array-write-choice
+    (λ c. search needs) (λ c. omega arith) loop-again returns-2)

@@ -45,12 +45,6 @@ add-choice c =
 array-write-choice : tie.Need-array-write-choice Inv-loop μ-loop
 array-write-choice c = omega (arith, c .before .before .before .pre .0 .0, c .before .loop-test .taken)
 
-add-q : tie.Need-add-q Inv-loop μ-loop
-add-q c = search needs
-
-loop-less : tie.Need-loop-less Inv-loop μ-loop
-loop-less c = omega arith
-
 loop-again : tie.Need-loop-again Inv-loop μ-loop
 loop-again c =
     let s = c .before .before .before in
@@ -67,16 +61,5 @@ returns c =
 pub least-signs-spec : {M : Type 1} → statement M
 least-signs-spec =
     tie.close
-    (tie.spec
-    Inv-loop
-    μ-loop
-    loop-holds
-    least-sign-requires
-    array-read-choice
-    mul-choice
-    add-choice
-    array-write-choice
-    add-q
-    loop-less
-    loop-again
-    returns)
+    (tie.spec Inv-loop μ-loop loop-holds least-sign-requires array-read-choice mul-choice add-choice array-write-choice
+    (λ c. search needs) (λ c. omega arith) loop-again returns)

@@ -20,26 +20,8 @@ Inv-loop table₀ n i second g j₀ table j =
 abbrev μ-loop : tie.MeasureT-loop
 μ-loop table₀ n i second g j₀ table j = n - j
 
-mul-g : tie.Need-mul-g Inv-loop μ-loop
-mul-g c = search needs
-
-array-copy-out-g : tie.Need-array-copy-out-g Inv-loop μ-loop
-array-copy-out-g c = search needs
-
 loop-holds : tie.Need-loop-holds Inv-loop μ-loop
 loop-holds c = λ first e T. T
-
-mul-h : tie.Need-mul-h Inv-loop μ-loop
-mul-h c = search needs
-
-array-copy-out-h : tie.Need-array-copy-out-h Inv-loop μ-loop
-array-copy-out-h c = search needs
-
-class-equation-requires : tie.Need-class-equation-requires Inv-loop μ-loop
-class-equation-requires c κs = search needs
-
-mul-insert : tie.Need-mul-insert Inv-loop μ-loop
-mul-insert c = search needs
 
 insert-requires : tie.Need-insert-requires Inv-loop μ-loop
 insert-requires c κs =
@@ -52,12 +34,6 @@ insert-requires c κs =
           ∙ class-short (s .args .n) (getD (s .args .t3) (s .args .i) noGenerator) (getD (s .args .t4) (l .j) noGenerator)
           (s .pre .0 .1 .within (s .args .i) (s .pre .0 .2)) j k),
     )
-
-add-j : tie.Need-add-j Inv-loop μ-loop
-add-j c = search needs
-
-loop-less : tie.Need-loop-less Inv-loop μ-loop
-loop-less c = omega arith
 
 loop-again : tie.Need-loop-again Inv-loop μ-loop
 loop-again c =
@@ -78,18 +54,6 @@ returns c =
 pub class-rows-spec : {M : Type 1} → statement M
 class-rows-spec =
     tie.close
-    (tie.spec
-    Inv-loop
-    μ-loop
-    mul-g
-    array-copy-out-g
-    loop-holds
-    mul-h
-    array-copy-out-h
-    class-equation-requires
-    mul-insert
-    insert-requires
-    add-j
-    loop-less
-    loop-again
+    (tie.spec Inv-loop μ-loop (λ c. search needs) (λ c. search needs) loop-holds (λ c. search needs) (λ c. search needs)
+    (λ c κs. search needs) (λ c. search needs) insert-requires (λ c. search needs) (λ c. omega arith) loop-again
     returns)

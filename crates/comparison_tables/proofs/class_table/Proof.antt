@@ -28,12 +28,6 @@ class-rows-requires c κs =
     let s = c .before .before .before in
     ((s .pre .0, s .pre .1, c .before .loop-test .taken), c .before .before .loop .inv .1)
 
-add-i : tie.Need-add-i Inv-loop μ-loop
-add-i c = search needs
-
-loop-less : tie.Need-loop-less Inv-loop μ-loop
-loop-less c = omega arith
-
 loop-again : tie.Need-loop-again Inv-loop μ-loop
 loop-again c = (omega arith, c .class-rows .ensures)
 
@@ -47,12 +41,4 @@ returns c =
 pub class-table-spec : {M : Type 1} → statement M
 class-table-spec =
     tie.close
-    (tie.spec
-    Inv-loop
-    μ-loop
-    loop-holds
-    class-rows-requires
-    add-i
-    loop-less
-    loop-again
-    returns)
+    (tie.spec Inv-loop μ-loop loop-holds class-rows-requires (λ c. search needs) (λ c. omega arith) loop-again returns)

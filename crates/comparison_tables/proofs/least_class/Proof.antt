@@ -21,12 +21,6 @@ abbrev μ-loop : tie.MeasureT-loop
 loop-holds : tie.Need-loop-holds Inv-loop μ-loop
 loop-holds c = none-missed _ _ _ _ _
 
-mul-next : tie.Need-mul-next Inv-loop μ-loop
-mul-next c = search needs
-
-array-write-next : tie.Need-array-write-next Inv-loop μ-loop
-array-write-next c = search needs
-
 class-words-requires : tie.Need-class-words-requires Inv-loop μ-loop
 class-words-requires c κs =
     let s = c .before .before in
@@ -37,9 +31,6 @@ class-words-requires c κs =
           (omega (arith, s .pre .0, s .pre .1, long)) (omega (arith, c .loop-test .taken)),
     )
 
-broken-requires : tie.Need-broken-requires Inv-loop μ-loop
-broken-requires c κs = search needs
-
 returns : tie.Need-returns Inv-loop μ-loop
 returns c =
     let a = c .before .before .before .before .before .args in
@@ -47,12 +38,6 @@ returns c =
     one-fits (classAssignment (a .n)) (equationsIn (a .table .now)) (a .q) (λ u. codesOf (withClass (a .choice) (a .q) u)) 6 (l .v) (l .inv)
     (c .before .before .class-words .result) (c .before .before .class-words .ensures) (c .before .broken .result)
     (c .before .broken .ensures) (not-true (c .before .broken .result) (c .if1 .taken))
-
-add-v : tie.Need-add-v Inv-loop μ-loop
-add-v c = search needs
-
-loop-less : tie.Need-loop-less Inv-loop μ-loop
-loop-less c = omega arith
 
 loop-again : tie.Need-loop-again Inv-loop μ-loop
 loop-again c =
@@ -72,16 +57,5 @@ returns-2 c =
 pub least-class-spec : {M : Type 1} → statement M
 least-class-spec =
     tie.close
-    (tie.spec
-    Inv-loop
-    μ-loop
-    loop-holds
-    mul-next
-    array-write-next
-    class-words-requires
-    broken-requires
-    returns
-    add-v
-    loop-less
-    loop-again
-    returns-2)
+    (tie.spec Inv-loop μ-loop loop-holds (λ c. search needs) (λ c. search needs) class-words-requires
+    (λ c κs. search needs) returns (λ c. search needs) (λ c. omega arith) loop-again returns-2)

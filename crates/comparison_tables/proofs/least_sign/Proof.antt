@@ -18,9 +18,6 @@ abbrev μ-loop : tie.MeasureT-loop
 loop-holds : tie.Need-loop-holds Inv-loop μ-loop
 loop-holds c = none-missed _ _ _ _ _
 
-array-read-next : tie.Need-array-read-next Inv-loop μ-loop
-array-read-next c = search needs
-
 mul-next : tie.Need-mul-next Inv-loop μ-loop
 mul-next c =
     let small = c .before .before .pre .2 (c .before .before .args .q) in
@@ -31,14 +28,8 @@ add-next c =
     let small = c .before .before .pre .2 (c .before .before .args .q) in
     search needs
 
-array-write-next : tie.Need-array-write-next Inv-loop μ-loop
-array-write-next c = search needs
-
 sign-words-requires : tie.Need-sign-words-requires Inv-loop μ-loop
 sign-words-requires c κs = c .before .before .pre .0
-
-broken-requires : tie.Need-broken-requires Inv-loop μ-loop
-broken-requires c κs = search needs
 
 returns : tie.Need-returns Inv-loop μ-loop
 returns c =
@@ -47,12 +38,6 @@ returns c =
     one-fits (signAssignment (a .n)) (equationsIn (a .table .now)) (a .q) (λ u. codesOf (withSigns (a .t3) (a .q) u)) 4 (l .v) (l .inv)
     (c .before .before .sign-words .result) (c .before .before .sign-words .ensures) (c .before .broken .result)
     (c .before .broken .ensures) (not-true (c .before .broken .result) (c .if1 .taken))
-
-add-v : tie.Need-add-v Inv-loop μ-loop
-add-v c = search needs
-
-loop-less : tie.Need-loop-less Inv-loop μ-loop
-loop-less c = omega arith
 
 loop-again : tie.Need-loop-again Inv-loop μ-loop
 loop-again c =
@@ -72,18 +57,5 @@ returns-2 c =
 pub least-sign-spec : {M : Type 1} → statement M
 least-sign-spec =
     tie.close
-    (tie.spec
-    Inv-loop
-    μ-loop
-    loop-holds
-    array-read-next
-    mul-next
-    add-next
-    array-write-next
-    sign-words-requires
-    broken-requires
-    returns
-    add-v
-    loop-less
-    loop-again
-    returns-2)
+    (tie.spec Inv-loop μ-loop loop-holds (λ c. search needs) mul-next add-next (λ c. search needs) sign-words-requires
+    (λ c κs. search needs) returns (λ c. search needs) (λ c. omega arith) loop-again returns-2)

@@ -29,24 +29,6 @@ loop-holds c =
           (empty-rows-solved (a .table .now) (c .pre .1 .1)),
     )
 
-mul-g : tie.Need-mul-g Inv-loop μ-loop
-mul-g c = search needs
-
-array-copy-out-g : tie.Need-array-copy-out-g Inv-loop μ-loop
-array-copy-out-g c = search needs
-
-slice-aggregate-send : tie.Need-slice-aggregate-send Inv-loop μ-loop
-slice-aggregate-send c = search needs
-
-send-requires : tie.Need-send-requires Inv-loop μ-loop
-send-requires c κs = search needs
-
-element-requires : tie.Need-element-requires Inv-loop μ-loop
-element-requires c κs = search needs
-
-sign-equation-requires : tie.Need-sign-equation-requires Inv-loop μ-loop
-sign-equation-requires c κs = search needs
-
 mul-insert : tie.Need-mul-insert Inv-loop μ-loop
 mul-insert c =
     let few = c .before .before .before .before .before .before .before .before .before .before .pre .0 .0 .few in
@@ -64,12 +46,6 @@ insert-requires c κs =
           (not (Bool·beq (c .before .before .before .before .before .send .result .minus) (c .before .before .before .before .element .result .minus)))
           (s .pre .0 .0 .proper .within (l .i) (c .before .before .before .before .before .before .before .before .loop-test .taken)) j k),
     )
-
-add-i : tie.Need-add-i Inv-loop μ-loop
-add-i c = search needs
-
-loop-less : tie.Need-loop-less Inv-loop μ-loop
-loop-less c = omega arith
 
 loop-again : tie.Need-loop-again Inv-loop μ-loop
 loop-again c =
@@ -98,19 +74,6 @@ returns c =
 pub sign-table-spec : {M : Type 1} → statement M
 sign-table-spec =
     tie.close
-    (tie.spec
-    Inv-loop
-    μ-loop
-    loop-holds
-    mul-g
-    array-copy-out-g
-    slice-aggregate-send
-    send-requires
-    element-requires
-    sign-equation-requires
-    mul-insert
-    insert-requires
-    add-i
-    loop-less
-    loop-again
-    returns)
+    (tie.spec Inv-loop μ-loop loop-holds (λ c. search needs) (λ c. search needs) (λ c. search needs)
+    (λ c κs. search needs) (λ c κs. search needs) (λ c κs. search needs) mul-insert insert-requires (λ c. search needs)
+    (λ c. omega arith) loop-again returns)

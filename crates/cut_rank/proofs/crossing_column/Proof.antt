@@ -4,15 +4,6 @@ use Rattle.cut_rank.proofs.Crossings.{crossing-word, no-crossing}
 use Rattle.cut_rank.proofs.crossing_column.Statement.{statement}
 use Rattle.cut_rank.proofs.crossing_column.Tie as tie
 
-has-requires : tie.Need-has-requires
-has-requires c κs = search needs
-
-mul-result : tie.Need-mul-result
-mul-result c = search needs
-
-shared-slice-read-result : tie.Need-shared-slice-read-result
-shared-slice-read-result c = search needs
-
 returns : tie.Need-returns
 returns c =
     let a = c .before .before .before .args in
@@ -26,4 +17,5 @@ returns-2 c =
     (sym (H .has .ensures) ∙ c .before .if1 .left)
 
 pub crossing-column-spec : {M : Type 1} → statement M
-crossing-column-spec = tie.close (tie.spec has-requires mul-result shared-slice-read-result returns returns-2)
+crossing-column-spec =
+    tie.close (tie.spec (λ c κs. search needs) (λ c. search needs) (λ c. search needs) returns returns-2)

@@ -7,12 +7,6 @@ use Rattle.graph_settling.proofs.SettlingLoop.{next-below, next-dropped
 use Rattle.graph_settling.proofs.settle_next.Statement.{statement}
 use Rattle.graph_settling.proofs.settle_next.Tie as tie
 
-smallest-requires : tie.Need-smallest-requires
-smallest-requires c κs = search needs
-
-mul-is-unsettled : tie.Need-mul-is-unsettled
-mul-is-unsettled c = search needs
-
 slice-read-is-unsettled : tie.Need-slice-read-is-unsettled
 slice-read-is-unsettled c =
     let at = c .before in
@@ -66,12 +60,6 @@ settle-at-requires c κs =
           (sym (looked .is-unsettled .ensures) ∙ not-false _ (branch .if1 .left)),
     )
 
-same-length : tie.Need-same-length
-same-length c = search needs
-
-same-length-2 : tie.Need-same-length-2
-same-length-2 c = search needs
-
 returns-2 : tie.Need-returns-2
 returns-2 c =
     let stepped = c .before .before .before .before in
@@ -85,15 +73,5 @@ returns-2 c =
 pub settle-next-spec : {M : Type 1} → statement M
 settle-next-spec =
     tie.close
-    (tie.spec
-    smallest-requires
-    mul-is-unsettled
-    slice-read-is-unsettled
-    slice-read-is-unsettled-2
-    is-unsettled-requires
-    flip-requires
-    returns
-    settle-at-requires
-    same-length
-    same-length-2
-    returns-2)
+    (tie.spec (λ c κs. search needs) (λ c. search needs) slice-read-is-unsettled slice-read-is-unsettled-2
+    is-unsettled-requires flip-requires returns settle-at-requires (λ c. search needs) (λ c. search needs) returns-2)

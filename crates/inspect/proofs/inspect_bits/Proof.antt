@@ -9,15 +9,6 @@ use Rattle.inspect.proofs.inspect_bits.Tie as tie
 returns : tie.Need-returns
 returns c = no-code (c .before .args .a) _ 8 (c .if1 .taken)
 
-c-bit-requires : tie.Need-c-bit-requires
-c-bit-requires c κs = search needs
-
-d-bit-requires : tie.Need-d-bit-requires
-d-bit-requires c κs = search needs
-
-number-of-requires : tie.Need-number-of-requires
-number-of-requires c κs = search needs
-
 returns-2 : tie.Need-returns-2
 returns-2 c =
     is-code (c .before .before .before .before .args .a) _ 8 (c .before .before .before .if1 .left)
@@ -26,4 +17,4 @@ returns-2 c =
 
 pub inspect-bits-spec : {M : Type 1} → statement M
 inspect-bits-spec =
-    tie.close (tie.spec returns c-bit-requires d-bit-requires number-of-requires returns-2)
+    tie.close (tie.spec returns (λ c κs. search needs) (λ c κs. search needs) (λ c κs. search needs) returns-2)

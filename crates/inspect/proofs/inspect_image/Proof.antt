@@ -10,21 +10,6 @@ use Rattle.inspect.proofs.inspect_image.Tie as tie
 returns : tie.Need-returns
 returns c = no-code (c .before .args .a) _ 8 (c .if1 .taken)
 
-letter-of-requires : tie.Need-letter-of-requires
-letter-of-requires c κs = search needs
-
-image-requires : tie.Need-image-requires
-image-requires c κs = search needs
-
-z-bit-requires : tie.Need-z-bit-requires
-z-bit-requires c κs = search needs
-
-x-bit-requires : tie.Need-x-bit-requires
-x-bit-requires c κs = search needs
-
-number-of-requires : tie.Need-number-of-requires
-number-of-requires c κs = search needs
-
 returns-2 : tie.Need-returns-2
 returns-2 c =
     let imaged = c .before .before .before in
@@ -39,11 +24,5 @@ returns-2 c =
 pub inspect-image-spec : {M : Type 1} → statement M
 inspect-image-spec =
     tie.close
-    (tie.spec
-    returns
-    letter-of-requires
-    image-requires
-    z-bit-requires
-    x-bit-requires
-    number-of-requires
-    returns-2)
+    (tie.spec returns (λ c κs. search needs) (λ c κs. search needs) (λ c κs. search needs) (λ c κs. search needs)
+    (λ c κs. search needs) returns-2)

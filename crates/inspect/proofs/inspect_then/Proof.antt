@@ -11,9 +11,6 @@ returns-2 c =
     is-code (c .before .before .args .a) _ 24 (c .before .if1 .left)
     (no-code (c .before .before .args .b) _ 24 (c .if2 .taken))
 
-then-requires : tie.Need-then-requires
-then-requires c κs = search needs
-
 returns-3 : tie.Need-returns-3
 returns-3 c =
     let a = c .before .before .before .args in
@@ -21,4 +18,4 @@ returns-3 c =
     (is-code (a .b) _ 24 (c .before .if2 .left) (c .then .ensures .0))
 
 pub inspect-then-spec : {M : Type 1} → statement M
-inspect-then-spec = tie.close (tie.spec returns returns-2 then-requires returns-3)
+inspect-then-spec = tie.close (tie.spec returns returns-2 (λ c κs. search needs) returns-3)

@@ -6,9 +6,6 @@ use native.Mathlib.Omega.{arith}
 use Rattle.job_print.proofs.put_step.Statement.{statement}
 use Rattle.job_print.proofs.put_step.Tie as tie
 
-put-number-requires : tie.Need-put-number-requires
-put-number-requires c κs = search needs
-
 put-requires : tie.Need-put-requires
 put-requires c κs =
     let first = c .before .before .before in
@@ -21,9 +18,6 @@ put-requires c κs =
       start .pre,
     )
 
-same-length : tie.Need-same-length
-same-length c = search needs
-
 returns : tie.Need-returns
 returns c =
     let first = c .before .before .before .before .before .before in
@@ -32,4 +26,4 @@ returns c =
     (c .before .before .put .ensures)
 
 pub put-step-spec : {M : Type 1} → statement M
-put-step-spec = tie.close (tie.spec put-number-requires put-requires same-length returns)
+put-step-spec = tie.close (tie.spec (λ c κs. search needs) put-requires (λ c. search needs) returns)

@@ -3,9 +3,6 @@ use Rattle.job_reply.proofs.Starting.{all-printed, all-taken, record-pr
 use Rattle.job_reply.proofs.print_run.Statement.{statement}
 use Rattle.job_reply.proofs.print_run.Tie as tie
 
-run-steps-requires : tie.Need-run-steps-requires
-run-steps-requires c κs = search needs
-
 print-record-requires : tie.Need-print-record-requires
 print-record-requires c κs =
     let R = c .before .before .before .before .before .before .before .before .before in
@@ -13,15 +10,6 @@ print-record-requires c κs =
     let a = S .args in
     let all = all-taken (a .count) (a .steps) (S .pre .few) (S .good .1 .1 .1 .1 .0 .1 .0 .1) in
     record-printable (a .n) _ _ (a .count) _ all _ (S .pre) _ _ _ _ (R .run-steps .ensures)
-
-same-length : tie.Need-same-length
-same-length c = search needs
-
-same-length-2 : tie.Need-same-length-2
-same-length-2 c = search needs
-
-same-length-3 : tie.Need-same-length-3
-same-length-3 c = search needs
 
 returns : tie.Need-returns
 returns c =
@@ -35,10 +23,5 @@ returns c =
 pub print-run-spec : {M : Type 1} → statement M
 print-run-spec =
     tie.close
-    (tie.spec
-    run-steps-requires
-    print-record-requires
-    same-length
-    same-length-2
-    same-length-3
+    (tie.spec (λ c κs. search needs) print-record-requires (λ c. search needs) (λ c. search needs) (λ c. search needs)
     returns)

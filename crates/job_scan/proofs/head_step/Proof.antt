@@ -9,9 +9,6 @@ returns : tie.Need-returns
 unfolding headStep
 returns c = simp (le-ltb _ _ (c .if1 .taken))
 
-array-read-if2 : tie.Need-array-read-if2
-array-read-if2 c = search needs
-
 returns-2 : tie.Need-returns-2
 unfolding headStep
 returns-2 c = simp (lt-ltb _ _ (c .before .if1 .left), ne-eqb _ _ (c .if2 .taken))
@@ -33,9 +30,6 @@ returns-4 c = simp (
   eq-eqb _ _ (c .if4 .taken),
 )
 
-add-t9 : tie.Need-add-t9
-add-t9 c = search needs
-
 returns-5 : tie.Need-returns-5
 unfolding headStep
 returns-5 c = simp (
@@ -47,4 +41,4 @@ returns-5 c = simp (
 
 pub head-step-spec : {M : Type 1} → statement M
 head-step-spec =
-    tie.close (tie.spec returns array-read-if2 returns-2 returns-3 returns-4 add-t9 returns-5)
+    tie.close (tie.spec returns (λ c. search needs) returns-2 returns-3 returns-4 (λ c. search needs) returns-5)

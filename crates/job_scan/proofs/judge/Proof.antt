@@ -6,9 +6,6 @@ use borrow.Author.Tests.{lt-ltb, le-ltb}
 use Rattle.job_scan.proofs.judge.Statement.{statement}
 use Rattle.job_scan.proofs.judge.Tie as tie
 
-at-line-requires : tie.Need-at-line-requires
-at-line-requires c κs = search needs
-
 returns : tie.Need-returns
 unfolding verdict firstFitting
 returns c = simp (← c .before .at-line .ensures, c .if1 .taken)
@@ -40,4 +37,4 @@ returns-4 c = simp (
 )
 
 pub judge-spec : {M : Type 1} → statement M
-judge-spec = tie.close (tie.spec at-line-requires returns returns-2 returns-3 returns-4)
+judge-spec = tie.close (tie.spec (λ c κs. search needs) returns returns-2 returns-3 returns-4)

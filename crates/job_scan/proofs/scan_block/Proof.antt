@@ -24,12 +24,6 @@ loop-holds : tie.Need-loop-holds Inv-loop μ-loop
 unfolding fed
 loop-holds c = (zero-le, refl)
 
-shared-slice-read-scan-byte : tie.Need-shared-slice-read-scan-byte Inv-loop μ-loop
-shared-slice-read-scan-byte c = search needs
-
-scan-byte-requires : tie.Need-scan-byte-requires Inv-loop μ-loop
-scan-byte-requires c κs = search needs
-
 -- a step is stored only among the first 4,096
 step-below : (c : tie.Then1 Inv-loop μ-loop) → c .before .before .before .before .loop .scan .count < 4096
 step-below c =
@@ -42,12 +36,6 @@ mul-steps c = omega (arith, step-below c)
 
 array-set-from-steps : tie.Need-array-set-from-steps Inv-loop μ-loop
 array-set-from-steps c = step-below c
-
-add-i : tie.Need-add-i Inv-loop μ-loop
-add-i c = search needs
-
-loop-less : tie.Need-loop-less Inv-loop μ-loop
-loop-less c = search needs
 
 loop-again : tie.Need-loop-again Inv-loop μ-loop
 loop-again c =
@@ -71,15 +59,5 @@ returns c = c .before .loop .inv .1 ∙ ap (fed _) (take-all _ _ (c .loop-test .
 pub scan-block-spec : {M : Type 1} → statement M
 scan-block-spec =
     tie.close
-    (tie.spec
-    Inv-loop
-    μ-loop
-    loop-holds
-    shared-slice-read-scan-byte
-    scan-byte-requires
-    mul-steps
-    array-set-from-steps
-    add-i
-    loop-less
-    loop-again
-    returns)
+    (tie.spec Inv-loop μ-loop loop-holds (λ c. search needs) (λ c κs. search needs) mul-steps array-set-from-steps
+    (λ c. search needs) (λ c. search needs) loop-again returns)

@@ -5,33 +5,6 @@ use mathlib.Core.Path.{_∙_, ap, sym}
 use Rattle.job_scan.proofs.scan_byte.Statement.{statement}
 use Rattle.job_scan.proofs.scan_byte.Tie as tie
 
-enum-known-place : tie.Need-enum-known-place
-enum-known-place c = search needs
-
-head-step-requires : tie.Need-head-step-requires
-head-step-requires c κs = search needs
-
-at-place-requires : tie.Need-at-place-requires
-at-place-requires c κs = search needs
-
-enum-known-place-2 : tie.Need-enum-known-place-2
-enum-known-place-2 c = search needs
-
-word-step-requires : tie.Need-word-step-requires
-word-step-requires c κs = search needs
-
-enum-known-place-3 : tie.Need-enum-known-place-3
-enum-known-place-3 c = search needs
-
-first-step-requires : tie.Need-first-step-requires
-first-step-requires c κs = search needs
-
-enum-known-place-4 : tie.Need-enum-known-place-4
-enum-known-place-4 c = search needs
-
-more-step-requires : tie.Need-more-step-requires
-more-step-requires c κs = search needs
-
 enum-told : tie.Need-enum-told
 enum-told c = search needs
 
@@ -69,19 +42,6 @@ returns-5 c = sym (ap (λ p. stepAt p (c .before .before .args .s) (c .before .b
 pub scan-byte-spec : {M : Type 1} → statement M
 scan-byte-spec =
     tie.close
-    (tie.spec
-    enum-known-place
-    head-step-requires
-    at-place-requires
-    enum-known-place-2
-    word-step-requires
-    enum-known-place-3
-    first-step-requires
-    enum-known-place-4
-    more-step-requires
-    enum-told
-    returns
-    returns-2
-    returns-3
-    returns-4
-    returns-5)
+    (tie.spec (λ c. search needs) (λ c κs. search needs) (λ c κs. search needs) (λ c. search needs)
+    (λ c κs. search needs) (λ c. search needs) (λ c κs. search needs) (λ c. search needs) (λ c κs. search needs)
+    enum-told returns returns-2 returns-3 returns-4 returns-5)

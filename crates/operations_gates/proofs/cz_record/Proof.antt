@@ -3,9 +3,6 @@ use Rattle.operations_gates.proofs.GatedBuffers.{cz-answered, reduced-h
 use Rattle.operations_gates.proofs.cz_record.Statement.{statement}
 use Rattle.operations_gates.proofs.cz_record.Tie as tie
 
-normalise-requires : tie.Need-normalise-requires
-normalise-requires c κs = search needs
-
 cz-reduced-requires : tie.Need-cz-reduced-requires
 cz-reduced-requires c κs =
     let at-normalise = c .before .before .before .before .before .before in
@@ -22,12 +19,6 @@ cz-reduced-requires c κs =
       ),
     )
 
-same-length : tie.Need-same-length
-same-length c = search needs
-
-same-length-2 : tie.Need-same-length-2
-same-length-2 c = search needs
-
 returns : tie.Need-returns
 returns c =
     let at-cz = c .before .before .before .before in
@@ -38,4 +29,4 @@ returns c =
 
 pub cz-record-spec : {M : Type 1} → statement M
 cz-record-spec =
-    tie.close (tie.spec normalise-requires cz-reduced-requires same-length same-length-2 returns)
+    tie.close (tie.spec (λ c κs. search needs) cz-reduced-requires (λ c. search needs) (λ c. search needs) returns)

@@ -31,12 +31,6 @@ isolate-requires c κs =
     let F = at-clear .bring-to-z .ensures in
     (F .kept .unrefused, brought-below _ _ (begun .pre .0 .0) (begun .args .q) (begun .pre .0 .1) (begun .args .l) _ _ F)
 
-same-length : tie.Need-same-length
-same-length c = search needs
-
-same-length-2 : tie.Need-same-length-2
-same-length-2 c = search needs
-
 returns : tie.Need-returns
 returns c =
     let at-isolate = c .before .before .before .before in
@@ -49,4 +43,4 @@ returns c =
 pub measure-open-spec : {M : Type 1} → statement M
 measure-open-spec =
     tie.close
-    (tie.spec bring-to-z-requires slice-read-minus isolate-requires same-length same-length-2 returns)
+    (tie.spec bring-to-z-requires slice-read-minus isolate-requires (λ c. search needs) (λ c. search needs) returns)

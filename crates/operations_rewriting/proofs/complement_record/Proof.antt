@@ -13,12 +13,6 @@ complement-words-requires c κs =
     let start = c .before .before .before .before .before .before .before .before .pre in
     ((unrefused-short _ _ (start .0), start .1), unrefused-simple _ _ (start .0))
 
-same-length : tie.Need-same-length
-same-length c = search needs
-
-same-length-2 : tie.Need-same-length-2
-same-length-2 c = search needs
-
 returns : tie.Need-returns
 returns c =
     let at-words = c .before .before in
@@ -29,4 +23,4 @@ returns c =
 
 pub complement-record-spec : {M : Type 1} → statement M
 complement-record-spec =
-    tie.close (tie.spec recode-requires complement-words-requires same-length same-length-2 returns)
+    tie.close (tie.spec recode-requires complement-words-requires (λ c. search needs) (λ c. search needs) returns)

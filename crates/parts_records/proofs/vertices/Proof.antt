@@ -30,9 +30,6 @@ loop-holds : tie.Need-loop-holds Inv-loop μ-loop
 loop-holds c = listing-start (c .args .component) _ refl (c .fits .component .fits) (c .pre)
 
 -- src/lib.rt:29:13
-smallest-requires : tie.Need-smallest-requires Inv-loop μ-loop
-smallest-requires c κs = search needs
-
 -- src/lib.rt:30:9
 mul-at : tie.Need-mul-at Inv-loop μ-loop
 mul-at c =
@@ -95,15 +92,5 @@ returns c =
 pub vertices-spec : {M : Type 1} → statement M
 vertices-spec =
     tie.close
-    (tie.spec
-    Inv-loop
-    μ-loop
-    loop-holds
-    smallest-requires
-    mul-at
-    array-write-at
-    add-k
-    flip-requires
-    loop-less
-    loop-again
-    returns)
+    (tie.spec Inv-loop μ-loop loop-holds (λ c κs. search needs) mul-at array-write-at add-k flip-requires loop-less
+    loop-again returns)

@@ -5,9 +5,6 @@ use Rattle.pauli.proofs.WordRows.{anticommute-count}
 use Rattle.pauli.proofs.clashes.Statement.{statement}
 use Rattle.pauli.proofs.clashes.Tie as tie
 
-odd-requires : tie.Need-odd-requires
-odd-requires c κs = search needs
-
 returns : tie.Need-returns
 returns c =
     let a = c .before .args in
@@ -17,4 +14,4 @@ returns c =
     i⁰ i⁰)
 
 pub clashes-spec : {M : Type 1} → statement M
-clashes-spec = tie.close (tie.spec odd-requires returns)
+clashes-spec = tie.close (tie.spec (λ c κs. search needs) returns)

@@ -7,9 +7,6 @@ use Rattle.stabilizer.proofs.EarlyLines.{clash-tested, clashing-letters, says}
 use Rattle.stabilizer_checks.proofs.early_refusal.Statement.{statement}
 use Rattle.stabilizer_checks.proofs.early_refusal.Tie as tie
 
-form-refusal-requires : tie.Need-form-refusal-requires
-form-refusal-requires c κs = search needs
-
 returns : tie.Need-returns
 returns c =
     let E = c .before in
@@ -41,11 +38,4 @@ returns-3 c =
     (later (says (c .before .some-clash .ensures ∙ clashing-letters l) (c .if2 .left)) none)
 
 pub early-refusal-spec : {M : Type 1} → statement M
-early-refusal-spec =
-    tie.close
-    (tie.spec
-    form-refusal-requires
-    returns
-    some-clash-requires
-    returns-2
-    returns-3)
+early-refusal-spec = tie.close (tie.spec (λ c κs. search needs) returns some-clash-requires returns-2 returns-3)

@@ -24,12 +24,6 @@ loop-holds : tie.Need-loop-holds Inv-loop μ-loop
 unfolding fed
 loop-holds c = (zero-le, refl)
 
-shared-slice-read-scan-byte : tie.Need-shared-slice-read-scan-byte Inv-loop μ-loop
-shared-slice-read-scan-byte c = search needs
-
-scan-byte-requires : tie.Need-scan-byte-requires Inv-loop μ-loop
-scan-byte-requires c κs = search needs
-
 -- a line is stored only among the first 64
 line-below : (c : tie.Then1 Inv-loop μ-loop) → c .before .before .before .before .loop .s .count < 64
 line-below c =
@@ -51,12 +45,6 @@ mul-x c = omega (arith, line-below c)
 
 element-write-x : tie.Need-element-write-x Inv-loop μ-loop
 element-write-x c = line-below c
-
-add-i : tie.Need-add-i Inv-loop μ-loop
-add-i c = search needs
-
-loop-less : tie.Need-loop-less Inv-loop μ-loop
-loop-less c = search needs
 
 loop-again : tie.Need-loop-again Inv-loop μ-loop
 loop-again c =
@@ -80,18 +68,5 @@ returns c = c .before .loop .inv .1 ∙ ap (fed _) (take-all _ _ (c .loop-test .
 pub scan-block-spec : {M : Type 1} → statement M
 scan-block-spec =
     tie.close
-    (tie.spec
-    Inv-loop
-    μ-loop
-    loop-holds
-    shared-slice-read-scan-byte
-    scan-byte-requires
-    element-write-signs
-    mul-z
-    element-write-z
-    mul-x
-    element-write-x
-    add-i
-    loop-less
-    loop-again
-    returns)
+    (tie.spec Inv-loop μ-loop loop-holds (λ c. search needs) (λ c κs. search needs) element-write-signs mul-z
+    element-write-z mul-x element-write-x (λ c. search needs) (λ c. search needs) loop-again returns)

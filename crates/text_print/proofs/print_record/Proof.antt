@@ -19,27 +19,9 @@ Inv-loop n neighbours codes from out₀ at₀ q₀ out at q = (q ≤ n)
 abbrev μ-loop : tie.MeasureT-loop
 μ-loop n neighbours codes from out₀ at₀ q₀ out at q = n - q
 
-slice-aggregate-put-bytes : tie.Need-slice-aggregate-put-bytes Inv-loop μ-loop
-slice-aggregate-put-bytes c = search needs
-
-put-bytes-requires : tie.Need-put-bytes-requires Inv-loop μ-loop
-put-bytes-requires c κs = search needs
-
 loop-holds : tie.Need-loop-holds Inv-loop μ-loop
 unfolding qubitLines
 loop-holds c = (zero-le, record { end = sym (add-zero _); out = write-none _ _ }, refl)
-
-cast-put-line : tie.Need-cast-put-line Inv-loop μ-loop
-cast-put-line c = search needs
-
-shared-slice-read-put-line : tie.Need-shared-slice-read-put-line Inv-loop μ-loop
-shared-slice-read-put-line c = search needs
-
-mul-put-line : tie.Need-mul-put-line Inv-loop μ-loop
-mul-put-line c = search needs
-
-shared-slice-read-put-line-2 : tie.Need-shared-slice-read-put-line-2 Inv-loop μ-loop
-shared-slice-read-put-line-2 c = search needs
 
 put-line-requires : tie.Need-put-line-requires Inv-loop μ-loop
 put-line-requires c κs =
@@ -57,12 +39,6 @@ put-line-requires c κs =
       start .pre .room,
       start .pre .qubits,
     )
-
-add-q : tie.Need-add-q Inv-loop μ-loop
-add-q c = search needs
-
-loop-less : tie.Need-loop-less Inv-loop μ-loop
-loop-less c = search needs
 
 loop-again : tie.Need-loop-again Inv-loop μ-loop
 unfolding qubitLines
@@ -87,9 +63,6 @@ loop-again c =
       search needs,
     )
 
-same-length : tie.Need-same-length Inv-loop μ-loop
-same-length c = search needs
-
 returns : tie.Need-returns Inv-loop μ-loop
 unfolding recordText
 returns c =
@@ -105,19 +78,6 @@ returns c =
 pub print-record-spec : {M : Type 1} → statement M
 print-record-spec =
     tie.close
-    (tie.spec
-    Inv-loop
-    μ-loop
-    slice-aggregate-put-bytes
-    put-bytes-requires
-    loop-holds
-    cast-put-line
-    shared-slice-read-put-line
-    mul-put-line
-    shared-slice-read-put-line-2
-    put-line-requires
-    add-q
-    loop-less
-    loop-again
-    same-length
-    returns)
+    (tie.spec Inv-loop μ-loop (λ c. search needs) (λ c κs. search needs) loop-holds (λ c. search needs)
+    (λ c. search needs) (λ c. search needs) (λ c. search needs) put-line-requires (λ c. search needs)
+    (λ c. search needs) loop-again (λ c. search needs) returns)

@@ -20,9 +20,6 @@ returns-3 c = simp (
   lt-ltb _ _ (c .if3 .taken),
 )
 
-sub-result : tie.Need-sub-result
-sub-result c = search needs
-
 returns-4 : tie.Need-returns-4
 unfolding hexValue
 returns-4 c = simp (
@@ -42,4 +39,4 @@ returns-5 c = simp (
 )
 
 pub hex-value-spec : {M : Type 1} → statement M
-hex-value-spec = tie.close (tie.spec returns returns-2 returns-3 sub-result returns-4 returns-5)
+hex-value-spec = tie.close (tie.spec returns returns-2 returns-3 (λ c. search needs) returns-4 returns-5)

@@ -4,9 +4,6 @@ use Rattle.text.specs.internal.Scan.{oneMore}
 use Rattle.text_scan.proofs.one_more.Statement.{statement}
 use Rattle.text_scan.proofs.one_more.Tie as tie
 
-add-result : tie.Need-add-result
-add-result c = search needs
-
 returns : tie.Need-returns
 unfolding oneMore
 returns c = simp (lt-ltb _ _ (c .if1 .taken))
@@ -16,4 +13,4 @@ unfolding oneMore
 returns-2 c = simp (le-ltb _ _ (c .if1 .left))
 
 pub one-more-spec : {M : Type 1} → statement M
-one-more-spec = tie.close (tie.spec add-result returns returns-2)
+one-more-spec = tie.close (tie.spec (λ c. search needs) returns returns-2)

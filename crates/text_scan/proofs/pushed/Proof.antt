@@ -4,12 +4,9 @@ use Rattle.text.specs.internal.Scan.{push}
 use Rattle.text_scan.proofs.pushed.Statement.{statement}
 use Rattle.text_scan.proofs.pushed.Tie as tie
 
-add-result : tie.Need-add-result
-add-result c = search needs
-
 returns : tie.Need-returns
 unfolding push
 returns c = refl
 
 pub pushed-spec : {M : Type 1} → statement M
-pushed-spec = tie.close (tie.spec add-result returns)
+pushed-spec = tie.close (tie.spec (λ c. search needs) returns)

@@ -7,44 +7,8 @@ use Rattle.text.specs.internal.Scan.{moved, scanByte, stepAt}
 use Rattle.text_scan.proofs.scan_byte.Statement.{statement}
 use Rattle.text_scan.proofs.scan_byte.Tie as tie
 
-enum-known-place : tie.Need-enum-known-place
-enum-known-place c = search needs
-
-names-step-requires : tie.Need-names-step-requires
-names-step-requires c κs = search needs
-
-at-place-requires : tie.Need-at-place-requires
-at-place-requires c κs = search needs
-
 enum-told : tie.Need-enum-told
 enum-told c = search needs
-
-sign-step-requires : tie.Need-sign-step-requires
-sign-step-requires c κs = search needs
-
-enum-told-2 : tie.Need-enum-told-2
-enum-told-2 c = search needs
-
-at-place-requires-2 : tie.Need-at-place-requires-2
-at-place-requires-2 c κs = search needs
-
-at-place-requires-3 : tie.Need-at-place-requires-3
-at-place-requires-3 c κs = search needs
-
-enum-known-place-2 : tie.Need-enum-known-place-2
-enum-known-place-2 c = search needs
-
-z-step-requires : tie.Need-z-step-requires
-z-step-requires c κs = search needs
-
-enum-known-place-3 : tie.Need-enum-known-place-3
-enum-known-place-3 c = search needs
-
-x-step-requires : tie.Need-x-step-requires
-x-step-requires c κs = search needs
-
-enum-told-3 : tie.Need-enum-told-3
-enum-told-3 c = search needs
 
 returns : tie.Need-returns
 unfolding scanByte
@@ -98,24 +62,7 @@ returns-7 c = sym (ap (λ p. stepAt p (c .before .before .args .s) (c .before .b
 pub scan-byte-spec : {M : Type 1} → statement M
 scan-byte-spec =
     tie.close
-    (tie.spec
-    enum-known-place
-    names-step-requires
-    at-place-requires
-    enum-told
-    sign-step-requires
-    enum-told-2
-    at-place-requires-2
-    at-place-requires-3
-    enum-known-place-2
-    z-step-requires
-    enum-known-place-3
-    x-step-requires
-    enum-told-3
-    returns
-    returns-2
-    returns-3
-    returns-4
-    returns-5
-    returns-6
-    returns-7)
+    (tie.spec (λ c. search needs) (λ c κs. search needs) (λ c κs. search needs) enum-told (λ c κs. search needs)
+    (λ c. search needs) (λ c κs. search needs) (λ c κs. search needs) (λ c. search needs) (λ c κs. search needs)
+    (λ c. search needs) (λ c κs. search needs) (λ c. search needs) returns returns-2 returns-3 returns-4 returns-5
+    returns-6 returns-7)

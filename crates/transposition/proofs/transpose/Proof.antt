@@ -5,9 +5,6 @@ use Rattle.transposition.proofs.Rounds.{six-rounds}
 use Rattle.transposition.proofs.transpose.Statement.{statement}
 use Rattle.transposition.proofs.transpose.Tie as tie
 
-size-for-requires : tie.Need-size-for-requires
-size-for-requires c κs = search needs
-
 exchange-requires : tie.Need-exchange-requires
 exchange-requires c κs =
     let size = c .before .size-for .ensures .1 in
@@ -52,12 +49,5 @@ returns c =
 pub transpose-spec : {M : Type 1} → statement M
 transpose-spec =
     tie.close
-    (tie.spec
-    size-for-requires
-    exchange-requires
-    exchange-requires-2
-    exchange-requires-3
-    exchange-requires-4
-    exchange-requires-5
-    exchange-requires-6
-    returns)
+    (tie.spec (λ c κs. search needs) exchange-requires exchange-requires-2 exchange-requires-3 exchange-requires-4
+    exchange-requires-5 exchange-requires-6 returns)

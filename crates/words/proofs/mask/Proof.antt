@@ -6,12 +6,6 @@ use borrow.Author.Needs.{needs}
 use Rattle.words.proofs.mask.Statement.{statement}
 use Rattle.words.proofs.mask.Tie as tie
 
-sub-result : tie.Need-sub-result
-sub-result c = search needs
-
-shr-result : tie.Need-shr-result
-shr-result c = search needs
-
 returns : tie.Need-returns
 returns c =
     let n = c .args .n in
@@ -20,4 +14,4 @@ returns c =
     ∙ high (2 ^ n - 1) (64 - n) (ones-lt (64 - n))
 
 pub mask-spec : {M : Type 1} → statement M
-mask-spec = tie.close (tie.spec sub-result shr-result returns)
+mask-spec = tie.close (tie.spec (λ c. search needs) (λ c. search needs) returns)

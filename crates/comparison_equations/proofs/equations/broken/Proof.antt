@@ -13,29 +13,8 @@ Inv-loop table q w i₀ i = (i ≤ 4 * q + 4) × TestedBelow (equationsIn table)
 abbrev μ-loop : tie.MeasureT-loop
 μ-loop table q w i₀ i = (4 * q + 4) - i
 
-mul-i : tie.Need-mul-i Inv-loop μ-loop
-mul-i c = search needs
-
 loop-holds : tie.Need-loop-holds Inv-loop μ-loop
 loop-holds c = (omega arith, none-tested _ _ _)
-
-mul-loop : tie.Need-mul-loop Inv-loop μ-loop
-mul-loop c = search needs
-
-add-loop : tie.Need-add-loop Inv-loop μ-loop
-add-loop c = search needs
-
-mul-equation : tie.Need-mul-equation Inv-loop μ-loop
-mul-equation c = search needs
-
-element-copy-out-equation : tie.Need-element-copy-out-equation Inv-loop μ-loop
-element-copy-out-equation c = search needs
-
-equation-requires : tie.Need-equation-requires Inv-loop μ-loop
-equation-requires c κs = search needs
-
-fails-requires : tie.Need-fails-requires Inv-loop μ-loop
-fails-requires c κs = search needs
 
 returns : tie.Need-returns Inv-loop μ-loop
 returns c =
@@ -45,12 +24,6 @@ returns c =
     one-fails (equationsIn (a .table .now)) (a .q) (a .w) (l .i) (l .inv .1) (c .before .before .before .before .loop-test .taken)
     (e .result) (c .before .fails .result) (e .ensures ∙ sym (row-at (a .table .now) (l .i)))
     (c .before .fails .ensures) (c .if1 .taken)
-
-add-i : tie.Need-add-i Inv-loop μ-loop
-add-i c = search needs
-
-loop-less : tie.Need-loop-less Inv-loop μ-loop
-loop-less c = omega arith
 
 loop-again : tie.Need-loop-again Inv-loop μ-loop
 loop-again c =
@@ -71,19 +44,6 @@ returns-2 c =
 pub broken-spec : {M : Type 1} → statement M
 broken-spec =
     tie.close
-    (tie.spec
-    Inv-loop
-    μ-loop
-    mul-i
-    loop-holds
-    mul-loop
-    add-loop
-    mul-equation
-    element-copy-out-equation
-    equation-requires
-    fails-requires
-    returns
-    add-i
-    loop-less
-    loop-again
-    returns-2)
+    (tie.spec Inv-loop μ-loop (λ c. search needs) loop-holds (λ c. search needs) (λ c. search needs) (λ c. search needs)
+    (λ c. search needs) (λ c κs. search needs) (λ c κs. search needs) returns (λ c. search needs) (λ c. omega arith)
+    loop-again returns-2)

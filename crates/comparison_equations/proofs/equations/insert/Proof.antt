@@ -25,29 +25,8 @@ abbrev μ-loop : tie.MeasureT-loop
 loop-holds : tie.Need-loop-holds Inv-loop μ-loop
 loop-holds c = (c .pre .0, insert-start (equationsIn (c .args .table .now)) (c .args .e) (c .args .m) (c .pre .2))
 
-sub-i : tie.Need-sub-i Inv-loop μ-loop
-sub-i c = search needs
-
-has-unknown-requires : tie.Need-has-unknown-requires Inv-loop μ-loop
-has-unknown-requires c κs = search needs
-
-mul-equation : tie.Need-mul-equation Inv-loop μ-loop
-mul-equation c = search needs
-
 element-copy-out-equation : tie.Need-element-copy-out-equation Inv-loop μ-loop
 element-copy-out-equation c = omega (arith, c .before .before .before .loop .inv .0, c .before .before .loop-test .taken)
-
-equation-requires : tie.Need-equation-requires Inv-loop μ-loop
-equation-requires c κs = search needs
-
-span-requires : tie.Need-span-requires Inv-loop μ-loop
-span-requires c κs = search needs
-
-row-requires : tie.Need-row-requires Inv-loop μ-loop
-row-requires c κs = search needs
-
-mul-t16 : tie.Need-mul-t16 Inv-loop μ-loop
-mul-t16 c = search needs
 
 element-set-from-table : tie.Need-element-set-from-table Inv-loop μ-loop
 element-set-from-table c = omega (arith, c .before .before .before .before .before .before .before .before .loop .inv .0, c .before .before .before .before .before .before .before .loop-test .taken)
@@ -64,12 +43,6 @@ returns c =
     (sym (c .before .before .before .before .before .before .has-unknown .ensures) ∙ c .before .before .before .before .before .if1 .taken) (e .result)
     (e .ensures ∙ sym (row-at (l .table) (l .i - 1))) (sym (c .before .before .span .ensures) ∙ c .before .if2 .taken))
 
-add-requires : tie.Need-add-requires Inv-loop μ-loop
-add-requires c κs = search needs
-
-loop-less : tie.Need-loop-less Inv-loop μ-loop
-loop-less c = omega arith
-
 loop-again : tie.Need-loop-again Inv-loop μ-loop
 loop-again c =
     let s = c .before .before .before .before .before .before .before .before .before in
@@ -82,9 +55,6 @@ loop-again c =
           (e .ensures ∙ sym (row-at (l .table) (l .i - 1)))
           (λ none. c .before .if2 .left (c .before .before .span .ensures ∙ none)) (c .add .ensures),
     )
-
-loop-less-2 : tie.Need-loop-less-2 Inv-loop μ-loop
-loop-less-2 c = omega arith
 
 loop-again-2 : tie.Need-loop-again-2 Inv-loop μ-loop
 loop-again-2 c =
@@ -106,23 +76,7 @@ returns-2 c =
 pub insert-spec : {M : Type 1} → statement M
 insert-spec =
     tie.close
-    (tie.spec
-    Inv-loop
-    μ-loop
-    loop-holds
-    sub-i
-    has-unknown-requires
-    mul-equation
-    element-copy-out-equation
-    equation-requires
-    span-requires
-    row-requires
-    mul-t16
-    element-set-from-table
-    returns
-    add-requires
-    loop-less
-    loop-again
-    loop-less-2
-    loop-again-2
+    (tie.spec Inv-loop μ-loop loop-holds (λ c. search needs) (λ c κs. search needs) (λ c. search needs)
+    element-copy-out-equation (λ c κs. search needs) (λ c κs. search needs) (λ c κs. search needs) (λ c. search needs)
+    element-set-from-table returns (λ c κs. search needs) (λ c. omega arith) loop-again (λ c. omega arith) loop-again-2
     returns-2)

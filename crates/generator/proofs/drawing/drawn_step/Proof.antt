@@ -7,20 +7,11 @@ use borrow.Author.Needs.{needs}
 use Rattle.generator.proofs.drawing.drawn_step.Statement.{statement}
 use Rattle.generator.proofs.drawing.drawn_step.Tie as tie
 
-below-requires : tie.Need-below-requires
-below-requires c κs = search needs
-
-below-requires-2 : tie.Need-below-requires-2
-below-requires-2 c κs = search needs
-
 returns : tie.Need-returns
 returns c =
     let start = c .before .before .before in
     ap₂ (λ a v. does Gate a 0 v) (c .before .before .below .ensures) (c .below2 .ensures)
     ∙ sym (gate-picked (start .args .n) (start .args .d) (c .before .if1 .taken))
-
-below-requires-3 : tie.Need-below-requires-3
-below-requires-3 c κs = search needs
 
 returns-2 : tie.Need-returns-2
 returns-2 c =
@@ -39,18 +30,6 @@ returns-3 c =
     ∙ sym (cz-on-two (start .args .n) (start .args .d) (c .before .before .if2 .taken)
     (λ same. c .if3 .left (a ∙ same ∙ sym b)))
 
-below-requires-4 : tie.Need-below-requires-4
-below-requires-4 c κs = search needs
-
-mul-t16 : tie.Need-mul-t16
-mul-t16 c = search needs
-
-below-requires-5 : tie.Need-below-requires-5
-below-requires-5 c κs = search needs
-
-add-t19 : tie.Need-add-t19
-add-t19 c = search needs
-
 returns-4 : tie.Need-returns-4
 returns-4 c =
     let start = c .before .before .before .before .before in
@@ -62,15 +41,5 @@ returns-4 c =
 pub drawn-step-spec : {M : Type 1} → statement M
 drawn-step-spec =
     tie.close
-    (tie.spec
-    below-requires
-    below-requires-2
-    returns
-    below-requires-3
-    returns-2
-    returns-3
-    below-requires-4
-    mul-t16
-    below-requires-5
-    add-t19
-    returns-4)
+    (tie.spec (λ c κs. search needs) (λ c κs. search needs) returns (λ c κs. search needs) returns-2 returns-3
+    (λ c κs. search needs) (λ c. search needs) (λ c κs. search needs) (λ c. search needs) returns-4)

@@ -5,12 +5,6 @@ use Rattle.image_rule.proofs.Recoding.{recoded-by}
 use Rattle.image_rule.proofs.complementing.recoded_place.Statement.{statement}
 use Rattle.image_rule.proofs.complementing.recoded_place.Tie as tie
 
-then-requires : tie.Need-then-requires
-then-requires c κs = search needs
-
-then-requires-2 : tie.Need-then-requires-2
-then-requires-2 c κs = search needs
-
 returns : tie.Need-returns
 returns c =
     let a = c .before .before .args in (
@@ -31,4 +25,4 @@ returns-3 : tie.Need-returns-3
 returns-3 c = (simp (c .before .if1 .left, c .if2 .left), omega arith)
 
 pub recoded-place-spec : {M : Type 1} → statement M
-recoded-place-spec = tie.close (tie.spec then-requires then-requires-2 returns returns-2 returns-3)
+recoded-place-spec = tie.close (tie.spec (λ c κs. search needs) (λ c κs. search needs) returns returns-2 returns-3)

@@ -15,27 +15,12 @@ abbrev μ-loop : tie.MeasureT-loop
 loop-holds : tie.Need-loop-holds Inv-loop μ-loop
 loop-holds c = not-yet _ (c .args .n)
 
-mul-joined : tie.Need-mul-joined Inv-loop μ-loop
-mul-joined c = search needs
-
-array-read-joined : tie.Need-array-read-joined Inv-loop μ-loop
-array-read-joined c = search needs
-
-joined-requires : tie.Need-joined-requires Inv-loop μ-loop
-joined-requires c κs = search needs
-
 returns : tie.Need-returns Inv-loop μ-loop
 returns c =
     let a = c .before .before .before .before .args in
     found-here (joinedIn (a .t1) (a .c)) (a .n) (c .before .before .before .loop .j)
     (c .before .before .before .loop .inv) (c .before .before .loop-test .taken)
     (sym (c .before .joined .ensures) ∙ c .if1 .taken)
-
-add-j : tie.Need-add-j Inv-loop μ-loop
-add-j c = search needs
-
-loop-less : tie.Need-loop-less Inv-loop μ-loop
-loop-less c = search needs
 
 loop-again : tie.Need-loop-again Inv-loop μ-loop
 loop-again c =
@@ -53,15 +38,5 @@ returns-2 c =
 pub first-joined-spec : {M : Type 1} → statement M
 first-joined-spec =
     tie.close
-    (tie.spec
-    Inv-loop
-    μ-loop
-    loop-holds
-    mul-joined
-    array-read-joined
-    joined-requires
-    returns
-    add-j
-    loop-less
-    loop-again
-    returns-2)
+    (tie.spec Inv-loop μ-loop loop-holds (λ c. search needs) (λ c. search needs) (λ c κs. search needs) returns
+    (λ c. search needs) (λ c. search needs) loop-again returns-2)

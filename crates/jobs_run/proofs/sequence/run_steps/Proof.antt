@@ -22,12 +22,6 @@ Inv-loop n neighbours₀ codes₀ count out₀ steps known at₀ k₀ neighbours
 abbrev μ-loop : tie.MeasureT-loop
 μ-loop n neighbours₀ codes₀ count out₀ steps known at₀ k₀ neighbours codes out at k = count - k
 
-record-refusal-requires : tie.Need-record-refusal-requires Inv-loop μ-loop
-record-refusal-requires c κs = search needs
-
-print-result-names-requires : tie.Need-print-result-names-requires Inv-loop μ-loop
-print-result-names-requires c κs = search needs
-
 loop-holds : tie.Need-loop-holds Inv-loop μ-loop
 loop-holds c =
     let S = c .before .before .before .before .before .before .before .before .before .before in
@@ -40,17 +34,8 @@ loop-holds c =
       known-by l _ (c .before .before .before .before .record-refusal .ensures),
     )
 
-mul-s : tie.Need-mul-s Inv-loop μ-loop
-mul-s c = search needs
-
-array-copy-out-s : tie.Need-array-copy-out-s Inv-loop μ-loop
-array-copy-out-s c = search needs
-
 run-step-requires : tie.Need-run-step-requires Inv-loop μ-loop
 run-step-requires c κs = c .before .before .before .before .loop .inv .4
-
-cast-print-result : tie.Need-cast-print-result Inv-loop μ-loop
-cast-print-result c = search needs
 
 print-result-requires : tie.Need-print-result-requires Inv-loop μ-loop
 print-result-requires c κs =
@@ -71,12 +56,6 @@ print-result-requires c κs =
       small .2,
       line-fits l (a .t5) (a .count) (S .pre .0) long _ _ room _ _ _ _ _ (A .loop .inv .0) (I .loop-test .taken),
     )
-
-add-k : tie.Need-add-k Inv-loop μ-loop
-add-k c = search needs
-
-loop-less : tie.Need-loop-less Inv-loop μ-loop
-loop-less c = search needs
 
 loop-again : tie.Need-loop-again Inv-loop μ-loop
 loop-again c =
@@ -100,15 +79,6 @@ loop-again c =
           (R .run-step .ensures),
     )
 
-same-length : tie.Need-same-length Inv-loop μ-loop
-same-length c = search needs
-
-same-length-2 : tie.Need-same-length-2 Inv-loop μ-loop
-same-length-2 c = search needs
-
-same-length-3 : tie.Need-same-length-3 Inv-loop μ-loop
-same-length-3 c = search needs
-
 returns : tie.Need-returns Inv-loop μ-loop
 returns c =
     let A = c .before in
@@ -124,21 +94,6 @@ returns c =
 pub run-steps-spec : {M : Type 1} → statement M
 run-steps-spec =
     tie.close
-    (tie.spec
-    Inv-loop
-    μ-loop
-    record-refusal-requires
-    print-result-names-requires
-    loop-holds
-    mul-s
-    array-copy-out-s
-    run-step-requires
-    cast-print-result
-    print-result-requires
-    add-k
-    loop-less
-    loop-again
-    same-length
-    same-length-2
-    same-length-3
-    returns)
+    (tie.spec Inv-loop μ-loop (λ c κs. search needs) (λ c κs. search needs) loop-holds (λ c. search needs)
+    (λ c. search needs) run-step-requires (λ c. search needs) print-result-requires (λ c. search needs)
+    (λ c. search needs) loop-again (λ c. search needs) (λ c. search needs) (λ c. search needs) returns)

@@ -18,22 +18,10 @@ slice-read-code-b c =
     let start = c .before .before .before .before .pre in
     unrefused-place _ _ (start .0) _ (start .1 .1 .1)
 
-mul-reach-word : tie.Need-mul-reach-word
-mul-reach-word c = search needs
-
-slice-read-reach-word : tie.Need-slice-read-reach-word
-slice-read-reach-word c = search needs
-
 reach-word-requires : tie.Need-reach-word-requires
 reach-word-requires c κs =
     let start = c .before .before .before .before .before .pre in
     (unrefused-codes _ _ (start .0) .1 _, omega (arith, start .1 .1 .0, unrefused-short _ _ (start .0)))
-
-mul-reach-word-2 : tie.Need-mul-reach-word-2
-mul-reach-word-2 c = search needs
-
-slice-read-reach-word-2 : tie.Need-slice-read-reach-word-2
-slice-read-reach-word-2 c = search needs
 
 reach-word-requires-2 : tie.Need-reach-word-requires-2
 reach-word-requires-2 c κs =
@@ -49,9 +37,6 @@ reach-minus-requires-2 : tie.Need-reach-minus-requires-2
 reach-minus-requires-2 c κs =
     let start = c .before .before .before .before .before .before .before .before .before .pre in
     unrefused-codes _ _ (start .0) .1 _
-
-turned-word-requires : tie.Need-turned-word-requires
-turned-word-requires c κs = search needs
 
 join-sets-requires : tie.Need-join-sets-requires
 join-sets-requires c κs =
@@ -82,12 +67,6 @@ put-before-requires c κs =
       ),
     )
 
-same-length : tie.Need-same-length
-same-length c = search needs
-
-same-length-2 : tie.Need-same-length-2
-same-length-2 c = search needs
-
 returns : tie.Need-returns
 returns c =
     let at-turn = c .before .before in
@@ -109,20 +88,6 @@ returns c =
 pub cz-reduced-spec : {M : Type 1} → statement M
 cz-reduced-spec =
     tie.close
-    (tie.spec
-    slice-read-code-a
-    slice-read-code-b
-    mul-reach-word
-    slice-read-reach-word
-    reach-word-requires
-    mul-reach-word-2
-    slice-read-reach-word-2
-    reach-word-requires-2
-    reach-minus-requires
-    reach-minus-requires-2
-    turned-word-requires
-    join-sets-requires
-    put-before-requires
-    same-length
-    same-length-2
-    returns)
+    (tie.spec slice-read-code-a slice-read-code-b (λ c. search needs) (λ c. search needs) reach-word-requires
+    (λ c. search needs) (λ c. search needs) reach-word-requires-2 reach-minus-requires reach-minus-requires-2
+    (λ c κs. search needs) join-sets-requires put-before-requires (λ c. search needs) (λ c. search needs) returns)

@@ -16,9 +16,6 @@ loop-holds c =
     let start = c .before in
     join-start _ (start .args .to-a) (start .args .to-b) (start .pre .1) (start .pre .2)
 
-smallest-requires : tie.Need-smallest-requires Inv-loop μ-loop
-smallest-requires c κs = search needs
-
 mul-joined-word : tie.Need-mul-joined-word Inv-loop μ-loop
 mul-joined-word c =
     let inside = c .before in
@@ -89,9 +86,6 @@ loop-again c =
     (inside .loop-test .taken) _ (at-smallest .smallest .ensures .0) _ _ (c .before .joined-word .ensures)
     (c .flip .ensures)
 
-same-length : tie.Need-same-length Inv-loop μ-loop
-same-length c = search needs
-
 returns : tie.Need-returns Inv-loop μ-loop
 returns c =
     let start = c .before .before .before in
@@ -100,18 +94,6 @@ returns c =
 pub join-sets-spec : {M : Type 1} → statement M
 join-sets-spec =
     tie.close
-    (tie.spec
-    Inv-loop
-    μ-loop
-    loop-holds
-    smallest-requires
-    mul-joined-word
-    slice-read-joined-word
-    joined-word-requires
-    mul-neighbours
-    slice-write-neighbours
-    flip-requires
-    loop-less
-    loop-again
-    same-length
+    (tie.spec Inv-loop μ-loop loop-holds (λ c κs. search needs) mul-joined-word slice-read-joined-word
+    joined-word-requires mul-neighbours slice-write-neighbours flip-requires loop-less loop-again (λ c. search needs)
     returns)

@@ -6,18 +6,6 @@ use Rattle.operations_gates.proofs.ReachedSets.{turned-bits}
 use Rattle.operations_gates.proofs.joins.joined_word.Statement.{statement}
 use Rattle.operations_gates.proofs.joins.joined_word.Tie as tie
 
-has-requires : tie.Need-has-requires
-has-requires c κs = search needs
-
-where-true-requires : tie.Need-where-true-requires
-where-true-requires c κs = search needs
-
-has-requires-2 : tie.Need-has-requires-2
-has-requires-2 c κs = search needs
-
-where-true-requires-2 : tie.Need-where-true-requires-2
-where-true-requires-2 c κs = search needs
-
 returns : tie.Need-returns
 returns c = λ l.
     let at-has2 = c .before in
@@ -32,4 +20,4 @@ returns c = λ l.
 pub joined-word-spec : {M : Type 1} → statement M
 joined-word-spec =
     tie.close
-    (tie.spec has-requires where-true-requires has-requires-2 where-true-requires-2 returns)
+    (tie.spec (λ c κs. search needs) (λ c κs. search needs) (λ c κs. search needs) (λ c κs. search needs) returns)

@@ -3,9 +3,6 @@ use Rattle.operations_gates.proofs.ReachedSets.{reached-neighbours, rea
 use Rattle.operations_gates.proofs.joins.reach_word.Statement.{statement}
 use Rattle.operations_gates.proofs.joins.reach_word.Tie as tie
 
-single-requires : tie.Need-single-requires
-single-requires c κs = search needs
-
 returns : tie.Need-returns
 returns c =
     let a = c .before .before .args in
@@ -17,4 +14,4 @@ returns-2 c =
     reached-neighbours (a .word) (a .code) (a .a) (c .before .pre .0) (c .if1 .left)
 
 pub reach-word-spec : {M : Type 1} → statement M
-reach-word-spec = tie.close (tie.spec single-requires returns returns-2)
+reach-word-spec = tie.close (tie.spec (λ c κs. search needs) returns returns-2)

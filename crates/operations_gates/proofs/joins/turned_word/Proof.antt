@@ -7,12 +7,6 @@ use Rattle.operations_gates.proofs.ReachedSets.{turned-bits}
 use Rattle.operations_gates.proofs.joins.turned_word.Statement.{statement}
 use Rattle.operations_gates.proofs.joins.turned_word.Tie as tie
 
-where-true-requires : tie.Need-where-true-requires
-where-true-requires c κs = search needs
-
-where-true-requires-2 : tie.Need-where-true-requires-2
-where-true-requires-2 c κs = search needs
-
 returns : tie.Need-returns
 returns c = λ q.
     let a = c .before .before .args in
@@ -22,4 +16,4 @@ returns c = λ q.
     (bit-and (a .to-a) (a .to-b) q)
 
 pub turned-word-spec : {M : Type 1} → statement M
-turned-word-spec = tie.close (tie.spec where-true-requires where-true-requires-2 returns)
+turned-word-spec = tie.close (tie.spec (λ c κs. search needs) (λ c κs. search needs) returns)

@@ -4,9 +4,6 @@ use Rattle.operations_measurements.proofs.BringingToZ.{brought, brought
 use Rattle.operations_measurements.proofs.isolation.bring_to_z.Statement.{statement}
 use Rattle.operations_measurements.proofs.isolation.bring_to_z.Tie as tie
 
-clear-x-requires : tie.Need-clear-x-requires
-clear-x-requires c κs = search needs
-
 slice-read-sends : tie.Need-slice-read-sends
 slice-read-sends c =
     let at-clear = c .before .before .before .before .before in
@@ -19,12 +16,6 @@ sends-requires : tie.Need-sends-requires
 sends-requires c κs =
     let at-clear = c .before .before .before .before .before in
     unrefused-codes _ _ (at-clear .clear-x .ensures .0 .unrefused) .1 _
-
-same-length : tie.Need-same-length
-same-length c = search needs
-
-same-length-2 : tie.Need-same-length-2
-same-length-2 c = search needs
 
 returns : tie.Need-returns
 returns c =
@@ -40,12 +31,6 @@ complement-record-requires c κs =
     let kept = at-clear .clear-x .ensures .0 in
     (kept .unrefused, still-below _ _ _ _ kept (begun .args .q) (begun .args .l) (begun .pre .0 .1))
 
-same-length-3 : tie.Need-same-length-3
-same-length-3 c = search needs
-
-same-length-4 : tie.Need-same-length-4
-same-length-4 c = search needs
-
 returns-2 : tie.Need-returns-2
 returns-2 c =
     let at-complement = c .before .before .before .before in
@@ -59,14 +44,5 @@ returns-2 c =
 pub bring-to-z-spec : {M : Type 1} → statement M
 bring-to-z-spec =
     tie.close
-    (tie.spec
-    clear-x-requires
-    slice-read-sends
-    sends-requires
-    same-length
-    same-length-2
-    returns
-    complement-record-requires
-    same-length-3
-    same-length-4
-    returns-2)
+    (tie.spec (λ c κs. search needs) slice-read-sends sends-requires (λ c. search needs) (λ c. search needs) returns
+    complement-record-requires (λ c. search needs) (λ c. search needs) returns-2)

@@ -15,15 +15,6 @@ slice-read-sends c =
 sends-requires : tie.Need-sends-requires
 sends-requires c κs = unrefused-codes _ _ (c .before .before .before .pre .0 .0) .1 _
 
-mul-smallest : tie.Need-mul-smallest
-mul-smallest c = search needs
-
-slice-read-smallest : tie.Need-slice-read-smallest
-slice-read-smallest c = search needs
-
-smallest-requires : tie.Need-smallest-requires
-smallest-requires c κs = search needs
-
 complement-record-requires : tie.Need-complement-record-requires
 complement-record-requires c κs =
     let at-smallest = c .before .before in
@@ -35,12 +26,6 @@ complement-record-requires c κs =
       neighbour-below _ _ (start .0 .0) (begun .args .q) (start .0 .1) (begun .args .l) _
           (at-smallest .smallest .ensures .0) (start .1 x),
     )
-
-same-length : tie.Need-same-length
-same-length c = search needs
-
-same-length-2 : tie.Need-same-length-2
-same-length-2 c = search needs
 
 returns : tie.Need-returns
 returns c =
@@ -64,14 +49,5 @@ returns-2 c =
 pub clear-x-spec : {M : Type 1} → statement M
 clear-x-spec =
     tie.close
-    (tie.spec
-    slice-read-sends
-    sends-requires
-    mul-smallest
-    slice-read-smallest
-    smallest-requires
-    complement-record-requires
-    same-length
-    same-length-2
-    returns
-    returns-2)
+    (tie.spec slice-read-sends sends-requires (λ c. search needs) (λ c. search needs) (λ c κs. search needs)
+    complement-record-requires (λ c. search needs) (λ c. search needs) returns returns-2)

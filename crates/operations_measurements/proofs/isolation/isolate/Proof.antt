@@ -7,19 +7,10 @@ use Rattle.operations_measurements.proofs.IsolatedBuffers.{isolated-wri
 use Rattle.operations_measurements.proofs.isolation.isolate.Statement.{statement}
 use Rattle.operations_measurements.proofs.isolation.isolate.Tie as tie
 
-mul-around : tie.Need-mul-around
-mul-around c = search needs
-
-slice-read-around : tie.Need-slice-read-around
-slice-read-around c = search needs
-
 slice-read-code : tie.Need-slice-read-code
 slice-read-code c =
     let start = c .before .before .before .before .pre in
     unrefused-place _ _ (start .0) _ (start .1)
-
-where-true-requires : tie.Need-where-true-requires
-where-true-requires c κs = search needs
 
 put-before-requires : tie.Need-put-before-requires
 put-before-requires c κs =
@@ -46,12 +37,6 @@ remove-edges-requires c κs =
     let start = begun .pre in
     ((unrefused-short _ _ (start .0), start .1), unrefused-simple _ _ (start .0))
 
-same-length : tie.Need-same-length
-same-length c = search needs
-
-same-length-2 : tie.Need-same-length-2
-same-length-2 c = search needs
-
 returns : tie.Need-returns
 returns c =
     let at-part = c .before .before in
@@ -67,15 +52,5 @@ returns c =
 pub isolate-spec : {M : Type 1} → statement M
 isolate-spec =
     tie.close
-    (tie.spec
-    mul-around
-    slice-read-around
-    slice-read-code
-    where-true-requires
-    put-before-requires
-    with-hadamard-requires
-    slice-write-codes
-    remove-edges-requires
-    same-length
-    same-length-2
-    returns)
+    (tie.spec (λ c. search needs) (λ c. search needs) slice-read-code (λ c κs. search needs) put-before-requires
+    with-hadamard-requires slice-write-codes remove-edges-requires (λ c. search needs) (λ c. search needs) returns)

@@ -13,17 +13,8 @@ Inv-loop neighbours₀ q rest₀ neighbours rest = Parting neighbours₀ q neigh
 abbrev μ-loop : tie.MeasureT-loop
 μ-loop neighbours₀ q rest₀ neighbours rest = rest
 
-mul-rest : tie.Need-mul-rest Inv-loop μ-loop
-mul-rest c = search needs
-
-slice-read-rest : tie.Need-slice-read-rest Inv-loop μ-loop
-slice-read-rest c = search needs
-
 loop-holds : tie.Need-loop-holds Inv-loop μ-loop
 loop-holds c = let start = c .before .before in part-start _ (start .args .q) (start .pre .1)
-
-smallest-requires : tie.Need-smallest-requires Inv-loop μ-loop
-smallest-requires c κs = search needs
 
 mul-flip : tie.Need-mul-flip Inv-loop μ-loop
 mul-flip c =
@@ -42,9 +33,6 @@ slice-read-flip c =
     let start = inside .before .before .before .before in
     next-in _ _ _ _ _ (inside .before .loop .inv) (start .pre .0 .0) (inside .loop-test .taken) _
     (at-smallest .smallest .ensures .0)
-
-flip-requires : tie.Need-flip-requires Inv-loop μ-loop
-flip-requires c κs = search needs
 
 mul-neighbours : tie.Need-mul-neighbours Inv-loop μ-loop
 mul-neighbours c =
@@ -89,16 +77,10 @@ loop-again c =
     part-more _ (start .args .q) (start .pre .1) _ _ (inside .before .loop .inv) (start .pre .0 .0)
     (inside .loop-test .taken) _ (at-smallest .smallest .ensures .0) _ _ (c .before .flip .ensures) (c .flip2 .ensures)
 
-mul-neighbours-2 : tie.Need-mul-neighbours-2 Inv-loop μ-loop
-mul-neighbours-2 c = search needs
-
 slice-write-neighbours-2 : tie.Need-slice-write-neighbours-2 Inv-loop μ-loop
 slice-write-neighbours-2 c =
     let start = c .before .before .before .before in
     subst (λ m. start .args .q < m) (sym (c .before .loop .inv .long)) (start .pre .0 .1)
-
-same-length : tie.Need-same-length Inv-loop μ-loop
-same-length c = search needs
 
 returns : tie.Need-returns Inv-loop μ-loop
 returns c =
@@ -110,22 +92,6 @@ returns c =
 pub remove-edges-spec : {M : Type 1} → statement M
 remove-edges-spec =
     tie.close
-    (tie.spec
-    Inv-loop
-    μ-loop
-    mul-rest
-    slice-read-rest
-    loop-holds
-    smallest-requires
-    mul-flip
-    slice-read-flip
-    flip-requires
-    mul-neighbours
-    slice-write-neighbours
-    flip-requires-2
-    loop-less
-    loop-again
-    mul-neighbours-2
-    slice-write-neighbours-2
-    same-length
-    returns)
+    (tie.spec Inv-loop μ-loop (λ c. search needs) (λ c. search needs) loop-holds (λ c κs. search needs) mul-flip
+    slice-read-flip (λ c κs. search needs) mul-neighbours slice-write-neighbours flip-requires-2 loop-less loop-again
+    (λ c. search needs) slice-write-neighbours-2 (λ c. search needs) returns)

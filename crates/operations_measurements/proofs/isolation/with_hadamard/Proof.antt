@@ -5,9 +5,6 @@ use Rattle.operations_measurements.proofs.IsolatedBuffers.{hadamard-by-
 use Rattle.operations_measurements.proofs.isolation.with_hadamard.Statement.{statement}
 use Rattle.operations_measurements.proofs.isolation.with_hadamard.Tie as tie
 
-sign-digit-requires : tie.Need-sign-digit-requires
-sign-digit-requires c κs = search needs
-
 mul-compose : tie.Need-mul-compose
 mul-compose c = omega (arith, c .sign-digit .ensures, digit-lt (c .before .args .t))
 
@@ -23,5 +20,4 @@ returns c =
     hadamard-by-calls (a .t) (a .code) (c .before .sign-digit .ensures) (c .compose .ensures .0)
 
 pub with-hadamard-spec : {M : Type 1} → statement M
-with-hadamard-spec =
-    tie.close (tie.spec sign-digit-requires mul-compose add-compose compose-requires returns)
+with-hadamard-spec = tie.close (tie.spec (λ c κs. search needs) mul-compose add-compose compose-requires returns)

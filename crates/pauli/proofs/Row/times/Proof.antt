@@ -6,12 +6,6 @@ use Rattle.pauli.proofs.WordRows.{row-times}
 use Rattle.pauli.proofs.Row.times.Statement.{statement}
 use Rattle.pauli.proofs.Row.times.Tie as tie
 
-letters-phase-requires : tie.Need-letters-phase-requires
-letters-phase-requires c κs = search needs
-
-sum-phase-requires : tie.Need-sum-phase-requires
-sum-phase-requires c κs = search needs
-
 returns : tie.Need-returns
 returns c =
     let summed = c .before .before .before .before .sum-phase .ensures in
@@ -26,4 +20,4 @@ returns c =
     )
 
 pub times-spec : {M : Type 1} → statement M
-times-spec = tie.close (tie.spec letters-phase-requires sum-phase-requires returns)
+times-spec = tie.close (tie.spec (λ c κs. search needs) (λ c κs. search needs) returns)

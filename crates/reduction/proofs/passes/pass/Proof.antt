@@ -33,15 +33,6 @@ abbrev μ-loop : tie.MeasureT-loop
 loop-holds : tie.Need-loop-holds Inv-loop μ-loop
 loop-holds c = (zero-le, c .good .0 .1 .0 .1, start)
 
-has-requires : tie.Need-has-requires Inv-loop μ-loop
-has-requires c κs = search needs
-
-column-requires : tie.Need-column-requires Inv-loop μ-loop
-column-requires c κs = search needs
-
-smallest-requires : tie.Need-smallest-requires Inv-loop μ-loop
-smallest-requires c κs = search needs
-
 pivot-column-requires : tie.Need-pivot-column-requires Inv-loop μ-loop
 pivot-column-requires c κs = let C = c .before .before .before .before in
     let I = C .before .before .before .before .before in
@@ -55,15 +46,6 @@ pivot-column-requires c κs = let C = c .before .before .before .before in
           (c .before .before .before .if2 .taken) _ (c .smallest .ensures .0))
           (λ j. minus-real (bit (L .signs) j)),
     )
-
-put-bit-requires : tie.Need-put-bit-requires Inv-loop μ-loop
-put-bit-requires c κs = search needs
-
-add-q : tie.Need-add-q Inv-loop μ-loop
-add-q c = search needs
-
-loop-less : tie.Need-loop-less Inv-loop μ-loop
-loop-less c = omega arith
 
 loop-again : tie.Need-loop-again Inv-loop μ-loop
 loop-again c = let I = c .before .before .before in
@@ -100,16 +82,5 @@ returns c = let L = c .before .loop in
 pub pass-spec : {M : Type 1} → statement M
 pass-spec =
     tie.close
-    (tie.spec
-    Inv-loop
-    μ-loop
-    loop-holds
-    has-requires
-    column-requires
-    smallest-requires
-    pivot-column-requires
-    put-bit-requires
-    add-q
-    loop-less
-    loop-again
-    returns)
+    (tie.spec Inv-loop μ-loop loop-holds (λ c κs. search needs) (λ c κs. search needs) (λ c κs. search needs)
+    pivot-column-requires (λ c κs. search needs) (λ c. search needs) (λ c. omega arith) loop-again returns)

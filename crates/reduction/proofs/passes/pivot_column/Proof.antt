@@ -20,12 +20,6 @@ use Rattle.reduction.proofs.Pivoting.{
 use Rattle.reduction.proofs.passes.pivot_column.Statement.{statement}
 use Rattle.reduction.proofs.passes.pivot_column.Tie as tie
 
-has-requires : tie.Need-has-requires
-has-requires c κs = search needs
-
-single-requires : tie.Need-single-requires
-single-requires c κs = search needs
-
 shear-in-place-requires : tie.Need-shear-in-place-requires
 shear-in-place-requires c κs = let T = c .before .before .before in
     let S = T .before .before in
@@ -33,9 +27,6 @@ shear-in-place-requires c κs = let T = c .before .before .before in
       (S .pre .1 .lender, lender-not-named _ _ _ _ (S .pre .1) lacks _ (c .single .ensures), S .pre .0),
       lent-commutes _ _ _ _ (S .pre .1) lacks _ (c .single .ensures),
     )
-
-put-bit-requires : tie.Need-put-bit-requires
-put-bit-requires c κs = search needs
 
 -- where the arms meet: row q has the bit, lent or its own
 long : (c : tie.Joined1) → length (c .if1 .rows) ≡ 64
@@ -75,10 +66,5 @@ returns c = let J = c .before .before .before .before in
 pub pivot-column-spec : {M : Type 1} → statement M
 pivot-column-spec =
     tie.close
-    (tie.spec
-    has-requires
-    single-requires
-    shear-in-place-requires
-    put-bit-requires
-    shear-in-place-requires-2
-    returns)
+    (tie.spec (λ c κs. search needs) (λ c κs. search needs) shear-in-place-requires (λ c κs. search needs)
+    shear-in-place-requires-2 returns)

@@ -20,29 +20,8 @@ Inv-loop rows₀ signs₀ a named by-z by-x sign rest₀ rows signs rest = Shear
 abbrev μ-loop : tie.MeasureT-loop
 μ-loop rows₀ signs₀ a named by-z by-x sign rest₀ rows signs rest = rest
 
-mul-by : tie.Need-mul-by Inv-loop μ-loop
-mul-by c = search needs
-
-element-copy-out-by : tie.Need-element-copy-out-by Inv-loop μ-loop
-element-copy-out-by c = search needs
-
-array-read-by-z : tie.Need-array-read-by-z Inv-loop μ-loop
-array-read-by-z c = search needs
-
-array-read-by-x : tie.Need-array-read-by-x Inv-loop μ-loop
-array-read-by-x c = search needs
-
-has-requires : tie.Need-has-requires Inv-loop μ-loop
-has-requires c κs = search needs
-
 loop-holds : tie.Need-loop-holds Inv-loop μ-loop
 loop-holds c = shear-start _ _ _ _ (c .before .before .before .pre .0 .2)
-
-smallest-requires : tie.Need-smallest-requires Inv-loop μ-loop
-smallest-requires c κs = search needs
-
-mul-row : tie.Need-mul-row Inv-loop μ-loop
-mul-row c = search needs
 
 element-copy-out-row : tie.Need-element-copy-out-row Inv-loop μ-loop
 element-copy-out-row c = let E = c in
@@ -56,12 +35,6 @@ element-copy-out-row c = let E = c in
           (E .smallest .ensures .0)) .0,
     )
 
-array-read-z : tie.Need-array-read-z Inv-loop μ-loop
-array-read-z c = search needs
-
-array-read-x : tie.Need-array-read-x Inv-loop μ-loop
-array-read-x c = search needs
-
 letters-minus-requires : tie.Need-letters-minus-requires Inv-loop μ-loop
 letters-minus-requires c κs =
     let E = c .before in
@@ -72,9 +45,6 @@ letters-minus-requires c κs =
     (L .rest) (L .inv) (S .fits .named .fits) (T .loop-test .taken) (E .smallest .ensures .0) in
     next-commutes (S .args .rows .now) (S .args .signs .now) (S .args .a) (S .args .named) (L .rows) (L .signs)
     (L .rest) (E .smallest .result) (L .inv) (N .1) (N .0) (S .pre .1)
-
-mul-t25 : tie.Need-mul-t25 Inv-loop μ-loop
-mul-t25 c = search needs
 
 element-set-from-rows : tie.Need-element-set-from-rows Inv-loop μ-loop
 element-set-from-rows c = let E = c .before .before in
@@ -149,25 +119,7 @@ returns c = let L = c .before .loop in
 pub shear-in-place-spec : {M : Type 1} → statement M
 shear-in-place-spec =
     tie.close
-    (tie.spec
-    Inv-loop
-    μ-loop
-    mul-by
-    element-copy-out-by
-    array-read-by-z
-    array-read-by-x
-    has-requires
-    loop-holds
-    smallest-requires
-    mul-row
-    element-copy-out-row
-    array-read-z
-    array-read-x
-    letters-minus-requires
-    mul-t25
-    element-set-from-rows
-    flip-where-requires
-    flip-requires
-    loop-less
-    loop-again
-    returns)
+    (tie.spec Inv-loop μ-loop (λ c. search needs) (λ c. search needs) (λ c. search needs) (λ c. search needs)
+    (λ c κs. search needs) loop-holds (λ c κs. search needs) (λ c. search needs) element-copy-out-row
+    (λ c. search needs) (λ c. search needs) letters-minus-requires (λ c. search needs) element-set-from-rows
+    flip-where-requires flip-requires loop-less loop-again returns)

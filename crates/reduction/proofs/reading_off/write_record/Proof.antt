@@ -23,49 +23,13 @@ loop-holds : tie.Need-loop-holds Inv-loop μ-loop
 loop-holds c = let P = c .before .before .pre .0 in
     (zero-le, fill-start _ _ _ (P .1), fill-start _ _ _ (P .2))
 
-mul-row : tie.Need-mul-row Inv-loop μ-loop
-mul-row c = search needs
-
-element-copy-out-row : tie.Need-element-copy-out-row Inv-loop μ-loop
-element-copy-out-row c = search needs
-
-array-read-put-bit : tie.Need-array-read-put-bit Inv-loop μ-loop
-array-read-put-bit c = search needs
-
-put-bit-requires : tie.Need-put-bit-requires Inv-loop μ-loop
-put-bit-requires c κs = search needs
-
-mul-neighbours : tie.Need-mul-neighbours Inv-loop μ-loop
-mul-neighbours c = search needs
-
 slice-write-neighbours : tie.Need-slice-write-neighbours Inv-loop μ-loop
 slice-write-neighbours c = let L = c .before .before .before .loop in
     omega (arith, L .inv .1 .long)
 
-has-requires : tie.Need-has-requires Inv-loop μ-loop
-has-requires c κs = search needs
-
-array-read-has : tie.Need-array-read-has Inv-loop μ-loop
-array-read-has c = search needs
-
-has-requires-2 : tie.Need-has-requires-2 Inv-loop μ-loop
-has-requires-2 c κs = search needs
-
-has-requires-3 : tie.Need-has-requires-3 Inv-loop μ-loop
-has-requires-3 c κs = search needs
-
-vertex-code-requires : tie.Need-vertex-code-requires Inv-loop μ-loop
-vertex-code-requires c κs = search needs
-
 slice-write-codes : tie.Need-slice-write-codes Inv-loop μ-loop
 slice-write-codes c = let L = c .before .before .before .before .before .before .before .loop in
     omega (arith, L .inv .2 .long)
-
-add-q : tie.Need-add-q Inv-loop μ-loop
-add-q c = search needs
-
-loop-less : tie.Need-loop-less Inv-loop μ-loop
-loop-less c = omega arith
 
 loop-again : tie.Need-loop-again Inv-loop μ-loop
 loop-again c = let I = c .before .before .before .before .before .before in
@@ -102,25 +66,7 @@ returns c = let L = c .before .loop in (
 pub write-record-spec : {M : Type 1} → statement M
 write-record-spec =
     tie.close
-    (tie.spec
-    Inv-loop
-    μ-loop
-    loop-holds
-    mul-row
-    element-copy-out-row
-    array-read-put-bit
-    put-bit-requires
-    mul-neighbours
-    slice-write-neighbours
-    has-requires
-    array-read-has
-    has-requires-2
-    has-requires-3
-    vertex-code-requires
-    slice-write-codes
-    add-q
-    loop-less
-    loop-again
-    same-length
-    same-length-2
-    returns)
+    (tie.spec Inv-loop μ-loop loop-holds (λ c. search needs) (λ c. search needs) (λ c. search needs)
+    (λ c κs. search needs) (λ c. search needs) slice-write-neighbours (λ c κs. search needs) (λ c. search needs)
+    (λ c κs. search needs) (λ c κs. search needs) (λ c κs. search needs) slice-write-codes (λ c. search needs)
+    (λ c. omega arith) loop-again same-length same-length-2 returns)
