@@ -1,5 +1,4 @@
 -- The answer of a list is the one read off its reduced record.
--- Assumes nothing.
 use mathlib.Core.Bool.{Bool, cond, false, true}
 use mathlib.Core.Path.{_∙_, _≡_, ap, refl, sym}
 use Prim.Native.Nat.{ℕ}

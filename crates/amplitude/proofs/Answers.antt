@@ -1,5 +1,4 @@
 -- The answers depend on the group alone, and the enum and the plot line say what the vector says.
--- Assumes nothing.
 use mathlib.Core.Bool.{Bool, cond, false, true, true≢false}
 use mathlib.Core.Logic.{_↔_}
 use mathlib.Core.Path.{_∙_, _≡_, ap, refl, sym}

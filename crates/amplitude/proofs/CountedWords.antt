@@ -1,5 +1,4 @@
 -- As many words are supported as the rank of the x words says: 2 ^ rank.
--- Assumes nothing.
 use mathlib.Core.Bool.{_&&_, Bool, _||_, and-true, false, not, true}
 use mathlib.Core.Path.{_∙_, _≡_, ap, ap₂, refl, sym}
 use Prim.Native.Nat.{_+_, _<_, _^_, suc, zero, ℕ, _≤_}

@@ -1,6 +1,5 @@
 -- Every list has a supported word, so a smallest one; some element leads from it to each supported word, and whatever
 -- element does gives the ratio.
--- Assumes nothing.
 use mathlib.Core.Bool.{true}
 use mathlib.Core.Path.{_∙_, _≡_, ap, refl, sym}
 use Prim.Native.Nat.{_^_, ℕ}

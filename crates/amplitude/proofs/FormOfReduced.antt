@@ -1,6 +1,5 @@
 -- The reduced record of a list is of reduced form: low even codes, and a vertex with a Hadamard has smaller neighbours
 -- only.
--- Assumes nothing.
 use mathlib.Core.Bool.{_&&_, Bool, and-false, cond, false, true, true≢false}
 use mathlib.Core.Logic.{_⊎_, inl, inr}
 use mathlib.Core.Path.{_∙_, _≡_, ap, refl, sym}

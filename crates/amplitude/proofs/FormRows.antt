@@ -1,6 +1,5 @@
 -- Records of reduced form: the generator of a vertex with a Hadamard has no x bit, z bits at itself and its neighbours,
 -- and the sign of its code.
--- Assumes nothing.
 use mathlib.Core.Bool.{_&&_, Bool, and-false, cond, false, not, true, true≢false}
 use mathlib.Core.Path.{_∙_, _≡_, ap, refl, sym}
 use Prim.Native.Nat.{_<_, ℕ}

@@ -1,6 +1,5 @@
 -- Records of reduced form: a word is supported exactly if it solves one equation for each vertex with a Hadamard; some
 -- word does; and some element leads from any supported word to any other.
--- Assumes nothing.
 use mathlib.Core.Bool.{_&&_, Bool, and-comm, and-false, cond, false, not, true, true≢false}
 use mathlib.Core.Path.{_∙_, _≡_, ap, ap₂, refl, sym}
 use Prim.Native.Nat.{_<_, suc, zero, ℕ, _≤_}

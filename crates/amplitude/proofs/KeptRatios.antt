@@ -1,5 +1,4 @@
 -- Records of reduced form: the ratio of a word is the difference of its turns and those of the smallest word.
--- Assumes nothing.
 use mathlib.Core.Bool.{_&&_, Bool, not, true}
 use mathlib.Core.Path.{_∙_, _≡_, ap, ap₂, fun-ext, refl, subst, sym}
 use Prim.Native.Nat.{ℕ}

@@ -1,6 +1,5 @@
 -- Records of reduced form: the products of generators of vertices without a Hadamard, and what they give the word that
 -- has none of these vertices.
--- Assumes nothing.
 use mathlib.Core.Bool.{_&&_, Bool, and-false, and-true, cond, false, not, true, true≢false}
 use mathlib.Core.Logic.{inl, inr}
 use mathlib.Core.Path.{_∙_, _≡_, ap, ap₂, refl, sym}

@@ -1,5 +1,4 @@
 -- The smallest supported word of a record: the outcomes of measurements on the record itself.
--- Assumes nothing.
 use mathlib.Core.Bool.{false}
 use mathlib.Core.Path.{_≡_, ap, subst, sym}
 use Prim.Native.Nat.{_-_, _<_, suc, zero, ℕ, _≤_}

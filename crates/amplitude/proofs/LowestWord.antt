@@ -1,5 +1,4 @@
 -- The outcomes of Z measured from the last qubit down, 0 where it is possible, are the smallest supported word.
--- Assumes nothing.
 use mathlib.Core.Bool.{_&&_, Bool, cond, false, true}
 use mathlib.Core.Logic.{_↔_, _⊎_, inl, inr}
 use mathlib.Core.Path.{_∙_, _≡_, ap, refl, sym}

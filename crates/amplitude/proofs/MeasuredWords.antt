@@ -1,5 +1,4 @@
 -- Z measured at a qubit: the supported words afterwards are those before that have the outcome there.
--- Assumes nothing.
 use mathlib.Core.Bool.{_&&_, Bool, and-false, false, true}
 use mathlib.Core.Logic.{_↔_}
 use mathlib.Core.Path.{_∙_, _≡_, ap, ap₂, refl, subst, sym}

@@ -1,5 +1,4 @@
 -- Worked examples: the amplitudes of small states, as the definitions give them.
--- Assumes nothing.
 use mathlib.Core.Bool.{cond, false, true}
 use mathlib.Core.List.{List, [], _∷_, map}
 use mathlib.Core.Path.{_≡_, refl}

@@ -1,5 +1,4 @@
 -- Supported words: elements lead from one to another, and elements that lead to the same word give the same power of i.
--- Assumes nothing.
 use mathlib.Core.Bool.{Bool, _||_, false, true}
 use mathlib.Core.Logic.{_↔_}
 use mathlib.Core.Path.{_∙_, _≡_, ap, refl, subst, sym}

@@ -1,6 +1,5 @@
 -- The answers, as a vector of Gaussian integers, are fixed by every element of the group; and every vector that is so
 -- is a multiple of it.
--- Assumes nothing.
 use mathlib.Core.Bool.{Bool, cond, false, not, true, true≢false}
 use mathlib.Core.Logic.{inl, inr}
 use mathlib.Core.Path.{_∙_, _≡_, ap, ap₂, refl, sym}

@@ -1,6 +1,5 @@
 -- The words with a nonzero amplitude, and each amplitude over that of the smallest of them (02, §11), by search over
 -- the products of the generators.
--- Assumes nothing.
 use mathlib.Core.Bool.{Bool, _||_, cond}
 use mathlib.Core.Path.{_≡_}
 use Prim.Native.Nat.{_<_, _^_, ℕ}

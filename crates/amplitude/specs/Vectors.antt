@@ -1,5 +1,4 @@
 -- Vectors of Gaussian integers, one for each word, and how a row acts on them: what the amplitudes are shown to be.
--- Assumes nothing.
 use mathlib.Core.Bool.{cond, true}
 use mathlib.Core.Logic.{_↔_}
 use mathlib.Core.Path.{_≡_}

@@ -1,5 +1,4 @@
 -- Refusals: the lines of a call in checking order, and the number of the first that holds.
--- Assumes nothing.
 use mathlib.Core.Bool.{Bool, cond, not, _||_}
 use mathlib.Core.List.{List, [], _∷_}
 use Prim.Native.Nat.{ℕ}

@@ -1,5 +1,4 @@
 -- The call on two lists, from what the functions below it answer.
--- Assumes nothing.
 use mathlib.Core.Bool.{Bool, false, not, true, _||_}
 use mathlib.Core.List.{List}
 use mathlib.Core.Path.{ap, ap₂, refl, subst, sym, _∙_, _≡_}

@@ -1,5 +1,4 @@
 -- The number of two lists together is the earlier of their numbers.
--- Assumes nothing.
 use mathlib.Core.Bool.{Bool, cond, false, not, _||_}
 use mathlib.Core.List.{List, [], _∷_}
 use mathlib.Core.Logic.{inl, inr, _⊎_}

@@ -1,6 +1,5 @@
 -- What the public call on two generator lists promises, for all arguments.
 -- A name with a prime is what the buffer holds at exit.
--- Assumes nothing.
 use mathlib.Core.List.{List, [], _∷_}
 use Prim.Native.Nat.{ℕ}
 use lib.ListN.{length}

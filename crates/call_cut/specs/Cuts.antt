@@ -1,5 +1,4 @@
 -- What the call on a cut promises, for all arguments. A name with a prime is what the lent number holds at exit.
--- Assumes nothing.
 use mathlib.Core.Bool.{_||_}
 use mathlib.Core.List.{List, [], _∷_}
 use Prim.Native.Nat.{_^_, ℕ}

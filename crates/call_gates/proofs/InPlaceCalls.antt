@@ -1,5 +1,4 @@
 -- The calls on a record lent in place, from what the functions below them answer.
--- Assumes nothing.
 use mathlib.Core.List.{List}
 use mathlib.Core.Path.{ap, sym, _∙_, _≡_}
 use Prim.Native.Nat.{ℕ}

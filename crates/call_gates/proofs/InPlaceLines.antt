@@ -1,5 +1,4 @@
 -- The lines of the calls on a record lent in place: what it means that none of them holds, and a pivot's pair.
--- Assumes nothing.
 use mathlib.Core.Bool.{Bool, false, not, true, true≢false, _||_}
 use mathlib.Core.List.{List, [], _∷_}
 use mathlib.Core.Logic.{_≢_}

@@ -1,5 +1,4 @@
 -- A record that no line refuses: what a further argument makes of it.
--- Assumes nothing.
 use mathlib.Core.Bool.{Bool, cond, false, or-true, true}
 use mathlib.Core.Path.{refl, subst, sym, _∙_, _≡_}
 use Prim.Native.Nat.{ℕ}

@@ -1,5 +1,4 @@
 -- The lines of a measurement: those of its arguments, and then 14.
--- Assumes nothing.
 use mathlib.Core.Bool.{Bool, false, true}
 use mathlib.Core.Logic.{_↔_}
 use mathlib.Core.Path.{ap, refl, sym, _∙_, _≡_}

@@ -1,6 +1,5 @@
 -- What the calls on a record lent in place promise, for all arguments. A name with a prime is what the buffer, or the
 -- lent number, holds at exit.
--- Assumes nothing.
 use mathlib.Core.List.{List, [], _∷_}
 use Prim.Native.Nat.{ℕ}
 use Rattle.contracts.specs.Calls.{Contract, Lent, buffer, contractOf, number}

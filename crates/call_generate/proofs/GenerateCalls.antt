@@ -1,5 +1,4 @@
 -- The generator's call, from what the functions below it answer.
--- Assumes nothing.
 use mathlib.Core.List.{List, _++_}
 use mathlib.Core.Path.{ap, refl, _∙_, _≡_}
 use Prim.Native.Nat.{_<_, ℕ, _≤_}

@@ -1,5 +1,4 @@
 -- What the generator's call promises, for all arguments. A name with a prime is what is held at exit.
--- Assumes nothing.
 use mathlib.Core.List.{List, [], _∷_}
 use Prim.Native.Nat.{ℕ}
 use lib.ListN.{length}

@@ -1,5 +1,4 @@
 -- The call on the image of a graph, from what the functions below it answer.
--- Assumes nothing.
 use mathlib.Core.Bool.{Bool, false, _||_}
 use mathlib.Core.List.{_++_, List}
 use mathlib.Core.Path.{ap, refl, subst, sym, _∙_, _≡_}

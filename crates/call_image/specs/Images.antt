@@ -1,6 +1,5 @@
 -- What the call on the image of a graph promises, for all arguments. A name with a prime is what the buffer, or the
 -- lent number, holds at exit.
--- Assumes nothing.
 use mathlib.Core.List.{List, [], _∷_}
 use Prim.Native.Nat.{ℕ}
 use lib.ListN.{length}

@@ -1,5 +1,4 @@
 -- The calls on generator lists, from what the functions below them answer.
--- Assumes nothing.
 use mathlib.Core.Bool.{Bool, cond, false, not, true, _||_}
 use mathlib.Core.List.{List}
 use mathlib.Core.Path.{ap, refl, sym, _∙_, _≡_}

@@ -1,5 +1,4 @@
 -- The product of chosen rows by a loop over them: each row is read, and multiplied in where the word chooses it.
--- Assumes nothing.
 use mathlib.Core.Bool.{false, true}
 use mathlib.Core.Path.{ap, refl, subst, sym, _∙_, _≡_}
 use Prim.Native.Nat.{_*_, _+_, _<_, ℕ, _≤_}

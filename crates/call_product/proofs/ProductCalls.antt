@@ -1,5 +1,4 @@
 -- The call on a product, from what the functions below it answer.
--- Assumes nothing.
 use mathlib.Core.Bool.{false}
 use mathlib.Core.Path.{ap, sym, _∙_, _≡_}
 use Prim.Native.Nat.{_<_, ℕ, _≤_}

@@ -1,5 +1,4 @@
 -- Each call is accepted exactly if its arguments fit, from the contracts.
--- Assumes nothing.
 use mathlib.Core.Bool.{Bool, false, _||_}
 use mathlib.Core.List.{List}
 use mathlib.Core.Logic.{Iff·trans, inl, inr, _↔_}

@@ -1,6 +1,5 @@
 -- Two lists that are accepted one by one, on one number of qubits, and buffers of the right lengths: then none of
 -- lines 2 to 10 holds of the pair, and only then.
--- Assumes nothing.
 use mathlib.Core.Bool.{false}
 use mathlib.Core.List.{List}
 use mathlib.Core.Path.{ap₂, refl, subst, sym, _∙_, _≡_}

@@ -1,5 +1,4 @@
 -- What a buffer lent only for the answer holds makes no line true: the lines read its length alone.
--- Assumes nothing.
 use mathlib.Core.Bool.{Bool, false, not, _||_}
 use mathlib.Core.List.{_++_, List, [], _∷_}
 use mathlib.Core.Path.{ap, ap₂, _∙_, _≡_}

@@ -1,5 +1,4 @@
 -- The comparison by parts, of the call: equal parts where it is accepted, and each part's choice where the parts agree.
--- Assumes nothing.
 use mathlib.Core.Logic.{_↔_}
 use mathlib.Core.Path.{_≡_, refl}
 use Rattle.claims.proofs.AcceptedCallsHold.{accepted-exactly}

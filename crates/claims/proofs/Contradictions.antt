@@ -1,5 +1,4 @@
 -- Contradicted outcomes are refused, from the call's contract: exactly these, and nothing is written.
--- Assumes nothing.
 use mathlib.Core.Bool.{not, true}
 use mathlib.Core.Logic.{_↔_}
 use mathlib.Core.Path.{_∙_, _≡_, ap₂, subst, sym}

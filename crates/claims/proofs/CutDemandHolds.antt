@@ -1,5 +1,4 @@
 -- The demands of cuts, from what the calls do to the group.
--- Assumes nothing.
 use mathlib.Core.Bool.{false}
 use mathlib.Core.List.{List}
 use mathlib.Core.Logic.{_≢_}

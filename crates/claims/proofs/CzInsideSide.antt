@@ -1,5 +1,4 @@
 -- CZ on two qubits of one side of a cut: it undoes itself, keeps the rows that avoid a side, and so the rank across.
--- Assumes nothing.
 use mathlib.Core.Bool.{_&&_, Bool, and-false, false, true}
 use mathlib.Core.Logic.{_↔_}
 use mathlib.Core.Path.{ap, ap₂, refl, sym, _∙_, _≡_}

@@ -1,5 +1,4 @@
 -- Demand 1: the lines of each call stand in the published order, and its answers fill the buffers.
--- Assumes nothing.
 use mathlib.Core.Bool.{Bool, false, _||_}
 use mathlib.Core.List.{List}
 use mathlib.Core.Path.{refl, subst, sym, _∙_, _≡_}

@@ -1,5 +1,4 @@
 -- Demand 2 of gates and CZ, from the calls' contracts and the laws of operations.
--- Assumes nothing.
 use mathlib.Core.Bool.{false}
 use mathlib.Core.List.{List}
 use mathlib.Core.Logic.{_↔_, _≢_}

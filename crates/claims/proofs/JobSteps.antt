@@ -1,6 +1,5 @@
 -- An accepted operation on a record that stands for a group: the record left stands for the group that the
 -- definitions give.
--- Assumes nothing.
 use mathlib.Core.Logic.{_↔_, inl, inr, ⊎-elim}
 use mathlib.Core.Path.{_∙_, _≡_, ap, refl, subst, sym}
 use Prim.Native.Nat.{ℕ}

@@ -1,5 +1,4 @@
 -- The lines of lists and records, exactly: what it means that none of them holds.
--- Assumes nothing.
 use mathlib.Core.Bool.{Bool, false, _||_}
 use mathlib.Core.List.{_++_, List, [], _∷_}
 use mathlib.Core.Logic.{_↔_}

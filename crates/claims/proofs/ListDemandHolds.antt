@@ -1,5 +1,4 @@
 -- Document 01's sentences on lists, groups and reduced records, from the calls' contracts.
--- Assumes nothing.
 use mathlib.Core.Bool.{_&&_, Bool, false, true}
 use mathlib.Core.Path.{_≡_, _∙_, ap, refl, subst, sym}
 use Prim.Native.Nat.{_<_, ℕ}

@@ -1,5 +1,4 @@
 -- The parts of the reduced graphs of two lists.
--- Assumes nothing.
 use mathlib.Core.Bool.{Bool, false, false≢true, true, true≢false, _||_}
 use mathlib.Core.List.{[], _∷_}
 use mathlib.Core.Logic.{_↔_, inl, inr, _⊎_}

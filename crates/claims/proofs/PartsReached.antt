@@ -1,5 +1,4 @@
 -- Paths of edges reach the whole part: a set of reached vertices that some edge leaves is made larger by one vertex.
--- Assumes nothing.
 use mathlib.Core.Bool.{_&&_, Bool, false, not, true, true≢false, _||_}
 use mathlib.Core.Logic.{inl, inr, _⊎_}
 use mathlib.Core.Path.{ap, refl, subst, sym, _∙_, _≡_}

@@ -1,5 +1,4 @@
 -- What the programs print for a text, from what `reply` of list_reply and of job_reply ensures of it.
--- Assumes nothing.
 use mathlib.Core.Bool.{cond, false, or-true, true, _||_}
 use mathlib.Core.List.{List, [], _∷_}
 use mathlib.Core.Logic.{_⊎_, ⊎-elim}

@@ -1,5 +1,4 @@
 -- Complements and pivots keep the group; of two calls the second is about what the first left.
--- Assumes nothing.
 use mathlib.Core.Bool.{false}
 use mathlib.Core.List.{List}
 use mathlib.Core.Path.{_∙_, _≡_, ap, ap₂, subst, sym}

@@ -1,5 +1,4 @@
 -- What the demands say of each exported function, from its contract.
--- Assumes nothing.
 use mathlib.Core.List.{List}
 use mathlib.Core.Path.{subst, _≡_}
 use Prim.Native.Nat.{ℕ}

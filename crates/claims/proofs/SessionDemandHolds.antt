@@ -1,6 +1,5 @@
 -- The request on faster sessions: the answer of gate, CZ and measurement from the calls' contracts, once as the record
 -- is rewritten, and once as its list is changed and reduced.
--- Assumes nothing.
 use mathlib.Core.Bool.{Bool, cond, false, true, _||_}
 use mathlib.Core.List.{List, []}
 use mathlib.Core.Logic.{_≢_}

@@ -1,5 +1,4 @@
 -- The examples of the request on faster sessions hold of the definitions: one theorem over the table.
--- Assumes nothing.
 use mathlib.Core.Path.{refl, _≡_}
 use Rattle.buffers.specs.Buffers.{tabulate}
 use Rattle.buffers.specs.Refusals.{firstFitting, reaching}

@@ -1,6 +1,5 @@
 -- The request on faster sessions: the number of a call whose arguments are in order is that of expanding the record,
 -- and of a measurement the list's besides.
--- Assumes nothing.
 use mathlib.Core.Bool.{_&&_, Bool, cond, false, true, _||_}
 use mathlib.Core.List.{_++_, List, [], _∷_}
 use mathlib.Core.Path.{ap, ap₂, subst, sym, _∙_, _≡_}

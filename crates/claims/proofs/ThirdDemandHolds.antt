@@ -1,5 +1,4 @@
 -- Demand 3 from the contract of the comparison, and the laws of the least choice and of the image rule.
--- Assumes nothing.
 use mathlib.Core.Bool.{Bool, cond, false, true, true≢false, _||_}
 use mathlib.Core.List.{List, [], _∷_}
 use mathlib.Core.Logic.{_↔_}

@@ -1,7 +1,6 @@
 -- Which calls are accepted, in the documents' words: the number of each exported function is 0 exactly if this holds of
 -- its arguments. A record is `AcceptedRecord`: 1 to 64 vertices, n places in each buffer, no bit at or above n, codes
 -- below 24, a simple graph.
--- Assumes nothing.
 use mathlib.Core.Bool.{not, true}
 use mathlib.Core.List.{List}
 use mathlib.Core.Logic.{_≢_, _↔_, _⊎_}

@@ -1,7 +1,6 @@
 -- Demand 1, of every public call: "A call that is accepted, on any words, codes, signs and qubit numbers, ends with a
 -- complete answer .. A call that is refused .. returns the first fitting number of the published list and changes no
 -- lent byte". That a call ends, and touches no other byte, is what a contract of the language means.
--- Assumes nothing.
 use mathlib.Core.Bool.{Bool, cond, false, true}
 use mathlib.Core.List.{List, [], map, _∷_}
 use mathlib.Core.Path.{_≡_}

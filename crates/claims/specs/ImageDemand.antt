@@ -1,5 +1,4 @@
 -- Demand 2, of the public call on the image of a graph: "images follow the same definition".
--- Assumes nothing.
 use mathlib.Core.Bool.{false, _||_}
 use mathlib.Core.List.{List}
 use mathlib.Core.Logic.{_↔_, _⊎_}

@@ -1,6 +1,5 @@
 -- Jobs: "For all jobs, the record after the first k steps stands for the group that the definitions give, refused
 -- steps counting as no change." (02, §5)
--- Assumes nothing.
 use mathlib.Core.List.{List}
 use mathlib.Core.Logic.{_↔_}
 use mathlib.Core.Path.{_≡_}

@@ -1,5 +1,4 @@
 -- Document 01's own sentences on lists, groups and reduced records, of the public calls.
--- Assumes nothing.
 use mathlib.Core.Bool.{_&&_, Bool, true}
 use mathlib.Core.List.{List}
 use mathlib.Core.Logic.{_↔_}

@@ -1,7 +1,6 @@
 -- Demand 2, of the public calls on a record lent in place: "Gates, CZ, Pauli measurements .. follow the same
 -- definition"; and complements and pivots, which keep the group. Each, but for the measurements that are refused, is said
 -- of an accepted call: its number is 0, and nb′, cs′ are what the two buffers hold at exit.
--- Assumes nothing.
 use mathlib.Core.Bool.{Bool, false, not, true}
 use mathlib.Core.List.{List, [], _∷_}
 use mathlib.Core.Logic.{_↔_, _⊎_}

@@ -1,6 +1,5 @@
 -- Of the parts of reduced graphs (02, §9): "Show that equivalent states have the same parts, and that, where the parts
 -- agree, a working choice exists exactly if each has one"; and which comparisons 3 refuses.
--- Assumes nothing.
 use mathlib.Core.Bool.{true}
 use mathlib.Core.List.{List}
 use mathlib.Core.Logic.{_↔_, _⊎_}

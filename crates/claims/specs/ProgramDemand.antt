@@ -1,7 +1,6 @@
 -- What the programs `reduce` and `job` print for a text, from what fn `reply` of list_reply and of job_reply ensures of
 -- the text that was scanned, whatever text it was. The bytes are those of the buffer up to the place that `reply`
 -- answers; the program writes these.
--- Assumes nothing.
 use mathlib.Core.List.{List}
 use mathlib.Core.Logic.{_↔_, _⊎_}
 use mathlib.Core.Path.{_≡_}

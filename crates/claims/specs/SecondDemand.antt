@@ -1,6 +1,5 @@
 -- Demand 2, of the public calls: "a generator list and its reduced record stand for the same group, expansion
 -- brings that group back, and two accepted lists reduce to equal records exactly if their groups are equal".
--- Assumes nothing.
 use mathlib.Core.List.{List}
 use mathlib.Core.Logic.{_↔_}
 use mathlib.Core.Path.{_≡_}

@@ -1,7 +1,6 @@
 -- What the documents say of each exported function, in one record: demand 1, which arguments it accepts, and then the
 -- sentences of the demands and of the requests that speak of its answer. The functions of the crate `sukhlent` that are
 -- named after these have them as contracts.
--- Assumes nothing.
 use mathlib.Core.Bool.{false, _||_}
 use mathlib.Core.List.{List}
 use mathlib.Core.Logic.{_↔_, _⊎_, _≢_}

@@ -1,5 +1,4 @@
 -- The 24 one-qubit Cliffords, each up to a global phase: a code names one of them.
--- Assumes nothing.
 use mathlib.Core.Bool.{Bool, false}
 use Prim.Native.Nat.{_*_, _+_, _/_, suc, zero, ℕ}
 use lib.Dec.{eqb}

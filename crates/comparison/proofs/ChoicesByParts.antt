@@ -1,6 +1,5 @@
 -- "a working choice exists exactly if each has one": a choice that works serves every part, and choices for the parts,
 -- each taken at the part's vertices, make one that works.
--- Assumes nothing.
 use mathlib.Core.Bool.{Bool, false, not, true, true≢false}
 use mathlib.Core.Logic.{_↔_, inl, inr, _⊎_}
 use mathlib.Core.Path.{ap, refl, subst, sym, _∙_, _≡_}

@@ -1,6 +1,5 @@
 -- The image of a row commutes with another row exactly if the classes solve the class equation; choices that agree
 -- on classes, or on signs, have assignments that agree.
--- Assumes nothing.
 use mathlib.Core.Bool.{_&&_, Bool, false, true}
 use mathlib.Core.Logic.{inl, inr, _⊎_}
 use mathlib.Core.Path.{ap, ap₂, refl, subst, sym, _∙_, _≡_}

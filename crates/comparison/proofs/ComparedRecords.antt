@@ -1,5 +1,4 @@
 -- From lent records to the searches: their generators as the code makes them, and the codes undone.
--- Assumes nothing.
 use mathlib.Core.Bool.{Bool, false, not, true}
 use mathlib.Core.List.{List}
 use mathlib.Core.Logic.{_↔_}

@@ -1,5 +1,4 @@
 -- A part of a graph is connected in its own numbers.
--- Assumes nothing.
 use mathlib.Core.Bool.{_&&_, true}
 use mathlib.Core.Path.{ap, subst, _∙_, _≡_}
 use Prim.Native.Nat.{_<_, ℕ}

@@ -1,6 +1,5 @@
 -- Every solution of the class equations, invertible or not: no edge of the first graph leads from a qubit at which the
 -- solution is invertible to one at which it is not.
--- Assumes nothing.
 use mathlib.Core.Bool.{_&&_, Bool, false, true}
 use mathlib.Core.Logic.{inl, inr, _⊎_}
 use mathlib.Core.Path.{ap, ap₂, refl, sym, _∙_, _≡_}

@@ -1,5 +1,4 @@
 -- Equations add, and an equation cannot tell apart assignments that agree where it has unknowns.
--- Assumes nothing.
 use mathlib.Core.Bool.{_&&_, Bool, Bool·beq, false, not, _||_}
 use mathlib.Core.Logic.{inl, inr, _⊎_}
 use mathlib.Core.Path.{ap, ap₂, sym, _∙_, _≡_}

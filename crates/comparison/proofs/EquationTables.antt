@@ -1,5 +1,4 @@
 -- The tables of equations: one more equation, those on the classes and those on the signs.
--- Assumes nothing.
 use mathlib.Core.Bool.{_&&_, Bool, false}
 use mathlib.Core.List.{List}
 use mathlib.Core.Logic.{inl, inr, _⊎_}

@@ -1,5 +1,4 @@
 -- Worked examples of the least choice, on one and two qubits.
--- Assumes nothing.
 use mathlib.Core.List.{List, [], _∷_}
 use mathlib.Core.Path.{refl, _≡_}
 use Prim.Native.Nat.{ℕ}

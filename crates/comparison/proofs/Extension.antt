@@ -1,5 +1,4 @@
 -- A triangular table: values that satisfy the equations of the first qubits extend to a solution.
--- Assumes nothing.
 use mathlib.Core.Bool.{_&&_, Bool, false, true, true≢false}
 use mathlib.Core.List.{List}
 use mathlib.Core.Logic.{inl, inr, _⊎_}

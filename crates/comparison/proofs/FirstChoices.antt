@@ -1,5 +1,4 @@
 -- The loops: for each qubit in turn the first key that the equations allow.
--- Assumes nothing.
 use mathlib.Core.Bool.{Bool, false, true, true≢false}
 use mathlib.Core.List.{List}
 use mathlib.Core.Logic.{inl, inr, _⊎_}

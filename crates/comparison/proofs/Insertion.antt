@@ -1,5 +1,4 @@
 -- A triangular table with an equation inserted.
--- Assumes nothing.
 use mathlib.Core.Bool.{false, true, true≢false}
 use mathlib.Core.List.{List}
 use mathlib.Core.Logic.{inl, inr, _⊎_}

@@ -1,6 +1,5 @@
 -- The equation of the least choice: it is the least in document 01's order, the only one, and missing exactly if no
 -- choice carries the group.
--- Assumes nothing.
 use mathlib.Core.Bool.{Bool, false, false≢true, not, true, true≢false}
 use mathlib.Core.List.{List}
 use mathlib.Core.Logic.{inl, inr, _↔_, _⊎_}

@@ -1,5 +1,4 @@
 -- What the two loops choose is the least choice that works; and where the first finds no class there is none.
--- Assumes nothing.
 use mathlib.Core.Bool.{Bool, false, false≢true, true}
 use mathlib.Core.List.{List}
 use mathlib.Core.Logic.{inl, inr, _⊎_}

@@ -1,5 +1,4 @@
 -- The test for a choice that carries a group says what it should.
--- Assumes nothing.
 use mathlib.Core.Bool.{_&&_, Bool, true}
 use mathlib.Core.Logic.{_↔_}
 use mathlib.Core.Path.{ap, ap₂, refl, subst, sym, _∙_, _≡_}

@@ -1,5 +1,4 @@
 -- The array of a choice with the class, or the signs, of one qubit put in.
--- Assumes nothing.
 use mathlib.Core.Bool.{false}
 use mathlib.Core.List.{List}
 use mathlib.Core.Logic.{_≢_}

@@ -1,5 +1,4 @@
 -- The definitions computed on one qubit: the least choice from +X to +Y is code 4, and back 5; from +Z to -Z it is 1.
--- Assumes nothing.
 use mathlib.Core.Bool.{Bool, false, true}
 use mathlib.Core.Path.{refl, _≡_}
 use Prim.Native.Nat.{ℕ}

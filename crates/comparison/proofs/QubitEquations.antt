@@ -1,5 +1,4 @@
 -- The equations of one qubit tested in turn, and the rows that hold a table.
--- Assumes nothing.
 use mathlib.Core.Bool.{Bool, false, true, true≢false, false≢true}
 use mathlib.Core.List.{List, [], _∷_}
 use mathlib.Core.Path.{ap, refl, sym, _∙_, _≡_}

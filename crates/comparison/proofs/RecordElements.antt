@@ -1,6 +1,5 @@
 -- The one product of a record's generators that can be a given row: its word is read off the row's x bits once the
 -- record's codes are undone.
--- Assumes nothing.
 use mathlib.Core.Bool.{Bool, Bool·beq, not, true}
 use mathlib.Core.Path.{ap, ap₂, refl, subst, sym, _∙_, _≡_}
 use Prim.Native.Nat.{_<_, ℕ, _≤_}

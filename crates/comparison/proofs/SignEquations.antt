@@ -1,6 +1,5 @@
 -- The signs of a choice change the sign of a row's image by a parity; elements of a group with the same letters are
 -- equal; so a choice that works solves the sign equations.
--- Assumes nothing.
 use mathlib.Core.Bool.{_&&_, Bool, false}
 use mathlib.Core.Path.{ap, ap₂, refl, subst, sym, _∙_, _≡_}
 use Prim.Native.Nat.{_<_, ℕ}

@@ -1,5 +1,4 @@
 -- A word made bit by bit, as the code makes the words of a choice.
--- Assumes nothing.
 use mathlib.Core.Bool.{Bool, false}
 use mathlib.Core.List.{List}
 use mathlib.Core.Logic.{inl, inr, _≢_, _⊎_}

@@ -1,5 +1,4 @@
 -- Choices of one code per qubit: which of them carry one group onto another, their order, and the least.
--- Assumes nothing.
 use mathlib.Core.Bool.{_&&_, Bool, cond, not}
 use mathlib.Core.Logic.{_⊎_}
 use mathlib.Core.Path.{_≡_}

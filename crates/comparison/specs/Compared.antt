@@ -1,5 +1,4 @@
 -- The comparison of two lists: the codes that a choice induces between the reduced graphs, and the lines.
--- Assumes nothing.
 use mathlib.Core.Bool.{Bool, not, _||_}
 use mathlib.Core.List.{_++_, List, [], _∷_}
 use Prim.Native.Nat.{ℕ}

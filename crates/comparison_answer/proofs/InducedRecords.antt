@@ -1,5 +1,4 @@
 -- A graph under the codes that a choice induces: buffers that the image rule takes.
--- Assumes nothing.
 use mathlib.Core.List.{List}
 use mathlib.Core.Logic.{inl, inr, _⊎_}
 use mathlib.Core.Path.{ap, subst, sym, _∙_, _≡_}

@@ -1,5 +1,4 @@
 -- Buffers that hold reduced records: what the comparison of two of them answers for the lists.
--- Assumes nothing.
 use mathlib.Core.Bool.{Bool, cond, false, true, _||_}
 use mathlib.Core.List.{List}
 use mathlib.Core.Logic.{inl, inr, _⊎_}

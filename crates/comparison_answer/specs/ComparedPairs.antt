@@ -1,5 +1,4 @@
 -- What the parts of the comparison answer: the reduced records of two lists, and the comparison of two records.
--- Assumes nothing.
 use mathlib.Core.List.{List}
 use Prim.Native.Nat.{ℕ}
 use Rattle.clifford.specs.Clifford.{cliffordOf}

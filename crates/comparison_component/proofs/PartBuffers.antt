@@ -1,5 +1,4 @@
 -- Buffers that hold the record of a part: the search on them answers for the part.
--- Assumes nothing.
 use mathlib.Core.Bool.{_&&_, Bool, and-false, true}
 use mathlib.Core.List.{List}
 use mathlib.Core.Logic.{inl, inr, _⊎_}

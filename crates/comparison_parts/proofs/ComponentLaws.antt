@@ -1,5 +1,4 @@
 -- One part compared: what the search on the part's record says of the whole records.
--- Assumes nothing.
 use mathlib.Core.Bool.{_&&_, Bool, false, false≢true, true, true≢false, _||_}
 use mathlib.Core.List.{List}
 use mathlib.Core.Logic.{inl, inr, _⊎_}

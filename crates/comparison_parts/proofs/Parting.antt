@@ -1,5 +1,4 @@
 -- The loop over the parts: where it is the least it stays so, and at the end the choice is the least.
--- Assumes nothing.
 use mathlib.Core.Bool.{_&&_, Bool, false, false≢true, not, true, true≢false}
 use mathlib.Core.List.{List}
 use mathlib.Core.Logic.{inl, inr, _⊎_}

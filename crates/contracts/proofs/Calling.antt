@@ -1,5 +1,4 @@
 -- Calls of any contract: how one is made, and what its caller learns.
--- Assumes nothing.
 use mathlib.Core.Bool.{cond}
 use mathlib.Core.List.{List, [], _∷_}
 use mathlib.Core.Path.{ap, sym, _∙_, _≡_}

@@ -1,5 +1,4 @@
 -- The first fitting line, from the answers of the tests in their order, and back.
--- Assumes nothing.
 use mathlib.Core.Bool.{Bool, cond, false, not, true, true≢false}
 use mathlib.Core.List.{_++_, List, [], _∷_}
 use mathlib.Core.Path.{ap, refl, subst, sym, _∙_, _≡_}

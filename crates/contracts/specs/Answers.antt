@@ -1,6 +1,5 @@
 -- What a call of any contract answers, in words: the number is that of the first line that holds; refused, nothing lent
 -- is changed; accepted, each answer is written.
--- Assumes nothing.
 use mathlib.Core.Bool.{false, true}
 use mathlib.Core.List.{List, [], _∷_}
 use mathlib.Core.Path.{_≡_}

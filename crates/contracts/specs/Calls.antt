@@ -1,6 +1,5 @@
 -- The one shape of the contracts of the public calls: the lines of the call in checking order, and the buffers lent for
 -- its answer.
--- Assumes nothing.
 use mathlib.Core.List.{List, [], _∷_}
 use mathlib.Core.Path.{_≡_}
 use Prim.Native.Nat.{ℕ}

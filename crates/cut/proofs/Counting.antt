@@ -1,5 +1,4 @@
 -- How many numbers below a bound pass a test: an injection shows that no more pass one test than another.
--- Assumes nothing.
 use mathlib.Core.Bool.{_&&_, Bool, and-true, false, not, true}
 use mathlib.Core.Logic.{inl, inr, _⊎_}
 use mathlib.Core.Path.{ap, ap₂, refl, subst, sym, _∙_, _≡_}

@@ -1,6 +1,5 @@
 -- What keeps the rank across every cut: rewriting a record to another of the same group, one code at each qubit, and
 -- complementing at any vertex. Records need not be reduced.
--- Assumes nothing.
 use mathlib.Core.Bool.{_&&_, false, not}
 use mathlib.Core.Logic.{inl, inr, _⊎_}
 use mathlib.Core.Path.{ap, fun-ext, refl, sym, _∙_, _≡_}

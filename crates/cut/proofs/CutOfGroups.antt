@@ -1,6 +1,5 @@
 -- The rank across a cut is a matter of the elements of the group that act on one side alone: where those of one record
 -- embed into those of another, the other's rank is no larger.
--- Assumes nothing.
 use mathlib.Core.Bool.{_&&_, Bool, cond, false, not, true}
 use mathlib.Core.Path.{ap, refl, subst, sym, _∙_, _≡_}
 use Prim.Native.Nat.{_<_, _≤_, _^_, ℕ}

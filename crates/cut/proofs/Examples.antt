@@ -1,5 +1,4 @@
 -- Ranks across cuts of small graphs, computed from the definition.
--- Assumes nothing.
 use mathlib.Core.List.{List, [], _∷_}
 use mathlib.Core.Path.{refl, _≡_}
 use Prim.Native.Nat.{ℕ}

@@ -1,6 +1,5 @@
 -- The kernel of a bit matrix, column by column: a column that is a sum of earlier ones doubles it, any other keeps its
 -- size.
--- Assumes nothing.
 use mathlib.Core.Bool.{_&&_, Bool, false, not, true}
 use mathlib.Core.Logic.{_↔_}
 use mathlib.Core.Path.{ap, ap₂, fun-ext, sym, _∙_, _≡_}

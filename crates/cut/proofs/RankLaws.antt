@@ -1,5 +1,4 @@
 -- The rank of a bit matrix: at most the number of columns, and the larger the smaller the kernel is.
--- Assumes nothing.
 use mathlib.Core.Bool.{Bool, false, not, true}
 use mathlib.Core.Logic.{inl, inr, _⊎_}
 use mathlib.Core.Path.{ap, ap₂, refl, sym, _∙_, _≡_}

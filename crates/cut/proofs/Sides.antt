@@ -1,5 +1,4 @@
 -- The side that is marked: "an empty or full side gives 0", since no edge leaves it; and the other side gives the same.
--- Assumes nothing.
 use mathlib.Core.Bool.{_&&_, Bool, and-false, false, not, true}
 use mathlib.Core.Path.{ap, fun-ext, refl, sym, _∙_, _≡_}
 use Prim.Native.Nat.{_-_, _<_, _^_, ℕ}

@@ -1,5 +1,4 @@
 -- The elements of a group that act on one side of a cut alone.
--- Assumes nothing.
 use mathlib.Core.Bool.{false, true}
 use mathlib.Core.Path.{_≡_}
 use Prim.Native.Nat.{_<_, ℕ}

@@ -1,5 +1,4 @@
 -- The rank of a bit matrix, modulo 2.
--- Assumes nothing.
 use mathlib.Core.Bool.{not}
 use Prim.Native.Nat.{_+_, ℕ}
 use Rattle.record.specs.Columns.{isColumnDependent}

@@ -1,6 +1,5 @@
 -- The columns of a bit matrix, one after another: those that are no sum of earlier ones are counted, and what is left
 -- of each joins a basis that holds a word for every smallest set bit of a sum.
--- Assumes nothing.
 use mathlib.Core.Bool.{Bool, false, not, true, true≢false}
 use mathlib.Core.List.{List}
 use mathlib.Core.Logic.{inl, inr, _≢_}

@@ -1,5 +1,4 @@
 -- A word reduced by a basis: each addition clears its smallest set bit and no lower one.
--- Assumes nothing.
 use mathlib.Core.Bool.{false, true≢false}
 use mathlib.Core.List.{List}
 use mathlib.Core.Logic.{inl, inr, _⊎_}

@@ -1,5 +1,4 @@
 -- Sums modulo 2 of the columns before a place: what is one, and what a further column adds.
--- Assumes nothing.
 use mathlib.Core.Bool.{_&&_, Bool, false, true}
 use mathlib.Core.Logic.{inl, inr, _⊎_}
 use mathlib.Core.Path.{ap, ap₂, refl, sym, _∙_, _≡_}

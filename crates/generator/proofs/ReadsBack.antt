@@ -1,5 +1,4 @@
 -- "The job text it writes must read back as the steps drawn": by its text, and by the scanner, which keeps them.
--- Assumes nothing.
 use mathlib.Core.Path.{ap, refl, sym, _∙_}
 use mathlib.Core.List.{List}
 use Prim.Native.Nat.{ℕ, _≤_, _<_}

@@ -1,5 +1,4 @@
 -- Each draw gives a gate, a CZ on two qubits or a measurement, with unused fields 0 and numbers that fit.
--- Assumes nothing.
 use mathlib.Core.Path.{_≡_, refl, ap}
 use mathlib.Core.Bool.{false}
 use mathlib.Core.List.{List, [], _∷_}

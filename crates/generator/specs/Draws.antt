@@ -1,5 +1,4 @@
 -- The draws: a state of 64 bits that is shifted and xored with itself.
--- Assumes nothing.
 use Prim.Native.Nat.{ℕ, _*_, _/_, _%_, _^_}
 use lib.Bits.{bitXor}
 

@@ -1,5 +1,4 @@
 -- The refusals of the generator, in checking order.
--- Assumes nothing.
 use mathlib.Core.List.{List, [], _∷_}
 use Prim.Native.Nat.{ℕ}
 use lib.Dec.{eqb, ltb}

@@ -1,5 +1,4 @@
 -- The line of a step, part by part: an operation with its space, two numbers with theirs, the value and the newline.
--- Assumes nothing.
 use mathlib.Core.Path.{_≡_, refl, sym, ap, _∙_, subst}
 use mathlib.Core.List.{List, [], _∷_, _++_, append-assoc}
 use Prim.Native.Nat.{ℕ, _+_, _/_, _%_, _≤_}

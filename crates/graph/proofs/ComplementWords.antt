@@ -1,5 +1,4 @@
 -- Local complementation on neighbour words: a loop over the neighbours of a vertex.
--- Assumes nothing.
 use mathlib.Core.Bool.{_&&_, Bool, and-false, false, not, true}
 use mathlib.Core.List.{List}
 use mathlib.Core.Path.{ap, ap₂, refl, sym, _∙_, _≡_}

@@ -1,5 +1,4 @@
 -- Graphs as they are lent: a buffer with one neighbour word for each vertex.
--- Assumes nothing.
 use mathlib.Core.List.{List}
 use Prim.Native.Nat.{ℕ}
 use lib.ListN.{getD}

@@ -1,5 +1,4 @@
 -- The word of the vertices that pass a test, by a loop over the vertices.
--- Assumes nothing.
 use mathlib.Core.Bool.{_&&_, Bool, and-false, false, not, _||_}
 use mathlib.Core.List.{List}
 use mathlib.Core.Path.{ap, ap₂, subst, sym, _∙_, _≡_}

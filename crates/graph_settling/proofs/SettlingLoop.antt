@@ -1,6 +1,5 @@
 -- The loop of steps towards the reduced form: the group is kept, every vertex out of place is in the word, and at its end
 -- there is none.
--- Assumes nothing.
 use mathlib.Core.Bool.{_&&_, Bool, false, not, or-true, true, true≢false, _||_}
 use mathlib.Core.List.{List}
 use mathlib.Core.Logic.{inl, inr}

@@ -1,5 +1,4 @@
 -- A sign moved in the buffers of a record: the group stays, and the record is nearer to the reduced form.
--- Assumes nothing.
 use mathlib.Core.Bool.{cond, false}
 use mathlib.Core.List.{List}
 use mathlib.Core.Path.{ap, ap₂, subst, sym, _∙_, _≡_}

@@ -1,5 +1,4 @@
 -- What the steps leave as it was: every vertex but the one of the step and its neighbours.
--- Assumes nothing.
 use mathlib.Core.Bool.{_&&_, and-false, cond, false, not, true, true≢false}
 use mathlib.Core.List.{List}
 use mathlib.Core.Path.{ap, ap₂, refl, subst, sym, _∙_, _≡_}

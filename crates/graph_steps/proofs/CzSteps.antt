@@ -1,5 +1,4 @@
 -- CZ on a record of reduced form: the edges between two sets of vertices are flipped, and the record is reduced again.
--- Assumes nothing.
 use mathlib.Core.Bool.{_&&_, Bool, and-comm, and-false, false, true}
 use mathlib.Core.Logic.{_≢_}
 use mathlib.Core.Path.{ap, ap₂, refl, subst, sym, _∙_, _≡_}

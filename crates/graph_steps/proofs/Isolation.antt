@@ -1,5 +1,4 @@
 -- A vertex whose Z is measured and isolated: the group of the record is the group after the measurement.
--- Assumes nothing.
 use mathlib.Core.Bool.{_&&_, Bool, and-comm, and-false, cond, false, not, true, true≢false}
 use mathlib.Core.Logic.{_≢_}
 use mathlib.Core.Path.{ap, ap₂, refl, subst, sym, _∙_, _≡_}

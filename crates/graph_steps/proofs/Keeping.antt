@@ -1,5 +1,4 @@
 -- Buffers that keep their group: one step after another, and the end of all steps.
--- Assumes nothing.
 use mathlib.Core.Bool.{false}
 use mathlib.Core.List.{List}
 use mathlib.Core.Path.{ap, refl, subst, sym, _∙_, _≡_}

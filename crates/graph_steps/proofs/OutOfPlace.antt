@@ -1,6 +1,5 @@
 -- Vertices out of place, by the numbers in the buffers: what a step at the first of them finds, and that a record
 -- without any has the reduced form.
--- Assumes nothing.
 use mathlib.Core.Bool.{_&&_, Bool, false, not, or-true, true, true≢false, _||_}
 use mathlib.Core.List.{List}
 use mathlib.Core.Logic.{inl, inr, _⊎_}

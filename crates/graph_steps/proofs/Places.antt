@@ -1,5 +1,4 @@
 -- Codes acting on rows place by place: Pauli codes, a row that acts at one place, and rows of I and Z.
--- Assumes nothing.
 use mathlib.Core.Bool.{_&&_, Bool, and-comm, cond, false, true}
 use mathlib.Core.Path.{ap, refl, subst, sym, _∙_, _≡_}
 use Prim.Native.Nat.{_<_, ℕ}

@@ -1,6 +1,5 @@
 -- In a record of reduced form Z at a vertex is, up to a sign and an element of the group, a product of Z over vertices
 -- whose codes keep Z.
--- Assumes nothing.
 use mathlib.Core.Bool.{_&&_, Bool, and-false, and-true, cond, false, true, true≢false}
 use mathlib.Core.Path.{ap, ap₂, refl, subst, sym, _∙_, _≡_}
 use Prim.Native.Nat.{_<_, ℕ, _≤_}

@@ -1,5 +1,4 @@
 -- A record of reduced form is the reduced record of its own group.
--- Assumes nothing.
 use mathlib.Core.Bool.{_&&_, Bool, and-false, cond, false, true, true≢false}
 use mathlib.Core.Logic.{inl, inr}
 use mathlib.Core.Path.{ap, refl, sym, _∙_, _≡_}

@@ -1,5 +1,4 @@
 -- The steps towards the reduced form: each lowers the distance.
--- Assumes nothing.
 use mathlib.Core.Bool.{_&&_, Bool, and-false, cond, false, not, true}
 use mathlib.Core.List.{[], _∷_}
 use mathlib.Core.Logic.{_≢_}

@@ -1,5 +1,4 @@
 -- Moving a sign off the image of Z changes no generator.
--- Assumes nothing.
 use mathlib.Core.Path.{ap, _∙_, _≡_}
 use Prim.Native.Nat.{_<_, ℕ}
 use lib.Dec.{eqb}

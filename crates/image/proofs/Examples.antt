@@ -1,5 +1,4 @@
 -- Worked examples of the image rule: the definitions compute to what document 01 says.
--- Assumes nothing.
 use mathlib.Core.List.{_++_, List, [], _∷_}
 use mathlib.Core.Path.{refl, _≡_}
 use Prim.Native.Nat.{ℕ}

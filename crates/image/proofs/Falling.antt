@@ -1,5 +1,4 @@
 -- A single complementation of the image rule takes the C of one vertex away, a triple that of two.
--- Assumes nothing.
 use mathlib.Core.Bool.{_&&_, Bool, and-false, cond, false, not, true}
 use mathlib.Core.List.{[], _∷_}
 use mathlib.Core.Logic.{_≢_}

@@ -1,5 +1,4 @@
 -- The whole run of the image rule: it stops, and 2 · count ≤ 3 n.
--- Assumes nothing.
 use mathlib.Core.Bool.{false}
 use mathlib.Core.List.{_++_, List, [], _∷_}
 use mathlib.Core.Logic.{inl, inr, _⊎_}

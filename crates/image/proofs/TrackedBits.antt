@@ -1,5 +1,4 @@
 -- The bits that the image rule follows are the bits of the rewritten codes, and the record keeps its group.
--- Assumes nothing.
 use mathlib.Core.Bool.{_&&_, Bool, cond, false, true, true≢false}
 use mathlib.Core.List.{_++_, List, [], _∷_}
 use mathlib.Core.Path.{ap, fun-ext, refl, subst, sym, _∙_, _≡_}

@@ -1,5 +1,4 @@
 -- The image of a graph under codes: the image graph, its signs, and the refusals.
--- Assumes nothing.
 use mathlib.Core.Bool.{_&&_, Bool, false, not, _||_}
 use mathlib.Core.List.{_++_, List, [], _∷_}
 use Prim.Native.Nat.{ℕ}

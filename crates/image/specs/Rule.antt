@@ -1,5 +1,4 @@
 -- The image rule: which vertices are complemented, one after another, when codes are applied to a graph.
--- Assumes nothing.
 use mathlib.Core.Bool.{_&&_, Bool, cond, not}
 use mathlib.Core.List.{_++_, List, [], _∷_}
 use Prim.Native.Nat.{suc, zero, ℕ}

@@ -1,5 +1,4 @@
 -- The answer of the code is that of the definitions.
--- Assumes nothing.
 use mathlib.Core.Bool.{_&&_, Bool, cond, false, not, true}
 use mathlib.Core.List.{_++_, [], _∷_}
 use mathlib.Core.Logic.{inl, inr, _⊎_}

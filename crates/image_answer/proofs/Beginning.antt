@@ -1,5 +1,4 @@
 -- The working state at the start holds the lent record, and its words the bits of the codes.
--- Assumes nothing.
 use mathlib.Core.Bool.{_&&_}
 use mathlib.Core.List.{List}
 use mathlib.Core.Logic.{inl, inr, _⊎_}

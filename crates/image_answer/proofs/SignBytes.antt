@@ -1,5 +1,4 @@
 -- The sign bytes of the image graph on words.
--- Assumes nothing.
 use mathlib.Core.Bool.{_&&_, Bool, false}
 use mathlib.Core.List.{List}
 use mathlib.Core.Path.{ap, ap₂, sym, _∙_, _≡_}

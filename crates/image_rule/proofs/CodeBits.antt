@@ -1,5 +1,4 @@
 -- The words of the codes, made one vertex after another.
--- Assumes nothing.
 use mathlib.Core.Bool.{_&&_, Bool}
 use mathlib.Core.Logic.{inl, inr, _⊎_}
 use mathlib.Core.Path.{ap, ap₂, refl, sym, _∙_, _≡_}

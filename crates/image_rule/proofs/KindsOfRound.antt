@@ -1,5 +1,4 @@
 -- The three kinds of round of the image rule in the code: a single vertex, a pair, the stop.
--- Assumes nothing.
 use mathlib.Core.List.{[], _∷_}
 use mathlib.Core.Path.{subst, sym, _≡_}
 use Prim.Native.Nat.{_+_, _<_, ℕ, _≤_}

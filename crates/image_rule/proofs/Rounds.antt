@@ -1,5 +1,4 @@
 -- The loop of the image rule: what holds before each round, and that a round keeps it.
--- Assumes nothing.
 use mathlib.Core.List.{_++_, List, [], append-assoc, append-nil, _∷_}
 use mathlib.Core.Path.{ap, refl, subst, sym, _∙_, _≡_}
 use Prim.Native.Nat.{_+_, _<_, suc, zero, ℕ, _≤_}

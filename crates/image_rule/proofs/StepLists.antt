@@ -1,5 +1,4 @@
 -- Complementations of the working state, one list after another.
--- Assumes nothing.
 use mathlib.Core.List.{_++_, List, [], append-assoc, append-nil, _∷_}
 use mathlib.Core.Path.{ap, refl, sym, _∙_, _≡_}
 use Prim.Native.Nat.{ℕ}

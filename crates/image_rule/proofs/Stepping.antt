@@ -1,5 +1,4 @@
 -- One complementation in the code's working state: the words c and d follow the codes, and the vertex is listed.
--- Assumes nothing.
 use mathlib.Core.Bool.{_&&_, Bool, and-false, and-true, cond, false}
 use mathlib.Core.List.{List, [], _∷_}
 use mathlib.Core.Path.{ap, ap₂, refl, subst, sym, _∙_, _≡_}

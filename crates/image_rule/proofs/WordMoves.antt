@@ -1,5 +1,4 @@
 -- The next complementations read off the words: both bits 1 is c & d; where that is 0, C = 1 means D = 0.
--- Assumes nothing.
 use mathlib.Core.Bool.{_&&_, Bool, and-false, false, false≢true, not, true, true≢false}
 use mathlib.Core.List.{[], _∷_}
 use mathlib.Core.Logic.{inl, inr, _⊎_}

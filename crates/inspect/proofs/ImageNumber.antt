@@ -1,5 +1,4 @@
 -- The image of a letter as one number, from what the code's calls answer.
--- Assumes nothing.
 use mathlib.Core.Bool.{Bool}
 use mathlib.Core.Path.{ap, ap₂, sym, _∙_, _≡_}
 use Rattle.clifford.specs.Clifford.{Clifford, image, imagePhase}

@@ -1,5 +1,4 @@
 -- The answer to the text that was scanned, printed.
--- Assumes nothing.
 use mathlib.Core.List.{List}
 use mathlib.Core.Path.{_∙_, _≡_, subst, sym}
 use Prim.Native.Nat.{ℕ}

@@ -1,5 +1,4 @@
 -- The room for an answer, and the record that a job starts from, in buffers.
--- Assumes nothing.
 use Prim.Native.Nat.{_*_, _+_, ℕ}
 use Rattle.jobs_run.specs.StepsRun.{linesRoom}
 

@@ -1,5 +1,4 @@
 -- A worked job at the definitions: its text and the scan of it, the numbers of refused texts, and an answer.
--- Assumes nothing.
 use mathlib.Core.Path.{_≡_, refl}
 use mathlib.Core.List.{List, [], _∷_, _++_}
 use Prim.Native.Nat.{ℕ, _*_}

@@ -1,6 +1,5 @@
 -- Feeding a text piece by piece: the reading after two pieces, after one more byte of a block, and after bytes that
 -- end no step.
--- Assumes nothing.
 use mathlib.Core.Path.{_≡_, refl, sym, ap, _∙_}
 use mathlib.Core.Bool.{true, false, _&&_, cond}
 use mathlib.Core.List.{List, [], _∷_, _++_, flatten}

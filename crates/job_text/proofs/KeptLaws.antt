@@ -1,6 +1,5 @@
 -- What is kept of a job of at most 4,096 steps is the job; a longer one has the count 4,097. So the number of a text
 -- is the one that its scan ends with.
--- Assumes nothing.
 use mathlib.Core.Path.{_≡_, refl, sym, ap, ap₂, _∙_}
 use mathlib.Core.Logic.{⊎-elim}
 use mathlib.Core.Bool.{Bool, true, false}

@@ -1,5 +1,4 @@
 -- The letters of an operation, one after the other.
--- Assumes nothing.
 use mathlib.Core.Path.{_≡_, refl, sym, ap, _∙_}
 use mathlib.Core.Logic.{⊎-elim}
 use mathlib.Core.Bool.{_&&_, true, and-eq-true-iff, cond}

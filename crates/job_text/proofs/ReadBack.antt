@@ -1,5 +1,4 @@
 -- A written job is accepted, and reads back as its n and its steps.
--- Assumes nothing.
 use mathlib.Core.Path.{_≡_, refl, _∙_}
 use mathlib.Core.List.{List}
 use Prim.Native.Nat.{ℕ, _≤_}

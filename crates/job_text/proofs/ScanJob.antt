@@ -1,5 +1,4 @@
 -- The scan of the text of a job ends at the start of a line, with n and the steps kept.
--- Assumes nothing.
 use mathlib.Core.Path.{_≡_, refl, sym, ap, _∙_, subst}
 use mathlib.Core.Logic.{⊎-elim}
 use mathlib.Core.Bool.{true, false, and-false}

@@ -1,6 +1,5 @@
 -- Each byte keeps what is known of the text so far; so a scan that ends at the start of a line has read a text that
 -- has the form.
--- Assumes nothing.
 use mathlib.Core.Path.{_≡_, sym, ap, ap₂, _∙_, subst}
 use mathlib.Core.Logic.{⊎-elim}
 use mathlib.Core.Bool.{_&&_, and-eq-true-iff, cond}

@@ -1,6 +1,5 @@
 -- What is known of the text so far at each place of the scan: it is a job's text and the part of a line that the scan
 -- holds.
--- Assumes nothing.
 use mathlib.Core.Path.{_≡_, ap, _∙_}
 use mathlib.Core.Bool.{cond}
 use mathlib.Core.List.{List, [], _∷_, _++_, append-assoc}

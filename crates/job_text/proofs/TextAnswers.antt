@@ -1,5 +1,4 @@
 -- The answer to a text that was scanned, by the verdict on the scan; and each text has one answer.
--- Assumes nothing.
 use mathlib.Core.Bool.{Bool, cond, false, not, true, true≢false}
 use mathlib.Core.List.{List, []}
 use mathlib.Core.Path.{_∙_, _≡_, ap, ap₂, refl, subst, sym}

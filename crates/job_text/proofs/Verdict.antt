@@ -1,6 +1,5 @@
 -- The scan of a text, fed in blocks of any size: it says whether the text has the form, and then n and the steps of
 -- its job are kept.
--- Assumes nothing.
 use mathlib.Core.Path.{_≡_, refl, sym, ap, _∙_, subst}
 use mathlib.Core.Bool.{Bool, true, false, _&&_, cond, false≢true}
 use mathlib.Core.List.{List, [], _∷_, _++_, flatten, append-assoc, append-nil}

@@ -1,6 +1,5 @@
 -- The answer to the text of a job: what each step answers and the record after the last, or the one line `refused` and
 -- the number.
--- Assumes nothing.
 use mathlib.Core.Bool.{cond}
 use mathlib.Core.List.{List}
 use mathlib.Core.Path.{_≡_}

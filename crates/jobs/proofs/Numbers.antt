@@ -1,5 +1,4 @@
 -- The number of a step: by its fields alone, or the number of its operation; and the record that it leaves.
--- Assumes nothing.
 use mathlib.Core.Bool.{_&&_, Bool, cond, false, or-true, true, true≢false, _||_}
 use mathlib.Core.List.{_++_, List, [], _∷_}
 use mathlib.Core.Path.{_∙_, _≡_, ap, ap₂, refl, sym}

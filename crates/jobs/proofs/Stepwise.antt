@@ -1,5 +1,4 @@
 -- Runs step by step: the record after one step more, and the answer of each step.
--- Assumes nothing.
 use mathlib.Core.Bool.{Bool, cond, false, true}
 use mathlib.Core.List.{List, [], _∷_}
 use mathlib.Core.Path.{_∙_, _≡_, ap, refl}

@@ -1,5 +1,4 @@
 -- Line 6 of a step by its fields alone.
--- Assumes nothing.
 use mathlib.Core.Bool.{Bool, false, not, or-true, true, _||_}
 use mathlib.Core.Logic.{⊎-elim}
 use mathlib.Core.Path.{_∙_, _≡_, ap, ap₂, sym}

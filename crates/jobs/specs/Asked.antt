@@ -1,5 +1,4 @@
 -- What a step of a job asks: its operation, the fields that it does not use, and its lines in checking order.
--- Assumes nothing.
 use mathlib.Core.Bool.{_&&_, Bool, not, _||_}
 use mathlib.Core.List.{List, [], _∷_}
 use Prim.Native.Nat.{_%_, _+_, _/_, ℕ}

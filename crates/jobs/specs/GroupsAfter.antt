@@ -1,6 +1,5 @@
 -- The group after the steps of a job, as the definitions give it on groups. A group is given by its elements; the
 -- record beside it tells n, and the edges by which a pivot is refused.
--- Assumes nothing.
 use mathlib.Core.Bool.{Bool, false, not, true}
 use mathlib.Core.List.{List, [], _∷_}
 use mathlib.Core.Logic.{_⊎_}

@@ -1,5 +1,4 @@
 -- Runs of a job: the record that it starts from, the record after each step, and what each step answers.
--- Assumes nothing.
 use mathlib.Core.Bool.{cond}
 use mathlib.Core.List.{List, [], _∷_}
 use Prim.Native.Nat.{ℕ}

@@ -1,5 +1,4 @@
 -- The loop over the steps: what is in the buffers and what is printed after k of them.
--- Assumes nothing.
 use mathlib.Core.List.{List}
 use mathlib.Core.Path.{_∙_, _≡_, ap, subst, sym}
 use Prim.Native.Nat.{_*_, _+_, _<_, _≤_, ℕ}

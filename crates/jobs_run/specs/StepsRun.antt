@@ -1,5 +1,4 @@
 -- What the run of the steps promises: the record after the last, and the names and the line of each step printed.
--- Assumes nothing.
 use Prim.Native.Nat.{_*_, _+_, ℕ}
 
 -- room for the names and 4,096 lines

@@ -1,5 +1,4 @@
 -- The text read so far, block after block.
--- Assumes nothing.
 use mathlib.Core.List.{_++_, List, []}
 use mathlib.Core.Path.{ap, sym, _∙_, _≡_}
 use Prim.Native.Nat.{ℕ}

@@ -1,5 +1,4 @@
 -- The program's answer to a list, from what the reduction and the print promise.
--- Assumes nothing.
 use mathlib.Core.Bool.{Bool, cond, false, or-true, _||_}
 use mathlib.Core.List.{List}
 use mathlib.Core.Logic.{⊎-elim}

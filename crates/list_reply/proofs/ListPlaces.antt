@@ -1,5 +1,4 @@
 -- A list of n in buffers of 64 places: it stands in the first m, where m is n or 64.
--- Assumes nothing.
 use mathlib.Core.List.{List}
 use mathlib.Core.Path.{ap, _≡_}
 use Prim.Native.Nat.{min, ℕ, _≤_}

@@ -1,6 +1,5 @@
 -- Each text has one answer, so the program's contract fixes what is printed for the text that was read. With it
 -- the answers to the empty text and to the names alone.
--- Assumes nothing.
 use mathlib.Core.Bool.{Bool, false, true, true≢false}
 use mathlib.Core.List.{List, []}
 use mathlib.Core.Logic.{_↔_}

@@ -1,5 +1,4 @@
 -- The answer to the text that was scanned: whatever the blocks in which it came, it is the definition's.
--- Assumes nothing.
 use mathlib.Core.Bool.{false, true, true≢false}
 use mathlib.Core.List.{List}
 use mathlib.Core.Logic.{_↔_, ⊎-elim}

@@ -1,5 +1,4 @@
 -- The answer to the text of a generator list: the record of the text's list, or the one line `refused` and the number.
--- Assumes nothing.
 use mathlib.Core.Bool.{cond}
 use mathlib.Core.List.{List, map}
 use mathlib.Core.Path.{_≡_}

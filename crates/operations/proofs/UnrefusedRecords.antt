@@ -1,5 +1,4 @@
 -- What it means for the buffers of a record that no line refuses it, as the operations need it.
--- Assumes nothing.
 use mathlib.Core.Bool.{cond, false}
 use mathlib.Core.List.{List}
 use mathlib.Core.Path.{ap, ap₂, subst, sym, _∙_, _≡_}

@@ -1,5 +1,4 @@
 -- The controlled Z of two qubits: what it is to be, and a formula for it.
--- Assumes nothing.
 use mathlib.Core.Bool.{_&&_, Bool, false}
 use mathlib.Core.Logic.{_≢_}
 use mathlib.Core.Path.{_≡_}

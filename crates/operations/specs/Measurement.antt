@@ -1,5 +1,4 @@
 -- Pauli measurements: which are determined, the outcome, and the group afterwards.
--- Assumes nothing.
 use mathlib.Core.Bool.{_&&_, Bool, cond, false, not, true, _||_}
 use mathlib.Core.Path.{_≡_}
 use Prim.Native.Nat.{suc, zero, ℕ}

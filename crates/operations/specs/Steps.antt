@@ -1,5 +1,4 @@
 -- The calls that work on a lent record in place: the lines of each in checking order, and what it leaves.
--- Assumes nothing.
 use mathlib.Core.Bool.{Bool, false, not, _||_}
 use mathlib.Core.List.{_++_, List, [], _∷_}
 use Prim.Native.Nat.{ℕ}

@@ -1,5 +1,4 @@
 -- CZ on the buffers of a record of reduced form: what its calls leave is the record that CZ makes.
--- Assumes nothing.
 use mathlib.Core.Bool.{_&&_, Bool, cond, false}
 use mathlib.Core.List.{List}
 use mathlib.Core.Logic.{_≢_}

@@ -1,6 +1,5 @@
 -- A gate on a buffer of codes: the buffers hold the gated record, and no line refuses it. CZ after a reduction answers
 -- the reduced record of the new group.
--- Assumes nothing.
 use mathlib.Core.List.{List}
 use mathlib.Core.Logic.{_≢_}
 use mathlib.Core.Path.{ap, subst, sym, _∙_, _≡_}

@@ -1,5 +1,4 @@
 -- The loop that flips the edges between two sets.
--- Assumes nothing.
 use mathlib.Core.Bool.{_&&_, _||_}
 use mathlib.Core.List.{List}
 use mathlib.Core.Path.{ap, ap₂, sym, _∙_, _≡_}

@@ -1,5 +1,4 @@
 -- The sets of a CZ and its signs, word by word.
--- Assumes nothing.
 use mathlib.Core.Bool.{Bool, cond}
 use mathlib.Core.Path.{ap, ap₂, sym, _∙_, _≡_}
 use Prim.Native.Nat.{_<_, _^_, ℕ, _≤_}

@@ -1,5 +1,4 @@
 -- Complementations that turn the code at a vertex towards a letter.
--- Assumes nothing.
 use mathlib.Core.Bool.{Bool, cond, false, true, true≢false}
 use mathlib.Core.List.{List}
 use mathlib.Core.Logic.{inl, inr, _↔_}

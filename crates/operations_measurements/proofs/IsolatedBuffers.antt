@@ -1,5 +1,4 @@
 -- A vertex isolated in the buffers of a record.
--- Assumes nothing.
 use mathlib.Core.Bool.{_&&_, Bool, and-false, cond, false, not, true}
 use mathlib.Core.List.{List}
 use mathlib.Core.Path.{ap, fun-ext, refl, subst, sym, _∙_, _≡_}

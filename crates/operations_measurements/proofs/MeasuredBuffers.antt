@@ -1,5 +1,4 @@
 -- A measurement by what was read off the record: whether it is determined, the answer, and the buffers afterwards.
--- Assumes nothing.
 use mathlib.Core.Bool.{_&&_, Bool, Bool·beq, cond, false, not, true}
 use mathlib.Core.List.{List}
 use mathlib.Core.Path.{ap, refl, subst, sym, _∙_, _≡_}

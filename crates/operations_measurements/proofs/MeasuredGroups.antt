@@ -1,5 +1,4 @@
 -- The group after a measurement: the old one where it is determined, else that of the record whose vertex is cut off.
--- Assumes nothing.
 use mathlib.Core.Bool.{Bool, Bool·beq, false, not, true, true≢false}
 use mathlib.Core.List.{List}
 use mathlib.Core.Path.{ap, refl, subst, sym, _∙_, _≡_}

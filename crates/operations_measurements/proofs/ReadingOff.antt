@@ -1,5 +1,4 @@
 -- A measurement read off a record by the code: what its calls answer is whether it is determined, and the sign.
--- Assumes nothing.
 use mathlib.Core.Bool.{_&&_, Bool, Bool·beq, cond, false, true}
 use mathlib.Core.List.{List}
 use mathlib.Core.Logic.{_↔_}

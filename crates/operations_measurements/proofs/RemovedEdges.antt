@@ -1,5 +1,4 @@
 -- The loop that removes the edges at a vertex.
--- Assumes nothing.
 use mathlib.Core.Bool.{_&&_, and-false, and-true, false, not, true}
 use mathlib.Core.List.{List}
 use mathlib.Core.Path.{ap, ap₂, refl, subst, sym, _∙_, _≡_}

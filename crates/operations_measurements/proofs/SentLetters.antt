@@ -1,5 +1,4 @@
 -- Letters compared by their bits, and where codes send them.
--- Assumes nothing.
 use mathlib.Core.Bool.{_&&_, Bool, Bool·beq, true, true≢false}
 use mathlib.Core.Logic.{_↔_}
 use mathlib.Core.Path.{ap, ap₂, refl, sym, _∙_, _≡_}

@@ -1,5 +1,4 @@
 -- Buffers of a record that was complemented: they are accepted again, and three complements make a pivot.
--- Assumes nothing.
 use mathlib.Core.List.{List}
 use mathlib.Core.Path.{ap, ap₂, subst, sym, _∙_, _≡_}
 use Prim.Native.Nat.{_<_, ℕ, _≤_}

@@ -1,5 +1,4 @@
 -- Codes put before that of a vertex and those of its neighbours, as in complementing there.
--- Assumes nothing.
 use mathlib.Core.Bool.{Bool, cond, false}
 use mathlib.Core.List.{List}
 use mathlib.Core.Path.{ap, fun-ext, subst, sym, _∙_, _≡_}

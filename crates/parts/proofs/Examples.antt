@@ -1,5 +1,4 @@
 -- Parts of small graphs, computed from the definition.
--- Assumes nothing.
 use mathlib.Core.Bool.{false, true}
 use mathlib.Core.List.{List, [], _∷_}
 use mathlib.Core.Path.{refl, _≡_}

@@ -1,6 +1,5 @@
 -- Parts: the test of closed sets agrees, a part is the least closed set that has its vertex, and the vertices of a
 -- part have the same one.
--- Assumes nothing.
 use mathlib.Core.Bool.{_&&_, Bool, false, false≢true, not, true, _||_}
 use mathlib.Core.Logic.{_↔_}
 use mathlib.Core.Path.{ap, ap₂, fun-ext, refl, sym, _∙_, _≡_}

@@ -1,6 +1,5 @@
 -- Groups over a set of vertices that no edge leaves: its elements in the set's numbers are those among all vertices
 -- that have I elsewhere, and a choice that carries the whole group carries that of the set.
--- Assumes nothing.
 use mathlib.Core.Bool.{Bool, false, true}
 use mathlib.Core.Logic.{inl, inr, _⊎_}
 use mathlib.Core.Path.{ap, subst, sym, _∙_, _≡_}

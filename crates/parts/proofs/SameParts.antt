@@ -1,6 +1,5 @@
 -- "equivalent states have the same parts": no edge leaves a set of vertices exactly if the rank across its cut is 0,
 -- and a choice of codes keeps every rank.
--- Assumes nothing.
 use mathlib.Core.Bool.{_&&_, Bool, false, not, true, true≢false}
 use mathlib.Core.Logic.{inl, inr, _⊎_}
 use mathlib.Core.Path.{ap, ap₂, refl, sym, _∙_, _≡_}

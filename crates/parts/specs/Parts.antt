@@ -1,5 +1,4 @@
 -- The connected parts of a graph, by the sets of vertices that no edge leaves.
--- Assumes nothing.
 use mathlib.Core.Bool.{_&&_, Bool, not, true, _||_}
 use mathlib.Core.Path.{_≡_}
 use Prim.Native.Nat.{_<_, _^_, ℕ}

@@ -1,5 +1,4 @@
 -- The vertices of a set listed in rising order, and words in their numbers.
--- Assumes nothing.
 use mathlib.Core.Bool.{_&&_, Bool, false, not, true, true≢false}
 use mathlib.Core.List.{List}
 use mathlib.Core.Logic.{inl, inr, _⊎_}

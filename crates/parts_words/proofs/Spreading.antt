@@ -1,5 +1,4 @@
 -- The search for the part of a vertex: what it has reached lies in the part, and where nothing is new it is the part.
--- Assumes nothing.
 use mathlib.Core.Bool.{_&&_, Bool, false, or-false, true, _||_}
 use mathlib.Core.List.{List}
 use mathlib.Core.Logic.{inl, inr, _⊎_}

@@ -1,7 +1,6 @@
 -- Signed Pauli operators, here called rows: a power of i and a letter for each qubit, kept as a z word and an x
 -- word. The number of qubits, n, goes to the product and to the commutation rule, which sum over the places below
 -- n.
--- Assumes nothing.
 use mathlib.Core.Bool.{Bool, false, true}
 use Prim.Native.Nat.{suc, zero, ℕ}
 use lib.Dec.{eqb}

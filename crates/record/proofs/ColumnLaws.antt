@@ -1,6 +1,5 @@
 -- Columns that are sums of earlier ones: the test agrees, sums of rows keep the dependence, and for the x
 -- bits of a list it is a matter of the group alone.
--- Assumes nothing.
 use mathlib.Core.Bool.{_&&_, Bool, and-false, false, true}
 use mathlib.Core.Logic.{_↔_}
 use mathlib.Core.Path.{ap, sym, _∙_, _≡_}

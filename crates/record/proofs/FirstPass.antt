@@ -1,6 +1,5 @@
 -- Reduction, the first pass: pivots over the columns of x bits in rising order. A column without a pivot
 -- is a sum of earlier ones; the others are kept.
--- Assumes nothing.
 use mathlib.Core.Bool.{_&&_, Bool, and-false, false, false≢true, not, true, true≢false}
 use mathlib.Core.Logic.{Iff·trans, inl, inr, _↔_, _≢_, _⊎_}
 use mathlib.Core.Path.{ap, refl, subst, sym, _∙_, _≡_}

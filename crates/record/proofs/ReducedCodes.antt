@@ -1,6 +1,5 @@
 -- The codes of a reduced record are 0, 2, 4, 6, 8 and 10: Y never comes with a Hadamard. And no edge
 -- joins two vertices with a Hadamard.
--- Assumes nothing.
 use mathlib.Core.Bool.{_&&_, Bool, and-false, cond, false, true, true≢false}
 use mathlib.Core.Logic.{inl, inr, _⊎_}
 use mathlib.Core.Path.{ap, ap₂, refl, subst, sym, _∙_, _≡_}

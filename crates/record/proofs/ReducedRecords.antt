@@ -1,6 +1,5 @@
 -- Every list has a reduced record, of its group; two lists have equal ones exactly if their groups are
 -- equal; and reducing a reduced record changes nothing.
--- Assumes nothing.
 use mathlib.Core.Logic.{inl, inr, _↔_}
 use mathlib.Core.Path.{subst, sym}
 use Prim.Native.Nat.{ℕ}

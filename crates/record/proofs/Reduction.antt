@@ -1,6 +1,5 @@
 -- Reduction, put together: after both passes every column has its pivot, and the rows give the reduced
 -- record; or some row is left over, and the list is dependent.
--- Assumes nothing.
 use mathlib.Core.Bool.{_&&_, Bool, false, not, true, true≢false}
 use mathlib.Core.Logic.{inl, inr, _⊎_}
 use mathlib.Core.Path.{ap, ap₂, fun-ext, refl, subst, sym, _∙_, _≡_}

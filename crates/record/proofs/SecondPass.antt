@@ -1,6 +1,5 @@
 -- Reduction, the second pass: Hadamards on the columns that were not kept, and pivots there too. A row
 -- that is no pivot after it has lost all its letters.
--- Assumes nothing.
 use mathlib.Core.Bool.{_&&_, Bool, and-false, cond, false, not, true}
 use mathlib.Core.Logic.{Iff·trans, inl, inr, _↔_, _≢_}
 use mathlib.Core.Path.{ap, ap₂, refl, sym, _∙_, _≡_}

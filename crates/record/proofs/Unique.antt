@@ -1,5 +1,4 @@
 -- A group has one reduced record: whatever list it comes from.
--- Assumes nothing.
 use mathlib.Core.Path.{sym, _∙_, _≡_}
 use Prim.Native.Nat.{ℕ}
 use Rattle.pauli.specs.Pauli.{Pauli}

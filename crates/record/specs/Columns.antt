@@ -1,5 +1,4 @@
 -- Bit matrices, one word a row: whether a column is a sum modulo 2 of the columns before it.
--- Assumes nothing.
 use mathlib.Core.Bool.{_&&_, Bool}
 use mathlib.Core.Path.{_≡_}
 use Prim.Native.Nat.{_<_, _^_, ℕ}

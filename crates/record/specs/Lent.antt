@@ -1,5 +1,4 @@
 -- Records as they are lent, and the lines of the refusals that speak of a record.
--- Assumes nothing.
 use mathlib.Core.Bool.{Bool, not, _||_}
 use mathlib.Core.List.{List, [], _∷_}
 use Prim.Native.Nat.{_^_, ℕ}

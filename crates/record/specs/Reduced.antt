@@ -1,5 +1,4 @@
 -- The reduced record of a generator list: as a relation, and as a function of the list.
--- Assumes nothing.
 use mathlib.Core.Bool.{_&&_, Bool, cond, false, not, true}
 use mathlib.Core.Logic.{_↔_}
 use mathlib.Core.Path.{_≡_}

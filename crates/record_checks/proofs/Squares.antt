@@ -1,5 +1,4 @@
 -- A graph is simple exactly if its square of bits is its own transpose and has no bit on the diagonal.
--- Assumes nothing.
 use mathlib.Core.Bool.{_&&_, Bool, and-true, false, not, true, true≢false, _||_}
 use mathlib.Core.List.{List}
 use mathlib.Core.Path.{ap, ap₂, refl, subst, sym, _∙_, _≡_}

@@ -1,5 +1,4 @@
 -- The passes put together: the reduced record where every column has its pivot, and dependence otherwise.
--- Assumes nothing.
 use mathlib.Core.Bool.{_&&_, Bool, cond, false, not, true}
 use mathlib.Core.Logic.{inl, inr, _⊎_}
 use mathlib.Core.Path.{ap, ap₂, fun-ext, refl, subst, sym, _∙_, _≡_}

@@ -1,5 +1,4 @@
 -- A lent list loaded into the tableau, and what an accepted list gives the elimination.
--- Assumes nothing.
 use mathlib.Core.Bool.{_&&_, Bool, cond, false, not}
 use mathlib.Core.List.{List, [], _∷_}
 use mathlib.Core.Logic.{inl, inr, _≢_, _⊎_}

@@ -1,5 +1,4 @@
 -- A pass over the columns: the rows stay loaded, and the code's step is the definition's.
--- Assumes nothing.
 use mathlib.Core.Bool.{_&&_, Bool, and-false, false, not, true, true≢false}
 use mathlib.Core.List.{List}
 use mathlib.Core.Logic.{inl, inr, _⊎_}

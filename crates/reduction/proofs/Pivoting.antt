@@ -1,5 +1,4 @@
 -- The pivot of a column as the code does it, and the words that name the rows.
--- Assumes nothing.
 use mathlib.Core.Bool.{_&&_, Bool, and-false, and-true, false, not, true, true≢false}
 use mathlib.Core.List.{List, []}
 use mathlib.Core.Logic.{inl, inr, _⊎_}

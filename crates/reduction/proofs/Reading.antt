@@ -1,5 +1,4 @@
 -- The record read off the rows: the neighbour words and the codes.
--- Assumes nothing.
 use mathlib.Core.Bool.{_&&_, Bool, and-false, and-true, false, not}
 use mathlib.Core.List.{List, []}
 use mathlib.Core.Logic.{inl, inr, _⊎_}

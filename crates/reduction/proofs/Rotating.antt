@@ -1,5 +1,4 @@
 -- Hadamards on the columns that a word names: z and x are exchanged there, and the sign flips for each Y.
--- Assumes nothing.
 use mathlib.Core.Bool.{_&&_, Bool, cond, false}
 use mathlib.Core.List.{List, [], _∷_}
 use mathlib.Core.Logic.{inl, inr, _≢_, _⊎_}

@@ -1,5 +1,4 @@
 -- One row multiplied into the rows that a word names, as the code does it: row after row, by rising number.
--- Assumes nothing.
 use mathlib.Core.Bool.{_&&_, Bool, Bool·beq, and-false, and-true, false, not, true, true≢false}
 use mathlib.Core.List.{List, [], _∷_}
 use mathlib.Core.Logic.{_≢_}

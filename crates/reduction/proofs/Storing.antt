@@ -1,5 +1,4 @@
 -- A row of the tableau stored, with its sign.
--- Assumes nothing.
 use mathlib.Core.Bool.{_&&_, Bool}
 use mathlib.Core.List.{List, [], _∷_}
 use mathlib.Core.Logic.{_≢_}

@@ -1,5 +1,4 @@
 -- Independence modulo 2, signs dropped, through row operations and codes.
--- Assumes nothing.
 use mathlib.Core.Bool.{_&&_, Bool, and-false, false, true, true≢false}
 use mathlib.Core.Logic.{_↔_, _≢_}
 use mathlib.Core.Path.{ap, ap₂, fun-ext, refl, subst, sym, _∙_, _≡_}

@@ -1,5 +1,4 @@
 -- The row operations of an elimination keep the group, and a pivot leaves its column with one bit.
--- Assumes nothing.
 use mathlib.Core.Bool.{_&&_, Bool, and-false, false, not, true}
 use mathlib.Core.Path.{ap, ap₂, refl, subst, sym, _∙_, _≡_}
 use Prim.Native.Nat.{_<_, ℕ}

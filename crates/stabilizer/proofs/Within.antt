@@ -1,6 +1,5 @@
 -- Rows of n qubits: products, codes and row operations keep them, and a larger number of qubits changes
 -- none of these.
--- Assumes nothing.
 use mathlib.Core.Bool.{Bool, false, true}
 use mathlib.Core.Path.{ap, ap₂, refl, subst, sym, _∙_, _≡_}
 use Prim.Native.Nat.{_<_, suc, zero, ℕ, _≤_}

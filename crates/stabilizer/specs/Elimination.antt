@@ -1,5 +1,4 @@
 -- The row operations of an elimination over the x bits: what the code's steps do to a list.
--- Assumes nothing.
 use Prim.Native.Nat.{ℕ}
 use Rattle.pauli.specs.Pauli.{Pauli, mul}
 use Rattle.words.specs.Bits.{Word}

@@ -1,5 +1,4 @@
 -- Generator lists on n qubits, and the group of a list.
--- Assumes nothing.
 use mathlib.Core.Bool.{Bool, false, true}
 use mathlib.Core.Path.{_≡_}
 use Prim.Native.Nat.{_<_, ℕ, _≤_}

@@ -1,5 +1,4 @@
 -- Generator lists as they are lent, and the lines of the refusals that speak of a list.
--- Assumes nothing.
 use mathlib.Core.Bool.{_&&_, Bool, not, _||_}
 use mathlib.Core.List.{_++_, List, [], _∷_}
 use Prim.Native.Nat.{_^_, ℕ}

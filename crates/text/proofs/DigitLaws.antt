@@ -1,6 +1,5 @@
 -- Digits read back: the value of a printed digit is the digit, a byte that has a value is its printed digit,
 -- and the digits of a number lead back to it.
--- Assumes nothing.
 use mathlib.Core.Path.{_≡_, refl, ap, ap₂, _∙_, subst}
 use mathlib.Core.Bool.{Bool, true, false, cond}
 use mathlib.Core.List.{List, [], _∷_, _++_}

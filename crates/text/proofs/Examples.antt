@@ -1,6 +1,5 @@
 -- The worked texts of document 01, at the definitions: the input, the output, a refusal, and the verdicts on
 -- the input, on the empty text and on the names alone.
--- Assumes nothing.
 use mathlib.Core.Path.{_≡_, refl}
 use mathlib.Core.Bool.{true, false}
 use mathlib.Core.List.{List, [], _∷_, _++_}

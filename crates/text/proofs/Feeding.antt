@@ -1,5 +1,4 @@
 -- Feeding a text piece by piece: the reading after two pieces, and after one more byte of a block.
--- Assumes nothing.
 use mathlib.Core.Path.{_≡_, refl, sym, ap, _∙_}
 use mathlib.Core.Bool.{true, false, _&&_, cond}
 use mathlib.Core.List.{List, [], _∷_, _++_}

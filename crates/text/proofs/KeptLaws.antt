@@ -1,5 +1,4 @@
 -- What is kept of a list of at most 64 lines is the list; a longer list has the count 65.
--- Assumes nothing.
 use mathlib.Core.Path.{_≡_, _∙_}
 use mathlib.Core.List.{List, map}
 use Prim.Native.Nat.{ℕ, _≤_, _<_}

@@ -1,5 +1,4 @@
 -- What was printed, and where it ends in its buffer.
--- Assumes nothing.
 use mathlib.Core.List.{List}
 use mathlib.Core.Path.{ap, _∙_, _≡_}
 use Prim.Native.Nat.{_+_, ℕ, _≤_}

@@ -1,5 +1,4 @@
 -- The lines of a record's print: their parts and their lengths.
--- Assumes nothing.
 use mathlib.Core.Path.{_≡_, sym, ap, subst}
 use mathlib.Core.List.{List, _++_, append-assoc}
 use Prim.Native.Nat.{ℕ, zero, suc, _*_, _≤_}

@@ -1,5 +1,4 @@
 -- The scan of the text of a list ends at the start of a line, with the lines counted and kept.
--- Assumes nothing.
 use mathlib.Core.Path.{_≡_, refl, sym, ap, _∙_, subst}
 use mathlib.Core.Logic.{⊎-elim}
 use mathlib.Core.Bool.{true, false, and-false}

@@ -1,6 +1,5 @@
 -- At each place the text so far is a list's text and the part of a line that the scan holds; so a scan that
 -- ends at the start of a line has read a text that has the form.
--- Assumes nothing.
 use mathlib.Core.Path.{_≡_, refl, sym, ap, ap₂, _∙_, subst}
 use mathlib.Core.Bool.{_&&_, and-eq-true-iff, cond}
 use mathlib.Core.List.{List, [], _∷_, _++_, append-assoc, append-nil}

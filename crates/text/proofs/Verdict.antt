@@ -1,6 +1,5 @@
 -- The verdict on a text, fed in blocks of any size: it says whether the text has the form, and then the lines
 -- of its list are counted and kept.
--- Assumes nothing.
 use mathlib.Core.Path.{_≡_, refl, sym, ap, _∙_, subst}
 use mathlib.Core.Bool.{Bool, true, false, _&&_, cond, false≢true}
 use mathlib.Core.List.{List, [], _∷_, _++_, flatten, append-assoc, append-nil}

@@ -1,5 +1,4 @@
 -- Writing into a buffer, piece by piece: a byte is a store, and two pieces written one behind the other are one.
--- Assumes nothing.
 use mathlib.Core.Path.{_≡_, sym, ap, _∙_, subst}
 use mathlib.Core.List.{List, [], _∷_, _++_, append-assoc, append-nil}
 use Prim.Native.Nat.{ℕ, suc, _+_, _≤_, _<_}

@@ -1,6 +1,5 @@
 -- The text of a generator list and the texts that answer it, as lists of bytes: 10 ends a line, 32 is the
 -- space, 48 the digit 0, 97 the letter a.
--- Assumes nothing.
 use mathlib.Core.Path.{_≡_}
 use mathlib.Core.Bool.{cond}
 use mathlib.Core.List.{List, [], _∷_, _++_}

@@ -1,5 +1,4 @@
 -- A round, pair of rows by pair of rows.
--- Assumes nothing.
 use mathlib.Core.Bool.{Bool, cond, false, true, not}
 use mathlib.Core.List.{List}
 use mathlib.Core.Path.{ap, ap₂, refl, subst, sym, _∙_, _≡_}

@@ -1,6 +1,5 @@
 -- Two rows of a round, bit by bit: where the column has bit s, the upper row takes from the lower, and where it lacks
 -- it, the lower from the upper.
--- Assumes nothing.
 use mathlib.Core.Bool.{_&&_, Bool, and-false, and-true, cond, false, not, true}
 use mathlib.Core.Logic.{inl, inr, _⊎_}
 use mathlib.Core.Path.{ap, ap₂, refl, sym, _∙_, _≡_}

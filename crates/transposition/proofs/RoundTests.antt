@@ -1,5 +1,4 @@
 -- The six rounds: what each needs, by computed tests.
--- Assumes nothing.
 use mathlib.Core.Bool.{_&&_, Bool, false, false≢true, not, true, _||_}
 use mathlib.Core.Path.{ap, ap₂, refl, _≡_}
 use Prim.Native.Nat.{_%_, _*_, _+_, _-_, _<_, ℕ, _≤_}

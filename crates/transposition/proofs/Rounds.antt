@@ -1,5 +1,4 @@
 -- Six rounds are the transpose: where the numbers of row and column come from, by a computed test.
--- Assumes nothing.
 use mathlib.Core.List.{List, [], _∷_}
 use mathlib.Core.Path.{ap₂, refl, _∙_, _≡_}
 use Prim.Native.Nat.{_<_, ℕ, _≤_}

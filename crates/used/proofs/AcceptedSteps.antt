@@ -1,5 +1,4 @@
 -- An accepted operation: the record and the arguments are good, and the record that it leaves is refused by no line.
--- Assumes nothing.
 use mathlib.Core.Bool.{Bool, false, true, _||_}
 use mathlib.Core.List.{_++_, List}
 use mathlib.Core.Logic.{_≢_}

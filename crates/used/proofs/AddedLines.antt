@@ -1,5 +1,4 @@
 -- Lines with a further test, and lines with one put in: none holds exactly if none held and the new test is false.
--- Assumes nothing.
 use mathlib.Core.Bool.{_&&_, Bool, cond, false, true, true≢false, _||_}
 use mathlib.Core.List.{List, [], _∷_}
 use mathlib.Core.Logic.{_↔_}

@@ -1,6 +1,5 @@
 -- A Pauli at one qubit that is in the group: in the reduced record the qubit's vertex has no neighbour, and its code is
 -- the one of 0, 2, 4, 6, 8 and 10 that sends X to this Pauli.
--- Assumes nothing.
 use mathlib.Core.Bool.{Bool, false, true}
 use mathlib.Core.Path.{_≡_, ap, refl, subst, sym, _∙_}
 use native.Mathlib.Omega.{arith}

@@ -1,5 +1,4 @@
 -- The record that an accepted call leaves passes every line, and all that is promised of a call on used qubits.
--- Assumes nothing.
 use mathlib.Core.Bool.{_&&_, Bool, cond, false, not, or-false, true, _||_}
 use mathlib.Core.Logic.{inl, inr, _⊎_}
 use mathlib.Core.Path.{ap, ap₂, refl, subst, sym, _∙_, _≡_}

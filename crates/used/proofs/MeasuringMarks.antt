@@ -1,5 +1,4 @@
 -- An accepted measurement leaves its vertex alone, with the code of its Pauli and outcome, and marks it.
--- Assumes nothing.
 use mathlib.Core.Bool.{Bool, cond, false, true, _||_}
 use mathlib.Core.Logic.{_≢_, inl, inr}
 use mathlib.Core.Path.{ap, ap₂, refl, subst, sym, _∙_, _≡_}

@@ -1,5 +1,4 @@
 -- A call on a record with used qubits is accepted exactly if it was before and the three new tests are false.
--- Assumes nothing.
 use mathlib.Core.Bool.{Bool, false, true, _||_}
 use mathlib.Core.List.{List, [], _∷_}
 use mathlib.Core.Logic.{_↔_}

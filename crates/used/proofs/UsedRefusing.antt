@@ -1,5 +1,4 @@
 -- Number 16 comes exactly where no earlier line holds and the call names a used qubit; a pivot never gives it.
--- Assumes nothing.
 use mathlib.Core.Bool.{Bool, false, true, true≢false}
 use mathlib.Core.List.{_++_, List, [], _∷_}
 use mathlib.Core.Logic.{_↔_, inl, inr}

@@ -1,5 +1,4 @@
 -- Records with a word of used qubits (02, §8): their lines, and what a call leaves.
--- Assumes nothing.
 use mathlib.Core.Bool.{_&&_, Bool, cond, not, _||_}
 use mathlib.Core.List.{List, [], _∷_}
 use Prim.Native.Nat.{_^_, ℕ}

@@ -1,5 +1,4 @@
 -- What document 02, §8, promises of every accepted call on a record with used qubits.
--- Assumes nothing.
 use mathlib.Core.Bool.{false, true}
 use mathlib.Core.List.{List}
 use mathlib.Core.Logic.{_↔_}

@@ -1,5 +1,4 @@
 -- Counts of ones: the parity of a xor; `dot` is symmetric and linear in each argument.
--- Assumes nothing.
 
 -- the number of ones modulo 2 is the sum of the bits
 use mathlib.Core.Bool.{_&&_, false}

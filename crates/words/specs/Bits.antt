@@ -1,5 +1,4 @@
 -- Words: a bit for each qubit. "Bit q of a word belongs to qubit q, bit 0 lowest, words 64 bits wide."
--- Assumes nothing.
 use mathlib.Core.Bool.{Bool, true, false, cond}
 use Prim.Native.Nat.{ℕ, zero, suc, _+_, _*_, _/_, _%_, _^_}
 use lib.Dec.{eqb}

@@ -1,3 +1,4 @@
+// Words of 64 bits: masks, bits read, flipped and counted, the smallest set bit.
 ghost use mathlib.Core.Bool.{_&&_};
 ghost use mathlib.Core.Path.{_≡_};
 ghost use Prim.Native.Nat.{ℕ, _-_, _<_, _≤_, _^_};

@@ -1,5 +1,4 @@
 -- The answer read off a record of reduced form, as the code does it: no search over products.
--- Assumes nothing.
 use mathlib.Core.Bool.{cond}
 use Prim.Native.Nat.{ℕ}
 use Rattle.pauli.specs.Pauli.{_+ᵖ_, Phase, exponent}

@@ -1,5 +1,4 @@
 -- The smallest supported word by measurements: Z at each qubit from the last down, with outcome 0 where it is possible.
--- Assumes nothing.
 use mathlib.Core.Bool.{false}
 use mathlib.Core.Path.{_≡_}
 use Prim.Native.Nat.{_-_, _<_, suc, zero, ℕ, _≤_}

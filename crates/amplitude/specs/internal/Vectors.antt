@@ -1,6 +1,5 @@
 -- Vectors of Gaussian integers, one for each word, and how a row acts on them: what the amplitudes are shown to be:
 -- what only the proofs name.
--- Assumes nothing.
 use mathlib.Core.Path.{_≡_}
 use Prim.Native.Nat.{ℕ}
 use Rattle.pauli.specs.Pauli.{Pauli}

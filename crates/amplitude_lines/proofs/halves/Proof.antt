@@ -1,3 +1,4 @@
+-- `halves` meets its contract.
 use borrow.Author.Needs.{needs}
 use Rattle.amplitude_lines.proofs.HalfPowers.{pattern-good, pattern-is}
 use Rattle.amplitude_lines.proofs.halves.Statement.{statement}

@@ -1,3 +1,4 @@
+-- `plot_line` meets its contract.
 use borrow.Author.Needs.{needs}
 use mathlib.Core.Path.{sym, ap, _∙_}
 use lib.Ieee.{ofBits}

@@ -1,3 +1,4 @@
+-- `reaches` meets its contract: line 6: whether some number of the buffer is b or above.
 use Prim.Native.Nat.{_-_}
 use native.Mathlib.Omega.{arith}
 use lib.ListN.{length}

@@ -1,3 +1,4 @@
+-- `strays` meets its contract: line 5: whether some word of the buffer has a bit at or above n.
 use mathlib.Core.Path.{_∙_}
 use Prim.Native.Nat.{_-_, _^_}
 use native.Mathlib.Omega.{arith}

@@ -1,3 +1,4 @@
+-- `compare_lists` meets its contract: the comparison of two lists on n qubits, with room for their reduced records.
 use borrow.Author.Needs.{needs}
 use Rattle.call_compare.proofs.Comparing.{
   compare-decided,

@@ -1,3 +1,4 @@
+-- `pair_count` meets its contract: line 2: n is 0 or above 64, or the two lists' n differ.
 use mathlib.Core.Bool.{_||_, not}
 use mathlib.Core.Path.{ap₂}
 use lib.Dec.{eqb}

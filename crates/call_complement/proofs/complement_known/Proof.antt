@@ -1,3 +1,4 @@
+-- `complement_known` meets its contract: local complementation at a vertex; the record is not reduced.
 use mathlib.Core.Path.{refl, sym, _∙_}
 use borrow.Author.Needs.{needs}
 use Rattle.contracts.proofs.Calling.{refused}

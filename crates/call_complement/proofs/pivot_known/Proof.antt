@@ -1,3 +1,4 @@
+-- `pivot_known` meets its contract: a pivot on an edge; the record is not reduced.
 use mathlib.Core.Path.{refl, sym, _∙_}
 use native.Mathlib.Omega.{arith}
 use borrow.Author.Needs.{needs}

@@ -1,3 +1,4 @@
+-- `cut` meets its contract: the rank of the edges between the marked side and the other.
 use mathlib.Core.Path.{refl, sym, _∙_}
 use borrow.Author.Needs.{needs}
 use Rattle.contracts.proofs.Calling.{done, refused}

@@ -1,3 +1,4 @@
+-- `cut_refusal` meets its contract: the first line that holds; 0 where none does.
 use borrow.Author.Needs.{needs}
 use Rattle.record.specs.Lent.{LentRecord}
 use Rattle.stabilizer.proofs.EarlyLines.{says}

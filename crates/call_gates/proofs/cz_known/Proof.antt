@@ -1,3 +1,4 @@
+-- `cz_known` meets its contract: CZ on two qubits, and the reduced record.
 use mathlib.Core.Path.{refl, sym, _∙_}
 use borrow.Author.Needs.{needs}
 use Rattle.contracts.proofs.Calling.{refused}

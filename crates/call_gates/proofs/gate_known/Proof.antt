@@ -1,3 +1,4 @@
+-- `gate_known` meets its contract: a code applied after the code held at a qubit, and the reduced record.
 use mathlib.Core.Path.{refl, sym, _∙_}
 use borrow.Author.Needs.{needs}
 use Rattle.contracts.proofs.Calling.{refused}

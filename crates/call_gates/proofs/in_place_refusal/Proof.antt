@@ -1,3 +1,5 @@
+-- `in_place_refusal` meets its contract: the number of the first line of a record that holds, and then 8 where `eight`
+-- does; `six`: line 6 holds of a further argument; `known`: no line of the record alone holds.
 use mathlib.Core.Bool.{false}
 use mathlib.Core.Path.{refl}
 use borrow.Author.Needs.{needs}

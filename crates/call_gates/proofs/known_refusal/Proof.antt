@@ -1,3 +1,5 @@
+-- `known_refusal` meets its contract: the number of the first line of a record that holds, which need not be looked for
+-- where none is known to hold; `six`: line 6 holds of a further argument.
 use mathlib.Core.Path.{_∙_}
 use borrow.Author.Needs.{needs}
 use Rattle.record.specs.Lent.{LentRecord}

@@ -1,5 +1,4 @@
 -- What a caller knows of a record before a call.
--- Assumes nothing.
 use mathlib.Core.Bool.{Bool, false, true}
 use Prim.{Unit}
 use Rattle.operations.specs.internal.InPlace.{Unrefused}

@@ -1,3 +1,5 @@
+-- `generate` meets its contract: the text of the job of `count` steps drawn from the seed, at the start of the buffer,
+-- and its length.
 use mathlib.Core.Path.{refl, sym, _∙_}
 use borrow.Author.Needs.{needs}
 use Rattle.contracts.proofs.Calling.{refused}

@@ -1,3 +1,4 @@
+-- `generate_refusal` meets its contract: the first line that holds; 0 where none does.
 use mathlib.Core.Path.{sym, _∙_}
 use borrow.Author.Needs.{needs}
 use borrow.Author.Tests.{eq-eqb, le-ltb, lt-ltb, ne-eqb}

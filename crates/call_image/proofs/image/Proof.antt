@@ -1,3 +1,4 @@
+-- `image` meets its contract: the image graph, its signs, and the list of the vertices complemented.
 use mathlib.Core.Bool.{_||_}
 use mathlib.Core.Path.{ap₂}
 use borrow.Author.Needs.{needs}

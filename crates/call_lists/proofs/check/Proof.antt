@@ -1,3 +1,4 @@
+-- `check` meets its contract: lines 2, 4, 5, 6, 9 and 10 of a generator list.
 use mathlib.Core.Bool.{false}
 use mathlib.Core.Path.{refl, sym}
 use native.Mathlib.Omega.{arith}

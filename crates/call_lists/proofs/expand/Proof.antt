@@ -1,3 +1,4 @@
+-- `expand` meets its contract: the generators of a record, in order.
 use mathlib.Core.Bool.{_||_}
 use mathlib.Core.Path.{ap₂}
 use borrow.Author.Needs.{needs}

@@ -1,3 +1,4 @@
+-- `reduce` meets its contract: the reduced record of a generator list.
 use mathlib.Core.Bool.{_||_}
 use mathlib.Core.Path.{ap₂}
 use borrow.Author.Needs.{needs}

@@ -1,3 +1,5 @@
+-- `measure_known` meets its contract: a Pauli measured at a qubit: the outcome, whether it was determined, and the
+-- reduced record.
 use mathlib.Core.Path.{refl, sym, _∙_}
 use borrow.Author.Needs.{needs}
 use Rattle.contracts.proofs.Calling.{refused}

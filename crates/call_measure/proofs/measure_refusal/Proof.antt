@@ -1,3 +1,5 @@
+-- `measure_refusal` meets its contract: the number of the first line of a measurement that holds: those of its
+-- arguments, and 14 where a determined outcome contradicts the supplied bit.
 use mathlib.Core.Path.{refl, sym, _∙_}
 use borrow.Author.Needs.{needs}
 use Rattle.contracts.proofs.Fitting.{decides, stays}

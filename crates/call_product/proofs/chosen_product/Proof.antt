@@ -1,3 +1,4 @@
+-- `chosen_product` meets its contract: the product of the chosen rows, in index order, its phase from 0 to 3.
 use mathlib.Core.Logic.{⊎-elim}
 use mathlib.Core.Path.{_∙_, subst, sym}
 use Prim.Native.Nat.{_+_, _-_}

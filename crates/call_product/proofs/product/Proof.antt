@@ -1,3 +1,5 @@
+-- `product` meets its contract: the product of the rows that a word chooses, and the power of i in front of its
+-- letters.
 use mathlib.Core.Path.{refl, sym, _∙_}
 use native.Mathlib.Omega.{arith}
 use borrow.Author.Needs.{needs}

@@ -1,3 +1,4 @@
+-- `product_refusal` meets its contract: the first line that holds; 0 where none does.
 use borrow.Author.Needs.{needs}
 use Rattle.stabilizer.proofs.EarlyLines.{says}
 use Rattle.stabilizer.specs.Lists.{GeneratorList}

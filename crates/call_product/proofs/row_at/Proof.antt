@@ -1,3 +1,4 @@
+-- `row_at` meets its contract: row j of a list: a minus sign is two quarter turns.
 use borrow.Author.Needs.{needs}
 use Rattle.call_product.proofs.PartProducts.{two-turns}
 use Rattle.call_product.proofs.row_at.Statement.{statement}

@@ -1,3 +1,5 @@
+-- `after_thirteen` meets its contract: the code 13 and then another, by the row of the table in two words, five bits
+-- for each entry.
 use mathlib.Core.Path.{ap, subst, sym, _∙_, _≡_}
 use Prim.Native.Nat.{_+_, _-_, _<_}
 use native.Mathlib.Omega.{arith}

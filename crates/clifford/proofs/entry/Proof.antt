@@ -1,3 +1,4 @@
+-- `entry` meets its contract: the entry of the table.
 use mathlib.Core.Path.{subst, sym}
 use Prim.Native.Nat.{_<_}
 use Rattle.clifford.specs.Clifford.{cliffordOf, then}

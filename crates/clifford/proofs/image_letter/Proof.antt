@@ -1,3 +1,5 @@
+-- `image_letter` meets its contract: the letter to which a code sends a letter, bit by bit: the image of X where the
+-- letter has an X, times that of Z where it has a Z.
 use Rattle.clifford.specs.Clifford.{cliffordOf}
 use Rattle.clifford.proofs.Digits.{letter-by-calls}
 use borrow.Author.Needs.{needs}

@@ -1,3 +1,4 @@
+-- `image_letters` meets its contract: by class, from 0 to 5.
 use mathlib.Core.Path.{_≡_, ap}
 use native.Mathlib.Omega.{arith}
 use Rattle.clifford.specs.Clifford.{classOf, imageX, imageZ}

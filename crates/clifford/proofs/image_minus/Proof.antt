@@ -1,3 +1,4 @@
+-- `image_minus` meets its contract: whether the image of a letter is negative.
 use Rattle.clifford.proofs.Digits.{image-minus}
 use borrow.Author.Needs.{needs}
 use Rattle.clifford.proofs.image_minus.Statement.{statement}

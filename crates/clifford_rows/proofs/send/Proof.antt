@@ -1,3 +1,4 @@
+-- `send` meets its contract: a row with each place sent through its own code.
 use mathlib.Core.Path.{_∙_, _≡_}
 use Prim.Native.Nat.{_-_, _≤_, zero-le}
 use native.Mathlib.Omega.{arith}

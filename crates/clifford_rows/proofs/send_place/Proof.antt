@@ -1,3 +1,4 @@
+-- `send_place` meets its contract: a row with the letter at place q sent through a code.
 use native.Mathlib.Omega.{arith}
 use Rattle.clifford.specs.Clifford.{cliffordOf}
 use Rattle.clifford.proofs.Sending.{sent-by-calls}

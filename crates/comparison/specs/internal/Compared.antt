@@ -1,6 +1,5 @@
 -- The comparison of two lists: the codes that a choice induces between the reduced graphs, and the lines: what only the
 -- proofs name.
--- Assumes nothing.
 use mathlib.Core.List.{List}
 use Prim.Native.Nat.{ℕ}
 use Rattle.clifford.specs.Clifford.{codeOf, inverse, then}

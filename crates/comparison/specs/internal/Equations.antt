@@ -1,6 +1,5 @@
 -- Linear equations modulo 2 over four words of unknowns, a bit of each for each qubit: how the comparison keeps what the
 -- choices that work satisfy.
--- Assumes nothing.
 use mathlib.Core.Bool.{Bool, false, true}
 use mathlib.Core.List.{List, [], _∷_, map}
 use mathlib.Core.Logic.{_⊎_}

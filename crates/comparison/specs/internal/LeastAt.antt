@@ -1,6 +1,5 @@
 -- A choice vertex by vertex: at each vertex it depends on the vertex's part of the first graph alone whether the choice
 -- works there, and is the least.
--- Assumes nothing.
 use mathlib.Core.Bool.{true}
 use mathlib.Core.Path.{_≡_}
 use Prim.Native.Nat.{_<_, _≤_, ℕ}

@@ -1,5 +1,4 @@
 -- What the tables of the comparison say, what its two loops choose, and what it answers.
--- Assumes nothing.
 use mathlib.Core.Bool.{Bool, false, not, true}
 use mathlib.Core.List.{List}
 use mathlib.Core.Logic.{_⊎_}

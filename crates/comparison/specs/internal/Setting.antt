@@ -1,5 +1,4 @@
 -- What the searches are given: the generators of two reduced records, and the codes that undo the second's.
--- Assumes nothing.
 use mathlib.Core.Bool.{false, true}
 use mathlib.Core.List.{List}
 use mathlib.Core.Path.{_≡_}

@@ -1,3 +1,5 @@
+-- `compare_reduced` meets its contract: the comparison of two reduced records: 3 where a part of either has more than
+-- 20 vertices, 13, or the least choice, the complementation list and its count.
 use mathlib.Core.Path.{refl, subst, sym}
 use Prim.Native.Nat.{_≤_}
 use native.Mathlib.Omega.{arith}

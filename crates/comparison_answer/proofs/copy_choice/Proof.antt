@@ -1,3 +1,4 @@
+-- `copy_choice` meets its contract: the codes of a choice for every place of the buffer.
 use mathlib.Core.Path.{refl}
 use Prim.Native.Nat.{_-_}
 use native.Mathlib.Omega.{arith}

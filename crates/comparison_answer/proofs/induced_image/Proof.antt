@@ -1,3 +1,5 @@
+-- `induced_image` meets its contract: the image rule on the first record's graph, under the codes that the choice
+-- induces between two records; with room for these codes.
 use mathlib.Core.Path.{sym, _∙_}
 use borrow.Author.Needs.{needs}
 use Rattle.comparison_answer.proofs.InducedRecords.{made-accepted, made-answer}

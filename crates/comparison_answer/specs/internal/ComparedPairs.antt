@@ -1,6 +1,5 @@
 -- What the parts of the comparison answer: the reduced records of two lists, and the comparison of two records: what
 -- only the proofs name.
--- Assumes nothing.
 use mathlib.Core.Bool.{cond, _||_}
 use mathlib.Core.List.{List, [], _∷_}
 use mathlib.Core.Path.{_≡_}

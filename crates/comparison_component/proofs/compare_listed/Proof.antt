@@ -1,3 +1,4 @@
+-- `compare_listed` meets its contract: the least choice of a part, with room for its two records.
 use mathlib.Core.Path.{ap, sym, _∙_}
 use native.Mathlib.Omega.{arith}
 use lib.ListN.{length}

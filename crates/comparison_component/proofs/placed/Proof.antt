@@ -1,3 +1,4 @@
+-- `placed` meets its contract: the choice with the codes of a part at its vertices.
 use Prim.Native.Nat.{_-_, _≤_, zero-le}
 use native.Mathlib.Omega.{arith}
 use Rattle.comparison_component.proofs.Placing.{Placing, placing-end, placing-start, placing-step}

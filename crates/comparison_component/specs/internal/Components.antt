@@ -1,5 +1,4 @@
 -- What the comparison of one part is given and answers, and how far the parts are compared.
--- Assumes nothing.
 use mathlib.Core.Bool.{Bool, false, true}
 use mathlib.Core.List.{List}
 use mathlib.Core.Path.{_≡_}

@@ -1,3 +1,5 @@
+-- `compare_component` meets its contract: one part compared: no choice, where an edge of the second graph leaves it or
+-- it has none; else its least choice beside those of other parts.
 use mathlib.Core.Path.{refl, subst, sym, _∙_}
 use borrow.Author.Tests.{not-false, not-true}
 use Rattle.buffers.proofs.Parts.{part-long}

@@ -1,3 +1,5 @@
+-- `compare_parts` meets its contract: the least choice that carries the group of the first record onto that of the
+-- second; no part of the first graph has more than 20 vertices.
 use mathlib.Core.Path.{subst, sym}
 use native.Mathlib.Omega.{arith}
 use lib.ListN.{replicate}

@@ -1,3 +1,5 @@
+-- `compare_records` meets its contract: the least choice that carries the group of the first record onto that of the
+-- second.
 use borrow.Author.Needs.{needs}
 use Rattle.comparison.proofs.ComparedRecords.{records-answer, records-setting}
 use Rattle.comparison_search.proofs.compare_records.Statement.{statement}

@@ -1,3 +1,4 @@
+-- `least_choice` meets its contract: the least choice that carries the first group onto the second.
 use mathlib.Core.Bool.{false, true}
 use mathlib.Core.Path.{refl, subst, sym}
 use borrow.Author.Tests.{not-false, not-true}

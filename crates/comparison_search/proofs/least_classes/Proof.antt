@@ -1,3 +1,4 @@
+-- `least_classes` meets its contract: for each qubit in turn the first class that the equations allow.
 use mathlib.Core.Bool.{false, true}
 use mathlib.Core.Path.{refl}
 use Prim.Native.Nat.{_-_}

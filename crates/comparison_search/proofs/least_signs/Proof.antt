@@ -1,3 +1,4 @@
+-- `least_signs` meets its contract: for each qubit in turn the first signs that the equations allow, the classes kept.
 use Prim.Native.Nat.{_-_}
 use native.Mathlib.Omega.{arith}
 use borrow.Author.Needs.{needs}

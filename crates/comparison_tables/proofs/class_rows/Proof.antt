@@ -1,3 +1,4 @@
+-- `class_rows` meets its contract: the equations of one generator of the first group with all of the second.
 use mathlib.Core.List.{List}
 use mathlib.Core.Path.{ap, refl, _∙_, _≡_}
 use Prim.Native.Nat.{_-_}

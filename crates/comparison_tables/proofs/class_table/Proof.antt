@@ -1,3 +1,4 @@
+-- `class_table` meets its contract: the class equations put into an empty table.
 use mathlib.Core.Path.{subst}
 use Prim.Native.Nat.{_-_, _≤_, zero-le}
 use native.Mathlib.Nat.{le-antisymm}

@@ -1,3 +1,5 @@
+-- `least_class` meets its contract: the first class at qubit q that the equations allow after the classes given below
+-- it; 6 if there is none.
 use mathlib.Core.Path.{_≡_}
 use Prim.Native.Nat.{_-_}
 use native.Mathlib.Omega.{arith}

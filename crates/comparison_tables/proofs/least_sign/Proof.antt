@@ -1,3 +1,5 @@
+-- `least_sign` meets its contract: the first signs at qubit q that the equations allow after the signs given below it;
+-- 4 if there are none.
 use Prim.Native.Nat.{_-_}
 use native.Mathlib.Omega.{arith}
 use borrow.Author.Needs.{needs}

@@ -1,3 +1,5 @@
+-- `sign_table` meets its contract: the sign equations put into an empty table, for classes that send each generator
+-- into the second group up to a sign.
 use mathlib.Core.Bool.{Bool·beq, not}
 use mathlib.Core.Path.{ap, subst, _∙_}
 use Prim.Native.Nat.{_-_, _≤_, zero-le}

@@ -1,5 +1,4 @@
 -- The elements of a group that act on one side of a cut alone: what only the proofs name.
--- Assumes nothing.
 use mathlib.Core.Path.{_≡_}
 use Prim.Native.Nat.{ℕ}
 use Rattle.pauli.specs.Pauli.{Pauli}

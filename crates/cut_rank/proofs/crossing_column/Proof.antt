@@ -1,3 +1,5 @@
+-- `crossing_column` meets its contract: column k of the edges between the sides, as a word over the marked side: the
+-- neighbours of k there where k is on the other side, else none.
 use borrow.Author.Needs.{needs}
 use mathlib.Core.Path.{sym, _∙_}
 use Rattle.cut_rank.proofs.Crossings.{crossing-word, no-crossing}

@@ -1,3 +1,5 @@
+-- `cut_rank` meets its contract: the rank modulo 2 of the edges between the sides: a column that is no sum of earlier
+-- ones leaves a remainder, which joins the basis.
 use mathlib.Core.Logic.{⊎-elim}
 use Prim.Native.Nat.{_-_}
 use native.Mathlib.Omega.{arith}

@@ -1,3 +1,5 @@
+-- `remainder` meets its contract: w with words of the basis added to it, as long as its smallest set bit is that of one
+-- of them.
 use Prim.Native.Nat.{_-_}
 use borrow.Author.Needs.{needs}
 use lib.Count.{trailingZeros}

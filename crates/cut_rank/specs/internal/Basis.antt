@@ -1,5 +1,4 @@
 -- Words held by their smallest set bits, and what is left of a word when they are added to it.
--- Assumes nothing.
 use mathlib.Core.List.{List}
 use mathlib.Core.Path.{_≡_}
 use Prim.Native.Nat.{_<_, _^_, ℕ}

@@ -1,6 +1,5 @@
 -- What a drawn step can be: its qubits are below n, its code below 24, or its Pauli 1 to 3 with an outcome of 0 or 1, a
 -- CZ has two qubits, and unused fields are 0: what only the proofs name.
--- Assumes nothing.
 use Prim.Native.Nat.{_<_}
 use Rattle.jobs.specs.declared.Step.{Step}
 

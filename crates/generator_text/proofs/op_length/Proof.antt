@@ -1,3 +1,4 @@
+-- `op_length` meets its contract: how many of them there are.
 use Rattle.job_text.specs.Text.{opWord}
 use borrow.Author.Needs.{needs}
 use Rattle.generator_text.proofs.op_length.Statement.{statement}

@@ -1,3 +1,4 @@
+-- `put_head` meets its contract: the three lines before the steps.
 use mathlib.Core.Path.{subst}
 use native.Mathlib.Omega.{arith}
 use lib.ListN.{length-append}

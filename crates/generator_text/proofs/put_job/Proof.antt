@@ -1,3 +1,4 @@
+-- `put_job` meets its contract: the text of the job that is drawn.
 use native.Mathlib.Omega.{arith}
 use borrow.Author.Needs.{needs}
 use Rattle.generator_text.proofs.JobLines.{Writing, all-written, line-room, line-written, none-written}

@@ -1,3 +1,4 @@
+-- `put_op` meets its contract.
 use mathlib.Core.Path.{ap, subst, sym}
 use native.Mathlib.Omega.{arith}
 use lib.ListN.{length}

@@ -1,3 +1,4 @@
+-- `put_step` meets its contract: the line of a step.
 use native.Mathlib.Omega.{arith}
 use borrow.Author.Needs.{needs}
 use Rattle.generator_text.proofs.StepLines.{rooms, step-printed}

@@ -1,3 +1,5 @@
+-- `complement_words` meets its contract: complements the graph at vertex a: every edge between two neighbours of a is
+-- flipped, by one xor for each of them.
 use native.Mathlib.Omega.{arith}
 use borrow.Author.Needs.{needs}
 use Rattle.buffers.proofs.OverSets.{next-in, next-less, next-short}

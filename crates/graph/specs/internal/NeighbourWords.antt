@@ -1,5 +1,4 @@
 -- Graphs as they are lent: a buffer with one neighbour word for each vertex: what only the proofs name.
--- Assumes nothing.
 use mathlib.Core.Path.{_≡_}
 use Prim.Native.Nat.{ℕ}
 use Rattle.graph.specs.Graph.{Graph}

@@ -1,3 +1,4 @@
+-- `marked` meets its contract: the word with vertex i besides, if that is out of place.
 use mathlib.Core.Path.{refl}
 use borrow.Author.Needs.{needs}
 use Rattle.graph_settling.proofs.FoundWords.{is-marked, not-marked}

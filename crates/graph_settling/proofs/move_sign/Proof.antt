@@ -1,3 +1,4 @@
+-- `move_sign` meets its contract: X before the code of vertex a, and Z before those of its neighbours.
 use borrow.Author.Needs.{needs}
 use Rattle.graph_settling.proofs.SignBuffers.{sign-written}
 use Rattle.graph_settling.proofs.move_sign.Statement.{statement}

@@ -1,3 +1,4 @@
+-- `normalise` meets its contract: the same where nothing is known of the record.
 use borrow.Author.Needs.{needs}
 use Rattle.graph_settling.proofs.normalise.Statement.{statement}
 use Rattle.graph_settling.proofs.normalise.Tie as tie

@@ -1,3 +1,5 @@
+-- `normalise_from` meets its contract: such steps until no vertex is out of place: then the buffers hold the reduced
+-- record of the group.
 use Prim.Native.Nat.{_*_, _+_, _^_}
 use lib.ListN.{length}
 use Rattle.graph_steps.proofs.Keeping.{kept-codes-long}

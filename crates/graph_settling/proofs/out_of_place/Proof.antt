@@ -1,3 +1,4 @@
+-- `out_of_place` meets its contract: the vertices out of place.
 use mathlib.Core.Path.{refl}
 use Prim.Native.Nat.{_-_}
 use native.Mathlib.Omega.{arith}

@@ -1,3 +1,6 @@
+-- `settle_at` meets its contract: one step at the smallest vertex out of place: where C = 1, D = 0 and it has a larger
+-- neighbour, a pivot with the largest; with another code from 12, a complementation; else the code is odd, and its sign
+-- is moved.
 use native.Mathlib.Omega.{arith}
 use borrow.Author.Needs.{needs}
 use Rattle.graph_steps.proofs.Keeping.{complement-nearer, pivot-nearer}

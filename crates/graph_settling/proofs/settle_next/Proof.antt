@@ -1,3 +1,5 @@
+-- `settle_next` meets its contract: a look at the smallest vertex that may be out of place: if it is, a step, and what
+-- the step may change is added; else it is dropped.
 use mathlib.Core.Path.{sym, _∙_}
 use native.Mathlib.Omega.{arith}
 use borrow.Author.Needs.{needs}

@@ -1,5 +1,4 @@
 -- A word of the vertices that may be out of place, and what a step does to it.
--- Assumes nothing.
 use mathlib.Core.Bool.{false, true}
 use mathlib.Core.List.{List}
 use mathlib.Core.Path.{_≡_}

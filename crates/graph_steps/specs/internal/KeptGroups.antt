@@ -1,5 +1,4 @@
 -- Records rewritten where they are lent so that they keep their group: what the steps on two buffers promise.
--- Assumes nothing.
 use mathlib.Core.Bool.{_&&_, Bool, not, _||_}
 use mathlib.Core.List.{List}
 use mathlib.Core.Path.{_≡_}

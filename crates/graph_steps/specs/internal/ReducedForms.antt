@@ -1,5 +1,4 @@
 -- The form of a reduced record, read off the record itself.
--- Assumes nothing.
 use mathlib.Core.Bool.{false, true}
 use mathlib.Core.Path.{_≡_}
 use Prim.Native.Nat.{_<_, ℕ, _≤_}

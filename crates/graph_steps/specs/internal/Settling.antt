@@ -1,5 +1,4 @@
 -- How far a record is from the reduced form: a number that every step towards it lowers.
--- Assumes nothing.
 use mathlib.Core.Bool.{Bool, cond, false, true}
 use Prim.Native.Nat.{_*_, _+_, _-_, ℕ}
 use Rattle.clifford.specs.Clifford.{Class, XY, XZ, YX, YZ, ZX, ZY, bitC}

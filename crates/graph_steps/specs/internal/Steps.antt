@@ -1,5 +1,4 @@
 -- Steps on a graph and its codes: a sign moved off the image of Z, CZ, and a measured vertex isolated.
--- Assumes nothing.
 use mathlib.Core.Bool.{_&&_, Bool, cond, false, not}
 use Prim.Native.Nat.{ℕ}
 use lib.Dec.{eqb}

@@ -1,3 +1,4 @@
+-- `begin` meets its contract: the state at the start.
 use mathlib.Core.Path.{refl}
 use borrow.Author.Needs.{needs}
 use Rattle.image_answer.proofs.Beginning.{begun, copied-below}

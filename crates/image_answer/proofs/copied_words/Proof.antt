@@ -1,3 +1,4 @@
+-- `copied_words` meets its contract: lent words in an array; 0 past their end.
 use mathlib.Core.Path.{refl}
 use Prim.Native.Nat.{_-_, zero-le, _≤_}
 use native.Mathlib.Omega.{arith}

@@ -1,3 +1,4 @@
+-- `image_answer` meets its contract: the image of the graph under the codes.
 use mathlib.Core.Path.{refl}
 use borrow.Author.Needs.{needs}
 use Rattle.image_answer.proofs.Answering.{answered}

@@ -1,3 +1,4 @@
+-- `sign_byte` meets its contract: the sign of generator j: that of X at j, and those of Z at the neighbours of j.
 use mathlib.Core.Bool.{false, true}
 use borrow.Author.Needs.{needs}
 use Rattle.image_answer.proofs.SignBytes.{sign-by}

@@ -1,3 +1,4 @@
+-- `sign_bytes` meets its contract: a sign byte for each vertex.
 use Prim.Native.Nat.{_-_, zero-le, _≤_}
 use native.Mathlib.Omega.{arith}
 use borrow.Author.Needs.{needs}

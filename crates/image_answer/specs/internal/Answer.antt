@@ -1,5 +1,4 @@
 -- What the code's answer holds.
--- Assumes nothing.
 use mathlib.Core.Path.{_≡_}
 use Prim.Native.Nat.{_<_, ℕ, _≤_}
 use lib.ListN.{getD, length, take}

@@ -1,5 +1,4 @@
 -- What the code's working state holds while the image rule runs.
--- Assumes nothing.
 use mathlib.Core.Bool.{_&&_, Bool, false, not}
 use mathlib.Core.List.{_++_, List}
 use mathlib.Core.Path.{_≡_}

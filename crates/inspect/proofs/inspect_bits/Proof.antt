@@ -1,3 +1,4 @@
+-- `inspect_bits` meets its contract: the bits C and D of a, as 2C + D; 8 where a is not a code.
 use mathlib.Core.Bool.{false}
 use mathlib.Core.Path.{_∙_, ap₂}
 use Rattle.inspect.specs.internal.Answers.{number}

@@ -1,3 +1,5 @@
+-- `inspect_image` meets its contract: the image of the letter (z, x) under a, as 4 × sign + 2z + x; 8 where a is not a
+-- code.
 use mathlib.Core.Path.{_∙_}
 use Rattle.clifford.specs.Clifford.{cliffordOf}
 use Rattle.pauli.specs.Pauli.{letter}

@@ -1,3 +1,4 @@
+-- `inspect_inverse` meets its contract: the inverse of a; 24 where a is not a code.
 use Rattle.inspect.proofs.OfCode.{is-code, no-code}
 use borrow.Author.Needs.{needs}
 use Rattle.inspect.proofs.inspect_inverse.Statement.{statement}

@@ -1,3 +1,4 @@
+-- `inspect_then` meets its contract: first a, then b; 24 where one of them is not a code.
 use Rattle.inspect.proofs.OfCode.{is-code, no-code}
 use borrow.Author.Needs.{needs}
 use Rattle.inspect.proofs.inspect_then.Statement.{statement}

@@ -1,5 +1,4 @@
 -- What the exported functions answer, for all arguments.
--- Assumes nothing.
 use mathlib.Core.Bool.{Bool, cond, false}
 use Prim.Native.Nat.{_+_, _*_, ℕ}
 use lib.Dec.{ltb}

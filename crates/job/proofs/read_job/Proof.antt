@@ -1,3 +1,4 @@
+-- `read_job` meets its contract: reads standard input to its end, block after block.
 use mathlib.Core.Path.{_≡_}
 use lib.ListN.{length}
 use borrow.Author.Needs.{needs}

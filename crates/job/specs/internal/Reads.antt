@@ -1,6 +1,5 @@
 -- What the program promises of the text that it reads. No contract can name what a read brings, so the text is some
 -- list of bytes: what only the proofs name.
--- Assumes nothing.
 use mathlib.Core.List.{List}
 use mathlib.Core.Path.{_≡_}
 use Prim.Native.Nat.{ℕ}

@@ -1,3 +1,4 @@
+-- `put_number` meets its contract: a decimal number below 10,000.
 use Prim.Native.Nat.{_+_, _%_}
 use Prim.Native.Nat.{_/_}
 use Rattle.job_print.proofs.put_number.Lts as lts

@@ -1,3 +1,4 @@
+-- `put_step` meets its contract: the number of a step and the space behind it.
 use Rattle.job_print.proofs.put_step.Lts as lts
 use Rattle.job_text.proofs.ResultLaws.{length-digits}
 use Rattle.text.proofs.Writing.{and-then}

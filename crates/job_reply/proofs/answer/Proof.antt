@@ -1,3 +1,4 @@
+-- `answer` meets its contract: prints the answer to a job, whose steps stand at the start of the array.
 use mathlib.Core.Path.{refl, sym}
 use borrow.Author.Needs.{needs}
 use Rattle.buffers.proofs.Parts.{part-long}

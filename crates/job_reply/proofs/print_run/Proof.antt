@@ -1,3 +1,4 @@
+-- `print_run` meets its contract: runs the first steps of a job, and prints its answer.
 use borrow.Author.Needs.{needs}
 use Rattle.job_reply.proofs.Starting.{all-printed, all-taken, record-printable}
 use Rattle.job_reply.proofs.print_run.Statement.{statement}

@@ -1,3 +1,4 @@
+-- `reply` meets its contract: prints the answer to the text that was scanned, whatever text it was.
 use mathlib.Core.Path.{subst, sym, _∙_}
 use Prim.Native.Nat.{_<_}
 use native.Mathlib.Omega.{arith}

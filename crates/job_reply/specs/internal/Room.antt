@@ -1,5 +1,4 @@
 -- The room for an answer, and the record that a job starts from, in buffers: what only the proofs name.
--- Assumes nothing.
 use mathlib.Core.List.{List}
 use mathlib.Core.Path.{_≡_}
 use Prim.Native.Nat.{ℕ, _≤_}

@@ -1,3 +1,4 @@
+-- `head_step` meets its contract: at byte k of the head.
 use Rattle.job_scan.proofs.head_step.Lts as lts
 use Rattle.job_text.specs.internal.Scan.{headStep}
 use borrow.Author.Needs.{needs}

@@ -1,3 +1,4 @@
+-- `no_text` meets its contract: before a text is read.
 use Rattle.job_scan.proofs.no_text.Lts as lts
 use Rattle.job_text.specs.internal.Scan.{empty, noStep, asReading}
 use borrow.Author.Needs.{needs}

@@ -1,3 +1,5 @@
+-- `scan_block` meets its contract: the reading after a block more: the steps that end in it, if they are of the first
+-- 4,096, are kept.
 use borrow.Author.Needs.{needs}
 use borrow.Author.Tests.{ltb-true}
 use lib.Dec.{ltb}

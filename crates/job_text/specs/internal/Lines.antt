@@ -1,5 +1,4 @@
 -- The refusals of a job text, in checking order: what only the proofs name.
--- Assumes nothing.
 use mathlib.Core.Path.{_≡_}
 use mathlib.Core.Bool.{Bool, not}
 use mathlib.Core.List.{List, _∷_}

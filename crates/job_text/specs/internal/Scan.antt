@@ -1,6 +1,5 @@
 -- What the scanner of a job text does with each byte. Its scan says what the next byte must be and holds n, the step
 -- and the number being read; a step that is read to its newline goes to an array of 4,096 places.
--- Assumes nothing.
 use mathlib.Core.Path.{_≡_}
 use mathlib.Core.Logic.{_↔_}
 use mathlib.Core.Bool.{Bool, true, false, _&&_, cond}

@@ -1,3 +1,4 @@
+-- `unused_set` meets its contract: whether a field that the operation does not use is not 0.
 use borrow.Author.Needs.{needs}
 use Rattle.jobs.proofs.unused_set.Statement.{statement}
 use Rattle.jobs.proofs.unused_set.Tie as tie

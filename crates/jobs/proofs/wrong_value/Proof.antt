@@ -1,3 +1,4 @@
+-- `wrong_value` meets its contract: whether the value is no code, or for a measurement no Pauli and outcome.
 use borrow.Author.Needs.{needs}
 use Rattle.jobs.proofs.wrong_value.Statement.{statement}
 use Rattle.jobs.proofs.wrong_value.Tie as tie

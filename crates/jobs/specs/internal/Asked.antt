@@ -1,6 +1,5 @@
 -- What a step of a job asks: its operation, the fields that it does not use, and its lines in checking order: what only
 -- the proofs name.
--- Assumes nothing.
 use mathlib.Core.Bool.{Bool, false}
 use Prim.Native.Nat.{ℕ}
 use lib.Dec.{leb}

@@ -1,5 +1,4 @@
 -- Jobs as examples: what the definitions give, beside what is expected.
--- Assumes nothing.
 use mathlib.Core.List.{_++_, List, [], map, _∷_}
 use Prim.Native.Nat.{ℕ}
 use Rattle.record.specs.Lent.{LentRecord}

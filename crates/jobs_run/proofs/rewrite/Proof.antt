@@ -1,3 +1,4 @@
+-- `rewrite` meets its contract: the operations without outcome, by the calls.
 use native.Mathlib.Omega.{arith}
 use borrow.Author.Needs.{needs}
 use Rattle.jobs_run.proofs.Running.{by-operation}

@@ -1,3 +1,4 @@
+-- `run_step` meets its contract: one step: its refusal, outcome and determined, and the record as it leaves it.
 use borrow.Author.Needs.{needs}
 use Rattle.record.specs.Lent.{LentRecord}
 use Rattle.jobs_run.proofs.Running.{

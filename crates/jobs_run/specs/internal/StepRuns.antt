@@ -1,5 +1,4 @@
 -- What the run of a step promises. A name with a prime is what the buffer holds at exit.
--- Assumes nothing.
 use mathlib.Core.List.{List}
 use mathlib.Core.Path.{_≡_}
 use Prim.Native.Nat.{_<_, ℕ}

@@ -1,6 +1,5 @@
 -- What the run of the steps promises: the record after the last, and the names and the line of each step printed: what
 -- only the proofs name.
--- Assumes nothing.
 use mathlib.Core.List.{List, _++_}
 use mathlib.Core.Path.{_≡_}
 use Prim.Native.Nat.{ℕ}

@@ -1,3 +1,5 @@
+-- `read_list` meets its contract: reads standard input to its end, block after block; the first 64 lines of the list go
+-- to the buffers.
 use mathlib.Core.Path.{_≡_}
 use lib.ListN.{length}
 use borrow.Author.Needs.{needs}

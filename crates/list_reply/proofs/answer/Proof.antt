@@ -1,3 +1,4 @@
+-- `answer` meets its contract: prints the answer to the list of n generators at the start of the buffers.
 use mathlib.Core.Path.{refl, sym}
 use borrow.Author.Needs.{needs}
 use Rattle.list_reply.proofs.ListPlaces.{lent-places, places-long, places-printed}

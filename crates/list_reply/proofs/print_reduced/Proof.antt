@@ -1,3 +1,4 @@
+-- `print_reduced` meets its contract: reduces a list and prints its record, or the refusal's number.
 use native.Mathlib.Omega.{arith}
 use borrow.Author.Needs.{needs}
 use Rattle.stabilizer.specs.Lists.{GeneratorList}

@@ -1,3 +1,4 @@
+-- `reply` meets its contract: prints the answer to the text that was scanned, whatever text it was.
 use borrow.Author.Needs.{needs}
 use Rattle.list_reply.proofs.ReadTexts.{formed-responds, malformed-responds}
 use Rattle.list_reply.proofs.reply.Statement.{statement}

@@ -1,5 +1,4 @@
 -- A list that was scanned into buffers of 64 places, and the buffers for the answer to it: what only the proofs name.
--- Assumes nothing.
 use mathlib.Core.List.{List}
 use mathlib.Core.Path.{_≡_}
 use Prim.Native.Nat.{min, ℕ, _≤_}

@@ -1,5 +1,4 @@
 -- Records rewritten where they are lent: what the operations on two buffers promise.
--- Assumes nothing.
 use mathlib.Core.Bool.{Bool, false}
 use mathlib.Core.List.{List}
 use mathlib.Core.Path.{_≡_}

@@ -1,6 +1,5 @@
 -- Document 01's example of a measurement, as document 02 changes it, and sessions of complements, gates, CZ and
 -- pivots: what the definitions give, beside what is expected.
--- Assumes nothing.
 use mathlib.Core.List.{_++_, List, [], map, _∷_}
 use Prim.Native.Nat.{ℕ}
 use Rattle.buffers.specs.Refusals.{firstFitting}

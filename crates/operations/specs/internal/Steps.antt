@@ -1,6 +1,5 @@
 -- The calls that work on a lent record in place: the lines of each in checking order, and what it leaves: what only the
 -- proofs name.
--- Assumes nothing.
 use mathlib.Core.Bool.{Bool, cond}
 use mathlib.Core.Path.{_≡_}
 use Prim.Native.Nat.{ℕ}

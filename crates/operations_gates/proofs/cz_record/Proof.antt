@@ -1,3 +1,4 @@
+-- `cz_record` meets its contract: CZ on a and b, and the reduced record.
 use borrow.Author.Needs.{needs}
 use Rattle.operations_gates.proofs.GatedBuffers.{cz-answered, reduced-here, reduced-place}
 use Rattle.operations_gates.proofs.cz_record.Statement.{statement}

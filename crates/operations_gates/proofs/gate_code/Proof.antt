@@ -1,3 +1,4 @@
+-- `gate_code` meets its contract: applies code k after the code held at q.
 use mathlib.Core.Path.{ap}
 use lib.ListN.{set}
 use borrow.Author.Needs.{needs}

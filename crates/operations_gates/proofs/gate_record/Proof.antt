@@ -1,3 +1,4 @@
+-- `gate_record` meets its contract: Gate: code k after the code held at q, and the reduced record.
 use borrow.Author.Needs.{needs}
 use Rattle.operations.proofs.UnrefusedRecords.{unrefused-codes, unrefused-place}
 use Rattle.operations_gates.proofs.GatedBuffers.{gated-reduced, gated-unrefused}

@@ -1,3 +1,4 @@
+-- `contradicted` meets its contract: whether a determined outcome contradicts the supplied bit.
 use borrow.Author.Needs.{needs}
 use Rattle.operations_measurements.proofs.MeasuredBuffers.{contradicted-as-read}
 use Rattle.operations_measurements.proofs.contradicted.Statement.{statement}

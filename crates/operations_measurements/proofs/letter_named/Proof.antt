@@ -1,3 +1,4 @@
+-- `letter_named` meets its contract: the letter that a Pauli's number names: 1 X, 2 Y, 3 Z.
 use mathlib.Core.Path.{_≡_, ap}
 use native.Mathlib.Omega.{arith}
 use borrow.Author.Needs.{needs}

@@ -1,3 +1,4 @@
+-- `measure_group` meets its contract: the group after a measurement of l at q: the same where it is determined.
 use mathlib.Core.Path.{sym, _∙_}
 use borrow.Author.Needs.{needs}
 use Rattle.operations_measurements.proofs.MeasuredGroups.{measured-determined}

@@ -1,3 +1,5 @@
+-- `measure_open` meets its contract: the group after a measurement of l at q that is not determined: the code at q is
+-- turned so that l stands for Z of the graph, and the vertex is isolated.
 use mathlib.Core.Path.{refl}
 use borrow.Author.Needs.{needs}
 use Rattle.operations.proofs.UnrefusedRecords.{unrefused-place}

@@ -1,3 +1,5 @@
+-- `read_off` meets its contract: a Pauli is determined where its qubit has no neighbours and the code there sends X to
+-- it.
 use borrow.Author.Needs.{needs}
 use Rattle.operations.proofs.UnrefusedRecords.{unrefused-codes, unrefused-place}
 use Rattle.operations_measurements.proofs.ReadingOff.{read-by-calls}

@@ -1,3 +1,5 @@
+-- `complement_record` meets its contract: complements the record at vertex a: 13 before its code, and 6 before those of
+-- its neighbours.
 use lib.Dec.{lit<}
 use borrow.Author.Needs.{needs}
 use Rattle.operations.proofs.UnrefusedRecords.{unrefused-short, unrefused-simple}

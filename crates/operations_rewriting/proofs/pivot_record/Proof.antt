@@ -1,3 +1,4 @@
+-- `pivot_record` meets its contract: pivots the record on the edge j, k: complements j, k, j.
 use borrow.Author.Needs.{needs}
 use Rattle.operations_rewriting.proofs.Pivoting.{complement-again, pivoted}
 use Rattle.operations_rewriting.proofs.pivot_record.Statement.{statement}

@@ -1,3 +1,4 @@
+-- `put_before` meets its contract: code k before the codes of the vertices that the word names.
 use mathlib.Core.Path.{subst, sym}
 use Prim.Native.Nat.{_<_}
 use borrow.Author.Needs.{needs}

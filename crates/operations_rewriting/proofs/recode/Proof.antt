@@ -1,3 +1,4 @@
+-- `recode` meets its contract: a code before that of vertex a, and another before those of its neighbours.
 use mathlib.Core.Path.{subst, sym}
 use Prim.Native.Nat.{_<_}
 use borrow.Author.Needs.{needs}

@@ -1,5 +1,4 @@
 -- The vertices of a set numbered in rising order, and what a graph and codes are in these numbers.
--- Assumes nothing.
 use mathlib.Core.Bool.{_&&_, false, true}
 use mathlib.Core.Path.{_≡_}
 use Prim.Native.Nat.{_<_, _≤_, ℕ}

@@ -1,5 +1,4 @@
 -- The connected parts of a graph, by the sets of vertices that no edge leaves: what only the proofs name.
--- Assumes nothing.
 use mathlib.Core.Bool.{true}
 use mathlib.Core.Path.{_≡_}
 use Prim.Native.Nat.{_<_, ℕ}

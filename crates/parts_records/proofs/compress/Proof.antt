@@ -1,3 +1,4 @@
+-- `compress` meets its contract: the bits of a word at the numbered vertices.
 use Prim.Native.Nat.{_-_, _≤_, zero-le}
 use native.Mathlib.Omega.{arith}
 use Rattle.parts_records.proofs.Listing.{Compressed, compressed-all, compressed-more, compressed-none}

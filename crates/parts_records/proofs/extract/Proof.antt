@@ -1,3 +1,4 @@
+-- `extract` meets its contract: the record of the part, with a place of the answer for each of its vertices.
 use mathlib.Core.Path.{refl, subst, sym, _∙_}
 use Prim.Native.Nat.{_-_, _<_}
 use native.Mathlib.Omega.{arith}

@@ -1,3 +1,4 @@
+-- `vertices` meets its contract.
 use mathlib.Core.Path.{refl, subst, sym}
 use Prim.Native.Nat.{_<_}
 use native.Mathlib.Omega.{arith}

@@ -1,5 +1,4 @@
 -- The record of a part in buffers of its own; the vertices of the part stand in an array in rising order.
--- Assumes nothing.
 use mathlib.Core.List.{List}
 use Prim.Native.Nat.{ℕ}
 use lib.ListN.{getD}

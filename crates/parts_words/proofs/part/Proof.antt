@@ -1,3 +1,5 @@
+-- `part` meets its contract: the connected part of vertex q: the vertex, its neighbours, theirs and so on, until none
+-- is new.
 use Prim.Native.Nat.{_-_, _^_}
 use lib.ListN.{length}
 use Rattle.graph.specs.NeighbourWords.{graphIn}

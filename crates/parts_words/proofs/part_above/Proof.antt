@@ -1,3 +1,4 @@
+-- `part_above` meets its contract: whether some part has more than 20 vertices.
 use Prim.Native.Nat.{_-_}
 use native.Mathlib.Omega.{arith}
 use lib.ListN.{length}

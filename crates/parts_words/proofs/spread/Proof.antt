@@ -1,3 +1,4 @@
+-- `spread` meets its contract: the marked vertices and their neighbours.
 use mathlib.Core.Logic.{⊎-elim}
 use mathlib.Core.Path.{_∙_, sym}
 use Prim.Native.Nat.{_-_, _≤_, zero-le}

@@ -1,5 +1,4 @@
 -- One step of a search for the part of a vertex, and the part as a word.
--- Assumes nothing.
 use mathlib.Core.Bool.{_&&_, _||_}
 use mathlib.Core.Path.{_≡_}
 use Prim.Native.Nat.{_<_, _^_, ℕ}

@@ -1,3 +1,5 @@
+-- `clashes` meets its contract: whether two generators fail to commute: the places where both act and differ are odd in
+-- number.
 use mathlib.Core.Path.{_∙_, sym}
 use borrow.Author.Needs.{needs}
 use Rattle.pauli.specs.Pauli.{i⁰}

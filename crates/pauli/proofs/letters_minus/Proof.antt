@@ -1,3 +1,5 @@
+-- `letters_minus` meets its contract: the sign of the product of the letters of two rows that commute; true means
+-- minus.
 use borrow.Author.Needs.{needs}
 use Rattle.pauli.proofs.WordRows.{letters-sign}
 use Rattle.pauli.proofs.letters_minus.Statement.{statement}

@@ -1,3 +1,4 @@
+-- `letters_phase` meets its contract: the power of i in the product of the letters of two rows, from 0 to 3.
 use mathlib.Core.Path.{_∙_, ap₂, sym}
 use Prim.Native.Nat.{_%_, _*_, _+_}
 use native.Mathlib.Nat.{mod-lt}

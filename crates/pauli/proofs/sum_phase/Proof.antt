@@ -1,3 +1,4 @@
+-- `sum_phase` meets its contract: three powers of i multiplied, from 0 to 3.
 use native.Mathlib.Nat.{mod-lt}
 use lib.Dec.{lit<}
 use borrow.Author.Needs.{needs}

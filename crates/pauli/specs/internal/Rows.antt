@@ -1,5 +1,4 @@
 -- What the code's rows stand for.
--- Assumes nothing.
 use Rattle.pauli.specs.declared.Generator.{Generator}
 use Rattle.pauli.specs.declared.Row.{Row}
 use Rattle.pauli.specs.Pauli.{Pauli, power, row, signedRow}

@@ -1,3 +1,4 @@
+-- `not_simple` meets its contract: line 7: the graph is not simple.
 use borrow.Author.Needs.{needs}
 use Rattle.record_checks.proofs.Squares.{square-verdict, turned-back}
 use Rattle.record_checks.proofs.not_simple.Statement.{statement}

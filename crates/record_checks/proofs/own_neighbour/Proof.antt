@@ -1,3 +1,4 @@
+-- `own_neighbour` meets its contract: whether some vertex is its own neighbour.
 use Prim.Native.Nat.{_-_}
 use native.Mathlib.Omega.{arith}
 use lib.ListN.{getD}

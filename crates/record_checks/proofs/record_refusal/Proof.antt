@@ -1,3 +1,4 @@
+-- `record_refusal` meets its contract: the first line of a record that holds; 0 where none does.
 use mathlib.Core.Path.{refl}
 use borrow.Author.Needs.{needs}
 use Rattle.contracts.proofs.Fitting.{first-is}

@@ -1,3 +1,4 @@
+-- `square_of` meets its contract: the first n words, copied into a square.
 use Prim.Native.Nat.{_-_}
 use native.Mathlib.Omega.{arith}
 use borrow.Author.Needs.{needs}

@@ -1,3 +1,4 @@
+-- `unequal` meets its contract: the columns at which one of the first n words differs from its row.
 use Prim.Native.Nat.{_-_, ℕ}
 use native.Mathlib.Omega.{arith}
 use borrow.Author.Needs.{needs}

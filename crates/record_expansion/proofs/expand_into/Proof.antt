@@ -1,3 +1,4 @@
+-- `expand_into` meets its contract: expansion into three lent buffers.
 use mathlib.Core.Path.{_∙_}
 use Prim.Native.Nat.{_-_}
 use borrow.Author.Needs.{needs}

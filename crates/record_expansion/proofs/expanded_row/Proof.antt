@@ -1,3 +1,5 @@
+-- `expanded_row` meets its contract: generator j: X at j and Z at the neighbours of j, sign plus, each place then sent
+-- through its vertex's code.
 use borrow.Author.Needs.{needs}
 use Rattle.record.proofs.ExpandedRows.{sent-row}
 use Rattle.record_expansion.proofs.expanded_row.Statement.{statement}

@@ -1,3 +1,4 @@
+-- `main` meets its contract.
 use mathlib.Core.Path.{sym}
 use borrow.Author.Needs.{needs}
 use Rattle.text.proofs.Prints.{printed-fits, printed-part}

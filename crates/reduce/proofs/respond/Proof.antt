@@ -1,3 +1,4 @@
+-- `respond` meets its contract: prints the answer to the text on standard input.
 use borrow.Author.Needs.{needs}
 use Rattle.claims.proofs.ProgramDemandHolds.{list-texts-answered}
 use Rattle.reduce.proofs.respond.Statement.{statement}

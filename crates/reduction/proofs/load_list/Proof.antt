@@ -1,3 +1,4 @@
+-- `load_list` meets its contract: the rows of a lent list, with a word for their signs.
 use mathlib.Core.Path.{refl}
 use Prim.Native.Nat.{_-_}
 use native.Mathlib.Omega.{arith}

@@ -1,3 +1,5 @@
+-- `reduce_list` meets its contract: the reduced record of a lent list, where its generators are independent: then it is
+-- written, and the answer is true.
 use borrow.Author.Needs.{needs}
 use Rattle.reduction.proofs.Loading.{answered, loaded-rows}
 use Rattle.reduction.proofs.reduce_list.Statement.{statement}

@@ -1,3 +1,5 @@
+-- `reduce_tableau` meets its contract: the reduced record of the tableau's group, where its rows are independent: then
+-- it is written, and the answer is true.
 use mathlib.Core.Bool.{not}
 use mathlib.Core.Path.{_∙_, ap, refl, sym}
 use borrow.Author.Needs.{needs}

@@ -1,5 +1,4 @@
 -- The elimination of the code: rows loaded into the tableau, and passes over the columns.
--- Assumes nothing.
 use mathlib.Core.Bool.{_&&_, false, not, true}
 use mathlib.Core.Path.{_≡_}
 use Prim.Native.Nat.{_<_, suc, ℕ, _≤_}

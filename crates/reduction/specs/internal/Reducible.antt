@@ -1,5 +1,4 @@
 -- The lists that are reduced.
--- Assumes nothing.
 use mathlib.Core.Path.{_≡_}
 use Prim.Native.Nat.{_<_, ℕ, _≤_}
 use lib.ListN.{length}

@@ -1,5 +1,4 @@
 -- The row operations of an elimination over the x bits: what the code's steps do to a list: what only the proofs name.
--- Assumes nothing.
 use mathlib.Core.Bool.{_&&_, not}
 use Prim.Native.Nat.{ℕ}
 use lib.Dec.{eqb}

@@ -1,5 +1,4 @@
 -- The tableau of the code: an array of 64 rows of two words, z and x, beside one word of signs.
--- Assumes nothing.
 use mathlib.Core.List.{List, []}
 use Prim.Native.Nat.{ℕ}
 use lib.ListN.{getD}

@@ -1,3 +1,4 @@
+-- `clashes_before` meets its contract: whether generator i fails to commute with one before it.
 use Prim.Native.Nat.{_-_}
 use native.Mathlib.Omega.{arith}
 use borrow.Author.Needs.{needs}

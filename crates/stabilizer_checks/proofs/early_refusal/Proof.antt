@@ -1,3 +1,5 @@
+-- `early_refusal` meets its contract: the first line of a list that holds, of those that need no elimination; 0 where
+-- none does.
 use mathlib.Core.Path.{refl, _∙_}
 use borrow.Author.Needs.{needs}
 use Rattle.contracts.proofs.Fitting.{decides, stays}

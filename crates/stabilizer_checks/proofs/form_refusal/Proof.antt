@@ -1,3 +1,4 @@
+-- `form_refusal` meets its contract: the first of lines 2, 4, 5 and 6 of a list that holds; 0 where none does.
 use mathlib.Core.Path.{refl}
 use borrow.Author.Needs.{needs}
 use Rattle.contracts.proofs.Fitting.{first-is}

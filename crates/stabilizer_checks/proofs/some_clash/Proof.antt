@@ -1,3 +1,4 @@
+-- `some_clash` meets its contract: line 9: two generators do not commute.
 use mathlib.Core.Path.{_∙_}
 use Prim.Native.Nat.{_-_}
 use native.Mathlib.Omega.{arith}

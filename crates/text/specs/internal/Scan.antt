@@ -1,6 +1,5 @@
 -- What the scanner of a text does with each byte. Its scan says what the next byte must be and holds the line
 -- being read; a line that is read to its newline goes to three buffers of 64 places.
--- Assumes nothing.
 use mathlib.Core.Path.{_≡_}
 use mathlib.Core.Logic.{_↔_}
 use mathlib.Core.Bool.{Bool, true, false, _&&_, cond}

@@ -1,3 +1,4 @@
+-- `finish` meets its contract: the text ends.
 use borrow.Author.Needs.{needs}
 use Rattle.text.specs.internal.Scan.{verdict}
 use Rattle.text_blocks.proofs.finish.Statement.{statement}

@@ -1,3 +1,5 @@
+-- `scan_block` meets its contract: the scan after a block more; the lines that end in it, if they are of the first 64,
+-- are in the buffers.
 use mathlib.Core.Path.{_≡_, refl, _∙_, ap}
 use mathlib.Core.Logic.{⊎-elim}
 use mathlib.Core.Bool.{and-eq-true-iff}

@@ -1,3 +1,4 @@
+-- `start` meets its contract: the scan of the empty text.
 use mathlib.Core.Path.{refl}
 use Rattle.text.specs.internal.Scan.{begin}
 use Rattle.text_blocks.proofs.start.Statement.{statement}

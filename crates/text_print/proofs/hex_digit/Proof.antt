@@ -1,3 +1,4 @@
+-- `hex_digit` meets its contract.
 use borrow.Author.Tests.{lt-ltb, le-ltb}
 use borrow.Author.Needs.{needs}
 use Rattle.text.specs.Text.{hexDigit}

@@ -1,3 +1,4 @@
+-- `print_record` meets its contract: the record of n qubits, from a place on: the names and a line for each qubit.
 use mathlib.Core.Path.{_≡_, refl, sym, subst}
 use mathlib.Core.List.{_++_}
 use Prim.Native.Nat.{_-_, _≤_, zero-le}

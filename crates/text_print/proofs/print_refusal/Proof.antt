@@ -1,3 +1,4 @@
+-- `print_refusal` meets its contract: the line of refusal k.
 use native.Mathlib.Omega.{arith}
 use lib.ListN.{length-append}
 use borrow.Author.Needs.{needs}

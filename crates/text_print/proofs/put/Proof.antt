@@ -1,3 +1,4 @@
+-- `put` meets its contract.
 use mathlib.Core.Path.{refl}
 use borrow.Author.Needs.{needs}
 use Rattle.text.proofs.Writing.{write-one}

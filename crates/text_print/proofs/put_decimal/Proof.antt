@@ -1,3 +1,4 @@
+-- `put_decimal` meets its contract: a decimal number below 100.
 use native.Mathlib.Omega.{arith}
 use borrow.Author.Tests.{lt-ltb, le-ltb}
 use borrow.Author.Needs.{needs}

@@ -1,3 +1,4 @@
+-- `put_field` meets its contract: a decimal number below 100 and the space behind it.
 use native.Mathlib.Omega.{arith}
 use borrow.Author.Needs.{needs}
 use Rattle.text.proofs.HexLaws.{length-decimal}

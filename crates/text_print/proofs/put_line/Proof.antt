@@ -1,3 +1,4 @@
+-- `put_line` meets its contract: the line of qubit q.
 use mathlib.Core.Path.{subst}
 use mathlib.Core.List.{_++_}
 use native.Mathlib.Omega.{arith}

@@ -1,3 +1,4 @@
+-- `put_word` meets its contract: the word in 16 hexadecimal digits, the highest first.
 use mathlib.Core.Path.{_≡_, refl, sym, ap, ap₂, _∙_}
 use Prim.Native.Nat.{_+_, _-_, _*_, _/_, _^_, _≤_, zero-le}
 use native.Mathlib.Omega.{arith}

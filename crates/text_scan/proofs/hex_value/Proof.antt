@@ -1,3 +1,4 @@
+-- `hex_value` meets its contract: the value of a lower-case hexadecimal digit; 16 for any other byte.
 use borrow.Author.Tests.{lt-ltb, le-ltb}
 use borrow.Author.Needs.{needs}
 use Rattle.text.specs.internal.Scan.{hexValue}

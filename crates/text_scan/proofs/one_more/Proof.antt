@@ -1,3 +1,4 @@
+-- `one_more` meets its contract.
 use borrow.Author.Tests.{lt-ltb, le-ltb}
 use borrow.Author.Needs.{needs}
 use Rattle.text.specs.internal.Scan.{oneMore}

@@ -1,3 +1,4 @@
+-- `pushed` meets its contract: a word with one more digit at its low end.
 use mathlib.Core.Path.{refl}
 use borrow.Author.Needs.{needs}
 use Rattle.text.specs.internal.Scan.{push}

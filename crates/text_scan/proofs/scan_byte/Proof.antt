@@ -1,3 +1,4 @@
+-- `scan_byte` meets its contract: the scan after one more byte.
 use mathlib.Core.Path.{_∙_, ap, sym}
 use mathlib.Core.Bool.{cond}
 use borrow.Author.Tests.{eq-eqb, ne-eqb}

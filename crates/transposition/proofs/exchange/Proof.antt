@@ -1,3 +1,5 @@
+-- `exchange` meets its contract: one round on m rows and columns: bit s of the row's number and of the column's are
+-- exchanged.
 use mathlib.Core.List.{List}
 use mathlib.Core.Path.{_≡_}
 use Prim.Native.Nat.{_%_, _*_, _+_, _-_, _<_, ℕ, _≤_}

@@ -1,3 +1,4 @@
+-- `transpose` meets its contract: transposes the first n rows and columns.
 use borrow.Author.Needs.{needs}
 use Rattle.transposition.proofs.RoundTests.{fits1, fits16, fits2, fits32, fits4, fits8}
 use Rattle.transposition.proofs.RoundTests.{round1, round16, round2, round32, round4, round8, size-below}

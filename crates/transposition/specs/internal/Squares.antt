@@ -1,5 +1,4 @@
 -- Squares of bits, a word for each row, and the rounds that transpose them.
--- Assumes nothing.
 use mathlib.Core.Bool.{Bool, cond, false, not, true}
 use mathlib.Core.List.{List}
 use mathlib.Core.Path.{_≡_}

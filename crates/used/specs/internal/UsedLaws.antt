@@ -1,5 +1,4 @@
 -- What document 02, §8, promises of every accepted call on a record with used qubits: what only the proofs name.
--- Assumes nothing.
 use mathlib.Core.Bool.{_||_}
 use mathlib.Core.Logic.{_≢_}
 use mathlib.Core.Path.{_≡_}

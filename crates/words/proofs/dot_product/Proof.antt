@@ -1,3 +1,4 @@
+-- `dot_product` meets its contract: whether the places where both words have a 1 are odd in number.
 use borrow.Author.Needs.{needs}
 use Rattle.words.specs.internal.Bits.{dot}
 use Rattle.words.proofs.dot_product.Statement.{statement}

@@ -1,3 +1,4 @@
+-- `flip` meets its contract: w with bit q flipped.
 use mathlib.Core.Path.{ap}
 use lib.Bits.{bitXor}
 use borrow.Author.Needs.{needs}

@@ -1,3 +1,4 @@
+-- `flip_where` meets its contract: w with bit q flipped where b is true.
 use mathlib.Core.Bool.{cond}
 use mathlib.Core.Path.{_∙_, ap, sym}
 use Prim.Native.Nat.{_^_}

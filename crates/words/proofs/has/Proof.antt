@@ -1,3 +1,4 @@
+-- `has` meets its contract: bit q of w.
 use mathlib.Core.Path.{ap}
 use Prim.Native.Nat.{_/_, _^_}
 use lib.Bits.{and-mask}

@@ -1,3 +1,4 @@
+-- `mask` meets its contract: the mask of n qubits: the bits below n are 1.
 use mathlib.Core.Path.{_∙_, ap, _≡_}
 use Prim.Native.Nat.{_+_, _-_, _/_, _^_}
 use native.Mathlib.Omega.{arith}

@@ -1,3 +1,4 @@
+-- `put_bit` meets its contract: w with bit q set to b.
 use mathlib.Core.Path.{sym, _∙_}
 use mathlib.Core.Bool.{false, true}
 use borrow.Author.Needs.{needs}

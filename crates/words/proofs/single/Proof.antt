@@ -1,3 +1,4 @@
+-- `single` meets its contract: the word with bit q alone.
 use mathlib.Core.Path.{_∙_}
 use native.Mathlib.Nat.{one-mul}
 use native.Mathlib.Omega.{arith}

@@ -1,3 +1,4 @@
+-- `stray` meets its contract: whether w has a bit at or above n.
 use mathlib.Core.Path.{_∙_, ap}
 use lib.Dec.{ltb, leb}
 use lib.Pow.{suc-ones}

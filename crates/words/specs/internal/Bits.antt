@@ -1,6 +1,5 @@
 -- Words: a bit for each qubit. "Bit q of a word belongs to qubit q, bit 0 lowest, words 64 bits wide.": what only the
 -- proofs name.
--- Assumes nothing.
 use mathlib.Core.Bool.{Bool}
 use Prim.Native.Nat.{ℕ}
 use lib.Bits.{bitAnd}

@@ -1,3 +1,4 @@
+-- `copy_list` meets its contract: the first `count` bytes of the array; the places past them keep theirs.
 use Prim.Native.Nat.{_-_}
 use native.Mathlib.Omega.{arith}
 use borrow.Author.Needs.{needs}

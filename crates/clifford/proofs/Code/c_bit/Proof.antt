@@ -1,3 +1,4 @@
+-- `c_bit` meets its contract: the bit C: whether the image of Z is X or Y.
 use mathlib.Core.Path.{_∙_, ap}
 use Rattle.pauli.specs.Pauli.{xBit}
 use borrow.Author.Needs.{needs}

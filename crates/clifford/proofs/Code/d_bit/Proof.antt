@@ -1,3 +1,4 @@
+-- `d_bit` meets its contract: the bit D: whether the image of X is X or Y.
 use mathlib.Core.Path.{_∙_, ap}
 use Rattle.pauli.specs.Pauli.{xBit}
 use borrow.Author.Needs.{needs}

@@ -1,3 +1,4 @@
+-- `inverse` meets its contract: the code that undoes this one.
 use native.Mathlib.Omega.{arith}
 use Rattle.clifford.proofs.Digits.{back-lt, byte-lt, inverse-by-calls}
 use borrow.Author.Needs.{needs}

@@ -1,3 +1,4 @@
+-- `then` meets its contract: first this code, then the next.
 use mathlib.Core.Path.{ap, _∙_, _≡_}
 use native.Mathlib.Omega.{arith}
 use Rattle.clifford.specs.Clifford.{cliffordOf, codeOf, then}

@@ -1,3 +1,5 @@
+-- `class_words` meets its contract: bit q of the four words is the matrix of the class at q: image z = a z + b x, image
+-- x = c z + d x.
 use Prim.Native.Nat.{_-_}
 use native.Mathlib.Omega.{arith}
 use borrow.Author.Needs.{needs}

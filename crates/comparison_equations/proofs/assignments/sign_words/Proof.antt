@@ -1,3 +1,4 @@
+-- `sign_words` meets its contract: bit q of the first word is sx at q, of the second sz.
 use Prim.Native.Nat.{_-_}
 use native.Mathlib.Omega.{arith}
 use borrow.Author.Needs.{needs}

@@ -1,3 +1,4 @@
+-- `broken` meets its contract: whether an equation of qubit q fails: one whose last unknown is of qubit q.
 use mathlib.Core.Path.{sym, _∙_}
 use Prim.Native.Nat.{_*_, _+_, _-_, _≤_}
 use native.Mathlib.Omega.{arith}

@@ -1,3 +1,4 @@
+-- `fails` meets its contract: whether the unknowns give another sum than the one asked for.
 use borrow.Author.Needs.{needs}
 use Rattle.comparison.proofs.EquationLaws.{four-odd}
 use Rattle.comparison_equations.proofs.equations.fails.Statement.{statement}

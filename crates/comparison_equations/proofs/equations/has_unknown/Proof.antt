@@ -1,3 +1,4 @@
+-- `has_unknown` meets its contract: whether an equation has unknown i % 4 at qubit i / 4.
 use native.Mathlib.Omega.{arith}
 use borrow.Author.Needs.{needs}
 use Rattle.comparison.proofs.EquationLaws.{unknown-by}

@@ -1,3 +1,5 @@
+-- `insert` meets its contract: stores an equation, or a sum of it with stored ones, at the place of its last unknown,
+-- or nothing.
 use mathlib.Core.Path.{ap, subst, sym, _∙_}
 use Prim.Native.Nat.{_≤_, _-_}
 use native.Mathlib.Omega.{arith}

@@ -1,3 +1,4 @@
+-- `element` meets its contract: an element of the second group: the row itself, or its negative, if that is one.
 use mathlib.Core.Path.{_∙_, refl, subst, sym}
 use mathlib.Core.Logic.{⊎-elim}
 use Prim.Native.Nat.{_+_, _-_}

@@ -1,3 +1,4 @@
+-- `times` meets its contract: the product of two generators that commute.
 use mathlib.Core.Path.{_∙_}
 use Rattle.pauli.proofs.PauliLaws.{anticommute-letters}
 use Rattle.pauli.specs.Pauli.{i⁰}

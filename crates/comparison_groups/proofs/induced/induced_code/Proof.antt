@@ -1,3 +1,4 @@
+-- `induced_code` meets its contract: the first record's code, then the choice's, then the inverse of the second's.
 use Rattle.comparison.proofs.InducedCodes.{induced-by-calls}
 use borrow.Author.Needs.{needs}
 use Rattle.comparison_groups.proofs.induced.induced_code.Statement.{statement}

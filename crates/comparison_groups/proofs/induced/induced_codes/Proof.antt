@@ -1,3 +1,4 @@
+-- `induced_codes` meets its contract: .. at each qubit.
 use mathlib.Core.Path.{refl}
 use Prim.Native.Nat.{_-_}
 use native.Mathlib.Omega.{arith}

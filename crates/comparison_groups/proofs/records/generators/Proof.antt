@@ -1,3 +1,4 @@
+-- `generators` meets its contract: the generators of a record.
 use mathlib.Core.Path.{_∙_, _≡_, refl}
 use Prim.Native.Nat.{_-_, _<_}
 use native.Mathlib.Omega.{arith}

@@ -1,3 +1,4 @@
+-- `inverses` meets its contract: the codes that undo a record's.
 use mathlib.Core.Path.{_∙_, _≡_, refl}
 use Prim.Native.Nat.{_-_, _<_}
 use native.Mathlib.Omega.{arith}

@@ -1,3 +1,4 @@
+-- `below` meets its contract.
 use native.Mathlib.Omega.{arith}
 use borrow.Author.Needs.{needs}
 use Rattle.generator.proofs.Shapes as shapes

@@ -1,3 +1,4 @@
+-- `draw` meets its contract: the next state, which is the draw.
 use mathlib.Core.Path.{refl}
 use Rattle.generator.specs.Draws as draws
 use Rattle.generator.proofs.drawing.draw.Statement.{statement}

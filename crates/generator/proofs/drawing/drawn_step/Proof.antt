@@ -1,3 +1,4 @@
+-- `drawn_step` meets its contract: the step that a draw gives.
 use mathlib.Core.Path.{_∙_, ap, ap₂, sym}
 use Prim.Native.Nat.{_*_, _+_}
 use Rattle.generator.proofs.Shapes.{cz-on-one, cz-on-two, gate-picked, measure-picked}

@@ -1,3 +1,4 @@
+-- `code_words` meets its contract: the words of the first n codes.
 use mathlib.Core.Path.{subst}
 use Prim.Native.Nat.{_-_, zero-le, _≤_}
 use native.Mathlib.Nat.{le-antisymm}

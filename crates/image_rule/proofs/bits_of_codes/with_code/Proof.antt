@@ -1,3 +1,4 @@
+-- `with_code` meets its contract: the words of the codes, with those of vertex q added.
 use borrow.Author.Needs.{needs}
 use Rattle.clifford.specs.Vectors.{codesOf}
 use Rattle.image_rule.proofs.CodeBits.{words-more}

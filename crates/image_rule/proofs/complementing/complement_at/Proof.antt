@@ -1,3 +1,4 @@
+-- `complement_at` meets its contract: complements at v and puts v on the list.
 use native.Mathlib.Omega.{arith}
 use borrow.Author.Needs.{needs}
 use Rattle.image_rule.proofs.Stepping.{complemented-at}

@@ -1,3 +1,4 @@
+-- `flip_edges` meets its contract: complementing the graph at v.
 use mathlib.Core.Path.{_≡_}
 use Prim.Native.Nat.{_-_, zero-le, _≤_}
 use native.Mathlib.Omega.{arith}

@@ -1,3 +1,5 @@
+-- `flipped_word` meets its contract: the word of vertex i after complementing at a vertex with these neighbours: a
+-- neighbour i is joined to the others, or parted from them.
 use mathlib.Core.Path.{sym, _∙_}
 use borrow.Author.Needs.{needs}
 use Rattle.image_rule.proofs.EdgeWords.{flip-far, flip-near}

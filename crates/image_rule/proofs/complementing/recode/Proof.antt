@@ -1,3 +1,4 @@
+-- `recode` meets its contract: the codes after complementing at v, whose neighbours are these.
 use mathlib.Core.Path.{_≡_}
 use Prim.Native.Nat.{_-_, zero-le, _≤_}
 use native.Mathlib.Omega.{arith}

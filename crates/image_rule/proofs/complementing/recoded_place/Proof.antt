@@ -1,3 +1,5 @@
+-- `recoded_place` meets its contract: a code after complementing: 13 then the old code at the vertex, 6 then the old
+-- code at a neighbour.
 use mathlib.Core.Path.{_∙_}
 use native.Mathlib.Omega.{arith}
 use borrow.Author.Needs.{needs}

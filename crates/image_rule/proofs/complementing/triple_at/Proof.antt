@@ -1,3 +1,4 @@
+-- `triple_at` meets its contract: complements at j, k and j.
 use borrow.Author.Needs.{needs}
 use Rattle.image_rule.proofs.StepLists.{complemented-triple}
 use Rattle.image_rule.proofs.complementing.triple_at.Statement.{statement}

@@ -1,3 +1,4 @@
+-- `first_joined` meets its contract: the smallest vertex of the set c that has a neighbour in c; n where there is none.
 use mathlib.Core.Path.{sym, _∙_}
 use Prim.Native.Nat.{_-_}
 use borrow.Author.Needs.{needs}

@@ -1,3 +1,4 @@
+-- `joined` meets its contract: whether vertex j is in the set c and has a neighbour there.
 use borrow.Author.Needs.{needs}
 use Rattle.image_rule.proofs.image_loop.joined.Statement.{statement}
 use Rattle.image_rule.proofs.image_loop.joined.Tie as tie

@@ -1,3 +1,4 @@
+-- `run_rule` meets its contract: the image rule.
 use Prim.Native.Nat.{_<_}
 use native.Mathlib.Omega.{arith}
 use borrow.Author.Needs.{needs}

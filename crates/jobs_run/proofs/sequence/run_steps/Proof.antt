@@ -1,3 +1,4 @@
+-- `run_steps` meets its contract: runs the first steps from a record on, and prints the names and the line of each.
 use mathlib.Core.Path.{_≡_, refl}
 use Prim.Native.Nat.{_-_}
 use lib.Dec.{eqb}

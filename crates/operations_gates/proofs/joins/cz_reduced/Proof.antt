@@ -1,3 +1,4 @@
+-- `cz_reduced` meets its contract: CZ on a and b.
 use native.Mathlib.Omega.{arith}
 use lib.Dec.{lit<}
 use borrow.Author.Needs.{needs}

@@ -1,3 +1,4 @@
+-- `join_sets` meets its contract: the edges between the two sets flipped.
 use native.Mathlib.Omega.{arith}
 use borrow.Author.Needs.{needs}
 use Rattle.buffers.proofs.OverSets.{next-in, next-less, next-short}

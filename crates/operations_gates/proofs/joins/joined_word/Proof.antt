@@ -1,3 +1,4 @@
+-- `joined_word` meets its contract: the word of vertex i with its edges between the two sets flipped.
 use mathlib.Core.Bool.{_&&_}
 use mathlib.Core.Path.{ap₂, _∙_}
 use borrow.Author.Needs.{needs}

@@ -1,3 +1,4 @@
+-- `reach_minus` meets its contract: whether that product is minus Z at the vertex.
 use mathlib.Core.Bool.{_&&_}
 use mathlib.Core.Path.{ap, sym}
 use Prim.Native.Nat.{_/_}

@@ -1,3 +1,5 @@
+-- `reach_word` meets its contract: the vertices of the graph over which Z multiplies to Z at vertex a: a itself, or its
+-- neighbours where its code has C = 1.
 use borrow.Author.Needs.{needs}
 use Rattle.operations_gates.proofs.ReachedSets.{reached-neighbours, reached-own}
 use Rattle.operations_gates.proofs.joins.reach_word.Statement.{statement}

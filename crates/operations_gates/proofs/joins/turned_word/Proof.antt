@@ -1,3 +1,5 @@
+-- `turned_word` meets its contract: the vertices that get Z before their codes: those of both sets, and those of one
+-- where the other has the sign.
 use mathlib.Core.Bool.{_&&_}
 use mathlib.Core.Path.{ap, _∙_}
 use borrow.Author.Needs.{needs}

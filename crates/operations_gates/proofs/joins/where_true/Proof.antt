@@ -1,3 +1,4 @@
+-- `where_true` meets its contract: the word where b is true, else no bit.
 use mathlib.Core.Bool.{_&&_}
 use mathlib.Core.Path.{ap, sym, _∙_}
 use Rattle.words.proofs.BitLaws.{zero-bit}

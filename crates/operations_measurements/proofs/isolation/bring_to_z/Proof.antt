@@ -1,3 +1,4 @@
+-- `bring_to_z` meets its contract: complements until the code at q sends Z to the letter, which is not I.
 use borrow.Author.Needs.{needs}
 use Rattle.operations.proofs.UnrefusedRecords.{unrefused-codes, unrefused-place}
 use Rattle.operations_measurements.proofs.BringingToZ.{brought, brought-already, still-below}

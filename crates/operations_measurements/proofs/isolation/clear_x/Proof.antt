@@ -1,3 +1,5 @@
+-- `clear_x` meets its contract: where the code at q sends X to the letter, complements at a neighbour: then it sends Y
+-- there.
 use mathlib.Core.Bool.{true≢false}
 use mathlib.Core.Path.{sym, _∙_}
 use borrow.Author.Needs.{needs}

@@ -1,3 +1,4 @@
+-- `isolate` meets its contract: isolates vertex q, whose Z before the code has the sign t.
 use mathlib.Core.Path.{refl, subst, sym}
 use Prim.Native.Nat.{_<_}
 use lib.Dec.{lit<}

@@ -1,3 +1,4 @@
+-- `remove_edges` meets its contract: the edges at q removed.
 use mathlib.Core.Path.{subst, sym}
 use Prim.Native.Nat.{_<_}
 use native.Mathlib.Omega.{arith}

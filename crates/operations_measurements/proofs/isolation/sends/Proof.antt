@@ -1,3 +1,4 @@
+-- `sends` meets its contract: whether the code sends a letter to plus or minus another.
 use borrow.Author.Needs.{needs}
 use Rattle.operations_measurements.proofs.SentLetters.{sent-by-calls}
 use Rattle.operations_measurements.proofs.isolation.sends.Statement.{statement}

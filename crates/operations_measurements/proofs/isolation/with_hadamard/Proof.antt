@@ -1,3 +1,4 @@
+-- `with_hadamard` meets its contract: the code with a Hadamard before it, and a sign t for the image of X.
 use native.Mathlib.Omega.{arith}
 use borrow.Author.Needs.{needs}
 use Rattle.words.proofs.BitLaws.{digit-lt}

@@ -1,3 +1,4 @@
+-- `times` meets its contract: the product of two rows, its phase from 0 to 3.
 use mathlib.Core.Path.{_∙_, ap}
 use borrow.Author.Needs.{needs}
 use Rattle.pauli.specs.Pauli.{_+ᵖ_, power}

@@ -1,3 +1,4 @@
+-- `column` meets its contract: the rows below n that have x bit q.
 use mathlib.Core.Bool.{_&&_}
 use mathlib.Core.List.{[]}
 use mathlib.Core.Path.{_∙_, _≡_, ap}

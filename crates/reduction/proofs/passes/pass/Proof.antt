@@ -1,3 +1,5 @@
+-- `pass` meets its contract: a pass over the columns below n that have no pivot: where an unused row has x bit q,
+-- column q gets its pivot.
 use mathlib.Core.Logic.{⊎-elim}
 use mathlib.Core.Path.{_∙_, _≡_, ap, ap₂, refl, sym}
 use Prim.Native.Nat.{_-_, _≤_, zero-le}

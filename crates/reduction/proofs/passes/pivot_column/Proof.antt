@@ -1,3 +1,5 @@
+-- `pivot_column` meets its contract: the pivot of column q: row i lends its x bit to row q, where that one lacks it,
+-- and row q clears it from every other row.
 use mathlib.Core.Logic.{⊎-elim}
 use mathlib.Core.Path.{_∙_, _≡_, ap, ap₂, sym}
 use Prim.Native.Nat.{ℕ}

@@ -1,3 +1,5 @@
+-- `rotate` meets its contract: hadamards on the columns that the word names: z and x are exchanged there, and a sign
+-- flips for each Y.
 use mathlib.Core.Path.{refl}
 use Prim.Native.Nat.{_-_}
 use native.Mathlib.Omega.{arith}

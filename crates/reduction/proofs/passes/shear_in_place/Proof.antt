@@ -1,3 +1,4 @@
+-- `shear_in_place` meets its contract: row a multiplied into each row that the word named names, in place.
 use mathlib.Core.Path.{refl, subst, sym}
 use Prim.Native.Nat.{_<_}
 use native.Mathlib.Omega.{arith}

@@ -1,3 +1,5 @@
+-- `vertex_code` meets its contract: the code of a vertex: 0 for +X, 2 for -X, 4 for +Y, 6 for -Y; followed by 8 where a
+-- Hadamard was used.
 use lib.Dec.{lit<}
 use Rattle.reduction.proofs.Reading.{vertex-code-is}
 use Rattle.reduction.proofs.reading_off.vertex_code.Statement.{statement}

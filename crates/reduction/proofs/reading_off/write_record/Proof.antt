@@ -1,3 +1,5 @@
+-- `write_record` meets its contract: writes the record of rows that have X or Y at their own place and I or Z
+-- elsewhere.
 use mathlib.Core.Path.{_∙_, sym}
 use Prim.Native.Nat.{_-_, _≤_, zero-le}
 use native.Mathlib.Omega.{arith}

@@ -1,3 +1,4 @@
+-- `check_says` meets its contract.
 use borrow.Author.Needs.{needs}
 use Rattle.claims.proofs.SentencesHold.{check-says}
 use Rattle.sukhlent.proofs.ties.check_says.Statement.{statement}

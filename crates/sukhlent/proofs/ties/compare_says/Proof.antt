@@ -1,3 +1,4 @@
+-- `compare_says` meets its contract.
 use borrow.Author.Needs.{needs}
 use Rattle.claims.proofs.SentencesHold.{compare-says}
 use Rattle.sukhlent.proofs.ties.compare_says.Statement.{statement}

@@ -1,3 +1,4 @@
+-- `complement_says` meets its contract.
 use borrow.Author.Needs.{needs}
 use Rattle.claims.proofs.SentencesHold.{complement-says}
 use Rattle.sukhlent.proofs.ties.complement_says.Statement.{statement}

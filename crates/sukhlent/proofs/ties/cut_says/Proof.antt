@@ -1,3 +1,4 @@
+-- `cut_says` meets its contract.
 use borrow.Author.Needs.{needs}
 use Rattle.claims.proofs.SentencesHold.{cut-says}
 use Rattle.sukhlent.proofs.ties.cut_says.Statement.{statement}

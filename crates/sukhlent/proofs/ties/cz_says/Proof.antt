@@ -1,3 +1,4 @@
+-- `cz_says` meets its contract.
 use borrow.Author.Needs.{needs}
 use Rattle.claims.proofs.SentencesHold.{cz-says}
 use Rattle.sukhlent.proofs.ties.cz_says.Statement.{statement}

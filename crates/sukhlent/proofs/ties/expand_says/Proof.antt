@@ -1,3 +1,4 @@
+-- `expand_says` meets its contract.
 use borrow.Author.Needs.{needs}
 use Rattle.claims.proofs.SentencesHold.{expand-says}
 use Rattle.sukhlent.proofs.ties.expand_says.Statement.{statement}

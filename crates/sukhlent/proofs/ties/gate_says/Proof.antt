@@ -1,3 +1,4 @@
+-- `gate_says` meets its contract.
 use borrow.Author.Needs.{needs}
 use Rattle.claims.proofs.SentencesHold.{gate-says}
 use Rattle.sukhlent.proofs.ties.gate_says.Statement.{statement}

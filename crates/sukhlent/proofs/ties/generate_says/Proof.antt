@@ -1,3 +1,4 @@
+-- `generate_says` meets its contract.
 use borrow.Author.Needs.{needs}
 use Rattle.claims.proofs.SentencesHold.{generate-says}
 use Rattle.sukhlent.proofs.ties.generate_says.Statement.{statement}

@@ -1,3 +1,4 @@
+-- `image_says` meets its contract.
 use borrow.Author.Needs.{needs}
 use Rattle.claims.proofs.SentencesHold.{image-says}
 use Rattle.sukhlent.proofs.ties.image_says.Statement.{statement}

@@ -1,3 +1,4 @@
+-- `measure_says` meets its contract.
 use borrow.Author.Needs.{needs}
 use Rattle.claims.proofs.SentencesHold.{measure-says}
 use Rattle.sukhlent.proofs.ties.measure_says.Statement.{statement}

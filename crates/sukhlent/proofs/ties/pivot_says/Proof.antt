@@ -1,3 +1,4 @@
+-- `pivot_says` meets its contract.
 use borrow.Author.Needs.{needs}
 use Rattle.claims.proofs.SentencesHold.{pivot-says}
 use Rattle.sukhlent.proofs.ties.pivot_says.Statement.{statement}

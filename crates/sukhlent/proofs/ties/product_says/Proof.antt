@@ -1,3 +1,4 @@
+-- `product_says` meets its contract.
 use borrow.Author.Needs.{needs}
 use Rattle.claims.proofs.SentencesHold.{product-says}
 use Rattle.sukhlent.proofs.ties.product_says.Statement.{statement}

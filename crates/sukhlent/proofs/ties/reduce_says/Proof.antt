@@ -1,3 +1,4 @@
+-- `reduce_says` meets its contract.
 use borrow.Author.Needs.{needs}
 use Rattle.claims.proofs.SentencesHold.{reduce-says}
 use Rattle.sukhlent.proofs.ties.reduce_says.Statement.{statement}
