@@ -69,6 +69,8 @@ class Tree:
             named = [step for step in steps[steps.index("declared") + 1:] if step[0].isupper()]
             return self.declared(crate, named[0] if named else name)
         path = os.path.join(self.root, "crates", crate, folder, *steps) + ".antt"
+        if path not in self.sources:  # the constructors of a type are named through it
+            path = os.path.join(self.root, "crates", crate, folder, *steps[:-1]) + ".antt"
         return self.known.get((path, name))
 
     def scope(self, path):

@@ -1,5 +1,4 @@
 -- All that is promised of the amplitudes, for every list and for every record that no line refuses.
--- Assumes nothing.
 use mathlib.Core.Bool.{false}
 use mathlib.Core.Path.{_≡_}
 use Prim.Native.Nat.{ℕ}

@@ -1,10 +1,9 @@
 -- The answer of a list is the one read off its reduced record.
--- Assumes nothing.
 use mathlib.Core.Bool.{Bool, cond, false, true}
 use mathlib.Core.Path.{_∙_, _≡_, ap, refl, sym}
 use Prim.Native.Nat.{ℕ}
 use Rattle.graph.specs.Graph.{Simple}
-use Rattle.graph_steps.specs.ReducedForms.{ReducedForm}
+use Rattle.graph_steps.specs.internal.ReducedForms.{ReducedForm}
 use Rattle.pauli.proofs.PhaseLaws.{+ᵖ-assoc, +ᵖ-zero}
 use Rattle.pauli.specs.Pauli.{_+ᵖ_, Pauli, Phase, exponent, i¹, i², i³, i⁰}
 use Rattle.record.proofs.ReducedRecords.{record-proper, reduced-is}
@@ -18,10 +17,10 @@ use Rattle.amplitude.proofs.CountedWords.{support-fits}
 use Rattle.amplitude.proofs.FormOfReduced.{form-of-reduced}
 use Rattle.amplitude.proofs.KeptRatios.{ratio-by-turns}
 use Rattle.amplitude.proofs.LowestOfRecord.{lowest-of-record}
-use Rattle.amplitude.specs.ByRecord.{over, recordAnswer}
-use Rattle.amplitude.specs.KeptTurns.{fitsAt, keptTurns}
+use Rattle.amplitude.specs.internal.ByRecord.{over, recordAnswer}
+use Rattle.amplitude.specs.internal.KeptTurns.{fitsAt, keptTurns}
 use Rattle.amplitude.specs.Plotting.{turned}
-use Rattle.amplitude.specs.Ratios.{amplitudeOf, lowest, ratio, supported}
+use Rattle.amplitude.specs.Ratios.{amplitudeOf, lowest, ratio, isSupported}
 use Rattle.amplitude.specs.declared.Amplitude.{Amplitude}
 use Rattle.amplitude.specs.declared.Amplitude.the-variants.{Nothing}
 
@@ -37,7 +36,7 @@ taken-over a b c e = sym (ap (λ t. over t b) (sym e) ∙ +ᵖ-assoc a b (b +ᵖ
 
 module _ (n : ℕ) (r : GraphRecord) (S : Simple n (r .graph)) (F : ReducedForm n r) where
   pub form-answer : (y : ℕ) → amplitudeOf n (rowsOf n r) y ≡ recordAnswer n r y
-  form-answer y = go (supported n (rowsOf n r) y) refl
+  form-answer y = go (isSupported n (rowsOf n r) y) refl
       ∙ ap (λ b. cond b (turned (exponent (over (keptTurns n r (bit y)) (keptTurns n r (bit (lowest n (rowsOf n r)))))))
       Nothing) (support-fits n r S F y)
       ∙ ap (λ w. recordAt w) (lowest-of-record n r S)
@@ -45,7 +44,7 @@ module _ (n : ℕ) (r : GraphRecord) (S : Simple n (r .graph)) (F : ReducedForm 
       recordAt : ℕ → Amplitude
       recordAt w = cond (every n (fitsAt r y)) (turned (exponent (over (keptTurns n r (bit y)) (keptTurns n r (bit w))))) Nothing
 
-      go : (b : Bool) → supported n (rowsOf n r) y ≡ b
+      go : (b : Bool) → isSupported n (rowsOf n r) y ≡ b
           → cond b (turned (exponent (ratio n (rowsOf n r) y))) Nothing
           ≡ cond b (turned (exponent (over (keptTurns n r (bit y)) (keptTurns n r (bit (lowest n (rowsOf n r))))))) Nothing
       go true e = ap (λ t. turned (exponent t)) (taken-over (ratio n (rowsOf n r) y)

@@ -1,5 +1,4 @@
 -- The answers depend on the group alone, and the enum and the plot line say what the vector says.
--- Assumes nothing.
 use mathlib.Core.Bool.{Bool, cond, false, true, true≢false}
 use mathlib.Core.Logic.{_↔_}
 use mathlib.Core.Path.{_∙_, _≡_, ap, refl, sym}
@@ -14,14 +13,15 @@ use Rattle.words.specs.Bits.{_⊕_, bit}
 use Rattle.amplitude.proofs.Existence.{any-element, leading-leads, lowest-is}
 use Rattle.amplitude.proofs.Support.{supported-exactly, supported-of-group}
 use Rattle.amplitude.specs.Plotting.{floatOf, halves, nought, plotted, turned}
-use Rattle.amplitude.specs.Ratios.{Leads, chosenBy, leading, lowest, ratio, supported}
+use Rattle.amplitude.specs.Ratios.{Leads, chosenBy, leading, lowest, ratio, isSupported}
 use Rattle.amplitude.specs.Turns.{turnsAt}
-use Rattle.amplitude.specs.Vectors.{OfGroup, PlotsVector, none, one, turnBy}
+use Rattle.amplitude.specs.internal.Vectors.{OfGroup}
+use Rattle.amplitude.specs.Vectors.{PlotsVector, none, one, turnBy}
 use Rattle.amplitude.specs.declared.Amplitude.{Amplitude}
 use Rattle.amplitude.specs.declared.Amplitude.the-variants.{Imag, Nothing, Real}
 
 module _ (n : ℕ) (R S : ℕ → Pauli) (P : Proper n R) (Q : Proper n S) (E : SameGroup n n R S) where
-  same-support : (y : ℕ) → supported n R y ≡ supported n S y
+  same-support : (y : ℕ) → isSupported n R y ≡ isSupported n S y
   same-support y = same-by-both _ _
       (λ e. supported-exactly n S y .1 (supported-of-group n R S E (bit y) (supported-exactly n R y .0 e)))
       (λ e. supported-exactly n R y .1 (supported-of-group n S R (same-sym E) (bit y) (supported-exactly n S y .0 e)))
@@ -29,13 +29,13 @@ module _ (n : ℕ) (R S : ℕ → Pauli) (P : Proper n R) (Q : Proper n S) (E : 
   same-lowest : lowest n R ≡ lowest n S
   same-lowest =
       let L = lowest-is n S Q in
-      first-unique (2 ^ n) (supported n R) (lowest n S) (record {
+      first-unique (2 ^ n) (isSupported n R) (lowest n S) (record {
         below = L .below;
         passes = same-support (lowest n S) ∙ L .passes;
         least = λ j k. same-support j ∙ L .least j k;
       })
 
-  same-ratio : (y : ℕ) → supported n R y ≡ true → ratio n R y ≡ ratio n S y
+  same-ratio : (y : ℕ) → isSupported n R y ≡ true → ratio n R y ≡ ratio n S y
   same-ratio y H =
       sym (any-element n R P y H p (E .back p (bit v, refl)) (λ q l. lead q l ∙ ap (λ w. bit w q ⊕ bit y q) (sym same-lowest)))
       ∙ ap (λ w. turnsAt n p (bit w)) same-lowest
@@ -52,10 +52,10 @@ module _ (n : ℕ) (R S : ℕ → Pauli) (P : Proper n R) (Q : Proper n S) (E : 
 
   -- a value chosen by the support and the ratio
   same-value : {A : Type 0} (f : Phase → A) (a : A) (y : ℕ)
-      → cond (supported n R y) (f (ratio n R y)) a ≡ cond (supported n S y) (f (ratio n S y)) a
-  same-value f a y = go (supported n R y) refl ∙ ap (λ b. cond b (f (ratio n S y)) a) (same-support y)
+      → cond (isSupported n R y) (f (ratio n R y)) a ≡ cond (isSupported n S y) (f (ratio n S y)) a
+  same-value f a y = go (isSupported n R y) refl ∙ ap (λ b. cond b (f (ratio n S y)) a) (same-support y)
     where
-      go : (b : Bool) → supported n R y ≡ b → cond b (f (ratio n R y)) a ≡ cond b (f (ratio n S y)) a
+      go : (b : Bool) → isSupported n R y ≡ b → cond b (f (ratio n R y)) a ≡ cond b (f (ratio n S y)) a
       go true e = ap f (same-ratio y e)
       go false e = refl
 
@@ -121,10 +121,10 @@ probability-part i³ k = refl
 pub plots-vector : (n : ℕ) (R : ℕ → Pauli) (y : ℕ) → PlotsVector n R y
 plots-vector n R y =
     record {
-      nothing = nothing (supported n R y);
-      real = λ k. real (supported n R y) k;
-      imaginary = λ k. imaginary (supported n R y) k;
-      probability = λ k. probability (supported n R y) k;
+      nothing = nothing (isSupported n R y);
+      real = λ k. real (isSupported n R y) k;
+      imaginary = λ k. imaginary (isSupported n R y) k;
+      probability = λ k. probability (isSupported n R y) k;
     }
   where
     nothing : (b : Bool) → (cond b (turned (exponent (ratio n R y))) Nothing ≡ Nothing)

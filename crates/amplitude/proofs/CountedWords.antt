@@ -1,5 +1,4 @@
 -- As many words are supported as the rank of the x words says: 2 ^ rank.
--- Assumes nothing.
 use mathlib.Core.Bool.{_&&_, Bool, _||_, and-true, false, not, true}
 use mathlib.Core.Path.{_∙_, _≡_, ap, ap₂, refl, sym}
 use Prim.Native.Nat.{_+_, _<_, _^_, suc, zero, ℕ, _≤_}
@@ -12,13 +11,13 @@ use Rattle.clifford.specs.Clifford.{bitC}
 use Rattle.cut.proofs.Counting.{count-add, count-ext}
 use Rattle.cut.specs.Kernel.{count}
 use Rattle.graph.specs.Graph.{Simple}
-use Rattle.graph_steps.specs.ReducedForms.{ReducedForm}
+use Rattle.graph_steps.specs.internal.ReducedForms.{ReducedForm}
 use Rattle.pauli.specs.Pauli.{Pauli}
 use Rattle.record.proofs.ColumnLaws.{column-dependent}
 use Rattle.record.proofs.ReducedRecords.{record-proper, reduced-is}
-use Rattle.record.specs.Columns.{columnDependent}
+use Rattle.record.specs.Columns.{isColumnDependent}
 use Rattle.record.specs.Records.{GraphRecord, rowsOf}
-use Rattle.record.specs.Reduced.{Reduced, reduced, xWords}
+use Rattle.record.specs.Reduced.{ReductionOf, reduced, xWords}
 use Rattle.stabilizer.specs.Groups.{Proper}
 use Rattle.words.proofs.BitLaws.{bit-above, bit-single, bit-xor}
 use Rattle.words.proofs.Flags.{same-by-both, sameBit-true, true-sameBit}
@@ -31,8 +30,8 @@ use Rattle.amplitude.proofs.Answers.{of-group}
 use Rattle.amplitude.proofs.FormOfReduced.{code-c-of, form-of-reduced}
 use Rattle.amplitude.proofs.FormWords.{Solves, solves-supported, supported-solves}
 use Rattle.amplitude.proofs.Support.{supported-exactly}
-use Rattle.amplitude.specs.KeptTurns.{fitsAt}
-use Rattle.amplitude.specs.Ratios.{supported}
+use Rattle.amplitude.specs.internal.KeptTurns.{fitsAt}
+use Rattle.amplitude.specs.Ratios.{isSupported}
 use Rattle.amplitude.specs.Vectors.{WordsCount}
 
 -- ---- numbers and tests
@@ -132,8 +131,8 @@ module _ (n : ℕ) (r : GraphRecord) (S : Simple n (r .graph)) (F : ReducedForm 
       go q l false e = refl
       go q l true e = absurd (omega (arith, F .smaller j q hj c e, l))
 
-  pub support-fits : (y : ℕ) → supported n (rowsOf n r) y ≡ every n (fitsAt r y)
-  support-fits y = same-by-both (supported n (rowsOf n r) y) (good n y)
+  pub support-fits : (y : ℕ) → isSupported n (rowsOf n r) y ≡ every n (fitsAt r y)
+  support-fits y = same-by-both (isSupported n (rowsOf n r) y) (good n y)
       (λ e. every-in n _ (λ j l. there (supported-solves n r S F (bit y) (supported-exactly n (rowsOf n r) y .0 e)) j l
       (rotated j) refl))
       (λ e. supported-exactly n (rowsOf n r) y .1 (solves-supported n r S F (bit y)
@@ -161,11 +160,11 @@ words-count n R P =
     r : GraphRecord
     r = reduced n R
 
-    D : Reduced n R (reduced n R)
+    D : ReductionOf n R (reduced n R)
     D = reduced-is n R P
 
-    dependent : (q : ℕ) → q < n → bitC ((reduced n R) .codes q) ≡ columnDependent n (xWords R) q
-    dependent q l = same-by-both (bitC ((reduced n R) .codes q)) (columnDependent n (xWords R) q)
+    dependent : (q : ℕ) → q < n → bitC ((reduced n R) .codes q) ≡ isColumnDependent n (xWords R) q
+    dependent q l = same-by-both (bitC ((reduced n R) .codes q)) (isColumnDependent n (xWords R) q)
         (λ e. column-dependent n (xWords R) q .1 (D .rotated q l .0 (sym (c q) ∙ e)))
         (λ e. c q ∙ D .rotated q l .1 (column-dependent n (xWords R) q .0 e))
       where

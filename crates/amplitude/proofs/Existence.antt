@@ -1,14 +1,13 @@
 -- Every list has a supported word, so a smallest one; some element leads from it to each supported word, and whatever
 -- element does gives the ratio.
--- Assumes nothing.
 use mathlib.Core.Bool.{true}
 use mathlib.Core.Path.{_∙_, _≡_, ap, refl, sym}
 use Prim.Native.Nat.{_^_, ℕ}
-use Rattle.graph_steps.specs.ReducedForms.{ReducedForm}
+use Rattle.graph_steps.specs.internal.ReducedForms.{ReducedForm}
 use Rattle.pauli.specs.Pauli.{Pauli}
 use Rattle.record.proofs.ReducedRecords.{reduced-is}
 use Rattle.record.specs.Records.{GraphRecord, rowsOf}
-use Rattle.record.specs.Reduced.{Reduced, reduced}
+use Rattle.record.specs.Reduced.{ReductionOf, reduced}
 use Rattle.stabilizer.proofs.GroupLaws.{same-sym}
 use Rattle.stabilizer.specs.Groups.{InGroup, Proper, product}
 use Rattle.words.proofs.BitLaws.{bit-wordOf, wordOf-lt}
@@ -19,14 +18,15 @@ use Rattle.words.specs.Search.{IsFirst, every, first}
 use Rattle.amplitude.proofs.FormOfReduced.{form-of-reduced}
 use Rattle.amplitude.proofs.FormWords.{between, first-solves, first-word, leads-between, Solves, solves-supported, supported-solves}
 use Rattle.amplitude.proofs.Support.{named, supported-exactly, supported-ext, supported-of-group, turns-agree}
-use Rattle.amplitude.specs.Ratios.{Leads, Supported, chosenBy, leading, lowest, ratio, supported}
+use Rattle.amplitude.specs.Ratios.{Leads, chosenBy, leading, lowest, ratio, isSupported}
+use Rattle.amplitude.specs.internal.Ratios.{Supported}
 use Rattle.amplitude.specs.Turns.{turnsAt}
 
 module _ (n : ℕ) (R : ℕ → Pauli) (P : Proper n R) where
   abbrev r : GraphRecord
   r = reduced n R
 
-  D : Reduced n R r
+  D : ReductionOf n R r
   D = reduced-is n R P
 
   F : ReducedForm n r
@@ -39,15 +39,15 @@ module _ (n : ℕ) (R : ℕ → Pauli) (P : Proper n R) where
   abbrev word : Word
   word = first-word n r (D .simple) F
 
-  word-supported : supported n R (wordOf n word) ≡ true
+  word-supported : isSupported n R (wordOf n word) ≡ true
   word-supported = supported-exactly n R (wordOf n word) .1
       (supported-ext n R word (bit (wordOf n word)) (λ q l. sym (bit-wordOf n word q l))
       (supported-of-group n (rowsOf n r) R (same-sym (D .group)) word
       (solves-supported n r (D .simple) F word (first-solves n r (D .simple) F))))
 
-  pub lowest-is : IsFirst (2 ^ n) (supported n R) (lowest n R)
-  lowest-is = some-true (2 ^ n) (supported n R)
-      (some-in (2 ^ n) (supported n R) (wordOf n word) (wordOf-lt n word) word-supported)
+  pub lowest-is : IsFirst (2 ^ n) (isSupported n R) (lowest n R)
+  lowest-is = some-true (2 ^ n) (isSupported n R)
+      (some-in (2 ^ n) (isSupported n R) (wordOf n word) (wordOf-lt n word) word-supported)
 
   -- some element leads from one to another
   pub some-leads : (a b : Word) → Supported n R a → Supported n R b → (p : Pauli) × InGroup n n R p × Leads n p a b
@@ -67,7 +67,7 @@ module _ (n : ℕ) (R : ℕ → Pauli) (P : Proper n R) where
       chosen = between n r (D .simple) F a b H′ K′
 
   -- and the search finds the first that does
-  pub leading-leads : (a b : ℕ) → supported n R a ≡ true → supported n R b ≡ true
+  pub leading-leads : (a b : ℕ) → isSupported n R a ≡ true → isSupported n R b ≡ true
       → Leads n (chosenBy n R (leading n R a b)) (bit a) (bit b)
   unfolding leading
   leading-leads a b H K q l = true-sameBit _ _ (every-at n _ (found .passes) q l)
@@ -85,7 +85,7 @@ module _ (n : ℕ) (R : ℕ → Pauli) (P : Proper n R) where
   lowest-supported = supported-exactly n R (lowest n R) .0 (lowest-is .passes)
 
   -- "A group element whose x part leads from that word to y fixes the ratio"
-  pub any-element : (y : ℕ) → supported n R y ≡ true → (p : Pauli) → InGroup n n R p
+  pub any-element : (y : ℕ) → isSupported n R y ≡ true → (p : Pauli) → InGroup n n R p
       → Leads n p (bit (lowest n R)) (bit y) → turnsAt n p (bit (lowest n R)) ≡ ratio n R y
   unfolding ratio
   any-element y H p a h = turns-agree n R (P .commuting) (bit (lowest n R)) lowest-supported p

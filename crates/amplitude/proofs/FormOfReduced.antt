@@ -1,6 +1,5 @@
 -- The reduced record of a list is of reduced form: low even codes, and a vertex with a Hadamard has smaller neighbours
 -- only.
--- Assumes nothing.
 use mathlib.Core.Bool.{_&&_, Bool, and-false, cond, false, true, true≢false}
 use mathlib.Core.Logic.{_⊎_, inl, inr}
 use mathlib.Core.Path.{_∙_, _≡_, ap, refl, sym}
@@ -11,7 +10,7 @@ use native.Mathlib.Omega.{arith}
 use lib.Dec.{eqb}
 use Rattle.clifford.specs.Clifford.{bitC, image}
 use Rattle.clifford.specs.Vectors.{act}
-use Rattle.graph_steps.specs.ReducedForms.{ReducedForm}
+use Rattle.graph_steps.specs.internal.ReducedForms.{ReducedForm}
 use Rattle.pauli.specs.Pauli.{Pauli, letter, xBit}
 use Rattle.record.proofs.ColumnLaws.{element-dependent}
 use Rattle.record.proofs.ReducedCodes.{reduced-codes-among}
@@ -19,7 +18,7 @@ use Rattle.record.proofs.ReducedRecords.{reduced-is}
 use Rattle.record.proofs.WrittenRecords.{reduced-identity-above}
 use Rattle.record.specs.Columns.{ColumnDependent}
 use Rattle.record.specs.Records.{GraphRecord, rowsOf}
-use Rattle.record.specs.Reduced.{Reduced, plainCode, reduced, withHadamard, xWords}
+use Rattle.record.specs.Reduced.{ReductionOf, plainCode, reduced, withHadamard, xWords}
 use Rattle.stabilizer.proofs.GroupLaws.{in-row}
 use Rattle.stabilizer.specs.Groups.{Proper}
 use Rattle.words.proofs.Finite.{bits}
@@ -40,7 +39,7 @@ code-c : (h y s : Bool) → bitC (withHadamard h (plainCode y s)) ≡ h
 code-c = bits 3 (λ h y s. bitC (withHadamard h (plainCode y s))) (λ h y s. h) tt
 
 -- C is 1 where a Hadamard is used
-pub code-c-of : (n : ℕ) (rows : ℕ → Pauli) (r : GraphRecord) (D : Reduced n rows r) (q : ℕ)
+pub code-c-of : (n : ℕ) (rows : ℕ → Pauli) (r : GraphRecord) (D : ReductionOf n rows r) (q : ℕ)
     → bitC (r .codes q) ≡ D .hadamards q
 code-c-of n rows r D q = ap bitC (D .code q) ∙ code-c (D .hadamards q) (D .ys q) (D .minuses q)
 
@@ -48,7 +47,7 @@ module _ (n : ℕ) (rows : ℕ → Pauli) (P : Proper n rows) where
   abbrev r : GraphRecord
   r = reduced n rows
 
-  D : Reduced n rows r
+  D : ReductionOf n rows r
   D = reduced-is n rows P
 
   rotated-x : (j q : ℕ) → D .hadamards q ≡ true → (j ≡ q → ⊥) → (rowsOf n r j) .x q ≡ r .graph j q

@@ -1,6 +1,5 @@
 -- Records of reduced form: the generator of a vertex with a Hadamard has no x bit, z bits at itself and its neighbours,
 -- and the sign of its code.
--- Assumes nothing.
 use mathlib.Core.Bool.{_&&_, Bool, and-false, cond, false, not, true, true≢false}
 use mathlib.Core.Path.{_∙_, _≡_, ap, refl, sym}
 use Prim.Native.Nat.{_<_, ℕ}
@@ -11,14 +10,14 @@ use Rattle.clifford.specs.Clifford.{Class, XY, XZ, YX, YZ, ZX, ZY, bitC, codeOf
 use Rattle.clifford.specs.Vectors.{act}
 use Rattle.graph.specs.Graph.{Simple}
 use Rattle.graph_steps.proofs.ReducedForms.{apart, form-x}
-use Rattle.graph_steps.specs.ReducedForms.{ReducedForm}
+use Rattle.graph_steps.specs.internal.ReducedForms.{ReducedForm}
 use Rattle.pauli.proofs.PhaseLaws.{minus-⊕, phaseMonoid, phases}
 use Rattle.pauli.specs.Pauli.{_+ᵖ_, Pauli, i⁰, letter, minus, zBit}
 use Rattle.record.specs.Records.{GraphRecord, rowsOf}
 use Rattle.words.proofs.Places.{other-place, same-place}
 use Rattle.words.proofs.Sums.{fold-ext, fold-hom, fold-one}
 use Rattle.words.specs.Bits.{Word, _⊕_, parity}
-use Rattle.amplitude.specs.Ratios.{Diagonal}
+use Rattle.amplitude.specs.internal.Ratios.{Diagonal}
 use Rattle.amplitude.specs.Turns.{letterTurns, turnsAt}
 
 -- ---- a diagonal row gives each word a sign: that of the z bits that both have

@@ -1,6 +1,5 @@
 -- Records of reduced form: a word is supported exactly if it solves one equation for each vertex with a Hadamard; some
 -- word does; and some element leads from any supported word to any other.
--- Assumes nothing.
 use mathlib.Core.Bool.{_&&_, Bool, and-comm, and-false, cond, false, not, true, true≢false}
 use mathlib.Core.Path.{_∙_, _≡_, ap, ap₂, refl, sym}
 use Prim.Native.Nat.{_<_, suc, zero, ℕ, _≤_}
@@ -10,7 +9,7 @@ use lib.Dec.{eqb}
 use Rattle.clifford.specs.Clifford.{bitC}
 use Rattle.graph.specs.Graph.{Simple}
 use Rattle.graph_steps.proofs.ReducedForms.{apart, form-x}
-use Rattle.graph_steps.specs.ReducedForms.{ReducedForm}
+use Rattle.graph_steps.specs.internal.ReducedForms.{ReducedForm}
 use Rattle.pauli.proofs.PhaseLaws.{minus-injective, minus-⊕}
 use Rattle.pauli.specs.Pauli.{_+ᵖ_, Pauli, i⁰, minus}
 use Rattle.record.specs.Records.{GraphRecord, rowsOf}
@@ -24,7 +23,8 @@ use Rattle.words.specs.Bits.{Word, _⊕_, fold, parity}
 use Rattle.amplitude.proofs.FormRows.{diagonal-turns, rotated-diagonal, rotated-phase, rotated-z}
 use Rattle.amplitude.proofs.Support.{turns-ext, turns-identity}
 use Rattle.amplitude.proofs.TurnLaws.{turns-mul}
-use Rattle.amplitude.specs.Ratios.{Diagonal, Leads, Supported}
+use Rattle.amplitude.specs.internal.Ratios.{Diagonal, Supported}
+use Rattle.amplitude.specs.Ratios.{Leads}
 use Rattle.amplitude.specs.Turns.{turnsAt}
 
 -- three bits with sum 0

@@ -1,6 +1,5 @@
 -- Records of reduced form: the products of generators of vertices without a Hadamard, and what they give the word that
 -- has none of these vertices.
--- Assumes nothing.
 use mathlib.Core.Bool.{_&&_, Bool, and-false, and-true, cond, false, not, true, true≢false}
 use mathlib.Core.Logic.{inl, inr}
 use mathlib.Core.Path.{_∙_, _≡_, ap, ap₂, refl, sym}
@@ -14,7 +13,7 @@ use Rattle.clifford.specs.Vectors.{act}
 use Rattle.graph.proofs.GraphGroups.{no-loop}
 use Rattle.graph.specs.Graph.{Simple}
 use Rattle.graph_steps.proofs.ReducedForms.{form-x}
-use Rattle.graph_steps.specs.ReducedForms.{ReducedForm}
+use Rattle.graph_steps.specs.internal.ReducedForms.{ReducedForm}
 use Rattle.pauli.proofs.PauliLaws.{letter-bits, mul-comm, mul-identity}
 use Rattle.pauli.proofs.PhaseLaws.{+ᵖ-assoc, +ᵖ-zero, minus-⊕, phaseMonoid, sumPhase-add}
 use Rattle.pauli.specs.Pauli.{_+ᵖ_, Pauli, Phase, anticommute, i⁰, letter, minus, mul, sumPhase}
@@ -28,7 +27,7 @@ use Rattle.words.proofs.Sums.{bitMonoid, fold-ext, fold-hom, fold-more, fold-on
 use Rattle.words.specs.Bits.{Word, _⊕_, fold, parity}
 use Rattle.amplitude.proofs.Support.{turns-identity}
 use Rattle.amplitude.proofs.TurnLaws.{turns-mul}
-use Rattle.amplitude.specs.KeptTurns.{unitOf}
+use Rattle.amplitude.specs.internal.KeptTurns.{unitOf}
 use Rattle.amplitude.specs.Turns.{letterTurns, turnsAt}
 
 -- ---- a place of a generator: g, an edge; e, the own place; b, the word's bit

@@ -1,5 +1,4 @@
 -- The smallest supported word of a record: the outcomes of measurements on the record itself.
--- Assumes nothing.
 use mathlib.Core.Bool.{false}
 use mathlib.Core.Path.{_≡_, ap, subst, sym}
 use Prim.Native.Nat.{_-_, _<_, suc, zero, ℕ, _≤_}
@@ -15,7 +14,7 @@ use Rattle.stabilizer.proofs.GroupLaws.{same-refl}
 use Rattle.stabilizer.specs.Groups.{Proper, SameGroup}
 use Rattle.words.specs.Bits.{wordOf}
 use Rattle.amplitude.proofs.LowestWord.{lowest-by-measuring}
-use Rattle.amplitude.specs.Measuring.{MeasuredDown, outcomesDown, recordsDown}
+use Rattle.amplitude.specs.internal.Measuring.{MeasuredDown, outcomesDown, recordsDown}
 use Rattle.amplitude.specs.Ratios.{lowest}
 
 module _ (n : ℕ) (r : GraphRecord) (S : Simple n (r .graph)) where

@@ -1,5 +1,4 @@
 -- The outcomes of Z measured from the last qubit down, 0 where it is possible, are the smallest supported word.
--- Assumes nothing.
 use mathlib.Core.Bool.{_&&_, Bool, cond, false, true}
 use mathlib.Core.Logic.{_↔_, _⊎_, inl, inr}
 use mathlib.Core.Path.{_∙_, _≡_, ap, refl, sym}
@@ -21,8 +20,9 @@ use Rattle.words.specs.Bits.{Word, _⊕_, bit, digit, wordOf}
 use Rattle.amplitude.proofs.Existence.{lowest-supported}
 use Rattle.amplitude.proofs.MeasuredWords.{forbidden-bit, supported-measured}
 use Rattle.amplitude.proofs.Support.{supported-exactly, supported-ext, supported-of-group}
-use Rattle.amplitude.specs.Measuring.{MeasuredDown}
-use Rattle.amplitude.specs.Ratios.{Supported, lowest, supported}
+use Rattle.amplitude.specs.internal.Measuring.{MeasuredDown}
+use Rattle.amplitude.specs.internal.Ratios.{Supported}
+use Rattle.amplitude.specs.Ratios.{lowest, isSupported}
 
 -- ---- the highest bit where two numbers differ decides
 pub bit-less : (a c q : ℕ) → bit a q ≡ false → bit c q ≡ true → ((t : ℕ) → q < t → bit a t ≡ bit c t) → a < c
@@ -149,11 +149,11 @@ module _ (n : ℕ) (R : ℕ → Pauli) (down : ℕ → ℕ → Pauli) (forced : 
     ]
 
   pub lowest-by-measuring : lowest n R ≡ wordOf n forced
-  lowest-by-measuring = first-unique (2 ^ n) (supported n R) least (record {
+  lowest-by-measuring = first-unique (2 ^ n) (isSupported n R) least (record {
     below = wordOf-lt n forced;
     passes = supported-exactly n R least .1
         (supported-ext n R forced (bit least) (λ q l. sym (bit-wordOf n forced q l)) forced-supported);
-    least = λ j l. never-true (supported n R j) (λ e. none j l (supported-exactly n R j .0 e));
+    least = λ j l. never-true (isSupported n R j) (λ e. none j l (supported-exactly n R j .0 e));
   })
     where
       none : (j : ℕ) → j < least → Supported n R (bit j) → ⊥

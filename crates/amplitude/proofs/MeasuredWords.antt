@@ -1,5 +1,4 @@
 -- Z measured at a qubit: the supported words afterwards are those before that have the outcome there.
--- Assumes nothing.
 use mathlib.Core.Bool.{_&&_, Bool, and-false, false, true}
 use mathlib.Core.Logic.{_↔_}
 use mathlib.Core.Path.{_∙_, _≡_, ap, ap₂, refl, subst, sym}
@@ -24,7 +23,7 @@ use Rattle.words.specs.Bits.{Word, _⊕_}
 use Rattle.amplitude.proofs.FormRows.{diagonal-turns}
 use Rattle.amplitude.proofs.Support.{turns-ext}
 use Rattle.amplitude.proofs.TurnLaws.{turns-mul}
-use Rattle.amplitude.specs.Ratios.{Diagonal, Supported}
+use Rattle.amplitude.specs.internal.Ratios.{Diagonal, Supported}
 use Rattle.amplitude.specs.Turns.{turnsAt}
 
 module _ (n q : ℕ) (hq : q < n) where

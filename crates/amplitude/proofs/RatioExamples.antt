@@ -1,5 +1,4 @@
 -- Worked examples: the amplitudes of small states, as the definitions give them.
--- Assumes nothing.
 use mathlib.Core.Bool.{cond, false, true}
 use mathlib.Core.List.{List, [], _∷_, map}
 use mathlib.Core.Path.{_≡_, refl}
@@ -9,12 +8,12 @@ use Rattle.pauli.specs.Pauli.{Pauli, exponent, identity, mul, signedRow}
 use Rattle.record.specs.Lent.{heldRows}
 use Rattle.words.specs.Bits.{bit, fold}
 use Rattle.words.specs.Search.{every, first, some}
-use Rattle.amplitude.specs.Ratios.{leading, ratio, supported}
+use Rattle.amplitude.specs.Ratios.{leading, ratio, isSupported}
 use Rattle.amplitude.specs.Turns.{turnsAt}
 
 -- the exponent of i at a word, 0 to 3; 4 where the answer is nothing
 abbrev at : ℕ → (ℕ → Pauli) → ℕ → ℕ
-at n R y = cond (supported n R y) (exponent (ratio n R y)) 4
+at n R y = cond (isSupported n R y) (exponent (ratio n R y)) 4
 
 abbrev four : List ℕ
 four = 0 ∷ 1 ∷ 2 ∷ 3 ∷ []
@@ -54,5 +53,5 @@ expected =
     ∷ []
 
 pub ratio-examples : given ≡ expected
-unfolding supported leading ratio turnsAt every first some fold bit mul act
+unfolding isSupported leading ratio turnsAt every first some fold bit mul act
 ratio-examples = refl

@@ -1,5 +1,4 @@
 -- Supported words: elements lead from one to another, and elements that lead to the same word give the same power of i.
--- Assumes nothing.
 use mathlib.Core.Bool.{Bool, _||_, false, true}
 use mathlib.Core.Logic.{_↔_}
 use mathlib.Core.Path.{_∙_, _≡_, ap, refl, subst, sym}
@@ -17,7 +16,8 @@ use Rattle.words.specs.Bits.{Word, _⊕_, bit, wordOf}
 use Rattle.words.specs.Search.{some}
 use lib.Dec.{T}
 use Rattle.amplitude.proofs.TurnLaws.{turns-mul}
-use Rattle.amplitude.specs.Ratios.{Supported, chosenBy, supported}
+use Rattle.amplitude.specs.internal.Ratios.{Supported}
+use Rattle.amplitude.specs.Ratios.{chosenBy, isSupported}
 use Rattle.amplitude.specs.Turns.{letterTurns, turnsAt}
 
 -- only the bits below n count
@@ -84,8 +84,8 @@ same-phase : (a : Phase) → samePhase a i⁰ ≡ true → a ≡ i⁰
 same-phase a e = samePhase→≡ a i⁰ (subst T (sym e) tt)
 
 module _ (n : ℕ) (R : ℕ → Pauli) (y : ℕ) where
-  test-in : Supported n R (bit y) → supported n R y ≡ true
-  unfolding supported
+  test-in : Supported n R (bit y) → isSupported n R y ≡ true
+  unfolding isSupported
   test-in S = every-in (2 ^ n) _ (λ v l. go v (some n (λ q. (chosenBy n R v) .x q)) refl)
     where
       go : (v : ℕ) (b : Bool) → some n (λ q. (chosenBy n R v) .x q) ≡ b
@@ -93,8 +93,8 @@ module _ (n : ℕ) (R : ℕ → Pauli) (y : ℕ) where
       go v true e = refl
       go v false e = ap (λ t. samePhase t i⁰) (S (chosenBy n R v) (bit v, refl) (some-false n _ e))
 
-  test-out : supported n R y ≡ true → Supported n R (bit y)
-  unfolding supported
+  test-out : isSupported n R y ≡ true → Supported n R (bit y)
+  unfolding isSupported
   test-out e p a d = subst (λ r. turnsAt n r (bit y) ≡ i⁰) (named n R (a .0) ∙ sym (a .1)) (same-phase _
       (ap (λ b. b || samePhase (turnsAt n (chosenBy n R v) (bit y)) i⁰) (sym none)
       ∙ every-at (2 ^ n) _ e v (wordOf-lt n (a .0))))
@@ -105,5 +105,5 @@ module _ (n : ℕ) (R : ℕ → Pauli) (y : ℕ) where
       none : some n (λ q. (chosenBy n R v) .x q) ≡ false
       none = some-none n _ (λ q l. ap (λ r. r .x q) (named n R (a .0) ∙ sym (a .1)) ∙ d q l)
 
-  pub supported-exactly : (supported n R y ≡ true) ↔ Supported n R (bit y)
+  pub supported-exactly : (isSupported n R y ≡ true) ↔ Supported n R (bit y)
   supported-exactly = (test-out, test-in)

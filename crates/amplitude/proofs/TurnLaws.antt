@@ -1,5 +1,4 @@
 -- A product acts as its second factor, then its first.
--- Assumes nothing.
 use mathlib.Core.Bool.{Bool}
 use mathlib.Core.Path.{_∙_, _≡_, ap, sym}
 use Prim.Native.Nat.{ℕ}

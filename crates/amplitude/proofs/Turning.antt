@@ -1,5 +1,4 @@
 -- Powers of i times a Gaussian integer: turns add, and a number that a turn keeps is 0.
--- Assumes nothing.
 use mathlib.Core.Bool.{false, true≢false}
 use mathlib.Core.Path.{_∙_, _≡_, ap, refl, subst, sym}
 use Prim.Native.Nat.{suc, zero}

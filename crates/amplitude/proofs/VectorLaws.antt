@@ -1,6 +1,5 @@
 -- The answers, as a vector of Gaussian integers, are fixed by every element of the group; and every vector that is so
 -- is a multiple of it.
--- Assumes nothing.
 use mathlib.Core.Bool.{Bool, cond, false, not, true, true≢false}
 use mathlib.Core.Logic.{inl, inr}
 use mathlib.Core.Path.{_∙_, _≡_, ap, ap₂, refl, sym}
@@ -21,9 +20,20 @@ use Rattle.amplitude.proofs.Existence.{any-element, leading-leads, lowe
 use Rattle.amplitude.proofs.Support.{supported-exactly, supported-ext, supported-moved, turns-ext, turns-identity}
 use Rattle.amplitude.proofs.TurnLaws.{turns-mul}
 use Rattle.amplitude.proofs.Turning.{turn-add, turn-none, turned-none}
-use Rattle.amplitude.specs.Ratios.{Diagonal, Leads, chosenBy, leading, lowest, ratio, supported}
+use Rattle.amplitude.specs.internal.Ratios.{Diagonal}
+use Rattle.amplitude.specs.Ratios.{Leads, chosenBy, leading, lowest, ratio, isSupported}
 use Rattle.amplitude.specs.Turns.{turnsAt}
-use Rattle.amplitude.specs.Vectors.{AnyElementFixes, LowestLeast, OnlyVector, Stabilized, amplitudes, movedTo, none, one, turnBy}
+use Rattle.amplitude.specs.Vectors.{
+  AnyElementFixes,
+  LowestLeast,
+  OnlyVector,
+  Stabilized,
+  amplitudes,
+  movedTo,
+  none,
+  one,
+  turnBy,
+}
 
 -- where not every number passes, one does not
 fails : (b : ℕ) (f : ℕ → Bool) → every b f ≡ false → (i : ℕ) × (f i ≡ false)
@@ -45,21 +55,21 @@ moved-back n p y l = moved-is n p (movedTo n p y) y l
     (λ q k. ap (λ b. b ⊕ p .x q) (moved-bit n p y q k) ∙ ⊕-twice (bit y q) (p .x q))
 
 module _ (n : ℕ) (R : ℕ → Pauli) (P : Proper n R) where
-  moved-supported : (p : Pauli) → InGroup n n R p → (y : ℕ) → supported n R y ≡ true
-      → supported n R (movedTo n p y) ≡ true
+  moved-supported : (p : Pauli) → InGroup n n R p → (y : ℕ) → isSupported n R y ≡ true
+      → isSupported n R (movedTo n p y) ≡ true
   moved-supported p a y H = supported-exactly n R (movedTo n p y) .1
       (supported-ext n R (λ q. bit y q ⊕ p .x q) (bit (movedTo n p y)) (λ q l. sym (moved-bit n p y q l))
       (supported-moved n R (P .commuting) (bit y) (supported-exactly n R y .0 H) p a))
 
   -- support is closed under the group's elements, and so is the rest
   pub moved-same : (p : Pauli) → InGroup n n R p → (y : ℕ) → y < 2 ^ n
-      → supported n R (movedTo n p y) ≡ supported n R y
+      → isSupported n R (movedTo n p y) ≡ isSupported n R y
   moved-same p a y l = same-by-both _ _
-      (λ e. ap (supported n R) (sym (moved-back n p y l)) ∙ moved-supported p a (movedTo n p y) e)
+      (λ e. ap (isSupported n R) (sym (moved-back n p y l)) ∙ moved-supported p a (movedTo n p y) e)
       (moved-supported p a y)
 
   -- an element adds its turns to the ratio
-  ratio-moved : (p : Pauli) → InGroup n n R p → (y : ℕ) → supported n R y ≡ true
+  ratio-moved : (p : Pauli) → InGroup n n R p → (y : ℕ) → isSupported n R y ≡ true
       → ratio n R (movedTo n p y) ≡ turnsAt n p (bit y) +ᵖ ratio n R y
   ratio-moved p a y H =
       sym (any-element n R P (movedTo n p y) (moved-supported p a y H) (mul n p first)
@@ -92,27 +102,27 @@ module _ (n : ℕ) (R : ℕ → Pauli) (P : Proper n R) where
   -- p v = v
   pub amplitudes-stabilized : Stabilized n R (amplitudes n R)
   amplitudes-stabilized p a y l =
-      ap (λ b. cond b (turnBy (ratio n R (movedTo n p y)) one) none) (moved-same p a y l) ∙ go (supported n R y) refl
+      ap (λ b. cond b (turnBy (ratio n R (movedTo n p y)) one) none) (moved-same p a y l) ∙ go (isSupported n R y) refl
     where
-      go : (b : Bool) → supported n R y ≡ b → cond b (turnBy (ratio n R (movedTo n p y)) one) none
+      go : (b : Bool) → isSupported n R y ≡ b → cond b (turnBy (ratio n R (movedTo n p y)) one) none
           ≡ turnBy (turnsAt n p (bit y)) (cond b (turnBy (ratio n R y) one) none)
       go true e = ap (λ t. turnBy t one) (ratio-moved p a y e) ∙ turn-add (turnsAt n p (bit y)) (ratio n R y) one
       go false e = sym (turn-none (turnsAt n p (bit y)))
 
   -- ---- uniqueness
   -- where a word is not supported, a diagonal element turns it
-  turned-word : (y : ℕ) → supported n R y ≡ false
+  turned-word : (y : ℕ) → isSupported n R y ≡ false
       → (p : Pauli) × InGroup n n R p × Diagonal n p × (samePhase (turnsAt n p (bit y)) i⁰ ≡ false)
-  unfolding supported
+  unfolding isSupported
   turned-word y e =
       let f = fails (2 ^ n) _ e in
       let g = neither (some n (λ q. (chosenBy n R (f .0)) .x q)) _ (f .1) in
       (chosenBy n R (f .0), (bit (f .0), refl), some-false n _ (g .0), g .1)
 
   pub only-vector : OnlyVector n R
-  only-vector w W y l = go (supported n R y) refl
+  only-vector w W y l = go (isSupported n R y) refl
     where
-      go : (b : Bool) → supported n R y ≡ b → w y ≡ cond b (turnBy (ratio n R y) (w (lowest n R))) none
+      go : (b : Bool) → isSupported n R y ≡ b → w y ≡ cond b (turnBy (ratio n R y) (w (lowest n R))) none
       go false e =
           let t = turned-word y e in
           turned-none (turnsAt n (t .0) (bit y)) (w y) (t .3)

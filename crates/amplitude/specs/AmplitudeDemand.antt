@@ -1,5 +1,4 @@
 -- What document 02, §11, promises of the amplitudes of a list.
--- Assumes nothing.
 use Prim.Native.Nat.{ℕ}
 use Rattle.pauli.specs.Pauli.{Pauli}
 use Rattle.amplitude.specs.Vectors.{

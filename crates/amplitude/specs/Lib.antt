@@ -2,7 +2,5 @@ pub mod Plotting
 pub mod Turns
 pub mod Ratios
 pub mod Vectors
-pub mod Measuring
-pub mod KeptTurns
 pub mod AmplitudeDemand
-pub mod ByRecord
+pub mod internal

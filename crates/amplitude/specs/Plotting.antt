@@ -1,5 +1,4 @@
 -- Amplitudes as floats.
--- Assumes nothing.
 use mathlib.Core.Bool.{Bool, true, false}
 use Prim.Native.Nat.{ℕ, zero, suc}
 use lib.IntN.{ℤ, pos, negsuc, negℤ}
@@ -27,6 +26,7 @@ turned (suc zero) = Imag (unit false)
 turned (suc (suc zero)) = Real (unit true)
 turned (suc (suc (suc k))) = Imag (unit true)
 
+-- "Each plot line holds three floats, real part, imaginary part and probability"
 abbrev pub plotted : Amplitude → ℕ → PlotLine
 plotted Nothing r = record { re = nought; im = nought; p = nought }
 plotted (Real v) r = record { re = v; im = nought; p = halves r }

@@ -1,11 +1,10 @@
 -- The words with a nonzero amplitude, and each amplitude over that of the smallest of them (02, §11), by search over
 -- the products of the generators.
--- Assumes nothing.
-use mathlib.Core.Bool.{Bool, _||_, cond, false}
+use mathlib.Core.Bool.{Bool, _||_, cond}
 use mathlib.Core.Path.{_≡_}
 use Prim.Native.Nat.{_<_, _^_, ℕ}
 use Rattle.pauli.specs.Pauli.{Pauli, Phase, exponent, i⁰, samePhase}
-use Rattle.stabilizer.specs.Groups.{InGroup, product}
+use Rattle.stabilizer.specs.Groups.{product}
 use Rattle.words.specs.Bits.{Word, _⊕_, bit, sameBit}
 use Rattle.words.specs.Search.{every, first, some}
 use Rattle.amplitude.specs.Plotting.{turned}
@@ -14,14 +13,6 @@ use Rattle.amplitude.specs.declared.Amplitude.{Amplitude}
 use Rattle.amplitude.specs.declared.Amplitude.the-variants.{Nothing}
 
 -- ---- as relations
--- no x bit on the n qubits: the element only gives each word a power of i
-abbrev pub Diagonal : ℕ → Pauli → Type 0
-Diagonal n p = (q : ℕ) → q < n → p .x q ≡ false
-
--- the amplitude at y can be other than 0: every diagonal element of the group keeps its sign there
-abbrev pub Supported : ℕ → (ℕ → Pauli) → Word → Type 0
-Supported n R y = (p : Pauli) → InGroup n n R p → Diagonal n p → turnsAt n p y ≡ i⁰
-
 -- "whose x part leads from that word to y"
 abbrev pub Leads : ℕ → Pauli → Word → Word → Type 0
 Leads n p a b = (q : ℕ) → q < n → p .x q ≡ a q ⊕ b q
@@ -30,13 +21,14 @@ Leads n p a b = (q : ℕ) → q < n → p .x q ≡ a q ⊕ b q
 abbrev pub chosenBy : ℕ → (ℕ → Pauli) → ℕ → Pauli
 chosenBy n R v = product n n (bit v) R
 
-unfoldable pub supported : ℕ → (ℕ → Pauli) → ℕ → Bool
-supported n R y = every (2 ^ n) (λ v. some n (λ q. (chosenBy n R v) .x q)
+-- the same as a test, by search over the products of the generators
+unfoldable pub isSupported : ℕ → (ℕ → Pauli) → ℕ → Bool
+isSupported n R y = every (2 ^ n) (λ v. some n (λ q. (chosenBy n R v) .x q)
     || samePhase (turnsAt n (chosenBy n R v) (bit y)) i⁰)
 
 -- "the smallest word with a nonzero amplitude"
 abbrev pub lowest : ℕ → (ℕ → Pauli) → ℕ
-lowest n R = first (2 ^ n) (supported n R)
+lowest n R = first (2 ^ n) (isSupported n R)
 
 -- the first element "whose x part leads from that word to y"
 unfoldable pub leading : ℕ → (ℕ → Pauli) → ℕ → ℕ → ℕ
@@ -48,4 +40,4 @@ ratio n R y = turnsAt n (chosenBy n R (leading n R (lowest n R) y)) (bit (lowest
 
 -- "the answer is nothing, exactly where the amplitude is 0, or a value on the real axis, or .. on the imaginary axis"
 abbrev pub amplitudeOf : ℕ → (ℕ → Pauli) → ℕ → Amplitude
-amplitudeOf n R y = cond (supported n R y) (turned (exponent (ratio n R y))) Nothing
+amplitudeOf n R y = cond (isSupported n R y) (turned (exponent (ratio n R y))) Nothing

@@ -1,5 +1,4 @@
 -- What a row does to a basis state: a power of i, and the x bits flipped.
--- Assumes nothing.
 use mathlib.Core.Bool.{Bool, false, true}
 use Prim.Native.Nat.{ℕ}
 use Rattle.pauli.specs.Pauli.{_+ᵖ_, Pauli, Phase, i¹, i², i³, i⁰, letterAt, sumPhase}

@@ -1,5 +1,4 @@
 -- Vectors of Gaussian integers, one for each word, and how a row acts on them: what the amplitudes are shown to be.
--- Assumes nothing.
 use mathlib.Core.Bool.{cond, true}
 use mathlib.Core.Logic.{_↔_}
 use mathlib.Core.Path.{_≡_}
@@ -13,7 +12,7 @@ use Rattle.stabilizer.specs.Groups.{InGroup}
 use Rattle.words.specs.Bits.{_⊕_, bit, wordOf}
 use Rattle.words.specs.Search.{IsFirst}
 use Rattle.amplitude.specs.Plotting.{floatOf, halves, nought, plotted}
-use Rattle.amplitude.specs.Ratios.{Leads, amplitudeOf, lowest, ratio, supported}
+use Rattle.amplitude.specs.Ratios.{Leads, amplitudeOf, lowest, ratio, isSupported}
 use Rattle.amplitude.specs.Turns.{turnsAt}
 use Rattle.amplitude.specs.declared.Amplitude.the-variants.{Nothing}
 
@@ -22,9 +21,11 @@ pub record Gaussian : Type 0 where
   pub re : ℤ
   pub im : ℤ
 
+-- 0
 abbrev pub none : Gaussian
 none = record { re = pos 0; im = pos 0 }
 
+-- 1
 abbrev pub one : Gaussian
 one = record { re = pos 1; im = pos 0 }
 
@@ -46,26 +47,26 @@ Stabilized n R v = (p : Pauli) → InGroup n n R p → (y : ℕ) → y < 2 ^ n
 
 -- the answers as a vector: 0, or a power of i
 abbrev pub amplitudes : ℕ → (ℕ → Pauli) → ℕ → Gaussian
-amplitudes n R y = cond (supported n R y) (turnBy (ratio n R y) one) none
+amplitudes n R y = cond (isSupported n R y) (turnBy (ratio n R y) one) none
 
 -- "the smallest word with a nonzero amplitude": there is one, and its ratio is 1
 pub record LowestLeast (n : ℕ) (R : ℕ → Pauli) : Type 0 where
-  pub least : IsFirst (2 ^ n) (supported n R) (lowest n R)
+  pub least : IsFirst (2 ^ n) (isSupported n R) (lowest n R)
   pub unit : amplitudes n R (lowest n R) ≡ one
 
 -- "A group element whose x part leads from that word to y fixes the ratio": there is one where y is supported, and
 -- all give the same
 pub record AnyElementFixes (n : ℕ) (R : ℕ → Pauli) : Type 0 where
-  pub some-leads : (y : ℕ) → supported n R y ≡ true
+  pub some-leads : (y : ℕ) → isSupported n R y ≡ true
       → (p : Pauli) × InGroup n n R p × Leads n p (bit (lowest n R)) (bit y)
-  pub all-agree : (y : ℕ) → supported n R y ≡ true → (p : Pauli) → InGroup n n R p
+  pub all-agree : (y : ℕ) → isSupported n R y ≡ true → (p : Pauli) → InGroup n n R p
       → Leads n p (bit (lowest n R)) (bit y) → turnsAt n p (bit (lowest n R)) ≡ ratio n R y
 
 -- whatever vector the group fixes is a multiple of the answers: 0 where the answer is nothing, elsewhere its value at
 -- the smallest word, turned by the ratio
 abbrev pub OnlyVector : ℕ → (ℕ → Pauli) → Type 0
 OnlyVector n R = (w : ℕ → Gaussian) → Stabilized n R w → (y : ℕ) → y < 2 ^ n
-    → w y ≡ cond (supported n R y) (turnBy (ratio n R y) (w (lowest n R))) none
+    → w y ≡ cond (isSupported n R y) (turnBy (ratio n R y) (w (lowest n R))) none
 
 -- "nothing, exactly where the amplitude is 0"; a plot line's real and imaginary parts are the vector's; "The probability is
 -- 0 for nothing, otherwise exactly 2^−r"
@@ -73,15 +74,8 @@ pub record PlotsVector (n : ℕ) (R : ℕ → Pauli) (y : ℕ) : Type 0 where
   pub nothing : (amplitudeOf n R y ≡ Nothing) ↔ (amplitudes n R y ≡ none)
   pub real : (rank : ℕ) → (plotted (amplitudeOf n R y) rank) .re ≡ floatOf ((amplitudes n R y) .re)
   pub imaginary : (rank : ℕ) → (plotted (amplitudeOf n R y) rank) .im ≡ floatOf ((amplitudes n R y) .im)
-  pub probability : (rank : ℕ) → (plotted (amplitudeOf n R y) rank) .p ≡ cond (supported n R y) (halves rank) nought
-
--- the answers depend on the group alone
-pub record OfGroup (n : ℕ) (R S : ℕ → Pauli) : Type 0 where
-  pub support : (y : ℕ) → supported n R y ≡ supported n S y
-  pub smallest : lowest n R ≡ lowest n S
-  pub vector : (y : ℕ) → amplitudes n R y ≡ amplitudes n S y
-  pub answer : (y : ℕ) → amplitudeOf n R y ≡ amplitudeOf n S y
+  pub probability : (rank : ℕ) → (plotted (amplitudeOf n R y) rank) .p ≡ cond (isSupported n R y) (halves rank) nought
 
 -- "exactly 2^−r with r the rank of the x words": as many words are supported, so that the probabilities add up to 1
 abbrev pub WordsCount : ℕ → (ℕ → Pauli) → Type 0
-WordsCount n R = count (2 ^ n) (supported n R) ≡ 2 ^ rank n n (xWords R)
+WordsCount n R = count (2 ^ n) (isSupported n R) ≡ 2 ^ rank n n (xWords R)

@@ -1,5 +1,4 @@
 -- Powers of one half as bit patterns, by one test over the exponents 0 to 64.
--- Assumes nothing.
 use mathlib.Core.Bool.{Bool, true, false, not, _&&_}
 use mathlib.Core.Path.{_≡_, refl, ap, ap₂, sym, subst}
 use native.Mathlib.Omega.{arith}

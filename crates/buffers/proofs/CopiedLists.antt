@@ -1,5 +1,4 @@
 -- A list copied into the first places of a buffer: the loop's invariant, and what the buffer comes to.
--- Assumes nothing.
 use mathlib.Core.List.{List, [], _∷_}
 use mathlib.Core.Path.{ap, refl, _∙_, _≡_}
 use Prim.Native.Nat.{_+_, _<_, suc, zero, zero-le, ℕ, _≤_}

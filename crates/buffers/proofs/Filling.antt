@@ -1,5 +1,4 @@
 -- A buffer filled place by place: the loop's invariant, and the table that it comes to.
--- Assumes nothing.
 use mathlib.Core.List.{List}
 use mathlib.Core.Path.{subst, sym, _∙_, _≡_}
 use Prim.Native.Nat.{_+_, _<_, ℕ, _≤_}

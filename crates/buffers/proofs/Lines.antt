@@ -1,5 +1,4 @@
 -- The first fitting line.
--- Assumes nothing.
 use mathlib.Core.Bool.{_&&_, Bool, and-false, cond, false, true, _||_}
 use mathlib.Core.List.{_++_, List, [], _∷_}
 use mathlib.Core.Path.{ap, refl, subst, sym, _∙_, _≡_}
@@ -8,14 +7,14 @@ use native.Mathlib.Nat.{lt-irrefl}
 use native.Mathlib.Omega.{arith}
 use lib.Dec.{eqb}
 use borrow.Author.Tests.{eq-eqb}
-use Rattle.buffers.specs.Refusals.{Line, firstFitting, line}
+use Rattle.buffers.specs.Refusals.{Refusal, firstFitting, line}
 
 -- a line that holds gives its number, one that does not is passed over
-pub fits : (k : ℕ) {b : Bool} (ls : List Line) → b ≡ true → firstFitting (line k b ∷ ls) ≡ k
+pub fits : (k : ℕ) {b : Bool} (ls : List Refusal) → b ≡ true → firstFitting (line k b ∷ ls) ≡ k
 unfolding firstFitting
 fits k ls e = ap (λ b. cond b k (firstFitting ls)) e
 
-pub passed : (k : ℕ) {b : Bool} (ls : List Line) → b ≡ false → firstFitting (line k b ∷ ls) ≡ firstFitting ls
+pub passed : (k : ℕ) {b : Bool} (ls : List Refusal) → b ≡ false → firstFitting (line k b ∷ ls) ≡ firstFitting ls
 unfolding firstFitting
 passed k ls e = ap (λ b. cond b k (firstFitting ls)) e
 
@@ -24,7 +23,7 @@ unfolding firstFitting
 none-fits = refl
 
 -- where a later number comes back, the lines before do not hold: a line whose number is not 0
-pub not-held : (k : ℕ) (b : Bool) (ls : List Line) → firstFitting (line (suc k) b ∷ ls) ≡ 0 →
+pub not-held : (k : ℕ) (b : Bool) (ls : List Refusal) → firstFitting (line (suc k) b ∷ ls) ≡ 0 →
     (b ≡ false) × (firstFitting ls ≡ 0)
 unfolding firstFitting
 not-held k true ls e = absurd (suc-not-zero e)
@@ -35,7 +34,7 @@ not-held k false ls e = (refl, e)
 
 -- ---- more lines after these
 -- a number that came back stays
-pub more-refused : (ls ms : List Line) → (firstFitting ls ≡ 0 → ⊥) → firstFitting (ls ++ ms) ≡ firstFitting ls
+pub more-refused : (ls ms : List Refusal) → (firstFitting ls ≡ 0 → ⊥) → firstFitting (ls ++ ms) ≡ firstFitting ls
 unfolding firstFitting
 more-refused [] ms h = absurd (h refl)
 more-refused (l ∷ ls) ms h = go (l .holds) h (more-refused ls ms)
@@ -47,12 +46,12 @@ more-refused (l ∷ ls) ms h = go (l .holds) h (more-refused ls ms)
     go false h rest = rest h
 
 -- the lines have numbers other than 0
-abbrev pub Numbered : List Line → Type 0
+abbrev pub Numbered : List Refusal → Type 0
 Numbered [] = Unit
 Numbered (l ∷ ls) = (0 < l .number) × Numbered ls
 
 -- where none of these holds, the later ones decide
-pub more-accepted : (ls ms : List Line) → Numbered ls → firstFitting ls ≡ 0 →
+pub more-accepted : (ls ms : List Refusal) → Numbered ls → firstFitting ls ≡ 0 →
     firstFitting (ls ++ ms) ≡ firstFitting ms
 unfolding firstFitting
 more-accepted [] ms n e = refl
@@ -65,7 +64,7 @@ more-accepted (l ∷ ls) ms n e = go (l .holds) e (more-accepted ls ms (n .1))
     go false e rest = rest e
 
 -- where none of all holds, none of the first and none of the later ones does
-pub none-of-all : (ls ms : List Line) → Numbered ls → firstFitting (ls ++ ms) ≡ 0 →
+pub none-of-all : (ls ms : List Refusal) → Numbered ls → firstFitting (ls ++ ms) ≡ 0 →
     (firstFitting ls ≡ 0) × (firstFitting ms ≡ 0)
 unfolding firstFitting
 none-of-all [] ms n e = (refl, e)
@@ -78,11 +77,11 @@ none-of-all (l ∷ ls) ms n e = go (l .holds) e (none-of-all ls ms (n .1))
     go false e rest = rest e
 
 -- ---- the number is one of the lines'
-abbrev pub AllBelow : ℕ → List Line → Type 0
+abbrev pub AllBelow : ℕ → List Refusal → Type 0
 AllBelow b [] = Unit
 AllBelow b (l ∷ ls) = (l .number < b) × AllBelow b ls
 
-pub first-below : (b : ℕ) (ls : List Line) → 0 < b → AllBelow b ls → firstFitting ls < b
+pub first-below : (b : ℕ) (ls : List Refusal) → 0 < b → AllBelow b ls → firstFitting ls < b
 unfolding firstFitting
 first-below b [] p h = p
 first-below b (l ∷ ls) p h = go (l .holds) (first-below b ls p (h .1))
@@ -93,11 +92,11 @@ first-below b (l ∷ ls) p h = go (l .holds) (first-below b ls p (h .1))
 
 -- ---- "a number comes back only where its line below is true"
 -- some line with this number is true
-abbrev pub trueOf : ℕ → List Line → Bool
+abbrev pub trueOf : ℕ → List Refusal → Bool
 trueOf k [] = false
 trueOf k (l ∷ ls) = (eqb (l .number) k && l .holds) || trueOf k ls
 
-pub only-where-true : (ls : List Line) (k : ℕ) → 0 < k → firstFitting ls ≡ k → trueOf k ls ≡ true
+pub only-where-true : (ls : List Refusal) (k : ℕ) → 0 < k → firstFitting ls ≡ k → trueOf k ls ≡ true
 unfolding firstFitting
 only-where-true [] k h e = absurd (lt-irrefl 0 (subst (λ m. 0 < m) (sym e) h))
 only-where-true (l ∷ ls) k h e = go (l .holds) e (only-where-true ls k h)

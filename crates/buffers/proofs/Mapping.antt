@@ -1,5 +1,4 @@
 -- Loops that write one place of an array after another.
--- Assumes nothing.
 use mathlib.Core.List.{List}
 use mathlib.Core.Logic.{inl, inr}
 use mathlib.Core.Path.{refl, subst, sym, _∙_, _≡_}

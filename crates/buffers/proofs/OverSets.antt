@@ -1,5 +1,4 @@
 -- A loop over the places that a word names, smallest first: each is changed once, and the others stay.
--- Assumes nothing.
 use mathlib.Core.Bool.{false, true, true≢false}
 use mathlib.Core.List.{List}
 use mathlib.Core.Logic.{inl, inr, _≢_}

@@ -1,5 +1,4 @@
 -- Whether some number of a buffer is b or above, by a loop over its places.
--- Assumes nothing.
 use mathlib.Core.Bool.{Bool, _||_, false, true}
 use mathlib.Core.List.{List}
 use mathlib.Core.Path.{ap, _≡_, refl, subst, sym, _∙_}

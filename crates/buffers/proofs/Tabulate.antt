@@ -1,5 +1,4 @@
 -- Tabulated buffers: their length, their places, and when a buffer is a table.
--- Assumes nothing.
 use mathlib.Core.List.{List}
 use mathlib.Core.Path.{ap, refl, subst, sym, _∙_, _≡_}
 use Prim.Native.Nat.{_<_, suc, zero, ℕ}

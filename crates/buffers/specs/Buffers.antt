@@ -1,5 +1,4 @@
 -- Lent buffers as lists of numbers.
--- Assumes nothing.
 use mathlib.Core.Bool.{cond}
 use mathlib.Core.List.{_++_, List, [], _∷_}
 use Prim.Native.Nat.{suc, zero, ℕ}

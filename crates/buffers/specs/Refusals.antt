@@ -1,5 +1,4 @@
 -- Refusals: the lines of a call in checking order, and the number of the first that holds.
--- Assumes nothing.
 use mathlib.Core.Bool.{Bool, cond, not, _||_}
 use mathlib.Core.List.{List, [], _∷_}
 use Prim.Native.Nat.{ℕ}
@@ -8,15 +7,16 @@ use lib.ListN.{getD, length}
 use Rattle.words.specs.Search.{some}
 
 -- a line of the published list: its number, and whether it is true of the arguments
-pub record Line : Type 0 where
+pub record Refusal : Type 0 where
   pub number : ℕ
   pub holds : Bool
 
-abbrev pub line : ℕ → Bool → Line
+-- a line with its number and its test
+abbrev pub line : ℕ → Bool → Refusal
 line k b = record { number = k; holds = b }
 
 -- "the first in checking order"; 0 where none holds
-unfoldable pub firstFitting : List Line → ℕ
+unfoldable pub firstFitting : List Refusal → ℕ
 firstFitting [] = 0
 firstFitting (l ∷ ls) = cond (l .holds) (l .number) (firstFitting ls)
 

@@ -1,9 +1,8 @@
 -- The call on two lists, from what the functions below it answer.
--- Assumes nothing.
 use mathlib.Core.Bool.{Bool, false, not, true, _||_}
 use mathlib.Core.List.{List}
 use mathlib.Core.Path.{ap, ap₂, refl, subst, sym, _∙_, _≡_}
-use Prim.Native.Nat.{_<_, ℕ, _≤_}
+use Prim.Native.Nat.{ℕ, _≤_}
 use lib.Dec.{eqb}
 use lib.ListN.{length}
 use borrow.Author.Tests.{eqb-true, not-false}
@@ -23,7 +22,7 @@ use Rattle.words.proofs.Flags.{neither}
 use Rattle.call_compare.proofs.PairLines.{earlier-none, pair-number, pair-numbered}
 use Rattle.comparison_answer.proofs.ReducedPairs.{reduced-accepted}
 use Rattle.call_lists.specs.Calls.{reduceCall}
-use Rattle.comparison_answer.specs.ComparedPairs.{HoldsReduced, PairAnswered, earlierOf}
+use Rattle.comparison_answer.specs.internal.ComparedPairs.{HoldsReduced, PairAnswered, earlierOf}
 use Rattle.call_compare.specs.Comparisons.{compareCall}
 
 -- ---- two lists on n qubits, and the reductions of both

@@ -1,5 +1,4 @@
 -- The number of two lists together is the earlier of their numbers.
--- Assumes nothing.
 use mathlib.Core.Bool.{Bool, cond, false, not, _||_}
 use mathlib.Core.List.{List, [], _∷_}
 use mathlib.Core.Logic.{inl, inr, _⊎_}
@@ -10,7 +9,7 @@ use lib.Dec.{eqb, eqb→eq, lit<, ltb}
 use lib.ListN.{length}
 use borrow.Author.Tests.{eq-eqb, le-ltb, lt-ltb, ne-eqb}
 use Rattle.buffers.proofs.Lines.{Numbered, passed}
-use Rattle.buffers.specs.Refusals.{Line, badCount, firstFitting, line}
+use Rattle.buffers.specs.Refusals.{Refusal, badCount, firstFitting, line}
 use Rattle.comparison.specs.Compared.{pairLines}
 use Rattle.stabilizer.proofs.SharedTests.{count-passes, length-passes}
 use Rattle.stabilizer.specs.Lists.{
@@ -25,11 +24,11 @@ use Rattle.stabilizer.specs.Lists.{
 }
 use Rattle.words.proofs.Finite.{Law, Of, law}
 use Rattle.words.proofs.Sums.{lt-or-ge}
-use Rattle.comparison_answer.specs.ComparedPairs.{earlierOf}
+use Rattle.comparison_answer.specs.internal.ComparedPairs.{earlierOf}
 
 -- lines 4 to 10 of each list, and those of the pair
 module _ (a₄ a₅ a₆ a₉ a₁₀ : Bool) where
-  abbrev laterLines : List Line
+  abbrev laterLines : List Refusal
   laterLines = line 4 (a₄ || false) ∷ line 5 a₅ ∷ line 6 a₆ ∷ line 9 a₉ ∷ line 10 a₁₀ ∷ []
 
 abbrev laterOf : Of 10 ℕ

@@ -6,7 +6,7 @@ use words::has;
 ghost use Rattle.contracts.specs.Calls.{Call};
 ghost use Rattle.operations.specs.Steps.{complementOf, pivotOf};
 ghost use Rattle.call_gates.specs.InPlaceCalls.{inPlaceCall};
-ghost use Rattle.call_gates.specs.Knowing.{Known};
+ghost use Rattle.call_gates.specs.internal.Knowing.{Known};
 
 // Local complementation at a vertex; the record is not reduced.
 pub fn complement_known(n: u64, neighbours: &mut [u64], codes: &mut [u8], a: u64, known: bool) -> u8

@@ -1,5 +1,4 @@
 -- The calls on a record lent in place, from what the functions below them answer.
--- Assumes nothing.
 use mathlib.Core.List.{List}
 use mathlib.Core.Path.{ap, sym, _∙_, _≡_}
 use Prim.Native.Nat.{ℕ}
@@ -7,9 +6,9 @@ use lib.ListN.{length}
 use Rattle.buffers.specs.Buffers.{accepted}
 use Rattle.buffers.specs.Refusals.{firstFitting}
 use Rattle.contracts.proofs.Calling.{done}
-use Rattle.contracts.specs.Answers.{Written}
+use Rattle.contracts.specs.Answers.{HoldsAnswer}
 use Rattle.contracts.specs.Calls.{Call, EachOf}
-use Rattle.operations.specs.InPlace.{MeasuredInPlace}
+use Rattle.operations.specs.internal.InPlace.{MeasuredInPlace}
 use Rattle.operations.specs.Measurement.{determinedNumber, outcomeNumber}
 use Rattle.operations.specs.Steps.{
   Operation,
@@ -52,7 +51,7 @@ module _ (l : LentRecord) (o : Operation) {k : ℕ} (e : k ≡ firstFitting (lin
   -- the operations on two buffers take n from their lengths
   module _ {nb′ cs′ : List ℕ} (en : nb′ ≡ neighbourWords (length (l .neighbours)) (At (length (l .neighbours))))
       (ec : cs′ ≡ codeNumbers (length (l .neighbours)) (At (length (l .neighbours)))) where
-    pub both-written : EachOf Written (recordLent l o nb′ cs′)
+    pub both-written : EachOf HoldsAnswer (recordLent l o nb′ cs′)
     both-written = (en ∙ ap (λ m. neighbourWords m (At m)) long, (ec ∙ ap (λ m. codeNumbers m (At m)) long, tt))
 
     pub in-place-done : Call (inPlaceCall l o nb′ cs′) 0

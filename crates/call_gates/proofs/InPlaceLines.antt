@@ -1,5 +1,4 @@
 -- The lines of the calls on a record lent in place: what it means that none of them holds, and a pivot's pair.
--- Assumes nothing.
 use mathlib.Core.Bool.{Bool, false, not, true, true≢false, _||_}
 use mathlib.Core.List.{List, [], _∷_}
 use mathlib.Core.Logic.{_≢_}
@@ -10,8 +9,8 @@ use lib.Dec.{eqb, leb}
 use lib.ListN.{length}
 use borrow.Author.Tests.{eqb-false, leb-false}
 use Rattle.buffers.proofs.Lines.{fits, more-accepted, more-refused, none-fits, none-of-all, not-held, passed}
-use Rattle.buffers.specs.Refusals.{Line, firstFitting, line}
-use Rattle.operations.specs.InPlace.{Unrefused, recordIn}
+use Rattle.buffers.specs.Refusals.{Refusal, firstFitting, line}
+use Rattle.operations.specs.internal.InPlace.{Unrefused, recordIn}
 use Rattle.operations.specs.Steps.{argumentLines, complementLines, czLines, gateLines, inPlaceLines, pivotLines}
 use Rattle.record.proofs.AcceptedRecords.{accepted-record}
 use Rattle.record.proofs.RecordLines.{record-numbered}
@@ -26,7 +25,7 @@ more-eight l six true eight′ k e h more = e ∙ ap (λ b. firstFitting (inPlac
 more-eight l six false eight′ k e h more =
     e ∙ more-refused ls (line 8 false ∷ []) refused ∙ sym (more-refused ls (line 8 eight′ ∷ []) refused)
   where
-    ls : List Line
+    ls : List Refusal
     ls = recordLines l false six
 
     refused : firstFitting ls ≡ 0 → ⊥
@@ -105,7 +104,7 @@ module _ (l : LentRecord) where
   complement-ready a e = (held-unrefused l _ _ e, has-qubit l _ _ e a (eight-passes l _ _ e))
 
   -- a pivot's pair, before its edge is looked for
-  abbrev pub pairLines : ℕ → ℕ → List Line
+  abbrev pub pairLines : ℕ → ℕ → List Refusal
   pairLines j k = inPlaceLines l false (leb (l .n) j || (leb (l .n) k || eqb j k))
 
   pub pair-ready : (j k : ℕ) → firstFitting (pairLines j k) ≡ 0 →

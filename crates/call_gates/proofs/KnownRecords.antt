@@ -1,16 +1,14 @@
 -- A record that no line refuses: what a further argument makes of it.
--- Assumes nothing.
 use mathlib.Core.Bool.{Bool, cond, false, or-true, true}
-use mathlib.Core.List.{List, [], _∷_}
-use mathlib.Core.Path.{ap, refl, subst, sym, _∙_, _≡_}
+use mathlib.Core.Path.{refl, subst, sym, _∙_, _≡_}
 use Prim.Native.Nat.{ℕ}
 use lib.Dec.{eqb}
 use borrow.Author.Tests.{eqb-true}
 use Rattle.buffers.proofs.Lines.{fits, not-held, passed}
 use Rattle.buffers.specs.Refusals.{firstFitting}
-use Rattle.operations.specs.InPlace.{Unrefused}
+use Rattle.operations.specs.internal.InPlace.{Unrefused}
 use Rattle.record.specs.Lent.{LentRecord, recordCodes, recordLines}
-use Rattle.call_gates.specs.Knowing.{Known}
+use Rattle.call_gates.specs.internal.Knowing.{Known}
 
 pub known-true : (l : LentRecord) {known : Bool} → Known known l → known ≡ true → Unrefused l
 known-true l {known} K e = subst (λ b. Known b l) e K

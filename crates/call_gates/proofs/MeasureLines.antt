@@ -1,5 +1,4 @@
 -- The lines of a measurement: those of its arguments, and then 14.
--- Assumes nothing.
 use mathlib.Core.Bool.{Bool, false, true}
 use mathlib.Core.Logic.{_↔_}
 use mathlib.Core.Path.{ap, refl, sym, _∙_, _≡_}
@@ -8,7 +7,7 @@ use lib.ListN.{length}
 use Rattle.buffers.specs.Refusals.{firstFitting}
 use Rattle.contracts.proofs.Fitting.{decides, fits-at, is-first, none-fits-of, none-holds, skips}
 use Rattle.contracts.specs.Answers.{here}
-use Rattle.operations.specs.InPlace.{recordIn}
+use Rattle.operations.specs.internal.InPlace.{recordIn}
 use Rattle.operations.specs.Measurement.{contradicts, pauliLetter}
 use Rattle.operations.specs.Steps.{argumentLines, measureLines}
 use Rattle.record.specs.Accepted.{AcceptedRecord}

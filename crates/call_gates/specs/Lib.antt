@@ -1,2 +1,2 @@
 pub mod InPlaceCalls
-pub mod Knowing
+pub mod internal

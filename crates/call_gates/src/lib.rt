@@ -9,7 +9,7 @@ ghost use Rattle.buffers.specs.Refusals.{firstFitting};
 ghost use Rattle.operations.specs.Steps.{czOn, gateWith, inPlaceLines};
 ghost use Rattle.record.specs.Lent.{recordLines};
 ghost use Rattle.call_gates.specs.InPlaceCalls.{inPlaceCall};
-ghost use Rattle.call_gates.specs.Knowing.{Known};
+ghost use Rattle.call_gates.specs.internal.Knowing.{Known};
 
 // 6 where line 6 holds of a further argument.
 fn six_number(six: bool) -> u8

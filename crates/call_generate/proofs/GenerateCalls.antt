@@ -1,8 +1,6 @@
 -- The generator's call, from what the functions below it answer.
--- Assumes nothing.
-use mathlib.Core.Bool.{false, true}
 use mathlib.Core.List.{List, _++_}
-use mathlib.Core.Path.{ap, refl, sym, _∙_, _≡_}
+use mathlib.Core.Path.{ap, refl, _∙_, _≡_}
 use Prim.Native.Nat.{_<_, ℕ, _≤_}
 use native.Mathlib.Nat.{zero-add}
 use lib.ListN.{drop, length}
@@ -15,7 +13,7 @@ use Rattle.generator.specs.Drawn.{generatedText}
 use Rattle.generator.specs.Lines.{generateLines, room}
 use Rattle.stabilizer.proofs.SharedTests.{counted, has-length}
 use Rattle.text.specs.Text as print
-use Rattle.call_generate.specs.Generated.{generateCall}
+use Rattle.call_generate.specs.Generation.{generateCall}
 
 -- what it means that the call is accepted
 pub accepted-job : (n count seed : ℕ) (text : List ℕ) → firstFitting (generateLines n count seed text) ≡ 0
@@ -28,7 +26,7 @@ accepted-job n count seed text e =
 pub generate-accepted : (n count seed : ℕ) (text : List ℕ) {size k : ℕ} → k ≡ firstFitting (generateLines n count seed text)
     → k ≡ 0 → (text′ : List ℕ) (r : ℕ) → print.Printed (generatedText n count seed) 0 text text′ r
     → Call (generateCall n count seed text size text′ r) 0
-unfolding print.written
+unfolding print.overwritten
 generate-accepted n count seed text e z text′ r p =
     let t = generatedText n count seed in
     done _ e z (p .out ∙ ap (λ j. t ++ drop j text) (zero-add (length t)), (p .end ∙ zero-add (length t), tt))

@@ -1,1 +1,1 @@
-pub mod Generated
+pub mod Generation

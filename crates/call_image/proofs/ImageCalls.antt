@@ -1,5 +1,4 @@
 -- The call on the image of a graph, from what the functions below it answer.
--- Assumes nothing.
 use mathlib.Core.Bool.{Bool, false, _||_}
 use mathlib.Core.List.{_++_, List}
 use mathlib.Core.Path.{ap, refl, subst, sym, _∙_, _≡_}
@@ -13,7 +12,7 @@ use Rattle.buffers.specs.Refusals.{firstFitting, otherThan}
 use Rattle.contracts.proofs.Calling.{done, refused}
 use Rattle.contracts.proofs.Fitting.{stays}
 use Rattle.contracts.specs.Calls.{Call}
-use Rattle.image_answer.specs.Answer.{IsImage}
+use Rattle.image_answer.specs.internal.Answer.{IsImage}
 use Rattle.image.specs.Image.{imageLines, loopLines}
 use Rattle.image_answer.specs.declared.ImageAnswer.{ImageAnswer}
 use Rattle.record.proofs.AcceptedRecords.{accepted-record}

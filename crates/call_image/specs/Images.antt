@@ -1,11 +1,10 @@
 -- What the call on the image of a graph promises, for all arguments. A name with a prime is what the buffer, or the
 -- lent number, holds at exit.
--- Assumes nothing.
 use mathlib.Core.List.{List, [], _∷_}
 use Prim.Native.Nat.{ℕ}
 use lib.ListN.{length}
 use Rattle.buffers.specs.Buffers.{tabulate, written}
-use Rattle.contracts.specs.Calls.{Contract, buffer, contract, number}
+use Rattle.contracts.specs.Calls.{Contract, buffer, contractOf, number}
 use Rattle.image.specs.Image.{imageLines, imageMinus, imageRecord}
 use Rattle.image.specs.Rule.{imageList}
 use Rattle.record.specs.Lent.{LentRecord, heldRecord, neighbourWords}
@@ -15,7 +14,7 @@ use Rattle.words.specs.Bits.{digit}
 -- complementations done; the list's lent bytes past it keep their values"
 abbrev pub imageCall : LentRecord → List ℕ → List ℕ → List ℕ → ℕ → List ℕ → List ℕ → List ℕ → ℕ → Contract
 imageCall l image signs list count image′ signs′ list′ count′ =
-    contract (imageLines l image signs list)
+    contractOf (imageLines l image signs list)
     (buffer image (neighbourWords (l .n) (imageRecord (l .n) (heldRecord l))) image′
     ∷ buffer signs (tabulate (l .n) (λ j. digit (imageMinus (l .n) (heldRecord l) j))) signs′
     ∷ buffer list (written (imageList (l .n) (heldRecord l)) list) list′

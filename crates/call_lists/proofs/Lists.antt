@@ -1,5 +1,4 @@
 -- The calls on generator lists, from what the functions below them answer.
--- Assumes nothing.
 use mathlib.Core.Bool.{Bool, cond, false, not, true, _||_}
 use mathlib.Core.List.{List}
 use mathlib.Core.Path.{ap, refl, sym, _∙_, _≡_}
@@ -15,7 +14,7 @@ use Rattle.contracts.specs.Calls.{Call}
 use Rattle.record.specs.Lent.{codeNumbers, neighbourWords}
 use Rattle.record.specs.Reduced.{reduced}
 use Rattle.reduction.proofs.Loading.{early-reducible}
-use Rattle.reduction.specs.Reducible.{Reducible}
+use Rattle.reduction.specs.internal.Reducible.{Reducible}
 use Rattle.stabilizer.proofs.Accepted.{early-accepted, early-form}
 use Rattle.stabilizer.proofs.SharedTests.{has-length}
 use Rattle.stabilizer.specs.Lists.{GeneratorList, dependent, earlyLines, listLengths, listLines, rows}

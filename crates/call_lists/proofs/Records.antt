@@ -1,5 +1,4 @@
 -- The call on a record that writes a list, from what the functions below it answer.
--- Assumes nothing.
 use mathlib.Core.Bool.{Bool, false, _||_}
 use mathlib.Core.List.{List}
 use mathlib.Core.Path.{ap, refl, sym, _∙_, _≡_}

@@ -9,7 +9,7 @@ ghost use Rattle.contracts.specs.Calls.{Call};
 ghost use Rattle.buffers.specs.Refusals.{firstFitting};
 ghost use Rattle.operations.specs.Steps.{measureLines};
 ghost use Rattle.call_gates.specs.InPlaceCalls.{measureCall};
-ghost use Rattle.call_gates.specs.Knowing.{Known};
+ghost use Rattle.call_gates.specs.internal.Knowing.{Known};
 
 // The number of the first line of a measurement that holds: those of its arguments, and 14 where a determined outcome
 // contradicts the supplied bit.

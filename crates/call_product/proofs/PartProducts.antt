@@ -1,5 +1,4 @@
 -- The product of chosen rows by a loop over them: each row is read, and multiplied in where the word chooses it.
--- Assumes nothing.
 use mathlib.Core.Bool.{false, true}
 use mathlib.Core.Path.{ap, refl, subst, sym, _∙_, _≡_}
 use Prim.Native.Nat.{_*_, _+_, _<_, ℕ, _≤_}
@@ -8,7 +7,7 @@ use lib.ListN.{getD, length}
 use Rattle.buffers.specs.Refusals.{firstFitting}
 use Rattle.pauli.proofs.PauliLaws.{Pauli-path}
 use Rattle.pauli.specs.Pauli.{identity, minus, mul, power, row, signedRow}
-use Rattle.pauli.specs.Rows.{pauliOf}
+use Rattle.pauli.specs.internal.Rows.{pauliOf}
 use Rattle.pauli.specs.declared.Row.{Row}
 use Rattle.words.proofs.BitLaws.{two-cases, zero-bit}
 use Rattle.words.specs.Bits.{bit, isOdd}

@@ -1,5 +1,4 @@
 -- The call on a product, from what the functions below it answer.
--- Assumes nothing.
 use mathlib.Core.Bool.{false}
 use mathlib.Core.Path.{ap, sym, _∙_, _≡_}
 use Prim.Native.Nat.{_<_, ℕ, _≤_}
@@ -7,7 +6,7 @@ use Rattle.buffers.specs.Refusals.{firstFitting}
 use Rattle.contracts.specs.Calls.{Call}
 use Rattle.pauli.proofs.WordRows.{exponent-power}
 use Rattle.pauli.specs.Pauli.{exponent}
-use Rattle.pauli.specs.Rows.{pauliOf}
+use Rattle.pauli.specs.internal.Rows.{pauliOf}
 use Rattle.pauli.specs.declared.Row.{Row}
 use Rattle.words.proofs.BitLaws.{bit-ext∞}
 use Rattle.words.specs.Bits.{Word, bit, wordOf}

@@ -9,7 +9,7 @@ ghost use lib.ListN.{getD, length};
 ghost use Rattle.contracts.specs.Calls.{Call};
 ghost use Rattle.buffers.specs.Refusals.{firstFitting};
 ghost use Rattle.pauli.specs.Pauli.{signedRow};
-ghost use Rattle.pauli.specs.Rows.{pauliOf};
+ghost use Rattle.pauli.specs.internal.Rows.{pauliOf};
 ghost use Rattle.call_product.specs.Products.{chosenProduct, productCall, productLines};
 ghost use Rattle.words.specs.Bits.{isOdd};
 

@@ -1,5 +1,4 @@
 -- The call that reads, from what the functions below it answer. Lines 5 and 6 hold of no list that is read.
--- Assumes nothing.
 use mathlib.Core.Bool.{false, _||_}
 use mathlib.Core.List.{_++_, List}
 use mathlib.Core.Path.{ap, ap₂, refl, subst, sym, _∙_, _≡_}

@@ -1,5 +1,4 @@
 -- The call that writes, from what the functions below it answer.
--- Assumes nothing.
 use mathlib.Core.Bool.{false, or-true, true, _||_}
 use mathlib.Core.List.{List}
 use mathlib.Core.Path.{ap, refl, sym, _∙_, _≡_}

@@ -1,6 +1,5 @@
 -- What the calls on texts of Pauli strings promise, for all arguments. A name with a prime is what the buffer holds at
 -- exit.
--- Assumes nothing.
 use mathlib.Core.List.{List, [], _∷_}
 use Prim.Native.Nat.{ℕ}
 use Rattle.contracts.specs.Calls.{Contract, buffer, contract}

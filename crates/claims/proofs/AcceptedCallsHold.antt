@@ -1,5 +1,4 @@
 -- Each call is accepted exactly if its arguments fit, from the contracts.
--- Assumes nothing.
 use mathlib.Core.Bool.{Bool, false, _||_}
 use mathlib.Core.List.{List}
 use mathlib.Core.Logic.{Iff·trans, inl, inr, _↔_}
@@ -11,7 +10,7 @@ use Rattle.buffers.proofs.Lines.{none-of-all, not-held}
 use Rattle.buffers.specs.Refusals.{firstFitting, otherThan}
 use Rattle.call_compare.proofs.PairLines.{pair-numbered}
 use Rattle.call_compare.specs.Comparisons.{compareCall}
-use Rattle.comparison.specs.Compared.{largePart, pairLines}
+use Rattle.comparison.specs.Compared.{hasLargePart, pairLines}
 use Rattle.contracts.proofs.Fitting.{none-fits-of, none-holds}
 use Rattle.contracts.specs.Calls.{Call, Contract}
 use Rattle.call_cut.proofs.CutLines.{accepted-cut, side-good}
@@ -93,7 +92,7 @@ module _ (l m : GeneratorList) (choice list : List ℕ) (count : ℕ) (choice′
   compare-exactly = (
     (λ z. let p = none-of-all (pairLines l m choice list) _ (pair-numbered l m choice list) (sym (C .number) ∙ z) in
         let A = accepted-pair l m choice list (p .0) in
-        let small = neither (largePart l) (largePart m) (not-held 2 _ _ (p .1) .0) in
+        let small = neither (hasLargePart l) (hasLargePart m) (not-held 2 _ _ (p .1) .0) in
         let S = small-parts l (small .0) in
         let T = small-parts m (small .1) in
         let back = third-demand l m choice list count r choice′ list′ count′ C (p .0) S T .otherwise

@@ -1,6 +1,5 @@
 -- Two lists that are accepted one by one, on one number of qubits, and buffers of the right lengths: then none of
 -- lines 2 to 10 holds of the pair, and only then.
--- Assumes nothing.
 use mathlib.Core.Bool.{false}
 use mathlib.Core.List.{List}
 use mathlib.Core.Path.{ap₂, refl, subst, sym, _∙_, _≡_}
@@ -9,7 +8,7 @@ use Rattle.buffers.specs.Refusals.{badCount, firstFitting}
 use Rattle.call_compare.proofs.Comparing.{counts-agree}
 use Rattle.call_compare.proofs.PairLines.{pair-number}
 use Rattle.comparison.specs.Compared.{pairLines}
-use Rattle.comparison_answer.specs.ComparedPairs.{earlierOf}
+use Rattle.comparison_answer.specs.internal.ComparedPairs.{earlierOf}
 use Rattle.contracts.proofs.Fitting.{none-fits-of, none-holds}
 use Rattle.call_lists.specs.Calls.{checkLines}
 use Rattle.stabilizer.proofs.Accepted.{accepted-list}

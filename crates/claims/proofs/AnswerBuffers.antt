@@ -1,12 +1,11 @@
 -- What a buffer lent only for the answer holds makes no line true: the lines read its length alone.
--- Assumes nothing.
 use mathlib.Core.Bool.{Bool, false, not, _||_}
 use mathlib.Core.List.{_++_, List, [], _∷_}
 use mathlib.Core.Path.{ap, ap₂, _∙_, _≡_}
 use Prim.Native.Nat.{ℕ}
 use lib.Dec.{eqb, ltb}
-use Rattle.buffers.specs.Refusals.{Line, badCount, firstFitting, line}
-use Rattle.comparison.specs.Compared.{largePart, pairCount}
+use Rattle.buffers.specs.Refusals.{Refusal, badCount, firstFitting, line}
+use Rattle.comparison.specs.Compared.{hasLargePart, pairCount}
 use Rattle.comparison.specs.Choices.{noChoice}
 use Rattle.generator.specs.Lines.{room}
 use Rattle.image.specs.Image.{loopLines}
@@ -42,7 +41,7 @@ answer-buffers-unread =
     }
   where
     -- those of the generator, by whether its buffer has a wrong length
-    jobLinesOf : ℕ → ℕ → ℕ → Bool → List Line
+    jobLinesOf : ℕ → ℕ → ℕ → Bool → List Refusal
     jobLinesOf n count seed other =
         line 15 (ltb 4096 count) ∷ line 2 (badCount n) ∷ line 4 other ∷ line 6 (eqb seed 0) ∷ []
 
@@ -52,13 +51,13 @@ answer-buffers-unread =
         line 1 (not (stringForm t)) ∷ line 2 (badCount (lineCount t)) ∷ line 4 other ∷ judgedLines (stringList t)
 
     -- those of a comparison, by whether an answer buffer has a wrong length
-    linesOf : GeneratorList → GeneratorList → Bool → List Line
+    linesOf : GeneratorList → GeneratorList → Bool → List Refusal
     linesOf l m others =
         line 2 (pairCount l m) ∷ line 4 (listLengths l || (listLengths m || others))
         ∷ line 5 (listStray l || listStray m) ∷ line 6 (listSigns l || listSigns m)
         ∷ line 9 (clashing (l .n) (rows l) || clashing (m .n) (rows m))
         ∷ line 10 (dependent (l .n) (rows l) || dependent (m .n) (rows m))
-        ∷ line 3 (largePart l || largePart m) ∷ line 13 (noChoice (l .n) (rows l) (rows m)) ∷ []
+        ∷ line 3 (hasLargePart l || hasLargePart m) ∷ line 13 (noChoice (l .n) (rows l) (rows m)) ∷ []
 
     of-three : (n : ℕ) (lines : Bool → List Line) (k : ℕ) {a a₂ b b₂ c c₂ : ℕ} → a ≡ a₂ → b ≡ b₂ → c ≡ c₂ →
         firstFitting (lines (not (eqb a n) || (not (eqb b n) || not (eqb c k))))

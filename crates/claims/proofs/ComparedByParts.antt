@@ -1,8 +1,6 @@
 -- The comparison by parts, of the call: equal parts where it is accepted, and each part's choice where the parts agree.
--- Assumes nothing.
 use mathlib.Core.Logic.{_↔_}
 use mathlib.Core.Path.{_≡_, refl}
-use Prim.Native.Nat.{ℕ}
 use Rattle.claims.proofs.AcceptedCallsHold.{accepted-exactly}
 use Rattle.claims.proofs.AcceptedPairs.{accepted-pair}
 use Rattle.claims.proofs.LinesExactly.{list-exactly}

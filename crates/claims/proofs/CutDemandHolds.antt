@@ -1,5 +1,4 @@
 -- The demands of cuts, from what the calls do to the group.
--- Assumes nothing.
 use mathlib.Core.Bool.{false}
 use mathlib.Core.List.{List}
 use mathlib.Core.Logic.{_≢_}
@@ -31,7 +30,7 @@ use Rattle.claims.specs.CutDemand.{
   PivotsKeepRanks,
   rankAcross,
 }
-use Rattle.claims.specs.OperationsDemand.{Entangled, Gated, RewrittenAs, StillRecord, left}
+use Rattle.claims.specs.OperationsDemand.{CzStands, GateStands, RewrittenAs, StillRecord, left}
 
 pub cuts-answer : CutsAnswer
 cuts-answer l side rank rank′ C =
@@ -59,7 +58,7 @@ gates-keep-ranks l q k nb′ cs′ C side =
     (held-accepted l _ _ (sym (C .number)) .simple) (left-simple l nb′ cs′ (G .still)) (only q (cliffordOf k))
     (G .group))
   where
-    G : Gated l q k (left l nb′ cs′)
+    G : GateStands l q k (left l nb′ cs′)
     G = gates-follow l q k nb′ cs′ C
 
 pub cz-keeps-ranks : CzKeepsRanks
@@ -67,7 +66,7 @@ cz-keeps-ranks l a b nb′ cs′ C side inside =
     sym (entangled-cut (l .n) side a b (below (ready .0)) (below (ready .1)) inside (heldRecord l)
     (heldRecord (left l nb′ cs′)) (A .simple) (left-simple l nb′ cs′ (G .still)) (G .group))
   where
-    G : Entangled l a b (left l nb′ cs′)
+    G : CzStands l a b (left l nb′ cs′)
     G = cz-follows l a b nb′ cs′ C
 
     A : AcceptedRecord l

@@ -1,5 +1,4 @@
 -- CZ on two qubits of one side of a cut: it undoes itself, keeps the rows that avoid a side, and so the rank across.
--- Assumes nothing.
 use mathlib.Core.Bool.{_&&_, Bool, and-false, false, true}
 use mathlib.Core.Logic.{_↔_}
 use mathlib.Core.Path.{ap, ap₂, refl, sym, _∙_, _≡_}
@@ -16,7 +15,7 @@ use Rattle.pauli.proofs.PhaseLaws.{+ᵖ-assoc, +ᵖ-zero, phases}
 use Rattle.pauli.specs.Pauli.{_+ᵖ_, Pauli, Phase, i⁰, minus}
 use Rattle.record.specs.Records.{GraphRecord, rowsOf}
 use Rattle.stabilizer.specs.Groups.{InGroup}
-use Rattle.words.proofs.Finite.{bits, ⊕-twice}
+use Rattle.words.proofs.Finite.{⊕-twice}
 use Rattle.words.proofs.Places.{other-place, place-comm, same-place}
 use Rattle.words.specs.Bits.{Word, _⊕_}
 

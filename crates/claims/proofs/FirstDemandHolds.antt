@@ -1,5 +1,4 @@
 -- Demand 1: the lines of each call stand in the published order, and its answers fill the buffers.
--- Assumes nothing.
 use mathlib.Core.Bool.{Bool, false, _||_}
 use mathlib.Core.List.{List}
 use mathlib.Core.Path.{refl, subst, sym, _∙_, _≡_}
@@ -13,13 +12,13 @@ use Rattle.buffers.specs.Buffers.{tabulate, written}
 use Rattle.buffers.specs.Refusals.{otherThan}
 use Rattle.call_compare.proofs.PairLines.{pair-numbered}
 use Rattle.call_compare.specs.Comparisons.{compareCall}
-use Rattle.comparison.specs.Compared.{largePart, pairLines}
+use Rattle.comparison.specs.Compared.{hasLargePart, pairLines}
 use Rattle.comparison_answer.specs.ComparedPairs.{compareList}
 use Rattle.contracts.proofs.Calling.{done, every-call-answers, refused}
 use Rattle.contracts.proofs.Fitting.{first-is, none-holds}
 use Rattle.contracts.specs.Calls.{Call}
 use Rattle.call_generate.proofs.GenerateCalls.{accepted-job}
-use Rattle.call_generate.specs.Generated.{generateCall}
+use Rattle.call_generate.specs.Generation.{generateCall}
 use Rattle.generator.proofs.Lengths.{length-text}
 use Rattle.generator.specs.Drawn.{generatedText}
 use Rattle.image.proofs.TrackedBits.{image-length}
@@ -89,7 +88,7 @@ compare-conforms l m choice list count choice′ list′ count′ =
       order = refl;
       complete = λ z. let all = none-of-all (pairLines l m choice list) _ (pair-numbered l m choice list) z in
           let A = accepted-pair l m choice list (all .0) in
-          let small = neither (largePart l) (largePart m) (not-held 2 _ _ (all .1) .0) in
+          let small = neither (hasLargePart l) (hasLargePart m) (not-held 2 _ _ (all .1) .0) in
           let back = third-demand l m choice list count 0 _ _ _
           (record { number = sym z; held = (refl, (refl, (refl, tt))) }) (all .0) (small-parts l (small .0))
           (small-parts m (small .1)) .otherwise (λ e. absurd (omega (arith, e))) .1 in (

@@ -1,5 +1,4 @@
 -- Demand 2 of gates and CZ, from the calls' contracts and the laws of operations.
--- Assumes nothing.
 use mathlib.Core.Bool.{false}
 use mathlib.Core.List.{List}
 use mathlib.Core.Logic.{_↔_, _≢_}
@@ -29,7 +28,15 @@ use Rattle.stabilizer.proofs.GroupLaws.{same-trans}
 use Rattle.stabilizer.specs.Groups.{InGroup, Proper}
 use Rattle.call_gates.proofs.InPlaceLines.{cz-ready, held-accepted}
 use Rattle.call_gates.specs.InPlaceCalls.{inPlaceCall}
-use Rattle.claims.specs.OperationsDemand.{CzFollows, Entangled, Gated, GatesFollow, IsReduced, StillRecord, left}
+use Rattle.claims.specs.OperationsDemand.{
+  CzFollows,
+  CzStands,
+  GateStands,
+  GatesFollow,
+  IsReduced,
+  StillRecord,
+  left,
+}
 
 -- an accepted call leaves the new record in the buffers
 pub holds-new : (l : LentRecord) (o : Operation) (nb′ cs′ : List ℕ) → Call (inPlaceCall l o nb′ cs′) 0
@@ -56,7 +63,7 @@ module _ (n : ℕ) (R : ℕ → Pauli) (P : Proper n R) (positive : 1 ≤ n) (up
 
 -- ---- gates
 pub gates-follow : GatesFollow
-gates-follow l q k nb′ cs′ C = subst (Gated l q k)
+gates-follow l q k nb′ cs′ C = subst (GateStands l q k)
     (sym (holds-new l (gateWith q k) nb′ cs′ C)) (record {
       still = answer-still n R P (A .positive) (A .upto);
       answers = answer-reduced n R P (A .positive) (A .upto);
@@ -83,7 +90,7 @@ gates-follow l q k nb′ cs′ C = subst (Gated l q k)
 
 -- ---- CZ
 pub cz-follows : CzFollows
-cz-follows l a b nb′ cs′ C = subst (Entangled l a b)
+cz-follows l a b nb′ cs′ C = subst (CzStands l a b)
     (sym (holds-new l (czOn a b) nb′ cs′ C)) (record {
       still = answer-still n R P (A .positive) (A .upto);
       answers = answer-reduced n R P (A .positive) (A .upto);

@@ -1,5 +1,4 @@
 -- The generator's demand, from the call's contract and the laws of the text.
--- Assumes nothing.
 use mathlib.Core.Path.{ap, ap₂, refl, subst, sym, _∙_, _≡_}
 use lib.ListN.{drop, length, take}
 use lib.Seq.{drop-at, take-at}

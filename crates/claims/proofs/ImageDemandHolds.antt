@@ -1,5 +1,4 @@
 -- Demand 2 of images, from the contract of the call and the laws of the image rule.
--- Assumes nothing.
 use mathlib.Core.Bool.{Bool, false, true, true≢false, _||_}
 use mathlib.Core.List.{List}
 use mathlib.Core.Logic.{inl, inr, _⊎_}

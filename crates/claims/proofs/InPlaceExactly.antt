@@ -1,6 +1,5 @@
 -- The lines of the calls on a record lent in place, exactly: none of them holds where the record is accepted and the
 -- arguments fit.
--- Assumes nothing.
 use mathlib.Core.Bool.{Bool, false, not, true, true≢false, _||_}
 use mathlib.Core.Logic.{_↔_, _≢_}
 use mathlib.Core.Path.{_≡_, _∙_, ap, refl, sym}
@@ -16,7 +15,7 @@ use Rattle.record.specs.Lent.{LentRecord, heldRecord, heldRows}
 use Rattle.call_gates.proofs.MeasureLines.{measure-passes}
 use Rattle.words.proofs.Flags.{neither, never-true}
 use Rattle.words.specs.Bits.{isOdd}
-use Rattle.claims.proofs.ImpossibleClicks.{contradicted-by-group}
+use Rattle.claims.proofs.Contradictions.{contradicted-by-group}
 use Rattle.claims.proofs.LinesExactly.{below-exactly, both-pass, last-exactly, more-exactly, record-and}
 use Rattle.claims.specs.AcceptedCalls.{ComplementFits, CzFits, GateFits, MeasureFits, PivotFits}
 

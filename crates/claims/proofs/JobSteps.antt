@@ -1,6 +1,5 @@
 -- An accepted operation on a record that stands for a group: the record left stands for the group that the
 -- definitions give.
--- Assumes nothing.
 use mathlib.Core.Logic.{_↔_, inl, inr, ⊎-elim}
 use mathlib.Core.Path.{_∙_, _≡_, ap, refl, subst, sym}
 use Prim.Native.Nat.{ℕ}
@@ -11,7 +10,7 @@ use Rattle.clifford.specs.Clifford.{cliffordOf}
 use Rattle.clifford.specs.Vectors.{act, only}
 use Rattle.contracts.specs.Calls.{Call}
 use Rattle.jobs.specs.GroupsAfter.AfterMeasurement.{joined, kept, same}
-use Rattle.jobs.specs.GroupsAfter.{AfterMeasurement, AfterOperation, Group, IsDetermined, Sent}
+use Rattle.jobs.specs.GroupsAfter.{AfterMeasurement, AfterOperation, Group, GroupDetermines, Sent}
 use Rattle.operations.specs.Cz.{cz}
 use Rattle.operations.specs.Measurement.Measured.{joined as group-joined, kept as group-kept}
 use Rattle.operations.specs.Measurement.{Measured, determinedNumber, outcomeNumber, pauliLetter, single}
@@ -39,7 +38,7 @@ use Rattle.claims.proofs.GatesFollow.{cz-follows, gates-follow}
 use Rattle.claims.proofs.MeasurementsFollow.{measurements-follow}
 use Rattle.claims.proofs.RewritingsKeep.{complements-keep, pivots-keep}
 use Rattle.claims.specs.JobDemand.{StandsFor}
-use Rattle.claims.specs.OperationsDemand.{Entangled, Gated, MeasurementStands}
+use Rattle.claims.specs.OperationsDemand.{CzStands, GateStands, MeasurementStands}
 
 -- what a step leaves is what its call leaves
 call-of : (l : LentRecord) (o : Operation) → firstFitting (linesOf l o) ≡ 0
@@ -72,7 +71,7 @@ module _ (l : LentRecord) (G : Group) (S : StandsFor l G) where
       after : LentRecord
       after = leaves l (gateWith q k)
 
-      F : Gated l q k after
+      F : GateStands l q k after
       F = gates-follow l q k _ _ (call-of l (gateWith q k) z)
 
   cz-stands : (a b : ℕ) → firstFitting (czLines l a b) ≡ 0
@@ -86,7 +85,7 @@ module _ (l : LentRecord) (G : Group) (S : StandsFor l G) where
         );
       }
     where
-      F : Entangled l a b (leaves l (czOn a b))
+      F : CzStands l a b (leaves l (czOn a b))
       F = cz-follows l a b _ _ (call-of l (czOn a b) z)
 
   -- ---- measurements
@@ -107,7 +106,7 @@ module _ (l : LentRecord) (G : Group) (S : StandsFor l G) where
     M = measurements-follow l pauli q b 0 0 _ _ _ _
         (record { number = sym z; held = (refl, (refl, call-of l (measurementOf pauli q b) z .held)) })
 
-    in-group : IsDetermined G (pauliLetter pauli) q ↔ (known ≡ 1)
+    in-group : GroupDetermines G (pauliLetter pauli) q ↔ (known ≡ 1)
     in-group = (
       (λ d. M .exactly .1 (⊎-elim (λ h. inl (S .elements _ .1 h)) (λ h. inr (S .elements _ .1 h)) d)),
       (λ e. ⊎-elim (λ h. inl (S .elements _ .0 h)) (λ h. inr (S .elements _ .0 h)) (M .exactly .0 e)),
@@ -117,7 +116,7 @@ module _ (l : LentRecord) (G : Group) (S : StandsFor l G) where
     same-elements : known ≡ 1 → (p : Pauli) → New p ↔ After p
     same-elements e p = ((λ h. same d (S .elements p .0 (M .kept e .back p h))), back)
       where
-        d : IsDetermined G (pauliLetter pauli) q
+        d : GroupDetermines G (pauliLetter pauli) q
         d = in-group .1 e
 
         back : {p : Pauli} → After p → New p
@@ -129,7 +128,7 @@ module _ (l : LentRecord) (G : Group) (S : StandsFor l G) where
     joined-elements : known ≡ 0 → (p : Pauli) → New p ↔ After p
     joined-elements e p = ((λ h. there (M .joined e p .0 h)), (λ h. M .joined e p .1 (back h)))
       where
-        undetermined : IsDetermined G (pauliLetter pauli) q → ⊥
+        undetermined : GroupDetermines G (pauliLetter pauli) q → ⊥
         undetermined d = differ (sym e ∙ in-group .0 d)
           where
             differ : _≡_ {A = ℕ} 0 1 → ⊥
@@ -148,9 +147,9 @@ module _ (l : LentRecord) (G : Group) (S : StandsFor l G) where
     measure-stands = record { still = M .still; elements = ⊎-elim joined-elements same-elements (M .either) }
 
     -- what it answers: determined where the group says so, and the bit, which is then the sign found
-    pub answer-stands : ((known ≡ 1) ↔ IsDetermined G (pauliLetter pauli) q)
+    pub answer-stands : ((known ≡ 1) ↔ GroupDetermines G (pauliLetter pauli) q)
         × (outcomeNumber (measuredAnswer l pauli q b) ≡ b)
-        × (IsDetermined G (pauliLetter pauli) q
+        × (GroupDetermines G (pauliLetter pauli) q
         → G (single (pauliLetter pauli) q (isOdd (outcomeNumber (measuredAnswer l pauli q b)))))
     answer-stands = (
       (in-group .1, in-group .0),

@@ -1,11 +1,9 @@
 -- The record after each step of a job stands for the group that the definitions give.
--- Assumes nothing.
 use mathlib.Core.Bool.{Bool, false, true, true≢false}
 use mathlib.Core.List.{[], _∷_}
 use mathlib.Core.Path.{_∙_, _≡_, ap, refl, subst, sym}
 use Prim.Native.Nat.{ℕ}
 use native.Mathlib.Decide.{ℕ-discrete}
-use lib.Dec.{lit<}
 use lib.ListN.{take}
 use Rattle.buffers.specs.Refusals.{firstFitting}
 use Rattle.jobs.proofs.Numbers.{
@@ -19,9 +17,9 @@ use Rattle.jobs.proofs.Numbers.{
 }
 use Rattle.jobs.proofs.Starting.{started-passes, started-rows}
 use Rattle.jobs.specs.Asked.{argumentsOf, asked, numberOf, unusedSet, withTest}
-use Rattle.jobs.specs.GroupsAfter.AfterStep.{changed, unchanged}
+use Rattle.jobs.specs.GroupsAfter.GroupAfterStep.{changed, not-run}
 use Rattle.jobs.specs.GroupsAfter.Refused.{by-fields, by-group}
-use Rattle.jobs.specs.GroupsAfter.{AfterOperation, AfterStep, Group, Impossible, Refused, StartGroup}
+use Rattle.jobs.specs.GroupsAfter.{AfterOperation, GroupAfterStep, Group, IsContradicted, Refused, StartGroup}
 use Rattle.jobs.specs.Runs.{afterStep, run, started}
 use Rattle.jobs.specs.declared.Step.{Step}
 use Rattle.operations.specs.Cz.{zAt}
@@ -45,7 +43,7 @@ use Rattle.call_gates.proofs.MeasureLines.{measure-passes}
 use Rattle.stabilizer.proofs.EqualRows.{same-group-equal}
 use Rattle.stabilizer.specs.Groups.{InGroup}
 use Rattle.words.specs.Bits.{isOdd}
-use Rattle.claims.proofs.ImpossibleClicks.{contradicted-by-group}
+use Rattle.claims.proofs.Contradictions.{contradicted-by-group}
 use Rattle.claims.proofs.JobSteps.{operation-stands}
 use Rattle.claims.specs.JobDemand.{JobsStand, RefusedExactly, RunsStand, StandsFor}
 
@@ -53,7 +51,7 @@ module _ (l : LentRecord) (G : Group) (S : StandsFor l G) where
   -- ---- an operation is refused by its lines exactly if its arguments or the group refuse it
   -- no line holds: neither do the arguments' lines, and the outcome is not impossible
   passes : (o : Operation) → firstFitting (linesOf l o) ≡ 0
-      → (firstFitting (argumentsOf l o) ≡ 0) × (Impossible G o → ⊥)
+      → (firstFitting (argumentsOf l o) ≡ 0) × (IsContradicted G o → ⊥)
   passes (gateWith q k) z = (z, λ h. h)
   passes (czOn a b) z = (z, λ h. h)
   passes (measurementOf pauli q b) z =
@@ -66,7 +64,7 @@ module _ (l : LentRecord) (G : Group) (S : StandsFor l G) where
 
   -- some line holds, and none of the arguments': the outcome is impossible
   impossible : (o : Operation) → (firstFitting (linesOf l o) ≡ 0 → ⊥) → firstFitting (argumentsOf l o) ≡ 0
-      → Impossible G o
+      → IsContradicted G o
   impossible (gateWith q k) h z = absurd (h z)
   impossible (czOn a b) h z = absurd (h z)
   impossible (measurementOf pauli q b) h z =
@@ -100,8 +98,8 @@ module _ (l : LentRecord) (G : Group) (S : StandsFor l G) where
           h (ap fields unset ∙ without-test 6 (argumentsOf l (asked s)) ∙ passes (asked s) no-line .0)
       accepted-not-refused (by-group h) = passes (asked s) no-line .1 h
 
-      accepted-stands : StandsFor (afterStep l s) (AfterStep l G s)
-      accepted-stands = subst (λ r. StandsFor r (AfterStep l G s)) (sym (accepted-leaves l s z))
+      accepted-stands : StandsFor (afterStep l s) (GroupAfterStep l G s)
+      accepted-stands = subst (λ r. StandsFor r (GroupAfterStep l G s)) (sym (accepted-leaves l s z))
           (record {
             still = O .still;
             elements = λ p. ((λ h. changed accepted-not-refused (O .elements p .0 h)), back);
@@ -113,8 +111,8 @@ module _ (l : LentRecord) (G : Group) (S : StandsFor l G) where
           O : StandsFor left (AfterOperation (l .n) G (asked s))
           O = operation-stands l G S (asked s) no-line
 
-          back : {p : Pauli} → AfterStep l G s p → InGroup (left .n) (left .n) (heldRows left) p
-          back (unchanged r g) = absurd (accepted-not-refused r)
+          back : {p : Pauli} → GroupAfterStep l G s p → InGroup (left .n) (left .n) (heldRows left) p
+          back (not-run r g) = absurd (accepted-not-refused r)
           back {p} (changed h g) = O .elements p .1 g
 
     -- ---- it is not: the step is refused
@@ -132,21 +130,21 @@ module _ (l : LentRecord) (G : Group) (S : StandsFor l G) where
               unset-by true t e =
                   absurd (six-refuses l (sym (set-refuses-fields l (asked s)) ∙ ap fields (sym t) ∙ e))
 
-      refused-stands : StandsFor (afterStep l s) (AfterStep l G s)
-      refused-stands = subst (λ r. StandsFor r (AfterStep l G s)) (sym (refused-keeps l s h))
+      refused-stands : StandsFor (afterStep l s) (GroupAfterStep l G s)
+      refused-stands = subst (λ r. StandsFor r (GroupAfterStep l G s)) (sym (refused-keeps l s h))
           (record {
             still = S .still;
-            elements = λ p. ((λ k. unchanged is-refused (S .elements p .0 k)), back);
+            elements = λ p. ((λ k. not-run is-refused (S .elements p .0 k)), back);
           })
         where
-          back : {p : Pauli} → AfterStep l G s p → InGroup (l .n) (l .n) (heldRows l) p
-          back {p} (unchanged r g) = S .elements p .1 g
+          back : {p : Pauli} → GroupAfterStep l G s p → InGroup (l .n) (l .n) (heldRows l) p
+          back {p} (not-run r g) = S .elements p .1 g
           back (changed not-refused g) = absurd (not-refused is-refused)
 
-    step-stands : StandsFor (afterStep l s) (AfterStep l G s)
+    step-stands : StandsFor (afterStep l s) (GroupAfterStep l G s)
     step-stands = go (ℕ-discrete (numberOf l s) 0)
       where
-        go : Dec (numberOf l s ≡ 0) → StandsFor (afterStep l s) (AfterStep l G s)
+        go : Dec (numberOf l s ≡ 0) → StandsFor (afterStep l s) (GroupAfterStep l G s)
         go (yes z) = accepted-stands z
         go (no h) = refused-stands h
 
@@ -157,7 +155,7 @@ refused-exactly l G S s = (is-refused l G S s, λ r z. accepted-not-refused l G 
 pub runs-stand : RunsStand
 unfolding run
 runs-stand l G S [] = S
-runs-stand l G S (s ∷ rest) = runs-stand (afterStep l s) (AfterStep l G s) (step-stands l G S s) rest
+runs-stand l G S (s ∷ rest) = runs-stand (afterStep l s) (GroupAfterStep l G s) (step-stands l G S s) rest
 
 -- ---- "All qubits start in +Z"
 pub jobs-stand : JobsStand

@@ -11,7 +11,7 @@ pub mod MeasurementsFollow
 pub mod SessionNumbers
 pub mod SessionDemandHolds
 pub mod SessionExamples
-pub mod ImpossibleClicks
+pub mod Contradictions
 pub mod RewritingsKeep
 pub mod CzInsideSide
 pub mod CutDemandHolds

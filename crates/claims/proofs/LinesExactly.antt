@@ -1,5 +1,4 @@
 -- The lines of lists and records, exactly: what it means that none of them holds.
--- Assumes nothing.
 use mathlib.Core.Bool.{Bool, false, _||_}
 use mathlib.Core.List.{_++_, List, [], _∷_}
 use mathlib.Core.Logic.{_↔_}
@@ -9,7 +8,7 @@ use lib.Dec.{leb}
 use lib.ListN.{getD, length}
 use borrow.Author.Tests.{leb-false, lt-leb}
 use Rattle.buffers.proofs.Lines.{Numbered, more-accepted, none-fits, none-of-all, not-held, passed}
-use Rattle.buffers.specs.Refusals.{Line, firstFitting, line, otherThan, reaching}
+use Rattle.buffers.specs.Refusals.{Refusal, firstFitting, line, otherThan, reaching}
 use Rattle.contracts.proofs.Fitting.{none-fits-of, none-holds}
 use Rattle.record.proofs.AcceptedRecords.{accepted-record}
 use Rattle.record.proofs.RecordLines.{record-numbered}
@@ -46,7 +45,7 @@ three-fit n m k a b c = (
 )
 
 -- ---- lines after others
-pub more-exactly : (ls ms : List Line) → Numbered ls →
+pub more-exactly : (ls ms : List Refusal) → Numbered ls →
     (firstFitting (ls ++ ms) ≡ 0) ↔ ((firstFitting ls ≡ 0) × (firstFitting ms ≡ 0))
 more-exactly ls ms n = (none-of-all ls ms n, λ h. more-accepted ls ms n (h .0) ∙ h .1)
 
@@ -99,7 +98,7 @@ record-and l six k b = (
       (record-exactly l false six .1 (h .0, refl, h .1), last-exactly k b .1 (h .2))),
 )
   where
-    ls : List Line
+    ls : List Refusal
     ls = recordLines l false six
 
 -- ---- lists

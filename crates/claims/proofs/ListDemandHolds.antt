@@ -1,5 +1,4 @@
 -- Document 01's sentences on lists, groups and reduced records, from the calls' contracts.
--- Assumes nothing.
 use mathlib.Core.Bool.{_&&_, Bool, false, true}
 use mathlib.Core.Path.{_≡_, _∙_, ap, refl, subst, sym}
 use Prim.Native.Nat.{_<_, ℕ}
@@ -14,7 +13,7 @@ use Rattle.record.proofs.ReducedRecords.{reduced-is}
 use Rattle.record.proofs.Unique.{record-path}
 use Rattle.record.proofs.WrittenRecords.{reduced-back, reduced-passes}
 use Rattle.record.specs.Records.{GraphRecord, rowsOf}
-use Rattle.record.specs.Reduced.{Reduced, hadamardWhere}
+use Rattle.record.specs.Reduced.{ReductionOf, hadamardWhere}
 use Rattle.stabilizer.proofs.Accepted.{accepted-list}
 use Rattle.stabilizer.proofs.Carried.{act-same, same-rows}
 use Rattle.stabilizer.proofs.Generation.{in-group-generated}
@@ -54,7 +53,7 @@ pub records-taken : RecordsTaken
 records-taken l e = taken-by-all l (accepted-record l false false e)
 
 -- ---- reduced records
-module _ (n : ℕ) (R : ℕ → Pauli) (r : GraphRecord) (F : Reduced n R r) where
+module _ (n : ℕ) (R : ℕ → Pauli) (r : GraphRecord) (F : ReductionOf n R r) where
   abbrev turned : ℕ → Pauli
   turned j = act n (hadamardWhere (F .hadamards)) (R j)
 
@@ -101,7 +100,7 @@ reduction-answers l nb cs nb′ cs′ C =
     subst (ReducedTo l) (sym (holds-reduced l nb cs nb′ cs′ C))
     (record {
       taken = records-taken _ (reduced-passes (l .n) (rows l) (A .proper) (A .formed .positive) (A .formed .upto));
-      form = subst (Reduced (l .n) (rows l))
+      form = subst (ReductionOf (l .n) (rows l))
           (sym (record-path _ _ (reduced-back (l .n) (rows l) (A .proper)))) F;
       words = subst (ReducedInWords (l .n) (rows l))
           (sym (record-path _ _ (reduced-back (l .n) (rows l) (A .proper)))) (in-words (l .n) (rows l) _ F);

@@ -1,5 +1,4 @@
 -- Demand 2 of measurements, from the call's contract and the laws of operations.
--- Assumes nothing.
 use mathlib.Core.Bool.{Bool, cond, false, true}
 use mathlib.Core.List.{List}
 use mathlib.Core.Logic.{_↔_, _⊎_, inl, inr}

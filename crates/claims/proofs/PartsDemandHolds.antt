@@ -1,9 +1,8 @@
 -- The parts of the reduced graphs of two lists.
--- Assumes nothing.
 use mathlib.Core.Bool.{Bool, false, false≢true, true, true≢false, _||_}
-use mathlib.Core.List.{List, [], _∷_}
+use mathlib.Core.List.{[], _∷_}
 use mathlib.Core.Logic.{_↔_, inl, inr, _⊎_}
-use mathlib.Core.Path.{ap, ap₂, refl, subst, sym, _∙_, _≡_}
+use mathlib.Core.Path.{ap, refl, subst, sym, _∙_, _≡_}
 use Prim.Native.Nat.{_<_, ℕ}
 use native.Mathlib.Omega.{arith}
 use lib.Dec.{ltb}
@@ -13,14 +12,13 @@ use Rattle.buffers.specs.Refusals.{firstFitting, line}
 use Rattle.clifford.specs.Clifford.{Clifford}
 use Rattle.comparison.proofs.ChoicesByParts.{on-groups, works-by-parts}
 use Rattle.comparison.specs.Choices.{noChoice}
-use Rattle.comparison.specs.Compared.{largePart, pairLines}
+use Rattle.comparison.specs.Compared.{hasLargePart, pairLines}
 use Rattle.comparison.specs.PartChoices.{CarriesOn}
-use Rattle.cut.specs.Kernel.{count}
 use Rattle.parts.proofs.SameParts.{carried-parts}
 use Rattle.parts.specs.Parts.{partAbove, partOf}
 use Rattle.pauli.specs.Pauli.{Pauli}
 use Rattle.record.proofs.ReducedRecords.{reduced-is, same-group}
-use Rattle.record.specs.Records.{GraphRecord, rowsOf}
+use Rattle.record.specs.Records.{rowsOf}
 use Rattle.record.specs.Reduced.{reduced, reducedGraph}
 use Rattle.stabilizer.proofs.Accepted.{accepted-list}
 use Rattle.stabilizer.proofs.Carried.{act-same, carries-same}
@@ -31,9 +29,9 @@ use Rattle.stabilizer.specs.Lists.{GeneratorList, rows}
 use Rattle.call_compare.proofs.PairLines.{pair-numbered}
 use Rattle.words.proofs.Flags.{either}
 use Rattle.words.proofs.SearchLaws.{some-false, some-in, some-none, some-true}
-use Rattle.words.specs.Search.{first, some}
+use Rattle.words.specs.Search.{first}
 use Rattle.claims.specs.PartsDemand.{
-  Accepted,
+  AcceptedLists,
   EquivalentHaveSameParts,
   LargePart,
   LargePartsRefused,
@@ -91,7 +89,7 @@ module _ (n : ℕ) (R S : ℕ → Pauli) (P : Proper n R) (Q : Proper n S) where
       both = works-by-parts n (reduced n R) (reduced n S) (reduced-is n R P .simple) (reduced-is n S Q .simple)
 
 -- ---- two lists
-module _ (l m : GeneratorList) (A : Accepted l m) where
+module _ (l m : GeneratorList) (A : AcceptedLists l m) where
   proper-first : Proper (l .n) (rows l)
   proper-first = (accepted-list l false (A .first)) .proper
 
@@ -107,15 +105,15 @@ pub parts-decide : PartsDecide
 parts-decide l m A agree = works-exactly (l .n) (rows l) (rows m) (proper-first l m A) (proper-second l m A)
 
 -- ---- sizes
-pub no-large : (l : GeneratorList) → SmallParts l → largePart l ≡ false
+pub no-large : (l : GeneratorList) → SmallParts l → hasLargePart l ≡ false
 unfolding partAbove
 no-large l S = some-none (l .n) (λ q. ltb 20 (partSize l q)) (λ q k. le-ltb 20 (partSize l q) (S q k))
 
-pub small-parts : (l : GeneratorList) → largePart l ≡ false → SmallParts l
+pub small-parts : (l : GeneratorList) → hasLargePart l ≡ false → SmallParts l
 unfolding partAbove
 small-parts l e q k = ltb-false 20 (partSize l q) (some-false (l .n) (λ q. ltb 20 (partSize l q)) e q k)
 
-large-exactly : (l : GeneratorList) → (largePart l ≡ true) ↔ LargePart l
+large-exactly : (l : GeneratorList) → (hasLargePart l ≡ true) ↔ LargePart l
 unfolding partAbove
 large-exactly l = (
   (λ e. let F = some-true (l .n) (λ q. ltb 20 (partSize l q)) e in
@@ -125,29 +123,29 @@ large-exactly l = (
 
 pub large-parts-refused : LargePartsRefused
 large-parts-refused l m choice list counted r choice′ list′ counted′ C e =
-    go (largePart l || largePart m) refl
+    go (hasLargePart l || hasLargePart m) refl
   where
-    number : r ≡ firstFitting (line 3 (largePart l || largePart m)
+    number : r ≡ firstFitting (line 3 (hasLargePart l || hasLargePart m)
         ∷ line 13 (noChoice (l .n) (rows l) (rows m)) ∷ [])
     number = C .number ∙ more-accepted (pairLines l m choice list) _ (pair-numbered l m choice list) e
 
-    one : (largePart l ≡ true) ⊎ (largePart m ≡ true) → LargePart l ⊎ LargePart m
+    one : (hasLargePart l ≡ true) ⊎ (hasLargePart m ≡ true) → LargePart l ⊎ LargePart m
     one (inl h) = inl (large-exactly l .0 h)
     one (inr h) = inr (large-exactly m .0 h)
 
-    none : (largePart l || largePart m) ≡ false → LargePart l ⊎ LargePart m → ⊥
-    none h (inl w) = clash (largePart l) (largePart m) (large-exactly l .1 w) h
+    none : (hasLargePart l || hasLargePart m) ≡ false → LargePart l ⊎ LargePart m → ⊥
+    none h (inl w) = clash (hasLargePart l) (hasLargePart m) (large-exactly l .1 w) h
       where
         clash : (a b : Bool) → a ≡ true → (a || b) ≡ false → ⊥
         clash true b x y = true≢false y
         clash false b x y = false≢true x
-    none h (inr w) = clash (largePart l) (largePart m) (large-exactly m .1 w) h
+    none h (inr w) = clash (hasLargePart l) (hasLargePart m) (large-exactly m .1 w) h
       where
         clash : (a b : Bool) → b ≡ true → (a || b) ≡ false → ⊥
         clash true b x y = true≢false y
         clash false b x y = true≢false (sym x ∙ y)
 
-    other : (b : Bool) → noChoice (l .n) (rows l) (rows m) ≡ b → (largePart l || largePart m) ≡ false → r ≡ 3 → ⊥
+    other : (b : Bool) → noChoice (l .n) (rows l) (rows m) ≡ b → (hasLargePart l || hasLargePart m) ≡ false → r ≡ 3 → ⊥
     other true k h x = differ (number ∙ passed 3 _ h ∙ fits 13 _ k) x
       where
         differ : r ≡ 13 → r ≡ 3 → ⊥
@@ -157,8 +155,8 @@ large-parts-refused l m choice list counted r choice′ list′ counted′ C e =
         differ : r ≡ 0 → r ≡ 3 → ⊥
         differ x y = omega (arith, x, y)
 
-    go : (b : Bool) → (largePart l || largePart m) ≡ b → (r ≡ 3) ↔ (LargePart l ⊎ LargePart m)
-    go true h = ((λ _. one (either (largePart l) (largePart m) h)), (λ _. number ∙ fits 3 _ h))
+    go : (b : Bool) → (hasLargePart l || hasLargePart m) ≡ b → (r ≡ 3) ↔ (LargePart l ⊎ LargePart m)
+    go true h = ((λ _. one (either (hasLargePart l) (hasLargePart m) h)), (λ _. number ∙ fits 3 _ h))
     go false h = (
       (λ x. absurd (other (noChoice (l .n) (rows l) (rows m)) refl h x)),
       (λ w. absurd (none h w)),

@@ -1,9 +1,8 @@
 -- Paths of edges reach the whole part: a set of reached vertices that some edge leaves is made larger by one vertex.
--- Assumes nothing.
 use mathlib.Core.Bool.{_&&_, Bool, false, not, true, true≢false, _||_}
-use mathlib.Core.Logic.{_↔_, inl, inr, _⊎_}
-use mathlib.Core.Path.{ap, ap₂, refl, subst, sym, _∙_, _≡_}
-use Prim.Native.Nat.{_+_, _<_, _≤_, suc, zero, ℕ}
+use mathlib.Core.Logic.{inl, inr, _⊎_}
+use mathlib.Core.Path.{ap, refl, subst, sym, _∙_, _≡_}
+use Prim.Native.Nat.{_<_, _≤_, suc, zero, ℕ}
 use native.Mathlib.Nat.{le-refl}
 use native.Mathlib.Omega.{arith}
 use lib.Dec.{eqb}
@@ -12,7 +11,8 @@ use Rattle.cut.proofs.Counting.{count-except, count-ext, except}
 use Rattle.cut.specs.Kernel.{count}
 use Rattle.graph.specs.Graph.{Graph}
 use Rattle.parts.proofs.PartLaws.{closed-is, part-within, path-in-part}
-use Rattle.parts.specs.Parts.{Closed, Path, along, closed, here, partOf}
+use Rattle.parts.specs.internal.Parts.{Closed}
+use Rattle.parts.specs.Parts.{Path, along, isClosed, here}
 use Rattle.words.proofs.Finite.{bits}
 use Rattle.words.proofs.Flags.{both-true, either, neither}
 use Rattle.words.proofs.SearchLaws.{every-in, first-is}
@@ -30,9 +30,9 @@ every-false b f e = go (first-is b (λ i. not (f i)))
     go (inr h) = absurd (true≢false (sym (every-in b f (λ i l. not-false (f i) (h i l))) ∙ e))
 
 -- an edge that leaves a set
-leaving : (n : ℕ) (θ : Graph) (s : Word) → closed n θ s ≡ false
+leaving : (n : ℕ) (θ : Graph) (s : Word) → isClosed n θ s ≡ false
     → (i : ℕ) × (j : ℕ) × (i < n) × (j < n) × (s i ≡ true) × (θ i j ≡ true) × (s j ≡ false)
-unfolding closed
+unfolding isClosed
 leaving n θ s e =
     let a = every-false n (λ i. every n (λ j. not (s i && θ i j) || s j)) e in
     let i = a .0 in
@@ -48,7 +48,7 @@ module _ (n : ℕ) (θ : Graph) (q : ℕ) (l : q < n) where
     paths : (v : ℕ) → s v ≡ true → Path n θ q v
 
   -- one vertex more
-  module _ (s : Word) (R : ReachedSet s) (e : closed n θ s ≡ false) where
+  module _ (s : Word) (R : ReachedSet s) (e : isClosed n θ s ≡ false) where
     found : (i : ℕ) × (j : ℕ) × (i < n) × (j < n) × (s i ≡ true) × (θ i j ≡ true) × (s j ≡ false)
     found = leaving n θ s e
 
@@ -77,14 +77,14 @@ module _ (n : ℕ) (θ : Graph) (q : ℕ) (l : q < n) where
 
   grown : (m : ℕ) (s : Word) → count n (λ v. not (s v)) ≤ m → ReachedSet s
       → (t : Word) × Closed n θ t × ReachedSet t
-  grown zero s few R = go (closed n θ s) refl
+  grown zero s few R = go (isClosed n θ s) refl
     where
-      go : (b : Bool) → closed n θ s ≡ b → (t : Word) × Closed n θ t × ReachedSet t
+      go : (b : Bool) → isClosed n θ s ≡ b → (t : Word) × Closed n θ t × ReachedSet t
       go true e = (s, closed-is n θ s .0 e, R)
       go false e = absurd (omega (arith, few, one-less s R e))
-  grown (suc m) s few R = go (closed n θ s) refl (grown m)
+  grown (suc m) s few R = go (isClosed n θ s) refl (grown m)
     where
-      go : (b : Bool) → closed n θ s ≡ b
+      go : (b : Bool) → isClosed n θ s ≡ b
           → ((t : Word) → count n (λ v. not (t v)) ≤ m → ReachedSet t → (t : Word) × Closed n θ t × ReachedSet t)
           → (t : Word) × Closed n θ t × ReachedSet t
       go true e more = (s, closed-is n θ s .0 e, R)

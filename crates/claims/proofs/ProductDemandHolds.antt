@@ -1,5 +1,4 @@
 -- The demand of products, from the call's contract.
--- Assumes nothing.
 use mathlib.Core.Bool.{Bool, false, true}
 use mathlib.Core.Path.{_≡_, _∙_, ap, refl, subst, sym}
 use Prim.Native.Nat.{_<_, _^_, suc, zero, ℕ}

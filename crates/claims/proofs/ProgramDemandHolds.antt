@@ -1,5 +1,4 @@
 -- What the programs print for a text, from what `reply` of list_reply and of job_reply ensures of it.
--- Assumes nothing.
 use mathlib.Core.Bool.{cond, false, or-true, true, _||_}
 use mathlib.Core.List.{List, [], _∷_}
 use mathlib.Core.Logic.{_⊎_, ⊎-elim}
@@ -12,19 +11,19 @@ use lib.Seq.{take-append-seam, take-length}
 use borrow.Author.Tests.{eq-eqb, le-ltb, lt-ltb, ne-eqb}
 use Rattle.buffers.proofs.Lines.{fits, none-fits, passed}
 use Rattle.buffers.specs.Refusals.{badCount, firstFitting, line}
-use Rattle.job_text.specs.Answer.{answered, noAnswer, printed as jobPrinted, resultOf}
+use Rattle.job_text.specs.Answer.{runText, noAnswer, answerText as jobPrinted, resultOf}
 use Rattle.job_text.specs.Lines.{jobLines}
 use Rattle.jobs.proofs.Stepwise.{answer-at}
 use Rattle.jobs.specs.GroupsAfter.{GroupAfter, StartGroup}
 use Rattle.jobs.specs.Runs.{recordAfter, run, started}
 use Rattle.jobs.specs.declared.Step.{Step}
 use Rattle.call_lists.specs.Calls.{checkLines}
-use Rattle.list_reply.specs.Answer.{printed as listPrinted}
+use Rattle.list_reply.specs.Answer.{answerText as listPrinted}
 use Rattle.record.proofs.WrittenRecords.{reduced-held-same}
 use Rattle.stabilizer.proofs.Accepted.{AcceptedList, accepted-list}
 use Rattle.stabilizer.proofs.SharedTests.{count-passes}
 use Rattle.stabilizer.specs.Lists.{GeneratorList, rows}
-use Rattle.text.specs.Text.{Printed, recordText, refusedText, written}
+use Rattle.text.specs.Text.{Printed, recordText, refusedText, overwritten}
 use Rattle.claims.proofs.GatesFollow.{answer-reduced, answer-still}
 use Rattle.claims.proofs.JobsStand.{jobs-stand}
 use Rattle.claims.proofs.StepLines.{line-says}
@@ -40,7 +39,7 @@ use Rattle.claims.specs.ProgramDemand.{
 
 -- the bytes in the buffer up to the end are those printed
 bytes-printed : (bytes before after : List ℕ) (end : ℕ) → Printed bytes 0 before after end → take end after ≡ bytes
-unfolding written
+unfolding overwritten
 bytes-printed bytes before after end P =
     ap (λ k. take k after) (P .end ∙ zero-add (length bytes)) ∙ ap (take (length bytes)) (P .out)
     ∙ take-append-seam bytes (drop (0 + length bytes) before)
@@ -105,9 +104,9 @@ module _ (n : ℕ) (steps : List Step) where
           passed 15 (line 2 (badCount n) ∷ []) (le-ltb 4096 (length steps) few)
           ∙ passed 2 [] (count-passes n positive upto) ∙ none-fits
 
-      job-printed : jobPrinted n steps ≡ answered n steps
+      job-printed : jobPrinted n steps ≡ runText n steps
       unfolding jobPrinted
-      job-printed = ap (λ k. cond (eqb k 0) (answered n steps) (refusedText k)) number-none
+      job-printed = ap (λ k. cond (eqb k 0) (runText n steps) (refusedText k)) number-none
 
       pub job-answered : (bytes : List ℕ) → bytes ≡ jobPrinted n steps → JobPrinted n steps bytes
       job-answered bytes e =
@@ -126,8 +125,8 @@ module _ (n : ℕ) (steps : List Step) where
       → jobPrinted n steps ≡ refusedText k
   unfolding jobPrinted
   job-refused k e f =
-      ap (λ m. cond (eqb m 0) (answered n steps) (refusedText m)) e
-      ∙ ap (λ b. cond b (answered n steps) (refusedText k)) f
+      ap (λ m. cond (eqb m 0) (runText n steps) (refusedText m)) e
+      ∙ ap (λ b. cond b (runText n steps) (refusedText k)) f
 
 pub job-texts-answered : JobTextsAnswered
 job-texts-answered t before after end R =

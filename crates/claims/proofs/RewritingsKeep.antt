@@ -1,5 +1,4 @@
 -- Complements and pivots keep the group; of two calls the second is about what the first left.
--- Assumes nothing.
 use mathlib.Core.Bool.{false}
 use mathlib.Core.List.{List}
 use mathlib.Core.Path.{_∙_, _≡_, ap, ap₂, subst, sym}
@@ -13,13 +12,7 @@ use Rattle.graph.proofs.Complement.{complement-simple}
 use Rattle.graph.specs.Graph.{Simple}
 use Rattle.operations.proofs.Rewriting.{pivot-same, pivot-simple}
 use Rattle.operations.proofs.UnrefusedRecords.{complement-above}
-use Rattle.operations.specs.Steps.{
-  Operation,
-  complementOf,
-  leaves,
-  pivotOf,
-  pivotRecord,
-}
+use Rattle.operations.specs.Steps.{Operation, complementOf, leaves, pivotOf, pivotRecord}
 use Rattle.record.proofs.Complementing.{complement-same}
 use Rattle.record.proofs.WrittenRecords.{record-back, record-passes, record-rows-back, writtenRecord}
 use Rattle.record.specs.Accepted.{AcceptedRecord}

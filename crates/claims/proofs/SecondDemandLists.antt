@@ -1,5 +1,4 @@
 -- Demand 2 of lists and records: each statement from the calls' contracts and the laws below.
--- Assumes nothing.
 use mathlib.Core.Bool.{false}
 use mathlib.Core.List.{List}
 use mathlib.Core.Logic.{_↔_}

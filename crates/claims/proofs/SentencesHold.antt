@@ -1,12 +1,11 @@
 -- What the demands say of each exported function, from its contract.
--- Assumes nothing.
 use mathlib.Core.List.{List}
 use mathlib.Core.Path.{subst, _≡_}
 use Prim.Native.Nat.{ℕ}
 use Rattle.call_compare.specs.Comparisons.{compareCall}
 use Rattle.contracts.specs.Calls.{Call, Contract}
 use Rattle.call_cut.specs.Cuts.{cutCall}
-use Rattle.call_generate.specs.Generated.{generateCall}
+use Rattle.call_generate.specs.Generation.{generateCall}
 use Rattle.call_image.specs.Images.{imageCall}
 use Rattle.call_lists.specs.Calls.{checkCall, expandCall, reduceCall}
 use Rattle.operations.specs.Steps.{complementOf, czOn, gateWith, pivotOf}
@@ -28,7 +27,7 @@ use Rattle.claims.proofs.FirstDemandHolds.{first-demand}
 use Rattle.claims.proofs.GatesFollow.{cz-follows, gates-follow}
 use Rattle.claims.proofs.GeneratorDemandHolds.{generator-demand}
 use Rattle.claims.proofs.ImageDemandHolds.{images-follow}
-use Rattle.claims.proofs.ImpossibleClicks.{impossible-clicks-refused}
+use Rattle.claims.proofs.Contradictions.{contradictions-refused}
 use Rattle.claims.proofs.ListDemandHolds.{checks-tell, reduction-answers}
 use Rattle.claims.proofs.MeasurementsFollow.{measurements-follow}
 use Rattle.claims.proofs.PartsDemandHolds.{large-parts-refused}
@@ -109,7 +108,7 @@ measure-says l pauli q b answer determined nb′ cs′ answer′ determined′ r
       answered = answered (first-demand .measurements l pauli q b answer determined nb′ cs′ answer′ determined′) C;
       accepted = accepted-exactly .measure l pauli q b answer determined nb′ cs′ answer′ determined′ r C;
       group = λ z. measurements-follow l pauli q b answer determined nb′ cs′ answer′ determined′ (at-zero C z);
-      impossible = impossible-clicks-refused l pauli q b answer determined r nb′ cs′ answer′ determined′ C;
+      contradicted = contradictions-refused l pauli q b answer determined r nb′ cs′ answer′ determined′ C;
       by-expanding = λ z. measurements-by-expanding l pauli q b answer determined nb′ cs′ answer′ determined′
           (at-zero C z);
       number-by-expanding = λ hp hp₂ hq hb. measure-numbers-by-expanding l pauli q b answer determined r nb′ cs′ answer′

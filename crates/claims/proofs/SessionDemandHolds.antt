@@ -1,6 +1,5 @@
 -- The request on faster sessions: the answer of gate, CZ and measurement from the calls' contracts, once as the record
 -- is rewritten, and once as its list is changed and reduced.
--- Assumes nothing.
 use mathlib.Core.Bool.{Bool, cond, false, true, _||_}
 use mathlib.Core.List.{List, []}
 use mathlib.Core.Logic.{_≢_}
@@ -18,7 +17,14 @@ use Rattle.operations.proofs.Determined.{measured-proper}
 use Rattle.operations.proofs.Gating.{gated-row}
 use Rattle.operations.proofs.GroupAlone.{cz-of-group, measured-of-group, reduced-of-group}
 use Rattle.operations.specs.Cz.{czRows}
-use Rattle.operations.specs.Measurement.{answered, determinedNumber, measuredRows, outcomeNumber, pauliLetter, single}
+use Rattle.operations.specs.Measurement.{
+  measuredOutcome,
+  determinedNumber,
+  measuredRows,
+  outcomeNumber,
+  pauliLetter,
+  single,
+}
 use Rattle.operations.specs.Steps.{Operation, argumentLines, czOn, gateWith, inPlaceLines, made, measurementOf}
 use Rattle.operations.specs.declared.Outcome.the-variants.{Chosen, Determined}
 use Rattle.pauli.specs.Pauli.{Pauli}
@@ -150,7 +156,7 @@ cz-by-expanding l a b nb′ cs′ C =
 -- ---- measurements
 -- lists with the same rows below n answer alike
 answered-equal : (n : ℕ) (R S : ℕ → Pauli) → ((j : ℕ) → j < n → R j ≡ S j) → (L : Letter) (q : ℕ) (b : Bool) →
-    answered n R L q b ≡ answered n S L q b
+    measuredOutcome n R L q b ≡ measuredOutcome n S L q b
 answered-equal n R S h L q b =
     ap₂ (λ u v. cond (u || v) (Determined (cond (u || v) v b)) (Chosen (cond (u || v) v b)))
     (member-equal n R S h (single L q false)) (member-equal n R S h (single L q true))
@@ -169,7 +175,7 @@ measurements-by-expanding l pauli q b answer determined nb′ cs′ answer′ de
     lines = measure-passes l pauli q b (sym (C .number)) .0
 
     read : (s z x s′ z′ x′ : List ℕ) → Call (expandCall l s z x s′ z′ x′) 0 →
-        answered (l .n) (heldRows l) (pauliLetter pauli) q (isOdd b)
-        ≡ answered (l .n) (rows (listIn (l .n) s′ z′ x′)) (pauliLetter pauli) q (isOdd b)
+        measuredOutcome (l .n) (heldRows l) (pauliLetter pauli) q (isOdd b)
+        ≡ measuredOutcome (l .n) (rows (listIn (l .n) s′ z′ x′)) (pauliLetter pauli) q (isOdd b)
     read s z x s′ z′ x′ D = answered-equal (l .n) (heldRows l) (rows (listIn (l .n) s′ z′ x′))
         (expanded-rows l (held-accepted l _ _ lines) s z x s′ z′ x′ D) (pauliLetter pauli) q (isOdd b)

@@ -1,6 +1,5 @@
 -- The request on faster sessions: the number of a call whose arguments are in order is that of expanding the record,
 -- and of a measurement the list's besides.
--- Assumes nothing.
 use mathlib.Core.Bool.{_&&_, Bool, cond, false, true, _||_}
 use mathlib.Core.List.{_++_, List, [], _∷_}
 use mathlib.Core.Path.{ap, ap₂, subst, sym, _∙_, _≡_}
@@ -10,7 +9,7 @@ use native.Mathlib.Omega.{arith}
 use lib.Dec.{eqb, leb}
 use borrow.Author.Tests.{lt-leb, ne-eqb}
 use Rattle.buffers.proofs.Lines.{more-refused}
-use Rattle.buffers.specs.Refusals.{Line, firstFitting, line}
+use Rattle.buffers.specs.Refusals.{Refusal, firstFitting, line}
 use Rattle.contracts.specs.Calls.{Call}
 use Rattle.call_lists.specs.Calls.{expandCall, expandLines}
 use Rattle.operations.specs.Measurement.{contradicts, pauliLetter, single}
@@ -38,7 +37,7 @@ use Rattle.claims.specs.SessionDemand.{
 -- ---- lines
 -- where no line holds of the further arguments, the record's lines decide, and those after them
 pub record-decides : (l : LentRecord) {six eight others : Bool} → six ≡ false → eight ≡ false → others ≡ false →
-    (after : List Line) →
+    (after : List Refusal) →
     firstFitting (inPlaceLines l six eight ++ after) ≡ firstFitting (recordLines l others false ++ after)
 unfolding firstFitting
 record-decides l a b c after = ap₂ (λ u v. firstFitting (inPlaceLines l u v ++ after)) a b
@@ -89,7 +88,7 @@ measure-numbers-by-expanding l pauli q b answer determined r nb′ cs′ answer�
     six = ap₂ _||_ (lt-leb 2 b hb)
         (ap₂ _||_ (ne-eqb pauli 0 (λ z. absurd (omega (arith, hp, z)))) (lt-leb 4 pauli (omega (arith, hp₂))))
 
-    after : (ℕ → Pauli) → List Line
+    after : (ℕ → Pauli) → List Refusal
     after R = line 14 (contradicts (l .n) R (pauliLetter pauli) q (isOdd b)) ∷ []
 
     by-list : (s z x s′ z′ x′ : List ℕ) (e : ℕ) → Call (expandCall l s z x s′ z′ x′) e →

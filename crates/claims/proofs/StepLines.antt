@@ -1,5 +1,4 @@
 -- What is printed of a step says what the definitions say of the group that the step meets.
--- Assumes nothing.
 use mathlib.Core.Bool.{cond}
 use mathlib.Core.Logic.{_↔_, _⊎_, inl, inr}
 use mathlib.Core.Path.{_∙_, _≡_, ap, refl, subst, sym}

@@ -1,5 +1,4 @@
 -- The demand on texts of Pauli strings, from the contracts of the two calls and the laws of the text.
--- Assumes nothing.
 use mathlib.Core.Bool.{not, true, true≢false}
 use mathlib.Core.List.{List}
 use mathlib.Core.Path.{ap, ap₂, refl, subst, sym, _∙_, _≡_}

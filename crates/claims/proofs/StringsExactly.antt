@@ -1,5 +1,4 @@
 -- The lines of reading and writing texts of Pauli strings, exactly: what it means that none of them holds.
--- Assumes nothing.
 use mathlib.Core.Bool.{false, not, true}
 use mathlib.Core.List.{List}
 use mathlib.Core.Logic.{_↔_}

@@ -1,5 +1,4 @@
 -- A record that no line refuses is taken by every call on records.
--- Assumes nothing.
 use mathlib.Core.Bool.{Bool, false, true}
 use mathlib.Core.Logic.{inl, inr, _⊎_}
 use mathlib.Core.Path.{_≡_, _∙_, refl}

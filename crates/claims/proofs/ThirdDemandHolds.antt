@@ -1,5 +1,4 @@
 -- Demand 3 from the contract of the comparison, and the laws of the least choice and of the image rule.
--- Assumes nothing.
 use mathlib.Core.Bool.{Bool, cond, false, true, true≢false, _||_}
 use mathlib.Core.List.{List, [], _∷_}
 use mathlib.Core.Logic.{_↔_}
@@ -31,7 +30,6 @@ use Rattle.record.specs.Reduced.{reducedGraph}
 use Rattle.stabilizer.specs.Carries.{Carries}
 use Rattle.stabilizer.specs.Groups.{Proper}
 use Rattle.stabilizer.specs.Lists.{GeneratorList, rows}
-use Rattle.contracts.proofs.Calling.{written-all}
 use Rattle.contracts.proofs.Calling.{written-all}
 use Rattle.call_compare.proofs.PairLines.{pair-numbered}
 use Rattle.comparison_answer.proofs.ReducedPairs.{least-held}

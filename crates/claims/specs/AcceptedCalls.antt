@@ -1,7 +1,6 @@
 -- Which calls are accepted, in the documents' words: the number of each exported function is 0 exactly if this holds of
 -- its arguments. A record is `AcceptedRecord`: 1 to 64 vertices, n places in each buffer, no bit at or above n, codes
 -- below 24, a simple graph.
--- Assumes nothing.
 use mathlib.Core.Bool.{not, true}
 use mathlib.Core.List.{List}
 use mathlib.Core.Logic.{_≢_, _↔_, _⊎_}
@@ -12,7 +11,7 @@ use Rattle.clifford.specs.Clifford.{Clifford}
 use Rattle.call_compare.specs.Comparisons.{compareCall}
 use Rattle.contracts.specs.Calls.{Call}
 use Rattle.call_cut.specs.Cuts.{cutCall}
-use Rattle.call_generate.specs.Generated.{generateCall}
+use Rattle.call_generate.specs.Generation.{generateCall}
 use Rattle.image.specs.Image.{UnsignedGraph}
 use Rattle.call_image.specs.Images.{imageCall}
 use Rattle.call_lists.specs.Calls.{checkCall, expandCall, reduceCall}
@@ -70,9 +69,11 @@ pub record CompareFits (l m : GeneratorList) (choice list : List ℕ) : Type 0 w
 abbrev pub ExpandFits : LentRecord → List ℕ → List ℕ → List ℕ → Type 0
 ExpandFits l s z x = AcceptedRecord l × (length s ≡ l .n) × (length z ≡ l .n) × (length x ≡ l .n)
 
+-- a record, a qubit and a code
 abbrev pub GateFits : LentRecord → ℕ → ℕ → Type 0
 GateFits l q k = AcceptedRecord l × (q < l .n) × (k < 24)
 
+-- a record and two qubits
 abbrev pub CzFits : LentRecord → ℕ → ℕ → Type 0
 CzFits l a b = AcceptedRecord l × (a < l .n) × (b < l .n) × (a ≢ b)
 
@@ -85,9 +86,11 @@ pub record MeasureFits (l : LentRecord) (pauli q b : ℕ) : Type 0 where
   pub bit : b < 2
   pub possible : InGroup (l .n) (l .n) (heldRows l) (signedPauli pauli q (not (isOdd b))) → ⊥
 
+-- a record and a vertex
 abbrev pub ComplementFits : LentRecord → ℕ → Type 0
 ComplementFits l a = AcceptedRecord l × (a < l .n)
 
+-- a record and an edge of its graph
 abbrev pub PivotFits : LentRecord → ℕ → ℕ → Type 0
 PivotFits l j k = AcceptedRecord l × (j < l .n) × (k < l .n) × ((heldRecord l) .graph j k ≡ true)
 
@@ -99,6 +102,7 @@ pub record ImageFits (l : LentRecord) (image signs list : List ℕ) : Type 0 whe
   pub list-places : length list ≡ 96
   pub is-graph : UnsignedGraph (l .n) (heldRows l)
 
+-- a record and a word that marks a side
 abbrev pub CutFits : LentRecord → ℕ → Type 0
 CutFits l side = AcceptedRecord l × (side < 2 ^ (l .n))
 

@@ -2,7 +2,6 @@
 -- single qubits, and CZ inside a side, never change the number, and complementing at any vertex doesn't either". Each is
 -- said of an accepted call on any record, reduced or not, and of every cut: the call's number is 0, and a name with a
 -- prime is what is held at exit.
--- Assumes nothing.
 use mathlib.Core.List.{List}
 use mathlib.Core.Path.{_≡_}
 use Prim.Native.Nat.{_*_, _-_, _^_, ℕ}
@@ -28,6 +27,7 @@ pub record CutAnswer (l : LentRecord) (side rank′ : ℕ) : Type 0 where
   pub empty : side ≡ 0 → rank′ ≡ 0
   pub full : side ≡ 2 ^ (l .n) - 1 → rank′ ≡ 0
 
+-- of every accepted call
 abbrev pub CutsAnswer : Type 0
 CutsAnswer = (l : LentRecord) (side rank rank′ : ℕ) → Call (cutCall l side rank rank′) 0 → CutAnswer l side rank′
 
@@ -46,6 +46,7 @@ abbrev pub ComplementsKeepRanks : Type 0
 ComplementsKeepRanks = (l : LentRecord) (a : ℕ) (nb′ cs′ : List ℕ) → Call (inPlaceCall l (complementOf a) nb′ cs′) 0 →
     (side : Word) → rankAcross side (left l nb′ cs′) ≡ rankAcross side l
 
+-- a pivot, which is three complements, likewise
 abbrev pub PivotsKeepRanks : Type 0
 PivotsKeepRanks = (l : LentRecord) (j k : ℕ) (nb′ cs′ : List ℕ) → Call (inPlaceCall l (pivotOf j k) nb′ cs′) 0 →
     (side : Word) → rankAcross side (left l nb′ cs′) ≡ rankAcross side l

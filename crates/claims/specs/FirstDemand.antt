@@ -1,20 +1,19 @@
 -- Demand 1, of every public call: "A call that is accepted, on any words, codes, signs and qubit numbers, ends with a
 -- complete answer .. A call that is refused .. returns the first fitting number of the published list and changes no
 -- lent byte". That a call ends, and touches no other byte, is what a contract of the language means.
--- Assumes nothing.
 use mathlib.Core.Bool.{Bool, cond, false, true}
 use mathlib.Core.List.{List, [], map, _∷_}
 use mathlib.Core.Path.{_≡_}
 use Prim.Native.Nat.{ℕ}
 use lib.Dec.{eqb}
 use lib.ListN.{length}
-use Rattle.buffers.specs.Refusals.{Line, firstFitting}
+use Rattle.buffers.specs.Refusals.{Refusal, firstFitting}
 use Rattle.call_compare.specs.Comparisons.{compareCall}
 use Rattle.comparison.specs.Compared.{compareLines}
 use Rattle.contracts.specs.Answers.{Answers, EveryCallAnswers}
 use Rattle.contracts.specs.Calls.{Call, Contract, EachOf, Lent, buffer, number}
 use Rattle.call_cut.specs.Cuts.{cutCall}
-use Rattle.call_generate.specs.Generated.{generateCall}
+use Rattle.call_generate.specs.Generation.{generateCall}
 use Rattle.generator.specs.Lines.{generateLines}
 use Rattle.image.specs.Image.{imageLines}
 use Rattle.call_image.specs.Images.{imageCall}
@@ -32,13 +31,15 @@ use Rattle.strings.specs.Reading.{readLines, writeLines}
 abbrev pub published : List ℕ
 published = 1 ∷ 15 ∷ 2 ∷ 4 ∷ 5 ∷ 6 ∷ 7 ∷ 8 ∷ 9 ∷ 10 ∷ 3 ∷ 14 ∷ 11 ∷ 12 ∷ 13 ∷ []
 
-abbrev pub within : List ℕ → List ℕ → Bool
-within order [] = true
-within [] (k ∷ ks) = false
-within (o ∷ order) (k ∷ ks) = cond (eqb o k) (within order ks) (within order (k ∷ ks))
+-- whether the numbers stand in the order of a list, some of its numbers left out
+abbrev pub isSubsequence : List ℕ → List ℕ → Bool
+isSubsequence order [] = true
+isSubsequence [] (k ∷ ks) = false
+isSubsequence (o ∷ order) (k ∷ ks) = cond (eqb o k) (isSubsequence order ks) (isSubsequence order (k ∷ ks))
 
-abbrev pub InOrder : List Line → Type 0
-InOrder lines = within published (map (λ l. l .number) lines) ≡ true
+-- "in checking order": a call's lines stand in the order of the published list
+abbrev pub InOrder : List Refusal → Type 0
+InOrder lines = isSubsequence published (map (λ l. l .number) lines) ≡ true
 
 -- "a complete answer": it fills the buffer
 abbrev pub Fills : Lent → Type 0
@@ -60,6 +61,7 @@ pub record Answered (c : Contract) (r : ℕ) : Type 0 where
 abbrev pub AnswersSayAll : Type 0
 AnswersSayAll = (c : Contract) (r : ℕ) → Answers c r → Call c r
 
+-- demand 1 of every public call: what any contract of the one shape says, and what is to show of each call
 pub record FirstDemand : Type 0 where
   pub every : EveryCallAnswers
   pub check : (l : GeneratorList) → Conforms (checkCall l)

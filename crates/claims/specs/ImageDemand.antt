@@ -1,5 +1,4 @@
 -- Demand 2, of the public call on the image of a graph: "images follow the same definition".
--- Assumes nothing.
 use mathlib.Core.Bool.{false, _||_}
 use mathlib.Core.List.{List}
 use mathlib.Core.Logic.{_↔_, _⊎_}
@@ -41,6 +40,7 @@ pub record ImageStands (l : LentRecord) (list image′ signs′ list′ : List �
   pub amount : count′ ≡ length (imageList (l .n) (heldRecord l))
   pub few : count′ ≤ 3 * l .n / 2
 
+-- which records are refused by 11 or 12, and what comes back otherwise
 pub record ImageDecided (l : LentRecord) (list : List ℕ) (r : ℕ) (image′ signs′ list′ : List ℕ) (count′ : ℕ) : Type
     0 where
   -- "One of lines 11 and 12 holds exactly when the image group, signs dropped, is that of no simple graph"

@@ -1,6 +1,5 @@
 -- Jobs: "For all jobs, the record after the first k steps stands for the group that the definitions give, refused
 -- steps counting as no change." (02, §5)
--- Assumes nothing.
 use mathlib.Core.List.{List}
 use mathlib.Core.Logic.{_↔_}
 use mathlib.Core.Path.{_≡_}
@@ -20,6 +19,7 @@ pub record StandsFor (l : LentRecord) (G : Pauli → Type 0) : Type 0 where
   pub still : StillRecord l
   pub elements : (p : Pauli) → InGroup (l .n) (l .n) (heldRows l) p ↔ G p
 
+-- of every job, after any number of its steps
 abbrev pub JobsStand : Type 0
 JobsStand = (n : ℕ) → 1 ≤ n → n ≤ 64 → (steps : List Step) (k : ℕ) →
     StandsFor (recordAfter n steps k) (GroupAfter (started n) (StartGroup n) (take k steps))

@@ -1,4 +1,3 @@
-pub mod Table
 pub mod SecondDemand
 pub mod PartsDemand
 pub mod ThirdDemand
@@ -12,7 +11,7 @@ pub mod FirstDemand
 pub mod GeneratorDemand
 pub mod StringsDemand
 pub mod SessionDemand
-pub mod SessionTable
 pub mod JobDemand
 pub mod ProgramDemand
 pub mod Sentences
+pub mod internal

@@ -1,5 +1,4 @@
 -- Document 01's own sentences on lists, groups and reduced records, of the public calls.
--- Assumes nothing.
 use mathlib.Core.Bool.{_&&_, Bool, true}
 use mathlib.Core.List.{List}
 use mathlib.Core.Logic.{_↔_}
@@ -14,7 +13,7 @@ use Rattle.pauli.specs.Pauli.{Pauli, anticommute, minus}
 use Rattle.record.specs.Columns.{ColumnDependent}
 use Rattle.record.specs.Lent.{LentRecord, heldRecord, heldRows}
 use Rattle.record.specs.Records.{GraphRecord}
-use Rattle.record.specs.Reduced.{Reduced, hadamardWhere, plainCode, withHadamard, xWords}
+use Rattle.record.specs.Reduced.{ReductionOf, hadamardWhere, plainCode, withHadamard, xWords}
 use Rattle.stabilizer.specs.Groups.{Generated, InGroup, Independent, SameGroup}
 use Rattle.stabilizer.specs.Lists.{GeneratorList, rows}
 use Rattle.words.specs.Bits.{Word, _⊕_}
@@ -36,6 +35,7 @@ pub record Checked (l : GeneratorList) (r : ℕ) : Type 0 where
   pub clash : r ≡ 9 → TwoClash (l .n) (rows l)
   pub dependence : r ≡ 10 → Independent (l .n) (rows l) → ⊥
 
+-- of every call
 abbrev pub ChecksTell : Type 0
 ChecksTell = (l : GeneratorList) (r : ℕ) → Call (checkCall l) r → Checked l r
 
@@ -73,9 +73,10 @@ pub record ReducedInWords (n : ℕ) (R : ℕ → Pauli) (r : GraphRecord) : Type
 -- the record that a reduction leaves: every call on a record takes it, and it is document 01's
 pub record ReducedTo (l : GeneratorList) (r : LentRecord) : Type 0 where
   pub taken : TakenByAll r
-  pub form : Reduced (l .n) (rows l) (heldRecord r)
+  pub form : ReductionOf (l .n) (rows l) (heldRecord r)
   pub words : ReducedInWords (l .n) (rows l) (heldRecord r)
 
+-- of every accepted call
 abbrev pub ReductionAnswers : Type 0
 ReductionAnswers = (l : GeneratorList) (nb cs nb′ cs′ : List ℕ) → Call (reduceCall l nb cs nb′ cs′) 0 →
     ReducedTo l (record { n = l .n; neighbours = nb′; codes = cs′ })

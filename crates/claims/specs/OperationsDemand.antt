@@ -1,7 +1,6 @@
 -- Demand 2, of the public calls on a record lent in place: "Gates, CZ, Pauli measurements .. follow the same
 -- definition"; and complements and pivots, which keep the group. Each, but for the measurements that are refused, is said
 -- of an accepted call: its number is 0, and nb′, cs′ are what the two buffers hold at exit.
--- Assumes nothing.
 use mathlib.Core.Bool.{Bool, false, not, true}
 use mathlib.Core.List.{List, [], _∷_}
 use mathlib.Core.Logic.{_↔_, _⊎_}
@@ -47,34 +46,37 @@ pub record IsReduced (l : LentRecord) : Type 0 where
   pub codes : l .codes ≡ codeNumbers (l .n) (reduced (l .n) (heldRows l))
 
 -- ---- "A gate applies a code after the code already held": so the group is sent through the code at the qubit
-pub record Gated (l : LentRecord) (q k : ℕ) (after : LentRecord) : Type 0 where
+pub record GateStands (l : LentRecord) (q k : ℕ) (after : LentRecord) : Type 0 where
   pub still : StillRecord after
   pub answers : IsReduced after
   pub applied : SameGroup (l .n) (l .n) (rowsOf (l .n) (gated (heldRecord l) q (cliffordOf k))) (heldRows after)
   pub group : Carries (l .n) (only q (cliffordOf k)) (heldRows l) (heldRows after)
 
+-- of every accepted call
 abbrev pub GatesFollow : Type 0
 GatesFollow = (l : LentRecord) (q k : ℕ) (nb′ cs′ : List ℕ) → Call (inPlaceCall l (gateWith q k) nb′ cs′) 0 →
-    Gated l q k (left l nb′ cs′)
+    GateStands l q k (left l nb′ cs′)
 
 -- ---- "CZ on a and b sends X at a to X at a times Z at b, likewise with a and b exchanged, and fixes Z": the new
 -- group has exactly the images of the elements of the old one
-pub record Entangled (l : LentRecord) (a b : ℕ) (after : LentRecord) : Type 0 where
+pub record CzStands (l : LentRecord) (a b : ℕ) (after : LentRecord) : Type 0 where
   pub still : StillRecord after
   pub answers : IsReduced after
   pub is : IsCz (l .n) a b (cz a b)
   pub group : (p : Pauli) → InGroup (l .n) (l .n) (heldRows after) p
       ↔ ((r : Pauli) × InGroup (l .n) (l .n) (heldRows l) r × (p ≡ cz a b r))
 
+-- of every accepted call
 abbrev pub CzFollows : Type 0
 CzFollows = (l : LentRecord) (a b : ℕ) (nb′ cs′ : List ℕ) → Call (inPlaceCall l (czOn a b) nb′ cs′) 0 →
-    Entangled l a b (left l nb′ cs′)
+    CzStands l a b (left l nb′ cs′)
 
 -- ---- measurements
 -- the Pauli measured, with a sign (true means minus)
 abbrev pub signedPauli : ℕ → ℕ → Bool → Pauli
 signedPauli pauli q s = single (pauliLetter pauli) q s
 
+-- what an accepted measurement answers and leaves
 pub record MeasurementStands (l : LentRecord) (pauli q b : ℕ) (after : LentRecord) (answer′ determined′ : ℕ) : Type
     0 where
   pub still : StillRecord after
@@ -94,14 +96,15 @@ pub record MeasurementStands (l : LentRecord) (pauli q b : ℕ) (after : LentRec
   pub joined : determined′ ≡ 0 → (p : Pauli) → InGroup (l .n) (l .n) (heldRows after) p
       ↔ Measured (l .n) (heldRows l) (signedPauli pauli q (isOdd b)) p
 
+-- of every accepted call
 abbrev pub MeasurementsFollow : Type 0
 MeasurementsFollow =
     (l : LentRecord) (pauli q b answer determined : ℕ) (nb′ cs′ : List ℕ) (answer′ determined′ : ℕ) →
     Call (measureCall l pauli q b answer determined nb′ cs′ answer′ determined′) 0 →
     MeasurementStands l pauli q b (left l nb′ cs′) answer′ determined′
 
--- ---- impossible clicks: "where bit and sign differ, the call is refused and the record kept" (02, §4)
-pub record ImpossibleClick (l : LentRecord) (pauli q b answer determined r : ℕ) (nb′ cs′ : List ℕ)
+-- ---- contradicted outcomes: "where bit and sign differ, the call is refused and the record kept" (02, §4)
+pub record OutcomeContradicted (l : LentRecord) (pauli q b answer determined r : ℕ) (nb′ cs′ : List ℕ)
     (answer′ determined′ : ℕ) : Type 0 where
   -- 14 comes back exactly if no earlier line holds and the Pauli with the sign that the bit does not have is in the
   -- group
@@ -111,11 +114,12 @@ pub record ImpossibleClick (l : LentRecord) (pauli q b answer determined r : ℕ
   pub record-kept : r ≡ 14 → left l nb′ cs′ ≡ l
   pub answers-kept : r ≡ 14 → (answer′ ≡ answer) × (determined′ ≡ determined)
 
-abbrev pub ImpossibleClicksRefused : Type 0
-ImpossibleClicksRefused =
+-- of every call, with any number
+abbrev pub ContradictionsRefused : Type 0
+ContradictionsRefused =
     (l : LentRecord) (pauli q b answer determined r : ℕ) (nb′ cs′ : List ℕ) (answer′ determined′ : ℕ) →
     Call (measureCall l pauli q b answer determined nb′ cs′ answer′ determined′) r →
-    ImpossibleClick l pauli q b answer determined r nb′ cs′ answer′ determined′
+    OutcomeContradicted l pauli q b answer determined r nb′ cs′ answer′ determined′
 
 -- ---- "As a rewriting of a record it keeps the group, and the answer is the record so rewritten, not reduced"
 pub record RewrittenAs (l after : LentRecord) (new : GraphRecord) : Type 0 where
@@ -123,10 +127,12 @@ pub record RewrittenAs (l after : LentRecord) (new : GraphRecord) : Type 0 where
   pub holds : SameRecord (heldRecord after) new
   pub group : SameGroup (l .n) (l .n) (heldRows l) (heldRows after)
 
+-- of every accepted complement
 abbrev pub ComplementsKeep : Type 0
 ComplementsKeep = (l : LentRecord) (a : ℕ) (nb′ cs′ : List ℕ) → Call (inPlaceCall l (complementOf a) nb′ cs′) 0 →
     RewrittenAs l (left l nb′ cs′) (complementRecord (heldRecord l) a)
 
+-- of every accepted pivot
 abbrev pub PivotsKeep : Type 0
 PivotsKeep = (l : LentRecord) (j k : ℕ) (nb′ cs′ : List ℕ) → Call (inPlaceCall l (pivotOf j k) nb′ cs′) 0 →
     RewrittenAs l (left l nb′ cs′) (pivotRecord (heldRecord l) j k)

@@ -1,6 +1,5 @@
 -- Of the parts of reduced graphs (02, §9): "Show that equivalent states have the same parts, and that, where the parts
 -- agree, a working choice exists exactly if each has one"; and which comparisons 3 refuses.
--- Assumes nothing.
 use mathlib.Core.Bool.{true}
 use mathlib.Core.List.{List}
 use mathlib.Core.Logic.{_↔_, _⊎_}
@@ -42,20 +41,20 @@ abbrev pub PartsAreReached : Type 0
 PartsAreReached = (n : ℕ) (θ : Graph) (q t : ℕ) → q < n → t < n → (partOf n θ q t ≡ true) ↔ Path n θ q t
 
 -- two accepted lists on one number of qubits
-pub record Accepted (l m : GeneratorList) : Type 0 where
+pub record AcceptedLists (l m : GeneratorList) : Type 0 where
   pub first : firstFitting (checkLines l) ≡ 0
   pub second : firstFitting (checkLines m) ≡ 0
   pub same-count : l .n ≡ m .n
 
 -- "equivalent states have the same parts"
 abbrev pub EquivalentHaveSameParts : Type 0
-EquivalentHaveSameParts = (l m : GeneratorList) → Accepted l m → (c : ℕ → Clifford) → Carries (l .n) c (rows l) (rows m)
+EquivalentHaveSameParts = (l m : GeneratorList) → AcceptedLists l m → (c : ℕ → Clifford) → Carries (l .n) c (rows l) (rows m)
     → (q t : ℕ) → part l q t ≡ part m q t
 
 -- "where the parts agree, a working choice exists exactly if each has one": each part has a choice that carries the
 -- elements of the first group that act on it alone onto those of the second
 abbrev pub PartsDecide : Type 0
-PartsDecide = (l m : GeneratorList) → Accepted l m → ((q t : ℕ) → part l q t ≡ part m q t)
+PartsDecide = (l m : GeneratorList) → AcceptedLists l m → ((q t : ℕ) → part l q t ≡ part m q t)
     → ((c : ℕ → Clifford) × Carries (l .n) c (rows l) (rows m))
     ↔ ((q : ℕ) → q < l .n → (c : ℕ → Clifford) × CarriesOn (l .n) (part l q) c (rows l) (rows m))
 
@@ -76,6 +75,7 @@ pub record DecidedByParts (l m : GeneratorList) (choice list : List ℕ) (r : �
       ((q t : ℕ) → part l q t ≡ part m q t) →
       (r ≡ 0) ↔ ((q : ℕ) → q < l .n → (c : ℕ → Clifford) × CarriesOn (l .n) (part l q) c (rows l) (rows m))
 
+-- of every call
 abbrev pub ComparedByParts : Type 0
 ComparedByParts =
     (l m : GeneratorList) (choice list : List ℕ) (counted r : ℕ) (choice′ list′ : List ℕ) (counted′ : ℕ) →

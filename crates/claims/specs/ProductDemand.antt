@@ -1,6 +1,5 @@
 -- Of products: "a word chooses the rows, which are taken in index order, and the answer is the product and its phase",
 -- "a power of i from 0 to 3" (02, §3). Said of an accepted call: z′, x′ and phase′ are what is held at exit.
--- Assumes nothing.
 use mathlib.Core.Bool.{false, true}
 use mathlib.Core.Path.{_≡_}
 use Prim.Native.Nat.{_<_, _^_, suc, ℕ}
@@ -16,6 +15,7 @@ pub data ProductOf (n : ℕ) (w : Word) (R : ℕ → Pauli) : ℕ → Pauli → 
   passed : {m : ℕ} {p : Pauli} → w m ≡ false → ProductOf n w R m p → ProductOf n w R (suc m) p
   taken : {m : ℕ} {p : Pauli} → w m ≡ true → ProductOf n w R m p → ProductOf n w R (suc m) (mul n p (R m))
 
+-- "the answer is the product and its phase"
 pub record ProductAnswer (l : GeneratorList) (chosen z′ x′ phase′ : ℕ) : Type 0 where
   -- i to the phase′, times the letters of the two words
   pub product : ProductOf (l .n) (bit chosen) (rows l) (l .n) (row (power phase′) z′ x′)
@@ -23,6 +23,7 @@ pub record ProductAnswer (l : GeneratorList) (chosen z′ x′ phase′ : ℕ) :
   pub z-below : z′ < 2 ^ (l .n)
   pub x-below : x′ < 2 ^ (l .n)
 
+-- of every accepted call
 abbrev pub ProductsAnswer : Type 0
 ProductsAnswer = (l : GeneratorList) (chosen z x phase z′ x′ phase′ : ℕ) →
     Call (productCall l chosen z x phase z′ x′ phase′) 0 → ProductAnswer l chosen z′ x′ phase′

@@ -1,7 +1,6 @@
 -- What the programs `reduce` and `job` print for a text, from what fn `reply` of list_reply and of job_reply ensures of
 -- the text that was scanned, whatever text it was. The bytes are those of the buffer up to the place that `reply`
 -- answers; the program writes these.
--- Assumes nothing.
 use mathlib.Core.List.{List}
 use mathlib.Core.Logic.{_↔_, _⊎_}
 use mathlib.Core.Path.{_≡_}
@@ -12,7 +11,7 @@ use Rattle.job_text.specs.Answer.{ResponseTo as JobResponse, resultsOf}
 use Rattle.job_text.specs.Results.{Result, jobAnswer}
 use Rattle.job_text.specs.Text.{HasJobForm, JobTextOf}
 use Rattle.jobs.specs.Asked.{asked, numberOf}
-use Rattle.jobs.specs.GroupsAfter.{Group, GroupAfter, IsDetermined, Refused, StartGroup}
+use Rattle.jobs.specs.GroupsAfter.{Group, GroupAfter, GroupDetermines, Refused, StartGroup}
 use Rattle.jobs.specs.Runs.{recordAfter, run, started}
 use Rattle.jobs.specs.declared.Step.{Step}
 use Rattle.call_lists.specs.Calls.{checkLines}
@@ -24,7 +23,7 @@ use Rattle.record.specs.Lent.{LentRecord, codeNumbers, heldRows, neighbourWords
 use Rattle.record.specs.Reduced.{reduced}
 use Rattle.stabilizer.specs.Groups.{SameGroup}
 use Rattle.stabilizer.specs.Lists.{GeneratorList, rows}
-use Rattle.text.specs.Text.{HasForm, Line, TextOf, recordText, refusedText}
+use Rattle.text.specs.Text.{HasForm, ListLine, TextOf, recordText, refusedText}
 use Rattle.words.specs.Bits.{isOdd}
 use Rattle.claims.specs.JobDemand.{StandsFor}
 use Rattle.claims.specs.OperationsDemand.{IsReduced, StillRecord}
@@ -51,11 +50,12 @@ pub record ListTextAnswered (t bytes : List ℕ) : Type 0 where
   -- 1: "The program's text does not have its form"
   pub malformed : (HasForm t → ⊥) → bytes ≡ refusedText 1
   -- "or the one line `refused` and the number": that of the first line that holds of the list
-  pub refused : (ls : List Line) → TextOf ls t → (firstFitting (checkLines (listRead ls)) ≡ 0 → ⊥) →
+  pub refused : (ls : List ListLine) → TextOf ls t → (firstFitting (checkLines (listRead ls)) ≡ 0 → ⊥) →
       bytes ≡ refusedText (firstFitting (checkLines (listRead ls)))
-  pub accepted : (ls : List Line) → TextOf ls t → firstFitting (checkLines (listRead ls)) ≡ 0 →
+  pub accepted : (ls : List ListLine) → TextOf ls t → firstFitting (checkLines (listRead ls)) ≡ 0 →
       RecordPrinted (listRead ls) bytes
 
+-- of every response of `reduce`
 abbrev pub ListTextsAnswered : Type 0
 ListTextsAnswered =
     (t before after : List ℕ) (end : ℕ) → ListResponse t before after end → ListTextAnswered t (take end after)
@@ -65,7 +65,7 @@ ListTextsAnswered =
 abbrev pub Determines : Group → Operation → Type 0
 Determines G (gateWith q k) = ⊥
 Determines G (czOn a b) = ⊥
-Determines G (measurementOf pauli q b) = IsDetermined G (pauliLetter pauli) q
+Determines G (measurementOf pauli q b) = GroupDetermines G (pauliLetter pauli) q
 Determines G (complementOf a) = ⊥
 Determines G (pivotOf j k) = ⊥
 
@@ -75,7 +75,7 @@ abbrev pub OutcomeIs : Group → Operation → ℕ → Type 0
 OutcomeIs G (gateWith q k) v = v ≡ 0
 OutcomeIs G (czOn a b) v = v ≡ 0
 OutcomeIs G (measurementOf pauli q b) v =
-    (v ≡ b) × (IsDetermined G (pauliLetter pauli) q → G (single (pauliLetter pauli) q (isOdd v)))
+    (v ≡ b) × (GroupDetermines G (pauliLetter pauli) q → G (single (pauliLetter pauli) q (isOdd v)))
 OutcomeIs G (complementOf a) v = v ≡ 0
 OutcomeIs G (pivotOf j k) v = v ≡ 0
 
@@ -113,6 +113,7 @@ pub record JobTextAnswered (t bytes : List ℕ) : Type 0 where
   pub accepted : (n : ℕ) (steps : List Step) → JobTextOf n steps t → length steps ≤ 4096 → 1 ≤ n → n ≤ 64 →
       JobPrinted n steps bytes
 
+-- of every response of `job`
 abbrev pub JobTextsAnswered : Type 0
 JobTextsAnswered =
     (t before after : List ℕ) (end : ℕ) → JobResponse t before after end → JobTextAnswered t (take end after)

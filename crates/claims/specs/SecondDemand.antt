@@ -1,6 +1,5 @@
 -- Demand 2, of the public calls: "a generator list and its reduced record stand for the same group, expansion
 -- brings that group back, and two accepted lists reduce to equal records exactly if their groups are equal".
--- Assumes nothing.
 use mathlib.Core.List.{List}
 use mathlib.Core.Logic.{_↔_}
 use mathlib.Core.Path.{_≡_}
@@ -26,6 +25,7 @@ pub record BroughtBack (l : LentRecord) (back : GeneratorList) : Type 0 where
   pub generators : (j : ℕ) → j < l .n → rows back j ≡ heldRows l j
   pub group : SameGroup (l .n) (l .n) (heldRows l) (rows back)
 
+-- of every accepted call
 abbrev pub ExpansionBringsBack : Type 0
 ExpansionBringsBack =
     (l : LentRecord) (s z x s′ z′ x′ : List ℕ) → Call (expandCall l s z x s′ z′ x′) 0 →

@@ -1,7 +1,6 @@
 -- What the documents say of each exported function, in one record: demand 1, which arguments it accepts, and then the
 -- sentences of the demands and of the requests that speak of its answer. The functions of the crate `sukhlent` that are
 -- named after these have them as contracts.
--- Assumes nothing.
 use mathlib.Core.Bool.{false, _||_}
 use mathlib.Core.List.{List}
 use mathlib.Core.Logic.{_↔_, _⊎_, _≢_}
@@ -12,7 +11,7 @@ use Rattle.buffers.specs.Refusals.{firstFitting, otherThan}
 use Rattle.call_compare.specs.Comparisons.{compareCall}
 use Rattle.comparison.specs.Compared.{pairLines}
 use Rattle.call_cut.specs.Cuts.{cutCall}
-use Rattle.call_generate.specs.Generated.{generateCall}
+use Rattle.call_generate.specs.Generation.{generateCall}
 use Rattle.call_image.specs.Images.{imageCall}
 use Rattle.call_lists.specs.Calls.{checkCall, expandCall, reduceCall}
 use Rattle.operations.specs.Steps.{complementOf, czOn, gateWith, pivotOf, pivotRecord}
@@ -43,10 +42,17 @@ use Rattle.claims.specs.AcceptedCalls.{
 }
 use Rattle.claims.specs.CutDemand.{CutAnswer, rankAcross}
 use Rattle.claims.specs.FirstDemand.{Answered}
-use Rattle.claims.specs.GeneratorDemand.{Generated}
+use Rattle.claims.specs.GeneratorDemand.{JobGenerated}
 use Rattle.claims.specs.ImageDemand.{ImageDecided}
 use Rattle.claims.specs.ListDemand.{Checked, ReducedTo}
-use Rattle.claims.specs.OperationsDemand.{Entangled, Gated, ImpossibleClick, MeasurementStands, RewrittenAs, left}
+use Rattle.claims.specs.OperationsDemand.{
+  CzStands,
+  GateStands,
+  OutcomeContradicted,
+  MeasurementStands,
+  RewrittenAs,
+  left,
+}
 use Rattle.claims.specs.PartsDemand.{DecidedByParts, LargePart, SmallParts}
 use Rattle.claims.specs.ProductDemand.{ProductAnswer}
 use Rattle.claims.specs.SecondDemand.{BroughtBack}
@@ -61,11 +67,13 @@ use Rattle.claims.specs.SessionDemand.{
 use Rattle.claims.specs.StringsDemand.{FormTold, ListComesBack, TextComesBack, listLeft}
 use Rattle.claims.specs.ThirdDemand.{AcceptedPair, Decided}
 
+-- sukhlent_check: demand 1
 pub record CheckSays (l : GeneratorList) (r : ℕ) : Type 0 where
   pub answered : Answered (checkCall l) r
   pub accepted : (r ≡ 0) ↔ IsList l
   pub tells : Checked l r
 
+-- sukhlent_reduce: demands 1 and 2, and that reduced codes are among 0, 2, 4, 6, 8 and 10
 pub record ReduceSays (l : GeneratorList) (nb cs nb′ cs′ : List ℕ) (r : ℕ) : Type 0 where
   pub answered : Answered (reduceCall l nb cs nb′ cs′) r
   pub accepted : (r ≡ 0) ↔ ReduceFits l nb cs
@@ -74,48 +82,55 @@ pub record ReduceSays (l : GeneratorList) (nb cs nb′ cs′ : List ℕ) (r : �
   pub form : r ≡ 0 → ReducedTo l (record { n = l .n; neighbours = nb′; codes = cs′ })
   pub codes : r ≡ 0 → (q : ℕ) → q < l .n → (i : ℕ) × (i < 6) × (getD cs′ q 0 ≡ 2 * i)
 
+-- sukhlent_expand: demands 1 and 2
 pub record ExpandSays (l : LentRecord) (s z x s′ z′ x′ : List ℕ) (r : ℕ) : Type 0 where
   pub answered : Answered (expandCall l s z x s′ z′ x′) r
   pub accepted : (r ≡ 0) ↔ ExpandFits l s z x
   pub group : r ≡ 0 → BroughtBack l (record { n = l .n; signs = s′; z = z′; x = x′ })
 
+-- sukhlent_gate: demands 1 and 2, and ranks across cuts (02, §1)
 pub record GateSays (l : LentRecord) (q k : ℕ) (nb′ cs′ : List ℕ) (r : ℕ) : Type 0 where
   pub answered : Answered (inPlaceCall l (gateWith q k) nb′ cs′) r
   pub accepted : (r ≡ 0) ↔ GateFits l q k
-  pub group : r ≡ 0 → Gated l q k (left l nb′ cs′)
+  pub group : r ≡ 0 → GateStands l q k (left l nb′ cs′)
   pub ranks : r ≡ 0 → (side : Word) → rankAcross side (left l nb′ cs′) ≡ rankAcross side l
   pub by-expanding : r ≡ 0 → ByExpanding l (gateChange (l .n) q k) nb′ cs′
   pub number-by-expanding : q < l .n → k < 24 → NumberByExpanding l r
 
+-- sukhlent_cz: demands 1 and 2, and ranks across cuts (02, §1)
 pub record CzSays (l : LentRecord) (a b : ℕ) (nb′ cs′ : List ℕ) (r : ℕ) : Type 0 where
   pub answered : Answered (inPlaceCall l (czOn a b) nb′ cs′) r
   pub accepted : (r ≡ 0) ↔ CzFits l a b
-  pub group : r ≡ 0 → Entangled l a b (left l nb′ cs′)
+  pub group : r ≡ 0 → CzStands l a b (left l nb′ cs′)
   pub ranks : r ≡ 0 → (side : Word) → side a ≡ side b → rankAcross side (left l nb′ cs′) ≡ rankAcross side l
   pub by-expanding : r ≡ 0 → ByExpanding l (czChange a b) nb′ cs′
   pub number-by-expanding : a < l .n → b < l .n → a ≢ b → NumberByExpanding l r
 
+-- sukhlent_complement: demand 1, the record of the rule with the same group, and ranks across cuts
 pub record ComplementSays (l : LentRecord) (a : ℕ) (nb′ cs′ : List ℕ) (r : ℕ) : Type 0 where
   pub answered : Answered (inPlaceCall l (complementOf a) nb′ cs′) r
   pub accepted : (r ≡ 0) ↔ ComplementFits l a
   pub group : r ≡ 0 → RewrittenAs l (left l nb′ cs′) (complementRecord (heldRecord l) a)
   pub ranks : r ≡ 0 → (side : Word) → rankAcross side (left l nb′ cs′) ≡ rankAcross side l
 
+-- sukhlent_pivot: demand 1, the record of the rule with the same group, and ranks across cuts
 pub record PivotSays (l : LentRecord) (j k : ℕ) (nb′ cs′ : List ℕ) (r : ℕ) : Type 0 where
   pub answered : Answered (inPlaceCall l (pivotOf j k) nb′ cs′) r
   pub accepted : (r ≡ 0) ↔ PivotFits l j k
   pub group : r ≡ 0 → RewrittenAs l (left l nb′ cs′) (pivotRecord (heldRecord l) j k)
   pub ranks : r ≡ 0 → (side : Word) → rankAcross side (left l nb′ cs′) ≡ rankAcross side l
 
+-- sukhlent_measure: demands 1 and 2, and contradicted outcomes (02, §4)
 pub record MeasureSays (l : LentRecord) (pauli q b answer determined : ℕ) (nb′ cs′ : List ℕ)
     (answer′ determined′ r : ℕ) : Type 0 where
   pub answered : Answered (measureCall l pauli q b answer determined nb′ cs′ answer′ determined′) r
   pub accepted : (r ≡ 0) ↔ MeasureFits l pauli q b
   pub group : r ≡ 0 → MeasurementStands l pauli q b (left l nb′ cs′) answer′ determined′
-  pub impossible : ImpossibleClick l pauli q b answer determined r nb′ cs′ answer′ determined′
+  pub contradicted : OutcomeContradicted l pauli q b answer determined r nb′ cs′ answer′ determined′
   pub by-expanding : r ≡ 0 → MeasuredByExpanding l pauli q b nb′ cs′ answer′ determined′
   pub number-by-expanding : 1 ≤ pauli → pauli ≤ 3 → q < l .n → b < 2 → MeasureNumberByExpanding l pauli q b r
 
+-- sukhlent_compare: demands 1 and 3, and refusal 3 (02, §9)
 pub record CompareSays (l m : GeneratorList) (choice list : List ℕ) (count : ℕ) (choice′ list′ : List ℕ)
     (count′ r : ℕ) : Type 0 where
   pub answered : Answered (compareCall l m choice list count choice′ list′ count′) r
@@ -127,6 +142,7 @@ pub record CompareSays (l m : GeneratorList) (choice list : List ℕ) (count : �
   pub large : firstFitting (pairLines l m choice list) ≡ 0 → (r ≡ 3) ↔ (LargePart l ⊎ LargePart m)
   pub parts : DecidedByParts l m choice list r
 
+-- sukhlent_image: demands 1 and 2
 pub record ImageSays (l : LentRecord) (image signs list : List ℕ) (count : ℕ) (image′ signs′ list′ : List ℕ)
     (count′ r : ℕ) : Type 0 where
   pub answered : Answered (imageCall l image signs list count image′ signs′ list′ count′) r
@@ -134,20 +150,23 @@ pub record ImageSays (l : LentRecord) (image signs list : List ℕ) (count : ℕ
   pub decided : firstFitting (recordLines l (otherThan (l .n) image
       || (otherThan (l .n) signs || otherThan 96 list)) false) ≡ 0 → ImageDecided l list r image′ signs′ list′ count′
 
+-- sukhlent_cut: demand 1; the answer is the rank by its contract
 pub record CutSays (l : LentRecord) (side rank rank′ r : ℕ) : Type 0 where
   pub answered : Answered (cutCall l side rank rank′) r
   pub accepted : (r ≡ 0) ↔ CutFits l side
   pub answer : r ≡ 0 → CutAnswer l side rank′
 
+-- sukhlent_product: demand 1; the answer is the product by its contract
 pub record ProductSays (l : GeneratorList) (chosen z x phase z′ x′ phase′ r : ℕ) : Type 0 where
   pub answered : Answered (productCall l chosen z x phase z′ x′ phase′) r
   pub accepted : (r ≡ 0) ↔ ProductFits l chosen
   pub answer : r ≡ 0 → ProductAnswer l chosen z′ x′ phase′
 
+-- sukhlent_generate: demand 1, and that the text reads back (02, §6)
 pub record GenerateSays (n count seed : ℕ) (text : List ℕ) (size : ℕ) (text′ : List ℕ) (size′ r : ℕ) : Type 0 where
   pub answered : Answered (generateCall n count seed text size text′ size′) r
   pub accepted : (r ≡ 0) ↔ GenerateFits n count seed text
-  pub back : r ≡ 0 → Generated n count seed text text′ size′
+  pub back : r ≡ 0 → JobGenerated n count seed text text′ size′
 
 -- of read_strings: demand 1, its number 1, and the text written again
 pub record ReadStringsSays (t s z x s′ z′ x′ : List ℕ) (r : ℕ) : Type 0 where

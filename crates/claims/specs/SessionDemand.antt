@@ -1,7 +1,6 @@
 -- The request on faster sessions, of the public calls: "For every record the answer equals the one from expanding,
 -- changing the list and reducing" (02, §7): of an accepted call, whose number is 0, what the two buffers nb′, cs′ hold
 -- at exit; and of every call its number.
--- Assumes nothing.
 use mathlib.Core.List.{_++_, List, [], _∷_}
 use mathlib.Core.Logic.{_≢_}
 use mathlib.Core.Path.{_≡_}
@@ -13,7 +12,14 @@ use Rattle.clifford.specs.Vectors.{act, only}
 use Rattle.contracts.specs.Calls.{Call}
 use Rattle.call_lists.specs.Calls.{expandCall, expandLines, reduceCall, reduceLines}
 use Rattle.operations.specs.Cz.{cz}
-use Rattle.operations.specs.Measurement.{answered, contradicts, determinedNumber, measuredRows, outcomeNumber, pauliLetter}
+use Rattle.operations.specs.Measurement.{
+  measuredOutcome,
+  contradicts,
+  determinedNumber,
+  measuredRows,
+  outcomeNumber,
+  pauliLetter,
+}
 use Rattle.operations.specs.Steps.{czOn, gateWith}
 use Rattle.pauli.specs.Pauli.{Pauli}
 use Rattle.record.specs.Lent.{LentRecord}
@@ -64,6 +70,7 @@ pub record ReducesTo (m : GeneratorList) (f : (ℕ → Pauli) → ℕ → Pauli)
       SameGroup (m .n) (m .n) (f (rows m)) (rows (listIn (m .n) s z x)) →
       Call (reduceCall (listIn (m .n) s z x) nb cs nb₂ cs₂) 0 → (nb₂ ≡ nb′) × (cs₂ ≡ cs′)
 
+-- the answer nb′, cs′ of a call "equals the one from expanding, changing the list and reducing"
 pub record ByExpanding (l : LentRecord) (f : (ℕ → Pauli) → ℕ → Pauli) (nb′ cs′ : List ℕ) : Type 0 where
   -- no line refuses to expand the record into three buffers with n places
   pub accepted : (s z x : List ℕ) → length s ≡ l .n → length z ≡ l .n → length x ≡ l .n →
@@ -77,6 +84,7 @@ abbrev pub GatesByExpanding : Type 0
 GatesByExpanding = (l : LentRecord) (q k : ℕ) (nb′ cs′ : List ℕ) → Call (inPlaceCall l (gateWith q k) nb′ cs′) 0 →
     ByExpanding l (gateChange (l .n) q k) nb′ cs′
 
+-- of every accepted CZ
 abbrev pub CzByExpanding : Type 0
 CzByExpanding = (l : LentRecord) (a b : ℕ) (nb′ cs′ : List ℕ) → Call (inPlaceCall l (czOn a b) nb′ cs′) 0 →
     ByExpanding l (czChange a b) nb′ cs′
@@ -86,10 +94,11 @@ pub record MeasuredByExpanding (l : LentRecord) (pauli q b : ℕ) (nb′ cs′ :
     0 where
   pub left : ByExpanding l (measureChange (l .n) pauli q b) nb′ cs′
   pub outcome : (s z x s′ z′ x′ : List ℕ) → Call (expandCall l s z x s′ z′ x′) 0 →
-      answer′ ≡ outcomeNumber (answered (l .n) (rows (listIn (l .n) s′ z′ x′)) (pauliLetter pauli) q (isOdd b))
+      answer′ ≡ outcomeNumber (measuredOutcome (l .n) (rows (listIn (l .n) s′ z′ x′)) (pauliLetter pauli) q (isOdd b))
   pub determined : (s z x s′ z′ x′ : List ℕ) → Call (expandCall l s z x s′ z′ x′) 0 →
-      determined′ ≡ determinedNumber (answered (l .n) (rows (listIn (l .n) s′ z′ x′)) (pauliLetter pauli) q (isOdd b))
+      determined′ ≡ determinedNumber (measuredOutcome (l .n) (rows (listIn (l .n) s′ z′ x′)) (pauliLetter pauli) q (isOdd b))
 
+-- of every accepted measurement
 abbrev pub MeasurementsByExpanding : Type 0
 MeasurementsByExpanding =
     (l : LentRecord) (pauli q b answer determined : ℕ) (nb′ cs′ : List ℕ) (answer′ determined′ : ℕ) →
@@ -101,11 +110,13 @@ pub record NumberByExpanding (l : LentRecord) (r : ℕ) : Type 0 where
   pub equal : (s z x s′ z′ x′ : List ℕ) (e : ℕ) → length s ≡ l .n → length z ≡ l .n → length x ≡ l .n →
       Call (expandCall l s z x s′ z′ x′) e → r ≡ e
 
+-- of every gate with a code on a qubit
 abbrev pub GateNumbersByExpanding : Type 0
 GateNumbersByExpanding =
     (l : LentRecord) (q k r : ℕ) (nb′ cs′ : List ℕ) → q < l .n → k < 24 →
     Call (inPlaceCall l (gateWith q k) nb′ cs′) r → NumberByExpanding l r
 
+-- of every CZ on two qubits
 abbrev pub CzNumbersByExpanding : Type 0
 CzNumbersByExpanding =
     (l : LentRecord) (a b r : ℕ) (nb′ cs′ : List ℕ) → a < l .n → b < l .n → a ≢ b →
@@ -117,6 +128,7 @@ pub record MeasureNumberByExpanding (l : LentRecord) (pauli q b r : ℕ) : Type 
       Call (expandCall l s z x s′ z′ x′) e → r ≡ firstFitting (expandLines l s z x
       ++ (line 14 (contradicts (l .n) (rows (listIn (l .n) s′ z′ x′)) (pauliLetter pauli) q (isOdd b)) ∷ []))
 
+-- of every measurement of a Pauli on a qubit, with a bit
 abbrev pub MeasureNumbersByExpanding : Type 0
 MeasureNumbersByExpanding =
     (l : LentRecord) (pauli q b answer determined r : ℕ) (nb′ cs′ : List ℕ) (answer′ determined′ : ℕ) →

@@ -1,6 +1,5 @@
 -- Texts of Pauli strings (02, §10), from the contracts of the two calls. A name with a prime is what a buffer holds at
 -- exit.
--- Assumes nothing.
 use mathlib.Core.List.{List}
 use mathlib.Core.Logic.{_↔_}
 use mathlib.Core.Path.{_≡_}

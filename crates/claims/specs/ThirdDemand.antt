@@ -1,5 +1,4 @@
 -- Demand 3, of the public call that compares two generator lists.
--- Assumes nothing.
 use mathlib.Core.List.{List, [], _∷_}
 use mathlib.Core.Logic.{_↔_}
 use mathlib.Core.Path.{_≡_}

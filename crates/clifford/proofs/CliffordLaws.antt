@@ -1,5 +1,4 @@
 -- Laws of the 24 Cliffords, each by one computed test over all of them.
--- Assumes nothing.
 use mathlib.Core.Bool.{_&&_, Bool, false, true}
 use mathlib.Core.Path.{ap, refl, sym, _∙_, _≡_}
 use Prim.Native.Nat.{_<_, ℕ}

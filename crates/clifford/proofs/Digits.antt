@@ -1,5 +1,4 @@
 -- Images and inverses as the code works them out, from the digits of a code: its class and its two signs.
--- Assumes nothing.
 use mathlib.Core.Bool.{_&&_, Bool, Bool·beq, false, not, true}
 use mathlib.Core.Path.{ap, ap₂, refl, subst, sym, _∙_, _≡_}
 use Prim.Native.Nat.{_*_, _+_, _/_, _<_, ℕ}

@@ -1,5 +1,4 @@
 -- Rows of the composition table by computed tests: two in words, five bits for each entry, and two as flipped signs.
--- Assumes nothing.
 use mathlib.Core.Path.{refl, subst, sym, _≡_}
 use Prim.Native.Nat.{_%_, _*_, _+_, _/_, _<_, _^_, ℕ}
 use lib.Bits.{bitXor}

@@ -1,5 +1,4 @@
 -- A row sent through its codes place by place, as the code does it.
--- Assumes nothing.
 use mathlib.Core.Bool.{Bool, Bool·beq, cond, not}
 use mathlib.Core.List.{List}
 use mathlib.Core.Logic.{inl, inr, _≢_, _⊎_}

@@ -1,5 +1,4 @@
 -- The constant table of the source, and its rule, by one computed test over the whole table.
--- Assumes nothing.
 use mathlib.Core.Bool.{_&&_, Bool, true}
 use mathlib.Core.List.{List, [], _∷_}
 use mathlib.Core.Path.{ap₂, subst, _∙_, _≡_}

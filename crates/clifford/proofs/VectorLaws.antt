@@ -1,5 +1,4 @@
 -- One code for each qubit: the action respects products, commutation, signs, composition and inverses.
--- Assumes nothing.
 use mathlib.Core.Bool.{false}
 use mathlib.Core.Path.{ap, fun-ext, refl, sym, _∙_, _≡_}
 use Prim.Native.Nat.{ℕ}

@@ -1,5 +1,4 @@
 -- The 24 one-qubit Cliffords, each up to a global phase: a code names one of them.
--- Assumes nothing.
 use mathlib.Core.Bool.{Bool, false}
 use Prim.Native.Nat.{_*_, _+_, _/_, suc, zero, ℕ}
 use lib.Dec.{eqb}
@@ -13,6 +12,7 @@ use Rattle.words.specs.Search.{first}
 pub data Class : Type 0 where
   XZ YZ ZX XY YX ZY : Class
 
+-- the letter to which X goes
 abbrev pub imageX : Class → Letter
 imageX XZ = X
 imageX YZ = Y
@@ -21,6 +21,7 @@ imageX XY = X
 imageX YX = Y
 imageX ZY = Z
 
+-- the letter to which Z goes
 abbrev pub imageZ : Class → Letter
 imageZ XZ = Z
 imageZ YZ = Z
@@ -38,6 +39,7 @@ classOf (suc (suc (suc zero))) = XY
 classOf (suc (suc (suc (suc zero)))) = YX
 classOf (suc (suc (suc (suc (suc c))))) = ZY
 
+-- the number of a class
 abbrev pub classNumber : Class → ℕ
 classNumber XZ = 0
 classNumber YZ = 1
@@ -56,16 +58,18 @@ pub record Clifford : Type 0 where
 abbrev pub cliffordOf : ℕ → Clifford
 cliffordOf c = record { class = classOf (c / 4); sx = isOdd (c / 2); sz = isOdd c }
 
+-- the code of a Clifford, by the same sum
 abbrev pub codeOf : Clifford → ℕ
 codeOf k = 4 * classNumber (k .class) + 2 * digit (k .sx) + digit (k .sz)
 
--- the image of a letter: its letter, and its phase. "Y goes to i times the image of X times the image of Z"
+-- the image of a letter: its letter. "Y goes to i times the image of X times the image of Z"
 abbrev pub image : Clifford → Letter → Letter
 image k I = I
 image k X = imageX (k .class)
 image k Y = letterProduct (imageX (k .class)) (imageZ (k .class))
 image k Z = imageZ (k .class)
 
+-- its phase
 abbrev pub imagePhase : Clifford → Letter → Phase
 imagePhase k I = i⁰
 imagePhase k X = minus (k .sx)
@@ -77,6 +81,7 @@ imagePhase k Z = minus (k .sz)
 abbrev pub bitC : Clifford → Bool
 bitC k = xBit (image k Z)
 
+-- D of a Clifford
 abbrev pub bitD : Clifford → Bool
 bitD k = xBit (image k X)
 

@@ -1,5 +1,4 @@
 -- One code for each qubit, acting on a row.
--- Assumes nothing.
 use mathlib.Core.List.{List}
 use Prim.Native.Nat.{ℕ}
 use lib.ListN.{getD}

@@ -11,7 +11,7 @@ ghost use Prim.Native.Nat.{ℕ, _<_, _≤_};
 ghost use lib.ListN.{getD, length};
 ghost use Rattle.clifford.specs.Clifford.{cliffordOf};
 ghost use Rattle.clifford.specs.Vectors.{act, codesOf, only};
-ghost use Rattle.pauli.specs.Rows.{generatorOf};
+ghost use Rattle.pauli.specs.internal.Rows.{generatorOf};
 
 // A row with the letter at place q sent through a code.
 pub fn send_place(g: Generator, q: usize, code: Code) -> Generator

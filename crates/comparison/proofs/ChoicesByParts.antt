@@ -1,9 +1,8 @@
 -- "a working choice exists exactly if each has one": a choice that works serves every part, and choices for the parts,
 -- each taken at the part's vertices, make one that works.
--- Assumes nothing.
 use mathlib.Core.Bool.{Bool, false, not, true, true≢false}
 use mathlib.Core.Logic.{_↔_, inl, inr, _⊎_}
-use mathlib.Core.Path.{ap, ap₂, refl, subst, sym, _∙_, _≡_}
+use mathlib.Core.Path.{ap, refl, subst, sym, _∙_, _≡_}
 use Prim.Native.Nat.{_<_, _≤_, ℕ}
 use native.Mathlib.Nat.{lt-trans}
 use native.Mathlib.Omega.{arith}
@@ -12,10 +11,10 @@ use Rattle.clifford.proofs.VectorLaws.{act-inverse}
 use Rattle.clifford.specs.Clifford.{Clifford, identityClifford, inverse}
 use Rattle.clifford.specs.Vectors.{act}
 use Rattle.cut.proofs.OneSidedElements.{avoids-act}
-use Rattle.cut.specs.OneSided.{Avoids}
-use Rattle.graph.specs.Graph.{Graph, Simple, graphGenerator}
+use Rattle.graph.specs.Graph.{Simple, graphGenerator}
 use Rattle.parts.proofs.PartLaws.{part-closed, part-has, part-together}
-use Rattle.parts.specs.Parts.{Closed, partOf}
+use Rattle.parts.specs.internal.Parts.{Closed}
+use Rattle.parts.specs.Parts.{partOf}
 use Rattle.pauli.specs.Pauli.{Pauli}
 use Rattle.record.proofs.Maximality.{inclusion-same}
 use Rattle.record.proofs.ReducedRecords.{record-proper}
@@ -31,7 +30,7 @@ use Rattle.words.proofs.SearchLaws.{first-is, first-unique}
 use Rattle.words.proofs.Sums.{lt-or-ge}
 use Rattle.words.specs.Bits.{Word}
 use Rattle.words.specs.Search.{IsFirst, first}
-use Rattle.comparison.proofs.SettledChoices.{same-sent}
+use Rattle.comparison.proofs.LeastAtVertices.{same-sent}
 use Rattle.comparison.specs.PartChoices.{ActsOn, CarriesOn}
 
 -- ---- a choice that works serves every set

@@ -1,6 +1,5 @@
 -- The image of a row commutes with another row exactly if the classes solve the class equation; choices that agree
 -- on classes, or on signs, have assignments that agree.
--- Assumes nothing.
 use mathlib.Core.Bool.{_&&_, Bool, false, true}
 use mathlib.Core.Logic.{inl, inr, _⊎_}
 use mathlib.Core.Path.{ap, ap₂, refl, subst, sym, _∙_, _≡_}
@@ -11,7 +10,7 @@ use Rattle.clifford.proofs.CliffordLaws.{fromFive, onClifford, xAfter, zAfter}
 use Rattle.clifford.specs.Clifford.{Class, Clifford, imageX, imageZ}
 use Rattle.clifford.specs.Vectors.{act}
 use Rattle.pauli.specs.Pauli.{Pauli, anticommute, xBit, zBit}
-use Rattle.pauli.specs.Rows.{generatorOf}
+use Rattle.pauli.specs.internal.Rows.{generatorOf}
 use Rattle.pauli.specs.declared.Generator.{Generator}
 use Rattle.stabilizer.proofs.GroupLaws.{elements-commute, in-row}
 use Rattle.stabilizer.proofs.Products.{anticommute-form}
@@ -21,11 +20,12 @@ use Rattle.words.proofs.BitLaws.{bit-above, bit-and, bit-wordOf, lt-of-bits, wo
 use Rattle.words.proofs.Finite.{bits, ⊕-zero}
 use Rattle.words.proofs.OnesLaws.{dot-bits}
 use Rattle.words.proofs.Sums.{fold-ext, lt-or-ge, parity-add}
-use Rattle.words.specs.Bits.{Word, bit, digit, dot, isOdd, parity, wordOf, _⊕_}
+use Rattle.words.specs.Bits.{Word, bit, digit, isOdd, parity, wordOf, _⊕_}
+use Rattle.words.specs.internal.Bits.{dot}
 use Rattle.comparison.proofs.EquationLaws.{SameBelow}
 use Rattle.comparison.proofs.NumberOrder.{class-injective}
 use Rattle.comparison.specs.Choices.{classKey, signKey}
-use Rattle.comparison.specs.Equations.{classAssignment, classEquation, fails, signAssignment}
+use Rattle.comparison.specs.internal.Equations.{classAssignment, classEquation, fails, signAssignment}
 
 -- ---- the image of a letter by the bits of its class
 pub z-after : (k : Clifford) (z x : Bool)

@@ -1,13 +1,12 @@
 -- Classes that satisfy the equations of the first qubits extend to classes that solve all: a solution that is invertible
 -- at one qubit is invertible at all, since the first graph is connected. And what solves all sends each generator into
 -- the second group, up to a sign.
--- Assumes nothing.
 use mathlib.Core.Bool.{_&&_, Bool, false, true}
 use mathlib.Core.List.{List}
 use mathlib.Core.Logic.{inl, inr, _⊎_}
-use mathlib.Core.Path.{ap, ap₂, refl, subst, sym, _∙_, _≡_}
+use mathlib.Core.Path.{ap, ap₂, refl, sym, _∙_, _≡_}
 use Prim.Native.Nat.{_*_, _<_, _^_, _≤_, ℕ}
-use native.Mathlib.Nat.{le-refl, le-trans, lt-of-le-of-lt, lt-of-lt-of-le, not-suc-le-zero}
+use native.Mathlib.Nat.{le-trans, lt-of-le-of-lt, lt-of-lt-of-le, not-suc-le-zero}
 use lib.Bits.{and-le-l, bitAnd}
 use lib.ListN.{getD}
 use Rattle.clifford.proofs.VectorLaws.{act-imaginary}
@@ -15,20 +14,21 @@ use Rattle.clifford.specs.Clifford.{Class, Clifford, classNumber, classWith, im
 use Rattle.clifford.specs.Clifford.Class.{XZ, YZ, ZX, XY, YX, ZY}
 use Rattle.clifford.specs.Vectors.{act}
 use Rattle.pauli.proofs.PauliLaws.{anticommute-swap}
-use Rattle.pauli.specs.Pauli.{Pauli, anticommute, i², letter, scaled, xBit, zBit}
-use Rattle.pauli.specs.Rows.{generatorOf}
+use Rattle.pauli.specs.Pauli.{Pauli, anticommute, letter, xBit, zBit}
+use Rattle.pauli.specs.internal.Rows.{generatorOf}
 use Rattle.pauli.specs.declared.Generator.{Generator}
 use Rattle.record.proofs.Maximality.{maximal-list}
 use Rattle.record.specs.Records.{GraphRecord, rowsOf}
 use Rattle.stabilizer.proofs.Products.{anticommute-form}
 use Rattle.stabilizer.proofs.Within.{act-within}
-use Rattle.stabilizer.specs.Groups.{InGroup, Proper, Within}
+use Rattle.stabilizer.specs.Groups.{Proper, Within}
 use Rattle.words.proofs.BitLaws.{bit-and, bit-wordOf}
 use Rattle.words.proofs.Finite.{bits, ⊕-zero}
 use Rattle.words.proofs.OnesLaws.{parity-ones}
 use Rattle.words.proofs.Places.{⊕-cancel}
 use Rattle.words.proofs.Sums.{fold-ext, parity-add}
-use Rattle.words.specs.Bits.{bit, dot, parity, _⊕_}
+use Rattle.words.specs.Bits.{bit, parity, _⊕_}
+use Rattle.words.specs.internal.Bits.{dot}
 use Rattle.comparison.proofs.ClassEquations.{anticommute-classes, x-word-lt, z-word-lt}
 use Rattle.comparison.proofs.Determinants.{Matrices, det, det-closed, sendBy}
 use Rattle.comparison.proofs.EquationLaws.{SameBelow, fails-below}
@@ -36,9 +36,9 @@ use Rattle.comparison.proofs.EquationTables.{class-short}
 use Rattle.comparison.proofs.Extension.{extended}
 use Rattle.comparison.proofs.RecordElements.{framed-proper}
 use Rattle.comparison.specs.Choices.{classKey}
-use Rattle.comparison.specs.Equations.{Solves, classAssignment, classEquation, equationAt, fails}
-use Rattle.comparison.specs.Searches.{ClassTable, Extendable, SentUpToSign}
-use Rattle.comparison.specs.Setting.{Setting, bare, generatorsOf, noGenerator}
+use Rattle.comparison.specs.internal.Equations.{Solves, classAssignment, classEquation, equationAt, fails}
+use Rattle.comparison.specs.internal.Searches.{ClassTable, Extendable, SentUpToSign}
+use Rattle.comparison.specs.internal.Setting.{Setting, withoutSigns, generatorsOf, noGenerator}
 use Rattle.comparison.specs.declared.Assignment.{Assignment}
 use Rattle.comparison.specs.declared.Equation.{Equation}
 
@@ -224,16 +224,16 @@ module _ (n : ℕ) (first second : List Generator) (frame : List ℕ) (S : Setti
   unfolding classAssignment
   classes-send c h i k =
       maximal-list n (generatorsOf second) proper p
-      (act-imaginary n (λ q. bare (c q)) (generatorsOf first i) ∙ S .proper .commuting .signed i k)
-      (act-within n n (λ q. bare (c q)) (S .proper .within i k))
+      (act-imaginary n (λ q. withoutSigns (c q)) (generatorsOf first i) ∙ S .proper .commuting .signed i k)
+      (act-within n n (λ q. withoutSigns (c q)) (S .proper .within i k))
       (λ j l. anticommute-swap n (generatorsOf second j) p
-      ∙ anticommute-classes n (λ q. bare (c q)) (gen i) (other j) (S .proper .within i k)
+      ∙ anticommute-classes n (λ q. withoutSigns (c q)) (gen i) (other j) (S .proper .within i k)
       ∙ sym (fails-below (classEquation (gen i) (other j)) n
       (class-short n (gen i) (other j) (S .proper .within i k)) (R .0) (classAssignment n c) (R .1))
       ∙ asked (R .0) (R .2) i j k l)
     where
       p : Pauli
-      p = act n (λ q. bare (c q)) (generatorsOf first i)
+      p = act n (λ q. withoutSigns (c q)) (generatorsOf first i)
 
       proper : Proper n (generatorsOf second)
       proper = framed-proper n (generatorsOf second) _ (S .framed)

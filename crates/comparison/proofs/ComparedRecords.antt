@@ -1,5 +1,4 @@
 -- From lent records to the searches: their generators as the code makes them, and the codes undone.
--- Assumes nothing.
 use mathlib.Core.Bool.{Bool, false, not, true}
 use mathlib.Core.List.{List}
 use mathlib.Core.Logic.{_↔_}
@@ -29,9 +28,17 @@ use Rattle.words.specs.Bits.{bit}
 use Rattle.words.specs.Search.{first, some}
 use Rattle.comparison.proofs.Members.{carries-is}
 use Rattle.comparison.proofs.RecordElements.{proper-rows}
-use Rattle.comparison.specs.Choices.{carries, choice, choiceAt, leastNumber, noChoice}
-use Rattle.comparison.specs.Searches.{LeastAnswer}
-use Rattle.comparison.specs.Setting.{Codes, Connected, Framed, Setting, SoundRecord, generatorsOf, heldGenerators}
+use Rattle.comparison.specs.Choices.{isCarrying, choice, choiceAt, leastNumber, noChoice}
+use Rattle.comparison.specs.internal.Searches.{LeastAnswer}
+use Rattle.comparison.specs.internal.Setting.{
+  Codes,
+  Connected,
+  Framed,
+  Setting,
+  SoundRecord,
+  generatorsOf,
+  heldGenerators,
+}
 
 module _ (n : ℕ) (few : n ≤ 20) (neighbours codes : List ℕ) (S : SoundRecord n neighbours codes) where
   abbrev lent : LentRecord
@@ -76,19 +83,19 @@ module _ (n : ℕ) (rows rows′ others others′ : ℕ
       carries-same n c a′ b′ .1
       (same-trans (act-same n n c a′ a (same-sym s)) (same-trans (carries-same n c a b .0 C) t))
 
-  pub carries-groups : (c : ℕ → Clifford) → carries n c rows others ≡ carries n c rows′ others′
+  pub carries-groups : (c : ℕ → Clifford) → isCarrying n c rows others ≡ isCarrying n c rows′ others′
   carries-groups c =
       same-by-both _ _ (λ e. test′ .1 (carries-moved rows others rows′ others′ E F c (test .0 e)))
       (λ e. test .1 (carries-moved rows′ others′ rows others (same-sym E) (same-sym F) c (test′ .0 e)))
     where
-      test : (carries n c rows others ≡ true) ↔ Carries n c rows others
+      test : (isCarrying n c rows others ≡ true) ↔ Carries n c rows others
       test = carries-is n c rows others (P .within) (Q .within)
 
-      test′ : (carries n c rows′ others′ ≡ true) ↔ Carries n c rows′ others′
+      test′ : (isCarrying n c rows′ others′ ≡ true) ↔ Carries n c rows′ others′
       test′ = carries-is n c rows′ others′ (P′ .within) (Q′ .within)
 
   every-number : _≡_ {A = ℕ
-      → Bool} (λ k. carries n (choiceAt n k) rows others) (λ k. carries n (choiceAt n k) rows′ others′)
+      → Bool} (λ k. isCarrying n (choiceAt n k) rows others) (λ k. isCarrying n (choiceAt n k) rows′ others′)
   every-number = fun-ext (λ k. carries-groups (choiceAt n k))
 
   pub same-least : leastNumber n rows others ≡ leastNumber n rows′ others′

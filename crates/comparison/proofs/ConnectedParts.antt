@@ -1,7 +1,6 @@
 -- A part of a graph is connected in its own numbers.
--- Assumes nothing.
-use mathlib.Core.Bool.{_&&_, Bool, true}
-use mathlib.Core.Path.{ap, subst, sym, _∙_, _≡_}
+use mathlib.Core.Bool.{_&&_, true}
+use mathlib.Core.Path.{ap, subst, _∙_, _≡_}
 use Prim.Native.Nat.{_<_, ℕ}
 use native.Mathlib.Nat.{lt-of-le-of-lt}
 use Prim.Native.Nat.{zero-le}
@@ -10,13 +9,14 @@ use borrow.Author.Tests.{eq-eqb, eqb-true, lt-ltb}
 use Rattle.graph.specs.Graph.{Graph}
 use Rattle.parts.proofs.PartLaws.{both, part-within}
 use Rattle.parts.proofs.PlacedRows.{same-number}
-use Rattle.parts.specs.Numbered.{Numbers, partGraph}
-use Rattle.parts.specs.Parts.{Closed, partOf}
+use Rattle.parts.specs.internal.Numbered.{Numbers, partGraph}
+use Rattle.parts.specs.internal.Parts.{Closed}
+use Rattle.parts.specs.Parts.{partOf}
 use Rattle.words.proofs.Flags.{both-true}
 use Rattle.words.proofs.SearchLaws.{some-in, some-true}
 use Rattle.words.specs.Bits.{Word}
-use Rattle.words.specs.Search.{IsFirst, first, some}
-use Rattle.comparison.specs.Setting.{Connected}
+use Rattle.words.specs.Search.{first, some}
+use Rattle.comparison.specs.internal.Setting.{Connected}
 
 module _ (n : ℕ) (θ : Graph) (s : Word) (k : ℕ) (e : ℕ → ℕ) (N : Numbers n s k e) (C : Closed n θ s)
     (together : (i j : ℕ) → i < k → j < k → partOf n θ (e i) (e j) ≡ true) where

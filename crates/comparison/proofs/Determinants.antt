@@ -1,16 +1,15 @@
 -- Every solution of the class equations, invertible or not: no edge of the first graph leads from a qubit at which the
 -- solution is invertible to one at which it is not.
--- Assumes nothing.
 use mathlib.Core.Bool.{_&&_, Bool, false, true}
 use mathlib.Core.Logic.{inl, inr, _⊎_}
 use mathlib.Core.Path.{ap, ap₂, refl, sym, _∙_, _≡_}
-use Prim.Native.Nat.{_<_, _≤_, ℕ}
+use Prim.Native.Nat.{_<_, ℕ}
 use lib.Dec.{eqb}
 use Rattle.clifford.proofs.CliffordLaws.{clash-after}
 use Rattle.clifford.specs.Clifford.{Clifford}
 use Rattle.clifford.specs.Vectors.{act}
 use Rattle.graph.specs.Graph.{Graph, Simple, graphGenerator}
-use Rattle.parts.specs.Parts.{Closed}
+use Rattle.parts.specs.internal.Parts.{Closed}
 use Rattle.pauli.specs.Pauli.{Pauli, anticommute, clash, i⁰, i², letter, letterAt, scaled}
 use Rattle.record.proofs.Maximality.{maximal-list}
 use Rattle.record.proofs.ReducedRecords.{record-proper}

@@ -1,5 +1,4 @@
 -- Equations add, and an equation cannot tell apart assignments that agree where it has unknowns.
--- Assumes nothing.
 use mathlib.Core.Bool.{_&&_, Bool, Bool·beq, false, not, _||_}
 use mathlib.Core.Logic.{inl, inr, _⊎_}
 use mathlib.Core.Path.{ap, ap₂, sym, _∙_, _≡_}
@@ -15,8 +14,9 @@ use Rattle.words.proofs.Finite.{bits, unequal}
 use Rattle.words.proofs.Flags.{neither}
 use Rattle.words.proofs.OnesLaws.{dot-bits, dot-comm, dot-xor, parity-xor}
 use Rattle.words.proofs.Sums.{bitMonoid, fold-unit, lt-or-ge}
-use Rattle.words.specs.Bits.{bit, dot, isOdd, _⊕_}
-use Rattle.comparison.specs.Equations.{added, emptyEquation, fails, span, unknown, wordAt}
+use Rattle.words.specs.Bits.{bit, isOdd, _⊕_}
+use Rattle.words.specs.internal.Bits.{dot}
+use Rattle.comparison.specs.internal.Equations.{added, emptyEquation, fails, span, unknown, wordAt}
 use Rattle.comparison.specs.declared.Assignment.{Assignment}
 use Rattle.comparison.specs.declared.Equation.{Equation}
 

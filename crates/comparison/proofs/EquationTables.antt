@@ -1,6 +1,5 @@
 -- The tables of equations: one more equation, those on the classes and those on the signs.
--- Assumes nothing.
-use mathlib.Core.Bool.{_&&_, Bool, Bool·beq, false, not, true}
+use mathlib.Core.Bool.{_&&_, Bool, false}
 use mathlib.Core.List.{List}
 use mathlib.Core.Logic.{inl, inr, _⊎_}
 use mathlib.Core.Path.{ap, ap₂, refl, subst, sym, _∙_, _≡_}
@@ -8,15 +7,15 @@ use Prim.Native.Nat.{_%_, _*_, _+_, _/_, _<_, suc, zero, ℕ, _≤_}
 use native.Mathlib.Nat.{not-suc-le-zero}
 use native.Mathlib.Omega.{arith}
 use lib.Bits.{bitAnd}
-use lib.ListN.{getD, length, replicate}
-use Rattle.pauli.specs.Rows.{generatorOf}
+use lib.ListN.{getD, replicate}
+use Rattle.pauli.specs.internal.Rows.{generatorOf}
 use Rattle.pauli.specs.declared.Generator.{Generator}
 use Rattle.stabilizer.specs.Groups.{Within}
 use Rattle.words.proofs.BitLaws.{bit-and, zero-bit}
 use Rattle.words.proofs.Sums.{last-or}
 use Rattle.words.specs.Bits.{bit}
 use Rattle.comparison.proofs.EquationLaws.{Short, empty-holds, fails-zero, zeroAssignment}
-use Rattle.comparison.specs.Equations.{
+use Rattle.comparison.specs.internal.Equations.{
   Inserted,
   Solves,
   Triangular,
@@ -26,12 +25,12 @@ use Rattle.comparison.specs.Equations.{
   equationAt,
   fails,
   signEquation,
-  tableOf,
+  equationsIn,
   unknown,
   wordAt,
 }
-use Rattle.comparison.specs.Searches.{ClassAsked, ClassTable, TableOf}
-use Rattle.comparison.specs.Setting.{noGenerator}
+use Rattle.comparison.specs.internal.Searches.{ClassAsked, ClassTable, TableOf}
+use Rattle.comparison.specs.internal.Setting.{noGenerator}
 use Rattle.comparison.specs.declared.Assignment.{Assignment}
 use Rattle.comparison.specs.declared.Equation.{Equation}
 
@@ -193,8 +192,8 @@ module _ (n : ℕ) (first second : List Generator) where
           here e = omega (arith, e)
 
 -- the code's table without equations
-pub empty-rows : (rows : List (List ℕ)) → rows ≡ emptyRows → Triangular (tableOf rows)
-empty-rows rows e = subst (λ r. Triangular (tableOf r)) (sym e) empty-table
+pub empty-rows : (rows : List (List ℕ)) → rows ≡ emptyRows → Triangular (equationsIn rows)
+empty-rows rows e = subst (λ r. Triangular (equationsIn r)) (sym e) empty-table
 
-pub empty-rows-solved : (rows : List (List ℕ)) → rows ≡ emptyRows → (w : Assignment) → Solves (tableOf rows) w
-empty-rows-solved rows e w = subst (λ r. Solves (tableOf r) w) (sym e) (empty-solved w)
+pub empty-rows-solved : (rows : List (List ℕ)) → rows ≡ emptyRows → (w : Assignment) → Solves (equationsIn rows) w
+empty-rows-solved rows e w = subst (λ r. Solves (equationsIn r) w) (sym e) (empty-solved w)

@@ -1,6 +1,4 @@
 -- Worked examples of the least choice, on one qubit.
--- Assumes nothing.
-use mathlib.Core.Bool.{Bool, false, true}
 use mathlib.Core.List.{List, [], _∷_}
 use mathlib.Core.Path.{refl, _≡_}
 use Prim.Native.Nat.{ℕ}
@@ -10,7 +8,7 @@ use Rattle.stabilizer.specs.Lists.{rows}
 use Rattle.stabilizer.specs.Membership.{member}
 use Rattle.words.specs.Bits.{bit, fold, put, wordOf}
 use Rattle.words.specs.Search.{every, first, some}
-use Rattle.comparison.specs.Choices.{carries, choice, leastCode, leastNumber}
+use Rattle.comparison.specs.Choices.{isCarrying, choice, leastCode, leastNumber}
 
 -- one generator on one qubit
 abbrev one : ℕ → ℕ → ℕ → ℕ → Pauli
@@ -24,5 +22,5 @@ given =
     ∷ leastCode 1 (one 0 1 0) (one 1 1 0) 0 ∷ []
 
 pub choice-examples : given ≡ (5 ∷ 4 ∷ 12 ∷ 2 ∷ 10 ∷ 1 ∷ [])
-unfolding carries member act mul fold put bit wordOf some every first choice leastNumber
+unfolding isCarrying member act mul fold put bit wordOf some every first choice leastNumber
 choice-examples = refl

@@ -1,5 +1,4 @@
 -- A triangular table: values that satisfy the equations of the first qubits extend to a solution.
--- Assumes nothing.
 use mathlib.Core.Bool.{_&&_, Bool, false, true, true≢false}
 use mathlib.Core.List.{List}
 use mathlib.Core.Logic.{inl, inr, _⊎_}
@@ -14,9 +13,10 @@ use Rattle.words.proofs.Finite.{bits, ⊕-zero}
 use Rattle.words.proofs.OnesLaws.{dot-xor-r, parity-ones}
 use Rattle.words.proofs.Places.{other-place, parity-at}
 use Rattle.words.proofs.Sums.{fold-ext, last-or, lt-or-ge}
-use Rattle.words.specs.Bits.{bit, dot, parity, _⊕_}
+use Rattle.words.specs.Bits.{bit, parity, _⊕_}
+use Rattle.words.specs.internal.Bits.{dot}
 use Rattle.comparison.proofs.EquationLaws.{SameBelow, Short, empty-holds, fails-below}
-use Rattle.comparison.specs.Equations.{
+use Rattle.comparison.specs.internal.Equations.{
   Solves,
   Triangular,
   emptyEquation,

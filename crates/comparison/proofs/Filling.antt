@@ -1,5 +1,4 @@
 -- An array filled from its first place on: what holds of the places written.
--- Assumes nothing.
 use mathlib.Core.List.{List}
 use mathlib.Core.Path.{subst, sym}
 use Prim.Native.Nat.{_+_, _<_, zero-le, ℕ, _≤_}

@@ -1,11 +1,10 @@
 -- The loops: for each qubit in turn the first key that the equations allow.
--- Assumes nothing.
 use mathlib.Core.Bool.{Bool, false, true, true≢false}
 use mathlib.Core.List.{List}
 use mathlib.Core.Logic.{inl, inr, _⊎_}
 use mathlib.Core.Path.{ap, subst, sym, _∙_, _≡_}
 use Prim.Native.Nat.{_*_, _+_, _<_, _≤_, suc, zero-le, ℕ}
-use native.Mathlib.Nat.{le-of-eq, lt-of-le-of-lt, lt-of-lt-of-le, lt-trans, not-suc-le-zero}
+use native.Mathlib.Nat.{lt-of-le-of-lt, lt-of-lt-of-le, lt-trans, not-suc-le-zero}
 use native.Mathlib.Numerals.{add-one}
 use native.Mathlib.Omega.{arith}
 use borrow.Author.Count.{below-more}
@@ -13,8 +12,8 @@ use Rattle.clifford.specs.Clifford.{Clifford}
 use Rattle.words.proofs.Sums.{last-or, lt-or-ge}
 use Rattle.comparison.proofs.EquationLaws.{SameBelow, fails-below}
 use Rattle.comparison.proofs.Extension.{row-short, rows-below}
-use Rattle.comparison.specs.Equations.{QubitTested, Solves, Triangular, equationAt, fails}
-use Rattle.comparison.specs.Searches.{Chosen, FirstFit}
+use Rattle.comparison.specs.internal.Equations.{QubitTested, Solves, Triangular, equationAt, fails}
+use Rattle.comparison.specs.internal.Searches.{LeastBelow, FirstFit}
 use Rattle.comparison.specs.declared.Assignment.{Assignment}
 use Rattle.comparison.specs.declared.Equation.{Equation}
 
@@ -101,7 +100,7 @@ module _ (A : (ℕ → Clifford) → Assignment) (key : Clifford → ℕ) (table
       → v < bound
   one-fit d s h l = lt-of-le-of-lt (not-before d s h) l
 
-  pub one-chosen : v < bound → Chosen A key table q c → Chosen A key table (q + 1) (next v)
+  pub one-chosen : v < bound → LeastBelow A key table q c → LeastBelow A key table (q + 1) (next v)
   one-chosen small C =
       record { hold = λ i l. rows i (lt-or-ge i (4 * q)) l; least = λ t l d s h. least t (last-or (up t l)) d s h }
     where
@@ -126,6 +125,6 @@ module _ (A : (ℕ → Clifford) → Assignment) (key : Clifford → ℕ) (table
           (not-before d s (λ u l. h u (subst (λ t. u < t) (sym p) l) ∙ front v small u l)))
 
 pub none-chosen : (A : (ℕ → Clifford) → Assignment) (key : Clifford → ℕ) (table : List Equation) (c : ℕ → Clifford)
-    → Chosen A key table 0 c
+    → LeastBelow A key table 0 c
 none-chosen A key table c =
     record { hold = λ i l. absurd (not-suc-le-zero l); least = λ t l. absurd (not-suc-le-zero l) }

@@ -1,6 +1,5 @@
 -- A choice that carries one list's group onto another's: the codes that it induces carry the first reduced graph's
 -- group onto the second's.
--- Assumes nothing.
 use mathlib.Core.Path.{ap, ap₂, sym, _∙_, _≡_}
 use Prim.Native.Nat.{ℕ}
 use Rattle.clifford.proofs.CliffordLaws.{cliffordOf-codeOf}

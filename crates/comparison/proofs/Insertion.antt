@@ -1,5 +1,4 @@
 -- A triangular table with an equation inserted.
--- Assumes nothing.
 use mathlib.Core.Bool.{false, true, true≢false}
 use mathlib.Core.List.{List}
 use mathlib.Core.Logic.{inl, inr, _⊎_}
@@ -12,7 +11,17 @@ use lib.ListN.{length-set, set}
 use lib.Seq.{getD-set-other, getD-set-same}
 use Rattle.words.proofs.Finite.{⊕-zero}
 use Rattle.words.specs.Bits.{_⊕_}
-use Rattle.comparison.specs.Equations.{Inserted, Solves, Triangular, added, emptyEquation, equationAt, fails, span, unknown}
+use Rattle.comparison.specs.internal.Equations.{
+  Inserted,
+  Solves,
+  Triangular,
+  added,
+  emptyEquation,
+  equationAt,
+  fails,
+  span,
+  unknown,
+}
 use Rattle.comparison.specs.declared.Assignment.{Assignment}
 use Rattle.comparison.specs.declared.Equation.{Equation}
 use Rattle.comparison.proofs.EquationLaws.{fails-added, no-span, no-unknowns, unknown-added, empty-holds}

@@ -1,5 +1,4 @@
 -- A choice whose classes are least qubit by qubit, and then its signs, is the least.
--- Assumes nothing.
 use mathlib.Core.Bool.{Bool, false, not, true, true≢false}
 use mathlib.Core.Logic.{inl, inr, _⊎_}
 use mathlib.Core.Path.{ap₂, sym, _∙_, _≡_}

@@ -1,6 +1,5 @@
 -- The equation of the least choice: it is the least in document 01's order, the only one, and missing exactly if no
 -- choice carries the group.
--- Assumes nothing.
 use mathlib.Core.Bool.{Bool, false, false≢true, not, true, true≢false}
 use mathlib.Core.List.{List}
 use mathlib.Core.Logic.{inl, inr, _↔_, _⊎_}
@@ -31,7 +30,7 @@ use Rattle.comparison.specs.Choices.{
   Before,
   FirstDiffers,
   LeastChoice,
-  carries,
+  isCarrying,
   choiceAt,
   classKey,
   leastCode,
@@ -39,7 +38,7 @@ use Rattle.comparison.specs.Choices.{
   noChoice,
   signKey,
 }
-use Rattle.comparison.specs.Searches.{Answered, LeastAnswer}
+use Rattle.comparison.specs.internal.Searches.{SearchAnswered, LeastAnswer}
 
 -- ---- the order is one way only
 meet : (u v : ℕ) → (u < v → ⊥) → (v < u → ⊥) → u ≡ v
@@ -137,7 +136,7 @@ module _ (n : ℕ) (rows others : ℕ → Pauli) (W : (j : ℕ) → j < n → Wi
 
   -- ---- the search by numbers
   works : ℕ → Bool
-  works k = carries n (choiceAt n k) rows others
+  works k = isCarrying n (choiceAt n k) rows others
 
   works-is : (k : ℕ) → (works k ≡ true) ↔ Carries n (choiceAt n k) rows others
   unfolding works
@@ -200,7 +199,7 @@ module _ (n : ℕ) (rows others : ℕ → Pauli) (W : (j : ℕ) → j < n → Wi
       some-choice = never-true (noChoice n rows others) (λ e. none-carries .0 e c (L .among))
 
   -- the least choice found, or none, as an equation on codes
-  pub least-answer : (b : Bool) (out : List ℕ) → Answered n (λ d. Carries n d rows others) b out
+  pub least-answer : (b : Bool) (out : List ℕ) → SearchAnswered n (λ d. Carries n d rows others) b out
       → LeastAnswer n rows others b out
   least-answer true out A =
       record {

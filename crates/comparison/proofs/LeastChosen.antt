@@ -1,5 +1,4 @@
 -- What the two loops choose is the least choice that works; and where the first finds no class there is none.
--- Assumes nothing.
 use mathlib.Core.Bool.{Bool, false, false≢true, true}
 use mathlib.Core.List.{List}
 use mathlib.Core.Logic.{inl, inr, _⊎_}
@@ -34,10 +33,16 @@ use Rattle.comparison.proofs.NumberOrder.{classKey-lt, signKey-lt}
 use Rattle.comparison.proofs.RecordElements.{carried-all, framed-proper}
 use Rattle.comparison.proofs.SignExtension.{signs-kept, signs-send}
 use Rattle.comparison.specs.Choices.{classKey, signKey}
-use Rattle.comparison.specs.Equations.{Solves, Triangular, classAssignment, classEquation, fails, signAssignment}
-use Rattle.comparison.specs.Searches.{
-  Answered,
-  Chosen,
+use Rattle.comparison.specs.internal.Equations.{
+  Solves,
+  Triangular,
+  classAssignment,
+  classEquation,
+  fails,
+  signAssignment,
+}
+use Rattle.comparison.specs.internal.Searches.{
+  SearchAnswered,
   ClassTable,
   ClassesAnswered,
   ClassesChosen,
@@ -48,7 +53,7 @@ use Rattle.comparison.specs.Searches.{
   withClass,
   withSigns,
 }
-use Rattle.comparison.specs.Setting.{Codes, Setting, generatorsOf, noGenerator}
+use Rattle.comparison.specs.internal.Setting.{Codes, Setting, generatorsOf, noGenerator}
 use Rattle.comparison.specs.declared.Equation.{Equation}
 
 -- ---- the loop over the classes
@@ -181,12 +186,12 @@ module _ (n : ℕ) (first second : List Generator) (frame : List ℕ) (S : Setti
       go e i j l (inr k) p = absurd (not-suc-le-zero (k .1))
 
   pub none-works : (found : Bool) (choice : List ℕ) → ClassesAnswered n table found choice → found ≡ false
-      → Answered n Works false choice
+      → SearchAnswered n Works false choice
   none-works found choice A e = record { search = λ d K. A .none e d (classes-kept d K); codes = A .codes }
 
   pub chosen-works : (classes : List ℕ) → ClassesChosen n table n classes → (signs : List Equation)
       → SignTable n first second (codesOf classes) n signs → (choice : List ℕ) → SignsChosen n signs classes n choice
-      → Answered n Works true choice
+      → SearchAnswered n Works true choice
   chosen-works classes A signs T′ choice B =
       record {
         search = record {

@@ -14,7 +14,7 @@ pub mod NextChoice
 pub mod EquationTables
 pub mod Filling
 pub mod ComparedRecords
-pub mod SettledChoices
+pub mod LeastAtVertices
 pub mod ChoicesByParts
 pub mod Examples
 pub mod Determinants

@@ -1,5 +1,4 @@
 -- The test for a choice that carries a group says what it should.
--- Assumes nothing.
 use mathlib.Core.Bool.{_&&_, Bool, true}
 use mathlib.Core.Logic.{_↔_}
 use mathlib.Core.Path.{ap, ap₂, refl, subst, sym, _∙_, _≡_}
@@ -19,7 +18,7 @@ use Rattle.words.proofs.SearchLaws.{every-at, every-in}
 use Rattle.words.proofs.Sums.{fold-ext}
 use Rattle.words.specs.Bits.{Word, bit, wordOf}
 use Rattle.words.specs.Search.{every}
-use Rattle.comparison.specs.Choices.{carries}
+use Rattle.comparison.specs.Choices.{isCarrying}
 
 -- a product names only the bits below n of its word
 word-product : (n : ℕ) (w : Word) (rows : ℕ → Pauli)
@@ -42,8 +41,8 @@ module _ (n : ℕ) (c : ℕ → Clifford) (rows others : ℕ → Pauli) (W : (j 
   back : Bool
   back = every (2 ^ n) (λ v. member n sent (product n n (bit v) others))
 
-  test-same : carries n c rows others ≡ true → SameGroup n n sent others
-  unfolding carries sent there back
+  test-same : isCarrying n c rows others ≡ true → SameGroup n n sent others
+  unfolding isCarrying sent there back
   test-same e =
       record {
         there = λ p a. subst (InGroup n n others)
@@ -63,8 +62,8 @@ module _ (n : ℕ) (c : ℕ → Clifford) (rows others : ℕ → Pauli) (W : (j 
       outside : (v : ℕ) → Within n (act n c (product n n (bit v) rows))
       outside v = act-within n n c (product-within n n (bit v) rows W)
 
-  same-test : SameGroup n n sent others → carries n c rows others ≡ true
-  unfolding carries sent there back
+  same-test : SameGroup n n sent others → isCarrying n c rows others ≡ true
+  unfolding isCarrying sent there back
   same-test S =
       ap₂ _&&_
       (every-in (2 ^ n) (λ v. member n others (act n c (product n n (bit v) rows)))
@@ -72,7 +71,7 @@ module _ (n : ℕ) (c : ℕ → Clifford) (rows others : ℕ → Pauli) (W : (j 
       (every-in (2 ^ n) (λ v. member n sent (product n n (bit v) others))
       (λ v l. in-member n sent _ (S .back _ (bit v, refl))))
 
-  pub carries-is : (carries n c rows others ≡ true) ↔ Carries n c rows others
+  pub carries-is : (isCarrying n c rows others ≡ true) ↔ Carries n c rows others
   unfolding sent
   carries-is = (
     (λ e. carries-same n c rows others .1 (test-same e)),

@@ -1,5 +1,4 @@
 -- The array of a choice with the class, or the signs, of one qubit put in.
--- Assumes nothing.
 use mathlib.Core.Bool.{false}
 use mathlib.Core.List.{List}
 use mathlib.Core.Logic.{_≢_}
@@ -16,8 +15,8 @@ use Rattle.clifford.specs.Vectors.{codesOf}
 use Rattle.words.specs.Bits.{isOdd}
 use Rattle.comparison.proofs.NumberOrder.{class-of-code, classKey-of-code, signKey-of-code}
 use Rattle.comparison.specs.Choices.{classKey, signKey}
-use Rattle.comparison.specs.Searches.{withClass, withSigns}
-use Rattle.comparison.specs.Setting.{Bare, Codes, bare}
+use Rattle.comparison.specs.internal.Searches.{withClass, withSigns}
+use Rattle.comparison.specs.internal.Setting.{NoSigns, Codes, withoutSigns}
 
 module _ (choice : List ℕ) (q k : ℕ) (long : q < length choice) where
   code-here : codesOf (set choice q k) q ≡ cliffordOf k
@@ -49,9 +48,9 @@ module _ (choice : List ℕ) (C : Codes choice) (q v : ℕ) (long : q < length c
       → classKey (codesOf (withClass choice q v) i) ≡ classKey (codesOf choice i)
   class-front i l = ap classKey (code-other choice q (4 * v) long i (ne-of-lt l))
 
-  pub class-bare : Bare choice → Bare (withClass choice q v)
+  pub class-bare : NoSigns choice → NoSigns (withClass choice q v)
   class-bare b =
-      at-set choice q (4 * v) long (λ k. cliffordOf k ≡ bare (cliffordOf k)) b
+      at-set choice q (4 * v) long (λ k. cliffordOf k ≡ withoutSigns (cliffordOf k)) b
       (λ i. record { class = classOf (4 * v / 4); sx = even-half i; sz = even i })
     where
       half : (k : ℕ) → 4 * k / 2 % 2 ≡ 0
@@ -98,5 +97,5 @@ zeros-at (suc k) (suc i) = zeros-at k i
 pub zeros-codes : (k : ℕ) → Codes (replicate k 0)
 zeros-codes k q = subst (λ c. c < 24) (sym (zeros-at k q)) (lit< tt)
 
-pub zeros-bare : (k : ℕ) → Bare (replicate k 0)
-zeros-bare k q = subst (λ c. cliffordOf c ≡ bare (cliffordOf c)) (sym (zeros-at k q)) refl
+pub zeros-bare : (k : ℕ) → NoSigns (replicate k 0)
+zeros-bare k q = subst (λ c. cliffordOf c ≡ withoutSigns (cliffordOf c)) (sym (zeros-at k q)) refl

@@ -1,5 +1,4 @@
 -- The numbers of the choices follow document 01's order, and every choice has its number.
--- Assumes nothing.
 use mathlib.Core.Bool.{Bool, cond, false, true}
 use mathlib.Core.Logic.{inl, inr, _⊎_}
 use mathlib.Core.Path.{ap, ap₂, refl, subst, subst₂, sym, _∙_, _≡_}

@@ -1,6 +1,5 @@
 -- Numbers written in a base, the leading digit first: their digits, and that their order is that of the first digit
 -- that differs.
--- Assumes nothing.
 use mathlib.Core.Logic.{inl, inr, _⊎_}
 use mathlib.Core.Path.{ap, subst, subst₂, sym, _∙_, _≡_}
 use Prim.Native.Nat.{_%_, _*_, _+_, _-_, _/_, _<_, _^_, suc, zero, ℕ, _≤_}

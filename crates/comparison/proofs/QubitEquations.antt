@@ -1,5 +1,4 @@
 -- The equations of one qubit tested in turn, and the rows that hold a table.
--- Assumes nothing.
 use mathlib.Core.Bool.{Bool, false, true, true≢false, false≢true}
 use mathlib.Core.List.{List, [], _∷_}
 use mathlib.Core.Path.{ap, refl, sym, _∙_, _≡_}
@@ -8,7 +7,7 @@ use native.Mathlib.Nat.{le-refl, lt-of-lt-of-le}
 use native.Mathlib.Omega.{arith}
 use lib.ListN.{List·getD-map, getD, set}
 use borrow.Author.Count.{below-more}
-use Rattle.comparison.specs.Equations.{QubitTested, equationAt, equationOf, fails, tableOf}
+use Rattle.comparison.specs.internal.Equations.{QubitTested, equationAt, equationOf, fails, equationsIn}
 use Rattle.comparison.specs.declared.Assignment.{Assignment}
 use Rattle.comparison.specs.declared.Equation.{Equation}
 
@@ -49,10 +48,10 @@ module _ (table : List Equation) (q : ℕ) (w : Assignment) where
     }
 
 -- ---- the rows of a table
-pub row-at : (rows : List (List ℕ)) (i : ℕ) → equationAt (tableOf rows) i ≡ equationOf (getD rows i [])
+pub row-at : (rows : List (List ℕ)) (i : ℕ) → equationAt (equationsIn rows) i ≡ equationOf (getD rows i [])
 row-at rows i = List·getD-map equationOf rows i []
 
-pub row-set : (rows : List (List ℕ)) (i : ℕ) (r : List ℕ) → tableOf (set rows i r) ≡ set (tableOf rows) i (equationOf r)
+pub row-set : (rows : List (List ℕ)) (i : ℕ) (r : List ℕ) → equationsIn (set rows i r) ≡ set (equationsIn rows) i (equationOf r)
 row-set [] i r = refl
 row-set (x ∷ rows) zero r = refl
 row-set (x ∷ rows) (suc i) r = ap (λ t. equationOf x ∷ t) (row-set rows i r)

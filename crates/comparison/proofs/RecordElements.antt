@@ -1,22 +1,14 @@
 -- The one product of a record's generators that can be a given row: its word is read off the row's x bits once the
 -- record's codes are undone.
--- Assumes nothing.
-use mathlib.Core.Bool.{_&&_, Bool, Bool·beq, false, not, true}
-use mathlib.Core.Logic.{_↔_}
+use mathlib.Core.Bool.{Bool, Bool·beq, not, true}
 use mathlib.Core.Path.{ap, ap₂, refl, subst, sym, _∙_, _≡_}
-use Prim.Native.Nat.{_+_, _<_, zero-le, ℕ, _≤_}
-use native.Mathlib.Nat.{lt-of-lt-of-le, not-suc-le-zero}
-use native.Mathlib.Numerals.{add-one}
+use Prim.Native.Nat.{_<_, ℕ, _≤_}
 use lib.Bits.{bitXor}
-use lib.Dec.{eqb}
-use borrow.Author.Count.{below-more}
-use borrow.Author.Tests.{eq-eqb, eqb-true}
 use Rattle.clifford.proofs.VectorLaws.{act-inverse}
 use Rattle.clifford.specs.Clifford.{Clifford, image, inverse}
 use Rattle.clifford.specs.Vectors.{act}
 use Rattle.graph.proofs.GraphGroups.{element-x}
 use Rattle.graph.specs.Graph.{graphGenerator}
-use Rattle.pauli.proofs.PhaseLaws.{minus-injective}
 use Rattle.pauli.proofs.WordRows.{signed-mul}
 use Rattle.pauli.specs.Pauli.{
   Pauli,
@@ -33,26 +25,23 @@ use Rattle.pauli.specs.Pauli.{
   signedRow,
   xBit,
 }
-use Rattle.pauli.specs.Rows.{generatorOf}
+use Rattle.pauli.specs.internal.Rows.{generatorOf}
 use Rattle.pauli.specs.declared.Generator.{Generator}
 use Rattle.record.proofs.Maximality.{inclusion-same}
 use Rattle.record.proofs.ReducedRecords.{record-proper}
 use Rattle.record.specs.Records.{recordRow}
 use Rattle.stabilizer.proofs.Carried.{act-product, carries-same}
-use Rattle.stabilizer.proofs.GroupLaws.{in-row}
 use Rattle.stabilizer.proofs.Independence.{act-proper}
 use Rattle.stabilizer.proofs.Multiplying.{Multiplied, all-multiplied}
 use Rattle.stabilizer.proofs.Within.{act-wide, element-within}
 use Rattle.stabilizer.specs.Groups.{InGroup, Proper, Trivial, Within, chosen, product}
-use Rattle.words.proofs.BitLaws.{bit-ext∞}
 use Rattle.words.proofs.Finite.{unequal}
-use Rattle.words.proofs.Flags.{beq-refl, beq-true, both-true}
 use Rattle.words.proofs.Sums.{fold-ext}
 use Rattle.words.specs.Bits.{Word, _⊕_}
 use Rattle.comparison.proofs.Least.{act-agree}
 use Rattle.comparison.proofs.Members.{carries-is}
-use Rattle.comparison.specs.Choices.{carries}
-use Rattle.comparison.specs.Setting.{Framed, Guessed}
+use Rattle.comparison.specs.Choices.{isCarrying}
+use Rattle.comparison.specs.internal.Setting.{Framed, Guessed}
 
 same-products : (n : ℕ) (w : Word) (rows others : ℕ → Pauli) → ((j : ℕ) → j < n → rows j ≡ others j)
     → product n n w rows ≡ product n n w others
@@ -145,7 +134,7 @@ guessed n l rows frame F p s e i h k M =
 
 -- ---- a choice works if it sends the generators into the other group
 pub carried-all : (n : ℕ) (rows others : ℕ → Pauli) → Proper n rows → Proper n others → (c : ℕ → Clifford)
-    → ((j : ℕ) → j < n → InGroup n n others (act n c (rows j))) → carries n c rows others ≡ true
+    → ((j : ℕ) → j < n → InGroup n n others (act n c (rows j))) → isCarrying n c rows others ≡ true
 carried-all n rows others P P′ c h =
     carries-is n c rows others (P .within) (P′ .within) .1
     (carries-same n c rows others .1

@@ -1,6 +1,5 @@
 -- The signs of a choice change the sign of a row's image by a parity; elements of a group with the same letters are
 -- equal; so a choice that works solves the sign equations.
--- Assumes nothing.
 use mathlib.Core.Bool.{_&&_, Bool, false}
 use mathlib.Core.Path.{ap, ap₂, refl, subst, sym, _∙_, _≡_}
 use Prim.Native.Nat.{_<_, ℕ}
@@ -10,7 +9,7 @@ use Rattle.clifford.specs.Vectors.{act}
 use Rattle.pauli.proofs.PauliLaws.{Pauli-path, mul-x, mul-z}
 use Rattle.pauli.proofs.PhaseLaws.{+ᵖ-assoc, minus-injective, minus-⊕, phases, sumPhase-add}
 use Rattle.pauli.specs.Pauli.{_+ᵖ_, Pauli, identity, i⁰, letterAt, minus, mul, sumPhase, xBit, zBit}
-use Rattle.pauli.specs.Rows.{generatorOf}
+use Rattle.pauli.specs.internal.Rows.{generatorOf}
 use Rattle.pauli.specs.declared.Generator.{Generator}
 use Rattle.pauli.specs.declared.Letter.{Letter}
 use Rattle.pauli.specs.declared.Letter.the-variants.{I, X, Y, Z}
@@ -21,23 +20,24 @@ use Rattle.stabilizer.specs.Groups.{InGroup, Proper, Trivial, Within, chosen, p
 use Rattle.words.proofs.Finite.{bits, ⊕-self, ⊕-zero}
 use Rattle.words.proofs.Places.{⊕-cancel}
 use Rattle.words.proofs.Sums.{fold-ext, fold-hom, parity-add}
-use Rattle.words.specs.Bits.{Word, bit, dot, parity, wordOf, _⊕_}
+use Rattle.words.specs.Bits.{Word, bit, parity, wordOf, _⊕_}
+use Rattle.words.specs.internal.Bits.{dot}
 use Rattle.comparison.proofs.ClassEquations.{dot-word, x-word-lt, z-word-lt}
 use Rattle.comparison.proofs.EquationLaws.{zero-dot}
 use Rattle.comparison.proofs.Least.{act-agree}
 use Rattle.comparison.proofs.NumberOrder.{class-injective}
 use Rattle.comparison.specs.Choices.{classKey}
-use Rattle.comparison.specs.Equations.{fails, signAssignment, signEquation}
-use Rattle.comparison.specs.Setting.{bare}
+use Rattle.comparison.specs.internal.Equations.{fails, signAssignment, signEquation}
+use Rattle.comparison.specs.internal.Setting.{withoutSigns}
 use Rattle.comparison.specs.declared.Assignment.{Assignment}
 
 abbrev signAt : Clifford → Bool → Bool → Bool
 signAt k z x = (x && k .sx) ⊕ (z && k .sz)
 
-phase-signs : (k : Clifford) (z x : Bool) → phaseAfter k z x ≡ phaseAfter (bare k) z x +ᵖ minus (signAt k z x)
+phase-signs : (k : Clifford) (z x : Bool) → phaseAfter k z x ≡ phaseAfter (withoutSigns k) z x +ᵖ minus (signAt k z x)
 phase-signs = onClifford _
     (phases 7 (λ a b c d e z x. phaseAfter (fromFive a b c d e) z x)
-    (λ a b c d e z x. phaseAfter (bare (fromFive a b c d e)) z x
+    (λ a b c d e z x. phaseAfter (withoutSigns (fromFive a b c d e)) z x
     +ᵖ minus (signAt (fromFive a b c d e) z x)) tt)
 
 minus-sum : (n : ℕ) (f : Word) → sumPhase n (λ q. minus (f q)) ≡ minus (parity n f)
@@ -46,14 +46,14 @@ minus-sum n f = sym (fold-hom false _⊕_ i⁰ _+ᵖ_ minus refl minus-⊕ n f)
 -- the sign of an image is that under the bare classes, changed by the parity of the signs met
 module _ (n : ℕ) (k : ℕ → Clifford) (g : Generator) (W : Within n (generatorOf g)) where
   pub image-sign : (act n k (generatorOf g)) .phase
-      ≡ (act n (λ q. bare (k q)) (generatorOf g)) .phase
+      ≡ (act n (λ q. withoutSigns (k q)) (generatorOf g)) .phase
       +ᵖ minus (fails (signEquation g false) (signAssignment n k))
   unfolding act fails signAssignment
   image-sign =
       ap (λ t. minus (g .minus) +ᵖ t)
       (fold-ext i⁰ _+ᵖ_ n (λ q l. phase-signs (k q) (bit (g .z) q) (bit (g .x) q)) ∙ sumPhase-add n _ _)
       ∙ sym (+ᵖ-assoc (minus (g .minus)) _ _)
-      ∙ ap (λ t. (minus (g .minus) +ᵖ sumPhase n (λ q. phaseAfter (bare (k q)) (bit (g .z) q) (bit (g .x) q)))
+      ∙ ap (λ t. (minus (g .minus) +ᵖ sumPhase n (λ q. phaseAfter (withoutSigns (k q)) (bit (g .z) q) (bit (g .x) q)))
       +ᵖ t)
       (minus-sum n _ ∙ ap minus signs)
     where
@@ -91,7 +91,7 @@ letters-determine n rows P {p} {r} a b hz hx =
     same = P .independent (λ j. a .0 j ⊕ b .0 j) trivial
 
 -- ---- every choice that works, with these classes, solves the sign equations
-image-bare : (k : Clifford) (l : Letter) → image (bare k) l ≡ image k l
+image-bare : (k : Clifford) (l : Letter) → image (withoutSigns k) l ≡ image k l
 image-bare k I = refl
 image-bare k X = refl
 image-bare k Y = refl
@@ -117,7 +117,7 @@ module _ (n : ℕ) (rows others : ℕ → Pauli) (P : Proper n rows) (P′ : Pro
   -- c has the classes of d, and p is the image of g under them, all signs plus; h is an element with p's letters
   pub sign-equation : (c : ℕ → Clifford) → ((q : ℕ) → q < n → classKey (d q) ≡ classKey (c q))
       → (p h : Generator)
-      → generatorOf p ≡ act n (λ q. bare (c q)) (generatorOf g) → InGroup n n others (generatorOf h)
+      → generatorOf p ≡ act n (λ q. withoutSigns (c q)) (generatorOf g) → InGroup n n others (generatorOf h)
       → p .z ≡ h .z → p .x ≡ h .x
       → fails (signEquation g (p .minus ⊕ h .minus)) (signAssignment n d) ≡ false
   unfolding act
@@ -126,9 +126,9 @@ module _ (n : ℕ) (rows others : ℕ → Pauli) (P : Proper n rows) (P′ : Pro
       ∙ shift (fails (signEquation g false) (signAssignment n d)) (p .minus) (h .minus)
       (minus-injective _ _ signs)
     where
-      bares : act n (λ q. bare (d q)) (generatorOf g) ≡ generatorOf p
+      bares : act n (λ q. withoutSigns (d q)) (generatorOf g) ≡ generatorOf p
       bares =
-          act-agree n rows others (P .within) (P′ .within) (λ q. bare (d q)) (λ q. bare (c q))
+          act-agree n rows others (P .within) (P′ .within) (λ q. withoutSigns (d q)) (λ q. withoutSigns (c q))
           (λ q l. ap (λ m. record { class = m; sx = false; sz = false }) (class-injective _ _ (hc q l)))
           (generatorOf g) row-within
           ∙ sym ep
@@ -154,7 +154,7 @@ module _ (n : ℕ) (rows others : ℕ → Pauli) (P : Proper n rows) (P′ : Pro
 pub sign-sends : (n : ℕ) (rows others : ℕ → Pauli) → Proper n rows → Proper n others → (d : ℕ → Clifford) (i : ℕ)
     → i < n → (g : Generator) → generatorOf g ≡ rows i
     → (c : ℕ → Clifford) → ((q : ℕ) → q < n → classKey (d q) ≡ classKey (c q))
-    → (p h : Generator) → generatorOf p ≡ act n (λ q. bare (c q)) (generatorOf g) → p .z ≡ h .z → p .x ≡ h .x
+    → (p h : Generator) → generatorOf p ≡ act n (λ q. withoutSigns (c q)) (generatorOf g) → p .z ≡ h .z → p .x ≡ h .x
     → fails (signEquation g (p .minus ⊕ h .minus)) (signAssignment n d) ≡ false
     → act n d (generatorOf g) ≡ generatorOf h
 unfolding act
@@ -163,9 +163,9 @@ sign-sends n rows others P P′ d i li g eg c hc p h ep ez ex e = Pauli-path pha
     within : Within n (generatorOf g)
     within = subst (Within n) (sym eg) (P .within i li)
 
-    bares : act n (λ q. bare (d q)) (generatorOf g) ≡ generatorOf p
+    bares : act n (λ q. withoutSigns (d q)) (generatorOf g) ≡ generatorOf p
     bares =
-        act-agree n rows others (P .within) (P′ .within) (λ q. bare (d q)) (λ q. bare (c q))
+        act-agree n rows others (P .within) (P′ .within) (λ q. withoutSigns (d q)) (λ q. withoutSigns (c q))
         (λ q l. ap (λ m. record { class = m; sx = false; sz = false }) (class-injective _ _ (hc q l)))
         (generatorOf g) within
         ∙ sym ep

@@ -1,7 +1,6 @@
 -- For classes that send each generator into the second group up to a sign, the sign equations have a common solution, so
 -- their table is exact: signs that satisfy the equations of the first qubits extend to a solution, and what solves all
 -- works.
--- Assumes nothing.
 use mathlib.Core.Bool.{_&&_, Bool, Bool·beq, and-comm, and-false, false, not, true}
 use mathlib.Core.List.{List}
 use mathlib.Core.Logic.{inl, inr, _⊎_}
@@ -19,7 +18,7 @@ use Rattle.clifford.specs.Vectors.{act}
 use Rattle.graph.specs.Graph.{graphGenerator}
 use Rattle.pauli.proofs.PhaseLaws.{minus-injective, minus-⊕}
 use Rattle.pauli.specs.Pauli.{Pauli, anticommute, i⁰, i², minus, scaled}
-use Rattle.pauli.specs.Rows.{generatorOf}
+use Rattle.pauli.specs.internal.Rows.{generatorOf}
 use Rattle.pauli.specs.declared.Generator.{Generator}
 use Rattle.stabilizer.proofs.Products.{anticommute-form}
 use Rattle.stabilizer.proofs.Within.{act-wide}
@@ -29,7 +28,8 @@ use Rattle.words.proofs.BitLaws.{bit-ext∞, bit-wordOf}
 use Rattle.words.proofs.Finite.{bits, unequal, ⊕-comm, ⊕-self, ⊕-zero}
 use Rattle.words.proofs.Places.{parity-at}
 use Rattle.words.proofs.Sums.{bitMonoid, fold-ext, fold-unit, last-or, lt-or-ge}
-use Rattle.words.specs.Bits.{Word, bit, digit, dot, parity, wordOf, _⊕_}
+use Rattle.words.specs.Bits.{Word, bit, digit, parity, wordOf, _⊕_}
+use Rattle.words.specs.internal.Bits.{dot}
 use Rattle.comparison.proofs.ClassEquations.{dot-word, x-word-lt, z-word-lt}
 use Rattle.comparison.proofs.EquationLaws.{SameBelow, fails-below, zero-dot}
 use Rattle.comparison.proofs.EquationTables.{nothing-asked, one-asked, sign-short}
@@ -37,7 +37,7 @@ use Rattle.comparison.proofs.Extension.{extended}
 use Rattle.comparison.proofs.RecordElements.{framed-proper}
 use Rattle.comparison.proofs.SignEquations.{letters-determine, sign-equation, sign-sends}
 use Rattle.comparison.specs.Choices.{classKey, signKey}
-use Rattle.comparison.specs.Equations.{
+use Rattle.comparison.specs.internal.Equations.{
   Inserted,
   Solves,
   Triangular,
@@ -46,8 +46,8 @@ use Rattle.comparison.specs.Equations.{
   signAssignment,
   signEquation,
 }
-use Rattle.comparison.specs.Searches.{Extendable, SentUpToSign, SignAsked, SignFor, SignTable}
-use Rattle.comparison.specs.Setting.{Guessed, Setting, bare, generatorsOf, noGenerator}
+use Rattle.comparison.specs.internal.Searches.{Extendable, SentUpToSign, SignAsked, SignFor, SignTable}
+use Rattle.comparison.specs.internal.Setting.{Guessed, Setting, withoutSigns, generatorsOf, noGenerator}
 use Rattle.comparison.specs.declared.Assignment.{Assignment}
 use Rattle.comparison.specs.declared.Equation.{Equation}
 
@@ -61,7 +61,7 @@ module _ (n : ℕ) (first second : List Generator) (frame : List ℕ) (S : Setti
 
     module _ (sent : SentUpToSign n first second c) where
       abbrev Image : ℕ → Pauli
-      Image j = act n (λ q. bare (c q)) (generatorsOf first j)
+      Image j = act n (λ q. withoutSigns (c q)) (generatorsOf first j)
 
       -- ---- which images are to change their sign
       abbrev which : (p : Pauli) → InGroup n n (generatorsOf second) p ⊎ InGroup n n (generatorsOf second) (scaled i² p) → Bool
@@ -186,7 +186,7 @@ module _ (n : ℕ) (first second : List Generator) (frame : List ℕ) (S : Setti
                   (sign-flag j (subst (λ t. t < n) (sym p) l) f G ∙ ap flag p ∙ sym (sign-flag i l e F)) ∙ sym (F .is))
 
       -- the equation that the code makes, from the image and the element found
-      pub sign-found : ((q : ℕ) → c q ≡ bare (c q)) → (i : ℕ) → i < n → (p h : Generator)
+      pub sign-found : ((q : ℕ) → c q ≡ withoutSigns (c q)) → (i : ℕ) → i < n → (p h : Generator)
           → generatorOf p ≡ act 64 c (generatorsOf first i)
           → Guessed n (generatorsOf second) (generatorOf p) (generatorOf h) → (e : Equation)
           → e ≡ signEquation (gen i) (not (Bool·beq (p .minus) (h .minus))) → SignFor n first second c i e
@@ -204,13 +204,13 @@ module _ (n : ℕ) (first second : List Generator) (frame : List ℕ) (S : Setti
           wide : n ≤ 20 → n ≤ 64
           wide k = omega (arith, k)
 
-          image : generatorOf p ≡ act n (λ q. bare (c q)) (generatorsOf first i)
+          image : generatorOf p ≡ act n (λ q. withoutSigns (c q)) (generatorsOf first i)
           image = ep ∙ act-wide n 64 (wide (S .few)) (S .proper .within i l) c ∙ act-cong n plain (generatorsOf first i)
 
           -- the letters are those of the image, in each case
           go : (f : Pauli → Bool) → f (generatorOf p) ≡ f (scaled i² (generatorOf p))
-              → InGroup n n (generatorsOf second) (act n (λ q. bare (c q)) (generatorsOf first i))
-              ⊎ InGroup n n (generatorsOf second) (scaled i² (act n (λ q. bare (c q)) (generatorsOf first i)))
+              → InGroup n n (generatorsOf second) (act n (λ q. withoutSigns (c q)) (generatorsOf first i))
+              ⊎ InGroup n n (generatorsOf second) (scaled i² (act n (λ q. withoutSigns (c q)) (generatorsOf first i)))
               → f (generatorOf p) ≡ f (generatorOf h)
           go f e (inl a) = ap f (sym (G .right (subst (InGroup n n (generatorsOf second)) (sym image) a)))
           go f e (inr a) =

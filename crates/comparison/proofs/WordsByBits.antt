@@ -1,5 +1,4 @@
 -- A word made bit by bit, as the code makes the words of a choice.
--- Assumes nothing.
 use mathlib.Core.Bool.{Bool, false}
 use mathlib.Core.List.{List}
 use mathlib.Core.Logic.{inl, inr, _≢_, _⊎_}
@@ -18,7 +17,7 @@ use Rattle.words.proofs.BitLaws.{bit-above, bit-ext∞, bit-wordOf, wordOf-lt}
 use Rattle.words.proofs.Places.{put-all}
 use Rattle.words.proofs.Sums.{lt-or-ge}
 use Rattle.words.specs.Bits.{Word, bit, isOdd, put, wordOf}
-use Rattle.comparison.specs.Equations.{classAssignment, signAssignment}
+use Rattle.comparison.specs.internal.Equations.{classAssignment, signAssignment}
 use Rattle.comparison.specs.declared.Assignment.{Assignment}
 
 pub no-bits : (f : Word) → 0 ≡ wordOf 0 f

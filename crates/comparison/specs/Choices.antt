@@ -1,5 +1,4 @@
 -- Choices of one code per qubit: which of them carry one group onto another, their order, and the least.
--- Assumes nothing.
 use mathlib.Core.Bool.{_&&_, Bool, cond, not}
 use mathlib.Core.Logic.{_⊎_}
 use mathlib.Core.Path.{_≡_}
@@ -17,8 +16,8 @@ use Rattle.words.specs.Search.{every, first, some}
 -- ---- which choices work, as a test
 -- "sending each place of every element of the first through its qubit's code, signs included, gives
 -- exactly the elements of the second"
-unfoldable pub carries : ℕ → (ℕ → Clifford) → (ℕ → Pauli) → (ℕ → Pauli) → Bool
-carries n c rows others =
+unfoldable pub isCarrying : ℕ → (ℕ → Clifford) → (ℕ → Pauli) → (ℕ → Pauli) → Bool
+isCarrying n c rows others =
     every (2 ^ n) (λ v. member n others (act n c (product n n (bit v) rows)))
     && every (2 ^ n) (λ v. member n (λ j. act n c (rows j)) (product n n (bit v) others))
 
@@ -27,6 +26,7 @@ carries n c rows others =
 abbrev pub FirstDiffers : ℕ → (ℕ → ℕ) → (ℕ → ℕ) → Type 0
 FirstDiffers n f g = (q : ℕ) × (q < n) × ((t : ℕ) → t < q → f t ≡ g t) × (f q < g q)
 
+-- the number of its class
 abbrev pub classKey : Clifford → ℕ
 classKey c = classNumber (c .class)
 
@@ -63,12 +63,13 @@ digitAt b n a q = a / b ^ (n - suc q) % b
 unfoldable pub choice : ℕ → ℕ → ℕ → ℕ
 choice n k q = cond (ltb q n) (4 * digitAt 6 n (k / 4 ^ n) q + digitAt 4 n (k % 4 ^ n) q) 0
 
+-- choice number k, as Cliffords
 abbrev pub choiceAt : ℕ → ℕ → ℕ → Clifford
 choiceAt n k q = cliffordOf (choice n k q)
 
 -- the number of the first choice that works; 24^n where none does
 unfoldable pub leastNumber : ℕ → (ℕ → Pauli) → (ℕ → Pauli) → ℕ
-leastNumber n rows others = first (24 ^ n) (λ k. carries n (choiceAt n k) rows others)
+leastNumber n rows others = first (24 ^ n) (λ k. isCarrying n (choiceAt n k) rows others)
 
 -- the code of qubit q in the least choice that works; 0 at and above n
 abbrev pub leastCode : ℕ → (ℕ → Pauli) → (ℕ → Pauli) → ℕ → ℕ
@@ -76,4 +77,4 @@ leastCode n rows others q = choice n (leastNumber n rows others) q
 
 -- 13: "No choice of local Cliffords carries one group to the other"
 abbrev pub noChoice : ℕ → (ℕ → Pauli) → (ℕ → Pauli) → Bool
-noChoice n rows others = not (some (24 ^ n) (λ k. carries n (choiceAt n k) rows others))
+noChoice n rows others = not (some (24 ^ n) (λ k. isCarrying n (choiceAt n k) rows others))

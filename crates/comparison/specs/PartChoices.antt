@@ -1,5 +1,4 @@
 -- Choices for one part of a graph: which of them work.
--- Assumes nothing.
 use mathlib.Core.Bool.{not}
 use mathlib.Core.Path.{_≡_}
 use Prim.Native.Nat.{ℕ}

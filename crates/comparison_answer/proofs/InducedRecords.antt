@@ -1,5 +1,4 @@
 -- A graph under the codes that a choice induces: buffers that the image rule takes.
--- Assumes nothing.
 use mathlib.Core.List.{List}
 use mathlib.Core.Logic.{inl, inr, _⊎_}
 use mathlib.Core.Path.{ap, subst, sym, _∙_, _≡_}
@@ -11,8 +10,8 @@ use Rattle.buffers.specs.Buffers.{tabulate}
 use Rattle.clifford.proofs.CliffordLaws.{codeOf-lt}
 use Rattle.clifford.specs.Clifford.{inverse, then}
 use Rattle.clifford.specs.Vectors.{codesOf}
-use Rattle.comparison.specs.Compared.{inducedCode}
-use Rattle.image_answer.specs.Answer.{IsImage}
+use Rattle.comparison.specs.internal.Compared.{inducedCode}
+use Rattle.image_answer.specs.internal.Answer.{IsImage}
 use Rattle.image_answer.specs.declared.ImageAnswer.{ImageAnswer}
 use Rattle.record.proofs.ReducedRecords.{record-proper}
 use Rattle.record.specs.Accepted.{AcceptedRecord}

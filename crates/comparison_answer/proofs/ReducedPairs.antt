@@ -1,5 +1,4 @@
 -- Buffers that hold reduced records: what the comparison of two of them answers for the lists.
--- Assumes nothing.
 use mathlib.Core.Bool.{Bool, cond, false, true, _||_}
 use mathlib.Core.List.{List}
 use mathlib.Core.Logic.{inl, inr, _⊎_}
@@ -18,12 +17,13 @@ use Rattle.clifford.specs.Vectors.{codesOf}
 use Rattle.comparison.proofs.ComparedRecords.{same-answer}
 use Rattle.comparison.proofs.NumberOrder.{choice-lt}
 use Rattle.comparison.specs.Choices.{choice, digitAt, leastCode, leastNumber, noChoice}
-use Rattle.comparison.specs.Compared.{induced, inducedCode}
-use Rattle.comparison.specs.Searches.{LeastAnswer}
-use Rattle.comparison.specs.Setting.{Codes, heldGenerators}
-use Rattle.comparison_component.specs.Islands.{SoundPair}
+use Rattle.comparison.specs.Compared.{induced}
+use Rattle.comparison.specs.internal.Compared.{inducedCode}
+use Rattle.comparison.specs.internal.Searches.{LeastAnswer}
+use Rattle.comparison.specs.internal.Setting.{Codes, heldGenerators}
+use Rattle.comparison_component.specs.internal.Components.{SoundPair}
 use Rattle.graph.specs.NeighbourWords.{graphIn}
-use Rattle.image_answer.specs.Answer.{IsImage}
+use Rattle.image_answer.specs.internal.Answer.{IsImage}
 use Rattle.image.specs.Rule.{imageList}
 use Rattle.image_answer.specs.declared.ImageAnswer.{ImageAnswer}
 use Rattle.parts.specs.Parts.{partAbove}
@@ -40,7 +40,8 @@ use Rattle.stabilizer.specs.Groups.{SameGroup}
 use Rattle.words.proofs.Flags.{neither}
 use Rattle.words.proofs.Sums.{lt-or-ge}
 use Rattle.words.specs.Search.{first, some}
-use Rattle.comparison_answer.specs.ComparedPairs.{HoldsReduced, PairAnswered, inducedRecord}
+use Rattle.comparison_answer.specs.internal.ComparedPairs.{HoldsReduced, PairAnswered}
+use Rattle.comparison_answer.specs.ComparedPairs.{inducedRecord}
 
 module _ (n : ℕ) (R : ℕ → Pauli) (nb cs : List ℕ) (H : HoldsReduced n R nb cs) where
   abbrev lent : LentRecord

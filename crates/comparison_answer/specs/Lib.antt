@@ -1,1 +1,2 @@
 pub mod ComparedPairs
+pub mod internal

@@ -9,13 +9,13 @@ ghost use mathlib.Core.Path.{_≡_};
 ghost use Prim.Native.Nat.{ℕ, _≤_};
 ghost use lib.ListN.{getD, length};
 ghost use Rattle.buffers.specs.Buffers.{tabulate};
-ghost use Rattle.comparison.specs.Compared.{inducedCode};
-ghost use Rattle.comparison.specs.Setting.{Codes};
-ghost use Rattle.image_answer.specs.Answer.{IsImage};
+ghost use Rattle.comparison.specs.internal.Compared.{inducedCode};
+ghost use Rattle.comparison.specs.internal.Setting.{Codes};
+ghost use Rattle.image_answer.specs.internal.Answer.{IsImage};
 ghost use Rattle.pauli.specs.Pauli.{Pauli};
 ghost use Rattle.record.specs.Accepted.{AcceptedRecord};
 ghost use Rattle.record.specs.Lent.{heldRecord};
-ghost use Rattle.comparison_answer.specs.ComparedPairs.{HoldsReduced, PairAnswered, earlierOf};
+ghost use Rattle.comparison_answer.specs.internal.ComparedPairs.{HoldsReduced, PairAnswered, earlierOf};
 
 // The number of the line that comes first in checking order; 0 stands for no line.
 pub fn earlier(a: u8, b: u8) -> u8

@@ -1,5 +1,4 @@
 -- The codes of a part written at its vertices.
--- Assumes nothing.
 use mathlib.Core.List.{List}
 use mathlib.Core.Path.{refl, subst, sym, _∙_, _≡_}
 use Prim.Native.Nat.{_+_, _<_, _≤_, ℕ}

@@ -1,1 +1,1 @@
-pub mod Islands
+pub mod internal

@@ -5,7 +5,7 @@ use parts_records::extract;
 ghost use mathlib.Core.Path.{_≡_};
 ghost use Prim.Native.Nat.{ℕ, _<_, _≤_};
 ghost use lib.ListN.{getD, length};
-ghost use Rattle.comparison_component.specs.Islands.{NumberedPair, PartAnswer};
+ghost use Rattle.comparison_component.specs.internal.Components.{NumberedPair, PartAnswer};
 
 // The least choice of a part, with room for its two records.
 pub fn compare_listed(
@@ -14,14 +14,14 @@ pub fn compare_listed(
     codes: &[u8],
     neighbours2: &[u64],
     codes2: &[u8],
-    island: u64,
+    component: u64,
     at: [usize; 20],
     words: &mut [u64],
     numbers: &mut [u8],
     words2: &mut [u64],
     numbers2: &mut [u8],
 ) -> Answer
-    requires { ⌜ NumberedPair n (now neighbours) (now codes) (now neighbours2) (now codes2) island
+    requires { ⌜ NumberedPair n (now neighbours) (now codes) (now neighbours2) (now codes2) component
         (length (now words)) at ⌝ }
     requires { ⌜ (length (now numbers) ≡ length (now words)) × (length (now words2) ≡ length (now words))
         × (length (now numbers2) ≡ length (now words)) ⌝ }

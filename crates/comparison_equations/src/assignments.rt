@@ -7,8 +7,8 @@ use words::put_bit;
 ghost use mathlib.Core.Path.{_≡_};
 ghost use Prim.Native.Nat.{_≤_};
 ghost use Rattle.clifford.specs.Vectors.{codesOf};
-ghost use Rattle.comparison.specs.Equations.{classAssignment, signAssignment};
-ghost use Rattle.comparison.specs.Setting.{Codes};
+ghost use Rattle.comparison.specs.internal.Equations.{classAssignment, signAssignment};
+ghost use Rattle.comparison.specs.internal.Setting.{Codes};
 
 // Bit q of the four words is the matrix of the class at q: image z = a z + b x, image x = c z + d x.
 pub fn class_words(n: usize, choice: [u8; 20]) -> Assignment

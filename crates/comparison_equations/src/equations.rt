@@ -6,7 +6,17 @@ use words::odd;
 ghost use mathlib.Core.Path.{_≡_};
 ghost use mathlib.Core.Bool.{false};
 ghost use Prim.Native.Nat.{ℕ, _<_, _≤_};
-ghost use Rattle.comparison.specs.Equations.{Inserted, QubitTested, Triangular, added, equationOf, fails, span, tableOf, unknown};
+ghost use Rattle.comparison.specs.internal.Equations.{
+  Inserted,
+  QubitTested,
+  Triangular,
+  added,
+  equationOf,
+  fails,
+  span,
+  equationsIn,
+  unknown,
+};
 
 // The sum of two equations.
 fn add(e: Equation, f: Equation) -> Equation
@@ -71,8 +81,8 @@ fn row(e: Equation) -> [u64; 5]
 
 // Stores an equation, or a sum of it with stored ones, at the place of its last unknown, or nothing.
 pub fn insert(table: &mut [[u64; 5]; 80], m: usize, e: Equation)
-    requires { ⌜ (m ≤ 80) × Triangular (tableOf (now table)) × ((j : ℕ) → m ≤ j → unknown e j ≡ false) ⌝ }
-    ensures { λ r. ⌜ Inserted (tableOf (now (table .entry))) e (tableOf (now (table .exit))) ⌝ }
+    requires { ⌜ (m ≤ 80) × Triangular (equationsIn (now table)) × ((j : ℕ) → m ≤ j → unknown e j ≡ false) ⌝ }
+    ensures { λ r. ⌜ Inserted (equationsIn (now (table .entry))) e (equationsIn (now (table .exit))) ⌝ }
 {
     let mut left = e;
     let mut i = m;
@@ -92,7 +102,7 @@ pub fn insert(table: &mut [[u64; 5]; 80], m: usize, e: Equation)
 // Whether an equation of qubit q fails: one whose last unknown is of qubit q.
 pub fn broken(table: &[[u64; 5]; 80], q: usize, w: Assignment) -> bool
     requires { ⌜ q < 20 ⌝ }
-    ensures { λ r. ⌜ QubitTested (tableOf (now (table .entry))) q w r ⌝ }
+    ensures { λ r. ⌜ QubitTested (equationsIn (now (table .entry))) q w r ⌝ }
 {
     let mut i = 4 * q;
     while i < 4 * q + 4 {

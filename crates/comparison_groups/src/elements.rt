@@ -7,9 +7,9 @@ ghost use mathlib.Core.Path.{_≡_};
 ghost use mathlib.Core.Bool.{false};
 ghost use Prim.Native.Nat.{_≤_};
 ghost use Rattle.pauli.specs.Pauli.{anticommute, mul};
-ghost use Rattle.pauli.specs.Rows.{generatorOf};
+ghost use Rattle.pauli.specs.internal.Rows.{generatorOf};
 ghost use Rattle.clifford.specs.Vectors.{codesOf};
-ghost use Rattle.comparison.specs.Setting.{Codes, Framed, Guessed, generatorsOf};
+ghost use Rattle.comparison.specs.internal.Setting.{Codes, Framed, Guessed, generatorsOf};
 
 // The product of two generators that commute.
 fn times(p: Generator, g: Generator) -> Generator

@@ -5,8 +5,8 @@ ghost use Prim.Native.Nat.{_<_};
 ghost use lib.ListN.{length};
 ghost use Rattle.buffers.specs.Buffers.{tabulate};
 ghost use Rattle.clifford.specs.Clifford.{cliffordOf, codeOf, inverse, then};
-ghost use Rattle.comparison.specs.Compared.{inducedCode};
-ghost use Rattle.comparison.specs.Setting.{Codes};
+ghost use Rattle.comparison.specs.internal.Compared.{inducedCode};
+ghost use Rattle.comparison.specs.internal.Setting.{Codes};
 
 // The first record's code, then the choice's, then the inverse of the second's.
 fn induced_code(first: u8, choice: u8, second: u8) -> u8

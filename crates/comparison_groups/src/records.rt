@@ -8,7 +8,7 @@ ghost use Prim.Native.Nat.{ℕ, _<_, _≤_};
 ghost use lib.ListN.{getD, length};
 ghost use Rattle.clifford.specs.Clifford.{codeOf, inverse};
 ghost use Rattle.clifford.specs.Vectors.{codesOf};
-ghost use Rattle.comparison.specs.Setting.{Codes, SoundRecord, generatorsOf, heldGenerators};
+ghost use Rattle.comparison.specs.internal.Setting.{Codes, SoundRecord, generatorsOf, heldGenerators};
 
 // The generators of a record.
 pub fn generators(n: usize, neighbours: &[u64], codes: &[u8]) -> [Generator; 20]

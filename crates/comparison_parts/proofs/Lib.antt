@@ -1,2 +1,2 @@
-pub mod IslandLaws
+pub mod ComponentLaws
 pub mod Parting

@@ -1,36 +1,33 @@
--- The loop over the parts: what is settled stays settled, and at the end the choice is the least.
--- Assumes nothing.
+-- The loop over the parts: where it is the least it stays so, and at the end the choice is the least.
 use mathlib.Core.Bool.{_&&_, Bool, false, false≢true, not, true, true≢false}
 use mathlib.Core.List.{List}
 use mathlib.Core.Logic.{inl, inr, _⊎_}
 use mathlib.Core.Path.{ap, ap₂, refl, subst, sym, _∙_, _≡_}
-use Prim.Native.Nat.{_*_, _+_, _-_, _<_, _≤_, _^_, zero, suc, ℕ}
+use Prim.Native.Nat.{_*_, _+_, _-_, _<_, _≤_, _^_, ℕ}
 use native.Mathlib.Nat.{lt-of-lt-of-le}
 use native.Mathlib.Omega.{arith}
 use lib.Bits.{bitAnd, bitXor, xor-add-and}
 use lib.Count.{trailingZeros}
-use lib.Dec.{lit<, ltb}
-use lib.ListN.{getD, length}
+use lib.Dec.{ltb}
+use lib.ListN.{length}
 use lib.Pow.{pow-mono, pow-pos}
 use borrow.Author.Tests.{ltb-false}
-use Rattle.clifford.specs.Clifford.{Clifford, cliffordOf}
+use Rattle.clifford.specs.Clifford.{cliffordOf}
 use Rattle.clifford.specs.Vectors.{codesOf}
 use Rattle.comparison.proofs.Least.{least-answer}
-use Rattle.comparison.proofs.SettledChoices.{settled-agree, settled-least}
-use Rattle.comparison.specs.Searches.{LeastAnswer}
-use Rattle.comparison.specs.Settled.{Settled}
-use Rattle.comparison.specs.Setting.{Codes, heldGenerators}
+use Rattle.comparison.proofs.LeastAtVertices.{least-at-agree, least-at-least}
+use Rattle.comparison.specs.internal.Searches.{LeastAnswer}
+use Rattle.comparison.specs.internal.LeastAt.{LeastAt}
+use Rattle.comparison.specs.internal.Setting.{Codes, heldGenerators}
 use Rattle.cut.proofs.Counting.{count-ext}
 use Rattle.cut.specs.Kernel.{count}
-use Rattle.graph.specs.Graph.{Graph}
 use Rattle.graph.specs.NeighbourWords.{graphIn}
 use Rattle.parts.proofs.PartLaws.{part-has, part-within, rest-closed}
-use Rattle.parts.specs.Parts.{Closed, partAbove, partOf}
-use Rattle.parts_words.specs.Spreads.{PartWord}
+use Rattle.parts.specs.internal.Parts.{Closed}
+use Rattle.parts.specs.Parts.{partAbove, partOf}
+use Rattle.parts_words.specs.internal.Spreads.{PartWord}
 use Rattle.record.proofs.ReducedRecords.{record-proper}
 use Rattle.record.specs.Records.{GraphRecord, rowsOf}
-use Rattle.stabilizer.specs.Carries.{Carries}
-use Rattle.stabilizer.specs.Groups.{Proper}
 use Rattle.words.proofs.BitLaws.{bit-above, bit-and, bit-ext∞, bit-mask, bit-xor, lt-of-bits, zero-bit}
 use Rattle.words.proofs.Finite.{bits}
 use Rattle.words.proofs.Flags.{both-true}
@@ -39,22 +36,22 @@ use Rattle.words.proofs.Sums.{lt-or-ge}
 use Rattle.words.proofs.Trailing.{trailing-set}
 use Rattle.words.specs.Bits.{bit, _⊕_}
 use Rattle.words.specs.Search.{IsFirst}
-use Rattle.comparison_parts.proofs.IslandLaws.{island-closed}
-use Rattle.comparison_component.specs.Islands.{Island, IslandAnswer, Progress, SoundPair, held}
+use Rattle.comparison_parts.proofs.ComponentLaws.{component-closed}
+use Rattle.comparison_component.specs.internal.Components.{Component, ComponentAnswer, Progress, SoundPair, recordHeld}
 
 module _ (n : ℕ) (nb cs nb₂ cs₂ : List ℕ) (P : SoundPair n nb cs nb₂ cs₂) where
   abbrev r : GraphRecord
-  r = held n nb cs
+  r = recordHeld n nb cs
 
   abbrev t : GraphRecord
-  t = held n nb₂ cs₂
+  t = recordHeld n nb₂ cs₂
 
   pub progress-start : (rest : ℕ) → rest ≡ 2 ^ n - 1 → (choice : List ℕ) → Codes choice → Progress n r t rest choice
   progress-start rest e choice C =
       record {
         below = subst (λ w. w < 2 ^ n) (sym e) (fits (2 ^ n) (pow-pos n));
         closed = λ i j k l a b. marked j l;
-        settled = λ q l a. absurd (true≢false (sym (marked q l) ∙ a));
+        least-at = λ q l a. absurd (true≢false (sym (marked q l) ∙ a));
         codes = C;
       }
     where
@@ -81,82 +78,82 @@ module _ (n : ℕ) (nb cs nb₂ cs₂ : List ℕ) (P : SoundPair n nb cs nb₂ c
       pub vertex-in-buffer : q < length nb
       vertex-in-buffer = subst (λ m. q < m) (sym (P .first .neighbours-long)) vertex-below
 
-      module _ (few : partAbove 20 n (graphIn nb) ≡ false) (island : ℕ)
-          (W′ : PartWord (length nb) (graphIn nb) q island) where
-        W : PartWord n (graphIn nb) q island
-        W = subst (λ m. PartWord m (graphIn nb) q island) (P .first .neighbours-long) W′
+      module _ (few : partAbove 20 n (graphIn nb) ≡ false) (component : ℕ)
+          (W′ : PartWord (length nb) (graphIn nb) q component) where
+        W : PartWord n (graphIn nb) q component
+        W = subst (λ m. PartWord m (graphIn nb) q component) (P .first .neighbours-long) W′
 
-        pub next-island : Island n nb island
+        pub next-component : Component n nb component
         unfolding partAbove
-        next-island =
+        next-component =
             record {
               vertex = q;
               below = vertex-below;
               word = W;
-              few = subst (λ k. k ≤ 20) (sym (count-ext n (bit island) (partOf n (graphIn nb) q) (W .marks)))
+              few = subst (λ k. k ≤ 20) (sym (count-ext n (bit component) (partOf n (graphIn nb) q) (W .marks)))
                   (ltb-false 20 _
                   (some-false n (λ q. ltb 20 (count n (partOf n (graphIn nb) q))) few q vertex-below));
             }
 
         -- it lies in what is left
-        inside : (u : ℕ) → u < n → bit island u ≡ true → bit rest u ≡ true
+        inside : (u : ℕ) → u < n → bit component u ≡ true → bit rest u ≡ true
         inside u l a = part-within n (graphIn nb) (bit rest) (G .closed) q u vertex-below l (F .passes)
             (sym (W .marks u l) ∙ a)
 
         abbrev after : ℕ
-        after = bitXor rest (bitAnd rest island)
+        after = bitXor rest (bitAnd rest component)
 
-        after-at : (u : ℕ) → bit after u ≡ (bit rest u && not (bit island u))
-        after-at u = bit-xor rest (bitAnd rest island) u ∙ ap (λ b. bit rest u ⊕ b) (bit-and rest island u)
-            ∙ taken (bit rest u) (bit island u)
+        after-at : (u : ℕ) → bit after u ≡ (bit rest u && not (bit component u))
+        after-at u = bit-xor rest (bitAnd rest component) u ∙ ap (λ b. bit rest u ⊕ b) (bit-and rest component u)
+            ∙ taken (bit rest u) (bit component u)
           where
             taken : (a b : Bool) → (a ⊕ (a && b)) ≡ (a && not b)
             taken = bits 2 (λ a b. a ⊕ (a && b)) (λ a b. a && not b) tt
 
         pub rest-falls : after < rest
-        rest-falls = less rest (bitAnd rest island) after (xor-add-and rest (bitAnd rest island)) absorbed nonzero
+        rest-falls = less rest (bitAnd rest component) after (xor-add-and rest (bitAnd rest component)) absorbed nonzero
           where
-            absorbed : bitAnd rest (bitAnd rest island) ≡ bitAnd rest island
-            absorbed = bit-ext∞ _ _ (λ u. bit-and rest (bitAnd rest island) u
-                ∙ ap (λ b. bit rest u && b) (bit-and rest island u)
-                ∙ twice (bit rest u) (bit island u) ∙ sym (bit-and rest island u))
+            absorbed : bitAnd rest (bitAnd rest component) ≡ bitAnd rest component
+            absorbed = bit-ext∞ _ _ (λ u. bit-and rest (bitAnd rest component) u
+                ∙ ap (λ b. bit rest u && b) (bit-and rest component u)
+                ∙ twice (bit rest u) (bit component u) ∙ sym (bit-and rest component u))
               where
                 twice : (a b : Bool) → (a && (a && b)) ≡ (a && b)
                 twice = bits 2 (λ a b. a && (a && b)) (λ a b. a && b) tt
 
-            nonzero : bitAnd rest island ≡ 0 → ⊥
+            nonzero : bitAnd rest component ≡ 0 → ⊥
             nonzero e = true≢false
-                (sym (bit-and rest island q
+                (sym (bit-and rest component q
                 ∙ ap₂ _&&_ (F .passes) (W .marks q vertex-below ∙ part-has n (graphIn nb) q))
                 ∙ ap (λ w. bit w q) e ∙ zero-bit q)
 
             less : (a m x : ℕ) → x + bitAnd a m * 2 ≡ a + m → bitAnd a m ≡ m → (m ≡ 0 → ⊥) → x < a
             less a m x f g d = omega (arith, subst (λ v. x + v * 2 ≡ a + m) g f, d)
 
-        -- ---- the part settled
-        module _ (new : List ℕ) (A : IslandAnswer n r t island choice true new) where
+        -- ---- the part compared
+        module _ (new : List ℕ) (A : ComponentAnswer n r t component choice true new) where
           pub progress-step : Progress n r t after new
           progress-step =
               record {
                 below = lt-of-bits n after
-                    (λ u l. after-at u ∙ ap (λ b. b && not (bit island u)) (bit-above n rest (G .below) u l));
+                    (λ u l. after-at u ∙ ap (λ b. b && not (bit component u)) (bit-above n rest (G .below) u l));
                 closed = closed;
-                settled = λ u l a. go u l (bit rest u) refl (bit island u) refl (sym (after-at u) ∙ a);
+                least-at = λ u l a. go u l (bit rest u) refl (bit component u) refl (sym (after-at u) ∙ a);
                 codes = A .codes (G .codes);
               }
             where
               closed : Closed n (graphIn nb) (bit after)
               closed i j k l a b =
-                  let h = both-true (bit rest i) (not (bit island i)) (sym (after-at i) ∙ a) in
+                  let h = both-true (bit rest i) (not (bit component i)) (sym (after-at i) ∙ a) in
                   after-at j ∙ ap₂ _&&_ (G .closed i j k l (h .0) b)
-                  (rest-closed n (graphIn nb) (P .first .simple .symmetric) (bit island)
-                  (island-closed n nb cs nb₂ cs₂ island P next-island) i j k l (h .1) b)
+                  (rest-closed n (graphIn nb) (P .first .simple .symmetric) (bit component)
+                  (component-closed n nb cs nb₂ cs₂ component P next-component) i j k l (h .1) b)
 
-              -- the part of a vertex that is settled already lies outside of what is left
+              -- the part of a vertex that is compared already lies outside of what is left
               outside : (u v : ℕ) → u < n → v < n → bit rest u ≡ false → partOf n (graphIn nb) u v ≡ true
-                  → bit island v ≡ false
+                  → bit component v ≡ false
               outside u v l m a b =
-                  never (bit island v) (λ h. true≢false (sym (inside v m h) ∙ not-true′ (bit rest v)
+                  never (bit component v) (λ h. true≢false (sym (inside v m h) ∙ not-true′ (bit rest v)
                   (part-within n (graphIn nb) (λ x. not (bit rest x))
                   (rest-closed n (graphIn nb) (P .first .simple .symmetric) (bit rest) (G .closed)) u v l m (ap not a) b)))
                 where
@@ -168,16 +165,16 @@ module _ (n : ℕ) (nb cs nb₂ cs₂ : List ℕ) (P : SoundPair n nb cs nb₂ c
                   not-true′ true e = absurd (false≢true e)
                   not-true′ false e = refl
 
-              go : (u : ℕ) → u < n → (x : Bool) → bit rest u ≡ x → (y : Bool) → bit island u ≡ y
-                  → (bit rest u && not (bit island u)) ≡ false → Settled n r t (codesOf new) u
+              go : (u : ℕ) → u < n → (x : Bool) → bit rest u ≡ x → (y : Bool) → bit component u ≡ y
+                  → (bit rest u && not (bit component u)) ≡ false → LeastAt n r t (codesOf new) u
               go u l false e y f h =
-                  settled-agree n r t (P .first .simple) (P .second .simple) (codesOf choice) (codesOf new) u l
-                  (λ v m b. ap cliffordOf (sym (A .kept v (outside u v l m e b)))) (G .settled u l e)
-              go u l true e true f h = A .settled refl u l f
+                  least-at-agree n r t (P .first .simple) (P .second .simple) (codesOf choice) (codesOf new) u l
+                  (λ v m b. ap cliffordOf (sym (A .kept v (outside u v l m e b)))) (G .least-at u l e)
+              go u l true e true f h = A .least-at refl u l f
               go u l true e false f h = absurd (true≢false (sym (ap₂ (λ x y. x && not y) e f) ∙ h))
 
         -- ---- or there is no choice
-        pub none-answer : (new : List ℕ) → IslandAnswer n r t island choice false new
+        pub none-answer : (new : List ℕ) → ComponentAnswer n r t component choice false new
             → LeastAnswer n (heldGenerators n nb cs) (heldGenerators n nb₂ cs₂) false new
         none-answer new A =
             least-answer n (rowsOf n r) (rowsOf n t) (record-proper n r (P .first .simple) .within)
@@ -189,7 +186,7 @@ module _ (n : ℕ) (nb cs nb₂ cs₂ : List ℕ) (P : SoundPair n nb cs nb₂ c
         least-answer n (rowsOf n r) (rowsOf n t) (record-proper n r (P .first .simple) .within)
         (record-proper n t (P .second .simple) .within) true choice
         (record {
-          search = settled-least n r t (P .first .simple) (P .second .simple) (codesOf choice)
-              (λ q l. G .settled q l (ap (λ w. bit w q) e ∙ zero-bit q));
+          search = least-at-least n r t (P .first .simple) (P .second .simple) (codesOf choice)
+              (λ q l. G .least-at q l (ap (λ w. bit w q) e ∙ zero-bit q));
           codes = G .codes;
         })

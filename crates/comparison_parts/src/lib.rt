@@ -9,11 +9,11 @@ use words::smallest;
 ghost use mathlib.Core.Bool.{false};
 ghost use mathlib.Core.Path.{_≡_};
 ghost use Prim.Native.Nat.{_≤_};
-ghost use Rattle.comparison.specs.Searches.{LeastAnswer};
-ghost use Rattle.comparison.specs.Setting.{heldGenerators};
+ghost use Rattle.comparison.specs.internal.Searches.{LeastAnswer};
+ghost use Rattle.comparison.specs.internal.Setting.{heldGenerators};
 ghost use Rattle.graph.specs.NeighbourWords.{graphIn};
 ghost use Rattle.parts.specs.Parts.{partAbove};
-ghost use Rattle.comparison_component.specs.Islands.{Island, IslandAnswer, SoundPair, held};
+ghost use Rattle.comparison_component.specs.internal.Components.{Component, ComponentAnswer, SoundPair, recordHeld};
 
 // Whether a choice was found, and the choice.
 pub struct Whole {
@@ -23,27 +23,27 @@ pub struct Whole {
 
 // One part compared: no choice, where an edge of the second graph leaves it or it has none; else its least choice beside
 // those of other parts.
-fn compare_island(
+fn compare_component(
     n: usize,
     neighbours: &[u64],
     codes: &[u8],
     neighbours2: &[u64],
     codes2: &[u8],
-    island: u64,
+    component: u64,
     choice: [u8; 64],
 ) -> Whole
     requires { ⌜ SoundPair n (now neighbours) (now codes) (now neighbours2) (now codes2) ⌝ }
-    requires { ⌜ Island n (now neighbours) island ⌝ }
-    ensures { λ r. ⌜ IslandAnswer n (held n (now (neighbours .entry)) (now (codes .entry)))
-        (held n (now (neighbours2 .entry)) (now (codes2 .entry))) island choice (r .found) (r .choice) ⌝ }
+    requires { ⌜ Component n (now neighbours) component ⌝ }
+    ensures { λ r. ⌜ ComponentAnswer n (recordHeld n (now (neighbours .entry)) (now (codes .entry)))
+        (recordHeld n (now (neighbours2 .entry)) (now (codes2 .entry))) component choice (r .found) (r .choice) ⌝ }
 {
-    if spread(neighbours2, island) != island {
+    if spread(neighbours2, component) != component {
         return Whole {
             found: false,
             choice,
         };
     }
-    let listed = vertices(island);
+    let listed = vertices(component);
     let k = listed.count;
     let at = listed.at;
     let mut words = [0u64; 20];
@@ -56,7 +56,7 @@ fn compare_island(
         codes,
         neighbours2,
         codes2,
-        island,
+        component,
         at,
         &mut words[..k],
         &mut numbers[..k],
@@ -95,8 +95,8 @@ pub fn compare_parts(
     let mut rest = mask(n);
     while rest != 0 {
         let q = smallest(rest);
-        let island = part(neighbours, q);
-        let whole = compare_island(n, neighbours, codes, neighbours2, codes2, island, choice);
+        let component = part(neighbours, q);
+        let whole = compare_component(n, neighbours, codes, neighbours2, codes2, component, choice);
         let next = whole.choice;
         if !whole.found {
             return Whole {
@@ -105,7 +105,7 @@ pub fn compare_parts(
             };
         }
         choice = next;
-        rest = rest ^ (rest & island);
+        rest = rest ^ (rest & component);
     }
     Whole {
         found: true,

@@ -7,13 +7,18 @@ use comparison_tables::least_class;
 use comparison_tables::least_sign;
 use comparison_tables::sign_table;
 use pauli::Generator;
-ghost use mathlib.Core.Path.{_≡_};
 ghost use Prim.Native.Nat.{_≤_};
-ghost use lib.ListN.{length};
 ghost use Rattle.comparison.specs.Choices.{classKey, signKey};
-ghost use Rattle.comparison.specs.Equations.{Triangular, classAssignment, signAssignment, tableOf};
-ghost use Rattle.comparison.specs.Searches.{ClassesAnswered, Extendable, LeastAnswer, SignsChosen};
-ghost use Rattle.comparison.specs.Setting.{Codes, Connected, Setting, SoundRecord, generatorsOf, heldGenerators};
+ghost use Rattle.comparison.specs.internal.Equations.{Triangular, classAssignment, signAssignment, equationsIn};
+ghost use Rattle.comparison.specs.internal.Searches.{ClassesAnswered, Extendable, LeastAnswer, SignsChosen};
+ghost use Rattle.comparison.specs.internal.Setting.{
+  Codes,
+  Connected,
+  Setting,
+  SoundRecord,
+  generatorsOf,
+  heldGenerators,
+};
 ghost use Rattle.graph.specs.NeighbourWords.{graphIn};
 
 // Whether a choice was found, and the choice.
@@ -24,9 +29,9 @@ pub struct Answer {
 
 // For each qubit in turn the first class that the equations allow. There is none at the first qubit, or always one.
 fn least_classes(n: usize, table: &[[u64; 5]; 80]) -> Answer
-    requires { ⌜ (n ≤ 20) × Triangular (tableOf (now table))
-        × Extendable (classAssignment n) classKey 1 n (tableOf (now table)) ⌝ }
-    ensures { λ r. ⌜ ClassesAnswered n (tableOf (now (table .entry))) (r .found) (r .choice) ⌝ }
+    requires { ⌜ (n ≤ 20) × Triangular (equationsIn (now table))
+        × Extendable (classAssignment n) classKey 1 n (equationsIn (now table)) ⌝ }
+    ensures { λ r. ⌜ ClassesAnswered n (equationsIn (now (table .entry))) (r .found) (r .choice) ⌝ }
 {
     let mut choice = [0u8; 20];
     let mut q = 0;
@@ -49,10 +54,10 @@ fn least_classes(n: usize, table: &[[u64; 5]; 80]) -> Answer
 
 // For each qubit in turn the first signs that the equations allow, the classes kept.
 fn least_signs(n: usize, table: &[[u64; 5]; 80], classes: [u8; 20]) -> [u8; 20]
-    requires { ⌜ (n ≤ 20) × Triangular (tableOf (now table))
-        × Extendable (signAssignment n) signKey 0 n (tableOf (now table)) ⌝ }
+    requires { ⌜ (n ≤ 20) × Triangular (equationsIn (now table))
+        × Extendable (signAssignment n) signKey 0 n (equationsIn (now table)) ⌝ }
     requires { ⌜ Codes classes ⌝ }
-    ensures { λ r. ⌜ SignsChosen n (tableOf (now (table .entry))) classes n r ⌝ }
+    ensures { λ r. ⌜ SignsChosen n (equationsIn (now (table .entry))) classes n r ⌝ }
 {
     let mut choice = classes;
     let mut q = 0;

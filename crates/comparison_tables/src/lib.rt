@@ -9,19 +9,26 @@ use comparison_equations::sign_words;
 use comparison_groups::element;
 use pauli::Generator;
 ghost use mathlib.Core.Path.{_≡_};
-ghost use Prim.Native.Nat.{ℕ, _+_, _<_, _≤_};
+ghost use Prim.Native.Nat.{_+_, _<_, _≤_};
 ghost use Rattle.clifford.specs.Vectors.{codesOf};
 ghost use Rattle.stabilizer.specs.Groups.{Proper};
-ghost use Rattle.comparison.specs.Equations.{
+ghost use Rattle.comparison.specs.internal.Equations.{
   classAssignment,
   classEquation,
   emptyRows,
   signAssignment,
   signEquation,
-  tableOf,
+  equationsIn,
 };
-ghost use Rattle.comparison.specs.Setting.{Bare, Codes, Setting, generatorsOf};
-ghost use Rattle.comparison.specs.Searches.{ClassTable, FirstFit, SentUpToSign, SignTable, withClass, withSigns};
+ghost use Rattle.comparison.specs.internal.Setting.{NoSigns, Codes, Setting, generatorsOf};
+ghost use Rattle.comparison.specs.internal.Searches.{
+  ClassTable,
+  FirstFit,
+  SentUpToSign,
+  SignTable,
+  withClass,
+  withSigns,
+};
 
 // The equation on the classes by which the image of g commutes with h.
 fn class_equation(g: Generator, h: Generator) -> Equation
@@ -58,8 +65,8 @@ fn class_rows(
     i: usize,
 )
     requires { ⌜ (n ≤ 20) × Proper n (generatorsOf first) × (i < n) ⌝ }
-    requires { ⌜ ClassTable n first second i 0 (tableOf (now table)) ⌝ }
-    ensures { λ r. ⌜ ClassTable n first second (i + 1) 0 (tableOf (now (table .exit))) ⌝ }
+    requires { ⌜ ClassTable n first second i 0 (equationsIn (now table)) ⌝ }
+    ensures { λ r. ⌜ ClassTable n first second (i + 1) 0 (equationsIn (now (table .exit))) ⌝ }
 {
     let g = first[i];
     let mut j = 0;
@@ -79,7 +86,7 @@ pub fn class_table(
     second: [Generator; 20],
 )
     requires { ⌜ (n ≤ 20) × Proper n (generatorsOf first) × (now table ≡ emptyRows) ⌝ }
-    ensures { λ r. ⌜ ClassTable n first second n 0 (tableOf (now (table .exit))) ⌝ }
+    ensures { λ r. ⌜ ClassTable n first second n 0 (equationsIn (now (table .exit))) ⌝ }
 {
     let mut i = 0;
     while i < n {
@@ -97,9 +104,9 @@ pub fn sign_table(
     frame: [u8; 20],
     choice: [u8; 20],
 )
-    requires { ⌜ Setting n first second frame × Codes choice × Bare choice ⌝ }
+    requires { ⌜ Setting n first second frame × Codes choice × NoSigns choice ⌝ }
     requires { ⌜ SentUpToSign n first second (codesOf choice) × (now table ≡ emptyRows) ⌝ }
-    ensures { λ r. ⌜ SignTable n first second (codesOf choice) n (tableOf (now (table .exit))) ⌝ }
+    ensures { λ r. ⌜ SignTable n first second (codesOf choice) n (equationsIn (now (table .exit))) ⌝ }
 {
     let mut i = 0;
     while i < n {
@@ -115,7 +122,7 @@ pub fn sign_table(
 // The first class at qubit q that the equations allow after the classes given below it; 6 if there is none.
 pub fn least_class(table: &[[u64; 5]; 80], n: usize, choice: [u8; 20], q: usize) -> u8
     requires { ⌜ (n ≤ 20) × (q < n) × Codes choice ⌝ }
-    ensures { λ r. ⌜ FirstFit (classAssignment n) (tableOf (now (table .entry))) q (λ u. codesOf (withClass choice q u)) 6 r ⌝ }
+    ensures { λ r. ⌜ FirstFit (classAssignment n) (equationsIn (now (table .entry))) q (λ u. codesOf (withClass choice q u)) 6 r ⌝ }
 {
     let mut v = 0u8;
     while v < 6 {
@@ -133,7 +140,7 @@ pub fn least_class(table: &[[u64; 5]; 80], n: usize, choice: [u8; 20], q: usize)
 // The first signs at qubit q that the equations allow after the signs given below it; 4 if there are none.
 pub fn least_sign(table: &[[u64; 5]; 80], n: usize, choice: [u8; 20], q: usize) -> u8
     requires { ⌜ (n ≤ 20) × (q < n) × Codes choice ⌝ }
-    ensures { λ r. ⌜ FirstFit (signAssignment n) (tableOf (now (table .entry))) q (λ u. codesOf (withSigns choice q u)) 4 r ⌝ }
+    ensures { λ r. ⌜ FirstFit (signAssignment n) (equationsIn (now (table .entry))) q (λ u. codesOf (withSigns choice q u)) 4 r ⌝ }
 {
     let mut v = 0u8;
     while v < 4 {

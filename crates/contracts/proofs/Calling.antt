@@ -1,5 +1,4 @@
 -- Calls of any contract: how one is made, and what its caller learns.
--- Assumes nothing.
 use mathlib.Core.Bool.{cond}
 use mathlib.Core.List.{List, [], _∷_}
 use mathlib.Core.Path.{ap, sym, _∙_, _≡_}
@@ -7,7 +6,7 @@ use Prim.Native.Nat.{ℕ}
 use borrow.Author.Tests.{eq-eqb, ne-eqb}
 use Rattle.buffers.specs.Refusals.{firstFitting}
 use Rattle.contracts.proofs.Fitting.{fits-at}
-use Rattle.contracts.specs.Answers.{EveryCallAnswers, Unchanged, Written}
+use Rattle.contracts.specs.Answers.{EveryCallAnswers, Unchanged, HoldsAnswer}
 use Rattle.contracts.specs.Calls.{Call, Contract, EachOf, Held, Lent, buffer, number}
 
 module _ (r : ℕ) where
@@ -25,7 +24,7 @@ module _ (r : ℕ) where
   each-unchanged h (number before answer after ∷ bs) H =
       (H .0 ∙ ap (λ v. cond v answer before) (ne-eqb r 0 h), each-unchanged h bs (H .1))
 
-  each-written : (z : r ≡ 0) (bs : List Lent) → EachOf (Held r) bs → EachOf Written bs
+  each-written : (z : r ≡ 0) (bs : List Lent) → EachOf (Held r) bs → EachOf HoldsAnswer bs
   each-written z [] H = tt
   each-written z (buffer before answer after ∷ bs) H =
       (H .0 ∙ ap (λ v. cond v answer before) (eq-eqb r 0 z), each-written z bs (H .1))
@@ -38,10 +37,10 @@ pub refused : (c : Contract) {k : ℕ} → k ≡ firstFitting (c .lines) → (k 
 refused c {k} e h U = record { number = e; held = each-held k h (c .lent) U }
 
 -- accepted: each buffer holds its answer
-pub done : (c : Contract) {k : ℕ} → k ≡ firstFitting (c .lines) → k ≡ 0 → EachOf Written (c .lent) → Call c 0
+pub done : (c : Contract) {k : ℕ} → k ≡ firstFitting (c .lines) → k ≡ 0 → EachOf HoldsAnswer (c .lent) → Call c 0
 done c e z W = record { number = sym z ∙ e; held = each-done (c .lent) W }
   where
-    each-done : (bs : List Lent) → EachOf Written bs → EachOf (Held 0) bs
+    each-done : (bs : List Lent) → EachOf HoldsAnswer bs → EachOf (Held 0) bs
     each-done [] W = tt
     each-done (buffer before answer after ∷ bs) W = (W .0, each-done bs (W .1))
     each-done (number before answer after ∷ bs) W = (W .0, each-done bs (W .1))
@@ -54,7 +53,7 @@ module _ {c : Contract} {r : ℕ} (C : Call c r) where
   pub kept-all : (r ≡ 0 → ⊥) → EachOf Unchanged (c .lent)
   kept-all h = each-unchanged r h (c .lent) (C .held)
 
-  pub written-all : r ≡ 0 → EachOf Written (c .lent)
+  pub written-all : r ≡ 0 → EachOf HoldsAnswer (c .lent)
   written-all z = each-written r z (c .lent) (C .held)
 
 pub every-call-answers : EveryCallAnswers

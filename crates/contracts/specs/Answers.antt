@@ -1,18 +1,17 @@
 -- What a call of any contract answers, in words: the number is that of the first line that holds; refused, nothing lent
 -- is changed; accepted, each answer is written.
--- Assumes nothing.
 use mathlib.Core.Bool.{false, true}
 use mathlib.Core.List.{List, [], _∷_}
 use mathlib.Core.Path.{_≡_}
 use Prim.Native.Nat.{ℕ}
-use Rattle.buffers.specs.Refusals.{Line}
+use Rattle.buffers.specs.Refusals.{Refusal}
 use Rattle.contracts.specs.Calls.{Call, Contract, EachOf, Lent, buffer, number}
 
 -- "the first fitting number": that of a line that holds where none before it does; 0 where none holds
-pub data FirstFits : List Line → ℕ → Type 0 where
+pub data FirstFits : List Refusal → ℕ → Type 0 where
   none : FirstFits [] 0
-  here : {l : Line} {ls : List Line} → l .holds ≡ true → FirstFits (l ∷ ls) (l .number)
-  later : {l : Line} {ls : List Line} {r : ℕ} → l .holds ≡ false → FirstFits ls r → FirstFits (l ∷ ls) r
+  here : {l : Refusal} {ls : List Refusal} → l .holds ≡ true → FirstFits (l ∷ ls) (l .number)
+  later : {l : Refusal} {ls : List Refusal} {r : ℕ} → l .holds ≡ false → FirstFits ls r → FirstFits (l ∷ ls) r
 
 -- "changes no lent byte"
 abbrev pub Unchanged : Lent → Type 0
@@ -20,14 +19,15 @@ Unchanged (buffer before answer after) = after ≡ before
 Unchanged (number before answer after) = after ≡ before
 
 -- it holds the answer
-abbrev pub Written : Lent → Type 0
-Written (buffer before answer after) = after ≡ answer
-Written (number before answer after) = after ≡ answer
+abbrev pub HoldsAnswer : Lent → Type 0
+HoldsAnswer (buffer before answer after) = after ≡ answer
+HoldsAnswer (number before answer after) = after ≡ answer
 
+-- the three together: which number, what a refused call leaves, what an accepted one does
 pub record Answers (c : Contract) (r : ℕ) : Type 0 where
   pub first : FirstFits (c .lines) r
   pub refused : (r ≡ 0 → ⊥) → EachOf Unchanged (c .lent)
-  pub accepted : r ≡ 0 → EachOf Written (c .lent)
+  pub accepted : r ≡ 0 → EachOf HoldsAnswer (c .lent)
 
 -- of every call
 abbrev pub EveryCallAnswers : Type 0

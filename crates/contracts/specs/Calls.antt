@@ -1,11 +1,10 @@
 -- The one shape of the contracts of the public calls: the lines of the call in checking order, and the buffers lent for
 -- its answer.
--- Assumes nothing.
 use mathlib.Core.List.{List, [], _∷_}
 use mathlib.Core.Path.{_≡_}
 use Prim.Native.Nat.{ℕ}
 use Rattle.buffers.specs.Buffers.{accepted, acceptedNumber}
-use Rattle.buffers.specs.Refusals.{Line, firstFitting}
+use Rattle.buffers.specs.Refusals.{Refusal, firstFitting}
 
 -- what is lent for an answer, a buffer or one number: what it holds before the call, the answer for it, and what it
 -- holds after
@@ -13,6 +12,7 @@ pub data Lent : Type 0 where
   buffer : List ℕ → List ℕ → List ℕ → Lent
   number : ℕ → ℕ → ℕ → Lent
 
+-- P holds of each that is lent
 abbrev pub EachOf : (Lent → Type 0) → List Lent → Type 0
 EachOf P [] = Unit
 EachOf P (b ∷ bs) = P b × EachOf P bs
@@ -24,11 +24,12 @@ Held r (number before answer after) = after ≡ acceptedNumber r answer before
 
 -- the lines and the buffers of a call with its arguments
 pub record Contract : Type 0 where
-  pub lines : List Line
+  pub lines : List Refusal
   pub lent : List Lent
 
-abbrev pub contract : List Line → List Lent → Contract
-contract lines lent = record { lines = lines; lent = lent }
+-- a contract with these lines and these buffers
+abbrev pub contractOf : List Refusal → List Lent → Contract
+contractOf lines lent = record { lines = lines; lent = lent }
 
 -- the call answers r
 pub record Call (c : Contract) (r : ℕ) : Type 0 where

@@ -1,5 +1,4 @@
 -- How many numbers below a bound pass a test: an injection shows that no more pass one test than another.
--- Assumes nothing.
 use mathlib.Core.Bool.{_&&_, Bool, and-true, false, not, true}
 use mathlib.Core.Logic.{inl, inr, _⊎_}
 use mathlib.Core.Path.{ap, ap₂, refl, subst, sym, _∙_, _≡_}
@@ -9,7 +8,7 @@ use native.Mathlib.Omega.{arith}
 use lib.Bits.{bitXor, xor-lt}
 use lib.Dec.{eqb}
 use Rattle.words.proofs.BitLaws.{bit-ext∞, bit-xor}
-use Rattle.words.proofs.Finite.{bits, ⊕-twice}
+use Rattle.words.proofs.Finite.{⊕-twice}
 use Rattle.words.proofs.Places.{other-place, same-place}
 use Rattle.words.proofs.Sums.{fold-ext, last-or}
 use Rattle.words.specs.Bits.{bit, digit, fold, _⊕_}

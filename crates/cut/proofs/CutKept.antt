@@ -1,6 +1,5 @@
 -- What keeps the rank across every cut: rewriting a record to another of the same group, one code at each qubit, and
 -- complementing at any vertex. Records need not be reduced.
--- Assumes nothing.
 use mathlib.Core.Bool.{_&&_, false, not}
 use mathlib.Core.Logic.{inl, inr, _⊎_}
 use mathlib.Core.Path.{ap, fun-ext, refl, sym, _∙_, _≡_}
@@ -14,7 +13,7 @@ use Rattle.graph.specs.Graph.{Graph, Simple, complement}
 use Rattle.record.proofs.Complementing.{complement-same}
 use Rattle.record.proofs.ReducedRecords.{record-proper, reduced-is}
 use Rattle.record.specs.Records.{GraphRecord, complementRecord, rowsOf}
-use Rattle.record.specs.Reduced.{Reduced, reduced, reducedGraph}
+use Rattle.record.specs.Reduced.{ReductionOf, reduced, reducedGraph}
 use Rattle.stabilizer.specs.Carries.{Carries}
 use Rattle.stabilizer.specs.Groups.{SameGroup}
 use Rattle.words.proofs.Finite.{⊕-zero}
@@ -41,7 +40,7 @@ pub reduced-cut : (n : ℕ) (side : Word) (r : GraphRecord) → Simple n (r .gra
     → cutRank n side (r .graph) ≡ cutRank n side (reducedGraph n (rowsOf n r))
 reduced-cut n side r R = same-group-cut n side r (reduced n (rowsOf n r)) R (reduction .simple) (reduction .group)
   where
-    reduction : Reduced n (rowsOf n r) (reduced n (rowsOf n r))
+    reduction : ReductionOf n (rowsOf n r) (reduced n (rowsOf n r))
     reduction = reduced-is n (rowsOf n r) (record-proper n r R)
 
 -- complementing, at a vertex or at a number that is none

@@ -1,6 +1,5 @@
 -- The rank across a cut is a matter of the elements of the group that act on one side alone: where those of one record
 -- embed into those of another, the other's rank is no larger.
--- Assumes nothing.
 use mathlib.Core.Bool.{_&&_, Bool, cond, false, not, true}
 use mathlib.Core.Path.{ap, refl, subst, sym, _∙_, _≡_}
 use Prim.Native.Nat.{_<_, _≤_, _^_, ℕ}
@@ -17,7 +16,8 @@ use Rattle.cut.proofs.OneSidedElements.{avoids-kernel, clear-on-side, k
 use Rattle.cut.proofs.RankLaws.{rank-by-kernels}
 use Rattle.cut.specs.Cut.{crossing, cutRank}
 use Rattle.cut.specs.Kernel.{inKernel}
-use Rattle.cut.specs.OneSided.{Avoids, Embeds}
+use Rattle.cut.specs.OneSided.{Avoids}
+use Rattle.cut.specs.internal.OneSided.{Embeds}
 
 module _ (n : ℕ) (side : Word) (r s : GraphRecord) (R : Simple n (r .graph)) (S : Simple n (s .graph))
     (E : Embeds n side (rowsOf n r) (rowsOf n s)) where

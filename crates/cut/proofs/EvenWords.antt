@@ -1,5 +1,4 @@
 -- The words that meet a given word in an even number of places: half of all words, or every word where it is zero.
--- Assumes nothing.
 use mathlib.Core.Bool.{_&&_, Bool, and-comm, and-false, false, not, true, true≢false}
 use mathlib.Core.Path.{ap, refl, sym, _∙_, _≡_}
 use Prim.Native.Nat.{_*_, _+_, _<_, _^_, ℕ}

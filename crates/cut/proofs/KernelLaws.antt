@@ -1,6 +1,5 @@
 -- The kernel of a bit matrix, column by column: a column that is a sum of earlier ones doubles it, any other keeps its
 -- size.
--- Assumes nothing.
 use mathlib.Core.Bool.{_&&_, Bool, false, not, true}
 use mathlib.Core.Logic.{_↔_}
 use mathlib.Core.Path.{ap, ap₂, fun-ext, sym, _∙_, _≡_}
@@ -10,7 +9,7 @@ use native.Mathlib.Omega.{arith}
 use lib.Bits.{bitXor, xor-shifted}
 use lib.Dec.{eqb}
 use borrow.Author.Tests.{not-true}
-use Rattle.record.specs.Columns.{columnDependent}
+use Rattle.record.specs.Columns.{isColumnDependent}
 use Rattle.words.proofs.BitLaws.{bit-above, bit-single, bit-xor}
 use Rattle.words.proofs.Finite.{bits, ⊕-and, ⊕-self}
 use Rattle.words.proofs.Flags.{sameBit-true, true-sameBit}
@@ -82,13 +81,13 @@ module _ (m : ℕ) (M : ℕ → Word) (q : ℕ) where
       ∙ ap₂ _+_ (count-ext (2 ^ q) _ _ kernel-without) (count-ext (2 ^ q) _ _ kernel-with)
 
   -- no word names column q
-  sums-none : columnDependent m M q ≡ false → count (2 ^ q) isSum ≡ 0
-  unfolding columnDependent
+  sums-none : isColumnDependent m M q ≡ false → count (2 ^ q) isSum ≡ 0
+  unfolding isColumnDependent
   sums-none e = count-none (2 ^ q) isSum (some-false (2 ^ q) isSum e)
 
   -- one does: adding it exchanges the words that name column q and those of the kernel
-  sums-kernel : columnDependent m M q ≡ true → count (2 ^ q) isSum ≡ kernelSize m q M
-  unfolding columnDependent
+  sums-kernel : isColumnDependent m M q ≡ true → count (2 ^ q) isSum ≡ kernelSize m q M
+  unfolding isColumnDependent
   sums-kernel e = count-exchange q d (D .below) isSum (inKernel m q M)
       (λ v k. in-kernel m q M (bitXor v d) .1 (λ j h. xor-sum q M v d j
       ∙ ap₂ _⊕_ (sym (named v k j h)) (sym (named d (D .passes) j h)) ∙ ⊕-self (M j q)))
@@ -104,8 +103,8 @@ module _ (m : ℕ) (M : ℕ → Word) (q : ℕ) where
       named : (v : ℕ) → isSum v ≡ true → (j : ℕ) → j < m → M j q ≡ sumAt q M (bit v) j
       named v k j h = true-sameBit (M j q) (sumAt q M (bit v) j) (every-at m _ k j h)
 
-  pub kernel-kept : columnDependent m M q ≡ false → kernelSize m (suc q) M ≡ kernelSize m q M
+  pub kernel-kept : isColumnDependent m M q ≡ false → kernelSize m (suc q) M ≡ kernelSize m q M
   kernel-kept e = omega (arith, kernel-split, sums-none e)
 
-  pub kernel-doubled : columnDependent m M q ≡ true → kernelSize m (suc q) M ≡ kernelSize m q M + kernelSize m q M
+  pub kernel-doubled : isColumnDependent m M q ≡ true → kernelSize m (suc q) M ≡ kernelSize m q M + kernelSize m q M
   kernel-doubled e = omega (arith, kernel-split, sums-kernel e)

@@ -1,6 +1,5 @@
 -- The elements of a record's group that act on one side of a cut alone are chosen by the words in the kernel of the
 -- edges between the sides.
--- Assumes nothing.
 use mathlib.Core.Bool.{_&&_, Bool, and-false, false, not, true}
 use mathlib.Core.Path.{ap, ap₂, refl, subst, sym, _∙_, _≡_}
 use Prim.Native.Nat.{_<_, ℕ}

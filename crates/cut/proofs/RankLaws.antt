@@ -1,5 +1,4 @@
 -- The rank of a bit matrix: at most the number of columns, and the larger the smaller the kernel is.
--- Assumes nothing.
 use mathlib.Core.Bool.{Bool, false, not, true}
 use mathlib.Core.Logic.{inl, inr, _⊎_}
 use mathlib.Core.Path.{ap, ap₂, refl, sym, _∙_, _≡_}
@@ -16,7 +15,7 @@ use native.Mathlib.Nat.{
 use native.Mathlib.Numerals.{add-one}
 use native.Mathlib.Omega.{arith}
 use lib.Pow.{pow-lt, pow-pos}
-use Rattle.record.specs.Columns.{columnDependent}
+use Rattle.record.specs.Columns.{isColumnDependent}
 use Rattle.words.proofs.Sums.{lt-or-ge}
 use Rattle.words.specs.Bits.{Word, digit, fold}
 use Rattle.cut.proofs.Counting.{count-none, count-upto}
@@ -25,19 +24,19 @@ use Rattle.cut.specs.Kernel.{kernelSize}
 use Rattle.cut.specs.Rank.{rank}
 
 pub rank-upto : (m n : ℕ) (M : ℕ → Word) → rank m n M ≤ n
-rank-upto m n M = count-upto n (λ q. not (columnDependent m M q))
+rank-upto m n M = count-upto n (λ q. not (isColumnDependent m M q))
 
 -- where every column is a sum of earlier ones there is no rank
-pub rank-none : (m n : ℕ) (M : ℕ → Word) → ((q : ℕ) → q < n → columnDependent m M q ≡ true) → rank m n M ≡ 0
-rank-none m n M h = count-none n (λ q. not (columnDependent m M q)) (λ q l. ap not (h q l))
+pub rank-none : (m n : ℕ) (M : ℕ → Word) → ((q : ℕ) → q < n → isColumnDependent m M q ≡ true) → rank m n M ≡ 0
+rank-none m n M h = count-none n (λ q. not (isColumnDependent m M q)) (λ q l. ap not (h q l))
 
 -- the words on n places are shared out evenly over the sums of columns
 pub rank-kernel : (m n : ℕ) (M : ℕ → Word) → 2 ^ rank m n M * kernelSize m n M ≡ 2 ^ n
 unfolding fold
 rank-kernel m zero M = ap (λ b. 1 * (0 + digit b)) (in-kernel m 0 M 0 .1 (λ j l. refl))
-rank-kernel m (suc q) M = go (columnDependent m M q) refl (rank-kernel m q M)
+rank-kernel m (suc q) M = go (isColumnDependent m M q) refl (rank-kernel m q M)
   where
-    go : (b : Bool) → columnDependent m M q ≡ b → 2 ^ rank m q M * kernelSize m q M ≡ 2 ^ q
+    go : (b : Bool) → isColumnDependent m M q ≡ b → 2 ^ rank m q M * kernelSize m q M ≡ 2 ^ q
         → 2 ^ (rank m q M + digit (not b)) * kernelSize m (suc q) M ≡ 2 ^ suc q
     go true e ih = ap₂ (λ r k. 2 ^ r * k) (add-zero (rank m q M)) (kernel-doubled m M q e)
         ∙ mul-add (2 ^ rank m q M) (kernelSize m q M) (kernelSize m q M) ∙ ap₂ _+_ ih ih ∙ sym (two-pow-succ q)

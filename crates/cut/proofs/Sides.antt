@@ -1,11 +1,10 @@
 -- The side that is marked: "an empty or full side gives 0", since no edge leaves it; and the other side gives the same.
--- Assumes nothing.
 use mathlib.Core.Bool.{_&&_, Bool, and-false, false, not, true}
 use mathlib.Core.Path.{ap, fun-ext, refl, sym, _∙_, _≡_}
 use Prim.Native.Nat.{_-_, _<_, _^_, ℕ}
 use Rattle.graph.specs.Graph.{Graph, Simple}
 use Rattle.record.proofs.ColumnLaws.{column-dependent}
-use Rattle.record.specs.Columns.{columnDependent}
+use Rattle.record.specs.Columns.{isColumnDependent}
 use Rattle.words.proofs.BitLaws.{bit-mask, zero-bit}
 use Rattle.words.proofs.Finite.{bits}
 use Rattle.words.proofs.Sums.{bitMonoid, fold-unit}
@@ -16,7 +15,7 @@ use Rattle.cut.specs.Cut.{crossing, cutRank}
 use Rattle.cut.specs.Rank.{rank}
 
 -- a column of zeros is the sum of no columns
-zero-column : (m : ℕ) (M : ℕ → Word) (q : ℕ) → ((j : ℕ) → j < m → M j q ≡ false) → columnDependent m M q ≡ true
+zero-column : (m : ℕ) (M : ℕ → Word) (q : ℕ) → ((j : ℕ) → j < m → M j q ≡ false) → isColumnDependent m M q ≡ true
 zero-column m M q h = column-dependent m M q .1
     ((λ t. false), λ j l. h j l ∙ sym (fold-unit false _⊕_ bitMonoid q (λ t k. refl)))
 

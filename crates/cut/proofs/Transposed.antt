@@ -1,6 +1,5 @@
 -- A square matrix and its transpose have one rank: the pairs of a row word and a column word that meet evenly are
 -- counted twice.
--- Assumes nothing.
 use mathlib.Core.Bool.{_&&_, Bool, and-false, false, not}
 use mathlib.Core.Path.{ap, ap₂, sym, _∙_, _≡_}
 use Prim.Native.Nat.{_*_, _+_, _^_, suc, zero, ℕ}

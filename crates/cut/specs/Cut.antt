@@ -1,5 +1,4 @@
 -- Cuts of the vertices into two sides, by a word that marks one of them.
--- Assumes nothing.
 use mathlib.Core.Bool.{_&&_, not}
 use Prim.Native.Nat.{ℕ}
 use Rattle.graph.specs.Graph.{Graph}

@@ -1,5 +1,4 @@
 -- The kernel of a bit matrix, and how many words it has.
--- Assumes nothing.
 use mathlib.Core.Bool.{_&&_, Bool, not}
 use Prim.Native.Nat.{_+_, _^_, ℕ}
 use Rattle.words.specs.Bits.{Word, bit, digit, fold, parity}

@@ -1,5 +1,4 @@
 -- The columns of the edges between the sides, from the neighbour words.
--- Assumes nothing.
 use mathlib.Core.Bool.{_&&_, Bool, and-false, false, not, true}
 use mathlib.Core.List.{List}
 use mathlib.Core.Path.{ap, ap₂, sym, _∙_, _≡_}

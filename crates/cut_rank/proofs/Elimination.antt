@@ -1,6 +1,5 @@
 -- The columns of a bit matrix, one after another: those that are no sum of earlier ones are counted, and what is left
 -- of each joins a basis that holds a word for every smallest set bit of a sum.
--- Assumes nothing.
 use mathlib.Core.Bool.{Bool, false, not, true, true≢false}
 use mathlib.Core.List.{List}
 use mathlib.Core.Logic.{inl, inr, _≢_}
@@ -19,7 +18,7 @@ use lib.Seq.{getD-set-other, getD-set-same}
 use Rattle.buffers.proofs.Mapping.{zeros, zeros-at, zeros-long}
 use Rattle.cut.specs.Rank.{rank}
 use Rattle.record.proofs.ColumnLaws.{column-dependent}
-use Rattle.record.specs.Columns.{columnDependent}
+use Rattle.record.specs.Columns.{isColumnDependent}
 use Rattle.words.proofs.BitLaws.{bit-above, bit-xor, zero-bit}
 use Rattle.words.proofs.Finite.{bits, ⊕-assoc, ⊕-self, ⊕-twice, ⊕-zero}
 use Rattle.words.proofs.Flags.{never-true}
@@ -28,7 +27,7 @@ use Rattle.words.proofs.Trailing.{trailing-set}
 use Rattle.words.specs.Bits.{Word, bit, digit, fold, _⊕_}
 use Rattle.words.specs.Search.{IsFirst}
 use Rattle.cut_rank.proofs.Spans.{Spanned, span-add, span-cases, span-ext, span-more, span-next, span-zero}
-use Rattle.cut_rank.specs.Basis.{Added, Echelon, Remainder, none, one}
+use Rattle.cut_rank.specs.internal.Basis.{SumOf, Echelon, Remainder, none, one}
 
 -- after the columns before k: each word of the basis is a sum of them, and a sum of them has its smallest set bit at
 -- a place where the basis holds a word
@@ -80,7 +79,7 @@ module _ (m : ℕ) (small : m ≤ 64) (M : ℕ → Word) (basis : List ℕ) (cou
   -- column k as a word, and what the basis leaves of it
   module _ (more : k < m) (w : ℕ) (fits : w < 2 ^ m) (column : (j : ℕ) → bit w j ≡ M j k) (r : ℕ)
       (R : Remainder basis w r) where
-    added-spanned : {r : ℕ} → Added basis w r → Spanned m M k (λ j. bit w j ⊕ bit r j)
+    added-spanned : {r : ℕ} → SumOf basis w r → Spanned m M k (λ j. bit w j ⊕ bit r j)
     added-spanned none = span-zero m M k _ (λ j l. ⊕-self (bit w j))
     added-spanned (one {r} i A) =
         span-ext m M k _ _
@@ -88,7 +87,7 @@ module _ (m : ℕ) (small : m ≤ 64) (M : ℕ → Word) (basis : List ℕ) (cou
         ∙ sym (⊕-assoc (bit w j) (bit r j) (bit (getD basis i 0) j)))
         (span-add m M k _ _ (added-spanned A) (S .spanned i))
 
-    added-below : {r : ℕ} → Added basis w r → r < 2 ^ m
+    added-below : {r : ℕ} → SumOf basis w r → r < 2 ^ m
     added-below none = fits
     added-below (one {r} i A) = xor-lt m r _ (added-below A) (S .below i)
 
@@ -148,8 +147,8 @@ module _ (m : ℕ) (small : m ≤ 64) (M : ℕ → Word) (basis : List ℕ) (cou
       free : getD basis i 0 ≡ 0
       free = ap (λ v. getD basis v 0) at ∙ R .last left
 
-      independent : columnDependent m M k ≡ false
-      independent = never-true (columnDependent m M k) (λ e. S .held (bit r)
+      independent : isColumnDependent m M k ≡ false
+      independent = never-true (isColumnDependent m M k) (λ e. S .held (bit r)
           (span-ext m M k _ _ (λ j l. sym (added-back (M j k) (bit r j)))
           (span-add m M k _ _ (column-dependent m M k .0 e) differs))
           i (record { below = row-below; passes = set-at .passes; least = set-at .least }) free)

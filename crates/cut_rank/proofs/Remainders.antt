@@ -1,5 +1,4 @@
 -- A word reduced by a basis: each addition clears its smallest set bit and no lower one.
--- Assumes nothing.
 use mathlib.Core.Bool.{false, true≢false}
 use mathlib.Core.List.{List}
 use mathlib.Core.Logic.{inl, inr, _⊎_}
@@ -15,11 +14,11 @@ use Rattle.words.proofs.Sums.{lt-or-ge}
 use Rattle.words.proofs.Trailing.{trailing-is, trailing-set}
 use Rattle.words.specs.Bits.{bit, _⊕_}
 use Rattle.words.specs.Search.{IsFirst}
-use Rattle.cut_rank.specs.Basis.{Added, Echelon, Remainder, none, one}
+use Rattle.cut_rank.specs.internal.Basis.{SumOf, Echelon, Remainder, none, one}
 
 -- the loop's invariant
 pub record Reducing (basis : List ℕ) (w rest : ℕ) : Type 0 where
-  pub added : Added basis w rest
+  pub added : SumOf basis w rest
   pub below : rest < 2 ^ 64
 
 pub reducing-start : (basis : List ℕ) (w : ℕ) → w < 2 ^ 64 → Reducing basis w w

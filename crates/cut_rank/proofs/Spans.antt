@@ -1,11 +1,10 @@
 -- Sums modulo 2 of the columns before a place: what is one, and what a further column adds.
--- Assumes nothing.
 use mathlib.Core.Bool.{_&&_, Bool, false, true}
 use mathlib.Core.Logic.{inl, inr, _⊎_}
 use mathlib.Core.Path.{ap, ap₂, refl, sym, _∙_, _≡_}
 use Prim.Native.Nat.{_<_, suc, ℕ}
 use native.Mathlib.Omega.{arith}
-use Rattle.words.proofs.Finite.{bits, ⊕-and, ⊕-twice, ⊕-zero}
+use Rattle.words.proofs.Finite.{⊕-and, ⊕-twice, ⊕-zero}
 use Rattle.words.proofs.Places.{put-other, put-same}
 use Rattle.words.proofs.Sums.{bitMonoid, fold-ext, fold-unit, parity-add}
 use Rattle.words.specs.Bits.{Word, fold, parity, put, _⊕_}

@@ -1,1 +1,1 @@
-pub mod Basis
+pub mod internal

@@ -8,7 +8,7 @@ ghost use Rattle.cut.specs.Cut.{crossing, cutRank};
 ghost use Rattle.graph.specs.Graph.{Simple};
 ghost use Rattle.graph.specs.NeighbourWords.{graphIn};
 ghost use Rattle.words.specs.Bits.{bit};
-ghost use Rattle.cut_rank.specs.Basis.{Echelon, Remainder};
+ghost use Rattle.cut_rank.specs.internal.Basis.{Echelon, Remainder};
 
 // Column k of the edges between the sides, as a word over the marked side: the neighbours of k there where k is on the
 // other side, else none.

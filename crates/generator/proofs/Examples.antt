@@ -1,5 +1,4 @@
 -- Worked examples: draws, the first steps of some jobs and a text, each worked out by another program.
--- Assumes nothing.
 use mathlib.Core.Path.{_≡_, refl}
 use mathlib.Core.List.{[], _∷_}
 use Prim.Native.Nat.{ℕ}

@@ -1,5 +1,4 @@
 -- The length of the text: at most 15 bytes for a step, and 61,463 in all.
--- Assumes nothing.
 use mathlib.Core.Path.{_≡_, sym, ap, subst}
 use mathlib.Core.List.{List, [], _∷_}
 use Prim.Native.Nat.{ℕ, _+_, _*_, _≤_, _<_}

@@ -1,5 +1,4 @@
 -- Each draw gives a gate, a CZ on two qubits or a measurement, with unused fields 0 and numbers that fit.
--- Assumes nothing.
 use mathlib.Core.Path.{_≡_, refl, ap}
 use mathlib.Core.Bool.{false}
 use mathlib.Core.List.{List, [], _∷_}
@@ -16,7 +15,8 @@ use Rattle.job_text.specs.Text.{Fits, AllFit}
 use Rattle.text.proofs.DigitLaws.{by-test}
 use Rattle.generator.specs.Draws.{draw}
 use Rattle.generator.specs.Drawn.{does, drawn, drawnCode, drawnOutcome, qubitA, qubitB, stepOf}
-use Rattle.generator.specs.Shapes.{AllDrawable, Drawable, Small}
+use Rattle.generator.specs.Shapes.{AllDrawable, Drawable}
+use Rattle.generator.specs.internal.Shapes.{Small}
 use Rattle.generator.specs.Shapes.Drawable.{gate, cz, measure}
 
 -- "d mod 3 of 0, 1, 2 picks gate, cz, measure"

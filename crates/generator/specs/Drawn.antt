@@ -1,5 +1,4 @@
 -- The steps that are drawn, and the text of their job.
--- Assumes nothing.
 use mathlib.Core.Bool.{cond}
 use mathlib.Core.List.{List, [], _∷_}
 use Prim.Native.Nat.{ℕ, zero, suc, _+_, _-_, _*_, _/_, _%_, _^_}
@@ -11,10 +10,11 @@ use Rattle.job_text.specs.Text.{jobText}
 use Rattle.generator.specs.Draws.{draw}
 
 -- ---- what is read off a draw, "quotients rounded down"
--- "a is d/8 mod n; b is d/512 mod n"
+-- "a is d/8 mod n"
 abbrev pub qubitA : ℕ → ℕ → ℕ
 qubitA n d = d / 8 % n
 
+-- "b is d/512 mod n"
 abbrev pub qubitB : ℕ → ℕ → ℕ
 qubitB n d = d / 512 % n
 
@@ -34,6 +34,7 @@ drawnOutcome d = d / 2 ^ 40 % 2
 abbrev pub does : Op → ℕ → ℕ → ℕ → Step
 does op a b value = record { op = op; a = a; b = b; value = value }
 
+-- a gate, its field b unused
 abbrev pub gateOn : ℕ → ℕ → Step
 gateOn a code = does Gate a 0 code
 

@@ -1,5 +1,4 @@
 -- The draws: a state of 64 bits that is shifted and xored with itself.
--- Assumes nothing.
 use Prim.Native.Nat.{ℕ, _*_, _/_, _%_, _^_}
 use lib.Bits.{bitXor}
 
@@ -7,6 +6,7 @@ use lib.Bits.{bitXor}
 abbrev pub shiftedLeft : ℕ → ℕ → ℕ
 shiftedLeft s k = (s * 2 ^ k) % 2 ^ 64
 
+-- s shifted right
 abbrev pub shiftedRight : ℕ → ℕ → ℕ
 shiftedRight s k = s / 2 ^ k
 
@@ -14,6 +14,7 @@ shiftedRight s k = s / 2 ^ k
 abbrev pub xorLeft : ℕ → ℕ → ℕ
 xorLeft k s = bitXor s (shiftedLeft s k)
 
+-- "s xor s shifted right"
 abbrev pub xorRight : ℕ → ℕ → ℕ
 xorRight k s = bitXor s (shiftedRight s k)
 

@@ -3,3 +3,4 @@ pub mod Drawn
 pub mod Shapes
 pub mod Lines
 pub mod ReadBack
+pub mod internal

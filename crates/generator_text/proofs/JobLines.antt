@@ -1,5 +1,4 @@
 -- The loop that writes the lines of the steps drawn.
--- Assumes nothing.
 use mathlib.Core.Path.{_≡_, refl, sym, ap, _∙_, subst}
 use mathlib.Core.List.{List, [], _∷_, _++_, append-assoc, append-nil}
 use Prim.Native.Nat.{ℕ, suc, _+_, _-_, _*_, _≤_, _<_}
@@ -11,7 +10,8 @@ use Rattle.generator.proofs.Shapes.{drawable, small}
 use Rattle.generator.specs.Drawn.{drawn, generatedText, stepOf}
 use Rattle.generator.specs.Draws.{draw}
 use Rattle.generator.specs.Lines.{room}
-use Rattle.generator.specs.Shapes.{Drawable, Small}
+use Rattle.generator.specs.Shapes.{Drawable}
+use Rattle.generator.specs.internal.Shapes.{Small}
 use Rattle.job_text.proofs.Digits.{two-places}
 use Rattle.job_text.specs.Text.{field, jobHead, jobText, qubitsLine, stepNames, stepText, stepsText}
 use Rattle.jobs.specs.declared.Step.{Step}

@@ -1,14 +1,13 @@
 -- The line of a step, part by part: an operation with its space, two numbers with theirs, the value and the newline.
--- Assumes nothing.
 use mathlib.Core.Path.{_≡_, refl, sym, ap, _∙_, subst}
 use mathlib.Core.List.{List, [], _∷_, _++_, append-assoc}
 use Prim.Native.Nat.{ℕ, _+_, _/_, _%_, _≤_}
 use native.Mathlib.Omega.{arith}
 use lib.Dec.{lit≤, ltb}
 use lib.ListN.{length, length-append, take}
-use Rattle.generator.specs.Shapes.{Small}
+use Rattle.generator.specs.internal.Shapes.{Small}
 use Rattle.job_text.proofs.Digits.{two-places}
-use Rattle.job_text.specs.Scan.{letters}
+use Rattle.job_text.specs.internal.Scan.{letters}
 use Rattle.job_text.specs.Text.{opWord, stepText}
 use Rattle.jobs.specs.declared.Op.{Op}
 use Rattle.jobs.specs.declared.Op.the-variants.{Gate, Cz, Measure, Complement, Pivot}

@@ -1,6 +1,6 @@
 // The text of the job that is drawn, in a lent buffer.
-use generator_steps::draw;
-use generator_steps::drawn_step;
+use generator::draw;
+use generator::drawn_step;
 use jobs::Op;
 use jobs::Step;
 use text_print::put;
@@ -13,8 +13,8 @@ ghost use Prim.Native.Nat.{_+_, _<_, _≤_};
 ghost use lib.ListN.{length};
 ghost use Rattle.generator.specs.Drawn.{generatedText};
 ghost use Rattle.generator.specs.Lines.{room};
-ghost use Rattle.generator.specs.Shapes.{Small};
-ghost use Rattle.job_text.specs.Scan.{letters};
+ghost use Rattle.generator.specs.internal.Shapes.{Small};
+ghost use Rattle.job_text.specs.internal.Scan.{letters};
 ghost use Rattle.job_text.specs.Text.{jobHead, opWord, stepText};
 ghost use Rattle.text.specs.Text.{Printed, space};
 

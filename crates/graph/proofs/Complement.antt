@@ -1,6 +1,5 @@
 -- Local complementation: codes 13 at a vertex and 6 at its neighbours carry the group of the complemented
 -- graph onto that of the graph, signs included.
--- Assumes nothing.
 use mathlib.Core.Bool.{_&&_, Bool, and-comm, and-false, and-true, cond, false, not, true, _||_}
 use mathlib.Core.Path.{ap, ap₂, refl, subst, sym, _∙_, _≡_}
 use Prim.Native.Nat.{_<_, ℕ}

@@ -1,5 +1,4 @@
 -- Local complementation on neighbour words: a loop over the neighbours of a vertex.
--- Assumes nothing.
 use mathlib.Core.Bool.{_&&_, Bool, and-false, false, not, true}
 use mathlib.Core.List.{List}
 use mathlib.Core.Path.{ap, ap₂, refl, sym, _∙_, _≡_}
@@ -15,7 +14,8 @@ use Rattle.words.proofs.Finite.{⊕-zero}
 use Rattle.words.proofs.Places.{other-place, same-place}
 use Rattle.words.specs.Bits.{bit, _⊕_}
 use Rattle.graph.specs.Graph.{Graph, Simple, complement}
-use Rattle.graph.specs.NeighbourWords.{SameGraph, graphIn}
+use Rattle.graph.specs.internal.NeighbourWords.{SameGraph}
+use Rattle.graph.specs.NeighbourWords.{graphIn}
 
 abbrev pub ComplementedAt : List ℕ → ℕ → ℕ → ℕ → Type 0
 ComplementedAt old a i v = (q : ℕ) → bit v q ≡ complement (graphIn old) a i q

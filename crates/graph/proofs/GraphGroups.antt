@@ -1,6 +1,5 @@
 -- The group of a graph: the x bits of an element determine it, and a signed row that commutes with every
 -- generator is an element or minus one.
--- Assumes nothing.
 use mathlib.Core.Bool.{_&&_, and-comm, and-false, false, true≢false}
 use mathlib.Core.Logic.{inl, inr, _⊎_}
 use mathlib.Core.Path.{ap, ap₂, refl, sym, _∙_, _≡_}

@@ -1,5 +1,4 @@
 -- Graphs on the vertices below n, the generators of a graph, and local complementation.
--- Assumes nothing.
 use mathlib.Core.Bool.{_&&_, false, not}
 use mathlib.Core.Path.{_≡_}
 use Prim.Native.Nat.{ℕ, _≤_}

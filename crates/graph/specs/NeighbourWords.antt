@@ -1,7 +1,5 @@
 -- Graphs as they are lent: a buffer with one neighbour word for each vertex.
--- Assumes nothing.
 use mathlib.Core.List.{List}
-use mathlib.Core.Path.{_≡_}
 use Prim.Native.Nat.{ℕ}
 use lib.ListN.{getD}
 use Rattle.words.specs.Bits.{bit}
@@ -10,7 +8,3 @@ use Rattle.graph.specs.Graph.{Graph}
 -- the graph of a buffer; no vertex at or above its length has a neighbour
 abbrev pub graphIn : List ℕ → Graph
 graphIn words j = bit (getD words j 0)
-
--- equal graphs: the same neighbours at every vertex
-abbrev pub SameGraph : Graph → Graph → Type 0
-SameGraph θ φ = (j q : ℕ) → θ j q ≡ φ j q

@@ -4,7 +4,8 @@ use words::smallest;
 ghost use Prim.Native.Nat.{_<_, _≤_};
 ghost use lib.ListN.{length};
 ghost use Rattle.graph.specs.Graph.{Simple, complement};
-ghost use Rattle.graph.specs.NeighbourWords.{SameGraph, graphIn};
+ghost use Rattle.graph.specs.internal.NeighbourWords.{SameGraph};
+ghost use Rattle.graph.specs.NeighbourWords.{graphIn};
 
 // Complements the graph at vertex a: every edge between two neighbours of a is flipped, by one xor for each of them.
 pub fn complement_words(neighbours: &mut [u64], a: usize)

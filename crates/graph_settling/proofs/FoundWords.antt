@@ -1,5 +1,4 @@
 -- The word of the vertices that pass a test, by a loop over the vertices.
--- Assumes nothing.
 use mathlib.Core.Bool.{_&&_, Bool, and-false, false, not, _||_}
 use mathlib.Core.List.{List}
 use mathlib.Core.Path.{ap, ap₂, subst, sym, _∙_, _≡_}
@@ -9,13 +8,13 @@ use native.Mathlib.Omega.{arith}
 use lib.Dec.{eqb, leb, ltb}
 use lib.ListN.{length}
 use borrow.Author.Tests.{le-ltb, leb-false, lt-leb, lt-ltb}
-use Rattle.graph_steps.specs.Kept.{unsettled}
+use Rattle.graph_steps.specs.internal.KeptGroups.{unsettled}
 use Rattle.words.proofs.BitLaws.{lt-of-bits, zero-bit}
 use Rattle.words.proofs.Finite.{⊕-zero}
 use Rattle.words.proofs.Flags.{neither}
 use Rattle.words.proofs.Places.{other-place, same-place, upto-other}
 use Rattle.words.specs.Bits.{bit, isOdd, _⊕_}
-use Rattle.graph_settling.specs.Watching.{Watched}
+use Rattle.graph_settling.specs.internal.Watching.{Watched}
 
 -- those below i
 pub record Found (f : ℕ → Bool) (n all i : ℕ) : Type 0 where

@@ -1,6 +1,5 @@
 -- The loop of steps towards the reduced form: the group is kept, every vertex out of place is in the word, and at its end
 -- there is none.
--- Assumes nothing.
 use mathlib.Core.Bool.{_&&_, Bool, false, not, or-true, true, true≢false, _||_}
 use mathlib.Core.List.{List}
 use mathlib.Core.Logic.{inl, inr}
@@ -11,15 +10,15 @@ use native.Mathlib.Omega.{arith}
 use lib.Bits.{bitOr, bitXor, or-lt}
 use lib.Count.{trailingZeros}
 use lib.Dec.{eqb, leb}
-use lib.ListN.{getD, length}
+use lib.ListN.{length}
 use lib.Pow.{pow-mono}
 use Rattle.graph_steps.proofs.Keeping.{form-normalised, kept-refl, kept-trans}
 use Rattle.graph_steps.proofs.OutOfPlace.{none-unsettled}
-use Rattle.graph_steps.specs.Kept.{Kept, Nearer, Normalised, unsettled}
-use Rattle.graph_steps.specs.ReducedForms.{ReducedForm}
-use Rattle.graph_steps.specs.Settling.{distance}
+use Rattle.graph_steps.specs.internal.KeptGroups.{GroupKept, Nearer, Normalised, unsettled}
+use Rattle.graph_steps.specs.internal.ReducedForms.{ReducedForm}
+use Rattle.graph_steps.specs.internal.Settling.{distance}
 use Rattle.operations.proofs.UnrefusedRecords.{unrefused-short}
-use Rattle.operations.specs.InPlace.{Unrefused, recordIn}
+use Rattle.operations.specs.internal.InPlace.{Unrefused, recordIn}
 use Rattle.record.specs.Lent.{heldRecord}
 use Rattle.words.proofs.BitLaws.{bit-above, bit-flip, bit-or, flip-less, zero-bit}
 use Rattle.words.proofs.Finite.{⊕-zero}
@@ -30,7 +29,7 @@ use Rattle.words.proofs.Sums.{lt-or-ge}
 use Rattle.words.proofs.Trailing.{trailing-set}
 use Rattle.words.specs.Bits.{bit, isOdd, _⊕_}
 use Rattle.words.specs.Search.{IsFirst, first}
-use Rattle.graph_settling.specs.Watching.{Advanced, Elsewhere, Watched}
+use Rattle.graph_settling.specs.internal.Watching.{Advanced, Elsewhere, Watched}
 
 -- ---- a look at the smallest vertex of the word
 module _ (words codes : List ℕ) (U : Unrefused (recordIn words codes)) (rest : ℕ) (W : Watched words codes rest)
@@ -102,7 +101,7 @@ module _ (words codes : List ℕ) (U : Unrefused (recordIn words codes)) (rest :
 
 -- ---- the loop
 pub record Settling (words codes words₁ codes₁ : List ℕ) (rest : ℕ) : Type 0 where
-  pub kept : Kept words codes words₁ codes₁
+  pub kept : GroupKept words codes words₁ codes₁
   pub watched : Watched words₁ codes₁ rest
 
 pub settling-start : (words codes : List ℕ) (rest : ℕ) → Unrefused (recordIn words codes) → Watched words codes rest

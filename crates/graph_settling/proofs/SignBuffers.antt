@@ -1,5 +1,4 @@
 -- A sign moved in the buffers of a record: the group stays, and the record is nearer to the reduced form.
--- Assumes nothing.
 use mathlib.Core.Bool.{cond, false}
 use mathlib.Core.List.{List}
 use mathlib.Core.Path.{ap, ap₂, subst, sym, _∙_, _≡_}
@@ -17,11 +16,11 @@ use Rattle.graph.specs.Graph.{Simple}
 use Rattle.graph_steps.proofs.Keeping.{held-words, rewritten-nearer}
 use Rattle.graph_steps.proofs.Places.{z-before}
 use Rattle.graph_steps.proofs.SignsMoved.{sign-moved-row}
-use Rattle.graph_steps.specs.Kept.{Nearer}
-use Rattle.graph_steps.specs.Settling.{distance}
-use Rattle.graph_steps.specs.Steps.{pauliCode, signMoved}
+use Rattle.graph_steps.specs.internal.KeptGroups.{Nearer}
+use Rattle.graph_steps.specs.internal.Settling.{distance}
+use Rattle.graph_steps.specs.internal.Steps.{pauliCode, signMoved}
 use Rattle.operations.proofs.UnrefusedRecords.{unrefused-above, unrefused-simple}
-use Rattle.operations.specs.InPlace.{Rewritten, Unrefused, recordIn}
+use Rattle.operations.specs.internal.InPlace.{Rewritten, Unrefused, recordIn}
 use Rattle.record.specs.Lent.{heldRecord}
 use Rattle.record.specs.Records.{GraphRecord, rowsOf}
 use Rattle.stabilizer.proofs.EqualRows.{same-group-equal}

@@ -1,5 +1,4 @@
 -- The largest set bit of a word, by its leading zeros.
--- Assumes nothing.
 use mathlib.Core.Bool.{Bool, false, true}
 use mathlib.Core.Logic.{inl, inr, _⊎_}
 use mathlib.Core.Path.{ap, refl, subst, _∙_, _≡_}

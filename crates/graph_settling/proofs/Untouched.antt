@@ -1,10 +1,8 @@
 -- What the steps leave as it was: every vertex but the one of the step and its neighbours.
--- Assumes nothing.
-use mathlib.Core.Bool.{_&&_, Bool, and-false, cond, false, not, true, true≢false, _||_}
+use mathlib.Core.Bool.{_&&_, and-false, cond, false, not, true, true≢false}
 use mathlib.Core.List.{List}
 use mathlib.Core.Path.{ap, ap₂, refl, subst, sym, _∙_, _≡_}
 use Prim.Native.Nat.{_<_, _^_, ℕ}
-use native.Mathlib.Decide.{ℕ-discrete}
 use lib.Bits.{bitOr, or-lt}
 use lib.Dec.{eqb}
 use lib.ListN.{getD, length}
@@ -14,9 +12,9 @@ use Rattle.clifford.proofs.CliffordLaws.{codeOf-cliffordOf}
 use Rattle.clifford.specs.Clifford.{cliffordOf, codeOf, then}
 use Rattle.graph.specs.Graph.{Graph, Simple, complement}
 use Rattle.graph_steps.proofs.Places.{z-before}
-use Rattle.graph_steps.specs.Steps.{pauliCode, signMoved}
+use Rattle.graph_steps.specs.internal.Steps.{pauliCode, signMoved}
 use Rattle.operations.proofs.UnrefusedRecords.{unrefused-simple}
-use Rattle.operations.specs.InPlace.{Rewritten, Unrefused, recordIn}
+use Rattle.operations.specs.internal.InPlace.{Rewritten, Unrefused, recordIn}
 use Rattle.operations.specs.Steps.{pivotRecord}
 use Rattle.record.proofs.AcceptedRecords.{accepted-record}
 use Rattle.record.specs.Accepted.{AcceptedRecord}
@@ -27,7 +25,7 @@ use Rattle.words.proofs.Finite.{⊕-zero}
 use Rattle.words.proofs.Flags.{neither}
 use Rattle.words.proofs.Places.{other-place}
 use Rattle.words.specs.Bits.{bit, wordOf, _⊕_}
-use Rattle.graph_settling.specs.Watching.{Elsewhere}
+use Rattle.graph_settling.specs.internal.Watching.{Elsewhere}
 
 -- two records have the same neighbours and the same code at q
 record SameAt (q : ℕ) (r s : GraphRecord) : Type 0 where

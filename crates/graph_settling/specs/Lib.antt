@@ -1,1 +1,1 @@
-pub mod Watching
+pub mod internal

@@ -11,12 +11,12 @@ ghost use mathlib.Core.Path.{_≡_};
 ghost use Prim.Native.Nat.{ℕ, _+_, _/_, _<_, _^_};
 ghost use lib.Dec.{eqb, leb};
 ghost use lib.ListN.{length};
-ghost use Rattle.graph_steps.specs.Kept.{Nearer, Normalised, unsettled};
-ghost use Rattle.graph_steps.specs.Steps.{signMoved};
-ghost use Rattle.operations.specs.InPlace.{Rewritten, Unrefused, recordIn};
+ghost use Rattle.graph_steps.specs.internal.KeptGroups.{Nearer, Normalised, unsettled};
+ghost use Rattle.graph_steps.specs.internal.Steps.{signMoved};
+ghost use Rattle.operations.specs.internal.InPlace.{Rewritten, Unrefused, recordIn};
 ghost use Rattle.words.specs.Bits.{_⊕_, bit, isOdd};
 ghost use Rattle.words.specs.Search.{first};
-ghost use Rattle.graph_settling.specs.Watching.{Advanced, Elsewhere, Watched};
+ghost use Rattle.graph_settling.specs.internal.Watching.{Advanced, Elsewhere, Watched};
 
 // The largest set bit of a word that is not 0.
 fn largest(w: u64) -> usize

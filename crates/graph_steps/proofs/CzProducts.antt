@@ -1,6 +1,5 @@
 -- Two products of the same rows: what a flip of edges does to a generator, and what CZ does, differ by elements of the
 -- group.
--- Assumes nothing.
 use mathlib.Core.Bool.{_&&_, Bool, false, true}
 use mathlib.Core.Path.{ap, ap₂, refl, sym, _∙_, _≡_}
 use Prim.Native.Nat.{ℕ}

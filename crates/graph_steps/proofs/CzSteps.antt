@@ -1,5 +1,4 @@
 -- CZ on a record of reduced form: the edges between two sets of vertices are flipped, and the record is reduced again.
--- Assumes nothing.
 use mathlib.Core.Bool.{_&&_, Bool, and-comm, and-false, false, true}
 use mathlib.Core.Logic.{_≢_}
 use mathlib.Core.Path.{ap, ap₂, refl, subst, sym, _∙_, _≡_}
@@ -27,8 +26,8 @@ use Rattle.graph_steps.proofs.Places.{pauli-generator, pauli-low, pauli
 use Rattle.graph_steps.proofs.Reaching.{element, element-no-x, reach-below, reach-kept, reach-z, x-reach}
 use Rattle.graph_steps.proofs.ReducedForms.{form-reduced}
 use Rattle.graph_steps.proofs.ZRows.{chosen-zs, cz-fixed, cz-product, joined-generator, zs, zs-commute}
-use Rattle.graph_steps.specs.ReducedForms.{ReducedForm}
-use Rattle.graph_steps.specs.Steps.{czRecord, czTurned, joinedBy, pauliCode, reach, reachMinus}
+use Rattle.graph_steps.specs.internal.ReducedForms.{ReducedForm}
+use Rattle.graph_steps.specs.internal.Steps.{czRecord, czTurned, joinedBy, pauliCode, reach, reachMinus}
 
 module _ (n : ℕ) (r : GraphRecord) (S : Simple n (r .graph)) (F : ReducedForm n r) (a b : ℕ) (ha : a < n) (hb : b < n)
     (ab : a ≢ b) where

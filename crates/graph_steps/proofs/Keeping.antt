@@ -1,5 +1,4 @@
 -- Buffers that keep their group: one step after another, and the end of all steps.
--- Assumes nothing.
 use mathlib.Core.Bool.{false}
 use mathlib.Core.List.{List}
 use mathlib.Core.Path.{ap, refl, subst, sym, _∙_, _≡_}
@@ -21,7 +20,7 @@ use Rattle.operations.proofs.UnrefusedRecords.{
   unrefused-long,
   unrefused-simple,
 }
-use Rattle.operations.specs.InPlace.{Rewritten, Unrefused, recordIn}
+use Rattle.operations.specs.internal.InPlace.{Rewritten, Unrefused, recordIn}
 use Rattle.operations.specs.Steps.{pivotRecord}
 use Rattle.record.proofs.AcceptedRecords.{accepted-record}
 use Rattle.record.proofs.Complementing.{complement-same}
@@ -34,15 +33,15 @@ use Rattle.stabilizer.proofs.GroupLaws.{same-refl, same-trans}
 use Rattle.stabilizer.specs.Groups.{SameGroup}
 use Rattle.words.proofs.BitLaws.{wordOf-bit}
 use Rattle.graph_steps.proofs.ReducedForms.{form-reduced}
-use Rattle.graph_steps.specs.Kept.{Kept, Nearer, Normalised}
-use Rattle.graph_steps.specs.ReducedForms.{ReducedForm}
-use Rattle.graph_steps.specs.Settling.{distance}
+use Rattle.graph_steps.specs.internal.KeptGroups.{GroupKept, Nearer, Normalised}
+use Rattle.graph_steps.specs.internal.ReducedForms.{ReducedForm}
+use Rattle.graph_steps.specs.internal.Settling.{distance}
 
-pub kept-refl : (words codes : List ℕ) → Unrefused (recordIn words codes) → Kept words codes words codes
+pub kept-refl : (words codes : List ℕ) → Unrefused (recordIn words codes) → GroupKept words codes words codes
 kept-refl words codes U = record { long = refl; unrefused = U; group = same-refl }
 
-pub kept-trans : (words codes words₁ codes₁ words₂ codes₂ : List ℕ) → Kept words codes words₁ codes₁
-    → Kept words₁ codes₁ words₂ codes₂ → Kept words codes words₂ codes₂
+pub kept-trans : (words codes words₁ codes₁ words₂ codes₂ : List ℕ) → GroupKept words codes words₁ codes₁
+    → GroupKept words₁ codes₁ words₂ codes₂ → GroupKept words codes words₂ codes₂
 kept-trans words codes words₁ codes₁ words₂ codes₂ K L =
     record {
       long = L .long ∙ K .long;
@@ -53,7 +52,7 @@ kept-trans words codes words₁ codes₁ words₂ codes₂ K L =
     }
 
 pub kept-codes-long : (words codes words′ codes′ : List ℕ) → Unrefused (recordIn words codes)
-    → Kept words codes words′ codes′ → length codes′ ≡ length codes
+    → GroupKept words codes words′ codes′ → length codes′ ≡ length codes
 kept-codes-long words codes words′ codes′ U K =
     unrefused-long words′ codes′ (K .unrefused) ∙ K .long ∙ sym (unrefused-long words codes U)
 
@@ -70,7 +69,7 @@ module _ (words codes : List ℕ) (U : Unrefused (recordIn words codes)) (f : Gr
       (above : (q : ℕ) → length words ≤ q → (f (heldRecord (recordIn words codes))) .codes q ≡ identityClifford) where
     pub rewritten-kept :
         SameGroup (length words) (length words) (rowsOf (length words) (heldRecord (recordIn words codes)))
-        (rowsOf (length words) (f (heldRecord (recordIn words codes)))) → Kept words codes words′ codes′
+        (rowsOf (length words) (f (heldRecord (recordIn words codes)))) → GroupKept words codes words′ codes′
     rewritten-kept E =
         record {
           long = rewritten-length words codes U f words′ codes′ R S above;
@@ -106,7 +105,7 @@ module _ (words codes : List ℕ) (U : Unrefused (recordIn words codes)) (words�
     complement-is-above : (q : ℕ) → length words ≤ q → (complementRecord r a) .codes q ≡ identityClifford
     complement-is-above = complement-above (length words) r simple a ha (unrefused-above words codes U)
 
-    pub complement-kept : Kept words codes words′ codes′
+    pub complement-kept : GroupKept words codes words′ codes′
     complement-kept = rewritten-kept words codes U (λ g. complementRecord g a) words′ codes′ R complement-is-simple
         complement-is-above (complement-same (length words) r simple a ha)
 
@@ -154,7 +153,7 @@ module _ (words codes : List ℕ) (U : Unrefused (recordIn words codes)) where
       (λ q l. sym (codeOf-cliffordOf (getD codes q 0) (A .codes-below q)))
 
 pub form-normalised : (words codes words′ codes′ : List ℕ) → Unrefused (recordIn words codes)
-    → Kept words codes words′ codes′ → ReducedForm (length words) (heldRecord (recordIn words′ codes′))
+    → GroupKept words codes words′ codes′ → ReducedForm (length words) (heldRecord (recordIn words′ codes′))
     → Normalised words codes words′ codes′
 form-normalised words codes words′ codes′ U K F =
     record {

@@ -7,6 +7,6 @@ pub mod ZRows
 pub mod CzProducts
 pub mod Reaching
 pub mod CzSteps
-pub mod CuttingOff
+pub mod Isolation
 pub mod Keeping
 pub mod OutOfPlace

@@ -1,6 +1,5 @@
 -- Vertices out of place, by the numbers in the buffers: what a step at the first of them finds, and that a record
 -- without any has the reduced form.
--- Assumes nothing.
 use mathlib.Core.Bool.{_&&_, Bool, false, not, or-true, true, true≢false, _||_}
 use mathlib.Core.List.{List}
 use mathlib.Core.Logic.{inl, inr, _⊎_}
@@ -28,7 +27,7 @@ use Rattle.clifford.proofs.CliffordLaws.{codeOf-cliffordOf}
 use Rattle.clifford.specs.Clifford.{bitC, bitD, classOf, cliffordOf}
 use Rattle.graph.specs.Graph.{Simple}
 use Rattle.operations.proofs.UnrefusedRecords.{unrefused-above, unrefused-simple}
-use Rattle.operations.specs.InPlace.{Unrefused, recordIn}
+use Rattle.operations.specs.internal.InPlace.{Unrefused, recordIn}
 use Rattle.operations.specs.Steps.{pivotRecord}
 use Rattle.record.proofs.AcceptedRecords.{accepted-record}
 use Rattle.record.specs.Accepted.{AcceptedRecord}
@@ -40,11 +39,11 @@ use Rattle.words.proofs.SearchLaws.{every-at, first-is, first-none}
 use Rattle.words.proofs.Sums.{lt-or-ge}
 use Rattle.words.specs.Bits.{bit, isOdd, sameBit}
 use Rattle.words.specs.Search.{IsFirst, every, first}
-use Rattle.graph_steps.proofs.Settling.{calmer, nearer-alone, nearer-joined, nearer-signed, nearer-turned}
-use Rattle.graph_steps.specs.Kept.{unsettled}
-use Rattle.graph_steps.specs.ReducedForms.{ReducedForm}
-use Rattle.graph_steps.specs.Settling.{distance, unrest}
-use Rattle.graph_steps.specs.Steps.{signMoved}
+use Rattle.graph_steps.proofs.Settling.{lighter, nearer-alone, nearer-joined, nearer-signed, nearer-turned}
+use Rattle.graph_steps.specs.internal.KeptGroups.{unsettled}
+use Rattle.graph_steps.specs.internal.ReducedForms.{ReducedForm}
+use Rattle.graph_steps.specs.internal.Settling.{distance, codeWeight}
+use Rattle.graph_steps.specs.internal.Steps.{signMoved}
 
 -- ---- codes by their numbers
 pub number-C : (k : ℕ) → k < 24 → bitC (cliffordOf k) ≡ leb 8 k
@@ -173,14 +172,14 @@ module _ (words codes : List ℕ) (U : Unrefused (recordIn words codes)) where
 
         pub pivot-less : distance (length words) (pivotRecord (heldRecord (recordIn words codes)) j m)
             < distance (length words) (heldRecord (recordIn words codes))
-        pivot-less = calmer n r simple (pivotRecord r j m)
+        pivot-less = lighter n r simple (pivotRecord r j m)
             (nearer-joined n r simple j m hj larger-below larger set own-C own-D)
 
     -- another step
     module _ (left : (leb 8 (getD codes j 0) && ((ltb (getD codes j 0) 12 || leb 20 (getD codes j 0))
         && not (eqb (getD words j 0 / 2 ^ j) 0))) ≡ false) where
       -- no larger neighbour: class 5, and the smaller neighbours, which are in place, have C = 0
-      turned : 20 ≤ k j → w j / 2 ^ j ≡ 0 → unrest n (complementRecord r j) < unrest n r
+      turned : 20 ≤ k j → w j / 2 ^ j ≡ 0 → codeWeight n (complementRecord r j) < codeWeight n r
       turned l e =
           nearer-turned n r simple j hj (ap classOf {x = k j / 4} {y = 5} (omega (arith, l, below)))
           (λ q h. kept q h (bitC (r .codes q)) refl)
@@ -193,7 +192,7 @@ module _ (words codes : List ℕ) (U : Unrefused (recordIn words codes)) where
             | inr l ↦ absurd (true≢false (sym h ∙ none-from (w j) j q e l))
           ]
 
-      alone : 12 ≤ k j → k j < 20 → unrest n (complementRecord r j) < unrest n r
+      alone : 12 ≤ k j → k j < 20 → codeWeight n (complementRecord r j) < codeWeight n r
       alone l m =
           nearer-alone n r simple j hj (number-C (k j) below ∙ le-leb 8 (k j) (omega arith))
           (number-D (k j) below
@@ -208,7 +207,7 @@ module _ (words codes : List ℕ) (U : Unrefused (recordIn words codes)) where
       pub complement-less : 12 ≤ getD codes j 0
           → distance (length words) (complementRecord (heldRecord (recordIn words codes)) j)
           < distance (length words) (heldRecord (recordIn words codes))
-      complement-less l = calmer n r simple (complementRecord r j) (elim (lt-or-ge (k j) 20) [
+      complement-less l = lighter n r simple (complementRecord r j) (elim (lt-or-ge (k j) 20) [
         | inl m ↦ alone l m
         | inr m ↦ turned m (none-larger (omega arith)
             (ap (λ a. ltb (k j) 12 || a) (le-leb 20 (k j) m) ∙ or-true (ltb (k j) 12)))

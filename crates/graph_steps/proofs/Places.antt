@@ -1,5 +1,4 @@
 -- Codes acting on rows place by place: Pauli codes, a row that acts at one place, and rows of I and Z.
--- Assumes nothing.
 use mathlib.Core.Bool.{_&&_, Bool, and-comm, cond, false, true}
 use mathlib.Core.Path.{ap, refl, subst, sym, _∙_, _≡_}
 use Prim.Native.Nat.{_<_, ℕ}
@@ -21,7 +20,7 @@ use Rattle.words.proofs.Finite.{bits}
 use Rattle.words.proofs.Places.{other-place, parity-at, same-place}
 use Rattle.words.proofs.Sums.{fold-ext, fold-hom, fold-one, parity-add}
 use Rattle.words.specs.Bits.{Word, parity, _⊕_}
-use Rattle.graph_steps.specs.Steps.{pauliCode}
+use Rattle.graph_steps.specs.internal.Steps.{pauliCode}
 
 -- ---- Paulis
 -- a Pauli code keeps letters, and its sign is that of the bits that it does not commute with

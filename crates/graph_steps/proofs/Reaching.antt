@@ -1,6 +1,5 @@
 -- In a record of reduced form Z at a vertex is, up to a sign and an element of the group, a product of Z over vertices
 -- whose codes keep Z.
--- Assumes nothing.
 use mathlib.Core.Bool.{_&&_, Bool, and-false, and-true, cond, false, true, true≢false}
 use mathlib.Core.Path.{ap, ap₂, refl, subst, sym, _∙_, _≡_}
 use Prim.Native.Nat.{_<_, ℕ, _≤_}
@@ -23,13 +22,12 @@ use Rattle.stabilizer.specs.Groups.{chosen}
 use Rattle.words.proofs.Finite.{⊕-zero}
 use Rattle.words.proofs.Places.{other-place, place-comm}
 use Rattle.words.proofs.Sums.{fold-unit}
-use Rattle.words.specs.Bits.{_⊕_}
 use Rattle.graph_steps.proofs.CzProducts.{scaled-scaled}
 use Rattle.graph_steps.proofs.Places.{act-single}
 use Rattle.graph_steps.proofs.ReducedForms.{apart, form-x}
 use Rattle.graph_steps.proofs.ZRows.{zs, zs-kept}
-use Rattle.graph_steps.specs.ReducedForms.{ReducedForm}
-use Rattle.graph_steps.specs.Steps.{reach, reachMinus}
+use Rattle.graph_steps.specs.internal.ReducedForms.{ReducedForm}
+use Rattle.graph_steps.specs.internal.Steps.{reach, reachMinus}
 
 -- a code with C = 0 keeps Z, up to its sign
 kept-z : (k : Clifford) → bitC k ≡ false → k .sz ≡ false → (image k Z ≡ Z) × (imagePhase k Z ≡ i⁰)

@@ -1,5 +1,4 @@
 -- A record of reduced form is the reduced record of its own group.
--- Assumes nothing.
 use mathlib.Core.Bool.{_&&_, Bool, and-false, cond, false, true, true≢false}
 use mathlib.Core.Logic.{inl, inr}
 use mathlib.Core.Path.{ap, refl, sym, _∙_, _≡_}
@@ -14,12 +13,12 @@ use Rattle.record.proofs.Equation.{equation}
 use Rattle.record.proofs.Unique.{record-path}
 use Rattle.record.specs.Columns.{ColumnDependent}
 use Rattle.record.specs.Records.{GraphRecord, rowsOf}
-use Rattle.record.specs.Reduced.{Reduced, plainCode, reduced, withHadamard, xWords}
+use Rattle.record.specs.Reduced.{ReductionOf, plainCode, reduced, withHadamard, xWords}
 use Rattle.stabilizer.proofs.GroupLaws.{same-refl}
 use Rattle.words.proofs.Places.{other-place, same-place}
 use Rattle.words.proofs.Sums.{bitMonoid, fold-ext, fold-one, fold-unit, lt-or-ge}
 use Rattle.words.specs.Bits.{parity, _⊕_}
-use Rattle.graph_steps.specs.ReducedForms.{ReducedForm}
+use Rattle.graph_steps.specs.internal.ReducedForms.{ReducedForm}
 
 -- class 1
 abbrev isYZ : Class → Bool
@@ -129,7 +128,7 @@ module _ (n : ℕ) (r : GraphRecord) (S : Simple n (r .graph)) (F : ReducedForm 
       none t k false f = x-kept q t (omega arith) f ∙ other-place {i = t} {j = q} (λ d. absurd (omega (arith, d)))
       none t k true f = x-rotated q t (omega arith) f ∙ S .symmetric q t ∙ no-larger t q (omega arith) f (omega arith)
 
-  pub form-is-reduced : Reduced n (rowsOf n r) r
+  pub form-is-reduced : ReductionOf n (rowsOf n r) r
   form-is-reduced =
       record {
         simple = S;

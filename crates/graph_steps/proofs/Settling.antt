@@ -1,5 +1,4 @@
 -- The steps towards the reduced form: each lowers the distance.
--- Assumes nothing.
 use mathlib.Core.Bool.{_&&_, Bool, and-false, cond, false, not, true}
 use mathlib.Core.List.{[], _∷_}
 use mathlib.Core.Logic.{_≢_}
@@ -27,7 +26,7 @@ use Rattle.clifford.specs.Clifford.{
 use Rattle.graph.specs.Graph.{Simple}
 use Rattle.image.proofs.Falling.{C-after, D-neighbour, D-other}
 use Rattle.image.proofs.TrackedBits.{all-bits, bits-follow}
-use Rattle.image.specs.Rule.{State, follow, stateOf, step}
+use Rattle.image.specs.Rule.{State, follow, stateOf, complementedAt}
 use Rattle.operations.specs.Steps.{pivotRecord}
 use Rattle.pauli.specs.Pauli.{letterProduct}
 use Rattle.record.specs.Records.{GraphRecord, complementRecord, recoded}
@@ -35,8 +34,8 @@ use Rattle.words.proofs.Places.{other-place, put-all, put-other, put-same, same
 use Rattle.words.specs.Bits.{Word, put, _⊕_}
 use Rattle.graph_steps.proofs.Places.{pauli-then}
 use Rattle.graph_steps.proofs.Totals.{at-most, first-less, total-cong, total-le, total-put}
-use Rattle.graph_steps.specs.Settling.{distance, isZY, total, unrest}
-use Rattle.graph_steps.specs.Steps.{signMoved}
+use Rattle.graph_steps.specs.internal.Settling.{distance, isZY, total, codeWeight}
+use Rattle.graph_steps.specs.internal.Steps.{signMoved}
 
 module _ (n : ℕ) (r : GraphRecord) (G : Simple n (r .graph)) where
   abbrev places : Word → ℕ
@@ -44,13 +43,13 @@ module _ (n : ℕ) (r : GraphRecord) (G : Simple n (r .graph)) where
 
   -- the sum over the vertices with C = 1 falls, whatever becomes of class 5
   falls : (s : GraphRecord) → places (λ q. bitC (s .codes q)) < places (λ q. bitC (r .codes q))
-      → unrest n s < unrest n r
-  unfolding unrest
+      → codeWeight n s < codeWeight n r
+  unfolding codeWeight
   falls s l = first-less n (places (λ q. bitC (s .codes q))) (places (λ q. bitC (r .codes q))) _ _ l (total-le n _)
 
   -- ---- C = D = 1
   pub nearer-alone : (j : ℕ) → j < n → bitC (r .codes j) ≡ true → bitD (r .codes j) ≡ true
-      → unrest n (complementRecord r j) < unrest n r
+      → codeWeight n (complementRecord r j) < codeWeight n r
   nearer-alone j l c d =
       falls (complementRecord r j)
       (omega (
@@ -67,10 +66,10 @@ module _ (n : ℕ) (r : GraphRecord) (G : Simple n (r .graph)) where
     S0 = stateOf r
 
     abbrev S1 : State
-    S1 = step S0 j
+    S1 = complementedAt S0 j
 
     abbrev S2 : State
-    S2 = step S1 k
+    S2 = complementedAt S1 k
 
     abbrev e : Bool
     e = S0 .C k ⊕ (S0 .C k ⊕ S0 .D k)
@@ -92,14 +91,14 @@ module _ (n : ℕ) (r : GraphRecord) (G : Simple n (r .graph)) where
 
     -- the edge is still there after j
     edge1 : S1 .graph k j ≡ true
-    unfolding step
+    unfolding complementedAt
     edge1 = ap (λ b. r .graph k j ⊕ ((r .graph j k && b) && not (eqb j k))) (G .loopless j)
         ∙ ap₂ (λ b c. b ⊕ (c && not (eqb j k))) (G .symmetric k j ∙ edge) (and-false (r .graph j k))
 
     C3 : (follow S0 (j ∷ k ∷ j ∷ [])) .C ≡ put (S2 .C) j false
     C3 = C-after S2 j C2j (D-neighbour S1 k j edge1 C1j (D-other S0 j j (G .loopless j) d))
 
-    pub nearer-joined : unrest n (pivotRecord r j k) < unrest n r
+    pub nearer-joined : codeWeight n (pivotRecord r j k) < codeWeight n r
     nearer-joined =
         falls (pivotRecord r j k)
         (omega (
@@ -161,8 +160,8 @@ module _ (n : ℕ) (r : GraphRecord) (G : Simple n (r .graph)) where
                 (other-place d) h)
                 ∙ ap (λ f. f q) new-C ∙ put-other ((stateOf r) .C) j true q d ∙ kept q h
 
-    pub nearer-turned : unrest n (complementRecord r j) < unrest n r
-    unfolding unrest
+    pub nearer-turned : codeWeight n (complementRecord r j) < codeWeight n r
+    unfolding codeWeight
     nearer-turned =
         omega (
           arith,
@@ -182,13 +181,13 @@ module _ (n : ℕ) (r : GraphRecord) (G : Simple n (r .graph)) where
         )
 
   -- ---- signs
-  -- less unrest is nearer, whatever becomes of the signs
-  pub calmer : (s : GraphRecord) → unrest n s < unrest n r → distance n s < distance n r
+  -- less weight is nearer, whatever becomes of the signs
+  pub lighter : (s : GraphRecord) → codeWeight n s < codeWeight n r → distance n s < distance n r
   unfolding distance
-  calmer s l = first-less n (unrest n s) (unrest n r) _ _ l (total-le n _)
+  lighter s l = first-less n (codeWeight n s) (codeWeight n r) _ _ l (total-le n _)
 
   pub nearer-signed : (a : ℕ) → a < n → (r .codes a) .sz ≡ true → distance n (signMoved r a) < distance n r
-  unfolding distance unrest
+  unfolding distance codeWeight
   nearer-signed a ha e =
       omega (
         arith,

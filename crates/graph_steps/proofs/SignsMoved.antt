@@ -1,5 +1,4 @@
 -- Moving a sign off the image of Z changes no generator.
--- Assumes nothing.
 use mathlib.Core.Path.{ap, _∙_, _≡_}
 use Prim.Native.Nat.{_<_, ℕ}
 use lib.Dec.{eqb}
@@ -12,7 +11,7 @@ use Rattle.words.proofs.Finite.{⊕-self}
 use Rattle.words.proofs.Places.{parity-at}
 use Rattle.words.specs.Bits.{_⊕_}
 use Rattle.graph_steps.proofs.Places.{pauli-generator}
-use Rattle.graph_steps.specs.Steps.{pauliCode, signMoved}
+use Rattle.graph_steps.specs.internal.Steps.{pauliCode, signMoved}
 
 pub sign-moved-row : (n : ℕ) (r : GraphRecord) → Simple n (r .graph) → (a : ℕ) → a < n → (j : ℕ) → j < n
     → rowsOf n (signMoved r a) j ≡ rowsOf n r j

@@ -1,5 +1,4 @@
 -- Sums of weights over a word, and how setting one place changes them.
--- Assumes nothing.
 use mathlib.Core.Bool.{Bool, cond, false, true}
 use mathlib.Core.Logic.{inl, inr, _⊎_}
 use mathlib.Core.Path.{ap, sym, _∙_, _≡_}
@@ -9,7 +8,7 @@ use native.Mathlib.Omega.{arith}
 use Rattle.words.proofs.Places.{put-other, put-same}
 use Rattle.words.proofs.Sums.{fold-ext, last-or}
 use Rattle.words.specs.Bits.{Word, fold, put}
-use Rattle.graph_steps.specs.Settling.{total}
+use Rattle.graph_steps.specs.internal.Settling.{total}
 
 module _ (weight : ℕ → ℕ) where
   abbrev at : Bool → ℕ → ℕ

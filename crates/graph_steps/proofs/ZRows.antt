@@ -1,5 +1,4 @@
 -- Rows of I and Z, and products with them.
--- Assumes nothing.
 use mathlib.Core.Bool.{_&&_, Bool, and-false, and-true, cond, false, true}
 use mathlib.Core.Logic.{_≢_}
 use mathlib.Core.Path.{ap, ap₂, refl, sym, _∙_, _≡_}

@@ -1,4 +1,1 @@
-pub mod ReducedForms
-pub mod Settling
-pub mod Steps
-pub mod Kept
+pub mod internal

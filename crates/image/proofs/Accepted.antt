@@ -1,5 +1,4 @@
 -- Where neither 11 nor 12 holds, the image group is that of the image graph with its minus signs.
--- Assumes nothing.
 use mathlib.Core.Bool.{_&&_, Bool, false, false≢true, not, true}
 use mathlib.Core.Path.{ap, refl, subst, sym, _∙_, _≡_}
 use Prim.Native.Nat.{_<_, ℕ}

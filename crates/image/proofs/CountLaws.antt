@@ -1,5 +1,4 @@
 -- The number of places below n where a word is 1, and how setting one place changes it.
--- Assumes nothing.
 use mathlib.Core.Bool.{Bool, false, true}
 use mathlib.Core.Logic.{inl, inr, _⊎_}
 use mathlib.Core.Path.{ap, sym, _∙_, _≡_}

@@ -1,6 +1,5 @@
 -- "One of lines 11 and 12 holds exactly when the image group, signs dropped, is that of no simple graph";
 -- and where it is that of a simple graph, the image rule ends with this graph.
--- Assumes nothing.
 use mathlib.Core.Bool.{_&&_, Bool, false, not, true, true≢false}
 use mathlib.Core.Logic.{inl, inr, _↔_, _⊎_}
 use mathlib.Core.Path.{ap, refl, sym, _∙_, _≡_}

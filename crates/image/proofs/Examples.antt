@@ -1,5 +1,4 @@
 -- Worked examples of the image rule: the definitions compute to what document 01 says.
--- Assumes nothing.
 use mathlib.Core.List.{_++_, List, [], _∷_}
 use mathlib.Core.Path.{refl, _≡_}
 use Prim.Native.Nat.{ℕ}
@@ -13,7 +12,7 @@ use Rattle.stabilizer.specs.Membership.{member}
 use Rattle.words.specs.Bits.{bit, digit, fold, put, wordOf}
 use Rattle.words.specs.Search.{every, first, some}
 use Rattle.image.specs.Image.{imageLines, imageMinus, imageRecord, looped, stuck}
-use Rattle.image.specs.Rule.{imageList, moves, run, step}
+use Rattle.image.specs.Rule.{imageList, moves, run, complementedAt}
 
 -- the number; where it is 0 also the neighbour words, the minus signs and the list
 abbrev answer : ℕ → List ℕ → List ℕ → List ℕ
@@ -58,6 +57,6 @@ expected =
     ∷ []
 
 pub image-examples : given ≡ expected
-unfolding firstFitting reaching notSimple stuck looped member step moves run act mul fold put bit wordOf
+unfolding firstFitting reaching notSimple stuck looped member complementedAt moves run act mul fold put bit wordOf
     tabulate some every first
 image-examples = refl

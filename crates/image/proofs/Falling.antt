@@ -1,5 +1,4 @@
 -- A single complementation of the image rule takes the C of one vertex away, a triple that of two.
--- Assumes nothing.
 use mathlib.Core.Bool.{_&&_, Bool, and-false, cond, false, not, true}
 use mathlib.Core.List.{[], _∷_}
 use mathlib.Core.Logic.{_≢_}
@@ -14,24 +13,24 @@ use Rattle.words.proofs.Flags.{both-true}
 use Rattle.words.proofs.Places.{put-other, put-same}
 use Rattle.words.specs.Bits.{digit, put, _⊕_}
 use Rattle.image.proofs.CountLaws.{count-put, countBits}
-use Rattle.image.specs.Rule.{State, both, follow, onlyC, pair, step}
+use Rattle.image.specs.Rule.{State, both, follow, onlyC, pair, complementedAt}
 
 -- C at the vertex complemented at; D at a neighbour, and at the other vertices
 module _ (S : State) (v : ℕ) where
-  pub C-after : {c d : Bool} → S .C v ≡ c → S .D v ≡ d → (step S v) .C ≡ put (S .C) v (c ⊕ d)
-  unfolding step
+  pub C-after : {c d : Bool} → S .C v ≡ c → S .D v ≡ d → (complementedAt S v) .C ≡ put (S .C) v (c ⊕ d)
+  unfolding complementedAt
   C-after p q = ap (put (S .C) v) (ap₂ _⊕_ p q)
 
-  pub D-neighbour : (u : ℕ) {c d : Bool} → S .graph v u ≡ true → S .C u ≡ c → S .D u ≡ d → (step S v) .D u ≡ c ⊕ d
-  unfolding step
+  pub D-neighbour : (u : ℕ) {c d : Bool} → S .graph v u ≡ true → S .C u ≡ c → S .D u ≡ d → (complementedAt S v) .D u ≡ c ⊕ d
+  unfolding complementedAt
   D-neighbour u e p q = ap (λ b. cond b (S .C u ⊕ S .D u) (S .D u)) e ∙ ap₂ _⊕_ p q
 
-  pub D-other : (u : ℕ) {d : Bool} → S .graph v u ≡ false → S .D u ≡ d → (step S v) .D u ≡ d
-  unfolding step
+  pub D-other : (u : ℕ) {d : Bool} → S .graph v u ≡ false → S .D u ≡ d → (complementedAt S v) .D u ≡ d
+  unfolding complementedAt
   D-other u e q = ap (λ b. cond b (S .C u ⊕ S .D u) (S .D u)) e ∙ q
 
 pub fall-alone : (n : ℕ) (S : State) (v : ℕ) → v < n → both S v ≡ true →
-    countBits n ((step S v) .C) + 1 ≡ countBits n (S .C)
+    countBits n ((complementedAt S v) .C) + 1 ≡ countBits n (S .C)
 fall-alone n S v l e =
     let cv : S .C v ≡ true = both-true (S .C v) (S .D v) e .0 in
     let dv : S .D v ≡ true = both-true (S .C v) (S .D v) e .1 in
@@ -75,10 +74,10 @@ module _ (n : ℕ) (S : State) (G : Simple n (S .graph)) (j k : ℕ) (a : j < n)
     apart e = absurd (omega (arith, P .above, e))
 
     abbrev S1 : State
-    S1 = step S j
+    S1 = complementedAt S j
 
     abbrev S2 : State
-    S2 = step S1 k
+    S2 = complementedAt S1 k
 
     C1 : S1 .C ≡ put (S .C) j true
     C1 = C-after S j (P .Cj) (P .Dj)
@@ -95,7 +94,7 @@ module _ (n : ℕ) (S : State) (G : Simple n (S .graph)) (j k : ℕ) (a : j < n)
 
     -- the edge is still there after j
     edge1 : S1 .graph k j ≡ true
-    unfolding step
+    unfolding complementedAt
     edge1 = ap (λ b. S .graph k j ⊕ ((S .graph j k && b) && not (eqb j k))) (G .loopless j)
         ∙ ap₂ (λ b c. b ⊕ (c && not (eqb j k))) (G .symmetric k j ∙ P .edge) (and-false (S .graph j k))
 

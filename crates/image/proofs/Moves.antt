@@ -1,5 +1,4 @@
 -- What the next complementations of the image rule are, and that there is one answer.
--- Assumes nothing.
 use mathlib.Core.Bool.{Bool, cond, false, true}
 use mathlib.Core.List.{List, [], _∷_}
 use mathlib.Core.Logic.{inl, inr, _⊎_}

@@ -1,5 +1,4 @@
 -- What refusals 11 and 12 mean: at such a stop the group, signs dropped, is that of no simple graph.
--- Assumes nothing.
 use mathlib.Core.Bool.{_&&_, Bool, and-false, false, false≢true, not, true, true≢false}
 use mathlib.Core.Logic.{inl, inr, _≢_}
 use mathlib.Core.Path.{ap, ap₂, refl, sym, _∙_, _≡_}

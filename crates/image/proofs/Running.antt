@@ -1,5 +1,4 @@
 -- The whole run of the image rule: it stops, and 2 · count ≤ 3 n.
--- Assumes nothing.
 use mathlib.Core.Bool.{false}
 use mathlib.Core.List.{_++_, List, [], _∷_}
 use mathlib.Core.Logic.{inl, inr, _⊎_}
@@ -14,7 +13,7 @@ use Rattle.record.proofs.ComplementLists.{VerticesBelow, add, nil}
 use Rattle.image.proofs.CountLaws.{count-le, countBits}
 use Rattle.image.proofs.Falling.{fall-alone, fall-joined, pair-is}
 use Rattle.image.proofs.Moves.{Move, alone, joined, moves-are, moves-unique, stop}
-use Rattle.image.specs.Rule.{State, both, follow, moves, pair, run, step}
+use Rattle.image.specs.Rule.{State, both, follow, moves, pair, run, complementedAt}
 
 -- ---- the vertices of a list are below n
 pub below-append : {n : ℕ} {a b : List ℕ} → VerticesBelow n a → VerticesBelow n b → VerticesBelow n (a ++ b)
@@ -39,12 +38,12 @@ below-at (add v h w) (suc i) (suc-le-suc l) = below-at w i l
 -- ---- lists followed one after another
 pub follow-append : (S : State) (a b : List ℕ) → follow S (a ++ b) ≡ follow (follow S a) b
 follow-append S [] b = refl
-follow-append S (v ∷ a) b = follow-append (step S v) a b
+follow-append S (v ∷ a) b = follow-append (complementedAt S v) a b
 
 pub follow-simple : (n : ℕ) (S : State) (ms : List ℕ) → Simple n (S .graph) → Simple n ((follow S ms) .graph)
-unfolding step
+unfolding complementedAt
 follow-simple n S [] G = G
-follow-simple n S (v ∷ ms) G = follow-simple n (step S v) ms (complement-simple n (S .graph) G v)
+follow-simple n S (v ∷ ms) G = follow-simple n (complementedAt S v) ms (complement-simple n (S .graph) G v)
 
 -- ---- how many complementations: each single one takes one C away, each triple two
 abbrev Fall : ℕ → State → List ℕ → Type 0

@@ -1,5 +1,4 @@
 -- A search that goes up by one: the smallest vertex that passes a test.
--- Assumes nothing.
 use mathlib.Core.Bool.{Bool, false, true}
 use mathlib.Core.Path.{sym, _≡_}
 use Prim.Native.Nat.{_+_, _<_, zero-le, ℕ, _≤_}

@@ -1,5 +1,4 @@
 -- Codes that keep the letters: the image of a graph under them is the graph with signs.
--- Assumes nothing.
 use mathlib.Core.Bool.{_&&_, Bool, and-comm, cond, false, true≢false}
 use mathlib.Core.Logic.{inl, inr, _⊎_}
 use mathlib.Core.Path.{ap, ap₂, refl, sym, _∙_, _≡_}

@@ -1,5 +1,4 @@
 -- The bits that the image rule follows are the bits of the rewritten codes, and the record keeps its group.
--- Assumes nothing.
 use mathlib.Core.Bool.{_&&_, Bool, cond, false, true, true≢false}
 use mathlib.Core.List.{_++_, List, [], _∷_}
 use mathlib.Core.Path.{ap, fun-ext, refl, subst, sym, _∙_, _≡_}
@@ -21,7 +20,7 @@ use Rattle.words.specs.Bits.{put, _⊕_}
 use Rattle.image.proofs.CountLaws.{count-le}
 use Rattle.image.proofs.Running.{Stopped, run-below, run-length, run-stops}
 use Rattle.image.specs.Image.{imageGraph, imageRecord}
-use Rattle.image.specs.Rule.{follow, imageList, stateOf, step}
+use Rattle.image.specs.Rule.{follow, imageList, stateOf, complementedAt}
 
 -- ---- how 13 and 6 change the bits
 C-13 : (k : Clifford) → bitC (then (cliffordOf 13) k) ≡ bitC k ⊕ bitD k
@@ -45,8 +44,8 @@ D-6 = onClifford _
     (λ a b c d e. bitC (fromFive a b c d e) ⊕ bitD (fromFive a b c d e)) tt)
 
 pub bits-follow : (n : ℕ) (r : GraphRecord) → Simple n (r .graph) → (v : ℕ) →
-    stateOf (complementRecord r v) ≡ step (stateOf r) v
-unfolding step put
+    stateOf (complementRecord r v) ≡ complementedAt (stateOf r) v
+unfolding complementedAt put
 bits-follow n r G v = λ i. record { graph = complement (r .graph) v; C = fun-ext at-C i; D = fun-ext at-D i }
   where
     goC : (own u : Bool) (k : Clifford) →
@@ -64,7 +63,7 @@ bits-follow n r G v = λ i. record { graph = complement (r .graph) v; C = fun-ex
     goD false true k e = D-6 k
     goD false false k e = refl
 
-    at-C : (q : ℕ) → (stateOf (complementRecord r v)) .C q ≡ (step (stateOf r) v) .C q
+    at-C : (q : ℕ) → (stateOf (complementRecord r v)) .C q ≡ (complementedAt (stateOf r) v) .C q
     at-C q = goC (eqb q v) (r .graph v q) (r .codes q) ∙ here (ℕ-discrete q v)
       where
         sum : ℕ → Bool
@@ -77,7 +76,7 @@ bits-follow n r G v = λ i. record { graph = complement (r .graph) v; C = fun-ex
             ap (λ b. cond b (sum q) (bitC (r .codes q))) (other-place d)
             ∙ sym (ap (λ b. cond b (sum v) (bitC (r .codes q))) (other-place d))
 
-    at-D : (q : ℕ) → (stateOf (complementRecord r v)) .D q ≡ (step (stateOf r) v) .D q
+    at-D : (q : ℕ) → (stateOf (complementRecord r v)) .D q ≡ (complementedAt (stateOf r) v) .D q
     at-D q = goD (eqb q v) (r .graph v q) (r .codes q) (no-loop n (r .graph) G v q)
 
 -- ---- complementing at each vertex of a list

@@ -1,5 +1,4 @@
 -- Generators with other signs: the group has the same elements up to sign.
--- Assumes nothing.
 use mathlib.Core.Bool.{_&&_, Bool, false, true}
 use mathlib.Core.Path.{ap, ap₂, refl, sym, _∙_, _≡_}
 use Prim.Native.Nat.{suc, zero, ℕ}

@@ -1,5 +1,4 @@
 -- The image rule: which vertices are complemented, one after another, when codes are applied to a graph.
--- Assumes nothing.
 use mathlib.Core.Bool.{_&&_, Bool, cond, not}
 use mathlib.Core.List.{_++_, List, [], _∷_}
 use Prim.Native.Nat.{suc, zero, ℕ}
@@ -17,22 +16,24 @@ pub record State : Type 0 where
   pub C : Word
   pub D : Word
 
+-- the bits of a record's codes
 abbrev pub stateOf : GraphRecord → State
 stateOf r = record { graph = r .graph; C = λ q. bitC (r .codes q); D = λ q. bitD (r .codes q) }
 
 -- complementing at v, "following the bits: at the vertex itself C becomes C + D, at a neighbour D becomes C
 -- + D, modulo 2"
-unfoldable pub step : State → ℕ → State
-step S v =
+unfoldable pub complementedAt : State → ℕ → State
+complementedAt S v =
     record {
       graph = complement (S .graph) v;
       C = put (S .C) v (S .C v ⊕ S .D v);
       D = λ u. cond (S .graph v u) (S .C u ⊕ S .D u) (S .D u);
     }
 
+-- complementing at each vertex of a list, one after another
 abbrev pub follow : State → List ℕ → State
 follow S [] = S
-follow S (v ∷ vs) = follow (step S v) vs
+follow S (v ∷ vs) = follow (complementedAt S v) vs
 
 -- ---- the next complementations
 -- "whose two bits are both 1"
@@ -47,6 +48,7 @@ onlyC S v = S .C v && not (S .D v)
 abbrev pub pair : State → ℕ → ℕ → Bool
 pair S j k = ltb j k && (S .graph j k && (onlyC S j && onlyC S k))
 
+-- whether some k forms such a pair with j
 abbrev pub hasPair : ℕ → State → ℕ → Bool
 hasPair n S j = some n (pair S j)
 

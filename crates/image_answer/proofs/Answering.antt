@@ -1,5 +1,4 @@
 -- The answer of the code is that of the definitions.
--- Assumes nothing.
 use mathlib.Core.Bool.{_&&_, Bool, cond, false, not, true}
 use mathlib.Core.List.{_++_, [], _∷_}
 use mathlib.Core.Logic.{inl, inr, _⊎_}
@@ -23,7 +22,8 @@ use Rattle.record.specs.Records.{GraphRecord, rowsOf}
 use Rattle.words.proofs.BitLaws.{bit-ext∞, lt-of-bits, wordOf-bit, zero-bit}
 use Rattle.words.proofs.SearchLaws.{first-is, some-in, some-none}
 use Rattle.words.proofs.Sums.{lt-or-ge}
-use Rattle.words.specs.Bits.{bit, digit, dot, wordOf, _⊕_}
+use Rattle.words.specs.Bits.{bit, digit, wordOf, _⊕_}
+use Rattle.words.specs.internal.Bits.{dot}
 use Rattle.words.specs.Search.{IsFirst, first, some}
 use Rattle.image.proofs.Accepted.{image-minus}
 use Rattle.image.proofs.Refused.{own-letter}
@@ -31,10 +31,10 @@ use Rattle.image_answer.proofs.SignBytes.{sign-formula}
 use Rattle.image.proofs.Signs.{minusAt}
 use Rattle.image.proofs.TrackedBits.{image-bits, image-length, image-simple}
 use Rattle.image_rule.proofs.WordMoves.{set-bit}
-use Rattle.image_answer.specs.Answer.{IsImage}
+use Rattle.image_answer.specs.internal.Answer.{IsImage}
 use Rattle.image.specs.Image.{imageGraph, imageMinus, imageRecord, isY, loopLines, looped, stuck}
 use Rattle.image.specs.Rule.{imageList}
-use Rattle.image_rule.specs.Working.{Begun, Complemented, Tracking, WordsOf, workingRecord}
+use Rattle.image_rule.specs.internal.Working.{Begun, Complemented, Tracking, WordsOf, workingRecord}
 use Rattle.image_answer.specs.declared.ImageAnswer.{ImageAnswer}
 use Rattle.image_rule.specs.declared.bits_of_codes.CodeWords.{CodeWords}
 use Rattle.image_rule.specs.declared.complementing.Working.{Working}

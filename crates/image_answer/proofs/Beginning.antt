@@ -1,5 +1,4 @@
 -- The working state at the start holds the lent record, and its words the bits of the codes.
--- Assumes nothing.
 use mathlib.Core.Bool.{_&&_}
 use mathlib.Core.List.{List}
 use mathlib.Core.Logic.{inl, inr, _⊎_}
@@ -16,7 +15,7 @@ use Rattle.record.specs.Accepted.{AcceptedRecord}
 use Rattle.record.specs.Lent.{LentRecord, heldRecord}
 use Rattle.words.proofs.Sums.{lt-or-ge}
 use Rattle.words.specs.Bits.{bit}
-use Rattle.image_rule.specs.Working.{Begun, WordsOf, workingRecord}
+use Rattle.image_rule.specs.internal.Working.{Begun, WordsOf, workingRecord}
 use Rattle.image_rule.specs.declared.bits_of_codes.CodeWords.{CodeWords}
 use Rattle.image_rule.specs.declared.complementing.Working.{Working}
 

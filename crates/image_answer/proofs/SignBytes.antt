@@ -1,5 +1,4 @@
 -- The sign bytes of the image graph on words.
--- Assumes nothing.
 use mathlib.Core.Bool.{_&&_, Bool, false}
 use mathlib.Core.List.{List}
 use mathlib.Core.Path.{ap, ap₂, sym, _∙_, _≡_}
@@ -10,10 +9,11 @@ use Rattle.clifford.specs.Clifford.{Clifford}
 use Rattle.words.proofs.BitLaws.{lt-of-bits}
 use Rattle.words.proofs.OnesLaws.{dot-bits}
 use Rattle.words.proofs.Sums.{fold-ext}
-use Rattle.words.specs.Bits.{bit, digit, dot, _⊕_}
+use Rattle.words.specs.Bits.{bit, digit, _⊕_}
+use Rattle.words.specs.internal.Bits.{dot}
 use Rattle.image.proofs.Signs.{minusAt}
 use Rattle.graph.specs.NeighbourWords.{graphIn}
-use Rattle.image_rule.specs.Working.{WordsOf}
+use Rattle.image_rule.specs.internal.Working.{WordsOf}
 use Rattle.image_rule.specs.declared.bits_of_codes.CodeWords.{CodeWords}
 
 -- the sign at j: of X at j, and of Z at the neighbours of j

@@ -9,11 +9,12 @@ ghost use mathlib.Core.Path.{_≡_};
 ghost use Prim.Native.Nat.{ℕ, _<_, _≤_};
 ghost use lib.Dec.{eqb};
 ghost use lib.ListN.{getD, length};
-ghost use Rattle.words.specs.Bits.{_⊕_, bit, digit, dot};
+ghost use Rattle.words.specs.Bits.{_⊕_, bit, digit};
+ghost use Rattle.words.specs.internal.Bits.{dot};
 ghost use Rattle.record.specs.Accepted.{AcceptedRecord};
 ghost use Rattle.record.specs.Lent.{heldRecord};
-ghost use Rattle.image_answer.specs.Answer.{IsImage};
-ghost use Rattle.image_rule.specs.Working.{Begun};
+ghost use Rattle.image_answer.specs.internal.Answer.{IsImage};
+ghost use Rattle.image_rule.specs.internal.Working.{Begun};
 
 // The number 0, 11 or 12; the neighbour words of the image graph, a sign byte for each vertex, and the list.
 pub struct ImageAnswer {

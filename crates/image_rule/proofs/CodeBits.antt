@@ -1,5 +1,4 @@
 -- The words of the codes, made one vertex after another.
--- Assumes nothing.
 use mathlib.Core.Bool.{_&&_, Bool}
 use mathlib.Core.Logic.{inl, inr, _⊎_}
 use mathlib.Core.Path.{ap, ap₂, refl, sym, _∙_, _≡_}
@@ -18,7 +17,7 @@ use Rattle.words.proofs.Places.{put-other, put-same}
 use Rattle.words.proofs.Sums.{lt-or-ge}
 use Rattle.words.specs.Bits.{bit, put}
 use Rattle.image.specs.Image.{isY}
-use Rattle.image_rule.specs.Working.{WordsOf}
+use Rattle.image_rule.specs.internal.Working.{WordsOf}
 use Rattle.image_rule.specs.declared.bits_of_codes.CodeWords.{CodeWords}
 
 -- a word with the bits of f below i

@@ -1,5 +1,4 @@
 -- Complementing a graph on its neighbour words.
--- Assumes nothing.
 use mathlib.Core.Bool.{_&&_, Bool, false, false≢true, not, true}
 use mathlib.Core.List.{List}
 use mathlib.Core.Path.{ap, refl, sym, _∙_, _≡_}

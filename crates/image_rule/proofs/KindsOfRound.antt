@@ -1,5 +1,4 @@
 -- The three kinds of round of the image rule in the code: a single vertex, a pair, the stop.
--- Assumes nothing.
 use mathlib.Core.List.{[], _∷_}
 use mathlib.Core.Path.{subst, sym, _≡_}
 use Prim.Native.Nat.{_+_, _<_, ℕ, _≤_}
@@ -24,7 +23,7 @@ use Rattle.image_rule.proofs.Rounds.{
 use Rattle.image.proofs.Running.{below-at, move-below}
 use Rattle.image_rule.proofs.WordMoves.{joined-below, word-alone, word-joined, word-stopped}
 use Rattle.image.specs.Rule.{State, follow, imageList, stateOf}
-use Rattle.image_rule.specs.Working.{Complemented, Tracking, joinedIn, workingRecord}
+use Rattle.image_rule.specs.internal.Working.{Complemented, Tracking, joinedIn, workingRecord}
 use Rattle.image_rule.specs.declared.complementing.Working.{Working}
 
 module _ (n : ℕ) (start w : Working) (small : n ≤ 64) (empty : start .count ≡ 0) (T : Tracking n start)

@@ -1,5 +1,4 @@
 -- Rewriting the codes of a record, place by place.
--- Assumes nothing.
 use mathlib.Core.Bool.{Bool, cond, false}
 use mathlib.Core.List.{List}
 use mathlib.Core.Path.{ap, ap₂, sym, _∙_, _≡_}

@@ -1,5 +1,4 @@
 -- The loop of the image rule: what holds before each round, and that a round keeps it.
--- Assumes nothing.
 use mathlib.Core.List.{_++_, List, [], append-assoc, append-nil, _∷_}
 use mathlib.Core.Path.{ap, refl, subst, sym, _∙_, _≡_}
 use Prim.Native.Nat.{_+_, _<_, suc, zero, ℕ, _≤_}
@@ -13,7 +12,7 @@ use Rattle.image.proofs.Moves.{Move, alone, joined, moves-unique}
 use Rattle.image.proofs.Running.{Stopped, run-length, stopped-run}
 use Rattle.image_rule.proofs.StepLists.{complemented-append, complemented-none, complemented-state}
 use Rattle.image.specs.Rule.{State, follow, imageList, run, stateOf}
-use Rattle.image_rule.specs.Working.{Complemented, Tracking, workingRecord}
+use Rattle.image_rule.specs.internal.Working.{Complemented, Tracking, workingRecord}
 use Rattle.image_rule.specs.declared.complementing.Working.{Working}
 
 -- the complementations done so far, and what is left of the list

@@ -1,5 +1,4 @@
 -- Complementations of the working state, one list after another.
--- Assumes nothing.
 use mathlib.Core.List.{_++_, List, [], append-assoc, append-nil, _∷_}
 use mathlib.Core.Path.{ap, refl, sym, _∙_, _≡_}
 use Prim.Native.Nat.{ℕ}
@@ -9,7 +8,7 @@ use lib.ListN.{length-append}
 use Rattle.record.specs.Records.{complementAll}
 use Rattle.image.proofs.TrackedBits.{all-append, all-bits}
 use Rattle.image.specs.Rule.{follow, stateOf}
-use Rattle.image_rule.specs.Working.{Complemented, Tracking, listed, workingRecord}
+use Rattle.image_rule.specs.internal.Working.{Complemented, Tracking, listed, workingRecord}
 use Rattle.image_rule.specs.declared.complementing.Working.{Working}
 
 pub complemented-none : (n : ℕ) (w : Working) → Tracking n w → Complemented n w [] w

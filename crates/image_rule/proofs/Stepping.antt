@@ -1,5 +1,4 @@
 -- One complementation in the code's working state: the words c and d follow the codes, and the vertex is listed.
--- Assumes nothing.
 use mathlib.Core.Bool.{_&&_, Bool, and-false, and-true, cond, false}
 use mathlib.Core.List.{List, [], _∷_}
 use mathlib.Core.Path.{ap, ap₂, refl, subst, sym, _∙_, _≡_}
@@ -21,9 +20,9 @@ use Rattle.words.proofs.Finite.{bits, ⊕-zero}
 use Rattle.words.proofs.Places.{other-place, put-other, put-same, same-place}
 use Rattle.words.specs.Bits.{bit, put, _⊕_}
 use Rattle.image.proofs.TrackedBits.{bits-follow}
-use Rattle.image.specs.Rule.{State, stateOf, step}
+use Rattle.image.specs.Rule.{State, stateOf, complementedAt}
 use Rattle.graph.specs.NeighbourWords.{graphIn}
-use Rattle.image_rule.specs.Working.{Complemented, Tracking, workingRecord}
+use Rattle.image_rule.specs.internal.Working.{Complemented, Tracking, workingRecord}
 use Rattle.image_rule.specs.declared.complementing.Working.{Working}
 
 module _ (n : ℕ) (w : Working) (v : ℕ) (l : v < n) (T : Tracking n w) where
@@ -34,8 +33,8 @@ module _ (n : ℕ) (w : Working) (v : ℕ) (l : v < n) (T : Tracking n w) where
   S = stateOf (workingRecord w)
 
   -- c ^ (d & single v) and d ^ (around & c)
-  c-after : (mask : ℕ) → mask ≡ 2 ^ v → (q : ℕ) → bit (bitXor (w .c) (bitAnd (w .d) mask)) q ≡ (step S v) .C q
-  unfolding step
+  c-after : (mask : ℕ) → mask ≡ 2 ^ v → (q : ℕ) → bit (bitXor (w .c) (bitAnd (w .d) mask)) q ≡ (complementedAt S v) .C q
+  unfolding complementedAt
   c-after mask e q = bit-xor (w .c) (bitAnd (w .d) mask) q
       ∙ ap (λ b. bit (w .c) q ⊕ b) (bit-and (w .d) mask q
       ∙ ap (λ b. bit (w .d) q && b) (ap (λ m. bit m q) e ∙ bit-single v q))
@@ -53,8 +52,8 @@ module _ (n : ℕ) (w : Working) (v : ℕ) (l : v < n) (T : Tracking n w) where
           ∙ ap (λ b. bit (w .c) q ⊕ b) (and-false (bit (w .d) q)) ∙ ⊕-zero (bit (w .c) q) ∙ T .C q
           ∙ sym (put-other (S .C) v (S .C v ⊕ S .D v) q d)
 
-  d-after : (q : ℕ) → q < n → bit (bitXor (w .d) (bitAnd around (w .c))) q ≡ (step S v) .D q
-  unfolding step
+  d-after : (q : ℕ) → q < n → bit (bitXor (w .d) (bitAnd around (w .c))) q ≡ (complementedAt S v) .D q
+  unfolding complementedAt
   d-after q k = bit-xor (w .d) (bitAnd around (w .c)) q
       ∙ ap₂ (λ a b. a ⊕ b) (T .D q k) (bit-and around (w .c) q ∙ ap (λ b. bit around q && b) (T .C q))
       ∙ go (bit around q) (S .C q) (S .D q)
@@ -64,7 +63,7 @@ module _ (n : ℕ) (w : Working) (v : ℕ) (l : v < n) (T : Tracking n w) where
 
   above-after : (mask : ℕ) → mask ≡ 2 ^ v → (q : ℕ) → n ≤ q
       → bit (bitXor (w .c) (bitAnd (w .d) mask)) q ≡ false
-  unfolding step
+  unfolding complementedAt
   above-after mask e q k =
       c-after mask e q ∙ put-other (S .C) v (S .C v ⊕ S .D v) q (λ p. absurd (omega (arith, p)))
       ∙ sym (T .C q) ∙ T .above q k
@@ -87,7 +86,7 @@ module _ (n : ℕ) (w : Working) (v : ℕ) (l : v < n) (T : Tracking n w) where
     held : workingRecord after ≡ complementRecord (workingRecord w) v
     held = record-path _ _ (record { neighbours = edges; code = recodes })
 
-    state : stateOf (workingRecord after) ≡ step S v
+    state : stateOf (workingRecord after) ≡ complementedAt S v
     state = ap stateOf held ∙ bits-follow n (workingRecord w) (T .simple) v
 
     pub complemented-at : Complemented n w (v ∷ []) after

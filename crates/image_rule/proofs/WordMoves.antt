@@ -1,5 +1,4 @@
 -- The next complementations read off the words: both bits 1 is c & d; where that is 0, C = 1 means D = 0.
--- Assumes nothing.
 use mathlib.Core.Bool.{_&&_, Bool, and-false, false, false≢true, not, true, true≢false}
 use mathlib.Core.List.{[], _∷_}
 use mathlib.Core.Logic.{inl, inr, _⊎_}
@@ -24,7 +23,7 @@ use Rattle.image.proofs.Falling.{pair-is}
 use Rattle.image.proofs.Moves.{Move, alone, joined}
 use Rattle.image.proofs.Running.{Stopped}
 use Rattle.image.specs.Rule.{State, both, onlyC, pair, stateOf}
-use Rattle.image_rule.specs.Working.{Tracking, joinedIn, workingRecord}
+use Rattle.image_rule.specs.internal.Working.{Tracking, joinedIn, workingRecord}
 use Rattle.image_rule.specs.declared.complementing.Working.{Working}
 
 -- ---- words with no bit at or above n

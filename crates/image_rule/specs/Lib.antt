@@ -1,1 +1,1 @@
-pub mod Working
+pub mod internal

@@ -7,7 +7,7 @@ use words::put_bit;
 ghost use Prim.Native.Nat.{ℕ, _+_, _<_, _≤_};
 ghost use lib.ListN.{getD};
 ghost use Rattle.clifford.specs.Vectors.{codesOf};
-ghost use Rattle.image_rule.specs.Working.{WordsOf};
+ghost use Rattle.image_rule.specs.internal.Working.{WordsOf};
 
 // One word for each property of the codes: C, D, X sent to Y, the signs of the images of X and of Z.
 pub struct CodeWords {

@@ -15,7 +15,7 @@ ghost use Rattle.clifford.specs.Vectors.{codesOf};
 ghost use Rattle.graph.specs.Graph.{Simple, complement};
 ghost use Rattle.record.specs.Records.{recoded};
 ghost use Rattle.graph.specs.NeighbourWords.{graphIn};
-ghost use Rattle.image_rule.specs.Working.{Complemented, Tracking};
+ghost use Rattle.image_rule.specs.internal.Working.{Complemented, Tracking};
 
 // The state of the image rule: the graph and the codes as they are, the bits C and D, and the list.
 pub struct Working {

@@ -12,7 +12,7 @@ ghost use lib.Dec.{eqb};
 ghost use Rattle.words.specs.Bits.{bit};
 ghost use Rattle.words.specs.Search.{first};
 ghost use Rattle.image.specs.Rule.{imageList};
-ghost use Rattle.image_rule.specs.Working.{Complemented, Tracking, joinedIn, workingRecord};
+ghost use Rattle.image_rule.specs.internal.Working.{Complemented, Tracking, joinedIn, workingRecord};
 
 // Whether vertex j is in the set c and has a neighbour there.
 fn joined(around: u64, c: u64, j: usize) -> bool

@@ -1,12 +1,11 @@
 -- The image of a letter as one number, from what the code's calls answer.
--- Assumes nothing.
 use mathlib.Core.Bool.{Bool}
 use mathlib.Core.Path.{ap, ap₂, sym, _∙_, _≡_}
 use Rattle.clifford.specs.Clifford.{Clifford, image, imagePhase}
 use Rattle.pauli.proofs.PhaseLaws.{sign-minus}
 use Rattle.pauli.specs.Pauli.{minus, signBit, xBit, zBit}
 use Rattle.pauli.specs.declared.Letter.{Letter}
-use Rattle.inspect.specs.Answers.{number}
+use Rattle.inspect.specs.internal.Answers.{number}
 
 pub image-number : (k : Clifford) (l : Letter) (s z x : Bool) {l′ r : Letter} →
     l′ ≡ l → r ≡ image k l′ → minus s ≡ imagePhase k l′ → z ≡ zBit r → x ≡ xBit r →

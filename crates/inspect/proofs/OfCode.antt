@@ -1,10 +1,9 @@
 -- What is answered where a number is a code, and where it is not.
--- Assumes nothing.
 use mathlib.Core.Bool.{cond}
 use mathlib.Core.Path.{_∙_, _≡_, ap, sym}
 use Prim.Native.Nat.{_<_, _≤_, ℕ}
 use borrow.Author.Tests.{le-ltb, lt-ltb}
-use Rattle.inspect.specs.Answers.{ofCode}
+use Rattle.inspect.specs.internal.Answers.{ofCode}
 
 pub no-code : (a k otherwise : ℕ) → 24 ≤ a → otherwise ≡ ofCode a k otherwise
 no-code a k otherwise h = sym (ap (λ b. cond b k otherwise) (le-ltb a 24 h))

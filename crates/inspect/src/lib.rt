@@ -8,7 +8,7 @@ use pauli::z_bit;
 ghost use mathlib.Core.Path.{_≡_};
 ghost use Prim.Native.Nat.{_<_};
 ghost use Rattle.words.specs.Bits.{digit};
-ghost use Rattle.inspect.specs.Answers.{bitsAnswer, imageAnswer, inverseAnswer, number, thenAnswer};
+ghost use Rattle.inspect.specs.internal.Answers.{bitsAnswer, imageAnswer, inverseAnswer, number, thenAnswer};
 ghost use Rattle.pauli.specs.Pauli.{anticommute, exponent, i⁰, mul, row};
 
 fn digit_of(b: bool) -> u8

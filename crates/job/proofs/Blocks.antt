@@ -1,12 +1,11 @@
 -- The text read so far, block after block.
--- Assumes nothing.
 use mathlib.Core.List.{List, [], _++_}
 use mathlib.Core.Path.{_∙_, _≡_, ap, sym}
 use Prim.Native.Nat.{ℕ}
 use Rattle.job_text.proofs.Feeding.{fed-append}
-use Rattle.job_text.specs.Scan.{empty, fed}
+use Rattle.job_text.specs.internal.Scan.{empty, fed}
 use Rattle.job_text.specs.declared.scan.Reading.{Reading}
-use Rattle.job.specs.Reads.{ScannedJob}
+use Rattle.job.specs.internal.Reads.{ScannedJob}
 
 -- nothing is read
 pub no-block : (r : Reading) → r ≡ empty → ScannedJob r

@@ -9,7 +9,8 @@ use libc::STDOUT_FILENO;
 ghost use Prim.Native.Nat.{_≤_};
 ghost use lib.ListN.{length};
 ghost use Rattle.job_reply.specs.Room.{longest};
-ghost use Rattle.job.specs.Reads.{Responded, ScannedJob};
+ghost use Rattle.job.specs.Reads.{Responded};
+ghost use Rattle.job.specs.internal.Reads.{ScannedJob};
 
 // Reads standard input to its end, block after block.
 fn read_job() -> Reading

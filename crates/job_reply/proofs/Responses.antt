@@ -1,12 +1,11 @@
 -- The answer to the text that was scanned, printed.
--- Assumes nothing.
 use mathlib.Core.List.{List}
 use mathlib.Core.Path.{_∙_, _≡_, subst, sym}
 use Prim.Native.Nat.{ℕ}
 use lib.ListN.{take}
 use Rattle.job_text.proofs.TextAnswers.{accepted-answers, refused-answers}
-use Rattle.job_text.specs.Answer.{Answers, ResponseTo, answered}
-use Rattle.job_text.specs.Scan.{empty, fed, verdict}
+use Rattle.job_text.specs.Answer.{Answers, ResponseTo, runText}
+use Rattle.job_text.specs.internal.Scan.{empty, fed, verdict}
 use Rattle.job_text.specs.declared.scan.Reading.{Reading}
 use Rattle.text.specs.Text.{Printed, refusedText}
 
@@ -22,11 +21,11 @@ module _ (w : Reading) (before after : List ℕ) (end k : ℕ) (e : k ≡ verdic
       }
 
   -- the answer to a job
-  pub job-responds : k ≡ 0 → Printed (answered (w .scan .n) (take (w .scan .count) (w .steps))) 0 before after end
+  pub job-responds : k ≡ 0 → Printed (runText (w .scan .n) (take (w .scan .count) (w .steps))) 0 before after end
       → (t : List ℕ) → w ≡ fed empty t → ResponseTo t before after end
   job-responds z P t s =
       record {
-        bytes = answered (w .scan .n) (take (w .scan .count) (w .steps));
+        bytes = runText (w .scan .n) (take (w .scan .count) (w .steps));
         answers = accepted-answers t w s (sym e ∙ z);
         out = P;
       }

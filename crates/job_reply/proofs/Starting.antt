@@ -1,5 +1,4 @@
 -- The run of a job from its start, and the print of it.
--- Assumes nothing.
 use mathlib.Core.List.{List, _++_, _∷_}
 use mathlib.Core.Path.{_∙_, _≡_, ap, ap₂, refl, subst, sym}
 use Prim.Native.Nat.{_*_, _+_, _<_, _≤_, suc, zero, ℕ}
@@ -8,16 +7,18 @@ use native.Mathlib.Omega.{arith}
 use lib.ListN.{getD, length, length-append, replicate, take}
 use lib.Seq.{length-take-le}
 use Rattle.job_text.proofs.ResultLaws.{length-results}
-use Rattle.job_text.specs.Answer.{answered, resultsOf}
+use Rattle.job_text.specs.Answer.{runText, resultsOf}
 use Rattle.job_text.specs.Results.{jobAnswer, resultLines, resultNames}
 use Rattle.jobs.proofs.Printing.{run-sized, started-sized}
 use Rattle.jobs.specs.Runs.{started}
 use Rattle.jobs.specs.declared.Step.{Step}
 use Rattle.record.specs.Lent.{LentRecord}
 use Rattle.text.proofs.Writing.{and-then, length-written}
-use Rattle.text.specs.Text.{Printable, Printed, recordText}
-use Rattle.job_steps.specs.StepsRun.{StepsRun}
-use Rattle.job_reply.specs.Room.{Fresh, longest}
+use Rattle.text.specs.internal.Text.{Printable}
+use Rattle.text.specs.Text.{Printed, recordText}
+use Rattle.jobs_run.specs.internal.StepsRun.{StepsRun}
+use Rattle.job_reply.specs.internal.Room.{Fresh}
+use Rattle.job_reply.specs.Room.{longest}
 
 -- the first n places of a buffer of equal numbers
 pub repeated-part : (n m v : ℕ) → n ≤ m → take n (replicate m v) ≡ replicate n v
@@ -84,7 +85,7 @@ module _ (n : ℕ) (nb cs : List ℕ) (count : ℕ) (steps : List Step) (few : l
       }
 
   pub all-printed : (out′ : List ℕ) (r : ℕ) → Printed (recordText n nb′ cs′) at out out′ r
-      → Printed (answered n steps) 0 before out′ r
+      → Printed (runText n steps) 0 before out′ r
   unfolding jobAnswer
   all-printed out′ r P =
       and-then (omega (arith, short, F .room)) (ran .out)

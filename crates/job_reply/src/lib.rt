@@ -1,9 +1,9 @@
 // Answers the text of a job that was scanned: runs its steps, and prints what each answers and the record after the
 // last; or a refusal.
 use job_scan::judge;
-use job_steps::run_steps;
 use job_text::scan::Reading;
 use jobs::Step;
+use jobs_run::run_steps;
 use text_print::print_record;
 use text_print::print_refusal;
 ghost use mathlib.Core.List.{List};
@@ -11,9 +11,10 @@ ghost use mathlib.Core.Path.{_≡_};
 ghost use Prim.Native.Nat.{ℕ, _≤_};
 ghost use lib.ListN.{length, take};
 ghost use Rattle.text.specs.Text.{Printed};
-ghost use Rattle.job_text.specs.Answer.{ResponseTo, answered};
-ghost use Rattle.job_text.specs.Scan.{empty, fed};
-ghost use Rattle.job_reply.specs.Room.{Fresh, longest};
+ghost use Rattle.job_text.specs.Answer.{ResponseTo, runText};
+ghost use Rattle.job_text.specs.internal.Scan.{empty, fed};
+ghost use Rattle.job_reply.specs.internal.Room.{Fresh};
+ghost use Rattle.job_reply.specs.Room.{longest};
 
 // Runs the first steps of a job, and prints its answer.
 fn print_run(
@@ -25,7 +26,7 @@ fn print_run(
     out: &mut [u8],
 ) -> usize
     requires { ⌜ Fresh n (now neighbours) (now codes) count (now out) ⌝ }
-    ensures { λ r. ⌜ Printed (answered n (take count steps)) 0 (now (out .entry)) (now (out .exit)) r ⌝ }
+    ensures { λ r. ⌜ Printed (runText n (take count steps)) 0 (now (out .entry)) (now (out .exit)) r ⌝ }
 {
     let at = run_steps(n as u64, neighbours, codes, count, steps, out);
     print_record(n, neighbours, codes, at, out)
@@ -34,7 +35,7 @@ fn print_run(
 // Prints the answer to a job, whose steps stand at the start of the array.
 fn answer(n: usize, count: usize, steps: [Step; 4096], out: &mut [u8]) -> usize
     requires { ⌜ (n ≤ 64) × (count ≤ 4096) × (longest ≤ length (now out)) ⌝ }
-    ensures { λ r. ⌜ Printed (answered n (take count steps)) 0 (now (out .entry)) (now (out .exit)) r ⌝ }
+    ensures { λ r. ⌜ Printed (runText n (take count steps)) 0 (now (out .entry)) (now (out .exit)) r ⌝ }
 {
     let mut neighbours = [0u64; 64];
     let mut codes = [8u8; 64];

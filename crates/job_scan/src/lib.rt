@@ -9,7 +9,7 @@ use job_text::scan::Scan;
 use jobs::Op;
 use jobs::Step;
 ghost use mathlib.Core.Path.{_≡_};
-ghost use Rattle.job_text.specs.Scan.{moved, headStep, step, begin, empty, fed, atLine, verdict};
+ghost use Rattle.job_text.specs.internal.Scan.{moved, headStep, scanByte, begin, empty, fed, atLine, verdict};
 
 // The bytes of the head that are the same in every job.
 const HEAD: [u8; 20] = *b"qubits\nop a b value\n";
@@ -50,7 +50,7 @@ fn head_step(k: usize, b: u8) -> Place
 
 // The scan after one more byte.
 fn scan_byte(s: Scan, b: u8) -> Scan
-    ensures { λ r. ⌜ r ≡ step s b ⌝ }
+    ensures { λ r. ⌜ r ≡ scanByte s b ⌝ }
 {
     let place = s.place;
     match place {

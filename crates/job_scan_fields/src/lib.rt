@@ -3,7 +3,7 @@ use job_text::scan::Field;
 use job_text::scan::Place;
 use job_text::scan::Scan;
 ghost use mathlib.Core.Path.{_≡_};
-ghost use Rattle.job_text.specs.Scan.{withNumber, digitValue, firstStep, separator, oneMore, ended, moreStep};
+ghost use Rattle.job_text.specs.internal.Scan.{withNumber, digitValue, firstStep, separator, oneMore, ended, moreStep};
 
 fn with_number(s: Scan, number: u16, place: Place) -> Scan
     ensures { λ r. ⌜ r ≡ withNumber s number place ⌝ }

@@ -4,7 +4,7 @@ use job_text::scan::Place;
 use job_text::scan::Scan;
 use jobs::Op;
 ghost use mathlib.Core.Path.{_≡_};
-ghost use Rattle.job_text.specs.Scan.{withOp, letters, firstOp, afterO, opFor, wordStep};
+ghost use Rattle.job_text.specs.internal.Scan.{withOp, letters, firstOp, afterO, opFor, wordStep};
 
 // An operation and the space after it, filled up to 11 bytes.
 fn letters_of(op: Op) -> [u8; 11]

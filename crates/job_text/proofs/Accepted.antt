@@ -1,5 +1,4 @@
 -- A text that is accepted is the text of the job that the reading holds.
--- Assumes nothing.
 use mathlib.Core.Path.{_≡_, refl, sym, ap, _∙_, subst}
 use mathlib.Core.Bool.{Bool, true, false, not, true≢false}
 use mathlib.Core.List.{List, [], _∷_}
@@ -15,7 +14,7 @@ use Rattle.stabilizer.proofs.SharedTests.{counted}
 use Rattle.words.proofs.Sums.{lt-or-ge}
 use Rattle.job_text.specs.Lines.{jobLines}
 use Rattle.job_text.specs.Text.{JobTextOf, HasJobForm}
-use Rattle.job_text.specs.Scan.{atLine, verdict, Judged}
+use Rattle.job_text.specs.internal.Scan.{atLine, verdict, Judged}
 use Rattle.job_text.specs.declared.scan.Reading.{Reading}
 use Rattle.job_text.proofs.KeptLaws.{count-many, count-few, steps-few}
 

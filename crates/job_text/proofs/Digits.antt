@@ -1,5 +1,4 @@
 -- The digits of a field: one more at the low end, and back to the number.
--- Assumes nothing.
 use mathlib.Core.Path.{_≡_, refl, sym, ap, ap₂, _∙_, subst}
 use mathlib.Core.Bool.{cond}
 use mathlib.Core.List.{List, [], _∷_, _++_}
@@ -11,7 +10,7 @@ use borrow.Author.Tests.{lt-ltb, le-ltb, ltb-false}
 use Rattle.text.proofs.DigitLaws.{by-test, readDecimal}
 use Rattle.text.specs.Text.{decimal}
 use Rattle.job_text.specs.Text.{digits}
-use Rattle.job_text.specs.Scan.{digitValue}
+use Rattle.job_text.specs.internal.Scan.{digitValue}
 
 pub value-digit : (d : ℕ) → d < 10 → digitValue (48 + d) ≡ d
 unfolding digitValue

@@ -1,5 +1,4 @@
 -- A worked job at the definitions: its text and the scan of it, the numbers of refused texts, and an answer.
--- Assumes nothing.
 use mathlib.Core.Path.{_≡_, refl}
 use mathlib.Core.List.{List, [], _∷_, _++_}
 use Prim.Native.Nat.{ℕ, _*_}
@@ -7,13 +6,13 @@ use lib.ListN.{replicate}
 use Rattle.buffers.specs.Refusals.{firstFitting}
 use Rattle.jobs.specs.declared.Op.the-variants.{Gate, Cz, Measure, Complement}
 use Rattle.jobs.specs.declared.Step.{Step}
-use Rattle.text.specs.Text.{hexDigit, hexText, decimal, recordLine, recordLines, recordText}
+use Rattle.text.specs.Text.{hexDigit, hexText, decimal, qubitLine, qubitLines, recordText}
 use Rattle.job_text.specs.Lines.{jobLines}
 use Rattle.job_text.specs.Results.{Result, resultLine, resultLines, jobAnswer}
 use Rattle.job_text.specs.Text.{digits, opWord, stepText, stepsText, qubitsLine, stepNames, jobHead}
 use Rattle.job_text.specs.Text.{jobText}
-use Rattle.job_text.specs.Scan.{headStep, firstOp, opFor, wordStep, digitValue, firstStep, moreStep}
-use Rattle.job_text.specs.Scan.{oneMore, step, begin, reading, feed, fed, verdict}
+use Rattle.job_text.specs.internal.Scan.{headStep, firstOp, opFor, wordStep, digitValue, firstStep, moreStep}
+use Rattle.job_text.specs.internal.Scan.{oneMore, scanByte, begin, asReading, feed, fed, verdict}
 use Rattle.job_text.specs.declared.scan.Reading.{Reading}
 
 -- a gate, a CZ and a measurement; the form allows every number of at most three digits
@@ -40,10 +39,10 @@ input-text = refl
 
 -- the reading of a text, from an array of four places
 readingOf : List ℕ → Reading
-readingOf t = fed (reading begin (replicate 4 (record { op = Complement; a = 7; b = 7; value = 7 }))) t
+readingOf t = fed (asReading begin (replicate 4 (record { op = Complement; a = 7; b = 7; value = 7 }))) t
 
 input-read : readingOf input .steps ≡ steps ++ record { op = Complement; a = 7; b = 7; value = 7 } ∷ []
-unfolding steps readingOf fed feed step begin headStep firstOp opFor wordStep digitValue firstStep moreStep oneMore
+unfolding steps readingOf fed feed scanByte begin headStep firstOp opFor wordStep digitValue firstStep moreStep oneMore
 input-read = refl
 
 number : List ℕ → ℕ
@@ -56,7 +55,7 @@ numbers :
     ∷ number (head (57 ∷ 57 ∷ 57 ∷ [])) ∷ number (head (48 ∷ 50 ∷ []))
     ∷ number (head (49 ∷ 48 ∷ 48 ∷ 48 ∷ [])) ∷ number [] ∷ []
     ≡ 0 ∷ 0 ∷ 2 ∷ 2 ∷ 2 ∷ 1 ∷ 1 ∷ 1 ∷ []
-unfolding number readingOf fed feed step begin headStep firstOp opFor wordStep digitValue firstStep moreStep oneMore
+unfolding number readingOf fed feed scanByte begin headStep firstOp opFor wordStep digitValue firstStep moreStep oneMore
     verdict firstFitting
 numbers = refl
 
@@ -69,7 +68,7 @@ malformed :
     ∷ number (head (49 ∷ []) ++ 99 ∷ 110 ∷ 32 ∷ 48 ∷ 32 ∷ 49 ∷ 32 ∷ 48 ∷ 10 ∷ [])
     ∷ []
     ≡ 1 ∷ 1 ∷ 1 ∷ 1 ∷ 1 ∷ []
-unfolding number readingOf fed feed step begin headStep firstOp opFor wordStep digitValue firstStep moreStep oneMore
+unfolding number readingOf fed feed scanByte begin headStep firstOp opFor wordStep digitValue firstStep moreStep oneMore
     verdict firstFitting
 malformed = refl
 
@@ -92,7 +91,7 @@ answer : jobAnswer 2 results 1 (0 ∷ []) (8 ∷ [])
     ∷ 113 ∷ 117 ∷ 98 ∷ 105 ∷ 116 ∷ 32 ∷ 99 ∷ 111 ∷ 100 ∷ 101 ∷ 32
     ∷ 110 ∷ 101 ∷ 105 ∷ 103 ∷ 104 ∷ 98 ∷ 111 ∷ 117 ∷ 114 ∷ 115 ∷ 10
     ∷ 48 ∷ 32 ∷ 56 ∷ 32 ∷ replicate 16 48 ++ 10 ∷ []
-unfolding results digits resultLine resultLines jobAnswer hexDigit hexText decimal recordLine recordLines recordText
+unfolding results digits resultLine resultLines jobAnswer hexDigit hexText decimal qubitLine qubitLines recordText
 answer = refl
 
 -- the last step's number

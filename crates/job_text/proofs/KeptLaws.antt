@@ -1,6 +1,5 @@
 -- What is kept of a job of at most 4,096 steps is the job; a longer one has the count 4,097. So the number of a text
 -- is the one that its scan ends with.
--- Assumes nothing.
 use mathlib.Core.Path.{_≡_, refl, sym, ap, ap₂, _∙_}
 use mathlib.Core.Logic.{⊎-elim}
 use mathlib.Core.Bool.{Bool, true, false}
@@ -12,15 +11,16 @@ use lib.Dec.{ltb}
 use lib.ListN.{length, take}
 use lib.Seq.{take-all}
 use borrow.Author.Tests.{lt-ltb}
-use Rattle.buffers.specs.Refusals.{Line, line, firstFitting, badCount}
+use Rattle.buffers.specs.Refusals.{Refusal, line, firstFitting, badCount}
 use Rattle.jobs.specs.declared.Step.{Step}
 use Rattle.words.proofs.Sums.{lt-or-ge}
-use Rattle.job_text.specs.Lines.{jobLines, textLines, TextNumber}
+use Rattle.job_text.specs.Lines.{jobLines}
+use Rattle.job_text.specs.internal.Lines.{textLines, TextNumber}
 use Rattle.job_text.specs.Text.{HasJobForm}
-use Rattle.job_text.specs.Scan.{atLine, verdict, Kept, Judged}
+use Rattle.job_text.specs.internal.Scan.{atLine, verdict, StepsKept, Judged}
 use Rattle.job_text.specs.declared.scan.Reading.{Reading}
 
-module _ (n : ℕ) (steps : List Step) (w : Reading) (kept : Kept n steps w) where
+module _ (n : ℕ) (steps : List Step) (w : Reading) (kept : StepsKept n steps w) where
   pub count-many : 4096 < length steps → w .scan .count ≡ 4097
   count-many many = kept .count ∙ min-eq-right {n = 4097} {m = length steps} (omega arith)
 
@@ -45,7 +45,7 @@ module _ (n : ℕ) (steps : List Step) (w : Reading) (kept : Kept n steps w) whe
   same-lines =
       ap₂ (λ a b. firstFitting (lines a b)) (kept .qubits) count-tells
     where
-      lines : ℕ → Bool → List Line
+      lines : ℕ → Bool → List Refusal
       lines a b = line 15 b ∷ line 2 (badCount a) ∷ []
 
 -- the scan of a text ends with the text's number

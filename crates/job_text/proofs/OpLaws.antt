@@ -1,5 +1,4 @@
 -- The letters of an operation, one after the other.
--- Assumes nothing.
 use mathlib.Core.Path.{_≡_, refl, sym, ap, _∙_}
 use mathlib.Core.Logic.{⊎-elim}
 use mathlib.Core.Bool.{_&&_, true, and-eq-true-iff, cond}
@@ -15,7 +14,7 @@ use Rattle.jobs.specs.declared.Op.the-variants.{Gate, Cz, Measure, Complement, 
 use Rattle.text.proofs.DigitLaws.{by-test}
 use Rattle.text.specs.Text.{space}
 use Rattle.job_text.specs.Text.{opWord}
-use Rattle.job_text.specs.Scan.{letters, firstOp, afterO, opFor}
+use Rattle.job_text.specs.internal.Scan.{letters, firstOp, afterO, opFor}
 use Rattle.job_text.proofs.Separators.{without, without-at}
 
 -- no space is in a word

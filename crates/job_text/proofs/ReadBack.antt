@@ -1,5 +1,4 @@
 -- A written job is accepted, and reads back as its n and its steps.
--- Assumes nothing.
 use mathlib.Core.Path.{_≡_, refl, _∙_}
 use mathlib.Core.List.{List}
 use Prim.Native.Nat.{ℕ, _≤_}
@@ -10,13 +9,13 @@ use Rattle.buffers.specs.Refusals.{firstFitting}
 use Rattle.jobs.specs.declared.Step.{Step}
 use Rattle.job_text.specs.Lines.{jobLines}
 use Rattle.job_text.specs.Text.{AllFit, jobText, JobTextOf}
-use Rattle.job_text.specs.Scan.{empty, fed, verdict, Kept}
+use Rattle.job_text.specs.internal.Scan.{empty, fed, verdict, StepsKept}
 use Rattle.job_text.specs.declared.scan.Reading.{Reading}
 use Rattle.job_text.proofs.KeptLaws.{count-few, steps-few, text-number}
 use Rattle.job_text.proofs.Verdict.{empty-judged}
 
 -- no line holds of a job on 1 to 64 qubits with at most 4,096 steps
-lines-pass : (n count : ℕ) → 1 ≤ n → n ≤ 64 → count ≤ 4096 → firstFitting (jobLines n count) ≡ 0
+pub lines-pass : (n count : ℕ) → 1 ≤ n → n ≤ 64 → count ≤ 4096 → firstFitting (jobLines n count) ≡ 0
 unfolding firstFitting
 lines-pass n count some upto few =
     simp (le-ltb 4096 count few, ne-eqb n 0 (λ e. omega arith), le-ltb 64 n upto)
@@ -30,7 +29,7 @@ module _ (n : ℕ) (steps : List Step) (some : 1 ≤ n) (upto : n ≤ 64) (few :
   written : JobTextOf n steps (jobText n steps)
   written = record { few = omega arith; fit = fit; text = refl }
 
-  kept : Kept n steps back
+  kept : StepsKept n steps back
   kept = empty-judged (jobText n steps) .job n steps written
 
   pub back-accepted : verdict (back .scan) ≡ 0

@@ -1,5 +1,4 @@
 -- The scan of the text of a job ends at the start of a line, with n and the steps kept.
--- Assumes nothing.
 use mathlib.Core.Path.{_≡_, refl, sym, ap, _∙_, subst}
 use mathlib.Core.Logic.{⊎-elim}
 use mathlib.Core.Bool.{true, false, and-false}
@@ -18,8 +17,17 @@ use Rattle.text.specs.Text.{newline}
 use Rattle.words.proofs.Sums.{lt-or-ge}
 use Rattle.job_text.specs.Text.{field, Fits, AllFit, stepText, stepsText, qubitsLine, stepNames, jobHead}
 use Rattle.job_text.specs.Text.{jobText, JobTextOf}
-use Rattle.job_text.specs.Scan.{headStep, moreStep, digitValue, step, oneMore, begin, reading, stored}
-use Rattle.job_text.specs.Scan.{feedNext, feed, fed, Kept}
+use Rattle.job_text.specs.internal.Scan.{
+  headStep,
+  moreStep,
+  digitValue,
+  scanByte,
+  oneMore,
+  begin,
+  asReading,
+  stored,
+}
+use Rattle.job_text.specs.internal.Scan.{feedNext, feed, fed, StepsKept}
 use Rattle.job_text.specs.declared.scan.Field.the-variants.{N, Value}
 use Rattle.job_text.specs.declared.scan.Place.the-variants.{Head, Word, First, More}
 use Rattle.job_text.specs.declared.scan.Reading.{Reading}
@@ -59,7 +67,7 @@ count-more i = ⊎-elim
 -- these steps have been read: a line starts, and n and the steps are kept
 pub record Read (n : ℕ) (steps : List Step) (w : Reading) : Type 0 where
   pub place : w .scan .place ≡ Word 0
-  pub kept : Kept n steps w
+  pub kept : StepsKept n steps w
   pub whole : length (w .steps) ≡ 4096
 
 -- a step more is stored, or is beyond the array
@@ -95,7 +103,7 @@ module _ (n : ℕ) (steps : List Step) (s : Step) (w : Reading) (read : Read n s
         whole = length-set (w .steps) c s ∙ read .whole;
       }
 
-  step-beyond : 4096 ≤ length steps → Read n (steps ++ s ∷ []) (reading next (w .steps))
+  step-beyond : 4096 ≤ length steps → Read n (steps ++ s ∷ []) (asReading next (w .steps))
   step-beyond outside =
       record {
         place = refl;
@@ -115,7 +123,7 @@ module _ (n : ℕ) (steps : List Step) (s : Step) (w : Reading) (read : Read n s
   step-more fit =
       let h = w .scan in
       let start : w ≡ readingAt (w .steps) (h .n) c (Word 0) (h .op) (h .a) (h .b) (h .number) =
-      λ i. reading (scanAt (h .n) c (read .place i) (h .op) (h .a) (h .b) (h .number)) (w .steps)
+      λ i. asReading (scanAt (h .n) c (read .place i) (h .op) (h .a) (h .b) (h .number)) (w .steps)
       in
       let whole : fed w (stepText s) ≡ feedNext before next =
       ap (λ v. fed v (stepText s)) start
@@ -147,22 +155,22 @@ steps-more n ss (t ∷ ts) w read fit =
 
 -- the three lines before the steps
 module _ (S : List Step) (n : ℕ) (few : n < 1000) where
-  qubits-read : fed (reading begin S) qubitsLine ≡ readingAt S 0 0 (First N) Gate 0 0 0
-  unfolding fed feed step headStep begin
+  qubits-read : fed (asReading begin S) qubitsLine ≡ readingAt S 0 0 (First N) Gate 0 0 0
+  unfolding fed feed scanByte headStep begin
   qubits-read = refl
 
   n-ends : feed (readingAt S 0 0 (More N) Gate 0 0 n) 10 ≡ readingAt S n 0 (Head 7) Gate 0 0 n
-  unfolding feed step moreStep digitValue
+  unfolding feed scanByte moreStep digitValue
   n-ends = refl
 
   names-read : fed (readingAt S n 0 (Head 7) Gate 0 0 n) stepNames ≡ readingAt S n 0 (Word 0) Gate 0 0 n
-  unfolding fed feed step headStep
+  unfolding fed feed scanByte headStep
   names-read = refl
 
-  head-read : fed (reading begin S) (jobHead n) ≡ readingAt S n 0 (Word 0) Gate 0 0 n
+  head-read : fed (asReading begin S) (jobHead n) ≡ readingAt S n 0 (Word 0) Gate 0 0 n
   unfolding jobHead
   head-read =
-      let w = reading begin S in
+      let w = asReading begin S in
       fed-append w (qubitsLine ++ field n ++ newline) stepNames
       ∙ ap (λ v. fed v stepNames)
       (fed-one w (qubitsLine ++ field n) 10
@@ -174,7 +182,7 @@ module _ (S : List Step) (n : ℕ) (few : n < 1000) where
 
 -- a whole text
 pub text-read : (S : List Step) → length S ≡ 4096 → (n : ℕ) (steps : List Step) (t : List ℕ)
-    → JobTextOf n steps t → Read n steps (fed (reading begin S) t)
+    → JobTextOf n steps t → Read n steps (fed (asReading begin S) t)
 unfolding jobText
 text-read S whole n steps t text =
     let w = readingAt S n 0 (Word 0) Gate 0 0 n in
@@ -183,8 +191,8 @@ text-read S whole n steps t text =
       kept = record { qubits = refl; count = refl; steps = refl };
       whole = whole;
     } in
-    let all : fed (reading begin S) t ≡ fed w (stepsText steps) =
-    ap (fed (reading begin S)) (text .text) ∙ fed-append (reading begin S) (jobHead n) (stepsText steps)
+    let all : fed (asReading begin S) t ≡ fed w (stepsText steps) =
+    ap (fed (asReading begin S)) (text .text) ∙ fed-append (asReading begin S) (jobHead n) (stepsText steps)
     ∙ ap (λ v. fed v (stepsText steps)) (head-read S n (text .few))
     in
     subst (Read n steps) (sym all) (steps-more n [] steps w none (text .fit))

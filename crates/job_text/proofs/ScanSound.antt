@@ -1,6 +1,5 @@
 -- Each byte keeps what is known of the text so far; so a scan that ends at the start of a line has read a text that
 -- has the form.
--- Assumes nothing.
 use mathlib.Core.Path.{_≡_, sym, ap, ap₂, _∙_, subst}
 use mathlib.Core.Logic.{⊎-elim}
 use mathlib.Core.Bool.{_&&_, and-eq-true-iff, cond}
@@ -19,8 +18,17 @@ use Rattle.text.specs.Text.{space, newline}
 use Rattle.words.proofs.Sums.{lt-or-ge}
 use Rattle.job_text.specs.Text.{field, opWord, Fits, stepText, qubitsLine, stepNames, jobHead}
 use Rattle.job_text.specs.Text.{jobText}
-use Rattle.job_text.specs.Scan.{moved, withOp, withNumber, headBytes, headStep, letters}
-use Rattle.job_text.specs.Scan.{opFor, wordStep, digitValue, firstStep, separator, ended, moreStep, stepAt}
+use Rattle.job_text.specs.internal.Scan.{moved, withOp, withNumber, headBytes, headStep, letters}
+use Rattle.job_text.specs.internal.Scan.{
+  opFor,
+  wordStep,
+  digitValue,
+  firstStep,
+  separator,
+  ended,
+  moreStep,
+  stepAt,
+}
 use Rattle.job_text.specs.declared.scan.Field.{Field}
 use Rattle.job_text.specs.declared.scan.Field.the-variants.{N, A, B, Value}
 use Rattle.job_text.specs.declared.scan.Place.{Place}

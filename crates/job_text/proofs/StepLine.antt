@@ -1,5 +1,4 @@
 -- What the scanner does with the bytes of a step's line, field by field.
--- Assumes nothing.
 use mathlib.Core.Path.{_≡_, refl, ap, _∙_}
 use mathlib.Core.List.{List, [], _∷_, _++_}
 use Prim.Native.Nat.{ℕ, zero, suc, _+_, _*_, _/_, _%_, _^_, _<_}
@@ -12,8 +11,17 @@ use Rattle.jobs.specs.declared.Step.{Step}
 use Rattle.text.proofs.DigitLaws.{by-test}
 use Rattle.text.specs.Text.{space}
 use Rattle.job_text.specs.Text.{digits, field, opWord, Fits, stepText}
-use Rattle.job_text.specs.Scan.{firstOp, opFor, wordStep, digitValue, firstStep, moreStep, step, oneMore}
-use Rattle.job_text.specs.Scan.{reading, feedNext, feed, fed}
+use Rattle.job_text.specs.internal.Scan.{
+  firstOp,
+  opFor,
+  wordStep,
+  digitValue,
+  firstStep,
+  moreStep,
+  scanByte,
+  oneMore,
+}
+use Rattle.job_text.specs.internal.Scan.{asReading, feedNext, feed, fed}
 use Rattle.job_text.specs.declared.scan.Field.{Field}
 use Rattle.job_text.specs.declared.scan.Field.the-variants.{A, B, Value}
 use Rattle.job_text.specs.declared.scan.Place.{Place}
@@ -29,19 +37,19 @@ scanAt n c p op a b v = record { place = p; n = n; op = op; a = a; b = b; number
 
 module _ (S : List Step) (n c : ℕ) where
   abbrev pub readingAt : Place → Op → ℕ → ℕ → ℕ → Reading
-  readingAt p op a b v = reading (scanAt n c p op a b v) S
+  readingAt p op a b v = asReading (scanAt n c p op a b v) S
 
   -- a digit of a field
   module _ (f : Field) (op : Op) (a b : ℕ) where
     first-read : (v d : ℕ) → d < 10 → feed (readingAt (First f) op a b v) (48 + d) ≡ readingAt (More f) op a b d
-    unfolding step firstStep
+    unfolding scanByte firstStep
     first-read v d small =
         feed-keeps (readingAt (First f) op a b v) (48 + d) (scanAt n c (More f) op a b d)
         (simp (value-digit d small, lt-ltb d 10 small)) refl
 
     more-read : (v d : ℕ) → 0 < v → v < 100 → d < 10
         → feed (readingAt (More f) op a b v) (48 + d) ≡ readingAt (More f) op a b (v * 10 + d)
-    unfolding step moreStep
+    unfolding scanByte moreStep
     more-read v d some small one =
         feed-keeps (readingAt (More f) op a b v) (48 + d) (scanAt n c (More f) op a b (v * 10 + d))
         (simp (value-digit d one, lt-ltb d 10 one, lt-ltb 0 v some, lt-ltb v 100 small)) refl
@@ -75,7 +83,7 @@ module _ (S : List Step) (n c : ℕ) where
   -- an operation and the space after it
   op-read : (op o : Op) (a b v : ℕ)
       → fed (readingAt (Word 0) o a b v) (opWord op ++ space) ≡ readingAt (First A) op a b v
-  unfolding opWord ran step wordStep opFor firstOp
+  unfolding opWord ran scanByte wordStep opFor firstOp
   op-read Gate o a b v =
       quiet-fed (opWord Gate ++ space) (scanAt n c (Word 0) o a b v) S
       (refl, (refl, (refl, (refl, (refl, tt)))))
@@ -92,17 +100,17 @@ module _ (S : List Step) (n c : ℕ) where
       (refl, (refl, (refl, (refl, (refl, (refl, tt))))))
 
   a-ends : (op : Op) (a b v : ℕ) → feed (readingAt (More A) op a b v) 32 ≡ readingAt (First B) op v b v
-  unfolding step moreStep digitValue
+  unfolding scanByte moreStep digitValue
   a-ends op a b v = feed-keeps (readingAt (More A) op a b v) 32 (scanAt n c (First B) op v b v) refl refl
 
   b-ends : (op : Op) (a b v : ℕ) → feed (readingAt (More B) op a b v) 32 ≡ readingAt (First Value) op a v v
-  unfolding step moreStep digitValue
+  unfolding scanByte moreStep digitValue
   b-ends op a b v = feed-keeps (readingAt (More B) op a b v) 32 (scanAt n c (First Value) op a v v) refl refl
 
   line-ends : (op : Op) (a b v : ℕ)
       → feed (readingAt (More Value) op a b v) 10
       ≡ feedNext (readingAt (More Value) op a b v) (scanAt n (oneMore c) (Word 0) op a b v)
-  unfolding feed step moreStep digitValue
+  unfolding feed scanByte moreStep digitValue
   line-ends op a b v = refl
 
   -- the reading after a whole line

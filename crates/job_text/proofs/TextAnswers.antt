@@ -1,5 +1,4 @@
 -- The answer to a text that was scanned, by the verdict on the scan; and each text has one answer.
--- Assumes nothing.
 use mathlib.Core.Bool.{Bool, cond, false, not, true, true≢false}
 use mathlib.Core.List.{List, []}
 use mathlib.Core.Path.{_∙_, _≡_, ap, ap₂, refl, subst, sym}
@@ -13,9 +12,10 @@ use Rattle.buffers.proofs.Lines.{first-below, not-held}
 use Rattle.buffers.specs.Refusals.{badCount, firstFitting}
 use Rattle.text.specs.Text.{refusedText}
 use Rattle.words.proofs.Flags.{neither}
-use Rattle.job_text.specs.Answer.{Answers, answered, printed}
-use Rattle.job_text.specs.Lines.{TextNumber, jobLines, textLines}
-use Rattle.job_text.specs.Scan.{Judged, atLine, empty, fed, verdict}
+use Rattle.job_text.specs.Answer.{Answers, runText, answerText}
+use Rattle.job_text.specs.internal.Lines.{TextNumber, textLines}
+use Rattle.job_text.specs.Lines.{jobLines}
+use Rattle.job_text.specs.internal.Scan.{Judged, atLine, empty, fed, verdict}
 use Rattle.job_text.specs.Text.{HasJobForm}
 use Rattle.job_text.specs.declared.scan.Reading.{Reading}
 use Rattle.job_text.specs.declared.scan.Scan.{Scan}
@@ -48,26 +48,26 @@ module _ (t : List ℕ) (w : Reading) (scanned : w ≡ fed empty t) where
 
   -- a refused text
   pub refused-answers : (verdict (w .scan) ≡ 0 → ⊥) → Answers t (refusedText (verdict (w .scan)))
-  unfolding printed
+  unfolding answerText
   refused-answers h =
       record {
         malformed = λ none. ap refusedText (number .malformed none);
         formed = λ n steps T. let e = number .formed n steps T in
-            ap refusedText e ∙ sym (ap (λ b. cond b (answered n steps) (refusedText (firstFitting
+            ap refusedText e ∙ sym (ap (λ b. cond b (runText n steps) (refusedText (firstFitting
             (jobLines n (length steps))))) (ne-eqb (firstFitting (jobLines n (length steps))) 0 (λ z. h (e ∙ z))));
       }
 
   -- an accepted one
   pub accepted-answers : verdict (w .scan) ≡ 0
-      → Answers t (answered (w .scan .n) (take (w .scan .count) (w .steps)))
-  unfolding printed
+      → Answers t (runText (w .scan .n) (take (w .scan .count) (w .steps)))
+  unfolding answerText
   accepted-answers z =
       record {
         malformed = λ none. absurd (differ (sym z ∙ number .malformed none));
         formed = λ n steps T. let e = sym (number .formed n steps T) ∙ z in
-            ap₂ answered (judged .job n steps T .qubits)
+            ap₂ runText (judged .job n steps T .qubits)
             (steps-few n steps w (judged .job n steps T) (lines-pass n (length steps) e .1))
-            ∙ sym (ap (λ b. cond b (answered n steps) (refusedText (firstFitting (jobLines n (length steps)))))
+            ∙ sym (ap (λ b. cond b (runText n steps) (refusedText (firstFitting (jobLines n (length steps)))))
             (eq-eqb (firstFitting (jobLines n (length steps))) 0 e));
       }
     where

@@ -1,8 +1,7 @@
 -- A text is the text of one job only.
--- Assumes nothing.
 use mathlib.Core.Path.{_≡_, refl, sym, ap, ap₂, _∙_}
 use mathlib.Core.List.{List, [], _∷_, _++_, append-assoc}
-use Prim.Native.Nat.{ℕ, _+_, _<_}
+use Prim.Native.Nat.{ℕ, _<_}
 use native.Mathlib.Omega.{arith}
 use lib.Dec.{lit<}
 use lib.ListN.{length, getD, drop, length-append}
@@ -13,7 +12,7 @@ use Rattle.text.proofs.DigitLaws.{readDecimal}
 use Rattle.text.specs.Text.{space, newline}
 use Rattle.job_text.specs.Text.{field, opWord, Fits, AllFit, stepText, stepsText, qubitsLine, stepNames}
 use Rattle.job_text.specs.Text.{jobHead, jobText, JobTextOf}
-use Rattle.job_text.specs.Scan.{firstOp, opFor}
+use Rattle.job_text.specs.internal.Scan.{firstOp, opFor}
 use Rattle.job_text.proofs.Digits.{digits-back}
 use Rattle.job_text.proofs.OpLaws.{op-without}
 use Rattle.job_text.proofs.Separators.{parts-at, digits-without}

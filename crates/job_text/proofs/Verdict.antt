@@ -1,6 +1,5 @@
 -- The scan of a text, fed in blocks of any size: it says whether the text has the form, and then n and the steps of
 -- its job are kept.
--- Assumes nothing.
 use mathlib.Core.Path.{_≡_, refl, sym, ap, _∙_, subst}
 use mathlib.Core.Bool.{Bool, true, false, _&&_, cond, false≢true}
 use mathlib.Core.List.{List, [], _∷_, _++_, flatten, append-assoc, append-nil}
@@ -12,8 +11,18 @@ use Rattle.jobs.specs.declared.Op.{Op}
 use Rattle.jobs.specs.declared.Step.{Step}
 use Rattle.text.specs.Text.{space}
 use Rattle.job_text.specs.Text.{AllFit, opWord, jobText, HasJobForm}
-use Rattle.job_text.specs.Scan.{step, begin, reading, stored, feedNext, feed, fed, fedBlocks, atLine}
-use Rattle.job_text.specs.Scan.{Kept, Judged, noStep, empty}
+use Rattle.job_text.specs.internal.Scan.{
+  scanByte,
+  begin,
+  asReading,
+  stored,
+  feedNext,
+  feed,
+  fed,
+  fedBlocks,
+  atLine,
+}
+use Rattle.job_text.specs.internal.Scan.{StepsKept, Judged, noStep, empty}
 use Rattle.job_text.specs.declared.scan.Place.{Place}
 use Rattle.job_text.specs.declared.scan.Place.the-variants.{Head, Word, First, More, Broken}
 use Rattle.job_text.specs.declared.scan.Reading.{Reading}
@@ -27,16 +36,16 @@ use Rattle.job_text.proofs.Sofar.{AtWord, Sofar}
 scan-next : (w : Reading) (next : Scan) → feedNext w next .scan ≡ next
 scan-next w next = go (ltb (w .scan .count) (next .count) && ltb (w .scan .count) 4096)
   where
-    go : (t : Bool) → cond t (stored w next) (reading next (w .steps)) .scan ≡ next
+    go : (t : Bool) → cond t (stored w next) (asReading next (w .steps)) .scan ≡ next
     go true = refl
     go false = refl
 
 fed-sound : (u t : List ℕ) (w : Reading) → Sofar (w .scan .place) (w .scan) t
     → Sofar (fed w u .scan .place) (fed w u .scan) (t ++ u)
-unfolding fed feed step
+unfolding fed feed scanByte
 fed-sound [] t w sofar = subst (Sofar (w .scan .place) (w .scan)) (sym (append-nil t)) sofar
 fed-sound (b ∷ u) t w sofar =
-    let next = step (w .scan) b in
+    let next = scanByte (w .scan) b in
     let after = step-sound (w .scan) t b (w .scan .place) refl sofar in
     subst (Sofar (fed w (b ∷ u) .scan .place) (fed w (b ∷ u) .scan)) (append-assoc t (b ∷ []) u)
     (fed-sound u (t ++ b ∷ []) (feed w b)
@@ -64,27 +73,27 @@ ends-sound (More f) s t sofar e = absurd (false≢true e)
 ends-sound Broken s t sofar e = absurd (false≢true e)
 
 module _ (S : List Step) (whole : length S ≡ 4096) where
-  pub text-judged : (t : List ℕ) → Judged t (fed (reading begin S) t)
+  pub text-judged : (t : List ℕ) → Judged t (fed (asReading begin S) t)
   unfolding begin
   text-judged t =
-      let w = fed (reading begin S) t in
+      let w = fed (asReading begin S) t in
       record {
         form = (
           ends-sound (w .scan .place) (w .scan) t
-              (fed-sound t [] (reading begin S) (record { inside = lit< tt; few = lit< tt; text = refl })),
+              (fed-sound t [] (asReading begin S) (record { inside = lit< tt; few = lit< tt; text = refl })),
           λ has. ap atLine (text-read S whole (has .0) (has .1) t (has .2) .place),
         );
         job = λ n steps text. text-read S whole n steps t text .kept;
       }
 
   -- the text in blocks of any size, as `scan_block` is fed with them
-  pub blocks-judged : (blocks : List (List ℕ)) → Judged (flatten blocks) (fedBlocks (reading begin S) blocks)
+  pub blocks-judged : (blocks : List (List ℕ)) → Judged (flatten blocks) (fedBlocks (asReading begin S) blocks)
   blocks-judged blocks =
-      subst (Judged (flatten blocks)) (sym (blocks-fed (reading begin S) blocks)) (text-judged (flatten blocks))
+      subst (Judged (flatten blocks)) (sym (blocks-fed (asReading begin S) blocks)) (text-judged (flatten blocks))
 
   -- a written job reads back as its n and its steps
   pub read-back : (n : ℕ) (steps : List Step) → n < 1000 → AllFit steps
-      → Kept n steps (fed (reading begin S) (jobText n steps))
+      → StepsKept n steps (fed (asReading begin S) (jobText n steps))
   read-back n steps few fit =
       text-judged (jobText n steps) .job n steps (record { few = few; fit = fit; text = refl })
 

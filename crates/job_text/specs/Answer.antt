@@ -1,6 +1,5 @@
 -- The answer to the text of a job: what each step answers and the record after the last, or the one line `refused` and
 -- the number.
--- Assumes nothing.
 use mathlib.Core.Bool.{cond}
 use mathlib.Core.List.{List}
 use mathlib.Core.Path.{_≡_}
@@ -8,7 +7,7 @@ use Prim.Native.Nat.{ℕ}
 use lib.Dec.{eqb}
 use lib.ListN.{getD, length}
 use Rattle.buffers.specs.Refusals.{firstFitting}
-use Rattle.jobs.specs.Runs.{answers, run, started}
+use Rattle.jobs.specs.Runs.{stepAnswers, run, started}
 use Rattle.jobs.specs.declared.Answer.{Answer}
 use Rattle.jobs.specs.declared.Step.{Step}
 use Rattle.record.specs.Lent.{LentRecord}
@@ -17,32 +16,34 @@ use Rattle.job_text.specs.Lines.{jobLines}
 use Rattle.job_text.specs.Results.{Result, jobAnswer}
 use Rattle.job_text.specs.Text.{HasJobForm, JobTextOf}
 
--- what is printed of step k of a run
+-- the answer of no step
 abbrev pub noAnswer : Answer
 noAnswer = record { refusal = 0; outcome = 0; determined = 0 }
 
+-- what is printed of an answer
 abbrev pub resultOf : Answer → Result
 resultOf r = record { refusal = r .refusal; outcome = r .outcome; determined = r .determined }
 
+-- what is printed of step k of a run from the record l
 abbrev pub resultsOf : LentRecord → List Step → ℕ → Result
-resultsOf l steps k = resultOf (getD (answers l steps) k noAnswer)
+resultsOf l steps k = resultOf (getD (stepAnswers l steps) k noAnswer)
 
 -- "one line per step with steps counted from 0, and then the record": the answer to an accepted job
-abbrev pub answered : ℕ → List Step → List ℕ
-answered n steps =
+abbrev pub runText : ℕ → List Step → List ℕ
+runText n steps =
     jobAnswer (length steps) (resultsOf (started n) steps) n
     ((run (started n) steps) .neighbours) ((run (started n) steps) .codes)
 
 -- the answer to a text of a job: 15 and 2 are checked "before any step runs"
-unfoldable pub printed : ℕ → List Step → List ℕ
-printed n steps =
-    cond (eqb (firstFitting (jobLines n (length steps))) 0) (answered n steps)
+unfoldable pub answerText : ℕ → List Step → List ℕ
+answerText n steps =
+    cond (eqb (firstFitting (jobLines n (length steps))) 0) (runText n steps)
     (refusedText (firstFitting (jobLines n (length steps))))
 
 -- these bytes answer the text t. 1: "The program's text does not have its form"
 pub record Answers (t bytes : List ℕ) : Type 0 where
   pub malformed : (HasJobForm t → ⊥) → bytes ≡ refusedText 1
-  pub formed : (n : ℕ) (steps : List Step) → JobTextOf n steps t → bytes ≡ printed n steps
+  pub formed : (n : ℕ) (steps : List Step) → JobTextOf n steps t → bytes ≡ answerText n steps
 
 -- the answer to the text t was printed
 pub record ResponseTo (t before after : List ℕ) (r : ℕ) : Type 0 where

@@ -2,4 +2,4 @@ pub mod Text
 pub mod Lines
 pub mod Results
 pub mod Answer
-pub mod Scan
+pub mod internal

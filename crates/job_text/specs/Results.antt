@@ -1,5 +1,4 @@
 -- The text that answers a job: a line for each step, and the record after the last.
--- Assumes nothing.
 use mathlib.Core.List.{List, [], _∷_, _++_}
 use Prim.Native.Nat.{ℕ, zero, suc}
 use Rattle.text.specs.Text.{decimal, space, newline, recordText}

@@ -1,5 +1,4 @@
 -- The text of a job, as a list of bytes: 10 ends a line, 32 is the space, 48 the digit 0, 97 the letter a.
--- Assumes nothing.
 use mathlib.Core.Path.{_≡_}
 use mathlib.Core.Bool.{cond}
 use mathlib.Core.List.{List, [], _∷_, _++_}
@@ -53,6 +52,7 @@ stepsText (s ∷ ss) = stepText s ++ stepsText ss
 abbrev pub qubitsLine : List ℕ
 qubitsLine = 113 ∷ 117 ∷ 98 ∷ 105 ∷ 116 ∷ 115 ∷ 10 ∷ []
 
+-- "then the line `op a b value`"
 abbrev pub stepNames : List ℕ
 stepNames = 111 ∷ 112 ∷ 32 ∷ 97 ∷ 32 ∷ 98 ∷ 32 ∷ 118 ∷ 97 ∷ 108 ∷ 117 ∷ 101 ∷ 10 ∷ []
 

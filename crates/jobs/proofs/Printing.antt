@@ -1,5 +1,4 @@
 -- What the print of a run needs: every record of it has n places and codes below 24, and each answer has small numbers.
--- Assumes nothing.
 use mathlib.Core.Bool.{Bool, cond, false, true}
 use mathlib.Core.List.{List, [], _∷_}
 use mathlib.Core.Path.{_∙_, _≡_, refl, subst, sym}

@@ -1,5 +1,4 @@
 -- Runs step by step: the record after one step more, and the answer of each step.
--- Assumes nothing.
 use mathlib.Core.Bool.{Bool, cond, false, true}
 use mathlib.Core.List.{List, [], _∷_}
 use mathlib.Core.Path.{_∙_, _≡_, ap, refl}
@@ -11,7 +10,7 @@ use lib.ListN.{getD, length, take}
 use Rattle.operations.specs.Steps.{leaves}
 use Rattle.record.specs.Lent.{LentRecord}
 use Rattle.jobs.specs.Asked.{asked, numberOf}
-use Rattle.jobs.specs.Runs.{afterStep, answerOf, answers, run}
+use Rattle.jobs.specs.Runs.{afterStep, answerOf, stepAnswers, run}
 use Rattle.jobs.specs.declared.Answer.{Answer}
 use Rattle.jobs.specs.declared.Step.{Step}
 
@@ -34,8 +33,8 @@ run-next l steps k other h = ap (λ m. run l (take m steps)) (add-one k) ∙ nex
 
 -- the answer of step k is that on the record after the first k steps
 pub answer-at : (l : LentRecord) (steps : List Step) (k : ℕ) (other : Step) (none : Answer) → k < length steps
-    → getD (answers l steps) k none ≡ answerOf (run l (take k steps)) (getD steps k other)
-unfolding run answers
+    → getD (stepAnswers l steps) k none ≡ answerOf (run l (take k steps)) (getD steps k other)
+unfolding run stepAnswers
 answer-at l [] k other none h = absurd (not-suc-le-zero h)
 answer-at l (s ∷ rest) zero other none h = refl
 answer-at l (s ∷ rest) (suc k) other none h = answer-at (afterStep l s) rest k other none (le-of-suc-le-suc h)

@@ -1,5 +1,4 @@
 -- Line 6 of a step by its fields alone.
--- Assumes nothing.
 use mathlib.Core.Bool.{Bool, false, not, or-true, true, _||_}
 use mathlib.Core.Logic.{⊎-elim}
 use mathlib.Core.Path.{_∙_, _≡_, ap, ap₂, sym}
@@ -10,7 +9,8 @@ use lib.ListN.{drop}
 use borrow.Author.Tests.{le-leb, lt-leb, ne-eqb}
 use Rattle.buffers.specs.Refusals.{firstFitting}
 use Rattle.jobs.proofs.Numbers.{with-six}
-use Rattle.jobs.specs.Asked.{operation, unusedSet, withTest, wrongValue}
+use Rattle.jobs.specs.Asked.{operationOf, unusedSet, withTest}
+use Rattle.jobs.specs.internal.Asked.{wrongValue}
 use Rattle.jobs.specs.declared.Op.{Op}
 use Rattle.jobs.specs.declared.Op.the-variants.{Complement, Cz, Gate, Measure, Pivot}
 use Rattle.operations.specs.Steps.{complementLines, czLines, gateLines, linesOf, measureLines, pivotLines}
@@ -32,7 +32,7 @@ swapped false b e = ap (λ v. v || false) e
 
 -- the lines of the record decide, and then 6
 pub fields-refuse : (l : LentRecord) (op : Op) (a b v : ℕ) → (unusedSet op b v || wrongValue op v) ≡ true
-    → firstFitting (withTest 6 (unusedSet op b v) (linesOf l (operation op a b v)))
+    → firstFitting (withTest 6 (unusedSet op b v) (linesOf l (operationOf op a b v)))
     ≡ firstFitting (recordLines l false true)
 fields-refuse l Gate a b v e =
     with-six l (leb 24 v) (not (eqb b 0)) (drop 5 (gateLines l a v)) (swapped (not (eqb b 0)) (leb 24 v) e)

@@ -1,10 +1,9 @@
 -- What a step of a job asks: its operation, the fields that it does not use, and its lines in checking order.
--- Assumes nothing.
-use mathlib.Core.Bool.{_&&_, Bool, false, not, _||_}
+use mathlib.Core.Bool.{_&&_, Bool, not, _||_}
 use mathlib.Core.List.{List, [], _∷_}
 use Prim.Native.Nat.{_%_, _+_, _/_, ℕ}
-use lib.Dec.{eqb, leb}
-use Rattle.buffers.specs.Refusals.{Line, firstFitting, line}
+use lib.Dec.{eqb}
+use Rattle.buffers.specs.Refusals.{Refusal, firstFitting, line}
 use Rattle.operations.specs.Steps.{
   Operation,
   argumentLines,
@@ -26,15 +25,16 @@ use Rattle.jobs.specs.declared.Step.{Step}
 
 -- "The op is gate, cz, measure, complement or pivot; a and b are qubits; value is a code, or for measure
 -- 2 × (Pauli − 1) + outcome"
-abbrev pub operation : Op → ℕ → ℕ → ℕ → Operation
-operation Gate a b value = gateWith a value
-operation Cz a b value = czOn a b
-operation Measure a b value = measurementOf (value / 2 + 1) a (value % 2)
-operation Complement a b value = complementOf a
-operation Pivot a b value = pivotOf a b
+abbrev pub operationOf : Op → ℕ → ℕ → ℕ → Operation
+operationOf Gate a b value = gateWith a value
+operationOf Cz a b value = czOn a b
+operationOf Measure a b value = measurementOf (value / 2 + 1) a (value % 2)
+operationOf Complement a b value = complementOf a
+operationOf Pivot a b value = pivotOf a b
 
+-- what a step asks
 abbrev pub asked : Step → Operation
-asked s = operation (s .op) (s .a) (s .b) (s .value)
+asked s = operationOf (s .op) (s .a) (s .b) (s .value)
 
 -- some field that the operation does not use is not 0
 abbrev pub unusedSet : Op → ℕ → ℕ → Bool
@@ -44,17 +44,9 @@ unusedSet Measure b value = not (eqb b 0)
 unusedSet Complement b value = not (eqb b 0) || not (eqb value 0)
 unusedSet Pivot b value = not (eqb value 0)
 
--- the value is no code, or for a measurement no Pauli and outcome: line 6 of its call
-abbrev pub wrongValue : Op → ℕ → Bool
-wrongValue Gate value = leb 24 value
-wrongValue Cz value = false
-wrongValue Measure value = leb 6 value
-wrongValue Complement value = false
-wrongValue Pivot value = false
-
 -- ---- lines
 -- those of an operation's arguments: they read n, and for a pivot the edges; a measurement has 14 after these
-abbrev pub argumentsOf : LentRecord → Operation → List Line
+abbrev pub argumentsOf : LentRecord → Operation → List Refusal
 argumentsOf l (gateWith q k) = gateLines l q k
 argumentsOf l (czOn a b) = czLines l a b
 argumentsOf l (measurementOf pauli q b) = argumentLines l pauli q b
@@ -62,7 +54,7 @@ argumentsOf l (complementOf a) = complementLines l a
 argumentsOf l (pivotOf j k) = pivotLines l j k
 
 -- lines with a further test joined into the one with number k
-abbrev pub withTest : ℕ → Bool → List Line → List Line
+abbrev pub withTest : ℕ → Bool → List Refusal → List Refusal
 withTest k b [] = []
 withTest k b (l ∷ ls) = line (l .number) (l .holds || (eqb (l .number) k && b)) ∷ withTest k b ls
 

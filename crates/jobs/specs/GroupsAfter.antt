@@ -1,6 +1,5 @@
 -- The group after the steps of a job, as the definitions give it on groups. A group is given by its elements; the
 -- record beside it tells n, and the edges by which a pivot is refused.
--- Assumes nothing.
 use mathlib.Core.Bool.{Bool, false, not, true}
 use mathlib.Core.List.{List, [], _∷_}
 use mathlib.Core.Logic.{_⊎_}
@@ -35,17 +34,17 @@ abbrev pub Sent : (Pauli → Pauli) → Group → Group
 Sent f G p = (r : Pauli) × G r × (p ≡ f r)
 
 -- "the Pauli or its negative is in the group"
-abbrev pub IsDetermined : Group → Letter → ℕ → Type 0
-IsDetermined G l q = G (single l q false) ⊎ G (single l q true)
+abbrev pub GroupDetermines : Group → Letter → ℕ → Type 0
+GroupDetermines G l q = G (single l q false) ⊎ G (single l q true)
 
 -- the group after a measurement with the outcome b (true means minus)
 pub data AfterMeasurement (n : ℕ) (G : Pauli → Type 0) (l : Letter) (q : ℕ) (b : Bool) : Pauli → Type 0 where
   -- "the answer says determined .. and keeps the group"
-  same : {p : Pauli} → IsDetermined G l q → G p → AfterMeasurement n G l q b p
+  same : {p : Pauli} → GroupDetermines G l q → G p → AfterMeasurement n G l q b p
   -- otherwise "the elements that commute with the Pauli, joined by the Pauli with that sign"
-  kept : {p : Pauli} → (IsDetermined G l q → ⊥) → G p → anticommute n p (single l q b) ≡ false →
+  kept : {p : Pauli} → (GroupDetermines G l q → ⊥) → G p → anticommute n p (single l q b) ≡ false →
       AfterMeasurement n G l q b p
-  joined : {p : Pauli} → (IsDetermined G l q → ⊥) → G p → anticommute n p (single l q b) ≡ false →
+  joined : {p : Pauli} → (GroupDetermines G l q → ⊥) → G p → anticommute n p (single l q b) ≡ false →
       AfterMeasurement n G l q b (mul n p (single l q b))
 
 -- "A gate applies a code"; "CZ on a and b"; complements and pivots keep the group
@@ -58,26 +57,27 @@ AfterOperation n G (pivotOf j k) = G
 
 -- ---- which steps are refused
 -- "a determined outcome contradicts the supplied bit": the Pauli with the other sign is in the group
-abbrev pub Impossible : Group → Operation → Type 0
-Impossible G (gateWith q k) = ⊥
-Impossible G (czOn a b) = ⊥
-Impossible G (measurementOf pauli q b) = G (single (pauliLetter pauli) q (not (isOdd b)))
-Impossible G (complementOf a) = ⊥
-Impossible G (pivotOf j k) = ⊥
+abbrev pub IsContradicted : Group → Operation → Type 0
+IsContradicted G (gateWith q k) = ⊥
+IsContradicted G (czOn a b) = ⊥
+IsContradicted G (measurementOf pauli q b) = G (single (pauliLetter pauli) q (not (isOdd b)))
+IsContradicted G (complementOf a) = ⊥
+IsContradicted G (pivotOf j k) = ⊥
 
+-- a step is refused: by its fields, which give 6 or 8, or by the group, which gives 14
 pub data Refused (l : LentRecord) (G : Pauli → Type 0) (s : Step) : Type 0 where
   -- 6 and 8
   by-fields : (firstFitting (withTest 6 (unusedSet (s .op) (s .b) (s .value)) (argumentsOf l (asked s))) ≡ 0 → ⊥) →
       Refused l G s
   -- 14
-  by-group : Impossible G (asked s) → Refused l G s
+  by-group : IsContradicted G (asked s) → Refused l G s
 
 -- ---- the group after a step, "refused steps counting as no change"
-pub data AfterStep (l : LentRecord) (G : Pauli → Type 0) (s : Step) : Pauli → Type 0 where
-  unchanged : {p : Pauli} → Refused l G s → G p → AfterStep l G s p
-  changed : {p : Pauli} → (Refused l G s → ⊥) → AfterOperation (l .n) G (asked s) p → AfterStep l G s p
+pub data GroupAfterStep (l : LentRecord) (G : Pauli → Type 0) (s : Step) : Pauli → Type 0 where
+  not-run : {p : Pauli} → Refused l G s → G p → GroupAfterStep l G s p
+  changed : {p : Pauli} → (Refused l G s → ⊥) → AfterOperation (l .n) G (asked s) p → GroupAfterStep l G s p
 
 -- and after one step after the other
 abbrev pub GroupAfter : LentRecord → Group → List Step → Group
 GroupAfter l G [] = G
-GroupAfter l G (s ∷ rest) = GroupAfter (afterStep l s) (AfterStep l G s) rest
+GroupAfter l G (s ∷ rest) = GroupAfter (afterStep l s) (GroupAfterStep l G s) rest

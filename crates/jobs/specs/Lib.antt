@@ -1,4 +1,4 @@
 pub mod Asked
 pub mod Runs
 pub mod GroupsAfter
-pub mod JobTable
+pub mod internal

@@ -1,5 +1,4 @@
 -- Runs of a job: the record that it starts from, the record after each step, and what each step answers.
--- Assumes nothing.
 use mathlib.Core.Bool.{cond}
 use mathlib.Core.List.{List, [], _∷_}
 use Prim.Native.Nat.{ℕ}
@@ -48,6 +47,7 @@ outcomeOf l (measurementOf pauli q b) = outcomeNumber (measuredAnswer l pauli q 
 outcomeOf l (complementOf a) = 0
 outcomeOf l (pivotOf j k) = 0
 
+-- 1 where the outcome is determined
 abbrev pub determinedOf : LentRecord → Operation → ℕ
 determinedOf l (gateWith q k) = 0
 determinedOf l (czOn a b) = 0
@@ -65,6 +65,6 @@ answerOf l s =
     }
 
 -- of each step
-unfoldable pub answers : LentRecord → List Step → List Answer
-answers l [] = []
-answers l (s ∷ rest) = answerOf l s ∷ answers (afterStep l s) rest
+unfoldable pub stepAnswers : LentRecord → List Step → List Answer
+stepAnswers l [] = []
+stepAnswers l (s ∷ rest) = answerOf l s ∷ stepAnswers (afterStep l s) rest

@@ -1,6 +1,7 @@
 // Jobs: sessions written as steps, each with its operation, its qubits and a value: see specs/ and proofs/.
 ghost use mathlib.Core.Path.{_≡_};
-ghost use Rattle.jobs.specs.Asked.{unusedSet, wrongValue};
+ghost use Rattle.jobs.specs.Asked.{unusedSet};
+ghost use Rattle.jobs.specs.internal.Asked.{wrongValue};
 
 pub enum Op {
     Gate,

@@ -1,5 +1,4 @@
 -- A step leaves a record that no line refuses, if it found one.
--- Assumes nothing.
 use mathlib.Core.Bool.{Bool, cond, false, true}
 use mathlib.Core.List.{List}
 use mathlib.Core.Path.{_∙_, _≡_, ap, refl, subst, sym}
@@ -23,7 +22,7 @@ use Rattle.operations.proofs.Rewriting.{pivot-simple}
 use Rattle.operations.proofs.UnrefusedRecords.{complement-above, unrefused-above, unrefused-simple}
 use Rattle.operations.specs.Cz.{czRows}
 use Rattle.operations.specs.Gates.{gated}
-use Rattle.operations.specs.InPlace.{Unrefused, recordIn}
+use Rattle.operations.specs.internal.InPlace.{Unrefused, recordIn}
 use Rattle.operations.specs.Measurement.{measuredRows, pauliLetter}
 use Rattle.operations.specs.Steps.{
   Operation,
@@ -45,11 +44,11 @@ use Rattle.record.specs.Lent.{LentRecord, codeNumbers, heldRecord, heldRows, ne
 use Rattle.record.specs.Records.{GraphRecord, complementRecord, rowsOf}
 use Rattle.call_gates.proofs.InPlaceLines.{complement-ready, cz-ready, eight-passes, measure-ready}
 use Rattle.call_gates.proofs.MeasureLines.{measure-passes}
-use Rattle.call_gates.specs.Knowing.{Known}
+use Rattle.call_gates.specs.internal.Knowing.{Known}
 use Rattle.stabilizer.specs.Groups.{Proper}
 use Rattle.words.proofs.Flags.{neither}
 use Rattle.words.specs.Bits.{isOdd}
-use Rattle.jobs_run.specs.StepRuns.{StepRun}
+use Rattle.jobs_run.specs.internal.StepRuns.{StepRun}
 
 -- ---- the record that an accepted operation makes
 module _ (words codes : List ℕ) (U : Unrefused (recordIn words codes)) where

@@ -1,5 +1,4 @@
 -- The run of a step, from what the calls answer.
--- Assumes nothing.
 use mathlib.Core.Bool.{Bool, cond, false, true, _||_}
 use mathlib.Core.List.{List, [], _∷_}
 use mathlib.Core.Path.{_∙_, _≡_, ap, ap₂, refl, subst, sym}
@@ -17,7 +16,8 @@ use Rattle.jobs.proofs.Numbers.{
   refused-keeps,
   six-refuses,
 }
-use Rattle.jobs.specs.Asked.{asked, numberOf, operation, unusedSet, wrongValue}
+use Rattle.jobs.specs.Asked.{asked, numberOf, operationOf, unusedSet}
+use Rattle.jobs.specs.internal.Asked.{wrongValue}
 use Rattle.jobs.specs.Runs.{afterStep, answerOf, determinedOf, outcomeOf}
 use Rattle.jobs.specs.declared.Answer.{Answer}
 use Rattle.jobs.specs.declared.Op.{Op}
@@ -29,7 +29,7 @@ use Rattle.call_gates.proofs.InPlaceCalls.{left-by-call}
 use Rattle.call_gates.specs.InPlaceCalls.{inPlaceCall, measureCall}
 use Rattle.words.proofs.Flags.{neither}
 use Rattle.jobs.proofs.WrongFields.{fields-refuse}
-use Rattle.jobs_run.specs.StepRuns.{Rewriting, StepRun}
+use Rattle.jobs_run.specs.internal.StepRuns.{Rewriting, StepRun}
 
 abbrev answer : ℕ → ℕ → ℕ → Answer
 answer k o d = record { refusal = k; outcome = o; determined = d }
@@ -40,12 +40,12 @@ Others op = OneOf (0 ∷ 1 ∷ 3 ∷ 4 ∷ []) (tagOf the-type op)
 
 -- the calls without outcome: the operation is known
 pub by-operation : (l : LentRecord) {op known : Op} (a b v : ℕ) {k : ℕ} {nb cs : List ℕ} → op ≡ known
-    → Call (inPlaceCall l (operation known a b v) nb cs) k → Call (inPlaceCall l (operation op a b v) nb cs) k
-by-operation l a b v {k} {nb} {cs} e C = subst (λ o. Call (inPlaceCall l (operation o a b v) nb cs) k) (sym e) C
+    → Call (inPlaceCall l (operationOf known a b v) nb cs) k → Call (inPlaceCall l (operationOf op a b v) nb cs) k
+by-operation l a b v {k} {nb} {cs} e C = subst (λ o. Call (inPlaceCall l (operationOf o a b v) nb cs) k) (sym e) C
 
 -- an operation that is no measurement has no outcome
 plain-outcome : (l : LentRecord) (op : Op) (a b v : ℕ) → (op ≡ Measure → ⊥)
-    → (outcomeOf l (operation op a b v) ≡ 0) × (determinedOf l (operation op a b v) ≡ 0)
+    → (outcomeOf l (operationOf op a b v) ≡ 0) × (determinedOf l (operationOf op a b v) ≡ 0)
 plain-outcome l Gate a b v h = (refl, refl)
 plain-outcome l Cz a b v h = (refl, refl)
 plain-outcome l Measure a b v h = absurd (h refl)
@@ -145,7 +145,7 @@ module _ (l : LentRecord) (s : Step) where
         → StepRun l s r nb cs
     measured-run g nb cs r C = called (r .refusal) nb cs
         (by-operation l (s .a) (s .b) (s .value) g (record { number = C .number; held = C .held .1 .1 })) (r .outcome) (r .determined)
-        (C .held .0 ∙ ap (λ op. cond (eqb (r .refusal) 0) (outcomeOf l (operation op (s .a) (s .b) (s .value))) 0)
+        (C .held .0 ∙ ap (λ op. cond (eqb (r .refusal) 0) (outcomeOf l (operationOf op (s .a) (s .b) (s .value))) 0)
         (sym g))
-        (C .held .1 .0 ∙ ap (λ op. cond (eqb (r .refusal) 0) (determinedOf l (operation op (s .a) (s .b) (s .value))) 0)
+        (C .held .1 .0 ∙ ap (λ op. cond (eqb (r .refusal) 0) (determinedOf l (operationOf op (s .a) (s .b) (s .value))) 0)
         (sym g))

@@ -1,1 +1,2 @@
-pub mod StepRuns
+pub mod StepsRun
+pub mod internal

@@ -1,4 +1,6 @@
 // Runs a step of a job on a lent record in place.
+mod sequence;
+
 use call_complement::complement_known;
 use call_complement::pivot_known;
 use call_gates::cz_known;
@@ -10,12 +12,13 @@ use jobs::Op;
 use jobs::Step;
 use jobs::unused_set;
 use jobs::wrong_value;
+pub use sequence::run_steps;
 ghost use Prim.Native.Nat.{_%_, _+_, _/_, _<_};
 ghost use Rattle.contracts.specs.Calls.{Call};
-ghost use Rattle.jobs.specs.Asked.{operation};
+ghost use Rattle.jobs.specs.Asked.{operationOf};
 ghost use Rattle.call_gates.specs.InPlaceCalls.{inPlaceCall, measureCall};
-ghost use Rattle.call_gates.specs.Knowing.{Known};
-ghost use Rattle.jobs_run.specs.StepRuns.{Rewriting, StepRun};
+ghost use Rattle.call_gates.specs.internal.Knowing.{Known};
+ghost use Rattle.jobs_run.specs.internal.StepRuns.{Rewriting, StepRun};
 
 // A measurement with the value 2 × (Pauli − 1) + outcome. A refused one answers 0 and 0.
 fn run_measurement(
@@ -70,7 +73,7 @@ fn rewrite(
     requires { ⌜ Known known (record { n = n; neighbours = now neighbours; codes = now codes }) ⌝ }
     ensures { λ r. ⌜ Call (inPlaceCall
         (record { n = n; neighbours = now (neighbours .entry); codes = now (codes .entry) })
-        (operation op a b value) (now (neighbours .exit)) (now (codes .exit))) r ⌝ }
+        (operationOf op a b value) (now (neighbours .exit)) (now (codes .exit))) r ⌝ }
 {
     match op {
         Op::Gate => gate_known(n, neighbours, codes, a, value as u8, known),

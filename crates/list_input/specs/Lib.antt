@@ -1,1 +1,1 @@
-pub mod Scanned
+pub mod internal

@@ -4,7 +4,7 @@ use text::scan::Verdict;
 use text_blocks::finish;
 use text_blocks::scan_block;
 use text_blocks::start;
-ghost use Rattle.list_input.specs.Scanned.{Scanned};
+ghost use Rattle.list_input.specs.internal.Scanned.{Scanned};
 
 // Reads standard input to its end, block after block; the first 64 lines of the list go to the buffers.
 pub fn read_list(signs: &mut [u8; 64], z: &mut [u64; 64], x: &mut [u64; 64]) -> Verdict

@@ -1,5 +1,4 @@
 -- The program's answer to a list, from what the reduction and the print promise.
--- Assumes nothing.
 use mathlib.Core.Bool.{Bool, cond, false, or-true, _||_}
 use mathlib.Core.List.{List}
 use mathlib.Core.Logic.{⊎-elim}
@@ -22,19 +21,20 @@ use Rattle.stabilizer.proofs.Accepted.{accepted-list}
 use Rattle.stabilizer.proofs.SharedTests.{length-passes}
 use Rattle.stabilizer.specs.Lists.{GeneratorList, listLines, rows}
 use Rattle.call_lists.specs.Calls.{checkLines, reduceCall, reduceLines}
-use Rattle.text.specs.Text.{Printable, recordText, refusedText}
+use Rattle.text.specs.internal.Text.{Printable}
+use Rattle.text.specs.Text.{recordText, refusedText}
 use Rattle.words.proofs.Sums.{lt-or-ge}
 use Rattle.words.specs.Bits.{wordOf}
-use Rattle.list_reply.specs.Answer.{printed}
-use Rattle.list_reply.specs.Places.{Lent}
+use Rattle.list_reply.specs.Answer.{answerText}
+use Rattle.list_reply.specs.internal.Places.{Lent}
 
 -- a list of more than 64 is refused with 2, whatever else it holds
 pub too-many : (l : GeneratorList) (others : Bool) → 64 < l .n → firstFitting (listLines l others) ≡ 2
 too-many l others h =
     fits 2 _ (ap (λ b. eqb (l .n) 0 || b) (lt-ltb 64 (l .n) h) ∙ or-true (eqb (l .n) 0))
 
-pub too-many-printed : (l : GeneratorList) → 64 < l .n → printed l ≡ refusedText 2
-unfolding printed
+pub too-many-printed : (l : GeneratorList) → 64 < l .n → answerText l ≡ refusedText 2
+unfolding answerText
 too-many-printed l h =
     ap (λ k. cond (eqb k 0) (recordText (l .n) (neighbourWords (l .n) (reduced (l .n) (rows l)))
     (codeNumbers (l .n) (reduced (l .n) (rows l)))) (refusedText k)) (too-many l false h)
@@ -69,8 +69,8 @@ module _ (l : GeneratorList) (nb cs out : List ℕ) (L : Lent (l .n) nb cs out) 
         (first-below 100 (reduceLines l nb cs) (lit< tt)
         (lit< tt, (lit< tt, (lit< tt, (lit< tt, (lit< tt, (lit< tt, tt)))))))
 
-    pub refused-printed : (number ≡ 0 → ⊥) → refusedText number ≡ printed l
-    unfolding printed
+    pub refused-printed : (number ≡ 0 → ⊥) → refusedText number ≡ answerText l
+    unfolding answerText
     refused-printed h =
         ap refusedText number-is
         ∙ sym (ap (λ b. cond b (recordText (l .n) answerWords answerCodes)
@@ -87,8 +87,8 @@ module _ (l : GeneratorList) (nb cs out : List ℕ) (L : Lent (l .n) nb cs out) 
       codes-are : cs′ ≡ answerCodes
       codes-are = written-all R z .1 .0
 
-      pub record-printed : recordText (l .n) nb′ cs′ ≡ printed l
-      unfolding printed
+      pub record-printed : recordText (l .n) nb′ cs′ ≡ answerText l
+      unfolding answerText
       record-printed =
           ap₂ (recordText (l .n)) words-are codes-are
           ∙ sym (ap (λ b. cond b (recordText (l .n) answerWords answerCodes)

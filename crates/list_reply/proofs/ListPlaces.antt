@@ -1,13 +1,13 @@
 -- A list of n in buffers of 64 places: it stands in the first m, where m is n or 64.
--- Assumes nothing.
 use mathlib.Core.List.{List}
 use mathlib.Core.Path.{ap, _≡_}
 use Prim.Native.Nat.{min, ℕ, _≤_}
 use native.Mathlib.Omega.{arith}
 use lib.ListN.{length, take}
 use Rattle.buffers.proofs.Parts.{part-long}
-use Rattle.list_reply.specs.Answer.{printed}
-use Rattle.list_reply.specs.Places.{Lent, listAt, longest}
+use Rattle.list_reply.specs.Answer.{answerText}
+use Rattle.list_reply.specs.internal.Places.{Lent, listAt}
+use Rattle.list_reply.specs.Places.{longest}
 
 module _ (n m : ℕ) (e : m ≡ min n 64) where
   pub places-long : (buffer : List ℕ) → length buffer ≡ 64 → length (take m buffer) ≡ m
@@ -23,7 +23,7 @@ module _ (n m : ℕ) (e : m ≡ min n 64) where
       }
 
   pub places-printed : (signs z x : List ℕ) →
-      printed (record { n = n; signs = take m signs; z = take m z; x = take m x }) ≡ printed
+      answerText (record { n = n; signs = take m signs; z = take m z; x = take m x }) ≡ answerText
       (listAt n signs z x)
   places-printed signs z x =
-      ap (λ k. printed (record { n = n; signs = take k signs; z = take k z; x = take k x })) e
+      ap (λ k. answerText (record { n = n; signs = take k signs; z = take k z; x = take k x })) e

@@ -1,6 +1,5 @@
 -- Each text has one answer, so the program's contract fixes what is printed for the text that was read. With it
 -- the answers to the empty text and to the names alone.
--- Assumes nothing.
 use mathlib.Core.Bool.{Bool, false, true, true≢false}
 use mathlib.Core.List.{List, []}
 use mathlib.Core.Logic.{_↔_}
@@ -10,17 +9,17 @@ use native.Mathlib.Omega.{arith}
 use lib.ListN.{length, length-append, replicate}
 use Rattle.buffers.specs.Refusals.{firstFitting}
 use Rattle.text.proofs.FormLaws.{list-unique}
-use Rattle.text.specs.Scan.{Reading, begin, fed, reading, verdict}
+use Rattle.text.specs.internal.Scan.{Reading, begin, fed, asReading, verdict}
 use Rattle.text.specs.Text.{HasForm, TextOf, linesText, listNames, listText, refusedText}
 use Rattle.text.specs.declared.scan.Verdict.{Verdict}
 use Rattle.list_reply.proofs.ReadTexts.{formed-answers, malformed-answers, says-form}
-use Rattle.list_reply.specs.Answer.{Answers, listRead, printed}
-use Rattle.list_reply.specs.Places.{ScanOf}
+use Rattle.list_reply.specs.Answer.{Answers, listRead, answerText}
+use Rattle.list_reply.specs.internal.Places.{ScanOf}
 
 module _ (t : List ℕ) where
   -- the text, scanned into buffers of zeros
   abbrev whole : Reading
-  whole = fed (reading begin (replicate 64 0) (replicate 64 0) (replicate 64 0)) t
+  whole = fed (asReading begin (replicate 64 0) (replicate 64 0) (replicate 64 0)) t
 
   abbrev judgement : Verdict
   judgement = verdict (whole .scan)
@@ -58,11 +57,11 @@ empty-answer =
 
 -- "the names alone give 2"
 pub names-answer : Answers listNames (refusedText 2)
-unfolding listText linesText printed firstFitting
+unfolding listText linesText answerText firstFitting
 names-answer =
     record {
       malformed = λ h. absurd (h ([], alone));
-      formed = λ ls T. ap (λ k. printed (listRead k)) (list-unique [] ls listNames alone T);
+      formed = λ ls T. ap (λ k. answerText (listRead k)) (list-unique [] ls listNames alone T);
     }
   where
     alone : TextOf [] listNames

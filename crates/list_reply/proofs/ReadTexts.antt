@@ -1,5 +1,4 @@
 -- The answer to the text that was scanned: whatever the blocks in which it came, it is the definition's.
--- Assumes nothing.
 use mathlib.Core.Bool.{false, true, true≢false}
 use mathlib.Core.List.{List}
 use mathlib.Core.Logic.{_↔_, ⊎-elim}
@@ -10,17 +9,17 @@ use native.Mathlib.Omega.{arith}
 use lib.ListN.{length, replicate, take}
 use Rattle.text.proofs.KeptLaws.{count-few, count-many, signs-few, xs-few, zs-few}
 use Rattle.text.proofs.Verdict.{text-judged}
-use Rattle.text.specs.Scan.{Judged, Kept, Reading, reading, verdict}
-use Rattle.text.specs.Text.{HasForm, Line, Printed, refusedText}
+use Rattle.text.specs.internal.Scan.{Judged, LinesKept, Reading, asReading, verdict}
+use Rattle.text.specs.Text.{HasForm, ListLine, Printed, refusedText}
 use Rattle.text.specs.declared.scan.Verdict.{Verdict}
 use Rattle.words.proofs.Sums.{lt-or-ge}
 use Rattle.list_reply.proofs.Answering.{too-many-printed}
-use Rattle.list_reply.specs.Answer.{Answers, ResponseTo, listRead, printed}
-use Rattle.list_reply.specs.Places.{ScanOf, listAt}
+use Rattle.list_reply.specs.Answer.{Answers, ResponseTo, listRead, answerText}
+use Rattle.list_reply.specs.internal.Places.{ScanOf, listAt}
 
 module _ (t : List ℕ) (v : Verdict) (signs z x : List ℕ) (S : ScanOf t v signs z x) where
   -- the verdict and the list are those of the text
-  read-judged : Judged t (reading (S .scan) signs z x)
+  read-judged : Judged t (asReading (S .scan) signs z x)
   read-judged = subst (Judged t) (sym (S .lines))
       (text-judged (replicate 64 0) (replicate 64 0) (replicate 64 0) refl refl refl t)
 
@@ -36,35 +35,35 @@ module _ (t : List ℕ) (v : Verdict) (signs z x : List ℕ) (S : ScanOf t v sig
       }
 
   -- the list of a text with the form
-  same-answer : (ls : List Line) → Kept ls (reading (S .scan) signs z x) →
-      printed (listAt (S .scan .count) signs z x) ≡ printed (listRead ls)
+  same-answer : (ls : List ListLine) → LinesKept ls (asReading (S .scan) signs z x) →
+      answerText (listAt (S .scan .count) signs z x) ≡ answerText (listRead ls)
   same-answer ls K = ⊎-elim many few (lt-or-ge 64 (length ls))
     where
       w : Reading
-      w = reading (S .scan) signs z x
+      w = asReading (S .scan) signs z x
 
-      many : 64 < length ls → printed (listAt (S .scan .count) signs z x) ≡ printed (listRead ls)
+      many : 64 < length ls → answerText (listAt (S .scan .count) signs z x) ≡ answerText (listRead ls)
       many h =
           too-many-printed (listAt (S .scan .count) signs z x) (omega (arith, count-many ls w K h))
           ∙ sym (too-many-printed (listRead ls) h)
 
-      few : length ls ≤ 64 → printed (listAt (S .scan .count) signs z x) ≡ printed (listRead ls)
+      few : length ls ≤ 64 → answerText (listAt (S .scan .count) signs z x) ≡ answerText (listRead ls)
       few h =
           let m : min (length ls) 64 ≡ length ls = min-eq-left h in
-          ap (λ k. printed (listAt k signs z x)) (count-few ls w K h)
-          ∙ ap printed (λ i. record {
+          ap (λ k. answerText (listAt k signs z x)) (count-few ls w K h)
+          ∙ ap answerText (λ i. record {
             n = length ls;
             signs = (ap (λ k. take k signs) m ∙ signs-few ls w K h) i;
             z = (ap (λ k. take k z) m ∙ zs-few ls w K h) i;
             x = (ap (λ k. take k x) m ∙ xs-few ls w K h) i;
           })
 
-  pub formed-answers : v .«has_form» ≡ true → Answers t (printed (listAt (v .count) signs z x))
+  pub formed-answers : v .«has_form» ≡ true → Answers t (answerText (listAt (v .count) signs z x))
   unfolding verdict
   formed-answers e =
       record {
         malformed = λ h. absurd (h (says-form .0 e));
-        formed = λ ls T. ap (λ k. printed (listAt k signs z x)) (ap (λ w. w .count) (S .judged))
+        formed = λ ls T. ap (λ k. answerText (listAt k signs z x)) (ap (λ w. w .count) (S .judged))
             ∙ same-answer ls (read-judged .lines ls T);
       }
 
@@ -76,11 +75,11 @@ module _ (v : Verdict) (signs z x before after : List ℕ) (end : ℕ) where
       record { bytes = refusedText 1; answers = malformed-answers t v signs z x S e; out = P }
 
   pub formed-responds : v .«has_form» ≡ true →
-      Printed (printed (listAt (v .count) signs z x)) 0 before after end →
+      Printed (answerText (listAt (v .count) signs z x)) 0 before after end →
       (t : List ℕ) → ScanOf t v signs z x → ResponseTo t before after end
   formed-responds e P t S =
       record {
-        bytes = printed (listAt (v .count) signs z x);
+        bytes = answerText (listAt (v .count) signs z x);
         answers = formed-answers t v signs z x S e;
         out = P;
       }

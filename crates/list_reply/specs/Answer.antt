@@ -1,5 +1,4 @@
 -- The answer to the text of a generator list: the record of the text's list, or the one line `refused` and the number.
--- Assumes nothing.
 use mathlib.Core.Bool.{cond}
 use mathlib.Core.List.{List, map}
 use mathlib.Core.Path.{_≡_}
@@ -11,17 +10,17 @@ use Rattle.call_lists.specs.Calls.{checkLines}
 use Rattle.record.specs.Lent.{codeNumbers, neighbourWords}
 use Rattle.record.specs.Reduced.{reduced}
 use Rattle.stabilizer.specs.Lists.{GeneratorList, rows}
-use Rattle.text.specs.Text.{HasForm, Line, Printed, TextOf, recordText, refusedText}
+use Rattle.text.specs.Text.{HasForm, ListLine, Printed, TextOf, recordText, refusedText}
 
 -- "one line per generator, n being their number"
-abbrev pub listRead : List Line → GeneratorList
+abbrev pub listRead : List ListLine → GeneratorList
 listRead ls =
     record { n = length ls; signs = map (λ l. l .sign) ls; z = map (λ l. l .z) ls; x = map (λ l. l .x) ls }
 
 -- "it prints the names `qubit code neighbours` and one line per qubit ..; or the one line `refused` and the number":
 -- the list's record, or the number of the first line that holds of the list
-unfoldable pub printed : GeneratorList → List ℕ
-printed l =
+unfoldable pub answerText : GeneratorList → List ℕ
+answerText l =
     cond (eqb (firstFitting (checkLines l)) 0)
     (recordText (l .n) (neighbourWords (l .n) (reduced (l .n) (rows l)))
     (codeNumbers (l .n) (reduced (l .n) (rows l))))
@@ -30,7 +29,7 @@ printed l =
 -- these bytes answer the text t. 1: "The program's text does not have its form"
 pub record Answers (t bytes : List ℕ) : Type 0 where
   pub malformed : (HasForm t → ⊥) → bytes ≡ refusedText 1
-  pub formed : (ls : List Line) → TextOf ls t → bytes ≡ printed (listRead ls)
+  pub formed : (ls : List ListLine) → TextOf ls t → bytes ≡ answerText (listRead ls)
 
 -- the answer to the text t was printed
 pub record ResponseTo (t before after : List ℕ) (r : ℕ) : Type 0 where

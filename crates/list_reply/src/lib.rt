@@ -8,8 +8,9 @@ ghost use mathlib.Core.Path.{_≡_};
 ghost use Prim.Native.Nat.{ℕ, _≤_, min};
 ghost use lib.ListN.{length};
 ghost use Rattle.text.specs.Text.{Printed};
-ghost use Rattle.list_reply.specs.Answer.{ResponseTo, printed};
-ghost use Rattle.list_reply.specs.Places.{Lent, ScanOf, listAt, longest};
+ghost use Rattle.list_reply.specs.Answer.{ResponseTo, answerText};
+ghost use Rattle.list_reply.specs.internal.Places.{Lent, ScanOf, listAt};
+ghost use Rattle.list_reply.specs.Places.{longest};
 
 // Reduces a list and prints its record, or the refusal's number.
 fn print_reduced(
@@ -23,7 +24,7 @@ fn print_reduced(
 ) -> usize
     requires { ⌜ Lent n (now neighbours) (now codes) (now out) ⌝ }
     ensures { λ r. ⌜ Printed
-        (printed (record { n = n; signs = now (signs .entry); z = now (z .entry); x = now (x .entry) }))
+        (answerText (record { n = n; signs = now (signs .entry); z = now (z .entry); x = now (x .entry) }))
         0 (now (out .entry)) (now (out .exit)) r ⌝ }
 {
     let number = reduce(n as u64, signs, z, x, neighbours, codes);
@@ -43,7 +44,7 @@ fn places(n: usize) -> usize
 // Prints the answer to the list of n generators at the start of the buffers.
 fn answer(n: usize, signs: [u8; 64], z: [u64; 64], x: [u64; 64], out: &mut [u8]) -> usize
     requires { ⌜ longest ≤ length (now out) ⌝ }
-    ensures { λ r. ⌜ Printed (printed (listAt n signs z x)) 0 (now (out .entry)) (now (out .exit)) r ⌝ }
+    ensures { λ r. ⌜ Printed (answerText (listAt n signs z x)) 0 (now (out .entry)) (now (out .exit)) r ⌝ }
 {
     let m = places(n);
     let mut neighbours = [0u64; 64];

@@ -1,6 +1,5 @@
 -- Where a supplied bit is contradicted: exactly if the Pauli with the other sign is in the group. Otherwise the outcome
 -- is the bit.
--- Assumes nothing.
 use mathlib.Core.Bool.{_&&_, Bool, cond, false, false≢true, not, true}
 use mathlib.Core.Logic.{_↔_}
 use mathlib.Core.Path.{ap₂, refl, subst, _∙_, _≡_}

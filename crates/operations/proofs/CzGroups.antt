@@ -1,5 +1,4 @@
 -- CZ on a list: the image is a list, its group is the image of the group, and the answer has that group.
--- Assumes nothing.
 use mathlib.Core.Bool.{_&&_, Bool, false}
 use mathlib.Core.Logic.{_↔_, _≢_}
 use mathlib.Core.Path.{ap, ap₂, sym, _∙_, _≡_}

@@ -1,5 +1,4 @@
 -- The formula of CZ keeps products: laws of two places, tested, and summed over the places.
--- Assumes nothing.
 use mathlib.Core.Bool.{_&&_, Bool, and-false, cond, false, true, true≢false}
 use mathlib.Core.Logic.{_≢_}
 use mathlib.Core.Path.{ap, ap₂, refl, sym, _∙_, _≡_}

@@ -1,5 +1,4 @@
 -- When a measurement is determined: exactly if the Pauli commutes with every generator; and then its sign.
--- Assumes nothing.
 use mathlib.Core.Bool.{_&&_, Bool, cond, false, or-true, true, true≢false, _||_}
 use mathlib.Core.Logic.{inl, inr, _↔_, _⊎_}
 use mathlib.Core.Path.{ap, refl, subst, sym, _∙_, _≡_}

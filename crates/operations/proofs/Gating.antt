@@ -1,5 +1,4 @@
 -- A gate carries the record's group: sent through the code at the qubit, it is exactly the group of the answer.
--- Assumes nothing.
 use mathlib.Core.Path.{ap, sym, _∙_, _≡_}
 use Prim.Native.Nat.{ℕ}
 use Rattle.clifford.proofs.CliffordLaws.{then-id}

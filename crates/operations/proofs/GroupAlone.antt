@@ -1,6 +1,5 @@
 -- What is answered depends on the group alone: the reduced record, the group after CZ, whether a measurement is
 -- determined, and the group afterwards.
--- Assumes nothing.
 use mathlib.Core.Bool.{Bool, false, true}
 use mathlib.Core.Logic.{inl, inr, _≢_}
 use mathlib.Core.Path.{refl, subst, sym, _∙_, _≡_}

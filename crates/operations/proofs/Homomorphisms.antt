@@ -1,6 +1,5 @@
 -- Maps of rows that keep products and powers of i: they keep commutation, and carry the group of a list onto the
 -- group of its image.
--- Assumes nothing.
 use mathlib.Core.Bool.{Bool, false, true}
 use mathlib.Core.Logic.{_↔_}
 use mathlib.Core.Path.{ap, refl, subst, sym, _∙_, _≡_}

@@ -1,6 +1,5 @@
 -- Measuring a record: the Pauli is determined exactly if its qubit has no neighbours and the code there sends X to
 -- it; the sign is then that of this image.
--- Assumes nothing.
 use mathlib.Core.Bool.{_&&_, Bool, false, false≢true, true, true≢false}
 use mathlib.Core.Logic.{inl, inr, _↔_, _≢_}
 use mathlib.Core.Path.{ap, ap₂, refl, subst, sym, _∙_, _≡_}

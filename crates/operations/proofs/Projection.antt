@@ -1,7 +1,6 @@
 -- The group after a measurement that is not determined: generator g does not commute with P, goes into the others
 -- that do not, and P takes its place. The rows are a list, and its group is the elements that commute with P,
 -- joined by P.
--- Assumes nothing.
 use mathlib.Core.Bool.{_&&_, Bool, and-false, false, not, true}
 use mathlib.Core.Logic.{_↔_}
 use mathlib.Core.Path.{ap, ap₂, fun-ext, refl, subst, sym, _∙_, _≡_}

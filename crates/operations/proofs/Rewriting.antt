@@ -1,5 +1,4 @@
 -- Complements and pivots rewrite a record: the graph stays simple, and the group is kept, signs included.
--- Assumes nothing.
 use mathlib.Core.List.{[], _∷_}
 use Prim.Native.Nat.{_<_, ℕ}
 use Rattle.graph.specs.Graph.{Simple}

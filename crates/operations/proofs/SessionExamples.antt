@@ -1,5 +1,4 @@
 -- The examples hold of the definitions: one theorem over the table.
--- Assumes nothing.
 use mathlib.Core.Path.{refl, _≡_}
 use Rattle.stabilizer.specs.Membership.{member}
 use Rattle.buffers.specs.Buffers.{tabulate}
@@ -7,16 +6,16 @@ use Rattle.buffers.specs.Refusals.{firstFitting, reaching}
 use Rattle.clifford.specs.Clifford.{inverse}
 use Rattle.clifford.specs.Vectors.{act}
 use Rattle.pauli.specs.Pauli.{anticommute, mul, power}
-use Rattle.record.specs.Columns.{columnDependent}
+use Rattle.record.specs.Columns.{isColumnDependent}
 use Rattle.record.specs.Lent.{notSimple}
 use Rattle.record.specs.Reduced.{graphOf, minusesOf, reducedRow, ysOf}
 use Rattle.stabilizer.specs.Lists.{clashing, dependent}
 use Rattle.words.specs.Bits.{bit, fold, put, wordOf}
 use Rattle.words.specs.Search.{every, first, some}
 use Rattle.operations.specs.Cz.{cz}
-use Rattle.operations.specs.Sessions.{expected, given}
+use Rattle.operations.specs.internal.Sessions.{expected, given}
 
 pub sessions : given ≡ expected
 unfolding fold put bit wordOf some every first power mul anticommute inverse act tabulate firstFitting
-    reaching clashing dependent notSimple columnDependent reducedRow graphOf ysOf minusesOf cz member
+    reaching clashing dependent notSimple isColumnDependent reducedRow graphOf ysOf minusesOf cz member
 sessions = refl

@@ -1,5 +1,4 @@
 -- What it means for the buffers of a record that no line refuses it, as the operations need it.
--- Assumes nothing.
 use mathlib.Core.Bool.{cond, false}
 use mathlib.Core.List.{List}
 use mathlib.Core.Path.{ap, ap₂, subst, sym, _∙_, _≡_}
@@ -17,7 +16,7 @@ use Rattle.record.specs.Accepted.{AcceptedRecord}
 use Rattle.record.specs.Lent.{codeNumbers, heldRecord, neighbourWords}
 use Rattle.record.specs.Records.{GraphRecord, complementRecord}
 use Rattle.words.proofs.Places.{other-place}
-use Rattle.operations.specs.InPlace.{Rewritten, Unrefused, recordIn}
+use Rattle.operations.specs.internal.InPlace.{Rewritten, Unrefused, recordIn}
 
 module _ (words codes : List ℕ) (U : Unrefused (recordIn words codes)) where
   abbrev A : AcceptedRecord (recordIn words codes)

@@ -1,5 +1,4 @@
 -- The controlled Z of two qubits: what it is to be, and a formula for it.
--- Assumes nothing.
 use mathlib.Core.Bool.{_&&_, Bool, false}
 use mathlib.Core.Logic.{_≢_}
 use mathlib.Core.Path.{_≡_}
@@ -8,10 +7,11 @@ use lib.Dec.{eqb}
 use Rattle.pauli.specs.Pauli.{_+ᵖ_, Pauli, Phase, identity, i⁰, minus, mul, scaled}
 use Rattle.words.specs.Bits.{_⊕_}
 
--- X alone at a qubit, and Z alone
+-- X alone at a qubit
 abbrev pub xAt : ℕ → Pauli
 xAt c = record { phase = i⁰; z = λ q. false; x = λ q. eqb q c }
 
+-- Z alone at a qubit
 abbrev pub zAt : ℕ → Pauli
 zAt c = record { phase = i⁰; z = λ q. eqb q c; x = λ q. false }
 
@@ -31,6 +31,7 @@ pub record IsCz (n a b : ℕ) (f : Pauli → Pauli) : Type 0 where
 abbrev pub czSign : Bool → Bool → Bool → Bool → Bool
 czSign za xa zb xb = (xa && xb) && (za ⊕ zb)
 
+-- CZ on a and b, of a row
 unfoldable pub cz : ℕ → ℕ → Pauli → Pauli
 cz a b p =
     record {

@@ -1,5 +1,4 @@
 -- Gates: a code applied after the code held at one vertex.
--- Assumes nothing.
 use Prim.Native.Nat.{ℕ}
 use Rattle.clifford.specs.Clifford.{Clifford, then}
 use Rattle.record.specs.Records.{GraphRecord}

@@ -2,5 +2,4 @@ pub mod Gates
 pub mod Cz
 pub mod Measurement
 pub mod Steps
-pub mod InPlace
-pub mod Sessions
+pub mod internal

@@ -1,5 +1,4 @@
 -- Pauli measurements: which are determined, the outcome, and the group afterwards.
--- Assumes nothing.
 use mathlib.Core.Bool.{_&&_, Bool, cond, false, not, true, _||_}
 use mathlib.Core.Path.{_≡_}
 use Prim.Native.Nat.{suc, zero, ℕ}
@@ -45,15 +44,16 @@ abbrev pub contradicts : ℕ → (ℕ → Pauli) → Letter → ℕ → Bool →
 contradicts n rows l q b = isDetermined n rows l q && (outcome n rows l q b ⊕ b)
 
 -- what a measurement answers
-abbrev pub answered : ℕ → (ℕ → Pauli) → Letter → ℕ → Bool → Outcome
-answered n rows l q b =
+abbrev pub measuredOutcome : ℕ → (ℕ → Pauli) → Letter → ℕ → Bool → Outcome
+measuredOutcome n rows l q b =
     cond (isDetermined n rows l q) (Determined (outcome n rows l q b)) (Chosen (outcome n rows l q b))
 
--- an answer in numbers: the outcome, 1 for minus; and 1 where it was determined, else 0
+-- an answer in numbers: the outcome, 1 for minus
 abbrev pub outcomeNumber : Outcome → ℕ
 outcomeNumber (Determined s) = digit s
 outcomeNumber (Chosen s) = digit s
 
+-- and 1 where it was determined, else 0
 abbrev pub determinedNumber : Outcome → ℕ
 determinedNumber (Determined s) = 1
 determinedNumber (Chosen s) = 0
@@ -63,9 +63,11 @@ determinedNumber (Chosen s) = 0
 abbrev pub against : ℕ → (ℕ → Pauli) → Pauli → ℕ → Word
 against n rows P g j = anticommute n (rows j) P && not (eqb j g)
 
+-- that row goes into the others that do not commute with P, and P takes its place
 abbrev pub projected : ℕ → (ℕ → Pauli) → Pauli → ℕ → ℕ → Pauli
 projected n rows P g = put (shear n rows g (against n rows P g)) g P
 
+-- the first row that does not commute with P
 abbrev pub firstAgainst : ℕ → (ℕ → Pauli) → Pauli → ℕ
 firstAgainst n rows P = first n (λ i. anticommute n (rows i) P)
 

@@ -1,12 +1,10 @@
 -- The calls that work on a lent record in place: the lines of each in checking order, and what it leaves.
--- Assumes nothing.
-use mathlib.Core.Bool.{Bool, cond, false, not, _||_}
+use mathlib.Core.Bool.{Bool, false, not, _||_}
 use mathlib.Core.List.{_++_, List, [], _∷_}
-use mathlib.Core.Path.{_≡_}
 use Prim.Native.Nat.{ℕ}
 use lib.Dec.{eqb, leb}
 use Rattle.buffers.specs.Buffers.{accepted}
-use Rattle.buffers.specs.Refusals.{Line, firstFitting, line}
+use Rattle.buffers.specs.Refusals.{Refusal, firstFitting, line}
 use Rattle.clifford.specs.Clifford.{cliffordOf}
 use Rattle.record.specs.Lent.{LentRecord, codeNumbers, heldRecord, heldRows, neighbourWords, recordLines}
 use Rattle.record.specs.Records.{GraphRecord, complementAll, complementRecord, rowsOf}
@@ -14,7 +12,7 @@ use Rattle.record.specs.Reduced.{reduced}
 use Rattle.words.specs.Bits.{isOdd}
 use Rattle.operations.specs.Cz.{czRows}
 use Rattle.operations.specs.Gates.{gated}
-use Rattle.operations.specs.Measurement.{answered, contradicts, isDetermined, measuredRows, outcome, pauliLetter}
+use Rattle.operations.specs.Measurement.{measuredOutcome, contradicts, measuredRows, pauliLetter}
 use Rattle.operations.specs.declared.Outcome.{Outcome}
 
 -- "A pivot on an edge j, k complements j, k, j"
@@ -23,33 +21,34 @@ pivotRecord r j k = complementAll r (j ∷ k ∷ j ∷ [])
 
 -- ---- lines
 -- the lines of a record, with a further test for line 6 and the test for line 8
-abbrev pub inPlaceLines : LentRecord → Bool → Bool → List Line
+abbrev pub inPlaceLines : LentRecord → Bool → Bool → List Refusal
 inPlaceLines l six eight = recordLines l false six ++ (line 8 eight ∷ [])
 
 -- 6: ".. a code above 23"; 8: "A qubit number is n or more"
-abbrev pub gateLines : LentRecord → ℕ → ℕ → List Line
+abbrev pub gateLines : LentRecord → ℕ → ℕ → List Refusal
 gateLines l q k = inPlaceLines l (leb 24 k) (leb (l .n) q)
 
 -- 8: ".. CZ .. names one qubit twice"
-abbrev pub czLines : LentRecord → ℕ → ℕ → List Line
+abbrev pub czLines : LentRecord → ℕ → ℕ → List Refusal
 czLines l a b = inPlaceLines l false (leb (l .n) a || (leb (l .n) b || eqb a b))
 
 -- the lines of a measurement before its outcome is looked at.
 -- 6: "A sign or outcome is above 1, .. or a Pauli not 1 to 3"
-abbrev pub argumentLines : LentRecord → ℕ → ℕ → ℕ → List Line
+abbrev pub argumentLines : LentRecord → ℕ → ℕ → ℕ → List Refusal
 argumentLines l pauli q b = inPlaceLines l (leb 2 b || (eqb pauli 0 || leb 4 pauli)) (leb (l .n) q)
 
 -- 14: "a determined outcome contradicts the supplied bit" (02, §4), after these
-abbrev pub measureLines : LentRecord → ℕ → ℕ → ℕ → List Line
+abbrev pub measureLines : LentRecord → ℕ → ℕ → ℕ → List Refusal
 measureLines l pauli q b =
     argumentLines l pauli q b
     ++ (line 14 (contradicts (l .n) (heldRows l) (pauliLetter pauli) q (isOdd b)) ∷ [])
 
-abbrev pub complementLines : LentRecord → ℕ → List Line
+-- 8: "A qubit number is n or more", for the vertex of a complement
+abbrev pub complementLines : LentRecord → ℕ → List Refusal
 complementLines l a = inPlaceLines l false (leb (l .n) a)
 
 -- 8: ".. or a pivot names one qubit twice, or a pivot's pair has no edge"
-abbrev pub pivotLines : LentRecord → ℕ → ℕ → List Line
+abbrev pub pivotLines : LentRecord → ℕ → ℕ → List Refusal
 pivotLines l j k =
     inPlaceLines l false (leb (l .n) j || (leb (l .n) k || (eqb j k || not ((heldRecord l) .graph j k))))
 
@@ -61,7 +60,8 @@ pub data Operation : Type 0 where
   complementOf : ℕ → Operation
   pivotOf : ℕ → ℕ → Operation
 
-abbrev pub linesOf : LentRecord → Operation → List Line
+-- the lines of each
+abbrev pub linesOf : LentRecord → Operation → List Refusal
 linesOf l (gateWith q k) = gateLines l q k
 linesOf l (czOn a b) = czLines l a b
 linesOf l (measurementOf pauli q b) = measureLines l pauli q b
@@ -89,12 +89,7 @@ leaves l o =
 
 -- a measurement's further answer
 abbrev pub measuredAnswer : LentRecord → ℕ → ℕ → ℕ → Outcome
-measuredAnswer l pauli q b = answered (l .n) (heldRows l) (pauliLetter pauli) q (isOdd b)
-
--- what is read off a record before a measurement: whether it is determined, and then the sign
-pub record ReadOff (l : LentRecord) (pauli q : ℕ) (determined minus : Bool) : Type 0 where
-  pub known : determined ≡ isDetermined (l .n) (heldRows l) (pauliLetter pauli) q
-  pub reading : (b : Bool) → outcome (l .n) (heldRows l) (pauliLetter pauli) q b ≡ cond determined minus b
+measuredAnswer l pauli q b = measuredOutcome (l .n) (heldRows l) (pauliLetter pauli) q (isOdd b)
 
 -- ---- sessions: one call after another on the record that the last one left
 abbrev pub session : LentRecord → List Operation → LentRecord

@@ -1,6 +1,5 @@
 -- A gate on a buffer of codes: the buffers hold the gated record, and no line refuses it. CZ after a reduction answers
 -- the reduced record of the new group.
--- Assumes nothing.
 use mathlib.Core.List.{List}
 use mathlib.Core.Logic.{_≢_}
 use mathlib.Core.Path.{ap, subst, sym, _∙_, _≡_}
@@ -15,9 +14,9 @@ use Rattle.clifford.specs.Vectors.{codesOf}
 use Rattle.graph.specs.Graph.{Simple}
 use Rattle.graph_steps.proofs.CzSteps.{cz-reduced-form}
 use Rattle.graph_steps.proofs.Keeping.{held-words}
-use Rattle.graph_steps.specs.Kept.{Normalised}
-use Rattle.graph_steps.specs.ReducedForms.{ReducedForm}
-use Rattle.graph_steps.specs.Steps.{czRecord}
+use Rattle.graph_steps.specs.internal.KeptGroups.{Normalised}
+use Rattle.graph_steps.specs.internal.ReducedForms.{ReducedForm}
+use Rattle.graph_steps.specs.internal.Steps.{czRecord}
 use Rattle.operations.proofs.CzGroups.{cz-proper}
 use Rattle.operations.proofs.GroupAlone.{cz-of-group, reduced-of-group}
 use Rattle.operations.proofs.UnrefusedRecords.{
@@ -31,7 +30,7 @@ use Rattle.operations.proofs.UnrefusedRecords.{
 }
 use Rattle.operations.specs.Cz.{czRows}
 use Rattle.operations.specs.Gates.{gated}
-use Rattle.operations.specs.InPlace.{Rewritten, Unrefused, recordIn}
+use Rattle.operations.specs.internal.InPlace.{Rewritten, Unrefused, recordIn}
 use Rattle.record.proofs.ReducedRecords.{record-proper}
 use Rattle.record.specs.Lent.{codeNumbers, heldRecord, neighbourWords}
 use Rattle.record.specs.Records.{GraphRecord, rowsOf}

@@ -1,1 +1,4 @@
 pub mod GatedBuffers
+pub mod ReachedSets
+pub mod JoinedSets
+pub mod CzBuffers

@@ -1,6 +1,9 @@
 // Gates and CZ on a record in its buffers.
-use graph_joins::cz_reduced;
+mod joins;
+
+use crate::joins::cz_reduced;
 use graph_settling::normalise;
+pub use joins::where_true;
 use operations::compose;
 ghost use mathlib.Core.Logic.{_≢_};
 ghost use mathlib.Core.Path.{_≡_};
@@ -10,7 +13,7 @@ ghost use Rattle.clifford.specs.Clifford.{cliffordOf, codeOf, then};
 ghost use Rattle.clifford.specs.Vectors.{codesOf};
 ghost use Rattle.operations.specs.Cz.{czRows};
 ghost use Rattle.operations.specs.Gates.{gated};
-ghost use Rattle.operations.specs.InPlace.{Rewritten, Unrefused, recordIn};
+ghost use Rattle.operations.specs.internal.InPlace.{Rewritten, Unrefused, recordIn};
 ghost use Rattle.record.specs.Records.{rowsOf};
 ghost use Rattle.record.specs.Reduced.{reduced};
 

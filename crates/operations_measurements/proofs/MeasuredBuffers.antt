@@ -1,18 +1,17 @@
 -- A measurement by what was read off the record: whether it is determined, the answer, and the buffers afterwards.
--- Assumes nothing.
 use mathlib.Core.Bool.{_&&_, Bool, Bool·beq, cond, false, not, true}
 use mathlib.Core.List.{List}
 use mathlib.Core.Path.{ap, refl, subst, sym, _∙_, _≡_}
 use Prim.Native.Nat.{_<_, ℕ}
 use lib.ListN.{length}
 use Rattle.graph.specs.Graph.{Simple}
-use Rattle.graph_steps.specs.Kept.{GroupMeasured, Normalised}
+use Rattle.graph_steps.specs.internal.KeptGroups.{GroupMeasured, Normalised}
 use Rattle.operations.proofs.Determined.{measured-proper}
 use Rattle.operations.proofs.GroupAlone.{reduced-of-group}
 use Rattle.operations.proofs.UnrefusedRecords.{unrefused-simple}
-use Rattle.operations.specs.InPlace.{MeasuredInPlace, Unrefused, recordIn}
-use Rattle.operations.specs.Measurement.{answered, contradicts, isDetermined, measuredRows, outcome, pauliLetter}
-use Rattle.operations.specs.Steps.{ReadOff}
+use Rattle.operations.specs.internal.InPlace.{MeasuredInPlace, Unrefused, recordIn}
+use Rattle.operations.specs.Measurement.{measuredOutcome, contradicts, isDetermined, measuredRows, outcome, pauliLetter}
+use Rattle.operations.specs.internal.Steps.{ReadOff}
 use Rattle.operations.specs.declared.Outcome.{Outcome}
 use Rattle.operations.specs.declared.Outcome.the-variants.{Chosen, Determined}
 use Rattle.pauli.specs.Pauli.{Pauli}
@@ -52,7 +51,7 @@ module _ (words codes : List ℕ) (pauli q : ℕ) (d m : Bool) (read : ReadOff (
   pub determined-as-read : d ≡ isDetermined (length words) (heldRows (recordIn words codes)) l q
   determined-as-read = read .known ∙ sym (ap (λ l. isDetermined n rows l q) named)
 
-  answered-as-read : (b : Bool) → cond d (Determined m) (Chosen b) ≡ answered n rows (pauliLetter pauli) q b
+  answered-as-read : (b : Bool) → cond d (Determined m) (Chosen b) ≡ measuredOutcome n rows (pauliLetter pauli) q b
   answered-as-read b =
       as-outcome d (read .reading b) ∙ ap (λ d. cond d (Determined o) (Chosen o)) (read .known)
     where

@@ -1,5 +1,4 @@
 -- The group after a measurement: the old one where it is determined, else that of the record whose vertex is cut off.
--- Assumes nothing.
 use mathlib.Core.Bool.{Bool, Bool·beq, false, not, true, true≢false}
 use mathlib.Core.List.{List}
 use mathlib.Core.Path.{ap, refl, subst, sym, _∙_, _≡_}
@@ -8,9 +7,9 @@ use lib.ListN.{getD, length}
 use Rattle.clifford.specs.Clifford.{identityClifford, image}
 use Rattle.clifford.specs.Vectors.{codesOf}
 use Rattle.graph.specs.Graph.{Simple}
-use Rattle.graph_steps.proofs.CuttingOff.{cut-above, cut-same, cut-simple}
-use Rattle.graph_steps.specs.Kept.{Faced, GroupMeasured}
-use Rattle.graph_steps.specs.Steps.{cutOff}
+use Rattle.graph_steps.proofs.Isolation.{isolated-above, isolated-same, isolated-simple}
+use Rattle.graph_steps.specs.internal.KeptGroups.{BroughtToZ, GroupMeasured}
+use Rattle.graph_steps.specs.internal.Steps.{isolated}
 use Rattle.operations.proofs.Determined.{determined-kept}
 use Rattle.operations.proofs.GroupAlone.{measured-of-group}
 use Rattle.operations.proofs.MeasuredRecords.{acts, determined-alone, pauli-acts}
@@ -21,7 +20,7 @@ use Rattle.operations.proofs.UnrefusedRecords.{
   unrefused-above,
   unrefused-simple,
 }
-use Rattle.operations.specs.InPlace.{Rewritten, Unrefused, recordIn}
+use Rattle.operations.specs.internal.InPlace.{Rewritten, Unrefused, recordIn}
 use Rattle.operations.specs.Measurement.{isDetermined, measuredRows, pauliLetter}
 use Rattle.pauli.specs.declared.Letter.{Letter}
 use Rattle.pauli.specs.declared.Letter.the-variants.{I, X, Y, Z}
@@ -74,15 +73,15 @@ module _ (words codes : List ℕ) (U : Unrefused (recordIn words codes)) (q : �
   open-neighbour i e x z = true≢false (sym (determined-alone n held simple q hq l (letter-acts l i) .1
       (x, λ j. ap (λ w. bit w j) z ∙ zero-bit j)) ∙ e)
 
-  module _ (words₁ codes₁ : List ℕ) (F : Faced words codes q l words₁ codes₁) where
+  module _ (words₁ codes₁ : List ℕ) (F : BroughtToZ words codes q l words₁ codes₁) where
     abbrev held₁ : GraphRecord
     held₁ = heldRecord (recordIn words₁ codes₁)
 
-    pub faced-below : q < length words₁
-    faced-below = subst (λ m. q < m) (sym (F .kept .long)) hq
+    pub brought-below : q < length words₁
+    brought-below = subst (λ m. q < m) (sym (F .kept .long)) hq
 
     pub measured-open : (b t : Bool) (words₂ codes₂ : List ℕ) → t ≡ not (Bool·beq b (isOdd (getD codes₁ q 0)))
-        → Rewritten words₁ codes₁ (λ g. cutOff g q t) words₂ codes₂ → GroupMeasured words codes l q b words₂ codes₂
+        → Rewritten words₁ codes₁ (λ g. isolated g q t) words₂ codes₂ → GroupMeasured words codes l q b words₂ codes₂
     measured-open b t words₂ codes₂ e R =
         record {
           long = rewritten-length words₁ codes₁ U₁ f words₂ codes₂ R₁ S₂ above ∙ F .kept .long;
@@ -92,19 +91,19 @@ module _ (words codes : List ℕ) (U : Unrefused (recordIn words codes)) (q : �
               (record-proper n held₁ S₁) (F .kept .group) b)
               (subst (λ g. SameGroup n n (measuredRows n (rowsOf n held₁) l q b) (rowsOf n g))
               (sym (rewritten-held words₁ codes₁ U₁ f words₂ codes₂ R₁ S₂ above))
-              (subst (λ m. SameGroup n n (measuredRows n (rowsOf n held₁) m q b) (rowsOf n (cutOff held₁ q s)))
+              (subst (λ m. SameGroup n n (measuredRows n (rowsOf n held₁) m q b) (rowsOf n (isolated held₁ q s)))
               (F .sends-z)
-              (same-sym (cut-same n held₁ S₁ q hq b))));
+              (same-sym (isolated-same n held₁ S₁ q hq b))));
         }
       where
         s : Bool
         s = b ⊕ (held₁ .codes q) .sz
 
         f : GraphRecord → GraphRecord
-        f g = cutOff g q s
+        f g = isolated g q s
 
         R₁ : Rewritten words₁ codes₁ f words₂ codes₂
-        R₁ = subst (λ t. Rewritten words₁ codes₁ (λ g. cutOff g q t) words₂ codes₂)
+        R₁ = subst (λ t. Rewritten words₁ codes₁ (λ g. isolated g q t) words₂ codes₂)
             (e ∙ unequal b (isOdd (getD codes₁ q 0))) R
 
         U₁ : Unrefused (recordIn words₁ codes₁)
@@ -113,9 +112,9 @@ module _ (words codes : List ℕ) (U : Unrefused (recordIn words codes)) (q : �
         S₁ : Simple n (held₁ .graph)
         S₁ = subst (λ m. Simple m (held₁ .graph)) (F .kept .long) (unrefused-simple words₁ codes₁ U₁)
 
-        S₂ : Simple (length words₁) ((cutOff held₁ q s) .graph)
-        S₂ = cut-simple (length words₁) held₁ (unrefused-simple words₁ codes₁ U₁) q faced-below b
+        S₂ : Simple (length words₁) ((isolated held₁ q s) .graph)
+        S₂ = isolated-simple (length words₁) held₁ (unrefused-simple words₁ codes₁ U₁) q brought-below b
 
-        above : (j : ℕ) → length words₁ ≤ j → (cutOff held₁ q s) .codes j ≡ identityClifford
-        above = cut-above (length words₁) held₁ (unrefused-simple words₁ codes₁ U₁) q faced-below b
+        above : (j : ℕ) → length words₁ ≤ j → (isolated held₁ q s) .codes j ≡ identityClifford
+        above = isolated-above (length words₁) held₁ (unrefused-simple words₁ codes₁ U₁) q brought-below b
             (unrefused-above words₁ codes₁ U₁)

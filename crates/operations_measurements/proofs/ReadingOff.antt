@@ -1,5 +1,4 @@
 -- A measurement read off a record by the code: what its calls answer is whether it is determined, and the sign.
--- Assumes nothing.
 use mathlib.Core.Bool.{_&&_, Bool, Bool·beq, cond, false, true}
 use mathlib.Core.List.{List}
 use mathlib.Core.Logic.{_↔_}
@@ -10,11 +9,11 @@ use lib.ListN.{getD, length}
 use borrow.Author.Tests.{eq-eqb, eqb-true}
 use Rattle.clifford.specs.Clifford.{Clifford, cliffordOf, image, imagePhase}
 use Rattle.graph.specs.Graph.{Simple}
-use Rattle.graph_cuts.proofs.SentLetters.{equal-letters, equal-letters-refl, equalLetters}
+use Rattle.operations_measurements.proofs.SentLetters.{equal-letters, equal-letters-refl, equalLetters}
 use Rattle.operations.proofs.MeasuredRecords.{determined-alone, outcome-alone, pauli-acts}
-use Rattle.operations.specs.InPlace.{Unrefused, recordIn}
+use Rattle.operations.specs.internal.InPlace.{Unrefused, recordIn}
 use Rattle.operations.specs.Measurement.{isDetermined, outcome, pauliLetter, single}
-use Rattle.operations.specs.Steps.{ReadOff}
+use Rattle.operations.specs.internal.Steps.{ReadOff}
 use Rattle.pauli.proofs.PhaseLaws.{minus-injective}
 use Rattle.pauli.specs.Pauli.{minus, xBit, zBit}
 use Rattle.pauli.specs.declared.Letter.{Letter}

@@ -1,7 +1,9 @@
 // Measurements on a record in its buffers.
+mod isolation;
+
+use crate::isolation::bring_to_z;
+use crate::isolation::isolate;
 use clifford::Code;
-use graph_cuts::cut_off;
-use graph_cuts::face_z;
 use graph_settling::normalise;
 use operations::Outcome;
 use pauli::Letter;
@@ -11,10 +13,10 @@ ghost use mathlib.Core.Bool.{cond, false};
 ghost use mathlib.Core.Path.{_≡_};
 ghost use Prim.Native.Nat.{_<_, _≤_};
 ghost use lib.ListN.{length};
-ghost use Rattle.graph_steps.specs.Kept.{GroupMeasured};
-ghost use Rattle.operations.specs.InPlace.{MeasuredInPlace, Unrefused, recordIn};
+ghost use Rattle.graph_steps.specs.internal.KeptGroups.{GroupMeasured};
+ghost use Rattle.operations.specs.internal.InPlace.{MeasuredInPlace, Unrefused, recordIn};
 ghost use Rattle.operations.specs.Measurement.{contradicts, isDetermined, pauliLetter};
-ghost use Rattle.operations.specs.Steps.{ReadOff};
+ghost use Rattle.operations.specs.internal.Steps.{ReadOff};
 ghost use Rattle.operations.specs.declared.Outcome.the-variants.{Chosen, Determined};
 ghost use Rattle.pauli.specs.declared.Letter.the-variants.{I};
 ghost use Rattle.record.specs.Lent.{heldRows};
@@ -66,7 +68,7 @@ pub fn contradicted(neighbours: &[u64], codes: &[u8], pauli: u8, q: usize, bit: 
 }
 
 // The group after a measurement of l at q that is not determined: the code at q is turned so that l stands for Z of the
-// graph, and the vertex is cut off.
+// graph, and the vertex is isolated.
 fn measure_open(neighbours: &mut [u64], codes: &mut [u8], l: Letter, q: usize, bit: bool)
     requires { ⌜ Unrefused (recordIn (now neighbours) (now codes)) × (q < length (now neighbours)) ⌝ }
     requires { ⌜ isDetermined (length (now neighbours)) (heldRows (recordIn (now neighbours) (now codes))) l q
@@ -75,9 +77,9 @@ fn measure_open(neighbours: &mut [u64], codes: &mut [u8], l: Letter, q: usize, b
     ensures { λ r. ⌜ GroupMeasured (now (neighbours .entry)) (now (codes .entry)) l q bit
         (now (neighbours .exit)) (now (codes .exit)) ⌝ }
 {
-    face_z(neighbours, codes, q, l);
+    bring_to_z(neighbours, codes, q, l);
     let minus = codes[q] % 2 == 1;
-    cut_off(neighbours, codes, q, bit != minus);
+    isolate(neighbours, codes, q, bit != minus);
 }
 
 // The group after a measurement of l at q: the same where it is determined.

@@ -1,5 +1,4 @@
 -- Buffers of a record that was complemented: they are accepted again, and three complements make a pivot.
--- Assumes nothing.
 use mathlib.Core.List.{List}
 use mathlib.Core.Path.{ap, ap₂, subst, sym, _∙_, _≡_}
 use Prim.Native.Nat.{_<_, ℕ, _≤_}
@@ -15,7 +14,7 @@ use Rattle.operations.proofs.UnrefusedRecords.{
   unrefused-above,
   unrefused-simple,
 }
-use Rattle.operations.specs.InPlace.{Rewritten, Unrefused, recordIn}
+use Rattle.operations.specs.internal.InPlace.{Rewritten, Unrefused, recordIn}
 use Rattle.operations.specs.Steps.{pivotRecord}
 use Rattle.record.specs.Lent.{codeNumbers, heldRecord, neighbourWords}
 use Rattle.record.specs.Records.{GraphRecord, complementRecord}

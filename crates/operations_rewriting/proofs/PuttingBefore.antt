@@ -1,5 +1,4 @@
 -- The loop that puts a code before the codes that a word names.
--- Assumes nothing.
 use mathlib.Core.Bool.{cond}
 use mathlib.Core.List.{List}
 use mathlib.Core.Path.{ap, sym, _∙_, _≡_}

@@ -1,5 +1,4 @@
 -- Codes put before that of a vertex and those of its neighbours, as in complementing there.
--- Assumes nothing.
 use mathlib.Core.Bool.{Bool, cond, false}
 use mathlib.Core.List.{List}
 use mathlib.Core.Path.{ap, fun-ext, subst, sym, _∙_, _≡_}
@@ -14,8 +13,9 @@ use Rattle.clifford.specs.Clifford.{Clifford, cliffordOf, codeOf, then}
 use Rattle.clifford.specs.Vectors.{codesOf}
 use Rattle.graph.proofs.Complement.{complement-simple}
 use Rattle.graph.specs.Graph.{complement}
-use Rattle.graph.specs.NeighbourWords.{SameGraph, graphIn}
-use Rattle.operations.specs.InPlace.{Rewritten, Unrefused, recordIn}
+use Rattle.graph.specs.internal.NeighbourWords.{SameGraph}
+use Rattle.graph.specs.NeighbourWords.{graphIn}
+use Rattle.operations.specs.internal.InPlace.{Rewritten, Unrefused, recordIn}
 use Rattle.record.proofs.AcceptedRecords.{accepted-record}
 use Rattle.record.specs.Accepted.{AcceptedRecord}
 use Rattle.record.specs.Records.{complementRecord, recoded}

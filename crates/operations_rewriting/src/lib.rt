@@ -11,7 +11,7 @@ ghost use lib.ListN.{getD, length};
 ghost use Rattle.buffers.specs.Buffers.{tabulate};
 ghost use Rattle.clifford.specs.Clifford.{cliffordOf, codeOf, then};
 ghost use Rattle.clifford.specs.Vectors.{codesOf};
-ghost use Rattle.operations.specs.InPlace.{Rewritten, Unrefused, recordIn};
+ghost use Rattle.operations.specs.internal.InPlace.{Rewritten, Unrefused, recordIn};
 ghost use Rattle.operations.specs.Steps.{pivotRecord};
 ghost use Rattle.record.specs.Records.{complementRecord};
 ghost use Rattle.words.specs.Bits.{bit};

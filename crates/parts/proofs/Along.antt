@@ -1,5 +1,4 @@
 -- A sum over the vertices below n of which only the numbered ones count is the sum over the numbers.
--- Assumes nothing.
 use mathlib.Core.Logic.{inl, inr, _⊎_}
 use mathlib.Core.Path.{ap, ap₂, refl, subst, sym, _∙_, _≡_}
 use Prim.Native.Nat.{_<_, suc, zero, ℕ}

@@ -1,8 +1,7 @@
 -- Parts: the test of closed sets agrees, a part is the least closed set that has its vertex, and the vertices of a
 -- part have the same one.
--- Assumes nothing.
-use mathlib.Core.Bool.{_&&_, Bool, false, false≢true, not, true, true≢false, _||_}
-use mathlib.Core.Logic.{_↔_, inl, inr, _⊎_}
+use mathlib.Core.Bool.{_&&_, Bool, false, false≢true, not, true, _||_}
+use mathlib.Core.Logic.{_↔_}
 use mathlib.Core.Path.{ap, ap₂, fun-ext, refl, sym, _∙_, _≡_}
 use Prim.Native.Nat.{_<_, _^_, ℕ}
 use Rattle.graph.specs.Graph.{Graph}
@@ -11,7 +10,8 @@ use Rattle.words.proofs.Flags.{both-true, same-by-both}
 use Rattle.words.proofs.SearchLaws.{every-at, every-in}
 use Rattle.words.specs.Bits.{Word, bit, wordOf}
 use Rattle.words.specs.Search.{every}
-use Rattle.parts.specs.Parts.{Closed, Path, along, closed, here, partOf}
+use Rattle.parts.specs.internal.Parts.{Closed}
+use Rattle.parts.specs.Parts.{Path, along, isClosed, here, partOf}
 
 -- a test of the form 'a implies b'
 pub implied : (a b : Bool) → (not a || b) ≡ true → a ≡ true → b ≡ true
@@ -26,8 +26,8 @@ pub both : {a b : Bool} → a ≡ true → b ≡ true → (a && b) ≡ true
 both e f = ap₂ _&&_ e f
 
 module _ (n : ℕ) (θ : Graph) where
-  pub closed-is : (s : Word) → (closed n θ s ≡ true) ↔ Closed n θ s
-  unfolding closed
+  pub closed-is : (s : Word) → (isClosed n θ s ≡ true) ↔ Closed n θ s
+  unfolding isClosed
   closed-is s = (
     (λ e i j k l a b. implied (s i && θ i j) (s j)
         (every-at n (λ j. not (s i && θ i j) || s j)
@@ -47,8 +47,8 @@ module _ (n : ℕ) (θ : Graph) where
   unfolding partOf
   part-within s C q t k l a e =
       sym (bit-wordOf n s t l)
-      ∙ implied (closed n θ (bit (wordOf n s)) && bit (wordOf n s) q) (bit (wordOf n s) t)
-      (every-at (2 ^ n) (λ v. not (closed n θ (bit v) && bit v q) || bit v t) e (wordOf n s) (wordOf-lt n s))
+      ∙ implied (isClosed n θ (bit (wordOf n s)) && bit (wordOf n s) q) (bit (wordOf n s) t)
+      (every-at (2 ^ n) (λ v. not (isClosed n θ (bit v) && bit v q) || bit v t) e (wordOf n s) (wordOf-lt n s))
       (both (closed-is (bit (wordOf n s)) .1 (closed-ext s (bit (wordOf n s)) (λ j m. sym (bit-wordOf n s j m)) C))
       (bit-wordOf n s q k ∙ a))
 
@@ -56,9 +56,9 @@ module _ (n : ℕ) (θ : Graph) where
   pub in-part : (q t : ℕ) → ((v : ℕ) → Closed n θ (bit v) → bit v q ≡ true → bit v t ≡ true)
       → partOf n θ q t ≡ true
   unfolding partOf
-  in-part q t h = every-in (2 ^ n) (λ v. not (closed n θ (bit v) && bit v q) || bit v t)
-      (λ v l. implies (closed n θ (bit v) && bit v q) (bit v t)
-      (λ e. let b = both-true (closed n θ (bit v)) (bit v q) e in h v (closed-is (bit v) .0 (b .0)) (b .1)))
+  in-part q t h = every-in (2 ^ n) (λ v. not (isClosed n θ (bit v) && bit v q) || bit v t)
+      (λ v l. implies (isClosed n θ (bit v) && bit v q) (bit v t)
+      (λ e. let b = both-true (isClosed n θ (bit v)) (bit v q) e in h v (closed-is (bit v) .0 (b .0)) (b .1)))
 
   pub part-has : (q : ℕ) → partOf n θ q q ≡ true
   part-has q = in-part q q (λ v C a. a)
@@ -68,8 +68,8 @@ module _ (n : ℕ) (θ : Graph) where
       → bit v t ≡ true
   unfolding partOf
   of-part q t v l e C a =
-      implied (closed n θ (bit v) && bit v q) (bit v t)
-      (every-at (2 ^ n) (λ v. not (closed n θ (bit v) && bit v q) || bit v t) e v l)
+      implied (isClosed n θ (bit v) && bit v q) (bit v t)
+      (every-at (2 ^ n) (λ v. not (isClosed n θ (bit v) && bit v q) || bit v t) e v l)
       (both (closed-is (bit v) .1 C) a)
 
   pub part-closed : (q : ℕ) → q < n → Closed n θ (partOf n θ q)
@@ -117,6 +117,6 @@ pub same-parts : (n : ℕ) (θ φ : Graph) → ((s : Word) → Closed n θ s →
 unfolding partOf
 same-parts n θ φ there back q t =
     ap (λ f. every (2 ^ n) (λ v. not (f v && bit v q) || bit v t)) (fun-ext (λ v.
-    same-by-both (closed n θ (bit v)) (closed n φ (bit v))
+    same-by-both (isClosed n θ (bit v)) (isClosed n φ (bit v))
     (λ e. closed-is n φ (bit v) .1 (there (bit v) (closed-is n θ (bit v) .0 e)))
     (λ e. closed-is n θ (bit v) .1 (back (bit v) (closed-is n φ (bit v) .0 e)))))

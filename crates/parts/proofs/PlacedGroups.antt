@@ -1,17 +1,16 @@
 -- Groups over a set of vertices that no edge leaves: its elements in the set's numbers are those among all vertices
 -- that have I elsewhere, and a choice that carries the whole group carries that of the set.
--- Assumes nothing.
 use mathlib.Core.Bool.{Bool, false, true}
 use mathlib.Core.Logic.{inl, inr, _⊎_}
-use mathlib.Core.Path.{ap, ap₂, refl, subst, sym, _∙_, _≡_}
+use mathlib.Core.Path.{ap, subst, sym, _∙_, _≡_}
 use Prim.Native.Nat.{_<_, _≤_, suc, zero, ℕ}
 use native.Mathlib.Nat.{le-refl}
 use native.Mathlib.Omega.{arith}
 use Rattle.clifford.specs.Clifford.{Clifford}
 use Rattle.clifford.specs.Vectors.{act}
-use Rattle.graph.specs.Graph.{Graph, Simple}
+use Rattle.graph.specs.Graph.{Simple}
 use Rattle.pauli.proofs.PauliLaws.{mul-scaled, square}
-use Rattle.pauli.specs.Pauli.{Pauli, anticommute, identity, imaginary, i², mul, scaled}
+use Rattle.pauli.specs.Pauli.{Pauli, identity, imaginary, i², mul, scaled}
 use Rattle.record.proofs.Maximality.{inclusion-same, maximal-list}
 use Rattle.record.proofs.ReducedRecords.{record-proper}
 use Rattle.record.specs.Records.{GraphRecord, rowsOf}
@@ -31,8 +30,8 @@ use Rattle.parts.proofs.PlacedRows.{
   placed-scaled,
   placed-unique,
 }
-use Rattle.parts.specs.Numbered.{Numbers, Placed, partGraph}
-use Rattle.parts.specs.Parts.{Closed}
+use Rattle.parts.specs.internal.Numbered.{Numbers, Placed, partGraph}
+use Rattle.parts.specs.internal.Parts.{Closed}
 
 -- a record in the numbers of a set
 abbrev pub partRecord : ℕ → (ℕ → ℕ) → GraphRecord → GraphRecord

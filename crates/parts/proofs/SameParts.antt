@@ -1,9 +1,8 @@
 -- "equivalent states have the same parts": no edge leaves a set of vertices exactly if the rank across its cut is 0,
 -- and a choice of codes keeps every rank.
--- Assumes nothing.
-use mathlib.Core.Bool.{_&&_, Bool, false, false≢true, not, true, true≢false}
+use mathlib.Core.Bool.{_&&_, Bool, false, not, true, true≢false}
 use mathlib.Core.Logic.{inl, inr, _⊎_}
-use mathlib.Core.Path.{ap, ap₂, refl, subst, sym, _∙_, _≡_}
+use mathlib.Core.Path.{ap, ap₂, refl, sym, _∙_, _≡_}
 use Prim.Native.Nat.{_+_, _<_, _≤_, suc, zero, ℕ}
 use native.Mathlib.Nat.{le-refl, not-suc-le-zero}
 use native.Mathlib.Omega.{arith}
@@ -16,14 +15,14 @@ use Rattle.cut.specs.Kernel.{count}
 use Rattle.cut.specs.Rank.{rank}
 use Rattle.graph.specs.Graph.{Graph, Simple}
 use Rattle.record.proofs.ColumnLaws.{column-dependent}
-use Rattle.record.specs.Columns.{columnDependent}
+use Rattle.record.specs.Columns.{isColumnDependent}
 use Rattle.record.specs.Records.{GraphRecord, rowsOf}
 use Rattle.stabilizer.specs.Carries.{Carries}
 use Rattle.words.proofs.Sums.{bitMonoid, fold-unit, last-or}
-use Rattle.words.proofs.Finite.{bits}
-use Rattle.words.specs.Bits.{Word, digit, fold, parity, _⊕_}
+use Rattle.words.specs.Bits.{Word, digit, fold, _⊕_}
 use Rattle.parts.proofs.PartLaws.{same-parts}
-use Rattle.parts.specs.Parts.{Closed, partOf}
+use Rattle.parts.specs.internal.Parts.{Closed}
+use Rattle.parts.specs.Parts.{partOf}
 
 -- none is counted where the count is 0
 count-zero : (b : ℕ) (f : ℕ → Bool) → count b f ≡ 0 → (v : ℕ) → v < b → f v ≡ false
@@ -44,8 +43,8 @@ count-zero (suc b) f e v l = go (f b) refl (last-or l) (λ h. count-zero b f h v
 
 -- a matrix of rank 0 has no 1
 module _ (m n : ℕ) (M : ℕ → Word) (e : rank m n M ≡ 0) where
-  dependent : (q : ℕ) → q < n → columnDependent m M q ≡ true
-  dependent q l = not-false (columnDependent m M q) (count-zero n (λ q. not (columnDependent m M q)) e q l)
+  dependent : (q : ℕ) → q < n → isColumnDependent m M q ≡ true
+  dependent q l = not-false (isColumnDependent m M q) (count-zero n (λ q. not (isColumnDependent m M q)) e q l)
 
   upto : (b : ℕ) → b ≤ n → (q : ℕ) → q < b → (j : ℕ) → j < m → M j q ≡ false
   upto zero h q l j k = absurd (not-suc-le-zero l)

@@ -1,5 +1,4 @@
 -- The connected parts of a graph, by the sets of vertices that no edge leaves.
--- Assumes nothing.
 use mathlib.Core.Bool.{_&&_, Bool, not, true, _||_}
 use mathlib.Core.Path.{_≡_}
 use Prim.Native.Nat.{_<_, _^_, ℕ}
@@ -9,17 +8,13 @@ use Rattle.graph.specs.Graph.{Graph}
 use Rattle.words.specs.Bits.{Word, bit}
 use Rattle.words.specs.Search.{every, some}
 
--- no edge leads from a marked vertex to one that is not
-abbrev pub Closed : ℕ → Graph → Word → Type 0
-Closed n θ s = (i j : ℕ) → i < n → j < n → s i ≡ true → θ i j ≡ true → s j ≡ true
-
 -- the same as a test
-unfoldable pub closed : ℕ → Graph → Word → Bool
-closed n θ s = every n (λ i. every n (λ j. not (s i && θ i j) || s j))
+unfoldable pub isClosed : ℕ → Graph → Word → Bool
+isClosed n θ s = every n (λ i. every n (λ j. not (s i && θ i j) || s j))
 
 -- vertex t lies in the connected part of vertex q: every set of vertices that has q, and that no edge leaves, has t
 unfoldable pub partOf : ℕ → Graph → ℕ → Word
-partOf n θ q t = every (2 ^ n) (λ v. not (closed n θ (bit v) && bit v q) || bit v t)
+partOf n θ q t = every (2 ^ n) (λ v. not (isClosed n θ (bit v) && bit v q) || bit v t)
 
 -- a path of edges leads from q to t
 pub data Path (n : ℕ) (θ : Graph) (q : ℕ) : ℕ → Type 0 where

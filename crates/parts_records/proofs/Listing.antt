@@ -1,12 +1,11 @@
 -- The vertices of a set listed in rising order, and words in their numbers.
--- Assumes nothing.
-use mathlib.Core.Bool.{_&&_, Bool, and-false, false, not, true, true≢false}
+use mathlib.Core.Bool.{_&&_, Bool, false, not, true, true≢false}
 use mathlib.Core.List.{List}
 use mathlib.Core.Logic.{inl, inr, _⊎_}
 use mathlib.Core.Path.{ap, ap₂, refl, subst, sym, _∙_, _≡_}
-use Prim.Native.Nat.{_+_, _<_, _≤_, _^_, suc, zero, zero-le, ℕ}
+use Prim.Native.Nat.{_+_, _<_, _≤_, _^_, suc, zero-le, ℕ}
 use native.Mathlib.Decide.{decLt, ℕ-discrete}
-use native.Mathlib.Nat.{add-zero, lt-irrefl, not-suc-le-zero}
+use native.Mathlib.Nat.{lt-irrefl, not-suc-le-zero}
 use native.Mathlib.Omega.{arith}
 use lib.Bits.{bitXor}
 use lib.Count.{trailingZeros}
@@ -14,31 +13,31 @@ use lib.Dec.{eqb, ltb}
 use lib.ListN.{getD, length, length-set, set}
 use lib.Seq.{getD-set-other, getD-set-same}
 use borrow.Author.Tests.{le-ltb, lt-ltb}
-use Rattle.cut.proofs.Counting.{count-except, count-ext, count-none, except}
+use Rattle.cut.proofs.Counting.{count-except, count-ext, except}
 use Rattle.cut.specs.Kernel.{count}
-use Rattle.parts.specs.Numbered.{Numbers}
-use Rattle.words.proofs.BitLaws.{bit-above, bit-ext, bit-ext∞, bit-flip, bit-wordOf, lt-of-bits, wordOf-lt, zero-bit}
+use Rattle.parts.specs.internal.Numbered.{Numbers}
+use Rattle.words.proofs.BitLaws.{bit-above, bit-ext, bit-flip, bit-wordOf, lt-of-bits, wordOf-lt, zero-bit}
 use Rattle.words.proofs.Places.{other-place, same-place, upto-other}
 use Rattle.words.proofs.Trailing.{trailing-set}
-use Rattle.words.specs.Bits.{bit, wordOf, _⊕_}
+use Rattle.words.specs.Bits.{bit, _⊕_}
 use Rattle.words.specs.Search.{IsFirst}
-use Rattle.parts_records.specs.Listed.{partWord}
+use Rattle.parts_records.specs.internal.Listed.{renumbered}
 
 -- ---- the loop that lists: k vertices are listed, the others are in `rest`
-pub record Listing (island : ℕ) (at : List ℕ) (k rest : ℕ) : Type 0 where
+pub record Listing (component : ℕ) (at : List ℕ) (k rest : ℕ) : Type 0 where
   pub long : length at ≡ 20
   pub small : rest < 2 ^ 64
   pub few : k + count 64 (bit rest) ≤ 20
-  pub left : (q : ℕ) → bit rest q ≡ true → bit island q ≡ true
+  pub left : (q : ℕ) → bit rest q ≡ true → bit component q ≡ true
   pub rising : (i j : ℕ) → i < j → j < k → getD at i 0 < getD at j 0
   pub before : (i q : ℕ) → i < k → bit rest q ≡ true → getD at i 0 < q
   pub below : (i : ℕ) → i < k → getD at i 0 < 64
-  pub inside : (i : ℕ) → i < k → bit island (getD at i 0) ≡ true
-  pub onto : (q : ℕ) → bit island q ≡ true → (bit rest q ≡ true) ⊎ ((i : ℕ) × (i < k) × (getD at i 0 ≡ q))
+  pub inside : (i : ℕ) → i < k → bit component (getD at i 0) ≡ true
+  pub onto : (q : ℕ) → bit component q ≡ true → (bit rest q ≡ true) ⊎ ((i : ℕ) × (i < k) × (getD at i 0 ≡ q))
 
-pub listing-start : (island : ℕ) (at : List ℕ) → length at ≡ 20 → island < 2 ^ 64 → count 64 (bit island) ≤ 20
-    → Listing island at 0 island
-listing-start island at l b f =
+pub listing-start : (component : ℕ) (at : List ℕ) → length at ≡ 20 → component < 2 ^ 64 → count 64 (bit component) ≤ 20
+    → Listing component at 0 component
+listing-start component at l b f =
     record {
       long = l;
       small = b;
@@ -51,7 +50,7 @@ listing-start island at l b f =
       onto = λ q a. inl a;
     }
 
-module _ (island : ℕ) (at : List ℕ) (k rest : ℕ) (L : Listing island at k rest) where
+module _ (component : ℕ) (at : List ℕ) (k rest : ℕ) (L : Listing component at k rest) where
   module _ (some-left : rest ≡ 0 → ⊥) (q : ℕ) (e : q ≡ trailingZeros 64 rest) where
     F : IsFirst 64 (bit rest) q
     F = subst (IsFirst 64 (bit rest)) (sym e) (trailing-set 64 rest (L .small) some-left)
@@ -125,7 +124,7 @@ module _ (island : ℕ) (at : List ℕ) (k rest : ℕ) (L : Listing island at k 
         go (inl m) = subst P (sym (kept i m)) (h i m)
         go (inr m) = subst (λ v. P (getD (set at k q) v 0)) (sym m) (subst P (sym here) x)
 
-    pub listing-step : Listing island (set at k q) (k + 1) (bitXor rest (2 ^ q))
+    pub listing-step : Listing component (set at k q) (k + 1) (bitXor rest (2 ^ q))
     listing-step =
         record {
           long = length-set at k q ∙ L .long;
@@ -137,7 +136,7 @@ module _ (island : ℕ) (at : List ℕ) (k rest : ℕ) (L : Listing island at k 
           before = λ i t m a. every-listed (λ v. v < t) (λ j n. L .before j t n (left-after t a .0))
               (left-after t a .1) i m;
           below = every-listed (λ v. v < 64) (L .below) (F .below);
-          inside = every-listed (λ v. bit island v ≡ true) (L .inside) (L .left q (F .passes));
+          inside = every-listed (λ v. bit component v ≡ true) (L .inside) (L .left q (F .passes));
           onto = λ t a. reach t (L .onto t a) (ℕ-discrete t q);
         }
       where
@@ -166,7 +165,7 @@ module _ (island : ℕ) (at : List ℕ) (k rest : ℕ) (L : Listing island at k 
         reach t (inl a) (yes d) = inr (k, end, here ∙ sym d)
         reach t (inl a) (no d) = inl (taken t ∙ ap₂ (λ u v. u && not v) a (other-place d))
 
-  pub listing-end : rest ≡ 0 → (k ≤ 20) × Numbers 64 (bit island) k (λ i. getD at i 0)
+  pub listing-end : rest ≡ 0 → (k ≤ 20) × Numbers 64 (bit component) k (λ i. getD at i 0)
   listing-end e = (
     omega (arith, L .few),
     record {
@@ -216,9 +215,9 @@ compressed-more at w bits i v b C e h j = h j ∙ ap (λ u. u ⊕ (eqb j i && b)
         ∙ ap (λ x. x && bit w (getD at j 0)) (sym (upto-other j i d))
 
 pub compressed-all : (at : List ℕ) (w k bits i : ℕ) → i ≤ k → k ≤ i → Compressed at w bits i
-    → bits ≡ partWord k at w
+    → bits ≡ renumbered k at w
 compressed-all at w k bits i l m C =
-    bit-ext k bits (partWord k at w) below (wordOf-lt k (λ j. bit w (getD at j 0)))
+    bit-ext k bits (renumbered k at w) below (wordOf-lt k (λ j. bit w (getD at j 0)))
     (λ j n. C j ∙ ap (λ x. x && bit w (getD at j 0)) (lt-ltb j i (within j n))
     ∙ sym (bit-wordOf k (λ j. bit w (getD at j 0)) j n))
   where

@@ -6,11 +6,10 @@ use words::smallest;
 ghost use mathlib.Core.Path.{_≡_};
 ghost use Prim.Native.Nat.{ℕ, _<_, _≤_};
 ghost use lib.ListN.{getD, length};
-ghost use Rattle.buffers.specs.Buffers.{tabulate};
 ghost use Rattle.cut.specs.Kernel.{count};
-ghost use Rattle.parts.specs.Numbered.{Numbers};
-ghost use Rattle.words.specs.Bits.{bit, wordOf};
-ghost use Rattle.parts_records.specs.Listed.{partCodes, partWord, partWords};
+ghost use Rattle.parts.specs.internal.Numbered.{Numbers};
+ghost use Rattle.words.specs.Bits.{bit};
+ghost use Rattle.parts_records.specs.internal.Listed.{partCodes, renumbered, partWords};
 
 // The vertices of a set of at most 20, in rising order, and how many there are.
 pub struct Places {
@@ -18,13 +17,13 @@ pub struct Places {
     pub at: [usize; 20],
 }
 
-pub fn vertices(island: u64) -> Places
-    requires { ⌜ count 64 (bit island) ≤ 20 ⌝ }
-    ensures { λ r. ⌜ (r .count ≤ 20) × Numbers 64 (bit island) (r .count) (λ i. getD (r .at) i 0) ⌝ }
+pub fn vertices(component: u64) -> Places
+    requires { ⌜ count 64 (bit component) ≤ 20 ⌝ }
+    ensures { λ r. ⌜ (r .count ≤ 20) × Numbers 64 (bit component) (r .count) (λ i. getD (r .at) i 0) ⌝ }
 {
     let mut at = [0usize; 20];
     let mut k = 0;
-    let mut rest = island;
+    let mut rest = component;
     while rest != 0 {
         let q = smallest(rest);
         at[k] = q;
@@ -37,7 +36,7 @@ pub fn vertices(island: u64) -> Places
 // The bits of a word at the numbered vertices.
 fn compress(w: u64, at: [usize; 20], k: usize) -> u64
     requires { ⌜ (k ≤ 20) × ((i : ℕ) → i < k → getD at i 0 < 64) ⌝ }
-    ensures { λ r. ⌜ r ≡ partWord k at w ⌝ }
+    ensures { λ r. ⌜ r ≡ renumbered k at w ⌝ }
 {
     let mut bits = 0;
     let mut i = 0;

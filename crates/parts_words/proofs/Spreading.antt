@@ -1,12 +1,11 @@
 -- The search for the part of a vertex: what it has reached lies in the part, and where nothing is new it is the part.
--- Assumes nothing.
-use mathlib.Core.Bool.{_&&_, Bool, false, false≢true, or-false, true, true≢false, _||_}
+use mathlib.Core.Bool.{_&&_, Bool, false, or-false, true, _||_}
 use mathlib.Core.List.{List}
 use mathlib.Core.Logic.{inl, inr, _⊎_}
 use mathlib.Core.Path.{ap, ap₂, refl, subst, sym, _∙_, _≡_}
-use Prim.Native.Nat.{_%_, _+_, _-_, _/_, _<_, _≤_, _^_, suc, zero, ℕ}
+use Prim.Native.Nat.{_+_, _-_, _/_, _<_, _≤_, _^_, suc, zero, ℕ}
 use native.Mathlib.Numerals.{add-one}
-use native.Mathlib.Nat.{add-comm, add-assoc, add-zero}
+use native.Mathlib.Nat.{add-assoc, add-zero}
 use native.Mathlib.Omega.{arith}
 use lib.Arith.{lt-one}
 use lib.Bits.{and-le-r, bitAnd, bitOr}
@@ -20,7 +19,8 @@ use Rattle.cut.specs.Kernel.{count}
 use Rattle.graph.specs.Graph.{Graph, Simple}
 use Rattle.graph.specs.NeighbourWords.{graphIn}
 use Rattle.parts.proofs.PartLaws.{both, of-part, part-closed, part-has}
-use Rattle.parts.specs.Parts.{Closed, partAbove, partOf}
+use Rattle.parts.specs.internal.Parts.{Closed}
+use Rattle.parts.specs.Parts.{partOf}
 use Rattle.words.proofs.BitLaws.{
   bit-above,
   bit-and,
@@ -34,12 +34,12 @@ use Rattle.words.proofs.BitLaws.{
   lt-of-bits,
 }
 use Rattle.words.proofs.Flags.{both-true, either, same-by-both}
-use Rattle.words.proofs.Places.{other-place, same-place}
+use Rattle.words.proofs.Places.{same-place}
 use Rattle.words.proofs.SearchLaws.{some-in, some-none, some-true}
 use Rattle.words.proofs.Sums.{Monoid, fold-ext, fold-shift}
-use Rattle.words.specs.Bits.{Word, bit, digit, fold}
+use Rattle.words.specs.Bits.{bit, digit, fold}
 use Rattle.words.specs.Search.{first, some}
-use Rattle.parts_words.specs.Spreads.{PartWord, spreadTo}
+use Rattle.parts_words.specs.internal.Spreads.{PartWord, spreadTo}
 
 -- ---- one step: the vertices below i are passed
 abbrev pub Passed : List ℕ → ℕ → ℕ → ℕ → Type 0

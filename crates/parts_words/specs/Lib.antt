@@ -1,1 +1,1 @@
-pub mod Spreads
+pub mod internal

@@ -9,7 +9,7 @@ ghost use Rattle.graph.specs.Graph.{Simple};
 ghost use Rattle.graph.specs.NeighbourWords.{graphIn};
 ghost use Rattle.parts.specs.Parts.{partAbove};
 ghost use Rattle.words.specs.Bits.{bit};
-ghost use Rattle.parts_words.specs.Spreads.{PartWord, spreadTo};
+ghost use Rattle.parts_words.specs.internal.Spreads.{PartWord, spreadTo};
 
 // The marked vertices and their neighbours.
 pub fn spread(neighbours: &[u64], marked: u64) -> u64

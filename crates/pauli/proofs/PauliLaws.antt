@@ -1,5 +1,4 @@
 -- The laws of rows: each is a law of letters, tested, and summed over the places.
--- Assumes nothing.
 use mathlib.Core.Bool.{_&&_, Bool, false}
 use mathlib.Core.Path.{ap, ap₂, refl, sym, _∙_, _≡_}
 use Prim.Native.Nat.{ℕ}

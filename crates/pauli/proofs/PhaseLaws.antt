@@ -1,5 +1,4 @@
 -- Powers of i: laws by one test over their two bits, and sums of phases.
--- Assumes nothing.
 use mathlib.Core.Bool.{Bool, false, true, true≢false}
 use mathlib.Core.Path.{ap, refl, sym, _∙_, _≡_}
 use Prim.Native.Nat.{ℕ}

@@ -1,5 +1,4 @@
 -- From the words of the code to letters: commutation and the phase of a product are counts of ones.
--- Assumes nothing.
 use mathlib.Core.Bool.{_&&_, Bool, cond, false, true≢false}
 use mathlib.Core.Path.{ap, ap₂, refl, sym, _∙_, _≡_}
 use Prim.Native.Nat.{_%_, _*_, _+_, _/_, _<_, _^_, suc, zero, ℕ}

@@ -1,2 +1,2 @@
 pub mod Pauli
-pub mod Rows
+pub mod internal

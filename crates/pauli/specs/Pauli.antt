@@ -1,7 +1,6 @@
 -- Signed Pauli operators, here called rows: a power of i and a letter for each qubit, kept as a z word and an x
 -- word. The number of qubits, n, goes to the product and to the commutation rule, which sum over the places below
 -- n.
--- Assumes nothing.
 use mathlib.Core.Bool.{Bool, false, true}
 use Prim.Native.Nat.{suc, zero, ℕ}
 use lib.Dec.{eqb}
@@ -13,6 +12,7 @@ use Rattle.words.specs.Bits.{Word, bit, fold, parity, _⊕_}
 pub data Phase : Type 0 where
   i⁰ i¹ i² i³ : Phase
 
+-- i times a power of i
 abbrev pub timesI : Phase → Phase
 timesI i⁰ = i¹
 timesI i¹ = i²
@@ -31,17 +31,19 @@ i³ +ᵖ b = timesI (timesI (timesI b))
 abbrev pub sumPhase : ℕ → (ℕ → Phase) → Phase
 sumPhase = fold i⁰ _+ᵖ_
 
--- i to the k, and the exponent, 0 to 3
+-- i to the k
 unfoldable pub power : ℕ → Phase
 power zero = i⁰
 power (suc k) = timesI (power k)
 
+-- the exponent of a power of i, 0 to 3
 abbrev pub exponent : Phase → ℕ
 exponent i⁰ = 0
 exponent i¹ = 1
 exponent i² = 2
 exponent i³ = 3
 
+-- whether two powers of i are equal
 abbrev pub samePhase : Phase → Phase → Bool
 samePhase a b = eqb (exponent a) (exponent b)
 
@@ -72,12 +74,14 @@ letter false true = X
 letter true false = Z
 letter true true = Y
 
+-- the z bit of a letter
 abbrev pub zBit : Letter → Bool
 zBit I = false
 zBit X = false
 zBit Y = true
 zBit Z = true
 
+-- the x bit of a letter
 abbrev pub xBit : Letter → Bool
 xBit I = false
 xBit X = true
@@ -130,6 +134,7 @@ pub record Pauli : Type 0 where
 abbrev pub letterAt : Pauli → ℕ → Letter
 letterAt p q = letter (p .z q) (p .x q)
 
+-- I at every qubit, sign plus
 abbrev pub identity : Pauli
 identity = record { phase = i⁰; z = λ q. false; x = λ q. false }
 

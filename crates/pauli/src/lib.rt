@@ -6,7 +6,7 @@ ghost use mathlib.Core.Path.{_≡_};
 ghost use Prim.Native.Nat.{_<_};
 ghost use Rattle.pauli.specs.Pauli.{_+ᵖ_, anticommute, exponent, i⁰, letter, minus, mul};
 ghost use Rattle.pauli.specs.Pauli.{power, row, xBit, zBit};
-ghost use Rattle.pauli.specs.Rows.{pauliOf};
+ghost use Rattle.pauli.specs.internal.Rows.{pauliOf};
 
 // The letter at a place: of the pair (z, x), 00 is I, 01 is X, 10 is Z, 11 is Y.
 pub enum Letter {

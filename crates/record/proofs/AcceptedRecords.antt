@@ -1,5 +1,4 @@
 -- What it means that a record is accepted.
--- Assumes nothing.
 use mathlib.Core.Bool.{Bool, false, or-false, true, _||_}
 use mathlib.Core.List.{List}
 use mathlib.Core.Logic.{inl, inr, _⊎_}

@@ -1,6 +1,5 @@
 -- Columns that are sums of earlier ones: the test agrees, sums of rows keep the dependence, and for the x
 -- bits of a list it is a matter of the group alone.
--- Assumes nothing.
 use mathlib.Core.Bool.{_&&_, Bool, and-false, false, true}
 use mathlib.Core.Logic.{_↔_}
 use mathlib.Core.Path.{ap, sym, _∙_, _≡_}
@@ -16,7 +15,7 @@ use Rattle.words.proofs.SearchLaws.{every-at, every-in, some-in, some-true}
 use Rattle.words.proofs.Sums.{bitMonoid, fold-ext, fold-hom, fold-swap}
 use Rattle.words.specs.Bits.{Word, bit, parity, sameBit, wordOf, _⊕_}
 use Rattle.words.specs.Search.{every, first}
-use Rattle.record.specs.Columns.{ColumnDependent, columnDependent}
+use Rattle.record.specs.Columns.{ColumnDependent, isColumnDependent}
 use Rattle.record.specs.Reduced.{xWords}
 
 -- ---- the test
@@ -24,8 +23,8 @@ module _ (m : ℕ) (M : ℕ → Word) (q : ℕ) where
   abbrev isSum : ℕ → Bool
   isSum v = every m (λ j. sameBit (M j q) (parity q (λ t. bit v t && M j t)))
 
-  pub column-dependent : (columnDependent m M q ≡ true) ↔ ColumnDependent m M q
-  unfolding columnDependent
+  pub column-dependent : (isColumnDependent m M q ≡ true) ↔ ColumnDependent m M q
+  unfolding isColumnDependent
   column-dependent = (
     (λ e. (
       bit (first (2 ^ q) isSum),

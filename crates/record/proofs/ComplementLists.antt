@@ -1,5 +1,4 @@
 -- Complementing at each vertex of a list: the graph stays simple and the group is kept, signs included.
--- Assumes nothing.
 use mathlib.Core.List.{List, [], _∷_}
 use Prim.Native.Nat.{_<_, ℕ}
 use Rattle.graph.proofs.Complement.{complement-simple}

@@ -1,5 +1,4 @@
 -- Complementing a record at a vertex keeps its group, signs included.
--- Assumes nothing.
 use mathlib.Core.Bool.{Bool, cond, false, true}
 use mathlib.Core.Path.{ap, fun-ext, refl, sym, _∙_, _≡_}
 use Prim.Native.Nat.{_<_, ℕ}

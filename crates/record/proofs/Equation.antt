@@ -1,5 +1,4 @@
 -- The reduced record that document 01's text describes, found by search, is any record that is reduced.
--- Assumes nothing.
 use mathlib.Core.Bool.{_&&_, Bool, and-false, false, not, true, true≢false}
 use mathlib.Core.Logic.{inl, inr, _⊎_}
 use mathlib.Core.Path.{ap, ap₂, fun-ext, refl, subst, sym, _∙_, _≡_}
@@ -31,10 +30,10 @@ use Rattle.record.proofs.PlainRows.{
   plain-z,
   plainRow,
 }
-use Rattle.record.specs.Columns.{columnDependent}
+use Rattle.record.specs.Columns.{isColumnDependent}
 use Rattle.record.specs.Records.{GraphRecord, SameRecord, rowsOf}
 use Rattle.record.specs.Reduced.{
-  Reduced,
+  ReductionOf,
   graphOf,
   hadamardWhere,
   minusesOf,
@@ -51,17 +50,17 @@ use Rattle.record.specs.Reduced.{
   ysOf,
 }
 
-module _ (n : ℕ) (rows : ℕ → Pauli) (r : GraphRecord) (R : Reduced n rows r) where
+module _ (n : ℕ) (rows : ℕ → Pauli) (r : GraphRecord) (R : ReductionOf n rows r) where
   -- the qubits that get a Hadamard
   hadamards-are : (q : ℕ) → needsHadamard n rows q ≡ R .hadamards q
   hadamards-are q = go (lt-or-ge q n)
     where
       go : (q < n) ⊎ (n ≤ q) → needsHadamard n rows q ≡ R .hadamards q
-      go (inl l) = ap (λ b. b && columnDependent n (xWords rows) q) (lt-ltb q n l)
-          ∙ same-by-both (columnDependent n (xWords rows) q) (R .hadamards q)
+      go (inl l) = ap (λ b. b && isColumnDependent n (xWords rows) q) (lt-ltb q n l)
+          ∙ same-by-both (isColumnDependent n (xWords rows) q) (R .hadamards q)
           (λ e. R .rotated q l .1 (column-dependent n (xWords rows) q .0 e))
           (λ e. column-dependent n (xWords rows) q .1 (R .rotated q l .0 e))
-      go (inr l) = ap (λ b. b && columnDependent n (xWords rows) q) (le-ltb q n l) ∙ sym (R .above q l .0)
+      go (inr l) = ap (λ b. b && isColumnDependent n (xWords rows) q) (le-ltb q n l) ∙ sym (R .above q l .0)
 
   abbrev plain : ℕ → Pauli
   plain = plainRow n (r .graph) (R .ys) (R .minuses)

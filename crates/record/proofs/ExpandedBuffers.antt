@@ -1,5 +1,4 @@
 -- A lent buffer filled place by place, from the first.
--- Assumes nothing.
 use mathlib.Core.Bool.{Bool}
 use mathlib.Core.List.{List}
 use mathlib.Core.Path.{subst, sym, _∙_, _≡_}

@@ -1,5 +1,4 @@
 -- One generator of a record as the code makes it: on words of 64 bits, and as numbers.
--- Assumes nothing.
 use mathlib.Core.Bool.{Bool, false}
 use mathlib.Core.List.{List}
 use mathlib.Core.Path.{ap, refl, subst, sym, _∙_, _≡_}

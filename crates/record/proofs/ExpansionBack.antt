@@ -1,5 +1,4 @@
 -- "expansion brings that group back": the list that an accepted record expands to.
--- Assumes nothing.
 use mathlib.Core.Bool.{false}
 use mathlib.Core.Path.{_≡_}
 use Prim.Native.Nat.{_<_, ℕ, _≤_}

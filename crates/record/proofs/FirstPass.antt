@@ -1,6 +1,5 @@
 -- Reduction, the first pass: pivots over the columns of x bits in rising order. A column without a pivot
 -- is a sum of earlier ones; the others are kept.
--- Assumes nothing.
 use mathlib.Core.Bool.{_&&_, Bool, and-false, false, false≢true, not, true, true≢false}
 use mathlib.Core.Logic.{Iff·trans, inl, inr, _↔_, _≢_, _⊎_}
 use mathlib.Core.Path.{ap, refl, subst, sym, _∙_, _≡_}
@@ -16,7 +15,7 @@ use Rattle.stabilizer.proofs.Independence.{independent-pivot}
 use Rattle.stabilizer.proofs.Products.{x-linear}
 use Rattle.stabilizer.proofs.RowOperations.{pivot-column, pivot-commuting, pivot-keeps, pivot-same}
 use Rattle.stabilizer.proofs.Within.{pivot-within}
-use Rattle.stabilizer.specs.Elimination.{pivotOn}
+use Rattle.stabilizer.specs.internal.Elimination.{pivotOn}
 use Rattle.stabilizer.specs.Groups.{Commuting, Independent, SameGroup, Within}
 use Rattle.words.proofs.Places.{other-place, parity-at, place-comm, put-other, put-same}
 use Rattle.words.proofs.SearchLaws.{first-is}

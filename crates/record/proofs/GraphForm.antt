@@ -1,6 +1,5 @@
 -- Commuting rows with an x bit at the own place and no other are the rows of a simple graph, with X or Y
 -- at the own place.
--- Assumes nothing.
 use mathlib.Core.Bool.{_&&_, Bool, and-comm, and-false, and-true, false, not, true, true≢false}
 use mathlib.Core.Logic.{inl, inr, _⊎_}
 use mathlib.Core.Path.{ap, ap₂, refl, subst, sym, _∙_, _≡_}

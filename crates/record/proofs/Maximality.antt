@@ -1,5 +1,4 @@
 -- A list's group is maximal, so one inclusion between the groups of two lists makes them equal.
--- Assumes nothing.
 use mathlib.Core.Bool.{false}
 use mathlib.Core.Logic.{inl, inr, _⊎_}
 use mathlib.Core.Path.{ap, subst, sym, _∙_, _≡_}

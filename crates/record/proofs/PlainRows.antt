@@ -1,6 +1,5 @@
 -- Rows of a record without Hadamards: X or Y at the own place, I or Z elsewhere, and a sign. And the
 -- Hadamards of a record, which come last.
--- Assumes nothing.
 use mathlib.Core.Bool.{_&&_, Bool, and-comm, cond, false, true}
 use mathlib.Core.Path.{ap, fun-ext, refl, sym, _∙_, _≡_}
 use Prim.Native.Nat.{_<_, ℕ}

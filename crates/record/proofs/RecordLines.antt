@@ -1,5 +1,4 @@
 -- What the lines of a record say where they do not hold.
--- Assumes nothing.
 use mathlib.Core.Bool.{Bool, false, _||_}
 use mathlib.Core.Path.{_≡_}
 use Prim.Native.Nat.{_≤_}

@@ -1,6 +1,5 @@
 -- The codes of a reduced record are 0, 2, 4, 6, 8 and 10: Y never comes with a Hadamard. And no edge
 -- joins two vertices with a Hadamard.
--- Assumes nothing.
 use mathlib.Core.Bool.{_&&_, Bool, and-false, cond, false, true, true≢false}
 use mathlib.Core.Logic.{inl, inr, _⊎_}
 use mathlib.Core.Path.{ap, ap₂, refl, subst, sym, _∙_, _≡_}
@@ -20,10 +19,10 @@ use Rattle.words.proofs.Sums.{bitMonoid, fold-unit, last-or, lt-or-ge}
 use Rattle.words.specs.Bits.{_⊕_}
 use Rattle.record.proofs.ColumnLaws.{element-dependent}
 use Rattle.record.proofs.ReducedRecords.{reduced-is}
-use Rattle.record.specs.Columns.{ColumnDependent, columnDependent}
+use Rattle.record.specs.Columns.{ColumnDependent, isColumnDependent}
 use Rattle.record.specs.Records.{GraphRecord, rowsOf}
 use Rattle.record.specs.Reduced.{
-  Reduced,
+  ReductionOf,
   minusesOf,
   plainCode,
   reduced,
@@ -51,7 +50,7 @@ code-number true false false e = (4, lit< tt, refl)
 code-number true false true e = (5, lit< tt, refl)
 code-number true true s e = absurd (true≢false e)
 
-module _ (n : ℕ) (rows : ℕ → Pauli) (r : GraphRecord) (R : Reduced n rows r) where
+module _ (n : ℕ) (rows : ℕ → Pauli) (r : GraphRecord) (R : ReductionOf n rows r) where
   -- ---- the generator of a vertex with a Hadamard
   module _ (j : ℕ) (l : j < n) (h : R .hadamards j ≡ true) where
     generator-x : (q : ℕ)
@@ -106,6 +105,6 @@ reduced-codes-among n rows P = codes-among n rows (reduced n rows) (reduced-is n
 pub reduced-code-above : (n : ℕ) (rows : ℕ → Pauli) (q : ℕ) → n ≤ q → codeOf (reducedCode n rows q) ≡ 0
 unfolding ysOf minusesOf
 reduced-code-above n rows q l =
-    ap (λ b. codeOf (withHadamard (b && columnDependent n (xWords rows) q)
+    ap (λ b. codeOf (withHadamard (b && isColumnDependent n (xWords rows) q)
     (plainCode (b && (reducedRow n rows q) .z q) (b && signBit ((reducedRow n rows q) .phase)))))
     (le-ltb q n l)

@@ -1,6 +1,5 @@
 -- Every list has a reduced record, of its group; two lists have equal ones exactly if their groups are
 -- equal; and reducing a reduced record changes nothing.
--- Assumes nothing.
 use mathlib.Core.Logic.{inl, inr, _↔_}
 use mathlib.Core.Path.{subst, sym}
 use Prim.Native.Nat.{ℕ}
@@ -14,16 +13,16 @@ use Rattle.record.proofs.Equation.{equation}
 use Rattle.record.proofs.Reduction.{reduction}
 use Rattle.record.proofs.Unique.{record-path, reduced-carried}
 use Rattle.record.specs.Records.{GraphRecord, SameRecord, rowsOf}
-use Rattle.record.specs.Reduced.{Reduced, reduced}
+use Rattle.record.specs.Reduced.{ReductionOf, reduced}
 
 -- the rows of a record with a simple graph are a list
 pub record-proper : (n : ℕ) (r : GraphRecord) → Simple n (r .graph) → Proper n (rowsOf n r)
 record-proper n r S = act-proper n (r .codes) (graphGenerator (r .graph)) (graph-proper n (r .graph) S)
 
 -- the function gives the reduced record
-pub reduced-is : (n : ℕ) (rows : ℕ → Pauli) → Proper n rows → Reduced n rows (reduced n rows)
+pub reduced-is : (n : ℕ) (rows : ℕ → Pauli) → Proper n rows → ReductionOf n rows (reduced n rows)
 reduced-is n rows P = elim (reduction n rows (P .commuting) (P .within)) [
-  | inl H ↦ subst (Reduced n rows)
+  | inl H ↦ subst (ReductionOf n rows)
       (sym (record-path (reduced n rows) (H .answer) (equation n rows (H .answer) (H .is-reduced))))
       (H .is-reduced)
   | inr never ↦ absurd (never (P .independent))

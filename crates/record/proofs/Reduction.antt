@@ -1,6 +1,5 @@
 -- Reduction, put together: after both passes every column has its pivot, and the rows give the reduced
 -- record; or some row is left over, and the list is dependent.
--- Assumes nothing.
 use mathlib.Core.Bool.{_&&_, Bool, false, not, true, true≢false}
 use mathlib.Core.Logic.{inl, inr, _⊎_}
 use mathlib.Core.Path.{ap, ap₂, fun-ext, refl, subst, sym, _∙_, _≡_}
@@ -33,7 +32,7 @@ use Rattle.record.proofs.SecondPass.{
 }
 use Rattle.record.specs.Columns.{ColumnDependent}
 use Rattle.record.specs.Records.{GraphRecord, SameRecord}
-use Rattle.record.specs.Reduced.{Reduced, hadamardWhere, minusesOf, recordOf, reduced, xWords, ysOf}
+use Rattle.record.specs.Reduced.{ReductionOf, hadamardWhere, minusesOf, recordOf, reduced, xWords, ysOf}
 
 module _ (n : ℕ) (input R₁ : ℕ → Pauli) (kept : Word) (P : FirstPass n input R₁ kept n) (R : ℕ → Pauli)
     (pivoted : Word)
@@ -61,7 +60,7 @@ module _ (n : ℕ) (input R₁ : ℕ → Pauli) (kept : Word) (P : FirstPass n i
     passes-independent = P .independent .1 (subst (Independent n) (fun-ext undone)
         (independent-act n hadamards _ (Q .independent .1 (unit-independent n R pivots))))
 
-    pub passes-reduced : Reduced n input (recordOf n (failed n kept) R)
+    pub passes-reduced : ReductionOf n input (recordOf n (failed n kept) R)
     unfolding ysOf minusesOf
     passes-reduced =
         record {
@@ -100,7 +99,7 @@ module _ (n : ℕ) (input R₁ : ℕ → Pauli) (kept : Word) (P : FirstPass n i
 -- ---- the verdict
 pub record HasReduced (n : ℕ) (input : ℕ → Pauli) : Type 0 where
   pub answer : GraphRecord
-  pub is-reduced : Reduced n input answer
+  pub is-reduced : ReductionOf n input answer
   pub independent : Independent n input
 
 pub reduction : (n : ℕ) (input : ℕ → Pauli) → Commuting n n input → ((i : ℕ) → i < n → Within n (input i))

@@ -1,6 +1,5 @@
 -- Reduction, the second pass: Hadamards on the columns that were not kept, and pivots there too. A row
 -- that is no pivot after it has lost all its letters.
--- Assumes nothing.
 use mathlib.Core.Bool.{_&&_, Bool, and-false, cond, false, not, true}
 use mathlib.Core.Logic.{Iff·trans, inl, inr, _↔_, _≢_}
 use mathlib.Core.Path.{ap, ap₂, refl, sym, _∙_, _≡_}
@@ -19,7 +18,7 @@ use Rattle.stabilizer.proofs.Independence.{independent-pivot}
 use Rattle.stabilizer.proofs.Products.{Linear, anticommute-form, x-linear, z-linear}
 use Rattle.stabilizer.proofs.RowOperations.{pivot-column, pivot-commuting, pivot-keeps, pivot-same}
 use Rattle.stabilizer.proofs.Within.{act-within, pivot-within}
-use Rattle.stabilizer.specs.Elimination.{pivotOn}
+use Rattle.stabilizer.specs.internal.Elimination.{pivotOn}
 use Rattle.stabilizer.specs.Groups.{Commuting, Independent, SameGroup, Trivial, Within}
 use Rattle.words.proofs.Finite.{bits, ⊕-zero}
 use Rattle.words.proofs.Places.{other-place, parity-at, place-comm, put-other, put-same}

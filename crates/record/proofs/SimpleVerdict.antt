@@ -1,5 +1,4 @@
 -- What line 7 means: some vertex is its own neighbour, or some edge has one end only.
--- Assumes nothing.
 use mathlib.Core.Bool.{Bool, false, not, or-true, true, true≢false, _||_}
 use mathlib.Core.Logic.{inl, inr, _↔_, _⊎_}
 use mathlib.Core.Path.{ap, ap₂, refl, sym, _∙_, _≡_}

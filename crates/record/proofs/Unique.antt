@@ -1,5 +1,4 @@
 -- A group has one reduced record: whatever list it comes from.
--- Assumes nothing.
 use mathlib.Core.Path.{sym, _∙_, _≡_}
 use Prim.Native.Nat.{ℕ}
 use Rattle.pauli.specs.Pauli.{Pauli}
@@ -8,7 +7,7 @@ use Rattle.stabilizer.specs.Groups.{SameGroup}
 use Rattle.record.proofs.ColumnLaws.{dependent-same}
 use Rattle.record.proofs.Equation.{equation}
 use Rattle.record.specs.Records.{GraphRecord, SameRecord}
-use Rattle.record.specs.Reduced.{Reduced}
+use Rattle.record.specs.Reduced.{ReductionOf}
 
 -- records that agree are equal
 pub record-path : (r s : GraphRecord) → SameRecord r s → r ≡ s
@@ -16,7 +15,7 @@ record-path r s E = λ i. record { graph = λ j q. E .neighbours j q i; codes = 
 
 -- the reduced record of a list is that of every list with the same group
 pub reduced-carried : (n : ℕ) (rows others : ℕ → Pauli) (r : GraphRecord) → SameGroup n n rows others
-    → Reduced n rows r → Reduced n others r
+    → ReductionOf n rows r → ReductionOf n others r
 reduced-carried n rows others r E R =
     record {
       simple = R .simple;
@@ -33,7 +32,7 @@ reduced-carried n rows others r E R =
     }
 
 pub reduced-unique : (n : ℕ) (rows others : ℕ → Pauli) (r s : GraphRecord) → SameGroup n n rows others
-    → Reduced n rows r → Reduced n others s → r ≡ s
+    → ReductionOf n rows r → ReductionOf n others s → r ≡ s
 reduced-unique n rows others r s E R Q =
     sym (record-path _ r (equation n others r (reduced-carried n rows others r E R)))
     ∙ record-path _ s (equation n others s Q)

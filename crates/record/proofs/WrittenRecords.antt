@@ -1,5 +1,4 @@
 -- A record written into buffers and read back: it is the same record, and it is refused by no line.
--- Assumes nothing.
 use mathlib.Core.Bool.{false, _||_}
 use mathlib.Core.Logic.{inl, inr}
 use mathlib.Core.Path.{ap, ap₂, subst, sym, _∙_, _≡_}

@@ -1,5 +1,4 @@
 -- Records that no line refuses.
--- Assumes nothing.
 use mathlib.Core.Path.{_≡_}
 use Prim.Native.Nat.{_<_, _^_, ℕ, _≤_}
 use lib.ListN.{getD, length}

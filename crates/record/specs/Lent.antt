@@ -1,10 +1,9 @@
 -- Records as they are lent, and the lines of the refusals that speak of a record.
--- Assumes nothing.
 use mathlib.Core.Bool.{Bool, not, _||_}
 use mathlib.Core.List.{List, [], _∷_}
 use Prim.Native.Nat.{_^_, ℕ}
 use Rattle.buffers.specs.Buffers.{tabulate}
-use Rattle.buffers.specs.Refusals.{Line, badCount, line, otherThan, reaching}
+use Rattle.buffers.specs.Refusals.{Refusal, badCount, line, otherThan, reaching}
 use Rattle.clifford.specs.Clifford.{codeOf}
 use Rattle.clifford.specs.Vectors.{codesOf}
 use Rattle.graph.specs.Graph.{Graph}
@@ -32,6 +31,7 @@ heldRows l = rowsOf (l .n) (heldRecord l)
 abbrev pub neighbourWords : ℕ → GraphRecord → List ℕ
 neighbourWords n r = tabulate n (λ j. wordOf n (r .graph j))
 
+-- and its codes, one number for each vertex
 abbrev pub codeNumbers : ℕ → GraphRecord → List ℕ
 codeNumbers n r = tabulate n (λ q. codeOf (r .codes q))
 
@@ -54,7 +54,7 @@ notSimple n θ = some n (λ i. θ i i || some n (λ j. not (sameBit (θ i j) (θ
 
 -- the lines of a record in checking order; `others`: a further buffer has a wrong length; `six`: line 6 holds of
 -- a further argument
-abbrev pub recordLines : LentRecord → Bool → Bool → List Line
+abbrev pub recordLines : LentRecord → Bool → Bool → List Refusal
 recordLines l others six =
     line 2 (badCount (l .n)) ∷ line 4 (recordLengths l || others) ∷ line 5 (recordStray l)
     ∷ line 6 (recordCodes l || six) ∷ line 7 (notSimple (l .n) ((heldRecord l) .graph)) ∷ []

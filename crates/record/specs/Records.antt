@@ -1,5 +1,4 @@
 -- Graph records, their generators, and complementing a record.
--- Assumes nothing.
 use mathlib.Core.Bool.{cond}
 use mathlib.Core.List.{List, [], _∷_}
 use mathlib.Core.Path.{_≡_}

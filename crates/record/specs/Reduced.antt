@@ -1,5 +1,4 @@
 -- The reduced record of a generator list: as a relation, and as a function of the list.
--- Assumes nothing.
 use mathlib.Core.Bool.{_&&_, Bool, cond, false, not, true}
 use mathlib.Core.Logic.{_↔_}
 use mathlib.Core.Path.{_≡_}
@@ -12,7 +11,7 @@ use Rattle.pauli.specs.Pauli.{Pauli, signBit}
 use Rattle.stabilizer.specs.Groups.{SameGroup, product}
 use Rattle.words.specs.Bits.{Word, bit, sameBit}
 use Rattle.words.specs.Search.{every, first}
-use Rattle.record.specs.Columns.{ColumnDependent, columnDependent}
+use Rattle.record.specs.Columns.{ColumnDependent, isColumnDependent}
 use Rattle.record.specs.Records.{GraphRecord, rowsOf}
 
 -- "The code is 0 for +X, 2 for -X, 4 for +Y, 6 for -Y": y, the letter is Y; s, the sign is minus
@@ -28,7 +27,7 @@ abbrev pub xWords : (ℕ → Pauli) → ℕ → Word
 xWords rows j = (rows j) .x
 
 -- ---- the relation: r has the list's group and the form that document 01 gives the reduced record
-pub record Reduced (n : ℕ) (rows : ℕ → Pauli) (r : GraphRecord) : Type 0 where
+pub record ReductionOf (n : ℕ) (rows : ℕ → Pauli) (r : GraphRecord) : Type 0 where
   pub simple : Simple n (r .graph)
   -- where a Hadamard is used, where the letter is Y, where the sign is minus; nowhere at or above n
   pub hadamards : Word
@@ -44,12 +43,13 @@ pub record Reduced (n : ℕ) (rows : ℕ → Pauli) (r : GraphRecord) : Type 0 w
 -- ---- the function
 -- the qubits that get a Hadamard; none at or above n
 abbrev pub needsHadamard : ℕ → (ℕ → Pauli) → Word
-needsHadamard n rows q = ltb q n && columnDependent n (xWords rows) q
+needsHadamard n rows q = ltb q n && isColumnDependent n (xWords rows) q
 
 -- a Hadamard at each qubit that the word names, the identity elsewhere
 abbrev pub hadamardWhere : Word → ℕ → Clifford
 hadamardWhere h q = cond (h q) (cliffordOf 8) identityClifford
 
+-- the list with these Hadamards
 abbrev pub rotatedRows : ℕ → (ℕ → Pauli) → ℕ → Pauli
 rotatedRows n rows j = act n (hadamardWhere (needsHadamard n rows)) (rows j)
 
@@ -57,6 +57,7 @@ rotatedRows n rows j = act n (hadamardWhere (needsHadamard n rows)) (rows j)
 abbrev pub xOnlyAt : ℕ → (ℕ → Pauli) → ℕ → ℕ → Bool
 xOnlyAt n rows j v = every n (λ q. sameBit ((product n n (bit v) rows) .x q) (eqb q j))
 
+-- that generator, for qubit j
 unfoldable pub reducedRow : ℕ → (ℕ → Pauli) → ℕ → Pauli
 reducedRow n rows j =
     product n n (bit (first (2 ^ n) (xOnlyAt n (rotatedRows n rows) j))) (rotatedRows n rows)
@@ -69,6 +70,7 @@ graphOf n rows j q = (ltb j n && ltb q n) && ((rows j) .z q && not (eqb q j))
 unfoldable pub ysOf : ℕ → (ℕ → Pauli) → Word
 ysOf n rows q = ltb q n && (rows q) .z q
 
+-- whether the sign is minus; false at and above n
 unfoldable pub minusesOf : ℕ → (ℕ → Pauli) → Word
 minusesOf n rows q = ltb q n && signBit ((rows q) .phase)
 
@@ -88,5 +90,6 @@ reduced n rows = recordOf n (needsHadamard n rows) (reducedRow n rows)
 abbrev pub reducedGraph : ℕ → (ℕ → Pauli) → Graph
 reducedGraph n rows = (reduced n rows) .graph
 
+-- the codes of that record
 abbrev pub reducedCode : ℕ → (ℕ → Pauli) → ℕ → Clifford
 reducedCode n rows = (reduced n rows) .codes

@@ -1,5 +1,4 @@
 -- A graph is simple exactly if its square of bits is its own transpose and has no bit on the diagonal.
--- Assumes nothing.
 use mathlib.Core.Bool.{_&&_, Bool, and-true, false, not, true, true≢false, _||_}
 use mathlib.Core.List.{List}
 use mathlib.Core.Path.{ap, ap₂, refl, subst, sym, _∙_, _≡_}
@@ -19,7 +18,7 @@ use Rattle.words.proofs.Finite.{bits}
 use Rattle.words.proofs.SearchLaws.{some-ext, some-false, some-true}
 use Rattle.words.specs.Bits.{bit, sameBit, _⊕_}
 use Rattle.words.specs.Search.{first, some}
-use Rattle.record_checks.specs.Copies.{Copied}
+use Rattle.record_checks.specs.internal.Copies.{Copied}
 
 -- ---- the copy: its first i words
 pub record CopiedTo (i n : ℕ) (words rows : List ℕ) : Type 0 where

@@ -12,7 +12,7 @@ ghost use Rattle.buffers.specs.Refusals.{firstFitting};
 ghost use Rattle.record.specs.Lent.{notSimple, recordLengths, recordLines};
 ghost use Rattle.words.specs.Bits.{_⊕_, bit};
 ghost use Rattle.words.specs.Search.{some};
-ghost use Rattle.record_checks.specs.Copies.{Copied};
+ghost use Rattle.record_checks.specs.internal.Copies.{Copied};
 
 // Line 4: one of the two buffers does not have n places.
 fn record_lengths(n: usize, neighbours: &[u64], codes: &[u8]) -> bool

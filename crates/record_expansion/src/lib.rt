@@ -7,7 +7,7 @@ ghost use mathlib.Core.Path.{_≡_};
 ghost use Prim.Native.Nat.{ℕ, _<_, _≤_, _^_};
 ghost use lib.ListN.{getD, length};
 ghost use Rattle.clifford.specs.Vectors.{codesOf};
-ghost use Rattle.pauli.specs.Rows.{generatorOf};
+ghost use Rattle.pauli.specs.internal.Rows.{generatorOf};
 ghost use Rattle.record.specs.Lent.{heldRows};
 ghost use Rattle.record.specs.Records.{recordRow};
 ghost use Rattle.stabilizer.specs.Lists.{listOf};

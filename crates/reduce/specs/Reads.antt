@@ -1,6 +1,5 @@
 -- What the program promises of the text that it reads. No contract can name what a read brings, so the text is some
 -- list of bytes.
--- Assumes nothing.
 use mathlib.Core.List.{List}
 use Prim.Native.Nat.{ℕ}
 use lib.ListN.{take}

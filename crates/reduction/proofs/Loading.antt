@@ -1,5 +1,4 @@
 -- A lent list loaded into the tableau, and what an accepted list gives the elimination.
--- Assumes nothing.
 use mathlib.Core.Bool.{_&&_, Bool, cond, false, not}
 use mathlib.Core.List.{List, [], _∷_}
 use mathlib.Core.Logic.{inl, inr, _≢_, _⊎_}
@@ -18,14 +17,14 @@ use Rattle.stabilizer.proofs.Accepted.{EarlyAccepted}
 use Rattle.stabilizer.proofs.Within.{identity-within}
 use Rattle.stabilizer.specs.Groups.{Within}
 use Rattle.stabilizer.specs.Lists.{GeneratorList, dependent, rows}
-use Rattle.stabilizer.specs.Tableau.{tableau}
+use Rattle.stabilizer.specs.internal.Tableau.{tableau}
 use Rattle.words.proofs.BitLaws.{zero-bit}
 use Rattle.words.proofs.Places.{other-place}
 use Rattle.words.proofs.Sums.{lt-or-ge}
 use Rattle.words.specs.Bits.{bit, isOdd, _⊕_}
-use Rattle.reduction_passes.proofs.Storing.{stored-elsewhere, stored-here, stored-long}
-use Rattle.reduction_passes.specs.Passes.{Loaded}
-use Rattle.reduction.specs.Reducible.{Reducible}
+use Rattle.reduction.proofs.Storing.{stored-elsewhere, stored-here, stored-long}
+use Rattle.reduction.specs.internal.Passes.{Loaded}
+use Rattle.reduction.specs.internal.Reducible.{Reducible}
 
 abbrev blankRow : List ℕ
 blankRow = 0 ∷ 0 ∷ []

@@ -1,1 +1,1 @@
-pub mod Reducible
+pub mod internal

@@ -1,7 +1,10 @@
 // Reduction by value on an array of 64 rows of two words, z and x, beside one word of signs.
-use reduction_passes::pass;
-use reduction_passes::rotate;
-use reduction_record::write_record;
+mod passes;
+mod reading_off;
+
+use crate::passes::pass;
+use crate::passes::rotate;
+use crate::reading_off::write_record;
 use words::flip_where;
 use words::mask;
 ghost use mathlib.Core.Bool.{cond, not};
@@ -10,10 +13,10 @@ ghost use Prim.Native.Nat.{ℕ, _<_, _≤_};
 ghost use lib.ListN.{length};
 ghost use Rattle.record.specs.Lent.{codeNumbers, neighbourWords};
 ghost use Rattle.record.specs.Reduced.{reduced};
-ghost use Rattle.reduction.specs.Reducible.{Reducible};
-ghost use Rattle.reduction_passes.specs.Passes.{Loaded};
+ghost use Rattle.reduction.specs.internal.Reducible.{Reducible};
+ghost use Rattle.reduction.specs.internal.Passes.{Loaded};
 ghost use Rattle.stabilizer.specs.Lists.{dependent, rows};
-ghost use Rattle.stabilizer.specs.Tableau.{tableau};
+ghost use Rattle.stabilizer.specs.internal.Tableau.{tableau};
 
 // The rows of a lent list, with a word for their signs.
 pub fn load_list(n: usize, signs: &[u8], z: &[u64], x: &[u64], minuses: &mut u64) -> [[u64; 2]; 64]

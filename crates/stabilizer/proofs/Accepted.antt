@@ -1,5 +1,4 @@
 -- What it means that a list is accepted.
--- Assumes nothing.
 use mathlib.Core.Bool.{Bool, false, _||_}
 use mathlib.Core.List.{List}
 use mathlib.Core.Path.{ap, ap₂, subst, sym, _∙_, _≡_}

@@ -1,5 +1,4 @@
 -- The number that a list is refused with before any elimination, from the answers of the tests in their order.
--- Assumes nothing.
 use mathlib.Core.Bool.{Bool, false, _||_}
 use mathlib.Core.Path.{ap₂, refl, sym, _∙_, _≡_}
 use Prim.Native.Nat.{_^_, ℕ, _≤_}

@@ -1,5 +1,4 @@
 -- Lists with the same first n rows: each is proper where the other is, and the groups are one.
--- Assumes nothing.
 use mathlib.Core.Bool.{false}
 use mathlib.Core.Path.{ap, ap₂, subst, sym, _∙_, _≡_}
 use Prim.Native.Nat.{_<_, ℕ}

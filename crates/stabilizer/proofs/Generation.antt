@@ -1,5 +1,4 @@
 -- The two descriptions of a group agree: all products of commuting generators are products of chosen ones.
--- Assumes nothing.
 use mathlib.Core.Bool.{Bool, false, true}
 use mathlib.Core.Logic.{_↔_}
 use mathlib.Core.Path.{subst, sym, _∙_, _≡_}

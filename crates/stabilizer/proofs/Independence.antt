@@ -1,5 +1,4 @@
 -- Independence modulo 2, signs dropped, through row operations and codes.
--- Assumes nothing.
 use mathlib.Core.Bool.{_&&_, Bool, and-false, false, true, true≢false}
 use mathlib.Core.Logic.{_↔_, _≢_}
 use mathlib.Core.Path.{ap, ap₂, fun-ext, refl, subst, sym, _∙_, _≡_}
@@ -25,7 +24,8 @@ use Rattle.stabilizer.proofs.RowOperations.{
   shear-undo,
 }
 use Rattle.stabilizer.proofs.Within.{act-within}
-use Rattle.stabilizer.specs.Elimination.{clear, lend, pivotOn, shear}
+use Rattle.stabilizer.specs.internal.Elimination.{clear, lend, pivotOn}
+use Rattle.stabilizer.specs.Elimination.{shear}
 use Rattle.stabilizer.specs.Groups.{Commuting, InGroup, Independent, Proper, Trivial, chosen, product}
 
 -- rows with the x bits of the unit matrix are independent

@@ -1,5 +1,4 @@
 -- The membership test is true of the elements of the group and of nothing else.
--- Assumes nothing.
 use mathlib.Core.Bool.{_&&_, Bool, true}
 use mathlib.Core.Logic.{inl, inr, _↔_, _⊎_}
 use mathlib.Core.Path.{ap, ap₂, refl, subst, sym, _∙_, _≡_}

@@ -1,6 +1,5 @@
 -- The product of chosen rows by a loop over them: the rows below i are looked at. The code multiplies rows of 64
 -- qubits.
--- Assumes nothing.
 use mathlib.Core.Bool.{false, true}
 use mathlib.Core.Path.{ap, ap₂, subst, sym, _∙_, _≡_}
 use Prim.Native.Nat.{_+_, _<_, zero-le, ℕ, _≤_}

@@ -1,7 +1,5 @@
 -- A number comes back from the lines of a list only where its line is true.
--- Assumes nothing.
 use mathlib.Core.Bool.{Bool, or-false, true, _||_}
-use mathlib.Core.List.{[]}
 use mathlib.Core.Path.{sym, _∙_, _≡_}
 use Prim.Native.Nat.{ℕ}
 use lib.Dec.{lit<}

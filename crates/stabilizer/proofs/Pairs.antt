@@ -1,5 +1,4 @@
 -- Line 9 by pairs: each generator is tested against the ones before it, on whole words.
--- Assumes nothing.
 use mathlib.Core.Bool.{Bool, false}
 use mathlib.Core.List.{List}
 use mathlib.Core.Path.{subst, sym, _∙_, _≡_}

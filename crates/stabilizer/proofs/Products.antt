@@ -1,5 +1,4 @@
 -- Products of chosen rows: their signs, their bits, and what they commute with.
--- Assumes nothing.
 use mathlib.Core.Bool.{_&&_, Bool, false, true}
 use mathlib.Core.Path.{ap, ap₂, refl, sym, _∙_, _≡_}
 use Prim.Native.Nat.{_<_, suc, zero, ℕ}

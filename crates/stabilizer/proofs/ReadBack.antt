@@ -1,5 +1,4 @@
 -- A list written into buffers and read back: its rows, its group and its lines.
--- Assumes nothing.
 use mathlib.Core.Bool.{false, true≢false}
 use mathlib.Core.Logic.{inl, inr}
 use mathlib.Core.Path.{ap, refl, subst, sym, _∙_, _≡_}

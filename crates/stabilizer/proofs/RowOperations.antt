@@ -1,5 +1,4 @@
 -- The row operations of an elimination keep the group, and a pivot leaves its column with one bit.
--- Assumes nothing.
 use mathlib.Core.Bool.{_&&_, Bool, and-false, false, not, true}
 use mathlib.Core.Path.{ap, ap₂, refl, subst, sym, _∙_, _≡_}
 use Prim.Native.Nat.{_<_, ℕ}
@@ -19,7 +18,8 @@ use Rattle.stabilizer.proofs.GroupLaws.{
   same-trans,
 }
 use Rattle.stabilizer.proofs.Products.{Linear, chosen-mul, x-linear}
-use Rattle.stabilizer.specs.Elimination.{clear, lend, pivotOn, shear}
+use Rattle.stabilizer.specs.internal.Elimination.{clear, lend, pivotOn}
+use Rattle.stabilizer.specs.Elimination.{shear}
 use Rattle.stabilizer.specs.Groups.{Commuting, InGroup, SameGroup, chosen}
 
 -- ---- one row multiplied into others

@@ -1,5 +1,4 @@
 -- A loop that looks for a number below b that passes: none does so far.
--- Assumes nothing.
 use mathlib.Core.Bool.{Bool, false, true}
 use mathlib.Core.Path.{sym, _∙_, _≡_}
 use Prim.Native.Nat.{_+_, _<_, zero-le, ℕ, _≤_}

@@ -1,5 +1,4 @@
 -- What the tests say that the lines of lists and records share: the number of qubits, and a buffer's length.
--- Assumes nothing.
 use mathlib.Core.Bool.{false, not, _||_}
 use mathlib.Core.List.{List}
 use mathlib.Core.Path.{ap, ap₂, sym, _≡_}

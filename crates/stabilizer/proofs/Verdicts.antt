@@ -1,5 +1,4 @@
 -- What lines 9 and 10 mean: two generators do not commute; some product of generators has no letter.
--- Assumes nothing.
 use mathlib.Core.Bool.{_&&_, Bool, and-true, false, false≢true, not, true, true≢false}
 use mathlib.Core.Logic.{inl, inr, _↔_}
 use mathlib.Core.Path.{ap, ap₂, refl, subst, sym, _∙_, _≡_}

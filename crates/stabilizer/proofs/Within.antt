@@ -1,6 +1,5 @@
 -- Rows of n qubits: products, codes and row operations keep them, and a larger number of qubits changes
 -- none of these.
--- Assumes nothing.
 use mathlib.Core.Bool.{Bool, false, true}
 use mathlib.Core.Path.{ap, ap₂, refl, subst, sym, _∙_, _≡_}
 use Prim.Native.Nat.{_<_, suc, zero, ℕ, _≤_}
@@ -25,7 +24,8 @@ use Rattle.pauli.specs.Pauli.{
 }
 use Rattle.words.proofs.Sums.{bitMonoid, fold-more}
 use Rattle.words.specs.Bits.{Word, fold, _⊕_}
-use Rattle.stabilizer.specs.Elimination.{clear, lend, pivotOn, shear}
+use Rattle.stabilizer.specs.internal.Elimination.{clear, lend, pivotOn}
+use Rattle.stabilizer.specs.Elimination.{shear}
 use Rattle.stabilizer.specs.Groups.{InGroup, Within, chosen, product}
 
 -- ---- what is kept

@@ -1,5 +1,4 @@
 -- Groups carried by one code for each qubit.
--- Assumes nothing.
 use mathlib.Core.Path.{_≡_}
 use Prim.Native.Nat.{ℕ}
 use Rattle.clifford.specs.Clifford.{Clifford}

@@ -1,5 +1,4 @@
 -- Generator lists on n qubits, and the group of a list.
--- Assumes nothing.
 use mathlib.Core.Bool.{Bool, false, true}
 use mathlib.Core.Path.{_≡_}
 use Prim.Native.Nat.{_<_, ℕ, _≤_}
@@ -21,7 +20,8 @@ chosen true r = r
 abbrev pub product : ℕ → ℕ → Word → (ℕ → Pauli) → Pauli
 product n m w rows = fold identity (mul n) m (λ j. chosen (w j) (rows j))
 
--- the group once more: generators that commute need each be taken once at most, and in index order
+-- "its group is all products, signs included": generators that commute need each be taken once at most, and in index
+-- order
 abbrev pub InGroup : ℕ → ℕ → (ℕ → Pauli) → Pauli → Type 0
 InGroup n m rows p = (w : Word) × (p ≡ product n m w rows)
 

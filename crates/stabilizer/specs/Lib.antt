@@ -2,5 +2,5 @@ pub mod Groups
 pub mod Carries
 pub mod Elimination
 pub mod Lists
-pub mod Tableau
 pub mod Membership
+pub mod internal

@@ -1,12 +1,11 @@
 -- Generator lists as they are lent, and the lines of the refusals that speak of a list.
--- Assumes nothing.
 use mathlib.Core.Bool.{_&&_, Bool, not, _||_}
 use mathlib.Core.List.{_++_, List, [], _∷_}
 use Prim.Native.Nat.{_^_, ℕ}
 use lib.Dec.{eqb}
 use lib.ListN.{getD}
 use Rattle.buffers.specs.Buffers.{tabulate}
-use Rattle.buffers.specs.Refusals.{Line, badCount, line, otherThan, reaching}
+use Rattle.buffers.specs.Refusals.{Refusal, badCount, line, otherThan, reaching}
 use Rattle.pauli.specs.Pauli.{Pauli, anticommute, signBit, signedRow}
 use Rattle.words.specs.Bits.{bit, digit, isOdd, wordOf}
 use Rattle.words.specs.Search.{every, some}
@@ -54,19 +53,20 @@ clashing n R = some n (λ i. some n (λ j. anticommute n (R i) (R j)))
 abbrev pub letterless : ℕ → Pauli → Bool
 letterless n p = every n (λ q. not (p .x q) && not (p .z q))
 
+-- some product of them, not the empty one, is letterless
 unfoldable pub dependent : ℕ → (ℕ → Pauli) → Bool
 dependent n R = some (2 ^ n) (λ v. not (eqb v 0) && letterless n (product n n (bit v) R))
 
 -- the lines of any list of rows, which need neither commute nor be independent; `others`: a further buffer has a wrong
 -- length
-abbrev pub formLines : GeneratorList → Bool → List Line
+abbrev pub formLines : GeneratorList → Bool → List Refusal
 formLines l others =
     line 2 (badCount (l .n)) ∷ line 4 (listLengths l || others) ∷ line 5 (listStray l) ∷ line 6 (listSigns l) ∷ []
 
 -- the lines that are read off the buffers before any elimination
-abbrev pub earlyLines : GeneratorList → Bool → List Line
+abbrev pub earlyLines : GeneratorList → Bool → List Refusal
 earlyLines l others = formLines l others ++ (line 9 (clashing (l .n) (rows l)) ∷ [])
 
 -- the lines of a list in checking order
-abbrev pub listLines : GeneratorList → Bool → List Line
+abbrev pub listLines : GeneratorList → Bool → List Refusal
 listLines l others = earlyLines l others ++ (line 10 (dependent (l .n) (rows l)) ∷ [])

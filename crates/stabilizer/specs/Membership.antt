@@ -1,5 +1,4 @@
 -- Membership in a group as a test, by search over the products of the generators.
--- Assumes nothing.
 use mathlib.Core.Bool.{_&&_, Bool}
 use Prim.Native.Nat.{_^_, ℕ}
 use Rattle.pauli.specs.Pauli.{Pauli, samePhase}

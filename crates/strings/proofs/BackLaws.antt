@@ -1,5 +1,4 @@
 -- A list written and read, and a text read and written: each comes back. Equal texts are of equal lists.
--- Assumes nothing.
 use mathlib.Core.Bool.{Bool, true}
 use mathlib.Core.List.{_++_, List}
 use mathlib.Core.Path.{ap, ap₂, refl, sym, _∙_, _≡_}

@@ -1,5 +1,4 @@
 -- The worked texts of the request, at the definitions: the texts of lists, and the numbers and lists of texts.
--- Assumes nothing.
 use mathlib.Core.List.{List, [], map, _++_, _∷_}
 use mathlib.Core.Path.{refl, _≡_}
 use Prim.Native.Nat.{ℕ}

@@ -1,5 +1,4 @@
 -- The form by position is exactly the form as printing: a text passes exactly if it is the text of some list.
--- Assumes nothing.
 use mathlib.Core.Bool.{_&&_, true}
 use mathlib.Core.List.{List}
 use mathlib.Core.Logic.{_↔_}

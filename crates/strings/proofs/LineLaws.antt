@@ -1,5 +1,4 @@
 -- One line of a text of Pauli strings: its bytes by column, and the row that it stands for.
--- Assumes nothing.
 use mathlib.Core.Bool.{_&&_, Bool, cond, false, true, _||_}
 use mathlib.Core.List.{List}
 use mathlib.Core.Logic.{inl, inr}

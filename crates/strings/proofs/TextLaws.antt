@@ -1,5 +1,4 @@
 -- The text of a list: its length, how many newlines it has, and each of its bytes by line and column.
--- Assumes nothing.
 use mathlib.Core.Bool.{Bool, false, true}
 use mathlib.Core.List.{_++_, List, [], _∷_}
 use mathlib.Core.Logic.{inl, inr}

@@ -1,5 +1,4 @@
 -- A text of Pauli strings by position: whether it has the form, and the generator list that it stands for.
--- Assumes nothing.
 use mathlib.Core.Bool.{_&&_, Bool, cond, not, _||_}
 use mathlib.Core.List.{_++_, List, [], _∷_}
 use Prim.Native.Nat.{_*_, _+_, suc, ℕ}

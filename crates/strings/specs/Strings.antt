@@ -1,6 +1,5 @@
 -- Generator lists as texts of Pauli strings: "a plus or an ASCII hyphen for minus and n letters of I, X, Y, Z, leftmost
 -- letter qubit 0, one per line" (02, §10). Bytes are numbers: 43 is the plus, 45 the hyphen, 10 ends a line.
--- Assumes nothing.
 use mathlib.Core.Bool.{Bool, false, true}
 use mathlib.Core.List.{_++_, List, [], _∷_}
 use mathlib.Core.Path.{_≡_}

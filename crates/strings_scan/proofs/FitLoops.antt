@@ -1,5 +1,4 @@
 -- Loops that test one place after another and keep whether all have passed; a line and a text by their tests.
--- Assumes nothing.
 use mathlib.Core.Bool.{_&&_, Bool, false, true}
 use mathlib.Core.List.{List}
 use mathlib.Core.Path.{ap, ap₂, refl, sym, _∙_, _≡_}

@@ -1,5 +1,4 @@
 -- The loop that reads the lines of a text into three arrays, and the list at their start.
--- Assumes nothing.
 use mathlib.Core.List.{List}
 use mathlib.Core.Path.{ap, subst, sym, _∙_, _≡_}
 use Prim.Native.Nat.{_*_, _+_, _<_, zero-le, ℕ, _≤_}

@@ -1,5 +1,4 @@
 -- Loops that print: the letters of a row one by one, a line, and the lines of a list.
--- Assumes nothing.
 use mathlib.Core.Bool.{Bool}
 use mathlib.Core.List.{_++_, List, [], _∷_, append-nil}
 use mathlib.Core.Path.{ap, ap₂, refl, subst, sym, _∙_, _≡_}

@@ -1,6 +1,5 @@
 -- The loop that reads the letters of a line, the last first: each word is doubled and takes one more bit. The row that
 -- the line stands for.
--- Assumes nothing.
 use mathlib.Core.Bool.{Bool}
 use mathlib.Core.List.{List}
 use mathlib.Core.Path.{ap, ap₂, sym, _∙_, _≡_}

@@ -1,5 +1,4 @@
 -- The length of a text of n lines: it fits a word exactly where n is below 2 ^ 32; where each line starts.
--- Assumes nothing.
 use mathlib.Core.List.{List}
 use mathlib.Core.Path.{subst, sym, _≡_}
 use Prim.Native.Nat.{_*_, _+_, _<_, _^_, ℕ, _≤_}

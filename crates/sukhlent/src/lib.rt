@@ -4,7 +4,7 @@ mod ties;
 ghost use Rattle.call_compare.specs.Comparisons.{compareCall};
 ghost use Rattle.contracts.specs.Calls.{Call};
 ghost use Rattle.call_cut.specs.Cuts.{cutCall};
-ghost use Rattle.call_generate.specs.Generated.{generateCall};
+ghost use Rattle.call_generate.specs.Generation.{generateCall};
 ghost use Rattle.call_image.specs.Images.{imageCall};
 ghost use Rattle.call_lists.specs.Calls.{checkCall, expandCall, reduceCall};
 ghost use Rattle.operations.specs.Steps.{complementOf, czOn, gateWith, pivotOf};

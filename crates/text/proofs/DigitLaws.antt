@@ -1,6 +1,5 @@
 -- Digits read back: the value of a printed digit is the digit, a byte that has a value is its printed digit,
 -- and the digits of a number lead back to it.
--- Assumes nothing.
 use mathlib.Core.Path.{_≡_, refl, ap, ap₂, _∙_, subst}
 use mathlib.Core.Bool.{Bool, true, false, cond}
 use mathlib.Core.List.{List, [], _∷_, _++_}
@@ -10,7 +9,7 @@ use native.Mathlib.Omega.{arith}
 use lib.Dec.{ltb, lit<}
 use borrow.Author.Tests.{lt-ltb, le-ltb, ltb-true, ltb-false}
 use Rattle.text.specs.Text.{hexDigit, hexText, decimal}
-use Rattle.text.specs.Scan.{hexValue, push}
+use Rattle.text.specs.internal.Scan.{hexValue, push}
 
 -- a statement of a case distinction, by its two cases
 module _ {A : Type 0} (P : A → Type 0) where

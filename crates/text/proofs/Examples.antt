@@ -1,19 +1,18 @@
 -- The worked texts of document 01, at the definitions: the input, the output, a refusal, and the verdicts on
 -- the input, on the empty text and on the names alone.
--- Assumes nothing.
 use mathlib.Core.Path.{_≡_, refl}
 use mathlib.Core.Bool.{true, false}
 use mathlib.Core.List.{List, [], _∷_, _++_}
 use Prim.Native.Nat.{ℕ, _+_}
 use lib.ListN.{replicate}
-use Rattle.text.specs.Text.{hexDigit, hexText, decimal, Line, lineText, linesText, listNames, listText}
-use Rattle.text.specs.Text.{recordLine, recordLines, recordText, refusedText}
-use Rattle.text.specs.Scan.{hexValue, push, namesStep, signStep, zStep, xStep, oneMore, step, begin}
-use Rattle.text.specs.Scan.{Reading, reading, feed, fed, verdict}
+use Rattle.text.specs.Text.{hexDigit, hexText, decimal, ListLine, lineText, linesText, listNames, listText}
+use Rattle.text.specs.Text.{qubitLine, qubitLines, recordText, refusedText}
+use Rattle.text.specs.internal.Scan.{hexValue, push, namesStep, signStep, zStep, xStep, oneMore, scanByte, begin}
+use Rattle.text.specs.internal.Scan.{Reading, asReading, feed, fed, verdict}
 use Rattle.text.specs.declared.scan.Verdict.{Verdict}
 
 -- XX and ZZ
-bell : List Line
+bell : List ListLine
 bell = record { sign = 0; z = 0; x = 3 } ∷ record { sign = 0; z = 3; x = 0 } ∷ []
 
 -- 15 zeros and a digit
@@ -35,7 +34,7 @@ output-text : recordText 2 (2 ∷ 1 ∷ []) (0 ∷ 8 ∷ [])
     ∷ 110 ∷ 101 ∷ 105 ∷ 103 ∷ 104 ∷ 98 ∷ 111 ∷ 117 ∷ 114 ∷ 115 ∷ 10
     ∷ 48 ∷ 32 ∷ 48 ∷ 32 ∷ wordText 2 ++ 10
     ∷ 49 ∷ 32 ∷ 56 ∷ 32 ∷ wordText 1 ++ 10 ∷ []
-unfolding hexDigit hexText decimal recordLine recordLines recordText
+unfolding hexDigit hexText decimal qubitLine qubitLines recordText
 output-text = refl
 
 -- "refused 10"
@@ -45,13 +44,13 @@ refusal-text = refl
 
 -- the reading of a text, from empty buffers
 readingOf : List ℕ → Reading
-readingOf t = fed (reading begin (replicate 64 0) (replicate 64 0) (replicate 64 0)) t
+readingOf t = fed (asReading begin (replicate 64 0) (replicate 64 0) (replicate 64 0)) t
 
 judgement : List ℕ → Verdict
 judgement t = verdict (readingOf t .scan)
 
 input-read : judgement input ≡ record { «has_form» = true; count = 2 }
-unfolding judgement readingOf verdict fed feed step namesStep signStep zStep xStep oneMore hexValue push begin
+unfolding judgement readingOf verdict fed feed scanByte namesStep signStep zStep xStep oneMore hexValue push begin
 input-read = refl
 
 empty-read : judgement [] ≡ record { «has_form» = false; count = 0 }
@@ -59,5 +58,5 @@ unfolding judgement readingOf verdict fed begin
 empty-read = refl
 
 names-read : judgement listNames ≡ record { «has_form» = true; count = 0 }
-unfolding judgement readingOf verdict fed feed step namesStep begin
+unfolding judgement readingOf verdict fed feed scanByte namesStep begin
 names-read = refl

@@ -1,12 +1,11 @@
 -- A text is the text of one list only: printing a list is injective.
--- Assumes nothing.
 use mathlib.Core.Path.{_≡_, refl, sym, ap, _∙_}
 use mathlib.Core.List.{List, [], _∷_, _++_, append-assoc, append-nil}
 use Prim.Native.Nat.{ℕ, _+_, _^_, _<_}
 use native.Mathlib.Omega.{arith}
 use lib.ListN.{length, take, drop, length-append}
 use lib.Seq.{take-at, drop-at}
-use Rattle.text.specs.Text.{hexText, space, newline, Line, Fits, AllFit, lineText, linesText, listNames}
+use Rattle.text.specs.Text.{hexText, space, newline, ListLine, Fits, AllFit, lineText, linesText, listNames}
 use Rattle.text.specs.Text.{listText, TextOf}
 use Rattle.text.proofs.HexLaws.{length-hex}
 use Rattle.text.proofs.DigitLaws.{readHex, hex-back}
@@ -28,11 +27,11 @@ words-long v w = length-hex 16 v ∙ sym (length-hex 16 w)
 hex-injective : (v w : ℕ) → v < 2 ^ 64 → w < 2 ^ 64 → hexText 16 v ≡ hexText 16 w → v ≡ w
 hex-injective v w hv hw e = sym (hex-back 16 v hv) ∙ ap (readHex 0) e ∙ hex-back 16 w hw
 
-pub line-injective : (l m : Line) → Fits l → Fits m → lineText l ≡ lineText m → l ≡ m
+pub line-injective : (l m : ListLine) → Fits l → Fits m → lineText l ≡ lineText m → l ≡ m
 unfolding lineText
 line-injective l m fl fm e =
-    let digit : Line → List ℕ = λ k. (48 + k .sign) ∷ [] in
-    let upto-z : Line → List ℕ = λ k. digit k ++ space ++ hexText 16 (k .z) in
+    let digit : ListLine → List ℕ = λ k. (48 + k .sign) ∷ [] in
+    let upto-z : ListLine → List ℕ = λ k. digit k ++ space ++ hexText 16 (k .z) in
     let e₁ = parts-right (upto-z l ++ space ++ hexText 16 (l .x)) newline (upto-z m ++ space
     ++ hexText 16 (m .x)) newline refl e .0 in
     let e₂ = parts-right (upto-z l ++ space) (hexText 16 (l .x)) (upto-z m
@@ -47,7 +46,7 @@ line-injective l m fl fm e =
     let xs : l .x ≡ m .x = hex-injective (l .x) (m .x) (fl .x) (fm .x) (e₂ .1) in
     λ i. record { sign = signs i; z = zs i; x = xs i }
 
-pub length-line : (l : Line) → length (lineText l) ≡ 36
+pub length-line : (l : ListLine) → length (lineText l) ≡ 36
 unfolding lineText
 length-line l =
     let upto-z = (48 + l .sign) ∷ [] ++ space ++ hexText 16 (l .z) in
@@ -60,7 +59,7 @@ length-line l =
       length-hex 16 (l .x),
     )
 
-lines-injective : (ls ms : List Line) → AllFit ls → AllFit ms → linesText ls ≡ linesText ms → ls ≡ ms
+lines-injective : (ls ms : List ListLine) → AllFit ls → AllFit ms → linesText ls ≡ linesText ms → ls ≡ ms
 unfolding linesText
 lines-injective [] [] f g e = refl
 lines-injective [] (m ∷ ms) f g e =
@@ -74,14 +73,14 @@ lines-injective (l ∷ ls) (m ∷ ms) f g e =
     λ i. line-injective l m (f .0) (g .0) (p .0) i ∷ rest i
 
 -- a text is the text of at most one list
-pub list-unique : (ls ms : List Line) (t : List ℕ) → TextOf ls t → TextOf ms t → ls ≡ ms
+pub list-unique : (ls ms : List ListLine) (t : List ℕ) → TextOf ls t → TextOf ms t → ls ≡ ms
 unfolding listText
 list-unique ls ms t p q =
     lines-injective ls ms (p .fit) (q .fit)
     (parts-left listNames (linesText ls) listNames (linesText ms) refl (sym (p .text) ∙ q .text) .1)
 
 -- the lines of two lists, one behind the other
-pub lines-append : (ls ms : List Line) → linesText (ls ++ ms) ≡ linesText ls ++ linesText ms
+pub lines-append : (ls ms : List ListLine) → linesText (ls ++ ms) ≡ linesText ls ++ linesText ms
 unfolding linesText
 lines-append [] ms = refl
 lines-append (l ∷ ls) ms =
@@ -89,12 +88,12 @@ lines-append (l ∷ ls) ms =
     ∙ sym (append-assoc (lineText l) (linesText ls) (linesText ms))
 
 -- the text with one line more
-pub list-more : (ls : List Line) (l : Line) → listText (ls ++ l ∷ []) ≡ listText ls ++ lineText l
+pub list-more : (ls : List ListLine) (l : ListLine) → listText (ls ++ l ∷ []) ≡ listText ls ++ lineText l
 unfolding listText linesText
 list-more ls l =
     ap (λ t. listNames ++ t) (lines-append ls (l ∷ [])
     ∙ ap (λ t. linesText ls ++ t) (append-nil (lineText l)))
 
-pub fit-more : (ls : List Line) (l : Line) → AllFit ls → Fits l → AllFit (ls ++ l ∷ [])
+pub fit-more : (ls : List ListLine) (l : ListLine) → AllFit ls → Fits l → AllFit (ls ++ l ∷ [])
 fit-more [] l f g = (g, tt)
 fit-more (k ∷ ls) l f g = (f .0, fit-more ls l (f .1) g)

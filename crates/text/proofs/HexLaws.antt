@@ -1,5 +1,4 @@
 -- The digits of a printed number: how many there are, and one after the other.
--- Assumes nothing.
 use mathlib.Core.Path.{_≡_, refl, sym, ap, ap₂, _∙_}
 use mathlib.Core.Bool.{Bool, true, false, cond}
 use mathlib.Core.List.{List, [], _∷_, _++_}
@@ -9,7 +8,7 @@ use native.Mathlib.Omega.{arith}
 use lib.Dec.{ltb, lit≤}
 use lib.ListN.{length, set, length-append}
 use lib.Pow.{shr-shr}
-use Rattle.text.specs.Text.{hexDigit, hexText, decimal, space, written}
+use Rattle.text.specs.Text.{hexDigit, hexText, decimal, space, overwritten}
 use Rattle.text.proofs.Writing.{write-next}
 
 pub length-hex : (k w : ℕ) → length (hexText k w) ≡ k
@@ -47,14 +46,14 @@ length-decimal k = by-size (ltb k 10)
 
 -- a turn of the loop that prints a word
 pub write-digit : (o : List ℕ) (at w i : ℕ) → at + 16 ≤ length o → i < 16
-    → set (written o at (hexText i (w / 2 ^ (64 - 4 * i)))) (at + i) (hexDigit (w / 2 ^ (60 - 4 * i) % 16))
-    ≡ written o at (hexText (i + 1) (w / 2 ^ (64 - 4 * (i + 1))))
+    → set (overwritten o at (hexText i (w / 2 ^ (64 - 4 * i)))) (at + i) (hexDigit (w / 2 ^ (60 - 4 * i) % 16))
+    ≡ overwritten o at (hexText (i + 1) (w / 2 ^ (64 - 4 * (i + 1))))
 write-digit o at w i room inside =
     let sofar = hexText i (w / 2 ^ (64 - 4 * i)) in
     let d = hexDigit (w / 2 ^ (60 - 4 * i) % 16) in
     let long : length sofar ≡ i = length-hex i (w / 2 ^ (64 - 4 * i)) in
-    ap (λ k. set (written o at sofar) (at + k) d) (sym long) ∙ write-next o at sofar d (omega arith)
-    ∙ ap (written o at) (sym (hex-next w i inside))
+    ap (λ k. set (overwritten o at sofar) (at + k) d) (sym long) ∙ write-next o at sofar d (omega arith)
+    ∙ ap (overwritten o at) (sym (hex-next w i inside))
 
 pub length-field : (k : ℕ) → length (decimal k ++ space) ≤ 3
 length-field k = omega (arith, length-append (decimal k) space, length-decimal k)

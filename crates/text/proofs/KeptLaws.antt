@@ -1,5 +1,4 @@
 -- What is kept of a list of at most 64 lines is the list; a longer list has the count 65.
--- Assumes nothing.
 use mathlib.Core.Path.{_≡_, _∙_}
 use mathlib.Core.List.{List, map}
 use Prim.Native.Nat.{ℕ, _≤_, _<_}
@@ -7,10 +6,10 @@ use native.Mathlib.Nat.{min-eq-left, min-eq-right}
 use native.Mathlib.Omega.{arith}
 use lib.ListN.{length, take, length-map}
 use lib.Seq.{take-all}
-use Rattle.text.specs.Text.{Line}
-use Rattle.text.specs.Scan.{Reading, Kept}
+use Rattle.text.specs.Text.{ListLine}
+use Rattle.text.specs.internal.Scan.{Reading, LinesKept}
 
-module _ (ls : List Line) (w : Reading) (kept : Kept ls w) where
+module _ (ls : List ListLine) (w : Reading) (kept : LinesKept ls w) where
   pub count-many : 64 < length ls → w .scan .count ≡ 65
   count-many many = kept .count ∙ min-eq-right {n = 65} {m = length ls} (omega arith)
 
@@ -18,7 +17,7 @@ module _ (ls : List Line) (w : Reading) (kept : Kept ls w) where
     pub count-few : w .scan .count ≡ length ls
     count-few = kept .count ∙ min-eq-left {n = length ls} {m = 65} (omega arith)
 
-    whole : (f : Line → ℕ) → take 64 (map f ls) ≡ map f ls
+    whole : (f : ListLine → ℕ) → take 64 (map f ls) ≡ map f ls
     whole f = take-all 64 (map f ls) (omega (arith, length-map ls f))
 
     pub signs-few : take (length ls) (w .signs) ≡ map (λ l. l .sign) ls

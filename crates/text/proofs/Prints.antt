@@ -1,17 +1,16 @@
 -- What was printed, and where it ends in its buffer.
--- Assumes nothing.
 use mathlib.Core.List.{List}
 use mathlib.Core.Path.{ap, _∙_, _≡_}
 use Prim.Native.Nat.{_+_, ℕ, _≤_}
 use native.Mathlib.Omega.{arith}
 use lib.ListN.{drop, length, length-append, length-drop, take}
 use lib.Seq.{length-take-le}
-use Rattle.text.specs.Text.{Printed, written}
+use Rattle.text.specs.Text.{Printed, overwritten}
 
 -- what was printed ends within the buffer
 pub printed-fits : (bytes before after : List ℕ) (r : ℕ) → Printed bytes 0 before after r →
     length after ≡ length before → r ≤ length after
-unfolding written
+unfolding overwritten
 printed-fits bytes before after r P e =
     omega (
       arith,

@@ -1,5 +1,4 @@
 -- What the scanner does with the bytes of a line, field by field.
--- Assumes nothing.
 use mathlib.Core.Path.{_≡_, refl, ap, ap₂, _∙_}
 use mathlib.Core.Bool.{_&&_, cond}
 use mathlib.Core.List.{List, [], _∷_, _++_}
@@ -9,9 +8,19 @@ use native.Mathlib.Numerals.{add-one}
 use native.Mathlib.Omega.{arith}
 use lib.Dec.{ltb}
 use borrow.Author.Tests.{lt-ltb, le-ltb}
-use Rattle.text.specs.Text.{hexDigit, hexText, space, Line, Fits, lineText}
-use Rattle.text.specs.Scan.{signStep, zStep, xStep, step, oneMore, Reading, reading, stored, feedNext}
-use Rattle.text.specs.Scan.{feed, fed}
+use Rattle.text.specs.Text.{hexDigit, hexText, space, ListLine, Fits, lineText}
+use Rattle.text.specs.internal.Scan.{
+  signStep,
+  zStep,
+  xStep,
+  scanByte,
+  oneMore,
+  Reading,
+  asReading,
+  stored,
+  feedNext,
+}
+use Rattle.text.specs.internal.Scan.{feed, fed}
 use Rattle.text.specs.declared.scan.Scan.{Scan}
 use Rattle.text.specs.declared.scan.Place.{Place}
 use Rattle.text.specs.declared.scan.Place.the-variants.{Sign, Space, Z, X}
@@ -19,12 +28,12 @@ use Rattle.text.proofs.DigitLaws.{value-digit, push-exact, fewer-digits
 use Rattle.text.proofs.Feeding.{fed-append, fed-one}
 
 -- a byte that ends no line leaves the buffers
-feed-keeps : (w : Reading) (b : ℕ) (next : Scan) → step (w .scan) b ≡ next → next .count ≡ w .scan .count
-    → feed w b ≡ reading next (w .signs) (w .zs) (w .xs)
+feed-keeps : (w : Reading) (b : ℕ) (next : Scan) → scanByte (w .scan) b ≡ next → next .count ≡ w .scan .count
+    → feed w b ≡ asReading next (w .signs) (w .zs) (w .xs)
 unfolding feed
 feed-keeps w b next e same =
     ap (feedNext w) e
-    ∙ ap (λ t. cond (t && ltb (w .scan .count) 64) (stored w next) (reading next (w .signs) (w .zs) (w .xs)))
+    ∙ ap (λ t. cond (t && ltb (w .scan .count) 64) (stored w next) (asReading next (w .signs) (w .zs) (w .xs)))
     (le-ltb (w .scan .count) (next .count) (le-of-eq same))
 
 -- a word is read digit by digit: S k v is the reading after k digits, of value v
@@ -47,10 +56,10 @@ scanAt n p s z x = record { place = p; sign = s; z = z; x = x; count = n }
 
 module _ (A B C : List ℕ) (n : ℕ) where
   abbrev pub readingAt : Place → ℕ → ℕ → ℕ → Reading
-  readingAt p s z x = reading (scanAt n p s z x) A B C
+  readingAt p s z x = asReading (scanAt n p s z x) A B C
 
   sign-read : (s z x d : ℕ) → d < 10 → feed (readingAt Sign s z x) (48 + d) ≡ readingAt Space d 0 0
-  unfolding step signStep
+  unfolding scanByte signStep
   sign-read s z x d small =
       feed-keeps (readingAt Sign s z x) (48 + d) (scanAt n Space d 0 0)
       (simp (le-ltb (48 + d) 48 (omega arith), lt-ltb (48 + d) 58 (omega arith))
@@ -58,34 +67,34 @@ module _ (A B C : List ℕ) (n : ℕ) where
       refl
 
   space-read : (s z x : ℕ) → feed (readingAt Space s z x) 32 ≡ readingAt (Z 0) s z x
-  unfolding step
+  unfolding scanByte
   space-read s z x = feed-keeps (readingAt Space s z x) 32 (scanAt n (Z 0) s z x) refl refl
 
   z-read : (s x k v d : ℕ) → k < 16 → v < 2 ^ 60 → d < 16
       → feed (readingAt (Z k) s v x) (hexDigit d) ≡ readingAt (Z (k + 1)) s (v * 16 + d) x
-  unfolding step zStep
+  unfolding scanByte zStep
   z-read s x k v d inside small one =
       feed-keeps (readingAt (Z k) s v x) (hexDigit d) (scanAt n (Z (k + 1)) s (v * 16 + d) x)
       (simp (lt-ltb k 16 inside, value-digit d one, lt-ltb d 16 one, push-exact v d small)) refl
 
   z-ends : (s z x : ℕ) → feed (readingAt (Z 16) s z x) 32 ≡ readingAt (X 0) s z x
-  unfolding step zStep
+  unfolding scanByte zStep
   z-ends s z x = feed-keeps (readingAt (Z 16) s z x) 32 (scanAt n (X 0) s z x) refl refl
 
   x-read : (s z k v d : ℕ) → k < 16 → v < 2 ^ 60 → d < 16
       → feed (readingAt (X k) s z v) (hexDigit d) ≡ readingAt (X (k + 1)) s z (v * 16 + d)
-  unfolding step xStep
+  unfolding scanByte xStep
   x-read s z k v d inside small one =
       feed-keeps (readingAt (X k) s z v) (hexDigit d) (scanAt n (X (k + 1)) s z (v * 16 + d))
       (simp (lt-ltb k 16 inside, value-digit d one, lt-ltb d 16 one, push-exact v d small)) refl
 
   x-ends : (s z x : ℕ)
       → feed (readingAt (X 16) s z x) 10 ≡ feedNext (readingAt (X 16) s z x) (scanAt (oneMore n) Sign s z x)
-  unfolding feed step xStep
+  unfolding feed scanByte xStep
   x-ends s z x = refl
 
   -- the reading after a whole line
-  pub line-read : (s z x : ℕ) (l : Line) → Fits l
+  pub line-read : (s z x : ℕ) (l : ListLine) → Fits l
       → fed (readingAt Sign s z x) (lineText l)
       ≡ feedNext (readingAt (X 16) (l .sign) (l .z) (l .x))
       (scanAt (oneMore n) Sign (l .sign) (l .z) (l .x))

@@ -1,5 +1,4 @@
 -- The scan of the text of a list ends at the start of a line, with the lines counted and kept.
--- Assumes nothing.
 use mathlib.Core.Path.{_≡_, refl, sym, ap, _∙_, subst}
 use mathlib.Core.Logic.{⊎-elim}
 use mathlib.Core.Bool.{true, false, and-false}
@@ -13,9 +12,19 @@ use lib.ListN.{length, take, set, length-append, length-set, length-map}
 use lib.Seq.{take-all, take-suc-set, take-append-le}
 use borrow.Author.Tests.{lt-ltb, le-ltb}
 use Rattle.words.proofs.Sums.{lt-or-ge}
-use Rattle.text.specs.Text.{Line, Fits, AllFit, lineText, linesText, listNames, listText, TextOf}
-use Rattle.text.specs.Scan.{namesStep, step, oneMore, begin, Reading, reading, stored, feedNext, feed}
-use Rattle.text.specs.Scan.{fed, Kept}
+use Rattle.text.specs.Text.{ListLine, Fits, AllFit, lineText, linesText, listNames, listText, TextOf}
+use Rattle.text.specs.internal.Scan.{
+  namesStep,
+  scanByte,
+  oneMore,
+  begin,
+  Reading,
+  asReading,
+  stored,
+  feedNext,
+  feed,
+}
+use Rattle.text.specs.internal.Scan.{fed, LinesKept}
 use Rattle.text.specs.declared.scan.Scan.{Scan}
 use Rattle.text.specs.declared.scan.Place.the-variants.{Sign, X}
 use Rattle.text.proofs.Feeding.{fed-append}
@@ -48,15 +57,15 @@ count-more i = ⊎-elim
     (lt-or-ge i 65)
 
 -- the list ls has been read: a line starts, and the lines are kept
-pub record Read (ls : List Line) (w : Reading) : Type 0 where
+pub record Read (ls : List ListLine) (w : Reading) : Type 0 where
   pub place : w .scan .place ≡ Sign
-  pub kept : Kept ls w
+  pub kept : LinesKept ls w
   pub signs-whole : length (w .signs) ≡ 64
   pub zs-whole : length (w .zs) ≡ 64
   pub xs-whole : length (w .xs) ≡ 64
 
 -- a line more is stored, or is beyond the buffers
-module _ (ls : List Line) (l : Line) (w : Reading) (read : Read ls w) where
+module _ (ls : List ListLine) (l : ListLine) (w : Reading) (read : Read ls w) where
   abbrev n : ℕ
   n = w .scan .count
 
@@ -69,7 +78,7 @@ module _ (ls : List Line) (l : Line) (w : Reading) (read : Read ls w) where
   long : length (ls ++ l ∷ []) ≡ length ls + 1
   long = length-append ls (l ∷ [])
 
-  column : (f : Line → ℕ) (buf : List ℕ) → take (length ls + 1) buf ≡ take 64 (map f ls ++ f l ∷ [])
+  column : (f : ListLine → ℕ) (buf : List ℕ) → take (length ls + 1) buf ≡ take 64 (map f ls ++ f l ∷ [])
       → take (length (ls ++ l ∷ [])) buf ≡ take 64 (map f (ls ++ l ∷ []))
   column f buf e = ap (λ k. take k buf) long ∙ e ∙ ap (take 64) (sym (map-append f ls (l ∷ [])))
 
@@ -79,7 +88,7 @@ module _ (ls : List Line) (l : Line) (w : Reading) (read : Read ls w) where
   line-stored : length ls < 64 → Read (ls ++ l ∷ []) (stored before next)
   line-stored inside =
       let here : n ≡ length ls = read .kept .count ∙ min-eq-left (omega arith) in
-      let put : (f : Line → ℕ) (buf : List ℕ) → length buf ≡ 64 → take (length ls) buf ≡ take 64 (map f ls)
+      let put : (f : ListLine → ℕ) (buf : List ℕ) → length buf ≡ 64 → take (length ls) buf ≡ take 64 (map f ls)
       → take (length (ls ++ l ∷ [])) (set buf n (f l)) ≡ take 64 (map f (ls ++ l ∷ [])) =
       λ f buf whole e. column f (set buf n (f l))
       (ap (λ k. take (length ls + 1) (set buf k (f l))) here
@@ -98,9 +107,9 @@ module _ (ls : List Line) (l : Line) (w : Reading) (read : Read ls w) where
         xs-whole = length-set (w .xs) n (l .x) ∙ read .xs-whole;
       }
 
-  line-beyond : 64 ≤ length ls → Read (ls ++ l ∷ []) (reading next (w .signs) (w .zs) (w .xs))
+  line-beyond : 64 ≤ length ls → Read (ls ++ l ∷ []) (asReading next (w .signs) (w .zs) (w .xs))
   line-beyond outside =
-      let stay : (f : Line → ℕ) (buf : List ℕ) → length buf ≡ 64 → take (length ls) buf ≡ take 64 (map f ls)
+      let stay : (f : ListLine → ℕ) (buf : List ℕ) → length buf ≡ 64 → take (length ls) buf ≡ take 64 (map f ls)
       → take (length (ls ++ l ∷ [])) buf ≡ take 64 (map f (ls ++ l ∷ [])) =
       λ f buf whole e. column f buf
       (column-full buf (map f ls) (length ls) (f l) whole (length-map ls f) e outside)
@@ -124,7 +133,7 @@ module _ (ls : List Line) (l : Line) (w : Reading) (read : Read ls w) where
   line-more fit =
       let A = w .signs in
       let start : w ≡ readingAt A (w .zs) (w .xs) n Sign (w .scan .sign) (w .scan .z) (w .scan .x) =
-      λ i. reading (scanAt n (read .place i) (w .scan .sign) (w .scan .z) (w .scan .x)) A (w .zs) (w .xs)
+      λ i. asReading (scanAt n (read .place i) (w .scan .sign) (w .scan .z) (w .scan .x)) A (w .zs) (w .xs)
       in
       let whole : fed w (lineText l) ≡ feedNext before next =
       ap (λ v. fed v (lineText l)) start
@@ -145,7 +154,7 @@ module _ (ls : List Line) (l : Line) (w : Reading) (read : Read ls w) where
       (lt-or-ge (length ls) 64))
 
 -- more lines
-lines-more : (ls ms : List Line) (w : Reading) → Read ls w → AllFit ms
+lines-more : (ls ms : List ListLine) (w : Reading) → Read ls w → AllFit ms
     → Read (ls ++ ms) (fed w (linesText ms))
 unfolding linesText fed
 lines-more ls [] w read fit = subst (λ l. Read l w) (sym (append-nil ls)) read
@@ -155,16 +164,16 @@ lines-more ls (m ∷ ms) w read fit =
     (lines-more (ls ++ m ∷ []) ms (fed w (lineText m)) (line-more ls m w read (fit .0)) (fit .1)))
 
 -- the names line
-names-read : (A B C : List ℕ) → fed (reading begin A B C) listNames ≡ reading (scanAt 0 Sign 0 0 0) A B C
-unfolding fed feed step namesStep begin
+names-read : (A B C : List ℕ) → fed (asReading begin A B C) listNames ≡ asReading (scanAt 0 Sign 0 0 0) A B C
+unfolding fed feed scanByte namesStep begin
 names-read A B C = refl
 
 -- a whole text
 pub text-read : (A B C : List ℕ) → length A ≡ 64 → length B ≡ 64 → length C ≡ 64
-    → (ls : List Line) (t : List ℕ) → TextOf ls t → Read ls (fed (reading begin A B C) t)
+    → (ls : List ListLine) (t : List ℕ) → TextOf ls t → Read ls (fed (asReading begin A B C) t)
 unfolding listText
 text-read A B C a b c ls t text =
-    let w = reading (scanAt 0 Sign 0 0 0) A B C in
+    let w = asReading (scanAt 0 Sign 0 0 0) A B C in
     let none : Read [] w = record {
       place = refl;
       kept = record { count = refl; signs = refl; zs = refl; xs = refl };
@@ -172,8 +181,8 @@ text-read A B C a b c ls t text =
       zs-whole = b;
       xs-whole = c;
     } in
-    let whole : fed (reading begin A B C) t ≡ fed w (linesText ls) =
-    ap (fed (reading begin A B C)) (text .text) ∙ fed-append (reading begin A B C) listNames (linesText ls)
+    let whole : fed (asReading begin A B C) t ≡ fed w (linesText ls) =
+    ap (fed (asReading begin A B C)) (text .text) ∙ fed-append (asReading begin A B C) listNames (linesText ls)
     ∙ ap (λ v. fed v (linesText ls)) (names-read A B C)
     in
     subst (Read ls) (sym whole) (lines-more [] ls w none (text .fit))

@@ -1,6 +1,5 @@
 -- At each place the text so far is a list's text and the part of a line that the scan holds; so a scan that
 -- ends at the start of a line has read a text that has the form.
--- Assumes nothing.
 use mathlib.Core.Path.{_≡_, refl, sym, ap, ap₂, _∙_, subst}
 use mathlib.Core.Bool.{_&&_, and-eq-true-iff, cond}
 use mathlib.Core.List.{List, [], _∷_, _++_, append-assoc, append-nil}
@@ -13,19 +12,9 @@ use lib.ListN.{getD, take}
 use lib.Pow.{pow-mono, pow-add}
 use lib.Seq.{take-suc}
 use borrow.Author.Tests.{ltb-true, ltb-false, eqb-true, eqb-false}
-use Rattle.text.specs.Text.{
-  hexText,
-  space,
-  Line,
-  Fits,
-  AllFit,
-  lineText,
-  linesText,
-  listNames,
-  listText,
-}
+use Rattle.text.specs.Text.{hexText, space, ListLine, Fits, AllFit, lineText, linesText, listNames, listText}
 use Rattle.text.specs.Text.{HasForm}
-use Rattle.text.specs.Scan.{hexValue, push, moved, namesStep, signStep, zStep, xStep, stepAt, oneMore}
+use Rattle.text.specs.internal.Scan.{hexValue, push, moved, namesStep, signStep, zStep, xStep, stepAt, oneMore}
 use Rattle.text.specs.declared.scan.Scan.{Scan}
 use Rattle.text.specs.declared.scan.Place.{Place}
 use Rattle.text.specs.declared.scan.Place.the-variants.{Names, Sign, Space, Z, X, Broken}
@@ -36,7 +25,7 @@ use Rattle.text.proofs.ScanLine.{scanAt}
 
 -- the text t is that of a list, with part behind it
 pub record Upto (t part : List ℕ) : Type 0 where
-  pub lines : List Line
+  pub lines : List ListLine
   pub fit : AllFit lines
   pub text : t ≡ listText lines ++ part
 
@@ -224,7 +213,7 @@ module _ (s : Scan) (t : List ℕ) (b : ℕ) where
       (λ t₀. by-test After (eqb b 10) ended (moved s Broken)
       (λ fits.
       let all : k ≡ 16 = omega (arith, ltb-false k 16 t₀, sofar .inside) in
-      let l : Line = record { sign = s .sign; z = s .z; x = s .x } in
+      let l : ListLine = record { sign = s .sign; z = s .z; x = s .x } in
       let fit : Fits l = record {
         sign = sofar .digit;
         z = sofar .z-small;

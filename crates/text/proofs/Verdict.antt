@@ -1,6 +1,5 @@
 -- The verdict on a text, fed in blocks of any size: it says whether the text has the form, and then the lines
 -- of its list are counted and kept.
--- Assumes nothing.
 use mathlib.Core.Path.{_≡_, refl, sym, ap, _∙_, subst}
 use mathlib.Core.Bool.{Bool, true, false, _&&_, cond, false≢true}
 use mathlib.Core.List.{List, [], _∷_, _++_, flatten, append-assoc, append-nil}
@@ -8,11 +7,11 @@ use Prim.Native.Nat.{ℕ}
 use lib.Dec.{ltb, lit<}
 use lib.ListN.{length}
 use Rattle.text.specs.Text.{HasForm}
-use Rattle.text.specs.Scan.{
-  step,
+use Rattle.text.specs.internal.Scan.{
+  scanByte,
   begin,
   Reading,
-  reading,
+  asReading,
   stored,
   feedNext,
   feed,
@@ -20,7 +19,7 @@ use Rattle.text.specs.Scan.{
   fedBlocks,
   atSign,
 }
-use Rattle.text.specs.Scan.{verdict, Judged}
+use Rattle.text.specs.internal.Scan.{verdict, Judged}
 use Rattle.text.specs.declared.scan.Scan.{Scan}
 use Rattle.text.specs.declared.scan.Place.{Place}
 use Rattle.text.specs.declared.scan.Place.the-variants.{Names, Sign, Space, Z, X, Broken}
@@ -32,16 +31,16 @@ use Rattle.text.proofs.ScanSound.{Sofar, step-sound}
 scan-next : (w : Reading) (next : Scan) → feedNext w next .scan ≡ next
 scan-next w next = go (ltb (w .scan .count) (next .count) && ltb (w .scan .count) 64)
   where
-    go : (t : Bool) → cond t (stored w next) (reading next (w .signs) (w .zs) (w .xs)) .scan ≡ next
+    go : (t : Bool) → cond t (stored w next) (asReading next (w .signs) (w .zs) (w .xs)) .scan ≡ next
     go true = refl
     go false = refl
 
 fed-sound : (u t : List ℕ) (w : Reading) → Sofar (w .scan .place) (w .scan) t
     → Sofar (fed w u .scan .place) (fed w u .scan) (t ++ u)
-unfolding fed feed step
+unfolding fed feed scanByte
 fed-sound [] t w sofar = subst (Sofar (w .scan .place) (w .scan)) (sym (append-nil t)) sofar
 fed-sound (b ∷ u) t w sofar =
-    let next = step (w .scan) b in
+    let next = scanByte (w .scan) b in
     let after = step-sound (w .scan) t b (w .scan .place) refl sofar in
     subst (Sofar (fed w (b ∷ u) .scan .place) (fed w (b ∷ u) .scan)) (append-assoc t (b ∷ []) u)
     (fed-sound u (t ++ b ∷ []) (feed w b)
@@ -62,13 +61,13 @@ blocks-fed w [] = refl
 blocks-fed w (block ∷ blocks) = blocks-fed (fed w block) blocks ∙ sym (fed-append w block (flatten blocks))
 
 module _ (A B C : List ℕ) (a : length A ≡ 64) (b : length B ≡ 64) (c : length C ≡ 64) where
-  pub text-judged : (t : List ℕ) → Judged t (fed (reading begin A B C) t)
+  pub text-judged : (t : List ℕ) → Judged t (fed (asReading begin A B C) t)
   unfolding verdict begin
   text-judged t =
-      let w = fed (reading begin A B C) t in
+      let w = fed (asReading begin A B C) t in
       record {
         form = (
-          ends-sound (w .scan .place) (w .scan) t (fed-sound t [] (reading begin A B C) (lit< tt, refl)),
+          ends-sound (w .scan .place) (w .scan) t (fed-sound t [] (asReading begin A B C) (lit< tt, refl)),
           λ has. ap atSign (text-read A B C a b c (has .0) t (has .1) .place),
         );
         lines = λ ls text. text-read A B C a b c ls t text .kept;
@@ -76,7 +75,7 @@ module _ (A B C : List ℕ) (a : length A ≡ 64) (b : length B ≡ 64) (c : len
 
   -- the text in blocks of any size, as `scan_block` is fed with them
   pub blocks-judged : (blocks : List (List ℕ))
-      → Judged (flatten blocks) (fedBlocks (reading begin A B C) blocks)
+      → Judged (flatten blocks) (fedBlocks (asReading begin A B C) blocks)
   blocks-judged blocks =
-      subst (Judged (flatten blocks)) (sym (blocks-fed (reading begin A B C) blocks))
+      subst (Judged (flatten blocks)) (sym (blocks-fed (asReading begin A B C) blocks))
       (text-judged (flatten blocks))

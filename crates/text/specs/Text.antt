@@ -1,10 +1,9 @@
 -- The text of a generator list and the texts that answer it, as lists of bytes: 10 ends a line, 32 is the
 -- space, 48 the digit 0, 97 the letter a.
--- Assumes nothing.
 use mathlib.Core.Path.{_≡_}
 use mathlib.Core.Bool.{cond}
 use mathlib.Core.List.{List, [], _∷_, _++_}
-use Prim.Native.Nat.{ℕ, zero, suc, _+_, _*_, _/_, _%_, _^_, _≤_, _<_}
+use Prim.Native.Nat.{ℕ, zero, suc, _+_, _/_, _%_, _^_, _<_}
 use lib.Dec.{ltb}
 use lib.ListN.{length, getD, take, drop}
 
@@ -21,36 +20,38 @@ hexText (suc k) w = hexText k (w / 16) ++ hexDigit (w % 16) ∷ []
 unfoldable pub decimal : ℕ → List ℕ
 decimal k = cond (ltb k 10) ((48 + k) ∷ []) ((48 + k / 10) ∷ (48 + k % 10) ∷ [])
 
+-- "fields parted by one space"
 abbrev pub space : List ℕ
 space = 32 ∷ []
 
+-- "every line ended by a newline"
 abbrev pub newline : List ℕ
 newline = 10 ∷ []
 
 -- "a sign bit (1 means minus), a z word and an x word"; the text's form allows every sign digit
-pub record Line : Type 0 where
+pub record ListLine : Type 0 where
   pub sign : ℕ
   pub z : ℕ
   pub x : ℕ
 
 -- one decimal digit and two words of 64 bits
-pub record Fits (l : Line) : Type 0 where
+pub record Fits (l : ListLine) : Type 0 where
   pub sign : l .sign < 10
   pub z : l .z < 2 ^ 64
   pub x : l .x < 2 ^ 64
 
 -- each line is a digit and two words
-abbrev pub AllFit : List Line → Type 0
+abbrev pub AllFit : List ListLine → Type 0
 AllFit [] = Unit
 AllFit (l ∷ ls) = Fits l × AllFit ls
 
 -- "one line per generator, .. with a decimal sign digit and two words of 16 lower-case hexadecimal digits, fields
 -- parted by one space, every line ended by a newline"
-unfoldable pub lineText : Line → List ℕ
+unfoldable pub lineText : ListLine → List ℕ
 lineText l = (48 + l .sign) ∷ [] ++ space ++ hexText 16 (l .z) ++ space ++ hexText 16 (l .x) ++ newline
 
 -- one line after the other
-unfoldable pub linesText : List Line → List ℕ
+unfoldable pub linesText : List ListLine → List ℕ
 linesText [] = []
 linesText (l ∷ ls) = lineText l ++ linesText ls
 
@@ -59,27 +60,27 @@ abbrev pub listNames : List ℕ
 listNames = 115 ∷ 105 ∷ 103 ∷ 110 ∷ 32 ∷ 122 ∷ 32 ∷ 120 ∷ 10 ∷ []
 
 -- the text of a generator list
-unfoldable pub listText : List Line → List ℕ
+unfoldable pub listText : List ListLine → List ℕ
 listText ls = listNames ++ linesText ls
 
 -- t is the text of the list ls
-pub record TextOf (ls : List Line) (t : List ℕ) : Type 0 where
+pub record TextOf (ls : List ListLine) (t : List ℕ) : Type 0 where
   pub fit : AllFit ls
   pub text : t ≡ listText ls
 
 -- the text has the form; refusal 1 is that it has not
 abbrev pub HasForm : List ℕ → Type 0
-HasForm t = (ls : List Line) × TextOf ls t
+HasForm t = (ls : List ListLine) × TextOf ls t
 
 -- "one line per qubit, rising from 0, with decimal qubit and code and the neighbour word in 16 hexadecimal digits"
-unfoldable pub recordLine : ℕ → ℕ → ℕ → List ℕ
-recordLine q code w = decimal q ++ space ++ decimal code ++ space ++ hexText 16 w ++ newline
+unfoldable pub qubitLine : ℕ → ℕ → ℕ → List ℕ
+qubitLine q code w = decimal q ++ space ++ decimal code ++ space ++ hexText 16 w ++ newline
 
 -- the lines of the qubits below n, rising from 0
-unfoldable pub recordLines : ℕ → List ℕ → List ℕ → List ℕ
-recordLines zero neighbours codes = []
-recordLines (suc q) neighbours codes =
-    recordLines q neighbours codes ++ recordLine q (getD codes q 0) (getD neighbours q 0)
+unfoldable pub qubitLines : ℕ → List ℕ → List ℕ → List ℕ
+qubitLines zero neighbours codes = []
+qubitLines (suc q) neighbours codes =
+    qubitLines q neighbours codes ++ qubitLine q (getD codes q 0) (getD neighbours q 0)
 
 -- "the names `qubit code neighbours`"
 abbrev pub recordNames : List ℕ
@@ -89,7 +90,7 @@ recordNames =
 
 -- the print of a record
 unfoldable pub recordText : ℕ → List ℕ → List ℕ → List ℕ
-recordText n neighbours codes = recordNames ++ recordLines n neighbours codes
+recordText n neighbours codes = recordNames ++ qubitLines n neighbours codes
 
 -- "the one line `refused` and the number"
 abbrev pub refusedWord : List ℕ
@@ -100,18 +101,10 @@ unfoldable pub refusedText : ℕ → List ℕ
 refusedText k = refusedWord ++ decimal k ++ newline
 
 -- out with these bytes from place at on
-unfoldable pub written : List ℕ → ℕ → List ℕ → List ℕ
-written out at bytes = take at out ++ bytes ++ drop (at + length bytes) out
+unfoldable pub overwritten : List ℕ → ℕ → List ℕ → List ℕ
+overwritten out at bytes = take at out ++ bytes ++ drop (at + length bytes) out
 
 -- the bytes are printed at place at, which turns the buffer from before into after; r is the place behind them
 pub record Printed (bytes : List ℕ) (at : ℕ) (before after : List ℕ) (r : ℕ) : Type 0 where
   pub end : r ≡ at + length bytes
-  pub out : after ≡ written before at bytes
-
--- what a record and its buffer must be for the print from place at on
-pub record Printable (n : ℕ) (neighbours codes : List ℕ) (at : ℕ) (out : List ℕ) : Type 0 where
-  pub qubits : n ≤ 64
-  pub neighbours-long : n ≤ length neighbours
-  pub codes-long : n ≤ length codes
-  pub codes-small : (q : ℕ) → q < n → getD codes q 0 < 24
-  pub room : at + 22 + n * 23 ≤ length out
+  pub out : after ≡ overwritten before at bytes

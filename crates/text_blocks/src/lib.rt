@@ -5,7 +5,7 @@ use text::scan::Scan;
 use text::scan::Verdict;
 use text_scan::scan_byte;
 ghost use mathlib.Core.Path.{_≡_};
-ghost use Rattle.text.specs.Scan.{atSign, begin, fed, reading, verdict};
+ghost use Rattle.text.specs.internal.Scan.{atSign, begin, fed, asReading, verdict};
 
 // The scan of the empty text.
 pub fn start() -> Scan
@@ -28,8 +28,8 @@ pub fn scan_block(
     z: &mut [u64; 64],
     x: &mut [u64; 64],
 ) -> Scan
-    ensures { λ r. ⌜ reading r (now (signs .exit)) (now (z .exit)) (now (x .exit))
-        ≡ fed (reading from (now (signs .entry)) (now (z .entry)) (now (x .entry))) (now (block .entry)) ⌝ }
+    ensures { λ r. ⌜ asReading r (now (signs .exit)) (now (z .exit)) (now (x .exit))
+        ≡ fed (asReading from (now (signs .entry)) (now (z .entry)) (now (x .entry))) (now (block .entry)) ⌝ }
 {
     let mut s = from;
     let mut i = 0;

@@ -3,8 +3,9 @@ ghost use mathlib.Core.Path.{_≡_};
 ghost use mathlib.Core.List.{[], _∷_, _++_};
 ghost use Prim.Native.Nat.{_+_, _<_, _≤_};
 ghost use lib.ListN.{length};
-ghost use Rattle.text.specs.Text.{hexDigit, hexText, decimal, space, recordLine, recordText, refusedText};
-ghost use Rattle.text.specs.Text.{Printed, Printable};
+ghost use Rattle.text.specs.Text.{hexDigit, hexText, decimal, space, qubitLine, recordText, refusedText};
+ghost use Rattle.text.specs.Text.{Printed};
+ghost use Rattle.text.specs.internal.Text.{Printable};
 
 fn hex_digit(d: u8) -> u8
     requires { ⌜ d < 16 ⌝ }
@@ -71,7 +72,7 @@ pub fn put_field(k: u8, at: usize, out: &mut [u8]) -> usize
 // The line of qubit q.
 fn put_line(q: u8, code: u8, w: u64, at: usize, out: &mut [u8]) -> usize
     requires { ⌜ (q < 100) × (code < 100) × (at + 23 ≤ length (now out)) ⌝ }
-    ensures { λ r. ⌜ Printed (recordLine q code w) at (now (out .entry)) (now (out .exit)) r ⌝ }
+    ensures { λ r. ⌜ Printed (qubitLine q code w) at (now (out .entry)) (now (out .exit)) r ⌝ }
 {
     let after_q = put_field(q, at, out);
     let after_code = put_field(code, after_q, out);

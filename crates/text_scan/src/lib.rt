@@ -3,7 +3,7 @@ use text::scan::Place;
 use text::scan::Scan;
 ghost use mathlib.Core.Path.{_≡_};
 ghost use Prim.Native.Nat.{_<_};
-ghost use Rattle.text.specs.Scan.{hexValue, push, moved, namesStep, signStep, zStep, xStep, oneMore, step};
+ghost use Rattle.text.specs.internal.Scan.{hexValue, push, moved, namesStep, signStep, zStep, xStep, oneMore, scanByte};
 
 // The digits of a word.
 const DIGITS: usize = 16;
@@ -144,7 +144,7 @@ fn x_step(k: usize, s: Scan, b: u8) -> Scan
 
 // The scan after one more byte.
 pub fn scan_byte(s: Scan, b: u8) -> Scan
-    ensures { λ r. ⌜ r ≡ step s b ⌝ }
+    ensures { λ r. ⌜ r ≡ scanByte s b ⌝ }
 {
     let place = s.place;
     match place {

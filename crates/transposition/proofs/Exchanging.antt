@@ -1,8 +1,6 @@
 -- A round, pair of rows by pair of rows.
--- Assumes nothing.
-use mathlib.Core.Bool.{Bool, cond, false, true, not, true≢false}
+use mathlib.Core.Bool.{Bool, cond, false, true, not}
 use mathlib.Core.List.{List}
-use mathlib.Core.Logic.{inl, inr, _≢_, _⊎_}
 use mathlib.Core.Path.{ap, ap₂, refl, subst, sym, _∙_, _≡_}
 use Prim.Native.Nat.{_%_, _*_, _+_, _-_, _/_, _<_, _^_, ℕ, _≤_}
 use native.Mathlib.Decide.{ℕ-discrete}
@@ -12,10 +10,10 @@ use lib.Bits.{bitAnd, bitXor}
 use lib.Dec.{eqb}
 use lib.ListN.{getD, length, length-set, set}
 use lib.Seq.{getD-set-other, getD-set-same}
-use borrow.Author.Tests.{not-false, not-true}
+use borrow.Author.Tests.{not-true}
 use Rattle.words.specs.Bits.{bit}
 use Rattle.transposition.proofs.PairWords.{lower-bit, upper-bit}
-use Rattle.transposition.specs.Squares.{Exchanged, Fits, Round, crossed, lacks}
+use Rattle.transposition.specs.internal.Squares.{Exchanged, Fits, Round, crossed, lacks}
 
 -- the upper row of the pair that row r is in
 abbrev pub upper : ℕ → ℕ → ℕ

@@ -1,7 +1,6 @@
 -- Two rows of a round, bit by bit: where the column has bit s, the upper row takes from the lower, and where it lacks
 -- it, the lower from the upper.
--- Assumes nothing.
-use mathlib.Core.Bool.{_&&_, Bool, and-false, and-true, cond, false, not, true, true≢false}
+use mathlib.Core.Bool.{_&&_, Bool, and-false, and-true, cond, false, not, true}
 use mathlib.Core.Logic.{inl, inr, _⊎_}
 use mathlib.Core.Path.{ap, ap₂, refl, sym, _∙_, _≡_}
 use Prim.Native.Nat.{_%_, _*_, _+_, _-_, _/_, _<_, _^_, ℕ, _≤_}
@@ -10,11 +9,11 @@ use native.Mathlib.Omega.{arith}
 use lib.Bits.{and-mask, and-shifted, bitAnd, bitXor}
 use lib.Pow.{pow-lt, shl-shr}
 use Rattle.words.proofs.BitLaws.{bit-and, bit-mask, bit-shr, bit-single, bit-xor, zero-bit}
-use Rattle.words.proofs.Finite.{bits, ⊕-zero}
+use Rattle.words.proofs.Finite.{bits}
 use Rattle.words.proofs.Places.{same-place}
 use Rattle.words.proofs.Sums.{lt-or-ge}
 use Rattle.words.specs.Bits.{bit, _⊕_}
-use Rattle.transposition.specs.Squares.{Round, lacks}
+use Rattle.transposition.specs.internal.Squares.{Round, lacks}
 
 -- ---- a word shifted up
 -- only the bits below n

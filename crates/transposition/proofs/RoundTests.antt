@@ -1,5 +1,4 @@
 -- The six rounds: what each needs, by computed tests.
--- Assumes nothing.
 use mathlib.Core.Bool.{_&&_, Bool, false, false≢true, not, true, _||_}
 use mathlib.Core.Path.{ap, ap₂, refl, _≡_}
 use Prim.Native.Nat.{_%_, _*_, _+_, _-_, _<_, ℕ, _≤_}
@@ -10,7 +9,7 @@ use Rattle.words.proofs.Flags.{both-true, true-sameBit}
 use Rattle.words.proofs.SearchLaws.{every-at}
 use Rattle.words.specs.Bits.{bit, sameBit}
 use Rattle.words.specs.Search.{every}
-use Rattle.transposition.specs.Squares.{Fits, Round, Size, eight, full, half, lacks, sixteen}
+use Rattle.transposition.specs.internal.Squares.{Fits, Round, Size, eight, full, half, lacks, sixteen}
 
 -- a test that follows from another
 abbrev follows : Bool → Bool → Bool

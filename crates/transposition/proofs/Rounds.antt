@@ -1,6 +1,4 @@
 -- Six rounds are the transpose: where the numbers of row and column come from, by a computed test.
--- Assumes nothing.
-use mathlib.Core.Bool.{true}
 use mathlib.Core.List.{List, [], _∷_}
 use mathlib.Core.Path.{ap₂, refl, _∙_, _≡_}
 use Prim.Native.Nat.{_<_, ℕ, _≤_}
@@ -11,7 +9,7 @@ use borrow.Author.Tests.{eqb-true}
 use Rattle.words.proofs.SearchLaws.{every-at}
 use Rattle.words.specs.Bits.{bit}
 use Rattle.words.specs.Search.{every}
-use Rattle.transposition.specs.Squares.{Exchanged, Transposed, crossed, lacks}
+use Rattle.transposition.specs.internal.Squares.{Exchanged, Transposed, crossed, lacks}
 
 -- the row, after rounds with these numbers, the last round first
 unfoldable origin : List ℕ → ℕ → ℕ → ℕ

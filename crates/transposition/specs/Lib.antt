@@ -1,1 +1,1 @@
-pub mod Squares
+pub mod internal

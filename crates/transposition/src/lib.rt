@@ -2,7 +2,7 @@
 ghost use Prim.Native.Nat.{_<_, _≤_};
 ghost use mathlib.Core.Path.{_≡_};
 ghost use lib.ListN.{length};
-ghost use Rattle.transposition.specs.Squares.{Exchanged, Fits, Round, Size, Transposed};
+ghost use Rattle.transposition.specs.internal.Squares.{Exchanged, Fits, Round, Size, Transposed};
 
 // The next size that has its rounds.
 fn size_for(n: usize) -> usize

@@ -1,16 +1,15 @@
 -- An accepted operation: the record and the arguments are good, and the record that it leaves is refused by no line.
--- Assumes nothing.
 use mathlib.Core.Bool.{Bool, false, true, _||_}
 use mathlib.Core.List.{_++_, List}
 use mathlib.Core.Logic.{_≢_}
-use mathlib.Core.Path.{ap, subst, sym, _∙_, _≡_}
+use mathlib.Core.Path.{ap, subst, sym, _≡_}
 use Prim.Native.Nat.{_<_, ℕ, _≤_}
 use lib.Dec.{eqb, leb}
 use lib.ListN.{List·getD-eq-default}
 use borrow.Author.Tests.{eqb-false, leb-false, not-false}
 use Rattle.buffers.proofs.Lines.{none-of-all, not-held}
 use Rattle.buffers.specs.Buffers.{accepted}
-use Rattle.buffers.specs.Refusals.{Line, firstFitting}
+use Rattle.buffers.specs.Refusals.{Refusal, firstFitting}
 use Rattle.clifford.specs.Clifford.{cliffordOf, identityClifford}
 use Rattle.graph.proofs.Complement.{complement-simple}
 use Rattle.graph.specs.Graph.{Simple}
@@ -54,7 +53,7 @@ use Rattle.words.specs.Bits.{isOdd}
 
 module _ (l : LentRecord) where
   -- the lines of the record, the further test of line 6, and the lines after them
-  parted : (six : Bool) (rest : List Line) → firstFitting (recordLines l false six ++ rest) ≡ 0
+  parted : (six : Bool) (rest : List Refusal) → firstFitting (recordLines l false six ++ rest) ≡ 0
       → AcceptedRecord l × (six ≡ false) × (firstFitting rest ≡ 0)
   parted six rest e =
       let h = none-of-all (recordLines l false six) rest (record-numbered l false six) e in

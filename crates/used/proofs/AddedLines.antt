@@ -1,5 +1,4 @@
 -- Lines with a further test, and lines with one put in: none holds exactly if none held and the new test is false.
--- Assumes nothing.
 use mathlib.Core.Bool.{_&&_, Bool, cond, false, true, true≢false, _||_}
 use mathlib.Core.List.{List, [], _∷_}
 use mathlib.Core.Logic.{_↔_}
@@ -9,13 +8,13 @@ use native.Mathlib.Nat.{lt-irrefl}
 use native.Mathlib.Omega.{arith}
 use lib.Dec.{eqb}
 use Rattle.buffers.proofs.Lines.{Numbered}
-use Rattle.buffers.specs.Refusals.{Line, firstFitting, line}
+use Rattle.buffers.specs.Refusals.{Refusal, firstFitting, line}
 use Rattle.jobs.proofs.Numbers.{without-test}
 use Rattle.jobs.specs.Asked.{withTest}
 use Rattle.used.specs.Used.{insertedAfter}
 
 -- some line has the number k
-abbrev pub hasNumber : ℕ → List Line → Bool
+abbrev pub hasNumber : ℕ → List Refusal → Bool
 hasNumber k [] = false
 hasNumber k (l ∷ ls) = eqb (l .number) k || hasNumber k ls
 
@@ -23,7 +22,7 @@ not-zero : (k : ℕ) → 0 < k → k ≡ 0 → ⊥
 not-zero k p e = lt-irrefl 0 (subst (λ m. 0 < m) e p)
 
 -- a further test that holds refuses
-test-refuses : (k : ℕ) (ls : List Line) → Numbered ls → hasNumber k ls ≡ true
+test-refuses : (k : ℕ) (ls : List Refusal) → Numbered ls → hasNumber k ls ≡ true
     → firstFitting (withTest k true ls) ≡ 0 → ⊥
 unfolding firstFitting
 test-refuses k [] N h e = true≢false (sym h)
@@ -36,7 +35,7 @@ test-refuses k (l ∷ ls) N h e = go (l .holds) (eqb (l .number) k) h e (test-re
     go false true h e rest = not-zero (l .number) (N .0) e
     go false false h e rest = rest h e
 
-pub test-passes : (k : ℕ) (b : Bool) (ls : List Line) → Numbered ls → hasNumber k ls ≡ true
+pub test-passes : (k : ℕ) (b : Bool) (ls : List Refusal) → Numbered ls → hasNumber k ls ≡ true
     → (firstFitting (withTest k b ls) ≡ 0) ↔ ((firstFitting ls ≡ 0) × (b ≡ false))
 test-passes k true ls N h = (
   (λ e. absurd (test-refuses k ls N h e)),
@@ -49,7 +48,7 @@ test-passes k false ls N h = (
 
 -- ---- a line put in
 -- one that does not hold changes nothing
-pub inserted-none : (k m : ℕ) (ls : List Line) → firstFitting (insertedAfter k (line m false) ls) ≡ firstFitting ls
+pub inserted-none : (k m : ℕ) (ls : List Refusal) → firstFitting (insertedAfter k (line m false) ls) ≡ firstFitting ls
 unfolding firstFitting
 inserted-none k m [] = refl
 inserted-none k m (l ∷ ls) =
@@ -61,7 +60,7 @@ inserted-none k m (l ∷ ls) =
     go false = refl
 
 -- one that holds refuses
-inserted-refuses : (k m : ℕ) (ls : List Line) → Numbered ls → hasNumber k ls ≡ true
+inserted-refuses : (k m : ℕ) (ls : List Refusal) → Numbered ls → hasNumber k ls ≡ true
     → firstFitting (insertedAfter k (line (suc m) true) ls) ≡ 0 → ⊥
 unfolding firstFitting
 inserted-refuses k m [] N h e = true≢false (sym h)
@@ -75,7 +74,7 @@ inserted-refuses k m (l ∷ ls) N h e = go (l .holds) (eqb (l .number) k) h e (i
     go false true h e rest = not-zero (suc m) (omega arith) e
     go false false h e rest = rest h e
 
-pub inserted-passes : (k m : ℕ) (b : Bool) (ls : List Line) → Numbered ls → hasNumber k ls ≡ true
+pub inserted-passes : (k m : ℕ) (b : Bool) (ls : List Refusal) → Numbered ls → hasNumber k ls ≡ true
     → (firstFitting (insertedAfter k (line (suc m) b) ls) ≡ 0) ↔ ((firstFitting ls ≡ 0) × (b ≡ false))
 inserted-passes k m true ls N h = (
   (λ e. absurd (inserted-refuses k m ls N h e)),

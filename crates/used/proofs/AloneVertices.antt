@@ -1,6 +1,5 @@
 -- A Pauli at one qubit that is in the group: in the reduced record the qubit's vertex has no neighbour, and its code is
 -- the one of 0, 2, 4, 6, 8 and 10 that sends X to this Pauli.
--- Assumes nothing.
 use mathlib.Core.Bool.{Bool, false, true}
 use mathlib.Core.Path.{_≡_, ap, refl, subst, sym, _∙_}
 use native.Mathlib.Omega.{arith}
@@ -13,7 +12,7 @@ use Rattle.pauli.specs.declared.Letter.the-variants.{I, X, Y, Z}
 use Rattle.record.proofs.ReducedCodes.{reduced-codes-among}
 use Rattle.record.proofs.ReducedRecords.{record-proper, reduced-is}
 use Rattle.record.specs.Records.{GraphRecord, rowsOf}
-use Rattle.record.specs.Reduced.{Reduced, reduced}
+use Rattle.record.specs.Reduced.{ReductionOf, reduced}
 use Rattle.stabilizer.specs.Groups.{InGroup, Proper}
 use Rattle.words.specs.Bits.{digit}
 use Rattle.operations.proofs.Determined.{determined-sign}
@@ -49,7 +48,7 @@ module _ (n : ℕ) (rows : ℕ → Pauli) (P : Proper n rows) (l : Letter) (la :
   abbrev r : GraphRecord
   r = reduced n rows
 
-  R : Reduced n rows r
+  R : ReductionOf n rows r
   R = reduced-is n rows P
 
   D : (isDetermined n (rowsOf n r) l q ≡ true) × ((b : Bool) → outcome n (rowsOf n r) l q b ≡ s)

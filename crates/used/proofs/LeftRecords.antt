@@ -1,5 +1,4 @@
 -- The record that an accepted call leaves passes every line, and all that is promised of a call on used qubits.
--- Assumes nothing.
 use mathlib.Core.Bool.{_&&_, Bool, cond, false, not, or-false, true, _||_}
 use mathlib.Core.Logic.{inl, inr, _⊎_}
 use mathlib.Core.Path.{ap, ap₂, refl, subst, sym, _∙_, _≡_}
@@ -17,7 +16,8 @@ use Rattle.words.proofs.Flags.{either}
 use Rattle.words.proofs.SearchLaws.{some-none}
 use Rattle.words.specs.Bits.{bit}
 use Rattle.used.specs.Used.{UsedRecord, usedAfter, usedCode, usedLines, usedStep, usedStray, usedWrong}
-use Rattle.used.specs.UsedLaws.{MeasuredMarks, UsedDemand, UsedLeft, UsedPasses}
+use Rattle.used.specs.internal.UsedLaws.{MeasuredMarks}
+use Rattle.used.specs.UsedLaws.{UsedDemand, UsedLeft, UsedPasses}
 use Rattle.used.proofs.AcceptedSteps.{after-made, made-passes}
 use Rattle.used.proofs.AddedLines.{test-passes}
 use Rattle.used.proofs.UsedPassing.{used-passes, used-step}

@@ -1,5 +1,4 @@
 -- An accepted measurement leaves its vertex alone, with the code of its Pauli and outcome, and marks it.
--- Assumes nothing.
 use mathlib.Core.Bool.{Bool, cond, false, true, _||_}
 use mathlib.Core.Logic.{_≢_, inl, inr}
 use mathlib.Core.Path.{ap, ap₂, refl, subst, sym, _∙_, _≡_}
@@ -15,7 +14,7 @@ use Rattle.operations.proofs.MeasuredRecords.{acts, pauli-acts}
 use Rattle.operations.specs.Measurement.Measured.{joined}
 use Rattle.operations.specs.Measurement.{
   Measured,
-  answered,
+  measuredOutcome,
   contradicts,
   isDetermined,
   measuredRows,
@@ -58,7 +57,7 @@ measured-in n rows P l q hq b c = go (isDetermined n rows l q) refl
 
 -- the number of the outcome is the bit
 outcome-bit : (n : ℕ) (rows : ℕ → Pauli) (l : Letter) (q b : ℕ) → b < 2 → contradicts n rows l q (isOdd b) ≡ false
-    → outcomeNumber (answered n rows l q (isOdd b)) ≡ b
+    → outcomeNumber (measuredOutcome n rows l q (isOdd b)) ≡ b
 outcome-bit n rows l q b hb c = go (isDetermined n rows l q) ∙ ap digit (agreed-outcome n rows l q (isOdd b) c) ∙ small b hb
   where
     go : (d : Bool) → outcomeNumber (cond d (Determined (outcome n rows l q (isOdd b)))

@@ -1,6 +1,5 @@
 -- A vertex without neighbours that a call does not name: its Pauli stays in the group, so in the new record it has no
 -- neighbour and the code that it had.
--- Assumes nothing.
 use mathlib.Core.Bool.{_&&_, Bool, and-false, cond, false, not, true}
 use mathlib.Core.Logic.{_≢_}
 use mathlib.Core.Path.{ap, ap₂, refl, subst, sym, _∙_, _≡_}

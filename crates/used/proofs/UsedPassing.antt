@@ -1,5 +1,4 @@
 -- A call on a record with used qubits is accepted exactly if it was before and the three new tests are false.
--- Assumes nothing.
 use mathlib.Core.Bool.{Bool, false, true, _||_}
 use mathlib.Core.List.{List, [], _∷_}
 use mathlib.Core.Logic.{_↔_}
@@ -7,7 +6,7 @@ use mathlib.Core.Path.{_∙_, _≡_, ap, refl}
 use Prim.Native.Nat.{ℕ}
 use lib.Dec.{eqb, lit<}
 use Rattle.buffers.proofs.Lines.{Numbered}
-use Rattle.buffers.specs.Refusals.{Line, firstFitting}
+use Rattle.buffers.specs.Refusals.{Refusal, firstFitting}
 use Rattle.jobs.specs.Asked.{withTest}
 use Rattle.operations.specs.Steps.{Operation, complementOf, czOn, gateWith, linesOf, measurementOf, pivotOf}
 use Rattle.record.specs.Lent.{LentRecord}
@@ -16,11 +15,11 @@ use Rattle.used.specs.UsedLaws.{UsedPasses}
 use Rattle.used.proofs.AddedLines.{hasNumber, inserted-passes, test-passes}
 
 -- a further test changes no number
-test-numbered : (k : ℕ) (b : Bool) (ls : List Line) → Numbered ls → Numbered (withTest k b ls)
+test-numbered : (k : ℕ) (b : Bool) (ls : List Refusal) → Numbered ls → Numbered (withTest k b ls)
 test-numbered k b [] N = tt
 test-numbered k b (l ∷ ls) N = (N .0, test-numbered k b ls (N .1))
 
-test-has : (j k : ℕ) (b : Bool) (ls : List Line) → hasNumber j (withTest k b ls) ≡ hasNumber j ls
+test-has : (j k : ℕ) (b : Bool) (ls : List Refusal) → hasNumber j (withTest k b ls) ≡ hasNumber j ls
 test-has j k b [] = refl
 test-has j k b (l ∷ ls) = ap (λ v. eqb (l .number) j || v) (test-has j k b ls)
 
@@ -42,13 +41,13 @@ has l (complementOf a) = (refl, refl, refl)
 has l (pivotOf j k) = (refl, refl, refl)
 
 module _ (u : UsedRecord) (o : Operation) where
-  abbrev lines : List Line
+  abbrev lines : List Refusal
   lines = linesOf (u .held) o
 
-  abbrev five : List Line
+  abbrev five : List Refusal
   five = withTest 5 (usedStray u) lines
 
-  abbrev seven : List Line
+  abbrev seven : List Refusal
   seven = withTest 7 (usedWrong u) five
 
   N5 : Numbered five

@@ -1,5 +1,4 @@
 -- Number 16 comes exactly where no earlier line holds and the call names a used qubit; a pivot never gives it.
--- Assumes nothing.
 use mathlib.Core.Bool.{Bool, false, true, true≢false}
 use mathlib.Core.List.{_++_, List, [], _∷_}
 use mathlib.Core.Logic.{_↔_, inl, inr}
@@ -9,7 +8,7 @@ use native.Mathlib.Decide.{ℕ-discrete}
 use native.Mathlib.Omega.{arith}
 use lib.Dec.{lit<}
 use Rattle.buffers.proofs.Lines.{AllBelow, Numbered, first-below, fits, more-accepted, more-refused, passed}
-use Rattle.buffers.specs.Refusals.{Line, firstFitting, line}
+use Rattle.buffers.specs.Refusals.{Refusal, firstFitting, line}
 use Rattle.jobs.specs.Asked.{withTest}
 use Rattle.operations.specs.Measurement.{contradicts, pauliLetter}
 use Rattle.operations.specs.Steps.{Operation, complementOf, czOn, gateWith, linesOf, measurementOf, pivotOf}
@@ -19,13 +18,14 @@ use Rattle.words.proofs.BitLaws.{zero-bit}
 use Rattle.words.proofs.Flags.{either}
 use Rattle.words.specs.Bits.{bit, isOdd}
 use Rattle.used.specs.Used.{UsedRecord, namesUsed, usedLinesOf, usedStray, usedWrong}
-use Rattle.used.specs.UsedLaws.{PivotNever, UsedRefused, earlierLines}
+use Rattle.used.specs.internal.UsedLaws.{PivotNever}
+use Rattle.used.specs.UsedLaws.{UsedRefused, earlierLines}
 use Rattle.used.proofs.AcceptedSteps.{accepted-step, pivot-edge}
 use Rattle.used.proofs.UsedPassing.{by-five, by-seven}
 use Rattle.used.proofs.UsedStaying.{used-word}
 
 -- the lines after 16
-abbrev later : UsedRecord → Operation → List Line
+abbrev later : UsedRecord → Operation → List Refusal
 later u (gateWith q k) = []
 later u (czOn a b) = []
 later u (measurementOf pauli q b) = withTest 7 (usedWrong u) (withTest 5 (usedStray u)
@@ -75,7 +75,7 @@ not-sixteen : (k b : ℕ) → k < b → b < 17 → k ≡ 16 → ⊥
 not-sixteen k b l m e = omega (arith, e)
 
 -- a line with number 16 between lines with smaller numbers
-between : (ls ms : List Line) (b : Bool) → Numbered ls → AllBelow 9 ls → firstFitting ms < 15
+between : (ls ms : List Refusal) (b : Bool) → Numbered ls → AllBelow 9 ls → firstFitting ms < 15
     → (firstFitting (ls ++ (line 16 b ∷ ms)) ≡ 16) ↔ ((firstFitting ls ≡ 0) × (b ≡ true))
 between ls ms b N A L = (
   λ e. go (ℕ-discrete (firstFitting ls) 0) b e,

@@ -1,5 +1,4 @@
 -- Every accepted call leaves each used vertex as it is: word 0, and its code.
--- Assumes nothing.
 use mathlib.Core.Bool.{_&&_, false, not, true, true≢false, _||_}
 use mathlib.Core.Logic.{_≢_, inl, inr}
 use mathlib.Core.Path.{ap, subst, sym, _∙_, _≡_}

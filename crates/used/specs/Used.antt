@@ -1,11 +1,10 @@
 -- Records with a word of used qubits (02, §8): their lines, and what a call leaves.
--- Assumes nothing.
 use mathlib.Core.Bool.{_&&_, Bool, cond, not, _||_}
 use mathlib.Core.List.{List, [], _∷_}
 use Prim.Native.Nat.{_^_, ℕ}
 use lib.Dec.{eqb, leb, ltb}
 use lib.ListN.{getD}
-use Rattle.buffers.specs.Refusals.{Line, firstFitting, line}
+use Rattle.buffers.specs.Refusals.{Refusal, firstFitting, line}
 use Rattle.jobs.specs.Asked.{withTest}
 use Rattle.operations.specs.Steps.{Operation, complementOf, czOn, gateWith, leaves, linesOf, measurementOf, pivotOf}
 use Rattle.record.specs.Lent.{LentRecord, recordLines}
@@ -18,7 +17,7 @@ pub record UsedRecord : Type 0 where
   pub used : ℕ
 
 -- the line put in directly after the one with number k
-abbrev pub insertedAfter : ℕ → Line → List Line → List Line
+abbrev pub insertedAfter : ℕ → Refusal → List Refusal → List Refusal
 insertedAfter k new [] = []
 insertedAfter k new (l ∷ ls) = l ∷ cond (eqb (l .number) k) (new ∷ insertedAfter k new ls) (insertedAfter k new ls)
 
@@ -35,7 +34,8 @@ usedWrong u = some (u .held .n) (λ q. bit (u .used) q
 abbrev pub usedStray : UsedRecord → Bool
 usedStray u = leb (2 ^ (u .held .n)) (u .used)
 
-abbrev pub usedLines : UsedRecord → Bool → Bool → Bool → List Line
+-- the lines of a record with its used word, in checking order
+abbrev pub usedLines : UsedRecord → Bool → Bool → Bool → List Refusal
 usedLines u others five six =
     withTest 7 (usedWrong u) (withTest 5 (usedStray u || five) (recordLines (u .held) others six))
 
@@ -48,7 +48,7 @@ namesUsed u (complementOf a) = bit (u .used) a
 namesUsed u (pivotOf j k) = bit (u .used) j || bit (u .used) k
 
 -- the lines of the operation as they stand, with these tests; 16 is "checked directly after 8"
-abbrev pub usedLinesOf : UsedRecord → Operation → List Line
+abbrev pub usedLinesOf : UsedRecord → Operation → List Refusal
 usedLinesOf u o = insertedAfter 8 (line 16 (namesUsed u o))
     (withTest 7 (usedWrong u) (withTest 5 (usedStray u) (linesOf (u .held) o)))
 
@@ -60,10 +60,12 @@ usedAfter u (measurementOf pauli q b) = wordOf (u .held .n) (λ t. bit (u .used)
 usedAfter u (complementOf a) = u .used
 usedAfter u (pivotOf j k) = u .used
 
+-- what a step leaves: its number, and the record and the used word after it
 pub record UsedStep : Type 0 where
   pub number : ℕ
   pub after : UsedRecord
 
+-- a step on a record with its used word
 abbrev pub usedStep : UsedRecord → Operation → UsedStep
 usedStep u o =
     record {

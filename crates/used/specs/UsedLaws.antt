@@ -1,16 +1,13 @@
 -- What document 02, §8, promises of every accepted call on a record with used qubits.
--- Assumes nothing.
-use mathlib.Core.Bool.{false, true, _||_}
+use mathlib.Core.Bool.{false, true}
 use mathlib.Core.List.{List}
-use mathlib.Core.Logic.{_↔_, _≢_}
+use mathlib.Core.Logic.{_↔_}
 use mathlib.Core.Path.{_≡_}
-use Prim.Native.Nat.{_*_, _+_, _-_, _<_, ℕ}
-use lib.Dec.{eqb}
+use Prim.Native.Nat.{ℕ}
 use lib.ListN.{getD}
-use Rattle.buffers.specs.Refusals.{Line, firstFitting}
+use Rattle.buffers.specs.Refusals.{Refusal, firstFitting}
 use Rattle.jobs.specs.Asked.{argumentsOf, withTest}
-use Rattle.operations.specs.Measurement.{outcomeNumber}
-use Rattle.operations.specs.Steps.{Operation, leaves, linesOf, measuredAnswer, pivotOf}
+use Rattle.operations.specs.Steps.{Operation, leaves, linesOf}
 use Rattle.record.specs.Lent.{LentRecord}
 use Rattle.words.specs.Bits.{bit}
 use Rattle.used.specs.Used.{UsedRecord, namesUsed, usedAfter, usedLines, usedStep, usedStray, usedWrong}
@@ -35,27 +32,13 @@ pub record UsedLeft (u : UsedRecord) (o : Operation) (v : UsedRecord) : Type 0 w
   pub stay : UsedStay u (v .held)
   pub passes : firstFitting (usedLines v false false false) ≡ 0
 
--- "an accepted measurement sets the qubit's bit": no other changes, the vertex has no neighbour, and its code is
--- 4 × (Pauli − 1) + 2 × outcome, the outcome being the bit supplied
-pub record MeasuredMarks (u : UsedRecord) (pauli q b : ℕ) (v : UsedRecord) : Type 0 where
-  pub within : q < u .held .n
-  pub marked : (t : ℕ) → bit (v .used) t ≡ (bit (u .used) t || eqb t q)
-  pub word : getD (v .held .neighbours) q 0 ≡ 0
-  pub code : getD (v .held .codes) q 0
-      ≡ 4 * (pauli - 1) + 2 * outcomeNumber (measuredAnswer (u .held) pauli q b)
-  pub outcome : outcomeNumber (measuredAnswer (u .held) pauli q b) ≡ b
-
 -- the lines before 16
-abbrev pub earlierLines : UsedRecord → Operation → List Line
+abbrev pub earlierLines : UsedRecord → Operation → List Refusal
 earlierLines u o = withTest 7 (usedWrong u) (withTest 5 (usedStray u) (argumentsOf (u .held) o))
 
 -- 16, "checked directly after 8": exactly if no earlier line holds and "the call names a used qubit"
 abbrev pub UsedRefused : UsedRecord → Operation → Type 0
 UsedRefused u o = ((usedStep u o) .number ≡ 16) ↔ ((firstFitting (earlierLines u o) ≡ 0) × (namesUsed u o ≡ true))
-
--- a pivot never gives 16: a used vertex has no edge, which is 8
-abbrev pub PivotNever : UsedRecord → Type 0
-PivotNever u = (j k : ℕ) → (usedStep u (pivotOf j k)) .number ≢ 16
 
 -- every call on a record with used qubits
 pub record UsedDemand (u : UsedRecord) (o : Operation) : Type 0 where

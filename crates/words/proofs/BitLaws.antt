@@ -1,5 +1,4 @@
 -- The bits of a word: of xor, and, or, a mask and a single bit; words are equal where their bits are.
--- Assumes nothing.
 use mathlib.Core.Bool.{_&&_, Bool, and-false, false, true, _||_}
 use mathlib.Core.Path.{ap, ap₂, refl, subst, sym, _∙_, _≡_}
 use Prim.Native.Nat.{_%_, _*_, _+_, _-_, _/_, _<_, _^_, suc, zero, ℕ, _≤_}

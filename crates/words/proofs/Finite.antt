@@ -1,6 +1,5 @@
 -- A law over k bits, proved by one test that antt computes at all 2 ^ k values: `bits k f g tt` proves
 -- f a b .. ≡ g a b .. for all bits a, b, ..
--- Assumes nothing.
 use mathlib.Core.Bool.{_&&_, Bool, Bool·beq, false, not, true}
 use mathlib.Core.Path.{refl, _≡_}
 use Prim.Native.Nat.{suc, zero, ℕ}

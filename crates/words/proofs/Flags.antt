@@ -1,5 +1,4 @@
 -- Tests as bits: what they say of their parts.
--- Assumes nothing.
 use mathlib.Core.Bool.{_&&_, Bool, Bool·beq, false, false≢true, true, true≢false, _||_}
 use mathlib.Core.Logic.{inl, inr, _⊎_}
 use mathlib.Core.Path.{ap, refl, subst, sym, _∙_, _≡_}

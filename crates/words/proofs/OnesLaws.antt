@@ -1,5 +1,4 @@
 -- Counts of ones: the parity of a xor; `dot` is symmetric and linear in each argument.
--- Assumes nothing.
 
 -- the number of ones modulo 2 is the sum of the bits
 use mathlib.Core.Bool.{_&&_, false}
@@ -24,7 +23,8 @@ use Rattle.words.proofs.BitLaws.{
 }
 use Rattle.words.proofs.Finite.{⊕-and, ⊕-comm}
 use Rattle.words.proofs.Sums.{bitMonoid, fold-ext, fold-mul, fold-shift}
-use Rattle.words.specs.Bits.{bit, dot, fold, isOdd, parity, _⊕_}
+use Rattle.words.specs.Bits.{bit, fold, isOdd, parity, _⊕_}
+use Rattle.words.specs.internal.Bits.{dot}
 
 pub parity-ones : (n w : ℕ) → w < 2 ^ n → isOdd (ones w) ≡ parity n (bit w)
 unfolding fold ones

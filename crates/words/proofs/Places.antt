@@ -1,5 +1,4 @@
 -- Places: whether two are the same, a function changed at one of them, and a sum with one term.
--- Assumes nothing.
 use mathlib.Core.Bool.{_&&_, Bool, and-false, and-true, cond, false, not, true, true≢false}
 use mathlib.Core.Logic.{inl, inr, _≢_, _⊎_}
 use mathlib.Core.Path.{ap, ap₂, refl, subst, sym, _∙_, _≡_}

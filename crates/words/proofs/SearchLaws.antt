@@ -1,5 +1,4 @@
 -- Searches over the numbers below a bound.
--- Assumes nothing.
 use mathlib.Core.Bool.{_&&_, Bool, cond, false, or-true, true, true≢false, _||_}
 use mathlib.Core.Logic.{inl, inr, _⊎_}
 use mathlib.Core.Path.{ap, ap₂, refl, subst, sym, _∙_, _≡_}

@@ -1,6 +1,5 @@
 -- The product f 0 · f 1 · .. · f (n - 1), in index order, and its laws. A sum modulo 2, a sum of quarter turns and
 -- a product of rows are three cases of it.
--- Assumes nothing.
 use mathlib.Core.Bool.{Bool, false}
 use mathlib.Core.Logic.{inl, inr, _≢_, _⊎_}
 use mathlib.Core.Path.{ap, ap₂, refl, sym, _∙_, _≡_}

@@ -1,5 +1,4 @@
 -- Trailing zeros: the smallest set bit of a word.
--- Assumes nothing.
 use mathlib.Core.Bool.{false}
 use mathlib.Core.Logic.{inl, inr, _⊎_}
 use mathlib.Core.Path.{ap, refl, sym, _∙_, _≡_}

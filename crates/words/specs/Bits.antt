@@ -1,9 +1,6 @@
 -- Words: a bit for each qubit. "Bit q of a word belongs to qubit q, bit 0 lowest, words 64 bits wide."
--- Assumes nothing.
 use mathlib.Core.Bool.{Bool, true, false, cond}
 use Prim.Native.Nat.{ℕ, zero, suc, _+_, _*_, _/_, _%_, _^_}
-use lib.Bits.{bitAnd}
-use lib.Count.{ones}
 use lib.Dec.{eqb}
 
 -- addition modulo 2
@@ -35,9 +32,11 @@ Word = ℕ → Bool
 abbrev pub parity : ℕ → Word → Bool
 parity = fold false _⊕_
 
+-- whether a number is odd: its bit 0
 abbrev pub isOdd : ℕ → Bool
 isOdd n = eqb (n % 2) 1
 
+-- a bit as a number
 abbrev pub digit : Bool → ℕ
 digit false = 0
 digit true = 1
@@ -55,7 +54,3 @@ bit w q = isOdd (w / 2 ^ q)
 unfoldable pub wordOf : ℕ → Word → ℕ
 wordOf zero f = 0
 wordOf (suc n) f = wordOf n (λ q. f (suc q)) * 2 + digit (f 0)
-
--- the places where both words have a 1 are odd in number
-unfoldable pub dot : ℕ → ℕ → Bool
-dot a b = isOdd (ones (bitAnd a b))

@@ -1,10 +1,12 @@
+// Words of 64 bits: masks, bits read, flipped and counted, the smallest set bit.
 ghost use mathlib.Core.Bool.{_&&_};
 ghost use mathlib.Core.Path.{_≡_};
 ghost use Prim.Native.Nat.{ℕ, _-_, _<_, _≤_, _^_};
 ghost use lib.Bits.{bitXor};
 ghost use lib.Count.{ones, trailingZeros};
 ghost use lib.Dec.{eqb, leb};
-ghost use Rattle.words.specs.Bits.{_⊕_, bit, dot, isOdd, put};
+ghost use Rattle.words.specs.Bits.{_⊕_, bit, isOdd, put};
+ghost use Rattle.words.specs.internal.Bits.{dot};
 
 // The mask of n qubits: the bits below n are 1. No shift reaches 64.
 pub fn mask(n: usize) -> u64

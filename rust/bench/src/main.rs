@@ -18,14 +18,14 @@ fn main() {
         println!("{}", compare::line(n, false));
     }
     for (sizes, name) in [
-        (&[1; 64][..], "equivalent pairs, 64 islands of one"),
-        (&[2; 32], "equivalent pairs, 32 islands of two"),
+        (&[1; 64][..], "equivalent pairs, 64 components of one"),
+        (&[2; 32], "equivalent pairs, 32 components of two"),
         (
             &[20, 20, 20, 4],
-            "equivalent pairs, islands of 20, 20, 20, 4",
+            "equivalent pairs, components of 20, 20, 20, 4",
         ),
     ] {
-        println!("{}", compare::islands(sizes, name));
+        println!("{}", compare::components(sizes, name));
     }
     println!("{}", strings::checking(64));
     for n in [8, 64] {

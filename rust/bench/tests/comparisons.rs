@@ -3,7 +3,7 @@
 use bench::calls::compare::{lent, Compare};
 use bench::local::sent;
 use bench::plain;
-use bench::seeded::{list, mixed, random_islands, random_rows, random_sizes, rows, Random};
+use bench::seeded::{list, mixed, random_components, random_rows, random_sizes, rows, Random};
 use sukhlent::raw::{self, Lent};
 use sukhlent::{expand, GeneratorList};
 
@@ -43,7 +43,7 @@ fn equivalent_pairs_and_others() {
 }
 
 #[test]
-fn islands() {
+fn components() {
     let mut counts = [0; 14];
     for seed in 0..1000 {
         let mut random = Random::new(seed);
@@ -54,7 +54,7 @@ fn islands() {
             if k == 1 && random.below(2) == 0 {
                 sizes = random_sizes(&mut random, n, largest);
             }
-            let record = random_islands(&mut random, &sizes);
+            let record = random_components(&mut random, &sizes);
             list(&mixed(&mut random, &rows(&expand(&record).unwrap())))
         });
         let other = list(&mixed(&mut random, &rows(&first)));
@@ -77,7 +77,7 @@ fn damaged_pairs() {
             1 + random.below(22)
         };
         let mut lists = if connected {
-            let record = random_islands(&mut random, &[n]);
+            let record = random_components(&mut random, &[n]);
             let given = expand(&record).unwrap();
             [given.clone(), given]
         } else {

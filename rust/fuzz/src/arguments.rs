@@ -3,7 +3,7 @@
 use crate::common::damage::{damage_list, damage_record};
 use crate::common::local::{complemented_record, sent};
 use crate::common::reference::strings_text;
-use crate::common::{list, mixed, random_islands, random_rows, random_sizes, rows};
+use crate::common::{list, mixed, random_components, random_rows, random_sizes, rows};
 use crate::common::{GenerateCall, ImageLengths, Lengths, ListCall, PairCall, RecordCall, Side};
 use crate::common::{Operation, Random, ReadCall};
 use sukhlent::{expand, GeneratorList, Record};
@@ -67,7 +67,7 @@ pub fn pair_call(random: &mut Random) -> PairCall {
         _ => 1 + random.below(8),
     };
     let first = match random.below(4) {
-        0 => island_call(random),
+        0 => component_call(random),
         _ => list_call(random, n),
     };
     let accepted = first.due() == (0, 0);
@@ -88,12 +88,12 @@ pub fn pair_call(random: &mut Random) -> PairCall {
     }
 }
 
-/// A call on a list whose reduced graph falls into islands, at times one of more than 20 vertices.
-fn island_call(random: &mut Random) -> ListCall {
+/// A call on a list whose reduced graph falls into components, at times one of more than 20 vertices.
+fn component_call(random: &mut Random) -> ListCall {
     let n = size(random);
     let largest = [4, 20, 24][random.below(3)];
     let sizes = random_sizes(random, n, largest);
-    let record = random_islands(random, &sizes);
+    let record = random_components(random, &sizes);
     let given = expand(&record).expect("a simple graph");
     ListCall::on(&list(&mixed(random, &rows(&given))))
 }

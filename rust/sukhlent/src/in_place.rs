@@ -60,7 +60,7 @@ pub fn cz(record: &mut Record, a: usize, b: usize) -> Result<(), Refusal> {
 /// let first = measure(&mut record, Pauli::Z, 0, 1)?;
 /// assert_eq!(first, Measured { outcome: 1, determined: false });
 /// assert_eq!(record.codes, [10, 10]);
-/// // Qubit 1 is in the same state now: a click 0 is impossible.
+/// // Qubit 1 is in the same state now: outcome 0 is contradicted.
 /// let click = measure(&mut record, Pauli::Z, 1, 0);
 /// assert_eq!(click, Err(Refusal::Contradiction));
 /// let second = measure(&mut record, Pauli::Z, 1, 1)?;

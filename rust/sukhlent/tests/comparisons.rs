@@ -39,7 +39,7 @@ fn one_qubit() {
 }
 
 #[test]
-fn twenty_one_qubits_give_3_as_one_part_and_pass_as_islands() {
+fn twenty_one_qubits_give_3_as_one_part_and_pass_as_components() {
     let all = |n: usize| GeneratorList {
         signs: vec![0; n],
         z: vec![0; n],

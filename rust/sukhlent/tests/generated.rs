@@ -114,7 +114,7 @@ fn no_step_is_a_job() {
 }
 
 /// What the program prints of a job: each step is done by a public call, from +Z on. Only
-/// impossible clicks are refused.
+/// contradicted outcomes are refused.
 fn answered(n: usize, steps: &[Step]) -> String {
     let (neighbours, codes) = (vec![0; n], vec![8; n]);
     let mut record = Record { neighbours, codes };

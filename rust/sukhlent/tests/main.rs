@@ -15,7 +15,7 @@ mod groups;
 mod image_refusals;
 mod images;
 mod in_place_refusals;
-mod islands;
+mod components;
 mod job_runs;
 mod job_texts;
 mod large;

@@ -4,7 +4,7 @@
 use crate::common::damage::{damage_list, each_fault, each_pair, LIST_FAULTS};
 use crate::common::local::sent;
 use crate::common::reference::expanded;
-use crate::common::{list, mixed, parsed, random_islands, random_rows, rows};
+use crate::common::{list, mixed, parsed, random_components, random_rows, rows};
 use crate::common::{ListCall, PairCall, Random};
 use sukhlent::{compare, GeneratorList, Refusal};
 
@@ -185,7 +185,7 @@ fn numbers_of_qubits_out_of_range_give_2_whatever_the_buffers() {
 /// A comparison of a connected state on n qubits with its image.
 fn connected(seed: u64, n: usize) -> PairCall {
     let mut random = Random::new(seed);
-    let first = expanded(&random_islands(&mut random, &[n]));
+    let first = expanded(&random_components(&mut random, &[n]));
     let choice: Vec<u8> = (0..n).map(|_| random.below(24) as u8).collect();
     PairCall::on(&first, &sent(&first, &choice))
 }

@@ -1,12 +1,10 @@
+-- `halves` meets its contract.
 use borrow.Author.Needs.{needs}
 use Rattle.amplitude_lines.proofs.HalfPowers.{pattern-good, pattern-is}
 use Rattle.amplitude_lines.proofs.halves.Statement.{statement}
 use Rattle.amplitude_lines.proofs.halves.Tie as tie
 use Rattle.amplitude_lines.proofs.halves.Reads as reads
 use Rattle.amplitude_lines.proofs.halves.Lts as lts
-
-sub-result : tie.Need-sub-result
-sub-result c = search needs
 
 float-from-bits-result : tie.Need-float-from-bits-result
 float-from-bits-result c = pattern-good (c .args .r) (c .pre)
@@ -15,4 +13,4 @@ returns : tie.Need-returns
 returns c = pattern-is (c .args .r) (c .pre)
 
 pub halves-spec : {M : Type 1} → statement M
-halves-spec = tie.close (tie.spec sub-result float-from-bits-result returns)
+halves-spec = tie.close (tie.spec (λ c. search needs) float-from-bits-result returns)

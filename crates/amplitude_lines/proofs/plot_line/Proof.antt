@@ -1,3 +1,4 @@
+-- `plot_line` meets its contract.
 use borrow.Author.Needs.{needs}
 use mathlib.Core.Path.{sym, ap, _∙_}
 use lib.Ieee.{ofBits}
@@ -10,18 +11,6 @@ use Rattle.amplitude_lines.proofs.halves.Reads as halves-reads
 
 enum-told : tie.Need-enum-told
 enum-told c = search needs
-
-enum-known-a : tie.Need-enum-known-a
-enum-known-a c = search needs
-
-halves-requires : tie.Need-halves-requires
-halves-requires c κs = search needs
-
-enum-known-a-2 : tie.Need-enum-known-a-2
-enum-known-a-2 c = search needs
-
-halves-requires-2 : tie.Need-halves-requires-2
-halves-requires-2 c κs = search needs
 
 returns : tie.Need-returns
 unfolding ofBits
@@ -40,12 +29,5 @@ returns-3 c = ap (λ p. record { re = nought; im = c .before .before .a2 .given 
 pub plot-line-spec : {M : Type 1} → statement M
 plot-line-spec =
     tie.close
-    (tie.spec
-    enum-told
-    enum-known-a
-    halves-requires
-    enum-known-a-2
-    halves-requires-2
-    returns
-    returns-2
-    returns-3)
+    (tie.spec enum-told (λ c. search needs) (λ c κs. search needs) (λ c. search needs) (λ c κs. search needs) returns
+    returns-2 returns-3)

@@ -1,3 +1,4 @@
+-- `turned` meets its contract.
 use mathlib.Core.Path.{_≡_, ap, refl, sym}
 use Prim.Native.Nat.{ℕ, _<_, suc, zero}
 use native.Mathlib.Omega.{arith}

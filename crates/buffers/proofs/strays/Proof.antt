@@ -1,3 +1,4 @@
+-- `strays` meets its contract: line 5: whether some word of the buffer has a bit at or above n.
 use mathlib.Core.Path.{_∙_}
 use Prim.Native.Nat.{_-_, _^_}
 use native.Mathlib.Omega.{arith}
@@ -17,27 +18,12 @@ abbrev μ-loop : tie.MeasureT-loop
 loop-holds : tie.Need-loop-holds Inv-loop μ-loop
 loop-holds c = some-yet-or (c .before .args .n) (c .before .args .buffer .now)
 
-mul-all : tie.Need-mul-all Inv-loop μ-loop
-mul-all c = search needs
-
-shared-slice-read-all : tie.Need-shared-slice-read-all Inv-loop μ-loop
-shared-slice-read-all c = search needs
-
-add-i : tie.Need-add-i Inv-loop μ-loop
-add-i c = search needs
-
-loop-less : tie.Need-loop-less Inv-loop μ-loop
-loop-less c = omega arith
-
 loop-again : tie.Need-loop-again Inv-loop μ-loop
 loop-again c =
     let inside = c .before in
     let a = inside .before .before .before .args in
     some-here-or (a .n) (a .buffer .now) (inside .before .loop .all) (inside .before .loop .i)
     (inside .before .loop .inv) (inside .loop-test .taken)
-
-stray-requires : tie.Need-stray-requires Inv-loop μ-loop
-stray-requires c κs = search needs
 
 returns : tie.Need-returns Inv-loop μ-loop
 returns c =
@@ -50,14 +36,5 @@ returns c =
 pub strays-spec : {M : Type 1} → statement M
 strays-spec =
     tie.close
-    (tie.spec
-    Inv-loop
-    μ-loop
-    loop-holds
-    mul-all
-    shared-slice-read-all
-    add-i
-    loop-less
-    loop-again
-    stray-requires
-    returns)
+    (tie.spec Inv-loop μ-loop loop-holds (λ c. search needs) (λ c. search needs) (λ c. search needs) (λ c. omega arith)
+    loop-again (λ c κs. search needs) returns)

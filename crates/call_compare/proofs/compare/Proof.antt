@@ -1,3 +1,5 @@
+-- `compare` meets its contract: the least choice that carries the group of the first list onto that of the second, and
+-- the complementations that turn the first reduced graph into the second.
 use mathlib.Core.Bool.{_||_}
 use mathlib.Core.Path.{ap₂, refl, sym, _∙_}
 use borrow.Author.Needs.{needs}
@@ -16,9 +18,6 @@ use Rattle.buffers.proofs.Parts.{part-long}
 use Rattle.call_compare.proofs.compare.Statement.{statement}
 use Rattle.call_compare.proofs.compare.Tie as tie
 
-pair-count-requires : tie.Need-pair-count-requires
-pair-count-requires c κs = search needs
-
 returns : tie.Need-returns
 returns c = let P = c .before in
     let S = P .before .before .before .before .before .before .before .before .before in
@@ -27,12 +26,6 @@ returns c = let P = c .before in
     let m : GeneratorList = record { n = a .n2; signs = a .signs2 .now; z = a .z2 .now; x = a .x2 .now } in
     refused-2 l m (a .choice .now) (a .list .now) (a .count .now) (sym (P .pair-count .ensures)
     ∙ c .if1 .taken)
-
-other-than-requires : tie.Need-other-than-requires
-other-than-requires c κs = search needs
-
-other-than-requires-2 : tie.Need-other-than-requires-2
-other-than-requires-2 c κs = search needs
 
 returns-2 : tie.Need-returns-2
 returns-2 c = let O = c .before in
@@ -150,12 +143,6 @@ compare-lists-requires c κs = let P3 = c .before .before .before .before .befor
       (part-long _ _ few refl, part-long _ _ few refl, part-long _ _ few refl, part-long _ _ few refl),
     )
 
-same-length : tie.Need-same-length
-same-length c = search needs
-
-same-length-2 : tie.Need-same-length-2
-same-length-2 c = search needs
-
 returns-3 : tie.Need-returns-3
 returns-3 c = let Q = c .before .before .before .before .before .before .before .before in
     let P3 = Q .before .before .before .before .before .before .before .before in
@@ -175,21 +162,8 @@ returns-3 c = let Q = c .before .before .before .before .before .before .before 
 pub compare-spec : {M : Type 1} → statement M
 compare-spec =
     tie.close
-    (tie.spec
-    pair-count-requires
-    returns
-    other-than-requires
-    other-than-requires-2
-    returns-2
-    array-borrow-prefix-neighbours1
-    slice-aggregate-compare-lists
-    array-borrow-prefix-codes1
-    slice-aggregate-compare-lists-2
-    array-borrow-prefix-neighbours2
-    slice-aggregate-compare-lists-3
-    array-borrow-prefix-codes2
-    slice-aggregate-compare-lists-4
-    compare-lists-requires
-    same-length
-    same-length-2
-    returns-3)
+    (tie.spec (λ c κs. search needs) returns (λ c κs. search needs) (λ c κs. search needs) returns-2
+    array-borrow-prefix-neighbours1 slice-aggregate-compare-lists array-borrow-prefix-codes1
+    slice-aggregate-compare-lists-2 array-borrow-prefix-neighbours2 slice-aggregate-compare-lists-3
+    array-borrow-prefix-codes2 slice-aggregate-compare-lists-4 compare-lists-requires (λ c. search needs)
+    (λ c. search needs) returns-3)

@@ -1,3 +1,4 @@
+-- `compare_lists` meets its contract: the comparison of two lists on n qubits, with room for their reduced records.
 use borrow.Author.Needs.{needs}
 use Rattle.call_compare.proofs.Comparing.{
   compare-decided,
@@ -7,27 +8,6 @@ use Rattle.call_compare.proofs.Comparing.{
 }
 use Rattle.call_compare.proofs.compare_lists.Statement.{statement}
 use Rattle.call_compare.proofs.compare_lists.Tie as tie
-
-reduce-requires : tie.Need-reduce-requires
-reduce-requires c κs = search needs
-
-reduce-requires-2 : tie.Need-reduce-requires-2
-reduce-requires-2 c κs = search needs
-
-earlier-requires : tie.Need-earlier-requires
-earlier-requires c κs = search needs
-
-same-length : tie.Need-same-length
-same-length c = search needs
-
-same-length-2 : tie.Need-same-length-2
-same-length-2 c = search needs
-
-same-length-3 : tie.Need-same-length-3
-same-length-3 c = search needs
-
-same-length-4 : tie.Need-same-length-4
-same-length-4 c = search needs
 
 returns : tie.Need-returns
 returns c = let E = c .before in
@@ -70,24 +50,6 @@ compare-reduced-requires c κs = let N = c .before .before .before .before .befo
       ),
     )
 
-same-length-5 : tie.Need-same-length-5
-same-length-5 c = search needs
-
-same-length-6 : tie.Need-same-length-6
-same-length-6 c = search needs
-
-same-length-7 : tie.Need-same-length-7
-same-length-7 c = search needs
-
-same-length-8 : tie.Need-same-length-8
-same-length-8 c = search needs
-
-same-length-9 : tie.Need-same-length-9
-same-length-9 c = search needs
-
-same-length-10 : tie.Need-same-length-10
-same-length-10 c = search needs
-
 returns-2 : tie.Need-returns-2
 returns-2 c = let Q = c .before .before .before .before in
     let N = Q .before .before .before .before .before .before .before .before in
@@ -108,20 +70,6 @@ returns-2 c = let Q = c .before .before .before .before in
 pub compare-lists-spec : {M : Type 1} → statement M
 compare-lists-spec =
     tie.close
-    (tie.spec
-    reduce-requires
-    reduce-requires-2
-    earlier-requires
-    same-length
-    same-length-2
-    same-length-3
-    same-length-4
-    returns
-    compare-reduced-requires
-    same-length-5
-    same-length-6
-    same-length-7
-    same-length-8
-    same-length-9
-    same-length-10
-    returns-2)
+    (tie.spec (λ c κs. search needs) (λ c κs. search needs) (λ c κs. search needs) (λ c. search needs)
+    (λ c. search needs) (λ c. search needs) (λ c. search needs) returns compare-reduced-requires (λ c. search needs)
+    (λ c. search needs) (λ c. search needs) (λ c. search needs) (λ c. search needs) (λ c. search needs) returns-2)

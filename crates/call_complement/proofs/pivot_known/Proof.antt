@@ -1,3 +1,4 @@
+-- `pivot_known` meets its contract: a pivot on an edge; the record is not reduced.
 use mathlib.Core.Path.{refl, sym, _∙_}
 use native.Mathlib.Omega.{arith}
 use borrow.Author.Needs.{needs}
@@ -14,15 +15,6 @@ use Rattle.call_gates.proofs.InPlaceLines.{
 }
 use Rattle.call_complement.proofs.pivot_known.Statement.{statement}
 use Rattle.call_complement.proofs.pivot_known.Tie as tie
-
-in-place-refusal-requires : tie.Need-in-place-refusal-requires
-in-place-refusal-requires c κs = search needs
-
-same-length : tie.Need-same-length
-same-length c = search needs
-
-same-length-2 : tie.Need-same-length-2
-same-length-2 c = search needs
 
 returns : tie.Need-returns
 returns c =
@@ -54,12 +46,6 @@ has-requires c κs =
     let l : LentRecord = record { n = a .n; neighbours = a .neighbours .now; codes = a .codes .now } in
     pair-below l (a .j) (a .k) (sym (E .in-place-refusal .ensures) ∙ c .before .if1 .left) .1
 
-same-length-3 : tie.Need-same-length-3
-same-length-3 c = search needs
-
-same-length-4 : tie.Need-same-length-4
-same-length-4 c = search needs
-
 returns-2 : tie.Need-returns-2
 returns-2 c =
     let H = c .before in
@@ -78,12 +64,6 @@ pivot-record-requires c κs =
     let l : LentRecord = record { n = a .n; neighbours = a .neighbours .now; codes = a .codes .now } in
     pair-ready l (a .j) (a .k) (sym (E .in-place-refusal .ensures) ∙ D .if1 .left)
 
-same-length-5 : tie.Need-same-length-5
-same-length-5 c = search needs
-
-same-length-6 : tie.Need-same-length-6
-same-length-6 c = search needs
-
 returns-3 : tie.Need-returns-3
 returns-3 c =
     let G = c .before .before .before .before in
@@ -100,18 +80,6 @@ returns-3 c =
 pub pivot-known-spec : {M : Type 1} → statement M
 pivot-known-spec =
     tie.close
-    (tie.spec
-    in-place-refusal-requires
-    same-length
-    same-length-2
-    returns
-    mul-has
-    slice-read-has
-    has-requires
-    same-length-3
-    same-length-4
-    returns-2
-    pivot-record-requires
-    same-length-5
-    same-length-6
+    (tie.spec (λ c κs. search needs) (λ c. search needs) (λ c. search needs) returns mul-has slice-read-has has-requires
+    (λ c. search needs) (λ c. search needs) returns-2 pivot-record-requires (λ c. search needs) (λ c. search needs)
     returns-3)

@@ -1,3 +1,4 @@
+-- `cut` meets its contract: the rank of the edges between the marked side and the other.
 use mathlib.Core.Path.{refl, sym, _∙_}
 use borrow.Author.Needs.{needs}
 use Rattle.contracts.proofs.Calling.{done, refused}
@@ -5,9 +6,6 @@ use Rattle.record.specs.Lent.{LentRecord}
 use Rattle.call_cut.proofs.CutLines.{accepted-cut}
 use Rattle.call_cut.proofs.cut.Statement.{statement}
 use Rattle.call_cut.proofs.cut.Tie as tie
-
-cut-refusal-requires : tie.Need-cut-refusal-requires
-cut-refusal-requires c κs = search needs
 
 returns : tie.Need-returns
 returns c = refused _ (c .before .cut-refusal .ensures) (c .if1 .taken) (refl, tt)
@@ -25,4 +23,4 @@ returns-2 c =
     done _ (c .before .before .cut-refusal .ensures) (c .before .if1 .left) (c .cut-rank .ensures, tt)
 
 pub cut-spec : {M : Type 1} → statement M
-cut-spec = tie.close (tie.spec cut-refusal-requires returns cut-rank-requires returns-2)
+cut-spec = tie.close (tie.spec (λ c κs. search needs) returns cut-rank-requires returns-2)

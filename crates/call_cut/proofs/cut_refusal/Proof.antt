@@ -1,12 +1,10 @@
+-- `cut_refusal` meets its contract: the first line that holds; 0 where none does.
 use borrow.Author.Needs.{needs}
 use Rattle.record.specs.Lent.{LentRecord}
 use Rattle.stabilizer.proofs.EarlyLines.{says}
 use Rattle.call_cut.proofs.CutLines.{number-2, number-4, side-good, side-strays, side-tested}
 use Rattle.call_cut.proofs.cut_refusal.Statement.{statement}
 use Rattle.call_cut.proofs.cut_refusal.Tie as tie
-
-record-refusal-requires : tie.Need-record-refusal-requires
-record-refusal-requires c κs = search needs
 
 returns : tie.Need-returns
 returns c =
@@ -48,6 +46,4 @@ returns-4 c =
     (says (c .before .stray .ensures) (c .if3 .left))
 
 pub cut-refusal-spec : {M : Type 1} → statement M
-cut-refusal-spec =
-    tie.close
-    (tie.spec record-refusal-requires returns returns-2 stray-requires returns-3 returns-4)
+cut-refusal-spec = tie.close (tie.spec (λ c κs. search needs) returns returns-2 stray-requires returns-3 returns-4)

@@ -1,3 +1,5 @@
+-- `in_place_refusal` meets its contract: the number of the first line of a record that holds, and then 8 where `eight`
+-- does; `six`: line 6 holds of a further argument; `known`: no line of the record alone holds.
 use mathlib.Core.Bool.{false}
 use mathlib.Core.Path.{refl}
 use borrow.Author.Needs.{needs}
@@ -6,9 +8,6 @@ use Rattle.contracts.specs.Answers.{here, later, none}
 use Rattle.record.specs.Lent.{LentRecord, recordLines}
 use Rattle.call_gates.proofs.in_place_refusal.Statement.{statement}
 use Rattle.call_gates.proofs.in_place_refusal.Tie as tie
-
-known-refusal-requires : tie.Need-known-refusal-requires
-known-refusal-requires c κs = search needs
 
 returns : tie.Need-returns
 returns c =
@@ -34,4 +33,4 @@ returns-3 c =
     (later (c .if2 .left) none)
 
 pub in-place-refusal-spec : {M : Type 1} → statement M
-in-place-refusal-spec = tie.close (tie.spec known-refusal-requires returns returns-2 returns-3)
+in-place-refusal-spec = tie.close (tie.spec (λ c κs. search needs) returns returns-2 returns-3)

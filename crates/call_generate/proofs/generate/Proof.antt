@@ -1,15 +1,11 @@
+-- `generate` meets its contract: the text of the job of `count` steps drawn from the seed, at the start of the buffer,
+-- and its length.
 use mathlib.Core.Path.{refl, sym, _∙_}
 use borrow.Author.Needs.{needs}
 use Rattle.contracts.proofs.Calling.{refused}
 use Rattle.call_generate.proofs.GenerateCalls.{accepted-job, generate-accepted}
 use Rattle.call_generate.proofs.generate.Statement.{statement}
 use Rattle.call_generate.proofs.generate.Tie as tie
-
-generate-refusal-requires : tie.Need-generate-refusal-requires
-generate-refusal-requires c κs = search needs
-
-same-length : tie.Need-same-length
-same-length c = search needs
 
 returns : tie.Need-returns
 returns c =
@@ -22,9 +18,6 @@ put-job-requires c κs =
     accepted-job (a .n) (a .count) (a .seed) (a .text .now)
     (sym (E .generate-refusal .ensures) ∙ c .before .if1 .left)
 
-same-length-2 : tie.Need-same-length-2
-same-length-2 c = search needs
-
 returns-2 : tie.Need-returns-2
 returns-2 c =
     let P = c .before .before in
@@ -36,10 +29,4 @@ returns-2 c =
 pub generate-spec : {M : Type 1} → statement M
 generate-spec =
     tie.close
-    (tie.spec
-    generate-refusal-requires
-    same-length
-    returns
-    put-job-requires
-    same-length-2
-    returns-2)
+    (tie.spec (λ c κs. search needs) (λ c. search needs) returns put-job-requires (λ c. search needs) returns-2)

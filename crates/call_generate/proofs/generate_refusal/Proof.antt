@@ -1,3 +1,4 @@
+-- `generate_refusal` meets its contract: the first line that holds; 0 where none does.
 use mathlib.Core.Path.{sym, _∙_}
 use borrow.Author.Needs.{needs}
 use borrow.Author.Tests.{eq-eqb, le-ltb, lt-ltb, ne-eqb}
@@ -9,16 +10,10 @@ use Rattle.call_generate.proofs.generate_refusal.Tie as tie
 returns : tie.Need-returns
 returns c = first-is (here (lt-ltb 4096 _ (c .if1 .taken)))
 
-bad-count-requires : tie.Need-bad-count-requires
-bad-count-requires c κs = search needs
-
 returns-2 : tie.Need-returns-2
 returns-2 c =
     let n = c .before in
     first-is (later (le-ltb 4096 _ (n .before .if1 .left)) (here (sym (n .bad-count .ensures) ∙ c .if2 .taken)))
-
-other-than-requires : tie.Need-other-than-requires
-other-than-requires c κs = search needs
 
 returns-3 : tie.Need-returns-3
 returns-3 c =
@@ -43,12 +38,4 @@ returns-5 c =
 
 pub generate-refusal-spec : {M : Type 1} → statement M
 generate-refusal-spec =
-    tie.close
-    (tie.spec
-    returns
-    bad-count-requires
-    returns-2
-    other-than-requires
-    returns-3
-    returns-4
-    returns-5)
+    tie.close (tie.spec returns (λ c κs. search needs) returns-2 (λ c κs. search needs) returns-3 returns-4 returns-5)

@@ -1,3 +1,4 @@
+-- `image` meets its contract: the image graph, its signs, and the list of the vertices complemented.
 use mathlib.Core.Bool.{_||_}
 use mathlib.Core.Path.{ap₂}
 use borrow.Author.Needs.{needs}
@@ -13,18 +14,6 @@ use Rattle.call_image.proofs.ImageCalls.{
 }
 use Rattle.call_image.proofs.image.Statement.{statement}
 use Rattle.call_image.proofs.image.Tie as tie
-
-other-than-requires : tie.Need-other-than-requires
-other-than-requires c κs = search needs
-
-other-than-requires-2 : tie.Need-other-than-requires-2
-other-than-requires-2 c κs = search needs
-
-other-than-requires-3 : tie.Need-other-than-requires-3
-other-than-requires-3 c κs = search needs
-
-record-refusal-requires : tie.Need-record-refusal-requires
-record-refusal-requires c κs = search needs
 
 returns : tie.Need-returns
 returns c =
@@ -100,15 +89,6 @@ copy-list-requires c κs =
           _ (P .image-answer .ensures),
     )
 
-same-length : tie.Need-same-length
-same-length c = search needs
-
-same-length-2 : tie.Need-same-length-2
-same-length-2 c = search needs
-
-same-length-3 : tie.Need-same-length-3
-same-length-3 c = search needs
-
 returns-3 : tie.Need-returns-3
 returns-3 c =
     let B = c .before .before .before .before .before .before in
@@ -128,18 +108,6 @@ returns-3 c =
 pub image-spec : {M : Type 1} → statement M
 image-spec =
     tie.close
-    (tie.spec
-    other-than-requires
-    other-than-requires-2
-    other-than-requires-3
-    record-refusal-requires
-    returns
-    image-answer-requires
-    returns-2
-    copy-words-requires
-    copy-bytes-requires
-    copy-list-requires
-    same-length
-    same-length-2
-    same-length-3
-    returns-3)
+    (tie.spec (λ c κs. search needs) (λ c κs. search needs) (λ c κs. search needs) (λ c κs. search needs) returns
+    image-answer-requires returns-2 copy-words-requires copy-bytes-requires copy-list-requires (λ c. search needs)
+    (λ c. search needs) (λ c. search needs) returns-3)

@@ -1,3 +1,4 @@
+-- `check` meets its contract: lines 2, 4, 5, 6, 9 and 10 of a generator list.
 use mathlib.Core.Bool.{false}
 use mathlib.Core.Path.{refl, sym}
 use native.Mathlib.Omega.{arith}
@@ -8,9 +9,6 @@ use Rattle.call_lists.proofs.Lists.{accepted-last, reducible, refused-e
 use Rattle.buffers.proofs.Parts.{part-long}
 use Rattle.call_lists.proofs.check.Statement.{statement}
 use Rattle.call_lists.proofs.check.Tie as tie
-
-early-refusal-requires : tie.Need-early-refusal-requires
-early-refusal-requires c κs = search needs
 
 returns : tie.Need-returns
 returns c = let E = c .before in
@@ -87,13 +85,5 @@ returns-3 c = let E = c .before .before .before .before .before .before .before 
 pub check-spec : {M : Type 1} → statement M
 check-spec =
     tie.close
-    (tie.spec
-    early-refusal-requires
-    returns
-    array-borrow-prefix-neighbours
-    slice-aggregate-reduce-list
-    array-borrow-prefix-codes
-    slice-aggregate-reduce-list-2
-    reduce-list-requires
-    returns-2
-    returns-3)
+    (tie.spec (λ c κs. search needs) returns array-borrow-prefix-neighbours slice-aggregate-reduce-list
+    array-borrow-prefix-codes slice-aggregate-reduce-list-2 reduce-list-requires returns-2 returns-3)

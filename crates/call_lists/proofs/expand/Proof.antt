@@ -1,3 +1,4 @@
+-- `expand` meets its contract: the generators of a record, in order.
 use mathlib.Core.Bool.{_||_}
 use mathlib.Core.Path.{ap₂}
 use borrow.Author.Needs.{needs}
@@ -12,18 +13,6 @@ use Rattle.call_lists.proofs.Records.{
 }
 use Rattle.call_lists.proofs.expand.Statement.{statement}
 use Rattle.call_lists.proofs.expand.Tie as tie
-
-other-than-requires : tie.Need-other-than-requires
-other-than-requires c κs = search needs
-
-other-than-requires-2 : tie.Need-other-than-requires-2
-other-than-requires-2 c κs = search needs
-
-other-than-requires-3 : tie.Need-other-than-requires-3
-other-than-requires-3 c κs = search needs
-
-record-refusal-requires : tie.Need-record-refusal-requires
-record-refusal-requires c κs = search needs
 
 returns : tie.Need-returns
 returns c = let E = c .before in
@@ -67,15 +56,6 @@ expand-into-requires c κs = let E = c .before .before .before .before in
       ),
     )
 
-same-length : tie.Need-same-length
-same-length c = search needs
-
-same-length-2 : tie.Need-same-length-2
-same-length-2 c = search needs
-
-same-length-3 : tie.Need-same-length-3
-same-length-3 c = search needs
-
 returns-2 : tie.Need-returns-2
 returns-2 c = let E =
     c .before .before .before .before .before .before .before .before .before .before .before in
@@ -94,14 +74,5 @@ returns-2 c = let E =
 pub expand-spec : {M : Type 1} → statement M
 expand-spec =
     tie.close
-    (tie.spec
-    other-than-requires
-    other-than-requires-2
-    other-than-requires-3
-    record-refusal-requires
-    returns
-    expand-into-requires
-    same-length
-    same-length-2
-    same-length-3
-    returns-2)
+    (tie.spec (λ c κs. search needs) (λ c κs. search needs) (λ c κs. search needs) (λ c κs. search needs) returns
+    expand-into-requires (λ c. search needs) (λ c. search needs) (λ c. search needs) returns-2)

@@ -1,3 +1,4 @@
+-- `reduce` meets its contract: the reduced record of a generator list.
 use mathlib.Core.Bool.{_||_}
 use mathlib.Core.Path.{ap₂}
 use borrow.Author.Needs.{needs}
@@ -12,15 +13,6 @@ use Rattle.call_lists.proofs.Lists.{
 }
 use Rattle.call_lists.proofs.reduce.Statement.{statement}
 use Rattle.call_lists.proofs.reduce.Tie as tie
-
-other-than-requires : tie.Need-other-than-requires
-other-than-requires c κs = search needs
-
-other-than-requires-2 : tie.Need-other-than-requires-2
-other-than-requires-2 c κs = search needs
-
-early-refusal-requires : tie.Need-early-refusal-requires
-early-refusal-requires c κs = search needs
 
 returns : tie.Need-returns
 returns c = let E = c .before in
@@ -49,12 +41,6 @@ reduce-list-requires c κs = let E = c .before .before .before in
       ),
     )
 
-same-length : tie.Need-same-length
-same-length c = search needs
-
-same-length-2 : tie.Need-same-length-2
-same-length-2 c = search needs
-
 returns-2 : tie.Need-returns-2
 returns-2 c = let E = c .before .before .before .before .before .before .before .before .before in
     let O = E .before in
@@ -67,12 +53,6 @@ returns-2 c = let E = c .before .before .before .before .before .before .before 
     (T .before .before .before .if1 .left) _ (T .reduce-list .ensures .0) _ _
     (T .reduce-list .ensures .1 .0)
     (T .reduce-list .ensures .1 .1) (c .if2 .taken)
-
-same-length-3 : tie.Need-same-length-3
-same-length-3 c = search needs
-
-same-length-4 : tie.Need-same-length-4
-same-length-4 c = search needs
 
 returns-3 : tie.Need-returns-3
 returns-3 c = let E = c .before .before .before .before .before .before .before .before .before in
@@ -90,15 +70,5 @@ returns-3 c = let E = c .before .before .before .before .before .before .before 
 pub reduce-spec : {M : Type 1} → statement M
 reduce-spec =
     tie.close
-    (tie.spec
-    other-than-requires
-    other-than-requires-2
-    early-refusal-requires
-    returns
-    reduce-list-requires
-    same-length
-    same-length-2
-    returns-2
-    same-length-3
-    same-length-4
-    returns-3)
+    (tie.spec (λ c κs. search needs) (λ c κs. search needs) (λ c κs. search needs) returns reduce-list-requires
+    (λ c. search needs) (λ c. search needs) returns-2 (λ c. search needs) (λ c. search needs) returns-3)

@@ -1,3 +1,5 @@
+-- `measure_refusal` meets its contract: the number of the first line of a measurement that holds: those of its
+-- arguments, and 14 where a determined outcome contradicts the supplied bit.
 use mathlib.Core.Path.{refl, sym, _∙_}
 use borrow.Author.Needs.{needs}
 use Rattle.contracts.proofs.Fitting.{decides, stays}
@@ -8,9 +10,6 @@ use Rattle.call_gates.proofs.InPlaceLines.{measure-ready}
 use Rattle.call_gates.proofs.MeasureLines.{found}
 use Rattle.call_measure.proofs.measure_refusal.Statement.{statement}
 use Rattle.call_measure.proofs.measure_refusal.Tie as tie
-
-in-place-refusal-requires : tie.Need-in-place-refusal-requires
-in-place-refusal-requires c κs = search needs
 
 returns : tie.Need-returns
 returns c =
@@ -47,6 +46,4 @@ returns-3 c =
     (c .before .contradicted .ensures) (c .if2 .left)) none)
 
 pub measure-refusal-spec : {M : Type 1} → statement M
-measure-refusal-spec =
-    tie.close
-    (tie.spec in-place-refusal-requires returns contradicted-requires returns-2 returns-3)
+measure-refusal-spec = tie.close (tie.spec (λ c κs. search needs) returns contradicted-requires returns-2 returns-3)

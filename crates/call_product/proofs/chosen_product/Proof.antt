@@ -1,3 +1,4 @@
+-- `chosen_product` meets its contract: the product of the chosen rows, in index order, its phase from 0 to 3.
 use mathlib.Core.Logic.{⊎-elim}
 use mathlib.Core.Path.{_∙_, subst, sym}
 use Prim.Native.Nat.{_+_, _-_}
@@ -40,15 +41,6 @@ row-at-requires c κs =
     let l : GeneratorList = record { n = a .n; signs = a .signs .now; z = a .z .now; x = a .x .now } in
     row-read l (a .chosen) (S .pre) (c .before .before .before .loop .j) (c .before .before .loop-test .taken)
 
-times-requires : tie.Need-times-requires Inv-loop μ-loop
-times-requires c κs = search needs
-
-add-j : tie.Need-add-j Inv-loop μ-loop
-add-j c = search needs
-
-loop-less : tie.Need-loop-less Inv-loop μ-loop
-loop-less c = omega arith
-
 loop-again : tie.Need-loop-again Inv-loop μ-loop
 loop-again c =
     let L = c .before .before .before .loop in
@@ -73,14 +65,5 @@ returns c =
 pub chosen-product-spec : {M : Type 1} → statement M
 chosen-product-spec =
     tie.close
-    (tie.spec
-    Inv-loop
-    μ-loop
-    loop-holds
-    has-requires
-    row-at-requires
-    times-requires
-    add-j
-    loop-less
-    loop-again
-    returns)
+    (tie.spec Inv-loop μ-loop loop-holds has-requires row-at-requires (λ c κs. search needs) (λ c. search needs)
+    (λ c. omega arith) loop-again returns)

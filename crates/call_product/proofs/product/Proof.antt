@@ -1,3 +1,5 @@
+-- `product` meets its contract: the product of the rows that a word chooses, and the power of i in front of its
+-- letters.
 use mathlib.Core.Path.{refl, sym, _∙_}
 use native.Mathlib.Omega.{arith}
 use borrow.Author.Needs.{needs}
@@ -6,9 +8,6 @@ use Rattle.stabilizer.specs.Lists.{GeneratorList}
 use Rattle.call_product.proofs.ProductCalls.{product-accepted}
 use Rattle.call_product.proofs.product.Statement.{statement}
 use Rattle.call_product.proofs.product.Tie as tie
-
-product-refusal-requires : tie.Need-product-refusal-requires
-product-refusal-requires c κs = search needs
 
 returns : tie.Need-returns
 returns c = refused _ (c .before .product-refusal .ensures) (c .if1 .taken) (refl, (refl, (refl, tt)))
@@ -29,4 +28,4 @@ returns-2 c =
     (P .chosen-product .ensures .1)
 
 pub product-spec : {M : Type 1} → statement M
-product-spec = tie.close (tie.spec product-refusal-requires returns chosen-product-requires cast-phase returns-2)
+product-spec = tie.close (tie.spec (λ c κs. search needs) returns chosen-product-requires cast-phase returns-2)

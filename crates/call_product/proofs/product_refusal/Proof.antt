@@ -1,12 +1,10 @@
+-- `product_refusal` meets its contract: the first line that holds; 0 where none does.
 use borrow.Author.Needs.{needs}
 use Rattle.stabilizer.proofs.EarlyLines.{says}
 use Rattle.stabilizer.specs.Lists.{GeneratorList}
 use Rattle.call_product.proofs.ProductLines.{number-2, number-4, word-good, word-strays, word-tested}
 use Rattle.call_product.proofs.product_refusal.Statement.{statement}
 use Rattle.call_product.proofs.product_refusal.Tie as tie
-
-form-refusal-requires : tie.Need-form-refusal-requires
-form-refusal-requires c κs = search needs
 
 returns : tie.Need-returns
 returns c =
@@ -48,6 +46,4 @@ returns-4 c =
     (says (c .before .stray .ensures) (c .if3 .left))
 
 pub product-refusal-spec : {M : Type 1} → statement M
-product-refusal-spec =
-    tie.close
-    (tie.spec form-refusal-requires returns returns-2 stray-requires returns-3 returns-4)
+product-refusal-spec = tie.close (tie.spec (λ c κs. search needs) returns returns-2 stray-requires returns-3 returns-4)

@@ -1,3 +1,5 @@
+-- `formed_refusal` meets its contract: the first of lines 1, 2 and 4 that holds of a text with n newlines and the
+-- buffers for its list; 0 where none does.
 use mathlib.Core.Bool.{Bool, not, _||_}
 use mathlib.Core.List.{List}
 use mathlib.Core.Path.{ap, ap₂, sym, _∙_, _≡_}
@@ -9,9 +11,6 @@ use Rattle.contracts.specs.Answers.{here, later, none}
 use Rattle.call_strings.proofs.formed_refusal.Statement.{statement}
 use Rattle.call_strings.proofs.formed_refusal.Tie as tie
 
-string-form-requires : tie.Need-string-form-requires
-string-form-requires c κs = search needs
-
 -- line 4 from its three tests
 fitting : (signs z x : List ℕ) {n m : ℕ} → n ≡ m → {a b c : Bool} → a ≡ otherThan n signs → b ≡ otherThan n z →
     c ≡ otherThan n x → (otherThan m signs || (otherThan m z || otherThan m x)) ≡ (a || (b || c))
@@ -22,9 +21,6 @@ fitting signs z x e ea eb ec =
 returns : tie.Need-returns
 returns c = first-is (here (ap not (sym (c .before .string-form .ensures)) ∙ c .if1 .taken))
 
-bad-count-requires : tie.Need-bad-count-requires
-bad-count-requires c κs = search needs
-
 returns-2 : tie.Need-returns-2
 returns-2 c =
     let n = c .before in
@@ -32,15 +28,6 @@ returns-2 c =
     let a = s .before .before .before .before .before in
     first-is (later (ap not (sym (s .string-form .ensures)) ∙ n .before .if1 .left)
     (here (ap badCount (sym (a .pre)) ∙ sym (n .bad-count .ensures) ∙ c .if2 .taken)))
-
-other-than-requires : tie.Need-other-than-requires
-other-than-requires c κs = search needs
-
-other-than-requires-2 : tie.Need-other-than-requires-2
-other-than-requires-2 c κs = search needs
-
-other-than-requires-3 : tie.Need-other-than-requires-3
-other-than-requires-3 c κs = search needs
 
 returns-3 : tie.Need-returns-3
 returns-3 c =
@@ -71,13 +58,5 @@ returns-4 c =
 pub formed-refusal-spec : {M : Type 1} → statement M
 formed-refusal-spec =
     tie.close
-    (tie.spec
-    string-form-requires
-    returns
-    bad-count-requires
-    returns-2
-    other-than-requires
-    other-than-requires-2
-    other-than-requires-3
-    returns-3
-    returns-4)
+    (tie.spec (λ c κs. search needs) returns (λ c κs. search needs) returns-2 (λ c κs. search needs)
+    (λ c κs. search needs) (λ c κs. search needs) returns-3 returns-4)

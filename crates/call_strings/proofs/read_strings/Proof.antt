@@ -1,23 +1,9 @@
+-- `read_strings` meets its contract: the generator list of a text.
 use native.Mathlib.Omega.{arith}
 use borrow.Author.Needs.{needs}
 use Rattle.call_strings.proofs.ReadCalls.{part-of, part-room, read-done, read-formed, read-judged, read-refused}
 use Rattle.call_strings.proofs.read_strings.Statement.{statement}
 use Rattle.call_strings.proofs.read_strings.Tie as tie
-
-line-count-requires : tie.Need-line-count-requires
-line-count-requires c κs = search needs
-
-formed-refusal-requires : tie.Need-formed-refusal-requires
-formed-refusal-requires c κs = search needs
-
-same-length : tie.Need-same-length
-same-length c = search needs
-
-same-length-2 : tie.Need-same-length-2
-same-length-2 c = search needs
-
-same-length-3 : tie.Need-same-length-3
-same-length-3 c = search needs
 
 returns : tie.Need-returns
 returns c =
@@ -53,18 +39,6 @@ array-share-prefix-own-x c = part-room _ _ _ (c .before .before .before .before 
 
 slice-aggregate-check-3 : tie.Need-slice-aggregate-check-3
 slice-aggregate-check-3 c = part-of _ _ _ (c .before .before .before .before .before .before .read-rows .ensures .1 .1)
-
-check-requires : tie.Need-check-requires
-check-requires c κs = search needs
-
-same-length-4 : tie.Need-same-length-4
-same-length-4 c = search needs
-
-same-length-5 : tie.Need-same-length-5
-same-length-5 c = search needs
-
-same-length-6 : tie.Need-same-length-6
-same-length-6 c = search needs
 
 returns-2 : tie.Need-returns-2
 returns-2 c =
@@ -111,15 +85,6 @@ copy-words-requires-2 c κs =
     (f .formed-refusal .ensures) (r .before .if1 .left) in
     omega (arith, F .few, F .x-fit)
 
-same-length-7 : tie.Need-same-length-7
-same-length-7 c = search needs
-
-same-length-8 : tie.Need-same-length-8
-same-length-8 c = search needs
-
-same-length-9 : tie.Need-same-length-9
-same-length-9 c = search needs
-
 returns-3 : tie.Need-returns-3
 returns-3 c =
     let px = c .before .before in
@@ -139,29 +104,8 @@ returns-3 c =
 pub read-strings-spec : {M : Type 1} → statement M
 read-strings-spec =
     tie.close
-    (tie.spec
-    line-count-requires
-    formed-refusal-requires
-    same-length
-    same-length-2
-    same-length-3
-    returns
-    read-rows-requires
-    array-share-prefix-own-signs
-    slice-aggregate-check
-    array-share-prefix-own-z
-    slice-aggregate-check-2
-    array-share-prefix-own-x
-    slice-aggregate-check-3
-    check-requires
-    same-length-4
-    same-length-5
-    same-length-6
-    returns-2
-    copy-bytes-requires
-    copy-words-requires
-    copy-words-requires-2
-    same-length-7
-    same-length-8
-    same-length-9
-    returns-3)
+    (tie.spec (λ c κs. search needs) (λ c κs. search needs) (λ c. search needs) (λ c. search needs) (λ c. search needs)
+    returns read-rows-requires array-share-prefix-own-signs slice-aggregate-check array-share-prefix-own-z
+    slice-aggregate-check-2 array-share-prefix-own-x slice-aggregate-check-3 (λ c κs. search needs) (λ c. search needs)
+    (λ c. search needs) (λ c. search needs) returns-2 copy-bytes-requires copy-words-requires copy-words-requires-2
+    (λ c. search needs) (λ c. search needs) (λ c. search needs) returns-3)

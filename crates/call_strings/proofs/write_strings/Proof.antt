@@ -1,3 +1,4 @@
+-- `write_strings` meets its contract: the text of a generator list.
 use mathlib.Core.Path.{sym, _∙_}
 use native.Mathlib.Omega.{arith}
 use borrow.Author.Needs.{needs}
@@ -7,9 +8,6 @@ use Rattle.strings_scan.proofs.SizeLaws.{size-fits}
 use Rattle.call_strings.proofs.WriteCalls.{write-count, write-done, write-refused, write-room, write-size}
 use Rattle.call_strings.proofs.write_strings.Statement.{statement}
 use Rattle.call_strings.proofs.write_strings.Tie as tie
-
-bad-count-requires : tie.Need-bad-count-requires
-bad-count-requires c κs = search needs
 
 returns : tie.Need-returns
 returns c =
@@ -32,9 +30,6 @@ mul-other-than c =
     let few = counted n (sym (b .bad-count .ensures) ∙ c .if1 .left) .1 in
     record { fits = size-fits n (omega (arith, few)) }
 
-other-than-requires : tie.Need-other-than-requires
-other-than-requires c κs = search needs
-
 returns-2 : tie.Need-returns-2
 returns-2 c =
     let o = c .before in
@@ -43,9 +38,6 @@ returns-2 c =
     let l : GeneratorList = record { n = a .n; signs = a .signs .now; z = a .z .now; x = a .x .now } in
     write-size l (a .text .now) (sym (b .bad-count .ensures) ∙ o .before .if1 .left)
     (sym (o .other-than .ensures) ∙ c .if2 .taken)
-
-check-requires : tie.Need-check-requires
-check-requires c κs = search needs
 
 returns-3 : tie.Need-returns-3
 returns-3 c =
@@ -65,9 +57,6 @@ put-strings-requires c κs =
     write-room l (a .text .now) (sym (o .other-than .ensures) ∙ k .before .if2 .left) (k .check .ensures)
     (c .before .if3 .left)
 
-same-length : tie.Need-same-length
-same-length c = search needs
-
 returns-4 : tie.Need-returns-4
 returns-4 c =
     let p = c .before .before in
@@ -81,15 +70,5 @@ returns-4 c =
 pub write-strings-spec : {M : Type 1} → statement M
 write-strings-spec =
     tie.close
-    (tie.spec
-    bad-count-requires
-    returns
-    add-other-than
-    mul-other-than
-    other-than-requires
-    returns-2
-    check-requires
-    returns-3
-    put-strings-requires
-    same-length
-    returns-4)
+    (tie.spec (λ c κs. search needs) returns add-other-than mul-other-than (λ c κs. search needs) returns-2
+    (λ c κs. search needs) returns-3 put-strings-requires (λ c. search needs) returns-4)

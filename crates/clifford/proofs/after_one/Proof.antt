@@ -1,3 +1,4 @@
+-- `after_one` meets its contract: the codes 1 and 2 and then another: a sign is flipped.
 use mathlib.Core.Path.{subst, sym}
 use Prim.Native.Nat.{_<_}
 use Rattle.clifford.specs.Clifford.{cliffordOf, then}

@@ -1,3 +1,5 @@
+-- `after_six` meets its contract: the code 6 and then another, by the row of the table in two words, five bits for each
+-- entry.
 use mathlib.Core.Path.{ap, subst, sym, _∙_, _≡_}
 use Prim.Native.Nat.{_+_, _-_, _<_}
 use native.Mathlib.Omega.{arith}
@@ -7,30 +9,6 @@ use Rattle.clifford.proofs.RowWords.{row6-high, row6-low}
 use borrow.Author.Needs.{needs}
 use Rattle.clifford.proofs.after_six.Statement.{statement}
 use Rattle.clifford.proofs.after_six.Tie as tie
-
-mul-result : tie.Need-mul-result
-mul-result c = search needs
-
-cast-result : tie.Need-cast-result
-cast-result c = search needs
-
-shr-result : tie.Need-shr-result
-shr-result c = search needs
-
-cast-result-2 : tie.Need-cast-result-2
-cast-result-2 c = search needs
-
-mul-result-2 : tie.Need-mul-result-2
-mul-result-2 c = search needs
-
-cast-result-3 : tie.Need-cast-result-3
-cast-result-3 c = search needs
-
-shr-result-2 : tie.Need-shr-result-2
-shr-result-2 c = search needs
-
-cast-result-4 : tie.Need-cast-result-4
-cast-result-4 c = search needs
 
 returns : tie.Need-returns
 returns c =
@@ -47,5 +25,7 @@ returns-2 c =
     (e, subst (λ v. v < 24) (sym e) (codeOf-lt (then (cliffordOf 6) (cliffordOf b))))
 
 pub after-six-spec : {M : Type 1} → statement M
-after-six-spec = tie.close (tie.spec mul-result cast-result shr-result cast-result-2 mul-result-2 cast-result-3
-    shr-result-2 cast-result-4 returns returns-2)
+after-six-spec =
+    tie.close
+    (tie.spec (λ c. search needs) (λ c. search needs) (λ c. search needs) (λ c. search needs) (λ c. search needs)
+    (λ c. search needs) (λ c. search needs) (λ c. search needs) returns returns-2)

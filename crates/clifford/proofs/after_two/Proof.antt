@@ -1,3 +1,4 @@
+-- `after_two` meets its contract.
 use mathlib.Core.Path.{subst, sym}
 use Prim.Native.Nat.{_<_}
 use Rattle.clifford.specs.Clifford.{cliffordOf, then}

@@ -1,3 +1,4 @@
+-- `entry` meets its contract: the entry of the table.
 use mathlib.Core.Path.{subst, sym}
 use Prim.Native.Nat.{_<_}
 use Rattle.clifford.specs.Clifford.{cliffordOf, then}
@@ -6,15 +7,6 @@ use Rattle.clifford.proofs.TableRules.{then-entry, thenTable}
 use borrow.Author.Needs.{needs}
 use Rattle.clifford.proofs.entry.Statement.{statement}
 use Rattle.clifford.proofs.entry.Tie as tie
-
-mul-result : tie.Need-mul-result
-mul-result c = search needs
-
-add-result : tie.Need-add-result
-add-result c = search needs
-
-array-read-result : tie.Need-array-read-result
-array-read-result c = search needs
 
 returns : tie.Need-returns
 unfolding thenTable
@@ -26,4 +18,4 @@ returns c =
     (e, subst (λ v. v < 24) (sym e) (codeOf-lt (then (cliffordOf a) (cliffordOf b))))
 
 pub entry-spec : {M : Type 1} → statement M
-entry-spec = tie.close (tie.spec mul-result add-result array-read-result returns)
+entry-spec = tie.close (tie.spec (λ c. search needs) (λ c. search needs) (λ c. search needs) returns)

@@ -1,32 +1,10 @@
+-- `image_letter` meets its contract: the letter to which a code sends a letter, bit by bit: the image of X where the
+-- letter has an X, times that of Z where it has a Z.
 use Rattle.clifford.specs.Clifford.{cliffordOf}
 use Rattle.clifford.proofs.Digits.{letter-by-calls}
 use borrow.Author.Needs.{needs}
 use Rattle.clifford.proofs.image_letter.Statement.{statement}
 use Rattle.clifford.proofs.image_letter.Tie as tie
-
-image-letters-requires : tie.Need-image-letters-requires
-image-letters-requires c κs = search needs
-
-x-bit-requires : tie.Need-x-bit-requires
-x-bit-requires c κs = search needs
-
-z-bit-requires : tie.Need-z-bit-requires
-z-bit-requires c κs = search needs
-
-z-bit-requires-2 : tie.Need-z-bit-requires-2
-z-bit-requires-2 c κs = search needs
-
-z-bit-requires-3 : tie.Need-z-bit-requires-3
-z-bit-requires-3 c κs = search needs
-
-x-bit-requires-2 : tie.Need-x-bit-requires-2
-x-bit-requires-2 c κs = search needs
-
-x-bit-requires-3 : tie.Need-x-bit-requires-3
-x-bit-requires-3 c κs = search needs
-
-letter-of-requires : tie.Need-letter-of-requires
-letter-of-requires c κs = search needs
 
 returns : tie.Need-returns
 returns c =
@@ -46,13 +24,5 @@ returns c =
 pub image-letter-spec : {M : Type 1} → statement M
 image-letter-spec =
     tie.close
-    (tie.spec
-    image-letters-requires
-    x-bit-requires
-    z-bit-requires
-    z-bit-requires-2
-    z-bit-requires-3
-    x-bit-requires-2
-    x-bit-requires-3
-    letter-of-requires
-    returns)
+    (tie.spec (λ c κs. search needs) (λ c κs. search needs) (λ c κs. search needs) (λ c κs. search needs)
+    (λ c κs. search needs) (λ c κs. search needs) (λ c κs. search needs) (λ c κs. search needs) returns)

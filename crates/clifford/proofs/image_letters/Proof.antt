@@ -1,3 +1,4 @@
+-- `image_letters` meets its contract: by class, from 0 to 5.
 use mathlib.Core.Path.{_≡_, ap}
 use native.Mathlib.Omega.{arith}
 use Rattle.clifford.specs.Clifford.{classOf, imageX, imageZ}
@@ -5,25 +6,13 @@ use borrow.Author.Needs.{needs}
 use Rattle.clifford.proofs.image_letters.Statement.{statement}
 use Rattle.clifford.proofs.image_letters.Tie as tie
 
-returns : tie.Need-returns
-returns c = search needs
-
-returns-2 : tie.Need-returns-2
-returns-2 c = search needs
-
-returns-3 : tie.Need-returns-3
-returns-3 c = search needs
-
-returns-4 : tie.Need-returns-4
-returns-4 c = search needs
-
-returns-5 : tie.Need-returns-5
-returns-5 c = search needs
-
 returns-6 : tie.Need-returns-6
 returns-6 c =
     let last : 5 ≡ c .before .args .class = omega arith in
     (ap (λ m. imageX (classOf m)) last, ap (λ m. imageZ (classOf m)) last)
 
 pub image-letters-spec : {M : Type 1} → statement M
-image-letters-spec = tie.close (tie.spec returns returns-2 returns-3 returns-4 returns-5 returns-6)
+image-letters-spec =
+    tie.close
+    (tie.spec (λ c. search needs) (λ c. search needs) (λ c. search needs) (λ c. search needs) (λ c. search needs)
+    returns-6)

@@ -1,13 +1,8 @@
+-- `image_minus` meets its contract: whether the image of a letter is negative.
 use Rattle.clifford.proofs.Digits.{image-minus}
 use borrow.Author.Needs.{needs}
 use Rattle.clifford.proofs.image_minus.Statement.{statement}
 use Rattle.clifford.proofs.image_minus.Tie as tie
-
-x-bit-requires : tie.Need-x-bit-requires
-x-bit-requires c κs = search needs
-
-z-bit-requires : tie.Need-z-bit-requires
-z-bit-requires c κs = search needs
 
 returns : tie.Need-returns
 returns c =
@@ -16,4 +11,4 @@ returns c =
     (c .before .x-bit .ensures) (c .z-bit .ensures)
 
 pub image-minus-spec : {M : Type 1} → statement M
-image-minus-spec = tie.close (tie.spec x-bit-requires z-bit-requires returns)
+image-minus-spec = tie.close (tie.spec (λ c κs. search needs) (λ c κs. search needs) returns)

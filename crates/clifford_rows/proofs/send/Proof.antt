@@ -1,8 +1,9 @@
+-- `send` meets its contract: a row with each place sent through its own code.
 use mathlib.Core.Path.{_∙_, _≡_}
 use Prim.Native.Nat.{_-_, _≤_, zero-le}
 use native.Mathlib.Omega.{arith}
 use lib.ListN.{length}
-use Rattle.pauli.specs.Rows.{generatorOf}
+use Rattle.pauli.specs.internal.Rows.{generatorOf}
 use Rattle.clifford.specs.Vectors.{act}
 use Rattle.clifford.proofs.Sending.{codesBelow, sent-all, sent-more, sent-none}
 use borrow.Author.Needs.{needs}
@@ -19,18 +20,9 @@ abbrev μ-loop : tie.MeasureT-loop
 loop-holds : tie.Need-loop-holds Inv-loop μ-loop
 loop-holds c = (zero-le, sent-none 64 (c .before .args .codes .now) (generatorOf (c .before .args .g)))
 
-shared-slice-read-t8 : tie.Need-shared-slice-read-t8 Inv-loop μ-loop
-shared-slice-read-t8 c = search needs
-
 send-place-requires : tie.Need-send-place-requires Inv-loop μ-loop
 send-place-requires c κs =
     (omega arith, c .before .before .before .before .pre .1 (c .before .before .loop .q))
-
-add-q : tie.Need-add-q Inv-loop μ-loop
-add-q c = search needs
-
-loop-less : tie.Need-loop-less Inv-loop μ-loop
-loop-less c = search needs
 
 loop-again : tie.Need-loop-again Inv-loop μ-loop
 loop-again c =
@@ -50,13 +42,5 @@ returns c =
 pub send-spec : {M : Type 1} → statement M
 send-spec =
     tie.close
-    (tie.spec
-    Inv-loop
-    μ-loop
-    loop-holds
-    shared-slice-read-t8
-    send-place-requires
-    add-q
-    loop-less
-    loop-again
-    returns)
+    (tie.spec Inv-loop μ-loop loop-holds (λ c. search needs) send-place-requires (λ c. search needs) (λ c. search needs)
+    loop-again returns)

@@ -1,33 +1,10 @@
+-- `send_place` meets its contract: a row with the letter at place q sent through a code.
 use native.Mathlib.Omega.{arith}
 use Rattle.clifford.specs.Clifford.{cliffordOf}
 use Rattle.clifford.proofs.Sending.{sent-by-calls}
 use borrow.Author.Needs.{needs}
 use Rattle.clifford_rows.proofs.send_place.Statement.{statement}
 use Rattle.clifford_rows.proofs.send_place.Tie as tie
-
-has-requires : tie.Need-has-requires
-has-requires c κs = search needs
-
-has-requires-2 : tie.Need-has-requires-2
-has-requires-2 c κs = search needs
-
-letter-of-requires : tie.Need-letter-of-requires
-letter-of-requires c κs = search needs
-
-image-requires : tie.Need-image-requires
-image-requires c κs = search needs
-
-z-bit-requires : tie.Need-z-bit-requires
-z-bit-requires c κs = search needs
-
-put-bit-requires : tie.Need-put-bit-requires
-put-bit-requires c κs = search needs
-
-x-bit-requires : tie.Need-x-bit-requires
-x-bit-requires c κs = search needs
-
-put-bit-requires-2 : tie.Need-put-bit-requires-2
-put-bit-requires-2 c κs = search needs
 
 returns : tie.Need-returns
 returns c =
@@ -45,13 +22,5 @@ returns c =
 pub send-place-spec : {M : Type 1} → statement M
 send-place-spec =
     tie.close
-    (tie.spec
-    has-requires
-    has-requires-2
-    letter-of-requires
-    image-requires
-    z-bit-requires
-    put-bit-requires
-    x-bit-requires
-    put-bit-requires-2
-    returns)
+    (tie.spec (λ c κs. search needs) (λ c κs. search needs) (λ c κs. search needs) (λ c κs. search needs)
+    (λ c κs. search needs) (λ c κs. search needs) (λ c κs. search needs) (λ c κs. search needs) returns)

@@ -1,3 +1,5 @@
+-- `compare_reduced` meets its contract: the comparison of two reduced records: 3 where a part of either has more than
+-- 20 vertices, 13, or the least choice, the complementation list and its count.
 use mathlib.Core.Path.{refl, subst, sym}
 use Prim.Native.Nat.{_≤_}
 use native.Mathlib.Omega.{arith}
@@ -78,13 +80,7 @@ returns-2 c =
     (a .choice .now) (a .list .now) (a .count .now) (not-true _ (c .if2 .taken))
 
 -- src/lib.rt:96:5
-copy-choice-requires : tie.Need-copy-choice-requires
-copy-choice-requires c κs = search needs
-
 -- src/lib.rt:98:70
-array-borrow-prefix-induced : tie.Need-array-borrow-prefix-induced
-array-borrow-prefix-induced c = search needs
-
 -- src/lib.rt:98:70
 slice-aggregate-induced-image : tie.Need-slice-aggregate-induced-image
 slice-aggregate-induced-image c =
@@ -124,13 +120,7 @@ copy-list-requires c κs =
     (I .room, subst (λ k. J .induced-image .result .count ≤ k) (sym (S .pre .1 .1 .1)) (I .room))
 
 -- src/lib.rt:70:1
-same-length : tie.Need-same-length
-same-length c = search needs
-
 -- src/lib.rt:70:1
-same-length-2 : tie.Need-same-length-2
-same-length-2 c = search needs
-
 -- src/lib.rt:70:1
 returns-3 : tie.Need-returns-3
 returns-3 c =
@@ -154,17 +144,6 @@ returns-3 c =
 pub compare-reduced-spec : {M : Type 1} → statement M
 compare-reduced-spec =
     tie.close
-    (tie.spec
-    part-above-requires
-    part-above-requires-2
-    returns
-    compare-parts-requires
-    returns-2
-    copy-choice-requires
-    array-borrow-prefix-induced
-    slice-aggregate-induced-image
-    induced-image-requires
-    copy-list-requires
-    same-length
-    same-length-2
-    returns-3)
+    (tie.spec part-above-requires part-above-requires-2 returns compare-parts-requires returns-2 (λ c κs. search needs)
+    (λ c. search needs) slice-aggregate-induced-image induced-image-requires copy-list-requires (λ c. search needs)
+    (λ c. search needs) returns-3)

@@ -1,3 +1,5 @@
+-- `induced_image` meets its contract: the image rule on the first record's graph, under the codes that the choice
+-- induces between two records; with room for these codes.
 use mathlib.Core.Path.{sym, _∙_}
 use borrow.Author.Needs.{needs}
 use Rattle.comparison_answer.proofs.InducedRecords.{made-accepted, made-answer}
@@ -18,9 +20,6 @@ image-answer-requires c κs = let P = c .before .before .before in
     made-accepted (a .n) (a .neighbours .now) (a .codes .now) (a .choice .now) (a .codes2 .now) (S .pre .0)
     (a .induced .now) _ (S .pre .1 .0 .2) (P .induced-codes .ensures)
 
-same-length : tie.Need-same-length
-same-length c = search needs
-
 returns : tie.Need-returns
 returns c = let P = c .before .before .before .before in
     let S = P .before .before .before .before .before .before .before in
@@ -29,5 +28,4 @@ returns c = let P = c .before .before .before .before in
     (a .induced .now) _ (S .pre .1 .0 .2) (P .induced-codes .ensures) _ (c .image-answer .ensures)
 
 pub induced-image-spec : {M : Type 1} → statement M
-induced-image-spec =
-    tie.close (tie.spec induced-codes-requires image-answer-requires same-length returns)
+induced-image-spec = tie.close (tie.spec induced-codes-requires image-answer-requires (λ c. search needs) returns)

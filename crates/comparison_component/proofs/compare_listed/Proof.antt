@@ -1,7 +1,8 @@
+-- `compare_listed` meets its contract: the least choice of a part, with room for its two records.
 use mathlib.Core.Path.{ap, sym, _∙_}
 use native.Mathlib.Omega.{arith}
 use lib.ListN.{length}
-use Rattle.parts_records.specs.Listed.{partCodes, partWords}
+use Rattle.parts_records.specs.internal.Listed.{partCodes, partWords}
 use Rattle.comparison_component.proofs.PartBuffers.{first-connected, first-sound, part-answered, second-sound}
 use borrow.Author.Needs.{needs}
 use Rattle.comparison_component.proofs.compare_listed.Statement.{statement}
@@ -50,29 +51,17 @@ compare-records-requires c κs =
     let k = length (a .words .now) in
     let ew = E .extract2 .ensures .0 ∙ ap (λ m. partWords m (a .at) (a .neighbours2 .now)) (S .pre .1 .1) in
     let en = E .extract2 .ensures .1 ∙ ap (λ m. partCodes m (a .at) (a .codes2 .now)) (S .pre .1 .1) in (
-      (G .few, first-sound (a .n) (a .neighbours .now) (a .codes .now) (a .neighbours2 .now) (a .codes2 .now) (a .island) k (a .at) G _ _ _ _ (H .extract .ensures .0) (H .extract .ensures .1) ew en),
+      (G .few, first-sound (a .n) (a .neighbours .now) (a .codes .now) (a .neighbours2 .now) (a .codes2 .now) (a .component) k (a .at) G _ _ _ _ (H .extract .ensures .0) (H .extract .ensures .1) ew en),
       (
-        second-sound (a .n) (a .neighbours .now) (a .codes .now) (a .neighbours2 .now) (a .codes2 .now) (a .island) k (a .at) G _ _ _ _ (H .extract .ensures .0) (H .extract .ensures .1) ew en,
-        first-connected (a .n) (a .neighbours .now) (a .codes .now) (a .neighbours2 .now) (a .codes2 .now) (a .island) k (a .at) G _ _ _ _ (H .extract .ensures .0) (H .extract .ensures .1) ew en,
+        second-sound (a .n) (a .neighbours .now) (a .codes .now) (a .neighbours2 .now) (a .codes2 .now) (a .component) k (a .at) G _ _ _ _ (H .extract .ensures .0) (H .extract .ensures .1) ew en,
+        first-connected (a .n) (a .neighbours .now) (a .codes .now) (a .neighbours2 .now) (a .codes2 .now) (a .component) k (a .at) G _ _ _ _ (H .extract .ensures .0) (H .extract .ensures .1) ew en,
       ),
     )
 
 -- src/lib.rt:27:1
-same-length : tie.Need-same-length
-same-length c = search needs
-
 -- src/lib.rt:27:1
-same-length-2 : tie.Need-same-length-2
-same-length-2 c = search needs
-
 -- src/lib.rt:27:1
-same-length-3 : tie.Need-same-length-3
-same-length-3 c = search needs
-
 -- src/lib.rt:27:1
-same-length-4 : tie.Need-same-length-4
-same-length-4 c = search needs
-
 -- src/lib.rt:27:1
 returns : tie.Need-returns
 returns c =
@@ -84,18 +73,11 @@ returns c =
     let k = length (a .words .now) in
     let ew = E .extract2 .ensures .0 ∙ ap (λ m. partWords m (a .at) (a .neighbours2 .now)) (S .pre .1 .1) in
     let en = E .extract2 .ensures .1 ∙ ap (λ m. partCodes m (a .at) (a .codes2 .now)) (S .pre .1 .1) in
-    part-answered (a .n) (a .neighbours .now) (a .codes .now) (a .neighbours2 .now) (a .codes2 .now) (a .island) k (a .at) G _ _ _ _ (H .extract .ensures .0) (H .extract .ensures .1) ew en
+    part-answered (a .n) (a .neighbours .now) (a .codes .now) (a .neighbours2 .now) (a .codes2 .now) (a .component) k (a .at) G _ _ _ _ (H .extract .ensures .0) (H .extract .ensures .1) ew en
     _ _ (c .compare-records .ensures)
 
 pub compare-listed-spec : {M : Type 1} → statement M
 compare-listed-spec =
     tie.close
-    (tie.spec
-    extract-requires
-    extract-requires-2
-    compare-records-requires
-    same-length
-    same-length-2
-    same-length-3
-    same-length-4
-    returns)
+    (tie.spec extract-requires extract-requires-2 compare-records-requires (λ c. search needs) (λ c. search needs)
+    (λ c. search needs) (λ c. search needs) returns)

@@ -1,3 +1,4 @@
+-- `placed` meets its contract: the choice with the codes of a part at its vertices.
 use Prim.Native.Nat.{_-_, _≤_, zero-le}
 use native.Mathlib.Omega.{arith}
 use Rattle.comparison_component.proofs.Placing.{Placing, placing-end, placing-start, placing-step}
@@ -19,26 +20,14 @@ loop-holds c =
     (zero-le, placing-start (c .args .t1) (c .args .t3) (c .args .choice) (c .good .1 .1 .1 .0 .1 .0 .1))
 
 -- src/lib.rt:62:17
-mul-v : tie.Need-mul-v Inv-loop μ-loop
-mul-v c = search needs
-
 -- src/lib.rt:62:17
-array-read-v : tie.Need-array-read-v Inv-loop μ-loop
-array-read-v c = search needs
-
 -- src/lib.rt:63:20
-array-read-whole : tie.Need-array-read-whole Inv-loop μ-loop
-array-read-whole c = search needs
-
 -- src/lib.rt:63:9
 array-write-whole : tie.Need-array-write-whole Inv-loop μ-loop
 array-write-whole c =
     c .before .before .pre .1 (c .before .loop .i) (c .loop-test .taken)
 
 -- src/lib.rt:64:9
-add-i : tie.Need-add-i Inv-loop μ-loop
-add-i c = search needs
-
 -- src/lib.rt:61:5
 loop-less : tie.Need-loop-less Inv-loop μ-loop
 loop-less c =
@@ -63,15 +52,5 @@ returns c =
 pub placed-spec : {M : Type 1} → statement M
 placed-spec =
     tie.close
-    (tie.spec
-    Inv-loop
-    μ-loop
-    loop-holds
-    mul-v
-    array-read-v
-    array-read-whole
-    array-write-whole
-    add-i
-    loop-less
-    loop-again
-    returns)
+    (tie.spec Inv-loop μ-loop loop-holds (λ c. search needs) (λ c. search needs) (λ c. search needs) array-write-whole
+    (λ c. search needs) loop-less loop-again returns)

@@ -1,3 +1,5 @@
+-- `compare_parts` meets its contract: the least choice that carries the group of the first record onto that of the
+-- second; no part of the first graph has more than 20 vertices.
 use mathlib.Core.Path.{subst, sym}
 use native.Mathlib.Omega.{arith}
 use lib.ListN.{replicate}
@@ -7,35 +9,32 @@ use Rattle.graph.specs.Graph.{Simple}
 use Rattle.graph.specs.NeighbourWords.{graphIn}
 use Rattle.comparison_parts.proofs.Parting.{
   all-answer,
-  next-island,
+  next-component,
   none-answer,
   progress-start,
   progress-step,
   rest-falls,
   vertex-in-buffer,
 }
-use Rattle.comparison_component.specs.Islands.{IslandAnswer, Progress, held}
+use Rattle.comparison_component.specs.internal.Components.{ComponentAnswer, Progress, recordHeld}
 use borrow.Author.Needs.{needs}
 use Rattle.comparison_parts.proofs.compare_parts.Statement.{statement}
 use Rattle.comparison_parts.proofs.compare_parts.Tie as tie
 use Rattle.comparison_parts.proofs.compare_parts.Reads as reads
 use Rattle.comparison_parts.proofs.compare_parts.Lts as lts
-use Rattle.comparison_parts.proofs.compare_island.Reads as compare-island-reads
+use Rattle.comparison_parts.proofs.compare_component.Reads as compare-component-reads
 use Rattle.parts_words.proofs.part.Reads as part-reads
 use Rattle.words.proofs.mask.Reads as mask-reads
 use Rattle.words.proofs.smallest.Reads as smallest-reads
 
 abbrev Inv-loop : tie.InvT-loop
 Inv-loop n neighbours codes neighbours2 codes2 choice₀ rest₀ choice rest =
-    Progress n (held n neighbours codes) (held n neighbours2 codes2) rest choice
+    Progress n (recordHeld n neighbours codes) (recordHeld n neighbours2 codes2) rest choice
 
 abbrev μ-loop : tie.MeasureT-loop
 μ-loop n neighbours codes neighbours2 codes2 choice₀ rest₀ choice rest = rest
 
 -- src/lib.rt:131:9
-mask-requires : tie.Need-mask-requires Inv-loop μ-loop
-mask-requires c κs = search needs
-
 -- src/lib.rt:132:5
 loop-holds : tie.Need-loop-holds Inv-loop μ-loop
 loop-holds c =
@@ -44,9 +43,6 @@ loop-holds c =
     progress-start (a .n) (a .neighbours .now) (a .codes .now) (a .neighbours2 .now) (a .codes2 .now) (S .pre .0 .1) _ (c .mask .ensures) (replicate 64 0) (zeros-codes 64)
 
 -- src/lib.rt:133:13
-smallest-requires : tie.Need-smallest-requires Inv-loop μ-loop
-smallest-requires c κs = search needs
-
 -- src/lib.rt:134:13
 part-requires : tie.Need-part-requires Inv-loop μ-loop
 part-requires c κs =
@@ -63,14 +59,14 @@ part-requires c κs =
     )
 
 -- src/lib.rt:135:13
-compare-island-requires : tie.Need-compare-island-requires Inv-loop μ-loop
-compare-island-requires c κs =
+compare-component-requires : tie.Need-compare-component-requires Inv-loop μ-loop
+compare-component-requires c κs =
     let Q = c .before in
     let L = Q .before .before in
     let S = L .before .before .before .before .before .before in
     let a = S .args in (
       S .pre .0 .1,
-      next-island (a .n) (a .neighbours .now) (a .codes .now) (a .neighbours2 .now) (a .codes2 .now) (S .pre .0 .1) (L .loop .rest) (L .loop .choice) (L .loop .inv)
+      next-component (a .n) (a .neighbours .now) (a .codes .now) (a .neighbours2 .now) (a .codes2 .now) (S .pre .0 .1) (L .loop .rest) (L .loop .choice) (L .loop .inv)
           (Q .before .loop-test .taken) _ (Q .smallest .ensures .0) (S .pre .1) _ (c .part .ensures),
     )
 
@@ -84,10 +80,10 @@ returns c =
     let a = S .args in
     none-answer (a .n) (a .neighbours .now) (a .codes .now) (a .neighbours2 .now) (a .codes2 .now) (S .pre .0 .1) (L .loop .rest) (L .loop .choice) (L .loop .inv)
     (Q .before .loop-test .taken) _ (Q .smallest .ensures .0) (S .pre .1) _ (I .before .part .ensures) _
-    (subst (λ f. IslandAnswer (a .n) (held (a .n) (a .neighbours .now) (a .codes .now))
-    (held (a .n) (a .neighbours2 .now) (a .codes2 .now)) (I .before .part .result) (L .loop .choice) f
-    (I .compare-island .result .choice)) (not-true _ (c .if1 .taken))
-    (I .compare-island .ensures))
+    (subst (λ f. ComponentAnswer (a .n) (recordHeld (a .n) (a .neighbours .now) (a .codes .now))
+    (recordHeld (a .n) (a .neighbours2 .now) (a .codes2 .now)) (I .before .part .result) (L .loop .choice) f
+    (I .compare-component .result .choice)) (not-true _ (c .if1 .taken))
+    (I .compare-component .ensures))
 
 -- src/lib.rt:132:5
 loop-less : tie.Need-loop-less Inv-loop μ-loop
@@ -110,10 +106,10 @@ loop-again c =
     let a = S .args in
     progress-step (a .n) (a .neighbours .now) (a .codes .now) (a .neighbours2 .now) (a .codes2 .now) (S .pre .0 .1) (L .loop .rest) (L .loop .choice) (L .loop .inv)
     (Q .before .loop-test .taken) _ (Q .smallest .ensures .0) (S .pre .1) _ (I .before .part .ensures) _
-    (subst (λ f. IslandAnswer (a .n) (held (a .n) (a .neighbours .now) (a .codes .now))
-    (held (a .n) (a .neighbours2 .now) (a .codes2 .now)) (I .before .part .result) (L .loop .choice) f
-    (I .compare-island .result .choice)) (not-false _ (c .if1 .left))
-    (I .compare-island .ensures))
+    (subst (λ f. ComponentAnswer (a .n) (recordHeld (a .n) (a .neighbours .now) (a .codes .now))
+    (recordHeld (a .n) (a .neighbours2 .now) (a .codes2 .now)) (I .before .part .result) (L .loop .choice) f
+    (I .compare-component .result .choice)) (not-false _ (c .if1 .left))
+    (I .compare-component .ensures))
 
 -- src/lib.rt:118:1
 returns-2 : tie.Need-returns-2 Inv-loop μ-loop
@@ -126,15 +122,5 @@ returns-2 c =
 pub compare-parts-spec : {M : Type 1} → statement M
 compare-parts-spec =
     tie.close
-    (tie.spec
-    Inv-loop
-    μ-loop
-    mask-requires
-    loop-holds
-    smallest-requires
-    part-requires
-    compare-island-requires
-    returns
-    loop-less
-    loop-again
-    returns-2)
+    (tie.spec Inv-loop μ-loop (λ c κs. search needs) loop-holds (λ c κs. search needs) part-requires
+    compare-component-requires returns loop-less loop-again returns-2)

@@ -1,13 +1,9 @@
+-- `compare_records` meets its contract: the least choice that carries the group of the first record onto that of the
+-- second.
 use borrow.Author.Needs.{needs}
 use Rattle.comparison.proofs.ComparedRecords.{records-answer, records-setting}
 use Rattle.comparison_search.proofs.compare_records.Statement.{statement}
 use Rattle.comparison_search.proofs.compare_records.Tie as tie
-
-generators-requires : tie.Need-generators-requires
-generators-requires c κs = search needs
-
-generators-requires-2 : tie.Need-generators-requires-2
-generators-requires-2 c κs = search needs
 
 inverses-requires : tie.Need-inverses-requires
 inverses-requires c κs =
@@ -35,10 +31,4 @@ returns c =
 
 pub compare-records-spec : {M : Type 1} → statement M
 compare-records-spec =
-    tie.close
-    (tie.spec
-    generators-requires
-    generators-requires-2
-    inverses-requires
-    least-choice-requires
-    returns)
+    tie.close (tie.spec (λ c κs. search needs) (λ c κs. search needs) inverses-requires least-choice-requires returns)

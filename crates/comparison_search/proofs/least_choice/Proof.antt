@@ -1,10 +1,11 @@
+-- `least_choice` meets its contract: the least choice that carries the first group onto the second.
 use mathlib.Core.Bool.{false, true}
 use mathlib.Core.Path.{refl, subst, sym}
 use borrow.Author.Tests.{not-false, not-true}
 use Rattle.clifford.specs.Vectors.{codesOf}
-use Rattle.comparison.specs.Equations.{tableOf}
-use Rattle.comparison.specs.Searches.{LeastAnswer}
-use Rattle.comparison.specs.Setting.{generatorsOf}
+use Rattle.comparison.specs.internal.Equations.{equationsIn}
+use Rattle.comparison.specs.internal.Searches.{LeastAnswer}
+use Rattle.comparison.specs.internal.Setting.{generatorsOf}
 use Rattle.comparison.proofs.ClassExtension.{classes-extend, classes-send}
 use Rattle.comparison.proofs.Least.{least-answer}
 use Rattle.comparison.proofs.LeastChosen.{chosen-works, none-works}
@@ -23,7 +24,7 @@ least-classes-requires c κs =
     let T = c .before .class-table in (
       s .pre .few,
       T .ensures .triangular,
-      classes-extend (a .n) (a .first) (a .second) (a .frame) (s .pre) (tableOf (T .last .0)) (T .ensures),
+      classes-extend (a .n) (a .first) (a .second) (a .frame) (s .pre) (equationsIn (T .last .0)) (T .ensures),
     )
 
 returns : tie.Need-returns
@@ -37,7 +38,7 @@ returns c =
     (least-answer (a .n) (generatorsOf (a .first)) (generatorsOf (a .second)) (s .pre .proper .within)
     (framed-proper (a .n) (generatorsOf (a .second)) (codesOf (a .frame)) (s .pre .framed) .within) false
     (A .result .choice)
-    (none-works (a .n) (a .first) (a .second) (a .frame) (s .pre) (tableOf (T .last .0)) (T .ensures) (A .result .found)
+    (none-works (a .n) (a .first) (a .second) (a .frame) (s .pre) (equationsIn (T .last .0)) (T .ensures) (A .result .found)
     (A .result .choice) (A .ensures) none))
 
 sign-table-requires : tie.Need-sign-table-requires
@@ -49,7 +50,7 @@ sign-table-requires c κs =
     let C = A .ensures .some (not-false (A .result .found) (c .before .before .if1 .left)) in (
       (s .pre, C .codes, C .bare-codes),
       (
-        classes-send (a .n) (a .first) (a .second) (a .frame) (s .pre) (tableOf (T .last .0)) (T .ensures)
+        classes-send (a .n) (a .first) (a .second) (a .frame) (s .pre) (equationsIn (T .last .0)) (T .ensures)
             (codesOf (A .result .choice)) (C .chosen .hold),
         refl,
       ),
@@ -65,7 +66,7 @@ least-signs-requires c κs =
         s .pre .few,
         U .ensures .0 .triangular,
         signs-extend (a .n) (a .first) (a .second) (a .frame) (s .pre) (codesOf (A .result .choice))
-            (tableOf (U .last .0)) (U .ensures),
+            (equationsIn (U .last .0)) (U .ensures),
       ),
       A .ensures .codes,
     )
@@ -81,8 +82,8 @@ returns-2 c =
     least-answer (a .n) (generatorsOf (a .first)) (generatorsOf (a .second)) (s .pre .proper .within)
     (framed-proper (a .n) (generatorsOf (a .second)) (codesOf (a .frame)) (s .pre .framed) .within) true
     (c .least-signs .result)
-    (chosen-works (a .n) (a .first) (a .second) (a .frame) (s .pre) (tableOf (T .last .0)) (T .ensures)
-    (A .result .choice) C (tableOf (U .last .0)) (U .ensures) (c .least-signs .result) (c .least-signs .ensures))
+    (chosen-works (a .n) (a .first) (a .second) (a .frame) (s .pre) (equationsIn (T .last .0)) (T .ensures)
+    (A .result .choice) C (equationsIn (U .last .0)) (U .ensures) (c .least-signs .result) (c .least-signs .ensures))
 
 pub least-choice-spec : {M : Type 1} → statement M
 least-choice-spec =

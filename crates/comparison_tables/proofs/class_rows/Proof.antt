@@ -1,3 +1,4 @@
+-- `class_rows` meets its contract: the equations of one generator of the first group with all of the second.
 use mathlib.Core.List.{List}
 use mathlib.Core.Path.{ap, refl, _∙_, _≡_}
 use Prim.Native.Nat.{_-_}
@@ -5,41 +6,23 @@ use lib.ListN.{getD}
 use native.Mathlib.Omega.{arith}
 use borrow.Author.Needs.{needs}
 use Rattle.pauli.specs.declared.Generator.{Generator}
-use Rattle.comparison.specs.Equations.{classEquation, tableOf, unknown}
-use Rattle.comparison.specs.Searches.{ClassTable}
-use Rattle.comparison.specs.Setting.{noGenerator}
+use Rattle.comparison.specs.internal.Equations.{classEquation, equationsIn, unknown}
+use Rattle.comparison.specs.internal.Searches.{ClassTable}
+use Rattle.comparison.specs.internal.Setting.{noGenerator}
 use Rattle.comparison.proofs.EquationTables.{class-more, class-row, class-short}
 use Rattle.comparison_tables.proofs.class_rows.Statement.{statement}
 use Rattle.comparison_tables.proofs.class_rows.Tie as tie
 
 abbrev Inv-loop : tie.InvT-loop
 Inv-loop table₀ n i second g j₀ table j =
-    (first : List Generator) → g ≡ getD first i noGenerator → ClassTable n first second i 0 (tableOf table₀)
-    → ClassTable n first second i j (tableOf table)
+    (first : List Generator) → g ≡ getD first i noGenerator → ClassTable n first second i 0 (equationsIn table₀)
+    → ClassTable n first second i j (equationsIn table)
 
 abbrev μ-loop : tie.MeasureT-loop
 μ-loop table₀ n i second g j₀ table j = n - j
 
-mul-g : tie.Need-mul-g Inv-loop μ-loop
-mul-g c = search needs
-
-array-copy-out-g : tie.Need-array-copy-out-g Inv-loop μ-loop
-array-copy-out-g c = search needs
-
 loop-holds : tie.Need-loop-holds Inv-loop μ-loop
 loop-holds c = λ first e T. T
-
-mul-h : tie.Need-mul-h Inv-loop μ-loop
-mul-h c = search needs
-
-array-copy-out-h : tie.Need-array-copy-out-h Inv-loop μ-loop
-array-copy-out-h c = search needs
-
-class-equation-requires : tie.Need-class-equation-requires Inv-loop μ-loop
-class-equation-requires c κs = search needs
-
-mul-insert : tie.Need-mul-insert Inv-loop μ-loop
-mul-insert c = search needs
 
 insert-requires : tie.Need-insert-requires Inv-loop μ-loop
 insert-requires c κs =
@@ -53,18 +36,12 @@ insert-requires c κs =
           (s .pre .0 .1 .within (s .args .i) (s .pre .0 .2)) j k),
     )
 
-add-j : tie.Need-add-j Inv-loop μ-loop
-add-j c = search needs
-
-loop-less : tie.Need-loop-less Inv-loop μ-loop
-loop-less c = omega arith
-
 loop-again : tie.Need-loop-again Inv-loop μ-loop
 loop-again c =
     let s = c .before .before .before .before .before .before .before in
     let l = c .before .before .before .before .before .loop in
     λ first e T. class-more (s .args .n) first (s .args .t4) (s .args .i) (l .j)
-    (c .before .before .before .before .loop-test .taken) (tableOf (l .table)) (c .before .before .class-equation .result) _
+    (c .before .before .before .before .loop-test .taken) (equationsIn (l .table)) (c .before .before .class-equation .result) _
     (l .inv first e T)
     (c .before .before .class-equation .ensures ∙ ap (λ g. classEquation g (getD (s .args .t4) (l .j) noGenerator)) e)
     (c .insert .ensures)
@@ -73,23 +50,11 @@ returns : tie.Need-returns Inv-loop μ-loop
 returns c =
     let s = c .before .before .before in
     class-row (s .args .n) (s .args .t3) (s .args .t4) (s .args .i) (c .before .loop .j) (c .loop-test .left)
-    (tableOf (c .before .loop .table)) (c .before .loop .inv (s .args .t3) refl (s .pre .1))
+    (equationsIn (c .before .loop .table)) (c .before .loop .inv (s .args .t3) refl (s .pre .1))
 
 pub class-rows-spec : {M : Type 1} → statement M
 class-rows-spec =
     tie.close
-    (tie.spec
-    Inv-loop
-    μ-loop
-    mul-g
-    array-copy-out-g
-    loop-holds
-    mul-h
-    array-copy-out-h
-    class-equation-requires
-    mul-insert
-    insert-requires
-    add-j
-    loop-less
-    loop-again
+    (tie.spec Inv-loop μ-loop (λ c. search needs) (λ c. search needs) loop-holds (λ c. search needs) (λ c. search needs)
+    (λ c κs. search needs) (λ c. search needs) insert-requires (λ c. search needs) (λ c. omega arith) loop-again
     returns)

@@ -1,3 +1,5 @@
+-- `least_class` meets its contract: the first class at qubit q that the equations allow after the classes given below
+-- it; 6 if there is none.
 use mathlib.Core.Path.{_≡_}
 use Prim.Native.Nat.{_-_}
 use native.Mathlib.Omega.{arith}
@@ -5,27 +7,21 @@ use lib.ListN.{length}
 use borrow.Author.Needs.{needs}
 use borrow.Author.Tests.{not-false, not-true}
 use Rattle.clifford.specs.Vectors.{codesOf}
-use Rattle.comparison.specs.Equations.{classAssignment, tableOf}
-use Rattle.comparison.specs.Searches.{withClass}
+use Rattle.comparison.specs.internal.Equations.{classAssignment, equationsIn}
+use Rattle.comparison.specs.internal.Searches.{withClass}
 use Rattle.comparison.proofs.FirstChoices.{MissedBelow, none-fits, none-missed, one-fits, one-missed}
 use Rattle.comparison.proofs.NextChoice.{class-codes}
 use Rattle.comparison_tables.proofs.least_class.Statement.{statement}
 use Rattle.comparison_tables.proofs.least_class.Tie as tie
 
 abbrev Inv-loop : tie.InvT-loop
-Inv-loop table n choice q v₀ v = MissedBelow (classAssignment n) (tableOf table) q (λ u. codesOf (withClass choice q u)) 6 v
+Inv-loop table n choice q v₀ v = MissedBelow (classAssignment n) (equationsIn table) q (λ u. codesOf (withClass choice q u)) 6 v
 
 abbrev μ-loop : tie.MeasureT-loop
 μ-loop table n choice q v₀ v = 6 - v
 
 loop-holds : tie.Need-loop-holds Inv-loop μ-loop
 loop-holds c = none-missed _ _ _ _ _
-
-mul-next : tie.Need-mul-next Inv-loop μ-loop
-mul-next c = search needs
-
-array-write-next : tie.Need-array-write-next Inv-loop μ-loop
-array-write-next c = search needs
 
 class-words-requires : tie.Need-class-words-requires Inv-loop μ-loop
 class-words-requires c κs =
@@ -37,28 +33,19 @@ class-words-requires c κs =
           (omega (arith, s .pre .0, s .pre .1, long)) (omega (arith, c .loop-test .taken)),
     )
 
-broken-requires : tie.Need-broken-requires Inv-loop μ-loop
-broken-requires c κs = search needs
-
 returns : tie.Need-returns Inv-loop μ-loop
 returns c =
     let a = c .before .before .before .before .before .args in
     let l = c .before .before .before .before .loop in
-    one-fits (classAssignment (a .n)) (tableOf (a .table .now)) (a .q) (λ u. codesOf (withClass (a .choice) (a .q) u)) 6 (l .v) (l .inv)
+    one-fits (classAssignment (a .n)) (equationsIn (a .table .now)) (a .q) (λ u. codesOf (withClass (a .choice) (a .q) u)) 6 (l .v) (l .inv)
     (c .before .before .class-words .result) (c .before .before .class-words .ensures) (c .before .broken .result)
     (c .before .broken .ensures) (not-true (c .before .broken .result) (c .if1 .taken))
-
-add-v : tie.Need-add-v Inv-loop μ-loop
-add-v c = search needs
-
-loop-less : tie.Need-loop-less Inv-loop μ-loop
-loop-less c = omega arith
 
 loop-again : tie.Need-loop-again Inv-loop μ-loop
 loop-again c =
     let a = c .before .before .before .before .before .args in
     let l = c .before .before .before .before .loop in
-    one-missed (classAssignment (a .n)) (tableOf (a .table .now)) (a .q) (λ u. codesOf (withClass (a .choice) (a .q) u)) 6 (l .v) (l .inv)
+    one-missed (classAssignment (a .n)) (equationsIn (a .table .now)) (a .q) (λ u. codesOf (withClass (a .choice) (a .q) u)) 6 (l .v) (l .inv)
     (c .before .before .before .loop-test .taken) (c .before .before .class-words .result)
     (c .before .before .class-words .ensures) (c .before .broken .result)
     (c .before .broken .ensures) (not-false (c .before .broken .result) (c .if1 .left))
@@ -66,22 +53,11 @@ loop-again c =
 returns-2 : tie.Need-returns-2 Inv-loop μ-loop
 returns-2 c =
     let a = c .before .before .args in
-    none-fits (classAssignment (a .n)) (tableOf (a .table .now)) (a .q) (λ u. codesOf (withClass (a .choice) (a .q) u)) 6 (c .before .loop .v)
+    none-fits (classAssignment (a .n)) (equationsIn (a .table .now)) (a .q) (λ u. codesOf (withClass (a .choice) (a .q) u)) 6 (c .before .loop .v)
     (c .before .loop .inv) (c .loop-test .left)
 
 pub least-class-spec : {M : Type 1} → statement M
 least-class-spec =
     tie.close
-    (tie.spec
-    Inv-loop
-    μ-loop
-    loop-holds
-    mul-next
-    array-write-next
-    class-words-requires
-    broken-requires
-    returns
-    add-v
-    loop-less
-    loop-again
-    returns-2)
+    (tie.spec Inv-loop μ-loop loop-holds (λ c. search needs) (λ c. search needs) class-words-requires
+    (λ c κs. search needs) returns (λ c. search needs) (λ c. omega arith) loop-again returns-2)

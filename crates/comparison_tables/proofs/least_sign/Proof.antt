@@ -1,25 +1,24 @@
+-- `least_sign` meets its contract: the first signs at qubit q that the equations allow after the signs given below it;
+-- 4 if there are none.
 use Prim.Native.Nat.{_-_}
 use native.Mathlib.Omega.{arith}
 use borrow.Author.Needs.{needs}
 use borrow.Author.Tests.{not-false, not-true}
 use Rattle.clifford.specs.Vectors.{codesOf}
-use Rattle.comparison.specs.Equations.{signAssignment, tableOf}
-use Rattle.comparison.specs.Searches.{withSigns}
+use Rattle.comparison.specs.internal.Equations.{signAssignment, equationsIn}
+use Rattle.comparison.specs.internal.Searches.{withSigns}
 use Rattle.comparison.proofs.FirstChoices.{MissedBelow, none-fits, none-missed, one-fits, one-missed}
 use Rattle.comparison_tables.proofs.least_sign.Statement.{statement}
 use Rattle.comparison_tables.proofs.least_sign.Tie as tie
 
 abbrev Inv-loop : tie.InvT-loop
-Inv-loop table n q choice v₀ v = MissedBelow (signAssignment n) (tableOf table) q (λ u. codesOf (withSigns choice q u)) 4 v
+Inv-loop table n q choice v₀ v = MissedBelow (signAssignment n) (equationsIn table) q (λ u. codesOf (withSigns choice q u)) 4 v
 
 abbrev μ-loop : tie.MeasureT-loop
 μ-loop table n q choice v₀ v = 4 - v
 
 loop-holds : tie.Need-loop-holds Inv-loop μ-loop
 loop-holds c = none-missed _ _ _ _ _
-
-array-read-next : tie.Need-array-read-next Inv-loop μ-loop
-array-read-next c = search needs
 
 mul-next : tie.Need-mul-next Inv-loop μ-loop
 mul-next c =
@@ -31,34 +30,22 @@ add-next c =
     let small = c .before .before .pre .2 (c .before .before .args .q) in
     search needs
 
-array-write-next : tie.Need-array-write-next Inv-loop μ-loop
-array-write-next c = search needs
-
 sign-words-requires : tie.Need-sign-words-requires Inv-loop μ-loop
 sign-words-requires c κs = c .before .before .pre .0
-
-broken-requires : tie.Need-broken-requires Inv-loop μ-loop
-broken-requires c κs = search needs
 
 returns : tie.Need-returns Inv-loop μ-loop
 returns c =
     let a = c .before .before .before .before .before .args in
     let l = c .before .before .before .before .loop in
-    one-fits (signAssignment (a .n)) (tableOf (a .table .now)) (a .q) (λ u. codesOf (withSigns (a .t3) (a .q) u)) 4 (l .v) (l .inv)
+    one-fits (signAssignment (a .n)) (equationsIn (a .table .now)) (a .q) (λ u. codesOf (withSigns (a .t3) (a .q) u)) 4 (l .v) (l .inv)
     (c .before .before .sign-words .result) (c .before .before .sign-words .ensures) (c .before .broken .result)
     (c .before .broken .ensures) (not-true (c .before .broken .result) (c .if1 .taken))
-
-add-v : tie.Need-add-v Inv-loop μ-loop
-add-v c = search needs
-
-loop-less : tie.Need-loop-less Inv-loop μ-loop
-loop-less c = omega arith
 
 loop-again : tie.Need-loop-again Inv-loop μ-loop
 loop-again c =
     let a = c .before .before .before .before .before .args in
     let l = c .before .before .before .before .loop in
-    one-missed (signAssignment (a .n)) (tableOf (a .table .now)) (a .q) (λ u. codesOf (withSigns (a .t3) (a .q) u)) 4 (l .v) (l .inv)
+    one-missed (signAssignment (a .n)) (equationsIn (a .table .now)) (a .q) (λ u. codesOf (withSigns (a .t3) (a .q) u)) 4 (l .v) (l .inv)
     (c .before .before .before .loop-test .taken) (c .before .before .sign-words .result)
     (c .before .before .sign-words .ensures) (c .before .broken .result)
     (c .before .broken .ensures) (not-false (c .before .broken .result) (c .if1 .left))
@@ -66,24 +53,11 @@ loop-again c =
 returns-2 : tie.Need-returns-2 Inv-loop μ-loop
 returns-2 c =
     let a = c .before .before .args in
-    none-fits (signAssignment (a .n)) (tableOf (a .table .now)) (a .q) (λ u. codesOf (withSigns (a .t3) (a .q) u)) 4 (c .before .loop .v)
+    none-fits (signAssignment (a .n)) (equationsIn (a .table .now)) (a .q) (λ u. codesOf (withSigns (a .t3) (a .q) u)) 4 (c .before .loop .v)
     (c .before .loop .inv) (c .loop-test .left)
 
 pub least-sign-spec : {M : Type 1} → statement M
 least-sign-spec =
     tie.close
-    (tie.spec
-    Inv-loop
-    μ-loop
-    loop-holds
-    array-read-next
-    mul-next
-    add-next
-    array-write-next
-    sign-words-requires
-    broken-requires
-    returns
-    add-v
-    loop-less
-    loop-again
-    returns-2)
+    (tie.spec Inv-loop μ-loop loop-holds (λ c. search needs) mul-next add-next (λ c. search needs) sign-words-requires
+    (λ c κs. search needs) returns (λ c. search needs) (λ c. omega arith) loop-again returns-2)

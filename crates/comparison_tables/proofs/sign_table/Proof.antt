@@ -1,3 +1,5 @@
+-- `sign_table` meets its contract: the sign equations put into an empty table, for classes that send each generator
+-- into the second group up to a sign.
 use mathlib.Core.Bool.{Bool·beq, not}
 use mathlib.Core.Path.{ap, subst, _∙_}
 use Prim.Native.Nat.{_-_, _≤_, zero-le}
@@ -6,16 +8,16 @@ use native.Mathlib.Omega.{arith}
 use lib.ListN.{getD}
 use borrow.Author.Needs.{needs}
 use Rattle.clifford.specs.Vectors.{codesOf}
-use Rattle.comparison.specs.Equations.{tableOf, unknown}
-use Rattle.comparison.specs.Searches.{SignTable}
-use Rattle.comparison.specs.Setting.{noGenerator}
+use Rattle.comparison.specs.internal.Equations.{equationsIn, unknown}
+use Rattle.comparison.specs.internal.Searches.{SignTable}
+use Rattle.comparison.specs.internal.Setting.{noGenerator}
 use Rattle.comparison.proofs.EquationTables.{empty-rows, empty-rows-solved, sign-short}
 use Rattle.comparison.proofs.SignExtension.{sign-found, sign-more, sign-start}
 use Rattle.comparison_tables.proofs.sign_table.Statement.{statement}
 use Rattle.comparison_tables.proofs.sign_table.Tie as tie
 
 abbrev Inv-loop : tie.InvT-loop
-Inv-loop table₀ n second frame first choice i₀ table i = (i ≤ n) × SignTable n first second (codesOf choice) i (tableOf table)
+Inv-loop table₀ n second frame first choice i₀ table i = (i ≤ n) × SignTable n first second (codesOf choice) i (equationsIn table)
 
 abbrev μ-loop : tie.MeasureT-loop
 μ-loop table₀ n second frame first choice i₀ table i = n - i
@@ -25,27 +27,9 @@ loop-holds c =
     let a = c .args in (
       zero-le,
       sign-start (a .n) (a .t3) (a .second) (a .frame) (c .pre .0 .0) (codesOf (a .t6)) (c .pre .1 .0)
-          (tableOf (a .table .now)) (empty-rows (a .table .now) (c .pre .1 .1))
+          (equationsIn (a .table .now)) (empty-rows (a .table .now) (c .pre .1 .1))
           (empty-rows-solved (a .table .now) (c .pre .1 .1)),
     )
-
-mul-g : tie.Need-mul-g Inv-loop μ-loop
-mul-g c = search needs
-
-array-copy-out-g : tie.Need-array-copy-out-g Inv-loop μ-loop
-array-copy-out-g c = search needs
-
-slice-aggregate-send : tie.Need-slice-aggregate-send Inv-loop μ-loop
-slice-aggregate-send c = search needs
-
-send-requires : tie.Need-send-requires Inv-loop μ-loop
-send-requires c κs = search needs
-
-element-requires : tie.Need-element-requires Inv-loop μ-loop
-element-requires c κs = search needs
-
-sign-equation-requires : tie.Need-sign-equation-requires Inv-loop μ-loop
-sign-equation-requires c κs = search needs
 
 mul-insert : tie.Need-mul-insert Inv-loop μ-loop
 mul-insert c =
@@ -65,12 +49,6 @@ insert-requires c κs =
           (s .pre .0 .0 .proper .within (l .i) (c .before .before .before .before .before .before .before .before .loop-test .taken)) j k),
     )
 
-add-i : tie.Need-add-i Inv-loop μ-loop
-add-i c = search needs
-
-loop-less : tie.Need-loop-less Inv-loop μ-loop
-loop-less c = omega arith
-
 loop-again : tie.Need-loop-again Inv-loop μ-loop
 loop-again c =
     let s = c .before .before .before .before .before .before .before .before .before .before .before in
@@ -82,7 +60,7 @@ loop-again c =
     let h = c .before .before .before .before .before .element in
     let e = c .before .before .sign-equation in (
       omega (arith, more),
-      sign-more (a .n) (a .t3) (a .second) (a .frame) (s .pre .0 .0) codes (s .pre .1 .0) (l .i) more (tableOf (l .table))
+      sign-more (a .n) (a .t3) (a .second) (a .frame) (s .pre .0 .0) codes (s .pre .1 .0) (l .i) more (equationsIn (l .table))
           (e .result) _ (l .inv .1)
           (sign-found (a .n) (a .t3) (a .second) (a .frame) (s .pre .0 .0) codes (s .pre .1 .0) (s .pre .0 .2) (l .i) more
           (p .result) (h .result) (p .ensures) (h .ensures) (e .result) (e .ensures)) (c .insert .ensures),
@@ -92,25 +70,12 @@ returns : tie.Need-returns Inv-loop μ-loop
 returns c =
     let a = c .before .before .args in
     let l = c .before .loop in
-    subst (λ k. SignTable (a .n) (a .t3) (a .second) (codesOf (a .t6)) k (tableOf (l .table)))
+    subst (λ k. SignTable (a .n) (a .t3) (a .second) (codesOf (a .t6)) k (equationsIn (l .table)))
     (le-antisymm (l .inv .0) (c .loop-test .left)) (l .inv .1)
 
 pub sign-table-spec : {M : Type 1} → statement M
 sign-table-spec =
     tie.close
-    (tie.spec
-    Inv-loop
-    μ-loop
-    loop-holds
-    mul-g
-    array-copy-out-g
-    slice-aggregate-send
-    send-requires
-    element-requires
-    sign-equation-requires
-    mul-insert
-    insert-requires
-    add-i
-    loop-less
-    loop-again
-    returns)
+    (tie.spec Inv-loop μ-loop loop-holds (λ c. search needs) (λ c. search needs) (λ c. search needs)
+    (λ c κs. search needs) (λ c κs. search needs) (λ c κs. search needs) mul-insert insert-requires (λ c. search needs)
+    (λ c. omega arith) loop-again returns)

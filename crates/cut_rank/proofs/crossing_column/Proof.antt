@@ -1,17 +1,10 @@
+-- `crossing_column` meets its contract: column k of the edges between the sides, as a word over the marked side: the
+-- neighbours of k there where k is on the other side, else none.
 use borrow.Author.Needs.{needs}
 use mathlib.Core.Path.{sym, _∙_}
 use Rattle.cut_rank.proofs.Crossings.{crossing-word, no-crossing}
 use Rattle.cut_rank.proofs.crossing_column.Statement.{statement}
 use Rattle.cut_rank.proofs.crossing_column.Tie as tie
-
-has-requires : tie.Need-has-requires
-has-requires c κs = search needs
-
-mul-result : tie.Need-mul-result
-mul-result c = search needs
-
-shared-slice-read-result : tie.Need-shared-slice-read-result
-shared-slice-read-result c = search needs
 
 returns : tie.Need-returns
 returns c =
@@ -26,4 +19,5 @@ returns-2 c =
     (sym (H .has .ensures) ∙ c .before .if1 .left)
 
 pub crossing-column-spec : {M : Type 1} → statement M
-crossing-column-spec = tie.close (tie.spec has-requires mul-result shared-slice-read-result returns returns-2)
+crossing-column-spec =
+    tie.close (tie.spec (λ c κs. search needs) (λ c. search needs) (λ c. search needs) returns returns-2)

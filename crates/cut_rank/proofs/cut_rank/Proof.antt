@@ -1,3 +1,5 @@
+-- `cut_rank` meets its contract: the rank modulo 2 of the edges between the sides: a column that is no sum of earlier
+-- ones leaves a remainder, which joins the basis.
 use mathlib.Core.Logic.{⊎-elim}
 use Prim.Native.Nat.{_-_}
 use native.Mathlib.Omega.{arith}
@@ -43,12 +45,6 @@ remainder-requires c κs =
     let M = crossing (bit (S .args .side)) (graphIn (S .args .neighbours .now)) in
     in-echelon (S .args .n) (S .pre .0 .0) M _ _ _ (L .loop .inv)
 
-smallest-requires : tie.Need-smallest-requires Inv-loop μ-loop
-smallest-requires c κs = search needs
-
-mul-basis : tie.Need-mul-basis Inv-loop μ-loop
-mul-basis c = search needs
-
 array-write-basis : tie.Need-array-write-basis Inv-loop μ-loop
 array-write-basis c =
     let R = c .before .before in
@@ -63,12 +59,6 @@ array-write-basis c =
 
 add-rank : tie.Need-add-rank Inv-loop μ-loop
 add-rank c = omega (arith, c .before .before .before .before .before .before .loop .inv .few)
-
-add-k : tie.Need-add-k Inv-loop μ-loop
-add-k c = search needs
-
-loop-less : tie.Need-loop-less Inv-loop μ-loop
-loop-less c = search needs
 
 loop-again : tie.Need-loop-again Inv-loop μ-loop
 loop-again c =
@@ -96,17 +86,5 @@ returns c =
 pub cut-rank-spec : {M : Type 1} → statement M
 cut-rank-spec =
     tie.close
-    (tie.spec
-    Inv-loop
-    μ-loop
-    loop-holds
-    crossing-column-requires
-    remainder-requires
-    smallest-requires
-    mul-basis
-    array-write-basis
-    add-rank
-    add-k
-    loop-less
-    loop-again
-    returns)
+    (tie.spec Inv-loop μ-loop loop-holds crossing-column-requires remainder-requires (λ c κs. search needs)
+    (λ c. search needs) array-write-basis add-rank (λ c. search needs) (λ c. search needs) loop-again returns)

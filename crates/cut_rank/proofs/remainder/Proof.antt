@@ -1,3 +1,5 @@
+-- `remainder` meets its contract: w with words of the basis added to it, as long as its smallest set bit is that of one
+-- of them.
 use Prim.Native.Nat.{_-_}
 use borrow.Author.Needs.{needs}
 use lib.Count.{trailingZeros}
@@ -21,12 +23,6 @@ abbrev μ-loop : tie.MeasureT-loop
 
 loop-holds : tie.Need-loop-holds Inv-loop μ-loop
 loop-holds c = reducing-start _ _ (c .fits .w .fits)
-
-smallest-requires : tie.Need-smallest-requires Inv-loop μ-loop
-smallest-requires c κs = search needs
-
-mul-word : tie.Need-mul-word Inv-loop μ-loop
-mul-word c = search needs
 
 element-copy-out-word : tie.Need-element-copy-out-word Inv-loop μ-loop
 element-copy-out-word c =
@@ -60,14 +56,5 @@ returns-2 c = all-reduced _ _ _ (c .before .loop .inv) (c .loop-test .left)
 pub remainder-spec : {M : Type 1} → statement M
 remainder-spec =
     tie.close
-    (tie.spec
-    Inv-loop
-    μ-loop
-    loop-holds
-    smallest-requires
-    mul-word
-    element-copy-out-word
-    returns
-    loop-less
-    loop-again
-    returns-2)
+    (tie.spec Inv-loop μ-loop loop-holds (λ c κs. search needs) (λ c. search needs) element-copy-out-word returns
+    loop-less loop-again returns-2)

@@ -1,22 +1,8 @@
+-- `op_length` meets its contract: how many of them there are.
 use Rattle.job_text.specs.Text.{opWord}
 use borrow.Author.Needs.{needs}
 use Rattle.generator_text.proofs.op_length.Statement.{statement}
 use Rattle.generator_text.proofs.op_length.Tie as tie
-
-enum-told : tie.Need-enum-told
-enum-told c = search needs
-
-enum-told-2 : tie.Need-enum-told-2
-enum-told-2 c = search needs
-
-enum-told-3 : tie.Need-enum-told-3
-enum-told-3 c = search needs
-
-enum-told-4 : tie.Need-enum-told-4
-enum-told-4 c = search needs
-
-enum-told-5 : tie.Need-enum-told-5
-enum-told-5 c = search needs
 
 returns : tie.Need-returns
 unfolding opWord
@@ -41,14 +27,5 @@ returns-5 c = search needs
 pub op-length-spec : {M : Type 1} → statement M
 op-length-spec =
     tie.close
-    (tie.spec
-    enum-told
-    enum-told-2
-    enum-told-3
-    enum-told-4
-    enum-told-5
-    returns
-    returns-2
-    returns-3
-    returns-4
-    returns-5)
+    (tie.spec (λ c. search needs) (λ c. search needs) (λ c. search needs) (λ c. search needs) (λ c. search needs)
+    returns returns-2 returns-3 returns-4 returns-5)

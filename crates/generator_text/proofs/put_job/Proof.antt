@@ -1,3 +1,4 @@
+-- `put_job` meets its contract: the text of the job that is drawn.
 use native.Mathlib.Omega.{arith}
 use borrow.Author.Needs.{needs}
 use Rattle.generator_text.proofs.JobLines.{Writing, all-written, line-room, line-written, none-written}
@@ -10,21 +11,12 @@ Inv-loop n count seed out₀ at₀ s₀ left₀ out at s left = Writing n count 
 abbrev μ-loop : tie.MeasureT-loop
 μ-loop n count seed out₀ at₀ s₀ left₀ out at s left = left
 
-put-head-requires : tie.Need-put-head-requires Inv-loop μ-loop
-put-head-requires c κs = search needs
-
 loop-holds : tie.Need-loop-holds Inv-loop μ-loop
 loop-holds c =
     let head = c .before .before in
     let start = head .before .before .before in
     none-written (start .args .n) (start .args .count) (start .args .seed) (start .pre .0) (start .pre .1) _ _
     (start .pre .2) (omega (arith, head .put-head .kept, start .pre .3)) (omega (arith, head .put-head .ensures .end))
-
-draw-requires : tie.Need-draw-requires Inv-loop μ-loop
-draw-requires c κs = search needs
-
-drawn-step-requires : tie.Need-drawn-step-requires Inv-loop μ-loop
-drawn-step-requires c κs = search needs
 
 put-step-requires : tie.Need-put-step-requires Inv-loop μ-loop
 put-step-requires c κs =
@@ -33,12 +25,6 @@ put-step-requires c κs =
     let start = l .before .before .before .before .before .before in
     line-room (start .args .n) (start .args .count) (start .args .seed) (start .pre .0) (start .pre .1) _ _ _ _ _ _
     (l .loop .inv) (d .before .loop-test .taken) _ (d .draw .ensures) _ (c .before .drawn-step .ensures)
-
-sub-left : tie.Need-sub-left Inv-loop μ-loop
-sub-left c = search needs
-
-loop-less : tie.Need-loop-less Inv-loop μ-loop
-loop-less c = search needs
 
 loop-again : tie.Need-loop-again Inv-loop μ-loop
 loop-again c =
@@ -49,9 +35,6 @@ loop-again c =
     line-written (start .args .n) (start .args .count) (start .args .seed) (start .pre .0) (start .pre .1) _ _ _ _ _ _
     (l .loop .inv) (d .before .loop-test .taken) _ (d .draw .ensures) _ (p .before .before .drawn-step .ensures) _ _
     (p .put-step .ensures) (p .put-step .kept .1 .1 .0)
-
-same-length : tie.Need-same-length Inv-loop μ-loop
-same-length c = search needs
 
 returns : tie.Need-returns Inv-loop μ-loop
 returns c =
@@ -64,16 +47,5 @@ returns c =
 pub put-job-spec : {M : Type 1} → statement M
 put-job-spec =
     tie.close
-    (tie.spec
-    Inv-loop
-    μ-loop
-    put-head-requires
-    loop-holds
-    draw-requires
-    drawn-step-requires
-    put-step-requires
-    sub-left
-    loop-less
-    loop-again
-    same-length
-    returns)
+    (tie.spec Inv-loop μ-loop (λ c κs. search needs) loop-holds (λ c κs. search needs) (λ c κs. search needs)
+    put-step-requires (λ c. search needs) (λ c. search needs) loop-again (λ c. search needs) returns)

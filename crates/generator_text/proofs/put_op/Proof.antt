@@ -1,3 +1,4 @@
+-- `put_op` meets its contract.
 use mathlib.Core.Path.{ap, subst, sym}
 use native.Mathlib.Omega.{arith}
 use lib.ListN.{length}
@@ -7,12 +8,6 @@ use Rattle.text.specs.Text.{Printed}
 use Rattle.generator_text.proofs.StepLines.{letters-inside, letters-taken}
 use Rattle.generator_text.proofs.put_op.Statement.{statement}
 use Rattle.generator_text.proofs.put_op.Tie as tie
-
-op-letters-requires : tie.Need-op-letters-requires
-op-letters-requires c κs = search needs
-
-op-length-requires : tie.Need-op-length-requires
-op-length-requires c κs = search needs
 
 array-share-prefix-letters : tie.Need-array-share-prefix-letters
 array-share-prefix-letters c =
@@ -35,9 +30,6 @@ put-bytes-requires c κs =
       start .pre,
     )
 
-same-length : tie.Need-same-length
-same-length c = search needs
-
 returns : tie.Need-returns
 returns c =
     let l = c .before .before .before .before .before in
@@ -50,11 +42,5 @@ returns c =
 pub put-op-spec : {M : Type 1} → statement M
 put-op-spec =
     tie.close
-    (tie.spec
-    op-letters-requires
-    op-length-requires
-    array-share-prefix-letters
-    slice-aggregate-put-bytes
-    put-bytes-requires
-    same-length
-    returns)
+    (tie.spec (λ c κs. search needs) (λ c κs. search needs) array-share-prefix-letters slice-aggregate-put-bytes
+    put-bytes-requires (λ c. search needs) returns)

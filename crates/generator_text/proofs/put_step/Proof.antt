@@ -1,3 +1,4 @@
+-- `put_step` meets its contract: the line of a step.
 use native.Mathlib.Omega.{arith}
 use borrow.Author.Needs.{needs}
 use Rattle.generator_text.proofs.StepLines.{rooms, step-printed}
@@ -88,9 +89,6 @@ put-requires c κs =
       value .put-decimal .kept,
     )
 
-same-length : tie.Need-same-length
-same-length c = search needs
-
 returns : tie.Need-returns
 returns c =
     let value = c .before .before .before .before .before .before in
@@ -105,14 +103,5 @@ returns c =
 pub put-step-spec : {M : Type 1} → statement M
 put-step-spec =
     tie.close
-    (tie.spec
-    put-op-requires
-    cast-put-field
-    put-field-requires
-    cast-put-field-2
-    put-field-requires-2
-    cast-put-decimal
-    put-decimal-requires
-    put-requires
-    same-length
-    returns)
+    (tie.spec put-op-requires cast-put-field put-field-requires cast-put-field-2 put-field-requires-2 cast-put-decimal
+    put-decimal-requires put-requires (λ c. search needs) returns)

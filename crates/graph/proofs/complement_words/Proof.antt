@@ -1,3 +1,5 @@
+-- `complement_words` meets its contract: complements the graph at vertex a: every edge between two neighbours of a is
+-- flipped, by one xor for each of them.
 use native.Mathlib.Omega.{arith}
 use borrow.Author.Needs.{needs}
 use Rattle.buffers.proofs.OverSets.{next-in, next-less, next-short}
@@ -11,17 +13,8 @@ Inv-loop neighbours₀ a around rest₀ neighbours rest = Complementing neighbou
 abbrev μ-loop : tie.MeasureT-loop
 μ-loop neighbours₀ a around rest₀ neighbours rest = rest
 
-mul-around : tie.Need-mul-around Inv-loop μ-loop
-mul-around c = search needs
-
-slice-read-around : tie.Need-slice-read-around Inv-loop μ-loop
-slice-read-around c = search needs
-
 loop-holds : tie.Need-loop-holds Inv-loop μ-loop
 loop-holds c = let start = c .before .before in complement-start _ (start .args .a) (start .pre .1)
-
-smallest-requires : tie.Need-smallest-requires Inv-loop μ-loop
-smallest-requires c κs = search needs
 
 mul-neighbours : tie.Need-mul-neighbours Inv-loop μ-loop
 mul-neighbours c =
@@ -92,9 +85,6 @@ loop-again c =
     complement-more _ (start .args .a) _ _ (inside .before .loop .inv) (start .pre .0 .0) (inside .loop-test .taken) _
     (at-smallest .smallest .ensures .0) _ _ (c .before .flip .ensures) (c .flip2 .ensures)
 
-same-length : tie.Need-same-length Inv-loop μ-loop
-same-length c = search needs
-
 returns : tie.Need-returns Inv-loop μ-loop
 returns c =
     let start = c .before .before .before .before in
@@ -103,20 +93,6 @@ returns c =
 pub complement-words-spec : {M : Type 1} → statement M
 complement-words-spec =
     tie.close
-    (tie.spec
-    Inv-loop
-    μ-loop
-    mul-around
-    slice-read-around
-    loop-holds
-    smallest-requires
-    mul-neighbours
-    slice-read-neighbours
-    flip-requires
-    mul-neighbours-2
-    slice-write-neighbours
-    flip-requires-2
-    loop-less
-    loop-again
-    same-length
-    returns)
+    (tie.spec Inv-loop μ-loop (λ c. search needs) (λ c. search needs) loop-holds (λ c κs. search needs) mul-neighbours
+    slice-read-neighbours flip-requires mul-neighbours-2 slice-write-neighbours flip-requires-2 loop-less loop-again
+    (λ c. search needs) returns)

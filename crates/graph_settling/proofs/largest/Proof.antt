@@ -1,3 +1,4 @@
+-- `largest` meets its contract: the largest set bit of a word that is not 0.
 use Prim.Native.Nat.{_<_, _^_}
 use native.Mathlib.Omega.{arith}
 use Rattle.graph_settling.proofs.TopBit.{leading-small, top-bit}

@@ -1,14 +1,9 @@
+-- `marked` meets its contract: the word with vertex i besides, if that is out of place.
 use mathlib.Core.Path.{refl}
 use borrow.Author.Needs.{needs}
 use Rattle.graph_settling.proofs.FoundWords.{is-marked, not-marked}
 use Rattle.graph_settling.proofs.marked.Statement.{statement}
 use Rattle.graph_settling.proofs.marked.Tie as tie
-
-is-unsettled-requires : tie.Need-is-unsettled-requires
-is-unsettled-requires c κs = search needs
-
-flip-where-requires : tie.Need-flip-where-requires
-flip-where-requires c κs = search needs
 
 returns : tie.Need-returns
 returns c =
@@ -21,4 +16,4 @@ returns-2 c =
     not-marked (a .all) _ (a .word) (a .code) (a .i) refl (c .if1 .left)
 
 pub marked-spec : {M : Type 1} → statement M
-marked-spec = tie.close (tie.spec is-unsettled-requires flip-where-requires returns returns-2)
+marked-spec = tie.close (tie.spec (λ c κs. search needs) (λ c κs. search needs) returns returns-2)

@@ -1,13 +1,8 @@
+-- `move_sign` meets its contract: X before the code of vertex a, and Z before those of its neighbours.
 use borrow.Author.Needs.{needs}
 use Rattle.graph_settling.proofs.SignBuffers.{sign-written}
 use Rattle.graph_settling.proofs.move_sign.Statement.{statement}
 use Rattle.graph_settling.proofs.move_sign.Tie as tie
-
-recode-requires : tie.Need-recode-requires
-recode-requires c κs = search needs
-
-same-length : tie.Need-same-length
-same-length c = search needs
 
 returns : tie.Need-returns
 returns c =
@@ -16,4 +11,4 @@ returns c =
     sign-written _ _ (begun .pre .0) (begun .args .a) (begun .pre .1) _ (at-recode .recode .ensures)
 
 pub move-sign-spec : {M : Type 1} → statement M
-move-sign-spec = tie.close (tie.spec recode-requires same-length returns)
+move-sign-spec = tie.close (tie.spec (λ c κs. search needs) (λ c. search needs) returns)

@@ -1,8 +1,10 @@
+-- `normalise_from` meets its contract: such steps until no vertex is out of place: then the buffers hold the reduced
+-- record of the group.
 use Prim.Native.Nat.{_*_, _+_, _^_}
 use lib.ListN.{length}
 use Rattle.graph_steps.proofs.Keeping.{kept-codes-long}
-use Rattle.graph_steps.specs.Settling.{distance}
-use Rattle.operations.specs.InPlace.{recordIn}
+use Rattle.graph_steps.specs.internal.Settling.{distance}
+use Rattle.operations.specs.internal.InPlace.{recordIn}
 use Rattle.record.specs.Lent.{heldRecord}
 use Rattle.graph_settling.proofs.SettlingLoop.{
   Settling,

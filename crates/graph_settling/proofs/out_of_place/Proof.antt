@@ -1,9 +1,10 @@
+-- `out_of_place` meets its contract: the vertices out of place.
 use mathlib.Core.Path.{refl}
 use Prim.Native.Nat.{_-_}
 use native.Mathlib.Omega.{arith}
 use lib.ListN.{length}
 use borrow.Author.Needs.{needs}
-use Rattle.graph_steps.specs.Kept.{unsettled}
+use Rattle.graph_steps.specs.internal.KeptGroups.{unsettled}
 use Rattle.operations.proofs.UnrefusedRecords.{unrefused-place, unrefused-short}
 use Rattle.graph_settling.proofs.FoundWords.{Found, found-none, found-one, found-watched}
 use Rattle.graph_settling.proofs.out_of_place.Statement.{statement}
@@ -18,12 +19,6 @@ abbrev μ-loop : tie.MeasureT-loop
 loop-holds : tie.Need-loop-holds Inv-loop μ-loop
 loop-holds c = found-none _ _
 
-mul-marked : tie.Need-mul-marked Inv-loop μ-loop
-mul-marked c = search needs
-
-shared-slice-read-marked : tie.Need-shared-slice-read-marked Inv-loop μ-loop
-shared-slice-read-marked c = search needs
-
 shared-slice-read-marked-2 : tie.Need-shared-slice-read-marked-2 Inv-loop μ-loop
 shared-slice-read-marked-2 c =
     let inside = c .before .before in
@@ -33,9 +28,6 @@ marked-requires : tie.Need-marked-requires Inv-loop μ-loop
 marked-requires c κs =
     let inside = c .before .before in
     omega (arith, inside .loop-test .taken, unrefused-short _ _ (inside .before .before .before .before .pre))
-
-add-i : tie.Need-add-i Inv-loop μ-loop
-add-i c = search needs
 
 loop-less : tie.Need-loop-less Inv-loop μ-loop
 loop-less c = omega (arith, c .before .before .before .loop-test .taken)
@@ -53,15 +45,5 @@ returns c = found-watched _ _ _ _ (c .loop-test .left) (c .before .loop .inv)
 pub out-of-place-spec : {M : Type 1} → statement M
 out-of-place-spec =
     tie.close
-    (tie.spec
-    Inv-loop
-    μ-loop
-    loop-holds
-    mul-marked
-    shared-slice-read-marked
-    shared-slice-read-marked-2
-    marked-requires
-    add-i
-    loop-less
-    loop-again
-    returns)
+    (tie.spec Inv-loop μ-loop loop-holds (λ c. search needs) (λ c. search needs) shared-slice-read-marked-2
+    marked-requires (λ c. search needs) loop-less loop-again returns)

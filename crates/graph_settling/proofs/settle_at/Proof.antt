@@ -1,3 +1,6 @@
+-- `settle_at` meets its contract: one step at the smallest vertex out of place: where C = 1, D = 0 and it has a larger
+-- neighbour, a pivot with the largest; with another code from 12, a complementation; else the code is odd, and its sign
+-- is moved.
 use native.Mathlib.Omega.{arith}
 use borrow.Author.Needs.{needs}
 use Rattle.graph_steps.proofs.Keeping.{complement-nearer, pivot-nearer}
@@ -7,12 +10,6 @@ use Rattle.graph_settling.proofs.SignBuffers.{sign-nearer}
 use Rattle.graph_settling.proofs.Untouched.{complement-touches, pivot-touches, sign-touches}
 use Rattle.graph_settling.proofs.settle_at.Statement.{statement}
 use Rattle.graph_settling.proofs.settle_at.Tie as tie
-
-mul-word : tie.Need-mul-word
-mul-word c = search needs
-
-slice-read-word : tie.Need-slice-read-word
-slice-read-word c = search needs
 
 slice-read-code : tie.Need-slice-read-code
 slice-read-code c =
@@ -55,28 +52,16 @@ pivot-record-requires c κs =
     let top = at-largest .largest .ensures in
     (start .0 .0, (start .0 .1, larger-below _ _ (start .0 .0) _ (start .0 .1) (start .1) (branch .if1 .taken) _ (top .0) (top .1)))
 
-complement-record-requires : tie.Need-complement-record-requires
-complement-record-requires c κs = search needs
-
 single-requires : tie.Need-single-requires
 single-requires c κs =
     let start = c .before .before .before .before .before .before .before .before .before .before .before .before .before
     .pre in
     omega (arith, start .0 .1, unrefused-short _ _ (start .0 .0))
 
-move-sign-requires : tie.Need-move-sign-requires
-move-sign-requires c κs = search needs
-
 single-requires-2 : tie.Need-single-requires-2
 single-requires-2 c κs =
     let start = c .before .before .before .before .before .before .before .before .before .before .before .pre in
     omega (arith, start .0 .1, unrefused-short _ _ (start .0 .0))
-
-same-length : tie.Need-same-length
-same-length c = search needs
-
-same-length-2 : tie.Need-same-length-2
-same-length-2 c = search needs
 
 returns : tie.Need-returns
 returns c =
@@ -92,12 +77,6 @@ returns c =
       pivot-touches _ _ (start .0 .0) _ _ _ _ (top .0) (at-pivot .pivot-record .ensures),
     )
 
-same-length-3 : tie.Need-same-length-3
-same-length-3 c = search needs
-
-same-length-4 : tie.Need-same-length-4
-same-length-4 c = search needs
-
 returns-2 : tie.Need-returns-2
 returns-2 c =
     let at-complement = c .before .before .before .before .before in
@@ -108,12 +87,6 @@ returns-2 c =
       complement-touches _ _ (start .0 .0) _ _ _ (start .0 .1) _ (c .single .ensures)
           (at-complement .complement-record .ensures),
     )
-
-same-length-5 : tie.Need-same-length-5
-same-length-5 c = search needs
-
-same-length-6 : tie.Need-same-length-6
-same-length-6 c = search needs
 
 returns-3 : tie.Need-returns-3
 returns-3 c =
@@ -128,25 +101,7 @@ returns-3 c =
 pub settle-at-spec : {M : Type 1} → statement M
 settle-at-spec =
     tie.close
-    (tie.spec
-    mul-word
-    slice-read-word
-    slice-read-code
-    shr-if1
-    largest-requires
-    mul-others
-    slice-read-others
-    pivot-record-requires
-    complement-record-requires
-    single-requires
-    move-sign-requires
-    single-requires-2
-    same-length
-    same-length-2
-    returns
-    same-length-3
-    same-length-4
-    returns-2
-    same-length-5
-    same-length-6
-    returns-3)
+    (tie.spec (λ c. search needs) (λ c. search needs) slice-read-code shr-if1 largest-requires mul-others
+    slice-read-others pivot-record-requires (λ c κs. search needs) single-requires (λ c κs. search needs)
+    single-requires-2 (λ c. search needs) (λ c. search needs) returns (λ c. search needs) (λ c. search needs) returns-2
+    (λ c. search needs) (λ c. search needs) returns-3)

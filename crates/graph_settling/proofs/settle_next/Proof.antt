@@ -1,3 +1,5 @@
+-- `settle_next` meets its contract: a look at the smallest vertex that may be out of place: if it is, a step, and what
+-- the step may change is added; else it is dropped.
 use mathlib.Core.Path.{sym, _∙_}
 use native.Mathlib.Omega.{arith}
 use borrow.Author.Needs.{needs}
@@ -6,12 +8,6 @@ use Rattle.operations.proofs.UnrefusedRecords.{unrefused-place, unrefused-short
 use Rattle.graph_settling.proofs.SettlingLoop.{next-below, next-dropped, next-first, next-settled}
 use Rattle.graph_settling.proofs.settle_next.Statement.{statement}
 use Rattle.graph_settling.proofs.settle_next.Tie as tie
-
-smallest-requires : tie.Need-smallest-requires
-smallest-requires c κs = search needs
-
-mul-is-unsettled : tie.Need-mul-is-unsettled
-mul-is-unsettled c = search needs
 
 slice-read-is-unsettled : tie.Need-slice-read-is-unsettled
 slice-read-is-unsettled c =
@@ -66,12 +62,6 @@ settle-at-requires c κs =
           (sym (looked .is-unsettled .ensures) ∙ not-false _ (branch .if1 .left)),
     )
 
-same-length : tie.Need-same-length
-same-length c = search needs
-
-same-length-2 : tie.Need-same-length-2
-same-length-2 c = search needs
-
 returns-2 : tie.Need-returns-2
 returns-2 c =
     let stepped = c .before .before .before .before in
@@ -85,15 +75,5 @@ returns-2 c =
 pub settle-next-spec : {M : Type 1} → statement M
 settle-next-spec =
     tie.close
-    (tie.spec
-    smallest-requires
-    mul-is-unsettled
-    slice-read-is-unsettled
-    slice-read-is-unsettled-2
-    is-unsettled-requires
-    flip-requires
-    returns
-    settle-at-requires
-    same-length
-    same-length-2
-    returns-2)
+    (tie.spec (λ c κs. search needs) (λ c. search needs) slice-read-is-unsettled slice-read-is-unsettled-2
+    is-unsettled-requires flip-requires returns settle-at-requires (λ c. search needs) (λ c. search needs) returns-2)

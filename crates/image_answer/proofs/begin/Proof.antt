@@ -1,19 +1,14 @@
+-- `begin` meets its contract: the state at the start.
 use mathlib.Core.Path.{refl}
 use borrow.Author.Needs.{needs}
 use Rattle.image_answer.proofs.Beginning.{begun, copied-below}
 use Rattle.image_answer.proofs.begin.Statement.{statement}
 use Rattle.image_answer.proofs.begin.Tie as tie
 
-copied-codes-requires : tie.Need-copied-codes-requires
-copied-codes-requires c κs = search needs
-
 code-words-requires : tie.Need-code-words-requires
 code-words-requires c κs =
     let s = c .before .before .before in
     (s .pre .upto, copied-below _ (s .pre) (c .copied-codes .result) (c .copied-codes .ensures))
-
-copied-words-requires : tie.Need-copied-words-requires
-copied-words-requires c κs = search needs
 
 returns : tie.Need-returns
 returns c =
@@ -23,5 +18,4 @@ returns c =
     (c .before .code-words .ensures) refl
 
 pub begin-spec : {M : Type 1} → statement M
-begin-spec =
-    tie.close (tie.spec copied-codes-requires code-words-requires copied-words-requires returns)
+begin-spec = tie.close (tie.spec (λ c κs. search needs) code-words-requires (λ c κs. search needs) returns)

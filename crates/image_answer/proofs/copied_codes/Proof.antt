@@ -1,3 +1,4 @@
+-- `copied_codes` meets its contract: lent codes in an array; 0 past their end.
 use mathlib.Core.Path.{refl}
 use Prim.Native.Nat.{_-_, zero-le, _≤_}
 use native.Mathlib.Omega.{arith}
@@ -17,18 +18,6 @@ loop-holds : tie.Need-loop-holds Inv-loop μ-loop
 unfolding zeros
 loop-holds c = (zero-le, mapped-start (CopyOf (c .args .lent .now)) (zeros 64))
 
-shared-slice-read-codes : tie.Need-shared-slice-read-codes Inv-loop μ-loop
-shared-slice-read-codes c = search needs
-
-array-write-codes : tie.Need-array-write-codes Inv-loop μ-loop
-array-write-codes c = search needs
-
-add-i : tie.Need-add-i Inv-loop μ-loop
-add-i c = search needs
-
-loop-less : tie.Need-loop-less Inv-loop μ-loop
-loop-less c = search needs
-
 loop-again : tie.Need-loop-again Inv-loop μ-loop
 loop-again c =
     let l = c .before .before .loop in (
@@ -44,13 +33,5 @@ returns c = copied-all 64 (c .before .before .args .lent .now) (c .before .loop 
 pub copied-codes-spec : {M : Type 1} → statement M
 copied-codes-spec =
     tie.close
-    (tie.spec
-    Inv-loop
-    μ-loop
-    loop-holds
-    shared-slice-read-codes
-    array-write-codes
-    add-i
-    loop-less
-    loop-again
-    returns)
+    (tie.spec Inv-loop μ-loop loop-holds (λ c. search needs) (λ c. search needs) (λ c. search needs) (λ c. search needs)
+    loop-again returns)

@@ -1,3 +1,4 @@
+-- `copied_words` meets its contract: lent words in an array; 0 past their end.
 use mathlib.Core.Path.{refl}
 use Prim.Native.Nat.{_-_, zero-le, _≤_}
 use native.Mathlib.Omega.{arith}
@@ -17,24 +18,6 @@ loop-holds : tie.Need-loop-holds Inv-loop μ-loop
 unfolding zeros
 loop-holds c = (zero-le, mapped-start (CopyOf (c .args .lent .now)) (zeros 64))
 
-mul-words : tie.Need-mul-words Inv-loop μ-loop
-mul-words c = search needs
-
-shared-slice-read-words : tie.Need-shared-slice-read-words Inv-loop μ-loop
-shared-slice-read-words c = search needs
-
-mul-words-2 : tie.Need-mul-words-2 Inv-loop μ-loop
-mul-words-2 c = search needs
-
-array-write-words : tie.Need-array-write-words Inv-loop μ-loop
-array-write-words c = search needs
-
-add-i : tie.Need-add-i Inv-loop μ-loop
-add-i c = search needs
-
-loop-less : tie.Need-loop-less Inv-loop μ-loop
-loop-less c = search needs
-
 loop-again : tie.Need-loop-again Inv-loop μ-loop
 loop-again c =
     let l = c .before .before .loop in (
@@ -50,15 +33,5 @@ returns c = copied-all 64 (c .before .before .args .lent .now) (c .before .loop 
 pub copied-words-spec : {M : Type 1} → statement M
 copied-words-spec =
     tie.close
-    (tie.spec
-    Inv-loop
-    μ-loop
-    loop-holds
-    mul-words
-    shared-slice-read-words
-    mul-words-2
-    array-write-words
-    add-i
-    loop-less
-    loop-again
-    returns)
+    (tie.spec Inv-loop μ-loop loop-holds (λ c. search needs) (λ c. search needs) (λ c. search needs) (λ c. search needs)
+    (λ c. search needs) (λ c. search needs) loop-again returns)

@@ -1,23 +1,9 @@
+-- `image_answer` meets its contract: the image of the graph under the codes.
 use mathlib.Core.Path.{refl}
 use borrow.Author.Needs.{needs}
 use Rattle.image_answer.proofs.Answering.{answered}
 use Rattle.image_answer.proofs.image_answer.Statement.{statement}
 use Rattle.image_answer.proofs.image_answer.Tie as tie
-
-begin-requires : tie.Need-begin-requires
-begin-requires c κs = search needs
-
-run-rule-requires : tie.Need-run-rule-requires
-run-rule-requires c κs = search needs
-
-code-words-requires : tie.Need-code-words-requires
-code-words-requires c κs = search needs
-
-image-number-requires : tie.Need-image-number-requires
-image-number-requires c κs = search needs
-
-sign-bytes-requires : tie.Need-sign-bytes-requires
-sign-bytes-requires c κs = search needs
 
 returns : tie.Need-returns
 returns c =
@@ -31,10 +17,5 @@ returns c =
 pub image-answer-spec : {M : Type 1} → statement M
 image-answer-spec =
     tie.close
-    (tie.spec
-    begin-requires
-    run-rule-requires
-    code-words-requires
-    image-number-requires
-    sign-bytes-requires
-    returns)
+    (tie.spec (λ c κs. search needs) (λ c κs. search needs) (λ c κs. search needs) (λ c κs. search needs)
+    (λ c κs. search needs) returns)

@@ -1,3 +1,4 @@
+-- `image_number` meets its contract: 11 where some C is left, 12 where X goes to Y somewhere, else 0.
 use borrow.Author.Tests.{eq-eqb, ne-eqb}
 use Rattle.image_answer.proofs.image_number.Statement.{statement}
 use Rattle.image_answer.proofs.image_number.Tie as tie

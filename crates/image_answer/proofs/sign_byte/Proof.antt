@@ -1,14 +1,9 @@
+-- `sign_byte` meets its contract: the sign of generator j: that of X at j, and those of Z at the neighbours of j.
 use mathlib.Core.Bool.{false, true}
 use borrow.Author.Needs.{needs}
 use Rattle.image_answer.proofs.SignBytes.{sign-by}
 use Rattle.image_answer.proofs.sign_byte.Statement.{statement}
 use Rattle.image_answer.proofs.sign_byte.Tie as tie
-
-has-requires : tie.Need-has-requires
-has-requires c κs = search needs
-
-dot-product-requires : tie.Need-dot-product-requires
-dot-product-requires c κs = search needs
 
 returns : tie.Need-returns
 returns c =
@@ -40,4 +35,4 @@ returns-4 c =
 
 pub sign-byte-spec : {M : Type 1} → statement M
 sign-byte-spec =
-    tie.close (tie.spec has-requires dot-product-requires returns returns-2 returns-3 returns-4)
+    tie.close (tie.spec (λ c κs. search needs) (λ c κs. search needs) returns returns-2 returns-3 returns-4)

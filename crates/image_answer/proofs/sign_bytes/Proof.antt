@@ -1,3 +1,4 @@
+-- `sign_bytes` meets its contract: a sign byte for each vertex.
 use Prim.Native.Nat.{_-_, zero-le, _≤_}
 use native.Mathlib.Omega.{arith}
 use borrow.Author.Needs.{needs}
@@ -16,24 +17,6 @@ loop-holds : tie.Need-loop-holds Inv-loop μ-loop
 unfolding zeros
 loop-holds c = (zero-le, mapped-start (SignAt (c .args .t1) (c .args .sx) (c .args .sz)) (zeros 64))
 
-mul-sign-byte : tie.Need-mul-sign-byte Inv-loop μ-loop
-mul-sign-byte c = search needs
-
-array-read-sign-byte : tie.Need-array-read-sign-byte Inv-loop μ-loop
-array-read-sign-byte c = search needs
-
-sign-byte-requires : tie.Need-sign-byte-requires Inv-loop μ-loop
-sign-byte-requires c κs = search needs
-
-array-write-signs : tie.Need-array-write-signs Inv-loop μ-loop
-array-write-signs c = search needs
-
-add-j : tie.Need-add-j Inv-loop μ-loop
-add-j c = search needs
-
-loop-less : tie.Need-loop-less Inv-loop μ-loop
-loop-less c = search needs
-
 loop-again : tie.Need-loop-again Inv-loop μ-loop
 loop-again c =
     let l = c .before .before .loop in
@@ -49,15 +32,5 @@ returns c = λ j l. c .before .loop .inv .1 .done j (omega arith)
 pub sign-bytes-spec : {M : Type 1} → statement M
 sign-bytes-spec =
     tie.close
-    (tie.spec
-    Inv-loop
-    μ-loop
-    loop-holds
-    mul-sign-byte
-    array-read-sign-byte
-    sign-byte-requires
-    array-write-signs
-    add-j
-    loop-less
-    loop-again
-    returns)
+    (tie.spec Inv-loop μ-loop loop-holds (λ c. search needs) (λ c. search needs) (λ c κs. search needs)
+    (λ c. search needs) (λ c. search needs) (λ c. search needs) loop-again returns)

@@ -1,3 +1,5 @@
+-- `inspect_image` meets its contract: the image of the letter (z, x) under a, as 4 × sign + 2z + x; 8 where a is not a
+-- code.
 use mathlib.Core.Path.{_∙_}
 use Rattle.clifford.specs.Clifford.{cliffordOf}
 use Rattle.pauli.specs.Pauli.{letter}
@@ -9,21 +11,6 @@ use Rattle.inspect.proofs.inspect_image.Tie as tie
 
 returns : tie.Need-returns
 returns c = no-code (c .before .args .a) _ 8 (c .if1 .taken)
-
-letter-of-requires : tie.Need-letter-of-requires
-letter-of-requires c κs = search needs
-
-image-requires : tie.Need-image-requires
-image-requires c κs = search needs
-
-z-bit-requires : tie.Need-z-bit-requires
-z-bit-requires c κs = search needs
-
-x-bit-requires : tie.Need-x-bit-requires
-x-bit-requires c κs = search needs
-
-number-of-requires : tie.Need-number-of-requires
-number-of-requires c κs = search needs
 
 returns-2 : tie.Need-returns-2
 returns-2 c =
@@ -39,11 +26,5 @@ returns-2 c =
 pub inspect-image-spec : {M : Type 1} → statement M
 inspect-image-spec =
     tie.close
-    (tie.spec
-    returns
-    letter-of-requires
-    image-requires
-    z-bit-requires
-    x-bit-requires
-    number-of-requires
-    returns-2)
+    (tie.spec returns (λ c κs. search needs) (λ c κs. search needs) (λ c κs. search needs) (λ c κs. search needs)
+    (λ c κs. search needs) returns-2)

@@ -1,3 +1,4 @@
+-- `inspect_then` meets its contract: first a, then b; 24 where one of them is not a code.
 use Rattle.inspect.proofs.OfCode.{is-code, no-code}
 use borrow.Author.Needs.{needs}
 use Rattle.inspect.proofs.inspect_then.Statement.{statement}
@@ -11,9 +12,6 @@ returns-2 c =
     is-code (c .before .before .args .a) _ 24 (c .before .if1 .left)
     (no-code (c .before .before .args .b) _ 24 (c .if2 .taken))
 
-then-requires : tie.Need-then-requires
-then-requires c κs = search needs
-
 returns-3 : tie.Need-returns-3
 returns-3 c =
     let a = c .before .before .before .args in
@@ -21,4 +19,4 @@ returns-3 c =
     (is-code (a .b) _ 24 (c .before .if2 .left) (c .then .ensures .0))
 
 pub inspect-then-spec : {M : Type 1} → statement M
-inspect-then-spec = tie.close (tie.spec returns returns-2 then-requires returns-3)
+inspect-then-spec = tie.close (tie.spec returns returns-2 (λ c κs. search needs) returns-3)

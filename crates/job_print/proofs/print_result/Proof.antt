@@ -1,3 +1,4 @@
+-- `print_result` meets its contract: the line of step k.
 use Rattle.job_print.proofs.print_result.Lts as lts
 use Rattle.job_text.proofs.ResultLaws.{length-step, length-three, line-parts, threeFields}
 use Rattle.job_text.specs.Results.{Result}
@@ -11,9 +12,6 @@ use mathlib.Core.List.{_++_}
 use native.Mathlib.Omega.{arith}
 use Rattle.job_print.proofs.print_result.Statement.{statement}
 use Rattle.job_print.proofs.print_result.Tie as tie
-
-put-step-requires : tie.Need-put-step-requires
-put-step-requires c κs = search needs
 
 put-field-requires : tie.Need-put-field-requires
 put-field-requires c κs =
@@ -81,9 +79,6 @@ put-requires c κs =
       start .pre,
     )
 
-same-length : tie.Need-same-length
-same-length c = search needs
-
 returns : tie.Need-returns
 returns c =
     let determined = c .before .before .before .before .before .before in
@@ -108,11 +103,5 @@ returns c =
 pub print-result-spec : {M : Type 1} → statement M
 print-result-spec =
     tie.close
-    (tie.spec
-    put-step-requires
-    put-field-requires
-    put-field-requires-2
-    put-decimal-requires
-    put-requires
-    same-length
-    returns)
+    (tie.spec (λ c κs. search needs) put-field-requires put-field-requires-2 put-decimal-requires put-requires
+    (λ c. search needs) returns)

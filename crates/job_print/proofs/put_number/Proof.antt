@@ -1,3 +1,4 @@
+-- `put_number` meets its contract: a decimal number below 10,000.
 use Prim.Native.Nat.{_+_, _%_}
 use Prim.Native.Nat.{_/_}
 use Rattle.job_print.proofs.put_number.Lts as lts
@@ -12,30 +13,9 @@ use native.Mathlib.Omega.{arith}
 use Rattle.job_print.proofs.put_number.Statement.{statement}
 use Rattle.job_print.proofs.put_number.Tie as tie
 
-cast-put-decimal : tie.Need-cast-put-decimal
-cast-put-decimal c = search needs
-
-put-decimal-requires : tie.Need-put-decimal-requires
-put-decimal-requires c κs = search needs
-
-same-length : tie.Need-same-length
-same-length c = search needs
-
 returns : tie.Need-returns
 returns c = same-print (number-short _ (c .before .before .before .before .if1 .taken))
     (c .before .before .put-decimal .ensures)
-
-cast-put-decimal-2 : tie.Need-cast-put-decimal-2
-cast-put-decimal-2 c = search needs
-
-put-decimal-requires-2 : tie.Need-put-decimal-requires-2
-put-decimal-requires-2 c κs = search needs
-
-cast-put : tie.Need-cast-put
-cast-put c = search needs
-
-add-put : tie.Need-add-put
-add-put c = search needs
 
 put-requires : tie.Need-put-requires
 put-requires c κs =
@@ -48,12 +28,6 @@ put-requires c κs =
       hundreds .put-decimal2 .kept,
       start .pre,
     )
-
-cast-put-2 : tie.Need-cast-put-2
-cast-put-2 c = search needs
-
-add-put-2 : tie.Need-add-put-2
-add-put-2 c = search needs
 
 put-requires-2 : tie.Need-put-requires-2
 put-requires-2 c κs =
@@ -70,9 +44,6 @@ put-requires-2 c κs =
       start .pre,
     )
 
-same-length-2 : tie.Need-same-length-2
-same-length-2 c = search needs
-
 returns-2 : tie.Need-returns-2
 returns-2 c =
     let tens = c .before .before .before .before .before .before in
@@ -88,18 +59,6 @@ returns-2 c =
 pub put-number-spec : {M : Type 1} → statement M
 put-number-spec =
     tie.close
-    (tie.spec
-    cast-put-decimal
-    put-decimal-requires
-    same-length
-    returns
-    cast-put-decimal-2
-    put-decimal-requires-2
-    cast-put
-    add-put
-    put-requires
-    cast-put-2
-    add-put-2
-    put-requires-2
-    same-length-2
-    returns-2)
+    (tie.spec (λ c. search needs) (λ c κs. search needs) (λ c. search needs) returns (λ c. search needs)
+    (λ c κs. search needs) (λ c. search needs) (λ c. search needs) put-requires (λ c. search needs) (λ c. search needs)
+    put-requires-2 (λ c. search needs) returns-2)

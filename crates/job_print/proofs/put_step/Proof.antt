@@ -1,3 +1,4 @@
+-- `put_step` meets its contract: the number of a step and the space behind it.
 use Rattle.job_print.proofs.put_step.Lts as lts
 use Rattle.job_text.proofs.ResultLaws.{length-digits}
 use Rattle.text.proofs.Writing.{and-then}
@@ -5,9 +6,6 @@ use borrow.Author.Needs.{needs}
 use native.Mathlib.Omega.{arith}
 use Rattle.job_print.proofs.put_step.Statement.{statement}
 use Rattle.job_print.proofs.put_step.Tie as tie
-
-put-number-requires : tie.Need-put-number-requires
-put-number-requires c κs = search needs
 
 put-requires : tie.Need-put-requires
 put-requires c κs =
@@ -21,9 +19,6 @@ put-requires c κs =
       start .pre,
     )
 
-same-length : tie.Need-same-length
-same-length c = search needs
-
 returns : tie.Need-returns
 returns c =
     let first = c .before .before .before .before .before .before in
@@ -32,4 +27,4 @@ returns c =
     (c .before .before .put .ensures)
 
 pub put-step-spec : {M : Type 1} → statement M
-put-step-spec = tie.close (tie.spec put-number-requires put-requires same-length returns)
+put-step-spec = tie.close (tie.spec (λ c κs. search needs) put-requires (λ c. search needs) returns)

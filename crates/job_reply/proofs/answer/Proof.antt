@@ -1,3 +1,4 @@
+-- `answer` meets its contract: prints the answer to a job, whose steps stand at the start of the array.
 use mathlib.Core.Path.{refl, sym}
 use borrow.Author.Needs.{needs}
 use Rattle.buffers.proofs.Parts.{part-long}
@@ -5,14 +6,8 @@ use Rattle.job_reply.proofs.Starting.{fresh}
 use Rattle.job_reply.proofs.answer.Statement.{statement}
 use Rattle.job_reply.proofs.answer.Tie as tie
 
-array-borrow-prefix-neighbours : tie.Need-array-borrow-prefix-neighbours
-array-borrow-prefix-neighbours c = search needs
-
 slice-aggregate-print-run : tie.Need-slice-aggregate-print-run
 slice-aggregate-print-run c = sym (part-long _ _ (c .before .before .pre .0) refl)
-
-array-borrow-prefix-codes : tie.Need-array-borrow-prefix-codes
-array-borrow-prefix-codes c = search needs
 
 slice-aggregate-print-run-2 : tie.Need-slice-aggregate-print-run-2
 slice-aggregate-print-run-2 c = sym (part-long _ _ (c .before .before .before .pre .0) refl)
@@ -22,20 +17,8 @@ print-run-requires c κs =
     let S = c .before .before .before .before in
     fresh _ _ _ (S .pre .0) (S .pre .1) (S .pre .2)
 
-same-length : tie.Need-same-length
-same-length c = search needs
-
-returns : tie.Need-returns
-returns c = search needs
-
 pub answer-spec : {M : Type 1} → statement M
 answer-spec =
     tie.close
-    (tie.spec
-    array-borrow-prefix-neighbours
-    slice-aggregate-print-run
-    array-borrow-prefix-codes
-    slice-aggregate-print-run-2
-    print-run-requires
-    same-length
-    returns)
+    (tie.spec (λ c. search needs) slice-aggregate-print-run (λ c. search needs) slice-aggregate-print-run-2
+    print-run-requires (λ c. search needs) (λ c. search needs))

@@ -1,10 +1,8 @@
+-- `print_run` meets its contract: runs the first steps of a job, and prints its answer.
 use borrow.Author.Needs.{needs}
 use Rattle.job_reply.proofs.Starting.{all-printed, all-taken, record-printable}
 use Rattle.job_reply.proofs.print_run.Statement.{statement}
 use Rattle.job_reply.proofs.print_run.Tie as tie
-
-run-steps-requires : tie.Need-run-steps-requires
-run-steps-requires c κs = search needs
 
 print-record-requires : tie.Need-print-record-requires
 print-record-requires c κs =
@@ -13,15 +11,6 @@ print-record-requires c κs =
     let a = S .args in
     let all = all-taken (a .count) (a .steps) (S .pre .few) (S .good .1 .1 .1 .1 .0 .1 .0 .1) in
     record-printable (a .n) _ _ (a .count) _ all _ (S .pre) _ _ _ _ (R .run-steps .ensures)
-
-same-length : tie.Need-same-length
-same-length c = search needs
-
-same-length-2 : tie.Need-same-length-2
-same-length-2 c = search needs
-
-same-length-3 : tie.Need-same-length-3
-same-length-3 c = search needs
 
 returns : tie.Need-returns
 returns c =
@@ -35,10 +24,5 @@ returns c =
 pub print-run-spec : {M : Type 1} → statement M
 print-run-spec =
     tie.close
-    (tie.spec
-    run-steps-requires
-    print-record-requires
-    same-length
-    same-length-2
-    same-length-3
+    (tie.spec (λ c κs. search needs) print-record-requires (λ c. search needs) (λ c. search needs) (λ c. search needs)
     returns)

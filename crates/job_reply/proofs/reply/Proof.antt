@@ -1,3 +1,4 @@
+-- `reply` meets its contract: prints the answer to the text that was scanned, whatever text it was.
 use mathlib.Core.Path.{subst, sym, _∙_}
 use Prim.Native.Nat.{_<_}
 use native.Mathlib.Omega.{arith}
@@ -7,25 +8,16 @@ use Rattle.job_reply.proofs.Responses.{job-responds, refusal-responds}
 use Rattle.job_reply.proofs.reply.Statement.{statement}
 use Rattle.job_reply.proofs.reply.Tie as tie
 
-judge-requires : tie.Need-judge-requires
-judge-requires c κs = search needs
-
 print-refusal-requires : tie.Need-print-refusal-requires
 print-refusal-requires c κs =
     let J = c .before .before in
     let S = J .before .before .before in
     (subst (λ k. k < 100) (sym (J .judge .ensures)) (verdict-small _), omega (arith, S .pre))
 
-same-length : tie.Need-same-length
-same-length c = search needs
-
 returns : tie.Need-returns
 returns c =
     let I = c .before .before .before .before in
     refusal-responds _ _ _ _ _ (I .before .judge .ensures) (I .if1 .taken) (c .before .before .print-refusal .ensures)
-
-cast-answer : tie.Need-cast-answer
-cast-answer c = search needs
 
 answer-requires : tie.Need-answer-requires
 answer-requires c κs =
@@ -33,9 +25,6 @@ answer-requires c κs =
     let J = E .before in
     let small = accepted-small _ (sym (J .judge .ensures) ∙ E .if1 .left) in
     (small .0, small .1, J .before .before .before .pre)
-
-same-length-2 : tie.Need-same-length-2
-same-length-2 c = search needs
 
 returns-2 : tie.Need-returns-2
 returns-2 c =
@@ -45,12 +34,5 @@ returns-2 c =
 pub reply-spec : {M : Type 1} → statement M
 reply-spec =
     tie.close
-    (tie.spec
-    judge-requires
-    print-refusal-requires
-    same-length
-    returns
-    cast-answer
-    answer-requires
-    same-length-2
-    returns-2)
+    (tie.spec (λ c κs. search needs) print-refusal-requires (λ c. search needs) returns (λ c. search needs)
+    answer-requires (λ c. search needs) returns-2)

@@ -1,5 +1,6 @@
+-- `head_step` meets its contract: at byte k of the head.
 use Rattle.job_scan.proofs.head_step.Lts as lts
-use Rattle.job_text.specs.Scan.{headStep}
+use Rattle.job_text.specs.internal.Scan.{headStep}
 use borrow.Author.Needs.{needs}
 use borrow.Author.Tests.{lt-ltb, le-ltb, eq-eqb, ne-eqb}
 use Rattle.job_scan.proofs.head_step.Statement.{statement}
@@ -8,9 +9,6 @@ use Rattle.job_scan.proofs.head_step.Tie as tie
 returns : tie.Need-returns
 unfolding headStep
 returns c = simp (le-ltb _ _ (c .if1 .taken))
-
-array-read-if2 : tie.Need-array-read-if2
-array-read-if2 c = search needs
 
 returns-2 : tie.Need-returns-2
 unfolding headStep
@@ -33,9 +31,6 @@ returns-4 c = simp (
   eq-eqb _ _ (c .if4 .taken),
 )
 
-add-t9 : tie.Need-add-t9
-add-t9 c = search needs
-
 returns-5 : tie.Need-returns-5
 unfolding headStep
 returns-5 c = simp (
@@ -47,4 +42,4 @@ returns-5 c = simp (
 
 pub head-step-spec : {M : Type 1} → statement M
 head-step-spec =
-    tie.close (tie.spec returns array-read-if2 returns-2 returns-3 returns-4 add-t9 returns-5)
+    tie.close (tie.spec returns (λ c. search needs) returns-2 returns-3 returns-4 (λ c. search needs) returns-5)

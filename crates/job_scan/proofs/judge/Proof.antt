@@ -1,13 +1,11 @@
+-- `judge` meets its contract: the text ends: its number, 0 where it is accepted.
 use Rattle.buffers.specs.Refusals.{firstFitting}
 use Rattle.job_scan.proofs.judge.Lts as lts
-use Rattle.job_text.specs.Scan.{verdict}
+use Rattle.job_text.specs.internal.Scan.{verdict}
 use borrow.Author.Needs.{needs}
 use borrow.Author.Tests.{lt-ltb, le-ltb}
 use Rattle.job_scan.proofs.judge.Statement.{statement}
 use Rattle.job_scan.proofs.judge.Tie as tie
-
-at-line-requires : tie.Need-at-line-requires
-at-line-requires c κs = search needs
 
 returns : tie.Need-returns
 unfolding verdict firstFitting
@@ -40,4 +38,4 @@ returns-4 c = simp (
 )
 
 pub judge-spec : {M : Type 1} → statement M
-judge-spec = tie.close (tie.spec at-line-requires returns returns-2 returns-3 returns-4)
+judge-spec = tie.close (tie.spec (λ c κs. search needs) returns returns-2 returns-3 returns-4)

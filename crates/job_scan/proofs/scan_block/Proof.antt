@@ -1,3 +1,5 @@
+-- `scan_block` meets its contract: the reading after a block more: the steps that end in it, if they are of the first
+-- 4,096, are kept.
 use borrow.Author.Needs.{needs}
 use borrow.Author.Tests.{ltb-true}
 use lib.Dec.{ltb}
@@ -9,13 +11,13 @@ use mathlib.Core.Path.{_≡_, refl, _∙_, ap}
 use native.Mathlib.Omega.{arith}
 use Prim.Native.Nat.{_<_, _≤_, _-_, zero-le}
 use Rattle.job_text.proofs.Feeding.{turn-kept, turn-stored}
-use Rattle.job_text.specs.Scan.{fed, reading}
+use Rattle.job_text.specs.internal.Scan.{fed, asReading}
 use Rattle.job_scan.proofs.scan_block.Statement.{statement}
 use Rattle.job_scan.proofs.scan_block.Tie as tie
 
 abbrev Inv-loop : tie.InvT-loop
 Inv-loop block scan₀ steps₀ i₀ scan steps i = (i ≤ length block)
-    × (reading scan steps ≡ fed (reading scan₀ steps₀) (take i block))
+    × (asReading scan steps ≡ fed (asReading scan₀ steps₀) (take i block))
 
 abbrev μ-loop : tie.MeasureT-loop
 μ-loop block scan₀ steps₀ i₀ scan steps i = length block - i
@@ -23,12 +25,6 @@ abbrev μ-loop : tie.MeasureT-loop
 loop-holds : tie.Need-loop-holds Inv-loop μ-loop
 unfolding fed
 loop-holds c = (zero-le, refl)
-
-shared-slice-read-scan-byte : tie.Need-shared-slice-read-scan-byte Inv-loop μ-loop
-shared-slice-read-scan-byte c = search needs
-
-scan-byte-requires : tie.Need-scan-byte-requires Inv-loop μ-loop
-scan-byte-requires c κs = search needs
 
 -- a step is stored only among the first 4,096
 step-below : (c : tie.Then1 Inv-loop μ-loop) → c .before .before .before .before .loop .scan .count < 4096
@@ -43,24 +39,18 @@ mul-steps c = omega (arith, step-below c)
 array-set-from-steps : tie.Need-array-set-from-steps Inv-loop μ-loop
 array-set-from-steps c = step-below c
 
-add-i : tie.Need-add-i Inv-loop μ-loop
-add-i c = search needs
-
-loop-less : tie.Need-loop-less Inv-loop μ-loop
-loop-less c = search needs
-
 loop-again : tie.Need-loop-again Inv-loop μ-loop
 loop-again c =
     let next = c .before .scan-byte .result in
     let l = c .before .before .before .before .loop in
-    let sofar = reading (l .scan) (l .steps) in
+    let sofar = asReading (l .scan) (l .steps) in
     let inside = c .before .before .before .loop-test .taken in
     let stepped = c .before .scan-byte .ensures in (
       search needs,
       ⊎-elim
-          (λ w. (λ k. reading next (w .1 k))
+          (λ w. (λ k. asReading next (w .1 k))
           ∙ turn-stored _ sofar _ (l .i) inside (l .inv .1) _ stepped (w .0 .taken))
-          (λ w. (λ k. reading next (w .1 k))
+          (λ w. (λ k. asReading next (w .1 k))
           ∙ turn-kept _ sofar _ (l .i) inside (l .inv .1) _ stepped (w .0 .left))
           (c .if1 .came),
     )
@@ -71,15 +61,5 @@ returns c = c .before .loop .inv .1 ∙ ap (fed _) (take-all _ _ (c .loop-test .
 pub scan-block-spec : {M : Type 1} → statement M
 scan-block-spec =
     tie.close
-    (tie.spec
-    Inv-loop
-    μ-loop
-    loop-holds
-    shared-slice-read-scan-byte
-    scan-byte-requires
-    mul-steps
-    array-set-from-steps
-    add-i
-    loop-less
-    loop-again
-    returns)
+    (tie.spec Inv-loop μ-loop loop-holds (λ c. search needs) (λ c κs. search needs) mul-steps array-set-from-steps
+    (λ c. search needs) (λ c. search needs) loop-again returns)

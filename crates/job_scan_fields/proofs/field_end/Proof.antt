@@ -1,6 +1,7 @@
+-- `field_end` meets its contract: a field has ended.
 use Prim.Native.Nat.{ℕ}
 use Rattle.job_scan_fields.proofs.field_end.Lts as lts
-use Rattle.job_text.specs.Scan.{ended}
+use Rattle.job_text.specs.internal.Scan.{ended}
 use Rattle.job_text.specs.declared.scan.Place.the-variants.{Word}
 use Rattle.job_text.specs.declared.scan.Scan.{Scan}
 use borrow.Author.Needs.{needs}
@@ -15,18 +16,6 @@ counted s k =
 
 enum-told : tie.Need-enum-told
 enum-told c = search needs
-
-enum-told-2 : tie.Need-enum-told-2
-enum-told-2 c = search needs
-
-enum-told-3 : tie.Need-enum-told-3
-enum-told-3 c = search needs
-
-enum-told-4 : tie.Need-enum-told-4
-enum-told-4 c = search needs
-
-one-more-requires : tie.Need-one-more-requires
-one-more-requires c κs = search needs
 
 returns : tie.Need-returns
 returns c = sym (ap (λ f. ended f (c .before .before .args .s)) (c .enum-told .given .1))
@@ -46,13 +35,5 @@ returns-4 c =
 pub field-end-spec : {M : Type 1} → statement M
 field-end-spec =
     tie.close
-    (tie.spec
-    enum-told
-    enum-told-2
-    enum-told-3
-    enum-told-4
-    one-more-requires
-    returns
-    returns-2
-    returns-3
-    returns-4)
+    (tie.spec enum-told (λ c. search needs) (λ c. search needs) (λ c. search needs) (λ c κs. search needs) returns
+    returns-2 returns-3 returns-4)

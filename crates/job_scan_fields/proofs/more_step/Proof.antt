@@ -1,6 +1,7 @@
+-- `more_step` meets its contract: after a digit of a field.
 use Prim.Native.Nat.{_<_}
 use Rattle.job_scan_fields.proofs.more_step.Lts as lts
-use Rattle.job_text.specs.Scan.{moreStep}
+use Rattle.job_text.specs.internal.Scan.{moreStep}
 use borrow.Author.Needs.{needs}
 use borrow.Author.Tests.{lt-ltb, le-ltb, ltb-true, eq-eqb, ne-eqb}
 use lib.Dec.{ltb}
@@ -9,9 +10,6 @@ use mathlib.Core.Path.{sym, _∙_}
 use native.Mathlib.Omega.{arith}
 use Rattle.job_scan_fields.proofs.more_step.Statement.{statement}
 use Rattle.job_scan_fields.proofs.more_step.Tie as tie
-
-digit-value-requires : tie.Need-digit-value-requires
-digit-value-requires c κs = search needs
 
 -- the number has fewer than three digits
 short : (c : tie.Then2) → c .before .before .before .args .s .number < 100
@@ -22,14 +20,8 @@ short c =
 mul-with-number : tie.Need-mul-with-number
 mul-with-number c = omega (arith, short c)
 
-cast-with-number : tie.Need-cast-with-number
-cast-with-number c = search needs
-
 add-with-number : tie.Need-add-with-number
 add-with-number c = omega (arith, short c, c .before .if1 .taken)
-
-with-number-requires : tie.Need-with-number-requires
-with-number-requires c κs = search needs
 
 returns : tie.Need-returns
 unfolding moreStep
@@ -39,9 +31,6 @@ returns c = simp (
   c .before .if2 .taken,
 ) (c .with-number .ensures)
 
-with-number-requires-2 : tie.Need-with-number-requires-2
-with-number-requires-2 c κs = search needs
-
 returns-2 : tie.Need-returns-2
 unfolding moreStep
 returns-2 c = simp (
@@ -50,12 +39,6 @@ returns-2 c = simp (
   c .before .if2 .left,
 ) (c .with-number2 .ensures)
 
-separator-of-requires : tie.Need-separator-of-requires
-separator-of-requires c κs = search needs
-
-field-end-requires : tie.Need-field-end-requires
-field-end-requires c κs = search needs
-
 returns-3 : tie.Need-returns-3
 unfolding moreStep
 returns-3 c = simp (
@@ -63,9 +46,6 @@ returns-3 c = simp (
   le-ltb _ _ (c .before .before .before .if1 .left),
   eq-eqb _ _ (c .before .if3 .taken ∙ c .before .before .separator-of .ensures),
 ) (c .field-end .ensures)
-
-with-number-requires-3 : tie.Need-with-number-requires-3
-with-number-requires-3 c κs = search needs
 
 returns-4 : tie.Need-returns-4
 unfolding moreStep
@@ -78,17 +58,6 @@ returns-4 c = simp (
 pub more-step-spec : {M : Type 1} → statement M
 more-step-spec =
     tie.close
-    (tie.spec
-    digit-value-requires
-    mul-with-number
-    cast-with-number
-    add-with-number
-    with-number-requires
-    returns
-    with-number-requires-2
-    returns-2
-    separator-of-requires
-    field-end-requires
-    returns-3
-    with-number-requires-3
+    (tie.spec (λ c κs. search needs) mul-with-number (λ c. search needs) add-with-number (λ c κs. search needs) returns
+    (λ c κs. search needs) returns-2 (λ c κs. search needs) (λ c κs. search needs) returns-3 (λ c κs. search needs)
     returns-4)

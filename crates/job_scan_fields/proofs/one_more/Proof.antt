@@ -1,12 +1,10 @@
+-- `one_more` meets its contract.
 use Rattle.job_scan_fields.proofs.one_more.Lts as lts
-use Rattle.job_text.specs.Scan.{oneMore}
+use Rattle.job_text.specs.internal.Scan.{oneMore}
 use borrow.Author.Needs.{needs}
 use borrow.Author.Tests.{lt-ltb, le-ltb}
 use Rattle.job_scan_fields.proofs.one_more.Statement.{statement}
 use Rattle.job_scan_fields.proofs.one_more.Tie as tie
-
-add-result : tie.Need-add-result
-add-result c = search needs
 
 returns : tie.Need-returns
 unfolding oneMore
@@ -17,4 +15,4 @@ unfolding oneMore
 returns-2 c = simp (le-ltb _ _ (c .if1 .left))
 
 pub one-more-spec : {M : Type 1} → statement M
-one-more-spec = tie.close (tie.spec add-result returns returns-2)
+one-more-spec = tie.close (tie.spec (λ c. search needs) returns returns-2)

@@ -1,19 +1,14 @@
+-- `op_for` meets its contract: the operation whose letter k the byte b can be.
 use Rattle.job_scan_words.proofs.op_for.Lts as lts
-use Rattle.job_text.specs.Scan.{opFor}
+use Rattle.job_text.specs.internal.Scan.{opFor}
 use borrow.Author.Needs.{needs}
 use borrow.Author.Tests.{eq-eqb, ne-eqb}
 use Rattle.job_scan_words.proofs.op_for.Statement.{statement}
 use Rattle.job_scan_words.proofs.op_for.Tie as tie
 
-first-op-requires : tie.Need-first-op-requires
-first-op-requires c κs = search needs
-
 returns : tie.Need-returns
 unfolding opFor
 returns c = simp (eq-eqb _ _ (c .before .if1 .taken)) (c .first-op .ensures)
-
-after-o-requires : tie.Need-after-o-requires
-after-o-requires c κs = search needs
 
 returns-2 : tie.Need-returns-2
 unfolding opFor
@@ -24,4 +19,4 @@ unfolding opFor
 returns-3 c = simp (ne-eqb _ _ (c .before .if1 .left), c .if2 .left)
 
 pub op-for-spec : {M : Type 1} → statement M
-op-for-spec = tie.close (tie.spec first-op-requires returns after-o-requires returns-2 returns-3)
+op-for-spec = tie.close (tie.spec (λ c κs. search needs) returns (λ c κs. search needs) returns-2 returns-3)

@@ -1,6 +1,7 @@
+-- `word_step` meets its contract: after k letters of the operation.
 use Prim.Native.Nat.{ℕ, _+_, _<_}
 use Rattle.job_scan_words.proofs.word_step.Lts as lts
-use Rattle.job_text.specs.Scan.{letters, moved, opFor, withOp, wordStep}
+use Rattle.job_text.specs.internal.Scan.{letters, moved, opFor, withOp, wordStep}
 use Rattle.job_text.specs.declared.scan.Field.the-variants.{A}
 use Rattle.job_text.specs.declared.scan.Place.the-variants.{Broken, First, Word}
 use Rattle.job_text.specs.declared.scan.Scan.{Scan}
@@ -35,24 +36,9 @@ module _ (k : ℕ) (s : Scan) (b : ℕ) (o : Op) (word : List ℕ) (op : o ≡ o
       ap (λ p. withOp s p (Word (k + 1))) op
       ∙ simp (lt-ltb k 11 inside, eq-eqb b (getD (letters (opFor k (s .op) b)) k 0) (on ∙ letter), ne-eqb b 32 more)
 
-with-op-requires : tie.Need-with-op-requires
-with-op-requires c κs = search needs
-
 returns : tie.Need-returns
 unfolding wordStep
 returns c = simp (le-ltb _ _ (c .before .if1 .taken)) (c .with-op .ensures)
-
-op-for-requires : tie.Need-op-for-requires
-op-for-requires c κs = search needs
-
-letters-of-requires : tie.Need-letters-of-requires
-letters-of-requires c κs = search needs
-
-array-read-if2 : tie.Need-array-read-if2
-array-read-if2 c = search needs
-
-with-op-requires-2 : tie.Need-with-op-requires-2
-with-op-requires-2 c κs = search needs
 
 returns-2 : tie.Need-returns-2
 returns-2 c =
@@ -61,21 +47,12 @@ returns-2 c =
     ∙ other-letter _ (l .before .before .before .args .s) _ _ _ (l .before .op-for .ensures) (l .letters-of .ensures)
     (l .before .before .if1 .left) (c .before .if2 .taken)
 
-with-op-requires-3 : tie.Need-with-op-requires-3
-with-op-requires-3 c κs = search needs
-
 returns-3 : tie.Need-returns-3
 returns-3 c =
     let l = c .before .before .before in
     c .with-op3 .ensures
     ∙ last-letter _ (l .before .before .before .args .s) _ _ _ (l .before .op-for .ensures) (l .letters-of .ensures)
     (l .before .before .if1 .left) (c .before .before .if2 .left) (c .before .if3 .taken)
-
-add-t16 : tie.Need-add-t16
-add-t16 c = search needs
-
-with-op-requires-4 : tie.Need-with-op-requires-4
-with-op-requires-4 c κs = search needs
 
 returns-4 : tie.Need-returns-4
 returns-4 c =
@@ -87,16 +64,6 @@ returns-4 c =
 pub word-step-spec : {M : Type 1} → statement M
 word-step-spec =
     tie.close
-    (tie.spec
-    with-op-requires
-    returns
-    op-for-requires
-    letters-of-requires
-    array-read-if2
-    with-op-requires-2
-    returns-2
-    with-op-requires-3
-    returns-3
-    add-t16
-    with-op-requires-4
+    (tie.spec (λ c κs. search needs) returns (λ c κs. search needs) (λ c κs. search needs) (λ c. search needs)
+    (λ c κs. search needs) returns-2 (λ c κs. search needs) returns-3 (λ c. search needs) (λ c κs. search needs)
     returns-4)

@@ -1,3 +1,4 @@
+-- `run_step` meets its contract: one step: its refusal, outcome and determined, and the record as it leaves it.
 use borrow.Author.Needs.{needs}
 use Rattle.record.specs.Lent.{LentRecord}
 use Rattle.jobs_run.proofs.Running.{
@@ -12,21 +13,6 @@ use Rattle.jobs_run.proofs.Running.{
 use Rattle.jobs_run.proofs.run_step.Statement.{statement}
 use Rattle.jobs_run.proofs.run_step.Tie as tie
 
-unused-set-requires : tie.Need-unused-set-requires
-unused-set-requires c κs = search needs
-
-wrong-value-requires : tie.Need-wrong-value-requires
-wrong-value-requires c κs = search needs
-
-known-refusal-requires : tie.Need-known-refusal-requires
-known-refusal-requires c κs = search needs
-
-same-length : tie.Need-same-length
-same-length c = search needs
-
-same-length-2 : tie.Need-same-length-2
-same-length-2 c = search needs
-
 returns : tie.Need-returns
 returns c =
     let I = c .before .before .before in
@@ -35,9 +21,6 @@ returns c =
     let l : LentRecord = record { n = a .n; neighbours = a .neighbours .now; codes = a .codes .now } in
     wrong-run l (a .s) (wrong-by l (a .s) (W .before .unused-set .ensures) (W .wrong-value .ensures) (I .if1 .taken))
     _ (c .known-refusal .ensures)
-
-cast-a : tie.Need-cast-a
-cast-a c = search needs
 
 enum-told : tie.Need-enum-told
 enum-told c = search needs
@@ -52,12 +35,6 @@ run-measurement-requires c κs =
     let e = wrong-by l (a .s) (W .before .unused-set .ensures) (W .wrong-value .ensures) (E .if1 .left) in
     (value-small l (a .s) e (T .enum-told .given .1), W .before .before .before .before .pre)
 
-same-length-3 : tie.Need-same-length-3
-same-length-3 c = search needs
-
-same-length-4 : tie.Need-same-length-4
-same-length-4 c = search needs
-
 returns-2 : tie.Need-returns-2
 returns-2 c =
     let C = c .before .before .before .before in
@@ -69,9 +46,6 @@ returns-2 c =
     let e = wrong-by l (a .s) (W .before .unused-set .ensures) (W .wrong-value .ensures) (E .if1 .left) in
     measured-run l (a .s) e (T .enum-told .given .1) _ _ _ (C .run-measurement .ensures)
 
-cast-rewrite : tie.Need-cast-rewrite
-cast-rewrite c = search needs
-
 rewrite-requires : tie.Need-rewrite-requires
 rewrite-requires c κs =
     let M = c .before .before .before in
@@ -81,12 +55,6 @@ rewrite-requires c κs =
     let l : LentRecord = record { n = a .n; neighbours = a .neighbours .now; codes = a .codes .now } in
     let e = wrong-by l (a .s) (W .before .unused-set .ensures) (W .wrong-value .ensures) (E .if1 .left) in
     (rewriting l (a .s) e (M .match .keys2), W .before .before .before .before .pre)
-
-same-length-5 : tie.Need-same-length-5
-same-length-5 c = search needs
-
-same-length-6 : tie.Need-same-length-6
-same-length-6 c = search needs
 
 returns-3 : tie.Need-returns-3
 returns-3 c =
@@ -102,21 +70,7 @@ returns-3 c =
 pub run-step-spec : {M : Type 1} → statement M
 run-step-spec =
     tie.close
-    (tie.spec
-    unused-set-requires
-    wrong-value-requires
-    known-refusal-requires
-    same-length
-    same-length-2
-    returns
-    cast-a
-    enum-told
-    run-measurement-requires
-    same-length-3
-    same-length-4
-    returns-2
-    cast-rewrite
-    rewrite-requires
-    same-length-5
-    same-length-6
+    (tie.spec (λ c κs. search needs) (λ c κs. search needs) (λ c κs. search needs) (λ c. search needs)
+    (λ c. search needs) returns (λ c. search needs) enum-told run-measurement-requires (λ c. search needs)
+    (λ c. search needs) returns-2 (λ c. search needs) rewrite-requires (λ c. search needs) (λ c. search needs)
     returns-3)

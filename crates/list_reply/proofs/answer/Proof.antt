@@ -1,3 +1,4 @@
+-- `answer` meets its contract: prints the answer to the list of n generators at the start of the buffers.
 use mathlib.Core.Path.{refl, sym}
 use borrow.Author.Needs.{needs}
 use Rattle.list_reply.proofs.ListPlaces.{lent-places, places-long, places-printed}
@@ -5,41 +6,23 @@ use Rattle.text.proofs.Writing.{same-print}
 use Rattle.list_reply.proofs.answer.Statement.{statement}
 use Rattle.list_reply.proofs.answer.Tie as tie
 
-places-requires : tie.Need-places-requires
-places-requires c κs = search needs
-
-array-share-prefix-signs : tie.Need-array-share-prefix-signs
-array-share-prefix-signs c = search needs
-
 slice-aggregate-print-reduced : tie.Need-slice-aggregate-print-reduced
 slice-aggregate-print-reduced c =
     sym (places-long _ _ (c .before .places .ensures) _ (c .before .before .before .good .1 .0 .1 .0 .1))
-
-array-share-prefix-z : tie.Need-array-share-prefix-z
-array-share-prefix-z c = search needs
 
 slice-aggregate-print-reduced-2 : tie.Need-slice-aggregate-print-reduced-2
 slice-aggregate-print-reduced-2 c =
     sym (places-long _ _ (c .before .before .places .ensures) _
     (c .before .before .before .before .good .1 .1 .0 .1 .0 .1))
 
-array-share-prefix-x : tie.Need-array-share-prefix-x
-array-share-prefix-x c = search needs
-
 slice-aggregate-print-reduced-3 : tie.Need-slice-aggregate-print-reduced-3
 slice-aggregate-print-reduced-3 c =
     sym (places-long _ _ (c .before .before .before .places .ensures) _
     (c .before .before .before .before .before .good .1 .1 .1 .0 .1 .0 .1))
 
-array-borrow-prefix-neighbours : tie.Need-array-borrow-prefix-neighbours
-array-borrow-prefix-neighbours c = search needs
-
 slice-aggregate-print-reduced-4 : tie.Need-slice-aggregate-print-reduced-4
 slice-aggregate-print-reduced-4 c =
     sym (places-long _ _ (c .before .before .before .before .places .ensures) _ refl)
-
-array-borrow-prefix-codes : tie.Need-array-borrow-prefix-codes
-array-borrow-prefix-codes c = search needs
 
 slice-aggregate-print-reduced-5 : tie.Need-slice-aggregate-print-reduced-5
 slice-aggregate-print-reduced-5 c =
@@ -50,9 +33,6 @@ print-reduced-requires c κs =
     lent-places _ _ (c .before .before .before .before .before .before .places .ensures) _ _ _ refl refl
     (c .before .before .before .before .before .before .before .before .pre)
 
-same-length : tie.Need-same-length
-same-length c = search needs
-
 returns : tie.Need-returns
 returns c = same-print
     (places-printed _ _
@@ -62,18 +42,7 @@ returns c = same-print
 pub answer-spec : {M : Type 1} → statement M
 answer-spec =
     tie.close
-    (tie.spec
-    places-requires
-    array-share-prefix-signs
-    slice-aggregate-print-reduced
-    array-share-prefix-z
-    slice-aggregate-print-reduced-2
-    array-share-prefix-x
-    slice-aggregate-print-reduced-3
-    array-borrow-prefix-neighbours
-    slice-aggregate-print-reduced-4
-    array-borrow-prefix-codes
-    slice-aggregate-print-reduced-5
-    print-reduced-requires
-    same-length
-    returns)
+    (tie.spec (λ c κs. search needs) (λ c. search needs) slice-aggregate-print-reduced (λ c. search needs)
+    slice-aggregate-print-reduced-2 (λ c. search needs) slice-aggregate-print-reduced-3 (λ c. search needs)
+    slice-aggregate-print-reduced-4 (λ c. search needs) slice-aggregate-print-reduced-5 print-reduced-requires
+    (λ c. search needs) returns)

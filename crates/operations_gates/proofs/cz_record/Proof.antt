@@ -1,10 +1,8 @@
+-- `cz_record` meets its contract: CZ on a and b, and the reduced record.
 use borrow.Author.Needs.{needs}
 use Rattle.operations_gates.proofs.GatedBuffers.{cz-answered, reduced-here, reduced-place}
 use Rattle.operations_gates.proofs.cz_record.Statement.{statement}
 use Rattle.operations_gates.proofs.cz_record.Tie as tie
-
-normalise-requires : tie.Need-normalise-requires
-normalise-requires c κs = search needs
 
 cz-reduced-requires : tie.Need-cz-reduced-requires
 cz-reduced-requires c κs =
@@ -22,12 +20,6 @@ cz-reduced-requires c κs =
       ),
     )
 
-same-length : tie.Need-same-length
-same-length c = search needs
-
-same-length-2 : tie.Need-same-length-2
-same-length-2 c = search needs
-
 returns : tie.Need-returns
 returns c =
     let at-cz = c .before .before .before .before in
@@ -38,4 +30,4 @@ returns c =
 
 pub cz-record-spec : {M : Type 1} → statement M
 cz-record-spec =
-    tie.close (tie.spec normalise-requires cz-reduced-requires same-length same-length-2 returns)
+    tie.close (tie.spec (λ c κs. search needs) cz-reduced-requires (λ c. search needs) (λ c. search needs) returns)

@@ -1,3 +1,4 @@
+-- `gate_record` meets its contract: Gate: code k after the code held at q, and the reduced record.
 use borrow.Author.Needs.{needs}
 use Rattle.operations.proofs.UnrefusedRecords.{unrefused-codes, unrefused-place}
 use Rattle.operations_gates.proofs.GatedBuffers.{gated-reduced, gated-unrefused}
@@ -16,12 +17,6 @@ normalise-requires c κs =
     let a = begun .args in
     gated-unrefused _ _ (begun .pre .0) (a .q) (begun .pre .1 .0) (a .k) _ (at-gate .gate-code .ensures)
 
-same-length : tie.Need-same-length
-same-length c = search needs
-
-same-length-2 : tie.Need-same-length-2
-same-length-2 c = search needs
-
 returns : tie.Need-returns
 returns c =
     let at-normalise = c .before .before .before .before in
@@ -33,4 +28,4 @@ returns c =
 
 pub gate-record-spec : {M : Type 1} → statement M
 gate-record-spec =
-    tie.close (tie.spec gate-code-requires normalise-requires same-length same-length-2 returns)
+    tie.close (tie.spec gate-code-requires normalise-requires (λ c. search needs) (λ c. search needs) returns)

@@ -1,3 +1,4 @@
+-- `measure_group` meets its contract: the group after a measurement of l at q: the same where it is determined.
 use mathlib.Core.Path.{sym, _∙_}
 use borrow.Author.Needs.{needs}
 use Rattle.operations_measurements.proofs.MeasuredGroups.{measured-determined}
@@ -18,15 +19,6 @@ measure-open-requires c κs =
     let start = branch .before .before .before .pre in
     (start .0, (sym (start .1 .0) ∙ branch .if1 .left, start .1 .1))
 
-same-length : tie.Need-same-length
-same-length c = search needs
-
-same-length-2 : tie.Need-same-length-2
-same-length-2 c = search needs
-
-returns-2 : tie.Need-returns-2
-returns-2 c = search needs
-
 pub measure-group-spec : {M : Type 1} → statement M
 measure-group-spec =
-    tie.close (tie.spec returns measure-open-requires same-length same-length-2 returns-2)
+    tie.close (tie.spec returns measure-open-requires (λ c. search needs) (λ c. search needs) (λ c. search needs))

@@ -1,12 +1,14 @@
+-- `measure_open` meets its contract: the group after a measurement of l at q that is not determined: the code at q is
+-- turned so that l stands for Z of the graph, and the vertex is isolated.
 use mathlib.Core.Path.{refl}
 use borrow.Author.Needs.{needs}
 use Rattle.operations.proofs.UnrefusedRecords.{unrefused-place}
-use Rattle.operations_measurements.proofs.MeasuredGroups.{faced-below, measured-open, open-neighbour}
+use Rattle.operations_measurements.proofs.MeasuredGroups.{brought-below, measured-open, open-neighbour}
 use Rattle.operations_measurements.proofs.measure_open.Statement.{statement}
 use Rattle.operations_measurements.proofs.measure_open.Tie as tie
 
-face-z-requires : tie.Need-face-z-requires
-face-z-requires c κs =
+bring-to-z-requires : tie.Need-bring-to-z-requires
+bring-to-z-requires c κs =
     let begun = c .before .before .before .before in
     let start = begun .pre in (
       start .0,
@@ -18,35 +20,29 @@ face-z-requires c κs =
 
 slice-read-minus : tie.Need-slice-read-minus
 slice-read-minus c =
-    let at-face = c .before .before .before .before .before in
-    let begun = at-face .before .before .before .before .before in
-    let F = at-face .face-z .ensures in
+    let at-clear = c .before .before .before .before .before in
+    let begun = at-clear .before .before .before .before .before in
+    let F = at-clear .bring-to-z .ensures in
     unrefused-place _ _ (F .kept .unrefused) _
-    (faced-below _ _ (begun .pre .0 .0) (begun .args .q) (begun .pre .0 .1) (begun .args .l) _ _ F)
+    (brought-below _ _ (begun .pre .0 .0) (begun .args .q) (begun .pre .0 .1) (begun .args .l) _ _ F)
 
-cut-off-requires : tie.Need-cut-off-requires
-cut-off-requires c κs =
-    let at-face = c .before .before .before .before .before .before .before in
-    let begun = at-face .before .before .before .before .before in
-    let F = at-face .face-z .ensures in
-    (F .kept .unrefused, faced-below _ _ (begun .pre .0 .0) (begun .args .q) (begun .pre .0 .1) (begun .args .l) _ _ F)
-
-same-length : tie.Need-same-length
-same-length c = search needs
-
-same-length-2 : tie.Need-same-length-2
-same-length-2 c = search needs
+isolate-requires : tie.Need-isolate-requires
+isolate-requires c κs =
+    let at-clear = c .before .before .before .before .before .before .before in
+    let begun = at-clear .before .before .before .before .before in
+    let F = at-clear .bring-to-z .ensures in
+    (F .kept .unrefused, brought-below _ _ (begun .pre .0 .0) (begun .args .q) (begun .pre .0 .1) (begun .args .l) _ _ F)
 
 returns : tie.Need-returns
 returns c =
-    let at-cut = c .before .before .before .before in
-    let at-face = at-cut .before .before .before .before .before .before .before .before in
-    let begun = at-face .before .before .before .before .before in
+    let at-isolate = c .before .before .before .before in
+    let at-clear = at-isolate .before .before .before .before .before .before .before .before in
+    let begun = at-clear .before .before .before .before .before in
     let start = begun .pre in
-    measured-open _ _ (start .0 .0) (begun .args .q) (start .0 .1) (begun .args .l) _ _ (at-face .face-z .ensures)
-    (begun .args .bit) _ _ _ refl (at-cut .cut-off .ensures)
+    measured-open _ _ (start .0 .0) (begun .args .q) (start .0 .1) (begun .args .l) _ _ (at-clear .bring-to-z .ensures)
+    (begun .args .bit) _ _ _ refl (at-isolate .isolate .ensures)
 
 pub measure-open-spec : {M : Type 1} → statement M
 measure-open-spec =
     tie.close
-    (tie.spec face-z-requires slice-read-minus cut-off-requires same-length same-length-2 returns)
+    (tie.spec bring-to-z-requires slice-read-minus isolate-requires (λ c. search needs) (λ c. search needs) returns)

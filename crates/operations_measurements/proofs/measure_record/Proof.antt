@@ -1,14 +1,9 @@
+-- `measure_record` meets its contract: measures a Pauli at q, and leaves the reduced record of the group afterwards.
 use borrow.Author.Needs.{needs}
 use Rattle.operations_measurements.proofs.MeasuredBuffers.{determined-as-read, measured-as-read}
 use Rattle.operations_measurements.proofs.MeasuredGroups.{named-acts}
 use Rattle.operations_measurements.proofs.measure_record.Statement.{statement}
 use Rattle.operations_measurements.proofs.measure_record.Tie as tie
-
-read-off-requires : tie.Need-read-off-requires
-read-off-requires c κs = search needs
-
-letter-named-requires : tie.Need-letter-named-requires
-letter-named-requires c κs = search needs
 
 measure-group-requires : tie.Need-measure-group-requires
 measure-group-requires c κs =
@@ -26,15 +21,6 @@ measure-group-requires c κs =
 normalise-requires : tie.Need-normalise-requires
 normalise-requires c κs = c .before .before .before .before .before .before .measure-group .ensures .unrefused
 
-outcome-of-requires : tie.Need-outcome-of-requires
-outcome-of-requires c κs = search needs
-
-same-length : tie.Need-same-length
-same-length c = search needs
-
-same-length-2 : tie.Need-same-length-2
-same-length-2 c = search needs
-
 returns : tie.Need-returns
 returns c =
     let at-normalise = c .before .before .before .before .before in
@@ -51,12 +37,5 @@ returns c =
 pub measure-record-spec : {M : Type 1} → statement M
 measure-record-spec =
     tie.close
-    (tie.spec
-    read-off-requires
-    letter-named-requires
-    measure-group-requires
-    normalise-requires
-    outcome-of-requires
-    same-length
-    same-length-2
-    returns)
+    (tie.spec (λ c κs. search needs) (λ c κs. search needs) measure-group-requires normalise-requires
+    (λ c κs. search needs) (λ c. search needs) (λ c. search needs) returns)

@@ -1,3 +1,5 @@
+-- `outcome_of` meets its contract: what is answered: the sign that was read off where the measurement is determined,
+-- else the bit.
 use mathlib.Core.Bool.{cond}
 use mathlib.Core.Path.{ap, sym}
 use Rattle.operations.specs.declared.Outcome.the-variants.{Chosen, Determined}

@@ -1,3 +1,5 @@
+-- `read_off` meets its contract: a Pauli is determined where its qubit has no neighbours and the code there sends X to
+-- it.
 use borrow.Author.Needs.{needs}
 use Rattle.operations.proofs.UnrefusedRecords.{unrefused-codes, unrefused-place}
 use Rattle.operations_measurements.proofs.ReadingOff.{read-by-calls}
@@ -10,27 +12,6 @@ shared-slice-read-t10 c =
 
 image-requires : tie.Need-image-requires
 image-requires c κs = unrefused-codes _ _ (c .before .before .before .pre .0 .0) .1 _
-
-letter-named-requires : tie.Need-letter-named-requires
-letter-named-requires c κs = search needs
-
-z-bit-requires : tie.Need-z-bit-requires
-z-bit-requires c κs = search needs
-
-z-bit-requires-2 : tie.Need-z-bit-requires-2
-z-bit-requires-2 c κs = search needs
-
-x-bit-requires : tie.Need-x-bit-requires
-x-bit-requires c κs = search needs
-
-x-bit-requires-2 : tie.Need-x-bit-requires-2
-x-bit-requires-2 c κs = search needs
-
-mul-t19 : tie.Need-mul-t19
-mul-t19 c = search needs
-
-shared-slice-read-t21 : tie.Need-shared-slice-read-t21
-shared-slice-read-t21 c = search needs
 
 returns : tie.Need-returns
 returns c =
@@ -50,14 +31,5 @@ returns c =
 pub read-off-spec : {M : Type 1} → statement M
 read-off-spec =
     tie.close
-    (tie.spec
-    shared-slice-read-t10
-    image-requires
-    letter-named-requires
-    z-bit-requires
-    z-bit-requires-2
-    x-bit-requires
-    x-bit-requires-2
-    mul-t19
-    shared-slice-read-t21
-    returns)
+    (tie.spec shared-slice-read-t10 image-requires (λ c κs. search needs) (λ c κs. search needs) (λ c κs. search needs)
+    (λ c κs. search needs) (λ c κs. search needs) (λ c. search needs) (λ c. search needs) returns)

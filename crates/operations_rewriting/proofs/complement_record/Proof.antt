@@ -1,3 +1,5 @@
+-- `complement_record` meets its contract: complements the record at vertex a: 13 before its code, and 6 before those of
+-- its neighbours.
 use lib.Dec.{lit<}
 use borrow.Author.Needs.{needs}
 use Rattle.operations.proofs.UnrefusedRecords.{unrefused-short, unrefused-simple}
@@ -13,12 +15,6 @@ complement-words-requires c κs =
     let start = c .before .before .before .before .before .before .before .before .pre in
     ((unrefused-short _ _ (start .0), start .1), unrefused-simple _ _ (start .0))
 
-same-length : tie.Need-same-length
-same-length c = search needs
-
-same-length-2 : tie.Need-same-length-2
-same-length-2 c = search needs
-
 returns : tie.Need-returns
 returns c =
     let at-words = c .before .before in
@@ -29,4 +25,4 @@ returns c =
 
 pub complement-record-spec : {M : Type 1} → statement M
 complement-record-spec =
-    tie.close (tie.spec recode-requires complement-words-requires same-length same-length-2 returns)
+    tie.close (tie.spec recode-requires complement-words-requires (λ c. search needs) (λ c. search needs) returns)

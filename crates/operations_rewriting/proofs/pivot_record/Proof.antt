@@ -1,10 +1,8 @@
+-- `pivot_record` meets its contract: pivots the record on the edge j, k: complements j, k, j.
 use borrow.Author.Needs.{needs}
 use Rattle.operations_rewriting.proofs.Pivoting.{complement-again, pivoted}
 use Rattle.operations_rewriting.proofs.pivot_record.Statement.{statement}
 use Rattle.operations_rewriting.proofs.pivot_record.Tie as tie
-
-complement-record-requires : tie.Need-complement-record-requires
-complement-record-requires c κs = search needs
 
 complement-record-requires-2 : tie.Need-complement-record-requires-2
 complement-record-requires-2 c κs =
@@ -26,12 +24,6 @@ complement-record-requires-3 c κs =
     complement-again _ _ (after _ (start .1 .1) .0) _ (after _ (start .1 .1) .1) _ _ two _
     (after _ (start .1 .0) .1)
 
-same-length : tie.Need-same-length
-same-length c = search needs
-
-same-length-2 : tie.Need-same-length-2
-same-length-2 c = search needs
-
 returns : tie.Need-returns
 returns c =
     let at-complement-record3 = c .before .before .before .before in
@@ -47,10 +39,5 @@ returns c =
 pub pivot-record-spec : {M : Type 1} → statement M
 pivot-record-spec =
     tie.close
-    (tie.spec
-    complement-record-requires
-    complement-record-requires-2
-    complement-record-requires-3
-    same-length
-    same-length-2
-    returns)
+    (tie.spec (λ c κs. search needs) complement-record-requires-2 complement-record-requires-3 (λ c. search needs)
+    (λ c. search needs) returns)

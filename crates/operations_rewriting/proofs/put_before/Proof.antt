@@ -1,3 +1,4 @@
+-- `put_before` meets its contract: code k before the codes of the vertices that the word names.
 use mathlib.Core.Path.{subst, sym}
 use Prim.Native.Nat.{_<_}
 use borrow.Author.Needs.{needs}
@@ -15,9 +16,6 @@ abbrev μ-loop : tie.MeasureT-loop
 loop-holds : tie.Need-loop-holds Inv-loop μ-loop
 loop-holds c = let start = c .before in put-start _ (start .args .word) (start .args .k) (start .pre .0 .1)
     (start .pre .1 .0)
-
-smallest-requires : tie.Need-smallest-requires Inv-loop μ-loop
-smallest-requires c κs = search needs
 
 slice-read-compose : tie.Need-slice-read-compose Inv-loop μ-loop
 slice-read-compose c =
@@ -74,9 +72,6 @@ loop-again c =
     (inside .loop-test .taken) _ (at-smallest .smallest .ensures .0) _ _ (c .before .compose .ensures .0)
     (c .flip .ensures)
 
-same-length : tie.Need-same-length Inv-loop μ-loop
-same-length c = search needs
-
 returns : tie.Need-returns Inv-loop μ-loop
 returns c =
     let start = c .before .before .before in
@@ -85,16 +80,5 @@ returns c =
 pub put-before-spec : {M : Type 1} → statement M
 put-before-spec =
     tie.close
-    (tie.spec
-    Inv-loop
-    μ-loop
-    loop-holds
-    smallest-requires
-    slice-read-compose
-    compose-requires
-    slice-write-codes
-    flip-requires
-    loop-less
-    loop-again
-    same-length
-    returns)
+    (tie.spec Inv-loop μ-loop loop-holds (λ c κs. search needs) slice-read-compose compose-requires slice-write-codes
+    flip-requires loop-less loop-again (λ c. search needs) returns)

@@ -1,3 +1,4 @@
+-- `recode` meets its contract: a code before that of vertex a, and another before those of its neighbours.
 use mathlib.Core.Path.{subst, sym}
 use Prim.Native.Nat.{_<_}
 use borrow.Author.Needs.{needs}
@@ -16,12 +17,6 @@ compose-requires c κs =
     let start = c .before .before .before .pre in
     (start .1 .0, unrefused-codes _ _ (start .0 .0) .1 _)
 
-mul-put-before : tie.Need-mul-put-before
-mul-put-before c = search needs
-
-shared-slice-read-put-before : tie.Need-shared-slice-read-put-before
-shared-slice-read-put-before c = search needs
-
 put-before-requires : tie.Need-put-before-requires
 put-before-requires c κs =
     let start = c .before .before .before .before .before .before .pre in
@@ -34,9 +29,6 @@ slice-write-codes c =
     subst (λ m. begun .args .a < m) (sym (at-put .put-before .kept .0))
     (unrefused-place _ _ (begun .pre .0 .0) _ (begun .pre .0 .1))
 
-same-length : tie.Need-same-length
-same-length c = search needs
-
 returns : tie.Need-returns
 returns c =
     let at-put = c .before .before in
@@ -48,12 +40,5 @@ returns c =
 pub recode-spec : {M : Type 1} → statement M
 recode-spec =
     tie.close
-    (tie.spec
-    slice-read-compose
-    compose-requires
-    mul-put-before
-    shared-slice-read-put-before
-    put-before-requires
-    slice-write-codes
-    same-length
-    returns)
+    (tie.spec slice-read-compose compose-requires (λ c. search needs) (λ c. search needs) put-before-requires
+    slice-write-codes (λ c. search needs) returns)

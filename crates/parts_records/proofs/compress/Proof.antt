@@ -1,3 +1,4 @@
+-- `compress` meets its contract: the bits of a word at the numbered vertices.
 use Prim.Native.Nat.{_-_, _≤_, zero-le}
 use native.Mathlib.Omega.{arith}
 use Rattle.parts_records.proofs.Listing.{Compressed, compressed-all, compressed-more, compressed-none}
@@ -20,29 +21,14 @@ loop-holds : tie.Need-loop-holds Inv-loop μ-loop
 loop-holds c = (zero-le, compressed-none (c .args .t2) (c .args .w))
 
 -- src/lib.rt:45:17
-mul-v : tie.Need-mul-v Inv-loop μ-loop
-mul-v c = search needs
-
 -- src/lib.rt:45:17
-array-read-v : tie.Need-array-read-v Inv-loop μ-loop
-array-read-v c = search needs
-
 -- src/lib.rt:46:36
 has-requires : tie.Need-has-requires Inv-loop μ-loop
 has-requires c κs = c .before .before .pre .1 (c .before .loop .i) (c .loop-test .taken)
 
 -- src/lib.rt:46:9
-flip-where-requires : tie.Need-flip-where-requires Inv-loop μ-loop
-flip-where-requires c κs = search needs
-
 -- src/lib.rt:47:9
-add-i : tie.Need-add-i Inv-loop μ-loop
-add-i c = search needs
-
 -- src/lib.rt:44:5
-loop-less : tie.Need-loop-less Inv-loop μ-loop
-loop-less c = omega arith
-
 -- src/lib.rt:44:5
 loop-again : tie.Need-loop-again Inv-loop μ-loop
 loop-again c =
@@ -63,15 +49,5 @@ returns c =
 pub compress-spec : {M : Type 1} → statement M
 compress-spec =
     tie.close
-    (tie.spec
-    Inv-loop
-    μ-loop
-    loop-holds
-    mul-v
-    array-read-v
-    has-requires
-    flip-where-requires
-    add-i
-    loop-less
-    loop-again
-    returns)
+    (tie.spec Inv-loop μ-loop loop-holds (λ c. search needs) (λ c. search needs) has-requires (λ c κs. search needs)
+    (λ c. search needs) (λ c. omega arith) loop-again returns)

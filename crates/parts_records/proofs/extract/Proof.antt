@@ -1,9 +1,10 @@
+-- `extract` meets its contract: the record of the part, with a place of the answer for each of its vertices.
 use mathlib.Core.Path.{refl, subst, sym, _∙_}
 use Prim.Native.Nat.{_-_, _<_}
 use native.Mathlib.Omega.{arith}
 use lib.ListN.{getD, length}
 use Rattle.buffers.proofs.Filling.{Filled, fill-end, fill-start, fill-step}
-use Rattle.parts_records.specs.Listed.{partWord}
+use Rattle.parts_records.specs.internal.Listed.{renumbered}
 use borrow.Author.Needs.{needs}
 use Rattle.parts_records.proofs.extract.Statement.{statement}
 use Rattle.parts_records.proofs.extract.Tie as tie
@@ -13,7 +14,7 @@ use Rattle.parts_records.proofs.compress.Reads as compress-reads
 
 abbrev Inv-loop : tie.InvT-loop
 Inv-loop neighbours codes words₀ numbers₀ at k i₀ words numbers i =
-    Filled (length words₀) (λ i. partWord (length words₀) at (getD neighbours (getD at i 0) 0)) words i
+    Filled (length words₀) (λ i. renumbered (length words₀) at (getD neighbours (getD at i 0) 0)) words i
     × Filled (length words₀) (λ i. getD codes (getD at i 0) 0) numbers i
 
 abbrev μ-loop : tie.MeasureT-loop
@@ -26,13 +27,7 @@ loop-holds c =
     (fill-start _ _ (S .args .words .now) refl, fill-start _ _ (S .args .numbers .now) (S .pre .0 .1))
 
 -- src/lib.rt:69:17
-mul-v : tie.Need-mul-v Inv-loop μ-loop
-mul-v c = search needs
-
 -- src/lib.rt:69:17
-array-read-v : tie.Need-array-read-v Inv-loop μ-loop
-array-read-v c = search needs
-
 -- src/lib.rt:70:29
 mul-compress : tie.Need-mul-compress Inv-loop μ-loop
 mul-compress c =
@@ -53,9 +48,6 @@ compress-requires c κs =
     (S .pre .0 .0, λ i l. omega (arith, S .pre .1 .0, S .pre .1 .2 i l))
 
 -- src/lib.rt:70:9
-mul-words : tie.Need-mul-words Inv-loop μ-loop
-mul-words c = search needs
-
 -- src/lib.rt:70:9
 slice-write-words : tie.Need-slice-write-words Inv-loop μ-loop
 slice-write-words c =
@@ -76,9 +68,6 @@ slice-write-numbers c =
     subst (λ m. I .before .loop .i < m) (sym (I .before .loop .inv .1 .long)) (I .loop-test .taken)
 
 -- src/lib.rt:72:9
-add-i : tie.Need-add-i Inv-loop μ-loop
-add-i c = search needs
-
 -- src/lib.rt:68:5
 loop-less : tie.Need-loop-less Inv-loop μ-loop
 loop-less c =
@@ -115,22 +104,6 @@ returns c =
 pub extract-spec : {M : Type 1} → statement M
 extract-spec =
     tie.close
-    (tie.spec
-    Inv-loop
-    μ-loop
-    loop-holds
-    mul-v
-    array-read-v
-    mul-compress
-    shared-slice-read-compress
-    compress-requires
-    mul-words
-    slice-write-words
-    shared-slice-read-numbers
-    slice-write-numbers
-    add-i
-    loop-less
-    loop-again
-    same-length
-    same-length-2
-    returns)
+    (tie.spec Inv-loop μ-loop loop-holds (λ c. search needs) (λ c. search needs) mul-compress shared-slice-read-compress
+    compress-requires (λ c. search needs) slice-write-words shared-slice-read-numbers slice-write-numbers
+    (λ c. search needs) loop-less loop-again same-length same-length-2 returns)

@@ -1,3 +1,4 @@
+-- `vertices` meets its contract.
 use mathlib.Core.Path.{refl, subst, sym}
 use Prim.Native.Nat.{_<_}
 use native.Mathlib.Omega.{arith}
@@ -20,26 +21,23 @@ use Rattle.words.proofs.flip.Reads as flip-reads
 use Rattle.words.proofs.smallest.Reads as smallest-reads
 
 abbrev Inv-loop : tie.InvT-loop
-Inv-loop island at₀ k₀ rest₀ at k rest = Listing island at k rest
+Inv-loop component at₀ k₀ rest₀ at k rest = Listing component at k rest
 
 abbrev μ-loop : tie.MeasureT-loop
-μ-loop island at₀ k₀ rest₀ at k rest = rest
+μ-loop component at₀ k₀ rest₀ at k rest = rest
 
 -- src/lib.rt:28:5
 loop-holds : tie.Need-loop-holds Inv-loop μ-loop
-loop-holds c = listing-start (c .args .island) _ refl (c .fits .island .fits) (c .pre)
+loop-holds c = listing-start (c .args .component) _ refl (c .fits .component .fits) (c .pre)
 
 -- src/lib.rt:29:13
-smallest-requires : tie.Need-smallest-requires Inv-loop μ-loop
-smallest-requires c κs = search needs
-
 -- src/lib.rt:30:9
 mul-at : tie.Need-mul-at Inv-loop μ-loop
 mul-at c =
     let L = c .before .before in
     omega (
       arith,
-      room (L .before .args .island) (L .loop .at) (L .loop .k) (L .loop .rest) (L .loop .inv)
+      room (L .before .args .component) (L .loop .at) (L .loop .k) (L .loop .rest) (L .loop .inv)
           (c .before .loop-test .taken) _ (c .smallest .ensures .0),
     )
 
@@ -48,7 +46,7 @@ array-write-at : tie.Need-array-write-at Inv-loop μ-loop
 array-write-at c =
     let M = c in
     let L = M .before .before in
-    room (L .before .args .island) (L .loop .at) (L .loop .k) (L .loop .rest) (L .loop .inv)
+    room (L .before .args .component) (L .loop .at) (L .loop .k) (L .loop .rest) (L .loop .inv)
     (M .before .loop-test .taken) _ (M .smallest .ensures .0)
 
 -- src/lib.rt:31:9
@@ -57,7 +55,7 @@ add-k c =
     let L = c .before .before in
     omega (
       arith,
-      room (L .before .args .island) (L .loop .at) (L .loop .k) (L .loop .rest) (L .loop .inv)
+      room (L .before .args .component) (L .loop .at) (L .loop .k) (L .loop .rest) (L .loop .inv)
           (c .before .loop-test .taken) _ (c .smallest .ensures .0),
     )
 
@@ -66,7 +64,7 @@ flip-requires : tie.Need-flip-requires Inv-loop μ-loop
 flip-requires c κs =
     let M = c in
     let L = M .before .before in
-    place-below (L .before .args .island) (L .loop .at) (L .loop .k) (L .loop .rest) (L .loop .inv)
+    place-below (L .before .args .component) (L .loop .at) (L .loop .k) (L .loop .rest) (L .loop .inv)
     (M .before .loop-test .taken) _ (M .smallest .ensures .0)
 
 -- src/lib.rt:28:5
@@ -75,7 +73,7 @@ loop-less c =
     let M = c .before in
     let L = M .before .before in
     subst (λ v. v < L .loop .rest) (sym (c .flip .ensures))
-    (flip-less (L .loop .rest) _ (place-taken (L .before .args .island) (L .loop .at) (L .loop .k) (L .loop .rest)
+    (flip-less (L .loop .rest) _ (place-taken (L .before .args .component) (L .loop .at) (L .loop .k) (L .loop .rest)
     (L .loop .inv) (M .before .loop-test .taken) _ (M .smallest .ensures .0)))
 
 -- src/lib.rt:28:5
@@ -83,27 +81,17 @@ loop-again : tie.Need-loop-again Inv-loop μ-loop
 loop-again c =
     let M = c .before in
     let L = M .before .before in
-    subst (Listing (L .before .args .island) _ _) (sym (c .flip .ensures))
-    (listing-step (L .before .args .island) (L .loop .at) (L .loop .k) (L .loop .rest) (L .loop .inv)
+    subst (Listing (L .before .args .component) _ _) (sym (c .flip .ensures))
+    (listing-step (L .before .args .component) (L .loop .at) (L .loop .k) (L .loop .rest) (L .loop .inv)
     (M .before .loop-test .taken) _ (M .smallest .ensures .0))
 
 -- src/lib.rt:21:1
 returns : tie.Need-returns Inv-loop μ-loop
 returns c =
-    listing-end (c .before .before .args .island) _ _ _ (c .before .loop .inv) (c .loop-test .left)
+    listing-end (c .before .before .args .component) _ _ _ (c .before .loop .inv) (c .loop-test .left)
 
 pub vertices-spec : {M : Type 1} → statement M
 vertices-spec =
     tie.close
-    (tie.spec
-    Inv-loop
-    μ-loop
-    loop-holds
-    smallest-requires
-    mul-at
-    array-write-at
-    add-k
-    flip-requires
-    loop-less
-    loop-again
-    returns)
+    (tie.spec Inv-loop μ-loop loop-holds (λ c κs. search needs) mul-at array-write-at add-k flip-requires loop-less
+    loop-again returns)

@@ -1,3 +1,5 @@
+-- `part` meets its contract: the connected part of vertex q: the vertex, its neighbours, theirs and so on, until none
+-- is new.
 use Prim.Native.Nat.{_-_, _^_}
 use lib.ListN.{length}
 use Rattle.graph.specs.NeighbourWords.{graphIn}
@@ -18,13 +20,7 @@ abbrev μ-loop : tie.MeasureT-loop
 μ-loop neighbours q reached₀ next₀ reached next = 2 ^ length neighbours - reached
 
 -- src/lib.rt:37:9
-single-requires : tie.Need-single-requires Inv-loop μ-loop
-single-requires c κs = search needs
-
 -- src/lib.rt:38:9
-spread-requires : tie.Need-spread-requires Inv-loop μ-loop
-spread-requires c κs = search needs
-
 -- src/lib.rt:39:5
 loop-holds : tie.Need-loop-holds Inv-loop μ-loop
 loop-holds c =
@@ -34,9 +30,6 @@ loop-holds c =
     (c .spread .ensures)
 
 -- src/lib.rt:41:9
-spread-requires-2 : tie.Need-spread-requires-2 Inv-loop μ-loop
-spread-requires-2 c κs = search needs
-
 -- src/lib.rt:39:5
 loop-less : tie.Need-loop-less Inv-loop μ-loop
 loop-less c =
@@ -63,13 +56,5 @@ returns c =
 pub part-spec : {M : Type 1} → statement M
 part-spec =
     tie.close
-    (tie.spec
-    Inv-loop
-    μ-loop
-    single-requires
-    spread-requires
-    loop-holds
-    spread-requires-2
-    loop-less
-    loop-again
-    returns)
+    (tie.spec Inv-loop μ-loop (λ c κs. search needs) (λ c κs. search needs) loop-holds (λ c κs. search needs) loop-less
+    loop-again returns)

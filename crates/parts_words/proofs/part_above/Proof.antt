@@ -1,3 +1,4 @@
+-- `part_above` meets its contract: whether some part has more than 20 vertices.
 use Prim.Native.Nat.{_-_}
 use native.Mathlib.Omega.{arith}
 use lib.ListN.{length}
@@ -26,13 +27,7 @@ loop-holds : tie.Need-loop-holds Inv-loop μ-loop
 loop-holds c = none-at-first _ _
 
 -- src/lib.rt:54:23
-part-requires : tie.Need-part-requires Inv-loop μ-loop
-part-requires c κs = search needs
-
 -- src/lib.rt:54:17
-count-requires : tie.Need-count-requires Inv-loop μ-loop
-count-requires c κs = search needs
-
 -- src/lib.rt:55:13
 returns : tie.Need-returns Inv-loop μ-loop
 unfolding partAbove
@@ -46,13 +41,7 @@ returns c =
     (lt-ltb 20 _ (c .if1 .taken))
 
 -- src/lib.rt:57:9
-add-q : tie.Need-add-q Inv-loop μ-loop
-add-q c = search needs
-
 -- src/lib.rt:53:5
-loop-less : tie.Need-loop-less Inv-loop μ-loop
-loop-less c = omega arith
-
 -- src/lib.rt:53:5
 loop-again : tie.Need-loop-again Inv-loop μ-loop
 loop-again c =
@@ -75,14 +64,5 @@ returns-2 c =
 pub part-above-spec : {M : Type 1} → statement M
 part-above-spec =
     tie.close
-    (tie.spec
-    Inv-loop
-    μ-loop
-    loop-holds
-    part-requires
-    count-requires
-    returns
-    add-q
-    loop-less
-    loop-again
-    returns-2)
+    (tie.spec Inv-loop μ-loop loop-holds (λ c κs. search needs) (λ c κs. search needs) returns (λ c. search needs)
+    (λ c. omega arith) loop-again returns-2)

@@ -1,12 +1,11 @@
+-- `clashes` meets its contract: whether two generators fail to commute: the places where both act and differ are odd in
+-- number.
 use mathlib.Core.Path.{_∙_, sym}
 use borrow.Author.Needs.{needs}
 use Rattle.pauli.specs.Pauli.{i⁰}
 use Rattle.pauli.proofs.WordRows.{anticommute-count}
 use Rattle.pauli.proofs.clashes.Statement.{statement}
 use Rattle.pauli.proofs.clashes.Tie as tie
-
-odd-requires : tie.Need-odd-requires
-odd-requires c κs = search needs
 
 returns : tie.Need-returns
 returns c =
@@ -17,4 +16,4 @@ returns c =
     i⁰ i⁰)
 
 pub clashes-spec : {M : Type 1} → statement M
-clashes-spec = tie.close (tie.spec odd-requires returns)
+clashes-spec = tie.close (tie.spec (λ c κs. search needs) returns)

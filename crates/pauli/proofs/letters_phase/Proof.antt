@@ -1,3 +1,4 @@
+-- `letters_phase` meets its contract: the power of i in the product of the letters of two rows, from 0 to 3.
 use mathlib.Core.Path.{_∙_, ap₂, sym}
 use Prim.Native.Nat.{_%_, _*_, _+_}
 use native.Mathlib.Nat.{mod-lt}
@@ -7,18 +8,6 @@ use Rattle.pauli.specs.Pauli.{i⁰}
 use Rattle.pauli.proofs.WordRows.{letters-exponent}
 use Rattle.pauli.proofs.letters_phase.Statement.{statement}
 use Rattle.pauli.proofs.letters_phase.Tie as tie
-
-count-requires : tie.Need-count-requires
-count-requires c κs = search needs
-
-count-requires-2 : tie.Need-count-requires-2
-count-requires-2 c κs = search needs
-
-mul-result : tie.Need-mul-result
-mul-result c = search needs
-
-add-result : tie.Need-add-result
-add-result c = search needs
 
 returns : tie.Need-returns
 returns c = let a = c .before .before .args in (
@@ -30,4 +19,4 @@ returns c = let a = c .before .before .args in (
 
 pub letters-phase-spec : {M : Type 1} → statement M
 letters-phase-spec =
-    tie.close (tie.spec count-requires count-requires-2 mul-result add-result returns)
+    tie.close (tie.spec (λ c κs. search needs) (λ c κs. search needs) (λ c. search needs) (λ c. search needs) returns)

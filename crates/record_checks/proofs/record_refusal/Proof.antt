@@ -1,3 +1,4 @@
+-- `record_refusal` meets its contract: the first line of a record that holds; 0 where none does.
 use mathlib.Core.Path.{refl}
 use borrow.Author.Needs.{needs}
 use Rattle.contracts.proofs.Fitting.{first-is}
@@ -9,14 +10,8 @@ use Rattle.record.proofs.RecordLines.{square-tested}
 use Rattle.record_checks.proofs.record_refusal.Statement.{statement}
 use Rattle.record_checks.proofs.record_refusal.Tie as tie
 
-bad-count-requires : tie.Need-bad-count-requires
-bad-count-requires c κs = search needs
-
 returns : tie.Need-returns
 returns c = first-is (here (says (c .before .bad-count .ensures) (c .if1 .taken)))
-
-record-lengths-requires : tie.Need-record-lengths-requires
-record-lengths-requires c κs = search needs
 
 returns-2 : tie.Need-returns-2
 returns-2 c =
@@ -36,9 +31,6 @@ returns-3 c =
     first-is (later (says (past2 .before .bad-count .ensures) (past2 .if1 .left))
     (later (either-says (past4 .before .record-lengths .ensures) refl (past4 .if2 .left))
     (here (says (c .before .strays .ensures) (c .if3 .taken)))))
-
-reaches-requires : tie.Need-reaches-requires
-reaches-requires c κs = search needs
 
 returns-4 : tie.Need-returns-4
 returns-4 c =
@@ -87,15 +79,5 @@ returns-6 c =
 pub record-refusal-spec : {M : Type 1} → statement M
 record-refusal-spec =
     tie.close
-    (tie.spec
-    bad-count-requires
-    returns
-    record-lengths-requires
-    returns-2
-    strays-requires
-    returns-3
-    reaches-requires
-    returns-4
-    not-simple-requires
-    returns-5
-    returns-6)
+    (tie.spec (λ c κs. search needs) returns (λ c κs. search needs) returns-2 strays-requires returns-3
+    (λ c κs. search needs) returns-4 not-simple-requires returns-5 returns-6)

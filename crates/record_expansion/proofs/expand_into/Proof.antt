@@ -1,3 +1,4 @@
+-- `expand_into` meets its contract: expansion into three lent buffers.
 use mathlib.Core.Path.{_∙_}
 use Prim.Native.Nat.{_-_}
 use borrow.Author.Needs.{needs}
@@ -20,33 +21,6 @@ loop-holds c =
     none-made (s .args .n) _ (s .args .signs .now) (s .args .z .now) (s .args .x .now) (s .pre .1 .1 .0)
     (s .pre .1 .1 .1) (s .pre .1 .1 .2)
 
-expanded-row-requires : tie.Need-expanded-row-requires Inv-loop μ-loop
-expanded-row-requires c κs = search needs
-
-sign-digit-requires : tie.Need-sign-digit-requires Inv-loop μ-loop
-sign-digit-requires c κs = search needs
-
-slice-write-signs : tie.Need-slice-write-signs Inv-loop μ-loop
-slice-write-signs c = search needs
-
-mul-z : tie.Need-mul-z Inv-loop μ-loop
-mul-z c = search needs
-
-slice-write-z : tie.Need-slice-write-z Inv-loop μ-loop
-slice-write-z c = search needs
-
-mul-x : tie.Need-mul-x Inv-loop μ-loop
-mul-x c = search needs
-
-slice-write-x : tie.Need-slice-write-x Inv-loop μ-loop
-slice-write-x c = search needs
-
-add-j : tie.Need-add-j Inv-loop μ-loop
-add-j c = search needs
-
-loop-less : tie.Need-loop-less Inv-loop μ-loop
-loop-less c = search needs
-
 loop-again : tie.Need-loop-again Inv-loop μ-loop
 loop-again c =
     let at = c .before .before in
@@ -62,15 +36,6 @@ loop-again c =
     (held-within l (s .pre .1 .0 .1) j (at .loop-test .taken))
     (c .sign-digit .ensures)
 
-same-length : tie.Need-same-length Inv-loop μ-loop
-same-length c = search needs
-
-same-length-2 : tie.Need-same-length-2 Inv-loop μ-loop
-same-length-2 c = search needs
-
-same-length-3 : tie.Need-same-length-3 Inv-loop μ-loop
-same-length-3 c = search needs
-
 returns : tie.Need-returns Inv-loop μ-loop
 returns c =
     let s = c .before .before .before .before .before .before .before in
@@ -82,21 +47,6 @@ returns c =
 pub expand-into-spec : {M : Type 1} → statement M
 expand-into-spec =
     tie.close
-    (tie.spec
-    Inv-loop
-    μ-loop
-    loop-holds
-    expanded-row-requires
-    sign-digit-requires
-    slice-write-signs
-    mul-z
-    slice-write-z
-    mul-x
-    slice-write-x
-    add-j
-    loop-less
-    loop-again
-    same-length
-    same-length-2
-    same-length-3
-    returns)
+    (tie.spec Inv-loop μ-loop loop-holds (λ c κs. search needs) (λ c κs. search needs) (λ c. search needs)
+    (λ c. search needs) (λ c. search needs) (λ c. search needs) (λ c. search needs) (λ c. search needs)
+    (λ c. search needs) loop-again (λ c. search needs) (λ c. search needs) (λ c. search needs) returns)

@@ -1,3 +1,4 @@
+-- `load_list` meets its contract: the rows of a lent list, with a word for their signs.
 use mathlib.Core.Path.{refl}
 use Prim.Native.Nat.{_-_}
 use native.Mathlib.Omega.{arith}
@@ -17,36 +18,6 @@ loop-holds : tie.Need-loop-holds Inv-loop μ-loop
 loop-holds c = let S = c .before .before .before in
     load-start _ _ _ refl (S .pre .1)
 
-mul-minuses : tie.Need-mul-minuses Inv-loop μ-loop
-mul-minuses c = search needs
-
-shared-slice-read-minuses : tie.Need-shared-slice-read-minuses Inv-loop μ-loop
-shared-slice-read-minuses c = search needs
-
-mul-flip-where : tie.Need-mul-flip-where Inv-loop μ-loop
-mul-flip-where c = search needs
-
-shared-slice-read-flip-where : tie.Need-shared-slice-read-flip-where Inv-loop μ-loop
-shared-slice-read-flip-where c = search needs
-
-mul-loaded : tie.Need-mul-loaded Inv-loop μ-loop
-mul-loaded c = search needs
-
-array-set-from-loaded : tie.Need-array-set-from-loaded Inv-loop μ-loop
-array-set-from-loaded c = search needs
-
-shared-slice-read-flip-where-2 : tie.Need-shared-slice-read-flip-where-2 Inv-loop μ-loop
-shared-slice-read-flip-where-2 c = search needs
-
-flip-where-requires : tie.Need-flip-where-requires Inv-loop μ-loop
-flip-where-requires c κs = search needs
-
-add-j : tie.Need-add-j Inv-loop μ-loop
-add-j c = search needs
-
-loop-less : tie.Need-loop-less Inv-loop μ-loop
-loop-less c = omega arith
-
 loop-again : tie.Need-loop-again Inv-loop μ-loop
 loop-again c = let I = c .before .before .before .before .before in
     let L = I .before .loop in
@@ -63,19 +34,6 @@ returns c = let L = c .before .loop in
 pub load-list-spec : {M : Type 1} → statement M
 load-list-spec =
     tie.close
-    (tie.spec
-    Inv-loop
-    μ-loop
-    loop-holds
-    mul-minuses
-    shared-slice-read-minuses
-    mul-flip-where
-    shared-slice-read-flip-where
-    mul-loaded
-    array-set-from-loaded
-    shared-slice-read-flip-where-2
-    flip-where-requires
-    add-j
-    loop-less
-    loop-again
-    returns)
+    (tie.spec Inv-loop μ-loop loop-holds (λ c. search needs) (λ c. search needs) (λ c. search needs) (λ c. search needs)
+    (λ c. search needs) (λ c. search needs) (λ c. search needs) (λ c κs. search needs) (λ c. search needs)
+    (λ c. omega arith) loop-again returns)

@@ -1,10 +1,9 @@
+-- `reduce_list` meets its contract: the reduced record of a lent list, where its generators are independent: then it is
+-- written, and the answer is true.
 use borrow.Author.Needs.{needs}
 use Rattle.reduction.proofs.Loading.{answered, loaded-rows}
 use Rattle.reduction.proofs.reduce_list.Statement.{statement}
 use Rattle.reduction.proofs.reduce_list.Tie as tie
-
-load-list-requires : tie.Need-load-list-requires
-load-list-requires c κs = search needs
 
 reduce-tableau-requires : tie.Need-reduce-tableau-requires
 reduce-tableau-requires c κs = let M = c .before .before in
@@ -12,12 +11,6 @@ reduce-tableau-requires c κs = let M = c .before .before in
       (S .pre .0 .positive, S .pre .0 .upto, S .pre .1 .0, S .pre .1 .1),
       loaded-rows _ (S .pre .0) _ (M .load-list .ensures),
     )
-
-same-length : tie.Need-same-length
-same-length c = search needs
-
-same-length-2 : tie.Need-same-length-2
-same-length-2 c = search needs
 
 returns : tie.Need-returns
 returns c = let T = c .before .before .before .before in
@@ -28,5 +21,4 @@ returns c = let T = c .before .before .before .before in
 
 pub reduce-list-spec : {M : Type 1} → statement M
 reduce-list-spec =
-    tie.close
-    (tie.spec load-list-requires reduce-tableau-requires same-length same-length-2 returns)
+    tie.close (tie.spec (λ c κs. search needs) reduce-tableau-requires (λ c. search needs) (λ c. search needs) returns)

@@ -1,3 +1,5 @@
+-- `reduce_tableau` meets its contract: the reduced record of the tableau's group, where its rows are independent: then
+-- it is written, and the answer is true.
 use mathlib.Core.Bool.{not}
 use mathlib.Core.Path.{_∙_, ap, refl, sym}
 use borrow.Author.Needs.{needs}
@@ -12,12 +14,6 @@ use Rattle.reduction.proofs.Concluding.{
 }
 use Rattle.reduction.proofs.reduce_tableau.Statement.{statement}
 use Rattle.reduction.proofs.reduce_tableau.Tie as tie
-
-pass-requires : tie.Need-pass-requires
-pass-requires c κs = search needs
-
-mask-requires : tie.Need-mask-requires
-mask-requires c κs = search needs
 
 rotate-requires : tie.Need-rotate-requires
 rotate-requires c κs = let P = c .before .before in
@@ -58,12 +54,6 @@ write-record-requires c κs = let Q = c .before .before .before .before in
           (Q .before .before .before .rotate .ensures) _ _ (Q .pass2 .ensures) .within j,
     )
 
-same-length : tie.Need-same-length
-same-length c = search needs
-
-same-length-2 : tie.Need-same-length-2
-same-length-2 c = search needs
-
 returns-2 : tie.Need-returns-2
 returns-2 c = let W = c .before .before .before .before in
     let Q = W .before .before .before .before .before in
@@ -87,13 +77,5 @@ returns-2 c = let W = c .before .before .before .before in
 pub reduce-tableau-spec : {M : Type 1} → statement M
 reduce-tableau-spec =
     tie.close
-    (tie.spec
-    pass-requires
-    mask-requires
-    rotate-requires
-    pass-requires-2
-    returns
-    write-record-requires
-    same-length
-    same-length-2
-    returns-2)
+    (tie.spec (λ c κs. search needs) (λ c κs. search needs) rotate-requires pass-requires-2 returns
+    write-record-requires (λ c. search needs) (λ c. search needs) returns-2)

@@ -1,3 +1,5 @@
+-- `early_refusal` meets its contract: the first line of a list that holds, of those that need no elimination; 0 where
+-- none does.
 use mathlib.Core.Path.{refl, _∙_}
 use borrow.Author.Needs.{needs}
 use Rattle.contracts.proofs.Fitting.{decides, stays}
@@ -6,9 +8,6 @@ use Rattle.stabilizer.specs.Lists.{GeneratorList, formLines}
 use Rattle.stabilizer.proofs.EarlyLines.{clash-tested, clashing-letters, says}
 use Rattle.stabilizer_checks.proofs.early_refusal.Statement.{statement}
 use Rattle.stabilizer_checks.proofs.early_refusal.Tie as tie
-
-form-refusal-requires : tie.Need-form-refusal-requires
-form-refusal-requires c κs = search needs
 
 returns : tie.Need-returns
 returns c =
@@ -41,11 +40,4 @@ returns-3 c =
     (later (says (c .before .some-clash .ensures ∙ clashing-letters l) (c .if2 .left)) none)
 
 pub early-refusal-spec : {M : Type 1} → statement M
-early-refusal-spec =
-    tie.close
-    (tie.spec
-    form-refusal-requires
-    returns
-    some-clash-requires
-    returns-2
-    returns-3)
+early-refusal-spec = tie.close (tie.spec (λ c κs. search needs) returns some-clash-requires returns-2 returns-3)

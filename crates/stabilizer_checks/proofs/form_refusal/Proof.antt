@@ -1,3 +1,4 @@
+-- `form_refusal` meets its contract: the first of lines 2, 4, 5 and 6 of a list that holds; 0 where none does.
 use mathlib.Core.Path.{refl}
 use borrow.Author.Needs.{needs}
 use Rattle.contracts.proofs.Fitting.{first-is}
@@ -7,14 +8,8 @@ use Rattle.stabilizer.proofs.SharedTests.{counted}
 use Rattle.stabilizer_checks.proofs.form_refusal.Statement.{statement}
 use Rattle.stabilizer_checks.proofs.form_refusal.Tie as tie
 
-bad-count-requires : tie.Need-bad-count-requires
-bad-count-requires c κs = search needs
-
 returns : tie.Need-returns
 returns c = first-is (here (says (c .before .bad-count .ensures) (c .if1 .taken)))
-
-list-lengths-requires : tie.Need-list-lengths-requires
-list-lengths-requires c κs = search needs
 
 returns-2 : tie.Need-returns-2
 returns-2 c =
@@ -39,9 +34,6 @@ returns-3 c =
     (later (either-says (past4 .before .list-lengths .ensures) refl (past4 .if2 .left))
     (here (either-says (c .before .before .strays .ensures) (c .before .strays2 .ensures) (c .if3 .taken)))))
 
-reaches-requires : tie.Need-reaches-requires
-reaches-requires c κs = search needs
-
 returns-4 : tie.Need-returns-4
 returns-4 c =
     let past5 = c .before .before in
@@ -65,14 +57,5 @@ returns-5 c =
 pub form-refusal-spec : {M : Type 1} → statement M
 form-refusal-spec =
     tie.close
-    (tie.spec
-    bad-count-requires
-    returns
-    list-lengths-requires
-    returns-2
-    strays-requires
-    strays-requires-2
-    returns-3
-    reaches-requires
-    returns-4
-    returns-5)
+    (tie.spec (λ c κs. search needs) returns (λ c κs. search needs) returns-2 strays-requires strays-requires-2
+    returns-3 (λ c κs. search needs) returns-4 returns-5)

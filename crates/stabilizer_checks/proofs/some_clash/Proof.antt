@@ -1,3 +1,4 @@
+-- `some_clash` meets its contract: line 9: two generators do not commute.
 use mathlib.Core.Path.{_∙_}
 use Prim.Native.Nat.{_-_}
 use native.Mathlib.Omega.{arith}
@@ -17,9 +18,6 @@ loop-holds : tie.Need-loop-holds Inv-loop μ-loop
 loop-holds c = let a = c .before .before .args in
     none-at-first (a .n) (clashesEarlier (a .z .now) (a .x .now))
 
-clashes-before-requires : tie.Need-clashes-before-requires Inv-loop μ-loop
-clashes-before-requires c κs = search needs
-
 returns : tie.Need-returns Inv-loop μ-loop
 returns c =
     let at = c .before .before .before in
@@ -29,12 +27,6 @@ returns c =
     (c .before .before .loop-test .taken) (c .before .clashes-before .ensures) (c .if1 .taken)
     ∙ clashing-words (a .n) (a .z .now) (a .x .now) (s .pre .0 .0) (s .pre .0 .1) (s .pre .0 .2)
     (s .pre .1 .0) (s .pre .1 .1)
-
-add-i : tie.Need-add-i Inv-loop μ-loop
-add-i c = search needs
-
-loop-less : tie.Need-loop-less Inv-loop μ-loop
-loop-less c = omega arith
 
 loop-again : tie.Need-loop-again Inv-loop μ-loop
 loop-again c =
@@ -55,13 +47,5 @@ returns-2 c =
 pub some-clash-spec : {M : Type 1} → statement M
 some-clash-spec =
     tie.close
-    (tie.spec
-    Inv-loop
-    μ-loop
-    loop-holds
-    clashes-before-requires
-    returns
-    add-i
-    loop-less
-    loop-again
-    returns-2)
+    (tie.spec Inv-loop μ-loop loop-holds (λ c κs. search needs) returns (λ c. search needs) (λ c. omega arith)
+    loop-again returns-2)

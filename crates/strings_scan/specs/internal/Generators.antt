@@ -1,5 +1,4 @@
 -- The code's generator of a row: what only the contracts of inner functions name.
--- Assumes nothing.
 use Prim.Native.Nat.{ℕ}
 use Rattle.pauli.specs.Pauli.{Pauli, signBit}
 use Rattle.pauli.specs.declared.Generator.{Generator}

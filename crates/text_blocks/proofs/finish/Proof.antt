@@ -1,14 +1,12 @@
+-- `finish` meets its contract: the text ends.
 use borrow.Author.Needs.{needs}
-use Rattle.text.specs.Scan.{verdict}
+use Rattle.text.specs.internal.Scan.{verdict}
 use Rattle.text_blocks.proofs.finish.Statement.{statement}
 use Rattle.text_blocks.proofs.finish.Tie as tie
-
-at-sign-requires : tie.Need-at-sign-requires
-at-sign-requires c κs = search needs
 
 returns : tie.Need-returns
 unfolding verdict
 returns c = simp (c .at-sign .ensures)
 
 pub finish-spec : {M : Type 1} → statement M
-finish-spec = tie.close (tie.spec at-sign-requires returns)
+finish-spec = tie.close (tie.spec (λ c κs. search needs) returns)

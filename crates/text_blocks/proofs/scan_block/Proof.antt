@@ -1,3 +1,5 @@
+-- `scan_block` meets its contract: the scan after a block more; the lines that end in it, if they are of the first 64,
+-- are in the buffers.
 use mathlib.Core.Path.{_≡_, refl, _∙_, ap}
 use mathlib.Core.Logic.{⊎-elim}
 use mathlib.Core.Bool.{and-eq-true-iff}
@@ -8,14 +10,14 @@ use lib.ListN.{length, take}
 use lib.Seq.{take-all}
 use borrow.Author.Tests.{ltb-true}
 use borrow.Author.Needs.{needs}
-use Rattle.text.specs.Scan.{reading, fed}
+use Rattle.text.specs.internal.Scan.{asReading, fed}
 use Rattle.text.proofs.Feeding.{turn-stored, turn-kept}
 use Rattle.text_blocks.proofs.scan_block.Statement.{statement}
 use Rattle.text_blocks.proofs.scan_block.Tie as tie
 
 abbrev Inv-loop : tie.InvT-loop
 Inv-loop block signs₀ z₀ x₀ s₀ i₀ signs z x s i = (i ≤ length block)
-    × (reading s signs z x ≡ fed (reading s₀ signs₀ z₀ x₀) (take i block))
+    × (asReading s signs z x ≡ fed (asReading s₀ signs₀ z₀ x₀) (take i block))
 
 abbrev μ-loop : tie.MeasureT-loop
 μ-loop block signs₀ z₀ x₀ s₀ i₀ signs z x s i = length block - i
@@ -23,12 +25,6 @@ abbrev μ-loop : tie.MeasureT-loop
 loop-holds : tie.Need-loop-holds Inv-loop μ-loop
 unfolding fed
 loop-holds c = (zero-le, refl)
-
-shared-slice-read-scan-byte : tie.Need-shared-slice-read-scan-byte Inv-loop μ-loop
-shared-slice-read-scan-byte c = search needs
-
-scan-byte-requires : tie.Need-scan-byte-requires Inv-loop μ-loop
-scan-byte-requires c κs = search needs
 
 -- a line is stored only among the first 64
 line-below : (c : tie.Then1 Inv-loop μ-loop) → c .before .before .before .before .loop .s .count < 64
@@ -52,24 +48,18 @@ mul-x c = omega (arith, line-below c)
 element-write-x : tie.Need-element-write-x Inv-loop μ-loop
 element-write-x c = line-below c
 
-add-i : tie.Need-add-i Inv-loop μ-loop
-add-i c = search needs
-
-loop-less : tie.Need-loop-less Inv-loop μ-loop
-loop-less c = search needs
-
 loop-again : tie.Need-loop-again Inv-loop μ-loop
 loop-again c =
     let next = c .before .scan-byte .result in
     let l = c .before .before .before .before .loop in
-    let sofar = reading (l .s) (l .signs) (l .z) (l .x) in
+    let sofar = asReading (l .s) (l .signs) (l .z) (l .x) in
     let inside = c .before .before .before .loop-test .taken in
     let stepped = c .before .scan-byte .ensures in (
       search needs,
       ⊎-elim
-          (λ w. (λ k. reading next (w .1 k) (w .2 k) (w .3 k))
+          (λ w. (λ k. asReading next (w .1 k) (w .2 k) (w .3 k))
           ∙ turn-stored _ sofar _ (l .i) inside (l .inv .1) _ stepped (w .0 .taken))
-          (λ w. (λ k. reading next (w .1 k) (w .2 k) (w .3 k))
+          (λ w. (λ k. asReading next (w .1 k) (w .2 k) (w .3 k))
           ∙ turn-kept _ sofar _ (l .i) inside (l .inv .1) _ stepped (w .0 .left))
           (c .if1 .came),
     )
@@ -80,18 +70,5 @@ returns c = c .before .loop .inv .1 ∙ ap (fed _) (take-all _ _ (c .loop-test .
 pub scan-block-spec : {M : Type 1} → statement M
 scan-block-spec =
     tie.close
-    (tie.spec
-    Inv-loop
-    μ-loop
-    loop-holds
-    shared-slice-read-scan-byte
-    scan-byte-requires
-    element-write-signs
-    mul-z
-    element-write-z
-    mul-x
-    element-write-x
-    add-i
-    loop-less
-    loop-again
-    returns)
+    (tie.spec Inv-loop μ-loop loop-holds (λ c. search needs) (λ c κs. search needs) element-write-signs mul-z
+    element-write-z mul-x element-write-x (λ c. search needs) (λ c. search needs) loop-again returns)

@@ -1,14 +1,9 @@
+-- `hex_digit` meets its contract.
 use borrow.Author.Tests.{lt-ltb, le-ltb}
 use borrow.Author.Needs.{needs}
 use Rattle.text.specs.Text.{hexDigit}
 use Rattle.text_print.proofs.hex_digit.Statement.{statement}
 use Rattle.text_print.proofs.hex_digit.Tie as tie
-
-add-result : tie.Need-add-result
-add-result c = search needs
-
-add-result-2 : tie.Need-add-result-2
-add-result-2 c = search needs
 
 returns : tie.Need-returns
 unfolding hexDigit
@@ -19,4 +14,4 @@ unfolding hexDigit
 returns-2 c = simp (le-ltb _ _ (c .if1 .left))
 
 pub hex-digit-spec : {M : Type 1} → statement M
-hex-digit-spec = tie.close (tie.spec add-result add-result-2 returns returns-2)
+hex-digit-spec = tie.close (tie.spec (λ c. search needs) (λ c. search needs) returns returns-2)

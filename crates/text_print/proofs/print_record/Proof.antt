@@ -1,3 +1,4 @@
+-- `print_record` meets its contract: the record of n qubits, from a place on: the names and a line for each qubit.
 use mathlib.Core.Path.{_≡_, refl, sym, subst}
 use mathlib.Core.List.{_++_}
 use Prim.Native.Nat.{_-_, _≤_, zero-le}
@@ -6,7 +7,7 @@ use native.Mathlib.Nat.{add-zero}
 use native.Mathlib.Omega.{arith}
 use lib.ListN.{length}
 use borrow.Author.Needs.{needs}
-use Rattle.text.specs.Text.{recordNames, recordLines, recordText, Printed}
+use Rattle.text.specs.Text.{recordNames, qubitLines, recordText, Printed}
 use Rattle.text.proofs.RecordLaws.{length-lines}
 use Rattle.text.proofs.Writing.{and-then, write-none}
 use Rattle.text_print.proofs.print_record.Statement.{statement}
@@ -14,32 +15,14 @@ use Rattle.text_print.proofs.print_record.Tie as tie
 
 abbrev Inv-loop : tie.InvT-loop
 Inv-loop n neighbours codes from out₀ at₀ q₀ out at q = (q ≤ n)
-    × Printed (recordLines q neighbours codes) at₀ out₀ out at × (length out ≡ length out₀)
+    × Printed (qubitLines q neighbours codes) at₀ out₀ out at × (length out ≡ length out₀)
 
 abbrev μ-loop : tie.MeasureT-loop
 μ-loop n neighbours codes from out₀ at₀ q₀ out at q = n - q
 
-slice-aggregate-put-bytes : tie.Need-slice-aggregate-put-bytes Inv-loop μ-loop
-slice-aggregate-put-bytes c = search needs
-
-put-bytes-requires : tie.Need-put-bytes-requires Inv-loop μ-loop
-put-bytes-requires c κs = search needs
-
 loop-holds : tie.Need-loop-holds Inv-loop μ-loop
-unfolding recordLines
+unfolding qubitLines
 loop-holds c = (zero-le, record { end = sym (add-zero _); out = write-none _ _ }, refl)
-
-cast-put-line : tie.Need-cast-put-line Inv-loop μ-loop
-cast-put-line c = search needs
-
-shared-slice-read-put-line : tie.Need-shared-slice-read-put-line Inv-loop μ-loop
-shared-slice-read-put-line c = search needs
-
-mul-put-line : tie.Need-mul-put-line Inv-loop μ-loop
-mul-put-line c = search needs
-
-shared-slice-read-put-line-2 : tie.Need-shared-slice-read-put-line-2 Inv-loop μ-loop
-shared-slice-read-put-line-2 c = search needs
 
 put-line-requires : tie.Need-put-line-requires Inv-loop μ-loop
 put-line-requires c κs =
@@ -58,21 +41,15 @@ put-line-requires c κs =
       start .pre .qubits,
     )
 
-add-q : tie.Need-add-q Inv-loop μ-loop
-add-q c = search needs
-
-loop-less : tie.Need-loop-less Inv-loop μ-loop
-loop-less c = search needs
-
 loop-again : tie.Need-loop-again Inv-loop μ-loop
-unfolding recordLines
+unfolding qubitLines
 loop-again c =
     let l = c .before .before .before .before .before .before .before in
     let names = l .before .before .before in
     let start = names .before .before .before .before .before .before in
     let lines = length-lines (l .loop .q) (start .args .neighbours .now) (start .args .codes .now) in (
       search needs,
-      subst (λ k. Printed (recordLines k (start .args .neighbours .now) (start .args .codes .now))
+      subst (λ k. Printed (qubitLines k (start .args .neighbours .now) (start .args .codes .now))
           (names .put-bytes .result) (names .put-bytes .last .1 .1 .0)
           (c .before .before .put-line .last .1 .1 .1 .1 .0) (c .before .before .put-line .result))
           (sym (add-one (l .loop .q)))
@@ -87,9 +64,6 @@ loop-again c =
       search needs,
     )
 
-same-length : tie.Need-same-length Inv-loop μ-loop
-same-length c = search needs
-
 returns : tie.Need-returns Inv-loop μ-loop
 unfolding recordText
 returns c =
@@ -98,26 +72,13 @@ returns c =
     let start = names .before .before .before .before .before .before in
     let all : l .loop .q ≡ start .args .n = omega arith in
     subst (λ k. Printed (recordNames
-    ++ recordLines k (start .args .neighbours .now) (start .args .codes .now))
+    ++ qubitLines k (start .args .neighbours .now) (start .args .codes .now))
     (start .args .from) (start .args .out .now) (l .loop .out) (l .loop .at)) all
     (and-then (omega (arith, start .pre .room)) (names .put-bytes .ensures) (l .loop .inv .1))
 
 pub print-record-spec : {M : Type 1} → statement M
 print-record-spec =
     tie.close
-    (tie.spec
-    Inv-loop
-    μ-loop
-    slice-aggregate-put-bytes
-    put-bytes-requires
-    loop-holds
-    cast-put-line
-    shared-slice-read-put-line
-    mul-put-line
-    shared-slice-read-put-line-2
-    put-line-requires
-    add-q
-    loop-less
-    loop-again
-    same-length
-    returns)
+    (tie.spec Inv-loop μ-loop (λ c. search needs) (λ c κs. search needs) loop-holds (λ c. search needs)
+    (λ c. search needs) (λ c. search needs) (λ c. search needs) put-line-requires (λ c. search needs)
+    (λ c. search needs) loop-again (λ c. search needs) returns)

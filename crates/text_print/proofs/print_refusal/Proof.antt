@@ -1,3 +1,4 @@
+-- `print_refusal` meets its contract: the line of refusal k.
 use native.Mathlib.Omega.{arith}
 use lib.ListN.{length-append}
 use borrow.Author.Needs.{needs}
@@ -6,15 +7,6 @@ use Rattle.text.proofs.HexLaws.{length-decimal}
 use Rattle.text.proofs.Writing.{and-then}
 use Rattle.text_print.proofs.print_refusal.Statement.{statement}
 use Rattle.text_print.proofs.print_refusal.Tie as tie
-
-slice-aggregate-put-bytes : tie.Need-slice-aggregate-put-bytes
-slice-aggregate-put-bytes c = search needs
-
-put-bytes-requires : tie.Need-put-bytes-requires
-put-bytes-requires c κs = search needs
-
-put-decimal-requires : tie.Need-put-decimal-requires
-put-decimal-requires c κs = search needs
 
 put-requires : tie.Need-put-requires
 put-requires c κs =
@@ -27,9 +19,6 @@ put-requires c κs =
       word .put-bytes .kept,
       start .pre,
     )
-
-same-length : tie.Need-same-length
-same-length c = search needs
 
 returns : tie.Need-returns
 unfolding refusedText
@@ -45,10 +34,5 @@ returns c =
 pub print-refusal-spec : {M : Type 1} → statement M
 print-refusal-spec =
     tie.close
-    (tie.spec
-    slice-aggregate-put-bytes
-    put-bytes-requires
-    put-decimal-requires
-    put-requires
-    same-length
+    (tie.spec (λ c. search needs) (λ c κs. search needs) (λ c κs. search needs) put-requires (λ c. search needs)
     returns)

@@ -1,16 +1,17 @@
+-- `put_bytes` meets its contract.
 use mathlib.Core.Path.{_≡_, refl, ap, _∙_}
 use Prim.Native.Nat.{_+_, _-_, _≤_, zero-le}
 use native.Mathlib.Omega.{arith}
 use lib.Seq.{take-all}
 use lib.ListN.{length, getD, take, set, length-set}
 use borrow.Author.Needs.{needs}
-use Rattle.text.specs.Text.{written}
+use Rattle.text.specs.Text.{overwritten}
 use Rattle.text.proofs.Writing.{write-none, write-taken}
 use Rattle.text_print.proofs.put_bytes.Statement.{statement}
 use Rattle.text_print.proofs.put_bytes.Tie as tie
 
 abbrev Inv-loop : tie.InvT-loop
-Inv-loop bytes at out₀ i₀ out i = (i ≤ length bytes) × (out ≡ written out₀ at (take i bytes))
+Inv-loop bytes at out₀ i₀ out i = (i ≤ length bytes) × (out ≡ overwritten out₀ at (take i bytes))
     × (length out ≡ length out₀)
 
 abbrev μ-loop : tie.MeasureT-loop
@@ -18,21 +19,6 @@ abbrev μ-loop : tie.MeasureT-loop
 
 loop-holds : tie.Need-loop-holds Inv-loop μ-loop
 loop-holds c = (zero-le, write-none _ _, refl)
-
-shared-slice-read-out : tie.Need-shared-slice-read-out Inv-loop μ-loop
-shared-slice-read-out c = search needs
-
-add-out : tie.Need-add-out Inv-loop μ-loop
-add-out c = search needs
-
-slice-write-out : tie.Need-slice-write-out Inv-loop μ-loop
-slice-write-out c = search needs
-
-add-i : tie.Need-add-i Inv-loop μ-loop
-add-i c = search needs
-
-loop-less : tie.Need-loop-less Inv-loop μ-loop
-loop-less c = search needs
 
 loop-again : tie.Need-loop-again Inv-loop μ-loop
 loop-again c =
@@ -45,33 +31,16 @@ loop-again c =
       simp length-set (l .inv .2),
     )
 
-add-result : tie.Need-add-result Inv-loop μ-loop
-add-result c = search needs
-
-same-length : tie.Need-same-length Inv-loop μ-loop
-same-length c = search needs
-
 returns : tie.Need-returns Inv-loop μ-loop
 returns c =
     let all : c .before .loop .i ≡ length (c .before .before .args .bytes .now) = omega arith in
     record {
       end = ap (λ k. c .before .before .args .at + k) all;
-      out = c .before .loop .inv .1 ∙ ap (written _ _) (take-all _ _ (c .loop-test .left));
+      out = c .before .loop .inv .1 ∙ ap (overwritten _ _) (take-all _ _ (c .loop-test .left));
     }
 
 pub put-bytes-spec : {M : Type 1} → statement M
 put-bytes-spec =
     tie.close
-    (tie.spec
-    Inv-loop
-    μ-loop
-    loop-holds
-    shared-slice-read-out
-    add-out
-    slice-write-out
-    add-i
-    loop-less
-    loop-again
-    add-result
-    same-length
-    returns)
+    (tie.spec Inv-loop μ-loop loop-holds (λ c. search needs) (λ c. search needs) (λ c. search needs) (λ c. search needs)
+    (λ c. search needs) loop-again (λ c. search needs) (λ c. search needs) returns)

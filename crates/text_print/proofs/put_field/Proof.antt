@@ -1,3 +1,4 @@
+-- `put_field` meets its contract: a decimal number below 100 and the space behind it.
 use native.Mathlib.Omega.{arith}
 use borrow.Author.Needs.{needs}
 use Rattle.text.proofs.HexLaws.{length-decimal}
@@ -5,14 +6,8 @@ use Rattle.text.proofs.Writing.{and-then}
 use Rattle.text_print.proofs.put_field.Statement.{statement}
 use Rattle.text_print.proofs.put_field.Tie as tie
 
-put-decimal-requires : tie.Need-put-decimal-requires
-put-decimal-requires c κs = search needs
-
 put-requires : tie.Need-put-requires
 put-requires c κs = omega (arith, length-decimal (c .before .before .before .before .before .before .args .k))
-
-same-length : tie.Need-same-length
-same-length c = search needs
 
 returns : tie.Need-returns
 returns c =
@@ -25,4 +20,4 @@ returns c =
     (first .put-decimal .ensures) (c .before .before .put .ensures)
 
 pub put-field-spec : {M : Type 1} → statement M
-put-field-spec = tie.close (tie.spec put-decimal-requires put-requires same-length returns)
+put-field-spec = tie.close (tie.spec (λ c κs. search needs) put-requires (λ c. search needs) returns)

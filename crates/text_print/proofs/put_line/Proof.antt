@@ -1,3 +1,4 @@
+-- `put_line` meets its contract: the line of qubit q.
 use mathlib.Core.Path.{subst}
 use mathlib.Core.List.{_++_}
 use native.Mathlib.Omega.{arith}
@@ -9,9 +10,6 @@ use Rattle.text.proofs.HexLaws.{length-field, length-hex}
 use Rattle.text.proofs.Writing.{and-then}
 use Rattle.text_print.proofs.put_line.Statement.{statement}
 use Rattle.text_print.proofs.put_line.Tie as tie
-
-put-field-requires : tie.Need-put-field-requires
-put-field-requires c κs = search needs
 
 put-field-requires-2 : tie.Need-put-field-requires-2
 put-field-requires-2 c κs =
@@ -50,9 +48,6 @@ put-requires c κs =
       start .pre,
     )
 
-same-length : tie.Need-same-length
-same-length c = search needs
-
 returns : tie.Need-returns
 returns c =
     let word = c .before .before .before .before .before .before in
@@ -76,10 +71,4 @@ returns c =
 pub put-line-spec : {M : Type 1} → statement M
 put-line-spec =
     tie.close
-    (tie.spec
-    put-field-requires
-    put-field-requires-2
-    put-word-requires
-    put-requires
-    same-length
-    returns)
+    (tie.spec (λ c κs. search needs) put-field-requires-2 put-word-requires put-requires (λ c. search needs) returns)

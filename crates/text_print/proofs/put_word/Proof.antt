@@ -1,17 +1,18 @@
+-- `put_word` meets its contract: the word in 16 hexadecimal digits, the highest first.
 use mathlib.Core.Path.{_≡_, refl, sym, ap, ap₂, _∙_}
 use Prim.Native.Nat.{_+_, _-_, _*_, _/_, _^_, _≤_, zero-le}
 use native.Mathlib.Omega.{arith}
 use native.Mathlib.Nat.{div-one}
 use lib.ListN.{length, set, length-set}
 use borrow.Author.Needs.{needs}
-use Rattle.text.specs.Text.{hexText, written}
+use Rattle.text.specs.Text.{hexText, overwritten}
 use Rattle.text.proofs.HexLaws.{length-hex, write-digit}
 use Rattle.text.proofs.Writing.{write-none}
 use Rattle.text_print.proofs.put_word.Statement.{statement}
 use Rattle.text_print.proofs.put_word.Tie as tie
 
 abbrev Inv-loop : tie.InvT-loop
-Inv-loop w at out₀ i₀ out i = (i ≤ 16) × (out ≡ written out₀ at (hexText i (w / 2 ^ (64 - 4 * i))))
+Inv-loop w at out₀ i₀ out i = (i ≤ 16) × (out ≡ overwritten out₀ at (hexText i (w / 2 ^ (64 - 4 * i))))
     × (length out ≡ length out₀)
 
 abbrev μ-loop : tie.MeasureT-loop
@@ -20,33 +21,6 @@ abbrev μ-loop : tie.MeasureT-loop
 loop-holds : tie.Need-loop-holds Inv-loop μ-loop
 unfolding hexText
 loop-holds c = (zero-le, write-none _ _, refl)
-
-mul-d : tie.Need-mul-d Inv-loop μ-loop
-mul-d c = search needs
-
-sub-d : tie.Need-sub-d Inv-loop μ-loop
-sub-d c = search needs
-
-shr-d : tie.Need-shr-d Inv-loop μ-loop
-shr-d c = search needs
-
-cast-hex-digit : tie.Need-cast-hex-digit Inv-loop μ-loop
-cast-hex-digit c = search needs
-
-hex-digit-requires : tie.Need-hex-digit-requires Inv-loop μ-loop
-hex-digit-requires c κs = search needs
-
-add-out : tie.Need-add-out Inv-loop μ-loop
-add-out c = search needs
-
-slice-write-out : tie.Need-slice-write-out Inv-loop μ-loop
-slice-write-out c = search needs
-
-add-i : tie.Need-add-i Inv-loop μ-loop
-add-i c = search needs
-
-loop-less : tie.Need-loop-less Inv-loop μ-loop
-loop-less c = search needs
 
 loop-again : tie.Need-loop-again Inv-loop μ-loop
 loop-again c =
@@ -59,12 +33,6 @@ loop-again c =
       simp length-set (l .inv .2),
     )
 
-add-result : tie.Need-add-result Inv-loop μ-loop
-add-result c = search needs
-
-same-length : tie.Need-same-length Inv-loop μ-loop
-same-length c = search needs
-
 returns : tie.Need-returns Inv-loop μ-loop
 returns c =
     let a = c .before .before .before .args in
@@ -73,27 +41,13 @@ returns c =
     record {
       end = ap (λ k. a .at + k) (sym (length-hex 16 (a .w)));
       out =
-          l .inv .1 ∙ ap (λ i. written (a .out .now) (a .at) (hexText i (a .w / 2 ^ (64 - 4 * i)))) all
-          ∙ ap (λ v. written (a .out .now) (a .at) (hexText 16 v)) (div-one (a .w));
+          l .inv .1 ∙ ap (λ i. overwritten (a .out .now) (a .at) (hexText i (a .w / 2 ^ (64 - 4 * i)))) all
+          ∙ ap (λ v. overwritten (a .out .now) (a .at) (hexText 16 v)) (div-one (a .w));
     }
 
 pub put-word-spec : {M : Type 1} → statement M
 put-word-spec =
     tie.close
-    (tie.spec
-    Inv-loop
-    μ-loop
-    loop-holds
-    mul-d
-    sub-d
-    shr-d
-    cast-hex-digit
-    hex-digit-requires
-    add-out
-    slice-write-out
-    add-i
-    loop-less
-    loop-again
-    add-result
-    same-length
-    returns)
+    (tie.spec Inv-loop μ-loop loop-holds (λ c. search needs) (λ c. search needs) (λ c. search needs) (λ c. search needs)
+    (λ c κs. search needs) (λ c. search needs) (λ c. search needs) (λ c. search needs) (λ c. search needs) loop-again
+    (λ c. search needs) (λ c. search needs) returns)

@@ -1,6 +1,7 @@
+-- `hex_value` meets its contract: the value of a lower-case hexadecimal digit; 16 for any other byte.
 use borrow.Author.Tests.{lt-ltb, le-ltb}
 use borrow.Author.Needs.{needs}
-use Rattle.text.specs.Scan.{hexValue}
+use Rattle.text.specs.internal.Scan.{hexValue}
 use Rattle.text_scan.proofs.hex_value.Statement.{statement}
 use Rattle.text_scan.proofs.hex_value.Tie as tie
 
@@ -19,9 +20,6 @@ returns-3 c = simp (
   le-ltb _ _ (c .before .if2 .left),
   lt-ltb _ _ (c .if3 .taken),
 )
-
-sub-result : tie.Need-sub-result
-sub-result c = search needs
 
 returns-4 : tie.Need-returns-4
 unfolding hexValue
@@ -42,4 +40,4 @@ returns-5 c = simp (
 )
 
 pub hex-value-spec : {M : Type 1} → statement M
-hex-value-spec = tie.close (tie.spec returns returns-2 returns-3 sub-result returns-4 returns-5)
+hex-value-spec = tie.close (tie.spec returns returns-2 returns-3 (λ c. search needs) returns-4 returns-5)

@@ -1,15 +1,13 @@
+-- `names_step` meets its contract.
 use borrow.Author.Tests.{lt-ltb, le-ltb, eq-eqb, ne-eqb}
 use borrow.Author.Needs.{needs}
-use Rattle.text.specs.Scan.{namesStep}
+use Rattle.text.specs.internal.Scan.{namesStep}
 use Rattle.text_scan.proofs.names_step.Statement.{statement}
 use Rattle.text_scan.proofs.names_step.Tie as tie
 
 returns : tie.Need-returns
 unfolding namesStep
 returns c = simp (le-ltb _ _ (c .if1 .taken))
-
-array-read-if2 : tie.Need-array-read-if2
-array-read-if2 c = search needs
 
 returns-2 : tie.Need-returns-2
 unfolding namesStep
@@ -23,9 +21,6 @@ returns-3 c = simp (
   eq-eqb _ _ (c .if3 .taken),
 )
 
-add-t8 : tie.Need-add-t8
-add-t8 c = search needs
-
 returns-4 : tie.Need-returns-4
 unfolding namesStep
 returns-4 c = simp (
@@ -35,4 +30,4 @@ returns-4 c = simp (
 )
 
 pub names-step-spec : {M : Type 1} → statement M
-names-step-spec = tie.close (tie.spec returns array-read-if2 returns-2 returns-3 add-t8 returns-4)
+names-step-spec = tie.close (tie.spec returns (λ c. search needs) returns-2 returns-3 (λ c. search needs) returns-4)

@@ -1,11 +1,9 @@
+-- `one_more` meets its contract.
 use borrow.Author.Tests.{lt-ltb, le-ltb}
 use borrow.Author.Needs.{needs}
-use Rattle.text.specs.Scan.{oneMore}
+use Rattle.text.specs.internal.Scan.{oneMore}
 use Rattle.text_scan.proofs.one_more.Statement.{statement}
 use Rattle.text_scan.proofs.one_more.Tie as tie
-
-add-result : tie.Need-add-result
-add-result c = search needs
 
 returns : tie.Need-returns
 unfolding oneMore
@@ -16,4 +14,4 @@ unfolding oneMore
 returns-2 c = simp (le-ltb _ _ (c .if1 .left))
 
 pub one-more-spec : {M : Type 1} → statement M
-one-more-spec = tie.close (tie.spec add-result returns returns-2)
+one-more-spec = tie.close (tie.spec (λ c. search needs) returns returns-2)

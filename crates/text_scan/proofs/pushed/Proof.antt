@@ -1,15 +1,13 @@
+-- `pushed` meets its contract: a word with one more digit at its low end.
 use mathlib.Core.Path.{refl}
 use borrow.Author.Needs.{needs}
-use Rattle.text.specs.Scan.{push}
+use Rattle.text.specs.internal.Scan.{push}
 use Rattle.text_scan.proofs.pushed.Statement.{statement}
 use Rattle.text_scan.proofs.pushed.Tie as tie
-
-add-result : tie.Need-add-result
-add-result c = search needs
 
 returns : tie.Need-returns
 unfolding push
 returns c = refl
 
 pub pushed-spec : {M : Type 1} → statement M
-pushed-spec = tie.close (tie.spec add-result returns)
+pushed-spec = tie.close (tie.spec (λ c. search needs) returns)

@@ -1,11 +1,9 @@
+-- `sign_step` meets its contract.
 use borrow.Author.Tests.{lt-ltb, le-ltb}
 use borrow.Author.Needs.{needs}
-use Rattle.text.specs.Scan.{signStep}
+use Rattle.text.specs.internal.Scan.{signStep}
 use Rattle.text_scan.proofs.sign_step.Statement.{statement}
 use Rattle.text_scan.proofs.sign_step.Tie as tie
-
-at-place-requires : tie.Need-at-place-requires
-at-place-requires c κs = search needs
 
 returns : tie.Need-returns
 unfolding signStep
@@ -15,14 +13,10 @@ returns-2 : tie.Need-returns-2
 unfolding signStep
 returns-2 c = simp (le-ltb _ _ (c .before .if1 .left), lt-ltb _ _ (c .if2 .taken))
 
-at-place-requires-2 : tie.Need-at-place-requires-2
-at-place-requires-2 c κs = search needs
-
 returns-3 : tie.Need-returns-3
 unfolding signStep
 returns-3 c = simp (le-ltb _ _ (c .before .before .if1 .left), le-ltb _ _ (c .before .if2 .left))
     (c .at-place2 .ensures)
 
 pub sign-step-spec : {M : Type 1} → statement M
-sign-step-spec =
-    tie.close (tie.spec at-place-requires returns returns-2 at-place-requires-2 returns-3)
+sign-step-spec = tie.close (tie.spec (λ c κs. search needs) returns returns-2 (λ c κs. search needs) returns-3)

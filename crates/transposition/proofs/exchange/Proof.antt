@@ -1,3 +1,5 @@
+-- `exchange` meets its contract: one round on m rows and columns: bit s of the row's number and of the column's are
+-- exchanged.
 use mathlib.Core.List.{List}
 use mathlib.Core.Path.{_≡_}
 use Prim.Native.Nat.{_%_, _*_, _+_, _-_, _<_, ℕ, _≤_}
@@ -5,7 +7,7 @@ use native.Mathlib.Nat.{zero-mod}
 use native.Mathlib.Omega.{arith}
 use lib.ListN.{length, length-set}
 use Rattle.transposition.proofs.Exchanging.{Upto, all-exchanged, block-passed, none-yet, nothing-exchanged, pair-below, pair-exchanged}
-use Rattle.transposition.specs.Squares.{Fits}
+use Rattle.transposition.specs.internal.Squares.{Fits}
 use Rattle.transposition.proofs.exchange.Statement.{statement}
 use Rattle.transposition.proofs.exchange.Tie as tie
 use Rattle.transposition.proofs.exchange.Reads as reads

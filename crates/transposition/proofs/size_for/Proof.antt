@@ -1,5 +1,6 @@
+-- `size_for` meets its contract: the next size that has its rounds.
 use native.Mathlib.Omega.{arith}
-use Rattle.transposition.specs.Squares.{eight, full, half, sixteen}
+use Rattle.transposition.specs.internal.Squares.{eight, full, half, sixteen}
 use Rattle.transposition.proofs.size_for.Statement.{statement}
 use Rattle.transposition.proofs.size_for.Tie as tie
 

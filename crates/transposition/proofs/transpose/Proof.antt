@@ -1,12 +1,10 @@
+-- `transpose` meets its contract: transposes the first n rows and columns.
 use borrow.Author.Needs.{needs}
 use Rattle.transposition.proofs.RoundTests.{fits1, fits16, fits2, fits32, fits4, fits8}
 use Rattle.transposition.proofs.RoundTests.{round1, round16, round2, round32, round4, round8, size-below}
 use Rattle.transposition.proofs.Rounds.{six-rounds}
 use Rattle.transposition.proofs.transpose.Statement.{statement}
 use Rattle.transposition.proofs.transpose.Tie as tie
-
-size-for-requires : tie.Need-size-for-requires
-size-for-requires c κs = search needs
 
 exchange-requires : tie.Need-exchange-requires
 exchange-requires c κs =
@@ -52,12 +50,5 @@ returns c =
 pub transpose-spec : {M : Type 1} → statement M
 transpose-spec =
     tie.close
-    (tie.spec
-    size-for-requires
-    exchange-requires
-    exchange-requires-2
-    exchange-requires-3
-    exchange-requires-4
-    exchange-requires-5
-    exchange-requires-6
-    returns)
+    (tie.spec (λ c κs. search needs) exchange-requires exchange-requires-2 exchange-requires-3 exchange-requires-4
+    exchange-requires-5 exchange-requires-6 returns)

@@ -1,3 +1,4 @@
+-- `count` meets its contract: the number of ones.
 use mathlib.Core.Path.{refl}
 use native.Mathlib.Omega.{arith}
 use lib.Count.{ones-le}

@@ -1,3 +1,4 @@
+-- `flip_where` meets its contract: w with bit q flipped where b is true.
 use mathlib.Core.Bool.{cond}
 use mathlib.Core.Path.{_∙_, ap, sym}
 use Prim.Native.Nat.{_^_}
@@ -6,9 +7,6 @@ use borrow.Author.Needs.{needs}
 use Rattle.words.proofs.Places.{bit-flip-where}
 use Rattle.words.proofs.flip_where.Statement.{statement}
 use Rattle.words.proofs.flip_where.Tie as tie
-
-flip-requires : tie.Need-flip-requires
-flip-requires c κs = search needs
 
 returns : tie.Need-returns
 returns c = let a = c .before .before .args in
@@ -20,4 +18,4 @@ returns-2 c = let a = c .before .args in
     bit-flip-where (a .w) (a .q) (a .b) _ (ap (λ b. cond b (bitXor (a .w) (2 ^ a .q)) (a .w)) (sym (c .if1 .left)))
 
 pub flip-where-spec : {M : Type 1} → statement M
-flip-where-spec = tie.close (tie.spec flip-requires returns returns-2)
+flip-where-spec = tie.close (tie.spec (λ c κs. search needs) returns returns-2)

@@ -1,3 +1,4 @@
+-- `mask` meets its contract: the mask of n qubits: the bits below n are 1.
 use mathlib.Core.Path.{_∙_, ap, _≡_}
 use Prim.Native.Nat.{_+_, _-_, _/_, _^_}
 use native.Mathlib.Omega.{arith}
@@ -5,12 +6,6 @@ use lib.Pow.{high, ones-lt, ones-split}
 use borrow.Author.Needs.{needs}
 use Rattle.words.proofs.mask.Statement.{statement}
 use Rattle.words.proofs.mask.Tie as tie
-
-sub-result : tie.Need-sub-result
-sub-result c = search needs
-
-shr-result : tie.Need-shr-result
-shr-result c = search needs
 
 returns : tie.Need-returns
 returns c =
@@ -20,4 +15,4 @@ returns c =
     ∙ high (2 ^ n - 1) (64 - n) (ones-lt (64 - n))
 
 pub mask-spec : {M : Type 1} → statement M
-mask-spec = tie.close (tie.spec sub-result shr-result returns)
+mask-spec = tie.close (tie.spec (λ c. search needs) (λ c. search needs) returns)

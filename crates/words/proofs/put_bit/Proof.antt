@@ -1,18 +1,10 @@
+-- `put_bit` meets its contract: w with bit q set to b.
 use mathlib.Core.Path.{sym, _∙_}
 use mathlib.Core.Bool.{false, true}
 use borrow.Author.Needs.{needs}
 use Rattle.words.proofs.Places.{bit-put-flipped, bit-put-kept}
 use Rattle.words.proofs.put_bit.Statement.{statement}
 use Rattle.words.proofs.put_bit.Tie as tie
-
-has-requires : tie.Need-has-requires
-has-requires c κs = search needs
-
-flip-requires : tie.Need-flip-requires
-flip-requires c κs = search needs
-
-flip-requires-2 : tie.Need-flip-requires-2
-flip-requires-2 c κs = search needs
 
 returns : tie.Need-returns
 returns c =
@@ -41,4 +33,5 @@ returns-4 c =
 pub put-bit-spec : {M : Type 1} → statement M
 put-bit-spec =
     tie.close
-    (tie.spec has-requires flip-requires flip-requires-2 returns returns-2 returns-3 returns-4)
+    (tie.spec (λ c κs. search needs) (λ c κs. search needs) (λ c κs. search needs) returns returns-2 returns-3
+    returns-4)

@@ -1,3 +1,4 @@
+-- `smallest` meets its contract: the smallest set bit; 64 where there is none.
 use mathlib.Core.Path.{refl}
 use native.Mathlib.Omega.{arith}
 use lib.Count.{trailing-le}

@@ -6,7 +6,7 @@
 #[path = "../../../sukhlent/tests/common/seeded/mod.rs"]
 mod seeded;
 
-use seeded::{list, mixed, random_islands, random_rows, rows, Random};
+use seeded::{list, mixed, random_components, random_rows, rows, Random};
 use std::arch::asm;
 use sukhlent::{expand, raw, GeneratorList};
 
@@ -121,7 +121,7 @@ fn of_compare(random: &mut Random, n: usize) -> usize {
         rest -= taken;
         taken
     });
-    let record = random_islands(random, &fitting);
+    let record = random_components(random, &fitting);
     let rows = rows(&expand(&record).expect("a simple graph"));
     let [a, b] = [list(&rows), list(&mixed(random, &rows))];
     let [a, b] = [&a, &b].map(|list| (n as u64, &*list.signs, &*list.z, &*list.x));

@@ -3,7 +3,7 @@
 use super::Line;
 use crate::pairs::{equivalent, inequivalent, Pair};
 use crate::plain;
-use crate::seeded::{random_islands, random_record, Random};
+use crate::seeded::{random_components, random_record, Random};
 use crate::timing::Ready;
 use sukhlent::raw::{self, Lent};
 use sukhlent::GeneratorList;
@@ -47,11 +47,11 @@ pub fn line(n: usize, are_equivalent: bool) -> Line {
     )
 }
 
-/// The line of 64 qubits in islands of these sizes, on equivalent pairs.
-pub fn islands(sizes: &[usize], name: &'static str) -> Line {
+/// The line of 64 qubits in components of these sizes, on equivalent pairs.
+pub fn components(sizes: &[usize], name: &'static str) -> Line {
     let mut random = Random::new(64);
     let one = |_| {
-        let graph = random_islands(&mut random, sizes).neighbours;
+        let graph = random_components(&mut random, sizes).neighbours;
         equivalent(&mut random, &graph)
     };
     let pairs: Vec<Pair> = (0..PAIRS).map(one).collect();

@@ -92,29 +92,29 @@ fn least_by_parts(n: usize, a: &Record, b: &Record) -> Option<[u8; 64]> {
     let mut choice = [0; 64];
     let mut rest = u64::MAX >> (64 - n);
     while rest != 0 {
-        let island = part(&a.neighbours, rest.trailing_zeros() as usize);
-        if places(island).any(|q| b.neighbours[q] & !island != 0) {
+        let component = part(&a.neighbours, rest.trailing_zeros() as usize);
+        if places(component).any(|q| b.neighbours[q] & !component != 0) {
             return None;
         }
-        let [from, to] = [a, b].map(|record| group(record, island));
-        let least = least_choice(island.count_ones() as usize, &from, &to)?;
-        for (q, code) in places(island).zip(least) {
+        let [from, to] = [a, b].map(|record| group(record, component));
+        let least = least_choice(component.count_ones() as usize, &from, &to)?;
+        for (q, code) in places(component).zip(least) {
             choice[q] = code;
         }
-        rest &= !island;
+        rest &= !component;
     }
     Some(choice)
 }
 
 /// The group of a part, its vertices in rising order.
-fn group(record: &Record, island: u64) -> Group {
+fn group(record: &Record, component: u64) -> Group {
     let (mut neighbours, mut numbers) = ([0; 20], [0; 20]);
-    for (i, q) in places(island).enumerate() {
-        let bits = places(island).enumerate();
+    for (i, q) in places(component).enumerate() {
+        let bits = places(component).enumerate();
         let bit = |(j, p): (usize, usize)| (record.neighbours[q] >> p & 1) << j;
         neighbours[i] = bits.map(bit).sum();
         numbers[i] = record.numbers[q];
     }
-    let k = island.count_ones() as usize;
+    let k = component.count_ones() as usize;
     Group::new(&neighbours[..k], &Codes::new(&numbers[..k]))
 }

@@ -28,7 +28,7 @@ pub use image::ImageLengths;
 pub use operation::Operation;
 pub use pairs::PairCall;
 pub use seeded::{
-    list, mixed, parsed, pauli, random_islands, random_record, random_rows, random_sizes, rows,
+    list, mixed, parsed, pauli, random_components, random_record, random_rows, random_sizes, rows,
     stabilizers, Circuit, Pauli, Random,
 };
 pub use strings::ReadCall;

@@ -1,3 +1,4 @@
+-- `inverse` meets its contract: the code that undoes this one.
 use native.Mathlib.Omega.{arith}
 use Rattle.clifford.proofs.Digits.{back-lt, byte-lt, inverse-by-calls}
 use borrow.Author.Needs.{needs}
@@ -10,18 +11,9 @@ mul-back c = omega (arith, back-lt (c .args .self .index) (c .pre))
 image-letter-requires : tie.Need-image-letter-requires
 image-letter-requires c κs = omega (arith, back-lt (c .args .self .index) (c .pre))
 
-image-minus-requires : tie.Need-image-minus-requires
-image-minus-requires c κs = search needs
-
 image-letter-requires-2 : tie.Need-image-letter-requires-2
 image-letter-requires-2 c κs =
     omega (arith, back-lt (c .before .before .args .self .index) (c .before .before .pre))
-
-image-minus-requires-2 : tie.Need-image-minus-requires-2
-image-minus-requires-2 c κs = search needs
-
-cast-t7 : tie.Need-cast-t7
-cast-t7 c = search needs
 
 mul-t8 : tie.Need-mul-t8
 mul-t8 c = omega (arith, byte-lt (c .before .before .image-minus .result))
@@ -30,9 +22,6 @@ add-t11 : tie.Need-add-t11
 add-t11 c =
     let start = c .before .before .before .before in
     omega (arith, back-lt (start .args .self .index) (start .pre), byte-lt (c .before .before .image-minus .result))
-
-cast-t12 : tie.Need-cast-t12
-cast-t12 c = search needs
 
 add-t13 : tie.Need-add-t13
 add-t13 c =
@@ -55,15 +44,5 @@ returns c =
 pub inverse-spec : {M : Type 1} → statement M
 inverse-spec =
     tie.close
-    (tie.spec
-    mul-back
-    image-letter-requires
-    image-minus-requires
-    image-letter-requires-2
-    image-minus-requires-2
-    cast-t7
-    mul-t8
-    add-t11
-    cast-t12
-    add-t13
-    returns)
+    (tie.spec mul-back image-letter-requires (λ c κs. search needs) image-letter-requires-2 (λ c κs. search needs)
+    (λ c. search needs) mul-t8 add-t11 (λ c. search needs) add-t13 returns)

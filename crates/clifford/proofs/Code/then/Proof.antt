@@ -1,24 +1,10 @@
+-- `then` meets its contract: first this code, then the next.
 use mathlib.Core.Path.{ap, _∙_, _≡_}
 use native.Mathlib.Omega.{arith}
 use Rattle.clifford.specs.Clifford.{cliffordOf, codeOf, then}
 use borrow.Author.Needs.{needs}
 use Rattle.clifford.proofs.Code.then.Statement.{statement}
 use Rattle.clifford.proofs.Code.then.Tie as tie
-
-after-one-requires : tie.Need-after-one-requires
-after-one-requires c κs = search needs
-
-after-two-requires : tie.Need-after-two-requires
-after-two-requires c κs = search needs
-
-after-six-requires : tie.Need-after-six-requires
-after-six-requires c κs = search needs
-
-after-thirteen-requires : tie.Need-after-thirteen-requires
-after-thirteen-requires c κs = search needs
-
-entry-requires : tie.Need-entry-requires
-entry-requires c κs = search needs
 
 returns : tie.Need-returns
 returns c =
@@ -52,20 +38,8 @@ returns-4 c =
       c .after-thirteen .ensures .1,
     )
 
-returns-5 : tie.Need-returns-5
-returns-5 c = search needs
-
 pub then-spec : {M : Type 1} → statement M
 then-spec =
     tie.close
-    (tie.spec
-    after-one-requires
-    after-two-requires
-    after-six-requires
-    after-thirteen-requires
-    entry-requires
-    returns
-    returns-2
-    returns-3
-    returns-4
-    returns-5)
+    (tie.spec (λ c κs. search needs) (λ c κs. search needs) (λ c κs. search needs) (λ c κs. search needs)
+    (λ c κs. search needs) returns returns-2 returns-3 returns-4 (λ c. search needs))

@@ -1,3 +1,5 @@
+-- `class_words` meets its contract: bit q of the four words is the matrix of the class at q: image z = a z + b x, image
+-- x = c z + d x.
 use Prim.Native.Nat.{_-_}
 use native.Mathlib.Omega.{arith}
 use borrow.Author.Needs.{needs}
@@ -14,41 +16,8 @@ abbrev μ-loop : tie.MeasureT-loop
 loop-holds : tie.Need-loop-holds Inv-loop μ-loop
 loop-holds c = no-classes _ _
 
-array-read-image-letters : tie.Need-array-read-image-letters Inv-loop μ-loop
-array-read-image-letters c = search needs
-
 image-letters-requires : tie.Need-image-letters-requires Inv-loop μ-loop
 image-letters-requires c κs = omega (arith, c .before .before .pre .1 (c .before .loop .q))
-
-z-bit-requires : tie.Need-z-bit-requires Inv-loop μ-loop
-z-bit-requires c κs = search needs
-
-put-bit-requires : tie.Need-put-bit-requires Inv-loop μ-loop
-put-bit-requires c κs = search needs
-
-z-bit-requires-2 : tie.Need-z-bit-requires-2 Inv-loop μ-loop
-z-bit-requires-2 c κs = search needs
-
-put-bit-requires-2 : tie.Need-put-bit-requires-2 Inv-loop μ-loop
-put-bit-requires-2 c κs = search needs
-
-x-bit-requires : tie.Need-x-bit-requires Inv-loop μ-loop
-x-bit-requires c κs = search needs
-
-put-bit-requires-3 : tie.Need-put-bit-requires-3 Inv-loop μ-loop
-put-bit-requires-3 c κs = search needs
-
-x-bit-requires-2 : tie.Need-x-bit-requires-2 Inv-loop μ-loop
-x-bit-requires-2 c κs = search needs
-
-put-bit-requires-4 : tie.Need-put-bit-requires-4 Inv-loop μ-loop
-put-bit-requires-4 c κs = search needs
-
-add-q : tie.Need-add-q Inv-loop μ-loop
-add-q c = search needs
-
-loop-less : tie.Need-loop-less Inv-loop μ-loop
-loop-less c = omega arith
 
 loop-again : tie.Need-loop-again Inv-loop μ-loop
 loop-again c =
@@ -75,21 +44,6 @@ returns c =
 pub class-words-spec : {M : Type 1} → statement M
 class-words-spec =
     tie.close
-    (tie.spec
-    Inv-loop
-    μ-loop
-    loop-holds
-    array-read-image-letters
-    image-letters-requires
-    z-bit-requires
-    put-bit-requires
-    z-bit-requires-2
-    put-bit-requires-2
-    x-bit-requires
-    put-bit-requires-3
-    x-bit-requires-2
-    put-bit-requires-4
-    add-q
-    loop-less
-    loop-again
-    returns)
+    (tie.spec Inv-loop μ-loop loop-holds (λ c. search needs) image-letters-requires (λ c κs. search needs)
+    (λ c κs. search needs) (λ c κs. search needs) (λ c κs. search needs) (λ c κs. search needs) (λ c κs. search needs)
+    (λ c κs. search needs) (λ c κs. search needs) (λ c. search needs) (λ c. omega arith) loop-again returns)

@@ -1,3 +1,4 @@
+-- `sign_words` meets its contract: bit q of the first word is sx at q, of the second sz.
 use Prim.Native.Nat.{_-_}
 use native.Mathlib.Omega.{arith}
 use borrow.Author.Needs.{needs}
@@ -14,21 +15,6 @@ abbrev μ-loop : tie.MeasureT-loop
 loop-holds : tie.Need-loop-holds Inv-loop μ-loop
 loop-holds c = no-signs _ _
 
-array-read-code : tie.Need-array-read-code Inv-loop μ-loop
-array-read-code c = search needs
-
-put-bit-requires : tie.Need-put-bit-requires Inv-loop μ-loop
-put-bit-requires c κs = search needs
-
-put-bit-requires-2 : tie.Need-put-bit-requires-2 Inv-loop μ-loop
-put-bit-requires-2 c κs = search needs
-
-add-q : tie.Need-add-q Inv-loop μ-loop
-add-q c = search needs
-
-loop-less : tie.Need-loop-less Inv-loop μ-loop
-loop-less c = omega arith
-
 loop-again : tie.Need-loop-again Inv-loop μ-loop
 loop-again c =
     let l = c .before .before .before .loop in
@@ -43,14 +29,5 @@ returns c =
 pub sign-words-spec : {M : Type 1} → statement M
 sign-words-spec =
     tie.close
-    (tie.spec
-    Inv-loop
-    μ-loop
-    loop-holds
-    array-read-code
-    put-bit-requires
-    put-bit-requires-2
-    add-q
-    loop-less
-    loop-again
-    returns)
+    (tie.spec Inv-loop μ-loop loop-holds (λ c. search needs) (λ c κs. search needs) (λ c κs. search needs)
+    (λ c. search needs) (λ c. omega arith) loop-again returns)

@@ -1,3 +1,4 @@
+-- `add` meets its contract: the sum of two equations.
 use lib.Bits.{bitXor}
 use Rattle.words.proofs.Finite.{unequal}
 use Rattle.comparison_equations.proofs.equations.add.Statement.{statement}

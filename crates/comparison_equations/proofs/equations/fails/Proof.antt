@@ -1,10 +1,8 @@
+-- `fails` meets its contract: whether the unknowns give another sum than the one asked for.
 use borrow.Author.Needs.{needs}
 use Rattle.comparison.proofs.EquationLaws.{four-odd}
 use Rattle.comparison_equations.proofs.equations.fails.Statement.{statement}
 use Rattle.comparison_equations.proofs.equations.fails.Tie as tie
-
-odd-requires : tie.Need-odd-requires
-odd-requires c κs = search needs
 
 returns : tie.Need-returns
 returns c =
@@ -12,4 +10,4 @@ returns c =
     four-odd (a .e) (a .w) (c .before .odd .result) (c .before .odd .ensures)
 
 pub fails-spec : {M : Type 1} → statement M
-fails-spec = tie.close (tie.spec odd-requires returns)
+fails-spec = tie.close (tie.spec (λ c κs. search needs) returns)

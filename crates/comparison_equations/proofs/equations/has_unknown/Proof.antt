@@ -1,20 +1,9 @@
+-- `has_unknown` meets its contract: whether an equation has unknown i % 4 at qubit i / 4.
 use native.Mathlib.Omega.{arith}
 use borrow.Author.Needs.{needs}
 use Rattle.comparison.proofs.EquationLaws.{unknown-by}
 use Rattle.comparison_equations.proofs.equations.has_unknown.Statement.{statement}
 use Rattle.comparison_equations.proofs.equations.has_unknown.Tie as tie
-
-has-requires : tie.Need-has-requires
-has-requires c κs = search needs
-
-has-requires-2 : tie.Need-has-requires-2
-has-requires-2 c κs = search needs
-
-has-requires-3 : tie.Need-has-requires-3
-has-requires-3 c κs = search needs
-
-has-requires-4 : tie.Need-has-requires-4
-has-requires-4 c κs = search needs
 
 returns : tie.Need-returns
 returns c =
@@ -38,4 +27,6 @@ returns-4 c =
 
 pub has-unknown-spec : {M : Type 1} → statement M
 has-unknown-spec =
-    tie.close (tie.spec has-requires has-requires-2 has-requires-3 has-requires-4 returns returns-2 returns-3 returns-4)
+    tie.close
+    (tie.spec (λ c κs. search needs) (λ c κs. search needs) (λ c κs. search needs) (λ c κs. search needs) returns
+    returns-2 returns-3 returns-4)

@@ -1,9 +1,11 @@
+-- `insert` meets its contract: stores an equation, or a sum of it with stored ones, at the place of its last unknown,
+-- or nothing.
 use mathlib.Core.Path.{ap, subst, sym, _∙_}
 use Prim.Native.Nat.{_≤_, _-_}
 use native.Mathlib.Omega.{arith}
 use lib.ListN.{set}
 use borrow.Author.Needs.{needs}
-use Rattle.comparison.specs.Equations.{Inserted, tableOf}
+use Rattle.comparison.specs.internal.Equations.{Inserted, equationsIn}
 use Rattle.comparison.proofs.Insertion.{
   Inserting,
   insert-added,
@@ -17,37 +19,16 @@ use Rattle.comparison_equations.proofs.equations.insert.Statement.{stat
 use Rattle.comparison_equations.proofs.equations.insert.Tie as tie
 
 abbrev Inv-loop : tie.InvT-loop
-Inv-loop table₀ m left₀ i₀ table left i = (i ≤ 80) × Inserting (tableOf table₀) left₀ (tableOf table) left i
+Inv-loop table₀ m left₀ i₀ table left i = (i ≤ 80) × Inserting (equationsIn table₀) left₀ (equationsIn table) left i
 
 abbrev μ-loop : tie.MeasureT-loop
 μ-loop table₀ m left₀ i₀ table left i = i
 
 loop-holds : tie.Need-loop-holds Inv-loop μ-loop
-loop-holds c = (c .pre .0, insert-start (tableOf (c .args .table .now)) (c .args .e) (c .args .m) (c .pre .2))
-
-sub-i : tie.Need-sub-i Inv-loop μ-loop
-sub-i c = search needs
-
-has-unknown-requires : tie.Need-has-unknown-requires Inv-loop μ-loop
-has-unknown-requires c κs = search needs
-
-mul-equation : tie.Need-mul-equation Inv-loop μ-loop
-mul-equation c = search needs
+loop-holds c = (c .pre .0, insert-start (equationsIn (c .args .table .now)) (c .args .e) (c .args .m) (c .pre .2))
 
 element-copy-out-equation : tie.Need-element-copy-out-equation Inv-loop μ-loop
 element-copy-out-equation c = omega (arith, c .before .before .before .loop .inv .0, c .before .before .loop-test .taken)
-
-equation-requires : tie.Need-equation-requires Inv-loop μ-loop
-equation-requires c κs = search needs
-
-span-requires : tie.Need-span-requires Inv-loop μ-loop
-span-requires c κs = search needs
-
-row-requires : tie.Need-row-requires Inv-loop μ-loop
-row-requires c κs = search needs
-
-mul-t16 : tie.Need-mul-t16 Inv-loop μ-loop
-mul-t16 c = search needs
 
 element-set-from-table : tie.Need-element-set-from-table Inv-loop μ-loop
 element-set-from-table c = omega (arith, c .before .before .before .before .before .before .before .before .loop .inv .0, c .before .before .before .before .before .before .before .loop-test .taken)
@@ -57,18 +38,12 @@ returns c =
     let s = c .before .before .before .before .before .before .before .before .before in
     let l = c .before .before .before .before .before .before .before .before .loop in
     let e = c .before .before .before .equation in
-    subst (Inserted (tableOf (s .args .table .now)) (s .args .e))
-    (sym (row-set (l .table) (l .i - 1) (c .row .result) ∙ ap (set (tableOf (l .table)) (l .i - 1)) (c .row .ensures)))
-    (insert-stored (tableOf (s .args .table .now)) (s .args .e) (s .pre .1) (tableOf (l .table)) (l .left) (l .i)
+    subst (Inserted (equationsIn (s .args .table .now)) (s .args .e))
+    (sym (row-set (l .table) (l .i - 1) (c .row .result) ∙ ap (set (equationsIn (l .table)) (l .i - 1)) (c .row .ensures)))
+    (insert-stored (equationsIn (s .args .table .now)) (s .args .e) (s .pre .1) (equationsIn (l .table)) (l .left) (l .i)
     (c .before .before .before .before .before .before .before .loop-test .taken) (l .inv .1) (omega (arith, l .inv .0, c .before .before .before .before .before .before .before .loop-test .taken))
     (sym (c .before .before .before .before .before .before .has-unknown .ensures) ∙ c .before .before .before .before .before .if1 .taken) (e .result)
     (e .ensures ∙ sym (row-at (l .table) (l .i - 1))) (sym (c .before .before .span .ensures) ∙ c .before .if2 .taken))
-
-add-requires : tie.Need-add-requires Inv-loop μ-loop
-add-requires c κs = search needs
-
-loop-less : tie.Need-loop-less Inv-loop μ-loop
-loop-less c = omega arith
 
 loop-again : tie.Need-loop-again Inv-loop μ-loop
 loop-again c =
@@ -76,22 +51,19 @@ loop-again c =
     let l = c .before .before .before .before .before .before .before .before .loop in
     let e = c .before .before .before .equation in (
       omega (arith, l .inv .0),
-      insert-added (tableOf (s .args .table .now)) (s .args .e) (s .pre .1) (tableOf (l .table)) (l .left) (l .i)
+      insert-added (equationsIn (s .args .table .now)) (s .args .e) (s .pre .1) (equationsIn (l .table)) (l .left) (l .i)
           (c .before .before .before .before .before .before .before .loop-test .taken) (l .inv .1)
           (sym (c .before .before .before .before .before .before .has-unknown .ensures) ∙ c .before .before .before .before .before .if1 .taken) (e .result) (c .add .result)
           (e .ensures ∙ sym (row-at (l .table) (l .i - 1)))
           (λ none. c .before .if2 .left (c .before .before .span .ensures ∙ none)) (c .add .ensures),
     )
 
-loop-less-2 : tie.Need-loop-less-2 Inv-loop μ-loop
-loop-less-2 c = omega arith
-
 loop-again-2 : tie.Need-loop-again-2 Inv-loop μ-loop
 loop-again-2 c =
     let s = c .before .before .before .before in
     let l = c .before .before .before .loop in (
       omega (arith, l .inv .0),
-      insert-skipped (tableOf (s .args .table .now)) (s .args .e) (s .pre .1) (tableOf (l .table)) (l .left) (l .i)
+      insert-skipped (equationsIn (s .args .table .now)) (s .args .e) (s .pre .1) (equationsIn (l .table)) (l .left) (l .i)
           (c .before .before .loop-test .taken) (l .inv .1) (sym (c .before .has-unknown .ensures) ∙ c .if1 .left),
     )
 
@@ -99,30 +71,14 @@ returns-2 : tie.Need-returns-2 Inv-loop μ-loop
 returns-2 c =
     let s = c .before .before in
     let l = c .before .loop in
-    insert-nothing (tableOf (s .args .table .now)) (s .args .e) (s .pre .1) (tableOf (l .table)) (l .left)
-    (subst (Inserting (tableOf (s .args .table .now)) (s .args .e) (tableOf (l .table)) (l .left))
+    insert-nothing (equationsIn (s .args .table .now)) (s .args .e) (s .pre .1) (equationsIn (l .table)) (l .left)
+    (subst (Inserting (equationsIn (s .args .table .now)) (s .args .e) (equationsIn (l .table)) (l .left))
     (omega (arith, c .loop-test .left)) (l .inv .1))
 
 pub insert-spec : {M : Type 1} → statement M
 insert-spec =
     tie.close
-    (tie.spec
-    Inv-loop
-    μ-loop
-    loop-holds
-    sub-i
-    has-unknown-requires
-    mul-equation
-    element-copy-out-equation
-    equation-requires
-    span-requires
-    row-requires
-    mul-t16
-    element-set-from-table
-    returns
-    add-requires
-    loop-less
-    loop-again
-    loop-less-2
-    loop-again-2
+    (tie.spec Inv-loop μ-loop loop-holds (λ c. search needs) (λ c κs. search needs) (λ c. search needs)
+    element-copy-out-equation (λ c κs. search needs) (λ c κs. search needs) (λ c κs. search needs) (λ c. search needs)
+    element-set-from-table returns (λ c κs. search needs) (λ c. omega arith) loop-again (λ c. omega arith) loop-again-2
     returns-2)

@@ -1,3 +1,4 @@
+-- `row` meets its contract: the row of an equation.
 use mathlib.Core.Path.{sym}
 use Rattle.comparison_equations.proofs.equations.row.Statement.{statement}
 use Rattle.comparison_equations.proofs.equations.row.Tie as tie

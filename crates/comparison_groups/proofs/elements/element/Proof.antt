@@ -1,3 +1,4 @@
+-- `element` meets its contract: an element of the second group: the row itself, or its negative, if that is one.
 use mathlib.Core.Path.{_∙_, refl, subst, sym}
 use mathlib.Core.Logic.{⊎-elim}
 use Prim.Native.Nat.{_+_, _-_}
@@ -5,10 +6,10 @@ use native.Mathlib.Omega.{arith}
 use borrow.Author.Needs.{needs}
 use Rattle.words.specs.Bits.{bit}
 use Rattle.words.proofs.BitLaws.{zero-bit}
-use Rattle.pauli.specs.Rows.{generatorOf}
+use Rattle.pauli.specs.internal.Rows.{generatorOf}
 use Rattle.pauli.proofs.PauliLaws.{Pauli-path}
 use Rattle.clifford.specs.Vectors.{codesOf}
-use Rattle.comparison.specs.Setting.{generatorsOf}
+use Rattle.comparison.specs.internal.Setting.{generatorsOf}
 use Rattle.comparison.proofs.RecordElements.{framed-proper, guessed}
 use Rattle.stabilizer.proofs.Multiplying.{Multiplied, multiplied-off, multiplied-on, next-commutes, none-multiplied}
 use Rattle.comparison_groups.proofs.elements.element.Statement.{statement}
@@ -20,23 +21,8 @@ Inv-loop n second w h₀ j₀ h j = Multiplied n (generatorsOf second) (bit w) j
 abbrev μ-loop : tie.MeasureT-loop
 μ-loop n second w h₀ j₀ h j = n - j
 
-slice-aggregate-send : tie.Need-slice-aggregate-send Inv-loop μ-loop
-slice-aggregate-send c = search needs
-
-send-requires : tie.Need-send-requires Inv-loop μ-loop
-send-requires c κs = search needs
-
 loop-holds : tie.Need-loop-holds Inv-loop μ-loop
 loop-holds c = none-multiplied _ _ _ _ (Pauli-path refl zero-bit zero-bit)
-
-has-requires : tie.Need-has-requires Inv-loop μ-loop
-has-requires c κs = search needs
-
-mul-g : tie.Need-mul-g Inv-loop μ-loop
-mul-g c = search needs
-
-array-copy-out-g : tie.Need-array-copy-out-g Inv-loop μ-loop
-array-copy-out-g c = search needs
 
 times-requires : tie.Need-times-requires Inv-loop μ-loop
 times-requires c κs =
@@ -46,12 +32,6 @@ times-requires c κs =
     next-commutes (s .args .n) (omega arith) (generatorsOf (s .args .t2)) (proper .within)
     (bit (c .before .before .before .before .before .send .result .x)) (l .j) (generatorOf (l .h)) (l .inv)
     (c .before .before .before .loop-test .taken) (proper .commuting)
-
-add-j : tie.Need-add-j Inv-loop μ-loop
-add-j c = search needs
-
-loop-less : tie.Need-loop-less Inv-loop μ-loop
-loop-less c = omega arith
 
 loop-again : tie.Need-loop-again Inv-loop μ-loop
 loop-again c =
@@ -82,17 +62,5 @@ returns c =
 pub element-spec : {M : Type 1} → statement M
 element-spec =
     tie.close
-    (tie.spec
-    Inv-loop
-    μ-loop
-    slice-aggregate-send
-    send-requires
-    loop-holds
-    has-requires
-    mul-g
-    array-copy-out-g
-    times-requires
-    add-j
-    loop-less
-    loop-again
-    returns)
+    (tie.spec Inv-loop μ-loop (λ c. search needs) (λ c κs. search needs) loop-holds (λ c κs. search needs)
+    (λ c. search needs) (λ c. search needs) times-requires (λ c. search needs) (λ c. omega arith) loop-again returns)

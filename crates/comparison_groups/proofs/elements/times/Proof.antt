@@ -1,7 +1,8 @@
+-- `times` meets its contract: the product of two generators that commute.
 use mathlib.Core.Path.{_∙_}
 use Rattle.pauli.proofs.PauliLaws.{anticommute-letters}
 use Rattle.pauli.specs.Pauli.{i⁰}
-use Rattle.pauli.specs.Rows.{generatorOf}
+use Rattle.pauli.specs.internal.Rows.{generatorOf}
 use Rattle.comparison.proofs.RecordElements.{generator-times}
 use Rattle.comparison_groups.proofs.elements.times.Statement.{statement}
 use Rattle.comparison_groups.proofs.elements.times.Tie as tie

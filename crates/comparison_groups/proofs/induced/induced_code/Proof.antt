@@ -1,16 +1,8 @@
+-- `induced_code` meets its contract: the first record's code, then the choice's, then the inverse of the second's.
 use Rattle.comparison.proofs.InducedCodes.{induced-by-calls}
 use borrow.Author.Needs.{needs}
 use Rattle.comparison_groups.proofs.induced.induced_code.Statement.{statement}
 use Rattle.comparison_groups.proofs.induced.induced_code.Tie as tie
-
-then-requires : tie.Need-then-requires
-then-requires c κs = search needs
-
-inverse-requires : tie.Need-inverse-requires
-inverse-requires c κs = search needs
-
-then-requires-2 : tie.Need-then-requires-2
-then-requires-2 c κs = search needs
 
 returns : tie.Need-returns
 returns c =
@@ -20,4 +12,4 @@ returns c =
     (c .before .before .then .ensures .0) (c .before .inverse .ensures .0) (c .then2 .ensures .0)
 
 pub induced-code-spec : {M : Type 1} → statement M
-induced-code-spec = tie.close (tie.spec then-requires inverse-requires then-requires-2 returns)
+induced-code-spec = tie.close (tie.spec (λ c κs. search needs) (λ c κs. search needs) (λ c κs. search needs) returns)

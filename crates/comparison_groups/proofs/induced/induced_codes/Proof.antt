@@ -1,10 +1,11 @@
+-- `induced_codes` meets its contract: .. at each qubit.
 use mathlib.Core.Path.{refl}
 use Prim.Native.Nat.{_-_}
 use native.Mathlib.Omega.{arith}
 use lib.ListN.{length}
 use borrow.Author.Needs.{needs}
 use Rattle.buffers.proofs.Filling.{Filled, fill-end, fill-start, fill-step}
-use Rattle.comparison.specs.Compared.{inducedCode}
+use Rattle.comparison.specs.internal.Compared.{inducedCode}
 use Rattle.comparison_groups.proofs.induced.induced_codes.Statement.{statement}
 use Rattle.comparison_groups.proofs.induced.induced_codes.Tie as tie
 
@@ -18,26 +19,11 @@ abbrev μ-loop : tie.MeasureT-loop
 loop-holds : tie.Need-loop-holds Inv-loop μ-loop
 loop-holds c = fill-start _ _ _ refl
 
-shared-slice-read-induced-code : tie.Need-shared-slice-read-induced-code Inv-loop μ-loop
-shared-slice-read-induced-code c = search needs
-
-shared-slice-read-induced-code-2 : tie.Need-shared-slice-read-induced-code-2 Inv-loop μ-loop
-shared-slice-read-induced-code-2 c = search needs
-
-shared-slice-read-induced-code-3 : tie.Need-shared-slice-read-induced-code-3 Inv-loop μ-loop
-shared-slice-read-induced-code-3 c = search needs
-
 induced-code-requires : tie.Need-induced-code-requires Inv-loop μ-loop
 induced-code-requires c κs =
     let s = c .before .before .before .before .before .before .before .before .before in
     let q = c .before .before .before .before .loop .q in
     (s .pre .1 .1 .0 q, s .pre .1 .1 .1 q, s .pre .1 .1 .2 q)
-
-slice-write-induced : tie.Need-slice-write-induced Inv-loop μ-loop
-slice-write-induced c = search needs
-
-add-q : tie.Need-add-q Inv-loop μ-loop
-add-q c = search needs
 
 loop-less : tie.Need-loop-less Inv-loop μ-loop
 loop-less c = omega (
@@ -52,9 +38,6 @@ loop-again c =
     let more = c .before .before .before .before .loop-test .taken in
     fill-step _ _ (l .induced) (l .q) _ (l .inv) (omega (arith, more, l .inv .long)) (c .induced-code .ensures)
 
-same-length : tie.Need-same-length Inv-loop μ-loop
-same-length c = search needs
-
 returns : tie.Need-returns Inv-loop μ-loop
 returns c =
     let l = c .before .loop in
@@ -63,17 +46,5 @@ returns c =
 pub induced-codes-spec : {M : Type 1} → statement M
 induced-codes-spec =
     tie.close
-    (tie.spec
-    Inv-loop
-    μ-loop
-    loop-holds
-    shared-slice-read-induced-code
-    shared-slice-read-induced-code-2
-    shared-slice-read-induced-code-3
-    induced-code-requires
-    slice-write-induced
-    add-q
-    loop-less
-    loop-again
-    same-length
-    returns)
+    (tie.spec Inv-loop μ-loop loop-holds (λ c. search needs) (λ c. search needs) (λ c. search needs)
+    induced-code-requires (λ c. search needs) (λ c. search needs) loop-less loop-again (λ c. search needs) returns)

@@ -1,11 +1,12 @@
+-- `generators` meets its contract: the generators of a record.
 use mathlib.Core.Path.{_∙_, _≡_, refl}
 use Prim.Native.Nat.{_-_, _<_}
 use native.Mathlib.Omega.{arith}
 use lib.ListN.{length, length-set}
 use borrow.Author.Needs.{needs}
-use Rattle.pauli.specs.Rows.{generatorOf}
+use Rattle.pauli.specs.internal.Rows.{generatorOf}
 use Rattle.record.specs.Lent.{heldRows}
-use Rattle.comparison.specs.Setting.{noGenerator}
+use Rattle.comparison.specs.internal.Setting.{noGenerator}
 use Rattle.comparison.proofs.ComparedRecords.{generator-sent}
 use Rattle.comparison.proofs.Filling.{Filled, all-filled, none-filled, one-filled}
 use Rattle.comparison_groups.proofs.records.generators.Statement.{statement}
@@ -21,30 +22,6 @@ abbrev μ-loop : tie.MeasureT-loop
 
 loop-holds : tie.Need-loop-holds Inv-loop μ-loop
 loop-holds c = (refl, none-filled noGenerator _ _ _)
-
-mul-t10 : tie.Need-mul-t10 Inv-loop μ-loop
-mul-t10 c = search needs
-
-shared-slice-read-t12 : tie.Need-shared-slice-read-t12 Inv-loop μ-loop
-shared-slice-read-t12 c = search needs
-
-single-requires : tie.Need-single-requires Inv-loop μ-loop
-single-requires c κs = search needs
-
-send-requires : tie.Need-send-requires Inv-loop μ-loop
-send-requires c κs = search needs
-
-mul-all : tie.Need-mul-all Inv-loop μ-loop
-mul-all c = search needs
-
-array-set-from-all : tie.Need-array-set-from-all Inv-loop μ-loop
-array-set-from-all c = search needs
-
-add-j : tie.Need-add-j Inv-loop μ-loop
-add-j c = search needs
-
-loop-less : tie.Need-loop-less Inv-loop μ-loop
-loop-less c = omega arith
 
 loop-again : tie.Need-loop-again Inv-loop μ-loop
 loop-again c =
@@ -67,17 +44,6 @@ returns c =
 pub generators-spec : {M : Type 1} → statement M
 generators-spec =
     tie.close
-    (tie.spec
-    Inv-loop
-    μ-loop
-    loop-holds
-    mul-t10
-    shared-slice-read-t12
-    single-requires
-    send-requires
-    mul-all
-    array-set-from-all
-    add-j
-    loop-less
-    loop-again
+    (tie.spec Inv-loop μ-loop loop-holds (λ c. search needs) (λ c. search needs) (λ c κs. search needs)
+    (λ c κs. search needs) (λ c. search needs) (λ c. search needs) (λ c. search needs) (λ c. omega arith) loop-again
     returns)

@@ -1,3 +1,4 @@
+-- `inverses` meets its contract: the codes that undo a record's.
 use mathlib.Core.Path.{_∙_, _≡_, refl}
 use Prim.Native.Nat.{_-_, _<_}
 use native.Mathlib.Omega.{arith}
@@ -5,7 +6,7 @@ use lib.ListN.{length, length-set}
 use borrow.Author.Needs.{needs}
 use Rattle.clifford.specs.Clifford.{codeOf, inverse}
 use Rattle.clifford.specs.Vectors.{codesOf}
-use Rattle.comparison.specs.Setting.{Codes}
+use Rattle.comparison.specs.internal.Setting.{Codes}
 use Rattle.comparison.proofs.Filling.{Filled, all-filled, none-filled, one-filled}
 use Rattle.comparison.proofs.NextChoice.{at-set, zeros-codes}
 use Rattle.comparison_groups.proofs.records.inverses.Statement.{statement}
@@ -21,20 +22,8 @@ abbrev μ-loop : tie.MeasureT-loop
 loop-holds : tie.Need-loop-holds Inv-loop μ-loop
 loop-holds c = (refl, zeros-codes 20, none-filled 0 _ _ _)
 
-shared-slice-read-t9 : tie.Need-shared-slice-read-t9 Inv-loop μ-loop
-shared-slice-read-t9 c = search needs
-
 inverse-requires : tie.Need-inverse-requires Inv-loop μ-loop
 inverse-requires c κs = c .before .before .before .before .pre .2 (c .before .before .loop .q)
-
-array-write-all : tie.Need-array-write-all Inv-loop μ-loop
-array-write-all c = search needs
-
-add-q : tie.Need-add-q Inv-loop μ-loop
-add-q c = search needs
-
-loop-less : tie.Need-loop-less Inv-loop μ-loop
-loop-less c = omega arith
 
 loop-again : tie.Need-loop-again Inv-loop μ-loop
 loop-again c =
@@ -55,14 +44,5 @@ returns c =
 pub inverses-spec : {M : Type 1} → statement M
 inverses-spec =
     tie.close
-    (tie.spec
-    Inv-loop
-    μ-loop
-    loop-holds
-    shared-slice-read-t9
-    inverse-requires
-    array-write-all
-    add-q
-    loop-less
-    loop-again
-    returns)
+    (tie.spec Inv-loop μ-loop loop-holds (λ c. search needs) inverse-requires (λ c. search needs) (λ c. search needs)
+    (λ c. omega arith) loop-again returns)

@@ -1,10 +1,11 @@
+-- `code_words` meets its contract: the words of the first n codes.
 use mathlib.Core.Path.{subst}
 use Prim.Native.Nat.{_-_, zero-le, _≤_}
 use native.Mathlib.Nat.{le-antisymm}
 use native.Mathlib.Omega.{arith}
 use borrow.Author.Needs.{needs}
 use Rattle.clifford.specs.Vectors.{codesOf}
-use Rattle.image_rule.specs.Working.{WordsOf}
+use Rattle.image_rule.specs.internal.Working.{WordsOf}
 use Rattle.image_rule.proofs.CodeBits.{words-none}
 use Rattle.image_rule.proofs.bits_of_codes.code_words.Statement.{statement}
 use Rattle.image_rule.proofs.bits_of_codes.code_words.Tie as tie
@@ -21,12 +22,6 @@ loop-holds c = (zero-le, words-none (codesOf (c .args .codes)))
 with-code-requires : tie.Need-with-code-requires Inv-loop μ-loop
 with-code-requires c κs = (omega arith, c .before .before .pre .1, c .before .loop .inv .1)
 
-add-q : tie.Need-add-q Inv-loop μ-loop
-add-q c = search needs
-
-loop-less : tie.Need-loop-less Inv-loop μ-loop
-loop-less c = search needs
-
 loop-again : tie.Need-loop-again Inv-loop μ-loop
 loop-again c = (omega arith, c .with-code .ensures)
 
@@ -39,4 +34,4 @@ returns c =
 pub code-words-spec : {M : Type 1} → statement M
 code-words-spec =
     tie.close
-    (tie.spec Inv-loop μ-loop loop-holds with-code-requires add-q loop-less loop-again returns)
+    (tie.spec Inv-loop μ-loop loop-holds with-code-requires (λ c. search needs) (λ c. search needs) loop-again returns)

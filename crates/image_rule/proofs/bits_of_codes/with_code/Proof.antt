@@ -1,11 +1,9 @@
+-- `with_code` meets its contract: the words of the codes, with those of vertex q added.
 use borrow.Author.Needs.{needs}
 use Rattle.clifford.specs.Vectors.{codesOf}
 use Rattle.image_rule.proofs.CodeBits.{words-more}
 use Rattle.image_rule.proofs.bits_of_codes.with_code.Statement.{statement}
 use Rattle.image_rule.proofs.bits_of_codes.with_code.Tie as tie
-
-array-read-index : tie.Need-array-read-index
-array-read-index c = search needs
 
 image-requires : tie.Need-image-requires
 image-requires c κs = c .pre .1 (c .args .q)
@@ -13,29 +11,8 @@ image-requires c κs = c .pre .1 (c .args .q)
 c-bit-requires : tie.Need-c-bit-requires
 c-bit-requires c κs = c .before .pre .1 (c .before .args .q)
 
-put-bit-requires : tie.Need-put-bit-requires
-put-bit-requires c κs = search needs
-
 d-bit-requires : tie.Need-d-bit-requires
 d-bit-requires c κs = c .before .before .before .pre .1 (c .before .before .before .args .q)
-
-put-bit-requires-2 : tie.Need-put-bit-requires-2
-put-bit-requires-2 c κs = search needs
-
-z-bit-requires : tie.Need-z-bit-requires
-z-bit-requires c κs = search needs
-
-x-bit-requires : tie.Need-x-bit-requires
-x-bit-requires c κs = search needs
-
-put-bit-requires-3 : tie.Need-put-bit-requires-3
-put-bit-requires-3 c κs = search needs
-
-put-bit-requires-4 : tie.Need-put-bit-requires-4
-put-bit-requires-4 c κs = search needs
-
-put-bit-requires-5 : tie.Need-put-bit-requires-5
-put-bit-requires-5 c κs = search needs
 
 returns : tie.Need-returns
 returns c =
@@ -56,16 +33,6 @@ returns c =
 pub with-code-spec : {M : Type 1} → statement M
 with-code-spec =
     tie.close
-    (tie.spec
-    array-read-index
-    image-requires
-    c-bit-requires
-    put-bit-requires
-    d-bit-requires
-    put-bit-requires-2
-    z-bit-requires
-    x-bit-requires
-    put-bit-requires-3
-    put-bit-requires-4
-    put-bit-requires-5
-    returns)
+    (tie.spec (λ c. search needs) image-requires c-bit-requires (λ c κs. search needs) d-bit-requires
+    (λ c κs. search needs) (λ c κs. search needs) (λ c κs. search needs) (λ c κs. search needs) (λ c κs. search needs)
+    (λ c κs. search needs) returns)

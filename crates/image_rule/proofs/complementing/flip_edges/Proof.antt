@@ -1,3 +1,4 @@
+-- `flip_edges` meets its contract: complementing the graph at v.
 use mathlib.Core.Path.{_≡_}
 use Prim.Native.Nat.{_-_, zero-le, _≤_}
 use native.Mathlib.Omega.{arith}
@@ -15,35 +16,8 @@ Inv-loop n v neighbours around flipped₀ i₀ flipped i = (i ≤ n)
 abbrev μ-loop : tie.MeasureT-loop
 μ-loop n v neighbours around flipped₀ i₀ flipped i = n - i
 
-mul-around : tie.Need-mul-around Inv-loop μ-loop
-mul-around c = search needs
-
-array-read-around : tie.Need-array-read-around Inv-loop μ-loop
-array-read-around c = search needs
-
 loop-holds : tie.Need-loop-holds Inv-loop μ-loop
 loop-holds c = (zero-le, mapped-start _ (c .args .t1))
-
-mul-flipped-word : tie.Need-mul-flipped-word Inv-loop μ-loop
-mul-flipped-word c = search needs
-
-array-read-flipped-word : tie.Need-array-read-flipped-word Inv-loop μ-loop
-array-read-flipped-word c = search needs
-
-flipped-word-requires : tie.Need-flipped-word-requires Inv-loop μ-loop
-flipped-word-requires c κs = search needs
-
-mul-flipped : tie.Need-mul-flipped Inv-loop μ-loop
-mul-flipped c = search needs
-
-array-write-flipped : tie.Need-array-write-flipped Inv-loop μ-loop
-array-write-flipped c = search needs
-
-add-i : tie.Need-add-i Inv-loop μ-loop
-add-i c = search needs
-
-loop-less : tie.Need-loop-less Inv-loop μ-loop
-loop-less c = search needs
 
 loop-again : tie.Need-loop-again Inv-loop μ-loop
 loop-again c =
@@ -65,18 +39,6 @@ returns c =
 pub flip-edges-spec : {M : Type 1} → statement M
 flip-edges-spec =
     tie.close
-    (tie.spec
-    Inv-loop
-    μ-loop
-    mul-around
-    array-read-around
-    loop-holds
-    mul-flipped-word
-    array-read-flipped-word
-    flipped-word-requires
-    mul-flipped
-    array-write-flipped
-    add-i
-    loop-less
-    loop-again
+    (tie.spec Inv-loop μ-loop (λ c. search needs) (λ c. search needs) loop-holds (λ c. search needs) (λ c. search needs)
+    (λ c κs. search needs) (λ c. search needs) (λ c. search needs) (λ c. search needs) (λ c. search needs) loop-again
     returns)

@@ -1,14 +1,10 @@
+-- `flipped_word` meets its contract: the word of vertex i after complementing at a vertex with these neighbours: a
+-- neighbour i is joined to the others, or parted from them.
 use mathlib.Core.Path.{sym, _∙_}
 use borrow.Author.Needs.{needs}
 use Rattle.image_rule.proofs.EdgeWords.{flip-far, flip-near}
 use Rattle.image_rule.proofs.complementing.flipped_word.Statement.{statement}
 use Rattle.image_rule.proofs.complementing.flipped_word.Tie as tie
-
-has-requires : tie.Need-has-requires
-has-requires c κs = search needs
-
-flip-requires : tie.Need-flip-requires
-flip-requires c κs = search needs
 
 returns : tie.Need-returns
 returns c =
@@ -22,4 +18,4 @@ returns-2 c =
     flip-far (a .w) (a .around) (a .i) (sym (c .before .has .ensures) ∙ c .if1 .left)
 
 pub flipped-word-spec : {M : Type 1} → statement M
-flipped-word-spec = tie.close (tie.spec has-requires flip-requires returns returns-2)
+flipped-word-spec = tie.close (tie.spec (λ c κs. search needs) (λ c κs. search needs) returns returns-2)

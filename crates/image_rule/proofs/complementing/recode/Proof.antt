@@ -1,3 +1,4 @@
+-- `recode` meets its contract: the codes after complementing at v, whose neighbours are these.
 use mathlib.Core.Path.{_≡_}
 use Prim.Native.Nat.{_-_, zero-le, _≤_}
 use native.Mathlib.Omega.{arith}
@@ -17,23 +18,8 @@ abbrev μ-loop : tie.MeasureT-loop
 loop-holds : tie.Need-loop-holds Inv-loop μ-loop
 loop-holds c = (zero-le, mapped-start _ (c .args .t1))
 
-array-read-recoded-place : tie.Need-array-read-recoded-place Inv-loop μ-loop
-array-read-recoded-place c = search needs
-
-has-requires : tie.Need-has-requires Inv-loop μ-loop
-has-requires c κs = search needs
-
 recoded-place-requires : tie.Need-recoded-place-requires Inv-loop μ-loop
 recoded-place-requires c κs = c .before .before .before .pre .3 (c .before .before .loop .q)
-
-array-write-new : tie.Need-array-write-new Inv-loop μ-loop
-array-write-new c = search needs
-
-add-q : tie.Need-add-q Inv-loop μ-loop
-add-q c = search needs
-
-loop-less : tie.Need-loop-less Inv-loop μ-loop
-loop-less c = search needs
 
 loop-again : tie.Need-loop-again Inv-loop μ-loop
 loop-again c =
@@ -60,15 +46,5 @@ returns c =
 pub recode-spec : {M : Type 1} → statement M
 recode-spec =
     tie.close
-    (tie.spec
-    Inv-loop
-    μ-loop
-    loop-holds
-    array-read-recoded-place
-    has-requires
-    recoded-place-requires
-    array-write-new
-    add-q
-    loop-less
-    loop-again
-    returns)
+    (tie.spec Inv-loop μ-loop loop-holds (λ c. search needs) (λ c κs. search needs) recoded-place-requires
+    (λ c. search needs) (λ c. search needs) (λ c. search needs) loop-again returns)

@@ -1,15 +1,11 @@
+-- `recoded_place` meets its contract: a code after complementing: 13 then the old code at the vertex, 6 then the old
+-- code at a neighbour.
 use mathlib.Core.Path.{_∙_}
 use native.Mathlib.Omega.{arith}
 use borrow.Author.Needs.{needs}
 use Rattle.image_rule.proofs.Recoding.{recoded-by}
 use Rattle.image_rule.proofs.complementing.recoded_place.Statement.{statement}
 use Rattle.image_rule.proofs.complementing.recoded_place.Tie as tie
-
-then-requires : tie.Need-then-requires
-then-requires c κs = search needs
-
-then-requires-2 : tie.Need-then-requires-2
-then-requires-2 c κs = search needs
 
 returns : tie.Need-returns
 returns c =
@@ -31,4 +27,4 @@ returns-3 : tie.Need-returns-3
 returns-3 c = (simp (c .before .if1 .left, c .if2 .left), omega arith)
 
 pub recoded-place-spec : {M : Type 1} → statement M
-recoded-place-spec = tie.close (tie.spec then-requires then-requires-2 returns returns-2 returns-3)
+recoded-place-spec = tie.close (tie.spec (λ c κs. search needs) (λ c κs. search needs) returns returns-2 returns-3)

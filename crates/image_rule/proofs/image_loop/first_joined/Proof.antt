@@ -1,7 +1,8 @@
+-- `first_joined` meets its contract: the smallest vertex of the set c that has a neighbour in c; n where there is none.
 use mathlib.Core.Path.{sym, _∙_}
 use Prim.Native.Nat.{_-_}
 use borrow.Author.Needs.{needs}
-use Rattle.image_rule.specs.Working.{joinedIn}
+use Rattle.image_rule.specs.internal.Working.{joinedIn}
 use Rattle.image.proofs.Searching.{NotYet, found-here, found-none, not-here, not-yet}
 use Rattle.image_rule.proofs.image_loop.first_joined.Statement.{statement}
 use Rattle.image_rule.proofs.image_loop.first_joined.Tie as tie
@@ -15,27 +16,12 @@ abbrev μ-loop : tie.MeasureT-loop
 loop-holds : tie.Need-loop-holds Inv-loop μ-loop
 loop-holds c = not-yet _ (c .args .n)
 
-mul-joined : tie.Need-mul-joined Inv-loop μ-loop
-mul-joined c = search needs
-
-array-read-joined : tie.Need-array-read-joined Inv-loop μ-loop
-array-read-joined c = search needs
-
-joined-requires : tie.Need-joined-requires Inv-loop μ-loop
-joined-requires c κs = search needs
-
 returns : tie.Need-returns Inv-loop μ-loop
 returns c =
     let a = c .before .before .before .before .args in
     found-here (joinedIn (a .t1) (a .c)) (a .n) (c .before .before .before .loop .j)
     (c .before .before .before .loop .inv) (c .before .before .loop-test .taken)
     (sym (c .before .joined .ensures) ∙ c .if1 .taken)
-
-add-j : tie.Need-add-j Inv-loop μ-loop
-add-j c = search needs
-
-loop-less : tie.Need-loop-less Inv-loop μ-loop
-loop-less c = search needs
 
 loop-again : tie.Need-loop-again Inv-loop μ-loop
 loop-again c =
@@ -53,15 +39,5 @@ returns-2 c =
 pub first-joined-spec : {M : Type 1} → statement M
 first-joined-spec =
     tie.close
-    (tie.spec
-    Inv-loop
-    μ-loop
-    loop-holds
-    mul-joined
-    array-read-joined
-    joined-requires
-    returns
-    add-j
-    loop-less
-    loop-again
-    returns-2)
+    (tie.spec Inv-loop μ-loop loop-holds (λ c. search needs) (λ c. search needs) (λ c κs. search needs) returns
+    (λ c. search needs) (λ c. search needs) loop-again returns-2)

@@ -1,12 +1,10 @@
+-- `joined` meets its contract: whether vertex j is in the set c and has a neighbour there.
 use borrow.Author.Needs.{needs}
 use Rattle.image_rule.proofs.image_loop.joined.Statement.{statement}
 use Rattle.image_rule.proofs.image_loop.joined.Tie as tie
-
-has-requires : tie.Need-has-requires
-has-requires c κs = search needs
 
 returns : tie.Need-returns
 returns c = simp (c .has .ensures)
 
 pub joined-spec : {M : Type 1} → statement M
-joined-spec = tie.close (tie.spec has-requires returns)
+joined-spec = tie.close (tie.spec (λ c κs. search needs) returns)

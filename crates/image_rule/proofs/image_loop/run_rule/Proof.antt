@@ -1,3 +1,4 @@
+-- `run_rule` meets its contract: the image rule.
 use Prim.Native.Nat.{_<_}
 use native.Mathlib.Omega.{arith}
 use borrow.Author.Needs.{needs}
@@ -26,9 +27,6 @@ abbrev μ-loop : tie.MeasureT-loop
 loop-holds : tie.Need-loop-holds Inv-loop μ-loop
 loop-holds c = reached-start (c .args .n) (c .args .start) (c .pre .2)
 
-smallest-requires : tie.Need-smallest-requires Inv-loop μ-loop
-smallest-requires c κs = search needs
-
 complement-at-requires : tie.Need-complement-at-requires Inv-loop μ-loop
 complement-at-requires c κs =
     let s = c .before .before .before .before in
@@ -51,9 +49,6 @@ loop-again c =
     single-again (s .args .n) (s .args .start) (l .w) (s .pre .0) (s .pre .1) (s .pre .2) (l .inv)
     (c .before .smallest .result) (c .before .smallest .ensures .0) (c .before .before .if1 .taken)
     (c .complement-at .result) (c .complement-at .ensures)
-
-first-joined-requires : tie.Need-first-joined-requires Inv-loop μ-loop
-first-joined-requires c κs = search needs
 
 returns : tie.Need-returns Inv-loop μ-loop
 returns c =
@@ -82,9 +77,6 @@ array-read-smallest c =
     (c .before .before .before .if1 .left) (c .before .first-joined .result)
     (c .before .first-joined .ensures) (c .if2 .left) in
     omega arith
-
-smallest-requires-2 : tie.Need-smallest-requires-2 Inv-loop μ-loop
-smallest-requires-2 c κs = search needs
 
 triple-at-requires : tie.Need-triple-at-requires Inv-loop μ-loop
 triple-at-requires c κs =
@@ -118,19 +110,6 @@ loop-again-2 c =
 pub run-rule-spec : {M : Type 1} → statement M
 run-rule-spec =
     tie.close
-    (tie.spec
-    Inv-loop
-    μ-loop
-    loop-holds
-    smallest-requires
-    complement-at-requires
-    loop-less
-    loop-again
-    first-joined-requires
-    returns
-    mul-smallest
-    array-read-smallest
-    smallest-requires-2
-    triple-at-requires
-    loop-less-2
-    loop-again-2)
+    (tie.spec Inv-loop μ-loop loop-holds (λ c κs. search needs) complement-at-requires loop-less loop-again
+    (λ c κs. search needs) returns mul-smallest array-read-smallest (λ c κs. search needs) triple-at-requires
+    loop-less-2 loop-again-2)

@@ -1,3 +1,4 @@
+-- `times` meets its contract: the product of two rows, its phase from 0 to 3.
 use mathlib.Core.Path.{_∙_, ap}
 use borrow.Author.Needs.{needs}
 use Rattle.pauli.specs.Pauli.{_+ᵖ_, power}
@@ -5,12 +6,6 @@ use Rattle.pauli.proofs.PhaseLaws.{power-exponent}
 use Rattle.pauli.proofs.WordRows.{row-times}
 use Rattle.pauli.proofs.Row.times.Statement.{statement}
 use Rattle.pauli.proofs.Row.times.Tie as tie
-
-letters-phase-requires : tie.Need-letters-phase-requires
-letters-phase-requires c κs = search needs
-
-sum-phase-requires : tie.Need-sum-phase-requires
-sum-phase-requires c κs = search needs
 
 returns : tie.Need-returns
 returns c =
@@ -26,4 +21,4 @@ returns c =
     )
 
 pub times-spec : {M : Type 1} → statement M
-times-spec = tie.close (tie.spec letters-phase-requires sum-phase-requires returns)
+times-spec = tie.close (tie.spec (λ c κs. search needs) (λ c κs. search needs) returns)

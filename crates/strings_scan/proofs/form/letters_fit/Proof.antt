@@ -1,3 +1,4 @@
+-- `letters_fit` meets its contract: whether the n bytes behind a place are letters.
 use mathlib.Core.Path.{ap, _∙_}
 use Prim.Native.Nat.{_+_, _-_, suc}
 use native.Mathlib.Numerals.{add-one}
@@ -17,24 +18,6 @@ abbrev μ-loop : tie.MeasureT-loop
 loop-holds : tie.Need-loop-holds Inv-loop μ-loop
 loop-holds c = none-tested _ _
 
-add-is-letter : tie.Need-add-is-letter Inv-loop μ-loop
-add-is-letter c = search needs
-
-add-is-letter-2 : tie.Need-add-is-letter-2 Inv-loop μ-loop
-add-is-letter-2 c = search needs
-
-shared-slice-read-is-letter : tie.Need-shared-slice-read-is-letter Inv-loop μ-loop
-shared-slice-read-is-letter c = search needs
-
-is-letter-requires : tie.Need-is-letter-requires Inv-loop μ-loop
-is-letter-requires c κs = search needs
-
-add-q : tie.Need-add-q Inv-loop μ-loop
-add-q c = search needs
-
-loop-less : tie.Need-loop-less Inv-loop μ-loop
-loop-less c = search needs
-
 loop-again : tie.Need-loop-again Inv-loop μ-loop
 loop-again c =
     let l = c .before .before .before in
@@ -48,15 +31,5 @@ returns c = all-tested _ _ (c .before .loop .inv) (c .loop-test .left)
 pub letters-fit-spec : {M : Type 1} → statement M
 letters-fit-spec =
     tie.close
-    (tie.spec
-    Inv-loop
-    μ-loop
-    loop-holds
-    add-is-letter
-    add-is-letter-2
-    shared-slice-read-is-letter
-    is-letter-requires
-    add-q
-    loop-less
-    loop-again
-    returns)
+    (tie.spec Inv-loop μ-loop loop-holds (λ c. search needs) (λ c. search needs) (λ c. search needs)
+    (λ c κs. search needs) (λ c. search needs) (λ c. search needs) loop-again returns)

@@ -1,3 +1,4 @@
+-- `line_count` meets its contract: how many of the bytes end a line.
 use mathlib.Core.Path.{ap₂, refl, sym, ap, _∙_, _≡_}
 use Prim.Native.Nat.{_+_, zero-le, _-_, _≤_}
 use native.Mathlib.Omega.{arith}
@@ -21,23 +22,11 @@ loop-holds : tie.Need-loop-holds Inv-loop μ-loop
 unfolding lineCount
 loop-holds c = (zero-le, refl, zero-le)
 
-shared-slice-read-newline-digit : tie.Need-shared-slice-read-newline-digit Inv-loop μ-loop
-shared-slice-read-newline-digit c = search needs
-
-newline-digit-requires : tie.Need-newline-digit-requires Inv-loop μ-loop
-newline-digit-requires c κs = search needs
-
 add-count : tie.Need-add-count Inv-loop μ-loop
 add-count c =
     let l = c .before .before .before in
     let t = l .before .before .args .text .now in
     omega (arith, c .newline-digit .ensures, digit-lt (eqb (getD t (l .loop .i) 0) 10))
-
-add-i : tie.Need-add-i Inv-loop μ-loop
-add-i c = search needs
-
-loop-less : tie.Need-loop-less Inv-loop μ-loop
-loop-less c = search needs
 
 loop-again : tie.Need-loop-again Inv-loop μ-loop
 loop-again c =
@@ -57,14 +46,5 @@ returns c =
 pub line-count-spec : {M : Type 1} → statement M
 line-count-spec =
     tie.close
-    (tie.spec
-    Inv-loop
-    μ-loop
-    loop-holds
-    shared-slice-read-newline-digit
-    newline-digit-requires
-    add-count
-    add-i
-    loop-less
-    loop-again
-    returns)
+    (tie.spec Inv-loop μ-loop loop-holds (λ c. search needs) (λ c κs. search needs) add-count (λ c. search needs)
+    (λ c. search needs) loop-again returns)

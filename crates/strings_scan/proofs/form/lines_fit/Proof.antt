@@ -1,3 +1,4 @@
+-- `lines_fit` meets its contract: whether each of n lines fits.
 use mathlib.Core.Path.{ap, sym, _∙_, _≡_}
 use Prim.Native.Nat.{_*_, _+_, _-_}
 use native.Mathlib.Nat.{zero-mul}
@@ -25,9 +26,6 @@ line-fits-requires c κs =
     let l = c .before .loop in
     omega (arith, l .inv .1, line-inside (s .args .text .now) (s .args .n) (l .j) (s .pre) (c .loop-test .taken))
 
-add-from : tie.Need-add-from Inv-loop μ-loop
-add-from c = search needs
-
 add-from-2 : tie.Need-add-from-2 Inv-loop μ-loop
 add-from-2 c =
     let s = c .before .before .before .before in
@@ -38,12 +36,6 @@ add-from-2 c =
       line-inside (s .args .text .now) (s .args .n) (l .j) (s .pre) (c .before .loop-test .taken),
       c .before .before .before .before .fits,
     )
-
-add-j : tie.Need-add-j Inv-loop μ-loop
-add-j c = search needs
-
-loop-less : tie.Need-loop-less Inv-loop μ-loop
-loop-less c = search needs
 
 loop-again : tie.Need-loop-again Inv-loop μ-loop
 loop-again c =
@@ -61,14 +53,5 @@ returns c = all-tested _ _ (c .before .loop .inv .0) (c .loop-test .left)
 pub lines-fit-spec : {M : Type 1} → statement M
 lines-fit-spec =
     tie.close
-    (tie.spec
-    Inv-loop
-    μ-loop
-    loop-holds
-    line-fits-requires
-    add-from
-    add-from-2
-    add-j
-    loop-less
-    loop-again
-    returns)
+    (tie.spec Inv-loop μ-loop loop-holds line-fits-requires (λ c. search needs) add-from-2 (λ c. search needs)
+    (λ c. search needs) loop-again returns)

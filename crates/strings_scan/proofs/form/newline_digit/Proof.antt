@@ -1,3 +1,4 @@
+-- `newline_digit` meets its contract: 1 for a newline.
 use mathlib.Core.Path.{ap, sym}
 use borrow.Author.Tests.{eq-eqb, ne-eqb}
 use Rattle.words.specs.Bits.{digit}

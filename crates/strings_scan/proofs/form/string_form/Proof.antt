@@ -1,12 +1,10 @@
+-- `string_form` meets its contract: whether a text with n newlines has the form.
 use mathlib.Core.Path.{sym, _∙_}
 use borrow.Author.Needs.{needs}
 use borrow.Author.Tests.{eqb-true}
 use Rattle.strings_scan.proofs.FitLoops.{lines-decide, size-decides}
 use Rattle.strings_scan.proofs.form.string_form.Statement.{statement}
 use Rattle.strings_scan.proofs.form.string_form.Tie as tie
-
-has-size-requires : tie.Need-has-size-requires
-has-size-requires c κs = search needs
 
 lines-fit-requires : tie.Need-lines-fit-requires
 lines-fit-requires c κs =
@@ -26,4 +24,4 @@ returns-2 c =
     size-decides (a .args .text .now) (a .args .n) (a .pre) (sym (s .has-size .ensures) ∙ c .if1 .left)
 
 pub string-form-spec : {M : Type 1} → statement M
-string-form-spec = tie.close (tie.spec has-size-requires lines-fit-requires returns returns-2)
+string-form-spec = tie.close (tie.spec (λ c κs. search needs) lines-fit-requires returns returns-2)

@@ -1,3 +1,4 @@
+-- `read_rows` meets its contract: the rows of the n lines of a text.
 use mathlib.Core.Path.{refl}
 use Prim.Native.Nat.{_-_}
 use native.Mathlib.Omega.{arith}
@@ -28,27 +29,6 @@ string-row-requires c κs =
       ),
     )
 
-sign-digit-requires : tie.Need-sign-digit-requires Inv-loop μ-loop
-sign-digit-requires c κs = search needs
-
-array-write-signs : tie.Need-array-write-signs Inv-loop μ-loop
-array-write-signs c = search needs
-
-mul-z : tie.Need-mul-z Inv-loop μ-loop
-mul-z c = search needs
-
-array-write-z : tie.Need-array-write-z Inv-loop μ-loop
-array-write-z c = search needs
-
-mul-x : tie.Need-mul-x Inv-loop μ-loop
-mul-x c = search needs
-
-array-write-x : tie.Need-array-write-x Inv-loop μ-loop
-array-write-x c = search needs
-
-add-from : tie.Need-add-from Inv-loop μ-loop
-add-from c = search needs
-
 add-from-2 : tie.Need-add-from-2 Inv-loop μ-loop
 add-from-2 c =
     let s = c .before .before .before .before .before in
@@ -59,12 +39,6 @@ add-from-2 c =
       line-inside (s .args .text .now) (s .args .n) (l .j) (s .pre .1) (c .before .before .loop-test .taken),
       s .fits,
     )
-
-add-j : tie.Need-add-j Inv-loop μ-loop
-add-j c = search needs
-
-loop-less : tie.Need-loop-less Inv-loop μ-loop
-loop-less c = search needs
 
 loop-again : tie.Need-loop-again Inv-loop μ-loop
 loop-again c =
@@ -83,20 +57,6 @@ returns c =
 pub read-rows-spec : {M : Type 1} → statement M
 read-rows-spec =
     tie.close
-    (tie.spec
-    Inv-loop
-    μ-loop
-    loop-holds
-    string-row-requires
-    sign-digit-requires
-    array-write-signs
-    mul-z
-    array-write-z
-    mul-x
-    array-write-x
-    add-from
-    add-from-2
-    add-j
-    loop-less
-    loop-again
-    returns)
+    (tie.spec Inv-loop μ-loop loop-holds string-row-requires (λ c κs. search needs) (λ c. search needs)
+    (λ c. search needs) (λ c. search needs) (λ c. search needs) (λ c. search needs) (λ c. search needs) add-from-2
+    (λ c. search needs) (λ c. search needs) loop-again returns)

@@ -1,3 +1,4 @@
+-- `string_row` meets its contract: the row of the line of n letters that starts at a place.
 use Prim.Native.Nat.{_+_}
 use native.Mathlib.Omega.{arith}
 use lib.ListN.{getD}
@@ -27,20 +28,11 @@ abbrev μ-loop : tie.MeasureT-loop
 loop-holds : tie.Need-loop-holds Inv-loop μ-loop
 loop-holds c = none-read _ _ _
 
-add-b : tie.Need-add-b Inv-loop μ-loop
-add-b c = search needs
-
-shared-slice-read-b : tie.Need-shared-slice-read-b Inv-loop μ-loop
-shared-slice-read-b c = search needs
-
 mul-z : tie.Need-mul-z Inv-loop μ-loop
 mul-z c =
     let l = c .before .before in
     let s = l .before .before in
     omega (arith, z-room _ _ _ _ _ _ (l .loop .inv) (c .before .loop-test .taken) (s .pre .0))
-
-z-digit-requires : tie.Need-z-digit-requires Inv-loop μ-loop
-z-digit-requires c κs = search needs
 
 add-z : tie.Need-add-z Inv-loop μ-loop
 add-z c =
@@ -59,9 +51,6 @@ mul-x c =
     let s = l .before .before in
     omega (arith, x-room _ _ _ _ _ _ (l .loop .inv) (c .before .before .loop-test .taken) (s .pre .0))
 
-x-digit-requires : tie.Need-x-digit-requires Inv-loop μ-loop
-x-digit-requires c κs = search needs
-
 add-x : tie.Need-add-x Inv-loop μ-loop
 add-x c =
     let l = c .before .before .before .before in
@@ -73,12 +62,6 @@ add-x c =
       digit-lt (xBit (letterOf (getD (s .args .text .now) (s .args .from + l .loop .q) 0))),
     )
 
-sub-q : tie.Need-sub-q Inv-loop μ-loop
-sub-q c = search needs
-
-loop-less : tie.Need-loop-less Inv-loop μ-loop
-loop-less c = search needs
-
 loop-again : tie.Need-loop-again Inv-loop μ-loop
 loop-again c =
     let l = c .before .before .before .before in
@@ -87,9 +70,6 @@ loop-again c =
     one-read _ _ _ _ _ (l .loop .q) (l .loop .inv) more
     (letter-at zBit (a .text .now) (a .from) (l .loop .q) more (c .before .z-digit .ensures))
     (letter-at xBit (a .text .now) (a .from) (l .loop .q) more (c .x-digit .ensures))
-
-shared-slice-read-t15 : tie.Need-shared-slice-read-t15 Inv-loop μ-loop
-shared-slice-read-t15 c = search needs
 
 returns : tie.Need-returns Inv-loop μ-loop
 returns c =
@@ -100,20 +80,5 @@ returns c =
 pub string-row-spec : {M : Type 1} → statement M
 string-row-spec =
     tie.close
-    (tie.spec
-    Inv-loop
-    μ-loop
-    loop-holds
-    add-b
-    shared-slice-read-b
-    mul-z
-    z-digit-requires
-    add-z
-    mul-x
-    x-digit-requires
-    add-x
-    sub-q
-    loop-less
-    loop-again
-    shared-slice-read-t15
-    returns)
+    (tie.spec Inv-loop μ-loop loop-holds (λ c. search needs) (λ c. search needs) mul-z (λ c κs. search needs) add-z
+    mul-x (λ c κs. search needs) add-x (λ c. search needs) (λ c. search needs) loop-again (λ c. search needs) returns)

@@ -1,3 +1,4 @@
+-- `x_digit` meets its contract: the x bit of a letter.
 use mathlib.Core.Path.{ap, sym, _∙_}
 use Rattle.strings.proofs.LineLaws.{x-read}
 use Rattle.words.specs.Bits.{digit}

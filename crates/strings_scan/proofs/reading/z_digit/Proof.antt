@@ -1,3 +1,4 @@
+-- `z_digit` meets its contract: the z bit of a letter.
 use mathlib.Core.Path.{ap, sym, _∙_}
 use Rattle.strings.proofs.LineLaws.{z-read}
 use Rattle.words.specs.Bits.{digit}

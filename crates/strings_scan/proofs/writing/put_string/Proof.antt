@@ -1,3 +1,4 @@
+-- `put_string` meets its contract: the line of a row.
 use native.Mathlib.Omega.{arith}
 use borrow.Author.Needs.{needs}
 use Rattle.buffers.proofs.Tabulate.{tabulate-length}
@@ -7,15 +8,6 @@ use Rattle.words.specs.Bits.{bit, isOdd}
 use Rattle.strings_scan.proofs.PrintLoops.{line-put}
 use Rattle.strings_scan.proofs.writing.put_string.Statement.{statement}
 use Rattle.strings_scan.proofs.writing.put_string.Tie as tie
-
-sign-byte-requires : tie.Need-sign-byte-requires
-sign-byte-requires c κs = search needs
-
-put-requires : tie.Need-put-requires
-put-requires c κs = search needs
-
-put-letters-requires : tie.Need-put-letters-requires
-put-letters-requires c κs = search needs
 
 put-requires-2 : tie.Need-put-requires-2
 put-requires-2 c κs =
@@ -32,9 +24,6 @@ put-requires-2 c κs =
       tabulate-length (s .args .n) (λ q. letterByte (letter (bit (s .args .z) q) (bit (s .args .x) q))),
     )
 
-same-length : tie.Need-same-length
-same-length c = search needs
-
 returns : tie.Need-returns
 returns c =
     let e = c .before .before in
@@ -48,10 +37,5 @@ returns c =
 pub put-string-spec : {M : Type 1} → statement M
 put-string-spec =
     tie.close
-    (tie.spec
-    sign-byte-requires
-    put-requires
-    put-letters-requires
-    put-requires-2
-    same-length
+    (tie.spec (λ c κs. search needs) (λ c κs. search needs) (λ c κs. search needs) put-requires-2 (λ c. search needs)
     returns)

@@ -1,3 +1,4 @@
+-- `put_strings` meets its contract: the text of a list fills the buffer.
 use Prim.Native.Nat.{_-_}
 use borrow.Author.Needs.{needs}
 use Rattle.stabilizer.specs.Lists.{rows}
@@ -15,21 +16,6 @@ abbrev μ-loop : tie.MeasureT-loop
 loop-holds : tie.Need-loop-holds Inv-loop μ-loop
 loop-holds c = no-lines _ _ _ (c .before .before .before .before .pre .1)
 
-shared-slice-read-put-string : tie.Need-shared-slice-read-put-string Inv-loop μ-loop
-shared-slice-read-put-string c = search needs
-
-mul-put-string : tie.Need-mul-put-string Inv-loop μ-loop
-mul-put-string c = search needs
-
-shared-slice-read-put-string-2 : tie.Need-shared-slice-read-put-string-2 Inv-loop μ-loop
-shared-slice-read-put-string-2 c = search needs
-
-mul-put-string-2 : tie.Need-mul-put-string-2 Inv-loop μ-loop
-mul-put-string-2 c = search needs
-
-shared-slice-read-put-string-3 : tie.Need-shared-slice-read-put-string-3 Inv-loop μ-loop
-shared-slice-read-put-string-3 c = search needs
-
 put-string-requires : tie.Need-put-string-requires Inv-loop μ-loop
 put-string-requires c κs =
     let l = c .before .before .before .before .before in
@@ -37,12 +23,6 @@ put-string-requires c κs =
       s .pre .0 .0,
       line-room _ _ _ (s .pre .1) _ _ _ (l .loop .inv) (c .before .before .before .before .loop-test .taken),
     )
-
-add-j : tie.Need-add-j Inv-loop μ-loop
-add-j c = search needs
-
-loop-less : tie.Need-loop-less Inv-loop μ-loop
-loop-less c = search needs
 
 loop-again : tie.Need-loop-again Inv-loop μ-loop
 loop-again c =
@@ -53,9 +33,6 @@ loop-again c =
     one-line _ _ _ (s .pre .1) _ _ _ (l .loop .inv) (i .loop-test .taken) (p .put-string .ensures)
     (p .put-string .kept .1 .1 .1 .1 .1 .0)
 
-same-length : tie.Need-same-length Inv-loop μ-loop
-same-length c = search needs
-
 returns : tie.Need-returns Inv-loop μ-loop
 returns c =
     let s = c .before .before .before .before .before .before in
@@ -64,18 +41,6 @@ returns c =
 pub put-strings-spec : {M : Type 1} → statement M
 put-strings-spec =
     tie.close
-    (tie.spec
-    Inv-loop
-    μ-loop
-    loop-holds
-    shared-slice-read-put-string
-    mul-put-string
-    shared-slice-read-put-string-2
-    mul-put-string-2
-    shared-slice-read-put-string-3
-    put-string-requires
-    add-j
-    loop-less
-    loop-again
-    same-length
+    (tie.spec Inv-loop μ-loop loop-holds (λ c. search needs) (λ c. search needs) (λ c. search needs) (λ c. search needs)
+    (λ c. search needs) put-string-requires (λ c. search needs) (λ c. search needs) loop-again (λ c. search needs)
     returns)

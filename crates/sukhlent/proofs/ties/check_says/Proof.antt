@@ -1,13 +1,11 @@
+-- `check_says` meets its contract.
 use borrow.Author.Needs.{needs}
 use Rattle.claims.proofs.SentencesHold.{check-says}
 use Rattle.sukhlent.proofs.ties.check_says.Statement.{statement}
 use Rattle.sukhlent.proofs.ties.check_says.Tie as tie
 
-sukhlent-check-requires : tie.Need-sukhlent-check-requires
-sukhlent-check-requires c κs = search needs
-
 returns : tie.Need-returns
 returns c = check-says _ _ (c .sukhlent-check .ensures)
 
 pub check-says-spec : {M : Type 1} → statement M
-check-says-spec = tie.close (tie.spec sukhlent-check-requires returns)
+check-says-spec = tie.close (tie.spec (λ c κs. search needs) returns)

@@ -1,13 +1,11 @@
+-- `cut_says` meets its contract.
 use borrow.Author.Needs.{needs}
 use Rattle.claims.proofs.SentencesHold.{cut-says}
 use Rattle.sukhlent.proofs.ties.cut_says.Statement.{statement}
 use Rattle.sukhlent.proofs.ties.cut_says.Tie as tie
 
-sukhlent-cut-requires : tie.Need-sukhlent-cut-requires
-sukhlent-cut-requires c κs = search needs
-
 returns : tie.Need-returns
 returns c = cut-says _ _ _ _ _ (c .sukhlent-cut .ensures)
 
 pub cut-says-spec : {M : Type 1} → statement M
-cut-says-spec = tie.close (tie.spec sukhlent-cut-requires returns)
+cut-says-spec = tie.close (tie.spec (λ c κs. search needs) returns)

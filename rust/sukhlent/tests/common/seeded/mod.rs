@@ -2,14 +2,14 @@
 #![allow(dead_code, unused_imports)]
 
 pub mod circuit;
-pub mod islands;
+pub mod components;
 pub mod lists;
 pub mod pauli;
 pub mod random;
 pub mod records;
 
 pub use circuit::{stabilizers, Circuit, Gate};
-pub use islands::{random_islands, random_sizes};
+pub use components::{random_components, random_sizes};
 pub use lists::{list, mixed, parsed, random_rows, rows};
 pub use pauli::Pauli;
 pub use random::Random;

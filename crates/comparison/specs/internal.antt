@@ -1,0 +1,5 @@
+pub mod Compared
+pub mod Equations
+pub mod Searches
+pub mod Setting
+pub mod LeastAt

@@ -1,4 +1,0 @@
-pub mod SentLetters
-pub mod Facing
-pub mod Parting
-pub mod CutBuffers

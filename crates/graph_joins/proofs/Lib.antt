@@ -1,3 +1,0 @@
-pub mod ReachedSets
-pub mod JoinedSets
-pub mod CzBuffers

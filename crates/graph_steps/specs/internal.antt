@@ -1,0 +1,4 @@
+pub mod KeptGroups
+pub mod ReducedForms
+pub mod Settling
+pub mod Steps

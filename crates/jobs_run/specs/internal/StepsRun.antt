@@ -1,0 +1,20 @@
+-- What the run of the steps promises: the record after the last, and the names and the line of each step printed: what
+-- only the proofs name.
+use mathlib.Core.List.{List, _++_}
+use mathlib.Core.Path.{_≡_}
+use Prim.Native.Nat.{ℕ}
+use lib.ListN.{length}
+use Rattle.job_text.specs.Answer.{resultsOf}
+use Rattle.job_text.specs.Results.{resultLines, resultNames}
+use Rattle.jobs.specs.Runs.{run}
+use Rattle.jobs.specs.declared.Step.{Step}
+use Rattle.record.specs.Lent.{LentRecord}
+use Rattle.text.specs.Text.{Printed}
+
+-- the steps were run from the record l on: the record after the last is in the buffers, and the names and the line of
+-- each are printed
+pub record StepsRun (l : LentRecord) (steps : List Step) (neighbours′ codes′ before after : List ℕ) (r : ℕ) : Type
+    0 where
+  pub words : neighbours′ ≡ (run l steps) .neighbours
+  pub numbers : codes′ ≡ (run l steps) .codes
+  pub out : Printed (resultNames ++ resultLines (length steps) (resultsOf l steps)) 0 before after r

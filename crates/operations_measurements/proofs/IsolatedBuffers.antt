@@ -1,0 +1,81 @@
+-- A vertex isolated in the buffers of a record.
+use mathlib.Core.Bool.{_&&_, Bool, and-false, cond, false, not, true}
+use mathlib.Core.List.{List}
+use mathlib.Core.Path.{ap, fun-ext, refl, subst, sym, _∙_, _≡_}
+use Prim.Native.Nat.{_*_, _+_, _<_, _^_, ℕ, _≤_}
+use lib.Dec.{eqb}
+use lib.ListN.{getD, length, length-set, set}
+use lib.Seq.{getD-set-other, getD-set-same}
+use Rattle.buffers.proofs.Tabulate.{tabulate-at, tabulate-is, tabulate-length}
+use Rattle.buffers.specs.Buffers.{tabulate}
+use Rattle.clifford.specs.Clifford.{cliffordOf, codeOf, then}
+use Rattle.clifford.specs.Vectors.{codesOf}
+use Rattle.graph.specs.Graph.{Simple}
+use Rattle.graph.specs.internal.NeighbourWords.{SameGraph}
+use Rattle.graph.specs.NeighbourWords.{graphIn}
+use Rattle.graph_steps.proofs.Places.{z-before}
+use Rattle.graph_steps.specs.internal.Steps.{isolated, hadamardCode, pauliCode}
+use Rattle.operations.proofs.UnrefusedRecords.{unrefused-long, unrefused-simple}
+use Rattle.operations.specs.internal.InPlace.{Rewritten, Unrefused, recordIn}
+use Rattle.record.specs.Lent.{heldRecord}
+use Rattle.record.specs.Records.{GraphRecord}
+use Rattle.words.proofs.BitLaws.{lt-of-bits, wordOf-bit}
+use Rattle.words.proofs.Places.{put-all}
+use Rattle.words.specs.Bits.{bit, digit, wordOf}
+use Rattle.operations_measurements.proofs.RemovedEdges.{partedFrom}
+
+-- a Hadamard's number
+hadamard-number : (t : Bool) → cliffordOf (8 + 2 * digit t) ≡ hadamardCode t
+hadamard-number false = refl
+hadamard-number true = refl
+
+pub hadamard-by-calls : (t : Bool) (code : ℕ) {a r : ℕ} → a ≡ digit t
+    → r ≡ codeOf (then (cliffordOf (8 + 2 * a)) (cliffordOf code))
+    → r ≡ codeOf (then (hadamardCode t) (cliffordOf code))
+hadamard-by-calls t code ea e =
+    e ∙ ap (λ k. codeOf (then k (cliffordOf code))) (ap (λ a. cliffordOf (8 + 2 * a)) ea ∙ hadamard-number t)
+
+module _ (words codes : List ℕ) (U : Unrefused (recordIn words codes)) (q : ℕ) (t : Bool) where
+  abbrev n : ℕ
+  n = length words
+
+  abbrev r : GraphRecord
+  r = heldRecord (recordIn words codes)
+
+  simple : Simple (length words) ((heldRecord (recordIn words codes)) .graph)
+  simple = unrefused-simple words codes U
+
+  -- the word of the vertices that get Z
+  pub turned-below : (w : ℕ) → ((j : ℕ) → bit w j ≡ (t && bit (getD words q 0) j)) → w < 2 ^ (length codes)
+  turned-below w h = lt-of-bits (length codes) w (λ j l. h j
+      ∙ ap (λ b. t && b) (simple .below q j (subst (λ m. m ≤ j) (unrefused-long words codes U) l)) ∙ and-false t)
+
+  pub isolated-written : (w : ℕ) (codes₁ words′ codes′ : List ℕ) (v : ℕ) → q < length codes
+      → ((j : ℕ) → bit w j ≡ (t && bit (getD words q 0) j))
+      → codes₁ ≡ tabulate (length codes)
+      (λ j. codeOf (cond (bit w j) (then (cliffordOf 2) (codesOf codes j)) (codesOf codes j)))
+      → v ≡ codeOf (then (hadamardCode t) (codesOf codes q)) → codes′ ≡ set codes₁ q v
+      → length words′ ≡ length words → SameGraph (graphIn words′) (partedFrom (graphIn words) q)
+      → Rewritten words codes (λ g. isolated g q t) words′ codes′
+  isolated-written w codes₁ words′ codes′ v hq hw e₁ ev e′ long edges =
+      record {
+        neighbours = tabulate-is n _ words′ long
+            (λ j l. sym (wordOf-bit n (getD words′ j 0) (below j)) ∙ ap (wordOf n) (fun-ext (edges j)));
+        numbers = tabulate-is n _ codes′ (ap length e′ ∙ length-set codes₁ q v ∙ long₁ ∙ unrefused-long words codes U)
+            (λ j l. place j (subst (λ m. j < m) (sym (unrefused-long words codes U)) l));
+      }
+    where
+      long₁ : length codes₁ ≡ length codes
+      long₁ = ap length e₁ ∙ tabulate-length (length codes) _
+
+      below : (j : ℕ) → getD words′ j 0 < 2 ^ n
+      below j = lt-of-bits n (getD words′ j 0)
+          (λ l m. edges j l ∙ ap (λ b. b && (not (eqb j q) && not (eqb l q))) (simple .below j l m))
+
+      place : (j : ℕ) → j < length codes → getD codes′ j 0 ≡ codeOf ((isolated r q t) .codes j)
+      place j l = ap (λ c. getD c j 0) e′
+          ∙ put-all (λ j c. getD (set codes₁ q v) j 0 ≡ codeOf c) _ q (then (hadamardCode t) (r .codes q))
+          (getD-set-same codes₁ q v 0 (subst (λ m. q < m) (sym long₁) hq) ∙ ev) j
+          (λ d. getD-set-other codes₁ q j v 0 d ∙ ap (λ c. getD c j 0) e₁ ∙ tabulate-at (length codes) _ j l
+          ∙ ap codeOf (z-before (bit w j) (codesOf codes j)
+          ∙ ap (λ b. then (pauliCode false b) (codesOf codes j)) (hw j)))

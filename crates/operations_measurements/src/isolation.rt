@@ -1,0 +1,102 @@
+// A vertex made ready for a measurement, and isolated by it, in the buffers of a record.
+use buffers::sign_digit;
+use clifford::Code;
+use operations::compose;
+use operations_gates::where_true;
+use operations_rewriting::complement_record;
+use operations_rewriting::put_before;
+use pauli::Letter;
+use pauli::x_bit;
+use pauli::z_bit;
+use words::flip;
+use words::smallest;
+ghost use mathlib.Core.Bool.{_&&_, not, true};
+ghost use mathlib.Core.Logic.{_↔_};
+ghost use mathlib.Core.Path.{_≡_};
+ghost use Prim.Native.Nat.{_<_, _≤_};
+ghost use lib.Dec.{eqb};
+ghost use lib.ListN.{getD, length};
+ghost use Rattle.clifford.specs.Clifford.{cliffordOf, codeOf, image, then};
+ghost use Rattle.clifford.specs.Vectors.{codesOf};
+ghost use Rattle.graph.specs.Graph.{Simple};
+ghost use Rattle.graph.specs.internal.NeighbourWords.{SameGraph};
+ghost use Rattle.graph.specs.NeighbourWords.{graphIn};
+ghost use Rattle.graph_steps.specs.internal.KeptGroups.{BroughtToZ, GroupKept};
+ghost use Rattle.graph_steps.specs.internal.Steps.{isolated, hadamardCode};
+ghost use Rattle.operations.specs.internal.InPlace.{Rewritten, Unrefused, recordIn};
+ghost use Rattle.pauli.specs.declared.Letter.the-variants.{I, X};
+
+// Whether the code sends a letter to plus or minus another.
+fn sends(code: u8, from: Letter, to: Letter) -> bool
+    requires { ⌜ code < 24 ⌝ }
+    ensures { λ r. ⌜ (r ≡ true) ↔ (image (cliffordOf code) from ≡ to) ⌝ }
+{
+    let sent = Code { index: code }.image(from);
+    let letter = sent.letter;
+    (z_bit(letter) == z_bit(to)) & (x_bit(letter) == x_bit(to))
+}
+
+// Where the code at q sends X to the letter, complements at a neighbour: then it sends Y there.
+fn clear_x(neighbours: &mut [u64], codes: &mut [u8], q: usize, l: Letter)
+    requires { ⌜ Unrefused (recordIn (now neighbours) (now codes)) × (q < length (now neighbours)) ⌝ }
+    requires { ⌜ (image (codesOf (now codes) q) X ≡ l → getD (now neighbours) q 0 ≡ 0 → ⊥) ⌝ }
+    ensures { λ r. ⌜ GroupKept (now (neighbours .entry)) (now (codes .entry)) (now (neighbours .exit)) (now (codes .exit)) ⌝ }
+    ensures { λ r. ⌜ (image (codesOf (now (codes .exit)) q) X ≡ l → ⊥) ⌝ }
+{
+    if sends(codes[q], Letter::X, l) {
+        let k = smallest(neighbours[q]);
+        complement_record(neighbours, codes, k);
+    }
+}
+
+// Complements until the code at q sends Z to the letter, which is not I.
+pub fn bring_to_z(neighbours: &mut [u64], codes: &mut [u8], q: usize, l: Letter)
+    requires { ⌜ Unrefused (recordIn (now neighbours) (now codes)) × (q < length (now neighbours)) ⌝ }
+    requires { ⌜ (image (codesOf (now codes) q) X ≡ l → getD (now neighbours) q 0 ≡ 0 → ⊥) ⌝ }
+    requires { ⌜ (l ≡ I → ⊥) ⌝ }
+    ensures { λ r. ⌜ BroughtToZ (now (neighbours .entry)) (now (codes .entry)) q l
+        (now (neighbours .exit)) (now (codes .exit)) ⌝ }
+{
+    clear_x(neighbours, codes, q, l);
+    if sends(codes[q], Letter::Z, l) {
+        return;
+    }
+    complement_record(neighbours, codes, q);
+}
+
+// The edges at q removed.
+fn remove_edges(neighbours: &mut [u64], q: usize)
+    requires { ⌜ (length (now neighbours) ≤ 64) × (q < length (now neighbours)) ⌝ }
+    requires { ⌜ Simple (length (now neighbours)) (graphIn (now neighbours)) ⌝ }
+    ensures { λ r. ⌜ SameGraph (graphIn (now (neighbours .exit)))
+        (λ k l. graphIn (now (neighbours .entry)) k l && (not (eqb k q) && not (eqb l q))) ⌝ }
+{
+    let mut rest = neighbours[q];
+    while rest != 0 {
+        let i = smallest(rest);
+        neighbours[i] = flip(neighbours[i], q);
+        rest = flip(rest, i);
+    }
+    neighbours[q] = 0;
+}
+
+// The code with a Hadamard before it, and a sign t for the image of X.
+fn with_hadamard(t: bool, code: u8) -> u8
+    requires { ⌜ code < 24 ⌝ }
+    ensures { λ r. ⌜ r ≡ codeOf (then (hadamardCode t) (cliffordOf code)) ⌝ }
+{
+    compose(8 + 2 * sign_digit(t), code)
+}
+
+// Isolates vertex q, whose Z before the code has the sign t.
+pub fn isolate(neighbours: &mut [u64], codes: &mut [u8], q: usize, t: bool)
+    requires { ⌜ Unrefused (recordIn (now neighbours) (now codes)) × (q < length (now neighbours)) ⌝ }
+    ensures { λ r. ⌜ Rewritten (now (neighbours .entry)) (now (codes .entry)) (λ g. isolated g q t)
+        (now (neighbours .exit)) (now (codes .exit)) ⌝ }
+{
+    let around = neighbours[q];
+    let code = codes[q];
+    put_before(codes, where_true(t, around), 2);
+    codes[q] = with_hadamard(t, code);
+    remove_edges(neighbours, q);
+}

@@ -1,0 +1,129 @@
+-- The pivot of a column as the code does it, and the words that name the rows.
+use mathlib.Core.Bool.{_&&_, Bool, and-false, and-true, false, not, true, true≢false}
+use mathlib.Core.List.{List, []}
+use mathlib.Core.Logic.{inl, inr, _⊎_}
+use mathlib.Core.Path.{ap, ap₂, fun-ext, subst, sym, _∙_, _≡_}
+use Prim.Native.Nat.{_+_, _<_, _^_, zero-le, ℕ, _≤_}
+use native.Mathlib.Decide.{ℕ-discrete}
+use native.Mathlib.Nat.{le-refl, lt-irrefl}
+use native.Mathlib.Omega.{arith}
+use lib.Dec.{eqb, ltb}
+use lib.ListN.{List·getD-eq-default, getD, length}
+use borrow.Author.Tests.{eqb-true, le-ltb, lt-ltb}
+use Rattle.pauli.proofs.PauliLaws.{mul-identity}
+use Rattle.pauli.specs.Pauli.{Pauli, anticommute, mul}
+use Rattle.stabilizer.proofs.RowOperations.{clear-self, lend-self, shear-commuting}
+use Rattle.stabilizer.specs.internal.Elimination.{clear, lend, pivotOn}
+use Rattle.stabilizer.specs.Elimination.{shear}
+use Rattle.stabilizer.specs.Groups.{chosen}
+use Rattle.stabilizer.specs.internal.Tableau.{tableau}
+use Rattle.words.proofs.BitLaws.{bit-single, zero-bit}
+use Rattle.words.proofs.Finite.{⊕-zero}
+use Rattle.words.proofs.Places.{other-place, put-all, put-other, put-same, same-place, upto-other}
+use Rattle.words.proofs.Sums.{lt-or-ge}
+use Rattle.words.specs.Bits.{bit, put, _⊕_}
+use Rattle.reduction.specs.internal.Passes.{PivotReady}
+
+-- ---- the word of a column: the rows below i that have x bit q
+pub record ColumnBelow (rows : List (List ℕ)) (q word i : ℕ) : Type 0 where
+  pub named : (j : ℕ) → bit word j ≡ (ltb j i && bit (getD (getD rows j []) 1 0) q)
+
+pub column-start : (rows : List (List ℕ)) (q : ℕ) → ColumnBelow rows q 0 0
+column-start rows q =
+    record {
+      named = λ j. zero-bit j
+          ∙ sym (ap (λ b. b && bit (getD (getD rows j []) 1 0) q) (le-ltb j 0 zero-le));
+    }
+
+pub column-step : (rows : List (List ℕ)) (q word i : ℕ) → ColumnBelow rows q word i → (word′ : ℕ) (b : Bool) →
+    b ≡ bit (getD (getD rows i []) 1 0) q → ((j : ℕ) → bit word′ j ≡ bit word j ⊕ (eqb j i && b)) →
+    ColumnBelow rows q word′ (i + 1)
+column-step rows q word i C word′ b e h =
+    record { named = λ j. h j ∙ ap₂ (λ u v. u ⊕ (eqb j i && v)) (C .named j) e ∙ at j (ℕ-discrete j i) }
+  where
+    at : (j : ℕ) → Dec (j ≡ i) →
+        (ltb j i && bit (getD (getD rows j []) 1 0) q) ⊕ (eqb j i && bit (getD (getD rows i []) 1 0) q)
+        ≡ (ltb j (i + 1) && bit (getD (getD rows j []) 1 0) q)
+    at j (yes p) =
+        subst (λ v. (ltb v i && bit (getD (getD rows v []) 1 0) q)
+        ⊕ (eqb v i && bit (getD (getD rows i []) 1 0) q)
+        ≡ (ltb v (i + 1) && bit (getD (getD rows v []) 1 0) q)) (sym p)
+        (ap₂ (λ u v. (u && bit (getD (getD rows i []) 1 0) q) ⊕ (v && bit (getD (getD rows i []) 1 0) q))
+        (le-ltb i i (le-refl i)) (same-place i)
+        ∙ sym (ap (λ u. u && bit (getD (getD rows i []) 1 0) q) (lt-ltb i (i + 1) (omega arith))))
+    at j (no d) =
+        ap (λ u. (ltb j i && bit (getD (getD rows j []) 1 0) q)
+        ⊕ (u && bit (getD (getD rows i []) 1 0) q)) (other-place d)
+        ∙ ⊕-zero _ ∙ ap (λ u. u && bit (getD (getD rows j []) 1 0) q) (sym (upto-other j i d))
+
+-- ---- the bit lent
+module _ (R : ℕ → Pauli) (q i holders : ℕ) (P : PivotReady R q i holders) where
+  -- row q has it already
+  pub lent-already : bit holders q ≡ true → (j : ℕ) → R j ≡ shear 64 R i (lend R q) j
+  lent-already e j =
+      sym (ap (λ b. mul 64 (R j) (chosen b (R i)))
+      (ap (λ b. eqb j q && not b) (sym (P .holds q) ∙ e) ∙ and-false (eqb j q)) ∙ mul-identity 64 (R j))
+
+  module _ (lacks : bit holders q ≡ false) (single : ℕ) (s : single ≡ 2 ^ q) where
+    bit-here : (j : ℕ) → bit single j ≡ eqb j q
+    bit-here j = ap (λ v. bit v j) s ∙ bit-single q j
+
+    -- the word that names row q alone is the definition's
+    pub lent-now : (j : ℕ) → shear 64 R i (bit single) j ≡ shear 64 R i (lend R q) j
+    lent-now j =
+        ap (λ b. mul 64 (R j) (chosen b (R i)))
+        (bit-here j ∙ sym (ap (λ b. eqb j q && not b) (sym (P .holds q) ∙ lacks) ∙ and-true (eqb j q)))
+
+    pub lender-not-named : bit single i ≡ false
+    lender-not-named = bit-here i ∙ other-place (λ p. true≢false (sym (P .has) ∙ ap (λ v. (R v) .x q) p
+        ∙ sym (P .holds q) ∙ lacks))
+
+    pub lent-commutes : (j : ℕ) → bit single j ≡ true → anticommute 64 (R j) (R i) ≡ false
+    lent-commutes j e =
+        subst (λ v. anticommute 64 (R v) (R i) ≡ false) (sym (eqb-true j q (sym (bit-here j) ∙ e)))
+        (P .commuting .commute q i (P .column) (P .lender))
+
+-- ---- the column cleared
+module _ (R : ℕ → Pauli) (q i holders : ℕ) (P : PivotReady R q i holders) (R₁ : ℕ → Pauli)
+    (e : (j : ℕ) → R₁ j ≡ shear 64 R i (lend R q) j) (named : ℕ)
+    (h : (j : ℕ) → bit named j ≡ put (bit holders) q false j) where
+  lent : ℕ → Pauli
+  lent = shear 64 R i (lend R q)
+
+  is-clear : (j : ℕ) → bit named j ≡ clear (shear 64 R i (lend R q)) q j
+  is-clear j =
+      h j
+      ∙ put-all (λ j b. b ≡ clear (shear 64 R i (lend R q)) q j) (bit holders) q false
+      (sym (clear-self 64 R q i (P .column) (P .lender) (P .has))) j
+      (λ d. P .holds j
+      ∙ sym (ap (λ b. (mul 64 (R j) (chosen b (R i))) .x q) (ap (λ b. b && not ((R q) .x q)) (other-place d))
+      ∙ ap (λ p. p .x q) (mul-identity 64 (R j)))
+      ∙ sym (ap (λ b. not b && (shear 64 R i (lend R q) j) .x q) (other-place d)))
+
+  pub cleared : (j : ℕ) → shear 64 R₁ q (bit named) j ≡ pivotOn 64 R q i j
+  cleared j =
+      ap (λ f. shear 64 f q (bit named) j) (fun-ext e)
+      ∙ ap (λ b. mul 64 (shear 64 R i (lend R q) j) (chosen b (shear 64 R i (lend R q) q))) (is-clear j)
+
+  pub pivot-not-named : bit named q ≡ false
+  pivot-not-named = h q ∙ put-same (bit holders) q false
+
+  -- a row that has the bit is one of the 64
+  pub cleared-commutes : ((j : ℕ) → 64 ≤ j → (R j) .x q ≡ false) → (j : ℕ) → bit named j ≡ true →
+      anticommute 64 (R₁ j) (R₁ q) ≡ false
+  cleared-commutes far j n =
+      ap₂ (anticommute 64) (e j) (e q)
+      ∙ shear-commuting 64 64 R (P .commuting) i (P .lender) (lend R q)
+      (lend-self 64 R q i (P .column) (P .lender) (P .has)) .commute j q (inside (lt-or-ge j 64)) (P .column)
+    where
+      inside : (j < 64) ⊎ (64 ≤ j) → j < 64
+      inside (inl l) = l
+      inside (inr l) = absurd (true≢false (sym n ∙ h j
+          ∙ put-other (bit holders) q false j (λ p. lt-irrefl 64 (omega (arith, P .column, p)))
+          ∙ P .holds j ∙ far j l))
+
+-- a row past the array has no bit
+pub far-row : (rows : List (List ℕ)) (signs q : ℕ) → length rows ≡ 64 → (j : ℕ) → 64 ≤ j →
+    (tableau signs rows j) .x q ≡ false
+far-row rows signs q e j l =
+    ap (λ v. bit (getD v 1 0) q) (List·getD-eq-default rows [] (subst (λ k. k ≤ j) (sym e) l)) ∙ zero-bit q

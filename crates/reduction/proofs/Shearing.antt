@@ -1,0 +1,158 @@
+-- One row multiplied into the rows that a word names, as the code does it: row after row, by rising number.
+use mathlib.Core.Bool.{_&&_, Bool, Bool·beq, and-false, and-true, false, not, true, true≢false}
+use mathlib.Core.List.{List, [], _∷_}
+use mathlib.Core.Logic.{_≢_}
+use mathlib.Core.Path.{ap, ap₂, refl, subst, sym, _∙_, _≡_}
+use Prim.Native.Nat.{_<_, _^_, ℕ, _≤_}
+use native.Mathlib.Decide.{ℕ-discrete}
+use lib.Bits.{bitXor}
+use lib.Count.{trailingZeros}
+use lib.Dec.{eqb}
+use lib.ListN.{getD, length, length-set, set}
+use lib.Seq.{getD-set-other, getD-set-same}
+use Rattle.pauli.proofs.PauliLaws.{anticommute-letters, mul-identity}
+use Rattle.pauli.proofs.WordRows.{signed-mul}
+use Rattle.pauli.specs.Pauli.{Pauli, anticommute, i⁰, minus, mul, row, signedRow}
+use Rattle.stabilizer.specs.Elimination.{shear}
+use Rattle.stabilizer.specs.Groups.{chosen}
+use Rattle.stabilizer.specs.internal.Tableau.{tableau}
+use Rattle.words.proofs.BitLaws.{bit-above, bit-flip, lt-of-bits, zero-bit}
+use Rattle.words.proofs.Finite.{unequal, ⊕-assoc, ⊕-zero}
+use Rattle.words.proofs.Places.{other-place, same-place}
+use Rattle.words.proofs.Trailing.{trailing-set}
+use Rattle.words.specs.Bits.{bit, _⊕_}
+
+module _ (rows₀ : List (List ℕ)) (signs₀ a named : ℕ) where
+  -- what the rows named, but not left in rest, have become
+  abbrev partly : ℕ → ℕ → Pauli
+  partly rest = shear 64 (tableau signs₀ rows₀) a (λ k. bit named k && not (bit rest k))
+
+  pub record Sheared (rows : List (List ℕ)) (signs rest : ℕ) : Type 0 where
+    pub long : length rows ≡ 64
+    pub part : (j : ℕ) → bit rest j ≡ true → bit named j ≡ true
+    pub sheared : (j : ℕ) →
+        tableau signs rows j ≡ shear 64 (tableau signs₀ rows₀) a (λ k. bit named k && not (bit rest k)) j
+
+  -- a row that is not named stays
+  not-named : (b : Bool) (j : ℕ) → b ≡ false →
+      mul 64 (tableau signs₀ rows₀ j) (chosen b (tableau signs₀ rows₀ a)) ≡ tableau signs₀ rows₀ j
+  not-named b j e =
+      ap (λ b. mul 64 (tableau signs₀ rows₀ j) (chosen b (tableau signs₀ rows₀ a))) e
+      ∙ mul-identity 64 (tableau signs₀ rows₀ j)
+
+  pub shear-start : length rows₀ ≡ 64 → Sheared rows₀ signs₀ named
+  shear-start l =
+      record {
+        long = l;
+        part = λ j e. e;
+        sheared = λ j. sym (not-named (bit named j && not (bit named j)) j (and-not (bit named j)));
+      }
+    where
+      and-not : (b : Bool) → (b && not b) ≡ false
+      and-not false = refl
+      and-not true = refl
+
+  pub shear-end : (rows : List (List ℕ)) (signs rest : ℕ) → Sheared rows signs rest → rest ≡ 0 → (j : ℕ) →
+      tableau signs rows j ≡ shear 64 (tableau signs₀ rows₀) a (bit named) j
+  shear-end rows signs rest S e j =
+      S .sheared j
+      ∙ ap (λ b. mul 64 (tableau signs₀ rows₀ j) (chosen b (tableau signs₀ rows₀ a)))
+      (ap (λ b. bit named j && not b) (ap (λ v. bit v j) e ∙ zero-bit j) ∙ and-true (bit named j))
+
+  -- rest has bits of named alone, so it is a word of 64 bits too
+  pub rest-lt : (rows : List (List ℕ)) (signs rest : ℕ) → Sheared rows signs rest → named < 2 ^ 64
+      → rest < 2 ^ 64
+  rest-lt rows signs rest S h = lt-of-bits 64 rest (λ q l. go q l (bit rest q) refl)
+    where
+      go : (q : ℕ) → 64 ≤ q → (b : Bool) → bit rest q ≡ b → b ≡ false
+      go q l false e = refl
+      go q l true e = absurd (true≢false (sym (S .part q e) ∙ bit-above 64 named h q l))
+
+  -- the next row: the smallest that is left
+  pub next-row : (rows : List (List ℕ)) (signs rest : ℕ) {j : ℕ} → Sheared rows signs rest → named < 2 ^ 64 →
+      (rest ≡ 0 → ⊥) → j ≡ trailingZeros 64 rest → (j < 64) × (bit rest j ≡ true)
+  next-row rows signs rest S h nonzero e =
+      let F = trailing-set 64 rest (rest-lt rows signs rest S h) nonzero in
+      (subst (λ v. v < 64) (sym e) (F .below), ap (bit rest) e ∙ F .passes)
+
+  -- row j, the next one
+  module _ (rows : List (List ℕ)) (signs rest j : ℕ) (S : Sheared rows signs rest) (left : bit rest j ≡ true)
+      (hj : j < 64)
+      (commute : (j : ℕ) → bit named j ≡ true →
+      anticommute 64 (tableau signs₀ rows₀ j) (tableau signs₀ rows₀ a) ≡ false) where
+    is-named : bit named j ≡ true
+    is-named = S .part j left
+
+    -- it is still what it was
+    still : tableau signs rows j ≡ tableau signs₀ rows₀ j
+    still = S .sheared j
+        ∙ not-named (bit named j && not (bit rest j)) j (ap (λ b. bit named j && not b) left
+        ∙ and-false (bit named j))
+
+    -- it commutes with row a, so the letters of their product have a sign
+    pub next-commutes :
+        anticommute 64 (row i⁰ (getD (getD rows j []) 0 0) (getD (getD rows j []) 1 0))
+        (row i⁰ (getD (getD rows₀ a []) 0 0) (getD (getD rows₀ a []) 1 0)) ≡ false
+    next-commutes =
+        anticommute-letters 64 (tableau signs rows j) (tableau signs₀ rows₀ a) i⁰ i⁰
+        ∙ ap (λ p. anticommute 64 p (tableau signs₀ rows₀ a)) still ∙ commute j is-named
+
+    module _ (rows′ : List (List ℕ)) (signs′ rest′ : ℕ) (sign negative : Bool) (b : sign ≡ bit signs₀ a)
+        (m : (mul 64 (row i⁰ (getD (getD rows j []) 0 0) (getD (getD rows j []) 1 0))
+        (row i⁰ (getD (getD rows₀ a []) 0 0) (getD (getD rows₀ a []) 1 0))) .phase ≡ minus negative)
+        (r : rows′ ≡ set rows j (bitXor (getD (getD rows j []) 0 0) (getD (getD rows₀ a []) 0 0)
+        ∷ bitXor (getD (getD rows j []) 1 0) (getD (getD rows₀ a []) 1 0) ∷ []))
+        (s : (k : ℕ) → bit signs′ k ≡ bit signs k ⊕ (eqb k j && not (Bool·beq sign negative)))
+        (f : rest′ ≡ bitXor rest (2 ^ j)) where
+      bit-rest : (k : ℕ) → bit rest′ k ≡ bit rest k ⊕ eqb k j
+      bit-rest k = ap (λ v. bit v k) f ∙ bit-flip rest j k
+
+      -- the new row j is the product
+      here : tableau signs′ rows′ j ≡ mul 64 (tableau signs₀ rows₀ j) (tableau signs₀ rows₀ a)
+      here =
+          ap₂ (λ (b : Bool) (v : List ℕ). signedRow b (getD v 0 0) (getD v 1 0)) sign-is
+          (ap (λ v. getD v j []) r ∙ getD-set-same rows j _ [] (subst (λ k. j < k) (sym (S .long)) hj))
+          ∙ sym (signed-mul 64 (getD (getD rows j []) 0 0) (getD (getD rows j []) 1 0)
+          (getD (getD rows₀ a []) 0 0)
+          (getD (getD rows₀ a []) 1 0) (bit signs j) (bit signs₀ a) negative m)
+          ∙ ap (λ p. mul 64 p (tableau signs₀ rows₀ a)) still
+        where
+          sign-is : bit signs′ j ≡ (bit signs j ⊕ bit signs₀ a) ⊕ negative
+          sign-is =
+              s j ∙ ap (λ v. bit signs j ⊕ (v && not (Bool·beq sign negative))) (same-place j)
+              ∙ ap (λ v. bit signs j ⊕ v) (unequal sign negative ∙ ap (λ v. v ⊕ negative) b)
+              ∙ sym (⊕-assoc (bit signs j) (bit signs₀ a) negative)
+
+      there : (k : ℕ) → k ≢ j → tableau signs′ rows′ k ≡ tableau signs rows k
+      there k d =
+          ap₂ (λ (b : Bool) (v : List ℕ). signedRow b (getD v 0 0) (getD v 1 0))
+          (s k ∙ ap (λ v. bit signs k ⊕ (v && not (Bool·beq sign negative))) (other-place d)
+          ∙ ⊕-zero (bit signs k))
+          (ap (λ v. getD v k []) r ∙ getD-set-other rows j k _ [] d)
+
+      pub shear-step : Sheared rows′ signs′ rest′
+      shear-step =
+          record {
+            long = ap length r ∙ length-set rows j _ ∙ S .long;
+            part = λ k e. S .part k (was-left k e (ℕ-discrete k j));
+            sheared = λ k. at k (ℕ-discrete k j);
+          }
+        where
+          was-left : (k : ℕ) → bit rest′ k ≡ true → Dec (k ≡ j) → bit rest k ≡ true
+          was-left k e (yes p) = ap (bit rest) p ∙ left
+          was-left k e (no d) = sym (⊕-zero (bit rest k)) ∙ ap (λ b. bit rest k ⊕ b) (sym (other-place d))
+              ∙ sym (bit-rest k) ∙ e
+
+          done-here : (bit named j && not (bit rest′ j)) ≡ true
+          done-here = ap₂ (λ u v. u && not v) is-named (bit-rest j ∙ ap₂ _⊕_ left (same-place j))
+
+          at : (k : ℕ) → Dec (k ≡ j) → tableau signs′ rows′ k ≡ partly rest′ k
+          at k (yes p) =
+              subst (λ v. tableau signs′ rows′ v ≡ partly rest′ v) (sym p)
+              (here ∙ ap (λ b. mul 64 (tableau signs₀ rows₀ j) (chosen b (tableau signs₀ rows₀ a)))
+              (sym done-here))
+          at k (no d) =
+              there k d ∙ S .sheared k
+              ∙ ap (λ b. mul 64 (tableau signs₀ rows₀ k)
+              (chosen (bit named k && not b) (tableau signs₀ rows₀ a)))
+              (sym (bit-rest k ∙ ap (λ b. bit rest k ⊕ b) (other-place d) ∙ ⊕-zero (bit rest k)))

@@ -1,0 +1,41 @@
+-- `rotate` meets its contract: hadamards on the columns that the word names: z and x are exchanged there, and a sign
+-- flips for each Y.
+use mathlib.Core.Path.{refl}
+use Prim.Native.Nat.{_-_}
+use native.Mathlib.Omega.{arith}
+use borrow.Author.Needs.{needs}
+use Rattle.reduction.proofs.Rotating.{Rotated, rotate-end, rotate-start, rotate-step}
+use Rattle.reduction.proofs.passes.rotate.Statement.{statement}
+use Rattle.reduction.proofs.passes.rotate.Tie as tie
+
+abbrev Inv-loop : tie.InvT-loop
+Inv-loop signs₀ n columns rows₀ i₀ signs rows i = Rotated rows₀ signs₀ n columns rows signs i
+
+abbrev μ-loop : tie.MeasureT-loop
+μ-loop signs₀ n columns rows₀ i₀ signs rows i = n - i
+
+loop-holds : tie.Need-loop-holds Inv-loop μ-loop
+loop-holds c = rotate-start _ _ _ _ (c .good .0 .1 .0 .1)
+
+loop-again : tie.Need-loop-again Inv-loop μ-loop
+loop-again c = let L = c .before .before .before .before .before .loop in
+    let S = c .before .before .before .before .before .before in
+    rotate-step (S .args .t1) (S .args .signs .now) (S .args .n) (S .args .columns) (L .rows) (L .signs)
+    (L .i) (L .inv)
+    (c .before .before .before .before .loop-test .taken) (S .pre .0) (S .fits .columns .fits) _ _ _
+    (c .before .before .odd .ensures) refl
+    (c .flip-where .ensures)
+
+returns : tie.Need-returns Inv-loop μ-loop
+returns c = let L = c .before .loop in
+    let S = c .before .before in
+    rotate-end (S .args .t1) (S .args .signs .now) (S .args .n) (S .args .columns) (L .rows) (L .signs) (L .i)
+    (L .inv)
+    (c .loop-test .left) (S .pre .1 .beyond)
+
+pub rotate-spec : {M : Type 1} → statement M
+rotate-spec =
+    tie.close
+    (tie.spec Inv-loop μ-loop loop-holds (λ c. search needs) (λ c. search needs) (λ c. search needs) (λ c. search needs)
+    (λ c κs. search needs) (λ c. search needs) (λ c. search needs) (λ c κs. search needs) (λ c. search needs)
+    (λ c. omega arith) loop-again returns)

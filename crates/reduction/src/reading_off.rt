@@ -1,0 +1,56 @@
+// The record read off rows that have X or Y at their own place and I or Z elsewhere.
+use words::has;
+use words::put_bit;
+ghost use mathlib.Core.Path.{_≡_};
+ghost use Prim.Native.Nat.{ℕ, _<_, _≤_};
+ghost use lib.ListN.{length};
+ghost use Rattle.clifford.specs.Clifford.{codeOf};
+ghost use Rattle.record.specs.Lent.{codeNumbers, neighbourWords};
+ghost use Rattle.record.specs.Reduced.{plainCode, recordOf, withHadamard};
+ghost use Rattle.stabilizer.specs.Groups.{Within};
+ghost use Rattle.stabilizer.specs.internal.Tableau.{tableau};
+ghost use Rattle.words.specs.Bits.{bit};
+
+// The code of a vertex: 0 for +X, 2 for -X, 4 for +Y, 6 for -Y; followed by 8 where a Hadamard was used.
+fn vertex_code(hadamard: bool, y: bool, minus: bool) -> u8
+    ensures { λ r. ⌜ (r ≡ codeOf (withHadamard hadamard (plainCode y minus))) × (r < 24) ⌝ }
+{
+    if hadamard {
+        if y {
+            if minus { 16 } else { 18 }
+        } else {
+            if minus { 10 } else { 8 }
+        }
+    } else {
+        if y {
+            if minus { 6 } else { 4 }
+        } else {
+            if minus { 2 } else { 0 }
+        }
+    }
+}
+
+// Writes the record of rows that have X or Y at their own place and I or Z elsewhere.
+pub fn write_record(
+    rows: &[[u64; 2]; 64],
+    signs: u64,
+    n: usize,
+    hadamards: u64,
+    neighbours: &mut [u64],
+    codes: &mut [u8],
+)
+    requires { ⌜ (n ≤ 64) × (length (now neighbours) ≡ n) × (length (now codes) ≡ n) ⌝ }
+    requires { ⌜ ((j : ℕ) → j < n → Within n (tableau signs (now rows) j)) ⌝ }
+    ensures { λ r. ⌜ now (neighbours .exit)
+        ≡ neighbourWords n (recordOf n (bit hadamards) (tableau signs (now (rows .entry)))) ⌝ }
+    ensures { λ r. ⌜ now (codes .exit)
+        ≡ codeNumbers n (recordOf n (bit hadamards) (tableau signs (now (rows .entry)))) ⌝ }
+{
+    let mut q = 0;
+    while q < n {
+        let row = rows[q];
+        neighbours[q] = put_bit(row[0], q, false);
+        codes[q] = vertex_code(has(hadamards, q), has(row[0], q), has(signs, q));
+        q += 1;
+    }
+}

@@ -1,5 +1,0 @@
-pub mod Shearing
-pub mod Pivoting
-pub mod Passing
-pub mod Storing
-pub mod Rotating
