@@ -4,7 +4,7 @@ use mathlib.Core.List.{_++_, List, [], _∷_}
 use Prim.Native.Nat.{_*_, _+_, suc, ℕ}
 use lib.Dec.{eqb}
 use lib.ListN.{getD, length}
-use Rattle.buffers.specs.Refusals.{Line, badCount, line, otherThan}
+use Rattle.buffers.specs.Refusals.{Refusal, badCount, line, otherThan}
 use Rattle.pauli.specs.Pauli.{Pauli, minus, xBit, zBit}
 use Rattle.pauli.specs.declared.Letter.{Letter}
 use Rattle.pauli.specs.declared.Letter.the-variants.{I, X, Y, Z}
@@ -62,19 +62,19 @@ stringList t = listOf (lineCount t) (λ j. rowOf (byteAt (lineCount t) t j))
 -- ---- lines in checking order
 -- reading: "Lines of unequal length, a count of lines unlike the count of letters, other characters or a missing
 -- newline give 1; an empty text gives 2. 01's checks follow from 2 on." The three buffers have a place for each line
-abbrev pub formedLines : List ℕ → List ℕ → List ℕ → List ℕ → List Line
+abbrev pub formedLines : List ℕ → List ℕ → List ℕ → List ℕ → List Refusal
 formedLines t signs z x =
     line 1 (not (stringForm t)) ∷ line 2 (badCount (lineCount t))
     ∷ line 4 (otherThan (lineCount t) signs || (otherThan (lineCount t) z || otherThan (lineCount t) x)) ∷ []
 
 -- of the list that is read; 5 and 6 hold of none
-abbrev pub judgedLines : GeneratorList → List Line
+abbrev pub judgedLines : GeneratorList → List Refusal
 judgedLines l = line 9 (clashing (l .n) (rows l)) ∷ line 10 (dependent (l .n) (rows l)) ∷ []
 
 -- 1, 2, 4, 9, 10
-abbrev pub readLines : List ℕ → List ℕ → List ℕ → List ℕ → List Line
+abbrev pub readLines : List ℕ → List ℕ → List ℕ → List ℕ → List Refusal
 readLines t signs z x = formedLines t signs z x ++ judgedLines (stringList t)
 
 -- writing: the list's lines; the buffer has the bytes of the text
-abbrev pub writeLines : GeneratorList → List ℕ → List Line
+abbrev pub writeLines : GeneratorList → List ℕ → List Refusal
 writeLines l text = listLines l (otherThan (textSize (l .n)) text)

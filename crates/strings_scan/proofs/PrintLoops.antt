@@ -15,14 +15,14 @@ use Rattle.pauli.specs.Pauli.{Pauli, letter, signedRow}
 use Rattle.strings.proofs.TextLaws.{length-lines}
 use Rattle.strings.specs.Strings.{letterByte, signByte, stringLine, stringLines, stringsText, textSize}
 use Rattle.text.proofs.Writing.{and-then, same-print, write-none, write-taken}
-use Rattle.text.specs.Text.{Printed, newline, written}
+use Rattle.text.specs.Text.{Printed, newline, overwritten}
 use Rattle.words.specs.Bits.{bit}
 use Rattle.strings_scan.proofs.SizeLaws.{line-inside}
 
 -- ---- a table printed place by place
 pub record TablePut (n : ℕ) (f : ℕ → ℕ) (at : ℕ) (out₀ out : List ℕ) (q : ℕ) : Type 0 where
   pub upto : q ≤ n
-  pub printed : out ≡ written out₀ at (take q (tabulate n f))
+  pub printed : out ≡ overwritten out₀ at (take q (tabulate n f))
   pub long : length out ≡ length out₀
 
 module _ (n : ℕ) (f : ℕ → ℕ) (at : ℕ) (out₀ : List ℕ) (room : at + n ≤ length out₀) where
@@ -47,7 +47,7 @@ module _ (n : ℕ) (f : ℕ → ℕ) (at : ℕ) (out₀ : List ℕ) (room : at +
   all-put {out} {q} T l =
       record {
         end = ap (λ k. at + k) (sym (tabulate-length n f));
-        out = T .printed ∙ ap (written out₀ at)
+        out = T .printed ∙ ap (overwritten out₀ at)
             (take-all q (tabulate n f) (subst (λ k. k ≤ q) (sym (tabulate-length n f)) l));
       }
 
@@ -92,7 +92,7 @@ module _ (n : ℕ) (R : ℕ → Pauli) (out₀ : List ℕ) (size : length out₀
         }
 
   pub all-lines : {out : List ℕ} {at j : ℕ} → LinesPut n R out₀ out at j → n ≤ j → out ≡ stringsText n R
-  unfolding written
+  unfolding overwritten
   all-lines {out} {at} {j} L l =
       let all : j ≡ n = le-antisymm (L .upto) l in
       let past : drop (0 + length (stringLines n j R)) out₀ ≡ [] =
