@@ -12,5 +12,6 @@ pub mod GeneratorDemand
 pub mod SessionDemand
 pub mod JobDemand
 pub mod ProgramDemand
+pub mod UsedDemand
 pub mod Sentences
 pub mod internal
