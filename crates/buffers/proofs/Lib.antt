@@ -1,5 +1,6 @@
 pub mod Tabulate
 pub mod Lines
+pub mod AddedLines
 pub mod Reaching
 pub mod Filling
 pub mod CopiedLists

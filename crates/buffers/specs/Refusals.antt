@@ -1,5 +1,5 @@
 -- Refusals: the lines of a call in checking order, and the number of the first that holds.
-use mathlib.Core.Bool.{Bool, cond, not, _||_}
+use mathlib.Core.Bool.{_&&_, Bool, cond, not, _||_}
 use mathlib.Core.List.{List, [], _∷_}
 use Prim.Native.Nat.{ℕ}
 use lib.Dec.{eqb, leb, ltb}
@@ -19,6 +19,17 @@ line k b = record { number = k; holds = b }
 unfoldable pub firstFitting : List Refusal → ℕ
 firstFitting [] = 0
 firstFitting (l ∷ ls) = cond (l .holds) (l .number) (firstFitting ls)
+
+-- ---- lines made of others
+-- lines with a further test joined into the one with number k
+abbrev pub withTest : ℕ → Bool → List Refusal → List Refusal
+withTest k b [] = []
+withTest k b (l ∷ ls) = line (l .number) (l .holds || (eqb (l .number) k && b)) ∷ withTest k b ls
+
+-- the line put in directly after the one with number k
+abbrev pub insertedAfter : ℕ → Refusal → List Refusal → List Refusal
+insertedAfter k new [] = []
+insertedAfter k new (l ∷ ls) = l ∷ cond (eqb (l .number) k) (new ∷ insertedAfter k new ls) (insertedAfter k new ls)
 
 -- ---- tests that several lines share
 -- 2: "n is 0 or above 64"

@@ -1,21 +1,34 @@
 // The public calls that complement and pivot a lent record in place.
 use call_gates::in_place_refusal;
+use call_gates::is_used;
 use operations_rewriting::complement_record;
 use operations_rewriting::pivot_record;
 use words::has;
 ghost use Rattle.contracts.specs.Calls.{Call};
-ghost use Rattle.operations.specs.Steps.{complementOf, pivotOf};
-ghost use Rattle.call_gates.specs.InPlaceCalls.{inPlaceCall};
+ghost use Rattle.call_gates.specs.InPlaceCalls.{usedCall};
 ghost use Rattle.call_gates.specs.internal.Knowing.{Known};
+ghost use Rattle.operations.specs.Steps.{complementOf, pivotOf};
 
 // Local complementation at a vertex; the record is not reduced.
-pub fn complement_known(n: u64, neighbours: &mut [u64], codes: &mut [u8], a: u64, known: bool) -> u8
-    requires { ⌜ Known known (record { n = n; neighbours = now neighbours; codes = now codes }) ⌝ }
-    ensures { λ r. ⌜ Call (inPlaceCall
-        (record { n = n; neighbours = now (neighbours .entry); codes = now (codes .entry) })
-        (complementOf a) (now (neighbours .exit)) (now (codes .exit))) r ⌝ }
+pub fn complement_known(
+    n: u64,
+    neighbours: &mut [u64],
+    codes: &mut [u8],
+    used: u64,
+    a: u64,
+    known: bool,
+) -> u8
+    requires { ⌜ Known known (record {
+      held = record { n = n; neighbours = now neighbours; codes = now codes };
+      used = used;
+    }) ⌝ }
+    ensures { λ r. ⌜ Call (usedCall (record {
+      held = record { n = n; neighbours = now (neighbours .entry); codes = now (codes .entry) };
+      used = used;
+    }) (complementOf a) (now (neighbours .exit)) (now (codes .exit))) r ⌝ }
 {
-    let early = in_place_refusal(n, neighbours, codes, false, n <= a, known);
+    let sixteen = is_used(used, a);
+    let early = in_place_refusal(n, neighbours, codes, used, false, n <= a, sixteen, known);
     if early != 0 {
         return early;
     }
@@ -23,22 +36,27 @@ pub fn complement_known(n: u64, neighbours: &mut [u64], codes: &mut [u8], a: u64
     0
 }
 
-// A pivot on an edge; the record is not reduced.
+// A pivot on an edge; the record is not reduced. A used vertex has no edge, so that no test for 16 is needed.
 pub fn pivot_known(
     n: u64,
     neighbours: &mut [u64],
     codes: &mut [u8],
+    used: u64,
     j: u64,
     k: u64,
     known: bool,
 ) -> u8
-    requires { ⌜ Known known (record { n = n; neighbours = now neighbours; codes = now codes }) ⌝ }
-    ensures { λ r. ⌜ Call (inPlaceCall
-        (record { n = n; neighbours = now (neighbours .entry); codes = now (codes .entry) })
-        (pivotOf j k) (now (neighbours .exit)) (now (codes .exit))) r ⌝ }
+    requires { ⌜ Known known (record {
+      held = record { n = n; neighbours = now neighbours; codes = now codes };
+      used = used;
+    }) ⌝ }
+    ensures { λ r. ⌜ Call (usedCall (record {
+      held = record { n = n; neighbours = now (neighbours .entry); codes = now (codes .entry) };
+      used = used;
+    }) (pivotOf j k) (now (neighbours .exit)) (now (codes .exit))) r ⌝ }
 {
     let eight = (n <= j) | ((n <= k) | (j == k));
-    let early = in_place_refusal(n, neighbours, codes, false, eight, known);
+    let early = in_place_refusal(n, neighbours, codes, used, false, eight, false, known);
     if early != 0 {
         return early;
     }
@@ -50,19 +68,21 @@ pub fn pivot_known(
 }
 
 // The same where nothing is known of the record.
-pub fn complement(n: u64, neighbours: &mut [u64], codes: &mut [u8], a: u64) -> u8
-    ensures { λ r. ⌜ Call (inPlaceCall
-        (record { n = n; neighbours = now (neighbours .entry); codes = now (codes .entry) })
-        (complementOf a) (now (neighbours .exit)) (now (codes .exit))) r ⌝ }
+pub fn complement(n: u64, neighbours: &mut [u64], codes: &mut [u8], used: u64, a: u64) -> u8
+    ensures { λ r. ⌜ Call (usedCall (record {
+      held = record { n = n; neighbours = now (neighbours .entry); codes = now (codes .entry) };
+      used = used;
+    }) (complementOf a) (now (neighbours .exit)) (now (codes .exit))) r ⌝ }
 {
-    complement_known(n, neighbours, codes, a, false)
+    complement_known(n, neighbours, codes, used, a, false)
 }
 
 // The same where nothing is known of the record.
-pub fn pivot(n: u64, neighbours: &mut [u64], codes: &mut [u8], j: u64, k: u64) -> u8
-    ensures { λ r. ⌜ Call (inPlaceCall
-        (record { n = n; neighbours = now (neighbours .entry); codes = now (codes .entry) })
-        (pivotOf j k) (now (neighbours .exit)) (now (codes .exit))) r ⌝ }
+pub fn pivot(n: u64, neighbours: &mut [u64], codes: &mut [u8], used: u64, j: u64, k: u64) -> u8
+    ensures { λ r. ⌜ Call (usedCall (record {
+      held = record { n = n; neighbours = now (neighbours .entry); codes = now (codes .entry) };
+      used = used;
+    }) (pivotOf j k) (now (neighbours .exit)) (now (codes .exit))) r ⌝ }
 {
-    pivot_known(n, neighbours, codes, j, k, false)
+    pivot_known(n, neighbours, codes, used, j, k, false)
 }

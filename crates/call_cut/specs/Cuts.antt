@@ -1,22 +1,22 @@
 -- What the call on a cut promises, for all arguments. A name with a prime is what the lent number holds at exit.
-use mathlib.Core.Bool.{_||_}
+use mathlib.Core.Bool.{false}
 use mathlib.Core.List.{List, [], _∷_}
 use Prim.Native.Nat.{_^_, ℕ}
 use lib.Dec.{leb}
-use Rattle.buffers.specs.Refusals.{Refusal, badCount, line}
+use Rattle.buffers.specs.Refusals.{Refusal}
 use Rattle.contracts.specs.Calls.{Contract, contractOf, number}
 use Rattle.cut.specs.Cut.{cutRank}
-use Rattle.record.specs.Lent.{LentRecord, heldRecord, notSimple, recordCodes, recordLengths, recordStray}
+use Rattle.record.specs.Lent.{heldRecord}
+use Rattle.used.specs.Used.{UsedRecord, usedLines}
 use Rattle.words.specs.Bits.{bit}
 
--- the lines of a record in checking order. 5: also a side word with a bit at or above n
-abbrev pub cutLines : LentRecord → ℕ → List Refusal
-cutLines l side =
-    line 2 (badCount (l .n)) ∷ line 4 (recordLengths l) ∷ line 5 (recordStray l || leb (2 ^ (l .n)) side)
-    ∷ line 6 (recordCodes l) ∷ line 7 (notSimple (l .n) ((heldRecord l) .graph)) ∷ []
+-- the lines of a record in checking order. 5: also a side word with a bit at or above n; the side may mark used qubits
+abbrev pub cutLines : UsedRecord → ℕ → List Refusal
+cutLines u side = usedLines u false (leb (2 ^ (u .held .n)) side) false
 
 -- ---- sukhlent_cut: "takes a record and a word that marks one side, and answers the rank modulo 2 of the edges between
 -- the sides"
-abbrev pub cutCall : LentRecord → ℕ → ℕ → ℕ → Contract
-cutCall l side rank rank′ =
-    contractOf (cutLines l side) (number rank (cutRank (l .n) (bit side) ((heldRecord l) .graph)) rank′ ∷ [])
+abbrev pub cutCall : UsedRecord → ℕ → ℕ → ℕ → Contract
+cutCall u side rank rank′ =
+    contractOf (cutLines u side)
+    (number rank (cutRank (u .held .n) (bit side) ((heldRecord (u .held)) .graph)) rank′ ∷ [])

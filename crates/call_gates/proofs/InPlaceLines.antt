@@ -1,14 +1,14 @@
--- The lines of the calls on a record lent in place: what it means that none of them holds, and a pivot's pair.
-use mathlib.Core.Bool.{Bool, false, not, true, true≢false, _||_}
+-- The lines of the calls on a record lent in place, without the used word: what it means that none of them holds.
+use mathlib.Core.Bool.{Bool, false, not, true, _||_}
 use mathlib.Core.List.{List, [], _∷_}
 use mathlib.Core.Logic.{_≢_}
-use mathlib.Core.Path.{ap, ap₂, refl, subst, sym, _∙_, _≡_}
+use mathlib.Core.Path.{ap, ap₂, subst, sym, _∙_, _≡_}
 use Prim.Native.Nat.{_<_, ℕ, _≤_}
 use native.Mathlib.Omega.{arith}
 use lib.Dec.{eqb, leb}
 use lib.ListN.{length}
 use borrow.Author.Tests.{eqb-false, leb-false}
-use Rattle.buffers.proofs.Lines.{fits, more-accepted, more-refused, none-fits, none-of-all, not-held, passed}
+use Rattle.buffers.proofs.Lines.{more-accepted, none-fits, none-of-all, not-held, passed}
 use Rattle.buffers.specs.Refusals.{Refusal, firstFitting, line}
 use Rattle.operations.specs.internal.InPlace.{Unrefused, recordIn}
 use Rattle.operations.specs.Steps.{argumentLines, complementLines, czLines, gateLines, inPlaceLines, pivotLines}
@@ -17,20 +17,6 @@ use Rattle.record.proofs.RecordLines.{record-numbered}
 use Rattle.record.specs.Accepted.{AcceptedRecord}
 use Rattle.record.specs.Lent.{LentRecord, heldRecord, recordCodes, recordLines}
 use Rattle.words.proofs.Flags.{neither}
-
--- a number stays where line 8 holds the more
-more-eight : (l : LentRecord) (six eight eight′ : Bool) (k : ℕ) → k ≡ firstFitting (inPlaceLines l six eight)
-    → (k ≡ 0 → ⊥) → (eight ≡ true → eight′ ≡ true) → k ≡ firstFitting (inPlaceLines l six eight′)
-more-eight l six true eight′ k e h more = e ∙ ap (λ b. firstFitting (inPlaceLines l six b)) (sym (more refl))
-more-eight l six false eight′ k e h more =
-    e ∙ more-refused ls (line 8 false ∷ []) refused ∙ sym (more-refused ls (line 8 eight′ ∷ []) refused)
-  where
-    ls : List Refusal
-    ls = recordLines l false six
-
-    refused : firstFitting ls ≡ 0 → ⊥
-    refused z = h (e ∙ more-accepted ls (line 8 false ∷ []) (record-numbered l false six) z ∙ passed 8 [] refl
-        ∙ none-fits)
 
 -- ---- no line holds
 no-line : (l : LentRecord) (six eight : Bool) → firstFitting (inPlaceLines l six eight) ≡ 0 →
@@ -121,31 +107,13 @@ module _ (l : LentRecord) where
       let upto = held-accepted l _ _ e .upto in
       (omega (arith, leb-false (l .n) j (t .0), upto), omega (arith, leb-false (l .n) k (u .0), upto))
 
-  -- what refuses the pair refuses the pivot
-  pub pair-refused : (j k r : ℕ) → r ≡ firstFitting (pairLines j k) → (r ≡ 0 → ⊥) → r ≡ firstFitting (pivotLines l j k)
-  pair-refused j k r e h = more-eight l false _ _ r e h (more (leb (l .n) j) (leb (l .n) k) (eqb j k) _)
-    where
-      more : (a b c d : Bool) → (a || (b || c)) ≡ true → (a || (b || (c || d))) ≡ true
-      more true b c d e = refl
-      more false true c d e = refl
-      more false false true d e = refl
-      more false false false d e = absurd (true≢false (sym e))
-
-  -- otherwise the edge decides
-  edge-decides : (j k : ℕ) → firstFitting (pairLines j k) ≡ 0 → (edge : Bool) → edge ≡ (heldRecord l) .graph j k
-      → firstFitting (pivotLines l j k) ≡ firstFitting (line 8 (not edge) ∷ [])
-  edge-decides j k e edge f =
+  -- with an edge no line of the pivot holds
+  pub edge-passes : (j k : ℕ) → firstFitting (pairLines j k) ≡ 0 → (heldRecord l) .graph j k ≡ true
+      → firstFitting (pivotLines l j k) ≡ 0
+  edge-passes j k e edge =
       let p = no-line l _ _ e in
       let t = neither (leb (l .n) j) _ (p .1 .1) in
       let u = neither (leb (l .n) k) _ (t .1) in
       more-accepted (recordLines l false false) _ (record-numbered l false false) (p .0)
-      ∙ ap (λ b. firstFitting (line 8 b ∷ []))
-      (ap₂ (λ a b. a || b) (t .0) (ap₂ (λ a b. a || b) (u .0) (ap₂ (λ a b. a || not b) (u .1) (sym f))))
-
-  module _ (j k r : ℕ) (e : r ≡ firstFitting (pairLines j k)) (z : r ≡ 0) (edge : Bool)
-      (f : edge ≡ (heldRecord l) .graph j k) where
-    pub no-edge-refuses : not edge ≡ true → 8 ≡ firstFitting (pivotLines l j k)
-    no-edge-refuses t = sym (edge-decides j k (sym e ∙ z) edge f ∙ fits 8 [] t)
-
-    pub edge-passes : not edge ≡ false → 0 ≡ firstFitting (pivotLines l j k)
-    edge-passes t = sym (edge-decides j k (sym e ∙ z) edge f ∙ passed 8 [] t ∙ none-fits)
+      ∙ passed 8 [] (ap₂ (λ a b. a || b) (t .0) (ap₂ (λ a b. a || b) (u .0) (ap₂ (λ a b. a || not b) (u .1) edge)))
+      ∙ none-fits

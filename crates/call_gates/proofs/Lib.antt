@@ -1,4 +1,5 @@
 pub mod InPlaceLines
+pub mod UsedInPlace
 pub mod MeasureLines
 pub mod InPlaceCalls
 pub mod KnownRecords

@@ -1,1 +1,2 @@
+pub mod InPlaceCalls
 pub mod Knowing

@@ -1,14 +1,17 @@
 // The public calls that rewrite a lent record in place: their refusal, and gate and cz.
 use operations_gates::cz_record;
 use operations_gates::gate_record;
-use record_checks::record_refusal;
+use used_checks::used_refusal;
+use words::has;
 ghost use mathlib.Core.Bool.{cond, false};
 ghost use mathlib.Core.Path.{_≡_};
 ghost use Rattle.contracts.specs.Calls.{Call};
 ghost use Rattle.buffers.specs.Refusals.{firstFitting};
-ghost use Rattle.operations.specs.Steps.{czOn, gateWith, inPlaceLines};
-ghost use Rattle.record.specs.Lent.{recordLines};
-ghost use Rattle.call_gates.specs.InPlaceCalls.{inPlaceCall};
+ghost use Rattle.operations.specs.Steps.{czOn, gateWith};
+ghost use Rattle.used.specs.Used.{usedLines};
+ghost use Rattle.words.specs.Bits.{bit};
+ghost use Rattle.call_gates.specs.InPlaceCalls.{usedCall};
+ghost use Rattle.call_gates.specs.internal.InPlaceCalls.{usedInPlace};
 ghost use Rattle.call_gates.specs.internal.Knowing.{Known};
 
 // 6 where line 6 holds of a further argument.
@@ -18,44 +21,71 @@ fn six_number(six: bool) -> u8
     if six { 6 } else { 0 }
 }
 
+// Whether a qubit is used; one with a number above 63 is not.
+pub fn is_used(used: u64, qubit: u64) -> bool
+    ensures { λ r. ⌜ r ≡ bit used qubit ⌝ }
+{
+    if qubit < 64 {
+        has(used, qubit as usize)
+    } else {
+        false
+    }
+}
+
 // The number of the first line of a record that holds, which need not be looked for where none is known to hold; `six`:
 // line 6 holds of a further argument.
-pub fn known_refusal(n: u64, neighbours: &[u64], codes: &[u8], six: bool, known: bool) -> u8
-    requires { ⌜ Known known (record { n = n; neighbours = now neighbours; codes = now codes }) ⌝ }
-    ensures { λ r. ⌜ r ≡ firstFitting (recordLines (record {
-      n = n;
-      neighbours = now (neighbours .entry);
-      codes = now (codes .entry);
-    }) false six) ⌝ }
+pub fn known_refusal(
+    n: u64,
+    neighbours: &[u64],
+    codes: &[u8],
+    used: u64,
+    six: bool,
+    known: bool,
+) -> u8
+    requires { ⌜ Known known (record {
+      held = record { n = n; neighbours = now neighbours; codes = now codes };
+      used = used;
+    }) ⌝ }
+    ensures { λ r. ⌜ r ≡ firstFitting (usedLines (record {
+      held = record { n = n; neighbours = now (neighbours .entry); codes = now (codes .entry) };
+      used = used;
+    }) false false six) ⌝ }
 {
     if known {
         return six_number(six);
     }
-    record_refusal(n, neighbours, codes, false, six)
+    used_refusal(n, neighbours, codes, used, 0, false, six)
 }
 
-// The number of the first line of a record that holds, and then 8 where `eight` does; `six`: line 6 holds of a
-// further argument; `known`: no line of the record alone holds.
+// The number of the first line of a record that holds, then 8 where `eight` does, then 16 where `sixteen` does; `six`:
+// line 6 holds of a further argument; `known`: no line of the record alone holds.
 pub fn in_place_refusal(
     n: u64,
     neighbours: &[u64],
     codes: &[u8],
+    used: u64,
     six: bool,
     eight: bool,
+    sixteen: bool,
     known: bool,
 ) -> u8
-    requires { ⌜ Known known (record { n = n; neighbours = now neighbours; codes = now codes }) ⌝ }
-    ensures { λ r. ⌜ r ≡ firstFitting (inPlaceLines (record {
-      n = n;
-      neighbours = now (neighbours .entry);
-      codes = now (codes .entry);
-    }) six eight) ⌝ }
+    requires { ⌜ Known known (record {
+      held = record { n = n; neighbours = now neighbours; codes = now codes };
+      used = used;
+    }) ⌝ }
+    ensures { λ r. ⌜ r ≡ firstFitting (usedInPlace (record {
+      held = record { n = n; neighbours = now (neighbours .entry); codes = now (codes .entry) };
+      used = used;
+    }) six eight sixteen) ⌝ }
 {
-    let early = known_refusal(n, neighbours, codes, six, known);
+    let early = known_refusal(n, neighbours, codes, used, six, known);
     if early != 0 {
         return early;
     }
-    if eight { 8 } else { 0 }
+    if eight {
+        return 8;
+    }
+    if sixteen { 16 } else { 0 }
 }
 
 // A code applied after the code held at a qubit, and the reduced record.
@@ -63,16 +93,31 @@ pub fn gate_known(
     n: u64,
     neighbours: &mut [u64],
     codes: &mut [u8],
+    used: u64,
     qubit: u64,
     code: u8,
     known: bool,
 ) -> u8
-    requires { ⌜ Known known (record { n = n; neighbours = now neighbours; codes = now codes }) ⌝ }
-    ensures { λ r. ⌜ Call (inPlaceCall
-        (record { n = n; neighbours = now (neighbours .entry); codes = now (codes .entry) })
-        (gateWith qubit code) (now (neighbours .exit)) (now (codes .exit))) r ⌝ }
+    requires { ⌜ Known known (record {
+      held = record { n = n; neighbours = now neighbours; codes = now codes };
+      used = used;
+    }) ⌝ }
+    ensures { λ r. ⌜ Call (usedCall (record {
+      held = record { n = n; neighbours = now (neighbours .entry); codes = now (codes .entry) };
+      used = used;
+    }) (gateWith qubit code) (now (neighbours .exit)) (now (codes .exit))) r ⌝ }
 {
-    let early = in_place_refusal(n, neighbours, codes, 24 <= code, n <= qubit, known);
+    let sixteen = is_used(used, qubit);
+    let early = in_place_refusal(
+        n,
+        neighbours,
+        codes,
+        used,
+        24 <= code,
+        n <= qubit,
+        sixteen,
+        known,
+    );
     if early != 0 {
         return early;
     }
@@ -81,14 +126,27 @@ pub fn gate_known(
 }
 
 // CZ on two qubits, and the reduced record.
-pub fn cz_known(n: u64, neighbours: &mut [u64], codes: &mut [u8], a: u64, b: u64, known: bool) -> u8
-    requires { ⌜ Known known (record { n = n; neighbours = now neighbours; codes = now codes }) ⌝ }
-    ensures { λ r. ⌜ Call (inPlaceCall
-        (record { n = n; neighbours = now (neighbours .entry); codes = now (codes .entry) })
-        (czOn a b) (now (neighbours .exit)) (now (codes .exit))) r ⌝ }
+pub fn cz_known(
+    n: u64,
+    neighbours: &mut [u64],
+    codes: &mut [u8],
+    used: u64,
+    a: u64,
+    b: u64,
+    known: bool,
+) -> u8
+    requires { ⌜ Known known (record {
+      held = record { n = n; neighbours = now neighbours; codes = now codes };
+      used = used;
+    }) ⌝ }
+    ensures { λ r. ⌜ Call (usedCall (record {
+      held = record { n = n; neighbours = now (neighbours .entry); codes = now (codes .entry) };
+      used = used;
+    }) (czOn a b) (now (neighbours .exit)) (now (codes .exit))) r ⌝ }
 {
     let eight = (n <= a) | ((n <= b) | (a == b));
-    let early = in_place_refusal(n, neighbours, codes, false, eight, known);
+    let sixteen = is_used(used, a) | is_used(used, b);
+    let early = in_place_refusal(n, neighbours, codes, used, false, eight, sixteen, known);
     if early != 0 {
         return early;
     }
@@ -97,18 +155,20 @@ pub fn cz_known(n: u64, neighbours: &mut [u64], codes: &mut [u8], a: u64, b: u64
 }
 
 // The same where nothing is known of the record.
-pub fn gate(n: u64, neighbours: &mut [u64], codes: &mut [u8], qubit: u64, code: u8) -> u8
-    ensures { λ r. ⌜ Call (inPlaceCall
-        (record { n = n; neighbours = now (neighbours .entry); codes = now (codes .entry) })
-        (gateWith qubit code) (now (neighbours .exit)) (now (codes .exit))) r ⌝ }
+pub fn gate(n: u64, neighbours: &mut [u64], codes: &mut [u8], used: u64, qubit: u64, code: u8) -> u8
+    ensures { λ r. ⌜ Call (usedCall (record {
+      held = record { n = n; neighbours = now (neighbours .entry); codes = now (codes .entry) };
+      used = used;
+    }) (gateWith qubit code) (now (neighbours .exit)) (now (codes .exit))) r ⌝ }
 {
-    gate_known(n, neighbours, codes, qubit, code, false)
+    gate_known(n, neighbours, codes, used, qubit, code, false)
 }
 
-pub fn cz(n: u64, neighbours: &mut [u64], codes: &mut [u8], a: u64, b: u64) -> u8
-    ensures { λ r. ⌜ Call (inPlaceCall
-        (record { n = n; neighbours = now (neighbours .entry); codes = now (codes .entry) })
-        (czOn a b) (now (neighbours .exit)) (now (codes .exit))) r ⌝ }
+pub fn cz(n: u64, neighbours: &mut [u64], codes: &mut [u8], used: u64, a: u64, b: u64) -> u8
+    ensures { λ r. ⌜ Call (usedCall (record {
+      held = record { n = n; neighbours = now (neighbours .entry); codes = now (codes .entry) };
+      used = used;
+    }) (czOn a b) (now (neighbours .exit)) (now (codes .exit))) r ⌝ }
 {
-    cz_known(n, neighbours, codes, a, b, false)
+    cz_known(n, neighbours, codes, used, a, b, false)
 }

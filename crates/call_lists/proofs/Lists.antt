@@ -7,7 +7,7 @@ use lib.ListN.{length}
 use borrow.Author.Tests.{not-false, not-true}
 use Rattle.buffers.proofs.Lines.{more-refused}
 use Rattle.buffers.specs.Refusals.{firstFitting, otherThan}
-use Rattle.contracts.proofs.Calling.{refused}
+use Rattle.contracts.proofs.Calling.{done, kept-all, refused, written-all}
 use Rattle.contracts.proofs.Fitting.{first-is, none-holds, passing}
 use Rattle.contracts.specs.Answers.{here, later, none}
 use Rattle.contracts.specs.Calls.{Call}
@@ -19,7 +19,7 @@ use Rattle.stabilizer.proofs.Accepted.{early-accepted, early-form}
 use Rattle.stabilizer.proofs.SharedTests.{has-length}
 use Rattle.stabilizer.specs.Lists.{GeneratorList, dependent, earlyLines, listLengths, listLines, rows}
 use Rattle.words.proofs.Flags.{neither}
-use Rattle.call_lists.specs.Calls.{reduceCall, reduceLines}
+use Rattle.call_lists.specs.Calls.{reduceCall, reduceLines, reduceUnusedCall}
 
 -- ---- the early lines, and dependence after them
 module _ (l : GeneratorList) (others : Bool) (k : ℕ) (e : k ≡ firstFitting (earlyLines l others)) where
@@ -74,3 +74,12 @@ module _ (l : GeneratorList) (nb cs : List ℕ) (others : Bool)
       pub reduce-dependent : b ≡ false → Call (reduceCall l nb cs nb′ cs′) 10
       reduce-dependent t =
           record { number = at-lines (refused-last l others k e z b d t); held = (simp t at en, (simp t at ec, tt)) }
+
+-- ---- with the used word
+module _ (l : GeneratorList) (nb cs : List ℕ) (used : ℕ) {nb′ cs′ : List ℕ} {r : ℕ} where
+  pub unused-refused : Call (reduceCall l nb cs nb′ cs′) r → (r ≡ 0 → ⊥)
+      → Call (reduceUnusedCall l nb cs used nb′ cs′ used) r
+  unused-refused C h = refused _ (C .number) h (refl, kept-all C h)
+
+  pub unused-done : Call (reduceCall l nb cs nb′ cs′) r → r ≡ 0 → Call (reduceUnusedCall l nb cs used nb′ cs′ 0) 0
+  unused-done C z = done _ (C .number) z (refl, written-all C z)

@@ -4,10 +4,10 @@ use mathlib.Core.Bool.{false, _||_}
 use mathlib.Core.List.{List, [], _∷_}
 use Prim.Native.Nat.{ℕ}
 use Rattle.buffers.specs.Refusals.{Refusal, otherThan}
-use Rattle.contracts.specs.Calls.{Contract, buffer, contractOf}
-use Rattle.record.specs.Lent.{LentRecord, codeNumbers, heldRows, neighbourWords, recordLines}
+use Rattle.contracts.specs.Calls.{Contract, Lent, buffer, contractOf, number}
+use Rattle.record.specs.Lent.{codeNumbers, neighbourWords}
 use Rattle.record.specs.Reduced.{reduced}
-use Rattle.stabilizer.specs.Lists.{GeneratorList, listLines, listOf, rows}
+use Rattle.stabilizer.specs.Lists.{GeneratorList, listLines, rows}
 
 -- ---- lines in checking order
 abbrev pub checkLines : GeneratorList → List Refusal
@@ -17,25 +17,21 @@ checkLines l = listLines l false
 abbrev pub reduceLines : GeneratorList → List ℕ → List ℕ → List Refusal
 reduceLines l neighbours codes = listLines l (otherThan (l .n) neighbours || otherThan (l .n) codes)
 
--- with the three buffers lent for the answer
-abbrev pub expandLines : LentRecord → List ℕ → List ℕ → List ℕ → List Refusal
-expandLines l signs z x =
-    recordLines l (otherThan (l .n) signs || (otherThan (l .n) z || otherThan (l .n) x)) false
-
 -- ---- sukhlent_check
 abbrev pub checkCall : GeneratorList → Contract
 checkCall l = contractOf (checkLines l) []
 
--- ---- sukhlent_reduce: the reduced record of the list
+-- the reduced record of the list
+abbrev pub reduceLent : GeneratorList → List ℕ → List ℕ → List ℕ → List ℕ → List Lent
+reduceLent l neighbours codes neighbours′ codes′ =
+    buffer neighbours (neighbourWords (l .n) (reduced (l .n) (rows l))) neighbours′
+    ∷ buffer codes (codeNumbers (l .n) (reduced (l .n) (rows l))) codes′ ∷ []
+
 abbrev pub reduceCall : GeneratorList → List ℕ → List ℕ → List ℕ → List ℕ → Contract
 reduceCall l neighbours codes neighbours′ codes′ =
-    contractOf (reduceLines l neighbours codes)
-    (buffer neighbours (neighbourWords (l .n) (reduced (l .n) (rows l))) neighbours′
-    ∷ buffer codes (codeNumbers (l .n) (reduced (l .n) (rows l))) codes′ ∷ [])
+    contractOf (reduceLines l neighbours codes) (reduceLent l neighbours codes neighbours′ codes′)
 
--- ---- sukhlent_expand: the record's generators in order
-abbrev pub expandCall : LentRecord → List ℕ → List ℕ → List ℕ → List ℕ → List ℕ → List ℕ → Contract
-expandCall l signs z x signs′ z′ x′ =
-    contractOf (expandLines l signs z x)
-    (buffer signs ((listOf (l .n) (heldRows l)) .signs) signs′ ∷ buffer z ((listOf (l .n) (heldRows l)) .z) z′
-    ∷ buffer x ((listOf (l .n) (heldRows l)) .x) x′ ∷ [])
+-- ---- sukhlent_reduce: "a record made from a list has the word 0"
+abbrev pub reduceUnusedCall : GeneratorList → List ℕ → List ℕ → ℕ → List ℕ → List ℕ → ℕ → Contract
+reduceUnusedCall l neighbours codes used neighbours′ codes′ used′ =
+    contractOf (reduceLines l neighbours codes) (number used 0 used′ ∷ reduceLent l neighbours codes neighbours′ codes′)

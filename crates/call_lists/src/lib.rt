@@ -1,11 +1,9 @@
-// The public calls on generator lists and records: check, reduce, expand.
+// The public calls on generator lists: check, reduce.
 use buffers::other_than;
-use record_checks::record_refusal;
-use record_expansion::expand_into;
 use reduction::reduce_list;
 use stabilizer_checks::early_refusal;
 ghost use Rattle.contracts.specs.Calls.{Call};
-ghost use Rattle.call_lists.specs.Calls.{checkCall, expandCall, reduceCall};
+ghost use Rattle.call_lists.specs.Calls.{checkCall, reduceCall, reduceUnusedCall};
 
 // Lines 2, 4, 5, 6, 9 and 10 of a generator list.
 pub fn check(n: u64, signs: &[u8], z: &[u64], x: &[u64]) -> u8
@@ -56,26 +54,25 @@ pub fn reduce(
     }
 }
 
-// The generators of a record, in order.
-pub fn expand(
+// The same, with the used word of the record: no qubit is used.
+pub fn reduce_unused(
     n: u64,
-    neighbours: &[u64],
-    codes: &[u8],
-    signs: &mut [u8],
-    z: &mut [u64],
-    x: &mut [u64],
+    signs: &[u8],
+    z: &[u64],
+    x: &[u64],
+    neighbours: &mut [u64],
+    codes: &mut [u8],
+    used: &mut u64,
 ) -> u8
-    ensures { λ r. ⌜ Call (expandCall
-        (record { n = n; neighbours = now (neighbours .entry); codes = now (codes .entry) })
-        (now (signs .entry)) (now (z .entry)) (now (x .entry))
-        (now (signs .exit)) (now (z .exit)) (now (x .exit))) r ⌝ }
+    ensures { λ r. ⌜ Call (reduceUnusedCall
+        (record { n = n; signs = now (signs .entry); z = now (z .entry); x = now (x .entry) })
+        (now (neighbours .entry)) (now (codes .entry)) (now (used .entry))
+        (now (neighbours .exit)) (now (codes .exit)) (now (used .exit))) r ⌝ }
 {
-    let others = other_than(signs.len(), n) | (other_than(z.len(), n) | other_than(x.len(), n));
-    let early = record_refusal(n, neighbours, codes, others, false);
-    if early != 0 {
-        return early;
+    let number = reduce(n, signs, z, x, neighbours, codes);
+    if number != 0 {
+        return number;
     }
-    let count = n as usize;
-    expand_into(count, neighbours, codes, signs, z, x);
+    *used = 0;
     0
 }

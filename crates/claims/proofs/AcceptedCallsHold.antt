@@ -13,7 +13,6 @@ use Rattle.call_compare.specs.Comparisons.{compareCall}
 use Rattle.comparison.specs.Compared.{hasLargePart, pairLines}
 use Rattle.contracts.proofs.Fitting.{none-fits-of, none-holds}
 use Rattle.contracts.specs.Calls.{Call, Contract}
-use Rattle.call_cut.proofs.CutLines.{accepted-cut, side-good}
 use Rattle.call_cut.specs.Cuts.{cutLines}
 use Rattle.generator.specs.Lines.{generateLines, room}
 use Rattle.image.proofs.Accepted.{image-unsigned}
@@ -25,14 +24,22 @@ use Rattle.record.proofs.RecordLines.{record-numbered}
 use Rattle.record.specs.Lent.{LentRecord, heldRecord, recordLines}
 use Rattle.stabilizer.proofs.SharedTests.{count-passes, counted, has-length, length-passes}
 use Rattle.stabilizer.specs.Lists.{GeneratorList, listStray}
+use Rattle.used.specs.Used.{UsedRecord}
 use Rattle.words.proofs.Flags.{neither}
 use Rattle.claims.proofs.AcceptedPairs.{accepted-pair, no-line-holds}
 use Rattle.claims.proofs.ImageDemandHolds.{images-follow}
-use Rattle.claims.proofs.InPlaceExactly.{complement-lines, cz-lines, gate-lines, measure-lines, pivot-lines}
 use Rattle.claims.proofs.LinesExactly.{below-exactly, formed-rows, list-exactly, more-exactly, record-exactly, rows-pass, three-fit, two-fit}
 use Rattle.claims.proofs.PartsDemandHolds.{small-parts}
 use Rattle.claims.proofs.StringsExactly.{read-lines, write-lines}
 use Rattle.claims.proofs.ThirdDemandHolds.{third-demand}
+use Rattle.claims.proofs.UsedExactly.{
+  used-complement,
+  used-cz,
+  used-exactly,
+  used-gate,
+  used-measure,
+  used-pivot,
+}
 use Rattle.claims.specs.AcceptedCalls.{AcceptedExactly, CompareFits, CutFits, GenerateFits, ImageFits, ProductFits}
 
 -- a call answers 0 exactly if no line holds
@@ -40,11 +47,10 @@ by-lines : {c : Contract} {r : ℕ} → Call c r → (r ≡ 0) ↔ (firstFitting
 by-lines C = ((λ z. sym (C .number) ∙ z), λ e. C .number ∙ e)
 
 -- ---- cuts and products
-cut-lines : (l : LentRecord) (side : ℕ) → (firstFitting (cutLines l side) ≡ 0) ↔ CutFits l side
-cut-lines l side = (
-  (λ e. let A = accepted-cut l side e in (A .held, A .below)),
-  (λ h. sym (side-good l side 0 (sym (record-exactly l false false .1 (h .0, refl, refl)))
-      (below-exactly _ side .1 (h .1)))),
+cut-lines : (u : UsedRecord) (side : ℕ) → (firstFitting (cutLines u side) ≡ 0) ↔ CutFits u side
+cut-lines u side = (
+  (λ e. let h = used-exactly u false _ false .0 e in (h .0, below-exactly _ side .0 (h .2))),
+  (λ h. used-exactly u false _ false .1 (h .0, refl, below-exactly _ side .1 (h .1), refl)),
 )
 
 product-lines : (l : GeneratorList) (chosen : ℕ) → (firstFitting (productLines l chosen) ≡ 0) ↔ ProductFits l chosen
@@ -150,25 +156,25 @@ accepted-exactly =
         (λ z. list-exactly l false .0 (by-lines C .0 z) .0),
         (λ L. by-lines C .1 (list-exactly l false .1 (L, refl))),
       );
-      reduce = λ l nb cs nb′ cs′ r C. (
+      reduce = λ l nb cs used nb′ cs′ used′ r C. (
         (λ z. let h = list-exactly l _ .0 (by-lines C .0 z) in
             let f = two-fit (l .n) (l .n) nb cs .0 (h .1) in (h .0, f .0, f .1)),
         (λ F. by-lines C .1 (list-exactly l _ .1 (F .0, two-fit (l .n) (l .n) nb cs .1 (F .1, F .2)))),
       );
-      expand = λ l s z x s′ z′ x′ r C. (
-        (λ e. let h = record-exactly l _ false .0 (by-lines C .0 e) in
-            let f = three-fit (l .n) (l .n) (l .n) s z x .0 (h .1) in (h .0, f .0, f .1, f .2)),
-        (λ F. by-lines C .1 (record-exactly l _ false .1
-            (F .0, three-fit (l .n) (l .n) (l .n) s z x .1 (F .1, F .2, F .3), refl))),
+      expand = λ u s z x s′ z′ x′ r C. let n = u .held .n in (
+        (λ e. let h = used-exactly u _ false false .0 (by-lines C .0 e) in
+            let f = three-fit n n n s z x .0 (h .1) in (h .0, f .0, f .1, f .2)),
+        (λ F. by-lines C .1 (used-exactly u _ false false .1
+            (F .0, three-fit n n n s z x .1 (F .1, F .2, F .3), refl, refl))),
       );
-      gate = λ l q k nb′ cs′ r C. Iff·trans (by-lines C) (gate-lines l q k);
-      cz = λ l a b nb′ cs′ r C. Iff·trans (by-lines C) (cz-lines l a b);
-      measure = λ l pauli q b answer determined nb′ cs′ answer′ determined′ r C.
-          Iff·trans (by-lines C) (measure-lines l pauli q b);
-      complement = λ l a nb′ cs′ r C. Iff·trans (by-lines C) (complement-lines l a);
-      pivot = λ l j k nb′ cs′ r C. Iff·trans (by-lines C) (pivot-lines l j k);
+      gate = λ u q k nb′ cs′ r C. Iff·trans (by-lines C) (used-gate u q k);
+      cz = λ u a b nb′ cs′ r C. Iff·trans (by-lines C) (used-cz u a b);
+      measure = λ u pauli q b answer determined nb′ cs′ used′ answer′ determined′ r C.
+          Iff·trans (by-lines C) (used-measure u pauli q b);
+      complement = λ u a nb′ cs′ r C. Iff·trans (by-lines C) (used-complement u a);
+      pivot = λ u j k nb′ cs′ r C. Iff·trans (by-lines C) (used-pivot u j k);
       image = image-exactly;
-      cut = λ l side rank rank′ r C. Iff·trans (by-lines C) (cut-lines l side);
+      cut = λ u side rank rank′ r C. Iff·trans (by-lines C) (cut-lines u side);
       product = λ l chosen z x phase z′ x′ phase′ r C. Iff·trans (by-lines C) (product-lines l chosen);
       compare = compare-exactly;
       generate = λ n count seed text size text′ size′ r C. Iff·trans (by-lines C) (generate-lines n count seed text);

@@ -22,6 +22,7 @@ use Rattle.stabilizer.specs.Lists.{
 }
 use Rattle.strings.specs.Reading.{judgedLines, lineCount, stringForm, stringList}
 use Rattle.strings.specs.Strings.{textSize}
+use Rattle.used.specs.Used.{usedLines}
 use Rattle.claims.specs.FirstDemand.{AnswerBuffersUnread}
 
 pub answer-buffers-unread : AnswerBuffersUnread
@@ -29,7 +30,8 @@ answer-buffers-unread =
     record {
       reduce = λ l nb cs nb₂ cs₂ e f.
           ap₂ (λ a b. firstFitting (listLines l (not (eqb a (l .n)) || not (eqb b (l .n))))) e f;
-      expand = λ l s z x s₂ z₂ x₂ e f g. of-three (l .n) (λ others. recordLines l others false) (l .n) e f g;
+      expand = λ u s z x s₂ z₂ x₂ e f g.
+          of-three (u .held .n) (λ others. usedLines u others false false) (u .held .n) e f g;
       images = λ l g s v g₂ s₂ v₂ e f h.
           of-three (l .n) (λ others. recordLines l others false ++ loopLines (l .n) (heldRecord l)) 96 e f h;
       comparisons = λ l m choice list choice₂ list₂ e f.

@@ -11,7 +11,7 @@ use Rattle.operations.specs.Measurement.{contradicts, pauliLetter}
 use Rattle.operations.specs.Steps.{argumentLines}
 use Rattle.record.specs.Lent.{LentRecord, heldRows}
 use Rattle.call_gates.proofs.InPlaceLines.{held-accepted, measure-ready}
-use Rattle.call_gates.proofs.MeasureLines.{fourteen-exactly}
+use Rattle.call_gates.proofs.MeasureLines.{arguments-before, fourteen-exactly}
 use Rattle.stabilizer.specs.Groups.{InGroup}
 use Rattle.words.specs.Bits.{isOdd}
 use Rattle.claims.specs.OperationsDemand.{ContradictionsRefused, left, signedPauli}
@@ -26,16 +26,17 @@ contradicted-by-group l pauli q b e =
     (subst (λ m. q < m) (A .neighbours-length) (measure-ready l pauli q b e .0 .1))
 
 pub contradictions-refused : ContradictionsRefused
-contradictions-refused l pauli q b answer determined r nb′ cs′ answer′ determined′ C =
+contradictions-refused u pauli q b answer determined r nb′ cs′ used′ answer′ determined′ C =
     record {
       exactly = (
-        (λ e. let h = fourteen-exactly l pauli q b .0 (sym (C .number) ∙ e) in
-            (h .0, contradicted-by-group l pauli q b (h .0) .0 (h .1))),
-        (λ h. C .number ∙ fourteen-exactly l pauli q b .1
-            (h .0, contradicted-by-group l pauli q b (h .0) .1 (h .1))),
+        (λ e. let h = fourteen-exactly u pauli q b .0 (sym (C .number) ∙ e) in
+            (h .0, contradicted-by-group (u .held) pauli q b (arguments-before u pauli q b (h .0)) .0 (h .1))),
+        (λ h. C .number ∙ fourteen-exactly u pauli q b .1
+            (h .0, contradicted-by-group (u .held) pauli q b (arguments-before u pauli q b (h .0)) .1 (h .1))),
       );
-      record-kept = λ e. let k = kept-all C (not-accepted e) in ap₂ (left l) (k .1 .1 .0) (k .1 .1 .1 .0);
-      answers-kept = λ e. let k = kept-all C (not-accepted e) in (k .0, k .1 .0);
+      record-kept = λ e. let k = kept-all C (not-accepted e) in
+          (ap₂ (left (u .held)) (k .1 .1 .1 .0) (k .1 .1 .1 .1 .0), k .0);
+      answers-kept = λ e. let k = kept-all C (not-accepted e) in (k .1 .0, k .1 .1 .0);
     }
   where
     not-accepted : {k : ℕ} → k ≡ 14 → k ≡ 0 → ⊥

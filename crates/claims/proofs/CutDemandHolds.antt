@@ -33,16 +33,19 @@ use Rattle.claims.specs.CutDemand.{
 use Rattle.claims.specs.OperationsDemand.{CzStands, GateStands, RewrittenAs, StillRecord, left}
 
 pub cuts-answer : CutsAnswer
-cuts-answer l side rank rank′ C =
+cuts-answer u side rank rank′ C =
     record {
       rank = C .held .0;
-      sums = ap (λ k. 2 ^ k * kernelSize (l .n) (l .n) M) (C .held .0) ∙ rank-kernel (l .n) (l .n) M;
-      empty = λ e. C .held .0 ∙ ap (λ s. cutRank (l .n) (bit s) θ) e ∙ empty-word (l .n) θ;
-      full = λ e. C .held .0 ∙ ap (λ s. cutRank (l .n) (bit s) θ) e ∙ full-word (l .n) θ;
+      sums = ap (λ k. 2 ^ k * kernelSize n n M) (C .held .0) ∙ rank-kernel n n M;
+      empty = λ e. C .held .0 ∙ ap (λ s. cutRank n (bit s) θ) e ∙ empty-word n θ;
+      full = λ e. C .held .0 ∙ ap (λ s. cutRank n (bit s) θ) e ∙ full-word n θ;
     }
   where
+    n : ℕ
+    n = u .held .n
+
     θ : Graph
-    θ = (heldRecord l) .graph
+    θ = (heldRecord (u .held)) .graph
 
     M : Graph
     M = crossing (bit side) θ

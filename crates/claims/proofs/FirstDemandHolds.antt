@@ -24,7 +24,7 @@ use Rattle.generator.specs.Drawn.{generatedText}
 use Rattle.image.proofs.TrackedBits.{image-length}
 use Rattle.image.specs.Rule.{imageList}
 use Rattle.call_image.specs.Images.{imageCall}
-use Rattle.operations.specs.Steps.{Operation, complementOf, czOn, gateWith, linesOf, measurementOf, pivotOf}
+use Rattle.operations.specs.Steps.{Operation, complementOf, czOn, gateWith, measurementOf, pivotOf}
 use Rattle.record.proofs.AcceptedRecords.{accepted-record}
 use Rattle.record.proofs.RecordLines.{record-numbered}
 use Rattle.record.specs.Lent.{LentRecord, heldRecord, recordLines}
@@ -35,11 +35,14 @@ use Rattle.stabilizer.specs.Lists.{GeneratorList, rows}
 use Rattle.strings.proofs.TextLaws.{length-lines}
 use Rattle.strings.specs.Reading.{lineCount, readLines}
 use Rattle.strings.specs.Strings.{textSize}
+use Rattle.used.proofs.UsedPassing.{used-step}
+use Rattle.used.specs.Used.{UsedRecord, usedLinesOf}
 use Rattle.words.proofs.Flags.{neither}
 use Rattle.claims.proofs.AcceptedPairs.{accepted-pair}
 use Rattle.claims.proofs.LinesExactly.{list-exactly, record-exactly, three-fit, two-fit}
 use Rattle.claims.proofs.PartsDemandHolds.{small-parts}
 use Rattle.claims.proofs.ThirdDemandHolds.{third-demand}
+use Rattle.claims.proofs.UsedExactly.{used-exactly}
 use Rattle.claims.specs.FirstDemand.{AnswersSayAll, Conforms, FirstDemand, InOrder}
 
 -- an answer with a place for each of n
@@ -52,12 +55,12 @@ written-fills new old h =
     length-append new (drop (length new) old) ∙ omega (arith, length-drop (length new) old, h)
 
 -- ---- calls in place
-in-order : (l : LentRecord) (o : Operation) → InOrder (linesOf l o)
-in-order l (gateWith q k) = refl
-in-order l (czOn a b) = refl
-in-order l (measurementOf pauli q b) = refl
-in-order l (complementOf a) = refl
-in-order l (pivotOf j k) = refl
+in-order : (u : UsedRecord) (o : Operation) → InOrder (usedLinesOf u o)
+in-order u (gateWith q k) = refl
+in-order u (czOn a b) = refl
+in-order u (measurementOf pauli q b) = refl
+in-order u (complementOf a) = refl
+in-order u (pivotOf j k) = refl
 
 -- ---- images
 image-conforms : (l : LentRecord) (g s v : List ℕ) (count : ℕ) (g′ s′ v′ : List ℕ) (count′ : ℕ) →
@@ -117,38 +120,43 @@ first-demand =
     record {
       every = every-call-answers;
       check = λ l. record { order = refl; complete = λ z. tt };
-      reduce = λ l nb cs nb′ cs′. record {
+      reduce = λ l nb cs used nb′ cs′ used′. record {
         order = refl;
         complete = λ z. let p = two-fit (l .n) (l .n) nb cs .0 (list-exactly l _ .0 z .1) in
-            (table-fills (l .n) _ nb (p .0), (table-fills (l .n) _ cs (p .1), tt));
+            (tt, (table-fills (l .n) _ nb (p .0), (table-fills (l .n) _ cs (p .1), tt)));
       };
-      expand = λ l s z x s′ z′ x′. record {
+      expand = λ u s z x s′ z′ x′. record {
         order = refl;
-        complete = λ e. let p = three-fit (l .n) (l .n) (l .n) s z x .0 (record-exactly l _ false .0 e .1) in
-            (table-fills (l .n) _ s (p .0), (table-fills (l .n) _ z (p .1), (table-fills (l .n) _ x (p .2), tt)));
+        complete = λ e. let n = u .held .n in
+            let p = three-fit n n n s z x .0 (used-exactly u _ false false .0 e .1) in
+            (table-fills n _ s (p .0), (table-fills n _ z (p .1), (table-fills n _ x (p .2), tt)));
       };
-      in-place = λ l o nb′ cs′. record {
-        order = in-order l o;
-        complete = λ z. let A = operation-accepted l o z in (
-          table-fills (l .n) _ (l .neighbours) (A .neighbours-length),
-          (table-fills (l .n) _ (l .codes) (A .codes-length), tt),
+      in-place = λ u o nb′ cs′. record {
+        order = in-order u o;
+        complete = λ z. let A = operation-accepted (u .held) o (used-step u o z) in (
+          table-fills (u .held .n) _ (u .held .neighbours) (A .neighbours-length),
+          (table-fills (u .held .n) _ (u .held .codes) (A .codes-length), tt),
         );
       };
-      measurements = λ l pauli q b answer determined nb′ cs′ answer′ determined′. record {
+      measurements = λ u pauli q b answer determined nb′ cs′ used′ answer′ determined′. record {
         order = refl;
-        complete = λ z. let A = operation-accepted l (measurementOf pauli q b) z in (
-          tt,
-          (
-            tt,
-            (
-              table-fills (l .n) _ (l .neighbours) (A .neighbours-length),
-              (table-fills (l .n) _ (l .codes) (A .codes-length), tt),
-            ),
-          ),
-        );
+        complete = λ z. let o = measurementOf pauli q b in
+            let A = operation-accepted (u .held) o (used-step u o z) in (
+              tt,
+              (
+                tt,
+                (
+                  tt,
+                  (
+                    table-fills (u .held .n) _ (u .held .neighbours) (A .neighbours-length),
+                    (table-fills (u .held .n) _ (u .held .codes) (A .codes-length), tt),
+                  ),
+                ),
+              ),
+            );
       };
       images = image-conforms;
-      cuts = λ l side rank rank′. record { order = refl; complete = λ z. (tt, tt) };
+      cuts = λ u side rank rank′. record { order = refl; complete = λ z. (tt, tt) };
       products = λ l chosen z x phase z′ x′ phase′. record { order = refl; complete = λ e. (tt, (tt, (tt, tt))) };
       comparisons = compare-conforms;
       generations = generate-conforms;

@@ -1,5 +1,5 @@
--- The lines of the calls on a record lent in place, exactly: none of them holds where the record is accepted and the
--- arguments fit.
+-- The lines of the calls on a record lent in place, without the used word, exactly: none of them holds where the record is
+-- accepted and the arguments fit.
 use mathlib.Core.Bool.{Bool, false, not, true, true≢false, _||_}
 use mathlib.Core.Logic.{_↔_, _≢_}
 use mathlib.Core.Path.{_≡_, _∙_, ap, refl, sym}
@@ -13,14 +13,15 @@ use Rattle.operations.specs.Steps.{argumentLines, complementLines, czLines, gat
 use Rattle.record.specs.Accepted.{AcceptedRecord}
 use Rattle.record.specs.Lent.{LentRecord, heldRecord, heldRows}
 use Rattle.call_gates.proofs.MeasureLines.{measure-passes}
+use Rattle.stabilizer.specs.Groups.{InGroup}
 use Rattle.words.proofs.Flags.{neither, never-true}
 use Rattle.words.specs.Bits.{isOdd}
 use Rattle.claims.proofs.Contradictions.{contradicted-by-group}
 use Rattle.claims.proofs.LinesExactly.{below-exactly, both-pass, last-exactly, more-exactly, record-and}
-use Rattle.claims.specs.AcceptedCalls.{ComplementFits, CzFits, GateFits, MeasureFits, PivotFits}
+use Rattle.claims.specs.OperationsDemand.{signedPauli}
 
 module _ (l : LentRecord) where
-  pub gate-lines : (q k : ℕ) → (firstFitting (gateLines l q k) ≡ 0) ↔ GateFits l q k
+  pub gate-lines : (q k : ℕ) → (firstFitting (gateLines l q k) ≡ 0) ↔ (AcceptedRecord l × (q < l .n) × (k < 24))
   gate-lines q k = (
     (λ e. let h = record-and l (leb 24 k) 7 (leb (l .n) q) .0 e in
         (h .0, below-exactly (l .n) q .0 (h .2), below-exactly 24 k .0 (h .1))),
@@ -28,13 +29,13 @@ module _ (l : LentRecord) where
         (h .0, below-exactly 24 k .1 (h .2), below-exactly (l .n) q .1 (h .1))),
   )
 
-  pub complement-lines : (a : ℕ) → (firstFitting (complementLines l a) ≡ 0) ↔ ComplementFits l a
+  pub complement-lines : (a : ℕ) → (firstFitting (complementLines l a) ≡ 0) ↔ (AcceptedRecord l × (a < l .n))
   complement-lines a = (
     (λ e. let h = record-and l false 7 (leb (l .n) a) .0 e in (h .0, below-exactly (l .n) a .0 (h .2))),
     (λ h. record-and l false 7 (leb (l .n) a) .1 (h .0, refl, below-exactly (l .n) a .1 (h .1))),
   )
 
-  pub cz-lines : (a b : ℕ) → (firstFitting (czLines l a b) ≡ 0) ↔ CzFits l a b
+  pub cz-lines : (a b : ℕ) → (firstFitting (czLines l a b) ≡ 0) ↔ (AcceptedRecord l × (a < l .n) × (b < l .n) × (a ≢ b))
   cz-lines a b = (
     (λ e. let h = record-and l false 7 eight .0 e in
         let t = neither (leb (l .n) a) _ (h .2) in
@@ -50,7 +51,8 @@ module _ (l : LentRecord) where
       eight : Bool
       eight = leb (l .n) a || (leb (l .n) b || eqb a b)
 
-  pub pivot-lines : (j k : ℕ) → (firstFitting (pivotLines l j k) ≡ 0) ↔ PivotFits l j k
+  pub pivot-lines : (j k : ℕ) → (firstFitting (pivotLines l j k) ≡ 0)
+      ↔ (AcceptedRecord l × (j < l .n) × (k < l .n) × ((heldRecord l) .graph j k ≡ true))
   pivot-lines j k = (
     (λ e. let h = record-and l false 7 eight .0 e in
         let t = neither (leb (l .n) j) _ (h .2) in
@@ -111,24 +113,17 @@ module _ (l : LentRecord) where
     against = contradicts (l .n) (heldRows l) (pauliLetter pauli) q (isOdd b)
 
     -- then 14 decides
-    pub agreed-passes : firstFitting (argumentLines l pauli q b) ≡ 0 → against ≡ false →
+    agreed-passes : firstFitting (argumentLines l pauli q b) ≡ 0 → against ≡ false →
         firstFitting (measureLines l pauli q b) ≡ 0
     agreed-passes e h =
         more-exactly (argumentLines l pauli q b) _
         (lit< tt, (lit< tt, (lit< tt, (lit< tt, (lit< tt, (lit< tt, tt)))))) .1 (e, last-exactly 13 against .1 h)
 
-    pub measure-lines : (firstFitting (measureLines l pauli q b) ≡ 0) ↔ MeasureFits l pauli q b
+    pub measure-lines : (firstFitting (measureLines l pauli q b) ≡ 0)
+        ↔ ((firstFitting (argumentLines l pauli q b) ≡ 0)
+        × (InGroup (l .n) (l .n) (heldRows l) (signedPauli pauli q (not (isOdd b))) → ⊥))
     measure-lines = (
       (λ e. let p = measure-passes l pauli q b e in
-          let h = argument-lines .0 (p .0) in
-          record {
-            held = h .0;
-            positive = h .1;
-            upto = h .2;
-            qubit = h .3;
-            bit = h .4;
-            possible = λ i. true≢false (sym (contradicted-by-group l pauli q b (p .0) .1 i) ∙ p .1);
-          }),
-      (λ F. let e = argument-lines .1 (F .held, F .positive, F .upto, F .qubit, F .bit) in
-          agreed-passes e (never-true against (λ t. F .possible (contradicted-by-group l pauli q b e .0 t)))),
+          (p .0, λ i. true≢false (sym (contradicted-by-group l pauli q b (p .0) .1 i) ∙ p .1))),
+      (λ h. agreed-passes (h .0) (never-true against (λ t. h .1 (contradicted-by-group l pauli q b (h .0) .0 t)))),
     )

@@ -1,5 +1,4 @@
--- An accepted operation on a record that stands for a group: the record left stands for the group that the
--- definitions give.
+-- An accepted operation on a record that has a group: the record left has the group that the definitions give.
 use mathlib.Core.Logic.{_↔_, inl, inr, ⊎-elim}
 use mathlib.Core.Path.{_∙_, _≡_, ap, refl, subst, sym}
 use Prim.Native.Nat.{ℕ}
@@ -37,8 +36,11 @@ use Rattle.words.specs.Bits.{isOdd}
 use Rattle.claims.proofs.GatesFollow.{cz-follows, gates-follow}
 use Rattle.claims.proofs.MeasurementsFollow.{measurements-follow}
 use Rattle.claims.proofs.RewritingsKeep.{complements-keep, pivots-keep}
-use Rattle.claims.specs.JobDemand.{StandsFor}
 use Rattle.claims.specs.OperationsDemand.{CzStands, GateStands, MeasurementStands}
+
+-- the products of a record's generators are the group's elements
+pub record HasGroup (l : LentRecord) (G : Pauli → Type 0) : Type 0 where
+  pub elements : (p : Pauli) → InGroup (l .n) (l .n) (heldRows l) p ↔ G p
 
 -- what a step leaves is what its call leaves
 call-of : (l : LentRecord) (o : Operation) → firstFitting (linesOf l o) ≡ 0
@@ -52,15 +54,14 @@ call-of l o z =
       );
     }
 
-module _ (l : LentRecord) (G : Group) (S : StandsFor l G) where
+module _ (l : LentRecord) (G : Group) (S : HasGroup l G) where
   abbrev Old : Pauli → Type 0
   Old = InGroup (l .n) (l .n) (heldRows l)
 
   gate-stands : (q k : ℕ) → firstFitting (gateLines l q k) ≡ 0
-      → StandsFor (leaves l (gateWith q k)) (Sent (act (l .n) (only q (cliffordOf k))) G)
+      → HasGroup (leaves l (gateWith q k)) (Sent (act (l .n) (only q (cliffordOf k))) G)
   gate-stands q k z =
       record {
-        still = F .still;
         elements = λ p. (
           (λ h. let o = F .group .onto p h in (o .0, S .elements (o .0) .0 (o .1), o .2)),
           (λ h. subst (InGroup (l .n) (l .n) (heldRows after)) (sym (h .2))
@@ -75,10 +76,9 @@ module _ (l : LentRecord) (G : Group) (S : StandsFor l G) where
       F = gates-follow l q k _ _ (call-of l (gateWith q k) z)
 
   cz-stands : (a b : ℕ) → firstFitting (czLines l a b) ≡ 0
-      → StandsFor (leaves l (czOn a b)) (Sent (cz a b) G)
+      → HasGroup (leaves l (czOn a b)) (Sent (cz a b) G)
   cz-stands a b z =
       record {
-        still = F .still;
         elements = λ p. (
           (λ h. let o = F .group p .0 h in (o .0, S .elements (o .0) .0 (o .1), o .2)),
           (λ h. F .group p .1 (h .0, S .elements (h .0) .1 (h .1), h .2)),
@@ -143,8 +143,8 @@ module _ (l : LentRecord) (G : Group) (S : StandsFor l G) where
         back {p} (kept u g c) = group-kept (S .elements p .1 g) c
         back (joined {p} u g c) = group-joined (S .elements p .1 g) c
 
-    measure-stands : StandsFor after After
-    measure-stands = record { still = M .still; elements = ⊎-elim joined-elements same-elements (M .either) }
+    measure-stands : HasGroup after After
+    measure-stands = record { elements = ⊎-elim joined-elements same-elements (M .either) }
 
     -- what it answers: determined where the group says so, and the bit, which is then the sign found
     pub answer-stands : ((known ≡ 1) ↔ GroupDetermines G (pauliLetter pauli) q)
@@ -164,13 +164,13 @@ module _ (l : LentRecord) (G : Group) (S : StandsFor l G) where
 
   -- ---- an accepted operation
   pub operation-stands : (o : Operation) → firstFitting (linesOf l o) ≡ 0
-      → StandsFor (leaves l o) (AfterOperation (l .n) G o)
+      → HasGroup (leaves l o) (AfterOperation (l .n) G o)
   operation-stands (gateWith q k) z = gate-stands q k z
   operation-stands (czOn a b) z = cz-stands a b z
   operation-stands (measurementOf pauli q b) z = measure-stands pauli q b z
   operation-stands (complementOf a) z =
       let F = complements-keep l a _ _ (call-of l (complementOf a) z) in
-      record { still = F .still; elements = same-elements-kept (F .group) }
+      record { elements = same-elements-kept (F .group) }
   operation-stands (pivotOf j k) z =
       let F = pivots-keep l j k _ _ (call-of l (pivotOf j k) z) in
-      record { still = F .still; elements = same-elements-kept (F .group) }
+      record { elements = same-elements-kept (F .group) }

@@ -5,18 +5,23 @@ use mathlib.Core.Path.{_∙_, _≡_, ap, refl, subst, sym}
 use Prim.Native.Nat.{ℕ}
 use native.Mathlib.Decide.{ℕ-discrete}
 use lib.ListN.{take}
-use Rattle.buffers.specs.Refusals.{firstFitting}
+use Rattle.buffers.proofs.AddedLines.{without-test}
+use Rattle.buffers.specs.Refusals.{firstFitting, withTest}
+use Rattle.call_gates.proofs.MeasureLines.{arguments-before, measure-passes}
+use Rattle.call_gates.proofs.UsedInPlace.{plain}
+use Rattle.contracts.proofs.Fitting.{decides}
+use Rattle.contracts.specs.Answers.{later, none}
 use Rattle.jobs.proofs.Numbers.{
   accepted-leaves,
+  accepted-number,
   accepted-unset,
   number-of-operation,
   refused-keeps,
   set-refuses-fields,
   six-refuses,
-  without-test,
 }
 use Rattle.jobs.proofs.Starting.{started-passes, started-rows}
-use Rattle.jobs.specs.Asked.{argumentsOf, asked, numberOf, unusedSet, withTest}
+use Rattle.jobs.specs.Asked.{asked, numberOf, unusedSet}
 use Rattle.jobs.specs.GroupsAfter.GroupAfterStep.{changed, not-run}
 use Rattle.jobs.specs.GroupsAfter.Refused.{by-fields, by-group}
 use Rattle.jobs.specs.GroupsAfter.{AfterOperation, GroupAfterStep, Group, IsContradicted, Refused, StartGroup}
@@ -24,57 +29,56 @@ use Rattle.jobs.specs.Runs.{afterStep, run, started}
 use Rattle.jobs.specs.declared.Step.{Step}
 use Rattle.operations.specs.Cz.{zAt}
 use Rattle.operations.specs.Measurement.{contradicts, pauliLetter}
-use Rattle.contracts.proofs.Fitting.{decides}
-use Rattle.contracts.specs.Answers.{later, none}
-use Rattle.operations.specs.Steps.{
-  Operation,
-  argumentLines,
-  complementOf,
-  czOn,
-  gateWith,
-  leaves,
-  linesOf,
-  measurementOf,
-  pivotOf,
-}
+use Rattle.operations.specs.Steps.{Operation, argumentLines, complementOf, czOn, gateWith, measurementOf, pivotOf}
 use Rattle.pauli.specs.Pauli.{Pauli}
-use Rattle.record.specs.Lent.{LentRecord, heldRows}
-use Rattle.call_gates.proofs.MeasureLines.{measure-passes}
+use Rattle.record.specs.Lent.{heldRows}
 use Rattle.stabilizer.proofs.EqualRows.{same-group-equal}
 use Rattle.stabilizer.specs.Groups.{InGroup}
+use Rattle.used.proofs.LeftRecords.{used-left}
+use Rattle.used.proofs.UsedPassing.{in-place-counted, used-passes, used-step, with-used-passes}
+use Rattle.used.specs.Used.{UsedRecord, namesUsed, usedArgumentsOf, usedLinesOf, usedStep}
+use Rattle.used.specs.UsedLaws.{UsedLeft}
 use Rattle.words.specs.Bits.{isOdd}
 use Rattle.claims.proofs.Contradictions.{contradicted-by-group}
-use Rattle.claims.proofs.JobSteps.{operation-stands}
+use Rattle.claims.proofs.JobSteps.{HasGroup, operation-stands}
 use Rattle.claims.specs.JobDemand.{JobsStand, RefusedExactly, RunsStand, StandsFor}
 
-module _ (l : LentRecord) (G : Group) (S : StandsFor l G) where
+module _ (u : UsedRecord) (G : Group) (S : StandsFor u G) where
+  has-group : HasGroup (u .held) G
+  has-group = record { elements = S .elements }
+
   -- ---- an operation is refused by its lines exactly if its arguments or the group refuse it
   -- no line holds: neither do the arguments' lines, and the outcome is not impossible
-  passes : (o : Operation) → firstFitting (linesOf l o) ≡ 0
-      → (firstFitting (argumentsOf l o) ≡ 0) × (IsContradicted G o → ⊥)
+  passes : (o : Operation) → firstFitting (usedLinesOf u o) ≡ 0
+      → (firstFitting (usedArgumentsOf u o) ≡ 0) × (IsContradicted G o → ⊥)
   passes (gateWith q k) z = (z, λ h. h)
   passes (czOn a b) z = (z, λ h. h)
   passes (measurementOf pauli q b) z =
-      let m = measure-passes l pauli q b z in (
-        m .0,
-        λ h. true≢false (sym (contradicted-by-group l pauli q b (m .0) .1 (S .elements _ .1 h)) ∙ m .1),
+      let o = measurementOf pauli q b in
+      let Q = used-passes u o .0 z in
+      let m = measure-passes (u .held) pauli q b (Q .as-before) in (
+        with-used-passes u (argumentLines (u .held) pauli q b) (in-place-counted (u .held) _ _) (namesUsed u o) .1
+            (m .0, Q .no-stray, Q .none-wrong, Q .none-named),
+        λ h. true≢false (sym (contradicted-by-group (u .held) pauli q b (m .0) .1 (S .elements _ .1 h)) ∙ m .1),
       )
   passes (complementOf a) z = (z, λ h. h)
   passes (pivotOf j k) z = (z, λ h. h)
 
   -- some line holds, and none of the arguments': the outcome is impossible
-  impossible : (o : Operation) → (firstFitting (linesOf l o) ≡ 0 → ⊥) → firstFitting (argumentsOf l o) ≡ 0
+  impossible : (o : Operation) → (firstFitting (usedLinesOf u o) ≡ 0 → ⊥) → firstFitting (usedArgumentsOf u o) ≡ 0
       → IsContradicted G o
   impossible (gateWith q k) h z = absurd (h z)
   impossible (czOn a b) h z = absurd (h z)
   impossible (measurementOf pauli q b) h z =
-      S .elements _ .0 (contradicted-by-group l pauli q b z .0 (contradicted _ refl))
+      S .elements _ .0 (contradicted-by-group (u .held) pauli q b (arguments-before u pauli q b z) .0
+      (contradicted _ refl))
     where
       contradicted : (d : Bool)
-          → d ≡ contradicts (l .n) (heldRows l) (pauliLetter pauli) q (isOdd b)
-          → contradicts (l .n) (heldRows l) (pauliLetter pauli) q (isOdd b) ≡ true
+          → d ≡ contradicts (u .held .n) (heldRows (u .held)) (pauliLetter pauli) q (isOdd b)
+          → contradicts (u .held .n) (heldRows (u .held)) (pauliLetter pauli) q (isOdd b) ≡ true
       contradicted true e = sym e
-      contradicted false e = absurd (h (sym (decides (argumentLines l pauli q b) refl (sym z) refl (later (sym e) none))))
+      contradicted false e = absurd (h (sym (decides (usedArgumentsOf u (measurementOf pauli q b)) refl (sym z) refl
+          (later (plain (sym e)) none))))
   impossible (complementOf a) h z = absurd (h z)
   impossible (pivotOf j k) h z = absurd (h z)
 
@@ -83,79 +87,81 @@ module _ (l : LentRecord) (G : Group) (S : StandsFor l G) where
     set = unusedSet (s .op) (s .b) (s .value)
 
     abbrev fields : Bool → ℕ
-    fields b = firstFitting (withTest 6 b (argumentsOf l (asked s)))
+    fields b = firstFitting (withTest 6 b (usedArgumentsOf u (asked s)))
 
     -- ---- a step's number is 0: it is not refused
-    module _ (z : numberOf l s ≡ 0) where
-      unset : set ≡ false
-      unset = accepted-unset l s z
+    module _ (z : numberOf u s ≡ 0) where
+      no-line : (usedStep u (asked s)) .number ≡ 0
+      no-line = accepted-number u s z
 
-      no-line : firstFitting (linesOf l (asked s)) ≡ 0
-      no-line = sym (number-of-operation l s unset) ∙ z
-
-      accepted-not-refused : Refused l G s → ⊥
+      accepted-not-refused : Refused u G s → ⊥
       accepted-not-refused (by-fields h) =
-          h (ap fields unset ∙ without-test 6 (argumentsOf l (asked s)) ∙ passes (asked s) no-line .0)
+          h (ap fields (accepted-unset u s z) ∙ without-test 6 (usedArgumentsOf u (asked s))
+          ∙ passes (asked s) no-line .0)
       accepted-not-refused (by-group h) = passes (asked s) no-line .1 h
 
-      accepted-stands : StandsFor (afterStep l s) (GroupAfterStep l G s)
-      accepted-stands = subst (λ r. StandsFor r (GroupAfterStep l G s)) (sym (accepted-leaves l s z))
+      accepted-stands : StandsFor (afterStep u s) (GroupAfterStep u G s)
+      accepted-stands = subst (λ r. StandsFor r (GroupAfterStep u G s)) (sym (accepted-leaves u s z))
           (record {
-            still = O .still;
+            still = L .passes;
             elements = λ p. ((λ h. changed accepted-not-refused (O .elements p .0 h)), back);
           })
         where
-          left : LentRecord
-          left = leaves l (asked s)
+          left : UsedRecord
+          left = (usedStep u (asked s)) .after
 
-          O : StandsFor left (AfterOperation (l .n) G (asked s))
-          O = operation-stands l G S (asked s) no-line
+          L : UsedLeft u (asked s) left
+          L = used-left u (asked s) no-line
 
-          back : {p : Pauli} → GroupAfterStep l G s p → InGroup (left .n) (left .n) (heldRows left) p
+          O : HasGroup (left .held) (AfterOperation (u .held .n) G (asked s))
+          O = subst (λ r. HasGroup r (AfterOperation (u .held .n) G (asked s))) (sym (L .held))
+              (operation-stands (u .held) G has-group (asked s) (used-step u (asked s) no-line))
+
+          back : {p : Pauli} → GroupAfterStep u G s p → InGroup (left .held .n) (left .held .n) (heldRows (left .held)) p
           back (not-run r g) = absurd (accepted-not-refused r)
           back {p} (changed h g) = O .elements p .1 g
 
     -- ---- it is not: the step is refused
-    module _ (h : numberOf l s ≡ 0 → ⊥) where
-      is-refused : Refused l G s
+    module _ (h : numberOf u s ≡ 0 → ⊥) where
+      is-refused : Refused u G s
       is-refused = by (ℕ-discrete (fields set) 0)
         where
-          by : Dec (fields set ≡ 0) → Refused l G s
+          by : Dec (fields set ≡ 0) → Refused u G s
           by (no f) = by-fields f
-          by (yes e) = by-group (impossible (asked s) (λ z. h (number-of-operation l s (unset-by set refl e) ∙ z))
-              (sym (without-test 6 (argumentsOf l (asked s))) ∙ ap fields (sym (unset-by set refl e)) ∙ e))
+          by (yes e) = by-group (impossible (asked s) (λ z. h (number-of-operation u s (unset-by set refl e) ∙ z))
+              (sym (without-test 6 (usedArgumentsOf u (asked s))) ∙ ap fields (sym (unset-by set refl e)) ∙ e))
             where
               unset-by : (b : Bool) → set ≡ b → fields set ≡ 0 → set ≡ false
               unset-by false t e = t
               unset-by true t e =
-                  absurd (six-refuses l (sym (set-refuses-fields l (asked s)) ∙ ap fields (sym t) ∙ e))
+                  absurd (six-refuses u (sym (set-refuses-fields u (asked s)) ∙ ap fields (sym t) ∙ e))
 
-      refused-stands : StandsFor (afterStep l s) (GroupAfterStep l G s)
-      refused-stands = subst (λ r. StandsFor r (GroupAfterStep l G s)) (sym (refused-keeps l s h))
+      refused-stands : StandsFor (afterStep u s) (GroupAfterStep u G s)
+      refused-stands = subst (λ r. StandsFor r (GroupAfterStep u G s)) (sym (refused-keeps u s h))
           (record {
             still = S .still;
             elements = λ p. ((λ k. not-run is-refused (S .elements p .0 k)), back);
           })
         where
-          back : {p : Pauli} → GroupAfterStep l G s p → InGroup (l .n) (l .n) (heldRows l) p
+          back : {p : Pauli} → GroupAfterStep u G s p → InGroup (u .held .n) (u .held .n) (heldRows (u .held)) p
           back {p} (not-run r g) = S .elements p .1 g
           back (changed not-refused g) = absurd (not-refused is-refused)
 
-    step-stands : StandsFor (afterStep l s) (GroupAfterStep l G s)
-    step-stands = go (ℕ-discrete (numberOf l s) 0)
+    step-stands : StandsFor (afterStep u s) (GroupAfterStep u G s)
+    step-stands = go (ℕ-discrete (numberOf u s) 0)
       where
-        go : Dec (numberOf l s ≡ 0) → StandsFor (afterStep l s) (GroupAfterStep l G s)
+        go : Dec (numberOf u s ≡ 0) → StandsFor (afterStep u s) (GroupAfterStep u G s)
         go (yes z) = accepted-stands z
         go (no h) = refused-stands h
 
 pub refused-exactly : RefusedExactly
-refused-exactly l G S s = (is-refused l G S s, λ r z. accepted-not-refused l G S s z r)
+refused-exactly u G S s = (is-refused u G S s, λ r z. accepted-not-refused u G S s z r)
 
 -- ---- one step after the other
 pub runs-stand : RunsStand
 unfolding run
-runs-stand l G S [] = S
-runs-stand l G S (s ∷ rest) = runs-stand (afterStep l s) (GroupAfterStep l G s) (step-stands l G S s) rest
+runs-stand u G S [] = S
+runs-stand u G S (s ∷ rest) = runs-stand (afterStep u s) (GroupAfterStep u G s) (step-stands u G S s) rest
 
 -- ---- "All qubits start in +Z"
 pub jobs-stand : JobsStand
@@ -166,7 +172,7 @@ jobs-stand n positive upto steps k = runs-stand (started n) (StartGroup n) start
         record {
           still = started-passes n positive upto;
           elements = λ p. (
-            (λ h. same-group-equal n (heldRows (started n)) zAt (started-rows n) .there p h),
-            (λ h. same-group-equal n (heldRows (started n)) zAt (started-rows n) .back p h),
+            (λ h. same-group-equal n (heldRows (started n .held)) zAt (started-rows n) .there p h),
+            (λ h. same-group-equal n (heldRows (started n .held)) zAt (started-rows n) .back p h),
           );
         }

@@ -8,15 +8,16 @@ pub mod ThirdDemandHolds
 pub mod ImageDemandHolds
 pub mod GatesFollow
 pub mod MeasurementsFollow
+pub mod Contradictions
+pub mod InPlaceExactly
+pub mod UsedExactly
 pub mod SessionNumbers
 pub mod SessionDemandHolds
 pub mod SessionExamples
-pub mod Contradictions
 pub mod RewritingsKeep
 pub mod CzInsideSide
 pub mod CutDemandHolds
 pub mod ProductDemandHolds
-pub mod InPlaceExactly
 pub mod StringsExactly
 pub mod AcceptedCallsHold
 pub mod ComparedByParts
@@ -30,4 +31,5 @@ pub mod JobSteps
 pub mod JobsStand
 pub mod StepLines
 pub mod ProgramDemandHolds
+pub mod UsedDemandHolds
 pub mod SentencesHold

@@ -11,9 +11,9 @@ use Rattle.record.proofs.AcceptedRecords.{accepted-record}
 use Rattle.record.proofs.PlainRows.{hadamards-last, hadamards-twice, plain-determined, plain-phase, plain-x, plain-z, plainRow}
 use Rattle.record.proofs.ReducedRecords.{reduced-is}
 use Rattle.record.proofs.Unique.{record-path}
-use Rattle.record.proofs.WrittenRecords.{reduced-back, reduced-passes}
+use Rattle.record.proofs.WrittenRecords.{reduced-back, reduced-passes, writtenRecord}
 use Rattle.record.specs.Records.{GraphRecord, rowsOf}
-use Rattle.record.specs.Reduced.{ReductionOf, hadamardWhere}
+use Rattle.record.specs.Reduced.{ReductionOf, hadamardWhere, reduced}
 use Rattle.stabilizer.proofs.Accepted.{accepted-list}
 use Rattle.stabilizer.proofs.Carried.{act-same, same-rows}
 use Rattle.stabilizer.proofs.Generation.{in-group-generated}
@@ -22,9 +22,11 @@ use Rattle.stabilizer.proofs.NumbersTrue.{list-numbers}
 use Rattle.stabilizer.proofs.Verdicts.{clashing-pair, dependent-not}
 use Rattle.stabilizer.specs.Groups.{InGroup, SameGroup}
 use Rattle.stabilizer.specs.Lists.{rows}
+use Rattle.used.proofs.UsedPassing.{unused-passes}
 use Rattle.words.specs.Bits.{Word, _⊕_}
 use Rattle.claims.proofs.SecondDemandLists.{expansion-brings-back, holds-reduced, reduction-keeps-group}
 use Rattle.claims.proofs.TakenRecords.{taken-by-all}
+use Rattle.claims.proofs.UsedExactly.{used-exactly}
 use Rattle.claims.specs.ListDemand.{
   ChecksTell,
   ListBroughtBack,
@@ -35,6 +37,7 @@ use Rattle.claims.specs.ListDemand.{
   ReductionAnswers,
   ownRow,
 }
+use Rattle.claims.specs.SecondDemand.{unused}
 
 -- ---- lists
 pub checks-tell : ChecksTell
@@ -50,7 +53,7 @@ pub record-groups : RecordGroups
 record-groups l e = in-group-generated (l .n) (l .n) _ (accepted-record l false false e .proper .commuting)
 
 pub records-taken : RecordsTaken
-records-taken l e = taken-by-all l (accepted-record l false false e)
+records-taken u U = taken-by-all u (used-exactly u false false false .0 (U .no-line) .0)
 
 -- ---- reduced records
 module _ (n : ℕ) (R : ℕ → Pauli) (r : GraphRecord) (F : ReductionOf n R r) where
@@ -99,7 +102,10 @@ reduction-answers l nb cs nb′ cs′ C =
     let F = reduced-is (l .n) (rows l) (A .proper) in
     subst (ReducedTo l) (sym (holds-reduced l nb cs nb′ cs′ C))
     (record {
-      taken = records-taken _ (reduced-passes (l .n) (rows l) (A .proper) (A .formed .positive) (A .formed .upto));
+      taken = records-taken _ (record {
+        no-line = unused-passes (writtenRecord (l .n) (reduced (l .n) (rows l))) false false
+            (reduced-passes (l .n) (rows l) (A .proper) (A .formed .positive) (A .formed .upto));
+      });
       form = subst (ReductionOf (l .n) (rows l))
           (sym (record-path _ _ (reduced-back (l .n) (rows l) (A .proper)))) F;
       words = subst (ReducedInWords (l .n) (rows l))
@@ -109,4 +115,4 @@ reduction-answers l nb cs nb′ cs′ C =
 pub list-brought-back : ListBroughtBack
 list-brought-back l nb cs nb′ cs′ s z x s′ z′ x′ C E =
     same-trans (reduction-keeps-group l nb cs nb′ cs′ C)
-    (expansion-brings-back (record { n = l .n; neighbours = nb′; codes = cs′ }) s z x s′ z′ x′ E .group)
+    (expansion-brings-back (unused (l .n) nb′ cs′) s z x s′ z′ x′ E .group)

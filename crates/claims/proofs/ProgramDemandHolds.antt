@@ -48,7 +48,7 @@ bytes-printed bytes before after end P =
 module _ (l : GeneratorList) where
   -- the print of its reduced record
   abbrev recordOf : List ℕ
-  recordOf = recordText (l .n) ((reducedRecord l) .neighbours) ((reducedRecord l) .codes)
+  recordOf = recordText (l .n) ((reducedRecord l) .neighbours) ((reducedRecord l) .codes) 0
 
   list-refused : (firstFitting (checkLines l) ≡ 0 → ⊥) → listPrinted l ≡ refusedText (firstFitting (checkLines l))
   unfolding listPrinted

@@ -1,9 +1,9 @@
 -- Complements and pivots keep the group; of two calls the second is about what the first left.
-use mathlib.Core.Bool.{false}
+use mathlib.Core.Bool.{Bool, cond, false, true}
 use mathlib.Core.List.{List}
-use mathlib.Core.Path.{_∙_, _≡_, ap, ap₂, subst, sym}
+use mathlib.Core.Path.{_∙_, _≡_, ap, refl, subst, sym}
 use Prim.Native.Nat.{_<_, _≤_, ℕ}
-use lib.Dec.{leb}
+use lib.Dec.{eqb, leb}
 use lib.ListN.{List·getD-eq-default}
 use borrow.Author.Tests.{leb-false}
 use Rattle.clifford.specs.Clifford.{cliffordOf, identityClifford}
@@ -23,7 +23,8 @@ use Rattle.stabilizer.proofs.GroupLaws.{same-trans}
 use Rattle.stabilizer.specs.Groups.{SameGroup}
 use Rattle.call_gates.proofs.InPlaceCalls.{left-by-call}
 use Rattle.call_gates.proofs.InPlaceLines.{complement-ready, eight-passes, held-accepted}
-use Rattle.call_gates.specs.InPlaceCalls.{inPlaceCall}
+use Rattle.call_gates.specs.InPlaceCalls.{usedCall}
+use Rattle.used.specs.Used.{UsedRecord, usedAfter, usedStep}
 use Rattle.words.proofs.Flags.{neither}
 use Rattle.claims.proofs.GatesFollow.{holds-new}
 use Rattle.claims.specs.OperationsDemand.{ComplementsKeep, PivotsKeep, RewrittenAs, SecondAboutFirst, left}
@@ -101,10 +102,20 @@ pivots-keep l j k nb′ cs′ C =
 
 -- ---- two calls
 -- what a call leaves is the step's record
-is-after : (l : LentRecord) (o : Operation) (r : ℕ) (nb cs : List ℕ) → Call (inPlaceCall l o nb cs) r
-    → left l nb cs ≡ leaves l o
-is-after l o r nb cs C = ap₂ (left l) (left-by-call l o C .0) (left-by-call l o C .1)
+pub is-after : (u : UsedRecord) (o : Operation) (r : ℕ) (nb cs : List ℕ) → Call (usedCall u o nb cs) r
+    → left (u .held) nb cs ≡ (usedStep u o) .after .held
+is-after u o r nb cs C = λ i. record {
+  n = sym (step-n (eqb ((usedStep u o) .number) 0)) i;
+  neighbours = left-by-call u o C .0 i;
+  codes = left-by-call u o C .1 i;
+}
+  where
+    step-n : (b : Bool) → (cond b (record { held = leaves (u .held) o; used = usedAfter u o }) u) .held .n ≡ u .held .n
+    step-n true = refl
+    step-n false = refl
 
 pub second-about-first : SecondAboutFirst
-second-about-first l o₁ o₂ r₁ r₂ nb₁ cs₁ nb₂ cs₂ C D =
-    is-after (left l nb₁ cs₁) o₂ r₂ nb₂ cs₂ D ∙ ap (λ r. leaves r o₂) (is-after l o₁ r₁ nb₁ cs₁ C)
+second-about-first u o₁ o₂ r₁ r₂ nb₁ cs₁ nb₂ cs₂ C D =
+    is-after (record { held = left (u .held) nb₁ cs₁; used = (usedStep u o₁) .after .used }) o₂ r₂ nb₂ cs₂ D
+    ∙ ap (λ r. (usedStep (record { held = r; used = (usedStep u o₁) .after .used }) o₂) .after .held)
+    (is-after u o₁ r₁ nb₁ cs₁ C)

@@ -21,7 +21,10 @@ use Rattle.stabilizer.proofs.Accepted.{AcceptedList, accepted-list}
 use Rattle.stabilizer.specs.Groups.{Proper, SameGroup}
 use Rattle.stabilizer.specs.Lists.{GeneratorList, rows}
 use Rattle.contracts.specs.Calls.{Call}
-use Rattle.call_lists.specs.Calls.{expandCall, reduceCall}
+use Rattle.call_expand.specs.Expanding.{expandCall}
+use Rattle.call_lists.specs.Calls.{reduceCall}
+use Rattle.used.proofs.UsedPassing.{lines-pass}
+use Rattle.used.specs.Used.{UsedRecord}
 use Rattle.claims.specs.SecondDemand.{
   BroughtBack,
   EqualExactly,
@@ -30,6 +33,7 @@ use Rattle.claims.specs.SecondDemand.{
   ReducedCodes,
   ReducesToItself,
   ReductionKeepsGroup,
+  unused,
 }
 
 -- records and lists as they are lent, by their buffers
@@ -59,18 +63,19 @@ reduction-keeps-group l nb cs nb′ cs′ C =
     (reduced-held-same (l .n) (rows l) (reduced-list l nb cs nb′ cs′ C .proper))
 
 -- ---- an accepted expansion
-module _ (l : LentRecord) (s z x s′ z′ x′ : List ℕ) (C : Call (expandCall l s z x s′ z′ x′) 0) where
-  expanded-record : AcceptedRecord l
-  expanded-record = accepted-record l _ false (sym (C .number))
+module _ (u : UsedRecord) (s z x s′ z′ x′ : List ℕ) (C : Call (expandCall u s z x s′ z′ x′) 0) where
+  expanded-record : AcceptedRecord (u .held)
+  expanded-record = accepted-record (u .held) _ false (lines-pass u _ false false .0 (sym (C .number)) .0)
 
   -- the buffers hold the record's generators
-  pub holds-expanded : _≡_ {A = GeneratorList} (record { n = l .n; signs = s′; z = z′; x = x′ }) (expanded l)
+  pub holds-expanded : _≡_ {A = GeneratorList} (record { n = u .held .n; signs = s′; z = z′; x = x′ })
+      (expanded (u .held))
   holds-expanded = listed (C .held .0) (C .held .1 .0) (C .held .1 .1 .0)
 
 pub expansion-brings-back : ExpansionBringsBack
-expansion-brings-back l s z x s′ z′ x′ C =
-    let B = expansion-back l (expanded-record l s z x s′ z′ x′ C) in
-    subst (BroughtBack l) (sym (holds-expanded l s z x s′ z′ x′ C))
+expansion-brings-back u s z x s′ z′ x′ C =
+    let B = expansion-back (u .held) (expanded-record u s z x s′ z′ x′ C) in
+    subst (BroughtBack (u .held)) (sym (holds-expanded u s z x s′ z′ x′ C))
     (record { accepted = B .passes; generators = B .generators; group = B .group })
 
 -- ---- equal records exactly if equal groups
@@ -126,7 +131,7 @@ reduces-to-itself l nb cs nb′ cs′ s z x s′ z′ x′ nb₂ cs₂ nb₂′ 
     again : reduced (l .n) (rows (record { n = l .n; signs = s′; z = z′; x = x′ })) ≡ reduced (l .n) (rows l)
     again =
         ap (λ m. reduced (l .n) (rows m))
-        (holds-expanded (record { n = l .n; neighbours = nb′; codes = cs′ }) s z x s′ z′ x′ E ∙ ap expanded (holds-reduced l nb cs nb′ cs′ C))
+        (holds-expanded (unused (l .n) nb′ cs′) s z x s′ z′ x′ E ∙ ap expanded (holds-reduced l nb cs nb′ cs′ C))
         ∙ record-path _ _ (reduced-expands-back (l .n) (rows l) (P .proper) (P .formed .positive)
         (P .formed .upto))
 

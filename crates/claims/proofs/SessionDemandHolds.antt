@@ -1,17 +1,16 @@
 -- The request on faster sessions: the answer of gate, CZ and measurement from the calls' contracts, once as the record
 -- is rewritten, and once as its list is changed and reduced.
 use mathlib.Core.Bool.{Bool, cond, false, true, _||_}
-use mathlib.Core.List.{List, []}
+use mathlib.Core.List.{List}
 use mathlib.Core.Logic.{_≢_}
 use mathlib.Core.Path.{ap, ap₂, refl, subst, sym, _∙_, _≡_}
 use Prim.Native.Nat.{_<_, ℕ}
-use lib.Dec.{leb}
-use borrow.Author.Tests.{eqb-false, leb-false}
 use Rattle.buffers.specs.Refusals.{firstFitting}
 use Rattle.clifford.specs.Clifford.{Clifford, cliffordOf}
 use Rattle.clifford.specs.Vectors.{act}
 use Rattle.contracts.specs.Calls.{Call}
-use Rattle.call_lists.specs.Calls.{expandCall, reduceCall}
+use Rattle.call_expand.specs.Expanding.{expandCall}
+use Rattle.call_lists.specs.Calls.{reduceCall}
 use Rattle.operations.proofs.CzGroups.{cz-proper}
 use Rattle.operations.proofs.Determined.{measured-proper}
 use Rattle.operations.proofs.Gating.{gated-row}
@@ -25,16 +24,14 @@ use Rattle.operations.specs.Measurement.{
   pauliLetter,
   single,
 }
-use Rattle.operations.specs.Steps.{Operation, argumentLines, czOn, gateWith, inPlaceLines, made, measurementOf}
+use Rattle.operations.specs.Steps.{Operation, czOn, gateWith, made, measurementOf}
 use Rattle.operations.specs.declared.Outcome.the-variants.{Chosen, Determined}
 use Rattle.pauli.specs.Pauli.{Pauli}
 use Rattle.pauli.specs.declared.Letter.{Letter}
 use Rattle.record.proofs.ExpansionBack.{ExpandedBack, expanded, expansion-back}
 use Rattle.record.specs.Accepted.{AcceptedRecord}
-use Rattle.record.specs.Lent.{LentRecord, codeNumbers, heldRecord, heldRows, neighbourWords}
+use Rattle.record.specs.Lent.{codeNumbers, heldRecord, heldRows, neighbourWords}
 use Rattle.record.specs.Reduced.{reduced}
-use Rattle.call_gates.proofs.InPlaceLines.{eight-passes, held-accepted, six-passes}
-use Rattle.call_gates.proofs.MeasureLines.{measure-passes}
 use Rattle.stabilizer.proofs.Accepted.{accepted-list}
 use Rattle.stabilizer.proofs.Carried.{act-same}
 use Rattle.stabilizer.proofs.GroupLaws.{same-trans}
@@ -43,11 +40,13 @@ use Rattle.stabilizer.proofs.ReadBack.{back-passes, back-same, rows-back}
 use Rattle.stabilizer.proofs.SharedTests.{length-passes}
 use Rattle.stabilizer.specs.Groups.{Proper, SameGroup}
 use Rattle.stabilizer.specs.Lists.{listLines, rows}
-use Rattle.words.proofs.Flags.{neither}
+use Rattle.used.specs.Used.{UsedRecord}
 use Rattle.words.specs.Bits.{isOdd}
 use Rattle.claims.proofs.LinesExactly.{three-fit}
 use Rattle.claims.proofs.SecondDemandLists.{holds-expanded}
-use Rattle.claims.proofs.SessionNumbers.{expanded-rows, member-equal, record-decides}
+use Rattle.claims.proofs.SessionNumbers.{expanded-rows, member-equal}
+use Rattle.claims.proofs.UsedExactly.{used-cz, used-exactly, used-gate, used-measure}
+use Rattle.claims.specs.AcceptedCalls.{IsRecord, MeasureFits}
 use Rattle.claims.specs.SessionDemand.{
   ByExpanding,
   CzByExpanding,
@@ -85,22 +84,22 @@ measured-of-groups n L q b hq =
     }
 
 -- ---- a record's list, changed and reduced
-module _ (l : LentRecord) (six eight : Bool) (no-line : firstFitting (inPlaceLines l six eight) ≡ 0)
-    (f : (ℕ → Pauli) → ℕ → Pauli) (O : OfGroups (l .n) f) (o : Operation)
-    (is : made l o ≡ reduced (l .n) (f (heldRows l))) (nb′ cs′ : List ℕ)
-    (neighbours-held : nb′ ≡ neighbourWords (l .n) (made l o)) (codes-held : cs′ ≡ codeNumbers (l .n) (made l o))
+module _ (u : UsedRecord) (I : IsRecord u) (f : (ℕ → Pauli) → ℕ → Pauli) (O : OfGroups (u .held .n) f) (o : Operation)
+    (is : made (u .held) o ≡ reduced (u .held .n) (f (heldRows (u .held)))) (nb′ cs′ : List ℕ)
+    (neighbours-held : nb′ ≡ neighbourWords (u .held .n) (made (u .held) o))
+    (codes-held : cs′ ≡ codeNumbers (u .held .n) (made (u .held) o))
   where
     abbrev n : ℕ
-    n = l .n
+    n = u .held .n
 
     abbrev S : ℕ → Pauli
-    S = rows (expanded l)
+    S = rows (expanded (u .held))
 
-    A : AcceptedRecord l
-    A = held-accepted l six eight no-line
+    A : AcceptedRecord (u .held)
+    A = I .held
 
-    X : ExpandedBack l
-    X = expansion-back l A
+    X : ExpandedBack (u .held)
+    X = expansion-back (u .held) A
 
     P : Proper n (f S)
     P = O .proper S (X .list .proper)
@@ -112,45 +111,44 @@ module _ (l : LentRecord) (six eight : Bool) (no-line : firstFitting (inPlaceLin
       D .held .1 .0 ∙ ap (codeNumbers n) same ∙ sym codes-held,
     )
       where
-        same : reduced n (rows (listIn n s z x)) ≡ made l o
-        same = sym (is ∙ reduced-of-group n (f (heldRows l)) (rows (listIn n s z x))
-            (O .proper (heldRows l) (A .proper)) (accepted-list (listIn n s z x) _ (sym (D .number)) .proper)
-            (same-trans (O .group (heldRows l) S (A .proper) (X .list .proper) (X .group)) G))
+        same : reduced n (rows (listIn n s z x)) ≡ made (u .held) o
+        same = sym (is ∙ reduced-of-group n (f (heldRows (u .held))) (rows (listIn n s z x))
+            (O .proper (heldRows (u .held)) (A .proper)) (accepted-list (listIn n s z x) _ (sym (D .number)) .proper)
+            (same-trans (O .group (heldRows (u .held)) S (A .proper) (X .list .proper) (X .group)) G))
 
-    reduces-to : ReducesTo (expanded l) f nb′ cs′
+    reduces-to : ReducesTo (expanded (u .held)) f nb′ cs′
     reduces-to =
         record {
           generators = rows-back n (f S) P;
-          accepted = λ nb cs e d. ap (λ t. firstFitting (listLines (changed f (expanded l)) t))
+          accepted = λ nb cs e d. ap (λ t. firstFitting (listLines (changed f (expanded (u .held))) t))
               (ap₂ _||_ (length-passes n nb e) (length-passes n cs d))
               ∙ back-passes n (f S) P (A .positive) (A .upto);
-          equal = λ nb cs nb₂ cs₂ D. let t = changed f (expanded l) in
+          equal = λ nb cs nb₂ cs₂ D. let t = changed f (expanded (u .held)) in
               equal-all (t .signs) (t .z) (t .x) nb cs nb₂ cs₂ (back-same n (f S) P) D;
           equal-all = equal-all;
         }
 
-    by-expanding : ByExpanding l f nb′ cs′
+    by-expanding : ByExpanding u f nb′ cs′
     by-expanding =
         record {
-          accepted = λ s z x d e g. sym (record-decides l (six-passes l six eight no-line)
-              (eight-passes l six eight no-line) (three-fit n n n s z x .1 (d, e, g)) []) ∙ no-line;
-          equal = λ s z x s′ z′ x′ D. subst (λ m. ReducesTo m f nb′ cs′) (sym (holds-expanded l s z x s′ z′ x′ D))
+          accepted = λ s z x d e g. used-exactly u _ false false .1
+              (I, three-fit n n n s z x .1 (d, e, g), refl, refl);
+          equal = λ s z x s′ z′ x′ D. subst (λ m. ReducesTo m f nb′ cs′) (sym (holds-expanded u s z x s′ z′ x′ D))
               reduces-to;
         }
 
 -- ---- gates and CZ
 pub gates-by-expanding : GatesByExpanding
-gates-by-expanding l q k nb′ cs′ C =
-    by-expanding l _ _ (sym (C .number)) (gateChange (l .n) q k) (codes-of-groups (l .n) _) (gateWith q k)
-    (λ i. reduced (l .n) (λ j. gated-row (l .n) (heldRecord l) q (cliffordOf k) j i)) nb′ cs′ (C .held .0)
-    (C .held .1 .0)
+gates-by-expanding u q k nb′ cs′ C =
+    by-expanding u (used-gate u q k .0 (sym (C .number)) .0) (gateChange (u .held .n) q k) (codes-of-groups (u .held .n) _)
+    (gateWith q k)
+    (λ i. reduced (u .held .n) (λ j. gated-row (u .held .n) (heldRecord (u .held)) q (cliffordOf k) j i)) nb′ cs′
+    (C .held .0) (C .held .1 .0)
 
 pub cz-by-expanding : CzByExpanding
-cz-by-expanding l a b nb′ cs′ C =
-    let t = neither (leb (l .n) a) _ (eight-passes l _ _ (sym (C .number))) in
-    let u = neither (leb (l .n) b) _ (t .1) in
-    by-expanding l _ _ (sym (C .number)) (czChange a b)
-    (cz-of-groups (l .n) a b (leb-false (l .n) a (t .0)) (leb-false (l .n) b (u .0)) (eqb-false a b (u .1)))
+cz-by-expanding u a b nb′ cs′ C =
+    let F = used-cz u a b .0 (sym (C .number)) in
+    by-expanding u (F .0) (czChange a b) (cz-of-groups (u .held .n) a b (F .1 .0) (F .2 .0) (F .3))
     (czOn a b) refl nb′ cs′ (C .held .0) (C .held .1 .0)
 
 -- ---- measurements
@@ -162,20 +160,20 @@ answered-equal n R S h L q b =
     (member-equal n R S h (single L q false)) (member-equal n R S h (single L q true))
 
 pub measurements-by-expanding : MeasurementsByExpanding
-measurements-by-expanding l pauli q b answer determined nb′ cs′ answer′ determined′ C =
+measurements-by-expanding u pauli q b answer determined nb′ cs′ used′ answer′ determined′ C =
     record {
-      left = by-expanding l _ _ lines (measureChange (l .n) pauli q b)
-          (measured-of-groups (l .n) (pauliLetter pauli) q (isOdd b) (leb-false (l .n) q (eight-passes l _ _ lines)))
-          (measurementOf pauli q b) refl nb′ cs′ (C .held .1 .1 .0) (C .held .1 .1 .1 .0);
-      outcome = λ s z x s′ z′ x′ D. C .held .0 ∙ ap outcomeNumber (read s z x s′ z′ x′ D);
-      determined = λ s z x s′ z′ x′ D. C .held .1 .0 ∙ ap determinedNumber (read s z x s′ z′ x′ D);
+      left = by-expanding u (F .held) (measureChange (u .held .n) pauli q b)
+          (measured-of-groups (u .held .n) (pauliLetter pauli) q (isOdd b) (F .qubit .0))
+          (measurementOf pauli q b) refl nb′ cs′ (C .held .1 .1 .1 .0) (C .held .1 .1 .1 .1 .0);
+      outcome = λ s z x s′ z′ x′ D. C .held .1 .0 ∙ ap outcomeNumber (read s z x s′ z′ x′ D);
+      determined = λ s z x s′ z′ x′ D. C .held .1 .1 .0 ∙ ap determinedNumber (read s z x s′ z′ x′ D);
     }
   where
-    lines : firstFitting (argumentLines l pauli q b) ≡ 0
-    lines = measure-passes l pauli q b (sym (C .number)) .0
+    F : MeasureFits u pauli q b
+    F = used-measure u pauli q b .0 (sym (C .number))
 
-    read : (s z x s′ z′ x′ : List ℕ) → Call (expandCall l s z x s′ z′ x′) 0 →
-        measuredOutcome (l .n) (heldRows l) (pauliLetter pauli) q (isOdd b)
-        ≡ measuredOutcome (l .n) (rows (listIn (l .n) s′ z′ x′)) (pauliLetter pauli) q (isOdd b)
-    read s z x s′ z′ x′ D = answered-equal (l .n) (heldRows l) (rows (listIn (l .n) s′ z′ x′))
-        (expanded-rows l (held-accepted l _ _ lines) s z x s′ z′ x′ D) (pauliLetter pauli) q (isOdd b)
+    read : (s z x s′ z′ x′ : List ℕ) → Call (expandCall u s z x s′ z′ x′) 0 →
+        measuredOutcome (u .held .n) (heldRows (u .held)) (pauliLetter pauli) q (isOdd b)
+        ≡ measuredOutcome (u .held .n) (rows (listIn (u .held .n) s′ z′ x′)) (pauliLetter pauli) q (isOdd b)
+    read s z x s′ z′ x′ D = answered-equal (u .held .n) (heldRows (u .held)) (rows (listIn (u .held .n) s′ z′ x′))
+        (expanded-rows u (F .held .held) s z x s′ z′ x′ D) (pauliLetter pauli) q (isOdd b)

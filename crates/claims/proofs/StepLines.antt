@@ -9,7 +9,7 @@ use borrow.Author.Tests.{eq-eqb, ne-eqb}
 use Rattle.buffers.specs.Buffers.{acceptedNumber}
 use Rattle.buffers.specs.Refusals.{firstFitting}
 use Rattle.job_text.specs.Answer.{resultOf}
-use Rattle.jobs.proofs.Numbers.{accepted-unset, number-of-operation}
+use Rattle.jobs.proofs.Numbers.{accepted-number}
 use Rattle.jobs.specs.Asked.{asked, numberOf}
 use Rattle.jobs.specs.GroupsAfter.{Group, Refused}
 use Rattle.jobs.specs.Runs.{answerOf, determinedOf, outcomeOf}
@@ -28,7 +28,9 @@ use Rattle.operations.specs.Steps.{
 use Rattle.operations.specs.declared.Outcome.{Outcome}
 use Rattle.operations.specs.declared.Outcome.the-variants.{Chosen, Determined}
 use Rattle.record.specs.Lent.{LentRecord}
-use Rattle.claims.proofs.JobSteps.{answer-stands}
+use Rattle.used.proofs.UsedPassing.{used-step}
+use Rattle.used.specs.Used.{UsedRecord}
+use Rattle.claims.proofs.JobSteps.{HasGroup, answer-stands}
 use Rattle.claims.proofs.JobsStand.{refused-exactly}
 use Rattle.claims.specs.JobDemand.{StandsFor}
 use Rattle.claims.specs.ProgramDemand.{Determines, LineSays, OutcomeIs}
@@ -60,7 +62,7 @@ digit-of l (measurementOf pauli q b) = digit-of-answer (measuredAnswer l pauli q
 digit-of l (complementOf a) = inl refl
 digit-of l (pivotOf j k) = inl refl
 
-module _ (l : LentRecord) (G : Group) (S : StandsFor l G) where
+module _ (l : LentRecord) (G : Group) (S : HasGroup l G) where
   -- ---- an accepted operation
   determined-of : (o : Operation) → firstFitting (linesOf l o) ≡ 0 → (determinedOf l o ≡ 1) ↔ Determines G o
   determined-of (gateWith q k) z = never
@@ -76,45 +78,48 @@ module _ (l : LentRecord) (G : Group) (S : StandsFor l G) where
   outcome-of (complementOf a) z = refl
   outcome-of (pivotOf j k) z = refl
 
-  -- ---- a step
-  module _ (s : Step) where
-    pub line-says : LineSays l G s (resultOf (answerOf l s))
-    line-says = go (ℕ-discrete (numberOf l s) 0)
-      where
-        exactly : (numberOf l s ≡ 0 → ⊥) ↔ Refused l G s
-        exactly = refused-exactly l G S s
+-- ---- a step
+module _ (u : UsedRecord) (G : Group) (S : StandsFor u G) (s : Step) where
+  has-group : HasGroup (u .held) G
+  has-group = record { elements = S .elements }
 
-        go : Dec (numberOf l s ≡ 0) → LineSays l G s (resultOf (answerOf l s))
-        go (yes z) =
-            record {
-              number = refl;
-              refused = exactly;
-              either = subst (λ v. (v ≡ 0) ⊎ (v ≡ 1)) (sym d) (digit-of l (asked s));
-              determined = (
-                (λ e. ((λ h. exactly .1 h z), determined-of (asked s) no-line .0 (sym d ∙ e))),
-                (λ h. d ∙ determined-of (asked s) no-line .1 (h .1)),
-              );
-              outcome = λ h. subst (OutcomeIs G (asked s)) (sym o) (outcome-of (asked s) no-line);
-              no-outcome = λ h. absurd (exactly .1 h z);
-            }
-          where
-            no-line : firstFitting (linesOf l (asked s)) ≡ 0
-            no-line = sym (number-of-operation l s (accepted-unset l s z)) ∙ z
+  pub line-says : LineSays u G s (resultOf (answerOf u s))
+  line-says = go (ℕ-discrete (numberOf u s) 0)
+    where
+      exactly : (numberOf u s ≡ 0 → ⊥) ↔ Refused u G s
+      exactly = refused-exactly u G S s
 
-            d : acceptedNumber (numberOf l s) (determinedOf l (asked s)) 0 ≡ determinedOf l (asked s)
-            d = is-answered (numberOf l s) (determinedOf l (asked s)) z
+      go : Dec (numberOf u s ≡ 0) → LineSays u G s (resultOf (answerOf u s))
+      go (yes z) =
+          record {
+            number = refl;
+            refused = exactly;
+            either = subst (λ v. (v ≡ 0) ⊎ (v ≡ 1)) (sym d) (digit-of (u .held) (asked s));
+            determined = (
+              (λ e. ((λ h. exactly .1 h z), determined-of (u .held) G has-group (asked s) no-line .0 (sym d ∙ e))),
+              (λ h. d ∙ determined-of (u .held) G has-group (asked s) no-line .1 (h .1)),
+            );
+            outcome = λ h. subst (OutcomeIs G (asked s)) (sym o) (outcome-of (u .held) G has-group (asked s) no-line);
+            no-outcome = λ h. absurd (exactly .1 h z);
+          }
+        where
+          no-line : firstFitting (linesOf (u .held) (asked s)) ≡ 0
+          no-line = used-step u (asked s) (accepted-number u s z)
 
-            o : acceptedNumber (numberOf l s) (outcomeOf l (asked s)) 0 ≡ outcomeOf l (asked s)
-            o = is-answered (numberOf l s) (outcomeOf l (asked s)) z
-        go (no h) =
-            record {
-              number = refl;
-              refused = exactly;
-              either = inl d;
-              determined = ((λ e. absurd (differ (sym d ∙ e))), (λ g. absurd (g .0 (exactly .0 h))));
-              outcome = λ g. absurd (g (exactly .0 h));
-              no-outcome = λ g. not-answered (numberOf l s) (outcomeOf l (asked s)) h;
-            }
-          where
-            d : acceptedNumber (numberOf l s) (determinedOf l (asked s)) 0 ≡ 0
-            d = not-answered (numberOf l s) (determinedOf l (asked s)) h
+          d : acceptedNumber (numberOf u s) (determinedOf (u .held) (asked s)) 0 ≡ determinedOf (u .held) (asked s)
+          d = is-answered (numberOf u s) (determinedOf (u .held) (asked s)) z
+
+          o : acceptedNumber (numberOf u s) (outcomeOf (u .held) (asked s)) 0 ≡ outcomeOf (u .held) (asked s)
+          o = is-answered (numberOf u s) (outcomeOf (u .held) (asked s)) z
+      go (no h) =
+          record {
+            number = refl;
+            refused = exactly;
+            either = inl d;
+            determined = ((λ e. absurd (differ (sym d ∙ e))), (λ g. absurd (g .0 (exactly .0 h))));
+            outcome = λ g. absurd (g (exactly .0 h));
+            no-outcome = λ g. not-answered (numberOf u s) (outcomeOf (u .held) (asked s)) h;
+          }
+        where
+          d : acceptedNumber (numberOf u s) (determinedOf (u .held) (asked s)) 0 ≡ 0
+          d = not-answered (numberOf u s) (determinedOf (u .held) (asked s)) h

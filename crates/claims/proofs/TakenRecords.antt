@@ -1,43 +1,61 @@
 -- A record that no line refuses is taken by every call on records.
 use mathlib.Core.Bool.{Bool, false, true}
 use mathlib.Core.Logic.{inl, inr, _⊎_}
-use mathlib.Core.Path.{_≡_, _∙_, refl}
-use Prim.Native.Nat.{ℕ}
+use mathlib.Core.Path.{_≡_, _∙_, refl, sym}
+use Prim.Native.Nat.{_<_, ℕ, _≤_}
 use native.Mathlib.Decide.{ℕ-discrete}
 use Rattle.buffers.specs.Refusals.{firstFitting}
-use Rattle.operations.specs.Steps.{argumentLines, measureLines}
-use Rattle.record.specs.Accepted.{AcceptedRecord}
-use Rattle.record.specs.Lent.{LentRecord}
 use Rattle.call_gates.proofs.MeasureLines.{fourteen-exactly}
+use Rattle.call_gates.proofs.UsedInPlace.{plain}
+use Rattle.contracts.proofs.Fitting.{decides}
+use Rattle.contracts.specs.Answers.{later, none}
+use Rattle.operations.specs.Steps.{argumentLines, measurementOf}
+use Rattle.used.proofs.UsedPassing.{in-place-counted, with-used-passes}
+use Rattle.used.specs.Used.{UsedRecord, namesUsed, usedArgumentsOf, usedLinesOf}
 use Rattle.claims.proofs.AcceptedCallsHold.{accepted-exactly}
 use Rattle.claims.proofs.ImageDemandHolds.{images-follow}
-use Rattle.claims.proofs.InPlaceExactly.{against, agreed-passes, argument-lines}
+use Rattle.claims.proofs.InPlaceExactly.{against, argument-lines}
 use Rattle.claims.proofs.LinesExactly.{record-exactly, three-fit}
-use Rattle.claims.specs.AcceptedCalls.{TakenByAll}
+use Rattle.claims.proofs.UsedExactly.{no-stray, none-wrong}
+use Rattle.claims.specs.AcceptedCalls.{Free, IsRecord, TakenByAll}
 
 -- a measurement with arguments in order: 0, or 14
-accepted-or-14 : (l : LentRecord) (pauli q b : ℕ) → firstFitting (argumentLines l pauli q b) ≡ 0 → {r : ℕ} →
-    r ≡ firstFitting (measureLines l pauli q b) → (r ≡ 0) ⊎ (r ≡ 14)
-accepted-or-14 l pauli q b e {r} n = go (against l pauli q b) refl
+accepted-or-14 : (u : UsedRecord) (pauli q b : ℕ) → firstFitting (usedArgumentsOf u (measurementOf pauli q b)) ≡ 0 →
+    {r : ℕ} → r ≡ firstFitting (usedLinesOf u (measurementOf pauli q b)) → (r ≡ 0) ⊎ (r ≡ 14)
+accepted-or-14 u pauli q b e {r} n = go (against (u .held) pauli q b) refl
   where
-    go : (t : Bool) → against l pauli q b ≡ t → (r ≡ 0) ⊎ (r ≡ 14)
-    go true h = inr (n ∙ fourteen-exactly l pauli q b .1 (e, h))
-    go false h = inl (n ∙ agreed-passes l pauli q b e h)
+    go : (t : Bool) → against (u .held) pauli q b ≡ t → (r ≡ 0) ⊎ (r ≡ 14)
+    go true h = inr (n ∙ fourteen-exactly u pauli q b .1 (e, h))
+    go false h = inl (n ∙ sym (decides (usedArgumentsOf u (measurementOf pauli q b)) refl (sym e) refl
+        (later (plain h) none)))
 
-pub taken-by-all : (l : LentRecord) → AcceptedRecord l → TakenByAll l
-taken-by-all l A =
+-- its arguments are in order
+in-order : (u : UsedRecord) → IsRecord u → (pauli q b : ℕ) → 1 ≤ pauli → pauli ≤ 3 → Free u q → b < 2 →
+    firstFitting (usedArgumentsOf u (measurementOf pauli q b)) ≡ 0
+in-order u R pauli q b positive upto free bit =
+    with-used-passes u (argumentLines (u .held) pauli q b) (in-place-counted (u .held) _ _)
+    (namesUsed u (measurementOf pauli q b)) .1 (
+      argument-lines (u .held) pauli q b .1 (R .held, positive, upto, free .0, bit),
+      no-stray u R,
+      none-wrong u R,
+      free .1,
+    )
+
+pub taken-by-all : (u : UsedRecord) → IsRecord u → TakenByAll u
+taken-by-all u R =
     record {
-      expand = λ s z x s′ z′ x′ r C e f g. accepted-exactly .expand l s z x s′ z′ x′ r C .1 (A, e, f, g);
-      gate = λ q k nb′ cs′ r C e f. accepted-exactly .gate l q k nb′ cs′ r C .1 (A, e, f);
-      cz = λ a b nb′ cs′ r C e f g. accepted-exactly .cz l a b nb′ cs′ r C .1 (A, e, f, g);
-      measure = λ pauli q b answer determined nb′ cs′ answer′ determined′ r C positive upto qubit bit.
-          accepted-or-14 l pauli q b (argument-lines l pauli q b .1 (A, positive, upto, qubit, bit)) (C .number);
-      complement = λ a nb′ cs′ r C e. accepted-exactly .complement l a nb′ cs′ r C .1 (A, e);
-      pivot = λ j k nb′ cs′ r C e f g. accepted-exactly .pivot l j k nb′ cs′ r C .1 (A, e, f, g);
+      expand = λ s z x s′ z′ x′ r C e f g. accepted-exactly .expand u s z x s′ z′ x′ r C .1 (R, e, f, g);
+      gate = λ q k nb′ cs′ r C e f. accepted-exactly .gate u q k nb′ cs′ r C .1 (R, e, f);
+      cz = λ a b nb′ cs′ r C e f g. accepted-exactly .cz u a b nb′ cs′ r C .1 (R, e, f, g);
+      measure = λ pauli q b answer determined nb′ cs′ used′ answer′ determined′ r C positive upto free bit.
+          accepted-or-14 u pauli q b (in-order u R pauli q b positive upto free bit) (C .number);
+      complement = λ a nb′ cs′ r C e. accepted-exactly .complement u a nb′ cs′ r C .1 (R, e);
+      pivot = λ j k nb′ cs′ r C e f g. accepted-exactly .pivot u j k nb′ cs′ r C .1 (R, e, f, g);
       image = λ image signs list count image′ signs′ list′ count′ r C e f g.
-          one-of r (images-follow l image signs list count r image′ signs′ list′ count′ C
-          (record-exactly l _ false .1 (A, three-fit (l .n) (l .n) 96 image signs list .1 (e, f, g), refl)) .otherwise);
-      cut = λ side rank rank′ r C e. accepted-exactly .cut l side rank rank′ r C .1 (A, e);
+          one-of r (images-follow (u .held) image signs list count r image′ signs′ list′ count′ C
+          (record-exactly (u .held) _ false .1
+          (R .held, three-fit (u .held .n) (u .held .n) 96 image signs list .1 (e, f, g), refl)) .otherwise);
+      cut = λ side rank rank′ r C e. accepted-exactly .cut u side rank rank′ r C .1 (R, e);
     }
   where
     one-of : (r : ℕ) {B : Type 0} → ((r ≡ 11 → ⊥) → (r ≡ 12 → ⊥) → (r ≡ 0) × B) →

@@ -1,11 +1,11 @@
 -- Which calls are accepted, in the documents' words: the number of each exported function is 0 exactly if this holds of
 -- its arguments. A record is `AcceptedRecord`: 1 to 64 vertices, n places in each buffer, no bit at or above n, codes
 -- below 24, a simple graph.
-use mathlib.Core.Bool.{not, true}
+use mathlib.Core.Bool.{false, not, true}
 use mathlib.Core.List.{List}
 use mathlib.Core.Logic.{_≢_, _↔_, _⊎_}
 use mathlib.Core.Path.{_≡_}
-use Prim.Native.Nat.{_<_, _^_, ℕ, _≤_}
+use Prim.Native.Nat.{_*_, _<_, _^_, ℕ, _≤_}
 use lib.ListN.{getD, length}
 use Rattle.clifford.specs.Clifford.{Clifford}
 use Rattle.call_compare.specs.Comparisons.{compareCall}
@@ -14,18 +14,20 @@ use Rattle.call_cut.specs.Cuts.{cutCall}
 use Rattle.call_generate.specs.Generation.{generateCall}
 use Rattle.image.specs.Image.{UnsignedGraph}
 use Rattle.call_image.specs.Images.{imageCall}
-use Rattle.call_lists.specs.Calls.{checkCall, expandCall, reduceCall}
+use Rattle.call_expand.specs.Expanding.{expandCall}
+use Rattle.call_lists.specs.Calls.{checkCall, reduceUnusedCall}
 use Rattle.operations.specs.Steps.{complementOf, czOn, gateWith, pivotOf}
 use Rattle.call_product.specs.Products.{productCall}
 use Rattle.call_strings.specs.StringCalls.{readStringsCall, writeStringsCall}
 use Rattle.record.specs.Accepted.{AcceptedRecord}
 use Rattle.record.specs.Lent.{LentRecord, heldRecord, heldRows}
-use Rattle.call_gates.specs.InPlaceCalls.{inPlaceCall, measureCall}
+use Rattle.call_gates.specs.InPlaceCalls.{usedCall, usedMeasureCall}
 use Rattle.stabilizer.specs.Carries.{Carries}
 use Rattle.stabilizer.specs.Groups.{InGroup, Proper}
 use Rattle.stabilizer.specs.Lists.{GeneratorList, rows}
 use Rattle.strings.specs.Strings.{stringsText, textSize}
-use Rattle.words.specs.Bits.{isOdd}
+use Rattle.used.specs.Used.{UsedRecord}
+use Rattle.words.specs.Bits.{bit, isOdd}
 use Rattle.claims.specs.OperationsDemand.{signedPauli}
 use Rattle.claims.specs.PartsDemand.{SmallParts}
 
@@ -66,33 +68,47 @@ pub record CompareFits (l m : GeneratorList) (choice list : List ℕ) : Type 0 w
   pub equivalent : (c : ℕ → Clifford) × Carries (l .n) c (rows l) (rows m)
 
 -- ---- calls on records
-abbrev pub ExpandFits : LentRecord → List ℕ → List ℕ → List ℕ → Type 0
-ExpandFits l s z x = AcceptedRecord l × (length s ≡ l .n) × (length z ≡ l .n) × (length x ≡ l .n)
+-- a record with its word of used qubits: no bit at or above n; "A used vertex has no neighbour, and its code is 0, 2, 4,
+-- 6, 8 or 10" (02, §8)
+pub record IsRecord (u : UsedRecord) : Type 0 where
+  pub held : AcceptedRecord (u .held)
+  pub below : u .used < 2 ^ (u .held .n)
+  pub alone : (q : ℕ) → bit (u .used) q ≡ true → getD (u .held .neighbours) q 0 ≡ 0
+  pub codes : (q : ℕ) → bit (u .used) q ≡ true → (i : ℕ) × (i < 6) × (getD (u .held .codes) q 0 ≡ 2 * i)
+
+-- a qubit of the record that is not used
+abbrev pub Free : UsedRecord → ℕ → Type 0
+Free u q = (q < u .held .n) × (bit (u .used) q ≡ false)
+
+-- a record, and three buffers with n places
+abbrev pub ExpandFits : UsedRecord → List ℕ → List ℕ → List ℕ → Type 0
+ExpandFits u s z x = IsRecord u × (length s ≡ u .held .n) × (length z ≡ u .held .n) × (length x ≡ u .held .n)
 
 -- a record, a qubit and a code
-abbrev pub GateFits : LentRecord → ℕ → ℕ → Type 0
-GateFits l q k = AcceptedRecord l × (q < l .n) × (k < 24)
+abbrev pub GateFits : UsedRecord → ℕ → ℕ → Type 0
+GateFits u q k = IsRecord u × Free u q × (k < 24)
 
 -- a record and two qubits
-abbrev pub CzFits : LentRecord → ℕ → ℕ → Type 0
-CzFits l a b = AcceptedRecord l × (a < l .n) × (b < l .n) × (a ≢ b)
+abbrev pub CzFits : UsedRecord → ℕ → ℕ → Type 0
+CzFits u a b = IsRecord u × Free u a × Free u b × (a ≢ b)
 
 -- a Pauli from 1 to 3, a qubit and a bit that the group does not contradict (02, §4)
-pub record MeasureFits (l : LentRecord) (pauli q b : ℕ) : Type 0 where
-  pub held : AcceptedRecord l
+pub record MeasureFits (u : UsedRecord) (pauli q b : ℕ) : Type 0 where
+  pub held : IsRecord u
   pub positive : 1 ≤ pauli
   pub upto : pauli ≤ 3
-  pub qubit : q < l .n
+  pub qubit : Free u q
   pub bit : b < 2
-  pub possible : InGroup (l .n) (l .n) (heldRows l) (signedPauli pauli q (not (isOdd b))) → ⊥
+  pub possible : InGroup (u .held .n) (u .held .n) (heldRows (u .held)) (signedPauli pauli q (not (isOdd b))) → ⊥
 
 -- a record and a vertex
-abbrev pub ComplementFits : LentRecord → ℕ → Type 0
-ComplementFits l a = AcceptedRecord l × (a < l .n)
+abbrev pub ComplementFits : UsedRecord → ℕ → Type 0
+ComplementFits u a = IsRecord u × Free u a
 
--- a record and an edge of its graph
-abbrev pub PivotFits : LentRecord → ℕ → ℕ → Type 0
-PivotFits l j k = AcceptedRecord l × (j < l .n) × (k < l .n) × ((heldRecord l) .graph j k ≡ true)
+-- the ends of an edge are not used
+abbrev pub PivotFits : UsedRecord → ℕ → ℕ → Type 0
+PivotFits u j k =
+    IsRecord u × (j < u .held .n) × (k < u .held .n) × ((heldRecord (u .held)) .graph j k ≡ true)
 
 -- "the image group, signs dropped, must be that of a simple graph"
 pub record ImageFits (l : LentRecord) (image signs list : List ℕ) : Type 0 where
@@ -102,9 +118,9 @@ pub record ImageFits (l : LentRecord) (image signs list : List ℕ) : Type 0 whe
   pub list-places : length list ≡ 96
   pub is-graph : UnsignedGraph (l .n) (heldRows l)
 
--- a record and a word that marks a side
-abbrev pub CutFits : LentRecord → ℕ → Type 0
-CutFits l side = AcceptedRecord l × (side < 2 ^ (l .n))
+-- the side may mark used qubits
+abbrev pub CutFits : UsedRecord → ℕ → Type 0
+CutFits u side = IsRecord u × (side < 2 ^ (u .held .n))
 
 -- ---- the generator
 pub record GenerateFits (n count seed : ℕ) (text : List ℕ) : Type 0 where
@@ -127,24 +143,25 @@ WriteStringsFits l text = IsList l × (length text ≡ textSize (l .n))
 -- ---- of each call: it is accepted exactly if its arguments fit
 pub record AcceptedExactly : Type 0 where
   pub check : (l : GeneratorList) (r : ℕ) → Call (checkCall l) r → (r ≡ 0) ↔ IsList l
-  pub reduce : (l : GeneratorList) (nb cs nb′ cs′ : List ℕ) (r : ℕ) → Call (reduceCall l nb cs nb′ cs′) r →
-      (r ≡ 0) ↔ ReduceFits l nb cs
-  pub expand : (l : LentRecord) (s z x s′ z′ x′ : List ℕ) (r : ℕ) → Call (expandCall l s z x s′ z′ x′) r →
-      (r ≡ 0) ↔ ExpandFits l s z x
-  pub gate : (l : LentRecord) (q k : ℕ) (nb′ cs′ : List ℕ) (r : ℕ) → Call (inPlaceCall l (gateWith q k) nb′ cs′) r →
-      (r ≡ 0) ↔ GateFits l q k
-  pub cz : (l : LentRecord) (a b : ℕ) (nb′ cs′ : List ℕ) (r : ℕ) → Call (inPlaceCall l (czOn a b) nb′ cs′) r →
-      (r ≡ 0) ↔ CzFits l a b
-  pub measure : (l : LentRecord) (pauli q b answer determined : ℕ) (nb′ cs′ : List ℕ) (answer′ determined′ r : ℕ) →
-      Call (measureCall l pauli q b answer determined nb′ cs′ answer′ determined′) r →
-      (r ≡ 0) ↔ MeasureFits l pauli q b
-  pub complement : (l : LentRecord) (a : ℕ) (nb′ cs′ : List ℕ) (r : ℕ) →
-      Call (inPlaceCall l (complementOf a) nb′ cs′) r → (r ≡ 0) ↔ ComplementFits l a
-  pub pivot : (l : LentRecord) (j k : ℕ) (nb′ cs′ : List ℕ) (r : ℕ) → Call (inPlaceCall l (pivotOf j k) nb′ cs′) r →
-      (r ≡ 0) ↔ PivotFits l j k
+  pub reduce : (l : GeneratorList) (nb cs : List ℕ) (used : ℕ) (nb′ cs′ : List ℕ) (used′ r : ℕ) →
+      Call (reduceUnusedCall l nb cs used nb′ cs′ used′) r → (r ≡ 0) ↔ ReduceFits l nb cs
+  pub expand : (u : UsedRecord) (s z x s′ z′ x′ : List ℕ) (r : ℕ) → Call (expandCall u s z x s′ z′ x′) r →
+      (r ≡ 0) ↔ ExpandFits u s z x
+  pub gate : (u : UsedRecord) (q k : ℕ) (nb′ cs′ : List ℕ) (r : ℕ) → Call (usedCall u (gateWith q k) nb′ cs′) r →
+      (r ≡ 0) ↔ GateFits u q k
+  pub cz : (u : UsedRecord) (a b : ℕ) (nb′ cs′ : List ℕ) (r : ℕ) → Call (usedCall u (czOn a b) nb′ cs′) r →
+      (r ≡ 0) ↔ CzFits u a b
+  pub measure : (u : UsedRecord) (pauli q b answer determined : ℕ) (nb′ cs′ : List ℕ)
+      (used′ answer′ determined′ r : ℕ) →
+      Call (usedMeasureCall u pauli q b answer determined nb′ cs′ used′ answer′ determined′) r →
+      (r ≡ 0) ↔ MeasureFits u pauli q b
+  pub complement : (u : UsedRecord) (a : ℕ) (nb′ cs′ : List ℕ) (r : ℕ) →
+      Call (usedCall u (complementOf a) nb′ cs′) r → (r ≡ 0) ↔ ComplementFits u a
+  pub pivot : (u : UsedRecord) (j k : ℕ) (nb′ cs′ : List ℕ) (r : ℕ) → Call (usedCall u (pivotOf j k) nb′ cs′) r →
+      (r ≡ 0) ↔ PivotFits u j k
   pub image : (l : LentRecord) (image signs list : List ℕ) (count : ℕ) (image′ signs′ list′ : List ℕ) (count′ r : ℕ) →
       Call (imageCall l image signs list count image′ signs′ list′ count′) r → (r ≡ 0) ↔ ImageFits l image signs list
-  pub cut : (l : LentRecord) (side rank rank′ r : ℕ) → Call (cutCall l side rank rank′) r → (r ≡ 0) ↔ CutFits l side
+  pub cut : (u : UsedRecord) (side rank rank′ r : ℕ) → Call (cutCall u side rank rank′) r → (r ≡ 0) ↔ CutFits u side
   pub product : (l : GeneratorList) (chosen z x phase z′ x′ phase′ r : ℕ) →
       Call (productCall l chosen z x phase z′ x′ phase′) r → (r ≡ 0) ↔ ProductFits l chosen
   pub compare : (l m : GeneratorList) (choice list : List ℕ) (count : ℕ) (choice′ list′ : List ℕ) (count′ r : ℕ) →
@@ -157,22 +174,22 @@ pub record AcceptedExactly : Type 0 where
       (r ≡ 0) ↔ WriteStringsFits l text
 
 -- ---- a record that every call on records takes, where the other arguments are in order; a measurement may be refused
--- by 14, an image by 11 or 12
-pub record TakenByAll (l : LentRecord) : Type 0 where
-  pub expand : (s z x s′ z′ x′ : List ℕ) (r : ℕ) → Call (expandCall l s z x s′ z′ x′) r → length s ≡ l .n →
-      length z ≡ l .n → length x ≡ l .n → r ≡ 0
-  pub gate : (q k : ℕ) (nb′ cs′ : List ℕ) (r : ℕ) → Call (inPlaceCall l (gateWith q k) nb′ cs′) r → q < l .n →
+-- by 14, an image, which takes no used word, by 11 or 12
+pub record TakenByAll (u : UsedRecord) : Type 0 where
+  pub expand : (s z x s′ z′ x′ : List ℕ) (r : ℕ) → Call (expandCall u s z x s′ z′ x′) r → length s ≡ u .held .n →
+      length z ≡ u .held .n → length x ≡ u .held .n → r ≡ 0
+  pub gate : (q k : ℕ) (nb′ cs′ : List ℕ) (r : ℕ) → Call (usedCall u (gateWith q k) nb′ cs′) r → Free u q →
       k < 24 → r ≡ 0
-  pub cz : (a b : ℕ) (nb′ cs′ : List ℕ) (r : ℕ) → Call (inPlaceCall l (czOn a b) nb′ cs′) r → a < l .n → b < l .n →
+  pub cz : (a b : ℕ) (nb′ cs′ : List ℕ) (r : ℕ) → Call (usedCall u (czOn a b) nb′ cs′) r → Free u a → Free u b →
       a ≢ b → r ≡ 0
-  pub measure : (pauli q b answer determined : ℕ) (nb′ cs′ : List ℕ) (answer′ determined′ r : ℕ) →
-      Call (measureCall l pauli q b answer determined nb′ cs′ answer′ determined′) r → 1 ≤ pauli → pauli ≤ 3 →
-      q < l .n → b < 2 → (r ≡ 0) ⊎ (r ≡ 14)
-  pub complement : (a : ℕ) (nb′ cs′ : List ℕ) (r : ℕ) → Call (inPlaceCall l (complementOf a) nb′ cs′) r → a < l .n →
+  pub measure : (pauli q b answer determined : ℕ) (nb′ cs′ : List ℕ) (used′ answer′ determined′ r : ℕ) →
+      Call (usedMeasureCall u pauli q b answer determined nb′ cs′ used′ answer′ determined′) r → 1 ≤ pauli →
+      pauli ≤ 3 → Free u q → b < 2 → (r ≡ 0) ⊎ (r ≡ 14)
+  pub complement : (a : ℕ) (nb′ cs′ : List ℕ) (r : ℕ) → Call (usedCall u (complementOf a) nb′ cs′) r → Free u a →
       r ≡ 0
-  pub pivot : (j k : ℕ) (nb′ cs′ : List ℕ) (r : ℕ) → Call (inPlaceCall l (pivotOf j k) nb′ cs′) r → j < l .n →
-      k < l .n → (heldRecord l) .graph j k ≡ true → r ≡ 0
+  pub pivot : (j k : ℕ) (nb′ cs′ : List ℕ) (r : ℕ) → Call (usedCall u (pivotOf j k) nb′ cs′) r → j < u .held .n →
+      k < u .held .n → (heldRecord (u .held)) .graph j k ≡ true → r ≡ 0
   pub image : (image signs list : List ℕ) (count : ℕ) (image′ signs′ list′ : List ℕ) (count′ r : ℕ) →
-      Call (imageCall l image signs list count image′ signs′ list′ count′) r → length image ≡ l .n →
-      length signs ≡ l .n → length list ≡ 96 → (r ≡ 0) ⊎ ((r ≡ 11) ⊎ (r ≡ 12))
-  pub cut : (side rank rank′ r : ℕ) → Call (cutCall l side rank rank′) r → side < 2 ^ (l .n) → r ≡ 0
+      Call (imageCall (u .held) image signs list count image′ signs′ list′ count′) r → length image ≡ u .held .n →
+      length signs ≡ u .held .n → length list ≡ 96 → (r ≡ 0) ⊎ ((r ≡ 11) ⊎ (r ≡ 12))
+  pub cut : (side rank rank′ r : ℕ) → Call (cutCall u side rank rank′) r → side < 2 ^ (u .held .n) → r ≡ 0

@@ -12,6 +12,7 @@ use Rattle.call_cut.specs.Cuts.{cutCall}
 use Rattle.operations.specs.Steps.{complementOf, czOn, gateWith, pivotOf}
 use Rattle.record.specs.Lent.{LentRecord, heldRecord}
 use Rattle.call_gates.specs.InPlaceCalls.{inPlaceCall}
+use Rattle.used.specs.Used.{UsedRecord}
 use Rattle.words.specs.Bits.{Word, bit}
 use Rattle.claims.specs.OperationsDemand.{left}
 
@@ -29,7 +30,8 @@ pub record CutAnswer (l : LentRecord) (side rank′ : ℕ) : Type 0 where
 
 -- of every accepted call
 abbrev pub CutsAnswer : Type 0
-CutsAnswer = (l : LentRecord) (side rank rank′ : ℕ) → Call (cutCall l side rank rank′) 0 → CutAnswer l side rank′
+CutsAnswer = (u : UsedRecord) (side rank rank′ : ℕ) → Call (cutCall u side rank rank′) 0 →
+    CutAnswer (u .held) side rank′
 
 -- "gates on single qubits"
 abbrev pub GatesKeepRanks : Type 0

@@ -17,19 +17,21 @@ use Rattle.call_generate.specs.Generation.{generateCall}
 use Rattle.generator.specs.Lines.{generateLines}
 use Rattle.image.specs.Image.{imageLines}
 use Rattle.call_image.specs.Images.{imageCall}
-use Rattle.call_lists.specs.Calls.{checkCall, expandCall, expandLines, reduceCall, reduceLines}
+use Rattle.call_expand.specs.Expanding.{expandCall, expandLines}
+use Rattle.call_lists.specs.Calls.{checkCall, reduceLines, reduceUnusedCall}
 use Rattle.operations.specs.Steps.{Operation}
 use Rattle.call_product.specs.Products.{productCall}
 use Rattle.call_strings.specs.StringCalls.{readStringsCall, writeStringsCall}
 use Rattle.record.specs.Lent.{LentRecord}
-use Rattle.call_gates.specs.InPlaceCalls.{inPlaceCall, measureCall}
+use Rattle.call_gates.specs.InPlaceCalls.{usedCall, usedMeasureCall}
 use Rattle.stabilizer.specs.Lists.{GeneratorList}
 use Rattle.strings.specs.Reading.{readLines, writeLines}
+use Rattle.used.specs.Used.{UsedRecord}
 
 -- "the published list": the numbers in checking order; a call tests some of them, in that order. 14 is "checked after
--- 10" (02, §4), and so is 3 (02, §9), 15 "directly after 1 and so before 2" (02, §5)
+-- 10" (02, §4), and so is 3 (02, §9), 15 "directly after 1 and so before 2" (02, §5), 16 "directly after 8" (02, §8)
 abbrev pub published : List ℕ
-published = 1 ∷ 15 ∷ 2 ∷ 4 ∷ 5 ∷ 6 ∷ 7 ∷ 8 ∷ 9 ∷ 10 ∷ 3 ∷ 14 ∷ 11 ∷ 12 ∷ 13 ∷ []
+published = 1 ∷ 15 ∷ 2 ∷ 4 ∷ 5 ∷ 6 ∷ 7 ∷ 8 ∷ 16 ∷ 9 ∷ 10 ∷ 3 ∷ 14 ∷ 11 ∷ 12 ∷ 13 ∷ []
 
 -- whether the numbers stand in the order of a list, some of its numbers left out
 abbrev pub isSubsequence : List ℕ → List ℕ → Bool
@@ -65,14 +67,16 @@ AnswersSayAll = (c : Contract) (r : ℕ) → Answers c r → Call c r
 pub record FirstDemand : Type 0 where
   pub every : EveryCallAnswers
   pub check : (l : GeneratorList) → Conforms (checkCall l)
-  pub reduce : (l : GeneratorList) (nb cs nb′ cs′ : List ℕ) → Conforms (reduceCall l nb cs nb′ cs′)
-  pub expand : (l : LentRecord) (s z x s′ z′ x′ : List ℕ) → Conforms (expandCall l s z x s′ z′ x′)
-  pub in-place : (l : LentRecord) (o : Operation) (nb′ cs′ : List ℕ) → Conforms (inPlaceCall l o nb′ cs′)
-  pub measurements : (l : LentRecord) (pauli q b answer determined : ℕ) (nb′ cs′ : List ℕ)
-      (answer′ determined′ : ℕ) → Conforms (measureCall l pauli q b answer determined nb′ cs′ answer′ determined′)
+  pub reduce : (l : GeneratorList) (nb cs : List ℕ) (used : ℕ) (nb′ cs′ : List ℕ) (used′ : ℕ) →
+      Conforms (reduceUnusedCall l nb cs used nb′ cs′ used′)
+  pub expand : (u : UsedRecord) (s z x s′ z′ x′ : List ℕ) → Conforms (expandCall u s z x s′ z′ x′)
+  pub in-place : (u : UsedRecord) (o : Operation) (nb′ cs′ : List ℕ) → Conforms (usedCall u o nb′ cs′)
+  pub measurements : (u : UsedRecord) (pauli q b answer determined : ℕ) (nb′ cs′ : List ℕ)
+      (used′ answer′ determined′ : ℕ) →
+      Conforms (usedMeasureCall u pauli q b answer determined nb′ cs′ used′ answer′ determined′)
   pub images : (l : LentRecord) (g s v : List ℕ) (count : ℕ) (g′ s′ v′ : List ℕ) (count′ : ℕ) →
       Conforms (imageCall l g s v count g′ s′ v′ count′)
-  pub cuts : (l : LentRecord) (side rank rank′ : ℕ) → Conforms (cutCall l side rank rank′)
+  pub cuts : (u : UsedRecord) (side rank rank′ : ℕ) → Conforms (cutCall u side rank rank′)
   pub products : (l : GeneratorList) (chosen z x phase z′ x′ phase′ : ℕ) →
       Conforms (productCall l chosen z x phase z′ x′ phase′)
   pub comparisons : (l m : GeneratorList) (choice list : List ℕ) (count : ℕ) (choice′ list′ : List ℕ)
@@ -87,8 +91,8 @@ pub record FirstDemand : Type 0 where
 pub record AnswerBuffersUnread : Type 0 where
   pub reduce : (l : GeneratorList) (nb cs nb₂ cs₂ : List ℕ) → length nb ≡ length nb₂ → length cs ≡ length cs₂ →
       firstFitting (reduceLines l nb cs) ≡ firstFitting (reduceLines l nb₂ cs₂)
-  pub expand : (l : LentRecord) (s z x s₂ z₂ x₂ : List ℕ) → length s ≡ length s₂ → length z ≡ length z₂ →
-      length x ≡ length x₂ → firstFitting (expandLines l s z x) ≡ firstFitting (expandLines l s₂ z₂ x₂)
+  pub expand : (u : UsedRecord) (s z x s₂ z₂ x₂ : List ℕ) → length s ≡ length s₂ → length z ≡ length z₂ →
+      length x ≡ length x₂ → firstFitting (expandLines u s z x) ≡ firstFitting (expandLines u s₂ z₂ x₂)
   pub images : (l : LentRecord) (g s v g₂ s₂ v₂ : List ℕ) → length g ≡ length g₂ → length s ≡ length s₂ →
       length v ≡ length v₂ → firstFitting (imageLines l g s v) ≡ firstFitting (imageLines l g₂ s₂ v₂)
   pub comparisons : (l m : GeneratorList) (choice list choice₂ list₂ : List ℕ) → length choice ≡ length choice₂ →

@@ -13,5 +13,6 @@ pub mod StringsDemand
 pub mod SessionDemand
 pub mod JobDemand
 pub mod ProgramDemand
+pub mod UsedDemand
 pub mod Sentences
 pub mod internal

@@ -8,7 +8,8 @@ use lib.Dec.{eqb}
 use Rattle.clifford.specs.Vectors.{act}
 use Rattle.contracts.specs.Calls.{Call}
 use Rattle.graph.specs.Graph.{Graph, Simple}
-use Rattle.call_lists.specs.Calls.{checkCall, expandCall, reduceCall}
+use Rattle.call_expand.specs.Expanding.{expandCall}
+use Rattle.call_lists.specs.Calls.{checkCall, reduceCall}
 use Rattle.pauli.specs.Pauli.{Pauli, anticommute, minus}
 use Rattle.record.specs.Columns.{ColumnDependent}
 use Rattle.record.specs.Lent.{LentRecord, heldRecord, heldRows}
@@ -16,9 +17,11 @@ use Rattle.record.specs.Records.{GraphRecord}
 use Rattle.record.specs.Reduced.{ReductionOf, hadamardWhere, plainCode, withHadamard, xWords}
 use Rattle.stabilizer.specs.Groups.{Generated, InGroup, Independent, SameGroup}
 use Rattle.stabilizer.specs.Lists.{GeneratorList, rows}
+use Rattle.used.specs.Used.{UsedRecord, UsedUnrefused}
 use Rattle.words.specs.Bits.{Word, _⊕_}
 use Rattle.claims.specs.AcceptedCalls.{TakenByAll}
 use Rattle.claims.specs.OperationsDemand.{StillRecord}
+use Rattle.claims.specs.SecondDemand.{unused}
 
 -- ---- lists
 -- "its group is all products, signs included"
@@ -45,7 +48,7 @@ RecordGroups = (l : LentRecord) → StillRecord l → AllProducts (l .n) (heldRo
 
 -- a record that a call leaves is taken by every call on records
 abbrev pub RecordsTaken : Type 0
-RecordsTaken = (l : LentRecord) → StillRecord l → TakenByAll l
+RecordsTaken = (u : UsedRecord) → UsedUnrefused u → TakenByAll u
 
 -- ---- reduced records
 -- X at j, or Y, with a sign, and Z at the neighbours of j
@@ -70,9 +73,9 @@ pub record ReducedInWords (n : ℕ) (R : ℕ → Pauli) (r : GraphRecord) : Type
   -- "The code is 0 for +X, 2 for -X, 4 for +Y, 6 for -Y; where the Hadamard was used it is followed by 8"
   pub code : (j : ℕ) → j < n → r .codes j ≡ withHadamard (hadamards j) (plainCode (ys j) (minuses j))
 
--- the record that a reduction leaves: every call on a record takes it, and it is document 01's
+-- the record that a reduction leaves: every call on a record takes it, with the used word 0, and it is document 01's
 pub record ReducedTo (l : GeneratorList) (r : LentRecord) : Type 0 where
-  pub taken : TakenByAll r
+  pub taken : TakenByAll (record { held = r; used = 0 })
   pub form : ReductionOf (l .n) (rows l) (heldRecord r)
   pub words : ReducedInWords (l .n) (rows l) (heldRecord r)
 
@@ -84,5 +87,5 @@ ReductionAnswers = (l : GeneratorList) (nb cs nb′ cs′ : List ℕ) → Call (
 -- "expansion brings that group back": the group of the list that was reduced
 abbrev pub ListBroughtBack : Type 0
 ListBroughtBack = (l : GeneratorList) (nb cs nb′ cs′ s z x s′ z′ x′ : List ℕ) → Call (reduceCall l nb cs nb′ cs′) 0 →
-    Call (expandCall (record { n = l .n; neighbours = nb′; codes = cs′ }) s z x s′ z′ x′) 0 →
+    Call (expandCall (unused (l .n) nb′ cs′) s z x s′ z′ x′) 0 →
     SameGroup (l .n) (l .n) (rows l) (rows (record { n = l .n; signs = s′; z = z′; x = x′ }))

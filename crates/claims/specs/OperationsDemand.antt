@@ -1,8 +1,9 @@
 -- Demand 2, of the public calls on a record lent in place: "Gates, CZ, Pauli measurements .. follow the same
 -- definition"; and complements and pivots, which keep the group. Each, but for the measurements that are refused, is said
--- of an accepted call: its number is 0, and nb′, cs′ are what the two buffers hold at exit.
+-- of an accepted call: its number is 0, and nb′, cs′ are what the two buffers hold at exit. The used word is left out
+-- where it does not matter: an accepted call with it is accepted without it (UsedDemand).
 use mathlib.Core.Bool.{Bool, false, not, true}
-use mathlib.Core.List.{List, [], _∷_}
+use mathlib.Core.List.{List}
 use mathlib.Core.Logic.{_↔_, _⊎_}
 use mathlib.Core.Path.{_≡_}
 use Prim.Native.Nat.{ℕ}
@@ -13,23 +14,15 @@ use Rattle.contracts.specs.Calls.{Call}
 use Rattle.operations.specs.Cz.{IsCz, cz}
 use Rattle.operations.specs.Gates.{gated}
 use Rattle.operations.specs.Measurement.{Measured, pauliLetter, single}
-use Rattle.operations.specs.Steps.{
-  Operation,
-  argumentLines,
-  complementOf,
-  czOn,
-  gateWith,
-  pivotOf,
-  pivotRecord,
-  session,
-}
+use Rattle.operations.specs.Steps.{Operation, complementOf, czOn, gateWith, measurementOf, pivotOf, pivotRecord}
 use Rattle.pauli.specs.Pauli.{Pauli}
 use Rattle.record.specs.Lent.{LentRecord, codeNumbers, heldRecord, heldRows, neighbourWords, recordLines}
 use Rattle.record.specs.Records.{GraphRecord, SameRecord, complementRecord, rowsOf}
 use Rattle.record.specs.Reduced.{reduced}
 use Rattle.stabilizer.specs.Carries.{Carries}
 use Rattle.stabilizer.specs.Groups.{InGroup, SameGroup}
-use Rattle.call_gates.specs.InPlaceCalls.{inPlaceCall, measureCall}
+use Rattle.call_gates.specs.InPlaceCalls.{inPlaceCall, measureCall, usedCall, usedMeasureCall}
+use Rattle.used.specs.Used.{UsedRecord, usedArgumentsOf, usedStep}
 use Rattle.words.specs.Bits.{isOdd}
 
 -- the record that a call leaves
@@ -104,22 +97,22 @@ MeasurementsFollow =
     MeasurementStands l pauli q b (left l nb′ cs′) answer′ determined′
 
 -- ---- contradicted outcomes: "where bit and sign differ, the call is refused and the record kept" (02, §4)
-pub record OutcomeContradicted (l : LentRecord) (pauli q b answer determined r : ℕ) (nb′ cs′ : List ℕ)
-    (answer′ determined′ : ℕ) : Type 0 where
+pub record OutcomeContradicted (u : UsedRecord) (pauli q b answer determined r : ℕ) (nb′ cs′ : List ℕ)
+    (used′ answer′ determined′ : ℕ) : Type 0 where
   -- 14 comes back exactly if no earlier line holds and the Pauli with the sign that the bit does not have is in the
   -- group
-  pub exactly : (r ≡ 14) ↔ ((firstFitting (argumentLines l pauli q b) ≡ 0)
-      × InGroup (l .n) (l .n) (heldRows l) (signedPauli pauli q (not (isOdd b))))
+  pub exactly : (r ≡ 14) ↔ ((firstFitting (usedArgumentsOf u (measurementOf pauli q b)) ≡ 0)
+      × InGroup (u .held .n) (u .held .n) (heldRows (u .held)) (signedPauli pauli q (not (isOdd b))))
   -- and nothing is written
-  pub record-kept : r ≡ 14 → left l nb′ cs′ ≡ l
+  pub record-kept : r ≡ 14 → (left (u .held) nb′ cs′ ≡ u .held) × (used′ ≡ u .used)
   pub answers-kept : r ≡ 14 → (answer′ ≡ answer) × (determined′ ≡ determined)
 
 -- of every call, with any number
 abbrev pub ContradictionsRefused : Type 0
 ContradictionsRefused =
-    (l : LentRecord) (pauli q b answer determined r : ℕ) (nb′ cs′ : List ℕ) (answer′ determined′ : ℕ) →
-    Call (measureCall l pauli q b answer determined nb′ cs′ answer′ determined′) r →
-    OutcomeContradicted l pauli q b answer determined r nb′ cs′ answer′ determined′
+    (u : UsedRecord) (pauli q b answer determined r : ℕ) (nb′ cs′ : List ℕ) (used′ answer′ determined′ : ℕ) →
+    Call (usedMeasureCall u pauli q b answer determined nb′ cs′ used′ answer′ determined′) r →
+    OutcomeContradicted u pauli q b answer determined r nb′ cs′ used′ answer′ determined′
 
 -- ---- "As a rewriting of a record it keeps the group, and the answer is the record so rewritten, not reduced"
 pub record RewrittenAs (l after : LentRecord) (new : GraphRecord) : Type 0 where
@@ -140,6 +133,7 @@ PivotsKeep = (l : LentRecord) (j k : ℕ) (nb′ cs′ : List ℕ) → Call (inP
 -- ---- two calls, refused or not: the second is about what the first left
 abbrev pub SecondAboutFirst : Type 0
 SecondAboutFirst =
-    (l : LentRecord) (o₁ o₂ : Operation) (r₁ r₂ : ℕ) (nb₁ cs₁ nb₂ cs₂ : List ℕ) →
-    Call (inPlaceCall l o₁ nb₁ cs₁) r₁ → Call (inPlaceCall (left l nb₁ cs₁) o₂ nb₂ cs₂) r₂ →
-    left l nb₂ cs₂ ≡ session l (o₁ ∷ o₂ ∷ [])
+    (u : UsedRecord) (o₁ o₂ : Operation) (r₁ r₂ : ℕ) (nb₁ cs₁ nb₂ cs₂ : List ℕ) →
+    Call (usedCall u o₁ nb₁ cs₁) r₁ →
+    Call (usedCall (record { held = left (u .held) nb₁ cs₁; used = (usedStep u o₁) .after .used }) o₂ nb₂ cs₂) r₂ →
+    left (u .held) nb₂ cs₂ ≡ (usedStep ((usedStep u o₁) .after) o₂) .after .held

@@ -24,6 +24,7 @@ use Rattle.record.specs.Reduced.{reduced}
 use Rattle.stabilizer.specs.Groups.{SameGroup}
 use Rattle.stabilizer.specs.Lists.{GeneratorList, rows}
 use Rattle.text.specs.Text.{HasForm, ListLine, TextOf, recordText, refusedText}
+use Rattle.used.specs.Used.{UsedRecord}
 use Rattle.words.specs.Bits.{isOdd}
 use Rattle.claims.specs.JobDemand.{StandsFor}
 use Rattle.claims.specs.OperationsDemand.{IsReduced, StillRecord}
@@ -38,9 +39,9 @@ reducedRecord l =
       codes = codeNumbers (l .n) (reduced (l .n) (rows l));
     }
 
--- an accepted list: the record printed is the reduced one, and stands for the list's group
+-- an accepted list: the record printed is the reduced one, with the used word 0, and stands for the list's group
 pub record RecordPrinted (l : GeneratorList) (bytes : List ℕ) : Type 0 where
-  pub printed : bytes ≡ recordText (l .n) ((reducedRecord l) .neighbours) ((reducedRecord l) .codes)
+  pub printed : bytes ≡ recordText (l .n) ((reducedRecord l) .neighbours) ((reducedRecord l) .codes) 0
   pub still : StillRecord (reducedRecord l)
   pub is-reduced : IsReduced (reducedRecord l)
   pub group : SameGroup (l .n) (l .n) (rows l) (heldRows (reducedRecord l))
@@ -79,21 +80,20 @@ OutcomeIs G (measurementOf pauli q b) v =
 OutcomeIs G (complementOf a) v = v ≡ 0
 OutcomeIs G (pivotOf j k) v = v ≡ 0
 
--- what is printed of the step s, which meets the group G and the record l that stands for it
-pub record LineSays (l : LentRecord) (G : Pauli → Type 0) (s : Step) (r : Result) : Type 0 where
+-- what is printed of the step s, which meets the group G and the record u that stands for it
+pub record LineSays (u : UsedRecord) (G : Pauli → Type 0) (s : Step) (r : Result) : Type 0 where
   -- the step's number, which is not 0 exactly if the fields or the group refuse the step
-  pub number : r .refusal ≡ numberOf l s
-  pub refused : (r .refusal ≡ 0 → ⊥) ↔ Refused l G s
+  pub number : r .refusal ≡ numberOf u s
+  pub refused : (r .refusal ≡ 0 → ⊥) ↔ Refused u G s
   -- determined is 1 exactly if the step is an accepted measurement and the Pauli or its negative is in the group
   pub either : (r .determined ≡ 0) ⊎ (r .determined ≡ 1)
-  pub determined : (r .determined ≡ 1) ↔ ((Refused l G s → ⊥) × Determines G (asked s))
-  pub outcome : (Refused l G s → ⊥) → OutcomeIs G (asked s) (r .outcome)
-  pub no-outcome : Refused l G s → r .outcome ≡ 0
+  pub determined : (r .determined ≡ 1) ↔ ((Refused u G s → ⊥) × Determines G (asked s))
+  pub outcome : (Refused u G s → ⊥) → OutcomeIs G (asked s) (r .outcome)
+  pub no-outcome : Refused u G s → r .outcome ≡ 0
 
 -- an accepted job: "one line per step with steps counted from 0, and then the record"
 pub record JobPrinted (n : ℕ) (steps : List Step) (bytes : List ℕ) : Type 0 where
-  pub printed : bytes ≡ jobAnswer (length steps) (resultsOf (started n) steps) n
-      ((run (started n) steps) .neighbours) ((run (started n) steps) .codes)
+  pub printed : bytes ≡ jobAnswer (length steps) (resultsOf (started n) steps) (run (started n) steps)
   -- the record printed stands for the group after all steps
   pub stands : StandsFor (run (started n) steps) (GroupAfter (started n) (StartGroup n) steps)
   -- line k is about the group after the first k steps

@@ -10,7 +10,9 @@ use Rattle.contracts.specs.Calls.{Call}
 use Rattle.record.specs.Lent.{LentRecord, heldRows}
 use Rattle.stabilizer.specs.Groups.{SameGroup}
 use Rattle.stabilizer.specs.Lists.{GeneratorList, rows}
-use Rattle.call_lists.specs.Calls.{checkLines, expandCall, reduceCall}
+use Rattle.call_expand.specs.Expanding.{expandCall}
+use Rattle.call_lists.specs.Calls.{checkLines, reduceCall}
+use Rattle.used.specs.Used.{UsedRecord}
 
 -- "a generator list and its reduced record stand for the same group"
 abbrev pub ReductionKeepsGroup : Type 0
@@ -28,8 +30,12 @@ pub record BroughtBack (l : LentRecord) (back : GeneratorList) : Type 0 where
 -- of every accepted call
 abbrev pub ExpansionBringsBack : Type 0
 ExpansionBringsBack =
-    (l : LentRecord) (s z x s′ z′ x′ : List ℕ) → Call (expandCall l s z x s′ z′ x′) 0 →
-    BroughtBack l (record { n = l .n; signs = s′; z = z′; x = x′ })
+    (u : UsedRecord) (s z x s′ z′ x′ : List ℕ) → Call (expandCall u s z x s′ z′ x′) 0 →
+    BroughtBack (u .held) (record { n = u .held .n; signs = s′; z = z′; x = x′ })
+
+-- "a record made from a list has the word 0" of used qubits (02, §8)
+abbrev pub unused : ℕ → List ℕ → List ℕ → UsedRecord
+unused n nb cs = record { held = record { n = n; neighbours = nb; codes = cs }; used = 0 }
 
 -- "two accepted lists reduce to equal records exactly if their groups are equal"
 abbrev pub EqualExactly : Type 0
@@ -53,7 +59,7 @@ abbrev pub ReducesToItself : Type 0
 ReducesToItself =
     (l : GeneratorList) (nb cs nb′ cs′ s z x s′ z′ x′ nb₂ cs₂ nb₂′ cs₂′ : List ℕ)
     → Call (reduceCall l nb cs nb′ cs′) 0 →
-    Call (expandCall (record { n = l .n; neighbours = nb′; codes = cs′ }) s z x s′ z′ x′) 0 →
+    Call (expandCall (unused (l .n) nb′ cs′) s z x s′ z′ x′) 0 →
     Call (reduceCall (record { n = l .n; signs = s′; z = z′; x = x′ }) nb₂ cs₂ nb₂′ cs₂′) 0 →
     (nb₂′ ≡ nb′) × (cs₂′ ≡ cs′)
 

@@ -13,15 +13,17 @@ use Rattle.comparison.specs.Compared.{pairLines}
 use Rattle.call_cut.specs.Cuts.{cutCall}
 use Rattle.call_generate.specs.Generation.{generateCall}
 use Rattle.call_image.specs.Images.{imageCall}
-use Rattle.call_lists.specs.Calls.{checkCall, expandCall, reduceCall}
-use Rattle.operations.specs.Steps.{complementOf, czOn, gateWith, pivotOf, pivotRecord}
+use Rattle.call_expand.specs.Expanding.{expandCall}
+use Rattle.call_lists.specs.Calls.{checkCall, reduceUnusedCall}
+use Rattle.operations.specs.Steps.{complementOf, czOn, gateWith, measurementOf, pivotOf, pivotRecord}
 use Rattle.call_product.specs.Products.{productCall}
 use Rattle.call_strings.specs.StringCalls.{readStringsCall, writeStringsCall}
 use Rattle.record.specs.Lent.{LentRecord, heldRecord, heldRows, recordLines}
 use Rattle.record.specs.Records.{complementRecord}
-use Rattle.call_gates.specs.InPlaceCalls.{inPlaceCall, measureCall}
+use Rattle.call_gates.specs.InPlaceCalls.{usedCall, usedMeasureCall}
 use Rattle.stabilizer.specs.Groups.{SameGroup}
 use Rattle.stabilizer.specs.Lists.{GeneratorList, rows}
+use Rattle.used.specs.Used.{UsedRecord}
 use Rattle.words.specs.Bits.{Word}
 use Rattle.claims.specs.AcceptedCalls.{
   CompareFits,
@@ -29,6 +31,7 @@ use Rattle.claims.specs.AcceptedCalls.{
   CutFits,
   CzFits,
   ExpandFits,
+  Free,
   GateFits,
   GenerateFits,
   ImageFits,
@@ -66,6 +69,7 @@ use Rattle.claims.specs.SessionDemand.{
 }
 use Rattle.claims.specs.StringsDemand.{FormTold, ListComesBack, TextComesBack, listLeft}
 use Rattle.claims.specs.ThirdDemand.{AcceptedPair, Decided}
+use Rattle.claims.specs.UsedDemand.{MadeUnused, SixteenExactly, UsedCopied, UsedMarked}
 
 -- sukhlent_check: demand 1
 pub record CheckSays (l : GeneratorList) (r : ℕ) : Type 0 where
@@ -74,61 +78,75 @@ pub record CheckSays (l : GeneratorList) (r : ℕ) : Type 0 where
   pub tells : Checked l r
 
 -- sukhlent_reduce: demands 1 and 2, and that reduced codes are among 0, 2, 4, 6, 8 and 10
-pub record ReduceSays (l : GeneratorList) (nb cs nb′ cs′ : List ℕ) (r : ℕ) : Type 0 where
-  pub answered : Answered (reduceCall l nb cs nb′ cs′) r
+pub record ReduceSays (l : GeneratorList) (nb cs : List ℕ) (used : ℕ) (nb′ cs′ : List ℕ) (used′ r : ℕ) : Type
+    0 where
+  pub answered : Answered (reduceUnusedCall l nb cs used nb′ cs′ used′) r
   pub accepted : (r ≡ 0) ↔ ReduceFits l nb cs
   pub group : r ≡ 0 →
       SameGroup (l .n) (l .n) (rows l) (heldRows (record { n = l .n; neighbours = nb′; codes = cs′ }))
   pub form : r ≡ 0 → ReducedTo l (record { n = l .n; neighbours = nb′; codes = cs′ })
   pub codes : r ≡ 0 → (q : ℕ) → q < l .n → (i : ℕ) × (i < 6) × (getD cs′ q 0 ≡ 2 * i)
+  pub unused : r ≡ 0 → MadeUnused l nb′ cs′ used′
 
 -- sukhlent_expand: demands 1 and 2
-pub record ExpandSays (l : LentRecord) (s z x s′ z′ x′ : List ℕ) (r : ℕ) : Type 0 where
-  pub answered : Answered (expandCall l s z x s′ z′ x′) r
-  pub accepted : (r ≡ 0) ↔ ExpandFits l s z x
-  pub group : r ≡ 0 → BroughtBack l (record { n = l .n; signs = s′; z = z′; x = x′ })
+pub record ExpandSays (u : UsedRecord) (s z x s′ z′ x′ : List ℕ) (r : ℕ) : Type 0 where
+  pub answered : Answered (expandCall u s z x s′ z′ x′) r
+  pub accepted : (r ≡ 0) ↔ ExpandFits u s z x
+  pub group : r ≡ 0 → BroughtBack (u .held) (record { n = u .held .n; signs = s′; z = z′; x = x′ })
 
 -- sukhlent_gate: demands 1 and 2, and ranks across cuts (02, §1)
-pub record GateSays (l : LentRecord) (q k : ℕ) (nb′ cs′ : List ℕ) (r : ℕ) : Type 0 where
-  pub answered : Answered (inPlaceCall l (gateWith q k) nb′ cs′) r
-  pub accepted : (r ≡ 0) ↔ GateFits l q k
-  pub group : r ≡ 0 → GateStands l q k (left l nb′ cs′)
-  pub ranks : r ≡ 0 → (side : Word) → rankAcross side (left l nb′ cs′) ≡ rankAcross side l
-  pub by-expanding : r ≡ 0 → ByExpanding l (gateChange (l .n) q k) nb′ cs′
-  pub number-by-expanding : q < l .n → k < 24 → NumberByExpanding l r
+pub record GateSays (u : UsedRecord) (q k : ℕ) (nb′ cs′ : List ℕ) (r : ℕ) : Type 0 where
+  pub answered : Answered (usedCall u (gateWith q k) nb′ cs′) r
+  pub accepted : (r ≡ 0) ↔ GateFits u q k
+  pub group : r ≡ 0 → GateStands (u .held) q k (left (u .held) nb′ cs′)
+  pub ranks : r ≡ 0 → (side : Word) → rankAcross side (left (u .held) nb′ cs′) ≡ rankAcross side (u .held)
+  pub by-expanding : r ≡ 0 → ByExpanding u (gateChange (u .held .n) q k) nb′ cs′
+  pub number-by-expanding : Free u q → k < 24 → NumberByExpanding u r
+  pub copied : r ≡ 0 → UsedCopied u nb′ cs′
+  pub refused : SixteenExactly u (gateWith q k) r
 
 -- sukhlent_cz: demands 1 and 2, and ranks across cuts (02, §1)
-pub record CzSays (l : LentRecord) (a b : ℕ) (nb′ cs′ : List ℕ) (r : ℕ) : Type 0 where
-  pub answered : Answered (inPlaceCall l (czOn a b) nb′ cs′) r
-  pub accepted : (r ≡ 0) ↔ CzFits l a b
-  pub group : r ≡ 0 → CzStands l a b (left l nb′ cs′)
-  pub ranks : r ≡ 0 → (side : Word) → side a ≡ side b → rankAcross side (left l nb′ cs′) ≡ rankAcross side l
-  pub by-expanding : r ≡ 0 → ByExpanding l (czChange a b) nb′ cs′
-  pub number-by-expanding : a < l .n → b < l .n → a ≢ b → NumberByExpanding l r
+pub record CzSays (u : UsedRecord) (a b : ℕ) (nb′ cs′ : List ℕ) (r : ℕ) : Type 0 where
+  pub answered : Answered (usedCall u (czOn a b) nb′ cs′) r
+  pub accepted : (r ≡ 0) ↔ CzFits u a b
+  pub group : r ≡ 0 → CzStands (u .held) a b (left (u .held) nb′ cs′)
+  pub ranks : r ≡ 0 → (side : Word) → side a ≡ side b →
+      rankAcross side (left (u .held) nb′ cs′) ≡ rankAcross side (u .held)
+  pub by-expanding : r ≡ 0 → ByExpanding u (czChange a b) nb′ cs′
+  pub number-by-expanding : Free u a → Free u b → a ≢ b → NumberByExpanding u r
+  pub copied : r ≡ 0 → UsedCopied u nb′ cs′
+  pub refused : SixteenExactly u (czOn a b) r
 
 -- sukhlent_complement: demand 1, the record of the rule with the same group, and ranks across cuts
-pub record ComplementSays (l : LentRecord) (a : ℕ) (nb′ cs′ : List ℕ) (r : ℕ) : Type 0 where
-  pub answered : Answered (inPlaceCall l (complementOf a) nb′ cs′) r
-  pub accepted : (r ≡ 0) ↔ ComplementFits l a
-  pub group : r ≡ 0 → RewrittenAs l (left l nb′ cs′) (complementRecord (heldRecord l) a)
-  pub ranks : r ≡ 0 → (side : Word) → rankAcross side (left l nb′ cs′) ≡ rankAcross side l
+pub record ComplementSays (u : UsedRecord) (a : ℕ) (nb′ cs′ : List ℕ) (r : ℕ) : Type 0 where
+  pub answered : Answered (usedCall u (complementOf a) nb′ cs′) r
+  pub accepted : (r ≡ 0) ↔ ComplementFits u a
+  pub group : r ≡ 0 →
+      RewrittenAs (u .held) (left (u .held) nb′ cs′) (complementRecord (heldRecord (u .held)) a)
+  pub ranks : r ≡ 0 → (side : Word) → rankAcross side (left (u .held) nb′ cs′) ≡ rankAcross side (u .held)
+  pub copied : r ≡ 0 → UsedCopied u nb′ cs′
+  pub refused : SixteenExactly u (complementOf a) r
 
 -- sukhlent_pivot: demand 1, the record of the rule with the same group, and ranks across cuts
-pub record PivotSays (l : LentRecord) (j k : ℕ) (nb′ cs′ : List ℕ) (r : ℕ) : Type 0 where
-  pub answered : Answered (inPlaceCall l (pivotOf j k) nb′ cs′) r
-  pub accepted : (r ≡ 0) ↔ PivotFits l j k
-  pub group : r ≡ 0 → RewrittenAs l (left l nb′ cs′) (pivotRecord (heldRecord l) j k)
-  pub ranks : r ≡ 0 → (side : Word) → rankAcross side (left l nb′ cs′) ≡ rankAcross side l
+pub record PivotSays (u : UsedRecord) (j k : ℕ) (nb′ cs′ : List ℕ) (r : ℕ) : Type 0 where
+  pub answered : Answered (usedCall u (pivotOf j k) nb′ cs′) r
+  pub accepted : (r ≡ 0) ↔ PivotFits u j k
+  pub group : r ≡ 0 → RewrittenAs (u .held) (left (u .held) nb′ cs′) (pivotRecord (heldRecord (u .held)) j k)
+  pub ranks : r ≡ 0 → (side : Word) → rankAcross side (left (u .held) nb′ cs′) ≡ rankAcross side (u .held)
+  pub copied : r ≡ 0 → UsedCopied u nb′ cs′
+  pub never : r ≢ 16
 
 -- sukhlent_measure: demands 1 and 2, and contradicted outcomes (02, §4)
-pub record MeasureSays (l : LentRecord) (pauli q b answer determined : ℕ) (nb′ cs′ : List ℕ)
-    (answer′ determined′ r : ℕ) : Type 0 where
-  pub answered : Answered (measureCall l pauli q b answer determined nb′ cs′ answer′ determined′) r
-  pub accepted : (r ≡ 0) ↔ MeasureFits l pauli q b
-  pub group : r ≡ 0 → MeasurementStands l pauli q b (left l nb′ cs′) answer′ determined′
-  pub contradicted : OutcomeContradicted l pauli q b answer determined r nb′ cs′ answer′ determined′
-  pub by-expanding : r ≡ 0 → MeasuredByExpanding l pauli q b nb′ cs′ answer′ determined′
-  pub number-by-expanding : 1 ≤ pauli → pauli ≤ 3 → q < l .n → b < 2 → MeasureNumberByExpanding l pauli q b r
+pub record MeasureSays (u : UsedRecord) (pauli q b answer determined : ℕ) (nb′ cs′ : List ℕ)
+    (used′ answer′ determined′ r : ℕ) : Type 0 where
+  pub answered : Answered (usedMeasureCall u pauli q b answer determined nb′ cs′ used′ answer′ determined′) r
+  pub accepted : (r ≡ 0) ↔ MeasureFits u pauli q b
+  pub group : r ≡ 0 → MeasurementStands (u .held) pauli q b (left (u .held) nb′ cs′) answer′ determined′
+  pub contradicted : OutcomeContradicted u pauli q b answer determined r nb′ cs′ used′ answer′ determined′
+  pub by-expanding : r ≡ 0 → MeasuredByExpanding u pauli q b nb′ cs′ answer′ determined′
+  pub number-by-expanding : 1 ≤ pauli → pauli ≤ 3 → Free u q → b < 2 → MeasureNumberByExpanding u pauli q b r
+  pub marked : r ≡ 0 → UsedMarked u pauli q b nb′ cs′ used′ answer′
+  pub refused : SixteenExactly u (measurementOf pauli q b) r
 
 -- sukhlent_compare: demands 1 and 3, and refusal 3 (02, §9)
 pub record CompareSays (l m : GeneratorList) (choice list : List ℕ) (count : ℕ) (choice′ list′ : List ℕ)
@@ -151,10 +169,10 @@ pub record ImageSays (l : LentRecord) (image signs list : List ℕ) (count : ℕ
       || (otherThan (l .n) signs || otherThan 96 list)) false) ≡ 0 → ImageDecided l list r image′ signs′ list′ count′
 
 -- sukhlent_cut: demand 1; the answer is the rank by its contract
-pub record CutSays (l : LentRecord) (side rank rank′ r : ℕ) : Type 0 where
-  pub answered : Answered (cutCall l side rank rank′) r
-  pub accepted : (r ≡ 0) ↔ CutFits l side
-  pub answer : r ≡ 0 → CutAnswer l side rank′
+pub record CutSays (u : UsedRecord) (side rank rank′ r : ℕ) : Type 0 where
+  pub answered : Answered (cutCall u side rank rank′) r
+  pub accepted : (r ≡ 0) ↔ CutFits u side
+  pub answer : r ≡ 0 → CutAnswer (u .held) side rank′
 
 -- sukhlent_product: demand 1; the answer is the product by its contract
 pub record ProductSays (l : GeneratorList) (chosen z x phase z′ x′ phase′ r : ℕ) : Type 0 where

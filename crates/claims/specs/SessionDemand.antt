@@ -1,6 +1,7 @@
 -- The request on faster sessions, of the public calls: "For every record the answer equals the one from expanding,
 -- changing the list and reducing" (02, §7): of an accepted call, whose number is 0, what the two buffers nb′, cs′ hold
--- at exit; and of every call its number.
+-- at exit; and of every call its number. "§7's equality is of graph and codes" (02, §8): the record is expanded with its
+-- used word, and reducing answers the word 0.
 use mathlib.Core.List.{_++_, List, [], _∷_}
 use mathlib.Core.Logic.{_≢_}
 use mathlib.Core.Path.{_≡_}
@@ -10,7 +11,8 @@ use Rattle.buffers.specs.Refusals.{firstFitting, line}
 use Rattle.clifford.specs.Clifford.{cliffordOf}
 use Rattle.clifford.specs.Vectors.{act, only}
 use Rattle.contracts.specs.Calls.{Call}
-use Rattle.call_lists.specs.Calls.{expandCall, expandLines, reduceCall, reduceLines}
+use Rattle.call_expand.specs.Expanding.{expandCall, expandLines}
+use Rattle.call_lists.specs.Calls.{reduceCall, reduceLines}
 use Rattle.operations.specs.Cz.{cz}
 use Rattle.operations.specs.Measurement.{
   measuredOutcome,
@@ -22,11 +24,12 @@ use Rattle.operations.specs.Measurement.{
 }
 use Rattle.operations.specs.Steps.{czOn, gateWith}
 use Rattle.pauli.specs.Pauli.{Pauli}
-use Rattle.record.specs.Lent.{LentRecord}
-use Rattle.call_gates.specs.InPlaceCalls.{inPlaceCall, measureCall}
+use Rattle.call_gates.specs.InPlaceCalls.{usedCall, usedMeasureCall}
 use Rattle.stabilizer.specs.Groups.{SameGroup}
 use Rattle.stabilizer.specs.Lists.{GeneratorList, listOf, rows}
+use Rattle.used.specs.Used.{UsedRecord}
 use Rattle.words.specs.Bits.{isOdd}
+use Rattle.claims.specs.AcceptedCalls.{Free}
 
 -- ---- changing a list: what each operation makes of the generators R
 abbrev pub Change : Type 0
@@ -71,67 +74,67 @@ pub record ReducesTo (m : GeneratorList) (f : (ℕ → Pauli) → ℕ → Pauli)
       Call (reduceCall (listIn (m .n) s z x) nb cs nb₂ cs₂) 0 → (nb₂ ≡ nb′) × (cs₂ ≡ cs′)
 
 -- the answer nb′, cs′ of a call "equals the one from expanding, changing the list and reducing"
-pub record ByExpanding (l : LentRecord) (f : (ℕ → Pauli) → ℕ → Pauli) (nb′ cs′ : List ℕ) : Type 0 where
+pub record ByExpanding (u : UsedRecord) (f : (ℕ → Pauli) → ℕ → Pauli) (nb′ cs′ : List ℕ) : Type 0 where
   -- no line refuses to expand the record into three buffers with n places
-  pub accepted : (s z x : List ℕ) → length s ≡ l .n → length z ≡ l .n → length x ≡ l .n →
-      firstFitting (expandLines l s z x) ≡ 0
+  pub accepted : (s z x : List ℕ) → length s ≡ u .held .n → length z ≡ u .held .n → length x ≡ u .held .n →
+      firstFitting (expandLines u s z x) ≡ 0
   -- and what they then hold, changed and reduced, leaves nb′, cs′
-  pub equal : (s z x s′ z′ x′ : List ℕ) → Call (expandCall l s z x s′ z′ x′) 0 →
-      ReducesTo (listIn (l .n) s′ z′ x′) f nb′ cs′
+  pub equal : (s z x s′ z′ x′ : List ℕ) → Call (expandCall u s z x s′ z′ x′) 0 →
+      ReducesTo (listIn (u .held .n) s′ z′ x′) f nb′ cs′
 
 -- ---- of each call
 abbrev pub GatesByExpanding : Type 0
-GatesByExpanding = (l : LentRecord) (q k : ℕ) (nb′ cs′ : List ℕ) → Call (inPlaceCall l (gateWith q k) nb′ cs′) 0 →
-    ByExpanding l (gateChange (l .n) q k) nb′ cs′
+GatesByExpanding = (u : UsedRecord) (q k : ℕ) (nb′ cs′ : List ℕ) → Call (usedCall u (gateWith q k) nb′ cs′) 0 →
+    ByExpanding u (gateChange (u .held .n) q k) nb′ cs′
 
 -- of every accepted CZ
 abbrev pub CzByExpanding : Type 0
-CzByExpanding = (l : LentRecord) (a b : ℕ) (nb′ cs′ : List ℕ) → Call (inPlaceCall l (czOn a b) nb′ cs′) 0 →
-    ByExpanding l (czChange a b) nb′ cs′
+CzByExpanding = (u : UsedRecord) (a b : ℕ) (nb′ cs′ : List ℕ) → Call (usedCall u (czOn a b) nb′ cs′) 0 →
+    ByExpanding u (czChange a b) nb′ cs′
 
 -- a measurement: besides, its two further numbers are those that the list gives
-pub record MeasuredByExpanding (l : LentRecord) (pauli q b : ℕ) (nb′ cs′ : List ℕ) (answer′ determined′ : ℕ) : Type
+pub record MeasuredByExpanding (u : UsedRecord) (pauli q b : ℕ) (nb′ cs′ : List ℕ) (answer′ determined′ : ℕ) : Type
     0 where
-  pub left : ByExpanding l (measureChange (l .n) pauli q b) nb′ cs′
-  pub outcome : (s z x s′ z′ x′ : List ℕ) → Call (expandCall l s z x s′ z′ x′) 0 →
-      answer′ ≡ outcomeNumber (measuredOutcome (l .n) (rows (listIn (l .n) s′ z′ x′)) (pauliLetter pauli) q (isOdd b))
-  pub determined : (s z x s′ z′ x′ : List ℕ) → Call (expandCall l s z x s′ z′ x′) 0 →
-      determined′ ≡ determinedNumber (measuredOutcome (l .n) (rows (listIn (l .n) s′ z′ x′)) (pauliLetter pauli) q (isOdd b))
+  pub left : ByExpanding u (measureChange (u .held .n) pauli q b) nb′ cs′
+  pub outcome : (s z x s′ z′ x′ : List ℕ) → Call (expandCall u s z x s′ z′ x′) 0 → answer′ ≡ outcomeNumber
+      (measuredOutcome (u .held .n) (rows (listIn (u .held .n) s′ z′ x′)) (pauliLetter pauli) q (isOdd b))
+  pub determined : (s z x s′ z′ x′ : List ℕ) → Call (expandCall u s z x s′ z′ x′) 0 → determined′ ≡ determinedNumber
+      (measuredOutcome (u .held .n) (rows (listIn (u .held .n) s′ z′ x′)) (pauliLetter pauli) q (isOdd b))
 
 -- of every accepted measurement
 abbrev pub MeasurementsByExpanding : Type 0
 MeasurementsByExpanding =
-    (l : LentRecord) (pauli q b answer determined : ℕ) (nb′ cs′ : List ℕ) (answer′ determined′ : ℕ) →
-    Call (measureCall l pauli q b answer determined nb′ cs′ answer′ determined′) 0 →
-    MeasuredByExpanding l pauli q b nb′ cs′ answer′ determined′
+    (u : UsedRecord) (pauli q b answer determined : ℕ) (nb′ cs′ : List ℕ) (used′ answer′ determined′ : ℕ) →
+    Call (usedMeasureCall u pauli q b answer determined nb′ cs′ used′ answer′ determined′) 0 →
+    MeasuredByExpanding u pauli q b nb′ cs′ answer′ determined′
 
 -- ---- the number of a call whose arguments are in order: that of expanding the record into three buffers with n places
-pub record NumberByExpanding (l : LentRecord) (r : ℕ) : Type 0 where
-  pub equal : (s z x s′ z′ x′ : List ℕ) (e : ℕ) → length s ≡ l .n → length z ≡ l .n → length x ≡ l .n →
-      Call (expandCall l s z x s′ z′ x′) e → r ≡ e
+pub record NumberByExpanding (u : UsedRecord) (r : ℕ) : Type 0 where
+  pub equal : (s z x s′ z′ x′ : List ℕ) (e : ℕ) → length s ≡ u .held .n → length z ≡ u .held .n →
+      length x ≡ u .held .n → Call (expandCall u s z x s′ z′ x′) e → r ≡ e
 
 -- of every gate with a code on a qubit
 abbrev pub GateNumbersByExpanding : Type 0
 GateNumbersByExpanding =
-    (l : LentRecord) (q k r : ℕ) (nb′ cs′ : List ℕ) → q < l .n → k < 24 →
-    Call (inPlaceCall l (gateWith q k) nb′ cs′) r → NumberByExpanding l r
+    (u : UsedRecord) (q k r : ℕ) (nb′ cs′ : List ℕ) → Free u q → k < 24 →
+    Call (usedCall u (gateWith q k) nb′ cs′) r → NumberByExpanding u r
 
 -- of every CZ on two qubits
 abbrev pub CzNumbersByExpanding : Type 0
 CzNumbersByExpanding =
-    (l : LentRecord) (a b r : ℕ) (nb′ cs′ : List ℕ) → a < l .n → b < l .n → a ≢ b →
-    Call (inPlaceCall l (czOn a b) nb′ cs′) r → NumberByExpanding l r
+    (u : UsedRecord) (a b r : ℕ) (nb′ cs′ : List ℕ) → Free u a → Free u b → a ≢ b →
+    Call (usedCall u (czOn a b) nb′ cs′) r → NumberByExpanding u r
 
 -- of a measurement, where expanding is accepted: 14 where the list's outcome contradicts the bit
-pub record MeasureNumberByExpanding (l : LentRecord) (pauli q b r : ℕ) : Type 0 where
-  pub equal : (s z x s′ z′ x′ : List ℕ) (e : ℕ) → length s ≡ l .n → length z ≡ l .n → length x ≡ l .n →
-      Call (expandCall l s z x s′ z′ x′) e → r ≡ firstFitting (expandLines l s z x
-      ++ (line 14 (contradicts (l .n) (rows (listIn (l .n) s′ z′ x′)) (pauliLetter pauli) q (isOdd b)) ∷ []))
+pub record MeasureNumberByExpanding (u : UsedRecord) (pauli q b r : ℕ) : Type 0 where
+  pub equal : (s z x s′ z′ x′ : List ℕ) (e : ℕ) → length s ≡ u .held .n → length z ≡ u .held .n →
+      length x ≡ u .held .n → Call (expandCall u s z x s′ z′ x′) e → r ≡ firstFitting (expandLines u s z x
+      ++ (line 14 (contradicts (u .held .n) (rows (listIn (u .held .n) s′ z′ x′)) (pauliLetter pauli) q (isOdd b)) ∷ []))
 
 -- of every measurement of a Pauli on a qubit, with a bit
 abbrev pub MeasureNumbersByExpanding : Type 0
 MeasureNumbersByExpanding =
-    (l : LentRecord) (pauli q b answer determined r : ℕ) (nb′ cs′ : List ℕ) (answer′ determined′ : ℕ) →
-    1 ≤ pauli → pauli ≤ 3 → q < l .n → b < 2 →
-    Call (measureCall l pauli q b answer determined nb′ cs′ answer′ determined′) r →
-    MeasureNumberByExpanding l pauli q b r
+    (u : UsedRecord) (pauli q b answer determined r : ℕ) (nb′ cs′ : List ℕ) (used′ answer′ determined′ : ℕ) →
+    1 ≤ pauli → pauli ≤ 3 → Free u q → b < 2 →
+    Call (usedMeasureCall u pauli q b answer determined nb′ cs′ used′ answer′ determined′) r →
+    MeasureNumberByExpanding u pauli q b r

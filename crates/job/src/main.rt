@@ -41,7 +41,7 @@ fn respond(out: &mut [u8]) -> usize
 }
 
 fn main() {
-    let mut out = [0u8; 58880];
+    let mut out = [0u8; 59008];
     let end = respond(&mut out);
     io::write_all(STDOUT_FILENO, &out[..end]);
 }

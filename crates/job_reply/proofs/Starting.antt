@@ -1,6 +1,6 @@
 -- The run of a job from its start, and the print of it.
 use mathlib.Core.List.{List, _++_, _∷_}
-use mathlib.Core.Path.{_∙_, _≡_, ap, ap₂, refl, subst, sym}
+use mathlib.Core.Path.{_∙_, _≡_, ap, refl, subst, sym}
 use Prim.Native.Nat.{_*_, _+_, _<_, _≤_, suc, zero, ℕ}
 use native.Mathlib.Nat.{le-of-suc-le-suc, not-suc-le-zero}
 use native.Mathlib.Omega.{arith}
@@ -10,12 +10,13 @@ use Rattle.job_text.proofs.ResultLaws.{length-results}
 use Rattle.job_text.specs.Answer.{runText, resultsOf}
 use Rattle.job_text.specs.Results.{jobAnswer, resultLines, resultNames}
 use Rattle.jobs.proofs.Printing.{run-sized, started-sized}
+use Rattle.jobs.proofs.Stepwise.{run-qubits}
 use Rattle.jobs.specs.Runs.{started}
 use Rattle.jobs.specs.declared.Step.{Step}
-use Rattle.record.specs.Lent.{LentRecord}
 use Rattle.text.proofs.Writing.{and-then, length-written}
 use Rattle.text.specs.internal.Text.{Printable}
 use Rattle.text.specs.Text.{Printed, recordText}
+use Rattle.used.specs.Used.{UsedRecord}
 use Rattle.jobs_run.specs.internal.StepsRun.{StepsRun}
 use Rattle.job_reply.specs.internal.Room.{Fresh}
 use Rattle.job_reply.specs.Room.{longest}
@@ -44,14 +45,15 @@ fresh n count out upto few room =
     }
 
 module _ (n : ℕ) (nb cs : List ℕ) (count : ℕ) (steps : List Step) (few : length steps ≡ count) (before : List ℕ)
-    (F : Fresh n nb cs count before) (nb′ cs′ out : List ℕ) (at : ℕ)
-    (R : StepsRun (record { n = n; neighbours = nb; codes = cs }) steps nb′ cs′ before out at) where
+    (F : Fresh n nb cs count before) (nb′ cs′ : List ℕ) (used′ : ℕ) (out : List ℕ) (at : ℕ)
+    (R : StepsRun (record { held = record { n = n; neighbours = nb; codes = cs }; used = 0 }) steps nb′ cs′ used′ before
+    out at) where
   -- the record at the start
-  start : _≡_ {A = LentRecord} (record { n = n; neighbours = nb; codes = cs }) (started n)
-  start = λ i. record { n = n; neighbours = F .no-edge i; codes = F .eights i }
+  start : _≡_ {A = UsedRecord} (record { held = record { n = n; neighbours = nb; codes = cs }; used = 0 }) (started n)
+  start = λ i. record { held = record { n = n; neighbours = F .no-edge i; codes = F .eights i }; used = 0 }
 
-  ran : StepsRun (started n) steps nb′ cs′ before out at
-  ran = subst (λ l. StepsRun l steps nb′ cs′ before out at) start R
+  ran : StepsRun (started n) steps nb′ cs′ used′ before out at
+  ran = subst (λ u. StepsRun u steps nb′ cs′ used′ before out at) start R
 
   abbrev lines : List ℕ
   lines = resultNames ++ resultLines (length steps) (resultsOf (started n) steps)
@@ -84,9 +86,10 @@ module _ (n : ℕ) (nb cs : List ℕ) (count : ℕ) (steps : List Step) (few : l
         );
       }
 
-  pub all-printed : (out′ : List ℕ) (r : ℕ) → Printed (recordText n nb′ cs′) at out out′ r
+  pub all-printed : (out′ : List ℕ) (r : ℕ) → Printed (recordText n nb′ cs′ used′) at out out′ r
       → Printed (runText n steps) 0 before out′ r
   unfolding jobAnswer
   all-printed out′ r P =
       and-then (omega (arith, short, F .room)) (ran .out)
-      (subst (λ t. Printed t at out out′ r) (ap₂ (recordText n) (ran .words) (ran .numbers)) P)
+      (subst (λ t. Printed t at out out′ r)
+      (λ i. recordText (sym (run-qubits (started n) steps) i) (ran .words i) (ran .numbers i) (ran .marks i)) P)

@@ -4,4 +4,4 @@ use Rattle.jobs_run.specs.StepsRun.{linesRoom}
 
 -- room for every answer: the names, 4,096 lines and the record of 64 qubits
 abbrev pub longest : ℕ
-longest = linesRoom + 22 + 64 * 23
+longest = linesRoom + 27 + 64 * 25

@@ -28,8 +28,9 @@ fn print_run(
     requires { ⌜ Fresh n (now neighbours) (now codes) count (now out) ⌝ }
     ensures { λ r. ⌜ Printed (runText n (take count steps)) 0 (now (out .entry)) (now (out .exit)) r ⌝ }
 {
-    let at = run_steps(n as u64, neighbours, codes, count, steps, out);
-    print_record(n, neighbours, codes, at, out)
+    let mut used = 0;
+    let at = run_steps(n as u64, neighbours, codes, &mut used, count, steps, out);
+    print_record(n, neighbours, codes, used, at, out)
 }
 
 // Prints the answer to a job, whose steps stand at the start of the array.

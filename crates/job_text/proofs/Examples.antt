@@ -8,6 +8,7 @@ use Rattle.jobs.specs.declared.Op.the-variants.{Gate, Cz, Measure, Complement}
 use Rattle.jobs.specs.declared.Step.{Step}
 use Rattle.text.specs.Text.{hexDigit, hexText, decimal, qubitLine, qubitLines, recordText}
 use Rattle.job_text.specs.Lines.{jobLines}
+use Rattle.words.specs.Bits.{bit}
 use Rattle.job_text.specs.Results.{Result, resultLine, resultLines, jobAnswer}
 use Rattle.job_text.specs.Text.{digits, opWord, stepText, stepsText, qubitsLine, stepNames, jobHead}
 use Rattle.job_text.specs.Text.{jobText}
@@ -78,20 +79,21 @@ many : firstFitting (jobLines 0 4097) ∷ firstFitting (jobLines 0 4096) ∷ fir
 unfolding firstFitting
 many = refl
 
--- "0 0 0 0", "1 14 0 0", and a record of one qubit
+-- "0 0 0 0", "1 14 0 0", and a record of one qubit, which is used
 results : ℕ → Result
 results k = record { refusal = 14 * k; outcome = 0; determined = 0 }
 
-answer : jobAnswer 2 results 1 (0 ∷ []) (8 ∷ [])
+answer : jobAnswer 2 results (record { held = record { n = 1; neighbours = 0 ∷ []; codes = 8 ∷ [] }; used = 1 })
     ≡ 115 ∷ 116 ∷ 101 ∷ 112 ∷ 32 ∷ 114 ∷ 101 ∷ 102 ∷ 117 ∷ 115 ∷ 97 ∷ 108 ∷ 32
     ∷ 111 ∷ 117 ∷ 116 ∷ 99 ∷ 111 ∷ 109 ∷ 101 ∷ 32
     ∷ 100 ∷ 101 ∷ 116 ∷ 101 ∷ 114 ∷ 109 ∷ 105 ∷ 110 ∷ 101 ∷ 100 ∷ 10
     ∷ 48 ∷ 32 ∷ 48 ∷ 32 ∷ 48 ∷ 32 ∷ 48 ∷ 10
     ∷ 49 ∷ 32 ∷ 49 ∷ 52 ∷ 32 ∷ 48 ∷ 32 ∷ 48 ∷ 10
     ∷ 113 ∷ 117 ∷ 98 ∷ 105 ∷ 116 ∷ 32 ∷ 99 ∷ 111 ∷ 100 ∷ 101 ∷ 32
-    ∷ 110 ∷ 101 ∷ 105 ∷ 103 ∷ 104 ∷ 98 ∷ 111 ∷ 117 ∷ 114 ∷ 115 ∷ 10
-    ∷ 48 ∷ 32 ∷ 56 ∷ 32 ∷ replicate 16 48 ++ 10 ∷ []
-unfolding results digits resultLine resultLines jobAnswer hexDigit hexText decimal qubitLine qubitLines recordText
+    ∷ 110 ∷ 101 ∷ 105 ∷ 103 ∷ 104 ∷ 98 ∷ 111 ∷ 117 ∷ 114 ∷ 115 ∷ 32 ∷ 117 ∷ 115 ∷ 101 ∷ 100 ∷ 10
+    ∷ 48 ∷ 32 ∷ 56 ∷ 32 ∷ replicate 16 48 ++ 32 ∷ 49 ∷ 10 ∷ []
+unfolding bit results digits resultLine resultLines jobAnswer hexDigit hexText decimal qubitLine qubitLines
+    recordText
 answer = refl
 
 -- the last step's number

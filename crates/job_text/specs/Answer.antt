@@ -10,8 +10,8 @@ use Rattle.buffers.specs.Refusals.{firstFitting}
 use Rattle.jobs.specs.Runs.{stepAnswers, run, started}
 use Rattle.jobs.specs.declared.Answer.{Answer}
 use Rattle.jobs.specs.declared.Step.{Step}
-use Rattle.record.specs.Lent.{LentRecord}
 use Rattle.text.specs.Text.{Printed, refusedText}
+use Rattle.used.specs.Used.{UsedRecord}
 use Rattle.job_text.specs.Lines.{jobLines}
 use Rattle.job_text.specs.Results.{Result, jobAnswer}
 use Rattle.job_text.specs.Text.{HasJobForm, JobTextOf}
@@ -25,14 +25,12 @@ abbrev pub resultOf : Answer → Result
 resultOf r = record { refusal = r .refusal; outcome = r .outcome; determined = r .determined }
 
 -- what is printed of step k of a run from the record l
-abbrev pub resultsOf : LentRecord → List Step → ℕ → Result
-resultsOf l steps k = resultOf (getD (stepAnswers l steps) k noAnswer)
+abbrev pub resultsOf : UsedRecord → List Step → ℕ → Result
+resultsOf u steps k = resultOf (getD (stepAnswers u steps) k noAnswer)
 
 -- "one line per step with steps counted from 0, and then the record": the answer to an accepted job
 abbrev pub runText : ℕ → List Step → List ℕ
-runText n steps =
-    jobAnswer (length steps) (resultsOf (started n) steps) n
-    ((run (started n) steps) .neighbours) ((run (started n) steps) .codes)
+runText n steps = jobAnswer (length steps) (resultsOf (started n) steps) (run (started n) steps)
 
 -- the answer to a text of a job: 15 and 2 are checked "before any step runs"
 unfoldable pub answerText : ℕ → List Step → List ℕ

@@ -2,6 +2,7 @@
 use mathlib.Core.List.{List, [], _∷_, _++_}
 use Prim.Native.Nat.{ℕ, zero, suc}
 use Rattle.text.specs.Text.{decimal, space, newline, recordText}
+use Rattle.used.specs.Used.{UsedRecord}
 use Rattle.job_text.specs.Text.{digits}
 
 -- what is printed of a step: the refusal's number, 0 where it is accepted, the outcome and whether it is determined.
@@ -31,6 +32,7 @@ resultLines zero results = []
 resultLines (suc k) results = resultLines k results ++ resultLine k (results k)
 
 -- "The program prints the names .., one line per step .., and then the record as `reduce` prints it"
-unfoldable pub jobAnswer : ℕ → (ℕ → Result) → ℕ → List ℕ → List ℕ → List ℕ
-jobAnswer count results n neighbours codes =
-    resultNames ++ resultLines count results ++ recordText n neighbours codes
+unfoldable pub jobAnswer : ℕ → (ℕ → Result) → UsedRecord → List ℕ
+jobAnswer count results u =
+    resultNames ++ resultLines count results
+    ++ recordText (u .held .n) (u .held .neighbours) (u .held .codes) (u .used)

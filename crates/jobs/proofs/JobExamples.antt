@@ -11,6 +11,7 @@ use Rattle.record.specs.Lent.{notSimple}
 use Rattle.record.specs.Reduced.{graphOf, minusesOf, reducedRow, ysOf}
 use Rattle.stabilizer.specs.Lists.{clashing, dependent}
 use Rattle.stabilizer.specs.Membership.{member}
+use Rattle.used.specs.Used.{usedWrong}
 use Rattle.words.specs.Bits.{bit, fold, put, wordOf}
 use Rattle.words.specs.Search.{every, first, some}
 use Rattle.jobs.specs.internal.JobTable.{expected, given}
@@ -18,5 +19,5 @@ use Rattle.jobs.specs.Runs.{stepAnswers, run}
 
 pub jobs-run : given ≡ expected
 unfolding fold put bit wordOf some every first power mul anticommute inverse act tabulate firstFitting
-    reaching clashing dependent notSimple isColumnDependent reducedRow graphOf ysOf minusesOf cz member run stepAnswers
+    reaching clashing dependent notSimple isColumnDependent reducedRow graphOf ysOf minusesOf cz member usedWrong run stepAnswers
 jobs-run = refl

@@ -7,7 +7,7 @@ use lib.Dec.{eqb, lit<}
 use lib.ListN.{getD, getD-replicate, length, length-replicate}
 use Rattle.buffers.proofs.Lines.{AllBelow, first-below}
 use Rattle.buffers.proofs.Tabulate.{tabulate-at, tabulate-length}
-use Rattle.buffers.specs.Refusals.{firstFitting}
+use Rattle.buffers.specs.Refusals.{firstFitting, withTest}
 use Rattle.clifford.proofs.CliffordLaws.{codeOf-lt}
 use Rattle.clifford.specs.Clifford.{codeOf}
 use Rattle.operations.specs.Measurement.{determinedNumber, outcomeNumber}
@@ -27,19 +27,21 @@ use Rattle.operations.specs.declared.Outcome.{Outcome}
 use Rattle.operations.specs.declared.Outcome.the-variants.{Chosen, Determined}
 use Rattle.record.specs.Lent.{LentRecord, codeNumbers, neighbourWords}
 use Rattle.record.specs.Records.{GraphRecord}
+use Rattle.used.specs.Used.{UsedRecord, usedAfter, usedLinesOf, usedStep}
 use Rattle.words.specs.Bits.{digit, wordOf}
-use Rattle.jobs.specs.Asked.{asked, numberOf, unusedSet, withTest}
+use Rattle.jobs.specs.Asked.{asked, numberOf, unusedSet}
 use Rattle.jobs.specs.Runs.{afterStep, answerOf, determinedOf, outcomeOf, run, started}
 use Rattle.jobs.specs.declared.Step.{Step}
 
 -- ---- records
+-- the buffers have n places, and hold codes
 pub record Sized (n : ℕ) (l : LentRecord) : Type 0 where
   pub qubits : l .n ≡ n
   pub neighbours-long : length (l .neighbours) ≡ n
   pub codes-long : length (l .codes) ≡ n
   pub codes-small : (q : ℕ) → q < n → getD (l .codes) q 0 < 24
 
-pub started-sized : (n : ℕ) → Sized n (started n)
+pub started-sized : (n : ℕ) → Sized n (started n .held)
 started-sized n =
     record {
       qubits = refl;
@@ -78,31 +80,35 @@ module _ (n : ℕ) (l : LentRecord) (S : Sized n l) where
             codes-small = S .codes-small;
           }
 
-  pub step-sized : (s : Step) → Sized n (afterStep l s)
-  step-sized s = go (eqb (numberOf l s) 0)
-    where
-      go : (b : Bool) → Sized n (cond b (leaves l (asked s)) l)
-      go true = operation-sized (asked s)
-      go false = S
+pub step-sized : (n : ℕ) (u : UsedRecord) → Sized n (u .held) → (s : Step) → Sized n (afterStep u s .held)
+step-sized n u S s = go (eqb (numberOf u s) 0) (eqb ((usedStep u (asked s)) .number) 0)
+  where
+    go : (b c : Bool) → Sized n ((cond b (cond c (record {
+      held = leaves (u .held) (asked s);
+      used = usedAfter u (asked s);
+    }) u) u) .held)
+    go true true = operation-sized n (u .held) S (asked s)
+    go true false = S
+    go false c = S
 
-pub run-sized : (n : ℕ) (l : LentRecord) → Sized n l → (steps : List Step) → Sized n (run l steps)
+pub run-sized : (n : ℕ) (u : UsedRecord) → Sized n (u .held) → (steps : List Step) → Sized n (run u steps .held)
 unfolding run
-run-sized n l S [] = S
-run-sized n l S (s ∷ rest) = run-sized n (afterStep l s) (step-sized n l S s) rest
+run-sized n u S [] = S
+run-sized n u S (s ∷ rest) = run-sized n (afterStep u s) (step-sized n u S s) rest
 
 -- ---- answers
-below-100 : (l : LentRecord) (b : Bool) (o : Operation) → AllBelow 100 (withTest 6 b (linesOf l o))
-below-100 l b (gateWith q k) = (lit< tt, (lit< tt, (lit< tt, (lit< tt, (lit< tt, (lit< tt, tt))))))
-below-100 l b (czOn a c) = (lit< tt, (lit< tt, (lit< tt, (lit< tt, (lit< tt, (lit< tt, tt))))))
-below-100 l b (measurementOf pauli q c) =
-    (lit< tt, (lit< tt, (lit< tt, (lit< tt, (lit< tt, (lit< tt, (lit< tt, tt)))))))
-below-100 l b (complementOf a) = (lit< tt, (lit< tt, (lit< tt, (lit< tt, (lit< tt, (lit< tt, tt))))))
-below-100 l b (pivotOf j k) = (lit< tt, (lit< tt, (lit< tt, (lit< tt, (lit< tt, (lit< tt, tt))))))
+below-100 : (u : UsedRecord) (b : Bool) (o : Operation) → AllBelow 100 (withTest 6 b (usedLinesOf u o))
+below-100 u b (gateWith q k) = (lit< tt, (lit< tt, (lit< tt, (lit< tt, (lit< tt, (lit< tt, (lit< tt, tt)))))))
+below-100 u b (czOn a c) = (lit< tt, (lit< tt, (lit< tt, (lit< tt, (lit< tt, (lit< tt, (lit< tt, tt)))))))
+below-100 u b (measurementOf pauli q c) =
+    (lit< tt, (lit< tt, (lit< tt, (lit< tt, (lit< tt, (lit< tt, (lit< tt, (lit< tt, tt))))))))
+below-100 u b (complementOf a) = (lit< tt, (lit< tt, (lit< tt, (lit< tt, (lit< tt, (lit< tt, (lit< tt, tt)))))))
+below-100 u b (pivotOf j k) = (lit< tt, (lit< tt, (lit< tt, (lit< tt, (lit< tt, (lit< tt, (lit< tt, tt)))))))
 
 -- the refusal has at most two digits
-pub refusal-small : (l : LentRecord) (s : Step) → (answerOf l s) .refusal < 100
-refusal-small l s = first-below 100 (withTest 6 (unusedSet (s .op) (s .b) (s .value)) (linesOf l (asked s)))
-    (lit< tt) (below-100 l (unusedSet (s .op) (s .b) (s .value)) (asked s))
+pub refusal-small : (u : UsedRecord) (s : Step) → (answerOf u s) .refusal < 100
+refusal-small u s = first-below 100 (withTest 6 (unusedSet (s .op) (s .b) (s .value)) (usedLinesOf u (asked s)))
+    (lit< tt) (below-100 u (unusedSet (s .op) (s .b) (s .value)) (asked s))
 
 -- the outcome and determined have one
 digit-small : (b : Bool) → digit b < 10
@@ -120,10 +126,10 @@ outcomes-small l (measurementOf pauli q b) = outcome-digit (measuredAnswer l pau
 outcomes-small l (complementOf a) = (lit< tt, lit< tt)
 outcomes-small l (pivotOf j k) = (lit< tt, lit< tt)
 
-pub outcome-small : (l : LentRecord) (s : Step) → ((answerOf l s) .outcome < 10) × ((answerOf l s) .determined < 10)
-outcome-small l s = (
-  go (eqb (numberOf l s) 0) (outcomes-small l (asked s) .0),
-  go (eqb (numberOf l s) 0) (outcomes-small l (asked s) .1),
+pub outcome-small : (u : UsedRecord) (s : Step) → ((answerOf u s) .outcome < 10) × ((answerOf u s) .determined < 10)
+outcome-small u s = (
+  go (eqb (numberOf u s) 0) (outcomes-small (u .held) (asked s) .0),
+  go (eqb (numberOf u s) 0) (outcomes-small (u .held) (asked s) .1),
 )
   where
     go : {v : ℕ} (b : Bool) → v < 10 → cond b v 0 < 10

@@ -16,6 +16,8 @@ use Rattle.pauli.specs.Pauli.{_+ᵖ_, i⁰, letter, xBit, zBit}
 use Rattle.record.proofs.WrittenRecords.{record-passes, record-rows-back, writtenRecord}
 use Rattle.record.specs.Lent.{heldRows, recordLines}
 use Rattle.record.specs.Records.{GraphRecord, rowsOf}
+use Rattle.used.proofs.UsedPassing.{unused-passes}
+use Rattle.used.specs.Used.{usedLines}
 use Rattle.words.proofs.Sums.{fold-unit}
 use Rattle.words.specs.Bits.{wordOf}
 use Rattle.jobs.specs.Runs.{started}
@@ -39,17 +41,17 @@ module _ (n : ℕ) where
   above : (q : ℕ) → n ≤ q → cond (ltb q n) (cliffordOf 8) identityClifford ≡ identityClifford
   above q l = ap (λ b. cond b (cliffordOf 8) identityClifford) (le-ltb q n l)
 
-  is-written : started n ≡ writtenRecord n plusZ
+  is-written : started n .held ≡ writtenRecord n plusZ
   is-written = ap₂ (λ nb cs. record { n = n; neighbours = nb; codes = cs })
       (tabulate-is n _ (replicate n 0) (length-replicate n 0)
       (λ i l. getD-replicate n i 0 0 l ∙ sym (no-bits n)))
       (tabulate-is n _ (replicate n 8) (length-replicate n 8)
       (λ i l. getD-replicate n i 8 0 l ∙ sym (eights i l)))
 
-  pub started-passes : 1 ≤ n → n ≤ 64 → firstFitting (recordLines (started n) false false) ≡ 0
-  started-passes positive upto =
-      ap (λ l. firstFitting (recordLines l false false)) is-written
-      ∙ record-passes n plusZ simple above positive upto
+  pub started-passes : 1 ≤ n → n ≤ 64 → firstFitting (usedLines (started n) false false false) ≡ 0
+  started-passes positive upto = unused-passes (started n .held) false false
+      (ap (λ l. firstFitting (recordLines l false false)) is-written
+      ∙ record-passes n plusZ simple above positive upto)
 
   -- ---- generators
   -- a place of X at j alone, by whether it lies below n and is j
@@ -85,5 +87,5 @@ module _ (n : ℕ) where
       inside : (q : ℕ) → eqb q j ≡ true → ltb q n ≡ true
       inside q e = lt-ltb q n (subst (λ k. k < n) (sym (eqb-true q j e)) l)
 
-  pub started-rows : (j : ℕ) → j < n → heldRows (started n) j ≡ zAt j
+  pub started-rows : (j : ℕ) → j < n → heldRows (started n .held) j ≡ zAt j
   started-rows j l = ap (λ r. heldRows r j) is-written ∙ record-rows-back n plusZ simple above j ∙ plus-z j l

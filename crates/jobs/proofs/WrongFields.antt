@@ -7,14 +7,25 @@ use native.Mathlib.Omega.{arith}
 use lib.Dec.{eqb, leb}
 use lib.ListN.{drop}
 use borrow.Author.Tests.{le-leb, lt-leb, ne-eqb}
-use Rattle.buffers.specs.Refusals.{firstFitting}
+use Rattle.buffers.specs.Refusals.{firstFitting, withTest}
 use Rattle.jobs.proofs.Numbers.{with-six}
-use Rattle.jobs.specs.Asked.{operationOf, unusedSet, withTest}
+use Rattle.jobs.specs.Asked.{operationOf, unusedSet}
 use Rattle.jobs.specs.internal.Asked.{wrongValue}
 use Rattle.jobs.specs.declared.Op.{Op}
 use Rattle.jobs.specs.declared.Op.the-variants.{Complement, Cz, Gate, Measure, Pivot}
-use Rattle.operations.specs.Steps.{complementLines, czLines, gateLines, linesOf, measureLines, pivotLines}
-use Rattle.record.specs.Lent.{LentRecord, recordLines}
+use Rattle.operations.specs.Steps.{
+  complementLines,
+  complementOf,
+  czLines,
+  czOn,
+  gateLines,
+  gateWith,
+  measureLines,
+  measurementOf,
+  pivotLines,
+  pivotOf,
+}
+use Rattle.used.specs.Used.{UsedRecord, namesUsed, usedLines, usedLinesOf}
 use Rattle.words.proofs.Sums.{lt-or-ge}
 
 -- a measurement's value gives a Pauli 1 to 3 and an outcome, unless it is 6 or more
@@ -31,19 +42,23 @@ swapped true b e = or-true b
 swapped false b e = ap (λ v. v || false) e
 
 -- the lines of the record decide, and then 6
-pub fields-refuse : (l : LentRecord) (op : Op) (a b v : ℕ) → (unusedSet op b v || wrongValue op v) ≡ true
-    → firstFitting (withTest 6 (unusedSet op b v) (linesOf l (operationOf op a b v)))
-    ≡ firstFitting (recordLines l false true)
-fields-refuse l Gate a b v e =
-    with-six l (leb 24 v) (not (eqb b 0)) (drop 5 (gateLines l a v)) (swapped (not (eqb b 0)) (leb 24 v) e)
-fields-refuse l Cz a b v e =
-    with-six l false (not (eqb v 0)) (drop 5 (czLines l a b)) (swapped (not (eqb v 0)) false e)
-fields-refuse l Measure a b v e =
-    with-six l (leb 2 (v % 2) || (eqb (v / 2 + 1) 0 || leb 4 (v / 2 + 1))) (not (eqb b 0))
-    (drop 5 (measureLines l (v / 2 + 1) a (v % 2)))
+pub fields-refuse : (u : UsedRecord) (op : Op) (a b v : ℕ) → (unusedSet op b v || wrongValue op v) ≡ true
+    → firstFitting (withTest 6 (unusedSet op b v) (usedLinesOf u (operationOf op a b v)))
+    ≡ firstFitting (usedLines u false false true)
+fields-refuse u Gate a b v e =
+    with-six u (namesUsed u (gateWith a v)) (leb 24 v) (not (eqb b 0)) (drop 5 (gateLines (u .held) a v))
+    (swapped (not (eqb b 0)) (leb 24 v) e)
+fields-refuse u Cz a b v e =
+    with-six u (namesUsed u (czOn a b)) false (not (eqb v 0)) (drop 5 (czLines (u .held) a b))
+    (swapped (not (eqb v 0)) false e)
+fields-refuse u Measure a b v e =
+    with-six u (namesUsed u (measurementOf (v / 2 + 1) a (v % 2)))
+    (leb 2 (v % 2) || (eqb (v / 2 + 1) 0 || leb 4 (v / 2 + 1))) (not (eqb b 0))
+    (drop 5 (measureLines (u .held) (v / 2 + 1) a (v % 2)))
     (ap (λ c. c || not (eqb b 0)) (measure-six v) ∙ swapped (not (eqb b 0)) (leb 6 v) e)
-fields-refuse l Complement a b v e =
-    with-six l false (not (eqb b 0) || not (eqb v 0)) (drop 5 (complementLines l a))
-    (swapped (not (eqb b 0) || not (eqb v 0)) false e)
-fields-refuse l Pivot a b v e =
-    with-six l false (not (eqb v 0)) (drop 5 (pivotLines l a b)) (swapped (not (eqb v 0)) false e)
+fields-refuse u Complement a b v e =
+    with-six u (namesUsed u (complementOf a)) false (not (eqb b 0) || not (eqb v 0))
+    (drop 5 (complementLines (u .held) a)) (swapped (not (eqb b 0) || not (eqb v 0)) false e)
+fields-refuse u Pivot a b v e =
+    with-six u (namesUsed u (pivotOf a b)) false (not (eqb v 0)) (drop 5 (pivotLines (u .held) a b))
+    (swapped (not (eqb v 0)) false e)

@@ -1,24 +1,10 @@
 -- What a step of a job asks: its operation, the fields that it does not use, and its lines in checking order.
-use mathlib.Core.Bool.{_&&_, Bool, not, _||_}
-use mathlib.Core.List.{List, [], _∷_}
+use mathlib.Core.Bool.{Bool, not, _||_}
 use Prim.Native.Nat.{_%_, _+_, _/_, ℕ}
 use lib.Dec.{eqb}
-use Rattle.buffers.specs.Refusals.{Refusal, firstFitting, line}
-use Rattle.operations.specs.Steps.{
-  Operation,
-  argumentLines,
-  complementLines,
-  complementOf,
-  czLines,
-  czOn,
-  gateLines,
-  gateWith,
-  linesOf,
-  measurementOf,
-  pivotLines,
-  pivotOf,
-}
-use Rattle.record.specs.Lent.{LentRecord}
+use Rattle.buffers.specs.Refusals.{firstFitting, withTest}
+use Rattle.operations.specs.Steps.{Operation, complementOf, czOn, gateWith, measurementOf, pivotOf}
+use Rattle.used.specs.Used.{UsedRecord, usedLinesOf}
 use Rattle.jobs.specs.declared.Op.{Op}
 use Rattle.jobs.specs.declared.Op.the-variants.{Complement, Cz, Gate, Measure, Pivot}
 use Rattle.jobs.specs.declared.Step.{Step}
@@ -45,19 +31,6 @@ unusedSet Complement b value = not (eqb b 0) || not (eqb value 0)
 unusedSet Pivot b value = not (eqb value 0)
 
 -- ---- lines
--- those of an operation's arguments: they read n, and for a pivot the edges; a measurement has 14 after these
-abbrev pub argumentsOf : LentRecord → Operation → List Refusal
-argumentsOf l (gateWith q k) = gateLines l q k
-argumentsOf l (czOn a b) = czLines l a b
-argumentsOf l (measurementOf pauli q b) = argumentLines l pauli q b
-argumentsOf l (complementOf a) = complementLines l a
-argumentsOf l (pivotOf j k) = pivotLines l j k
-
--- lines with a further test joined into the one with number k
-abbrev pub withTest : ℕ → Bool → List Refusal → List Refusal
-withTest k b [] = []
-withTest k b (l ∷ ls) = line (l .number) (l .holds || (eqb (l .number) k && b)) ∷ withTest k b ls
-
 -- "an unused field is 0, otherwise the step gives 6": the number of a step on a record
-abbrev pub numberOf : LentRecord → Step → ℕ
-numberOf l s = firstFitting (withTest 6 (unusedSet (s .op) (s .b) (s .value)) (linesOf l (asked s)))
+abbrev pub numberOf : UsedRecord → Step → ℕ
+numberOf u s = firstFitting (withTest 6 (unusedSet (s .op) (s .b) (s .value)) (usedLinesOf u (asked s)))

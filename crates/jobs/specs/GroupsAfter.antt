@@ -1,11 +1,11 @@
 -- The group after the steps of a job, as the definitions give it on groups. A group is given by its elements; the
--- record beside it tells n, and the edges by which a pivot is refused.
+-- record beside it tells n, the edges by which a pivot is refused, and the used qubits.
 use mathlib.Core.Bool.{Bool, false, not, true}
 use mathlib.Core.List.{List, [], _∷_}
 use mathlib.Core.Logic.{_⊎_}
 use mathlib.Core.Path.{_≡_}
 use Prim.Native.Nat.{ℕ}
-use Rattle.buffers.specs.Refusals.{firstFitting}
+use Rattle.buffers.specs.Refusals.{firstFitting, withTest}
 use Rattle.clifford.specs.Clifford.{cliffordOf}
 use Rattle.clifford.specs.Vectors.{act, only}
 use Rattle.operations.specs.Cz.{cz, zAt}
@@ -13,10 +13,10 @@ use Rattle.operations.specs.Measurement.{pauliLetter, single}
 use Rattle.operations.specs.Steps.{Operation, complementOf, czOn, gateWith, measurementOf, pivotOf}
 use Rattle.pauli.specs.Pauli.{Pauli, anticommute, mul}
 use Rattle.pauli.specs.declared.Letter.{Letter}
-use Rattle.record.specs.Lent.{LentRecord}
 use Rattle.stabilizer.specs.Groups.{InGroup}
+use Rattle.used.specs.Used.{UsedRecord, usedArgumentsOf}
 use Rattle.words.specs.Bits.{isOdd}
-use Rattle.jobs.specs.Asked.{argumentsOf, asked, unusedSet, withTest}
+use Rattle.jobs.specs.Asked.{asked, unusedSet}
 use Rattle.jobs.specs.Runs.{afterStep}
 use Rattle.jobs.specs.declared.Step.{Step}
 
@@ -65,19 +65,19 @@ IsContradicted G (complementOf a) = ⊥
 IsContradicted G (pivotOf j k) = ⊥
 
 -- a step is refused: by its fields, which give 6 or 8, or by the group, which gives 14
-pub data Refused (l : LentRecord) (G : Pauli → Type 0) (s : Step) : Type 0 where
-  -- 6 and 8
-  by-fields : (firstFitting (withTest 6 (unusedSet (s .op) (s .b) (s .value)) (argumentsOf l (asked s))) ≡ 0 → ⊥) →
-      Refused l G s
+pub data Refused (u : UsedRecord) (G : Pauli → Type 0) (s : Step) : Type 0 where
+  -- 6, 8 and 16
+  by-fields : (firstFitting (withTest 6 (unusedSet (s .op) (s .b) (s .value)) (usedArgumentsOf u (asked s))) ≡ 0 → ⊥) →
+      Refused u G s
   -- 14
-  by-group : IsContradicted G (asked s) → Refused l G s
+  by-group : IsContradicted G (asked s) → Refused u G s
 
 -- ---- the group after a step, "refused steps counting as no change"
-pub data GroupAfterStep (l : LentRecord) (G : Pauli → Type 0) (s : Step) : Pauli → Type 0 where
-  not-run : {p : Pauli} → Refused l G s → G p → GroupAfterStep l G s p
-  changed : {p : Pauli} → (Refused l G s → ⊥) → AfterOperation (l .n) G (asked s) p → GroupAfterStep l G s p
+pub data GroupAfterStep (u : UsedRecord) (G : Pauli → Type 0) (s : Step) : Pauli → Type 0 where
+  not-run : {p : Pauli} → Refused u G s → G p → GroupAfterStep u G s p
+  changed : {p : Pauli} → (Refused u G s → ⊥) → AfterOperation (u .held .n) G (asked s) p → GroupAfterStep u G s p
 
 -- and after one step after the other
-abbrev pub GroupAfter : LentRecord → Group → List Step → Group
-GroupAfter l G [] = G
-GroupAfter l G (s ∷ rest) = GroupAfter (afterStep l s) (GroupAfterStep l G s) rest
+abbrev pub GroupAfter : UsedRecord → Group → List Step → Group
+GroupAfter u G [] = G
+GroupAfter u G (s ∷ rest) = GroupAfter (afterStep u s) (GroupAfterStep u G s) rest

@@ -6,36 +6,29 @@ use lib.Dec.{eqb}
 use lib.ListN.{replicate, take}
 use Rattle.buffers.specs.Buffers.{acceptedNumber}
 use Rattle.operations.specs.Measurement.{determinedNumber, outcomeNumber}
-use Rattle.operations.specs.Steps.{
-  Operation,
-  complementOf,
-  czOn,
-  gateWith,
-  leaves,
-  measuredAnswer,
-  measurementOf,
-  pivotOf,
-}
+use Rattle.operations.specs.Steps.{Operation, complementOf, czOn, gateWith, measuredAnswer, measurementOf, pivotOf}
 use Rattle.record.specs.Lent.{LentRecord}
+use Rattle.used.specs.Used.{UsedRecord, usedStep}
 use Rattle.jobs.specs.Asked.{asked, numberOf}
 use Rattle.jobs.specs.declared.Answer.{Answer}
 use Rattle.jobs.specs.declared.Step.{Step}
 
 -- "All qubits start in +Z, with code 8 and no edge"
-abbrev pub started : ℕ → LentRecord
-started n = record { n = n; neighbours = replicate n 0; codes = replicate n 8 }
+abbrev pub started : ℕ → UsedRecord
+started n =
+    record { held = record { n = n; neighbours = replicate n 0; codes = replicate n 8 }; used = 0 }
 
 -- "A refused step changes nothing": else the record is what the operation leaves
-abbrev pub afterStep : LentRecord → Step → LentRecord
-afterStep l s = cond (eqb (numberOf l s) 0) (leaves l (asked s)) l
+abbrev pub afterStep : UsedRecord → Step → UsedRecord
+afterStep u s = cond (eqb (numberOf u s) 0) ((usedStep u (asked s)) .after) u
 
 -- ".. and the job continues"
-unfoldable pub run : LentRecord → List Step → LentRecord
-run l [] = l
-run l (s ∷ rest) = run (afterStep l s) rest
+unfoldable pub run : UsedRecord → List Step → UsedRecord
+run u [] = u
+run u (s ∷ rest) = run (afterStep u s) rest
 
 -- "the record after the first k steps" of a job on n qubits
-abbrev pub recordAfter : ℕ → List Step → ℕ → LentRecord
+abbrev pub recordAfter : ℕ → List Step → ℕ → UsedRecord
 recordAfter n steps k = run (started n) (take k steps)
 
 -- ---- answers
@@ -56,15 +49,15 @@ determinedOf l (complementOf a) = 0
 determinedOf l (pivotOf j k) = 0
 
 -- "refusal outcome determined" of a step on a record
-abbrev pub answerOf : LentRecord → Step → Answer
-answerOf l s =
+abbrev pub answerOf : UsedRecord → Step → Answer
+answerOf u s =
     record {
-      refusal = numberOf l s;
-      outcome = acceptedNumber (numberOf l s) (outcomeOf l (asked s)) 0;
-      determined = acceptedNumber (numberOf l s) (determinedOf l (asked s)) 0;
+      refusal = numberOf u s;
+      outcome = acceptedNumber (numberOf u s) (outcomeOf (u .held) (asked s)) 0;
+      determined = acceptedNumber (numberOf u s) (determinedOf (u .held) (asked s)) 0;
     }
 
 -- of each step
-unfoldable pub stepAnswers : LentRecord → List Step → List Answer
-stepAnswers l [] = []
-stepAnswers l (s ∷ rest) = answerOf l s ∷ stepAnswers (afterStep l s) rest
+unfoldable pub stepAnswers : UsedRecord → List Step → List Answer
+stepAnswers u [] = []
+stepAnswers u (s ∷ rest) = answerOf u s ∷ stepAnswers (afterStep u s) rest

@@ -24,9 +24,10 @@ use Rattle.jobs.specs.declared.Op.{Op}
 use Rattle.jobs.specs.declared.Op.the-variants.{Complement, Cz, Gate, Measure, Pivot}
 use Rattle.jobs.specs.declared.Step.{Step}
 use Rattle.operations.specs.Steps.{leaves}
-use Rattle.record.specs.Lent.{LentRecord, recordLines}
-use Rattle.call_gates.proofs.InPlaceCalls.{left-by-call}
-use Rattle.call_gates.specs.InPlaceCalls.{inPlaceCall, measureCall}
+use Rattle.record.specs.Lent.{LentRecord}
+use Rattle.call_gates.proofs.InPlaceCalls.{left-by-call, marked-by-call}
+use Rattle.call_gates.specs.InPlaceCalls.{usedCall, usedMeasureCall}
+use Rattle.used.specs.Used.{UsedRecord, usedAfter, usedLines, usedStep}
 use Rattle.words.proofs.Flags.{neither}
 use Rattle.jobs.proofs.WrongFields.{fields-refuse}
 use Rattle.jobs_run.specs.internal.StepRuns.{Rewriting, StepRun}
@@ -39,11 +40,11 @@ abbrev Others : Op → Type 0
 Others op = OneOf (0 ∷ 1 ∷ 3 ∷ 4 ∷ []) (tagOf the-type op)
 
 -- the calls without outcome: the operation is known
-pub by-operation : (l : LentRecord) {op known : Op} (a b v : ℕ) {k : ℕ} {nb cs : List ℕ} → op ≡ known
-    → Call (inPlaceCall l (operationOf known a b v) nb cs) k → Call (inPlaceCall l (operationOf op a b v) nb cs) k
-by-operation l a b v {k} {nb} {cs} e C = subst (λ o. Call (inPlaceCall l (operationOf o a b v) nb cs) k) (sym e) C
+pub by-operation : (u : UsedRecord) {op known : Op} (a b v : ℕ) {k : ℕ} {nb cs : List ℕ} → op ≡ known
+    → Call (usedCall u (operationOf known a b v) nb cs) k → Call (usedCall u (operationOf op a b v) nb cs) k
+by-operation u a b v {k} {nb} {cs} e C = subst (λ o. Call (usedCall u (operationOf o a b v) nb cs) k) (sym e) C
 
--- an operation that is no measurement has no outcome
+-- an operation that is no measurement has no outcome, and copies the used word
 plain-outcome : (l : LentRecord) (op : Op) (a b v : ℕ) → (op ≡ Measure → ⊥)
     → (outcomeOf l (operationOf op a b v) ≡ 0) × (determinedOf l (operationOf op a b v) ≡ 0)
 plain-outcome l Gate a b v h = (refl, refl)
@@ -52,14 +53,31 @@ plain-outcome l Measure a b v h = absurd (h refl)
 plain-outcome l Complement a b v h = (refl, refl)
 plain-outcome l Pivot a b v h = (refl, refl)
 
-module _ (l : LentRecord) (s : Step) where
+plain-word : (u : UsedRecord) (op : Op) (a b v : ℕ) → (op ≡ Measure → ⊥)
+    → u .used ≡ (usedStep u (operationOf op a b v)) .after .used
+plain-word u op a b v h = kept (eqb ((usedStep u (operationOf op a b v)) .number) 0) (leaves (u .held) (operationOf op a b v))
+    ∙ ap (λ w. (cond (eqb ((usedStep u (operationOf op a b v)) .number) 0)
+    (record { held = leaves (u .held) (operationOf op a b v); used = w }) u) .used) (copied op h)
+  where
+    kept : (c : Bool) (l : LentRecord) → u .used ≡ (cond c (record { held = l; used = u .used }) u) .used
+    kept true l = refl
+    kept false l = refl
+
+    copied : (op : Op) → (op ≡ Measure → ⊥) → u .used ≡ usedAfter u (operationOf op a b v)
+    copied Gate h = refl
+    copied Cz h = refl
+    copied Measure h = absurd (h refl)
+    copied Complement h = refl
+    copied Pivot h = refl
+
+module _ (u : UsedRecord) (s : Step) where
   abbrev wrong : Bool
   wrong = unusedSet (s .op) (s .b) (s .value) || wrongValue (s .op) (s .value)
 
   -- from what the two tests answer
-  pub wrong-by : {u w t : Bool} → u ≡ unusedSet (s .op) (s .b) (s .value) → w ≡ wrongValue (s .op) (s .value)
-      → (u || w) ≡ t → wrong ≡ t
-  wrong-by eu ew e = sym (ap₂ _||_ eu ew) ∙ e
+  pub wrong-by : {v w t : Bool} → v ≡ unusedSet (s .op) (s .b) (s .value) → w ≡ wrongValue (s .op) (s .value)
+      → (v || w) ≡ t → wrong ≡ t
+  wrong-by ev ew e = sym (ap₂ _||_ ev ew) ∙ e
 
   -- where the fields are not wrong, the value fits
   value-right : wrong ≡ false → {op : Op} → s .op ≡ op → wrongValue op (s .value) ≡ false
@@ -78,59 +96,63 @@ module _ (l : LentRecord) (s : Step) where
       record { code = λ g. leb-false 24 (s .value) (value-right e g); no-outcome = not-measure h }
 
   -- the fields alone are wrong
-  pub wrong-run : wrong ≡ true → (k : ℕ) → k ≡ firstFitting (recordLines l false true)
-      → StepRun l s (answer k 0 0) (l .neighbours) (l .codes)
+  pub wrong-run : wrong ≡ true → (k : ℕ) → k ≡ firstFitting (usedLines u false false true)
+      → StepRun u s (answer k 0 0) (u .held .neighbours) (u .held .codes) (u .used)
   wrong-run e k ek =
       record {
         answer = ap (λ m. answer m 0 0) number ∙ sym no-outcome;
-        words = ap (λ m. m .neighbours) (sym kept);
-        numbers = ap (λ m. m .codes) (sym kept);
+        words = ap (λ m. m .held .neighbours) (sym kept);
+        numbers = ap (λ m. m .held .codes) (sym kept);
+        marks = ap (λ m. m .used) (sym kept);
       }
     where
-      number : k ≡ numberOf l s
-      number = ek ∙ sym (fields-refuse l (s .op) (s .a) (s .b) (s .value) e)
+      number : k ≡ numberOf u s
+      number = ek ∙ sym (fields-refuse u (s .op) (s .a) (s .b) (s .value) e)
 
-      refused : numberOf l s ≡ 0 → ⊥
-      refused z = six-refuses l (sym ek ∙ number ∙ z)
+      refused : numberOf u s ≡ 0 → ⊥
+      refused z = six-refuses u (sym ek ∙ number ∙ z)
 
-      kept : afterStep l s ≡ l
-      kept = refused-keeps l s refused
+      kept : afterStep u s ≡ u
+      kept = refused-keeps u s refused
 
-      no-outcome : answerOf l s ≡ answer (numberOf l s) 0 0
-      no-outcome = ap (λ b. answer (numberOf l s) (cond b (outcomeOf l (asked s)) 0)
-          (cond b (determinedOf l (asked s)) 0)) (ne-eqb (numberOf l s) 0 refused)
+      no-outcome : answerOf u s ≡ answer (numberOf u s) 0 0
+      no-outcome = ap (λ b. answer (numberOf u s) (cond b (outcomeOf (u .held) (asked s)) 0)
+          (cond b (determinedOf (u .held) (asked s)) 0)) (ne-eqb (numberOf u s) 0 refused)
 
   -- they are not: the call is the step
   module _ (e : wrong ≡ false) where
     unset : unusedSet (s .op) (s .b) (s .value) ≡ false
     unset = neither (unusedSet (s .op) (s .b) (s .value)) (wrongValue (s .op) (s .value)) e .0
 
-    called : (k : ℕ) (nb cs : List ℕ) → Call (inPlaceCall l (asked s) nb cs) k → (outcome determined : ℕ)
-        → outcome ≡ cond (eqb k 0) (outcomeOf l (asked s)) 0
-        → determined ≡ cond (eqb k 0) (determinedOf l (asked s)) 0
-        → StepRun l s (answer k outcome determined) nb cs
-    called k nb cs C outcome determined eo ed =
+    called : (k : ℕ) (nb cs : List ℕ) (used′ : ℕ) → Call (usedCall u (asked s) nb cs) k
+        → used′ ≡ (usedStep u (asked s)) .after .used → (outcome determined : ℕ)
+        → outcome ≡ cond (eqb k 0) (outcomeOf (u .held) (asked s)) 0
+        → determined ≡ cond (eqb k 0) (determinedOf (u .held) (asked s)) 0
+        → StepRun u s (answer k outcome determined) nb cs used′
+    called k nb cs used′ C m outcome determined eo ed =
         record {
           answer = (λ i. answer k (eo i) (ed i))
-              ∙ ap (λ m. answer m (cond (eqb m 0) (outcomeOf l (asked s)) 0)
-              (cond (eqb m 0) (determinedOf l (asked s)) 0)) number;
-          words = left-by-call l (asked s) C .0 ∙ ap (λ m. m .neighbours) (sym left);
-          numbers = left-by-call l (asked s) C .1 ∙ ap (λ m. m .codes) (sym left);
+              ∙ ap (λ m. answer m (cond (eqb m 0) (outcomeOf (u .held) (asked s)) 0)
+              (cond (eqb m 0) (determinedOf (u .held) (asked s)) 0)) number;
+          words = left-by-call u (asked s) C .0 ∙ ap (λ m. m .held .neighbours) (sym left);
+          numbers = left-by-call u (asked s) C .1 ∙ ap (λ m. m .held .codes) (sym left);
+          marks = m ∙ ap (λ m. m .used) (sym left);
         }
       where
-        number : k ≡ numberOf l s
-        number = C .number ∙ sym (number-of-operation l s unset)
+        number : k ≡ numberOf u s
+        number = C .number ∙ sym (number-of-operation u s unset)
 
-        left : afterStep l s ≡ leaves l (asked s)
-        left = left-by-operation l s unset
+        left : afterStep u s ≡ (usedStep u (asked s)) .after
+        left = left-by-operation u s unset
 
     -- without outcome
-    pub plain-run : (s .op ≡ Measure → ⊥) → (k : ℕ) (nb cs : List ℕ) → Call (inPlaceCall l (asked s) nb cs) k
-        → StepRun l s (answer k 0 0) nb cs
-    plain-run h k nb cs C = called k nb cs C 0 0 (none (zeros .0)) (none (zeros .1))
+    pub plain-run : (s .op ≡ Measure → ⊥) → (k : ℕ) (nb cs : List ℕ) → Call (usedCall u (asked s) nb cs) k
+        → StepRun u s (answer k 0 0) nb cs (u .used)
+    plain-run h k nb cs C = called k nb cs (u .used) C (plain-word u (s .op) (s .a) (s .b) (s .value) h) 0 0
+        (none (zeros .0)) (none (zeros .1))
       where
-        zeros : (outcomeOf l (asked s) ≡ 0) × (determinedOf l (asked s) ≡ 0)
-        zeros = plain-outcome l (s .op) (s .a) (s .b) (s .value) h
+        zeros : (outcomeOf (u .held) (asked s) ≡ 0) × (determinedOf (u .held) (asked s) ≡ 0)
+        zeros = plain-outcome (u .held) (s .op) (s .a) (s .b) (s .value) h
 
         same : (b : Bool) → _≡_ {A = ℕ} (cond b 0 0) 0
         same true = refl
@@ -140,12 +162,16 @@ module _ (l : LentRecord) (s : Step) where
         none z = sym (ap (λ v. cond (eqb k 0) v 0) z ∙ same (eqb k 0))
 
     -- with it
-    pub measured-run : s .op ≡ Measure → (nb cs : List ℕ) (r : Answer)
-        → Call (measureCall l (s .value / 2 + 1) (s .a) (s .value % 2) 0 0 nb cs (r .outcome) (r .determined)) (r .refusal)
-        → StepRun l s r nb cs
-    measured-run g nb cs r C = called (r .refusal) nb cs
-        (by-operation l (s .a) (s .b) (s .value) g (record { number = C .number; held = C .held .1 .1 })) (r .outcome) (r .determined)
-        (C .held .0 ∙ ap (λ op. cond (eqb (r .refusal) 0) (outcomeOf l (operationOf op (s .a) (s .b) (s .value))) 0)
-        (sym g))
-        (C .held .1 .0 ∙ ap (λ op. cond (eqb (r .refusal) 0) (determinedOf l (operationOf op (s .a) (s .b) (s .value))) 0)
-        (sym g))
+    pub measured-run : s .op ≡ Measure → (nb cs : List ℕ) (used′ : ℕ) (r : Answer)
+        → Call (usedMeasureCall u (s .value / 2 + 1) (s .a) (s .value % 2) 0 0 nb cs used′ (r .outcome) (r .determined))
+        (r .refusal)
+        → StepRun u s r nb cs used′
+    measured-run g nb cs used′ r C = called (r .refusal) nb cs used′
+        (by-operation u (s .a) (s .b) (s .value) g (record { number = C .number; held = C .held .1 .1 .1 }))
+        (marked-by-call u (s .value / 2 + 1) (s .a) (s .value % 2) C
+        ∙ ap (λ op. (usedStep u (operationOf op (s .a) (s .b) (s .value))) .after .used) (sym g))
+        (r .outcome) (r .determined)
+        (C .held .1 .0 ∙ ap (λ op. cond (eqb (r .refusal) 0)
+        (outcomeOf (u .held) (operationOf op (s .a) (s .b) (s .value))) 0) (sym g))
+        (C .held .1 .1 .0 ∙ ap (λ op. cond (eqb (r .refusal) 0)
+        (determinedOf (u .held) (operationOf op (s .a) (s .b) (s .value))) 0) (sym g))

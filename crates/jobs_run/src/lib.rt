@@ -16,7 +16,7 @@ pub use sequence::run_steps;
 ghost use Prim.Native.Nat.{_%_, _+_, _/_, _<_};
 ghost use Rattle.contracts.specs.Calls.{Call};
 ghost use Rattle.jobs.specs.Asked.{operationOf};
-ghost use Rattle.call_gates.specs.InPlaceCalls.{inPlaceCall, measureCall};
+ghost use Rattle.call_gates.specs.InPlaceCalls.{usedCall, usedMeasureCall};
 ghost use Rattle.call_gates.specs.internal.Knowing.{Known};
 ghost use Rattle.jobs_run.specs.internal.StepRuns.{Rewriting, StepRun};
 
@@ -25,16 +25,21 @@ fn run_measurement(
     n: u64,
     neighbours: &mut [u64],
     codes: &mut [u8],
+    used: &mut u64,
     qubit: u64,
     value: u16,
     known: bool,
 ) -> Answer
     requires { ⌜ value < 6 ⌝ }
-    requires { ⌜ Known known (record { n = n; neighbours = now neighbours; codes = now codes }) ⌝ }
-    ensures { λ r. ⌜ Call (measureCall
-        (record { n = n; neighbours = now (neighbours .entry); codes = now (codes .entry) })
-        (value / 2 + 1) qubit (value % 2) 0 0
-        (now (neighbours .exit)) (now (codes .exit)) (r .outcome) (r .determined)) (r .refusal) ⌝ }
+    requires { ⌜ Known known (record {
+      held = record { n = n; neighbours = now neighbours; codes = now codes };
+      used = now used;
+    }) ⌝ }
+    ensures { λ r. ⌜ Call (usedMeasureCall (record {
+      held = record { n = n; neighbours = now (neighbours .entry); codes = now (codes .entry) };
+      used = now (used .entry);
+    }) (value / 2 + 1) qubit (value % 2) 0 0 (now (neighbours .exit)) (now (codes .exit))
+        (now (used .exit)) (r .outcome) (r .determined)) (r .refusal) ⌝ }
 {
     let pauli = (value / 2 + 1) as u8;
     let bit = (value % 2) as u8;
@@ -44,6 +49,7 @@ fn run_measurement(
         n,
         neighbours,
         codes,
+        used,
         pauli,
         qubit,
         bit,
@@ -63,6 +69,7 @@ fn rewrite(
     n: u64,
     neighbours: &mut [u64],
     codes: &mut [u8],
+    used: u64,
     op: Op,
     a: u64,
     b: u64,
@@ -70,31 +77,47 @@ fn rewrite(
     known: bool,
 ) -> u8
     requires { ⌜ Rewriting op value ⌝ }
-    requires { ⌜ Known known (record { n = n; neighbours = now neighbours; codes = now codes }) ⌝ }
-    ensures { λ r. ⌜ Call (inPlaceCall
-        (record { n = n; neighbours = now (neighbours .entry); codes = now (codes .entry) })
-        (operationOf op a b value) (now (neighbours .exit)) (now (codes .exit))) r ⌝ }
+    requires { ⌜ Known known (record {
+      held = record { n = n; neighbours = now neighbours; codes = now codes };
+      used = used;
+    }) ⌝ }
+    ensures { λ r. ⌜ Call (usedCall (record {
+      held = record { n = n; neighbours = now (neighbours .entry); codes = now (codes .entry) };
+      used = used;
+    }) (operationOf op a b value) (now (neighbours .exit)) (now (codes .exit))) r ⌝ }
 {
     match op {
-        Op::Gate => gate_known(n, neighbours, codes, a, value as u8, known),
-        Op::Cz => cz_known(n, neighbours, codes, a, b, known),
-        Op::Complement => complement_known(n, neighbours, codes, a, known),
-        Op::Pivot => pivot_known(n, neighbours, codes, a, b, known),
+        Op::Gate => gate_known(n, neighbours, codes, used, a, value as u8, known),
+        Op::Cz => cz_known(n, neighbours, codes, used, a, b, known),
+        Op::Complement => complement_known(n, neighbours, codes, used, a, known),
+        Op::Pivot => pivot_known(n, neighbours, codes, used, a, b, known),
         Op::Measure => 0,
     }
 }
 
 // One step: its refusal, outcome and determined, and the record as it leaves it. `known`: no line refuses the record.
-pub fn run_step(n: u64, neighbours: &mut [u64], codes: &mut [u8], s: Step, known: bool) -> Answer
-    requires { ⌜ Known known (record { n = n; neighbours = now neighbours; codes = now codes }) ⌝ }
-    ensures { λ r. ⌜ StepRun
-        (record { n = n; neighbours = now (neighbours .entry); codes = now (codes .entry) })
-        s r (now (neighbours .exit)) (now (codes .exit)) ⌝ }
+pub fn run_step(
+    n: u64,
+    neighbours: &mut [u64],
+    codes: &mut [u8],
+    used: &mut u64,
+    s: Step,
+    known: bool,
+) -> Answer
+    requires { ⌜ Known known (record {
+      held = record { n = n; neighbours = now neighbours; codes = now codes };
+      used = now used;
+    }) ⌝ }
+    ensures { λ r. ⌜ StepRun (record {
+      held = record { n = n; neighbours = now (neighbours .entry); codes = now (codes .entry) };
+      used = now (used .entry);
+    }) s r (now (neighbours .exit)) (now (codes .exit)) (now (used .exit)) ⌝ }
 {
     let op = s.op;
     let value = s.value;
+    let word = *used;
     if unused_set(op, s.b, value) | wrong_value(op, value) {
-        let wrong = known_refusal(n, neighbours, codes, true, known);
+        let wrong = known_refusal(n, neighbours, codes, word, true, known);
         return Answer {
             refusal: wrong,
             outcome: 0,
@@ -103,9 +126,9 @@ pub fn run_step(n: u64, neighbours: &mut [u64], codes: &mut [u8], s: Step, known
     }
     let a = s.a as u64;
     if let Op::Measure = op {
-        return run_measurement(n, neighbours, codes, a, value, known);
+        return run_measurement(n, neighbours, codes, used, a, value, known);
     }
-    let refusal = rewrite(n, neighbours, codes, op, a, s.b as u64, value, known);
+    let refusal = rewrite(n, neighbours, codes, word, op, a, s.b as u64, value, known);
     Answer {
         refusal,
         outcome: 0,

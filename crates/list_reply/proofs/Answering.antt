@@ -37,7 +37,7 @@ pub too-many-printed : (l : GeneratorList) → 64 < l .n → answerText l ≡ re
 unfolding answerText
 too-many-printed l h =
     ap (λ k. cond (eqb k 0) (recordText (l .n) (neighbourWords (l .n) (reduced (l .n) (rows l)))
-    (codeNumbers (l .n) (reduced (l .n) (rows l)))) (refusedText k)) (too-many l false h)
+    (codeNumbers (l .n) (reduced (l .n) (rows l))) 0) (refusedText k)) (too-many l false h)
 
 module _ (l : GeneratorList) (nb cs out : List ℕ) (L : Lent (l .n) nb cs out) where
   -- the buffers lent for the answer make no line hold
@@ -73,7 +73,7 @@ module _ (l : GeneratorList) (nb cs out : List ℕ) (L : Lent (l .n) nb cs out) 
     unfolding answerText
     refused-printed h =
         ap refusedText number-is
-        ∙ sym (ap (λ b. cond b (recordText (l .n) answerWords answerCodes)
+        ∙ sym (ap (λ b. cond b (recordText (l .n) answerWords answerCodes 0)
         (refusedText (firstFitting (checkLines l))))
         (ne-eqb (firstFitting (checkLines l)) 0 (λ z. h (number-is ∙ z))))
 
@@ -87,11 +87,11 @@ module _ (l : GeneratorList) (nb cs out : List ℕ) (L : Lent (l .n) nb cs out) 
       codes-are : cs′ ≡ answerCodes
       codes-are = written-all R z .1 .0
 
-      pub record-printed : recordText (l .n) nb′ cs′ ≡ answerText l
+      pub record-printed : recordText (l .n) nb′ cs′ 0 ≡ answerText l
       unfolding answerText
       record-printed =
-          ap₂ (recordText (l .n)) words-are codes-are
-          ∙ sym (ap (λ b. cond b (recordText (l .n) answerWords answerCodes)
+          ap₂ (λ words codes. recordText (l .n) words codes 0) words-are codes-are
+          ∙ sym (ap (λ b. cond b (recordText (l .n) answerWords answerCodes 0)
           (refusedText (firstFitting (checkLines l))))
           (eq-eqb (firstFitting (checkLines l)) 0 passes))
 

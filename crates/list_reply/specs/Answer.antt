@@ -18,12 +18,13 @@ listRead ls =
     record { n = length ls; signs = map (λ l. l .sign) ls; z = map (λ l. l .z) ls; x = map (λ l. l .x) ls }
 
 -- "it prints the names `qubit code neighbours` and one line per qubit ..; or the one line `refused` and the number":
--- the list's record, or the number of the first line that holds of the list
+-- the list's record, or the number of the first line that holds of the list. "A record made from a list has the word 0"
+-- of used qubits
 unfoldable pub answerText : GeneratorList → List ℕ
 answerText l =
     cond (eqb (firstFitting (checkLines l)) 0)
     (recordText (l .n) (neighbourWords (l .n) (reduced (l .n) (rows l)))
-    (codeNumbers (l .n) (reduced (l .n) (rows l))))
+    (codeNumbers (l .n) (reduced (l .n) (rows l))) 0)
     (refusedText (firstFitting (checkLines l)))
 
 -- these bytes answer the text t. 1: "The program's text does not have its form"

@@ -31,7 +31,7 @@ fn print_reduced(
     if number != 0 {
         return print_refusal(number, out);
     }
-    print_record(n, neighbours, codes, 0, out)
+    print_record(n, neighbours, codes, 0, 0, out)
 }
 
 // The number of places of the buffers that hold a list of n.

@@ -7,6 +7,7 @@ pub mod Projection
 pub mod Determined
 pub mod Contradicted
 pub mod MeasuredRecords
+pub mod AloneVertices
 pub mod UnrefusedRecords
 pub mod Rewriting
 pub mod SessionExamples

@@ -74,7 +74,7 @@ same-letter Z Y h k e = absurd (true≢false e)
 same-letter Z Z h k e = refl
 
 -- X goes to a letter other than I, and so does every letter but I
-image-acts : (k : Class) → acts (imageX k) ≡ true
+pub image-acts : (k : Class) → acts (imageX k) ≡ true
 image-acts XZ = refl
 image-acts YZ = refl
 image-acts ZX = refl

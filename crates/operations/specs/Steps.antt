@@ -68,6 +68,14 @@ linesOf l (measurementOf pauli q b) = measureLines l pauli q b
 linesOf l (complementOf a) = complementLines l a
 linesOf l (pivotOf j k) = pivotLines l j k
 
+-- those of its arguments: they read n, and for a pivot the edges; a measurement has 14 after these
+abbrev pub argumentsOf : LentRecord → Operation → List Refusal
+argumentsOf l (gateWith q k) = gateLines l q k
+argumentsOf l (czOn a b) = czLines l a b
+argumentsOf l (measurementOf pauli q b) = argumentLines l pauli q b
+argumentsOf l (complementOf a) = complementLines l a
+argumentsOf l (pivotOf j k) = pivotLines l j k
+
 -- the new record of an accepted one. "All three answer the reduced record of the new group"; of a complement and a pivot
 -- "the answer is the record so rewritten, not reduced"
 abbrev pub made : LentRecord → Operation → GraphRecord
@@ -90,8 +98,3 @@ leaves l o =
 -- a measurement's further answer
 abbrev pub measuredAnswer : LentRecord → ℕ → ℕ → ℕ → Outcome
 measuredAnswer l pauli q b = measuredOutcome (l .n) (heldRows l) (pauliLetter pauli) q (isOdd b)
-
--- ---- sessions: one call after another on the record that the last one left
-abbrev pub session : LentRecord → List Operation → LentRecord
-session l [] = l
-session l (o ∷ rest) = session (leaves l o) rest

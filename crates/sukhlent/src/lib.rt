@@ -6,10 +6,11 @@ ghost use Rattle.contracts.specs.Calls.{Call};
 ghost use Rattle.call_cut.specs.Cuts.{cutCall};
 ghost use Rattle.call_generate.specs.Generation.{generateCall};
 ghost use Rattle.call_image.specs.Images.{imageCall};
-ghost use Rattle.call_lists.specs.Calls.{checkCall, expandCall, reduceCall};
+ghost use Rattle.call_lists.specs.Calls.{checkCall, reduceUnusedCall};
+ghost use Rattle.call_expand.specs.Expanding.{expandCall};
 ghost use Rattle.operations.specs.Steps.{complementOf, czOn, gateWith, pivotOf};
 ghost use Rattle.call_product.specs.Products.{productCall};
-ghost use Rattle.call_gates.specs.InPlaceCalls.{inPlaceCall, measureCall};
+ghost use Rattle.call_gates.specs.InPlaceCalls.{usedCall, usedMeasureCall};
 ghost use Rattle.call_strings.specs.StringCalls.{readStringsCall, writeStringsCall};
 
 // Lines 2, 4, 5, 6, 9 and 10 of a generator list.
@@ -30,12 +31,14 @@ pub extern "C" fn sukhlent_reduce(
     x: &[u64],
     neighbours: &mut [u64],
     codes: &mut [u8],
+    used: &mut u64,
 ) -> u8
-    ensures { λ r. ⌜ Call (reduceCall
+    ensures { λ r. ⌜ Call (reduceUnusedCall
         (record { n = n; signs = now (signs .entry); z = now (z .entry); x = now (x .entry) })
-        (now (neighbours .entry)) (now (codes .entry)) (now (neighbours .exit)) (now (codes .exit))) r ⌝ }
+        (now (neighbours .entry)) (now (codes .entry)) (now (used .entry))
+        (now (neighbours .exit)) (now (codes .exit)) (now (used .exit))) r ⌝ }
 {
-    call_lists::reduce(n, signs, z, x, neighbours, codes)
+    call_lists::reduce_unused(n, signs, z, x, neighbours, codes, used)
 }
 
 // The generators of a record, in order.
@@ -44,16 +47,20 @@ pub extern "C" fn sukhlent_expand(
     n: u64,
     neighbours: &[u64],
     codes: &[u8],
+    used: u64,
     signs: &mut [u8],
     z: &mut [u64],
     x: &mut [u64],
 ) -> u8
     ensures { λ r. ⌜ Call (expandCall
-        (record { n = n; neighbours = now (neighbours .entry); codes = now (codes .entry) })
+        (record {
+          held = record { n = n; neighbours = now (neighbours .entry); codes = now (codes .entry) };
+          used = used;
+        })
         (now (signs .entry)) (now (z .entry)) (now (x .entry))
         (now (signs .exit)) (now (z .exit)) (now (x .exit))) r ⌝ }
 {
-    call_lists::expand(n, neighbours, codes, signs, z, x)
+    call_expand::expand(n, neighbours, codes, used, signs, z, x)
 }
 
 // A code applied after the code held at a qubit, and the reduced record.
@@ -62,14 +69,18 @@ pub extern "C" fn sukhlent_gate(
     n: u64,
     neighbours: &mut [u64],
     codes: &mut [u8],
+    used: u64,
     qubit: u64,
     code: u8,
 ) -> u8
-    ensures { λ r. ⌜ Call (inPlaceCall
-        (record { n = n; neighbours = now (neighbours .entry); codes = now (codes .entry) })
+    ensures { λ r. ⌜ Call (usedCall
+        (record {
+          held = record { n = n; neighbours = now (neighbours .entry); codes = now (codes .entry) };
+          used = used;
+        })
         (gateWith qubit code) (now (neighbours .exit)) (now (codes .exit))) r ⌝ }
 {
-    call_gates::gate(n, neighbours, codes, qubit, code)
+    call_gates::gate(n, neighbours, codes, used, qubit, code)
 }
 
 // CZ on two qubits, and the reduced record.
@@ -78,14 +89,18 @@ pub extern "C" fn sukhlent_cz(
     n: u64,
     neighbours: &mut [u64],
     codes: &mut [u8],
+    used: u64,
     a: u64,
     b: u64,
 ) -> u8
-    ensures { λ r. ⌜ Call (inPlaceCall
-        (record { n = n; neighbours = now (neighbours .entry); codes = now (codes .entry) })
+    ensures { λ r. ⌜ Call (usedCall
+        (record {
+          held = record { n = n; neighbours = now (neighbours .entry); codes = now (codes .entry) };
+          used = used;
+        })
         (czOn a b) (now (neighbours .exit)) (now (codes .exit))) r ⌝ }
 {
-    call_gates::cz(n, neighbours, codes, a, b)
+    call_gates::cz(n, neighbours, codes, used, a, b)
 }
 
 // A Pauli measured at a qubit: the outcome, whether it was determined, and the reduced record.
@@ -94,21 +109,27 @@ pub extern "C" fn sukhlent_measure(
     n: u64,
     neighbours: &mut [u64],
     codes: &mut [u8],
+    used: &mut u64,
     pauli: u8,
     qubit: u64,
     outcome: u8,
     answer: &mut u8,
     determined: &mut u8,
 ) -> u8
-    ensures { λ r. ⌜ Call (measureCall
-        (record { n = n; neighbours = now (neighbours .entry); codes = now (codes .entry) })
+    ensures { λ r. ⌜ Call (usedMeasureCall
+        (record {
+          held = record { n = n; neighbours = now (neighbours .entry); codes = now (codes .entry) };
+          used = now (used .entry);
+        })
         pauli qubit outcome (now (answer .entry)) (now (determined .entry))
-        (now (neighbours .exit)) (now (codes .exit)) (now (answer .exit)) (now (determined .exit))) r ⌝ }
+        (now (neighbours .exit)) (now (codes .exit)) (now (used .exit)) (now (answer .exit))
+        (now (determined .exit))) r ⌝ }
 {
     call_measure::measure(
         n,
         neighbours,
         codes,
+        used,
         pauli,
         qubit,
         outcome,
@@ -123,13 +144,17 @@ pub extern "C" fn sukhlent_complement(
     n: u64,
     neighbours: &mut [u64],
     codes: &mut [u8],
+    used: u64,
     a: u64,
 ) -> u8
-    ensures { λ r. ⌜ Call (inPlaceCall
-        (record { n = n; neighbours = now (neighbours .entry); codes = now (codes .entry) })
+    ensures { λ r. ⌜ Call (usedCall
+        (record {
+          held = record { n = n; neighbours = now (neighbours .entry); codes = now (codes .entry) };
+          used = used;
+        })
         (complementOf a) (now (neighbours .exit)) (now (codes .exit))) r ⌝ }
 {
-    call_complement::complement(n, neighbours, codes, a)
+    call_complement::complement(n, neighbours, codes, used, a)
 }
 
 // A pivot on an edge; the record is not reduced.
@@ -138,14 +163,18 @@ pub extern "C" fn sukhlent_pivot(
     n: u64,
     neighbours: &mut [u64],
     codes: &mut [u8],
+    used: u64,
     j: u64,
     k: u64,
 ) -> u8
-    ensures { λ r. ⌜ Call (inPlaceCall
-        (record { n = n; neighbours = now (neighbours .entry); codes = now (codes .entry) })
+    ensures { λ r. ⌜ Call (usedCall
+        (record {
+          held = record { n = n; neighbours = now (neighbours .entry); codes = now (codes .entry) };
+          used = used;
+        })
         (pivotOf j k) (now (neighbours .exit)) (now (codes .exit))) r ⌝ }
 {
-    call_complement::pivot(n, neighbours, codes, j, k)
+    call_complement::pivot(n, neighbours, codes, used, j, k)
 }
 
 // The image graph, its signs, and the list of the vertices complemented.
@@ -173,14 +202,18 @@ pub extern "C" fn sukhlent_cut(
     n: u64,
     neighbours: &[u64],
     codes: &[u8],
+    used: u64,
     side: u64,
     rank: &mut u64,
 ) -> u8
     ensures { λ r. ⌜ Call (cutCall
-        (record { n = n; neighbours = now (neighbours .entry); codes = now (codes .entry) }) side
+        (record {
+          held = record { n = n; neighbours = now (neighbours .entry); codes = now (codes .entry) };
+          used = used;
+        }) side
         (now (rank .entry)) (now (rank .exit))) r ⌝ }
 {
-    call_cut::cut(n, neighbours, codes, side, rank)
+    call_cut::cut(n, neighbours, codes, used, side, rank)
 }
 
 // The product of the rows that a word chooses, and the power of i in front of its letters.

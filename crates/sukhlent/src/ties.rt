@@ -33,26 +33,39 @@ pub fn reduce_says(
     x: &[u64],
     neighbours: &mut [u64],
     codes: &mut [u8],
+    used: &mut u64,
 ) -> u8
     ensures { λ r. ⌜ ReduceSays
         (record { n = n; signs = now (signs .entry); z = now (z .entry); x = now (x .entry) })
-        (now (neighbours .entry)) (now (codes .entry)) (now (neighbours .exit)) (now (codes .exit)) r ⌝ }
+        (now (neighbours .entry)) (now (codes .entry)) (now (used .entry))
+        (now (neighbours .exit)) (now (codes .exit)) (now (used .exit)) r ⌝ }
 {
-    sukhlent_reduce(n, signs, z, x, neighbours, codes)
+    sukhlent_reduce(n, signs, z, x, neighbours, codes, used)
 }
 
-pub fn gate_says(n: u64, neighbours: &mut [u64], codes: &mut [u8], qubit: u64, code: u8) -> u8
+pub fn gate_says(
+    n: u64,
+    neighbours: &mut [u64],
+    codes: &mut [u8],
+    used: u64,
+    qubit: u64,
+    code: u8,
+) -> u8
     ensures { λ r. ⌜ GateSays
-        (record { n = n; neighbours = now (neighbours .entry); codes = now (codes .entry) })
+        (record {
+          held = record { n = n; neighbours = now (neighbours .entry); codes = now (codes .entry) };
+          used = used;
+        })
         qubit code (now (neighbours .exit)) (now (codes .exit)) r ⌝ }
 {
-    sukhlent_gate(n, neighbours, codes, qubit, code)
+    sukhlent_gate(n, neighbours, codes, used, qubit, code)
 }
 
 pub fn measure_says(
     n: u64,
     neighbours: &mut [u64],
     codes: &mut [u8],
+    used: &mut u64,
     pauli: u8,
     qubit: u64,
     outcome: u8,
@@ -60,14 +73,19 @@ pub fn measure_says(
     determined: &mut u8,
 ) -> u8
     ensures { λ r. ⌜ MeasureSays
-        (record { n = n; neighbours = now (neighbours .entry); codes = now (codes .entry) })
+        (record {
+          held = record { n = n; neighbours = now (neighbours .entry); codes = now (codes .entry) };
+          used = now (used .entry);
+        })
         pauli qubit outcome (now (answer .entry)) (now (determined .entry))
-        (now (neighbours .exit)) (now (codes .exit)) (now (answer .exit)) (now (determined .exit)) r ⌝ }
+        (now (neighbours .exit)) (now (codes .exit)) (now (used .exit)) (now (answer .exit))
+        (now (determined .exit)) r ⌝ }
 {
     sukhlent_measure(
         n,
         neighbours,
         codes,
+        used,
         pauli,
         qubit,
         outcome,
@@ -102,40 +120,53 @@ pub fn expand_says(
     n: u64,
     neighbours: &[u64],
     codes: &[u8],
+    used: u64,
     signs: &mut [u8],
     z: &mut [u64],
     x: &mut [u64],
 ) -> u8
     ensures { λ r. ⌜ ExpandSays
-        (record { n = n; neighbours = now (neighbours .entry); codes = now (codes .entry) })
+        (record {
+          held = record { n = n; neighbours = now (neighbours .entry); codes = now (codes .entry) };
+          used = used;
+        })
         (now (signs .entry)) (now (z .entry)) (now (x .entry))
         (now (signs .exit)) (now (z .exit)) (now (x .exit)) r ⌝ }
 {
-    sukhlent_expand(n, neighbours, codes, signs, z, x)
+    sukhlent_expand(n, neighbours, codes, used, signs, z, x)
 }
 
-pub fn cz_says(n: u64, neighbours: &mut [u64], codes: &mut [u8], a: u64, b: u64) -> u8
+pub fn cz_says(n: u64, neighbours: &mut [u64], codes: &mut [u8], used: u64, a: u64, b: u64) -> u8
     ensures { λ r. ⌜ CzSays
-        (record { n = n; neighbours = now (neighbours .entry); codes = now (codes .entry) })
+        (record {
+          held = record { n = n; neighbours = now (neighbours .entry); codes = now (codes .entry) };
+          used = used;
+        })
         a b (now (neighbours .exit)) (now (codes .exit)) r ⌝ }
 {
-    sukhlent_cz(n, neighbours, codes, a, b)
+    sukhlent_cz(n, neighbours, codes, used, a, b)
 }
 
-pub fn complement_says(n: u64, neighbours: &mut [u64], codes: &mut [u8], a: u64) -> u8
+pub fn complement_says(n: u64, neighbours: &mut [u64], codes: &mut [u8], used: u64, a: u64) -> u8
     ensures { λ r. ⌜ ComplementSays
-        (record { n = n; neighbours = now (neighbours .entry); codes = now (codes .entry) })
+        (record {
+          held = record { n = n; neighbours = now (neighbours .entry); codes = now (codes .entry) };
+          used = used;
+        })
         a (now (neighbours .exit)) (now (codes .exit)) r ⌝ }
 {
-    sukhlent_complement(n, neighbours, codes, a)
+    sukhlent_complement(n, neighbours, codes, used, a)
 }
 
-pub fn pivot_says(n: u64, neighbours: &mut [u64], codes: &mut [u8], j: u64, k: u64) -> u8
+pub fn pivot_says(n: u64, neighbours: &mut [u64], codes: &mut [u8], used: u64, j: u64, k: u64) -> u8
     ensures { λ r. ⌜ PivotSays
-        (record { n = n; neighbours = now (neighbours .entry); codes = now (codes .entry) })
+        (record {
+          held = record { n = n; neighbours = now (neighbours .entry); codes = now (codes .entry) };
+          used = used;
+        })
         j k (now (neighbours .exit)) (now (codes .exit)) r ⌝ }
 {
-    sukhlent_pivot(n, neighbours, codes, j, k)
+    sukhlent_pivot(n, neighbours, codes, used, j, k)
 }
 
 pub fn image_says(
@@ -155,12 +186,22 @@ pub fn image_says(
     sukhlent_image(n, neighbours, codes, image, signs, list, count)
 }
 
-pub fn cut_says(n: u64, neighbours: &[u64], codes: &[u8], side: u64, rank: &mut u64) -> u8
+pub fn cut_says(
+    n: u64,
+    neighbours: &[u64],
+    codes: &[u8],
+    used: u64,
+    side: u64,
+    rank: &mut u64,
+) -> u8
     ensures { λ r. ⌜ CutSays
-        (record { n = n; neighbours = now (neighbours .entry); codes = now (codes .entry) })
+        (record {
+          held = record { n = n; neighbours = now (neighbours .entry); codes = now (codes .entry) };
+          used = used;
+        })
         side (now (rank .entry)) (now (rank .exit)) r ⌝ }
 {
-    sukhlent_cut(n, neighbours, codes, side, rank)
+    sukhlent_cut(n, neighbours, codes, used, side, rank)
 }
 
 pub fn product_says(

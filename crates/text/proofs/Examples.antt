@@ -5,6 +5,7 @@ use mathlib.Core.Bool.{true, false}
 use mathlib.Core.List.{List, [], _∷_, _++_}
 use Prim.Native.Nat.{ℕ, _+_}
 use lib.ListN.{replicate}
+use Rattle.words.specs.Bits.{bit}
 use Rattle.text.specs.Text.{hexDigit, hexText, decimal, ListLine, lineText, linesText, listNames, listText}
 use Rattle.text.specs.Text.{qubitLine, qubitLines, recordText, refusedText}
 use Rattle.text.specs.internal.Scan.{hexValue, push, namesStep, signStep, zStep, xStep, oneMore, scanByte, begin}
@@ -29,13 +30,18 @@ input-text : listText bell ≡ input
 unfolding bell hexDigit hexText lineText linesText listText
 input-text = refl
 
-output-text : recordText 2 (2 ∷ 1 ∷ []) (0 ∷ 8 ∷ [])
+output-text : recordText 2 (2 ∷ 1 ∷ []) (0 ∷ 8 ∷ []) 0
     ≡ 113 ∷ 117 ∷ 98 ∷ 105 ∷ 116 ∷ 32 ∷ 99 ∷ 111 ∷ 100 ∷ 101 ∷ 32
-    ∷ 110 ∷ 101 ∷ 105 ∷ 103 ∷ 104 ∷ 98 ∷ 111 ∷ 117 ∷ 114 ∷ 115 ∷ 10
-    ∷ 48 ∷ 32 ∷ 48 ∷ 32 ∷ wordText 2 ++ 10
-    ∷ 49 ∷ 32 ∷ 56 ∷ 32 ∷ wordText 1 ++ 10 ∷ []
-unfolding hexDigit hexText decimal qubitLine qubitLines recordText
+    ∷ 110 ∷ 101 ∷ 105 ∷ 103 ∷ 104 ∷ 98 ∷ 111 ∷ 117 ∷ 114 ∷ 115 ∷ 32 ∷ 117 ∷ 115 ∷ 101 ∷ 100 ∷ 10
+    ∷ 48 ∷ 32 ∷ 48 ∷ 32 ∷ wordText 2 ++ 32 ∷ 48 ∷ 10
+    ∷ 49 ∷ 32 ∷ 56 ∷ 32 ∷ wordText 1 ++ 32 ∷ 48 ∷ 10 ∷ []
+unfolding bit hexDigit hexText decimal qubitLine qubitLines recordText
 output-text = refl
+
+-- a used vertex: `0 6 0000000000000000 1`
+used-line : qubitLine 0 6 0 true ≡ 48 ∷ 32 ∷ 54 ∷ 32 ∷ wordText 0 ++ 32 ∷ 49 ∷ 10 ∷ []
+unfolding hexDigit hexText decimal qubitLine
+used-line = refl
 
 -- "refused 10"
 refusal-text : refusedText 10 ≡ 114 ∷ 101 ∷ 102 ∷ 117 ∷ 115 ∷ 101 ∷ 100 ∷ 32 ∷ 49 ∷ 48 ∷ 10 ∷ []

@@ -1,11 +1,12 @@
 -- The text of a generator list and the texts that answer it, as lists of bytes: 10 ends a line, 32 is the
 -- space, 48 the digit 0, 97 the letter a.
 use mathlib.Core.Path.{_≡_}
-use mathlib.Core.Bool.{cond}
+use mathlib.Core.Bool.{Bool, cond}
 use mathlib.Core.List.{List, [], _∷_, _++_}
 use Prim.Native.Nat.{ℕ, zero, suc, _+_, _/_, _%_, _^_, _<_}
 use lib.Dec.{ltb}
 use lib.ListN.{length, getD, take, drop}
+use Rattle.words.specs.Bits.{bit, digit}
 
 -- a lower-case hexadecimal digit
 unfoldable pub hexDigit : ℕ → ℕ
@@ -72,25 +73,29 @@ pub record TextOf (ls : List ListLine) (t : List ℕ) : Type 0 where
 abbrev pub HasForm : List ℕ → Type 0
 HasForm t = (ls : List ListLine) × TextOf ls t
 
+-- "a final column `used`, 0 or 1", and the end of the line
+abbrev pub usedColumn : Bool → List ℕ
+usedColumn used = 32 ∷ (48 + digit used) ∷ 10 ∷ []
+
 -- "one line per qubit, rising from 0, with decimal qubit and code and the neighbour word in 16 hexadecimal digits"
-unfoldable pub qubitLine : ℕ → ℕ → ℕ → List ℕ
-qubitLine q code w = decimal q ++ space ++ decimal code ++ space ++ hexText 16 w ++ newline
+unfoldable pub qubitLine : ℕ → ℕ → ℕ → Bool → List ℕ
+qubitLine q code w used = decimal q ++ space ++ decimal code ++ space ++ hexText 16 w ++ usedColumn used
 
 -- the lines of the qubits below n, rising from 0
-unfoldable pub qubitLines : ℕ → List ℕ → List ℕ → List ℕ
-qubitLines zero neighbours codes = []
-qubitLines (suc q) neighbours codes =
-    qubitLines q neighbours codes ++ qubitLine q (getD codes q 0) (getD neighbours q 0)
+unfoldable pub qubitLines : ℕ → List ℕ → List ℕ → ℕ → List ℕ
+qubitLines zero neighbours codes used = []
+qubitLines (suc q) neighbours codes used =
+    qubitLines q neighbours codes used ++ qubitLine q (getD codes q 0) (getD neighbours q 0) (bit used q)
 
--- "the names `qubit code neighbours`"
+-- "the names `qubit code neighbours`", and `used`
 abbrev pub recordNames : List ℕ
 recordNames =
     113 ∷ 117 ∷ 98 ∷ 105 ∷ 116 ∷ 32 ∷ 99 ∷ 111 ∷ 100 ∷ 101 ∷ 32
-    ∷ 110 ∷ 101 ∷ 105 ∷ 103 ∷ 104 ∷ 98 ∷ 111 ∷ 117 ∷ 114 ∷ 115 ∷ 10 ∷ []
+    ∷ 110 ∷ 101 ∷ 105 ∷ 103 ∷ 104 ∷ 98 ∷ 111 ∷ 117 ∷ 114 ∷ 115 ∷ 32 ∷ 117 ∷ 115 ∷ 101 ∷ 100 ∷ 10 ∷ []
 
 -- the print of a record
-unfoldable pub recordText : ℕ → List ℕ → List ℕ → List ℕ
-recordText n neighbours codes = recordNames ++ qubitLines n neighbours codes
+unfoldable pub recordText : ℕ → List ℕ → List ℕ → ℕ → List ℕ
+recordText n neighbours codes used = recordNames ++ qubitLines n neighbours codes used
 
 -- "the one line `refused` and the number"
 abbrev pub refusedWord : List ℕ

@@ -1,10 +1,11 @@
 // The print of a record and of a refusal, into a lent buffer.
+use words::has;
 ghost use mathlib.Core.Path.{_≡_};
 ghost use mathlib.Core.List.{[], _∷_, _++_};
 ghost use Prim.Native.Nat.{_+_, _<_, _≤_};
 ghost use lib.ListN.{length};
 ghost use Rattle.text.specs.Text.{hexDigit, hexText, decimal, space, qubitLine, recordText, refusedText};
-ghost use Rattle.text.specs.Text.{Printed};
+ghost use Rattle.text.specs.Text.{Printed, usedColumn};
 ghost use Rattle.text.specs.internal.Text.{Printable};
 
 fn hex_digit(d: u8) -> u8
@@ -69,15 +70,27 @@ pub fn put_field(k: u8, at: usize, out: &mut [u8]) -> usize
     put(32, next, out)
 }
 
+// The column `used`, and the end of the line.
+fn put_used(used: bool, at: usize, out: &mut [u8]) -> usize
+    requires { ⌜ at + 3 ≤ length (now out) ⌝ }
+    ensures { λ r. ⌜ Printed (usedColumn used) at (now (out .entry)) (now (out .exit)) r ⌝ }
+{
+    if used {
+        put_bytes(b" 1\n", at, out)
+    } else {
+        put_bytes(b" 0\n", at, out)
+    }
+}
+
 // The line of qubit q.
-fn put_line(q: u8, code: u8, w: u64, at: usize, out: &mut [u8]) -> usize
-    requires { ⌜ (q < 100) × (code < 100) × (at + 23 ≤ length (now out)) ⌝ }
-    ensures { λ r. ⌜ Printed (qubitLine q code w) at (now (out .entry)) (now (out .exit)) r ⌝ }
+fn put_line(q: u8, code: u8, w: u64, used: bool, at: usize, out: &mut [u8]) -> usize
+    requires { ⌜ (q < 100) × (code < 100) × (at + 25 ≤ length (now out)) ⌝ }
+    ensures { λ r. ⌜ Printed (qubitLine q code w used) at (now (out .entry)) (now (out .exit)) r ⌝ }
 {
     let after_q = put_field(q, at, out);
     let after_code = put_field(code, after_q, out);
     let after_w = put_word(w, after_code, out);
-    put(10, after_w, out)
+    put_used(used, after_w, out)
 }
 
 // The record of n qubits, from a place on: the names and a line for each qubit. Returns the place behind it.
@@ -85,17 +98,18 @@ pub fn print_record(
     n: usize,
     neighbours: &[u64],
     codes: &[u8],
+    used: u64,
     from: usize,
     out: &mut [u8],
 ) -> usize
     requires { ⌜ Printable n (now neighbours) (now codes) from (now out) ⌝ }
-    ensures { λ r. ⌜ Printed (recordText n (now (neighbours .entry)) (now (codes .entry))) from
+    ensures { λ r. ⌜ Printed (recordText n (now (neighbours .entry)) (now (codes .entry)) used) from
         (now (out .entry)) (now (out .exit)) r ⌝ }
 {
-    let mut at = put_bytes(b"qubit code neighbours\n", from, out);
+    let mut at = put_bytes(b"qubit code neighbours used\n", from, out);
     let mut q = 0;
     while q < n {
-        at = put_line(q as u8, codes[q], neighbours[q], at, out);
+        at = put_line(q as u8, codes[q], neighbours[q], has(used, q), at, out);
         q += 1;
     }
     at

@@ -3,13 +3,11 @@ use mathlib.Core.Bool.{_&&_, Bool, cond, false, not, or-false, true, _||_}
 use mathlib.Core.Logic.{inl, inr, _⊎_}
 use mathlib.Core.Path.{ap, ap₂, refl, subst, sym, _∙_, _≡_}
 use Prim.Native.Nat.{_*_, _+_, _-_, _<_, _^_, ℕ}
-use lib.Dec.{eqb, lit<}
+use lib.Dec.{eqb}
 use lib.ListN.{getD}
 use borrow.Author.Tests.{eq-eqb, eqb-true, leb-false, lt-leb}
 use Rattle.buffers.specs.Refusals.{firstFitting}
-use Rattle.jobs.specs.Asked.{withTest}
 use Rattle.operations.specs.Steps.{Operation, complementOf, czOn, gateWith, leaves, measurementOf, pivotOf}
-use Rattle.record.proofs.RecordLines.{record-numbered}
 use Rattle.record.specs.Lent.{recordLines}
 use Rattle.words.proofs.BitLaws.{wordOf-lt}
 use Rattle.words.proofs.Flags.{either}
@@ -19,8 +17,7 @@ use Rattle.used.specs.Used.{UsedRecord, usedAfter, usedCode, usedLines, 
 use Rattle.used.specs.internal.UsedLaws.{MeasuredMarks}
 use Rattle.used.specs.UsedLaws.{UsedDemand, UsedLeft, UsedPasses}
 use Rattle.used.proofs.AcceptedSteps.{after-made, made-passes}
-use Rattle.used.proofs.AddedLines.{test-passes}
-use Rattle.used.proofs.UsedPassing.{used-passes, used-step}
+use Rattle.used.proofs.UsedPassing.{lines-pass, used-passes, used-step}
 use Rattle.used.proofs.UsedRefusing.{used-refused}
 use Rattle.used.proofs.UsedStaying.{stays-after, used-code}
 use Rattle.used.proofs.MeasuringMarks.{arguments, measured-bit, measured-code, measured-marks, measured-word, pauli-code}
@@ -31,26 +28,24 @@ unfolded : (v : UsedRecord) → ((t : ℕ) → (bit (v .used) t && (not (eqb (ge
 unfolding usedWrong
 unfolded v h = some-none (v .held .n) _ (λ t l. h t)
 
--- a used word below 2 ^ n whose vertices are alone and have one of the six codes passes
-good-passes : (v : UsedRecord) → firstFitting (recordLines (v .held) false false) ≡ 0 → v .used < 2 ^ (v .held .n)
-    → ((t : ℕ) → bit (v .used) t ≡ true
-    → (getD (v .held .neighbours) t 0 ≡ 0) × (usedCode (getD (v .held .codes) t 0) ≡ true))
-    → firstFitting (usedLines v false false false) ≡ 0
-good-passes v e below good =
-    test-passes 7 (usedWrong v) (withTest 5 (usedStray v || false) (recordLines (v .held) false false))
-    (lit< tt, (lit< tt, (lit< tt, (lit< tt, (lit< tt, tt))))) refl .1 (
-      test-passes 5 (usedStray v || false) (recordLines (v .held) false false) (record-numbered (v .held) false false) refl .1
-          (e, or-false (usedStray v) ∙ lt-leb (2 ^ (v .held .n)) (v .used) below),
-      none-wrong,
-    )
+-- each used vertex is alone and has one of the six codes
+pub all-good : (v : UsedRecord) → ((t : ℕ) → bit (v .used) t ≡ true
+    → (getD (v .held .neighbours) t 0 ≡ 0) × (usedCode (getD (v .held .codes) t 0) ≡ true)) → usedWrong v ≡ false
+all-good v good = unfolded v (λ t. at t (bit (v .used) t) refl)
   where
     at : (t : ℕ) (b : Bool) → bit (v .used) t ≡ b
         → (b && (not (eqb (getD (v .held .neighbours) t 0) 0) || not (usedCode (getD (v .held .codes) t 0)))) ≡ false
     at t false h = refl
     at t true h = ap₂ (λ a b. not a || not b) (eq-eqb (getD (v .held .neighbours) t 0) 0 (good t h .0)) (good t h .1)
 
-    none-wrong : usedWrong v ≡ false
-    none-wrong = unfolded v (λ t. at t (bit (v .used) t) refl)
+-- with a used word below 2 ^ n it passes
+good-passes : (v : UsedRecord) → firstFitting (recordLines (v .held) false false) ≡ 0 → v .used < 2 ^ (v .held .n)
+    → ((t : ℕ) → bit (v .used) t ≡ true
+    → (getD (v .held .neighbours) t 0 ≡ 0) × (usedCode (getD (v .held .codes) t 0) ≡ true))
+    → firstFitting (usedLines v false false false) ≡ 0
+good-passes v e below good =
+    lines-pass v false false false .1
+    (e, or-false (usedStray v) ∙ lt-leb (2 ^ (v .held .n)) (v .used) below, all-good v good)
 
 module _ (u : UsedRecord) (o : Operation) (P : UsedPasses u o) where
   abbrev left : UsedRecord

@@ -1,5 +1,3 @@
-pub mod AddedLines
-pub mod AloneVertices
 pub mod UsedPassing
 pub mod StayingAlone
 pub mod AcceptedSteps

@@ -39,7 +39,7 @@ use Rattle.words.specs.Bits.{bit, digit, isOdd}
 use Rattle.used.specs.Used.{UsedRecord, usedAfter, usedCode}
 use Rattle.used.specs.UsedLaws.{UsedPasses}
 use Rattle.used.proofs.AcceptedSteps.{MeasureArguments, accepted-step, after-made, measure-arguments, measured-list}
-use Rattle.used.proofs.AloneVertices.{alone-code, alone-graph, aloneCode}
+use Rattle.operations.proofs.AloneVertices.{alone-code, alone-graph, aloneCode}
 use Rattle.used.proofs.UsedStaying.{code-written, word-alone}
 
 -- the measured Pauli, with the outcome's sign, is in the group afterwards

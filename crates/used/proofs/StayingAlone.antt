@@ -5,9 +5,9 @@ use mathlib.Core.Logic.{_≢_}
 use mathlib.Core.Path.{ap, ap₂, refl, subst, sym, _∙_, _≡_}
 use Prim.Native.Nat.{_<_, ℕ}
 use lib.Dec.{eqb}
-use Rattle.clifford.specs.Clifford.{Class, Clifford, XY, XZ, YX, YZ, ZX, ZY, cliffordOf, codeOf, image, imageX, then}
+use Rattle.clifford.specs.Clifford.{Clifford, cliffordOf, codeOf, image, then}
 use Rattle.operations.proofs.Determined.{determined-kept, measured-group}
-use Rattle.operations.proofs.MeasuredRecords.{acts, single-clash}
+use Rattle.operations.proofs.MeasuredRecords.{image-acts, single-clash}
 use Rattle.operations.specs.Cz.{cz, czSign}
 use Rattle.operations.specs.Measurement.Measured.{kept}
 use Rattle.operations.specs.Measurement.{isDetermined, measuredRows, single}
@@ -22,16 +22,7 @@ use Rattle.stabilizer.specs.Groups.{InGroup, Proper}
 use Rattle.words.proofs.Finite.{bits}
 use Rattle.words.proofs.Places.{other-place}
 use Rattle.words.specs.Bits.{_⊕_}
-use Rattle.used.proofs.AloneVertices.{Low, alone-code, alone-graph, low-number}
-
--- X goes to a letter other than I
-image-acts : (k : Class) → acts (imageX k) ≡ true
-image-acts XZ = refl
-image-acts YZ = refl
-image-acts ZX = refl
-image-acts XY = refl
-image-acts YX = refl
-image-acts ZY = refl
+use Rattle.operations.proofs.AloneVertices.{Low, alone-code, alone-graph, low-number}
 
 -- a list whose group has the Pauli of a code at q: so has its reduced record, alone
 module _ (n : ℕ) (rows : ℕ → Pauli) (P : Proper n rows) (q : ℕ) (hq : q < n) (k : Clifford)

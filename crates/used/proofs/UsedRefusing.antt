@@ -8,20 +8,19 @@ use native.Mathlib.Decide.{ℕ-discrete}
 use native.Mathlib.Omega.{arith}
 use lib.Dec.{lit<}
 use Rattle.buffers.proofs.Lines.{AllBelow, Numbered, first-below, fits, more-accepted, more-refused, passed}
-use Rattle.buffers.specs.Refusals.{Refusal, firstFitting, line}
-use Rattle.jobs.specs.Asked.{withTest}
+use Rattle.buffers.specs.Refusals.{Refusal, firstFitting, line, withTest}
 use Rattle.operations.specs.Measurement.{contradicts, pauliLetter}
 use Rattle.operations.specs.Steps.{Operation, complementOf, czOn, gateWith, linesOf, measurementOf, pivotOf}
 use Rattle.record.specs.Accepted.{AcceptedRecord}
 use Rattle.record.specs.Lent.{heldRecord, heldRows}
 use Rattle.words.proofs.BitLaws.{zero-bit}
-use Rattle.words.proofs.Flags.{either}
+use Rattle.words.proofs.Flags.{either, never-true}
 use Rattle.words.specs.Bits.{bit, isOdd}
 use Rattle.used.specs.Used.{UsedRecord, namesUsed, usedLinesOf, usedStray, usedWrong}
 use Rattle.used.specs.internal.UsedLaws.{PivotNever}
 use Rattle.used.specs.UsedLaws.{UsedRefused, earlierLines}
 use Rattle.used.proofs.AcceptedSteps.{accepted-step, pivot-edge}
-use Rattle.used.proofs.UsedPassing.{by-five, by-seven}
+use Rattle.used.proofs.UsedPassing.{by-five, by-seven, counted}
 use Rattle.used.proofs.UsedStaying.{used-word}
 
 -- the lines after 16
@@ -97,27 +96,27 @@ used-refused u o =
     (sym (in-order u o)) (between (earlierLines u o) (later u o) (namesUsed u o) (early u o .0) (early u o .1) (late u o))
 
 -- ---- a pivot
+-- the ends of an edge are not used
+pub edge-unused : (u : UsedRecord) → AcceptedRecord (u .held) → usedStray u ≡ false → usedWrong u ≡ false
+    → (j k : ℕ) → (heldRecord (u .held)) .graph j k ≡ true → namesUsed u (pivotOf j k) ≡ false
+edge-unused u A no-stray none-wrong j k edge = never-true (namesUsed u (pivotOf j k))
+    (λ h. elim (either (bit (u .used) j) (bit (u .used) k) h) [
+      | inl m ↦ no-edge j k m edge
+      | inr m ↦ no-edge k j m (A .simple .symmetric k j ∙ edge)
+    ])
+  where
+    no-edge : (a b : ℕ) → bit (u .used) a ≡ true → (heldRecord (u .held)) .graph a b ≡ true → ⊥
+    no-edge a b m t = true≢false (sym t ∙ ap (λ w. bit w b) (used-word u none-wrong no-stray a m) ∙ zero-bit b)
+
 pub pivot-never : (u : UsedRecord) → PivotNever u
-pivot-never u j k e = elim (either (bit (u .used) j) (bit (u .used) k) (h .1)) [
-  | inl m ↦ no-edge j k m edge
-  | inr m ↦ no-edge k j m (A .simple .symmetric k j ∙ edge)
-]
+pivot-never u j k e = true≢false (sym (h .1) ∙ edge-unused u (accepted-step (u .held) (pivotOf j k) (five .0)) (five .1)
+    (seven .1) j k (pivot-edge (u .held) j k (five .0)))
   where
     h : (firstFitting (earlierLines u (pivotOf j k)) ≡ 0) × (namesUsed u (pivotOf j k) ≡ true)
     h = used-refused u (pivotOf j k) .0 e
 
     seven : (firstFitting (withTest 5 (usedStray u) (linesOf (u .held) (pivotOf j k))) ≡ 0) × (usedWrong u ≡ false)
-    seven = by-seven u (pivotOf j k) .0 (h .0)
+    seven = by-seven u (linesOf (u .held) (pivotOf j k)) (counted (u .held) (pivotOf j k)) .0 (h .0)
 
     five : (firstFitting (linesOf (u .held) (pivotOf j k)) ≡ 0) × (usedStray u ≡ false)
-    five = by-five u (pivotOf j k) .0 (seven .0)
-
-    A : AcceptedRecord (u .held)
-    A = accepted-step (u .held) (pivotOf j k) (five .0)
-
-    edge : (heldRecord (u .held)) .graph j k ≡ true
-    edge = pivot-edge (u .held) j k (five .0)
-
-    -- a used vertex has no edge
-    no-edge : (a b : ℕ) → bit (u .used) a ≡ true → (heldRecord (u .held)) .graph a b ≡ true → ⊥
-    no-edge a b m t = true≢false (sym t ∙ ap (λ w. bit w b) (used-word u (seven .1) (five .1) a m) ∙ zero-bit b)
+    five = by-five u (linesOf (u .held) (pivotOf j k)) (counted (u .held) (pivotOf j k)) .0 (seven .0)

@@ -33,7 +33,7 @@ use Rattle.words.specs.Bits.{Word, bit, isOdd, wordOf}
 use Rattle.used.specs.Used.{UsedRecord, usedCode, usedStep, usedStray, usedWrong}
 use Rattle.used.specs.UsedLaws.{UsedPasses, UsedStay}
 use Rattle.used.proofs.AcceptedSteps.{accepted-step, after-made, cz-list, gate-proper, measure-arguments, measured-list}
-use Rattle.used.proofs.AloneVertices.{Low}
+use Rattle.operations.proofs.AloneVertices.{Low}
 use Rattle.used.proofs.StayingAlone.{AloneAt, complement-alone, cz-single, kept-code, kept-graph, measured-single}
 use Rattle.used.proofs.UsedPassing.{used-passes}
 
@@ -51,7 +51,7 @@ pub code-written : (n : ℕ) (r : GraphRecord) (q : ℕ) → q < n → getD (cod
 code-written n r q l = tabulate-at n _ q l
 
 -- "its code is 0, 2, 4, 6, 8 or 10"
-used-low : (c : ℕ) → usedCode c ≡ true → Low (cliffordOf c) × (codeOf (cliffordOf c) ≡ c)
+pub used-low : (c : ℕ) → usedCode c ≡ true → Low (cliffordOf c) × (codeOf (cliffordOf c) ≡ c)
 used-low c e =
     let h = both-true _ _ e in
     let below : c < 12 = ltb-true c 12 (h .0) in

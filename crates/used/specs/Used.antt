@@ -1,12 +1,22 @@
 -- Records with a word of used qubits (02, §8): their lines, and what a call leaves.
-use mathlib.Core.Bool.{_&&_, Bool, cond, not, _||_}
-use mathlib.Core.List.{List, [], _∷_}
+use mathlib.Core.Bool.{_&&_, Bool, cond, false, not, _||_}
+use mathlib.Core.List.{List}
+use mathlib.Core.Path.{_≡_}
 use Prim.Native.Nat.{_^_, ℕ}
 use lib.Dec.{eqb, leb, ltb}
 use lib.ListN.{getD}
-use Rattle.buffers.specs.Refusals.{Refusal, firstFitting, line}
-use Rattle.jobs.specs.Asked.{withTest}
-use Rattle.operations.specs.Steps.{Operation, complementOf, czOn, gateWith, leaves, linesOf, measurementOf, pivotOf}
+use Rattle.buffers.specs.Refusals.{Refusal, firstFitting, insertedAfter, line, withTest}
+use Rattle.operations.specs.Steps.{
+  Operation,
+  argumentsOf,
+  complementOf,
+  czOn,
+  gateWith,
+  leaves,
+  linesOf,
+  measurementOf,
+  pivotOf,
+}
 use Rattle.record.specs.Lent.{LentRecord, recordLines}
 use Rattle.words.specs.Bits.{bit, isOdd, wordOf}
 use Rattle.words.specs.Search.{some}
@@ -15,11 +25,6 @@ use Rattle.words.specs.Search.{some}
 pub record UsedRecord : Type 0 where
   pub held : LentRecord
   pub used : ℕ
-
--- the line put in directly after the one with number k
-abbrev pub insertedAfter : ℕ → Refusal → List Refusal → List Refusal
-insertedAfter k new [] = []
-insertedAfter k new (l ∷ ls) = l ∷ cond (eqb (l .number) k) (new ∷ insertedAfter k new ls) (insertedAfter k new ls)
 
 -- "its code is 0, 2, 4, 6, 8 or 10"
 abbrev pub usedCode : ℕ → Bool
@@ -34,10 +39,15 @@ usedWrong u = some (u .held .n) (λ q. bit (u .used) q
 abbrev pub usedStray : UsedRecord → Bool
 usedStray u = leb (2 ^ (u .held .n)) (u .used)
 
--- the lines of a record with its used word, in checking order
+-- the lines of the record in checking order; `others`: a further buffer has a wrong length; `five`, `six`: line 5 or 6
+-- holds of a further argument
 abbrev pub usedLines : UsedRecord → Bool → Bool → Bool → List Refusal
 usedLines u others five six =
     withTest 7 (usedWrong u) (withTest 5 (usedStray u || five) (recordLines (u .held) others six))
+
+-- no line of the record refuses it
+pub record UsedUnrefused (u : UsedRecord) : Type 0 where
+  pub no-line : firstFitting (usedLines u false false false) ≡ 0
 
 -- 16: "the call names a used qubit"
 abbrev pub namesUsed : UsedRecord → Operation → Bool
@@ -47,10 +57,18 @@ namesUsed u (measurementOf pauli q b) = bit (u .used) q
 namesUsed u (complementOf a) = bit (u .used) a
 namesUsed u (pivotOf j k) = bit (u .used) j || bit (u .used) k
 
--- the lines of the operation as they stand, with these tests; 16 is "checked directly after 8"
+-- lines as they stand with the tests of used qubits; `named`: the call names one. 16 is "checked directly after 8"
+abbrev pub withUsed : UsedRecord → Bool → List Refusal → List Refusal
+withUsed u named lines =
+    insertedAfter 8 (line 16 named) (withTest 7 (usedWrong u) (withTest 5 (usedStray u) lines))
+
+-- those of an operation
 abbrev pub usedLinesOf : UsedRecord → Operation → List Refusal
-usedLinesOf u o = insertedAfter 8 (line 16 (namesUsed u o))
-    (withTest 7 (usedWrong u) (withTest 5 (usedStray u) (linesOf (u .held) o)))
+usedLinesOf u o = withUsed u (namesUsed u o) (linesOf (u .held) o)
+
+-- those of its arguments; a measurement has 14 after these
+abbrev pub usedArgumentsOf : UsedRecord → Operation → List Refusal
+usedArgumentsOf u o = withUsed u (namesUsed u o) (argumentsOf (u .held) o)
 
 -- "an accepted measurement sets the qubit's bit"; "gates, cz and rewritings copy it"
 abbrev pub usedAfter : UsedRecord → Operation → ℕ

@@ -5,9 +5,8 @@ use mathlib.Core.Logic.{_↔_}
 use mathlib.Core.Path.{_≡_}
 use Prim.Native.Nat.{ℕ}
 use lib.ListN.{getD}
-use Rattle.buffers.specs.Refusals.{Refusal, firstFitting}
-use Rattle.jobs.specs.Asked.{argumentsOf, withTest}
-use Rattle.operations.specs.Steps.{Operation, leaves, linesOf}
+use Rattle.buffers.specs.Refusals.{Refusal, firstFitting, withTest}
+use Rattle.operations.specs.Steps.{Operation, argumentsOf, leaves, linesOf}
 use Rattle.record.specs.Lent.{LentRecord}
 use Rattle.words.specs.Bits.{bit}
 use Rattle.used.specs.Used.{UsedRecord, namesUsed, usedAfter, usedLines, usedStep, usedStray, usedWrong}

@@ -1,68 +1,70 @@
 -- `pivot_known` meets its contract: a pivot on an edge; the record is not reduced.
-use mathlib.Core.Path.{refl, sym, _∙_}
+use mathlib.Core.Path.{refl, _≡_}
 use native.Mathlib.Omega.{arith}
 use borrow.Author.Needs.{needs}
+use Rattle.buffers.specs.Refusals.{firstFitting}
+use Rattle.call_gates.proofs.InPlaceCalls.{in-place-done}
+use Rattle.call_gates.proofs.InPlaceLines.{pair-below, pair-ready, pairLines}
+use Rattle.call_gates.proofs.UsedInPlace.{edge-accepts, no-edge-refuses, pair-before, pair-refused}
 use Rattle.contracts.proofs.Calling.{refused}
 use Rattle.operations.specs.Steps.{pivotOf}
-use Rattle.record.specs.Lent.{LentRecord}
-use Rattle.call_gates.proofs.InPlaceCalls.{in-place-done}
-use Rattle.call_gates.proofs.InPlaceLines.{
-  edge-passes,
-  no-edge-refuses,
-  pair-below,
-  pair-ready,
-  pair-refused,
-}
+use Rattle.used.specs.Used.{UsedRecord}
 use Rattle.call_complement.proofs.pivot_known.Statement.{statement}
 use Rattle.call_complement.proofs.pivot_known.Tie as tie
+
+-- the record that is lent
+abbrev lent : tie.Start → UsedRecord
+lent S =
+    record {
+      held = record { n = S .args .n; neighbours = S .args .neighbours .now; codes = S .args .codes .now };
+      used = S .args .used;
+    }
+
+-- no line of the pair holds
+paired : (D : tie.Else1) → let S = D .before .before .before .before .before .before in
+    firstFitting (pairLines (lent S .held) (S .args .j) (S .args .k)) ≡ 0
+paired D =
+    let E = D .before in
+    let S = E .before .before .before .before .before in
+    pair-before (lent S) (S .args .j) (S .args .k) (E .in-place-refusal .ensures) (D .if1 .left)
 
 returns : tie.Need-returns
 returns c =
     let E = c .before in
-    let a = E .before .before .before .before .before .args in
-    let l : LentRecord = record { n = a .n; neighbours = a .neighbours .now; codes = a .codes .now } in
-    refused _ (pair-refused l (a .j) (a .k) _ (E .in-place-refusal .ensures) (c .if1 .taken)) (c .if1 .taken)
-    (refl, (refl, tt))
+    let S = E .before .before .before .before .before in
+    refused _ (pair-refused (lent S) (S .args .j) (S .args .k) (E .in-place-refusal .ensures) (c .if1 .taken))
+    (c .if1 .taken) (refl, (refl, tt))
 
 mul-has : tie.Need-mul-has
 mul-has c =
-    let E = c .before in
-    let a = E .before .before .before .before .before .args in
-    let l : LentRecord = record { n = a .n; neighbours = a .neighbours .now; codes = a .codes .now } in
-    let below = pair-below l (a .j) (a .k) (sym (E .in-place-refusal .ensures) ∙ c .if1 .left) in
+    let S = c .before .before .before .before .before .before in
+    let below = pair-below (lent S .held) (S .args .j) (S .args .k) (paired c) in
     search (needs, below .0)
 
 slice-read-has : tie.Need-slice-read-has
 slice-read-has c =
-    let E = c .before .before in
-    let a = E .before .before .before .before .before .args in
-    let l : LentRecord = record { n = a .n; neighbours = a .neighbours .now; codes = a .codes .now } in
-    pair-ready l (a .j) (a .k) (sym (E .in-place-refusal .ensures) ∙ c .before .if1 .left) .1 .0
+    let S = c .before .before .before .before .before .before .before in
+    pair-ready (lent S .held) (S .args .j) (S .args .k) (paired (c .before)) .1 .0
 
 has-requires : tie.Need-has-requires
 has-requires c κs =
-    let E = c .before .before in
-    let a = E .before .before .before .before .before .args in
-    let l : LentRecord = record { n = a .n; neighbours = a .neighbours .now; codes = a .codes .now } in
-    pair-below l (a .j) (a .k) (sym (E .in-place-refusal .ensures) ∙ c .before .if1 .left) .1
+    let S = c .before .before .before .before .before .before .before in
+    pair-below (lent S .held) (S .args .j) (S .args .k) (paired (c .before)) .1
 
 returns-2 : tie.Need-returns-2
 returns-2 c =
     let H = c .before in
     let D = H .before .before in
     let E = D .before in
-    let a = E .before .before .before .before .before .args in
-    let l : LentRecord = record { n = a .n; neighbours = a .neighbours .now; codes = a .codes .now } in
-    refused _ (no-edge-refuses l (a .j) (a .k) _ (E .in-place-refusal .ensures) (D .if1 .left) _ (H .has .ensures)
-    (c .if2 .taken)) (λ e. absurd (omega (arith, e))) (refl, (refl, tt))
+    let S = E .before .before .before .before .before in
+    refused _ (no-edge-refuses (lent S) (S .args .j) (S .args .k) (E .in-place-refusal .ensures) (D .if1 .left) _
+    (H .has .ensures) (c .if2 .taken)) (λ e. absurd (omega (arith, e))) (refl, (refl, tt))
 
 pivot-record-requires : tie.Need-pivot-record-requires
 pivot-record-requires c κs =
     let D = c .before .before .before .before .before in
-    let E = D .before in
-    let a = E .before .before .before .before .before .args in
-    let l : LentRecord = record { n = a .n; neighbours = a .neighbours .now; codes = a .codes .now } in
-    pair-ready l (a .j) (a .k) (sym (E .in-place-refusal .ensures) ∙ D .if1 .left)
+    let S = D .before .before .before .before .before .before in
+    pair-ready (lent S .held) (S .args .j) (S .args .k) (paired D)
 
 returns-3 : tie.Need-returns-3
 returns-3 c =
@@ -71,10 +73,10 @@ returns-3 c =
     let H = F .before in
     let D = H .before .before in
     let E = D .before in
-    let a = E .before .before .before .before .before .args in
-    let l : LentRecord = record { n = a .n; neighbours = a .neighbours .now; codes = a .codes .now } in
-    in-place-done l (pivotOf (a .j) (a .k))
-    (edge-passes l (a .j) (a .k) _ (E .in-place-refusal .ensures) (D .if1 .left) _ (H .has .ensures) (F .if2 .left))
+    let S = E .before .before .before .before .before in
+    in-place-done (lent S) (pivotOf (S .args .j) (S .args .k))
+    (edge-accepts (lent S) (S .args .j) (S .args .k) (E .in-place-refusal .ensures) (D .if1 .left) _ (H .has .ensures)
+    (F .if2 .left))
     refl (G .pivot-record .ensures .neighbours) (G .pivot-record .ensures .numbers)
 
 pub pivot-known-spec : {M : Type 1} → statement M

@@ -1,37 +1,59 @@
 -- `cz_known` meets its contract: CZ on two qubits, and the reduced record.
-use mathlib.Core.Path.{refl, sym, _∙_}
+use mathlib.Core.Bool.{false, _||_}
+use mathlib.Core.Path.{_≡_, ap₂, refl}
+use lib.Dec.{eqb, leb}
 use borrow.Author.Needs.{needs}
+use Rattle.buffers.specs.Refusals.{firstFitting}
 use Rattle.contracts.proofs.Calling.{refused}
-use Rattle.operations.specs.Steps.{czOn}
-use Rattle.record.specs.Lent.{LentRecord}
-use Rattle.call_gates.proofs.InPlaceCalls.{in-place-done}
+use Rattle.operations.specs.Steps.{Operation, czOn}
+use Rattle.used.specs.Used.{UsedRecord, usedLinesOf}
+use Rattle.call_gates.proofs.InPlaceCalls.{as-before, in-place-done}
 use Rattle.call_gates.proofs.InPlaceLines.{cz-ready}
+use Rattle.call_gates.proofs.UsedInPlace.{named-as}
 use Rattle.call_gates.proofs.cz_known.Statement.{statement}
 use Rattle.call_gates.proofs.cz_known.Tie as tie
 
+-- the record that is lent
+abbrev lent : tie.Start → UsedRecord
+lent S =
+    record {
+      held = record { n = S .args .n; neighbours = S .args .neighbours .now; codes = S .args .codes .now };
+      used = S .args .used;
+    }
+
+abbrev asked : tie.Start → Operation
+asked S = czOn (S .args .a) (S .args .b)
+
+-- the number of its lines
+number : (E : tie.After-in-place-refusal)
+    → E .in-place-refusal .result ≡ firstFitting (usedLinesOf (lent (E .before .before .before .before .before .before .before)) (asked (E .before .before .before .before .before .before .before)))
+number E =
+    let I = E .before .before .before in
+    let S = I .before .before .before .before in
+    let a = S .args in
+    named-as (lent S) false (leb (a .n) (a .a) || (leb (a .n) (a .b) || eqb (a .a) (a .b)))
+    (E .in-place-refusal .ensures) (ap₂ _||_ (I .before .is-used .ensures) (I .is-used2 .ensures))
+
 returns : tie.Need-returns
-returns c = refused _ (c .before .in-place-refusal .ensures) (c .if1 .taken) (refl, (refl, tt))
+returns c = refused _ (number (c .before)) (c .if1 .taken) (refl, (refl, tt))
 
 cz-record-requires : tie.Need-cz-record-requires
 cz-record-requires c κs =
     let D = c .before .before in
-    let E = D .before in
-    let a = E .before .before .before .before .before .args in
-    let l : LentRecord = record { n = a .n; neighbours = a .neighbours .now; codes = a .codes .now } in
-    cz-ready l (a .a) (a .b) (sym (E .in-place-refusal .ensures) ∙ D .if1 .left)
+    let S = D .before .before .before .before .before .before .before .before in
+    cz-ready (lent S .held) (S .args .a) (S .args .b)
+    (as-before (lent S) (asked S) (number (D .before)) (D .if1 .left))
 
 returns-2 : tie.Need-returns-2
 returns-2 c =
     let G = c .before .before .before .before in
     let D = G .before .before .before in
-    let E = D .before in
-    let a = E .before .before .before .before .before .args in
-    let l : LentRecord = record { n = a .n; neighbours = a .neighbours .now; codes = a .codes .now } in
-    in-place-done l (czOn (a .a) (a .b)) (E .in-place-refusal .ensures) (D .if1 .left)
+    let S = D .before .before .before .before .before .before .before .before in
+    in-place-done (lent S) (asked S) (number (D .before)) (D .if1 .left)
     (G .cz-record .ensures .neighbours) (G .cz-record .ensures .numbers)
 
 pub cz-known-spec : {M : Type 1} → statement M
 cz-known-spec =
     tie.close
-    (tie.spec (λ c κs. search needs) (λ c. search needs) (λ c. search needs) returns cz-record-requires
-    (λ c. search needs) (λ c. search needs) returns-2)
+    (tie.spec (λ c κs. search needs) (λ c κs. search needs) (λ c κs. search needs) (λ c. search needs)
+    (λ c. search needs) returns cz-record-requires (λ c. search needs) (λ c. search needs) returns-2)

@@ -10,4 +10,4 @@ pub record Printable (n : ℕ) (neighbours codes : List ℕ) (at : ℕ) (out : L
   pub neighbours-long : n ≤ length neighbours
   pub codes-long : n ≤ length codes
   pub codes-small : (q : ℕ) → q < n → getD codes q 0 < 24
-  pub room : at + 22 + n * 23 ≤ length out
+  pub room : at + 27 + n * 25 ≤ length out

@@ -28,8 +28,8 @@ put-word-requires c κs =
       start .pre,
     )
 
-put-requires : tie.Need-put-requires
-put-requires c κs =
+put-used-requires : tie.Need-put-used-requires
+put-used-requires c κs =
     let word = c .before .before .before in
     let second = word .before .before .before .before in
     let first = second .before .before .before .before in
@@ -60,15 +60,16 @@ returns c =
     let long-code = length-field (a .code) in
     let long-fields = length-append (decimal (a .q) ++ space) (decimal (a .code) ++ space) in
     let long = length-append fields (hexText 16 (a .w)) in
-    subst (λ l. Printed l (a .at) (a .out .now) (c .before .before .put .last .1 .1 .0)
-    (c .before .before .put .result))
-    (line-parts (a .q) (a .code) (a .w))
+    subst (λ l. Printed l (a .at) (a .out .now) (c .before .before .put-used .last .1 .1 .0)
+    (c .before .before .put-used .result))
+    (line-parts (a .q) (a .code) (a .w) (a .used))
     (and-then (omega (arith, long-q, long-code, long-fields, long, length-hex 16 (a .w), start .pre))
     (and-then (omega (arith, long-q, long-code, long-fields, start .pre))
     (and-then (omega (arith, long-q, start .pre)) (first .put-field .ensures) (second .put-field2 .ensures))
-    (word .put-word .ensures)) (c .before .before .put .ensures))
+    (word .put-word .ensures)) (c .before .before .put-used .ensures))
 
 pub put-line-spec : {M : Type 1} → statement M
 put-line-spec =
     tie.close
-    (tie.spec (λ c κs. search needs) put-field-requires-2 put-word-requires put-requires (λ c. search needs) returns)
+    (tie.spec (λ c κs. search needs) put-field-requires-2 put-word-requires put-used-requires (λ c. search needs)
+    returns)

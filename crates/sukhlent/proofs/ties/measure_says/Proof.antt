@@ -5,7 +5,7 @@ use Rattle.sukhlent.proofs.ties.measure_says.Statement.{statement}
 use Rattle.sukhlent.proofs.ties.measure_says.Tie as tie
 
 returns : tie.Need-returns
-returns c = measure-says _ _ _ _ _ _ _ _ _ _ _ (c .before .before .before .before .sukhlent-measure .ensures)
+returns c = measure-says _ _ _ _ _ _ _ _ _ _ _ _ (c .before .before .before .before .sukhlent-measure .ensures)
 
 pub measure-says-spec : {M : Type 1} → statement M
 measure-says-spec = tie.close (tie.spec (λ c κs. search needs) (λ c. search needs) (λ c. search needs) returns)

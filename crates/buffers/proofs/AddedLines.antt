@@ -2,16 +2,13 @@
 use mathlib.Core.Bool.{_&&_, Bool, cond, false, true, true≢false, _||_}
 use mathlib.Core.List.{List, [], _∷_}
 use mathlib.Core.Logic.{_↔_}
-use mathlib.Core.Path.{ap, refl, subst, sym, _∙_, _≡_}
+use mathlib.Core.Path.{ap, ap₂, refl, subst, sym, _∙_, _≡_}
 use Prim.Native.Nat.{_<_, suc, ℕ}
 use native.Mathlib.Nat.{lt-irrefl}
 use native.Mathlib.Omega.{arith}
 use lib.Dec.{eqb}
 use Rattle.buffers.proofs.Lines.{Numbered}
-use Rattle.buffers.specs.Refusals.{Refusal, firstFitting, line}
-use Rattle.jobs.proofs.Numbers.{without-test}
-use Rattle.jobs.specs.Asked.{withTest}
-use Rattle.used.specs.Used.{insertedAfter}
+use Rattle.buffers.specs.Refusals.{Refusal, firstFitting, insertedAfter, line, withTest}
 
 -- some line has the number k
 abbrev pub hasNumber : ℕ → List Refusal → Bool
@@ -21,7 +18,29 @@ hasNumber k (l ∷ ls) = eqb (l .number) k || hasNumber k ls
 not-zero : (k : ℕ) → 0 < k → k ≡ 0 → ⊥
 not-zero k p e = lt-irrefl 0 (subst (λ m. 0 < m) e p)
 
--- a further test that holds refuses
+-- ---- a further test
+-- it changes no number
+pub test-numbered : (k : ℕ) (b : Bool) (ls : List Refusal) → Numbered ls → Numbered (withTest k b ls)
+test-numbered k b [] N = tt
+test-numbered k b (l ∷ ls) N = (N .0, test-numbered k b ls (N .1))
+
+pub test-has : (j k : ℕ) (b : Bool) (ls : List Refusal) → hasNumber j (withTest k b ls) ≡ hasNumber j ls
+test-has j k b [] = refl
+test-has j k b (l ∷ ls) = ap (λ v. eqb (l .number) j || v) (test-has j k b ls)
+
+-- one that does not hold changes nothing
+pub without-test : (k : ℕ) (ls : List Refusal) → firstFitting (withTest k false ls) ≡ firstFitting ls
+unfolding firstFitting
+without-test k [] = refl
+without-test k (l ∷ ls) =
+    ap₂ (λ b m. cond b (l .number) m) (flag (l .holds) (eqb (l .number) k)) (without-test k ls)
+  where
+    flag : (h e : Bool) → (h || (e && false)) ≡ h
+    flag true e = refl
+    flag false true = refl
+    flag false false = refl
+
+-- one that holds refuses
 test-refuses : (k : ℕ) (ls : List Refusal) → Numbered ls → hasNumber k ls ≡ true
     → firstFitting (withTest k true ls) ≡ 0 → ⊥
 unfolding firstFitting

@@ -1,0 +1,2 @@
+pub mod UsedVertices
+pub mod UsedNumbers
