@@ -33,3 +33,5 @@ mod rewriting;
 mod rust_example;
 mod sessions;
 mod states;
+mod used;
+mod used_model;

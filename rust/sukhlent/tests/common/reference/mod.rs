@@ -8,6 +8,7 @@ mod parts;
 mod product;
 mod reduction;
 mod refusals;
+mod step;
 
 pub use cut::cut_rank;
 pub use expansion::expanded;
@@ -18,3 +19,4 @@ pub use product::product;
 pub use reduction::reduced;
 pub use refusals::{argument_refusal, cut_refusal, image_refusal, in_place_refusal};
 pub use refusals::{list_refusal, pair_refusal, product_refusal, record_refusal};
+pub use step::after;
