@@ -2,7 +2,8 @@
 
 use crate::common::damage::flip;
 use crate::common::reference::{after, expanded, reduced};
-use crate::common::{isolate, random_used_record, use_up, Operation, Random, RecordCall};
+use crate::common::{isolate, random_used_record, use_up};
+use crate::common::{ListCall, Operation, Random, RecordCall};
 use sukhlent::{complement, cut, cz, expand, gate, measure, pivot, reduce};
 use sukhlent::{Measured, Pauli, Record, Refusal};
 use Operation::{Complement, Cz, Gate, Measure, Pivot};
@@ -115,6 +116,19 @@ fn the_safe_calls_say_the_same() {
     assert_eq!(expand(&state), Ok(expanded(&left)));
     assert_eq!(gate(&mut state, 1, 8), Ok(()));
     assert_eq!(state.used, 1);
+}
+
+// "a record made from a list has the word 0", whatever the place held before
+#[test]
+fn a_record_made_from_a_list_has_no_used_qubit() {
+    for seed in 0..200 {
+        let mut random = Random::new(85_000 + seed);
+        let n = 1 + random.below(64);
+        let given = random_used_record(&mut random, n);
+        let left = ListCall::on(&expanded(&given)).reduce().unwrap();
+        assert_eq!(left, reduced(&expanded(&given)), "seed {seed}");
+        assert_eq!(left.used, 0, "seed {seed}");
+    }
 }
 
 // ---- what a measurement leaves
