@@ -26,7 +26,7 @@
  *
  * Every call answers 0 where it accepts, or the first number of this list whose line is true; the
  * list is in checking order. A refused call changes no buffer.
- *    1  the program's text does not have its form
+ *    1  a text does not have its form
  *   15  a job has more than 4,096 steps
  *    2  n is 0 or above 64, or the two lists' n differ
  *    4  a buffer's length is not what is required
@@ -191,6 +191,24 @@ uint8_t sukhlent_compare(uint64_t n1,
 uint8_t sukhlent_generate(uint64_t n, uint64_t count, uint64_t seed,
                           uint8_t *text, size_t text_len,
                           uint64_t *length);
+
+/* Reads the generator list of a text of Pauli strings: n lines, each a plus or an ASCII hyphen for
+ * minus, n letters of I, X, Y, Z, the leftmost for qubit 0, and a newline, as in "+XX\n-ZZ\n".
+ * `signs`, `z` and `x` have as many places as the text has lines, which are all judged first.
+ * Refusals: 1, 2 (the text is empty, or has more than 64 lines), 4, 9, 10. */
+uint8_t sukhlent_read_strings(const uint8_t *text, size_t text_len,
+                              uint8_t *signs, size_t signs_len,
+                              uint64_t *z, size_t z_len,
+                              uint64_t *x, size_t x_len);
+
+/* Writes the text of a generator list that sukhlent_read_strings reads: a list has one text, and a
+ * text one list. `text` has n * (n + 2) places.
+ * Refusals: 2, 4, 5, 6, 9, 10. */
+uint8_t sukhlent_write_strings(uint64_t n,
+                               const uint8_t *signs, size_t signs_len,
+                               const uint64_t *z, size_t z_len,
+                               const uint64_t *x, size_t x_len,
+                               uint8_t *text, size_t text_len);
 
 #ifdef __cplusplus
 }

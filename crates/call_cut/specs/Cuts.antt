@@ -10,7 +10,7 @@ use Rattle.cut.specs.Cut.{cutRank}
 use Rattle.record.specs.Lent.{LentRecord, heldRecord, notSimple, recordCodes, recordLengths, recordStray}
 use Rattle.words.specs.Bits.{bit}
 
--- the lines of a record in checking order. 5: ".. a side word with a bit at or above n"
+-- the lines of a record in checking order. 5: also a side word with a bit at or above n
 abbrev pub cutLines : LentRecord → ℕ → List Line
 cutLines l side =
     line 2 (badCount (l .n)) ∷ line 4 (recordLengths l) ∷ line 5 (recordStray l || leb (2 ^ (l .n)) side)

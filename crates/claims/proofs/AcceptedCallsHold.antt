@@ -32,6 +32,7 @@ use Rattle.claims.proofs.ImageDemandHolds.{images-follow}
 use Rattle.claims.proofs.InPlaceExactly.{complement-lines, cz-lines, gate-lines, measure-lines, pivot-lines}
 use Rattle.claims.proofs.LinesExactly.{below-exactly, formed-rows, list-exactly, more-exactly, record-exactly, rows-pass, three-fit, two-fit}
 use Rattle.claims.proofs.PartsDemandHolds.{small-parts}
+use Rattle.claims.proofs.StringsExactly.{read-lines, write-lines}
 use Rattle.claims.proofs.ThirdDemandHolds.{third-demand}
 use Rattle.claims.specs.AcceptedCalls.{AcceptedExactly, CompareFits, CutFits, GenerateFits, ImageFits, ProductFits}
 
@@ -43,7 +44,8 @@ by-lines C = ((λ z. sym (C .number) ∙ z), λ e. C .number ∙ e)
 cut-lines : (l : LentRecord) (side : ℕ) → (firstFitting (cutLines l side) ≡ 0) ↔ CutFits l side
 cut-lines l side = (
   (λ e. let A = accepted-cut l side e in (A .held, A .below)),
-  (λ h. sym (side-good l side 0 (sym (record-exactly l false false .1 (h .0, refl, refl))) (below-exactly _ side .1 (h .1)))),
+  (λ h. sym (side-good l side 0 (sym (record-exactly l false false .1 (h .0, refl, refl)))
+      (below-exactly _ side .1 (h .1)))),
 )
 
 product-lines : (l : GeneratorList) (chosen : ℕ) → (firstFitting (productLines l chosen) ≡ 0) ↔ ProductFits l chosen
@@ -171,4 +173,6 @@ accepted-exactly =
       product = λ l chosen z x phase z′ x′ phase′ r C. Iff·trans (by-lines C) (product-lines l chosen);
       compare = compare-exactly;
       generate = λ n count seed text size text′ size′ r C. Iff·trans (by-lines C) (generate-lines n count seed text);
+      read-strings = λ t s z x s′ z′ x′ r C. Iff·trans (by-lines C) (read-lines t s z x);
+      write-strings = λ l text text′ r C. Iff·trans (by-lines C) (write-lines l text);
     }

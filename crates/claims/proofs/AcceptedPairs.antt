@@ -1,5 +1,5 @@
--- Two lists that are accepted one by one, on one number of qubits, and buffers of the right lengths: then none of lines 2
--- to 10 holds of the pair, and only then.
+-- Two lists that are accepted one by one, on one number of qubits, and buffers of the right lengths: then none of
+-- lines 2 to 10 holds of the pair, and only then.
 -- Assumes nothing.
 use mathlib.Core.Bool.{false}
 use mathlib.Core.List.{List}
@@ -33,8 +33,8 @@ no-line-holds l m choice list A =
     subst (λ k. firstFitting (listLines (second k) false) ≡ 0
     → firstFitting (pairLines l (second k) choice list) ≡ 0) (A .same-count)
     (λ e. pair-number (l .n) (l .signs) (l .z) (l .x) (m .signs) (m .z) (m .x) choice list
-    ((accepted-list l false (A .first)) .formed .positive) ((accepted-list l false (A .first)) .formed .upto) (A .choice-places) (A .list-places) false false
-    refl refl ∙ ap₂ earlierOf (A .first) e)
+    ((accepted-list l false (A .first)) .formed .positive) ((accepted-list l false (A .first)) .formed .upto)
+    (A .choice-places) (A .list-places) false false refl refl ∙ ap₂ earlierOf (A .first) e)
     (A .second)
   where
     second : ℕ → GeneratorList

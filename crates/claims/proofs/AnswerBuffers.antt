@@ -10,7 +10,7 @@ use Rattle.comparison.specs.Compared.{largePart, pairCount}
 use Rattle.comparison.specs.Choices.{noChoice}
 use Rattle.generator.specs.Lines.{room}
 use Rattle.image.specs.Image.{loopLines}
-use Rattle.record.specs.Lent.{LentRecord, heldRecord, recordLines}
+use Rattle.record.specs.Lent.{heldRecord, recordLines}
 use Rattle.stabilizer.specs.Lists.{
   GeneratorList,
   clashing,
@@ -21,6 +21,8 @@ use Rattle.stabilizer.specs.Lists.{
   listStray,
   rows,
 }
+use Rattle.strings.specs.Reading.{judgedLines, lineCount, stringForm, stringList}
+use Rattle.strings.specs.Strings.{textSize}
 use Rattle.claims.specs.FirstDemand.{AnswerBuffersUnread}
 
 pub answer-buffers-unread : AnswerBuffersUnread
@@ -28,18 +30,26 @@ answer-buffers-unread =
     record {
       reduce = λ l nb cs nb₂ cs₂ e f.
           ap₂ (λ a b. firstFitting (listLines l (not (eqb a (l .n)) || not (eqb b (l .n))))) e f;
-      expand = λ l s z x s₂ z₂ x₂ e f g. of-three l (λ others. recordLines l others false) (l .n) e f g;
+      expand = λ l s z x s₂ z₂ x₂ e f g. of-three (l .n) (λ others. recordLines l others false) (l .n) e f g;
       images = λ l g s v g₂ s₂ v₂ e f h.
-          of-three l (λ others. recordLines l others false ++ loopLines (l .n) (heldRecord l)) 96 e f h;
+          of-three (l .n) (λ others. recordLines l others false ++ loopLines (l .n) (heldRecord l)) 96 e f h;
       comparisons = λ l m choice list choice₂ list₂ e f.
           ap₂ (λ a b. firstFitting (linesOf l m (not (eqb a (l .n)) || not (eqb b 96)))) e f;
       generations = λ n count seed text text₂ e. ap (λ a. firstFitting (jobLinesOf n count seed (not (eqb a room)))) e;
+      reads = λ t s z x s₂ z₂ x₂ e f g.
+          of-three (lineCount t) (textLinesOf t) (lineCount t) e f g;
+      writes = λ l text text₂ e. ap (λ a. firstFitting (listLines l (not (eqb a (textSize (l .n)))))) e;
     }
   where
     -- those of the generator, by whether its buffer has a wrong length
     jobLinesOf : ℕ → ℕ → ℕ → Bool → List Line
     jobLinesOf n count seed other =
         line 15 (ltb 4096 count) ∷ line 2 (badCount n) ∷ line 4 other ∷ line 6 (eqb seed 0) ∷ []
+
+    -- those of a text that is read, by whether an answer buffer has a wrong length
+    textLinesOf : List ℕ → Bool → List Line
+    textLinesOf t other =
+        line 1 (not (stringForm t)) ∷ line 2 (badCount (lineCount t)) ∷ line 4 other ∷ judgedLines (stringList t)
 
     -- those of a comparison, by whether an answer buffer has a wrong length
     linesOf : GeneratorList → GeneratorList → Bool → List Line
@@ -50,9 +60,9 @@ answer-buffers-unread =
         ∷ line 10 (dependent (l .n) (rows l) || dependent (m .n) (rows m))
         ∷ line 3 (largePart l || largePart m) ∷ line 13 (noChoice (l .n) (rows l) (rows m)) ∷ []
 
-    of-three : (l : LentRecord) (lines : Bool → List Line) (k : ℕ) {a a₂ b b₂ c c₂ : ℕ} → a ≡ a₂ → b ≡ b₂ → c ≡ c₂ →
-        firstFitting (lines (not (eqb a (l .n)) || (not (eqb b (l .n)) || not (eqb c k))))
-        ≡ firstFitting (lines (not (eqb a₂ (l .n)) || (not (eqb b₂ (l .n)) || not (eqb c₂ k))))
-    of-three l lines k {a} {a₂} {b} {b₂} {c} {c₂} e f g =
-        ap₂ (λ a b. firstFitting (lines (not (eqb a (l .n)) || (not (eqb b (l .n)) || not (eqb c k))))) e f
-        ∙ ap (λ c. firstFitting (lines (not (eqb a₂ (l .n)) || (not (eqb b₂ (l .n)) || not (eqb c k))))) g
+    of-three : (n : ℕ) (lines : Bool → List Line) (k : ℕ) {a a₂ b b₂ c c₂ : ℕ} → a ≡ a₂ → b ≡ b₂ → c ≡ c₂ →
+        firstFitting (lines (not (eqb a n) || (not (eqb b n) || not (eqb c k))))
+        ≡ firstFitting (lines (not (eqb a₂ n) || (not (eqb b₂ n) || not (eqb c₂ k))))
+    of-three n lines k {a} {a₂} {b} {b₂} {c} {c₂} e f g =
+        ap₂ (λ a b. firstFitting (lines (not (eqb a n) || (not (eqb b n) || not (eqb c k))))) e f
+        ∙ ap (λ c. firstFitting (lines (not (eqb a₂ n) || (not (eqb b₂ n) || not (eqb c k))))) g

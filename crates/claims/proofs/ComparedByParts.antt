@@ -21,7 +21,8 @@ compared-by-parts l m choice list counted r choice′ list′ counted′ C =
             same-count = F .same-count;
           }) (F .equivalent .0) (F .equivalent .1);
       each = λ e small small₂ agree. let A = accepted-pair l m choice list e in
-          let P = parts-decide l m (record { first = A .first; second = A .second; same-count = A .same-count }) agree in (
+          let P = parts-decide l m
+          (record { first = A .first; second = A .second; same-count = A .same-count }) agree in (
             (λ z. P .0 (fits .0 z .equivalent)),
             (λ h. fits .1 (record {
               first = list-exactly l _ .0 (A .first) .0;

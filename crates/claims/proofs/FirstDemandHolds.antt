@@ -16,7 +16,7 @@ use Rattle.call_compare.specs.Comparisons.{compareCall}
 use Rattle.comparison.specs.Compared.{largePart, pairLines}
 use Rattle.comparison_answer.specs.ComparedPairs.{compareList}
 use Rattle.contracts.proofs.Calling.{done, every-call-answers, refused}
-use Rattle.contracts.proofs.Fitting.{first-is}
+use Rattle.contracts.proofs.Fitting.{first-is, none-holds}
 use Rattle.contracts.specs.Calls.{Call}
 use Rattle.call_generate.proofs.GenerateCalls.{accepted-job}
 use Rattle.call_generate.specs.Generated.{generateCall}
@@ -31,7 +31,11 @@ use Rattle.record.proofs.RecordLines.{record-numbered}
 use Rattle.record.specs.Lent.{LentRecord, heldRecord, recordLines}
 use Rattle.call_gates.proofs.InPlaceCalls.{operation-accepted}
 use Rattle.stabilizer.proofs.Accepted.{accepted-list}
+use Rattle.stabilizer.proofs.SharedTests.{has-length}
 use Rattle.stabilizer.specs.Lists.{GeneratorList, rows}
+use Rattle.strings.proofs.TextLaws.{length-lines}
+use Rattle.strings.specs.Reading.{lineCount, readLines}
+use Rattle.strings.specs.Strings.{textSize}
 use Rattle.words.proofs.Flags.{neither}
 use Rattle.claims.proofs.AcceptedPairs.{accepted-pair}
 use Rattle.claims.proofs.LinesExactly.{list-exactly, record-exactly, three-fit, two-fit}
@@ -149,6 +153,19 @@ first-demand =
       products = λ l chosen z x phase z′ x′ phase′. record { order = refl; complete = λ e. (tt, (tt, (tt, tt))) };
       comparisons = compare-conforms;
       generations = generate-conforms;
+      reads = λ t s z x s′ z′ x′. record {
+        order = refl;
+        complete = λ e. let n = lineCount t in
+            let p = three-fit n n n s z x .0 (none-holds (readLines t s z x) refl e .1 .1 .0) in
+            (table-fills n _ s (p .0), (table-fills n _ z (p .1), (table-fills n _ x (p .2), tt)));
+      };
+      writes = λ l text text′. record {
+        order = refl;
+        complete = λ e. (
+          length-lines (l .n) (l .n) (rows l) ∙ sym (has-length (textSize (l .n)) text (list-exactly l _ .0 e .1)),
+          tt,
+        );
+      };
     }
 
 -- ---- and back: what a call answers is its contract

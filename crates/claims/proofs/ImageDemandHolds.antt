@@ -77,8 +77,8 @@ module _ (l : LentRecord) (image signs list : List ℕ) (count r : ℕ) (image�
     same-graph : (i q : ℕ) → imageGraph m held i q ≡ graphIn image′ i q
     same-graph i q =
         sym (ap (λ w. graphIn w i q) the-graph ∙ record-back m
-        (record { graph = imageGraph m held; codes = λ q. identityClifford }) (image-simple m held simple-held) (λ q k. refl)
-        .neighbours i q)
+        (record { graph = imageGraph m held; codes = λ q. identityClifford }) (image-simple m held simple-held)
+        (λ q k. refl) .neighbours i q)
 
     neighbours-back : (i : ℕ) → imageGraph m held i ≡ graphIn image′ i
     neighbours-back i = fun-ext (same-graph i)

@@ -17,6 +17,7 @@ pub mod CzInsideSide
 pub mod CutDemandHolds
 pub mod ProductDemandHolds
 pub mod InPlaceExactly
+pub mod StringsExactly
 pub mod AcceptedCallsHold
 pub mod ComparedByParts
 pub mod TakenRecords
@@ -24,6 +25,7 @@ pub mod ListDemandHolds
 pub mod FirstDemandHolds
 pub mod AnswerBuffers
 pub mod GeneratorDemandHolds
+pub mod StringsDemandHolds
 pub mod JobSteps
 pub mod JobsStand
 pub mod StepLines

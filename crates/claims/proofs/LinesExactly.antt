@@ -145,8 +145,8 @@ rows-pass l F =
     none-fits-of (formLines l false) (
       count-passes (l .n) (F .positive) (F .upto),
       (
-        both-pass (three-fit (l .n) (l .n) (l .n) (l .signs) (l .z) (l .x) .1 (F .signs-length, F .z-length, F .x-length))
-            refl,
+        both-pass (three-fit (l .n) (l .n) (l .n) (l .signs) (l .z) (l .x) .1
+            (F .signs-length, F .z-length, F .x-length)) refl,
         (
           both-pass (words (2 ^ (l .n)) (l .z) (F .z-length) (F .z-below))
               (words (2 ^ (l .n)) (l .x) (F .x-length) (F .x-below)),

@@ -89,8 +89,8 @@ module _ (n : ℕ) (R : ℕ → Pauli) (r : GraphRecord) (F : Reduced n R r) whe
         minuses = F .minuses;
         generator = λ j l. turned-plain .back _
             (subst (InGroup n n plain) (plain-own j l) (in-row n n plain j l));
-        only = λ j l p i h. plain-determined n (r .graph) (F .simple) (F .ys) (F .minuses) p (turned-plain .there p i) j l h
-            ∙ plain-own j l;
+        only = λ j l p i h. plain-determined n (r .graph) (F .simple) (F .ys) (F .minuses) p
+            (turned-plain .there p i) j l h ∙ plain-own j l;
         code = λ j l. F .code j;
       }
 

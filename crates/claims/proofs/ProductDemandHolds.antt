@@ -38,7 +38,8 @@ phase-small i³ = lit< tt
 pub products-answer : ProductsAnswer
 products-answer l c z x phase z′ x′ phase′ C =
     record {
-      product = subst (ProductOf (l .n) (bit c) (rows l) (l .n)) (sym answer) (product-of (l .n) (l .n) (bit c) (rows l));
+      product = subst (ProductOf (l .n) (bit c) (rows l) (l .n)) (sym answer)
+          (product-of (l .n) (l .n) (bit c) (rows l));
       turns = subst (λ k. k < 4) (sym (C .held .1 .1 .0)) (phase-small (p .phase));
       z-below = subst (λ k. k < 2 ^ (l .n)) (sym (C .held .0)) (wordOf-lt (l .n) (p .z));
       x-below = subst (λ k. k < 2 ^ (l .n)) (sym (C .held .1 .0)) (wordOf-lt (l .n) (p .x));

@@ -2,10 +2,11 @@
 -- Assumes nothing.
 use mathlib.Core.Bool.{false}
 use mathlib.Core.List.{List}
+use mathlib.Core.Logic.{_↔_}
 use mathlib.Core.Path.{ap, subst, sym, _∙_, _≡_}
 use Prim.Native.Nat.{ℕ}
-use lib.ListN.{getD}
-use Rattle.buffers.proofs.Tabulate.{tabulate-at}
+use lib.ListN.{getD, length}
+use Rattle.buffers.proofs.Tabulate.{tabulate-length, tabulate-at}
 use Rattle.pauli.specs.Pauli.{Pauli}
 use Rattle.record.proofs.AcceptedRecords.{accepted-record}
 use Rattle.record.proofs.ExpansionBack.{expanded, expansion-back, reduced-expands-back}
@@ -25,6 +26,7 @@ use Rattle.call_lists.specs.Calls.{expandCall, reduceCall}
 use Rattle.claims.specs.SecondDemand.{
   BroughtBack,
   EqualExactly,
+  EqualForAll,
   ExpansionBringsBack,
   ReducedCodes,
   ReducesToItself,
@@ -133,3 +135,26 @@ pub reduced-codes : ReducedCodes
 reduced-codes l nb cs nb′ cs′ C q k =
     let A = reduced-codes-among (l .n) (rows l) (reduced-list l nb cs nb′ cs′ C .proper) q in
     (A .0, A .1, ap (λ v. getD v q 0) (C .held .1 .0) ∙ tabulate-at (l .n) _ q k ∙ A .2)
+
+-- ---- lists with any two numbers of qubits
+-- the words that a reduction leaves are n
+words-left : (l : GeneratorList) (nb cs nb′ cs′ : List ℕ) → Call (reduceCall l nb cs nb′ cs′) 0 → length nb′ ≡ l .n
+words-left l nb cs nb′ cs′ C = ap length (C .held .0) ∙ tabulate-length (l .n) _
+
+pub equal-for-all : EqualForAll
+equal-for-all l m nb cs nb₂ cs₂ nb′ cs′ nb₂′ cs₂′ C D = (
+  λ e. let same-count = sym (words-left l nb cs nb′ cs′ C) ∙ ap length (e .0) ∙ words-left m nb₂ cs₂ nb₂′ cs₂′ D in
+      (same-count, at (m .n) same-count D .0 e),
+  λ h. at (m .n) (h .0) D .1 (h .1),
+)
+  where
+    -- the second list as one on k qubits
+    on : ℕ → GeneratorList
+    on k = record { n = k; signs = m .signs; z = m .z; x = m .x }
+
+    at : (k : ℕ) → l .n ≡ k → Call (reduceCall (on k) nb₂ cs₂ nb₂′ cs₂′) 0 →
+        ((nb′ ≡ nb₂′) × (cs′ ≡ cs₂′)) ↔ SameGroup (l .n) (l .n) (rows l) (rows (on k))
+    at k e = subst (λ k. Call (reduceCall (on k) nb₂ cs₂ nb₂′ cs₂′) 0 →
+        ((nb′ ≡ nb₂′) × (cs′ ≡ cs₂′)) ↔ SameGroup (l .n) (l .n) (rows l) (rows (on k))) e
+        (λ D. equal-records-exactly (l .n) (l .signs) (l .z) (l .x) (m .signs) (m .z) (m .x) nb cs nb₂ cs₂ nb′ cs′ nb₂′
+        cs₂′ C D)

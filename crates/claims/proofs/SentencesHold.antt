@@ -11,6 +11,7 @@ use Rattle.call_image.specs.Images.{imageCall}
 use Rattle.call_lists.specs.Calls.{checkCall, expandCall, reduceCall}
 use Rattle.operations.specs.Steps.{complementOf, czOn, gateWith, pivotOf}
 use Rattle.call_product.specs.Products.{productCall}
+use Rattle.call_strings.specs.StringCalls.{readStringsCall, writeStringsCall}
 use Rattle.record.specs.Lent.{LentRecord}
 use Rattle.call_gates.specs.InPlaceCalls.{inPlaceCall, measureCall}
 use Rattle.stabilizer.specs.Lists.{GeneratorList}
@@ -40,6 +41,7 @@ use Rattle.claims.proofs.SessionNumbers.{
   gate-numbers-by-expanding,
   measure-numbers-by-expanding,
 }
+use Rattle.claims.proofs.StringsDemandHolds.{strings-demand}
 use Rattle.claims.proofs.ThirdDemandHolds.{third-demand, third-demand-to-20}
 use Rattle.claims.specs.FirstDemand.{Answered, Conforms}
 use Rattle.claims.specs.Sentences.{
@@ -55,7 +57,9 @@ use Rattle.claims.specs.Sentences.{
   MeasureSays,
   PivotSays,
   ProductSays,
+  ReadStringsSays,
   ReduceSays,
+  WriteStringsSays,
 }
 
 -- demand 1
@@ -201,4 +205,23 @@ generate-says n count seed text size text′ size′ r C =
       answered = answered (first-demand .generations n count seed text size text′ size′) C;
       accepted = accepted-exactly .generate n count seed text size text′ size′ r C;
       back = λ z. generator-demand n count seed text size text′ size′ (at-zero C z);
+    }
+
+pub read-strings-says : (t s z x s′ z′ x′ : List ℕ) (r : ℕ) → Call (readStringsCall t s z x s′ z′ x′) r →
+    ReadStringsSays t s z x s′ z′ x′ r
+read-strings-says t s z x s′ z′ x′ r C =
+    record {
+      answered = answered (first-demand .reads t s z x s′ z′ x′) C;
+      accepted = accepted-exactly .read-strings t s z x s′ z′ x′ r C;
+      form = strings-demand .form t s z x s′ z′ x′ r C;
+      back = λ e. strings-demand .text-back t s z x s′ z′ x′ (at-zero C e);
+    }
+
+pub write-strings-says : (l : GeneratorList) (text text′ : List ℕ) (r : ℕ) → Call (writeStringsCall l text text′) r →
+    WriteStringsSays l text text′ r
+write-strings-says l text text′ r C =
+    record {
+      answered = answered (first-demand .writes l text text′) C;
+      accepted = accepted-exactly .write-strings l text text′ r C;
+      back = λ e. strings-demand .list-back l text text′ (at-zero C e);
     }

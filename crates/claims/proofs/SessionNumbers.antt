@@ -80,7 +80,8 @@ cz-numbers-by-expanding l a b r nb′ cs′ ha hb ab C = record {
 pub measure-numbers-by-expanding : MeasureNumbersByExpanding
 measure-numbers-by-expanding l pauli q b answer determined r nb′ cs′ answer′ determined′ hp hp₂ hq hb C = record {
   equal = λ s z x s′ z′ x′ e c d g D. C .number
-      ∙ record-decides l six (lt-leb (l .n) q hq) (three-fit (l .n) (l .n) (l .n) s z x .1 (c, d, g)) (after (heldRows l))
+      ∙ record-decides l six (lt-leb (l .n) q hq) (three-fit (l .n) (l .n) (l .n) s z x .1 (c, d, g))
+      (after (heldRows l))
       ∙ by-list s z x s′ z′ x′ e D (ℕ-discrete (firstFitting (expandLines l s z x)) 0);
 }
   where

@@ -1,6 +1,6 @@
--- Which calls are accepted, in the documents' words: the number of each exported function is 0 exactly if this holds of its
--- arguments. A record is `AcceptedRecord`: 1 to 64 vertices, n places in each buffer, no bit at or above n, codes below 24,
--- a simple graph.
+-- Which calls are accepted, in the documents' words: the number of each exported function is 0 exactly if this holds of
+-- its arguments. A record is `AcceptedRecord`: 1 to 64 vertices, n places in each buffer, no bit at or above n, codes
+-- below 24, a simple graph.
 -- Assumes nothing.
 use mathlib.Core.Bool.{not, true}
 use mathlib.Core.List.{List}
@@ -18,12 +18,14 @@ use Rattle.call_image.specs.Images.{imageCall}
 use Rattle.call_lists.specs.Calls.{checkCall, expandCall, reduceCall}
 use Rattle.operations.specs.Steps.{complementOf, czOn, gateWith, pivotOf}
 use Rattle.call_product.specs.Products.{productCall}
+use Rattle.call_strings.specs.StringCalls.{readStringsCall, writeStringsCall}
 use Rattle.record.specs.Accepted.{AcceptedRecord}
 use Rattle.record.specs.Lent.{LentRecord, heldRecord, heldRows}
 use Rattle.call_gates.specs.InPlaceCalls.{inPlaceCall, measureCall}
 use Rattle.stabilizer.specs.Carries.{Carries}
 use Rattle.stabilizer.specs.Groups.{InGroup, Proper}
 use Rattle.stabilizer.specs.Lists.{GeneratorList, rows}
+use Rattle.strings.specs.Strings.{stringsText, textSize}
 use Rattle.words.specs.Bits.{isOdd}
 use Rattle.claims.specs.OperationsDemand.{signedPauli}
 use Rattle.claims.specs.PartsDemand.{SmallParts}
@@ -52,7 +54,8 @@ ReduceFits l nb cs = IsList l × (length nb ≡ l .n) × (length cs ≡ l .n)
 abbrev pub ProductFits : GeneratorList → ℕ → Type 0
 ProductFits l chosen = IsRows l × (chosen < 2 ^ (l .n))
 
--- two lists on one number of qubits, no part larger than 20, and some choice that carries the first group onto the second
+-- two lists on one number of qubits, no part larger than 20, and some choice that carries the first group onto the
+-- second
 pub record CompareFits (l m : GeneratorList) (choice list : List ℕ) : Type 0 where
   pub first : IsList l
   pub second : IsList m
@@ -107,6 +110,16 @@ pub record GenerateFits (n count seed : ℕ) (text : List ℕ) : Type 0 where
   pub places : length text ≡ 61463
   pub seeded : seed ≢ 0
 
+-- ---- texts of Pauli strings
+-- the text is that of a list, for which each buffer has a place for each generator
+abbrev pub ReadStringsFits : List ℕ → List ℕ → List ℕ → List ℕ → Type 0
+ReadStringsFits t s z x = (l : GeneratorList) × IsList l × (t ≡ stringsText (l .n) (rows l))
+    × (length s ≡ l .n) × (length z ≡ l .n) × (length x ≡ l .n)
+
+-- the buffer has the bytes of the text
+abbrev pub WriteStringsFits : GeneratorList → List ℕ → Type 0
+WriteStringsFits l text = IsList l × (length text ≡ textSize (l .n))
+
 -- ---- of each call: it is accepted exactly if its arguments fit
 pub record AcceptedExactly : Type 0 where
   pub check : (l : GeneratorList) (r : ℕ) → Call (checkCall l) r → (r ≡ 0) ↔ IsList l
@@ -134,9 +147,13 @@ pub record AcceptedExactly : Type 0 where
       Call (compareCall l m choice list count choice′ list′ count′) r → (r ≡ 0) ↔ CompareFits l m choice list
   pub generate : (n count seed : ℕ) (text : List ℕ) (size : ℕ) (text′ : List ℕ) (size′ r : ℕ) →
       Call (generateCall n count seed text size text′ size′) r → (r ≡ 0) ↔ GenerateFits n count seed text
+  pub read-strings : (t s z x s′ z′ x′ : List ℕ) (r : ℕ) → Call (readStringsCall t s z x s′ z′ x′) r →
+      (r ≡ 0) ↔ ReadStringsFits t s z x
+  pub write-strings : (l : GeneratorList) (text text′ : List ℕ) (r : ℕ) → Call (writeStringsCall l text text′) r →
+      (r ≡ 0) ↔ WriteStringsFits l text
 
--- ---- a record that every call on records takes, where the other arguments are in order; a measurement may be refused by
--- 14, an image by 11 or 12
+-- ---- a record that every call on records takes, where the other arguments are in order; a measurement may be refused
+-- by 14, an image by 11 or 12
 pub record TakenByAll (l : LentRecord) : Type 0 where
   pub expand : (s z x s′ z′ x′ : List ℕ) (r : ℕ) → Call (expandCall l s z x s′ z′ x′) r → length s ≡ l .n →
       length z ≡ l .n → length x ≡ l .n → r ≡ 0

@@ -21,9 +21,11 @@ use Rattle.call_image.specs.Images.{imageCall}
 use Rattle.call_lists.specs.Calls.{checkCall, expandCall, expandLines, reduceCall, reduceLines}
 use Rattle.operations.specs.Steps.{Operation}
 use Rattle.call_product.specs.Products.{productCall}
+use Rattle.call_strings.specs.StringCalls.{readStringsCall, writeStringsCall}
 use Rattle.record.specs.Lent.{LentRecord}
 use Rattle.call_gates.specs.InPlaceCalls.{inPlaceCall, measureCall}
 use Rattle.stabilizer.specs.Lists.{GeneratorList}
+use Rattle.strings.specs.Reading.{readLines, writeLines}
 
 -- "the published list": the numbers in checking order; a call tests some of them, in that order. 14 is "checked after
 -- 10" (02, §4), and so is 3 (02, §9), 15 "directly after 1 and so before 2" (02, §5)
@@ -75,6 +77,8 @@ pub record FirstDemand : Type 0 where
       (count′ : ℕ) → Conforms (compareCall l m choice list count choice′ list′ count′)
   pub generations : (n count seed : ℕ) (text : List ℕ) (size : ℕ) (text′ : List ℕ) (size′ : ℕ) →
       Conforms (generateCall n count seed text size text′ size′)
+  pub reads : (t s z x s′ z′ x′ : List ℕ) → Conforms (readStringsCall t s z x s′ z′ x′)
+  pub writes : (l : GeneratorList) (text text′ : List ℕ) → Conforms (writeStringsCall l text text′)
 
 -- "What a buffer lent only for the answer holds before the call makes no line true": buffers of equal lengths give equal
 -- numbers
@@ -90,3 +94,7 @@ pub record AnswerBuffersUnread : Type 0 where
       firstFitting (compareLines l m choice list) ≡ firstFitting (compareLines l m choice₂ list₂)
   pub generations : (n count seed : ℕ) (text text₂ : List ℕ) → length text ≡ length text₂ →
       firstFitting (generateLines n count seed text) ≡ firstFitting (generateLines n count seed text₂)
+  pub reads : (t s z x s₂ z₂ x₂ : List ℕ) → length s ≡ length s₂ → length z ≡ length z₂ → length x ≡ length x₂ →
+      firstFitting (readLines t s z x) ≡ firstFitting (readLines t s₂ z₂ x₂)
+  pub writes : (l : GeneratorList) (text text₂ : List ℕ) → length text ≡ length text₂ →
+      firstFitting (writeLines l text) ≡ firstFitting (writeLines l text₂)

@@ -10,6 +10,7 @@ pub mod CutDemand
 pub mod ProductDemand
 pub mod FirstDemand
 pub mod GeneratorDemand
+pub mod StringsDemand
 pub mod SessionDemand
 pub mod SessionTable
 pub mod JobDemand

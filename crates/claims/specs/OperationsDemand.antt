@@ -117,7 +117,7 @@ ImpossibleClicksRefused =
     Call (measureCall l pauli q b answer determined nb′ cs′ answer′ determined′) r →
     ImpossibleClick l pauli q b answer determined r nb′ cs′ answer′ determined′
 
--- ---- "As a rewriting of a record it keeps the group, signs included"; the answer is the record so rewritten
+-- ---- "As a rewriting of a record it keeps the group, and the answer is the record so rewritten, not reduced"
 pub record RewrittenAs (l after : LentRecord) (new : GraphRecord) : Type 0 where
   pub still : StillRecord after
   pub holds : SameRecord (heldRecord after) new

@@ -1,5 +1,5 @@
--- Of products: "a word chooses the rows, which are taken in index order, and the answer is the product and its phase", "a
--- power of i from 0 to 3" (02, §3). Said of an accepted call: z′, x′ and phase′ are what is held at exit.
+-- Of products: "a word chooses the rows, which are taken in index order, and the answer is the product and its phase",
+-- "a power of i from 0 to 3" (02, §3). Said of an accepted call: z′, x′ and phase′ are what is held at exit.
 -- Assumes nothing.
 use mathlib.Core.Bool.{false, true}
 use mathlib.Core.Path.{_≡_}

@@ -19,8 +19,8 @@ ReductionKeepsGroup =
     (l : GeneratorList) (nb cs nb′ cs′ : List ℕ) → Call (reduceCall l nb cs nb′ cs′) 0 →
     SameGroup (l .n) (l .n) (rows l) (heldRows (record { n = l .n; neighbours = nb′; codes = cs′ }))
 
--- "expansion brings that group back": the list written is accepted, and has the record's group; "Expansion writes these n
--- generators in order j"
+-- "expansion brings that group back": the list written is accepted, and has the record's group; "Expansion writes
+-- these n generators in order j"
 pub record BroughtBack (l : LentRecord) (back : GeneratorList) : Type 0 where
   pub accepted : firstFitting (checkLines back) ≡ 0
   pub generators : (j : ℕ) → j < l .n → rows back j ≡ heldRows l j
@@ -40,6 +40,13 @@ EqualExactly =
     ((nb′ ≡ nb₂′) × (cs′ ≡ cs₂′))
     ↔ SameGroup n n (rows (record { n = n; signs = s; z = z; x = x }))
     (rows (record { n = n; signs = s₂; z = z₂; x = x₂ }))
+
+-- the same of lists with any two numbers of qubits: equal records are of lists with one n
+abbrev pub EqualForAll : Type 0
+EqualForAll =
+    (l m : GeneratorList) (nb cs nb₂ cs₂ nb′ cs′ nb₂′ cs₂′ : List ℕ) → Call (reduceCall l nb cs nb′ cs′) 0 →
+    Call (reduceCall m nb₂ cs₂ nb₂′ cs₂′) 0 →
+    ((nb′ ≡ nb₂′) × (cs′ ≡ cs₂′)) ↔ ((l .n ≡ m .n) × SameGroup (l .n) (l .n) (rows l) (rows m))
 
 -- a reduced record, expanded and reduced again, is that record
 abbrev pub ReducesToItself : Type 0

@@ -17,6 +17,7 @@ use Rattle.call_image.specs.Images.{imageCall}
 use Rattle.call_lists.specs.Calls.{checkCall, expandCall, reduceCall}
 use Rattle.operations.specs.Steps.{complementOf, czOn, gateWith, pivotOf, pivotRecord}
 use Rattle.call_product.specs.Products.{productCall}
+use Rattle.call_strings.specs.StringCalls.{readStringsCall, writeStringsCall}
 use Rattle.record.specs.Lent.{LentRecord, heldRecord, heldRows, recordLines}
 use Rattle.record.specs.Records.{complementRecord}
 use Rattle.call_gates.specs.InPlaceCalls.{inPlaceCall, measureCall}
@@ -36,7 +37,9 @@ use Rattle.claims.specs.AcceptedCalls.{
   MeasureFits,
   PivotFits,
   ProductFits,
+  ReadStringsFits,
   ReduceFits,
+  WriteStringsFits,
 }
 use Rattle.claims.specs.CutDemand.{CutAnswer, rankAcross}
 use Rattle.claims.specs.FirstDemand.{Answered}
@@ -55,6 +58,7 @@ use Rattle.claims.specs.SessionDemand.{
   czChange,
   gateChange,
 }
+use Rattle.claims.specs.StringsDemand.{FormTold, ListComesBack, TextComesBack, listLeft}
 use Rattle.claims.specs.ThirdDemand.{AcceptedPair, Decided}
 
 pub record CheckSays (l : GeneratorList) (r : ℕ) : Type 0 where
@@ -144,3 +148,16 @@ pub record GenerateSays (n count seed : ℕ) (text : List ℕ) (size : ℕ) (tex
   pub answered : Answered (generateCall n count seed text size text′ size′) r
   pub accepted : (r ≡ 0) ↔ GenerateFits n count seed text
   pub back : r ≡ 0 → Generated n count seed text text′ size′
+
+-- of read_strings: demand 1, its number 1, and the text written again
+pub record ReadStringsSays (t s z x s′ z′ x′ : List ℕ) (r : ℕ) : Type 0 where
+  pub answered : Answered (readStringsCall t s z x s′ z′ x′) r
+  pub accepted : (r ≡ 0) ↔ ReadStringsFits t s z x
+  pub form : FormTold t r
+  pub back : r ≡ 0 → TextComesBack t (listLeft s s′ z′ x′)
+
+-- of write_strings: demand 1, and the list read again
+pub record WriteStringsSays (l : GeneratorList) (text text′ : List ℕ) (r : ℕ) : Type 0 where
+  pub answered : Answered (writeStringsCall l text text′) r
+  pub accepted : (r ≡ 0) ↔ WriteStringsFits l text
+  pub back : r ≡ 0 → ListComesBack l text′

@@ -1,4 +1,4 @@
--- Worked examples of the least choice, on one and two qubits.
+-- Worked examples of the least choice, on one qubit.
 -- Assumes nothing.
 use mathlib.Core.Bool.{Bool, false, true}
 use mathlib.Core.List.{List, [], _∷_}
@@ -10,7 +10,7 @@ use Rattle.stabilizer.specs.Lists.{rows}
 use Rattle.stabilizer.specs.Membership.{member}
 use Rattle.words.specs.Bits.{bit, fold, put, wordOf}
 use Rattle.words.specs.Search.{every, first, some}
-use Rattle.comparison.specs.Choices.{carries, choice, leastCode, leastNumber, noChoice}
+use Rattle.comparison.specs.Choices.{carries, choice, leastCode, leastNumber}
 
 -- one generator on one qubit
 abbrev one : ℕ → ℕ → ℕ → ℕ → Pauli
@@ -18,10 +18,11 @@ one s z x = rows (record { n = 1; signs = s ∷ []; z = z ∷ []; x = x ∷ [] }
 
 abbrev given : List ℕ
 given =
-    -- +Y to +X, +X to +Y, +Z to +Y, +X to -X, +X to -Z
+    -- +Y to +X, +X to +Y, +Z to +Y, +X to -X, +X to -Z, +Z to -Z
     leastCode 1 (one 0 1 1) (one 0 0 1) 0 ∷ leastCode 1 (one 0 0 1) (one 0 1 1) 0 ∷ leastCode 1 (one 0 1 0) (one 0 1 1) 0
-    ∷ leastCode 1 (one 0 0 1) (one 1 0 1) 0 ∷ leastCode 1 (one 0 0 1) (one 1 1 0) 0 ∷ []
+    ∷ leastCode 1 (one 0 0 1) (one 1 0 1) 0 ∷ leastCode 1 (one 0 0 1) (one 1 1 0) 0
+    ∷ leastCode 1 (one 0 1 0) (one 1 1 0) 0 ∷ []
 
-pub choice-examples : given ≡ (5 ∷ 4 ∷ 12 ∷ 2 ∷ 10 ∷ [])
+pub choice-examples : given ≡ (5 ∷ 4 ∷ 12 ∷ 2 ∷ 10 ∷ 1 ∷ [])
 unfolding carries member act mul fold put bit wordOf some every first choice leastNumber
 choice-examples = refl

@@ -14,7 +14,6 @@ pub mod NextChoice
 pub mod EquationTables
 pub mod Filling
 pub mod ComparedRecords
-pub mod OneQubit
 pub mod SettledChoices
 pub mod ChoicesByParts
 pub mod Examples

@@ -1,4 +1,4 @@
-// A record as the search takes it: its generators, and the codes that undo its codes.
+// A record as the comparison takes it: its generators, and the codes that undo its codes.
 use clifford::Code;
 use clifford_rows::send;
 use pauli::Generator;

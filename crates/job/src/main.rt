@@ -1,5 +1,5 @@
-// Reads a job from standard input, to its end and in blocks, and prints the answer to it. What is not here, and not in
-// the functions of the C library that read and write, is `reply` of job_reply.
+// Reads a job from standard input, to its end and in blocks, and prints the answer to it, which `reply` of job_reply
+// makes of what was scanned.
 use job_reply::reply;
 use job_scan::no_text;
 use job_scan::scan_block;

@@ -32,9 +32,6 @@ module _ (words codes : List ℕ) (U : Unrefused (recordIn words codes)) where
   pub unrefused-long : length codes ≡ length words
   unrefused-long = A .codes-length
 
-  pub unrefused-count : (1 ≤ length words) × (length words ≤ 64)
-  unrefused-count = (A .positive, A .upto)
-
   pub unrefused-short : length words ≤ 64
   unrefused-short = A .upto
 

@@ -1,5 +1,5 @@
-// Reads a generator list from standard input and prints the answer to it. What is not here, and not in the functions of
-// the C library that read and write, is `read_list` of list_input and `reply` of list_reply.
+// Reads a generator list from standard input, by `read_list` of list_input, and prints the answer to it, which `reply` of
+// list_reply makes of what was scanned.
 use libc::STDOUT_FILENO;
 use list_input::read_list;
 use list_reply::reply;

@@ -10,6 +10,7 @@ ghost use Rattle.call_lists.specs.Calls.{checkCall, expandCall, reduceCall};
 ghost use Rattle.operations.specs.Steps.{complementOf, czOn, gateWith, pivotOf};
 ghost use Rattle.call_product.specs.Products.{productCall};
 ghost use Rattle.call_gates.specs.InPlaceCalls.{inPlaceCall, measureCall};
+ghost use Rattle.call_strings.specs.StringCalls.{readStringsCall, writeStringsCall};
 
 // Lines 2, 4, 5, 6, 9 and 10 of a generator list.
 #[no_mangle]
@@ -240,4 +241,35 @@ pub extern "C" fn sukhlent_generate(
         (now (text .exit)) (now (length .exit))) r ⌝ }
 {
     call_generate::generate(n, count, seed, text, length)
+}
+
+// The generator list of a text of Pauli strings.
+#[no_mangle]
+pub extern "C" fn sukhlent_read_strings(
+    text: &[u8],
+    signs: &mut [u8],
+    z: &mut [u64],
+    x: &mut [u64],
+) -> u8
+    ensures { λ r. ⌜ Call (readStringsCall (now (text .entry))
+        (now (signs .entry)) (now (z .entry)) (now (x .entry))
+        (now (signs .exit)) (now (z .exit)) (now (x .exit))) r ⌝ }
+{
+    call_strings::read_strings(text, signs, z, x)
+}
+
+// The text of a generator list as Pauli strings.
+#[no_mangle]
+pub extern "C" fn sukhlent_write_strings(
+    n: u64,
+    signs: &[u8],
+    z: &[u64],
+    x: &[u64],
+    text: &mut [u8],
+) -> u8
+    ensures { λ r. ⌜ Call (writeStringsCall
+        (record { n = n; signs = now (signs .entry); z = now (z .entry); x = now (x .entry) })
+        (now (text .entry)) (now (text .exit))) r ⌝ }
+{
+    call_strings::write_strings(n, signs, z, x, text)
 }

@@ -12,10 +12,12 @@ use crate::sukhlent_image;
 use crate::sukhlent_measure;
 use crate::sukhlent_pivot;
 use crate::sukhlent_product;
+use crate::sukhlent_read_strings;
 use crate::sukhlent_reduce;
+use crate::sukhlent_write_strings;
 ghost use Rattle.claims.specs.Sentences.{CheckSays, CompareSays, ComplementSays, CutSays, CzSays, ExpandSays};
 ghost use Rattle.claims.specs.Sentences.{GateSays, GenerateSays, ImageSays, MeasureSays, PivotSays, ProductSays};
-ghost use Rattle.claims.specs.Sentences.{ReduceSays};
+ghost use Rattle.claims.specs.Sentences.{ReadStringsSays, ReduceSays, WriteStringsSays};
 
 pub fn check_says(n: u64, signs: &[u8], z: &[u64], x: &[u64]) -> u8
     ensures { λ r. ⌜ CheckSays
@@ -185,4 +187,20 @@ pub fn generate_says(n: u64, count: u64, seed: u64, text: &mut [u8], length: &mu
         (now (text .exit)) (now (length .exit)) r ⌝ }
 {
     sukhlent_generate(n, count, seed, text, length)
+}
+
+pub fn read_strings_says(text: &[u8], signs: &mut [u8], z: &mut [u64], x: &mut [u64]) -> u8
+    ensures { λ r. ⌜ ReadStringsSays (now (text .entry))
+        (now (signs .entry)) (now (z .entry)) (now (x .entry))
+        (now (signs .exit)) (now (z .exit)) (now (x .exit)) r ⌝ }
+{
+    sukhlent_read_strings(text, signs, z, x)
+}
+
+pub fn write_strings_says(n: u64, signs: &[u8], z: &[u64], x: &[u64], text: &mut [u8]) -> u8
+    ensures { λ r. ⌜ WriteStringsSays
+        (record { n = n; signs = now (signs .entry); z = now (z .entry); x = now (x .entry) })
+        (now (text .entry)) (now (text .exit)) r ⌝ }
+{
+    sukhlent_write_strings(n, signs, z, x, text)
 }

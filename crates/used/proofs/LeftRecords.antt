@@ -105,7 +105,7 @@ left-passes u (measurementOf pauli q b) P =
     split t (inl e) = still-good u (measurementOf pauli q b) P t e
     split t (inr e) = subst (Good u (measurementOf pauli q b) P) (sym (eqb-true t q e)) own
 
--- "an accepted call leaves": what the call without the used word leaves, and the used word
+-- an accepted call leaves what the call without the used word leaves, and the used word
 is-left : (u : UsedRecord) (o : Operation) (e : (usedStep u o) .number ≡ 0)
     → (usedStep u o) .after ≡ left u o (used-passes u o .0 e)
 is-left u o e = ap (λ k. cond (eqb k 0) (left u o (used-passes u o .0 e)) u) e

@@ -64,7 +64,7 @@ module _ (u : UsedRecord) (o : Operation) where
   by-sixteen = inserted-passes 8 15 (namesUsed u o) seven (test-numbered 7 (usedWrong u) five N5)
       (test-has 8 7 (usedWrong u) five ∙ test-has 8 5 (usedStray u) lines ∙ has (u .held) o .2)
 
-  -- "number 0 exactly if": the lines as they were, and the three tests
+  -- the number is 0 exactly if it was 0 without the used word and none of the three tests holds
   pub used-passes : ((usedStep u o) .number ≡ 0) ↔ UsedPasses u o
   used-passes = (forth, back)
     where

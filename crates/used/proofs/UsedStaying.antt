@@ -192,7 +192,7 @@ stays-after u o P =
           ∙ code-written (u .held .n) (made (u .held) o) q (hq u o P q m) ∙ stays-made u o P q m .1;
     }
 
--- "each used vertex keeps word and code"
+-- each used vertex keeps its word, which is 0, and its code
 pub used-stays : (u : UsedRecord) (o : Operation) → (usedStep u o) .number ≡ 0
     → UsedStay u (leaves (u .held) o)
 used-stays u o e = stays-after u o (used-passes u o .0 e)

@@ -1,6 +1,6 @@
 //! Times of the engine's calls beside plain Rust, as one table.
 
-use bench::calls::{compare, image, in_place, reduce, Line};
+use bench::calls::{compare, image, in_place, reduce, strings, Line};
 
 fn main() {
     println!("{}", Line::HEAD);
@@ -26,5 +26,11 @@ fn main() {
         ),
     ] {
         println!("{}", compare::islands(sizes, name));
+    }
+    println!("{}", strings::checking(64));
+    for n in [8, 64] {
+        println!("{}", strings::reading(n));
+        println!("{}", strings::reading_alone(n));
+        println!("{}", strings::writing(n));
     }
 }

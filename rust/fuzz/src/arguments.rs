@@ -2,9 +2,10 @@
 
 use crate::common::damage::{damage_list, damage_record};
 use crate::common::local::{complemented_record, sent};
+use crate::common::reference::strings_text;
 use crate::common::{list, mixed, random_islands, random_rows, random_sizes, rows, use_up};
 use crate::common::{GenerateCall, ImageLengths, Lengths, ListCall, PairCall, RecordCall, Side};
-use crate::common::{Operation, Random};
+use crate::common::{Operation, Random, ReadCall};
 use sukhlent::{expand, GeneratorList, Record};
 
 /// What is done to valid arguments: mostly nothing or little; one in sixteen calls gets noise.
@@ -146,6 +147,81 @@ pub fn generate_call(random: &mut Random) -> GenerateCall {
         _ => (),
     }
     call
+}
+
+/// A text of n lines: of a list that is mostly accepted, with some bytes changed, or noise; at times
+/// of more lines than 64.
+pub fn read_call(random: &mut Random, n: usize) -> ReadCall {
+    let mut text = match random.below(16) {
+        0 => noisy_text(random),
+        1 => many_lines(random),
+        _ => strings_text(&list(&random_rows(random, n))).into_bytes(),
+    };
+    let faults = match random.below(4) {
+        0 => 1 + random.below(3),
+        _ => 0,
+    };
+    (0..faults).for_each(|_| damage_text(random, &mut text));
+    let mut call = ReadCall::on(&text);
+    if random.below(16) == 0 {
+        call.lengths[random.below(3)] = random.below(200);
+    }
+    call
+}
+
+/// One random fault of a text: a byte changed, left out or put in, a letter or a sign changed, a
+/// line exchanged with another or put in its place.
+fn damage_text(random: &mut Random, text: &mut Vec<u8>) {
+    let place = random.below(text.len().max(1));
+    let line = text.iter().position(|&byte| byte == b'\n').unwrap_or(0) + 1;
+    let lines = text.len() / line;
+    let known = b"IXYZ+-\n"[random.below(7)];
+    match random.below(7) {
+        _ if text.is_empty() => text.push(random.word() as u8),
+        0 => text[place] = random.word() as u8,
+        1 => drop(text.drain(place..=place)),
+        2 => text.insert(place, known),
+        3 => text[place] = known,
+        4 => text[place] = b"IXYZ"[random.below(4)],
+        _ if lines > 1 => {
+            let (from, to) = random.pair_below(lines);
+            text.copy_within(from * line..(from + 1) * line, to * line);
+        }
+        _ => text[place] = b'I',
+    }
+}
+
+/// Any bytes, mostly those of texts.
+fn noisy_text(random: &mut Random) -> Vec<u8> {
+    let byte = |random: &mut Random| match random.below(8) {
+        0 => random.word() as u8,
+        _ => b"IXYZ+-\n"[random.below(7)],
+    };
+    let length = match random.below(2) {
+        0 => random.below(12),
+        _ => random.below(200),
+    };
+    (0..length).map(|_| byte(random)).collect()
+}
+
+/// A text of more lines than 64, or of none.
+fn many_lines(random: &mut Random) -> Vec<u8> {
+    let n = [0, 65, 66 + random.below(40)][random.below(3)];
+    let mut text = Vec::new();
+    for _ in 0..n {
+        text.push(b"+-"[random.below(2)]);
+        text.extend((0..n).map(|_| b"IXYZ"[random.below(4)]));
+        text.push(b'\n');
+    }
+    text
+}
+
+/// Places for the text of a list: mostly its own.
+pub fn text_places(random: &mut Random, call: &ListCall) -> usize {
+    match random.below(16) {
+        0 => random.below(5000),
+        _ => call.text_places(),
+    }
 }
 
 /// Lengths of answer buffers: n, and at times one of them any.

@@ -44,7 +44,7 @@ impl fmt::Display for Counts {
         let heads = (1..NUMBERS).map(|number| format!("{number:>8}"));
         writeln!(
             f,
-            "{:<12}{:>9}{}",
+            "{:<14}{:>9}{}",
             "call",
             "accepted",
             heads.collect::<String>()
@@ -52,7 +52,7 @@ impl fmt::Display for Counts {
         for (call, counts) in CALLS.iter().zip(&self.0) {
             let cells = counts[1..].iter().map(|count| format!("{count:>8}"));
             let cells = cells.collect::<String>();
-            writeln!(f, "{:<12}{:>9}{cells}", call.name, counts[0])?;
+            writeln!(f, "{:<14}{:>9}{cells}", call.name, counts[0])?;
         }
         Ok(())
     }

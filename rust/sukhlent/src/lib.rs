@@ -28,6 +28,7 @@ mod product;
 pub mod raw;
 mod record;
 mod refusal;
+mod strings;
 
 pub use comparison::{compare, Comparison};
 pub use cut::cut;
@@ -38,3 +39,4 @@ pub use list::{check, reduce, GeneratorList};
 pub use product::{product, Product};
 pub use record::{expand, Record};
 pub use refusal::Refusal;
+pub use strings::{read_strings, write_strings};

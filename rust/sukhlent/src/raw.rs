@@ -172,6 +172,29 @@ mod calls {
             text_len: usize,
             length: *mut u64,
         ) -> u8;
+
+        pub fn sukhlent_read_strings(
+            text: *const u8,
+            text_len: usize,
+            signs: *mut u8,
+            signs_len: usize,
+            z: *mut u64,
+            z_len: usize,
+            x: *mut u64,
+            x_len: usize,
+        ) -> u8;
+
+        pub fn sukhlent_write_strings(
+            n: u64,
+            signs: *const u8,
+            signs_len: usize,
+            z: *const u64,
+            z_len: usize,
+            x: *const u64,
+            x_len: usize,
+            text: *mut u8,
+            text_len: usize,
+        ) -> u8;
     }
 }
 
@@ -458,4 +481,37 @@ pub fn compare(
 /// Writes the text of the job of `count` steps on n qubits that is drawn from a seed.
 pub fn generate(n: u64, count: u64, seed: u64, text: &mut [u8], length: &mut u64) -> u8 {
     unsafe { calls::sukhlent_generate(n, count, seed, text.as_mut_ptr(), text.len(), length) }
+}
+
+/// Writes the generator list of a text of Pauli strings.
+pub fn read_strings(text: &[u8], signs: &mut [u8], z: &mut [u64], x: &mut [u64]) -> u8 {
+    unsafe {
+        calls::sukhlent_read_strings(
+            text.as_ptr(),
+            text.len(),
+            signs.as_mut_ptr(),
+            signs.len(),
+            z.as_mut_ptr(),
+            z.len(),
+            x.as_mut_ptr(),
+            x.len(),
+        )
+    }
+}
+
+/// Writes the text of a generator list as Pauli strings.
+pub fn write_strings((n, signs, z, x): Lent, text: &mut [u8]) -> u8 {
+    unsafe {
+        calls::sukhlent_write_strings(
+            n,
+            signs.as_ptr(),
+            signs.len(),
+            z.as_ptr(),
+            z.len(),
+            x.as_ptr(),
+            x.len(),
+            text.as_mut_ptr(),
+            text.len(),
+        )
+    }
 }

@@ -83,7 +83,7 @@ impl Refusal {
     /// The line of the list of refusals.
     fn line(self) -> &'static str {
         match self {
-            Refusal::Form => "the program's text does not have its form",
+            Refusal::Form => "a text does not have its form",
             Refusal::Qubits => "n is 0 or above 64, or the two lists' n differ",
             Refusal::Length => "a buffer's length is not what is required",
             Refusal::StrayBit => "a word has a bit at or above n",

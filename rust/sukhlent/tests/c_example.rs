@@ -78,3 +78,8 @@ fn in_place_prints_its_stored_output() {
 fn session_prints_its_stored_output() {
     assert_prints_its_stored_output("session");
 }
+
+#[test]
+fn strings_prints_its_stored_output() {
+    assert_prints_its_stored_output("strings");
+}

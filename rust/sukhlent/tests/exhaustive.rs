@@ -16,7 +16,8 @@ fn numbered(n: usize, k: u64) -> GeneratorList {
     }
 }
 
-fn lists(n: usize) -> impl Iterator<Item = GeneratorList> {
+/// Every list of n generators on n qubits.
+pub fn lists(n: usize) -> impl Iterator<Item = GeneratorList> {
     (0..1 << (n * (2 * n + 1))).map(move |k| numbered(n, k))
 }
 

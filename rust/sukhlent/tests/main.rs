@@ -33,5 +33,7 @@ mod rewriting;
 mod rust_example;
 mod sessions;
 mod states;
+mod strings;
+mod strings_refusals;
 mod used;
 mod used_model;

@@ -21,7 +21,7 @@ const CASES: u64 = 100;
 type Measured = (&'static str, usize, fn(&mut Random, usize) -> usize);
 
 /// Every public call. All arguments are accepted, so that every step is taken.
-const CALLS: [Measured; 15] = [
+const CALLS: [Measured; 17] = [
     ("check", 64, |random, n| {
         let given = list(&random_rows(random, n));
         depth(|| raw::check(n as u64, &given.signs, &given.z, &given.x))
@@ -100,6 +100,17 @@ const CALLS: [Measured; 15] = [
         let (mut text, mut length) = (vec![0; raw::JOB_PLACES], 0);
         let seed = random.word() | 1;
         depth(|| raw::generate(n as u64, 4096, seed, &mut text, &mut length))
+    }),
+    ("read_strings", 64, |random, n| {
+        let text = list(&random_rows(random, n)).to_string();
+        let (mut signs, mut z, mut x) = ([0; 64], [0; 64], [0; 64]);
+        depth(|| raw::read_strings(text.as_bytes(), &mut signs, &mut z, &mut x))
+    }),
+    ("write_strings", 64, |random, n| {
+        let given = list(&random_rows(random, n));
+        let lent = (n as u64, &*given.signs, &*given.z, &*given.x);
+        let mut text = [0; 64 * 66];
+        depth(|| raw::write_strings(lent, &mut text))
     }),
 ];
 

@@ -4,6 +4,7 @@ pub mod compare;
 pub mod image;
 pub mod in_place;
 pub mod reduce;
+pub mod strings;
 
 use crate::timing::{medians, Work};
 use std::fmt;

@@ -8,11 +8,13 @@ mod reduce;
 mod refusals;
 mod row;
 mod search;
+mod strings;
 
 pub use compare::compare;
 pub use image::image;
 pub use reduce::reduce;
 pub use row::Row;
+pub use strings::{check, read_strings, write_strings};
 
 /// The places of a buffer for a list of complementations.
 const LIST_PLACES: usize = 96;

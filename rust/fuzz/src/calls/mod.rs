@@ -5,6 +5,7 @@ mod in_place;
 mod lists;
 mod pairs;
 mod records;
+mod strings;
 
 use crate::common::Random;
 
@@ -18,7 +19,7 @@ pub struct Call {
 }
 
 /// Every public call.
-pub const CALLS: [Call; 13] = [
+pub const CALLS: [Call; 15] = [
     Call {
         name: "check",
         once: lists::check,
@@ -70,5 +71,13 @@ pub const CALLS: [Call; 13] = [
     Call {
         name: "generate",
         once: generator::generate,
+    },
+    Call {
+        name: "read_strings",
+        once: strings::read,
+    },
+    Call {
+        name: "write_strings",
+        once: strings::write,
     },
 ];

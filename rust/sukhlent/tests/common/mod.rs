@@ -17,6 +17,7 @@ pub mod process;
 pub mod product;
 pub mod reference;
 pub mod seeded;
+pub mod strings;
 pub mod vectors;
 
 pub use calls::{Lengths, ListCall, RecordCall};
@@ -30,3 +31,4 @@ pub use seeded::{
     isolate, list, mixed, parsed, pauli, random_islands, random_record, random_rows, random_sizes,
     random_used_record, rows, stabilizers, use_up, Circuit, Pauli, Random,
 };
+pub use strings::ReadCall;

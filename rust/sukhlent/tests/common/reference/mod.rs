@@ -9,6 +9,7 @@ mod product;
 mod reduction;
 mod refusals;
 mod step;
+mod strings;
 
 pub use cut::cut_rank;
 pub use expansion::expanded;
@@ -20,3 +21,4 @@ pub use reduction::reduced;
 pub use refusals::{argument_refusal, cut_refusal, image_refusal, in_place_refusal};
 pub use refusals::{list_refusal, pair_refusal, product_refusal, record_refusal};
 pub use step::after;
+pub use strings::{strings_read, strings_text};

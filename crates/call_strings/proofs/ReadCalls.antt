@@ -1,0 +1,143 @@
+-- The call that reads, from what the functions below it answer. Lines 5 and 6 hold of no list that is read.
+-- Assumes nothing.
+use mathlib.Core.Bool.{false, _||_}
+use mathlib.Core.List.{_++_, List}
+use mathlib.Core.Path.{ap, ap₂, refl, subst, sym, _∙_, _≡_}
+use Prim.Native.Nat.{_<_, _^_, ℕ, _≤_}
+use native.Mathlib.Omega.{arith}
+use lib.ListN.{getD, length, length-take, take}
+use lib.Seq.{getD-take}
+use borrow.Author.Tests.{not-false}
+use Rattle.buffers.proofs.Lines.{more-accepted}
+use Rattle.buffers.proofs.Tabulate.{tabulate-at, tabulate-cong, tabulate-length}
+use Rattle.buffers.specs.Buffers.{tabulate}
+use Rattle.buffers.specs.Refusals.{badCount, firstFitting, otherThan, reaching}
+use Rattle.contracts.proofs.Calling.{done, refused}
+use Rattle.contracts.proofs.Fitting.{NoneHolds, decides, fits-at, none-fits-of, none-holds, stays}
+use Rattle.contracts.specs.Calls.{Call}
+use Rattle.call_lists.specs.Calls.{checkCall}
+use Rattle.pauli.specs.Pauli.{Pauli, signBit}
+use Rattle.stabilizer.proofs.EarlyLines.{form-numbered}
+use Rattle.stabilizer.proofs.SharedTests.{below-passes, counted, has-length, length-passes}
+use Rattle.stabilizer.specs.Lists.{formLines, listLines, listOf}
+use Rattle.strings.proofs.BackLaws.{buffers, same-buffers}
+use Rattle.strings.proofs.FormLaws.{form-size}
+use Rattle.strings.specs.Reading.{byteAt, formedLines, judgedLines, lineCount, rowOf, stringForm, stringList}
+use Rattle.strings.specs.Strings.{textSize}
+use Rattle.words.proofs.BitLaws.{digit-lt, wordOf-lt}
+use Rattle.words.proofs.Flags.{neither}
+use Rattle.call_strings.specs.StringCalls.{readStringsCall}
+
+-- ---- a list that is read has its form: lines 4, 5 and 6 do not hold
+module _ (n : ℕ) (R : ℕ → Pauli) where
+  table-passes : (b : ℕ) (f : ℕ → ℕ) → ((j : ℕ) → f j < b) → reaching b (tabulate n f) ≡ false
+  table-passes b f h =
+      below-passes b (tabulate n f)
+      (λ j l. subst (λ k. k < b) (sym (tabulate-at n f j (subst (λ m. j < m) (tabulate-length n f) l))) (h j))
+
+  pub listed-form : badCount n ≡ false → NoneHolds (formLines (listOf n R) false)
+  listed-form h = (
+    h,
+    (
+      ap (λ b. b || false) (ap₂ _||_ (place _) (ap₂ _||_ (place _) (place _))),
+      (
+        ap₂ _||_ (table-passes (2 ^ n) _ (λ j. wordOf-lt n ((R j) .z)))
+            (table-passes (2 ^ n) _ (λ j. wordOf-lt n ((R j) .x))),
+        (table-passes 2 _ (λ j. digit-lt (signBit ((R j) .phase))), tt),
+      ),
+    ),
+  )
+    where
+      place : (f : ℕ → ℕ) → otherThan n (tabulate n f) ≡ false
+      place f = length-passes n (tabulate n f) (tabulate-length n f)
+
+  -- so that lines 9 and 10 decide
+  pub listed-number : badCount n ≡ false →
+      firstFitting (listLines (listOf n R) false) ≡ firstFitting (judgedLines (listOf n R))
+  listed-number h =
+      more-accepted (formLines (listOf n R) false) (judgedLines (listOf n R)) (form-numbered (listOf n R) false)
+      (none-fits-of (formLines (listOf n R) false) (listed-form h))
+
+-- ---- an array whose first n places are a table
+pub part-of : (n : ℕ) (array : List ℕ) (f : ℕ → ℕ) → take n array ≡ tabulate n f → n ≡ length (take n array)
+part-of n array f e = sym (ap length e ∙ tabulate-length n f)
+
+pub part-room : (n : ℕ) (array : List ℕ) (f : ℕ → ℕ) → take n array ≡ tabulate n f → n ≤ length array
+part-room n array f e = omega (arith, part-of n array f e, length-take n array)
+
+-- what it means that lines 1, 2 and 4 do not hold of a text with n newlines
+pub record Formed (t signs zs xs : List ℕ) (n : ℕ) : Type 0 where
+  pub few : n ≤ 64
+  pub size : length t ≡ textSize n
+  pub signs-fit : length signs ≡ n
+  pub z-fit : length zs ≡ n
+  pub x-fit : length xs ≡ n
+
+-- ---- the call: a text t with n newlines, and what the first lines answer
+module _ (t signs zs xs : List ℕ) (n : ℕ) (c : n ≡ lineCount t) {k : ℕ}
+    (e : k ≡ firstFitting (formedLines t signs zs xs)) where
+  pub read-refused : (k ≡ 0 → ⊥) → Call (readStringsCall t signs zs xs signs zs xs) k
+  read-refused h = refused _ (stays (formedLines t signs zs xs) _ e h) h (refl, (refl, (refl, tt)))
+
+  module _ (z : k ≡ 0) where
+    passed : NoneHolds (formedLines t signs zs xs)
+    passed = none-holds (formedLines t signs zs xs) refl (sym e ∙ z)
+
+    good-count : badCount n ≡ false
+    good-count = ap badCount c ∙ passed .1 .0
+
+    fitting : (otherThan n signs || (otherThan n zs || otherThan n xs)) ≡ false
+    fitting = ap (λ m. otherThan m signs || (otherThan m zs || otherThan m xs)) c ∙ passed .1 .1 .0
+
+    pub read-formed : Formed t signs zs xs n
+    read-formed =
+        let h = neither (otherThan n signs) _ fitting in
+        let g = neither (otherThan n zs) _ (h .1) in
+        record {
+          few = counted n good-count .1;
+          size = form-size t (not-false (stringForm t) (passed .0)) ∙ ap textSize (sym c);
+          signs-fit = has-length n signs (h .0);
+          z-fit = has-length n zs (g .0);
+          x-fit = has-length n xs (g .1);
+        }
+
+    -- the arrays that hold the list, and the number of the check
+    module _ (s₁ z₁ x₁ : List ℕ) (es : take n s₁ ≡ (listOf n (λ j. rowOf (byteAt n t j))) .signs)
+        (ez : take n z₁ ≡ (listOf n (λ j. rowOf (byteAt n t j))) .z)
+        (ex : take n x₁ ≡ (listOf n (λ j. rowOf (byteAt n t j))) .x) {v : ℕ}
+        (C : Call (checkCall (buffers n (take n s₁) (take n z₁) (take n x₁))) v) where
+      same : buffers n (take n s₁) (take n z₁) (take n x₁) ≡ listOf n (λ j. rowOf (byteAt n t j))
+      same = same-buffers n es ez ex
+
+      number : v ≡ firstFitting (judgedLines (stringList t))
+      number =
+          C .number ∙ ap (λ l. firstFitting (listLines l false)) same
+          ∙ listed-number n (λ j. rowOf (byteAt n t j)) good-count
+          ∙ ap (λ m. firstFitting (judgedLines (listOf m (λ j. rowOf (byteAt m t j))))) c
+
+      at-call : v ≡ firstFitting (formedLines t signs zs xs ++ judgedLines (stringList t))
+      at-call = decides (formedLines t signs zs xs) refl e z (fits-at (judgedLines (stringList t)) number)
+
+      pub read-judged : (v ≡ 0 → ⊥) → Call (readStringsCall t signs zs xs signs zs xs) v
+      read-judged h = refused _ at-call h (refl, (refl, (refl, tt)))
+
+      -- a copy of the array's first places
+      copied : (old array : List ℕ) (f : ℕ → ℕ) {new : List ℕ} → length old ≡ n → take n array ≡ tabulate n f →
+          new ≡ tabulate (length old) (λ j. getD array j 0) → new ≡ tabulate n f
+      copied old array f l h p =
+          p ∙ ap (λ m. tabulate m (λ j. getD array j 0)) l
+          ∙ tabulate-cong n (λ j. getD array j 0) f
+          (λ j b. sym (getD-take n array j 0 b) ∙ ap (λ a. getD a j 0) h ∙ tabulate-at n f j b)
+
+      pub read-done : v ≡ 0 → {s′ z′ x′ : List ℕ} → s′ ≡ tabulate (length signs) (λ j. getD s₁ j 0) →
+          z′ ≡ tabulate (length zs) (λ j. getD z₁ j 0) → x′ ≡ tabulate (length xs) (λ j. getD x₁ j 0) →
+          Call (readStringsCall t signs zs xs s′ z′ x′) 0
+      read-done y {s′} {z′} {x′} ps pz px =
+          done _ at-call y (
+            copied signs s₁ _ (read-formed .signs-fit) es ps
+                ∙ ap (λ m. (listOf m (λ j. rowOf (byteAt m t j))) .signs) c,
+            (
+              copied zs z₁ _ (read-formed .z-fit) ez pz ∙ ap (λ m. (listOf m (λ j. rowOf (byteAt m t j))) .z) c,
+              (copied xs x₁ _ (read-formed .x-fit) ex px ∙ ap (λ m. (listOf m (λ j. rowOf (byteAt m t j))) .x) c, tt),
+            ),
+          )

@@ -1,0 +1,5 @@
+pub mod LineLaws
+pub mod TextLaws
+pub mod FormLaws
+pub mod BackLaws
+pub mod Examples

@@ -1,0 +1,5 @@
+pub mod SizeLaws
+pub mod FitLoops
+pub mod RowLoops
+pub mod ListLoops
+pub mod PrintLoops

@@ -1,0 +1,44 @@
+//! Generator lists typed as Pauli strings: each text is parsed, its list reduced to a graph with
+//! codes, and the generators of that record displayed. The last three texts are refused.
+//! examples/c/strings.c is the same in C.
+
+use std::fmt::{self, Write};
+use sukhlent::{expand, reduce, GeneratorList, Refusal};
+
+/// The texts that are shown.
+const TEXTS: [&str; 6] = [
+    "+XX\n-ZZ\n",
+    "-Y\n",
+    "+YYX\n-ZZI\n+IZZ\n",
+    "+xx\n-zz\n",
+    "+XI\n+ZI\n",
+    "+XX\n-XX\n",
+];
+
+fn main() -> fmt::Result {
+    let mut text = String::new();
+    show_all(&mut text)?;
+    print!("{text}");
+    Ok(())
+}
+
+/// Writes what is shown of each text.
+pub fn show_all(out: &mut impl Write) -> fmt::Result {
+    for text in TEXTS {
+        match shown(text) {
+            Ok(shown) => writeln!(out, "{text}{shown}")?,
+            Err(refusal) => writeln!(out, "{text}refused {}\n", refusal.number())?,
+        }
+    }
+    Ok(())
+}
+
+/// The reduced record of a text's list, and the generators of that record.
+fn shown(text: &str) -> Result<String, Refusal> {
+    let list: GeneratorList = text.parse()?;
+    let record = reduce(&list)?;
+    let places = record.codes.iter().zip(&record.neighbours).enumerate();
+    let vertex = |(q, (code, word))| format!("vertex {q}: code {code}, neighbours {word:016x}\n");
+    let vertices: String = places.map(vertex).collect();
+    Ok(format!("{vertices}{}", expand(&record)?))
+}
