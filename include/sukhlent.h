@@ -12,13 +12,17 @@
  *   codes[j]       4 * class + 2 * sx + sz, 0 to 23: the local Clifford of vertex j. The class
  *                  gives the letters to which X and Z go: 0 (X,Z), 1 (Y,Z), 2 (Z,X), 3 (X,Y),
  *                  4 (Y,X), 5 (Z,Y); sx or sz is 1 if that image is negative
- * Its generator j is +X at j and Z at the neighbours of j, each place then sent through its code.
+ *   used           bit q is 1 where qubit q is used: an accepted measurement sets it, and no call
+ *                  in place may name the qubit from then on. A used vertex has no neighbour, and
+ *                  its code is 0, 2, 4, 6, 8 or 10
+ * Its generator j is +X at j and Z at the neighbours of j, each place then sent through its code;
+ * the word of used qubits is checked and plays no part in it. With the word 0 no qubit is used.
  *
  * Every buffer passes as a pointer and its length in elements, and has n places where its call
  * does not say otherwise. Buffers must not overlap. The calls on a record in place (gate, cz,
- * measure, complement, pivot) read `neighbours` and `codes` and write the new record there. All
- * other buffers that are not const are lent for the answer: what they hold before the call does
- * not matter.
+ * measure, complement, pivot) read `neighbours` and `codes` and write the new record there;
+ * measure reads and writes *used too, and the others leave the word as it is. All other buffers
+ * that are not const are lent for the answer: what they hold before the call does not matter.
  *
  * Every call answers 0 where it accepts, or the first number of this list whose line is true; the
  * list is in checking order. A refused call changes no buffer.
@@ -29,9 +33,11 @@
  *    5  a word has a bit at or above n
  *    6  a sign or outcome is above 1, a code above 23, a Pauli not 1 to 3, or a
  *       seed 0
- *    7  a graph is not simple
+ *    7  a graph is not simple, or a used vertex has a neighbour or a code other than 0, 2, 4, 6, 8
+ *       and 10
  *    8  a qubit number is n or more, CZ or a pivot names one qubit twice, or a pivot's pair has no
  *       edge
+ *   16  the call names a used qubit
  *    9  two generators do not commute
  *   10  the generators are dependent
  *    3  a connected part of either reduced graph of a comparison has more than 20 vertices
@@ -58,69 +64,78 @@ uint8_t sukhlent_check(uint64_t n,
                        const uint64_t *z, size_t z_len,
                        const uint64_t *x, size_t x_len);
 
-/* Reduces a generator list: writes the reduced record of its group. Lists of one group give one
- * record, and lists of different groups give different ones.
+/* Reduces a generator list: writes the reduced record of its group, with 0 to *used. Lists of one
+ * group give one record, and lists of different groups give different ones.
  * Refusals: 2, 4, 5, 6, 9, 10. */
 uint8_t sukhlent_reduce(uint64_t n,
                         const uint8_t *signs, size_t signs_len,
                         const uint64_t *z, size_t z_len,
                         const uint64_t *x, size_t x_len,
                         uint64_t *neighbours, size_t neighbours_len,
-                        uint8_t *codes, size_t codes_len);
+                        uint8_t *codes, size_t codes_len,
+                        uint64_t *used);
 
 /* Expands a record: writes its n generators, in order.
  * Refusals: 2, 4, 5, 6, 7. */
 uint8_t sukhlent_expand(uint64_t n,
                         const uint64_t *neighbours, size_t neighbours_len,
                         const uint8_t *codes, size_t codes_len,
+                        uint64_t used,
                         uint8_t *signs, size_t signs_len,
                         uint64_t *z, size_t z_len,
                         uint64_t *x, size_t x_len);
 
 /* Applies a code after the code held at a qubit, and leaves the reduced record of the new group.
- * Refusals: 2, 4, 5, 6 (also where `code` is above 23), 7, 8 (`qubit` is n or more). */
+ * Refusals: 2, 4, 5, 6 (also where `code` is above 23), 7, 8 (`qubit` is n or more), 16. */
 uint8_t sukhlent_gate(uint64_t n,
                       uint64_t *neighbours, size_t neighbours_len,
                       uint8_t *codes, size_t codes_len,
+                      uint64_t used,
                       uint64_t qubit, uint8_t code);
 
 /* Applies CZ to two qubits, and leaves the reduced record of the new group.
- * Refusals: 2, 4, 5, 6, 7, 8 (`a` or `b` is n or more, or they are the same). */
+ * Refusals: 2, 4, 5, 6, 7, 8 (`a` or `b` is n or more, or they are the same), 16. */
 uint8_t sukhlent_cz(uint64_t n,
                     uint64_t *neighbours, size_t neighbours_len,
                     uint8_t *codes, size_t codes_len,
+                    uint64_t used,
                     uint64_t a, uint64_t b);
 
-/* Measures a Pauli (1 X, 2 Y, 3 Z) at a qubit, and leaves the reduced record of the new group.
- * Where the Pauli or its negative is in the group, writes 1 to *determined and its sign to
- * *answer (1 for minus) and keeps the group; an `outcome` that is not this sign is refused.
- * Otherwise writes 0 to *determined and `outcome` to *answer.
+/* Measures a Pauli (1 X, 2 Y, 3 Z) at a qubit, leaves the reduced record of the new group, and sets
+ * the qubit's bit of *used. Where the Pauli or its negative is in the group, writes 1 to
+ * *determined and its sign to *answer (1 for minus) and keeps the group; an `outcome` that is not
+ * this sign is refused. Otherwise writes 0 to *determined and `outcome` to *answer. The measured
+ * vertex is left without neighbours and with the code 4 * (pauli - 1) + 2 * outcome.
  * Refusals: 2, 4, 5, 6 (also where `pauli` is not 1 to 3 or `outcome` is above 1), 7, 8 (`qubit`
- * is n or more), 14. */
+ * is n or more), 16, 14. */
 uint8_t sukhlent_measure(uint64_t n,
                          uint64_t *neighbours, size_t neighbours_len,
                          uint8_t *codes, size_t codes_len,
+                         uint64_t *used,
                          uint8_t pauli, uint64_t qubit, uint8_t outcome,
                          uint8_t *answer, uint8_t *determined);
 
 /* Complements at a vertex: flips every edge between two neighbours of `a`, and rewrites the codes
  * so that the group stays. The record is not reduced.
- * Refusals: 2, 4, 5, 6, 7, 8 (`a` is n or more). */
+ * Refusals: 2, 4, 5, 6, 7, 8 (`a` is n or more), 16. */
 uint8_t sukhlent_complement(uint64_t n,
                             uint64_t *neighbours, size_t neighbours_len,
                             uint8_t *codes, size_t codes_len,
+                            uint64_t used,
                             uint64_t a);
 
-/* Pivots on an edge: complements at j, k and j. The group stays; the record is not reduced.
+/* Pivots on an edge: complements at j, k and j. The group stays; the record is not reduced. A used
+ * vertex has no edge, so that a pivot there is refused by 8.
  * Refusals: 2, 4, 5, 6, 7, 8 (`j` or `k` is n or more, they are the same, or have no edge). */
 uint8_t sukhlent_pivot(uint64_t n,
                        uint64_t *neighbours, size_t neighbours_len,
                        uint8_t *codes, size_t codes_len,
+                       uint64_t used,
                        uint64_t j, uint64_t k);
 
 /* Sends a graph through its codes, by the image rule: writes the image graph, a sign per vertex
  * (1 for minus) and the vertices at which the graph is complemented, in order. `list` has 96
- * places; those from *count on keep their values.
+ * places; those from *count on keep their values. It takes no word of used qubits.
  * Refusals: 2, 4, 5, 6, 7, 11, 12. */
 uint8_t sukhlent_image(uint64_t n,
                        const uint64_t *neighbours, size_t neighbours_len,
@@ -132,11 +147,12 @@ uint8_t sukhlent_image(uint64_t n,
 
 /* Reads the entanglement between two sides of the qubits: writes to *rank the rank modulo 2 of the
  * edges of a record between the side that the word `side` marks and the other. An empty or full
- * side gives 0.
+ * side gives 0. A side may mark used qubits.
  * Refusals: 2, 4, 5 (also where `side` has a bit at or above n), 6, 7. */
 uint8_t sukhlent_cut(uint64_t n,
                      const uint64_t *neighbours, size_t neighbours_len,
                      const uint8_t *codes, size_t codes_len,
+                     uint64_t used,
                      uint64_t side, uint64_t *rank);
 
 /* Multiplies rows of a list, which need neither commute nor be independent: the word `chosen`

@@ -41,14 +41,14 @@ static void print_list(const char *title, const struct list *list)
 static void show(const char *first, const char *second)
 {
     struct list list, back;
-    uint64_t neighbours[N];
+    uint64_t neighbours[N], used;
     uint8_t codes[N];
 
     put(&list, 0, first);
     put(&list, 1, second);
     print_list("list      ", &list);
     uint8_t refusal = sukhlent_reduce(N, list.signs, N, list.z, N, list.x, N,
-                                      neighbours, N, codes, N);
+                                      neighbours, N, codes, N, &used);
     if (refusal != 0) {
         printf("refused    %d\n\n", refusal);
         return;
@@ -56,7 +56,7 @@ static void show(const char *first, const char *second)
     for (int q = 0; q < N; q++)
         printf("vertex %d   code %d, neighbours %016llx\n", q, codes[q],
                (unsigned long long)neighbours[q]);
-    refusal = sukhlent_expand(N, neighbours, N, codes, N,
+    refusal = sukhlent_expand(N, neighbours, N, codes, N, used,
                               back.signs, N, back.z, N, back.x, N);
     if (refusal != 0) {
         printf("refused    %d\n\n", refusal);

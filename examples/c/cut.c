@@ -6,13 +6,16 @@
 
 enum { N = 4 };
 
+/* The word of used qubits: none has been measured. */
+enum { UNUSED = 0 };
+
 /* Prints the rank across each cut, the side of qubit 0 written as its qubits. */
 static void show(const char *title, const uint64_t *neighbours, const uint8_t *codes)
 {
     printf("%s\n", title);
     for (uint64_t side = 1; side < 1u << N; side += 2) {
         uint64_t rank;
-        uint8_t refusal = sukhlent_cut(N, neighbours, N, codes, N, side, &rank);
+        uint8_t refusal = sukhlent_cut(N, neighbours, N, codes, N, UNUSED, side, &rank);
 
         printf("  {");
         for (int q = 0; q < N; q++)
@@ -32,11 +35,11 @@ int main(void)
     uint8_t codes[N] = {0, 0, 0, 0};
 
     show("path", neighbours, codes);
-    if (sukhlent_cz(N, neighbours, N, codes, N, 0, 1))
+    if (sukhlent_cz(N, neighbours, N, codes, N, UNUSED, 0, 1))
         return 1;
     show("CZ on 0 and 1: only cuts between the two change", neighbours, codes);
-    if (sukhlent_gate(N, neighbours, N, codes, N, 1, 8) ||
-        sukhlent_complement(N, neighbours, N, codes, N, 2))
+    if (sukhlent_gate(N, neighbours, N, codes, N, UNUSED, 1, 8) ||
+        sukhlent_complement(N, neighbours, N, codes, N, UNUSED, 2))
         return 1;
     show("a Hadamard at 1, then complemented at 2: no cut changes", neighbours, codes);
 

@@ -1,6 +1,6 @@
 /* A short session: a list is reduced, its graph sent through codes, the two states compared, and
- * the second one changed by gates and a measurement. Records are printed as Graphviz DOT text.
- * rust/sukhlent/examples/session.rs is the same session in Rust. */
+ * the second one changed by gates and a measurement, which leaves its qubit used. Records are
+ * printed as Graphviz DOT text. rust/sukhlent/examples/session.rs is the same session in Rust. */
 #include <stdio.h>
 #include <stdlib.h>
 
@@ -17,6 +17,7 @@ struct list {
 struct record {
     uint64_t neighbours[N];
     uint8_t codes[N];
+    uint64_t used;
 };
 
 /* Ends the program where a call refuses. */
@@ -66,12 +67,13 @@ static void print_numbers(const char *title, const uint8_t *numbers, uint64_t co
     putchar('\n');
 }
 
-/* Prints a record as a graph whose vertices are labelled with their codes. */
+/* Prints a record as a graph whose vertices are labelled with their codes, used ones dashed. */
 static void print_dot(const char *name, const struct record *record)
 {
     printf("graph %s {\n", name);
     for (int q = 0; q < N; q++)
-        printf("    %d [label=\"%d: code %d\"];\n", q, q, record->codes[q]);
+        printf("    %d [label=\"%d: code %d\"%s];\n", q, q, record->codes[q],
+               record->used >> q & 1 ? ", style=dashed" : "");
     for (int a = 0; a < N; a++)
         for (int b = a + 1; b < N; b++)
             if (record->neighbours[a] >> b & 1)
@@ -83,14 +85,14 @@ int main(void)
 {
     static const char *const texts[N] = {"+XXXX", "+ZZII", "+IZZI", "+IIZZ"};
     struct list ghz = list_of(texts), other;
-    struct record star, complete = {{0}, {0}};
+    struct record star, complete = {{0}, {0}, 0};
     uint8_t given[N] = {12, 4, 4, 4}, signs[N], choice[N], vertices[PLACES];
     uint8_t outcome, determined;
     uint64_t count;
 
     print_list("list", &ghz);
     accept(sukhlent_reduce(N, ghz.signs, N, ghz.z, N, ghz.x, N,
-                           star.neighbours, N, star.codes, N));
+                           star.neighbours, N, star.codes, N, &star.used));
     print_dot("reduced", &star);
 
     accept(sukhlent_image(N, star.neighbours, N, given, N,
@@ -99,7 +101,7 @@ int main(void)
     print_numbers("signs", signs, N);
     print_dot("image", &complete);
 
-    accept(sukhlent_expand(N, complete.neighbours, N, complete.codes, N,
+    accept(sukhlent_expand(N, complete.neighbours, N, complete.codes, N, complete.used,
                            other.signs, N, other.z, N, other.x, N));
     print_list("its list", &other);
     accept(sukhlent_compare(N, ghz.signs, N, ghz.z, N, ghz.x, N,
@@ -108,12 +110,14 @@ int main(void)
     print_numbers("the least choice of codes", choice, N);
     print_numbers("complemented at", vertices, count);
 
-    accept(sukhlent_gate(N, complete.neighbours, N, complete.codes, N, 1, 8));
-    accept(sukhlent_cz(N, complete.neighbours, N, complete.codes, N, 2, 3));
+    accept(sukhlent_gate(N, complete.neighbours, N, complete.codes, N, complete.used, 1, 8));
+    accept(sukhlent_cz(N, complete.neighbours, N, complete.codes, N, complete.used, 2, 3));
     print_dot("after_gates", &complete);
-    accept(sukhlent_measure(N, complete.neighbours, N, complete.codes, N,
+    accept(sukhlent_measure(N, complete.neighbours, N, complete.codes, N, &complete.used,
                             3, 0, 1, &outcome, &determined));
     printf("// Z on qubit 0: outcome %d, %s\n", outcome, determined ? "determined" : "chosen");
     print_dot("measured", &complete);
+    printf("// a gate on qubit 0: refused %d\n",
+           sukhlent_gate(N, complete.neighbours, N, complete.codes, N, complete.used, 0, 8));
     return 0;
 }

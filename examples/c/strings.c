@@ -20,7 +20,7 @@ static int refused(uint8_t number)
 static void show(const char *text)
 {
     uint8_t signs[N], codes[N], written[PLACES];
-    uint64_t z[N], x[N], neighbours[N];
+    uint64_t z[N], x[N], neighbours[N], used;
     size_t n = 0;
 
     for (const char *c = text; *c != '\0'; c++)
@@ -28,12 +28,12 @@ static void show(const char *text)
     fputs(text, stdout);
     if (refused(sukhlent_read_strings((const uint8_t *)text, strlen(text), signs, n, z, n, x, n)))
         return;
-    if (refused(sukhlent_reduce(n, signs, n, z, n, x, n, neighbours, n, codes, n)))
+    if (refused(sukhlent_reduce(n, signs, n, z, n, x, n, neighbours, n, codes, n, &used)))
         return;
     for (size_t q = 0; q < n; q++)
         printf("vertex %zu: code %d, neighbours %016llx\n", q, codes[q],
                (unsigned long long)neighbours[q]);
-    if (refused(sukhlent_expand(n, neighbours, n, codes, n, signs, n, z, n, x, n)))
+    if (refused(sukhlent_expand(n, neighbours, n, codes, n, used, signs, n, z, n, x, n)))
         return;
     if (refused(sukhlent_write_strings(n, signs, n, z, n, x, n, written, n * (n + 2))))
         return;

@@ -21,6 +21,7 @@ pub fn state(random: &mut Random, graph: &Graph) -> GeneratorList {
     let record = Record {
         neighbours: graph.clone(),
         codes: vec![0; n],
+        used: 0,
     };
     let codes: Vec<u8> = (0..n).map(|_| random.below(24) as u8).collect();
     image(random, &expand(&record).expect("a simple graph"), &codes)

@@ -30,6 +30,7 @@ fn every_record_of_three_vertices() {
             let record = Record {
                 neighbours: numbered_graph(n, k / choices),
                 codes: (0..n as u32).map(code).collect(),
+                used: 0,
             };
             counts[usize::from(number(n as u64, &record, n, 96))] += 1;
         }

@@ -36,6 +36,7 @@ fn records(n: usize) -> impl Iterator<Item = Record> {
             codes: (0..n as u32)
                 .map(|j| (m / 24usize.pow(j) % 24) as u8)
                 .collect(),
+            used: 0,
         })
     })
 }

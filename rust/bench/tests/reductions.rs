@@ -8,10 +8,11 @@ use sukhlent::{raw, GeneratorList};
 /// The number that both calls give; they leave the same in buffers of so many places.
 fn number(n: u64, list: &GeneratorList, places: usize) -> u8 {
     let [engine, plain] = [raw::reduce as Reduce, plain::reduce].map(|call| {
-        let (mut neighbours, mut codes) = (vec![77; places], vec![77; places]);
+        let (mut neighbours, mut codes, mut used) = (vec![77; places], vec![77; places], 77);
         let (signs, z, x) = (&list.signs, &list.z, &list.x);
-        let number = call(n, signs, z, x, &mut neighbours, &mut codes);
-        (number, neighbours, codes)
+        let (words, bytes) = (&mut neighbours, &mut codes);
+        let number = call(n, signs, z, x, words, bytes, &mut used);
+        (number, neighbours, codes, used)
     });
     assert_eq!(engine, plain, "{n}: {list:?}");
     engine.0

@@ -3,7 +3,7 @@
 use crate::common::damage::{damage_list, damage_record};
 use crate::common::local::{complemented_record, sent};
 use crate::common::reference::strings_text;
-use crate::common::{list, mixed, random_components, random_rows, random_sizes, rows};
+use crate::common::{list, mixed, random_components, random_rows, random_sizes, rows, use_up};
 use crate::common::{GenerateCall, ImageLengths, Lengths, ListCall, PairCall, RecordCall, Side};
 use crate::common::{Operation, Random, ReadCall};
 use sukhlent::{expand, GeneratorList, Record};
@@ -107,14 +107,16 @@ fn sent_and_mixed(random: &mut Random, given: &GeneratorList) -> GeneratorList {
 /// An expansion of a record of n vertices.
 pub fn expand_call(random: &mut Random, n: usize) -> RecordCall<Lengths> {
     let [signs, z, x] = lengths(random, n);
-    harmed_record(random, n, Lengths { signs, z, x })
+    let record = used_record(random, n);
+    harmed(random, record, Lengths { signs, z, x })
 }
 
 /// An image of a record of n vertices.
 pub fn image_call(random: &mut Random, n: usize) -> RecordCall<ImageLengths> {
     let [image, signs] = lengths(random, n);
     let list = list_places(random);
-    harmed_record(random, n, ImageLengths { image, signs, list })
+    let record = record(random, n);
+    harmed(random, record, ImageLengths { image, signs, list })
 }
 
 /// A cut of a record of n vertices: mostly into sides of its own vertices, at times by any word.
@@ -123,7 +125,8 @@ pub fn cut_call(random: &mut Random, n: usize) -> RecordCall<Side> {
         0 => number(random),
         _ => random.word() >> (64 - n),
     };
-    harmed_record(random, n, Side(side))
+    let record = used_record(random, n);
+    harmed(random, record, Side(side))
 }
 
 /// A job: mostly of few steps, at times near the limit, at times with any numbers or another buffer.
@@ -237,19 +240,35 @@ pub fn in_place_call(random: &mut Random, kind: usize, n: usize) -> RecordCall<O
         0 => noisy_operation(random, kind),
         _ => Operation::loose(random, kind, n),
     };
-    harmed_record(random, n, operation)
+    let record = used_record(random, n);
+    harmed(random, record, operation)
 }
 
-/// A random record, at times harmed, with what goes with it.
-fn harmed_record<W>(random: &mut Random, n: usize, with: W) -> RecordCall<W> {
+/// A record, at times harmed, with what goes with it.
+fn harmed<W>(random: &mut Random, record: Record, with: W) -> RecordCall<W> {
     match harm(random) {
         Harm::Noise => noisy_record(random, with),
         Harm::Faults(count) => {
-            let mut call = RecordCall::with(&record(random, n), with);
+            let mut call = RecordCall::with(&record, with);
             (0..count).for_each(|_| damage_record(random, &mut call));
             call
         }
     }
+}
+
+/// A random record: every second one has used vertices, mostly few of them.
+fn used_record(random: &mut Random, n: usize) -> Record {
+    let mut record = record(random, n);
+    let count = match random.below(8) {
+        0 => random.below(n + 1),
+        1..=3 => 1 + random.below(3),
+        _ => 0,
+    };
+    for _ in 0..count {
+        let q = random.below(n);
+        use_up(&mut record, q, 2 * random.below(6) as u8);
+    }
+    record
 }
 
 /// A random record: every second one stands for a graph state with signs, others have codes of few
@@ -261,8 +280,12 @@ fn record(random: &mut Random, n: usize) -> Record {
         1 => (0..2).map(|_| random.below(24) as u8).collect(),
         _ => return complemented_often(random, &neighbours),
     };
-    let codes = (0..n).map(|_| kinds[random.below(kinds.len())]).collect();
-    Record { neighbours, codes }
+    let codes = (0..n).map(|_| kinds[random.below(kinds.len())]);
+    Record {
+        neighbours,
+        codes: codes.collect(),
+        used: 0,
+    }
 }
 
 /// A random graph, with few edges or many.
@@ -284,6 +307,7 @@ fn complemented_often(random: &mut Random, neighbours: &[u64]) -> Record {
     let mut record = Record {
         neighbours: neighbours.to_vec(),
         codes: codes.collect(),
+        used: 0,
     };
     for _ in 0..random.below(6) {
         record = complemented_record(&record, random.below(neighbours.len()));
@@ -327,6 +351,7 @@ fn noisy_record<W>(random: &mut Random, with: W) -> RecordCall<W> {
         n: number(random),
         neighbours: words(random),
         codes: (0..length).map(|_| random.word() as u8).collect(),
+        used: number(random),
         with,
     }
 }

@@ -5,7 +5,7 @@ use crate::header::published;
 use std::fmt;
 
 /// The numbers of the refusals, and 0.
-const NUMBERS: usize = 16;
+const NUMBERS: usize = 17;
 
 /// For each call of the table, how often it gave each number.
 #[derive(Clone, Default)]
@@ -74,5 +74,15 @@ mod tests {
         assert!(counts
             .missing()
             .contains(&format!("{} with 2", CALLS[0].name)));
+    }
+
+    #[test]
+    fn sixteen_is_missed_of_each_call_that_names_a_qubit_and_may_accept_it() {
+        let missing = Counts::default().missing();
+        let with = missing
+            .iter()
+            .filter_map(|what| what.strip_suffix(" with 16"));
+        let with: Vec<&str> = with.collect();
+        assert_eq!(with, ["gate", "cz", "measure", "complement"]);
     }
 }

@@ -15,8 +15,12 @@ pub struct Counts {
     pub pivots: u64,
     /// Measurements whose bit the state forbids.
     pub impossible: u64,
+    /// Calls that name a used qubit.
+    pub used: u64,
     /// Calls with arguments that are out of range.
     pub refused: u64,
+    /// How often all qubits were used and the session started anew.
+    pub starts: u64,
 }
 
 impl fmt::Display for Counts {
@@ -24,7 +28,7 @@ impl fmt::Display for Counts {
         write!(
             f,
             "{} gates, {} CZ, {} outcomes chosen, {} determined and {} impossible, \
-             {} complements, {} pivots, {} refused",
+             {} complements, {} pivots, {} on used qubits, {} refused, {} starts anew",
             self.gates,
             self.czs,
             self.chosen,
@@ -32,7 +36,9 @@ impl fmt::Display for Counts {
             self.impossible,
             self.complements,
             self.pivots,
-            self.refused
+            self.used,
+            self.refused,
+            self.starts
         )
     }
 }

@@ -12,12 +12,15 @@ use tableau::Tableau;
 /// What stands in the places of an outcome before a call.
 const UNTOUCHED: (u8, u8) = (0xa5, 0x5a);
 
-/// A record, the tableau of the same state, and what has happened to them.
+/// A record, the tableau of the same state, the qubits measured, and what has happened to them.
 pub struct Session {
     random: Random,
     record: Record,
     tableau: Tableau,
-    number: u64,
+    /// For each qubit, whether a measurement of it was accepted.
+    measured: Vec<bool>,
+    /// The calls since the start.
+    number: usize,
     pub counts: Counts,
 }
 
@@ -26,18 +29,29 @@ impl Session {
     pub fn new(n: usize, seed: u64) -> Session {
         Session {
             random: Random::new(seed),
-            record: Record {
-                neighbours: vec![0; n],
-                codes: vec![8; n],
-            },
+            record: start(n),
             tableau: Tableau::zero(n),
+            measured: vec![false; n],
             number: 0,
             counts: Counts::default(),
         }
     }
 
+    /// Starts anew where every qubit has been measured.
+    fn go_on(&mut self) {
+        if !self.measured.contains(&false) {
+            let n = self.measured.len();
+            self.record = start(n);
+            self.tableau = Tableau::zero(n);
+            self.measured = vec![false; n];
+            self.number = 0;
+            self.counts.starts += 1;
+        }
+    }
+
     /// Makes one call and compares all that it left. The error says what is different.
     pub fn step(&mut self) -> Result<(), String> {
+        self.go_on();
         let operation = next(&mut self.random, &self.record, self.number);
         self.number += 1;
         let before = self.record.clone();
@@ -47,6 +61,7 @@ impl Session {
             before.n() as u64,
             &mut self.record.neighbours,
             &mut self.record.codes,
+            &mut self.record.used,
             &mut measured.0,
             &mut measured.1,
         );
@@ -62,18 +77,26 @@ impl Session {
     }
 
     /// Does to the tableau what is to be done to the record. What the call is to leave in the
-    /// places of an outcome, or the number of its refusal: 14 where the tableau refuses the bit.
+    /// places of an outcome, or the number of its refusal: 16 where it names a measured qubit, 14
+    /// where the tableau refuses the bit.
     fn due(&mut self, operation: Operation) -> Result<(u8, u8), u8> {
-        let Record { neighbours, codes } = &self.record;
-        match argument_refusal(neighbours.len() as u64, neighbours, codes, operation) {
+        let unused = Record {
+            used: 0,
+            ..self.record.clone()
+        };
+        match argument_refusal(unused.n() as u64, &unused, operation) {
             0 => (),
             number => return Err(number),
+        }
+        if (0..unused.n()).any(|q| self.measured[q] && operation.names(q)) {
+            return Err(16);
         }
         match operation {
             Operation::Gate(q, code) => self.tableau.gate(q as usize, code),
             Operation::Cz(a, b) => self.tableau.cz(a as usize, b as usize),
             Operation::Measure(pauli, q, bit) => {
                 let answer = self.tableau.measure(pauli, q as usize, bit).ok_or(14)?;
+                self.measured[q as usize] = true;
                 return Ok((answer.outcome, u8::from(answer.determined)));
             }
             Operation::Complement(_) | Operation::Pivot(..) => (),
@@ -85,6 +108,7 @@ impl Session {
         let counts = &mut self.counts;
         *match (due, operation) {
             (Err(14), _) => &mut counts.impossible,
+            (Err(16), _) => &mut counts.used,
             (Err(_), _) => &mut counts.refused,
             (_, Operation::Gate(..)) => &mut counts.gates,
             (_, Operation::Cz(..)) => &mut counts.czs,
@@ -96,16 +120,24 @@ impl Session {
     }
 
     /// Compares the record that an accepted call left with the tableau, which has been changed
-    /// alike.
+    /// alike, and its used word with the qubits measured.
     fn compare(&self, operation: Operation, before: &Record) -> Result<(), String> {
-        let of_tableau = reduced(&of_tableau(&self.tableau));
+        let bits = self.measured.iter().enumerate();
+        let used = bits.fold(0, |word, (q, &measured)| word | u64::from(measured) << q);
+        let of_tableau = Record {
+            used,
+            ..reduced(&of_tableau(&self.tableau))
+        };
         match operation {
             Operation::Complement(a) => self.assert_complemented(before, &[a])?,
             Operation::Pivot(j, k) => self.assert_complemented(before, &[j, k, j])?,
             _ => return same("the record", &self.record, &of_tableau),
         }
-        let of_record = reduced(&expanded(&self.record));
-        same("the group", of_record, of_tableau)
+        let of_record = Record {
+            used: self.record.used,
+            ..reduced(&expanded(&self.record))
+        };
+        same("the group and the used word", of_record, of_tableau)
     }
 
     /// The record is the one before, complemented at each vertex.
@@ -114,6 +146,15 @@ impl Session {
             complemented_record(&record, v as usize)
         });
         same("the rewritten record", &self.record, &due)
+    }
+}
+
+/// +Z at each of n qubits, none of them used.
+fn start(n: usize) -> Record {
+    Record {
+        neighbours: vec![0; n],
+        codes: vec![8; n],
+        used: 0,
     }
 }
 
@@ -129,18 +170,18 @@ fn of_tableau(tableau: &Tableau) -> GeneratorList {
 
 /// The reduced record of a list, by plain Rust.
 fn reduced(list: &GeneratorList) -> Record {
-    let n = list.n();
-    let (mut neighbours, mut codes) = (vec![0; n], vec![0; n]);
+    let mut record = start(list.n());
     let number = plain::reduce(
-        n as u64,
+        list.n() as u64,
         &list.signs,
         &list.z,
         &list.x,
-        &mut neighbours,
-        &mut codes,
+        &mut record.neighbours,
+        &mut record.codes,
+        &mut record.used,
     );
     assert_eq!(number, 0, "{list:?}");
-    Record { neighbours, codes }
+    record
 }
 
 /// Whether two answers are equal; the error shows both.
@@ -169,6 +210,18 @@ mod tests {
             // Codes of the classes 0 and 1 send Z to Z or -Z.
             let keeps = code < 8 && code % 2 == 0;
             assert_eq!(first_difference(session).is_none(), keeps, "code {code}");
+        }
+    }
+
+    #[test]
+    fn another_used_word_is_a_difference() {
+        for q in 0..5 {
+            let mut session = Session::new(5, 7);
+            session.record.used = 1 << q;
+            assert!(first_difference(session).is_some(), "qubit {q}");
+            let mut session = Session::new(5, 7);
+            session.measured[q] = true;
+            assert!(first_difference(session).is_some(), "qubit {q}");
         }
     }
 

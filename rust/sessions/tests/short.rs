@@ -18,12 +18,15 @@ fn sixty_four_qubits() {
             complements,
             pivots,
             impossible,
+            used,
             refused,
+            starts,
         } = counts;
-        let outcomes = [chosen, determined, impossible];
-        let all = [&outcomes, &[gates, czs, complements, pivots, refused][..]].concat();
-        assert!(all.iter().all(|&times| times > 100), "{counts}");
+        let outcomes = [chosen, determined, impossible, used, refused];
+        let all = [&outcomes, &[gates, czs, complements, pivots][..]].concat();
+        assert!(all.iter().all(|&times| times > 50), "{counts}");
         assert_eq!(all.iter().sum::<u64>(), 6000);
+        assert!(starts > 5, "{counts}");
     }
 }
 

@@ -1,5 +1,5 @@
 //! A short session: a list is reduced, its graph sent through codes, the two states compared, and
-//! the second one changed by gates and a measurement.
+//! the second one changed by gates and a measurement, which leaves its qubit used.
 //! Records are printed as Graphviz DOT text. examples/c/session.c is the same session in C.
 
 use std::error::Error;
@@ -27,6 +27,7 @@ pub fn session(out: &mut impl Write) -> Result<(), Box<dyn Error>> {
     let complete = Record {
         neighbours: sent.neighbours,
         codes: vec![0; 4],
+        used: 0,
     };
     write_dot(out, "image", &complete)?;
 
@@ -48,6 +49,9 @@ pub fn session(out: &mut impl Write) -> Result<(), Box<dyn Error>> {
     };
     writeln!(out, "// Z on qubit 0: outcome {}, {how}", measured.outcome)?;
     write_dot(out, "measured", &record)?;
+    if let Err(refusal) = gate(&mut record, 0, 8) {
+        writeln!(out, "// a gate on qubit 0: refused {}", refusal.number())?;
+    }
     Ok(())
 }
 
@@ -86,11 +90,15 @@ fn write_numbers(out: &mut impl Write, title: &str, numbers: &[u8]) -> fmt::Resu
     writeln!(out)
 }
 
-/// Writes a record as a graph whose vertices are labelled with their codes.
+/// Writes a record as a graph whose vertices are labelled with their codes, used ones dashed.
 fn write_dot(out: &mut impl Write, name: &str, record: &Record) -> fmt::Result {
     writeln!(out, "graph {name} {{")?;
     for (q, code) in record.codes.iter().enumerate() {
-        writeln!(out, "    {q} [label=\"{q}: code {code}\"];")?;
+        let style = match record.used >> q & 1 {
+            1 => ", style=dashed",
+            _ => "",
+        };
+        writeln!(out, "    {q} [label=\"{q}: code {code}\"{style}];")?;
     }
     for a in 0..record.n() {
         for b in (a + 1..record.n()).filter(|b| record.neighbours[a] >> b & 1 == 1) {

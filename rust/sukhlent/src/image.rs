@@ -16,7 +16,7 @@ pub struct Image {
     pub complementations: Vec<u8>,
 }
 
-/// The image of the record's graph under its codes.
+/// The image of the record's graph under its codes. The record's used word is not read.
 pub fn image(record: &Record) -> Result<Image, Refusal> {
     let n = record.n();
     let mut answer = Image {

@@ -1,4 +1,5 @@
-//! Calls that rewrite a record in place. A refused call leaves the record as it was.
+//! Calls that rewrite a record in place. A refused call leaves the record as it was. A measurement
+//! marks its qubit as used; the other calls leave the used word as it is.
 
 use crate::{raw, Record, Refusal};
 
@@ -25,46 +26,54 @@ pub struct Measured {
 
 /// Applies a code after the code held at a qubit; the record becomes the reduced one.
 ///
-/// Refusals: 2, 4, 5, 6 (also for the given code), 7, 8 for a qubit out of range.
+/// Refusals: 2, 4, 5, 6 (also for the given code), 7, 8 for a qubit out of range, 16 for a used one.
 pub fn gate(record: &mut Record, qubit: usize, code: u8) -> Result<(), Refusal> {
     let n = record.n() as u64;
     let (neighbours, codes) = (&mut record.neighbours, &mut record.codes);
-    Refusal::unless_accepted(raw::gate(n, neighbours, codes, qubit as u64, code))
+    let number = raw::gate(n, neighbours, codes, record.used, qubit as u64, code);
+    Refusal::unless_accepted(number)
 }
 
 /// Applies CZ to two qubits; the record becomes the reduced one.
 ///
-/// Refusals: 2, 4, 5, 6, 7, 8 for a qubit out of range or one qubit twice.
+/// Refusals: 2, 4, 5, 6, 7, 8 for a qubit out of range or one qubit twice, 16 for a used one.
 pub fn cz(record: &mut Record, a: usize, b: usize) -> Result<(), Refusal> {
     let n = record.n() as u64;
     let (neighbours, codes) = (&mut record.neighbours, &mut record.codes);
-    Refusal::unless_accepted(raw::cz(n, neighbours, codes, a as u64, b as u64))
+    let number = raw::cz(n, neighbours, codes, record.used, a as u64, b as u64);
+    Refusal::unless_accepted(number)
 }
 
-/// Measures a Pauli at a qubit; the record becomes the reduced one.
+/// Measures a Pauli at a qubit; the record becomes the reduced one, and the qubit is used.
 ///
 /// The outcome is the bit (1 for minus). Where the Pauli is determined the group stays, and a bit
 /// that the state forbids is refused.
 ///
-/// Refusals: 2, 4, 5, 6 (also for a bit above 1), 7, 8 for a qubit out of range, 14 for a bit that
-/// is not the determined outcome.
+/// Refusals: 2, 4, 5, 6 (also for a bit above 1), 7, 8 for a qubit out of range, 16 for a used one,
+/// 14 for a bit that is not the determined outcome.
 ///
 /// ```
-/// use sukhlent::{measure, Measured, Pauli, Record, Refusal};
+/// use sukhlent::{gate, measure, Measured, Pauli, Record, Refusal};
 ///
 /// // The Bell state XX, ZZ: one edge with a Hadamard at qubit 1.
 /// let mut record = Record {
 ///     neighbours: vec![0b10, 0b01],
 ///     codes: vec![0, 8],
+///     used: 0,
 /// };
 /// let first = measure(&mut record, Pauli::Z, 0, 1)?;
 /// assert_eq!(first, Measured { outcome: 1, determined: false });
 /// assert_eq!(record.codes, [10, 10]);
+/// // Qubit 0 is gone.
+/// assert_eq!(record.used, 0b01);
+/// assert_eq!(gate(&mut record, 0, 8), Err(Refusal::Used));
+/// assert_eq!(measure(&mut record, Pauli::Z, 0, 1), Err(Refusal::Used));
 /// // Qubit 1 is in the same state now: outcome 0 is contradicted.
 /// let click = measure(&mut record, Pauli::Z, 1, 0);
 /// assert_eq!(click, Err(Refusal::Contradiction));
 /// let second = measure(&mut record, Pauli::Z, 1, 1)?;
 /// assert_eq!(second, Measured { outcome: 1, determined: true });
+/// assert_eq!(record.used, 0b11);
 /// # Ok::<(), sukhlent::Refusal>(())
 /// ```
 pub fn measure(
@@ -79,6 +88,7 @@ pub fn measure(
         n,
         &mut record.neighbours,
         &mut record.codes,
+        &mut record.used,
         pauli as u8,
         qubit as u64,
         bit,
@@ -94,19 +104,22 @@ pub fn measure(
 /// Complements the graph at a vertex and rewrites the codes so that the group stays. The record is
 /// not reduced.
 ///
-/// Refusals: 2, 4, 5, 6, 7, 8 for a vertex out of range.
+/// Refusals: 2, 4, 5, 6, 7, 8 for a vertex out of range, 16 for a used one.
 pub fn complement(record: &mut Record, a: usize) -> Result<(), Refusal> {
     let n = record.n() as u64;
     let (neighbours, codes) = (&mut record.neighbours, &mut record.codes);
-    Refusal::unless_accepted(raw::complement(n, neighbours, codes, a as u64))
+    let number = raw::complement(n, neighbours, codes, record.used, a as u64);
+    Refusal::unless_accepted(number)
 }
 
 /// Complements at j, k and j again, where j and k have an edge. The record is not reduced, and the
 /// group stays.
 ///
-/// Refusals: 2, 4, 5, 6, 7, 8 for a vertex out of range, one vertex twice or a pair with no edge.
+/// Refusals: 2, 4, 5, 6, 7, 8 for a vertex out of range, one vertex twice or a pair with no edge, as
+/// is each with a used vertex.
 pub fn pivot(record: &mut Record, j: usize, k: usize) -> Result<(), Refusal> {
     let n = record.n() as u64;
     let (neighbours, codes) = (&mut record.neighbours, &mut record.codes);
-    Refusal::unless_accepted(raw::pivot(n, neighbours, codes, j as u64, k as u64))
+    let number = raw::pivot(n, neighbours, codes, record.used, j as u64, k as u64);
+    Refusal::unless_accepted(number)
 }

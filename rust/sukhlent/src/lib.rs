@@ -13,6 +13,7 @@
 //! let record = reduce(&bell)?;
 //! assert_eq!(record.neighbours, [0b10, 0b01]);
 //! assert_eq!(record.codes, [0, 8]);
+//! assert_eq!(record.used, 0);
 //! assert_eq!(expand(&record)?, bell);
 //! # Ok::<(), sukhlent::Refusal>(())
 //! ```

@@ -28,12 +28,13 @@ pub fn check(list: &GeneratorList) -> Result<(), Refusal> {
     Refusal::unless_accepted(number)
 }
 
-/// The reduced record of the list's group. Equal groups give equal records.
+/// The reduced record of the list's group, with no used qubit. Equal groups give equal records.
 pub fn reduce(list: &GeneratorList) -> Result<Record, Refusal> {
     let n = list.n();
     let mut record = Record {
         neighbours: vec![0; n],
         codes: vec![0; n],
+        used: 0,
     };
     let number = raw::reduce(
         n as u64,
@@ -42,6 +43,7 @@ pub fn reduce(list: &GeneratorList) -> Result<Record, Refusal> {
         &list.x,
         &mut record.neighbours,
         &mut record.codes,
+        &mut record.used,
     );
     Refusal::unless_accepted(number).map(|()| record)
 }

@@ -27,6 +27,7 @@ mod calls {
             neighbours_len: usize,
             codes: *mut u8,
             codes_len: usize,
+            used: *mut u64,
         ) -> u8;
 
         pub fn sukhlent_expand(
@@ -35,6 +36,7 @@ mod calls {
             neighbours_len: usize,
             codes: *const u8,
             codes_len: usize,
+            used: u64,
             signs: *mut u8,
             signs_len: usize,
             z: *mut u64,
@@ -49,6 +51,7 @@ mod calls {
             neighbours_len: usize,
             codes: *mut u8,
             codes_len: usize,
+            used: u64,
             qubit: u64,
             code: u8,
         ) -> u8;
@@ -59,6 +62,7 @@ mod calls {
             neighbours_len: usize,
             codes: *mut u8,
             codes_len: usize,
+            used: u64,
             a: u64,
             b: u64,
         ) -> u8;
@@ -69,6 +73,7 @@ mod calls {
             neighbours_len: usize,
             codes: *mut u8,
             codes_len: usize,
+            used: *mut u64,
             pauli: u8,
             qubit: u64,
             outcome: u8,
@@ -82,6 +87,7 @@ mod calls {
             neighbours_len: usize,
             codes: *mut u8,
             codes_len: usize,
+            used: u64,
             a: u64,
         ) -> u8;
 
@@ -91,6 +97,7 @@ mod calls {
             neighbours_len: usize,
             codes: *mut u8,
             codes_len: usize,
+            used: u64,
             j: u64,
             k: u64,
         ) -> u8;
@@ -116,6 +123,7 @@ mod calls {
             neighbours_len: usize,
             codes: *const u8,
             codes_len: usize,
+            used: u64,
             side: u64,
             rank: *mut u64,
         ) -> u8;
@@ -208,7 +216,7 @@ pub fn check(n: u64, signs: &[u8], z: &[u64], x: &[u64]) -> u8 {
     }
 }
 
-/// Writes the reduced record of a generator list.
+/// Writes the reduced record of a generator list, with the word 0 of used qubits.
 pub fn reduce(
     n: u64,
     signs: &[u8],
@@ -216,6 +224,7 @@ pub fn reduce(
     x: &[u64],
     neighbours: &mut [u64],
     codes: &mut [u8],
+    used: &mut u64,
 ) -> u8 {
     unsafe {
         calls::sukhlent_reduce(
@@ -230,6 +239,7 @@ pub fn reduce(
             neighbours.len(),
             codes.as_mut_ptr(),
             codes.len(),
+            used,
         )
     }
 }
@@ -239,6 +249,7 @@ pub fn expand(
     n: u64,
     neighbours: &[u64],
     codes: &[u8],
+    used: u64,
     signs: &mut [u8],
     z: &mut [u64],
     x: &mut [u64],
@@ -250,6 +261,7 @@ pub fn expand(
             neighbours.len(),
             codes.as_ptr(),
             codes.len(),
+            used,
             signs.as_mut_ptr(),
             signs.len(),
             z.as_mut_ptr(),
@@ -261,7 +273,14 @@ pub fn expand(
 }
 
 /// Applies a code after the code held at a qubit, and reduces the record.
-pub fn gate(n: u64, neighbours: &mut [u64], codes: &mut [u8], qubit: u64, code: u8) -> u8 {
+pub fn gate(
+    n: u64,
+    neighbours: &mut [u64],
+    codes: &mut [u8],
+    used: u64,
+    qubit: u64,
+    code: u8,
+) -> u8 {
     unsafe {
         calls::sukhlent_gate(
             n,
@@ -269,6 +288,7 @@ pub fn gate(n: u64, neighbours: &mut [u64], codes: &mut [u8], qubit: u64, code: 
             neighbours.len(),
             codes.as_mut_ptr(),
             codes.len(),
+            used,
             qubit,
             code,
         )
@@ -276,7 +296,7 @@ pub fn gate(n: u64, neighbours: &mut [u64], codes: &mut [u8], qubit: u64, code: 
 }
 
 /// Applies CZ to two qubits, and reduces the record.
-pub fn cz(n: u64, neighbours: &mut [u64], codes: &mut [u8], a: u64, b: u64) -> u8 {
+pub fn cz(n: u64, neighbours: &mut [u64], codes: &mut [u8], used: u64, a: u64, b: u64) -> u8 {
     unsafe {
         calls::sukhlent_cz(
             n,
@@ -284,19 +304,21 @@ pub fn cz(n: u64, neighbours: &mut [u64], codes: &mut [u8], a: u64, b: u64) -> u
             neighbours.len(),
             codes.as_mut_ptr(),
             codes.len(),
+            used,
             a,
             b,
         )
     }
 }
 
-/// Measures a Pauli (1 X, 2 Y, 3 Z) at a qubit, reduces the record, and writes the outcome and
-/// whether it was determined.
+/// Measures a Pauli (1 X, 2 Y, 3 Z) at a qubit, reduces the record, sets the qubit's bit of the used
+/// word, and writes the outcome and whether it was determined.
 #[allow(clippy::too_many_arguments)]
 pub fn measure(
     n: u64,
     neighbours: &mut [u64],
     codes: &mut [u8],
+    used: &mut u64,
     pauli: u8,
     qubit: u64,
     outcome: u8,
@@ -310,6 +332,7 @@ pub fn measure(
             neighbours.len(),
             codes.as_mut_ptr(),
             codes.len(),
+            used,
             pauli,
             qubit,
             outcome,
@@ -320,7 +343,7 @@ pub fn measure(
 }
 
 /// Complements the record at a vertex.
-pub fn complement(n: u64, neighbours: &mut [u64], codes: &mut [u8], a: u64) -> u8 {
+pub fn complement(n: u64, neighbours: &mut [u64], codes: &mut [u8], used: u64, a: u64) -> u8 {
     unsafe {
         calls::sukhlent_complement(
             n,
@@ -328,13 +351,14 @@ pub fn complement(n: u64, neighbours: &mut [u64], codes: &mut [u8], a: u64) -> u
             neighbours.len(),
             codes.as_mut_ptr(),
             codes.len(),
+            used,
             a,
         )
     }
 }
 
 /// Pivots the record on an edge.
-pub fn pivot(n: u64, neighbours: &mut [u64], codes: &mut [u8], j: u64, k: u64) -> u8 {
+pub fn pivot(n: u64, neighbours: &mut [u64], codes: &mut [u8], used: u64, j: u64, k: u64) -> u8 {
     unsafe {
         calls::sukhlent_pivot(
             n,
@@ -342,6 +366,7 @@ pub fn pivot(n: u64, neighbours: &mut [u64], codes: &mut [u8], j: u64, k: u64) -
             neighbours.len(),
             codes.as_mut_ptr(),
             codes.len(),
+            used,
             j,
             k,
         )
@@ -377,7 +402,7 @@ pub fn image(
 }
 
 /// Writes the rank of the edges between the marked side of a record's vertices and the other.
-pub fn cut(n: u64, neighbours: &[u64], codes: &[u8], side: u64, rank: &mut u64) -> u8 {
+pub fn cut(n: u64, neighbours: &[u64], codes: &[u8], used: u64, side: u64, rank: &mut u64) -> u8 {
     unsafe {
         calls::sukhlent_cut(
             n,
@@ -385,6 +410,7 @@ pub fn cut(n: u64, neighbours: &[u64], codes: &[u8], side: u64, rank: &mut u64) 
             neighbours.len(),
             codes.as_ptr(),
             codes.len(),
+            used,
             side,
             rank,
         )

@@ -18,7 +18,7 @@ pub enum Refusal {
     StrayBit = 5,
     /// A sign, an outcome, a code, a Pauli or a seed is none.
     Value = 6,
-    /// A graph is not simple.
+    /// A graph is not simple, or a used vertex is not as a measurement leaves it.
     Graph = 7,
     /// A qubit number, or a pair of them, names nothing.
     Place = 8,
@@ -36,11 +36,13 @@ pub enum Refusal {
     Contradiction = 14,
     /// A job has more than 4,096 steps.
     Steps = 15,
+    /// A call names a used qubit.
+    Used = 16,
 }
 
 impl Refusal {
     /// Every refusal, in checking order.
-    pub const ALL: [Refusal; 15] = [
+    pub const ALL: [Refusal; 16] = [
         Refusal::Form,
         Refusal::Steps,
         Refusal::Qubits,
@@ -49,6 +51,7 @@ impl Refusal {
         Refusal::Value,
         Refusal::Graph,
         Refusal::Place,
+        Refusal::Used,
         Refusal::Anticommuting,
         Refusal::Dependent,
         Refusal::Comparison,
@@ -58,7 +61,7 @@ impl Refusal {
         Refusal::Inequivalent,
     ];
 
-    /// The number, 1 to 15.
+    /// The number, 1 to 16.
     pub fn number(self) -> u8 {
         self as u8
     }
@@ -87,11 +90,15 @@ impl Refusal {
             Refusal::Value => {
                 "a sign or outcome is above 1, a code above 23, a Pauli not 1 to 3, or a seed 0"
             }
-            Refusal::Graph => "a graph is not simple",
+            Refusal::Graph => {
+                "a graph is not simple, or a used vertex has a neighbour \
+                 or a code other than 0, 2, 4, 6, 8 and 10"
+            }
             Refusal::Place => {
                 "a qubit number is n or more, CZ or a pivot names one qubit twice, \
                  or a pivot's pair has no edge"
             }
+            Refusal::Used => "the call names a used qubit",
             Refusal::Anticommuting => "two generators do not commute",
             Refusal::Dependent => "the generators are dependent",
             Refusal::Comparison => {
@@ -134,20 +141,21 @@ mod tests {
         assert_eq!(Refusal::unless_accepted(0), Ok(()));
         let mut numbers = Refusal::ALL.map(Refusal::number);
         numbers.sort();
-        assert!(numbers.into_iter().eq(1..=15));
-        assert!((16..=255).all(|number| Refusal::from_number(number).is_none()));
+        assert!(numbers.into_iter().eq(1..=16));
+        assert!((17..=255).all(|number| Refusal::from_number(number).is_none()));
     }
 
     #[test]
-    fn three_and_fourteen_are_checked_after_ten_and_fifteen_after_one() {
+    fn three_and_fourteen_are_checked_after_ten_fifteen_after_one_and_sixteen_after_eight() {
         let order = Refusal::ALL.map(Refusal::number);
-        assert_eq!(order, [1, 15, 2, 4, 5, 6, 7, 8, 9, 10, 3, 14, 11, 12, 13]);
+        let due = [1, 15, 2, 4, 5, 6, 7, 8, 16, 9, 10, 3, 14, 11, 12, 13];
+        assert_eq!(order, due);
     }
 
     #[test]
     fn every_refusal_has_its_own_line() {
         let lines: std::collections::HashSet<_> = Refusal::ALL.map(Refusal::line).into();
-        assert_eq!(lines.len(), 15);
+        assert_eq!(lines.len(), 16);
         assert_eq!(
             Refusal::Anticommuting.to_string(),
             "refused 9: two generators do not commute"
@@ -155,8 +163,8 @@ mod tests {
     }
 
     #[test]
-    #[should_panic(expected = "no refusal has the number 16")]
+    #[should_panic(expected = "no refusal has the number 17")]
     fn other_numbers_are_no_answers() {
-        let _ = Refusal::unless_accepted(16);
+        let _ = Refusal::unless_accepted(17);
     }
 }

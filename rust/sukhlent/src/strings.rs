@@ -37,8 +37,8 @@ pub fn read_strings(text: &str) -> Result<GeneratorList, Refusal> {
 /// ```
 /// use sukhlent::{expand, write_strings, Record};
 ///
-/// let (neighbours, codes) = (vec![0b10, 0b01], vec![0, 10]);
-/// let bell = expand(&Record { neighbours, codes })?;
+/// let (neighbours, codes, used) = (vec![0b10, 0b01], vec![0, 10], 0);
+/// let bell = expand(&Record { neighbours, codes, used })?;
 /// assert_eq!(write_strings(&bell)?, "+XX\n-ZZ\n");
 /// # Ok::<(), sukhlent::Refusal>(())
 /// ```

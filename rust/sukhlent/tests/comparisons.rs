@@ -8,9 +8,12 @@ use std::collections::HashMap;
 use sukhlent::{compare, expand, Comparison, GeneratorList, Record, Refusal};
 
 fn graph(neighbours: &[u64]) -> GeneratorList {
-    let codes = vec![0; neighbours.len()];
-    let neighbours = neighbours.to_vec();
-    expand(&Record { neighbours, codes }).unwrap()
+    let record = Record {
+        codes: vec![0; neighbours.len()],
+        neighbours: neighbours.to_vec(),
+        used: 0,
+    };
+    expand(&record).unwrap()
 }
 
 /// The first reduced graph, complemented at each vertex of the answer's list, is the second.

@@ -22,6 +22,7 @@ fn component(record: &Record, vertices: &[usize]) -> GeneratorList {
     expanded(&Record {
         neighbours: vertices.iter().map(word).collect(),
         codes: vertices.iter().map(|&a| record.codes[a]).collect(),
+        used: 0,
     })
 }
 
@@ -138,6 +139,7 @@ fn parts_that_differ_give_13() {
         expanded(&Record {
             neighbours: neighbours.to_vec(),
             codes: vec![0; 4],
+            used: 0,
         })
     });
     for [a, b] in [[&ends, &middle], [&path(4, 4), &ends], [&path(4, 2), &ends]] {
@@ -167,6 +169,7 @@ fn one_component_that_is_not_equivalent_gives_13() {
         expanded(&Record {
             neighbours: words.collect(),
             codes: vec![0; 64],
+            used: 0,
         })
     };
     let paths = record(16);
@@ -188,6 +191,7 @@ fn the_same_components_on_other_qubits_give_13() {
         let moved = Record {
             neighbours,
             codes: record.codes.clone(),
+            used: 0,
         };
         let same = parts(&record.neighbours) == parts(&moved.neighbours);
         let answer = compare(&expanded(&record), &expanded(&moved));

@@ -1,14 +1,15 @@
 //! Damaged cuts: every number, pairs of faults, and every stray bit of a side.
 
-use crate::common::damage::{damage_record, each_fault, each_pair, record_faults, Fault};
+use crate::common::damage::{damage_record, each_fault, each_pair};
+use crate::common::damage::{record_faults, used_faults, Fault};
 use crate::common::reference::cut_rank;
-use crate::common::{random_record, Random, RecordCall, Side};
+use crate::common::{random_record, random_used_record, Random, RecordCall, Side};
 
 type Call = RecordCall<Side>;
 
-/// The faults of a record on 8 vertices, and of the side.
+/// The faults of a record on 8 vertices, of its used word and of the side.
 fn faults() -> Vec<Fault<Call>> {
-    let mut faults = record_faults::<Side>();
+    let mut faults = [record_faults::<Side>(), used_faults()].concat();
     faults.push((5, |call| call.with = Side(1 << 8)));
     faults.push((5, |call| call.with = Side(1 << 63 | 0b101)));
     faults.push((5, |call| call.with = Side(u64::MAX)));
@@ -19,6 +20,13 @@ fn faults() -> Vec<Fault<Call>> {
 fn base(seed: u64, n: usize) -> Call {
     let mut random = Random::new(seed);
     let record = random_record(&mut random, n);
+    RecordCall::cut_of(&record, random.word() >> (64 - n))
+}
+
+/// A cut of a random record of n vertices of which some are used, on either side.
+fn used(seed: u64, n: usize) -> Call {
+    let mut random = Random::new(seed);
+    let record = random_used_record(&mut random, n);
     RecordCall::cut_of(&record, random.word() >> (64 - n))
 }
 
@@ -71,12 +79,27 @@ fn every_bit_of_a_side() {
 }
 
 #[test]
+fn a_side_may_mark_used_qubits() {
+    for seed in 0..300 {
+        let n = 1 + seed as usize % 64;
+        let call = used(seed, n);
+        assert_eq!(assert_judged(&call), 0);
+        // The used word does not change the rank.
+        let unused = Call { used: 0, ..call };
+        assert_eq!(assert_judged(&unused), 0);
+    }
+}
+
+#[test]
 fn seeded_damage_against_the_reference() {
     let mut counts = [0; 8];
     for seed in 0..6000 {
         let mut random = Random::new(60_000 + seed);
         let n = 1 + random.below(9);
-        let mut call = base(seed, n);
+        let mut call = match random.below(2) {
+            0 => base(seed, n),
+            _ => used(seed, n),
+        };
         if random.below(8) == 0 {
             call.with = Side(1 << random.below(64));
         }

@@ -14,8 +14,11 @@ fn graph(n: usize, edges: impl IntoIterator<Item = (usize, usize)>) -> Record {
         neighbours[a] |= 1 << b;
         neighbours[b] |= 1 << a;
     }
-    let codes = vec![0; n];
-    Record { neighbours, codes }
+    Record {
+        neighbours,
+        codes: vec![0; n],
+        used: 0,
+    }
 }
 
 /// The vertices below n.

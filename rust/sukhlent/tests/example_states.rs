@@ -163,6 +163,7 @@ fn no_choice_carries_the_path_to_the_star() {
     let [path, star] = [[2, 5, 10, 4], [14, 1, 1, 1]].map(|neighbours| Record {
         neighbours: neighbours.to_vec(),
         codes: vec![0; 4],
+        used: 0,
     });
     let [from, to] = [&path, &star].map(state_of);
     let [first, second] = [&path, &star].map(|record| expand(record).unwrap());

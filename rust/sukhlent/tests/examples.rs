@@ -7,6 +7,7 @@ fn record(neighbours: &[u64], codes: &[u8]) -> Record {
     Record {
         neighbours: neighbours.to_vec(),
         codes: codes.to_vec(),
+        used: 0,
     }
 }
 
@@ -58,17 +59,21 @@ fn z_measured_twice_on_a_bell_state() {
         determined: false,
     };
     assert_eq!(first, Ok(chosen));
-    assert_eq!(state, record(&[0, 0], &[10, 10]));
+    let left = |used| Record {
+        used,
+        ..record(&[0, 0], &[10, 10])
+    };
+    assert_eq!(state, left(1));
     let forbidden = measure(&mut state, sukhlent::Pauli::Z, 1, 0);
     assert_eq!(forbidden, Err(Refusal::Contradiction));
-    assert_eq!(state, record(&[0, 0], &[10, 10]));
+    assert_eq!(state, left(1));
     let second = measure(&mut state, sukhlent::Pauli::Z, 1, 1);
     let known = Measured {
         outcome: 1,
         determined: true,
     };
     assert_eq!(second, Ok(known));
-    assert_eq!(state, record(&[0, 0], &[10, 10]));
+    assert_eq!(state, left(3));
 }
 
 #[test]

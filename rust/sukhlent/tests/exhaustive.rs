@@ -37,6 +37,7 @@ fn record(n: usize, k: usize, m: usize) -> Record {
     Record {
         neighbours,
         codes: codes.collect(),
+        used: 0,
     }
 }
 
@@ -64,14 +65,20 @@ fn one_record_per_stabilizer_state() {
     for (n, states, bases) in [(1, 6, 1), (2, 60, 6), (3, 1080, 168)] {
         let mut seen: HashMap<Record, usize> = HashMap::new();
         for list in lists(n) {
-            let (mut neighbours, mut codes) = (vec![0; n], vec![0; n]);
+            let mut record = Record {
+                neighbours: vec![0; n],
+                codes: vec![0; n],
+                used: 1,
+            };
             let (signs, z, x) = (&list.signs, &list.z, &list.x);
-            if raw::reduce(n as u64, signs, z, x, &mut neighbours, &mut codes) == 0 {
-                *seen.entry(Record { neighbours, codes }).or_default() += 1;
+            let (words, bytes) = (&mut record.neighbours, &mut record.codes);
+            if raw::reduce(n as u64, signs, z, x, words, bytes, &mut record.used) == 0 {
+                *seen.entry(record).or_default() += 1;
             }
         }
         assert_eq!(seen.len(), states);
         assert!(seen.values().all(|&count| count == bases), "{n} qubits");
+        assert!(seen.keys().all(|record| record.used == 0), "{n} qubits");
     }
 }
 

@@ -1,7 +1,7 @@
 //! Jobs that the generator writes: against a generator written from the request's words, and read
 //! back line by line.
 
-use crate::common::process::Program;
+use crate::common::process::{printed, Program};
 use crate::common::reference::{draw, steps, Step};
 use crate::common::{GenerateCall, Random};
 use sukhlent::{cz, gate, generate, measure, raw, Pauli, Record, Refusal};
@@ -114,10 +114,13 @@ fn no_step_is_a_job() {
 }
 
 /// What the program prints of a job: each step is done by a public call, from +Z on. Only
-/// contradicted outcomes are refused.
+/// contradicted outcomes and steps that name a used qubit are refused.
 fn answered(n: usize, steps: &[Step]) -> String {
-    let (neighbours, codes) = (vec![0; n], vec![8; n]);
-    let mut record = Record { neighbours, codes };
+    let mut record = Record {
+        neighbours: vec![0; n],
+        codes: vec![8; n],
+        used: 0,
+    };
     let mut text = String::from("step refusal outcome determined\n");
     for (k, &(op, a, b, value)) in steps.iter().enumerate() {
         let (a, b, value) = (a as usize, b as usize, value as u8);
@@ -132,15 +135,13 @@ fn answered(n: usize, steps: &[Step]) -> String {
         };
         text += &match answer {
             Ok((outcome, determined)) => format!("{k} 0 {outcome} {determined}\n"),
-            Err(Refusal::Contradiction) => format!("{k} 14 0 0\n"),
+            Err(refusal @ (Refusal::Contradiction | Refusal::Used)) => {
+                format!("{k} {} 0 0\n", refusal.number())
+            }
             Err(other) => panic!("{op} {a} {b} {value}: {other}"),
         };
     }
-    text += "qubit code neighbours\n";
-    for (q, (word, code)) in record.neighbours.iter().zip(&record.codes).enumerate() {
-        text += &format!("{q} {code} {word:016x}\n");
-    }
-    text
+    text + &printed(&record)
 }
 
 #[test]
@@ -151,4 +152,20 @@ fn the_program_runs_every_step_as_the_calls_do() {
         let printed = Program("job").run(text.as_bytes());
         assert_eq!(printed, answered(n, &steps), "{n} {count} {seed}");
     }
+}
+
+// A measured qubit is used: behind step 659 of the job of seed 1 every step names a used qubit.
+#[test]
+fn the_job_of_seed_1_has_every_qubit_used_at_step_659() {
+    let text = generate(64, 4096, 1).unwrap();
+    let printed = Program("job").run(text.as_bytes());
+    let lines: Vec<&str> = printed.lines().collect();
+    let [_, steps @ ..] = &lines[..4097] else {
+        panic!("{printed}");
+    };
+    let accepted = |line: &&str| line.split(' ').nth(1) == Some("0");
+    assert_eq!(steps.iter().rposition(accepted), Some(659));
+    assert!(steps[660..].iter().all(|line| line.contains(" 16 0 0")));
+    assert!(lines[4098..].iter().all(|line| line.ends_with(" 1")));
+    assert_eq!(lines[4098..].len(), 64);
 }

@@ -123,6 +123,7 @@ fn what_the_answer_buffers_held_does_not_matter() {
         let mut record = Record {
             neighbours: (0..64).map(|q: u64| 1 << (q ^ 1)).collect(),
             codes: vec![0; 64],
+            used: 0,
         };
         record.codes[..2 * count].fill(8);
         record

@@ -1,9 +1,11 @@
 //! Damaged calls on a record in place: every number, pairs of faults, and every wrong argument.
 
-use crate::common::damage::{damage_record, each_fault, each_pair, flip, record_faults, Fault};
+use crate::common::damage::{damage_record, each_fault, each_pair, flip};
+use crate::common::damage::{record_faults, used_faults, Fault};
 use crate::common::reference::expanded;
 use crate::common::seeded::pauli::{X, Y, Z};
-use crate::common::{images, random_record, rows, Operation, Pauli, Random, RecordCall};
+use crate::common::{images, isolate, random_record, random_used_record, rows};
+use crate::common::{Operation, Pauli, Random, RecordCall};
 use sukhlent::Record;
 use Operation::{Complement, Cz, Gate, Measure, Pivot};
 
@@ -18,6 +20,7 @@ fn own_faults(operation: Operation) -> Vec<Fault<Call>> {
             (8, |call| call.with = Gate(8, 0)),
             (8, |call| call.with = Gate(u64::MAX, 23)),
             (6, |call| call.with = Gate(8, 24)),
+            (16, use_named),
         ],
         Cz(..) => vec![
             (8, |call| call.with = Cz(8, 0)),
@@ -25,6 +28,10 @@ fn own_faults(operation: Operation) -> Vec<Fault<Call>> {
             (8, |call| call.with = Cz(u64::MAX, 1 << 32)),
             (8, |call| call.with = Cz(3, 3)),
             (8, |call| call.with = Cz(8, 8)),
+            (8, |call| call.with = Cz(0, 0)),
+            (16, use_named),
+            (16, |call| use_qubit(call, 0)),
+            (16, |call| use_qubit(call, 1)),
         ],
         Measure(..) => vec![
             (6, |call| call.with = Measure(0, 0, 0)),
@@ -37,11 +44,13 @@ fn own_faults(operation: Operation) -> Vec<Fault<Call>> {
             (14, |call| contradict(call, 1, 2, 0)),
             (14, |call| contradict(call, 2, 6, 0)),
             (14, |call| contradict(call, 3, 8, 1)),
+            (16, use_named),
         ],
         Complement(..) => vec![
             (8, |call| call.with = Complement(8)),
             (8, |call| call.with = Complement(1 << 32)),
             (8, |call| call.with = Complement(u64::MAX)),
+            (16, use_named),
         ],
         Pivot(..) => vec![
             (8, |call| call.with = Pivot(8, 0)),
@@ -52,22 +61,36 @@ fn own_faults(operation: Operation) -> Vec<Fault<Call>> {
                 flip(&mut call.neighbours, 0, 1);
                 flip(&mut call.neighbours, 1, 0);
             }),
+            // A used vertex has no edge.
+            (8, use_named),
+            (8, |call| use_qubit(call, 0)),
+            (8, |call| use_qubit(call, 1)),
         ],
     }
 }
 
-/// Takes the edges at a vertex.
-fn isolate(call: &mut Call, v: usize) {
-    let words = call.neighbours.iter_mut();
-    words.for_each(|word| *word &= !(1 << v));
-    call.neighbours[v] = 0;
-}
-
 /// Leaves vertex 5 alone with a code, and measures a Pauli there.
 fn contradict(call: &mut Call, pauli: u8, code: u8, bit: u8) {
-    isolate(call, 5);
+    isolate(&mut call.neighbours, 5);
     call.codes[5] = code;
     call.with = Measure(pauli, 5, bit);
+}
+
+/// Marks a qubit as used: its vertex is alone and keeps a code that a used one may have.
+fn use_qubit(call: &mut Call, q: usize) {
+    isolate(&mut call.neighbours, q);
+    if ![0, 2, 4, 6, 8, 10].contains(&call.codes[q]) {
+        call.codes[q] = 6;
+    }
+    call.used |= 1 << q;
+}
+
+/// Marks the qubits that the call names as used.
+fn use_named(call: &mut Call) {
+    let named = call.with;
+    (0..8)
+        .filter(|&q| named.names(q))
+        .for_each(|q| use_qubit(call, q));
 }
 
 /// A call on a random record of n vertices, of which the first two have an edge.
@@ -105,6 +128,7 @@ fn every_fault_gives_its_number() {
         let base = || base(seed, 8, operation);
         assert_judged(&base(), 0);
         each_fault(&record_faults(), base, assert_refused);
+        each_fault(&used_faults(), base, assert_refused);
         each_fault(&own_faults(operation), base, assert_refused);
     }
 }
@@ -112,7 +136,7 @@ fn every_fault_gives_its_number() {
 #[test]
 fn of_two_faults_the_earlier_number_is_given() {
     for (seed, operation) in (0..20).flat_map(|s| Operation::EACH.map(|o| (s, o))) {
-        let faults = [record_faults(), own_faults(operation)].concat();
+        let faults = [record_faults(), used_faults(), own_faults(operation)].concat();
         each_pair(&faults, || base(seed, 8, operation), assert_refused);
     }
 }
@@ -179,6 +203,7 @@ fn two_vertices(edge: bool, codes: [u8; 2]) -> Record {
     Record {
         neighbours: neighbours.to_vec(),
         codes: codes.to_vec(),
+        used: 0,
     }
 }
 
@@ -241,15 +266,18 @@ fn every_pair_of_a_cz_and_of_a_pivot() {
 
 #[test]
 fn seeded_damage_against_the_reference() {
-    let mut counts = [[0; 15]; 5];
-    for seed in 0..10_000 {
+    let mut counts = [[0; 17]; 5];
+    for seed in 0..20_000 {
         let mut random = Random::new(20_000 + seed);
         let n = 2 + random.below(9);
         let kind = random.below(5);
         let operation = Operation::loose(&mut random, kind, n);
-        let mut call = base(seed, n, operation);
+        let mut call = match random.below(2) {
+            0 => base(seed, n, operation),
+            _ => RecordCall::with(&random_used_record(&mut random, n), operation),
+        };
         if let Measure(_, q @ 2.., _) = operation {
-            isolate(&mut call, (q as usize).min(n - 1));
+            isolate(&mut call.neighbours, (q as usize).min(n - 1));
         }
         for _ in 0..random.below(3) {
             damage_record(&mut random, &mut call);
@@ -262,5 +290,8 @@ fn seeded_damage_against_the_reference() {
         let all = [0, 2, 4, 5, 6, 7, 8];
         assert!(all.iter().all(|&k| counts[k] > 20), "{counts:?}");
         assert_eq!(counts[14] > 20, kind == 2, "{counts:?}");
+        // A used vertex has no edge: a pivot there is 8.
+        assert_eq!(counts[16] > 20, kind != 4, "{counts:?}");
+        assert!(kind != 4 || counts[16] == 0, "{counts:?}");
     }
 }

@@ -20,16 +20,22 @@ fn step(random: &mut Random, n: usize) -> Step {
         random.below(bound)
     });
     let stray = |random: &mut Random| usize::from(random.below(12) == 0);
-    match random.below(9) {
+    match random.below(13) {
         0 => ("complement", a, stray(random), stray(random)),
-        1 | 2 => ("pivot", a, b, stray(random)),
-        3 | 4 => ("gate", a, stray(random), random.below(26)),
-        5 => ("measure", a, stray(random), random.below(7)),
+        1..=3 => ("pivot", a, b, stray(random)),
+        4 | 5 => ("gate", a, stray(random), random.below(26)),
+        6 | 7 => ("measure", a, stray(random), random.below(7)),
         _ => ("cz", a, b, stray(random)),
     }
 }
 
-/// The refusals 6 and 8 of a step on a record.
+/// A Hadamard on each of n qubits, so that a CZ leaves an edge, and then random steps.
+fn steps(random: &mut Random, n: usize) -> Vec<Step> {
+    let hadamards = (0..n).map(|q| ("gate", q, 0, 8));
+    hadamards.chain((0..40).map(|_| step(random, n))).collect()
+}
+
+/// The refusals 6, 8 and 16 of a step on a record.
 fn due(record: &Record, (op, a, b, value): Step) -> u32 {
     let n = record.n();
     let (unused, known) = match op {
@@ -39,11 +45,14 @@ fn due(record: &Record, (op, a, b, value): Step) -> u32 {
         _ => (value, true),
     };
     let edge = || record.neighbours[a] >> b & 1 == 1;
+    let used = |q: usize| record.used >> q & 1 == 1;
     match op {
         _ if unused != 0 || !known => 6,
         _ if a >= n => 8,
         "cz" if b >= n || a == b => 8,
         "pivot" if b >= n || a == b || !edge() => 8,
+        _ if used(a) => 16,
+        "cz" if used(b) => 16,
         _ => 0,
     }
 }
@@ -92,30 +101,39 @@ fn run(n: usize, steps: &[Step]) -> (Vec<String>, Record) {
     let lines: Vec<String> = out.lines().map(String::from).collect();
     assert_eq!(lines.len(), 2 + steps.len() + n, "{out}");
     assert_eq!(lines[0], "step refusal outcome determined");
-    assert_eq!(lines[1 + steps.len()], "qubit code neighbours");
-    let mut record = Record {
-        neighbours: Vec::new(),
-        codes: Vec::new(),
-    };
+    assert_eq!(lines[1 + steps.len()], "qubit code neighbours used");
+    let mut record = Record::default();
     for (q, line) in lines[2 + steps.len()..].iter().enumerate() {
         let fields: Vec<&str> = line.split(' ').collect();
-        assert_eq!((fields.len(), fields[0]), (3, q.to_string().as_str()));
+        assert_eq!((fields.len(), fields[0]), (4, q.to_string().as_str()));
         record.codes.push(fields[1].parse().unwrap());
         let word = u64::from_str_radix(fields[2], 16).unwrap();
         record.neighbours.push(word);
+        record.used |= match fields[3] {
+            "0" => 0,
+            "1" => 1 << q,
+            other => panic!("{other} is not 0 or 1"),
+        };
     }
     (lines[1..=steps.len()].to_vec(), record)
 }
 
-// For each k the program runs the first k steps: the record stands for the state after them, and the lines are those of
-// the whole job.
+/// The used word that a step leaves.
+fn used_after(record: &Record, refusal: u32, (op, a, ..): Step) -> u64 {
+    match (refusal, op) {
+        (0, "measure") => record.used | 1 << a,
+        _ => record.used,
+    }
+}
+
+// For each k the program runs the first k steps: the record stands for the state after them, the lines are those of the
+// whole job, and exactly the measured qubits are used. Jobs are short, since a qubit that is used stays so.
 #[test]
 fn seeded_jobs_against_state_vectors() {
     let matrices: Vec<Matrix2> = (0..24).map(matrix).collect();
     let mut counts = HashMap::<String, usize>::new();
-    for n in 1..=8 {
-        let mut random = Random::new(50_000 + n as u64);
-        let steps: Vec<Step> = (0..400).map(|_| step(&mut random, n)).collect();
+    for (n, job) in (1..=8).flat_map(|n| (0..12).map(move |job| (n, job))) {
+        let steps = steps(&mut Random::new(50_000 + 12 * n as u64 + job), n);
         let (whole, last) = run(n, &steps);
         let mut state = State::zero(n);
         let (_, mut record) = run(n, &[]);
@@ -129,11 +147,13 @@ fn seeded_jobs_against_state_vectors() {
             if refusal != 0 {
                 assert_eq!(after, record, "{step:?}");
             }
+            assert_eq!(after.used, used_after(&record, refusal, step), "{step:?}");
             assert_stabilized(&state, &expanded(&after));
             record = after;
             let what = match (refusal, step.0) {
                 (0, "measure") => format!("measured, determined {determined}"),
                 (0, op) => op.to_string(),
+                (16, op) => format!("{op} on a used qubit"),
                 _ => format!("refused {refusal}"),
             };
             *counts.entry(what).or_default() += 1;
@@ -150,8 +170,12 @@ fn seeded_jobs_against_state_vectors() {
         "refused 6",
         "refused 8",
         "refused 14",
+        "gate on a used qubit",
+        "cz on a used qubit",
+        "measure on a used qubit",
+        "complement on a used qubit",
     ] {
         let times = counts.get(what).copied().unwrap_or(0);
-        assert!(times >= 20, "{what}: {times} times");
+        assert!(times >= 20, "{what}: {times} times of {counts:?}");
     }
 }

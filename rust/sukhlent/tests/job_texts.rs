@@ -23,8 +23,8 @@ fn head(n: &str) -> String {
 
 /// The record of n qubits in +Z.
 fn all_plus_z(n: usize) -> String {
-    let lines = (0..n).map(|q| format!("{q} 8 {:016x}\n", 0));
-    format!("qubit code neighbours\n{}", lines.collect::<String>())
+    let lines = (0..n).map(|q| format!("{q} 8 {:016x} 0\n", 0));
+    format!("qubit code neighbours used\n{}", lines.collect::<String>())
 }
 
 // ---- accepted texts
@@ -33,6 +33,7 @@ fn all_plus_z(n: usize) -> String {
 fn the_example() {
     assert_eq!(run(EXAMPLE), ANSWER);
     assert!(ANSWER.contains("\n4 0 1 0\n5 14 0 0\n6 0 1 1\n"));
+    assert!(ANSWER.ends_with("\n0 10 0000000000000000 1\n1 10 0000000000000000 1\n"));
 }
 
 #[test]
@@ -58,9 +59,10 @@ fn each_operation() {
         let out = run(&format!("{}{edge}{step}\n", head("2")));
         let apart = step.starts_with("measure") || step.starts_with("cz");
         let words = if apart { (0, 0) } else { (2, 1) };
+        let used = u8::from(step.starts_with("measure"));
         let expected = format!(
             "step refusal outcome determined\n0 0 0 0\n1 0 0 0\n2 0 0 0\n3 {answer}\n\
-             qubit code neighbours\n0 {} {:016x}\n1 {} {:016x}\n",
+             qubit code neighbours used\n0 {} {:016x} {used}\n1 {} {:016x} 0\n",
             codes.0, words.0, codes.1, words.1
         );
         assert_eq!(out, expected, "{step}");
@@ -132,8 +134,90 @@ fn a_job_continues() {
         head("1")
     ));
     let expected = "step refusal outcome determined\n0 0 0 0\n1 14 0 0\n2 0 1 1\n\
-                    qubit code neighbours\n0 10 0000000000000000\n";
+                    qubit code neighbours used\n0 10 0000000000000000 1\n";
     assert_eq!(out, expected);
+}
+
+// A measured qubit is used: steps that name it are refused by 16, behind 6 and 8 and before 14, and the others run.
+#[test]
+fn steps_on_used_qubits() {
+    let steps = [
+        ("gate 0 0 8", "0 0 0"),
+        ("gate 1 0 8", "0 0 0"),
+        ("cz 0 1 0", "0 0 0"),
+        // Z on qubit 0 with outcome 1 leaves -X on qubit 1
+        ("measure 0 0 5", "0 1 0"),
+        ("gate 0 0 8", "16 0 0"),
+        ("gate 0 0 0", "16 0 0"),
+        ("cz 0 1 0", "16 0 0"),
+        ("cz 1 0 0", "16 0 0"),
+        ("complement 0 0 0", "16 0 0"),
+        ("measure 0 0 0", "16 0 0"),
+        ("measure 0 0 5", "16 0 0"),
+        // 16 before 14: qubit 0 is -Z
+        ("measure 0 0 4", "16 0 0"),
+        // 6 before 16: an unused field, or a value that is none
+        ("gate 0 0 24", "6 0 0"),
+        ("gate 0 1 8", "6 0 0"),
+        ("cz 0 1 1", "6 0 0"),
+        ("measure 0 0 6", "6 0 0"),
+        ("measure 0 1 4", "6 0 0"),
+        ("complement 0 1 0", "6 0 0"),
+        // 8 before 16: a qubit that is none, one qubit twice, no edge
+        ("cz 0 0 0", "8 0 0"),
+        ("cz 0 3 0", "8 0 0"),
+        ("cz 3 0 0", "8 0 0"),
+        ("pivot 0 1 0", "8 0 0"),
+        ("pivot 1 0 0", "8 0 0"),
+        ("pivot 0 0 0", "8 0 0"),
+        // the others
+        ("measure 1 0 0", "14 0 0"),
+        ("gate 2 0 8", "0 0 0"),
+        ("cz 1 2 0", "0 0 0"),
+        ("measure 1 0 3", "0 1 0"),
+        ("cz 1 2 0", "16 0 0"),
+        ("cz 2 1 0", "16 0 0"),
+        ("complement 2 0 0", "0 0 0"),
+        ("gate 2 0 0", "0 0 0"),
+    ];
+    let mut text = head("3");
+    let mut answer = String::from("step refusal outcome determined\n");
+    for (k, (step, line)) in steps.iter().enumerate() {
+        text += &format!("{step}\n");
+        answer += &format!("{k} {line}\n");
+    }
+    let record = "qubit code neighbours used\n0 10 0000000000000000 1\n\
+                  1 6 0000000000000000 1\n2 4 0000000000000000 0\n";
+    assert_eq!(run(&text), answer + record);
+}
+
+// All qubits used: no step is accepted any more.
+#[test]
+fn a_job_whose_qubits_are_all_used() {
+    let n = 64;
+    let mut text = head("64");
+    let mut answer = String::from("step refusal outcome determined\n");
+    for q in 0..n {
+        text += &format!("measure {q} 0 {}\n", 2 * (q % 2) + q / 32);
+        answer += &format!("{q} 0 {} 0\n", q / 32);
+    }
+    let further = [
+        ("gate", 0),
+        ("measure", 0),
+        ("measure", 5),
+        ("complement", 0),
+    ];
+    for (k, q) in (n..).zip((0..n).flat_map(|q| [q; 4])) {
+        let (op, value) = further[k % 4];
+        text += &format!("{op} {q} 0 {value}\n");
+        answer += &format!("{k} 16 0 0\n");
+    }
+    answer += "qubit code neighbours used\n";
+    for q in 0..n {
+        let code = 4 * (q % 2) + 2 * (q / 32);
+        answer += &format!("{q} {code} {:016x} 1\n", 0);
+    }
+    assert_eq!(run(&text), answer);
 }
 
 // ---- refusal 1
@@ -255,8 +339,8 @@ fn more_than_4096_steps() {
     // 4,096 Hadamards are the identity, and one less is one
     let out = run(&many("1", 4096));
     assert_eq!(out.lines().count(), 1 + 4096 + 2);
-    assert!(out.ends_with("\n4095 0 0 0\nqubit code neighbours\n0 8 0000000000000000\n"));
-    assert!(run(&many("1", 4095)).ends_with("\n0 0 0000000000000000\n"));
+    assert!(out.ends_with("\n4095 0 0 0\nqubit code neighbours used\n0 8 0000000000000000 0\n"));
+    assert!(run(&many("1", 4095)).ends_with("\n0 0 0000000000000000 0\n"));
     for k in [4097, 4098, 8192, 65_536, 69_632] {
         refuses(15, &many("1", k));
         // 15 before 2, and 1 before both

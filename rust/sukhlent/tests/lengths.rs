@@ -23,6 +23,7 @@ fn in_place<W>(call: &RecordCall<W>) -> [RecordCall<Operation>; 5] {
         n: call.n,
         neighbours: call.neighbours.clone(),
         codes: call.codes.clone(),
+        used: call.used,
         with,
     })
 }
@@ -91,6 +92,7 @@ fn n_places_for_n_out_of_range_give_2() {
         let record = Record {
             neighbours: vec![0; n],
             codes: vec![0; n],
+            used: 0,
         };
         assert_eq!((list.check(), list.reduce()), (2, Err(2)), "{n}");
         assert_eq!(list.product(0), Err(2), "{n}");

@@ -35,3 +35,5 @@ mod sessions;
 mod states;
 mod strings;
 mod strings_refusals;
+mod used;
+mod used_model;

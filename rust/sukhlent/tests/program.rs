@@ -43,7 +43,7 @@ fn all_z(n: usize) -> String {
 
 const EXAMPLE: &str =
     "sign z x\n0 0000000000000000 0000000000000003\n0 0000000000000003 0000000000000000\n";
-const ANSWER: &str = "qubit code neighbours\n0 0 0000000000000002\n1 8 0000000000000001\n";
+const ANSWER: &str = "qubit code neighbours used\n0 0 0000000000000002 0\n1 8 0000000000000001 0\n";
 
 // ---- accepted texts
 #[test]
@@ -56,25 +56,25 @@ fn small_lists() {
     // −XX, ZZ; XX, −YY; +Y; −Z
     assert_eq!(
         run(text(&[(1, 0, 3), (0, 3, 0)]).as_bytes()),
-        "qubit code neighbours\n0 2 0000000000000002\n1 8 0000000000000001\n"
+        "qubit code neighbours used\n0 2 0000000000000002 0\n1 8 0000000000000001 0\n"
     );
     assert_eq!(run(text(&[(0, 0, 3), (1, 3, 3)]).as_bytes()), ANSWER);
     assert_eq!(
         run(text(&[(0, 1, 1)]).as_bytes()),
-        "qubit code neighbours\n0 4 0000000000000000\n"
+        "qubit code neighbours used\n0 4 0000000000000000 0\n"
     );
     assert_eq!(
         run(text(&[(1, 1, 0)]).as_bytes()),
-        "qubit code neighbours\n0 10 0000000000000000\n"
+        "qubit code neighbours used\n0 10 0000000000000000 0\n"
     );
 }
 
 #[test]
 fn sixty_four_lines_pass() {
     let out = run(all_z(64).as_bytes());
-    let mut expected = String::from("qubit code neighbours\n");
+    let mut expected = String::from("qubit code neighbours used\n");
     for q in 0..64 {
-        expected += &format!("{q} 8 {:016x}\n", 0);
+        expected += &format!("{q} 8 {:016x} 0\n", 0);
     }
     assert_eq!(out, expected);
 }
@@ -121,9 +121,9 @@ fn random_graphs_of_64_qubits() {
                 ((turns / 2) as u8, z, x)
             })
             .collect();
-        let mut expected = String::from("qubit code neighbours\n");
+        let mut expected = String::from("qubit code neighbours used\n");
         for (q, w) in graph.iter().enumerate() {
-            expected += &format!("{q} 0 {w:016x}\n");
+            expected += &format!("{q} 0 {w:016x} 0\n");
         }
         let out = run(text(&lines).as_bytes());
         assert_eq!(out.lines().count(), 65);
@@ -158,7 +158,7 @@ fn the_names_line_is_literal() {
         "sign z x\n ",
         "sign z x\n\0",
         "\u{feff}sign z x\n",
-        "qubit code neighbours\n",
+        "qubit code neighbours used\n",
     ] {
         refuses(1, t);
     }

@@ -1,9 +1,10 @@
 //! The programs answer the text that they read, and all of it: texts that are answered differently each time, and texts
 //! of which every whole number of the programs' blocks is a text with another answer. What a program reads is in no
 //! contract, so that these tests alone tell a program that reads nothing, or the first block only.
-use crate::common::process::{refused, Program};
+use crate::common::process::{printed, refused, Program};
 use std::collections::HashSet;
 use std::time::Duration;
+use sukhlent::Record;
 
 const REDUCE: Program = Program("reduce");
 const JOB: Program = Program("job");
@@ -11,13 +12,13 @@ const JOB: Program = Program("job");
 /// The bytes that the programs read at a time.
 const BLOCK: usize = 65_536;
 
-/// The print of a record of these codes without edges.
-fn apart(codes: &[u8]) -> String {
-    let lines = codes
-        .iter()
-        .enumerate()
-        .map(|(q, code)| format!("{q} {code} {:016x}\n", 0));
-    format!("qubit code neighbours\n{}", lines.collect::<String>())
+/// The print of a record of these codes without edges, with a word of used qubits.
+fn apart(codes: &[u8], used: u64) -> String {
+    printed(&Record {
+        neighbours: vec![0; codes.len()],
+        codes: codes.to_vec(),
+        used,
+    })
 }
 
 /// The lines before the steps of a job on n qubits.
@@ -25,8 +26,9 @@ fn head(n: usize) -> String {
     format!("qubits\n{n}\nop a b value\n")
 }
 
-/// The answer to a job on one qubit whose first steps were refused by 8, then one step for each answer given.
-fn answer(refused: usize, last: &[&str], code: u8) -> String {
+/// The answer to a job on one qubit whose first steps were refused by 8, then one step for each answer given; the code
+/// that is left, and the used word.
+fn answer(refused: usize, last: &[&str], (code, used): (u8, u64)) -> String {
     let mut out = String::from("step refusal outcome determined\n");
     for k in 0..refused {
         out += &format!("{k} 8 0 0\n");
@@ -34,7 +36,7 @@ fn answer(refused: usize, last: &[&str], code: u8) -> String {
     for (k, line) in last.iter().enumerate() {
         out += &format!("{} {line}\n", refused + k);
     }
-    out + &apart(&[code])
+    out + &apart(&[code], used)
 }
 
 /// The text of a job on one qubit that fills exactly one block, with steps that 8 refuses, and their number.
@@ -72,7 +74,7 @@ fn reduce_answers_each_list() {
             }
             let codes: Vec<u8> = digits.iter().map(|d| 2 * *d as u8).collect();
             let out = REDUCE.run(text.as_bytes());
-            assert_eq!(out, apart(&codes), "{text}");
+            assert_eq!(out, apart(&codes, 0), "{text}");
             answers.insert(out);
         }
     }
@@ -90,7 +92,7 @@ fn job_answers_each_text() {
             codes[q] = 2;
             let lines = "step refusal outcome determined\n0 0 1 0\n";
             let out = JOB.run(text.as_bytes());
-            assert_eq!(out, format!("{lines}{}", apart(&codes)), "{text}");
+            assert_eq!(out, format!("{lines}{}", apart(&codes, 1 << q)), "{text}");
             answers.insert(out);
         }
     }
@@ -102,17 +104,18 @@ fn job_answers_each_text() {
 fn steps_behind_the_first_block_run() {
     let (block, count) = one_block();
     assert!(count < 4000);
-    assert_eq!(JOB.run(block.as_bytes()), answer(count, &[], 8));
+    assert_eq!(JOB.run(block.as_bytes()), answer(count, &[], (8, 0)));
     // a step more, or two of which the second tells what the first did
-    for (steps, lines, code) in [
-        ("gate 0 0 8\n", &["0 0 0"][..], 0),
-        ("gate 0 0 1\nmeasure 0 0 5\n", &["0 0 0", "0 1 1"], 10),
-        ("measure 0 0 3\n", &["0 1 0"], 6),
+    for (steps, lines, left) in [
+        ("gate 0 0 8\n", &["0 0 0"][..], (0, 0)),
+        ("gate 0 0 1\nmeasure 0 0 5\n", &["0 0 0", "0 1 1"], (10, 1)),
+        ("measure 0 0 3\n", &["0 1 0"], (6, 1)),
+        ("measure 0 0 3\ngate 0 0 8\n", &["0 1 0", "16 0 0"], (6, 1)),
     ] {
         let text = format!("{block}{steps}");
         assert_eq!(
             JOB.run(text.as_bytes()),
-            answer(count, lines, code),
+            answer(count, lines, left),
             "{steps}"
         );
     }
@@ -120,7 +123,8 @@ fn steps_behind_the_first_block_run() {
     let more = "gate 0 0 8\n".repeat(4096 - count);
     let out = JOB.run(format!("{block}{more}").as_bytes());
     let code = if (4096 - count) % 2 == 0 { 8 } else { 0 };
-    assert_eq!(out, answer(count, &vec!["0 0 0"; 4096 - count], code));
+    let lines = vec!["0 0 0"; 4096 - count];
+    assert_eq!(out, answer(count, &lines, (code, 0)));
 }
 
 // ---- refusals that a later block decides
@@ -181,14 +185,14 @@ fn what_comes_later_is_read() {
     };
     let x = "sign z x\n0 0000000000000000 0000000000000001\n";
     let z = "1 0000000000000002 0000000000000000\n";
-    assert_eq!(pieces(REDUCE, &[x]), apart(&[0]));
-    assert_eq!(pieces(REDUCE, &[x, z]), apart(&[0, 10]));
+    assert_eq!(pieces(REDUCE, &[x]), apart(&[0], 0));
+    assert_eq!(pieces(REDUCE, &[x, z]), apart(&[0, 10], 0));
     assert_eq!(pieces(REDUCE, &[x, "!"]), refused(1));
     let first = format!("{}gate 0 0 8\n", head(1));
-    assert_eq!(pieces(JOB, &[&first]), answer(0, &["0 0 0"], 0));
+    assert_eq!(pieces(JOB, &[&first]), answer(0, &["0 0 0"], (0, 0)));
     assert_eq!(
         pieces(JOB, &[&first, "gate 0 0 8\n"]),
-        answer(0, &["0 0 0", "0 0 0"], 8)
+        answer(0, &["0 0 0", "0 0 0"], (8, 0))
     );
     assert_eq!(pieces(JOB, &[&first, "!"]), refused(1));
 }

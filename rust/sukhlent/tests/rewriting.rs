@@ -9,6 +9,7 @@ fn record(neighbours: &[u64], codes: &[u8]) -> Record {
     Record {
         neighbours: neighbours.to_vec(),
         codes: codes.to_vec(),
+        used: 0,
     }
 }
 

@@ -1,4 +1,5 @@
-//! Sessions of calls on one record against state vectors, on up to 8 qubits.
+//! Sessions of calls on one record against state vectors, on up to 8 qubits. Measured qubits are used, and a session
+//! goes on with the others.
 
 use crate::common::damage::damage_record;
 use crate::common::reference::{expanded, reduced};
@@ -26,6 +27,18 @@ impl Session {
         }
     }
 
+    /// Starts anew with another record.
+    fn start(&mut self, record: Record) {
+        self.state = state_of(&record);
+        self.record = record;
+        self.count("started anew");
+    }
+
+    /// Whether every qubit is used.
+    fn is_over(&self) -> bool {
+        self.record.used.count_ones() as usize == self.record.n()
+    }
+
     fn count(&mut self, what: &str) {
         *self.counts.entry(what.to_string()).or_default() += 1;
     }
@@ -41,20 +54,33 @@ impl Session {
             return;
         }
         let (record, measured) = answer.unwrap_or_else(|number| panic!("{number}: {call:?}"));
+        assert_eq!(record.used, used_after(&self.record, operation), "{call:?}");
         self.record = record;
         self.follow(operation, measured);
         let list = expand(&self.record).unwrap();
         assert_eq!(list, expanded(&self.record));
         assert_stabilized(&self.state, &list);
         if !matches!(operation, Operation::Complement(_) | Operation::Pivot(..)) {
-            assert_eq!(reduce(&list).as_ref(), Ok(&self.record), "{call:?}");
-            assert_eq!(reduced(&list), self.record, "{call:?}");
+            let graph_and_codes = Record {
+                used: 0,
+                ..self.record.clone()
+            };
+            assert_eq!(reduce(&list).as_ref(), Ok(&graph_and_codes), "{call:?}");
+            assert_eq!(reduced(&list), graph_and_codes, "{call:?}");
         }
     }
 
     /// Counts a refusal. Where it is 14, the state forbids the bit.
     fn refused(&mut self, operation: Operation, due: u8) {
         self.count(&format!("refused {due}"));
+        if due == 16 {
+            self.count(match operation {
+                Operation::Gate(..) => "gate on a used qubit",
+                Operation::Cz(..) => "cz on a used qubit",
+                Operation::Measure(..) => "measurement of a used qubit",
+                _ => "complement at a used qubit",
+            });
+        }
         if due != 14 {
             return;
         }
@@ -112,6 +138,14 @@ impl Session {
     }
 }
 
+/// The used word after an accepted call.
+fn used_after(record: &Record, operation: Operation) -> u64 {
+    match operation {
+        Operation::Measure(_, q, _) => record.used | 1 << q,
+        _ => record.used,
+    }
+}
+
 /// A Pauli at a qubit.
 fn row(pauli: u8, q: u64) -> Row {
     match pauli {
@@ -134,6 +168,9 @@ fn seeded_sessions_against_state_vectors() {
         let n = 1 + seed as usize % 8;
         let mut session = Session::new(&matrices, random_record(&mut random, n));
         for _ in 0..200 {
+            if session.is_over() {
+                session.start(random_record(&mut random, n));
+            }
             let kind = random.below(5);
             let operation = Operation::loose(&mut random, kind, n);
             if random.below(8) == 0 {
@@ -157,6 +194,11 @@ fn assert_all_happened(counts: &HashMap<String, usize>) {
         "pivot",
         "refused 6",
         "refused 8",
+        "gate on a used qubit",
+        "cz on a used qubit",
+        "measurement of a used qubit",
+        "complement at a used qubit",
+        "started anew",
         "outcome 0, determined: false",
         "outcome 1, determined: false",
         "outcome 0, determined: true",

@@ -28,36 +28,40 @@ const CALLS: [Measured; 17] = [
     }),
     ("reduce", 64, |random, n| {
         let GeneratorList { signs, z, x } = list(&random_rows(random, n));
-        let (mut neighbours, mut codes) = ([0; 64], [0; 64]);
-        depth(|| raw::reduce(n as u64, &signs, &z, &x, &mut neighbours, &mut codes))
+        let (mut neighbours, mut codes, mut used) = ([0; 64], [0; 64], 0);
+        let (words, bytes) = (&mut neighbours, &mut codes);
+        depth(|| raw::reduce(n as u64, &signs, &z, &x, words, bytes, &mut used))
     }),
     ("expand", 64, |random, n| {
-        let (neighbours, codes) = pairs(random, n);
+        let (neighbours, codes, used) = used_pairs(random, n);
         let (mut signs, mut z, mut x) = ([0; 64], [0; 64], [0; 64]);
-        depth(|| raw::expand(n as u64, &neighbours, &codes, &mut signs, &mut z, &mut x))
+        let list = (&mut signs, &mut z, &mut x);
+        depth(|| raw::expand(n as u64, &neighbours, &codes, used, list.0, list.1, list.2))
     }),
     ("gate", 64, |random, n| {
-        in_place(random, n, |n, words, codes| {
-            raw::gate(n, words, codes, 0, 8)
+        in_place(random, n, |n, words, codes, used| {
+            raw::gate(n, words, codes, *used, 0, 8)
         })
     }),
     ("cz", 64, |random, n| {
-        in_place(random, n, |n, words, codes| raw::cz(n, words, codes, 0, 63))
+        in_place(random, n, |n, words, codes, used| {
+            raw::cz(n, words, codes, *used, 0, 61)
+        })
     }),
     ("measure", 64, |random, n| {
         let (mut answer, mut determined) = (0, 0);
-        in_place(random, n, |n, words, codes| {
-            raw::measure(n, words, codes, 3, 0, 1, &mut answer, &mut determined)
+        in_place(random, n, |n, words, codes, used| {
+            raw::measure(n, words, codes, used, 3, 0, 1, &mut answer, &mut determined)
         })
     }),
     ("complement", 64, |random, n| {
-        in_place(random, n, |n, words, codes| {
-            raw::complement(n, words, codes, 0)
+        in_place(random, n, |n, words, codes, used| {
+            raw::complement(n, words, codes, *used, 0)
         })
     }),
     ("pivot", 64, |random, n| {
-        in_place(random, n, |n, words, codes| {
-            raw::pivot(n, words, codes, 0, 1)
+        in_place(random, n, |n, words, codes, used| {
+            raw::pivot(n, words, codes, *used, 0, 1)
         })
     }),
     ("image", 64, |random, n| {
@@ -77,11 +81,11 @@ const CALLS: [Measured; 17] = [
         })
     }),
     ("cut", 64, |random, n| {
-        let (neighbours, codes) = pairs(random, n);
+        let (neighbours, codes, used) = used_pairs(random, n);
         // One vertex of each pair: every column joins the basis.
         let side = 0x5555_5555_5555_5555;
         let mut rank = 0;
-        depth(|| raw::cut(n as u64, &neighbours, &codes, side, &mut rank))
+        depth(|| raw::cut(n as u64, &neighbours, &codes, used, side, &mut rank))
     }),
     ("product", 64, |random, n| {
         let given = list(&random_rows(random, n));
@@ -133,10 +137,17 @@ fn of_compare(random: &mut Random, n: usize) -> usize {
 fn in_place(
     random: &mut Random,
     n: usize,
-    call: impl FnOnce(u64, &mut [u64], &mut [u8]) -> u8,
+    call: impl FnOnce(u64, &mut [u64], &mut [u8], &mut u64) -> u8,
 ) -> usize {
-    let (mut neighbours, mut codes) = pairs(random, n);
-    depth(|| call(n as u64, &mut neighbours, &mut codes))
+    let (mut neighbours, mut codes, mut used) = used_pairs(random, n);
+    depth(|| call(n as u64, &mut neighbours, &mut codes, &mut used))
+}
+
+/// The same pairs as below, but the last two vertices are used.
+fn used_pairs(random: &mut Random, n: usize) -> (Vec<u64>, Vec<u8>, u64) {
+    let (mut neighbours, codes) = pairs(random, n);
+    neighbours[n - 2..].fill(0);
+    (neighbours, codes, 0b11 << (n - 2))
 }
 
 /// The neighbours and the codes of edges in pairs with Hadamards: the image rule fills its list.

@@ -71,13 +71,14 @@ fn digest(measured: Option<Measured>) -> u64 {
     measured.map_or(0, |m| u64::from(m.outcome))
 }
 
-/// Calls the engine.
+/// Calls the engine; the record has no used qubit.
 fn on_record(record: &mut Record, operation: Operation) -> Option<Measured> {
     let (mut outcome, mut determined) = (0, 0);
     let number = operation.call(
         N as u64,
         &mut record.neighbours,
         &mut record.codes,
+        &mut 0,
         &mut outcome,
         &mut determined,
     );

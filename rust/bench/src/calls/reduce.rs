@@ -7,7 +7,7 @@ use crate::timing::Ready;
 use sukhlent::{raw, GeneratorList};
 
 /// The signature that both reductions have.
-pub type Reduce = fn(u64, &[u8], &[u64], &[u64], &mut [u64], &mut [u8]) -> u8;
+pub type Reduce = fn(u64, &[u8], &[u64], &[u64], &mut [u64], &mut [u8], &mut u64) -> u8;
 
 /// The number of lists.
 const LISTS: usize = 512;
@@ -42,7 +42,7 @@ fn in_plain_rust(lists: &[GeneratorList]) -> Ready<'_> {
 
 /// Reduces every list. The answer buffers are used again and again, and not cleared between.
 fn run(reduce: Reduce, lists: &[GeneratorList]) -> u64 {
-    let (mut neighbours, mut codes) = ([0; 64], [0; 64]);
+    let (mut neighbours, mut codes, mut used) = ([0; 64], [0; 64], 0);
     lists.iter().fold(0, |sum, list| {
         let n = list.n();
         let refusal = reduce(
@@ -52,8 +52,9 @@ fn run(reduce: Reduce, lists: &[GeneratorList]) -> u64 {
             &list.x,
             &mut neighbours[..n],
             &mut codes[..n],
+            &mut used,
         );
-        sum ^ neighbours[n - 1] ^ u64::from(codes[0]) ^ u64::from(refusal)
+        sum ^ neighbours[n - 1] ^ used ^ u64::from(codes[0]) ^ u64::from(refusal)
     })
 }
 
@@ -61,10 +62,11 @@ fn run(reduce: Reduce, lists: &[GeneratorList]) -> u64 {
 fn assert_same_answers(list: &GeneratorList) {
     let n = list.n();
     let [engine, plain] = [raw::reduce as Reduce, plain::reduce].map(|reduce| {
-        let (mut neighbours, mut codes) = (vec![0; n], vec![0; n]);
+        let (mut neighbours, mut codes, mut used) = (vec![0; n], vec![0; n], 77);
         let (signs, z, x) = (&list.signs, &list.z, &list.x);
-        let refusal = reduce(n as u64, signs, z, x, &mut neighbours, &mut codes);
-        (refusal, neighbours, codes)
+        let (words, bytes) = (&mut neighbours, &mut codes);
+        let refusal = reduce(n as u64, signs, z, x, words, bytes, &mut used);
+        (refusal, neighbours, codes, used)
     });
     assert_eq!(engine.0, 0);
     assert_eq!(engine, plain);

@@ -3,7 +3,7 @@
 use super::refusals;
 use super::row::Row;
 
-/// The reduced record of a list, or the number of the refusal.
+/// The reduced record of a list, with no used qubit, or the number of the refusal.
 pub fn reduce(
     n: u64,
     signs: &[u8],
@@ -11,6 +11,7 @@ pub fn reduce(
     x: &[u64],
     neighbours: &mut [u64],
     codes: &mut [u8],
+    used: &mut u64,
 ) -> u8 {
     let refusal = refusals::of_list((n, signs, z, x), &[neighbours.len(), codes.len()]);
     if refusal != 0 {
@@ -19,6 +20,7 @@ pub fn reduce(
     if !reduced(signs, z, x, neighbours, codes) {
         return 10;
     }
+    *used = 0;
     0
 }
 

@@ -1,4 +1,4 @@
-//! The calls on a lent record.
+//! The calls on a lent record. Each is given the used word 0: measured qubits go on taking part.
 
 use super::{start_record, Answer, Session};
 use crate::operation::Operation;
@@ -26,6 +26,7 @@ impl Session for Calls {
             n,
             &mut self.0.neighbours,
             &mut self.0.codes,
+            &mut 0,
             &mut outcome,
             &mut determined,
         );

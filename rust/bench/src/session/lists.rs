@@ -54,14 +54,19 @@ impl Lists {
     fn expand(&mut self) {
         let n = self.signs.len() as u64;
         let (signs, z, x) = (&mut self.signs, &mut self.z, &mut self.x);
-        let number = raw::expand(n, &self.record.neighbours, &self.record.codes, signs, z, x);
+        let (neighbours, codes) = (&self.record.neighbours, &self.record.codes);
+        let number = raw::expand(n, neighbours, codes, 0, signs, z, x);
         assert_eq!(number, 0, "the record is accepted");
     }
 
     fn reduce(&mut self) {
         let n = self.signs.len() as u64;
-        let (neighbours, codes) = (&mut self.record.neighbours, &mut self.record.codes);
-        let number = raw::reduce(n, &self.signs, &self.z, &self.x, neighbours, codes);
+        let Record {
+            neighbours,
+            codes,
+            used,
+        } = &mut self.record;
+        let number = raw::reduce(n, &self.signs, &self.z, &self.x, neighbours, codes, used);
         assert_eq!(number, 0, "the list is accepted");
     }
 

@@ -1,5 +1,5 @@
 //! A job of steps in three ways: by the calls, by expanding, changing the list and reducing, and on a
-//! plain tableau. All qubits start in +Z.
+//! plain tableau. All qubits start in +Z. No qubit is used up: the calls are given the used word 0.
 
 mod calls;
 mod lists;
@@ -55,6 +55,7 @@ fn start_record(n: usize) -> Record {
     Record {
         neighbours: vec![0; n],
         codes: vec![8; n],
+        used: 0,
     }
 }
 

@@ -1,7 +1,7 @@
 //! Calls on one record in place.
 
 use crate::arguments::{in_place_call, size};
-use crate::common::Random;
+use crate::common::{Operation, Random};
 use sukhlent::{expand, reduce, Record, Refusal};
 
 pub fn gate(random: &mut Random) -> u8 {
@@ -24,10 +24,12 @@ pub fn pivot(random: &mut Random) -> u8 {
     keeps_group(random, 4)
 }
 
-/// The record left is the reduced one of its group.
+/// The record left is the reduced one of its group, apart from the used word.
 fn leaves_reduced(random: &mut Random, kind: usize) -> u8 {
     once(random, kind, |_, after| {
-        assert_eq!(reduced(after).as_ref(), Ok(after));
+        let used = after.used;
+        let reduced = reduced(after).map(|record| Record { used, ..record });
+        assert_eq!(reduced.as_ref(), Ok(after));
     })
 }
 
@@ -47,9 +49,24 @@ fn once(random: &mut Random, kind: usize, assert: impl Fn(&Record, &Record)) -> 
     let number = answer.as_ref().err().copied().unwrap_or(0);
     assert_eq!(number, call.due(), "{call:?}");
     if let Ok((after, _)) = answer {
-        assert(&call.record(), &after);
+        let before = call.record();
+        assert(&before, &after);
+        assert_used(&before, call.with, &after);
     }
     number
+}
+
+/// Only a measurement adds to the used word, and the used vertices before are as they were.
+fn assert_used(before: &Record, operation: Operation, after: &Record) {
+    let measured = match operation {
+        Operation::Measure(_, q, _) => 1 << q,
+        _ => 0,
+    };
+    assert_eq!(after.used, before.used | measured, "{operation:?}");
+    for q in (0..before.n()).filter(|q| before.used >> q & 1 == 1) {
+        let vertex = |record: &Record| (record.neighbours[q], record.codes[q]);
+        assert_eq!(vertex(after), vertex(before), "{operation:?}, vertex {q}");
+    }
 }
 
 /// The reduced record of a record's group.

@@ -4,7 +4,7 @@ use crate::arguments::{cut_call, expand_call, image_call, size};
 use crate::common::local::complemented;
 use crate::common::reference::cut_rank;
 use crate::common::{ImageLengths, Random, RecordCall};
-use sukhlent::{check, expand as expanded, reduce, GeneratorList, Image};
+use sukhlent::{check, expand as expanded, reduce, GeneratorList, Image, Record};
 
 /// An expanded list is accepted.
 pub fn expand(random: &mut Random) -> u8 {
@@ -45,7 +45,8 @@ pub fn cut(random: &mut Random) -> u8 {
     number
 }
 
-/// The image has the group of the record, and its list leads from the one graph to the other.
+/// The image has the group of the record, whose used word is not asked for, and its list leads from
+/// the one graph to the other.
 fn assert_stands_for(call: &RecordCall<ImageLengths>, image: Image) {
     let led = complemented(&call.neighbours, &image.complementations);
     assert_eq!(led, image.neighbours, "{call:?}");
@@ -54,6 +55,10 @@ fn assert_stands_for(call: &RecordCall<ImageLengths>, image: Image) {
         signs: image.signs,
         z: image.neighbours,
     };
-    let of_record = expanded(&call.record()).expect("an accepted record");
+    let unused = Record {
+        used: 0,
+        ..call.record()
+    };
+    let of_record = expanded(&unused).expect("an accepted record");
     assert_eq!(reduce(&of_image), reduce(&of_record), "{call:?}");
 }

@@ -64,17 +64,21 @@ impl ListCall {
         let mut list = self.guarded();
         let mut neighbours = Guarded::patterned(self.neighbours);
         let mut codes = Guarded::patterned(self.codes);
+        let mut used = Guarded::patterned(1);
         let (n, signs, z, x) = list.lent();
-        let number = raw::reduce(n, signs, z, x, neighbours.lent(), codes.lent());
+        let (words, bytes) = (neighbours.lent(), codes.lent());
+        let number = raw::reduce(n, signs, z, x, words, bytes, &mut used.lent()[0]);
         list.assert_unchanged();
         if number != 0 {
             neighbours.assert_unchanged("neighbours");
             codes.assert_unchanged("codes");
+            used.assert_unchanged("used");
             return Err(number);
         }
         Ok(Record {
             neighbours: neighbours.answer("neighbours"),
             codes: codes.answer("codes"),
+            used: used.answer("used")[0],
         })
     }
 
@@ -115,6 +119,7 @@ pub struct RecordCall<W> {
     pub n: u64,
     pub neighbours: Vec<u64>,
     pub codes: Vec<u8>,
+    pub used: u64,
     pub with: W,
 }
 
@@ -133,6 +138,7 @@ impl<W> RecordCall<W> {
             n: record.n() as u64,
             neighbours: record.neighbours.clone(),
             codes: record.codes.clone(),
+            used: record.used,
             with,
         }
     }
@@ -142,6 +148,7 @@ impl<W> RecordCall<W> {
         Record {
             neighbours: self.neighbours.clone(),
             codes: self.codes.clone(),
+            used: self.used,
         }
     }
 }
@@ -169,6 +176,7 @@ impl RecordCall<Lengths> {
             self.n,
             neighbours.lent(),
             codes.lent(),
+            self.used,
             signs.lent(),
             z.lent(),
             x.lent(),
@@ -191,6 +199,6 @@ impl RecordCall<Lengths> {
     /// The number due to the record and the answer buffers' lengths.
     pub fn due(&self) -> u8 {
         let lengths = [self.with.signs, self.with.z, self.with.x];
-        reference::record_refusal(self.n, &self.neighbours, &self.codes, &lengths)
+        reference::record_refusal(self.n, &self.record(), &lengths)
     }
 }

@@ -26,6 +26,7 @@ impl RecordCall<Side> {
             self.n,
             neighbours.lent(),
             codes.lent(),
+            self.used,
             self.with.0,
             &mut rank.lent()[0],
         );
@@ -40,6 +41,6 @@ impl RecordCall<Side> {
 
     /// The number due to the record and the side.
     pub fn due(&self) -> u8 {
-        reference::cut_refusal(self.n, &self.neighbours, &self.codes, self.with.0)
+        reference::cut_refusal(self.n, &self.record(), self.with.0)
     }
 }

@@ -1,7 +1,8 @@
 //! Faults in the arguments of a call. Where a buffer is too short for a fault, it is left out.
 
 use super::calls::{ListCall, RecordCall};
-use super::seeded::Random;
+use super::seeded::{isolate, Random};
+use sukhlent::Refusal;
 
 /// Takes a place out of a buffer.
 pub fn cut<T>(places: &mut Vec<T>, j: usize) {
@@ -135,17 +136,54 @@ pub fn record_faults<W>() -> Vec<Fault<RecordCall<W>>> {
     ]
 }
 
+/// The faults of the used word of a record on 8 vertices, whatever goes with it. They leave vertex 0
+/// with its neighbours.
+pub fn used_faults<W>() -> Vec<Fault<RecordCall<W>>> {
+    vec![
+        (5, |call| call.used |= 1 << 8),
+        (5, |call| call.used |= 1 << 63),
+        (5, |call| call.used = u64::MAX),
+        (7, |call| use_with_neighbours(call, 2)),
+        (7, |call| use_with_neighbours(call, 7)),
+        (7, |call| use_with_code(call, 3, 1)),
+        (7, |call| use_with_code(call, 3, 11)),
+        (7, |call| use_with_code(call, 6, 12)),
+        (7, |call| use_with_code(call, 7, 23)),
+    ]
+}
+
+/// Marks a vertex that has an edge to vertex 0 as used; its code is one that a used vertex may have.
+fn use_with_neighbours<W>(call: &mut RecordCall<W>, q: usize) {
+    if call.neighbours.len() > q {
+        call.neighbours[0] |= 1 << q;
+        call.neighbours[q] |= 1;
+    }
+    put(&mut call.codes, q, 8);
+    call.used |= 1 << q;
+}
+
+/// Marks a vertex without neighbours as used, with a code.
+fn use_with_code<W>(call: &mut RecordCall<W>, q: usize, code: u8) {
+    if call.neighbours.len() > q {
+        isolate(&mut call.neighbours, q);
+    }
+    put(&mut call.codes, q, code);
+    call.used |= 1 << q;
+}
+
 /// One random fault of a record, or none.
 pub fn damage_record<W>(random: &mut Random, call: &mut RecordCall<W>) {
     let n = call.n.clamp(1, 64) as usize;
     let (a, b) = (random.below(n), random.below(n));
-    match random.below(7) {
+    match random.below(9) {
         0 => call.n = [0, 65, u64::MAX][random.below(3)],
         1 => call.neighbours.truncate(a),
         2 => call.codes.push(0),
         3 => flip(&mut call.neighbours, a, random.below(64) as u32),
         4 => put(&mut call.codes, a, random.word() as u8),
         5 => flip(&mut call.neighbours, a, b as u32),
+        6 => call.used ^= 1 << a,
+        7 => call.used ^= 1 << random.below(64),
         _ => put(&mut call.codes, a, random.below(24) as u8),
     }
 }
@@ -163,8 +201,8 @@ pub fn each_fault<C>(
     }
 }
 
-/// Of two faults the earlier number is given. The later one's comes first, so that it cannot undo
-/// the earlier one's.
+/// Of two faults the number that is checked earlier is given. The later one's fault comes first, so
+/// that it cannot undo the earlier one's.
 pub fn each_pair<C>(
     faults: &[Fault<C>],
     base: impl Fn() -> C,
@@ -172,7 +210,7 @@ pub fn each_pair<C>(
 ) {
     for (k, (number, damage)) in faults.iter().enumerate() {
         for (m, (later, further)) in faults.iter().enumerate() {
-            if number < later {
+            if place(*number) < place(*later) {
                 let mut call = base();
                 further(&mut call);
                 damage(&mut call);
@@ -180,4 +218,9 @@ pub fn each_pair<C>(
             }
         }
     }
+}
+
+/// The place of a number in the checking order.
+fn place(number: u8) -> Option<usize> {
+    Refusal::ALL.iter().position(|r| r.number() == number)
 }

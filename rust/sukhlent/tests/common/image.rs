@@ -63,8 +63,7 @@ impl RecordCall<ImageLengths> {
     /// The number due to the record and the buffers' lengths; None where the image rule decides.
     pub fn due(&self) -> Option<u8> {
         let lengths = [self.with.image, self.with.signs];
-        let list = self.with.list;
-        reference::image_refusal(self.n, &self.neighbours, &self.codes, &lengths, list)
+        reference::image_refusal(self.n, &self.record(), &lengths, self.with.list)
     }
 
     /// Panics unless a number is the one due: 0, 11 or 12 where the image rule decides.

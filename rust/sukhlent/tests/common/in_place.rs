@@ -10,21 +10,24 @@ impl RecordCall<Operation> {
     /// The record that the call leaves and what it measures, or the number of its refusal.
     ///
     /// Asserts that all guards keep their contents, on a refusal the buffers too, and that only a
-    /// measurement writes an outcome.
+    /// measurement writes an outcome and the used word.
     pub fn apply(&self) -> Result<(Record, Option<Measured>), u8> {
         let mut neighbours = Guarded::holding(&self.neighbours);
         let mut codes = Guarded::holding(&self.codes);
+        let mut used = Guarded::holding(&[self.used]);
         let mut answer = Guarded::patterned(1);
         let mut determined = Guarded::patterned(1);
         let number = self.with.call(
             self.n,
             neighbours.lent(),
             codes.lent(),
+            &mut used.lent()[0],
             &mut answer.lent()[0],
             &mut determined.lent()[0],
         );
         let measures = matches!(self.with, Operation::Measure(..));
         if number != 0 || !measures {
+            used.assert_unchanged("used");
             answer.assert_unchanged("answer");
             determined.assert_unchanged("determined");
         }
@@ -36,6 +39,7 @@ impl RecordCall<Operation> {
         let record = Record {
             neighbours: neighbours.answer("neighbours"),
             codes: codes.answer("codes"),
+            used: used.answer("used")[0],
         };
         let measured = measures.then(|| Measured {
             outcome: answer.answer("answer")[0],
@@ -50,6 +54,6 @@ impl RecordCall<Operation> {
 
     /// The number due to the record and the further arguments.
     pub fn due(&self) -> u8 {
-        reference::in_place_refusal(self.n, &self.neighbours, &self.codes, self.with)
+        reference::in_place_refusal(self.n, &self.record(), self.with)
     }
 }

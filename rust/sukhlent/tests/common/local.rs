@@ -41,7 +41,7 @@ fn first_then(a: u8, b: u8) -> u8 {
         .expect("codes are closed under composition")
 }
 
-/// The record complemented at a vertex: the same group.
+/// The record complemented at a vertex: the same group and the same used word.
 pub fn complemented_record(record: &Record, v: usize) -> Record {
     let mut codes = record.codes.clone();
     codes[v] = first_then(13, codes[v]);
@@ -53,6 +53,7 @@ pub fn complemented_record(record: &Record, v: usize) -> Record {
     Record {
         neighbours: complemented(&record.neighbours, &[v as u8]),
         codes,
+        used: record.used,
     }
 }
 

@@ -28,7 +28,7 @@ pub use image::ImageLengths;
 pub use operation::Operation;
 pub use pairs::PairCall;
 pub use seeded::{
-    list, mixed, parsed, pauli, random_components, random_record, random_rows, random_sizes, rows,
-    stabilizers, Circuit, Pauli, Random,
+    isolate, list, mixed, parsed, pauli, random_components, random_record, random_rows, random_sizes,
+    random_used_record, rows, stabilizers, use_up, Circuit, Pauli, Random,
 };
 pub use strings::ReadCall;

@@ -40,23 +40,35 @@ impl Operation {
         }
     }
 
-    /// The number that the call answers on a lent record. A measurement writes to the last two.
+    /// Whether the call names a qubit.
+    pub fn names(self, q: usize) -> bool {
+        let q = q as u64;
+        match self {
+            Operation::Gate(a, _) | Operation::Measure(_, a, _) | Operation::Complement(a) => {
+                a == q
+            }
+            Operation::Cz(a, b) | Operation::Pivot(a, b) => a == q || b == q,
+        }
+    }
+
+    /// The number that the call answers on a lent record. A measurement writes to the last three.
     pub fn call(
         self,
         n: u64,
         neighbours: &mut [u64],
         codes: &mut [u8],
+        used: &mut u64,
         answer: &mut u8,
         determined: &mut u8,
     ) -> u8 {
         match self {
-            Operation::Gate(qubit, code) => raw::gate(n, neighbours, codes, qubit, code),
-            Operation::Cz(a, b) => raw::cz(n, neighbours, codes, a, b),
+            Operation::Gate(qubit, code) => raw::gate(n, neighbours, codes, *used, qubit, code),
+            Operation::Cz(a, b) => raw::cz(n, neighbours, codes, *used, a, b),
             Operation::Measure(pauli, qubit, outcome) => raw::measure(
-                n, neighbours, codes, pauli, qubit, outcome, answer, determined,
+                n, neighbours, codes, used, pauli, qubit, outcome, answer, determined,
             ),
-            Operation::Complement(a) => raw::complement(n, neighbours, codes, a),
-            Operation::Pivot(j, k) => raw::pivot(n, neighbours, codes, j, k),
+            Operation::Complement(a) => raw::complement(n, neighbours, codes, *used, a),
+            Operation::Pivot(j, k) => raw::pivot(n, neighbours, codes, *used, j, k),
         }
     }
 }

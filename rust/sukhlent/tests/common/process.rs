@@ -1,10 +1,11 @@
-//! The programs, run as processes.
+//! The programs, run as processes, and what they print.
 
 use std::io::{ErrorKind, Write};
 use std::path::PathBuf;
 use std::process::{Child, Command, Stdio};
 use std::thread::sleep;
 use std::time::Duration;
+use sukhlent::Record;
 
 /// A program of the repository, by its name.
 #[derive(Clone, Copy)]
@@ -46,6 +47,16 @@ impl Program {
     pub fn run(self, input: &[u8]) -> String {
         self.run_pieces(std::iter::once(input), Duration::ZERO)
     }
+}
+
+/// The print of a record.
+pub fn printed(record: &Record) -> String {
+    let mut text = String::from("qubit code neighbours used\n");
+    for (q, (word, code)) in record.neighbours.iter().zip(&record.codes).enumerate() {
+        let used = record.used >> q & 1;
+        text += &format!("{q} {code} {word:016x} {used}\n");
+    }
+    text
 }
 
 /// The print of a refusal.

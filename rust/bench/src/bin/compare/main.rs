@@ -77,11 +77,16 @@ fn timed(first: &GeneratorList, second: &GeneratorList) -> (Duration, Result<Com
 /// The reduced record, by plain Rust.
 fn reduced(list: &GeneratorList) -> Record {
     let n = list.n();
-    let (mut neighbours, mut codes) = (vec![0; n], vec![0; n]);
+    let (mut neighbours, mut codes, mut used) = (vec![0; n], vec![0; n], 0);
     let (signs, z, x) = (&list.signs, &list.z, &list.x);
-    let refusal = plain::reduce(n as u64, signs, z, x, &mut neighbours, &mut codes);
+    let (words, bytes) = (&mut neighbours, &mut codes);
+    let refusal = plain::reduce(n as u64, signs, z, x, words, bytes, &mut used);
     assert_eq!(refusal, 0);
-    Record { neighbours, codes }
+    Record {
+        neighbours,
+        codes,
+        used,
+    }
 }
 
 /// The choice carries the first group onto the second, and the complementations the first reduced

@@ -8,6 +8,7 @@ mod parts;
 mod product;
 mod reduction;
 mod refusals;
+mod step;
 mod strings;
 
 pub use cut::cut_rank;
@@ -19,4 +20,5 @@ pub use product::product;
 pub use reduction::reduced;
 pub use refusals::{argument_refusal, cut_refusal, image_refusal, in_place_refusal};
 pub use refusals::{list_refusal, pair_refusal, product_refusal, record_refusal};
+pub use step::after;
 pub use strings::{strings_read, strings_text};

@@ -4,7 +4,7 @@ use crate::common::seeded::pauli::{Pauli, I, X, Y, Z};
 use crate::common::seeded::rows;
 use sukhlent::{GeneratorList, Record};
 
-/// The reduced record of commuting, independent generators.
+/// The reduced record of commuting, independent generators; no qubit is used.
 pub fn reduced(list: &GeneratorList) -> Record {
     let mut rows = rows(list);
     let kept = kept_qubits(&rows);
@@ -14,6 +14,7 @@ pub fn reduced(list: &GeneratorList) -> Record {
     Record {
         neighbours: vertices.clone().map(|(j, g)| neighbours(g, j)).collect(),
         codes: vertices.map(|(j, g)| code(g, j, kept[j])).collect(),
+        used: 0,
     }
 }
 

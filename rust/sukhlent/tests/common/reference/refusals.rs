@@ -37,7 +37,8 @@ pub fn list_refusal(n: u64, signs: &[u8], z: &[u64], x: &[u64], others: &[usize]
 }
 
 /// The first line that is true of a record and of further buffers of n places.
-pub fn record_refusal(n: u64, neighbours: &[u64], codes: &[u8], others: &[usize]) -> u8 {
+pub fn record_refusal(n: u64, record: &Record, others: &[usize]) -> u8 {
+    let (neighbours, codes) = (&record.neighbours, &record.codes);
     let lengths = [&[neighbours.len(), codes.len()], others].concat();
     if n == 0 || n > 64 {
         return 2;
@@ -45,7 +46,7 @@ pub fn record_refusal(n: u64, neighbours: &[u64], codes: &[u8], others: &[usize]
     if lengths.iter().any(|&length| length as u64 != n) {
         return 4;
     }
-    if neighbours.iter().any(|&word| stray(word, n)) {
+    if neighbours.iter().any(|&word| stray(word, n)) || stray(record.used, n) {
         return 5;
     }
     if codes.iter().any(|&code| code > 23) {
@@ -56,18 +57,23 @@ pub fn record_refusal(n: u64, neighbours: &[u64], codes: &[u8], others: &[usize]
     if (0..n).any(|a| edge(a, a) || (0..n).any(|b| edge(a, b) != edge(b, a))) {
         return 7;
     }
+    let measured = |q: usize| neighbours[q] == 0 && [0, 2, 4, 6, 8, 10].contains(&codes[q]);
+    if used_qubits(record).any(|q| !measured(q)) {
+        return 7;
+    }
     0
 }
 
+/// The used qubits of a record, rising.
+fn used_qubits(record: &Record) -> impl Iterator<Item = usize> + '_ {
+    (0..record.n()).filter(|q| record.used >> q & 1 == 1)
+}
+
 /// The first line that is true of a call on a record in place.
-pub fn in_place_refusal(n: u64, neighbours: &[u64], codes: &[u8], operation: Operation) -> u8 {
-    match (argument_refusal(n, neighbours, codes, operation), operation) {
+pub fn in_place_refusal(n: u64, record: &Record, operation: Operation) -> u8 {
+    match (argument_refusal(n, record, operation), operation) {
         (0, Operation::Measure(pauli, q, bit)) => {
-            let record = Record {
-                neighbours: neighbours.to_vec(),
-                codes: codes.to_vec(),
-            };
-            14 * u8::from(contradicted(&record, pauli, q as usize, bit))
+            14 * u8::from(contradicted(record, pauli, q as usize, bit))
         }
         (number, _) => number,
     }
@@ -82,8 +88,8 @@ fn contradicted(record: &Record, pauli: u8, q: usize, bit: u8) -> bool {
 }
 
 /// The first line before 14 that is true of a call on a record in place.
-pub fn argument_refusal(n: u64, neighbours: &[u64], codes: &[u8], operation: Operation) -> u8 {
-    let of_record = record_refusal(n, neighbours, codes, &[]);
+pub fn argument_refusal(n: u64, record: &Record, operation: Operation) -> u8 {
+    let of_record = record_refusal(n, record, &[]);
     let six = match operation {
         Operation::Gate(_, code) => code > 23,
         Operation::Measure(pauli, _, outcome) => !(1..=3).contains(&pauli) || outcome > 1,
@@ -99,32 +105,32 @@ pub fn argument_refusal(n: u64, neighbours: &[u64], codes: &[u8], operation: Ope
         Operation::Gate(q, _) | Operation::Measure(_, q, _) | Operation::Complement(q) => q >= n,
         Operation::Cz(a, b) => a >= n || b >= n || a == b,
         Operation::Pivot(j, k) => {
-            j >= n || k >= n || j == k || neighbours[j as usize] >> k & 1 == 0
+            j >= n || k >= n || j == k || record.neighbours[j as usize] >> k & 1 == 0
         }
     };
     if eight {
-        8
-    } else {
-        0
+        return 8;
     }
+    if used_qubits(record).any(|q| operation.names(q)) {
+        return 16;
+    }
+    0
 }
 
-/// The first of lines 2 to 7 that is true of an image: of a record, of further buffers of n places
-/// and of the list's places. None where the image rule decides.
-pub fn image_refusal(
-    n: u64,
-    neighbours: &[u64],
-    codes: &[u8],
-    others: &[usize],
-    list: usize,
-) -> Option<u8> {
-    let of_record = record_refusal(n, neighbours, codes, others);
+/// The first of lines 2 to 7 that is true of an image: of a record without its used word, of further
+/// buffers of n places and of the list's places. None where the image rule decides.
+pub fn image_refusal(n: u64, record: &Record, others: &[usize], list: usize) -> Option<u8> {
+    let unused = Record {
+        used: 0,
+        ..record.clone()
+    };
+    let of_record = record_refusal(n, &unused, others);
     first_of(&[(of_record != 0, of_record), (list != LIST_PLACES, 4)])
 }
 
 /// The first line that is true of a cut: of a record and of the side.
-pub fn cut_refusal(n: u64, neighbours: &[u64], codes: &[u8], side: u64) -> u8 {
-    match record_refusal(n, neighbours, codes, &[]) {
+pub fn cut_refusal(n: u64, record: &Record, side: u64) -> u8 {
+    match record_refusal(n, record, &[]) {
         number @ (2 | 4) => number,
         _ if stray(side, n) => 5,
         number => number,

@@ -20,8 +20,11 @@ pub fn random_components(random: &mut Random, sizes: &[usize]) -> Record {
         }
         rest = others;
     }
-    let codes = (0..n).map(|_| random.below(24) as u8).collect();
-    Record { neighbours, codes }
+    Record {
+        neighbours,
+        codes: (0..n).map(|_| random.below(24) as u8).collect(),
+        used: 0,
+    }
 }
 
 /// Sizes of components, each at most the largest, on n qubits in all.

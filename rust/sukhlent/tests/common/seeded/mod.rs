@@ -13,4 +13,4 @@ pub use components::{random_components, random_sizes};
 pub use lists::{list, mixed, parsed, random_rows, rows};
 pub use pauli::Pauli;
 pub use random::Random;
-pub use records::random_record;
+pub use records::{isolate, random_record, random_used_record, use_up};
