@@ -29,3 +29,5 @@ pub mod JobsStand
 pub mod StepLines
 pub mod ProgramDemandHolds
 pub mod SentencesHold
+pub mod ReachedStates
+pub mod OrbitDemandHolds

@@ -14,6 +14,7 @@ use Rattle.call_cut.specs.Cuts.{cutCall}
 use Rattle.call_generate.specs.Generation.{generateCall}
 use Rattle.image.specs.Image.{UnsignedGraph}
 use Rattle.call_image.specs.Images.{imageCall}
+use Rattle.call_orbit.specs.OrbitCalls.{orbitCall}
 use Rattle.call_lists.specs.Calls.{checkCall, expandCall, reduceCall}
 use Rattle.operations.specs.Steps.{complementOf, czOn, gateWith, pivotOf}
 use Rattle.call_product.specs.Products.{productCall}
@@ -24,6 +25,7 @@ use Rattle.stabilizer.specs.Carries.{Carries}
 use Rattle.stabilizer.specs.Groups.{InGroup, Proper}
 use Rattle.stabilizer.specs.Lists.{GeneratorList, rows}
 use Rattle.words.specs.Bits.{isOdd}
+use Rattle.claims.specs.OrbitDemand.{OrbitFits}
 use Rattle.claims.specs.OperationsDemand.{signedPauli}
 use Rattle.claims.specs.PartsDemand.{SmallParts}
 
@@ -139,6 +141,8 @@ pub record AcceptedExactly : Type 0 where
       Call (compareCall l m choice list count choice′ list′ count′) r → (r ≡ 0) ↔ CompareFits l m choice list
   pub generate : (n count seed : ℕ) (text : List ℕ) (size : ℕ) (text′ : List ℕ) (size′ r : ℕ) →
       Call (generateCall n count seed text size text′ size′) r → (r ≡ 0) ↔ GenerateFits n count seed text
+  pub orbit : (n : ℕ) (neighbours list : List ℕ) (count : ℕ) (list′ : List ℕ) (count′ r : ℕ) →
+      Call (orbitCall n neighbours list count list′ count′) r → (r ≡ 0) ↔ OrbitFits n neighbours list
 
 -- ---- a record that every call on records takes, where the other arguments are in order; a measurement may be refused
 -- by 14, an image by 11 or 12

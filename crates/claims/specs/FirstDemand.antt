@@ -17,6 +17,7 @@ use Rattle.call_generate.specs.Generation.{generateCall}
 use Rattle.generator.specs.Lines.{generateLines}
 use Rattle.image.specs.Image.{imageLines}
 use Rattle.call_image.specs.Images.{imageCall}
+use Rattle.call_orbit.specs.OrbitCalls.{orbitCall, orbitLines}
 use Rattle.call_lists.specs.Calls.{checkCall, expandCall, expandLines, reduceCall, reduceLines}
 use Rattle.operations.specs.Steps.{Operation}
 use Rattle.call_product.specs.Products.{productCall}
@@ -77,6 +78,8 @@ pub record FirstDemand : Type 0 where
       (count′ : ℕ) → Conforms (compareCall l m choice list count choice′ list′ count′)
   pub generations : (n count seed : ℕ) (text : List ℕ) (size : ℕ) (text′ : List ℕ) (size′ : ℕ) →
       Conforms (generateCall n count seed text size text′ size′)
+  pub orbits : (n : ℕ) (neighbours list : List ℕ) (count : ℕ) (list′ : List ℕ) (count′ : ℕ) →
+      Conforms (orbitCall n neighbours list count list′ count′)
 
 -- "What a buffer lent only for the answer holds before the call makes no line true": buffers of equal lengths give equal
 -- numbers
@@ -92,3 +95,5 @@ pub record AnswerBuffersUnread : Type 0 where
       firstFitting (compareLines l m choice list) ≡ firstFitting (compareLines l m choice₂ list₂)
   pub generations : (n count seed : ℕ) (text text₂ : List ℕ) → length text ≡ length text₂ →
       firstFitting (generateLines n count seed text) ≡ firstFitting (generateLines n count seed text₂)
+  pub orbits : (n : ℕ) (neighbours list list₂ : List ℕ) → length list ≡ length list₂ →
+      firstFitting (orbitLines n neighbours list) ≡ firstFitting (orbitLines n neighbours list₂)

@@ -13,4 +13,5 @@ pub mod SessionDemand
 pub mod JobDemand
 pub mod ProgramDemand
 pub mod Sentences
+pub mod OrbitDemand
 pub mod internal

@@ -6,6 +6,7 @@ ghost use Rattle.contracts.specs.Calls.{Call};
 ghost use Rattle.call_cut.specs.Cuts.{cutCall};
 ghost use Rattle.call_generate.specs.Generation.{generateCall};
 ghost use Rattle.call_image.specs.Images.{imageCall};
+ghost use Rattle.call_orbit.specs.OrbitCalls.{orbitCall};
 ghost use Rattle.call_lists.specs.Calls.{checkCall, expandCall, reduceCall};
 ghost use Rattle.operations.specs.Steps.{complementOf, czOn, gateWith, pivotOf};
 ghost use Rattle.call_product.specs.Products.{productCall};
@@ -240,4 +241,18 @@ pub extern "C" fn sukhlent_generate(
         (now (text .exit)) (now (length .exit))) r ⌝ }
 {
     call_generate::generate(n, count, seed, text, length)
+}
+
+// The numbers of all graphs that complementations reach from one on up to 6 vertices, rising, and how many there are.
+#[no_mangle]
+pub extern "C" fn sukhlent_orbit(
+    n: u64,
+    neighbours: &[u64],
+    list: &mut [u16],
+    count: &mut u64,
+) -> u8
+    ensures { λ r. ⌜ Call (orbitCall n (now (neighbours .entry)) (now (list .entry)) (now (count .entry))
+        (now (list .exit)) (now (count .exit))) r ⌝ }
+{
+    call_orbit::orbit(n, neighbours, list, count)
 }

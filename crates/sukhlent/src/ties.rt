@@ -10,12 +10,13 @@ use crate::sukhlent_gate;
 use crate::sukhlent_generate;
 use crate::sukhlent_image;
 use crate::sukhlent_measure;
+use crate::sukhlent_orbit;
 use crate::sukhlent_pivot;
 use crate::sukhlent_product;
 use crate::sukhlent_reduce;
 ghost use Rattle.claims.specs.Sentences.{CheckSays, CompareSays, ComplementSays, CutSays, CzSays, ExpandSays};
 ghost use Rattle.claims.specs.Sentences.{GateSays, GenerateSays, ImageSays, MeasureSays, PivotSays, ProductSays};
-ghost use Rattle.claims.specs.Sentences.{ReduceSays};
+ghost use Rattle.claims.specs.Sentences.{OrbitSays, ReduceSays};
 
 pub fn check_says(n: u64, signs: &[u8], z: &[u64], x: &[u64]) -> u8
     ensures { λ r. ⌜ CheckSays
@@ -185,4 +186,12 @@ pub fn generate_says(n: u64, count: u64, seed: u64, text: &mut [u8], length: &mu
         (now (text .exit)) (now (length .exit)) r ⌝ }
 {
     sukhlent_generate(n, count, seed, text, length)
+}
+
+pub fn orbit_says(n: u64, neighbours: &[u64], list: &mut [u16], count: &mut u64) -> u8
+    ensures { λ r. ⌜ OrbitSays
+        n (now (neighbours .entry)) (now (list .entry)) (now (count .entry))
+        (now (list .exit)) (now (count .exit)) r ⌝ }
+{
+    sukhlent_orbit(n, neighbours, list, count)
 }

@@ -1,6 +1,6 @@
 //! Times of the engine's calls beside plain Rust, as one table.
 
-use bench::calls::{compare, image, in_place, reduce, Line};
+use bench::calls::{compare, image, in_place, orbit, reduce, Line};
 
 fn main() {
     println!("{}", Line::HEAD);
@@ -27,4 +27,5 @@ fn main() {
     ] {
         println!("{}", compare::components(sizes, name));
     }
+    println!("{}", orbit::line());
 }

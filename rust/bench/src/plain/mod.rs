@@ -4,6 +4,7 @@ mod codes;
 mod compare;
 mod equations;
 mod image;
+mod orbit;
 mod reduce;
 mod refusals;
 mod row;
@@ -11,6 +12,7 @@ mod search;
 
 pub use compare::compare;
 pub use image::image;
+pub use orbit::orbit;
 pub use reduce::reduce;
 pub use row::Row;
 

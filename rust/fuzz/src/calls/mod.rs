@@ -3,6 +3,7 @@
 mod generator;
 mod in_place;
 mod lists;
+mod orbits;
 mod pairs;
 mod records;
 
@@ -18,7 +19,7 @@ pub struct Call {
 }
 
 /// Every public call.
-pub const CALLS: [Call; 13] = [
+pub const CALLS: [Call; 14] = [
     Call {
         name: "check",
         once: lists::check,
@@ -70,5 +71,9 @@ pub const CALLS: [Call; 13] = [
     Call {
         name: "generate",
         once: generator::generate,
+    },
+    Call {
+        name: "orbit",
+        once: orbits::orbit,
     },
 ];
