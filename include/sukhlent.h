@@ -210,6 +210,16 @@ uint8_t sukhlent_write_strings(uint64_t n,
                                const uint64_t *x, size_t x_len,
                                uint8_t *text, size_t text_len);
 
+/* Writes the numbers of all graphs that complementations reach from one on up to 6 vertices, the
+ * graph itself among them, each once and rising. A graph's number has a bit for each pair of
+ * vertices, the pairs in the order 0-1, 0-2, .., 0-(n-1), 1-2, .. and the first lowest. `list` has
+ * 32,768 places; those from *count on, which is how many numbers there are, keep their values.
+ * Refusals: 2 (n is 0 or above 6), 4, 5, 7. */
+uint8_t sukhlent_orbit(uint64_t n,
+                       const uint64_t *neighbours, size_t neighbours_len,
+                       uint16_t *list, size_t list_len,
+                       uint64_t *count);
+
 #ifdef __cplusplus
 }
 #endif

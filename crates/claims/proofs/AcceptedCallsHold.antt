@@ -2,8 +2,8 @@
 use mathlib.Core.Bool.{Bool, false, _||_}
 use mathlib.Core.List.{List}
 use mathlib.Core.Logic.{Iff·trans, inl, inr, _↔_}
-use mathlib.Core.Path.{_≡_, _∙_, refl, sym}
-use Prim.Native.Nat.{ℕ}
+use mathlib.Core.Path.{_≡_, _∙_, refl, subst, sym}
+use Prim.Native.Nat.{_<_, _^_, ℕ}
 use native.Mathlib.Omega.{arith}
 use borrow.Author.Tests.{eqb-false, le-ltb, ltb-false, ne-eqb}
 use Rattle.buffers.proofs.Lines.{none-of-all, not-held}
@@ -14,21 +14,25 @@ use Rattle.comparison.specs.Compared.{hasLargePart, pairLines}
 use Rattle.contracts.proofs.Fitting.{none-fits-of, none-holds}
 use Rattle.contracts.specs.Calls.{Call, Contract}
 use Rattle.call_cut.specs.Cuts.{cutLines}
+use Rattle.call_orbit.proofs.AcceptedGraphs.{accepted-graph, plain-record, simple-graph}
+use Rattle.call_orbit.specs.OrbitCalls.{orbitLines}
 use Rattle.generator.specs.Lines.{generateLines, room}
+use Rattle.graph.specs.NeighbourWords.{graphIn}
 use Rattle.image.proofs.Accepted.{image-unsigned}
 use Rattle.image.specs.Image.{loopLines}
 use Rattle.call_image.specs.Images.{imageCall}
 use Rattle.call_product.proofs.ProductLines.{accepted-rows, word-good}
 use Rattle.call_product.specs.Products.{productLines}
 use Rattle.record.proofs.RecordLines.{record-numbered}
+use Rattle.record.proofs.SimpleVerdict.{simple-exactly}
 use Rattle.record.specs.Lent.{LentRecord, heldRecord, recordLines}
-use Rattle.stabilizer.proofs.SharedTests.{count-passes, counted, has-length, length-passes}
+use Rattle.stabilizer.proofs.SharedTests.{below-passes, count-passes, counted, has-length, length-passes}
 use Rattle.stabilizer.specs.Lists.{GeneratorList, listStray}
 use Rattle.used.specs.Used.{UsedRecord}
 use Rattle.words.proofs.Flags.{neither}
 use Rattle.claims.proofs.AcceptedPairs.{accepted-pair, no-line-holds}
 use Rattle.claims.proofs.ImageDemandHolds.{images-follow}
-use Rattle.claims.proofs.LinesExactly.{below-exactly, formed-rows, list-exactly, more-exactly, record-exactly, rows-pass, three-fit, two-fit}
+use Rattle.claims.proofs.LinesExactly.{below-exactly, both-pass, formed-rows, list-exactly, more-exactly, record-exactly, rows-pass, three-fit, two-fit}
 use Rattle.claims.proofs.PartsDemandHolds.{small-parts}
 use Rattle.claims.proofs.StringsExactly.{read-lines, write-lines}
 use Rattle.claims.proofs.ThirdDemandHolds.{third-demand}
@@ -40,6 +44,7 @@ use Rattle.claims.proofs.UsedExactly.{
   used-measure,
   used-pivot,
 }
+use Rattle.claims.specs.OrbitDemand.{OrbitFits}
 use Rattle.claims.specs.AcceptedCalls.{AcceptedExactly, CompareFits, CutFits, GenerateFits, ImageFits, ProductFits}
 
 -- a call answers 0 exactly if no line holds
@@ -149,6 +154,38 @@ generate-lines n count seed text = (
   )),
 )
 
+-- ---- orbits
+orbit-lines : (n : ℕ) (neighbours list : List ℕ) →
+    (firstFitting (orbitLines n neighbours list) ≡ 0) ↔ OrbitFits n neighbours list
+orbit-lines n neighbours list = (
+  (λ e. let A = accepted-graph n neighbours list e in
+      record {
+        positive = A .positive;
+        few = A .few;
+        words = A .words;
+        places = A .places;
+        below = λ j l. plain-record A .words-below j;
+        simple = simple-graph A;
+      }),
+  (λ F. none-fits-of (orbitLines n neighbours list) (
+    both-pass (ne-eqb n 0 (λ z. absurd (omega (arith, F .positive, z)))) (le-ltb 6 n (F .few)),
+    (
+      two-fit n 32768 neighbours list .1 (F .words, F .places),
+      (
+        below-passes (2 ^ n) neighbours (λ j l. F .below j (subst (λ k. j < k) (F .words) l)),
+        (
+          simple-exactly n (graphIn neighbours) .1
+              (record {
+                symmetric = λ i j k h. F .simple .symmetric i j;
+                loopless = λ i k. F .simple .loopless i;
+              }),
+          tt,
+        ),
+      ),
+    ),
+  )),
+)
+
 pub accepted-exactly : AcceptedExactly
 accepted-exactly =
     record {
@@ -180,4 +217,5 @@ accepted-exactly =
       generate = λ n count seed text size text′ size′ r C. Iff·trans (by-lines C) (generate-lines n count seed text);
       read-strings = λ t s z x s′ z′ x′ r C. Iff·trans (by-lines C) (read-lines t s z x);
       write-strings = λ l text text′ r C. Iff·trans (by-lines C) (write-lines l text);
+      orbit = λ n neighbours list count list′ count′ r C. Iff·trans (by-lines C) (orbit-lines n neighbours list);
     }

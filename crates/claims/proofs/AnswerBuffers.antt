@@ -2,14 +2,15 @@
 use mathlib.Core.Bool.{Bool, false, not, _||_}
 use mathlib.Core.List.{_++_, List, [], _∷_}
 use mathlib.Core.Path.{ap, ap₂, _∙_, _≡_}
-use Prim.Native.Nat.{ℕ}
+use Prim.Native.Nat.{_^_, ℕ}
 use lib.Dec.{eqb, ltb}
-use Rattle.buffers.specs.Refusals.{Refusal, badCount, firstFitting, line}
+use Rattle.buffers.specs.Refusals.{Refusal, badCount, firstFitting, line, otherThan, reaching}
 use Rattle.comparison.specs.Compared.{hasLargePart, pairCount}
 use Rattle.comparison.specs.Choices.{noChoice}
 use Rattle.generator.specs.Lines.{room}
+use Rattle.graph.specs.NeighbourWords.{graphIn}
 use Rattle.image.specs.Image.{loopLines}
-use Rattle.record.specs.Lent.{heldRecord, recordLines}
+use Rattle.record.specs.Lent.{heldRecord, notSimple, recordLines}
 use Rattle.stabilizer.specs.Lists.{
   GeneratorList,
   clashing,
@@ -40,8 +41,15 @@ answer-buffers-unread =
       reads = λ t s z x s₂ z₂ x₂ e f g.
           of-three (lineCount t) (textLinesOf t) (lineCount t) e f g;
       writes = λ l text text₂ e. ap (λ a. firstFitting (listLines l (not (eqb a (textSize (l .n)))))) e;
+      orbits = λ n neighbours list list₂ e. ap (λ a. firstFitting (orbitLinesOf n neighbours (not (eqb a 32768)))) e;
     }
   where
+    -- those of an orbit, by whether the list has a wrong length
+    orbitLinesOf : ℕ → List ℕ → Bool → List Refusal
+    orbitLinesOf n neighbours other =
+        line 2 (eqb n 0 || ltb 6 n) ∷ line 4 (otherThan n neighbours || other)
+        ∷ line 5 (reaching (2 ^ n) neighbours) ∷ line 7 (notSimple n (graphIn neighbours)) ∷ []
+
     -- those of the generator, by whether its buffer has a wrong length
     jobLinesOf : ℕ → ℕ → ℕ → Bool → List Refusal
     jobLinesOf n count seed other =

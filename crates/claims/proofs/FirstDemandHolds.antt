@@ -19,12 +19,17 @@ use Rattle.contracts.proofs.Fitting.{first-is, none-holds}
 use Rattle.contracts.specs.Calls.{Call}
 use Rattle.call_generate.proofs.GenerateCalls.{accepted-job}
 use Rattle.call_generate.specs.Generation.{generateCall}
+use Rattle.call_orbit.proofs.AcceptedGraphs.{accepted-graph}
+use Rattle.call_orbit.specs.OrbitCalls.{orbitCall, orbitOf}
 use Rattle.generator.proofs.Lengths.{length-text}
 use Rattle.generator.specs.Drawn.{generatedText}
+use Rattle.graph.specs.NeighbourWords.{graphIn}
 use Rattle.image.proofs.TrackedBits.{image-length}
 use Rattle.image.specs.Rule.{imageList}
 use Rattle.call_image.specs.Images.{imageCall}
 use Rattle.operations.specs.Steps.{Operation, complementOf, czOn, gateWith, measurementOf, pivotOf}
+use Rattle.orbits.proofs.OrbitLaws.{orbit-length}
+use Rattle.orbits.specs.Numbers.{graphNumber}
 use Rattle.record.proofs.AcceptedRecords.{accepted-record}
 use Rattle.record.proofs.RecordLines.{record-numbered}
 use Rattle.record.specs.Lent.{LentRecord, heldRecord, recordLines}
@@ -115,6 +120,16 @@ generate-conforms n count seed text size text′ size′ =
           (written-fills (generatedText n count seed) text (omega (arith, fits, job .3)), (tt, tt));
     }
 
+-- ---- orbits
+orbit-conforms : (n : ℕ) (neighbours list : List ℕ) (count : ℕ) (list′ : List ℕ) (count′ : ℕ) →
+    Conforms (orbitCall n neighbours list count list′ count′)
+orbit-conforms n neighbours list count list′ count′ =
+    record {
+      order = refl;
+      complete = λ z. let A = accepted-graph n neighbours list z in
+          (written-fills (orbitOf n neighbours) list (omega (arith, orbit-length n (graphNumber n (graphIn neighbours)) (A .few), A .places)), (tt, tt));
+    }
+
 pub first-demand : FirstDemand
 first-demand =
     record {
@@ -173,6 +188,7 @@ first-demand =
           tt,
         );
       };
+      orbits = orbit-conforms;
     }
 
 -- ---- and back: what a call answers is its contract

@@ -33,3 +33,5 @@ pub mod StepLines
 pub mod ProgramDemandHolds
 pub mod UsedDemandHolds
 pub mod SentencesHold
+pub mod ReachedStates
+pub mod OrbitDemandHolds

@@ -8,6 +8,7 @@ use Rattle.call_compare.specs.Comparisons.{compareCall}
 use Rattle.contracts.specs.Calls.{Call, Contract}
 use Rattle.call_cut.specs.Cuts.{cutCall}
 use Rattle.call_generate.specs.Generation.{generateCall}
+use Rattle.call_orbit.specs.OrbitCalls.{orbitCall}
 use Rattle.call_image.specs.Images.{imageCall}
 use Rattle.call_expand.specs.Expanding.{expandCall}
 use Rattle.call_lists.specs.Calls.{checkCall, reduceCall, reduceUnusedCall}
@@ -34,6 +35,7 @@ use Rattle.claims.proofs.ImageDemandHolds.{images-follow}
 use Rattle.claims.proofs.Contradictions.{contradictions-refused}
 use Rattle.claims.proofs.ListDemandHolds.{checks-tell, reduction-answers}
 use Rattle.claims.proofs.MeasurementsFollow.{measurements-follow}
+use Rattle.claims.proofs.OrbitDemandHolds.{orbits-listed}
 use Rattle.claims.proofs.PartsDemandHolds.{large-parts-refused}
 use Rattle.claims.proofs.ProductDemandHolds.{products-answer}
 use Rattle.claims.proofs.RewritingsKeep.{complements-keep, pivots-keep}
@@ -69,6 +71,7 @@ use Rattle.claims.specs.Sentences.{
   GenerateSays,
   ImageSays,
   MeasureSays,
+  OrbitSays,
   PivotSays,
   ProductSays,
   ReadStringsSays,
@@ -270,4 +273,13 @@ write-strings-says l text text′ r C =
       answered = answered (first-demand .writes l text text′) C;
       accepted = accepted-exactly .write-strings l text text′ r C;
       back = λ e. strings-demand .list-back l text text′ (at-zero C e);
+    }
+
+pub orbit-says : (n : ℕ) (neighbours list : List ℕ) (count : ℕ) (list′ : List ℕ) (count′ r : ℕ) →
+    Call (orbitCall n neighbours list count list′ count′) r → OrbitSays n neighbours list count list′ count′ r
+orbit-says n neighbours list count list′ count′ r C =
+    record {
+      answered = answered (first-demand .orbits n neighbours list count list′ count′) C;
+      accepted = accepted-exactly .orbit n neighbours list count list′ count′ r C;
+      listed = λ z. orbits-listed n neighbours list count list′ count′ (at-zero C z);
     }

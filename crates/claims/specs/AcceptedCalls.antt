@@ -14,6 +14,7 @@ use Rattle.call_cut.specs.Cuts.{cutCall}
 use Rattle.call_generate.specs.Generation.{generateCall}
 use Rattle.image.specs.Image.{UnsignedGraph}
 use Rattle.call_image.specs.Images.{imageCall}
+use Rattle.call_orbit.specs.OrbitCalls.{orbitCall}
 use Rattle.call_expand.specs.Expanding.{expandCall}
 use Rattle.call_lists.specs.Calls.{checkCall, reduceUnusedCall}
 use Rattle.operations.specs.Steps.{complementOf, czOn, gateWith, pivotOf}
@@ -28,6 +29,7 @@ use Rattle.stabilizer.specs.Lists.{GeneratorList, rows}
 use Rattle.strings.specs.Strings.{stringsText, textSize}
 use Rattle.used.specs.Used.{UsedRecord}
 use Rattle.words.specs.Bits.{bit, isOdd}
+use Rattle.claims.specs.OrbitDemand.{OrbitFits}
 use Rattle.claims.specs.OperationsDemand.{signedPauli}
 use Rattle.claims.specs.PartsDemand.{SmallParts}
 
@@ -172,6 +174,8 @@ pub record AcceptedExactly : Type 0 where
       (r ≡ 0) ↔ ReadStringsFits t s z x
   pub write-strings : (l : GeneratorList) (text text′ : List ℕ) (r : ℕ) → Call (writeStringsCall l text text′) r →
       (r ≡ 0) ↔ WriteStringsFits l text
+  pub orbit : (n : ℕ) (neighbours list : List ℕ) (count : ℕ) (list′ : List ℕ) (count′ r : ℕ) →
+      Call (orbitCall n neighbours list count list′ count′) r → (r ≡ 0) ↔ OrbitFits n neighbours list
 
 -- ---- a record that every call on records takes, where the other arguments are in order; a measurement may be refused
 -- by 14, an image, which takes no used word, by 11 or 12

@@ -17,6 +17,7 @@ use Rattle.call_generate.specs.Generation.{generateCall}
 use Rattle.generator.specs.Lines.{generateLines}
 use Rattle.image.specs.Image.{imageLines}
 use Rattle.call_image.specs.Images.{imageCall}
+use Rattle.call_orbit.specs.OrbitCalls.{orbitCall, orbitLines}
 use Rattle.call_expand.specs.Expanding.{expandCall, expandLines}
 use Rattle.call_lists.specs.Calls.{checkCall, reduceLines, reduceUnusedCall}
 use Rattle.operations.specs.Steps.{Operation}
@@ -85,6 +86,8 @@ pub record FirstDemand : Type 0 where
       Conforms (generateCall n count seed text size text′ size′)
   pub reads : (t s z x s′ z′ x′ : List ℕ) → Conforms (readStringsCall t s z x s′ z′ x′)
   pub writes : (l : GeneratorList) (text text′ : List ℕ) → Conforms (writeStringsCall l text text′)
+  pub orbits : (n : ℕ) (neighbours list : List ℕ) (count : ℕ) (list′ : List ℕ) (count′ : ℕ) →
+      Conforms (orbitCall n neighbours list count list′ count′)
 
 -- "What a buffer lent only for the answer holds before the call makes no line true": buffers of equal lengths give equal
 -- numbers
@@ -104,3 +107,5 @@ pub record AnswerBuffersUnread : Type 0 where
       firstFitting (readLines t s z x) ≡ firstFitting (readLines t s₂ z₂ x₂)
   pub writes : (l : GeneratorList) (text text₂ : List ℕ) → length text ≡ length text₂ →
       firstFitting (writeLines l text) ≡ firstFitting (writeLines l text₂)
+  pub orbits : (n : ℕ) (neighbours list list₂ : List ℕ) → length list ≡ length list₂ →
+      firstFitting (orbitLines n neighbours list) ≡ firstFitting (orbitLines n neighbours list₂)

@@ -15,4 +15,5 @@ pub mod JobDemand
 pub mod ProgramDemand
 pub mod UsedDemand
 pub mod Sentences
+pub mod OrbitDemand
 pub mod internal

@@ -13,6 +13,7 @@ use Rattle.comparison.specs.Compared.{pairLines}
 use Rattle.call_cut.specs.Cuts.{cutCall}
 use Rattle.call_generate.specs.Generation.{generateCall}
 use Rattle.call_image.specs.Images.{imageCall}
+use Rattle.call_orbit.specs.OrbitCalls.{orbitCall}
 use Rattle.call_expand.specs.Expanding.{expandCall}
 use Rattle.call_lists.specs.Calls.{checkCall, reduceUnusedCall}
 use Rattle.operations.specs.Steps.{complementOf, czOn, gateWith, measurementOf, pivotOf, pivotRecord}
@@ -48,6 +49,7 @@ use Rattle.claims.specs.FirstDemand.{Answered}
 use Rattle.claims.specs.GeneratorDemand.{JobGenerated}
 use Rattle.claims.specs.ImageDemand.{ImageDecided}
 use Rattle.claims.specs.ListDemand.{Checked, ReducedTo}
+use Rattle.claims.specs.OrbitDemand.{Listed, OrbitFits}
 use Rattle.claims.specs.OperationsDemand.{
   CzStands,
   GateStands,
@@ -198,3 +200,8 @@ pub record WriteStringsSays (l : GeneratorList) (text text′ : List ℕ) (r : �
   pub answered : Answered (writeStringsCall l text text′) r
   pub accepted : (r ≡ 0) ↔ WriteStringsFits l text
   pub back : r ≡ 0 → ListComesBack l text′
+
+pub record OrbitSays (n : ℕ) (neighbours list : List ℕ) (count : ℕ) (list′ : List ℕ) (count′ r : ℕ) : Type 0 where
+  pub answered : Answered (orbitCall n neighbours list count list′ count′) r
+  pub accepted : (r ≡ 0) ↔ OrbitFits n neighbours list
+  pub listed : r ≡ 0 → Listed n neighbours list list′ count′

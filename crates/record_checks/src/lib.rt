@@ -67,7 +67,7 @@ fn own_neighbour(n: usize, neighbours: &[u64]) -> bool
 }
 
 // Line 7: the graph is not simple. Its square of bits is compared with the transpose.
-fn not_simple(n: usize, neighbours: &[u64]) -> bool
+pub fn not_simple(n: usize, neighbours: &[u64]) -> bool
     requires { ⌜ (1 ≤ n) × (n ≤ 64) × (length (now neighbours) ≡ n) ⌝ }
     ensures { λ r. ⌜ r ≡ notSimple n (λ j. bit (getD (now (neighbours .entry)) j 0)) ⌝ }
 {

@@ -8,6 +8,7 @@ ghost use Rattle.call_generate.specs.Generation.{generateCall};
 ghost use Rattle.call_image.specs.Images.{imageCall};
 ghost use Rattle.call_lists.specs.Calls.{checkCall, reduceUnusedCall};
 ghost use Rattle.call_expand.specs.Expanding.{expandCall};
+ghost use Rattle.call_orbit.specs.OrbitCalls.{orbitCall};
 ghost use Rattle.operations.specs.Steps.{complementOf, czOn, gateWith, pivotOf};
 ghost use Rattle.call_product.specs.Products.{productCall};
 ghost use Rattle.call_gates.specs.InPlaceCalls.{usedCall, usedMeasureCall};
@@ -305,4 +306,18 @@ pub extern "C" fn sukhlent_write_strings(
         (now (text .entry)) (now (text .exit))) r ⌝ }
 {
     call_strings::write_strings(n, signs, z, x, text)
+}
+
+// The numbers of all graphs that complementations reach from one on up to 6 vertices, rising, and how many there are.
+#[no_mangle]
+pub extern "C" fn sukhlent_orbit(
+    n: u64,
+    neighbours: &[u64],
+    list: &mut [u16],
+    count: &mut u64,
+) -> u8
+    ensures { λ r. ⌜ Call (orbitCall n (now (neighbours .entry)) (now (list .entry)) (now (count .entry))
+        (now (list .exit)) (now (count .exit))) r ⌝ }
+{
+    call_orbit::orbit(n, neighbours, list, count)
 }

@@ -10,6 +10,7 @@ use crate::sukhlent_gate;
 use crate::sukhlent_generate;
 use crate::sukhlent_image;
 use crate::sukhlent_measure;
+use crate::sukhlent_orbit;
 use crate::sukhlent_pivot;
 use crate::sukhlent_product;
 use crate::sukhlent_read_strings;
@@ -17,7 +18,7 @@ use crate::sukhlent_reduce;
 use crate::sukhlent_write_strings;
 ghost use Rattle.claims.specs.Sentences.{CheckSays, CompareSays, ComplementSays, CutSays, CzSays, ExpandSays};
 ghost use Rattle.claims.specs.Sentences.{GateSays, GenerateSays, ImageSays, MeasureSays, PivotSays, ProductSays};
-ghost use Rattle.claims.specs.Sentences.{ReadStringsSays, ReduceSays, WriteStringsSays};
+ghost use Rattle.claims.specs.Sentences.{OrbitSays, ReadStringsSays, ReduceSays, WriteStringsSays};
 
 pub fn check_says(n: u64, signs: &[u8], z: &[u64], x: &[u64]) -> u8
     ensures { λ r. ⌜ CheckSays
@@ -244,4 +245,12 @@ pub fn write_strings_says(n: u64, signs: &[u8], z: &[u64], x: &[u64], text: &mut
         (now (text .entry)) (now (text .exit)) r ⌝ }
 {
     sukhlent_write_strings(n, signs, z, x, text)
+}
+
+pub fn orbit_says(n: u64, neighbours: &[u64], list: &mut [u16], count: &mut u64) -> u8
+    ensures { λ r. ⌜ OrbitSays
+        n (now (neighbours .entry)) (now (list .entry)) (now (count .entry))
+        (now (list .exit)) (now (count .exit)) r ⌝ }
+{
+    sukhlent_orbit(n, neighbours, list, count)
 }

@@ -1,6 +1,6 @@
 //! Times of the engine's calls beside plain Rust, as one table.
 
-use bench::calls::{compare, image, in_place, reduce, strings, Line};
+use bench::calls::{compare, image, in_place, orbit, reduce, strings, Line};
 
 fn main() {
     println!("{}", Line::HEAD);
@@ -33,4 +33,5 @@ fn main() {
         println!("{}", strings::reading_alone(n));
         println!("{}", strings::writing(n));
     }
+    println!("{}", orbit::line());
 }

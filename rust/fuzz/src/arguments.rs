@@ -5,7 +5,7 @@ use crate::common::local::{complemented_record, sent};
 use crate::common::reference::strings_text;
 use crate::common::{list, mixed, random_components, random_rows, random_sizes, rows, use_up};
 use crate::common::{GenerateCall, ImageLengths, Lengths, ListCall, PairCall, RecordCall, Side};
-use crate::common::{Operation, Random, ReadCall};
+use crate::common::{Operation, OrbitCall, Random, ReadCall};
 use sukhlent::{expand, GeneratorList, Record};
 
 /// What is done to valid arguments: mostly nothing or little; one in sixteen calls gets noise.
@@ -165,6 +165,25 @@ pub fn read_call(random: &mut Random, n: usize) -> ReadCall {
     let mut call = ReadCall::on(&text);
     if random.below(16) == 0 {
         call.lengths[random.below(3)] = random.below(200);
+    }
+    call
+}
+
+/// A graph on mostly up to 5 vertices, at times harmed in a word, with another number of vertices or
+/// another list, or any words.
+pub fn orbit_call(random: &mut Random) -> OrbitCall {
+    let n = match random.below(16) {
+        0 => 6,
+        _ => 1 + random.below(5),
+    };
+    let mut call = OrbitCall::on(&graph(random, n));
+    match random.below(16) {
+        0 => call.n = number(random),
+        1 => call.places = random.below(1 << 16),
+        2 => call.neighbours = words(random),
+        3 => call.neighbours[random.below(n)] ^= 1 << random.below(64),
+        4 => call.neighbours[random.below(n)] ^= 1 << random.below(n),
+        _ => (),
     }
     call
 }

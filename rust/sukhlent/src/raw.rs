@@ -195,11 +195,23 @@ mod calls {
             text: *mut u8,
             text_len: usize,
         ) -> u8;
+
+        pub fn sukhlent_orbit(
+            n: u64,
+            neighbours: *const u64,
+            neighbours_len: usize,
+            list: *mut u16,
+            list_len: usize,
+            count: *mut u64,
+        ) -> u8;
     }
 }
 
 /// The bytes of a buffer that is lent for the text of a job.
 pub const JOB_PLACES: usize = 61_463;
+
+/// The places of a buffer that is lent for the numbers of an orbit.
+pub const ORBIT_PLACES: usize = 32_768;
 
 /// Checks a generator list.
 pub fn check(n: u64, signs: &[u8], z: &[u64], x: &[u64]) -> u8 {
@@ -512,6 +524,20 @@ pub fn write_strings((n, signs, z, x): Lent, text: &mut [u8]) -> u8 {
             x.len(),
             text.as_mut_ptr(),
             text.len(),
+        )
+    }
+}
+
+/// Writes the numbers of all graphs that complementations reach from one, rising.
+pub fn orbit(n: u64, neighbours: &[u64], list: &mut [u16], count: &mut u64) -> u8 {
+    unsafe {
+        calls::sukhlent_orbit(
+            n,
+            neighbours.as_ptr(),
+            neighbours.len(),
+            list.as_mut_ptr(),
+            list.len(),
+            count,
         )
     }
 }

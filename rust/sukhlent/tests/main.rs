@@ -23,6 +23,8 @@ mod lengths;
 mod library;
 mod list_damage;
 mod list_refusals;
+mod orbit_refusals;
+mod orbits;
 mod pair_refusals;
 mod product_refusals;
 mod products;

@@ -1,5 +1,8 @@
-//! The examples in Rust print what those in C print.
+//! The examples in Rust print what those in C print, and the catalogue of orbits its stored output.
 
+#[path = "../examples/orbits.rs"]
+#[allow(dead_code)]
+mod orbits;
 #[path = "../examples/session.rs"]
 #[allow(dead_code)]
 mod session;
@@ -20,4 +23,17 @@ fn strings_prints_what_strings_in_c_prints() {
     let mut text = String::new();
     strings::show_all(&mut text).unwrap();
     assert_eq!(text, include_str!("../../../examples/c/strings.out"));
+}
+
+#[test]
+fn orbits_prints_the_eleven_of_connected_graphs_on_six_vertices() {
+    let mut text = String::new();
+    orbits::catalogue(&mut text).unwrap();
+    assert_eq!(text, include_str!("../examples/orbits.out"));
+    let heads = text.lines().filter(|line| line.starts_with("// orbit "));
+    let sizes = heads.map(|line| line.split(' ').nth(3).unwrap());
+    let due = [
+        "7", "17", "18", "38", "40", "39", "41", "82", "176", "372", "132",
+    ];
+    assert!(sizes.eq(due));
 }

@@ -6,7 +6,7 @@
 #[path = "../../../sukhlent/tests/common/seeded/mod.rs"]
 mod seeded;
 
-use seeded::{list, mixed, random_components, random_rows, rows, Random};
+use seeded::{list, mixed, random_components, random_record, random_rows, rows, Random};
 use std::arch::asm;
 use sukhlent::{expand, raw, GeneratorList};
 
@@ -21,7 +21,7 @@ const CASES: u64 = 100;
 type Measured = (&'static str, usize, fn(&mut Random, usize) -> usize);
 
 /// Every public call. All arguments are accepted, so that every step is taken.
-const CALLS: [Measured; 17] = [
+const CALLS: [Measured; 18] = [
     ("check", 64, |random, n| {
         let given = list(&random_rows(random, n));
         depth(|| raw::check(n as u64, &given.signs, &given.z, &given.x))
@@ -111,6 +111,11 @@ const CALLS: [Measured; 17] = [
         let lent = (n as u64, &*given.signs, &*given.z, &*given.x);
         let mut text = [0; 64 * 66];
         depth(|| raw::write_strings(lent, &mut text))
+    }),
+    ("orbit", 6, |random, n| {
+        let graph = random_record(random, n).neighbours;
+        let (mut list, mut count) = (vec![0; raw::ORBIT_PLACES], 0);
+        depth(|| raw::orbit(n as u64, &graph, &mut list, &mut count))
     }),
 ];
 

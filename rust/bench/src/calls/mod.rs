@@ -3,6 +3,7 @@
 pub mod compare;
 pub mod image;
 pub mod in_place;
+pub mod orbit;
 pub mod reduce;
 pub mod strings;
 

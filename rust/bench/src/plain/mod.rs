@@ -4,6 +4,7 @@ mod codes;
 mod compare;
 mod equations;
 mod image;
+mod orbit;
 mod reduce;
 mod refusals;
 mod row;
@@ -12,6 +13,7 @@ mod strings;
 
 pub use compare::compare;
 pub use image::image;
+pub use orbit::orbit;
 pub use reduce::reduce;
 pub use row::Row;
 pub use strings::{check, read_strings, write_strings};

@@ -3,6 +3,7 @@
 mod generator;
 mod in_place;
 mod lists;
+mod orbits;
 mod pairs;
 mod records;
 mod strings;
@@ -19,7 +20,7 @@ pub struct Call {
 }
 
 /// Every public call.
-pub const CALLS: [Call; 15] = [
+pub const CALLS: [Call; 16] = [
     Call {
         name: "check",
         once: lists::check,
@@ -79,5 +80,9 @@ pub const CALLS: [Call; 15] = [
     Call {
         name: "write_strings",
         once: strings::write,
+    },
+    Call {
+        name: "orbit",
+        once: orbits::orbit,
     },
 ];

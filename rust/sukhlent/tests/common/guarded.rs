@@ -17,6 +17,12 @@ impl Pattern for u8 {
     }
 }
 
+impl Pattern for u16 {
+    fn pattern(place: usize) -> u16 {
+        0x8000 | (place * 37 % 32_749) as u16
+    }
+}
+
 impl Pattern for u64 {
     fn pattern(place: usize) -> u64 {
         0xa55a_c33c_0000_0001 | (place as u64) << 8

@@ -12,6 +12,7 @@ pub mod image;
 pub mod in_place;
 pub mod local;
 pub mod operation;
+pub mod orbit;
 pub mod pairs;
 pub mod process;
 pub mod product;
@@ -26,6 +27,7 @@ pub use cut::Side;
 pub use generate::GenerateCall;
 pub use image::ImageLengths;
 pub use operation::Operation;
+pub use orbit::OrbitCall;
 pub use pairs::PairCall;
 pub use seeded::{
     isolate, list, mixed, parsed, pauli, random_components, random_record, random_rows, random_sizes,

@@ -1,0 +1,2 @@
+pub mod PairLoops
+pub mod Edges
