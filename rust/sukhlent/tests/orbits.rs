@@ -15,7 +15,8 @@ fn graphs(n: usize) -> impl Iterator<Item = Vec<u64>> {
 fn plain(neighbours: &[u64]) -> GeneratorList {
     let codes = vec![0; neighbours.len()];
     let neighbours = neighbours.to_vec();
-    expand(&Record { neighbours, codes }).expect("a simple graph")
+    let used = 0;
+    expand(&Record { neighbours, codes, used }).expect("a simple graph")
 }
 
 /// Asserts that every graph on n vertices has the orbit that a plain search finds, and answers how
