@@ -37,6 +37,7 @@ usedMeasureCall u pauli q b answer determined neighbours′ codes′ used′ ans
 abbrev pub inPlaceCall : LentRecord → Operation → List ℕ → List ℕ → Contract
 inPlaceCall l o neighbours′ codes′ = contractOf (linesOf l o) (recordLent l o neighbours′ codes′)
 
+-- a measurement on the graph and the codes: its outcome and whether it was determined besides
 abbrev pub measureCall : LentRecord → ℕ → ℕ → ℕ → ℕ → ℕ → List ℕ → List ℕ → ℕ → ℕ → Contract
 measureCall l pauli q b answer determined neighbours′ codes′ answer′ determined′ =
     contractOf (linesOf l (measurementOf pauli q b))

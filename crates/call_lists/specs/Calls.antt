@@ -27,6 +27,7 @@ reduceLent l neighbours codes neighbours′ codes′ =
     buffer neighbours (neighbourWords (l .n) (reduced (l .n) (rows l))) neighbours′
     ∷ buffer codes (codeNumbers (l .n) (reduced (l .n) (rows l))) codes′ ∷ []
 
+-- the reduced record of the list: graph and codes
 abbrev pub reduceCall : GeneratorList → List ℕ → List ℕ → List ℕ → List ℕ → Contract
 reduceCall l neighbours codes neighbours′ codes′ =
     contractOf (reduceLines l neighbours codes) (reduceLent l neighbours codes neighbours′ codes′)

@@ -40,6 +40,7 @@ pub record Listed (n : ℕ) (neighbours list list′ : List ℕ) (count′ : ℕ
   pub fits : count′ ≤ 32768
   pub past : drop count′ list′ ≡ drop count′ list
 
+-- of every accepted call
 abbrev pub OrbitsListed : Type 0
 OrbitsListed = (n : ℕ) (neighbours list : List ℕ) (count : ℕ) (list′ : List ℕ) (count′ : ℕ) →
     Call (orbitCall n neighbours list count list′ count′) 0 → Listed n neighbours list list′ count′

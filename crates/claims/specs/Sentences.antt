@@ -201,6 +201,7 @@ pub record WriteStringsSays (l : GeneratorList) (text text′ : List ℕ) (r : �
   pub accepted : (r ≡ 0) ↔ WriteStringsFits l text
   pub back : r ≡ 0 → ListComesBack l text′
 
+-- of orbit: demand 1, and that the list holds exactly the graphs that complementations reach
 pub record OrbitSays (n : ℕ) (neighbours list : List ℕ) (count : ℕ) (list′ : List ℕ) (count′ r : ℕ) : Type 0 where
   pub answered : Answered (orbitCall n neighbours list count list′ count′) r
   pub accepted : (r ≡ 0) ↔ OrbitFits n neighbours list

@@ -30,6 +30,7 @@ pub record UsedCopied (u : UsedRecord) (nb′ cs′ : List ℕ) : Type 0 where
   -- and the record left, with the same word, is refused by no line
   pub passes : firstFitting (usedLines (leftUsed u nb′ cs′ (u .used)) false false false) ≡ 0
 
+-- of every accepted gate, CZ, complement and pivot
 abbrev pub CallsCopy : Type 0
 CallsCopy = (u : UsedRecord) (o : Operation) → ((pauli q b : ℕ) → o ≢ measurementOf pauli q b) → (nb′ cs′ : List ℕ) →
     Call (usedCall u o nb′ cs′) 0 → UsedCopied u nb′ cs′
@@ -45,6 +46,7 @@ pub record UsedMarked (u : UsedRecord) (pauli q b : ℕ) (nb′ cs′ : List ℕ
   pub stay : UsedStay u (left (u .held) nb′ cs′)
   pub passes : firstFitting (usedLines (leftUsed u nb′ cs′ used′) false false false) ≡ 0
 
+-- of every accepted measurement
 abbrev pub MeasurementsMark : Type 0
 MeasurementsMark =
     (u : UsedRecord) (pauli q b answer determined : ℕ) (nb′ cs′ : List ℕ) (used′ answer′ determined′ : ℕ) →
@@ -56,10 +58,12 @@ MeasurementsMark =
 abbrev pub SixteenExactly : UsedRecord → Operation → ℕ → Type 0
 SixteenExactly u o r = (r ≡ 16) ↔ ((firstFitting (earlierLines u o) ≡ 0) × (namesUsed u o ≡ true))
 
+-- of every gate, CZ, complement and pivot
 abbrev pub UsedCallsRefused : Type 0
 UsedCallsRefused = (u : UsedRecord) (o : Operation) (nb′ cs′ : List ℕ) (r : ℕ) → Call (usedCall u o nb′ cs′) r →
     SixteenExactly u o r
 
+-- "and a second measurement, are refused": of every measurement
 abbrev pub SecondMeasurementsRefused : Type 0
 SecondMeasurementsRefused =
     (u : UsedRecord) (pauli q b answer determined : ℕ) (nb′ cs′ : List ℕ) (used′ answer′ determined′ r : ℕ) →
@@ -77,6 +81,7 @@ abbrev pub AcceptedWithout : Type 0
 AcceptedWithout = (u : UsedRecord) (o : Operation) (nb′ cs′ : List ℕ) → Call (usedCall u o nb′ cs′) 0 →
     Call (inPlaceCall (u .held) o nb′ cs′) 0
 
+-- the same of a measurement
 abbrev pub MeasuredWithout : Type 0
 MeasuredWithout =
     (u : UsedRecord) (pauli q b answer determined : ℕ) (nb′ cs′ : List ℕ) (used′ answer′ determined′ : ℕ) →
@@ -96,6 +101,7 @@ pub record MadeUnused (l : GeneratorList) (nb′ cs′ : List ℕ) (used′ : �
     used = used′;
   }) false false false) ≡ 0
 
+-- of every accepted reduction
 abbrev pub ReductionsUnused : Type 0
 ReductionsUnused = (l : GeneratorList) (nb cs : List ℕ) (used : ℕ) (nb′ cs′ : List ℕ) (used′ : ℕ) →
     Call (reduceUnusedCall l nb cs used nb′ cs′ used′) 0 → MadeUnused l nb′ cs′ used′
