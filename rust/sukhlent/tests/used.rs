@@ -136,12 +136,12 @@ fn a_record_made_from_a_list_has_no_used_qubit() {
 #[test]
 fn every_measured_vertex_stands_alone_with_the_code_of_its_outcome() {
     let mut seen = [[0; 2]; 2];
-    for seed in 0..200 {
+    for seed in 0..300 {
         let mut random = Random::new(80_000 + seed);
         let n = 1 + random.below(64);
         let mut given = random_used_record(&mut random, n);
         // Some vertices are alone, so that some outcomes are determined.
-        (0..n / 4).for_each(|_| isolate(&mut given.neighbours, random.below(n)));
+        (0..n / 2).for_each(|_| isolate(&mut given.neighbours, random.below(n)));
         for (pauli, bit) in (1..=3).flat_map(|pauli| [(pauli, 0), (pauli, 1)]) {
             let q = random.below(n);
             let operation = Measure(pauli, q as u64, bit);
