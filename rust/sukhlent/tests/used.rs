@@ -136,12 +136,12 @@ fn a_record_made_from_a_list_has_no_used_qubit() {
 #[test]
 fn every_measured_vertex_stands_alone_with_the_code_of_its_outcome() {
     let mut seen = [[0; 2]; 2];
-    for seed in 0..600 {
+    for seed in 0..300 {
         let mut random = Random::new(80_000 + seed);
         let n = 1 + random.below(64);
         let mut given = random_used_record(&mut random, n);
         // Some vertices are alone, so that some outcomes are determined.
-        (0..n / 4).for_each(|_| isolate(&mut given.neighbours, random.below(n)));
+        (0..n / 2).for_each(|_| isolate(&mut given.neighbours, random.below(n)));
         for (pauli, bit) in (1..=3).flat_map(|pauli| [(pauli, 0), (pauli, 1)]) {
             let q = random.below(n);
             let operation = Measure(pauli, q as u64, bit);
@@ -166,7 +166,7 @@ fn every_measured_vertex_stands_alone_with_the_code_of_its_outcome() {
 #[test]
 fn accepted_calls_keep_every_used_vertex_and_copy_the_word() {
     let mut counts = [0; 5];
-    for seed in 0..4000 {
+    for seed in 0..1500 {
         let mut random = Random::new(81_000 + seed);
         let n = 2 + random.below(63);
         let given = random_used_record(&mut random, n);
@@ -190,7 +190,7 @@ fn accepted_calls_keep_every_used_vertex_and_copy_the_word() {
             assert_eq!(left.codes[q], given.codes[q], "seed {seed}");
         }
     }
-    assert!(counts.iter().all(|&count| count > 200), "{counts:?}");
+    assert!(counts.iter().all(|&count| count > 80), "{counts:?}");
 }
 
 /// A pivot on a random edge, where there is one.
@@ -239,7 +239,7 @@ fn the_word_does_not_change_what_an_accepted_call_leaves() {
 // ---- which calls are refused
 #[test]
 fn every_qubit_of_64_is_refused_exactly_where_it_is_used() {
-    for seed in 0..8 {
+    for seed in 0..3 {
         let mut random = Random::new(83_000 + seed);
         let given = random_used_record(&mut random, 64);
         let used = |q: u64| given.used >> q & 1 == 1;
