@@ -1,5 +1,6 @@
 """A copy of the repository in which one mutant after the other is checked."""
 
+import fcntl
 import hashlib
 import os
 import re
@@ -19,6 +20,12 @@ class Copy:
     def __init__(self, root):
         self.folder = os.path.join(root, "target", "mutate")
         self.seconds = {}
+        os.makedirs(os.path.join(root, "target"), exist_ok=True)
+        self.lock = open(self.folder + ".lock", "w", encoding="utf-8")
+        try:
+            fcntl.flock(self.lock, fcntl.LOCK_EX | fcntl.LOCK_NB)
+        except OSError:
+            raise SystemExit("another run is under way in target/mutate") from None
         shutil.rmtree(self.folder, ignore_errors=True)
         os.makedirs(os.path.join(self.folder, "log"))
         shutil.copy(os.path.join(root, "crates.txt"), self.folder)

@@ -1,4 +1,4 @@
-"""The edits of an exported function's contract. Each leaves the function proved, so that its tie must refuse it."""
+"""The edits of an exported function's contract. Each leaves the function itself proved, so that its tie must refuse it."""
 
 from mutants.edits import Edit, exchanged, ordered, pairs
 
@@ -28,8 +28,9 @@ def renamed(text, tokens, function):
             yield from exchanged(text, tokens, (a, a + 1), (b, b + 1), "exchanged parameters")
 
 
-def contract_edits(text, tokens, function):
+def contract_edits(text, tokens, function, has_proof):
+    """A function with a proof of its own keeps what it ensures: that proof is of no other contract."""
     found = set(asked(tokens, function)) | set(renamed(text, tokens, function))
-    for clause in function.clauses:
+    for clause in [] if has_proof else function.clauses:
         found.update(weakened(tokens, clause))
     return ordered(found)

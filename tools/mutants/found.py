@@ -77,6 +77,9 @@ class Repository:
         before = "" if stem in ("lib", "main") else stem + "::"
         return [(before + function.full, function) for function in functions_of(tokens)]
 
+    def has_proof(self, crate, name):
+        return os.path.isfile(os.path.join(self.folder(crate), "proofs", *name.split("::"), "Proof.antt"))
+
     def mutants(self, crate):
         found = []
         for file in self.sources(crate):
@@ -85,7 +88,8 @@ class Repository:
             for name, function in self.named(file, tokens):
                 found += self.made(crate, file, text, name, body_edits(text, tokens, function, self.declared), "body")
                 if function.exported:
-                    found += self.made(crate, file, text, name, contract_edits(text, tokens, function))
+                    edits = contract_edits(text, tokens, function, self.has_proof(crate, name))
+                    found += self.made(crate, file, text, name, edits)
             for name, places in constants_of(tokens):
                 found += self.made(crate, file, text, name, table_edits(text, tokens, places, self.declared), "table")
         return found

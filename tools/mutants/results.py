@@ -45,6 +45,17 @@ class Results:
 
     def add(self, row):
         self.rows[row.key()] = row
+        self.write()
+
+    def keep(self, keys):
+        """Keeps the results of these mutants alone, and says how many went."""
+        gone = [key for key in self.rows if key not in keys]
+        for key in gone:
+            del self.rows[key]
+        self.write()
+        return len(gone)
+
+    def write(self):
         text = "\n".join([HEADER] + [self.rows[key].line() for key in sorted(self.rows)])
         with open(self.path + ".new", "w", encoding="utf-8") as file:
             file.write(text + "\n")
