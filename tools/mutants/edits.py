@@ -23,6 +23,7 @@ INTEGERS = ("u8", "u64", "usize")
 ENDS_OPERAND = ("name", "number", "text")
 NO_VARIABLE_AFTER = ("(", "::", ":", "{", "!")
 KEYWORDS = ("if", "else", "while", "match", "return", "let", "mut", "as", "loop", "true", "false")
+STORES = ("=", "+=", "-=", "*=", "^=", "|=", "&=")
 COUNTS = ("count_ones", "leading_zeros", "trailing_zeros")
 
 
@@ -231,12 +232,29 @@ def plain(tokens, statement):
     return first.kind == "name" and first.text not in KEYWORDS or first.text == "*"
 
 
+def names_in(tokens, part):
+    return {token.text for token in tokens[part[0]:part[1]] if token.kind == "name"}
+
+
+def written(tokens, statement):
+    """What a plain statement may write: the first name of a store, all that a call is given."""
+    stores = any(token.text in STORES for token in tokens[statement[0]:statement[1]])
+    first = tokens[statement[0] + (tokens[statement[0]].text == "*")].text
+    return {first} if stores else names_in(tokens, statement)
+
+
+def depend(tokens, one, other):
+    """Whether one of two statements may write what the other names."""
+    return bool(written(tokens, one) & names_in(tokens, other) or written(tokens, other) & names_in(tokens, one))
+
+
 def statement_edits(text, tokens, function, declared):
-    """Two statements exchanged; a local that keeps its value; a condition's answer negated."""
+    """Two statements of which one may write what the other names exchanged; a local that keeps its value; another
+    answer."""
     for block in blocks_of(tokens, *function.body, declared.structs):
         statements = statements_of(tokens, *block)
         for one, other in zip(statements, statements[1:]):
-            if plain(tokens, one) and plain(tokens, other):
+            if plain(tokens, one) and plain(tokens, other) and depend(tokens, one, other):
                 yield from exchanged(text, tokens, one, other, "exchanged statements")
         for start, end in statements:
             if plain(tokens, (start, end)) and tokens[start + 1].text == "=":
