@@ -1,5 +1,7 @@
 """A copy of the repository in which one mutant after the other is checked."""
 
+import fcntl
+import hashlib
 import os
 import re
 import shutil
@@ -17,6 +19,13 @@ class Copy:
 
     def __init__(self, root):
         self.folder = os.path.join(root, "target", "mutate")
+        self.seconds = {}
+        os.makedirs(os.path.join(root, "target"), exist_ok=True)
+        self.lock = open(self.folder + ".lock", "w", encoding="utf-8")
+        try:
+            fcntl.flock(self.lock, fcntl.LOCK_EX | fcntl.LOCK_NB)
+        except OSError:
+            raise SystemExit("another run is under way in target/mutate") from None
         shutil.rmtree(self.folder, ignore_errors=True)
         os.makedirs(os.path.join(self.folder, "log"))
         shutil.copy(os.path.join(root, "crates.txt"), self.folder)
@@ -30,6 +39,10 @@ class Copy:
     def write(self, file, text):
         with open(self.path(file), "w", encoding="utf-8") as out:
             out.write(text)
+
+    def read(self, file):
+        with open(self.path(file), encoding="utf-8") as file:
+            return file.read()
 
     def check(self, crate, limit=None):
         """The status of `rt dev` and what it said; no status where the time ran out."""
@@ -53,13 +66,29 @@ class Copy:
         return run.returncode, said
 
     def prove(self, crate):
-        """The seconds that a check of the untouched crate takes once its dependencies are proved."""
-        status, said = self.check(crate)
-        if status != 0:
-            raise SystemExit(f"{crate} is not proved as it stands:\n{said}")
-        start = time.time()
-        self.check(crate)
-        return time.time() - start
+        """The seconds that a check of the untouched crate takes, once its dependencies are proved."""
+        if crate not in self.seconds:
+            start = time.time()
+            status, said = self.check(crate)
+            if status != 0:
+                raise SystemExit(f"{crate} is not proved as it stands:\n{said}")
+            self.seconds[crate] = time.time() - start
+        return self.seconds[crate]
+
+    def judge(self, crate, texts, name, limit):
+        """The verdict on a crate with these texts in place of its files'; what was said goes to target/mutate/log."""
+        seconds = self.prove(crate)
+        old = {file: self.read(file) for file in texts}
+        try:
+            for file, text in texts.items():
+                self.write(file, text)
+            status, said = self.check(crate, limit or 60 + 10 * seconds)
+        finally:
+            for file, text in old.items():
+                self.write(file, text)
+        short = hashlib.sha256(name.encode()).hexdigest()[:8]
+        self.write(os.path.join("log", f"{crate}-{short}"), f"{name}\n{said}")
+        return verdict(status, said)
 
 
 def verdict(status, said):

@@ -1,8 +1,16 @@
-"""The edits of a file's code: each changes one thing."""
+"""The edits of a file's code: each makes one mistake."""
 
 from dataclasses import dataclass
 
-from mutants.source import OPENING, closing, constants_of, functions_of, parts, tokens_of, words
+from mutants.source import (
+    OPENING,
+    blocks_of,
+    closing,
+    imported_constants,
+    parts,
+    statements_of,
+    words,
+)
 
 MARKS = {
     "+": ["-"], "-": ["+"], "*": ["+"], "/": ["%"], "%": ["/"],
@@ -15,6 +23,8 @@ INTEGERS = ("u8", "u64", "usize")
 ENDS_OPERAND = ("name", "number", "text")
 NO_VARIABLE_AFTER = ("(", "::", ":", "{", "!")
 KEYWORDS = ("if", "else", "while", "match", "return", "let", "mut", "as", "loop", "true", "false")
+STORES = ("=", "+=", "-=", "*=", "^=", "|=", "&=")
+COUNTS = ("count_ones", "leading_zeros", "trailing_zeros")
 
 
 @dataclass(frozen=True)
@@ -47,7 +57,7 @@ def number_edits(token):
     digits = token.text
     suffix = next((word for word in INTEGERS if digits.endswith(word)), "")
     value = int(digits[:len(digits) - len(suffix)], 0)
-    for near in (value + 1, value - 1):
+    for near in sorted({value + 1, value - 1, 0} - {value}):
         if 0 <= near < 2**64:
             yield Edit("constant", token.start, token.end, f"{near}{suffix}")
 
@@ -83,16 +93,37 @@ def pairs(found):
     return [(a, b) for k, b in enumerate(found) for a in found[:k]]
 
 
+def value_edits(text, tokens, part, kind):
+    """The value of a known type at a stretch of places: a bool negated, a number taken for 0 or with its last bit
+    flipped."""
+    start, end = tokens[part[0]].start, tokens[part[1] - 1].end
+    if kind == "bool" and text[start:end] not in WORDS:
+        yield Edit("negated value", start, end, f"!({text[start:end]})")
+    if kind in INTEGERS and tokens[part[0]].kind != "number":
+        yield Edit("0 for a value", start, end, "0")
+        yield Edit("last bit flipped", start, end, f"({text[start:end]}) ^ 1")
+
+
 def call_edits(text, tokens, i, declared):
-    """Arguments of one type exchanged."""
+    """Arguments of one type exchanged; an argument negated, 0, or with its last bit flipped."""
     given = parts(tokens, i + 1)
-    seen = set()
+    seen, single = set(), set()
     for function in declared.functions.get(tokens[i].text, []):
         types = [kind for kind in function.parameters.values() if kind != "Self"]
         if len(types) == len(given):
             seen |= {(a, b) for a, b in pairs(range(len(given))) if types[a] == types[b]}
+            single |= set(enumerate(types))
     for a, b in sorted(seen):
         yield from exchanged(text, tokens, given[a], given[b], "exchanged arguments")
+    for a, kind in sorted(single):
+        yield from value_edits(text, tokens, given[a], kind)
+
+
+def count_edits(tokens, i):
+    """A count of ones or zeros exchanged for another."""
+    for new in COUNTS:
+        if new != tokens[i].text:
+            yield Edit("another count", tokens[i].start, tokens[i].end, new)
 
 
 def array_edits(text, tokens, i):
@@ -103,16 +134,26 @@ def array_edits(text, tokens, i):
 
 
 def struct_edits(text, tokens, i, declared):
-    """The values of two fields of one type exchanged."""
+    """The values of two fields of one type exchanged; a field's value negated, 0, or with its last bit flipped."""
     fields = declared.structs[tokens[i].text]
     values = []
     for start, end in parts(tokens, i + 1):
-        name = tokens[start].text
-        value = (start + 2, end) if start + 1 < end else None
-        values.append((fields.get(name), value))
+        kind = fields.get(tokens[start].text)
+        if start + 1 < end:
+            values.append((kind, (start + 2, end)))
+            yield from value_edits(text, tokens, (start + 2, end), kind)
+        elif kind == "bool":
+            place = tokens[start].end
+            yield Edit("negated value", place, place, f": !{tokens[start].text}")
     for (kind, one), (other_kind, other) in pairs(values):
-        if kind == other_kind and one and other:
+        if kind == other_kind:
             yield from exchanged(text, tokens, one, other, "exchanged fields")
+
+
+def constant_edits(tokens, i, constants):
+    """A constant of another file exchanged for the next."""
+    if len(constants) > 1:
+        yield Edit("constant", tokens[i].start, tokens[i].end, next_of(constants, tokens[i].text))
 
 
 def next_of(names, name):
@@ -185,7 +226,51 @@ def variable_edits(tokens, function, declared):
                 yield Edit("operand", tokens[i].start, tokens[i].end, new)
 
 
-def token_edits(text, tokens, i, declared):
+def plain(tokens, statement):
+    """Whether a statement is a call or a store, and nothing else."""
+    first = tokens[statement[0]]
+    return first.kind == "name" and first.text not in KEYWORDS or first.text == "*"
+
+
+def names_in(tokens, part):
+    return {token.text for token in tokens[part[0]:part[1]] if token.kind == "name"}
+
+
+def written(tokens, statement):
+    """What a plain statement may write: the first name of a store, all that a call is given."""
+    stores = any(token.text in STORES for token in tokens[statement[0]:statement[1]])
+    first = tokens[statement[0] + (tokens[statement[0]].text == "*")].text
+    return {first} if stores else names_in(tokens, statement)
+
+
+def depend(tokens, one, other):
+    """Whether one of two statements may write what the other names."""
+    return bool(written(tokens, one) & names_in(tokens, other) or written(tokens, other) & names_in(tokens, one))
+
+
+def statement_edits(text, tokens, function, declared):
+    """Two statements of which one may write what the other names exchanged; a local that keeps its value; another
+    answer."""
+    for block in blocks_of(tokens, *function.body, declared.structs):
+        statements = statements_of(tokens, *block)
+        for one, other in zip(statements, statements[1:]):
+            if plain(tokens, one) and plain(tokens, other) and depend(tokens, one, other):
+                yield from exchanged(text, tokens, one, other, "exchanged statements")
+        for start, end in statements:
+            if plain(tokens, (start, end)) and tokens[start + 1].text == "=":
+                yield Edit("dropped store", tokens[start].start, tokens[end - 1].end, "")
+        last = (statements[-1][1] if statements else block[0], block[1])
+        if block[0] == function.body[0] and last[0] < last[1]:
+            yield from answer_edits(text, tokens, last, function)
+
+
+def answer_edits(text, tokens, last, function):
+    """The function's last expression, where it is none with arms of its own."""
+    if tokens[last[0]].text not in ("if", "match", "while"):
+        yield from value_edits(text, tokens, last, function.answer)
+
+
+def token_edits(text, tokens, i, declared, constants=()):
     token, before = tokens[i], tokens[i - 1].text
     after = tokens[i + 1].text if i + 1 < len(tokens) else ""
     if token.kind == "number":
@@ -200,6 +285,10 @@ def token_edits(text, tokens, i, declared):
         yield Edit("constant", token.start, token.end, WORDS[token.text])
     elif token.text in ("if", "while"):
         yield from negated(text, tokens, i)
+    elif token.text in COUNTS:
+        yield from count_edits(tokens, i)
+    elif token.text in constants:
+        yield from constant_edits(tokens, i, constants)
     elif after == "(":
         yield from call_edits(text, tokens, i, declared)
     elif after == "{" and token.text in declared.structs:
@@ -210,16 +299,20 @@ def token_edits(text, tokens, i, declared):
         yield from variant_edits(tokens, i, declared)
 
 
-def edits_of(text, declared):
-    """The edits of the functions' bodies, in order, and those of the constants, a list for each."""
-    tokens = tokens_of(text)
-    bodies = []
-    for function in functions_of(tokens):
-        found = set(variable_edits(tokens, function, declared))
-        for i in range(*function.body):
-            found.update(token_edits(text, tokens, i, declared))
-        bodies += sorted(found, key=lambda edit: (edit.start, edit.end, edit.new))
-    constants = []
-    for start, end in constants_of(tokens):
-        constants.append([edit for i in range(start, end) for edit in token_edits(text, tokens, i, declared)])
-    return bodies, constants
+def ordered(found):
+    return sorted(found, key=lambda edit: (edit.start, edit.end, edit.new))
+
+
+def body_edits(text, tokens, function, declared):
+    """The edits of a function's body."""
+    constants = imported_constants(tokens)
+    found = set(variable_edits(tokens, function, declared))
+    found.update(statement_edits(text, tokens, function, declared))
+    for i in range(*function.body):
+        found.update(token_edits(text, tokens, i, declared, constants))
+    return ordered(found)
+
+
+def table_edits(text, tokens, places, declared):
+    """The edits of a constant's value."""
+    return ordered({edit for i in range(*places) for edit in token_edits(text, tokens, i, declared)})

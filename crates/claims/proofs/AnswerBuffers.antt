@@ -56,7 +56,7 @@ answer-buffers-unread =
         line 15 (ltb 4096 count) ∷ line 2 (badCount n) ∷ line 4 other ∷ line 6 (eqb seed 0) ∷ []
 
     -- those of a text that is read, by whether an answer buffer has a wrong length
-    textLinesOf : List ℕ → Bool → List Line
+    textLinesOf : List ℕ → Bool → List Refusal
     textLinesOf t other =
         line 1 (not (stringForm t)) ∷ line 2 (badCount (lineCount t)) ∷ line 4 other ∷ judgedLines (stringList t)
 
@@ -69,7 +69,7 @@ answer-buffers-unread =
         ∷ line 10 (dependent (l .n) (rows l) || dependent (m .n) (rows m))
         ∷ line 3 (hasLargePart l || hasLargePart m) ∷ line 13 (noChoice (l .n) (rows l) (rows m)) ∷ []
 
-    of-three : (n : ℕ) (lines : Bool → List Line) (k : ℕ) {a a₂ b b₂ c c₂ : ℕ} → a ≡ a₂ → b ≡ b₂ → c ≡ c₂ →
+    of-three : (n : ℕ) (lines : Bool → List Refusal) (k : ℕ) {a a₂ b b₂ c c₂ : ℕ} → a ≡ a₂ → b ≡ b₂ → c ≡ c₂ →
         firstFitting (lines (not (eqb a n) || (not (eqb b n) || not (eqb c k))))
         ≡ firstFitting (lines (not (eqb a₂ n) || (not (eqb b₂ n) || not (eqb c₂ k))))
     of-three n lines k {a} {a₂} {b} {b₂} {c} {c₂} e f g =
