@@ -10,6 +10,7 @@ import sys
 from pathlib import Path
 
 from . import forms
+from .library import tree
 from .lists import GeneratorList
 from .refusals import TEXTS, Refusal
 from .state import State
@@ -17,8 +18,7 @@ from .state import State
 
 def _program(name: str) -> str:
     """A proved program: named by the environment, in the install tree, in a clone, or on the path."""
-    here = Path(__file__).resolve().parent
-    places = [here.parents[2] / "libexec" / "sukhlent" / name, here.parents[1] / "target" / "bin" / name]
+    places = [tree() / "libexec" / "sukhlent" / name, tree() / "target" / "bin" / name]
     folder = os.environ.get("SUKHLENT_PROGRAMS")
     if folder:
         places.insert(0, Path(folder) / name)

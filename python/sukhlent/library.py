@@ -33,14 +33,18 @@ _CALLS: dict[str, tuple] = {
 }
 
 
-def _candidates() -> list[Path]:
-    """Where the library may stand: named by the environment, beside the package, in an install tree, in a clone."""
+def tree() -> Path:
+    """The root of what is installed, or of the clone, that this package stands in."""
     here = Path(__file__).resolve().parent
+    installed = here.parts[-4:-1] == ("share", "sukhlent", "python")
+    return here.parents[3] if installed else here.parents[1]
+
+
+def _candidates() -> list[Path]:
+    """Where the library may stand: named by the environment, in an install tree, in a clone."""
     named = os.environ.get("SUKHLENT_LIBRARY")
-    found = [Path(named)] if named else []
-    found += [here / _NAME, here.parents[1] / _NAME, here.parents[2] / "lib" / _NAME]
-    found += [here.parents[1] / "target" / "shared" / _NAME]
-    return found
+    places = [tree() / "lib" / _NAME, tree() / "target" / "shared" / _NAME]
+    return [Path(named), *places] if named else places
 
 
 def _load() -> ctypes.CDLL:
