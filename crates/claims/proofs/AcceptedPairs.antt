@@ -7,7 +7,7 @@ use Rattle.buffers.specs.Refusals.{firstFitting}
 use Rattle.comparison.specs.Compared.{pairLines}
 use Rattle.stabilizer.proofs.Accepted.{accepted-list}
 use Rattle.stabilizer.specs.Lists.{GeneratorList, listLines}
-use Rattle.compare_call.proofs.PairLines.{pair-number}
+use Rattle.call_compare.proofs.PairLines.{pair-number}
 use Rattle.comparison_answer.specs.ComparedPairs.{earlierOf}
 use Rattle.claims.specs.ThirdDemand.{NoLineHolds}
 

@@ -14,7 +14,7 @@ use Rattle.record.proofs.AcceptedRecords.{accepted-record}
 use Rattle.record.specs.Accepted.{AcceptedRecord}
 use Rattle.record.specs.Lent.{LentRecord, heldRecord}
 use Rattle.record.specs.Records.{GraphRecord}
-use Rattle.record_calls.proofs.InPlaceLines.{cz-ready, held-accepted}
+use Rattle.call_gates.proofs.InPlaceLines.{cz-ready, held-accepted}
 use Rattle.words.specs.Bits.{Word}
 use Rattle.claims.proofs.CzInsideSide.{entangled-cut}
 use Rattle.claims.proofs.GatesFollow.{cz-follows, gates-follow}

@@ -10,24 +10,24 @@ use Rattle.buffers.proofs.Lines.{none-of-all, not-held}
 use Rattle.buffers.proofs.Tabulate.{tabulate-length}
 use Rattle.buffers.specs.Buffers.{tabulate, written}
 use Rattle.buffers.specs.Refusals.{firstFitting, otherThan}
-use Rattle.compare_call.proofs.Comparing.{at-most-64}
-use Rattle.compare_call.proofs.PairLines.{pair-numbered}
-use Rattle.compare_call.specs.Comparisons.{compareCall}
+use Rattle.call_compare.proofs.Comparing.{at-most-64}
+use Rattle.call_compare.proofs.PairLines.{pair-numbered}
+use Rattle.call_compare.specs.Comparisons.{compareCall}
 use Rattle.comparison.specs.Compared.{compareLines, largePart, pairLines}
 use Rattle.comparison_answer.specs.ComparedPairs.{compareList}
 use Rattle.contracts.proofs.Calling.{every-call-answers}
-use Rattle.generate_call.proofs.GenerateCalls.{accepted-job}
-use Rattle.generate_call.specs.Generated.{generateCall}
+use Rattle.call_generate.proofs.GenerateCalls.{accepted-job}
+use Rattle.call_generate.specs.Generated.{generateCall}
 use Rattle.generator.proofs.Lengths.{length-text}
 use Rattle.generator.specs.Drawn.{generatedText}
 use Rattle.image.proofs.TrackedBits.{image-length}
 use Rattle.image.specs.Rule.{imageList}
-use Rattle.image_call.specs.Images.{imageCall}
+use Rattle.call_image.specs.Images.{imageCall}
 use Rattle.operations.specs.Steps.{Operation, complementOf, czOn, gateWith, linesOf, measurementOf, pivotOf}
 use Rattle.record.proofs.AcceptedRecords.{accepted-record}
 use Rattle.record.proofs.RecordLines.{record-numbered}
 use Rattle.record.specs.Lent.{LentRecord, heldRecord, recordLengths, recordLines}
-use Rattle.record_calls.proofs.InPlaceCalls.{operation-accepted}
+use Rattle.call_gates.proofs.InPlaceCalls.{operation-accepted}
 use Rattle.stabilizer.proofs.SharedTests.{has-length}
 use Rattle.stabilizer.specs.Lists.{GeneratorList, listLengths, listLines, rows}
 use Rattle.words.proofs.Flags.{neither}

@@ -27,8 +27,8 @@ use Rattle.record.specs.Reduced.{reduced}
 use Rattle.stabilizer.proofs.Carried.{carries-same}
 use Rattle.stabilizer.proofs.GroupLaws.{same-trans}
 use Rattle.stabilizer.specs.Groups.{InGroup, Proper}
-use Rattle.record_calls.proofs.InPlaceLines.{cz-ready, held-accepted}
-use Rattle.record_calls.specs.InPlaceCalls.{inPlaceCall}
+use Rattle.call_gates.proofs.InPlaceLines.{cz-ready, held-accepted}
+use Rattle.call_gates.specs.InPlaceCalls.{inPlaceCall}
 use Rattle.claims.specs.OperationsDemand.{CzFollows, Entangled, Gated, GatesFollow, IsReduced, StillRecord, left}
 
 -- an accepted call leaves the new record in the buffers

@@ -26,7 +26,7 @@ use Rattle.record.specs.Records.{GraphRecord}
 use Rattle.stabilizer.proofs.Carried.{same-rows}
 use Rattle.contracts.proofs.Calling.{written-all}
 use Rattle.contracts.specs.Calls.{Call}
-use Rattle.image_call.specs.Images.{imageCall}
+use Rattle.call_image.specs.Images.{imageCall}
 use Rattle.words.proofs.BitLaws.{bit-above, bit-wordOf, digit-lt, odd-digit, wordOf-lt}
 use Rattle.words.proofs.Sums.{lt-or-ge}
 use Rattle.words.specs.Bits.{bit, digit, wordOf}

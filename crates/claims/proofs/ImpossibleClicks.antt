@@ -11,8 +11,8 @@ use Rattle.operations.proofs.Contradicted.{contradicts-exactly}
 use Rattle.operations.specs.Measurement.{contradicts, pauliLetter}
 use Rattle.operations.specs.Steps.{argumentLines}
 use Rattle.record.specs.Lent.{LentRecord, heldRows}
-use Rattle.record_calls.proofs.InPlaceLines.{held-accepted, measure-ready}
-use Rattle.record_calls.proofs.MeasureLines.{fourteen-exactly}
+use Rattle.call_gates.proofs.InPlaceLines.{held-accepted, measure-ready}
+use Rattle.call_gates.proofs.MeasureLines.{fourteen-exactly}
 use Rattle.stabilizer.specs.Groups.{InGroup}
 use Rattle.words.specs.Bits.{isOdd}
 use Rattle.claims.specs.OperationsDemand.{ImpossibleClicksRefused, left, signedPauli}

@@ -41,7 +41,7 @@ use Rattle.operations.specs.Steps.{
 }
 use Rattle.pauli.specs.Pauli.{Pauli}
 use Rattle.record.specs.Lent.{LentRecord, heldRows}
-use Rattle.record_calls.proofs.MeasureLines.{measure-passes}
+use Rattle.call_gates.proofs.MeasureLines.{measure-passes}
 use Rattle.stabilizer.proofs.EqualRows.{same-group-equal}
 use Rattle.stabilizer.specs.Groups.{InGroup}
 use Rattle.words.specs.Bits.{isOdd}

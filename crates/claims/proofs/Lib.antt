@@ -7,6 +7,9 @@ pub mod AcceptedPairs
 pub mod ImageDemandHolds
 pub mod GatesFollow
 pub mod MeasurementsFollow
+pub mod SessionNumbers
+pub mod SessionDemandHolds
+pub mod SessionExamples
 pub mod ImpossibleClicks
 pub mod RewritingsKeep
 pub mod CzInsideSide

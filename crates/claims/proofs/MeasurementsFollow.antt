@@ -36,10 +36,10 @@ use Rattle.record.specs.Accepted.{AcceptedRecord}
 use Rattle.record.specs.Lent.{LentRecord, heldRows}
 use Rattle.record.specs.Reduced.{reduced}
 use Rattle.stabilizer.specs.Groups.{InGroup, Proper, SameGroup}
-use Rattle.record_calls.proofs.InPlaceLines.{held-accepted, measure-ready, six-passes}
-use Rattle.record_calls.proofs.MeasureLines.{measure-passes}
+use Rattle.call_gates.proofs.InPlaceLines.{held-accepted, measure-ready, six-passes}
+use Rattle.call_gates.proofs.MeasureLines.{measure-passes}
 use Rattle.contracts.specs.Calls.{Call}
-use Rattle.record_calls.specs.InPlaceCalls.{measureCall}
+use Rattle.call_gates.specs.InPlaceCalls.{measureCall}
 use Rattle.words.proofs.BitLaws.{digit-odd, odd-digit}
 use Rattle.words.proofs.Flags.{neither}
 use Rattle.words.specs.Bits.{digit, isOdd}

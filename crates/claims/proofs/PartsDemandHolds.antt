@@ -28,7 +28,7 @@ use Rattle.stabilizer.proofs.GroupLaws.{same-sym, same-trans}
 use Rattle.stabilizer.specs.Carries.{Carries}
 use Rattle.stabilizer.specs.Groups.{Proper, SameGroup}
 use Rattle.stabilizer.specs.Lists.{GeneratorList, rows}
-use Rattle.compare_call.proofs.PairLines.{pair-numbered}
+use Rattle.call_compare.proofs.PairLines.{pair-numbered}
 use Rattle.words.proofs.Flags.{either}
 use Rattle.words.proofs.SearchLaws.{some-false, some-in, some-none, some-true}
 use Rattle.words.specs.Search.{first, some}

@@ -28,9 +28,9 @@ use Rattle.record.specs.Records.{GraphRecord, complementRecord, rowsOf}
 use Rattle.stabilizer.proofs.EqualRows.{same-group-equal}
 use Rattle.stabilizer.proofs.GroupLaws.{same-trans}
 use Rattle.stabilizer.specs.Groups.{SameGroup}
-use Rattle.record_calls.proofs.InPlaceCalls.{left-by-call}
-use Rattle.record_calls.proofs.InPlaceLines.{complement-ready, eight-passes, held-accepted}
-use Rattle.record_calls.specs.InPlaceCalls.{inPlaceCall}
+use Rattle.call_gates.proofs.InPlaceCalls.{left-by-call}
+use Rattle.call_gates.proofs.InPlaceLines.{complement-ready, eight-passes, held-accepted}
+use Rattle.call_gates.specs.InPlaceCalls.{inPlaceCall}
 use Rattle.words.proofs.Flags.{neither}
 use Rattle.claims.proofs.GatesFollow.{holds-new}
 use Rattle.claims.specs.OperationsDemand.{ComplementsKeep, PivotsKeep, RewrittenAs, SecondAboutFirst, left}

@@ -21,7 +21,7 @@ use Rattle.stabilizer.proofs.Accepted.{AcceptedList, accepted-list}
 use Rattle.stabilizer.specs.Groups.{Proper, SameGroup}
 use Rattle.stabilizer.specs.Lists.{GeneratorList, rows}
 use Rattle.contracts.specs.Calls.{Call}
-use Rattle.list_calls.specs.Calls.{expandCall, reduceCall}
+use Rattle.call_lists.specs.Calls.{expandCall, reduceCall}
 use Rattle.claims.specs.SecondDemand.{
   BroughtBack,
   EqualExactly,

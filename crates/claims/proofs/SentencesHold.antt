@@ -3,16 +3,16 @@
 use mathlib.Core.List.{List}
 use mathlib.Core.Path.{subst, _≡_}
 use Prim.Native.Nat.{ℕ}
-use Rattle.compare_call.specs.Comparisons.{compareCall}
+use Rattle.call_compare.specs.Comparisons.{compareCall}
 use Rattle.contracts.specs.Calls.{Call, Contract}
-use Rattle.cut_call.specs.Cuts.{cutCall}
-use Rattle.generate_call.specs.Generated.{generateCall}
-use Rattle.image_call.specs.Images.{imageCall}
-use Rattle.list_calls.specs.Calls.{checkCall, expandCall, reduceCall}
+use Rattle.call_cut.specs.Cuts.{cutCall}
+use Rattle.call_generate.specs.Generated.{generateCall}
+use Rattle.call_image.specs.Images.{imageCall}
+use Rattle.call_lists.specs.Calls.{checkCall, expandCall, reduceCall}
 use Rattle.operations.specs.Steps.{complementOf, czOn, gateWith, pivotOf}
-use Rattle.product_call.specs.Products.{productCall}
+use Rattle.call_product.specs.Products.{productCall}
 use Rattle.record.specs.Lent.{LentRecord}
-use Rattle.record_calls.specs.InPlaceCalls.{inPlaceCall, measureCall}
+use Rattle.call_gates.specs.InPlaceCalls.{inPlaceCall, measureCall}
 use Rattle.stabilizer.specs.Lists.{GeneratorList}
 use Rattle.claims.proofs.CutDemandHolds.{complements-keep-ranks, cz-keeps-ranks, gates-keep-ranks, pivots-keep-ranks}
 use Rattle.claims.proofs.FirstDemandHolds.{first-demand}
@@ -24,6 +24,12 @@ use Rattle.claims.proofs.MeasurementsFollow.{measurements-follow}
 use Rattle.claims.proofs.PartsDemandHolds.{large-parts-refused}
 use Rattle.claims.proofs.RewritingsKeep.{complements-keep, pivots-keep}
 use Rattle.claims.proofs.SecondDemandLists.{expansion-brings-back, reduced-codes, reduction-keeps-group}
+use Rattle.claims.proofs.SessionDemandHolds.{cz-by-expanding, gates-by-expanding, measurements-by-expanding}
+use Rattle.claims.proofs.SessionNumbers.{
+  cz-numbers-by-expanding,
+  gate-numbers-by-expanding,
+  measure-numbers-by-expanding,
+}
 use Rattle.claims.proofs.ThirdDemandHolds.{third-demand}
 use Rattle.claims.specs.FirstDemand.{Answered, Conforms}
 use Rattle.claims.specs.Sentences.{
@@ -69,6 +75,8 @@ gate-says l q k nb′ cs′ r C =
       answered = answered (first-demand .in-place l (gateWith q k) nb′ cs′) C;
       group = λ z. gates-follow l q k nb′ cs′ (at-zero C z);
       ranks = λ z. gates-keep-ranks l q k nb′ cs′ (at-zero C z);
+      by-expanding = λ z. gates-by-expanding l q k nb′ cs′ (at-zero C z);
+      number-by-expanding = λ hq hk. gate-numbers-by-expanding l q k r nb′ cs′ hq hk C;
     }
 
 pub measure-says : (l : LentRecord) (pauli q b answer determined : ℕ) (nb′ cs′ : List ℕ) (answer′ determined′ r : ℕ) →
@@ -79,6 +87,10 @@ measure-says l pauli q b answer determined nb′ cs′ answer′ determined′ r
       answered = answered (first-demand .measurements l pauli q b answer determined nb′ cs′ answer′ determined′) C;
       group = λ z. measurements-follow l pauli q b answer determined nb′ cs′ answer′ determined′ (at-zero C z);
       impossible = impossible-clicks-refused l pauli q b answer determined r nb′ cs′ answer′ determined′ C;
+      by-expanding = λ z. measurements-by-expanding l pauli q b answer determined nb′ cs′ answer′ determined′
+          (at-zero C z);
+      number-by-expanding = λ hp hp₂ hq hb. measure-numbers-by-expanding l pauli q b answer determined r nb′ cs′ answer′
+          determined′ hp hp₂ hq hb C;
     }
 
 pub compare-says : (l m : GeneratorList) (choice list : List ℕ) (count : ℕ) (choice′ list′ : List ℕ) (count′ r : ℕ) →
@@ -106,6 +118,8 @@ cz-says l a b nb′ cs′ r C =
       answered = answered (first-demand .in-place l (czOn a b) nb′ cs′) C;
       group = λ z. cz-follows l a b nb′ cs′ (at-zero C z);
       ranks = λ z. cz-keeps-ranks l a b nb′ cs′ (at-zero C z);
+      by-expanding = λ z. cz-by-expanding l a b nb′ cs′ (at-zero C z);
+      number-by-expanding = λ ha hb ab. cz-numbers-by-expanding l a b r nb′ cs′ ha hb ab C;
     }
 
 pub complement-says : (l : LentRecord) (a : ℕ) (nb′ cs′ : List ℕ) (r : ℕ) →

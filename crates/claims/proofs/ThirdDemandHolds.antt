@@ -41,9 +41,9 @@ use Rattle.stabilizer.specs.Lists.{
   rows,
 }
 use Rattle.contracts.proofs.Calling.{written-all}
-use Rattle.compare_call.proofs.Comparing.{counts-agree}
+use Rattle.call_compare.proofs.Comparing.{counts-agree}
 use Rattle.contracts.proofs.Calling.{written-all}
-use Rattle.compare_call.proofs.PairLines.{pair-numbered}
+use Rattle.call_compare.proofs.PairLines.{pair-numbered}
 use Rattle.comparison_answer.proofs.ReducedPairs.{least-held}
 use Rattle.comparison_answer.specs.ComparedPairs.{compareList, inducedRecord}
 use Rattle.words.proofs.Flags.{neither}

@@ -9,7 +9,7 @@ use Rattle.contracts.specs.Calls.{Call}
 use Rattle.cut.specs.Cut.{cutRank}
 use Rattle.operations.specs.Steps.{complementOf, czOn, gateWith, pivotOf}
 use Rattle.record.specs.Lent.{LentRecord, heldRecord}
-use Rattle.record_calls.specs.InPlaceCalls.{inPlaceCall}
+use Rattle.call_gates.specs.InPlaceCalls.{inPlaceCall}
 use Rattle.words.specs.Bits.{Word}
 use Rattle.claims.specs.OperationsDemand.{left}
 

@@ -9,20 +9,20 @@ use Prim.Native.Nat.{ℕ}
 use lib.Dec.{eqb}
 use lib.ListN.{length}
 use Rattle.buffers.specs.Refusals.{Line, firstFitting}
-use Rattle.compare_call.specs.Comparisons.{compareCall}
+use Rattle.call_compare.specs.Comparisons.{compareCall}
 use Rattle.comparison.specs.Compared.{compareLines}
 use Rattle.contracts.specs.Answers.{Answers, EveryCallAnswers}
 use Rattle.contracts.specs.Calls.{Contract, EachOf, Lent, buffer, number}
-use Rattle.cut_call.specs.Cuts.{cutCall}
-use Rattle.generate_call.specs.Generated.{generateCall}
+use Rattle.call_cut.specs.Cuts.{cutCall}
+use Rattle.call_generate.specs.Generated.{generateCall}
 use Rattle.generator.specs.Lines.{generateLines}
 use Rattle.image.specs.Image.{imageLines}
-use Rattle.image_call.specs.Images.{imageCall}
-use Rattle.list_calls.specs.Calls.{checkCall, expandCall, expandLines, reduceCall, reduceLines}
+use Rattle.call_image.specs.Images.{imageCall}
+use Rattle.call_lists.specs.Calls.{checkCall, expandCall, expandLines, reduceCall, reduceLines}
 use Rattle.operations.specs.Steps.{Operation}
-use Rattle.product_call.specs.Products.{productCall}
+use Rattle.call_product.specs.Products.{productCall}
 use Rattle.record.specs.Lent.{LentRecord}
-use Rattle.record_calls.specs.InPlaceCalls.{inPlaceCall, measureCall}
+use Rattle.call_gates.specs.InPlaceCalls.{inPlaceCall, measureCall}
 use Rattle.stabilizer.specs.Lists.{GeneratorList}
 
 -- "the published list": the numbers in checking order; a call tests some of them, in that order. 14 is "checked after

@@ -6,7 +6,7 @@ use mathlib.Core.Path.{_≡_}
 use Prim.Native.Nat.{ℕ, _≤_}
 use lib.ListN.{drop, length, take}
 use Rattle.contracts.specs.Calls.{Call}
-use Rattle.generate_call.specs.Generated.{generateCall}
+use Rattle.call_generate.specs.Generated.{generateCall}
 use Rattle.generator.specs.Drawn.{drawn}
 use Rattle.generator.specs.ReadBack.{ReadsBack}
 use Rattle.generator.specs.Shapes.{AllDrawable}

@@ -7,5 +7,7 @@ pub mod OperationsDemand
 pub mod CutDemand
 pub mod FirstDemand
 pub mod GeneratorDemand
+pub mod SessionDemand
+pub mod SessionTable
 pub mod JobDemand
 pub mod Sentences

@@ -29,7 +29,7 @@ use Rattle.record.specs.Records.{GraphRecord, SameRecord, complementRecord}
 use Rattle.record.specs.Reduced.{reduced}
 use Rattle.stabilizer.specs.Carries.{Carries}
 use Rattle.stabilizer.specs.Groups.{InGroup, SameGroup}
-use Rattle.record_calls.specs.InPlaceCalls.{inPlaceCall, measureCall}
+use Rattle.call_gates.specs.InPlaceCalls.{inPlaceCall, measureCall}
 use Rattle.words.specs.Bits.{isOdd}
 
 -- the record that a call leaves

@@ -11,7 +11,7 @@ use Rattle.contracts.specs.Calls.{Call}
 use Rattle.record.specs.Lent.{LentRecord, heldRows}
 use Rattle.stabilizer.specs.Groups.{SameGroup}
 use Rattle.stabilizer.specs.Lists.{GeneratorList, rows}
-use Rattle.list_calls.specs.Calls.{checkLines, expandCall, reduceCall}
+use Rattle.call_lists.specs.Calls.{checkLines, expandCall, reduceCall}
 
 -- "a generator list and its reduced record stand for the same group"
 abbrev pub ReductionKeepsGroup : Type 0

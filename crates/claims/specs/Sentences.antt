@@ -3,22 +3,22 @@
 -- Assumes nothing.
 use mathlib.Core.Bool.{false, _||_}
 use mathlib.Core.List.{List}
-use mathlib.Core.Logic.{_↔_, _⊎_}
+use mathlib.Core.Logic.{_↔_, _⊎_, _≢_}
 use mathlib.Core.Path.{_≡_}
-use Prim.Native.Nat.{_*_, _<_, ℕ}
+use Prim.Native.Nat.{_*_, _<_, ℕ, _≤_}
 use lib.ListN.{getD}
 use Rattle.buffers.specs.Refusals.{firstFitting, otherThan}
-use Rattle.compare_call.specs.Comparisons.{compareCall}
+use Rattle.call_compare.specs.Comparisons.{compareCall}
 use Rattle.comparison.specs.Compared.{pairLines}
-use Rattle.cut_call.specs.Cuts.{cutCall}
-use Rattle.generate_call.specs.Generated.{generateCall}
-use Rattle.image_call.specs.Images.{imageCall}
-use Rattle.list_calls.specs.Calls.{checkCall, expandCall, reduceCall}
+use Rattle.call_cut.specs.Cuts.{cutCall}
+use Rattle.call_generate.specs.Generated.{generateCall}
+use Rattle.call_image.specs.Images.{imageCall}
+use Rattle.call_lists.specs.Calls.{checkCall, expandCall, reduceCall}
 use Rattle.operations.specs.Steps.{complementOf, czOn, gateWith, pivotOf, pivotRecord}
-use Rattle.product_call.specs.Products.{productCall}
+use Rattle.call_product.specs.Products.{productCall}
 use Rattle.record.specs.Lent.{LentRecord, heldRecord, heldRows, recordLines}
 use Rattle.record.specs.Records.{complementRecord}
-use Rattle.record_calls.specs.InPlaceCalls.{inPlaceCall, measureCall}
+use Rattle.call_gates.specs.InPlaceCalls.{inPlaceCall, measureCall}
 use Rattle.stabilizer.specs.Groups.{SameGroup}
 use Rattle.stabilizer.specs.Lists.{GeneratorList, rows}
 use Rattle.words.specs.Bits.{Word}
@@ -29,6 +29,14 @@ use Rattle.claims.specs.ImageDemand.{ImageDecided}
 use Rattle.claims.specs.OperationsDemand.{Entangled, Gated, ImpossibleClick, MeasurementStands, RewrittenAs, left}
 use Rattle.claims.specs.PartsDemand.{LargePart, SmallParts}
 use Rattle.claims.specs.SecondDemand.{BroughtBack}
+use Rattle.claims.specs.SessionDemand.{
+  ByExpanding,
+  MeasureNumberByExpanding,
+  MeasuredByExpanding,
+  NumberByExpanding,
+  czChange,
+  gateChange,
+}
 use Rattle.claims.specs.ThirdDemand.{Decided}
 
 pub record CheckSays (l : GeneratorList) (r : ℕ) : Type 0 where
@@ -48,11 +56,15 @@ pub record GateSays (l : LentRecord) (q k : ℕ) (nb′ cs′ : List ℕ) (r : �
   pub answered : Answered (inPlaceCall l (gateWith q k) nb′ cs′) r
   pub group : r ≡ 0 → Gated l q k (left l nb′ cs′)
   pub ranks : r ≡ 0 → (side : Word) → rankAcross side (left l nb′ cs′) ≡ rankAcross side l
+  pub by-expanding : r ≡ 0 → ByExpanding l (gateChange (l .n) q k) nb′ cs′
+  pub number-by-expanding : q < l .n → k < 24 → NumberByExpanding l r
 
 pub record CzSays (l : LentRecord) (a b : ℕ) (nb′ cs′ : List ℕ) (r : ℕ) : Type 0 where
   pub answered : Answered (inPlaceCall l (czOn a b) nb′ cs′) r
   pub group : r ≡ 0 → Entangled l a b (left l nb′ cs′)
   pub ranks : r ≡ 0 → (side : Word) → side a ≡ side b → rankAcross side (left l nb′ cs′) ≡ rankAcross side l
+  pub by-expanding : r ≡ 0 → ByExpanding l (czChange a b) nb′ cs′
+  pub number-by-expanding : a < l .n → b < l .n → a ≢ b → NumberByExpanding l r
 
 pub record ComplementSays (l : LentRecord) (a : ℕ) (nb′ cs′ : List ℕ) (r : ℕ) : Type 0 where
   pub answered : Answered (inPlaceCall l (complementOf a) nb′ cs′) r
@@ -69,6 +81,8 @@ pub record MeasureSays (l : LentRecord) (pauli q b answer determined : ℕ) (nb�
   pub answered : Answered (measureCall l pauli q b answer determined nb′ cs′ answer′ determined′) r
   pub group : r ≡ 0 → MeasurementStands l pauli q b (left l nb′ cs′) answer′ determined′
   pub impossible : ImpossibleClick l pauli q b answer determined r nb′ cs′ answer′ determined′
+  pub by-expanding : r ≡ 0 → MeasuredByExpanding l pauli q b nb′ cs′ answer′ determined′
+  pub number-by-expanding : 1 ≤ pauli → pauli ≤ 3 → q < l .n → b < 2 → MeasureNumberByExpanding l pauli q b r
 
 pub record CompareSays (l m : GeneratorList) (choice list : List ℕ) (count : ℕ) (choice′ list′ : List ℕ)
     (count′ r : ℕ) : Type 0 where

@@ -13,8 +13,8 @@ use Rattle.record.specs.Lent.{LentRecord, codeNumbers, heldRecord, neighbourWor
 use Rattle.record.specs.Reduced.{reduced}
 use Rattle.stabilizer.specs.Lists.{GeneratorList, rows}
 use Rattle.pauli.specs.Pauli.{exponent}
-use Rattle.product_call.specs.Products.{chosenProduct, productLines}
-use Rattle.list_calls.specs.Calls.{checkLines}
+use Rattle.call_product.specs.Products.{chosenProduct, productLines}
+use Rattle.call_lists.specs.Calls.{checkLines}
 use Rattle.words.specs.Bits.{digit, wordOf}
 
 pub record Example : Type 0 where

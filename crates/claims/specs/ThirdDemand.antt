@@ -15,9 +15,9 @@ use Rattle.image.specs.Rule.{imageList}
 use Rattle.record.specs.Reduced.{reducedGraph}
 use Rattle.stabilizer.specs.Carries.{Carries}
 use Rattle.stabilizer.specs.Lists.{GeneratorList, rows}
-use Rattle.list_calls.specs.Calls.{checkLines}
+use Rattle.call_lists.specs.Calls.{checkLines}
 use Rattle.contracts.specs.Calls.{Call}
-use Rattle.compare_call.specs.Comparisons.{compareCall}
+use Rattle.call_compare.specs.Comparisons.{compareCall}
 use Rattle.claims.specs.PartsDemand.{SmallParts}
 
 -- "Done one after another": the graph complemented at each vertex of a list

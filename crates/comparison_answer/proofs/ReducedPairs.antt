@@ -21,7 +21,7 @@ use Rattle.comparison.specs.Choices.{choice, digitAt, leastCode, leastNumber, n
 use Rattle.comparison.specs.Compared.{induced, inducedCode}
 use Rattle.comparison.specs.Searches.{LeastAnswer}
 use Rattle.comparison.specs.Setting.{Codes, heldGenerators}
-use Rattle.comparison_islands.specs.Islands.{SoundPair}
+use Rattle.comparison_component.specs.Islands.{SoundPair}
 use Rattle.graph.specs.NeighbourWords.{graphIn}
 use Rattle.image_answer.specs.Answer.{IsImage}
 use Rattle.image.specs.Rule.{imageList}

@@ -41,7 +41,7 @@ use Rattle.words.proofs.SearchLaws.{some-in, some-true}
 use Rattle.words.proofs.Sums.{lt-or-ge}
 use Rattle.words.specs.Bits.{bit}
 use Rattle.words.specs.Search.{first, some}
-use Rattle.comparison_islands.specs.Islands.{
+use Rattle.comparison_component.specs.Islands.{
   Island,
   IslandAnswer,
   NumberedPair,

@@ -40,7 +40,7 @@ use Rattle.words.proofs.Trailing.{trailing-set}
 use Rattle.words.specs.Bits.{bit, _⊕_}
 use Rattle.words.specs.Search.{IsFirst}
 use Rattle.comparison_parts.proofs.IslandLaws.{island-closed}
-use Rattle.comparison_islands.specs.Islands.{Island, IslandAnswer, Progress, SoundPair, held}
+use Rattle.comparison_component.specs.Islands.{Island, IslandAnswer, Progress, SoundPair, held}
 
 module _ (n : ℕ) (nb cs nb₂ cs₂ : List ℕ) (P : SoundPair n nb cs nb₂ cs₂) where
   abbrev r : GraphRecord

@@ -1,6 +1,6 @@
 // The least choice of local Cliffords, part after part of the graphs.
-use comparison_islands::compare_listed;
-use comparison_islands::placed;
+use comparison_component::compare_listed;
+use comparison_component::placed;
 use parts_records::vertices;
 use parts_words::part;
 use parts_words::spread;
@@ -13,7 +13,7 @@ ghost use Rattle.comparison.specs.Searches.{LeastAnswer};
 ghost use Rattle.comparison.specs.Setting.{heldGenerators};
 ghost use Rattle.graph.specs.NeighbourWords.{graphIn};
 ghost use Rattle.parts.specs.Parts.{partAbove};
-ghost use Rattle.comparison_islands.specs.Islands.{Island, IslandAnswer, SoundPair, held};
+ghost use Rattle.comparison_component.specs.Islands.{Island, IslandAnswer, SoundPair, held};
 
 // Whether a choice was found, and the choice.
 pub struct Whole {

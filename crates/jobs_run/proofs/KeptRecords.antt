@@ -43,9 +43,9 @@ use Rattle.record.proofs.WrittenRecords.{record-passes, reduced-passes, written
 use Rattle.record.specs.Accepted.{AcceptedRecord}
 use Rattle.record.specs.Lent.{LentRecord, codeNumbers, heldRecord, heldRows, neighbourWords}
 use Rattle.record.specs.Records.{GraphRecord, complementRecord, rowsOf}
-use Rattle.record_calls.proofs.InPlaceLines.{complement-ready, cz-ready, eight-passes, measure-ready}
-use Rattle.record_calls.proofs.MeasureLines.{measure-passes}
-use Rattle.record_calls.specs.Knowing.{Known}
+use Rattle.call_gates.proofs.InPlaceLines.{complement-ready, cz-ready, eight-passes, measure-ready}
+use Rattle.call_gates.proofs.MeasureLines.{measure-passes}
+use Rattle.call_gates.specs.Knowing.{Known}
 use Rattle.stabilizer.specs.Groups.{Proper}
 use Rattle.words.proofs.Flags.{neither}
 use Rattle.words.specs.Bits.{isOdd}

@@ -25,8 +25,8 @@ use Rattle.jobs.specs.declared.Op.the-variants.{Complement, Cz, Gate, Measure, 
 use Rattle.jobs.specs.declared.Step.{Step}
 use Rattle.operations.specs.Steps.{leaves}
 use Rattle.record.specs.Lent.{LentRecord, recordLines}
-use Rattle.record_calls.proofs.InPlaceCalls.{left-by-call}
-use Rattle.record_calls.specs.InPlaceCalls.{inPlaceCall, measureCall}
+use Rattle.call_gates.proofs.InPlaceCalls.{left-by-call}
+use Rattle.call_gates.specs.InPlaceCalls.{inPlaceCall, measureCall}
 use Rattle.words.proofs.Flags.{neither}
 use Rattle.jobs.proofs.WrongFields.{fields-refuse}
 use Rattle.jobs_run.specs.StepRuns.{Rewriting, StepRun}

@@ -4,17 +4,17 @@ use jobs::Op;
 use jobs::Step;
 use jobs::unused_set;
 use jobs::wrong_value;
-use measure_call::measure_known;
-use record_calls::cz_known;
-use record_calls::gate_known;
-use record_calls::known_refusal;
-use rewriting_calls::complement_known;
-use rewriting_calls::pivot_known;
+use call_measure::measure_known;
+use call_gates::cz_known;
+use call_gates::gate_known;
+use call_gates::known_refusal;
+use call_complement::complement_known;
+use call_complement::pivot_known;
 ghost use Prim.Native.Nat.{_%_, _+_, _/_, _<_};
 ghost use Rattle.contracts.specs.Calls.{Call};
 ghost use Rattle.jobs.specs.Asked.{operation};
-ghost use Rattle.record_calls.specs.InPlaceCalls.{inPlaceCall, measureCall};
-ghost use Rattle.record_calls.specs.Knowing.{Known};
+ghost use Rattle.call_gates.specs.InPlaceCalls.{inPlaceCall, measureCall};
+ghost use Rattle.call_gates.specs.Knowing.{Known};
 ghost use Rattle.jobs_run.specs.StepRuns.{Rewriting, StepRun};
 
 // A measurement with the value 2 × (Pauli − 1) + outcome. A refused one answers 0 and 0.

@@ -21,7 +21,7 @@ use Rattle.record.specs.Reduced.{reduced}
 use Rattle.stabilizer.proofs.Accepted.{accepted-list}
 use Rattle.stabilizer.proofs.SharedTests.{length-passes}
 use Rattle.stabilizer.specs.Lists.{GeneratorList, listLines, rows}
-use Rattle.list_calls.specs.Calls.{checkLines, reduceCall, reduceLines}
+use Rattle.call_lists.specs.Calls.{checkLines, reduceCall, reduceLines}
 use Rattle.text.specs.Text.{Printable, recordText, refusedText}
 use Rattle.words.proofs.Sums.{lt-or-ge}
 use Rattle.words.specs.Bits.{wordOf}

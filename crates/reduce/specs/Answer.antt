@@ -11,7 +11,7 @@ use Rattle.buffers.specs.Refusals.{firstFitting}
 use Rattle.record.specs.Lent.{codeNumbers, neighbourWords}
 use Rattle.record.specs.Reduced.{reduced}
 use Rattle.stabilizer.specs.Lists.{GeneratorList, rows}
-use Rattle.list_calls.specs.Calls.{checkLines}
+use Rattle.call_lists.specs.Calls.{checkLines}
 use Rattle.text.specs.Scan.{begin, fed, reading, verdict}
 use Rattle.text.specs.Text.{HasForm, Line, Printed, TextOf, recordText, refusedText}
 use Rattle.text.specs.declared.scan.Scan.{Scan}

@@ -1,7 +1,7 @@
 // Reads a generator list from standard input, to its end and in blocks, and prints its reduced record or a refusal.
 use libc::STDIN_FILENO;
 use libc::STDOUT_FILENO;
-use list_calls::reduce;
+use call_lists::reduce;
 use text::scan::Verdict;
 use text_blocks::finish;
 use text_blocks::scan_block;

@@ -1,15 +1,15 @@
 // The public calls as C sees them. Each passes its arguments on to the proved call that has the same contract.
 mod ties;
 
-ghost use Rattle.compare_call.specs.Comparisons.{compareCall};
+ghost use Rattle.call_compare.specs.Comparisons.{compareCall};
 ghost use Rattle.contracts.specs.Calls.{Call};
-ghost use Rattle.cut_call.specs.Cuts.{cutCall};
-ghost use Rattle.generate_call.specs.Generated.{generateCall};
-ghost use Rattle.image_call.specs.Images.{imageCall};
-ghost use Rattle.list_calls.specs.Calls.{checkCall, expandCall, reduceCall};
+ghost use Rattle.call_cut.specs.Cuts.{cutCall};
+ghost use Rattle.call_generate.specs.Generated.{generateCall};
+ghost use Rattle.call_image.specs.Images.{imageCall};
+ghost use Rattle.call_lists.specs.Calls.{checkCall, expandCall, reduceCall};
 ghost use Rattle.operations.specs.Steps.{complementOf, czOn, gateWith, pivotOf};
-ghost use Rattle.product_call.specs.Products.{productCall};
-ghost use Rattle.record_calls.specs.InPlaceCalls.{inPlaceCall, measureCall};
+ghost use Rattle.call_product.specs.Products.{productCall};
+ghost use Rattle.call_gates.specs.InPlaceCalls.{inPlaceCall, measureCall};
 
 // Lines 2, 4, 5, 6, 9 and 10 of a generator list.
 #[no_mangle]
@@ -17,7 +17,7 @@ pub extern "C" fn sukhlent_check(n: u64, signs: &[u8], z: &[u64], x: &[u64]) -> 
     ensures { λ r. ⌜ Call (checkCall
         (record { n = n; signs = now (signs .entry); z = now (z .entry); x = now (x .entry) })) r ⌝ }
 {
-    list_calls::check(n, signs, z, x)
+    call_lists::check(n, signs, z, x)
 }
 
 // The reduced record of a generator list.
@@ -34,7 +34,7 @@ pub extern "C" fn sukhlent_reduce(
         (record { n = n; signs = now (signs .entry); z = now (z .entry); x = now (x .entry) })
         (now (neighbours .entry)) (now (codes .entry)) (now (neighbours .exit)) (now (codes .exit))) r ⌝ }
 {
-    list_calls::reduce(n, signs, z, x, neighbours, codes)
+    call_lists::reduce(n, signs, z, x, neighbours, codes)
 }
 
 // The generators of a record, in order.
@@ -52,7 +52,7 @@ pub extern "C" fn sukhlent_expand(
         (now (signs .entry)) (now (z .entry)) (now (x .entry))
         (now (signs .exit)) (now (z .exit)) (now (x .exit))) r ⌝ }
 {
-    list_calls::expand(n, neighbours, codes, signs, z, x)
+    call_lists::expand(n, neighbours, codes, signs, z, x)
 }
 
 // A code applied after the code held at a qubit, and the reduced record.
@@ -68,7 +68,7 @@ pub extern "C" fn sukhlent_gate(
         (record { n = n; neighbours = now (neighbours .entry); codes = now (codes .entry) })
         (gateWith qubit code) (now (neighbours .exit)) (now (codes .exit))) r ⌝ }
 {
-    record_calls::gate(n, neighbours, codes, qubit, code)
+    call_gates::gate(n, neighbours, codes, qubit, code)
 }
 
 // CZ on two qubits, and the reduced record.
@@ -84,7 +84,7 @@ pub extern "C" fn sukhlent_cz(
         (record { n = n; neighbours = now (neighbours .entry); codes = now (codes .entry) })
         (czOn a b) (now (neighbours .exit)) (now (codes .exit))) r ⌝ }
 {
-    record_calls::cz(n, neighbours, codes, a, b)
+    call_gates::cz(n, neighbours, codes, a, b)
 }
 
 // A Pauli measured at a qubit: the outcome, whether it was determined, and the reduced record.
@@ -104,7 +104,7 @@ pub extern "C" fn sukhlent_measure(
         pauli qubit outcome (now (answer .entry)) (now (determined .entry))
         (now (neighbours .exit)) (now (codes .exit)) (now (answer .exit)) (now (determined .exit))) r ⌝ }
 {
-    measure_call::measure(
+    call_measure::measure(
         n,
         neighbours,
         codes,
@@ -128,7 +128,7 @@ pub extern "C" fn sukhlent_complement(
         (record { n = n; neighbours = now (neighbours .entry); codes = now (codes .entry) })
         (complementOf a) (now (neighbours .exit)) (now (codes .exit))) r ⌝ }
 {
-    rewriting_calls::complement(n, neighbours, codes, a)
+    call_complement::complement(n, neighbours, codes, a)
 }
 
 // A pivot on an edge; the record is not reduced.
@@ -144,7 +144,7 @@ pub extern "C" fn sukhlent_pivot(
         (record { n = n; neighbours = now (neighbours .entry); codes = now (codes .entry) })
         (pivotOf j k) (now (neighbours .exit)) (now (codes .exit))) r ⌝ }
 {
-    rewriting_calls::pivot(n, neighbours, codes, j, k)
+    call_complement::pivot(n, neighbours, codes, j, k)
 }
 
 // The image graph, its signs, and the list of the vertices complemented.
@@ -163,7 +163,7 @@ pub extern "C" fn sukhlent_image(
         (now (image .entry)) (now (signs .entry)) (now (list .entry)) (now (count .entry))
         (now (image .exit)) (now (signs .exit)) (now (list .exit)) (now (count .exit))) r ⌝ }
 {
-    image_call::image(n, neighbours, codes, image, signs, list, count)
+    call_image::image(n, neighbours, codes, image, signs, list, count)
 }
 
 // The rank of the edges between the marked side of a record's vertices and the other.
@@ -179,7 +179,7 @@ pub extern "C" fn sukhlent_cut(
         (record { n = n; neighbours = now (neighbours .entry); codes = now (codes .entry) }) side
         (now (rank .entry)) (now (rank .exit))) r ⌝ }
 {
-    cut_call::cut(n, neighbours, codes, side, rank)
+    call_cut::cut(n, neighbours, codes, side, rank)
 }
 
 // The product of the rows that a word chooses, and the power of i in front of its letters.
@@ -199,7 +199,7 @@ pub extern "C" fn sukhlent_product(
         (now («product_z» .entry)) (now («product_x» .entry)) (now (phase .entry))
         (now («product_z» .exit)) (now («product_x» .exit)) (now (phase .exit))) r ⌝ }
 {
-    product_call::product(n, signs, z, x, chosen, product_z, product_x, phase)
+    call_product::product(n, signs, z, x, chosen, product_z, product_x, phase)
 }
 
 // The least choice that carries the group of the first list onto that of the second, and the complementations that
@@ -224,7 +224,7 @@ pub extern "C" fn sukhlent_compare(
         (now (choice .entry)) (now (list .entry)) (now (count .entry))
         (now (choice .exit)) (now (list .exit)) (now (count .exit))) r ⌝ }
 {
-    compare_call::compare(n1, signs1, z1, x1, n2, signs2, z2, x2, choice, list, count)
+    call_compare::compare(n1, signs1, z1, x1, n2, signs2, z2, x2, choice, list, count)
 }
 
 // The text of the job of `count` steps that is drawn from a seed, at the start of the buffer, and its length.
@@ -239,5 +239,5 @@ pub extern "C" fn sukhlent_generate(
     ensures { λ r. ⌜ Call (generateCall n count seed (now (text .entry)) (now (length .entry))
         (now (text .exit)) (now (length .exit))) r ⌝ }
 {
-    generate_call::generate(n, count, seed, text, length)
+    call_generate::generate(n, count, seed, text, length)
 }

@@ -9,14 +9,14 @@ use Rattle.comparison_parts.proofs.IslandLaws.{
   part-accepted,
   part-refused,
 }
-use Rattle.comparison_islands.specs.Islands.{NumberedPair, PartAnswer}
+use Rattle.comparison_component.specs.Islands.{NumberedPair, PartAnswer}
 use borrow.Author.Needs.{needs}
 use Rattle.comparison_parts.proofs.compare_island.Statement.{statement}
 use Rattle.comparison_parts.proofs.compare_island.Tie as tie
 use Rattle.comparison_parts.proofs.compare_island.Reads as reads
 use Rattle.comparison_parts.proofs.compare_island.Lts as lts
-use Rattle.comparison_islands.proofs.compare_listed.Reads as compare-listed-reads
-use Rattle.comparison_islands.proofs.placed.Reads as placed-reads
+use Rattle.comparison_component.proofs.compare_listed.Reads as compare-listed-reads
+use Rattle.comparison_component.proofs.placed.Reads as placed-reads
 use Rattle.parts_records.proofs.vertices.Reads as vertices-reads
 use Rattle.parts_words.proofs.spread.Reads as spread-reads
 

@@ -14,7 +14,7 @@ use Rattle.comparison_parts.proofs.Parting.{
   rest-falls,
   vertex-in-buffer,
 }
-use Rattle.comparison_islands.specs.Islands.{IslandAnswer, Progress, held}
+use Rattle.comparison_component.specs.Islands.{IslandAnswer, Progress, held}
 use borrow.Author.Needs.{needs}
 use Rattle.comparison_parts.proofs.compare_parts.Statement.{statement}
 use Rattle.comparison_parts.proofs.compare_parts.Tie as tie

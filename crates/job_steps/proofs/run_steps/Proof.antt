@@ -6,8 +6,8 @@ use native.Mathlib.Omega.{arith}
 use borrow.Author.Needs.{needs}
 use Rattle.jobs_run.proofs.KeptRecords.{step-known}
 use Rattle.record.specs.Lent.{LentRecord}
-use Rattle.record_calls.proofs.KnownRecords.{known-by}
-use Rattle.record_calls.specs.Knowing.{Known}
+use Rattle.call_gates.proofs.KnownRecords.{known-by}
+use Rattle.call_gates.specs.Knowing.{Known}
 use Rattle.job_steps.proofs.Looping.{Upto, all-run, answer-small, line-fits, names-room, none-run, one-run}
 use Rattle.job_steps.proofs.run_steps.Statement.{statement}
 use Rattle.job_steps.proofs.run_steps.Tie as tie

@@ -1,0 +1,97 @@
+// The public call that measures a Pauli on a lent record in place.
+use operations::determined_number;
+use operations::outcome_number;
+use operations_measurements::contradicted;
+use operations_measurements::measure_record;
+use call_gates::in_place_refusal;
+ghost use mathlib.Core.Path.{_≡_};
+ghost use Rattle.contracts.specs.Calls.{Call};
+ghost use Rattle.buffers.specs.Refusals.{firstFitting};
+ghost use Rattle.operations.specs.Steps.{measureLines};
+ghost use Rattle.call_gates.specs.InPlaceCalls.{measureCall};
+ghost use Rattle.call_gates.specs.Knowing.{Known};
+
+// The number of the first line of a measurement that holds: those of its arguments, and 14 where a determined outcome
+// contradicts the supplied bit.
+fn measure_refusal(
+    n: u64,
+    neighbours: &[u64],
+    codes: &[u8],
+    pauli: u8,
+    qubit: u64,
+    outcome: u8,
+    known: bool,
+) -> u8
+    requires { ⌜ Known known (record { n = n; neighbours = now neighbours; codes = now codes }) ⌝ }
+    ensures { λ r. ⌜ r ≡ firstFitting (measureLines
+        (record { n = n; neighbours = now (neighbours .entry); codes = now (codes .entry) })
+        pauli qubit outcome) ⌝ }
+{
+    let six = (2 <= outcome) | ((pauli == 0) | (4 <= pauli));
+    let early = in_place_refusal(n, neighbours, codes, six, n <= qubit, known);
+    if early != 0 {
+        return early;
+    }
+    if contradicted(neighbours, codes, pauli, qubit as usize, outcome % 2 == 1) {
+        14
+    } else {
+        0
+    }
+}
+
+// A Pauli measured at a qubit: the outcome, whether it was determined, and the reduced record.
+pub fn measure_known(
+    n: u64,
+    neighbours: &mut [u64],
+    codes: &mut [u8],
+    pauli: u8,
+    qubit: u64,
+    outcome: u8,
+    answer: &mut u8,
+    determined: &mut u8,
+    known: bool,
+) -> u8
+    requires { ⌜ Known known (record { n = n; neighbours = now neighbours; codes = now codes }) ⌝ }
+    ensures { λ r. ⌜ Call (measureCall
+        (record { n = n; neighbours = now (neighbours .entry); codes = now (codes .entry) })
+        pauli qubit outcome (now (answer .entry)) (now (determined .entry))
+        (now (neighbours .exit)) (now (codes .exit)) (now (answer .exit)) (now (determined .exit))) r ⌝ }
+{
+    let early = measure_refusal(n, neighbours, codes, pauli, qubit, outcome, known);
+    if early != 0 {
+        return early;
+    }
+    let measured = measure_record(neighbours, codes, pauli, qubit as usize, outcome % 2 == 1);
+    *answer = outcome_number(measured);
+    *determined = determined_number(measured);
+    0
+}
+
+// The same where nothing is known of the record.
+pub fn measure(
+    n: u64,
+    neighbours: &mut [u64],
+    codes: &mut [u8],
+    pauli: u8,
+    qubit: u64,
+    outcome: u8,
+    answer: &mut u8,
+    determined: &mut u8,
+) -> u8
+    ensures { λ r. ⌜ Call (measureCall
+        (record { n = n; neighbours = now (neighbours .entry); codes = now (codes .entry) })
+        pauli qubit outcome (now (answer .entry)) (now (determined .entry))
+        (now (neighbours .exit)) (now (codes .exit)) (now (answer .exit)) (now (determined .exit))) r ⌝ }
+{
+    measure_known(
+        n,
+        neighbours,
+        codes,
+        pauli,
+        qubit,
+        outcome,
+        answer,
+        determined,
+        false,
+    )
+}

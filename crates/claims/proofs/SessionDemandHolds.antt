@@ -1,0 +1,174 @@
+-- The request on faster sessions: the answer of gate, CZ and measurement from the calls' contracts, once as the record
+-- is rewritten, and once as its list is changed and reduced.
+-- Assumes nothing.
+use mathlib.Core.Bool.{Bool, cond, false, true, _||_}
+use mathlib.Core.List.{List, []}
+use mathlib.Core.Logic.{_≢_}
+use mathlib.Core.Path.{ap, ap₂, refl, subst, sym, _∙_, _≡_}
+use Prim.Native.Nat.{_<_, ℕ}
+use lib.Dec.{leb}
+use borrow.Author.Tests.{eqb-false, leb-false}
+use Rattle.buffers.specs.Refusals.{firstFitting}
+use Rattle.clifford.specs.Clifford.{Clifford, cliffordOf}
+use Rattle.clifford.specs.Vectors.{act}
+use Rattle.contracts.specs.Calls.{Call}
+use Rattle.call_lists.specs.Calls.{expandCall, reduceCall}
+use Rattle.operations.proofs.CzGroups.{cz-proper}
+use Rattle.operations.proofs.Determined.{measured-proper}
+use Rattle.operations.proofs.Gating.{gated-row}
+use Rattle.operations.proofs.GroupAlone.{cz-of-group, measured-of-group, reduced-of-group}
+use Rattle.operations.specs.Cz.{czRows}
+use Rattle.operations.specs.Measurement.{answered, determinedNumber, measuredRows, outcomeNumber, pauliLetter, single}
+use Rattle.operations.specs.Steps.{Operation, argumentLines, czOn, gateWith, inPlaceLines, made, measurementOf}
+use Rattle.operations.specs.declared.Outcome.the-variants.{Chosen, Determined}
+use Rattle.pauli.specs.Pauli.{Pauli}
+use Rattle.pauli.specs.declared.Letter.{Letter}
+use Rattle.record.proofs.ExpansionBack.{ExpandedBack, expanded, expansion-back}
+use Rattle.record.specs.Accepted.{AcceptedRecord}
+use Rattle.record.specs.Lent.{LentRecord, codeNumbers, heldRecord, heldRows, neighbourWords}
+use Rattle.record.specs.Reduced.{reduced}
+use Rattle.call_gates.proofs.InPlaceLines.{eight-passes, held-accepted, six-passes}
+use Rattle.call_gates.proofs.MeasureLines.{measure-passes}
+use Rattle.stabilizer.proofs.Accepted.{accepted-list}
+use Rattle.stabilizer.proofs.Carried.{act-same}
+use Rattle.stabilizer.proofs.GroupLaws.{same-trans}
+use Rattle.stabilizer.proofs.Independence.{act-proper}
+use Rattle.stabilizer.proofs.ReadBack.{back-passes, back-same, rows-back}
+use Rattle.stabilizer.proofs.SharedTests.{length-passes}
+use Rattle.stabilizer.specs.Groups.{Proper, SameGroup}
+use Rattle.stabilizer.specs.Lists.{listLines, rows}
+use Rattle.words.proofs.Flags.{neither}
+use Rattle.words.specs.Bits.{isOdd}
+use Rattle.claims.proofs.SecondDemandLists.{holds-expanded}
+use Rattle.claims.proofs.SessionNumbers.{expanded-rows, member-equal, record-decides, three-pass}
+use Rattle.claims.specs.SessionDemand.{
+  ByExpanding,
+  CzByExpanding,
+  GatesByExpanding,
+  MeasurementsByExpanding,
+  ReducesTo,
+  changed,
+  czChange,
+  gateChange,
+  listIn,
+  measureChange,
+}
+
+-- ---- changes: lists go to lists, and equal groups to equal groups
+record OfGroups (n : ℕ) (f : (ℕ → Pauli) → ℕ → Pauli) : Type 0 where
+  proper : (R : ℕ → Pauli) → Proper n R → Proper n (f R)
+  group : (R S : ℕ → Pauli) → Proper n R → Proper n S → SameGroup n n R S → SameGroup n n (f R) (f S)
+
+codes-of-groups : (n : ℕ) (c : ℕ → Clifford) → OfGroups n (λ R j. act n c (R j))
+codes-of-groups n c =
+    record { proper = λ R P. act-proper n c R P; group = λ R S P Q E. act-same n n c R S E }
+
+cz-of-groups : (n a b : ℕ) → a < n → b < n → a ≢ b → OfGroups n (czRows a b)
+cz-of-groups n a b ha hb ab =
+    record {
+      proper = λ R P. cz-proper n a b ha hb ab R P;
+      group = λ R S P Q E. cz-of-group n a b ha hb ab R S E;
+    }
+
+measured-of-groups : (n : ℕ) (L : Letter) (q : ℕ) (b : Bool) → q < n → OfGroups n (λ R. measuredRows n R L q b)
+measured-of-groups n L q b hq =
+    record {
+      proper = λ R P. measured-proper n R P L q hq b;
+      group = λ R S P Q E. measured-of-group n L q hq R S P Q E b;
+    }
+
+-- ---- a record's list, changed and reduced
+module _ (l : LentRecord) (six eight : Bool) (no-line : firstFitting (inPlaceLines l six eight) ≡ 0)
+    (f : (ℕ → Pauli) → ℕ → Pauli) (O : OfGroups (l .n) f) (o : Operation)
+    (is : made l o ≡ reduced (l .n) (f (heldRows l))) (nb′ cs′ : List ℕ)
+    (neighbours-held : nb′ ≡ neighbourWords (l .n) (made l o)) (codes-held : cs′ ≡ codeNumbers (l .n) (made l o))
+  where
+    abbrev n : ℕ
+    n = l .n
+
+    abbrev S : ℕ → Pauli
+    S = rows (expanded l)
+
+    A : AcceptedRecord l
+    A = held-accepted l six eight no-line
+
+    X : ExpandedBack l
+    X = expansion-back l A
+
+    P : Proper n (f S)
+    P = O .proper S (X .list .proper)
+
+    equal-all : (s z x nb cs nb₂ cs₂ : List ℕ) → SameGroup n n (f S) (rows (listIn n s z x)) →
+        Call (reduceCall (listIn n s z x) nb cs nb₂ cs₂) 0 → (nb₂ ≡ nb′) × (cs₂ ≡ cs′)
+    equal-all s z x nb cs nb₂ cs₂ G D = (
+      D .held .0 ∙ ap (neighbourWords n) same ∙ sym neighbours-held,
+      D .held .1 .0 ∙ ap (codeNumbers n) same ∙ sym codes-held,
+    )
+      where
+        same : reduced n (rows (listIn n s z x)) ≡ made l o
+        same = sym (is ∙ reduced-of-group n (f (heldRows l)) (rows (listIn n s z x))
+            (O .proper (heldRows l) (A .proper)) (accepted-list (listIn n s z x) _ (sym (D .number)) .proper)
+            (same-trans (O .group (heldRows l) S (A .proper) (X .list .proper) (X .group)) G))
+
+    reduces-to : ReducesTo (expanded l) f nb′ cs′
+    reduces-to =
+        record {
+          generators = rows-back n (f S) P;
+          accepted = λ nb cs e d. ap (λ t. firstFitting (listLines (changed f (expanded l)) t))
+              (ap₂ _||_ (length-passes n nb e) (length-passes n cs d))
+              ∙ back-passes n (f S) P (A .positive) (A .upto);
+          equal = λ nb cs nb₂ cs₂ D. let t = changed f (expanded l) in
+              equal-all (t .signs) (t .z) (t .x) nb cs nb₂ cs₂ (back-same n (f S) P) D;
+          equal-all = equal-all;
+        }
+
+    by-expanding : ByExpanding l f nb′ cs′
+    by-expanding =
+        record {
+          accepted = λ s z x d e g. sym (record-decides l (six-passes l six eight no-line)
+              (eight-passes l six eight no-line) (three-pass n s z x d e g) []) ∙ no-line;
+          equal = λ s z x s′ z′ x′ D. subst (λ m. ReducesTo m f nb′ cs′) (sym (holds-expanded l s z x s′ z′ x′ D))
+              reduces-to;
+        }
+
+-- ---- gates and CZ
+pub gates-by-expanding : GatesByExpanding
+gates-by-expanding l q k nb′ cs′ C =
+    by-expanding l _ _ (sym (C .number)) (gateChange (l .n) q k) (codes-of-groups (l .n) _) (gateWith q k)
+    (λ i. reduced (l .n) (λ j. gated-row (l .n) (heldRecord l) q (cliffordOf k) j i)) nb′ cs′ (C .held .0)
+    (C .held .1 .0)
+
+pub cz-by-expanding : CzByExpanding
+cz-by-expanding l a b nb′ cs′ C =
+    let t = neither (leb (l .n) a) _ (eight-passes l _ _ (sym (C .number))) in
+    let u = neither (leb (l .n) b) _ (t .1) in
+    by-expanding l _ _ (sym (C .number)) (czChange a b)
+    (cz-of-groups (l .n) a b (leb-false (l .n) a (t .0)) (leb-false (l .n) b (u .0)) (eqb-false a b (u .1)))
+    (czOn a b) refl nb′ cs′ (C .held .0) (C .held .1 .0)
+
+-- ---- measurements
+-- lists with the same rows below n answer alike
+answered-equal : (n : ℕ) (R S : ℕ → Pauli) → ((j : ℕ) → j < n → R j ≡ S j) → (L : Letter) (q : ℕ) (b : Bool) →
+    answered n R L q b ≡ answered n S L q b
+answered-equal n R S h L q b =
+    ap₂ (λ u v. cond (u || v) (Determined (cond (u || v) v b)) (Chosen (cond (u || v) v b)))
+    (member-equal n R S h (single L q false)) (member-equal n R S h (single L q true))
+
+pub measurements-by-expanding : MeasurementsByExpanding
+measurements-by-expanding l pauli q b answer determined nb′ cs′ answer′ determined′ C =
+    record {
+      left = by-expanding l _ _ lines (measureChange (l .n) pauli q b)
+          (measured-of-groups (l .n) (pauliLetter pauli) q (isOdd b) (leb-false (l .n) q (eight-passes l _ _ lines)))
+          (measurementOf pauli q b) refl nb′ cs′ (C .held .1 .1 .0) (C .held .1 .1 .1 .0);
+      outcome = λ s z x s′ z′ x′ D. C .held .0 ∙ ap outcomeNumber (read s z x s′ z′ x′ D);
+      determined = λ s z x s′ z′ x′ D. C .held .1 .0 ∙ ap determinedNumber (read s z x s′ z′ x′ D);
+    }
+  where
+    lines : firstFitting (argumentLines l pauli q b) ≡ 0
+    lines = measure-passes l pauli q b (sym (C .number)) .0
+
+    read : (s z x s′ z′ x′ : List ℕ) → Call (expandCall l s z x s′ z′ x′) 0 →
+        answered (l .n) (heldRows l) (pauliLetter pauli) q (isOdd b)
+        ≡ answered (l .n) (rows (listIn (l .n) s′ z′ x′)) (pauliLetter pauli) q (isOdd b)
+    read s z x s′ z′ x′ D = answered-equal (l .n) (heldRows l) (rows (listIn (l .n) s′ z′ x′))
+        (expanded-rows l (held-accepted l _ _ lines) s z x s′ z′ x′ D) (pauliLetter pauli) q (isOdd b)
