@@ -76,17 +76,17 @@
 #define SUKHLENT_PAULI_Z 3
 
 /* Codes of common gates. */
-#define SUKHLENT_I 0
-#define SUKHLENT_X 1
-#define SUKHLENT_Z 2
-#define SUKHLENT_Y 3
-#define SUKHLENT_S 4
-#define SUKHLENT_S_DAG 6
-#define SUKHLENT_H 8
-#define SUKHLENT_SQRT_Y_DAG 9
-#define SUKHLENT_SQRT_Y 10
-#define SUKHLENT_SQRT_X_DAG 12
-#define SUKHLENT_SQRT_X 13
+#define SUKHLENT_GATE_I 0
+#define SUKHLENT_GATE_X 1
+#define SUKHLENT_GATE_Z 2
+#define SUKHLENT_GATE_Y 3
+#define SUKHLENT_GATE_S 4
+#define SUKHLENT_GATE_S_DAG 6
+#define SUKHLENT_GATE_H 8
+#define SUKHLENT_GATE_SQRT_Y_DAG 9
+#define SUKHLENT_GATE_SQRT_Y 10
+#define SUKHLENT_GATE_SQRT_X_DAG 12
+#define SUKHLENT_GATE_SQRT_X 13
 
 /* The most qubits, and the places of buffers whose length does not depend on n. */
 #define SUKHLENT_QUBITS 64
@@ -94,9 +94,9 @@
 #define SUKHLENT_TEXT_PLACES 61463
 #define SUKHLENT_ORBIT_PLACES 32768
 
-/* A session starts with every qubit in +Z: no neighbours, every code SUKHLENT_H, no qubit used.
- * CNOT is SUKHLENT_H at the target, CZ, SUKHLENT_H at the target. A random outcome: ask with one
- * bit, and where that is refused by SUKHLENT_CONTRADICTED, with the other. Two states are equal
+/* A session starts with every qubit in +Z: no neighbours, every code SUKHLENT_GATE_H, no qubit
+ * used. CNOT is SUKHLENT_GATE_H at the target, CZ, SUKHLENT_GATE_H at the target. A random
+ * outcome: ask with one bit, and where that is refused by SUKHLENT_CONTRADICTED, with the other. Two states are equal
  * exactly if their reduced records are equal buffers. No call keeps anything between calls: two
  * threads may call at once, each with buffers of its own, and buffers that are only read (const)
  * may be the same one. */

@@ -23,7 +23,7 @@ class Header(unittest.TestCase):
 
     def test_gates_have_their_codes(self):
         for name in ("I", "X", "Z", "Y", "S", "S_DAG", "H", "SQRT_Y_DAG", "SQRT_Y", "SQRT_X_DAG", "SQRT_X"):
-            self.assertEqual(NAMES[NUMBERS[name]], name)
+            self.assertEqual(NAMES[NUMBERS[f"GATE_{name}"]], name)
 
     def test_the_version_is_said_alike(self):
         major, minor, patch = map(int, re.search(r'VERSION_TEXT "(\d+)\.(\d+)\.(\d+)"', HEADER).groups())
