@@ -53,6 +53,85 @@
 #include <stddef.h>
 #include <stdint.h>
 
+/* The version of this header: major * 10000 + minor * 100 + patch, and as a text. */
+#define SUKHLENT_VERSION 1200
+#define SUKHLENT_VERSION_TEXT "0.12.0"
+
+/* Refusals by name, in checking order. */
+#define SUKHLENT_ACCEPTED 0
+#define SUKHLENT_FORM 1
+#define SUKHLENT_STEPS 15
+#define SUKHLENT_COUNT 2
+#define SUKHLENT_LENGTH 4
+#define SUKHLENT_STRAY 5
+#define SUKHLENT_VALUE 6
+#define SUKHLENT_GRAPH 7
+#define SUKHLENT_QUBIT 8
+#define SUKHLENT_USED 16
+#define SUKHLENT_ANTICOMMUTE 9
+#define SUKHLENT_DEPENDENT 10
+#define SUKHLENT_LARGE 3
+#define SUKHLENT_CONTRADICTED 14
+#define SUKHLENT_IMAGE_C 11
+#define SUKHLENT_IMAGE_Y 12
+#define SUKHLENT_INEQUIVALENT 13
+
+/* Paulis for sukhlent_measure. */
+#define SUKHLENT_PAULI_X 1
+#define SUKHLENT_PAULI_Y 2
+#define SUKHLENT_PAULI_Z 3
+
+/* Codes of common gates. */
+#define SUKHLENT_GATE_I 0
+#define SUKHLENT_GATE_X 1
+#define SUKHLENT_GATE_Z 2
+#define SUKHLENT_GATE_Y 3
+#define SUKHLENT_GATE_S 4
+#define SUKHLENT_GATE_S_DAG 6
+#define SUKHLENT_GATE_H 8
+#define SUKHLENT_GATE_SQRT_Y_DAG 9
+#define SUKHLENT_GATE_SQRT_Y 10
+#define SUKHLENT_GATE_SQRT_X_DAG 12
+#define SUKHLENT_GATE_SQRT_X 13
+
+/* The most qubits, and the places of buffers whose length does not depend on n. */
+#define SUKHLENT_QUBITS 64
+#define SUKHLENT_LIST_PLACES 96
+#define SUKHLENT_TEXT_PLACES 61463
+#define SUKHLENT_ORBIT_PLACES 32768
+
+/* A session starts with every qubit in +Z: no neighbours, every code SUKHLENT_GATE_H, no qubit
+ * used. CNOT is SUKHLENT_GATE_H at the target, CZ, SUKHLENT_GATE_H at the target. A random
+ * outcome: ask with one bit, and where that is refused by SUKHLENT_CONTRADICTED, with the other. Two states are equal
+ * exactly if their reduced records are equal buffers. No call keeps anything between calls: two
+ * threads may call at once, each with buffers of its own, and buffers that are only read (const)
+ * may be the same one. */
+
+/* What a refusal number means, in words. */
+static inline const char *sukhlent_refusal_text(uint8_t number)
+{
+    switch (number) {
+    case SUKHLENT_ACCEPTED: return "accepted";
+    case SUKHLENT_FORM: return "the text does not have its form";
+    case SUKHLENT_STEPS: return "a job has more than 4,096 steps";
+    case SUKHLENT_COUNT: return "n is 0 or above the call's limit, or the two lists' n differ";
+    case SUKHLENT_LENGTH: return "a buffer's length is not what is required";
+    case SUKHLENT_STRAY: return "a word has a bit at or above n";
+    case SUKHLENT_VALUE: return "a sign or outcome is above 1, a code above 23, a Pauli not 1 to 3, or a seed 0";
+    case SUKHLENT_GRAPH: return "a graph is not simple, or a used vertex has a neighbour or a code that no measurement leaves";
+    case SUKHLENT_QUBIT: return "a qubit number is n or more, or a qubit is named twice";
+    case SUKHLENT_USED: return "the call names a used qubit";
+    case SUKHLENT_ANTICOMMUTE: return "two generators do not commute";
+    case SUKHLENT_DEPENDENT: return "the generators are dependent";
+    case SUKHLENT_LARGE: return "a connected part has more than 20 vertices";
+    case SUKHLENT_CONTRADICTED: return "a determined outcome contradicts the supplied bit";
+    case SUKHLENT_IMAGE_C: return "the image loop stops with some C = 1";
+    case SUKHLENT_IMAGE_Y: return "the image has Y at some vertex's own place";
+    case SUKHLENT_INEQUIVALENT: return "no choice of local Cliffords carries one group to the other";
+    default: return "no number of the published list";
+    }
+}
+
 #ifdef __cplusplus
 extern "C" {
 #endif

@@ -1,0 +1,49 @@
+"""The 24 local Cliffords by number and by name.
+
+A code is 4 × class + 2 × sx + sz. The class gives the letters to which X and Z go; sx or sz is 1 where that image is
+negative. Names are those that Stim uses.
+"""
+
+from __future__ import annotations
+
+#: NAMES[code]: its name
+NAMES: tuple[str, ...] = (
+    "I", "X", "Z", "Y",
+    "S", "H_XY", "S_DAG", "H_NXY",
+    "H", "SQRT_Y_DAG", "SQRT_Y", "H_NXZ",
+    "SQRT_X_DAG", "SQRT_X", "H_YZ", "H_NYZ",
+    "C_XYZ", "C_XYNZ", "C_XNYZ", "C_NXYZ",
+    "C_ZYX", "C_ZNYX", "C_ZYNX", "C_NZYX",
+)  # fmt: skip
+
+#: short forms for drawings
+SYMBOLS: tuple[str, ...] = (
+    "", "X", "Z", "Y", "S", "H_XY", "S†", "H_NXY", "H", "√Y†", "√Y", "H_NXZ",
+    "√X†", "√X", "H_YZ", "H_NYZ", "C_XYZ", "C_XYNZ", "C_XNYZ", "C_NXYZ", "C_ZYX", "C_ZNYX", "C_ZYNX", "C_NZYX",
+)  # fmt: skip
+
+_LETTERS = (("X", "Z"), ("Y", "Z"), ("Z", "X"), ("X", "Y"), ("Y", "X"), ("Z", "Y"))
+
+
+def code(gate: int | str) -> int:
+    """The code of a gate given by name or by number.
+
+    >>> code("H"), code("sqrt_x"), code(4)
+    (8, 13, 4)
+    """
+    if isinstance(gate, int):
+        return gate
+    try:
+        return NAMES.index(gate.upper())
+    except ValueError:
+        raise ValueError(f"no local Clifford is called {gate!r}; the names are {', '.join(NAMES)}") from None
+
+
+def images(number: int) -> tuple[str, str]:
+    """Where a code sends X and Z.
+
+    >>> images(8), images(6)
+    (('+Z', '+X'), ('-Y', '+Z'))
+    """
+    x, z = _LETTERS[number // 4]
+    return "+-"[number >> 1 & 1] + x, "+-"[number & 1] + z

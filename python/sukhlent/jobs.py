@@ -1,0 +1,108 @@
+"""Jobs: sessions written as text, one step a line, drawn from a seed or typed by hand."""
+
+from __future__ import annotations
+
+import re
+from dataclasses import dataclass
+
+from . import library
+from .refusals import Refusal, accept
+from .state import State
+
+_OPS = ("gate", "cz", "measure", "complement", "pivot")
+_FIELD = r"(0|[1-9][0-9]{0,2})"
+_STEP = re.compile(rf"({'|'.join(_OPS)}) {_FIELD} {_FIELD} {_FIELD}")
+
+
+@dataclass(frozen=True)
+class Step:
+    """A step: op, two qubits and a value; an unused field is 0."""
+
+    op: str
+    a: int
+    b: int
+    value: int
+
+
+@dataclass(frozen=True)
+class Result:
+    """What a step answered: its refusal (0 where it ran), the outcome and whether it was determined."""
+
+    refusal: int
+    outcome: int
+    determined: int
+
+
+def generate(n: int, count: int, seed: int) -> str:
+    """The text of a job that anyone can repeat: `count` steps on n qubits, drawn from a seed that is not 0.
+
+    >>> print(generate(3, 2, 1), end="")
+    qubits
+    3
+    op a b value
+    gate 1 0 4
+    measure 2 0 5
+    """
+    text, length = library.octets([0] * 61463), library.word()
+    accept(library.call("generate", n, count, seed, text, length))
+    return bytes(text[: length.value]).decode()
+
+
+def parse_job(text: str) -> tuple[int, list[Step]]:
+    """n and the steps of a job text; refused by 1, 15 or 2."""
+    lines = text.split("\n")
+    n = re.fullmatch(_FIELD, lines[1]) if len(lines) > 3 else None
+    steps = [_STEP.fullmatch(line) for line in lines[3:-1]]
+    if n is None or lines[0] != "qubits" or lines[2] != "op a b value" or lines[-1] != "" or None in steps:
+        raise Refusal(1)
+    if len(steps) > 4096:
+        raise Refusal(15)
+    if not 1 <= int(n[1]) <= 64:
+        raise Refusal(2)
+    return int(n[1]), [Step(step[1], *map(int, step.group(2, 3, 4))) for step in steps]
+
+
+def run_job(text: str) -> tuple[State, list[Result]]:
+    """Runs a job from +Z at every qubit: the state after it, and what each step answered. A refused step changes
+    nothing, and the job goes on.
+
+    >>> state, results = run_job("qubits\\n2\\nop a b value\\ngate 0 0 8\\nmeasure 0 0 4\\ngate 0 0 8\\n")
+    >>> results
+    [Result(refusal=0, outcome=0, determined=0), Result(refusal=0, outcome=0, determined=0), \
+Result(refusal=16, outcome=0, determined=0)]
+    """
+    n, steps = parse_job(text)
+    state = State.zeros(n)
+    return state, [run_step(state, step) for step in steps]
+
+
+def run_step(state: State, step: Step) -> Result:
+    """One step of a job, in place."""
+    unused = {"gate": step.b, "cz": step.value, "measure": step.b, "complement": step.b | step.value, "pivot": step.value}
+    if unused[step.op] != 0:
+        return Result(6, 0, 0)
+    try:
+        if step.op == "gate":
+            state.gate(step.a, min(step.value, 255))
+        elif step.op == "cz":
+            state.cz(step.a, step.b)
+        elif step.op == "complement":
+            state.complement(step.a)
+        elif step.op == "pivot":
+            _pivot(state, step.a, step.b)
+        else:
+            if step.value > 5:
+                raise Refusal(6)
+            measured = state.measure("XYZ"[step.value // 2], step.a, step.value % 2)
+            return Result(0, measured.outcome, int(measured.determined))
+    except Refusal as refusal:
+        return Result(refusal.number, 0, 0)
+    return Result(0, 0, 0)
+
+
+def _pivot(state: State, a: int, b: int) -> None:
+    """Complements at a, b, a where the two have an edge; refused by 8 where they have none."""
+    if max(a, b) >= state.n or a == b or not state.neighbours[a] >> b & 1:
+        raise Refusal(8)
+    for vertex in (a, b, a):
+        state.complement(vertex)

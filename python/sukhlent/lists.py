@@ -1,0 +1,79 @@
+"""Generator lists: n signed Pauli rows on n qubits."""
+
+from __future__ import annotations
+
+from dataclasses import dataclass
+
+from . import library
+from .refusals import accept
+
+_LETTERS = "IXZY"
+
+
+@dataclass(frozen=True)
+class GeneratorList:
+    """Signs (1 for minus), z words and x words; bit q of a word belongs to qubit q.
+
+    >>> bell = GeneratorList.from_strings("+XX", "-ZZ")
+    >>> bell.signs, bell.z, bell.x
+    ((0, 1), (0, 3), (3, 0))
+    >>> print(bell, end="")
+    +XX
+    -ZZ
+    """
+
+    signs: tuple[int, ...]
+    z: tuple[int, ...]
+    x: tuple[int, ...]
+
+    @property
+    def n(self) -> int:
+        """The number of generators and of qubits."""
+        return len(self.signs)
+
+    @classmethod
+    def from_strings(cls, *lines: str) -> GeneratorList:
+        """The list of strings such as `+XZ`, leftmost letter qubit 0, or of one text of lines.
+
+        >>> GeneratorList.from_strings("+XI", "+ZI")
+        Traceback (most recent call last):
+        ...
+        sukhlent.refusals.Refusal: refused 9: two generators do not commute
+        """
+        text = lines[0] if len(lines) == 1 and "\n" in lines[0] else "".join(line + "\n" for line in lines)
+        octets = library.octets(text.encode())
+        n = text.count("\n")
+        signs, z, x = library.octets([0] * n), library.words([0] * n), library.words([0] * n)
+        accept(library.call("read_strings", octets, signs, z, x))
+        return cls(tuple(signs), tuple(z), tuple(x))
+
+    def __str__(self) -> str:
+        text = library.octets([0] * (self.n * (self.n + 2)))
+        accept(library.call("write_strings", self.n, *self.buffers(), text))
+        return bytes(text).decode()
+
+    def strings(self) -> list[str]:
+        """The generators as strings, one each."""
+        return str(self).splitlines()
+
+    def buffers(self) -> tuple:
+        """Signs, z words and x words as lent buffers."""
+        return library.octets(self.signs), library.words(self.z), library.words(self.x)
+
+    def check(self) -> None:
+        """Raises `Refusal` where the list is none: wrong words, not commuting, or dependent."""
+        accept(library.call("check", self.n, *self.buffers()))
+
+    def product(self, *rows: int) -> tuple[int, str]:
+        """The product of these rows in index order: the power of i in front of it, and its letters.
+
+        The rows of the list need neither commute nor be independent.
+
+        >>> GeneratorList((0, 0), (0, 1), (1, 1)).product(0, 1)
+        (1, 'ZI')
+        """
+        z, x, phase = library.word(), library.word(), library.octet()
+        chosen = sum({1 << row for row in rows})
+        accept(library.call("product", self.n, *self.buffers(), chosen, z, x, phase))
+        letters = (_LETTERS[2 * (z.value >> q & 1) + (x.value >> q & 1)] for q in range(self.n))
+        return phase.value, "".join(letters)

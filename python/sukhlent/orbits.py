@@ -1,0 +1,40 @@
+"""The graphs that local complementations reach from one, on up to six vertices."""
+
+from __future__ import annotations
+
+import ctypes
+from typing import Iterable
+
+from . import library
+from .refusals import accept
+
+
+def number_of(n: int, edges: Iterable[tuple[int, int]]) -> int:
+    """A graph's number: its pairs 0-1, 0-2, .., 1-2, .. read as bits, the first lowest.
+
+    >>> number_of(4, [(0, 3)])
+    4
+    """
+    pairs = [(a, b) for a in range(n) for b in range(a + 1, n)]
+    return sum(1 << pairs.index((min(a, b), max(a, b))) for a, b in edges)
+
+
+def edges_of(n: int, number: int) -> list[tuple[int, int]]:
+    """The edges of the graph with this number."""
+    pairs = [(a, b) for a in range(n) for b in range(a + 1, n)]
+    return [pair for place, pair in enumerate(pairs) if number >> place & 1]
+
+
+def orbit(n: int, edges: Iterable[tuple[int, int]]) -> list[int]:
+    """The numbers of all graphs that complementations reach from this one, rising.
+
+    >>> orbit(3, [(0, 1), (1, 2)])
+    [3, 5, 6, 7]
+    """
+    neighbours = [0] * n
+    for a, b in edges:
+        neighbours[a] |= 1 << b
+        neighbours[b] |= 1 << a
+    places, count = (ctypes.c_uint16 * 32768)(), library.word()
+    accept(library.call("orbit", n, library.words(neighbours), places, count))
+    return list(places[: count.value])

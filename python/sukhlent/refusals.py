@@ -1,0 +1,45 @@
+"""The published list of refusals, in checking order, and the exception that carries one."""
+
+from __future__ import annotations
+
+#: number: what is wrong; in checking order
+TEXTS: dict[int, str] = {
+    1: "the text does not have its form",
+    15: "a job has more than 4,096 steps",
+    2: "n is 0 or above the call's limit, or the two lists' n differ",
+    4: "a buffer's length is not what is required",
+    5: "a word has a bit at or above n",
+    6: "a sign or outcome is above 1, a code above 23, a Pauli not 1 to 3, or a seed 0",
+    7: "a graph is not simple, or a used vertex has a neighbour or a code that no measurement leaves",
+    8: "a qubit number is n or more, or a qubit is named twice",
+    16: "the call names a used qubit",
+    9: "two generators do not commute",
+    10: "the generators are dependent",
+    3: "a connected part has more than 20 vertices",
+    14: "a determined outcome contradicts the supplied bit",
+    11: "the image loop stops with some C = 1",
+    12: "the image has Y at some vertex's own place",
+    13: "no choice of local Cliffords carries one group to the other",
+}
+
+
+class Refusal(ValueError):
+    """A refused call: `number` of the published list, and its `text`.
+
+    >>> from sukhlent import State
+    >>> State.zeros(65)
+    Traceback (most recent call last):
+    ...
+    sukhlent.refusals.Refusal: refused 2: n is 0 or above the call's limit, or the two lists' n differ
+    """
+
+    def __init__(self, number: int):
+        self.number = number
+        self.text = TEXTS.get(number, "unknown refusal")
+        super().__init__(f"refused {number}: {self.text}")
+
+
+def accept(number: int) -> None:
+    """Raises `Refusal` where a call did not answer 0."""
+    if number != 0:
+        raise Refusal(number)

@@ -1,0 +1,30 @@
+"""The header's words and numbers against those of the package."""
+
+import re
+import unittest
+from pathlib import Path
+
+from sukhlent import NAMES, TEXTS
+
+HEADER = (Path(__file__).resolve().parents[2] / "include" / "sukhlent.h").read_text()
+NUMBERS = {name: int(number) for name, number in re.findall(r"#define SUKHLENT_(\w+) (\d+)\n", HEADER)}
+
+
+class Header(unittest.TestCase):
+    def test_every_published_number_has_one_text_on_both_sides(self):
+        cases = re.findall(r"case SUKHLENT_(\w+): return \"(.*?)\";", HEADER)
+        said = {NUMBERS[name]: text for name, text in cases if name != "ACCEPTED"}
+        self.assertEqual(said, TEXTS)
+
+    def test_the_published_list_has_the_same_numbers_in_the_same_order(self):
+        comment = HEADER[HEADER.index("in checking order") : HEADER.index("#ifndef")]
+        published = [int(number) for number in re.findall(r"^ \* +(\d+)  \S", comment, re.M)]
+        self.assertEqual(published, list(TEXTS))
+
+    def test_gates_have_their_codes(self):
+        for name in ("I", "X", "Z", "Y", "S", "S_DAG", "H", "SQRT_Y_DAG", "SQRT_Y", "SQRT_X_DAG", "SQRT_X"):
+            self.assertEqual(NAMES[NUMBERS[f"GATE_{name}"]], name)
+
+    def test_the_version_is_said_alike(self):
+        major, minor, patch = map(int, re.search(r'VERSION_TEXT "(\d+)\.(\d+)\.(\d+)"', HEADER).groups())
+        self.assertEqual(NUMBERS["VERSION"], major * 10000 + minor * 100 + patch)

@@ -1,0 +1,50 @@
+"""Jobs by the calls against the proved program."""
+
+import random
+import subprocess
+import unittest
+from pathlib import Path
+
+from sukhlent import Refusal, generate, parse_job, run_job
+
+PROGRAM = Path(__file__).resolve().parents[2] / "target" / "bin" / "job"
+
+
+def program(text):
+    """What the proved program prints."""
+    return subprocess.run([str(PROGRAM)], input=text, capture_output=True, text=True, check=True, timeout=60).stdout
+
+
+def printed(text):
+    """The same, by the calls."""
+    try:
+        state, results = run_job(text)
+    except Refusal as refusal:
+        return f"refused {refusal.number}\n"
+    lines = (f"{k} {r.refusal} {r.outcome} {r.determined}\n" for k, r in enumerate(results))
+    return "".join(["step refusal outcome determined\n", *lines, str(state), "\n"])
+
+
+class Jobs(unittest.TestCase):
+    def test_drawn_jobs_and_random_steps_answer_as_the_program_does(self):
+        source = random.Random(3)
+        for seed in range(1, 40):
+            n = source.randrange(1, 9)
+            text = generate(n, 60, seed)
+            for _ in range(40):
+                op = source.choice(("gate", "cz", "measure", "complement", "pivot"))
+                fields = [source.choice((0, 0, source.randrange(n), source.randrange(30))) for _ in range(3)]
+                text += f"{op} {fields[0]} {fields[1]} {fields[2]}\n"
+            self.assertEqual(printed(text), program(text))
+
+    def test_texts_without_the_form_are_refused_alike(self):
+        good = generate(2, 3, 1)
+        texts = ["", "qubits\n", good[:-1], good.replace("\n", "\r\n"), good + "\n", good.replace("2", "02", 1)]
+        texts += [good.replace("2", "0", 1), good.replace("2", "65", 1), "qubits\n2\nop a b value\n"]
+        texts += [good + "gate 0 0 0\n" * 4094]
+        for text in texts:
+            self.assertEqual(printed(text), program(text))
+
+    def test_a_parsed_job_has_its_steps(self):
+        n, steps = parse_job(generate(5, 17, 9))
+        self.assertEqual((n, len(steps)), (5, 17))

@@ -1,0 +1,121 @@
+"""States against a plain model: rows of Pauli letters followed by hand."""
+
+import random
+import unittest
+
+from sukhlent import NAMES, GeneratorList, Refusal, State, generate, images, orbit, run_job
+from sukhlent.orbits import edges_of, number_of
+
+#: products of two letters: the power of i and the letter
+PRODUCTS = {("X", "Y"): (1, "Z"), ("Y", "Z"): (1, "X"), ("Z", "X"): (1, "Y")}
+
+
+def times(a, b):
+    """The product of two signed rows, each (power of i, letters)."""
+    phase, letters = a[0] + b[0], []
+    for p, q in zip(a[1], b[1]):
+        if p == "I" or q == "I":
+            letters.append(q if p == "I" else p)
+        elif p == q:
+            letters.append("I")
+        else:
+            turn, letter = PRODUCTS.get((p, q)) or (3, PRODUCTS[q, p][1])
+            phase += turn
+            letters.append(letter)
+    return phase % 4, "".join(letters)
+
+
+def group(strings):
+    """Every element of the group of a list of strings, as strings."""
+    n = len(strings)
+    rows = [((0 if line[0] == "+" else 2), line[1:]) for line in strings]
+    elements = {(0, "I" * n)}
+    for row in rows:
+        elements |= {times(element, row) for element in elements}
+    return {"+-"[phase // 2] + letters for phase, letters in elements}
+
+
+def send(line, qubit, number):
+    """A string sent through a code at one qubit."""
+    x, z = images(number)
+    row = {"I": (0, "I"), "X": ("+-".index(x[0]) * 2, x[1]), "Z": ("+-".index(z[0]) * 2, z[1])}
+    turn, letter = times(row["X"], row["Z"])
+    row["Y"] = ((turn + 1) % 4, letter)
+    phase, letter = row[line[1 + qubit]]
+    sign = ("+-".index(line[0]) * 2 + phase) % 4
+    return "+-"[sign // 2] + line[1 : 1 + qubit] + letter + line[2 + qubit :]
+
+
+class States(unittest.TestCase):
+    def test_every_gate_sends_the_group_as_its_images_say(self):
+        source = random.Random(1)
+        for number in range(24):
+            state, _ = run_job(generate(3, 40, source.randrange(1, 1 << 60)).replace("measure", "gate"))
+            state = State(state.neighbours, state.codes)
+            before = state.generators().strings()
+            state.gate(1, NAMES[number])
+            self.assertEqual(group(state.generators().strings()), {send(line, 1, number) for line in group(before)})
+
+    def test_cx_of_a_superposition_is_a_bell_pair(self):
+        state = State.zeros(2)
+        state.h(0)
+        state.cx(0, 1)
+        self.assertEqual(state, State.from_strings("+XX", "+ZZ"))
+
+    def test_a_refused_cx_changes_nothing(self):
+        state = State.zeros(2)
+        before = str(state)
+        for pair in ((0, 0), (0, 2), (2, 0)):
+            with self.assertRaises(Refusal) as refused:
+                state.cx(*pair)
+            self.assertEqual(refused.exception.number, 8)
+            self.assertEqual(str(state), before)
+
+    def test_a_random_outcome_is_the_state_s_where_there_is_one(self):
+        source = random.Random(2)
+        seen = set()
+        for _ in range(64):
+            state = State.from_strings("+XX", "-ZZ")
+            first, second = state.measure("Z", 0, source=source), state.measure("Z", 1, source=source)
+            self.assertFalse(first.determined)
+            self.assertEqual((second.determined, second.outcome), (True, 1 - first.outcome))
+            seen.add(first.outcome)
+        self.assertEqual(seen, {0, 1})
+
+    def test_a_choice_carries_the_first_group_onto_the_second(self):
+        path, star = State.graph(4, [(0, 1), (1, 2), (2, 3)]), State.graph(4, [(0, 1), (0, 2), (0, 3)])
+        self.assertIsNone(path.compare(star))
+        other = path.copy()
+        for vertex, number in enumerate((7, 13, 20, 2)):
+            other.gate(vertex, number)
+        found = path.compare(other)
+        lines = group(path.generators().strings())
+        for qubit, number in enumerate(found.choice):
+            lines = {send(line, qubit, number) for line in lines}
+        self.assertEqual(lines, group(other.generators().strings()))
+
+    def test_lists_are_read_and_written(self):
+        text = "-XZI\n+ZXZ\n+IZY\n"
+        self.assertEqual(str(GeneratorList.from_strings(text)), text)
+        self.assertEqual(State.from_strings(text).cut([1]), 1)
+
+    def test_orbits_are_what_complementing_reaches(self):
+        for n in range(1, 5):
+            for number in range(1 << n * (n - 1) // 2):
+                reached, todo = {number}, [number]
+                while todo:
+                    edges = edges_of(n, todo.pop())
+                    for vertex in range(n):
+                        state = State.graph(n, edges)
+                        state.complement(vertex)
+                        other = number_of(n, state.edges())
+                        if other not in reached:
+                            reached.add(other)
+                            todo.append(other)
+                self.assertEqual(orbit(n, edges_of(n, number)), sorted(reached))
+
+    def test_a_drawing_has_a_line_for_each_edge(self):
+        state = State.graph(5, [(q, (q + 1) % 5) for q in range(5)])
+        self.assertEqual(state.svg().count("<line"), 5)
+        with self.assertRaises(ValueError):
+            state.svg([(0, 0)])
