@@ -1,0 +1,3 @@
+pub mod Exponents
+pub mod Vertices
+pub mod Loops

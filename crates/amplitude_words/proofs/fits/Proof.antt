@@ -1,0 +1,14 @@
+-- `fits` meets its contract: the equation of vertex j, with this neighbour word and this code: where it has a Hadamard
+-- (code 8 or more), its bit of y is the sign of its code and the bits of its smaller neighbours.
+use borrow.Author.Needs.{needs}
+use Rattle.amplitude_words.proofs.Vertices.{fits-is}
+use Rattle.amplitude_words.proofs.fits.Statement.{statement}
+use Rattle.amplitude_words.proofs.fits.Tie as tie
+
+returns : tie.Need-returns
+returns c =
+    let start = c .before .before in
+    fits-is (start .args .code) (start .pre .1) _ _ (c .before .has .ensures) (c .dot-below .ensures)
+
+pub fits-spec : {M : Type 1} → statement M
+fits-spec = tie.close (tie.spec (λ c κs. search needs) (λ c κs. search needs) returns)

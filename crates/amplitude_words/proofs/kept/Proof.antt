@@ -1,0 +1,47 @@
+-- `kept` meets its contract: the vertices without a Hadamard.
+use mathlib.Core.Bool.{not}
+use Prim.Native.Nat.{_-_}
+use native.Mathlib.Omega.{arith}
+use lib.ListN.{length}
+use borrow.Author.Needs.{needs}
+use Rattle.clifford.specs.Clifford.{bitC}
+use Rattle.clifford.specs.Vectors.{codesOf}
+use Rattle.graph_settling.proofs.FoundWords.{Found, found-none, found-one}
+use Rattle.amplitude_words.proofs.Loops.{found-word}
+use Rattle.amplitude_words.proofs.Vertices.{low-code}
+use Rattle.amplitude_words.proofs.kept.Statement.{statement}
+use Rattle.amplitude_words.proofs.kept.Tie as tie
+
+abbrev Inv-loop : tie.InvT-loop
+Inv-loop codes all₀ i₀ all i = Found (λ q. not (bitC (codesOf codes q))) (length codes) all i
+
+abbrev μ-loop : tie.MeasureT-loop
+μ-loop codes all₀ i₀ all i = length codes - i
+
+loop-holds : tie.Need-loop-holds Inv-loop μ-loop
+loop-holds c = found-none _ _
+
+flip-where-requires : tie.Need-flip-where-requires Inv-loop μ-loop
+flip-where-requires c κs = omega (arith, c .before .loop-test .taken, c .before .before .before .before .pre .0)
+
+loop-less : tie.Need-loop-less Inv-loop μ-loop
+loop-less c = omega (arith, c .before .before .loop-test .taken)
+
+loop-again : tie.Need-loop-again Inv-loop μ-loop
+loop-again c =
+    let inside = c .before .before in
+    let start = inside .before .before .before in
+    let codes = start .args .codes .now in
+    found-one (λ q. not (bitC (codesOf codes q))) _ _ _ _ _ (inside .loop-test .taken) (inside .before .loop .inv)
+    (low-code _ (start .pre .1 (inside .before .loop .i))) (c .flip-where .ensures)
+
+returns : tie.Need-returns Inv-loop μ-loop
+returns c =
+    let codes = c .before .before .before .args .codes .now in
+    found-word (λ q. not (bitC (codesOf codes q))) _ _ _ (c .loop-test .left) (c .before .loop .inv)
+
+pub kept-spec : {M : Type 1} → statement M
+kept-spec =
+    tie.close
+    (tie.spec Inv-loop μ-loop loop-holds (λ c. search needs) flip-where-requires (λ c. search needs) loop-less
+    loop-again returns)
