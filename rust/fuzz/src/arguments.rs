@@ -253,10 +253,15 @@ fn lengths<const COUNT: usize>(random: &mut Random, n: usize) -> [usize; COUNT] 
 }
 
 /// A call of one kind, 0 to 4, on a record of n vertices in place. Mostly its own arguments are in
-/// range or one too large; at times they are any numbers.
+/// range or one too large; at times they are any numbers. Every second measurement is one in range,
+/// since few others meet a forbidden bit.
 pub fn in_place_call(random: &mut Random, kind: usize, n: usize) -> RecordCall<Operation> {
     let operation = match random.below(8) {
         0 => noisy_operation(random, kind),
+        1..=4 if kind == 2 => {
+            let [pauli, bit] = [1 + random.below(3), random.below(2)];
+            Operation::Measure(pauli as u8, random.below(n) as u64, bit as u8)
+        }
         _ => Operation::loose(random, kind, n),
     };
     let record = used_record(random, n);
