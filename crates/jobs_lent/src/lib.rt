@@ -74,3 +74,28 @@ pub fn run_lent(
     }
     word
 }
+
+// The first steps of a block, lent.
+pub fn run_block(
+    n: u64,
+    neighbours: &mut [u64],
+    codes: &mut [u8],
+    used: u64,
+    known: bool,
+    steps: [Step; 64],
+    count: usize,
+    at: usize,
+    answers: &mut [u8],
+) -> u64
+    requires { ⌜ (count ≤ 64) × ((at + count ≤ length (now answers)) × Known known (record {
+      held = record { n = n; neighbours = now neighbours; codes = now codes };
+      used = used;
+    })) ⌝ }
+    ensures { λ r. ⌜ LentRun (record {
+      held = record { n = n; neighbours = now (neighbours .entry); codes = now (codes .entry) };
+      used = used;
+    }) (take count steps) at (now (answers .entry)) (now (neighbours .exit)) (now (codes .exit)) r
+        (now (answers .exit)) ⌝ }
+{
+    run_lent(n, neighbours, codes, used, known, &steps[..count], at, answers)
+}
