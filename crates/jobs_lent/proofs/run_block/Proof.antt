@@ -318,16 +318,10 @@ module _ {M : Type 1} (𝓤 : URA M) (H : Heap 𝓤) (A : Atoms 𝓤) (W : Given
         ∷ ‵ (owns (u64 ∷ MutSlice (named 0) κ₀ u64 ∷ MutSlice (named 1) κ₁ u8 ∷ u64 ∷ bool ∷ Array R 64 ∷ usize ∷ usize ∷ MutSlice (named 2) κ₃ u8 ∷ []) args at) ∷ []) ∵
         enter ! C Λ code.function (vint w64 n ∷ s₀ ∷ s₁ ∷ vint w64 used ∷ vbool known ∷ av ∷ vint w64 count ∷ vint w64 place₀ ∷ s₃ ∷ []) _ $
         alloc1 ! (λ l₀. alloc1 ! (λ l₁. alloc1 ! (λ l₂. alloc1 ! (λ l₃. alloc1 ! (λ l₄. alloc1 ! (λ l₅. alloc1 ! (λ l₆. alloc1 ! (λ l₇. alloc1 ! (λ l₈. alloc1 ! (λ l₉. alloc1 ! (λ l₁₀. alloc1 ! (λ l₁₁. alloc1 ! (λ l₁₂. alloc1 ! (λ l₁₃. alloc1 ! (λ l₁₄. alloc1 ! (λ l₁₅. alloc1 ! (λ l₁₆. alloc1 ! (λ l₁₇. alloc1 ! (λ l₁₈. alloc0 ! $ params1 ! $
-        pass1 ! (init ! 34 refl (tt, record { fits = gn })) $
-        pass1 ! (init ! 32 refl (tt, (tt, (record { fits = g₀ .0 }, tt)))) $
-        pass1 ! (init ! 30 refl (tt, (tt, (record { fits = g₁ .0 }, tt)))) $
-        pass1 ! (init ! 28 refl (tt, record { fits = gu })) $
-        pass1 ! (init ! 26 refl (tt, tt)) $
-        pass1 ! (init ! 24 refl (wt is)) $
-        pass1 ! (init ! 22 refl (tt, record { fits = gc })) $
-        pass1 ! (init ! 20 refl (tt, record { fits = gp })) $
-        pass1 ! (init ! 18 refl (tt, (tt, (record { fits = g₃ .0 }, tt)))) $
-        pass0 ! $
+        pass1 ! (init ! 34 refl (tt, record { fits = gn })) $ pass1 ! (init ! 32 refl (tt, (tt, (record { fits = g₀ .0 }, tt)))) $
+        pass1 ! (init ! 30 refl (tt, (tt, (record { fits = g₁ .0 }, tt)))) $ pass1 ! (init ! 28 refl (tt, record { fits = gu })) $
+        pass1 ! (init ! 26 refl (tt, tt)) $ pass1 ! (init ! 24 refl (wt is)) $ pass1 ! (init ! 22 refl (tt, record { fits = gc })) $
+        pass1 ! (init ! 20 refl (tt, record { fits = gp })) $ pass1 ! (init ! 18 refl (tt, (tt, (record { fits = g₃ .0 }, tt)))) $ pass0 ! $
         assigns ! (of-opd ! (load ! (from ! (stop !)) (look ! 24 refl))) (from ! (stop !)) (init ! 16 refl (wt is)) $
         assigns ! (addr ! (from ! (fld ! refl (hop ! (look-in ! 32 (sub ! 0 refl (whole !))) (stop !))))) (from ! (stop !)) (init ! 14 refl (tt, tt)) $
         assigns ! (agg ! (and-then ! (load ! (from ! (stop !)) (look ! 14 refl)) (and-then ! (load ! (from ! (fld ! refl (stop !))) (look-in ! 32 (sub ! 1 refl (whole !)))) (no-more !)))) (from ! (stop !)) (init ! 12 refl (tt, (tt, (record { fits = g₀ .0 }, tt)))) $
@@ -339,169 +333,41 @@ module _ {M : Type 1} (𝓤 : URA M) (H : Heap 𝓤) (A : Atoms 𝓤) (W : Given
         assigns ! (addr ! (from ! (fld ! refl (hop ! (look-in ! 18 (sub ! 0 refl (whole !))) (stop !))))) (from ! (stop !)) (init ! 2 refl (tt, tt)) $
         assigns ! (agg ! (and-then ! (load ! (from ! (stop !)) (look ! 2 refl)) (and-then ! (load ! (from ! (fld ! refl (stop !))) (look-in ! 18 (sub ! 1 refl (whole !)))) (no-more !)))) (from ! (stop !)) (init ! 0 refl (tt, (tt, (record { fits = g₃ .0 }, tt)))) $
         -- the first steps of the local array are lent
-        move ! (16 ∷ []) $
-        use1 W (‵ (partAt (Array R 64) fullShare xs l₁₀ 0)) (lies l₁₀ is) $
+        move ! (16 ∷ []) $ use1 W (‵ (partAt (Array R 64) fullShare xs l₁₀ 0)) (lies l₁₀ is) $
         use1 W (‵ (arr-parts (shares R) 64 .part fullShare xs l₁₀ 0)) (array-apart 𝓤 H A W R fullShare tt 64 xs l₁₀ 0) $
         rewrite ! 0 (λ (k : ℕ). ‵ (arr-parts (shares R) k .part fullShare xs l₁₀ 0)) (sym long) refl $
-        use1 W (‵ (First l₁₀) ⊛ ‵ (Behind l₁₀)) (cut-first 𝓤 H A W R l₁₀ 0 fullShare xs count) $ split ! $
-        lft-new ! tt (λ α.
-        move ! (1 ∷ []) $
+        use1 W (‵ (First l₁₀) ⊛ ‵ (Behind l₁₀)) (cut-first 𝓤 H A W R l₁₀ 0 fullShare xs count) $ split ! $ lft-new ! tt (λ α. move ! (1 ∷ []) $
         use1 W (later (some (λ (γ : GName). ‵ (Ref α l₁₀ γ) ⊛ ‵ (flent (α ∷ []) (First l₁₀))))) (lends-shr-slice 𝓤 H A W R (named 2) (α ∷ []) fullShare (take count xs) l₁₀ 0 (room-take R 64 count xs long (lit< tt, lit< tt))) $ await ! tt $ pick ! (λ γ. split ! $
         -- the call
-        move ! (41 ∷ []) $
-        split ! $
-        move ! (1 ∷ []) $
-        split ! $
-        move ! (1 ∷ []) $
-        split ! $
-        move ! (45 ∷ []) $
-        fsplit ! $
-        move ! (1 ∷ []) $
-        fsplit ! $
-        move ! (1 ∷ []) $
-        fsplit ! $
-        move ! (1 ∷ []) $
-        fsplit ! $
-        move ! (1 ∷ []) $
-        fsplit ! $
-        move ! (1 ∷ []) $
-        fsplit ! $
-        move ! (1 ∷ []) $
-        fsplit ! $
-        move ! (1 ∷ []) $
-        fsplit ! $
-        move ! (1 ∷ []) $
-        fsplit ! $
-        move ! (13 ∷ 12 ∷ 16 ∷ 10 ∷ 8 ∷ 7 ∷ 14 ∷ 0 ∷ []) $
-        move ! (6 ∷ 7 ∷ []) $
-        join ! $
-        move ! (6 ∷ 0 ∷ []) $
-        join ! $
-        move ! (5 ∷ 0 ∷ []) $
-        join ! $
-        move ! (4 ∷ 0 ∷ []) $
-        join ! $
-        move ! (3 ∷ 0 ∷ []) $
-        join ! $
-        move ! (2 ∷ 0 ∷ []) $
-        join ! $
-        move ! (1 ∷ 0 ∷ []) $
-        join ! $
+        move ! (41 ∷ []) $ split ! $ move ! (1 ∷ []) $ split ! $ move ! (1 ∷ []) $ split ! $ move ! (45 ∷ []) $ fsplit ! $ move ! (1 ∷ []) $ fsplit ! $
+        move ! (1 ∷ []) $ fsplit ! $ move ! (1 ∷ []) $ fsplit ! $ move ! (1 ∷ []) $ fsplit ! $ move ! (1 ∷ []) $ fsplit ! $ move ! (1 ∷ []) $ fsplit ! $
+        move ! (1 ∷ []) $ fsplit ! $ move ! (1 ∷ []) $ fsplit ! $ move ! (13 ∷ 12 ∷ 16 ∷ 10 ∷ 8 ∷ 7 ∷ 14 ∷ 0 ∷ []) $ move ! (6 ∷ 7 ∷ []) $ join ! $
+        move ! (6 ∷ 0 ∷ []) $ join ! $ move ! (5 ∷ 0 ∷ []) $ join ! $ move ! (4 ∷ 0 ∷ []) $ join ! $ move ! (3 ∷ 0 ∷ []) $ join ! $ move ! (2 ∷ 0 ∷ []) $
+        join ! $ move ! (1 ∷ 0 ∷ []) $ join ! $
         use1 W (raw (RunLent 𝓤 H A mem run .pre (to α l₁₀ γ))) (goes α l₁₀ γ gn gu gp (taken long (pre .0)) (pre .1)) $
         calls-at ! fm (RunLent 𝓤 H A mem run) knows (to α l₁₀ γ) (and-then ! (load ! (from ! (stop !)) (look ! 44 refl)) (and-then ! (load ! (from ! (stop !)) (look ! 23 refl)) (and-then ! (load ! (from ! (stop !)) (look ! 19 refl)) (and-then ! (load ! (from ! (stop !)) (look ! 38 refl)) (and-then ! (load ! (from ! (stop !)) (look ! 36 refl)) (and-then ! (load ! (from ! (stop !)) (look ! 15 refl)) (and-then ! (load ! (from ! (stop !)) (look ! 30 refl)) (and-then ! (load ! (from ! (stop !)) (look ! 11 refl)) (no-more !))))))))) (λ v.
         use1 W (later (some (λ (r : ℕ). ((‵ (flft κ₀ q₀) ⊛ (‵ (flft κ₁ q₁) ⊛ (‵ (flft (α ∷ []) fullShare) ⊛ (‵ (flft κ₃ q₃) ⊛ ‵ ftrue)))) ⊛ ‵ (u64 .own r (v ∷ []))) ⊛ raw (Said α l₁₀ γ r)))) (id⊢ 𝓤 _) $ await ! tt $ pick ! (λ r.
-        split ! $
-        move ! (1 ∷ []) $
+        split ! $ move ! (1 ∷ []) $
         use1 W (some (λ (ws : Ends). ‵ (Last α l₁₀ γ ws) ⊛ raw (fact 𝓤 (Ran (ws .1 .0) (ws .1 .1 .0) r (ws .1 .1 .1 .1 .1 .1 .1 .0))))) (id⊢ 𝓤 _) $ pick ! (λ ws.
-        split ! $
-        move ! (1 ∷ []) $
-        heard ! (Ran (ws .1 .0) (ws .1 .1 .0) r (ws .1 .1 .1 .1 .1 .1 .1 .0)) (λ e.
-        fsplit ! $
-        dropᴷ ! $
-        fsplit ! $
-        fsplit ! $
-        move ! (1 ∷ []) $
-        feqL ! (λ e₀.
-        move ! (1 ∷ []) $
-        fsplit ! $
-        fsplit ! $
-        move ! (1 ∷ []) $
-        feqL ! (λ e₁.
-        move ! (1 ∷ []) $
-        fsplit ! $
-        dropᴷ ! $
-        fsplit ! $
-        dropᴷ ! $
-        fsplit ! $
-        dropᴷ ! $
-        fsplit ! $
-        dropᴷ ! $
-        fsplit ! $
-        fsplit ! $
-        move ! (1 ∷ []) $
-        feqL ! (λ e₃.
-        move ! (4 ∷ []) $
-        split ! $
-        move ! (1 ∷ []) $
-        peeks ! u64 (Is u64) (shows 𝓤 H A u64) r (v ∷ []) (λ iu.
+        split ! $ move ! (1 ∷ []) $ heard ! (Ran (ws .1 .0) (ws .1 .1 .0) r (ws .1 .1 .1 .1 .1 .1 .1 .0)) (λ e. fsplit ! $ dropᴷ ! $ fsplit ! $ fsplit ! $
+        move ! (1 ∷ []) $ feqL ! (λ e₀. move ! (1 ∷ []) $ fsplit ! $ fsplit ! $ move ! (1 ∷ []) $ feqL ! (λ e₁. move ! (1 ∷ []) $ fsplit ! $ dropᴷ ! $
+        fsplit ! $ dropᴷ ! $ fsplit ! $ dropᴷ ! $ fsplit ! $ dropᴷ ! $ fsplit ! $ fsplit ! $ move ! (1 ∷ []) $ feqL ! (λ e₃. move ! (4 ∷ []) $ split ! $
+        move ! (1 ∷ []) $ peeks ! u64 (Is u64) (shows 𝓤 H A u64) r (v ∷ []) (λ iu.
         -- the lifetime ends, and the array is back
-        move ! (1 ∷ []) $
-        split ! $
-        move ! (1 ∷ []) $
-        split ! $
-        move ! (1 ∷ []) $
-        split ! $
-        move ! (1 ∷ []) $
-        split ! $
-        move ! (2 ∷ []) $
-        lft-end ! tt $
-        move ! (0 ∷ 18 ∷ []) $
-        lent-back ! tt $
-        move ! (0 ∷ 18 ∷ []) $
+        move ! (1 ∷ []) $ split ! $ move ! (1 ∷ []) $ split ! $ move ! (1 ∷ []) $ split ! $ move ! (1 ∷ []) $ split ! $ move ! (2 ∷ []) $ lft-end ! tt $
+        move ! (0 ∷ 18 ∷ []) $ lent-back ! tt $ move ! (0 ∷ 18 ∷ []) $
         use2 W (‵ (arr-parts (shares R) (length xs) .part fullShare xs l₁₀ 0)) (join-first 𝓤 H A W R l₁₀ 0 fullShare xs count) $
         rewrite ! 0 (λ (k : ℕ). ‵ (arr-parts (shares R) k .part fullShare xs l₁₀ 0)) long refl $
         use1 W (‵ (partAt (Array R 64) fullShare xs l₁₀ 0)) (array-whole 𝓤 H A W R fullShare 64 xs l₁₀ 0) $ use1 W (‵ (fat fullShare (tyArray S′.mir 64) l₁₀ 0 av)) (back l₁₀) $
         land ! (from ! (stop !)) (init ! 53 refl (subst (λ (x : Val). Holds (hasTy word x) × WT x) (sym (ap only (iu .0))) (tt, record { fits = iu .1 }))) $
-        rewrite ! 53 (λ (x : Val). ‵ (fat fullShare word l₀ 0 x)) (ap only (iu .0)) refl $
-        returns ! (look ! 53 refl) $
-        forget ! 53 refl $
-        forget ! 51 refl $
-        forget ! 49 refl $
-        forget ! 47 refl $
-        forget ! 45 refl $
-        forget ! 43 refl $
-        forget ! 41 refl $
-        forget ! 39 refl $
-        forget ! 37 refl $
-        forget ! 35 refl $
-        forget ! 0 refl $
-        forget ! 32 refl $
-        forget ! 30 refl $
-        forget ! 28 refl $
-        forget ! 26 refl $
-        forget ! 24 refl $
-        forget ! 22 refl $
-        forget ! 20 refl $
-        forget ! 18 refl $
-        move ! (53 ∷ 54 ∷ []) $
-        free1 ! $
-        move ! (51 ∷ 52 ∷ []) $
-        free1 ! $
-        move ! (49 ∷ 50 ∷ []) $
-        free1 ! $
-        move ! (47 ∷ 48 ∷ []) $
-        free1 ! $
-        move ! (45 ∷ 46 ∷ []) $
-        free1 ! $
-        move ! (43 ∷ 44 ∷ []) $
-        free1 ! $
-        move ! (41 ∷ 42 ∷ []) $
-        free1 ! $
-        move ! (39 ∷ 40 ∷ []) $
-        free1 ! $
-        move ! (37 ∷ 38 ∷ []) $
-        free1 ! $
-        move ! (35 ∷ 36 ∷ []) $
-        free1 ! $
-        move ! (0 ∷ 34 ∷ []) $
-        free1 ! $
-        move ! (31 ∷ 32 ∷ []) $
-        free1 ! $
-        move ! (29 ∷ 30 ∷ []) $
-        free1 ! $
-        move ! (27 ∷ 28 ∷ []) $
-        free1 ! $
-        move ! (25 ∷ 26 ∷ []) $
-        free1 ! $
-        move ! (23 ∷ 24 ∷ []) $
-        free1 ! $
-        move ! (21 ∷ 22 ∷ []) $
-        free1 ! $
-        move ! (19 ∷ 20 ∷ []) $
-        free1 ! $
-        move ! (17 ∷ 18 ∷ []) $
-        free1 ! $
-        free0 ! $
+        rewrite ! 53 (λ (x : Val). ‵ (fat fullShare word l₀ 0 x)) (ap only (iu .0)) refl $ returns ! (look ! 53 refl) $ forget ! 53 refl $ forget ! 51 refl $
+        forget ! 49 refl $ forget ! 47 refl $ forget ! 45 refl $ forget ! 43 refl $ forget ! 41 refl $ forget ! 39 refl $ forget ! 37 refl $
+        forget ! 35 refl $ forget ! 0 refl $ forget ! 32 refl $ forget ! 30 refl $ forget ! 28 refl $ forget ! 26 refl $ forget ! 24 refl $
+        forget ! 22 refl $ forget ! 20 refl $ forget ! 18 refl $ move ! (53 ∷ 54 ∷ []) $ free1 ! $ move ! (51 ∷ 52 ∷ []) $ free1 ! $ move ! (49 ∷ 50 ∷ []) $
+        free1 ! $ move ! (47 ∷ 48 ∷ []) $ free1 ! $ move ! (45 ∷ 46 ∷ []) $ free1 ! $ move ! (43 ∷ 44 ∷ []) $ free1 ! $ move ! (41 ∷ 42 ∷ []) $ free1 ! $
+        move ! (39 ∷ 40 ∷ []) $ free1 ! $ move ! (37 ∷ 38 ∷ []) $ free1 ! $ move ! (35 ∷ 36 ∷ []) $ free1 ! $ move ! (0 ∷ 34 ∷ []) $ free1 ! $
+        move ! (31 ∷ 32 ∷ []) $ free1 ! $ move ! (29 ∷ 30 ∷ []) $ free1 ! $ move ! (27 ∷ 28 ∷ []) $ free1 ! $ move ! (25 ∷ 26 ∷ []) $ free1 ! $
+        move ! (23 ∷ 24 ∷ []) $ free1 ! $ move ! (21 ∷ 22 ∷ []) $ free1 ! $ move ! (19 ∷ 20 ∷ []) $ free1 ! $ move ! (17 ∷ 18 ∷ []) $ free1 ! $ free0 ! $
         keep ! (3 ∷ 2 ∷ 0 ∷ 8 ∷ 7 ∷ 5 ∷ []) $
         by ! (exits (ws .1 .0) (ws .1 .1 .0) r (ws .1 .1 .1 .1 .1 .1 .1 .0) is gn gu gc gp (iu .1) e₀ e₁ e₃ e))))))))))))))))))))))))))))))
 

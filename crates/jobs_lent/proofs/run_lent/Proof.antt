@@ -507,99 +507,36 @@ module _ {M : Type 1} (𝓤 : URA M) (H : Heap 𝓤) (A : Atoms 𝓤) (W : Given
         assigns ! (addr ! (from ! (fld ! refl (hop ! (look-in ! 27 (sub ! 0 refl (whole !))) (stop !))))) (from ! (stop !)) (init ! 18 refl (tt, tt)) $
         assigns ! (agg ! (and-then ! (load ! (from ! (stop !)) (look ! 18 refl)) (and-then ! (load ! (from ! (fld ! refl (stop !))) (look-in ! 27 (sub ! 1 refl (whole !)))) (no-more !)))) (from ! (stop !)) (init ! 19 refl (tt, (tt, (record { fits = g₃ .0 }, tt)))) $
         -- the three slices are lent again, each for a lifetime of the call
-        lft-new ! tt (λ ν₀.
-        move ! (3 ∷ 4 ∷ []) $
+        lft-new ! tt (λ ν₀. move ! (3 ∷ 4 ∷ []) $
         use2 W (later (some (λ (δ : GName). ‵ (Again₀ ν₀ δ nb) ⊛ ‵ (Kept₀ ν₀ δ nb)))) (lends-again u64 κ₀ (ν₀ ∷ []) q₀ γ₀ b₀ o₀ 𝓤 H A W (named 0) (named 0) nb (length nb₀) long₀) $ await ! tt $ pick ! (λ δ₀. split ! $
-        lft-new ! tt (λ ν₁.
-        move ! (6 ∷ 7 ∷ []) $
+        lft-new ! tt (λ ν₁. move ! (6 ∷ 7 ∷ []) $
         use2 W (later (some (λ (δ : GName). ‵ (Again₁ ν₁ δ cs) ⊛ ‵ (Kept₁ ν₁ δ cs)))) (lends-again u8 κ₁ (ν₁ ∷ []) q₁ γ₁ b₁ o₁ 𝓤 H A W (named 1) (named 1) cs (length cs₀) long₁) $ await ! tt $ pick ! (λ δ₁. split ! $
-        lft-new ! tt (λ ν₃.
-        move ! (9 ∷ 10 ∷ []) $
+        lft-new ! tt (λ ν₃. move ! (9 ∷ 10 ∷ []) $
         use2 W (later (some (λ (δ : GName). ‵ (Again₃ ν₃ δ ans) ⊛ ‵ (Kept₃ ν₃ δ ans)))) (lends-again u8 κ₃ (ν₃ ∷ []) q₃ γ₃ b₃ o₃ 𝓤 H A W (named 3) (named 2) ans (length ans₀) long₃) $ await ! tt $ pick ! (λ δ₃. split ! $
         -- the call
-        move ! (8 ∷ 5 ∷ 2 ∷ 6 ∷ 3 ∷ 0 ∷ []) $
-        move ! (4 ∷ 5 ∷ []) $
-        join ! $
-        move ! (4 ∷ 0 ∷ []) $
-        join ! $
-        move ! (3 ∷ 0 ∷ []) $
-        join ! $
-        move ! (2 ∷ 0 ∷ []) $
-        join ! $
-        move ! (1 ∷ 0 ∷ []) $
-        join ! $
+        move ! (8 ∷ 5 ∷ 2 ∷ 6 ∷ 3 ∷ 0 ∷ []) $ move ! (4 ∷ 5 ∷ []) $ join ! $ move ! (4 ∷ 0 ∷ []) $ join ! $ move ! (3 ∷ 0 ∷ []) $ join ! $
+        move ! (2 ∷ 0 ∷ []) $ join ! $ move ! (1 ∷ 0 ∷ []) $ join ! $
         use1 W (raw (Turn 𝓤 H A mem run .pre (to ν₀ ν₁ ν₃ δ₀ δ₁ δ₃ nb cs w ans i))) (goes ν₀ ν₁ ν₃ δ₀ δ₁ δ₃ nb cs w ans i ga (i-fits small) ge asks) $
         calls-at ! (fmOf 𝓤 H (W .laws) 𝓣) (Turn 𝓤 H A mem run) knows (to ν₀ ν₁ ν₃ δ₀ δ₁ δ₃ nb cs w ans i) (and-then ! (load ! (from ! (stop !)) (look ! 18 refl)) (and-then ! (load ! (from ! (stop !)) (look ! 11 refl)) (and-then ! (load ! (from ! (stop !)) (look ! 13 refl)) (and-then ! (load ! (from ! (stop !)) (look ! 6 refl)) (and-then ! (load ! (from ! (stop !)) (look ! 22 refl)) (and-then ! (load ! (from ! (stop !)) (look ! 15 refl)) (and-then ! (load ! (from ! (stop !)) (look ! 24 refl)) (and-then ! (load ! (from ! (stop !)) (look ! 7 refl)) (and-then ! (load ! (from ! (stop !)) (look ! 17 refl)) (no-more !)))))))))) (λ v.
         use1 W (later (some (λ (r : ℕ). ((‵ (flft (ν₀ ∷ []) fullShare) ⊛ (‵ (flft (ν₁ ∷ []) fullShare) ⊛ (‵ (flft (ν₃ ∷ []) fullShare) ⊛ ‵ ftrue))) ⊛ ‵ (u64 .own r (v ∷ []))) ⊛ raw (Said ν₀ ν₁ ν₃ δ₀ δ₁ δ₃ nb cs w ans i r)))) (id⊢ 𝓤 _) $ await ! tt $ pick ! (λ r.
-        split ! $
-        move ! (1 ∷ []) $
+        split ! $ move ! (1 ∷ []) $
         use1 W (some (λ (ws : Ends). ‵ (Last ν₀ ν₁ ν₃ δ₀ δ₁ δ₃ nb cs w ans i ws) ⊛ raw (fact 𝓤 (Next nb cs w ans i (ws .1 .0) (ws .1 .1 .0) r (ws .1 .1 .1 .1 .1 .1 .1 .1 .0))))) (id⊢ 𝓤 _) $ pick ! (λ ws.
-        split ! $
-        move ! (1 ∷ []) $
-        heard ! (Next nb cs w ans i (ws .1 .0) (ws .1 .1 .0) r (ws .1 .1 .1 .1 .1 .1 .1 .1 .0)) (λ e.
-        fsplit ! $
-        dropᴷ ! $
-        fsplit ! $
-        fsplit ! $
-        move ! (1 ∷ []) $
-        feqL ! (λ e₀.
-        move ! (1 ∷ []) $
-        fsplit ! $
-        fsplit ! $
-        move ! (1 ∷ []) $
-        feqL ! (λ e₁.
-        move ! (1 ∷ []) $
-        fsplit ! $
-        dropᴷ ! $
-        fsplit ! $
-        dropᴷ ! $
-        fsplit ! $
-        dropᴷ ! $
-        fsplit ! $
-        dropᴷ ! $
-        fsplit ! $
-        dropᴷ ! $
-        fsplit ! $
-        fsplit ! $
-        move ! (1 ∷ []) $
-        feqL ! (λ e₃.
-        move ! (4 ∷ []) $
-        split ! $
-        move ! (1 ∷ []) $
-        peeks ! u64 (Is u64) (shows 𝓤 H A u64) r (v ∷ []) (λ is.
+        split ! $ move ! (1 ∷ []) $ heard ! (Next nb cs w ans i (ws .1 .0) (ws .1 .1 .0) r (ws .1 .1 .1 .1 .1 .1 .1 .1 .0)) (λ e. fsplit ! $ dropᴷ ! $
+        fsplit ! $ fsplit ! $ move ! (1 ∷ []) $ feqL ! (λ e₀. move ! (1 ∷ []) $ fsplit ! $ fsplit ! $ move ! (1 ∷ []) $ feqL ! (λ e₁. move ! (1 ∷ []) $
+        fsplit ! $ dropᴷ ! $ fsplit ! $ dropᴷ ! $ fsplit ! $ dropᴷ ! $ fsplit ! $ dropᴷ ! $ fsplit ! $ dropᴷ ! $ fsplit ! $ fsplit ! $ move ! (1 ∷ []) $
+        feqL ! (λ e₃. move ! (4 ∷ []) $ split ! $ move ! (1 ∷ []) $ peeks ! u64 (Is u64) (shows 𝓤 H A u64) r (v ∷ []) (λ is.
         land ! (from ! (stop !)) (store ! 11 refl (subst (λ (x : Val). Holds (hasTy word x) × WT x) (sym (ap only (is .0))) (tt, record { fits = is .1 }))) $
         rewrite ! 11 (λ (x : Val). ‵ (fat fullShare word l₉ 0 x)) (ap only (is .0)) refl $
         -- the lifetimes end, and the slices come back
-        move ! (1 ∷ []) $
-        split ! $
-        move ! (1 ∷ []) $
-        split ! $
-        move ! (1 ∷ []) $
-        split ! $
-        move ! (3 ∷ []) $
-        lft-end ! tt $
-        move ! (0 ∷ 11 ∷ 8 ∷ []) $
+        move ! (1 ∷ []) $ split ! $ move ! (1 ∷ []) $ split ! $ move ! (1 ∷ []) $ split ! $ move ! (3 ∷ []) $ lft-end ! tt $ move ! (0 ∷ 11 ∷ 8 ∷ []) $
         use3 W (later (‵ (Own₀ (ws .1 .0)) ⊛ ‵ (flft κ₀ q₀))) (comes-back u64 κ₀ (ν₀ ∷ []) q₀ γ₀ b₀ o₀ 𝓤 H A W (named 0) (named 0) nb (length nb₀) long₀ g₀ δ₀ (ws .1 .0) e₀) $ await ! tt $ split ! $
-        move ! (4 ∷ []) $
-        lft-end ! tt $
-        move ! (0 ∷ 10 ∷ 8 ∷ []) $
+        move ! (4 ∷ []) $ lft-end ! tt $ move ! (0 ∷ 10 ∷ 8 ∷ []) $
         use3 W (later (‵ (Own₁ (ws .1 .1 .0)) ⊛ ‵ (flft κ₁ q₁))) (comes-back u8 κ₁ (ν₁ ∷ []) q₁ γ₁ b₁ o₁ 𝓤 H A W (named 1) (named 1) cs (length cs₀) long₁ g₁ δ₁ (ws .1 .1 .0) e₁) $ await ! tt $ split ! $
-        move ! (4 ∷ []) $
-        lft-end ! tt $
-        move ! (0 ∷ 9 ∷ 7 ∷ []) $
+        move ! (4 ∷ []) $ lft-end ! tt $ move ! (0 ∷ 9 ∷ 7 ∷ []) $
         use3 W (later (‵ (Own₃ (ws .1 .1 .1 .1 .1 .1 .1 .1 .0)) ⊛ ‵ (flft κ₃ q₃))) (comes-back u8 κ₃ (ν₃ ∷ []) q₃ γ₃ b₃ o₃ 𝓤 H A W (named 3) (named 2) ans (length ans₀) long₃ g₃ δ₃ (ws .1 .1 .1 .1 .1 .1 .1 .1 .0) e₃) $ await ! tt $ split ! $
         assigns-last ! (bin ! (load ! (from ! (stop !)) (look ! 12 refl)) (lit ! tt) (record { fits = next-small small (g₂ .0) })) (from ! (stop !)) (store ! 12 refl (tt, record { fits = next-small small (g₂ .0) })) $
-        rewrite ! 12 (λ (j : ℕ). ‵ (fat fullShare word l₁₀ 0 (vint w64 j))) (one-more i) refl $
-        forget ! 13 refl $
-        forget ! 14 refl $
-        forget ! 15 refl $
-        forget ! 16 refl $
-        forget ! 17 refl $
-        forget ! 18 refl $
-        forget ! 19 refl $
-        forget ! 20 refl $
-        forget ! 21 refl $
-        forget ! 22 refl $
+        rewrite ! 12 (λ (j : ℕ). ‵ (fat fullShare word l₁₀ 0 (vint w64 j))) (one-more i) refl $ forget ! 13 refl $ forget ! 14 refl $ forget ! 15 refl $
+        forget ! 16 refl $ forget ! 17 refl $ forget ! 18 refl $ forget ! 19 refl $ forget ! 20 refl $ forget ! 21 refl $ forget ! 22 refl $
         keep ! (10 ∷ 9 ∷ 4 ∷ 5 ∷ 2 ∷ 3 ∷ 0 ∷ 1 ∷ 11 ∷ 12 ∷ 13 ∷ 14 ∷ 15 ∷ 16 ∷ 17 ∷ 18 ∷ 19 ∷ 20 ∷ 21 ∷ 22 ∷ 23 ∷ 24 ∷ 25 ∷ 26 ∷ 27 ∷ 28 ∷ 29 ∷ 30 ∷ 31 ∷ 32 ∷ 33 ∷ 34 ∷ 35 ∷ 36 ∷ 37 ∷ 38 ∷ 39 ∷ 40 ∷ 41 ∷ 42 ∷ 43 ∷ 44 ∷ 45 ∷ 46 ∷ 47 ∷ 48 ∷ 49 ∷ 50 ∷ 51 ∷ 52 ∷ 53 ∷ 54 ∷ []) $
         by ! (k (ws .1 .0) (ws .1 .1 .0) r (ws .1 .1 .1 .1 .1 .1 .1 .1 .0) (is .1) e₀ e₁ e₃ e)))))))))))))))))
 
@@ -615,69 +552,15 @@ module _ {M : Type 1} (𝓤 : URA M) (H : Heap 𝓤) (A : Atoms 𝓤) (W : Given
         rewrite ! 11 (λ (t : Bool). ‵ (fat fullShare tyBool l₁₂ 0 (vbool t))) (fails (ltb m m) (λ a. lt-irrefl m (ltb→lt m m a))) refl $
         leaves-loop ! (load ! (from ! (stop !)) (look ! 11 refl)) $ exec ! C Λ En rest (atRet En Post) $
         assigns ! (of-opd ! (load ! (from ! (stop !)) (look ! 8 refl))) (from ! (stop !)) (init ! 28 refl (tt, record { fits = ga })) $
-        returns ! (look ! 28 refl) $
-        forget ! 8 refl $
-        forget ! 9 refl $
-        forget ! 10 refl $
-        forget ! 11 refl $
-        forget ! 28 refl $
-        forget ! 20 refl $
-        forget ! 21 refl $
-        forget ! 22 refl $
-        forget ! 23 refl $
-        forget ! 24 refl $
-        forget ! 25 refl $
-        forget ! 26 refl $
-        forget ! 27 refl $
-        move ! (28 ∷ 31 ∷ []) $
-        free1 ! $
-        move ! (20 ∷ 30 ∷ []) $
-        free1 ! $
-        move ! (20 ∷ 29 ∷ []) $
-        free1 ! $
-        move ! (20 ∷ 28 ∷ []) $
-        free1 ! $
-        move ! (20 ∷ 27 ∷ []) $
-        free1 ! $
-        move ! (20 ∷ 26 ∷ []) $
-        free1 ! $
-        move ! (20 ∷ 25 ∷ []) $
-        free1 ! $
-        move ! (20 ∷ 24 ∷ []) $
-        free1 ! $
-        move ! (20 ∷ 23 ∷ []) $
-        free1 ! $
-        move ! (8 ∷ 22 ∷ []) $
-        free1 ! $
-        move ! (8 ∷ 21 ∷ []) $
-        free1 ! $
-        move ! (8 ∷ 20 ∷ []) $
-        free1 ! $
-        move ! (8 ∷ 19 ∷ []) $
-        free1 ! $
-        move ! (8 ∷ 18 ∷ []) $
-        free1 ! $
-        move ! (8 ∷ 17 ∷ []) $
-        free1 ! $
-        move ! (8 ∷ 16 ∷ []) $
-        free1 ! $
-        move ! (8 ∷ 15 ∷ []) $
-        free1 ! $
-        move ! (8 ∷ 14 ∷ []) $
-        free1 ! $
-        move ! (8 ∷ 13 ∷ []) $
-        free1 ! $
-        move ! (8 ∷ 12 ∷ []) $
-        free1 ! $
-        move ! (8 ∷ 11 ∷ []) $
-        free1 ! $
-        free0 ! $
-        move ! (9 ∷ 0 ∷ []) $
-        fjoin ! $
-        move ! (8 ∷ 0 ∷ []) $
-        fjoin ! $
-        keep ! (3 ∷ 5 ∷ 1 ∷ 7 ∷ 2 ∷ 4 ∷ 0 ∷ 6 ∷ []) $
-        by ! (exits nb cs w ans gn gu gp ga long₀ long₁ long₃ e)
+        returns ! (look ! 28 refl) $ forget ! 8 refl $ forget ! 9 refl $ forget ! 10 refl $ forget ! 11 refl $ forget ! 28 refl $ forget ! 20 refl $
+        forget ! 21 refl $ forget ! 22 refl $ forget ! 23 refl $ forget ! 24 refl $ forget ! 25 refl $ forget ! 26 refl $ forget ! 27 refl $
+        move ! (28 ∷ 31 ∷ []) $ free1 ! $ move ! (20 ∷ 30 ∷ []) $ free1 ! $ move ! (20 ∷ 29 ∷ []) $ free1 ! $ move ! (20 ∷ 28 ∷ []) $ free1 ! $
+        move ! (20 ∷ 27 ∷ []) $ free1 ! $ move ! (20 ∷ 26 ∷ []) $ free1 ! $ move ! (20 ∷ 25 ∷ []) $ free1 ! $ move ! (20 ∷ 24 ∷ []) $ free1 ! $
+        move ! (20 ∷ 23 ∷ []) $ free1 ! $ move ! (8 ∷ 22 ∷ []) $ free1 ! $ move ! (8 ∷ 21 ∷ []) $ free1 ! $ move ! (8 ∷ 20 ∷ []) $ free1 ! $
+        move ! (8 ∷ 19 ∷ []) $ free1 ! $ move ! (8 ∷ 18 ∷ []) $ free1 ! $ move ! (8 ∷ 17 ∷ []) $ free1 ! $ move ! (8 ∷ 16 ∷ []) $ free1 ! $
+        move ! (8 ∷ 15 ∷ []) $ free1 ! $ move ! (8 ∷ 14 ∷ []) $ free1 ! $ move ! (8 ∷ 13 ∷ []) $ free1 ! $ move ! (8 ∷ 12 ∷ []) $ free1 ! $
+        move ! (8 ∷ 11 ∷ []) $ free1 ! $ free0 ! $ move ! (9 ∷ 0 ∷ []) $ fjoin ! $ move ! (8 ∷ 0 ∷ []) $ fjoin ! $
+        keep ! (3 ∷ 5 ∷ 1 ∷ 7 ∷ 2 ∷ 4 ∷ 0 ∷ 6 ∷ []) $ by ! (exits nb cs w ans gn gu gp ga long₀ long₁ long₃ e)
 
       -- ---- the invariant, where t steps are left
       abbrev Held : ℕ → ℕ → List ℕ → List ℕ → ℕ → List ℕ → Type 0
@@ -726,45 +609,15 @@ module _ {M : Type 1} (𝓤 : URA M) (H : Heap 𝓤) (A : Atoms 𝓤) (W : Given
       ∷ ‵ (owns (u64 ∷ MutSlice (named 0) κ₀ u64 ∷ MutSlice (named 1) κ₁ u8 ∷ u64 ∷ bool ∷ ShrSlice (named 2) κ₂ R ∷ usize ∷ MutSlice (named 3) κ₃ u8 ∷ []) args at) ∷ []) ∵
       enter ! (𝓣 .C) (𝓣 .Λ) code.function (vint w64 n ∷ s₀ ∷ s₁ ∷ vint w64 used ∷ vbool known ∷ s₂ ∷ vint w64 place₀ ∷ s₃ ∷ []) _ $
       alloc1 ! (λ l₀. alloc1 ! (λ l₁. alloc1 ! (λ l₂. alloc1 ! (λ l₃. alloc1 ! (λ l₄. alloc1 ! (λ l₅. alloc1 ! (λ l₆. alloc1 ! (λ l₇. alloc1 ! (λ l₈. alloc1 ! (λ l₉. alloc1 ! (λ l₁₀. alloc1 ! (λ l₁₁. alloc1 ! (λ l₁₂. alloc1 ! (λ l₁₃. alloc1 ! (λ l₁₄. alloc1 ! (λ l₁₅. alloc1 ! (λ l₁₆. alloc1 ! (λ l₁₇. alloc1 ! (λ l₁₈. alloc1 ! (λ l₁₉. alloc1 ! (λ l₂₀. alloc0 ! $ params1 ! $
-      pass1 ! (init ! 38 refl (tt, record { fits = gn })) $
-      pass1 ! (init ! 36 refl (tt, (tt, (record { fits = g₀ .0 }, tt)))) $
-      pass1 ! (init ! 34 refl (tt, (tt, (record { fits = g₁ .0 }, tt)))) $
-      pass1 ! (init ! 32 refl (tt, record { fits = gu })) $
-      pass1 ! (init ! 30 refl (tt, tt)) $
-      pass1 ! (init ! 28 refl (tt, (tt, (record { fits = g₂ .0 }, tt)))) $
-      pass1 ! (init ! 26 refl (tt, record { fits = gp })) $
-      pass1 ! (init ! 24 refl (tt, (tt, (record { fits = g₃ .0 }, tt)))) $
-      pass0 ! $
+      pass1 ! (init ! 38 refl (tt, record { fits = gn })) $ pass1 ! (init ! 36 refl (tt, (tt, (record { fits = g₀ .0 }, tt)))) $
+      pass1 ! (init ! 34 refl (tt, (tt, (record { fits = g₁ .0 }, tt)))) $ pass1 ! (init ! 32 refl (tt, record { fits = gu })) $
+      pass1 ! (init ! 30 refl (tt, tt)) $ pass1 ! (init ! 28 refl (tt, (tt, (record { fits = g₂ .0 }, tt)))) $
+      pass1 ! (init ! 26 refl (tt, record { fits = gp })) $ pass1 ! (init ! 24 refl (tt, (tt, (record { fits = g₃ .0 }, tt)))) $ pass0 ! $
       assigns ! (of-opd ! (load ! (from ! (stop !)) (look ! 32 refl))) (from ! (stop !)) (init ! 22 refl (tt, record { fits = gu })) $
-      assigns ! (of-opd ! (lit ! tt)) (from ! (stop !)) (init ! 20 refl (tt, record { fits = lit< tt })) $
-      move ! (42 ∷ []) $
-      split ! $
-      move ! (1 ∷ []) $
-      split ! $
-      move ! (1 ∷ []) $
-      split ! $
-      move ! (1 ∷ []) $
-      split ! $
-      move ! (47 ∷ []) $
-      fsplit ! $
-      move ! (1 ∷ []) $
-      fsplit ! $
-      move ! (1 ∷ []) $
-      fsplit ! $
-      move ! (1 ∷ []) $
-      fsplit ! $
-      move ! (1 ∷ []) $
-      fsplit ! $
-      move ! (1 ∷ []) $
-      fsplit ! $
-      move ! (1 ∷ []) $
-      fsplit ! $
-      move ! (1 ∷ []) $
-      fsplit ! $
-      move ! (3 ∷ []) $
-      fsplit ! $
-      move ! (1 ∷ []) $
-      fsplit ! $
+      assigns ! (of-opd ! (lit ! tt)) (from ! (stop !)) (init ! 20 refl (tt, record { fits = lit< tt })) $ move ! (42 ∷ []) $ split ! $ move ! (1 ∷ []) $
+      split ! $ move ! (1 ∷ []) $ split ! $ move ! (1 ∷ []) $ split ! $ move ! (47 ∷ []) $ fsplit ! $ move ! (1 ∷ []) $ fsplit ! $ move ! (1 ∷ []) $
+      fsplit ! $ move ! (1 ∷ []) $ fsplit ! $ move ! (1 ∷ []) $ fsplit ! $ move ! (1 ∷ []) $ fsplit ! $ move ! (1 ∷ []) $ fsplit ! $ move ! (1 ∷ []) $
+      fsplit ! $ move ! (3 ∷ []) $ fsplit ! $ move ! (1 ∷ []) $ fsplit ! $
       keep ! (1 ∷ 13 ∷ 9 ∷ 15 ∷ 8 ∷ 14 ∷ 3 ∷ 11 ∷ 38 ∷ 36 ∷ 34 ∷ 32 ∷ 30 ∷ 28 ∷ 26 ∷ 24 ∷ 22 ∷ 20 ∷ 18 ∷ 16 ∷ 54 ∷ 52 ∷ 50 ∷ 48 ∷ 46 ∷ 44 ∷ 42 ∷ 40 ∷ 56 ∷ 2 ∷ 0 ∷ 57 ∷ 55 ∷ 53 ∷ 51 ∷ 49 ∷ 47 ∷ 45 ∷ 43 ∷ 41 ∷ 39 ∷ 37 ∷ 35 ∷ 33 ∷ 31 ∷ 29 ∷ 27 ∷ 25 ∷ 23 ∷ 21 ∷ 19 ∷ 17 ∷ []) $
       by ! (loops 𝓣 knows g₀ g₁ g₂ g₃ gn gu gp (asks .0) (asks .1) l₀ l₁ l₂ l₃ l₄ l₅ l₆ l₇ l₈ l₉ l₁₀ l₁₁ l₁₂ l₁₃ l₁₄ l₁₅ l₁₆ l₁₇ l₁₈ l₁₉ l₂₀))))))))))))))))))))))
 
