@@ -1,5 +1,5 @@
 -- `run_numbers` meets its contract: the first steps of the slices, on a record in place.
-use mathlib.Core.Path.{_≡_, refl}
+use mathlib.Core.Path.{_∙_, _≡_, refl}
 use Prim.Native.Nat.{_-_}
 use lib.Dec.{eqb}
 use lib.ListN.{length}
@@ -76,9 +76,9 @@ loop-again c =
       run-block-more (lent S) _ _ _ (l .k) (L .block-length .result) (omega (arith, m .1, I .loop-test .taken))
           (omega (arith, S .pre .0, steps-long (a .ops .now) (a .a .now) (a .b .now) (a .value .now))) (S .pre .1)
           (B .block-at .result) (B .block-at .ensures) _ _ _ _ (l .inv .0) _ _ _ _ (R .run-block .ensures),
-      search needs,
-      search needs,
-      search needs,
+      R .run-block .kept .1 .0 ∙ l .inv .1,
+      R .run-block .kept .1 .1 .0 ∙ l .inv .2,
+      R .run-block .kept .1 .1 .1 .1 .1 .1 .1 .1 .0 ∙ l .inv .3,
       known-left (record {
         held = record { n = a .n; neighbours = l .neighbours; codes = l .codes };
         used = l .word;
