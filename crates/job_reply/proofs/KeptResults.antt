@@ -19,16 +19,16 @@ use Rattle.used.specs.Used.{UsedRecord}
 use Rattle.job_reply.specs.internal.Room.{resultIn}
 
 -- ---- an answer from its one number
-told : (r o d : ℕ) → o < 2 → d < 2 → ((r * 4 + o * 2 + d) / 4 ≡ r) × (((r * 4 + o * 2 + d) / 2 % 2 ≡ o)
+told : (r o d : ℕ) → r < 63 → o < 2 → d < 2 → ((r * 4 + o * 2 + d) / 4 % 64 ≡ r) × (((r * 4 + o * 2 + d) / 2 % 2 ≡ o)
     × ((r * 4 + o * 2 + d) % 2 ≡ d))
-told r o d ho hd = (omega (arith, ho, hd), (omega (arith, ho, hd), omega (arith, ho, hd)))
+told r o d hr ho hd = (omega (arith, hr, ho, hd), (omega (arith, ho, hd), omega (arith, ho, hd)))
 
 abbrev result : ℕ → ℕ → ℕ → Result
 result r o d = record { refusal = r; outcome = o; determined = d }
 
-pub unpacked : (a : Answer) → SmallAnswer a → result (packed a / 4) (packed a / 2 % 2) (packed a % 2) ≡ resultOf a
+pub unpacked : (a : Answer) → SmallAnswer a → result (packed a / 4 % 64) (packed a / 2 % 2) (packed a % 2) ≡ resultOf a
 unpacked a S =
-    let t = told (a .refusal) (a .outcome) (a .determined) (S .outcome) (S .determined) in
+    let t = told (a .refusal) (a .outcome) (a .determined) (S .refusal) (S .outcome) (S .determined) in
     λ i. result (t .0 i) (t .1 .0 i) (t .1 .1 i)
 
 -- ---- places
@@ -60,8 +60,8 @@ module _ (u : UsedRecord) (steps : List Step) (before nb cs : List ℕ) (used : 
     (R : LentRun u steps 0 before nb cs used after) where
   each : (k : ℕ) → k < length steps → resultIn after k ≡ resultsOf u steps k
   each k inside =
-      ap (λ t. result (getD t k 0 / 4) (getD t k 0 / 2 % 2) (getD t k 0 % 2)) (R .answers)
-      ∙ ap (λ p. result (p / 4) (p / 2 % 2) (p % 2))
+      ap (λ t. result (getD t k 0 / 4 % 64) (getD t k 0 / 2 % 2) (getD t k 0 % 2)) (R .answers)
+      ∙ ap (λ p. result (p / 4 % 64) (p / 2 % 2) (p % 2))
           (written-at before (packedAnswers u steps) k long ∙ packed-at (stepAnswers u steps) k long)
       ∙ unpacked (getD (stepAnswers u steps) k noAnswer)
           (small-answer (run u (take k steps)) (getD steps k none) _ (answer-at u steps k none noAnswer inside))

@@ -45,7 +45,7 @@ fresh n count out upto few room =
       no-edge = repeated-part n 64 0 upto;
       eights = repeated-part n 64 8 upto;
       few = few;
-      kept = subst (λ m. count ≤ m) (sym (length-replicate 4096 0)) few;
+      kept = subst (λ m. count ≤ m) (sym (length-replicate {A = ℕ} 4096 0)) few;
       room = room;
     }
 
