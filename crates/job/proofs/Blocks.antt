@@ -1,6 +1,6 @@
 -- The text read so far, block after block.
 use mathlib.Core.List.{List, [], _++_}
-use mathlib.Core.Path.{_∙_, _≡_, ap, ap₂, subst, sym}
+use mathlib.Core.Path.{_∙_, _≡_, ap, ap₂, sym}
 use Prim.Native.Nat.{ℕ}
 use lib.ListN.{length, length-replicate, replicate}
 use Rattle.jobs.proofs.ParallelLaws.{steps-zero}
@@ -8,7 +8,8 @@ use Rattle.jobs.specs.internal.Parallel.{OneLength, numberedOp, stepsIn}
 use Rattle.job_text.proofs.Feeding.{fed-append}
 use Rattle.job_text.specs.declared.scan.Scan.{Scan}
 use Rattle.job_text.specs.internal.Scan.{asReading, begin, empty, fed, Reading}
-use Rattle.job.specs.internal.Reads.{NoSteps, ScannedJob}
+use Rattle.job.specs.Reads.{NoSteps}
+use Rattle.job.specs.internal.Reads.{ScannedJob}
 
 -- nothing is read
 pub no-block : (s : Scan) (ops a b value : List ℕ) → s ≡ begin → NoSteps ops a b value
@@ -31,7 +32,7 @@ one-block r r′ block S e =
 
 -- the slices have 4,096 places each
 pub full : (ops a b value : List ℕ) → NoSteps ops a b value → (length ops ≡ 4096) × OneLength ops a b value
-full ops a b value N = (ap length (N .no-op) ∙ length-replicate 4096 0, record {
+full ops a b value N = (ap length (N .no-op) ∙ length-replicate {A = ℕ} 4096 0, record {
   first = ap length (N .no-first) ∙ sym (ap length (N .no-op));
   second = ap length (N .no-second) ∙ sym (ap length (N .no-op));
   values = ap length (N .no-value) ∙ sym (ap length (N .no-op));

@@ -6,14 +6,13 @@ use job_scan::start;
 use job_text::scan::Scan;
 use libc::STDIN_FILENO;
 use libc::STDOUT_FILENO;
-ghost use mathlib.Core.Path.{_≡_};
 ghost use Prim.Native.Nat.{_≤_};
-ghost use lib.ListN.{length, replicate};
-ghost use Rattle.jobs.specs.internal.Parallel.{OneLength, stepsIn};
+ghost use lib.ListN.{length};
+ghost use Rattle.jobs.specs.internal.Parallel.{stepsIn};
 ghost use Rattle.job_reply.specs.Room.{longest};
 ghost use Rattle.job_text.specs.internal.Scan.{asReading};
-ghost use Rattle.job.specs.Reads.{Responded};
-ghost use Rattle.job.specs.internal.Reads.{NoSteps, ScannedJob};
+ghost use Rattle.job.specs.Reads.{NoSteps, Responded};
+ghost use Rattle.job.specs.internal.Reads.{ScannedJob};
 
 // Reads standard input to its end, block after block, and keeps the steps in the slices.
 fn read_job(ops: &mut [u8], a: &mut [u16], b: &mut [u16], value: &mut [u16]) -> Scan
