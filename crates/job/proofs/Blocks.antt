@@ -2,7 +2,7 @@
 use mathlib.Core.List.{List, [], _++_}
 use mathlib.Core.Path.{_∙_, _≡_, ap, ap₂, sym}
 use Prim.Native.Nat.{ℕ}
-use lib.ListN.{length, length-replicate, replicate}
+use lib.ListN.{length, length-replicate}
 use Rattle.jobs.proofs.ParallelLaws.{steps-zero}
 use Rattle.jobs.specs.internal.Parallel.{OneLength, numberedOp, stepsIn}
 use Rattle.job_text.proofs.Feeding.{fed-append}
@@ -32,8 +32,11 @@ one-block r r′ block S e =
 
 -- the slices have 4,096 places each
 pub full : (ops a b value : List ℕ) → NoSteps ops a b value → (length ops ≡ 4096) × OneLength ops a b value
-full ops a b value N = (ap length (N .no-op) ∙ length-replicate {A = ℕ} 4096 0, record {
-  first = ap length (N .no-first) ∙ sym (ap length (N .no-op));
-  second = ap length (N .no-second) ∙ sym (ap length (N .no-op));
-  values = ap length (N .no-value) ∙ sym (ap length (N .no-op));
-})
+full ops a b value N = (
+  ap length (N .no-op) ∙ length-replicate {A = ℕ} 4096 0,
+  record {
+    first = ap length (N .no-first) ∙ sym (ap length (N .no-op));
+    second = ap length (N .no-second) ∙ sym (ap length (N .no-op));
+    values = ap length (N .no-value) ∙ sym (ap length (N .no-op));
+  },
+)

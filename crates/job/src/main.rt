@@ -36,13 +36,7 @@ fn read_job(ops: &mut [u8], a: &mut [u16], b: &mut [u16], value: &mut [u16]) -> 
 }
 
 // Prints the answer to the text on standard input. The slices are for its steps.
-fn respond(
-    ops: &mut [u8],
-    a: &mut [u16],
-    b: &mut [u16],
-    value: &mut [u16],
-    out: &mut [u8],
-) -> usize
+fn respond(ops: &mut [u8], a: &mut [u16], b: &mut [u16], value: &mut [u16], out: &mut [u8]) -> usize
     requires { ⌜ NoSteps (now ops) (now a) (now b) (now value) × (longest ≤ length (now out)) ⌝ }
     ensures { λ r. ⌜ Responded (now (out .entry)) (now (out .exit)) r ⌝ }
 {

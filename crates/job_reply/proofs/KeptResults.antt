@@ -1,8 +1,8 @@
 -- What is printed of the answers that a run kept is what is printed of its steps.
 use mathlib.Core.List.{_++_, List, [], map, _∷_}
 use mathlib.Core.Path.{_∙_, _≡_, ap, refl, subst, sym}
-use Prim.Native.Nat.{_%_, _*_, _+_, _/_, _<_, _≤_, suc, zero, ℕ}
-use native.Mathlib.Nat.{le-of-suc-le-suc, not-suc-le-zero, zero-add}
+use Prim.Native.Nat.{_%_, _*_, _+_, _/_, _<_, suc, zero, ℕ}
+use native.Mathlib.Nat.{le-of-suc-le-suc, not-suc-le-zero}
 use native.Mathlib.Omega.{arith}
 use lib.ListN.{drop, getD, length, take}
 use Rattle.job_text.specs.Answer.{noAnswer, resultOf, resultsOf}
@@ -62,9 +62,9 @@ module _ (u : UsedRecord) (steps : List Step) (before nb cs : List ℕ) (used : 
   each k inside =
       ap (λ t. result (getD t k 0 / 4 % 64) (getD t k 0 / 2 % 2) (getD t k 0 % 2)) (R .answers)
       ∙ ap (λ p. result (p / 4 % 64) (p / 2 % 2) (p % 2))
-          (written-at before (packedAnswers u steps) k long ∙ packed-at (stepAnswers u steps) k long)
+      (written-at before (packedAnswers u steps) k long ∙ packed-at (stepAnswers u steps) k long)
       ∙ unpacked (getD (stepAnswers u steps) k noAnswer)
-          (small-answer (run u (take k steps)) (getD steps k none) _ (answer-at u steps k none noAnswer inside))
+      (small-answer (run u (take k steps)) (getD steps k none) _ (answer-at u steps k none noAnswer inside))
     where
       long : k < length (packedAnswers u steps)
       long = subst (λ m. k < m) (sym (answers-long u steps)) inside

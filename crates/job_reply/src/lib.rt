@@ -54,7 +54,18 @@ fn print_run(
         (stepsIn (now (ops .entry)) (now (a .entry)) (now (b .entry)) (now (value .entry))))) 0
         (now (out .entry)) (now (out .exit)) r ⌝ }
 {
-    let used = run_numbers(n as u64, neighbours, codes, 0, count, ops, a, b, value, answers);
+    let used = run_numbers(
+        n as u64,
+        neighbours,
+        codes,
+        0,
+        count,
+        ops,
+        a,
+        b,
+        value,
+        answers,
+    );
     let at = print_results(count, answers, out);
     print_record(n, neighbours, codes, used, at, out)
 }
@@ -93,14 +104,7 @@ fn answer(
 }
 
 // Prints the answer to the text that was scanned, whatever text it was.
-pub fn reply(
-    scan: Scan,
-    ops: &[u8],
-    a: &[u16],
-    b: &[u16],
-    value: &[u16],
-    out: &mut [u8],
-) -> usize
+pub fn reply(scan: Scan, ops: &[u8], a: &[u16], b: &[u16], value: &[u16], out: &mut [u8]) -> usize
     requires { ⌜ (longest ≤ length (now out)) × (length (now ops) ≡ 4096)
         × OneLength (now ops) (now a) (now b) (now value) ⌝ }
     ensures { λ r. ⌜ ((t : List ℕ)

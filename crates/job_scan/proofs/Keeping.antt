@@ -4,7 +4,7 @@ use mathlib.Core.Path.{_∙_, _≡_, ap, sym}
 use Prim.Native.Nat.{_<_, ℕ}
 use lib.ListN.{length, set}
 use Rattle.jobs.proofs.ParallelLaws.{op-back, steps-set}
-use Rattle.jobs.specs.internal.Parallel.{OneLength, numbered, numberedOp, opNumber, stepsIn}
+use Rattle.jobs.specs.internal.Parallel.{OneLength, numberedOp, opNumber, stepsIn}
 use Rattle.job_text.specs.declared.scan.Scan.{Scan}
 use Rattle.job_text.specs.internal.Scan.{stepOf}
 
@@ -21,8 +21,11 @@ numbers-kept ops a b value s o e inside L =
 pub still-full : (ops a b value ops′ a′ b′ value′ : List ℕ) → (length ops ≡ 4096) × OneLength ops a b value
     → length ops′ ≡ length ops → length a′ ≡ length a → length b′ ≡ length b → length value′ ≡ length value
     → (length ops′ ≡ 4096) × OneLength ops′ a′ b′ value′
-still-full ops a b value ops′ a′ b′ value′ L eo ea eb ev = (eo ∙ L .0, record {
-  first = ea ∙ L .1 .first ∙ sym eo;
-  second = eb ∙ L .1 .second ∙ sym eo;
-  values = ev ∙ L .1 .values ∙ sym eo;
-})
+still-full ops a b value ops′ a′ b′ value′ L eo ea eb ev = (
+  eo ∙ L .0,
+  record {
+    first = ea ∙ L .1 .first ∙ sym eo;
+    second = eb ∙ L .1 .second ∙ sym eo;
+    values = ev ∙ L .1 .values ∙ sym eo;
+  },
+)

@@ -1,6 +1,6 @@
 -- Runs of lent steps, one behind the other: no step, one step, and steps behind steps.
 use mathlib.Core.Bool.{Bool}
-use mathlib.Core.List.{_++_, List, [], map, _∷_}
+use mathlib.Core.List.{_++_, List, [], _∷_}
 use mathlib.Core.Path.{_∙_, _≡_, ap, refl, subst, sym}
 use Prim.Native.Nat.{_+_, _<_, _^_, _≤_, suc, ℕ}
 use native.Mathlib.Omega.{arith}
@@ -96,7 +96,7 @@ module _ (u : UsedRecord) where
           answers = T .answers
               ∙ ap (λ t. overwritten t (at + length xs) (packedAnswers (run u xs) ys)) (R .answers)
               ∙ ap (λ k. overwritten (overwritten before at (packedAnswers u xs)) (at + k) (packedAnswers (run u xs) ys))
-                  (sym long)
+              (sym long)
               ∙ write-more before at (packedAnswers u xs) (omega (arith, long)) (packedAnswers (run u xs) ys)
               ∙ ap (overwritten before at) (sym (answers-append u xs ys));
         }

@@ -13,7 +13,25 @@ use denote.Memory.{mem, shares}
 use denote.RattleType.{RattleType}
 use ghost.Atoms.{Atoms, sem}
 use prog.Wp.{Heap}
-use types.Kit.{!, Given, _$_, _∵_, _⊛_, done, drop as dropᴷ, feqI, fjoin, fsplit, move, qed, rewrite, split, use1, use2, ‵}
+use types.Kit.{
+  !,
+  Given,
+  _$_,
+  _∵_,
+  _⊛_,
+  done,
+  drop as dropᴷ,
+  feqI,
+  fjoin,
+  fsplit,
+  move,
+  qed,
+  rewrite,
+  split,
+  use1,
+  use2,
+  ‵,
+}
 use types.SemTy.{cells}
 use types.Share.{arr-parts}
 

@@ -97,5 +97,14 @@ pub fn run_block(
     }) (take count steps) at (now (answers .entry)) (now (neighbours .exit)) (now (codes .exit)) r
         (now (answers .exit)) ⌝ }
 {
-    run_lent(n, neighbours, codes, used, known, &steps[..count], at, answers)
+    run_lent(
+        n,
+        neighbours,
+        codes,
+        used,
+        known,
+        &steps[..count],
+        at,
+        answers,
+    )
 }

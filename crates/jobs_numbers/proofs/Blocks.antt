@@ -7,7 +7,7 @@ use native.Mathlib.Nat.{suc-add, zero-add}
 use native.Mathlib.Omega.{arith}
 use lib.ListN.{drop, getD, length, length-set, set, take}
 use lib.Seq.{getD-set-other, getD-set-same, length-take-le}
-use Rattle.jobs.proofs.ParallelLaws.{block-is, steps-long}
+use Rattle.jobs.proofs.ParallelLaws.{block-is}
 use Rattle.jobs.specs.declared.Step.{Step}
 use Rattle.jobs.specs.internal.Parallel.{numbered, stepIn, stepsIn}
 use Rattle.jobs_lent.proofs.LentLaws.{none-ran, ran-on}

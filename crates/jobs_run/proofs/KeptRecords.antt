@@ -2,7 +2,6 @@
 use mathlib.Core.Bool.{Bool, false, true}
 use mathlib.Core.List.{List, [], _∷_}
 use mathlib.Core.Path.{_≡_, subst, sym}
-use Prim.Native.Nat.{ℕ}
 use native.Mathlib.Decide.{ℕ-discrete}
 use Rattle.call_gates.specs.internal.Knowing.{Known}
 use Rattle.jobs.proofs.Numbers.{accepted-leaves, accepted-number, refused-keeps}
