@@ -16,6 +16,7 @@ use Rattle.call_image.specs.Images.{imageCall}
 use Rattle.call_orbit.specs.OrbitCalls.{orbitCall}
 use Rattle.call_expand.specs.Expanding.{expandCall}
 use Rattle.call_lists.specs.Calls.{checkCall, reduceUnusedCall}
+use Rattle.jobs.specs.Standing.{left}
 use Rattle.operations.specs.Steps.{complementOf, czOn, gateWith, measurementOf, pivotOf, pivotRecord}
 use Rattle.call_product.specs.Products.{productCall}
 use Rattle.call_strings.specs.StringCalls.{readStringsCall, writeStringsCall}
@@ -56,7 +57,6 @@ use Rattle.claims.specs.OperationsDemand.{
   OutcomeContradicted,
   MeasurementStands,
   RewrittenAs,
-  left,
 }
 use Rattle.claims.specs.PartsDemand.{DecidedByParts, LargePart, SmallParts}
 use Rattle.claims.specs.ProductDemand.{ProductAnswer}
