@@ -1,0 +1,4 @@
+pub mod StoreExamples
+pub mod ManyRecords
+pub mod StoreNumbers
+pub mod Searching
