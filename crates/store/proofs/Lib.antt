@@ -2,3 +2,5 @@ pub mod StoreExamples
 pub mod ManyRecords
 pub mod StoreNumbers
 pub mod Searching
+pub mod PassingStores
+pub mod SavePlaces
