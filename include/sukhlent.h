@@ -53,7 +53,8 @@
 #include <stddef.h>
 #include <stdint.h>
 
-/* The version of this header: major * 10000 + minor * 100 + patch, and as a text. */
+/* The version of this header: major * 10000 + minor * 100 + patch, and as a text.
+ * sukhlent_version answers that of the library. */
 #define SUKHLENT_VERSION 1200
 #define SUKHLENT_VERSION_TEXT "0.12.0"
 
@@ -140,6 +141,9 @@ static inline const char *sukhlent_refusal_text(uint8_t number)
 #ifdef __cplusplus
 extern "C" {
 #endif
+
+/* The version of the library, as SUKHLENT_VERSION has it. */
+uint32_t sukhlent_version(void);
 
 /* Checks a generator list. Writes nothing.
  * Refusals: 2, 4, 5, 6, 9, 10. */

@@ -65,7 +65,7 @@ int main(void)
     struct state ghz = zeros(), other = zeros();
     uint8_t outcome, determined;
 
-    printf("version %s\n", SUKHLENT_VERSION_TEXT);
+    printf("header and library have one version: %d\n", sukhlent_version() == SUKHLENT_VERSION);
     gate(&ghz, 0, SUKHLENT_GATE_H);
     cnot(&ghz, 0, 1);
     cnot(&ghz, 1, 2);

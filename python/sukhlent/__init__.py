@@ -14,6 +14,7 @@ from .answers import Equivalence, Image, Measured
 from .codes import NAMES, code, images
 from .drawing import circle, grid, line
 from .jobs import Result, Step, generate, job_text, parse_job, run_job, run_step
+from .library import version
 from .lists import GeneratorList
 from .orbits import edges_of, number_of, orbit
 from .refusals import TEXTS, Refusal
@@ -23,5 +24,5 @@ from .texts import read_list, read_record, read_state
 __all__ = [
     "Equivalence", "GeneratorList", "Image", "Measured", "NAMES", "Refusal", "Result", "State", "Step", "TEXTS",
     "circle", "code", "edges_of", "generate", "grid", "images", "job_text", "line", "number_of", "orbit", "parse_job",
-    "read_list", "read_record", "read_state", "run_job", "run_step",
+    "read_list", "read_record", "read_state", "run_job", "run_step", "version",
 ]  # fmt: skip

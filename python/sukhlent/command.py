@@ -10,6 +10,7 @@ from typing import Callable
 
 from . import forms
 from .drawing import Place, grid, line
+from .library import version
 from .programs import fed, path_of
 from .refusals import TEXTS, Refusal
 from .state import State
@@ -95,6 +96,7 @@ def _compare(first: str, second: str) -> int:
 def parser() -> argparse.ArgumentParser:
     """The command's arguments."""
     top = argparse.ArgumentParser(prog="sukhlent", description=_ABOUT)
+    top.add_argument("--version", action="version", version=f"sukhlent {version()}")
     commands = top.add_subparsers(dest="command", required=True, metavar="COMMAND")
 
     def command(name: str, about: str) -> argparse.ArgumentParser:

@@ -4,7 +4,7 @@ from __future__ import annotations
 
 import ctypes
 import os
-from ctypes import POINTER, c_size_t, c_uint8, c_uint16, c_uint64
+from ctypes import POINTER, c_size_t, c_uint8, c_uint16, c_uint32, c_uint64
 from pathlib import Path
 from typing import Iterable, Union
 
@@ -65,10 +65,22 @@ def _load() -> ctypes.CDLL:
         function = getattr(library, f"sukhlent_{name}")
         function.argtypes = arguments
         function.restype = c_uint8
+    library.sukhlent_version.argtypes = ()
+    library.sukhlent_version.restype = c_uint32
     return library
 
 
 _library = _load()
+
+
+def version() -> str:
+    """The version of the library that was loaded.
+
+    >>> version().count(".")
+    2
+    """
+    number = _library.sukhlent_version()
+    return f"{number // 10000}.{number // 100 % 100}.{number % 100}"
 
 
 class Cell:

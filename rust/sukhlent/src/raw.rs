@@ -18,6 +18,8 @@
 
 mod calls {
     extern "C" {
+        pub fn sukhlent_version() -> u32;
+
         pub fn sukhlent_check(
             n: u64,
             signs: *const u8,
@@ -238,6 +240,17 @@ pub const JOB_PLACES: usize = 61_463;
 /// assert_eq!(sukhlent::raw::ORBIT_PLACES, 1 << (6 * 5 / 2));
 /// ```
 pub const ORBIT_PLACES: usize = 32_768;
+
+/// The version of the library: major * 10000 + minor * 100 + patch.
+///
+/// ```
+/// // Before 1.0 the major number is 0.
+/// assert_eq!(sukhlent::raw::version() / 10_000, 0);
+/// ```
+pub fn version() -> u32 {
+    // SAFETY: the call takes nothing and answers a constant.
+    unsafe { calls::sukhlent_version() }
+}
 
 /// Checks a generator list.
 ///
