@@ -53,7 +53,8 @@
 #include <stddef.h>
 #include <stdint.h>
 
-/* The version of this header: major * 10000 + minor * 100 + patch, and as a text. */
+/* The version of this header: major * 10000 + minor * 100 + patch, and as a text.
+ * sukhlent_version answers that of the library. */
 #define SUKHLENT_VERSION 1200
 #define SUKHLENT_VERSION_TEXT "0.12.0"
 
@@ -100,12 +101,17 @@
 #define SUKHLENT_TEXT_PLACES 61463
 #define SUKHLENT_ORBIT_PLACES 32768
 
-/* A session starts with every qubit in +Z: no neighbours, every code SUKHLENT_GATE_H, no qubit
- * used. CNOT is SUKHLENT_GATE_H at the target, CZ, SUKHLENT_GATE_H at the target. A random
- * outcome: ask with one bit, and where that is refused by SUKHLENT_CONTRADICTED, with the other. Two states are equal
- * exactly if their reduced records are equal buffers. No call keeps anything between calls: two
- * threads may call at once, each with buffers of its own, and buffers that are only read (const)
- * may be the same one. */
+/* Recipes (examples/c/recipes.c).
+ *
+ * A session starts with every qubit in +Z: no neighbours, every code SUKHLENT_GATE_H, used 0.
+ * CNOT is H, CZ, H: SUKHLENT_GATE_H at the target, sukhlent_cz, SUKHLENT_GATE_H at the target.
+ * A random outcome: ask sukhlent_measure with one fair bit; where that is refused by
+ *   SUKHLENT_CONTRADICTED the state determines the outcome, and the other bit is it.
+ * Equal states: two reduced records have equal neighbours and codes exactly if their states are
+ *   equal. What gate, cz, measure and reduce leave is reduced; any other record is reduced by
+ *   sukhlent_expand and sukhlent_reduce.
+ * Threads: no call keeps anything between calls. Two threads may call at once, each with buffers
+ *   of its own for what is not const. */
 
 /* What a refusal number means, in words. */
 static inline const char *sukhlent_refusal_text(uint8_t number)
@@ -135,6 +141,9 @@ static inline const char *sukhlent_refusal_text(uint8_t number)
 #ifdef __cplusplus
 extern "C" {
 #endif
+
+/* The version of the library, as SUKHLENT_VERSION has it. */
+uint32_t sukhlent_version(void);
 
 /* Checks a generator list. Writes nothing.
  * Refusals: 2, 4, 5, 6, 9, 10. */

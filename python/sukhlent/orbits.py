@@ -7,6 +7,7 @@ from typing import Iterable
 
 from . import library
 from .refusals import accept
+from .state import neighbour_words
 
 
 def number_of(n: int, edges: Iterable[tuple[int, int]]) -> int:
@@ -20,7 +21,11 @@ def number_of(n: int, edges: Iterable[tuple[int, int]]) -> int:
 
 
 def edges_of(n: int, number: int) -> list[tuple[int, int]]:
-    """The edges of the graph with this number."""
+    """The edges of the graph with this number.
+
+    >>> edges_of(4, 4)
+    [(0, 3)]
+    """
     pairs = [(a, b) for a in range(n) for b in range(a + 1, n)]
     return [pair for place, pair in enumerate(pairs) if number >> place & 1]
 
@@ -31,10 +36,6 @@ def orbit(n: int, edges: Iterable[tuple[int, int]]) -> list[int]:
     >>> orbit(3, [(0, 1), (1, 2)])
     [3, 5, 6, 7]
     """
-    neighbours = [0] * n
-    for a, b in edges:
-        neighbours[a] |= 1 << b
-        neighbours[b] |= 1 << a
     places, count = (ctypes.c_uint16 * 32768)(), library.word()
-    accept(library.call("orbit", n, library.words(neighbours), places, count))
+    accept(library.call("orbit", n, library.words(neighbour_words(n, edges)), places, count))
     return list(places[: count.value])

@@ -2,10 +2,12 @@
 
 mod common;
 
+mod build_script;
 mod c_example;
 mod comparisons;
 mod cut_refusals;
 mod cuts;
+mod documentation;
 mod example_states;
 mod examples;
 mod exhaustive;

@@ -193,7 +193,7 @@ fn measure() -> Vec<usize> {
     all.unwrap().join().unwrap()
 }
 
-/// A row of the README's table.
+/// A row of the table in docs/SPEED.md.
 fn row(name: &str, n: usize) -> String {
     format!("| {name} | {n} | ")
 }
@@ -210,18 +210,18 @@ fn main() {
 mod tests {
     use super::*;
 
-    const README: &str = include_str!("../../../../README.md");
+    const SPEED: &str = include_str!("../../../../docs/SPEED.md");
 
     #[test]
-    fn the_readme_says_what_each_call_needs_within_a_fifth() {
+    fn the_document_says_what_each_call_needs_within_a_fifth() {
         for ((name, n, _), bytes) in CALLS.iter().zip(measure()) {
             let row = row(name, *n);
-            let said = README.lines().find_map(|line| line.strip_prefix(&row));
+            let said = SPEED.lines().find_map(|line| line.strip_prefix(&row));
             let said = said.unwrap_or_else(|| panic!("no line {row}"));
             let said: usize = said.trim_end_matches(" |").parse().unwrap();
             assert!(
                 5 * bytes <= 6 * said && 4 * said <= 5 * bytes,
-                "{name} on {n}: {bytes} bytes, the README says {said}"
+                "{name} on {n}: {bytes} bytes, docs/SPEED.md says {said}"
             );
         }
     }
