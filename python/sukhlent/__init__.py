@@ -11,11 +11,11 @@ Measured(outcome=0, determined=False)
 from .codes import NAMES, code, images
 from .jobs import Result, Step, generate, parse_job, run_job
 from .lists import GeneratorList
-from .orbits import orbit
+from .orbits import Orbit, orbit
 from .refusals import TEXTS, Refusal
 from .state import Equivalence, Image, Measured, State
 
 __all__ = [
-    "Equivalence", "GeneratorList", "Image", "Measured", "NAMES", "Refusal", "Result", "State", "Step", "TEXTS",
+    "Equivalence", "GeneratorList", "Image", "Measured", "NAMES", "Orbit", "Refusal", "Result", "State", "Step", "TEXTS",
     "code", "generate", "images", "orbit", "parse_job", "run_job",
 ]  # fmt: skip

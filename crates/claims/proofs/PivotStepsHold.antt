@@ -6,7 +6,7 @@ use mathlib.Core.Path.{_∙_, _≡_, ap, ap₂, refl, subst, sym}
 use Prim.Native.Nat.{_<_, ℕ}
 use native.Mathlib.Omega.{arith}
 use lib.Dec.{eqb, lit<}
-use borrow.Author.Tests.{eq-eqb, eqb-true, not-false}
+use borrow.Author.Tests.{eq-eqb, eqb-true}
 use Rattle.buffers.proofs.Lines.{first-below}
 use Rattle.buffers.specs.Refusals.{firstFitting, withTest}
 use Rattle.call_gates.specs.InPlaceCalls.{usedCall}
@@ -22,11 +22,11 @@ use Rattle.jobs.proofs.Numbers.{
 }
 use Rattle.jobs.specs.Asked.{numberOf}
 use Rattle.jobs.specs.Runs.{afterStep, run}
-use Rattle.operations.specs.Steps.{Operation, complementOf, leaves, linesOf, pivotOf, pivotRecord}
+use Rattle.operations.specs.Steps.{complementOf, leaves, linesOf, pivotOf, pivotRecord}
 use Rattle.record.proofs.Unique.{record-path}
 use Rattle.record.proofs.WrittenRecords.{writtenRecord}
 use Rattle.record.specs.Lent.{heldRecord}
-use Rattle.record.specs.Records.{GraphRecord, complementRecord}
+use Rattle.record.specs.Records.{complementRecord}
 use Rattle.used.proofs.AcceptedSteps.{after-made}
 use Rattle.used.proofs.LeftRecords.{used-left}
 use Rattle.used.proofs.UsedPassing.{used-step}
@@ -40,7 +40,7 @@ use Rattle.claims.proofs.JobSteps.{call-of}
 use Rattle.claims.proofs.RewritingsKeep.{complements-keep, pivots-keep}
 use Rattle.claims.proofs.UsedDemandHolds.{left-is}
 use Rattle.claims.proofs.UsedExactly.{no-stray, none-wrong, used-complement, used-exactly, used-pivot}
-use Rattle.claims.specs.Arguments.{Free, IsRecord}
+use Rattle.claims.specs.Arguments.{Free}
 use Rattle.claims.specs.families.Records.{ComplementFits}
 use Rattle.claims.specs.CutDemand.{rankAcross}
 use Rattle.claims.specs.OperationsDemand.{RewrittenAs}
