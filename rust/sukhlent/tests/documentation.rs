@@ -34,8 +34,7 @@ fn every_public_item_has_an_example() {
         let path = entry.unwrap().path();
         let text = fs::read_to_string(&path).unwrap();
         for (line, comment) in items(&text).iter().filter(|(line, _)| is_item(line)) {
-            // Their examples are made by the macro around them; pivot is to be withdrawn.
-            let named = line.contains("$name") || line.contains("fn pivot(");
+            let named = line.contains("$name"); // its example is made by the macro around it
             assert!(
                 named || comment.contains("```"),
                 "{}: {line}",
