@@ -19,10 +19,11 @@
  * the word of used qubits is checked and plays no part in it. With the word 0 no qubit is used.
  *
  * Every buffer passes as a pointer and its length in elements, and has n places where its call
- * does not say otherwise. Buffers must not overlap. The calls on a record in place (gate, cz,
- * measure, complement, pivot) read `neighbours` and `codes` and write the new record there;
- * measure reads and writes *used too, and the others leave the word as it is. All other buffers
- * that are not const are lent for the answer: what they hold before the call does not matter.
+ * does not say otherwise. A buffer that is not const must overlap no other; const buffers may be
+ * the same one. The calls on a record in place (gate, cz, measure, complement) read `neighbours`
+ * and `codes` and write the new record there; measure reads and writes *used too, and the others
+ * leave the word as it is. All other buffers that are not const are lent for the answer: what they
+ * hold before the call does not matter.
  *
  * Every call answers 0 where it accepts, or the first number of this list whose line is true; the
  * list is in checking order. A refused call changes no buffer.
@@ -35,8 +36,8 @@
  *       seed 0
  *    7  a graph is not simple, or a used vertex has a neighbour or a code other than 0, 2, 4, 6, 8
  *       and 10
- *    8  a qubit number is n or more, CZ or a pivot names one qubit twice, or a pivot's pair has no
- *       edge
+ *    8  a qubit number is n or more, or CZ names one qubit twice; in a job also: a pivot names one
+ *       qubit twice, or its pair has no edge
  *   16  the call names a used qubit
  *    9  two generators do not commute
  *   10  the generators are dependent
@@ -55,8 +56,8 @@
 
 /* The version of this header: major * 10000 + minor * 100 + patch, and as a text.
  * sukhlent_version answers that of the library. */
-#define SUKHLENT_VERSION 1200
-#define SUKHLENT_VERSION_TEXT "0.12.0"
+#define SUKHLENT_VERSION 1300
+#define SUKHLENT_VERSION_TEXT "0.13.0"
 
 /* Refusals by name, in checking order. */
 #define SUKHLENT_ACCEPTED 0
@@ -211,15 +212,6 @@ uint8_t sukhlent_complement(uint64_t n,
                             uint8_t *codes, size_t codes_len,
                             uint64_t used,
                             uint64_t a);
-
-/* Pivots on an edge: complements at j, k and j. The group stays; the record is not reduced. A used
- * vertex has no edge, so that a pivot there is refused by 8.
- * Refusals: 2, 4, 5, 6, 7, 8 (`j` or `k` is n or more, they are the same, or have no edge). */
-uint8_t sukhlent_pivot(uint64_t n,
-                       uint64_t *neighbours, size_t neighbours_len,
-                       uint8_t *codes, size_t codes_len,
-                       uint64_t used,
-                       uint64_t j, uint64_t k);
 
 /* Sends a graph through its codes, by the image rule: writes the image graph, a sign per vertex
  * (1 for minus) and the vertices at which the graph is complemented, in order. `list` has 96

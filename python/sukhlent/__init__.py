@@ -16,13 +16,13 @@ from .drawing import circle, grid, line
 from .jobs import Result, Step, generate, job_text, parse_job, run_job, run_step
 from .library import version
 from .lists import GeneratorList
-from .orbits import edges_of, number_of, orbit
+from .orbits import Orbit, edges_of, number_of, orbit
 from .refusals import TEXTS, Refusal
 from .state import State
 from .texts import read_list, read_record, read_state
 
 __all__ = [
-    "Equivalence", "GeneratorList", "Image", "Measured", "NAMES", "Refusal", "Result", "State", "Step", "TEXTS",
-    "circle", "code", "edges_of", "generate", "grid", "images", "job_text", "line", "number_of", "orbit", "parse_job",
+    "Equivalence", "GeneratorList", "Image", "Measured", "NAMES", "Orbit", "Refusal", "Result", "State", "Step",
+    "TEXTS", "circle", "code", "edges_of", "generate", "grid", "images", "job_text", "line", "number_of", "orbit", "parse_job",
     "read_list", "read_record", "read_state", "run_job", "run_step", "version",
 ]  # fmt: skip

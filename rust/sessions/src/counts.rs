@@ -12,7 +12,6 @@ pub struct Counts {
     /// Measurements whose outcome was determined.
     pub determined: u64,
     pub complements: u64,
-    pub pivots: u64,
     /// Measurements whose bit the state forbids.
     pub impossible: u64,
     /// Calls that name a used qubit.
@@ -28,14 +27,13 @@ impl fmt::Display for Counts {
         write!(
             f,
             "{} gates, {} CZ, {} outcomes chosen, {} determined and {} impossible, \
-             {} complements, {} pivots, {} on used qubits, {} refused, {} starts anew",
+             {} complements, {} on used qubits, {} refused, {} starts anew",
             self.gates,
             self.czs,
             self.chosen,
             self.determined,
             self.impossible,
             self.complements,
-            self.pivots,
             self.used,
             self.refused,
             self.starts

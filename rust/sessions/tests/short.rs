@@ -16,14 +16,13 @@ fn sixty_four_qubits() {
             chosen,
             determined,
             complements,
-            pivots,
             impossible,
             used,
             refused,
             starts,
         } = counts;
         let outcomes = [chosen, determined, impossible, used, refused];
-        let all = [&outcomes, &[gates, czs, complements, pivots][..]].concat();
+        let all = [&outcomes, &[gates, czs, complements][..]].concat();
         assert!(all.iter().all(|&times| times > 50), "{counts}");
         assert_eq!(all.iter().sum::<u64>(), 6000);
         assert!(starts > 5, "{counts}");

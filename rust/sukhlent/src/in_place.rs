@@ -160,15 +160,3 @@ pub fn complement(record: &mut Record, a: usize) -> Result<(), Refusal> {
     let number = raw::complement(n, neighbours, codes, record.used, a as u64);
     Refusal::unless_accepted(number)
 }
-
-/// Complements at j, k and j again, where j and k have an edge. The record is not reduced, and the
-/// group stays.
-///
-/// Refusals: 2, 4, 5, 6, 7, 8 for a vertex out of range, one vertex twice or a pair with no edge, as
-/// is each with a used vertex.
-pub fn pivot(record: &mut Record, j: usize, k: usize) -> Result<(), Refusal> {
-    let n = record.n() as u64;
-    let (neighbours, codes) = (&mut record.neighbours, &mut record.codes);
-    let number = raw::pivot(n, neighbours, codes, record.used, j as u64, k as u64);
-    Refusal::unless_accepted(number)
-}

@@ -57,7 +57,7 @@ pub use comparison::{compare, Comparison};
 pub use cut::cut;
 pub use generator::generate;
 pub use image::{image, Image};
-pub use in_place::{complement, cz, gate, measure, pivot, Measured, Pauli};
+pub use in_place::{complement, cz, gate, measure, Measured, Pauli};
 pub use list::{check, reduce, GeneratorList};
 pub use orbit::{orbit, Orbit};
 pub use product::{product, Product};

@@ -106,17 +106,6 @@ mod calls {
             a: u64,
         ) -> u8;
 
-        pub fn sukhlent_pivot(
-            n: u64,
-            neighbours: *mut u64,
-            neighbours_len: usize,
-            codes: *mut u8,
-            codes_len: usize,
-            used: u64,
-            j: u64,
-            k: u64,
-        ) -> u8;
-
         pub fn sukhlent_image(
             n: u64,
             neighbours: *const u64,
@@ -463,22 +452,6 @@ pub fn complement(n: u64, neighbours: &mut [u64], codes: &mut [u8], used: u64, a
             codes.len(),
             used,
             a,
-        )
-    }
-}
-
-/// Pivots the record on an edge.
-pub fn pivot(n: u64, neighbours: &mut [u64], codes: &mut [u8], used: u64, j: u64, k: u64) -> u8 {
-    unsafe {
-        calls::sukhlent_pivot(
-            n,
-            neighbours.as_mut_ptr(),
-            neighbours.len(),
-            codes.as_mut_ptr(),
-            codes.len(),
-            used,
-            j,
-            k,
         )
     }
 }

@@ -119,8 +119,8 @@ impl Refusal {
                  or a code other than 0, 2, 4, 6, 8 and 10"
             }
             Refusal::Place => {
-                "a qubit number is n or more, CZ or a pivot names one qubit twice, \
-                 or a pivot's pair has no edge"
+                "a qubit number is n or more, CZ or a job's pivot names one qubit twice, \
+                 or that pivot's pair has no edge"
             }
             Refusal::Used => "the call names a used qubit",
             Refusal::Anticommuting => "two generators do not commute",

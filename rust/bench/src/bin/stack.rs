@@ -21,7 +21,7 @@ const CASES: u64 = 100;
 type Measured = (&'static str, usize, fn(&mut Random, usize) -> usize);
 
 /// Every public call. All arguments are accepted, so that every step is taken.
-const CALLS: [Measured; 18] = [
+const CALLS: [Measured; 17] = [
     ("check", 64, |random, n| {
         let given = list(&random_rows(random, n));
         depth(|| raw::check(n as u64, &given.signs, &given.z, &given.x))
@@ -57,11 +57,6 @@ const CALLS: [Measured; 18] = [
     ("complement", 64, |random, n| {
         in_place(random, n, |n, words, codes, used| {
             raw::complement(n, words, codes, *used, 0)
-        })
-    }),
-    ("pivot", 64, |random, n| {
-        in_place(random, n, |n, words, codes, used| {
-            raw::pivot(n, words, codes, *used, 0, 1)
         })
     }),
     ("image", 64, |random, n| {
