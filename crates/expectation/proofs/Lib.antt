@@ -1,0 +1,4 @@
+pub mod Examples
+pub mod ValueLaws
+pub mod Reading
+pub mod ReadWords
