@@ -16,4 +16,5 @@ pub mod ProgramDemand
 pub mod UsedDemand
 pub mod Sentences
 pub mod OrbitDemand
+pub mod ExpectationDemand
 pub mod internal

@@ -1,6 +1,6 @@
 -- Values of rows on small records, computed from the definition.
 use mathlib.Core.Bool.{false}
-use mathlib.Core.List.{List, [], map, _∷_}
+use mathlib.Core.List.{[], _∷_}
 use mathlib.Core.Path.{refl, _≡_}
 use Prim.Native.Nat.{ℕ}
 use Rattle.clifford.specs.Vectors.{act}

@@ -2,3 +2,4 @@ pub mod Examples
 pub mod ValueLaws
 pub mod Reading
 pub mod ReadWords
+pub mod CarriedValues

@@ -1,6 +1,6 @@
 -- The value as the code reads it: from the words of the row that was sent back, and of the element with its x bits.
 use mathlib.Core.Bool.{Bool, cond, false, true, true≢false}
-use mathlib.Core.Path.{ap, ap₂, refl, subst, sym, _∙_, _≡_}
+use mathlib.Core.Path.{ap, refl, subst, sym, _∙_, _≡_}
 use Prim.Native.Nat.{_<_, _^_, ℕ}
 use lib.Dec.{eqb}
 use borrow.Author.Tests.{eqb-false, eqb-true}
@@ -9,7 +9,7 @@ use Rattle.clifford.specs.Vectors.{act, codesOf}
 use Rattle.graph.proofs.GraphGroups.{graph-commuting}
 use Rattle.graph.specs.Graph.{graphGenerator}
 use Rattle.pauli.proofs.PauliLaws.{Pauli-path}
-use Rattle.pauli.proofs.PhaseLaws.{exponent-two, minus-⊕}
+use Rattle.pauli.proofs.PhaseLaws.{exponent-two}
 use Rattle.pauli.proofs.WordRows.{exponent-power}
 use Rattle.pauli.specs.Pauli.{_+ᵖ_, Pauli, Phase, imaginary, i², i³, i¹, i⁰, minus, power, signBit, signedRow}
 use Rattle.pauli.specs.declared.Generator.{Generator}

@@ -1,10 +1,10 @@
 -- The value of a row: 0, 1 or 2 by membership, and 2 exactly if some element of the group does not commute with it.
 use mathlib.Core.Bool.{Bool, cond, false, true, true≢false}
-use mathlib.Core.Logic.{inl, inr, _↔_, _⊎_}
+use mathlib.Core.Logic.{inl, inr, _↔_}
 use mathlib.Core.Path.{ap, ap₂, refl, subst, sym, _∙_, _≡_}
 use Prim.Native.Nat.{ℕ, _≤_}
 use native.Mathlib.Omega.{arith}
-use Rattle.pauli.proofs.PauliLaws.{mul-scaled, square}
+use Rattle.pauli.proofs.PauliLaws.{anticommute-letters, mul-scaled, square}
 use Rattle.pauli.specs.Pauli.{Pauli, anticommute, imaginary, i², scaled}
 use Rattle.record.proofs.Maximality.{maximal-list}
 use Rattle.stabilizer.proofs.GroupLaws.{elements-commute, in-mul, in-row}
@@ -83,11 +83,6 @@ module _ (n : ℕ) (rows : ℕ → Pauli) (L : Proper n rows) (p : Pauli) (signe
         (never-true (member n rows (negated p)) (λ t. h .1 (minus-exactly .0 t)))),
   )
 
-  -- the sign has no part in commutation
-  sign-free : (r : Pauli) → anticommute n r (negated p) ≡ anticommute n r p
-  unfolding anticommute
-  sign-free r = refl
-
   pub value-anticommutes : (stabilizerValue n rows p ≡ 2)
       ↔ ((r : Pauli) × (InGroup n n rows r × (anticommute n r p ≡ true)))
   value-anticommutes = (
@@ -97,7 +92,7 @@ module _ (n : ℕ) (rows : ℕ → Pauli) (L : Proper n rows) (p : Pauli) (signe
     ]),
     (λ s. value-neither .1 (
       (λ a. true≢false (sym (s .1 .1) ∙ elements-commute n n rows (L .commuting) (s .1 .0) a)),
-      (λ a. true≢false (sym (s .1 .1) ∙ sym (sign-free (s .0))
+      (λ a. true≢false (sym (s .1 .1) ∙ sym (anticommute-letters n (s .0) p ((s .0) .phase) ((negated p) .phase))
           ∙ elements-commute n n rows (L .commuting) (s .1 .0) a)),
     )),
   )
