@@ -94,6 +94,15 @@ def _compare(first: str, second: str) -> int:
     return 0
 
 
+def _expectation(file: str, rows: list[str]) -> int:
+    state = _state(_text(file))
+    values = [state.expectation(row) for row in rows]
+    print("row value")
+    for row, value in zip(rows, values):
+        print(row, value)
+    return 0
+
+
 def parser() -> argparse.ArgumentParser:
     """The command's arguments."""
     top = argparse.ArgumentParser(
@@ -111,6 +120,10 @@ def parser() -> argparse.ArgumentParser:
     compare = commands.add_parser("compare", help=about, description=about)
     compare.add_argument("file")
     compare.add_argument("second")
+    about = "the expectation values of Pauli rows such as +XZI, 1, -1 or 0; a row with a minus stands after --"
+    expectation = commands.add_parser("expectation", help=about, description=about)
+    expectation.add_argument("file")
+    expectation.add_argument("rows", nargs="+", metavar="row")
     return top
 
 
@@ -125,6 +138,8 @@ def main(arguments: list[str] | None = None) -> int:
         if given.command == "draw":
             print(_state(_text(given.file)).svg())
             return 0
+        if given.command == "expectation":
+            return _expectation(given.file, given.rows)
         return _compare(given.file, given.second)
     except Refusal as refusal:
         return _refused(refusal.number)

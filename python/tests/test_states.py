@@ -1,5 +1,6 @@
 """States against a plain model: rows of Pauli letters followed by hand."""
 
+import itertools
 import random
 import unittest
 
@@ -93,6 +94,22 @@ class States(unittest.TestCase):
         for qubit, number in enumerate(found.choice):
             lines = {send(line, qubit, number) for line in lines}
         self.assertEqual(lines, group(other.generators().strings()))
+
+    def test_values_are_those_of_the_group(self):
+        source = random.Random(3)
+        for _ in range(40):
+            state, _ = run_job(generate(3, 30, source.randrange(1, 1 << 60)))
+            elements = group(state.generators().strings())
+            for letters in map("".join, itertools.product("IXYZ", repeat=3)):
+                due = ("+" + letters in elements) - ("-" + letters in elements)
+                self.assertEqual([state.expectation(sign + letters) for sign in ("", "+", "-")], [due, due, -due])
+
+    def test_rows_of_another_form_are_refused(self):
+        state = State.from_strings("+XX", "+ZZ")
+        for row in ("", "+", "X", "XXX", "+xx", "*XX", "++X", "XX\n"):
+            with self.assertRaises(Refusal) as refused:
+                state.expectation(row)
+            self.assertEqual(refused.exception.number, 1, row)
 
     def test_lists_are_read_and_written(self):
         text = "-XZI\n+ZXZ\n+IZY\n"

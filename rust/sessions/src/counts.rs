@@ -21,6 +21,8 @@ pub struct Counts {
     pub refused: u64,
     /// How often all qubits were used and the session started anew.
     pub starts: u64,
+    /// Rows in the group, rows whose negative is, and others.
+    pub values: [u64; 3],
 }
 
 impl fmt::Display for Counts {
@@ -28,7 +30,8 @@ impl fmt::Display for Counts {
         write!(
             f,
             "{} gates, {} CZ, {} outcomes chosen, {} determined and {} impossible, \
-             {} complements, {} pivots, {} on used qubits, {} refused, {} starts anew",
+             {} complements, {} pivots, {} on used qubits, {} refused, {} starts anew; \
+             {} rows plus, {} minus, {} neither",
             self.gates,
             self.czs,
             self.chosen,
@@ -38,7 +41,10 @@ impl fmt::Display for Counts {
             self.pivots,
             self.used,
             self.refused,
-            self.starts
+            self.starts,
+            self.values[0],
+            self.values[1],
+            self.values[2]
         )
     }
 }

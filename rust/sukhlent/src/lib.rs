@@ -20,6 +20,7 @@
 
 mod comparison;
 mod cut;
+mod expectation;
 mod generator;
 mod image;
 mod in_place;
