@@ -95,11 +95,15 @@ def _compare(first: str, second: str) -> int:
 
 
 def _expectation(file: str, rows: list[str]) -> int:
-    state = _state(_text(file))
-    values = [state.expectation(row) for row in rows]
-    print("row value")
-    for row, value in zip(rows, values):
-        print(row, value)
+    state, lines = _state(_text(file)), ["row value"]
+    for row in rows:
+        try:
+            lines.append(f"{row} {state.expectation(row)}")
+        except Refusal as refusal:
+            if refusal.number == 1:
+                return _refused(1, f"the row {row} is not a sign and {state.n} letters I, X, Y or Z")
+            raise
+    print("\n".join(lines))
     return 0
 
 
