@@ -13,6 +13,7 @@ use Rattle.cut.proofs.Sides.{empty-word, full-word}
 use Rattle.cut.specs.Cut.{crossing, cutRank}
 use Rattle.cut.specs.Kernel.{kernelSize}
 use Rattle.graph.specs.Graph.{Graph, Simple}
+use Rattle.jobs.specs.Standing.{StillRecord, left}
 use Rattle.record.proofs.AcceptedRecords.{accepted-record}
 use Rattle.record.specs.Accepted.{AcceptedRecord}
 use Rattle.record.specs.Lent.{LentRecord, heldRecord}
@@ -30,7 +31,7 @@ use Rattle.claims.specs.CutDemand.{
   PivotsKeepRanks,
   rankAcross,
 }
-use Rattle.claims.specs.OperationsDemand.{CzStands, GateStands, RewrittenAs, StillRecord, left}
+use Rattle.claims.specs.OperationsDemand.{CzStands, GateStands, RewrittenAs}
 
 pub cuts-answer : CutsAnswer
 cuts-answer u side rank rank′ C =

@@ -10,6 +10,7 @@ use Rattle.clifford.specs.Clifford.{cliffordOf, identityClifford}
 use Rattle.contracts.specs.Calls.{Call}
 use Rattle.graph.proofs.Complement.{complement-simple}
 use Rattle.graph.specs.Graph.{Simple}
+use Rattle.jobs.specs.Standing.{left}
 use Rattle.operations.proofs.Rewriting.{pivot-same, pivot-simple}
 use Rattle.operations.proofs.UnrefusedRecords.{complement-above}
 use Rattle.operations.specs.Steps.{Operation, complementOf, leaves, pivotOf, pivotRecord}
@@ -27,7 +28,7 @@ use Rattle.call_gates.specs.InPlaceCalls.{usedCall}
 use Rattle.used.specs.Used.{UsedRecord, usedAfter, usedStep}
 use Rattle.words.proofs.Flags.{neither}
 use Rattle.claims.proofs.GatesFollow.{holds-new}
-use Rattle.claims.specs.OperationsDemand.{ComplementsKeep, PivotsKeep, RewrittenAs, SecondAboutFirst, left}
+use Rattle.claims.specs.OperationsDemand.{ComplementsKeep, PivotsKeep, RewrittenAs, SecondAboutFirst}
 
 -- ---- complements and pivots
 -- a record rewritten to one of the same group, with code 0 at and above n

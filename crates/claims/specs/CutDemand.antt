@@ -9,12 +9,12 @@ use Rattle.contracts.specs.Calls.{Call}
 use Rattle.cut.specs.Cut.{crossing, cutRank}
 use Rattle.cut.specs.Kernel.{kernelSize}
 use Rattle.call_cut.specs.Cuts.{cutCall}
+use Rattle.jobs.specs.Standing.{left}
 use Rattle.operations.specs.Steps.{complementOf, czOn, gateWith, pivotOf}
 use Rattle.record.specs.Lent.{LentRecord, heldRecord}
 use Rattle.call_gates.specs.InPlaceCalls.{inPlaceCall}
 use Rattle.used.specs.Used.{UsedRecord}
 use Rattle.words.specs.Bits.{Word, bit}
-use Rattle.claims.specs.OperationsDemand.{left}
 
 -- the rank across a cut of the graph that a lent record holds
 abbrev pub rankAcross : Word → LentRecord → ℕ

@@ -11,12 +11,13 @@ use Rattle.buffers.specs.Refusals.{firstFitting}
 use Rattle.clifford.specs.Clifford.{cliffordOf}
 use Rattle.clifford.specs.Vectors.{only}
 use Rattle.contracts.specs.Calls.{Call}
+use Rattle.jobs.specs.Standing.{StillRecord, left}
 use Rattle.operations.specs.Cz.{IsCz, cz}
 use Rattle.operations.specs.Gates.{gated}
 use Rattle.operations.specs.Measurement.{Measured, pauliLetter, single}
 use Rattle.operations.specs.Steps.{Operation, complementOf, czOn, gateWith, measurementOf, pivotOf, pivotRecord}
 use Rattle.pauli.specs.Pauli.{Pauli}
-use Rattle.record.specs.Lent.{LentRecord, codeNumbers, heldRecord, heldRows, neighbourWords, recordLines}
+use Rattle.record.specs.Lent.{LentRecord, codeNumbers, heldRecord, heldRows, neighbourWords}
 use Rattle.record.specs.Records.{GraphRecord, SameRecord, complementRecord, rowsOf}
 use Rattle.record.specs.Reduced.{reduced}
 use Rattle.stabilizer.specs.Carries.{Carries}
@@ -24,14 +25,6 @@ use Rattle.stabilizer.specs.Groups.{InGroup, SameGroup}
 use Rattle.call_gates.specs.InPlaceCalls.{inPlaceCall, measureCall, usedCall, usedMeasureCall}
 use Rattle.used.specs.Used.{UsedRecord, usedArgumentsOf, usedStep}
 use Rattle.words.specs.Bits.{isOdd}
-
--- the record that a call leaves
-abbrev pub left : LentRecord → List ℕ → List ℕ → LentRecord
-left l nb cs = record { n = l .n; neighbours = nb; codes = cs }
-
--- it is a record again, so that the next call is about it
-abbrev pub StillRecord : LentRecord → Type 0
-StillRecord l = firstFitting (recordLines l false false) ≡ 0
 
 -- "All three answer the reduced record of the new group"
 pub record IsReduced (l : LentRecord) : Type 0 where

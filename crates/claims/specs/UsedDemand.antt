@@ -11,13 +11,13 @@ use Rattle.buffers.specs.Refusals.{firstFitting}
 use Rattle.call_gates.specs.InPlaceCalls.{inPlaceCall, measureCall, usedCall, usedMeasureCall}
 use Rattle.call_lists.specs.Calls.{reduceUnusedCall}
 use Rattle.contracts.specs.Calls.{Call}
+use Rattle.jobs.specs.Standing.{left}
 use Rattle.operations.specs.Steps.{Operation, linesOf, measurementOf, pivotOf}
 use Rattle.record.specs.Lent.{LentRecord}
 use Rattle.stabilizer.specs.Lists.{GeneratorList}
 use Rattle.used.specs.Used.{UsedRecord, namesUsed, usedLines, usedLinesOf}
 use Rattle.used.specs.UsedLaws.{UsedStay, earlierLines}
 use Rattle.words.specs.Bits.{bit}
-use Rattle.claims.specs.OperationsDemand.{left}
 
 -- a record, with the word of used qubits, that a call leaves
 abbrev pub leftUsed : UsedRecord → List ℕ → List ℕ → ℕ → UsedRecord

@@ -10,7 +10,7 @@ use Rattle.call_cut.specs.Cuts.{cutCall}
 use Rattle.call_expand.specs.Expanding.{expandCall}
 use Rattle.call_gates.specs.InPlaceCalls.{usedCall, usedMeasureCall}
 use Rattle.call_image.specs.Images.{imageCall}
-use Rattle.contracts.proofs.Calling.{refused}
+use Rattle.jobs.specs.Standing.{left}
 use Rattle.operations.specs.Steps.{complementOf, czOn, gateWith, measurementOf, pivotOf, pivotRecord}
 use Rattle.record.specs.Lent.{heldRecord, LentRecord, recordLines}
 use Rattle.record.specs.Records.{complementRecord}
@@ -20,7 +20,7 @@ use Rattle.claims.specs.Arguments.{Free}
 use Rattle.claims.specs.Conforming.{Answered}
 use Rattle.claims.specs.CutDemand.{CutAnswer, rankAcross}
 use Rattle.claims.specs.ImageDemand.{ImageDecided}
-use Rattle.claims.specs.OperationsDemand.{CzStands, GateStands, left, MeasurementStands, OutcomeContradicted, RewrittenAs}
+use Rattle.claims.specs.OperationsDemand.{CzStands, GateStands, MeasurementStands, OutcomeContradicted, RewrittenAs}
 use Rattle.claims.specs.SecondDemand.{BroughtBack}
 use Rattle.claims.specs.SessionDemand.{ByExpanding, czChange, gateChange, MeasuredByExpanding, MeasureNumberByExpanding, NumberByExpanding}
 use Rattle.claims.specs.UsedDemand.{SixteenExactly, UsedCopied, UsedMarked}
