@@ -17,6 +17,7 @@ use Rattle.expectation.proofs.CarriedValues.{value-carried, value-flipped}
 use Rattle.expectation.proofs.ReadWords.{row-of-words}
 use Rattle.expectation.proofs.ValueLaws.{value-anticommutes, value-minus, value-neither, value-plus, value-upto}
 use Rattle.expectation.specs.Values.{stabilizerValue}
+use Rattle.jobs.specs.Standing.{left}
 use Rattle.operations.proofs.CzGroups.{cz-within}
 use Rattle.operations.proofs.CzLaws.{cz-powers, cz-signed}
 use Rattle.operations.proofs.CzValues.{cz-homomorphism, cz-is}
@@ -60,7 +61,7 @@ use Rattle.claims.specs.ExpectationDemand.{
   letterWord,
   valueOn,
 }
-use Rattle.claims.specs.OperationsDemand.{CzStands, GateStands, MeasurementStands, RewrittenAs, left, signedPauli}
+use Rattle.claims.specs.OperationsDemand.{CzStands, GateStands, MeasurementStands, RewrittenAs, signedPauli}
 
 pub expectations-answer : ExpectationsAnswer
 expectations-answer u z x value value′ C = subst (ExpectationAnswer l z x) (sym (C .held .0)) (record {

@@ -13,6 +13,7 @@ use Rattle.clifford.specs.Clifford.{cliffordOf}
 use Rattle.clifford.specs.Vectors.{act, only}
 use Rattle.contracts.specs.Calls.{Call, Contract}
 use Rattle.expectation.specs.Values.{exchanged, stabilizerValue}
+use Rattle.jobs.specs.Standing.{left}
 use Rattle.operations.specs.Cz.{cz}
 use Rattle.operations.specs.Measurement.{pauliLetter}
 use Rattle.operations.specs.Steps.{complementOf, czOn, gateWith, pivotOf}
@@ -22,7 +23,6 @@ use Rattle.stabilizer.specs.Groups.{InGroup, Within}
 use Rattle.stabilizer.specs.Lists.{GeneratorList, rows}
 use Rattle.used.specs.Used.{UsedRecord}
 use Rattle.words.specs.Bits.{digit, isOdd}
-use Rattle.claims.specs.OperationsDemand.{left}
 
 -- the value of a row on the record that two buffers hold
 abbrev pub valueOn : LentRecord → Pauli → ℕ
