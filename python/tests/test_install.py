@@ -72,6 +72,9 @@ class Install(unittest.TestCase):
         words = flags(self.package, "--cflags", "--libs")
         environment = {**os.environ, "LD_LIBRARY_PATH": str(self.prefix / "lib")}
         for compiler, name, standard in (("cc", "first.c", "-std=c99"), ("c++", "first.cc", "-std=c++11")):
+            if not shutil.which(compiler):
+                print(f"no {compiler} here: its program is not compiled", file=sys.stderr)
+                continue
             with self.subTest(compiler=compiler):
                 source = self.prefix.parent / name
                 source.write_text(SOURCE)
