@@ -4,3 +4,6 @@ pub mod StoreNumbers
 pub mod Searching
 pub mod PassingStores
 pub mod SavePlaces
+pub mod Names
+pub mod PlacedParts
+pub mod Lookups
