@@ -28,15 +28,15 @@ use Rattle.call_store.specs.StoreCalls.{saveCall}
 
 module _ (u : UsedRecord) (st : Store) where
   -- the record and the store together
-  both : firstFitting (recordTests (λ m. ofRecord u m || holdsLine m (storeLines 8 st false)))
+  pub both-numbers : firstFitting (recordTests (λ m. ofRecord u m || holdsLine m (storeLines 8 st false)))
       ≡ earlierOf (firstFitting (usedLines u false false false)) (firstFitting (storeLines 8 st false))
-  both = earlier-of-two (ofRecord u) (λ m. holdsLine m (storeLines 8 st false))
+  both-numbers = earlier-of-two (ofRecord u) (λ m. holdsLine m (storeLines 8 st false))
       ∙ ap₂ earlierOf (record-number u) (told-by-number _ _ _ _ _)
 
   pub save-number : (own others r : ℕ) → own ≡ firstFitting (usedLines u false (leb (2 ^ (u .held .n)) 0) false)
       → others ≡ firstFitting (storeLines 8 st false) → r ≡ earlierOf own others
       → r ≡ firstFitting (recordTests (λ m. ofRecord u m || holdsLine m (storeLines 8 st false)))
-  save-number own others r e f g = g ∙ ap₂ earlierOf (no-further u false false e) f ∙ sym both
+  save-number own others r e f g = g ∙ ap₂ earlierOf (no-further u false false e) f ∙ sym both-numbers
 
   module _ (name k : ℕ) (e : k ≡ firstFitting (recordTests (λ m. ofRecord u m || holdsLine m (storeLines 8 st false)))) where
     pub save-refused : (k ≡ 0 → ⊥) → Call (saveCall u name st (st .heads) (st .neighbours) (st .codes)) k
@@ -44,8 +44,8 @@ module _ (u : UsedRecord) (st : Store) where
         (refl, (refl, (refl, tt)))
 
     module _ (z : k ≡ 0) where
-      no-number : (firstFitting (usedLines u false false false) ≡ 0) × (firstFitting (storeLines 8 st false) ≡ 0)
-      no-number = earlier-none _ _ (sym both ∙ sym e ∙ z)
+      pub no-number : (firstFitting (usedLines u false false false) ≡ 0) × (firstFitting (storeLines 8 st false) ≡ 0)
+      no-number = earlier-none _ _ (sym both-numbers ∙ sym e ∙ z)
 
       pub record-passes : AcceptedRecord (u .held)
       record-passes = held-record u (no-number .0)

@@ -37,3 +37,5 @@ pub mod ReachedStates
 pub mod OrbitDemandHolds
 pub mod PivotStepsHold
 pub mod ExpectationDemandHolds
+pub mod StoreDemandHolds
+pub mod NamedSessions

@@ -21,4 +21,5 @@ pub mod Sentences
 pub mod OrbitDemand
 pub mod PivotSteps
 pub mod ExpectationDemand
+pub mod StoreDemand
 pub mod internal
