@@ -83,6 +83,11 @@
 #define SUKHLENT_PAULI_Y 2
 #define SUKHLENT_PAULI_Z 3
 
+/* Answers of sukhlent_expectation. */
+#define SUKHLENT_PLUS 0
+#define SUKHLENT_MINUS 1
+#define SUKHLENT_NEITHER 2
+
 /* Codes of common gates. */
 #define SUKHLENT_GATE_I 0
 #define SUKHLENT_GATE_X 1
@@ -234,6 +239,17 @@ uint8_t sukhlent_cut(uint64_t n,
                      const uint8_t *codes, size_t codes_len,
                      uint64_t used,
                      uint64_t side, uint64_t *rank);
+
+/* Reads the value of a Pauli row on a record's state: the row has sign plus, and at each qubit its
+ * bits (z, x) are 00 for I, 01 for X, 10 for Z, 11 for Y. Writes to *value 0 where the row is in
+ * the group of the record (its expectation value is +1), 1 where its negative is (-1), and 2 where
+ * neither is (0). The record need not be reduced, and the row may have letters at used qubits.
+ * Refusals: 2, 4, 5 (also where `z` or `x` has a bit at or above n), 6, 7. */
+uint8_t sukhlent_expectation(uint64_t n,
+                             const uint64_t *neighbours, size_t neighbours_len,
+                             const uint8_t *codes, size_t codes_len,
+                             uint64_t used,
+                             uint64_t z, uint64_t x, uint8_t *value);
 
 /* Multiplies rows of a list, which need neither commute nor be independent: the word `chosen`
  * names the rows, bit j for row j, and they are taken in index order. Writes the letters of the

@@ -93,6 +93,19 @@ def _compare(first: str, second: str) -> int:
     return 0
 
 
+def _expectation(file: str, rows: list[str]) -> int:
+    state, lines = _state(_text(file)), ["row value"]
+    for row in rows:
+        try:
+            lines.append(f"{row} {state.expectation(row)}")
+        except Refusal as refusal:
+            if refusal.number == 1:
+                return _refused(1, f"the row {row} is not a sign and {state.n} letters I, X, Y or Z")
+            raise
+    print("\n".join(lines))
+    return 0
+
+
 def parser() -> argparse.ArgumentParser:
     """The command's arguments."""
     top = argparse.ArgumentParser(prog="sukhlent", description=_ABOUT)
@@ -111,6 +124,9 @@ def parser() -> argparse.ArgumentParser:
     compare = command("compare", "the least choice of local Cliffords that carries the first state onto the second")
     compare.add_argument("file", metavar="FIRST")
     compare.add_argument("second", metavar="SECOND")
+    expectation = command("expectation", "expectation values, 1, -1 or 0, of Pauli rows such as +XZI (with a minus: after --)")
+    expectation.add_argument("file", metavar="FILE")
+    expectation.add_argument("rows", nargs="+", metavar="ROW")
     return top
 
 
@@ -122,6 +138,8 @@ def main(arguments: list[str] | None = None) -> int:
             return _run(given.command, given.file)
         if given.command == "draw":
             return _draw(given.file, given.layout, given.out)
+        if given.command == "expectation":
+            return _expectation(given.file, given.rows)
         return _compare(given.file, given.second)
     except Refusal as refusal:
         print(f"sukhlent: refused {refusal.number}: {refusal.where or TEXTS[refusal.number]}", file=sys.stderr)

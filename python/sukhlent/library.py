@@ -27,6 +27,7 @@ _CALLS: dict[str, tuple] = {
     "complement": (c_uint64, *_RECORD, c_uint64, c_uint64),
     "image": (c_uint64, *_RECORD, *_IN_WORDS, *_IN_BYTES, *_IN_BYTES, _WORDS),
     "cut": (c_uint64, *_RECORD, c_uint64, c_uint64, _WORDS),
+    "expectation": (c_uint64, *_RECORD, c_uint64, c_uint64, c_uint64, _BYTES),
     "product": (c_uint64, *_LIST, c_uint64, _WORDS, _WORDS, _BYTES),
     "compare": (c_uint64, *_LIST, c_uint64, *_LIST, *_IN_BYTES, *_IN_BYTES, _WORDS),
     "generate": (c_uint64, c_uint64, c_uint64, *_IN_BYTES, _WORDS),

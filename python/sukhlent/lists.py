@@ -11,6 +11,21 @@ from .refusals import Refusal, accept
 _LETTERS = "IXZY"
 
 
+def row_words(row: str, n: int) -> tuple[int, int, int]:
+    """The sign (1 for minus), z word and x word of a row such as `-XZI`, leftmost letter qubit 0; a plus may be left
+    out. A row of another form than a letter for each of n qubits is refused by 1.
+
+    >>> row_words("-XZY", 3)
+    (1, 6, 5)
+    """
+    letters = row[1:] if row[:1] in ("+", "-") else row
+    if len(letters) != n or not set(letters) <= set(_LETTERS):
+        raise Refusal(1)
+    numbers = [_LETTERS.index(letter) for letter in letters]
+    z, x = (sum((number >> bit & 1) << q for q, number in enumerate(numbers)) for bit in (1, 0))
+    return int(row[:1] == "-"), z, x
+
+
 @dataclass(frozen=True)
 class GeneratorList:
     """Signs (1 for minus), z words and x words; bit q of a word belongs to qubit q.

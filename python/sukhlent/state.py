@@ -10,7 +10,7 @@ from . import library
 from .answers import Equivalence, Image, Measured
 from .codes import code
 from .drawing import Place, record_svg
-from .lists import GeneratorList
+from .lists import GeneratorList, row_words
 from .refusals import Refusal, accept
 
 _PAULIS = {"X": 1, "Y": 2, "Z": 3}
@@ -193,6 +193,19 @@ class State:
         word = library.word_of(side)
         accept(library.call("cut", self.n, self._neighbours, self._codes, self._used, word, rank))
         return rank.value
+
+    def expectation(self, row: str) -> int:
+        """The expectation value of a Pauli row such as `+XZI`, leftmost letter qubit 0: 1 where the row is in the group
+        of the state, -1 where its negative is, 0 where neither is. A row of another form is refused by 1.
+
+        >>> bell = State.from_strings("+XX", "+ZZ")
+        >>> [bell.expectation(row) for row in ("+XX", "+YY", "-YY", "XI")]
+        [1, -1, 1, 0]
+        """
+        sign, z, x = row_words(row, self.n)
+        value = library.octet()
+        accept(library.call("expectation", self.n, self._neighbours, self._codes, self._used, z, x, value))
+        return (1, -1, 0)[value.value] * (1 - 2 * sign)
 
     def image(self) -> Image:
         """The graph to which the codes send the graph; refused by 11 or 12 where that is no graph's group.

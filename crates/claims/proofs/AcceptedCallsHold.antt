@@ -1,5 +1,6 @@
 -- Each call is accepted exactly if its arguments fit, from the families.
 use Rattle.claims.proofs.families.Comparisons.{comparisons-accepted}
+use Rattle.claims.proofs.families.Expectations.{expectations-accepted}
 use Rattle.claims.proofs.families.Generator.{generations-accepted}
 use Rattle.claims.proofs.families.Lists.{lists-accepted}
 use Rattle.claims.proofs.families.Orbits.{orbits-accepted}
@@ -14,4 +15,5 @@ accepted-exactly =
       comparisons = comparisons-accepted;
       generator = generations-accepted;
       orbits = orbits-accepted;
+      expectations = expectations-accepted;
     }

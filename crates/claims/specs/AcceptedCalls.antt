@@ -1,6 +1,7 @@
 -- Which calls are accepted, in the documents' words: the number of each exported function is 0 exactly if its arguments
 -- fit.
 use Rattle.claims.specs.families.Comparisons.{ComparisonsAccepted}
+use Rattle.claims.specs.families.Expectations.{ExpectationsAccepted}
 use Rattle.claims.specs.families.Generator.{GenerationsAccepted}
 use Rattle.claims.specs.families.Lists.{ListsAccepted}
 use Rattle.claims.specs.families.Orbits.{OrbitsAccepted}
@@ -13,3 +14,4 @@ pub record AcceptedExactly : Type 0 where
   pub comparisons : ComparisonsAccepted
   pub generator : GenerationsAccepted
   pub orbits : OrbitsAccepted
+  pub expectations : ExpectationsAccepted

@@ -3,6 +3,7 @@
 -- lent byte". That a call ends, and touches no other byte, is what a contract of the language means.
 use Rattle.contracts.specs.Answers.{EveryCallAnswers}
 use Rattle.claims.specs.families.Comparisons.{ComparisonBuffersUnread, ComparisonsConform}
+use Rattle.claims.specs.families.Expectations.{ExpectationsConform}
 use Rattle.claims.specs.families.Generator.{GenerationBuffersUnread, GenerationsConform}
 use Rattle.claims.specs.families.Lists.{ListBuffersUnread, ListsConform}
 use Rattle.claims.specs.families.Orbits.{OrbitBuffersUnread, OrbitsConform}
@@ -16,6 +17,7 @@ pub record FirstDemand : Type 0 where
   pub comparisons : ComparisonsConform
   pub generator : GenerationsConform
   pub orbits : OrbitsConform
+  pub expectations : ExpectationsConform
 
 -- "What a buffer lent only for the answer holds before the call makes no line true": buffers of equal lengths give equal
 -- numbers

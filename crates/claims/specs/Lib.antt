@@ -20,4 +20,5 @@ pub mod UsedDemand
 pub mod Sentences
 pub mod OrbitDemand
 pub mod PivotSteps
+pub mod ExpectationDemand
 pub mod internal

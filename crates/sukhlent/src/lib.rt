@@ -1,5 +1,6 @@
 // The public calls as C sees them, by family. Each passes its arguments on to the proved call that has the same contract.
 pub mod comparisons;
+pub mod expectations;
 pub mod generator;
 pub mod lists;
 pub mod orbits;

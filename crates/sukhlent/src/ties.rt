@@ -1,6 +1,7 @@
 // What the demands say of each exported function, as the contract of a function that does nothing but call it, and
 // asks nothing of its arguments.
 mod comparisons;
+mod expectations;
 mod generator;
 mod lists;
 mod orbits;

@@ -2,10 +2,10 @@
 
 use crate::common::damage::{damage_list, damage_record};
 use crate::common::local::{complemented_record, sent};
-use crate::common::reference::strings_text;
+use crate::common::reference::{product, strings_text};
 use crate::common::{list, mixed, random_components, random_rows, random_sizes, rows, use_up};
-use crate::common::{GenerateCall, ImageLengths, Lengths, ListCall, PairCall, RecordCall, Side};
-use crate::common::{Operation, OrbitCall, Random, ReadCall};
+use crate::common::{GenerateCall, ImageLengths, Lengths, Letters, ListCall, PairCall, RecordCall};
+use crate::common::{Operation, OrbitCall, Random, ReadCall, Side};
 use sukhlent::{expand, GeneratorList, Record};
 
 /// What is done to valid arguments: mostly nothing or little; one in sixteen calls gets noise.
@@ -127,6 +127,27 @@ pub fn cut_call(random: &mut Random, n: usize) -> RecordCall<Side> {
     };
     let record = used_record(random, n);
     harmed(random, record, Side(side))
+}
+
+/// The value of a row on a record of n vertices: mostly of an element of its group, or of one with a
+/// letter changed, at times of any words.
+pub fn expectation_call(random: &mut Random, n: usize) -> RecordCall<Letters> {
+    let record = used_record(random, n);
+    let list = expand(&record).expect("a record");
+    let element = product(&list, random.word() >> (64 - n));
+    let mut row = Letters {
+        z: element.z,
+        x: element.x,
+    };
+    match random.below(8) {
+        0 => row.z = number(random),
+        1 => row.x = number(random),
+        2 => row.z ^= 1 << random.below(n),
+        3 => row.x ^= 1 << random.below(n),
+        4 => row.z = random.word() >> (64 - n),
+        _ => (),
+    }
+    harmed(random, record, row)
 }
 
 /// A job: mostly of few steps, at times near the limit, at times with any numbers or another buffer.

@@ -6,8 +6,9 @@ use crate::common::reference::{argument_refusal, expanded};
 use crate::common::{Operation, Random};
 use crate::counts::Counts;
 use crate::plain;
+use crate::values::{answered, words, ROWS};
 use sukhlent::{GeneratorList, Record};
-use tableau::Tableau;
+use tableau::{Row, Tableau};
 
 /// What stands in the places of an outcome before a call.
 const UNTOUCHED: (u8, u8) = (0xa5, 0x5a);
@@ -15,6 +16,8 @@ const UNTOUCHED: (u8, u8) = (0xa5, 0x5a);
 /// A record, the tableau of the same state, the qubits measured, and what has happened to them.
 pub struct Session {
     random: Random,
+    /// Where the rows come from, apart, so that they leave the calls of a seed as they are.
+    rows: Random,
     record: Record,
     tableau: Tableau,
     /// For each qubit, whether a measurement of it was accepted.
@@ -29,6 +32,7 @@ impl Session {
     pub fn new(n: usize, seed: u64) -> Session {
         Session {
             random: Random::new(seed),
+            rows: Random::new(!seed),
             record: start(n),
             tableau: Tableau::zero(n),
             measured: vec![false; n],
@@ -73,6 +77,17 @@ impl Session {
             })
             .map_err(|e| format!("{operation:?} on {before:?}: {e}"))?;
         self.count(operation, due);
+        (0..ROWS).try_for_each(|kind| self.ask(kind))
+    }
+
+    /// Asks for the value of a row, and compares with the tableau's.
+    fn ask(&mut self, kind: usize) -> Result<(), String> {
+        let (z, x) = words(&mut self.rows, &self.tableau, kind);
+        let due = self.tableau.value(&Row::letters(z, x)).unwrap_or(2);
+        answered(&self.record, z, x)
+            .and_then(|value| same("the value", value, due))
+            .map_err(|e| format!("z {z:x}, x {x:x} on {:?}: {e}", self.record))?;
+        self.counts.values[usize::from(due)] += 1;
         Ok(())
     }
 
@@ -107,7 +122,7 @@ impl Session {
     fn count(&mut self, operation: Operation, due: Result<(u8, u8), u8>) {
         let counts = &mut self.counts;
         *match (due, operation) {
-            (Err(14), _) => &mut counts.impossible,
+            (Err(14), _) => &mut counts.contradicted,
             (Err(16), _) => &mut counts.used,
             (Err(_), _) => &mut counts.refused,
             (_, Operation::Gate(..)) => &mut counts.gates,

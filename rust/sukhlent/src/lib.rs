@@ -42,6 +42,7 @@
 pub mod codes;
 mod comparison;
 mod cut;
+mod expectation;
 mod generator;
 mod image;
 mod in_place;

@@ -132,6 +132,18 @@ mod calls {
             rank: *mut u64,
         ) -> u8;
 
+        pub fn sukhlent_expectation(
+            n: u64,
+            neighbours: *const u64,
+            neighbours_len: usize,
+            codes: *const u8,
+            codes_len: usize,
+            used: u64,
+            z: u64,
+            x: u64,
+            value: *mut u8,
+        ) -> u8;
+
         pub fn sukhlent_product(
             n: u64,
             signs: *const u8,
@@ -513,6 +525,31 @@ pub fn cut(n: u64, neighbours: &[u64], codes: &[u8], used: u64, side: u64, rank:
             used,
             side,
             rank,
+        )
+    }
+}
+
+/// Writes the value of a Pauli row in a record's group: 0 for plus, 1 for minus, 2 for neither.
+pub fn expectation(
+    n: u64,
+    neighbours: &[u64],
+    codes: &[u8],
+    used: u64,
+    z: u64,
+    x: u64,
+    value: &mut u8,
+) -> u8 {
+    unsafe {
+        calls::sukhlent_expectation(
+            n,
+            neighbours.as_ptr(),
+            neighbours.len(),
+            codes.as_ptr(),
+            codes.len(),
+            used,
+            z,
+            x,
+            value,
         )
     }
 }

@@ -80,6 +80,11 @@ fn in_place_prints_its_stored_output() {
 }
 
 #[test]
+fn ring_prints_its_stored_output() {
+    assert_prints_its_stored_output("ring");
+}
+
+#[test]
 fn session_prints_its_stored_output() {
     assert_prints_its_stored_output("session");
 }

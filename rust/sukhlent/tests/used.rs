@@ -72,6 +72,8 @@ fn records_that_are_refused_for_their_used_word() {
         assert_eq!(RecordCall::on(&record).expand(), Err(due), "{record:?}");
         let cut = RecordCall::cut_of(&record, 1).cut();
         assert_eq!(cut, Err(due), "{record:?}");
+        let value = RecordCall::row_of(&record, 1, 1).expectation();
+        assert_eq!(value, Err(due), "{record:?}");
     }
 }
 
@@ -106,6 +108,7 @@ fn the_safe_calls_say_the_same() {
     assert_eq!(forbidden, Err(Refusal::Used), "16 before 14");
     assert_eq!(state, left);
     assert_eq!(cut(&state, 0b01), Ok(0));
+    assert_eq!(state.expectation(0b11, 0), Ok(1));
     assert_eq!(expand(&state), Ok(expanded(&left)));
     assert_eq!(gate(&mut state, 1, 8), Ok(()));
     assert_eq!(state.used, 1);
@@ -236,7 +239,7 @@ fn every_qubit_of_64_is_refused_exactly_where_it_is_used() {
 }
 
 #[test]
-fn where_all_64_qubits_are_used_nothing_but_expanding_and_cutting_is_left() {
+fn where_all_64_qubits_are_used_nothing_but_reading_is_left() {
     let codes: Vec<u8> = (0..64).map(|q| 2 * (q % 6)).collect();
     let all = record(&[0; 64], &codes, u64::MAX);
     for q in 0..64 {
@@ -249,6 +252,8 @@ fn where_all_64_qubits_are_used_nothing_but_expanding_and_cutting_is_left() {
     }
     assert_eq!(expand(&all), Ok(expanded(&all)));
     assert_eq!(cut(&all, 0x5555_5555_5555_5555), Ok(0));
+    assert_eq!(all.expectation(0, 1), Ok(1));
+    assert_eq!(all.expectation(0, 1 << 1), Ok(-1));
     let back = Record { used: 0, ..all };
     assert_eq!(reduced(&expanded(&back)), back);
 }

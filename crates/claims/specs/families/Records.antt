@@ -8,6 +8,7 @@ use lib.ListN.{length}
 use Rattle.buffers.specs.Refusals.{firstFitting}
 use Rattle.call_cut.specs.Cuts.{cutCall}
 use Rattle.call_expand.specs.Expanding.{expandCall, expandLines}
+use Rattle.call_expectation.specs.Expectations.{expectationCall}
 use Rattle.call_gates.specs.InPlaceCalls.{usedCall, usedMeasureCall}
 use Rattle.call_image.specs.Images.{imageCall}
 use Rattle.contracts.specs.Calls.{Call}
@@ -113,3 +114,5 @@ pub record TakenByAll (u : UsedRecord) : Type 0 where
       Call (imageCall (u .held) image signs list count image′ signs′ list′ count′) r → length image ≡ u .held .n →
       length signs ≡ u .held .n → length list ≡ 96 → (r ≡ 0) ⊎ ((r ≡ 11) ⊎ (r ≡ 12))
   pub cut : (side rank rank′ r : ℕ) → Call (cutCall u side rank rank′) r → side < 2 ^ (u .held .n) → r ≡ 0
+  pub expectation : (z x value value′ r : ℕ) → Call (expectationCall u z x value value′) r → z < 2 ^ (u .held .n) →
+      x < 2 ^ (u .held .n) → r ≡ 0

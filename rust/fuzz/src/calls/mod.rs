@@ -20,7 +20,7 @@ pub struct Call {
 }
 
 /// Every public call.
-pub const CALLS: [Call; 15] = [
+pub const CALLS: [Call; 16] = [
     Call {
         name: "check",
         once: lists::check,
@@ -56,6 +56,10 @@ pub const CALLS: [Call; 15] = [
     Call {
         name: "cut",
         once: records::cut,
+    },
+    Call {
+        name: "expectation",
+        once: records::expectation,
     },
     Call {
         name: "product",

@@ -134,6 +134,15 @@ pub fn cut_refusal(n: u64, record: &Record, side: u64) -> u8 {
     }
 }
 
+/// The first line that is true of the value of a row: of a record and of the two words.
+pub fn expectation_refusal(n: u64, record: &Record, z: u64, x: u64) -> u8 {
+    match record_refusal(n, record, &[]) {
+        number @ (2 | 4) => number,
+        _ if stray(z, n) || stray(x, n) => 5,
+        number => number,
+    }
+}
+
 /// The first line that is true of a product: of a list, its lines 9 and 10 apart, and of the word.
 pub fn product_refusal(n: u64, signs: &[u8], z: &[u64], x: &[u64], chosen: u64) -> u8 {
     match list_refusal(n, signs, z, x, &[]) {
