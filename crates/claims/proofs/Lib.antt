@@ -38,4 +38,5 @@ pub mod OrbitDemandHolds
 pub mod PivotStepsHold
 pub mod ExpectationDemandHolds
 pub mod StoreDemandHolds
+pub mod StoreRefusals
 pub mod NamedSessions

@@ -6,3 +6,4 @@ mod generator;
 mod lists;
 mod orbits;
 mod records;
+mod stores;

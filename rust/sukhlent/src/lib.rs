@@ -52,6 +52,7 @@ mod product;
 pub mod raw;
 mod record;
 mod refusal;
+mod store;
 mod strings;
 
 pub use comparison::{compare, Comparison};
@@ -64,4 +65,5 @@ pub use orbit::{orbit, Orbit};
 pub use product::{product, Product};
 pub use record::{expand, Record};
 pub use refusal::Refusal;
+pub use store::Store;
 pub use strings::{read_strings, write_strings};
