@@ -134,9 +134,11 @@ static inline const char *sukhlent_refusal_text(uint8_t number)
     case SUKHLENT_LENGTH: return "a buffer's length is not what is required";
     case SUKHLENT_STRAY: return "a word has a bit at or above n";
     case SUKHLENT_VALUE: return "a sign or outcome is above 1, a code above 23, a Pauli not 1 to 3, or a seed 0";
-    case SUKHLENT_GRAPH: return "a graph is not simple, or a used vertex has a neighbour or a code that no measurement leaves";
+    case SUKHLENT_GRAPH: return "a graph is not simple, or a used vertex has a neighbour or a code that no measurement leaves, or a store holds a name twice";
     case SUKHLENT_QUBIT: return "a qubit number is n or more, or a qubit is named twice";
     case SUKHLENT_USED: return "the call names a used qubit";
+    case SUKHLENT_NOT_HELD: return "a name to return to or forget is not held";
+    case SUKHLENT_FULL: return "a save finds eight other names held";
     case SUKHLENT_ANTICOMMUTE: return "two generators do not commute";
     case SUKHLENT_DEPENDENT: return "the generators are dependent";
     case SUKHLENT_LARGE: return "a connected part has more than 20 vertices";

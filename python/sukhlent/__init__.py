@@ -19,10 +19,11 @@ from .lists import GeneratorList
 from .orbits import Orbit, edges_of, number_of, orbit
 from .refusals import TEXTS, Refusal
 from .state import State
+from .stores import Store
 from .texts import read_list, read_record, read_state
 
 __all__ = [
-    "Equivalence", "GeneratorList", "Image", "Measured", "NAMES", "Orbit", "Refusal", "Result", "State", "Step",
+    "Equivalence", "GeneratorList", "Image", "Measured", "NAMES", "Orbit", "Refusal", "Result", "State", "Step", "Store",
     "TEXTS", "circle", "code", "edges_of", "generate", "grid", "images", "job_text", "line", "number_of", "orbit", "parse_job",
     "read_list", "read_record", "read_state", "run_job", "run_step", "version",
 ]  # fmt: skip
