@@ -1,7 +1,7 @@
 -- After every list of steps, saves, returns and forgets the record stands for the group that the definitions give, and
 -- each held name's record for its group.
 use mathlib.Core.Bool.{_&&_, Bool, cond, false, false≢true, true, true≢false}
-use mathlib.Core.List.{[], List, _∷_}
+use mathlib.Core.List.{[], _∷_}
 use mathlib.Core.Path.{_∙_, _≡_, ap, refl, subst, sym}
 use Prim.Native.Nat.{ℕ}
 use native.Mathlib.Decide.{ℕ-discrete}
@@ -11,13 +11,12 @@ use borrow.Author.Tests.{eq-eqb, eqb-true, ne-eqb}
 use Rattle.buffers.specs.Refusals.{firstFitting}
 use Rattle.call_store.specs.StoreCalls.{heldUnder}
 use Rattle.jobs.proofs.Starting.{started-stands}
-use Rattle.jobs.specs.GroupsAfter.{Group, StartGroup}
-use Rattle.jobs.specs.Runs.{started}
+use Rattle.jobs.specs.GroupsAfter.{Group}
 use Rattle.jobs.specs.Standing.{StandsFor}
 use Rattle.store.proofs.Lookups.{forgotten-lookup, forgotten-passing, held-lookup, saved-lookup, saved-passing}
 use Rattle.store.proofs.PassingStores.{store-passes}
 use Rattle.store.specs.Kept.{forgotten, saved}
-use Rattle.store.specs.Places.{Found, Store, found, lookup, nothing}
+use Rattle.store.specs.Places.{found, lookup, nothing}
 use Rattle.store.specs.StoreLines.{namedLines, saveLines, storeLines}
 use Rattle.used.specs.Used.{UsedRecord}
 use Rattle.words.specs.Search.{some}

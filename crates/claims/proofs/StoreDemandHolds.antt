@@ -1,33 +1,21 @@
 -- Named states: what the calls on a store leave under each name, and sessions over them, from the laws of stores.
-use mathlib.Core.Bool.{_&&_, Bool, and-false, cond, false, not, true, true≢false, _||_}
-use mathlib.Core.List.{[], List, _∷_}
-use mathlib.Core.Logic.{_↔_, inl, inr, _⊎_}
-use mathlib.Core.Path.{_∙_, _≡_, ap, ap₂, refl, subst, sym}
-use Prim.Native.Nat.{_<_, _≤_, ℕ}
-use native.Mathlib.Decide.{ℕ-discrete}
-use native.Mathlib.Omega.{arith}
-use lib.Dec.{eqb, lit<}
+use mathlib.Core.Bool.{Bool, false, not, true, true≢false, _||_}
+use mathlib.Core.List.{[], List}
+use mathlib.Core.Logic.{inl, inr}
+use mathlib.Core.Path.{_∙_, _≡_, ap, refl, subst, sym}
+use Prim.Native.Nat.{_<_, ℕ}
+use lib.Dec.{lit<}
 use lib.ListN.{drop, length, take}
-use lib.Seq.{drop-at, length-take-le, take-at}
-use borrow.Author.Tests.{eq-eqb, ne-eqb, not-false, not-true}
-use Rattle.buffers.proofs.Lines.{none-fits, none-of-all, not-held}
+use lib.Seq.{drop-at, take-at}
+use borrow.Author.Tests.{not-false}
+use Rattle.buffers.proofs.Lines.{none-of-all, not-held}
 use Rattle.buffers.specs.Buffers.{written}
 use Rattle.buffers.specs.Refusals.{firstFitting, otherThan}
 use Rattle.call_store.proofs.Saving.{no-number}
-use Rattle.call_store.specs.StoreCalls.{forgetCall, heldUnder, returnCall, saveCall}
-use Rattle.contracts.proofs.Calling.{no-line}
-use Rattle.contracts.proofs.Fitting.{decides, fits-at, is-first, none-holds, skips}
-use Rattle.contracts.specs.Answers.{here}
-use Rattle.contracts.specs.Calls.{Call}
-use Rattle.jobs.proofs.Starting.{started-stands}
-use Rattle.jobs.specs.GroupsAfter.{Group, GroupAfterStep, StartGroup}
-use Rattle.jobs.specs.Runs.{afterStep, started}
-use Rattle.jobs.specs.Standing.{StandsFor}
-use Rattle.jobs.specs.declared.Step.{Step}
+use Rattle.call_store.specs.StoreCalls.{heldUnder}
 use Rattle.store.proofs.Lookups.{
   forgotten-lookup,
   forgotten-passing,
-  found-nowhere,
   held-lookup,
   held-passes,
   saved-lookup,
@@ -36,39 +24,12 @@ use Rattle.store.proofs.Lookups.{
 use Rattle.store.proofs.PassingStores.{held-record, store-accepted, store-passes}
 use Rattle.store.proofs.SavePlaces.{full}
 use Rattle.store.specs.Kept.{forgotten, savePlace, saved}
-use Rattle.store.specs.Places.{Found, Store, found, holdsName, lookup, nothing, othersHeld, placeAt, placeOf}
+use Rattle.store.specs.Places.{Store, found, holdsName, othersHeld}
 use Rattle.store.specs.StoreLines.{holdsLine, namedLines, ofRecord, recordTests, saveLines, storeLines}
 use Rattle.store.specs.internal.Passing.{Passing}
 use Rattle.used.specs.Used.{UsedRecord, usedLines}
 use Rattle.words.proofs.Sums.{lt-or-ge}
-use Rattle.words.specs.Search.{some}
-use Rattle.claims.proofs.JobsStand.{step-stands}
-use Rattle.claims.specs.StoreDemand.{
-  Action,
-  ForgetKeeps,
-  ForgetsKeep,
-  FullStore,
-  Groups,
-  NotHeld,
-  ReturnsGive,
-  SaveKeeps,
-  SavesKeep,
-  Session,
-  SessionStands,
-  SessionsStand,
-  StartedSessionsStand,
-  afterAction,
-  chosen,
-  does,
-  emptyStore,
-  forgets,
-  groupsAfter,
-  groupsRun,
-  returns,
-  runActions,
-  saves,
-  storeOf,
-}
+use Rattle.claims.specs.StoreDemand.{ForgetKeeps, ForgetsKeep, ReturnsGive, SaveKeeps, SavesKeep, storeOf}
 
 -- ---- what no line tells of a save
 module _ (u : UsedRecord) (name : ℕ) (st : Store) (z : firstFitting (saveLines 8 u name st) ≡ 0) where

@@ -1,6 +1,5 @@
 -- 17 and 18: exactly where no earlier line holds and the name is not held, or each place holds another name.
 use mathlib.Core.Bool.{Bool, cond, false, not, true, _||_}
-use mathlib.Core.Logic.{_↔_}
 use mathlib.Core.Path.{_∙_, _≡_, ap, refl, sym}
 use Prim.Native.Nat.{ℕ}
 use native.Mathlib.Omega.{arith}
@@ -9,7 +8,7 @@ use Rattle.buffers.specs.Refusals.{firstFitting}
 use Rattle.contracts.proofs.Fitting.{decides, fits-at, is-first, none-fits-of, skips}
 use Rattle.contracts.specs.Answers.{here}
 use Rattle.store.proofs.Lookups.{found-nowhere}
-use Rattle.store.specs.Places.{Found, Store, found, holdsName, lookup, nothing, placeAt, placeOf}
+use Rattle.store.specs.Places.{Store, found, holdsName, nothing, placeAt, placeOf}
 use Rattle.store.specs.StoreLines.{holdsLine, namedLines, ofRecord, recordTests, saveLines, storeLines}
 use Rattle.used.specs.Used.{UsedRecord}
 use Rattle.claims.specs.StoreDemand.{FullStore, NotHeld}

@@ -8,7 +8,7 @@ use mathlib.Core.Path.{_≡_}
 use Prim.Native.Nat.{_≤_, ℕ}
 use lib.Dec.{eqb}
 use lib.ListN.{drop, replicate, take}
-use Rattle.buffers.specs.Refusals.{firstFitting, otherThan}
+use Rattle.buffers.specs.Refusals.{firstFitting}
 use Rattle.call_store.specs.StoreCalls.{forgetCall, heldUnder, returnCall, saveCall}
 use Rattle.contracts.specs.Calls.{Call}
 use Rattle.jobs.specs.GroupsAfter.{Group, GroupAfterStep, StartGroup}

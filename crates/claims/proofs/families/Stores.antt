@@ -6,7 +6,7 @@ use mathlib.Core.Path.{ap, ap₂, refl, sym, _∙_, _≡_}
 use Prim.Native.Nat.{ℕ}
 use native.Mathlib.Omega.{arith}
 use lib.Dec.{eqb}
-use lib.ListN.{length, length-set}
+use lib.ListN.{length-set}
 use Rattle.buffers.specs.Refusals.{firstFitting, otherThan}
 use Rattle.call_store.proofs.Saving.{both-numbers}
 use Rattle.call_store.specs.StoreCalls.{heldUnder, returnCall, saveCall}
