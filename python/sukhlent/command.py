@@ -94,15 +94,8 @@ def _compare(first: str, second: str) -> int:
 
 
 def _expectation(file: str, rows: list[str]) -> int:
-    state, lines = _state(_text(file)), ["row value"]
-    for row in rows:
-        try:
-            lines.append(f"{row} {state.expectation(row)}")
-        except Refusal as refusal:
-            if refusal.number == 1:
-                return _refused(1, f"the row {row} is not a sign and {state.n} letters I, X, Y or Z")
-            raise
-    print("\n".join(lines))
+    state = read_state(_text(file))
+    print("\n".join(["row value", *(f"{row} {state.expectation(row)}" for row in rows)]))
     return 0
 
 

@@ -530,6 +530,15 @@ pub fn cut(n: u64, neighbours: &[u64], codes: &[u8], used: u64, side: u64, rank:
 }
 
 /// Writes the value of a Pauli row in a record's group: 0 for plus, 1 for minus, 2 for neither.
+///
+/// ```
+/// // XX, ZZ: YY is there with a minus, XI is not.
+/// let mut value = 9;
+/// assert_eq!(sukhlent::raw::expectation(2, &[2, 1], &[0, 8], 0, 3, 3, &mut value), 0);
+/// assert_eq!(value, 1);
+/// assert_eq!(sukhlent::raw::expectation(2, &[2, 1], &[0, 8], 0, 0, 1, &mut value), 0);
+/// assert_eq!(value, 2);
+/// ```
 pub fn expectation(
     n: u64,
     neighbours: &[u64],
