@@ -54,20 +54,25 @@ def _candidates() -> list[Path]:
 def _load() -> ctypes.CDLL:
     for path in _candidates():
         if path.is_file():
-            library = ctypes.CDLL(str(path))
-            break
-    else:
-        tried = "\n  ".join(str(path) for path in _candidates())
-        raise ImportError(
-            f"{_NAME} was not found. Build it with tools/shared in a clone, install with tools/install PREFIX, or name"
-            f" it in SUKHLENT_LIBRARY. Tried:\n  {tried}"
-        )
-    for name, arguments in _CALLS.items():
-        function = getattr(library, f"sukhlent_{name}")
+            return _declared(ctypes.CDLL(str(path)), path)
+    tried = "\n  ".join(str(path) for path in _candidates())
+    raise ImportError(
+        f"{_NAME} was not found. Build it with tools/shared in a clone, install with tools/install PREFIX, or name"
+        f" it in SUKHLENT_LIBRARY. Tried:\n  {tried}"
+    )
+
+
+def _declared(library: ctypes.CDLL, path: Path) -> ctypes.CDLL:
+    """The library with the types of its calls."""
+    for name, arguments in {**_CALLS, "version": ()}.items():
+        function = getattr(library, f"sukhlent_{name}", None)
+        if function is None:
+            raise ImportError(
+                f"{path} has no sukhlent_{name}: it is of another version than this package. In a clone, build it anew"
+                " with: rt staticlib sukhlent && tools/shared"
+            )
         function.argtypes = arguments
-        function.restype = c_uint8
-    library.sukhlent_version.argtypes = ()
-    library.sukhlent_version.restype = c_uint32
+        function.restype = c_uint32 if name == "version" else c_uint8
     return library
 
 
