@@ -145,7 +145,9 @@ class States(unittest.TestCase):
                         if other not in reached:
                             reached.add(other)
                             todo.append(other)
-                self.assertEqual(orbit(n, edges_of(n, number)), sorted(reached))
+                found = orbit(n, edges_of(n, number))
+                self.assertEqual(found.numbers, sorted(reached))
+                self.assertEqual([number_of(n, graph) for graph in found.graphs()], found.numbers)
 
     def test_a_drawing_has_a_line_for_each_edge(self):
         state = State.graph(5, [(q, (q + 1) % 5) for q in range(5)])

@@ -35,4 +35,5 @@ pub mod UsedDemandHolds
 pub mod SentencesHold
 pub mod ReachedStates
 pub mod OrbitDemandHolds
+pub mod PivotStepsHold
 pub mod ExpectationDemandHolds

@@ -52,7 +52,6 @@ taken-by-all u R =
       measure = λ pauli q b answer determined nb′ cs′ used′ answer′ determined′ r C positive upto free bit.
           accepted-or-14 u pauli q b (in-order u R pauli q b positive upto free bit) (C .number);
       complement = λ a nb′ cs′ r C e. records-accepted .complement u a nb′ cs′ r C .1 (R, e);
-      pivot = λ j k nb′ cs′ r C e f g. records-accepted .pivot u j k nb′ cs′ r C .1 (R, e, f, g);
       image = λ image signs list count image′ signs′ list′ count′ r C e f g.
           one-of r (images-follow (u .held) image signs list count r image′ signs′ list′ count′ C
           (record-exactly (u .held) _ false .1

@@ -19,5 +19,6 @@ pub mod ProgramDemand
 pub mod UsedDemand
 pub mod Sentences
 pub mod OrbitDemand
+pub mod PivotSteps
 pub mod ExpectationDemand
 pub mod internal

@@ -1,5 +1,5 @@
 -- Demand 2, of the public calls on a record lent in place: "Gates, CZ, Pauli measurements .. follow the same
--- definition"; and complements and pivots, which keep the group. Each, but for the measurements that are refused, is said
+-- definition"; and complements, which keep the group. Each, but for the measurements that are refused, is said
 -- of an accepted call: its number is 0, and nb′, cs′ are what the two buffers hold at exit. The used word is left out
 -- where it does not matter: an accepted call with it is accepted without it (UsedDemand).
 use mathlib.Core.Bool.{Bool, false, not, true}
@@ -15,7 +15,7 @@ use Rattle.jobs.specs.Standing.{StillRecord, left}
 use Rattle.operations.specs.Cz.{IsCz, cz}
 use Rattle.operations.specs.Gates.{gated}
 use Rattle.operations.specs.Measurement.{Measured, pauliLetter, single}
-use Rattle.operations.specs.Steps.{Operation, complementOf, czOn, gateWith, measurementOf, pivotOf, pivotRecord}
+use Rattle.operations.specs.Steps.{Operation, complementOf, czOn, gateWith, measurementOf}
 use Rattle.pauli.specs.Pauli.{Pauli}
 use Rattle.record.specs.Lent.{LentRecord, codeNumbers, heldRecord, heldRows, neighbourWords}
 use Rattle.record.specs.Records.{GraphRecord, SameRecord, complementRecord, rowsOf}
@@ -117,11 +117,6 @@ pub record RewrittenAs (l after : LentRecord) (new : GraphRecord) : Type 0 where
 abbrev pub ComplementsKeep : Type 0
 ComplementsKeep = (l : LentRecord) (a : ℕ) (nb′ cs′ : List ℕ) → Call (inPlaceCall l (complementOf a) nb′ cs′) 0 →
     RewrittenAs l (left l nb′ cs′) (complementRecord (heldRecord l) a)
-
--- of every accepted pivot
-abbrev pub PivotsKeep : Type 0
-PivotsKeep = (l : LentRecord) (j k : ℕ) (nb′ cs′ : List ℕ) → Call (inPlaceCall l (pivotOf j k) nb′ cs′) 0 →
-    RewrittenAs l (left l nb′ cs′) (pivotRecord (heldRecord l) j k)
 
 -- ---- two calls, refused or not: the second is about what the first left
 abbrev pub SecondAboutFirst : Type 0

@@ -6,3 +6,4 @@ pub mod lists;
 pub mod orbits;
 pub mod records;
 mod ties;
+pub mod version;

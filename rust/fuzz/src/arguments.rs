@@ -273,7 +273,7 @@ fn lengths<const COUNT: usize>(random: &mut Random, n: usize) -> [usize; COUNT] 
     lengths
 }
 
-/// A call of one kind, 0 to 4, on a record of n vertices in place. Mostly its own arguments are in
+/// A call of one kind, 0 to 3, on a record of n vertices in place. Mostly its own arguments are in
 /// range or one too large; at times they are any numbers. Every second measurement is one in range,
 /// since few others meet a forbidden bit.
 pub fn in_place_call(random: &mut Random, kind: usize, n: usize) -> RecordCall<Operation> {
@@ -408,8 +408,7 @@ fn noisy_operation(random: &mut Random, kind: usize) -> Operation {
         0 => Operation::Gate(a, byte),
         1 => Operation::Cz(a, b),
         2 => Operation::Measure(byte, a, bit),
-        3 => Operation::Complement(a),
-        _ => Operation::Pivot(a, b),
+        _ => Operation::Complement(a),
     }
 }
 

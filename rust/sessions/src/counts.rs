@@ -12,9 +12,8 @@ pub struct Counts {
     /// Measurements whose outcome was determined.
     pub determined: u64,
     pub complements: u64,
-    pub pivots: u64,
     /// Measurements whose bit the state forbids.
-    pub impossible: u64,
+    pub contradicted: u64,
     /// Calls that name a used qubit.
     pub used: u64,
     /// Calls with arguments that are out of range.
@@ -29,16 +28,15 @@ impl fmt::Display for Counts {
     fn fmt(&self, f: &mut fmt::Formatter<'_>) -> fmt::Result {
         write!(
             f,
-            "{} gates, {} CZ, {} outcomes chosen, {} determined and {} impossible, \
-             {} complements, {} pivots, {} on used qubits, {} refused, {} starts anew; \
+            "{} gates, {} CZ, {} outcomes chosen, {} determined and {} contradicted, \
+             {} complements, {} on used qubits, {} refused, {} starts anew; \
              {} rows plus, {} minus, {} neither",
             self.gates,
             self.czs,
             self.chosen,
             self.determined,
-            self.impossible,
+            self.contradicted,
             self.complements,
-            self.pivots,
             self.used,
             self.refused,
             self.starts,

@@ -114,7 +114,7 @@ impl Session {
                 self.measured[q as usize] = true;
                 return Ok((answer.outcome, u8::from(answer.determined)));
             }
-            Operation::Complement(_) | Operation::Pivot(..) => (),
+            Operation::Complement(_) => (),
         }
         Ok(UNTOUCHED)
     }
@@ -122,7 +122,7 @@ impl Session {
     fn count(&mut self, operation: Operation, due: Result<(u8, u8), u8>) {
         let counts = &mut self.counts;
         *match (due, operation) {
-            (Err(14), _) => &mut counts.impossible,
+            (Err(14), _) => &mut counts.contradicted,
             (Err(16), _) => &mut counts.used,
             (Err(_), _) => &mut counts.refused,
             (_, Operation::Gate(..)) => &mut counts.gates,
@@ -130,7 +130,6 @@ impl Session {
             (Ok((_, 0)), Operation::Measure(..)) => &mut counts.chosen,
             (_, Operation::Measure(..)) => &mut counts.determined,
             (_, Operation::Complement(_)) => &mut counts.complements,
-            (_, Operation::Pivot(..)) => &mut counts.pivots,
         } += 1;
     }
 
@@ -144,8 +143,10 @@ impl Session {
             ..reduced(&of_tableau(&self.tableau))
         };
         match operation {
-            Operation::Complement(a) => self.assert_complemented(before, &[a])?,
-            Operation::Pivot(j, k) => self.assert_complemented(before, &[j, k, j])?,
+            Operation::Complement(a) => {
+                let due = complemented_record(before, a as usize);
+                same("the rewritten record", &self.record, &due)?;
+            }
             _ => return same("the record", &self.record, &of_tableau),
         }
         let of_record = Record {
@@ -153,14 +154,6 @@ impl Session {
             ..reduced(&expanded(&self.record))
         };
         same("the group and the used word", of_record, of_tableau)
-    }
-
-    /// The record is the one before, complemented at each vertex.
-    fn assert_complemented(&self, before: &Record, vertices: &[u64]) -> Result<(), String> {
-        let due = vertices.iter().fold(before.clone(), |record, &v| {
-            complemented_record(&record, v as usize)
-        });
-        same("the rewritten record", &self.record, &due)
     }
 }
 

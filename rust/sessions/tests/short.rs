@@ -16,15 +16,14 @@ fn sixty_four_qubits() {
             chosen,
             determined,
             complements,
-            pivots,
-            impossible,
+            contradicted,
             used,
             refused,
             starts,
             values,
         } = counts;
-        let outcomes = [chosen, determined, impossible, used, refused];
-        let all = [&outcomes, &[gates, czs, complements, pivots][..]].concat();
+        let outcomes = [chosen, determined, contradicted, used, refused];
+        let all = [&outcomes, &[gates, czs, complements][..]].concat();
         assert!(all.iter().all(|&times| times > 50), "{counts}");
         assert_eq!(all.iter().sum::<u64>(), 6000);
         assert!(starts > 5, "{counts}");

@@ -18,7 +18,7 @@ fn calls(n: usize) -> (ListCall, RecordCall<Lengths>) {
 }
 
 /// The calls in place on the record of a call.
-fn in_place<W>(call: &RecordCall<W>) -> [RecordCall<Operation>; 5] {
+fn in_place<W>(call: &RecordCall<W>) -> [RecordCall<Operation>; 4] {
     Operation::EACH.map(|with| RecordCall {
         n: call.n,
         neighbours: call.neighbours.clone(),

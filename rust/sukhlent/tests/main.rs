@@ -2,11 +2,13 @@
 
 mod common;
 
+mod build_script;
 mod c_example;
 mod comparisons;
 mod components;
 mod cut_refusals;
 mod cuts;
+mod documentation;
 mod example_states;
 mod examples;
 mod exhaustive;
@@ -28,6 +30,7 @@ mod list_refusals;
 mod orbit_refusals;
 mod orbits;
 mod pair_refusals;
+mod pivot_steps;
 mod product_refusals;
 mod products;
 mod program;

@@ -36,7 +36,6 @@ fn operations(n: u64) -> Vec<Operation> {
         .chain(pairs().map(|(a, b)| Operation::Cz(a, b)))
         .chain(measurements)
         .chain(qubits().map(Operation::Complement))
-        .chain(pairs().map(|(j, k)| Operation::Pivot(j, k)))
         .collect()
 }
 
@@ -47,7 +46,6 @@ fn name(operation: Operation) -> &'static str {
         Operation::Cz(..) => "cz",
         Operation::Measure(..) => "measure",
         Operation::Complement(_) => "complement",
-        Operation::Pivot(..) => "pivot",
     }
 }
 
@@ -75,7 +73,6 @@ fn every_call_on_every_record_with_every_used_word() {
         ("cz", &[0, 5, 6, 7, 8, 16]),
         ("gate", &[0, 5, 6, 7, 8, 16]),
         ("measure", &[0, 5, 6, 7, 8, 14, 16]),
-        ("pivot", &[0, 5, 6, 7, 8]),
     ];
     let due = published.iter();
     let due = due.flat_map(|(name, numbers)| numbers.iter().map(move |&k| (*name, k)));

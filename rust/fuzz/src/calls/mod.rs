@@ -20,7 +20,7 @@ pub struct Call {
 }
 
 /// Every public call.
-pub const CALLS: [Call; 17] = [
+pub const CALLS: [Call; 16] = [
     Call {
         name: "check",
         once: lists::check,
@@ -48,10 +48,6 @@ pub const CALLS: [Call; 17] = [
     Call {
         name: "complement",
         once: in_place::complement,
-    },
-    Call {
-        name: "pivot",
-        once: in_place::pivot,
     },
     Call {
         name: "image",

@@ -104,9 +104,6 @@ pub fn argument_refusal(n: u64, record: &Record, operation: Operation) -> u8 {
     let eight = match operation {
         Operation::Gate(q, _) | Operation::Measure(_, q, _) | Operation::Complement(q) => q >= n,
         Operation::Cz(a, b) => a >= n || b >= n || a == b,
-        Operation::Pivot(j, k) => {
-            j >= n || k >= n || j == k || record.neighbours[j as usize] >> k & 1 == 0
-        }
     };
     if eight {
         return 8;
