@@ -1,6 +1,5 @@
 -- The demands of values, from the call's contract, the laws of values, and what the calls do to the group.
 use mathlib.Core.Bool.{_&&_, Bool, and-false, and-true, false, not, true}
-use mathlib.Core.List.{List}
 use mathlib.Core.Logic.{_≢_, _⊎_, inl, inr}
 use mathlib.Core.Path.{_∙_, _≡_, refl, subst, sym}
 use Prim.Native.Nat.{_<_, _≤_, suc, zero, ℕ}
@@ -29,8 +28,8 @@ use Rattle.pauli.specs.Pauli.{Pauli, i², signedRow, xBit, zBit}
 use Rattle.pauli.specs.declared.Letter.{Letter}
 use Rattle.record.proofs.AcceptedRecords.{accepted-record}
 use Rattle.record.specs.Accepted.{AcceptedRecord}
-use Rattle.record.specs.Lent.{LentRecord, heldRows}
-use Rattle.record.specs.Records.{GraphRecord}
+use Rattle.record.specs.Lent.{LentRecord, heldRecord, heldRows}
+use Rattle.record.specs.Records.{complementRecord}
 use Rattle.stabilizer.proofs.Accepted.{accepted-list}
 use Rattle.stabilizer.proofs.Within.{act-within}
 use Rattle.stabilizer.specs.Groups.{InGroup, Proper, SameGroup, Within}
@@ -42,7 +41,7 @@ use Rattle.words.specs.Bits.{bit, digit, isOdd}
 use Rattle.claims.proofs.Contradictions.{contradictions-refused}
 use Rattle.claims.proofs.GatesFollow.{cz-follows, gates-follow}
 use Rattle.claims.proofs.MeasurementsFollow.{measurements-follow}
-use Rattle.claims.proofs.RewritingsKeep.{complements-keep, pivots-keep}
+use Rattle.claims.proofs.RewritingsKeep.{complements-keep}
 use Rattle.claims.proofs.SecondDemandLists.{reduction-keeps-group}
 use Rattle.claims.proofs.UsedDemandHolds.{accepted-measured-without, reduced-without, reductions-unused}
 use Rattle.claims.specs.ExpectationDemand.{
@@ -54,12 +53,10 @@ use Rattle.claims.specs.ExpectationDemand.{
   GatesCarryValues,
   MeasurementAgrees,
   MeasurementsAgree,
-  PivotsKeepValues,
   ReductionsKeepValues,
   RowOn,
   letterCall,
   letterWord,
-  valueOn,
 }
 use Rattle.claims.specs.OperationsDemand.{CzStands, GateStands, MeasurementStands, RewrittenAs, signedPauli}
 
@@ -206,18 +203,13 @@ same-values : (n : ℕ) (R S : ℕ → Pauli) → Proper n R → Proper n S → 
 same-values n R S P Q G p W = value-carried n R S P Q (λ r. r) (G .there) (λ r. refl) (λ r s. refl) p (W .signed)
     (W .within) (W .signed) (W .within)
 
-rewritten-values : (l : LentRecord) (nb cs : List ℕ) (new : GraphRecord) → AcceptedRecord l
-    → RewrittenAs l (left l nb cs) new → (p : Pauli) → RowOn (l .n) p → valueOn (left l nb cs) p ≡ valueOn l p
-rewritten-values l nb cs new A G = same-values (l .n) (heldRows l) (heldRows (left l nb cs)) (A .proper)
-    (accepted-record (left l nb cs) false false (G .still) .proper) (G .group)
-
 pub complements-keep-values : ComplementsKeepValues
 complements-keep-values l a nb′ cs′ C =
-    rewritten-values l nb′ cs′ _ (held-accepted l _ _ (sym (C .number))) (complements-keep l a nb′ cs′ C)
-
-pub pivots-keep-values : PivotsKeepValues
-pivots-keep-values l j k nb′ cs′ C =
-    rewritten-values l nb′ cs′ _ (held-accepted l _ _ (sym (C .number))) (pivots-keep l j k nb′ cs′ C)
+    same-values (l .n) (heldRows l) (heldRows (left l nb′ cs′)) (held-accepted l _ _ (sym (C .number)) .proper)
+    (accepted-record (left l nb′ cs′) false false (K .still) .proper) (K .group)
+  where
+    K : RewrittenAs l (left l nb′ cs′) (complementRecord (heldRecord l) a)
+    K = complements-keep l a nb′ cs′ C
 
 pub reductions-keep-values : ReductionsKeepValues
 reductions-keep-values l nb cs used nb′ cs′ used′ C =

@@ -16,7 +16,7 @@ use Rattle.expectation.specs.Values.{exchanged, stabilizerValue}
 use Rattle.jobs.specs.Standing.{left}
 use Rattle.operations.specs.Cz.{cz}
 use Rattle.operations.specs.Measurement.{pauliLetter}
-use Rattle.operations.specs.Steps.{complementOf, czOn, gateWith, pivotOf}
+use Rattle.operations.specs.Steps.{complementOf, czOn, gateWith}
 use Rattle.pauli.specs.Pauli.{Pauli, anticommute, imaginary, signedRow, xBit, zBit}
 use Rattle.record.specs.Lent.{LentRecord, heldRows}
 use Rattle.stabilizer.specs.Groups.{InGroup, Within}
@@ -100,11 +100,6 @@ CzCarriesValues = (l : LentRecord) (a b : ℕ) (nb′ cs′ : List ℕ) → Call
 -- a complement changes neither
 abbrev pub ComplementsKeepValues : Type 0
 ComplementsKeepValues = (l : LentRecord) (a : ℕ) (nb′ cs′ : List ℕ) → Call (inPlaceCall l (complementOf a) nb′ cs′) 0 →
-    (p : Pauli) → RowOn (l .n) p → valueOn (left l nb′ cs′) p ≡ valueOn l p
-
--- nor does a pivot
-abbrev pub PivotsKeepValues : Type 0
-PivotsKeepValues = (l : LentRecord) (j k : ℕ) (nb′ cs′ : List ℕ) → Call (inPlaceCall l (pivotOf j k) nb′ cs′) 0 →
     (p : Pauli) → RowOn (l .n) p → valueOn (left l nb′ cs′) p ≡ valueOn l p
 
 -- nor does the reduction of a list: the value is that of the list's group
