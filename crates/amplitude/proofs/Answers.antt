@@ -4,7 +4,9 @@ use mathlib.Core.Logic.{_↔_}
 use mathlib.Core.Path.{_∙_, _≡_, ap, refl, sym}
 use Prim.Native.Nat.{_^_, suc, zero, ℕ}
 use lib.IntN.{ℤ, negsuc, pos}
+use Rattle.cut.specs.Rank.{rank}
 use Rattle.pauli.specs.Pauli.{Pauli, Phase, exponent, i¹, i², i³, i⁰}
+use Rattle.record.specs.Reduced.{xWords}
 use Rattle.stabilizer.proofs.GroupLaws.{same-sym}
 use Rattle.stabilizer.specs.Groups.{Proper, SameGroup}
 use Rattle.words.proofs.Flags.{same-by-both}
@@ -122,9 +124,9 @@ pub plots-vector : (n : ℕ) (R : ℕ → Pauli) (y : ℕ) → PlotsVector n R y
 plots-vector n R y =
     record {
       nothing = nothing (isSupported n R y);
-      real = λ k. real (isSupported n R y) k;
-      imaginary = λ k. imaginary (isSupported n R y) k;
-      probability = λ k. probability (isSupported n R y) k;
+      real = real (isSupported n R y) (rank n n (xWords R));
+      imaginary = imaginary (isSupported n R y) (rank n n (xWords R));
+      probability = probability (isSupported n R y) (rank n n (xWords R));
     }
   where
     nothing : (b : Bool) → (cond b (turned (exponent (ratio n R y))) Nothing ≡ Nothing)
