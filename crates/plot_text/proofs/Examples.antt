@@ -6,13 +6,11 @@ use Prim.Native.Nat.{ℕ, zero, suc, _^_}
 use lib.Ieee.{toBits}
 use lib.ListN.{replicate}
 use Rattle.amplitude.specs.Plotting.{plotted, turned}
-use Rattle.amplitude.specs.Ratios.{amplitudeOf, isSupported, leading, ratio}
+use Rattle.amplitude.specs.Ratios.{isSupported, leading, plotAt, ratio}
 use Rattle.amplitude.specs.Turns.{turnsAt}
-use Rattle.cut.specs.Rank.{rank}
 use Rattle.job_text.specs.Text.{digits}
 use Rattle.pauli.specs.Pauli.{Pauli, identity, mul, signedRow}
 use Rattle.record.specs.Columns.{isColumnDependent}
-use Rattle.record.specs.Reduced.{xWords}
 use Rattle.text.specs.Text.{hexDigit, hexText}
 use Rattle.words.specs.Bits.{bit, fold}
 use Rattle.words.specs.Search.{every, first, some}
@@ -41,7 +39,7 @@ both p r (suc j) = r
 
 -- their table on n qubits
 abbrev tableOf : ℕ → (ℕ → Pauli) → List ℕ
-tableOf n R = tableText (2 ^ n) (λ y. plotted (amplitudeOf n R y) (rank n n (xWords R)))
+tableOf n R = tableText (2 ^ n) (plotAt n R)
 
 abbrev given : List (List ℕ)
 given =
