@@ -1,5 +1,5 @@
 -- The lines of a plot's table: their parts and their lengths.
-use mathlib.Core.List.{List, _++_, append-assoc}
+use mathlib.Core.List.{List, [], _∷_, _++_, append-assoc}
 use mathlib.Core.Path.{_≡_, ap, subst, sym, _∙_}
 use Prim.Native.Nat.{ℕ, zero, suc, _+_, _*_, _≤_}
 use native.Mathlib.Numerals.{add-one}
@@ -13,9 +13,10 @@ use Rattle.text.proofs.HexLaws.{length-hex}
 use Rattle.text.specs.Text.{newline, space}
 use Rattle.plot_text.specs.Table.{floatText, pointText, pointTexts}
 
--- a float has 16 digits
-pub length-float : (v : Float) → length (floatText v) ≡ 16
-length-float v = length-hex 16 (toBits binary64 v)
+-- a float has 16 digits, and a byte stands behind them
+pub length-float : (v : Float) (end : ℕ) → length (floatText v ++ end ∷ []) ≡ 17
+length-float v end =
+    length-append (floatText v) (end ∷ []) ∙ ap (λ k. k + 1) (length-hex 16 (toBits binary64 v))
 
 -- a line is a field, three floats with a byte behind each
 module _ (y : ℕ) (l : PlotLine) where
@@ -39,8 +40,7 @@ module _ (y : ℕ) (l : PlotLine) where
       omega (
         arith,
         length-append (digits 4 y ++ space) (floatText (l .re) ++ space),
-        length-append (floatText (l .re)) space,
-        length-float (l .re),
+        length-float (l .re) 32,
         length-step y,
       )
 
@@ -49,8 +49,7 @@ module _ (y : ℕ) (l : PlotLine) where
       omega (
         arith,
         length-append upToReal (floatText (l .im) ++ space),
-        length-append (floatText (l .im)) space,
-        length-float (l .im),
+        length-float (l .im) 32,
         length-real,
       )
 
@@ -60,8 +59,7 @@ module _ (y : ℕ) (l : PlotLine) where
       (omega (
         arith,
         length-append upToImaginary (floatText (l .p) ++ newline),
-        length-append (floatText (l .p)) newline,
-        length-float (l .p),
+        length-float (l .p) 10,
         length-imaginary,
       ))
 
