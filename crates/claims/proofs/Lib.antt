@@ -19,12 +19,12 @@ pub mod CzInsideSide
 pub mod CutDemandHolds
 pub mod ProductDemandHolds
 pub mod StringsExactly
+pub mod families
 pub mod AcceptedCallsHold
 pub mod ComparedByParts
 pub mod TakenRecords
 pub mod ListDemandHolds
 pub mod FirstDemandHolds
-pub mod AnswerBuffers
 pub mod GeneratorDemandHolds
 pub mod StringsDemandHolds
 pub mod JobSteps

@@ -3,6 +3,9 @@ pub mod PartsDemand
 pub mod ThirdDemand
 pub mod ImageDemand
 pub mod OperationsDemand
+pub mod Conforming
+pub mod Arguments
+pub mod families
 pub mod AcceptedCalls
 pub mod ListDemand
 pub mod CutDemand

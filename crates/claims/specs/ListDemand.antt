@@ -19,7 +19,7 @@ use Rattle.stabilizer.specs.Groups.{Generated, InGroup, Independent, SameGroup}
 use Rattle.stabilizer.specs.Lists.{GeneratorList, rows}
 use Rattle.used.specs.Used.{UsedRecord, UsedUnrefused}
 use Rattle.words.specs.Bits.{Word, _⊕_}
-use Rattle.claims.specs.AcceptedCalls.{TakenByAll}
+use Rattle.claims.specs.families.Records.{TakenByAll}
 use Rattle.claims.specs.OperationsDemand.{StillRecord}
 use Rattle.claims.specs.SecondDemand.{unused}
 
