@@ -11,7 +11,6 @@ use graph_settling::normalise;
 use record_copies::copy_record;
 use words::count;
 ghost use mathlib.Core.Path.{_≡_};
-ghost use Prim.Native.Nat.{_≤_};
 ghost use lib.ListN.{length};
 ghost use Rattle.amplitude.specs.Ratios.{amplitudeOf, plotAt};
 ghost use Rattle.operations.specs.internal.InPlace.{Unrefused, recordIn};
@@ -29,7 +28,7 @@ fn answer_at(neighbours: &[u64], codes: &[u8], low: u64, y: u64) -> Amplitude
     }
     let there = turns(neighbours, codes, y);
     let here = turns(neighbours, codes, low);
-    turned((there + 3 * here) % 4)
+    turned((there + 3 * here % 4) % 4)
 }
 
 // The line of the plot at y of a record of reduced form with this smallest supported word: as many halves as vertices
@@ -66,11 +65,12 @@ fn line_by_copies(
 }
 
 // The line at y of the plot of a record.
-pub fn plot_at(n: usize, neighbours: &[u64], codes: &[u8], y: u64) -> PlotLine
-    requires { ⌜ Unrefused (recordIn (now neighbours) (now codes)) × (n ≡ length (now neighbours)) ⌝ }
+pub fn plot_at(neighbours: &[u64], codes: &[u8], y: u64) -> PlotLine
+    requires { ⌜ Unrefused (recordIn (now neighbours) (now codes)) ⌝ }
     ensures { λ r. ⌜ r ≡ plotAt (length (now (neighbours .entry)))
         (heldRows (recordIn (now (neighbours .entry)) (now (codes .entry)))) y ⌝ }
 {
+    let n = neighbours.len();
     let mut words = [0u64; 64];
     let mut bytes = [0u8; 64];
     let mut measured = [0u64; 64];
