@@ -31,6 +31,7 @@ pub mod JobSteps
 pub mod JobsStand
 pub mod StepLines
 pub mod ProgramDemandHolds
+pub mod PlotDemandHolds
 pub mod UsedDemandHolds
 pub mod SentencesHold
 pub mod ReachedStates

@@ -16,6 +16,7 @@ pub mod StringsDemand
 pub mod SessionDemand
 pub mod JobDemand
 pub mod ProgramDemand
+pub mod PlotDemand
 pub mod UsedDemand
 pub mod Sentences
 pub mod OrbitDemand

@@ -2,10 +2,12 @@
 use mathlib.Core.Bool.{cond, false}
 use mathlib.Core.List.{List}
 use mathlib.Core.Path.{ap, ap₂, sym, _∙_, _≡_}
-use Prim.Native.Nat.{_<_, _^_, ℕ, _≤_}
+use Prim.Native.Nat.{_*_, _+_, _<_, _^_, ℕ, _≤_}
+use native.Mathlib.Nat.{min-eq-left}
 use native.Mathlib.Omega.{arith}
 use lib.Dec.{eqb}
-use lib.ListN.{length}
+use lib.ListN.{length, take}
+use lib.Pow.{pow-mono}
 use borrow.Author.Tests.{eq-eqb, le-ltb, lt-ltb, ne-eqb}
 use Rattle.amplitude.specs.Ratios.{lowest, plotAt}
 use Rattle.amplitude_answer.specs.internal.Plottable.{Plottable}
@@ -15,7 +17,7 @@ use Rattle.call_lists.specs.Calls.{checkLines, reduceCall}
 use Rattle.contracts.proofs.Calling.{written-all}
 use Rattle.contracts.specs.Calls.{Call}
 use Rattle.list_reply.proofs.Answering.{number-is, number-small}
-use Rattle.list_reply.specs.internal.Places.{Lent}
+use Rattle.list_reply.specs.internal.Places.{Lent, listAt}
 use Rattle.operations.specs.internal.InPlace.{Unrefused, recordIn}
 use Rattle.plot_text.specs.Table.{tableText}
 use Rattle.record.specs.Lent.{codeNumbers, heldRows, neighbourWords}
@@ -40,6 +42,13 @@ many-refused l h =
 pub too-many-refused : (l : GeneratorList) → 64 < l .n → plotAnswer l ≡ refusedText 2
 too-many-refused l h = many-refused l (omega (arith, h))
 
+-- a list of at most 10 stands at the start of buffers of 64 places
+pub places-plotted : (n : ℕ) → n ≤ 10 → (signs z x : List ℕ) →
+    plotAnswer (record { n = n; signs = take n signs; z = take n z; x = take n x }) ≡ plotAnswer (listAt n signs z x)
+places-plotted n few signs z x =
+    ap (λ k. plotAnswer (record { n = n; signs = take k signs; z = take k z; x = take k x }))
+    (sym (min-eq-left {n = n} {m = 64} (omega (arith, few))))
+
 module _ (l : GeneratorList) (nb cs words bytes out : List ℕ) (W : RoomFor (l .n) nb cs words bytes out) where
   lent : Lent (l .n) nb cs out
   lent =
@@ -48,6 +57,12 @@ module _ (l : GeneratorList) (nb cs words bytes out : List ℕ) (W : RoomFor (l 
         codes-fit = λ h. W .codes-long;
         room = omega (arith, W .room);
       }
+
+  -- the table fits
+  pub table-room : (k : ℕ) → k ≡ 2 ^ (l .n) → (k ≤ 10000) × (10 + k * 56 ≤ length out)
+  table-room k e =
+      let most : 2 ^ (l .n) ≤ 1024 = pow-mono (W .few) in
+      (omega (arith, e, most), omega (arith, e, most, W .room))
 
   -- the program's own line does not hold
   same-number : firstFitting (plotLines l) ≡ firstFitting (checkLines l)
