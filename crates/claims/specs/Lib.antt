@@ -19,4 +19,5 @@ pub mod ProgramDemand
 pub mod UsedDemand
 pub mod Sentences
 pub mod OrbitDemand
+pub mod AmplitudeDemand
 pub mod internal
