@@ -54,8 +54,8 @@
 #include <stdint.h>
 
 /* The version of this header: major * 10000 + minor * 100 + patch, and as a text. */
-#define SUKHLENT_VERSION 1200
-#define SUKHLENT_VERSION_TEXT "0.12.0"
+#define SUKHLENT_VERSION 1300
+#define SUKHLENT_VERSION_TEXT "0.13.0"
 
 /* Refusals by name, in checking order. */
 #define SUKHLENT_ACCEPTED 0
@@ -233,6 +233,19 @@ uint8_t sukhlent_cut(uint64_t n,
                      const uint8_t *codes, size_t codes_len,
                      uint64_t used,
                      uint64_t side, uint64_t *rank);
+
+/* Reads an amplitude of a record's state, for a plot: writes to *re and *im the amplitude at the word
+ * y, bit q for qubit q, over that at the smallest word with a nonzero amplitude, and to *p the
+ * probability of y. Where the amplitude is 0 all three are 0; otherwise one of *re and *im is 1 or
+ * -1, the other is 0, and *p is 2^-r exactly, with r the rank of the x words of the generators.
+ * Every zero is positive.
+ * Refusals: 2, 4, 5 (also where `y` has a bit at or above n), 6, 7. */
+uint8_t sukhlent_amplitude(uint64_t n,
+                           const uint64_t *neighbours, size_t neighbours_len,
+                           const uint8_t *codes, size_t codes_len,
+                           uint64_t used,
+                           uint64_t y,
+                           double *re, double *im, double *p);
 
 /* Multiplies rows of a list, which need neither commute nor be independent: the word `chosen`
  * names the rows, bit j for row j, and they are taken in index order. Writes the letters of the

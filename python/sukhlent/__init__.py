@@ -13,9 +13,9 @@ from .jobs import Result, Step, generate, parse_job, run_job
 from .lists import GeneratorList
 from .orbits import orbit
 from .refusals import TEXTS, Refusal
-from .state import Equivalence, Image, Measured, State
+from .state import Equivalence, Image, Measured, PlotLine, State
 
 __all__ = [
-    "Equivalence", "GeneratorList", "Image", "Measured", "NAMES", "Refusal", "Result", "State", "Step", "TEXTS",
-    "code", "generate", "images", "orbit", "parse_job", "run_job",
+    "Equivalence", "GeneratorList", "Image", "Measured", "NAMES", "PlotLine", "Refusal", "Result", "State", "Step",
+    "TEXTS", "code", "generate", "images", "orbit", "parse_job", "run_job",
 ]  # fmt: skip

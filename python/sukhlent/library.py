@@ -4,7 +4,7 @@ from __future__ import annotations
 
 import ctypes
 import os
-from ctypes import POINTER, c_size_t, c_uint8, c_uint16, c_uint64
+from ctypes import POINTER, c_double, c_size_t, c_uint8, c_uint16, c_uint64
 from pathlib import Path
 
 _NAME = "libsukhlent.so"
@@ -24,6 +24,7 @@ _CALLS: dict[str, tuple] = {
     "complement": (c_uint64, *_RECORD, c_uint64, c_uint64),
     "image": (c_uint64, *_RECORD, *_IN_WORDS, *_IN_BYTES, *_IN_BYTES, _WORDS),
     "cut": (c_uint64, *_RECORD, c_uint64, c_uint64, _WORDS),
+    "amplitude": (c_uint64, *_RECORD, c_uint64, c_uint64, *[POINTER(c_double)] * 3),
     "product": (c_uint64, *_LIST, c_uint64, _WORDS, _WORDS, _BYTES),
     "compare": (c_uint64, *_LIST, c_uint64, *_LIST, *_IN_BYTES, *_IN_BYTES, _WORDS),
     "generate": (c_uint64, c_uint64, c_uint64, *_IN_BYTES, _WORDS),
@@ -71,11 +72,11 @@ _library = _load()
 class Cell:
     """One number that a call writes: passes as its pointer alone."""
 
-    def __init__(self, kind, value: int = 0):
+    def __init__(self, kind, value: int | float = 0):
         self._held = kind(value)
 
     @property
-    def value(self) -> int:
+    def value(self) -> int | float:
         """What it holds."""
         return self._held.value
 
@@ -92,6 +93,11 @@ def word(value: int = 0) -> Cell:
 def octet(value: int = 0) -> Cell:
     """A cell of eight bits."""
     return Cell(c_uint8, value)
+
+
+def number() -> Cell:
+    """A cell of a 64-bit float."""
+    return Cell(c_double)
 
 
 def call(name: str, *arguments) -> int:

@@ -24,6 +24,16 @@ class Measured:
 
 
 @dataclass(frozen=True)
+class PlotLine:
+    """An amplitude over that at the smallest word with a nonzero amplitude, by its real and imaginary part, and the
+    probability of its word. All are 0 where the amplitude is."""
+
+    re: float
+    im: float
+    p: float
+
+
+@dataclass(frozen=True)
 class Equivalence:
     """What a comparison finds: the least choice of a local Clifford per qubit that carries the first state onto the
     second, and the vertices at which the first reduced graph is complemented, in order, to become the second."""
@@ -160,6 +170,16 @@ class State:
         word = sum({1 << q for q in side})
         accept(library.call("cut", self.n, self._neighbours, self._codes, self._used, word, rank))
         return rank.value
+
+    def amplitude(self, y: int) -> PlotLine:
+        """The amplitude at the word y, bit q for qubit q, over that at the smallest word with a nonzero amplitude.
+
+        >>> [State.from_strings("-Y").amplitude(y) for y in (0, 1)]
+        [PlotLine(re=1.0, im=0.0, p=0.5), PlotLine(re=0.0, im=-1.0, p=0.5)]
+        """
+        re, im, p = library.number(), library.number(), library.number()
+        accept(library.call("amplitude", self.n, self._neighbours, self._codes, self._used, y, re, im, p))
+        return PlotLine(re.value, im.value, p.value)
 
     def image(self) -> Image:
         """The graph to which the codes send the graph; refused by 11 or 12 where that is no graph's group."""

@@ -36,3 +36,4 @@ pub mod UsedDemandHolds
 pub mod SentencesHold
 pub mod ReachedStates
 pub mod OrbitDemandHolds
+pub mod AmplitudeDemandHolds

@@ -6,18 +6,20 @@ use Prim.Native.Nat.{_^_, ℕ, _≤_}
 use lib.Dec.{eqb}
 use lib.ListN.{take}
 use borrow.Author.Tests.{eq-eqb, le-ltb, ne-eqb}
-use Rattle.amplitude.proofs.AmplitudeDemandHolds.{amplitude-demand}
 use Rattle.amplitude.proofs.CountedWords.{plot-of-group}
-use Rattle.amplitude.specs.Ratios.{plotAt}
+use Rattle.amplitude.specs.Ratios.{isSupported, plotAt, ratio}
 use Rattle.buffers.proofs.Lines.{passed}
 use Rattle.buffers.specs.Refusals.{firstFitting}
 use Rattle.call_lists.specs.Calls.{checkLines}
+use Rattle.cut.specs.Rank.{rank}
 use Rattle.plot_reply.proofs.Answering.{many-refused}
 use Rattle.plot_reply.specs.Answer.{plotAnswer, plotLines}
 use Rattle.plot_text.specs.Table.{tableText}
+use Rattle.record.specs.Reduced.{xWords}
 use Rattle.stabilizer.proofs.Accepted.{AcceptedList, accepted-list}
 use Rattle.stabilizer.specs.Lists.{GeneratorList, rows}
 use Rattle.text.specs.Text.{refusedText}
+use Rattle.claims.proofs.AmplitudeDemandHolds.{amplitude-demand, plotted-as}
 use Rattle.claims.proofs.ProgramDemandHolds.{bytes-printed}
 use Rattle.claims.specs.PlotDemand.{PlotTextsAnswered, TablePrinted}
 
@@ -47,7 +49,11 @@ module _ (l : GeneratorList) (few : l .n ≤ 10) where
   table-printed bytes e z =
       record {
         printed = e ∙ plot-printed z;
-        state = amplitude-demand (l .n) (rows l) (A .proper);
+        lines = λ y. record {
+          vector = amplitude-demand (l .n) (rows l) (A .proper);
+          line = plotted-as (isSupported (l .n) (rows l) y) (ratio (l .n) (rows l) y)
+              (rank (l .n) (l .n) (xWords (rows l)));
+        };
         group = λ S P s. e ∙ plot-printed z
             ∙ ap (tableText (2 ^ (l .n))) (λ i y. plot-of-group (l .n) (rows l) S (A .proper) P s y i);
       }

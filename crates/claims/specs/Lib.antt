@@ -20,4 +20,5 @@ pub mod PlotDemand
 pub mod UsedDemand
 pub mod Sentences
 pub mod OrbitDemand
+pub mod AmplitudeDemand
 pub mod internal

@@ -4,7 +4,6 @@ use mathlib.Core.List.{List}
 use mathlib.Core.Path.{_≡_}
 use Prim.Native.Nat.{_<_, _^_, ℕ, _≤_}
 use lib.ListN.{length, take}
-use Rattle.amplitude.specs.AmplitudeDemand.{AmplitudeDemand}
 use Rattle.amplitude.specs.Ratios.{plotAt}
 use Rattle.buffers.specs.Refusals.{firstFitting}
 use Rattle.call_lists.specs.Calls.{checkLines}
@@ -15,12 +14,14 @@ use Rattle.plot_text.specs.Table.{tableText}
 use Rattle.stabilizer.specs.Groups.{Proper, SameGroup}
 use Rattle.stabilizer.specs.Lists.{GeneratorList, rows}
 use Rattle.text.specs.Text.{HasForm, ListLine, TextOf, refusedText}
+use Rattle.claims.specs.AmplitudeDemand.{AmplitudeAnswer}
 
--- an accepted list: the table printed has the plot line of each word below 2^n, whose answers are the state that the list's
--- group fixes
+-- an accepted list: the table printed has the plot line of each word below 2^n, and the line says what an accepted call
+-- says of the list's group there
 pub record TablePrinted (l : GeneratorList) (bytes : List ℕ) : Type 0 where
   pub printed : bytes ≡ tableText (2 ^ (l .n)) (plotAt (l .n) (rows l))
-  pub state : AmplitudeDemand (l .n) (rows l)
+  pub lines : (y : ℕ) → AmplitudeAnswer (l .n) (rows l) y ((plotAt (l .n) (rows l) y) .re)
+      ((plotAt (l .n) (rows l) y) .im) ((plotAt (l .n) (rows l) y) .p)
   -- the table depends on the group alone
   pub group : (S : ℕ → Pauli) → Proper (l .n) S → SameGroup (l .n) (l .n) (rows l) S →
       bytes ≡ tableText (2 ^ (l .n)) (plotAt (l .n) S)

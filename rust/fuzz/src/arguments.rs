@@ -4,7 +4,9 @@ use crate::common::damage::{damage_list, damage_record};
 use crate::common::local::{complemented_record, sent};
 use crate::common::reference::strings_text;
 use crate::common::{list, mixed, random_components, random_rows, random_sizes, rows, use_up};
-use crate::common::{GenerateCall, ImageLengths, Lengths, ListCall, PairCall, RecordCall, Side};
+use crate::common::{
+    At, GenerateCall, ImageLengths, Lengths, ListCall, PairCall, RecordCall, Side,
+};
 use crate::common::{Operation, OrbitCall, Random, ReadCall};
 use sukhlent::{expand, GeneratorList, Record};
 
@@ -127,6 +129,16 @@ pub fn cut_call(random: &mut Random, n: usize) -> RecordCall<Side> {
     };
     let record = used_record(random, n);
     harmed(random, record, Side(side))
+}
+
+/// An amplitude of a record of n vertices: mostly at a word of its own qubits, at times at any word.
+pub fn amplitude_call(random: &mut Random, n: usize) -> RecordCall<At> {
+    let y = match random.below(8) {
+        0 => number(random),
+        _ => random.word() >> (64 - n),
+    };
+    let record = used_record(random, n);
+    harmed(random, record, At(y))
 }
 
 /// A job: mostly of few steps, at times near the limit, at times with any numbers or another buffer.

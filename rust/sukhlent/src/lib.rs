@@ -18,6 +18,7 @@
 //! # Ok::<(), sukhlent::Refusal>(())
 //! ```
 
+mod amplitude;
 mod comparison;
 mod cut;
 mod generator;
@@ -31,6 +32,7 @@ mod record;
 mod refusal;
 mod strings;
 
+pub use amplitude::{amplitude, PlotLine};
 pub use comparison::{compare, Comparison};
 pub use cut::cut;
 pub use generator::generate;

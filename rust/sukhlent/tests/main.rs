@@ -2,8 +2,11 @@
 
 mod common;
 
+mod amplitude_refusals;
+mod amplitudes;
 mod c_example;
 mod comparisons;
+mod components;
 mod cut_refusals;
 mod cuts;
 mod example_states;
@@ -15,7 +18,6 @@ mod groups;
 mod image_refusals;
 mod images;
 mod in_place_refusals;
-mod components;
 mod job_runs;
 mod job_texts;
 mod large;

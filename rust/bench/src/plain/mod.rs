@@ -1,5 +1,6 @@
 //! The calls in plain Rust, written from document 01's text on whole words.
 
+mod amplitude;
 mod codes;
 mod compare;
 mod equations;
@@ -11,6 +12,7 @@ mod row;
 mod search;
 mod strings;
 
+pub use amplitude::{amplitude, supported_word};
 pub use compare::compare;
 pub use image::image;
 pub use orbit::orbit;

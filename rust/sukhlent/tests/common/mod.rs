@@ -1,6 +1,7 @@
 //! Seeded lists, reference answers by document 01's text, and guarded calls.
 #![allow(dead_code, unused_imports)]
 
+pub mod amplitude;
 pub mod calls;
 pub mod codes;
 pub mod complementations;
@@ -21,6 +22,7 @@ pub mod seeded;
 pub mod strings;
 pub mod vectors;
 
+pub use amplitude::At;
 pub use calls::{Lengths, ListCall, RecordCall};
 pub use codes::images;
 pub use cut::Side;
@@ -30,7 +32,7 @@ pub use operation::Operation;
 pub use orbit::OrbitCall;
 pub use pairs::PairCall;
 pub use seeded::{
-    isolate, list, mixed, parsed, pauli, random_components, random_record, random_rows, random_sizes,
-    random_used_record, rows, stabilizers, use_up, Circuit, Pauli, Random,
+    isolate, list, mixed, parsed, pauli, random_components, random_record, random_rows,
+    random_sizes, random_used_record, rows, stabilizers, use_up, Circuit, Pauli, Random,
 };
 pub use strings::ReadCall;
