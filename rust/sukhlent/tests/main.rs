@@ -28,6 +28,7 @@ mod list_refusals;
 mod orbit_refusals;
 mod orbits;
 mod pair_refusals;
+mod plots;
 mod product_refusals;
 mod products;
 mod program;
