@@ -12,10 +12,11 @@ from .codes import NAMES, code, images
 from .jobs import Result, Step, generate, parse_job, run_job
 from .lists import GeneratorList
 from .orbits import orbit
+from .plots import plot_svg, read_table, table_of
 from .refusals import TEXTS, Refusal
 from .state import Equivalence, Image, Measured, PlotLine, State
 
 __all__ = [
     "Equivalence", "GeneratorList", "Image", "Measured", "NAMES", "PlotLine", "Refusal", "Result", "State", "Step",
-    "TEXTS", "code", "generate", "images", "orbit", "parse_job", "run_job",
+    "TEXTS", "code", "generate", "images", "orbit", "parse_job", "plot_svg", "read_table", "run_job", "table_of",
 ]  # fmt: skip

@@ -12,6 +12,7 @@ from pathlib import Path
 from . import forms
 from .library import tree
 from .lists import GeneratorList
+from .plots import plot_svg, read_table
 from .refusals import TEXTS, Refusal
 from .state import State
 
@@ -46,8 +47,8 @@ def _refused(number: int, why: str = "") -> int:
     return 1
 
 
-def _run(name: str, file: str, fault) -> int:
-    """Runs a proved program on a text, prints what it prints, and says why where it refuses."""
+def _run(name: str, file: str, fault, shown=str) -> int:
+    """Runs a proved program on a text, shows what it prints, and says why where it refuses."""
     text = _text(file)
     if sys.stderr.isatty() and len(text) > 1 << 20:
         print(f"sukhlent: {len(text) >> 20} MiB go to {name} ..", file=sys.stderr)
@@ -57,7 +58,7 @@ def _run(name: str, file: str, fault) -> int:
     if answer.startswith("refused "):
         number = int(answer.split()[1])
         return _refused(number, fault(text) if number == 1 else "")
-    sys.stdout.write(answer)
+    sys.stdout.write(shown(answer))
     return 0
 
 
@@ -107,6 +108,10 @@ def parser() -> argparse.ArgumentParser:
         ("draw", "the record of a state as SVG (Pauli strings, a generator list, or a printed record)"),
     ):
         commands.add_parser(name, help=about, description=about).add_argument("file", nargs="?", default="-")
+    about = "the amplitudes of a generator list on up to 10 qubits, as a table (text: sign z x)"
+    amplitudes = commands.add_parser("amplitudes", help=about, description=about)
+    amplitudes.add_argument("file", nargs="?", default="-")
+    amplitudes.add_argument("--svg", action="store_true", help="draws the table as bars")
     about = "the least choice of local Cliffords that carries the first state onto the second"
     compare = commands.add_parser("compare", help=about, description=about)
     compare.add_argument("file")
@@ -120,6 +125,9 @@ def main(arguments: list[str] | None = None) -> int:
     try:
         if given.command == "reduce":
             return _run("reduce", given.file, forms.list_fault)
+        if given.command == "amplitudes":
+            drawn = lambda text: plot_svg(read_table(text)) + "\n"
+            return _run("amplitudes", given.file, forms.list_fault, drawn if given.svg else str)
         if given.command == "job":
             return _run("job", given.file, forms.job_fault)
         if given.command == "draw":
