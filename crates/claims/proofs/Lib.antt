@@ -36,3 +36,5 @@ pub mod SentencesHold
 pub mod ReachedStates
 pub mod OrbitDemandHolds
 pub mod AmplitudeDemandHolds
+pub mod PivotStepsHold
+pub mod ExpectationDemandHolds
