@@ -7,7 +7,8 @@ import struct
 from fractions import Fraction
 from typing import Iterator, Sequence
 
-from .state import PlotLine, State
+from .answers import PlotLine
+from .state import State
 
 NAMES = "y re im p"
 

@@ -6,8 +6,7 @@ import unittest
 import xml.etree.ElementTree as xml
 from pathlib import Path
 
-from sukhlent import State, plot_svg, read_table, table_of
-from sukhlent.state import PlotLine
+from sukhlent import PlotLine, State, plot_svg, read_table, table_of
 
 ROOT = Path(__file__).resolve().parents[2]
 

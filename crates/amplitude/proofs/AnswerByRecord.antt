@@ -11,17 +11,15 @@ use Rattle.record.specs.Records.{GraphRecord, rowsOf}
 use Rattle.record.specs.Reduced.{reduced}
 use Rattle.stabilizer.specs.Groups.{Proper}
 use Rattle.words.specs.Bits.{bit}
-use Rattle.words.specs.Search.{every}
 use Rattle.amplitude.proofs.Answers.{of-group}
 use Rattle.amplitude.proofs.CountedWords.{support-fits}
 use Rattle.amplitude.proofs.FormOfReduced.{form-of-reduced}
 use Rattle.amplitude.proofs.KeptRatios.{ratio-by-turns}
 use Rattle.amplitude.proofs.LowestOfRecord.{lowest-of-record}
 use Rattle.amplitude.specs.internal.ByRecord.{answerOver, over, recordAnswer}
-use Rattle.amplitude.specs.internal.KeptTurns.{fitsAt, keptTurns}
+use Rattle.amplitude.specs.internal.KeptTurns.{keptTurns}
 use Rattle.amplitude.specs.Plotting.{turned}
 use Rattle.amplitude.specs.Ratios.{amplitudeOf, lowest, ratio, isSupported}
-use Rattle.amplitude.specs.declared.Amplitude.{Amplitude}
 use Rattle.amplitude.specs.declared.Amplitude.the-variants.{Nothing}
 
 fourth : (b : Phase) → b +ᵖ (b +ᵖ (b +ᵖ b)) ≡ i⁰

@@ -1,6 +1,7 @@
 -- Each call is accepted exactly if its arguments fit, from the families.
 use Rattle.claims.proofs.families.Amplitudes.{amplitudes-accepted}
 use Rattle.claims.proofs.families.Comparisons.{comparisons-accepted}
+use Rattle.claims.proofs.families.Expectations.{expectations-accepted}
 use Rattle.claims.proofs.families.Generator.{generations-accepted}
 use Rattle.claims.proofs.families.Lists.{lists-accepted}
 use Rattle.claims.proofs.families.Orbits.{orbits-accepted}
@@ -16,4 +17,5 @@ accepted-exactly =
       generator = generations-accepted;
       orbits = orbits-accepted;
       amplitudes = amplitudes-accepted;
+      expectations = expectations-accepted;
     }

@@ -1,6 +1,6 @@
 -- The demands of amplitudes, from the laws of the vector and the contract of the call.
 use mathlib.Core.Bool.{Bool, cond, false, true}
-use mathlib.Core.Path.{refl, subst, sym, _∙_, _≡_}
+use mathlib.Core.Path.{refl, subst, sym, _≡_}
 use Prim.Native.Nat.{ℕ}
 use lib.Ieee.{Float}
 use Rattle.amplitude.proofs.CountedWords.{words-count}

@@ -6,6 +6,7 @@ use Rattle.contracts.proofs.Fitting.{first-is}
 use Rattle.contracts.specs.Calls.{Call}
 use Rattle.claims.proofs.families.Amplitudes.{amplitudes-conform}
 use Rattle.claims.proofs.families.Comparisons.{comparison-buffers-unread, comparisons-conform}
+use Rattle.claims.proofs.families.Expectations.{expectations-conform}
 use Rattle.claims.proofs.families.Generator.{generation-buffers-unread, generations-conform}
 use Rattle.claims.proofs.families.Lists.{list-buffers-unread, lists-conform}
 use Rattle.claims.proofs.families.Orbits.{orbit-buffers-unread, orbits-conform}
@@ -23,6 +24,7 @@ first-demand =
       generator = generations-conform;
       orbits = orbits-conform;
       amplitudes = amplitudes-conform;
+      expectations = expectations-conform;
     }
 
 pub answer-buffers-unread : AnswerBuffersUnread

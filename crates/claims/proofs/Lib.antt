@@ -37,3 +37,5 @@ pub mod SentencesHold
 pub mod ReachedStates
 pub mod OrbitDemandHolds
 pub mod AmplitudeDemandHolds
+pub mod PivotStepsHold
+pub mod ExpectationDemandHolds

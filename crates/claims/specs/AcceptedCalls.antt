@@ -2,6 +2,7 @@
 -- fit.
 use Rattle.claims.specs.families.Amplitudes.{AmplitudesAccepted}
 use Rattle.claims.specs.families.Comparisons.{ComparisonsAccepted}
+use Rattle.claims.specs.families.Expectations.{ExpectationsAccepted}
 use Rattle.claims.specs.families.Generator.{GenerationsAccepted}
 use Rattle.claims.specs.families.Lists.{ListsAccepted}
 use Rattle.claims.specs.families.Orbits.{OrbitsAccepted}
@@ -15,3 +16,4 @@ pub record AcceptedExactly : Type 0 where
   pub generator : GenerationsAccepted
   pub orbits : OrbitsAccepted
   pub amplitudes : AmplitudesAccepted
+  pub expectations : ExpectationsAccepted

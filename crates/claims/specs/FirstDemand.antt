@@ -4,6 +4,7 @@
 use Rattle.contracts.specs.Answers.{EveryCallAnswers}
 use Rattle.claims.specs.families.Amplitudes.{AmplitudesConform}
 use Rattle.claims.specs.families.Comparisons.{ComparisonBuffersUnread, ComparisonsConform}
+use Rattle.claims.specs.families.Expectations.{ExpectationsConform}
 use Rattle.claims.specs.families.Generator.{GenerationBuffersUnread, GenerationsConform}
 use Rattle.claims.specs.families.Lists.{ListBuffersUnread, ListsConform}
 use Rattle.claims.specs.families.Orbits.{OrbitBuffersUnread, OrbitsConform}
@@ -18,6 +19,7 @@ pub record FirstDemand : Type 0 where
   pub generator : GenerationsConform
   pub orbits : OrbitsConform
   pub amplitudes : AmplitudesConform
+  pub expectations : ExpectationsConform
 
 -- "What a buffer lent only for the answer holds before the call makes no line true": buffers of equal lengths give equal
 -- numbers

@@ -21,4 +21,6 @@ pub mod UsedDemand
 pub mod Sentences
 pub mod OrbitDemand
 pub mod AmplitudeDemand
+pub mod PivotSteps
+pub mod ExpectationDemand
 pub mod internal

@@ -1,8 +1,10 @@
 // The public calls as C sees them, by family. Each passes its arguments on to the proved call that has the same contract.
 pub mod amplitudes;
 pub mod comparisons;
+pub mod expectations;
 pub mod generator;
 pub mod lists;
 pub mod orbits;
 pub mod records;
 mod ties;
+pub mod version;

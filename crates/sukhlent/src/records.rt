@@ -4,7 +4,7 @@ ghost use Rattle.call_expand.specs.Expanding.{expandCall};
 ghost use Rattle.call_gates.specs.InPlaceCalls.{usedCall, usedMeasureCall};
 ghost use Rattle.call_image.specs.Images.{imageCall};
 ghost use Rattle.contracts.specs.Calls.{Call};
-ghost use Rattle.operations.specs.Steps.{complementOf, czOn, gateWith, pivotOf};
+ghost use Rattle.operations.specs.Steps.{complementOf, czOn, gateWith};
 
 // The generators of a record, in order.
 #[no_mangle]
@@ -120,26 +120,6 @@ pub extern "C" fn sukhlent_complement(
         (complementOf a) (now (neighbours .exit)) (now (codes .exit))) r ⌝ }
 {
     call_complement::complement(n, neighbours, codes, used, a)
-}
-
-// A pivot on an edge; the record is not reduced.
-#[no_mangle]
-pub extern "C" fn sukhlent_pivot(
-    n: u64,
-    neighbours: &mut [u64],
-    codes: &mut [u8],
-    used: u64,
-    j: u64,
-    k: u64,
-) -> u8
-    ensures { λ r. ⌜ Call (usedCall
-        (record {
-          held = record { n = n; neighbours = now (neighbours .entry); codes = now (codes .entry) };
-          used = used;
-        })
-        (pivotOf j k) (now (neighbours .exit)) (now (codes .exit))) r ⌝ }
-{
-    call_complement::pivot(n, neighbours, codes, used, j, k)
 }
 
 // The image graph, its signs, and the list of the vertices complemented.

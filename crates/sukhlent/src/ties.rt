@@ -2,6 +2,7 @@
 // asks nothing of its arguments.
 mod amplitudes;
 mod comparisons;
+mod expectations;
 mod generator;
 mod lists;
 mod orbits;

@@ -14,36 +14,37 @@ pub struct PlotLine {
     pub p: f64,
 }
 
-/// The amplitude of a record's state at the word y, bit q for qubit q, over that at the smallest word
-/// with a nonzero amplitude. Both parts and the probability are 0 exactly where the amplitude is.
-///
-/// Refusals: 2, 4, 5 (also for a y with a bit outside of the qubits), 6, 7.
-///
-/// ```
-/// use sukhlent::{amplitude, reduce, PlotLine};
-///
-/// // -ZZ, XY: |01> + i|10>, of which the first has qubit 0 set.
-/// let record = reduce(&"-ZZ\n+XY\n".parse()?)?;
-/// let nothing = PlotLine { re: 0.0, im: 0.0, p: 0.0 };
-/// assert_eq!(amplitude(&record, 0b00)?, nothing);
-/// assert_eq!(amplitude(&record, 0b01)?, PlotLine { re: 1.0, im: 0.0, p: 0.5 });
-/// assert_eq!(amplitude(&record, 0b10)?, PlotLine { re: 0.0, im: 1.0, p: 0.5 });
-/// assert_eq!(amplitude(&record, 0b11)?, nothing);
-/// # Ok::<(), sukhlent::Refusal>(())
-/// ```
-pub fn amplitude(record: &Record, y: u64) -> Result<PlotLine, Refusal> {
-    let n = record.n() as u64;
-    let (neighbours, codes) = (&record.neighbours, &record.codes);
-    let (mut re, mut im, mut p) = (0.0, 0.0, 0.0);
-    let number = raw::amplitude(
-        n,
-        neighbours,
-        codes,
-        record.used,
-        y,
-        &mut re,
-        &mut im,
-        &mut p,
-    );
-    Refusal::unless_accepted(number).map(|()| PlotLine { re, im, p })
+impl Record {
+    /// The amplitude of the record's state at the word y, bit q for qubit q, over that at the smallest
+    /// word with a nonzero amplitude. Both parts and the probability are 0 exactly where the amplitude
+    /// is.
+    ///
+    /// Refusals: 2, 4, 5 (also for a y with a bit outside of the qubits), 6, 7.
+    ///
+    /// ```
+    /// use sukhlent::{reduce, PlotLine};
+    ///
+    /// // -ZZ, XY: |01> + i|10>, of which the first has qubit 0 set.
+    /// let record = reduce(&"-ZZ\n+XY\n".parse()?)?;
+    /// let nothing = PlotLine { re: 0.0, im: 0.0, p: 0.0 };
+    /// assert_eq!(record.amplitude(0b00)?, nothing);
+    /// assert_eq!(record.amplitude(0b01)?, PlotLine { re: 1.0, im: 0.0, p: 0.5 });
+    /// assert_eq!(record.amplitude(0b10)?, PlotLine { re: 0.0, im: 1.0, p: 0.5 });
+    /// assert_eq!(record.amplitude(0b11)?, nothing);
+    /// # Ok::<(), sukhlent::Refusal>(())
+    /// ```
+    pub fn amplitude(&self, y: u64) -> Result<PlotLine, Refusal> {
+        let (mut re, mut im, mut p) = (0.0, 0.0, 0.0);
+        let number = raw::amplitude(
+            self.n() as u64,
+            &self.neighbours,
+            &self.codes,
+            self.used,
+            y,
+            &mut re,
+            &mut im,
+            &mut p,
+        );
+        Refusal::unless_accepted(number).map(|()| PlotLine { re, im, p })
+    }
 }

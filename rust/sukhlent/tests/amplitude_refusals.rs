@@ -6,7 +6,7 @@ use crate::common::damage::{record_faults, used_faults, Fault};
 use crate::common::reference::plot_lines;
 use crate::common::vectors::state_of;
 use crate::common::{random_record, random_used_record, At, Random, RecordCall};
-use sukhlent::{amplitude, raw, Record, Refusal};
+use sukhlent::{raw, Record, Refusal};
 
 type Call = RecordCall<At>;
 
@@ -91,9 +91,9 @@ fn a_word_past_the_qubits_comes_before_a_code_above_23() {
         codes: vec![0, code],
         used: 0,
     };
-    assert_eq!(amplitude(&edge(0), 4), Err(Refusal::StrayBit));
-    assert_eq!(amplitude(&edge(24), 4), Err(Refusal::StrayBit));
-    assert_eq!(amplitude(&edge(24), 3), Err(Refusal::Value));
+    assert_eq!(edge(0).amplitude(4), Err(Refusal::StrayBit));
+    assert_eq!(edge(24).amplitude(4), Err(Refusal::StrayBit));
+    assert_eq!(edge(24).amplitude(3), Err(Refusal::Value));
 }
 
 #[test]

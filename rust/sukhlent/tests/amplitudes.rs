@@ -5,7 +5,7 @@ use crate::common::reference::{expanded, plot_lines, product, turns, Bits};
 use crate::common::vectors::state_of;
 use crate::common::{random_record, random_used_record, Random, RecordCall};
 use crate::exhaustive::record;
-use sukhlent::{amplitude, measure, reduce, Pauli, Record, Refusal};
+use sukhlent::{measure, reduce, Pauli, Record, Refusal};
 
 /// The bits of 0, 1, -1, 1/2 and 1/4.
 const NOUGHT: u64 = 0;
@@ -18,7 +18,7 @@ const NOTHING: Bits = [NOUGHT; 3];
 
 /// The bits of the answer at a word.
 fn bits(record: &Record, y: u64) -> Bits {
-    let line = amplitude(record, y).expect("a word below 2^n");
+    let line = record.amplitude(y).expect("a word below 2^n");
     [line.re, line.im, line.p].map(f64::to_bits)
 }
 

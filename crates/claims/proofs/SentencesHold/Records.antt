@@ -8,24 +8,23 @@ use Rattle.call_cut.specs.Cuts.{cutCall}
 use Rattle.call_expand.specs.Expanding.{expandCall}
 use Rattle.call_gates.specs.InPlaceCalls.{inPlaceCall, usedCall, usedMeasureCall}
 use Rattle.call_image.specs.Images.{imageCall}
-use Rattle.contracts.proofs.Calling.{refused}
 use Rattle.contracts.specs.Calls.{Call}
 use Rattle.operations.specs.Steps.{complementOf, czOn, gateWith, measurementOf, Operation, pivotOf}
 use Rattle.record.specs.Lent.{LentRecord}
 use Rattle.used.specs.Used.{UsedRecord}
 use Rattle.claims.proofs.Contradictions.{contradictions-refused}
-use Rattle.claims.proofs.CutDemandHolds.{complements-keep-ranks, cuts-answer, cz-keeps-ranks, gates-keep-ranks, pivots-keep-ranks}
+use Rattle.claims.proofs.CutDemandHolds.{complements-keep-ranks, cuts-answer, cz-keeps-ranks, gates-keep-ranks}
 use Rattle.claims.proofs.GatesFollow.{cz-follows, gates-follow}
 use Rattle.claims.proofs.ImageDemandHolds.{images-follow}
 use Rattle.claims.proofs.MeasurementsFollow.{measurements-follow}
-use Rattle.claims.proofs.RewritingsKeep.{complements-keep, pivots-keep}
+use Rattle.claims.proofs.RewritingsKeep.{complements-keep}
 use Rattle.claims.proofs.SecondDemandLists.{expansion-brings-back}
 use Rattle.claims.proofs.SessionDemandHolds.{cz-by-expanding, gates-by-expanding, measurements-by-expanding}
 use Rattle.claims.proofs.SessionNumbers.{cz-numbers-by-expanding, gate-numbers-by-expanding, measure-numbers-by-expanding}
-use Rattle.claims.proofs.UsedDemandHolds.{accepted-measured-without, accepted-without, calls-copy, measurements-mark, pivot-never-16, second-measurements-refused, used-calls-refused}
+use Rattle.claims.proofs.UsedDemandHolds.{accepted-measured-without, accepted-without, calls-copy, measurements-mark, second-measurements-refused, used-calls-refused}
 use Rattle.claims.proofs.families.Records.{records-accepted, records-conform}
 use Rattle.claims.proofs.families.Shared.{answered, at-zero}
-use Rattle.claims.specs.Sentences.Records.{ComplementSays, CutSays, CzSays, ExpandSays, GateSays, ImageSays, MeasureSays, PivotSays}
+use Rattle.claims.specs.Sentences.Records.{ComplementSays, CutSays, CzSays, ExpandSays, GateSays, ImageSays, MeasureSays}
 
 -- an accepted call in place, without the used word
 plainly : (u : UsedRecord) (o : Operation) (nb′ cs′ : List ℕ) {r : ℕ} → Call (usedCall u o nb′ cs′) r → r ≡ 0 →
@@ -90,18 +89,6 @@ complement-says u a nb′ cs′ r C =
       ranks = λ z. complements-keep-ranks (u .held) a nb′ cs′ (plainly u (complementOf a) nb′ cs′ C z);
       copied = λ z. calls-copy u (complementOf a) (not-measured refl) nb′ cs′ (at-zero C z);
       refused = used-calls-refused u (complementOf a) nb′ cs′ r C;
-    }
-
-pub pivot-says : (u : UsedRecord) (j k : ℕ) (nb′ cs′ : List ℕ) (r : ℕ) → Call (usedCall u (pivotOf j k) nb′ cs′) r →
-    PivotSays u j k nb′ cs′ r
-pivot-says u j k nb′ cs′ r C =
-    record {
-      answered = answered (records-conform .in-place u (pivotOf j k) nb′ cs′) C;
-      accepted = records-accepted .pivot u j k nb′ cs′ r C;
-      group = λ z. pivots-keep (u .held) j k nb′ cs′ (plainly u (pivotOf j k) nb′ cs′ C z);
-      ranks = λ z. pivots-keep-ranks (u .held) j k nb′ cs′ (plainly u (pivotOf j k) nb′ cs′ C z);
-      copied = λ z. calls-copy u (pivotOf j k) (not-measured refl) nb′ cs′ (at-zero C z);
-      never = pivot-never-16 u j k nb′ cs′ r C;
     }
 
 pub measure-says : (u : UsedRecord) (pauli q b answer determined : ℕ) (nb′ cs′ : List ℕ)

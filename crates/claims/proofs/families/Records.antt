@@ -24,7 +24,7 @@ use Rattle.used.proofs.UsedPassing.{used-step}
 use Rattle.used.specs.Used.{usedLines, usedLinesOf, UsedRecord}
 use Rattle.claims.proofs.ImageDemandHolds.{images-follow}
 use Rattle.claims.proofs.LinesExactly.{below-exactly, more-exactly, record-exactly, three-fit}
-use Rattle.claims.proofs.UsedExactly.{used-complement, used-cz, used-exactly, used-gate, used-measure, used-pivot}
+use Rattle.claims.proofs.UsedExactly.{used-complement, used-cz, used-exactly, used-gate, used-measure}
 use Rattle.claims.proofs.families.Shared.{by-lines, of-three, table-fills, written-fills}
 use Rattle.claims.specs.Conforming.{Conforms, InOrder}
 use Rattle.claims.specs.families.Records.{CutFits, ImageFits, RecordBuffersUnread, RecordsAccepted, RecordsConform}
@@ -154,7 +154,6 @@ records-accepted =
       measure = λ u pauli q b answer determined nb′ cs′ used′ answer′ determined′ r C.
           Iff·trans (by-lines C) (used-measure u pauli q b);
       complement = λ u a nb′ cs′ r C. Iff·trans (by-lines C) (used-complement u a);
-      pivot = λ u j k nb′ cs′ r C. Iff·trans (by-lines C) (used-pivot u j k);
       image = image-exactly;
       cut = λ u side rank rank′ r C. Iff·trans (by-lines C) (cut-lines u side);
     }

@@ -10,8 +10,8 @@ use Rattle.call_cut.specs.Cuts.{cutCall}
 use Rattle.call_expand.specs.Expanding.{expandCall}
 use Rattle.call_gates.specs.InPlaceCalls.{usedCall, usedMeasureCall}
 use Rattle.call_image.specs.Images.{imageCall}
-use Rattle.contracts.proofs.Calling.{refused}
-use Rattle.operations.specs.Steps.{complementOf, czOn, gateWith, measurementOf, pivotOf, pivotRecord}
+use Rattle.jobs.specs.Standing.{left}
+use Rattle.operations.specs.Steps.{complementOf, czOn, gateWith, measurementOf}
 use Rattle.record.specs.Lent.{heldRecord, LentRecord, recordLines}
 use Rattle.record.specs.Records.{complementRecord}
 use Rattle.used.specs.Used.{UsedRecord}
@@ -20,11 +20,11 @@ use Rattle.claims.specs.Arguments.{Free}
 use Rattle.claims.specs.Conforming.{Answered}
 use Rattle.claims.specs.CutDemand.{CutAnswer, rankAcross}
 use Rattle.claims.specs.ImageDemand.{ImageDecided}
-use Rattle.claims.specs.OperationsDemand.{CzStands, GateStands, left, MeasurementStands, OutcomeContradicted, RewrittenAs}
+use Rattle.claims.specs.OperationsDemand.{CzStands, GateStands, MeasurementStands, OutcomeContradicted, RewrittenAs}
 use Rattle.claims.specs.SecondDemand.{BroughtBack}
 use Rattle.claims.specs.SessionDemand.{ByExpanding, czChange, gateChange, MeasuredByExpanding, MeasureNumberByExpanding, NumberByExpanding}
 use Rattle.claims.specs.UsedDemand.{SixteenExactly, UsedCopied, UsedMarked}
-use Rattle.claims.specs.families.Records.{ComplementFits, CutFits, CzFits, ExpandFits, GateFits, ImageFits, MeasureFits, PivotFits}
+use Rattle.claims.specs.families.Records.{ComplementFits, CutFits, CzFits, ExpandFits, GateFits, ImageFits, MeasureFits}
 
 -- sukhlent_expand: demands 1 and 2
 pub record ExpandSays (u : UsedRecord) (s z x s′ z′ x′ : List ℕ) (r : ℕ) : Type 0 where
@@ -64,15 +64,6 @@ pub record ComplementSays (u : UsedRecord) (a : ℕ) (nb′ cs′ : List ℕ) (r
   pub ranks : r ≡ 0 → (side : Word) → rankAcross side (left (u .held) nb′ cs′) ≡ rankAcross side (u .held)
   pub copied : r ≡ 0 → UsedCopied u nb′ cs′
   pub refused : SixteenExactly u (complementOf a) r
-
--- sukhlent_pivot: demand 1, the record of the rule with the same group, and ranks across cuts
-pub record PivotSays (u : UsedRecord) (j k : ℕ) (nb′ cs′ : List ℕ) (r : ℕ) : Type 0 where
-  pub answered : Answered (usedCall u (pivotOf j k) nb′ cs′) r
-  pub accepted : (r ≡ 0) ↔ PivotFits u j k
-  pub group : r ≡ 0 → RewrittenAs (u .held) (left (u .held) nb′ cs′) (pivotRecord (heldRecord (u .held)) j k)
-  pub ranks : r ≡ 0 → (side : Word) → rankAcross side (left (u .held) nb′ cs′) ≡ rankAcross side (u .held)
-  pub copied : r ≡ 0 → UsedCopied u nb′ cs′
-  pub never : r ≢ 16
 
 -- sukhlent_measure: demands 1 and 2, and contradicted outcomes (02, §4)
 pub record MeasureSays (u : UsedRecord) (pauli q b answer determined : ℕ) (nb′ cs′ : List ℕ)

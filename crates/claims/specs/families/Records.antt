@@ -1,5 +1,5 @@
 -- The calls on records: demand 1, which arguments they accept, and the records that all of them take.
-use mathlib.Core.Bool.{not, true}
+use mathlib.Core.Bool.{not}
 use mathlib.Core.List.{List}
 use mathlib.Core.Logic.{_↔_, _≢_, _⊎_}
 use mathlib.Core.Path.{_≡_}
@@ -10,13 +10,14 @@ use Rattle.buffers.specs.Refusals.{firstFitting}
 use Rattle.call_amplitude.specs.AmplitudeCalls.{amplitudeCall}
 use Rattle.call_cut.specs.Cuts.{cutCall}
 use Rattle.call_expand.specs.Expanding.{expandCall, expandLines}
+use Rattle.call_expectation.specs.Expectations.{expectationCall}
 use Rattle.call_gates.specs.InPlaceCalls.{usedCall, usedMeasureCall}
 use Rattle.call_image.specs.Images.{imageCall}
 use Rattle.contracts.specs.Calls.{Call}
 use Rattle.image.specs.Image.{imageLines, UnsignedGraph}
-use Rattle.operations.specs.Steps.{complementOf, czOn, gateWith, Operation, pivotOf}
+use Rattle.operations.specs.Steps.{complementOf, czOn, gateWith, Operation}
 use Rattle.record.specs.Accepted.{AcceptedRecord}
-use Rattle.record.specs.Lent.{heldRecord, heldRows, LentRecord}
+use Rattle.record.specs.Lent.{heldRows, LentRecord}
 use Rattle.stabilizer.specs.Groups.{InGroup}
 use Rattle.used.specs.Used.{UsedRecord}
 use Rattle.words.specs.Bits.{isOdd}
@@ -67,11 +68,6 @@ pub record MeasureFits (u : UsedRecord) (pauli q b : ℕ) : Type 0 where
 abbrev pub ComplementFits : UsedRecord → ℕ → Type 0
 ComplementFits u a = IsRecord u × Free u a
 
--- the ends of an edge are not used
-abbrev pub PivotFits : UsedRecord → ℕ → ℕ → Type 0
-PivotFits u j k =
-    IsRecord u × (j < u .held .n) × (k < u .held .n) × ((heldRecord (u .held)) .graph j k ≡ true)
-
 -- "the image group, signs dropped, must be that of a simple graph"
 pub record ImageFits (l : LentRecord) (image signs list : List ℕ) : Type 0 where
   pub held : AcceptedRecord l
@@ -98,8 +94,6 @@ pub record RecordsAccepted : Type 0 where
       (r ≡ 0) ↔ MeasureFits u pauli q b
   pub complement : (u : UsedRecord) (a : ℕ) (nb′ cs′ : List ℕ) (r : ℕ) →
       Call (usedCall u (complementOf a) nb′ cs′) r → (r ≡ 0) ↔ ComplementFits u a
-  pub pivot : (u : UsedRecord) (j k : ℕ) (nb′ cs′ : List ℕ) (r : ℕ) → Call (usedCall u (pivotOf j k) nb′ cs′) r →
-      (r ≡ 0) ↔ PivotFits u j k
   pub image : (l : LentRecord) (image signs list : List ℕ) (count : ℕ) (image′ signs′ list′ : List ℕ) (count′ r : ℕ) →
       Call (imageCall l image signs list count image′ signs′ list′ count′) r → (r ≡ 0) ↔ ImageFits l image signs list
   pub cut : (u : UsedRecord) (side rank rank′ r : ℕ) → Call (cutCall u side rank rank′) r → (r ≡ 0) ↔ CutFits u side
@@ -118,11 +112,11 @@ pub record TakenByAll (u : UsedRecord) : Type 0 where
       pauli ≤ 3 → Free u q → b < 2 → (r ≡ 0) ⊎ (r ≡ 14)
   pub complement : (a : ℕ) (nb′ cs′ : List ℕ) (r : ℕ) → Call (usedCall u (complementOf a) nb′ cs′) r → Free u a →
       r ≡ 0
-  pub pivot : (j k : ℕ) (nb′ cs′ : List ℕ) (r : ℕ) → Call (usedCall u (pivotOf j k) nb′ cs′) r → j < u .held .n →
-      k < u .held .n → (heldRecord (u .held)) .graph j k ≡ true → r ≡ 0
   pub image : (image signs list : List ℕ) (count : ℕ) (image′ signs′ list′ : List ℕ) (count′ r : ℕ) →
       Call (imageCall (u .held) image signs list count image′ signs′ list′ count′) r → length image ≡ u .held .n →
       length signs ≡ u .held .n → length list ≡ 96 → (r ≡ 0) ⊎ ((r ≡ 11) ⊎ (r ≡ 12))
   pub cut : (side rank rank′ r : ℕ) → Call (cutCall u side rank rank′) r → side < 2 ^ (u .held .n) → r ≡ 0
   pub amplitude : (y : ℕ) (re im p re′ im′ p′ : Float) (r : ℕ) → Call (amplitudeCall u y re im p re′ im′ p′) r →
       y < 2 ^ (u .held .n) → r ≡ 0
+  pub expectation : (z x value value′ r : ℕ) → Call (expectationCall u z x value value′) r → z < 2 ^ (u .held .n) →
+      x < 2 ^ (u .held .n) → r ≡ 0

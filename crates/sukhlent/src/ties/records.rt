@@ -6,9 +6,8 @@ use crate::records::sukhlent_expand;
 use crate::records::sukhlent_gate;
 use crate::records::sukhlent_image;
 use crate::records::sukhlent_measure;
-use crate::records::sukhlent_pivot;
 ghost use Rattle.claims.specs.Sentences.Records.{ComplementSays, CutSays, CzSays, ExpandSays};
-ghost use Rattle.claims.specs.Sentences.Records.{GateSays, ImageSays, MeasureSays, PivotSays};
+ghost use Rattle.claims.specs.Sentences.Records.{GateSays, ImageSays, MeasureSays};
 
 pub fn expand_says(
     n: u64,
@@ -101,17 +100,6 @@ pub fn complement_says(n: u64, neighbours: &mut [u64], codes: &mut [u8], used: u
         a (now (neighbours .exit)) (now (codes .exit)) r ⌝ }
 {
     sukhlent_complement(n, neighbours, codes, used, a)
-}
-
-pub fn pivot_says(n: u64, neighbours: &mut [u64], codes: &mut [u8], used: u64, j: u64, k: u64) -> u8
-    ensures { λ r. ⌜ PivotSays
-        (record {
-          held = record { n = n; neighbours = now (neighbours .entry); codes = now (codes .entry) };
-          used = used;
-        })
-        j k (now (neighbours .exit)) (now (codes .exit)) r ⌝ }
-{
-    sukhlent_pivot(n, neighbours, codes, used, j, k)
 }
 
 pub fn image_says(

@@ -50,10 +50,6 @@ pub const CALLS: [Call; 17] = [
         once: in_place::complement,
     },
     Call {
-        name: "pivot",
-        once: in_place::pivot,
-    },
-    Call {
         name: "image",
         once: records::image,
     },
@@ -64,6 +60,10 @@ pub const CALLS: [Call; 17] = [
     Call {
         name: "amplitude",
         once: records::amplitude,
+    },
+    Call {
+        name: "expectation",
+        once: records::expectation,
     },
     Call {
         name: "product",

@@ -1,8 +1,8 @@
 //! Calls on one record.
 
-use crate::arguments::{amplitude_call, cut_call, expand_call, image_call, size};
+use crate::arguments::{amplitude_call, cut_call, expand_call, expectation_call, image_call, size};
 use crate::common::local::complemented;
-use crate::common::reference::{cut_rank, plot_lines, product, turns};
+use crate::common::reference::{cut_rank, plot_lines, product, row_value, turns};
 use crate::common::vectors::state_of;
 use crate::common::{ImageLengths, Random, RecordCall};
 use sukhlent::{check, expand as expanded, reduce, GeneratorList, Image, Record};
@@ -72,6 +72,20 @@ pub fn amplitude(random: &mut Random) -> u8 {
         _ => [im, 0.0 - re, p],
     };
     assert_eq!(there, Ok(turned.map(f64::to_bits)), "{call:?}");
+    number
+}
+
+/// A value is that of membership in the group.
+pub fn expectation(random: &mut Random) -> u8 {
+    let n = size(random);
+    let call = expectation_call(random, n);
+    let answer = call.expectation();
+    let number = answer.err().unwrap_or(0);
+    assert_eq!(number, call.due(), "{call:?}");
+    if let Ok(value) = answer {
+        let due = row_value(&call.record(), call.with.z, call.with.x);
+        assert_eq!(value, due, "{call:?}");
+    }
     number
 }
 
