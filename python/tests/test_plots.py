@@ -1,21 +1,11 @@
 """Tables of amplitudes: the program, the library and the picture."""
 
 import random
-import subprocess
 import unittest
 import xml.etree.ElementTree as xml
-from pathlib import Path
 
 from sukhlent import PlotLine, State, plot_svg, read_table, table_of
-
-ROOT = Path(__file__).resolve().parents[2]
-
-
-def printed(text):
-    """What the program prints for a text."""
-    command = [str(ROOT / "target" / "bin" / "amplitudes")]
-    return subprocess.run(command, input=text, capture_output=True, text=True, check=True, timeout=60).stdout
-
+from tests.places import program
 
 def list_text(state):
     """The text of a state's generators."""
@@ -40,7 +30,7 @@ class Plots(unittest.TestCase):
         for seed in range(20):
             state = drawn(seed, 1 + seed % 6)
             with self.subTest(seed=seed):
-                self.assertEqual(read_table(printed(list_text(state))), table_of(state))
+                self.assertEqual(read_table(program("amplitudes", list_text(state))), table_of(state))
 
     def test_a_bar_for_each_number_that_is_not_0(self):
         for seed in range(20):
