@@ -4,8 +4,8 @@ use crate::common::damage::{damage_list, damage_record};
 use crate::common::local::{complemented_record, sent};
 use crate::common::reference::{product, strings_text};
 use crate::common::{list, mixed, random_components, random_rows, random_sizes, rows, use_up};
-use crate::common::{GenerateCall, ImageLengths, Lengths, Letters, ListCall, PairCall, RecordCall};
 use crate::common::{At, Operation, OrbitCall, Random, ReadCall, Side};
+use crate::common::{GenerateCall, ImageLengths, Lengths, Letters, ListCall, PairCall, RecordCall};
 use sukhlent::{expand, GeneratorList, Record};
 
 /// What is done to valid arguments: mostly nothing or little; one in sixteen calls gets noise.
