@@ -7,6 +7,7 @@ import xml.etree.ElementTree as xml
 from sukhlent import PlotLine, State, plot_svg, read_table, table_of
 from tests.places import program
 
+
 def list_text(state):
     """The text of a state's generators."""
     rows = state.generators()
