@@ -4,7 +4,7 @@ from __future__ import annotations
 
 import ctypes
 import os
-from ctypes import POINTER, c_size_t, c_uint8, c_uint16, c_uint32, c_uint64
+from ctypes import POINTER, c_double, c_size_t, c_uint8, c_uint16, c_uint32, c_uint64
 from pathlib import Path
 from typing import Iterable, Union
 
@@ -27,6 +27,7 @@ _CALLS: dict[str, tuple] = {
     "complement": (c_uint64, *_RECORD, c_uint64, c_uint64),
     "image": (c_uint64, *_RECORD, *_IN_WORDS, *_IN_BYTES, *_IN_BYTES, _WORDS),
     "cut": (c_uint64, *_RECORD, c_uint64, c_uint64, _WORDS),
+    "amplitude": (c_uint64, *_RECORD, c_uint64, c_uint64, *[POINTER(c_double)] * 3),
     "expectation": (c_uint64, *_RECORD, c_uint64, c_uint64, c_uint64, _BYTES),
     "product": (c_uint64, *_LIST, c_uint64, _WORDS, _WORDS, _BYTES),
     "compare": (c_uint64, *_LIST, c_uint64, *_LIST, *_IN_BYTES, *_IN_BYTES, _WORDS),
@@ -113,6 +114,13 @@ def word(value: int = 0) -> Cell:
 def octet(value: int = 0) -> Cell:
     """A cell of eight bits."""
     return Cell(c_uint8, value)
+
+
+class FloatCell(Cell):
+    """One 64-bit float that a call writes."""
+
+    def __init__(self) -> None:
+        self._held = c_double()
 
 
 #: what passes to a call: a number, a buffer or a cell

@@ -12,7 +12,7 @@ from contextlib import redirect_stderr, redirect_stdout
 from pathlib import Path
 from unittest import mock
 
-from sukhlent import forms, generate, library
+from sukhlent import forms, generate, library, plot_svg, read_table
 from sukhlent.command import main
 from sukhlent.programs import Progress
 from tests.places import program, sukhlent
@@ -57,10 +57,19 @@ class Command(unittest.TestCase):
         text = generate(3, 20, 5)
         self.assertEqual(called("job", self.file("job", text)), (0, program("job", text), ""))
 
+    def test_amplitudes_are_printed_and_drawn(self):
+        table = program("amplitudes", BELL)
+        self.assertEqual(sukhlent("amplitudes", text=BELL), (0, table, ""))
+        drawn = plot_svg(read_table(table)) + "\n"
+        self.assertEqual(called("amplitudes", "--svg", self.file("list", BELL)), (0, drawn, ""))
+        said = "sukhlent: refused 9: two generators do not commute\n"
+        clash = "sign z x\n0 0000000000000001 0000000000000000\n0 0000000000000000 0000000000000001\n"
+        self.assertEqual(sukhlent("amplitudes", "--svg", text=clash), (1, "", said))
+
     def test_help_and_wrong_calls(self):
         status, out, _ = called("--help")
         self.assertEqual(status, 0)
-        for name in ("reduce", "job", "draw", "compare"):
+        for name in ("reduce", "amplitudes", "job", "draw", "compare"):
             self.assertIn(f"    {name} ", out)
             self.assertEqual(called(name, "--help")[0], 0)
         self.assertEqual(called()[0], 2)

@@ -132,6 +132,19 @@ mod calls {
             rank: *mut u64,
         ) -> u8;
 
+        pub fn sukhlent_amplitude(
+            n: u64,
+            neighbours: *const u64,
+            neighbours_len: usize,
+            codes: *const u8,
+            codes_len: usize,
+            used: u64,
+            y: u64,
+            re: *mut f64,
+            im: *mut f64,
+            p: *mut f64,
+        ) -> u8;
+
         pub fn sukhlent_expectation(
             n: u64,
             neighbours: *const u64,
@@ -525,6 +538,35 @@ pub fn cut(n: u64, neighbours: &[u64], codes: &[u8], used: u64, side: u64, rank:
             used,
             side,
             rank,
+        )
+    }
+}
+
+/// Writes the amplitude at a word over that at the smallest word with a nonzero amplitude, real part
+/// and imaginary part, and the word's probability.
+#[allow(clippy::too_many_arguments)]
+pub fn amplitude(
+    n: u64,
+    neighbours: &[u64],
+    codes: &[u8],
+    used: u64,
+    y: u64,
+    re: &mut f64,
+    im: &mut f64,
+    p: &mut f64,
+) -> u8 {
+    unsafe {
+        calls::sukhlent_amplitude(
+            n,
+            neighbours.as_ptr(),
+            neighbours.len(),
+            codes.as_ptr(),
+            codes.len(),
+            used,
+            y,
+            re,
+            im,
+            p,
         )
     }
 }

@@ -20,7 +20,7 @@ pub struct Call {
 }
 
 /// Every public call.
-pub const CALLS: [Call; 16] = [
+pub const CALLS: [Call; 17] = [
     Call {
         name: "check",
         once: lists::check,
@@ -56,6 +56,10 @@ pub const CALLS: [Call; 16] = [
     Call {
         name: "cut",
         once: records::cut,
+    },
+    Call {
+        name: "amplitude",
+        once: records::amplitude,
     },
     Call {
         name: "expectation",

@@ -1,11 +1,11 @@
--- `put_step` meets its contract: the number of a step and the space behind it.
-use Rattle.job_print.proofs.put_step.Lts as lts
+-- `put_long_field` meets its contract: a decimal number below 10,000 and the space behind it.
+use Rattle.job_print.proofs.put_long_field.Lts as lts
 use Rattle.job_text.proofs.ResultLaws.{length-digits}
 use Rattle.text.proofs.Writing.{and-then}
 use borrow.Author.Needs.{needs}
 use native.Mathlib.Omega.{arith}
-use Rattle.job_print.proofs.put_step.Statement.{statement}
-use Rattle.job_print.proofs.put_step.Tie as tie
+use Rattle.job_print.proofs.put_long_field.Statement.{statement}
+use Rattle.job_print.proofs.put_long_field.Tie as tie
 
 put-requires : tie.Need-put-requires
 put-requires c κs =
@@ -26,5 +26,5 @@ returns c =
     and-then (omega (arith, length-digits 4 (start .args .k), start .pre)) (first .put-number .ensures)
     (c .before .before .put .ensures)
 
-pub put-step-spec : {M : Type 1} → statement M
-put-step-spec = tie.close (tie.spec (λ c κs. search needs) put-requires (λ c. search needs) returns)
+pub put-long-field-spec : {M : Type 1} → statement M
+put-long-field-spec = tie.close (tie.spec (λ c κs. search needs) put-requires (λ c. search needs) returns)
