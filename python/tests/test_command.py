@@ -70,7 +70,7 @@ class Command(unittest.TestCase):
         status, out, _ = called("--help")
         self.assertEqual(status, 0)
         for name in ("reduce", "amplitudes", "job", "draw", "compare"):
-            self.assertIn(f"    {name} ", out)
+            self.assertRegex(out, rf"(?m)^    {name}\b")
             self.assertEqual(called(name, "--help")[0], 0)
         self.assertEqual(called()[0], 2)
         self.assertEqual(called("reduce", str(self.folder / "none"))[0], 2)

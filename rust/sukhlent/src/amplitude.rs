@@ -4,6 +4,14 @@ use crate::{raw, Record, Refusal};
 
 /// A line of a plot: the amplitude at a word over that at the smallest word with a nonzero amplitude,
 /// and the word's probability.
+///
+/// ```
+/// use sukhlent::{PlotLine, Record};
+///
+/// let line = Record::zeros(2).amplitude(0)?;
+/// assert_eq!(line, PlotLine { re: 1.0, im: 0.0, p: 1.0 });
+/// # Ok::<(), sukhlent::Refusal>(())
+/// ```
 #[derive(Clone, Copy, Debug, PartialEq)]
 pub struct PlotLine {
     /// The real part: 0, 1 or -1.

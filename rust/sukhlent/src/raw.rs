@@ -544,6 +544,13 @@ pub fn cut(n: u64, neighbours: &[u64], codes: &[u8], used: u64, side: u64, rank:
 
 /// Writes the amplitude at a word over that at the smallest word with a nonzero amplitude, real part
 /// and imaginary part, and the word's probability.
+///
+/// ```
+/// // -Y: i over 1 at the word 1 is minus.
+/// let (mut re, mut im, mut p) = (9.0, 9.0, 9.0);
+/// let number = sukhlent::raw::amplitude(1, &[0], &[6], 0, 1, &mut re, &mut im, &mut p);
+/// assert_eq!((number, re, im, p), (0, 0.0, -1.0, 0.5));
+/// ```
 #[allow(clippy::too_many_arguments)]
 pub fn amplitude(
     n: u64,
