@@ -1,7 +1,8 @@
 -- The demands of values, from the call's contract, the laws of values, and what the calls do to the group.
 use mathlib.Core.Bool.{_&&_, Bool, and-false, and-true, false, not, true}
+use mathlib.Core.List.{List}
 use mathlib.Core.Logic.{_≢_, _⊎_, inl, inr}
-use mathlib.Core.Path.{_∙_, _≡_, refl, subst, sym}
+use mathlib.Core.Path.{_∙_, _≡_, ap, refl, subst, sym}
 use Prim.Native.Nat.{_<_, _≤_, suc, zero, ℕ}
 use native.Mathlib.Omega.{arith}
 use lib.Dec.{eqb}
@@ -28,8 +29,8 @@ use Rattle.pauli.specs.Pauli.{Pauli, i², signedRow, xBit, zBit}
 use Rattle.pauli.specs.declared.Letter.{Letter}
 use Rattle.record.proofs.AcceptedRecords.{accepted-record}
 use Rattle.record.specs.Accepted.{AcceptedRecord}
-use Rattle.record.specs.Lent.{LentRecord, heldRecord, heldRows}
-use Rattle.record.specs.Records.{complementRecord}
+use Rattle.record.specs.Lent.{LentRecord, heldRows}
+use Rattle.record.specs.Records.{GraphRecord}
 use Rattle.stabilizer.proofs.Accepted.{accepted-list}
 use Rattle.stabilizer.proofs.Within.{act-within}
 use Rattle.stabilizer.specs.Groups.{InGroup, Proper, SameGroup, Within}
@@ -41,6 +42,7 @@ use Rattle.words.specs.Bits.{bit, digit, isOdd}
 use Rattle.claims.proofs.Contradictions.{contradictions-refused}
 use Rattle.claims.proofs.GatesFollow.{cz-follows, gates-follow}
 use Rattle.claims.proofs.MeasurementsFollow.{measurements-follow}
+use Rattle.claims.proofs.PivotStepsHold.{pivot-fits, pivot-kept, pivot-left}
 use Rattle.claims.proofs.RewritingsKeep.{complements-keep}
 use Rattle.claims.proofs.SecondDemandLists.{reduction-keeps-group}
 use Rattle.claims.proofs.UsedDemandHolds.{accepted-measured-without, reduced-without, reductions-unused}
@@ -53,10 +55,12 @@ use Rattle.claims.specs.ExpectationDemand.{
   GatesCarryValues,
   MeasurementAgrees,
   MeasurementsAgree,
+  PivotsKeepValues,
   ReductionsKeepValues,
   RowOn,
   letterCall,
   letterWord,
+  valueOn,
 }
 use Rattle.claims.specs.OperationsDemand.{CzStands, GateStands, MeasurementStands, RewrittenAs, signedPauli}
 
@@ -203,13 +207,19 @@ same-values : (n : ℕ) (R S : ℕ → Pauli) → Proper n R → Proper n S → 
 same-values n R S P Q G p W = value-carried n R S P Q (λ r. r) (G .there) (λ r. refl) (λ r s. refl) p (W .signed)
     (W .within) (W .signed) (W .within)
 
+rewritten-values : (l : LentRecord) (nb cs : List ℕ) (new : GraphRecord) → AcceptedRecord l
+    → RewrittenAs l (left l nb cs) new → (p : Pauli) → RowOn (l .n) p → valueOn (left l nb cs) p ≡ valueOn l p
+rewritten-values l nb cs new A G = same-values (l .n) (heldRows l) (heldRows (left l nb cs)) (A .proper)
+    (accepted-record (left l nb cs) false false (G .still) .proper) (G .group)
+
 pub complements-keep-values : ComplementsKeepValues
 complements-keep-values l a nb′ cs′ C =
-    same-values (l .n) (heldRows l) (heldRows (left l nb′ cs′)) (held-accepted l _ _ (sym (C .number)) .proper)
-    (accepted-record (left l nb′ cs′) false false (K .still) .proper) (K .group)
-  where
-    K : RewrittenAs l (left l nb′ cs′) (complementRecord (heldRecord l) a)
-    K = complements-keep l a nb′ cs′ C
+    rewritten-values l nb′ cs′ _ (held-accepted l _ _ (sym (C .number))) (complements-keep l a nb′ cs′ C)
+
+pub pivots-keep-values : PivotsKeepValues
+pivots-keep-values u a b value e p W =
+    ap (λ l. valueOn l p) (pivot-left u a b value e)
+    ∙ rewritten-values (u .held) _ _ _ (pivot-fits u a b value e .0 .held) (pivot-kept u a b value e) p W
 
 pub reductions-keep-values : ReductionsKeepValues
 reductions-keep-values l nb cs used nb′ cs′ used′ C =
