@@ -16,45 +16,34 @@ use Rattle.stabilizer.proofs.RowOperations.{clear-self, lend-self, shear-commut
 use Rattle.stabilizer.specs.internal.Elimination.{clear, lend, pivotOn}
 use Rattle.stabilizer.specs.Elimination.{shear}
 use Rattle.stabilizer.specs.Groups.{chosen}
-use Rattle.stabilizer.specs.internal.Tableau.{tableau}
 use Rattle.words.proofs.BitLaws.{bit-single, zero-bit}
 use Rattle.words.proofs.Finite.{⊕-zero}
 use Rattle.words.proofs.Places.{other-place, put-all, put-other, put-same, same-place, upto-other}
 use Rattle.words.proofs.Sums.{lt-or-ge}
-use Rattle.words.specs.Bits.{bit, put, _⊕_}
+use Rattle.words.specs.Bits.{Word, bit, put, _⊕_}
 use Rattle.reduction.specs.internal.Passes.{PivotReady}
+use Rattle.reduction.specs.internal.Relative.{relative}
 
--- ---- the word of a column: the rows below i that have x bit q
-pub record ColumnBelow (rows : List (List ℕ)) (q word i : ℕ) : Type 0 where
-  pub named : (j : ℕ) → bit word j ≡ (ltb j i && bit (getD (getD rows j []) 1 0) q)
+-- ---- a word made row after row: the rows below i that pass
+pub record NamedBelow (f : Word) (word i : ℕ) : Type 0 where
+  pub named : (j : ℕ) → bit word j ≡ (ltb j i && f j)
 
-pub column-start : (rows : List (List ℕ)) (q : ℕ) → ColumnBelow rows q 0 0
-column-start rows q =
-    record {
-      named = λ j. zero-bit j
-          ∙ sym (ap (λ b. b && bit (getD (getD rows j []) 1 0) q) (le-ltb j 0 zero-le));
-    }
+pub named-start : (f : Word) → NamedBelow f 0 0
+named-start f = record { named = λ j. zero-bit j ∙ sym (ap (λ b. b && f j) (le-ltb j 0 zero-le)) }
 
-pub column-step : (rows : List (List ℕ)) (q word i : ℕ) → ColumnBelow rows q word i → (word′ : ℕ) (b : Bool) →
-    b ≡ bit (getD (getD rows i []) 1 0) q → ((j : ℕ) → bit word′ j ≡ bit word j ⊕ (eqb j i && b)) →
-    ColumnBelow rows q word′ (i + 1)
-column-step rows q word i C word′ b e h =
+pub named-step : (f : Word) (word i : ℕ) → NamedBelow f word i → (word′ : ℕ) (b : Bool) → b ≡ f i
+    → ((j : ℕ) → bit word′ j ≡ bit word j ⊕ (eqb j i && b)) → NamedBelow f word′ (i + 1)
+named-step f word i C word′ b e h =
     record { named = λ j. h j ∙ ap₂ (λ u v. u ⊕ (eqb j i && v)) (C .named j) e ∙ at j (ℕ-discrete j i) }
   where
-    at : (j : ℕ) → Dec (j ≡ i) →
-        (ltb j i && bit (getD (getD rows j []) 1 0) q) ⊕ (eqb j i && bit (getD (getD rows i []) 1 0) q)
-        ≡ (ltb j (i + 1) && bit (getD (getD rows j []) 1 0) q)
+    at : (j : ℕ) → Dec (j ≡ i) → (ltb j i && f j) ⊕ (eqb j i && f i) ≡ (ltb j (i + 1) && f j)
     at j (yes p) =
-        subst (λ v. (ltb v i && bit (getD (getD rows v []) 1 0) q)
-        ⊕ (eqb v i && bit (getD (getD rows i []) 1 0) q)
-        ≡ (ltb v (i + 1) && bit (getD (getD rows v []) 1 0) q)) (sym p)
-        (ap₂ (λ u v. (u && bit (getD (getD rows i []) 1 0) q) ⊕ (v && bit (getD (getD rows i []) 1 0) q))
-        (le-ltb i i (le-refl i)) (same-place i)
-        ∙ sym (ap (λ u. u && bit (getD (getD rows i []) 1 0) q) (lt-ltb i (i + 1) (omega arith))))
+        subst (λ v. (ltb v i && f v) ⊕ (eqb v i && f i) ≡ (ltb v (i + 1) && f v)) (sym p)
+        (ap₂ (λ u v. (u && f i) ⊕ (v && f i)) (le-ltb i i (le-refl i)) (same-place i)
+        ∙ sym (ap (λ u. u && f i) (lt-ltb i (i + 1) (omega arith))))
     at j (no d) =
-        ap (λ u. (ltb j i && bit (getD (getD rows j []) 1 0) q)
-        ⊕ (u && bit (getD (getD rows i []) 1 0) q)) (other-place d)
-        ∙ ⊕-zero _ ∙ ap (λ u. u && bit (getD (getD rows j []) 1 0) q) (sym (upto-other j i d))
+        ap (λ u. (ltb j i && f j) ⊕ (u && f i)) (other-place d)
+        ∙ ⊕-zero _ ∙ ap (λ u. u && f j) (sym (upto-other j i d))
 
 -- ---- the bit lent
 module _ (R : ℕ → Pauli) (q i holders : ℕ) (P : PivotReady R q i holders) where
@@ -124,6 +113,6 @@ module _ (R : ℕ → Pauli) (q i holders : ℕ) (P : PivotReady R q i holders) 
 
 -- a row past the array has no bit
 pub far-row : (rows : List (List ℕ)) (signs q : ℕ) → length rows ≡ 64 → (j : ℕ) → 64 ≤ j →
-    (tableau signs rows j) .x q ≡ false
+    (relative signs rows j) .x q ≡ false
 far-row rows signs q e j l =
     ap (λ v. bit (getD v 1 0) q) (List·getD-eq-default rows [] (subst (λ k. k ≤ j) (sym e) l)) ∙ zero-bit q

@@ -8,24 +8,24 @@ use lib.Dec.{ltb}
 use lib.ListN.{getD}
 use borrow.Author.Needs.{needs}
 use Rattle.words.specs.Bits.{bit}
-use Rattle.reduction.proofs.Pivoting.{ColumnBelow, column-start, column-step}
+use Rattle.reduction.proofs.Pivoting.{NamedBelow, named-start, named-step}
 use Rattle.reduction.proofs.passes.column.Statement.{statement}
 use Rattle.reduction.proofs.passes.column.Tie as tie
 
 abbrev Inv-loop : tie.InvT-loop
-Inv-loop rows n q word₀ j₀ word j = (j ≤ n) × ColumnBelow rows q word j
+Inv-loop rows n q word₀ j₀ word j = (j ≤ n) × NamedBelow (λ i. bit (getD (getD rows i []) 1 0) q) word j
 
 abbrev μ-loop : tie.MeasureT-loop
 μ-loop rows n q word₀ j₀ word j = n - j
 
 loop-holds : tie.Need-loop-holds Inv-loop μ-loop
-loop-holds c = (zero-le, column-start (c .args .rows .now) (c .args .q))
+loop-holds c = (zero-le, named-start (λ i. bit (getD (getD (c .args .rows .now) i []) 1 0) (c .args .q)))
 
 loop-again : tie.Need-loop-again Inv-loop μ-loop
 loop-again c = let L = c .before .before .before .before .loop in
     let a = c .before .before .before .before .before .args in (
       omega arith,
-      column-step (a .rows .now) (a .q) (L .word) (L .j) (L .inv .1) _ _ (c .before .has .ensures)
+      named-step (λ i. bit (getD (getD (a .rows .now) i []) 1 0) (a .q)) (L .word) (L .j) (L .inv .1) _ _ (c .before .has .ensures)
           (c .flip-where .ensures),
     )
 
