@@ -95,11 +95,11 @@ fn column(rows: &[[u64; 2]; 64], n: usize, q: usize) -> u64
     ensures { λ r. ⌜ ((j : ℕ) → bit r j ≡ (ltb j n && bit (getD (getD (now (rows .entry)) j []) 1 0) q)) ⌝ }
 {
     let mut word = 0;
-    let mut j = 0;
-    while j < n {
+    let mut j = n;
+    while 0 < j {
+        j -= 1;
         let row = rows[j];
-        word = flip_where(word, j, has(row[1], q));
-        j += 1;
+        word = 2 * word + ((row[1] >> q) & 1);
     }
     word
 }
