@@ -19,10 +19,11 @@
  * the word of used qubits is checked and plays no part in it. With the word 0 no qubit is used.
  *
  * Every buffer passes as a pointer and its length in elements, and has n places where its call
- * does not say otherwise. Buffers must not overlap. The calls on a record in place (gate, cz,
- * measure, complement, pivot) read `neighbours` and `codes` and write the new record there;
- * measure reads and writes *used too, and the others leave the word as it is. All other buffers
- * that are not const are lent for the answer: what they hold before the call does not matter.
+ * does not say otherwise. A buffer that is not const must overlap no other; const buffers may be
+ * the same one. The calls on a record in place (gate, cz, measure, complement) read `neighbours`
+ * and `codes` and write the new record there; measure reads and writes *used too, and the others
+ * leave the word as it is. All other buffers that are not const are lent for the answer: what they
+ * hold before the call does not matter.
  *
  * Every call answers 0 where it accepts, or the first number of this list whose line is true; the
  * list is in checking order. A refused call changes no buffer.
@@ -35,8 +36,8 @@
  *       seed 0
  *    7  a graph is not simple, or a used vertex has a neighbour or a code other than 0, 2, 4, 6, 8
  *       and 10
- *    8  a qubit number is n or more, CZ or a pivot names one qubit twice, or a pivot's pair has no
- *       edge
+ *    8  a qubit number is n or more, or CZ names one qubit twice; in a job also: a pivot names one
+ *       qubit twice, or its pair has no edge
  *   16  the call names a used qubit
  *    9  two generators do not commute
  *   10  the generators are dependent
@@ -53,9 +54,10 @@
 #include <stddef.h>
 #include <stdint.h>
 
-/* The version of this header: major * 10000 + minor * 100 + patch, and as a text. */
-#define SUKHLENT_VERSION 1200
-#define SUKHLENT_VERSION_TEXT "0.12.0"
+/* The version of this header: major * 10000 + minor * 100 + patch, and as a text.
+ * sukhlent_version answers that of the library. */
+#define SUKHLENT_VERSION 1300
+#define SUKHLENT_VERSION_TEXT "0.13.0"
 
 /* Refusals by name, in checking order. */
 #define SUKHLENT_ACCEPTED 0
@@ -81,6 +83,11 @@
 #define SUKHLENT_PAULI_Y 2
 #define SUKHLENT_PAULI_Z 3
 
+/* Answers of sukhlent_expectation. */
+#define SUKHLENT_PLUS 0
+#define SUKHLENT_MINUS 1
+#define SUKHLENT_NEITHER 2
+
 /* Codes of common gates. */
 #define SUKHLENT_GATE_I 0
 #define SUKHLENT_GATE_X 1
@@ -100,12 +107,17 @@
 #define SUKHLENT_TEXT_PLACES 61463
 #define SUKHLENT_ORBIT_PLACES 32768
 
-/* A session starts with every qubit in +Z: no neighbours, every code SUKHLENT_GATE_H, no qubit
- * used. CNOT is SUKHLENT_GATE_H at the target, CZ, SUKHLENT_GATE_H at the target. A random
- * outcome: ask with one bit, and where that is refused by SUKHLENT_CONTRADICTED, with the other. Two states are equal
- * exactly if their reduced records are equal buffers. No call keeps anything between calls: two
- * threads may call at once, each with buffers of its own, and buffers that are only read (const)
- * may be the same one. */
+/* Recipes (examples/c/recipes.c).
+ *
+ * A session starts with every qubit in +Z: no neighbours, every code SUKHLENT_GATE_H, used 0.
+ * CNOT is H, CZ, H: SUKHLENT_GATE_H at the target, sukhlent_cz, SUKHLENT_GATE_H at the target.
+ * A random outcome: ask sukhlent_measure with one fair bit; where that is refused by
+ *   SUKHLENT_CONTRADICTED the state determines the outcome, and the other bit is it.
+ * Equal states: two reduced records have equal neighbours and codes exactly if their states are
+ *   equal. What gate, cz, measure and reduce leave is reduced; any other record is reduced by
+ *   sukhlent_expand and sukhlent_reduce.
+ * Threads: no call keeps anything between calls. Two threads may call at once, each with buffers
+ *   of its own for what is not const. */
 
 /* What a refusal number means, in words. */
 static inline const char *sukhlent_refusal_text(uint8_t number)
@@ -135,6 +147,9 @@ static inline const char *sukhlent_refusal_text(uint8_t number)
 #ifdef __cplusplus
 extern "C" {
 #endif
+
+/* The version of the library, as SUKHLENT_VERSION has it. */
+uint32_t sukhlent_version(void);
 
 /* Checks a generator list. Writes nothing.
  * Refusals: 2, 4, 5, 6, 9, 10. */
@@ -203,15 +218,6 @@ uint8_t sukhlent_complement(uint64_t n,
                             uint64_t used,
                             uint64_t a);
 
-/* Pivots on an edge: complements at j, k and j. The group stays; the record is not reduced. A used
- * vertex has no edge, so that a pivot there is refused by 8.
- * Refusals: 2, 4, 5, 6, 7, 8 (`j` or `k` is n or more, they are the same, or have no edge). */
-uint8_t sukhlent_pivot(uint64_t n,
-                       uint64_t *neighbours, size_t neighbours_len,
-                       uint8_t *codes, size_t codes_len,
-                       uint64_t used,
-                       uint64_t j, uint64_t k);
-
 /* Sends a graph through its codes, by the image rule: writes the image graph, a sign per vertex
  * (1 for minus) and the vertices at which the graph is complemented, in order. `list` has 96
  * places; those from *count on keep their values. It takes no word of used qubits.
@@ -233,6 +239,17 @@ uint8_t sukhlent_cut(uint64_t n,
                      const uint8_t *codes, size_t codes_len,
                      uint64_t used,
                      uint64_t side, uint64_t *rank);
+
+/* Reads the value of a Pauli row on a record's state: the row has sign plus, and at each qubit its
+ * bits (z, x) are 00 for I, 01 for X, 10 for Z, 11 for Y. Writes to *value 0 where the row is in
+ * the group of the record (its expectation value is +1), 1 where its negative is (-1), and 2 where
+ * neither is (0). The record need not be reduced, and the row may have letters at used qubits.
+ * Refusals: 2, 4, 5 (also where `z` or `x` has a bit at or above n), 6, 7. */
+uint8_t sukhlent_expectation(uint64_t n,
+                             const uint64_t *neighbours, size_t neighbours_len,
+                             const uint8_t *codes, size_t codes_len,
+                             uint64_t used,
+                             uint64_t z, uint64_t x, uint8_t *value);
 
 /* Multiplies rows of a list, which need neither commute nor be independent: the word `chosen`
  * names the rows, bit j for row j, and they are taken in index order. Writes the letters of the

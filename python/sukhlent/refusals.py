@@ -31,12 +31,20 @@ class Refusal(ValueError):
     Traceback (most recent call last):
     ...
     sukhlent.refusals.Refusal: refused 2: n is 0 or above the call's limit, or the two lists' n differ
+    >>> try:
+    ...     State.zeros(2).measure("Z", 0, 1)
+    ... except Refusal as refusal:
+    ...     print(refusal.number, refusal.text)
+    14 a determined outcome contradicts the supplied bit
+
+    `where` says where a text leaves its form, for refusal 1 of a text that this package reads itself.
     """
 
-    def __init__(self, number: int):
+    def __init__(self, number: int, where: str = ""):
         self.number = number
         self.text = TEXTS.get(number, "unknown refusal")
-        super().__init__(f"refused {number}: {self.text}")
+        self.where = where
+        super().__init__(f"refused {number}: {where or self.text}")
 
 
 def accept(number: int) -> None:

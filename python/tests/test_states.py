@@ -1,9 +1,15 @@
 """States against a plain model: rows of Pauli letters followed by hand."""
 
+import contextlib
+import io
+import itertools
 import random
+import tempfile
 import unittest
+from pathlib import Path
 
 from sukhlent import NAMES, GeneratorList, Refusal, State, generate, images, orbit, run_job
+from sukhlent.command import main as command
 from sukhlent.orbits import edges_of, number_of
 
 #: products of two letters: the power of i and the letter
@@ -94,6 +100,33 @@ class States(unittest.TestCase):
             lines = {send(line, qubit, number) for line in lines}
         self.assertEqual(lines, group(other.generators().strings()))
 
+    def test_values_are_those_of_the_group(self):
+        source = random.Random(3)
+        for _ in range(40):
+            state, _ = run_job(generate(3, 30, source.randrange(1, 1 << 60)))
+            elements = group(state.generators().strings())
+            for letters in map("".join, itertools.product("IXYZ", repeat=3)):
+                due = ("+" + letters in elements) - ("-" + letters in elements)
+                self.assertEqual([state.expectation(sign + letters) for sign in ("", "+", "-")], [due, due, -due])
+
+    def test_rows_of_another_form_are_refused(self):
+        state = State.from_strings("+XX", "+ZZ")
+        for row in ("", "+", "X", "XXX", "+xx", "*XX", "++X", "XX\n"):
+            with self.assertRaises(Refusal) as refused:
+                state.expectation(row)
+            self.assertEqual(refused.exception.number, 1, row)
+
+    def test_the_command_prints_values(self):
+        with tempfile.TemporaryDirectory() as folder:
+            file = Path(folder) / "bell"
+            file.write_text("+XX\n+ZZ\n")
+            said, refused = io.StringIO(), io.StringIO()
+            with contextlib.redirect_stdout(said), contextlib.redirect_stderr(refused):
+                statuses = [command(["expectation", str(file), *rows]) for rows in (["+XX", "XI", "--", "-YY"], ["X"])]
+        self.assertEqual(statuses, [0, 1])
+        self.assertEqual(said.getvalue(), "row value\n+XX 1\nXI 0\n-YY 1\n")
+        self.assertEqual(refused.getvalue(), "sukhlent: refused 1: the row X is not a sign and 2 letters I, X, Y or Z\n")
+
     def test_lists_are_read_and_written(self):
         text = "-XZI\n+ZXZ\n+IZY\n"
         self.assertEqual(str(GeneratorList.from_strings(text)), text)
@@ -112,7 +145,9 @@ class States(unittest.TestCase):
                         if other not in reached:
                             reached.add(other)
                             todo.append(other)
-                self.assertEqual(orbit(n, edges_of(n, number)), sorted(reached))
+                found = orbit(n, edges_of(n, number))
+                self.assertEqual(found.numbers, sorted(reached))
+                self.assertEqual([number_of(n, graph) for graph in found.graphs()], found.numbers)
 
     def test_a_drawing_has_a_line_for_each_edge(self):
         state = State.graph(5, [(q, (q + 1) % 5) for q in range(5)])

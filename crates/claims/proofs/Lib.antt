@@ -19,12 +19,12 @@ pub mod CzInsideSide
 pub mod CutDemandHolds
 pub mod ProductDemandHolds
 pub mod StringsExactly
+pub mod families
 pub mod AcceptedCallsHold
 pub mod ComparedByParts
 pub mod TakenRecords
 pub mod ListDemandHolds
 pub mod FirstDemandHolds
-pub mod AnswerBuffers
 pub mod GeneratorDemandHolds
 pub mod StringsDemandHolds
 pub mod JobSteps
@@ -35,3 +35,5 @@ pub mod UsedDemandHolds
 pub mod SentencesHold
 pub mod ReachedStates
 pub mod OrbitDemandHolds
+pub mod PivotStepsHold
+pub mod ExpectationDemandHolds

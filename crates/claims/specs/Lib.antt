@@ -3,6 +3,9 @@ pub mod PartsDemand
 pub mod ThirdDemand
 pub mod ImageDemand
 pub mod OperationsDemand
+pub mod Conforming
+pub mod Arguments
+pub mod families
 pub mod AcceptedCalls
 pub mod ListDemand
 pub mod CutDemand
@@ -16,4 +19,6 @@ pub mod ProgramDemand
 pub mod UsedDemand
 pub mod Sentences
 pub mod OrbitDemand
+pub mod PivotSteps
+pub mod ExpectationDemand
 pub mod internal

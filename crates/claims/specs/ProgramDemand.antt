@@ -13,6 +13,7 @@ use Rattle.job_text.specs.Text.{HasJobForm, JobTextOf}
 use Rattle.jobs.specs.Asked.{asked, numberOf}
 use Rattle.jobs.specs.GroupsAfter.{Group, GroupAfter, GroupDetermines, Refused, StartGroup}
 use Rattle.jobs.specs.Runs.{recordAfter, run, started}
+use Rattle.jobs.specs.Standing.{StandsFor, StillRecord}
 use Rattle.jobs.specs.declared.Step.{Step}
 use Rattle.call_lists.specs.Calls.{checkLines}
 use Rattle.list_reply.specs.Answer.{ResponseTo as ListResponse, listRead}
@@ -26,8 +27,7 @@ use Rattle.stabilizer.specs.Lists.{GeneratorList, rows}
 use Rattle.text.specs.Text.{HasForm, ListLine, TextOf, recordText, refusedText}
 use Rattle.used.specs.Used.{UsedRecord}
 use Rattle.words.specs.Bits.{isOdd}
-use Rattle.claims.specs.JobDemand.{StandsFor}
-use Rattle.claims.specs.OperationsDemand.{IsReduced, StillRecord}
+use Rattle.claims.specs.OperationsDemand.{IsReduced}
 
 -- ---- `reduce`
 -- the reduced record of a list, in buffers

@@ -1,4 +1,5 @@
 // The comparison of two reduced records: the least choice, the complementation list and its count.
+use buffers::copy_bytes;
 use buffers::copy_list;
 use comparison_groups::induced_codes;
 use comparison_parts::compare_parts;
@@ -28,18 +29,6 @@ pub fn earlier(a: u8, b: u8) -> u8
         return a;
     }
     if a < b { a } else { b }
-}
-
-// The codes of a choice for every place of the buffer.
-fn copy_choice(from: [u8; 64], to: &mut [u8])
-    requires { ⌜ length (now to) ≤ 64 ⌝ }
-    ensures { λ r. ⌜ now (to .exit) ≡ tabulate (length (now (to .entry))) (λ q. getD from q 0) ⌝ }
-{
-    let mut i = 0;
-    while i < to.len() {
-        to[i] = from[i];
-        i += 1;
-    }
 }
 
 // The image rule on the first record's graph, under the codes that the choice induces between two records; with
@@ -93,7 +82,7 @@ pub fn compare_reduced(
         return 13;
     }
     let chosen = least.choice;
-    copy_choice(chosen, choice);
+    copy_bytes(chosen, choice);
     let mut induced = [0u8; 64];
     let answer = induced_image(n, neighbours, codes, choice, codes2, &mut induced[..n]);
     let vertices = answer.list;

@@ -3,6 +3,13 @@
 use std::fmt;
 
 /// The reason for which a call refuses, by its number.
+///
+/// ```
+/// use sukhlent::{gate, Record, Refusal};
+///
+/// let refusal = gate(&mut Record::zeros(2), 2, 0).unwrap_err();
+/// assert_eq!((refusal, refusal.number()), (Refusal::Place, 8));
+/// ```
 #[derive(Clone, Copy, Debug, PartialEq, Eq, Hash, PartialOrd, Ord)]
 #[repr(u8)]
 pub enum Refusal {
@@ -42,6 +49,12 @@ pub enum Refusal {
 
 impl Refusal {
     /// Every refusal, in checking order.
+    ///
+    /// ```
+    /// use sukhlent::Refusal;
+    ///
+    /// assert_eq!(Refusal::ALL[..2], [Refusal::Form, Refusal::Steps]);
+    /// ```
     pub const ALL: [Refusal; 16] = [
         Refusal::Form,
         Refusal::Steps,
@@ -62,11 +75,22 @@ impl Refusal {
     ];
 
     /// The number, 1 to 16.
+    ///
+    /// ```
+    /// assert_eq!(sukhlent::Refusal::Anticommuting.number(), 9);
+    /// ```
     pub fn number(self) -> u8 {
         self as u8
     }
 
     /// The refusal with this number.
+    ///
+    /// ```
+    /// use sukhlent::Refusal;
+    ///
+    /// assert_eq!(Refusal::from_number(9), Some(Refusal::Anticommuting));
+    /// assert_eq!(Refusal::from_number(0), None);
+    /// ```
     pub fn from_number(number: u8) -> Option<Refusal> {
         Refusal::ALL.into_iter().find(|r| r.number() == number)
     }
@@ -95,8 +119,8 @@ impl Refusal {
                  or a code other than 0, 2, 4, 6, 8 and 10"
             }
             Refusal::Place => {
-                "a qubit number is n or more, CZ or a pivot names one qubit twice, \
-                 or a pivot's pair has no edge"
+                "a qubit number is n or more, CZ or a job's pivot names one qubit twice, \
+                 or that pivot's pair has no edge"
             }
             Refusal::Used => "the call names a used qubit",
             Refusal::Anticommuting => "two generators do not commute",

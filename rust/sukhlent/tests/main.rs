@@ -2,20 +2,24 @@
 
 mod common;
 
+mod build_script;
 mod c_example;
 mod comparisons;
+mod components;
 mod cut_refusals;
 mod cuts;
+mod documentation;
 mod example_states;
 mod examples;
 mod exhaustive;
+mod expectation_refusals;
+mod expectations;
 mod generate_refusals;
 mod generated;
 mod groups;
 mod image_refusals;
 mod images;
 mod in_place_refusals;
-mod components;
 mod job_runs;
 mod job_texts;
 mod large;
@@ -26,6 +30,7 @@ mod list_refusals;
 mod orbit_refusals;
 mod orbits;
 mod pair_refusals;
+mod pivot_steps;
 mod product_refusals;
 mod products;
 mod program;

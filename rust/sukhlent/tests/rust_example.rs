@@ -3,6 +3,9 @@
 #[path = "../examples/orbits.rs"]
 #[allow(dead_code)]
 mod orbits;
+#[path = "../examples/ring.rs"]
+#[allow(dead_code)]
+mod ring;
 #[path = "../examples/session.rs"]
 #[allow(dead_code)]
 mod session;
@@ -16,6 +19,13 @@ fn session_prints_what_the_session_in_c_prints() {
     let mut text = String::new();
     session::session(&mut text).unwrap();
     assert_eq!(text, include_str!("../../../examples/c/session.out"));
+}
+
+#[test]
+fn ring_prints_what_the_ring_in_c_prints() {
+    let mut text = String::new();
+    ring::show(&mut text).unwrap();
+    assert_eq!(text, include_str!("../../../examples/c/ring.out"));
 }
 
 #[test]

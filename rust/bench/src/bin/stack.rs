@@ -59,11 +59,6 @@ const CALLS: [Measured; 18] = [
             raw::complement(n, words, codes, *used, 0)
         })
     }),
-    ("pivot", 64, |random, n| {
-        in_place(random, n, |n, words, codes, used| {
-            raw::pivot(n, words, codes, *used, 0, 1)
-        })
-    }),
     ("image", 64, |random, n| {
         let (neighbours, codes) = pairs(random, n);
         let (mut image, mut signs, mut list, mut count) = ([0; 64], [0; 64], [0; 96], 0);
@@ -86,6 +81,12 @@ const CALLS: [Measured; 18] = [
         let side = 0x5555_5555_5555_5555;
         let mut rank = 0;
         depth(|| raw::cut(n as u64, &neighbours, &codes, used, side, &mut rank))
+    }),
+    ("expectation", 64, |random, n| {
+        let (neighbours, codes, used) = used_pairs(random, n);
+        let (z, x) = (random.word(), random.word());
+        let mut value = 0;
+        depth(|| raw::expectation(n as u64, &neighbours, &codes, used, z, x, &mut value))
     }),
     ("product", 64, |random, n| {
         let given = list(&random_rows(random, n));
@@ -193,7 +194,7 @@ fn measure() -> Vec<usize> {
     all.unwrap().join().unwrap()
 }
 
-/// A row of the README's table.
+/// A row of the table in docs/SPEED.md.
 fn row(name: &str, n: usize) -> String {
     format!("| {name} | {n} | ")
 }
@@ -210,18 +211,18 @@ fn main() {
 mod tests {
     use super::*;
 
-    const README: &str = include_str!("../../../../README.md");
+    const SPEED: &str = include_str!("../../../../docs/SPEED.md");
 
     #[test]
-    fn the_readme_says_what_each_call_needs_within_a_fifth() {
+    fn the_document_says_what_each_call_needs_within_a_fifth() {
         for ((name, n, _), bytes) in CALLS.iter().zip(measure()) {
             let row = row(name, *n);
-            let said = README.lines().find_map(|line| line.strip_prefix(&row));
+            let said = SPEED.lines().find_map(|line| line.strip_prefix(&row));
             let said = said.unwrap_or_else(|| panic!("no line {row}"));
             let said: usize = said.trim_end_matches(" |").parse().unwrap();
             assert!(
                 5 * bytes <= 6 * said && 4 * said <= 5 * bytes,
-                "{name} on {n}: {bytes} bytes, the README says {said}"
+                "{name} on {n}: {bytes} bytes, docs/SPEED.md says {said}"
             );
         }
     }

@@ -6,6 +6,7 @@ pub mod in_place;
 pub mod orbit;
 pub mod reduce;
 pub mod strings;
+pub mod values;
 
 use crate::timing::{medians, Work};
 use std::fmt;

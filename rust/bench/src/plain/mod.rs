@@ -10,6 +10,7 @@ mod refusals;
 mod row;
 mod search;
 mod strings;
+mod values;
 
 pub use compare::compare;
 pub use image::image;
@@ -17,6 +18,7 @@ pub use orbit::orbit;
 pub use reduce::reduce;
 pub use row::Row;
 pub use strings::{check, read_strings, write_strings};
+pub use values::{expand, expectation};
 
 /// The places of a buffer for a list of complementations.
 const LIST_PLACES: usize = 96;

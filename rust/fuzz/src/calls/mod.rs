@@ -50,16 +50,16 @@ pub const CALLS: [Call; 16] = [
         once: in_place::complement,
     },
     Call {
-        name: "pivot",
-        once: in_place::pivot,
-    },
-    Call {
         name: "image",
         once: records::image,
     },
     Call {
         name: "cut",
         once: records::cut,
+    },
+    Call {
+        name: "expectation",
+        once: records::expectation,
     },
     Call {
         name: "product",

@@ -1,8 +1,8 @@
 //! Calls on one record.
 
-use crate::arguments::{cut_call, expand_call, image_call, size};
+use crate::arguments::{cut_call, expand_call, expectation_call, image_call, size};
 use crate::common::local::complemented;
-use crate::common::reference::cut_rank;
+use crate::common::reference::{cut_rank, row_value};
 use crate::common::{ImageLengths, Random, RecordCall};
 use sukhlent::{check, expand as expanded, reduce, GeneratorList, Image, Record};
 
@@ -41,6 +41,20 @@ pub fn cut(random: &mut Random) -> u8 {
     assert_eq!(number, call.due(), "{call:?}");
     if let Ok(rank) = answer {
         assert_eq!(rank, cut_rank(&call.neighbours, call.with.0), "{call:?}");
+    }
+    number
+}
+
+/// A value is that of membership in the group.
+pub fn expectation(random: &mut Random) -> u8 {
+    let n = size(random);
+    let call = expectation_call(random, n);
+    let answer = call.expectation();
+    let number = answer.err().unwrap_or(0);
+    assert_eq!(number, call.due(), "{call:?}");
+    if let Ok(value) = answer {
+        let due = row_value(&call.record(), call.with.z, call.with.x);
+        assert_eq!(value, due, "{call:?}");
     }
     number
 }

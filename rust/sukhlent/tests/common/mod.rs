@@ -6,6 +6,7 @@ pub mod codes;
 pub mod complementations;
 pub mod cut;
 pub mod damage;
+pub mod expectation;
 pub mod generate;
 pub mod guarded;
 pub mod image;
@@ -24,13 +25,14 @@ pub mod vectors;
 pub use calls::{Lengths, ListCall, RecordCall};
 pub use codes::images;
 pub use cut::Side;
+pub use expectation::Letters;
 pub use generate::GenerateCall;
 pub use image::ImageLengths;
 pub use operation::Operation;
 pub use orbit::OrbitCall;
 pub use pairs::PairCall;
 pub use seeded::{
-    isolate, list, mixed, parsed, pauli, random_components, random_record, random_rows, random_sizes,
-    random_used_record, rows, stabilizers, use_up, Circuit, Pauli, Random,
+    isolate, list, mixed, parsed, pauli, random_components, random_record, random_rows,
+    random_sizes, random_used_record, rows, stabilizers, use_up, Circuit, Pauli, Random,
 };
 pub use strings::ReadCall;

@@ -1,0 +1,6 @@
+pub mod Lists
+pub mod Records
+pub mod Comparisons
+pub mod Generator
+pub mod Orbits
+pub mod Expectations
