@@ -246,6 +246,19 @@ uint8_t sukhlent_cut(uint64_t n,
                      uint64_t used,
                      uint64_t side, uint64_t *rank);
 
+/* Reads an amplitude of a record's state, for a plot: writes to *re and *im the amplitude at the word
+ * y, bit q for qubit q, over that at the smallest word with a nonzero amplitude, and to *p the
+ * probability of y. Where the amplitude is 0 all three are 0; otherwise one of *re and *im is 1 or
+ * -1, the other is 0, and *p is 2^-r exactly, with r the rank of the x words of the generators.
+ * Every zero is positive.
+ * Refusals: 2, 4, 5 (also where `y` has a bit at or above n), 6, 7. */
+uint8_t sukhlent_amplitude(uint64_t n,
+                           const uint64_t *neighbours, size_t neighbours_len,
+                           const uint8_t *codes, size_t codes_len,
+                           uint64_t used,
+                           uint64_t y,
+                           double *re, double *im, double *p);
+
 /* Reads the value of a Pauli row on a record's state: the row has sign plus, and at each qubit its
  * bits (z, x) are 00 for I, 01 for X, 10 for Z, 11 for Y. Writes to *value 0 where the row is in
  * the group of the record (its expectation value is +1), 1 where its negative is (-1), and 2 where

@@ -21,6 +21,21 @@ class Measured:
 
 
 @dataclass(frozen=True)
+class PlotLine:
+    """An amplitude over that at the smallest word with a nonzero amplitude, by its real and imaginary part, and the
+    probability of its word. All are 0 where the amplitude is.
+
+    >>> from sukhlent import State
+    >>> State.from_strings("+X").amplitude(1)
+    PlotLine(re=1.0, im=0.0, p=0.5)
+    """
+
+    re: float
+    im: float
+    p: float
+
+
+@dataclass(frozen=True)
 class Equivalence:
     """What a comparison finds: the least choice of a local Clifford per qubit that carries the first state onto the
     second, and the vertices at which the first reduced graph is complemented, in order, to become the second.

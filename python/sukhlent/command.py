@@ -11,6 +11,7 @@ from typing import Callable
 from . import forms
 from .drawing import Place, grid, line
 from .library import version
+from .plots import plot_svg, read_table
 from .programs import fed, path_of
 from .refusals import TEXTS, Refusal
 from .state import State
@@ -19,6 +20,7 @@ from .texts import read_state
 #: the programs: what each does, and what says where its text leaves its form
 PROGRAMS: dict[str, tuple[str, Callable[[str], "str | None"]]] = {
     "reduce": ("the reduced record of a generator list (text: sign z x)", forms.list_fault),
+    "amplitudes": ("the amplitudes of a generator list on up to 10 qubits, as a table (text: sign z x)", forms.list_fault),
     "job": ("a session written as text: what each step answers, and the record after it", forms.job_fault),
 }
 
@@ -43,8 +45,8 @@ def _text(file: str) -> str:
     return _bytes(file).decode("utf-8", "surrogateescape")
 
 
-def _run(name: str, file: str) -> int:
-    """Runs a proved program on a text, prints what it prints, and says why where it refuses."""
+def _run(name: str, file: str, shown: Callable[[str], str] = str) -> int:
+    """Runs a proved program on a text, shows what it prints, and says why where it refuses."""
     program = path_of(name)
     if program is None:
         raise Trouble(f"the program {name} was not found; build it with: rt check {name}")
@@ -54,8 +56,13 @@ def _run(name: str, file: str) -> int:
         number = int(answer.split()[1])
         fault = PROGRAMS[name][1](text.decode("utf-8", "surrogateescape")) if number == 1 else None
         raise Refusal(number, fault or "")
-    sys.stdout.write(answer)
+    sys.stdout.write(shown(answer))
     return 0
+
+
+def _bars(table: str) -> str:
+    """The picture of a table of amplitudes."""
+    return plot_svg(read_table(table)) + "\n"
 
 
 def _draw(file: str, layout: str, out: str) -> int:
@@ -94,15 +101,8 @@ def _compare(first: str, second: str) -> int:
 
 
 def _expectation(file: str, rows: list[str]) -> int:
-    state, lines = _state(_text(file)), ["row value"]
-    for row in rows:
-        try:
-            lines.append(f"{row} {state.expectation(row)}")
-        except Refusal as refusal:
-            if refusal.number == 1:
-                return _refused(1, f"the row {row} is not a sign and {state.n} letters I, X, Y or Z")
-            raise
-    print("\n".join(lines))
+    state = read_state(_text(file))
+    print("\n".join(["row value", *(f"{row} {state.expectation(row)}" for row in rows)]))
     return 0
 
 
@@ -116,7 +116,10 @@ def parser() -> argparse.ArgumentParser:
         return commands.add_parser(name, help=about, description=about)
 
     for name, (about, _) in PROGRAMS.items():
-        command(name, about).add_argument("file", nargs="?", default="-", metavar="FILE")
+        program = command(name, about)
+        program.add_argument("file", nargs="?", default="-", metavar="FILE")
+        if name == "amplitudes":
+            program.add_argument("--svg", action="store_true", help="draws the table as bars, as SVG")
     draw = command("draw", "the record of a state as SVG (Pauli strings, a generator list, a record, what job prints)")
     draw.add_argument("file", nargs="?", default="-", metavar="FILE")
     draw.add_argument("--layout", default="circle", help="circle, line, or rows and columns as 2x3")
@@ -135,7 +138,7 @@ def main(arguments: list[str] | None = None) -> int:
     given = parser().parse_args(arguments)
     try:
         if given.command in PROGRAMS:
-            return _run(given.command, given.file)
+            return _run(given.command, given.file, _bars if getattr(given, "svg", False) else str)
         if given.command == "draw":
             return _draw(given.file, given.layout, given.out)
         if given.command == "expectation":

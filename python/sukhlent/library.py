@@ -4,7 +4,7 @@ from __future__ import annotations
 
 import ctypes
 import os
-from ctypes import POINTER, c_size_t, c_uint8, c_uint16, c_uint32, c_uint64
+from ctypes import POINTER, c_double, c_size_t, c_uint8, c_uint16, c_uint32, c_uint64
 from pathlib import Path
 from typing import Iterable, Union
 
@@ -27,6 +27,7 @@ _CALLS: dict[str, tuple] = {
     "complement": (c_uint64, *_RECORD, c_uint64, c_uint64),
     "image": (c_uint64, *_RECORD, *_IN_WORDS, *_IN_BYTES, *_IN_BYTES, _WORDS),
     "cut": (c_uint64, *_RECORD, c_uint64, c_uint64, _WORDS),
+    "amplitude": (c_uint64, *_RECORD, c_uint64, c_uint64, *[POINTER(c_double)] * 3),
     "expectation": (c_uint64, *_RECORD, c_uint64, c_uint64, c_uint64, _BYTES),
     "save": (c_uint64, *_RECORD, c_uint64, c_uint64, *_IN_WORDS, *_RECORD),
     "return": (c_uint64, *_IN_WORDS, *_RECORD, _WORDS, *_RECORD, _WORDS),
@@ -57,20 +58,25 @@ def _candidates() -> list[Path]:
 def _load() -> ctypes.CDLL:
     for path in _candidates():
         if path.is_file():
-            library = ctypes.CDLL(str(path))
-            break
-    else:
-        tried = "\n  ".join(str(path) for path in _candidates())
-        raise ImportError(
-            f"{_NAME} was not found. Build it with tools/shared in a clone, install with tools/install PREFIX, or name"
-            f" it in SUKHLENT_LIBRARY. Tried:\n  {tried}"
-        )
-    for name, arguments in _CALLS.items():
-        function = getattr(library, f"sukhlent_{name}")
+            return _declared(ctypes.CDLL(str(path)), path)
+    tried = "\n  ".join(str(path) for path in _candidates())
+    raise ImportError(
+        f"{_NAME} was not found. Build it with tools/shared in a clone, install with tools/install PREFIX, or name"
+        f" it in SUKHLENT_LIBRARY. Tried:\n  {tried}"
+    )
+
+
+def _declared(library: ctypes.CDLL, path: Path) -> ctypes.CDLL:
+    """The library with the types of its calls."""
+    for name, arguments in {**_CALLS, "version": ()}.items():
+        function = getattr(library, f"sukhlent_{name}", None)
+        if function is None:
+            raise ImportError(
+                f"{path} has no sukhlent_{name}: it is of another version than this package. In a clone, build it anew"
+                " with: rt staticlib sukhlent && tools/shared"
+            )
         function.argtypes = arguments
-        function.restype = c_uint8
-    library.sukhlent_version.argtypes = ()
-    library.sukhlent_version.restype = c_uint32
+        function.restype = c_uint32 if name == "version" else c_uint8
     return library
 
 
@@ -111,6 +117,13 @@ def word(value: int = 0) -> Cell:
 def octet(value: int = 0) -> Cell:
     """A cell of eight bits."""
     return Cell(c_uint8, value)
+
+
+class FloatCell(Cell):
+    """One 64-bit float that a call writes."""
+
+    def __init__(self) -> None:
+        self._held = c_double()
 
 
 #: what passes to a call: a number, a buffer or a cell

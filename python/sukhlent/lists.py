@@ -20,7 +20,7 @@ def row_words(row: str, n: int) -> tuple[int, int, int]:
     """
     letters = row[1:] if row[:1] in ("+", "-") else row
     if len(letters) != n or not set(letters) <= set(_LETTERS):
-        raise Refusal(1)
+        raise Refusal(1, f"the row {row} is not a sign and {n} letters I, X, Y or Z")
     numbers = [_LETTERS.index(letter) for letter in letters]
     z, x = (sum((number >> bit & 1) << q for q, number in enumerate(numbers)) for bit in (1, 0))
     return int(row[:1] == "-"), z, x

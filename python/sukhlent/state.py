@@ -7,7 +7,7 @@ from pathlib import Path
 from typing import Iterable
 
 from . import library
-from .answers import Equivalence, Image, Measured
+from .answers import Equivalence, Image, Measured, PlotLine
 from .codes import code
 from .drawing import Place, record_svg
 from .lists import GeneratorList, row_words
@@ -193,6 +193,18 @@ class State:
         word = library.word_of(side)
         accept(library.call("cut", self.n, self._neighbours, self._codes, self._used, word, rank))
         return rank.value
+
+    def amplitude(self, y: int) -> PlotLine:
+        """The amplitude at the word y, bit q for qubit q, over that at the smallest word with a nonzero amplitude.
+
+        >>> [State.from_strings("-Y").amplitude(y) for y in (0, 1)]
+        [PlotLine(re=1.0, im=0.0, p=0.5), PlotLine(re=0.0, im=-1.0, p=0.5)]
+        """
+        if not 0 <= y < 1 << 64:
+            raise Refusal(5)
+        re, im, p = library.FloatCell(), library.FloatCell(), library.FloatCell()
+        accept(library.call("amplitude", self.n, self._neighbours, self._codes, self._used, y, re, im, p))
+        return PlotLine(re.value, im.value, p.value)
 
     def expectation(self, row: str) -> int:
         """The expectation value of a Pauli row such as `+XZI`, leftmost letter qubit 0: 1 where the row is in the group

@@ -4,18 +4,18 @@ import io
 import os
 import pty
 import random
-import subprocess
 import sys
 import tempfile
 import time
 import unittest
 from contextlib import redirect_stderr, redirect_stdout
 from pathlib import Path
+from unittest import mock
 
-from sukhlent import forms, generate
+from sukhlent import forms, generate, library, plot_svg, read_table
 from sukhlent.command import main
 from sukhlent.programs import Progress
-from tests.places import ROOT, program, sukhlent
+from tests.places import program, sukhlent
 
 BELL = "sign z x\n0 0000000000000000 0000000000000003\n0 0000000000000003 0000000000000000\n"
 RECORD = "qubit code neighbours used\n0 0 0000000000000002 0\n1 8 0000000000000001 0\n"
@@ -57,11 +57,20 @@ class Command(unittest.TestCase):
         text = generate(3, 20, 5)
         self.assertEqual(called("job", self.file("job", text)), (0, program("job", text), ""))
 
+    def test_amplitudes_are_printed_and_drawn(self):
+        table = program("amplitudes", BELL)
+        self.assertEqual(sukhlent("amplitudes", text=BELL), (0, table, ""))
+        drawn = plot_svg(read_table(table)) + "\n"
+        self.assertEqual(called("amplitudes", "--svg", self.file("list", BELL)), (0, drawn, ""))
+        said = "sukhlent: refused 9: two generators do not commute\n"
+        clash = "sign z x\n0 0000000000000001 0000000000000000\n0 0000000000000000 0000000000000001\n"
+        self.assertEqual(sukhlent("amplitudes", "--svg", text=clash), (1, "", said))
+
     def test_help_and_wrong_calls(self):
         status, out, _ = called("--help")
         self.assertEqual(status, 0)
-        for name in ("reduce", "job", "draw", "compare"):
-            self.assertIn(f"    {name} ", out)
+        for name in ("reduce", "amplitudes", "job", "draw", "compare"):
+            self.assertRegex(out, rf"(?m)^    {name}\b")
             self.assertEqual(called(name, "--help")[0], 0)
         self.assertEqual(called()[0], 2)
         self.assertEqual(called("reduce", str(self.folder / "none"))[0], 2)
@@ -129,11 +138,10 @@ class Command(unittest.TestCase):
             progress.end()
         self.assertEqual(out.getvalue(), "")
 
-    def test_a_missing_library_is_told_with_what_to_run(self):
-        apart = self.folder / "python"
-        apart.mkdir()
-        (apart / "sukhlent").symlink_to(ROOT / "python" / "sukhlent")
-        environment = {**os.environ, "PYTHONPATH": str(apart), "SUKHLENT_LIBRARY": ""}
-        code = "import sukhlent.library as l; l._candidates = lambda: []; l._load()"
-        run = subprocess.run([sys.executable, "-c", code], capture_output=True, env=environment, text=True, timeout=60)
-        self.assertIn("Build it with tools/shared", run.stderr)
+    def test_a_library_that_is_missing_or_old_is_told_with_what_to_run(self):
+        with mock.patch.object(library, "_candidates", lambda: [self.folder / "none.so"]):
+            with self.assertRaisesRegex(ImportError, "Build it with tools/shared .*\n.*none.so"):
+                library._load()
+        with mock.patch.dict(library._CALLS, {"unheard_of": ()}):
+            with self.assertRaisesRegex(ImportError, "has no sukhlent_unheard_of: it is of another version"):
+                library._load()

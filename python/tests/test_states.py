@@ -132,6 +132,25 @@ class States(unittest.TestCase):
         self.assertEqual(str(GeneratorList.from_strings(text)), text)
         self.assertEqual(State.from_strings(text).cut([1]), 1)
 
+    def test_amplitudes_are_fixed_by_the_group(self):
+        turns = {"I": (0, 0), "X": (0, 0), "Y": (1, 3), "Z": (0, 2)}
+        for seed in range(20):
+            state = run_job(generate(4, 12, seed + 1))[0]
+            values = [complex(line.re, line.im) for line in map(state.amplitude, range(16))]
+            chances = [state.amplitude(y).p for y in range(16)]
+            self.assertEqual(sum(chances), 1)
+            self.assertEqual(len(set(chances) - {0}), 1)
+            self.assertEqual(next(value for value in values if value), 1)
+            for element in group(state.generators().strings()):
+                sign, letters = (-1 if element[0] == "-" else 1), element[1:]
+                flipped = sum(1 << q for q, letter in enumerate(letters) if letter in "XY")
+                for y, value in enumerate(values):
+                    power = sum(turns[letter][y >> q & 1] for q, letter in enumerate(letters))
+                    self.assertEqual(values[y ^ flipped], sign * (1, 1j, -1, -1j)[power % 4] * value)
+        with self.assertRaises(Refusal) as refused:
+            State.zeros(2).amplitude(4)
+        self.assertEqual(refused.exception.number, 5)
+
     def test_orbits_are_what_complementing_reaches(self):
         for n in range(1, 5):
             for number in range(1 << n * (n - 1) // 2):

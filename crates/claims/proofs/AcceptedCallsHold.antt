@@ -1,4 +1,5 @@
 -- Each call is accepted exactly if its arguments fit, from the families.
+use Rattle.claims.proofs.families.Amplitudes.{amplitudes-accepted}
 use Rattle.claims.proofs.families.Comparisons.{comparisons-accepted}
 use Rattle.claims.proofs.families.Expectations.{expectations-accepted}
 use Rattle.claims.proofs.families.Generator.{generations-accepted}
@@ -16,6 +17,7 @@ accepted-exactly =
       comparisons = comparisons-accepted;
       generator = generations-accepted;
       orbits = orbits-accepted;
+      amplitudes = amplitudes-accepted;
       expectations = expectations-accepted;
       stores = stores-accepted;
     }

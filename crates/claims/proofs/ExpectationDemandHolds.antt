@@ -2,7 +2,7 @@
 use mathlib.Core.Bool.{_&&_, Bool, and-false, and-true, false, not, true}
 use mathlib.Core.List.{List}
 use mathlib.Core.Logic.{_≢_, _⊎_, inl, inr}
-use mathlib.Core.Path.{_∙_, _≡_, refl, subst, sym}
+use mathlib.Core.Path.{_∙_, _≡_, ap, refl, subst, sym}
 use Prim.Native.Nat.{_<_, _≤_, suc, zero, ℕ}
 use native.Mathlib.Omega.{arith}
 use lib.Dec.{eqb}
@@ -42,7 +42,8 @@ use Rattle.words.specs.Bits.{bit, digit, isOdd}
 use Rattle.claims.proofs.Contradictions.{contradictions-refused}
 use Rattle.claims.proofs.GatesFollow.{cz-follows, gates-follow}
 use Rattle.claims.proofs.MeasurementsFollow.{measurements-follow}
-use Rattle.claims.proofs.RewritingsKeep.{complements-keep, pivots-keep}
+use Rattle.claims.proofs.PivotStepsHold.{pivot-fits, pivot-kept, pivot-left}
+use Rattle.claims.proofs.RewritingsKeep.{complements-keep}
 use Rattle.claims.proofs.SecondDemandLists.{reduction-keeps-group}
 use Rattle.claims.proofs.UsedDemandHolds.{accepted-measured-without, reduced-without, reductions-unused}
 use Rattle.claims.specs.ExpectationDemand.{
@@ -216,8 +217,9 @@ complements-keep-values l a nb′ cs′ C =
     rewritten-values l nb′ cs′ _ (held-accepted l _ _ (sym (C .number))) (complements-keep l a nb′ cs′ C)
 
 pub pivots-keep-values : PivotsKeepValues
-pivots-keep-values l j k nb′ cs′ C =
-    rewritten-values l nb′ cs′ _ (held-accepted l _ _ (sym (C .number))) (pivots-keep l j k nb′ cs′ C)
+pivots-keep-values u a b value e p W =
+    ap (λ l. valueOn l p) (pivot-left u a b value e)
+    ∙ rewritten-values (u .held) _ _ _ (pivot-fits u a b value e .0 .held) (pivot-kept u a b value e) p W
 
 pub reductions-keep-values : ReductionsKeepValues
 reductions-keep-values l nb cs used nb′ cs′ used′ C =

@@ -4,6 +4,7 @@ use native.Mathlib.Decide.{ℕ-discrete}
 use Rattle.contracts.proofs.Calling.{done, every-call-answers, refused}
 use Rattle.contracts.proofs.Fitting.{first-is}
 use Rattle.contracts.specs.Calls.{Call}
+use Rattle.claims.proofs.families.Amplitudes.{amplitudes-conform}
 use Rattle.claims.proofs.families.Comparisons.{comparison-buffers-unread, comparisons-conform}
 use Rattle.claims.proofs.families.Expectations.{expectations-conform}
 use Rattle.claims.proofs.families.Generator.{generation-buffers-unread, generations-conform}
@@ -23,6 +24,7 @@ first-demand =
       comparisons = comparisons-conform;
       generator = generations-conform;
       orbits = orbits-conform;
+      amplitudes = amplitudes-conform;
       expectations = expectations-conform;
       stores = stores-conform;
     }

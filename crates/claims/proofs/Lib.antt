@@ -31,10 +31,12 @@ pub mod JobSteps
 pub mod JobsStand
 pub mod StepLines
 pub mod ProgramDemandHolds
+pub mod PlotDemandHolds
 pub mod UsedDemandHolds
 pub mod SentencesHold
 pub mod ReachedStates
 pub mod OrbitDemandHolds
+pub mod AmplitudeDemandHolds
 pub mod PivotStepsHold
 pub mod ExpectationDemandHolds
 pub mod StoreDemandHolds

@@ -108,23 +108,23 @@ module _ (u : UsedRecord) (a b value : ℕ) (e : numberOf u (pivotStep a b value
   number : (usedStep u (pivotOf a b)) .number ≡ 0
   number = accepted-number u (pivotStep a b value) e
 
-  fits : PivotFits u a b
-  fits = used-pivot u a b .0 number
+  pub pivot-fits : PivotFits u a b
+  pivot-fits = used-pivot u a b .0 number
 
   -- neither end is used
   ends : (bit (u .used) a ≡ false) × (bit (u .used) b ≡ false)
   ends = neither (bit (u .used) a) (bit (u .used) b)
-      (edge-unused u (fits .0 .held) (no-stray u (fits .0)) (none-wrong u (fits .0)) a b (fits .3))
+      (edge-unused u (pivot-fits .0 .held) (no-stray u (pivot-fits .0)) (none-wrong u (pivot-fits .0)) a b (pivot-fits .3))
 
   free-a : Free u a
-  free-a = (fits .1, ends .0)
+  free-a = (pivot-fits .1, ends .0)
 
   free-b : Free u b
-  free-b = (fits .2, ends .1)
+  free-b = (pivot-fits .2, ends .1)
 
   -- the three complements
   F₁ : ComplementFits u a
-  F₁ = (fits .0, free-a)
+  F₁ = (pivot-fits .0, free-a)
 
   F₂ : ComplementFits (complemented u a) b
   F₂ = again u a F₁ b free-b
@@ -212,17 +212,17 @@ module _ (u : UsedRecord) (a b value : ℕ) (e : numberOf u (pivotStep a b value
         calls = three-calls;
       }
 
-  kept : RewrittenAs (u .held) (leaves (u .held) (pivotOf a b)) (pivotRecord (heldRecord (u .held)) a b)
-  kept = pivots-keep (u .held) a b _ _ (call-of (u .held) (pivotOf a b) before)
+  pub pivot-kept : RewrittenAs (u .held) (leaves (u .held) (pivotOf a b)) (pivotRecord (heldRecord (u .held)) a b)
+  pivot-kept = pivots-keep (u .held) a b _ _ (call-of (u .held) (pivotOf a b) before)
 
-  is-left : afterStep u (pivotStep a b value) .held ≡ leaves (u .held) (pivotOf a b)
-  is-left = ap (λ v. v .held) (accepted-leaves u (pivotStep a b value) e) ∙ P .held
+  pub pivot-left : afterStep u (pivotStep a b value) .held ≡ leaves (u .held) (pivotOf a b)
+  pivot-left = ap (λ v. v .held) (accepted-leaves u (pivotStep a b value) e) ∙ P .held
 
   leaves-so : PivotLeaves u a b (afterStep u (pivotStep a b value))
   leaves-so =
       record {
-        rewritten = subst (λ l. RewrittenAs (u .held) l (pivotRecord (heldRecord (u .held)) a b)) (sym is-left) kept;
-        ranks = λ side. ap (rankAcross side) is-left ∙ rewritten-ranks (u .held) _ _ _ (fits .0 .held) kept side;
+        rewritten = subst (λ l. RewrittenAs (u .held) l (pivotRecord (heldRecord (u .held)) a b)) (sym pivot-left) pivot-kept;
+        ranks = λ side. ap (rankAcross side) pivot-left ∙ rewritten-ranks (u .held) _ _ _ (pivot-fits .0 .held) pivot-kept side;
         stay = subst (λ v. UsedStay u (v .held)) (sym (accepted-leaves u (pivotStep a b value) e)) (P .stay);
         copied = ap (λ v. v .used) (accepted-leaves u (pivotStep a b value) e) ∙ P .used;
       }
@@ -232,7 +232,7 @@ pivots-run u a b value e = (as-complements u a b value e, leaves-so u a b value 
 
 pub pivots-accepted : PivotsAccepted
 pivots-accepted u a b value = (
-  (λ e. (eqb-true value 0 (not-set (eqb value 0) (accepted-unset u (pivotStep a b value) e)), fits u a b value e)),
+  (λ e. (eqb-true value 0 (not-set (eqb value 0) (accepted-unset u (pivotStep a b value) e)), pivot-fits u a b value e)),
   (λ h. number-of-operation u (pivotStep a b value) (ap not (eq-eqb value 0 (h .0))) ∙ used-pivot u a b .1 (h .1)),
 )
   where

@@ -38,7 +38,7 @@ use Rattle.claims.specs.ProgramDemand.{
 }
 
 -- the bytes in the buffer up to the end are those printed
-bytes-printed : (bytes before after : List ℕ) (end : ℕ) → Printed bytes 0 before after end → take end after ≡ bytes
+pub bytes-printed : (bytes before after : List ℕ) (end : ℕ) → Printed bytes 0 before after end → take end after ≡ bytes
 unfolding overwritten
 bytes-printed bytes before after end P =
     ap (λ k. take k after) (P .end ∙ zero-add (length bytes)) ∙ ap (take (length bytes)) (P .out)

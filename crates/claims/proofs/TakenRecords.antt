@@ -12,6 +12,7 @@ use Rattle.contracts.specs.Answers.{later, none}
 use Rattle.operations.specs.Steps.{argumentLines, measurementOf}
 use Rattle.used.proofs.UsedPassing.{in-place-counted, with-used-passes}
 use Rattle.used.specs.Used.{UsedRecord, namesUsed, usedArgumentsOf, usedLinesOf}
+use Rattle.claims.proofs.families.Amplitudes.{amplitudes-accepted}
 use Rattle.claims.proofs.families.Expectations.{expectations-accepted}
 use Rattle.claims.proofs.families.Records.{records-accepted}
 use Rattle.claims.proofs.ImageDemandHolds.{images-follow}
@@ -57,6 +58,7 @@ taken-by-all u R =
           (record-exactly (u .held) _ false .1
           (R .held, three-fit (u .held .n) (u .held .n) 96 image signs list .1 (e, f, g), refl)) .otherwise);
       cut = λ side rank rank′ r C e. records-accepted .cut u side rank rank′ r C .1 (R, e);
+      amplitude = λ y re im p re′ im′ p′ r C e. amplitudes-accepted .amplitude u y re im p re′ im′ p′ r C .1 (R, e);
       expectation = λ z x value value′ r C e f. expectations-accepted .expectation u z x value value′ r C .1 (R, e, f);
     }
   where

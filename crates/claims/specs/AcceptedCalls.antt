@@ -1,5 +1,6 @@
 -- Which calls are accepted, in the documents' words: the number of each exported function is 0 exactly if its arguments
 -- fit.
+use Rattle.claims.specs.families.Amplitudes.{AmplitudesAccepted}
 use Rattle.claims.specs.families.Comparisons.{ComparisonsAccepted}
 use Rattle.claims.specs.families.Expectations.{ExpectationsAccepted}
 use Rattle.claims.specs.families.Generator.{GenerationsAccepted}
@@ -15,5 +16,6 @@ pub record AcceptedExactly : Type 0 where
   pub comparisons : ComparisonsAccepted
   pub generator : GenerationsAccepted
   pub orbits : OrbitsAccepted
+  pub amplitudes : AmplitudesAccepted
   pub expectations : ExpectationsAccepted
   pub stores : StoresAccepted

@@ -13,16 +13,19 @@ use Rattle.clifford.specs.Clifford.{cliffordOf}
 use Rattle.clifford.specs.Vectors.{act, only}
 use Rattle.contracts.specs.Calls.{Call, Contract}
 use Rattle.expectation.specs.Values.{exchanged, stabilizerValue}
+use Rattle.jobs.specs.Asked.{numberOf}
+use Rattle.jobs.specs.Runs.{afterStep}
 use Rattle.jobs.specs.Standing.{left}
 use Rattle.operations.specs.Cz.{cz}
 use Rattle.operations.specs.Measurement.{pauliLetter}
-use Rattle.operations.specs.Steps.{complementOf, czOn, gateWith, pivotOf}
+use Rattle.operations.specs.Steps.{complementOf, czOn, gateWith}
 use Rattle.pauli.specs.Pauli.{Pauli, anticommute, imaginary, signedRow, xBit, zBit}
 use Rattle.record.specs.Lent.{LentRecord, heldRows}
 use Rattle.stabilizer.specs.Groups.{InGroup, Within}
 use Rattle.stabilizer.specs.Lists.{GeneratorList, rows}
 use Rattle.used.specs.Used.{UsedRecord}
 use Rattle.words.specs.Bits.{digit, isOdd}
+use Rattle.claims.specs.PivotSteps.{pivotStep}
 
 -- the value of a row on the record that two buffers hold
 abbrev pub valueOn : LentRecord → Pauli → ℕ
@@ -102,10 +105,11 @@ abbrev pub ComplementsKeepValues : Type 0
 ComplementsKeepValues = (l : LentRecord) (a : ℕ) (nb′ cs′ : List ℕ) → Call (inPlaceCall l (complementOf a) nb′ cs′) 0 →
     (p : Pauli) → RowOn (l .n) p → valueOn (left l nb′ cs′) p ≡ valueOn l p
 
--- nor does a pivot
+-- nor does a pivot of a job
 abbrev pub PivotsKeepValues : Type 0
-PivotsKeepValues = (l : LentRecord) (j k : ℕ) (nb′ cs′ : List ℕ) → Call (inPlaceCall l (pivotOf j k) nb′ cs′) 0 →
-    (p : Pauli) → RowOn (l .n) p → valueOn (left l nb′ cs′) p ≡ valueOn l p
+PivotsKeepValues = (u : UsedRecord) (a b value : ℕ) → numberOf u (pivotStep a b value) ≡ 0 →
+    (p : Pauli) → RowOn (u .held .n) p →
+    valueOn ((afterStep u (pivotStep a b value)) .held) p ≡ valueOn (u .held) p
 
 -- nor does the reduction of a list: the value is that of the list's group
 abbrev pub ReductionsKeepValues : Type 0

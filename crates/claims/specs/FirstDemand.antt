@@ -2,6 +2,7 @@
 -- complete answer .. A call that is refused .. returns the first fitting number of the published list and changes no
 -- lent byte". That a call ends, and touches no other byte, is what a contract of the language means.
 use Rattle.contracts.specs.Answers.{EveryCallAnswers}
+use Rattle.claims.specs.families.Amplitudes.{AmplitudesConform}
 use Rattle.claims.specs.families.Comparisons.{ComparisonBuffersUnread, ComparisonsConform}
 use Rattle.claims.specs.families.Expectations.{ExpectationsConform}
 use Rattle.claims.specs.families.Generator.{GenerationBuffersUnread, GenerationsConform}
@@ -18,6 +19,7 @@ pub record FirstDemand : Type 0 where
   pub comparisons : ComparisonsConform
   pub generator : GenerationsConform
   pub orbits : OrbitsConform
+  pub amplitudes : AmplitudesConform
   pub expectations : ExpectationsConform
   pub stores : StoresConform
 

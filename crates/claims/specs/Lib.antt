@@ -16,9 +16,11 @@ pub mod StringsDemand
 pub mod SessionDemand
 pub mod JobDemand
 pub mod ProgramDemand
+pub mod PlotDemand
 pub mod UsedDemand
 pub mod Sentences
 pub mod OrbitDemand
+pub mod AmplitudeDemand
 pub mod PivotSteps
 pub mod ExpectationDemand
 pub mod StoreDemand

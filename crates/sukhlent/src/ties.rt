@@ -1,5 +1,6 @@
 // What the demands say of each exported function, as the contract of a function that does nothing but call it, and
 // asks nothing of its arguments.
+mod amplitudes;
 mod comparisons;
 mod expectations;
 mod generator;

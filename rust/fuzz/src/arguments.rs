@@ -4,8 +4,8 @@ use crate::common::damage::{damage_list, damage_record};
 use crate::common::local::{complemented_record, sent};
 use crate::common::reference::{product, strings_text};
 use crate::common::{list, mixed, random_components, random_rows, random_sizes, rows, use_up};
+use crate::common::{At, Operation, OrbitCall, Random, ReadCall, Side};
 use crate::common::{GenerateCall, ImageLengths, Lengths, Letters, ListCall, PairCall, RecordCall};
-use crate::common::{Operation, OrbitCall, Random, ReadCall, Side};
 use sukhlent::{expand, GeneratorList, Record};
 
 /// What is done to valid arguments: mostly nothing or little; one in sixteen calls gets noise.
@@ -127,6 +127,16 @@ pub fn cut_call(random: &mut Random, n: usize) -> RecordCall<Side> {
     };
     let record = used_record(random, n);
     harmed(random, record, Side(side))
+}
+
+/// An amplitude of a record of n vertices: mostly at a word of its own qubits, at times at any word.
+pub fn amplitude_call(random: &mut Random, n: usize) -> RecordCall<At> {
+    let y = match random.below(8) {
+        0 => number(random),
+        _ => random.word() >> (64 - n),
+    };
+    let record = used_record(random, n);
+    harmed(random, record, At(y))
 }
 
 /// The value of a row on a record of n vertices: mostly of an element of its group, or of one with a

@@ -234,6 +234,16 @@ mod tests {
     }
 
     #[test]
+    fn another_value_is_a_difference() {
+        for (code, differs) in [(0, false), (1, true), (8, true)] {
+            let mut session = Session::new(5, 7);
+            session.tableau.gate(3, code);
+            let found = (0..100).any(|kind| session.ask(kind).is_err());
+            assert_eq!(found, differs, "code {code}");
+        }
+    }
+
+    #[test]
     fn another_record_is_a_difference() {
         let mut session = Session::new(5, 7);
         session.record.codes[2] = 10;

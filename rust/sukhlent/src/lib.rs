@@ -39,6 +39,7 @@
 
 #![warn(missing_docs)]
 
+mod amplitude;
 pub mod codes;
 mod comparison;
 mod cut;
@@ -55,6 +56,7 @@ mod refusal;
 mod store;
 mod strings;
 
+pub use amplitude::PlotLine;
 pub use comparison::{compare, Comparison};
 pub use cut::cut;
 pub use generator::generate;

@@ -132,6 +132,19 @@ mod calls {
             rank: *mut u64,
         ) -> u8;
 
+        pub fn sukhlent_amplitude(
+            n: u64,
+            neighbours: *const u64,
+            neighbours_len: usize,
+            codes: *const u8,
+            codes_len: usize,
+            used: u64,
+            y: u64,
+            re: *mut f64,
+            im: *mut f64,
+            p: *mut f64,
+        ) -> u8;
+
         pub fn sukhlent_expectation(
             n: u64,
             neighbours: *const u64,
@@ -571,7 +584,52 @@ pub fn cut(n: u64, neighbours: &[u64], codes: &[u8], used: u64, side: u64, rank:
     }
 }
 
+/// Writes the amplitude at a word over that at the smallest word with a nonzero amplitude, real part
+/// and imaginary part, and the word's probability.
+///
+/// ```
+/// // -Y: i over 1 at the word 1 is minus.
+/// let (mut re, mut im, mut p) = (9.0, 9.0, 9.0);
+/// let number = sukhlent::raw::amplitude(1, &[0], &[6], 0, 1, &mut re, &mut im, &mut p);
+/// assert_eq!((number, re, im, p), (0, 0.0, -1.0, 0.5));
+/// ```
+#[allow(clippy::too_many_arguments)]
+pub fn amplitude(
+    n: u64,
+    neighbours: &[u64],
+    codes: &[u8],
+    used: u64,
+    y: u64,
+    re: &mut f64,
+    im: &mut f64,
+    p: &mut f64,
+) -> u8 {
+    unsafe {
+        calls::sukhlent_amplitude(
+            n,
+            neighbours.as_ptr(),
+            neighbours.len(),
+            codes.as_ptr(),
+            codes.len(),
+            used,
+            y,
+            re,
+            im,
+            p,
+        )
+    }
+}
+
 /// Writes the value of a Pauli row in a record's group: 0 for plus, 1 for minus, 2 for neither.
+///
+/// ```
+/// // XX, ZZ: YY is there with a minus, XI is not.
+/// let mut value = 9;
+/// assert_eq!(sukhlent::raw::expectation(2, &[2, 1], &[0, 8], 0, 3, 3, &mut value), 0);
+/// assert_eq!(value, 1);
+/// assert_eq!(sukhlent::raw::expectation(2, &[2, 1], &[0, 8], 0, 0, 1, &mut value), 0);
+/// assert_eq!(value, 2);
+/// ```
 pub fn expectation(
     n: u64,
     neighbours: &[u64],

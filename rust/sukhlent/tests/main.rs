@@ -2,6 +2,8 @@
 
 mod common;
 
+mod amplitude_refusals;
+mod amplitudes;
 mod build_script;
 mod c_example;
 mod comparisons;
@@ -31,6 +33,7 @@ mod orbit_refusals;
 mod orbits;
 mod pair_refusals;
 mod pivot_steps;
+mod plots;
 mod product_refusals;
 mod products;
 mod program;

@@ -21,7 +21,7 @@ const CASES: u64 = 100;
 type Measured = (&'static str, usize, fn(&mut Random, usize) -> usize);
 
 /// Every public call. All arguments are accepted, so that every step is taken.
-const CALLS: [Measured; 21] = [
+const CALLS: [Measured; 22] = [
     ("check", 64, |random, n| {
         let given = list(&random_rows(random, n));
         depth(|| raw::check(n as u64, &given.signs, &given.z, &given.x))
@@ -81,6 +81,23 @@ const CALLS: [Measured; 21] = [
         let side = 0x5555_5555_5555_5555;
         let mut rank = 0;
         depth(|| raw::cut(n as u64, &neighbours, &codes, used, side, &mut rank))
+    }),
+    ("amplitude", 64, |random, n| {
+        let (neighbours, codes, used) = used_pairs(random, n);
+        let (mut re, mut im, mut p) = (0.0, 0.0, 0.0);
+        let parts = (&mut re, &mut im);
+        depth(|| {
+            raw::amplitude(
+                n as u64,
+                &neighbours,
+                &codes,
+                used,
+                0,
+                parts.0,
+                parts.1,
+                &mut p,
+            )
+        })
     }),
     ("expectation", 64, |random, n| {
         let (neighbours, codes, used) = used_pairs(random, n);

@@ -1,5 +1,6 @@
 //! The timed calls: seeded cases, both answers compared, and the line of the table.
 
+pub mod amplitude;
 pub mod compare;
 pub mod image;
 pub mod in_place;

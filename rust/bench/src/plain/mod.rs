@@ -1,5 +1,6 @@
 //! The calls in plain Rust, written from document 01's text on whole words.
 
+mod amplitude;
 mod codes;
 mod compare;
 mod equations;
@@ -12,6 +13,7 @@ mod search;
 mod strings;
 mod values;
 
+pub use amplitude::{amplitude, supported_word};
 pub use compare::compare;
 pub use image::image;
 pub use orbit::orbit;

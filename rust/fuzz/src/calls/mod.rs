@@ -21,7 +21,7 @@ pub struct Call {
 }
 
 /// Every public call.
-pub const CALLS: [Call; 19] = [
+pub const CALLS: [Call; 20] = [
     Call {
         name: "check",
         once: lists::check,
@@ -57,6 +57,10 @@ pub const CALLS: [Call; 19] = [
     Call {
         name: "cut",
         once: records::cut,
+    },
+    Call {
+        name: "amplitude",
+        once: records::amplitude,
     },
     Call {
         name: "expectation",

@@ -1,6 +1,7 @@
 //! Seeded lists, reference answers by document 01's text, and guarded calls.
 #![allow(dead_code, unused_imports)]
 
+pub mod amplitude;
 pub mod calls;
 pub mod codes;
 pub mod complementations;
@@ -23,6 +24,7 @@ pub mod store;
 pub mod strings;
 pub mod vectors;
 
+pub use amplitude::At;
 pub use calls::{Lengths, ListCall, RecordCall};
 pub use codes::images;
 pub use cut::Side;

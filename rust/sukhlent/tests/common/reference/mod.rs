@@ -1,5 +1,6 @@
 //! Answers by document 01's text, written plainly.
 
+mod amplitude;
 mod cut;
 mod expansion;
 mod generator;
@@ -13,6 +14,7 @@ mod step;
 mod store;
 mod strings;
 
+pub use amplitude::{plot_lines, turns, Bits};
 pub use cut::cut_rank;
 pub use expansion::expanded;
 pub use generator::{draw, generate_refusal, job_text, step, steps, Step};

@@ -125,7 +125,7 @@ pub fn image_refusal(n: u64, record: &Record, others: &[usize], list: usize) -> 
     first_of(&[(of_record != 0, of_record), (list != LIST_PLACES, 4)])
 }
 
-/// The first line that is true of a cut: of a record and of the side.
+/// The first line that is true of a cut, or of an amplitude: of a record and of the side, or the word.
 pub fn cut_refusal(n: u64, record: &Record, side: u64) -> u8 {
     match record_refusal(n, record, &[]) {
         number @ (2 | 4) => number,
