@@ -13,7 +13,8 @@ use Rattle.call_store.specs.StoreCalls.{heldUnder}
 use Rattle.jobs.proofs.Starting.{started-stands}
 use Rattle.jobs.specs.GroupsAfter.{Group}
 use Rattle.jobs.specs.Standing.{StandsFor}
-use Rattle.store.proofs.Lookups.{forgotten-lookup, forgotten-passing, held-lookup, saved-lookup, saved-passing}
+use Rattle.store.proofs.ForgottenNames.{forgotten-lookup, forgotten-passing, held-lookup}
+use Rattle.store.proofs.Lookups.{saved-lookup, saved-passing}
 use Rattle.store.proofs.PassingStores.{store-passes}
 use Rattle.store.specs.Kept.{forgotten, saved}
 use Rattle.store.specs.Places.{found, lookup, nothing}

@@ -13,14 +13,8 @@ use Rattle.buffers.specs.Buffers.{written}
 use Rattle.buffers.specs.Refusals.{firstFitting, otherThan}
 use Rattle.call_store.proofs.Saving.{no-number}
 use Rattle.call_store.specs.StoreCalls.{heldUnder}
-use Rattle.store.proofs.Lookups.{
-  forgotten-lookup,
-  forgotten-passing,
-  held-lookup,
-  held-passes,
-  saved-lookup,
-  saved-passing,
-}
+use Rattle.store.proofs.ForgottenNames.{forgotten-lookup, forgotten-passing, held-lookup, held-passes}
+use Rattle.store.proofs.Lookups.{saved-lookup, saved-passing}
 use Rattle.store.proofs.PassingStores.{held-record, store-accepted, store-passes}
 use Rattle.store.proofs.SavePlaces.{full}
 use Rattle.store.specs.Kept.{forgotten, savePlace, saved}

@@ -1,7 +1,7 @@
 -- A name held once, and the place that a save takes beside it.
 use mathlib.Core.Bool.{_&&_, Bool, false, not, true, true≢false}
 use mathlib.Core.List.{List}
-use mathlib.Core.Logic.{inl, inr, _⊎_}
+use mathlib.Core.Logic.{inl, inr}
 use mathlib.Core.Path.{ap, refl, subst, sym, _∙_, _≡_}
 use Prim.Native.Nat.{_<_, ℕ}
 use native.Mathlib.Nat.{eq-or-lt-of-le, lt-irrefl, lt-trans}

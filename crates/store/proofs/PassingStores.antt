@@ -1,8 +1,7 @@
 -- No line refuses a store exactly if its buffers have their lengths, its held records pass, and no name is held twice.
-use mathlib.Core.Bool.{_&&_, Bool, and-false, false, or-false, true, _||_}
+use mathlib.Core.Bool.{_&&_, Bool, false, true, _||_}
 use mathlib.Core.Path.{ap, ap₂, refl, sym, _∙_, _≡_}
-use Prim.Native.Nat.{_*_, _<_, _≤_, ℕ}
-use lib.ListN.{length}
+use Prim.Native.Nat.{_*_, _<_, ℕ}
 use Rattle.buffers.specs.Refusals.{firstFitting, otherThan}
 use Rattle.contracts.proofs.Fitting.{NoneHolds, none-fits-of, none-holds}
 use Rattle.record.proofs.AcceptedRecords.{accepted-record}

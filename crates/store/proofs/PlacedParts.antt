@@ -1,6 +1,6 @@
 -- Words and parts of a store's buffers after a place is written: its own, and those of other places.
 use mathlib.Core.List.{List, _++_, append-assoc}
-use mathlib.Core.Logic.{inl, inr, _≢_, _⊎_}
+use mathlib.Core.Logic.{inl, inr, _≢_}
 use mathlib.Core.Path.{_∙_, _≡_, ap, ap₂, refl, sym}
 use Prim.Native.Nat.{_*_, _+_, _-_, _<_, _≤_, ℕ}
 use native.Mathlib.Nat.{eq-or-lt-of-le}

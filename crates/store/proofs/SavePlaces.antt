@@ -1,15 +1,12 @@
 -- The place that a save takes: it is there exactly if not all places hold other names.
 use mathlib.Core.Bool.{_&&_, Bool, cond, false, not, true, true≢false}
 use mathlib.Core.List.{List}
-use mathlib.Core.Logic.{inl, inr, _⊎_}
-use mathlib.Core.Path.{ap, ap₂, refl, subst, sym, _∙_, _≡_}
+use mathlib.Core.Path.{ap, refl, subst, sym, _∙_, _≡_}
 use Prim.Native.Nat.{_<_, _≤_, ℕ}
-use native.Mathlib.Nat.{le-of-lt, le-refl, not-le-of-lt}
-use native.Mathlib.Omega.{arith}
+use native.Mathlib.Nat.{not-le-of-lt}
 use lib.Dec.{eqb}
-use Rattle.words.proofs.Flags.{both-true, never-true}
-use Rattle.words.proofs.SearchLaws.{every-at, every-in, first-is, first-none, some-false, some-in, some-true}
-use Rattle.words.specs.Search.{IsFirst, every, first, some}
+use Rattle.words.proofs.Flags.{never-true}
+use Rattle.words.proofs.SearchLaws.{every-at, every-in, some-false, some-true}
 use Rattle.store.proofs.Searching.{above-none, below-some}
 use Rattle.store.specs.Kept.{savePlace}
 use Rattle.store.specs.Places.{freePlace, hasName, holdsName, isHeld, nameAt, othersHeld, placeOf}

@@ -1,6 +1,6 @@
 -- A loop that searches the numbers from 0 on: those that it has passed do not pass the test.
 use mathlib.Core.Bool.{Bool, false, true}
-use mathlib.Core.Logic.{inl, inr, _⊎_}
+use mathlib.Core.Logic.{inl, inr}
 use mathlib.Core.Path.{ap, sym, _∙_, _≡_}
 use Prim.Native.Nat.{_+_, _<_, ℕ, _≤_}
 use native.Mathlib.Nat.{lt-of-lt-of-le, not-suc-le-zero}
@@ -10,7 +10,7 @@ use lib.Dec.{ltb}
 use borrow.Author.Tests.{le-ltb, lt-ltb}
 use Rattle.words.proofs.SearchLaws.{first-is, first-none, first-unique, some-in, some-none}
 use Rattle.words.proofs.Sums.{last-or, lt-or-ge}
-use Rattle.words.specs.Search.{IsFirst, first, some}
+use Rattle.words.specs.Search.{first, some}
 
 -- none of those below i passes
 pub record NoneBelow (f : ℕ → Bool) (i : ℕ) : Type 0 where

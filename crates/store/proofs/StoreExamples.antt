@@ -1,6 +1,6 @@
 -- The request's cases on a store of eight places: numbers, and what a save and a forget leave.
 use mathlib.Core.Bool.{false}
-use mathlib.Core.List.{_++_, List, [], _∷_}
+use mathlib.Core.List.{List, [], _∷_}
 use mathlib.Core.Path.{_≡_, refl}
 use Prim.Native.Nat.{ℕ}
 use lib.ListN.{replicate}

@@ -10,7 +10,6 @@ use Rattle.contracts.specs.Answers.{here, later}
 use Rattle.earliest.specs.internal.Earlier.{earliestOf}
 use Rattle.used.specs.Used.{UsedRecord, usedLines}
 use Rattle.words.proofs.SearchLaws.{some-ext}
-use Rattle.words.specs.Search.{some}
 use Rattle.store.proofs.ManyRecords.{earlier-of, last-tested, told-by-number}
 use Rattle.store.specs.Places.{Store, countAt, isHeld, namedTwice, placeAt}
 use Rattle.store.specs.StoreLines.{ofHeld, ofRecord, recordTests, storeLengths, storeLines}

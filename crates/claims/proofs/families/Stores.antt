@@ -15,7 +15,8 @@ use Rattle.contracts.specs.Answers.{later, none}
 use Rattle.contracts.specs.Calls.{EachOf}
 use Rattle.earliest.specs.internal.Earlier.{earlierOf}
 use Rattle.stabilizer.proofs.SharedTests.{has-length, length-passes}
-use Rattle.store.proofs.Lookups.{held-passes, saved-passing}
+use Rattle.store.proofs.ForgottenNames.{held-passes}
+use Rattle.store.proofs.Lookups.{saved-passing}
 use Rattle.store.proofs.Names.{names-once, once-names}
 use Rattle.store.proofs.PassingStores.{held-record, others-fit, store-passes}
 use Rattle.store.specs.Places.{Store, placeAt}
