@@ -22,7 +22,7 @@
  * does not say otherwise. A buffer that is not const must overlap no other; const buffers may be
  * the same one. The calls on a record in place (gate, cz, measure, complement) read `neighbours`
  * and `codes` and write the new record there; measure reads and writes *used too, and the others
- * leave the word as it is. All other buffers that are not const are lent for the answer: what they
+ * leave the word as it is. A store is read, and written by save and forget. All other buffers that are not const are lent for the answer: what they
  * hold before the call does not matter.
  *
  * Every call answers 0 where it accepts, or the first number of this list whose line is true; the
@@ -35,10 +35,12 @@
  *    6  a sign or outcome is above 1, a code above 23, a Pauli not 1 to 3, or a
  *       seed 0
  *    7  a graph is not simple, or a used vertex has a neighbour or a code other than 0, 2, 4, 6, 8
- *       and 10
+ *       and 10, or a store holds a name twice
  *    8  a qubit number is n or more, or CZ names one qubit twice; in a job also: a pivot names one
  *       qubit twice, or its pair has no edge
  *   16  the call names a used qubit
+ *   17  a name to return to or forget is not held
+ *   18  a save finds eight other names held
  *    9  two generators do not commute
  *   10  the generators are dependent
  *    3  a connected part of either reduced graph of a comparison has more than 20 vertices
@@ -70,6 +72,8 @@
 #define SUKHLENT_GRAPH 7
 #define SUKHLENT_QUBIT 8
 #define SUKHLENT_USED 16
+#define SUKHLENT_NOT_HELD 17
+#define SUKHLENT_FULL 18
 #define SUKHLENT_ANTICOMMUTE 9
 #define SUKHLENT_DEPENDENT 10
 #define SUKHLENT_LARGE 3
@@ -130,9 +134,11 @@ static inline const char *sukhlent_refusal_text(uint8_t number)
     case SUKHLENT_LENGTH: return "a buffer's length is not what is required";
     case SUKHLENT_STRAY: return "a word has a bit at or above n";
     case SUKHLENT_VALUE: return "a sign or outcome is above 1, a code above 23, a Pauli not 1 to 3, or a seed 0";
-    case SUKHLENT_GRAPH: return "a graph is not simple, or a used vertex has a neighbour or a code that no measurement leaves";
+    case SUKHLENT_GRAPH: return "a graph is not simple, or a used vertex has a neighbour or a code that no measurement leaves, or a store holds a name twice";
     case SUKHLENT_QUBIT: return "a qubit number is n or more, or a qubit is named twice";
     case SUKHLENT_USED: return "the call names a used qubit";
+    case SUKHLENT_NOT_HELD: return "a name to return to or forget is not held";
+    case SUKHLENT_FULL: return "a save finds eight other names held";
     case SUKHLENT_ANTICOMMUTE: return "two generators do not commute";
     case SUKHLENT_DEPENDENT: return "the generators are dependent";
     case SUKHLENT_LARGE: return "a connected part has more than 20 vertices";
@@ -328,6 +334,48 @@ uint8_t sukhlent_orbit(uint64_t n,
                        const uint64_t *neighbours, size_t neighbours_len,
                        uint16_t *list, size_t list_len,
                        uint64_t *count);
+
+/* A store of up to eight named states, which the caller keeps in three buffers:
+ *   heads            24 words: for place i, 0 to 7, at 3 * i its n, or 0 where the place is free, at
+ *                    3 * i + 1 its name, at 3 * i + 2 its used word
+ *   held_neighbours  512 words, from 64 * i on those of place i, n of them
+ *   held_codes       512 codes likewise
+ * A store starts empty, with all heads 0; what free places hold does not matter. A name is eight
+ * bytes, copied into a uint64_t by memcpy; every value is a name. Each call checks all that is held:
+ * a held n above 64 is 2, a wrong length of one of the three buffers 4, and 5, 6 and 7 are as for
+ * any record; a name held twice is 7. */
+
+/* Saves a record under a name: it replaces what is held under that name, else takes the smallest
+ * free place. Other names keep their records.
+ * Refusals: 2, 4, 5, 6, 7, 18. */
+uint8_t sukhlent_save(uint64_t n,
+                      const uint64_t *neighbours, size_t neighbours_len,
+                      const uint8_t *codes, size_t codes_len,
+                      uint64_t used,
+                      uint64_t name,
+                      uint64_t *heads, size_t heads_len,
+                      uint64_t *held_neighbours, size_t held_neighbours_len,
+                      uint8_t *held_codes, size_t held_codes_len);
+
+/* Brings back the record held under a name: writes its n, its neighbour words, its codes and its
+ * used word. `neighbours` and `codes` have 64 places, whatever *n; those from *n on keep their
+ * values. The record stays held.
+ * Refusals: 2, 4, 5, 6, 7, 17. */
+uint8_t sukhlent_return(uint64_t name,
+                        const uint64_t *heads, size_t heads_len,
+                        const uint64_t *held_neighbours, size_t held_neighbours_len,
+                        const uint8_t *held_codes, size_t held_codes_len,
+                        uint64_t *n,
+                        uint64_t *neighbours, size_t neighbours_len,
+                        uint8_t *codes, size_t codes_len,
+                        uint64_t *used);
+
+/* Makes the place of a name free. Other names keep their records.
+ * Refusals: 2, 4, 5, 6, 7, 17. */
+uint8_t sukhlent_forget(uint64_t name,
+                        uint64_t *heads, size_t heads_len,
+                        const uint64_t *held_neighbours, size_t held_neighbours_len,
+                        const uint8_t *held_codes, size_t held_codes_len);
 
 #ifdef __cplusplus
 }

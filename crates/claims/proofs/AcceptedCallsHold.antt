@@ -6,6 +6,7 @@ use Rattle.claims.proofs.families.Generator.{generations-accepted}
 use Rattle.claims.proofs.families.Lists.{lists-accepted}
 use Rattle.claims.proofs.families.Orbits.{orbits-accepted}
 use Rattle.claims.proofs.families.Records.{records-accepted}
+use Rattle.claims.proofs.families.Stores.{stores-accepted}
 use Rattle.claims.specs.AcceptedCalls.{AcceptedExactly}
 
 pub accepted-exactly : AcceptedExactly
@@ -18,4 +19,5 @@ accepted-exactly =
       orbits = orbits-accepted;
       amplitudes = amplitudes-accepted;
       expectations = expectations-accepted;
+      stores = stores-accepted;
     }

@@ -11,6 +11,7 @@ use Rattle.claims.proofs.families.Generator.{generation-buffers-unread,
 use Rattle.claims.proofs.families.Lists.{list-buffers-unread, lists-conform}
 use Rattle.claims.proofs.families.Orbits.{orbit-buffers-unread, orbits-conform}
 use Rattle.claims.proofs.families.Records.{record-buffers-unread, records-conform}
+use Rattle.claims.proofs.families.Stores.{store-buffers-unread, stores-conform}
 use Rattle.claims.specs.Conforming.{AnswersSayAll}
 use Rattle.claims.specs.FirstDemand.{AnswerBuffersUnread, FirstDemand}
 
@@ -25,6 +26,7 @@ first-demand =
       orbits = orbits-conform;
       amplitudes = amplitudes-conform;
       expectations = expectations-conform;
+      stores = stores-conform;
     }
 
 pub answer-buffers-unread : AnswerBuffersUnread
@@ -35,6 +37,7 @@ answer-buffers-unread =
       comparisons = comparison-buffers-unread;
       generator = generation-buffers-unread;
       orbits = orbit-buffers-unread;
+      stores = store-buffers-unread;
     }
 
 -- and back: what a call answers is its contract

@@ -146,7 +146,7 @@ module _ (u : UsedRecord) (G : Group) (S : StandsFor u G) where
           back {p} (not-run r g) = S .elements p .1 g
           back (changed not-refused g) = absurd (not-refused is-refused)
 
-    step-stands : StandsFor (afterStep u s) (GroupAfterStep u G s)
+    pub step-stands : StandsFor (afterStep u s) (GroupAfterStep u G s)
     step-stands = go (ℕ-discrete (numberOf u s) 0)
       where
         go : Dec (numberOf u s ≡ 0) → StandsFor (afterStep u s) (GroupAfterStep u G s)

@@ -39,3 +39,6 @@ pub mod OrbitDemandHolds
 pub mod AmplitudeDemandHolds
 pub mod PivotStepsHold
 pub mod ExpectationDemandHolds
+pub mod StoreDemandHolds
+pub mod StoreRefusals
+pub mod NamedSessions

@@ -7,6 +7,7 @@ use Rattle.claims.specs.families.Generator.{GenerationsAccepted}
 use Rattle.claims.specs.families.Lists.{ListsAccepted}
 use Rattle.claims.specs.families.Orbits.{OrbitsAccepted}
 use Rattle.claims.specs.families.Records.{RecordsAccepted}
+use Rattle.claims.specs.families.Stores.{StoresAccepted}
 
 -- of each call, by family: it is accepted exactly if its arguments fit
 pub record AcceptedExactly : Type 0 where
@@ -17,3 +18,4 @@ pub record AcceptedExactly : Type 0 where
   pub orbits : OrbitsAccepted
   pub amplitudes : AmplitudesAccepted
   pub expectations : ExpectationsAccepted
+  pub stores : StoresAccepted

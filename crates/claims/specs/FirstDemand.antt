@@ -9,6 +9,7 @@ use Rattle.claims.specs.families.Generator.{GenerationBuffersUnread, Gen
 use Rattle.claims.specs.families.Lists.{ListBuffersUnread, ListsConform}
 use Rattle.claims.specs.families.Orbits.{OrbitBuffersUnread, OrbitsConform}
 use Rattle.claims.specs.families.Records.{RecordBuffersUnread, RecordsConform}
+use Rattle.claims.specs.families.Stores.{StoreBuffersUnread, StoresConform}
 
 -- demand 1 of every public call: what any contract of the one shape says, and what is to show of each call, by family
 pub record FirstDemand : Type 0 where
@@ -20,6 +21,7 @@ pub record FirstDemand : Type 0 where
   pub orbits : OrbitsConform
   pub amplitudes : AmplitudesConform
   pub expectations : ExpectationsConform
+  pub stores : StoresConform
 
 -- "What a buffer lent only for the answer holds before the call makes no line true": buffers of equal lengths give equal
 -- numbers
@@ -29,3 +31,4 @@ pub record AnswerBuffersUnread : Type 0 where
   pub comparisons : ComparisonBuffersUnread
   pub generator : GenerationBuffersUnread
   pub orbits : OrbitBuffersUnread
+  pub stores : StoreBuffersUnread

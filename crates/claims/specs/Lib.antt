@@ -23,4 +23,5 @@ pub mod OrbitDemand
 pub mod AmplitudeDemand
 pub mod PivotSteps
 pub mod ExpectationDemand
+pub mod StoreDemand
 pub mod internal

@@ -16,20 +16,7 @@ ghost use Rattle.image_answer.specs.internal.Answer.{IsImage};
 ghost use Rattle.pauli.specs.Pauli.{Pauli};
 ghost use Rattle.record.specs.Accepted.{AcceptedRecord};
 ghost use Rattle.record.specs.Lent.{heldRecord};
-ghost use Rattle.comparison_answer.specs.internal.ComparedPairs.{HoldsReduced, PairAnswered, earlierOf};
-
-// The number of the line that comes first in checking order; 0 stands for no line.
-pub fn earlier(a: u8, b: u8) -> u8
-    ensures { λ r. ⌜ r ≡ earlierOf a b ⌝ }
-{
-    if a == 0 {
-        return b;
-    }
-    if b == 0 {
-        return a;
-    }
-    if a < b { a } else { b }
-}
+ghost use Rattle.comparison_answer.specs.internal.ComparedPairs.{HoldsReduced, PairAnswered};
 
 // The image rule on the first record's graph, under the codes that the choice induces between two records; with
 // room for these codes.

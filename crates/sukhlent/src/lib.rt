@@ -6,5 +6,6 @@ pub mod generator;
 pub mod lists;
 pub mod orbits;
 pub mod records;
+pub mod stores;
 mod ties;
 pub mod version;

@@ -7,3 +7,4 @@ mod generator;
 mod lists;
 mod orbits;
 mod records;
+mod stores;

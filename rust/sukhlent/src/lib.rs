@@ -53,6 +53,7 @@ mod product;
 pub mod raw;
 mod record;
 mod refusal;
+mod store;
 mod strings;
 
 pub use amplitude::PlotLine;
@@ -66,4 +67,5 @@ pub use orbit::{orbit, Orbit};
 pub use product::{product, Product};
 pub use record::{expand, Record};
 pub use refusal::Refusal;
+pub use store::Store;
 pub use strings::{read_strings, write_strings};

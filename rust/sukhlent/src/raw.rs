@@ -157,6 +157,48 @@ mod calls {
             value: *mut u8,
         ) -> u8;
 
+        pub fn sukhlent_save(
+            n: u64,
+            neighbours: *const u64,
+            neighbours_len: usize,
+            codes: *const u8,
+            codes_len: usize,
+            used: u64,
+            name: u64,
+            heads: *mut u64,
+            heads_len: usize,
+            held_neighbours: *mut u64,
+            held_neighbours_len: usize,
+            held_codes: *mut u8,
+            held_codes_len: usize,
+        ) -> u8;
+
+        pub fn sukhlent_return(
+            name: u64,
+            heads: *const u64,
+            heads_len: usize,
+            held_neighbours: *const u64,
+            held_neighbours_len: usize,
+            held_codes: *const u8,
+            held_codes_len: usize,
+            n: *mut u64,
+            neighbours: *mut u64,
+            neighbours_len: usize,
+            codes: *mut u8,
+            codes_len: usize,
+            used: *mut u64,
+        ) -> u8;
+
+        pub fn sukhlent_forget(
+            name: u64,
+            heads: *mut u64,
+            heads_len: usize,
+            held_neighbours: *const u64,
+            held_neighbours_len: usize,
+            held_codes: *const u8,
+            held_codes_len: usize,
+        ) -> u8;
+
         pub fn sukhlent_product(
             n: u64,
             signs: *const u8,
@@ -771,6 +813,113 @@ pub fn orbit(n: u64, neighbours: &[u64], list: &mut [u16], count: &mut u64) -> u
             list.as_mut_ptr(),
             list.len(),
             count,
+        )
+    }
+}
+
+/// A record as the raw calls take it: n, neighbour words, codes and the used word.
+///
+/// ```
+/// let zero: sukhlent::raw::LentRecord = (1, &[0], &[8], 0);
+/// assert_eq!(zero.0, 1);
+/// ```
+pub type LentRecord<'a> = (u64, &'a [u64], &'a [u8], u64);
+
+/// Saves a record under a name into a store's three buffers: 24 heads, 512 neighbour words and 512
+/// codes.
+///
+/// ```
+/// let (mut heads, mut words, mut codes) = ([0; 24], [0; 512], [0; 512]);
+/// let zero = (1, &[0][..], &[8][..], 0);
+/// assert_eq!(sukhlent::raw::save(zero, 7, &mut heads, &mut words, &mut codes), 0);
+/// assert_eq!((&heads[..3], codes[0]), (&[1, 7, 0][..], 8));
+/// ```
+pub fn save(
+    record: LentRecord<'_>,
+    name: u64,
+    heads: &mut [u64],
+    held_neighbours: &mut [u64],
+    held_codes: &mut [u8],
+) -> u8 {
+    let (n, neighbours, codes, used) = record;
+    unsafe {
+        calls::sukhlent_save(
+            n,
+            neighbours.as_ptr(),
+            neighbours.len(),
+            codes.as_ptr(),
+            codes.len(),
+            used,
+            name,
+            heads.as_mut_ptr(),
+            heads.len(),
+            held_neighbours.as_mut_ptr(),
+            held_neighbours.len(),
+            held_codes.as_mut_ptr(),
+            held_codes.len(),
+        )
+    }
+}
+
+/// A store as the raw calls read it: heads, neighbour words and codes.
+///
+/// ```
+/// let empty: sukhlent::raw::LentStore = (&[0; 24], &[0; 512], &[0; 512]);
+/// assert_eq!(empty.0.len(), 24);
+/// ```
+pub type LentStore<'a> = (&'a [u64], &'a [u64], &'a [u8]);
+
+/// Brings back the record held under a name, into buffers of 64 places.
+///
+/// ```
+/// let (mut n, mut words, mut codes, mut used) = (9, [9; 64], [9; 64], 9);
+/// let empty = (&[0; 24][..], &[0; 512][..], &[0; 512][..]);
+/// let number = sukhlent::raw::return_to(7, empty, &mut n, &mut words, &mut codes, &mut used);
+/// assert_eq!((number, n), (17, 9));
+/// ```
+pub fn return_to(
+    name: u64,
+    store: LentStore<'_>,
+    n: &mut u64,
+    neighbours: &mut [u64],
+    codes: &mut [u8],
+    used: &mut u64,
+) -> u8 {
+    let (heads, held_neighbours, held_codes) = store;
+    unsafe {
+        calls::sukhlent_return(
+            name,
+            heads.as_ptr(),
+            heads.len(),
+            held_neighbours.as_ptr(),
+            held_neighbours.len(),
+            held_codes.as_ptr(),
+            held_codes.len(),
+            n,
+            neighbours.as_mut_ptr(),
+            neighbours.len(),
+            codes.as_mut_ptr(),
+            codes.len(),
+            used,
+        )
+    }
+}
+
+/// Makes the place of a name free.
+///
+/// ```
+/// assert_eq!(sukhlent::raw::forget(7, &mut [0; 24], &[0; 512], &[0; 512]), 17);
+/// ```
+pub fn forget(name: u64, heads: &mut [u64], held_neighbours: &[u64], held_codes: &[u8]) -> u8 {
+    unsafe {
+        calls::sukhlent_forget(
+            name,
+            heads.as_mut_ptr(),
+            heads.len(),
+            held_neighbours.as_ptr(),
+            held_neighbours.len(),
+            held_codes.as_ptr(),
+            held_codes.len(),
         )
     }
 }

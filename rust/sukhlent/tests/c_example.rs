@@ -85,6 +85,11 @@ fn ring_prints_its_stored_output() {
 }
 
 #[test]
+fn store_prints_its_stored_output() {
+    assert_prints_its_stored_output("store");
+}
+
+#[test]
 fn session_prints_its_stored_output() {
     assert_prints_its_stored_output("session");
 }

@@ -43,6 +43,7 @@ mod rewriting;
 mod rust_example;
 mod sessions;
 mod states;
+mod stores;
 mod strings;
 mod strings_refusals;
 mod used;

@@ -10,6 +10,9 @@ mod ring;
 #[allow(dead_code)]
 mod session;
 
+#[path = "../examples/store.rs"]
+#[allow(dead_code)]
+mod store;
 #[path = "../examples/strings.rs"]
 #[allow(dead_code)]
 mod strings;
@@ -26,6 +29,13 @@ fn ring_prints_what_the_ring_in_c_prints() {
     let mut text = String::new();
     ring::show(&mut text).unwrap();
     assert_eq!(text, include_str!("../../../examples/c/ring.out"));
+}
+
+#[test]
+fn store_prints_what_store_in_c_prints() {
+    let mut text = String::new();
+    store::marked(&mut text).unwrap();
+    assert_eq!(text, include_str!("../../../examples/c/store.out"));
 }
 
 #[test]

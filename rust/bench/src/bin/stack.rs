@@ -21,7 +21,7 @@ const CASES: u64 = 100;
 type Measured = (&'static str, usize, fn(&mut Random, usize) -> usize);
 
 /// Every public call. All arguments are accepted, so that every step is taken.
-const CALLS: [Measured; 19] = [
+const CALLS: [Measured; 22] = [
     ("check", 64, |random, n| {
         let given = list(&random_rows(random, n));
         depth(|| raw::check(n as u64, &given.signs, &given.z, &given.x))
@@ -105,6 +105,22 @@ const CALLS: [Measured; 19] = [
         let mut value = 0;
         depth(|| raw::expectation(n as u64, &neighbours, &codes, used, z, x, &mut value))
     }),
+    ("save", 64, |random, n| {
+        let (neighbours, codes, used) = used_pairs(random, n);
+        let (mut heads, mut words, mut bytes) = full_store(random);
+        let record = (n as u64, &*neighbours, &*codes, used);
+        depth(|| raw::save(record, 7, &mut heads, &mut words, &mut bytes))
+    }),
+    ("return", 64, |random, _| {
+        let (heads, words, bytes) = full_store(random);
+        let (mut n, mut neighbours, mut codes, mut used) = (0, [0; 64], [0; 64], 0);
+        let store = (&heads[..], &words[..], &bytes[..]);
+        depth(|| raw::return_to(7, store, &mut n, &mut neighbours, &mut codes, &mut used))
+    }),
+    ("forget", 64, |random, _| {
+        let (mut heads, words, bytes) = full_store(random);
+        depth(|| raw::forget(7, &mut heads, &words, &bytes))
+    }),
     ("product", 64, |random, n| {
         let given = list(&random_rows(random, n));
         let lent = (n as u64, &*given.signs, &*given.z, &*given.x);
@@ -171,6 +187,18 @@ fn used_pairs(random: &mut Random, n: usize) -> (Vec<u64>, Vec<u8>, u64) {
     let (mut neighbours, codes) = pairs(random, n);
     neighbours[n - 2..].fill(0);
     (neighbours, codes, 0b11 << (n - 2))
+}
+
+/// A store that holds eight records of 64 qubits, under the names 0 to 7.
+fn full_store(random: &mut Random) -> ([u64; 24], Vec<u64>, Vec<u8>) {
+    let (mut heads, mut words, mut bytes) = ([0; 24], Vec::new(), Vec::new());
+    for name in 0..8 {
+        let (neighbours, codes, used) = used_pairs(random, 64);
+        heads[3 * name..3 * name + 3].copy_from_slice(&[64, name as u64, used]);
+        words.extend(neighbours);
+        bytes.extend(codes);
+    }
+    (heads, words, bytes)
 }
 
 /// The neighbours and the codes of edges in pairs with Hadamards: the image rule fills its list.

@@ -6,6 +6,7 @@ mod lists;
 mod orbits;
 mod pairs;
 mod records;
+mod stores;
 mod strings;
 
 use crate::common::Random;
@@ -20,7 +21,7 @@ pub struct Call {
 }
 
 /// Every public call.
-pub const CALLS: [Call; 17] = [
+pub const CALLS: [Call; 20] = [
     Call {
         name: "check",
         once: lists::check,
@@ -88,5 +89,17 @@ pub const CALLS: [Call; 17] = [
     Call {
         name: "orbit",
         once: orbits::orbit,
+    },
+    Call {
+        name: "save",
+        once: stores::save,
+    },
+    Call {
+        name: "return",
+        once: stores::return_to,
+    },
+    Call {
+        name: "forget",
+        once: stores::forget,
     },
 ];

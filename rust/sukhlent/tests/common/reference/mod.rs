@@ -11,6 +11,7 @@ mod product;
 mod reduction;
 mod refusals;
 mod step;
+mod store;
 mod strings;
 
 pub use amplitude::{plot_lines, turns, Bits};
@@ -26,4 +27,5 @@ pub use refusals::{argument_refusal, cut_refusal, expectation_refusal};
 pub use refusals::{image_refusal, in_place_refusal};
 pub use refusals::{list_refusal, pair_refusal, product_refusal, record_refusal};
 pub use step::after;
+pub use store::store_refusal;
 pub use strings::{strings_read, strings_text};

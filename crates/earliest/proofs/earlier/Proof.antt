@@ -1,7 +1,7 @@
 -- `earlier` meets its contract: the number of the line that comes first in checking order; 0 stands for no line.
 use borrow.Author.Tests.{eq-eqb, le-ltb, lt-ltb, ne-eqb}
-use Rattle.comparison_answer.proofs.earlier.Statement.{statement}
-use Rattle.comparison_answer.proofs.earlier.Tie as tie
+use Rattle.earliest.proofs.earlier.Statement.{statement}
+use Rattle.earliest.proofs.earlier.Tie as tie
 
 returns : tie.Need-returns
 returns c = simp (eq-eqb _ _ (c .if1 .taken))
