@@ -19,10 +19,11 @@
  * the word of used qubits is checked and plays no part in it. With the word 0 no qubit is used.
  *
  * Every buffer passes as a pointer and its length in elements, and has n places where its call
- * does not say otherwise. Buffers must not overlap. The calls on a record in place (gate, cz,
- * measure, complement, pivot) read `neighbours` and `codes` and write the new record there;
- * measure reads and writes *used too, and the others leave the word as it is. All other buffers
- * that are not const are lent for the answer: what they hold before the call does not matter.
+ * does not say otherwise. A buffer that is not const must overlap no other; const buffers may be
+ * the same one. The calls on a record in place (gate, cz, measure, complement) read `neighbours`
+ * and `codes` and write the new record there; measure reads and writes *used too, and the others
+ * leave the word as it is. A store is read, and written by save and forget. All other buffers that are not const are lent for the answer: what they
+ * hold before the call does not matter.
  *
  * Every call answers 0 where it accepts, or the first number of this list whose line is true; the
  * list is in checking order. A refused call changes no buffer.
@@ -34,10 +35,12 @@
  *    6  a sign or outcome is above 1, a code above 23, a Pauli not 1 to 3, or a
  *       seed 0
  *    7  a graph is not simple, or a used vertex has a neighbour or a code other than 0, 2, 4, 6, 8
- *       and 10
- *    8  a qubit number is n or more, CZ or a pivot names one qubit twice, or a pivot's pair has no
- *       edge
+ *       and 10, or a store holds a name twice
+ *    8  a qubit number is n or more, or CZ names one qubit twice; in a job also: a pivot names one
+ *       qubit twice, or its pair has no edge
  *   16  the call names a used qubit
+ *   17  a name to return to or forget is not held
+ *   18  a save finds eight other names held
  *    9  two generators do not commute
  *   10  the generators are dependent
  *    3  a connected part of either reduced graph of a comparison has more than 20 vertices
@@ -53,9 +56,10 @@
 #include <stddef.h>
 #include <stdint.h>
 
-/* The version of this header: major * 10000 + minor * 100 + patch, and as a text. */
-#define SUKHLENT_VERSION 1200
-#define SUKHLENT_VERSION_TEXT "0.12.0"
+/* The version of this header: major * 10000 + minor * 100 + patch, and as a text.
+ * sukhlent_version answers that of the library. */
+#define SUKHLENT_VERSION 1300
+#define SUKHLENT_VERSION_TEXT "0.13.0"
 
 /* Refusals by name, in checking order. */
 #define SUKHLENT_ACCEPTED 0
@@ -68,6 +72,8 @@
 #define SUKHLENT_GRAPH 7
 #define SUKHLENT_QUBIT 8
 #define SUKHLENT_USED 16
+#define SUKHLENT_NOT_HELD 17
+#define SUKHLENT_FULL 18
 #define SUKHLENT_ANTICOMMUTE 9
 #define SUKHLENT_DEPENDENT 10
 #define SUKHLENT_LARGE 3
@@ -80,6 +86,11 @@
 #define SUKHLENT_PAULI_X 1
 #define SUKHLENT_PAULI_Y 2
 #define SUKHLENT_PAULI_Z 3
+
+/* Answers of sukhlent_expectation. */
+#define SUKHLENT_PLUS 0
+#define SUKHLENT_MINUS 1
+#define SUKHLENT_NEITHER 2
 
 /* Codes of common gates. */
 #define SUKHLENT_GATE_I 0
@@ -100,12 +111,17 @@
 #define SUKHLENT_TEXT_PLACES 61463
 #define SUKHLENT_ORBIT_PLACES 32768
 
-/* A session starts with every qubit in +Z: no neighbours, every code SUKHLENT_GATE_H, no qubit
- * used. CNOT is SUKHLENT_GATE_H at the target, CZ, SUKHLENT_GATE_H at the target. A random
- * outcome: ask with one bit, and where that is refused by SUKHLENT_CONTRADICTED, with the other. Two states are equal
- * exactly if their reduced records are equal buffers. No call keeps anything between calls: two
- * threads may call at once, each with buffers of its own, and buffers that are only read (const)
- * may be the same one. */
+/* Recipes (examples/c/recipes.c).
+ *
+ * A session starts with every qubit in +Z: no neighbours, every code SUKHLENT_GATE_H, used 0.
+ * CNOT is H, CZ, H: SUKHLENT_GATE_H at the target, sukhlent_cz, SUKHLENT_GATE_H at the target.
+ * A random outcome: ask sukhlent_measure with one fair bit; where that is refused by
+ *   SUKHLENT_CONTRADICTED the state determines the outcome, and the other bit is it.
+ * Equal states: two reduced records have equal neighbours and codes exactly if their states are
+ *   equal. What gate, cz, measure and reduce leave is reduced; any other record is reduced by
+ *   sukhlent_expand and sukhlent_reduce.
+ * Threads: no call keeps anything between calls. Two threads may call at once, each with buffers
+ *   of its own for what is not const. */
 
 /* What a refusal number means, in words. */
 static inline const char *sukhlent_refusal_text(uint8_t number)
@@ -118,9 +134,11 @@ static inline const char *sukhlent_refusal_text(uint8_t number)
     case SUKHLENT_LENGTH: return "a buffer's length is not what is required";
     case SUKHLENT_STRAY: return "a word has a bit at or above n";
     case SUKHLENT_VALUE: return "a sign or outcome is above 1, a code above 23, a Pauli not 1 to 3, or a seed 0";
-    case SUKHLENT_GRAPH: return "a graph is not simple, or a used vertex has a neighbour or a code that no measurement leaves";
+    case SUKHLENT_GRAPH: return "a graph is not simple, or a used vertex has a neighbour or a code that no measurement leaves, or a store holds a name twice";
     case SUKHLENT_QUBIT: return "a qubit number is n or more, or a qubit is named twice";
     case SUKHLENT_USED: return "the call names a used qubit";
+    case SUKHLENT_NOT_HELD: return "a name to return to or forget is not held";
+    case SUKHLENT_FULL: return "a save finds eight other names held";
     case SUKHLENT_ANTICOMMUTE: return "two generators do not commute";
     case SUKHLENT_DEPENDENT: return "the generators are dependent";
     case SUKHLENT_LARGE: return "a connected part has more than 20 vertices";
@@ -135,6 +153,9 @@ static inline const char *sukhlent_refusal_text(uint8_t number)
 #ifdef __cplusplus
 extern "C" {
 #endif
+
+/* The version of the library, as SUKHLENT_VERSION has it. */
+uint32_t sukhlent_version(void);
 
 /* Checks a generator list. Writes nothing.
  * Refusals: 2, 4, 5, 6, 9, 10. */
@@ -203,15 +224,6 @@ uint8_t sukhlent_complement(uint64_t n,
                             uint64_t used,
                             uint64_t a);
 
-/* Pivots on an edge: complements at j, k and j. The group stays; the record is not reduced. A used
- * vertex has no edge, so that a pivot there is refused by 8.
- * Refusals: 2, 4, 5, 6, 7, 8 (`j` or `k` is n or more, they are the same, or have no edge). */
-uint8_t sukhlent_pivot(uint64_t n,
-                       uint64_t *neighbours, size_t neighbours_len,
-                       uint8_t *codes, size_t codes_len,
-                       uint64_t used,
-                       uint64_t j, uint64_t k);
-
 /* Sends a graph through its codes, by the image rule: writes the image graph, a sign per vertex
  * (1 for minus) and the vertices at which the graph is complemented, in order. `list` has 96
  * places; those from *count on keep their values. It takes no word of used qubits.
@@ -233,6 +245,30 @@ uint8_t sukhlent_cut(uint64_t n,
                      const uint8_t *codes, size_t codes_len,
                      uint64_t used,
                      uint64_t side, uint64_t *rank);
+
+/* Reads an amplitude of a record's state, for a plot: writes to *re and *im the amplitude at the word
+ * y, bit q for qubit q, over that at the smallest word with a nonzero amplitude, and to *p the
+ * probability of y. Where the amplitude is 0 all three are 0; otherwise one of *re and *im is 1 or
+ * -1, the other is 0, and *p is 2^-r exactly, with r the rank of the x words of the generators.
+ * Every zero is positive.
+ * Refusals: 2, 4, 5 (also where `y` has a bit at or above n), 6, 7. */
+uint8_t sukhlent_amplitude(uint64_t n,
+                           const uint64_t *neighbours, size_t neighbours_len,
+                           const uint8_t *codes, size_t codes_len,
+                           uint64_t used,
+                           uint64_t y,
+                           double *re, double *im, double *p);
+
+/* Reads the value of a Pauli row on a record's state: the row has sign plus, and at each qubit its
+ * bits (z, x) are 00 for I, 01 for X, 10 for Z, 11 for Y. Writes to *value 0 where the row is in
+ * the group of the record (its expectation value is +1), 1 where its negative is (-1), and 2 where
+ * neither is (0). The record need not be reduced, and the row may have letters at used qubits.
+ * Refusals: 2, 4, 5 (also where `z` or `x` has a bit at or above n), 6, 7. */
+uint8_t sukhlent_expectation(uint64_t n,
+                             const uint64_t *neighbours, size_t neighbours_len,
+                             const uint8_t *codes, size_t codes_len,
+                             uint64_t used,
+                             uint64_t z, uint64_t x, uint8_t *value);
 
 /* Multiplies rows of a list, which need neither commute nor be independent: the word `chosen`
  * names the rows, bit j for row j, and they are taken in index order. Writes the letters of the
@@ -298,6 +334,48 @@ uint8_t sukhlent_orbit(uint64_t n,
                        const uint64_t *neighbours, size_t neighbours_len,
                        uint16_t *list, size_t list_len,
                        uint64_t *count);
+
+/* A store of up to eight named states, which the caller keeps in three buffers:
+ *   heads            24 words: for place i, 0 to 7, at 3 * i its n, or 0 where the place is free, at
+ *                    3 * i + 1 its name, at 3 * i + 2 its used word
+ *   held_neighbours  512 words, from 64 * i on those of place i, n of them
+ *   held_codes       512 codes likewise
+ * A store starts empty, with all heads 0; what free places hold does not matter. A name is eight
+ * bytes, copied into a uint64_t by memcpy; every value is a name. Each call checks all that is held:
+ * a held n above 64 is 2, a wrong length of one of the three buffers 4, and 5, 6 and 7 are as for
+ * any record; a name held twice is 7. */
+
+/* Saves a record under a name: it replaces what is held under that name, else takes the smallest
+ * free place. Other names keep their records.
+ * Refusals: 2, 4, 5, 6, 7, 18. */
+uint8_t sukhlent_save(uint64_t n,
+                      const uint64_t *neighbours, size_t neighbours_len,
+                      const uint8_t *codes, size_t codes_len,
+                      uint64_t used,
+                      uint64_t name,
+                      uint64_t *heads, size_t heads_len,
+                      uint64_t *held_neighbours, size_t held_neighbours_len,
+                      uint8_t *held_codes, size_t held_codes_len);
+
+/* Brings back the record held under a name: writes its n, its neighbour words, its codes and its
+ * used word. `neighbours` and `codes` have 64 places, whatever *n; those from *n on keep their
+ * values. The record stays held.
+ * Refusals: 2, 4, 5, 6, 7, 17. */
+uint8_t sukhlent_return(uint64_t name,
+                        const uint64_t *heads, size_t heads_len,
+                        const uint64_t *held_neighbours, size_t held_neighbours_len,
+                        const uint8_t *held_codes, size_t held_codes_len,
+                        uint64_t *n,
+                        uint64_t *neighbours, size_t neighbours_len,
+                        uint8_t *codes, size_t codes_len,
+                        uint64_t *used);
+
+/* Makes the place of a name free. Other names keep their records.
+ * Refusals: 2, 4, 5, 6, 7, 17. */
+uint8_t sukhlent_forget(uint64_t name,
+                        uint64_t *heads, size_t heads_len,
+                        const uint64_t *held_neighbours, size_t held_neighbours_len,
+                        const uint8_t *held_codes, size_t held_codes_len);
 
 #ifdef __cplusplus
 }

@@ -45,6 +45,11 @@ static void cz(const char *call, uint64_t a, uint64_t b)
     show(call, sukhlent_cz(N, neighbours, N, codes, N, used, a, b));
 }
 
+static void complement(const char *call, uint64_t a)
+{
+    show(call, sukhlent_complement(N, neighbours, N, codes, N, used, a));
+}
+
 static void measure(const char *call, uint8_t pauli, uint64_t qubit, uint8_t outcome)
 {
     uint8_t answer, determined;
@@ -59,8 +64,9 @@ int main(void)
 {
     cz("CZ on 0, 1", 0, 1);
     cz("CZ on 0, 2", 0, 2);
-    show("complement at 0", sukhlent_complement(N, neighbours, N, codes, N, used, 0));
-    show("pivot on 0, 1", sukhlent_pivot(N, neighbours, N, codes, N, used, 0, 1));
+    complement("complement at 0", 0);
+    complement("complement at 1", 1);
+    complement("complement at 0", 0);
     gate("phase gate on 2", 2, PHASE_GATE);
     gate("Hadamard on 1", 1, HADAMARD);
     measure("Z on 0, bit 1", Z, 0, 1);

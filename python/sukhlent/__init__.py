@@ -6,16 +6,26 @@
 Measured(outcome=0, determined=False)
 >>> ring.edges()
 [(1, 2), (2, 3), (3, 4)]
+
+docs/PYTHON.md is a tour with pictures.
 """
 
+from .answers import Equivalence, Image, Measured, PlotLine
 from .codes import NAMES, code, images
-from .jobs import Result, Step, generate, parse_job, run_job
+from .drawing import circle, grid, line
+from .jobs import Result, Step, generate, job_text, parse_job, run_job, run_step
+from .library import version
 from .lists import GeneratorList
-from .orbits import orbit
+from .orbits import Orbit, edges_of, number_of, orbit
+from .plots import plot_svg, read_table, table_of
 from .refusals import TEXTS, Refusal
-from .state import Equivalence, Image, Measured, State
+from .state import State
+from .stores import Store
+from .texts import read_list, read_record, read_state
 
 __all__ = [
-    "Equivalence", "GeneratorList", "Image", "Measured", "NAMES", "Refusal", "Result", "State", "Step", "TEXTS",
-    "code", "generate", "images", "orbit", "parse_job", "run_job",
+    "Equivalence", "GeneratorList", "Image", "Measured", "NAMES", "Orbit", "PlotLine", "Refusal", "Result", "State",
+    "Step", "Store", "TEXTS", "circle", "code", "edges_of", "generate", "grid", "images", "job_text", "line", "number_of",
+    "orbit", "parse_job", "plot_svg", "read_list", "read_record", "read_state", "read_table", "run_job", "run_step",
+    "table_of", "version",
 ]  # fmt: skip

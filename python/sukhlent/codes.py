@@ -26,17 +26,17 @@ _LETTERS = (("X", "Z"), ("Y", "Z"), ("Z", "X"), ("X", "Y"), ("Y", "X"), ("Z", "Y
 
 
 def code(gate: int | str) -> int:
-    """The code of a gate given by name or by number.
+    """The code of a gate given by its name, by its short form in drawings, or by its number.
 
-    >>> code("H"), code("sqrt_x"), code(4)
-    (8, 13, 4)
+    >>> code("H"), code("sqrt_x"), code("S†"), code(4)
+    (8, 13, 6, 4)
     """
     if isinstance(gate, int):
         return gate
-    try:
-        return NAMES.index(gate.upper())
-    except ValueError:
-        raise ValueError(f"no local Clifford is called {gate!r}; the names are {', '.join(NAMES)}") from None
+    for known in (NAMES, SYMBOLS):
+        if gate.upper() in known and gate:
+            return known.index(gate.upper())
+    raise ValueError(f"no local Clifford is called {gate!r}; the names are {', '.join(NAMES)}")
 
 
 def images(number: int) -> tuple[str, str]:

@@ -3,90 +3,96 @@
 from __future__ import annotations
 
 import argparse
-import os
-import shutil
-import subprocess
+import re
 import sys
 from pathlib import Path
+from typing import Callable
 
 from . import forms
-from .library import tree
-from .lists import GeneratorList
+from .drawing import Place, grid, line
+from .library import version
+from .plots import plot_svg, read_table
+from .programs import fed, path_of
 from .refusals import TEXTS, Refusal
 from .state import State
+from .texts import read_state
+
+#: the programs: what each does, and what says where its text leaves its form
+PROGRAMS: dict[str, tuple[str, Callable[[str], "str | None"]]] = {
+    "reduce": ("the reduced record of a generator list (text: sign z x)", forms.list_fault),
+    "amplitudes": ("the amplitudes of a generator list on up to 10 qubits, as a table (text: sign z x)", forms.list_fault),
+    "job": ("a session written as text: what each step answers, and the record after it", forms.job_fault),
+}
+
+_ABOUT = """Stabilizer states on up to 64 qubits by a proved engine. A FILE is '-', or left out, for standard input.
+docs/TEXTS.md has the texts. The exit status is 1 on a refusal, whose number and text go to standard error, and 2 where
+the command was called wrongly."""
 
 
-def _program(name: str) -> str:
-    """A proved program: named by the environment, in the install tree, in a clone, or on the path."""
-    places = [tree() / "libexec" / "sukhlent" / name, tree() / "target" / "bin" / name]
-    folder = os.environ.get("SUKHLENT_PROGRAMS")
-    if folder:
-        places.insert(0, Path(folder) / name)
-    for place in places:
-        if place.is_file():
-            return str(place)
-    found = shutil.which(f"sukhlent-{name}")
-    if found is None:
-        raise SystemExit(f"sukhlent: the program {name} was not found; build it with: rt check {name}")
-    return found
+class Trouble(Exception):
+    """Something other than a refusal: a file or a program that is not there."""
+
+
+def _bytes(file: str) -> bytes:
+    """A file, or standard input for '-'."""
+    try:
+        return sys.stdin.buffer.read() if file == "-" else Path(file).read_bytes()
+    except OSError as error:
+        raise Trouble(f"{file}: {error.strerror}") from None
 
 
 def _text(file: str) -> str:
-    """The text of a file, or of standard input for '-'."""
-    try:
-        raw = sys.stdin.buffer.read() if file == "-" else Path(file).read_bytes()
-    except OSError as error:
-        raise SystemExit(f"sukhlent: {file}: {error.strerror}") from None
-    return raw.decode("utf-8", "surrogateescape")
+    return _bytes(file).decode("utf-8", "surrogateescape")
 
 
-def _refused(number: int, why: str = "") -> int:
-    """Says a refusal on standard error."""
-    print(f"sukhlent: refused {number}: {why or TEXTS[number]}", file=sys.stderr)
-    return 1
-
-
-def _run(name: str, file: str, fault) -> int:
-    """Runs a proved program on a text, prints what it prints, and says why where it refuses."""
-    text = _text(file)
-    if sys.stderr.isatty() and len(text) > 1 << 20:
-        print(f"sukhlent: {len(text) >> 20} MiB go to {name} ..", file=sys.stderr)
-    answer = subprocess.run(
-        [_program(name)], input=text.encode("utf-8", "surrogateescape"), capture_output=True, check=True
-    ).stdout.decode()
+def _run(name: str, file: str, shown: Callable[[str], str] = str) -> int:
+    """Runs a proved program on a text, shows what it prints, and says why where it refuses."""
+    program = path_of(name)
+    if program is None:
+        raise Trouble(f"the program {name} was not found; build it with: rt check {name}")
+    text = _bytes(file)
+    answer = fed(program, text).decode()
     if answer.startswith("refused "):
         number = int(answer.split()[1])
-        return _refused(number, fault(text) if number == 1 else "")
-    sys.stdout.write(answer)
+        fault = PROGRAMS[name][1](text.decode("utf-8", "surrogateescape")) if number == 1 else None
+        raise Refusal(number, fault or "")
+    sys.stdout.write(shown(answer))
     return 0
 
 
-def _state(text: str) -> State:
-    """The state of a file: Pauli strings, a list text, or a record as the programs print it."""
-    lines = text.splitlines()
-    if lines and lines[0] == "sign z x":
-        fields = [line.split(" ") for line in lines[1:]]
-        try:
-            rows = [(int(sign), int(z, 16), int(x, 16)) for sign, z, x in fields]
-        except ValueError:
-            raise SystemExit(f"sukhlent: refused 1: {forms.list_fault(text)}") from None
-        return State.from_generators(GeneratorList(*(tuple(column) for column in zip(*rows))))
-    if lines and lines[0].startswith("qubit code neighbours"):
-        fields = [line.split(" ") for line in lines[1:]]
-        used = sum(1 << q for q, field in enumerate(fields) if field[3:] == ["1"])
-        return State([int(field[2], 16) for field in fields], [int(field[1]) for field in fields], used)
-    try:
-        return State.from_strings(text if text.endswith("\n") else text + "\n")
-    except Refusal as refusal:
-        if refusal.number == 1:
-            raise SystemExit(f"sukhlent: refused 1: {forms.string_fault(text)}") from None
-        raise
+def _bars(table: str) -> str:
+    """The picture of a table of amplitudes."""
+    return plot_svg(read_table(table)) + "\n"
+
+
+def _draw(file: str, layout: str, out: str) -> int:
+    state = read_state(_text(file))
+    drawing = state.svg(_places(layout, state)) + "\n"
+    if out == "-":
+        sys.stdout.write(drawing)
+    else:
+        Path(out).write_text(drawing, encoding="utf-8")
+    return 0
+
+
+def _places(layout: str, state: State) -> "list[Place] | None":
+    """The places that a layout names; None is the circle."""
+    if layout == "circle":
+        return None
+    if layout == "line":
+        return line(state.n)
+    found = re.fullmatch(r"(\d+)x(\d+)", layout)
+    if found is None or int(found[1]) * int(found[2]) != state.n:
+        raise Trouble(f"the layout {layout} is not circle, line, or rows and columns, as 2x3, of {state.n} vertices")
+    return grid(int(found[1]), int(found[2]))
 
 
 def _compare(first: str, second: str) -> int:
-    found = _state(_text(first)).compare(_state(_text(second)))
+    if first == second == "-":
+        raise Trouble("only one of the two files can be standard input")
+    found = read_state(_text(first)).compare(read_state(_text(second)))
     if found is None:
-        return _refused(13)
+        raise Refusal(13)
     print("qubit code gate")
     for q, (number, name) in enumerate(zip(found.choice, found.gates)):
         print(q, number, name)
@@ -94,40 +100,56 @@ def _compare(first: str, second: str) -> int:
     return 0
 
 
+def _expectation(file: str, rows: list[str]) -> int:
+    state = read_state(_text(file))
+    print("\n".join(["row value", *(f"{row} {state.expectation(row)}" for row in rows)]))
+    return 0
+
+
 def parser() -> argparse.ArgumentParser:
     """The command's arguments."""
-    top = argparse.ArgumentParser(
-        prog="sukhlent",
-        description="Stabilizer states on up to 64 qubits by a proved engine. A FILE is '-' for standard input.",
-    )
+    top = argparse.ArgumentParser(prog="sukhlent", description=_ABOUT)
+    top.add_argument("--version", action="version", version=f"sukhlent {version()}")
     commands = top.add_subparsers(dest="command", required=True, metavar="COMMAND")
-    for name, about in (
-        ("reduce", "the reduced record of a generator list (text: sign z x)"),
-        ("job", "a session written as text: what each step answers, and the record after it"),
-        ("draw", "the record of a state as SVG (Pauli strings, a generator list, or a printed record)"),
-    ):
-        commands.add_parser(name, help=about, description=about).add_argument("file", nargs="?", default="-")
-    about = "the least choice of local Cliffords that carries the first state onto the second"
-    compare = commands.add_parser("compare", help=about, description=about)
-    compare.add_argument("file")
-    compare.add_argument("second")
+
+    def command(name: str, about: str) -> argparse.ArgumentParser:
+        return commands.add_parser(name, help=about, description=about)
+
+    for name, (about, _) in PROGRAMS.items():
+        program = command(name, about)
+        program.add_argument("file", nargs="?", default="-", metavar="FILE")
+        if name == "amplitudes":
+            program.add_argument("--svg", action="store_true", help="draws the table as bars, as SVG")
+    draw = command("draw", "the record of a state as SVG (Pauli strings, a generator list, a record, what job prints)")
+    draw.add_argument("file", nargs="?", default="-", metavar="FILE")
+    draw.add_argument("--layout", default="circle", help="circle, line, or rows and columns as 2x3")
+    draw.add_argument("-o", "--out", default="-", metavar="FILE", help="where to write it, if not to standard output")
+    compare = command("compare", "the least choice of local Cliffords that carries the first state onto the second")
+    compare.add_argument("file", metavar="FIRST")
+    compare.add_argument("second", metavar="SECOND")
+    expectation = command("expectation", "expectation values, 1, -1 or 0, of Pauli rows such as +XZI (with a minus: after --)")
+    expectation.add_argument("file", metavar="FILE")
+    expectation.add_argument("rows", nargs="+", metavar="ROW")
     return top
 
 
 def main(arguments: list[str] | None = None) -> int:
-    """Runs the command; the exit status is 1 on a refusal."""
+    """Runs the command, and answers its exit status."""
     given = parser().parse_args(arguments)
     try:
-        if given.command == "reduce":
-            return _run("reduce", given.file, forms.list_fault)
-        if given.command == "job":
-            return _run("job", given.file, forms.job_fault)
+        if given.command in PROGRAMS:
+            return _run(given.command, given.file, _bars if getattr(given, "svg", False) else str)
         if given.command == "draw":
-            print(_state(_text(given.file)).svg())
-            return 0
+            return _draw(given.file, given.layout, given.out)
+        if given.command == "expectation":
+            return _expectation(given.file, given.rows)
         return _compare(given.file, given.second)
     except Refusal as refusal:
-        return _refused(refusal.number)
+        print(f"sukhlent: refused {refusal.number}: {refusal.where or TEXTS[refusal.number]}", file=sys.stderr)
+        return 1
+    except Trouble as trouble:
+        print(f"sukhlent: {trouble}", file=sys.stderr)
+        return 2
 
 
 if __name__ == "__main__":

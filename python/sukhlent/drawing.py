@@ -1,4 +1,4 @@
-"""Records as SVG, with nothing but text."""
+"""Records as SVG, with nothing but text, and places for their vertices."""
 
 from __future__ import annotations
 
@@ -7,58 +7,105 @@ from typing import Iterable, Sequence
 
 from .codes import SYMBOLS
 
+#: a place in pixels, right and down
+Place = tuple[float, float]
+
 _STYLE = (
     "<style>text{font:13px sans-serif;text-anchor:middle}"
     ".gate{font-size:12px;fill:#8a3b12}.edge{stroke:#6b7280;stroke-width:1.6}"
     "</style>"
 )
+_STEP = 70.0
 
 
-def circle(n: int) -> list[tuple[float, float]]:
-    """Places of n vertices on a circle, vertex 0 on top, going right."""
+def circle(n: int) -> list[Place]:
+    """Places of n vertices on a circle, vertex 0 on top, going right.
+
+    >>> circle(4)
+    [(0.0, -60.0), (60.0, 0.0), (0.0, 60.0), (-60.0, 0.0)]
+    """
     radius = 0.0 if n == 1 else max(60.0, 12.0 * n)
-    return [
-        (radius * math.sin(2 * math.pi * q / n), -radius * math.cos(2 * math.pi * q / n))
-        for q in range(n)
-    ]
+    angles = (2 * math.pi * q / n for q in range(n))
+    return [(round(radius * math.sin(t), 6) + 0.0, round(-radius * math.cos(t), 6) + 0.0) for t in angles]
+
+
+def grid(rows: int, columns: int) -> list[Place]:
+    """Places of rows × columns vertices, row by row.
+
+    >>> grid(2, 2)
+    [(0.0, 0.0), (70.0, 0.0), (0.0, 70.0), (70.0, 70.0)]
+    """
+    return [(_STEP * column, _STEP * row) for row in range(rows) for column in range(columns)]
+
+
+def line(n: int) -> list[Place]:
+    """Places of n vertices from left to right.
+
+    >>> line(3)
+    [(0.0, 0.0), (70.0, 0.0), (140.0, 0.0)]
+    """
+    return grid(1, n)
 
 
 def record_svg(
     neighbours: Sequence[int],
     codes: Sequence[int],
     used: int = 0,
-    layout: Iterable[tuple[float, float]] | None = None,
+    layout: Iterable[Place] | None = None,
 ) -> str:
-    """A record: edges, vertices with their numbers, and beside each the gate that its code is."""
+    """A record: edges, vertices with their numbers, and beside each the gate that its code is. A used vertex is hollow.
+
+    >>> print(record_svg([0], [8]).splitlines()[-2])
+    <text class="gate" x="14.2" y="-19.0" dy=".35em">H</text>
+    """
     n = len(neighbours)
-    places = list(layout) if layout is not None else circle(n)
+    places = circle(n) if layout is None else list(layout)
     if len(places) != n:
         raise ValueError(f"a layout of {len(places)} places for {n} vertices")
     left, right = min(x for x, _ in places) - 50, max(x for x, _ in places) + 50
     top, bottom = min(y for _, y in places) - 40, max(y for _, y in places) + 40
-    middle = (left + right) / 2, (top + bottom) / 2
+    beside = _outwards if layout is None else _above
     parts = [
         f'<svg xmlns="http://www.w3.org/2000/svg" viewBox="{left:.1f} {top:.1f} {right - left:.1f} {bottom - top:.1f}"'
         f' width="{right - left:.0f}" height="{bottom - top:.0f}">',
         _STYLE,
+        f'<rect x="{left:.1f}" y="{top:.1f}" width="100%" height="100%" fill="#ffffff"/>',
+        *_edges(neighbours, places),
     ]
-    for a in range(n):
-        for b in range(a + 1, n):
-            if neighbours[a] >> b & 1:
-                (x1, y1), (x2, y2) = places[a], places[b]
-                parts.append(f'<line class="edge" x1="{x1:.1f}" y1="{y1:.1f}" x2="{x2:.1f}" y2="{y2:.1f}"/>')
-    for q, (x, y) in enumerate(places):
-        gone = used >> q & 1
-        fill, ink = ("#ffffff", "#9ca3af") if gone else ("#1e3a8a", "#ffffff")
-        dash = ' stroke-dasharray="3 2"' if gone else ""
-        parts.append(f'<circle cx="{x:.1f}" cy="{y:.1f}" r="13" fill="{fill}" stroke="#1e3a8a"{dash}/>')
-        parts.append(f'<text x="{x:.1f}" y="{y:.1f}" dy=".35em" fill="{ink}">{q}</text>')
-        name = SYMBOLS[codes[q]]
-        if name:
-            dx, dy = x - middle[0], y - middle[1]
-            length = math.hypot(dx, dy) or 1.0
-            away = 22 + 3.2 * len(name) * abs(dx) / length
-            gx, gy = (x + away * dx / length, y + away * dy / length) if math.hypot(dx, dy) > 1 else (x, y - 24)
-            parts.append(f'<text class="gate" x="{gx:.1f}" y="{gy:.1f}" dy=".35em">{name}</text>')
-    parts.append("</svg>")
-    return "\n".join(parts)
+    for q, place in enumerate(places):
+        parts += _vertex(q, place, bool(used >> q & 1))
+        if SYMBOLS[codes[q]]:
+            x, y = beside(place, len(SYMBOLS[codes[q]]))
+            parts.append(f'<text class="gate" x="{x:.1f}" y="{y:.1f}" dy=".35em">{SYMBOLS[codes[q]]}</text>')
+    return "\n".join([*parts, "</svg>"])
+
+
+def _edges(neighbours: Sequence[int], places: Sequence[Place]) -> Iterable[str]:
+    for a, (x1, y1) in enumerate(places):
+        for b, (x2, y2) in enumerate(places):
+            if a < b and neighbours[a] >> b & 1:
+                yield f'<line class="edge" x1="{x1:.1f}" y1="{y1:.1f}" x2="{x2:.1f}" y2="{y2:.1f}"/>'
+
+
+def _vertex(q: int, place: Place, gone: bool) -> list[str]:
+    x, y = place
+    fill, ink, dash = ("#ffffff", "#9ca3af", ' stroke-dasharray="3 2"') if gone else ("#1e3a8a", "#ffffff", "")
+    return [
+        f'<circle cx="{x:.1f}" cy="{y:.1f}" r="13" fill="{fill}" stroke="#1e3a8a"{dash}/>',
+        f'<text x="{x:.1f}" y="{y:.1f}" dy=".35em" fill="{ink}">{q}</text>',
+    ]
+
+
+def _outwards(place: Place, letters: int) -> Place:
+    """The place of a gate's name on a circle: away from the middle."""
+    x, y = place
+    length = math.hypot(x, y)
+    if length < 1:
+        return _above(place, letters)
+    away = 22 + 3.2 * letters * abs(x) / length
+    return x + away * x / length, y + away * y / length
+
+
+def _above(place: Place, letters: int) -> Place:
+    """The place of a gate's name in any layout: above, to the right."""
+    return place[0] + 11 + 3.2 * letters, place[1] - 19

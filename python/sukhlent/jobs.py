@@ -2,31 +2,39 @@
 
 from __future__ import annotations
 
-import re
 from dataclasses import dataclass
+from typing import Iterable
 
 from . import library
+from .forms import job_fault
 from .refusals import Refusal, accept
 from .state import State
-
-_OPS = ("gate", "cz", "measure", "complement", "pivot")
-_FIELD = r"(0|[1-9][0-9]{0,2})"
-_STEP = re.compile(rf"({'|'.join(_OPS)}) {_FIELD} {_FIELD} {_FIELD}")
 
 
 @dataclass(frozen=True)
 class Step:
-    """A step: op, two qubits and a value; an unused field is 0."""
+    """A step: op, two qubits and a value; an unused field is 0. As text it is a line of a job.
+
+    >>> print(Step("measure", 3, 0, 5))
+    measure 3 0 5
+    """
 
     op: str
     a: int
     b: int
     value: int
 
+    def __str__(self) -> str:
+        return f"{self.op} {self.a} {self.b} {self.value}"
+
 
 @dataclass(frozen=True)
 class Result:
-    """What a step answered: its refusal (0 where it ran), the outcome and whether it was determined."""
+    """What a step answered: its refusal (0 where it ran), the outcome and whether it was determined.
+
+    >>> run_step(State.zeros(1), Step("measure", 0, 0, 4))
+    Result(refusal=0, outcome=0, determined=1)
+    """
 
     refusal: int
     outcome: int
@@ -48,18 +56,31 @@ def generate(n: int, count: int, seed: int) -> str:
     return bytes(text[: length.value]).decode()
 
 
+def job_text(n: int, steps: Iterable[Step]) -> str:
+    """The text of these steps on n qubits.
+
+    >>> job_text(2, [Step("gate", 0, 0, 8)])
+    'qubits\\n2\\nop a b value\\ngate 0 0 8\\n'
+    """
+    return "".join([f"qubits\n{n}\nop a b value\n", *(f"{step}\n" for step in steps)])
+
+
 def parse_job(text: str) -> tuple[int, list[Step]]:
-    """n and the steps of a job text; refused by 1, 15 or 2."""
-    lines = text.split("\n")
-    n = re.fullmatch(_FIELD, lines[1]) if len(lines) > 3 else None
-    steps = [_STEP.fullmatch(line) for line in lines[3:-1]]
-    if n is None or lines[0] != "qubits" or lines[2] != "op a b value" or lines[-1] != "" or None in steps:
-        raise Refusal(1)
-    if len(steps) > 4096:
+    """n and the steps of a job text; refused by 1, 15 or 2.
+
+    >>> parse_job("qubits\\n2\\nop a b value\\ncz 0 1 0\\n")
+    (2, [Step(op='cz', a=0, b=1, value=0)])
+    """
+    fault = job_fault(text)
+    if fault is not None:
+        raise Refusal(1, fault)
+    _, n, _, *lines = text.splitlines()
+    if len(lines) > 4096:
         raise Refusal(15)
-    if not 1 <= int(n[1]) <= 64:
+    if not 1 <= int(n) <= 64:
         raise Refusal(2)
-    return int(n[1]), [Step(step[1], *map(int, step.group(2, 3, 4))) for step in steps]
+    fields = (line.split(" ") for line in lines)
+    return int(n), [Step(op, int(a), int(b), int(value)) for op, a, b, value in fields]
 
 
 def run_job(text: str) -> tuple[State, list[Result]]:
@@ -77,13 +98,18 @@ Result(refusal=16, outcome=0, determined=0)]
 
 
 def run_step(state: State, step: Step) -> Result:
-    """One step of a job, in place."""
+    """One step of a job, in place.
+
+    >>> state = State.zeros(2)
+    >>> run_step(state, Step("cz", 0, 0, 0))
+    Result(refusal=8, outcome=0, determined=0)
+    """
     unused = {"gate": step.b, "cz": step.value, "measure": step.b, "complement": step.b | step.value, "pivot": step.value}
     if unused[step.op] != 0:
         return Result(6, 0, 0)
     try:
         if step.op == "gate":
-            state.gate(step.a, min(step.value, 255))
+            state.gate(step.a, step.value)
         elif step.op == "cz":
             state.cz(step.a, step.b)
         elif step.op == "complement":

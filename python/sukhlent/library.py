@@ -4,8 +4,11 @@ from __future__ import annotations
 
 import ctypes
 import os
-from ctypes import POINTER, c_size_t, c_uint8, c_uint16, c_uint64
+from ctypes import POINTER, c_double, c_size_t, c_uint8, c_uint16, c_uint32, c_uint64
 from pathlib import Path
+from typing import Iterable, Union
+
+from .refusals import Refusal
 
 _NAME = "libsukhlent.so"
 _BYTES, _WORDS = POINTER(c_uint8), POINTER(c_uint64)
@@ -24,6 +27,11 @@ _CALLS: dict[str, tuple] = {
     "complement": (c_uint64, *_RECORD, c_uint64, c_uint64),
     "image": (c_uint64, *_RECORD, *_IN_WORDS, *_IN_BYTES, *_IN_BYTES, _WORDS),
     "cut": (c_uint64, *_RECORD, c_uint64, c_uint64, _WORDS),
+    "amplitude": (c_uint64, *_RECORD, c_uint64, c_uint64, *[POINTER(c_double)] * 3),
+    "expectation": (c_uint64, *_RECORD, c_uint64, c_uint64, c_uint64, _BYTES),
+    "save": (c_uint64, *_RECORD, c_uint64, c_uint64, *_IN_WORDS, *_RECORD),
+    "return": (c_uint64, *_IN_WORDS, *_RECORD, _WORDS, *_RECORD, _WORDS),
+    "forget": (c_uint64, *_IN_WORDS, *_RECORD),
     "product": (c_uint64, *_LIST, c_uint64, _WORDS, _WORDS, _BYTES),
     "compare": (c_uint64, *_LIST, c_uint64, *_LIST, *_IN_BYTES, *_IN_BYTES, _WORDS),
     "generate": (c_uint64, c_uint64, c_uint64, *_IN_BYTES, _WORDS),
@@ -50,36 +58,53 @@ def _candidates() -> list[Path]:
 def _load() -> ctypes.CDLL:
     for path in _candidates():
         if path.is_file():
-            library = ctypes.CDLL(str(path))
-            break
-    else:
-        tried = "\n  ".join(str(path) for path in _candidates())
-        raise ImportError(
-            f"{_NAME} was not found. Build it with tools/shared in a clone, install with tools/install PREFIX, or name"
-            f" it in SUKHLENT_LIBRARY. Tried:\n  {tried}"
-        )
-    for name, arguments in _CALLS.items():
-        function = getattr(library, f"sukhlent_{name}")
+            return _declared(ctypes.CDLL(str(path)), path)
+    tried = "\n  ".join(str(path) for path in _candidates())
+    raise ImportError(
+        f"{_NAME} was not found. Build it with tools/shared in a clone, install with tools/install PREFIX, or name"
+        f" it in SUKHLENT_LIBRARY. Tried:\n  {tried}"
+    )
+
+
+def _declared(library: ctypes.CDLL, path: Path) -> ctypes.CDLL:
+    """The library with the types of its calls."""
+    for name, arguments in {**_CALLS, "version": ()}.items():
+        function = getattr(library, f"sukhlent_{name}", None)
+        if function is None:
+            raise ImportError(
+                f"{path} has no sukhlent_{name}: it is of another version than this package. In a clone, build it anew"
+                " with: rt staticlib sukhlent && tools/shared"
+            )
         function.argtypes = arguments
-        function.restype = c_uint8
+        function.restype = c_uint32 if name == "version" else c_uint8
     return library
 
 
 _library = _load()
 
 
+def version() -> str:
+    """The version of the library that was loaded.
+
+    >>> version().count(".")
+    2
+    """
+    number = _library.sukhlent_version()
+    return f"{number // 10000}.{number // 100 % 100}.{number % 100}"
+
+
 class Cell:
     """One number that a call writes: passes as its pointer alone."""
 
-    def __init__(self, kind, value: int = 0):
-        self._held = kind(value)
+    def __init__(self, kind: type, value: int = 0):
+        self._held = kind(_fitting(value, kind))
 
     @property
     def value(self) -> int:
         """What it holds."""
         return self._held.value
 
-    def pointer(self):
+    def pointer(self) -> object:
         """What passes to C."""
         return ctypes.byref(self._held)
 
@@ -94,24 +119,62 @@ def octet(value: int = 0) -> Cell:
     return Cell(c_uint8, value)
 
 
-def call(name: str, *arguments) -> int:
+class FloatCell(Cell):
+    """One 64-bit float that a call writes."""
+
+    def __init__(self) -> None:
+        self._held = c_double()
+
+
+#: what passes to a call: a number, a buffer or a cell
+Argument = Union[int, ctypes.Array, Cell]
+
+
+def call(name: str, *arguments: Argument) -> int:
     """Calls `sukhlent_NAME`: a buffer passes as its pointer and its length, a cell as its pointer."""
-    spread = []
+    function = getattr(_library, f"sukhlent_{name}")
+    spread: list = []
     for argument in arguments:
         if isinstance(argument, ctypes.Array):
             spread += [argument, len(argument)]
+        elif isinstance(argument, Cell):
+            spread.append(argument.pointer())
         else:
-            spread.append(argument.pointer() if isinstance(argument, Cell) else argument)
-    return getattr(_library, f"sukhlent_{name}")(*spread)
+            spread.append(_fitting(argument, function.argtypes[len(spread)]))
+    return function(*spread)
 
 
-def words(values) -> ctypes.Array:
+def _fitting(value: int, kind: type) -> int:
+    """A number as C gets it. One that no byte holds becomes 255, which every call refuses as it would the number."""
+    if kind is c_uint8:
+        return value if 0 <= value <= 255 else 255
+    if not 0 <= value < 1 << 64:
+        raise OverflowError(f"{value} does not fit into 64 bits")
+    return value
+
+
+def place(number: int) -> int:
+    """A qubit number as C gets it: one that no word holds becomes one that every call refuses likewise."""
+    return number if 0 <= number < 1 << 64 else (1 << 64) - 1
+
+
+def word_of(places: Iterable[int]) -> int:
+    """The word with these bits."""
+    result = 0
+    for number in places:
+        if not 0 <= number < 64:
+            raise Refusal(5)
+        result |= 1 << number
+    return result
+
+
+def words(values: Iterable[int]) -> ctypes.Array:
     """A buffer of 64-bit words."""
-    values = list(values)
-    return (c_uint64 * len(values))(*values)
+    fitting = [_fitting(value, c_uint64) for value in values]
+    return (c_uint64 * len(fitting))(*fitting)
 
 
-def octets(values) -> ctypes.Array:
+def octets(values: Iterable[int]) -> ctypes.Array:
     """A buffer of bytes."""
-    values = list(values)
-    return (c_uint8 * len(values))(*values)
+    fitting = [_fitting(value, c_uint8) for value in values]
+    return (c_uint8 * len(fitting))(*fitting)

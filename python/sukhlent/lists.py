@@ -5,9 +5,25 @@ from __future__ import annotations
 from dataclasses import dataclass
 
 from . import library
-from .refusals import accept
+from .forms import string_fault
+from .refusals import Refusal, accept
 
 _LETTERS = "IXZY"
+
+
+def row_words(row: str, n: int) -> tuple[int, int, int]:
+    """The sign (1 for minus), z word and x word of a row such as `-XZI`, leftmost letter qubit 0; a plus may be left
+    out. A row of another form than a letter for each of n qubits is refused by 1.
+
+    >>> row_words("-XZY", 3)
+    (1, 6, 5)
+    """
+    letters = row[1:] if row[:1] in ("+", "-") else row
+    if len(letters) != n or not set(letters) <= set(_LETTERS):
+        raise Refusal(1, f"the row {row} is not a sign and {n} letters I, X, Y or Z")
+    numbers = [_LETTERS.index(letter) for letter in letters]
+    z, x = (sum((number >> bit & 1) << q for q, number in enumerate(numbers)) for bit in (1, 0))
+    return int(row[:1] == "-"), z, x
 
 
 @dataclass(frozen=True)
@@ -28,7 +44,11 @@ class GeneratorList:
 
     @property
     def n(self) -> int:
-        """The number of generators and of qubits."""
+        """The number of generators and of qubits.
+
+        >>> GeneratorList.from_strings("-Y").n
+        1
+        """
         return len(self.signs)
 
     @classmethod
@@ -41,10 +61,13 @@ class GeneratorList:
         sukhlent.refusals.Refusal: refused 9: two generators do not commute
         """
         text = lines[0] if len(lines) == 1 and "\n" in lines[0] else "".join(line + "\n" for line in lines)
-        octets = library.octets(text.encode())
+        octets = library.octets(text.encode("utf-8", "surrogateescape"))
         n = text.count("\n")
         signs, z, x = library.octets([0] * n), library.words([0] * n), library.words([0] * n)
-        accept(library.call("read_strings", octets, signs, z, x))
+        number = library.call("read_strings", octets, signs, z, x)
+        if number == 1:
+            raise Refusal(1, string_fault(text) or "")
+        accept(number)
         return cls(tuple(signs), tuple(z), tuple(x))
 
     def __str__(self) -> str:
@@ -53,15 +76,35 @@ class GeneratorList:
         return bytes(text).decode()
 
     def strings(self) -> list[str]:
-        """The generators as strings, one each."""
+        """The generators as strings, one each.
+
+        >>> GeneratorList((0, 1), (0, 3), (3, 0)).strings()
+        ['+XX', '-ZZ']
+        """
         return str(self).splitlines()
 
-    def buffers(self) -> tuple:
+    def text(self) -> str:
+        """The text that the program `reduce` reads.
+
+        >>> print(GeneratorList.from_strings("-Z").text(), end="")
+        sign z x
+        1 0000000000000001 0000000000000000
+        """
+        rows = zip(self.signs, self.z, self.x)
+        return "".join(["sign z x\n", *(f"{sign} {z:016x} {x:016x}\n" for sign, z, x in rows)])
+
+    def buffers(self) -> tuple[library.Argument, ...]:
         """Signs, z words and x words as lent buffers."""
         return library.octets(self.signs), library.words(self.z), library.words(self.x)
 
     def check(self) -> None:
-        """Raises `Refusal` where the list is none: wrong words, not commuting, or dependent."""
+        """Raises `Refusal` where the list is none: wrong words, not commuting, or dependent.
+
+        >>> GeneratorList((0, 0), (0, 0), (3, 3)).check()
+        Traceback (most recent call last):
+        ...
+        sukhlent.refusals.Refusal: refused 10: the generators are dependent
+        """
         accept(library.call("check", self.n, *self.buffers()))
 
     def product(self, *rows: int) -> tuple[int, str]:
@@ -73,7 +116,7 @@ class GeneratorList:
         (1, 'ZI')
         """
         z, x, phase = library.word(), library.word(), library.octet()
-        chosen = sum({1 << row for row in rows})
+        chosen = library.word_of(rows)
         accept(library.call("product", self.n, *self.buffers(), chosen, z, x, phase))
         letters = (_LETTERS[2 * (z.value >> q & 1) + (x.value >> q & 1)] for q in range(self.n))
         return phase.value, "".join(letters)

@@ -3,10 +3,12 @@
 from __future__ import annotations
 
 import ctypes
-from typing import Iterable
+from dataclasses import dataclass
+from typing import Iterable, Iterator
 
 from . import library
 from .refusals import accept
+from .state import neighbour_words
 
 
 def number_of(n: int, edges: Iterable[tuple[int, int]]) -> int:
@@ -20,21 +22,42 @@ def number_of(n: int, edges: Iterable[tuple[int, int]]) -> int:
 
 
 def edges_of(n: int, number: int) -> list[tuple[int, int]]:
-    """The edges of the graph with this number."""
+    """The edges of the graph with this number.
+
+    >>> edges_of(4, 4)
+    [(0, 3)]
+    """
     pairs = [(a, b) for a in range(n) for b in range(a + 1, n)]
     return [pair for place, pair in enumerate(pairs) if number >> place & 1]
 
 
-def orbit(n: int, edges: Iterable[tuple[int, int]]) -> list[int]:
-    """The numbers of all graphs that complementations reach from this one, rising.
+@dataclass(frozen=True)
+class Orbit:
+    """All graphs that complementations reach from one, each once: their numbers, rising.
 
-    >>> orbit(3, [(0, 1), (1, 2)])
+    >>> orbit(2, [(0, 1)])
+    Orbit(n=2, numbers=[1])
+    """
+
+    n: int
+    numbers: list[int]
+
+    def graphs(self) -> Iterator[list[tuple[int, int]]]:
+        """The edges of each graph, in the order of the numbers.
+
+        >>> list(Orbit(3, [3, 7]).graphs())
+        [[(0, 1), (0, 2)], [(0, 1), (0, 2), (1, 2)]]
+        """
+        return (edges_of(self.n, number) for number in self.numbers)
+
+
+def orbit(n: int, edges: Iterable[tuple[int, int]]) -> Orbit:
+    """All graphs that complementations reach from this one, itself among them.
+
+    >>> path = orbit(3, [(0, 1), (1, 2)])
+    >>> path.numbers
     [3, 5, 6, 7]
     """
-    neighbours = [0] * n
-    for a, b in edges:
-        neighbours[a] |= 1 << b
-        neighbours[b] |= 1 << a
     places, count = (ctypes.c_uint16 * 32768)(), library.word()
-    accept(library.call("orbit", n, library.words(neighbours), places, count))
-    return list(places[: count.value])
+    accept(library.call("orbit", n, library.words(neighbour_words(n, edges)), places, count))
+    return Orbit(n, list(places[: count.value]))

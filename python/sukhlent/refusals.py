@@ -10,9 +10,11 @@ TEXTS: dict[int, str] = {
     4: "a buffer's length is not what is required",
     5: "a word has a bit at or above n",
     6: "a sign or outcome is above 1, a code above 23, a Pauli not 1 to 3, or a seed 0",
-    7: "a graph is not simple, or a used vertex has a neighbour or a code that no measurement leaves",
+    7: "a graph is not simple, or a used vertex has a neighbour or a code that no measurement leaves, or a store holds a name twice",
     8: "a qubit number is n or more, or a qubit is named twice",
     16: "the call names a used qubit",
+    17: "a name to return to or forget is not held",
+    18: "a save finds eight other names held",
     9: "two generators do not commute",
     10: "the generators are dependent",
     3: "a connected part has more than 20 vertices",
@@ -31,12 +33,20 @@ class Refusal(ValueError):
     Traceback (most recent call last):
     ...
     sukhlent.refusals.Refusal: refused 2: n is 0 or above the call's limit, or the two lists' n differ
+    >>> try:
+    ...     State.zeros(2).measure("Z", 0, 1)
+    ... except Refusal as refusal:
+    ...     print(refusal.number, refusal.text)
+    14 a determined outcome contradicts the supplied bit
+
+    `where` says where a text leaves its form, for refusal 1 of a text that this package reads itself.
     """
 
-    def __init__(self, number: int):
+    def __init__(self, number: int, where: str = ""):
         self.number = number
         self.text = TEXTS.get(number, "unknown refusal")
-        super().__init__(f"refused {number}: {self.text}")
+        self.where = where
+        super().__init__(f"refused {number}: {where or self.text}")
 
 
 def accept(number: int) -> None:

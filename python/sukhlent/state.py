@@ -3,47 +3,32 @@
 from __future__ import annotations
 
 import random
-from dataclasses import dataclass
+from pathlib import Path
 from typing import Iterable
 
 from . import library
-from .codes import NAMES, code
-from .drawing import record_svg
-from .lists import GeneratorList
+from .answers import Equivalence, Image, Measured, PlotLine
+from .codes import code
+from .drawing import Place, record_svg
+from .lists import GeneratorList, row_words
 from .refusals import Refusal, accept
 
 _PAULIS = {"X": 1, "Y": 2, "Z": 3}
 
 
-@dataclass(frozen=True)
-class Measured:
-    """What a measurement answers: the outcome (1 for minus), and whether the state determined it."""
+def neighbour_words(n: int, edges: Iterable[tuple[int, int]]) -> list[int]:
+    """The neighbour word of each of n vertices; refused by 5 where an edge leaves them.
 
-    outcome: int
-    determined: bool
-
-
-@dataclass(frozen=True)
-class Equivalence:
-    """What a comparison finds: the least choice of a local Clifford per qubit that carries the first state onto the
-    second, and the vertices at which the first reduced graph is complemented, in order, to become the second."""
-
-    choice: tuple[int, ...]
-    complementations: tuple[int, ...]
-
-    @property
-    def gates(self) -> tuple[str, ...]:
-        """The choice by names."""
-        return tuple(NAMES[number] for number in self.choice)
-
-
-@dataclass(frozen=True)
-class Image:
-    """The graph to which a state's codes send its graph: neighbour words, minus signs, and complementations done."""
-
-    neighbours: tuple[int, ...]
-    signs: tuple[int, ...]
-    complementations: tuple[int, ...]
+    >>> neighbour_words(3, [(0, 1), (1, 2)])
+    [2, 5, 2]
+    """
+    neighbours = [0] * n
+    for a, b in edges:
+        if not (0 <= a < n and 0 <= b < n):
+            raise Refusal(5)
+        neighbours[a] |= 1 << b
+        neighbours[b] |= 1 << a
+    return neighbours
 
 
 class State:
@@ -60,6 +45,8 @@ class State:
     Measured(outcome=1, determined=False)
     >>> state.measure("Z", 1)
     Measured(outcome=1, determined=True)
+
+    A record that is given must be one: `State([2, 0], [0, 0])` is refused by 7, since its graph is not simple.
     """
 
     def __init__(self, neighbours: Iterable[int], codes: Iterable[int], used: int = 0):
@@ -72,25 +59,32 @@ class State:
 
     @classmethod
     def zeros(cls, n: int) -> State:
-        """Every qubit in +Z: no edge, code 8 everywhere."""
+        """Every qubit in +Z: no edge, code 8 everywhere.
+
+        >>> State.zeros(2).generators().strings()
+        ['+ZI', '+IZ']
+        """
         return cls([0] * n, [8] * n)
 
     @classmethod
-    def graph(cls, n: int, edges: Iterable[tuple[int, int]]) -> State:
-        """The graph state of these edges: all codes 0.
+    def graph(cls, n: int, edges: Iterable[tuple[int, int]], gates: Iterable[int | str] | None = None) -> State:
+        """The graph state of these edges, then one gate per vertex where gates are given, by name or code.
 
         >>> State.graph(3, [(0, 1), (1, 2)]).generators().strings()
         ['+XZI', '+ZXZ', '+IZX']
+        >>> State.graph(3, [(0, 1), (1, 2)], ["I", "H", "S_DAG"]).codes
+        (0, 8, 6)
         """
-        neighbours = [0] * n
-        for a, b in edges:
-            neighbours[a] |= 1 << b
-            neighbours[b] |= 1 << a
-        return cls(neighbours, [0] * n)
+        codes = [0] * n if gates is None else [code(gate) for gate in gates]
+        return cls(neighbour_words(n, edges), codes)
 
     @classmethod
     def from_generators(cls, given: GeneratorList) -> State:
-        """The reduced record of a list: lists of one group give equal states."""
+        """The reduced record of a list: lists of one group give equal states.
+
+        >>> State.from_generators(GeneratorList((0, 1), (0, 3), (3, 0))).codes
+        (0, 10)
+        """
         state = cls.__new__(cls)
         state._neighbours = library.words([0] * given.n)
         state._codes = library.octets([0] * given.n)
@@ -109,60 +103,128 @@ class State:
         return cls.from_generators(GeneratorList.from_strings(*lines))
 
     def copy(self) -> State:
-        """The same record, apart."""
+        """The same record, apart.
+
+        >>> first = State.zeros(1)
+        >>> second = first.copy()
+        >>> second.x(0)
+        >>> first == second
+        False
+        """
         return State(self._neighbours, self._codes, self._used)
 
     # ---- reading it
 
     @property
     def n(self) -> int:
-        """The number of qubits."""
+        """The number of qubits.
+
+        >>> State.zeros(5).n
+        5
+        """
         return len(self._codes)
 
     @property
     def neighbours(self) -> tuple[int, ...]:
-        """The neighbour word of each vertex."""
+        """The neighbour word of each vertex: bit q is 1 where q is a neighbour.
+
+        >>> State.graph(3, [(0, 1), (1, 2)]).neighbours
+        (2, 5, 2)
+        """
         return tuple(self._neighbours)
 
     @property
     def codes(self) -> tuple[int, ...]:
-        """The code of each vertex."""
+        """The code of each vertex.
+
+        >>> State.zeros(2).codes
+        (8, 8)
+        """
         return tuple(self._codes)
 
     @property
     def used(self) -> int:
-        """The word of used qubits: those that were measured."""
+        """The word of used qubits: those that were measured.
+
+        >>> state = State.zeros(3)
+        >>> _ = state.measure("X", 2)
+        >>> bin(state.used)
+        '0b100'
+        """
         return self._used
 
     def edges(self) -> list[tuple[int, int]]:
-        """The edges of the graph, each once."""
+        """The edges of the graph, each once.
+
+        >>> State.graph(3, [(2, 1), (1, 0)]).edges()
+        [(0, 1), (1, 2)]
+        """
         pairs = ((a, b) for a in range(self.n) for b in range(a + 1, self.n))
         return [(a, b) for a, b in pairs if self._neighbours[a] >> b & 1]
 
     def generators(self) -> GeneratorList:
-        """The n generators of the record, in order."""
+        """The record expanded: its n generators, in order.
+
+        >>> print(State([2, 1], [0, 8]).generators(), end="")
+        +XX
+        +ZZ
+        """
         n = self.n
         signs, z, x = library.octets([0] * n), library.words([0] * n), library.words([0] * n)
         accept(library.call("expand", n, self._neighbours, self._codes, self._used, signs, z, x))
         return GeneratorList(tuple(signs), tuple(z), tuple(x))
 
     def reduced(self) -> State:
-        """The reduced record of the state, with no qubit used. Equal states have equal reduced records."""
+        """The reduced record of the state, with no qubit used. Equal states have equal reduced records.
+
+        >>> State([2, 1], [8, 0]).reduced()
+        State([2, 1], [0, 8], 0)
+        """
         return State.from_generators(self.generators())
 
     def cut(self, side: Iterable[int]) -> int:
         """The entanglement between these qubits and the others: the rank of the edges between them.
 
-        >>> State.graph(4, [(0, 1), (1, 2), (2, 3)]).cut([0, 1])
-        1
+        >>> path = State.graph(4, [(0, 1), (1, 2), (2, 3)])
+        >>> path.cut([0, 1]), path.cut([0, 2])
+        (1, 2)
         """
         rank = library.word()
-        word = sum({1 << q for q in side})
+        word = library.word_of(side)
         accept(library.call("cut", self.n, self._neighbours, self._codes, self._used, word, rank))
         return rank.value
 
+    def amplitude(self, y: int) -> PlotLine:
+        """The amplitude at the word y, bit q for qubit q, over that at the smallest word with a nonzero amplitude.
+
+        >>> [State.from_strings("-Y").amplitude(y) for y in (0, 1)]
+        [PlotLine(re=1.0, im=0.0, p=0.5), PlotLine(re=0.0, im=-1.0, p=0.5)]
+        """
+        if not 0 <= y < 1 << 64:
+            raise Refusal(5)
+        re, im, p = library.FloatCell(), library.FloatCell(), library.FloatCell()
+        accept(library.call("amplitude", self.n, self._neighbours, self._codes, self._used, y, re, im, p))
+        return PlotLine(re.value, im.value, p.value)
+
+    def expectation(self, row: str) -> int:
+        """The expectation value of a Pauli row such as `+XZI`, leftmost letter qubit 0: 1 where the row is in the group
+        of the state, -1 where its negative is, 0 where neither is. A row of another form is refused by 1.
+
+        >>> bell = State.from_strings("+XX", "+ZZ")
+        >>> [bell.expectation(row) for row in ("+XX", "+YY", "-YY", "XI")]
+        [1, -1, 1, 0]
+        """
+        sign, z, x = row_words(row, self.n)
+        value = library.octet()
+        accept(library.call("expectation", self.n, self._neighbours, self._codes, self._used, z, x, value))
+        return (1, -1, 0)[value.value] * (1 - 2 * sign)
+
     def image(self) -> Image:
-        """The graph to which the codes send the graph; refused by 11 or 12 where that is no graph's group."""
+        """The graph to which the codes send the graph; refused by 11 or 12 where that is no graph's group.
+
+        >>> State([2, 1], [0, 2]).image()
+        Image(neighbours=(2, 1), signs=(0, 1), complementations=())
+        """
         n = self.n
         words, signs = library.words([0] * n), library.octets([0] * n)
         places, count = library.octets([0] * 96), library.word()
@@ -176,6 +238,8 @@ class State:
         >>> triangle = State.graph(3, [(0, 1), (1, 2), (0, 2)])
         >>> path.compare(triangle)
         Equivalence(choice=(4, 12, 4), complementations=(1,))
+        >>> print(path.compare(State.zeros(3)))
+        None
         """
         mine, others = self.generators(), other.generators()
         choice, places, count = library.octets([0] * self.n), library.octets([0] * 96), library.word()
@@ -190,37 +254,88 @@ class State:
     # ---- changing it
 
     def gate(self, qubit: int, gate: int | str) -> None:
-        """Applies a local Clifford, by name or code, and leaves the reduced record."""
+        """Applies a local Clifford, by name or code, and leaves the reduced record.
+
+        >>> state = State.from_strings("+X")
+        >>> state.gate(0, "SQRT_Y")
+        >>> state.generators().strings()
+        ['-Z']
+        """
         accept(
-            library.call("gate", self.n, self._neighbours, self._codes, self._used, qubit, code(gate))
+            library.call(
+                "gate", self.n, self._neighbours, self._codes, self._used, library.place(qubit), code(gate)
+            )
         )
 
     def h(self, qubit: int) -> None:
-        """The Hadamard."""
+        """The Hadamard.
+
+        >>> state = State.zeros(1)
+        >>> state.h(0)
+        >>> state.generators().strings()
+        ['+X']
+        """
         self.gate(qubit, "H")
 
     def s(self, qubit: int) -> None:
-        """The phase gate."""
+        """The phase gate.
+
+        >>> state = State.from_strings("+X")
+        >>> state.s(0)
+        >>> state.generators().strings()
+        ['+Y']
+        """
         self.gate(qubit, "S")
 
     def x(self, qubit: int) -> None:
-        """X."""
+        """X.
+
+        >>> state = State.zeros(1)
+        >>> state.x(0)
+        >>> state.generators().strings()
+        ['-Z']
+        """
         self.gate(qubit, "X")
 
     def y(self, qubit: int) -> None:
-        """Y."""
+        """Y.
+
+        >>> state = State.from_strings("+X")
+        >>> state.y(0)
+        >>> state.generators().strings()
+        ['-X']
+        """
         self.gate(qubit, "Y")
 
     def z(self, qubit: int) -> None:
-        """Z."""
+        """Z.
+
+        >>> state = State.from_strings("+Y")
+        >>> state.z(0)
+        >>> state.generators().strings()
+        ['-Y']
+        """
         self.gate(qubit, "Z")
 
     def cz(self, a: int, b: int) -> None:
-        """CZ on two qubits."""
+        """CZ on two qubits.
+
+        >>> state = State.from_strings("+XI", "+IX")
+        >>> state.cz(0, 1)
+        >>> state.edges()
+        [(0, 1)]
+        """
+        a, b = library.place(a), library.place(b)
         accept(library.call("cz", self.n, self._neighbours, self._codes, self._used, a, b))
 
     def cx(self, control: int, target: int) -> None:
-        """CNOT: a Hadamard, CZ and a Hadamard at the target. Refused as a whole, before the first gate."""
+        """CNOT: a Hadamard, CZ and a Hadamard at the target. Refused as a whole, before the first gate.
+
+        >>> state = State.from_strings("+XI", "+IZ")
+        >>> state.cx(0, 1)
+        >>> state.generators().strings()
+        ['+XX', '+ZZ']
+        """
         trial = self.copy()
         trial.h(target)
         trial.cz(control, target)
@@ -231,7 +346,16 @@ class State:
         self, pauli: str, qubit: int, outcome: int | None = None, source: random.Random | None = None
     ) -> Measured:
         """Measures X, Y or Z. A given outcome that the state forbids is refused by 14; without one the outcome is
-        the state's, or a fair bit drawn from `source`. The qubit is used afterwards."""
+        the state's, or a fair bit drawn from `source`. The qubit is used afterwards.
+
+        >>> state = State.from_strings("+XX", "-ZZ")
+        >>> state.measure("Z", 0, 0)
+        Measured(outcome=0, determined=False)
+        >>> state.measure("Z", 1)
+        Measured(outcome=1, determined=True)
+        >>> State.from_strings("+X").measure("Z", 0, source=random.Random(5))
+        Measured(outcome=1, determined=False)
+        """
         if outcome is None:
             bit = (source or random).getrandbits(1)
             try:
@@ -244,14 +368,21 @@ class State:
         accept(
             library.call(
                 "measure", self.n, self._neighbours, self._codes, used,
-                _PAULIS.get(pauli.upper(), 0), qubit, outcome, answer, determined,
+                _PAULIS.get(pauli.upper(), 0), library.place(qubit), outcome, answer, determined,
             )
         )  # fmt: skip
         self._used = used.value
         return Measured(answer.value, bool(determined.value))
 
     def complement(self, vertex: int) -> None:
-        """Complements the graph at a vertex and rewrites the codes: the same state, not reduced."""
+        """Complements the graph at a vertex and rewrites the codes: the same state, not reduced.
+
+        >>> path = State.graph(3, [(0, 1), (1, 2)])
+        >>> path.complement(1)
+        >>> path.edges(), path.codes
+        ([(0, 1), (0, 2), (1, 2)], (6, 13, 6))
+        """
+        vertex = library.place(vertex)
         accept(library.call("complement", self.n, self._neighbours, self._codes, self._used, vertex))
 
     # ---- showing it
@@ -263,7 +394,7 @@ class State:
         mine, others = self.reduced(), other.reduced()
         return mine.neighbours == others.neighbours and mine.codes == others.codes
 
-    __hash__ = None
+    __hash__ = None  # type: ignore[assignment]
 
     def __str__(self) -> str:
         rows = zip(range(self.n), self._codes, self._neighbours)
@@ -273,9 +404,24 @@ class State:
     def __repr__(self) -> str:
         return f"State({list(self.neighbours)}, {list(self.codes)}, {self._used})"
 
-    def svg(self, layout: Iterable[tuple[float, float]] | None = None) -> str:
-        """A drawing: vertices on a circle, or at given places; a code as its gate; used vertices hollow."""
+    def svg(self, layout: Iterable[Place] | None = None) -> str:
+        """A drawing: vertices on a circle, or at given places; a code as its gate; used vertices hollow.
+
+        >>> State.graph(3, [(0, 1), (1, 2)]).svg().count("<line")
+        2
+        """
         return record_svg(self.neighbours, self.codes, self.used, layout)
+
+    def draw(self, file: str | Path, layout: Iterable[Place] | None = None) -> None:
+        """Writes the drawing to a file. (A notebook shows a state by itself.)
+
+        >>> import os, tempfile
+        >>> with tempfile.TemporaryDirectory() as folder:
+        ...     State.zeros(2).draw(folder + "/state.svg")
+        ...     os.listdir(folder)
+        ['state.svg']
+        """
+        Path(file).write_text(self.svg(layout) + "\n", encoding="utf-8")
 
     def _repr_svg_(self) -> str:
         return self.svg()

@@ -1,8 +1,10 @@
-"""The examples in the docstrings."""
+"""The examples in the docstrings, and that every public name has one."""
 
 import doctest
 import importlib
+import inspect
 import pkgutil
+import unittest
 
 import sukhlent
 
@@ -13,3 +15,31 @@ def load_tests(loader, tests, pattern):
             tests.addTests(doctest.DocTestSuite(importlib.import_module(module.name)))
     tests.addTests(doctest.DocTestSuite(sukhlent))
     return tests
+
+
+def public():
+    """The public functions and classes of the package, and the methods of the classes."""
+    for name in sukhlent.__all__:
+        held = getattr(sukhlent, name)
+        if inspect.isfunction(held):
+            yield name, held
+        elif inspect.isclass(held):
+            yield name, held
+            for method, inside in vars(held).items():
+                if not method.startswith("_") and (callable(inside) or isinstance(inside, (property, classmethod))):
+                    yield f"{name}.{method}", inside
+
+
+class Documents(unittest.TestCase):
+    def test_every_public_name_has_an_example_and_its_types(self):
+        seen = 0
+        for name, held in public():
+            with self.subTest(name=name):
+                seen += 1
+                if name != "GeneratorList.buffers":  # what passes to C
+                    self.assertIn(">>>", inspect.getdoc(held) or "")
+                function = getattr(held, "fget", None) or getattr(held, "__func__", held)
+                if inspect.isfunction(function):
+                    hints = set(inspect.signature(function).parameters) - {"self", "cls"}
+                    self.assertLessEqual(hints | {"return"}, set(function.__annotations__))
+        self.assertGreater(seen, 45)

@@ -4,7 +4,7 @@ import re
 import unittest
 from pathlib import Path
 
-from sukhlent import NAMES, TEXTS
+from sukhlent import NAMES, TEXTS, version
 
 HEADER = (Path(__file__).resolve().parents[2] / "include" / "sukhlent.h").read_text()
 NUMBERS = {name: int(number) for name, number in re.findall(r"#define SUKHLENT_(\w+) (\d+)\n", HEADER)}
@@ -28,3 +28,14 @@ class Header(unittest.TestCase):
     def test_the_version_is_said_alike(self):
         major, minor, patch = map(int, re.search(r'VERSION_TEXT "(\d+)\.(\d+)\.(\d+)"', HEADER).groups())
         self.assertEqual(NUMBERS["VERSION"], major * 10000 + minor * 100 + patch)
+        self.assertEqual(version(), f"{major}.{minor}.{patch}")
+
+    def test_the_words_of_a_number_are_those_of_its_line_in_the_published_list(self):
+        comment = HEADER[HEADER.index("in checking order") : HEADER.index("Under each call")]
+        lines = re.findall(r"^ \* +(\d+)  (\S.*(?:\n \*       \S.*)*)", comment, re.M)
+        self.assertEqual(len(lines), len(TEXTS))
+        for number, text in lines:
+            published = set(re.findall(r"\w+", text.lower()))
+            said = re.findall(r"\w+", TEXTS[int(number)].lower())
+            shared = sum(word in published for word in said) / len(said)
+            self.assertGreater(shared, 0.6, f"{number}: {TEXTS[int(number)]}")

@@ -1,18 +1,10 @@
 """Jobs by the calls against the proved program."""
 
 import random
-import subprocess
 import unittest
-from pathlib import Path
 
-from sukhlent import Refusal, generate, parse_job, run_job
-
-PROGRAM = Path(__file__).resolve().parents[2] / "target" / "bin" / "job"
-
-
-def program(text):
-    """What the proved program prints."""
-    return subprocess.run([str(PROGRAM)], input=text, capture_output=True, text=True, check=True, timeout=60).stdout
+from sukhlent import Refusal, generate, job_text, parse_job, run_job
+from tests.places import program
 
 
 def printed(text):
@@ -35,7 +27,7 @@ class Jobs(unittest.TestCase):
                 op = source.choice(("gate", "cz", "measure", "complement", "pivot"))
                 fields = [source.choice((0, 0, source.randrange(n), source.randrange(30))) for _ in range(3)]
                 text += f"{op} {fields[0]} {fields[1]} {fields[2]}\n"
-            self.assertEqual(printed(text), program(text))
+            self.assertEqual(printed(text), program("job", text))
 
     def test_texts_without_the_form_are_refused_alike(self):
         good = generate(2, 3, 1)
@@ -43,8 +35,9 @@ class Jobs(unittest.TestCase):
         texts += [good.replace("2", "0", 1), good.replace("2", "65", 1), "qubits\n2\nop a b value\n"]
         texts += [good + "gate 0 0 0\n" * 4094]
         for text in texts:
-            self.assertEqual(printed(text), program(text))
+            self.assertEqual(printed(text), program("job", text))
 
     def test_a_parsed_job_has_its_steps(self):
-        n, steps = parse_job(generate(5, 17, 9))
-        self.assertEqual((n, len(steps)), (5, 17))
+        text = generate(5, 17, 9)
+        n, steps = parse_job(text)
+        self.assertEqual((n, len(steps), job_text(n, steps)), (5, 17, text))

@@ -1,9 +1,15 @@
 """States against a plain model: rows of Pauli letters followed by hand."""
 
+import contextlib
+import io
+import itertools
 import random
+import tempfile
 import unittest
+from pathlib import Path
 
 from sukhlent import NAMES, GeneratorList, Refusal, State, generate, images, orbit, run_job
+from sukhlent.command import main as command
 from sukhlent.orbits import edges_of, number_of
 
 #: products of two letters: the power of i and the letter
@@ -94,10 +100,56 @@ class States(unittest.TestCase):
             lines = {send(line, qubit, number) for line in lines}
         self.assertEqual(lines, group(other.generators().strings()))
 
+    def test_values_are_those_of_the_group(self):
+        source = random.Random(3)
+        for _ in range(40):
+            state, _ = run_job(generate(3, 30, source.randrange(1, 1 << 60)))
+            elements = group(state.generators().strings())
+            for letters in map("".join, itertools.product("IXYZ", repeat=3)):
+                due = ("+" + letters in elements) - ("-" + letters in elements)
+                self.assertEqual([state.expectation(sign + letters) for sign in ("", "+", "-")], [due, due, -due])
+
+    def test_rows_of_another_form_are_refused(self):
+        state = State.from_strings("+XX", "+ZZ")
+        for row in ("", "+", "X", "XXX", "+xx", "*XX", "++X", "XX\n"):
+            with self.assertRaises(Refusal) as refused:
+                state.expectation(row)
+            self.assertEqual(refused.exception.number, 1, row)
+
+    def test_the_command_prints_values(self):
+        with tempfile.TemporaryDirectory() as folder:
+            file = Path(folder) / "bell"
+            file.write_text("+XX\n+ZZ\n")
+            said, refused = io.StringIO(), io.StringIO()
+            with contextlib.redirect_stdout(said), contextlib.redirect_stderr(refused):
+                statuses = [command(["expectation", str(file), *rows]) for rows in (["+XX", "XI", "--", "-YY"], ["X"])]
+        self.assertEqual(statuses, [0, 1])
+        self.assertEqual(said.getvalue(), "row value\n+XX 1\nXI 0\n-YY 1\n")
+        self.assertEqual(refused.getvalue(), "sukhlent: refused 1: the row X is not a sign and 2 letters I, X, Y or Z\n")
+
     def test_lists_are_read_and_written(self):
         text = "-XZI\n+ZXZ\n+IZY\n"
         self.assertEqual(str(GeneratorList.from_strings(text)), text)
         self.assertEqual(State.from_strings(text).cut([1]), 1)
+
+    def test_amplitudes_are_fixed_by_the_group(self):
+        turns = {"I": (0, 0), "X": (0, 0), "Y": (1, 3), "Z": (0, 2)}
+        for seed in range(20):
+            state = run_job(generate(4, 12, seed + 1))[0]
+            values = [complex(line.re, line.im) for line in map(state.amplitude, range(16))]
+            chances = [state.amplitude(y).p for y in range(16)]
+            self.assertEqual(sum(chances), 1)
+            self.assertEqual(len(set(chances) - {0}), 1)
+            self.assertEqual(next(value for value in values if value), 1)
+            for element in group(state.generators().strings()):
+                sign, letters = (-1 if element[0] == "-" else 1), element[1:]
+                flipped = sum(1 << q for q, letter in enumerate(letters) if letter in "XY")
+                for y, value in enumerate(values):
+                    power = sum(turns[letter][y >> q & 1] for q, letter in enumerate(letters))
+                    self.assertEqual(values[y ^ flipped], sign * (1, 1j, -1, -1j)[power % 4] * value)
+        with self.assertRaises(Refusal) as refused:
+            State.zeros(2).amplitude(4)
+        self.assertEqual(refused.exception.number, 5)
 
     def test_orbits_are_what_complementing_reaches(self):
         for n in range(1, 5):
@@ -112,7 +164,9 @@ class States(unittest.TestCase):
                         if other not in reached:
                             reached.add(other)
                             todo.append(other)
-                self.assertEqual(orbit(n, edges_of(n, number)), sorted(reached))
+                found = orbit(n, edges_of(n, number))
+                self.assertEqual(found.numbers, sorted(reached))
+                self.assertEqual([number_of(n, graph) for graph in found.graphs()], found.numbers)
 
     def test_a_drawing_has_a_line_for_each_edge(self):
         state = State.graph(5, [(q, (q + 1) % 5) for q in range(5)])

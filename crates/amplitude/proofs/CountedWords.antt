@@ -1,5 +1,7 @@
--- As many words are supported as the rank of the x words says: 2 ^ rank.
+-- As many words are supported as the rank of the x words says: 2 ^ rank. So the rank depends on the group alone, and on a
+-- reduced form it counts the vertices without a Hadamard.
 use mathlib.Core.Bool.{_&&_, Bool, _||_, and-true, false, not, true}
+use mathlib.Core.Logic.{inl, inr, _⊎_}
 use mathlib.Core.Path.{_∙_, _≡_, ap, ap₂, refl, sym}
 use Prim.Native.Nat.{_+_, _<_, _^_, suc, zero, ℕ, _≤_}
 use native.Mathlib.Numerals.{add-one}
@@ -7,9 +9,11 @@ use native.Mathlib.Nat.{add-zero, le-refl, lt-irrefl, one-mul, two-pow-succ}
 use native.Mathlib.Omega.{arith}
 use lib.Bits.{bitXor, xor-shifted}
 use lib.Dec.{eqb}
+use lib.Pow.{pow-lt}
 use Rattle.clifford.specs.Clifford.{bitC}
 use Rattle.cut.proofs.Counting.{count-add, count-ext}
 use Rattle.cut.specs.Kernel.{count}
+use Rattle.cut.specs.Rank.{rank}
 use Rattle.graph.specs.Graph.{Simple}
 use Rattle.graph_steps.specs.internal.ReducedForms.{ReducedForm}
 use Rattle.pauli.specs.Pauli.{Pauli}
@@ -18,12 +22,12 @@ use Rattle.record.proofs.ReducedRecords.{record-proper, reduced-is}
 use Rattle.record.specs.Columns.{isColumnDependent}
 use Rattle.record.specs.Records.{GraphRecord, rowsOf}
 use Rattle.record.specs.Reduced.{ReductionOf, reduced, xWords}
-use Rattle.stabilizer.specs.Groups.{Proper}
+use Rattle.stabilizer.specs.Groups.{Proper, SameGroup}
 use Rattle.words.proofs.BitLaws.{bit-above, bit-single, bit-xor}
 use Rattle.words.proofs.Flags.{same-by-both, sameBit-true, true-sameBit}
 use Rattle.words.proofs.Places.{other-place, same-place}
 use Rattle.words.proofs.SearchLaws.{every-at, every-in}
-use Rattle.words.proofs.Sums.{bitMonoid, fold-ext, fold-more}
+use Rattle.words.proofs.Sums.{bitMonoid, fold-ext, fold-more, lt-or-ge}
 use Rattle.words.specs.Bits.{Word, _⊕_, bit, digit, fold, parity, sameBit}
 use Rattle.words.specs.Search.{every}
 use Rattle.amplitude.proofs.Answers.{of-group}
@@ -31,7 +35,8 @@ use Rattle.amplitude.proofs.FormOfReduced.{code-c-of, form-of-reduced}
 use Rattle.amplitude.proofs.FormWords.{Solves, solves-supported, supported-solves}
 use Rattle.amplitude.proofs.Support.{supported-exactly}
 use Rattle.amplitude.specs.internal.KeptTurns.{fitsAt}
-use Rattle.amplitude.specs.Ratios.{isSupported}
+use Rattle.amplitude.specs.Plotting.{plotted}
+use Rattle.amplitude.specs.Ratios.{isSupported, plotAt}
 use Rattle.amplitude.specs.Vectors.{WordsCount}
 
 -- ---- numbers and tests
@@ -170,3 +175,27 @@ words-count n R P =
       where
         c : (q : ℕ) → bitC ((reduced n R) .codes q) ≡ D .hadamards q
         c q = code-c-of n R (reduced n R) D q
+
+-- ---- the rank by the words
+same-exponent : (a b : ℕ) → 2 ^ a ≡ 2 ^ b → a ≡ b
+same-exponent a b e = go (lt-or-ge a b) (lt-or-ge b a)
+  where
+    go : (a < b) ⊎ (b ≤ a) → (b < a) ⊎ (a ≤ b) → a ≡ b
+    go (inl l) k = absurd (omega (arith, pow-lt l, e))
+    go (inr l) (inl k) = absurd (omega (arith, pow-lt k, e))
+    go (inr l) (inr k) = omega arith
+
+pub form-rank : (n : ℕ) (r : GraphRecord) → Simple n (r .graph) → ReducedForm n r
+    → count n (λ q. not (bitC (r .codes q))) ≡ rank n n (xWords (rowsOf n r))
+form-rank n r S F = same-exponent _ _ (sym (counted n r S F n)
+    ∙ count-ext (2 ^ n) _ _ (λ y l. sym (support-fits n r S F y)) ∙ words-count n (rowsOf n r) (record-proper n r S))
+
+pub rank-of-group : (n : ℕ) (R S : ℕ → Pauli) → Proper n R → Proper n S → SameGroup n n R S
+    → rank n n (xWords R) ≡ rank n n (xWords S)
+rank-of-group n R S P Q E = same-exponent _ _ (sym (words-count n R P)
+    ∙ count-ext (2 ^ n) _ _ (λ y l. of-group n R S P Q E .support y) ∙ words-count n S Q)
+
+-- a line of the plot depends on the group alone
+pub plot-of-group : (n : ℕ) (R S : ℕ → Pauli) → Proper n R → Proper n S → SameGroup n n R S → (y : ℕ)
+    → plotAt n R y ≡ plotAt n S y
+plot-of-group n R S P Q E y = ap₂ plotted (of-group n R S P Q E .answer y) (rank-of-group n R S P Q E)

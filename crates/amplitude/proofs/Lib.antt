@@ -13,6 +13,5 @@ pub mod MeasuredWords
 pub mod LowestWord
 pub mod KeptRows
 pub mod KeptRatios
-pub mod AmplitudeDemandHolds
 pub mod LowestOfRecord
 pub mod AnswerByRecord

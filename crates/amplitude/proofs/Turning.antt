@@ -1,10 +1,10 @@
--- Powers of i times a Gaussian integer: turns add, and a number that a turn keeps is 0.
+-- Powers of i times a Gaussian integer: turns add, and a number that a turn keeps is 0; none other turns to 0.
 use mathlib.Core.Bool.{false, true≢false}
 use mathlib.Core.Path.{_∙_, _≡_, ap, refl, subst, sym}
 use Prim.Native.Nat.{suc, zero}
 use lib.IntN.{ℤ, negsuc, negℤ, pos}
 use Rattle.pauli.specs.Pauli.{_+ᵖ_, Phase, i¹, i², i³, i⁰, samePhase, timesI}
-use Rattle.amplitude.specs.Vectors.{Gaussian, none, turnBy}
+use Rattle.amplitude.specs.Vectors.{Gaussian, none, one, turnBy}
 
 neg-neg : (k : ℤ) → negℤ (negℤ k) ≡ k
 neg-neg (pos zero) = refl
@@ -57,3 +57,20 @@ turned-none i² z h e = gaussian (own-negative (z .re) (ap (λ u. u .re) e)) (ow
 turned-none i³ z h e =
     let b = own-negative (z .im) (ap (λ u. u .im) e ∙ ap negℤ (ap (λ u. u .re) e)) in
     gaussian (ap (λ u. u .re) e ∙ b) b
+
+-- four turns bring a number back, so that only 0 turns to 0
+pub none-turned : (t : Phase) (z : Gaussian) → turnBy t z ≡ none → z ≡ none
+none-turned i⁰ z e = e
+none-turned i¹ z e = gaussian (ap (λ u. u .im) e) (sym (neg-neg (z .im)) ∙ ap (λ u. negℤ (u .re)) e)
+none-turned i² z e = gaussian (sym (neg-neg (z .re)) ∙ ap (λ u. negℤ (u .re)) e)
+    (sym (neg-neg (z .im)) ∙ ap (λ u. negℤ (u .im)) e)
+none-turned i³ z e = gaussian (sym (neg-neg (z .re)) ∙ ap (λ u. negℤ (u .im)) e) (ap (λ u. u .re) e)
+
+one-some : one ≡ none → ⊥
+one-some e = own (ap (λ u. u .re) e)
+  where
+    own : pos 1 ≡ pos 0 → ⊥
+    own e = subst (λ z. elim z as (λ z. Type 0) [ pos zero ↦ ⊥ | pos (suc k) ↦ Unit | negsuc k ↦ ⊥ ]) e tt
+
+pub turned-one-some : (t : Phase) → turnBy t one ≡ none → ⊥
+turned-one-some t e = one-some (none-turned t one e)

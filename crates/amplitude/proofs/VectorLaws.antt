@@ -19,7 +19,7 @@ use Rattle.words.specs.Search.{every, some}
 use Rattle.amplitude.proofs.Existence.{any-element, leading-leads, lowest-is, some-leads}
 use Rattle.amplitude.proofs.Support.{supported-exactly, supported-ext, supported-moved, turns-ext, turns-identity}
 use Rattle.amplitude.proofs.TurnLaws.{turns-mul}
-use Rattle.amplitude.proofs.Turning.{turn-add, turn-none, turned-none}
+use Rattle.amplitude.proofs.Turning.{none-turned, turn-add, turn-none, turned-none, turned-one-some}
 use Rattle.amplitude.specs.internal.Ratios.{Diagonal}
 use Rattle.amplitude.specs.Ratios.{Leads, chosenBy, leading, lowest, ratio, isSupported}
 use Rattle.amplitude.specs.Turns.{turnsAt}
@@ -28,6 +28,7 @@ use Rattle.amplitude.specs.Vectors.{
   LowestLeast,
   OnlyVector,
   Stabilized,
+  ZeroExactly,
   amplitudes,
   movedTo,
   none,
@@ -139,6 +140,30 @@ module _ (n : ℕ) (R : ℕ → Pauli) (P : Proper n R) where
         where
           other : (l y : Bool) → l ⊕ (l ⊕ y) ≡ y
           other = bits 2 (λ l y. l ⊕ (l ⊕ y)) (λ l y. y) tt
+
+  pub zero-exactly : ZeroExactly n R
+  zero-exactly w W z k some y l = (
+    (λ e. zero (isSupported n R y) (sym (only-vector w W y l) ∙ e)),
+    (λ e. only-vector w W y l ∙ nothing (isSupported n R y) e),
+  )
+    where
+      -- it is not 0 at the smallest word
+      at-lowest : w (lowest n R) ≡ none → ⊥
+      at-lowest e = some (only-vector w W z k ∙ both (isSupported n R z))
+        where
+          both : (b : Bool) → cond b (turnBy (ratio n R z) (w (lowest n R))) none ≡ none
+          both true = ap (turnBy (ratio n R z)) e ∙ turn-none (ratio n R z)
+          both false = refl
+
+      zero : (b : Bool) → cond b (turnBy (ratio n R y) (w (lowest n R))) none ≡ none
+          → cond b (turnBy (ratio n R y) one) none ≡ none
+      zero true e = absurd (at-lowest (none-turned (ratio n R y) _ e))
+      zero false e = refl
+
+      nothing : (b : Bool) → cond b (turnBy (ratio n R y) one) none ≡ none
+          → cond b (turnBy (ratio n R y) (w (lowest n R))) none ≡ none
+      nothing true e = absurd (turned-one-some (ratio n R y) e)
+      nothing false e = refl
 
   -- ---- the smallest word, and the elements that lead from it
   pub lowest-least : LowestLeast n R

@@ -3,14 +3,17 @@
 use mathlib.Core.Bool.{Bool, _||_, cond}
 use mathlib.Core.Path.{_≡_}
 use Prim.Native.Nat.{_<_, _^_, ℕ}
+use Rattle.cut.specs.Rank.{rank}
 use Rattle.pauli.specs.Pauli.{Pauli, Phase, exponent, i⁰, samePhase}
+use Rattle.record.specs.Reduced.{xWords}
 use Rattle.stabilizer.specs.Groups.{product}
 use Rattle.words.specs.Bits.{Word, _⊕_, bit, sameBit}
 use Rattle.words.specs.Search.{every, first, some}
-use Rattle.amplitude.specs.Plotting.{turned}
+use Rattle.amplitude.specs.Plotting.{plotted, turned}
 use Rattle.amplitude.specs.Turns.{turnsAt}
 use Rattle.amplitude.specs.declared.Amplitude.{Amplitude}
 use Rattle.amplitude.specs.declared.Amplitude.the-variants.{Nothing}
+use Rattle.amplitude.specs.declared.PlotLine.{PlotLine}
 
 -- ---- as relations
 -- "whose x part leads from that word to y"
@@ -41,3 +44,7 @@ ratio n R y = turnsAt n (chosenBy n R (leading n R (lowest n R) y)) (bit (lowest
 -- "the answer is nothing, exactly where the amplitude is 0, or a value on the real axis, or .. on the imaginary axis"
 abbrev pub amplitudeOf : ℕ → (ℕ → Pauli) → ℕ → Amplitude
 amplitudeOf n R y = cond (isSupported n R y) (turned (exponent (ratio n R y))) Nothing
+
+-- "exactly 2^−r with r the rank of the x words": the line of the plot at y
+abbrev pub plotAt : ℕ → (ℕ → Pauli) → ℕ → PlotLine
+plotAt n R y = plotted (amplitudeOf n R y) (rank n n (xWords R))

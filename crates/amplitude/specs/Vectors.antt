@@ -11,10 +11,8 @@ use Rattle.record.specs.Reduced.{xWords}
 use Rattle.stabilizer.specs.Groups.{InGroup}
 use Rattle.words.specs.Bits.{_⊕_, bit, wordOf}
 use Rattle.words.specs.Search.{IsFirst}
-use Rattle.amplitude.specs.Plotting.{floatOf, halves, nought, plotted}
-use Rattle.amplitude.specs.Ratios.{Leads, amplitudeOf, lowest, ratio, isSupported}
+use Rattle.amplitude.specs.Ratios.{Leads, isSupported, lowest, ratio}
 use Rattle.amplitude.specs.Turns.{turnsAt}
-use Rattle.amplitude.specs.declared.Amplitude.the-variants.{Nothing}
 
 -- re + i · im
 pub record Gaussian : Type 0 where
@@ -68,13 +66,10 @@ abbrev pub OnlyVector : ℕ → (ℕ → Pauli) → Type 0
 OnlyVector n R = (w : ℕ → Gaussian) → Stabilized n R w → (y : ℕ) → y < 2 ^ n
     → w y ≡ cond (isSupported n R y) (turnBy (ratio n R y) (w (lowest n R))) none
 
--- "nothing, exactly where the amplitude is 0"; a plot line's real and imaginary parts are the vector's; "The probability is
--- 0 for nothing, otherwise exactly 2^−r"
-pub record PlotsVector (n : ℕ) (R : ℕ → Pauli) (y : ℕ) : Type 0 where
-  pub nothing : (amplitudeOf n R y ≡ Nothing) ↔ (amplitudes n R y ≡ none)
-  pub real : (rank : ℕ) → (plotted (amplitudeOf n R y) rank) .re ≡ floatOf ((amplitudes n R y) .re)
-  pub imaginary : (rank : ℕ) → (plotted (amplitudeOf n R y) rank) .im ≡ floatOf ((amplitudes n R y) .im)
-  pub probability : (rank : ℕ) → (plotted (amplitudeOf n R y) rank) .p ≡ cond (isSupported n R y) (halves rank) nought
+-- "nothing, exactly where the amplitude is 0": whatever vector the group fixes, if it is not 0 at some word z
+abbrev pub ZeroExactly : ℕ → (ℕ → Pauli) → Type 0
+ZeroExactly n R = (w : ℕ → Gaussian) → Stabilized n R w → (z : ℕ) → z < 2 ^ n → (w z ≡ none → ⊥) → (y : ℕ)
+    → y < 2 ^ n → (w y ≡ none) ↔ (amplitudes n R y ≡ none)
 
 -- "exactly 2^−r with r the rank of the x words": as many words are supported, so that the probabilities add up to 1
 abbrev pub WordsCount : ℕ → (ℕ → Pauli) → Type 0

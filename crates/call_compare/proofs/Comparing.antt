@@ -19,10 +19,12 @@ use Rattle.stabilizer.proofs.SharedTests.{counted, has-length, length-passes}
 use Rattle.stabilizer.specs.Lists.{GeneratorList, listLengths, rows}
 use Rattle.words.proofs.Finite.{bits}
 use Rattle.words.proofs.Flags.{neither}
-use Rattle.call_compare.proofs.PairLines.{earlier-none, pair-number, pair-numbered}
+use Rattle.call_compare.proofs.PairLines.{pair-number, pair-numbered}
 use Rattle.comparison_answer.proofs.ReducedPairs.{reduced-accepted}
 use Rattle.call_lists.specs.Calls.{reduceCall}
-use Rattle.comparison_answer.specs.internal.ComparedPairs.{HoldsReduced, PairAnswered, earlierOf}
+use Rattle.comparison_answer.specs.internal.ComparedPairs.{HoldsReduced, PairAnswered}
+use Rattle.earliest.proofs.EarlierNumbers.{earlier-none}
+use Rattle.earliest.specs.internal.Earlier.{earlierOf}
 use Rattle.call_compare.specs.Comparisons.{compareCall}
 
 -- ---- two lists on n qubits, and the reductions of both

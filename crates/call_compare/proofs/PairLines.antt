@@ -1,13 +1,11 @@
 -- The number of two lists together is the earlier of their numbers.
-use mathlib.Core.Bool.{Bool, cond, false, not, _||_}
+use mathlib.Core.Bool.{Bool, false, not, _||_}
 use mathlib.Core.List.{List, [], _∷_}
-use mathlib.Core.Logic.{inl, inr, _⊎_}
 use mathlib.Core.Path.{ap, ap₂, refl, sym, _∙_, _≡_}
-use Prim.Native.Nat.{_<_, ℕ, _≤_}
-use native.Mathlib.Decide.{ℕ-discrete}
-use lib.Dec.{eqb, eqb→eq, lit<, ltb}
+use Prim.Native.Nat.{ℕ, _≤_}
+use lib.Dec.{eqb, eqb→eq, lit<}
 use lib.ListN.{length}
-use borrow.Author.Tests.{eq-eqb, le-ltb, lt-ltb, ne-eqb}
+use borrow.Author.Tests.{eq-eqb}
 use Rattle.buffers.proofs.Lines.{Numbered, passed}
 use Rattle.buffers.specs.Refusals.{Refusal, badCount, firstFitting, line}
 use Rattle.comparison.specs.Compared.{pairLines}
@@ -23,8 +21,7 @@ use Rattle.stabilizer.specs.Lists.{
   rows,
 }
 use Rattle.words.proofs.Finite.{Law, Of, law}
-use Rattle.words.proofs.Sums.{lt-or-ge}
-use Rattle.comparison_answer.specs.internal.ComparedPairs.{earlierOf}
+use Rattle.earliest.specs.internal.Earlier.{earlierOf}
 
 -- lines 4 to 10 of each list, and those of the pair
 module _ (a₄ a₅ a₆ a₉ a₁₀ : Bool) where
@@ -43,26 +40,6 @@ laterBoth a b c d e f g h i j =
 earlier-later : Law ℕ 10 laterBoth laterOf
 unfolding firstFitting
 earlier-later = law eqb eqb→eq 10 laterBoth laterOf tt
-
--- no number only where both have none
-pub earlier-none : (a b : ℕ) → earlierOf a b ≡ 0 → (a ≡ 0) × (b ≡ 0)
-earlier-none a b = go (ℕ-discrete a 0) (ℕ-discrete b 0) (lt-or-ge a b)
-  where
-    go : Dec (a ≡ 0) → Dec (b ≡ 0) → (a < b) ⊎ (b ≤ a) → earlierOf a b ≡ 0 → (a ≡ 0) × (b ≡ 0)
-    go (yes h) d l e = (
-      h,
-      sym (ap (λ v. cond v b (cond (eqb b 0) a (cond (ltb a b) a b))) (eq-eqb a 0 h))
-          ∙ e,
-    )
-    go (no h) (yes k) l e =
-        absurd (h (sym (ap₂ (λ u v. cond u b (cond v a (cond (ltb a b) a b))) (ne-eqb a 0 h) (eq-eqb b 0 k))
-        ∙ e))
-    go (no h) (no k) (inl l) e =
-        absurd (h (sym (ap₂ (λ u v. cond u b (cond v a (cond (ltb a b) a b))) (ne-eqb a 0 h) (ne-eqb b 0 k)
-        ∙ ap (λ v. cond v a b) (lt-ltb a b l)) ∙ e))
-    go (no h) (no k) (inr l) e =
-        absurd (k (sym (ap₂ (λ u v. cond u b (cond v a (cond (ltb a b) a b))) (ne-eqb a 0 h) (ne-eqb b 0 k)
-        ∙ ap (λ v. cond v a b) (le-ltb a b l)) ∙ e))
 
 -- ---- two lists on n qubits, n from 1 to 64, with buffers of the right lengths
 module _ (n : ℕ) (s z x s₂ z₂ x₂ choice list : List ℕ) (positive : 1 ≤ n) (few : n ≤ 64)

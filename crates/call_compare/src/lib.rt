@@ -3,7 +3,7 @@ use buffers::bad_count;
 use buffers::other_than;
 use call_lists::reduce;
 use comparison_answer::compare_reduced;
-use comparison_answer::earlier;
+use earliest::earlier;
 ghost use mathlib.Core.Bool.{_||_, not};
 ghost use mathlib.Core.Path.{_≡_};
 ghost use Prim.Native.Nat.{_≤_};

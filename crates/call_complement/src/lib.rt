@@ -1,4 +1,4 @@
-// The public calls that complement and pivot a lent record in place.
+// The public call that complements a lent record in place, and the pivot of job texts.
 use call_gates::in_place_refusal;
 use call_gates::is_used;
 use operations_rewriting::complement_record;
@@ -36,7 +36,8 @@ pub fn complement_known(
     0
 }
 
-// A pivot on an edge; the record is not reduced. A used vertex has no edge, so that no test for 16 is needed.
+// A pivot on an edge, for the steps of jobs: it is no exported call. The record is not reduced. A used vertex has no edge,
+// so that no test for 16 is needed.
 pub fn pivot_known(
     n: u64,
     neighbours: &mut [u64],
@@ -75,14 +76,4 @@ pub fn complement(n: u64, neighbours: &mut [u64], codes: &mut [u8], used: u64, a
     }) (complementOf a) (now (neighbours .exit)) (now (codes .exit))) r ⌝ }
 {
     complement_known(n, neighbours, codes, used, a, false)
-}
-
-// The same where nothing is known of the record.
-pub fn pivot(n: u64, neighbours: &mut [u64], codes: &mut [u8], used: u64, j: u64, k: u64) -> u8
-    ensures { λ r. ⌜ Call (usedCall (record {
-      held = record { n = n; neighbours = now (neighbours .entry); codes = now (codes .entry) };
-      used = used;
-    }) (pivotOf j k) (now (neighbours .exit)) (now (codes .exit))) r ⌝ }
-{
-    pivot_known(n, neighbours, codes, used, j, k, false)
 }

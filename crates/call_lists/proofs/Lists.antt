@@ -2,7 +2,7 @@
 use mathlib.Core.Bool.{Bool, cond, false, not, true, _||_}
 use mathlib.Core.List.{List}
 use mathlib.Core.Path.{ap, refl, sym, _∙_, _≡_}
-use Prim.Native.Nat.{ℕ}
+use Prim.Native.Nat.{_<_, ℕ}
 use lib.ListN.{length}
 use borrow.Author.Tests.{not-false, not-true}
 use Rattle.buffers.proofs.Lines.{more-refused}
@@ -16,7 +16,9 @@ use Rattle.record.specs.Reduced.{reduced}
 use Rattle.reduction.proofs.Loading.{early-reducible}
 use Rattle.reduction.specs.internal.Reducible.{Reducible}
 use Rattle.stabilizer.proofs.Accepted.{early-accepted, early-form}
+use Rattle.stabilizer.proofs.Pairs.{lettersOf}
 use Rattle.stabilizer.proofs.SharedTests.{has-length}
+use Rattle.stabilizer.specs.Groups.{Within}
 use Rattle.stabilizer.specs.Lists.{GeneratorList, dependent, earlyLines, listLengths, listLines, rows}
 use Rattle.words.proofs.Flags.{neither}
 use Rattle.call_lists.specs.Calls.{reduceCall, reduceLines, reduceUnusedCall}
@@ -33,6 +35,10 @@ module _ (l : GeneratorList) (others : Bool) (k : ℕ) (e : k ≡ firstFitting (
 
     pub no-others : others ≡ false
     no-others = neither (listLengths l) others (early-form l others (sym e ∙ z) .lengths) .1
+
+    -- what the test of line 10 asks for
+    pub rows-within : (j : ℕ) → j < l .n → Within (l .n) (lettersOf (l .z) (l .x) j)
+    rows-within j h = let W = reducible .within j h in record { no-x = W .no-x; no-z = W .no-z }
 
     -- dependence decides
     module _ (b : Bool) (d : b ≡ not (dependent (l .n) (rows l))) where

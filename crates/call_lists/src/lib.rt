@@ -2,6 +2,7 @@
 use buffers::other_than;
 use reduction::reduce_list;
 use stabilizer_checks::early_refusal;
+use stabilizer_independence::independent;
 ghost use Rattle.contracts.specs.Calls.{Call};
 ghost use Rattle.call_lists.specs.Calls.{checkCall, reduceCall, reduceUnusedCall};
 
@@ -14,18 +15,7 @@ pub fn check(n: u64, signs: &[u8], z: &[u64], x: &[u64]) -> u8
     if early != 0 {
         return early;
     }
-    let count = n as usize;
-    let mut neighbours = [0u64; 64];
-    let mut codes = [0u8; 64];
-    let independent = reduce_list(
-        count,
-        signs,
-        z,
-        x,
-        &mut neighbours[..count],
-        &mut codes[..count],
-    );
-    if independent { 0 } else { 10 }
+    if independent(n as usize, z, x) { 0 } else { 10 }
 }
 
 // The reduced record of a generator list.

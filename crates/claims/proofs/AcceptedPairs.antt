@@ -8,7 +8,7 @@ use Rattle.buffers.specs.Refusals.{badCount, firstFitting}
 use Rattle.call_compare.proofs.Comparing.{counts-agree}
 use Rattle.call_compare.proofs.PairLines.{pair-number}
 use Rattle.comparison.specs.Compared.{pairLines}
-use Rattle.comparison_answer.specs.internal.ComparedPairs.{earlierOf}
+use Rattle.earliest.specs.internal.Earlier.{earlierOf}
 use Rattle.contracts.proofs.Fitting.{none-fits-of, none-holds}
 use Rattle.call_lists.specs.Calls.{checkLines}
 use Rattle.stabilizer.proofs.Accepted.{accepted-list}

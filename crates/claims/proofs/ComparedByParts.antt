@@ -1,11 +1,11 @@
 -- The comparison by parts, of the call: equal parts where it is accepted, and each part's choice where the parts agree.
 use mathlib.Core.Logic.{_↔_}
 use mathlib.Core.Path.{_≡_, refl}
-use Rattle.claims.proofs.AcceptedCallsHold.{accepted-exactly}
+use Rattle.claims.proofs.families.Comparisons.{comparisons-accepted}
 use Rattle.claims.proofs.AcceptedPairs.{accepted-pair}
 use Rattle.claims.proofs.LinesExactly.{list-exactly}
 use Rattle.claims.proofs.PartsDemandHolds.{equivalent-have-same-parts, parts-decide}
-use Rattle.claims.specs.AcceptedCalls.{CompareFits}
+use Rattle.claims.specs.families.Comparisons.{CompareFits}
 use Rattle.claims.specs.PartsDemand.{ComparedByParts}
 
 pub compared-by-parts : ComparedByParts
@@ -36,4 +36,4 @@ compared-by-parts l m choice list counted r choice′ list′ counted′ C =
     }
   where
     fits : (r ≡ 0) ↔ CompareFits l m choice list
-    fits = accepted-exactly .compare l m choice list counted choice′ list′ counted′ r C
+    fits = comparisons-accepted .compare l m choice list counted choice′ list′ counted′ r C

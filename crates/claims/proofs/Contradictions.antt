@@ -6,6 +6,7 @@ use Prim.Native.Nat.{_<_, ℕ}
 use native.Mathlib.Omega.{arith}
 use Rattle.buffers.specs.Refusals.{firstFitting}
 use Rattle.contracts.proofs.Calling.{kept-all}
+use Rattle.jobs.specs.Standing.{left}
 use Rattle.operations.proofs.Contradicted.{contradicts-exactly}
 use Rattle.operations.specs.Measurement.{contradicts, pauliLetter}
 use Rattle.operations.specs.Steps.{argumentLines}
@@ -14,7 +15,7 @@ use Rattle.call_gates.proofs.InPlaceLines.{held-accepted, measure-ready}
 use Rattle.call_gates.proofs.MeasureLines.{arguments-before, fourteen-exactly}
 use Rattle.stabilizer.specs.Groups.{InGroup}
 use Rattle.words.specs.Bits.{isOdd}
-use Rattle.claims.specs.OperationsDemand.{ContradictionsRefused, left, signedPauli}
+use Rattle.claims.specs.OperationsDemand.{ContradictionsRefused, signedPauli}
 
 -- where the arguments are in order, the bit is contradicted exactly if the Pauli with the other sign is in the group
 pub contradicted-by-group : (l : LentRecord) (pauli q b : ℕ) → firstFitting (argumentLines l pauli q b) ≡ 0

@@ -13,6 +13,7 @@ use Rattle.cut.proofs.Sides.{empty-word, full-word}
 use Rattle.cut.specs.Cut.{crossing, cutRank}
 use Rattle.cut.specs.Kernel.{kernelSize}
 use Rattle.graph.specs.Graph.{Graph, Simple}
+use Rattle.jobs.specs.Standing.{StillRecord, left}
 use Rattle.record.proofs.AcceptedRecords.{accepted-record}
 use Rattle.record.specs.Accepted.{AcceptedRecord}
 use Rattle.record.specs.Lent.{LentRecord, heldRecord}
@@ -21,16 +22,15 @@ use Rattle.call_gates.proofs.InPlaceLines.{cz-ready, held-accepted}
 use Rattle.words.specs.Bits.{Word, bit}
 use Rattle.claims.proofs.CzInsideSide.{entangled-cut}
 use Rattle.claims.proofs.GatesFollow.{cz-follows, gates-follow}
-use Rattle.claims.proofs.RewritingsKeep.{complements-keep, pivots-keep}
+use Rattle.claims.proofs.RewritingsKeep.{complements-keep}
 use Rattle.claims.specs.CutDemand.{
   ComplementsKeepRanks,
   CutsAnswer,
   CzKeepsRanks,
   GatesKeepRanks,
-  PivotsKeepRanks,
   rankAcross,
 }
-use Rattle.claims.specs.OperationsDemand.{CzStands, GateStands, RewrittenAs, StillRecord, left}
+use Rattle.claims.specs.OperationsDemand.{CzStands, GateStands, RewrittenAs}
 
 pub cuts-answer : CutsAnswer
 cuts-answer u side rank rank′ C =
@@ -82,7 +82,7 @@ cz-keeps-ranks l a b nb′ cs′ C side inside =
     below {q} h = subst (λ m. q < m) (A .neighbours-length) h
 
 -- a record rewritten to one of the same group
-rewritten-ranks : (l : LentRecord) (nb cs : List ℕ) (new : GraphRecord) → AcceptedRecord l
+pub rewritten-ranks : (l : LentRecord) (nb cs : List ℕ) (new : GraphRecord) → AcceptedRecord l
     → RewrittenAs l (left l nb cs) new → (side : Word) → rankAcross side (left l nb cs) ≡ rankAcross side l
 rewritten-ranks l nb cs new A G side =
     sym (same-group-cut (l .n) side (heldRecord l) (heldRecord (left l nb cs)) (A .simple)
@@ -91,7 +91,3 @@ rewritten-ranks l nb cs new A G side =
 pub complements-keep-ranks : ComplementsKeepRanks
 complements-keep-ranks l a nb′ cs′ C =
     rewritten-ranks l nb′ cs′ _ (held-accepted l _ _ (sym (C .number))) (complements-keep l a nb′ cs′ C)
-
-pub pivots-keep-ranks : PivotsKeepRanks
-pivots-keep-ranks l j k nb′ cs′ C =
-    rewritten-ranks l nb′ cs′ _ (held-accepted l _ _ (sym (C .number))) (pivots-keep l j k nb′ cs′ C)

@@ -1,5 +1,5 @@
 -- The examples hold of the definitions: one theorem over the table.
-use mathlib.Core.Path.{refl, _≡_}
+use mathlib.Core.Path.{refl}
 use Rattle.buffers.specs.Buffers.{tabulate}
 use Rattle.buffers.specs.Refusals.{firstFitting, reaching}
 use Rattle.clifford.specs.Clifford.{inverse}
@@ -16,9 +16,10 @@ use Rattle.stabilizer.specs.Lists.{clashing, dependent}
 use Rattle.stabilizer.specs.Membership.{member}
 use Rattle.words.specs.Bits.{bit, fold, put, wordOf}
 use Rattle.words.specs.Search.{every, first, some}
-use Rattle.claims.specs.internal.Table.{expected, given}
+use Rattle.jobs.specs.internal.Examples.{AllHold}
+use Rattle.claims.specs.internal.Table.{table}
 
-pub examples : given ≡ expected
+pub examples : AllHold table
 unfolding inverse first some every fold put bit wordOf mul anticommute act clashing dependent isColumnDependent
     reducedRow graphOf ysOf minusesOf tabulate firstFitting reaching notSimple complementedAt moves run member stuck
     looped isCarrying choice leastNumber isClosed partOf partAbove

@@ -8,6 +8,7 @@ use lib.ListN.{length}
 use Rattle.clifford.specs.Clifford.{Clifford, cliffordOf}
 use Rattle.clifford.specs.Vectors.{only}
 use Rattle.contracts.specs.Calls.{Call}
+use Rattle.jobs.specs.Standing.{StillRecord, left}
 use Rattle.operations.proofs.CzGroups.{cz-group, cz-proper}
 use Rattle.operations.proofs.CzValues.{cz-is}
 use Rattle.operations.proofs.Gating.{gate-carries}
@@ -34,8 +35,6 @@ use Rattle.claims.specs.OperationsDemand.{
   GateStands,
   GatesFollow,
   IsReduced,
-  StillRecord,
-  left,
 }
 
 -- an accepted call leaves the new record in the buffers

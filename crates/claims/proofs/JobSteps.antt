@@ -43,7 +43,7 @@ pub record HasGroup (l : LentRecord) (G : Pauli → Type 0) : Type 0 where
   pub elements : (p : Pauli) → InGroup (l .n) (l .n) (heldRows l) p ↔ G p
 
 -- what a step leaves is what its call leaves
-call-of : (l : LentRecord) (o : Operation) → firstFitting (linesOf l o) ≡ 0
+pub call-of : (l : LentRecord) (o : Operation) → firstFitting (linesOf l o) ≡ 0
     → Call (inPlaceCall l o (leaves l o .neighbours) (leaves l o .codes)) 0
 call-of l o z =
     record {

@@ -20,19 +20,18 @@ use Rattle.jobs.proofs.Numbers.{
   set-refuses-fields,
   six-refuses,
 }
-use Rattle.jobs.proofs.Starting.{started-passes, started-rows}
+use Rattle.jobs.proofs.Starting.{started-stands}
 use Rattle.jobs.specs.Asked.{asked, numberOf, unusedSet}
 use Rattle.jobs.specs.GroupsAfter.GroupAfterStep.{changed, not-run}
 use Rattle.jobs.specs.GroupsAfter.Refused.{by-fields, by-group}
 use Rattle.jobs.specs.GroupsAfter.{AfterOperation, GroupAfterStep, Group, IsContradicted, Refused, StartGroup}
 use Rattle.jobs.specs.Runs.{afterStep, run, started}
+use Rattle.jobs.specs.Standing.{StandsFor}
 use Rattle.jobs.specs.declared.Step.{Step}
-use Rattle.operations.specs.Cz.{zAt}
 use Rattle.operations.specs.Measurement.{contradicts, pauliLetter}
 use Rattle.operations.specs.Steps.{Operation, argumentLines, complementOf, czOn, gateWith, measurementOf, pivotOf}
 use Rattle.pauli.specs.Pauli.{Pauli}
 use Rattle.record.specs.Lent.{heldRows}
-use Rattle.stabilizer.proofs.EqualRows.{same-group-equal}
 use Rattle.stabilizer.specs.Groups.{InGroup}
 use Rattle.used.proofs.LeftRecords.{used-left}
 use Rattle.used.proofs.UsedPassing.{in-place-counted, used-passes, used-step, with-used-passes}
@@ -41,7 +40,7 @@ use Rattle.used.specs.UsedLaws.{UsedLeft}
 use Rattle.words.specs.Bits.{isOdd}
 use Rattle.claims.proofs.Contradictions.{contradicted-by-group}
 use Rattle.claims.proofs.JobSteps.{HasGroup, operation-stands}
-use Rattle.claims.specs.JobDemand.{JobsStand, RefusedExactly, RunsStand, StandsFor}
+use Rattle.claims.specs.JobDemand.{JobsStand, RefusedExactly, RunsStand}
 
 module _ (u : UsedRecord) (G : Group) (S : StandsFor u G) where
   has-group : HasGroup (u .held) G
@@ -147,7 +146,7 @@ module _ (u : UsedRecord) (G : Group) (S : StandsFor u G) where
           back {p} (not-run r g) = S .elements p .1 g
           back (changed not-refused g) = absurd (not-refused is-refused)
 
-    step-stands : StandsFor (afterStep u s) (GroupAfterStep u G s)
+    pub step-stands : StandsFor (afterStep u s) (GroupAfterStep u G s)
     step-stands = go (ℕ-discrete (numberOf u s) 0)
       where
         go : Dec (numberOf u s ≡ 0) → StandsFor (afterStep u s) (GroupAfterStep u G s)
@@ -165,14 +164,5 @@ runs-stand u G S (s ∷ rest) = runs-stand (afterStep u s) (GroupAfterStep u G s
 
 -- ---- "All qubits start in +Z"
 pub jobs-stand : JobsStand
-jobs-stand n positive upto steps k = runs-stand (started n) (StartGroup n) start (take k steps)
-  where
-    start : StandsFor (started n) (StartGroup n)
-    start =
-        record {
-          still = started-passes n positive upto;
-          elements = λ p. (
-            (λ h. same-group-equal n (heldRows (started n .held)) zAt (started-rows n) .there p h),
-            (λ h. same-group-equal n (heldRows (started n .held)) zAt (started-rows n) .back p h),
-          );
-        }
+jobs-stand n positive upto steps k =
+    runs-stand (started n) (StartGroup n) (started-stands n positive upto) (take k steps)

@@ -19,7 +19,7 @@ use Rattle.stabilizer.proofs.Accepted.{WellFormed, accepted-list, formed-passes
 use Rattle.stabilizer.proofs.SharedTests.{below-passes, count-passes, has-length, length-passes}
 use Rattle.stabilizer.specs.Lists.{GeneratorList, formLines, listLengths, listLines}
 use Rattle.words.proofs.Flags.{neither}
-use Rattle.claims.specs.AcceptedCalls.{IsList, IsRows}
+use Rattle.claims.specs.Arguments.{IsList, IsRows}
 
 -- ---- tests
 pub both-pass : {a b : Bool} → a ≡ false → b ≡ false → (a || b) ≡ false

@@ -16,6 +16,7 @@ use Rattle.job_text.specs.Lines.{jobLines}
 use Rattle.jobs.proofs.Stepwise.{answer-at}
 use Rattle.jobs.specs.GroupsAfter.{GroupAfter, StartGroup}
 use Rattle.jobs.specs.Runs.{recordAfter, run, started}
+use Rattle.jobs.specs.Standing.{StandsFor}
 use Rattle.jobs.specs.declared.Step.{Step}
 use Rattle.call_lists.specs.Calls.{checkLines}
 use Rattle.list_reply.specs.Answer.{answerText as listPrinted}
@@ -27,7 +28,6 @@ use Rattle.text.specs.Text.{Printed, recordText, refusedText, overwritten}
 use Rattle.claims.proofs.GatesFollow.{answer-reduced, answer-still}
 use Rattle.claims.proofs.JobsStand.{jobs-stand}
 use Rattle.claims.proofs.StepLines.{line-says}
-use Rattle.claims.specs.JobDemand.{StandsFor}
 use Rattle.claims.specs.ProgramDemand.{
   JobPrinted,
   JobTextsAnswered,
@@ -38,7 +38,7 @@ use Rattle.claims.specs.ProgramDemand.{
 }
 
 -- the bytes in the buffer up to the end are those printed
-bytes-printed : (bytes before after : List ℕ) (end : ℕ) → Printed bytes 0 before after end → take end after ≡ bytes
+pub bytes-printed : (bytes before after : List ℕ) (end : ℕ) → Printed bytes 0 before after end → take end after ≡ bytes
 unfolding overwritten
 bytes-printed bytes before after end P =
     ap (λ k. take k after) (P .end ∙ zero-add (length bytes)) ∙ ap (take (length bytes)) (P .out)

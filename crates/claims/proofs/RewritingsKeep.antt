@@ -10,6 +10,7 @@ use Rattle.clifford.specs.Clifford.{cliffordOf, identityClifford}
 use Rattle.contracts.specs.Calls.{Call}
 use Rattle.graph.proofs.Complement.{complement-simple}
 use Rattle.graph.specs.Graph.{Simple}
+use Rattle.jobs.specs.Standing.{left}
 use Rattle.operations.proofs.Rewriting.{pivot-same, pivot-simple}
 use Rattle.operations.proofs.UnrefusedRecords.{complement-above}
 use Rattle.operations.specs.Steps.{Operation, complementOf, leaves, pivotOf, pivotRecord}
@@ -23,11 +24,11 @@ use Rattle.stabilizer.proofs.GroupLaws.{same-trans}
 use Rattle.stabilizer.specs.Groups.{SameGroup}
 use Rattle.call_gates.proofs.InPlaceCalls.{left-by-call}
 use Rattle.call_gates.proofs.InPlaceLines.{complement-ready, eight-passes, held-accepted}
-use Rattle.call_gates.specs.InPlaceCalls.{usedCall}
+use Rattle.call_gates.specs.InPlaceCalls.{inPlaceCall, usedCall}
 use Rattle.used.specs.Used.{UsedRecord, usedAfter, usedStep}
 use Rattle.words.proofs.Flags.{neither}
 use Rattle.claims.proofs.GatesFollow.{holds-new}
-use Rattle.claims.specs.OperationsDemand.{ComplementsKeep, PivotsKeep, RewrittenAs, SecondAboutFirst, left}
+use Rattle.claims.specs.OperationsDemand.{ComplementsKeep, RewrittenAs, SecondAboutFirst}
 
 -- ---- complements and pivots
 -- a record rewritten to one of the same group, with code 0 at and above n
@@ -64,7 +65,8 @@ complements-keep l a nb′ cs′ C =
     below : a < l .n
     below = subst (λ m. a < m) (A .neighbours-length) (complement-ready l a (sym (C .number)) .1)
 
-pub pivots-keep : PivotsKeep
+pub pivots-keep : (l : LentRecord) (j k : ℕ) (nb′ cs′ : List ℕ) → Call (inPlaceCall l (pivotOf j k) nb′ cs′) 0
+    → RewrittenAs l (left l nb′ cs′) (pivotRecord (heldRecord l) j k)
 pivots-keep l j k nb′ cs′ C =
     subst (λ r. RewrittenAs l r new) (sym (holds-new l (pivotOf j k) nb′ cs′ C))
     (rewritten-as l A new (pivot-simple n held (A .simple) j k)

@@ -46,7 +46,8 @@ use Rattle.claims.proofs.LinesExactly.{three-fit}
 use Rattle.claims.proofs.SecondDemandLists.{holds-expanded}
 use Rattle.claims.proofs.SessionNumbers.{expanded-rows, member-equal}
 use Rattle.claims.proofs.UsedExactly.{used-cz, used-exactly, used-gate, used-measure}
-use Rattle.claims.specs.AcceptedCalls.{IsRecord, MeasureFits}
+use Rattle.claims.specs.Arguments.{IsRecord}
+use Rattle.claims.specs.families.Records.{MeasureFits}
 use Rattle.claims.specs.SessionDemand.{
   ByExpanding,
   CzByExpanding,

@@ -1,5 +1,5 @@
 -- The examples of the request on faster sessions hold of the definitions: one theorem over the table.
-use mathlib.Core.Path.{refl, _≡_}
+use mathlib.Core.Path.{refl}
 use Rattle.buffers.specs.Buffers.{tabulate}
 use Rattle.buffers.specs.Refusals.{firstFitting, reaching}
 use Rattle.clifford.specs.Clifford.{inverse}
@@ -13,9 +13,10 @@ use Rattle.stabilizer.specs.Lists.{clashing, dependent}
 use Rattle.stabilizer.specs.Membership.{member}
 use Rattle.words.specs.Bits.{bit, fold, put, wordOf}
 use Rattle.words.specs.Search.{every, first, some}
-use Rattle.claims.specs.internal.SessionTable.{expected, given}
+use Rattle.jobs.specs.internal.Examples.{AllHold}
+use Rattle.claims.specs.internal.SessionTable.{table}
 
-pub both-ways : given ≡ expected
+pub both-ways : AllHold table
 unfolding fold put bit wordOf some every first power mul anticommute inverse act tabulate firstFitting
     reaching clashing dependent notSimple isColumnDependent reducedRow graphOf ysOf minusesOf cz member
 both-ways = refl

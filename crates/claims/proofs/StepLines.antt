@@ -13,6 +13,7 @@ use Rattle.jobs.proofs.Numbers.{accepted-number}
 use Rattle.jobs.specs.Asked.{asked, numberOf}
 use Rattle.jobs.specs.GroupsAfter.{Group, Refused}
 use Rattle.jobs.specs.Runs.{answerOf, determinedOf, outcomeOf}
+use Rattle.jobs.specs.Standing.{StandsFor}
 use Rattle.jobs.specs.declared.Step.{Step}
 use Rattle.operations.specs.Measurement.{determinedNumber}
 use Rattle.operations.specs.Steps.{
@@ -32,7 +33,6 @@ use Rattle.used.proofs.UsedPassing.{used-step}
 use Rattle.used.specs.Used.{UsedRecord}
 use Rattle.claims.proofs.JobSteps.{HasGroup, answer-stands}
 use Rattle.claims.proofs.JobsStand.{refused-exactly}
-use Rattle.claims.specs.JobDemand.{StandsFor}
 use Rattle.claims.specs.ProgramDemand.{Determines, LineSays, OutcomeIs}
 
 -- 0 is not 1

@@ -18,7 +18,7 @@ use Rattle.strings.specs.Reading.{lineCount, readLines, stringForm, stringList}
 use Rattle.strings.specs.Strings.{HasStringForm, stringsText}
 use Rattle.words.proofs.Flags.{never-true}
 use Rattle.claims.proofs.StringsExactly.{read-form, read-lines, read-list, read-places, text-of, write-lines}
-use Rattle.claims.specs.AcceptedCalls.{IsList}
+use Rattle.claims.specs.Arguments.{IsList}
 use Rattle.claims.specs.StringsDemand.{FormTold, ListComesBack, StringsDemand, TextComesBack, listLeft}
 
 -- ---- line 1 comes first, and says that the text is that of no list

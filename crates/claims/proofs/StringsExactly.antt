@@ -17,7 +17,8 @@ use Rattle.strings.proofs.FormLaws.{text-form}
 use Rattle.strings.specs.Reading.{byteAt, judgedLines, lineCount, readLines, rowOf, stringForm, stringList, writeLines}
 use Rattle.strings.specs.Strings.{stringsText, textSize}
 use Rattle.claims.proofs.LinesExactly.{list-exactly, three-fit}
-use Rattle.claims.specs.AcceptedCalls.{IsList, ReadStringsFits, WriteStringsFits}
+use Rattle.claims.specs.Arguments.{IsList}
+use Rattle.claims.specs.families.Lists.{ReadStringsFits, WriteStringsFits}
 
 pub write-lines : (l : GeneratorList) (text : List ℕ) → (firstFitting (writeLines l text) ≡ 0) ↔ WriteStringsFits l text
 write-lines l text = (

@@ -12,12 +12,15 @@ use Rattle.contracts.specs.Answers.{later, none}
 use Rattle.operations.specs.Steps.{argumentLines, measurementOf}
 use Rattle.used.proofs.UsedPassing.{in-place-counted, with-used-passes}
 use Rattle.used.specs.Used.{UsedRecord, namesUsed, usedArgumentsOf, usedLinesOf}
-use Rattle.claims.proofs.AcceptedCallsHold.{accepted-exactly}
+use Rattle.claims.proofs.families.Amplitudes.{amplitudes-accepted}
+use Rattle.claims.proofs.families.Expectations.{expectations-accepted}
+use Rattle.claims.proofs.families.Records.{records-accepted}
 use Rattle.claims.proofs.ImageDemandHolds.{images-follow}
 use Rattle.claims.proofs.InPlaceExactly.{against, argument-lines}
 use Rattle.claims.proofs.LinesExactly.{record-exactly, three-fit}
 use Rattle.claims.proofs.UsedExactly.{no-stray, none-wrong}
-use Rattle.claims.specs.AcceptedCalls.{Free, IsRecord, TakenByAll}
+use Rattle.claims.specs.Arguments.{Free, IsRecord}
+use Rattle.claims.specs.families.Records.{TakenByAll}
 
 -- a measurement with arguments in order: 0, or 14
 accepted-or-14 : (u : UsedRecord) (pauli q b : ℕ) → firstFitting (usedArgumentsOf u (measurementOf pauli q b)) ≡ 0 →
@@ -44,18 +47,19 @@ in-order u R pauli q b positive upto free bit =
 pub taken-by-all : (u : UsedRecord) → IsRecord u → TakenByAll u
 taken-by-all u R =
     record {
-      expand = λ s z x s′ z′ x′ r C e f g. accepted-exactly .expand u s z x s′ z′ x′ r C .1 (R, e, f, g);
-      gate = λ q k nb′ cs′ r C e f. accepted-exactly .gate u q k nb′ cs′ r C .1 (R, e, f);
-      cz = λ a b nb′ cs′ r C e f g. accepted-exactly .cz u a b nb′ cs′ r C .1 (R, e, f, g);
+      expand = λ s z x s′ z′ x′ r C e f g. records-accepted .expand u s z x s′ z′ x′ r C .1 (R, e, f, g);
+      gate = λ q k nb′ cs′ r C e f. records-accepted .gate u q k nb′ cs′ r C .1 (R, e, f);
+      cz = λ a b nb′ cs′ r C e f g. records-accepted .cz u a b nb′ cs′ r C .1 (R, e, f, g);
       measure = λ pauli q b answer determined nb′ cs′ used′ answer′ determined′ r C positive upto free bit.
           accepted-or-14 u pauli q b (in-order u R pauli q b positive upto free bit) (C .number);
-      complement = λ a nb′ cs′ r C e. accepted-exactly .complement u a nb′ cs′ r C .1 (R, e);
-      pivot = λ j k nb′ cs′ r C e f g. accepted-exactly .pivot u j k nb′ cs′ r C .1 (R, e, f, g);
+      complement = λ a nb′ cs′ r C e. records-accepted .complement u a nb′ cs′ r C .1 (R, e);
       image = λ image signs list count image′ signs′ list′ count′ r C e f g.
           one-of r (images-follow (u .held) image signs list count r image′ signs′ list′ count′ C
           (record-exactly (u .held) _ false .1
           (R .held, three-fit (u .held .n) (u .held .n) 96 image signs list .1 (e, f, g), refl)) .otherwise);
-      cut = λ side rank rank′ r C e. accepted-exactly .cut u side rank rank′ r C .1 (R, e);
+      cut = λ side rank rank′ r C e. records-accepted .cut u side rank rank′ r C .1 (R, e);
+      amplitude = λ y re im p re′ im′ p′ r C e. amplitudes-accepted .amplitude u y re im p re′ im′ p′ r C .1 (R, e);
+      expectation = λ z x value value′ r C e f. expectations-accepted .expectation u z x value value′ r C .1 (R, e, f);
     }
   where
     one-of : (r : ℕ) {B : Type 0} → ((r ≡ 11 → ⊥) → (r ≡ 12 → ⊥) → (r ≡ 0) × B) →

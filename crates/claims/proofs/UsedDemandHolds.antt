@@ -17,7 +17,7 @@ use Rattle.stabilizer.proofs.Accepted.{AcceptedList, accepted-list}
 use Rattle.stabilizer.specs.Lists.{GeneratorList, rows}
 use Rattle.used.proofs.LeftRecords.{marks-measured, used-left}
 use Rattle.used.proofs.UsedPassing.{unused-number, unused-passes}
-use Rattle.used.proofs.UsedRefusing.{pivot-never, used-refused}
+use Rattle.used.proofs.UsedRefusing.{used-refused}
 use Rattle.used.specs.Used.{UsedRecord, usedAfter, usedLines, usedStep}
 use Rattle.used.specs.internal.UsedLaws.{MeasuredMarks}
 use Rattle.used.specs.UsedLaws.{UsedLeft, UsedStay}
@@ -30,7 +30,6 @@ use Rattle.claims.specs.UsedDemand.{
   MeasuredWithout,
   MeasurementsMark,
   NumbersWithout,
-  PivotNever16,
   ReductionsUnused,
   SecondMeasurementsRefused,
   UsedCallsRefused,
@@ -38,7 +37,7 @@ use Rattle.claims.specs.UsedDemand.{
 }
 
 -- a record that a call leaves, by what its buffers and its used word hold
-left-is : (u : UsedRecord) (o : Operation) (nb′ cs′ : List ℕ) (used′ : ℕ) → Call (usedCall u o nb′ cs′) 0
+pub left-is : (u : UsedRecord) (o : Operation) (nb′ cs′ : List ℕ) (used′ : ℕ) → Call (usedCall u o nb′ cs′) 0
     → used′ ≡ usedAfter u o → leftUsed u nb′ cs′ used′ ≡ (usedStep u o) .after
 left-is u o nb′ cs′ used′ C e = λ i. record {
   held = is-after u o 0 nb′ cs′ C i;
@@ -98,9 +97,6 @@ pub second-measurements-refused : SecondMeasurementsRefused
 second-measurements-refused u pauli q b answer determined nb′ cs′ used′ answer′ determined′ r C =
     let h = used-refused u (measurementOf pauli q b) in
     ((λ e. h .0 (sym (C .number) ∙ e)), (λ p. C .number ∙ h .1 p))
-
-pub pivot-never-16 : PivotNever16
-pivot-never-16 u j k nb′ cs′ r C e = pivot-never u j k (sym (C .number) ∙ e)
 
 -- ---- without the used word
 pub accepted-without : AcceptedWithout

@@ -24,7 +24,9 @@ use Rattle.claims.proofs.InPlaceExactly.{
   pivot-lines,
 }
 use Rattle.claims.proofs.LinesExactly.{both-pass, record-exactly}
-use Rattle.claims.specs.AcceptedCalls.{ComplementFits, CzFits, GateFits, IsRecord, MeasureFits, PivotFits}
+use Rattle.claims.specs.Arguments.{IsRecord}
+use Rattle.claims.specs.families.Records.{ComplementFits, CzFits, GateFits, MeasureFits}
+use Rattle.claims.specs.PivotSteps.{PivotFits}
 
 -- one of the six codes
 six-codes : (c i : ℕ) → i < 6 → c ≡ 2 * i → usedCode c ≡ true

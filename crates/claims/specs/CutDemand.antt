@@ -9,12 +9,12 @@ use Rattle.contracts.specs.Calls.{Call}
 use Rattle.cut.specs.Cut.{crossing, cutRank}
 use Rattle.cut.specs.Kernel.{kernelSize}
 use Rattle.call_cut.specs.Cuts.{cutCall}
-use Rattle.operations.specs.Steps.{complementOf, czOn, gateWith, pivotOf}
+use Rattle.jobs.specs.Standing.{left}
+use Rattle.operations.specs.Steps.{complementOf, czOn, gateWith}
 use Rattle.record.specs.Lent.{LentRecord, heldRecord}
 use Rattle.call_gates.specs.InPlaceCalls.{inPlaceCall}
 use Rattle.used.specs.Used.{UsedRecord}
 use Rattle.words.specs.Bits.{Word, bit}
-use Rattle.claims.specs.OperationsDemand.{left}
 
 -- the rank across a cut of the graph that a lent record holds
 abbrev pub rankAcross : Word → LentRecord → ℕ
@@ -43,12 +43,7 @@ abbrev pub CzKeepsRanks : Type 0
 CzKeepsRanks = (l : LentRecord) (a b : ℕ) (nb′ cs′ : List ℕ) → Call (inPlaceCall l (czOn a b) nb′ cs′) 0 →
     (side : Word) → side a ≡ side b → rankAcross side (left l nb′ cs′) ≡ rankAcross side l
 
--- "complementing at any vertex", and a pivot, which is three of them
+-- "complementing at any vertex"
 abbrev pub ComplementsKeepRanks : Type 0
 ComplementsKeepRanks = (l : LentRecord) (a : ℕ) (nb′ cs′ : List ℕ) → Call (inPlaceCall l (complementOf a) nb′ cs′) 0 →
-    (side : Word) → rankAcross side (left l nb′ cs′) ≡ rankAcross side l
-
--- a pivot, which is three complements, likewise
-abbrev pub PivotsKeepRanks : Type 0
-PivotsKeepRanks = (l : LentRecord) (j k : ℕ) (nb′ cs′ : List ℕ) → Call (inPlaceCall l (pivotOf j k) nb′ cs′) 0 →
     (side : Word) → rankAcross side (left l nb′ cs′) ≡ rankAcross side l

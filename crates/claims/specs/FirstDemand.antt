@@ -1,111 +1,34 @@
 -- Demand 1, of every public call: "A call that is accepted, on any words, codes, signs and qubit numbers, ends with a
 -- complete answer .. A call that is refused .. returns the first fitting number of the published list and changes no
 -- lent byte". That a call ends, and touches no other byte, is what a contract of the language means.
-use mathlib.Core.Bool.{Bool, cond, false, true}
-use mathlib.Core.List.{List, [], map, _∷_}
-use mathlib.Core.Path.{_≡_}
-use Prim.Native.Nat.{ℕ}
-use lib.Dec.{eqb}
-use lib.ListN.{length}
-use Rattle.buffers.specs.Refusals.{Refusal, firstFitting}
-use Rattle.call_compare.specs.Comparisons.{compareCall}
-use Rattle.comparison.specs.Compared.{compareLines}
-use Rattle.contracts.specs.Answers.{Answers, EveryCallAnswers}
-use Rattle.contracts.specs.Calls.{Call, Contract, EachOf, Lent, buffer, number}
-use Rattle.call_cut.specs.Cuts.{cutCall}
-use Rattle.call_generate.specs.Generation.{generateCall}
-use Rattle.generator.specs.Lines.{generateLines}
-use Rattle.image.specs.Image.{imageLines}
-use Rattle.call_image.specs.Images.{imageCall}
-use Rattle.call_orbit.specs.OrbitCalls.{orbitCall, orbitLines}
-use Rattle.call_expand.specs.Expanding.{expandCall, expandLines}
-use Rattle.call_lists.specs.Calls.{checkCall, reduceLines, reduceUnusedCall}
-use Rattle.operations.specs.Steps.{Operation}
-use Rattle.call_product.specs.Products.{productCall}
-use Rattle.call_strings.specs.StringCalls.{readStringsCall, writeStringsCall}
-use Rattle.record.specs.Lent.{LentRecord}
-use Rattle.call_gates.specs.InPlaceCalls.{usedCall, usedMeasureCall}
-use Rattle.stabilizer.specs.Lists.{GeneratorList}
-use Rattle.strings.specs.Reading.{readLines, writeLines}
-use Rattle.used.specs.Used.{UsedRecord}
+use Rattle.contracts.specs.Answers.{EveryCallAnswers}
+use Rattle.claims.specs.families.Amplitudes.{AmplitudesConform}
+use Rattle.claims.specs.families.Comparisons.{ComparisonBuffersUnread, ComparisonsConform}
+use Rattle.claims.specs.families.Expectations.{ExpectationsConform}
+use Rattle.claims.specs.families.Generator.{GenerationBuffersUnread, GenerationsConform}
+use Rattle.claims.specs.families.Lists.{ListBuffersUnread, ListsConform}
+use Rattle.claims.specs.families.Orbits.{OrbitBuffersUnread, OrbitsConform}
+use Rattle.claims.specs.families.Records.{RecordBuffersUnread, RecordsConform}
+use Rattle.claims.specs.families.Stores.{StoreBuffersUnread, StoresConform}
 
--- "the published list": the numbers in checking order; a call tests some of them, in that order. 14 is "checked after
--- 10" (02, §4), and so is 3 (02, §9), 15 "directly after 1 and so before 2" (02, §5), 16 "directly after 8" (02, §8)
-abbrev pub published : List ℕ
-published = 1 ∷ 15 ∷ 2 ∷ 4 ∷ 5 ∷ 6 ∷ 7 ∷ 8 ∷ 16 ∷ 9 ∷ 10 ∷ 3 ∷ 14 ∷ 11 ∷ 12 ∷ 13 ∷ []
-
--- whether the numbers stand in the order of a list, some of its numbers left out
-abbrev pub isSubsequence : List ℕ → List ℕ → Bool
-isSubsequence order [] = true
-isSubsequence [] (k ∷ ks) = false
-isSubsequence (o ∷ order) (k ∷ ks) = cond (eqb o k) (isSubsequence order ks) (isSubsequence order (k ∷ ks))
-
--- "in checking order": a call's lines stand in the order of the published list
-abbrev pub InOrder : List Refusal → Type 0
-InOrder lines = isSubsequence published (map (λ l. l .number) lines) ≡ true
-
--- "a complete answer": it fills the buffer
-abbrev pub Fills : Lent → Type 0
-Fills (buffer before answer after) = length answer ≡ length before
-Fills (number before answer after) = Unit
-
--- what is to show of each call apart
-pub record Conforms (c : Contract) : Type 0 where
-  pub order : InOrder (c .lines)
-  pub complete : firstFitting (c .lines) ≡ 0 → EachOf Fills (c .lent)
-
--- demand 1 of a call that answers r
-pub record Answered (c : Contract) (r : ℕ) : Type 0 where
-  pub answers : Answers c r
-  pub conforms : Conforms c
-
--- what a call answers is all that its contract says: a sentence about two calls with these contracts is one about any
--- two functions of which demand 1 holds
-abbrev pub AnswersSayAll : Type 0
-AnswersSayAll = (c : Contract) (r : ℕ) → Answers c r → Call c r
-
--- demand 1 of every public call: what any contract of the one shape says, and what is to show of each call
+-- demand 1 of every public call: what any contract of the one shape says, and what is to show of each call, by family
 pub record FirstDemand : Type 0 where
   pub every : EveryCallAnswers
-  pub check : (l : GeneratorList) → Conforms (checkCall l)
-  pub reduce : (l : GeneratorList) (nb cs : List ℕ) (used : ℕ) (nb′ cs′ : List ℕ) (used′ : ℕ) →
-      Conforms (reduceUnusedCall l nb cs used nb′ cs′ used′)
-  pub expand : (u : UsedRecord) (s z x s′ z′ x′ : List ℕ) → Conforms (expandCall u s z x s′ z′ x′)
-  pub in-place : (u : UsedRecord) (o : Operation) (nb′ cs′ : List ℕ) → Conforms (usedCall u o nb′ cs′)
-  pub measurements : (u : UsedRecord) (pauli q b answer determined : ℕ) (nb′ cs′ : List ℕ)
-      (used′ answer′ determined′ : ℕ) →
-      Conforms (usedMeasureCall u pauli q b answer determined nb′ cs′ used′ answer′ determined′)
-  pub images : (l : LentRecord) (g s v : List ℕ) (count : ℕ) (g′ s′ v′ : List ℕ) (count′ : ℕ) →
-      Conforms (imageCall l g s v count g′ s′ v′ count′)
-  pub cuts : (u : UsedRecord) (side rank rank′ : ℕ) → Conforms (cutCall u side rank rank′)
-  pub products : (l : GeneratorList) (chosen z x phase z′ x′ phase′ : ℕ) →
-      Conforms (productCall l chosen z x phase z′ x′ phase′)
-  pub comparisons : (l m : GeneratorList) (choice list : List ℕ) (count : ℕ) (choice′ list′ : List ℕ)
-      (count′ : ℕ) → Conforms (compareCall l m choice list count choice′ list′ count′)
-  pub generations : (n count seed : ℕ) (text : List ℕ) (size : ℕ) (text′ : List ℕ) (size′ : ℕ) →
-      Conforms (generateCall n count seed text size text′ size′)
-  pub reads : (t s z x s′ z′ x′ : List ℕ) → Conforms (readStringsCall t s z x s′ z′ x′)
-  pub writes : (l : GeneratorList) (text text′ : List ℕ) → Conforms (writeStringsCall l text text′)
-  pub orbits : (n : ℕ) (neighbours list : List ℕ) (count : ℕ) (list′ : List ℕ) (count′ : ℕ) →
-      Conforms (orbitCall n neighbours list count list′ count′)
+  pub lists : ListsConform
+  pub records : RecordsConform
+  pub comparisons : ComparisonsConform
+  pub generator : GenerationsConform
+  pub orbits : OrbitsConform
+  pub amplitudes : AmplitudesConform
+  pub expectations : ExpectationsConform
+  pub stores : StoresConform
 
 -- "What a buffer lent only for the answer holds before the call makes no line true": buffers of equal lengths give equal
 -- numbers
 pub record AnswerBuffersUnread : Type 0 where
-  pub reduce : (l : GeneratorList) (nb cs nb₂ cs₂ : List ℕ) → length nb ≡ length nb₂ → length cs ≡ length cs₂ →
-      firstFitting (reduceLines l nb cs) ≡ firstFitting (reduceLines l nb₂ cs₂)
-  pub expand : (u : UsedRecord) (s z x s₂ z₂ x₂ : List ℕ) → length s ≡ length s₂ → length z ≡ length z₂ →
-      length x ≡ length x₂ → firstFitting (expandLines u s z x) ≡ firstFitting (expandLines u s₂ z₂ x₂)
-  pub images : (l : LentRecord) (g s v g₂ s₂ v₂ : List ℕ) → length g ≡ length g₂ → length s ≡ length s₂ →
-      length v ≡ length v₂ → firstFitting (imageLines l g s v) ≡ firstFitting (imageLines l g₂ s₂ v₂)
-  pub comparisons : (l m : GeneratorList) (choice list choice₂ list₂ : List ℕ) → length choice ≡ length choice₂ →
-      length list ≡ length list₂ →
-      firstFitting (compareLines l m choice list) ≡ firstFitting (compareLines l m choice₂ list₂)
-  pub generations : (n count seed : ℕ) (text text₂ : List ℕ) → length text ≡ length text₂ →
-      firstFitting (generateLines n count seed text) ≡ firstFitting (generateLines n count seed text₂)
-  pub reads : (t s z x s₂ z₂ x₂ : List ℕ) → length s ≡ length s₂ → length z ≡ length z₂ → length x ≡ length x₂ →
-      firstFitting (readLines t s z x) ≡ firstFitting (readLines t s₂ z₂ x₂)
-  pub writes : (l : GeneratorList) (text text₂ : List ℕ) → length text ≡ length text₂ →
-      firstFitting (writeLines l text) ≡ firstFitting (writeLines l text₂)
-  pub orbits : (n : ℕ) (neighbours list list₂ : List ℕ) → length list ≡ length list₂ →
-      firstFitting (orbitLines n neighbours list) ≡ firstFitting (orbitLines n neighbours list₂)
+  pub lists : ListBuffersUnread
+  pub records : RecordBuffersUnread
+  pub comparisons : ComparisonBuffersUnread
+  pub generator : GenerationBuffersUnread
+  pub orbits : OrbitBuffersUnread
+  pub stores : StoreBuffersUnread

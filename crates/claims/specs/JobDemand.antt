@@ -1,25 +1,16 @@
 -- Jobs: "For all jobs, the record after the first k steps stands for the group that the definitions give, refused
 -- steps counting as no change." (02, §5)
-use mathlib.Core.Bool.{false}
 use mathlib.Core.List.{List}
 use mathlib.Core.Logic.{_↔_}
 use mathlib.Core.Path.{_≡_}
 use Prim.Native.Nat.{ℕ, _≤_}
 use lib.ListN.{take}
-use Rattle.buffers.specs.Refusals.{firstFitting}
 use Rattle.jobs.specs.Asked.{numberOf}
 use Rattle.jobs.specs.GroupsAfter.{Group, GroupAfter, Refused, StartGroup}
 use Rattle.jobs.specs.Runs.{recordAfter, run, started}
+use Rattle.jobs.specs.Standing.{StandsFor}
 use Rattle.jobs.specs.declared.Step.{Step}
-use Rattle.pauli.specs.Pauli.{Pauli}
-use Rattle.record.specs.Lent.{heldRows}
-use Rattle.stabilizer.specs.Groups.{InGroup}
-use Rattle.used.specs.Used.{UsedRecord, usedLines}
-
--- a record stands for a group: no line refuses it, and the products of its generators are the group's elements
-pub record StandsFor (u : UsedRecord) (G : Pauli → Type 0) : Type 0 where
-  pub still : firstFitting (usedLines u false false false) ≡ 0
-  pub elements : (p : Pauli) → InGroup (u .held .n) (u .held .n) (heldRows (u .held)) p ↔ G p
+use Rattle.used.specs.Used.{UsedRecord}
 
 -- of every job, after any number of its steps
 abbrev pub JobsStand : Type 0

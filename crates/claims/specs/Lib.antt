@@ -3,6 +3,9 @@ pub mod PartsDemand
 pub mod ThirdDemand
 pub mod ImageDemand
 pub mod OperationsDemand
+pub mod Conforming
+pub mod Arguments
+pub mod families
 pub mod AcceptedCalls
 pub mod ListDemand
 pub mod CutDemand
@@ -13,7 +16,12 @@ pub mod StringsDemand
 pub mod SessionDemand
 pub mod JobDemand
 pub mod ProgramDemand
+pub mod PlotDemand
 pub mod UsedDemand
 pub mod Sentences
 pub mod OrbitDemand
+pub mod AmplitudeDemand
+pub mod PivotSteps
+pub mod ExpectationDemand
+pub mod StoreDemand
 pub mod internal

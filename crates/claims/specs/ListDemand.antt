@@ -10,6 +10,7 @@ use Rattle.contracts.specs.Calls.{Call}
 use Rattle.graph.specs.Graph.{Graph, Simple}
 use Rattle.call_expand.specs.Expanding.{expandCall}
 use Rattle.call_lists.specs.Calls.{checkCall, reduceCall}
+use Rattle.jobs.specs.Standing.{StillRecord}
 use Rattle.pauli.specs.Pauli.{Pauli, anticommute, minus}
 use Rattle.record.specs.Columns.{ColumnDependent}
 use Rattle.record.specs.Lent.{LentRecord, heldRecord, heldRows}
@@ -19,8 +20,7 @@ use Rattle.stabilizer.specs.Groups.{Generated, InGroup, Independent, SameGroup}
 use Rattle.stabilizer.specs.Lists.{GeneratorList, rows}
 use Rattle.used.specs.Used.{UsedRecord, UsedUnrefused}
 use Rattle.words.specs.Bits.{Word, _⊕_}
-use Rattle.claims.specs.AcceptedCalls.{TakenByAll}
-use Rattle.claims.specs.OperationsDemand.{StillRecord}
+use Rattle.claims.specs.families.Records.{TakenByAll}
 use Rattle.claims.specs.SecondDemand.{unused}
 
 -- ---- lists

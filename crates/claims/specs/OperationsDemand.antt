@@ -1,5 +1,5 @@
 -- Demand 2, of the public calls on a record lent in place: "Gates, CZ, Pauli measurements .. follow the same
--- definition"; and complements and pivots, which keep the group. Each, but for the measurements that are refused, is said
+-- definition"; and complements, which keep the group. Each, but for the measurements that are refused, is said
 -- of an accepted call: its number is 0, and nb′, cs′ are what the two buffers hold at exit. The used word is left out
 -- where it does not matter: an accepted call with it is accepted without it (UsedDemand).
 use mathlib.Core.Bool.{Bool, false, not, true}
@@ -11,12 +11,13 @@ use Rattle.buffers.specs.Refusals.{firstFitting}
 use Rattle.clifford.specs.Clifford.{cliffordOf}
 use Rattle.clifford.specs.Vectors.{only}
 use Rattle.contracts.specs.Calls.{Call}
+use Rattle.jobs.specs.Standing.{StillRecord, left}
 use Rattle.operations.specs.Cz.{IsCz, cz}
 use Rattle.operations.specs.Gates.{gated}
 use Rattle.operations.specs.Measurement.{Measured, pauliLetter, single}
-use Rattle.operations.specs.Steps.{Operation, complementOf, czOn, gateWith, measurementOf, pivotOf, pivotRecord}
+use Rattle.operations.specs.Steps.{Operation, complementOf, czOn, gateWith, measurementOf}
 use Rattle.pauli.specs.Pauli.{Pauli}
-use Rattle.record.specs.Lent.{LentRecord, codeNumbers, heldRecord, heldRows, neighbourWords, recordLines}
+use Rattle.record.specs.Lent.{LentRecord, codeNumbers, heldRecord, heldRows, neighbourWords}
 use Rattle.record.specs.Records.{GraphRecord, SameRecord, complementRecord, rowsOf}
 use Rattle.record.specs.Reduced.{reduced}
 use Rattle.stabilizer.specs.Carries.{Carries}
@@ -24,14 +25,6 @@ use Rattle.stabilizer.specs.Groups.{InGroup, SameGroup}
 use Rattle.call_gates.specs.InPlaceCalls.{inPlaceCall, measureCall, usedCall, usedMeasureCall}
 use Rattle.used.specs.Used.{UsedRecord, usedArgumentsOf, usedStep}
 use Rattle.words.specs.Bits.{isOdd}
-
--- the record that a call leaves
-abbrev pub left : LentRecord → List ℕ → List ℕ → LentRecord
-left l nb cs = record { n = l .n; neighbours = nb; codes = cs }
-
--- it is a record again, so that the next call is about it
-abbrev pub StillRecord : LentRecord → Type 0
-StillRecord l = firstFitting (recordLines l false false) ≡ 0
 
 -- "All three answer the reduced record of the new group"
 pub record IsReduced (l : LentRecord) : Type 0 where
@@ -124,11 +117,6 @@ pub record RewrittenAs (l after : LentRecord) (new : GraphRecord) : Type 0 where
 abbrev pub ComplementsKeep : Type 0
 ComplementsKeep = (l : LentRecord) (a : ℕ) (nb′ cs′ : List ℕ) → Call (inPlaceCall l (complementOf a) nb′ cs′) 0 →
     RewrittenAs l (left l nb′ cs′) (complementRecord (heldRecord l) a)
-
--- of every accepted pivot
-abbrev pub PivotsKeep : Type 0
-PivotsKeep = (l : LentRecord) (j k : ℕ) (nb′ cs′ : List ℕ) → Call (inPlaceCall l (pivotOf j k) nb′ cs′) 0 →
-    RewrittenAs l (left l nb′ cs′) (pivotRecord (heldRecord l) j k)
 
 -- ---- two calls, refused or not: the second is about what the first left
 abbrev pub SecondAboutFirst : Type 0

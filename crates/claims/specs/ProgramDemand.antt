@@ -13,9 +13,10 @@ use Rattle.job_text.specs.Text.{HasJobForm, JobTextOf}
 use Rattle.jobs.specs.Asked.{asked, numberOf}
 use Rattle.jobs.specs.GroupsAfter.{Group, GroupAfter, GroupDetermines, Refused, StartGroup}
 use Rattle.jobs.specs.Runs.{recordAfter, run, started}
+use Rattle.jobs.specs.Standing.{StandsFor, StillRecord}
 use Rattle.jobs.specs.declared.Step.{Step}
 use Rattle.call_lists.specs.Calls.{checkLines}
-use Rattle.list_reply.specs.Answer.{ResponseTo as ListResponse, listRead}
+use Rattle.list_reply.specs.Answer.{ResponseTo as ListResponse, answerText, listRead}
 use Rattle.operations.specs.Measurement.{pauliLetter, single}
 use Rattle.operations.specs.Steps.{Operation, complementOf, czOn, gateWith, measurementOf, pivotOf}
 use Rattle.pauli.specs.Pauli.{Pauli}
@@ -26,8 +27,7 @@ use Rattle.stabilizer.specs.Lists.{GeneratorList, rows}
 use Rattle.text.specs.Text.{HasForm, ListLine, TextOf, recordText, refusedText}
 use Rattle.used.specs.Used.{UsedRecord}
 use Rattle.words.specs.Bits.{isOdd}
-use Rattle.claims.specs.JobDemand.{StandsFor}
-use Rattle.claims.specs.OperationsDemand.{IsReduced, StillRecord}
+use Rattle.claims.specs.OperationsDemand.{IsReduced}
 
 -- ---- `reduce`
 -- the reduced record of a list, in buffers
@@ -59,7 +59,7 @@ pub record ListTextAnswered (t bytes : List ℕ) : Type 0 where
 -- of every response of `reduce`
 abbrev pub ListTextsAnswered : Type 0
 ListTextsAnswered =
-    (t before after : List ℕ) (end : ℕ) → ListResponse t before after end → ListTextAnswered t (take end after)
+    (t before after : List ℕ) (end : ℕ) → ListResponse answerText t before after end → ListTextAnswered t (take end after)
 
 -- ---- `job`
 -- the operation is a measurement, and "the Pauli or its negative is in the group"

@@ -29,7 +29,7 @@ use Rattle.stabilizer.specs.Groups.{SameGroup}
 use Rattle.stabilizer.specs.Lists.{GeneratorList, listOf, rows}
 use Rattle.used.specs.Used.{UsedRecord}
 use Rattle.words.specs.Bits.{isOdd}
-use Rattle.claims.specs.AcceptedCalls.{Free}
+use Rattle.claims.specs.Arguments.{Free}
 
 -- ---- changing a list: what each operation makes of the generators R
 abbrev pub Change : Type 0

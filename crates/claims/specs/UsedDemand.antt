@@ -11,13 +11,13 @@ use Rattle.buffers.specs.Refusals.{firstFitting}
 use Rattle.call_gates.specs.InPlaceCalls.{inPlaceCall, measureCall, usedCall, usedMeasureCall}
 use Rattle.call_lists.specs.Calls.{reduceUnusedCall}
 use Rattle.contracts.specs.Calls.{Call}
-use Rattle.operations.specs.Steps.{Operation, linesOf, measurementOf, pivotOf}
+use Rattle.jobs.specs.Standing.{left}
+use Rattle.operations.specs.Steps.{Operation, linesOf, measurementOf}
 use Rattle.record.specs.Lent.{LentRecord}
 use Rattle.stabilizer.specs.Lists.{GeneratorList}
 use Rattle.used.specs.Used.{UsedRecord, namesUsed, usedLines, usedLinesOf}
 use Rattle.used.specs.UsedLaws.{UsedStay, earlierLines}
 use Rattle.words.specs.Bits.{bit}
-use Rattle.claims.specs.OperationsDemand.{left}
 
 -- a record, with the word of used qubits, that a call leaves
 abbrev pub leftUsed : UsedRecord → List ℕ → List ℕ → ℕ → UsedRecord
@@ -30,7 +30,7 @@ pub record UsedCopied (u : UsedRecord) (nb′ cs′ : List ℕ) : Type 0 where
   -- and the record left, with the same word, is refused by no line
   pub passes : firstFitting (usedLines (leftUsed u nb′ cs′ (u .used)) false false false) ≡ 0
 
--- of every accepted gate, CZ, complement and pivot
+-- of every accepted gate, CZ and complement; a pivot of a job leaves such a record too
 abbrev pub CallsCopy : Type 0
 CallsCopy = (u : UsedRecord) (o : Operation) → ((pauli q b : ℕ) → o ≢ measurementOf pauli q b) → (nb′ cs′ : List ℕ) →
     Call (usedCall u o nb′ cs′) 0 → UsedCopied u nb′ cs′
@@ -58,7 +58,7 @@ MeasurementsMark =
 abbrev pub SixteenExactly : UsedRecord → Operation → ℕ → Type 0
 SixteenExactly u o r = (r ≡ 16) ↔ ((firstFitting (earlierLines u o) ≡ 0) × (namesUsed u o ≡ true))
 
--- of every gate, CZ, complement and pivot
+-- of every gate, CZ and complement
 abbrev pub UsedCallsRefused : Type 0
 UsedCallsRefused = (u : UsedRecord) (o : Operation) (nb′ cs′ : List ℕ) (r : ℕ) → Call (usedCall u o nb′ cs′) r →
     SixteenExactly u o r
@@ -69,11 +69,6 @@ SecondMeasurementsRefused =
     (u : UsedRecord) (pauli q b answer determined : ℕ) (nb′ cs′ : List ℕ) (used′ answer′ determined′ r : ℕ) →
     Call (usedMeasureCall u pauli q b answer determined nb′ cs′ used′ answer′ determined′) r →
     SixteenExactly u (measurementOf pauli q b) r
-
--- a pivot never gives it: a used vertex has no edge, which is 8
-abbrev pub PivotNever16 : Type 0
-PivotNever16 = (u : UsedRecord) (j k : ℕ) (nb′ cs′ : List ℕ) (r : ℕ) → Call (usedCall u (pivotOf j k) nb′ cs′) r →
-    r ≢ 16
 
 -- ---- without the used word
 -- "Past these checks" the calls are as they were: an accepted call is accepted without the word

@@ -1,4 +1,5 @@
 // The comparison of two reduced records: the least choice, the complementation list and its count.
+use buffers::copy_bytes;
 use buffers::copy_list;
 use comparison_groups::induced_codes;
 use comparison_parts::compare_parts;
@@ -15,32 +16,7 @@ ghost use Rattle.image_answer.specs.internal.Answer.{IsImage};
 ghost use Rattle.pauli.specs.Pauli.{Pauli};
 ghost use Rattle.record.specs.Accepted.{AcceptedRecord};
 ghost use Rattle.record.specs.Lent.{heldRecord};
-ghost use Rattle.comparison_answer.specs.internal.ComparedPairs.{HoldsReduced, PairAnswered, earlierOf};
-
-// The number of the line that comes first in checking order; 0 stands for no line.
-pub fn earlier(a: u8, b: u8) -> u8
-    ensures { λ r. ⌜ r ≡ earlierOf a b ⌝ }
-{
-    if a == 0 {
-        return b;
-    }
-    if b == 0 {
-        return a;
-    }
-    if a < b { a } else { b }
-}
-
-// The codes of a choice for every place of the buffer.
-fn copy_choice(from: [u8; 64], to: &mut [u8])
-    requires { ⌜ length (now to) ≤ 64 ⌝ }
-    ensures { λ r. ⌜ now (to .exit) ≡ tabulate (length (now (to .entry))) (λ q. getD from q 0) ⌝ }
-{
-    let mut i = 0;
-    while i < to.len() {
-        to[i] = from[i];
-        i += 1;
-    }
-}
+ghost use Rattle.comparison_answer.specs.internal.ComparedPairs.{HoldsReduced, PairAnswered};
 
 // The image rule on the first record's graph, under the codes that the choice induces between two records; with
 // room for these codes.
@@ -93,7 +69,7 @@ pub fn compare_reduced(
         return 13;
     }
     let chosen = least.choice;
-    copy_choice(chosen, choice);
+    copy_bytes(chosen, choice);
     let mut induced = [0u8; 64];
     let answer = induced_image(n, neighbours, codes, choice, codes2, &mut induced[..n]);
     let vertices = answer.list;

@@ -1,6 +1,7 @@
 // The text of the job that is drawn, in a lent buffer.
 use generator::draw;
 use generator::drawn_step;
+use job_text::op_letters;
 use jobs::Op;
 use jobs::Step;
 use text_print::put;
@@ -14,24 +15,10 @@ ghost use lib.ListN.{length};
 ghost use Rattle.generator.specs.Drawn.{generatedText};
 ghost use Rattle.generator.specs.Lines.{room};
 ghost use Rattle.generator.specs.internal.Shapes.{Small};
-ghost use Rattle.job_text.specs.internal.Scan.{letters};
 ghost use Rattle.job_text.specs.Text.{jobHead, opWord, stepText};
 ghost use Rattle.text.specs.Text.{Printed, space};
 
-// An operation and the space behind it, filled up to 11 bytes.
-fn op_letters(op: Op) -> [u8; 11]
-    ensures { λ r. ⌜ r ≡ letters op ⌝ }
-{
-    match op {
-        Op::Gate => *b"gate \0\0\0\0\0\0",
-        Op::Cz => *b"cz \0\0\0\0\0\0\0\0",
-        Op::Measure => *b"measure \0\0\0",
-        Op::Complement => *b"complement ",
-        Op::Pivot => *b"pivot \0\0\0\0\0",
-    }
-}
-
-// How many of them there are.
+// How many letters an operation and the space behind it have.
 fn op_length(op: Op) -> usize
     ensures { λ r. ⌜ r ≡ length (opWord op ++ space) ⌝ }
 {

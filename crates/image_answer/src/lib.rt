@@ -2,6 +2,8 @@
 use image_rule::bits_of_codes::code_words;
 use image_rule::complementing::Working;
 use image_rule::image_loop::run_rule;
+use record_copies::copied_codes;
+use record_copies::copied_words;
 use words::dot_product;
 use words::has;
 ghost use mathlib.Core.Bool.{cond};
@@ -23,34 +25,6 @@ pub struct ImageAnswer {
     pub signs: [u8; 64],
     pub list: [u8; 96],
     pub count: usize,
-}
-
-// Lent words in an array; 0 past their end.
-fn copied_words(lent: &[u64]) -> [u64; 64]
-    requires { ⌜ length (now lent) ≤ 64 ⌝ }
-    ensures { λ r. ⌜ ((i : ℕ) → getD r i 0 ≡ getD (now (lent .entry)) i 0) ⌝ }
-{
-    let mut words = [0u64; 64];
-    let mut i = 0;
-    while i < lent.len() {
-        words[i] = lent[i];
-        i += 1;
-    }
-    words
-}
-
-// Lent codes in an array; 0 past their end.
-fn copied_codes(lent: &[u8]) -> [u8; 64]
-    requires { ⌜ length (now lent) ≤ 64 ⌝ }
-    ensures { λ r. ⌜ ((i : ℕ) → getD r i 0 ≡ getD (now (lent .entry)) i 0) ⌝ }
-{
-    let mut codes = [0u8; 64];
-    let mut i = 0;
-    while i < lent.len() {
-        codes[i] = lent[i];
-        i += 1;
-    }
-    codes
 }
 
 // The state at the start.

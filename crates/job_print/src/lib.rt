@@ -23,8 +23,8 @@ fn put_number(k: u16, at: usize, out: &mut [u8]) -> usize
     put(48 + (k % 10) as u8, tens, out)
 }
 
-// The number of a step and the space behind it.
-fn put_step(k: u16, at: usize, out: &mut [u8]) -> usize
+// A decimal number below 10,000 and the space behind it.
+pub fn put_long_field(k: u16, at: usize, out: &mut [u8]) -> usize
     requires { ⌜ (k < 10000) × (at + 5 ≤ length (now out)) ⌝ }
     ensures { λ r. ⌜ Printed (digits 4 k ++ space) at (now (out .entry)) (now (out .exit)) r ⌝ }
 {
@@ -55,7 +55,7 @@ pub fn print_result(
         (resultLine k (record { refusal = refusal; outcome = outcome; determined = determined }))
         at (now (out .entry)) (now (out .exit)) r ⌝ }
 {
-    let after_k = put_step(k, at, out);
+    let after_k = put_long_field(k, at, out);
     let after_refusal = put_field(refusal, after_k, out);
     let after_outcome = put_field(outcome, after_refusal, out);
     let after_determined = put_decimal(determined, after_outcome, out);

@@ -1,23 +1,11 @@
 // Reads the operation of a step, letter by letter.
+use job_text::op_letters;
 use job_text::scan::Field;
 use job_text::scan::Place;
 use job_text::scan::Scan;
 use jobs::Op;
 ghost use mathlib.Core.Path.{_≡_};
-ghost use Rattle.job_text.specs.internal.Scan.{withOp, letters, firstOp, afterO, opFor, wordStep};
-
-// An operation and the space after it, filled up to 11 bytes.
-fn letters_of(op: Op) -> [u8; 11]
-    ensures { λ r. ⌜ r ≡ letters op ⌝ }
-{
-    match op {
-        Op::Gate => *b"gate \0\0\0\0\0\0",
-        Op::Cz => *b"cz \0\0\0\0\0\0\0\0",
-        Op::Measure => *b"measure \0\0\0",
-        Op::Complement => *b"complement ",
-        Op::Pivot => *b"pivot \0\0\0\0\0",
-    }
-}
+ghost use Rattle.job_text.specs.internal.Scan.{withOp, firstOp, afterO, opFor, wordStep};
 
 fn with_op(s: Scan, op: Op, place: Place) -> Scan
     ensures { λ r. ⌜ r ≡ withOp s op place ⌝ }
@@ -82,7 +70,7 @@ pub fn word_step(k: usize, s: Scan, b: u8) -> Scan
         return with_op(s, held, Place::Broken);
     }
     let op = op_for(k, held, b);
-    let word = letters_of(op);
+    let word = op_letters(op);
     if b != word[k] {
         return with_op(s, held, Place::Broken);
     }

@@ -1,5 +1,5 @@
 -- The examples hold of the definitions: one theorem over the table.
-use mathlib.Core.Path.{refl, _≡_}
+use mathlib.Core.Path.{refl}
 use Rattle.buffers.specs.Buffers.{tabulate}
 use Rattle.buffers.specs.Refusals.{firstFitting, reaching}
 use Rattle.clifford.specs.Clifford.{inverse}
@@ -14,10 +14,11 @@ use Rattle.stabilizer.specs.Membership.{member}
 use Rattle.used.specs.Used.{usedWrong}
 use Rattle.words.specs.Bits.{bit, fold, put, wordOf}
 use Rattle.words.specs.Search.{every, first, some}
-use Rattle.jobs.specs.internal.JobTable.{expected, given}
+use Rattle.jobs.specs.internal.Examples.{AllHold}
+use Rattle.jobs.specs.internal.JobTable.{table}
 use Rattle.jobs.specs.Runs.{stepAnswers, run}
 
-pub jobs-run : given ≡ expected
+pub jobs-run : AllHold table
 unfolding fold put bit wordOf some every first power mul anticommute inverse act tabulate firstFitting
     reaching clashing dependent notSimple isColumnDependent reducedRow graphOf ysOf minusesOf cz member usedWrong run stepAnswers
 jobs-run = refl

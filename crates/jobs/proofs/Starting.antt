@@ -1,4 +1,5 @@
--- The record that a job starts from: no line refuses it, and its generators are Z at each qubit.
+-- The record that a job starts from: no line refuses it, its generators are Z at each qubit, and so it stands for the
+-- group in which all qubits are in +Z.
 use mathlib.Core.Bool.{Bool, cond, false, true}
 use mathlib.Core.Path.{_∙_, _≡_, ap, ap₂, refl, subst, sym}
 use Prim.Native.Nat.{_*_, _+_, _<_, _≤_, suc, zero, ℕ}
@@ -16,11 +17,14 @@ use Rattle.pauli.specs.Pauli.{_+ᵖ_, i⁰, letter, xBit, zBit}
 use Rattle.record.proofs.WrittenRecords.{record-passes, record-rows-back, writtenRecord}
 use Rattle.record.specs.Lent.{heldRows, recordLines}
 use Rattle.record.specs.Records.{GraphRecord, rowsOf}
+use Rattle.stabilizer.proofs.EqualRows.{same-group-equal}
 use Rattle.used.proofs.UsedPassing.{unused-passes}
 use Rattle.used.specs.Used.{usedLines}
 use Rattle.words.proofs.Sums.{fold-unit}
 use Rattle.words.specs.Bits.{wordOf}
+use Rattle.jobs.specs.GroupsAfter.{StartGroup}
 use Rattle.jobs.specs.Runs.{started}
+use Rattle.jobs.specs.Standing.{StandsFor}
 
 module _ (n : ℕ) where
   -- code 8 below n, and no edge
@@ -48,7 +52,7 @@ module _ (n : ℕ) where
       (tabulate-is n _ (replicate n 8) (length-replicate n 8)
       (λ i l. getD-replicate n i 8 0 l ∙ sym (eights i l)))
 
-  pub started-passes : 1 ≤ n → n ≤ 64 → firstFitting (usedLines (started n) false false false) ≡ 0
+  started-passes : 1 ≤ n → n ≤ 64 → firstFitting (usedLines (started n) false false false) ≡ 0
   started-passes positive upto = unused-passes (started n .held) false false
       (ap (λ l. firstFitting (recordLines l false false)) is-written
       ∙ record-passes n plusZ simple above positive upto)
@@ -87,5 +91,16 @@ module _ (n : ℕ) where
       inside : (q : ℕ) → eqb q j ≡ true → ltb q n ≡ true
       inside q e = lt-ltb q n (subst (λ k. k < n) (sym (eqb-true q j e)) l)
 
-  pub started-rows : (j : ℕ) → j < n → heldRows (started n .held) j ≡ zAt j
+  started-rows : (j : ℕ) → j < n → heldRows (started n .held) j ≡ zAt j
   started-rows j l = ap (λ r. heldRows r j) is-written ∙ record-rows-back n plusZ simple above j ∙ plus-z j l
+
+  -- "All qubits start in +Z"
+  pub started-stands : 1 ≤ n → n ≤ 64 → StandsFor (started n) (StartGroup n)
+  started-stands positive upto =
+      record {
+        still = started-passes positive upto;
+        elements = λ p. (
+          (λ h. same-group-equal n (heldRows (started n .held)) zAt started-rows .there p h),
+          (λ h. same-group-equal n (heldRows (started n .held)) zAt started-rows .back p h),
+        );
+      }

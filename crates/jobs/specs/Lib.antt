@@ -1,4 +1,5 @@
 pub mod Asked
 pub mod Runs
 pub mod GroupsAfter
+pub mod Standing
 pub mod internal

@@ -59,7 +59,7 @@ module _ (l : GeneratorList) (nb cs out : List ℕ) (L : Lent (l .n) nb cs out) 
     abbrev answerCodes : List ℕ
     answerCodes = codeNumbers (l .n) (reduced (l .n) (rows l))
 
-    number-is : number ≡ firstFitting (checkLines l)
+    pub number-is : number ≡ firstFitting (checkLines l)
     number-is = R .number ∙ same-lines
 
     -- a refusal has at most two digits

@@ -7,14 +7,14 @@ use Prim.Native.Nat.{_<_, min, ℕ, _≤_}
 use native.Mathlib.Nat.{min-eq-left}
 use native.Mathlib.Omega.{arith}
 use lib.ListN.{length, replicate, take}
+use Rattle.stabilizer.specs.Lists.{GeneratorList}
 use Rattle.text.proofs.KeptLaws.{count-few, count-many, signs-few, xs-few, zs-few}
 use Rattle.text.proofs.Verdict.{text-judged}
 use Rattle.text.specs.internal.Scan.{Judged, LinesKept, Reading, asReading, verdict}
 use Rattle.text.specs.Text.{HasForm, ListLine, Printed, refusedText}
 use Rattle.text.specs.declared.scan.Verdict.{Verdict}
 use Rattle.words.proofs.Sums.{lt-or-ge}
-use Rattle.list_reply.proofs.Answering.{too-many-printed}
-use Rattle.list_reply.specs.Answer.{Answers, ResponseTo, listRead, answerText}
+use Rattle.list_reply.specs.Answer.{Answers, ResponseTo, listRead}
 use Rattle.list_reply.specs.internal.Places.{ScanOf, listAt}
 
 module _ (t : List ℕ) (v : Verdict) (signs z x : List ℕ) (S : ScanOf t v signs z x) where
@@ -27,59 +27,61 @@ module _ (t : List ℕ) (v : Verdict) (signs z x : List ℕ) (S : ScanOf t v sig
   says-form = subst (λ w. (w .«has_form» ≡ true) ↔ HasForm t) (sym (S .judged)) (read-judged .form)
 
   -- a text without the form
-  pub malformed-answers : v .«has_form» ≡ false → Answers t (refusedText 1)
-  malformed-answers e =
+  pub malformed-answers : (answer : GeneratorList → List ℕ) → v .«has_form» ≡ false → Answers answer t (refusedText 1)
+  malformed-answers answer e =
       record {
         malformed = λ h. refl;
         formed = λ ls T. absurd (true≢false (sym (says-form .1 (ls, T)) ∙ e));
       }
 
-  -- the list of a text with the form
-  same-answer : (ls : List ListLine) → LinesKept ls (asReading (S .scan) signs z x) →
-      answerText (listAt (S .scan .count) signs z x) ≡ answerText (listRead ls)
-  same-answer ls K = ⊎-elim many few (lt-or-ge 64 (length ls))
-    where
-      w : Reading
-      w = asReading (S .scan) signs z x
+  -- the list of a text with the form, where one of more than 64 is refused with 2
+  module _ (answer : GeneratorList → List ℕ)
+      (too-many : (l : GeneratorList) → 64 < l .n → answer l ≡ refusedText 2) where
+    same-answer : (ls : List ListLine) → LinesKept ls (asReading (S .scan) signs z x) →
+        answer (listAt (S .scan .count) signs z x) ≡ answer (listRead ls)
+    same-answer ls K = ⊎-elim many few (lt-or-ge 64 (length ls))
+      where
+        w : Reading
+        w = asReading (S .scan) signs z x
 
-      many : 64 < length ls → answerText (listAt (S .scan .count) signs z x) ≡ answerText (listRead ls)
-      many h =
-          too-many-printed (listAt (S .scan .count) signs z x) (omega (arith, count-many ls w K h))
-          ∙ sym (too-many-printed (listRead ls) h)
+        many : 64 < length ls → answer (listAt (S .scan .count) signs z x) ≡ answer (listRead ls)
+        many h =
+            too-many (listAt (S .scan .count) signs z x) (omega (arith, count-many ls w K h))
+            ∙ sym (too-many (listRead ls) h)
 
-      few : length ls ≤ 64 → answerText (listAt (S .scan .count) signs z x) ≡ answerText (listRead ls)
-      few h =
-          let m : min (length ls) 64 ≡ length ls = min-eq-left h in
-          ap (λ k. answerText (listAt k signs z x)) (count-few ls w K h)
-          ∙ ap answerText (λ i. record {
-            n = length ls;
-            signs = (ap (λ k. take k signs) m ∙ signs-few ls w K h) i;
-            z = (ap (λ k. take k z) m ∙ zs-few ls w K h) i;
-            x = (ap (λ k. take k x) m ∙ xs-few ls w K h) i;
-          })
+        few : length ls ≤ 64 → answer (listAt (S .scan .count) signs z x) ≡ answer (listRead ls)
+        few h =
+            let m : min (length ls) 64 ≡ length ls = min-eq-left h in
+            ap (λ k. answer (listAt k signs z x)) (count-few ls w K h)
+            ∙ ap answer (λ i. record {
+              n = length ls;
+              signs = (ap (λ k. take k signs) m ∙ signs-few ls w K h) i;
+              z = (ap (λ k. take k z) m ∙ zs-few ls w K h) i;
+              x = (ap (λ k. take k x) m ∙ xs-few ls w K h) i;
+            })
 
-  pub formed-answers : v .«has_form» ≡ true → Answers t (answerText (listAt (v .count) signs z x))
-  unfolding verdict
-  formed-answers e =
-      record {
-        malformed = λ h. absurd (h (says-form .0 e));
-        formed = λ ls T. ap (λ k. answerText (listAt k signs z x)) (ap (λ w. w .count) (S .judged))
-            ∙ same-answer ls (read-judged .lines ls T);
-      }
+    pub formed-answers : v .«has_form» ≡ true → Answers answer t (answer (listAt (v .count) signs z x))
+    unfolding verdict
+    formed-answers e =
+        record {
+          malformed = λ h. absurd (h (says-form .0 e));
+          formed = λ ls T. ap (λ k. answer (listAt k signs z x)) (ap (λ w. w .count) (S .judged))
+              ∙ same-answer ls (read-judged .lines ls T);
+        }
 
 -- the answer, printed
-module _ (v : Verdict) (signs z x before after : List ℕ) (end : ℕ) where
+module _ (answer : GeneratorList → List ℕ) (v : Verdict) (signs z x before after : List ℕ) (end : ℕ) where
   pub malformed-responds : v .«has_form» ≡ false → Printed (refusedText 1) 0 before after end →
-      (t : List ℕ) → ScanOf t v signs z x → ResponseTo t before after end
+      (t : List ℕ) → ScanOf t v signs z x → ResponseTo answer t before after end
   malformed-responds e P t S =
-      record { bytes = refusedText 1; answers = malformed-answers t v signs z x S e; out = P }
+      record { bytes = refusedText 1; answers = malformed-answers t v signs z x S answer e; out = P }
 
-  pub formed-responds : v .«has_form» ≡ true →
-      Printed (answerText (listAt (v .count) signs z x)) 0 before after end →
-      (t : List ℕ) → ScanOf t v signs z x → ResponseTo t before after end
-  formed-responds e P t S =
+  pub formed-responds : ((l : GeneratorList) → 64 < l .n → answer l ≡ refusedText 2) → v .«has_form» ≡ true →
+      Printed (answer (listAt (v .count) signs z x)) 0 before after end →
+      (t : List ℕ) → ScanOf t v signs z x → ResponseTo answer t before after end
+  formed-responds too-many e P t S =
       record {
-        bytes = answerText (listAt (v .count) signs z x);
-        answers = formed-answers t v signs z x S e;
+        bytes = answer (listAt (v .count) signs z x);
+        answers = formed-answers t v signs z x S answer too-many e;
         out = P;
       }

@@ -27,13 +27,14 @@ answerText l =
     (codeNumbers (l .n) (reduced (l .n) (rows l))) 0)
     (refusedText (firstFitting (checkLines l)))
 
--- these bytes answer the text t. 1: "The program's text does not have its form"
-pub record Answers (t bytes : List ℕ) : Type 0 where
+-- these bytes answer the text t, where `answer` says what is printed for a list. 1: "The program's text does not have its
+-- form"
+pub record Answers (answer : GeneratorList → List ℕ) (t bytes : List ℕ) : Type 0 where
   pub malformed : (HasForm t → ⊥) → bytes ≡ refusedText 1
-  pub formed : (ls : List ListLine) → TextOf ls t → bytes ≡ answerText (listRead ls)
+  pub formed : (ls : List ListLine) → TextOf ls t → bytes ≡ answer (listRead ls)
 
 -- the answer to the text t was printed
-pub record ResponseTo (t before after : List ℕ) (r : ℕ) : Type 0 where
+pub record ResponseTo (answer : GeneratorList → List ℕ) (t before after : List ℕ) (r : ℕ) : Type 0 where
   pub bytes : List ℕ
-  pub answers : Answers t bytes
+  pub answers : Answers answer t bytes
   pub out : Printed bytes 0 before after r

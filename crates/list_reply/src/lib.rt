@@ -64,7 +64,7 @@ fn answer(n: usize, signs: [u8; 64], z: [u64; 64], x: [u64; 64], out: &mut [u8])
 pub fn reply(verdict: Verdict, signs: [u8; 64], z: [u64; 64], x: [u64; 64], out: &mut [u8]) -> usize
     requires { ⌜ longest ≤ length (now out) ⌝ }
     ensures { λ r. ⌜ ((t : List ℕ) → ScanOf t verdict signs z x
-        → ResponseTo t (now (out .entry)) (now (out .exit)) r) ⌝ }
+        → ResponseTo answerText t (now (out .entry)) (now (out .exit)) r) ⌝ }
 {
     if verdict.has_form {
         return answer(verdict.count, signs, z, x, out);

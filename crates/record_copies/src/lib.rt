@@ -1,4 +1,8 @@
-// Records copied into other buffers.
+// Lent records copied into other buffers, and into arrays.
+mod arrays;
+
+pub use arrays::copied_codes;
+pub use arrays::copied_words;
 ghost use mathlib.Core.Path.{_≡_};
 ghost use lib.ListN.{length};
 

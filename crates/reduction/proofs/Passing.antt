@@ -19,7 +19,6 @@ use Rattle.stabilizer.proofs.Within.{anticommute-wide, chosen-within, mul-wide,
 use Rattle.stabilizer.specs.internal.Elimination.{clear, lend, pivotOn}
 use Rattle.stabilizer.specs.Elimination.{shear}
 use Rattle.stabilizer.specs.Groups.{Commuting, chosen}
-use Rattle.stabilizer.specs.internal.Tableau.{tableau}
 use Rattle.words.proofs.BitLaws.{bit-and, bit-xor, lt-of-bits, zero-bit}
 use Rattle.words.proofs.Finite.{bits}
 use Rattle.words.proofs.Places.{other-place}
@@ -27,6 +26,7 @@ use Rattle.words.proofs.Sums.{lt-or-ge}
 use Rattle.words.proofs.Trailing.{trailing-set}
 use Rattle.words.specs.Bits.{Word, bit, put, _⊕_}
 use Rattle.reduction.specs.internal.Passes.{Eliminated, Loaded, PivotReady, pivot, pivoted, skip, start}
+use Rattle.reduction.specs.internal.Relative.{relative}
 
 -- ---- at 64 qubits and rows instead of n
 module _ (n : ℕ) (l : n ≤ 64) (R : ℕ → Pauli) (L : Loaded n R) where
@@ -179,9 +179,9 @@ eliminated-at {n} {R₀} {w₀} {R} {w} e E = subst (Eliminated n R₀ w₀ R w)
 pub same-state : {n : ℕ} {R₀ : ℕ → Pauli} {w₀ : Word} {signs signs′ pivots pivots′ q : ℕ}
     {rows rows′ : List (List ℕ)} →
     signs′ ≡ signs → pivots′ ≡ pivots → rows′ ≡ rows →
-    Eliminated n R₀ w₀ (tableau signs rows) (bit pivots) q
-    → Eliminated n R₀ w₀ (tableau signs′ rows′) (bit pivots′) q
+    Eliminated n R₀ w₀ (relative signs rows) (bit pivots) q
+    → Eliminated n R₀ w₀ (relative signs′ rows′) (bit pivots′) q
 same-state {n} {R₀} {w₀} {signs} {signs′} {pivots} {pivots′} {q} {rows} {rows′} es ep er E =
-    subst (λ p. Eliminated n R₀ w₀ (tableau signs′ rows′) (bit p) q) (sym ep)
-    (subst (λ s. Eliminated n R₀ w₀ (tableau s rows′) (bit pivots) q) (sym es)
-    (subst (λ v. Eliminated n R₀ w₀ (tableau signs v) (bit pivots) q) (sym er) E))
+    subst (λ p. Eliminated n R₀ w₀ (relative signs′ rows′) (bit p) q) (sym ep)
+    (subst (λ s. Eliminated n R₀ w₀ (relative s rows′) (bit pivots) q) (sym es)
+    (subst (λ v. Eliminated n R₀ w₀ (relative signs v) (bit pivots) q) (sym er) E))

@@ -2,13 +2,14 @@
 use mathlib.Core.Bool.{_&&_, Bool, and-false, and-true, false, not, true, true≢false}
 use mathlib.Core.List.{List, []}
 use mathlib.Core.Logic.{inl, inr, _⊎_}
-use mathlib.Core.Path.{ap, ap₂, fun-ext, subst, sym, _∙_, _≡_}
-use Prim.Native.Nat.{_+_, _<_, _^_, zero-le, ℕ, _≤_}
+use mathlib.Core.Path.{ap, ap₂, fun-ext, refl, subst, sym, _∙_, _≡_}
+use Prim.Native.Nat.{_*_, _+_, _-_, _<_, _^_, suc, zero-le, ℕ, _≤_}
 use native.Mathlib.Decide.{ℕ-discrete}
-use native.Mathlib.Nat.{le-refl, lt-irrefl}
+use native.Mathlib.Nat.{add-zero, le-refl, lt-irrefl, lt-of-lt-of-le, mul-comm, zero-add}
 use native.Mathlib.Omega.{arith}
 use lib.Dec.{eqb, ltb}
 use lib.ListN.{List·getD-eq-default, getD, length}
+use lib.Pow.{pow-mono}
 use borrow.Author.Tests.{eqb-true, le-ltb, lt-ltb}
 use Rattle.pauli.proofs.PauliLaws.{mul-identity}
 use Rattle.pauli.specs.Pauli.{Pauli, anticommute, mul}
@@ -16,45 +17,83 @@ use Rattle.stabilizer.proofs.RowOperations.{clear-self, lend-self, shear-commut
 use Rattle.stabilizer.specs.internal.Elimination.{clear, lend, pivotOn}
 use Rattle.stabilizer.specs.Elimination.{shear}
 use Rattle.stabilizer.specs.Groups.{chosen}
-use Rattle.stabilizer.specs.internal.Tableau.{tableau}
-use Rattle.words.proofs.BitLaws.{bit-single, zero-bit}
+use Rattle.words.proofs.BitLaws.{bit-above, bit-single, bit-wordOf, wordOf-lt, zero-bit}
 use Rattle.words.proofs.Finite.{⊕-zero}
 use Rattle.words.proofs.Places.{other-place, put-all, put-other, put-same, same-place, upto-other}
 use Rattle.words.proofs.Sums.{lt-or-ge}
-use Rattle.words.specs.Bits.{bit, put, _⊕_}
+use Rattle.words.specs.Bits.{Word, bit, digit, put, wordOf, _⊕_}
 use Rattle.reduction.specs.internal.Passes.{PivotReady}
+use Rattle.reduction.specs.internal.Relative.{relative}
 
--- ---- the word of a column: the rows below i that have x bit q
-pub record ColumnBelow (rows : List (List ℕ)) (q word i : ℕ) : Type 0 where
-  pub named : (j : ℕ) → bit word j ≡ (ltb j i && bit (getD (getD rows j []) 1 0) q)
+-- ---- a word made row after row: the rows below i that pass
+pub record NamedBelow (f : Word) (word i : ℕ) : Type 0 where
+  pub named : (j : ℕ) → bit word j ≡ (ltb j i && f j)
 
-pub column-start : (rows : List (List ℕ)) (q : ℕ) → ColumnBelow rows q 0 0
-column-start rows q =
-    record {
-      named = λ j. zero-bit j
-          ∙ sym (ap (λ b. b && bit (getD (getD rows j []) 1 0) q) (le-ltb j 0 zero-le));
-    }
+pub named-start : (f : Word) → NamedBelow f 0 0
+named-start f = record { named = λ j. zero-bit j ∙ sym (ap (λ b. b && f j) (le-ltb j 0 zero-le)) }
 
-pub column-step : (rows : List (List ℕ)) (q word i : ℕ) → ColumnBelow rows q word i → (word′ : ℕ) (b : Bool) →
-    b ≡ bit (getD (getD rows i []) 1 0) q → ((j : ℕ) → bit word′ j ≡ bit word j ⊕ (eqb j i && b)) →
-    ColumnBelow rows q word′ (i + 1)
-column-step rows q word i C word′ b e h =
+pub named-step : (f : Word) (word i : ℕ) → NamedBelow f word i → (word′ : ℕ) (b : Bool) → b ≡ f i
+    → ((j : ℕ) → bit word′ j ≡ bit word j ⊕ (eqb j i && b)) → NamedBelow f word′ (i + 1)
+named-step f word i C word′ b e h =
     record { named = λ j. h j ∙ ap₂ (λ u v. u ⊕ (eqb j i && v)) (C .named j) e ∙ at j (ℕ-discrete j i) }
   where
-    at : (j : ℕ) → Dec (j ≡ i) →
-        (ltb j i && bit (getD (getD rows j []) 1 0) q) ⊕ (eqb j i && bit (getD (getD rows i []) 1 0) q)
-        ≡ (ltb j (i + 1) && bit (getD (getD rows j []) 1 0) q)
+    at : (j : ℕ) → Dec (j ≡ i) → (ltb j i && f j) ⊕ (eqb j i && f i) ≡ (ltb j (i + 1) && f j)
     at j (yes p) =
-        subst (λ v. (ltb v i && bit (getD (getD rows v []) 1 0) q)
-        ⊕ (eqb v i && bit (getD (getD rows i []) 1 0) q)
-        ≡ (ltb v (i + 1) && bit (getD (getD rows v []) 1 0) q)) (sym p)
-        (ap₂ (λ u v. (u && bit (getD (getD rows i []) 1 0) q) ⊕ (v && bit (getD (getD rows i []) 1 0) q))
-        (le-ltb i i (le-refl i)) (same-place i)
-        ∙ sym (ap (λ u. u && bit (getD (getD rows i []) 1 0) q) (lt-ltb i (i + 1) (omega arith))))
+        subst (λ v. (ltb v i && f v) ⊕ (eqb v i && f i) ≡ (ltb v (i + 1) && f v)) (sym p)
+        (ap₂ (λ u v. (u && f i) ⊕ (v && f i)) (le-ltb i i (le-refl i)) (same-place i)
+        ∙ sym (ap (λ u. u && f i) (lt-ltb i (i + 1) (omega arith))))
     at j (no d) =
-        ap (λ u. (ltb j i && bit (getD (getD rows j []) 1 0) q)
-        ⊕ (u && bit (getD (getD rows i []) 1 0) q)) (other-place d)
-        ∙ ⊕-zero _ ∙ ap (λ u. u && bit (getD (getD rows j []) 1 0) q) (sym (upto-other j i d))
+        ap (λ u. (ltb j i && f j) ⊕ (u && f i)) (other-place d)
+        ∙ ⊕-zero _ ∙ ap (λ u. u && f j) (sym (upto-other j i d))
+
+-- ---- a word made from the highest row down: the rows from j on, j at bit 0
+pub record NamedFrom (n : ℕ) (f : Word) (word j : ℕ) : Type 0 where
+  pub count : ℕ
+  pub reaches : count + j ≡ n
+  pub held : word ≡ wordOf count (λ t. f (j + t))
+
+module _ (n : ℕ) (f : Word) where
+  pub from-start : NamedFrom n f 0 n
+  unfolding wordOf
+  from-start = record { count = 0; reaches = zero-add n; held = refl }
+
+  pub from-step : (word j : ℕ) → NamedFrom n f word j → 0 < j → (b : ℕ) → b ≡ digit (f (j - 1))
+      → NamedFrom n f (2 * word + b) (j - 1)
+  unfolding wordOf
+  from-step word j N l b e =
+      record {
+        count = suc (N .count);
+        reaches = omega (arith, N .reaches);
+        held =
+            ap₂ _+_ (mul-comm 2 word
+            ∙ ap (λ v. v * 2) (N .held ∙ ap (wordOf (N .count)) (fun-ext (λ t. ap f (next t)))))
+            (e ∙ ap (λ v. digit (f v)) (sym (add-zero (j - 1))));
+      }
+    where
+      next : (t : ℕ) → j + t ≡ (j - 1) + suc t
+      next t = omega arith
+
+  pub from-small : (word j : ℕ) → NamedFrom n f word j → 0 < j → n ≤ 64 → word < 2 ^ 63
+  from-small word j N k l = subst (λ v. v < 2 ^ 63) (sym (N .held))
+      (lt-of-lt-of-le (wordOf-lt (N .count) _) (pow-mono few))
+    where
+      few : N .count ≤ 63
+      few = omega (arith, N .reaches)
+
+  pub from-end : (word j : ℕ) → NamedFrom n f word j → j ≡ 0 → (i : ℕ) → bit word i ≡ (ltb i n && f i)
+  from-end word j N z i = ap (λ v. bit v i) (N .held) ∙ go (lt-or-ge i n)
+    where
+      all : N .count ≡ n
+      all = omega (arith, N .reaches)
+
+      at : (j : ℕ) → j ≡ 0 → j + i ≡ i
+      at j z = omega arith
+
+      go : (i < n) ⊎ (n ≤ i) → bit (wordOf (N .count) (λ t. f (j + t))) i ≡ (ltb i n && f i)
+      go (inl l) = bit-wordOf (N .count) (λ t. f (j + t)) i (subst (λ m. i < m) (sym all) l)
+          ∙ ap f (at j z) ∙ sym (ap (λ b. b && f i) (lt-ltb i n l))
+      go (inr l) = bit-above (N .count) _ (wordOf-lt (N .count) _) i (subst (λ m. m ≤ i) (sym all) l)
+          ∙ sym (ap (λ b. b && f i) (le-ltb i n l))
 
 -- ---- the bit lent
 module _ (R : ℕ → Pauli) (q i holders : ℕ) (P : PivotReady R q i holders) where
@@ -124,6 +163,6 @@ module _ (R : ℕ → Pauli) (q i holders : ℕ) (P : PivotReady R q i holders) 
 
 -- a row past the array has no bit
 pub far-row : (rows : List (List ℕ)) (signs q : ℕ) → length rows ≡ 64 → (j : ℕ) → 64 ≤ j →
-    (tableau signs rows j) .x q ≡ false
+    (relative signs rows j) .x q ≡ false
 far-row rows signs q e j l =
     ap (λ v. bit (getD v 1 0) q) (List·getD-eq-default rows [] (subst (λ k. k ≤ j) (sym e) l)) ∙ zero-bit q

@@ -15,30 +15,30 @@ use Rattle.pauli.proofs.WordRows.{signed-mul}
 use Rattle.pauli.specs.Pauli.{Pauli, anticommute, i⁰, minus, mul, row, signedRow}
 use Rattle.stabilizer.specs.Elimination.{shear}
 use Rattle.stabilizer.specs.Groups.{chosen}
-use Rattle.stabilizer.specs.internal.Tableau.{tableau}
 use Rattle.words.proofs.BitLaws.{bit-above, bit-flip, lt-of-bits, zero-bit}
-use Rattle.words.proofs.Finite.{unequal, ⊕-assoc, ⊕-zero}
+use Rattle.words.proofs.Finite.{bits, unequal, ⊕-zero}
 use Rattle.words.proofs.Places.{other-place, same-place}
 use Rattle.words.proofs.Trailing.{trailing-set}
 use Rattle.words.specs.Bits.{bit, _⊕_}
+use Rattle.reduction.specs.internal.Relative.{halfY, relative, relativeRow}
 
 module _ (rows₀ : List (List ℕ)) (signs₀ a named : ℕ) where
   -- what the rows named, but not left in rest, have become
   abbrev partly : ℕ → ℕ → Pauli
-  partly rest = shear 64 (tableau signs₀ rows₀) a (λ k. bit named k && not (bit rest k))
+  partly rest = shear 64 (relative signs₀ rows₀) a (λ k. bit named k && not (bit rest k))
 
   pub record Sheared (rows : List (List ℕ)) (signs rest : ℕ) : Type 0 where
     pub long : length rows ≡ 64
     pub part : (j : ℕ) → bit rest j ≡ true → bit named j ≡ true
     pub sheared : (j : ℕ) →
-        tableau signs rows j ≡ shear 64 (tableau signs₀ rows₀) a (λ k. bit named k && not (bit rest k)) j
+        relative signs rows j ≡ shear 64 (relative signs₀ rows₀) a (λ k. bit named k && not (bit rest k)) j
 
   -- a row that is not named stays
   not-named : (b : Bool) (j : ℕ) → b ≡ false →
-      mul 64 (tableau signs₀ rows₀ j) (chosen b (tableau signs₀ rows₀ a)) ≡ tableau signs₀ rows₀ j
+      mul 64 (relative signs₀ rows₀ j) (chosen b (relative signs₀ rows₀ a)) ≡ relative signs₀ rows₀ j
   not-named b j e =
-      ap (λ b. mul 64 (tableau signs₀ rows₀ j) (chosen b (tableau signs₀ rows₀ a))) e
-      ∙ mul-identity 64 (tableau signs₀ rows₀ j)
+      ap (λ b. mul 64 (relative signs₀ rows₀ j) (chosen b (relative signs₀ rows₀ a))) e
+      ∙ mul-identity 64 (relative signs₀ rows₀ j)
 
   pub shear-start : length rows₀ ≡ 64 → Sheared rows₀ signs₀ named
   shear-start l =
@@ -53,10 +53,10 @@ module _ (rows₀ : List (List ℕ)) (signs₀ a named : ℕ) where
       and-not true = refl
 
   pub shear-end : (rows : List (List ℕ)) (signs rest : ℕ) → Sheared rows signs rest → rest ≡ 0 → (j : ℕ) →
-      tableau signs rows j ≡ shear 64 (tableau signs₀ rows₀) a (bit named) j
+      relative signs rows j ≡ shear 64 (relative signs₀ rows₀) a (bit named) j
   shear-end rows signs rest S e j =
       S .sheared j
-      ∙ ap (λ b. mul 64 (tableau signs₀ rows₀ j) (chosen b (tableau signs₀ rows₀ a)))
+      ∙ ap (λ b. mul 64 (relative signs₀ rows₀ j) (chosen b (relative signs₀ rows₀ a)))
       (ap (λ b. bit named j && not b) (ap (λ v. bit v j) e ∙ zero-bit j) ∙ and-true (bit named j))
 
   -- rest has bits of named alone, so it is a word of 64 bits too
@@ -79,12 +79,12 @@ module _ (rows₀ : List (List ℕ)) (signs₀ a named : ℕ) where
   module _ (rows : List (List ℕ)) (signs rest j : ℕ) (S : Sheared rows signs rest) (left : bit rest j ≡ true)
       (hj : j < 64)
       (commute : (j : ℕ) → bit named j ≡ true →
-      anticommute 64 (tableau signs₀ rows₀ j) (tableau signs₀ rows₀ a) ≡ false) where
+      anticommute 64 (relative signs₀ rows₀ j) (relative signs₀ rows₀ a) ≡ false) where
     is-named : bit named j ≡ true
     is-named = S .part j left
 
     -- it is still what it was
-    still : tableau signs rows j ≡ tableau signs₀ rows₀ j
+    still : relative signs rows j ≡ relative signs₀ rows₀ j
     still = S .sheared j
         ∙ not-named (bit named j && not (bit rest j)) j (ap (λ b. bit named j && not b) left
         ∙ and-false (bit named j))
@@ -94,12 +94,16 @@ module _ (rows₀ : List (List ℕ)) (signs₀ a named : ℕ) where
         anticommute 64 (row i⁰ (getD (getD rows j []) 0 0) (getD (getD rows j []) 1 0))
         (row i⁰ (getD (getD rows₀ a []) 0 0) (getD (getD rows₀ a []) 1 0)) ≡ false
     next-commutes =
-        anticommute-letters 64 (tableau signs rows j) (tableau signs₀ rows₀ a) i⁰ i⁰
-        ∙ ap (λ p. anticommute 64 p (tableau signs₀ rows₀ a)) still ∙ commute j is-named
+        anticommute-letters 64 (relative signs rows j) (relative signs₀ rows₀ a) i⁰ i⁰
+        ∙ ap (λ p. anticommute 64 p (relative signs₀ rows₀ a)) still ∙ commute j is-named
 
     module _ (rows′ : List (List ℕ)) (signs′ rest′ : ℕ) (sign negative : Bool) (b : sign ≡ bit signs₀ a)
         (m : (mul 64 (row i⁰ (getD (getD rows j []) 0 0) (getD (getD rows j []) 1 0))
-        (row i⁰ (getD (getD rows₀ a []) 0 0) (getD (getD rows₀ a []) 1 0))) .phase ≡ minus negative)
+        (row i⁰ (getD (getD rows₀ a []) 0 0) (getD (getD rows₀ a []) 1 0))) .phase
+        ≡ minus (((negative ⊕ halfY (getD (getD rows j []) 0 0) (getD (getD rows j []) 1 0))
+        ⊕ halfY (getD (getD rows₀ a []) 0 0) (getD (getD rows₀ a []) 1 0))
+        ⊕ halfY (bitXor (getD (getD rows j []) 0 0) (getD (getD rows₀ a []) 0 0))
+        (bitXor (getD (getD rows j []) 1 0) (getD (getD rows₀ a []) 1 0))))
         (r : rows′ ≡ set rows j (bitXor (getD (getD rows j []) 0 0) (getD (getD rows₀ a []) 0 0)
         ∷ bitXor (getD (getD rows j []) 1 0) (getD (getD rows₀ a []) 1 0) ∷ []))
         (s : (k : ℕ) → bit signs′ k ≡ bit signs k ⊕ (eqb k j && not (Bool·beq sign negative)))
@@ -107,25 +111,41 @@ module _ (rows₀ : List (List ℕ)) (signs₀ a named : ℕ) where
       bit-rest : (k : ℕ) → bit rest′ k ≡ bit rest k ⊕ eqb k j
       bit-rest k = ap (λ v. bit v k) f ∙ bit-flip rest j k
 
-      -- the new row j is the product
-      here : tableau signs′ rows′ j ≡ mul 64 (tableau signs₀ rows₀ j) (tableau signs₀ rows₀ a)
-      here =
-          ap₂ (λ (b : Bool) (v : List ℕ). signedRow b (getD v 0 0) (getD v 1 0)) sign-is
-          (ap (λ v. getD v j []) r ∙ getD-set-same rows j _ [] (subst (λ k. j < k) (sym (S .long)) hj))
-          ∙ sym (signed-mul 64 (getD (getD rows j []) 0 0) (getD (getD rows j []) 1 0)
-          (getD (getD rows₀ a []) 0 0)
-          (getD (getD rows₀ a []) 1 0) (bit signs j) (bit signs₀ a) negative m)
-          ∙ ap (λ p. mul 64 p (tableau signs₀ rows₀ a)) still
-        where
-          sign-is : bit signs′ j ≡ (bit signs j ⊕ bit signs₀ a) ⊕ negative
-          sign-is =
-              s j ∙ ap (λ v. bit signs j ⊕ (v && not (Bool·beq sign negative))) (same-place j)
-              ∙ ap (λ v. bit signs j ⊕ v) (unequal sign negative ∙ ap (λ v. v ⊕ negative) b)
-              ∙ sym (⊕-assoc (bit signs j) (bit signs₀ a) negative)
+      -- the halves of the counts of Y: of row j, of row a and of their product
+      abbrev half : Bool
+      half = halfY (getD (getD rows j []) 0 0) (getD (getD rows j []) 1 0)
 
-      there : (k : ℕ) → k ≢ j → tableau signs′ rows′ k ≡ tableau signs rows k
+      abbrev half-a : Bool
+      half-a = halfY (getD (getD rows₀ a []) 0 0) (getD (getD rows₀ a []) 1 0)
+
+      abbrev half′ : Bool
+      half′ = halfY (bitXor (getD (getD rows j []) 0 0) (getD (getD rows₀ a []) 0 0))
+          (bitXor (getD (getD rows j []) 1 0) (getD (getD rows₀ a []) 1 0))
+
+      -- the new row j is the product
+      here : relative signs′ rows′ j ≡ mul 64 (relative signs₀ rows₀ j) (relative signs₀ rows₀ a)
+      here =
+          ap₂ relativeRow (s j ∙ ap (λ v. bit signs j ⊕ (v && not (Bool·beq sign negative))) (same-place j))
+          (ap (λ v. getD v j []) r ∙ getD-set-same rows j _ [] (subst (λ k. j < k) (sym (S .long)) hj))
+          ∙ ap (λ t. signedRow t (bitXor (getD (getD rows j []) 0 0) (getD (getD rows₀ a []) 0 0))
+          (bitXor (getD (getD rows j []) 1 0) (getD (getD rows₀ a []) 1 0))) sign-is
+          ∙ sym (signed-mul 64 (getD (getD rows j []) 0 0) (getD (getD rows j []) 1 0)
+          (getD (getD rows₀ a []) 0 0) (getD (getD rows₀ a []) 1 0) (bit signs j ⊕ half) (bit signs₀ a ⊕ half-a)
+          (((negative ⊕ half) ⊕ half-a) ⊕ half′) m)
+          ∙ ap (λ p. mul 64 p (relative signs₀ rows₀ a)) still
+        where
+          sums : (u v w h k l : Bool) → (u ⊕ (v ⊕ w)) ⊕ l ≡ ((u ⊕ h) ⊕ (v ⊕ k)) ⊕ (((w ⊕ h) ⊕ k) ⊕ l)
+          sums = bits 6 (λ u v w h k l. (u ⊕ (v ⊕ w)) ⊕ l) (λ u v w h k l. ((u ⊕ h) ⊕ (v ⊕ k)) ⊕ (((w ⊕ h) ⊕ k) ⊕ l)) tt
+
+          sign-is : (bit signs j ⊕ not (Bool·beq sign negative)) ⊕ half′
+              ≡ ((bit signs j ⊕ half) ⊕ (bit signs₀ a ⊕ half-a)) ⊕ (((negative ⊕ half) ⊕ half-a) ⊕ half′)
+          sign-is =
+              ap (λ v. (bit signs j ⊕ v) ⊕ half′) (unequal sign negative ∙ ap (λ v. v ⊕ negative) b)
+              ∙ sums (bit signs j) (bit signs₀ a) negative half half-a half′
+
+      there : (k : ℕ) → k ≢ j → relative signs′ rows′ k ≡ relative signs rows k
       there k d =
-          ap₂ (λ (b : Bool) (v : List ℕ). signedRow b (getD v 0 0) (getD v 1 0))
+          ap₂ relativeRow
           (s k ∙ ap (λ v. bit signs k ⊕ (v && not (Bool·beq sign negative))) (other-place d)
           ∙ ⊕-zero (bit signs k))
           (ap (λ v. getD v k []) r ∙ getD-set-other rows j k _ [] d)
@@ -146,13 +166,13 @@ module _ (rows₀ : List (List ℕ)) (signs₀ a named : ℕ) where
           done-here : (bit named j && not (bit rest′ j)) ≡ true
           done-here = ap₂ (λ u v. u && not v) is-named (bit-rest j ∙ ap₂ _⊕_ left (same-place j))
 
-          at : (k : ℕ) → Dec (k ≡ j) → tableau signs′ rows′ k ≡ partly rest′ k
+          at : (k : ℕ) → Dec (k ≡ j) → relative signs′ rows′ k ≡ partly rest′ k
           at k (yes p) =
-              subst (λ v. tableau signs′ rows′ v ≡ partly rest′ v) (sym p)
-              (here ∙ ap (λ b. mul 64 (tableau signs₀ rows₀ j) (chosen b (tableau signs₀ rows₀ a)))
+              subst (λ v. relative signs′ rows′ v ≡ partly rest′ v) (sym p)
+              (here ∙ ap (λ b. mul 64 (relative signs₀ rows₀ j) (chosen b (relative signs₀ rows₀ a)))
               (sym done-here))
           at k (no d) =
               there k d ∙ S .sheared k
-              ∙ ap (λ b. mul 64 (tableau signs₀ rows₀ k)
-              (chosen (bit named k && not b) (tableau signs₀ rows₀ a)))
+              ∙ ap (λ b. mul 64 (relative signs₀ rows₀ k)
+              (chosen (bit named k && not b) (relative signs₀ rows₀ a)))
               (sym (bit-rest k ∙ ap (λ b. bit rest k ⊕ b) (other-place d) ∙ ⊕-zero (bit rest k)))

@@ -1,5 +1,7 @@
 // The elimination on an array of 64 rows of two words, z and x, beside one word of signs: shears, passes, rotation.
-use pauli::letters_minus;
+// Within a pass the signs are relative to the rows' numbers of Y: a product of commuting rows then needs one parity.
+use words::count;
+use words::dot_product;
 use words::flip;
 use words::flip_where;
 use words::has;
@@ -11,25 +13,64 @@ ghost use mathlib.Core.Bool.{_&&_, false, true};
 ghost use mathlib.Core.List.{[]};
 ghost use mathlib.Core.Path.{_≡_};
 ghost use Prim.Native.Nat.{ℕ, _<_, _≤_};
+ghost use lib.Bits.{bitXor};
 ghost use lib.Dec.{ltb};
 ghost use lib.ListN.{getD, length};
 ghost use Rattle.clifford.specs.Vectors.{act};
-ghost use Rattle.pauli.specs.Pauli.{anticommute};
+ghost use Rattle.pauli.specs.Pauli.{anticommute, i⁰, minus, mul, row};
 ghost use Rattle.record.specs.Reduced.{hadamardWhere};
 ghost use Rattle.reduction.specs.internal.Passes.{Eliminated, Loaded, PivotReady};
+ghost use Rattle.reduction.specs.internal.Relative.{halfY, relative};
 ghost use Rattle.stabilizer.specs.internal.Elimination.{pivotOn};
 ghost use Rattle.stabilizer.specs.Elimination.{shear};
 ghost use Rattle.stabilizer.specs.internal.Tableau.{tableau};
-ghost use Rattle.words.specs.Bits.{bit};
+ghost use Rattle.words.specs.Bits.{_⊕_, bit};
+
+// Whether the pairs of Y in a row's letters are odd in number.
+fn odd_pairs(z: u64, x: u64) -> bool
+    ensures { λ r. ⌜ r ≡ halfY z x ⌝ }
+{
+    (count(z & x) / 2) % 2 == 1
+}
+
+// The rows below n whose pairs of Y are odd in number: their signs and their relative signs differ.
+fn pair_signs(rows: &[[u64; 2]; 64], n: usize) -> u64
+    requires { ⌜ n ≤ 64 ⌝ }
+    ensures { λ r. ⌜ ((j : ℕ) → bit r j ≡ (ltb j n
+        && halfY (getD (getD (now (rows .entry)) j []) 0 0) (getD (getD (now (rows .entry)) j []) 1 0))) ⌝ }
+{
+    let mut word = 0;
+    let mut j = 0;
+    while j < n {
+        let row = rows[j];
+        word = flip_where(word, j, odd_pairs(row[0], row[1]));
+        j += 1;
+    }
+    word
+}
+
+// The relative sign of the product of the letters of two rows that commute: where the second has an odd number of Y,
+// those of the first are counted too.
+fn relative_minus(z: u64, x: u64, z2: u64, x2: u64) -> bool
+    requires { ⌜ anticommute 64 (row i⁰ z x) (row i⁰ z2 x2) ≡ false ⌝ }
+    ensures { λ r. ⌜ (mul 64 (row i⁰ z x) (row i⁰ z2 x2)) .phase
+        ≡ minus (((r ⊕ halfY z x) ⊕ halfY z2 x2) ⊕ halfY (bitXor z z2) (bitXor x x2)) ⌝ }
+{
+    if dot_product(z2, x2) {
+        dot_product(z, x2 ^ x)
+    } else {
+        dot_product(z, x2)
+    }
+}
 
 // Row a multiplied into each row that the word named names, in place.
 fn shear_in_place(rows: &mut [[u64; 2]; 64], signs: &mut u64, a: usize, named: u64)
     requires { ⌜ (a < 64) × (bit named a ≡ false) × (length (now rows) ≡ 64) ⌝ }
     requires { ⌜ ((j : ℕ) → bit named j ≡ true
-        → anticommute 64 (tableau (now signs) (now rows) j) (tableau (now signs) (now rows) a) ≡ false) ⌝ }
+        → anticommute 64 (relative (now signs) (now rows) j) (relative (now signs) (now rows) a) ≡ false) ⌝ }
     ensures { λ r. ⌜ length (now (rows .exit)) ≡ 64 ⌝ }
-    ensures { λ r. ⌜ ((j : ℕ) → tableau (now (signs .exit)) (now (rows .exit)) j
-        ≡ shear 64 (tableau (now (signs .entry)) (now (rows .entry))) a (bit named) j) ⌝ }
+    ensures { λ r. ⌜ ((j : ℕ) → relative (now (signs .exit)) (now (rows .exit)) j
+        ≡ shear 64 (relative (now (signs .entry)) (now (rows .entry))) a (bit named) j) ⌝ }
 {
     let by = rows[a];
     let by_z = by[0];
@@ -41,7 +82,7 @@ fn shear_in_place(rows: &mut [[u64; 2]; 64], signs: &mut u64, a: usize, named: u
         let row = rows[j];
         let z = row[0];
         let x = row[1];
-        let minus = letters_minus(z, x, by_z, by_x);
+        let minus = relative_minus(z, x, by_z, by_x);
         rows[j] = [z ^ by_z, x ^ by_x];
         *signs = flip_where(*signs, j, sign != minus);
         rest = flip(rest, j);
@@ -54,11 +95,11 @@ fn column(rows: &[[u64; 2]; 64], n: usize, q: usize) -> u64
     ensures { λ r. ⌜ ((j : ℕ) → bit r j ≡ (ltb j n && bit (getD (getD (now (rows .entry)) j []) 1 0) q)) ⌝ }
 {
     let mut word = 0;
-    let mut j = 0;
-    while j < n {
+    let mut j = n;
+    while 0 < j {
+        j -= 1;
         let row = rows[j];
-        word = flip_where(word, j, has(row[1], q));
-        j += 1;
+        word = 2 * word + ((row[1] >> q) & 1);
     }
     word
 }
@@ -67,10 +108,10 @@ fn column(rows: &[[u64; 2]; 64], n: usize, q: usize) -> u64
 // other row.
 fn pivot_column(rows: &mut [[u64; 2]; 64], signs: &mut u64, q: usize, i: usize, holders: u64)
     requires { ⌜ length (now rows) ≡ 64 ⌝ }
-    requires { ⌜ PivotReady (tableau (now signs) (now rows)) q i holders ⌝ }
+    requires { ⌜ PivotReady (relative (now signs) (now rows)) q i holders ⌝ }
     ensures { λ r. ⌜ length (now (rows .exit)) ≡ 64 ⌝ }
-    ensures { λ r. ⌜ ((j : ℕ) → tableau (now (signs .exit)) (now (rows .exit)) j
-        ≡ pivotOn 64 (tableau (now (signs .entry)) (now (rows .entry))) q i j) ⌝ }
+    ensures { λ r. ⌜ ((j : ℕ) → relative (now (signs .exit)) (now (rows .exit)) j
+        ≡ pivotOn 64 (relative (now (signs .entry)) (now (rows .entry))) q i j) ⌝ }
 {
     if !has(holders, q) {
         shear_in_place(rows, signs, i, single(q));
@@ -80,10 +121,15 @@ fn pivot_column(rows: &mut [[u64; 2]; 64], signs: &mut u64, q: usize, i: usize, 
 
 // A pass over the columns below n that have no pivot: where an unused row has x bit q, column q gets its pivot. The
 // word pivots names the columns that have one, and so their rows.
-pub fn pass(mut rows: [[u64; 2]; 64], signs: &mut u64, n: usize, pivots: &mut u64) -> [[u64; 2]; 64]
-    requires { ⌜ (n ≤ 64) × Loaded n (tableau (now signs) rows) ⌝ }
-    ensures { λ r. ⌜ Eliminated n (tableau (now (signs .entry)) rows) (bit (now (pivots .entry)))
-        (tableau (now (signs .exit)) r) (bit (now (pivots .exit))) n ⌝ }
+fn relative_pass(
+    mut rows: [[u64; 2]; 64],
+    signs: &mut u64,
+    n: usize,
+    pivots: &mut u64,
+) -> [[u64; 2]; 64]
+    requires { ⌜ (n ≤ 64) × Loaded n (relative (now signs) rows) ⌝ }
+    ensures { λ r. ⌜ Eliminated n (relative (now (signs .entry)) rows) (bit (now (pivots .entry)))
+        (relative (now (signs .exit)) r) (bit (now (pivots .exit))) n ⌝ }
 {
     let mut q = 0;
     while q < n {
@@ -98,6 +144,18 @@ pub fn pass(mut rows: [[u64; 2]; 64], signs: &mut u64, n: usize, pivots: &mut u6
         q += 1;
     }
     rows
+}
+
+// The same with signs in place of relative signs.
+pub fn pass(rows: [[u64; 2]; 64], signs: &mut u64, n: usize, pivots: &mut u64) -> [[u64; 2]; 64]
+    requires { ⌜ (n ≤ 64) × Loaded n (tableau (now signs) rows) ⌝ }
+    ensures { λ r. ⌜ Eliminated n (tableau (now (signs .entry)) rows) (bit (now (pivots .entry)))
+        (tableau (now (signs .exit)) r) (bit (now (pivots .exit))) n ⌝ }
+{
+    *signs = *signs ^ pair_signs(&rows, n);
+    let passed = relative_pass(rows, signs, n, pivots);
+    *signs = *signs ^ pair_signs(&passed, n);
+    passed
 }
 
 // Hadamards on the columns that the word names: z and x are exchanged there, and a sign flips for each Y.

@@ -48,7 +48,7 @@ pub fn put_decimal(k: u8, at: usize, out: &mut [u8]) -> usize
 }
 
 // The word in 16 hexadecimal digits, the highest first.
-fn put_word(w: u64, at: usize, out: &mut [u8]) -> usize
+pub fn put_word(w: u64, at: usize, out: &mut [u8]) -> usize
     requires { ⌜ at + 16 ≤ length (now out) ⌝ }
     ensures { λ r. ⌜ Printed (hexText 16 w) at (now (out .entry)) (now (out .exit)) r ⌝ }
 {

@@ -1,6 +1,6 @@
 //! Times of the engine's calls beside plain Rust, as one table.
 
-use bench::calls::{compare, image, in_place, orbit, reduce, strings, Line};
+use bench::calls::{amplitude, compare, image, in_place, orbit, reduce, strings, values, Line};
 
 fn main() {
     println!("{}", Line::HEAD);
@@ -34,4 +34,9 @@ fn main() {
         println!("{}", strings::writing(n));
     }
     println!("{}", orbit::line());
+    println!("{}", values::expanding(64));
+    println!("{}", values::expectation(64));
+    for n in [8, 64] {
+        println!("{}", amplitude::line(n));
+    }
 }

@@ -1,19 +1,27 @@
-//! A job answers the same in three ways, and leaves the same state after every step.
+//! A job answers the same in every way, and leaves the same state after every step.
 
-use bench::load::{steps, Draws};
+use bench::load::{cluster, ghz, steps, unmeasured, Draws};
 use bench::operation::Operation;
-use bench::session::{Answer, Calls, Lists, Plain, Session};
+use bench::session::{Answer, Calls, Columns, Graph, Lists, Plain, Session};
+use sukhlent::Record;
 
-/// Runs a job in three ways at once; how many steps were refused, determined and chosen.
+/// A step in one way: its answer, and the state that it leaves.
+fn told<S: Session>(session: &mut S, operation: Operation) -> (Answer, Record) {
+    (session.step(operation), session.record())
+}
+
+/// Runs a job in every way at once; how many steps were refused, determined and chosen.
 fn counts(n: usize, job: &[Operation]) -> [usize; 3] {
     let (mut calls, mut lists, mut plain) = (Calls::start(n), Lists::start(n), Plain::start(n));
+    let (mut columns, mut graph) = (Columns::start(n), Graph::start(n));
     let mut counts = [0; 3];
     for &operation in job {
-        let answer = calls.step(operation);
-        assert_eq!(answer, lists.step(operation), "{operation:?}");
-        assert_eq!(answer, plain.step(operation), "{operation:?}");
-        assert_eq!(calls.record(), lists.record(), "{operation:?}");
-        assert_eq!(calls.record(), plain.record(), "{operation:?}");
+        let by_calls = told(&mut calls, operation);
+        assert_eq!(by_calls, told(&mut lists, operation), "{operation:?}");
+        assert_eq!(by_calls, told(&mut plain, operation), "{operation:?}");
+        assert_eq!(by_calls, told(&mut columns, operation), "{operation:?}");
+        assert_eq!(by_calls, told(&mut graph, operation), "{operation:?}");
+        let (answer, _) = by_calls;
         match answer {
             Answer::Refused => counts[0] += 1,
             Answer::Measured(measured) if measured.determined => counts[1] += 1,
@@ -41,4 +49,24 @@ fn jobs_on_every_number_of_qubits() {
     for n in 1..=64 {
         counts(n, &steps(n as u64, 256, 100 + n as u64));
     }
+}
+
+#[test]
+fn the_loads_beside_the_job() {
+    for n in [2, 16, 32, 64] {
+        let loads = [
+            unmeasured(n as u64, 512, 7),
+            ghz(n as u64, 7),
+            cluster(n as u64, 7),
+        ];
+        for job in loads {
+            counts(n, &job);
+        }
+    }
+}
+
+#[test]
+fn every_outcome_of_a_ghz_state_is_allowed() {
+    let [refused, determined, chosen] = counts(64, &ghz(64, 3));
+    assert_eq!([refused, determined, chosen], [0, 1, 63]);
 }

@@ -2,10 +2,10 @@
 
 use crate::common::damage::{damage_list, damage_record};
 use crate::common::local::{complemented_record, sent};
-use crate::common::reference::strings_text;
+use crate::common::reference::{product, strings_text};
 use crate::common::{list, mixed, random_components, random_rows, random_sizes, rows, use_up};
-use crate::common::{GenerateCall, ImageLengths, Lengths, ListCall, PairCall, RecordCall, Side};
-use crate::common::{Operation, OrbitCall, Random, ReadCall};
+use crate::common::{At, Operation, OrbitCall, Random, ReadCall, Side};
+use crate::common::{GenerateCall, ImageLengths, Lengths, Letters, ListCall, PairCall, RecordCall};
 use sukhlent::{expand, GeneratorList, Record};
 
 /// What is done to valid arguments: mostly nothing or little; one in sixteen calls gets noise.
@@ -127,6 +127,37 @@ pub fn cut_call(random: &mut Random, n: usize) -> RecordCall<Side> {
     };
     let record = used_record(random, n);
     harmed(random, record, Side(side))
+}
+
+/// An amplitude of a record of n vertices: mostly at a word of its own qubits, at times at any word.
+pub fn amplitude_call(random: &mut Random, n: usize) -> RecordCall<At> {
+    let y = match random.below(8) {
+        0 => number(random),
+        _ => random.word() >> (64 - n),
+    };
+    let record = used_record(random, n);
+    harmed(random, record, At(y))
+}
+
+/// The value of a row on a record of n vertices: mostly of an element of its group, or of one with a
+/// letter changed, at times of any words.
+pub fn expectation_call(random: &mut Random, n: usize) -> RecordCall<Letters> {
+    let record = used_record(random, n);
+    let list = expand(&record).expect("a record");
+    let element = product(&list, random.word() >> (64 - n));
+    let mut row = Letters {
+        z: element.z,
+        x: element.x,
+    };
+    match random.below(8) {
+        0 => row.z = number(random),
+        1 => row.x = number(random),
+        2 => row.z ^= 1 << random.below(n),
+        3 => row.x ^= 1 << random.below(n),
+        4 => row.z = random.word() >> (64 - n),
+        _ => (),
+    }
+    harmed(random, record, row)
 }
 
 /// A job: mostly of few steps, at times near the limit, at times with any numbers or another buffer.
@@ -252,7 +283,7 @@ fn lengths<const COUNT: usize>(random: &mut Random, n: usize) -> [usize; COUNT] 
     lengths
 }
 
-/// A call of one kind, 0 to 4, on a record of n vertices in place. Mostly its own arguments are in
+/// A call of one kind, 0 to 3, on a record of n vertices in place. Mostly its own arguments are in
 /// range or one too large; at times they are any numbers. Every second measurement is one in range,
 /// since few others meet a forbidden bit.
 pub fn in_place_call(random: &mut Random, kind: usize, n: usize) -> RecordCall<Operation> {
@@ -387,8 +418,7 @@ fn noisy_operation(random: &mut Random, kind: usize) -> Operation {
         0 => Operation::Gate(a, byte),
         1 => Operation::Cz(a, b),
         2 => Operation::Measure(byte, a, bit),
-        3 => Operation::Complement(a),
-        _ => Operation::Pivot(a, b),
+        _ => Operation::Complement(a),
     }
 }
 

@@ -45,7 +45,8 @@ mod tests {
     fn the_refusals_of_a_call() {
         assert_eq!(refusals_of("expand"), [2, 4, 5, 6, 7]);
         assert_eq!(refusals_of("measure"), [2, 4, 5, 6, 7, 8, 16, 14]);
-        assert_eq!(refusals_of("pivot"), [2, 4, 5, 6, 7, 8]);
+        assert_eq!(refusals_of("complement"), [2, 4, 5, 6, 7, 8, 16]);
+        assert_eq!(refusals_of("pivot"), []);
         assert_eq!(refusals_of("expansion"), []);
     }
 }

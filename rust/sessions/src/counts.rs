@@ -12,33 +12,37 @@ pub struct Counts {
     /// Measurements whose outcome was determined.
     pub determined: u64,
     pub complements: u64,
-    pub pivots: u64,
     /// Measurements whose bit the state forbids.
-    pub impossible: u64,
+    pub contradicted: u64,
     /// Calls that name a used qubit.
     pub used: u64,
     /// Calls with arguments that are out of range.
     pub refused: u64,
     /// How often all qubits were used and the session started anew.
     pub starts: u64,
+    /// Rows in the group, rows whose negative is, and others.
+    pub values: [u64; 3],
 }
 
 impl fmt::Display for Counts {
     fn fmt(&self, f: &mut fmt::Formatter<'_>) -> fmt::Result {
         write!(
             f,
-            "{} gates, {} CZ, {} outcomes chosen, {} determined and {} impossible, \
-             {} complements, {} pivots, {} on used qubits, {} refused, {} starts anew",
+            "{} gates, {} CZ, {} outcomes chosen, {} determined and {} contradicted, \
+             {} complements, {} on used qubits, {} refused, {} starts anew; \
+             {} rows plus, {} minus, {} neither",
             self.gates,
             self.czs,
             self.chosen,
             self.determined,
-            self.impossible,
+            self.contradicted,
             self.complements,
-            self.pivots,
             self.used,
             self.refused,
-            self.starts
+            self.starts,
+            self.values[0],
+            self.values[1],
+            self.values[2]
         )
     }
 }

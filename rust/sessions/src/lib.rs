@@ -2,13 +2,15 @@
 //!
 //! After each call the record is compared with the reduced record of the tableau's group, by an
 //! elimination in plain Rust; outcomes, and bits that the state forbids, with the tableau's;
-//! complements and pivots with document 01's text; refusals with its list; the used word with the
-//! qubits that were measured. A session goes on with the qubits that are left, and where all are
+//! complements with document 01's text; refusals with its list; the used word with the qubits that
+//! were measured; and the values of some rows with the tableau's. A session goes on with the
+//! qubits that are left, and where all are
 //! used it starts anew.
 
 mod choice;
 mod counts;
 mod session;
+mod values;
 
 #[path = "../../sukhlent/tests/common/mod.rs"]
 mod common;

@@ -6,8 +6,9 @@ use crate::common::reference::{argument_refusal, expanded};
 use crate::common::{Operation, Random};
 use crate::counts::Counts;
 use crate::plain;
+use crate::values::{answered, words, ROWS};
 use sukhlent::{GeneratorList, Record};
-use tableau::Tableau;
+use tableau::{Row, Tableau};
 
 /// What stands in the places of an outcome before a call.
 const UNTOUCHED: (u8, u8) = (0xa5, 0x5a);
@@ -15,6 +16,8 @@ const UNTOUCHED: (u8, u8) = (0xa5, 0x5a);
 /// A record, the tableau of the same state, the qubits measured, and what has happened to them.
 pub struct Session {
     random: Random,
+    /// Where the rows come from, apart, so that they leave the calls of a seed as they are.
+    rows: Random,
     record: Record,
     tableau: Tableau,
     /// For each qubit, whether a measurement of it was accepted.
@@ -29,6 +32,7 @@ impl Session {
     pub fn new(n: usize, seed: u64) -> Session {
         Session {
             random: Random::new(seed),
+            rows: Random::new(!seed),
             record: start(n),
             tableau: Tableau::zero(n),
             measured: vec![false; n],
@@ -73,6 +77,17 @@ impl Session {
             })
             .map_err(|e| format!("{operation:?} on {before:?}: {e}"))?;
         self.count(operation, due);
+        (0..ROWS).try_for_each(|kind| self.ask(kind))
+    }
+
+    /// Asks for the value of a row, and compares with the tableau's.
+    fn ask(&mut self, kind: usize) -> Result<(), String> {
+        let (z, x) = words(&mut self.rows, &self.tableau, kind);
+        let due = self.tableau.value(&Row::letters(z, x)).unwrap_or(2);
+        answered(&self.record, z, x)
+            .and_then(|value| same("the value", value, due))
+            .map_err(|e| format!("z {z:x}, x {x:x} on {:?}: {e}", self.record))?;
+        self.counts.values[usize::from(due)] += 1;
         Ok(())
     }
 
@@ -99,7 +114,7 @@ impl Session {
                 self.measured[q as usize] = true;
                 return Ok((answer.outcome, u8::from(answer.determined)));
             }
-            Operation::Complement(_) | Operation::Pivot(..) => (),
+            Operation::Complement(_) => (),
         }
         Ok(UNTOUCHED)
     }
@@ -107,7 +122,7 @@ impl Session {
     fn count(&mut self, operation: Operation, due: Result<(u8, u8), u8>) {
         let counts = &mut self.counts;
         *match (due, operation) {
-            (Err(14), _) => &mut counts.impossible,
+            (Err(14), _) => &mut counts.contradicted,
             (Err(16), _) => &mut counts.used,
             (Err(_), _) => &mut counts.refused,
             (_, Operation::Gate(..)) => &mut counts.gates,
@@ -115,7 +130,6 @@ impl Session {
             (Ok((_, 0)), Operation::Measure(..)) => &mut counts.chosen,
             (_, Operation::Measure(..)) => &mut counts.determined,
             (_, Operation::Complement(_)) => &mut counts.complements,
-            (_, Operation::Pivot(..)) => &mut counts.pivots,
         } += 1;
     }
 
@@ -129,8 +143,10 @@ impl Session {
             ..reduced(&of_tableau(&self.tableau))
         };
         match operation {
-            Operation::Complement(a) => self.assert_complemented(before, &[a])?,
-            Operation::Pivot(j, k) => self.assert_complemented(before, &[j, k, j])?,
+            Operation::Complement(a) => {
+                let due = complemented_record(before, a as usize);
+                same("the rewritten record", &self.record, &due)?;
+            }
             _ => return same("the record", &self.record, &of_tableau),
         }
         let of_record = Record {
@@ -138,14 +154,6 @@ impl Session {
             ..reduced(&expanded(&self.record))
         };
         same("the group and the used word", of_record, of_tableau)
-    }
-
-    /// The record is the one before, complemented at each vertex.
-    fn assert_complemented(&self, before: &Record, vertices: &[u64]) -> Result<(), String> {
-        let due = vertices.iter().fold(before.clone(), |record, &v| {
-            complemented_record(&record, v as usize)
-        });
-        same("the rewritten record", &self.record, &due)
     }
 }
 
@@ -222,6 +230,16 @@ mod tests {
             let mut session = Session::new(5, 7);
             session.measured[q] = true;
             assert!(first_difference(session).is_some(), "qubit {q}");
+        }
+    }
+
+    #[test]
+    fn another_value_is_a_difference() {
+        for (code, differs) in [(0, false), (1, true), (8, true)] {
+            let mut session = Session::new(5, 7);
+            session.tableau.gate(3, code);
+            let found = (0..100).any(|kind| session.ask(kind).is_err());
+            assert_eq!(found, differs, "code {code}");
         }
     }
 

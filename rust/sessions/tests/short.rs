@@ -16,17 +16,20 @@ fn sixty_four_qubits() {
             chosen,
             determined,
             complements,
-            pivots,
-            impossible,
+            contradicted,
             used,
             refused,
             starts,
+            values,
         } = counts;
-        let outcomes = [chosen, determined, impossible, used, refused];
-        let all = [&outcomes, &[gates, czs, complements, pivots][..]].concat();
+        let outcomes = [chosen, determined, contradicted, used, refused];
+        let all = [&outcomes, &[gates, czs, complements][..]].concat();
         assert!(all.iter().all(|&times| times > 50), "{counts}");
         assert_eq!(all.iter().sum::<u64>(), 6000);
         assert!(starts > 5, "{counts}");
+        // 36,000 rows of each seed, and of each value many.
+        assert_eq!(values.iter().sum::<u64>(), 36_000);
+        assert!(values.iter().all(|&times| times > 3000), "{counts}");
     }
 }
 

@@ -4,7 +4,17 @@ use crate::image::LIST_PLACES;
 use crate::raw::{self, Lent};
 use crate::{GeneratorList, Refusal};
 
-/// How one state becomes another.
+/// How one state becomes another: what [`compare`] answers.
+///
+/// ```
+/// use sukhlent::{codes, compare};
+///
+/// // A Bell state becomes another one by Z at qubit 0.
+/// let answer = compare(&"+XX\n+ZZ\n".parse()?, &"-XX\n+ZZ\n".parse()?)?;
+/// assert_eq!(answer.choice, [codes::I, codes::Z]);
+/// assert_eq!(answer.complementations, []);
+/// # Ok::<(), sukhlent::Refusal>(())
+/// ```
 #[derive(Clone, Debug, Default, PartialEq, Eq, Hash)]
 pub struct Comparison {
     /// The least choice of one code per qubit that carries the first group onto the second.
@@ -21,6 +31,22 @@ fn lent(list: &GeneratorList) -> Lent<'_> {
 /// Compares two states: `Refusal::Comparison` where a connected part of either reduced graph has
 /// more than 20 vertices, `Refusal::Inequivalent` where no choice carries the first group onto the
 /// second.
+///
+/// Refusals: 2, 4, 5, 6, 9, 10, 3, 13.
+///
+/// ```
+/// use sukhlent::{compare, Refusal};
+///
+/// // The paths 0 - 1 - 2 and 1 - 0 - 2: Hadamards at 0 and at 1, a pivot on their edge.
+/// let path = "+XZI\n+ZXZ\n+IZX\n".parse()?;
+/// let answer = compare(&path, &"+XZZ\n+ZXI\n+ZIX\n".parse()?)?;
+/// assert_eq!(answer.choice, [8, 8, 0]);
+/// assert_eq!(answer.complementations, [0, 1, 0]);
+/// // Three qubits apart are another state altogether.
+/// let apart = "+ZII\n+IZI\n+IIZ\n".parse()?;
+/// assert_eq!(compare(&path, &apart), Err(Refusal::Inequivalent));
+/// # Ok::<(), Refusal>(())
+/// ```
 pub fn compare(first: &GeneratorList, second: &GeneratorList) -> Result<Comparison, Refusal> {
     let mut answer = Comparison {
         choice: vec![0; first.n()],

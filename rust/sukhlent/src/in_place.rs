@@ -4,6 +4,14 @@
 use crate::{raw, Record, Refusal};
 
 /// A Pauli that can be measured, by its number.
+///
+/// ```
+/// use sukhlent::{measure, Pauli, Record};
+///
+/// assert_eq!(Pauli::Y as u8, 2);
+/// assert!(measure(&mut Record::zeros(1), Pauli::Z, 0, 0)?.determined);
+/// # Ok::<(), sukhlent::Refusal>(())
+/// ```
 #[derive(Clone, Copy, Debug, PartialEq, Eq, Hash, PartialOrd, Ord)]
 #[repr(u8)]
 pub enum Pauli {
@@ -16,6 +24,14 @@ pub enum Pauli {
 }
 
 /// The answer of a measurement.
+///
+/// ```
+/// use sukhlent::{measure, Measured, Pauli, Record};
+///
+/// let answer = measure(&mut Record::zeros(1), Pauli::X, 0, 1)?;
+/// assert_eq!(answer, Measured { outcome: 1, determined: false });
+/// # Ok::<(), sukhlent::Refusal>(())
+/// ```
 #[derive(Clone, Copy, Debug, PartialEq, Eq, Hash)]
 pub struct Measured {
     /// 0 for plus, 1 for minus.
@@ -27,6 +43,15 @@ pub struct Measured {
 /// Applies a code after the code held at a qubit; the record becomes the reduced one.
 ///
 /// Refusals: 2, 4, 5, 6 (also for the given code), 7, 8 for a qubit out of range, 16 for a used one.
+///
+/// ```
+/// use sukhlent::{codes, expand, gate, Record};
+///
+/// let mut record = Record::zeros(2);
+/// gate(&mut record, 1, codes::X)?;
+/// assert_eq!(expand(&record)?.to_string(), "+ZI\n-IZ\n");
+/// # Ok::<(), sukhlent::Refusal>(())
+/// ```
 pub fn gate(record: &mut Record, qubit: usize, code: u8) -> Result<(), Refusal> {
     let n = record.n() as u64;
     let (neighbours, codes) = (&mut record.neighbours, &mut record.codes);
@@ -37,6 +62,17 @@ pub fn gate(record: &mut Record, qubit: usize, code: u8) -> Result<(), Refusal> 
 /// Applies CZ to two qubits; the record becomes the reduced one.
 ///
 /// Refusals: 2, 4, 5, 6, 7, 8 for a qubit out of range or one qubit twice, 16 for a used one.
+///
+/// ```
+/// use sukhlent::{cz, Record, Refusal};
+///
+/// // Two qubits in +X get an edge.
+/// let mut record = Record { neighbours: vec![0, 0], codes: vec![0, 0], used: 0 };
+/// cz(&mut record, 0, 1)?;
+/// assert_eq!(record.neighbours, [0b10, 0b01]);
+/// assert_eq!(cz(&mut record, 1, 1), Err(Refusal::Place));
+/// # Ok::<(), Refusal>(())
+/// ```
 pub fn cz(record: &mut Record, a: usize, b: usize) -> Result<(), Refusal> {
     let n = record.n() as u64;
     let (neighbours, codes) = (&mut record.neighbours, &mut record.codes);
@@ -105,21 +141,22 @@ pub fn measure(
 /// not reduced.
 ///
 /// Refusals: 2, 4, 5, 6, 7, 8 for a vertex out of range, 16 for a used one.
+///
+/// ```
+/// use sukhlent::{codes, complement, reduce, expand, Record};
+///
+/// // The path 0 - 1 - 2 becomes the triangle, and the state stays.
+/// let path = Record { neighbours: vec![0b010, 0b101, 0b010], codes: vec![0; 3], used: 0 };
+/// let mut record = path.clone();
+/// complement(&mut record, 1)?;
+/// assert_eq!(record.neighbours, [0b110, 0b101, 0b011]);
+/// assert_eq!(record.codes, [codes::S_DAG, codes::SQRT_X, codes::S_DAG]);
+/// assert_eq!(reduce(&expand(&record)?)?, path);
+/// # Ok::<(), sukhlent::Refusal>(())
+/// ```
 pub fn complement(record: &mut Record, a: usize) -> Result<(), Refusal> {
     let n = record.n() as u64;
     let (neighbours, codes) = (&mut record.neighbours, &mut record.codes);
     let number = raw::complement(n, neighbours, codes, record.used, a as u64);
-    Refusal::unless_accepted(number)
-}
-
-/// Complements at j, k and j again, where j and k have an edge. The record is not reduced, and the
-/// group stays.
-///
-/// Refusals: 2, 4, 5, 6, 7, 8 for a vertex out of range, one vertex twice or a pair with no edge, as
-/// is each with a used vertex.
-pub fn pivot(record: &mut Record, j: usize, k: usize) -> Result<(), Refusal> {
-    let n = record.n() as u64;
-    let (neighbours, codes) = (&mut record.neighbours, &mut record.codes);
-    let number = raw::pivot(n, neighbours, codes, record.used, j as u64, k as u64);
     Refusal::unless_accepted(number)
 }

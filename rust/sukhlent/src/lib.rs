@@ -17,9 +17,33 @@
 //! assert_eq!(expand(&record)?, bell);
 //! # Ok::<(), sukhlent::Refusal>(())
 //! ```
+//!
+//! A session starts with [`Record::zeros`] and goes on by [`gate`], [`cz`] and [`measure`]. CNOT is
+//! a Hadamard at the target, CZ, and a Hadamard at the target:
+//!
+//! ```
+//! use sukhlent::{codes, cz, gate, Record};
+//!
+//! let mut record = Record::zeros(2);
+//! gate(&mut record, 0, codes::H)?;
+//! gate(&mut record, 1, codes::H)?;
+//! cz(&mut record, 0, 1)?;
+//! gate(&mut record, 1, codes::H)?;
+//! assert_eq!(record.to_string(), "\
+//! qubit code neighbours used
+//! 0 0 0000000000000002 0
+//! 1 8 0000000000000001 0
+//! ");
+//! # Ok::<(), sukhlent::Refusal>(())
+//! ```
 
+#![warn(missing_docs)]
+
+mod amplitude;
+pub mod codes;
 mod comparison;
 mod cut;
+mod expectation;
 mod generator;
 mod image;
 mod in_place;
@@ -29,16 +53,19 @@ mod product;
 pub mod raw;
 mod record;
 mod refusal;
+mod store;
 mod strings;
 
+pub use amplitude::PlotLine;
 pub use comparison::{compare, Comparison};
 pub use cut::cut;
 pub use generator::generate;
 pub use image::{image, Image};
-pub use in_place::{complement, cz, gate, measure, pivot, Measured, Pauli};
+pub use in_place::{complement, cz, gate, measure, Measured, Pauli};
 pub use list::{check, reduce, GeneratorList};
 pub use orbit::{orbit, Orbit};
 pub use product::{product, Product};
 pub use record::{expand, Record};
 pub use refusal::Refusal;
+pub use store::Store;
 pub use strings::{read_strings, write_strings};

@@ -3,6 +3,13 @@
 use crate::{raw, Refusal};
 
 /// All graphs that complementations reach from one, each once.
+///
+/// ```
+/// // An edge is alone on its list.
+/// let found = sukhlent::orbit(&[0b10, 0b01])?;
+/// assert_eq!((found.n, found.numbers), (2, vec![1]));
+/// # Ok::<(), sukhlent::Refusal>(())
+/// ```
 #[derive(Clone, Debug, PartialEq, Eq)]
 pub struct Orbit {
     /// The number of vertices, 1 to 6.
@@ -14,6 +21,12 @@ pub struct Orbit {
 
 impl Orbit {
     /// The neighbour words of each graph, in the order of the numbers.
+    ///
+    /// ```
+    /// let found = sukhlent::orbit(&[0b10, 0b01])?;
+    /// assert_eq!(found.graphs().collect::<Vec<_>>(), [[0b10, 0b01]]);
+    /// # Ok::<(), sukhlent::Refusal>(())
+    /// ```
     pub fn graphs(&self) -> impl Iterator<Item = Vec<u64>> + '_ {
         let numbers = self.numbers.iter();
         numbers.map(|&number| graph(self.n, number))

@@ -3,6 +3,15 @@
 use crate::{raw, GeneratorList, Refusal};
 
 /// A power of i in front of one letter per qubit.
+///
+/// ```
+/// use sukhlent::{product, Product};
+///
+/// // XX times ZZ is -YY.
+/// let found = product(&"+XX\n+ZZ\n".parse()?, 0b11)?;
+/// assert_eq!(found, Product { phase: 2, z: 0b11, x: 0b11 });
+/// # Ok::<(), sukhlent::Refusal>(())
+/// ```
 #[derive(Clone, Copy, Debug, PartialEq, Eq, Hash)]
 pub struct Product {
     /// The exponent of i, 0 to 3.

@@ -2,9 +2,24 @@
 //!
 //! Each call checks the lengths itself, so any slices may be given. The answer is the number of
 //! the refusal, or 0; a refused call leaves every slice as it was.
+//! None uses the heap.
+//!
+//! ```
+//! use sukhlent::{codes, raw};
+//!
+//! // A Bell state in arrays: +Z twice, Hadamards, CZ, and a Hadamard at qubit 1.
+//! let (mut neighbours, mut held) = ([0; 2], [codes::H; 2]);
+//! assert_eq!(raw::gate(2, &mut neighbours, &mut held, 0, 0, codes::H), 0);
+//! assert_eq!(raw::gate(2, &mut neighbours, &mut held, 0, 1, codes::H), 0);
+//! assert_eq!(raw::cz(2, &mut neighbours, &mut held, 0, 0, 1), 0);
+//! assert_eq!(raw::gate(2, &mut neighbours, &mut held, 0, 1, codes::H), 0);
+//! assert_eq!((neighbours, held), ([2, 1], [0, 8]));
+//! ```
 
 mod calls {
     extern "C" {
+        pub fn sukhlent_version() -> u32;
+
         pub fn sukhlent_check(
             n: u64,
             signs: *const u8,
@@ -91,17 +106,6 @@ mod calls {
             a: u64,
         ) -> u8;
 
-        pub fn sukhlent_pivot(
-            n: u64,
-            neighbours: *mut u64,
-            neighbours_len: usize,
-            codes: *mut u8,
-            codes_len: usize,
-            used: u64,
-            j: u64,
-            k: u64,
-        ) -> u8;
-
         pub fn sukhlent_image(
             n: u64,
             neighbours: *const u64,
@@ -126,6 +130,73 @@ mod calls {
             used: u64,
             side: u64,
             rank: *mut u64,
+        ) -> u8;
+
+        pub fn sukhlent_amplitude(
+            n: u64,
+            neighbours: *const u64,
+            neighbours_len: usize,
+            codes: *const u8,
+            codes_len: usize,
+            used: u64,
+            y: u64,
+            re: *mut f64,
+            im: *mut f64,
+            p: *mut f64,
+        ) -> u8;
+
+        pub fn sukhlent_expectation(
+            n: u64,
+            neighbours: *const u64,
+            neighbours_len: usize,
+            codes: *const u8,
+            codes_len: usize,
+            used: u64,
+            z: u64,
+            x: u64,
+            value: *mut u8,
+        ) -> u8;
+
+        pub fn sukhlent_save(
+            n: u64,
+            neighbours: *const u64,
+            neighbours_len: usize,
+            codes: *const u8,
+            codes_len: usize,
+            used: u64,
+            name: u64,
+            heads: *mut u64,
+            heads_len: usize,
+            held_neighbours: *mut u64,
+            held_neighbours_len: usize,
+            held_codes: *mut u8,
+            held_codes_len: usize,
+        ) -> u8;
+
+        pub fn sukhlent_return(
+            name: u64,
+            heads: *const u64,
+            heads_len: usize,
+            held_neighbours: *const u64,
+            held_neighbours_len: usize,
+            held_codes: *const u8,
+            held_codes_len: usize,
+            n: *mut u64,
+            neighbours: *mut u64,
+            neighbours_len: usize,
+            codes: *mut u8,
+            codes_len: usize,
+            used: *mut u64,
+        ) -> u8;
+
+        pub fn sukhlent_forget(
+            name: u64,
+            heads: *mut u64,
+            heads_len: usize,
+            held_neighbours: *const u64,
+            held_neighbours_len: usize,
+            held_codes: *const u8,
+            held_codes_len: usize,
         ) -> u8;
 
         pub fn sukhlent_product(
@@ -208,12 +279,42 @@ mod calls {
 }
 
 /// The bytes of a buffer that is lent for the text of a job.
+///
+/// ```
+/// use sukhlent::raw;
+///
+/// // Three lines of names, and 4,096 of the longest steps.
+/// let names = "qubits\n64\nop a b value\n".len();
+/// assert_eq!(raw::JOB_PLACES, names + 4096 * "measure 63 0 5\n".len());
+/// ```
 pub const JOB_PLACES: usize = 61_463;
 
 /// The places of a buffer that is lent for the numbers of an orbit.
+///
+/// ```
+/// // One for each graph on six vertices.
+/// assert_eq!(sukhlent::raw::ORBIT_PLACES, 1 << (6 * 5 / 2));
+/// ```
 pub const ORBIT_PLACES: usize = 32_768;
 
+/// The version of the library: major * 10000 + minor * 100 + patch.
+///
+/// ```
+/// // Before 1.0 the major number is 0.
+/// assert_eq!(sukhlent::raw::version() / 10_000, 0);
+/// ```
+pub fn version() -> u32 {
+    // SAFETY: the call takes nothing and answers a constant.
+    unsafe { calls::sukhlent_version() }
+}
+
 /// Checks a generator list.
+///
+/// ```
+/// // XX, ZZ; then XI, ZI, which do not commute.
+/// assert_eq!(sukhlent::raw::check(2, &[0, 0], &[0, 3], &[3, 0]), 0);
+/// assert_eq!(sukhlent::raw::check(2, &[0, 0], &[0, 1], &[1, 0]), 9);
+/// ```
 pub fn check(n: u64, signs: &[u8], z: &[u64], x: &[u64]) -> u8 {
     unsafe {
         calls::sukhlent_check(
@@ -229,6 +330,14 @@ pub fn check(n: u64, signs: &[u8], z: &[u64], x: &[u64]) -> u8 {
 }
 
 /// Writes the reduced record of a generator list, with the word 0 of used qubits.
+///
+/// ```
+/// use sukhlent::raw;
+///
+/// let (mut neighbours, mut codes, mut used) = ([0; 2], [0; 2], 7);
+/// let number = raw::reduce(2, &[0, 0], &[0, 3], &[3, 0], &mut neighbours, &mut codes, &mut used);
+/// assert_eq!((number, neighbours, codes, used), (0, [2, 1], [0, 8], 0));
+/// ```
 pub fn reduce(
     n: u64,
     signs: &[u8],
@@ -257,6 +366,14 @@ pub fn reduce(
 }
 
 /// Writes the generators of a record.
+///
+/// ```
+/// use sukhlent::raw;
+///
+/// let (mut signs, mut z, mut x) = ([9; 2], [9; 2], [9; 2]);
+/// let number = raw::expand(2, &[2, 1], &[0, 8], 0, &mut signs, &mut z, &mut x);
+/// assert_eq!((number, signs, z, x), (0, [0, 0], [0, 3], [3, 0]));
+/// ```
 pub fn expand(
     n: u64,
     neighbours: &[u64],
@@ -285,6 +402,15 @@ pub fn expand(
 }
 
 /// Applies a code after the code held at a qubit, and reduces the record.
+///
+/// ```
+/// use sukhlent::{codes, raw};
+///
+/// let (mut neighbours, mut held) = ([0], [codes::H]);
+/// assert_eq!(raw::gate(1, &mut neighbours, &mut held, 0, 0, codes::X), 0);
+/// assert_eq!(held, [10]);
+/// assert_eq!(raw::gate(1, &mut neighbours, &mut held, 0, 1, codes::X), 8);
+/// ```
 pub fn gate(
     n: u64,
     neighbours: &mut [u64],
@@ -308,6 +434,14 @@ pub fn gate(
 }
 
 /// Applies CZ to two qubits, and reduces the record.
+///
+/// ```
+/// use sukhlent::raw;
+///
+/// let (mut neighbours, mut codes) = ([0, 0], [0, 0]);
+/// assert_eq!(raw::cz(2, &mut neighbours, &mut codes, 0, 0, 1), 0);
+/// assert_eq!(neighbours, [2, 1]);
+/// ```
 pub fn cz(n: u64, neighbours: &mut [u64], codes: &mut [u8], used: u64, a: u64, b: u64) -> u8 {
     unsafe {
         calls::sukhlent_cz(
@@ -325,6 +459,18 @@ pub fn cz(n: u64, neighbours: &mut [u64], codes: &mut [u8], used: u64, a: u64, b
 
 /// Measures a Pauli (1 X, 2 Y, 3 Z) at a qubit, reduces the record, sets the qubit's bit of the used
 /// word, and writes the outcome and whether it was determined.
+///
+/// ```
+/// use sukhlent::raw;
+///
+/// let (mut neighbours, mut codes, mut used) = ([2, 1], [0, 8], 0);
+/// let (mut answer, mut determined) = (9, 9);
+/// let number = raw::measure(
+///     2, &mut neighbours, &mut codes, &mut used, 3, 0, 1, &mut answer, &mut determined,
+/// );
+/// assert_eq!((number, answer, determined), (0, 1, 0));
+/// assert_eq!((neighbours, codes, used), ([0, 0], [10, 10], 1));
+/// ```
 #[allow(clippy::too_many_arguments)]
 pub fn measure(
     n: u64,
@@ -355,6 +501,14 @@ pub fn measure(
 }
 
 /// Complements the record at a vertex.
+///
+/// ```
+/// use sukhlent::raw;
+///
+/// let (mut neighbours, mut codes) = ([2, 5, 2], [0; 3]);
+/// assert_eq!(raw::complement(3, &mut neighbours, &mut codes, 0, 1), 0);
+/// assert_eq!((neighbours, codes), ([6, 5, 3], [6, 13, 6]));
+/// ```
 pub fn complement(n: u64, neighbours: &mut [u64], codes: &mut [u8], used: u64, a: u64) -> u8 {
     unsafe {
         calls::sukhlent_complement(
@@ -369,23 +523,18 @@ pub fn complement(n: u64, neighbours: &mut [u64], codes: &mut [u8], used: u64, a
     }
 }
 
-/// Pivots the record on an edge.
-pub fn pivot(n: u64, neighbours: &mut [u64], codes: &mut [u8], used: u64, j: u64, k: u64) -> u8 {
-    unsafe {
-        calls::sukhlent_pivot(
-            n,
-            neighbours.as_mut_ptr(),
-            neighbours.len(),
-            codes.as_mut_ptr(),
-            codes.len(),
-            used,
-            j,
-            k,
-        )
-    }
-}
-
 /// Writes the graph to which the codes send a graph, its signs, and the complementations.
+///
+/// ```
+/// use sukhlent::raw;
+///
+/// let (mut graph, mut signs, mut list, mut count) = ([0; 3], [9; 3], [99; 96], 0);
+/// let number = raw::image(
+///     3, &[6, 1, 1], &[12, 4, 4], &mut graph, &mut signs, &mut list, &mut count,
+/// );
+/// assert_eq!((number, graph, signs, count), (0, [6, 5, 3], [0; 3], 1));
+/// assert_eq!(list[..2], [0, 99]);
+/// ```
 pub fn image(
     n: u64,
     neighbours: &[u64],
@@ -414,6 +563,12 @@ pub fn image(
 }
 
 /// Writes the rank of the edges between the marked side of a record's vertices and the other.
+///
+/// ```
+/// let mut rank = 9;
+/// assert_eq!(sukhlent::raw::cut(2, &[2, 1], &[0, 8], 0, 0b01, &mut rank), 0);
+/// assert_eq!(rank, 1);
+/// ```
 pub fn cut(n: u64, neighbours: &[u64], codes: &[u8], used: u64, side: u64, rank: &mut u64) -> u8 {
     unsafe {
         calls::sukhlent_cut(
@@ -429,10 +584,93 @@ pub fn cut(n: u64, neighbours: &[u64], codes: &[u8], used: u64, side: u64, rank:
     }
 }
 
+/// Writes the amplitude at a word over that at the smallest word with a nonzero amplitude, real part
+/// and imaginary part, and the word's probability.
+///
+/// ```
+/// // -Y: i over 1 at the word 1 is minus.
+/// let (mut re, mut im, mut p) = (9.0, 9.0, 9.0);
+/// let number = sukhlent::raw::amplitude(1, &[0], &[6], 0, 1, &mut re, &mut im, &mut p);
+/// assert_eq!((number, re, im, p), (0, 0.0, -1.0, 0.5));
+/// ```
+#[allow(clippy::too_many_arguments)]
+pub fn amplitude(
+    n: u64,
+    neighbours: &[u64],
+    codes: &[u8],
+    used: u64,
+    y: u64,
+    re: &mut f64,
+    im: &mut f64,
+    p: &mut f64,
+) -> u8 {
+    unsafe {
+        calls::sukhlent_amplitude(
+            n,
+            neighbours.as_ptr(),
+            neighbours.len(),
+            codes.as_ptr(),
+            codes.len(),
+            used,
+            y,
+            re,
+            im,
+            p,
+        )
+    }
+}
+
+/// Writes the value of a Pauli row in a record's group: 0 for plus, 1 for minus, 2 for neither.
+///
+/// ```
+/// // XX, ZZ: YY is there with a minus, XI is not.
+/// let mut value = 9;
+/// assert_eq!(sukhlent::raw::expectation(2, &[2, 1], &[0, 8], 0, 3, 3, &mut value), 0);
+/// assert_eq!(value, 1);
+/// assert_eq!(sukhlent::raw::expectation(2, &[2, 1], &[0, 8], 0, 0, 1, &mut value), 0);
+/// assert_eq!(value, 2);
+/// ```
+pub fn expectation(
+    n: u64,
+    neighbours: &[u64],
+    codes: &[u8],
+    used: u64,
+    z: u64,
+    x: u64,
+    value: &mut u8,
+) -> u8 {
+    unsafe {
+        calls::sukhlent_expectation(
+            n,
+            neighbours.as_ptr(),
+            neighbours.len(),
+            codes.as_ptr(),
+            codes.len(),
+            used,
+            z,
+            x,
+            value,
+        )
+    }
+}
+
 /// A generator list as the raw calls take it: n, signs, z and x.
+///
+/// ```
+/// let bell: sukhlent::raw::Lent = (2, &[0, 0], &[0, 3], &[3, 0]);
+/// assert_eq!(bell.0, 2);
+/// ```
 pub type Lent<'a> = (u64, &'a [u8], &'a [u64], &'a [u64]);
 
 /// Writes the product of the rows that a word chooses, and its power of i.
+///
+/// ```
+/// // X times Y is iZ.
+/// let (mut z, mut x, mut phase) = (9, 9, 9);
+/// let rows = (2, &[0, 0][..], &[0, 1][..], &[1, 1][..]);
+/// assert_eq!(sukhlent::raw::product(rows, 0b11, &mut z, &mut x, &mut phase), 0);
+/// assert_eq!((z, x, phase), (1, 0, 1));
+/// ```
 pub fn product(
     (n, signs, z, x): Lent,
     chosen: u64,
@@ -458,6 +696,14 @@ pub fn product(
 }
 
 /// Writes the least choice that carries one group onto another, and the complementations.
+///
+/// ```
+/// // A list compared with itself, the same slices: nothing is to be done.
+/// let bell = (2, &[0, 0][..], &[0, 3][..], &[3, 0][..]);
+/// let (mut choice, mut list, mut count) = ([9; 2], [99; 96], 9);
+/// assert_eq!(sukhlent::raw::compare(bell, bell, &mut choice, &mut list, &mut count), 0);
+/// assert_eq!((choice, count, list[0]), ([0, 0], 0, 99));
+/// ```
 pub fn compare(
     (n1, signs1, z1, x1): Lent,
     (n2, signs2, z2, x2): Lent,
@@ -491,11 +737,25 @@ pub fn compare(
 }
 
 /// Writes the text of the job of `count` steps on n qubits that is drawn from a seed.
+///
+/// ```
+/// use sukhlent::raw;
+///
+/// let (mut text, mut length) = (vec![0; raw::JOB_PLACES], 0);
+/// assert_eq!(raw::generate(64, 1, 1, &mut text, &mut length), 0);
+/// assert_eq!(&text[..length as usize], b"qubits\n64\nop a b value\ngate 8 0 4\n");
+/// ```
 pub fn generate(n: u64, count: u64, seed: u64, text: &mut [u8], length: &mut u64) -> u8 {
     unsafe { calls::sukhlent_generate(n, count, seed, text.as_mut_ptr(), text.len(), length) }
 }
 
 /// Writes the generator list of a text of Pauli strings.
+///
+/// ```
+/// let (mut signs, mut z, mut x) = ([9; 2], [9; 2], [9; 2]);
+/// let number = sukhlent::raw::read_strings(b"+XX\n-ZZ\n", &mut signs, &mut z, &mut x);
+/// assert_eq!((number, signs, z, x), (0, [0, 1], [0, 3], [3, 0]));
+/// ```
 pub fn read_strings(text: &[u8], signs: &mut [u8], z: &mut [u64], x: &mut [u64]) -> u8 {
     unsafe {
         calls::sukhlent_read_strings(
@@ -512,6 +772,13 @@ pub fn read_strings(text: &[u8], signs: &mut [u8], z: &mut [u64], x: &mut [u64])
 }
 
 /// Writes the text of a generator list as Pauli strings.
+///
+/// ```
+/// let mut text = [0; 8];
+/// let bell = (2, &[0, 1][..], &[0, 3][..], &[3, 0][..]);
+/// assert_eq!(sukhlent::raw::write_strings(bell, &mut text), 0);
+/// assert_eq!(&text, b"+XX\n-ZZ\n");
+/// ```
 pub fn write_strings((n, signs, z, x): Lent, text: &mut [u8]) -> u8 {
     unsafe {
         calls::sukhlent_write_strings(
@@ -529,6 +796,14 @@ pub fn write_strings((n, signs, z, x): Lent, text: &mut [u8]) -> u8 {
 }
 
 /// Writes the numbers of all graphs that complementations reach from one, rising.
+///
+/// ```
+/// use sukhlent::raw;
+///
+/// let (mut list, mut count) = (vec![0; raw::ORBIT_PLACES], 0);
+/// assert_eq!(raw::orbit(3, &[2, 5, 2], &mut list, &mut count), 0);
+/// assert_eq!(list[..count as usize], [3, 5, 6, 7]);
+/// ```
 pub fn orbit(n: u64, neighbours: &[u64], list: &mut [u16], count: &mut u64) -> u8 {
     unsafe {
         calls::sukhlent_orbit(
@@ -538,6 +813,113 @@ pub fn orbit(n: u64, neighbours: &[u64], list: &mut [u16], count: &mut u64) -> u
             list.as_mut_ptr(),
             list.len(),
             count,
+        )
+    }
+}
+
+/// A record as the raw calls take it: n, neighbour words, codes and the used word.
+///
+/// ```
+/// let zero: sukhlent::raw::LentRecord = (1, &[0], &[8], 0);
+/// assert_eq!(zero.0, 1);
+/// ```
+pub type LentRecord<'a> = (u64, &'a [u64], &'a [u8], u64);
+
+/// Saves a record under a name into a store's three buffers: 24 heads, 512 neighbour words and 512
+/// codes.
+///
+/// ```
+/// let (mut heads, mut words, mut codes) = ([0; 24], [0; 512], [0; 512]);
+/// let zero = (1, &[0][..], &[8][..], 0);
+/// assert_eq!(sukhlent::raw::save(zero, 7, &mut heads, &mut words, &mut codes), 0);
+/// assert_eq!((&heads[..3], codes[0]), (&[1, 7, 0][..], 8));
+/// ```
+pub fn save(
+    record: LentRecord<'_>,
+    name: u64,
+    heads: &mut [u64],
+    held_neighbours: &mut [u64],
+    held_codes: &mut [u8],
+) -> u8 {
+    let (n, neighbours, codes, used) = record;
+    unsafe {
+        calls::sukhlent_save(
+            n,
+            neighbours.as_ptr(),
+            neighbours.len(),
+            codes.as_ptr(),
+            codes.len(),
+            used,
+            name,
+            heads.as_mut_ptr(),
+            heads.len(),
+            held_neighbours.as_mut_ptr(),
+            held_neighbours.len(),
+            held_codes.as_mut_ptr(),
+            held_codes.len(),
+        )
+    }
+}
+
+/// A store as the raw calls read it: heads, neighbour words and codes.
+///
+/// ```
+/// let empty: sukhlent::raw::LentStore = (&[0; 24], &[0; 512], &[0; 512]);
+/// assert_eq!(empty.0.len(), 24);
+/// ```
+pub type LentStore<'a> = (&'a [u64], &'a [u64], &'a [u8]);
+
+/// Brings back the record held under a name, into buffers of 64 places.
+///
+/// ```
+/// let (mut n, mut words, mut codes, mut used) = (9, [9; 64], [9; 64], 9);
+/// let empty = (&[0; 24][..], &[0; 512][..], &[0; 512][..]);
+/// let number = sukhlent::raw::return_to(7, empty, &mut n, &mut words, &mut codes, &mut used);
+/// assert_eq!((number, n), (17, 9));
+/// ```
+pub fn return_to(
+    name: u64,
+    store: LentStore<'_>,
+    n: &mut u64,
+    neighbours: &mut [u64],
+    codes: &mut [u8],
+    used: &mut u64,
+) -> u8 {
+    let (heads, held_neighbours, held_codes) = store;
+    unsafe {
+        calls::sukhlent_return(
+            name,
+            heads.as_ptr(),
+            heads.len(),
+            held_neighbours.as_ptr(),
+            held_neighbours.len(),
+            held_codes.as_ptr(),
+            held_codes.len(),
+            n,
+            neighbours.as_mut_ptr(),
+            neighbours.len(),
+            codes.as_mut_ptr(),
+            codes.len(),
+            used,
+        )
+    }
+}
+
+/// Makes the place of a name free.
+///
+/// ```
+/// assert_eq!(sukhlent::raw::forget(7, &mut [0; 24], &[0; 512], &[0; 512]), 17);
+/// ```
+pub fn forget(name: u64, heads: &mut [u64], held_neighbours: &[u64], held_codes: &[u8]) -> u8 {
+    unsafe {
+        calls::sukhlent_forget(
+            name,
+            heads.as_mut_ptr(),
+            heads.len(),
+            held_neighbours.as_ptr(),
+            held_neighbours.len(),
+            held_codes.as_ptr(),
+            held_codes.len(),
         )
     }
 }

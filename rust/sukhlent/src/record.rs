@@ -1,12 +1,26 @@
 //! Records.
 
-use crate::{raw, GeneratorList, Refusal};
+use crate::{codes, compare, raw, Comparison, GeneratorList, Refusal};
+use std::fmt;
 
 /// A graph with one local Clifford per vertex, one place per vertex in the first two fields, and a
 /// word of used qubits.
 ///
 /// Generator `j` is X at `j` and Z at the neighbours of `j`, each place sent through its code. The
 /// used word plays no part in it.
+///
+/// ```
+/// use sukhlent::{codes, expand, Record};
+///
+/// // The path 0 - 1 - 2 with a Hadamard in the middle.
+/// let record = Record {
+///     neighbours: vec![0b010, 0b101, 0b010],
+///     codes: vec![codes::I, codes::H, codes::S_DAG],
+///     used: 0,
+/// };
+/// assert_eq!(expand(&record)?.to_string(), "+XXI\n+ZZZ\n-IXY\n");
+/// # Ok::<(), sukhlent::Refusal>(())
+/// ```
 #[derive(Clone, Debug, Default, PartialEq, Eq, Hash)]
 pub struct Record {
     /// The neighbours of each vertex; the graph is simple.
@@ -19,9 +33,70 @@ pub struct Record {
 }
 
 impl Record {
+    /// Every qubit in +Z, with which a session starts: no edge, the code of the Hadamard
+    /// everywhere, no qubit used.
+    ///
+    /// ```
+    /// use sukhlent::{expand, Record};
+    ///
+    /// assert_eq!(expand(&Record::zeros(2))?.to_string(), "+ZI\n+IZ\n");
+    /// # Ok::<(), sukhlent::Refusal>(())
+    /// ```
+    pub fn zeros(n: usize) -> Record {
+        Record {
+            neighbours: vec![0; n],
+            codes: vec![codes::H; n],
+            used: 0,
+        }
+    }
+
     /// The number of vertices.
+    ///
+    /// ```
+    /// assert_eq!(sukhlent::Record::zeros(5).n(), 5);
+    /// ```
     pub fn n(&self) -> usize {
         self.codes.len()
+    }
+
+    /// Compares two states, as [`compare`] does with their generators.
+    ///
+    /// Refusals: those of [`expand`], of this record and then of the other; those of [`compare`].
+    ///
+    /// ```
+    /// use sukhlent::{Record, Refusal};
+    ///
+    /// let plain = |neighbours: &[u64]| Record {
+    ///     neighbours: neighbours.to_vec(),
+    ///     codes: vec![0; neighbours.len()],
+    ///     used: 0,
+    /// };
+    /// let (path, triangle) = (plain(&[0b010, 0b101, 0b010]), plain(&[0b110, 0b101, 0b011]));
+    /// assert_eq!(path.compare(&triangle)?.complementations, [1]);
+    /// let apart = plain(&[0, 0, 0]);
+    /// assert_eq!(path.compare(&apart), Err(Refusal::Inequivalent));
+    /// # Ok::<(), Refusal>(())
+    /// ```
+    pub fn compare(&self, other: &Record) -> Result<Comparison, Refusal> {
+        compare(&expand(self)?, &expand(other)?)
+    }
+}
+
+impl fmt::Display for Record {
+    /// The text that the programs print: a line with the names of the columns, and a line for each
+    /// vertex.
+    ///
+    /// ```
+    /// let text = "qubit code neighbours used\n0 8 0000000000000000 0\n";
+    /// assert_eq!(sukhlent::Record::zeros(1).to_string(), text);
+    /// ```
+    fn fmt(&self, f: &mut fmt::Formatter<'_>) -> fmt::Result {
+        writeln!(f, "qubit code neighbours used")?;
+        for (q, (code, word)) in self.codes.iter().zip(&self.neighbours).enumerate() {
+            let used = self.used.checked_shr(q as u32).unwrap_or(0) & 1;
+            writeln!(f, "{q} {code} {word:016x} {used}")?;
+        }
+        Ok(())
     }
 }
 

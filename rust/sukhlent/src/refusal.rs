@@ -3,6 +3,13 @@
 use std::fmt;
 
 /// The reason for which a call refuses, by its number.
+///
+/// ```
+/// use sukhlent::{gate, Record, Refusal};
+///
+/// let refusal = gate(&mut Record::zeros(2), 2, 0).unwrap_err();
+/// assert_eq!((refusal, refusal.number()), (Refusal::Place, 8));
+/// ```
 #[derive(Clone, Copy, Debug, PartialEq, Eq, Hash, PartialOrd, Ord)]
 #[repr(u8)]
 pub enum Refusal {
@@ -18,7 +25,8 @@ pub enum Refusal {
     StrayBit = 5,
     /// A sign, an outcome, a code, a Pauli or a seed is none.
     Value = 6,
-    /// A graph is not simple, or a used vertex is not as a measurement leaves it.
+    /// A graph is not simple, a used vertex is not as a measurement leaves it, or a store holds a
+    /// name twice.
     Graph = 7,
     /// A qubit number, or a pair of them, names nothing.
     Place = 8,
@@ -38,11 +46,21 @@ pub enum Refusal {
     Steps = 15,
     /// A call names a used qubit.
     Used = 16,
+    /// A name to return to or forget is not held.
+    NotHeld = 17,
+    /// A save finds eight other names held.
+    Full = 18,
 }
 
 impl Refusal {
     /// Every refusal, in checking order.
-    pub const ALL: [Refusal; 16] = [
+    ///
+    /// ```
+    /// use sukhlent::Refusal;
+    ///
+    /// assert_eq!(Refusal::ALL[..2], [Refusal::Form, Refusal::Steps]);
+    /// ```
+    pub const ALL: [Refusal; 18] = [
         Refusal::Form,
         Refusal::Steps,
         Refusal::Qubits,
@@ -52,6 +70,8 @@ impl Refusal {
         Refusal::Graph,
         Refusal::Place,
         Refusal::Used,
+        Refusal::NotHeld,
+        Refusal::Full,
         Refusal::Anticommuting,
         Refusal::Dependent,
         Refusal::Comparison,
@@ -61,12 +81,23 @@ impl Refusal {
         Refusal::Inequivalent,
     ];
 
-    /// The number, 1 to 16.
+    /// The number, 1 to 18.
+    ///
+    /// ```
+    /// assert_eq!(sukhlent::Refusal::Anticommuting.number(), 9);
+    /// ```
     pub fn number(self) -> u8 {
         self as u8
     }
 
     /// The refusal with this number.
+    ///
+    /// ```
+    /// use sukhlent::Refusal;
+    ///
+    /// assert_eq!(Refusal::from_number(9), Some(Refusal::Anticommuting));
+    /// assert_eq!(Refusal::from_number(0), None);
+    /// ```
     pub fn from_number(number: u8) -> Option<Refusal> {
         Refusal::ALL.into_iter().find(|r| r.number() == number)
     }
@@ -92,13 +123,15 @@ impl Refusal {
             }
             Refusal::Graph => {
                 "a graph is not simple, or a used vertex has a neighbour \
-                 or a code other than 0, 2, 4, 6, 8 and 10"
+                 or a code other than 0, 2, 4, 6, 8 and 10, or a store holds a name twice"
             }
             Refusal::Place => {
-                "a qubit number is n or more, CZ or a pivot names one qubit twice, \
-                 or a pivot's pair has no edge"
+                "a qubit number is n or more, CZ or a job's pivot names one qubit twice, \
+                 or that pivot's pair has no edge"
             }
             Refusal::Used => "the call names a used qubit",
+            Refusal::NotHeld => "a name to return to or forget is not held",
+            Refusal::Full => "a save finds eight other names held",
             Refusal::Anticommuting => "two generators do not commute",
             Refusal::Dependent => "the generators are dependent",
             Refusal::Comparison => {
@@ -141,14 +174,14 @@ mod tests {
         assert_eq!(Refusal::unless_accepted(0), Ok(()));
         let mut numbers = Refusal::ALL.map(Refusal::number);
         numbers.sort();
-        assert!(numbers.into_iter().eq(1..=16));
-        assert!((17..=255).all(|number| Refusal::from_number(number).is_none()));
+        assert!(numbers.into_iter().eq(1..=18));
+        assert!((19..=255).all(|number| Refusal::from_number(number).is_none()));
     }
 
     #[test]
     fn three_and_fourteen_are_checked_after_ten_fifteen_after_one_and_sixteen_after_eight() {
         let order = Refusal::ALL.map(Refusal::number);
-        let due = [1, 15, 2, 4, 5, 6, 7, 8, 16, 9, 10, 3, 14, 11, 12, 13];
+        let due = [1, 15, 2, 4, 5, 6, 7, 8, 16, 17, 18, 9, 10, 3, 14, 11, 12, 13];
         assert_eq!(order, due);
     }
 

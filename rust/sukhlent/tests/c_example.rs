@@ -70,8 +70,23 @@ fn generate_prints_its_stored_output_and_says_what_is_refused() {
 }
 
 #[test]
+fn recipes_prints_its_stored_output() {
+    assert_prints_its_stored_output("recipes");
+}
+
+#[test]
 fn in_place_prints_its_stored_output() {
     assert_prints_its_stored_output("in_place");
+}
+
+#[test]
+fn ring_prints_its_stored_output() {
+    assert_prints_its_stored_output("ring");
+}
+
+#[test]
+fn store_prints_its_stored_output() {
+    assert_prints_its_stored_output("store");
 }
 
 #[test]

@@ -5,7 +5,7 @@ use crate::common::reference::cut_rank;
 use crate::common::vectors::state_of;
 use crate::common::{random_record, Random, RecordCall};
 use simulator::{Complex, State, TOLERANCE};
-use sukhlent::{complement, cut, cz, gate, pivot, Record};
+use sukhlent::{complement, cut, cz, gate, Record};
 
 /// The record of a graph with these edges, with code 0 everywhere.
 fn graph(n: usize, edges: impl IntoIterator<Item = (usize, usize)>) -> Record {
@@ -165,15 +165,14 @@ fn the_schmidt_rank_of_the_state_is_two_to_the_rank() {
     }
 }
 
-/// One call that acts on the sides of a cut apart: a gate, CZ inside a side, or a complement or a
-/// pivot, which keep the group.
+/// One call that acts on the sides of a cut apart: a gate, CZ inside a side, or a complement, which
+/// keeps the group.
 fn step_apart(random: &mut Random, record: &mut Record, side: u64) {
     let n = record.n();
     let (a, b) = random.pair_below(n);
-    let done = match random.below(4) {
+    let done = match random.below(3) {
         0 => gate(record, a, random.below(24) as u8),
         1 if (side >> a ^ side >> b) & 1 == 0 => cz(record, a, b),
-        2 if record.neighbours[a] >> b & 1 == 1 => pivot(record, a, b),
         _ => complement(record, a),
     };
     assert_eq!(done, Ok(()));

@@ -22,7 +22,7 @@ pub fn lists(n: usize) -> impl Iterator<Item = GeneratorList> {
 }
 
 /// The record with the edges that k numbers and the codes that are the digits of m.
-fn record(n: usize, k: usize, m: usize) -> Record {
+pub fn record(n: usize, k: usize, m: usize) -> Record {
     let mut neighbours = vec![0; n];
     let pairs = (0..n).flat_map(|a| (a + 1..n).map(move |b| (a, b)));
     for (a, b) in pairs

@@ -1,13 +1,13 @@
 //! Damaged calls on a record in place: every number, pairs of faults, and every wrong argument.
 
-use crate::common::damage::{damage_record, each_fault, each_pair, flip};
+use crate::common::damage::{damage_record, each_fault, each_pair};
 use crate::common::damage::{record_faults, used_faults, Fault};
 use crate::common::reference::expanded;
 use crate::common::seeded::pauli::{X, Y, Z};
 use crate::common::{images, isolate, random_record, random_used_record, rows};
 use crate::common::{Operation, Pauli, Random, RecordCall};
 use sukhlent::Record;
-use Operation::{Complement, Cz, Gate, Measure, Pivot};
+use Operation::{Complement, Cz, Gate, Measure};
 
 type Call = RecordCall<Operation>;
 
@@ -51,20 +51,6 @@ fn own_faults(operation: Operation) -> Vec<Fault<Call>> {
             (8, |call| call.with = Complement(1 << 32)),
             (8, |call| call.with = Complement(u64::MAX)),
             (16, use_named),
-        ],
-        Pivot(..) => vec![
-            (8, |call| call.with = Pivot(8, 0)),
-            (8, |call| call.with = Pivot(0, 8)),
-            (8, |call| call.with = Pivot(u64::MAX, 1)),
-            (8, |call| call.with = Pivot(5, 5)),
-            (8, |call| {
-                flip(&mut call.neighbours, 0, 1);
-                flip(&mut call.neighbours, 1, 0);
-            }),
-            // A used vertex has no edge.
-            (8, use_named),
-            (8, |call| use_qubit(call, 0)),
-            (8, |call| use_qubit(call, 1)),
         ],
     }
 }
@@ -241,7 +227,7 @@ fn every_vertex_of_a_complementation() {
 }
 
 #[test]
-fn every_pair_of_a_cz_and_of_a_pivot() {
+fn every_pair_of_a_cz() {
     for n in [1, 2, 8, 63, 64] {
         let right = base(n, n as usize, Cz(0, 0));
         let call = |with| Call {
@@ -249,15 +235,10 @@ fn every_pair_of_a_cz_and_of_a_pivot() {
             ..right.clone()
         };
         for (a, b) in (0..n).flat_map(|a| (0..n).map(move |b| (a, b))) {
-            let edge = right.neighbours[a as usize] >> b & 1 == 1;
             assert_judged(&call(Cz(a, b)), if a == b { 8 } else { 0 });
-            assert_judged(&call(Pivot(a, b)), if edge { 0 } else { 8 });
         }
         for (a, b) in (0..n).flat_map(|a| beyond(n).map(move |b| (a, b))) {
             for operation in [Cz(a, b), Cz(b, a), Cz(b, b)] {
-                assert_judged(&call(operation), 8);
-            }
-            for operation in [Pivot(a, b), Pivot(b, a), Pivot(b, b)] {
                 assert_judged(&call(operation), 8);
             }
         }
@@ -266,11 +247,11 @@ fn every_pair_of_a_cz_and_of_a_pivot() {
 
 #[test]
 fn seeded_damage_against_the_reference() {
-    let mut counts = [[0; 17]; 5];
+    let mut counts = [[0; 17]; 4];
     for seed in 0..20_000 {
         let mut random = Random::new(20_000 + seed);
         let n = 2 + random.below(9);
-        let kind = random.below(5);
+        let kind = random.below(4);
         let operation = Operation::loose(&mut random, kind, n);
         let mut call = match random.below(2) {
             0 => base(seed, n, operation),
@@ -290,8 +271,6 @@ fn seeded_damage_against_the_reference() {
         let all = [0, 2, 4, 5, 6, 7, 8];
         assert!(all.iter().all(|&k| counts[k] > 20), "{counts:?}");
         assert_eq!(counts[14] > 20, kind == 2, "{counts:?}");
-        // A used vertex has no edge: a pivot there is 8.
-        assert_eq!(counts[16] > 20, kind != 4, "{counts:?}");
-        assert!(kind != 4 || counts[16] == 0, "{counts:?}");
+        assert!(counts[16] > 20, "{counts:?}");
     }
 }

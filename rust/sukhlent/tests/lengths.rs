@@ -1,7 +1,7 @@
 //! Numbers of qubits and lengths of buffers that are not as they should be.
 
 use crate::common::{list, random_rows, Operation, Random};
-use crate::common::{ImageLengths, Lengths, ListCall, RecordCall, Side};
+use crate::common::{ImageLengths, Lengths, Letters, ListCall, RecordCall, Side};
 use sukhlent::{reduce, Record};
 
 /// Lengths other than n, among them n modulo 256.
@@ -18,7 +18,7 @@ fn calls(n: usize) -> (ListCall, RecordCall<Lengths>) {
 }
 
 /// The calls in place on the record of a call.
-fn in_place<W>(call: &RecordCall<W>) -> [RecordCall<Operation>; 5] {
+fn in_place<W>(call: &RecordCall<W>) -> [RecordCall<Operation>; 4] {
     Operation::EACH.map(|with| RecordCall {
         n: call.n,
         neighbours: call.neighbours.clone(),
@@ -44,11 +44,20 @@ fn cut_of<W>(call: &RecordCall<W>) -> RecordCall<Side> {
     }
 }
 
+/// The value of a row on the record of a call.
+fn row_of<W>(call: &RecordCall<W>) -> RecordCall<Letters> {
+    RecordCall {
+        n: call.n,
+        ..RecordCall::row_of(&call.record(), 1, 1)
+    }
+}
+
 /// All calls on a record give the number.
 fn assert_refused(call: &RecordCall<Lengths>, number: u8) {
     assert_eq!(call.expand(), Err(number), "{call:?}");
     assert_eq!(image_of(call).image(), Err(number), "{call:?}");
     assert_eq!(cut_of(call).cut(), Err(number), "{call:?}");
+    assert_eq!(row_of(call).expectation(), Err(number), "{call:?}");
     for call in in_place(call) {
         assert_eq!(call.apply(), Err(number), "{call:?}");
     }

@@ -1,9 +1,9 @@
-//! Complements and pivots: the record rewritten, its group kept.
+//! Complements: the record rewritten, its group kept.
 
 use crate::common::local::complemented_record;
 use crate::common::reference::{expanded, reduced};
 use crate::common::{random_record, Operation, Random, RecordCall};
-use sukhlent::{complement, gate, pivot, reduce, Record, Refusal};
+use sukhlent::{complement, gate, reduce, Record};
 
 fn record(neighbours: &[u64], codes: &[u8]) -> Record {
     Record {
@@ -37,24 +37,6 @@ fn a_vertex_with_no_neighbours_changes_only_its_code() {
 }
 
 #[test]
-fn a_pivot_on_an_edge_alone_exchanges_x_and_z() {
-    // First 13, 6 and 13 at qubit 0; 6, 13 and 6 at qubit 1: X goes to Z up to signs.
-    let mut edge = record(&[2, 1], &[0, 0]);
-    assert_eq!(pivot(&mut edge, 0, 1), Ok(()));
-    assert_eq!(edge.neighbours, [2, 1]);
-    assert!(edge.codes.iter().all(|code| code / 4 == 2), "{edge:?}");
-    assert_eq!(reduced(&expanded(&edge)), record(&[2, 1], &[0, 0]));
-}
-
-#[test]
-fn a_pivot_without_an_edge_is_refused() {
-    let path = record(&[0b010, 0b101, 0b010], &[0, 0, 0]);
-    let mut given = path.clone();
-    assert_eq!(pivot(&mut given, 0, 2), Err(Refusal::Place));
-    assert_eq!(given, path);
-}
-
-#[test]
 fn the_record_is_not_reduced_until_a_gate() {
     let star = record(&[0b110, 0b001, 0b001], &[0, 0, 0]);
     let mut given = star.clone();
@@ -75,31 +57,6 @@ fn complements_on_up_to_64_vertices() {
         assert_eq!(answer, complemented_record(&given, a), "seed {seed}");
         assert_same_group(&given, &answer);
     }
-}
-
-#[test]
-fn pivots_on_up_to_64_vertices() {
-    let mut tried = 0;
-    for seed in 0..400 {
-        let mut random = Random::new(31_000 + seed);
-        let n = 2 + random.below(63);
-        let given = random_record(&mut random, n);
-        let (j, k) = random.pair_below(n);
-        if given.neighbours[j] >> k & 1 == 0 {
-            continue;
-        }
-        let [there, back] = [(j, k), (k, j)].map(|(j, k)| {
-            let answer = after(&given, Operation::Pivot(j as u64, k as u64));
-            let steps = [j, k, j].into_iter();
-            let due = steps.fold(given.clone(), |r, v| complemented_record(&r, v));
-            assert_eq!(answer, due, "seed {seed}");
-            assert_same_group(&given, &answer);
-            answer
-        });
-        assert_eq!(there, back, "seed {seed}: the order of the ends");
-        tried += 1;
-    }
-    assert!(tried > 100, "{tried}");
 }
 
 /// Two records stand for one group: by the reference, and by the engine's reduction.

@@ -3,10 +3,16 @@
 #[path = "../examples/orbits.rs"]
 #[allow(dead_code)]
 mod orbits;
+#[path = "../examples/ring.rs"]
+#[allow(dead_code)]
+mod ring;
 #[path = "../examples/session.rs"]
 #[allow(dead_code)]
 mod session;
 
+#[path = "../examples/store.rs"]
+#[allow(dead_code)]
+mod store;
 #[path = "../examples/strings.rs"]
 #[allow(dead_code)]
 mod strings;
@@ -16,6 +22,20 @@ fn session_prints_what_the_session_in_c_prints() {
     let mut text = String::new();
     session::session(&mut text).unwrap();
     assert_eq!(text, include_str!("../../../examples/c/session.out"));
+}
+
+#[test]
+fn ring_prints_what_the_ring_in_c_prints() {
+    let mut text = String::new();
+    ring::show(&mut text).unwrap();
+    assert_eq!(text, include_str!("../../../examples/c/ring.out"));
+}
+
+#[test]
+fn store_prints_what_store_in_c_prints() {
+    let mut text = String::new();
+    store::marked(&mut text).unwrap();
+    assert_eq!(text, include_str!("../../../examples/c/store.out"));
 }
 
 #[test]

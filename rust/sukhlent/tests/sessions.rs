@@ -60,7 +60,7 @@ impl Session {
         let list = expand(&self.record).unwrap();
         assert_eq!(list, expanded(&self.record));
         assert_stabilized(&self.state, &list);
-        if !matches!(operation, Operation::Complement(_) | Operation::Pivot(..)) {
+        if !matches!(operation, Operation::Complement(_)) {
             let graph_and_codes = Record {
                 used: 0,
                 ..self.record.clone()
@@ -92,7 +92,7 @@ impl Session {
         self.count(&format!("bit {bit} forbidden"));
     }
 
-    /// Does to the state vector what was done to the record. Complements and pivots do nothing.
+    /// Does to the state vector what was done to the record. A complement does nothing.
     fn follow(&mut self, operation: Operation, measured: Option<Measured>) {
         match operation {
             Operation::Gate(q, code) => {
@@ -109,7 +109,6 @@ impl Session {
                 self.measure(pauli, q, bit, measured);
             }
             Operation::Complement(_) => self.count("complement"),
-            Operation::Pivot(..) => self.count("pivot"),
         }
     }
 
@@ -171,7 +170,7 @@ fn seeded_sessions_against_state_vectors() {
             if session.is_over() {
                 session.start(random_record(&mut random, n));
             }
-            let kind = random.below(5);
+            let kind = random.below(4);
             let operation = Operation::loose(&mut random, kind, n);
             if random.below(8) == 0 {
                 session.refuse(&mut random, operation);
@@ -191,7 +190,6 @@ fn assert_all_happened(counts: &HashMap<String, usize>) {
     let rest = [
         "cz",
         "complement",
-        "pivot",
         "refused 6",
         "refused 8",
         "gate on a used qubit",

@@ -4,9 +4,9 @@ use crate::common::damage::flip;
 use crate::common::reference::{after, expanded, reduced};
 use crate::common::{isolate, random_used_record, use_up};
 use crate::common::{ListCall, Operation, Random, RecordCall};
-use sukhlent::{complement, cut, cz, expand, gate, measure, pivot, reduce};
+use sukhlent::{complement, cut, cz, expand, gate, measure, reduce};
 use sukhlent::{Measured, Pauli, Record, Refusal};
-use Operation::{Complement, Cz, Gate, Measure, Pivot};
+use Operation::{Complement, Cz, Gate, Measure};
 
 fn record(neighbours: &[u64], codes: &[u8], used: u64) -> Record {
     Record {
@@ -52,7 +52,6 @@ fn z_measured_at_both_ends_of_the_edge() {
         (Gate(0, 24), 6),
         (Gate(0, 8), 16),
         (Cz(0, 1), 16),
-        (Pivot(0, 1), 8),
     ] {
         assert_eq!(call(&first, operation), Err(due), "{operation:?}");
     }
@@ -70,15 +69,16 @@ fn records_that_are_refused_for_their_used_word() {
         assert_eq!(call(&record, Cz(0, 1)), Err(due), "{record:?}");
         assert_eq!(call(&record, Measure(1, 1, 0)), Err(due), "{record:?}");
         assert_eq!(call(&record, Complement(1)), Err(due), "{record:?}");
-        assert_eq!(call(&record, Pivot(0, 1)), Err(due), "{record:?}");
         assert_eq!(RecordCall::on(&record).expand(), Err(due), "{record:?}");
         let cut = RecordCall::cut_of(&record, 1).cut();
         assert_eq!(cut, Err(due), "{record:?}");
+        let value = RecordCall::row_of(&record, 1, 1).expectation();
+        assert_eq!(value, Err(due), "{record:?}");
     }
 }
 
 #[test]
-fn cz_gives_8_before_16_and_pivots_8_always() {
+fn cz_gives_8_before_16() {
     let two = record(&[0, 0, 0], &[8, 8, 8], 1);
     for (operation, due) in [
         (Cz(0, 0), 8),
@@ -87,10 +87,6 @@ fn cz_gives_8_before_16_and_pivots_8_always() {
         (Cz(0, 1), 16),
         (Cz(1, 0), 16),
         (Cz(1, 2), 0),
-        (Pivot(0, 0), 8),
-        (Pivot(0, 1), 8),
-        (Pivot(1, 0), 8),
-        (Pivot(0, 3), 8),
     ] {
         assert_eq!(number(&two, operation), due, "{operation:?}");
     }
@@ -108,11 +104,11 @@ fn the_safe_calls_say_the_same() {
     assert_eq!(cz(&mut state, 0, 1), Err(Refusal::Used));
     assert_eq!(cz(&mut state, 0, 0), Err(Refusal::Place));
     assert_eq!(complement(&mut state, 0), Err(Refusal::Used));
-    assert_eq!(pivot(&mut state, 0, 1), Err(Refusal::Place));
     let forbidden = measure(&mut state, Pauli::Z, 0, 0);
     assert_eq!(forbidden, Err(Refusal::Used), "16 before 14");
     assert_eq!(state, left);
     assert_eq!(cut(&state, 0b01), Ok(0));
+    assert_eq!(state.expectation(0b11, 0), Ok(1));
     assert_eq!(expand(&state), Ok(expanded(&left)));
     assert_eq!(gate(&mut state, 1, 8), Ok(()));
     assert_eq!(state.used, 1);
@@ -165,16 +161,13 @@ fn every_measured_vertex_stands_alone_with_the_code_of_its_outcome() {
 // ---- calls on the others
 #[test]
 fn accepted_calls_keep_every_used_vertex_and_copy_the_word() {
-    let mut counts = [0; 5];
-    for seed in 0..1500 {
+    let mut counts = [0; 4];
+    for seed in 0..1200 {
         let mut random = Random::new(81_000 + seed);
         let n = 2 + random.below(63);
         let given = random_used_record(&mut random, n);
-        let kind = seed as usize % 5;
-        let operation = match kind {
-            4 => an_edge(&mut random, &given),
-            _ => Operation::loose(&mut random, kind, n),
-        };
+        let kind = seed as usize % 4;
+        let operation = Operation::loose(&mut random, kind, n);
         let Ok((left, measured)) = call(&given, operation) else {
             continue;
         };
@@ -193,22 +186,6 @@ fn accepted_calls_keep_every_used_vertex_and_copy_the_word() {
     assert!(counts.iter().all(|&count| count > 80), "{counts:?}");
 }
 
-/// A pivot on a random edge, where there is one.
-fn an_edge(random: &mut Random, record: &Record) -> Operation {
-    let n = record.n();
-    let pairs = (0..n).flat_map(|j| (0..n).map(move |k| (j, k)));
-    let edges: Vec<_> = pairs
-        .filter(|&(j, k)| record.neighbours[j] >> k & 1 == 1)
-        .collect();
-    match edges.len() {
-        0 => Pivot(0, 1),
-        many => {
-            let (j, k) = edges[random.below(many)];
-            Pivot(j as u64, k as u64)
-        }
-    }
-}
-
 // The word is the caller's: graph and codes after an accepted call are those without it.
 #[test]
 fn the_word_does_not_change_what_an_accepted_call_leaves() {
@@ -217,7 +194,7 @@ fn the_word_does_not_change_what_an_accepted_call_leaves() {
         let mut random = Random::new(82_000 + seed);
         let n = 1 + random.below(64);
         let given = random_used_record(&mut random, n);
-        let kind = random.below(5);
+        let kind = random.below(4);
         let operation = Operation::loose(&mut random, kind, n);
         let forgotten = Record {
             used: 0,
@@ -262,7 +239,7 @@ fn every_qubit_of_64_is_refused_exactly_where_it_is_used() {
 }
 
 #[test]
-fn where_all_64_qubits_are_used_nothing_but_expanding_and_cutting_is_left() {
+fn where_all_64_qubits_are_used_nothing_but_reading_is_left() {
     let codes: Vec<u8> = (0..64).map(|q| 2 * (q % 6)).collect();
     let all = record(&[0; 64], &codes, u64::MAX);
     for q in 0..64 {
@@ -270,12 +247,13 @@ fn where_all_64_qubits_are_used_nothing_but_expanding_and_cutting_is_left() {
         for operation in [Gate(q, 0), Complement(q), Cz(q, next), Measure(3, q, 1)] {
             assert_eq!(number(&all, operation), 16, "{operation:?}");
         }
-        assert_eq!(number(&all, Pivot(q, next)), 8);
         assert_eq!(number(&all, Cz(q, q)), 8);
         assert_eq!(number(&all, Gate(q, 24)), 6);
     }
     assert_eq!(expand(&all), Ok(expanded(&all)));
     assert_eq!(cut(&all, 0x5555_5555_5555_5555), Ok(0));
+    assert_eq!(all.expectation(0, 1), Ok(1));
+    assert_eq!(all.expectation(0, 1 << 1), Ok(-1));
     let back = Record { used: 0, ..all };
     assert_eq!(reduced(&expanded(&back)), back);
 }

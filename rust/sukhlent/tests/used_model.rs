@@ -1,6 +1,6 @@
 //! Every record on up to two qubits with every used word, and every call on it, against a plain model.
 
-use crate::common::reference::{after, cut_rank, expanded};
+use crate::common::reference::{after, cut_rank, expanded, row_value};
 use crate::common::{Operation, RecordCall};
 use std::collections::BTreeMap;
 use sukhlent::Record;
@@ -36,7 +36,6 @@ fn operations(n: u64) -> Vec<Operation> {
         .chain(pairs().map(|(a, b)| Operation::Cz(a, b)))
         .chain(measurements)
         .chain(qubits().map(Operation::Complement))
-        .chain(pairs().map(|(j, k)| Operation::Pivot(j, k)))
         .collect()
 }
 
@@ -47,7 +46,6 @@ fn name(operation: Operation) -> &'static str {
         Operation::Cz(..) => "cz",
         Operation::Measure(..) => "measure",
         Operation::Complement(_) => "complement",
-        Operation::Pivot(..) => "pivot",
     }
 }
 
@@ -75,7 +73,6 @@ fn every_call_on_every_record_with_every_used_word() {
         ("cz", &[0, 5, 6, 7, 8, 16]),
         ("gate", &[0, 5, 6, 7, 8, 16]),
         ("measure", &[0, 5, 6, 7, 8, 14, 16]),
-        ("pivot", &[0, 5, 6, 7, 8]),
     ];
     let due = published.iter();
     let due = due.flat_map(|(name, numbers)| numbers.iter().map(move |&k| (*name, k)));
@@ -83,7 +80,7 @@ fn every_call_on_every_record_with_every_used_word() {
 }
 
 #[test]
-fn every_expansion_and_every_cut_of_every_record_with_every_used_word() {
+fn everything_read_off_every_record_with_every_used_word() {
     let mut counts = [0; 8];
     for n in 1..=2 {
         for record in records(n) {
@@ -101,6 +98,14 @@ fn every_expansion_and_every_cut_of_every_record_with_every_used_word() {
                     number => Err(number),
                 };
                 assert_eq!(call.cut(), due, "{call:?}");
+            }
+            for row in 0..4 << (2 * n) {
+                let call = RecordCall::row_of(&record, row >> (n + 1), row & ((2 << n) - 1));
+                let due = match call.due() {
+                    0 => Ok(row_value(&record, call.with.z, call.with.x)),
+                    number => Err(number),
+                };
+                assert_eq!(call.expectation(), due, "{call:?}");
             }
         }
     }

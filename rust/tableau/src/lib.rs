@@ -84,6 +84,13 @@ impl Tableau {
         }
     }
 
+    /// The sign with which a row is in the group, 1 for minus; None where a generator does not commute
+    /// with it. The row's own sign is left out.
+    pub fn value(&self, row: &Row) -> Option<u8> {
+        let commutes = !self.stabilizers.iter().any(|r| r.clashes(row));
+        commutes.then(|| self.sign_of(row))
+    }
+
     /// Puts a new generator in the place of generator j, the first that anticommutes with it.
     fn replace(&mut self, j: usize, new: Row) {
         let old = self.stabilizers[j];

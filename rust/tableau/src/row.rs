@@ -34,6 +34,16 @@ impl Row {
         }
     }
 
+    /// The row with these letters and sign plus: at each qubit the bits (z, x) are 00 for I, 01 for X,
+    /// 10 for Z, 11 for Y.
+    pub fn letters(z: u64, x: u64) -> Row {
+        Row {
+            phase: (x & z).count_ones() & 3,
+            x,
+            z,
+        }
+    }
+
     /// The row with its sign turned where the bit is 1.
     pub fn with_sign(self, bit: u8) -> Row {
         Row {

@@ -62,6 +62,19 @@ fn measure(state: &mut State, pauli: u8, q: usize, bit: u8) -> Option<Measured> 
     })
 }
 
+/// The values of all rows are those of the state.
+fn assert_values(state: &State, tableau: &Tableau) {
+    let n = tableau.n();
+    for (z, x) in (0..1 << n).flat_map(|z| (0..1 << n).map(move |x| (z, x))) {
+        let value = state.expectation(&Row::new(0, z, x));
+        let due = match tableau.value(&tableau::Row::letters(z, x)) {
+            Some(sign) => Complex::ONE.scale(1.0 - 2.0 * f64::from(sign)),
+            None => Complex::ZERO,
+        };
+        assert!(value.approx_eq(due), "{z:b}, {x:b} has {value:?}");
+    }
+}
+
 #[test]
 fn seeded_calls_against_state_vectors() {
     let matrices: Vec<Matrix2> = (0..24).map(matrix).collect();
@@ -92,6 +105,9 @@ fn seeded_calls_against_state_vectors() {
             }
             assert_full(&tableau);
             assert_stabilized(&state, &tableau);
+        }
+        if n < 5 {
+            assert_values(&state, &tableau);
         }
     }
     assert!(seen.iter().flatten().all(|&times| times > 100), "{seen:?}");

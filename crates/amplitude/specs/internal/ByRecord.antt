@@ -15,7 +15,11 @@ use Rattle.amplitude.specs.declared.Amplitude.the-variants.{Nothing}
 abbrev pub over : Phase → Phase → Phase
 over a b = a +ᵖ (b +ᵖ (b +ᵖ b))
 
--- the smallest word, by measurements; each equation; and the turns of the word over those of the smallest
+-- each equation, and the turns of the word over those of the smallest
+abbrev pub answerOver : ℕ → GraphRecord → ℕ → ℕ → Amplitude
+answerOver n r low y = cond (every n (fitsAt r y))
+    (turned (exponent (over (keptTurns n r (bit y)) (keptTurns n r (bit low))))) Nothing
+
+-- the same, the smallest word by measurements
 abbrev pub recordAnswer : ℕ → GraphRecord → ℕ → Amplitude
-recordAnswer n r y = cond (every n (fitsAt r y))
-    (turned (exponent (over (keptTurns n r (bit y)) (keptTurns n r (bit (wordOf n (outcomesDown n r))))))) Nothing
+recordAnswer n r y = answerOver n r (wordOf n (outcomesDown n r)) y

@@ -7,6 +7,7 @@ use Rattle.record.specs.Lent.{LentRecord, codeNumbers, heldRows, neighbourWords
 use Rattle.record.specs.Reduced.{reduced}
 use Rattle.stabilizer.specs.Lists.{GeneratorList, listOf, rows}
 use Rattle.claims.specs.SessionDemand.{Change, changed, czChange, gateChange, measureChange}
+use Rattle.jobs.specs.internal.Examples.{Example, example}
 
 abbrev inNumbers : GeneratorList → List (List ℕ)
 inNumbers m = m .signs ∷ m .z ∷ m .x ∷ []
@@ -28,32 +29,22 @@ joined = record { n = 2; neighbours = 2 ∷ 1 ∷ []; codes = 0 ∷ 8 ∷ [] }
 abbrev apart : LentRecord
 apart = record { n = 2; neighbours = 0 ∷ 0 ∷ []; codes = 10 ∷ 10 ∷ [] }
 
-pub record Example : Type 0 where
-  pub given : List (List ℕ)
-  pub expected : List (List ℕ)
-
 -- signs, z words and x words; then, for both ways, neighbour words and codes
-abbrev example : List (List ℕ) → List ℕ → List ℕ → List ℕ → List ℕ → List ℕ → Example
-example given s z x nb cs = record { given = given; expected = s ∷ z ∷ x ∷ nb ∷ cs ∷ nb ∷ cs ∷ [] }
+abbrev session : List (List ℕ) → List ℕ → List ℕ → List ℕ → List ℕ → List ℕ → Example (List (List ℕ))
+session given s z x nb cs = example given (s ∷ z ∷ x ∷ nb ∷ cs ∷ nb ∷ cs ∷ [])
 
-abbrev pub table : List Example
+abbrev pub table : List (Example (List (List ℕ)))
 table =
     -- a Hadamard on qubit 0: ZX, XZ
-    example (bothWays joined (gateWith 0 8) (gateChange 2 0 8)) (0 ∷ 0 ∷ []) (1 ∷ 2 ∷ []) (2 ∷ 1 ∷ []) (2 ∷ 1 ∷ [])
+    session (bothWays joined (gateWith 0 8) (gateChange 2 0 8)) (0 ∷ 0 ∷ []) (1 ∷ 2 ∷ []) (2 ∷ 1 ∷ []) (2 ∷ 1 ∷ [])
     (0 ∷ 0 ∷ [])
     -- CZ: YY, ZZ
-    ∷ example (bothWays joined (czOn 0 1) (czChange 0 1)) (0 ∷ 0 ∷ []) (3 ∷ 3 ∷ []) (3 ∷ 0 ∷ []) (2 ∷ 1 ∷ [])
+    ∷ session (bothWays joined (czOn 0 1) (czChange 0 1)) (0 ∷ 0 ∷ []) (3 ∷ 3 ∷ []) (3 ∷ 0 ∷ []) (2 ∷ 1 ∷ [])
     (2 ∷ 8 ∷ [])
     -- Z on qubit 0 with outcome 1, not determined: -ZI, ZZ
-    ∷ example (bothWays joined (measurementOf 3 0 1) (measureChange 2 3 0 1)) (1 ∷ 0 ∷ []) (1 ∷ 3 ∷ []) (0 ∷ 0 ∷ [])
+    ∷ session (bothWays joined (measurementOf 3 0 1) (measureChange 2 3 0 1)) (1 ∷ 0 ∷ []) (1 ∷ 3 ∷ []) (0 ∷ 0 ∷ [])
     (0 ∷ 0 ∷ []) (10 ∷ 10 ∷ [])
     -- Z on qubit 1 with bit 1, determined: -ZI, -IZ as they were
-    ∷ example (bothWays apart (measurementOf 3 1 1) (measureChange 2 3 1 1)) (1 ∷ 1 ∷ []) (1 ∷ 2 ∷ []) (0 ∷ 0 ∷ [])
+    ∷ session (bothWays apart (measurementOf 3 1 1) (measureChange 2 3 1 1)) (1 ∷ 1 ∷ []) (1 ∷ 2 ∷ []) (0 ∷ 0 ∷ [])
     (0 ∷ 0 ∷ []) (10 ∷ 10 ∷ [])
     ∷ []
-
-abbrev pub given : List (List (List ℕ))
-given = map (λ e. e .given) table
-
-abbrev pub expected : List (List (List ℕ))
-expected = map (λ e. e .expected) table

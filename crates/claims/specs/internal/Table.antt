@@ -18,13 +18,7 @@ use Rattle.pauli.specs.Pauli.{exponent}
 use Rattle.call_product.specs.Products.{chosenProduct, productLines}
 use Rattle.call_lists.specs.Calls.{checkLines}
 use Rattle.words.specs.Bits.{digit, wordOf}
-
-pub record Example : Type 0 where
-  pub given : List ℕ
-  pub expected : List ℕ
-
-abbrev example : List ℕ → List ℕ → Example
-example a b = record { given = a; expected = b }
+use Rattle.jobs.specs.internal.Examples.{Example, example}
 
 -- codes by number: first a, then b; the inverse
 abbrev composed : ℕ → ℕ → ℕ
@@ -72,7 +66,7 @@ one s z x = listWith 1 (s ∷ []) (z ∷ []) (x ∷ [])
 abbrev recordWith : ℕ → List ℕ → List ℕ → LentRecord
 recordWith n neighbours codes = record { n = n; neighbours = neighbours; codes = codes }
 
-abbrev pub table : List Example
+abbrev pub table : List (Example (List ℕ))
 table =
     -- 8 then 8 is 0; 4 then 4 is 2; 8 then 4 is 20; 4 then 8 is 18; the inverse of 12 is 13
     example (composed 8 8 ∷ composed 4 4 ∷ composed 8 4 ∷ composed 4 8 ∷ inverseCode 12 ∷ [])
@@ -101,9 +95,3 @@ table =
     ∷ example (compares (one 0 1 0) (one 0 1 1)) (0 ∷ 12 ∷ 0 ∷ [])
     ∷ example (compares (one 0 0 1) (one 1 0 1)) (0 ∷ 2 ∷ [])
     ∷ []
-
-abbrev pub given : List (List ℕ)
-given = map (λ e. e .given) table
-
-abbrev pub expected : List (List ℕ)
-expected = map (λ e. e .expected) table

@@ -24,7 +24,7 @@ use Rattle.comparison_answer.proofs.compare_reduced.Tie as tie
 use Rattle.comparison_answer.proofs.compare_reduced.Reads as reads
 use Rattle.comparison_answer.proofs.compare_reduced.Lts as lts
 use Rattle.buffers.proofs.copy_list.Reads as copy-list-reads
-use Rattle.comparison_answer.proofs.copy_choice.Reads as copy-choice-reads
+use Rattle.buffers.proofs.copy_bytes.Reads as copy-bytes-reads
 use Rattle.comparison_answer.proofs.induced_image.Reads as induced-image-reads
 use Rattle.comparison_parts.proofs.compare_parts.Reads as compare-parts-reads
 use Rattle.parts_words.proofs.part_above.Reads as part-above-reads
@@ -99,7 +99,7 @@ induced-image-requires c κs =
     let small = (large-tests (a .n) (a .neighbours .now) (a .neighbours2 .now) _ _ _ (S .pre .0 .neighbours-length)
     (S .pre .1 .0 .neighbours-length) (E₁ .before .before .part-above .ensures) (E₁ .before .part-above2 .ensures) (E₁ .if1 .left)) in
     let x = T .compare-parts .result .choice in
-    let e = choice-written (a .n) x (a .choice .now) _ (S .pre .1 .1 .0) (K .copy-choice .ensures) in (
+    let e = choice-written (a .n) x (a .choice .now) _ (S .pre .1 .1 .0) (K .copy-bytes .ensures) in (
       S .pre .0,
       (
         (choice-long (a .n) x _ e, S .pre .1 .0 .codes-length, part-long _ _ (S .pre .0 .upto) refl),
@@ -135,7 +135,7 @@ returns-3 c =
     let small = (large-tests (a .n) (a .neighbours .now) (a .neighbours2 .now) _ _ _ (S .pre .0 .neighbours-length)
     (S .pre .1 .0 .neighbours-length) (E₁ .before .before .part-above .ensures) (E₁ .before .part-above2 .ensures) (E₁ .if1 .left)) in
     let x = T .compare-parts .result .choice in
-    let e = choice-written (a .n) x (a .choice .now) _ (S .pre .1 .1 .0) (K .copy-choice .ensures) in
+    let e = choice-written (a .n) x (a .choice .now) _ (S .pre .1 .1 .0) (K .copy-bytes .ensures) in
     λ R R₂ H H₂. pair-accepted (a .n) (a .neighbours .now) (a .codes .now) (a .neighbours2 .now) (a .codes2 .now) (S .pre .0) (S .pre .1 .0) small
     (T .compare-parts .result .found) (T .compare-parts .result .choice) (T .compare-parts .ensures) R R₂ H H₂
     (not-false _ (E .if2 .left)) _ e _ (J .induced-image .ensures) (a .choice .now) (a .list .now) _ (a .count .now) _

@@ -1,10 +1,9 @@
 -- What the parts of the comparison answer: the reduced records of two lists, and the comparison of two records: what
 -- only the proofs name.
-use mathlib.Core.Bool.{cond, _||_}
+use mathlib.Core.Bool.{_||_}
 use mathlib.Core.List.{List, [], _∷_}
 use mathlib.Core.Path.{_≡_}
 use Prim.Native.Nat.{ℕ}
-use lib.Dec.{eqb, ltb}
 use lib.ListN.{length}
 use Rattle.buffers.specs.Buffers.{accepted, acceptedNumber, tabulate, written}
 use Rattle.buffers.specs.Refusals.{Refusal, firstFitting, line}
@@ -15,11 +14,6 @@ use Rattle.record.specs.Lent.{codeNumbers, neighbourWords}
 use Rattle.record.specs.Reduced.{reduced, reducedGraph}
 use Rattle.stabilizer.specs.Groups.{Proper}
 use Rattle.comparison_answer.specs.ComparedPairs.{compareList}
-
--- the smaller of two numbers of lines, where 0 stands for none: "of the numbers found in either the first in
--- checking order"
-abbrev pub earlierOf : ℕ → ℕ → ℕ
-earlierOf a b = cond (eqb a 0) b (cond (eqb b 0) a (cond (ltb a b) a b))
 
 -- buffers that hold the reduced record of these rows
 pub record HoldsReduced (n : ℕ) (R : ℕ → Pauli) (neighbours codes : List ℕ) : Type 0 where

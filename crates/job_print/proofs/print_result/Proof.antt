@@ -17,7 +17,7 @@ put-field-requires : tie.Need-put-field-requires
 put-field-requires c κs =
     let step = c .before .before .before in
     let start = step .before .before .before in
-    omega (arith, length-step (start .args .k), step .put-step .ensures .end, step .put-step .kept, start .pre)
+    omega (arith, length-step (start .args .k), step .put-long-field .ensures .end, step .put-long-field .kept, start .pre)
 
 put-field-requires-2 : tie.Need-put-field-requires-2
 put-field-requires-2 c κs =
@@ -28,8 +28,8 @@ put-field-requires-2 c κs =
       arith,
       length-step (start .args .k),
       length-field (start .args .refusal),
-      step .put-step .ensures .end,
-      step .put-step .kept,
+      step .put-long-field .ensures .end,
+      step .put-long-field .kept,
       refusal .put-field .ensures .end,
       refusal .put-field .kept,
       start .pre,
@@ -46,8 +46,8 @@ put-decimal-requires c κs =
       length-step (start .args .k),
       length-field (start .args .refusal),
       length-field (start .args .outcome),
-      step .put-step .ensures .end,
-      step .put-step .kept,
+      step .put-long-field .ensures .end,
+      step .put-long-field .kept,
       refusal .put-field .ensures .end,
       refusal .put-field .kept,
       outcome .put-field2 .ensures .end,
@@ -68,8 +68,8 @@ put-requires c κs =
       length-field (start .args .refusal),
       length-field (start .args .outcome),
       length-decimal (start .args .determined),
-      step .put-step .ensures .end,
-      step .put-step .kept,
+      step .put-long-field .ensures .end,
+      step .put-long-field .kept,
       refusal .put-field .ensures .end,
       refusal .put-field .kept,
       outcome .put-field2 .ensures .end,
@@ -97,7 +97,7 @@ returns c =
     (and-then (omega (arith, length-three (a .k) r, length-decimal (a .determined), all, start .pre))
     (and-then (omega (arith, length-three (a .k) r, start .pre))
     (and-then (omega (arith, long-k, long-refusal, two, start .pre))
-    (and-then (omega (arith, long-k, start .pre)) (step .put-step .ensures) (refusal .put-field .ensures))
+    (and-then (omega (arith, long-k, start .pre)) (step .put-long-field .ensures) (refusal .put-field .ensures))
     (outcome .put-field2 .ensures)) (determined .put-decimal .ensures)) (c .before .before .put .ensures))
 
 pub print-result-spec : {M : Type 1} → statement M

@@ -44,21 +44,21 @@ returns-2 : tie.Need-returns-2
 returns-2 c =
     let l = c .before .before in
     c .with-op2 .ensures
-    ∙ other-letter _ (l .before .before .before .args .s) _ _ _ (l .before .op-for .ensures) (l .letters-of .ensures)
+    ∙ other-letter _ (l .before .before .before .args .s) _ _ _ (l .before .op-for .ensures) (l .op-letters .ensures)
     (l .before .before .if1 .left) (c .before .if2 .taken)
 
 returns-3 : tie.Need-returns-3
 returns-3 c =
     let l = c .before .before .before in
     c .with-op3 .ensures
-    ∙ last-letter _ (l .before .before .before .args .s) _ _ _ (l .before .op-for .ensures) (l .letters-of .ensures)
+    ∙ last-letter _ (l .before .before .before .args .s) _ _ _ (l .before .op-for .ensures) (l .op-letters .ensures)
     (l .before .before .if1 .left) (c .before .before .if2 .left) (c .before .if3 .taken)
 
 returns-4 : tie.Need-returns-4
 returns-4 c =
     let l = c .before .before .before in
     c .with-op4 .ensures
-    ∙ next-letter _ (l .before .before .before .args .s) _ _ _ (l .before .op-for .ensures) (l .letters-of .ensures)
+    ∙ next-letter _ (l .before .before .before .args .s) _ _ _ (l .before .op-for .ensures) (l .op-letters .ensures)
     (l .before .before .if1 .left) (c .before .before .if2 .left) (c .before .if3 .left)
 
 pub word-step-spec : {M : Type 1} → statement M

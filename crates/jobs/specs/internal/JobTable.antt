@@ -7,6 +7,7 @@ use Rattle.jobs.specs.declared.Answer.{Answer}
 use Rattle.jobs.specs.declared.Op.{Op}
 use Rattle.jobs.specs.declared.Op.the-variants.{Complement, Cz, Gate, Measure, Pivot}
 use Rattle.jobs.specs.declared.Step.{Step}
+use Rattle.jobs.specs.internal.Examples.{Example, example}
 
 abbrev does : Op → ℕ → ℕ → ℕ → Step
 does op a b value = record { op = op; a = a; b = b; value = value }
@@ -25,14 +26,7 @@ ran n steps = lines (stepAnswers (started n) steps) ++ contents (run (started n)
 abbrev answer : ℕ → ℕ → ℕ → List ℕ
 answer refusal outcome determined = refusal ∷ outcome ∷ determined ∷ []
 
-pub record Example : Type 0 where
-  pub given : List (List ℕ)
-  pub expected : List (List ℕ)
-
-abbrev example : List (List ℕ) → List (List ℕ) → Example
-example a b = record { given = a; expected = b }
-
-abbrev pub table : List Example
+abbrev pub table : List (Example (List (List ℕ)))
 table =
     -- no step: +Z everywhere
     example (ran 2 []) ((0 ∷ 0 ∷ []) ∷ (8 ∷ 8 ∷ []) ∷ (0 ∷ []) ∷ [])
@@ -61,9 +55,3 @@ table =
     ∷ answer 8 0 0 ∷ answer 8 0 0 ∷ answer 16 0 0 ∷ answer 8 0 0 ∷ answer 0 0 0
     ∷ (0 ∷ 0 ∷ []) ∷ (8 ∷ 0 ∷ []) ∷ (1 ∷ []) ∷ [])
     ∷ []
-
-abbrev pub given : List (List (List ℕ))
-given = map (λ e. e .given) table
-
-abbrev pub expected : List (List (List ℕ))
-expected = map (λ e. e .expected) table

@@ -1,17 +1,19 @@
 -- `reply` meets its contract: prints the answer to the text that was scanned, whatever text it was.
 use borrow.Author.Needs.{needs}
+use Rattle.list_reply.proofs.Answering.{too-many-printed}
 use Rattle.list_reply.proofs.ReadTexts.{formed-responds, malformed-responds}
+use Rattle.list_reply.specs.Answer.{answerText}
 use Rattle.list_reply.proofs.reply.Statement.{statement}
 use Rattle.list_reply.proofs.reply.Tie as tie
 
 returns : tie.Need-returns
 returns c =
-    formed-responds _ _ _ _ _ _ _ (c .before .before .before .before .if1 .taken)
+    formed-responds answerText _ _ _ _ _ _ _ too-many-printed (c .before .before .before .before .if1 .taken)
     (c .before .before .answer .ensures)
 
 returns-2 : tie.Need-returns-2
 returns-2 c =
-    malformed-responds _ _ _ _ _ _ _ (c .before .before .before .before .if1 .left)
+    malformed-responds answerText _ _ _ _ _ _ _ (c .before .before .before .before .if1 .left)
     (c .before .before .print-refusal .ensures)
 
 pub reply-spec : {M : Type 1} → statement M

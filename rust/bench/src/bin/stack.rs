@@ -21,7 +21,7 @@ const CASES: u64 = 100;
 type Measured = (&'static str, usize, fn(&mut Random, usize) -> usize);
 
 /// Every public call. All arguments are accepted, so that every step is taken.
-const CALLS: [Measured; 18] = [
+const CALLS: [Measured; 22] = [
     ("check", 64, |random, n| {
         let given = list(&random_rows(random, n));
         depth(|| raw::check(n as u64, &given.signs, &given.z, &given.x))
@@ -59,11 +59,6 @@ const CALLS: [Measured; 18] = [
             raw::complement(n, words, codes, *used, 0)
         })
     }),
-    ("pivot", 64, |random, n| {
-        in_place(random, n, |n, words, codes, used| {
-            raw::pivot(n, words, codes, *used, 0, 1)
-        })
-    }),
     ("image", 64, |random, n| {
         let (neighbours, codes) = pairs(random, n);
         let (mut image, mut signs, mut list, mut count) = ([0; 64], [0; 64], [0; 96], 0);
@@ -86,6 +81,45 @@ const CALLS: [Measured; 18] = [
         let side = 0x5555_5555_5555_5555;
         let mut rank = 0;
         depth(|| raw::cut(n as u64, &neighbours, &codes, used, side, &mut rank))
+    }),
+    ("amplitude", 64, |random, n| {
+        let (neighbours, codes, used) = used_pairs(random, n);
+        let (mut re, mut im, mut p) = (0.0, 0.0, 0.0);
+        let parts = (&mut re, &mut im);
+        depth(|| {
+            raw::amplitude(
+                n as u64,
+                &neighbours,
+                &codes,
+                used,
+                0,
+                parts.0,
+                parts.1,
+                &mut p,
+            )
+        })
+    }),
+    ("expectation", 64, |random, n| {
+        let (neighbours, codes, used) = used_pairs(random, n);
+        let (z, x) = (random.word(), random.word());
+        let mut value = 0;
+        depth(|| raw::expectation(n as u64, &neighbours, &codes, used, z, x, &mut value))
+    }),
+    ("save", 64, |random, n| {
+        let (neighbours, codes, used) = used_pairs(random, n);
+        let (mut heads, mut words, mut bytes) = full_store(random);
+        let record = (n as u64, &*neighbours, &*codes, used);
+        depth(|| raw::save(record, 7, &mut heads, &mut words, &mut bytes))
+    }),
+    ("return", 64, |random, _| {
+        let (heads, words, bytes) = full_store(random);
+        let (mut n, mut neighbours, mut codes, mut used) = (0, [0; 64], [0; 64], 0);
+        let store = (&heads[..], &words[..], &bytes[..]);
+        depth(|| raw::return_to(7, store, &mut n, &mut neighbours, &mut codes, &mut used))
+    }),
+    ("forget", 64, |random, _| {
+        let (mut heads, words, bytes) = full_store(random);
+        depth(|| raw::forget(7, &mut heads, &words, &bytes))
     }),
     ("product", 64, |random, n| {
         let given = list(&random_rows(random, n));
@@ -155,6 +189,18 @@ fn used_pairs(random: &mut Random, n: usize) -> (Vec<u64>, Vec<u8>, u64) {
     (neighbours, codes, 0b11 << (n - 2))
 }
 
+/// A store that holds eight records of 64 qubits, under the names 0 to 7.
+fn full_store(random: &mut Random) -> ([u64; 24], Vec<u64>, Vec<u8>) {
+    let (mut heads, mut words, mut bytes) = ([0; 24], Vec::new(), Vec::new());
+    for name in 0..8 {
+        let (neighbours, codes, used) = used_pairs(random, 64);
+        heads[3 * name..3 * name + 3].copy_from_slice(&[64, name as u64, used]);
+        words.extend(neighbours);
+        bytes.extend(codes);
+    }
+    (heads, words, bytes)
+}
+
 /// The neighbours and the codes of edges in pairs with Hadamards: the image rule fills its list.
 fn pairs(random: &mut Random, n: usize) -> (Vec<u64>, Vec<u8>) {
     let signs = random.word();
@@ -193,7 +239,7 @@ fn measure() -> Vec<usize> {
     all.unwrap().join().unwrap()
 }
 
-/// A row of the README's table.
+/// A row of the table in docs/SPEED.md.
 fn row(name: &str, n: usize) -> String {
     format!("| {name} | {n} | ")
 }
@@ -210,18 +256,18 @@ fn main() {
 mod tests {
     use super::*;
 
-    const README: &str = include_str!("../../../../README.md");
+    const SPEED: &str = include_str!("../../../../docs/SPEED.md");
 
     #[test]
-    fn the_readme_says_what_each_call_needs_within_a_fifth() {
+    fn the_document_says_what_each_call_needs_within_a_fifth() {
         for ((name, n, _), bytes) in CALLS.iter().zip(measure()) {
             let row = row(name, *n);
-            let said = README.lines().find_map(|line| line.strip_prefix(&row));
+            let said = SPEED.lines().find_map(|line| line.strip_prefix(&row));
             let said = said.unwrap_or_else(|| panic!("no line {row}"));
             let said: usize = said.trim_end_matches(" |").parse().unwrap();
             assert!(
                 5 * bytes <= 6 * said && 4 * said <= 5 * bytes,
-                "{name} on {n}: {bytes} bytes, the README says {said}"
+                "{name} on {n}: {bytes} bytes, docs/SPEED.md says {said}"
             );
         }
     }

@@ -1,11 +1,13 @@
 //! The timed calls: seeded cases, both answers compared, and the line of the table.
 
+pub mod amplitude;
 pub mod compare;
 pub mod image;
 pub mod in_place;
 pub mod orbit;
 pub mod reduce;
 pub mod strings;
+pub mod values;
 
 use crate::timing::{medians, Work};
 use std::fmt;

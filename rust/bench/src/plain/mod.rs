@@ -1,5 +1,6 @@
 //! The calls in plain Rust, written from document 01's text on whole words.
 
+mod amplitude;
 mod codes;
 mod compare;
 mod equations;
@@ -10,13 +11,16 @@ mod refusals;
 mod row;
 mod search;
 mod strings;
+mod values;
 
+pub use amplitude::{amplitude, supported_word};
 pub use compare::compare;
 pub use image::image;
 pub use orbit::orbit;
 pub use reduce::reduce;
 pub use row::Row;
 pub use strings::{check, read_strings, write_strings};
+pub use values::{expand, expectation};
 
 /// The places of a buffer for a list of complementations.
 const LIST_PLACES: usize = 96;

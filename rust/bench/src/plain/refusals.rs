@@ -49,3 +49,26 @@ pub fn of_record(n: u64, neighbours: &[u64], codes: &[u8], others: &[usize]) -> 
     }
     0
 }
+
+/// The refusals of a record with used qubits, of a further word, and of further buffers of n places.
+pub fn of_used_record(
+    n: u64,
+    neighbours: &[u64],
+    codes: &[u8],
+    used: u64,
+    word: u64,
+    others: &[usize],
+) -> u8 {
+    let number = of_record(n, neighbours, codes, others);
+    if number == 2 || number == 4 {
+        return number;
+    }
+    if (used | word) & !(u64::MAX >> (64 - n)) != 0 {
+        return 5;
+    }
+    let wrong = |q: usize| neighbours[q] != 0 || codes[q] >= 12 || codes[q] % 2 == 1;
+    if number == 0 && places(used).any(wrong) {
+        return 7;
+    }
+    number
+}

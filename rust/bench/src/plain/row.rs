@@ -32,6 +32,11 @@ impl Row {
         self.x ^= changed;
     }
 
+    /// The power of i that the row gives the basis state of a word.
+    pub fn turns(&self, y: u64) -> u32 {
+        (self.phase + 2 * (self.z & y).count_ones()) & 3
+    }
+
     /// Whether the letters have the sign minus.
     pub fn is_minus(&self) -> bool {
         (self.phase.wrapping_sub((self.z & self.x).count_ones())) & 3 == 2

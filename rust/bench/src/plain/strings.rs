@@ -1,6 +1,6 @@
 //! Texts of Pauli strings in plain Rust: the form, the letters, then the refusals of the list.
 
-use super::{reduce, refusals};
+use super::refusals;
 use sukhlent::raw::Lent;
 
 /// The list of a text, or the number of the refusal.
@@ -68,16 +68,34 @@ pub fn write_strings((n, signs, z, x): Lent, text: &mut [u8]) -> u8 {
 
 /// The number of a list: its refusals, with that of dependent generators.
 pub fn check(list: Lent) -> u8 {
-    let (n, signs, z, x) = list;
+    let (_, _, z, x) = list;
     let refusal = refusals::of_list(list, &[]);
-    if refusal != 0 {
-        return refusal;
+    if refusal == 0 && !independent(z, x) {
+        return 10;
     }
-    let (mut neighbours, mut codes) = ([0; 64], [0; 64]);
-    let m = n as usize;
-    if reduce::reduced(signs, z, x, &mut neighbours[..m], &mut codes[..m]) {
-        0
-    } else {
-        10
+    refusal
+}
+
+/// Whether rows are independent, signs dropped: each in turn is added to the later rows that have
+/// its lowest x bit, or its lowest z bit where it has no x bit.
+fn independent(z: &[u64], x: &[u64]) -> bool {
+    let n = z.len();
+    let (mut own_z, mut own_x) = ([0; 64], [0; 64]);
+    own_z[..n].copy_from_slice(z);
+    own_x[..n].copy_from_slice(x);
+    for k in 0..n {
+        let (by_z, by_x) = (own_z[k], own_x[k]);
+        if by_z | by_x == 0 {
+            return false;
+        }
+        let in_x = by_x != 0;
+        let lowest = if in_x { by_x } else { by_z }.trailing_zeros();
+        for (z, x) in own_z[k + 1..n].iter_mut().zip(&mut own_x[k + 1..n]) {
+            let word = if in_x { *x } else { *z };
+            let mask = (word >> lowest & 1).wrapping_neg();
+            *z ^= by_z & mask;
+            *x ^= by_x & mask;
+        }
     }
+    true
 }

@@ -1,11 +1,16 @@
-//! A job of steps in three ways: by the calls, by expanding, changing the list and reducing, and on a
-//! plain tableau. All qubits start in +Z. No qubit is used up: the calls are given the used word 0.
+//! A job of steps in five ways: by the calls, by expanding, changing the list and reducing, on a plain
+//! tableau by rows and on one by columns, and on a graph that is not reduced. All qubits start in +Z.
+//! No qubit is used up: the calls are given the used word 0.
 
 mod calls;
+mod columns;
+mod graph;
 mod lists;
 mod plain;
 
 pub use calls::Calls;
+pub use columns::Columns;
+pub use graph::Graph;
 pub use lists::Lists;
 pub use plain::Plain;
 

@@ -20,10 +20,6 @@ pub fn complement(random: &mut Random) -> u8 {
     keeps_group(random, 3)
 }
 
-pub fn pivot(random: &mut Random) -> u8 {
-    keeps_group(random, 4)
-}
-
 /// The record left is the reduced one of its group, apart from the used word.
 fn leaves_reduced(random: &mut Random, kind: usize) -> u8 {
     once(random, kind, |_, after| {

@@ -6,6 +6,7 @@ mod lists;
 mod orbits;
 mod pairs;
 mod records;
+mod stores;
 mod strings;
 
 use crate::common::Random;
@@ -20,7 +21,7 @@ pub struct Call {
 }
 
 /// Every public call.
-pub const CALLS: [Call; 16] = [
+pub const CALLS: [Call; 20] = [
     Call {
         name: "check",
         once: lists::check,
@@ -50,16 +51,20 @@ pub const CALLS: [Call; 16] = [
         once: in_place::complement,
     },
     Call {
-        name: "pivot",
-        once: in_place::pivot,
-    },
-    Call {
         name: "image",
         once: records::image,
     },
     Call {
         name: "cut",
         once: records::cut,
+    },
+    Call {
+        name: "amplitude",
+        once: records::amplitude,
+    },
+    Call {
+        name: "expectation",
+        once: records::expectation,
     },
     Call {
         name: "product",
@@ -84,5 +89,17 @@ pub const CALLS: [Call; 16] = [
     Call {
         name: "orbit",
         once: orbits::orbit,
+    },
+    Call {
+        name: "save",
+        once: stores::save,
+    },
+    Call {
+        name: "return",
+        once: stores::return_to,
+    },
+    Call {
+        name: "forget",
+        once: stores::forget,
     },
 ];

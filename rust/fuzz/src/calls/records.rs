@@ -1,8 +1,9 @@
 //! Calls on one record.
 
-use crate::arguments::{cut_call, expand_call, image_call, size};
+use crate::arguments::{amplitude_call, cut_call, expand_call, expectation_call, image_call, size};
 use crate::common::local::complemented;
-use crate::common::reference::cut_rank;
+use crate::common::reference::{cut_rank, plot_lines, product, row_value, turns};
+use crate::common::vectors::state_of;
 use crate::common::{ImageLengths, Random, RecordCall};
 use sukhlent::{check, expand as expanded, reduce, GeneratorList, Image, Record};
 
@@ -41,6 +42,49 @@ pub fn cut(random: &mut Random) -> u8 {
     assert_eq!(number, call.due(), "{call:?}");
     if let Ok(rank) = answer {
         assert_eq!(rank, cut_rank(&call.neighbours, call.with.0), "{call:?}");
+    }
+    number
+}
+
+/// On few qubits the line is that of the state's vector. On any number an element of the group leads
+/// to another word, and turns the value.
+pub fn amplitude(random: &mut Random) -> u8 {
+    let n = size(random);
+    let call = amplitude_call(random, n);
+    let answer = call.amplitude();
+    let number = answer.err().unwrap_or(0);
+    assert_eq!(number, call.due(), "{call:?}");
+    let Ok(line) = answer else {
+        return number;
+    };
+    let (record, y) = (call.record(), call.with.0);
+    if record.n() <= 6 {
+        assert_eq!(line, plot_lines(&state_of(&record))[y as usize], "{call:?}");
+    }
+    let list = expanded(&record).expect("an accepted record");
+    let element = product(&list, random.word() >> (64 - record.n()));
+    let there = RecordCall::amplitude_of(&record, y ^ element.x).amplitude();
+    let [re, im, p] = line.map(f64::from_bits);
+    let turned = match turns(&element, y) {
+        0 => [re, im, p],
+        1 => [0.0 - im, re, p],
+        2 => [0.0 - re, 0.0 - im, p],
+        _ => [im, 0.0 - re, p],
+    };
+    assert_eq!(there, Ok(turned.map(f64::to_bits)), "{call:?}");
+    number
+}
+
+/// A value is that of membership in the group.
+pub fn expectation(random: &mut Random) -> u8 {
+    let n = size(random);
+    let call = expectation_call(random, n);
+    let answer = call.expectation();
+    let number = answer.err().unwrap_or(0);
+    assert_eq!(number, call.due(), "{call:?}");
+    if let Ok(value) = answer {
+        let due = row_value(&call.record(), call.with.z, call.with.x);
+        assert_eq!(value, due, "{call:?}");
     }
     number
 }

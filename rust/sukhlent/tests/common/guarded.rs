@@ -7,7 +7,7 @@ const GUARD: usize = 70;
 
 /// Elements that can fill a guard or an answer buffer before a call.
 pub trait Pattern: Copy + PartialEq + Debug {
-    /// An element that is no sign, no code and no word of few qubits.
+    /// An element that is no sign, no code, no word of few qubits and no part of an amplitude.
     fn pattern(place: usize) -> Self;
 }
 
@@ -26,6 +26,12 @@ impl Pattern for u16 {
 impl Pattern for u64 {
     fn pattern(place: usize) -> u64 {
         0xa55a_c33c_0000_0001 | (place as u64) << 8
+    }
+}
+
+impl Pattern for f64 {
+    fn pattern(place: usize) -> f64 {
+        -3.5 - place as f64
     }
 }
 

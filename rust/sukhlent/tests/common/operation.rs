@@ -14,29 +14,25 @@ pub enum Operation {
     Measure(u8, u64, u8),
     /// The vertex of a complementation.
     Complement(u64),
-    /// The edge of a pivot.
-    Pivot(u64, u64),
 }
 
 impl Operation {
     /// One of each call, on the first qubits.
-    pub const EACH: [Operation; 5] = [
+    pub const EACH: [Operation; 4] = [
         Operation::Gate(0, 8),
         Operation::Cz(0, 1),
         Operation::Measure(3, 0, 1),
         Operation::Complement(0),
-        Operation::Pivot(0, 1),
     ];
 
-    /// A random call of one kind, 0 to 4, on n qubits; each argument may be one too large.
+    /// A random call of one kind, 0 to 3, on n qubits; each argument may be one too large.
     pub fn loose(random: &mut Random, kind: usize, n: usize) -> Operation {
         let [a, b] = [0, 1].map(|_| random.below(n + 1) as u64);
         match kind {
             0 => Operation::Gate(a, random.below(25) as u8),
             1 => Operation::Cz(a, b),
             2 => Operation::Measure(random.below(5) as u8, a, random.below(3) as u8),
-            3 => Operation::Complement(a),
-            _ => Operation::Pivot(a, b),
+            _ => Operation::Complement(a),
         }
     }
 
@@ -47,7 +43,7 @@ impl Operation {
             Operation::Gate(a, _) | Operation::Measure(_, a, _) | Operation::Complement(a) => {
                 a == q
             }
-            Operation::Cz(a, b) | Operation::Pivot(a, b) => a == q || b == q,
+            Operation::Cz(a, b) => a == q || b == q,
         }
     }
 
@@ -68,7 +64,6 @@ impl Operation {
                 n, neighbours, codes, used, pauli, qubit, outcome, answer, determined,
             ),
             Operation::Complement(a) => raw::complement(n, neighbours, codes, *used, a),
-            Operation::Pivot(j, k) => raw::pivot(n, neighbours, codes, *used, j, k),
         }
     }
 }

@@ -8,7 +8,7 @@ use borrow.Author.Needs.{needs}
 use borrow.Author.Tests.{not-false, not-true}
 use Rattle.stabilizer.specs.internal.Elimination.{lend}
 use Rattle.stabilizer.specs.Elimination.{shear}
-use Rattle.stabilizer.specs.internal.Tableau.{tableau}
+use Rattle.reduction.specs.internal.Relative.{relative}
 use Rattle.reduction.proofs.Pivoting.{
   cleared,
   cleared-commutes,
@@ -35,17 +35,17 @@ long : (c : tie.Joined1) → length (c .if1 .rows) ≡ 64
 long c = ⊎-elim (λ w. ap length (w .5) ∙ w .4 .ensures .0) (λ w. ap length (w .1) ∙ c .before .before .pre .0)
     (c .if1 .came)
 
-lent : (c : tie.Joined1) (j : ℕ) → tableau (c .if1 .signs) (c .if1 .rows) j
-    ≡ shear 64 (tableau (c .before .before .args .signs .now) (c .before .before .args .rows .now))
+lent : (c : tie.Joined1) (j : ℕ) → relative (c .if1 .signs) (c .if1 .rows) j
+    ≡ shear 64 (relative (c .before .before .args .signs .now) (c .before .before .args .rows .now))
     (c .before .before .args .i)
-    (lend (tableau (c .before .before .args .signs .now) (c .before .before .args .rows .now))
+    (lend (relative (c .before .before .args .signs .now) (c .before .before .args .rows .now))
     (c .before .before .args .q)) j
 lent c j = let S = c .before .before in
     let known = sym (c .before .has .ensures) in
     ⊎-elim
-    (λ w. ap₂ (λ m v. tableau m v j) (w .6) (w .5) ∙ w .4 .ensures .1 j
+    (λ w. ap₂ (λ m v. relative m v j) (w .6) (w .5) ∙ w .4 .ensures .1 j
     ∙ lent-now _ _ _ _ (S .pre .1) (known ∙ not-true _ (w .0 .taken)) _ (w .3 .ensures) j)
-    (λ w. ap₂ (λ m v. tableau m v j) (w .2) (w .1)
+    (λ w. ap₂ (λ m v. relative m v j) (w .2) (w .1)
     ∙ lent-already _ (S .args .q) (S .args .i) (S .args .holders) (S .pre .1) (known ∙ not-false _ (w .0 .left)) j)
     (c .if1 .came)
 

@@ -36,8 +36,8 @@ element-copy-out-row c = let E = c in
           (E .smallest .ensures .0)) .0,
     )
 
-letters-minus-requires : tie.Need-letters-minus-requires Inv-loop μ-loop
-letters-minus-requires c κs =
+relative-minus-requires : tie.Need-relative-minus-requires Inv-loop μ-loop
+relative-minus-requires c κs =
     let E = c .before in
     let T = E .before in
     let L = T .before .loop in
@@ -104,9 +104,9 @@ loop-again c = let E = c .before .before .before .before .before in
     (L .rest) (L .inv) (S .fits .named .fits) (T .loop-test .taken) (E .smallest .ensures .0)) .1)
     ((next-row (S .args .rows .now) (S .args .signs .now) (S .args .a) (S .args .named) (L .rows) (L .signs)
     (L .rest) (L .inv) (S .fits .named .fits) (T .loop-test .taken) (E .smallest .ensures .0)) .0)
-    (S .pre .1) _ _ _ (T .before .before .has .result) (c .before .before .before .letters-minus .result)
+    (S .pre .1) _ _ _ (T .before .before .has .result) (c .before .before .before .relative-minus .result)
     (T .before .before .has .ensures)
-    (c .before .before .before .letters-minus .ensures) refl (c .before .flip-where .ensures)
+    (c .before .before .before .relative-minus .ensures) refl (c .before .flip-where .ensures)
     (c .flip .ensures)
 
 returns : tie.Need-returns Inv-loop μ-loop
@@ -122,5 +122,5 @@ shear-in-place-spec =
     tie.close
     (tie.spec Inv-loop μ-loop (λ c. search needs) (λ c. search needs) (λ c. search needs) (λ c. search needs)
     (λ c κs. search needs) loop-holds (λ c κs. search needs) (λ c. search needs) element-copy-out-row
-    (λ c. search needs) (λ c. search needs) letters-minus-requires (λ c. search needs) element-set-from-rows
+    (λ c. search needs) (λ c. search needs) relative-minus-requires (λ c. search needs) element-set-from-rows
     flip-where-requires flip-requires loop-less loop-again returns)

@@ -1,6 +1,8 @@
 //! Elements of a group.
 
-use crate::common::seeded::Pauli;
+use crate::common::reference::expanded;
+use crate::common::seeded::{rows, Pauli};
+use sukhlent::Record;
 
 /// Whether an operator, with its sign, is a product of commuting generators.
 ///
@@ -23,4 +25,21 @@ pub fn is_element(generators: &[Pauli], asked: &Pauli) -> bool {
         }
     }
     rest == Pauli::identity(asked.letters.len())
+}
+
+/// The value of a row with these words: 0 where it is an element of the record's group, 1 where its
+/// negative is, 2 where neither is.
+pub fn row_value(record: &Record, z: u64, x: u64) -> u8 {
+    let generators = rows(&expanded(record));
+    let signed = |phase: u8| {
+        let letter = |q: usize| 2 * (z >> q & 1) as u8 + (x >> q & 1) as u8;
+        let letters = (0..record.n()).map(letter).collect();
+        is_element(&generators, &Pauli { phase, letters })
+    };
+    match (signed(0), signed(2)) {
+        (true, false) => 0,
+        (false, true) => 1,
+        (false, false) => 2,
+        (true, true) => panic!("both signs are in the group of {record:?}"),
+    }
 }

@@ -104,9 +104,6 @@ pub fn argument_refusal(n: u64, record: &Record, operation: Operation) -> u8 {
     let eight = match operation {
         Operation::Gate(q, _) | Operation::Measure(_, q, _) | Operation::Complement(q) => q >= n,
         Operation::Cz(a, b) => a >= n || b >= n || a == b,
-        Operation::Pivot(j, k) => {
-            j >= n || k >= n || j == k || record.neighbours[j as usize] >> k & 1 == 0
-        }
     };
     if eight {
         return 8;
@@ -128,11 +125,20 @@ pub fn image_refusal(n: u64, record: &Record, others: &[usize], list: usize) -> 
     first_of(&[(of_record != 0, of_record), (list != LIST_PLACES, 4)])
 }
 
-/// The first line that is true of a cut: of a record and of the side.
+/// The first line that is true of a cut, or of an amplitude: of a record and of the side, or the word.
 pub fn cut_refusal(n: u64, record: &Record, side: u64) -> u8 {
     match record_refusal(n, record, &[]) {
         number @ (2 | 4) => number,
         _ if stray(side, n) => 5,
+        number => number,
+    }
+}
+
+/// The first line that is true of the value of a row: of a record and of the two words.
+pub fn expectation_refusal(n: u64, record: &Record, z: u64, x: u64) -> u8 {
+    match record_refusal(n, record, &[]) {
+        number @ (2 | 4) => number,
+        _ if stray(z, n) || stray(x, n) => 5,
         number => number,
     }
 }

@@ -35,10 +35,6 @@ pub fn after(record: &Record, operation: Operation) -> (Record, Option<Measured>
             (Record { used, ..left }, Some(answer))
         }
         Operation::Complement(a) => kept(complemented_record(record, a as usize)),
-        Operation::Pivot(j, k) => {
-            let vertices = [j, k, j].map(|v| v as usize).into_iter();
-            kept(vertices.fold(record.clone(), |r, v| complemented_record(&r, v)))
-        }
     }
 }
 

@@ -1,0 +1,2 @@
+pub mod KeptCounts
+pub mod PlotLines

@@ -1,0 +1,14 @@
+-- What the program promises of the text that it reads. No contract can name what a read brings, so the text is some
+-- list of bytes.
+use mathlib.Core.List.{List}
+use Prim.Native.Nat.{ℕ}
+use lib.ListN.{take}
+use Rattle.claims.specs.PlotDemand.{PlotTextAnswered}
+use Rattle.list_reply.specs.Answer.{ResponseTo}
+use Rattle.plot_reply.specs.Answer.{plotAnswer}
+
+-- a text was read, and its answer printed; the bytes up to there say of the text what the demands say
+pub record Responded (before after : List ℕ) (r : ℕ) : Type 0 where
+  pub text : List ℕ
+  pub response : ResponseTo plotAnswer text before after r
+  pub answered : PlotTextAnswered text (take r after)

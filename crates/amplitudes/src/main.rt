@@ -1,0 +1,27 @@
+// Reads a generator list from standard input, by `read_list` of list_input, and prints the table of its amplitudes, which
+// `reply` of plot_reply makes of what was scanned.
+use libc::STDOUT_FILENO;
+use list_input::read_list;
+use plot_reply::reply;
+ghost use Prim.Native.Nat.{_≤_};
+ghost use lib.ListN.{length};
+ghost use Rattle.plot_reply.specs.Answer.{longestTable};
+ghost use Rattle.amplitudes.specs.Reads.{Responded};
+
+// Prints the answer to the text on standard input.
+fn respond(out: &mut [u8]) -> usize
+    requires { ⌜ longestTable ≤ length (now out) ⌝ }
+    ensures { λ r. ⌜ Responded (now (out .entry)) (now (out .exit)) r ⌝ }
+{
+    let mut signs = [0u8; 64];
+    let mut z = [0u64; 64];
+    let mut x = [0u64; 64];
+    let verdict = read_list(&mut signs, &mut z, &mut x);
+    reply(verdict, signs, z, x, out)
+}
+
+fn main() {
+    let mut out = [0u8; 57354];
+    let end = respond(&mut out);
+    io::write_all(STDOUT_FILENO, &out[..end]);
+}

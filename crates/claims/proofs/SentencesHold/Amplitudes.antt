@@ -1,0 +1,19 @@
+-- What the demands say of the exported function on amplitudes, from its contract.
+use Prim.Native.Nat.{ℕ}
+use lib.Ieee.{Float}
+use Rattle.call_amplitude.specs.AmplitudeCalls.{amplitudeCall}
+use Rattle.contracts.specs.Calls.{Call}
+use Rattle.used.specs.Used.{UsedRecord}
+use Rattle.claims.proofs.AmplitudeDemandHolds.{amplitudes-answer}
+use Rattle.claims.proofs.families.Amplitudes.{amplitudes-accepted, amplitudes-conform}
+use Rattle.claims.proofs.families.Shared.{answered, at-zero}
+use Rattle.claims.specs.Sentences.Amplitudes.{AmplitudeSays}
+
+pub amplitude-says : (u : UsedRecord) (y : ℕ) (re im p re′ im′ p′ : Float) (r : ℕ) →
+    Call (amplitudeCall u y re im p re′ im′ p′) r → AmplitudeSays u y re im p re′ im′ p′ r
+amplitude-says u y re im p re′ im′ p′ r C =
+    record {
+      answered = answered (amplitudes-conform .amplitudes u y re im p re′ im′ p′) C;
+      accepted = amplitudes-accepted .amplitude u y re im p re′ im′ p′ r C;
+      answer = λ z. amplitudes-answer u y re im p re′ im′ p′ (at-zero C z);
+    }

@@ -1,0 +1,68 @@
+-- What the demands say of each exported function on lists and on texts of Pauli strings, from its contract.
+use mathlib.Core.List.{List}
+use mathlib.Core.Path.{_≡_}
+use Prim.Native.Nat.{ℕ}
+use Rattle.call_lists.specs.Calls.{checkCall, reduceCall, reduceUnusedCall}
+use Rattle.call_product.specs.Products.{productCall}
+use Rattle.call_strings.specs.StringCalls.{readStringsCall, writeStringsCall}
+use Rattle.contracts.specs.Calls.{Call}
+use Rattle.stabilizer.specs.Lists.{GeneratorList}
+use Rattle.claims.proofs.ListDemandHolds.{checks-tell, reduction-answers}
+use Rattle.claims.proofs.ProductDemandHolds.{products-answer}
+use Rattle.claims.proofs.SecondDemandLists.{reduced-codes, reduction-keeps-group}
+use Rattle.claims.proofs.StringsDemandHolds.{strings-demand}
+use Rattle.claims.proofs.UsedDemandHolds.{reduced-without, reductions-unused}
+use Rattle.claims.proofs.families.Lists.{lists-accepted, lists-conform}
+use Rattle.claims.proofs.families.Shared.{answered, at-zero}
+use Rattle.claims.specs.Sentences.Lists.{CheckSays, ProductSays, ReadStringsSays, ReduceSays, WriteStringsSays}
+
+pub check-says : (l : GeneratorList) (r : ℕ) → Call (checkCall l) r → CheckSays l r
+check-says l r C =
+    record {
+      answered = answered (lists-conform .check l) C;
+      accepted = lists-accepted .check l r C;
+      tells = checks-tell l r C;
+    }
+
+pub reduce-says : (l : GeneratorList) (nb cs : List ℕ) (used : ℕ) (nb′ cs′ : List ℕ) (used′ r : ℕ) →
+    Call (reduceUnusedCall l nb cs used nb′ cs′ used′) r → ReduceSays l nb cs used nb′ cs′ used′ r
+reduce-says l nb cs used nb′ cs′ used′ r C =
+    record {
+      answered = answered (lists-conform .reduce l nb cs used nb′ cs′ used′) C;
+      accepted = lists-accepted .reduce l nb cs used nb′ cs′ used′ r C;
+      form = λ z. reduction-answers l nb cs nb′ cs′ (plain z);
+      group = λ z. reduction-keeps-group l nb cs nb′ cs′ (plain z);
+      codes = λ z. reduced-codes l nb cs nb′ cs′ (plain z);
+      unused = λ z. reductions-unused l nb cs used nb′ cs′ used′ (at-zero C z);
+    }
+  where
+    plain : r ≡ 0 → Call (reduceCall l nb cs nb′ cs′) 0
+    plain z = reduced-without l nb cs used nb′ cs′ used′ (at-zero C z)
+
+pub product-says : (l : GeneratorList) (chosen z x phase z′ x′ phase′ r : ℕ) →
+    Call (productCall l chosen z x phase z′ x′ phase′) r → ProductSays l chosen z x phase z′ x′ phase′ r
+product-says l chosen z x phase z′ x′ phase′ r C =
+    record {
+      answered = answered (lists-conform .products l chosen z x phase z′ x′ phase′) C;
+      accepted = lists-accepted .product l chosen z x phase z′ x′ phase′ r C;
+      answer = λ e. products-answer l chosen z x phase z′ x′ phase′ (at-zero C e);
+    }
+
+pub read-strings-says : (t s z x s′ z′ x′ : List ℕ) (r : ℕ) → Call (readStringsCall t s z x s′ z′ x′) r →
+    ReadStringsSays t s z x s′ z′ x′ r
+read-strings-says t s z x s′ z′ x′ r C =
+    record {
+      answered = answered (lists-conform .reads t s z x s′ z′ x′) C;
+      accepted = lists-accepted .read-strings t s z x s′ z′ x′ r C;
+      form = strings-demand .form t s z x s′ z′ x′ r C;
+      back = λ e. strings-demand .text-back t s z x s′ z′ x′ (at-zero C e);
+    }
+
+pub write-strings-says : (l : GeneratorList) (text text′ : List ℕ) (r : ℕ) → Call (writeStringsCall l text text′) r →
+    WriteStringsSays l text text′ r
+write-strings-says l text text′ r C =
+    record {
+      answered = answered (lists-conform .writes l text text′) C;
+      accepted = lists-accepted .write-strings l text text′ r C;
+      back = λ e. strings-demand .list-back l text text′ (at-zero C e);
+    }

@@ -1,0 +1,44 @@
+-- What the request says of the exported functions on a store of named states, from their contracts.
+use mathlib.Core.Bool.{false, _||_}
+use mathlib.Core.List.{List}
+use Prim.Native.Nat.{ℕ}
+use Rattle.buffers.specs.Refusals.{otherThan}
+use Rattle.call_store.specs.StoreCalls.{forgetCall, returnCall, saveCall}
+use Rattle.contracts.specs.Calls.{Call}
+use Rattle.store.specs.Places.{Store}
+use Rattle.used.specs.Used.{UsedRecord}
+use Rattle.claims.proofs.StoreDemandHolds.{forgets-keep, returns-give, saves-keep}
+use Rattle.claims.proofs.StoreRefusals.{full-exactly, not-held-exactly}
+use Rattle.claims.proofs.families.Shared.{answered, at-zero}
+use Rattle.claims.proofs.families.Stores.{stores-accepted, stores-conform}
+use Rattle.claims.specs.Sentences.Stores.{ForgetSays, ReturnSays, SaveSays}
+
+pub save-says : (u : UsedRecord) (name : ℕ) (st : Store) (heads′ nb′ cs′ : List ℕ) (r : ℕ) →
+    Call (saveCall u name st heads′ nb′ cs′) r → SaveSays u name st heads′ nb′ cs′ r
+save-says u name st heads′ nb′ cs′ r C =
+    record {
+      answered = answered (stores-conform .saves u name st heads′ nb′ cs′) C;
+      accepted = stores-accepted .save u name st heads′ nb′ cs′ r C;
+      full = full-exactly u name st (C .number);
+      keeps = λ z. saves-keep u name st heads′ nb′ cs′ (at-zero C z);
+    }
+
+pub return-says : (name : ℕ) (st : Store) (n : ℕ) (nb cs : List ℕ) (used n′ : ℕ) (nb′ cs′ : List ℕ) (used′ r : ℕ) →
+    Call (returnCall name st n nb cs used n′ nb′ cs′ used′) r → ReturnSays name st n nb cs used n′ nb′ cs′ used′ r
+return-says name st n nb cs used n′ nb′ cs′ used′ r C =
+    record {
+      answered = answered (stores-conform .returns name st n nb cs used n′ nb′ cs′ used′) C;
+      accepted = stores-accepted .return name st n nb cs used n′ nb′ cs′ used′ r C;
+      not-held = not-held-exactly name st (otherThan 64 nb || otherThan 64 cs) (C .number);
+      gives = λ z. returns-give name st n nb cs used n′ nb′ cs′ used′ (at-zero C z);
+    }
+
+pub forget-says : (name : ℕ) (st : Store) (heads′ : List ℕ) (r : ℕ) → Call (forgetCall name st heads′) r →
+    ForgetSays name st heads′ r
+forget-says name st heads′ r C =
+    record {
+      answered = answered (stores-conform .forgets name st heads′) C;
+      accepted = stores-accepted .forget name st heads′ r C;
+      not-held = not-held-exactly name st false (C .number);
+      keeps = λ z. forgets-keep name st heads′ (at-zero C z);
+    }

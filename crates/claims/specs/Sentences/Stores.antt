@@ -1,0 +1,36 @@
+-- What the documents say of the exported functions on a store of named states, a record for each: demand 1, which arguments
+-- it accepts, its own refusal, and the sentences of the request that speak of its answer.
+use mathlib.Core.Bool.{false, _||_}
+use mathlib.Core.List.{List}
+use mathlib.Core.Logic.{_↔_}
+use mathlib.Core.Path.{_≡_}
+use Prim.Native.Nat.{ℕ}
+use Rattle.buffers.specs.Refusals.{otherThan}
+use Rattle.call_store.specs.StoreCalls.{forgetCall, returnCall, saveCall}
+use Rattle.store.specs.Places.{Store}
+use Rattle.used.specs.Used.{UsedRecord}
+use Rattle.claims.specs.Conforming.{Answered}
+use Rattle.claims.specs.StoreDemand.{ForgetKeeps, FullStore, NotHeld, ReturnGives, SaveKeeps, storeOf}
+use Rattle.claims.specs.families.Stores.{ForgetFits, ReturnFits, SaveFits}
+
+-- of save: the record under its name, every other name as it was
+pub record SaveSays (u : UsedRecord) (name : ℕ) (st : Store) (heads′ nb′ cs′ : List ℕ) (r : ℕ) : Type 0 where
+  pub answered : Answered (saveCall u name st heads′ nb′ cs′) r
+  pub accepted : (r ≡ 0) ↔ SaveFits u name st
+  pub full : FullStore u name st r
+  pub keeps : r ≡ 0 → SaveKeeps u name st (storeOf heads′ nb′ cs′)
+
+-- of return: the record that is held under the name
+pub record ReturnSays (name : ℕ) (st : Store) (n : ℕ) (nb cs : List ℕ) (used n′ : ℕ) (nb′ cs′ : List ℕ) (used′ r : ℕ) :
+    Type 0 where
+  pub answered : Answered (returnCall name st n nb cs used n′ nb′ cs′ used′) r
+  pub accepted : (r ≡ 0) ↔ ReturnFits name st nb cs
+  pub not-held : NotHeld name st (otherThan 64 nb || otherThan 64 cs) r
+  pub gives : r ≡ 0 → ReturnGives name st nb cs n′ nb′ cs′ used′
+
+-- of forget: nothing under the name, every other name as it was
+pub record ForgetSays (name : ℕ) (st : Store) (heads′ : List ℕ) (r : ℕ) : Type 0 where
+  pub answered : Answered (forgetCall name st heads′) r
+  pub accepted : (r ≡ 0) ↔ ForgetFits name st
+  pub not-held : NotHeld name st false r
+  pub keeps : r ≡ 0 → ForgetKeeps name st (storeOf heads′ (st .neighbours) (st .codes))

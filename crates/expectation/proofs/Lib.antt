@@ -1,0 +1,5 @@
+pub mod Examples
+pub mod ValueLaws
+pub mod Reading
+pub mod ReadWords
+pub mod CarriedValues

@@ -1,0 +1,2 @@
+pub mod SendingBack
+pub mod Elements

@@ -1,0 +1,2 @@
+pub mod ReducedBuffers
+pub mod Answering

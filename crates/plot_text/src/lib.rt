@@ -1,0 +1,1 @@
+// The table of a plot as text. See specs/ for the definitions and proofs/ for the laws.

@@ -1,0 +1,4 @@
+pub mod Letters
+pub mod Pivots
+pub mod Additions
+pub mod Elimination

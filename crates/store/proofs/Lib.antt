@@ -1,0 +1,10 @@
+pub mod StoreExamples
+pub mod ManyRecords
+pub mod StoreNumbers
+pub mod Searching
+pub mod PassingStores
+pub mod SavePlaces
+pub mod Names
+pub mod PlacedParts
+pub mod Lookups
+pub mod ForgottenNames

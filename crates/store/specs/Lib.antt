@@ -1,0 +1,4 @@
+pub mod Places
+pub mod StoreLines
+pub mod Kept
+pub mod internal

@@ -1,0 +1,2 @@
+pub mod StoreNumbers
+pub mod Passing

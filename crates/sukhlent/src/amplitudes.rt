@@ -1,0 +1,24 @@
+// The amplitudes of a record, as C sees them.
+ghost use Rattle.call_amplitude.specs.AmplitudeCalls.{amplitudeCall};
+ghost use Rattle.contracts.specs.Calls.{Call};
+
+// The amplitude at y over that at the smallest word with a nonzero amplitude, as real and imaginary part, and the
+// probability of y.
+#[no_mangle]
+pub extern "C" fn sukhlent_amplitude(
+    n: u64,
+    neighbours: &[u64],
+    codes: &[u8],
+    used: u64,
+    y: u64,
+    re: &mut f64,
+    im: &mut f64,
+    p: &mut f64,
+) -> u8
+    ensures { λ r. ⌜ Call (amplitudeCall (record {
+      held = record { n = n; neighbours = now (neighbours .entry); codes = now (codes .entry) };
+      used = used;
+    }) y (now (re .entry)) (now (im .entry)) (now (p .entry)) (now (re .exit)) (now (im .exit)) (now (p .exit))) r ⌝ }
+{
+    call_amplitude::amplitude(n, neighbours, codes, used, y, re, im, p)
+}

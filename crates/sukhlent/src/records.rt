@@ -1,0 +1,162 @@
+// The calls on records, as C sees them.
+ghost use Rattle.call_cut.specs.Cuts.{cutCall};
+ghost use Rattle.call_expand.specs.Expanding.{expandCall};
+ghost use Rattle.call_gates.specs.InPlaceCalls.{usedCall, usedMeasureCall};
+ghost use Rattle.call_image.specs.Images.{imageCall};
+ghost use Rattle.contracts.specs.Calls.{Call};
+ghost use Rattle.operations.specs.Steps.{complementOf, czOn, gateWith};
+
+// The generators of a record, in order.
+#[no_mangle]
+pub extern "C" fn sukhlent_expand(
+    n: u64,
+    neighbours: &[u64],
+    codes: &[u8],
+    used: u64,
+    signs: &mut [u8],
+    z: &mut [u64],
+    x: &mut [u64],
+) -> u8
+    ensures { λ r. ⌜ Call (expandCall
+        (record {
+          held = record { n = n; neighbours = now (neighbours .entry); codes = now (codes .entry) };
+          used = used;
+        })
+        (now (signs .entry)) (now (z .entry)) (now (x .entry))
+        (now (signs .exit)) (now (z .exit)) (now (x .exit))) r ⌝ }
+{
+    call_expand::expand(n, neighbours, codes, used, signs, z, x)
+}
+
+// A code applied after the code held at a qubit, and the reduced record.
+#[no_mangle]
+pub extern "C" fn sukhlent_gate(
+    n: u64,
+    neighbours: &mut [u64],
+    codes: &mut [u8],
+    used: u64,
+    qubit: u64,
+    code: u8,
+) -> u8
+    ensures { λ r. ⌜ Call (usedCall
+        (record {
+          held = record { n = n; neighbours = now (neighbours .entry); codes = now (codes .entry) };
+          used = used;
+        })
+        (gateWith qubit code) (now (neighbours .exit)) (now (codes .exit))) r ⌝ }
+{
+    call_gates::gate(n, neighbours, codes, used, qubit, code)
+}
+
+// CZ on two qubits, and the reduced record.
+#[no_mangle]
+pub extern "C" fn sukhlent_cz(
+    n: u64,
+    neighbours: &mut [u64],
+    codes: &mut [u8],
+    used: u64,
+    a: u64,
+    b: u64,
+) -> u8
+    ensures { λ r. ⌜ Call (usedCall
+        (record {
+          held = record { n = n; neighbours = now (neighbours .entry); codes = now (codes .entry) };
+          used = used;
+        })
+        (czOn a b) (now (neighbours .exit)) (now (codes .exit))) r ⌝ }
+{
+    call_gates::cz(n, neighbours, codes, used, a, b)
+}
+
+// A Pauli measured at a qubit: the outcome, whether it was determined, and the reduced record.
+#[no_mangle]
+pub extern "C" fn sukhlent_measure(
+    n: u64,
+    neighbours: &mut [u64],
+    codes: &mut [u8],
+    used: &mut u64,
+    pauli: u8,
+    qubit: u64,
+    outcome: u8,
+    answer: &mut u8,
+    determined: &mut u8,
+) -> u8
+    ensures { λ r. ⌜ Call (usedMeasureCall
+        (record {
+          held = record { n = n; neighbours = now (neighbours .entry); codes = now (codes .entry) };
+          used = now (used .entry);
+        })
+        pauli qubit outcome (now (answer .entry)) (now (determined .entry))
+        (now (neighbours .exit)) (now (codes .exit)) (now (used .exit)) (now (answer .exit))
+        (now (determined .exit))) r ⌝ }
+{
+    call_measure::measure(
+        n,
+        neighbours,
+        codes,
+        used,
+        pauli,
+        qubit,
+        outcome,
+        answer,
+        determined,
+    )
+}
+
+// Local complementation at a vertex; the record is not reduced.
+#[no_mangle]
+pub extern "C" fn sukhlent_complement(
+    n: u64,
+    neighbours: &mut [u64],
+    codes: &mut [u8],
+    used: u64,
+    a: u64,
+) -> u8
+    ensures { λ r. ⌜ Call (usedCall
+        (record {
+          held = record { n = n; neighbours = now (neighbours .entry); codes = now (codes .entry) };
+          used = used;
+        })
+        (complementOf a) (now (neighbours .exit)) (now (codes .exit))) r ⌝ }
+{
+    call_complement::complement(n, neighbours, codes, used, a)
+}
+
+// The image graph, its signs, and the list of the vertices complemented.
+#[no_mangle]
+pub extern "C" fn sukhlent_image(
+    n: u64,
+    neighbours: &[u64],
+    codes: &[u8],
+    image: &mut [u64],
+    signs: &mut [u8],
+    list: &mut [u8],
+    count: &mut u64,
+) -> u8
+    ensures { λ r. ⌜ Call (imageCall
+        (record { n = n; neighbours = now (neighbours .entry); codes = now (codes .entry) })
+        (now (image .entry)) (now (signs .entry)) (now (list .entry)) (now (count .entry))
+        (now (image .exit)) (now (signs .exit)) (now (list .exit)) (now (count .exit))) r ⌝ }
+{
+    call_image::image(n, neighbours, codes, image, signs, list, count)
+}
+
+// The rank of the edges between the marked side of a record's vertices and the other.
+#[no_mangle]
+pub extern "C" fn sukhlent_cut(
+    n: u64,
+    neighbours: &[u64],
+    codes: &[u8],
+    used: u64,
+    side: u64,
+    rank: &mut u64,
+) -> u8
+    ensures { λ r. ⌜ Call (cutCall
+        (record {
+          held = record { n = n; neighbours = now (neighbours .entry); codes = now (codes .entry) };
+          used = used;
+        }) side
+        (now (rank .entry)) (now (rank .exit))) r ⌝ }
+{
+    call_cut::cut(n, neighbours, codes, used, side, rank)
+}

@@ -1,0 +1,21 @@
+// The amplitudes of a record: what the demands say of them.
+use crate::amplitudes::sukhlent_amplitude;
+ghost use Rattle.claims.specs.Sentences.Amplitudes.{AmplitudeSays};
+
+pub fn amplitude_says(
+    n: u64,
+    neighbours: &[u64],
+    codes: &[u8],
+    used: u64,
+    y: u64,
+    re: &mut f64,
+    im: &mut f64,
+    p: &mut f64,
+) -> u8
+    ensures { λ r. ⌜ AmplitudeSays (record {
+      held = record { n = n; neighbours = now (neighbours .entry); codes = now (codes .entry) };
+      used = used;
+    }) y (now (re .entry)) (now (im .entry)) (now (p .entry)) (now (re .exit)) (now (im .exit)) (now (p .exit)) r ⌝ }
+{
+    sukhlent_amplitude(n, neighbours, codes, used, y, re, im, p)
+}

@@ -1,0 +1,25 @@
+// The comparison of two lists: what the demands say of it.
+use crate::comparisons::sukhlent_compare;
+ghost use Rattle.claims.specs.Sentences.Comparisons.{CompareSays};
+
+pub fn compare_says(
+    n1: u64,
+    signs1: &[u8],
+    z1: &[u64],
+    x1: &[u64],
+    n2: u64,
+    signs2: &[u8],
+    z2: &[u64],
+    x2: &[u64],
+    choice: &mut [u8],
+    list: &mut [u8],
+    count: &mut u64,
+) -> u8
+    ensures { λ r. ⌜ CompareSays
+        (record { n = n1; signs = now (signs1 .entry); z = now (z1 .entry); x = now (x1 .entry) })
+        (record { n = n2; signs = now (signs2 .entry); z = now (z2 .entry); x = now (x2 .entry) })
+        (now (choice .entry)) (now (list .entry)) (now (count .entry))
+        (now (choice .exit)) (now (list .exit)) (now (count .exit)) r ⌝ }
+{
+    sukhlent_compare(n1, signs1, z1, x1, n2, signs2, z2, x2, choice, list, count)
+}

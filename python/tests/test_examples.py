@@ -1,0 +1,96 @@
+"""States against the simulator of rust/simulator, and the examples of document 01."""
+
+import itertools
+import unittest
+
+from sukhlent import Refusal, State
+from tests.places import ROOT
+from tests.test_states import group
+
+
+def circuits():
+    """The stored circuits: the steps, the measurement with the probability of its outcome, and the signs."""
+    text = (ROOT / "python" / "tests" / "simulated.txt").read_text()
+    for circuit in text.split("circuit\n")[1:]:
+        *steps, measured, signs = [line.split() for line in circuit.splitlines()]
+        yield steps, measured[1:], signs[1]
+
+
+def signs(state):
+    """The signs of all Paulis, in the order of their strings."""
+    elements = {line[1:]: line[0] for line in group(state.generators().strings())}
+    return "".join(elements.get("".join(letters), "0") for letters in itertools.product("IXYZ", repeat=state.n))
+
+
+class Simulator(unittest.TestCase):
+    def test_circuits_end_as_the_simulator_says(self):
+        seen = set()
+        for steps, (letter, qubit, outcome, probability), due in circuits():
+            state = State.zeros(3)
+            for op, *fields in steps:
+                if op == "gate":
+                    state.gate(int(fields[1]), fields[0])
+                else:
+                    state.cz(int(fields[0]), int(fields[1]))
+            seen.add(probability)
+            if probability == "0.0":
+                with self.assertRaises(Refusal) as refused:
+                    state.measure(letter, int(qubit), int(outcome))
+                self.assertEqual(refused.exception.number, 14)
+            else:
+                measured = state.measure(letter, int(qubit), int(outcome))
+                self.assertEqual((measured.outcome, measured.determined), (int(outcome), probability == "1.0"))
+            self.assertEqual(signs(state), due)
+        self.assertEqual(seen, {"0.0", "0.5", "1.0"})
+
+
+class Examples(unittest.TestCase):
+    """The examples of document 01."""
+
+    def test_bell_states(self):
+        self.assertEqual(repr(State.from_strings("+XX", "+ZZ")), "State([2, 1], [0, 8], 0)")
+        self.assertEqual(repr(State.from_strings("-XX", "+ZZ")), "State([2, 1], [2, 8], 0)")
+        self.assertEqual(repr(State.from_strings("+XX", "-YY")), "State([2, 1], [0, 8], 0)")
+        self.assertEqual(State([2, 1], [0, 8]).generators().strings(), ["+XX", "+ZZ"])
+
+    def test_one_qubit(self):
+        for text, number in (("+X", 0), ("-X", 2), ("+Y", 4), ("-Y", 6), ("+Z", 8), ("-Z", 10)):
+            self.assertEqual(State.from_strings(text).codes, (number,))
+            self.assertEqual(State([0], [number]).generators().strings(), [text])
+
+    def test_codes_that_no_reduction_gives(self):
+        self.assertEqual(State([0], [12]).generators().strings(), ["+X"])
+        self.assertEqual(State([2, 1], [12, 5]).generators().strings(), ["-XZ", "+YY"])
+        self.assertEqual(State([2, 1], [13, 6]).generators().strings(), ["+XZ", "+YY"])
+
+    def test_refused_lists(self):
+        for lines, number in (
+            (("+XI", "+ZI"), 9),
+            (("+XX", "+XX"), 10),
+            (("+XX", "-XX"), 10),
+            (("-II", "+ZZ"), 10),
+            (("+XII", "+ZII", "+ZII"), 9),
+        ):
+            with self.assertRaises(Refusal) as refused:
+                State.from_strings(*lines)
+            self.assertEqual(refused.exception.number, number)
+
+    def test_numbers_that_no_word_or_byte_holds(self):
+        state = State.zeros(2)
+        for number, call in (
+            (8, lambda: state.h(-1)),
+            (8, lambda: state.cz(0, 1 << 64)),
+            (6, lambda: state.gate(0, 256)),
+            (6, lambda: state.measure("Z", 0, 256)),
+            (6, lambda: state.measure("T", 0, 0)),
+            (5, lambda: state.cut([64])),
+            (5, lambda: State.graph(2, [(0, 2)])),
+            (6, lambda: State([0], [24])),
+        ):
+            with self.assertRaises(Refusal) as refused:
+                call()
+            self.assertEqual(refused.exception.number, number)
+        for call in (lambda: State([1 << 64], [0]), lambda: State([0], [0], 1 << 64)):
+            with self.assertRaises(OverflowError):
+                call()
+        self.assertEqual(state, State.zeros(2))

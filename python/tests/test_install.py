@@ -1,0 +1,98 @@
+"""What `tools/install` installs: programs in C and C++ are compiled against it, and its command and package run."""
+
+import os
+import re
+import shutil
+import subprocess
+import sys
+import tempfile
+import unittest
+from pathlib import Path
+
+from tests.places import ROOT
+
+SOURCE = """#include <stdio.h>
+#include <sukhlent.h>
+int main(void)
+{
+    uint64_t neighbours[1] = {0};
+    uint8_t codes[1] = {SUKHLENT_GATE_H};
+    uint8_t refusal = sukhlent_gate(1, neighbours, 1, codes, 1, 0, 1, SUKHLENT_GATE_X);
+    printf("%d %s %d\\n", refusal, sukhlent_refusal_text(refusal), sukhlent_version() == SUKHLENT_VERSION);
+    return 0;
+}
+"""
+PRINTED = "8 a qubit number is n or more, or a qubit is named twice 1\n"
+
+
+def run(*command, **more):
+    """What a command prints, where it ends well."""
+    done = subprocess.run([str(word) for word in command], capture_output=True, text=True, timeout=120, **more)
+    if done.returncode != 0 or done.stderr:
+        raise AssertionError(f"{command}: {done.returncode}\n{done.stdout}{done.stderr}")
+    return done.stdout
+
+
+def flags(folder, *what):
+    """What pkg-config says, or, where it is not installed, its file."""
+    if shutil.which("pkg-config"):
+        return run("pkg-config", *what, "sukhlent", env={**os.environ, "PKG_CONFIG_PATH": str(folder)}).split()
+    print("no pkg-config here: its file is read by the test", file=sys.stderr)
+    text = (folder / "sukhlent.pc").read_text()
+    names = dict(re.findall(r"^(\w+)=(.*)$", text, re.M))
+    fields = dict(re.findall(r"^(\w+): (.*)$", text, re.M))
+    said = {"--cflags": "Cflags", "--libs": "Libs", "--modversion": "Version"}
+    words = " ".join(fields[said[word]] for word in what)
+    while "${" in words:
+        words = re.sub(r"\$\{(\w+)\}", lambda found: names[found[1]], words)
+    return words.split()
+
+
+class Install(unittest.TestCase):
+    @classmethod
+    def setUpClass(cls):
+        cls.folder = tempfile.TemporaryDirectory()
+        cls.prefix = Path(cls.folder.name) / "prefix"
+        cls.said = run(ROOT / "tools" / "install", cls.prefix)
+        cls.package = cls.prefix / "lib" / "pkgconfig"
+
+    @classmethod
+    def tearDownClass(cls):
+        cls.folder.cleanup()
+
+    def test_the_version_is_the_header_s(self):
+        version = re.search(r'VERSION_TEXT "(.*)"', (ROOT / "include" / "sukhlent.h").read_text())[1]
+        self.assertEqual(flags(self.package, "--modversion"), [version])
+        self.assertEqual(self.said.splitlines()[-1], f"sukhlent {version} is in {self.prefix}")
+        major = version.split(".")[0]
+        dynamic = run("readelf", "-d", self.prefix / "lib" / f"libsukhlent.so.{version}")
+        self.assertIn(f"[libsukhlent.so.{major}]", dynamic)
+
+    def test_programs_in_c_and_c_plus_plus(self):
+        words = flags(self.package, "--cflags", "--libs")
+        environment = {**os.environ, "LD_LIBRARY_PATH": str(self.prefix / "lib")}
+        for compiler, name, standard in (("cc", "first.c", "-std=c99"), ("c++", "first.cc", "-std=c++11")):
+            if not shutil.which(compiler):
+                print(f"no {compiler} here: its program is not compiled", file=sys.stderr)
+                continue
+            with self.subTest(compiler=compiler):
+                source = self.prefix.parent / name
+                source.write_text(SOURCE)
+                program = self.prefix.parent / f"{compiler}-program"
+                strict = [standard, "-Wall", "-Wextra", "-pedantic", "-Werror"]
+                run(compiler, *strict, source, *words, "-o", program)
+                self.assertEqual(run(program, env=environment), PRINTED)
+                static = self.prefix / "lib" / "libsukhlent.a"
+                run(compiler, *strict, f"-I{self.prefix}/include", source, static, "-o", program)
+                self.assertEqual(run(program), PRINTED)
+
+    def test_the_command_and_the_package(self):
+        command = self.prefix / "bin" / "sukhlent"
+        environment = {name: value for name, value in os.environ.items() if name != "PYTHONPATH"}
+        text = (ROOT / "crates" / "reduce" / "stdin").read_text()
+        due = (ROOT / "crates" / "reduce" / "stdout").read_text()
+        self.assertEqual(run(command, "reduce", input=text, env=environment, cwd="/"), due)
+        environment["PYTHONPATH"] = str(self.prefix / "share" / "sukhlent" / "python")
+        code = "import sukhlent; print(sukhlent.State.zeros(1).generators(), sukhlent.__file__)"
+        said = run(sys.executable, "-c", code, env=environment, cwd="/")
+        self.assertTrue(said.startswith("+Z\n") and str(self.prefix) in said, said)
