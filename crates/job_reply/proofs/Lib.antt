@@ -1,2 +1,4 @@
+pub mod KeptResults
+pub mod Lines
 pub mod Starting
 pub mod Responses

@@ -5,8 +5,7 @@ use Prim.Native.Nat.{ℕ}
 use lib.ListN.{take}
 use Rattle.job_text.proofs.TextAnswers.{accepted-answers, refused-answers}
 use Rattle.job_text.specs.Answer.{Answers, ResponseTo, runText}
-use Rattle.job_text.specs.internal.Scan.{empty, fed, verdict}
-use Rattle.job_text.specs.declared.scan.Reading.{Reading}
+use Rattle.job_text.specs.internal.Scan.{empty, fed, Reading, verdict}
 use Rattle.text.specs.Text.{Printed, refusedText}
 
 module _ (w : Reading) (before after : List ℕ) (end k : ℕ) (e : k ≡ verdict (w .scan)) where

@@ -4,7 +4,7 @@ use mathlib.Core.Path.{_∙_, _≡_, ap, refl, subst, sym}
 use Prim.Native.Nat.{_*_, _+_, _<_, _≤_, suc, zero, ℕ}
 use native.Mathlib.Nat.{le-of-suc-le-suc, not-suc-le-zero}
 use native.Mathlib.Omega.{arith}
-use lib.ListN.{getD, length, length-append, replicate, take}
+use lib.ListN.{getD, length, length-append, length-replicate, replicate, take}
 use lib.Seq.{length-take-le}
 use Rattle.job_text.proofs.ResultLaws.{length-results}
 use Rattle.job_text.specs.Answer.{runText, resultsOf}
@@ -17,8 +17,11 @@ use Rattle.text.proofs.Writing.{and-then, length-written}
 use Rattle.text.specs.internal.Text.{Printable}
 use Rattle.text.specs.Text.{Printed, recordText}
 use Rattle.used.specs.Used.{UsedRecord}
-use Rattle.jobs_run.specs.internal.StepsRun.{StepsRun}
-use Rattle.job_reply.specs.internal.Room.{Fresh}
+use Rattle.jobs.proofs.ParallelLaws.{steps-long}
+use Rattle.jobs.specs.internal.Parallel.{stepsIn}
+use Rattle.jobs_lent.specs.internal.LentRuns.{LentRun}
+use Rattle.job_reply.proofs.KeptResults.{lines-kept}
+use Rattle.job_reply.specs.internal.Room.{Fresh, resultIn}
 use Rattle.job_reply.specs.Room.{longest}
 
 -- the first n places of a buffer of equal numbers
@@ -27,36 +30,42 @@ repeated-part zero m v h = refl
 repeated-part (suc n) zero v h = absurd (not-suc-le-zero h)
 repeated-part (suc n) (suc m) v h = ap (λ t. v ∷ t) (repeated-part n m v (le-of-suc-le-suc h))
 
--- the first steps of the array
-pub all-taken : (count : ℕ) (array : List Step) → count ≤ 4096 → length array ≡ 4096
-    → length (take count array) ≡ count
-all-taken count array few long = length-take-le count array (omega arith)
+-- the first steps of the slices
+pub all-taken : (count : ℕ) (ops a b value : List ℕ) → count ≤ length ops
+    → length (take count (stepsIn ops a b value)) ≡ count
+all-taken count ops a b value few =
+    length-take-le count (stepsIn ops a b value) (omega (arith, steps-long ops a b value))
 
 -- buffers of 64 places hold the record that a job starts from
 pub fresh : (n count : ℕ) (out : List ℕ) → n ≤ 64 → count ≤ 4096 → longest ≤ length out
-    → Fresh n (take n (replicate 64 0)) (take n (replicate 64 8)) count out
+    → Fresh n (take n (replicate 64 0)) (take n (replicate 64 8)) count (replicate 4096 0) out
 fresh n count out upto few room =
     record {
       upto = upto;
       no-edge = repeated-part n 64 0 upto;
       eights = repeated-part n 64 8 upto;
       few = few;
+      kept = subst (λ m. count ≤ m) (sym (length-replicate {A = ℕ} 4096 0)) few;
       room = room;
     }
 
-module _ (n : ℕ) (nb cs : List ℕ) (count : ℕ) (steps : List Step) (few : length steps ≡ count) (before : List ℕ)
-    (F : Fresh n nb cs count before) (nb′ cs′ : List ℕ) (used′ : ℕ) (out : List ℕ) (at : ℕ)
-    (R : StepsRun (record { held = record { n = n; neighbours = nb; codes = cs }; used = 0 }) steps nb′ cs′ used′ before
-    out at) where
+module _ (n : ℕ) (nb cs : List ℕ) (count : ℕ) (steps : List Step) (few : length steps ≡ count) (kept before : List ℕ)
+    (F : Fresh n nb cs count kept before) (nb′ cs′ : List ℕ) (used′ : ℕ) (kept′ : List ℕ)
+    (R : LentRun (record { held = record { n = n; neighbours = nb; codes = cs }; used = 0 }) steps 0 kept nb′ cs′ used′
+    kept′) (out : List ℕ) (at : ℕ) (P : Printed (resultNames ++ resultLines count (resultIn kept′)) 0 before out at) where
   -- the record at the start
   start : _≡_ {A = UsedRecord} (record { held = record { n = n; neighbours = nb; codes = cs }; used = 0 }) (started n)
   start = λ i. record { held = record { n = n; neighbours = F .no-edge i; codes = F .eights i }; used = 0 }
 
-  ran : StepsRun (started n) steps nb′ cs′ used′ before out at
-  ran = subst (λ u. StepsRun u steps nb′ cs′ used′ before out at) start R
+  ran : LentRun (started n) steps 0 kept nb′ cs′ used′ kept′
+  ran = subst (λ u. LentRun u steps 0 kept nb′ cs′ used′ kept′) start R
 
   abbrev lines : List ℕ
   lines = resultNames ++ resultLines (length steps) (resultsOf (started n) steps)
+
+  written : Printed lines 0 before out at
+  written = subst (λ t. Printed (resultNames ++ t) 0 before out at)
+      (lines-kept (started n) steps kept nb′ cs′ used′ kept′ ran count few) P
 
   short : length lines ≤ 32 + 4096 * 14
   short = omega (
@@ -81,15 +90,15 @@ module _ (n : ℕ) (nb cs : List ℕ) (count : ℕ) (steps : List Step) (few : l
           short,
           F .upto,
           F .room,
-          ran .out .end,
-          ap length (ran .out .out) ∙ length-written before 0 lines (omega (arith, short, F .room)),
+          written .end,
+          ap length (written .out) ∙ length-written before 0 lines (omega (arith, short, F .room)),
         );
       }
 
   pub all-printed : (out′ : List ℕ) (r : ℕ) → Printed (recordText n nb′ cs′ used′) at out out′ r
       → Printed (runText n steps) 0 before out′ r
   unfolding jobAnswer
-  all-printed out′ r P =
-      and-then (omega (arith, short, F .room)) (ran .out)
+  all-printed out′ r Q =
+      and-then (omega (arith, short, F .room)) written
       (subst (λ t. Printed t at out out′ r)
-      (λ i. recordText (sym (run-qubits (started n) steps) i) (ran .words i) (ran .numbers i) (ran .marks i)) P)
+      (λ i. recordText (sym (run-qubits (started n) steps) i) (ran .words i) (ran .numbers i) (ran .marks i)) Q)

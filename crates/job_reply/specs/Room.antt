@@ -1,6 +1,9 @@
--- The room for an answer, and the record that a job starts from, in buffers.
+-- The room for an answer.
 use Prim.Native.Nat.{_*_, _+_, ℕ}
-use Rattle.jobs_run.specs.StepsRun.{linesRoom}
+
+-- room for the names and 4,096 lines
+abbrev pub linesRoom : ℕ
+linesRoom = 32 + 4096 * 14
 
 -- room for every answer: the names, 4,096 lines and the record of 64 qubits
 abbrev pub longest : ℕ

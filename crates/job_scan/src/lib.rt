@@ -1,15 +1,18 @@
-// Reads the text of a job in blocks of any size. A scan is a few numbers; the first 4,096 steps are kept together.
+// Reads the text of a job in blocks of any size. A scan is a few numbers; the numbers of the first 4,096 steps are kept in
+// four lent slices of one length.
 use job_scan_fields::first_step;
 use job_scan_fields::more_step;
 use job_scan_words::word_step;
 use job_text::scan::Field;
 use job_text::scan::Place;
-use job_text::scan::Reading;
 use job_text::scan::Scan;
 use jobs::Op;
-use jobs::Step;
+use jobs::op_number;
 ghost use mathlib.Core.Path.{_≡_};
-ghost use Rattle.job_text.specs.internal.Scan.{moved, headStep, scanByte, begin, empty, fed, atLine, verdict};
+ghost use Prim.Native.Nat.{_<_};
+ghost use lib.ListN.{length, set};
+ghost use Rattle.jobs.specs.internal.Parallel.{OneLength, stepsIn};
+ghost use Rattle.job_text.specs.internal.Scan.{asReading, atLine, begin, fed, feed, headStep, moved, scanByte, stepOf, verdict};
 
 // The bytes of the head that are the same in every job.
 const HEAD: [u8; 20] = *b"qubits\nop a b value\n";
@@ -63,7 +66,7 @@ fn scan_byte(s: Scan, b: u8) -> Scan
 }
 
 // The scan of the empty text.
-fn start() -> Scan
+pub fn start() -> Scan
     ensures { λ r. ⌜ r ≡ begin ⌝ }
 {
     Scan {
@@ -77,45 +80,65 @@ fn start() -> Scan
     }
 }
 
-// Before a text is read.
-pub fn no_text() -> Reading
-    ensures { λ r. ⌜ r ≡ empty ⌝ }
+// The step that the scan holds is kept behind the steps before it.
+fn keep_step(s: Scan, ops: &mut [u8], a: &mut [u16], b: &mut [u16], value: &mut [u16])
+    requires { ⌜ (s .count < length (now ops)) × OneLength (now ops) (now a) (now b) (now value) ⌝ }
+    ensures { λ _. ⌜ stepsIn (now (ops .exit)) (now (a .exit)) (now (b .exit)) (now (value .exit))
+        ≡ set (stepsIn (now (ops .entry)) (now (a .entry)) (now (b .entry)) (now (value .entry))) (s .count) (stepOf s) ⌝ }
 {
-    let scan = start();
-    let step = Step {
-        op: Op::Gate,
-        a: 0,
-        b: 0,
-        value: 0,
-    };
-    let steps = [step; 4096];
-    Reading { scan, steps }
+    let row = s.count;
+    let op = s.op;
+    ops[row] = op_number(op);
+    a[row] = s.a;
+    b[row] = s.b;
+    value[row] = s.number;
 }
 
-// The reading after a block more: the steps that end in it, if they are of the first 4,096, are kept.
-pub fn scan_block(from: Reading, block: &[u8]) -> Reading
-    ensures { λ r. ⌜ r ≡ fed from (now (block .entry)) ⌝ }
+// The scan after one more byte. Where it ends one of the first 4,096 steps, that step is kept.
+fn scan_next(
+    s: Scan,
+    byte: u8,
+    ops: &mut [u8],
+    a: &mut [u16],
+    b: &mut [u16],
+    value: &mut [u16],
+) -> Scan
+    requires { ⌜ (length (now ops) ≡ 4096) × OneLength (now ops) (now a) (now b) (now value) ⌝ }
+    ensures { λ r. ⌜ asReading r (stepsIn (now (ops .exit)) (now (a .exit)) (now (b .exit)) (now (value .exit)))
+        ≡ feed (asReading s (stepsIn (now (ops .entry)) (now (a .entry)) (now (b .entry)) (now (value .entry)))) byte ⌝ }
 {
-    let mut scan = from.scan;
-    let mut steps = from.steps;
+    let next = scan_byte(s, byte);
+    let row = s.count;
+    let count = next.count;
+    if (row < count) & (row < 4096) {
+        keep_step(s, ops, a, b, value);
+        return next;
+    }
+    next
+}
+
+// The scan after a block more. The steps that end in it, if they are of the first 4,096, are kept.
+pub fn scan_block(
+    from: Scan,
+    block: &[u8],
+    ops: &mut [u8],
+    a: &mut [u16],
+    b: &mut [u16],
+    value: &mut [u16],
+) -> Scan
+    requires { ⌜ (length (now ops) ≡ 4096) × OneLength (now ops) (now a) (now b) (now value) ⌝ }
+    ensures { λ r. ⌜ asReading r (stepsIn (now (ops .exit)) (now (a .exit)) (now (b .exit)) (now (value .exit)))
+        ≡ fed (asReading from (stepsIn (now (ops .entry)) (now (a .entry)) (now (b .entry)) (now (value .entry))))
+        (now (block .entry)) ⌝ }
+{
+    let mut scan = from;
     let mut i = 0;
     while i < block.len() {
-        let next = scan_byte(scan, block[i]);
-        let row = scan.count;
-        let count = next.count;
-        if (row < count) & (row < 4096) {
-            let op = scan.op;
-            steps[row] = Step {
-                op,
-                a: scan.a,
-                b: scan.b,
-                value: scan.number,
-            };
-        }
+        let next = scan_next(scan, block[i], ops, a, b, value);
         scan = next;
         i += 1;
     }
-    Reading { scan, steps }
+    scan
 }
 
 // Whether the next byte would start a step.

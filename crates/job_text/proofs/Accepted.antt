@@ -14,8 +14,7 @@ use Rattle.stabilizer.proofs.SharedTests.{counted}
 use Rattle.words.proofs.Sums.{lt-or-ge}
 use Rattle.job_text.specs.Lines.{jobLines}
 use Rattle.job_text.specs.Text.{JobTextOf, HasJobForm}
-use Rattle.job_text.specs.internal.Scan.{atLine, verdict, Judged}
-use Rattle.job_text.specs.declared.scan.Reading.{Reading}
+use Rattle.job_text.specs.internal.Scan.{atLine, Judged, Reading, verdict}
 use Rattle.job_text.proofs.KeptLaws.{count-many, count-few, steps-few}
 
 -- t is the text of the job that w holds, on 1 to 64 qubits and with at most 4,096 steps

@@ -12,9 +12,8 @@ use Rattle.words.specs.Bits.{bit}
 use Rattle.job_text.specs.Results.{Result, resultLine, resultLines, jobAnswer}
 use Rattle.job_text.specs.Text.{digits, opWord, stepText, stepsText, qubitsLine, stepNames, jobHead}
 use Rattle.job_text.specs.Text.{jobText}
-use Rattle.job_text.specs.internal.Scan.{headStep, firstOp, opFor, wordStep, digitValue, firstStep, moreStep}
+use Rattle.job_text.specs.internal.Scan.{digitValue, firstOp, firstStep, headStep, moreStep, opFor, Reading, wordStep}
 use Rattle.job_text.specs.internal.Scan.{oneMore, scanByte, begin, asReading, feed, fed, verdict}
-use Rattle.job_text.specs.declared.scan.Reading.{Reading}
 
 -- a gate, a CZ and a measurement; the form allows every number of at most three digits
 steps : List Step

@@ -1,7 +1,7 @@
 -- Feeding a text piece by piece: the reading after two pieces, after one more byte of a block, and after bytes that
 -- end no step.
 use mathlib.Core.Path.{_≡_, refl, sym, ap, _∙_}
-use mathlib.Core.Bool.{true, false, _&&_, cond}
+use mathlib.Core.Bool.{Bool, true, false, _&&_, cond}
 use mathlib.Core.List.{List, [], _∷_, _++_, flatten}
 use Prim.Native.Nat.{ℕ, _+_, _<_}
 use native.Mathlib.Nat.{le-of-eq}
@@ -11,8 +11,7 @@ use lib.ListN.{length, getD, take}
 use lib.Seq.{take-suc}
 use borrow.Author.Tests.{le-ltb}
 use Rattle.jobs.specs.declared.Step.{Step}
-use Rattle.job_text.specs.internal.Scan.{asReading, stored, feedNext, feed, fed, fedBlocks, scanByte}
-use Rattle.job_text.specs.declared.scan.Reading.{Reading}
+use Rattle.job_text.specs.internal.Scan.{asReading, fed, fedBlocks, feed, feedNext, Reading, scanByte, stored}
 use Rattle.job_text.specs.declared.scan.Scan.{Scan}
 
 -- the reading after a text a ++ b is that after b, fed to the reading after a
@@ -32,25 +31,25 @@ blocks-fed w [] = refl
 blocks-fed w (block ∷ blocks) = blocks-fed (fed w block) blocks ∙ sym (fed-append w block (flatten blocks))
 
 -- a turn of the loop over a block
-module _ (w now : Reading) (block : List ℕ) (i : ℕ) (inside : i < length block)
-    (sofar : now ≡ fed w (take i block)) where
-  fed-more : fed w (take (i + 1) block) ≡ feed now (getD block i 0)
-  fed-more =
-      ap (λ k. fed w (take k block)) (add-one i) ∙ ap (fed w) (take-suc block i 0 inside)
-      ∙ fed-one w (take i block) (getD block i 0) ∙ ap (λ v. feed v (getD block i 0)) (sym sofar)
+pub fed-more : (w now : Reading) (block : List ℕ) (i : ℕ) → i < length block → now ≡ fed w (take i block) → (next : Reading)
+    → next ≡ feed now (getD block i 0) → next ≡ fed w (take (i + 1) block)
+fed-more w now block i inside sofar next e =
+    e ∙ ap (λ v. feed v (getD block i 0)) sofar ∙ sym (fed-one w (take i block) (getD block i 0))
+    ∙ ap (fed w) (sym (take-suc block i 0 inside)) ∙ ap (λ k. fed w (take k block)) (sym (add-one i))
 
-  module _ (next : Scan) (stepped : next ≡ scanByte (now .scan) (getD block i 0)) where
-    turn : feedNext now next ≡ fed w (take (i + 1) block)
-    unfolding feed
-    turn = ap (feedNext now) stepped ∙ sym fed-more
+-- one more byte, by whether it ends one of the first 4,096 steps
+module _ (w : Reading) (b : ℕ) (next : Scan) (stepped : next ≡ scanByte (w .scan) b) where
+  by-flag : (t : Bool) → (ltb (w .scan .count) (next .count) && ltb (w .scan .count) 4096) ≡ t
+      → cond t (stored w next) (asReading next (w .steps)) ≡ feed w b
+  unfolding feed
+  by-flag t e = ap (λ f. cond f (stored w next) (asReading next (w .steps))) (sym e) ∙ ap (feedNext w) stepped
 
-    pub turn-stored : (ltb (now .scan .count) (next .count) && ltb (now .scan .count) 4096) ≡ true
-        → stored now next ≡ fed w (take (i + 1) block)
-    turn-stored ends = ap (λ t. cond t (stored now next) (asReading next (now .steps))) (sym ends) ∙ turn
+  pub feed-stored : (ltb (w .scan .count) (next .count) && ltb (w .scan .count) 4096) ≡ true → stored w next ≡ feed w b
+  feed-stored e = by-flag true e
 
-    pub turn-kept : (ltb (now .scan .count) (next .count) && ltb (now .scan .count) 4096) ≡ false
-        → asReading next (now .steps) ≡ fed w (take (i + 1) block)
-    turn-kept on = ap (λ t. cond t (stored now next) (asReading next (now .steps))) (sym on) ∙ turn
+  pub feed-kept : (ltb (w .scan .count) (next .count) && ltb (w .scan .count) 4096) ≡ false
+      → asReading next (w .steps) ≡ feed w b
+  feed-kept e = by-flag false e
 
 -- a byte that ends no step leaves the array
 pub feed-keeps : (w : Reading) (b : ℕ) (next : Scan) → scanByte (w .scan) b ≡ next → next .count ≡ w .scan .count

@@ -17,8 +17,7 @@ use Rattle.words.proofs.Sums.{lt-or-ge}
 use Rattle.job_text.specs.Lines.{jobLines}
 use Rattle.job_text.specs.internal.Lines.{textLines, TextNumber}
 use Rattle.job_text.specs.Text.{HasJobForm}
-use Rattle.job_text.specs.internal.Scan.{atLine, verdict, StepsKept, Judged}
-use Rattle.job_text.specs.declared.scan.Reading.{Reading}
+use Rattle.job_text.specs.internal.Scan.{atLine, Judged, Reading, StepsKept, verdict}
 
 module _ (n : ℕ) (steps : List Step) (w : Reading) (kept : StepsKept n steps w) where
   pub count-many : 4096 < length steps → w .scan .count ≡ 4097

@@ -9,8 +9,7 @@ use Rattle.buffers.specs.Refusals.{firstFitting}
 use Rattle.jobs.specs.declared.Step.{Step}
 use Rattle.job_text.specs.Lines.{jobLines}
 use Rattle.job_text.specs.Text.{AllFit, jobText, JobTextOf}
-use Rattle.job_text.specs.internal.Scan.{empty, fed, verdict, StepsKept}
-use Rattle.job_text.specs.declared.scan.Reading.{Reading}
+use Rattle.job_text.specs.internal.Scan.{empty, fed, Reading, StepsKept, verdict}
 use Rattle.job_text.proofs.KeptLaws.{count-few, steps-few, text-number}
 use Rattle.job_text.proofs.Verdict.{empty-judged}
 

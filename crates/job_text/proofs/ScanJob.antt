@@ -17,20 +17,10 @@ use Rattle.text.specs.Text.{newline}
 use Rattle.words.proofs.Sums.{lt-or-ge}
 use Rattle.job_text.specs.Text.{field, Fits, AllFit, stepText, stepsText, qubitsLine, stepNames, jobHead}
 use Rattle.job_text.specs.Text.{jobText, JobTextOf}
-use Rattle.job_text.specs.internal.Scan.{
-  headStep,
-  moreStep,
-  digitValue,
-  scanByte,
-  oneMore,
-  begin,
-  asReading,
-  stored,
-}
+use Rattle.job_text.specs.internal.Scan.{asReading, begin, digitValue, headStep, moreStep, oneMore, Reading, scanByte, stored}
 use Rattle.job_text.specs.internal.Scan.{feedNext, feed, fed, StepsKept}
 use Rattle.job_text.specs.declared.scan.Field.the-variants.{N, Value}
 use Rattle.job_text.specs.declared.scan.Place.the-variants.{Head, Word, First, More}
-use Rattle.job_text.specs.declared.scan.Reading.{Reading}
 use Rattle.job_text.specs.declared.scan.Scan.{Scan}
 use Rattle.job_text.proofs.Feeding.{fed-append, fed-one}
 use Rattle.job_text.proofs.StepLine.{scanAt, readingAt, field-read, line-read}

@@ -11,22 +11,12 @@ use Rattle.jobs.specs.declared.Step.{Step}
 use Rattle.text.proofs.DigitLaws.{by-test}
 use Rattle.text.specs.Text.{space}
 use Rattle.job_text.specs.Text.{digits, field, opWord, Fits, stepText}
-use Rattle.job_text.specs.internal.Scan.{
-  firstOp,
-  opFor,
-  wordStep,
-  digitValue,
-  firstStep,
-  moreStep,
-  scanByte,
-  oneMore,
-}
+use Rattle.job_text.specs.internal.Scan.{digitValue, firstOp, firstStep, moreStep, oneMore, opFor, Reading, scanByte, wordStep}
 use Rattle.job_text.specs.internal.Scan.{asReading, feedNext, feed, fed}
 use Rattle.job_text.specs.declared.scan.Field.{Field}
 use Rattle.job_text.specs.declared.scan.Field.the-variants.{A, B, Value}
 use Rattle.job_text.specs.declared.scan.Place.{Place}
 use Rattle.job_text.specs.declared.scan.Place.the-variants.{Word, First, More}
-use Rattle.job_text.specs.declared.scan.Reading.{Reading}
 use Rattle.job_text.specs.declared.scan.Scan.{Scan}
 use Rattle.job_text.proofs.Digits.{value-digit, fewer-digits}
 use Rattle.job_text.proofs.Feeding.{fed-append, fed-one, feed-keeps, ran, quiet-fed}

@@ -15,9 +15,8 @@ use Rattle.words.proofs.Flags.{neither}
 use Rattle.job_text.specs.Answer.{Answers, runText, answerText}
 use Rattle.job_text.specs.internal.Lines.{TextNumber, textLines}
 use Rattle.job_text.specs.Lines.{jobLines}
-use Rattle.job_text.specs.internal.Scan.{Judged, atLine, empty, fed, verdict}
+use Rattle.job_text.specs.internal.Scan.{atLine, empty, fed, Judged, Reading, verdict}
 use Rattle.job_text.specs.Text.{HasJobForm}
-use Rattle.job_text.specs.declared.scan.Reading.{Reading}
 use Rattle.job_text.specs.declared.scan.Scan.{Scan}
 use Rattle.job_text.proofs.KeptLaws.{steps-few, text-number}
 use Rattle.job_text.proofs.Verdict.{empty-judged}

@@ -11,21 +11,10 @@ use Rattle.jobs.specs.declared.Op.{Op}
 use Rattle.jobs.specs.declared.Step.{Step}
 use Rattle.text.specs.Text.{space}
 use Rattle.job_text.specs.Text.{AllFit, opWord, jobText, HasJobForm}
-use Rattle.job_text.specs.internal.Scan.{
-  scanByte,
-  begin,
-  asReading,
-  stored,
-  feedNext,
-  feed,
-  fed,
-  fedBlocks,
-  atLine,
-}
+use Rattle.job_text.specs.internal.Scan.{asReading, atLine, begin, fed, fedBlocks, feed, feedNext, Reading, scanByte, stored}
 use Rattle.job_text.specs.internal.Scan.{StepsKept, Judged, noStep, empty}
 use Rattle.job_text.specs.declared.scan.Place.{Place}
 use Rattle.job_text.specs.declared.scan.Place.the-variants.{Head, Word, First, More, Broken}
-use Rattle.job_text.specs.declared.scan.Reading.{Reading}
 use Rattle.job_text.specs.declared.scan.Scan.{Scan}
 use Rattle.job_text.proofs.Feeding.{blocks-fed}
 use Rattle.job_text.proofs.ScanJob.{text-read}

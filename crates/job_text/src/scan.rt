@@ -1,6 +1,5 @@
-// The scan of a job text: a few numbers, and the steps read.
+// The scan of a job text: a few numbers.
 use jobs::Op;
-use jobs::Step;
 
 // The number of qubits, and the numbers of a step.
 pub enum Field {
@@ -29,10 +28,4 @@ pub struct Scan {
     pub b: u16,
     pub number: u16,
     pub count: usize,
-}
-
-// A scan with the first 4,096 steps.
-pub struct Reading {
-    pub scan: Scan,
-    pub steps: [Step; 4096],
 }

@@ -4,3 +4,4 @@ pub mod Starting
 pub mod Stepwise
 pub mod Printing
 pub mod JobExamples
+pub mod ParallelLaws

@@ -97,41 +97,41 @@ run-sized n u S [] = S
 run-sized n u S (s ∷ rest) = run-sized n (afterStep u s) (step-sized n u S s) rest
 
 -- ---- answers
-below-100 : (u : UsedRecord) (b : Bool) (o : Operation) → AllBelow 100 (withTest 6 b (usedLinesOf u o))
-below-100 u b (gateWith q k) = (lit< tt, (lit< tt, (lit< tt, (lit< tt, (lit< tt, (lit< tt, (lit< tt, tt)))))))
-below-100 u b (czOn a c) = (lit< tt, (lit< tt, (lit< tt, (lit< tt, (lit< tt, (lit< tt, (lit< tt, tt)))))))
-below-100 u b (measurementOf pauli q c) =
+below-20 : (u : UsedRecord) (b : Bool) (o : Operation) → AllBelow 20 (withTest 6 b (usedLinesOf u o))
+below-20 u b (gateWith q k) = (lit< tt, (lit< tt, (lit< tt, (lit< tt, (lit< tt, (lit< tt, (lit< tt, tt)))))))
+below-20 u b (czOn a c) = (lit< tt, (lit< tt, (lit< tt, (lit< tt, (lit< tt, (lit< tt, (lit< tt, tt)))))))
+below-20 u b (measurementOf pauli q c) =
     (lit< tt, (lit< tt, (lit< tt, (lit< tt, (lit< tt, (lit< tt, (lit< tt, (lit< tt, tt))))))))
-below-100 u b (complementOf a) = (lit< tt, (lit< tt, (lit< tt, (lit< tt, (lit< tt, (lit< tt, (lit< tt, tt)))))))
-below-100 u b (pivotOf j k) = (lit< tt, (lit< tt, (lit< tt, (lit< tt, (lit< tt, (lit< tt, (lit< tt, tt)))))))
+below-20 u b (complementOf a) = (lit< tt, (lit< tt, (lit< tt, (lit< tt, (lit< tt, (lit< tt, (lit< tt, tt)))))))
+below-20 u b (pivotOf j k) = (lit< tt, (lit< tt, (lit< tt, (lit< tt, (lit< tt, (lit< tt, (lit< tt, tt)))))))
 
--- the refusal has at most two digits
-pub refusal-small : (u : UsedRecord) (s : Step) → (answerOf u s) .refusal < 100
-refusal-small u s = first-below 100 (withTest 6 (unusedSet (s .op) (s .b) (s .value)) (usedLinesOf u (asked s)))
-    (lit< tt) (below-100 u (unusedSet (s .op) (s .b) (s .value)) (asked s))
+-- the refusal is one of the published numbers
+pub refusal-small : (u : UsedRecord) (s : Step) → (answerOf u s) .refusal < 20
+refusal-small u s = first-below 20 (withTest 6 (unusedSet (s .op) (s .b) (s .value)) (usedLinesOf u (asked s)))
+    (lit< tt) (below-20 u (unusedSet (s .op) (s .b) (s .value)) (asked s))
 
--- the outcome and determined have one
-digit-small : (b : Bool) → digit b < 10
+-- the outcome and determined are bits
+digit-small : (b : Bool) → digit b < 2
 digit-small true = lit< tt
 digit-small false = lit< tt
 
-outcome-digit : (r : Outcome) → (outcomeNumber r < 10) × (determinedNumber r < 10)
+outcome-digit : (r : Outcome) → (outcomeNumber r < 2) × (determinedNumber r < 2)
 outcome-digit (Determined b) = (digit-small b, lit< tt)
 outcome-digit (Chosen b) = (digit-small b, lit< tt)
 
-outcomes-small : (l : LentRecord) (o : Operation) → (outcomeOf l o < 10) × (determinedOf l o < 10)
+outcomes-small : (l : LentRecord) (o : Operation) → (outcomeOf l o < 2) × (determinedOf l o < 2)
 outcomes-small l (gateWith q k) = (lit< tt, lit< tt)
 outcomes-small l (czOn a b) = (lit< tt, lit< tt)
 outcomes-small l (measurementOf pauli q b) = outcome-digit (measuredAnswer l pauli q b)
 outcomes-small l (complementOf a) = (lit< tt, lit< tt)
 outcomes-small l (pivotOf j k) = (lit< tt, lit< tt)
 
-pub outcome-small : (u : UsedRecord) (s : Step) → ((answerOf u s) .outcome < 10) × ((answerOf u s) .determined < 10)
+pub outcome-small : (u : UsedRecord) (s : Step) → ((answerOf u s) .outcome < 2) × ((answerOf u s) .determined < 2)
 outcome-small u s = (
   go (eqb (numberOf u s) 0) (outcomes-small (u .held) (asked s) .0),
   go (eqb (numberOf u s) 0) (outcomes-small (u .held) (asked s) .1),
 )
   where
-    go : {v : ℕ} (b : Bool) → v < 10 → cond b v 0 < 10
+    go : {v : ℕ} (b : Bool) → v < 2 → cond b v 0 < 2
     go true h = h
     go false h = lit< tt

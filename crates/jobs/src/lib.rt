@@ -2,6 +2,7 @@
 ghost use mathlib.Core.Path.{_≡_};
 ghost use Rattle.jobs.specs.Asked.{unusedSet};
 ghost use Rattle.jobs.specs.internal.Asked.{wrongValue};
+ghost use Rattle.jobs.specs.internal.Parallel.{numberedOp, opNumber};
 
 pub enum Op {
     Gate,
@@ -51,4 +52,36 @@ pub fn wrong_value(op: Op, value: u16) -> bool
         Op::Complement => false,
         Op::Pivot => false,
     }
+}
+
+// The number of an operation.
+pub fn op_number(op: Op) -> u8
+    ensures { λ r. ⌜ r ≡ opNumber op ⌝ }
+{
+    match op {
+        Op::Gate => 0,
+        Op::Cz => 1,
+        Op::Measure => 2,
+        Op::Complement => 3,
+        Op::Pivot => 4,
+    }
+}
+
+// The operation of a number.
+pub fn op_of(k: u8) -> Op
+    ensures { λ r. ⌜ r ≡ numberedOp k ⌝ }
+{
+    if k == 0 {
+        return Op::Gate;
+    }
+    if k == 1 {
+        return Op::Cz;
+    }
+    if k == 2 {
+        return Op::Measure;
+    }
+    if k == 3 {
+        return Op::Complement;
+    }
+    Op::Pivot
 }

@@ -1,2 +1,1 @@
-pub mod StepsRun
 pub mod internal

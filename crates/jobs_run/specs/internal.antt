@@ -1,2 +1,1 @@
 pub mod StepRuns
-pub mod StepsRun

@@ -1,6 +1,4 @@
 // Runs a step of a job on a lent record in place.
-mod sequence;
-
 use call_complement::complement_known;
 use call_complement::pivot_known;
 use call_gates::cz_known;
@@ -12,7 +10,6 @@ use jobs::Op;
 use jobs::Step;
 use jobs::unused_set;
 use jobs::wrong_value;
-pub use sequence::run_steps;
 ghost use Prim.Native.Nat.{_%_, _+_, _/_, _<_};
 ghost use Rattle.contracts.specs.Calls.{Call};
 ghost use Rattle.jobs.specs.Asked.{operationOf};

@@ -4,8 +4,7 @@ use mathlib.Core.List.{List}
 use Prim.Native.Nat.{ℕ}
 use lib.ListN.{length, take}
 use Rattle.jobs.specs.declared.Step.{Step}
-use Rattle.job_text.specs.internal.Scan.{verdict}
-use Rattle.job_text.specs.declared.scan.Reading.{Reading}
+use Rattle.job_text.specs.internal.Scan.{Reading, verdict}
 
 -- what the scan of a text ends with: the text is accepted, and n and the steps are kept
 pub record Scanned (n : ℕ) (steps : List Step) (w : Reading) : Type 0 where

@@ -1,14 +1,25 @@
--- The room for an answer, and the record that a job starts from, in buffers: what only the proofs name.
+-- The record that a job starts from, in buffers, and what is printed of an answer that is kept as one number.
 use mathlib.Core.List.{List}
 use mathlib.Core.Path.{_≡_}
-use Prim.Native.Nat.{ℕ, _≤_}
-use lib.ListN.{length, replicate}
+use Prim.Native.Nat.{_%_, _/_, _≤_, ℕ}
+use lib.ListN.{getD, length, replicate}
+use Rattle.job_text.specs.Results.{Result}
 use Rattle.job_reply.specs.Room.{longest}
 
 -- the buffers hold the record that a job starts from, and there is room
-pub record Fresh (n : ℕ) (neighbours codes : List ℕ) (count : ℕ) (out : List ℕ) : Type 0 where
+pub record Fresh (n : ℕ) (neighbours codes : List ℕ) (count : ℕ) (answers out : List ℕ) : Type 0 where
   pub upto : n ≤ 64
   pub no-edge : neighbours ≡ replicate n 0
   pub eights : codes ≡ replicate n 8
   pub few : count ≤ 4096
+  pub kept : count ≤ length answers
   pub room : longest ≤ length out
+
+-- what is printed of the answer at place k
+abbrev pub resultIn : List ℕ → ℕ → Result
+resultIn answers k =
+    record {
+      refusal = getD answers k 0 / 4 % 64;
+      outcome = getD answers k 0 / 2 % 2;
+      determined = getD answers k 0 % 2;
+    }

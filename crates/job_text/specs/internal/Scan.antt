@@ -17,8 +17,12 @@ use Rattle.job_text.specs.declared.scan.Field.{Field}
 use Rattle.job_text.specs.declared.scan.Field.the-variants.{N, A, B, Value}
 use Rattle.job_text.specs.declared.scan.Place.{Place}
 use Rattle.job_text.specs.declared.scan.Place.the-variants.{Head, Word, First, More, Broken}
-use Rattle.job_text.specs.declared.scan.Reading.{Reading}
 use Rattle.job_text.specs.declared.scan.Scan.{Scan}
+
+-- a scan with the first 4,096 steps
+pub record Reading : Type 0 where
+  pub scan : Scan
+  pub steps : List Step
 
 -- the scan at another place
 abbrev pub moved : Scan → Place → Scan

@@ -1,0 +1,43 @@
+-- `op_of` meets its contract: the operation of a number.
+use borrow.Author.Tests.{eq-eqb, ne-eqb}
+use Rattle.jobs.specs.internal.Parallel.{numberedOp}
+use Rattle.jobs.proofs.op_of.Lts as lts
+use Rattle.jobs.proofs.op_of.Statement.{statement}
+use Rattle.jobs.proofs.op_of.Tie as tie
+
+returns : tie.Need-returns
+unfolding numberedOp
+returns c = simp (eq-eqb _ _ (c .if1 .taken))
+
+returns-2 : tie.Need-returns-2
+unfolding numberedOp
+returns-2 c = simp (ne-eqb _ _ (c .before .if1 .left), eq-eqb _ _ (c .if2 .taken))
+
+returns-3 : tie.Need-returns-3
+unfolding numberedOp
+returns-3 c = simp (
+  ne-eqb _ _ (c .before .before .if1 .left),
+  ne-eqb _ _ (c .before .if2 .left),
+  eq-eqb _ _ (c .if3 .taken),
+)
+
+returns-4 : tie.Need-returns-4
+unfolding numberedOp
+returns-4 c = simp (
+  ne-eqb _ _ (c .before .before .before .if1 .left),
+  ne-eqb _ _ (c .before .before .if2 .left),
+  ne-eqb _ _ (c .before .if3 .left),
+  eq-eqb _ _ (c .if4 .taken),
+)
+
+returns-5 : tie.Need-returns-5
+unfolding numberedOp
+returns-5 c = simp (
+  ne-eqb _ _ (c .before .before .before .if1 .left),
+  ne-eqb _ _ (c .before .before .if2 .left),
+  ne-eqb _ _ (c .before .if3 .left),
+  ne-eqb _ _ (c .if4 .left),
+)
+
+pub op-of-spec : {M : Type 1} → statement M
+op-of-spec = tie.close (tie.spec returns returns-2 returns-3 returns-4 returns-5)

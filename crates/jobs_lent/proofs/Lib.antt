@@ -1,0 +1,5 @@
+pub mod Again
+pub mod Counting
+pub mod LentCode
+pub mod LentLaws
+pub mod Prefix

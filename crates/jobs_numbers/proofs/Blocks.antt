@@ -1,0 +1,95 @@
+-- Blocks of steps: a block is filled place by place, and blocks run one behind the other.
+use mathlib.Core.List.{_++_, List, [], _∷_}
+use mathlib.Core.Path.{_∙_, _≡_, ap, refl, subst, sym}
+use Prim.Native.Nat.{_+_, _<_, _≤_, suc, zero, ℕ}
+use native.Mathlib.Decide.{ℕ-discrete}
+use native.Mathlib.Nat.{suc-add, zero-add}
+use native.Mathlib.Omega.{arith}
+use lib.ListN.{drop, getD, length, length-set, set, take}
+use lib.Seq.{getD-set-other, getD-set-same, length-take-le}
+use Rattle.jobs.proofs.ParallelLaws.{block-is}
+use Rattle.jobs.specs.declared.Step.{Step}
+use Rattle.jobs.specs.internal.Parallel.{numbered, stepIn, stepsIn}
+use Rattle.jobs_lent.proofs.LentLaws.{none-ran, ran-on}
+use Rattle.jobs_lent.specs.internal.LentRuns.{LentRun}
+use Rattle.used.specs.Used.{UsedRecord}
+
+-- the first k steps of a block are those of the lists from a place on
+pub record Filled (ops a b value : List ℕ) (from k : ℕ) (steps : List Step) : Type 0 where
+  pub long : length steps ≡ 64
+  pub each : (j : ℕ) → j < k → getD steps j (numbered 0 0 0 0) ≡ stepIn ops a b value (from + j)
+
+module _ (ops a b value : List ℕ) (from : ℕ) where
+  pub filled-none : (steps : List Step) → length steps ≡ 64 → Filled ops a b value from 0 steps
+  filled-none steps e = record { long = e; each = λ j h. absurd (omega arith) }
+
+  -- a step more
+  pub filled-next : (k : ℕ) (steps : List Step) (s : Step) → k < 64 → Filled ops a b value from k steps
+      → s ≡ stepIn ops a b value (from + k) → Filled ops a b value from (k + 1) (set steps k s)
+  filled-next k steps s inside F e =
+      record { long = length-set steps k s ∙ F .long; each = λ j h. go j h (ℕ-discrete j k) }
+    where
+      go : (j : ℕ) → j < k + 1 → Dec (j ≡ k)
+          → getD (set steps k s) j (numbered 0 0 0 0) ≡ stepIn ops a b value (from + j)
+      go j h (yes at) = subst (λ i. getD (set steps k s) i (numbered 0 0 0 0) ≡ stepIn ops a b value (from + i)) (sym at)
+          (getD-set-same steps k s (numbered 0 0 0 0) (subst (λ m. k < m) (sym (F .long)) inside) ∙ e)
+      go j h (no off) = getD-set-other steps k j s (numbered 0 0 0 0) off ∙ F .each j (below j h off)
+        where
+          below : (j : ℕ) → j < k + 1 → (j ≡ k → ⊥) → j < k
+          below j h off = omega (arith, h, off)
+
+  pub filled-all : (count k : ℕ) (steps : List Step) → count ≤ 64 → from + count ≤ length ops → count ≤ k
+      → Filled ops a b value from k steps → take count steps ≡ take count (drop from (stepsIn ops a b value))
+  filled-all count k steps few room end F = block-is ops a b value steps (numbered 0 0 0 0) from count room
+      (omega (arith, F .long)) (λ j h. F .each j (omega (arith, h, end)))
+
+take-nothing : (m : ℕ) → _≡_ {A = List Step} (take m []) []
+take-nothing zero = refl
+take-nothing (suc m) = refl
+
+take-more : (k m : ℕ) (l : List Step) → take k l ++ take m (drop k l) ≡ take (k + m) l
+take-more zero m l = ap (λ i. take i l) (sym (zero-add m))
+take-more (suc k) m [] = take-nothing m ∙ sym (take-nothing (suc k + m))
+take-more (suc k) m (x ∷ l) = ap (λ t. x ∷ t) (take-more k m l) ∙ ap (λ i. take i (x ∷ l)) (sym (suc-add k m))
+
+-- ---- blocks one behind the other
+-- after k of the steps
+pub record RunTo (u : UsedRecord) (steps : List Step) (count k : ℕ) (before nb cs : List ℕ) (used : ℕ) (mid : List ℕ)
+    : Type 0 where
+  pub bound : k ≤ count
+  pub ran : LentRun u (take k steps) 0 before nb cs used mid
+
+module _ (u : UsedRecord) (steps : List Step) (count : ℕ) (before : List ℕ) where
+  pub run-none : RunTo u steps count 0 before (u .held .neighbours) (u .held .codes) (u .used) before
+  run-none = record { bound = omega arith; ran = none-ran u 0 before }
+
+  -- a block more
+  pub run-block-more : (k m : ℕ) → k + m ≤ count → count ≤ length steps → count ≤ length before → (block : List Step)
+      → take m block ≡ take m (drop k steps) → (nb cs : List ℕ) (used : ℕ) (mid : List ℕ)
+      → RunTo u steps count k before nb cs used mid → (nb′ cs′ : List ℕ) (used′ : ℕ) (after : List ℕ)
+      → LentRun (record { held = record { n = u .held .n; neighbours = nb; codes = cs }; used = used }) (take m block) k mid
+      nb′ cs′ used′ after
+      → RunTo u steps count (k + m) before nb′ cs′ used′ after
+  run-block-more k m few inside room block e nb cs used mid R nb′ cs′ used′ after S =
+      record {
+        bound = few;
+        ran = subst (λ t. LentRun u t 0 before nb′ cs′ used′ after) (take-more k m steps)
+            (ran-on u (take k steps) 0 before nb cs used mid (R .ran) (omega (arith, long)) (take m (drop k steps)) nb′ cs′
+            used′ after
+            (subst (λ t. LentRun (record { held = record { n = u .held .n; neighbours = nb; codes = cs }; used = used }) t (0 + length (take k steps)) mid
+            nb′ cs′ used′ after) e
+            (subst (λ i. LentRun (record { held = record { n = u .held .n; neighbours = nb; codes = cs }; used = used }) (take m block) i mid nb′ cs′ used′
+            after) (sym (zero-add (length (take k steps)) ∙ long)) S)));
+      }
+    where
+      long : length (take k steps) ≡ k
+      long = length-take-le k steps (omega arith)
+
+  -- all of them
+  pub run-all : (k : ℕ) (nb cs : List ℕ) (used : ℕ) (mid : List ℕ) → count ≤ k
+      → RunTo u steps count k before nb cs used mid → LentRun u (take count steps) 0 before nb cs used mid
+  run-all k nb cs used mid end R =
+      subst (λ i. LentRun u (take i steps) 0 before nb cs used mid) (same k (R .bound) end) (R .ran)
+    where
+      same : (k : ℕ) → k ≤ count → count ≤ k → k ≡ count
+      same k a b = omega (arith, a, b)

@@ -1,0 +1,50 @@
+-- `block_at` meets its contract: the steps from a place on, at most 64.
+use mathlib.Core.Path.{refl}
+use Prim.Native.Nat.{_-_, _<_, _≤_, zero-le}
+use native.Mathlib.Omega.{arith}
+use borrow.Author.Needs.{needs}
+use Rattle.jobs_numbers.proofs.Blocks.{Filled, filled-all, filled-next, filled-none}
+use Rattle.jobs_numbers.proofs.block_at.Statement.{statement}
+use Rattle.jobs_numbers.proofs.block_at.Tie as tie
+
+abbrev Inv-loop : tie.InvT-loop
+Inv-loop ops a b value from count steps₀ k₀ steps k = (k ≤ count) × Filled ops a b value from k steps
+
+abbrev μ-loop : tie.MeasureT-loop
+μ-loop ops a b value from count steps₀ k₀ steps k = count - k
+
+loop-holds : tie.Need-loop-holds Inv-loop μ-loop
+loop-holds c = (zero-le, filled-none _ _ _ _ _ _ refl)
+
+step-at-requires : tie.Need-step-at-requires Inv-loop μ-loop
+step-at-requires c κs =
+    let S = c .before .before .before .before .before .before in
+    (omega (arith, c .loop-test .taken, S .pre .1), S .pre .2)
+
+-- the place is one of the block's
+place-below : (c : tie.After-step-at Inv-loop μ-loop) → c .before .before .loop .k < 64
+place-below c =
+    let S = c .before .before .before .before .before .before .before in
+    omega (arith, c .before .loop-test .taken, S .pre .0)
+
+mul-steps : tie.Need-mul-steps Inv-loop μ-loop
+mul-steps c = omega (arith, place-below c)
+
+array-set-from-steps : tie.Need-array-set-from-steps Inv-loop μ-loop
+array-set-from-steps c = place-below c
+
+loop-again : tie.Need-loop-again Inv-loop μ-loop
+loop-again c =
+    let l = c .before .before .loop in
+    (search needs, filled-next _ _ _ _ _ (l .k) (l .steps) _ (place-below c) (l .inv .1) (c .step-at .ensures))
+
+returns : tie.Need-returns Inv-loop μ-loop
+returns c =
+    let S = c .before .before .before .before .before .before in
+    filled-all _ _ _ _ _ _ _ _ (S .pre .0) (S .pre .1) (c .loop-test .left) (c .before .loop .inv .1)
+
+pub block-at-spec : {M : Type 1} → statement M
+block-at-spec =
+    tie.close
+    (tie.spec Inv-loop μ-loop loop-holds (λ c. search needs) step-at-requires mul-steps array-set-from-steps
+    (λ c. search needs) (λ c. search needs) loop-again returns)
