@@ -181,7 +181,9 @@ mod tests {
     #[test]
     fn three_and_fourteen_are_checked_after_ten_fifteen_after_one_and_sixteen_after_eight() {
         let order = Refusal::ALL.map(Refusal::number);
-        let due = [1, 15, 2, 4, 5, 6, 7, 8, 16, 17, 18, 9, 10, 3, 14, 11, 12, 13];
+        let due = [
+            1, 15, 2, 4, 5, 6, 7, 8, 16, 17, 18, 9, 10, 3, 14, 11, 12, 13,
+        ];
         assert_eq!(order, due);
     }
 
