@@ -56,7 +56,8 @@ impl StoreCall {
 
     /// The place of a name, read plainly.
     pub fn place(&self) -> Option<usize> {
-        (0..8).find(|i| self.heads[3 * i] != 0 && self.heads[3 * i + 1] == self.name)
+        let mut places = self.heads.chunks_exact(3).take(8);
+        places.position(|place| place[0] != 0 && place[1] == self.name)
     }
 
     /// The number of a save, and the store that it leaves. A refused one changes nothing.
