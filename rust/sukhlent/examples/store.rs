@@ -7,7 +7,9 @@ use sukhlent::{codes, cz, gate, measure, Pauli, Record, Refusal, Store};
 /// Each vertex with its neighbour word and its code, and the used word.
 fn show(text: &mut String, when: &str, record: &Record) {
     let vertices = record.neighbours.iter().zip(&record.codes);
-    let vertices: String = vertices.map(|(word, code)| format!(" {word:x} {code},")).collect();
+    let vertices: String = vertices
+        .map(|(word, code)| format!(" {word:x} {code},"))
+        .collect();
     writeln!(text, "{when}:{vertices} used {:x}", record.used).expect("room for text");
 }
 

@@ -181,14 +181,16 @@ mod tests {
     #[test]
     fn three_and_fourteen_are_checked_after_ten_fifteen_after_one_and_sixteen_after_eight() {
         let order = Refusal::ALL.map(Refusal::number);
-        let due = [1, 15, 2, 4, 5, 6, 7, 8, 16, 17, 18, 9, 10, 3, 14, 11, 12, 13];
+        let due = [
+            1, 15, 2, 4, 5, 6, 7, 8, 16, 17, 18, 9, 10, 3, 14, 11, 12, 13,
+        ];
         assert_eq!(order, due);
     }
 
     #[test]
     fn every_refusal_has_its_own_line() {
         let lines: std::collections::HashSet<_> = Refusal::ALL.map(Refusal::line).into();
-        assert_eq!(lines.len(), 16);
+        assert_eq!(lines.len(), Refusal::ALL.len());
         assert_eq!(
             Refusal::Anticommuting.to_string(),
             "refused 9: two generators do not commute"
@@ -196,8 +198,8 @@ mod tests {
     }
 
     #[test]
-    #[should_panic(expected = "no refusal has the number 17")]
+    #[should_panic(expected = "no refusal has the number 19")]
     fn other_numbers_are_no_answers() {
-        let _ = Refusal::unless_accepted(17);
+        let _ = Refusal::unless_accepted(19);
     }
 }

@@ -16,7 +16,12 @@ fn plain(neighbours: &[u64]) -> GeneratorList {
     let codes = vec![0; neighbours.len()];
     let neighbours = neighbours.to_vec();
     let used = 0;
-    expand(&Record { neighbours, codes, used }).expect("a simple graph")
+    expand(&Record {
+        neighbours,
+        codes,
+        used,
+    })
+    .expect("a simple graph")
 }
 
 /// Asserts that every graph on n vertices has the orbit that a plain search finds, and answers how

@@ -58,10 +58,19 @@ fn the_states_of_the_readings() {
     let nothing = [nought; 3];
     let plus = [one, nought, quarter];
     for (given, answers) in [
-        ("-ZZ\n+XY\n", vec![nothing, [one, nought, half], [nought, one, half], nothing]),
-        ("-XX\n-ZZ\n", vec![nothing, [one, nought, half], [less, nought, half], nothing]),
+        (
+            "-ZZ\n+XY\n",
+            vec![nothing, [one, nought, half], [nought, one, half], nothing],
+        ),
+        (
+            "-XX\n-ZZ\n",
+            vec![nothing, [one, nought, half], [less, nought, half], nothing],
+        ),
         ("-Y\n", vec![[one, nought, half], [nought, less, half]]),
-        ("+XZ\n+ZX\n", vec![plus, plus, plus, [less, nought, quarter]]),
+        (
+            "+XZ\n+ZX\n",
+            vec![plus, plus, plus, [less, nought, quarter]],
+        ),
         ("-Z\n", vec![nothing, [one, nought, one]]),
     ] {
         let mut due = String::from("y re im p\n");
@@ -202,9 +211,17 @@ fn every_block_is_read() {
         assert!(given.len() > blocks * BLOCK);
         let part = &given.as_bytes()[..blocks * BLOCK];
         assert_eq!(AMPLITUDES.run(part), refused(1), "{blocks} blocks");
-        assert_eq!(AMPLITUDES.run(given.as_bytes()), refused(2), "{blocks} blocks");
+        assert_eq!(
+            AMPLITUDES.run(given.as_bytes()),
+            refused(2),
+            "{blocks} blocks"
+        );
         let fault = format!("{given}!");
-        assert_eq!(AMPLITUDES.run(fault.as_bytes()), refused(1), "{blocks} blocks");
+        assert_eq!(
+            AMPLITUDES.run(fault.as_bytes()),
+            refused(1),
+            "{blocks} blocks"
+        );
     }
 }
 

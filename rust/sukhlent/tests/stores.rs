@@ -35,7 +35,10 @@ fn a_hundred_thousand_calls_agree_with_a_map() {
                 assert_eq!(store.forget(name), due);
             }
         }
-        assert_eq!(store.names().collect::<BTreeSet<_>>(), map.keys().copied().collect());
+        assert_eq!(
+            store.names().collect::<BTreeSet<_>>(),
+            map.keys().copied().collect()
+        );
     }
     assert!(answers.iter().all(|&count| count > 100), "{answers:?}");
 }
@@ -49,20 +52,39 @@ fn damaged_stores_give_the_numbers_due_and_no_byte_changes() {
         let mut call = StoreCall::random(&mut random, n);
         (0..random.below(3)).for_each(|_| damage_store(&mut random, &mut call));
         let saved = call.save();
-        assert_eq!(saved.as_ref().err().copied().unwrap_or(0), call.save_due(), "{call:?}");
+        assert_eq!(
+            saved.as_ref().err().copied().unwrap_or(0),
+            call.save_due(),
+            "{call:?}"
+        );
         seen[0].insert(call.save_due());
         if let Ok(after) = saved {
-            assert_eq!(after.return_to(), Ok(call.record.clone()));
             assert_eq!(after.place(), Some(expected_place(&call)));
+            let places = (64, 64);
+            assert_eq!(
+                StoreCall { places, ..after }.return_to(),
+                Ok(call.record.clone())
+            );
         }
         let returned = call.return_to();
         assert_eq!(returned.err().unwrap_or(0), call.return_due(), "{call:?}");
         seen[1].insert(call.return_due());
         let forgotten = call.forget();
-        assert_eq!(forgotten.as_ref().err().copied().unwrap_or(0), call.forget_due(), "{call:?}");
+        assert_eq!(
+            forgotten.as_ref().err().copied().unwrap_or(0),
+            call.forget_due(),
+            "{call:?}"
+        );
         seen[2].insert(call.forget_due());
         if let Ok(heads) = forgotten {
-            assert_eq!(StoreCall { heads, ..call.clone() }.return_to(), Err(call.after_forget()));
+            assert_eq!(
+                StoreCall {
+                    heads,
+                    ..call.clone()
+                }
+                .return_to(),
+                Err(call.after_forget())
+            );
         }
     }
     assert_eq!(seen[0], BTreeSet::from([0, 2, 4, 5, 6, 7, 18]));
@@ -96,14 +118,21 @@ fn the_cases_of_the_request() {
     for (n, &name) in names.iter().enumerate() {
         store.save(&Record::zeros(n + 1), name).unwrap();
     }
-    let other = Record { used: 0b100, ..Record::zeros(3) };
+    let other = Record {
+        used: 0b100,
+        ..Record::zeros(3)
+    };
     assert_eq!(store.save(&other, [b'Z'; 8]), Err(Refusal::Full));
     assert_eq!(store.save(&other, names[0]), Ok(()));
     assert_eq!(store.return_to(names[0]), Ok(other.clone()));
     store.forget(names[2]).unwrap();
     store.save(&other, [b'Z'; 8]).unwrap();
     assert_eq!(store.names().nth(2), Some([b'Z'; 8]));
-    for (n, &name) in names.iter().enumerate().filter(|(n, _)| ![0, 2].contains(n)) {
+    for (n, &name) in names
+        .iter()
+        .enumerate()
+        .filter(|(n, _)| ![0, 2].contains(n))
+    {
         assert_eq!(store.return_to(name), Ok(Record::zeros(n + 1)));
     }
     assert_eq!(store.return_to(names[2]), Err(Refusal::NotHeld));
@@ -113,7 +142,9 @@ fn the_cases_of_the_request() {
 fn eight_zero_bytes_are_a_name_and_sixty_four_qubits_fit_everywhere() {
     let mut random = Random::new(14);
     let mut store = Store::new();
-    let records: Vec<Record> = (0..8).map(|_| random_used_record(&mut random, 64)).collect();
+    let records: Vec<Record> = (0..8)
+        .map(|_| random_used_record(&mut random, 64))
+        .collect();
     for (name, record) in (0..8).zip(&records) {
         store.save(record, [name; 8]).unwrap();
     }

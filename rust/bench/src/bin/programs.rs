@@ -29,7 +29,10 @@ fn text(seed: u64) -> String {
     let given = list(&random_rows(&mut Random::new(seed), N));
     let mut out = String::from("sign z x\n");
     for j in 0..N {
-        out += &format!("{} {:016x} {:016x}\n", given.signs[j], given.z[j], given.x[j]);
+        out += &format!(
+            "{} {:016x} {:016x}\n",
+            given.signs[j], given.z[j], given.x[j]
+        );
     }
     out
 }
@@ -53,7 +56,10 @@ fn stack(name: &str) -> usize {
         let limited = format!("ulimit -s {limit} && exec {}", path(name).display());
         printed(Command::new("sh").args(["-c", &limited]), &given) == due
     };
-    (4..=8192).step_by(4).find(|&limit| runs(limit)).expect("8 MiB are enough")
+    (4..=8192)
+        .step_by(4)
+        .find(|&limit| runs(limit))
+        .expect("8 MiB are enough")
 }
 
 fn main() {
@@ -72,6 +78,9 @@ fn main() {
     println!("|---|---|---|---|---|");
     for (k, name) in PROGRAMS.iter().enumerate() {
         let (time, length) = (times[k] * 1e3, lengths[k]);
-        println!("| {name} | {N} | {time:.2} ms | {length} | {} KiB |", stack(name));
+        println!(
+            "| {name} | {N} | {time:.2} ms | {length} | {} KiB |",
+            stack(name)
+        );
     }
 }

@@ -56,7 +56,8 @@ impl StoreCall {
 
     /// The place of a name, read plainly.
     pub fn place(&self) -> Option<usize> {
-        (0..8).find(|i| self.heads[3 * i] != 0 && self.heads[3 * i + 1] == self.name)
+        let mut places = self.heads.chunks_exact(3).take(8);
+        places.position(|place| place[0] != 0 && place[1] == self.name)
     }
 
     /// The number of a save, and the store that it leaves. A refused one changes nothing.
@@ -123,7 +124,10 @@ impl StoreCall {
         let numbers = numbers.answer("n and used");
         let n = numbers[0] as usize;
         let (neighbours, codes) = (neighbours.answer("neighbours"), codes.answer("codes"));
-        assert_eq!((&neighbours[n..], &codes[n..]), (&before.0[n..], &before.1[n..]));
+        assert_eq!(
+            (&neighbours[n..], &codes[n..]),
+            (&before.0[n..], &before.1[n..])
+        );
         Ok(Record {
             neighbours: neighbours[..n].to_vec(),
             codes: codes[..n].to_vec(),
@@ -156,7 +160,11 @@ impl StoreCall {
     /// The number due to a save.
     pub fn save_due(&self) -> u8 {
         let own = record_refusal(self.n, &self.record, &[]);
-        match [own, self.store_due(false)].into_iter().filter(|&k| k != 0).min() {
+        match [own, self.store_due(false)]
+            .into_iter()
+            .filter(|&k| k != 0)
+            .min()
+        {
             Some(number) => number,
             None if self.place().is_none() && (0..8).all(|i| self.heads[3 * i] != 0) => 18,
             None => 0,
@@ -186,7 +194,11 @@ pub fn damage_store(random: &mut Random, call: &mut StoreCall) {
     let (bit, place) = (1 << random.below(64), 64 * i + random.below(4));
     match random.below(14) {
         0 => call.n = [0, 65, call.n + 1, u64::MAX][random.below(4)],
-        1 => put(&mut call.heads, 3 * i, [65, u64::MAX, 64, 9][random.below(4)]),
+        1 => put(
+            &mut call.heads,
+            3 * i,
+            [65, u64::MAX, 64, 9][random.below(4)],
+        ),
         2 => drop(call.heads.pop()),
         3 => call.neighbours.push(0),
         4 => drop(call.codes.pop()),

@@ -25,6 +25,8 @@ pub fn store_refusal(heads: &[u64], neighbours: &[u64], codes: &[u8], others: bo
     };
     let first = held.iter().map(number).filter(|&k| k != 0).min();
     let name = |&i: &usize| heads[3 * i + 1];
-    let twice = held.iter().any(|i| held.iter().any(|j| i < j && name(i) == name(j)));
+    let twice = held
+        .iter()
+        .any(|i| held.iter().any(|j| i < j && name(i) == name(j)));
     first.unwrap_or(if twice { 7 } else { 0 })
 }
