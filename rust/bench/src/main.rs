@@ -1,6 +1,8 @@
 //! Times of the engine's calls beside plain Rust, as one table.
 
-use bench::calls::{amplitude, compare, image, in_place, orbit, reduce, strings, values, Line};
+use bench::calls::{
+    amplitude, compare, image, in_place, orbit, reduce, stores, strings, values, Line,
+};
 
 fn main() {
     println!("{}", Line::HEAD);
@@ -39,4 +41,6 @@ fn main() {
     for n in [8, 64] {
         println!("{}", amplitude::line(n));
     }
+    println!("{}", stores::saving(64));
+    println!("{}", stores::returning(64));
 }

@@ -6,6 +6,7 @@ pub mod image;
 pub mod in_place;
 pub mod orbit;
 pub mod reduce;
+pub mod stores;
 pub mod strings;
 pub mod values;
 
