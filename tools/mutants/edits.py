@@ -19,7 +19,7 @@ MARKS = {
     "+=": ["-="], "-=": ["+="],
 }
 WORDS = {"true": "false", "false": "true"}
-INTEGERS = ("u8", "u64", "usize")
+INTEGERS = ("u8", "u16", "u32", "u64", "usize")
 ENDS_OPERAND = ("name", "number", "text")
 NO_VARIABLE_AFTER = ("(", "::", ":", "{", "!")
 KEYWORDS = ("if", "else", "while", "match", "return", "let", "mut", "as", "loop", "true", "false")
