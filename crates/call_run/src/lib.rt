@@ -24,14 +24,7 @@ fn one_other_than(count: usize, first: usize, second: usize, third: usize) -> bo
 }
 
 // The number of the first line that holds; `others`: the slices' lengths differ.
-fn run_refusal(
-    n: u64,
-    neighbours: &[u64],
-    codes: &[u8],
-    used: u64,
-    ops: &[u8],
-    others: bool,
-) -> u8
+fn run_refusal(n: u64, neighbours: &[u64], codes: &[u8], used: u64, ops: &[u8], others: bool) -> u8
     ensures { λ r. ⌜ r ≡ firstFitting (line 15 (ltb 4096 (length (now (ops .entry)))) ∷ usedLines (record {
       held = record { n = n; neighbours = now (neighbours .entry); codes = now (codes .entry) };
       used = used;
@@ -47,7 +40,7 @@ fn run_refusal(
 // The answers that were kept as one number each, told apart: the number of the refusal stays where it was.
 fn unpack(answers: &mut [u8], outcomes: &mut [u8], determined: &mut [u8])
     requires { ⌜ (length (now outcomes) ≡ length (now answers)) × (length (now determined) ≡ length (now answers)) ⌝ }
-    ensures { ⌜ (now (answers .exit)
+    ensures { λ r. ⌜ (now (answers .exit)
         ≡ tabulate (length (now (answers .entry))) (λ k. getD (now (answers .entry)) k 0 / 4 % 64))
         × (now (outcomes .exit)
         ≡ tabulate (length (now (answers .entry))) (λ k. getD (now (answers .entry)) k 0 / 2 % 2))

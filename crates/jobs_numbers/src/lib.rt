@@ -86,9 +86,9 @@ pub fn run_known(
 ) -> u64
     requires { ⌜ (count ≤ length (now ops)) × (count ≤ length (now answers))
         × OneLength (now ops) (now a) (now b) (now value) × Known known (record {
-      held = record { n = n; neighbours = now neighbours; codes = now codes };
-      used = used;
-    }) ⌝ }
+          held = record { n = n; neighbours = now neighbours; codes = now codes };
+          used = used;
+        }) ⌝ }
     ensures { λ r. ⌜ LentRun (record {
       held = record { n = n; neighbours = now (neighbours .entry); codes = now (codes .entry) };
       used = used;
@@ -128,5 +128,17 @@ pub fn run_numbers(
         (now (answers .entry)) (now (neighbours .exit)) (now (codes .exit)) r (now (answers .exit)) ⌝ }
 {
     let known = known_refusal(n, neighbours, codes, used, false, false) == 0;
-    run_known(n, neighbours, codes, used, known, count, ops, a, b, value, answers)
+    run_known(
+        n,
+        neighbours,
+        codes,
+        used,
+        known,
+        count,
+        ops,
+        a,
+        b,
+        value,
+        answers,
+    )
 }
