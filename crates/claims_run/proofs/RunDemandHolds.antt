@@ -13,10 +13,11 @@ use Rattle.claims.specs.ProgramDemand.{LineSays}
 use Rattle.contracts.specs.Calls.{Call}
 use Rattle.job_text.specs.Answer.{resultOf}
 use Rattle.jobs.proofs.ParallelLaws.{steps-at, steps-long}
+use Rattle.jobs.proofs.Starting.{started-stands}
 use Rattle.jobs.proofs.Stepwise.{answer-at, run-qubits}
-use Rattle.jobs.specs.GroupsAfter.{Group, GroupAfter}
+use Rattle.jobs.specs.GroupsAfter.{Group, GroupAfter, StartGroup}
 use Rattle.jobs.specs.Parallel.{numbered, stepIn}
-use Rattle.jobs.specs.Runs.{answerOf, run, stepAnswers}
+use Rattle.jobs.specs.Runs.{run, started, stepAnswers}
 use Rattle.jobs.specs.Standing.{StandsFor, left}
 use Rattle.jobs.specs.declared.Answer.{Answer}
 use Rattle.jobs.specs.declared.Step.{Step}
@@ -88,6 +89,8 @@ run-demand =
       accepted = run-accepted-exactly;
       follows = λ u G S s nb cs used refusals outcomes determined C.
           run-stands u s nb cs used refusals outcomes determined C G S;
+      jobs = λ n positive upto s nb cs used refusals outcomes determined C.
+          run-stands (started n) s nb cs used refusals outcomes determined C (StartGroup n) (started-stands n positive upto);
     }
 
 -- what the documents say of the exported function, from its contract

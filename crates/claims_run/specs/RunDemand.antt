@@ -13,9 +13,9 @@ use Rattle.claims.specs.Conforming.{Answered, Conforms}
 use Rattle.claims.specs.ProgramDemand.{LineSays}
 use Rattle.contracts.specs.Calls.{Call}
 use Rattle.job_text.specs.Results.{Result}
-use Rattle.jobs.specs.GroupsAfter.{Group, GroupAfter}
+use Rattle.jobs.specs.GroupsAfter.{Group, GroupAfter, StartGroup}
 use Rattle.jobs.specs.Parallel.{stepIn}
-use Rattle.jobs.specs.Runs.{run}
+use Rattle.jobs.specs.Runs.{run, started}
 use Rattle.jobs.specs.Standing.{StandsFor, left}
 use Rattle.pauli.specs.Pauli.{Pauli}
 use Rattle.record.specs.Lent.{heldRows}
@@ -85,3 +85,8 @@ pub record RunDemand : Type 1 where
       (refusals′ outcomes′ determined′ : List ℕ) →
       Call (runCall u s neighbours′ codes′ used′ refusals′ outcomes′ determined′) 0 →
       RunStands u G s neighbours′ codes′ used′ refusals′ outcomes′ determined′
+  -- of the record that a job starts from, the groups are those of `JobsStand`
+  pub jobs : (n : ℕ) → 1 ≤ n → n ≤ 64 → (s : LentSteps) (neighbours′ codes′ : List ℕ) (used′ : ℕ)
+      (refusals′ outcomes′ determined′ : List ℕ) →
+      Call (runCall (started n) s neighbours′ codes′ used′ refusals′ outcomes′ determined′) 0 →
+      RunStands (started n) (StartGroup n) s neighbours′ codes′ used′ refusals′ outcomes′ determined′
