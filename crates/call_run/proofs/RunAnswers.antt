@@ -2,7 +2,7 @@
 use mathlib.Core.Bool.{Bool, false, _||_}
 use mathlib.Core.List.{List, map, _∷_}
 use mathlib.Core.Path.{_∙_, _≡_, ap, ap₂, refl, subst, sym}
-use Prim.Native.Nat.{_%_, _/_, _<_, ℕ}
+use Prim.Native.Nat.{_<_, ℕ}
 use native.Mathlib.Nat.{le-of-eq}
 use lib.Dec.{ltb}
 use lib.ListN.{getD, length, length-map, take}

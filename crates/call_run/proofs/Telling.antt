@@ -1,6 +1,6 @@
 -- The loop that tells the parts of kept answers: the places that it has passed, and the tables that it comes to.
 use mathlib.Core.List.{List}
-use mathlib.Core.Path.{_∙_, _≡_, ap, refl, sym}
+use mathlib.Core.Path.{_≡_, ap}
 use Prim.Native.Nat.{_%_, _+_, _/_, _<_, ℕ, _≤_}
 use native.Mathlib.Nat.{le-refl}
 use native.Mathlib.Omega.{arith}

@@ -16,7 +16,7 @@ use Rattle.jobs.proofs.ParallelLaws.{steps-at, steps-long}
 use Rattle.jobs.proofs.Starting.{started-stands}
 use Rattle.jobs.proofs.Stepwise.{answer-at, run-qubits}
 use Rattle.jobs.specs.GroupsAfter.{Group, GroupAfter, StartGroup}
-use Rattle.jobs.specs.Parallel.{numbered, stepIn}
+use Rattle.jobs.specs.Parallel.{numbered}
 use Rattle.jobs.specs.Runs.{run, started, stepAnswers}
 use Rattle.jobs.specs.Standing.{StandsFor, left}
 use Rattle.jobs.specs.declared.Answer.{Answer}

@@ -1,7 +1,7 @@
 -- `unpack` meets its contract: the answers that were kept as one number each, told apart.
-use mathlib.Core.Path.{_∙_, _≡_, sym}
+use mathlib.Core.Path.{_∙_, sym}
 use lib.ListN.{length}
-use Prim.Native.Nat.{_-_, _<_}
+use Prim.Native.Nat.{_-_}
 use native.Mathlib.Omega.{arith}
 use borrow.Author.Needs.{needs}
 use Rattle.call_run.proofs.Telling.{Told, told-all, told-next, told-none}
