@@ -71,7 +71,8 @@ loop-again c =
     let a = S .args in
     let l = A .loop in
     let m = L .block-length .ensures in (
-      run-block-more (lent S) _ _ _ (l .k) (L .block-length .result) (omega (arith, m .1, I .loop-test .taken))
+      run-block-more (lent S) (stepsIn (a .ops .now) (a .a .now) (a .b .now) (a .value .now)) (a .count) (a .answers .now)
+          (l .k) (L .block-length .result) (omega (arith, m .1, I .loop-test .taken))
           (omega (arith, S .pre .0, steps-long (a .ops .now) (a .a .now) (a .b .now) (a .value .now))) (S .pre .1)
           (B .block-at .result) (B .block-at .ensures) _ _ _ _ (l .inv .0) _ _ _ _ (R .run-block .ensures),
       R .run-block .kept .1 .0 ∙ l .inv .1,
