@@ -17,7 +17,7 @@ use Rattle.stabilizer.specs.Membership.{member}
 use Rattle.words.specs.Bits.{bit, fold, put, wordOf}
 use Rattle.words.specs.Search.{every, first, some}
 use Rattle.jobs.specs.internal.Examples.{AllHold}
-use Rattle.claims.specs.internal.Table.{table}
+use Rattle.claims_examples.specs.internal.Table.{table}
 
 pub examples : AllHold table
 unfolding inverse first some every fold put bit wordOf mul anticommute act clashing dependent isColumnDependent

@@ -14,7 +14,7 @@ use Rattle.stabilizer.specs.Membership.{member}
 use Rattle.words.specs.Bits.{bit, fold, put, wordOf}
 use Rattle.words.specs.Search.{every, first, some}
 use Rattle.jobs.specs.internal.Examples.{AllHold}
-use Rattle.claims.specs.internal.SessionTable.{table}
+use Rattle.claims_examples.specs.internal.SessionTable.{table}
 
 pub both-ways : AllHold table
 unfolding fold put bit wordOf some every first power mul anticommute inverse act tabulate firstFitting
