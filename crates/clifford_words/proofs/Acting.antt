@@ -10,13 +10,13 @@ use Rattle.clifford.specs.Clifford.{Clifford, bitC, bitD, image, imagePhase}
 use Rattle.clifford.specs.Vectors.{act}
 use Rattle.pauli.proofs.PauliLaws.{Pauli-path}
 use Rattle.pauli.proofs.PhaseLaws.{minus-⊕, phases}
-use Rattle.pauli.specs.Pauli.{_+ᵖ_, i⁰, letter, minus, signBit, signedRow, sumPhase, xBit, zBit}
+use Rattle.pauli.specs.Pauli.{_+ᵖ_, i⁰, letter, minus, signBit, signedRow, sumPhase, zBit}
 use Rattle.pauli.specs.declared.Letter.the-variants.{X, Y, Z}
 use Rattle.words.proofs.BitLaws.{bit-above, bit-and, bit-xor, lt-of-bits}
 use Rattle.words.proofs.Finite.{bits, unequal}
 use Rattle.words.proofs.OnesLaws.{parity-ones}
 use Rattle.words.proofs.Sums.{fold-ext, fold-hom, lt-or-ge}
-use Rattle.words.specs.Bits.{_⊕_, bit, isOdd, parity}
+use Rattle.words.specs.Bits.{_⊕_, bit, isOdd}
 use Rattle.clifford_words.specs.declared.Action.{Action}
 use Rattle.clifford_words.specs.internal.Actions.{ActsAs}
 

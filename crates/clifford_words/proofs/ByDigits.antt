@@ -15,7 +15,6 @@ use Rattle.words.proofs.Finite.{sameBit→≡}
 use Rattle.words.proofs.SearchLaws.{every-at}
 use Rattle.words.specs.Bits.{_⊕_, bit, sameBit}
 use Rattle.words.specs.Search.{every}
-use Rattle.clifford_words.specs.declared.Action.{Action}
 use Rattle.clifford_words.specs.internal.Actions.{ActsAs}
 
 -- ---- one code

@@ -3,12 +3,10 @@ use mathlib.Core.Bool.{Bool, false, true}
 use mathlib.Core.List.{List}
 use mathlib.Core.Path.{ap, refl, sym, _∙_, _≡_}
 use Prim.Native.Nat.{_*_, _+_, _-_, _<_, _^_, suc, zero, ℕ, _≤_}
-use native.Mathlib.Nat.{lt-of-lt-of-le}
 use native.Mathlib.Omega.{arith}
 use lib.Arith.{digits-div, digits-mod}
 use lib.Dec.{eqb}
 use lib.ListN.{List·getD-eq-default, getD, length}
-use lib.Pow.{pow-mono}
 use mir.Val.{boolByte}
 use Rattle.words.proofs.BitLaws.{bit-suc, bit-zero, digit-lt, lt-of-bits, odd-digit, zero-bit}
 use Rattle.words.specs.Bits.{bit, digit}
