@@ -42,7 +42,7 @@ pub fn load_list(n: usize, signs: &[u8], z: &[u64], x: &[u64], minuses: &mut u64
 // The reduced record of the tableau's group, where its rows are independent: then it is written, and the answer is
 // true.
 pub fn reduce_tableau(
-    rows: [[u64; 2]; 64],
+    mut rows: [[u64; 2]; 64],
     signs: u64,
     n: usize,
     neighbours: &mut [u64],
@@ -58,16 +58,16 @@ pub fn reduce_tableau(
 {
     let mut minuses = signs;
     let mut kept = 0;
-    let first = pass(rows, &mut minuses, n, &mut kept);
+    pass(&mut rows, &mut minuses, n, &mut kept);
     let all = mask(n);
     let hadamards = all ^ kept;
-    let rotated = rotate(first, &mut minuses, n, hadamards);
+    rotate(&mut rows, &mut minuses, n, hadamards);
     let mut pivots = kept;
-    let second = pass(rotated, &mut minuses, n, &mut pivots);
+    pass(&mut rows, &mut minuses, n, &mut pivots);
     if pivots != all {
         return false;
     }
-    write_record(&second, minuses, n, hadamards, neighbours, codes);
+    write_record(&rows, minuses, n, hadamards, neighbours, codes);
     true
 }
 

@@ -121,48 +121,44 @@ fn pivot_column(rows: &mut [[u64; 2]; 64], signs: &mut u64, q: usize, i: usize, 
 
 // A pass over the columns below n that have no pivot: where an unused row has x bit q, column q gets its pivot. The
 // word pivots names the columns that have one, and so their rows.
-fn relative_pass(
-    mut rows: [[u64; 2]; 64],
-    signs: &mut u64,
-    n: usize,
-    pivots: &mut u64,
-) -> [[u64; 2]; 64]
-    requires { ⌜ (n ≤ 64) × Loaded n (relative (now signs) rows) ⌝ }
-    ensures { λ r. ⌜ Eliminated n (relative (now (signs .entry)) rows) (bit (now (pivots .entry)))
-        (relative (now (signs .exit)) r) (bit (now (pivots .exit))) n ⌝ }
+fn relative_pass(rows: &mut [[u64; 2]; 64], signs: &mut u64, n: usize, pivots: &mut u64)
+    requires { ⌜ (n ≤ 64) × (length (now rows) ≡ 64) × Loaded n (relative (now signs) (now rows)) ⌝ }
+    ensures { λ r. ⌜ length (now (rows .exit)) ≡ 64 ⌝ }
+    ensures { λ r. ⌜ Eliminated n (relative (now (signs .entry)) (now (rows .entry))) (bit (now (pivots .entry)))
+        (relative (now (signs .exit)) (now (rows .exit))) (bit (now (pivots .exit))) n ⌝ }
 {
     let mut q = 0;
     while q < n {
         if !has(*pivots, q) {
-            let holders = column(&rows, n, q);
+            let holders = column(rows, n, q);
             let free = holders ^ (holders & *pivots);
             if free != 0 {
-                pivot_column(&mut rows, signs, q, smallest(free), holders);
+                pivot_column(rows, signs, q, smallest(free), holders);
                 *pivots = put_bit(*pivots, q, true);
             }
         }
         q += 1;
     }
-    rows
 }
 
 // The same with signs in place of relative signs.
-pub fn pass(rows: [[u64; 2]; 64], signs: &mut u64, n: usize, pivots: &mut u64) -> [[u64; 2]; 64]
-    requires { ⌜ (n ≤ 64) × Loaded n (tableau (now signs) rows) ⌝ }
-    ensures { λ r. ⌜ Eliminated n (tableau (now (signs .entry)) rows) (bit (now (pivots .entry)))
-        (tableau (now (signs .exit)) r) (bit (now (pivots .exit))) n ⌝ }
+pub fn pass(rows: &mut [[u64; 2]; 64], signs: &mut u64, n: usize, pivots: &mut u64)
+    requires { ⌜ (n ≤ 64) × (length (now rows) ≡ 64) × Loaded n (tableau (now signs) (now rows)) ⌝ }
+    ensures { λ r. ⌜ length (now (rows .exit)) ≡ 64 ⌝ }
+    ensures { λ r. ⌜ Eliminated n (tableau (now (signs .entry)) (now (rows .entry))) (bit (now (pivots .entry)))
+        (tableau (now (signs .exit)) (now (rows .exit))) (bit (now (pivots .exit))) n ⌝ }
 {
-    *signs = *signs ^ pair_signs(&rows, n);
-    let passed = relative_pass(rows, signs, n, pivots);
-    *signs = *signs ^ pair_signs(&passed, n);
-    passed
+    *signs = *signs ^ pair_signs(rows, n);
+    relative_pass(rows, signs, n, pivots);
+    *signs = *signs ^ pair_signs(rows, n);
 }
 
 // Hadamards on the columns that the word names: z and x are exchanged there, and a sign flips for each Y.
-pub fn rotate(mut rows: [[u64; 2]; 64], signs: &mut u64, n: usize, columns: u64) -> [[u64; 2]; 64]
-    requires { ⌜ (n ≤ 64) × Loaded n (tableau (now signs) rows) ⌝ }
-    ensures { λ r. ⌜ ((j : ℕ) → tableau (now (signs .exit)) r j
-        ≡ act 64 (hadamardWhere (bit columns)) (tableau (now (signs .entry)) rows j)) ⌝ }
+pub fn rotate(rows: &mut [[u64; 2]; 64], signs: &mut u64, n: usize, columns: u64)
+    requires { ⌜ (n ≤ 64) × (length (now rows) ≡ 64) × Loaded n (tableau (now signs) (now rows)) ⌝ }
+    ensures { λ r. ⌜ length (now (rows .exit)) ≡ 64 ⌝ }
+    ensures { λ r. ⌜ ((j : ℕ) → tableau (now (signs .exit)) (now (rows .exit)) j
+        ≡ act 64 (hadamardWhere (bit columns)) (tableau (now (signs .entry)) (now (rows .entry)) j)) ⌝ }
 {
     let mut i = 0;
     while i < n {
@@ -175,5 +171,4 @@ pub fn rotate(mut rows: [[u64; 2]; 64], signs: &mut u64, n: usize, columns: u64)
         *signs = flip_where(*signs, i, minus);
         i += 1;
     }
-    rows
 }

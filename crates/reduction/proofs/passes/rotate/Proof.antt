@@ -9,18 +9,18 @@ use Rattle.reduction.proofs.passes.rotate.Statement.{statement}
 use Rattle.reduction.proofs.passes.rotate.Tie as tie
 
 abbrev Inv-loop : tie.InvT-loop
-Inv-loop signs₀ n columns rows₀ i₀ signs rows i = Rotated rows₀ signs₀ n columns rows signs i
+Inv-loop rows₀ signs₀ n columns i₀ rows signs i = Rotated rows₀ signs₀ n columns rows signs i
 
 abbrev μ-loop : tie.MeasureT-loop
-μ-loop signs₀ n columns rows₀ i₀ signs rows i = n - i
+μ-loop rows₀ signs₀ n columns i₀ rows signs i = n - i
 
 loop-holds : tie.Need-loop-holds Inv-loop μ-loop
-loop-holds c = rotate-start _ _ _ _ (c .good .0 .1 .0 .1)
+loop-holds c = rotate-start _ _ _ _ (c .pre .1)
 
 loop-again : tie.Need-loop-again Inv-loop μ-loop
 loop-again c = let L = c .before .before .before .before .before .loop in
     let S = c .before .before .before .before .before .before in
-    rotate-step (S .args .t1) (S .args .signs .now) (S .args .n) (S .args .columns) (L .rows) (L .signs)
+    rotate-step (S .args .rows .now) (S .args .signs .now) (S .args .n) (S .args .columns) (L .rows) (L .signs)
     (L .i) (L .inv)
     (c .before .before .before .before .loop-test .taken) (S .pre .0) (S .fits .columns .fits) _ _ _
     (c .before .before .odd .ensures) refl
@@ -28,10 +28,11 @@ loop-again c = let L = c .before .before .before .before .before .loop in
 
 returns : tie.Need-returns Inv-loop μ-loop
 returns c = let L = c .before .loop in
-    let S = c .before .before in
-    rotate-end (S .args .t1) (S .args .signs .now) (S .args .n) (S .args .columns) (L .rows) (L .signs) (L .i)
-    (L .inv)
-    (c .loop-test .left) (S .pre .1 .beyond)
+    let S = c .before .before in (
+      L .inv .long,
+      rotate-end (S .args .rows .now) (S .args .signs .now) (S .args .n) (S .args .columns) (L .rows) (L .signs)
+          (L .i) (L .inv) (c .loop-test .left) (S .pre .2 .beyond),
+    )
 
 pub rotate-spec : {M : Type 1} → statement M
 rotate-spec =
