@@ -1,10 +1,9 @@
 // Reduction by value on an array of 64 rows of two words, z and x, beside one word of signs.
-mod passes;
 mod reading_off;
 
-use crate::passes::pass;
-use crate::passes::rotate;
 use crate::reading_off::write_record;
+use reduction_passes::pass;
+use reduction_passes::rotate;
 use words::flip_where;
 use words::mask;
 ghost use mathlib.Core.Bool.{cond, not};
@@ -14,7 +13,7 @@ ghost use lib.ListN.{length};
 ghost use Rattle.record.specs.Lent.{codeNumbers, neighbourWords};
 ghost use Rattle.record.specs.Reduced.{reduced};
 ghost use Rattle.reduction.specs.internal.Reducible.{Reducible};
-ghost use Rattle.reduction.specs.internal.Passes.{Loaded};
+ghost use Rattle.reduction_passes.specs.internal.Passes.{Loaded};
 ghost use Rattle.stabilizer.specs.Lists.{dependent, rows};
 ghost use Rattle.stabilizer.specs.internal.Tableau.{tableau};
 
@@ -56,14 +55,13 @@ pub fn reduce_tableau(
     ensures { λ r. ⌜ now (codes .exit)
         ≡ cond r (codeNumbers n (reduced n (tableau signs rows))) (now (codes .entry)) ⌝ }
 {
-    let mut minuses = signs;
     let mut kept = 0;
-    pass(&mut rows, &mut minuses, n, &mut kept);
+    let first = pass(&mut rows, signs, n, &mut kept);
     let all = mask(n);
     let hadamards = all ^ kept;
-    rotate(&mut rows, &mut minuses, n, hadamards);
+    let rotated = rotate(&mut rows, first, n, hadamards);
     let mut pivots = kept;
-    pass(&mut rows, &mut minuses, n, &mut pivots);
+    let minuses = pass(&mut rows, rotated, n, &mut pivots);
     if pivots != all {
         return false;
     }
