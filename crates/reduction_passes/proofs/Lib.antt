@@ -5,3 +5,4 @@ pub mod Passing
 pub mod Relating
 pub mod Storing
 pub mod Rotating
+pub mod Dropping

@@ -13,7 +13,6 @@ use lib.ListN.{getD, length, length-set, set}
 use lib.Seq.{getD-set-other, getD-set-same}
 use borrow.Author.Count.{below-more}
 use borrow.Author.Tests.{le-ltb, lt-ltb}
-use Rattle.buffers.proofs.Mapping.{zeros, zeros-at, zeros-long}
 use Rattle.pauli.proofs.PauliLaws.{Pauli-path}
 use Rattle.pauli.specs.Pauli.{Pauli, minus, signedRow}
 use Rattle.stabilizer.specs.internal.Tableau.{tableau}
@@ -53,14 +52,9 @@ module _ (rows : List (List ℕ)) (signs n : ℕ) where
     pub done : (i : ℕ) → i < j → isOdd (ones (getD words i 0)) ≡ bit signs i ⊕ half i
     pub rest : (i : ℕ) → j ≤ i → getD words i 0 ≡ 0
 
-  pub spread-start : Spread (zeros 64) 0
-  spread-start =
-      record {
-        long = zeros-long 64;
-        upto = zero-le;
-        done = λ i k. absurd (not-suc-le-zero k);
-        rest = λ i k. zeros-at 64 i;
-      }
+  pub spread-start : (words : List ℕ) → length words ≡ 64 → ((i : ℕ) → getD words i 0 ≡ 0) → Spread words 0
+  spread-start words l e =
+      record { long = l; upto = zero-le; done = λ i k. absurd (not-suc-le-zero k); rest = λ i k. e i }
 
   pub spread-step : (words : List ℕ) (j : ℕ) → Spread words j → j < n → n ≤ 64 → {b h : Bool} {w : ℕ}
       → b ≡ bit signs j → h ≡ half j → w ≡ digit (not (Bool·beq b h)) → Spread (set words j w) (j + 1)

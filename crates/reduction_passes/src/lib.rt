@@ -3,7 +3,6 @@
 // word's ones are odd in number: a product of commuting rows then needs no count.
 use words::count;
 use words::dot_product;
-use words::flip;
 use words::flip_where;
 use words::has;
 use words::odd;
@@ -13,9 +12,9 @@ use words::smallest;
 ghost use mathlib.Core.Bool.{_&&_, false, true};
 ghost use mathlib.Core.List.{[]};
 ghost use mathlib.Core.Path.{_≡_};
-ghost use Prim.Native.Nat.{ℕ, _<_, _≤_};
+ghost use Prim.Native.Nat.{ℕ, _<_, _≤_, _^_};
 ghost use lib.Bits.{bitXor};
-ghost use lib.Count.{ones};
+ghost use lib.Count.{ones, trailingZeros};
 ghost use lib.Dec.{ltb};
 ghost use lib.ListN.{getD, length};
 ghost use Rattle.clifford.specs.Vectors.{act};
@@ -42,19 +41,20 @@ fn sign_word(minus: bool) -> u64
     if minus { 1 } else { 0 }
 }
 
-// The relative signs of the rows below n, each in a word.
-fn spread_signs(rows: &[[u64; 2]; 64], signs: u64, n: usize) -> [u64; 64]
+// The relative signs of the rows below n, each in a word: the words are 0 before.
+fn spread_signs(rows: &[[u64; 2]; 64], signs: u64, n: usize, words: &mut [u64; 64])
     requires { ⌜ (n ≤ 64) × Loaded n (tableau signs (now rows)) ⌝ }
-    ensures { λ r. ⌜ ((j : ℕ) → relative r (now (rows .entry)) j ≡ tableau signs (now (rows .entry)) j) ⌝ }
+    requires { ⌜ (length (now words) ≡ 64) × ((j : ℕ) → getD (now words) j 0 ≡ 0) ⌝ }
+    ensures { λ r. ⌜ length (now (words .exit)) ≡ 64 ⌝ }
+    ensures { λ r. ⌜ ((j : ℕ) → relative (now (words .exit)) (now (rows .entry)) j
+        ≡ tableau signs (now (rows .entry)) j) ⌝ }
 {
-    let mut words = [0; 64];
     let mut j = 0;
     while j < n {
         let row = rows[j];
         words[j] = sign_word(has(signs, j) != odd_pairs(row[0], row[1]));
         j += 1;
     }
-    words
 }
 
 // The signs of the rows below n, from the words of their relative signs.
@@ -87,6 +87,14 @@ fn minus_word(z: u64, x: u64, z2: u64, x2: u64) -> u64
     }
 }
 
+// A word without its smallest set bit.
+fn without_smallest(w: u64) -> u64
+    requires { ⌜ (w ≡ 0 → ⊥) ⌝ }
+    ensures { λ r. ⌜ r ≡ bitXor w (2 ^ trailingZeros 64 w) ⌝ }
+{
+    w & (w - 1)
+}
+
 // Row a multiplied into each row that the word named names, in place.
 fn shear_in_place(rows: &mut [[u64; 2]; 64], words: &mut [u64; 64], a: usize, named: u64)
     requires { ⌜ (a < 64) × (bit named a ≡ false) × (length (now rows) ≡ 64) × (length (now words) ≡ 64) ⌝ }
@@ -109,7 +117,7 @@ fn shear_in_place(rows: &mut [[u64; 2]; 64], words: &mut [u64; 64], a: usize, na
         let minus = minus_word(z, x, by_z, by_x);
         rows[j] = [z ^ by_z, x ^ by_x];
         words[j] = words[j] ^ (sign ^ minus);
-        rest = flip(rest, j);
+        rest = without_smallest(rest);
     }
 }
 
@@ -173,7 +181,8 @@ pub fn pass(rows: &mut [[u64; 2]; 64], signs: u64, n: usize, pivots: &mut u64) -
     ensures { λ r. ⌜ Eliminated n (tableau signs (now (rows .entry))) (bit (now (pivots .entry)))
         (tableau r (now (rows .exit))) (bit (now (pivots .exit))) n ⌝ }
 {
-    let mut words = spread_signs(rows, signs, n);
+    let mut words = [0; 64];
+    spread_signs(rows, signs, n, &mut words);
     relative_pass(rows, &mut words, n, pivots);
     gather_signs(rows, &words, n)
 }

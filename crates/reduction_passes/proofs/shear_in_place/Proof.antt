@@ -1,9 +1,11 @@
 -- `shear_in_place` meets its contract: row a multiplied into each row that the word named names, in place.
-use mathlib.Core.Path.{refl, subst, sym}
-use Prim.Native.Nat.{_<_}
+use mathlib.Core.Path.{ap, refl, subst, sym, _∙_}
+use Prim.Native.Nat.{_<_, _^_}
 use native.Mathlib.Omega.{arith}
+use lib.Bits.{bitXor}
 use borrow.Author.Needs.{needs}
 use Rattle.words.proofs.BitLaws.{flip-less}
+use Rattle.words.specs.Bits.{bit}
 use Rattle.reduction_passes.proofs.Shearing.{
   Sheared,
   next-commutes,
@@ -76,15 +78,8 @@ element-write-words c =
     (L .rest) (L .inv) (S .fits .named .fits) (T .loop-test .taken) (E .smallest .ensures .0) in
     omega (arith, N .0)
 
-flip-requires : tie.Need-flip-requires Inv-loop μ-loop
-flip-requires c κs =
-    let E = c .before .before .before in
-    let T = E .before in
-    let L = T .before .loop in
-    let S = T .before .before .before .before in
-    let N = next-row (S .args .rows .now) (S .args .words .now) (S .args .a) (S .args .named) (L .rows) (L .words)
-    (L .rest) (L .inv) (S .fits .named .fits) (T .loop-test .taken) (E .smallest .ensures .0) in
-    omega (arith, N .0)
+without-smallest-requires : tie.Need-without-smallest-requires Inv-loop μ-loop
+without-smallest-requires c κs = c .before .before .before .before .loop-test .taken
 
 loop-less : tie.Need-loop-less Inv-loop μ-loop
 loop-less c =
@@ -94,7 +89,8 @@ loop-less c =
     let S = T .before .before .before .before in
     let N = next-row (S .args .rows .now) (S .args .words .now) (S .args .a) (S .args .named) (L .rows) (L .words)
     (L .rest) (L .inv) (S .fits .named .fits) (T .loop-test .taken) (E .smallest .ensures .0) in
-    subst (λ v. v < L .rest) (sym (c .flip .ensures)) (flip-less (L .rest) _ (N .1))
+    subst (λ v. v < L .rest) (sym (c .without-smallest .ensures))
+    (flip-less (L .rest) _ (sym (ap (bit (L .rest)) (E .smallest .ensures .0)) ∙ N .1))
 
 loop-again : tie.Need-loop-again Inv-loop μ-loop
 loop-again c =
@@ -107,7 +103,7 @@ loop-again c =
     let M = c .before .before .minus-word in
     shear-step (S .args .rows .now) (S .args .words .now) (S .args .a) (S .args .named) (L .rows) (L .words)
     (L .rest) (E .smallest .result) (L .inv) (N .1) (N .0) (S .pre .1) _ _ _ (M .result) (M .ensures) refl refl
-    (c .flip .ensures)
+    (c .without-smallest .ensures ∙ ap (λ k. bitXor (L .rest) (2 ^ k)) (sym (E .smallest .ensures .0)))
 
 returns : tie.Need-returns Inv-loop μ-loop
 returns c = let L = c .before .loop in
@@ -123,5 +119,5 @@ shear-in-place-spec =
     (tie.spec Inv-loop μ-loop (λ c. search needs) (λ c. search needs) (λ c. search needs) (λ c. search needs)
     (λ c. search needs) (λ c. search needs) loop-holds (λ c κs. search needs) (λ c. search needs) element-copy-out-row
     (λ c. search needs) (λ c. search needs) minus-word-requires (λ c. search needs) element-set-from-rows
-    (λ c. search needs) element-copy-out-words (λ c. search needs) element-write-words flip-requires loop-less
+    (λ c. search needs) element-copy-out-words (λ c. search needs) element-write-words without-smallest-requires loop-less
     loop-again returns)
