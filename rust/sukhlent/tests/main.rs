@@ -40,6 +40,7 @@ mod program;
 mod program_input;
 mod record_refusals;
 mod rewriting;
+mod runs;
 mod rust_example;
 mod sessions;
 mod states;

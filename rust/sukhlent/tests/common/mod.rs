@@ -20,6 +20,7 @@ pub mod process;
 pub mod product;
 pub mod reading;
 pub mod reference;
+pub mod runs;
 pub mod seeded;
 pub mod store;
 pub mod strings;
