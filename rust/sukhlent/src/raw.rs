@@ -16,6 +16,13 @@
 //! assert_eq!((neighbours, held), ([2, 1], [0, 8]));
 //! ```
 
+mod groups;
+
+pub use groups::{
+    group_complement, group_cz, group_forget, group_gate, group_measure, group_return, group_save,
+    Whose,
+};
+
 mod calls {
     extern "C" {
         pub fn sukhlent_version() -> u32;
