@@ -393,12 +393,13 @@ uint8_t sukhlent_forget(uint64_t name,
  * groups may hold one name, for two states. Where a whole-record call has left an edge between the
  * groups, every group's call is refused by 19 until it is gone. A group may have no qubit.
  *
- * Of 2 to 7 each call gives those of the record too: 2 where n is not 64, 6 where `group` is above 1.
- * save, return and forget check the group's own four places besides, as the calls on a store do; a
- * held state has n = 64, else it is 2, and a neighbour outside the group in it is 7. */
+ * Each call gives the numbers of the record first, 2 also where n is not 64, 6 also where `group` is
+ * above 1; with n = 64 no word has a bit at or above n, so that 5 never comes. save, return
+ * and forget check the group's own four places besides, as the calls on a store do: a held n other
+ * than 64 is 2, and a neighbour outside the group in a held state 7. */
 
 /* A group's gate, as sukhlent_gate.
- * Refusals: 2, 4, 5, 6 (also where `code` is above 23), 7, 19, 8 (`qubit` is 64 or more), 16. */
+ * Refusals: 2, 4, 6 (also where `code` is above 23), 7, 19, 8 (`qubit` is 64 or more), 16. */
 uint8_t sukhlent_group_gate(uint64_t n, uint64_t word, uint8_t group,
                             uint64_t *neighbours, size_t neighbours_len,
                             uint8_t *codes, size_t codes_len,
@@ -406,7 +407,7 @@ uint8_t sukhlent_group_gate(uint64_t n, uint64_t word, uint8_t group,
                             uint64_t qubit, uint8_t code);
 
 /* A group's CZ, as sukhlent_cz.
- * Refusals: 2, 4, 5, 6, 7, 19, 8 (`a` or `b` is 64 or more, or they are the same), 16. */
+ * Refusals: 2, 4, 6, 7, 19, 8 (`a` or `b` is 64 or more, or they are the same), 16. */
 uint8_t sukhlent_group_cz(uint64_t n, uint64_t word, uint8_t group,
                           uint64_t *neighbours, size_t neighbours_len,
                           uint8_t *codes, size_t codes_len,
@@ -414,7 +415,7 @@ uint8_t sukhlent_group_cz(uint64_t n, uint64_t word, uint8_t group,
                           uint64_t a, uint64_t b);
 
 /* A group's measurement, as sukhlent_measure.
- * Refusals: 2, 4, 5, 6 (also where `pauli` is not 1 to 3 or `outcome` is above 1), 7, 19, 8 (`qubit`
+ * Refusals: 2, 4, 6 (also where `pauli` is not 1 to 3 or `outcome` is above 1), 7, 19, 8 (`qubit`
  * is 64 or more), 16, 14. */
 uint8_t sukhlent_group_measure(uint64_t n, uint64_t word, uint8_t group,
                                uint64_t *neighbours, size_t neighbours_len,
@@ -424,7 +425,7 @@ uint8_t sukhlent_group_measure(uint64_t n, uint64_t word, uint8_t group,
                                uint8_t *answer, uint8_t *determined);
 
 /* A group's complementation, as sukhlent_complement. Nothing is reduced.
- * Refusals: 2, 4, 5, 6, 7, 19, 8 (`a` is 64 or more), 16. */
+ * Refusals: 2, 4, 6, 7, 19, 8 (`a` is 64 or more), 16. */
 uint8_t sukhlent_group_complement(uint64_t n, uint64_t word, uint8_t group,
                                   uint64_t *neighbours, size_t neighbours_len,
                                   uint8_t *codes, size_t codes_len,
@@ -434,7 +435,7 @@ uint8_t sukhlent_group_complement(uint64_t n, uint64_t word, uint8_t group,
 /* Saves the group's vertices under a name, among its four places: at the name's place, else at the
  * smallest free one. The held state has the other group's vertices in +Z, without neighbours and not
  * used.
- * Refusals: 2, 4, 5, 6, 7, 19, 18 (four other names are held). */
+ * Refusals: 2, 4, 6, 7, 19, 18 (four other names are held). */
 uint8_t sukhlent_group_save(uint64_t n, uint64_t word, uint8_t group,
                             const uint64_t *neighbours, size_t neighbours_len,
                             const uint8_t *codes, size_t codes_len,
@@ -446,7 +447,7 @@ uint8_t sukhlent_group_save(uint64_t n, uint64_t word, uint8_t group,
 
 /* Brings back the group's vertices from the state held under a name, their used bits included. The
  * state stays held.
- * Refusals: 2, 4, 5, 6, 7, 19, 17. */
+ * Refusals: 2, 4, 6, 7, 19, 17. */
 uint8_t sukhlent_group_return(uint64_t n, uint64_t word, uint8_t group,
                               uint64_t *neighbours, size_t neighbours_len,
                               uint8_t *codes, size_t codes_len,
@@ -457,7 +458,7 @@ uint8_t sukhlent_group_return(uint64_t n, uint64_t word, uint8_t group,
                               const uint8_t *held_codes, size_t held_codes_len);
 
 /* Makes the place of a name among the group's four free.
- * Refusals: 2, 4, 5, 6, 7, 19, 17. */
+ * Refusals: 2, 4, 6, 7, 19, 17. */
 uint8_t sukhlent_group_forget(uint64_t n, uint64_t word, uint8_t group,
                               const uint64_t *neighbours, size_t neighbours_len,
                               const uint8_t *codes, size_t codes_len,

@@ -42,6 +42,8 @@ mod record_refusals;
 mod rewriting;
 mod rust_example;
 mod sessions;
+mod shared;
+mod shared_sessions;
 mod states;
 mod stores;
 mod strings;

@@ -20,6 +20,7 @@ pub mod process;
 pub mod product;
 pub mod reference;
 pub mod seeded;
+pub mod shared;
 pub mod store;
 pub mod strings;
 pub mod vectors;
