@@ -1,3 +1,4 @@
 pub mod GroupExamples
 pub mod Merging
 pub mod OwnPlaces
+pub mod SharedLines
