@@ -1,1 +1,3 @@
 pub mod GroupExamples
+pub mod BeforeLines
+pub mod GroupPassing
