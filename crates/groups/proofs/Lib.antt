@@ -2,3 +2,10 @@ pub mod GroupExamples
 pub mod Merging
 pub mod OwnPlaces
 pub mod SharedLines
+pub mod BeforeLines
+pub mod GroupPassing
+pub mod TabledRecords
+pub mod Edges
+pub mod MaskedRecords
+pub mod MeasuredAlike
+pub mod GroupNumbers
