@@ -9,3 +9,5 @@ pub mod Edges
 pub mod MaskedRecords
 pub mod MeasuredAlike
 pub mod GroupNumbers
+pub mod OutsideStays
+pub mod MergedPasses
