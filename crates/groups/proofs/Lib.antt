@@ -1,1 +1,3 @@
 pub mod GroupExamples
+pub mod SameGroupsRows
+pub mod SameGroupsTogether
