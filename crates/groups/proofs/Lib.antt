@@ -1,3 +1,6 @@
 pub mod GroupExamples
 pub mod SameGroupsRows
 pub mod SameGroupsTogether
+pub mod SameGroupsFollowed
+pub mod SameGroupsSteps
+pub mod SameGroupsMeasured
