@@ -4,3 +4,5 @@ pub mod SameGroupsTogether
 pub mod SameGroupsFollowed
 pub mod SameGroupsSteps
 pub mod SameGroupsMeasured
+pub mod SameGroupsRewritten
+pub mod SameGroupsLent
