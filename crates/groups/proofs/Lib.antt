@@ -6,3 +6,4 @@ pub mod SameGroupsSteps
 pub mod SameGroupsMeasured
 pub mod SameGroupsRewritten
 pub mod SameGroupsLent
+pub mod SameGroupsMade
