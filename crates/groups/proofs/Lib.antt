@@ -7,3 +7,10 @@ pub mod SameGroupsMeasured
 pub mod SameGroupsRewritten
 pub mod SameGroupsLent
 pub mod SameGroupsMade
+pub mod BeforeLines
+pub mod GroupPassing
+pub mod TabledRecords
+pub mod Edges
+pub mod MaskedRecords
+pub mod MeasuredAlike
+pub mod GroupNumbers
