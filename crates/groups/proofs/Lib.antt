@@ -14,3 +14,4 @@ pub mod Edges
 pub mod MaskedRecords
 pub mod MeasuredAlike
 pub mod GroupNumbers
+pub mod SameGroups
