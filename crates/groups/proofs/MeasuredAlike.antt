@@ -24,7 +24,7 @@ determined-there n r t S T q hq code row l la e =
 
 module _ (n : ℕ) (r t : GraphRecord) (S : Simple n (r .graph)) (T : Simple n (t .graph)) (q : ℕ) (hq : q < n)
     (code : r .codes q ≡ t .codes q) (row : (j : ℕ) → r .graph q j ≡ t .graph q j) (l : Letter) (la : acts l ≡ true) where
-  determined-alike : isDetermined n (rowsOf n r) l q ≡ isDetermined n (rowsOf n t) l q
+  pub determined-alike : isDetermined n (rowsOf n r) l q ≡ isDetermined n (rowsOf n t) l q
   determined-alike = same-by-both _ _ (determined-there n r t S T q hq code row l la)
       (determined-there n t r T S q hq (sym code) (λ j. sym (row j)) l la)
 

@@ -1,19 +1,18 @@
 -- The record that a group's call leaves stands for the same group as the one that the call on the whole record leaves.
-use mathlib.Core.Bool.{Bool, false, false≢true, not, true}
+use mathlib.Core.Bool.{Bool, false, not, true}
 use mathlib.Core.Path.{_≡_, ap, refl, subst, sym, _∙_}
 use Prim.Native.Nat.{ℕ, _≤_}
 use Rattle.buffers.specs.Refusals.{firstFitting}
 use Rattle.operations.specs.Steps.{Operation, leaves, linesOf, made}
-use Rattle.record.proofs.WrittenRecords.{writtenRecord}
 use Rattle.record.specs.Accepted.{AcceptedRecord}
 use Rattle.record.specs.Lent.{heldRecord, heldRows}
-use Rattle.record.specs.Records.{GraphRecord, rowsOf}
+use Rattle.record.specs.Records.{rowsOf}
 use Rattle.stabilizer.proofs.ReadBack.{table-past}
 use Rattle.stabilizer.specs.Groups.{SameGroup}
 use Rattle.used.proofs.AcceptedSteps.{after-made}
 use Rattle.used.proofs.LeftRecords.{used-left}
 use Rattle.used.proofs.UsedPassing.{used-step}
-use Rattle.used.specs.Used.{UsedRecord, usedLinesOf, usedStep}
+use Rattle.used.specs.Used.{UsedRecord, usedStep}
 use Rattle.words.proofs.BitLaws.{zero-bit}
 use Rattle.words.specs.Bits.{Word, bit}
 use Rattle.groups.proofs.Edges.{edge-inside}
@@ -22,6 +21,7 @@ use Rattle.groups.proofs.GroupPassing.{GroupPasses, group-passes}
 use Rattle.groups.proofs.MaskedRecords.{apart-record}
 use Rattle.groups.proofs.SameGroupsLent.{merged-together}
 use Rattle.groups.proofs.SameGroupsMade.{made-held, made-same}
+use Rattle.groups.proofs.SameGroupsRows.{not-both}
 use Rattle.groups.specs.GroupLines.{groupAfter, groupLines, namesOther}
 use Rattle.groups.specs.Masks.{inGroup, masked}
 use Rattle.groups.specs.internal.Apart.{Apart, GroupOp}
@@ -41,13 +41,9 @@ module _ (word g : ℕ) (u : UsedRecord) (H : Apart word u) where
   pub apart-split : Split (inGroup word g) ((heldRecord (u .held)) .graph)
   apart-split = record { none = λ b i j e f. go b i j e f ((heldRecord (u .held)) .graph i j) refl }
     where
-      differ : (b : Bool) → b ≡ not b → ⊥
-      differ false e = false≢true e
-      differ true e = false≢true (sym e)
-
       go : (b : Bool) (i j : ℕ) → s i ≡ b → s j ≡ not b → (c : Bool) → (heldRecord (u .held)) .graph i j ≡ c → c ≡ false
       go b i j e f false h = refl
-      go b i j e f true h = absurd (differ b (sym e ∙ edge-inside word g u A (H .no-crossing) i j h ∙ f))
+      go b i j e f true h = absurd (not-both b (sym e ∙ edge-inside word g u A (H .no-crossing) i j h ∙ f))
 
   module _ (o : Operation) (G : GroupOp o) (e : firstFitting (groupLines word g u o) ≡ 0) where
     P : GroupPasses word g u o

@@ -2,8 +2,8 @@
 -- blank ones, the merged one of the vertices of s as one record has them and the others as the other has.
 use mathlib.Core.Bool.{Bool, cond, false, true}
 use mathlib.Core.Logic.{inl, inr}
-use mathlib.Core.Path.{_≡_, ap, ap₂, refl, sym, _∙_}
-use Prim.Native.Nat.{ℕ, _<_, _≤_}
+use mathlib.Core.Path.{_≡_, ap, refl, sym, _∙_}
+use Prim.Native.Nat.{ℕ, _≤_}
 use lib.ListN.{getD}
 use Rattle.buffers.proofs.Tabulate.{tabulate-at}
 use Rattle.buffers.specs.Buffers.{tabulate}
@@ -11,7 +11,6 @@ use Rattle.clifford.specs.Clifford.{cliffordOf}
 use Rattle.record.proofs.AcceptedRecords.{held-above}
 use Rattle.record.specs.Accepted.{AcceptedRecord}
 use Rattle.record.specs.Lent.{heldRecord}
-use Rattle.record.specs.Records.{GraphRecord}
 use Rattle.stabilizer.proofs.ReadBack.{table-past}
 use Rattle.used.specs.Used.{UsedRecord}
 use Rattle.words.proofs.BitLaws.{zero-bit}

@@ -1,19 +1,22 @@
 -- What an accepted operation makes is what its buffers hold; and what a gate, a cz, a measurement and a complementation on
 -- qubits of s make of the vertices of s alone, put together with the others, stands for the group that they make of the
 -- whole record.
-use mathlib.Core.Bool.{_&&_, Bool, false, not, true, _||_}
+use mathlib.Core.Bool.{_&&_, Bool, false, not, true}
 use mathlib.Core.List.{[], _∷_}
+use mathlib.Core.Logic.{_≢_}
 use mathlib.Core.Path.{_≡_, ap, subst, sym, _∙_}
 use Prim.Native.Nat.{ℕ, _<_, _≤_}
-use lib.Dec.{eqb, leb, ltb}
+use native.Mathlib.Omega.{arith}
+use lib.Dec.{leb}
 use lib.ListN.{List·getD-eq-default}
 use borrow.Author.Tests.{eqb-false, leb-false, lt-ltb, not-false}
 use Rattle.buffers.proofs.Lines.{none-of-all, not-held}
 use Rattle.buffers.specs.Refusals.{firstFitting, line}
-use Rattle.clifford.specs.Clifford.{cliffordOf, identityClifford}
+use Rattle.clifford.specs.Clifford.{cliffordOf}
 use Rattle.graph.proofs.Complement.{complement-simple}
 use Rattle.operations.proofs.CzGroups.{cz-proper}
 use Rattle.operations.proofs.Determined.{measured-proper}
+use Rattle.operations.proofs.MeasuredRecords.{pauli-acts}
 use Rattle.operations.proofs.UnrefusedRecords.{complement-above}
 use Rattle.operations.specs.Gates.{gated}
 use Rattle.operations.specs.Measurement.{pauliLetter}
@@ -33,7 +36,7 @@ use Rattle.record.proofs.ReducedRecords.{record-proper}
 use Rattle.record.proofs.Unique.{record-path}
 use Rattle.record.proofs.WrittenRecords.{record-back, reduced-back, writtenRecord}
 use Rattle.record.specs.Accepted.{AcceptedRecord}
-use Rattle.record.specs.Lent.{LentRecord, heldRecord, heldRows, recordLines}
+use Rattle.record.specs.Lent.{LentRecord, heldRecord, recordLines}
 use Rattle.record.specs.Records.{GraphRecord, SameRecord, complementRecord, rowsOf}
 use Rattle.stabilizer.proofs.EqualRows.{same-group-equal}
 use Rattle.stabilizer.specs.Groups.{Proper, SameGroup}
@@ -68,7 +71,7 @@ gate-argument : (l : LentRecord) (q k : ℕ) → firstFitting (linesOf l (gateWi
 gate-argument l q k e = leb-false (l .n) q (eight-passes l (leb 24 k) _ e)
 
 cz-arguments : (l : LentRecord) (a b : ℕ) → firstFitting (linesOf l (czOn a b)) ≡ 0
-    → (a < l .n) × (b < l .n) × (a ≡ b → ⊥)
+    → (a < l .n) × (b < l .n) × (a ≢ b)
 cz-arguments l a b e =
     let h = neither (leb (l .n) a) _ (eight-passes l false _ e) in
     let k = neither (leb (l .n) b) _ (h .1) in
@@ -125,17 +128,21 @@ module _ (s : Word) (u : UsedRecord) (A : AcceptedRecord (u .held)) (X : Split s
       (record-proper n (gated m q (cliffordOf k)) (masked-simple n s r m (A .simple) X M))
       (gate-followed n s r m (A .simple) X M q l e (cliffordOf k))
 
-  pub cz-same : (a b : ℕ) → a < n → b < n → (a ≡ b → ⊥) → s a ≡ true → s b ≡ true → Same (czOn a b)
+  pub cz-same : (a b : ℕ) → a < n → b < n → a ≢ b → s a ≡ true → s b ≡ true → Same (czOn a b)
   cz-same a b ha hb ab ea eb =
       followed-same n s r m (A .simple) X M _ _ (cz-proper n a b ha hb ab (rowsOf n r) (A .proper))
       (cz-proper n a b ha hb ab (rowsOf n m) own-proper) (cz-followed n s r m (A .simple) X M a b ha hb ab ea eb)
 
-  pub measure-same : (pauli q b : ℕ) → q < n → s q ≡ true → Same (measurementOf pauli q b)
-  measure-same pauli q b l e =
+  pub measure-same : (pauli q b : ℕ) → pauli ≢ 0 → q < n → s q ≡ true → Same (measurementOf pauli q b)
+  measure-same pauli q b acting l e =
       followed-same n s r m (A .simple) X M _ _
       (measured-proper n (rowsOf n r) (A .proper) (pauliLetter pauli) q l (isOdd b))
       (measured-proper n (rowsOf n m) own-proper (pauliLetter pauli) q l (isOdd b))
-      (measured-followed n s r m (A .simple) X M (pauliLetter pauli) q l e (isOdd b))
+      (measured-followed n s r m (A .simple) X M (pauliLetter pauli) (pauli-acts pauli (positive pauli acting)) q l e
+      (isOdd b))
+    where
+      positive : (k : ℕ) → k ≢ 0 → 0 < k
+      positive k h = omega (arith, h)
 
   pub rewritten-same : (a : ℕ) → a < n → s a ≡ true → Same (complementOf a)
   rewritten-same a l e t T = same-group-equal n (rowsOf n t) (rowsOf n (complementRecord r a))
@@ -153,6 +160,7 @@ module _ (s : Word) (u : UsedRecord) (A : AcceptedRecord (u .held)) (X : Split s
           let h = neither (outsider s n a) (outsider s n b) f in
           cz-same a b (c .0) (c .1) (c .2) (own-qubit s n a (c .0) (h .0)) (own-qubit s n b (c .1) (h .1))
       go (measure-op pauli q b) e f =
-          let l = measure-arguments (u .held) pauli q b e .below in measure-same pauli q b l (own-qubit s n q l f)
+          let a = measure-arguments (u .held) pauli q b e in
+          measure-same pauli q b (a .not-none) (a .below) (own-qubit s n q (a .below) f)
       go (complement-op a) e f =
           let l = complement-argument (u .held) a e in rewritten-same a l (own-qubit s n a l f)

@@ -1,30 +1,25 @@
--- A measurement at a qubit of s: it is determined in the record exactly if it is in that of the vertices of s alone, and
--- the group afterwards follows.
+-- A measurement at a qubit of s: what it does to the group of a record follows from what it does to the group of the
+-- vertices of s.
 use mathlib.Core.Bool.{Bool, cond, false, true}
 use mathlib.Core.Path.{ap, refl, subst, sym, _∙_, _≡_}
 use Prim.Native.Nat.{_<_, ℕ}
+use Rattle.clifford.specs.Clifford.{cliffordOf}
 use Rattle.graph.specs.Graph.{Simple}
-use Rattle.operations.proofs.Determined.{
-  determined-commutes,
-  determined-element,
-  determined-kept,
-  determined-sign,
-  measured-group,
-}
-use Rattle.operations.specs.Measurement.{Measured, isDetermined, joined, kept, measuredRows, outcome, single}
+use Rattle.operations.proofs.Determined.{determined-kept, measured-group}
+use Rattle.operations.proofs.MeasuredRecords.{acts}
+use Rattle.operations.specs.Measurement.{Measured, isDetermined, joined, kept, measuredRows, single}
 use Rattle.pauli.proofs.PauliLaws.{mul-x, mul-z}
-use Rattle.pauli.specs.Pauli.{Pauli, anticommute, mul}
+use Rattle.pauli.specs.Pauli.{Pauli, mul}
 use Rattle.pauli.specs.declared.Letter.{Letter}
 use Rattle.record.proofs.ReducedRecords.{record-proper}
 use Rattle.record.specs.Records.{GraphRecord, rowsOf}
 use Rattle.stabilizer.proofs.GroupLaws.{in-row}
 use Rattle.stabilizer.specs.Groups.{InGroup, Proper}
-use Rattle.stabilizer.specs.Membership.{member}
-use Rattle.words.proofs.Flags.{same-by-both}
 use Rattle.words.proofs.Places.{⊕-cancel}
 use Rattle.words.specs.Bits.{Word, _⊕_}
+use Rattle.groups.proofs.MeasuredAlike.{determined-alike}
 use Rattle.groups.proofs.SameGroupsRows.{free-commute, row-free, single-free}
-use Rattle.groups.proofs.SameGroupsTogether.{masked-clash, masked-inner, masked-simple, masked-split}
+use Rattle.groups.proofs.SameGroupsTogether.{masked-inner, masked-simple, masked-split}
 use Rattle.groups.specs.internal.Sides.{Followed, Free, PutTogether, Split, blank}
 
 -- a product with a row of s has I outside s only where the other factor has
@@ -36,7 +31,8 @@ factor-free n s p r F G =
     }
 
 module _ (n : ℕ) (s : Word) (r m : GraphRecord) (R : Simple n (r .graph)) (X : Split s (r .graph))
-    (M : PutTogether n s r blank m) (l : Letter) (q : ℕ) (hq : q < n) (own : s q ≡ true) where
+    (M : PutTogether n s r blank m) (l : Letter) (la : acts l ≡ true) (q : ℕ) (hq : q < n)
+    (own : s q ≡ true) where
   abbrev all : ℕ → Pauli
   all = rowsOf n r
 
@@ -49,28 +45,11 @@ module _ (n : ℕ) (s : Word) (r m : GraphRecord) (R : Simple n (r .graph)) (X :
   alone : Proper n part
   alone = record-proper n m (masked-simple n s r m R X M)
 
-  pub determined-alike : isDetermined n (rowsOf n r) l q ≡ isDetermined n (rowsOf n m) l q
-  determined-alike =
-      same-by-both (isDetermined n all l q) (isDetermined n part l q)
-      (λ e. determined-commutes n part alone l q hq .1
-      (λ j k. sym (clash j k) ∙ determined-commutes n all whole l q hq .0 e j k))
-      (λ e. determined-commutes n all whole l q hq .1
-      (λ j k. clash j k ∙ determined-commutes n part alone l q hq .0 e j k))
-    where
-      clash : (j : ℕ) → j < n
-          → anticommute n (all j) (single l q false) ≡ anticommute n (part j) (single l q false)
-      clash = masked-clash n s r m R X M (single l q false) (single-free n s true l q false own)
-
-  -- with the same outcome
-  pub outcome-alike : (b : Bool) → outcome n (rowsOf n r) l q b ≡ outcome n (rowsOf n m) l q b
-  outcome-alike b = go (isDetermined n part l q) refl
-    where
-      go : (d : Bool) → isDetermined n part l q ≡ d → outcome n all l q b ≡ outcome n part l q b
-      go true e = determined-sign n all whole l q hq (outcome n part l q b)
-          (masked-inner n s r m R X M (single l q (outcome n part l q b)) (determined-element n part alone l q hq e b)
-          (single-free n s true l q (outcome n part l q b) own)) .1 b
-      go false e = ap (λ d. cond d (member n all (single l q true)) b) (determined-alike ∙ e)
-          ∙ sym (ap (λ d. cond d (member n part (single l q true)) b) e)
+  -- determined in both or in none: the qubit has its row and its code
+  alike : isDetermined n all l q ≡ isDetermined n part l q
+  alike = determined-alike n r m R (masked-simple n s r m R X M) q hq
+      (sym (M .codes q hq ∙ ap (λ v. cond v (r .codes q) (cliffordOf 8)) own))
+      (λ j. sym (M .edges q j ∙ ap (λ v. cond v (r .graph q j) false) own)) l la
 
   module _ (b : Bool) where
     abbrev P : Pauli
@@ -100,10 +79,10 @@ module _ (n : ℕ) (s : Word) (r m : GraphRecord) (R : Simple n (r .graph)) (X :
     measured-inner p i F = go (isDetermined n part l q) refl
       where
         go : (d : Bool) → isDetermined n part l q ≡ d → InGroup n n (measuredRows n all l q b) p
-        go true e = subst (λ A. InGroup n n A p) (sym (determined-kept n all whole l q hq (determined-alike ∙ e) b))
+        go true e = subst (λ A. InGroup n n A p) (sym (determined-kept n all whole l q hq (alike ∙ e) b))
             (masked-inner n s r m R X M p
             (subst (λ A. InGroup n n A p) (determined-kept n part alone l q hq e b) i) F)
-        go false e = measured-group n all whole l q hq (determined-alike ∙ e) b p .1
+        go false e = measured-group n all whole l q hq (alike ∙ e) b p .1
             (moved p F (measured-group n part alone l q hq e b p .0 i))
 
     pub measured-followed : Followed n s (rowsOf n r) (rowsOf n m) (measuredRows n (rowsOf n r) l q b)

@@ -28,13 +28,13 @@ side false true = inr refl
 side true false = inr refl
 side true true = inl refl
 
+pub not-both : (b : Bool) → b ≡ not b → ⊥
+not-both false e = false≢true e
+not-both true e = false≢true (sym e)
+
 -- qubits of different sides are different
 pub apart : (s : Word) (b : Bool) {i j : ℕ} → s i ≡ b → s j ≡ not b → j ≢ i
-apart s b e f h = differ b (sym e ∙ ap s (sym h) ∙ f)
-  where
-    differ : (b : Bool) → b ≡ not b → ⊥
-    differ false e = false≢true e
-    differ true e = false≢true (sym e)
+apart s b e f h = not-both b (sym e ∙ ap s (sym h) ∙ f)
 
 module _ (n : ℕ) (s : Word) (b : Bool) where
   -- rows of different sides commute

@@ -1,7 +1,7 @@
 -- A gate, a cz and a measurement on qubits of s: what each does to the group of a record follows from what it does to the
 -- group of the vertices of s, and the rows of the other vertices stay.
 use mathlib.Core.Bool.{_&&_, Bool, false, true}
-use mathlib.Core.Logic.{_≢_, _↔_}
+use mathlib.Core.Logic.{_≢_}
 use mathlib.Core.Path.{ap, ap₂, refl, subst, sym, _∙_, _≡_}
 use Prim.Native.Nat.{_<_, ℕ}
 use native.Mathlib.Decide.{ℕ-discrete}
@@ -11,26 +11,22 @@ use Rattle.clifford.specs.Clifford.{Clifford, identityClifford, image, imagePha
 use Rattle.clifford.specs.Vectors.{act, only}
 use Rattle.graph.specs.Graph.{Simple}
 use Rattle.operations.proofs.CzGroups.{cz-group}
-use Rattle.operations.proofs.Determined.{determined-commutes, determined-kept, measured-group}
 use Rattle.operations.proofs.Gating.{gate-carries}
-use Rattle.operations.specs.Cz.{cz, czRows, czSign}
+use Rattle.operations.specs.Cz.{cz, czRows}
 use Rattle.operations.specs.Gates.{gated}
-use Rattle.operations.specs.Measurement.{Measured, isDetermined, joined, kept, measuredRows, single}
-use Rattle.pauli.proofs.PauliLaws.{Pauli-path, mul-x, mul-z}
+use Rattle.pauli.proofs.PauliLaws.{Pauli-path}
 use Rattle.pauli.proofs.PhaseLaws.{+ᵖ-zero}
-use Rattle.pauli.specs.Pauli.{_+ᵖ_, Pauli, anticommute, i⁰, letter, letterAt, minus, mul, xBit, zBit}
+use Rattle.pauli.specs.Pauli.{_+ᵖ_, Pauli, i⁰, letter, letterAt, minus, xBit, zBit}
 use Rattle.pauli.specs.declared.Letter.{Letter}
-use Rattle.record.proofs.ReducedRecords.{record-proper}
 use Rattle.record.specs.Records.{GraphRecord, rowsOf}
 use Rattle.stabilizer.proofs.GroupLaws.{in-row}
-use Rattle.stabilizer.specs.Groups.{InGroup, Proper}
+use Rattle.stabilizer.specs.Groups.{InGroup}
 use Rattle.words.proofs.Finite.{bits, ⊕-zero}
-use Rattle.words.proofs.Flags.{same-by-both}
-use Rattle.words.proofs.Places.{other-place, put-other, ⊕-cancel}
+use Rattle.words.proofs.Places.{other-place, put-other}
 use Rattle.words.proofs.Sums.{fold-ext}
 use Rattle.words.specs.Bits.{Word, _⊕_}
-use Rattle.groups.proofs.SameGroupsRows.{apart, free-commute, row-free, single-free}
-use Rattle.groups.proofs.SameGroupsTogether.{masked-clash, masked-inner, masked-simple, masked-split}
+use Rattle.groups.proofs.SameGroupsRows.{apart, row-free}
+use Rattle.groups.proofs.SameGroupsTogether.{masked-inner, masked-simple, masked-split}
 use Rattle.groups.specs.internal.Sides.{Followed, Free, PutTogether, Split, blank}
 
 -- ---- the gate's code at one qubit

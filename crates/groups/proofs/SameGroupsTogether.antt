@@ -2,14 +2,13 @@
 -- row is that of the record that the vertex is taken from. With +Z at every vertex outside s, an element that has I there
 -- is one of the whole group.
 use mathlib.Core.Bool.{_&&_, Bool, and-true, cond, false, not, true}
-use mathlib.Core.Logic.{inl, inr, _⊎_}
 use mathlib.Core.Path.{ap, ap₂, refl, subst, sym, _∙_, _≡_}
 use Prim.Native.Nat.{_<_, ℕ}
 use lib.Dec.{eqb}
-use Rattle.graph.specs.Graph.{Graph, Simple}
+use Rattle.graph.specs.Graph.{Simple}
 use Rattle.operations.proofs.MeasuredRecords.{alone-row}
 use Rattle.operations.specs.Measurement.{single}
-use Rattle.pauli.specs.Pauli.{Pauli, anticommute, identity, mul}
+use Rattle.pauli.specs.Pauli.{Pauli, identity, mul}
 use Rattle.pauli.specs.declared.Letter.the-variants.{Z}
 use Rattle.record.specs.Records.{GraphRecord, rowsOf}
 use Rattle.stabilizer.proofs.Products.{product-z}
@@ -17,7 +16,7 @@ use Rattle.stabilizer.specs.Groups.{InGroup, chosen, product}
 use Rattle.words.proofs.Places.{other-place, parity-at, place-comm}
 use Rattle.words.proofs.Sums.{fold-ext}
 use Rattle.words.specs.Bits.{Word, _⊕_}
-use Rattle.groups.proofs.SameGroupsRows.{apart, free-commute, row-alike, row-free, side}
+use Rattle.groups.proofs.SameGroupsRows.{apart, row-alike, row-free}
 use Rattle.groups.specs.internal.Sides.{Free, PutTogether, Split, blank}
 
 module _ (n : ℕ) (s : Word) (a r t : GraphRecord) (A : Simple n (a .graph)) (R : Simple n (r .graph))
@@ -112,13 +111,3 @@ module _ (n : ℕ) (s : Word) (r m : GraphRecord) (R : Simple n (r .graph)) (X :
       at j l false h =
           let off = unchosen w (subst (Free n s false) e F) j l h in
           ap (λ b. chosen b (own j)) off ∙ sym (ap (λ b. chosen b (all j)) off)
-
-  -- the rows of both lists commute with the same rows on s
-  pub masked-clash : (p : Pauli) → Free n s false p → (j : ℕ) → j < n → anticommute n (all j) p ≡ anticommute n (own j) p
-  masked-clash p F j l = at (s j) refl
-    where
-      at : (b : Bool) → s j ≡ b → anticommute n (all j) p ≡ anticommute n (own j) p
-      at true e = ap (λ r. anticommute n r p) (sym (masked-own j l e))
-      at false e =
-          free-commute n s true (all j) p (row-free n s false r R X j l e) F
-          ∙ sym (free-commute n s true (own j) p (row-free n s false m masked-simple masked-split j l e) F)
