@@ -2,6 +2,14 @@ pub mod GroupExamples
 pub mod Merging
 pub mod OwnPlaces
 pub mod SharedLines
+pub mod SameGroupsRows
+pub mod SameGroupsTogether
+pub mod SameGroupsFollowed
+pub mod SameGroupsSteps
+pub mod SameGroupsMeasured
+pub mod SameGroupsRewritten
+pub mod SameGroupsLent
+pub mod SameGroupsMade
 pub mod BeforeLines
 pub mod GroupPassing
 pub mod TabledRecords
@@ -11,3 +19,4 @@ pub mod MeasuredAlike
 pub mod GroupNumbers
 pub mod OutsideStays
 pub mod MergedPasses
+pub mod SameGroups
