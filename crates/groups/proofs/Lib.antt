@@ -20,3 +20,4 @@ pub mod GroupNumbers
 pub mod OutsideStays
 pub mod MergedPasses
 pub mod SameGroups
+pub mod AloneNumbers
