@@ -1,13 +1,13 @@
 -- Edges between the groups: none crosses exactly if the ends of each edge are of one group; and edges out of a set.
 use mathlib.Core.Bool.{_&&_, Bool, false, not, true, true≢false}
-use mathlib.Core.Logic.{inl, inr, _⊎_}
+use mathlib.Core.Logic.{inl, inr}
 use mathlib.Core.Path.{ap, refl, sym, _∙_, _≡_}
-use Prim.Native.Nat.{_<_, ℕ, _≤_}
+use Prim.Native.Nat.{_<_, ℕ}
 use lib.Dec.{eqb}
 use lib.ListN.{getD}
 use borrow.Author.Tests.{not-false}
 use Rattle.record.specs.Accepted.{AcceptedRecord}
-use Rattle.record.specs.Lent.{heldRecord}
+use Rattle.record.specs.Lent.{LentRecord, heldRecord}
 use Rattle.used.specs.Used.{UsedRecord}
 use Rattle.words.proofs.Flags.{sameBit-true, true-sameBit}
 use Rattle.words.proofs.SearchLaws.{some-false, some-none}
@@ -72,16 +72,26 @@ same-group-bits word g j k e = go (bit word j) (bit word k) (eqb g 1) e
     go true false false e = absurd (true≢false (sym e))
     go true false true e = absurd (true≢false e)
 
+-- ---- in a record that passes, every edge is between vertices below n
+pub edge-below : (l : LentRecord) → AcceptedRecord l → (j k : ℕ) → (heldRecord l) .graph j k ≡ true → (j < l .n) × (k < l .n)
+edge-below l A j k t = (at k j (A .simple .symmetric k j ∙ t), at j k t)
+  where
+    at : (i q : ℕ) → (heldRecord l) .graph i q ≡ true → q < l .n
+    at i q t = elim (lt-or-ge q (l .n)) [
+      | inl h ↦ h
+      | inr h ↦ absurd (true≢false (sym t ∙ A .simple .below i q h))
+    ]
+
 -- the ends of an edge are both in a group or both outside
 pub edge-inside : (word g : ℕ) (u : UsedRecord) → AcceptedRecord (u .held) → crosses word u ≡ false → (j k : ℕ)
     → (heldRecord (u .held)) .graph j k ≡ true → inGroup word g j ≡ inGroup word g k
-edge-inside word g u A e j k t = go (lt-or-ge j (u .held .n)) (lt-or-ge k (u .held .n))
-  where
-    none : (i q : ℕ) → u .held .n ≤ q → (heldRecord (u .held)) .graph i q ≡ false
-    none = A .simple .below
+edge-inside word g u A e j k t =
+    let b = edge-below (u .held) A j k t in
+    ap (λ b. sameBit b (eqb g 1)) (crosses-not word u e j k (b .0) (b .1) t)
 
-    go : (j < u .held .n) ⊎ (u .held .n ≤ j) → (k < u .held .n) ⊎ (u .held .n ≤ k)
-        → inGroup word g j ≡ inGroup word g k
-    go (inl hj) (inl hk) = ap (λ b. sameBit b (eqb g 1)) (crosses-not word u e j k hj hk t)
-    go (inr l) m = absurd (true≢false (sym t ∙ A .simple .symmetric j k ∙ none k j l))
-    go (inl hj) (inr l) = absurd (true≢false (sym t ∙ none j k l))
+-- no edge reaches out of s: each end is in s
+pub edge-within : (s : Word) (u : UsedRecord) → AcceptedRecord (u .held) → reachesOut s u ≡ false → (j k : ℕ)
+    → (heldRecord (u .held)) .graph j k ≡ true → s k ≡ true
+edge-within s u A e j k t =
+    let b = edge-below (u .held) A j k t in
+    reaches-out-not s u e j k (b .0) (b .1) t

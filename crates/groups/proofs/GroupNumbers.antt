@@ -66,7 +66,7 @@ module _ (word g : ℕ) (u : UsedRecord) (H : Apart word u) where
   H′ = masked-apart word g u H
 
   -- a named qubit below n is in the group
-  in-group : (q : ℕ) → outsider s 64 q ≡ false → q < u .held .n → s q ≡ true
+  pub in-group : (q : ℕ) → outsider s 64 q ≡ false → q < u .held .n → s q ≡ true
   in-group q e l = not-false (s q)
       (ap (λ b. b && not (s q)) (sym (lt-ltb q 64 (subst (λ m. q < m) (H .count) l))) ∙ e)
 

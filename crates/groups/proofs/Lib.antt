@@ -15,3 +15,5 @@ pub mod MaskedRecords
 pub mod MeasuredAlike
 pub mod GroupNumbers
 pub mod SameGroups
+pub mod OutsideStays
+pub mod MergedPasses

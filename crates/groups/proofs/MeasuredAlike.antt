@@ -28,7 +28,7 @@ module _ (n : ℕ) (r t : GraphRecord) (S : Simple n (r .graph)) (T : Simple n (
   determined-alike = same-by-both _ _ (determined-there n r t S T q hq code row l la)
       (determined-there n t r T S q hq (sym code) (λ j. sym (row j)) l la)
 
-  outcome-alike : (b : Bool) → outcome n (rowsOf n r) l q b ≡ outcome n (rowsOf n t) l q b
+  pub outcome-alike : (b : Bool) → outcome n (rowsOf n r) l q b ≡ outcome n (rowsOf n t) l q b
   outcome-alike b = go (isDetermined n (rowsOf n r) l q) refl
     where
       go : (d : Bool) → isDetermined n (rowsOf n r) l q ≡ d → outcome n (rowsOf n r) l q b ≡ outcome n (rowsOf n t) l q b
