@@ -1,4 +1,13 @@
 pub mod GroupExamples
+pub mod BeforeLines
+pub mod GroupPassing
+pub mod TabledRecords
+pub mod Edges
+pub mod MaskedRecords
+pub mod MeasuredAlike
+pub mod GroupNumbers
+pub mod OutsideStays
+pub mod MergedPasses
 pub mod SameGroupsRows
 pub mod SameGroupsTogether
 pub mod SameGroupsFollowed
@@ -7,13 +16,4 @@ pub mod SameGroupsMeasured
 pub mod SameGroupsRewritten
 pub mod SameGroupsLent
 pub mod SameGroupsMade
-pub mod BeforeLines
-pub mod GroupPassing
-pub mod TabledRecords
-pub mod Edges
-pub mod MaskedRecords
-pub mod MeasuredAlike
-pub mod GroupNumbers
 pub mod SameGroups
-pub mod OutsideStays
-pub mod MergedPasses
