@@ -1,4 +1,12 @@
 pub mod GroupExamples
+pub mod SameGroupsRows
+pub mod SameGroupsTogether
+pub mod SameGroupsFollowed
+pub mod SameGroupsSteps
+pub mod SameGroupsMeasured
+pub mod SameGroupsRewritten
+pub mod SameGroupsLent
+pub mod SameGroupsMade
 pub mod BeforeLines
 pub mod GroupPassing
 pub mod TabledRecords
@@ -6,5 +14,6 @@ pub mod Edges
 pub mod MaskedRecords
 pub mod MeasuredAlike
 pub mod GroupNumbers
+pub mod SameGroups
 pub mod OutsideStays
 pub mod MergedPasses
