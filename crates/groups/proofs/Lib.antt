@@ -1,4 +1,7 @@
 pub mod GroupExamples
+pub mod Merging
+pub mod OwnPlaces
+pub mod SharedLines
 pub mod SameGroupsRows
 pub mod SameGroupsTogether
 pub mod SameGroupsFollowed
@@ -14,6 +17,6 @@ pub mod Edges
 pub mod MaskedRecords
 pub mod MeasuredAlike
 pub mod GroupNumbers
-pub mod SameGroups
 pub mod OutsideStays
 pub mod MergedPasses
+pub mod SameGroups
