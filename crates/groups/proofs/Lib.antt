@@ -1,4 +1,7 @@
 pub mod GroupExamples
+pub mod Merging
+pub mod OwnPlaces
+pub mod SharedLines
 pub mod BeforeLines
 pub mod GroupPassing
 pub mod TabledRecords
