@@ -23,7 +23,8 @@ paired : (u : UsedRecord) (f : ℕ → ℕ → Bool)
 paired u f e j k hj hk t =
     ap (λ b. b && f j k) (sym t)
     ∙ some-false (u .held .n) (λ k. bit (getD (u .held .neighbours) j 0) k && f j k)
-    (some-false (u .held .n) (λ j. some (u .held .n) (λ k. bit (getD (u .held .neighbours) j 0) k && f j k)) e j hj) k hk
+    (some-false (u .held .n) (λ j. some (u .held .n) (λ k. bit (getD (u .held .neighbours) j 0) k && f j k)) e j hj)
+    k hk
 
 unpaired : (u : UsedRecord) (f : ℕ → ℕ → Bool)
     → ((j k : ℕ) → j < u .held .n → k < u .held .n → bit (getD (u .held .neighbours) j 0) k ≡ true → f j k ≡ false)
@@ -73,7 +74,8 @@ same-group-bits word g j k e = go (bit word j) (bit word k) (eqb g 1) e
     go true false true e = absurd (true≢false e)
 
 -- ---- in a record that passes, every edge is between vertices below n
-pub edge-below : (l : LentRecord) → AcceptedRecord l → (j k : ℕ) → (heldRecord l) .graph j k ≡ true → (j < l .n) × (k < l .n)
+pub edge-below : (l : LentRecord) → AcceptedRecord l → (j k : ℕ) → (heldRecord l) .graph j k ≡ true
+    → (j < l .n) × (k < l .n)
 edge-below l A j k t = (at k j (A .simple .symmetric k j ∙ t), at j k t)
   where
     at : (i q : ℕ) → (heldRecord l) .graph i q ≡ true → q < l .n

@@ -26,7 +26,14 @@ use Rattle.words.specs.Bits.{Word, bit, isOdd}
 use Rattle.groups.specs.GroupLines.{namesOther, outsider}
 use Rattle.groups.specs.Masks.{inGroup, masked}
 use Rattle.groups.specs.internal.Apart.{Apart, GroupOp, complement-op, cz-op, gate-op, measure-op}
-use Rattle.groups.proofs.MaskedRecords.{apart-record, apart-stray, masked-apart, masked-code, masked-graph, masked-used}
+use Rattle.groups.proofs.MaskedRecords.{
+  apart-record,
+  apart-stray,
+  masked-apart,
+  masked-code,
+  masked-graph,
+  masked-used,
+}
 use Rattle.groups.proofs.MeasuredAlike.{answer-alike, contradicts-alike}
 
 -- the number of a call on a record that passes, by its arguments alone: line 6, then the lines from 8 on
@@ -34,7 +41,8 @@ abbrev byArguments : Bool → Bool → List Refusal → ℕ
 byArguments six named rest =
     firstFitting (insertedAfter 8 (line 16 named) (withTest 7 false (withTest 5 false (line 6 six ∷ rest))))
 
-passed-number : (u : UsedRecord) → firstFitting (usedLines u false false false) ≡ 0 → (six named : Bool) (rest : List Refusal)
+passed-number : (u : UsedRecord) → firstFitting (usedLines u false false false) ≡ 0
+    → (six named : Bool) (rest : List Refusal)
     → firstFitting (withUsed u named (recordLines (u .held) false six ++ rest)) ≡ byArguments six named rest
 unfolding firstFitting
 passed-number u e six named rest =
@@ -74,7 +82,8 @@ module _ (word g : ℕ) (u : UsedRecord) (H : Apart word u) where
   used-alike : (q : ℕ) → outsider s 64 q ≡ false → bit (u .used) q ≡ bit (v .used) q
   used-alike q e = sym (masked-used s u (apart-stray word u H) q ∙ (elim (lt-or-ge q (u .held .n)) [
     | inl l ↦ ap (λ b. b && bit (u .used) q) (in-group q e l)
-    | inr l ↦ let none = bit-above (u .held .n) (u .used) (leb-false (2 ^ (u .held .n)) (u .used) (apart-stray word u H)) q l in
+    | inr l ↦ let below = leb-false (2 ^ (u .held .n)) (u .used) (apart-stray word u H) in
+        let none = bit-above (u .held .n) (u .used) below q l in
         ap (λ b. s q && b) none ∙ and-false (s q) ∙ sym none
   ]))
 
@@ -102,7 +111,8 @@ module _ (word g : ℕ) (u : UsedRecord) (H : Apart word u) where
 
     answered-alike : (b : ℕ) → measuredAnswer (u .held) pauli q b ≡ measuredAnswer (v .held) pauli q b
     answered-alike b = answer-alike (u .held .n) (heldRecord (u .held)) (heldRecord (v .held))
-        (apart-record word u H .simple) (apart-record word v H′ .simple) q l code row (pauliLetter pauli) acts-here (isOdd b)
+        (apart-record word u H .simple) (apart-record word v H′ .simple) q l code row (pauliLetter pauli) acts-here
+        (isOdd b)
 
   -- ---- the numbers
   -- a call without line 14

@@ -1,5 +1,5 @@
--- A group's call that no line refuses: n is 64, the group is 0 or 1, the groups are apart, the call names no qubit of the
--- other group, and the call on the whole record is not refused either.
+-- A group's call that no line refuses: n is 64, the group is 0 or 1, the groups are apart, the call names no qubit of
+-- the other group, and the call on the whole record is not refused either.
 use mathlib.Core.Bool.{Bool, false, not, true, _||_}
 use mathlib.Core.List.{_++_, List}
 use mathlib.Core.Path.{ap, refl, subst, _∙_, _≡_}
@@ -65,7 +65,8 @@ lined u (pivotOf j k) =
     }
 
 -- the record of an accepted call passes
-held-passes : (l : LentRecord) (o : Operation) → firstFitting (linesOf l o) ≡ 0 → firstFitting (recordLines l false false) ≡ 0
+held-passes : (l : LentRecord) (o : Operation) → firstFitting (linesOf l o) ≡ 0
+    → firstFitting (recordLines l false false) ≡ 0
 held-passes l o e = go o e
   where
     parted : (six : Bool) (rest : List Refusal) → firstFitting (recordLines l false six ++ rest) ≡ 0

@@ -23,7 +23,8 @@ determined-there n r t S T q hq code row l la e =
     determined-alone n t T q hq l la .1 (ap (λ c. image c X) (sym code) ∙ h .0, λ j. sym (row j) ∙ h .1 j)
 
 module _ (n : ℕ) (r t : GraphRecord) (S : Simple n (r .graph)) (T : Simple n (t .graph)) (q : ℕ) (hq : q < n)
-    (code : r .codes q ≡ t .codes q) (row : (j : ℕ) → r .graph q j ≡ t .graph q j) (l : Letter) (la : acts l ≡ true) where
+    (code : r .codes q ≡ t .codes q) (row : (j : ℕ) → r .graph q j ≡ t .graph q j) (l : Letter)
+    (la : acts l ≡ true) where
   pub determined-alike : isDetermined n (rowsOf n r) l q ≡ isDetermined n (rowsOf n t) l q
   determined-alike = same-by-both _ _ (determined-there n r t S T q hq code row l la)
       (determined-there n t r T S q hq (sym code) (λ j. sym (row j)) l la)
@@ -31,7 +32,8 @@ module _ (n : ℕ) (r t : GraphRecord) (S : Simple n (r .graph)) (T : Simple n (
   pub outcome-alike : (b : Bool) → outcome n (rowsOf n r) l q b ≡ outcome n (rowsOf n t) l q b
   outcome-alike b = go (isDetermined n (rowsOf n r) l q) refl
     where
-      go : (d : Bool) → isDetermined n (rowsOf n r) l q ≡ d → outcome n (rowsOf n r) l q b ≡ outcome n (rowsOf n t) l q b
+      go : (d : Bool) → isDetermined n (rowsOf n r) l q ≡ d
+          → outcome n (rowsOf n r) l q b ≡ outcome n (rowsOf n t) l q b
       go true e =
           outcome-alone n r S q hq l la e b ∙ ap (λ c. c .sx) code
           ∙ sym (outcome-alone n t T q hq l la (sym determined-alike ∙ e) b)

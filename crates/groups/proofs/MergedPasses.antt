@@ -1,5 +1,5 @@
--- A group's vertices put back into the record: it passes and has no edge between the groups, where no edge of what is put
--- back reaches out of the group. So the groups stay apart under the calls of each.
+-- A group's vertices put back into the record: it passes and has no edge between the groups, where no edge of what is
+-- put back reaches out of the group. So the groups stay apart under the calls of each.
 use mathlib.Core.Bool.{Bool, cond, false, true, true≢false}
 use mathlib.Core.Path.{ap, refl, subst, sym, _∙_, _≡_}
 use Prim.Native.Nat.{_<_, _^_, ℕ}
@@ -20,7 +20,14 @@ use Rattle.words.specs.Bits.{Word, bit}
 use Rattle.groups.specs.GroupLines.{groupAfter, groupLines, namesOther}
 use Rattle.groups.specs.Masks.{inGroup, masked, merged, reachesOut}
 use Rattle.groups.specs.internal.Apart.{Apart, GroupOp}
-use Rattle.groups.proofs.Edges.{crosses-not, edge-inside, edge-within, none-crosses, none-reaches-out, same-group-bits}
+use Rattle.groups.proofs.Edges.{
+  crosses-not,
+  edge-inside,
+  edge-within,
+  none-crosses,
+  none-reaches-out,
+  same-group-bits,
+}
 use Rattle.groups.proofs.GroupNumbers.{masked-number}
 use Rattle.groups.proofs.GroupPassing.{group-passes}
 use Rattle.groups.proofs.MaskedRecords.{apart-record}
@@ -91,10 +98,12 @@ module _ (word g : ℕ) (u a : UsedRecord) (H : Apart word u) (n64 : a .held .n 
         positive = A .positive;
         upto = A .upto;
         words = λ j l. by-cond (λ v. v < 2 ^ n) (s j)
-            (λ _. subst (λ m. getD (a .held .neighbours) j 0 < 2 ^ m) same-n (B .words-below j)) (λ _. A .words-below j);
+            (λ _. subst (λ m. getD (a .held .neighbours) j 0 < 2 ^ m) same-n (B .words-below j))
+            (λ _. A .words-below j);
         codes = λ q l. by-cond (λ v. v < 24) (s q) (λ _. B .codes-below q) (λ _. A .codes-below q);
         symmetric = λ i j k l. symmetric i j;
-        loopless = λ i l. by-cond (λ v. bit v i ≡ false) (s i) (λ _. B .simple .loopless i) (λ _. A .simple .loopless i);
+        loopless = λ i l. by-cond (λ v. bit v i ≡ false) (s i) (λ _. B .simple .loopless i)
+            (λ _. A .simple .loopless i);
         used = λ q l. good q (s q);
       })
     where
@@ -135,7 +144,8 @@ module _ (word g : ℕ) (u : UsedRecord) (H : Apart word u) (o : Operation) (O :
   after-within = none-reaches-out (inGroup word g) left (λ j k hj hk t. at j k (subst (λ m. k < m) left-count hk) t
       (inGroup word g k) refl)
     where
-      at : (j k : ℕ) → k < 64 → (heldRecord (left .held)) .graph j k ≡ true → (b : Bool) → inGroup word g k ≡ b → b ≡ true
+      at : (j k : ℕ) → k < 64 → (heldRecord (left .held)) .graph j k ≡ true → (b : Bool) → inGroup word g k ≡ b
+          → b ≡ true
       at j k hk t true h = refl
       at j k hk t false h = absurd (true≢false (sym t ∙ held-record left left-passes .simple .symmetric j k
           ∙ ap (λ w. bit w j) (after-outside word g u H o O own e k hk h .0) ∙ zero-bit j))

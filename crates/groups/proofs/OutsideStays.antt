@@ -108,7 +108,8 @@ module _ (word g : ℕ) (u : UsedRecord) (H : Apart word u) (o : Operation) (O :
       go o (complement-op a) k P = before
       go o (measure-op pauli a b) k P =
           measured-marks v pauli a b P q ∙ ap₂ _||_ before (other-place (λ e. true≢false
-          (sym (in-group word g u H a k (measure-arguments (v .held) pauli a b (P .as-before) .below)) ∙ ap s (sym e) ∙ h)))
+          (sym (in-group word g u H a k (measure-arguments (v .held) pauli a b (P .as-before) .below))
+          ∙ ap s (sym e) ∙ h)))
 
   pub after-outside : (q : ℕ) → q < 64 → inGroup word g q ≡ false
       → AloneIn ((usedStep (masked (inGroup word g) u) o) .after) q

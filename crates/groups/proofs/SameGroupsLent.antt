@@ -1,6 +1,7 @@
 -- The records of the definitions, read from their buffers: the masked record is put together of the vertices of s and
--- blank ones, the merged one of the vertices of s as one record has them and the others as the other has.
-use mathlib.Core.Bool.{Bool, cond, false, true}
+-- blank ones, the merged one of the vertices of s as one record has them and the others as the other has. And no edge
+-- leaves the group.
+use mathlib.Core.Bool.{Bool, cond, false, not, true, true≢false}
 use mathlib.Core.Logic.{inl, inr}
 use mathlib.Core.Path.{_≡_, ap, refl, sym, _∙_}
 use Prim.Native.Nat.{ℕ, _≤_}
@@ -14,10 +15,15 @@ use Rattle.record.specs.Lent.{heldRecord}
 use Rattle.stabilizer.proofs.ReadBack.{table-past}
 use Rattle.used.specs.Used.{UsedRecord}
 use Rattle.words.proofs.BitLaws.{zero-bit}
+use Rattle.words.proofs.Flags.{never-true}
 use Rattle.words.proofs.Sums.{lt-or-ge}
 use Rattle.words.specs.Bits.{Word, bit}
-use Rattle.groups.specs.Masks.{masked, merged}
-use Rattle.groups.specs.internal.Sides.{PutTogether, blank}
+use Rattle.groups.proofs.Edges.{edge-inside, edge-within}
+use Rattle.groups.proofs.MaskedRecords.{apart-record, masked-apart}
+use Rattle.groups.proofs.SameGroupsRows.{not-both}
+use Rattle.groups.specs.Masks.{inGroup, masked, merged, reachesOut}
+use Rattle.groups.specs.internal.Apart.{Apart}
+use Rattle.groups.specs.internal.Sides.{MaskOf, PutTogether, Split, blank}
 
 -- a value of one of two numbers
 of-cond : {A : Type 0} (f : ℕ → A) (b : Bool) (x y : ℕ) → f (cond b x y) ≡ cond b (f x) (f y)
@@ -61,3 +67,37 @@ module _ (s : Word) (u : UsedRecord) (A : AcceptedRecord (u .held)) where
         codes = λ q l. ap cliffordOf (tabulate-at n _ q l)
             ∙ of-cond cliffordOf (s q) (getD (a .held .codes) q 0) (getD (u .held .codes) q 0);
       }
+
+-- ---- no edge between the sides
+-- of a record in which the ends of each edge are of one group
+pub apart-split : (word g : ℕ) (u : UsedRecord) → Apart word u
+    → Split (inGroup word g) ((heldRecord (u .held)) .graph)
+apart-split word g u H =
+    record {
+      none = λ b i j e f. never-true _ (λ t. not-both b
+          (sym e ∙ edge-inside word g u (apart-record word u H) (H .no-crossing) i j t ∙ f));
+    }
+
+-- of one in which no edge reaches out of s
+pub within-split : (s : Word) (a : UsedRecord) → AcceptedRecord (a .held) → reachesOut s a ≡ false
+    → Split s ((heldRecord (a .held)) .graph)
+within-split s a A h = record { none = go }
+  where
+    outside : (i j : ℕ) → s j ≡ false → (heldRecord (a .held)) .graph i j ≡ false
+    outside i j f = never-true _ (λ t. true≢false (sym (edge-within s a A h i j t) ∙ f))
+
+    go : (b : Bool) (i j : ℕ) → s i ≡ b → s j ≡ not b → (heldRecord (a .held)) .graph i j ≡ false
+    go true i j e f = outside i j f
+    go false i j e f = A .simple .symmetric i j ∙ outside j i e
+
+-- the group's vertices alone
+pub mask-of : (word g : ℕ) (u : UsedRecord) → Apart word u
+    → MaskOf (u .held .n) (inGroup word g) (heldRecord (u .held)) (heldRecord ((masked (inGroup word g) u) .held))
+mask-of word g u H =
+    let A = apart-record word u H in
+    record {
+      simple = A .simple;
+      split = apart-split word g u H;
+      own-simple = apart-record word (masked (inGroup word g) u) (masked-apart word g u H) .simple;
+      put = masked-together (inGroup word g) u A;
+    }

@@ -1,6 +1,6 @@
--- What an accepted operation makes is what its buffers hold; and what a gate, a cz, a measurement and a complementation on
--- qubits of s make of the vertices of s alone, put together with the others, stands for the group that they make of the
--- whole record.
+-- What an accepted operation makes is what its buffers hold; and what a gate, a cz, a measurement and a complementation
+-- on qubits of s make of the vertices of s alone, put together with the others, stands for the group that they make of
+-- the whole record.
 use mathlib.Core.Bool.{_&&_, Bool, false, not, true}
 use mathlib.Core.List.{[], _∷_}
 use mathlib.Core.Logic.{_≢_}
@@ -14,6 +14,7 @@ use Rattle.buffers.proofs.Lines.{none-of-all, not-held}
 use Rattle.buffers.specs.Refusals.{firstFitting, line}
 use Rattle.clifford.specs.Clifford.{cliffordOf}
 use Rattle.graph.proofs.Complement.{complement-simple}
+use Rattle.graph.specs.Graph.{Simple}
 use Rattle.operations.proofs.CzGroups.{cz-proper}
 use Rattle.operations.proofs.Determined.{measured-proper}
 use Rattle.operations.proofs.MeasuredRecords.{pauli-acts}
@@ -35,7 +36,6 @@ use Rattle.record.proofs.RecordLines.{record-numbered}
 use Rattle.record.proofs.ReducedRecords.{record-proper}
 use Rattle.record.proofs.Unique.{record-path}
 use Rattle.record.proofs.WrittenRecords.{record-back, reduced-back, writtenRecord}
-use Rattle.record.specs.Accepted.{AcceptedRecord}
 use Rattle.record.specs.Lent.{LentRecord, heldRecord, recordLines}
 use Rattle.record.specs.Records.{GraphRecord, SameRecord, complementRecord, rowsOf}
 use Rattle.stabilizer.proofs.EqualRows.{same-group-equal}
@@ -52,15 +52,13 @@ use Rattle.used.specs.Used.{UsedRecord}
 use Rattle.words.proofs.Flags.{neither}
 use Rattle.words.specs.Bits.{Word, isOdd}
 use Rattle.groups.proofs.SameGroupsFollowed.{followed-same}
-use Rattle.groups.proofs.SameGroupsLent.{masked-together}
 use Rattle.groups.proofs.SameGroupsMeasured.{measured-followed}
 use Rattle.groups.proofs.SameGroupsRewritten.{rewritten-row}
 use Rattle.groups.proofs.SameGroupsSteps.{cz-followed, gate-followed}
-use Rattle.groups.proofs.SameGroupsTogether.{masked-simple}
 use Rattle.groups.specs.GroupLines.{namesOther, outsider}
 use Rattle.groups.specs.Masks.{masked}
 use Rattle.groups.specs.internal.Apart.{GroupOp, complement-op, cz-op, gate-op, measure-op}
-use Rattle.groups.specs.internal.Sides.{PutTogether, Split, blank}
+use Rattle.groups.specs.internal.Sides.{MaskOf, PutTogether, Split}
 
 -- ---- the arguments of an accepted operation
 eight-passes : (l : LentRecord) (six eight : Bool) → firstFitting (inPlaceLines l six eight) ≡ 0 → eight ≡ false
@@ -101,7 +99,8 @@ made-held l o g e = ap heldRecord (after-made l o e) ∙ record-path _ (made l o
         (λ q k. ap cliffordOf (List·getD-eq-default (l .codes) 0 (subst (λ m. m ≤ q) (sym (A .codes-length)) k))))
 
 -- ---- operations on qubits of s
-module _ (s : Word) (u : UsedRecord) (A : AcceptedRecord (u .held)) (X : Split s ((heldRecord (u .held)) .graph)) where
+module _ (s : Word) (u : UsedRecord)
+    (K : MaskOf (u .held .n) s (heldRecord (u .held)) (heldRecord ((masked s u) .held))) where
   abbrev n : ℕ
   n = u .held .n
 
@@ -111,42 +110,41 @@ module _ (s : Word) (u : UsedRecord) (A : AcceptedRecord (u .held)) (X : Split s
   abbrev m : GraphRecord
   m = heldRecord ((masked s u) .held)
 
-  M : PutTogether n s r blank m
-  M = masked-together s u A
+  whole : Proper n (rowsOf n r)
+  whole = record-proper n r (K .simple)
 
-  own-proper : Proper n (rowsOf n m)
-  own-proper = record-proper n m (masked-simple n s r m (A .simple) X M)
+  alone : Proper n (rowsOf n m)
+  alone = record-proper n m (K .own-simple)
 
-  -- what o makes of the vertices of s, put together with the others
+  -- what o makes of the vertices of s, without an edge that leaves s, and put together with the others
   abbrev Same : Operation → Type 0
-  Same o = (t : GraphRecord) → PutTogether n s (made ((masked s u) .held) o) r t
-      → SameGroup n n (rowsOf n t) (rowsOf n (made (u .held) o))
+  Same o = Split s ((made ((masked s u) .held) o) .graph) → (t : GraphRecord) → Simple n (t .graph)
+      → PutTogether n s (made ((masked s u) .held) o) r t → SameGroup n n (rowsOf n t) (rowsOf n (made (u .held) o))
 
   pub gate-same : (q k : ℕ) → q < n → s q ≡ true → Same (gateWith q k)
   gate-same q k l e =
-      followed-same n s r m (A .simple) X M _ _ (gate-proper (u .held) q k A)
-      (record-proper n (gated m q (cliffordOf k)) (masked-simple n s r m (A .simple) X M))
-      (gate-followed n s r m (A .simple) X M q l e (cliffordOf k))
+      followed-same n s r (K .simple) (K .split) _ _
+      (record-proper n (gated r q (cliffordOf k)) (K .simple))
+      (record-proper n (gated m q (cliffordOf k)) (K .own-simple)) (gate-followed n s r m K q l e (cliffordOf k))
 
   pub cz-same : (a b : ℕ) → a < n → b < n → a ≢ b → s a ≡ true → s b ≡ true → Same (czOn a b)
   cz-same a b ha hb ab ea eb =
-      followed-same n s r m (A .simple) X M _ _ (cz-proper n a b ha hb ab (rowsOf n r) (A .proper))
-      (cz-proper n a b ha hb ab (rowsOf n m) own-proper) (cz-followed n s r m (A .simple) X M a b ha hb ab ea eb)
+      followed-same n s r (K .simple) (K .split) _ _ (cz-proper n a b ha hb ab (rowsOf n r) whole)
+      (cz-proper n a b ha hb ab (rowsOf n m) alone) (cz-followed n s r m K a b ha hb ab ea eb)
 
   pub measure-same : (pauli q b : ℕ) → pauli ≢ 0 → q < n → s q ≡ true → Same (measurementOf pauli q b)
   measure-same pauli q b acting l e =
-      followed-same n s r m (A .simple) X M _ _
-      (measured-proper n (rowsOf n r) (A .proper) (pauliLetter pauli) q l (isOdd b))
-      (measured-proper n (rowsOf n m) own-proper (pauliLetter pauli) q l (isOdd b))
-      (measured-followed n s r m (A .simple) X M (pauliLetter pauli) (pauli-acts pauli (positive pauli acting)) q l e
-      (isOdd b))
+      followed-same n s r (K .simple) (K .split) _ _
+      (measured-proper n (rowsOf n r) whole (pauliLetter pauli) q l (isOdd b))
+      (measured-proper n (rowsOf n m) alone (pauliLetter pauli) q l (isOdd b))
+      (measured-followed n s r m K (pauliLetter pauli) (pauli-acts pauli (positive pauli acting)) q l e (isOdd b))
     where
       positive : (k : ℕ) → k ≢ 0 → 0 < k
       positive k h = omega (arith, h)
 
   pub rewritten-same : (a : ℕ) → a < n → s a ≡ true → Same (complementOf a)
-  rewritten-same a l e t T = same-group-equal n (rowsOf n t) (rowsOf n (complementRecord r a))
-      (λ j k. sym (rewritten-row n s r m (A .simple) X M a l e t T j k))
+  rewritten-same a l e Y t S T = same-group-equal n (rowsOf n t) (rowsOf n (complementRecord r a))
+      (λ j k. sym (rewritten-row n s r m K a l e t T j k))
 
   pub made-same : (o : Operation) → GroupOp o → firstFitting (linesOf (u .held) o) ≡ 0 → namesOther s n o ≡ false
       → Same o

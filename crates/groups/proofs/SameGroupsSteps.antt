@@ -1,5 +1,5 @@
--- A gate, a cz and a measurement on qubits of s: what each does to the group of a record follows from what it does to the
--- group of the vertices of s, and the rows of the other vertices stay.
+-- A gate and a cz on qubits of s: what each does to the group of a record follows from what it does to the group of the
+-- vertices of s, and the rows of the other vertices stay.
 use mathlib.Core.Bool.{_&&_, Bool, false, true}
 use mathlib.Core.Logic.{_≢_}
 use mathlib.Core.Path.{ap, ap₂, refl, subst, sym, _∙_, _≡_}
@@ -9,7 +9,6 @@ use lib.Dec.{eqb}
 use Rattle.clifford.proofs.VectorLaws.{act-id}
 use Rattle.clifford.specs.Clifford.{Clifford, identityClifford, image, imagePhase}
 use Rattle.clifford.specs.Vectors.{act, only}
-use Rattle.graph.specs.Graph.{Simple}
 use Rattle.operations.proofs.CzGroups.{cz-group}
 use Rattle.operations.proofs.Gating.{gate-carries}
 use Rattle.operations.specs.Cz.{cz, czRows}
@@ -26,8 +25,8 @@ use Rattle.words.proofs.Places.{other-place, put-other}
 use Rattle.words.proofs.Sums.{fold-ext}
 use Rattle.words.specs.Bits.{Word, _⊕_}
 use Rattle.groups.proofs.SameGroupsRows.{apart, row-free}
-use Rattle.groups.proofs.SameGroupsTogether.{masked-inner, masked-simple, masked-split}
-use Rattle.groups.specs.internal.Sides.{Followed, Free, PutTogether, Split, blank}
+use Rattle.groups.proofs.SameGroupsTogether.{mask-inner}
+use Rattle.groups.specs.internal.Sides.{Followed, Free, MaskOf}
 
 -- ---- the gate's code at one qubit
 module _ (n : ℕ) (s : Word) (q : ℕ) (own : s q ≡ true) (k : Clifford) where
@@ -97,42 +96,37 @@ module _ (n : ℕ) (s : Word) (a b : ℕ) (own-a : s a ≡ true) (own-b : s b �
       none = bits 3 (λ z c d. z ⊕ ((c && false) ⊕ (d && false))) (λ z c d. z) tt
 
 -- ---- both carry every element
-module _ (n : ℕ) (s : Word) (r m : GraphRecord) (R : Simple n (r .graph)) (X : Split s (r .graph))
-    (M : PutTogether n s r blank m) where
+module _ (n : ℕ) (s : Word) (r m : GraphRecord) (K : MaskOf n s r m) where
   abbrev rows : ℕ → Pauli
   rows = rowsOf n r
 
-  abbrev own : ℕ → Pauli
-  own = rowsOf n m
+  abbrev part : ℕ → Pauli
+  part = rowsOf n m
 
   carried : (f : Pauli → Pauli) → ((p : Pauli) → Free n s false (f p) → Free n s false p)
       → ((p : Pauli) → Free n s true p → f p ≡ p) → (new left : ℕ → Pauli)
       → ((p : Pauli) → InGroup n n rows p → InGroup n n new (f p))
-      → ((p : Pauli) → InGroup n n own p → InGroup n n left (f p))
-      → ((p : Pauli) → InGroup n n left p → (e : Pauli) × InGroup n n own e × (p ≡ f e))
-      → Followed n s rows own new left
-  carried f back fixes new left into into-own onto =
+      → ((p : Pauli) → InGroup n n left p → (e : Pauli) × InGroup n n part e × (p ≡ f e))
+      → Followed n s rows new left
+  carried f back fixes new left into onto =
       record {
         inner = λ p i F.
             let h = onto p i in
             subst (InGroup n n new) (sym (h .2)) (into (h .0)
-            (masked-inner n s r m R X M (h .0) (h .1) (back (h .0) (subst (Free n s false) (h .2) F))));
-        outer = λ j l e. subst (InGroup n n new) (fixes (rows j) (row-free n s false r R X j l e))
+            (mask-inner n s r m K (h .0) (h .1) (back (h .0) (subst (Free n s false) (h .2) F))));
+        outer = λ j l e. subst (InGroup n n new)
+            (fixes (rows j) (row-free n s false r (K .simple) (K .split) j l e))
             (into (rows j) (in-row n n rows j l));
-        stays = λ j l e. subst (InGroup n n left)
-            (fixes (own j) (row-free n s false m (masked-simple n s r m R X M) (masked-split n s r m R X M) j l e))
-            (into-own (own j) (in-row n n own j l));
       }
 
   pub gate-followed : (q : ℕ) → q < n → s q ≡ true → (k : Clifford)
-      → Followed n s (rowsOf n r) (rowsOf n m) (rowsOf n (gated r q k)) (rowsOf n (gated m q k))
+      → Followed n s (rowsOf n r) (rowsOf n (gated r q k)) (rowsOf n (gated m q k))
   gate-followed q hq e k =
       carried (act n (only q k)) (gate-back n s q e k) (gate-fixes n s q e k hq) _ _ (gate-carries n r q k .into)
-      (gate-carries n m q k .into) (gate-carries n m q k .onto)
+      (gate-carries n m q k .onto)
 
   pub cz-followed : (a b : ℕ) → a < n → b < n → a ≢ b → s a ≡ true → s b ≡ true
-      → Followed n s (rowsOf n r) (rowsOf n m) (czRows a b (rowsOf n r)) (czRows a b (rowsOf n m))
+      → Followed n s (rowsOf n r) (czRows a b (rowsOf n r)) (czRows a b (rowsOf n m))
   cz-followed a b ha hb ab ea eb =
       carried (cz a b) (cz-back n s a b ea eb) (cz-fixes n s a b ea eb ha hb) _ _
-      (λ p i. cz-group n a b ha hb ab rows (cz a b p) .1 (p, i, refl))
-      (λ p i. cz-group n a b ha hb ab own (cz a b p) .1 (p, i, refl)) (λ p i. cz-group n a b ha hb ab own p .0 i)
+      (λ p i. cz-group n a b ha hb ab rows (cz a b p) .1 (p, i, refl)) (λ p i. cz-group n a b ha hb ab part p .0 i)

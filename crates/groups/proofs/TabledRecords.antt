@@ -1,5 +1,5 @@
--- A record written place by place passes its lines: words below 2 ^ n, codes below 24, a simple graph, and used vertices
--- that are alone and have one of the six codes.
+-- A record written place by place passes its lines: words below 2 ^ n, codes below 24, a simple graph, and used
+-- vertices that are alone and have one of the six codes.
 use mathlib.Core.Bool.{Bool, cond, false, true, true≢false, _||_}
 use mathlib.Core.Logic.{inl, inr, _⊎_}
 use mathlib.Core.Path.{ap, ap₂, refl, subst, sym, _∙_, _≡_}

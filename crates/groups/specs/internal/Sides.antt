@@ -3,7 +3,7 @@ use mathlib.Core.Bool.{Bool, cond, false, not}
 use mathlib.Core.Path.{_≡_}
 use Prim.Native.Nat.{_<_, ℕ}
 use Rattle.clifford.specs.Clifford.{cliffordOf}
-use Rattle.graph.specs.Graph.{Graph}
+use Rattle.graph.specs.Graph.{Graph, Simple}
 use Rattle.pauli.specs.Pauli.{Pauli}
 use Rattle.record.specs.Records.{GraphRecord}
 use Rattle.stabilizer.specs.Groups.{InGroup}
@@ -27,8 +27,15 @@ pub record PutTogether (n : ℕ) (s : Word) (a r t : GraphRecord) : Type 0 where
 abbrev pub blank : GraphRecord
 blank = record { graph = λ i j. false; codes = λ q. cliffordOf 8 }
 
--- an operation on the qubits of s leads from `rows` to `new`, and from `own`, the rows of s with +Z elsewhere, to `left`
-pub record Followed (n : ℕ) (s : Word) (rows own new left : ℕ → Pauli) : Type 0 where
+-- m has the vertices of s as r has them and every other one alone in +Z; no edge of r leaves s
+pub record MaskOf (n : ℕ) (s : Word) (r m : GraphRecord) : Type 0 where
+  pub simple : Simple n (r .graph)
+  pub split : Split s (r .graph)
+  pub own-simple : Simple n (m .graph)
+  pub put : PutTogether n s r blank m
+
+-- an operation on the qubits of s leads from `rows` to `new`, and from the rows of s, with +Z elsewhere, to `left`: an
+-- element of `left` with I outside s is one of `new`, and so is each row of a vertex outside s
+pub record Followed (n : ℕ) (s : Word) (rows new left : ℕ → Pauli) : Type 0 where
   pub inner : (p : Pauli) → InGroup n n left p → Free n s false p → InGroup n n new p
   pub outer : (j : ℕ) → j < n → s j ≡ false → InGroup n n new (rows j)
-  pub stays : (j : ℕ) → j < n → s j ≡ false → InGroup n n left (own j)
