@@ -3,4 +3,5 @@ pub mod OwnCalls
 pub mod OtherCalls
 pub mod RefusedCalls
 pub mod ContractSteps
+pub mod CallsStand
 pub mod GroupsDemandHolds
