@@ -1,11 +1,19 @@
 -- The request on two groups (02, §13), of runs of their calls.
-use mathlib.Core.Bool.{Bool, cond, false, true}
+use mathlib.Core.Bool.{cond, true}
 use mathlib.Core.List.{List, [], _∷_}
 use mathlib.Core.Path.{_≡_}
 use Prim.Native.Nat.{_<_, ℕ}
 use lib.Dec.{eqb}
 use Rattle.buffers.specs.Refusals.{Refusal, firstFitting}
+use Rattle.call_gates.specs.InPlaceCalls.{usedCall, usedMeasureCall}
+use Rattle.call_groups.specs.GroupCalls.{groupCall, groupMeasureCall}
+use Rattle.contracts.specs.Calls.{Call}
 use Rattle.groups.specs.Masks.{crosses}
+use Rattle.jobs.specs.Standing.{left}
+use Rattle.operations.specs.Steps.{complementOf, czOn, gateWith}
+use Rattle.record.specs.Lent.{heldRows}
+use Rattle.stabilizer.specs.Groups.{SameGroup}
+use Rattle.used.specs.Used.{UsedRecord}
 use Rattle.claims_groups.specs.GroupRuns.{
   CallOf,
   GroupCall,
@@ -48,3 +56,27 @@ pub record NeitherGroup (word g : ℕ) (s : SharedState) (c : GroupCall) : Type 
 -- of every call with such a number
 abbrev pub NeitherRefused : Type 0
 NeitherRefused = (word g : ℕ) → 1 < g → (s : SharedState) (c : GroupCall) → NeitherGroup word g s c
+
+-- ---- against the whole-record call
+-- that call is accepted too, and "the elements of the group" that the two records stand for are the same
+pub record StandsAsWhole (u : UsedRecord) (nb′ cs′ : List ℕ) (r : ℕ) (nb″ cs″ : List ℕ) : Type 0 where
+  pub accepted : r ≡ 0
+  pub elements : SameGroup 64 64 (heldRows (left (u .held) nb′ cs′)) (heldRows (left (u .held) nb″ cs″))
+
+-- of every accepted gate, cz, complementation and measurement of a group; a measurement's outcome, determined bit and used
+-- word are those of the whole-record call
+pub record GroupCallsStand : Type 0 where
+  pub gate : (word g : ℕ) (u : UsedRecord) (q k : ℕ) (nb′ cs′ : List ℕ) (r : ℕ) (nb″ cs″ : List ℕ) →
+      Call (groupCall word g u (gateWith q k) nb′ cs′) 0 → Call (usedCall u (gateWith q k) nb″ cs″) r →
+      StandsAsWhole u nb′ cs′ r nb″ cs″
+  pub cz : (word g : ℕ) (u : UsedRecord) (a b : ℕ) (nb′ cs′ : List ℕ) (r : ℕ) (nb″ cs″ : List ℕ) →
+      Call (groupCall word g u (czOn a b) nb′ cs′) 0 → Call (usedCall u (czOn a b) nb″ cs″) r →
+      StandsAsWhole u nb′ cs′ r nb″ cs″
+  pub complement : (word g : ℕ) (u : UsedRecord) (a : ℕ) (nb′ cs′ : List ℕ) (r : ℕ) (nb″ cs″ : List ℕ) →
+      Call (groupCall word g u (complementOf a) nb′ cs′) 0 → Call (usedCall u (complementOf a) nb″ cs″) r →
+      StandsAsWhole u nb′ cs′ r nb″ cs″
+  pub measure : (word g : ℕ) (u : UsedRecord) (pauli q b answer determined : ℕ) (nb′ cs′ : List ℕ)
+      (used′ answer′ determined′ r : ℕ) (nb″ cs″ : List ℕ) (used″ answer″ determined″ : ℕ) →
+      Call (groupMeasureCall word g u pauli q b answer determined nb′ cs′ used′ answer′ determined′) 0 →
+      Call (usedMeasureCall u pauli q b answer determined nb″ cs″ used″ answer″ determined″) r →
+      StandsAsWhole u nb′ cs′ r nb″ cs″ × (answer′ ≡ answer″) × (determined′ ≡ determined″) × (used′ ≡ used″)

@@ -1,2 +1,3 @@
 pub mod GroupRuns
+pub mod GroupContracts
 pub mod GroupsDemand
