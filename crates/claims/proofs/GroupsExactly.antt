@@ -167,7 +167,7 @@ module _ (word g : ℕ) (st : Store) where
           let counts = held-none (λ i. not (eqb (countAt (own .heads) i) 64)) .0 (h .0 .1) in
           let out = held-none (λ i. reachesOut (inGroup word g) (placeAt own i)) .0 (t .1) in
           let n64 : (i : ℕ) → i < 4 → isHeld (own .heads) i ≡ true → countAt (own .heads) i ≡ 64 =
-              λ i l m. eqb-true (countAt (own .heads) i) 64 (not-false (eqb (countAt (own .heads) i) 64) (counts i l m)) in
+          λ i l m. eqb-true (countAt (own .heads) i) 64 (not-false (eqb (countAt (own .heads) i) 64) (counts i l m)) in
           record {
             heads = L .heads;
             neighbours = L .words;
