@@ -48,7 +48,7 @@ module _ (word g : ℕ) (u : UsedRecord) (o : Operation) (copies : (v : UsedReco
       go true = copies (masked s u)
       go false = refl
 
-  used-kept : Apart word u → (groupAfter word g u o) .used ≡ u .used
+  pub used-kept : Apart word u → (groupAfter word g u o) .used ≡ u .used
   used-kept H =
       word-cong (u .held .n) _ (bit (u .used)) (λ q l.
       ap (λ b. cond (s q) b (bit (u .used) q)) (ap (λ w. bit w q) own-used ∙ bit-wordOf (u .held .n) _ q l)

@@ -4,4 +4,5 @@ pub mod OtherCalls
 pub mod RefusedCalls
 pub mod ContractSteps
 pub mod CallsStand
+pub mod GroupKeepsHold
 pub mod GroupsDemandHolds

@@ -45,8 +45,8 @@ pub held-place : (word g : ℕ) → g < 2 → (u : UsedRecord) (name : ℕ) (st 
     firstFitting (groupNamedLines word g u name st) ≡ 0 → placeAt st (4 * g + placeOf 4 ((ownPlaces g st) .heads) name)
     ≡ placeAt (ownPlaces g st) (placeOf 4 ((ownPlaces g st) .heads) name)
 held-place word g lg u name st L z =
-    place-own g (placeOf 4 ((ownPlaces g st) .heads) name) st lg (named-place word g u name st lg L z) L
-    (omega (arith, named-count word g u name st lg L z))
+    place-own g (placeOf 4 ((ownPlaces g st) .heads) name) st lg (named-place word g u name st z) L
+    (omega (arith, named-count word g u name st z))
 
 -- an operation keeps the count
 pub step-count : (u : UsedRecord) (o : Operation) → (usedStep u o) .after .held .n ≡ u .held .n
@@ -63,23 +63,23 @@ operation-left word g u o = masked-merged-own (inGroup word g) ((usedStep (maske
     (step-count (masked (inGroup word g) u) o)
 
 -- what a return leaves there
-returned-left : (word g : ℕ) → g < 2 → (u : UsedRecord) (name : ℕ) (st : Store) → Apart word u → EightLong st →
+pub returned-left : (word g : ℕ) → g < 2 → (u : UsedRecord) (name : ℕ) (st : Store) → Apart word u → EightLong st →
     firstFitting (groupNamedLines word g u name st) ≡ 0 → masked (inGroup word g) (groupReturned word g u name st)
     ≡ masked (inGroup word g) (placeAt (ownPlaces g st) (placeOf 4 ((ownPlaces g st) .heads) name))
 returned-left word g lg u name st H L z =
     let p = placeOf 4 ((ownPlaces g st) .heads) name in
     let same = held-place word g lg u name st L z in
     masked-merged-own (inGroup word g) (placeAt st (4 * g + p)) u
-    (ap (λ v. v .held .n) same ∙ named-count word g u name st lg L z ∙ sym (H .count))
+    (ap (λ v. v .held .n) same ∙ named-count word g u name st z ∙ sym (H .count))
     ∙ ap (masked (inGroup word g)) same
 
 -- what a save leaves in its places
-saved-left : (word g : ℕ) → g < 2 → (u : UsedRecord) (name : ℕ) (st : Store) → Apart word u → EightLong st →
+pub saved-left : (word g : ℕ) → g < 2 → (u : UsedRecord) (name : ℕ) (st : Store) → Apart word u → EightLong st →
     firstFitting (groupSaveLines word g u name st) ≡ 0 → ownPlaces g (groupSaved word g u name st)
     ≡ withPlace (savePlace 4 ((ownPlaces g st) .heads) name) (masked (inGroup word g) u) name (ownPlaces g st)
 saved-left word g lg u name st H L z =
     placed-own-places g (savePlace 4 ((ownPlaces g st) .heads) name) (masked (inGroup word g) u) name st lg
-    (save-place word g u name st lg L z) (tabulate-length (u .held .n) _ ∙ H .count) (tabulate-length (u .held .n) _ ∙ H .count) L
+    (save-place word g u name st z) (tabulate-length (u .held .n) _ ∙ H .count) (tabulate-length (u .held .n) _ ∙ H .count) L
 
 module _ (word g : ℕ) (lg : g < 2) (s t : SharedState) (S : Good word s) (T : Good word t) (A : Alike word g s t) where
   low : ltb 1 g ≡ false
@@ -145,10 +145,10 @@ module _ (word g : ℕ) (lg : g < 2) (s t : SharedState) (S : Good word s) (T : 
         vertices = A .vertices;
         places = λ j. record {
           heads = (freed-own-heads g (placeOf 4 ((ownPlaces g (s .store)) .heads) name)
-              (named-place word g (s .current) name (s .store) lg (S .long) z) (s .store .heads)
+              (named-place word g (s .current) name (s .store) z) (s .store .heads)
               ∙ ap (λ own. set (own .heads) (3 * placeOf 4 (own .heads) name) 0) (A .places)
               ∙ sym (freed-own-heads g (placeOf 4 ((ownPlaces g (t .store)) .heads) name)
-              (named-place word g (t .current) name (t .store) lg (T .long) (sym (own-number (groupForget name)) ∙ z))
+              (named-place word g (t .current) name (t .store) (sym (own-number (groupForget name)) ∙ z))
               (t .store .heads))) j;
           neighbours = (A .places j) .neighbours;
           codes = (A .places j) .codes;

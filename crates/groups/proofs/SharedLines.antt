@@ -131,20 +131,16 @@ pub record OwnFits (word g : ℕ) (st : Store) : Type 0 where
   pub counts : otherCount (ownPlaces g st) ≡ false
   pub inside : heldOut (inGroup word g) (ownPlaces g st) ≡ false
 
+-- the buffers of a group's places have their lengths
+pub own-long : (g : ℕ) (st : Store) → g < 2 → EightLong st → storeLengths 4 (ownPlaces g st) ≡ false
+own-long g st lg L = let own = ownPlaces g st in
+    ap₂ _||_ (length-passes 12 (own .heads) (part-long (12 * g) 12 (st .heads) (omega (arith, lg, L .heads))))
+    (ap₂ _||_ (length-passes 256 (own .neighbours) (part-long (256 * g) 256 (st .neighbours) (omega (arith, lg, L .words))))
+    (length-passes 256 (own .codes) (part-long (256 * g) 256 (st .codes) (omega (arith, lg, L .codes)))))
+
 module _ (word g : ℕ) (u : UsedRecord) (st : Store) (h : NoneHolds (sharedLines word g u st)) where
   abbrev own : Store
   own = ownPlaces g st
-
-  lg : g < 2
-  lg = shared-group word g u st h
-
-  L : EightLong st
-  L = shared-long word g u st h
-
-  own-long : storeLengths 4 own ≡ false
-  own-long = ap₂ _||_ (length-passes 12 (own .heads) (part-long (12 * g) 12 (st .heads) (omega (arith, lg, L .heads))))
-      (ap₂ _||_ (length-passes 256 (own .neighbours) (part-long (256 * g) 256 (st .neighbours) (omega (arith, lg, L .words))))
-      (length-passes 256 (own .codes) (part-long (256 * g) 256 (st .codes) (omega (arith, lg, L .codes)))))
 
   bare : (b : Bool) → ((b || false) || false) ≡ false → b ≡ false
   bare b e = neither b false (neither (b || false) false e .0) .0
@@ -176,7 +172,8 @@ module _ (word g : ℕ) (u : UsedRecord) (st : Store) (h : NoneHolds (sharedLine
         passing = store-accepted 4 own false (none-fits-of (storeLines 4 own false) (
           ap (λ b. (b || false) || false) (counts .0),
           (
-            ap₂ (λ a b. (a || (b || false)) || false) {x = ofHeld 4 own 4} held-four own-long,
+            ap₂ (λ a b. (a || (b || false)) || false) {x = ofHeld 4 own 4} held-four
+                (own-long g st (shared-group word g u st h) (shared-long word g u st h)),
             (
               as-held (ofHeld 4 own 5) (five word g u st h .1),
               (
