@@ -15,6 +15,7 @@ use Rattle.earliest.specs.internal.Earlier.{earlierOf}
 use Rattle.groups.proofs.Edges.{crosses-not, none-crosses, none-reaches-out, reaches-out-not}
 use Rattle.groups.proofs.GroupPassing.{group-number, group-passes}
 use Rattle.groups.proofs.OwnPlaces.{EightLong, part-long}
+use Rattle.groups.proofs.SharedLines.{own-long}
 use Rattle.groups.specs.GroupLines.{groupLines, namesOther, outsider, withGroup}
 use Rattle.groups.specs.GroupStores.{heldOut, otherCount, ownLines, ownPlaces, sharedLines}
 use Rattle.groups.specs.Masks.{crosses, inGroup, reachesOut}
@@ -34,7 +35,7 @@ use Rattle.words.specs.Bits.{Word}
 use Rattle.words.specs.Search.{some}
 use Rattle.claims.proofs.LinesExactly.{last-exactly, more-exactly}
 use Rattle.claims.proofs.families.Stores.{is-record}
-use Rattle.claims.specs.families.Groups.{Own, OwnStates, SharedFits, TwoGroups}
+use Rattle.claims.specs.families.Groups.{OwnStates, SharedFits, TwoGroups}
 
 -- ---- the groups
 module _ (word g : ℕ) (u : UsedRecord) where
@@ -142,12 +143,6 @@ module _ (word g : ℕ) (st : Store) where
   pub own-exactly-fits : g < 2 → (firstFitting (ownLines (inGroup word g) g st) ≡ 0) ↔ OwnStates word g st
   own-exactly-fits low = (there, back)
     where
-      long : EightLong st → storeLengths 4 own ≡ false
-      long L = ap₂ _||_ (length-passes 12 (own .heads) (part-long (12 * g) 12 (st .heads) (omega (arith, low, L .heads))))
-          (ap₂ _||_ (length-passes 256 (own .neighbours)
-          (part-long (256 * g) 256 (st .neighbours) (omega (arith, low, L .words))))
-          (length-passes 256 (own .codes) (part-long (256 * g) 256 (st .codes) (omega (arith, low, L .codes)))))
-
       eight : storeLengths 8 st ≡ false → EightLong st
       eight e =
           let p = neither (otherThan 24 (st .heads)) _ e in
@@ -163,7 +158,7 @@ module _ (word g : ℕ) (st : Store) where
           let h = own-tests .0 e in
           let L = eight (h .1) in
           let t = neither (namedTwice 4 (own .heads)) (heldOut (inGroup word g) own) (h .2) in
-          let P = store-accepted 4 own false (four-tests (long L) .1 (h .0 .0, t .0)) in
+          let P = store-accepted 4 own false (four-tests (own-long g st low L) .1 (h .0 .0, t .0)) in
           let counts = held-none (λ i. not (eqb (countAt (own .heads) i) 64)) .0 (h .0 .1) in
           let out = held-none (λ i. reachesOut (inGroup word g) (placeAt own i)) .0 (t .1) in
           let n64 : (i : ℕ) → i < 4 → isHeld (own .heads) i ≡ true → countAt (own .heads) i ≡ 64 =
@@ -182,7 +177,7 @@ module _ (word g : ℕ) (st : Store) where
       back : OwnStates word g st → firstFitting (ownLines (inGroup word g) g st) ≡ 0
       back O =
           let L : EightLong st = record { heads = O .heads; words = O .neighbours; codes = O .codes } in
-          let fit = long L in
+          let fit = own-long g st low L in
           let twice = once-names 4 (own .heads) (O .once) in
           own-tests .1 (
             (

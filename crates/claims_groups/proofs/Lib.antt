@@ -6,3 +6,4 @@ pub mod ContractSteps
 pub mod CallsStand
 pub mod GroupKeepsHold
 pub mod GroupsDemandHolds
+pub mod SentencesHold

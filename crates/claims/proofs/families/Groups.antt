@@ -5,12 +5,12 @@ use mathlib.Core.List.{List}
 use mathlib.Core.Logic.{Iff·trans, _↔_}
 use mathlib.Core.Path.{_≡_, _∙_, ap, ap₂, refl, subst, sym}
 use Prim.Native.Nat.{_<_, ℕ}
-use lib.ListN.{length, length-set}
+use lib.ListN.{length-set}
 use borrow.Author.Tests.{not-false}
 use Rattle.buffers.proofs.Tabulate.{tabulate-length}
 use Rattle.buffers.specs.Refusals.{firstFitting}
 use Rattle.call_group_stores.specs.GroupStoreCalls.{groupReturnCall, groupSaveCall}
-use Rattle.call_groups.specs.GroupCalls.{groupCall, groupLent}
+use Rattle.call_groups.specs.GroupCalls.{groupLent}
 use Rattle.contracts.specs.Calls.{EachOf}
 use Rattle.groups.proofs.GroupPassing.{group-passes}
 use Rattle.groups.proofs.OwnPlaces.{EightLong, placed-eight-long}
