@@ -1,1 +1,3 @@
 pub mod GroupExamples
+pub mod Merging
+pub mod OwnPlaces
