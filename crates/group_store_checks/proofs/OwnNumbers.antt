@@ -11,6 +11,7 @@ use borrow.Author.Tests.{eqb-true, ne-eqb}
 use Rattle.buffers.specs.Refusals.{Refusal, firstFitting, otherThan, withTest}
 use Rattle.contracts.proofs.Fitting.{first-is}
 use Rattle.contracts.specs.Answers.{here, later}
+use Rattle.groups.proofs.OwnPlaces.{EightLong}
 use Rattle.groups.specs.GroupStores.{heldOut, otherCount, ownLines, ownPlaces}
 use Rattle.groups.specs.Masks.{inGroup, reachesOut}
 use Rattle.stabilizer.proofs.SharedTests.{has-length, length-passes}
@@ -28,19 +29,14 @@ use Rattle.words.specs.Search.{some}
 use Rattle.group_store_checks.specs.internal.PlacesNumber.{placesNumber}
 
 -- ---- the lengths
-pub record Long (st : Store) : Type 0 where
-  pub heads-long : length (st .heads) ≡ 24
-  pub words-long : length (st .neighbours) ≡ 512
-  pub codes-long : length (st .codes) ≡ 512
-
-pub whole-long : (st : Store) → storeLengths 8 st ≡ false → Long st
+pub whole-long : (st : Store) → storeLengths 8 st ≡ false → EightLong st
 whole-long st e =
     let p = neither (otherThan 24 (st .heads)) _ e in
     let q = neither (otherThan 512 (st .neighbours)) (otherThan 512 (st .codes)) (p .1) in
     record {
-      heads-long = has-length 24 (st .heads) (p .0);
-      words-long = has-length 512 (st .neighbours) (q .0);
-      codes-long = has-length 512 (st .codes) (q .1);
+      heads = has-length 24 (st .heads) (p .0);
+      words = has-length 512 (st .neighbours) (q .0);
+      codes = has-length 512 (st .codes) (q .1);
     }
 
 -- a part of k numbers for each of two groups
@@ -107,9 +103,9 @@ module _ (s : Word) (g : ℕ) (st : Store) where
       pub own-none : 2 ≤ g → 0 ≡ firstFitting (ownLines s g st)
       own-none l = let L = whole-long st fit in
           sym (ap₂ (λ o b. firstFitting (linesOf s o b)) (λ j. record {
-            heads = empty 12 (st .heads) (omega (arith, l, L .heads-long)) j;
-            neighbours = empty 256 (st .neighbours) (omega (arith, l, L .words-long)) j;
-            codes = empty 256 (st .codes) (omega (arith, l, L .codes-long)) j;
+            heads = empty 12 (st .heads) (omega (arith, l, L .heads)) j;
+            neighbours = empty 256 (st .neighbours) (omega (arith, l, L .words)) j;
+            codes = empty 256 (st .codes) (omega (arith, l, L .codes)) j;
           }) fit ∙ none-held s)
         where
           empty : (k : ℕ) (buffer : List ℕ) → length buffer ≤ k * g → take k (drop (k * g) buffer) ≡ []
@@ -118,9 +114,9 @@ module _ (s : Word) (g : ℕ) (st : Store) where
       module _ (l : g < 2) where
         own-fit : storeLengths 4 own ≡ false
         own-fit = let L = whole-long st fit in
-            ap₂ _||_ (length-passes 12 (own .heads) (part-long 12 g (st .heads) (omega (arith, l, L .heads-long))))
-            (ap₂ _||_ (length-passes 256 (own .neighbours) (part-long 256 g (st .neighbours) (omega (arith, l, L .words-long))))
-            (length-passes 256 (own .codes) (part-long 256 g (st .codes) (omega (arith, l, L .codes-long)))))
+            ap₂ _||_ (length-passes 12 (own .heads) (part-long 12 g (st .heads) (omega (arith, l, L .heads))))
+            (ap₂ _||_ (length-passes 256 (own .neighbours) (part-long 256 g (st .neighbours) (omega (arith, l, L .words))))
+            (length-passes 256 (own .codes) (part-long 256 g (st .codes) (omega (arith, l, L .codes)))))
 
         -- the four places decide, then the neighbours outside s
         pub own-decided : firstFitting (ownLines s g st) ≡ placesNumber s own
@@ -166,7 +162,7 @@ module _ (g : ℕ) (st : Store) (fit : storeLengths 8 st ≡ false) (l : g ≤ 1
   pub parts-inside : (12 * g + 12 ≤ length (st .heads)) × (256 * g + 256 ≤ length (st .neighbours))
       × (256 * g + 256 ≤ length (st .codes))
   parts-inside = let L = whole-long st fit in
-      (omega (arith, l, L .heads-long), omega (arith, l, L .words-long), omega (arith, l, L .codes-long))
+      (omega (arith, l, L .heads), omega (arith, l, L .words), omega (arith, l, L .codes))
 
 module _ (g : ℕ) (st : Store) (few : otherCount (ownPlaces g st) ≡ false) (fit : storeLengths 8 st ≡ false) (l : g ≤ 1) where
   -- what is asked of the parts

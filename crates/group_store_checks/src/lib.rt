@@ -1,4 +1,6 @@
 // The lines of the refusals that speak of one group's places in a store of eight.
+use groups_masks::own_word;
+use groups_masks::reaches_out;
 use store_checks::store_refusal;
 use store_checks::wrong_lengths;
 use store_places::word_at;
@@ -9,14 +11,8 @@ ghost use lib.ListN.{length};
 ghost use Rattle.buffers.specs.Refusals.{firstFitting};
 ghost use Rattle.groups.specs.GroupStores.{heldOut, otherCount, ownLines, ownPlaces};
 ghost use Rattle.groups.specs.Masks.{inGroup};
-ghost use Rattle.words.specs.Bits.{bit, wordOf};
+ghost use Rattle.words.specs.Bits.{bit};
 ghost use Rattle.group_store_checks.specs.internal.PlacesNumber.{placesNumber};
-
-fn own_word(word: u64, group: u8) -> u64
-    ensures { λ r. ⌜ r ≡ wordOf 64 (inGroup word group) ⌝ }
-{
-    word
-}
 
 // Line 2: whether a state held in the group's places has another n than 64.
 fn other_count(group: u8, heads: &[u64]) -> bool
@@ -48,6 +44,15 @@ fn held_out(own: u64, heads: &[u64], neighbours: &[u64]) -> bool
       codes = [];
     }) ⌝ }
 {
+    let mut i = 0;
+    while i < 4 {
+        let at = 64 * i;
+        let end = at + 64;
+        if (word_at(heads, 3 * i) != 0) & reaches_out(own, &neighbours[at..end]) {
+            return true;
+        }
+        i += 1;
+    }
     false
 }
 
