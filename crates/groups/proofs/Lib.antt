@@ -1,1 +1,2 @@
 pub mod GroupExamples
+pub mod Merging
