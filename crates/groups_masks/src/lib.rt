@@ -85,6 +85,20 @@ pub fn merge(own: u64, words: &[u64], bytes: &[u8], neighbours: &mut [u64], code
     }
 }
 
+// The used qubits of the word `own`.
+pub fn mask_used(own: u64, used: u64) -> u64
+    ensures { λ r. ⌜ r ≡ wordOf 64 (λ q. bit own q && bit used q) ⌝ }
+{
+    own & used
+}
+
+// The used qubits `new` in the word `own`, and `used` outside it.
+pub fn merge_used(own: u64, new: u64, used: u64) -> u64
+    ensures { λ r. ⌜ r ≡ wordOf 64 (λ q. cond (bit own q) (bit new q) (bit used q)) ⌝ }
+{
+    (own & new) | (others(own) & used)
+}
+
 // Whether two words have a bit in common.
 fn meet(a: u64, b: u64) -> bool
     ensures { λ r. ⌜ r ≡ some 64 (λ k. bit a k && bit b k) ⌝ }

@@ -1,71 +1,44 @@
+-- `crosses` meets its contract: whether a record has an edge between the groups.
+use Prim.Native.Nat.{_-_}
+use native.Mathlib.Omega.{arith}
 use borrow.Author.Needs.{needs}
+use Rattle.record_checks.proofs.Squares.{SomeTo, some-to-none, some-to-one}
+use Rattle.groups_masks.proofs.Edges.{crossing-all, crossing-here, crossingAt}
 use Rattle.groups_masks.proofs.crosses.Statement.{statement}
 use Rattle.groups_masks.proofs.crosses.Tie as tie
-use Rattle.groups_masks.proofs.crosses.Reads as reads
-use Rattle.groups_masks.proofs.crosses.Lts as lts
-use Rattle.groups_masks.proofs.meet.Reads as meet-reads
-use Rattle.groups_masks.proofs.others.Reads as others-reads
-use Rattle.groups_masks.proofs.pick_word.Reads as pick-word-reads
 
 abbrev Inv-loop : tie.InvT-loop
-Inv-loop word neighbours other found₀ j₀ found j = ?
+Inv-loop word neighbours other found₀ j₀ found j = SomeTo j 64 (crossingAt word neighbours) found
 
 abbrev μ-loop : tie.MeasureT-loop
-μ-loop word neighbours other found₀ j₀ found j = ?
+μ-loop word neighbours other found₀ j₀ found j = 64 - j
 
--- src/lib.rt:103:9
-others-requires : tie.Need-others-requires Inv-loop μ-loop
-others-requires c κs = search needs
-
--- src/lib.rt:106:5
 loop-holds : tie.Need-loop-holds Inv-loop μ-loop
-loop-holds c = ?
+loop-holds c = some-to-none 64 _
 
--- src/lib.rt:107:30
-mul-meet : tie.Need-mul-meet Inv-loop μ-loop
-mul-meet c = search needs
-
--- src/lib.rt:107:30
 shared-slice-read-meet : tie.Need-shared-slice-read-meet Inv-loop μ-loop
-shared-slice-read-meet c = search needs
+shared-slice-read-meet c =
+    let inside = c .before in
+    let start = inside .before .before .before .before in
+    omega (arith, inside .loop-test .taken, start .pre)
 
--- src/lib.rt:107:45
-pick-word-requires : tie.Need-pick-word-requires Inv-loop μ-loop
-pick-word-requires c κs = search needs
-
--- src/lib.rt:107:25
-meet-requires : tie.Need-meet-requires Inv-loop μ-loop
-meet-requires c κs = search needs
-
--- src/lib.rt:108:9
-add-j : tie.Need-add-j Inv-loop μ-loop
-add-j c = search needs
-
--- src/lib.rt:106:5
-loop-less : tie.Need-loop-less Inv-loop μ-loop
-loop-less c = search needs
-
--- src/lib.rt:106:5
 loop-again : tie.Need-loop-again Inv-loop μ-loop
-loop-again c = ?
+loop-again c =
+    let P = c .before in
+    let inside = P .before .before in
+    let l = inside .before .loop in
+    let O = inside .before .before in
+    let a = O .before .before .args in
+    some-to-one (l .j) 64 _ (l .found) _ (inside .loop-test .taken)
+    (crossing-here (a .word) (a .neighbours .now) (l .j) (O .others .ensures) (P .pick-word .ensures) (c .meet .ensures))
+    (l .inv)
 
--- src/lib.rt:96:1
 returns : tie.Need-returns Inv-loop μ-loop
-returns c = ?
+returns c =
+    let a = c .before .before .before .before .args in
+    crossing-all (a .word) (a .neighbours .now) (c .before .loop .inv) (c .loop-test .left)
 
 pub crosses-spec : {M : Type 1} → statement M
 crosses-spec =
     tie.close
-    (tie.spec
-    Inv-loop
-    μ-loop
-    others-requires
-    loop-holds
-    mul-meet
-    shared-slice-read-meet
-    pick-word-requires
-    meet-requires
-    add-j
-    loop-less
-    loop-again
-    returns)
+    (tie.spec Inv-loop μ-loop (λ c κs. search needs) loop-holds (λ c. search needs) shared-slice-read-meet (λ c κs. search needs) (λ c κs. search needs) (λ c. search needs) (λ c. search needs) loop-again returns)
