@@ -26,6 +26,7 @@ use Rattle.words.proofs.Flags.{neither}
 use Rattle.words.proofs.SearchLaws.{some-false, some-none}
 use Rattle.words.specs.Bits.{Word, bit, wordOf}
 use Rattle.words.specs.Search.{some}
+use Rattle.group_store_checks.proofs.HeldStates.{out-own}
 use Rattle.group_store_checks.specs.internal.PlacesNumber.{placesNumber}
 
 -- ---- the lengths
@@ -185,5 +186,5 @@ module _ (word g : ℕ) (st : Store) (few : otherCount (ownPlaces g st) ≡ fals
   own-answer own eo r e =
       e ∙ ap (placesNumber (bit own)) (sym (own-cut g st))
       ∙ ap (λ b. cond (eqb (firstFitting (storeLines 4 (ownPlaces g st) false)) 0) (cond b 7 0)
-      (firstFitting (storeLines 4 (ownPlaces g st) false))) ?
+      (firstFitting (storeLines 4 (ownPlaces g st) false))) (out-own (ownPlaces g st) few own (inGroup word g) eo)
       ∙ sym (own-decided (inGroup word g) g st few fit (omega (arith, l)))
