@@ -20,3 +20,4 @@ pub mod SameGroupsRewritten
 pub mod SameGroupsLent
 pub mod SameGroupsMade
 pub mod SameGroups
+pub mod AloneNumbers
