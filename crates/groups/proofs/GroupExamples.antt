@@ -1,18 +1,24 @@
--- The request's cases on 64 qubits: the numbers of a group's calls, and what two complementations and a gate leave.
-use mathlib.Core.Bool.{false}
-use mathlib.Core.List.{List, [], _∷_}
+-- The request's cases: the numbers of a group's calls on 64 qubits; and on two qubits, one a group, what two
+-- complementations and a gate leave.
+use mathlib.Core.List.{_++_, List, [], _∷_}
 use mathlib.Core.Path.{_≡_, refl}
 use Prim.Native.Nat.{_^_, _-_, ℕ}
-use lib.ListN.{getD, replicate, set}
+use lib.ListN.{replicate, set}
 use Rattle.buffers.specs.Buffers.{tabulate}
 use Rattle.buffers.specs.Refusals.{firstFitting, reaching}
+use Rattle.clifford.specs.Clifford.{inverse}
+use Rattle.clifford.specs.Vectors.{act}
 use Rattle.operations.specs.Steps.{Operation, complementOf, czOn, gateWith}
+use Rattle.pauli.specs.Pauli.{anticommute, mul, power}
+use Rattle.record.specs.Columns.{isColumnDependent}
 use Rattle.record.specs.Lent.{notSimple}
+use Rattle.record.specs.Reduced.{graphOf, minusesOf, reducedRow, ysOf}
+use Rattle.stabilizer.specs.Lists.{clashing, dependent}
 use Rattle.store.specs.Places.{Store}
 use Rattle.used.specs.Used.{UsedRecord, usedWrong}
-use Rattle.words.specs.Bits.{bit, wordOf}
+use Rattle.words.specs.Bits.{bit, fold, put, wordOf}
 use Rattle.words.specs.Search.{every, first, some}
-use Rattle.groups.specs.GroupLines.{groupLines}
+use Rattle.groups.specs.GroupLines.{groupAfter, groupLines}
 use Rattle.groups.specs.GroupStores.{groupNamedLines, groupSaveLines}
 use Rattle.groups.specs.Masks.{crosses, reachesOut}
 
@@ -54,3 +60,20 @@ pub group-numbers :
     given ≡ 19 ∷ 8 ∷ 6 ∷ 19 ∷ 8 ∷ 19 ∷ 19 ∷ 6 ∷ 0 ∷ 0 ∷ 19 ∷ 6 ∷ 19 ∷ 19 ∷ 17 ∷ 0 ∷ []
 unfolding bit some every first firstFitting reaching notSimple usedWrong crosses reachesOut
 group-numbers = refl
+
+-- ---- qubit 0 is of group 0, qubit 1 of group 1
+abbrev two : UsedRecord
+two = record { held = record { n = 2; neighbours = replicate 2 0; codes = replicate 2 8 }; used = 0 }
+
+abbrev first-complement : UsedRecord
+first-complement = groupAfter 2 0 two (complementOf 0)
+
+abbrev second-complement : UsedRecord
+second-complement = groupAfter 2 1 first-complement (complementOf 1)
+
+-- a complementation reduces nothing, a gate the vertices of its group alone
+pub group-leaves :
+    second-complement .held .codes ++ (groupAfter 2 1 second-complement (gateWith 1 0)) .held .codes ≡ 20 ∷ 20 ∷ 20 ∷ 8 ∷ []
+unfolding fold put bit wordOf some every first power mul anticommute inverse act tabulate firstFitting
+    reaching clashing dependent notSimple isColumnDependent reducedRow graphOf ysOf minusesOf usedWrong
+group-leaves = refl

@@ -61,18 +61,6 @@ module _ (s : Word) (a u : UsedRecord) (q : ℕ) (l : q < u .held .n) where
   pub merged-used : (b : Bool) → s q ≡ b → bit ((merged s a u) .used) q ≡ cond b (bit (a .used) q) (bit (u .used) q)
   merged-used b e = bit-wordOf (u .held .n) _ q l ∙ ap (λ t. cond t (bit (a .used) q) (bit (u .used) q)) e
 
--- ---- a vertex of a record with those outside s away
-module _ (s : Word) (u : UsedRecord) (q : ℕ) (l : q < u .held .n) where
-  pub masked-word : (b : Bool) → s q ≡ b → getD ((masked s u) .held .neighbours) q 0
-      ≡ cond b (getD (u .held .neighbours) q 0) 0
-  masked-word b e = tabulate-at (u .held .n) _ q l ∙ ap (λ t. cond t (getD (u .held .neighbours) q 0) 0) e
-
-  pub masked-code : (b : Bool) → s q ≡ b → getD ((masked s u) .held .codes) q 0 ≡ cond b (getD (u .held .codes) q 0) 8
-  masked-code b e = tabulate-at (u .held .n) _ q l ∙ ap (λ t. cond t (getD (u .held .codes) q 0) 8) e
-
-  pub masked-used : (b : Bool) → s q ≡ b → bit ((masked s u) .used) q ≡ (b && bit (u .used) q)
-  masked-used b e = bit-wordOf (u .held .n) _ q l ∙ ap (λ t. t && bit (u .used) q) e
-
 -- ---- the group itself
 pub masked-merged-own : (s : Word) (a u : UsedRecord) → a .held .n ≡ u .held .n → masked s (merged s a u) ≡ masked s a
 masked-merged-own s a u e = masked-same s (merged s a u) a (record {
@@ -96,7 +84,7 @@ masked-merged-other s t apart a u = masked-same t (merged s a u) u (record {
 pub masked-masked : (s : Word) (u : UsedRecord) → masked s (masked s u) ≡ masked s u
 masked-masked s u = masked-same s (masked s u) u (record {
   count = refl;
-  word = λ q l h. masked-word s u q l true h;
-  code = λ q l h. masked-code s u q l true h;
-  used = λ q l h. masked-used s u q l true h;
+  word = λ q l h. tabulate-at (u .held .n) _ q l ∙ ap (λ b. cond b (getD (u .held .neighbours) q 0) 0) h;
+  code = λ q l h. tabulate-at (u .held .n) _ q l ∙ ap (λ b. cond b (getD (u .held .codes) q 0) 8) h;
+  used = λ q l h. bit-wordOf (u .held .n) _ q l ∙ ap (λ b. b && bit (u .used) q) h;
 })

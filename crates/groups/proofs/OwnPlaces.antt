@@ -36,7 +36,7 @@ module _ (a m : ℕ) (front back : List ℕ) (l : a + m ≤ length front) where
       ap (take m) (drop-append-le a front back (omega (arith, l)))
       ∙ take-append-le m (drop a front) back (simp length-drop (omega (arith, l)))
 
-part-long : (a m : ℕ) (buffer : List ℕ) → a + m ≤ length buffer → length (take m (drop a buffer)) ≡ m
+pub part-long : (a m : ℕ) (buffer : List ℕ) → a + m ≤ length buffer → length (take m (drop a buffer)) ≡ m
 part-long a m buffer l = length-take-le m (drop a buffer) (simp length-drop (omega (arith, l)))
 
 -- ---- one word of the heads

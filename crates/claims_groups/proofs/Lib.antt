@@ -1,0 +1,4 @@
+pub mod Views
+pub mod OwnCalls
+pub mod OtherCalls
+pub mod GroupsDemandHolds
