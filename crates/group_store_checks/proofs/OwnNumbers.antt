@@ -11,7 +11,8 @@ use borrow.Author.Tests.{eqb-true, ne-eqb}
 use Rattle.buffers.specs.Refusals.{Refusal, firstFitting, otherThan, withTest}
 use Rattle.contracts.proofs.Fitting.{first-is}
 use Rattle.contracts.specs.Answers.{here, later}
-use Rattle.groups.proofs.OwnPlaces.{EightLong}
+use Rattle.groups.proofs.OwnPlaces.{EightLong, part-long}
+use Rattle.groups.proofs.SharedLines.{own-long}
 use Rattle.groups.specs.GroupStores.{heldOut, otherCount, ownLines, ownPlaces}
 use Rattle.groups.specs.Masks.{inGroup, reachesOut}
 use Rattle.stabilizer.proofs.SharedTests.{has-length, length-passes}
@@ -39,10 +40,6 @@ whole-long st e =
       words = has-length 512 (st .neighbours) (q .0);
       codes = has-length 512 (st .codes) (q .1);
     }
-
--- a part of k numbers for each of two groups
-pub part-long : (k g : ℕ) (buffer : List ℕ) → k * g + k ≤ length buffer → length (take k (drop (k * g) buffer)) ≡ k
-part-long k g buffer l = length-take-le k (drop (k * g) buffer) (simp length-drop (omega (arith, l)))
 
 -- ---- the words of a group's heads
 pub own-word-at : (g : ℕ) (heads : List ℕ) (j : ℕ) → j < 12
@@ -113,12 +110,6 @@ module _ (s : Word) (g : ℕ) (st : Store) where
           empty k buffer h = ap (take k) (drop-of-length-le buffer h) ∙ take-nil k
 
       module _ (l : g < 2) where
-        own-fit : storeLengths 4 own ≡ false
-        own-fit = let L = whole-long st fit in
-            ap₂ _||_ (length-passes 12 (own .heads) (part-long 12 g (st .heads) (omega (arith, l, L .heads))))
-            (ap₂ _||_ (length-passes 256 (own .neighbours) (part-long 256 g (st .neighbours) (omega (arith, l, L .words))))
-            (length-passes 256 (own .codes) (part-long 256 g (st .codes) (omega (arith, l, L .codes)))))
-
         -- the four places decide, then the neighbours outside s
         pub own-decided : firstFitting (ownLines s g st) ≡ placesNumber s own
         own-decided =
@@ -126,7 +117,7 @@ module _ (s : Word) (g : ℕ) (st : Store) where
             (withTest 4 a (withTest 2 b (recordTests (ofHeld 4 own)))))) fit few
             ∙ last-joined (ofHeld 4 own 2) (ofHeld 4 own 4) (ofHeld 4 own 5) (ofHeld 4 own 6) (ofHeld 4 own 7)
             (namedTwice 4 (own .heads)) (heldOut s own)
-            ∙ sym (ap (λ b. cond (eqb (number b) 0) (cond (heldOut s own) 7 0) (number b)) (ap (λ b. b || false) own-fit))
+            ∙ sym (ap (λ b. cond (eqb (number b) 0) (cond (heldOut s own) 7 0) (number b)) (ap (λ b. b || false) (own-long g st l (whole-long st fit))))
           where
             number : Bool → ℕ
             number b = firstFitting (withTest 7 (namedTwice 4 (own .heads)) (withTest 4 b (recordTests (ofHeld 4 own))))
@@ -174,7 +165,7 @@ module _ (g : ℕ) (st : Store) (few : otherCount (ownPlaces g st) ≡ false) (f
   }) ≡ false) × (length (take (256 * g + 256 - 256 * g) (drop (256 * g) (st .neighbours))) ≡ 256)
   places-fit = (
     ap otherCount (sym (own-cut g st)) ∙ few,
-    ap length (from-place (256 * g) 256 (st .neighbours)) ∙ part-long 256 g (st .neighbours) (parts-inside g st fit l .1),
+    ap length (from-place (256 * g) 256 (st .neighbours)) ∙ part-long (256 * g) 256 (st .neighbours) (parts-inside g st fit l .1),
   )
 
 module _ (word g : ℕ) (st : Store) (few : otherCount (ownPlaces g st) ≡ false) (fit : storeLengths 8 st ≡ false) (l : g ≤ 1) where

@@ -81,14 +81,16 @@ pub record OwnFits (word g : ℕ) (st : Store) : Type 0 where
   pub counts : otherCount (ownPlaces g st) ≡ false
   pub inside : heldOut (inGroup word g) (ownPlaces g st) ≡ false
 
+-- the buffers of a group's places have their lengths
+pub own-long : (g : ℕ) (st : Store) → g < 2 → EightLong st → storeLengths 4 (ownPlaces g st) ≡ false
+own-long g st lg L = let own = ownPlaces g st in
+    ap₂ _||_ (length-passes 12 (own .heads) (part-long (12 * g) 12 (st .heads) (omega (arith, lg, L .heads))))
+    (ap₂ _||_ (length-passes 256 (own .neighbours) (part-long (256 * g) 256 (st .neighbours) (omega (arith, lg, L .words))))
+    (length-passes 256 (own .codes) (part-long (256 * g) 256 (st .codes) (omega (arith, lg, L .codes)))))
+
 module _ (word g : ℕ) (u : UsedRecord) (st : Store) (lg : g < 2) (L : EightLong st) where
   abbrev own : Store
   own = ownPlaces g st
-
-  own-long : storeLengths 4 own ≡ false
-  own-long = ap₂ _||_ (length-passes 12 (own .heads) (part-long (12 * g) 12 (st .heads) (omega (arith, lg, L .heads))))
-      (ap₂ _||_ (length-passes 256 (own .neighbours) (part-long (256 * g) 256 (st .neighbours) (omega (arith, lg, L .words))))
-      (length-passes 256 (own .codes) (part-long (256 * g) 256 (st .codes) (omega (arith, lg, L .codes)))))
 
   module _ (h : NoneHolds (sharedLines word g u st)) where
     -- a line of the group's own places
@@ -134,7 +136,7 @@ module _ (word g : ℕ) (u : UsedRecord) (st : Store) (lg : g < 2) (L : EightLon
             ap (λ b. (b || false) || false) (neither (ofHeld 4 own 2) (otherCount own) two .0),
             (
               ap₂ (λ a b. (a || (b || false)) || false) {x = ofHeld 4 own 4} (neither (ofHeld 4 own 4) false
-                  (neither (ofHeld 4 own 4 || false) (storeLengths 8 st) four .0) .0) own-long,
+                  (neither (ofHeld 4 own 4 || false) (storeLengths 8 st) four .0) .0) (own-long g st lg L),
               (
                 five,
                 (
