@@ -9,7 +9,7 @@ use lib.ListN.{drop, drop-of-length-le, getD, length, length-drop, take}
 use lib.Seq.{getD-drop, getD-take, length-take-le, take-nil}
 use borrow.Author.Tests.{eqb-true, ne-eqb}
 use Rattle.buffers.specs.Refusals.{Refusal, firstFitting, otherThan, withTest}
-use Rattle.contracts.proofs.Fitting.{first-is}
+use Rattle.contracts.proofs.Fitting.{first-is, none-holds}
 use Rattle.contracts.specs.Answers.{here, later}
 use Rattle.groups.proofs.OwnPlaces.{EightLong, part-long}
 use Rattle.groups.proofs.SharedLines.{own-long}
@@ -179,3 +179,14 @@ module _ (word g : ℕ) (st : Store) (few : otherCount (ownPlaces g st) ≡ fals
       ∙ ap (λ b. cond (eqb (firstFitting (storeLines 4 (ownPlaces g st) false)) 0) (cond b 7 0)
       (firstFitting (storeLines 4 (ownPlaces g st) false))) (out-own (ownPlaces g st) few own (inGroup word g) eo)
       ∙ sym (own-decided (inGroup word g) g st few fit (omega (arith, l)))
+
+-- ---- where none of the lines holds
+pub own-passes : (s : Word) (g : ℕ) (st : Store) → firstFitting (ownLines s g st) ≡ 0
+    → EightLong st × (otherCount (ownPlaces g st) ≡ false)
+own-passes s g st z =
+    let h = none-holds (ownLines s g st) refl z in
+    let two = neither ((ofHeld 4 (ownPlaces g st) 2 || otherCount (ownPlaces g st)) || false) false (h .0) .0 in
+    let four = neither ((ofHeld 4 (ownPlaces g st) 4 || false) || storeLengths 8 st) false (h .1 .0) .0 in (
+      whole-long st (neither (ofHeld 4 (ownPlaces g st) 4 || false) (storeLengths 8 st) four .1),
+      neither (ofHeld 4 (ownPlaces g st) 2) (otherCount (ownPlaces g st)) (neither _ false two .0) .1,
+    )

@@ -1,51 +1,23 @@
+-- `own_place_for` meets its contract: the place, of the group's four, that a save takes.
+use mathlib.Core.Path.{_∙_, ap}
+use Prim.Native.Nat.{_*_}
+use native.Mathlib.Omega.{arith}
 use borrow.Author.Needs.{needs}
+use Rattle.store.specs.Kept.{savePlace}
+use Rattle.store_copies.proofs.Parts.{from-place}
 use Rattle.call_group_stores.proofs.own_place_for.Statement.{statement}
 use Rattle.call_group_stores.proofs.own_place_for.Tie as tie
-use Rattle.call_group_stores.proofs.own_place_for.Reads as reads
-use Rattle.call_group_stores.proofs.own_place_for.Lts as lts
-use Rattle.store_places.proofs.place_for.Reads as place-for-reads
 
--- src/lib.rt:181:14
-mul-at : tie.Need-mul-at
-mul-at c = search needs
-
--- src/lib.rt:182:29
-add-place-for : tie.Need-add-place-for
-add-place-for c = search needs
-
--- src/lib.rt:182:18
-mul-place-for : tie.Need-mul-place-for
-mul-place-for c = search needs
-
--- src/lib.rt:182:18
-sub-place-for : tie.Need-sub-place-for
-sub-place-for c = search needs
-
--- src/lib.rt:182:18
-part-place-for-start : tie.Need-part-place-for-start
-part-place-for-start c = search needs
-
--- src/lib.rt:182:18
 part-place-for-end : tie.Need-part-place-for-end
-part-place-for-end c = search needs
+part-place-for-end c = omega (arith, c .before .pre .0, c .before .pre .1)
 
--- src/lib.rt:182:5
-place-for-requires : tie.Need-place-for-requires
-place-for-requires c κs = search needs
-
--- src/lib.rt:177:1
 returns : tie.Need-returns
-returns c = ?
+returns c =
+    let a = c .before .before .before .args in
+    c .place-for .ensures ∙ ap (λ h. savePlace 4 h (a .name)) (from-place (12 * a .group) 12 (a .heads .now))
 
 pub own-place-for-spec : {M : Type 1} → statement M
 own-place-for-spec =
     tie.close
-    (tie.spec
-    mul-at
-    add-place-for
-    mul-place-for
-    sub-place-for
-    part-place-for-start
-    part-place-for-end
-    place-for-requires
-    returns)
+    (tie.spec (λ c. search needs) (λ c. search needs) (λ c. search needs) (λ c. search needs) (λ c. search needs)
+    part-place-for-end (λ c κs. search needs) returns)
