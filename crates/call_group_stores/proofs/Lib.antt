@@ -1,2 +1,3 @@
 pub mod Sharing
 pub mod Moving
+pub mod Answering
