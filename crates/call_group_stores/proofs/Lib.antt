@@ -1,0 +1,3 @@
+pub mod Sharing
+pub mod Moving
+pub mod Answering
