@@ -32,7 +32,7 @@ use Rattle.store.specs.Kept.{savePlace}
 use Rattle.store.specs.Places.{placeAt, placeOf}
 use Rattle.used.specs.Used.{usedLines, usedStep}
 use Rattle.claims_groups.proofs.OwnCalls.{held-place}
-use Rattle.claims_groups.proofs.Views.{Alike, Good, not-in-both}
+use Rattle.claims_groups.proofs.Views.{Good, not-in-both}
 use Rattle.claims_groups.specs.GroupRuns.{
   GroupCall,
   SharedState,
@@ -46,6 +46,7 @@ use Rattle.claims_groups.specs.GroupRuns.{
   sharedLeft,
   sharedNumber,
 }
+use Rattle.claims_groups.specs.GroupsDemand.{LooksAlike}
 
 -- ---- an accepted call is of group 0 or 1
 module _ (word g : ℕ) (s : SharedState) where
@@ -75,7 +76,7 @@ module _ (word g h : ℕ) (lg : g < 2) (lh : h < 2) (ne : h ≡ g → ⊥) (s : 
   other : g ≡ h → ⊥
   other e = ne (sym e)
 
-  operation-other : (o : Operation) → Alike word g (record { current = groupAfter word h (s .current) o; store = s .store }) s
+  operation-other : (o : Operation) → LooksAlike word g (record { current = groupAfter word h (s .current) o; store = s .store }) s
   operation-other o =
       record {
         vertices = masked-merged-other (inGroup word h) (inGroup word g) apart
@@ -83,7 +84,7 @@ module _ (word g h : ℕ) (lg : g < 2) (lh : h < 2) (ne : h ≡ g → ⊥) (s : 
         places = refl;
       }
 
-  pub other-left : (c : GroupCall) → sharedNumber word h s c ≡ 0 → Alike word g (sharedLeft word h s c) s
+  pub other-left : (c : GroupCall) → sharedNumber word h s c ≡ 0 → LooksAlike word g (sharedLeft word h s c) s
   other-left (groupGate q k) z = operation-other (gateWith q k)
   other-left (groupCz a b) z = operation-other (czOn a b)
   other-left (groupMeasure pauli q b) z = operation-other (measurementOf pauli q b)

@@ -24,7 +24,7 @@ use Rattle.operations.specs.Steps.{Operation, complementOf, czOn, gateWith, lea
 use Rattle.store.specs.Kept.{savePlace, withPlace}
 use Rattle.store.specs.Places.{Store, holdsName, othersHeld, placeAt, placeOf}
 use Rattle.used.specs.Used.{UsedRecord, usedAfter, usedLinesOf, usedStep}
-use Rattle.claims_groups.proofs.Views.{Alike, Good}
+use Rattle.claims_groups.proofs.Views.{Good}
 use Rattle.claims_groups.specs.GroupRuns.{
   GroupCall,
   SharedState,
@@ -39,6 +39,7 @@ use Rattle.claims_groups.specs.GroupRuns.{
   sharedLeft,
   sharedNumber,
 }
+use Rattle.claims_groups.specs.GroupsDemand.{LooksAlike}
 
 -- the state that a return finds
 pub held-place : (word g : ℕ) → g < 2 → (u : UsedRecord) (name : ℕ) (st : Store) → EightLong st →
@@ -81,7 +82,7 @@ saved-left word g lg u name st H L z =
     placed-own-places g (savePlace 4 ((ownPlaces g st) .heads) name) (masked (inGroup word g) u) name st lg
     (save-place word g u name st z) (tabulate-length (u .held .n) _ ∙ H .count) (tabulate-length (u .held .n) _ ∙ H .count) L
 
-module _ (word g : ℕ) (lg : g < 2) (s t : SharedState) (S : Good word s) (T : Good word t) (A : Alike word g s t) where
+module _ (word g : ℕ) (lg : g < 2) (s t : SharedState) (S : Good word s) (T : Good word t) (A : LooksAlike word g s t) where
   low : ltb 1 g ≡ false
   low = le-ltb 1 g (omega (arith, lg))
 
@@ -109,7 +110,7 @@ module _ (word g : ℕ) (lg : g < 2) (s t : SharedState) (S : Good word s) (T : 
       ++ (line 17 (not (holdsName 4 ((A .places j) .heads) name)) ∷ []))
 
   -- ---- what is left
-  operation-alike : (o : Operation) → Alike word g
+  operation-alike : (o : Operation) → LooksAlike word g
       (record { current = groupAfter word g (s .current) o; store = s .store })
       (record { current = groupAfter word g (t .current) o; store = t .store })
   operation-alike o =
@@ -120,7 +121,7 @@ module _ (word g : ℕ) (lg : g < 2) (s t : SharedState) (S : Good word s) (T : 
         places = A .places;
       }
 
-  pub own-left : (c : GroupCall) → sharedNumber word g s c ≡ 0 → Alike word g (sharedLeft word g s c) (sharedLeft word g t c)
+  pub own-left : (c : GroupCall) → sharedNumber word g s c ≡ 0 → LooksAlike word g (sharedLeft word g s c) (sharedLeft word g t c)
   own-left (groupGate q k) z = operation-alike (gateWith q k)
   own-left (groupCz a b) z = operation-alike (czOn a b)
   own-left (groupMeasure pauli q b) z = operation-alike (measurementOf pauli q b)

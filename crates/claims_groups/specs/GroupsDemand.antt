@@ -1,5 +1,5 @@
 -- The request on two groups (02, §13), of runs of their calls.
-use mathlib.Core.Bool.{cond, true}
+use mathlib.Core.Bool.{cond, false, true}
 use mathlib.Core.List.{List, [], _∷_}
 use mathlib.Core.Path.{_≡_}
 use Prim.Native.Nat.{_<_, ℕ}
@@ -8,12 +8,14 @@ use Rattle.buffers.specs.Refusals.{Refusal, firstFitting}
 use Rattle.call_gates.specs.InPlaceCalls.{usedCall, usedMeasureCall}
 use Rattle.call_groups.specs.GroupCalls.{groupCall, groupMeasureCall}
 use Rattle.contracts.specs.Calls.{Call}
-use Rattle.groups.specs.Masks.{crosses}
+use Rattle.groups.specs.GroupStores.{ownPlaces}
+use Rattle.groups.specs.Masks.{crosses, inGroup, masked}
 use Rattle.jobs.specs.Standing.{left}
 use Rattle.operations.specs.Steps.{complementOf, czOn, gateWith}
 use Rattle.record.specs.Lent.{heldRows}
 use Rattle.stabilizer.specs.Groups.{SameGroup}
-use Rattle.used.specs.Used.{UsedRecord}
+use Rattle.store.specs.StoreLines.{storeLengths}
+use Rattle.used.specs.Used.{UsedRecord, usedLines}
 use Rattle.claims_groups.specs.GroupRuns.{
   CallOf,
   GroupCall,
@@ -33,6 +35,32 @@ abbrev pub NonInterference : Type 0
 NonInterference = (word g : ℕ) → g < 2 → (cs ds : List CallOf) → only g cs ≡ only g ds →
     observations word g sharedStart cs ≡ observations word g sharedStart ds
 
+-- ---- from any state, and whatever the other group has
+-- a record of 64 qubits that no line refuses, with no edge between the groups, and a store of eight places
+pub record GroupsApart (word : ℕ) (s : SharedState) : Type 0 where
+  pub count : s .current .held .n ≡ 64
+  pub passes : firstFitting (usedLines (s .current) false false false) ≡ 0
+  pub no-crossing : crosses word (s .current) ≡ false
+  pub lengths : storeLengths 8 (s .store) ≡ false
+
+-- the start is such a state, and every call leaves one
+pub record GroupsStayApart : Type 0 where
+  pub start : (word : ℕ) → GroupsApart word sharedStart
+  pub after : (word g : ℕ) (s : SharedState) → GroupsApart word s → (c : GroupCall) →
+      GroupsApart word (sharedAfter word g s c)
+
+-- to a group two states look alike: its vertices and its four places are the same
+pub record LooksAlike (word g : ℕ) (s t : SharedState) : Type 0 where
+  pub vertices : masked (inGroup word g) (s .current) ≡ masked (inGroup word g) (t .current)
+  pub places : ownPlaces g (s .store) ≡ ownPlaces g (t .store)
+
+-- what a group sees comes from its own part and its own calls alone
+abbrev pub NonInterferenceFrom : Type 0
+NonInterferenceFrom = (word g : ℕ) → g < 2 → (s t : SharedState) → GroupsApart word s → GroupsApart word t →
+    LooksAlike word g s t → (cs ds : List CallOf) → only g cs ≡ only g ds →
+    observations word g s cs ≡ observations word g t ds
+
+-- ---- refusals
 -- the lines before the one with number k
 abbrev pub linesBefore : ℕ → List Refusal → List Refusal
 linesBefore k [] = []
