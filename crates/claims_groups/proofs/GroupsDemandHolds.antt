@@ -1,5 +1,5 @@
--- What a group sees of a run is what it sees of its own calls alone: so two runs with the same calls of the group look the
--- same to it.
+-- What a group sees of a run is what it sees of its own calls alone: so two runs with the same calls of the group
+-- look the same to it.
 use mathlib.Core.Bool.{Bool, cond, false, true, true≢false}
 use mathlib.Core.List.{List, [], _∷_}
 use mathlib.Core.Path.{ap, ap₂, refl, subst, sym, _∙_, _≡_}
@@ -30,7 +30,13 @@ use Rattle.claims_groups.specs.GroupRuns.{
   sharedNumber,
   sharedStart,
 }
-use Rattle.claims_groups.specs.GroupsDemand.{GroupsApart, GroupsStayApart, LooksAlike, NonInterference, NonInterferenceFrom}
+use Rattle.claims_groups.specs.GroupsDemand.{
+  GroupsApart,
+  GroupsStayApart,
+  LooksAlike,
+  NonInterference,
+  NonInterferenceFrom,
+}
 
 -- ---- one call
 -- accepted, or nothing changed
@@ -43,7 +49,8 @@ after-cases word g s c P left kept = go (eqb (sharedNumber word g s c) 0) (eqb-t
     go false z = kept
 
 after-good : (word g : ℕ) (s : SharedState) → Good word s → (c : GroupCall) → Good word (sharedAfter word g s c)
-after-good word g s S c = after-cases word g s c (Good word) (λ z. left-good word g (accepted-group word g s c z) s S c z) S
+after-good word g s S c = after-cases word g s c (Good word)
+    (λ z. left-good word g (accepted-group word g s c z) s S c z) S
 
 after-other : (word g h : ℕ) → g < 2 → (h ≡ g → ⊥) → (s : SharedState) → Good word s → (c : GroupCall) →
     LooksAlike word g (sharedAfter word h s c) s
@@ -51,7 +58,8 @@ after-other word g h lg ne s S c = after-cases word h s c (λ r. LooksAlike word
     (λ z. other-left word g h lg (accepted-group word h s c z) ne s S c z) (alike-refl word g s)
 
 -- ---- a group's own call on two states that look alike
-module _ (word g : ℕ) (lg : g < 2) (s t : SharedState) (S : Good word s) (T : Good word t) (A : LooksAlike word g s t) (c : GroupCall) where
+module _ (word g : ℕ) (lg : g < 2) (s t : SharedState) (S : Good word s) (T : Good word t) (A : LooksAlike word g s t)
+    (c : GroupCall) where
   abbrev r : ℕ
   r = sharedNumber word g s c
 
@@ -63,7 +71,8 @@ module _ (word g : ℕ) (lg : g < 2) (s t : SharedState) (S : Good word s) (T : 
   own-after = subst (λ m. LooksAlike word g (sharedAfter word g s c) (cond (eqb m 0) (sharedLeft word g t c) t)) same
       (go (eqb r 0) (eqb-true r 0))
     where
-      go : (b : Bool) → (b ≡ true → r ≡ 0) → LooksAlike word g (cond b (sharedLeft word g s c) s) (cond b (sharedLeft word g t c) t)
+      go : (b : Bool) → (b ≡ true → r ≡ 0) → LooksAlike word g (cond b (sharedLeft word g s c) s)
+          (cond b (sharedLeft word g t c) t)
       go true z = own-left word g lg s t S T A c (z refl)
       go false z = A
 
@@ -89,7 +98,8 @@ alone g [] = []
 alone g (c ∷ cs) = record { group = g; call = c } ∷ alone g cs
 
 -- one call of a run, with what holds of the rest
-module _ (word g : ℕ) (lg : g < 2) (s t : SharedState) (S : Good word s) (T : Good word t) (A : LooksAlike word g s t) (c : CallOf)
+module _ (word g : ℕ) (lg : g < 2) (s t : SharedState) (S : Good word s) (T : Good word t) (A : LooksAlike word g s t)
+    (c : CallOf)
     (cs : List CallOf) (rest : (s t : SharedState) → Good word s → Good word t → LooksAlike word g s t →
     observations word g s cs ≡ observations word g t (alone g (only g cs))) where
   one-more : (b : Bool) → eqb (c .group) g ≡ b →
@@ -108,7 +118,8 @@ module _ (word g : ℕ) (lg : g < 2) (s t : SharedState) (S : Good word s) (T : 
       rest (sharedAfter word (c .group) s (c .call)) t (after-good word (c .group) s S (c .call)) T
       (alike-trans (after-other word g (c .group) lg (eqb-false (c .group) g e) s S (c .call)) A)
 
-run-alone : (word g : ℕ) → g < 2 → (s t : SharedState) → Good word s → Good word t → LooksAlike word g s t → (cs : List CallOf) →
+run-alone : (word g : ℕ) → g < 2 → (s t : SharedState) → Good word s → Good word t → LooksAlike word g s t →
+    (cs : List CallOf) →
     observations word g s cs ≡ observations word g t (alone g (only g cs))
 run-alone word g lg s t S T A [] = refl
 run-alone word g lg s t S T A (c ∷ cs) =
@@ -144,5 +155,6 @@ groups-stay-apart =
     }
 
 pub non-interference : NonInterference
-non-interference word g lg = non-interference-from word g lg sharedStart sharedStart (start-apart word) (start-apart word)
+non-interference word g lg = non-interference-from word g lg sharedStart sharedStart (start-apart word)
+    (start-apart word)
     (alike-refl word g sharedStart)

@@ -4,7 +4,6 @@ use mathlib.Core.Bool.{false, true}
 use mathlib.Core.Path.{ap, refl, sym, _∙_, _≡_}
 use Prim.Native.Nat.{_*_, _+_, _<_, _≤_, ℕ}
 use native.Mathlib.Omega.{arith}
-use lib.Dec.{ltb}
 use lib.ListN.{length-set}
 use borrow.Author.Tests.{ltb-false}
 use Rattle.buffers.proofs.Tabulate.{tabulate-length}
@@ -76,7 +75,8 @@ module _ (word g h : ℕ) (lg : g < 2) (lh : h < 2) (ne : h ≡ g → ⊥) (s : 
   other : g ≡ h → ⊥
   other e = ne (sym e)
 
-  operation-other : (o : Operation) → LooksAlike word g (record { current = groupAfter word h (s .current) o; store = s .store }) s
+  operation-other : (o : Operation) → LooksAlike word g
+      (record { current = groupAfter word h (s .current) o; store = s .store }) s
   operation-other o =
       record {
         vertices = masked-merged-other (inGroup word h) (inGroup word g) apart

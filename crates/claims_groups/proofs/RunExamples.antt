@@ -1,4 +1,5 @@
--- A run of both groups on 64 qubits: the refusals that each sees, and that what group 0 sees has its own names and codes.
+-- A run of both groups on 64 qubits: the refusals that group 0 sees, and the code of its qubit 0 after each of its
+-- calls.
 use mathlib.Core.List.{List, [], _∷_}
 use mathlib.Core.Path.{_≡_, refl}
 use Prim.Native.Nat.{_^_, _-_, ℕ}

@@ -21,7 +21,8 @@ use Rattle.operations.specs.Steps.{complementOf, czOn, gateWith, measuredAnswer
 use Rattle.store.specs.Places.{Store}
 use Rattle.used.specs.Used.{UsedRecord}
 
--- "Group calls are gate, cz, measure, complement, .. save, return and forget", with their arguments; a group has no pivot
+-- "Group calls are gate, cz, measure, complement, .. save, return and forget", with their arguments; a group has no
+-- pivot
 pub data GroupCall : Type 0 where
   groupGate : ℕ → ℕ → GroupCall
   groupCz : ℕ → ℕ → GroupCall
@@ -113,9 +114,9 @@ abbrev pub only : ℕ → List CallOf → List GroupCall
 only g [] = []
 only g (c ∷ cs) = cond (eqb (c .group) g) (c .call ∷ only g cs) (only g cs)
 
--- "that group's refusals, outcomes, determined bits, codes, neighbour words, used bits and saved states": the last four as
--- they are after the call. The codes, words and used bits are those at the group's qubits; the saved states, what its
--- four places hold
+-- "that group's refusals, outcomes, determined bits, codes, neighbour words, used bits and saved states": the last
+-- four as they are after the call. The codes, words and used bits are those at the group's qubits; the saved states,
+-- what its four places hold
 pub record Observation : Type 0 where
   pub refusal : ℕ
   pub measured : List ℕ

@@ -74,7 +74,8 @@ pub record Crossing (word g : ℕ) (s : SharedState) (c : GroupCall) : Type 0 wh
 
 -- of every call on every record with such an edge
 abbrev pub CrossingRefused : Type 0
-CrossingRefused = (word g : ℕ) (s : SharedState) → crosses word (s .current) ≡ true → (c : GroupCall) → Crossing word g s c
+CrossingRefused = (word g : ℕ) (s : SharedState) → crosses word (s .current) ≡ true → (c : GroupCall) →
+    Crossing word g s c
 
 -- "a call's group above 1 gives 6", where no line before refuses it
 pub record NeitherGroup (word g : ℕ) (s : SharedState) (c : GroupCall) : Type 0 where
@@ -91,8 +92,8 @@ pub record StandsAsWhole (u : UsedRecord) (nb′ cs′ : List ℕ) (r : ℕ) (nb
   pub accepted : r ≡ 0
   pub elements : SameGroup 64 64 (heldRows (left (u .held) nb′ cs′)) (heldRows (left (u .held) nb″ cs″))
 
--- of every accepted gate, cz, complementation and measurement of a group; a measurement's outcome, determined bit and used
--- word are those of the whole-record call
+-- of every accepted gate, cz, complementation and measurement of a group; a measurement's outcome, determined bit and
+-- used word are those of the whole-record call
 pub record GroupCallsStand : Type 0 where
   pub gate : (word g : ℕ) (u : UsedRecord) (q k : ℕ) (nb′ cs′ : List ℕ) (r : ℕ) (nb″ cs″ : List ℕ) →
       Call (groupCall word g u (gateWith q k) nb′ cs′) 0 → Call (usedCall u (gateWith q k) nb″ cs″) r →
