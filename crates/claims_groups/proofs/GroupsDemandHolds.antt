@@ -18,12 +18,12 @@ use Rattle.claims_groups.proofs.OwnCalls.{own-left, own-measured, own-n
 use Rattle.claims_groups.proofs.Views.{Good, alike-refl, alike-sym, alike-trans, good}
 use Rattle.claims_groups.specs.GroupRuns.{
   CallOf,
-  GroupCall,
+  SharedCall,
   SharedState,
   measuredNumbers,
   observations,
   observed,
-  only,
+  ownCalls,
   sharedAfter,
   sharedLeft,
   sharedMeasured,
@@ -40,7 +40,7 @@ use Rattle.claims_groups.specs.GroupsDemand.{
 
 -- ---- one call
 -- accepted, or nothing changed
-after-cases : (word g : ℕ) (s : SharedState) (c : GroupCall) (P : SharedState → Type 0) →
+after-cases : (word g : ℕ) (s : SharedState) (c : SharedCall) (P : SharedState → Type 0) →
     (sharedNumber word g s c ≡ 0 → P (sharedLeft word g s c)) → P s → P (sharedAfter word g s c)
 after-cases word g s c P left kept = go (eqb (sharedNumber word g s c) 0) (eqb-true (sharedNumber word g s c) 0)
   where
@@ -48,18 +48,18 @@ after-cases word g s c P left kept = go (eqb (sharedNumber word g s c) 0) (eqb-t
     go true z = left (z refl)
     go false z = kept
 
-after-good : (word g : ℕ) (s : SharedState) → Good word s → (c : GroupCall) → Good word (sharedAfter word g s c)
+after-good : (word g : ℕ) (s : SharedState) → Good word s → (c : SharedCall) → Good word (sharedAfter word g s c)
 after-good word g s S c = after-cases word g s c (Good word)
     (λ z. left-good word g (accepted-group word g s c z) s S c z) S
 
-after-other : (word g h : ℕ) → g < 2 → (h ≡ g → ⊥) → (s : SharedState) → Good word s → (c : GroupCall) →
+after-other : (word g h : ℕ) → g < 2 → (h ≡ g → ⊥) → (s : SharedState) → Good word s → (c : SharedCall) →
     LooksAlike word g (sharedAfter word h s c) s
 after-other word g h lg ne s S c = after-cases word h s c (λ r. LooksAlike word g r s)
     (λ z. other-left word g h lg (accepted-group word h s c z) ne s S c z) (alike-refl word g s)
 
 -- ---- a group's own call on two states that look alike
 module _ (word g : ℕ) (lg : g < 2) (s t : SharedState) (S : Good word s) (T : Good word t) (A : LooksAlike word g s t)
-    (c : GroupCall) where
+    (c : SharedCall) where
   abbrev r : ℕ
   r = sharedNumber word g s c
 
@@ -93,7 +93,7 @@ module _ (word g : ℕ) (lg : g < 2) (s t : SharedState) (S : Good word s) (T : 
 
 -- ---- runs
 -- the calls of one group alone
-abbrev alone : ℕ → List GroupCall → List CallOf
+abbrev alone : ℕ → List SharedCall → List CallOf
 alone g [] = []
 alone g (c ∷ cs) = record { group = g; call = c } ∷ alone g cs
 
@@ -101,26 +101,26 @@ alone g (c ∷ cs) = record { group = g; call = c } ∷ alone g cs
 module _ (word g : ℕ) (lg : g < 2) (s t : SharedState) (S : Good word s) (T : Good word t) (A : LooksAlike word g s t)
     (c : CallOf)
     (cs : List CallOf) (rest : (s t : SharedState) → Good word s → Good word t → LooksAlike word g s t →
-    observations word g s cs ≡ observations word g t (alone g (only g cs))) where
+    observations word g s cs ≡ observations word g t (alone g (ownCalls g cs))) where
   one-more : (b : Bool) → eqb (c .group) g ≡ b →
       cond b (observed word g s (c .call) ∷ observations word g (sharedAfter word (c .group) s (c .call)) cs)
       (observations word g (sharedAfter word (c .group) s (c .call)) cs)
-      ≡ observations word g t (alone g (cond b (c .call ∷ only g cs) (only g cs)))
+      ≡ observations word g t (alone g (cond b (c .call ∷ ownCalls g cs) (ownCalls g cs)))
   one-more true e =
       ap₂ _∷_ (own-observed word g lg s t S T A (c .call))
       (ap (λ h. observations word g (sharedAfter word h s (c .call)) cs) (eqb-true (c .group) g e)
       ∙ rest (sharedAfter word g s (c .call)) (sharedAfter word g t (c .call)) (after-good word g s S (c .call))
       (after-good word g t T (c .call)) (own-after word g lg s t S T A (c .call)))
       ∙ sym (ap (λ b. cond b
-      (observed word g t (c .call) ∷ observations word g (sharedAfter word g t (c .call)) (alone g (only g cs)))
-      (observations word g (sharedAfter word g t (c .call)) (alone g (only g cs)))) (eq-eqb g g refl))
+      (observed word g t (c .call) ∷ observations word g (sharedAfter word g t (c .call)) (alone g (ownCalls g cs)))
+      (observations word g (sharedAfter word g t (c .call)) (alone g (ownCalls g cs)))) (eq-eqb g g refl))
   one-more false e =
       rest (sharedAfter word (c .group) s (c .call)) t (after-good word (c .group) s S (c .call)) T
       (alike-trans (after-other word g (c .group) lg (eqb-false (c .group) g e) s S (c .call)) A)
 
 run-alone : (word g : ℕ) → g < 2 → (s t : SharedState) → Good word s → Good word t → LooksAlike word g s t →
     (cs : List CallOf) →
-    observations word g s cs ≡ observations word g t (alone g (only g cs))
+    observations word g s cs ≡ observations word g t (alone g (ownCalls g cs))
 run-alone word g lg s t S T A [] = refl
 run-alone word g lg s t S T A (c ∷ cs) =
     one-more word g lg s t S T A c cs (λ s t S T A. run-alone word g lg s t S T A cs) (eqb (c .group) g) refl

@@ -27,7 +27,7 @@ use Rattle.store.specs.Places.{Store, holdsName, othersHeld, placeAt, placeOf}
 use Rattle.used.specs.Used.{UsedRecord, usedAfter, usedLinesOf, usedStep}
 use Rattle.claims_groups.proofs.Views.{Good}
 use Rattle.claims_groups.specs.GroupRuns.{
-  GroupCall,
+  SharedCall,
   SharedState,
   groupComplement,
   groupCz,
@@ -97,7 +97,7 @@ module _ (word g : ℕ) (lg : g < 2) (s t : SharedState) (S : Good word s) (T : 
       ∙ ap (λ v. firstFitting (groupLines word g v o)) (A .vertices)
       ∙ sym (group-alone word g (t .current) (T .apart) low o G)
 
-  pub own-number : (c : GroupCall) → sharedNumber word g s c ≡ sharedNumber word g t c
+  pub own-number : (c : SharedCall) → sharedNumber word g s c ≡ sharedNumber word g t c
   own-number (groupGate q k) = operation-number _ (gate-op q k)
   own-number (groupCz a b) = operation-number _ (cz-op a b)
   own-number (groupMeasure pauli q b) = operation-number _ (measure-op pauli q b)
@@ -127,7 +127,7 @@ module _ (word g : ℕ) (lg : g < 2) (s t : SharedState) (S : Good word s) (T : 
         places = A .places;
       }
 
-  pub own-left : (c : GroupCall) → sharedNumber word g s c ≡ 0 →
+  pub own-left : (c : SharedCall) → sharedNumber word g s c ≡ 0 →
       LooksAlike word g (sharedLeft word g s c) (sharedLeft word g t c)
   own-left (groupGate q k) z = operation-alike (gateWith q k)
   own-left (groupCz a b) z = operation-alike (czOn a b)
@@ -165,7 +165,7 @@ module _ (word g : ℕ) (lg : g < 2) (s t : SharedState) (S : Good word s) (T : 
       }
 
   -- ---- the outcome
-  pub own-measured : (c : GroupCall) → sharedNumber word g s c ≡ 0 → measuredNumbers s c ≡ measuredNumbers t c
+  pub own-measured : (c : SharedCall) → sharedNumber word g s c ≡ 0 → measuredNumbers s c ≡ measuredNumbers t c
   own-measured (groupGate q k) z = refl
   own-measured (groupCz a b) z = refl
   own-measured (groupMeasure pauli q b) z = ap (λ o. outcomeNumber o ∷ determinedNumber o ∷ [])

@@ -18,7 +18,7 @@ use Rattle.record.specs.Lent.{recordCodes}
 use Rattle.store.specs.StoreLines.{holdsLine, ofRecord}
 use Rattle.claims_groups.proofs.OtherCalls.{accepted-group}
 use Rattle.claims_groups.specs.GroupRuns.{
-  GroupCall,
+  SharedCall,
   SharedState,
   groupComplement,
   groupCz,
@@ -35,7 +35,7 @@ use Rattle.claims_groups.specs.GroupRuns.{
 use Rattle.claims_groups.specs.GroupsDemand.{CrossingRefused, NeitherRefused, linesBefore}
 
 -- another number than 0: nothing changes
-kept : (word g : ℕ) (s : SharedState) (c : GroupCall) → (sharedNumber word g s c ≡ 0 → ⊥) → sharedAfter word g s c ≡ s
+kept : (word g : ℕ) (s : SharedState) (c : SharedCall) → (sharedNumber word g s c ≡ 0 → ⊥) → sharedAfter word g s c ≡ s
 kept word g s c h = ap (λ b. cond b (sharedLeft word g s c) s) (ne-eqb (sharedNumber word g s c) 0 h)
 
 -- ---- an edge between the groups
@@ -47,7 +47,7 @@ module _ (word g : ℕ) (s : SharedState) (e : crosses word (s .current) ≡ tru
   operation-refused : (o : Operation) → firstFitting (groupLines word g (s .current) o) ≡ 0 → ⊥
   operation-refused o z = true≢false (sym e ∙ group-passes word g (s .current) o z .no-crossing)
 
-  not-accepted : (c : GroupCall) → sharedNumber word g s c ≡ 0 → ⊥
+  not-accepted : (c : SharedCall) → sharedNumber word g s c ≡ 0 → ⊥
   not-accepted (groupGate q k) z = operation-refused (gateWith q k) z
   not-accepted (groupCz a b) z = operation-refused (czOn a b) z
   not-accepted (groupMeasure pauli q b) z = operation-refused (measurementOf pauli q b) z
@@ -59,7 +59,7 @@ module _ (word g : ℕ) (s : SharedState) (e : crosses word (s .current) ≡ tru
   not-accepted (groupForget name) z = true≢false (sym e
       ∙ none-holds (groupNamedLines word g (s .current) name (s .store)) refl z .1 .1 .1 .1 .1 .0)
 
-  by-nineteen : (c : GroupCall) → firstFitting (linesBefore 19 (sharedCallLines word g s c)) ≡ 0 →
+  by-nineteen : (c : SharedCall) → firstFitting (linesBefore 19 (sharedCallLines word g s c)) ≡ 0 →
       19 ≡ sharedNumber word g s c
   by-nineteen (groupGate q k) z =
       decides (linesBefore 19 (groupLines word g (s .current) (gateWith q k))) refl (sym z) refl
@@ -101,7 +101,7 @@ module _ (word g : ℕ) (above : 1 < g) (s : SharedState) where
       (((ofRecord (s .current) 6 || holdsLine 6 (ownLines (inGroup word g) g (s .store))) || ltb 1 g) || false) ≡ true
   store-six = six-holds (ofRecord (s .current) 6 || holdsLine 6 (ownLines (inGroup word g) g (s .store)))
 
-  by-six : (c : GroupCall) → firstFitting (linesBefore 6 (sharedCallLines word g s c)) ≡ 0 → 6 ≡ sharedNumber word g s c
+  by-six : (c : SharedCall) → firstFitting (linesBefore 6 (sharedCallLines word g s c)) ≡ 0 → 6 ≡ sharedNumber word g s c
   by-six (groupGate q k) z =
       decides (linesBefore 6 (groupLines word g (s .current) (gateWith q k))) refl (sym z) refl
       (here (operation-six (leb 24 k)))

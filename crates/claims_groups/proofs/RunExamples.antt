@@ -13,7 +13,7 @@ use Rattle.words.specs.Bits.{bit, wordOf}
 use Rattle.words.specs.Search.{every, first, some}
 use Rattle.claims_groups.specs.GroupRuns.{
   CallOf,
-  GroupCall,
+  SharedCall,
   Observation,
   groupComplement,
   groupForget,
@@ -27,7 +27,7 @@ use Rattle.claims_groups.specs.GroupRuns.{
 abbrev halves : ℕ
 halves = 2 ^ 64 - 2 ^ 32
 
-abbrev by : ℕ → GroupCall → CallOf
+abbrev by : ℕ → SharedCall → CallOf
 by g c = record { group = g; call = c }
 
 abbrev calls : List CallOf

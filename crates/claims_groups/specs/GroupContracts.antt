@@ -8,7 +8,7 @@ use Rattle.contracts.specs.Calls.{Call}
 use Rattle.jobs.specs.Standing.{left}
 use Rattle.operations.specs.Steps.{complementOf, czOn, gateWith}
 use Rattle.claims_groups.specs.GroupRuns.{
-  GroupCall,
+  SharedCall,
   SharedState,
   groupComplement,
   groupCz,
@@ -23,7 +23,7 @@ use Rattle.claims_groups.specs.GroupRuns.{
 }
 
 -- the number r is that of the call, and the state after it is what it leaves
-pub record IsStep (word g : ℕ) (s : SharedState) (c : GroupCall) (r : ℕ) (after : SharedState) : Type 0 where
+pub record IsStep (word g : ℕ) (s : SharedState) (c : SharedCall) (r : ℕ) (after : SharedState) : Type 0 where
   pub number : r ≡ sharedNumber word g s c
   pub state : after ≡ sharedAfter word g s c
 

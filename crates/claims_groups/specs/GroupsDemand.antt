@@ -18,10 +18,10 @@ use Rattle.store.specs.StoreLines.{storeLengths}
 use Rattle.used.specs.Used.{UsedRecord, usedLines}
 use Rattle.claims_groups.specs.GroupRuns.{
   CallOf,
-  GroupCall,
+  SharedCall,
   SharedState,
   observations,
-  only,
+  ownCalls,
   sharedAfter,
   sharedCallLines,
   sharedNumber,
@@ -32,7 +32,7 @@ use Rattle.claims_groups.specs.GroupRuns.{
 -- placed anywhere, that group's refusals, outcomes, determined bits, codes, neighbour words, used bits and saved states
 -- are equal after each of its calls."
 abbrev pub NonInterference : Type 0
-NonInterference = (word g : ℕ) → g < 2 → (cs ds : List CallOf) → only g cs ≡ only g ds →
+NonInterference = (word g : ℕ) → g < 2 → (cs ds : List CallOf) → ownCalls g cs ≡ ownCalls g ds →
     observations word g sharedStart cs ≡ observations word g sharedStart ds
 
 -- ---- from any state, and whatever the other group has
@@ -46,7 +46,7 @@ pub record GroupsApart (word : ℕ) (s : SharedState) : Type 0 where
 -- the start is such a state, and every call leaves one
 pub record GroupsStayApart : Type 0 where
   pub start : (word : ℕ) → GroupsApart word sharedStart
-  pub after : (word g : ℕ) (s : SharedState) → GroupsApart word s → (c : GroupCall) →
+  pub after : (word g : ℕ) (s : SharedState) → GroupsApart word s → (c : SharedCall) →
       GroupsApart word (sharedAfter word g s c)
 
 -- to a group two states look alike: its vertices and its four places are the same
@@ -57,7 +57,7 @@ pub record LooksAlike (word g : ℕ) (s t : SharedState) : Type 0 where
 -- what a group sees comes from its own part and its own calls alone
 abbrev pub NonInterferenceFrom : Type 0
 NonInterferenceFrom = (word g : ℕ) → g < 2 → (s t : SharedState) → GroupsApart word s → GroupsApart word t →
-    LooksAlike word g s t → (cs ds : List CallOf) → only g cs ≡ only g ds →
+    LooksAlike word g s t → (cs ds : List CallOf) → ownCalls g cs ≡ ownCalls g ds →
     observations word g s cs ≡ observations word g t ds
 
 -- ---- refusals
@@ -68,23 +68,23 @@ linesBefore k (l ∷ ls) = cond (eqb (l .number) k) [] (l ∷ linesBefore k ls)
 
 -- "where they have left an edge between the groups, every group call is refused until it is gone": by 19, where no line
 -- from 2 to 7 refuses it
-pub record Crossing (word g : ℕ) (s : SharedState) (c : GroupCall) : Type 0 where
+pub record RefusedByCrossing (word g : ℕ) (s : SharedState) (c : SharedCall) : Type 0 where
   pub nineteen : firstFitting (linesBefore 19 (sharedCallLines word g s c)) ≡ 0 → sharedNumber word g s c ≡ 19
   pub unchanged : sharedAfter word g s c ≡ s
 
 -- of every call on every record with such an edge
 abbrev pub CrossingRefused : Type 0
-CrossingRefused = (word g : ℕ) (s : SharedState) → crosses word (s .current) ≡ true → (c : GroupCall) →
-    Crossing word g s c
+CrossingRefused = (word g : ℕ) (s : SharedState) → crosses word (s .current) ≡ true → (c : SharedCall) →
+    RefusedByCrossing word g s c
 
 -- "a call's group above 1 gives 6", where no line before refuses it
-pub record NeitherGroup (word g : ℕ) (s : SharedState) (c : GroupCall) : Type 0 where
+pub record NeitherGroup (word g : ℕ) (s : SharedState) (c : SharedCall) : Type 0 where
   pub six : firstFitting (linesBefore 6 (sharedCallLines word g s c)) ≡ 0 → sharedNumber word g s c ≡ 6
   pub unchanged : sharedAfter word g s c ≡ s
 
 -- of every call with such a number
 abbrev pub NeitherRefused : Type 0
-NeitherRefused = (word g : ℕ) → 1 < g → (s : SharedState) (c : GroupCall) → NeitherGroup word g s c
+NeitherRefused = (word g : ℕ) → 1 < g → (s : SharedState) (c : SharedCall) → NeitherGroup word g s c
 
 -- ---- against the whole-record call
 -- that call is accepted too, and "the elements of the group" that the two records stand for are the same
