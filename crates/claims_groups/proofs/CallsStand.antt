@@ -1,8 +1,8 @@
--- An accepted call of a group against the same call on the whole record: that is accepted too, the two records stand for the
--- same group, and a measurement answers the same.
+-- An accepted call of a group against the same call on the whole record: that is accepted too, the two records stand
+-- for the same group, and a measurement answers the same.
 use mathlib.Core.Bool.{_&&_, Bool, cond, false, or-false, true, true≢false, _||_}
 use mathlib.Core.List.{List}
-use mathlib.Core.Path.{ap, ap₂, refl, subst, sym, _∙_, _≡_}
+use mathlib.Core.Path.{ap, refl, subst, sym, _∙_, _≡_}
 use Prim.Native.Nat.{_<_, ℕ}
 use lib.Dec.{eqb}
 use borrow.Author.Tests.{eqb-true}
@@ -17,7 +17,17 @@ use Rattle.groups.specs.Masks.{inGroup, masked}
 use Rattle.groups.specs.internal.Apart.{Apart, GroupOp, complement-op, cz-op, gate-op, measure-op}
 use Rattle.jobs.specs.Standing.{left}
 use Rattle.operations.specs.Measurement.{determinedNumber, outcomeNumber}
-use Rattle.operations.specs.Steps.{Operation, complementOf, czOn, gateWith, leaves, linesOf, made, measuredAnswer, measurementOf}
+use Rattle.operations.specs.Steps.{
+  Operation,
+  complementOf,
+  czOn,
+  gateWith,
+  leaves,
+  linesOf,
+  made,
+  measuredAnswer,
+  measurementOf,
+}
 use Rattle.record.specs.Lent.{codeNumbers, heldRows, neighbourWords}
 use Rattle.stabilizer.specs.Groups.{SameGroup}
 use Rattle.used.proofs.UsedPassing.{used-passes}
@@ -27,7 +37,8 @@ use Rattle.words.proofs.Flags.{never-true}
 use Rattle.words.specs.Bits.{Word, bit}
 use Rattle.claims_groups.specs.GroupsDemand.{GroupCallsStand, StandsAsWhole}
 
-module _ (word g : ℕ) (u : UsedRecord) (o : Operation) (G : GroupOp o) (e : firstFitting (groupLines word g u o) ≡ 0) where
+module _ (word g : ℕ) (u : UsedRecord) (o : Operation) (G : GroupOp o)
+    (e : firstFitting (groupLines word g u o) ≡ 0) where
   P : GroupPasses word g u o
   P = group-passes word g u o e
 
@@ -45,7 +56,8 @@ module _ (word g : ℕ) (u : UsedRecord) (o : Operation) (G : GroupOp o) (e : fi
     whole : left (u .held) nb″ cs″ ≡ leaves (u .held) o
     whole = λ j. record {
       n = u .held .n;
-      neighbours = (c ∙ ap (λ m. accepted m (neighbourWords (u .held .n) (made (u .held) o)) (u .held .neighbours)) plain) j;
+      neighbours = (c
+          ∙ ap (λ m. accepted m (neighbourWords (u .held .n) (made (u .held) o)) (u .held .neighbours)) plain) j;
       codes = (d ∙ ap (λ m. accepted m (codeNumbers (u .held .n) (made (u .held) o)) (u .held .codes)) plain) j;
     }
 
@@ -62,7 +74,8 @@ module _ (word g : ℕ) (u : UsedRecord) (o : Operation) (G : GroupOp o) (e : fi
         }
 
 -- ---- the used word of a measurement
-module _ (word g : ℕ) (u : UsedRecord) (pauli q b : ℕ) (e : firstFitting (groupLines word g u (measurementOf pauli q b)) ≡ 0) where
+module _ (word g : ℕ) (u : UsedRecord) (pauli q b : ℕ)
+    (e : firstFitting (groupLines word g u (measurementOf pauli q b)) ≡ 0) where
   abbrev o : Operation
   o = measurementOf pauli q b
 
@@ -106,9 +119,11 @@ group-calls-stand =
           nb′ cs′ r nb″ cs″ (C .held .0) (C .held .1 .0) (D .number) (D .held .0) (D .held .1 .0);
       cz = λ word g u a b nb′ cs′ r nb″ cs″ C D. stands word g u (czOn a b) (cz-op a b) (sym (C .number))
           nb′ cs′ r nb″ cs″ (C .held .0) (C .held .1 .0) (D .number) (D .held .0) (D .held .1 .0);
-      complement = λ word g u a nb′ cs′ r nb″ cs″ C D. stands word g u (complementOf a) (complement-op a) (sym (C .number))
+      complement = λ word g u a nb′ cs′ r nb″ cs″ C D. stands word g u (complementOf a) (complement-op a)
+          (sym (C .number))
           nb′ cs′ r nb″ cs″ (C .held .0) (C .held .1 .0) (D .number) (D .held .0) (D .held .1 .0);
-      measure = λ word g u pauli q b answer determined nb′ cs′ used′ answer′ determined′ r nb″ cs″ used″ answer″ determined″ C D.
+      measure = λ word g u pauli q b answer determined nb′ cs′ used′ answer′ determined′ r nb″ cs″ used″ answer″
+          determined″ C D.
           let o = measurementOf pauli q b in
           let out = measuredAnswer (u .held) pauli q b in
           let z = zero word g u o (measure-op pauli q b) (sym (C .number)) nb′ cs′ r nb″ cs″ (C .held .1 .1 .1 .0)

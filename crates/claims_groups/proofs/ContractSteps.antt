@@ -1,13 +1,12 @@
 -- What the contract of each group call says is the step of a run.
-use mathlib.Core.Bool.{_&&_, Bool, cond, false, true, _||_}
+use mathlib.Core.Bool.{_&&_, Bool, cond, false, true}
 use mathlib.Core.List.{List, [], _∷_}
 use mathlib.Core.Path.{ap, ap₂, refl, sym, _∙_, _≡_}
-use Prim.Native.Nat.{_<_, _^_, ℕ}
+use Prim.Native.Nat.{_^_, ℕ}
 use lib.Dec.{eqb}
 use borrow.Author.Tests.{eqb-true, leb-false}
 use Rattle.buffers.specs.Buffers.{accepted, acceptedNumber}
 use Rattle.buffers.specs.Refusals.{firstFitting}
-use Rattle.call_group_stores.specs.GroupStoreCalls.{groupForgetCall, groupReturnCall, groupSaveCall}
 use Rattle.call_groups.specs.GroupCalls.{groupCall, groupMeasureCall}
 use Rattle.contracts.specs.Calls.{Call}
 use Rattle.groups.proofs.GroupPassing.{group-accepted}
@@ -22,7 +21,7 @@ use Rattle.operations.specs.Steps.{Operation, complementOf, czOn, gateWith, lea
 use Rattle.store.specs.Places.{Store}
 use Rattle.used.specs.Used.{UsedRecord, usedAfter, usedLinesOf, usedStep}
 use Rattle.words.proofs.BitLaws.{bit-wordOf, wordOf-bit}
-use Rattle.words.specs.Bits.{Word, bit, wordOf}
+use Rattle.words.specs.Bits.{Word, bit}
 use Rattle.claims_groups.specs.GroupContracts.{ContractsAreSteps, withRecord, withStore}
 use Rattle.claims_groups.specs.GroupRuns.{
   SharedState,
@@ -93,7 +92,8 @@ module _ (s : SharedState) (N r : ℕ) (number : r ≡ N) where
       ((c ∙ ap (λ m. accepted m (w .codes) (s .store .codes)) number) j))
       ∙ go (eqb N 0)
     where
-      go : (f : Bool) → withStore s (cond f (w .heads) (s .store .heads)) (cond f (w .neighbours) (s .store .neighbours))
+      go : (f : Bool) → withStore s (cond f (w .heads) (s .store .heads))
+          (cond f (w .neighbours) (s .store .neighbours))
           (cond f (w .codes) (s .store .codes)) ≡ cond f (record { current = s .current; store = w }) s
       go true = refl
       go false = refl
@@ -125,8 +125,10 @@ kept-buffer r buffer = go (eqb r 0)
     go false = refl
 
 -- the numbers of an accepted measurement
-told : (word g : ℕ) (s : SharedState) (pauli q b answer determined r : ℕ) (nb′ cs′ : List ℕ) (used′ answer′ determined′ : ℕ) →
-    Call (groupMeasureCall word g (s .current) pauli q b answer determined nb′ cs′ used′ answer′ determined′) r → r ≡ 0 →
+told : (word g : ℕ) (s : SharedState) (pauli q b answer determined r : ℕ) (nb′ cs′ : List ℕ)
+    (used′ answer′ determined′ : ℕ) →
+    Call (groupMeasureCall word g (s .current) pauli q b answer determined nb′ cs′ used′ answer′ determined′) r →
+    r ≡ 0 →
     answer′ ∷ determined′ ∷ [] ≡ sharedMeasured word g s (groupMeasure pauli q b)
 told word g s pauli q b answer determined r nb′ cs′ used′ answer′ determined′ C z =
     let o = measuredAnswer (s .current .held) pauli q b in
@@ -161,12 +163,14 @@ contracts-are-steps =
       save = λ word g s name r heads′ nb′ cs′ C. record {
         number = C .number;
         state = store-step s (sharedNumber word g s (groupSave name)) r (C .number)
-            (groupSaved word g (s .current) name (s .store)) heads′ nb′ cs′ (C .held .0) (C .held .1 .0) (C .held .1 .1 .0);
+            (groupSaved word g (s .current) name (s .store)) heads′ nb′ cs′ (C .held .0) (C .held .1 .0)
+            (C .held .1 .1 .0);
       };
       return-to = λ word g s name r nb′ cs′ used′ C. record {
         number = C .number;
         state = record-step s (sharedNumber word g s (groupReturn name)) r (C .number)
-            (groupReturned word g (s .current) name (s .store)) refl nb′ cs′ used′ (C .held .0) (C .held .1 .0) (C .held .1 .1 .0);
+            (groupReturned word g (s .current) name (s .store)) refl nb′ cs′ used′ (C .held .0) (C .held .1 .0)
+            (C .held .1 .1 .0);
       };
       forget = λ word g s name r heads′ C. record {
         number = C .number;

@@ -1,5 +1,5 @@
--- What each call of a group leaves: the other group's vertices and places stay, and under the group's names is held what a
--- save and a forget say; 17 and 18.
+-- What each call of a group leaves: the other group's vertices and places stay, and under the group's names is held
+-- what a save and a forget say; 17 and 18.
 use mathlib.Core.Bool.{Bool, cond, false, not, true}
 use mathlib.Core.List.{List}
 use mathlib.Core.Path.{ap, refl, subst, sym, _∙_, _≡_}
@@ -32,7 +32,15 @@ use Rattle.groups.proofs.SharedLines.{
   shared-long,
 }
 use Rattle.groups.specs.GroupLines.{groupAfter, groupLines}
-use Rattle.groups.specs.GroupStores.{groupForgotten, groupNamedLines, groupReturned, groupSaveLines, groupSaved, ownPlaces, sharedLines}
+use Rattle.groups.specs.GroupStores.{
+  groupForgotten,
+  groupNamedLines,
+  groupReturned,
+  groupSaveLines,
+  groupSaved,
+  ownPlaces,
+  sharedLines,
+}
 use Rattle.groups.specs.Masks.{inGroup, masked, merged, reachesOut}
 use Rattle.groups.specs.internal.Apart.{Apart, GroupOp, complement-op, cz-op, gate-op, measure-op}
 use Rattle.operations.specs.Steps.{Operation, complementOf, czOn, gateWith, measurementOf}
@@ -83,9 +91,11 @@ module _ (word g : ℕ) (u : UsedRecord) (o : Operation) (G : GroupOp o) (nb′ 
       (group-apart word g u (group-accepted word g u o z) o G z))
 
 -- a gate, a cz or a complementation
-copying-keeps : (word g : ℕ) (u : UsedRecord) (o : Operation) → GroupOp o → ((v : UsedRecord) → usedAfter v o ≡ v .used) →
+copying-keeps : (word g : ℕ) (u : UsedRecord) (o : Operation) → GroupOp o →
+    ((v : UsedRecord) → usedAfter v o ≡ v .used) →
     (nb′ cs′ : List ℕ) → Call (groupCall word g u o nb′ cs′) 0 → GroupKeeps word g u (recordLeft u nb′ cs′ (u .used))
-copying-keeps word g u o G copies nb′ cs′ C = operation-keeps word g u o G nb′ cs′ (u .used) (sym (C .number)) (C .held .0)
+copying-keeps word g u o G copies nb′ cs′ C = operation-keeps word g u o G nb′ cs′ (u .used) (sym (C .number))
+    (C .held .0)
     (C .held .1 .0) (sym (used-kept word g u o copies (group-accepted word g u o (sym (C .number)))))
 
 pub group-calls-keep : GroupCallsKeep
@@ -100,7 +110,8 @@ group-calls-keep =
     }
 
 -- ---- a save
-module _ (word g : ℕ) (u : UsedRecord) (name : ℕ) (st : Store) (z : firstFitting (groupSaveLines word g u name st) ≡ 0) where
+module _ (word g : ℕ) (u : UsedRecord) (name : ℕ) (st : Store)
+    (z : firstFitting (groupSaveLines word g u name st) ≡ 0) where
   saved-keeps : GroupSaveKeeps word g u name st (groupSaved word g u name st)
   saved-keeps =
       let h = save-shared word g u name st z in
@@ -112,8 +123,10 @@ module _ (word g : ℕ) (u : UsedRecord) (name : ℕ) (st : Store) (z : firstFit
         held = λ m. ap (λ own. lookup 4 own m) (saved-left word g lg u name st H L z)
             ∙ saved-lookup 4 (ownPlaces g st) (shared-fits word g u st h .passing) (masked (inGroup word g) u)
             (masked-passes word g u H) name l m;
-        others = λ h lh ne. placed-other-places g (savePlace 4 ((ownPlaces g st) .heads) name) (masked (inGroup word g) u)
-            name st lg l (tabulate-length (u .held .n) _ ∙ H .count) (tabulate-length (u .held .n) _ ∙ H .count) L h lh ne;
+        others = λ h lh ne. placed-other-places g (savePlace 4 ((ownPlaces g st) .heads) name)
+            (masked (inGroup word g) u)
+            name st lg l (tabulate-length (u .held .n) _ ∙ H .count)
+            (tabulate-length (u .held .n) _ ∙ H .count) L h lh ne;
       }
 
 pub group-saves-keep : GroupSavesKeep
@@ -122,7 +135,8 @@ group-saves-keep word g u name st heads′ nb′ cs′ C = subst (GroupSaveKeeps
     (saved-keeps word g u name st (sym (C .number)))
 
 -- ---- a return and a forget
-module _ (word g : ℕ) (u : UsedRecord) (name : ℕ) (st : Store) (z : firstFitting (groupNamedLines word g u name st) ≡ 0) where
+module _ (word g : ℕ) (u : UsedRecord) (name : ℕ) (st : Store)
+    (z : firstFitting (groupNamedLines word g u name st) ≡ 0) where
   abbrev own : Store
   own = ownPlaces g st
 
@@ -142,7 +156,8 @@ module _ (word g : ℕ) (u : UsedRecord) (name : ℕ) (st : Store) (z : firstFit
       (record { heads = groupForgotten g name st; neighbours = st .neighbours; codes = st .codes })
   forgotten-keeps =
       record {
-        held = λ m. ap (λ heads. lookup 4 (record { heads = heads; neighbours = own .neighbours; codes = own .codes }) m)
+        held = λ m. ap
+            (λ heads. lookup 4 (record { heads = heads; neighbours = own .neighbours; codes = own .codes }) m)
             (freed-own-heads g p (named-place word g u name st z) (st .heads))
             ∙ forgotten-lookup 4 own (shared-fits word g u st (named-shared word g u name st z) .passing) name
             (named-held word g u name st z) m;
@@ -179,7 +194,8 @@ group-returns-give word g u name st nb′ cs′ used′ C = subst (GroupReturnGi
 
 -- ---- 17 and 18
 module _ (word g : ℕ) (u : UsedRecord) (name : ℕ) (st : Store) where
-  nothing-held : (b : Bool) → cond b (found (placeAt (ownPlaces g st) (placeOf 4 ((ownPlaces g st) .heads) name))) nothing
+  nothing-held : (b : Bool) →
+      cond b (found (placeAt (ownPlaces g st) (placeOf 4 ((ownPlaces g st) .heads) name))) nothing
       ≡ nothing → b ≡ false
   nothing-held true e = let z : _≡_ {A = ℕ} 0 1 = cc in absurd (omega (arith, z))
   nothing-held false e = refl
@@ -188,7 +204,8 @@ module _ (word g : ℕ) (u : UsedRecord) (name : ℕ) (st : Store) where
   not-held e = (
     (λ z. let h = skips (sharedLines word g u st) 17 refl z (fits-at (groupNamedLines word g u name st) e) in (
       none-fits-of (sharedLines word g u st) (h .0),
-      found-nowhere 4 (ownPlaces g st) name (not-true (holdsName 4 ((ownPlaces g st) .heads) name) (is-first (h .1) refl z)),
+      found-nowhere 4 (ownPlaces g st) name (not-true (holdsName 4 ((ownPlaces g st) .heads) name)
+          (is-first (h .1) refl z)),
     )),
     (λ h. e ∙ sym (decides (sharedLines word g u st) refl (sym (h .0)) refl
         (here (ap not (nothing-held (holdsName 4 ((ownPlaces g st) .heads) name) (h .1)))))),

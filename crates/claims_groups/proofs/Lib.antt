@@ -1,3 +1,4 @@
+pub mod RunExamples
 pub mod Views
 pub mod OwnCalls
 pub mod OtherCalls

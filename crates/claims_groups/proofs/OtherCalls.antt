@@ -4,7 +4,6 @@ use mathlib.Core.Bool.{false, true}
 use mathlib.Core.Path.{ap, refl, sym, _∙_, _≡_}
 use Prim.Native.Nat.{_*_, _+_, _<_, _≤_, ℕ}
 use native.Mathlib.Omega.{arith}
-use lib.Dec.{ltb}
 use lib.ListN.{length-set}
 use borrow.Author.Tests.{ltb-false}
 use Rattle.buffers.proofs.Tabulate.{tabulate-length}
@@ -32,9 +31,9 @@ use Rattle.store.specs.Kept.{savePlace}
 use Rattle.store.specs.Places.{placeAt, placeOf}
 use Rattle.used.specs.Used.{usedLines, usedStep}
 use Rattle.claims_groups.proofs.OwnCalls.{held-place}
-use Rattle.claims_groups.proofs.Views.{Alike, Good, not-in-both}
+use Rattle.claims_groups.proofs.Views.{Good, not-in-both}
 use Rattle.claims_groups.specs.GroupRuns.{
-  GroupCall,
+  SharedCall,
   SharedState,
   groupComplement,
   groupCz,
@@ -46,6 +45,7 @@ use Rattle.claims_groups.specs.GroupRuns.{
   sharedLeft,
   sharedNumber,
 }
+use Rattle.claims_groups.specs.GroupsDemand.{LooksAlike}
 
 -- ---- an accepted call is of group 0 or 1
 module _ (word g : ℕ) (s : SharedState) where
@@ -55,7 +55,7 @@ module _ (word g : ℕ) (s : SharedState) where
       low : g ≤ 1 → g < 2
       low l = omega (arith, l)
 
-  pub accepted-group : (c : GroupCall) → sharedNumber word g s c ≡ 0 → g < 2
+  pub accepted-group : (c : SharedCall) → sharedNumber word g s c ≡ 0 → g < 2
   accepted-group (groupGate q k) z = operation-group (gateWith q k) z
   accepted-group (groupCz a b) z = operation-group (czOn a b) z
   accepted-group (groupMeasure pauli q b) z = operation-group (measurementOf pauli q b) z
@@ -75,7 +75,8 @@ module _ (word g h : ℕ) (lg : g < 2) (lh : h < 2) (ne : h ≡ g → ⊥) (s : 
   other : g ≡ h → ⊥
   other e = ne (sym e)
 
-  operation-other : (o : Operation) → Alike word g (record { current = groupAfter word h (s .current) o; store = s .store }) s
+  operation-other : (o : Operation) → LooksAlike word g
+      (record { current = groupAfter word h (s .current) o; store = s .store }) s
   operation-other o =
       record {
         vertices = masked-merged-other (inGroup word h) (inGroup word g) apart
@@ -83,7 +84,7 @@ module _ (word g h : ℕ) (lg : g < 2) (lh : h < 2) (ne : h ≡ g → ⊥) (s : 
         places = refl;
       }
 
-  pub other-left : (c : GroupCall) → sharedNumber word h s c ≡ 0 → Alike word g (sharedLeft word h s c) s
+  pub other-left : (c : SharedCall) → sharedNumber word h s c ≡ 0 → LooksAlike word g (sharedLeft word h s c) s
   other-left (groupGate q k) z = operation-other (gateWith q k)
   other-left (groupCz a b) z = operation-other (czOn a b)
   other-left (groupMeasure pauli q b) z = operation-other (measurementOf pauli q b)
@@ -120,7 +121,7 @@ module _ (word g : ℕ) (lg : g < 2) (s : SharedState) (S : Good word s) where
       Good word (record { current = groupAfter word g (s .current) o; store = s .store })
   operation-good o G z = record { apart = group-apart word g (s .current) (S .apart) o G z; long = S .long }
 
-  pub left-good : (c : GroupCall) → sharedNumber word g s c ≡ 0 → Good word (sharedLeft word g s c)
+  pub left-good : (c : SharedCall) → sharedNumber word g s c ≡ 0 → Good word (sharedLeft word g s c)
   left-good (groupGate q k) z = operation-good (gateWith q k) (gate-op q k) z
   left-good (groupCz a b) z = operation-good (czOn a b) (cz-op a b) z
   left-good (groupMeasure pauli q b) z = operation-good (measurementOf pauli q b) (measure-op pauli q b) z

@@ -6,9 +6,9 @@ use Rattle.call_group_stores.specs.GroupStoreCalls.{groupForgetCall, groupRetur
 use Rattle.call_groups.specs.GroupCalls.{groupCall, groupMeasureCall}
 use Rattle.contracts.specs.Calls.{Call}
 use Rattle.jobs.specs.Standing.{left}
-use Rattle.operations.specs.Steps.{complementOf, czOn, gateWith, measurementOf}
+use Rattle.operations.specs.Steps.{complementOf, czOn, gateWith}
 use Rattle.claims_groups.specs.GroupRuns.{
-  GroupCall,
+  SharedCall,
   SharedState,
   groupComplement,
   groupCz,
@@ -23,7 +23,7 @@ use Rattle.claims_groups.specs.GroupRuns.{
 }
 
 -- the number r is that of the call, and the state after it is what it leaves
-pub record IsStep (word g : ℕ) (s : SharedState) (c : GroupCall) (r : ℕ) (after : SharedState) : Type 0 where
+pub record IsStep (word g : ℕ) (s : SharedState) (c : SharedCall) (r : ℕ) (after : SharedState) : Type 0 where
   pub number : r ≡ sharedNumber word g s c
   pub state : after ≡ sharedAfter word g s c
 
@@ -37,8 +37,8 @@ abbrev pub withStore : SharedState → List ℕ → List ℕ → List ℕ → Sh
 withStore s heads nb cs =
     record { current = s .current; store = record { heads = heads; neighbours = nb; codes = cs } }
 
--- of each call. A gate, a cz and a complementation are not lent the used word; an accepted measurement answers its outcome
--- and its determined bit
+-- of each call. A gate, a cz and a complementation are not lent the used word; an accepted measurement answers its
+-- outcome and its determined bit
 pub record ContractsAreSteps : Type 0 where
   pub gate : (word g : ℕ) (s : SharedState) (q k r : ℕ) (nb′ cs′ : List ℕ) →
       Call (groupCall word g (s .current) (gateWith q k) nb′ cs′) r →

@@ -1,5 +1,5 @@
--- What each call of a group leaves, of the public calls (02, §13): the other group's vertices and states stay, and what is
--- held under each of the group's own names; and which calls are refused by 17 and 18.
+-- What each call of a group leaves, of the public calls (02, §13): the other group's vertices and states stay, and
+-- what is held under each of the group's own names; and which calls are refused by 17 and 18.
 use mathlib.Core.Bool.{cond, false, true}
 use mathlib.Core.List.{List}
 use mathlib.Core.Logic.{_↔_}
@@ -24,8 +24,8 @@ use Rattle.words.specs.Bits.{bit}
 abbrev pub recordLeft : UsedRecord → List ℕ → List ℕ → ℕ → UsedRecord
 recordLeft u nb cs used = record { held = left (u .held) nb cs; used = used }
 
--- "codes and neighbour words of the other stay, reduced or not"; so do its used bits. No line refuses the record that is
--- left, and it has no edge between the groups
+-- "codes and neighbour words of the other stay, reduced or not"; so do its used bits. No line refuses the record that
+-- is left, and it has no edge between the groups
 pub record GroupKeeps (word g : ℕ) (u after : UsedRecord) : Type 0 where
   pub words : (q : ℕ) → q < 64 → inGroup word g q ≡ false →
       getD (after .held .neighbours) q 0 ≡ getD (u .held .neighbours) q 0
@@ -52,8 +52,8 @@ pub record GroupCallsKeep : Type 0 where
 abbrev pub OtherPlacesStay : ℕ → Store → Store → Type 0
 OtherPlacesStay g st after = (h : ℕ) → h < 2 → (h ≡ g → ⊥) → ownPlaces h after ≡ ownPlaces h st
 
--- "Each holds four named states of its own part": under the name the group's own vertices, under its other names what was
--- held
+-- "Each holds four named states of its own part": under the name the group's own vertices, under its other names what
+-- was held
 pub record GroupSaveKeeps (word g : ℕ) (u : UsedRecord) (name : ℕ) (st after : Store) : Type 0 where
   pub held : (m : ℕ) → lookup 4 (ownPlaces g after) m
       ≡ cond (eqb m name) (found (masked (inGroup word g) u)) (lookup 4 (ownPlaces g st) m)

@@ -1,13 +1,12 @@
 -- The lines that a group's save, return and forget share: on a record with the groups apart they read the group's own
 -- places alone, and what holds where none of them refuses.
-use mathlib.Core.Bool.{_&&_, Bool, and-false, false, not, or-false, true, true≢false, _||_}
+use mathlib.Core.Bool.{_&&_, Bool, and-false, false, not, true, true≢false, _||_}
 use mathlib.Core.List.{_++_, List, [], _∷_}
 use mathlib.Core.Logic.{inl, inr}
 use mathlib.Core.Path.{ap, ap₂, refl, sym, _∙_, _≡_}
 use Prim.Native.Nat.{_*_, _+_, _<_, _≤_, ℕ}
 use native.Mathlib.Omega.{arith}
 use lib.Dec.{eqb, ltb}
-use lib.ListN.{drop, length, take}
 use borrow.Author.Tests.{eqb-true, ltb-false, not-false}
 use Rattle.buffers.specs.Refusals.{Refusal, firstFitting, line, otherThan, withTest}
 use Rattle.contracts.proofs.Fitting.{NoneHolds, none-fits-of, none-holds}
@@ -26,8 +25,16 @@ use Rattle.words.proofs.Sums.{lt-or-ge}
 use Rattle.words.specs.Search.{some}
 use Rattle.groups.proofs.OwnPlaces.{EightLong, part-long}
 use Rattle.groups.specs.GroupLines.{withGroup}
-use Rattle.groups.specs.GroupStores.{groupNamedLines, groupSaveLines, heldOut, otherCount, ownLines, ownPlaces, sharedLines}
-use Rattle.groups.specs.Masks.{crosses, inGroup, reachesOut}
+use Rattle.groups.specs.GroupStores.{
+  groupNamedLines,
+  groupSaveLines,
+  heldOut,
+  otherCount,
+  ownLines,
+  ownPlaces,
+  sharedLines,
+}
+use Rattle.groups.specs.Masks.{inGroup, reachesOut}
 use Rattle.groups.specs.internal.Apart.{Apart}
 
 -- ---- what the lines read
@@ -115,7 +122,8 @@ module _ (word g : ℕ) (u : UsedRecord) (st : Store) (h : NoneHolds (sharedLine
   shared-long =
       let lengths = neither (ofHeld 4 (ownPlaces g st) 4 || false) (storeLengths 8 st)
       (plain ((ofHeld 4 (ownPlaces g st) 4 || false) || storeLengths 8 st) (four .1)) .1 in
-      let p = neither (otherThan 24 (st .heads)) (otherThan 512 (st .neighbours) || otherThan 512 (st .codes)) lengths in
+      let p = neither (otherThan 24 (st .heads)) (otherThan 512 (st .neighbours) || otherThan 512 (st .codes)) lengths
+      in
       let q = neither (otherThan 512 (st .neighbours)) (otherThan 512 (st .codes)) (p .1) in
       record {
         heads = has-length 24 (st .heads) (p .0);
@@ -135,7 +143,8 @@ pub record OwnFits (word g : ℕ) (st : Store) : Type 0 where
 pub own-long : (g : ℕ) (st : Store) → g < 2 → EightLong st → storeLengths 4 (ownPlaces g st) ≡ false
 own-long g st lg L = let own = ownPlaces g st in
     ap₂ _||_ (length-passes 12 (own .heads) (part-long (12 * g) 12 (st .heads) (omega (arith, lg, L .heads))))
-    (ap₂ _||_ (length-passes 256 (own .neighbours) (part-long (256 * g) 256 (st .neighbours) (omega (arith, lg, L .words))))
+    (ap₂ _||_ (length-passes 256 (own .neighbours) (part-long (256 * g) 256 (st .neighbours)
+    (omega (arith, lg, L .words))))
     (length-passes 256 (own .codes) (part-long (256 * g) 256 (st .codes) (omega (arith, lg, L .codes)))))
 
 module _ (word g : ℕ) (u : UsedRecord) (st : Store) (h : NoneHolds (sharedLines word g u st)) where
@@ -160,7 +169,8 @@ module _ (word g : ℕ) (u : UsedRecord) (st : Store) (h : NoneHolds (sharedLine
   sevens : (((ofHeld 4 own 7 || false) || false) ≡ false)
       × ((namedTwice 4 (own .heads) || heldOut (inGroup word g) own) ≡ false)
   sevens = neither ((ofHeld 4 own 7 || false) || false) (namedTwice 4 (own .heads) || heldOut (inGroup word g) own)
-      (neither (((ofHeld 4 own 7 || false) || false) || (namedTwice 4 (own .heads) || heldOut (inGroup word g) own)) false
+      (neither (((ofHeld 4 own 7 || false) || false) || (namedTwice 4 (own .heads) || heldOut (inGroup word g) own))
+      false
       (seven word g u st h .1) .0)
 
   names : (namedTwice 4 (own .heads) ≡ false) × (heldOut (inGroup word g) own ≡ false)
@@ -197,7 +207,8 @@ module _ (word g : ℕ) (u : UsedRecord) (name : ℕ) (st : Store) (z : firstFit
     save-lines = none-holds (groupSaveLines word g u name st) refl z
 
     pub save-shared : NoneHolds (sharedLines word g u st)
-    save-shared = front-none (sharedLines word g u st) (line 18 (othersHeld 4 ((ownPlaces g st) .heads) name) ∷ []) save-lines
+    save-shared = front-none (sharedLines word g u st)
+        (line 18 (othersHeld 4 ((ownPlaces g st) .heads) name) ∷ []) save-lines
 
     pub save-place : savePlace 4 ((ownPlaces g st) .heads) name < 4
     save-place = elim (lt-or-ge (savePlace 4 ((ownPlaces g st) .heads) name) 4) [
@@ -205,8 +216,8 @@ module _ (word g : ℕ) (u : UsedRecord) (name : ℕ) (st : Store) (z : firstFit
       | inr l ↦ absurd (true≢false (sym (full 4 ((ownPlaces g st) .heads) name l) ∙ save-lines .1 .1 .1 .1 .1 .1 .0))
     ]
 
--- ---- a return or a forget: the name is held at a place of the four, and a return finds a record of 64 qubits there that
--- passes and has no neighbour outside the group
+-- ---- a return or a forget: the name is held at a place of the four, and a return finds a record of 64 qubits there
+-- that passes and has no neighbour outside the group
 module _ (word g : ℕ) (u : UsedRecord) (name : ℕ) (st : Store) (z : firstFitting (groupNamedLines word g u name st) ≡ 0)
   where
     named-lines : NoneHolds (groupNamedLines word g u name st)
@@ -225,7 +236,8 @@ module _ (word g : ℕ) (u : UsedRecord) (name : ℕ) (st : Store) (z : firstFit
     named-place = some-true 4 (hasName own-heads name) named-held .below
 
     held-there : isHeld own-heads (placeOf 4 own-heads name) ≡ true
-    held-there = both-true (isHeld own-heads (placeOf 4 own-heads name)) _ (some-true 4 (hasName own-heads name) named-held .passes) .0
+    held-there = both-true (isHeld own-heads (placeOf 4 own-heads name)) _
+        (some-true 4 (hasName own-heads name) named-held .passes) .0
 
     fits : OwnFits word g st
     fits = shared-fits word g u st named-shared
@@ -238,7 +250,8 @@ module _ (word g : ℕ) (u : UsedRecord) (name : ℕ) (st : Store) (z : firstFit
     pub named-count : countAt ((ownPlaces g st) .heads) (placeOf 4 ((ownPlaces g st) .heads) name) ≡ 64
     named-count = eqb-true _ 64 (not-false _ (at-place (λ i. not (eqb (countAt own-heads i) 64)) (fits .counts)))
 
-    pub named-inside : reachesOut (inGroup word g) (placeAt (ownPlaces g st) (placeOf 4 ((ownPlaces g st) .heads) name)) ≡ false
+    pub named-inside : reachesOut (inGroup word g) (placeAt (ownPlaces g st)
+        (placeOf 4 ((ownPlaces g st) .heads) name)) ≡ false
     named-inside = at-place (λ i. reachesOut (inGroup word g) (placeAt (ownPlaces g st) i)) (fits .inside)
 
     pub named-passes : firstFitting (usedLines (placeAt (ownPlaces g st)

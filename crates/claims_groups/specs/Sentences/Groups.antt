@@ -26,7 +26,7 @@ use Rattle.claims_groups.specs.GroupKeeps.{
   recordLeft,
 }
 use Rattle.claims_groups.specs.GroupRuns.{
-  GroupCall,
+  SharedCall,
   SharedState,
   groupComplement,
   groupCz,
@@ -44,7 +44,7 @@ abbrev pub together : UsedRecord → Store → SharedState
 together u st = record { current = u; store = st }
 
 -- a call that is not lent the store is the same step whatever the store
-abbrev pub StepOnRecord : ℕ → ℕ → UsedRecord → GroupCall → ℕ → List ℕ → List ℕ → ℕ → Type 0
+abbrev pub StepOnRecord : ℕ → ℕ → UsedRecord → SharedCall → ℕ → List ℕ → List ℕ → ℕ → Type 0
 StepOnRecord word g u c r nb′ cs′ used′ =
     (st : Store) → IsStep word g (together u st) c r (withRecord (together u st) nb′ cs′ used′)
 
