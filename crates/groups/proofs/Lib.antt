@@ -1,2 +1,11 @@
 pub mod GroupExamples
 pub mod Merging
+pub mod BeforeLines
+pub mod GroupPassing
+pub mod TabledRecords
+pub mod Edges
+pub mod MaskedRecords
+pub mod MeasuredAlike
+pub mod GroupNumbers
+pub mod OutsideStays
+pub mod MergedPasses
