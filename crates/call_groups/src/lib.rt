@@ -4,20 +4,24 @@ use call_complement::complement_known;
 use call_gates::cz_known;
 use call_gates::gate_known;
 use call_gates::is_used;
+use call_measure::measure_known;
 use groups_masks::crosses;
 use groups_masks::mask;
 use groups_masks::mask_used;
 use groups_masks::merge;
+use groups_masks::merge_used;
 use groups_masks::own_word;
 use used_checks::used_refusal;
+ghost use mathlib.Core.Bool.{cond};
 ghost use mathlib.Core.Path.{_≡_};
 ghost use lib.ListN.{length};
 ghost use Rattle.buffers.specs.Refusals.{firstFitting};
 ghost use Rattle.contracts.specs.Calls.{Call};
 ghost use Rattle.groups.specs.GroupLines.{outsider};
 ghost use Rattle.groups.specs.Masks.{inGroup, masked};
-ghost use Rattle.operations.specs.Steps.{complementOf, czOn, gateWith};
-ghost use Rattle.call_groups.specs.GroupCalls.{groupCall};
+ghost use Rattle.operations.specs.Steps.{complementOf, czOn, gateWith, measurementOf};
+ghost use Rattle.words.specs.Bits.{bit, wordOf};
+ghost use Rattle.call_groups.specs.GroupCalls.{groupCall, groupMeasureCall};
 ghost use Rattle.call_groups.specs.internal.BeforeEight.{Admitted, PutBack, beforeEight};
 
 // Whether a qubit of the record is in the other group: bit q of the word is qubit q's group.
@@ -99,6 +103,13 @@ fn put_group(
 {
     let own = own_word(word, group);
     merge(own, words, bytes, neighbours, codes);
+}
+
+// The used qubits `new` of the group, and `used` of the other.
+fn put_used(word: u64, group: u8, new: u64, used: u64) -> u64
+    ensures { λ r. ⌜ r ≡ wordOf 64 (λ q. cond (inGroup word group q) (bit new q) (bit used q)) ⌝ }
+{
+    merge_used(own_word(word, group), new, used)
 }
 
 // A code applied after the code held at a qubit of the group, and the group's vertices reduced. The call is admitted; the last two buffers have room for the copy.
@@ -300,6 +311,105 @@ pub fn complement(
         codes,
         used,
         a,
+        &mut words[..64],
+        &mut bytes[..64],
+    )
+}
+
+// A Pauli measured at a qubit of the group: the outcome, whether it was determined, the group's vertices reduced, and the
+// qubit marked as used. The call is admitted; the last two buffers have room for the copy.
+fn measure_within(
+    n: u64,
+    word: u64,
+    group: u8,
+    neighbours: &mut [u64],
+    codes: &mut [u8],
+    used: &mut u64,
+    pauli: u8,
+    qubit: u64,
+    outcome: u8,
+    answer: &mut u8,
+    determined: &mut u8,
+    words: &mut [u64],
+    bytes: &mut [u8],
+) -> u8
+    requires { ⌜ Admitted word group (record {
+      held = record { n = n; neighbours = now neighbours; codes = now codes };
+      used = now used;
+    }) (measurementOf pauli qubit outcome) ⌝ }
+    requires { ⌜ (length (now words) ≡ 64) × (length (now bytes) ≡ 64) ⌝ }
+    ensures { λ r. ⌜ Call (groupMeasureCall word group (record {
+      held = record { n = n; neighbours = now (neighbours .entry); codes = now (codes .entry) };
+      used = now (used .entry);
+    }) pauli qubit outcome (now (answer .entry)) (now (determined .entry))
+        (now (neighbours .exit)) (now (codes .exit)) (now (used .exit)) (now (answer .exit))
+        (now (determined .exit))) r ⌝ }
+{
+    let whole = *used;
+    let mut own_used = take_group(word, group, neighbours, codes, whole, words, bytes);
+    let number = measure_known(
+        n,
+        words,
+        bytes,
+        &mut own_used,
+        pauli,
+        qubit,
+        outcome,
+        answer,
+        determined,
+        true,
+    );
+    if number != 0 {
+        return number;
+    }
+    put_group(word, group, words, bytes, neighbours, codes);
+    *used = put_used(word, group, own_used, whole);
+    0
+}
+
+// A Pauli measured at a qubit of the group: the outcome, whether it was determined, the group's vertices reduced, and the
+// qubit marked as used.
+pub fn measure(
+    n: u64,
+    word: u64,
+    group: u8,
+    neighbours: &mut [u64],
+    codes: &mut [u8],
+    used: &mut u64,
+    pauli: u8,
+    qubit: u64,
+    outcome: u8,
+    answer: &mut u8,
+    determined: &mut u8,
+) -> u8
+    ensures { λ r. ⌜ Call (groupMeasureCall word group (record {
+      held = record { n = n; neighbours = now (neighbours .entry); codes = now (codes .entry) };
+      used = now (used .entry);
+    }) pauli qubit outcome (now (answer .entry)) (now (determined .entry))
+        (now (neighbours .exit)) (now (codes .exit)) (now (used .exit)) (now (answer .exit))
+        (now (determined .exit))) r ⌝ }
+{
+    let other = outside(n, word, group, qubit);
+    let six = (2 <= outcome) | ((pauli == 0) | (4 <= pauli));
+    let whole = *used;
+    let early = group_refusal(n, word, group, neighbours, codes, whole, six, other);
+    if early != 0 {
+        return early;
+    }
+    let mut words = [0u64; 64];
+    let mut bytes = [0u8; 64];
+    measure_within(
+        n,
+        word,
+        group,
+        neighbours,
+        codes,
+        used,
+        pauli,
+        qubit,
+        outcome,
+        answer,
+        determined,
         &mut words[..64],
         &mut bytes[..64],
     )

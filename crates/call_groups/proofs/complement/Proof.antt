@@ -1,68 +1,68 @@
+-- `complement` meets its contract: local complementation at a vertex of the group.
+use mathlib.Core.Path.{_≡_, ap₂, refl}
+use mathlib.Core.Bool.{_||_}
 use borrow.Author.Needs.{needs}
+use lib.Dec.{leb}
+use Rattle.buffers.specs.Refusals.{firstFitting}
+use Rattle.contracts.proofs.Calling.{refused}
+use Rattle.groups.specs.GroupLines.{namesOther}
+use Rattle.groups.specs.Masks.{inGroup}
+use Rattle.groups.specs.internal.Apart.{complement-op}
+use Rattle.operations.specs.Steps.{Operation, complementOf}
+use Rattle.used.specs.Used.{UsedRecord}
+use Rattle.call_groups.proofs.EarlyNumbers.{early-admitted, early-refused, other-as}
+use Rattle.call_groups.specs.internal.BeforeEight.{beforeEight, sixOf}
 use Rattle.call_groups.proofs.complement.Statement.{statement}
 use Rattle.call_groups.proofs.complement.Tie as tie
-use Rattle.call_groups.proofs.complement.Reads as reads
-use Rattle.call_groups.proofs.complement.Lts as lts
-use Rattle.call_groups.proofs.complement_within.Reads as complement-within-reads
-use Rattle.call_groups.proofs.group_refusal.Reads as group-refusal-reads
-use Rattle.call_groups.proofs.outside.Reads as outside-reads
 
--- src/lib.rt:288:9
-outside-requires : tie.Need-outside-requires
-outside-requires c κs = search needs
+-- the record that is lent
+abbrev lent : tie.Start → UsedRecord
+lent S =
+    record {
+      held = record { n = S .args .n; neighbours = S .args .neighbours .now; codes = S .args .codes .now };
+      used = S .args .used;
+    }
 
--- src/lib.rt:289:9
-group-refusal-requires : tie.Need-group-refusal-requires
-group-refusal-requires c κs = search needs
+abbrev asked : tie.Start → Operation
+asked S = complementOf (S .args .a)
 
--- src/lib.rt:291:9
-same-length : tie.Need-same-length
-same-length c = search needs
+-- the number of the lines before 8
+number : (E : tie.After-group-refusal) → let S = E .before .before .before .before .before .before in
+    E .group-refusal .result ≡ firstFitting (beforeEight (S .args .word) (S .args .group) (lent S) (sixOf (asked S))
+    (namesOther (inGroup (S .args .word) (S .args .group)) (S .args .n) (asked S)))
+number E =
+    let O = E .before .before .before in
+    let S = O .before .before .before in
+    other-as (S .args .word) (S .args .group) (lent S) (sixOf (asked S)) (E .group-refusal .ensures) (O .outside .ensures)
 
--- src/lib.rt:291:9
-same-length-2 : tie.Need-same-length-2
-same-length-2 c = search needs
-
--- src/lib.rt:291:9
 returns : tie.Need-returns
-returns c = ?
+returns c =
+    let E = c .before in
+    let O = E .before .before .before in
+    let S = O .before .before .before in
+    refused _ (early-refused (S .args .word) (S .args .group) (lent S) (asked S) (complement-op _) (number E) (c .if1 .taken))
+    (c .if1 .taken) (refl, (refl, tt))
 
--- src/lib.rt:303:9
-slice-aggregate-complement-within : tie.Need-slice-aggregate-complement-within
-slice-aggregate-complement-within c = search needs
-
--- src/lib.rt:304:9
-slice-aggregate-complement-within-2 : tie.Need-slice-aggregate-complement-within-2
-slice-aggregate-complement-within-2 c = search needs
-
--- src/lib.rt:295:5
 complement-within-requires : tie.Need-complement-within-requires
-complement-within-requires c κs = search needs
-
--- src/lib.rt:274:1
-same-length-3 : tie.Need-same-length-3
-same-length-3 c = search needs
-
--- src/lib.rt:274:1
-same-length-4 : tie.Need-same-length-4
-same-length-4 c = search needs
-
--- src/lib.rt:274:1
-returns-2 : tie.Need-returns-2
-returns-2 c = search needs
+complement-within-requires c κs =
+    let D = c .before .before .before .before in
+    let E = D .before in
+    let O = E .before .before .before in
+    let S = O .before .before .before in
+    (early-admitted (S .args .word) (S .args .group) (lent S) (asked S) (number E) (D .if1 .left), (refl, refl))
 
 pub complement-spec : {M : Type 1} → statement M
 complement-spec =
     tie.close
     (tie.spec
-    outside-requires
-    group-refusal-requires
-    same-length
-    same-length-2
+    (λ c κs. search needs)
+    (λ c κs. search needs)
+    (λ c. search needs)
+    (λ c. search needs)
     returns
-    slice-aggregate-complement-within
-    slice-aggregate-complement-within-2
+    (λ c. search needs)
+    (λ c. search needs)
     complement-within-requires
-    same-length-3
-    same-length-4
-    returns-2)
+    (λ c. search needs)
+    (λ c. search needs)
+    (λ c. search needs))

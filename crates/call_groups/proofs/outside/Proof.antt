@@ -1,17 +1,20 @@
+-- `outside` meets its contract: whether a qubit of the record is in the other group.
+use mathlib.Core.Bool.{_&&_, Bool, Bool·beq, not}
+use mathlib.Core.Path.{_≡_, _∙_, ap}
+use lib.Dec.{eqb, ltb}
 use borrow.Author.Needs.{needs}
+use Rattle.words.proofs.Finite.{bits}
+use Rattle.words.specs.Bits.{bit, sameBit}
 use Rattle.call_groups.proofs.outside.Statement.{statement}
 use Rattle.call_groups.proofs.outside.Tie as tie
-use Rattle.call_groups.proofs.outside.Reads as reads
-use Rattle.call_groups.proofs.outside.Lts as lts
-use Rattle.call_gates.proofs.is_used.Reads as is-used-reads
 
--- src/lib.rt:27:20
-is-used-requires : tie.Need-is-used-requires
-is-used-requires c κs = search needs
+unlike : (a b : Bool) → not (Bool·beq a b) ≡ not (sameBit a b)
+unlike = bits 2 (λ a b. not (Bool·beq a b)) (λ a b. not (sameBit a b)) tt
 
--- src/lib.rt:24:1
 returns : tie.Need-returns
-returns c = ?
+returns c =
+    let a = c .before .args in
+    ap (λ b. ltb (a .qubit) (a .n) && b) (ap (λ b. not (Bool·beq b (eqb (a .group) 1))) (c .is-used .ensures) ∙ unlike (bit (a .word) (a .qubit)) (eqb (a .group) 1))
 
 pub outside-spec : {M : Type 1} → statement M
-outside-spec = tie.close (tie.spec is-used-requires returns)
+outside-spec = tie.close (tie.spec (λ c κs. search needs) returns)

@@ -1,31 +1,16 @@
+-- `put_group` meets its contract: the group's vertices of a copy put into the record.
 use borrow.Author.Needs.{needs}
+use Rattle.call_groups.proofs.GroupCalls.{put-back}
 use Rattle.call_groups.proofs.put_group.Statement.{statement}
 use Rattle.call_groups.proofs.put_group.Tie as tie
-use Rattle.call_groups.proofs.put_group.Reads as reads
-use Rattle.call_groups.proofs.put_group.Lts as lts
-use Rattle.groups_masks.proofs.merge.Reads as merge-reads
-use Rattle.groups_masks.proofs.own_word.Reads as own-word-reads
 
--- src/lib.rt:100:9
-own-word-requires : tie.Need-own-word-requires
-own-word-requires c κs = search needs
-
--- src/lib.rt:101:5
-merge-requires : tie.Need-merge-requires
-merge-requires c κs = search needs
-
--- src/lib.rt:87:1
-same-length : tie.Need-same-length
-same-length c = search needs
-
--- src/lib.rt:87:1
-same-length-2 : tie.Need-same-length-2
-same-length-2 c = search needs
-
--- src/lib.rt:87:1
 returns : tie.Need-returns
-returns c = ?
+returns c =
+    let M = c .before .before .before .before in
+    let O = M .before .before .before in
+    let a = O .before .before .before .before .before .args in
+    put-back (a .word) (a .group) (a .words .now) (a .bytes .now) (a .neighbours .now) (a .codes .now)
+    (O .own-word .ensures) (M .merge .ensures .0) (M .merge .ensures .1)
 
 pub put-group-spec : {M : Type 1} → statement M
-put-group-spec =
-    tie.close (tie.spec own-word-requires merge-requires same-length same-length-2 returns)
+put-group-spec = tie.close (tie.spec (λ c κs. search needs) (λ c κs. search needs) (λ c. search needs) (λ c. search needs) returns)
