@@ -1,7 +1,7 @@
 -- The lines of a group's call before 8: their number from the tests in their order, and what it means that none holds.
 use mathlib.Core.Bool.{Bool, false, not, or-false, or-true, true, _||_}
 use mathlib.Core.List.{_++_, List, [], _∷_}
-use mathlib.Core.Path.{ap, ap₂, refl, subst, sym, _∙_, _≡_}
+use mathlib.Core.Path.{ap, refl, subst, sym, _∙_, _≡_}
 use Prim.Native.Nat.{ℕ}
 use lib.Dec.{eqb, ltb}
 use lib.ListN.{length}
@@ -12,7 +12,7 @@ use Rattle.contracts.proofs.Fitting.{decides, first-is, none-fits-of, none-hold
 use Rattle.contracts.specs.Answers.{here, later, none}
 use Rattle.groups.specs.GroupLines.{groupLines, namesOther, withGroup}
 use Rattle.groups.specs.Masks.{crosses, inGroup}
-use Rattle.groups.specs.internal.Apart.{Apart, GroupOp, complement-op, cz-op, gate-op, measure-op}
+use Rattle.groups.specs.internal.Apart.{GroupOp, complement-op, cz-op, gate-op, measure-op}
 use Rattle.groups_masks.proofs.OwnWords.{crosses-reads}
 use Rattle.operations.specs.Steps.{Operation}
 use Rattle.record.proofs.AcceptedRecords.{accepted-record}

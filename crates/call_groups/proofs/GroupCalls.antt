@@ -1,5 +1,5 @@
 -- A group's calls from what is done to the copy of its vertices.
-use mathlib.Core.Bool.{_&&_, cond, _||_}
+use mathlib.Core.Bool.{_&&_, cond}
 use mathlib.Core.List.{List}
 use mathlib.Core.Path.{ap, ap₂, refl, subst, sym, _∙_, _≡_}
 use Prim.Native.Nat.{ℕ}
@@ -7,21 +7,23 @@ use lib.ListN.{getD, length}
 use borrow.Author.Tests.{eq-eqb}
 use Rattle.buffers.specs.Buffers.{tabulate}
 use Rattle.buffers.specs.Refusals.{firstFitting}
-use Rattle.call_gates.proofs.InPlaceCalls.{left-by-call}
-use Rattle.call_gates.specs.InPlaceCalls.{usedCall}
-use Rattle.contracts.proofs.Calling.{done, refused}
-use Rattle.contracts.specs.Calls.{Call}
-use Rattle.groups.proofs.GroupNumbers.{masked-number}
+use Rattle.call_gates.proofs.InPlaceCalls.{left-by-call, marked-by-call}
+use Rattle.call_gates.specs.InPlaceCalls.{usedCall, usedMeasureCall}
+use Rattle.contracts.proofs.Calling.{done, kept-all, refused, written-all}
+use Rattle.contracts.specs.Answers.{HoldsAnswer}
+use Rattle.contracts.specs.Calls.{Call, EachOf}
+use Rattle.groups.proofs.GroupNumbers.{masked-answer, masked-number}
 use Rattle.groups.proofs.GroupPassing.{group-number}
 use Rattle.groups.proofs.MaskedRecords.{apart-record, masked-passes}
 use Rattle.groups.specs.GroupLines.{groupLines, namesOther}
 use Rattle.groups.specs.Masks.{inGroup, masked, merged}
-use Rattle.groups.specs.internal.Apart.{GroupOp}
+use Rattle.groups.specs.internal.Apart.{GroupOp, measure-op}
 use Rattle.groups_masks.proofs.OwnWords.{masked-own, merged-own}
-use Rattle.operations.specs.Steps.{Operation}
-use Rattle.used.specs.Used.{UsedRecord, UsedUnrefused, usedLinesOf, usedStep}
+use Rattle.operations.specs.Measurement.{determinedNumber, outcomeNumber}
+use Rattle.operations.specs.Steps.{Operation, measuredAnswer, measurementOf}
+use Rattle.used.specs.Used.{UsedRecord, UsedUnrefused, usedLinesOf}
 use Rattle.words.specs.Bits.{bit, wordOf}
-use Rattle.call_groups.specs.GroupCalls.{groupCall}
+use Rattle.call_groups.specs.GroupCalls.{groupCall, groupLent, groupMeasureCall}
 use Rattle.call_groups.specs.internal.BeforeEight.{Admitted, PutBack}
 
 -- ---- the copy, and what is put back
@@ -94,12 +96,11 @@ module _ (word g : ℕ) (u : UsedRecord) (o : Operation) (A : Admitted word g u 
       group-refused h = refused _ number h (refl, (refl, tt))
 
       -- accepted, the group's vertices are put back
-      pub group-done : r ≡ 0 → {nb′ cs′ : List ℕ}
+      both-put : {nb′ cs′ : List ℕ}
           → PutBack (inGroup word g) nb cs (u .held .neighbours) (u .held .codes) nb′ cs′
-          → Call (groupCall word g u o nb′ cs′) 0
-      group-done z P =
-          let L = left-by-call (masked (inGroup word g) u) o (subst (λ w. Call (usedCall w o nb cs) r) copied C) in
-          done _ number z (
+          → EachOf HoldsAnswer (groupLent word g u o nb′ cs′)
+      both-put P =
+          let L = left-by-call (masked (inGroup word g) u) o (subst (λ w. Call (usedCall w o nb cs) r) copied C) in (
             P .neighbours ∙ ap₂ (λ m w. tabulate m (λ q. cond (inGroup word g q) (getD w q 0)
                 (getD (u .held .neighbours) q 0))) (sym (A .apart .count)) (L .0),
             (
@@ -108,3 +109,55 @@ module _ (word g : ℕ) (u : UsedRecord) (o : Operation) (A : Admitted word g u 
               tt,
             ),
           )
+
+      pub group-done : r ≡ 0 → {nb′ cs′ : List ℕ}
+          → PutBack (inGroup word g) nb cs (u .held .neighbours) (u .held .codes) nb′ cs′
+          → Call (groupCall word g u o nb′ cs′) 0
+      group-done z P = done _ number z (both-put P)
+
+-- ---- a measurement
+module _ (word g : ℕ) (u : UsedRecord) (pauli q b : ℕ) (A : Admitted word g u (measurementOf pauli q b)) {v : UsedRecord}
+    (copied : v ≡ masked (inGroup word g) u) {answer determined r : ℕ} {nb cs : List ℕ}
+    {own answer′ determined′ : ℕ}
+    (C : Call (usedMeasureCall v pauli q b answer determined nb cs own answer′ determined′) r) where
+  -- without the further answers
+  on-record : Call (usedCall v (measurementOf pauli q b) nb cs) r
+  on-record = record { number = C .number; held = C .held .1 .1 .1 }
+
+  measured-number : r ≡ firstFitting (groupLines word g u (measurementOf pauli q b))
+  measured-number = number word g u (measurementOf pauli q b) A copied (measure-op pauli q b) on-record
+
+  pub measure-refused : (r ≡ 0 → ⊥) → Call (groupMeasureCall word g u pauli q b answer determined
+      (u .held .neighbours) (u .held .codes) (u .used) answer′ determined′) r
+  measure-refused h =
+      let K = kept-all C h in
+      refused _ measured-number h (refl, (K .1 .0, (K .1 .1 .0, (refl, (refl, tt)))))
+
+  -- accepted: the outcome is that of the whole record
+  module _ (z : r ≡ 0) where
+    on-copy : Call (usedMeasureCall (masked (inGroup word g) u) pauli q b answer determined nb cs own answer′
+        determined′) r
+    on-copy = subst (λ w. Call (usedMeasureCall w pauli q b answer determined nb cs own answer′ determined′) r) copied C
+
+    same-answer : measuredAnswer ((masked (inGroup word g) u) .held) pauli q b ≡ measuredAnswer (u .held) pauli q b
+    same-answer = sym (masked-answer word g u (A .apart) pauli q b (A .own)
+        (masked-number word g u (A .apart) (measurementOf pauli q b) (measure-op pauli q b) (A .own)
+        ∙ sym (on-copy .number) ∙ z))
+
+    pub measure-done : {nb′ cs′ : List ℕ} {used′ : ℕ}
+        → PutBack (inGroup word g) nb cs (u .held .neighbours) (u .held .codes) nb′ cs′
+        → used′ ≡ wordOf 64 (λ t. cond (inGroup word g t) (bit own t) (bit (u .used) t))
+        → Call (groupMeasureCall word g u pauli q b answer determined nb′ cs′ used′ answer′ determined′) 0
+    measure-done P eu =
+        let W = written-all on-copy z in
+        done _ measured-number z (
+          eu ∙ ap₂ (λ m w. wordOf m (λ t. cond (inGroup word g t) (bit w t) (bit (u .used) t)))
+              (sym (A .apart .count)) (marked-by-call (masked (inGroup word g) u) pauli q b on-copy),
+          (
+            W .1 .0 ∙ ap outcomeNumber same-answer,
+            (
+              W .1 .1 .0 ∙ ap determinedNumber same-answer,
+              both-put word g u (measurementOf pauli q b) A copied (measure-op pauli q b) on-record P,
+            ),
+          ),
+        )

@@ -1,8 +1,6 @@
 -- `complement` meets its contract: local complementation at a vertex of the group.
-use mathlib.Core.Path.{_≡_, ap₂, refl}
-use mathlib.Core.Bool.{_||_}
+use mathlib.Core.Path.{_≡_, refl}
 use borrow.Author.Needs.{needs}
-use lib.Dec.{leb}
 use Rattle.buffers.specs.Refusals.{firstFitting}
 use Rattle.contracts.proofs.Calling.{refused}
 use Rattle.groups.specs.GroupLines.{namesOther}
@@ -49,7 +47,7 @@ complement-within-requires c κs =
     let E = D .before in
     let O = E .before .before .before in
     let S = O .before .before .before in
-    (early-admitted (S .args .word) (S .args .group) (lent S) (asked S) (number E) (D .if1 .left), (refl, refl))
+    (early-admitted (S .args .word) (S .args .group) (lent S) (asked S) (number E) (D .if1 .left), (refl {a = 64}, refl {a = 64}))
 
 pub complement-spec : {M : Type 1} → statement M
 complement-spec =

@@ -1,7 +1,6 @@
 -- `complement_within` meets its contract: local complementation of the copy of the group's vertices, which are put back.
-use mathlib.Core.Path.{_≡_, _∙_}
+use mathlib.Core.Path.{_∙_}
 use borrow.Author.Needs.{needs}
-use Rattle.groups.specs.Masks.{inGroup, masked}
 use Rattle.groups.specs.internal.Apart.{complement-op}
 use Rattle.operations.specs.Steps.{Operation, complementOf}
 use Rattle.used.specs.Used.{UsedRecord}

@@ -1,7 +1,6 @@
 -- `cz_within` meets its contract: CZ on two qubits of the copy of the group's vertices, which are put back.
-use mathlib.Core.Path.{_≡_, _∙_}
+use mathlib.Core.Path.{_∙_}
 use borrow.Author.Needs.{needs}
-use Rattle.groups.specs.Masks.{inGroup, masked}
 use Rattle.groups.specs.internal.Apart.{cz-op}
 use Rattle.operations.specs.Steps.{Operation, czOn}
 use Rattle.used.specs.Used.{UsedRecord}

@@ -1,7 +1,6 @@
 -- `gate_within` meets its contract: a code applied to the copy of the group's vertices, which are put back.
-use mathlib.Core.Path.{_≡_, _∙_}
+use mathlib.Core.Path.{_∙_}
 use borrow.Author.Needs.{needs}
-use Rattle.groups.specs.Masks.{inGroup, masked}
 use Rattle.groups.specs.internal.Apart.{gate-op}
 use Rattle.operations.specs.Steps.{Operation, gateWith}
 use Rattle.used.specs.Used.{UsedRecord}

@@ -1,68 +1,66 @@
+-- `measure` meets its contract: a Pauli measured at a qubit of the group, whose vertices are reduced.
+use mathlib.Core.Path.{_≡_, refl}
 use borrow.Author.Needs.{needs}
+use Rattle.buffers.specs.Refusals.{firstFitting}
+use Rattle.contracts.proofs.Calling.{refused}
+use Rattle.groups.specs.GroupLines.{namesOther}
+use Rattle.groups.specs.Masks.{inGroup}
+use Rattle.groups.specs.internal.Apart.{measure-op}
+use Rattle.operations.specs.Steps.{Operation, measurementOf}
+use Rattle.used.specs.Used.{UsedRecord}
+use Rattle.call_groups.proofs.EarlyNumbers.{early-admitted, early-refused, other-as}
+use Rattle.call_groups.specs.internal.BeforeEight.{beforeEight, sixOf}
 use Rattle.call_groups.proofs.measure.Statement.{statement}
 use Rattle.call_groups.proofs.measure.Tie as tie
-use Rattle.call_groups.proofs.measure.Reads as reads
-use Rattle.call_groups.proofs.measure.Lts as lts
-use Rattle.call_groups.proofs.group_refusal.Reads as group-refusal-reads
-use Rattle.call_groups.proofs.measure_within.Reads as measure-within-reads
-use Rattle.call_groups.proofs.outside.Reads as outside-reads
 
--- src/lib.rt:392:9
-outside-requires : tie.Need-outside-requires
-outside-requires c κs = search needs
+-- the record that is lent
+abbrev lent : tie.Start → UsedRecord
+lent S =
+    record {
+      held = record { n = S .args .n; neighbours = S .args .neighbours .now; codes = S .args .codes .now };
+      used = S .args .used .now;
+    }
 
--- src/lib.rt:395:9
-group-refusal-requires : tie.Need-group-refusal-requires
-group-refusal-requires c κs = search needs
+abbrev asked : tie.Start → Operation
+asked S = measurementOf (S .args .pauli) (S .args .qubit) (S .args .outcome)
 
--- src/lib.rt:397:9
-same-length : tie.Need-same-length
-same-length c = search needs
+-- the number of the lines before 8
+number : (E : tie.After-group-refusal) → let S = E .before .before .before .before .before .before .before in
+    E .group-refusal .result ≡ firstFitting (beforeEight (S .args .word) (S .args .group) (lent S) (sixOf (asked S))
+    (namesOther (inGroup (S .args .word) (S .args .group)) (S .args .n) (asked S)))
+number E =
+    let O = E .before .before .before .before in
+    let S = O .before .before .before in
+    other-as (S .args .word) (S .args .group) (lent S) (sixOf (asked S)) (E .group-refusal .ensures) (O .outside .ensures)
 
--- src/lib.rt:397:9
-same-length-2 : tie.Need-same-length-2
-same-length-2 c = search needs
-
--- src/lib.rt:397:9
 returns : tie.Need-returns
-returns c = ?
+returns c =
+    let E = c .before in
+    let O = E .before .before .before .before in
+    let S = O .before .before .before in
+    refused _ (early-refused (S .args .word) (S .args .group) (lent S) (asked S) (measure-op _ _ _) (number E) (c .if1 .taken))
+    (c .if1 .taken) (refl, (refl, (refl, (refl, (refl, tt)))))
 
--- src/lib.rt:413:9
-slice-aggregate-measure-within : tie.Need-slice-aggregate-measure-within
-slice-aggregate-measure-within c = search needs
-
--- src/lib.rt:414:9
-slice-aggregate-measure-within-2 : tie.Need-slice-aggregate-measure-within-2
-slice-aggregate-measure-within-2 c = search needs
-
--- src/lib.rt:401:5
 measure-within-requires : tie.Need-measure-within-requires
-measure-within-requires c κs = search needs
-
--- src/lib.rt:372:1
-same-length-3 : tie.Need-same-length-3
-same-length-3 c = search needs
-
--- src/lib.rt:372:1
-same-length-4 : tie.Need-same-length-4
-same-length-4 c = search needs
-
--- src/lib.rt:372:1
-returns-2 : tie.Need-returns-2
-returns-2 c = search needs
+measure-within-requires c κs =
+    let D = c .before .before .before .before .before .before .before in
+    let E = D .before in
+    let O = E .before .before .before .before in
+    let S = O .before .before .before in
+    (early-admitted (S .args .word) (S .args .group) (lent S) (asked S) (number E) (D .if1 .left), (refl {a = 64}, refl {a = 64}))
 
 pub measure-spec : {M : Type 1} → statement M
 measure-spec =
     tie.close
     (tie.spec
-    outside-requires
-    group-refusal-requires
-    same-length
-    same-length-2
+    (λ c κs. search needs)
+    (λ c κs. search needs)
+    (λ c. search needs)
+    (λ c. search needs)
     returns
-    slice-aggregate-measure-within
-    slice-aggregate-measure-within-2
+    (λ c. search needs)
+    (λ c. search needs)
     measure-within-requires
-    same-length-3
-    same-length-4
-    returns-2)
+    (λ c. search needs)
+    (λ c. search needs)
+    (λ c. search needs))

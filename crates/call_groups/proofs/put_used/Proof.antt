@@ -1,22 +1,20 @@
+-- `put_used` meets its contract: the used qubits of the group from one word, and of the other from another.
+use mathlib.Core.Bool.{cond}
+use mathlib.Core.Path.{ap, _∙_}
 use borrow.Author.Needs.{needs}
+use Rattle.groups.proofs.Merging.{word-cong}
+use Rattle.groups.specs.Masks.{inGroup}
+use Rattle.groups_masks.proofs.OwnWords.{own-bit}
+use Rattle.words.specs.Bits.{bit}
 use Rattle.call_groups.proofs.put_used.Statement.{statement}
 use Rattle.call_groups.proofs.put_used.Tie as tie
-use Rattle.call_groups.proofs.put_used.Reads as reads
-use Rattle.call_groups.proofs.put_used.Lts as lts
-use Rattle.groups_masks.proofs.merge_used.Reads as merge-used-reads
-use Rattle.groups_masks.proofs.own_word.Reads as own-word-reads
 
--- src/lib.rt:112:16
-own-word-requires : tie.Need-own-word-requires
-own-word-requires c κs = search needs
-
--- src/lib.rt:112:5
-merge-used-requires : tie.Need-merge-used-requires
-merge-used-requires c κs = search needs
-
--- src/lib.rt:109:1
 returns : tie.Need-returns
-returns c = ?
+returns c =
+    let O = c .before in
+    let a = O .before .args in
+    c .merge-used .ensures ∙ word-cong 64 _ _ (λ q l. ap (λ b. cond b (bit (a .new) q) (bit (a .used) q))
+    (own-bit _ (inGroup (a .word) (a .group)) (O .own-word .ensures) q l))
 
 pub put-used-spec : {M : Type 1} → statement M
-put-used-spec = tie.close (tie.spec own-word-requires merge-used-requires returns)
+put-used-spec = tie.close (tie.spec (λ c κs. search needs) (λ c κs. search needs) returns)
