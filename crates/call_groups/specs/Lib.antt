@@ -1,1 +1,2 @@
 pub mod GroupCalls
+pub mod internal
