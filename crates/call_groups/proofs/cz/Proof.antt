@@ -1,4 +1,5 @@
 -- `cz` meets its contract: CZ on two qubits of the group, whose vertices are reduced.
+use mathlib.Core.Bool.{_||_}
 use mathlib.Core.Path.{_≡_, ap₂, refl}
 use borrow.Author.Needs.{needs}
 use Rattle.buffers.specs.Refusals.{firstFitting}
