@@ -109,7 +109,7 @@ fn own_find(group: u8, heads: &[u64], name: u64) -> usize
     requires { ⌜ (group ≤ 1) × (length (now heads) ≡ 24) ⌝ }
     ensures { λ r. ⌜ r ≡ placeOf 4 (take 12 (drop (12 * group) (now (heads .entry)))) name ⌝ }
 {
-    let at = 12 * (group as usize);
+    let at = 12 * (group as usize); // the group's own names
     find(4, &heads[at..at + 12], name)
 }
 
@@ -154,7 +154,7 @@ fn put_masked(
     let at = 64 * i;
     let end = at + 64;
     mask(
-        own,
+        own, // the group's own vertices
         neighbours,
         codes,
         &mut held_neighbours[at..end],
