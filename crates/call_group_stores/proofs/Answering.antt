@@ -11,6 +11,7 @@ use Rattle.contracts.proofs.Fitting.{decides, stays}
 use Rattle.contracts.specs.Answers.{here, later, none}
 use Rattle.contracts.specs.Calls.{Call}
 use Rattle.group_store_checks.proofs.HeldStates.{held-count}
+use Rattle.group_store_places.proofs.Moving.{of64}
 use Rattle.groups.proofs.OwnPlaces.{count-own}
 use Rattle.groups.specs.GroupStores.{groupReturned, groupSaved, ownPlaces, sharedLines}
 use Rattle.groups.specs.Masks.{inGroup, masked, merged}
@@ -24,7 +25,6 @@ use Rattle.used.specs.Used.{UsedRecord}
 use Rattle.words.proofs.Flags.{both-true}
 use Rattle.words.proofs.SearchLaws.{some-true}
 use Rattle.words.specs.Bits.{bit, wordOf}
-use Rattle.call_group_stores.proofs.Moving.{of64}
 use Rattle.call_group_stores.proofs.Sharing.{Ready, shared-ready}
 use Rattle.call_group_stores.specs.GroupStoreCalls.{groupForgetCall, groupReturnCall, groupSaveCall}
 
