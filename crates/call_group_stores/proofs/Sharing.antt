@@ -39,14 +39,6 @@ six-joined : Law ℕ 6 joined apart
 unfolding firstFitting
 six-joined = law eqb eqb→eq 6 joined apart tt
 
--- a record and a store that the shared lines but 19 pass
-pub record Ready (g : ℕ) (u : UsedRecord) (st : Store) : Type 0 where
-  pub count : u .held .n ≡ 64
-  pub group : g ≤ 1
-  pub accepted : AcceptedRecord (u .held)
-  pub long : EightLong st
-  pub few : otherCount (ownPlaces g st) ≡ false
-
 module _ (word g : ℕ) (u : UsedRecord) (st : Store) where
   abbrev ownOnes : List Refusal
   ownOnes = ownLines (inGroup word g) g st
@@ -83,8 +75,10 @@ module _ (word g : ℕ) (u : UsedRecord) (st : Store) where
     shared-early k = stays earlyOnes _ early-number k
 
     module _ (z : r ≡ 0) where
-      pub early-none : NoneHolds earlyOnes
-      early-none = none-holds earlyOnes refl (sym early-number ∙ z)
+      -- the record passes, and has a neighbour word for each qubit
+      pub words-fit : length (u .held .neighbours) ≡ 64
+      words-fit = held-record u (earlier-none _ _ (sym both-numbers ∙ sym e ∙ earlier-none both six (sym h ∙ z) .0) .0)
+          .neighbours-length ∙ count
 
       pub shared-last : (b : Bool) → b ≡ crosses word u → cond b 19 0 ≡ firstFitting (sharedLines word g u st)
       shared-last b c = decides earlyOnes refl early-number z (last b c)
@@ -92,39 +86,3 @@ module _ (word g : ℕ) (u : UsedRecord) (st : Store) where
           last : (b : Bool) → b ≡ crosses word u → FirstFits (line 19 (crosses word u) ∷ []) (cond b 19 0)
           last true c = here (sym c)
           last false c = later (sym c) none
-
-  -- what no line refuses
-  module _ (h : NoneHolds earlyOnes) where
-    tests-none : NoneHolds (recordTests test)
-    tests-none = (
-      neither (test 2) false (neither (test 2 || false) _ (h .0) .0) .0,
-      (
-        plain (test 4) (h .1 .0),
-        (
-          plain (test 5) (h .1 .1 .0),
-          (
-            neither (test 6) (ltb 1 g) (neither (test 6 || ltb 1 g) false (h .1 .1 .1 .0) .0) .0,
-            (plain (test 7) (h .1 .1 .1 .1 .0), tt),
-          ),
-        ),
-      ),
-    )
-      where
-        plain : (b : Bool) → ((b || false) || false) ≡ false → b ≡ false
-        plain b e = neither b false (neither (b || false) false e .0) .0
-
-    numbers-none : (firstFitting (usedLines u false false false) ≡ 0) × (firstFitting ownOnes ≡ 0)
-    numbers-none = earlier-none _ _ (sym both-numbers ∙ none-fits-of (recordTests test) tests-none)
-
-    pub ready : Ready g u st
-    ready = let P = own-passes (inGroup word g) g st (numbers-none .1) in
-        record {
-          count = eqb-true (u .held .n) 64 (not-false _ (neither (test 2 || false) _ (h .0) .1));
-          group = ltb-false 1 g (neither (test 6) (ltb 1 g) (neither (test 6 || ltb 1 g) false (h .1 .1 .1 .0) .0) .1);
-          accepted = held-record u (numbers-none .0);
-          long = P .0;
-          few = P .1;
-        }
-
-  pub shared-ready : firstFitting (sharedLines word g u st) ≡ 0 → Ready g u st
-  shared-ready z = ready (front-none earlyOnes (line 19 (crosses word u) ∷ []) (none-holds (sharedLines word g u st) refl z))

@@ -1,8 +1,9 @@
--- A group's own call on two states that look alike to it: the same number, the same outcome, and what is left looks alike.
+-- A group's own call on two states that look alike to it: the same number, the same outcome, and what is left looks
+-- alike.
 use mathlib.Core.Bool.{Bool, cond, false, not, true}
-use mathlib.Core.List.{_++_, List, [], _∷_}
-use mathlib.Core.Path.{ap, ap₂, refl, subst, sym, _∙_, _≡_}
-use Prim.Native.Nat.{_*_, _+_, _<_, _≤_, ℕ}
+use mathlib.Core.List.{_++_, [], _∷_}
+use mathlib.Core.Path.{ap, refl, sym, _∙_, _≡_}
+use Prim.Native.Nat.{_*_, _+_, _<_, ℕ}
 use native.Mathlib.Omega.{arith}
 use lib.Dec.{eqb, ltb}
 use lib.ListN.{set}
@@ -16,17 +17,17 @@ use Rattle.groups.proofs.Merging.{masked-merged-own}
 use Rattle.groups.proofs.OwnPlaces.{EightLong, freed-own-heads, place-own, placed-own-places}
 use Rattle.groups.proofs.SharedLines.{named-count, named-place, save-place, shared-alone}
 use Rattle.groups.specs.GroupLines.{groupAfter, groupLines}
-use Rattle.groups.specs.GroupStores.{groupForgotten, groupNamedLines, groupReturned, groupSaveLines, groupSaved, ownPlaces}
-use Rattle.groups.specs.Masks.{inGroup, masked, merged}
+use Rattle.groups.specs.GroupStores.{groupNamedLines, groupReturned, groupSaveLines, groupSaved, ownPlaces}
+use Rattle.groups.specs.Masks.{inGroup, masked}
 use Rattle.groups.specs.internal.Apart.{Apart, GroupOp, complement-op, cz-op, gate-op, measure-op}
 use Rattle.operations.specs.Measurement.{determinedNumber, outcomeNumber}
 use Rattle.operations.specs.Steps.{Operation, complementOf, czOn, gateWith, leaves, measuredAnswer, measurementOf}
 use Rattle.store.specs.Kept.{savePlace, withPlace}
 use Rattle.store.specs.Places.{Store, holdsName, othersHeld, placeAt, placeOf}
 use Rattle.used.specs.Used.{UsedRecord, usedAfter, usedLinesOf, usedStep}
-use Rattle.claims_groups.proofs.Views.{Alike, Good}
+use Rattle.claims_groups.proofs.Views.{Good}
 use Rattle.claims_groups.specs.GroupRuns.{
-  GroupCall,
+  SharedCall,
   SharedState,
   groupComplement,
   groupCz,
@@ -39,14 +40,15 @@ use Rattle.claims_groups.specs.GroupRuns.{
   sharedLeft,
   sharedNumber,
 }
+use Rattle.claims_groups.specs.GroupsDemand.{LooksAlike}
 
 -- the state that a return finds
 pub held-place : (word g : ℕ) → g < 2 → (u : UsedRecord) (name : ℕ) (st : Store) → EightLong st →
     firstFitting (groupNamedLines word g u name st) ≡ 0 → placeAt st (4 * g + placeOf 4 ((ownPlaces g st) .heads) name)
     ≡ placeAt (ownPlaces g st) (placeOf 4 ((ownPlaces g st) .heads) name)
 held-place word g lg u name st L z =
-    place-own g (placeOf 4 ((ownPlaces g st) .heads) name) st lg (named-place word g u name st lg L z) L
-    (omega (arith, named-count word g u name st lg L z))
+    place-own g (placeOf 4 ((ownPlaces g st) .heads) name) st lg (named-place word g u name st z) L
+    (omega (arith, named-count word g u name st z))
 
 -- an operation keeps the count
 pub step-count : (u : UsedRecord) (o : Operation) → (usedStep u o) .after .held .n ≡ u .held .n
@@ -63,25 +65,27 @@ operation-left word g u o = masked-merged-own (inGroup word g) ((usedStep (maske
     (step-count (masked (inGroup word g) u) o)
 
 -- what a return leaves there
-returned-left : (word g : ℕ) → g < 2 → (u : UsedRecord) (name : ℕ) (st : Store) → Apart word u → EightLong st →
+pub returned-left : (word g : ℕ) → g < 2 → (u : UsedRecord) (name : ℕ) (st : Store) → Apart word u → EightLong st →
     firstFitting (groupNamedLines word g u name st) ≡ 0 → masked (inGroup word g) (groupReturned word g u name st)
     ≡ masked (inGroup word g) (placeAt (ownPlaces g st) (placeOf 4 ((ownPlaces g st) .heads) name))
 returned-left word g lg u name st H L z =
     let p = placeOf 4 ((ownPlaces g st) .heads) name in
     let same = held-place word g lg u name st L z in
     masked-merged-own (inGroup word g) (placeAt st (4 * g + p)) u
-    (ap (λ v. v .held .n) same ∙ named-count word g u name st lg L z ∙ sym (H .count))
+    (ap (λ v. v .held .n) same ∙ named-count word g u name st z ∙ sym (H .count))
     ∙ ap (masked (inGroup word g)) same
 
 -- what a save leaves in its places
-saved-left : (word g : ℕ) → g < 2 → (u : UsedRecord) (name : ℕ) (st : Store) → Apart word u → EightLong st →
+pub saved-left : (word g : ℕ) → g < 2 → (u : UsedRecord) (name : ℕ) (st : Store) → Apart word u → EightLong st →
     firstFitting (groupSaveLines word g u name st) ≡ 0 → ownPlaces g (groupSaved word g u name st)
     ≡ withPlace (savePlace 4 ((ownPlaces g st) .heads) name) (masked (inGroup word g) u) name (ownPlaces g st)
 saved-left word g lg u name st H L z =
     placed-own-places g (savePlace 4 ((ownPlaces g st) .heads) name) (masked (inGroup word g) u) name st lg
-    (save-place word g u name st lg L z) (tabulate-length (u .held .n) _ ∙ H .count) (tabulate-length (u .held .n) _ ∙ H .count) L
+    (save-place word g u name st z) (tabulate-length (u .held .n) _ ∙ H .count)
+    (tabulate-length (u .held .n) _ ∙ H .count) L
 
-module _ (word g : ℕ) (lg : g < 2) (s t : SharedState) (S : Good word s) (T : Good word t) (A : Alike word g s t) where
+module _ (word g : ℕ) (lg : g < 2) (s t : SharedState) (S : Good word s) (T : Good word t)
+    (A : LooksAlike word g s t) where
   low : ltb 1 g ≡ false
   low = le-ltb 1 g (omega (arith, lg))
 
@@ -93,23 +97,26 @@ module _ (word g : ℕ) (lg : g < 2) (s t : SharedState) (S : Good word s) (T : 
       ∙ ap (λ v. firstFitting (groupLines word g v o)) (A .vertices)
       ∙ sym (group-alone word g (t .current) (T .apart) low o G)
 
-  pub own-number : (c : GroupCall) → sharedNumber word g s c ≡ sharedNumber word g t c
+  pub own-number : (c : SharedCall) → sharedNumber word g s c ≡ sharedNumber word g t c
   own-number (groupGate q k) = operation-number _ (gate-op q k)
   own-number (groupCz a b) = operation-number _ (cz-op a b)
   own-number (groupMeasure pauli q b) = operation-number _ (measure-op pauli q b)
   own-number (groupComplement a) = operation-number _ (complement-op a)
   own-number (groupSave name) = λ j. firstFitting
-      (shared-alone word g (s .current) (t .current) (s .store) (t .store) (S .apart) (T .apart) (S .long) (T .long) (A .places) j
+      (shared-alone word g (s .current) (t .current) (s .store) (t .store) (S .apart) (T .apart) (S .long) (T .long)
+      (A .places) j
       ++ (line 18 (othersHeld 4 ((A .places j) .heads) name) ∷ []))
   own-number (groupReturn name) = λ j. firstFitting
-      (shared-alone word g (s .current) (t .current) (s .store) (t .store) (S .apart) (T .apart) (S .long) (T .long) (A .places) j
+      (shared-alone word g (s .current) (t .current) (s .store) (t .store) (S .apart) (T .apart) (S .long) (T .long)
+      (A .places) j
       ++ (line 17 (not (holdsName 4 ((A .places j) .heads) name)) ∷ []))
   own-number (groupForget name) = λ j. firstFitting
-      (shared-alone word g (s .current) (t .current) (s .store) (t .store) (S .apart) (T .apart) (S .long) (T .long) (A .places) j
+      (shared-alone word g (s .current) (t .current) (s .store) (t .store) (S .apart) (T .apart) (S .long) (T .long)
+      (A .places) j
       ++ (line 17 (not (holdsName 4 ((A .places j) .heads) name)) ∷ []))
 
   -- ---- what is left
-  operation-alike : (o : Operation) → Alike word g
+  operation-alike : (o : Operation) → LooksAlike word g
       (record { current = groupAfter word g (s .current) o; store = s .store })
       (record { current = groupAfter word g (t .current) o; store = t .store })
   operation-alike o =
@@ -120,7 +127,8 @@ module _ (word g : ℕ) (lg : g < 2) (s t : SharedState) (S : Good word s) (T : 
         places = A .places;
       }
 
-  pub own-left : (c : GroupCall) → sharedNumber word g s c ≡ 0 → Alike word g (sharedLeft word g s c) (sharedLeft word g t c)
+  pub own-left : (c : SharedCall) → sharedNumber word g s c ≡ 0 →
+      LooksAlike word g (sharedLeft word g s c) (sharedLeft word g t c)
   own-left (groupGate q k) z = operation-alike (gateWith q k)
   own-left (groupCz a b) z = operation-alike (czOn a b)
   own-left (groupMeasure pauli q b) z = operation-alike (measurementOf pauli q b)
@@ -130,7 +138,8 @@ module _ (word g : ℕ) (lg : g < 2) (s t : SharedState) (S : Good word s) (T : 
         vertices = A .vertices;
         places = saved-left word g lg (s .current) name (s .store) (S .apart) (S .long) z
             ∙ (λ j. withPlace (savePlace 4 ((A .places j) .heads) name) (A .vertices j) name (A .places j))
-            ∙ sym (saved-left word g lg (t .current) name (t .store) (T .apart) (T .long) (sym (own-number (groupSave name)) ∙ z));
+            ∙ sym (saved-left word g lg (t .current) name (t .store) (T .apart) (T .long)
+            (sym (own-number (groupSave name)) ∙ z));
       }
   own-left (groupReturn name) z =
       record {
@@ -145,10 +154,10 @@ module _ (word g : ℕ) (lg : g < 2) (s t : SharedState) (S : Good word s) (T : 
         vertices = A .vertices;
         places = λ j. record {
           heads = (freed-own-heads g (placeOf 4 ((ownPlaces g (s .store)) .heads) name)
-              (named-place word g (s .current) name (s .store) lg (S .long) z) (s .store .heads)
+              (named-place word g (s .current) name (s .store) z) (s .store .heads)
               ∙ ap (λ own. set (own .heads) (3 * placeOf 4 (own .heads) name) 0) (A .places)
               ∙ sym (freed-own-heads g (placeOf 4 ((ownPlaces g (t .store)) .heads) name)
-              (named-place word g (t .current) name (t .store) lg (T .long) (sym (own-number (groupForget name)) ∙ z))
+              (named-place word g (t .current) name (t .store) (sym (own-number (groupForget name)) ∙ z))
               (t .store .heads))) j;
           neighbours = (A .places j) .neighbours;
           codes = (A .places j) .codes;
@@ -156,7 +165,7 @@ module _ (word g : ℕ) (lg : g < 2) (s t : SharedState) (S : Good word s) (T : 
       }
 
   -- ---- the outcome
-  pub own-measured : (c : GroupCall) → sharedNumber word g s c ≡ 0 → measuredNumbers s c ≡ measuredNumbers t c
+  pub own-measured : (c : SharedCall) → sharedNumber word g s c ≡ 0 → measuredNumbers s c ≡ measuredNumbers t c
   own-measured (groupGate q k) z = refl
   own-measured (groupCz a b) z = refl
   own-measured (groupMeasure pauli q b) z = ap (λ o. outcomeNumber o ∷ determinedNumber o ∷ [])

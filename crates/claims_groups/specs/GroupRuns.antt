@@ -21,20 +21,21 @@ use Rattle.operations.specs.Steps.{complementOf, czOn, gateWith, measuredAnswer
 use Rattle.store.specs.Places.{Store}
 use Rattle.used.specs.Used.{UsedRecord}
 
--- "Group calls are gate, cz, measure, complement, .. save, return and forget", with their arguments; a group has no pivot
-pub data GroupCall : Type 0 where
-  groupGate : ℕ → ℕ → GroupCall
-  groupCz : ℕ → ℕ → GroupCall
-  groupMeasure : ℕ → ℕ → ℕ → GroupCall
-  groupComplement : ℕ → GroupCall
-  groupSave : ℕ → GroupCall
-  groupReturn : ℕ → GroupCall
-  groupForget : ℕ → GroupCall
+-- "Group calls are gate, cz, measure, complement, .. save, return and forget", with their arguments; a group has no
+-- pivot
+pub data SharedCall : Type 0 where
+  groupGate : ℕ → ℕ → SharedCall
+  groupCz : ℕ → ℕ → SharedCall
+  groupMeasure : ℕ → ℕ → ℕ → SharedCall
+  groupComplement : ℕ → SharedCall
+  groupSave : ℕ → SharedCall
+  groupReturn : ℕ → SharedCall
+  groupForget : ℕ → SharedCall
 
 -- a call of a run, with the number of its group. One above 1 is no group: its call is refused, and changes nothing
 pub record CallOf : Type 0 where
   pub group : ℕ
-  pub call : GroupCall
+  pub call : SharedCall
 
 -- "Two groups share one record", and one store
 pub record SharedState : Type 0 where
@@ -51,7 +52,7 @@ sharedStart =
 
 -- ---- one call
 -- its lines in checking order
-abbrev pub sharedCallLines : ℕ → ℕ → SharedState → GroupCall → List Refusal
+abbrev pub sharedCallLines : ℕ → ℕ → SharedState → SharedCall → List Refusal
 sharedCallLines word g s (groupGate q k) = groupLines word g (s .current) (gateWith q k)
 sharedCallLines word g s (groupCz a b) = groupLines word g (s .current) (czOn a b)
 sharedCallLines word g s (groupMeasure pauli q b) = groupLines word g (s .current) (measurementOf pauli q b)
@@ -61,11 +62,11 @@ sharedCallLines word g s (groupReturn name) = groupNamedLines word g (s .current
 sharedCallLines word g s (groupForget name) = groupNamedLines word g (s .current) name (s .store)
 
 -- the number that it answers
-abbrev pub sharedNumber : ℕ → ℕ → SharedState → GroupCall → ℕ
+abbrev pub sharedNumber : ℕ → ℕ → SharedState → SharedCall → ℕ
 sharedNumber word g s c = firstFitting (sharedCallLines word g s c)
 
 -- what an accepted one leaves
-abbrev pub sharedLeft : ℕ → ℕ → SharedState → GroupCall → SharedState
+abbrev pub sharedLeft : ℕ → ℕ → SharedState → SharedCall → SharedState
 sharedLeft word g s (groupGate q k) =
     record { current = groupAfter word g (s .current) (gateWith q k); store = s .store }
 sharedLeft word g s (groupCz a b) = record { current = groupAfter word g (s .current) (czOn a b); store = s .store }
@@ -88,11 +89,11 @@ sharedLeft word g s (groupForget name) =
     }
 
 -- what a call leaves: refused, it "changes no lent byte"
-abbrev pub sharedAfter : ℕ → ℕ → SharedState → GroupCall → SharedState
+abbrev pub sharedAfter : ℕ → ℕ → SharedState → SharedCall → SharedState
 sharedAfter word g s c = cond (eqb (sharedNumber word g s c) 0) (sharedLeft word g s c) s
 
 -- the outcome and the determined bit that an accepted call answers: a measurement's alone
-abbrev pub measuredNumbers : SharedState → GroupCall → List ℕ
+abbrev pub measuredNumbers : SharedState → SharedCall → List ℕ
 measuredNumbers s (groupGate q k) = []
 measuredNumbers s (groupCz a b) = []
 measuredNumbers s (groupMeasure pauli q b) =
@@ -104,18 +105,18 @@ measuredNumbers s (groupReturn name) = []
 measuredNumbers s (groupForget name) = []
 
 -- those of a call: a refused one answers none
-abbrev pub sharedMeasured : ℕ → ℕ → SharedState → GroupCall → List ℕ
+abbrev pub sharedMeasured : ℕ → ℕ → SharedState → SharedCall → List ℕ
 sharedMeasured word g s c = cond (eqb (sharedNumber word g s c) 0) (measuredNumbers s c) []
 
 -- ---- a run
 -- "one group's calls .. in order"
-abbrev pub only : ℕ → List CallOf → List GroupCall
-only g [] = []
-only g (c ∷ cs) = cond (eqb (c .group) g) (c .call ∷ only g cs) (only g cs)
+abbrev pub ownCalls : ℕ → List CallOf → List SharedCall
+ownCalls g [] = []
+ownCalls g (c ∷ cs) = cond (eqb (c .group) g) (c .call ∷ ownCalls g cs) (ownCalls g cs)
 
--- "that group's refusals, outcomes, determined bits, codes, neighbour words, used bits and saved states": the last four as
--- they are after the call. The codes, words and used bits are those at the group's qubits; the saved states, what its
--- four places hold
+-- "that group's refusals, outcomes, determined bits, codes, neighbour words, used bits and saved states": the last
+-- four as they are after the call. The codes, words and used bits are those at the group's qubits; the saved states,
+-- what its four places hold
 pub record Observation : Type 0 where
   pub refusal : ℕ
   pub measured : List ℕ
@@ -123,7 +124,7 @@ pub record Observation : Type 0 where
   pub saved-states : Store
 
 -- of one call of the group
-abbrev pub observed : ℕ → ℕ → SharedState → GroupCall → Observation
+abbrev pub observed : ℕ → ℕ → SharedState → SharedCall → Observation
 observed word g s c =
     record {
       refusal = sharedNumber word g s c;

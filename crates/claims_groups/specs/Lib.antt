@@ -1,2 +1,4 @@
 pub mod GroupRuns
+pub mod GroupContracts
 pub mod GroupsDemand
+pub mod GroupKeeps

@@ -65,7 +65,8 @@ module _ (word g : ℕ) (u : UsedRecord) (H : Apart word u) (low : ltb 1 g ≡ f
   names-other o (gate-op q k) e =
       refused-number (leb 24 k) (namesUsed u o) (leb (u .held .n) q) (nineteen o) [] (there o e)
   names-other o (cz-op a b) e =
-      refused-number false (namesUsed u o) (leb (u .held .n) a || (leb (u .held .n) b || eqb a b)) (nineteen o) [] (there o e)
+      refused-number false (namesUsed u o) (leb (u .held .n) a || (leb (u .held .n) b || eqb a b)) (nineteen o) []
+      (there o e)
   names-other o (measure-op pauli q b) e =
       refused-number (leb 2 b || (eqb pauli 0 || leb 4 pauli)) (namesUsed u o) (leb (u .held .n) q) (nineteen o)
       (line 14 (contradicts (u .held .n) (heldRows (u .held)) (pauliLetter pauli) q (isOdd b)) ∷ []) (there o e)
@@ -79,7 +80,8 @@ module _ (word g : ℕ) (u : UsedRecord) (H : Apart word u) (low : ltb 1 g ≡ f
   O : Apart word own
   O = masked-apart word g u H
 
-  pub group-alone : firstFitting (groupLines word g u o) ≡ firstFitting (groupLines word g (masked (inGroup word g) u) o)
+  pub group-alone : firstFitting (groupLines word g u o)
+      ≡ firstFitting (groupLines word g (masked (inGroup word g) u) o)
   group-alone = go (namesOther (inGroup word g) (u .held .n) o) refl
     where
       go : (b : Bool) → namesOther (inGroup word g) (u .held .n) o ≡ b →

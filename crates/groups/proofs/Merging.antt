@@ -1,7 +1,7 @@
 -- A group's vertices alone, after vertices of one group were put back: those of that group are as they were put back,
 -- and those of the other as they were.
 use mathlib.Core.Bool.{_&&_, Bool, cond, false, true}
-use mathlib.Core.Path.{ap, refl, subst, sym, _∙_, _≡_}
+use mathlib.Core.Path.{ap, refl, sym, _∙_, _≡_}
 use Prim.Native.Nat.{_<_, ℕ}
 use lib.ListN.{getD}
 use Rattle.buffers.proofs.Tabulate.{tabulate-at, tabulate-cong}

@@ -1,5 +1,5 @@
--- The four places of a group in a store of eight, after a place of the eight is written or made free: a place of the group
--- is written there, and a place of the other group leaves them.
+-- The four places of a group in a store of eight, after a place of the eight is written or made free: a place of the
+-- group is written there, and a place of the other group leaves them.
 use mathlib.Core.List.{_++_, List, append-assoc}
 use mathlib.Core.Logic.{inl, inr, _⊎_}
 use mathlib.Core.Path.{ap, ap₂, subst, sym, _∙_, _≡_}
@@ -52,7 +52,8 @@ module _ (g : ℕ) (heads : List ℕ) (i v : ℕ) where
 
   after-set : 12 * g + 12 ≤ i → take 12 (drop (12 * g) (set heads i v)) ≡ take 12 (drop (12 * g) heads)
   after-set l =
-      ap (λ k. take 12 (drop (12 * g) (set heads k v))) there ∙ ap (take 12) (drop-set-add (12 * g) heads (i - 12 * g) v)
+      ap (λ k. take 12 (drop (12 * g) (set heads k v))) there
+      ∙ ap (take 12) (drop-set-add (12 * g) heads (i - 12 * g) v)
       ∙ take-set-le 12 (drop (12 * g) heads) (i - 12 * g) v (omega (arith, l))
     where
       there : i ≡ 12 * g + (i - 12 * g)
@@ -84,7 +85,8 @@ module _ (g p n name used : ℕ) (heads : List ℕ) (lp : p < 4) where
       (3 * p + 2) (omega arith) (omega (arith, lp))
       ∙ ap (λ l. set l (3 * p + 2) used) (own-set g (set heads (3 * (4 * g + p)) n) (3 * (4 * g + p) + 1) name
       (3 * p + 1) (omega arith) (omega (arith, lp))
-      ∙ ap (λ l. set l (3 * p + 1) name) (own-set g heads (3 * (4 * g + p)) n (3 * p) (omega arith) (omega (arith, lp))))
+      ∙ ap (λ l. set l (3 * p + 1) name) (own-set g heads (3 * (4 * g + p)) n (3 * p) (omega arith)
+      (omega (arith, lp))))
 
   headed-other : (h : ℕ) → (h ≡ g → ⊥) →
       take 12 (drop (12 * h) (headed (4 * g + p) n name used heads)) ≡ take 12 (drop (12 * h) heads)
@@ -184,7 +186,8 @@ pub record EightLong (st : Store) : Type 0 where
   pub codes : length (st .codes) ≡ 512
 
 module _ (g p : ℕ) (u : UsedRecord) (name : ℕ) (st : Store) (lg : g < 2) (lp : p < 4)
-    (words-full : length (u .held .neighbours) ≡ 64) (codes-full : length (u .held .codes) ≡ 64) (L : EightLong st) where
+    (words-full : length (u .held .neighbours) ≡ 64) (codes-full : length (u .held .codes) ≡ 64)
+    (L : EightLong st) where
   words-room : 256 * g + 256 ≤ length (st .neighbours)
   words-room = omega (arith, lg, L .words)
 
@@ -200,7 +203,8 @@ module _ (g p : ℕ) (u : UsedRecord) (name : ℕ) (st : Store) (lg : g < 2) (lp
   }
 
   -- and at one of the other
-  pub placed-other-places : (h : ℕ) → h < 2 → (h ≡ g → ⊥) → ownPlaces h (withPlace (4 * g + p) u name st) ≡ ownPlaces h st
+  pub placed-other-places : (h : ℕ) → h < 2 → (h ≡ g → ⊥) → ownPlaces h (withPlace (4 * g + p) u name st)
+      ≡ ownPlaces h st
   placed-other-places h lh ne = λ j. record {
     heads = headed-other g p (u .held .n) name (u .used) (st .heads) lp h ne j;
     neighbours = placed-other-part g p (u .held .neighbours) (st .neighbours) lp words-full words-room h ne
@@ -253,7 +257,8 @@ module _ (g p : ℕ) (st : Store) (lg : g < 2) (lp : p < 4) (L : EightLong st) w
   place-own few = λ j. record {
     held = record {
       n = count-own j;
-      neighbours = (ap (λ n. partAt (4 * g + p) n (st .neighbours)) count-own ∙ part-at _ few (st .neighbours) (L .words)) j;
+      neighbours = (ap (λ n. partAt (4 * g + p) n (st .neighbours)) count-own
+          ∙ part-at _ few (st .neighbours) (L .words)) j;
       codes = (ap (λ n. partAt (4 * g + p) n (st .codes)) count-own ∙ part-at _ few (st .codes) (L .codes)) j;
     };
     used = head-at (3 * (4 * g + p) + 2) (3 * p + 2) (omega arith) (omega (arith, lp)) j;
