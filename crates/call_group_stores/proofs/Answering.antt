@@ -1,5 +1,5 @@
 -- A group's save, return and forget, from what the functions below them answer.
-use mathlib.Core.Bool.{_&&_, cond, false, not, true}
+use mathlib.Core.Bool.{cond, not, true}
 use mathlib.Core.List.{List}
 use mathlib.Core.Path.{_∙_, _≡_, ap, ap₂, refl, subst, sym}
 use Prim.Native.Nat.{_*_, _+_, _<_, _≤_, ℕ}
@@ -14,7 +14,14 @@ use Rattle.group_store_checks.proofs.HeldStates.{held-count}
 use Rattle.group_store_places.proofs.Moving.{of64}
 use Rattle.groups.proofs.OwnPlaces.{EightLong, count-own}
 use Rattle.groups.proofs.SharedLines.{shared-apart, shared-fits, shared-group, shared-long}
-use Rattle.groups.specs.GroupStores.{groupReturned, groupSaved, ownPlaces, sharedLines}
+use Rattle.groups.specs.GroupStores.{
+  groupNamedLines,
+  groupReturned,
+  groupSaveLines,
+  groupSaved,
+  ownPlaces,
+  sharedLines,
+}
 use Rattle.groups.specs.Masks.{inGroup, masked, merged}
 use Rattle.groups_masks.proofs.OwnWords.{masked-own, merged-own}
 use Rattle.record.specs.Accepted.{AcceptedRecord}
@@ -30,7 +37,8 @@ use Rattle.words.proofs.SearchLaws.{some-true}
 use Rattle.words.specs.Bits.{bit, wordOf}
 use Rattle.call_group_stores.specs.GroupStoreCalls.{groupForgetCall, groupReturnCall, groupSaveCall}
 
-module _ (word g : ℕ) (u : UsedRecord) (name : ℕ) (st : Store) (k : ℕ) (e : k ≡ firstFitting (sharedLines word g u st)) where
+module _ (word g : ℕ) (u : UsedRecord) (name : ℕ) (st : Store) (k : ℕ)
+    (e : k ≡ firstFitting (sharedLines word g u st)) where
   abbrev heads : List ℕ
   heads = (ownPlaces g st) .heads
 
@@ -65,7 +73,8 @@ module _ (word g : ℕ) (u : UsedRecord) (name : ℕ) (st : Store) (k : ℕ) (e 
     search-fits = (omega (arith, low), long .heads)
 
     -- the buffers, and a place of the group's four
-    pub all-fit : (place : ℕ) → place < 4 → ((4 * g + place < 8) × (length (st .neighbours) ≡ 512) × (length (st .codes) ≡ 512))
+    pub all-fit : (place : ℕ) → place < 4
+        → ((4 * g + place < 8) × (length (st .neighbours) ≡ 512) × (length (st .codes) ≡ 512))
         × ((length (u .held .neighbours) ≡ 64) × (length (u .held .codes) ≡ 64))
     all-fit place l = (
       (omega (arith, l, low), long .words, long .codes),
@@ -86,12 +95,13 @@ module _ (word g : ℕ) (u : UsedRecord) (name : ℕ) (st : Store) (k : ℕ) (e 
             ((f .0 .0, f .1 .0, f .1 .1), (long .heads, f .0 .1, f .0 .2))
 
         pub save-done : (own : ℕ) → own ≡ wordOf 64 (inGroup word g) → (st′ : Store)
-            → st′ ≡ withPlace (4 * g + place) (masked (bit own) (of64 (u .held .neighbours) (u .held .codes) (u .used))) name st
+            → st′ ≡ withPlace (4 * g + place)
+            (masked (bit own) (of64 (u .held .neighbours) (u .held .codes) (u .used))) name st
             → Call (groupSaveCall word g u name st (st′ .heads) (st′ .neighbours) (st′ .codes)) 0
         save-done own eo st′ es = done _ (z ∙ at-end) z
             (ap (λ s. s .heads) left, (ap (λ s. s .neighbours) left, (ap (λ s. s .codes) left, tt)))
           where
-            at-end : 0 ≡ firstFitting ((groupSaveCall word g u name st (st′ .heads) (st′ .neighbours) (st′ .codes)) .lines)
+            at-end : 0 ≡ firstFitting (groupSaveLines word g u name st)
             at-end = decides (sharedLines word g u st) refl e z
                 (later (not-full 4 heads name (subst (λ q. q < 4) p l)) none)
 
@@ -112,7 +122,8 @@ module _ (word g : ℕ) (u : UsedRecord) (name : ℕ) (st : Store) (k : ℕ) (e 
         nowhere : not (holdsName 4 heads name) ≡ true
         nowhere = ap not (above-none 4 (hasName heads name) (subst (λ q. 4 ≤ q) p l))
 
-        pub return-not-held : Call (groupReturnCall word g u name st (u .held .neighbours) (u .held .codes) (u .used)) 17
+        pub return-not-held :
+            Call (groupReturnCall word g u name st (u .held .neighbours) (u .held .codes) (u .used)) 17
         return-not-held = refused _ (decides (sharedLines word g u st) refl e z (here nowhere))
             (λ x. absurd (omega (arith, x))) (refl, (refl, (refl, tt)))
 
@@ -143,11 +154,14 @@ module _ (word g : ℕ) (u : UsedRecord) (name : ℕ) (st : Store) (k : ℕ) (e 
           ap (λ r. r .neighbours) er ∙ ap (λ v. v .held .neighbours) left,
           (
             ap (λ r. r .codes) er ∙ ap (λ v. v .held .codes) left,
-            (eu ∙ ap (λ w. wordOf 64 (λ q. cond (bit own q) (bit w q) (bit (u .used) q))) ew ∙ ap (λ v. v .used) left, tt),
+            (
+              eu ∙ ap (λ w. wordOf 64 (λ q. cond (bit own q) (bit w q) (bit (u .used) q))) ew ∙ ap (λ v. v .used) left,
+              tt,
+            ),
           ),
         )
           where
-            at-end : 0 ≡ firstFitting ((groupReturnCall word g u name st nb′ cs′ used′) .lines)
+            at-end : 0 ≡ firstFitting (groupNamedLines word g u name st)
             at-end = decides (sharedLines word g u st) refl e z (later (ap not there) none)
 
             -- the two records, with their counts

@@ -1,23 +1,19 @@
--- The lines that a group's save, return and forget share, from what the functions below answer, and what holds where none
--- of them refuses.
+-- The lines that a group's save, return and forget share, from what the functions below answer.
 use mathlib.Core.Bool.{Bool, cond, false, not, or-true, true, _||_}
 use mathlib.Core.List.{List, [], _∷_}
 use mathlib.Core.Path.{_∙_, _≡_, ap, ap₂, refl, sym}
-use Prim.Native.Nat.{_^_, _≤_, ℕ}
+use Prim.Native.Nat.{_^_, ℕ}
 use lib.Dec.{eqb, eqb→eq, leb, ltb}
-use borrow.Author.Tests.{eq-eqb, eqb-true, ltb-false, ne-eqb, not-false}
+use lib.ListN.{length}
+use borrow.Author.Tests.{eq-eqb, ne-eqb}
 use Rattle.buffers.specs.Refusals.{Refusal, firstFitting, line, withTest}
-use Rattle.contracts.proofs.Fitting.{NoneHolds, decides, first-is, none-fits-of, none-holds, stays}
+use Rattle.contracts.proofs.Fitting.{decides, first-is, stays}
 use Rattle.contracts.specs.Answers.{FirstFits, here, later, none}
 use Rattle.earliest.proofs.EarlierNumbers.{earlier-none}
 use Rattle.earliest.specs.internal.Earlier.{earlierOf}
-use Rattle.group_store_checks.proofs.OwnNumbers.{own-passes}
-use Rattle.groups.proofs.OwnPlaces.{EightLong}
-use Rattle.groups.proofs.SharedLines.{front-none}
 use Rattle.groups.specs.GroupLines.{withGroup}
-use Rattle.groups.specs.GroupStores.{otherCount, ownLines, ownPlaces, sharedLines}
+use Rattle.groups.specs.GroupStores.{ownLines, sharedLines}
 use Rattle.groups.specs.Masks.{crosses, inGroup}
-use Rattle.record.specs.Accepted.{AcceptedRecord}
 use Rattle.store.proofs.ManyRecords.{earlier-of-two, five, told-by-number}
 use Rattle.store.proofs.PassingStores.{held-record}
 use Rattle.store.proofs.StoreNumbers.{record-number}
@@ -26,7 +22,6 @@ use Rattle.store.specs.StoreLines.{holdsLine, ofRecord, recordTests}
 use Rattle.used.specs.Used.{UsedRecord, usedLines}
 use Rattle.used_checks.proofs.UsedNumbers.{no-further}
 use Rattle.words.proofs.Finite.{Law, Of, law}
-use Rattle.words.proofs.Flags.{neither}
 
 -- ---- line 6 of the group, joined into the lines
 abbrev joined : Of 6 ℕ
@@ -62,14 +57,16 @@ module _ (word g : ℕ) (u : UsedRecord) (st : Store) where
 
   -- another n than 64
   pub shared-2 : (u .held .n ≡ 64 → ⊥) → 2 ≡ firstFitting (sharedLines word g u st)
-  shared-2 h = first-is (here (ap (λ b. (test 2 || false) || not b) (ne-eqb (u .held .n) 64 h) ∙ or-true (test 2 || false)))
+  shared-2 h = first-is
+      (here (ap (λ b. (test 2 || false) || not b) (ne-eqb (u .held .n) 64 h) ∙ or-true (test 2 || false)))
 
   module _ (count : u .held .n ≡ 64) (both six r : ℕ) (e : both ≡ firstFitting (recordTests test))
       (f : six ≡ cond (ltb 1 g) 6 0) (h : r ≡ earlierOf both six) where
     early-number : r ≡ firstFitting earlyOnes
     early-number =
         h ∙ ap₂ earlierOf e f ∙ sym (six-joined (test 2) (test 4) (test 5) (test 6) (test 7) (ltb 1 g))
-        ∙ ap (λ b. firstFitting (withTest 2 (not b) (withTest 6 (ltb 1 g) (recordTests test)))) (sym (eq-eqb (u .held .n) 64 count))
+        ∙ ap (λ b. firstFitting (withTest 2 (not b) (withTest 6 (ltb 1 g) (recordTests test))))
+        (sym (eq-eqb (u .held .n) 64 count))
 
     pub shared-early : (r ≡ 0 → ⊥) → r ≡ firstFitting (sharedLines word g u st)
     shared-early k = stays earlyOnes _ early-number k

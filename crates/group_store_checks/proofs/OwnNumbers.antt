@@ -5,13 +5,13 @@ use mathlib.Core.Path.{_∙_, _≡_, ap, ap₂, refl, sym}
 use Prim.Native.Nat.{_*_, _+_, _-_, _<_, _≤_, ℕ}
 use native.Mathlib.Omega.{arith}
 use lib.Dec.{eqb, eqb→eq, ltb}
-use lib.ListN.{drop, drop-of-length-le, getD, length, length-drop, take}
-use lib.Seq.{getD-drop, getD-take, length-take-le, take-nil}
+use lib.ListN.{drop, drop-of-length-le, getD, length, take}
+use lib.Seq.{getD-drop, getD-take, take-nil}
 use borrow.Author.Tests.{eqb-true, ne-eqb}
 use Rattle.buffers.specs.Refusals.{Refusal, firstFitting, withTest}
 use Rattle.contracts.proofs.Fitting.{first-is}
 use Rattle.contracts.specs.Answers.{here, later}
-use Rattle.groups.proofs.OwnPlaces.{EightLong, part-long}
+use Rattle.groups.proofs.OwnPlaces.{part-long}
 use Rattle.groups.proofs.SharedLines.{eight-long, own-long}
 use Rattle.groups.specs.GroupStores.{heldOut, otherCount, ownLines, ownPlaces}
 use Rattle.groups.specs.Masks.{inGroup, reachesOut}
@@ -19,7 +19,6 @@ use Rattle.store.proofs.ManyRecords.{five}
 use Rattle.store.proofs.StoreNumbers.{large-is}
 use Rattle.store.specs.Places.{Store, countAt, isHeld, namedTwice}
 use Rattle.store.specs.StoreLines.{ofHeld, recordTests, storeLengths, storeLines}
-use Rattle.store.specs.internal.StoreNumbers.{largeCount}
 use Rattle.store_copies.proofs.Parts.{from-place}
 use Rattle.words.proofs.Finite.{Law, Of, law}
 use Rattle.words.proofs.SearchLaws.{some-false, some-none}
@@ -104,7 +103,8 @@ module _ (s : Word) (g : ℕ) (st : Store) where
             (withTest 4 a (withTest 2 b (recordTests (ofHeld 4 own)))))) fit few
             ∙ last-joined (ofHeld 4 own 2) (ofHeld 4 own 4) (ofHeld 4 own 5) (ofHeld 4 own 6) (ofHeld 4 own 7)
             (namedTwice 4 (own .heads)) (heldOut s own)
-            ∙ sym (ap (λ b. cond (eqb (number b) 0) (cond (heldOut s own) 7 0) (number b)) (ap (λ b. b || false) (own-long g st l (eight-long st fit))))
+            ∙ sym (ap (λ b. cond (eqb (number b) 0) (cond (heldOut s own) 7 0) (number b))
+            (ap (λ b. b || false) (own-long g st l (eight-long st fit))))
           where
             number : Bool → ℕ
             number b = firstFitting (withTest 7 (namedTwice 4 (own .heads)) (withTest 4 b (recordTests (ofHeld 4 own))))
@@ -116,7 +116,8 @@ module _ (s : Word) (own : Store) (number : ℕ) (e : number ≡ firstFitting (s
       ∙ ap (λ b. cond b (cond (heldOut s own) 7 0) number) (ne-eqb number 0 h))
 
   pub places-last : number ≡ 0 → {b : Bool} → b ≡ heldOut s own → cond b 7 0 ≡ placesNumber s own
-  places-last z f = sym (ap (λ k. cond (eqb k 0) (cond (heldOut s own) 7 0) k) (sym e ∙ z) ∙ ap (λ b. cond b 7 0) (sym f))
+  places-last z f = sym (ap (λ k. cond (eqb k 0) (cond (heldOut s own) 7 0) k) (sym e ∙ z)
+      ∙ ap (λ b. cond b 7 0) (sym f))
 
 -- codes have no part in what reaches out
 pub codes-unread : (s : Word) (heads nb cs : List ℕ)
@@ -143,7 +144,8 @@ module _ (g : ℕ) (st : Store) (fit : storeLengths 8 st ≡ false) (l : g ≤ 1
   parts-inside = let L = eight-long st fit in
       (omega (arith, l, L .heads), omega (arith, l, L .words), omega (arith, l, L .codes))
 
-module _ (g : ℕ) (st : Store) (few : otherCount (ownPlaces g st) ≡ false) (fit : storeLengths 8 st ≡ false) (l : g ≤ 1) where
+module _ (g : ℕ) (st : Store) (few : otherCount (ownPlaces g st) ≡ false) (fit : storeLengths 8 st ≡ false)
+    (l : g ≤ 1) where
   -- what is asked of the parts
   pub places-fit : (otherCount (record {
     heads = take (12 * g + 12 - 12 * g) (drop (12 * g) (st .heads));
@@ -152,10 +154,12 @@ module _ (g : ℕ) (st : Store) (few : otherCount (ownPlaces g st) ≡ false) (f
   }) ≡ false) × (length (take (256 * g + 256 - 256 * g) (drop (256 * g) (st .neighbours))) ≡ 256)
   places-fit = (
     ap otherCount (sym (own-cut g st)) ∙ few,
-    ap length (from-place (256 * g) 256 (st .neighbours)) ∙ part-long (256 * g) 256 (st .neighbours) (parts-inside g st fit l .1),
+    ap length (from-place (256 * g) 256 (st .neighbours))
+        ∙ part-long (256 * g) 256 (st .neighbours) (parts-inside g st fit l .1),
   )
 
-module _ (word g : ℕ) (st : Store) (few : otherCount (ownPlaces g st) ≡ false) (fit : storeLengths 8 st ≡ false) (l : g ≤ 1) where
+module _ (word g : ℕ) (st : Store) (few : otherCount (ownPlaces g st) ≡ false) (fit : storeLengths 8 st ≡ false)
+    (l : g ≤ 1) where
   pub own-answer : (own : ℕ) → own ≡ wordOf 64 (inGroup word g) → (r : ℕ) → r ≡ placesNumber (bit own) (record {
     heads = take (12 * g + 12 - 12 * g) (drop (12 * g) (st .heads));
     neighbours = take (256 * g + 256 - 256 * g) (drop (256 * g) (st .neighbours));

@@ -33,8 +33,8 @@ returns-2 c =
     let G = E .before in
     let B = G .before in
     let S = B .before .before .before .before .before .before .before in
-    shared-early (S .args .word) (S .args .group) (lent S) (store S) (B .before .if1 .left) _ _ _ (B .both-refusal .ensures)
-    (G .group-number .ensures) (E .earlier .ensures) (c .if2 .taken)
+    shared-early (S .args .word) (S .args .group) (lent S) (store S) (B .before .if1 .left) _ _ _
+    (B .both-refusal .ensures) (G .group-number .ensures) (E .earlier .ensures) (c .if2 .taken)
 
 crosses-requires : tie.Need-crosses-requires
 crosses-requires c κs =
@@ -42,8 +42,8 @@ crosses-requires c κs =
     let G = E .before in
     let B = G .before in
     let S = B .before .before .before .before .before .before .before in
-    words-fit (S .args .word) (S .args .group) (lent S) (store S) (B .before .if1 .left) _ _ _ (B .both-refusal .ensures)
-    (G .group-number .ensures) (E .earlier .ensures) (c .if2 .left)
+    words-fit (S .args .word) (S .args .group) (lent S) (store S) (B .before .if1 .left) _ _ _
+    (B .both-refusal .ensures) (G .group-number .ensures) (E .earlier .ensures) (c .if2 .left)
 
 returns-3 : tie.Need-returns-3
 returns-3 c =
@@ -52,8 +52,8 @@ returns-3 c =
     let G = E .before in
     let B = G .before in
     let S = B .before .before .before .before .before .before .before in
-    shared-last (S .args .word) (S .args .group) (lent S) (store S) (B .before .if1 .left) _ _ _ (B .both-refusal .ensures)
-    (G .group-number .ensures) (E .earlier .ensures) (X .before .if2 .left) _
+    shared-last (S .args .word) (S .args .group) (lent S) (store S) (B .before .if1 .left) _ _ _
+    (B .both-refusal .ensures) (G .group-number .ensures) (E .earlier .ensures) (X .before .if2 .left) _
     (sym (c .if3 .taken) ∙ X .crosses .ensures
     ∙ crosses-reads (record {
       held = record { n = 64; neighbours = S .args .neighbours .now; codes = [] };
@@ -67,8 +67,8 @@ returns-4 c =
     let G = E .before in
     let B = G .before in
     let S = B .before .before .before .before .before .before .before in
-    shared-last (S .args .word) (S .args .group) (lent S) (store S) (B .before .if1 .left) _ _ _ (B .both-refusal .ensures)
-    (G .group-number .ensures) (E .earlier .ensures) (X .before .if2 .left) _
+    shared-last (S .args .word) (S .args .group) (lent S) (store S) (B .before .if1 .left) _ _ _
+    (B .both-refusal .ensures) (G .group-number .ensures) (E .earlier .ensures) (X .before .if2 .left) _
     (sym (c .if3 .left) ∙ X .crosses .ensures
     ∙ crosses-reads (record {
       held = record { n = 64; neighbours = S .args .neighbours .now; codes = [] };
