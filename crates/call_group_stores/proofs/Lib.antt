@@ -1,3 +1,2 @@
 pub mod Sharing
-pub mod Moving
 pub mod Answering

@@ -1,23 +1,19 @@
--- The lines that a group's save, return and forget share, from what the functions below answer, and what holds where none
--- of them refuses.
+-- The lines that a group's save, return and forget share, from what the functions below answer.
 use mathlib.Core.Bool.{Bool, cond, false, not, or-true, true, _||_}
 use mathlib.Core.List.{List, [], _∷_}
 use mathlib.Core.Path.{_∙_, _≡_, ap, ap₂, refl, sym}
-use Prim.Native.Nat.{_^_, _≤_, ℕ}
+use Prim.Native.Nat.{_^_, ℕ}
 use lib.Dec.{eqb, eqb→eq, leb, ltb}
-use borrow.Author.Tests.{eq-eqb, eqb-true, ltb-false, ne-eqb, not-false}
+use lib.ListN.{length}
+use borrow.Author.Tests.{eq-eqb, ne-eqb}
 use Rattle.buffers.specs.Refusals.{Refusal, firstFitting, line, withTest}
-use Rattle.contracts.proofs.Fitting.{NoneHolds, decides, first-is, none-fits-of, none-holds, stays}
+use Rattle.contracts.proofs.Fitting.{decides, first-is, stays}
 use Rattle.contracts.specs.Answers.{FirstFits, here, later, none}
 use Rattle.earliest.proofs.EarlierNumbers.{earlier-none}
 use Rattle.earliest.specs.internal.Earlier.{earlierOf}
-use Rattle.group_store_checks.proofs.OwnNumbers.{own-passes}
-use Rattle.groups.proofs.OwnPlaces.{EightLong}
-use Rattle.groups.proofs.SharedLines.{front-none}
 use Rattle.groups.specs.GroupLines.{withGroup}
-use Rattle.groups.specs.GroupStores.{otherCount, ownLines, ownPlaces, sharedLines}
+use Rattle.groups.specs.GroupStores.{ownLines, sharedLines}
 use Rattle.groups.specs.Masks.{crosses, inGroup}
-use Rattle.record.specs.Accepted.{AcceptedRecord}
 use Rattle.store.proofs.ManyRecords.{earlier-of-two, five, told-by-number}
 use Rattle.store.proofs.PassingStores.{held-record}
 use Rattle.store.proofs.StoreNumbers.{record-number}
@@ -26,7 +22,6 @@ use Rattle.store.specs.StoreLines.{holdsLine, ofRecord, recordTests}
 use Rattle.used.specs.Used.{UsedRecord, usedLines}
 use Rattle.used_checks.proofs.UsedNumbers.{no-further}
 use Rattle.words.proofs.Finite.{Law, Of, law}
-use Rattle.words.proofs.Flags.{neither}
 
 -- ---- line 6 of the group, joined into the lines
 abbrev joined : Of 6 ℕ
@@ -38,14 +33,6 @@ apart a b c d e t = earlierOf (firstFitting (five a b c d e)) (cond t 6 0)
 six-joined : Law ℕ 6 joined apart
 unfolding firstFitting
 six-joined = law eqb eqb→eq 6 joined apart tt
-
--- a record and a store that the shared lines but 19 pass
-pub record Ready (g : ℕ) (u : UsedRecord) (st : Store) : Type 0 where
-  pub count : u .held .n ≡ 64
-  pub group : g ≤ 1
-  pub accepted : AcceptedRecord (u .held)
-  pub long : EightLong st
-  pub few : otherCount (ownPlaces g st) ≡ false
 
 module _ (word g : ℕ) (u : UsedRecord) (st : Store) where
   abbrev ownOnes : List Refusal
@@ -70,21 +57,25 @@ module _ (word g : ℕ) (u : UsedRecord) (st : Store) where
 
   -- another n than 64
   pub shared-2 : (u .held .n ≡ 64 → ⊥) → 2 ≡ firstFitting (sharedLines word g u st)
-  shared-2 h = first-is (here (ap (λ b. (test 2 || false) || not b) (ne-eqb (u .held .n) 64 h) ∙ or-true (test 2 || false)))
+  shared-2 h = first-is
+      (here (ap (λ b. (test 2 || false) || not b) (ne-eqb (u .held .n) 64 h) ∙ or-true (test 2 || false)))
 
   module _ (count : u .held .n ≡ 64) (both six r : ℕ) (e : both ≡ firstFitting (recordTests test))
       (f : six ≡ cond (ltb 1 g) 6 0) (h : r ≡ earlierOf both six) where
     early-number : r ≡ firstFitting earlyOnes
     early-number =
         h ∙ ap₂ earlierOf e f ∙ sym (six-joined (test 2) (test 4) (test 5) (test 6) (test 7) (ltb 1 g))
-        ∙ ap (λ b. firstFitting (withTest 2 (not b) (withTest 6 (ltb 1 g) (recordTests test)))) (sym (eq-eqb (u .held .n) 64 count))
+        ∙ ap (λ b. firstFitting (withTest 2 (not b) (withTest 6 (ltb 1 g) (recordTests test))))
+        (sym (eq-eqb (u .held .n) 64 count))
 
     pub shared-early : (r ≡ 0 → ⊥) → r ≡ firstFitting (sharedLines word g u st)
     shared-early k = stays earlyOnes _ early-number k
 
     module _ (z : r ≡ 0) where
-      pub early-none : NoneHolds earlyOnes
-      early-none = none-holds earlyOnes refl (sym early-number ∙ z)
+      -- the record passes, and has a neighbour word for each qubit
+      pub words-fit : length (u .held .neighbours) ≡ 64
+      words-fit = held-record u (earlier-none _ _ (sym both-numbers ∙ sym e ∙ earlier-none both six (sym h ∙ z) .0) .0)
+          .neighbours-length ∙ count
 
       pub shared-last : (b : Bool) → b ≡ crosses word u → cond b 19 0 ≡ firstFitting (sharedLines word g u st)
       shared-last b c = decides earlyOnes refl early-number z (last b c)
@@ -92,39 +83,3 @@ module _ (word g : ℕ) (u : UsedRecord) (st : Store) where
           last : (b : Bool) → b ≡ crosses word u → FirstFits (line 19 (crosses word u) ∷ []) (cond b 19 0)
           last true c = here (sym c)
           last false c = later (sym c) none
-
-  -- what no line refuses
-  module _ (h : NoneHolds earlyOnes) where
-    tests-none : NoneHolds (recordTests test)
-    tests-none = (
-      neither (test 2) false (neither (test 2 || false) _ (h .0) .0) .0,
-      (
-        plain (test 4) (h .1 .0),
-        (
-          plain (test 5) (h .1 .1 .0),
-          (
-            neither (test 6) (ltb 1 g) (neither (test 6 || ltb 1 g) false (h .1 .1 .1 .0) .0) .0,
-            (plain (test 7) (h .1 .1 .1 .1 .0), tt),
-          ),
-        ),
-      ),
-    )
-      where
-        plain : (b : Bool) → ((b || false) || false) ≡ false → b ≡ false
-        plain b e = neither b false (neither (b || false) false e .0) .0
-
-    numbers-none : (firstFitting (usedLines u false false false) ≡ 0) × (firstFitting ownOnes ≡ 0)
-    numbers-none = earlier-none _ _ (sym both-numbers ∙ none-fits-of (recordTests test) tests-none)
-
-    pub ready : Ready g u st
-    ready = let P = own-passes (inGroup word g) g st (numbers-none .1) in
-        record {
-          count = eqb-true (u .held .n) 64 (not-false _ (neither (test 2 || false) _ (h .0) .1));
-          group = ltb-false 1 g (neither (test 6) (ltb 1 g) (neither (test 6 || ltb 1 g) false (h .1 .1 .1 .0) .0) .1);
-          accepted = held-record u (numbers-none .0);
-          long = P .0;
-          few = P .1;
-        }
-
-  pub shared-ready : firstFitting (sharedLines word g u st) ≡ 0 → Ready g u st
-  shared-ready z = ready (front-none earlyOnes (line 19 (crosses word u) ∷ []) (none-holds (sharedLines word g u st) refl z))

@@ -1,32 +1,23 @@
 // The public calls of a group on its four named states.
 use earliest::earlier;
 use group_store_checks::own_refusal;
+use group_store_places::own_find;
+use group_store_places::own_place_for;
+use group_store_places::put_masked;
+use group_store_places::take_merged;
 use groups_masks::crosses;
-use groups_masks::mask;
-use groups_masks::mask_used;
-use groups_masks::merge;
 use groups_masks::merge_used;
 use groups_masks::own_word;
-use store_copies::put_head;
-use store_copies::put_record;
-use store_places::find;
-use store_places::place_for;
 use store_places::word_at;
 use used_checks::used_refusal;
 ghost use mathlib.Core.Bool.{cond, _||_};
 ghost use mathlib.Core.Path.{_≡_};
-ghost use Prim.Native.Nat.{_*_, _+_, _<_, _≤_};
 ghost use lib.Dec.{ltb};
-ghost use lib.ListN.{drop, length, take};
 ghost use Rattle.buffers.specs.Refusals.{firstFitting};
 ghost use Rattle.contracts.specs.Calls.{Call};
 ghost use Rattle.groups.specs.GroupStores.{ownLines, sharedLines};
-ghost use Rattle.groups.specs.Masks.{inGroup, masked, merged};
-ghost use Rattle.record.specs.Lent.{LentRecord};
-ghost use Rattle.store.specs.Kept.{savePlace, withPlace};
-ghost use Rattle.store.specs.Places.{Store, partAt, placeOf};
+ghost use Rattle.groups.specs.Masks.{inGroup};
 ghost use Rattle.store.specs.StoreLines.{holdsLine, ofRecord, recordTests};
-ghost use Rattle.words.specs.Bits.{bit};
 ghost use Rattle.call_group_stores.specs.GroupStoreCalls.{groupForgetCall, groupReturnCall, groupSaveCall};
 
 // Line 6: 6 where the group is above 1, else 0.
@@ -102,100 +93,6 @@ fn shared_refusal(
         return early;
     }
     if crosses(word, neighbours) { 19 } else { 0 }
-}
-
-// The place, of the group's four, that holds a state under the name; 4 where none does.
-fn own_find(group: u8, heads: &[u64], name: u64) -> usize
-    requires { ⌜ (group ≤ 1) × (length (now heads) ≡ 24) ⌝ }
-    ensures { λ r. ⌜ r ≡ placeOf 4 (take 12 (drop (12 * group) (now (heads .entry)))) name ⌝ }
-{
-    let at = 12 * (group as usize);
-    find(4, &heads[at..at + 12], name)
-}
-
-// The place, of the group's four, that a save takes; 4 where all hold other names.
-fn own_place_for(group: u8, heads: &[u64], name: u64) -> usize
-    requires { ⌜ (group ≤ 1) × (length (now heads) ≡ 24) ⌝ }
-    ensures { λ r. ⌜ r ≡ savePlace 4 (take 12 (drop (12 * group) (now (heads .entry)))) name ⌝ }
-{
-    let at = 12 * (group as usize);
-    place_for(4, &heads[at..at + 12], name)
-}
-
-// The vertices of the word `own` alone, at place i of the store, under the name.
-fn put_masked(
-    i: usize,
-    own: u64,
-    neighbours: &[u64],
-    codes: &[u8],
-    used: u64,
-    name: u64,
-    heads: &mut [u64],
-    held_neighbours: &mut [u64],
-    held_codes: &mut [u8],
-)
-    requires { ⌜ (i < 8) × (length (now neighbours) ≡ 64) × (length (now codes) ≡ 64) ⌝ }
-    requires { ⌜ (length (now heads) ≡ 24) × (length (now «held_neighbours») ≡ 512)
-        × (length (now «held_codes») ≡ 512) ⌝ }
-    ensures { λ r. ⌜ _≡_ {A = Store} (record {
-      heads = now (heads .exit);
-      neighbours = now («held_neighbours» .exit);
-      codes = now («held_codes» .exit);
-    }) (withPlace i (masked (bit own) (record {
-      held = record { n = 64; neighbours = now (neighbours .entry); codes = now (codes .entry) };
-      used = used;
-    })) name (record {
-      heads = now (heads .entry);
-      neighbours = now («held_neighbours» .entry);
-      codes = now («held_codes» .entry);
-    })) ⌝ }
-{
-    put_head(i, 64, name, mask_used(own, used), heads);
-    let at = 64 * i;
-    let end = at + 64;
-    mask(
-        own,
-        neighbours,
-        codes,
-        &mut held_neighbours[at..end],
-        &mut held_codes[at..end],
-    );
-}
-
-// The vertices of the word `own` as place i of the store has them, put into a record of 64 qubits.
-fn take_merged(
-    i: usize,
-    own: u64,
-    held_neighbours: &[u64],
-    held_codes: &[u8],
-    neighbours: &mut [u64],
-    codes: &mut [u8],
-)
-    requires { ⌜ (i < 8) × (length (now «held_neighbours») ≡ 512) × (length (now «held_codes») ≡ 512) ⌝ }
-    requires { ⌜ (length (now neighbours) ≡ 64) × (length (now codes) ≡ 64) ⌝ }
-    ensures { λ r. ⌜ _≡_ {A = LentRecord}
-        (record { n = 64; neighbours = now (neighbours .exit); codes = now (codes .exit) })
-        ((merged (bit own) (record {
-          held = record {
-            n = 64;
-            neighbours = partAt i 64 (now («held_neighbours» .entry));
-            codes = partAt i 64 (now («held_codes» .entry));
-          };
-          used = 0;
-        }) (record {
-          held = record { n = 64; neighbours = now (neighbours .entry); codes = now (codes .entry) };
-          used = 0;
-        })) .held) ⌝ }
-{
-    let at = 64 * i;
-    let end = at + 64;
-    merge(
-        own,
-        &held_neighbours[at..end],
-        &held_codes[at..end],
-        neighbours,
-        codes,
-    );
 }
 
 // The group's vertices saved under the name: at its place among the group's four, else at the smallest free one.

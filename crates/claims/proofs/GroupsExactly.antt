@@ -9,18 +9,17 @@ use lib.Dec.{eqb, lit<, ltb}
 use borrow.Author.Tests.{eq-eqb, eqb-true, le-ltb, lt-ltb, ltb-false, not-false}
 use Rattle.buffers.proofs.AddedLines.{test-numbered, test-passes}
 use Rattle.buffers.proofs.Lines.{Numbered}
-use Rattle.buffers.specs.Refusals.{Refusal, firstFitting, line, otherThan, withTest}
+use Rattle.buffers.specs.Refusals.{Refusal, firstFitting, line, withTest}
 use Rattle.earliest.proofs.EarlierNumbers.{earlier-none}
 use Rattle.earliest.specs.internal.Earlier.{earlierOf}
 use Rattle.groups.proofs.Edges.{crosses-not, none-crosses, none-reaches-out, reaches-out-not}
 use Rattle.groups.proofs.GroupPassing.{group-number, group-passes}
 use Rattle.groups.proofs.OwnPlaces.{EightLong, part-long}
-use Rattle.groups.proofs.SharedLines.{own-long}
+use Rattle.groups.proofs.SharedLines.{eight-fit, eight-long, own-long}
 use Rattle.groups.specs.GroupLines.{groupLines, namesOther, outsider, withGroup}
 use Rattle.groups.specs.GroupStores.{heldOut, otherCount, ownLines, ownPlaces, sharedLines}
 use Rattle.groups.specs.Masks.{crosses, inGroup, reachesOut}
 use Rattle.operations.specs.Steps.{Operation}
-use Rattle.stabilizer.proofs.SharedTests.{has-length, length-passes}
 use Rattle.store.proofs.ManyRecords.{earlier-of-two, told-by-number}
 use Rattle.store.proofs.Names.{names-once, once-names}
 use Rattle.store.proofs.PassingStores.{store-accepted, store-passes}
@@ -143,20 +142,10 @@ module _ (word g : ℕ) (st : Store) where
   pub own-exactly-fits : g < 2 → (firstFitting (ownLines (inGroup word g) g st) ≡ 0) ↔ OwnStates word g st
   own-exactly-fits low = (there, back)
     where
-      eight : storeLengths 8 st ≡ false → EightLong st
-      eight e =
-          let p = neither (otherThan 24 (st .heads)) _ e in
-          let q = neither (otherThan 512 (st .neighbours)) (otherThan 512 (st .codes)) (p .1) in
-          record {
-            heads = has-length 24 (st .heads) (p .0);
-            words = has-length 512 (st .neighbours) (q .0);
-            codes = has-length 512 (st .codes) (q .1);
-          }
-
       there : firstFitting (ownLines (inGroup word g) g st) ≡ 0 → OwnStates word g st
       there e =
           let h = own-tests .0 e in
-          let L = eight (h .1) in
+          let L = eight-long st (h .1) in
           let t = neither (namedTwice 4 (own .heads)) (heldOut (inGroup word g) own) (h .2) in
           let P = store-accepted 4 own false (four-tests (own-long g st low L) .1 (h .0 .0, t .0)) in
           let counts = held-none (λ i. not (eqb (countAt (own .heads) i) 64)) .0 (h .0 .1) in
@@ -185,8 +174,7 @@ module _ (word g : ℕ) (st : Store) where
               held-none (λ i. not (eqb (countAt (own .heads) i) 64)) .1
                   (λ i l m. ap not (eq-eqb (countAt (own .heads) i) 64 (O .counts i l m))),
             ),
-            ap₂ _||_ (length-passes 24 (st .heads) (O .heads))
-                (ap₂ _||_ (length-passes 512 (st .neighbours) (O .neighbours)) (length-passes 512 (st .codes) (O .codes))),
+            eight-fit st L,
             ap₂ _||_ twice (held-none (λ i. reachesOut (inGroup word g) (placeAt own i)) .1
                 (λ i l m. none-reaches-out (inGroup word g) (placeAt own i) (λ j k hj hk b. O .inside i l m j k
                 (subst (λ n. j < n) (O .counts i l m) hj) (subst (λ n. k < n) (O .counts i l m) hk) b))),

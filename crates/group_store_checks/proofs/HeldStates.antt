@@ -35,7 +35,8 @@ module _ (own : Store) (few : otherCount own ≡ false) where
   out-own w s e = some-ext 4 _ _ (λ i l. by-held i l _ _ (λ c. reaches-own w s e (placeAt own i) c))
 
 -- the test at place i: its n, and its 64 neighbour words
-pub out-here : (s : Word) (heads nb : List ℕ) → otherCount (record { heads = heads; neighbours = nb; codes = [] }) ≡ false
+pub out-here : (s : Word) (heads nb : List ℕ)
+    → otherCount (record { heads = heads; neighbours = nb; codes = [] }) ≡ false
     → (i n : ℕ) → i < 4 → n ≡ countAt heads i → (b : Bool) → b ≡ reachesOut s (record {
       held = record { n = 64; neighbours = take (64 * i + 64 - 64 * i) (drop (64 * i) nb); codes = [] };
       used = 0;

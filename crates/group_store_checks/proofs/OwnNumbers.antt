@@ -5,41 +5,27 @@ use mathlib.Core.Path.{_∙_, _≡_, ap, ap₂, refl, sym}
 use Prim.Native.Nat.{_*_, _+_, _-_, _<_, _≤_, ℕ}
 use native.Mathlib.Omega.{arith}
 use lib.Dec.{eqb, eqb→eq, ltb}
-use lib.ListN.{drop, drop-of-length-le, getD, length, length-drop, take}
-use lib.Seq.{getD-drop, getD-take, length-take-le, take-nil}
+use lib.ListN.{drop, drop-of-length-le, getD, length, take}
+use lib.Seq.{getD-drop, getD-take, take-nil}
 use borrow.Author.Tests.{eqb-true, ne-eqb}
-use Rattle.buffers.specs.Refusals.{Refusal, firstFitting, otherThan, withTest}
-use Rattle.contracts.proofs.Fitting.{first-is, none-holds}
+use Rattle.buffers.specs.Refusals.{Refusal, firstFitting, withTest}
+use Rattle.contracts.proofs.Fitting.{first-is}
 use Rattle.contracts.specs.Answers.{here, later}
-use Rattle.groups.proofs.OwnPlaces.{EightLong, part-long}
-use Rattle.groups.proofs.SharedLines.{own-long}
+use Rattle.groups.proofs.OwnPlaces.{part-long}
+use Rattle.groups.proofs.SharedLines.{eight-long, own-long}
 use Rattle.groups.specs.GroupStores.{heldOut, otherCount, ownLines, ownPlaces}
 use Rattle.groups.specs.Masks.{inGroup, reachesOut}
-use Rattle.stabilizer.proofs.SharedTests.{has-length, length-passes}
 use Rattle.store.proofs.ManyRecords.{five}
 use Rattle.store.proofs.StoreNumbers.{large-is}
 use Rattle.store.specs.Places.{Store, countAt, isHeld, namedTwice}
 use Rattle.store.specs.StoreLines.{ofHeld, recordTests, storeLengths, storeLines}
-use Rattle.store.specs.internal.StoreNumbers.{largeCount}
 use Rattle.store_copies.proofs.Parts.{from-place}
 use Rattle.words.proofs.Finite.{Law, Of, law}
-use Rattle.words.proofs.Flags.{neither}
 use Rattle.words.proofs.SearchLaws.{some-false, some-none}
 use Rattle.words.specs.Bits.{Word, bit, wordOf}
 use Rattle.words.specs.Search.{some}
 use Rattle.group_store_checks.proofs.HeldStates.{out-own}
 use Rattle.group_store_checks.specs.internal.PlacesNumber.{placesNumber}
-
--- ---- the lengths
-pub whole-long : (st : Store) → storeLengths 8 st ≡ false → EightLong st
-whole-long st e =
-    let p = neither (otherThan 24 (st .heads)) _ e in
-    let q = neither (otherThan 512 (st .neighbours)) (otherThan 512 (st .codes)) (p .1) in
-    record {
-      heads = has-length 24 (st .heads) (p .0);
-      words = has-length 512 (st .neighbours) (q .0);
-      codes = has-length 512 (st .codes) (q .1);
-    }
 
 -- ---- the words of a group's heads
 pub own-word-at : (g : ℕ) (heads : List ℕ) (j : ℕ) → j < 12
@@ -99,7 +85,7 @@ module _ (s : Word) (g : ℕ) (st : Store) where
     module _ (fit : storeLengths 8 st ≡ false) where
       -- a group above 1 has no place
       pub own-none : 2 ≤ g → 0 ≡ firstFitting (ownLines s g st)
-      own-none l = let L = whole-long st fit in
+      own-none l = let L = eight-long st fit in
           sym (ap₂ (λ o b. firstFitting (linesOf s o b)) (λ j. record {
             heads = empty 12 (st .heads) (omega (arith, l, L .heads)) j;
             neighbours = empty 256 (st .neighbours) (omega (arith, l, L .words)) j;
@@ -117,7 +103,8 @@ module _ (s : Word) (g : ℕ) (st : Store) where
             (withTest 4 a (withTest 2 b (recordTests (ofHeld 4 own)))))) fit few
             ∙ last-joined (ofHeld 4 own 2) (ofHeld 4 own 4) (ofHeld 4 own 5) (ofHeld 4 own 6) (ofHeld 4 own 7)
             (namedTwice 4 (own .heads)) (heldOut s own)
-            ∙ sym (ap (λ b. cond (eqb (number b) 0) (cond (heldOut s own) 7 0) (number b)) (ap (λ b. b || false) (own-long g st l (whole-long st fit))))
+            ∙ sym (ap (λ b. cond (eqb (number b) 0) (cond (heldOut s own) 7 0) (number b))
+            (ap (λ b. b || false) (own-long g st l (eight-long st fit))))
           where
             number : Bool → ℕ
             number b = firstFitting (withTest 7 (namedTwice 4 (own .heads)) (withTest 4 b (recordTests (ofHeld 4 own))))
@@ -129,7 +116,8 @@ module _ (s : Word) (own : Store) (number : ℕ) (e : number ≡ firstFitting (s
       ∙ ap (λ b. cond b (cond (heldOut s own) 7 0) number) (ne-eqb number 0 h))
 
   pub places-last : number ≡ 0 → {b : Bool} → b ≡ heldOut s own → cond b 7 0 ≡ placesNumber s own
-  places-last z f = sym (ap (λ k. cond (eqb k 0) (cond (heldOut s own) 7 0) k) (sym e ∙ z) ∙ ap (λ b. cond b 7 0) (sym f))
+  places-last z f = sym (ap (λ k. cond (eqb k 0) (cond (heldOut s own) 7 0) k) (sym e ∙ z)
+      ∙ ap (λ b. cond b 7 0) (sym f))
 
 -- codes have no part in what reaches out
 pub codes-unread : (s : Word) (heads nb cs : List ℕ)
@@ -153,10 +141,11 @@ own-cut g st = λ j. record {
 module _ (g : ℕ) (st : Store) (fit : storeLengths 8 st ≡ false) (l : g ≤ 1) where
   pub parts-inside : (12 * g + 12 ≤ length (st .heads)) × (256 * g + 256 ≤ length (st .neighbours))
       × (256 * g + 256 ≤ length (st .codes))
-  parts-inside = let L = whole-long st fit in
+  parts-inside = let L = eight-long st fit in
       (omega (arith, l, L .heads), omega (arith, l, L .words), omega (arith, l, L .codes))
 
-module _ (g : ℕ) (st : Store) (few : otherCount (ownPlaces g st) ≡ false) (fit : storeLengths 8 st ≡ false) (l : g ≤ 1) where
+module _ (g : ℕ) (st : Store) (few : otherCount (ownPlaces g st) ≡ false) (fit : storeLengths 8 st ≡ false)
+    (l : g ≤ 1) where
   -- what is asked of the parts
   pub places-fit : (otherCount (record {
     heads = take (12 * g + 12 - 12 * g) (drop (12 * g) (st .heads));
@@ -165,10 +154,12 @@ module _ (g : ℕ) (st : Store) (few : otherCount (ownPlaces g st) ≡ false) (f
   }) ≡ false) × (length (take (256 * g + 256 - 256 * g) (drop (256 * g) (st .neighbours))) ≡ 256)
   places-fit = (
     ap otherCount (sym (own-cut g st)) ∙ few,
-    ap length (from-place (256 * g) 256 (st .neighbours)) ∙ part-long (256 * g) 256 (st .neighbours) (parts-inside g st fit l .1),
+    ap length (from-place (256 * g) 256 (st .neighbours))
+        ∙ part-long (256 * g) 256 (st .neighbours) (parts-inside g st fit l .1),
   )
 
-module _ (word g : ℕ) (st : Store) (few : otherCount (ownPlaces g st) ≡ false) (fit : storeLengths 8 st ≡ false) (l : g ≤ 1) where
+module _ (word g : ℕ) (st : Store) (few : otherCount (ownPlaces g st) ≡ false) (fit : storeLengths 8 st ≡ false)
+    (l : g ≤ 1) where
   pub own-answer : (own : ℕ) → own ≡ wordOf 64 (inGroup word g) → (r : ℕ) → r ≡ placesNumber (bit own) (record {
     heads = take (12 * g + 12 - 12 * g) (drop (12 * g) (st .heads));
     neighbours = take (256 * g + 256 - 256 * g) (drop (256 * g) (st .neighbours));
@@ -179,14 +170,3 @@ module _ (word g : ℕ) (st : Store) (few : otherCount (ownPlaces g st) ≡ fals
       ∙ ap (λ b. cond (eqb (firstFitting (storeLines 4 (ownPlaces g st) false)) 0) (cond b 7 0)
       (firstFitting (storeLines 4 (ownPlaces g st) false))) (out-own (ownPlaces g st) few own (inGroup word g) eo)
       ∙ sym (own-decided (inGroup word g) g st few fit (omega (arith, l)))
-
--- ---- where none of the lines holds
-pub own-passes : (s : Word) (g : ℕ) (st : Store) → firstFitting (ownLines s g st) ≡ 0
-    → EightLong st × (otherCount (ownPlaces g st) ≡ false)
-own-passes s g st z =
-    let h = none-holds (ownLines s g st) refl z in
-    let two = neither ((ofHeld 4 (ownPlaces g st) 2 || otherCount (ownPlaces g st)) || false) false (h .0) .0 in
-    let four = neither ((ofHeld 4 (ownPlaces g st) 4 || false) || storeLengths 8 st) false (h .1 .0) .0 in (
-      whole-long st (neither (ofHeld 4 (ownPlaces g st) 4 || false) (storeLengths 8 st) four .1),
-      neither (ofHeld 4 (ownPlaces g st) 2) (otherCount (ownPlaces g st)) (neither _ false two .0) .1,
-    )

@@ -51,6 +51,16 @@ pub eight-fit : (st : Store) → EightLong st → storeLengths 8 st ≡ false
 eight-fit st L = ap₂ _||_ (length-passes 24 (st .heads) (L .heads))
     (ap₂ _||_ (length-passes 512 (st .neighbours) (L .words)) (length-passes 512 (st .codes) (L .codes)))
 
+pub eight-long : (st : Store) → storeLengths 8 st ≡ false → EightLong st
+eight-long st e =
+    let p = neither (otherThan 24 (st .heads)) (otherThan 512 (st .neighbours) || otherThan 512 (st .codes)) e in
+    let q = neither (otherThan 512 (st .neighbours)) (otherThan 512 (st .codes)) (p .1) in
+    record {
+      heads = has-length 24 (st .heads) (p .0);
+      words = has-length 512 (st .neighbours) (q .0);
+      codes = has-length 512 (st .codes) (q .1);
+    }
+
 -- the lines from what they read
 abbrev sharedWith : ℕ → ℕ → ℕ → (ℕ → Bool) → Bool → Bool → Store → List Refusal
 sharedWith word g n test lengths crossing own =
@@ -119,17 +129,8 @@ module _ (word g : ℕ) (u : UsedRecord) (st : Store) (h : NoneHolds (sharedLine
 
   -- the buffers of the store have their lengths
   pub shared-long : EightLong st
-  shared-long =
-      let lengths = neither (ofHeld 4 (ownPlaces g st) 4 || false) (storeLengths 8 st)
-      (plain ((ofHeld 4 (ownPlaces g st) 4 || false) || storeLengths 8 st) (four .1)) .1 in
-      let p = neither (otherThan 24 (st .heads)) (otherThan 512 (st .neighbours) || otherThan 512 (st .codes)) lengths
-      in
-      let q = neither (otherThan 512 (st .neighbours)) (otherThan 512 (st .codes)) (p .1) in
-      record {
-        heads = has-length 24 (st .heads) (p .0);
-        words = has-length 512 (st .neighbours) (q .0);
-        codes = has-length 512 (st .codes) (q .1);
-      }
+  shared-long = eight-long st (neither (ofHeld 4 (ownPlaces g st) 4 || false) (storeLengths 8 st)
+      (plain ((ofHeld 4 (ownPlaces g st) 4 || false) || storeLengths 8 st) (four .1)) .1)
     where
       plain : (b : Bool) → ((b || false) || false) ≡ false → b ≡ false
       plain b e = neither b false (neither (b || false) false e .0) .0

@@ -2,7 +2,13 @@
 use borrow.Author.Needs.{needs}
 use Rattle.store.specs.Places.{Store}
 use Rattle.used.specs.Used.{UsedRecord}
-use Rattle.call_group_stores.proofs.Answering.{forget-done, forget-not-held, forget-refused, head-inside, search-fits}
+use Rattle.call_group_stores.proofs.Answering.{
+  forget-done,
+  forget-not-held,
+  forget-refused,
+  head-inside,
+  search-fits,
+}
 use Rattle.call_group_stores.proofs.forget.Statement.{statement}
 use Rattle.call_group_stores.proofs.forget.Tie as tie
 
@@ -23,14 +29,16 @@ returns : tie.Need-returns
 returns c =
     let R = c .before in
     let S = R .before .before .before .before .before .before .before in
-    forget-refused (S .args .word) (S .args .group) (lent S) (S .args .name) (store S) _ (R .shared-refusal .ensures) (c .if1 .taken)
+    forget-refused (S .args .word) (S .args .group) (lent S) (S .args .name) (store S) _
+    (R .shared-refusal .ensures) (c .if1 .taken)
 
 own-find-requires : tie.Need-own-find-requires
 own-find-requires c κs =
     let E = c .before in
     let R = E .before in
     let S = R .before .before .before .before .before .before .before in
-    search-fits (S .args .word) (S .args .group) (lent S) (S .args .name) (store S) _ (R .shared-refusal .ensures) (E .if1 .left)
+    search-fits (S .args .word) (S .args .group) (lent S) (S .args .name) (store S) _
+    (R .shared-refusal .ensures) (E .if1 .left)
 
 returns-2 : tie.Need-returns-2
 returns-2 c =
@@ -38,7 +46,8 @@ returns-2 c =
     let E = P .before .before in
     let R = E .before in
     let S = R .before .before .before .before .before .before .before in
-    forget-not-held (S .args .word) (S .args .group) (lent S) (S .args .name) (store S) _ (R .shared-refusal .ensures) (E .if1 .left) _ (P .own-find .ensures)
+    forget-not-held (S .args .word) (S .args .group) (lent S) (S .args .name) (store S) _
+    (R .shared-refusal .ensures) (E .if1 .left) _ (P .own-find .ensures)
     (c .if2 .taken)
 
 slice-write-heads : tie.Need-slice-write-heads
@@ -47,7 +56,8 @@ slice-write-heads c =
     let E = P .before .before in
     let R = E .before in
     let S = R .before .before .before .before .before .before .before in
-    head-inside (S .args .word) (S .args .group) (lent S) (S .args .name) (store S) _ (R .shared-refusal .ensures) (E .if1 .left) _ (P .own-find .ensures)
+    head-inside (S .args .word) (S .args .group) (lent S) (S .args .name) (store S) _
+    (R .shared-refusal .ensures) (E .if1 .left) _ (P .own-find .ensures)
     (c .if2 .left)
 
 returns-3 : tie.Need-returns-3
@@ -56,7 +66,8 @@ returns-3 c =
     let E = P .before .before in
     let R = E .before in
     let S = R .before .before .before .before .before .before .before in
-    forget-done (S .args .word) (S .args .group) (lent S) (S .args .name) (store S) _ (R .shared-refusal .ensures) (E .if1 .left) _ (P .own-find .ensures)
+    forget-done (S .args .word) (S .args .group) (lent S) (S .args .name) (store S) _
+    (R .shared-refusal .ensures) (E .if1 .left) _ (P .own-find .ensures)
     (c .if2 .left)
 
 pub forget-spec : {M : Type 1} → statement M

@@ -1,7 +1,6 @@
 -- `group_number` meets its contract: 6 where the group is above 1.
 use mathlib.Core.Bool.{cond}
 use mathlib.Core.Path.{ap, sym}
-use borrow.Author.Needs.{needs}
 use borrow.Author.Tests.{le-ltb, lt-ltb}
 use Rattle.call_group_stores.proofs.group_number.Statement.{statement}
 use Rattle.call_group_stores.proofs.group_number.Tie as tie

@@ -2,7 +2,13 @@
 use borrow.Author.Needs.{needs}
 use Rattle.store.specs.Places.{Store}
 use Rattle.used.specs.Used.{UsedRecord}
-use Rattle.call_group_stores.proofs.Answering.{all-fit, return-done, return-not-held, return-refused, search-fits}
+use Rattle.call_group_stores.proofs.Answering.{
+  all-fit,
+  return-done,
+  return-not-held,
+  return-refused,
+  search-fits,
+}
 use Rattle.call_group_stores.proofs.return_to.Statement.{statement}
 use Rattle.call_group_stores.proofs.return_to.Tie as tie
 
@@ -23,13 +29,15 @@ returns : tie.Need-returns
 returns c =
     let R = c .before in
     let S = R .before .before .before .before .before .before .before .before .before in
-    return-refused (S .args .word) (S .args .group) (lent S) (S .args .name) (store S) _ (R .shared-refusal .ensures) (c .if1 .taken)
+    return-refused (S .args .word) (S .args .group) (lent S) (S .args .name) (store S) _
+    (R .shared-refusal .ensures) (c .if1 .taken)
 
 own-find-requires : tie.Need-own-find-requires
 own-find-requires c κs =
     let R = c .before in
     let S = R .before .before .before .before .before .before .before .before .before in
-    search-fits (S .args .word) (S .args .group) (lent S) (S .args .name) (store S) _ (R .shared-refusal .ensures) (c .if1 .left)
+    search-fits (S .args .word) (S .args .group) (lent S) (S .args .name) (store S) _
+    (R .shared-refusal .ensures) (c .if1 .left)
 
 returns-2 : tie.Need-returns-2
 returns-2 c =
@@ -37,7 +45,8 @@ returns-2 c =
     let E = P .before in
     let R = E .before in
     let S = R .before .before .before .before .before .before .before .before .before in
-    return-not-held (S .args .word) (S .args .group) (lent S) (S .args .name) (store S) _ (R .shared-refusal .ensures) (E .if1 .left) _ (P .own-find .ensures)
+    return-not-held (S .args .word) (S .args .group) (lent S) (S .args .name) (store S) _
+    (R .shared-refusal .ensures) (E .if1 .left) _ (P .own-find .ensures)
     (c .if2 .taken)
 
 take-merged-requires : tie.Need-take-merged-requires
@@ -47,7 +56,8 @@ take-merged-requires c κs =
     let E = P .before in
     let R = E .before in
     let S = R .before .before .before .before .before .before .before .before .before in
-    all-fit (S .args .word) (S .args .group) (lent S) (S .args .name) (store S) _ (R .shared-refusal .ensures) (E .if1 .left) _ (L .if2 .left)
+    all-fit (S .args .word) (S .args .group) (lent S) (S .args .name) (store S) _
+    (R .shared-refusal .ensures) (E .if1 .left) _ (L .if2 .left)
 
 returns-3 : tie.Need-returns-3
 returns-3 c =
@@ -59,8 +69,10 @@ returns-3 c =
     let E = P .before in
     let R = E .before in
     let S = R .before .before .before .before .before .before .before .before .before in
-    return-done (S .args .word) (S .args .group) (lent S) (S .args .name) (store S) _ (R .shared-refusal .ensures) (E .if1 .left) _ (P .own-find .ensures)
-    (L .if2 .left) _ (W .own-word .ensures) _ (H .word-at .ensures) _ _ _ (T .take-merged .ensures) (c .merge-used .ensures)
+    return-done (S .args .word) (S .args .group) (lent S) (S .args .name) (store S) _
+    (R .shared-refusal .ensures) (E .if1 .left) _ (P .own-find .ensures)
+    (L .if2 .left) _ (W .own-word .ensures) _ (H .word-at .ensures) _ _ _ (T .take-merged .ensures)
+    (c .merge-used .ensures)
 
 pub return-to-spec : {M : Type 1} → statement M
 return-to-spec =

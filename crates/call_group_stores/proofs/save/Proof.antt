@@ -23,14 +23,16 @@ returns : tie.Need-returns
 returns c =
     let R = c .before in
     let S = R .before .before .before .before .before .before .before .before .before in
-    save-refused (S .args .word) (S .args .group) (lent S) (S .args .name) (store S) _ (R .shared-refusal .ensures) (c .if1 .taken)
+    save-refused (S .args .word) (S .args .group) (lent S) (S .args .name) (store S) _
+    (R .shared-refusal .ensures) (c .if1 .taken)
 
 own-place-for-requires : tie.Need-own-place-for-requires
 own-place-for-requires c κs =
     let E = c .before in
     let R = E .before in
     let S = R .before .before .before .before .before .before .before .before .before in
-    search-fits (S .args .word) (S .args .group) (lent S) (S .args .name) (store S) _ (R .shared-refusal .ensures) (E .if1 .left)
+    search-fits (S .args .word) (S .args .group) (lent S) (S .args .name) (store S) _
+    (R .shared-refusal .ensures) (E .if1 .left)
 
 returns-2 : tie.Need-returns-2
 returns-2 c =
@@ -38,7 +40,8 @@ returns-2 c =
     let E = P .before .before in
     let R = E .before in
     let S = R .before .before .before .before .before .before .before .before .before in
-    save-full (S .args .word) (S .args .group) (lent S) (S .args .name) (store S) _ (R .shared-refusal .ensures) (E .if1 .left) _ (P .own-place-for .ensures)
+    save-full (S .args .word) (S .args .group) (lent S) (S .args .name) (store S) _
+    (R .shared-refusal .ensures) (E .if1 .left) _ (P .own-place-for .ensures)
     (c .if2 .taken)
 
 put-masked-requires : tie.Need-put-masked-requires
@@ -48,7 +51,8 @@ put-masked-requires c κs =
     let E = P .before .before in
     let R = E .before in
     let S = R .before .before .before .before .before .before .before .before .before in
-    put-fits (S .args .word) (S .args .group) (lent S) (S .args .name) (store S) _ (R .shared-refusal .ensures) (E .if1 .left) _ (P .own-place-for .ensures)
+    put-fits (S .args .word) (S .args .group) (lent S) (S .args .name) (store S) _
+    (R .shared-refusal .ensures) (E .if1 .left) _ (P .own-place-for .ensures)
     (L .if2 .left)
 
 returns-3 : tie.Need-returns-3
@@ -60,7 +64,8 @@ returns-3 c =
     let E = P .before .before in
     let R = E .before in
     let S = R .before .before .before .before .before .before .before .before .before in
-    save-done (S .args .word) (S .args .group) (lent S) (S .args .name) (store S) _ (R .shared-refusal .ensures) (E .if1 .left) _ (P .own-place-for .ensures)
+    save-done (S .args .word) (S .args .group) (lent S) (S .args .name) (store S) _
+    (R .shared-refusal .ensures) (E .if1 .left) _ (P .own-place-for .ensures)
     (L .if2 .left) _ (W .own-word .ensures) _ (M .put-masked .ensures)
 
 pub save-spec : {M : Type 1} → statement M

@@ -73,6 +73,6 @@ returns-2 c = no-some _ _ (c .before .loop .inv .1) _ (c .loop-test .left)
 pub held-out-spec : {M : Type 1} → statement M
 held-out-spec =
     tie.close
-    (tie.spec Inv-loop μ-loop loop-holds (λ c. search needs) (λ c. search needs) (λ c. search needs) (λ c κs. search needs)
-    (λ c. search needs) (λ c. search needs) (λ c. search needs) part-reaches-out-end reaches-out-requires returns
+    (tie.spec Inv-loop μ-loop loop-holds (λ c. search needs) (λ c. search needs) (λ c. search needs)
+    (λ c κs. search needs) (λ c. search needs) (λ c. search needs) (λ c. search needs) part-reaches-out-end reaches-out-requires returns
     (λ c. search needs) (λ c. search needs) loop-again returns-2)

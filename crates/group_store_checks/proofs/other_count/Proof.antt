@@ -30,7 +30,8 @@ count-here : (W : tie.After-word-at Inv-loop μ-loop)
 count-here W =
     let a = W .before .before .before .before .args in
     let i = W .before .before .loop .i in
-    W .word-at .ensures ∙ sym (own-word-at (a .group) (a .heads .now) (3 * i) (omega (arith, W .before .loop-test .taken)))
+    W .word-at .ensures
+    ∙ sym (own-word-at (a .group) (a .heads .now) (3 * i) (omega (arith, W .before .loop-test .taken)))
 
 returns : tie.Need-returns Inv-loop μ-loop
 returns c =
@@ -52,5 +53,5 @@ returns-2 c = no-some _ _ (c .before .loop .inv .1) _ (c .loop-test .left)
 pub other-count-spec : {M : Type 1} → statement M
 other-count-spec =
     tie.close
-    (tie.spec Inv-loop μ-loop (λ c. search needs) loop-holds (λ c. search needs) (λ c. search needs) (λ c κs. search needs)
-    returns (λ c. search needs) (λ c. search needs) loop-again returns-2)
+    (tie.spec Inv-loop μ-loop (λ c. search needs) loop-holds (λ c. search needs) (λ c. search needs)
+    (λ c κs. search needs) returns (λ c. search needs) (λ c. search needs) loop-again returns-2)

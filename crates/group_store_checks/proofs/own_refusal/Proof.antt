@@ -1,13 +1,8 @@
 -- `own_refusal` meets its contract: the first line that holds of the store as a group looks at it.
-use mathlib.Core.Path.{_∙_, ap, subst, sym}
-use Prim.Native.Nat.{_*_, _+_}
-use native.Mathlib.Omega.{arith}
-use lib.ListN.{length}
+use mathlib.Core.Path.{_∙_, sym}
 use borrow.Author.Needs.{needs}
-use Rattle.groups.specs.GroupStores.{otherCount, ownPlaces}
 use Rattle.groups.specs.Masks.{inGroup}
 use Rattle.store.specs.Places.{Store}
-use Rattle.words.specs.Bits.{bit}
 use Rattle.group_store_checks.proofs.OwnNumbers.{own-2, own-4, own-answer, own-none, parts-inside, places-fit}
 use Rattle.group_store_checks.proofs.own_refusal.Statement.{statement}
 use Rattle.group_store_checks.proofs.own_refusal.Tie as tie
@@ -38,7 +33,8 @@ returns-3 c =
     let C = W .before .before in
     let S = C .before .before .before .before in
     own-none (inGroup (S .args .word) (S .args .group)) (S .args .group) (lent S)
-    (sym (C .other-count .ensures) ∙ W .before .if1 .left) (sym (W .wrong-lengths .ensures) ∙ L .if2 .left) (c .if3 .taken)
+    (sym (C .other-count .ensures) ∙ W .before .if1 .left) (sym (W .wrong-lengths .ensures) ∙ L .if2 .left)
+    (c .if3 .taken)
 
 part-places-refusal-end : tie.Need-part-places-refusal-end
 part-places-refusal-end c =
@@ -83,7 +79,8 @@ returns-4 c =
     let C = W .before .before in
     let S = C .before .before .before .before in
     own-answer (S .args .word) (S .args .group) (lent S) (sym (C .other-count .ensures) ∙ W .before .if1 .left)
-    (sym (W .wrong-lengths .ensures) ∙ L .if2 .left) (E .if3 .left) _ (O .own-word .ensures) _ (c .places-refusal .ensures)
+    (sym (W .wrong-lengths .ensures) ∙ L .if2 .left) (E .if3 .left) _ (O .own-word .ensures) _
+    (c .places-refusal .ensures)
 
 pub own-refusal-spec : {M : Type 1} → statement M
 own-refusal-spec =

@@ -11,4 +11,5 @@ use Rattle.words.specs.Bits.{Word}
 -- that of a store of four places; where it is 0, 7 for a held state with a neighbour outside s
 abbrev pub placesNumber : Word → Store → ℕ
 placesNumber s own =
-    cond (eqb (firstFitting (storeLines 4 own false)) 0) (cond (heldOut s own) 7 0) (firstFitting (storeLines 4 own false))
+    cond (eqb (firstFitting (storeLines 4 own false)) 0) (cond (heldOut s own) 7 0)
+    (firstFitting (storeLines 4 own false))

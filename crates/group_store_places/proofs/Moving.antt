@@ -18,7 +18,8 @@ abbrev pub of64 : List ℕ → List ℕ → ℕ → UsedRecord
 of64 nb cs used = record { held = record { n = 64; neighbours = nb; codes = cs }; used = used }
 
 module _ (i own : ℕ) (nb cs : List ℕ) where
-  pub put-at : (used name w : ℕ) (heads hn hc heads′ words bytes : List ℕ) → w ≡ wordOf 64 (λ q. bit own q && bit used q)
+  pub put-at : (used name w : ℕ) (heads hn hc heads′ words bytes : List ℕ)
+      → w ≡ wordOf 64 (λ q. bit own q && bit used q)
       → heads′ ≡ headed i 64 name w heads → words ≡ (masked (bit own) (of64 nb cs 0)) .held .neighbours
       → bytes ≡ (masked (bit own) (of64 nb cs 0)) .held .codes
       → _≡_ {A = Store} (record {

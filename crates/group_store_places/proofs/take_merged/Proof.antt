@@ -1,8 +1,8 @@
 -- `take_merged` meets its contract: a group's vertices as a place of the store has them, put into a record.
 use borrow.Author.Needs.{needs}
-use Rattle.call_group_stores.proofs.Moving.{taken-at}
-use Rattle.call_group_stores.proofs.take_merged.Statement.{statement}
-use Rattle.call_group_stores.proofs.take_merged.Tie as tie
+use Rattle.group_store_places.proofs.Moving.{taken-at}
+use Rattle.group_store_places.proofs.take_merged.Statement.{statement}
+use Rattle.group_store_places.proofs.take_merged.Tie as tie
 
 returns : tie.Need-returns
 returns c =

@@ -1,8 +1,8 @@
 -- `put_masked` meets its contract: a group's vertices alone, at a place of the store.
 use borrow.Author.Needs.{needs}
-use Rattle.call_group_stores.proofs.Moving.{put-at}
-use Rattle.call_group_stores.proofs.put_masked.Statement.{statement}
-use Rattle.call_group_stores.proofs.put_masked.Tie as tie
+use Rattle.group_store_places.proofs.Moving.{put-at}
+use Rattle.group_store_places.proofs.put_masked.Statement.{statement}
+use Rattle.group_store_places.proofs.put_masked.Tie as tie
 
 returns : tie.Need-returns
 returns c =

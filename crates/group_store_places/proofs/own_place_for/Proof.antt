@@ -5,8 +5,8 @@ use native.Mathlib.Omega.{arith}
 use borrow.Author.Needs.{needs}
 use Rattle.store.specs.Kept.{savePlace}
 use Rattle.store_copies.proofs.Parts.{from-place}
-use Rattle.call_group_stores.proofs.own_place_for.Statement.{statement}
-use Rattle.call_group_stores.proofs.own_place_for.Tie as tie
+use Rattle.group_store_places.proofs.own_place_for.Statement.{statement}
+use Rattle.group_store_places.proofs.own_place_for.Tie as tie
 
 part-place-for-end : tie.Need-part-place-for-end
 part-place-for-end c = omega (arith, c .before .pre .0, c .before .pre .1)

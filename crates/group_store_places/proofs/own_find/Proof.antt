@@ -5,8 +5,8 @@ use native.Mathlib.Omega.{arith}
 use borrow.Author.Needs.{needs}
 use Rattle.store.specs.Places.{placeOf}
 use Rattle.store_copies.proofs.Parts.{from-place}
-use Rattle.call_group_stores.proofs.own_find.Statement.{statement}
-use Rattle.call_group_stores.proofs.own_find.Tie as tie
+use Rattle.group_store_places.proofs.own_find.Statement.{statement}
+use Rattle.group_store_places.proofs.own_find.Tie as tie
 
 part-find-end : tie.Need-part-find-end
 part-find-end c = omega (arith, c .before .pre .0, c .before .pre .1)
