@@ -1,5 +1,5 @@
 -- The call that reads, from what the functions below it answer. Lines 5 and 6 hold of no list that is read.
-use mathlib.Core.Bool.{false, _||_}
+use mathlib.Core.Bool.{false, true, _||_}
 use mathlib.Core.List.{_++_, List}
 use mathlib.Core.Path.{ap, ap₂, refl, subst, sym, _∙_, _≡_}
 use Prim.Native.Nat.{_<_, _^_, ℕ, _≤_}
@@ -20,9 +20,10 @@ use Rattle.stabilizer.proofs.EarlyLines.{form-numbered}
 use Rattle.stabilizer.proofs.SharedTests.{below-passes, counted, has-length, length-passes}
 use Rattle.stabilizer.specs.Lists.{formLines, listLines, listOf}
 use Rattle.strings.proofs.BackLaws.{buffers, same-buffers}
-use Rattle.strings.proofs.FormLaws.{form-size}
+use Rattle.strings.proofs.FormLaws.{form-lines, form-size}
 use Rattle.strings.specs.Reading.{byteAt, formedLines, judgedLines, lineCount, rowOf, stringForm, stringList}
 use Rattle.strings.specs.Strings.{textSize}
+use Rattle.strings_scan.specs.internal.Generators.{LinesFit}
 use Rattle.words.proofs.BitLaws.{digit-lt, wordOf-lt}
 use Rattle.words.proofs.Flags.{neither}
 use Rattle.call_strings.specs.StringCalls.{readStringsCall}
@@ -64,16 +65,17 @@ part-of n array f e = sym (ap length e ∙ tabulate-length n f)
 pub part-room : (n : ℕ) (array : List ℕ) (f : ℕ → ℕ) → take n array ≡ tabulate n f → n ≤ length array
 part-room n array f e = omega (arith, part-of n array f e, length-take n array)
 
--- what it means that lines 1, 2 and 4 do not hold of a text with n newlines
+-- what it means that lines 1, 2 and 4 do not hold of a text, which has n lines
 pub record Formed (t signs zs xs : List ℕ) (n : ℕ) : Type 0 where
   pub few : n ≤ 64
   pub size : length t ≡ textSize n
+  pub fit : LinesFit t n
   pub signs-fit : length signs ≡ n
   pub z-fit : length zs ≡ n
   pub x-fit : length xs ≡ n
 
--- ---- the call: a text t with n newlines, and what the first lines answer
-module _ (t signs zs xs : List ℕ) (n : ℕ) (c : n ≡ lineCount t) {k : ℕ}
+-- ---- the call: a text t that has n lines if it has the form, and what the first lines answer
+module _ (t signs zs xs : List ℕ) (n : ℕ) (c : stringForm t ≡ true → n ≡ lineCount t) {k : ℕ}
     (e : k ≡ firstFitting (formedLines t signs zs xs)) where
   pub read-refused : (k ≡ 0 → ⊥) → Call (readStringsCall t signs zs xs signs zs xs) k
   read-refused h = refused _ (stays (formedLines t signs zs xs) _ e h) h (refl, (refl, (refl, tt)))
@@ -82,11 +84,17 @@ module _ (t signs zs xs : List ℕ) (n : ℕ) (c : n ≡ lineCount t) {k : ℕ}
     passed : NoneHolds (formedLines t signs zs xs)
     passed = none-holds (formedLines t signs zs xs) refl (sym e ∙ z)
 
+    form : stringForm t ≡ true
+    form = not-false (stringForm t) (passed .0)
+
+    lines : n ≡ lineCount t
+    lines = c form
+
     good-count : badCount n ≡ false
-    good-count = ap badCount c ∙ passed .1 .0
+    good-count = ap badCount lines ∙ passed .1 .0
 
     fitting : (otherThan n signs || (otherThan n zs || otherThan n xs)) ≡ false
-    fitting = ap (λ m. otherThan m signs || (otherThan m zs || otherThan m xs)) c ∙ passed .1 .1 .0
+    fitting = ap (λ m. otherThan m signs || (otherThan m zs || otherThan m xs)) lines ∙ passed .1 .1 .0
 
     pub read-formed : Formed t signs zs xs n
     read-formed =
@@ -94,7 +102,8 @@ module _ (t signs zs xs : List ℕ) (n : ℕ) (c : n ≡ lineCount t) {k : ℕ}
         let g = neither (otherThan n zs) _ (h .1) in
         record {
           few = counted n good-count .1;
-          size = form-size t (not-false (stringForm t) (passed .0)) ∙ ap textSize (sym c);
+          size = form-size t form ∙ ap textSize (sym lines);
+          fit = subst (LinesFit t) (sym lines) (form-lines t form);
           signs-fit = has-length n signs (h .0);
           z-fit = has-length n zs (g .0);
           x-fit = has-length n xs (g .1);
@@ -112,7 +121,7 @@ module _ (t signs zs xs : List ℕ) (n : ℕ) (c : n ≡ lineCount t) {k : ℕ}
       number =
           C .number ∙ ap (λ l. firstFitting (listLines l false)) same
           ∙ listed-number n (λ j. rowOf (byteAt n t j)) good-count
-          ∙ ap (λ m. firstFitting (judgedLines (listOf m (λ j. rowOf (byteAt m t j))))) c
+          ∙ ap (λ m. firstFitting (judgedLines (listOf m (λ j. rowOf (byteAt m t j))))) lines
 
       at-call : v ≡ firstFitting (formedLines t signs zs xs ++ judgedLines (stringList t))
       at-call = decides (formedLines t signs zs xs) refl e z (fits-at (judgedLines (stringList t)) number)
@@ -134,9 +143,9 @@ module _ (t signs zs xs : List ℕ) (n : ℕ) (c : n ≡ lineCount t) {k : ℕ}
       read-done y {s′} {z′} {x′} ps pz px =
           done _ at-call y (
             copied signs s₁ _ (read-formed .signs-fit) es ps
-                ∙ ap (λ m. (listOf m (λ j. rowOf (byteAt m t j))) .signs) c,
+                ∙ ap (λ m. (listOf m (λ j. rowOf (byteAt m t j))) .signs) lines,
             (
-              copied zs z₁ _ (read-formed .z-fit) ez pz ∙ ap (λ m. (listOf m (λ j. rowOf (byteAt m t j))) .z) c,
-              (copied xs x₁ _ (read-formed .x-fit) ex px ∙ ap (λ m. (listOf m (λ j. rowOf (byteAt m t j))) .x) c, tt),
+              copied zs z₁ _ (read-formed .z-fit) ez pz ∙ ap (λ m. (listOf m (λ j. rowOf (byteAt m t j))) .z) lines,
+              (copied xs x₁ _ (read-formed .x-fit) ex px ∙ ap (λ m. (listOf m (λ j. rowOf (byteAt m t j))) .x) lines, tt),
             ),
           )

@@ -4,19 +4,21 @@ use buffers::copy_bytes;
 use buffers::copy_words;
 use buffers::other_than;
 use call_lists::check;
-use strings_scan::line_count;
+use strings_scan::letter_count;
 use strings_scan::put_strings;
 use strings_scan::read_rows;
 use strings_scan::string_form;
+ghost use mathlib.Core.Bool.{true};
 ghost use mathlib.Core.Path.{_≡_};
 ghost use Rattle.buffers.specs.Refusals.{firstFitting};
 ghost use Rattle.call_strings.specs.StringCalls.{readStringsCall, writeStringsCall};
 ghost use Rattle.contracts.specs.Calls.{Call};
-ghost use Rattle.strings.specs.Reading.{formedLines, lineCount};
+ghost use Rattle.strings.specs.Reading.{formedLines, lineCount, stringForm};
 
-// The first of lines 1, 2 and 4 that holds of a text with n newlines and the buffers for its list; 0 where none does.
+// The first of lines 1, 2 and 4 that holds of a text, which has n lines if it has the form, and the buffers for its
+// list; 0 where none does.
 fn formed_refusal(text: &[u8], n: usize, signs: &[u8], z: &[u64], x: &[u64]) -> u8
-    requires { ⌜ n ≡ lineCount (now text) ⌝ }
+    requires { ⌜ (stringForm (now text) ≡ true → n ≡ lineCount (now text)) ⌝ }
     ensures { λ r. ⌜ r ≡ firstFitting (formedLines
         (now (text .entry)) (now (signs .entry)) (now (z .entry)) (now (x .entry))) ⌝ }
 {
@@ -39,7 +41,7 @@ pub fn read_strings(text: &[u8], signs: &mut [u8], z: &mut [u64], x: &mut [u64])
         (now (signs .entry)) (now (z .entry)) (now (x .entry))
         (now (signs .exit)) (now (z .exit)) (now (x .exit))) r ⌝ }
 {
-    let n = line_count(text);
+    let n = letter_count(text);
     let early = formed_refusal(text, n, signs, z, x);
     if early != 0 {
         return early;

@@ -35,7 +35,30 @@ module _ (n : ℕ) (R : ℕ → Pauli) where
       && every m (λ j. lineFits m (byteAt m (stringsText n R) j))) ≡ true) (sym (lines-count n n R))
       (ap₂ _&&_ (eq-eqb _ (textSize n) (length-lines n n R)) (every-in n _ text-line-fits))
 
--- a text that passes is that of the rows read
+-- a text of n lines that fit is that of the rows read
+module _ (t : List ℕ) (n : ℕ) (size : length t ≡ textSize n)
+    (fit : (j : ℕ) → j < n → lineFits n (byteAt n t j) ≡ true) where
+  pub lines-text : t ≡ stringsText n (λ j. rowOf (byteAt n t j))
+  lines-text =
+      ext-getD 0 t (stringsText n R) (size ∙ sym (length-lines n n R))
+      (λ i l. let below : i < n * (n + 2) = subst (λ k. i < k) size l in
+      let row : i / (n + 2) < n = div-lt-iff-lt-mul {x = i} {y = n} some .1 below in
+      let column : i % (n + 2) < n + 2 = mod-lt i some in
+      ap (λ k. getD t k 0) (sym (div-add-mod' i (n + 2)))
+      ∙ sym (string-at n n R (i / (n + 2)) (i % (n + 2)) row column
+      ∙ line-back n (byteAt n t (i / (n + 2))) (fit (i / (n + 2)) row) (i % (n + 2)) column)
+      ∙ ap (λ k. getD (stringsText n R) k 0) (div-add-mod' i (n + 2)))
+    where
+      R : ℕ → Pauli
+      R j = rowOf (byteAt n t j)
+
+      some : 0 < n + 2
+      some = omega arith
+
+  pub lines-form : stringForm t ≡ true
+  lines-form = ap stringForm lines-text ∙ text-form n (λ j. rowOf (byteAt n t j))
+
+-- a text that passes
 module _ (t : List ℕ) (h : stringForm t ≡ true) where
   parts : (eqb (length t) (textSize (lineCount t)) ≡ true)
       × (every (lineCount t) (λ j. lineFits (lineCount t) (byteAt (lineCount t) t j)) ≡ true)
@@ -45,26 +68,11 @@ module _ (t : List ℕ) (h : stringForm t ≡ true) where
   pub form-size : length t ≡ textSize (lineCount t)
   form-size = eqb-true (length t) (textSize (lineCount t)) (parts .0)
 
+  pub form-lines : (j : ℕ) → j < lineCount t → lineFits (lineCount t) (byteAt (lineCount t) t j) ≡ true
+  form-lines = every-at (lineCount t) (λ j. lineFits (lineCount t) (byteAt (lineCount t) t j)) (parts .1)
+
   pub form-text : t ≡ stringsText (lineCount t) (λ j. rowOf (byteAt (lineCount t) t j))
-  form-text =
-      ext-getD 0 t (stringsText n R) (form-size ∙ sym (length-lines n n R))
-      (λ i l. let below : i < n * (n + 2) = subst (λ k. i < k) form-size l in
-      let row : i / (n + 2) < n = div-lt-iff-lt-mul {x = i} {y = n} some .1 below in
-      let column : i % (n + 2) < n + 2 = mod-lt i some in
-      ap (λ k. getD t k 0) (sym (div-add-mod' i (n + 2)))
-      ∙ sym (string-at n n R (i / (n + 2)) (i % (n + 2)) row column
-      ∙ line-back n (byteAt n t (i / (n + 2)))
-      (every-at n (λ j. lineFits n (byteAt n t j)) (parts .1) (i / (n + 2)) row) (i % (n + 2)) column)
-      ∙ ap (λ k. getD (stringsText n R) k 0) (div-add-mod' i (n + 2)))
-    where
-      n : ℕ
-      n = lineCount t
-
-      R : ℕ → Pauli
-      R j = rowOf (byteAt n t j)
-
-      some : 0 < n + 2
-      some = omega arith
+  form-text = lines-text t (lineCount t) form-size form-lines
 
 pub form-exactly : (t : List ℕ) → (stringForm t ≡ true) ↔ HasStringForm t
 form-exactly t = (

@@ -1,5 +1,6 @@
 pub mod LineLaws
 pub mod TextLaws
 pub mod FormLaws
+pub mod FirstLine
 pub mod BackLaws
 pub mod Examples

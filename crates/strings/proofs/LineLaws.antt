@@ -1,5 +1,5 @@
 -- One line of a text of Pauli strings: its bytes by column, and the row that it stands for.
-use mathlib.Core.Bool.{_&&_, Bool, cond, false, true, _||_}
+use mathlib.Core.Bool.{_&&_, Bool, false, false≢true, true, _||_}
 use mathlib.Core.List.{List}
 use mathlib.Core.Logic.{inl, inr}
 use mathlib.Core.Path.{ap, ap₂, refl, subst, sym, _∙_, _≡_}
@@ -13,12 +13,11 @@ use Rattle.buffers.proofs.Tabulate.{tabulate-at, tabulate-cong, tabulate-length
 use Rattle.buffers.specs.Buffers.{tabulate}
 use Rattle.pauli.proofs.PauliLaws.{letter-bits}
 use Rattle.pauli.proofs.PhaseLaws.{sign-minus}
-use Rattle.pauli.specs.Pauli.{Pauli, letterAt, signBit, xBit, zBit}
+use Rattle.pauli.specs.Pauli.{Pauli, letterAt, signBit}
 use Rattle.pauli.specs.declared.Letter.{Letter}
 use Rattle.pauli.specs.declared.Letter.the-variants.{I, X, Y, Z}
 use Rattle.text.specs.Text.{newline}
-use Rattle.words.proofs.Finite.{bits}
-use Rattle.words.proofs.Flags.{both-true, either}
+use Rattle.words.proofs.Flags.{both-true, either, never-true}
 use Rattle.words.proofs.SearchLaws.{every-at, every-in}
 use Rattle.words.proofs.Sums.{last-or}
 use Rattle.words.specs.Search.{every}
@@ -65,19 +64,10 @@ letter-written b h = elim (either (eqb b 73 || eqb b 88) (eqb b 89 || eqb b 90) 
   ]
 ]
 
--- the bits of a letter, by two tests of its byte
-pub z-read : (b : ℕ) → zBit (letterOf b) ≡ (eqb b 89 || eqb b 90)
-z-read b = go (eqb b 88) refl
-  where
-    go : (v : Bool) → eqb b 88 ≡ v → zBit (letterOf b) ≡ (eqb b 89 || eqb b 90)
-    go true e = subst (λ v. zBit (letterOf v) ≡ (eqb v 89 || eqb v 90)) (sym (eqb-true b 88 e)) refl
-    go false e =
-        ap (λ v. zBit (cond v X (cond (eqb b 89) Y (cond (eqb b 90) Z I)))) e
-        ∙ bits 2 (λ u v. zBit (cond u Y (cond v Z I))) (λ u v. u || v) tt (eqb b 89) (eqb b 90)
-
-pub x-read : (b : ℕ) → xBit (letterOf b) ≡ (eqb b 88 || eqb b 89)
-x-read b =
-    bits 3 (λ u v w. xBit (cond u X (cond v Y (cond w Z I)))) (λ u v w. u || v) tt (eqb b 88) (eqb b 89) (eqb b 90)
+-- a letter ends no line
+pub letter-no-newline : (b : ℕ) → isLetter b ≡ true → eqb b 10 ≡ false
+letter-no-newline b h =
+    never-true (eqb b 10) (λ e. false≢true (sym (ap isLetter (eqb-true b 10 e)) ∙ h))
 
 -- ---- the bytes of a line by column
 module _ (n : ℕ) (p : Pauli) where
@@ -122,19 +112,19 @@ module _ (n : ℕ) (byte : ℕ → ℕ) where
 
   -- the row that they stand for has these columns
   module _ (h : lineFits n byte ≡ true) where
-    parts : (isSign (byte 0) ≡ true) × (every n (λ q. isLetter (byte (suc q))) ≡ true) × (eqb (byte (suc n)) 10 ≡ true)
+    pub line-parts : (isSign (byte 0) ≡ true) × (every n (λ q. isLetter (byte (suc q))) ≡ true) × (eqb (byte (suc n)) 10 ≡ true)
     unfolding lineFits
-    parts =
+    line-parts =
         let a = both-true (isSign (byte 0)) _ h in
         let b = both-true (every n (λ q. isLetter (byte (suc q)))) _ (a .1) in
         (a .0, b .0, b .1)
 
     pub line-back : (c : ℕ) → c < n + 2 → getD (stringLine n (rowOf byte)) c 0 ≡ byte c
     line-back zero l =
-        line-sign n (rowOf byte) ∙ ap signByte (sign-minus (eqb (byte 0) 45)) ∙ sign-written (byte 0) (parts .0)
+        line-sign n (rowOf byte) ∙ ap signByte (sign-minus (eqb (byte 0) 45)) ∙ sign-written (byte 0) (line-parts .0)
     line-back (suc q) l = elim (last-or {i = q} {n = n} (omega arith)) [
       | inl e ↦ ap (λ k. getD (stringLine n (rowOf byte)) (suc k) 0) e ∙ line-end n (rowOf byte)
-          ∙ sym (eqb-true (byte (suc n)) 10 (parts .2)) ∙ ap (λ k. byte (suc k)) (sym e)
+          ∙ sym (eqb-true (byte (suc n)) 10 (line-parts .2)) ∙ ap (λ k. byte (suc k)) (sym e)
       | inr k ↦ line-letter n (rowOf byte) q k ∙ ap letterByte (letter-bits (letterOf (byte (suc q))))
-          ∙ letter-written (byte (suc q)) (every-at n (λ q. isLetter (byte (suc q))) (parts .1) q k)
+          ∙ letter-written (byte (suc q)) (every-at n (λ q. isLetter (byte (suc q))) (line-parts .1) q k)
     ]

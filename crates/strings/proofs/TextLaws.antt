@@ -9,8 +9,8 @@ use native.Mathlib.Numerals.{add-one}
 use native.Mathlib.Omega.{arith}
 use lib.Arith.{digits-lt}
 use lib.Dec.{eqb}
-use lib.ListN.{List·getD-append, getD, length, length-append, take}
-use lib.Seq.{getD-append-add, take-suc}
+use lib.ListN.{List·getD-append, getD, length, length-append}
+use lib.Seq.{getD-append-add}
 use Rattle.buffers.specs.Buffers.{tabulate}
 use Rattle.pauli.specs.Pauli.{Pauli, letterAt, signBit}
 use Rattle.pauli.specs.declared.Letter.{Letter}
@@ -49,14 +49,6 @@ unfolding lineCount
 count-append [] t = sym (zero-add (lineCount t))
 count-append (b ∷ s) t =
     ap (λ k. digit (eqb b 10) + k) (count-append s t) ∙ sym (add-assoc (digit (eqb b 10)) (lineCount s) (lineCount t))
-
--- one byte more
-pub count-more : (t : List ℕ) (i : ℕ) → i < length t →
-    lineCount (take (i + 1) t) ≡ lineCount (take i t) + digit (eqb (getD t i 0) 10)
-unfolding lineCount
-count-more t i l =
-    ap (λ k. lineCount (take k t)) (add-one i) ∙ ap lineCount (take-suc t i 0 l)
-    ∙ count-append (take i t) (getD t i 0 ∷ []) ∙ omega arith
 
 no-newline : (l : Letter) → digit (eqb (letterByte l) 10) ≡ 0
 no-newline I = refl

@@ -1,7 +1,7 @@
 -- The loop that reads the lines of a text into three arrays, and the list at their start.
 use mathlib.Core.List.{List}
 use mathlib.Core.Path.{ap, subst, sym, _∙_, _≡_}
-use Prim.Native.Nat.{_*_, _+_, _<_, zero-le, ℕ, _≤_}
+use Prim.Native.Nat.{_*_, _+_, _<_, suc, zero-le, ℕ, _≤_}
 use native.Mathlib.Nat.{lt-of-lt-of-le, zero-mul}
 use native.Mathlib.Omega.{arith}
 use lib.ListN.{getD, length, set, take}
@@ -13,16 +13,24 @@ use Rattle.buffers.specs.Buffers.{tabulate}
 use Rattle.pauli.specs.Pauli.{signBit}
 use Rattle.pauli.specs.declared.Generator.{Generator}
 use Rattle.stabilizer.specs.Lists.{listOf}
-use Rattle.strings.specs.Reading.{byteAt, rowOf}
+use Rattle.strings.proofs.LineLaws.{line-parts}
+use Rattle.strings.specs.Reading.{byteAt, isLetter, rowOf}
+use Rattle.words.proofs.SearchLaws.{every-at}
 use Rattle.words.specs.Bits.{digit, wordOf}
 use Rattle.strings_scan.proofs.SizeLaws.{next-line}
-use Rattle.strings_scan.specs.internal.Generators.{generatorIn}
+use Rattle.strings_scan.specs.internal.Generators.{LettersFit, LinesFit, generatorIn}
 
 -- an array whose first n places are filled
 filled-part : (n : ℕ) (f : ℕ → ℕ) (array : List ℕ) → n ≤ 64 → Filled 64 f array n → take n array ≡ tabulate n f
 filled-part n f array few F =
     tabulate-is n f (take n array) (part-long n array few (F .long))
     (λ i l. getD-take n array i 0 l ∙ F .done i l)
+
+-- the letters of a line
+pub letters-of : (t : List ℕ) (n j : ℕ) → LinesFit t n → j < n → {from : ℕ} → from ≡ j * (n + 2) → LettersFit t from n
+letters-of t n j F l {from} e q k =
+    ap (λ i. isLetter (getD t (i + suc q) 0)) e
+    ∙ every-at n (λ q. isLetter (byteAt n t j (suc q))) (line-parts n (byteAt n t j) (F j l) .1) q k
 
 -- the first j lines are read, the next starts at a place
 pub record RowsRead (t : List ℕ) (n : ℕ) (signs z x : List ℕ) (from j : ℕ) : Type 0 where

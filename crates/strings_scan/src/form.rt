@@ -1,31 +1,25 @@
 // The form of a text, by position.
+ghost use mathlib.Core.Bool.{true};
 ghost use mathlib.Core.Path.{_≡_};
 ghost use Prim.Native.Nat.{suc, _+_, _≤_};
 ghost use lib.Dec.{eqb};
 ghost use lib.ListN.{getD, length};
 ghost use Rattle.strings.specs.Reading.{byteAt, isLetter, isSign, lineCount, lineFits, stringForm};
 ghost use Rattle.strings.specs.Strings.{textSize};
-ghost use Rattle.words.specs.Bits.{digit};
 ghost use Rattle.words.specs.Search.{every};
 
-// 1 for a newline.
-fn newline_digit(b: u8) -> usize
-    ensures { λ r. ⌜ r ≡ digit (eqb b 10) ⌝ }
+// How many letters the first line has, up to the first newline behind its first byte.
+pub fn letter_count(text: &[u8]) -> usize
+    ensures { λ r. ⌜ (stringForm (now (text .entry)) ≡ true → r ≡ lineCount (now (text .entry))) ⌝ }
 {
-    if b == 10 { 1 } else { 0 }
-}
-
-// How many of the bytes end a line.
-pub fn line_count(text: &[u8]) -> usize
-    ensures { λ r. ⌜ r ≡ lineCount (now (text .entry)) ⌝ }
-{
-    let mut count = 0;
-    let mut i = 0;
-    while i < text.len() {
-        count += newline_digit(text[i]);
-        i += 1;
+    let mut end = 1;
+    while end < text.len() {
+        if text[end] == 10 {
+            return end - 1;
+        }
+        end += 1;
     }
-    count
+    end - 1
 }
 
 fn is_sign(b: u8) -> bool
@@ -88,9 +82,9 @@ fn has_size(length: usize, n: usize) -> bool
     length == n * (n + 2)
 }
 
-// Whether a text with n newlines has the form.
+// Whether a text has the form, which has n lines if so.
 pub fn string_form(text: &[u8], n: usize) -> bool
-    requires { ⌜ n ≡ lineCount (now text) ⌝ }
+    requires { ⌜ (stringForm (now text) ≡ true → n ≡ lineCount (now text)) ⌝ }
     ensures { λ r. ⌜ r ≡ stringForm (now (text .entry)) ⌝ }
 {
     if has_size(text.len(), n) {

@@ -3,7 +3,7 @@ mod form;
 mod reading;
 mod writing;
 
-pub use form::line_count;
+pub use form::letter_count;
 pub use form::string_form;
 pub use reading::ReadList;
 pub use reading::read_rows;

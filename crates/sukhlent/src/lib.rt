@@ -7,6 +7,7 @@ pub mod groups;
 pub mod lists;
 pub mod orbits;
 pub mod records;
+pub mod run;
 pub mod stores;
 mod ties;
 pub mod version;

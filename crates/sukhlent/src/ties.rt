@@ -8,4 +8,5 @@ mod groups;
 mod lists;
 mod orbits;
 mod records;
+mod run;
 mod stores;

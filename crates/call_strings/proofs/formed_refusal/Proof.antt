@@ -1,10 +1,11 @@
--- `formed_refusal` meets its contract: the first of lines 1, 2 and 4 that holds of a text with n newlines and the
--- buffers for its list; 0 where none does.
+-- `formed_refusal` meets its contract: the first of lines 1, 2 and 4 that holds of a text and the buffers for its list;
+-- 0 where none does.
 use mathlib.Core.Bool.{Bool, not, _||_}
 use mathlib.Core.List.{List}
 use mathlib.Core.Path.{ap, ap₂, sym, _∙_, _≡_}
 use Prim.Native.Nat.{ℕ}
 use borrow.Author.Needs.{needs}
+use borrow.Author.Tests.{not-false}
 use Rattle.buffers.specs.Refusals.{badCount, otherThan}
 use Rattle.contracts.proofs.Fitting.{first-is}
 use Rattle.contracts.specs.Answers.{here, later, none}
@@ -26,8 +27,9 @@ returns-2 c =
     let n = c .before in
     let s = n .before .before in
     let a = s .before .before .before .before .before in
+    let lines = a .pre (sym (s .string-form .ensures) ∙ not-false _ (n .before .if1 .left)) in
     first-is (later (ap not (sym (s .string-form .ensures)) ∙ n .before .if1 .left)
-    (here (ap badCount (sym (a .pre)) ∙ sym (n .bad-count .ensures) ∙ c .if2 .taken)))
+    (here (ap badCount (sym lines) ∙ sym (n .bad-count .ensures) ∙ c .if2 .taken)))
 
 returns-3 : tie.Need-returns-3
 returns-3 c =
@@ -36,9 +38,10 @@ returns-3 c =
     let n = e .before in
     let s = n .before .before in
     let a = s .before .before .before .before .before in
+    let lines = a .pre (sym (s .string-form .ensures) ∙ not-false _ (n .before .if1 .left)) in
     first-is (later (ap not (sym (s .string-form .ensures)) ∙ n .before .if1 .left)
-    (later (ap badCount (sym (a .pre)) ∙ sym (n .bad-count .ensures) ∙ e .if2 .left)
-    (here (fitting (a .args .signs .now) (a .args .z .now) (a .args .x .now) (a .pre)
+    (later (ap badCount (sym lines) ∙ sym (n .bad-count .ensures) ∙ e .if2 .left)
+    (here (fitting (a .args .signs .now) (a .args .z .now) (a .args .x .now) lines
     (x .before .before .other-than .ensures) (x .before .other-than2 .ensures)
     (x .other-than3 .ensures) ∙ c .if3 .taken))))
 
@@ -49,9 +52,10 @@ returns-4 c =
     let n = e .before in
     let s = n .before .before in
     let a = s .before .before .before .before .before in
+    let lines = a .pre (sym (s .string-form .ensures) ∙ not-false _ (n .before .if1 .left)) in
     first-is (later (ap not (sym (s .string-form .ensures)) ∙ n .before .if1 .left)
-    (later (ap badCount (sym (a .pre)) ∙ sym (n .bad-count .ensures) ∙ e .if2 .left)
-    (later (fitting (a .args .signs .now) (a .args .z .now) (a .args .x .now) (a .pre)
+    (later (ap badCount (sym lines) ∙ sym (n .bad-count .ensures) ∙ e .if2 .left)
+    (later (fitting (a .args .signs .now) (a .args .z .now) (a .args .x .now) lines
     (x .before .before .other-than .ensures) (x .before .other-than2 .ensures)
     (x .other-than3 .ensures) ∙ c .if3 .left) none)))
 

@@ -10,7 +10,7 @@ returns c =
     let f = c .before in
     let n = f .before .before .before .before in
     let a = n .before .before .before .before .before .args in
-    read-refused (a .text .now) (a .signs .now) (a .z .now) (a .x .now) _ (n .line-count .ensures)
+    read-refused (a .text .now) (a .signs .now) (a .z .now) (a .x .now) _ (n .letter-count .ensures)
     (f .formed-refusal .ensures) (c .if1 .taken)
 
 read-rows-requires : tie.Need-read-rows-requires
@@ -18,9 +18,9 @@ read-rows-requires c κs =
     let f = c .before in
     let n = f .before .before .before .before in
     let a = n .before .before .before .before .before .args in
-    let F = read-formed (a .text .now) (a .signs .now) (a .z .now) (a .x .now) _ (n .line-count .ensures)
+    let F = read-formed (a .text .now) (a .signs .now) (a .z .now) (a .x .now) _ (n .letter-count .ensures)
     (f .formed-refusal .ensures) (c .if1 .left) in
-    (F .few, F .size)
+    (F .few, F .size, F .fit)
 
 array-share-prefix-own-signs : tie.Need-array-share-prefix-own-signs
 array-share-prefix-own-signs c = part-room _ _ _ (c .before .before .before .read-rows .ensures .0)
@@ -47,7 +47,7 @@ returns-2 c =
     let f = r .before .before in
     let n = f .before .before .before .before in
     let a = n .before .before .before .before .before .args in
-    read-judged (a .text .now) (a .signs .now) (a .z .now) (a .x .now) _ (n .line-count .ensures)
+    read-judged (a .text .now) (a .signs .now) (a .z .now) (a .x .now) _ (n .letter-count .ensures)
     (f .formed-refusal .ensures) (r .before .if1 .left) _ _ _ (r .read-rows .ensures .0)
     (r .read-rows .ensures .1 .0) (r .read-rows .ensures .1 .1)
     (k .check .ensures) (c .if2 .taken)
@@ -59,7 +59,7 @@ copy-bytes-requires c κs =
     let f = r .before .before in
     let n = f .before .before .before .before in
     let a = n .before .before .before .before .before .args in
-    let F = read-formed (a .text .now) (a .signs .now) (a .z .now) (a .x .now) _ (n .line-count .ensures)
+    let F = read-formed (a .text .now) (a .signs .now) (a .z .now) (a .x .now) _ (n .letter-count .ensures)
     (f .formed-refusal .ensures) (r .before .if1 .left) in
     omega (arith, F .few, F .signs-fit)
 
@@ -70,7 +70,7 @@ copy-words-requires c κs =
     let f = r .before .before in
     let n = f .before .before .before .before in
     let a = n .before .before .before .before .before .args in
-    let F = read-formed (a .text .now) (a .signs .now) (a .z .now) (a .x .now) _ (n .line-count .ensures)
+    let F = read-formed (a .text .now) (a .signs .now) (a .z .now) (a .x .now) _ (n .letter-count .ensures)
     (f .formed-refusal .ensures) (r .before .if1 .left) in
     omega (arith, F .few, F .z-fit)
 
@@ -81,7 +81,7 @@ copy-words-requires-2 c κs =
     let f = r .before .before in
     let n = f .before .before .before .before in
     let a = n .before .before .before .before .before .args in
-    let F = read-formed (a .text .now) (a .signs .now) (a .z .now) (a .x .now) _ (n .line-count .ensures)
+    let F = read-formed (a .text .now) (a .signs .now) (a .z .now) (a .x .now) _ (n .letter-count .ensures)
     (f .formed-refusal .ensures) (r .before .if1 .left) in
     omega (arith, F .few, F .x-fit)
 
@@ -95,7 +95,7 @@ returns-3 c =
     let f = r .before .before in
     let n = f .before .before .before .before in
     let a = n .before .before .before .before .before .args in
-    read-done (a .text .now) (a .signs .now) (a .z .now) (a .x .now) _ (n .line-count .ensures)
+    read-done (a .text .now) (a .signs .now) (a .z .now) (a .x .now) _ (n .letter-count .ensures)
     (f .formed-refusal .ensures) (r .before .if1 .left) _ _ _ (r .read-rows .ensures .0)
     (r .read-rows .ensures .1 .0) (r .read-rows .ensures .1 .1)
     (k .check .ensures) (ps .before .before .if2 .left) (ps .copy-bytes .ensures) (pz .copy-words .ensures)

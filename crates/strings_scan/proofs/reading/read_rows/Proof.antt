@@ -3,7 +3,7 @@ use mathlib.Core.Path.{refl}
 use Prim.Native.Nat.{_-_}
 use native.Mathlib.Omega.{arith}
 use borrow.Author.Needs.{needs}
-use Rattle.strings_scan.proofs.ListLoops.{RowsRead, all-rows, no-rows, one-row}
+use Rattle.strings_scan.proofs.ListLoops.{RowsRead, all-rows, letters-of, no-rows, one-row}
 use Rattle.strings_scan.proofs.SizeLaws.{line-inside}
 use Rattle.strings_scan.proofs.reading.read_rows.Statement.{statement}
 use Rattle.strings_scan.proofs.reading.read_rows.Tie as tie
@@ -27,6 +27,7 @@ string-row-requires c κs =
         l .inv .place,
         line-inside (s .args .text .now) (s .args .n) (l .j) (s .pre .1) (c .loop-test .taken),
       ),
+      letters-of (s .args .text .now) (s .args .n) (l .j) (s .pre .2) (c .loop-test .taken) (l .inv .place),
     )
 
 add-from-2 : tie.Need-add-from-2 Inv-loop μ-loop
