@@ -90,7 +90,12 @@ impl Run {
     }
 
     /// Makes a call of a group, and compares what it left with the whole-record call.
-    fn step(&mut self, group: u8, call: GroupCall, counts: &mut PairCounts) -> Result<Seen, String> {
+    fn step(
+        &mut self,
+        group: u8,
+        call: GroupCall,
+        counts: &mut PairCounts,
+    ) -> Result<Seen, String> {
         let before = self.record.clone();
         let other = self.seen(1 - group, 0, UNTOUCHED);
         let whose = (self.word, group);
@@ -257,7 +262,9 @@ pub fn pairs(seed: u64, count: u64) -> Result<PairCounts, String> {
         let differs = (0..CALLS).find(|&k| first.0[k] != second.0[k]);
         if let Some(k) = differs {
             let (call, a, b) = (calls[k], &first.0[k], &second.0[k]);
-            return Err(named(format!("after {call:?} the group sees {a:?}, then {b:?}")));
+            return Err(named(format!(
+                "after {call:?} the group sees {a:?}, then {b:?}"
+            )));
         }
         counts.different += u64::from(first.1 != second.1);
     }

@@ -44,7 +44,9 @@ pub fn session(text: &mut String) -> Result<(), Refusal> {
     show(text, "upper, as it was", &upper);
 
     let other = upper.gate(0, codes::X).expect_err("qubit 0 is the other's");
-    let name = upper.return_to(*b"star    ").expect_err("a name of the other");
+    let name = upper
+        .return_to(*b"star    ")
+        .expect_err("a name of the other");
     writeln!(text, "upper refused: {}, {}", other.number(), name.number()).expect("room for text");
 
     // The operator joins the groups, and parts them again.

@@ -192,7 +192,7 @@ impl Group<'_> {
     /// ```
     pub fn record(&self) -> Record {
         let (mut seen, own) = (self.shared.record(), self.own());
-        for q in (0..64).filter(|q| own >> q & 1 == 0) {
+        for q in (0..seen.n().min(64)).filter(|q| own >> q & 1 == 0) {
             (seen.neighbours[q], seen.codes[q]) = (0, crate::codes::H);
         }
         seen.used &= own;

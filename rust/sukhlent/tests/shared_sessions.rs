@@ -96,7 +96,9 @@ fn seeded_sessions_of_two_groups_against_state_vectors_and_whole_record_calls() 
         }
         let others = (0..64).filter(|q| !KEPT.contains(q));
         let record = shared.record();
-        assert!(others.into_iter().all(|q| record.codes[q] == 8 && record.neighbours[q] == 0));
+        assert!(others
+            .into_iter()
+            .all(|q| record.codes[q] == 8 && record.neighbours[q] == 0));
     }
     for what in ["accepted", "refused", "left unreduced"] {
         assert!(counts[what] > 1000, "{counts:?}");

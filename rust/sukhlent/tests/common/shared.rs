@@ -116,8 +116,7 @@ impl Lent {
     /// The place of a group's name, read plainly.
     pub fn place(&self, group: u8, name: u64) -> Option<usize> {
         let places = 4 * usize::from(group)..4 * usize::from(group) + 4;
-        let mut named =
-            places.filter(|i| self.heads[3 * i] != 0 && self.heads[3 * i + 1] == name);
+        let mut named = places.filter(|i| self.heads[3 * i] != 0 && self.heads[3 * i + 1] == name);
         named.next()
     }
 
