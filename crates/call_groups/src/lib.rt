@@ -112,7 +112,7 @@ fn put_used(word: u64, group: u8, new: u64, used: u64) -> u64
     merge_used(own_word(word, group), new, used)
 }
 
-// A code applied after the code held at a qubit of the group, and the group's vertices reduced. The call is admitted; the last two buffers have room for the copy.
+// A gate of a call that is admitted, on the copy; `words` and `bytes` have room for it.
 fn gate_within(
     n: u64,
     word: u64,
@@ -181,7 +181,7 @@ pub fn gate(
     )
 }
 
-// CZ on two qubits of the group, and the group's vertices reduced. The call is admitted; the last two buffers have room for the copy.
+// CZ of a call that is admitted, on the copy; `words` and `bytes` have room for it.
 fn cz_within(
     n: u64,
     word: u64,
@@ -250,7 +250,7 @@ pub fn cz(
     )
 }
 
-// Local complementation at a vertex of the group; the record is not reduced. The call is admitted; the last two buffers have room for the copy.
+// Local complementation of a call that is admitted, on the copy; `words` and `bytes` have room for it.
 fn complement_within(
     n: u64,
     word: u64,
@@ -316,8 +316,7 @@ pub fn complement(
     )
 }
 
-// A Pauli measured at a qubit of the group: the outcome, whether it was determined, the group's vertices reduced, and the
-// qubit marked as used. The call is admitted; the last two buffers have room for the copy.
+// A measurement of a call that is admitted, on the copy; `words` and `bytes` have room for it.
 fn measure_within(
     n: u64,
     word: u64,
@@ -367,8 +366,8 @@ fn measure_within(
     0
 }
 
-// A Pauli measured at a qubit of the group: the outcome, whether it was determined, the group's vertices reduced, and the
-// qubit marked as used.
+// A Pauli measured at a qubit of the group: the outcome, whether it was determined, the group's vertices reduced, and
+// the qubit marked as used.
 pub fn measure(
     n: u64,
     word: u64,
