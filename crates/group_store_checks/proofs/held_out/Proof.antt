@@ -74,5 +74,5 @@ pub held-out-spec : {M : Type 1} → statement M
 held-out-spec =
     tie.close
     (tie.spec Inv-loop μ-loop loop-holds (λ c. search needs) (λ c. search needs) (λ c. search needs)
-    (λ c κs. search needs) (λ c. search needs) (λ c. search needs) (λ c. search needs) part-reaches-out-end reaches-out-requires returns
-    (λ c. search needs) (λ c. search needs) loop-again returns-2)
+    (λ c κs. search needs) (λ c. search needs) (λ c. search needs) (λ c. search needs) part-reaches-out-end
+    reaches-out-requires returns (λ c. search needs) (λ c. search needs) loop-again returns-2)
