@@ -21,7 +21,7 @@ pub struct Call {
 }
 
 /// Every public call.
-pub const CALLS: [Call; 20] = [
+pub const CALLS: [Call; 21] = [
     Call {
         name: "check",
         once: lists::check,
@@ -73,6 +73,10 @@ pub const CALLS: [Call; 20] = [
     Call {
         name: "compare",
         once: pairs::compare,
+    },
+    Call {
+        name: "compare_records",
+        once: pairs::compare_records,
     },
     Call {
         name: "generate",
