@@ -303,6 +303,18 @@ uint8_t sukhlent_compare(uint64_t n1,
                          uint8_t *list, size_t list_len,
                          uint64_t *count);
 
+/* Compares the groups of two records as `sukhlent_compare` compares the groups of their
+ * expansions, with the same answer. Refusals: 2, 4, 5, 6, 7, 3, 13. */
+uint8_t sukhlent_compare_records(uint64_t n1,
+                                 const uint64_t *neighbours1, size_t neighbours1_len,
+                                 const uint8_t *codes1, size_t codes1_len,
+                                 uint64_t n2,
+                                 const uint64_t *neighbours2, size_t neighbours2_len,
+                                 const uint8_t *codes2, size_t codes2_len,
+                                 uint8_t *choice, size_t choice_len,
+                                 uint8_t *list, size_t list_len,
+                                 uint64_t *count);
+
 /* Writes the text of a job that anyone can repeat: `count` steps on n qubits, at most 4,096, drawn
  * one after the other from `seed`, which is not 0. `text` has 61,463 places; those from *length
  * on, which is the length of the text, keep their values.

@@ -265,10 +265,10 @@ class State:
         >>> print(path.compare(State.zeros(3)))
         None
         """
-        mine, others = self.generators(), other.generators()
         choice, places, count = library.octets([0] * self.n), library.octets([0] * 96), library.word()
         number = library.call(
-            "compare", mine.n, *mine.buffers(), others.n, *others.buffers(), choice, places, count
+            "compare_records", self.n, self._neighbours, self._codes, other.n, other._neighbours, other._codes,
+            choice, places, count,
         )
         if number == 13:
             return None

@@ -58,7 +58,7 @@ mod store;
 mod strings;
 
 pub use amplitude::PlotLine;
-pub use comparison::{compare, Comparison};
+pub use comparison::{compare, compare_records, Comparison};
 pub use cut::cut;
 pub use generator::generate;
 pub use image::{image, Image};

@@ -38,6 +38,7 @@ mod product_refusals;
 mod products;
 mod program;
 mod program_input;
+mod record_comparisons;
 mod record_refusals;
 mod rewriting;
 mod rust_example;

@@ -24,7 +24,7 @@ type Measured = (&'static str, usize, fn(&mut Random, usize) -> usize);
 const LOWER: raw::Whose = (!0 << 32, 0);
 
 /// Every public call. All arguments are accepted, so that every step is taken.
-const CALLS: [Measured; 29] = [
+const CALLS: [Measured; 30] = [
     ("check", 64, |random, n| {
         let given = list(&random_rows(random, n));
         depth(|| raw::check(n as u64, &given.signs, &given.z, &given.x))
@@ -174,6 +174,7 @@ const CALLS: [Measured; 29] = [
     ("compare", 10, of_compare),
     ("compare", 20, of_compare),
     ("compare", 64, of_compare),
+    ("compare_records", 64, of_compare_records),
     ("generate", 64, |random, n| {
         let (mut text, mut length) = (vec![0; raw::JOB_PLACES], 0);
         let seed = random.word() | 1;
@@ -214,6 +215,14 @@ fn of_compare(random: &mut Random, n: usize) -> usize {
     let [a, b] = [&a, &b].map(|list| (n as u64, &*list.signs, &*list.z, &*list.x));
     let (mut choice, mut list, mut count) = (vec![0; n], [0; 96], 0);
     depth(|| raw::compare(a, b, &mut choice, &mut list, &mut count))
+}
+
+/// A comparison of a record with itself, in parts of 20.
+fn of_compare_records(random: &mut Random, n: usize) -> usize {
+    let record = random_components(random, &[20, 20, 20, n - 60]);
+    let lent = (n as u64, &*record.neighbours, &*record.codes);
+    let (mut choice, mut list, mut count) = (vec![0; n], [0; 96], 0);
+    depth(|| raw::compare_records(lent, lent, &mut choice, &mut list, &mut count))
 }
 
 /// A call on a record in place.

@@ -22,7 +22,7 @@ pub struct Call {
 }
 
 /// Every public call.
-pub const CALLS: [Call; 27] = [
+pub const CALLS: [Call; 28] = [
     Call {
         name: "check",
         once: lists::check,
@@ -74,6 +74,10 @@ pub const CALLS: [Call; 27] = [
     Call {
         name: "compare",
         once: pairs::compare,
+    },
+    Call {
+        name: "compare_records",
+        once: pairs::compare_records,
     },
     Call {
         name: "generate",
