@@ -94,7 +94,7 @@ earlier-later : Law ℕ 9 laterBoth laterOf
 unfolding firstFitting
 earlier-later = law eqb eqb→eq 9 laterBoth laterOf tt
 
-records-numbered : (l m : LentRecord) (choice list : List ℕ) → Numbered (recordsLines l m choice list)
+pub records-numbered : (l m : LentRecord) (choice list : List ℕ) → Numbered (recordsLines l m choice list)
 records-numbered l m choice list = (lit< tt, (lit< tt, (lit< tt, (lit< tt, (lit< tt, tt)))))
 
 -- ---- the call

@@ -45,7 +45,8 @@ fn digit_word(codes: &[u8], k: usize) -> u64
     word
 }
 
-// The action of these codes, from the digits of the codes: two signs, and three bits of the class.
+// The action of these codes, from their digits: two signs, and three bits of the class. A is 1 in all classes but 2 and
+// 4, B in 1, 2, 4 and 5, C in 2 to 5, D in all but 2 and 5; the image of Y has one sign more in classes 1 to 3.
 pub fn action_of(codes: &[u8]) -> Action
     requires { ⌜ (length (now codes) ≤ 64) × ((q : ℕ) → getD (now codes) q 0 < 24) ⌝ }
     ensures { λ r. ⌜ ActsAs (codesOf (now (codes .entry))) r ⌝ }

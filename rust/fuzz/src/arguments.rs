@@ -4,8 +4,9 @@ use crate::common::damage::{damage_list, damage_record};
 use crate::common::local::{complemented_record, sent};
 use crate::common::reference::{product, strings_text};
 use crate::common::runs::Steps;
-use crate::common::{list, mixed, random_components, random_rows, random_sizes, rows, use_up};
-use crate::common::{At, Operation, OrbitCall, Random, ReadCall, Side};
+use crate::common::{list, mixed, random_components, random_record, random_rows, random_sizes};
+use crate::common::{rows, use_up};
+use crate::common::{At, Operation, OrbitCall, Random, ReadCall, RecordPairCall, Side};
 use crate::common::{GenerateCall, ImageLengths, Lengths, Letters, ListCall, PairCall, RecordCall};
 use sukhlent::{expand, GeneratorList, Record};
 
@@ -87,6 +88,47 @@ pub fn pair_call(random: &mut Random) -> PairCall {
         first,
         second,
     }
+}
+
+/// Two records to compare: the second mostly has the group of the first under some codes, else it
+/// is another record, at times of another size; one or both may be damaged.
+pub fn record_pair_call(random: &mut Random) -> RecordPairCall {
+    let n = match random.below(8) {
+        0 => size(random),
+        1 => 20,
+        _ => 1 + random.below(8),
+    };
+    let first = match random.below(4) {
+        0 => {
+            let largest = [4, 20, 24][random.below(3)];
+            let sizes = random_sizes(random, n, largest);
+            random_components(random, &sizes)
+        }
+        _ => random_record(random, n),
+    };
+    let second = match random.below(8) {
+        0 => {
+            let n = size(random);
+            random_record(random, n)
+        }
+        1 | 2 => random_record(random, n),
+        _ => Record {
+            codes: first.codes.iter().map(|_| random.below(24) as u8).collect(),
+            ..first.clone()
+        },
+    };
+    let mut call = RecordPairCall::on(&first, &second);
+    if random.below(4) == 0 {
+        damage_record(random, &mut call.first);
+    }
+    if random.below(4) == 0 {
+        damage_record(random, &mut call.second);
+    }
+    if random.below(8) == 0 {
+        call.choice = random.below(66);
+    }
+    call.list = list_places(random);
+    call
 }
 
 /// A call on a list whose reduced graph falls into components, at times one of more than 20 vertices.

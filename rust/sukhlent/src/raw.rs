@@ -16,6 +16,13 @@
 //! assert_eq!((neighbours, held), ([2, 1], [0, 8]));
 //! ```
 
+mod groups;
+
+pub use groups::{
+    group_complement, group_cz, group_forget, group_gate, group_measure, group_return, group_save,
+    Whose,
+};
+
 mod calls {
     extern "C" {
         pub fn sukhlent_version() -> u32;
@@ -251,6 +258,24 @@ mod calls {
             z2_len: usize,
             x2: *const u64,
             x2_len: usize,
+            choice: *mut u8,
+            choice_len: usize,
+            list: *mut u8,
+            list_len: usize,
+            count: *mut u64,
+        ) -> u8;
+
+        pub fn sukhlent_compare_records(
+            n1: u64,
+            neighbours1: *const u64,
+            neighbours1_len: usize,
+            codes1: *const u8,
+            codes1_len: usize,
+            n2: u64,
+            neighbours2: *const u64,
+            neighbours2_len: usize,
+            codes2: *const u8,
+            codes2_len: usize,
             choice: *mut u8,
             choice_len: usize,
             list: *mut u8,
@@ -806,6 +831,48 @@ pub fn compare(
             z2.len(),
             x2.as_ptr(),
             x2.len(),
+            choice.as_mut_ptr(),
+            choice.len(),
+            list.as_mut_ptr(),
+            list.len(),
+            count,
+        )
+    }
+}
+
+/// A record without its used word, as it is lent: n, neighbour words, codes.
+pub type LentGraph<'a> = (u64, &'a [u64], &'a [u8]);
+
+/// Writes the least choice that carries the group of one record onto that of another, and the
+/// complementations.
+///
+/// ```
+/// // The graph of one edge, as it is and with a Hadamard at vertex 1.
+/// let edge = (2, &[2, 1][..], &[0, 0][..]);
+/// let bell = (2, &[2, 1][..], &[0, 8][..]);
+/// let (mut choice, mut list, mut count) = ([9; 2], [99; 96], 9);
+/// let number = sukhlent::raw::compare_records(edge, bell, &mut choice, &mut list, &mut count);
+/// assert_eq!((number, choice, count, list[0]), (0, [0, 8], 0, 99));
+/// ```
+pub fn compare_records(
+    (n1, neighbours1, codes1): LentGraph,
+    (n2, neighbours2, codes2): LentGraph,
+    choice: &mut [u8],
+    list: &mut [u8],
+    count: &mut u64,
+) -> u8 {
+    unsafe {
+        calls::sukhlent_compare_records(
+            n1,
+            neighbours1.as_ptr(),
+            neighbours1.len(),
+            codes1.as_ptr(),
+            codes1.len(),
+            n2,
+            neighbours2.as_ptr(),
+            neighbours2.len(),
+            codes2.as_ptr(),
+            codes2.len(),
             choice.as_mut_ptr(),
             choice.len(),
             list.as_mut_ptr(),
