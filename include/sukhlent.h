@@ -20,9 +20,9 @@
  *
  * Every buffer passes as a pointer and its length in elements, and has n places where its call
  * does not say otherwise. A buffer that is not const must overlap no other; const buffers may be
- * the same one. The calls on a record in place (gate, cz, measure, complement) read `neighbours`
- * and `codes` and write the new record there; measure reads and writes *used too, and the others
- * leave the word as it is. A store is read, and written by save and forget. All other buffers that are not const are lent for the answer: what they
+ * the same one. The calls on a record in place (gate, cz, measure, complement, run) read `neighbours`
+ * and `codes` and write the new record there; measure and run read and write *used too, and the
+ * others leave the word as it is. A store is read, and written by save and forget. All other buffers that are not const are lent for the answer: what they
  * hold before the call does not matter.
  *
  * Every call answers 0 where it accepts, or the first number of this list whose line is true; the
@@ -86,6 +86,13 @@
 #define SUKHLENT_PAULI_X 1
 #define SUKHLENT_PAULI_Y 2
 #define SUKHLENT_PAULI_Z 3
+
+/* Operations for sukhlent_run. */
+#define SUKHLENT_OP_GATE 0
+#define SUKHLENT_OP_CZ 1
+#define SUKHLENT_OP_MEASURE 2
+#define SUKHLENT_OP_COMPLEMENT 3
+#define SUKHLENT_OP_PIVOT 4
 
 /* Answers of sukhlent_expectation. */
 #define SUKHLENT_PLUS 0
@@ -223,6 +230,28 @@ uint8_t sukhlent_complement(uint64_t n,
                             uint8_t *codes, size_t codes_len,
                             uint64_t used,
                             uint64_t a);
+
+/* Runs at most 4,096 steps on a record in place, one after the other, as the program job does: step
+ * k has the operation ops[k] (SUKHLENT_OP_GATE to SUKHLENT_OP_PIVOT), the qubits a[k] and b[k], and
+ * in value[k] a code, or for a measurement 2 * (pauli - 1) + outcome; what an operation does not use
+ * is 0. A pivot complements at a, b and a, which are the ends of an edge. The record is checked once,
+ * the word of used qubits is kept from step to step, and all seven slices have one length.
+ * Writes of each step its refusal, or 0, to refusals[k], and of an accepted measurement what
+ * sukhlent_measure answers to outcomes[k] and determined[k], where every other step has 0 and 0. A
+ * step is refused by 6 (a field that it does not use is not 0, a value is none), 8, 16 or 14, and
+ * then changes nothing; the steps behind it run.
+ * Refusals: 15, 2, 4, 5, 6 (also where a number of `ops` is above 4), 7. */
+uint8_t sukhlent_run(uint64_t n,
+                     uint64_t *neighbours, size_t neighbours_len,
+                     uint8_t *codes, size_t codes_len,
+                     uint64_t *used,
+                     const uint8_t *ops, size_t ops_len,
+                     const uint16_t *a, size_t a_len,
+                     const uint16_t *b, size_t b_len,
+                     const uint16_t *value, size_t value_len,
+                     uint8_t *refusals, size_t refusals_len,
+                     uint8_t *outcomes, size_t outcomes_len,
+                     uint8_t *determined, size_t determined_len);
 
 /* Sends a graph through its codes, by the image rule: writes the image graph, a sign per vertex
  * (1 for minus) and the vertices at which the graph is complemented, in order. `list` has 96

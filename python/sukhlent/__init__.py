@@ -13,7 +13,7 @@ docs/PYTHON.md is a tour with pictures.
 from .answers import Equivalence, Image, Measured, PlotLine
 from .codes import NAMES, code, images
 from .drawing import circle, grid, line
-from .jobs import Result, Step, generate, job_text, parse_job, run_job, run_step
+from .jobs import Result, Step, generate, job_text, parse_job, run_job, run_step, run_steps
 from .library import version
 from .lists import GeneratorList
 from .orbits import Orbit, edges_of, number_of, orbit
@@ -27,5 +27,5 @@ __all__ = [
     "Equivalence", "GeneratorList", "Image", "Measured", "NAMES", "Orbit", "PlotLine", "Refusal", "Result", "State",
     "Step", "Store", "TEXTS", "circle", "code", "edges_of", "generate", "grid", "images", "job_text", "line", "number_of",
     "orbit", "parse_job", "plot_svg", "read_list", "read_record", "read_state", "read_table", "run_job", "run_step",
-    "table_of", "version",
+    "run_steps", "table_of", "version",
 ]  # fmt: skip

@@ -4,7 +4,7 @@ from __future__ import annotations
 
 import random
 from pathlib import Path
-from typing import Iterable
+from typing import Iterable, Sequence
 
 from . import library
 from .answers import Equivalence, Image, Measured, PlotLine
@@ -384,6 +384,24 @@ class State:
         """
         vertex = library.place(vertex)
         accept(library.call("complement", self.n, self._neighbours, self._codes, self._used, vertex))
+
+    def run(self, steps: Sequence[tuple[int, int, int, int]]) -> list[tuple[int, int, int]]:
+        """Runs at most 4,096 steps in one call: each is an operation (0 gate, 1 cz, 2 measure, 3 complement, 4 pivot), two
+        qubits and a value, as in a job. Answers refusal, outcome and determined of each; a refused step changes nothing.
+
+        >>> state = State.zeros(2)
+        >>> state.run([(0, 0, 0, 8), (2, 0, 0, 0), (1, 0, 1, 0)])
+        [(0, 0, 0), (0, 0, 1), (16, 0, 0)]
+        >>> state.used
+        1
+        """
+        ops = library.octets(step[0] for step in steps)
+        fields = [library.halves(step[k] for step in steps) for k in (1, 2, 3)]
+        answers = [library.octets([0] * len(steps)) for _ in range(3)]
+        used = library.word(self._used)
+        accept(library.call("run", self.n, self._neighbours, self._codes, used, ops, *fields, *answers))
+        self._used = used.value
+        return list(zip(*answers))
 
     # ---- showing it
 

@@ -5,33 +5,7 @@
 
 use crate::operation::Operation;
 use crate::session::{Answer, Plain, Session};
-
-mod call {
-    extern "C" {
-        pub fn sukhlent_run(
-            n: u64,
-            neighbours: *mut u64,
-            neighbours_len: usize,
-            codes: *mut u8,
-            codes_len: usize,
-            used: *mut u64,
-            ops: *const u8,
-            ops_len: usize,
-            a: *const u16,
-            a_len: usize,
-            b: *const u16,
-            b_len: usize,
-            value: *const u16,
-            value_len: usize,
-            refusals: *mut u8,
-            refusals_len: usize,
-            outcomes: *mut u8,
-            outcomes_len: usize,
-            determined: *mut u8,
-            determined_len: usize,
-        ) -> u8;
-    }
-}
+use sukhlent::raw;
 
 /// Steps in parallel slices, as they are lent.
 #[derive(Default)]
@@ -88,36 +62,19 @@ impl Ran {
 
     /// The steps from a place to another.
     fn run(&mut self, steps: &Steps, from: usize, to: usize) {
-        let count = to - from;
-        let (a, b) = (&steps.a[from..to], &steps.b[from..to]);
-        let (ops, value) = (&steps.ops[from..to], &steps.value[from..to]);
-        let refusals = &mut self.refusals[from..to];
-        let outcomes = &mut self.outcomes[from..to];
-        let determined = &mut self.determined[from..to];
-        let number = unsafe {
-            call::sukhlent_run(
-                self.codes.len() as u64,
-                self.neighbours.as_mut_ptr(),
-                self.neighbours.len(),
-                self.codes.as_mut_ptr(),
-                self.codes.len(),
-                &mut self.used,
-                ops.as_ptr(),
-                count,
-                a.as_ptr(),
-                count,
-                b.as_ptr(),
-                count,
-                value.as_ptr(),
-                count,
-                refusals.as_mut_ptr(),
-                count,
-                outcomes.as_mut_ptr(),
-                count,
-                determined.as_mut_ptr(),
-                count,
-            )
-        };
+        let number = raw::run(
+            self.codes.len() as u64,
+            &mut self.neighbours,
+            &mut self.codes,
+            &mut self.used,
+            &steps.ops[from..to],
+            &steps.a[from..to],
+            &steps.b[from..to],
+            &steps.value[from..to],
+            &mut self.refusals[from..to],
+            &mut self.outcomes[from..to],
+            &mut self.determined[from..to],
+        );
         assert_eq!(number, 0, "steps {from} to {to}");
     }
 

@@ -53,6 +53,7 @@ mod product;
 pub mod raw;
 mod record;
 mod refusal;
+mod run;
 mod store;
 mod strings;
 
@@ -67,5 +68,6 @@ pub use orbit::{orbit, Orbit};
 pub use product::{product, Product};
 pub use record::{expand, Record};
 pub use refusal::Refusal;
+pub use run::{run, Step};
 pub use store::Store;
 pub use strings::{read_strings, write_strings};

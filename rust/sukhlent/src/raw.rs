@@ -106,6 +106,29 @@ mod calls {
             a: u64,
         ) -> u8;
 
+        pub fn sukhlent_run(
+            n: u64,
+            neighbours: *mut u64,
+            neighbours_len: usize,
+            codes: *mut u8,
+            codes_len: usize,
+            used: *mut u64,
+            ops: *const u8,
+            ops_len: usize,
+            a: *const u16,
+            a_len: usize,
+            b: *const u16,
+            b_len: usize,
+            value: *const u16,
+            value_len: usize,
+            refusals: *mut u8,
+            refusals_len: usize,
+            outcomes: *mut u8,
+            outcomes_len: usize,
+            determined: *mut u8,
+            determined_len: usize,
+        ) -> u8;
+
         pub fn sukhlent_image(
             n: u64,
             neighbours: *const u64,
@@ -537,6 +560,62 @@ pub fn complement(n: u64, neighbours: &mut [u64], codes: &mut [u8], used: u64, a
             codes.len(),
             used,
             a,
+        )
+    }
+}
+
+/// Runs steps on the record, one after the other, and writes what each answers.
+///
+/// ```
+/// use sukhlent::{codes, raw};
+///
+/// // +Z; a Hadamard, X measured with the bit 1, which +X contradicts, and with the bit 0.
+/// let (mut neighbours, mut held, mut used) = ([0], [codes::H], 0);
+/// let (ops, a, b, value) = ([0, 2, 2], [0; 3], [0; 3], [8, 1, 0]);
+/// let (mut refusals, mut outcomes, mut determined) = ([9; 3], [9; 3], [9; 3]);
+/// let number = raw::run(
+///     1, &mut neighbours, &mut held, &mut used, &ops, &a, &b, &value, &mut refusals,
+///     &mut outcomes, &mut determined,
+/// );
+/// assert_eq!((number, held, used), (0, [0], 1));
+/// assert_eq!((refusals, outcomes, determined), ([0, 14, 0], [0; 3], [0, 0, 1]));
+/// ```
+#[allow(clippy::too_many_arguments)]
+pub fn run(
+    n: u64,
+    neighbours: &mut [u64],
+    codes: &mut [u8],
+    used: &mut u64,
+    ops: &[u8],
+    a: &[u16],
+    b: &[u16],
+    value: &[u16],
+    refusals: &mut [u8],
+    outcomes: &mut [u8],
+    determined: &mut [u8],
+) -> u8 {
+    unsafe {
+        calls::sukhlent_run(
+            n,
+            neighbours.as_mut_ptr(),
+            neighbours.len(),
+            codes.as_mut_ptr(),
+            codes.len(),
+            used,
+            ops.as_ptr(),
+            ops.len(),
+            a.as_ptr(),
+            a.len(),
+            b.as_ptr(),
+            b.len(),
+            value.as_ptr(),
+            value.len(),
+            refusals.as_mut_ptr(),
+            refusals.len(),
+            outcomes.as_mut_ptr(),
+            outcomes.len(),
+            determined.as_mut_ptr(),
+            determined.len(),
         )
     }
 }

@@ -41,6 +41,7 @@ mod program_input;
 mod record_comparisons;
 mod record_refusals;
 mod rewriting;
+mod runs;
 mod rust_example;
 mod sessions;
 mod states;

@@ -21,7 +21,7 @@ const CASES: u64 = 100;
 type Measured = (&'static str, usize, fn(&mut Random, usize) -> usize);
 
 /// Every public call. All arguments are accepted, so that every step is taken.
-const CALLS: [Measured; 23] = [
+const CALLS: [Measured; 24] = [
     ("check", 64, |random, n| {
         let given = list(&random_rows(random, n));
         depth(|| raw::check(n as u64, &given.signs, &given.z, &given.x))
@@ -57,6 +57,31 @@ const CALLS: [Measured; 23] = [
     ("complement", 64, |random, n| {
         in_place(random, n, |n, words, codes, used| {
             raw::complement(n, words, codes, *used, 0)
+        })
+    }),
+    ("run", 64, |random, n| {
+        // Every operation, and more steps than a block of the runner has.
+        let ops: Vec<u8> = (0..100).map(|_| random.below(5) as u8).collect();
+        let [a, b] = [0, 1].map(|_| {
+            (0..100)
+                .map(|_| random.below(n) as u16)
+                .collect::<Vec<u16>>()
+        });
+        let value: Vec<u16> = ops
+            .iter()
+            .map(|&op| [8, 0, 5, 0, 0][usize::from(op)])
+            .collect();
+        let b: Vec<u16> = ops
+            .iter()
+            .zip(&b)
+            .map(|(op, &b)| b * u16::from(op % 3 == 1))
+            .collect();
+        let (mut refusals, mut outcomes, mut determined) = ([0; 100], [0; 100], [0; 100]);
+        let told = (&mut refusals, &mut outcomes, &mut determined);
+        in_place(random, n, |n, words, codes, used| {
+            raw::run(
+                n, words, codes, used, &ops, &a, &b, &value, told.0, told.1, told.2,
+            )
         })
     }),
     ("image", 64, |random, n| {

@@ -6,6 +6,7 @@ mod lists;
 mod orbits;
 mod pairs;
 mod records;
+mod runs;
 mod stores;
 mod strings;
 
@@ -21,7 +22,7 @@ pub struct Call {
 }
 
 /// Every public call.
-pub const CALLS: [Call; 21] = [
+pub const CALLS: [Call; 22] = [
     Call {
         name: "check",
         once: lists::check,
@@ -49,6 +50,10 @@ pub const CALLS: [Call; 21] = [
     Call {
         name: "complement",
         once: in_place::complement,
+    },
+    Call {
+        name: "run",
+        once: runs::run,
     },
     Call {
         name: "image",

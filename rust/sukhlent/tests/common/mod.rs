@@ -21,6 +21,7 @@ pub mod product;
 pub mod reading;
 pub mod record_pairs;
 pub mod reference;
+pub mod runs;
 pub mod seeded;
 pub mod store;
 pub mod strings;
