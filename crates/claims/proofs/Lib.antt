@@ -1,4 +1,3 @@
-pub mod Examples
 pub mod LinesExactly
 pub mod SecondDemandLists
 pub mod PartsReached
@@ -13,7 +12,6 @@ pub mod InPlaceExactly
 pub mod UsedExactly
 pub mod SessionNumbers
 pub mod SessionDemandHolds
-pub mod SessionExamples
 pub mod RewritingsKeep
 pub mod CzInsideSide
 pub mod CutDemandHolds

@@ -24,4 +24,3 @@ pub mod AmplitudeDemand
 pub mod PivotSteps
 pub mod ExpectationDemand
 pub mod StoreDemand
-pub mod internal

@@ -1,12 +1,16 @@
 // The generators of a record, into lent buffers.
 use buffers::sign_digit;
-use clifford_rows::send;
+use clifford_words::Action;
+use clifford_words::act_on;
+use clifford_words::action_of;
 use pauli::Generator;
 use words::single;
+ghost use mathlib.Core.List.{List};
 ghost use mathlib.Core.Path.{_≡_};
 ghost use Prim.Native.Nat.{ℕ, _<_, _≤_, _^_};
 ghost use lib.ListN.{getD, length};
 ghost use Rattle.clifford.specs.Vectors.{codesOf};
+ghost use Rattle.clifford_words.specs.internal.Actions.{ActsAs};
 ghost use Rattle.pauli.specs.internal.Rows.{generatorOf};
 ghost use Rattle.record.specs.Lent.{heldRows};
 ghost use Rattle.record.specs.Records.{recordRow};
@@ -14,18 +18,17 @@ ghost use Rattle.stabilizer.specs.Lists.{listOf};
 ghost use Rattle.words.specs.Bits.{bit};
 
 // Generator j: X at j and Z at the neighbours of j, sign plus, each place then sent through its vertex's code.
-fn expanded_row(neighbours: &[u64], codes: &[u8], j: usize) -> Generator
-    requires { ⌜ (length (now codes) ≤ 64) × (j < length (now neighbours)) × (j < 64) ⌝ }
-    requires { ⌜ ((q : ℕ) → getD (now codes) q 0 < 24) ⌝ }
-    ensures { λ r. ⌜ generatorOf r ≡ recordRow 64 (λ i. bit (getD (now (neighbours .entry)) i 0))
-        (codesOf (now (codes .entry))) j ⌝ }
+fn expanded_row(neighbours: &[u64], by: Action, j: usize) -> Generator
+    requires { ⌜ (j < length (now neighbours)) × (j < 64) ⌝ }
+    ensures { λ r. ⌜ ((codes : List ℕ) → ActsAs (codesOf codes) by
+        → generatorOf r ≡ recordRow 64 (λ i. bit (getD (now (neighbours .entry)) i 0)) (codesOf codes) j) ⌝ }
 {
     let plus = Generator {
         minus: false,
         z: neighbours[j],
         x: single(j),
     };
-    send(plus, codes)
+    act_on(plus, by)
 }
 
 // Expansion into three lent buffers.
@@ -56,9 +59,10 @@ pub fn expand_into(
       codes = now (codes .entry);
     }))) .x ⌝ }
 {
+    let by = action_of(codes);
     let mut j = 0;
     while j < n {
-        let g = expanded_row(neighbours, codes, j);
+        let g = expanded_row(neighbours, by, j);
         signs[j] = sign_digit(g.minus);
         z[j] = g.z;
         x[j] = g.x;

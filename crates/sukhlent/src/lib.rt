@@ -6,6 +6,7 @@ pub mod generator;
 pub mod lists;
 pub mod orbits;
 pub mod records;
+pub mod run;
 pub mod stores;
 mod ties;
 pub mod version;

@@ -7,4 +7,5 @@ mod generator;
 mod lists;
 mod orbits;
 mod records;
+mod run;
 mod stores;

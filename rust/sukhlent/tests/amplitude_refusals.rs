@@ -1,74 +1,67 @@
 //! Refused calls on amplitudes: every number, pairs of faults, every stray bit of a word, and what the
 //! lent floats hold.
 
-use crate::common::damage::{damage_record, each_fault, each_pair};
-use crate::common::damage::{record_faults, used_faults, Fault};
-use crate::common::reference::plot_lines;
+use crate::common::damage::Fault;
+use crate::common::reading::{self, Reading};
+use crate::common::reference::{plot_lines, Bits};
 use crate::common::vectors::state_of;
-use crate::common::{random_record, random_used_record, At, Random, RecordCall};
+use crate::common::{At, Random, RecordCall};
 use sukhlent::{raw, Record, Refusal};
 
 type Call = RecordCall<At>;
 
-/// The faults of a record on 8 vertices, of its used word and of the word y.
-fn faults() -> Vec<Fault<Call>> {
-    let mut faults = [record_faults::<At>(), used_faults()].concat();
-    faults.push((5, |call| call.with = At(1 << 8)));
-    faults.push((5, |call| call.with = At(1 << 63 | 0b101)));
-    faults.push((5, |call| call.with = At(u64::MAX)));
-    faults
-}
+impl Reading for At {
+    type Answer = Bits;
 
-/// An amplitude of a random record of n vertices.
-fn base(seed: u64, n: usize) -> Call {
-    let mut random = Random::new(seed);
-    let record = random_record(&mut random, n);
-    RecordCall::amplitude_of(&record, random.word() >> (64 - n))
-}
+    fn random(random: &mut Random, n: usize) -> At {
+        At(random.word() >> (64 - n))
+    }
 
-/// An amplitude of a random record of n vertices of which some are used.
-fn used(seed: u64, n: usize) -> Call {
-    let mut random = Random::new(seed);
-    let record = random_used_record(&mut random, n);
-    RecordCall::amplitude_of(&record, random.word() >> (64 - n))
-}
+    fn put_bit(&mut self, random: &mut Random) {
+        *self = At(1 << random.below(64));
+    }
 
-fn assert_refused(call: &Call, number: u8, what: &str) {
-    assert_eq!(call.due(), number, "the fault itself: {what}");
-    assert_eq!(call.amplitude(), Err(number), "{what}: {call:?}");
-}
+    fn faults() -> Vec<Fault<Call>> {
+        vec![
+            (5, |call| call.with = At(1 << 8)),
+            (5, |call| call.with = At(1 << 63 | 0b101)),
+            (5, |call| call.with = At(u64::MAX)),
+        ]
+    }
 
-/// An accepted call on few vertices answers the line of the state's vector, another one the number
-/// due.
-fn assert_judged(call: &Call) -> u8 {
-    let due = call.due();
-    let answer = match due {
-        0 => Ok(plot_lines(&state_of(&call.record()))[call.with.0 as usize]),
-        number => Err(number),
-    };
-    assert_eq!(call.amplitude(), answer, "{call:?}");
-    due
+    fn answer(call: &Call) -> Result<Bits, u8> {
+        call.amplitude()
+    }
+
+    fn due(call: &Call) -> u8 {
+        call.due()
+    }
+
+    /// The line of the state's vector, so that the vertices must be few.
+    fn expected(call: &Call) -> Bits {
+        plot_lines(&state_of(&call.record()))[call.with.0 as usize]
+    }
 }
 
 #[test]
 fn every_fault_gives_its_number() {
-    for seed in 0..20 {
-        assert_eq!(assert_judged(&base(seed, 8)), 0);
-        each_fault(&faults(), || base(seed, 8), assert_refused);
-    }
+    reading::judge_faults::<At>();
 }
 
 #[test]
 fn of_two_faults_the_earlier_number_is_given() {
-    for seed in 0..20 {
-        each_pair(&faults(), || base(seed, 8), assert_refused);
-    }
+    reading::judge_pairs::<At>();
+}
+
+#[test]
+fn a_word_may_have_bits_at_used_qubits() {
+    reading::judge_used::<At>(6);
 }
 
 #[test]
 fn every_bit_of_a_word() {
     for n in 1..=64 {
-        let right = base(n as u64, n);
+        let right: Call = reading::base(n as u64, n);
         for bit in 0..64 {
             for y in [1 << bit, right.with.0 | 1 << bit] {
                 let with = At(y);
@@ -122,22 +115,5 @@ fn a_refused_call_keeps_the_bits_of_any_float() {
 
 #[test]
 fn seeded_damage_against_the_reference() {
-    let mut counts = [0; 8];
-    for seed in 0..6000 {
-        let mut random = Random::new(61_000 + seed);
-        let n = 1 + random.below(6);
-        let mut call = match random.below(2) {
-            0 => base(seed, n),
-            _ => used(seed, n),
-        };
-        if random.below(8) == 0 {
-            call.with = At(1 << random.below(64));
-        }
-        for _ in 0..random.below(3) {
-            damage_record(&mut random, &mut call);
-        }
-        counts[usize::from(assert_judged(&call))] += 1;
-    }
-    let all = [0, 2, 4, 5, 6, 7];
-    assert!(all.iter().all(|&k| counts[k] > 50), "{counts:?}");
+    reading::judge_damage::<At>(61_000, 6);
 }

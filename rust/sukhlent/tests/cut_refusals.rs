@@ -1,70 +1,58 @@
 //! Damaged cuts: every number, pairs of faults, and every stray bit of a side.
 
-use crate::common::damage::{damage_record, each_fault, each_pair};
-use crate::common::damage::{record_faults, used_faults, Fault};
+use crate::common::damage::Fault;
+use crate::common::reading::{self, Reading};
 use crate::common::reference::cut_rank;
-use crate::common::{random_record, random_used_record, Random, RecordCall, Side};
+use crate::common::{Random, RecordCall, Side};
 
 type Call = RecordCall<Side>;
 
-/// The faults of a record on 8 vertices, of its used word and of the side.
-fn faults() -> Vec<Fault<Call>> {
-    let mut faults = [record_faults::<Side>(), used_faults()].concat();
-    faults.push((5, |call| call.with = Side(1 << 8)));
-    faults.push((5, |call| call.with = Side(1 << 63 | 0b101)));
-    faults.push((5, |call| call.with = Side(u64::MAX)));
-    faults
-}
+impl Reading for Side {
+    type Answer = u64;
 
-/// A cut of a random record of n vertices.
-fn base(seed: u64, n: usize) -> Call {
-    let mut random = Random::new(seed);
-    let record = random_record(&mut random, n);
-    RecordCall::cut_of(&record, random.word() >> (64 - n))
-}
+    fn random(random: &mut Random, n: usize) -> Side {
+        Side(random.word() >> (64 - n))
+    }
 
-/// A cut of a random record of n vertices of which some are used, on either side.
-fn used(seed: u64, n: usize) -> Call {
-    let mut random = Random::new(seed);
-    let record = random_used_record(&mut random, n);
-    RecordCall::cut_of(&record, random.word() >> (64 - n))
-}
+    fn put_bit(&mut self, random: &mut Random) {
+        *self = Side(1 << random.below(64));
+    }
 
-fn assert_refused(call: &Call, number: u8, what: &str) {
-    assert_eq!(call.due(), number, "the fault itself: {what}");
-    assert_eq!(call.cut(), Err(number), "{what}: {call:?}");
-}
+    fn faults() -> Vec<Fault<Call>> {
+        vec![
+            (5, |call| call.with = Side(1 << 8)),
+            (5, |call| call.with = Side(1 << 63 | 0b101)),
+            (5, |call| call.with = Side(u64::MAX)),
+        ]
+    }
 
-/// An accepted call answers the rank, another one the number due.
-fn assert_judged(call: &Call) -> u8 {
-    let due = call.due();
-    let answer = match due {
-        0 => Ok(cut_rank(&call.neighbours, call.with.0)),
-        number => Err(number),
-    };
-    assert_eq!(call.cut(), answer, "{call:?}");
-    due
+    fn answer(call: &Call) -> Result<u64, u8> {
+        call.cut()
+    }
+
+    fn due(call: &Call) -> u8 {
+        call.due()
+    }
+
+    fn expected(call: &Call) -> u64 {
+        cut_rank(&call.neighbours, call.with.0)
+    }
 }
 
 #[test]
 fn every_fault_gives_its_number() {
-    for seed in 0..20 {
-        assert_eq!(assert_judged(&base(seed, 8)), 0);
-        each_fault(&faults(), || base(seed, 8), assert_refused);
-    }
+    reading::judge_faults::<Side>();
 }
 
 #[test]
 fn of_two_faults_the_earlier_number_is_given() {
-    for seed in 0..20 {
-        each_pair(&faults(), || base(seed, 8), assert_refused);
-    }
+    reading::judge_pairs::<Side>();
 }
 
 #[test]
 fn every_bit_of_a_side() {
     for n in 1..=64 {
-        let right = base(n as u64, n);
+        let right: Call = reading::base(n as u64, n);
         for bit in 0..64 {
             for side in [1 << bit, right.with.0 | 1 << bit] {
                 let with = Side(side);
@@ -72,7 +60,7 @@ fn every_bit_of_a_side() {
                     with,
                     ..right.clone()
                 };
-                assert_eq!(assert_judged(&call), if bit < n { 0 } else { 5 });
+                assert_eq!(reading::assert_judged(&call), if bit < n { 0 } else { 5 });
             }
         }
     }
@@ -80,34 +68,10 @@ fn every_bit_of_a_side() {
 
 #[test]
 fn a_side_may_mark_used_qubits() {
-    for seed in 0..300 {
-        let n = 1 + seed as usize % 64;
-        let call = used(seed, n);
-        assert_eq!(assert_judged(&call), 0);
-        // The used word does not change the rank.
-        let unused = Call { used: 0, ..call };
-        assert_eq!(assert_judged(&unused), 0);
-    }
+    reading::judge_used::<Side>(64);
 }
 
 #[test]
 fn seeded_damage_against_the_reference() {
-    let mut counts = [0; 8];
-    for seed in 0..6000 {
-        let mut random = Random::new(60_000 + seed);
-        let n = 1 + random.below(9);
-        let mut call = match random.below(2) {
-            0 => base(seed, n),
-            _ => used(seed, n),
-        };
-        if random.below(8) == 0 {
-            call.with = Side(1 << random.below(64));
-        }
-        for _ in 0..random.below(3) {
-            damage_record(&mut random, &mut call);
-        }
-        counts[usize::from(assert_judged(&call))] += 1;
-    }
-    let all = [0, 2, 4, 5, 6, 7];
-    assert!(all.iter().all(|&k| counts[k] > 50), "{counts:?}");
+    reading::judge_damage::<Side>(60_000, 9);
 }

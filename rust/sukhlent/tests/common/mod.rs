@@ -18,6 +18,7 @@ pub mod orbit;
 pub mod pairs;
 pub mod process;
 pub mod product;
+pub mod reading;
 pub mod record_pairs;
 pub mod reference;
 pub mod seeded;

@@ -1,0 +1,22 @@
+-- The examples of the request on faster sessions hold of the definitions: one theorem over the table.
+use mathlib.Core.Path.{refl}
+use Rattle.buffers.specs.Buffers.{tabulate}
+use Rattle.buffers.specs.Refusals.{firstFitting, reaching}
+use Rattle.clifford.specs.Clifford.{inverse}
+use Rattle.clifford.specs.Vectors.{act}
+use Rattle.operations.specs.Cz.{cz}
+use Rattle.pauli.specs.Pauli.{anticommute, mul, power}
+use Rattle.record.specs.Columns.{isColumnDependent}
+use Rattle.record.specs.Lent.{notSimple}
+use Rattle.record.specs.Reduced.{graphOf, minusesOf, reducedRow, ysOf}
+use Rattle.stabilizer.specs.Lists.{clashing, dependent}
+use Rattle.stabilizer.specs.Membership.{member}
+use Rattle.words.specs.Bits.{bit, fold, put, wordOf}
+use Rattle.words.specs.Search.{every, first, some}
+use Rattle.jobs.specs.internal.Examples.{AllHold}
+use Rattle.claims_examples.specs.internal.SessionTable.{table}
+
+pub both-ways : AllHold table
+unfolding fold put bit wordOf some every first power mul anticommute inverse act tabulate firstFitting
+    reaching clashing dependent notSimple isColumnDependent reducedRow graphOf ysOf minusesOf cz member
+both-ways = refl
