@@ -129,14 +129,14 @@ module _ (n : ℕ) (start w : Working) (empty : start .count ≡ 0) (T : Trackin
   room : w .count + length ms ≤ 96
   room = elim lower [
     | inl H ↦ omega (
-        arith,
-        R .so-far .count,
-        empty,
-        whole,
-        ap length (R .rest),
-        length-append (R .done) (run n (R .left) S),
-        ap length (stopped-none H),
-      )
+      arith,
+      R .so-far .count,
+      empty,
+      whole,
+      ap length (R .rest),
+      length-append (R .done) (run n (R .left) S),
+      ap length (stopped-none H),
+    )
     | inr f ↦ falling-room f
   ]
 

@@ -14,7 +14,13 @@ pub struct Tracked {
 }
 
 // Complements at v and puts v on the list. At v itself C becomes C + D, at a neighbour D becomes C + D.
-pub fn complement_at(neighbours: &mut [u64], codes: &mut [u8], list: &mut [u8], at: Tracked, v: usize) -> Tracked
+pub fn complement_at(
+    neighbours: &mut [u64],
+    codes: &mut [u8],
+    list: &mut [u8],
+    at: Tracked,
+    v: usize,
+) -> Tracked
     requires { ⌜ (v < length (now neighbours)) × (at .count < 96) × Tracking (length (now neighbours))
         (working (now neighbours) (now codes) (now list) at) ⌝ }
     ensures { λ r. ⌜ Complemented (length (now (neighbours .entry)))

@@ -70,7 +70,12 @@ fn next_moves(neighbours: &mut [u64], codes: &mut [u8], list: &mut [u8], at: Tra
 }
 
 // The image rule: the next complementations until there are none.
-pub fn run_rule(neighbours: &mut [u64], codes: &mut [u8], list: &mut [u8], start: Tracked) -> Tracked
+pub fn run_rule(
+    neighbours: &mut [u64],
+    codes: &mut [u8],
+    list: &mut [u8],
+    start: Tracked,
+) -> Tracked
     requires { ⌜ (start .count ≡ 0)
         × Tracking (length (now neighbours)) (working (now neighbours) (now codes) (now list) start) ⌝ }
     ensures { λ r. ⌜ Complemented (length (now (neighbours .entry)))
