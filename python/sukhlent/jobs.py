@@ -11,6 +11,10 @@ from .refusals import Refusal, accept
 from .state import State
 
 
+#: the operations in the order of their numbers
+_OPS = ("gate", "cz", "measure", "complement", "pivot")
+
+
 @dataclass(frozen=True)
 class Step:
     """A step: op, two qubits and a value; an unused field is 0. As text it is a line of a job.
@@ -94,7 +98,18 @@ Result(refusal=16, outcome=0, determined=0)]
     """
     n, steps = parse_job(text)
     state = State.zeros(n)
-    return state, [run_step(state, step) for step in steps]
+    return state, run_steps(state, steps)
+
+
+def run_steps(state: State, steps: Iterable[Step]) -> list[Result]:
+    """At most 4,096 steps of a job, in place, in one call.
+
+    >>> state = State.zeros(2)
+    >>> run_steps(state, [Step("gate", 0, 0, 8), Step("cz", 0, 0, 0)])
+    [Result(refusal=0, outcome=0, determined=0), Result(refusal=8, outcome=0, determined=0)]
+    """
+    numbers = [(_OPS.index(step.op), step.a, step.b, step.value) for step in steps]
+    return [Result(*answer) for answer in state.run(numbers)]
 
 
 def run_step(state: State, step: Step) -> Result:

@@ -13,8 +13,11 @@ from .refusals import Refusal
 _NAME = "libsukhlent.so"
 _BYTES, _WORDS = POINTER(c_uint8), POINTER(c_uint64)
 _IN_BYTES, _IN_WORDS = (_BYTES, c_size_t), (_WORDS, c_size_t)
+_IN_HALVES = (POINTER(c_uint16), c_size_t)
 _LIST = (*_IN_BYTES, *_IN_WORDS, *_IN_WORDS)
 _RECORD = (*_IN_WORDS, *_IN_BYTES)
+_STORE = (*_IN_WORDS, *_RECORD)
+_GROUP = (c_uint64, c_uint64, c_uint8, *_RECORD)
 
 #: name: argument types; every call answers a refusal number
 _CALLS: dict[str, tuple] = {
@@ -25,19 +28,28 @@ _CALLS: dict[str, tuple] = {
     "cz": (c_uint64, *_RECORD, c_uint64, c_uint64, c_uint64),
     "measure": (c_uint64, *_RECORD, _WORDS, c_uint8, c_uint64, c_uint8, _BYTES, _BYTES),
     "complement": (c_uint64, *_RECORD, c_uint64, c_uint64),
+    "run": (c_uint64, *_RECORD, _WORDS, *_IN_BYTES, *_IN_HALVES * 3, *_IN_BYTES * 3),
     "image": (c_uint64, *_RECORD, *_IN_WORDS, *_IN_BYTES, *_IN_BYTES, _WORDS),
     "cut": (c_uint64, *_RECORD, c_uint64, c_uint64, _WORDS),
     "amplitude": (c_uint64, *_RECORD, c_uint64, c_uint64, *[POINTER(c_double)] * 3),
     "expectation": (c_uint64, *_RECORD, c_uint64, c_uint64, c_uint64, _BYTES),
-    "save": (c_uint64, *_RECORD, c_uint64, c_uint64, *_IN_WORDS, *_RECORD),
-    "return": (c_uint64, *_IN_WORDS, *_RECORD, _WORDS, *_RECORD, _WORDS),
-    "forget": (c_uint64, *_IN_WORDS, *_RECORD),
+    "save": (c_uint64, *_RECORD, c_uint64, c_uint64, *_STORE),
+    "return": (c_uint64, *_STORE, _WORDS, *_RECORD, _WORDS),
+    "forget": (c_uint64, *_STORE),
+    "group_gate": (*_GROUP, c_uint64, c_uint64, c_uint8),
+    "group_cz": (*_GROUP, c_uint64, c_uint64, c_uint64),
+    "group_measure": (*_GROUP, _WORDS, c_uint8, c_uint64, c_uint8, _BYTES, _BYTES),
+    "group_complement": (*_GROUP, c_uint64, c_uint64),
+    "group_save": (*_GROUP, c_uint64, c_uint64, *_STORE),
+    "group_return": (*_GROUP, _WORDS, c_uint64, *_STORE),
+    "group_forget": (*_GROUP, c_uint64, c_uint64, *_STORE),
     "product": (c_uint64, *_LIST, c_uint64, _WORDS, _WORDS, _BYTES),
     "compare": (c_uint64, *_LIST, c_uint64, *_LIST, *_IN_BYTES, *_IN_BYTES, _WORDS),
+    "compare_records": (c_uint64, *_RECORD, c_uint64, *_RECORD, *_IN_BYTES, *_IN_BYTES, _WORDS),
     "generate": (c_uint64, c_uint64, c_uint64, *_IN_BYTES, _WORDS),
     "read_strings": (*_IN_BYTES, *_LIST),
     "write_strings": (c_uint64, *_LIST, *_IN_BYTES),
-    "orbit": (c_uint64, *_IN_WORDS, POINTER(c_uint16), c_size_t, _WORDS),
+    "orbit": (c_uint64, *_IN_WORDS, *_IN_HALVES, _WORDS),
 }
 
 
@@ -145,9 +157,12 @@ def call(name: str, *arguments: Argument) -> int:
 
 
 def _fitting(value: int, kind: type) -> int:
-    """A number as C gets it. One that no byte holds becomes 255, which every call refuses as it would the number."""
+    """A number as C gets it. One that no byte holds becomes 255, or of 16 bits 65,535, which every call refuses as it would
+    the number."""
     if kind is c_uint8:
         return value if 0 <= value <= 255 else 255
+    if kind is c_uint16:
+        return value if 0 <= value <= 65535 else 65535
     if not 0 <= value < 1 << 64:
         raise OverflowError(f"{value} does not fit into 64 bits")
     return value
@@ -178,3 +193,9 @@ def octets(values: Iterable[int]) -> ctypes.Array:
     """A buffer of bytes."""
     fitting = [_fitting(value, c_uint8) for value in values]
     return (c_uint8 * len(fitting))(*fitting)
+
+
+def halves(values: Iterable[int]) -> ctypes.Array:
+    """A buffer of numbers of 16 bits."""
+    fitting = [_fitting(value, c_uint16) for value in values]
+    return (c_uint16 * len(fitting))(*fitting)

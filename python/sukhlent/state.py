@@ -4,7 +4,7 @@ from __future__ import annotations
 
 import random
 from pathlib import Path
-from typing import Iterable
+from typing import Callable, Iterable, Sequence
 
 from . import library
 from .answers import Equivalence, Image, Measured, PlotLine
@@ -29,6 +29,30 @@ def neighbour_words(n: int, edges: Iterable[tuple[int, int]]) -> list[int]:
         neighbours[a] |= 1 << b
         neighbours[b] |= 1 << a
     return neighbours
+
+
+def pauli_number(letter: str) -> int:
+    """The number of a Pauli; 0, which every call refuses, of anything else.
+
+    >>> [pauli_number(letter) for letter in "XYZI"]
+    [1, 2, 3, 0]
+    """
+    return _PAULIS.get(letter.upper(), 0)
+
+
+def measured_by_lot(measure: Callable[[int], Measured], source: random.Random | None = None) -> Measured:
+    """Measures with a fair bit, and with the other where the state forbids it.
+
+    >>> measured_by_lot(lambda bit: State.zeros(1).measure("Z", 0, bit))
+    Measured(outcome=0, determined=True)
+    """
+    bit = (source or random).getrandbits(1)
+    try:
+        return measure(bit)
+    except Refusal as refusal:
+        if refusal.number != 14:
+            raise
+        return measure(1 - bit)
 
 
 class State:
@@ -241,10 +265,10 @@ class State:
         >>> print(path.compare(State.zeros(3)))
         None
         """
-        mine, others = self.generators(), other.generators()
         choice, places, count = library.octets([0] * self.n), library.octets([0] * 96), library.word()
         number = library.call(
-            "compare", mine.n, *mine.buffers(), others.n, *others.buffers(), choice, places, count
+            "compare_records", self.n, self._neighbours, self._codes, other.n, other._neighbours, other._codes,
+            choice, places, count,
         )
         if number == 13:
             return None
@@ -357,18 +381,12 @@ class State:
         Measured(outcome=1, determined=False)
         """
         if outcome is None:
-            bit = (source or random).getrandbits(1)
-            try:
-                return self.measure(pauli, qubit, bit)
-            except Refusal as refusal:
-                if refusal.number != 14:
-                    raise
-                return self.measure(pauli, qubit, 1 - bit)
+            return measured_by_lot(lambda bit: self.measure(pauli, qubit, bit), source)
         used, answer, determined = library.word(self._used), library.octet(), library.octet()
         accept(
             library.call(
                 "measure", self.n, self._neighbours, self._codes, used,
-                _PAULIS.get(pauli.upper(), 0), library.place(qubit), outcome, answer, determined,
+                pauli_number(pauli), library.place(qubit), outcome, answer, determined,
             )
         )  # fmt: skip
         self._used = used.value
@@ -384,6 +402,24 @@ class State:
         """
         vertex = library.place(vertex)
         accept(library.call("complement", self.n, self._neighbours, self._codes, self._used, vertex))
+
+    def run(self, steps: Sequence[tuple[int, int, int, int]]) -> list[tuple[int, int, int]]:
+        """Runs at most 4,096 steps in one call: each is an operation (0 gate, 1 cz, 2 measure, 3 complement, 4 pivot), two
+        qubits and a value, as in a job. Answers refusal, outcome and determined of each; a refused step changes nothing.
+
+        >>> state = State.zeros(2)
+        >>> state.run([(0, 0, 0, 8), (2, 0, 0, 0), (1, 0, 1, 0)])
+        [(0, 0, 0), (0, 0, 1), (16, 0, 0)]
+        >>> state.used
+        1
+        """
+        ops = library.octets(step[0] for step in steps)
+        fields = [library.halves(step[k] for step in steps) for k in (1, 2, 3)]
+        answers = [library.octets([0] * len(steps)) for _ in range(3)]
+        used = library.word(self._used)
+        accept(library.call("run", self.n, self._neighbours, self._codes, used, ops, *fields, *answers))
+        self._used = used.value
+        return list(zip(*answers))
 
     # ---- showing it
 

@@ -3,7 +3,7 @@
 import random
 import unittest
 
-from sukhlent import Refusal, generate, job_text, parse_job, run_job
+from sukhlent import Refusal, State, Step, generate, job_text, parse_job, run_job, run_step, run_steps
 from tests.places import program
 
 
@@ -36,6 +36,25 @@ class Jobs(unittest.TestCase):
         texts += [good + "gate 0 0 0\n" * 4094]
         for text in texts:
             self.assertEqual(printed(text), program("job", text))
+
+    def test_many_steps_in_one_call_are_the_steps_one_by_one(self):
+        source = random.Random(5)
+        for n in (1, 2, 3, 8, 64):
+            steps = []
+            for _ in range(300):
+                op = source.choice(("gate", "cz", "measure", "complement", "pivot"))
+                a, b, value = (source.choice((0, 0, source.randrange(n), source.randrange(30))) for _ in range(3))
+                steps.append(Step(op, a, b, value))
+            steps += [Step("gate", 70000, 0, 1), Step("gate", 0, 0, 70000), Step("cz", 0, 65536, 0)]
+            one, other = State.zeros(n), State.zeros(n)
+            self.assertEqual(run_steps(one, steps), [run_step(other, step) for step in steps])
+            self.assertEqual((one.neighbours, one.codes, one.used), (other.neighbours, other.codes, other.used))
+
+    def test_more_than_4096_steps_are_refused(self):
+        state = State.zeros(1)
+        with self.assertRaises(Refusal) as caught:
+            run_steps(state, [Step("gate", 0, 0, 1)] * 4097)
+        self.assertEqual((caught.exception.number, state.codes), (15, (8,)))
 
     def test_a_parsed_job_has_its_steps(self):
         text = generate(5, 17, 9)

@@ -13,8 +13,8 @@ ghost use Rattle.contracts.specs.Calls.{Call};
 ghost use Rattle.buffers.specs.Refusals.{badCount};
 ghost use Rattle.call_compare.specs.Comparisons.{compareCall};
 
-// Line 2: n is 0 or above 64, or the two lists' n differ.
-fn pair_count(n: u64, n2: u64) -> bool
+// Line 2: n is 0 or above 64, or the two n differ.
+pub fn pair_count(n: u64, n2: u64) -> bool
     ensures { λ r. ⌜ r ≡ (badCount n || (badCount n2 || not (eqb n n2))) ⌝ }
 {
     bad_count(n) | (bad_count(n2) | (n != n2))

@@ -1,11 +1,13 @@
 -- Demand 1, of every public call: "A call that is accepted, on any words, codes, signs and qubit numbers, ends with a
 -- complete answer .. A call that is refused .. returns the first fitting number of the published list and changes no
--- lent byte". That a call ends, and touches no other byte, is what a contract of the language means.
+-- lent byte". That a call ends, and touches no other byte, is what a contract of the language means. Of sukhlent_run
+-- claims_run/specs/RunDemand says it.
 use Rattle.contracts.specs.Answers.{EveryCallAnswers}
 use Rattle.claims.specs.families.Amplitudes.{AmplitudesConform}
 use Rattle.claims.specs.families.Comparisons.{ComparisonBuffersUnread, ComparisonsConform}
 use Rattle.claims.specs.families.Expectations.{ExpectationsConform}
 use Rattle.claims.specs.families.Generator.{GenerationBuffersUnread, GenerationsConform}
+use Rattle.claims.specs.families.Groups.{GroupsConform}
 use Rattle.claims.specs.families.Lists.{ListBuffersUnread, ListsConform}
 use Rattle.claims.specs.families.Orbits.{OrbitBuffersUnread, OrbitsConform}
 use Rattle.claims.specs.families.Records.{RecordBuffersUnread, RecordsConform}
@@ -22,6 +24,7 @@ pub record FirstDemand : Type 0 where
   pub amplitudes : AmplitudesConform
   pub expectations : ExpectationsConform
   pub stores : StoresConform
+  pub groups : GroupsConform
 
 -- "What a buffer lent only for the answer holds before the call makes no line true": buffers of equal lengths give equal
 -- numbers

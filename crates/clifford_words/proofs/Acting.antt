@@ -12,13 +12,13 @@ use Rattle.pauli.proofs.PauliLaws.{Pauli-path}
 use Rattle.pauli.proofs.PhaseLaws.{minus-⊕, phases}
 use Rattle.pauli.specs.Pauli.{_+ᵖ_, i⁰, letter, minus, signBit, signedRow, sumPhase, zBit}
 use Rattle.pauli.specs.declared.Letter.the-variants.{X, Y, Z}
-use Rattle.words.proofs.BitLaws.{bit-above, bit-and, bit-xor, lt-of-bits}
+use Rattle.words.proofs.BitLaws.{bit-above, bit-and, bit-xor}
 use Rattle.words.proofs.Finite.{bits, unequal}
 use Rattle.words.proofs.OnesLaws.{parity-ones}
 use Rattle.words.proofs.Sums.{fold-ext, fold-hom, lt-or-ge}
 use Rattle.words.specs.Bits.{_⊕_, bit, isOdd}
 use Rattle.clifford_words.specs.declared.Action.{Action}
-use Rattle.clifford_words.specs.internal.Actions.{ActsAs}
+use Rattle.clifford_words.specs.internal.Actions.{ActsAs, SignsOf}
 
 -- ---- one place
 after-z : (k : Clifford) (z x : Bool) → (z && zBit (image k Z)) ⊕ (x && zBit (image k X)) ≡ zAfter k z x
@@ -46,36 +46,7 @@ abbrev signWord : Action → ℕ → ℕ → ℕ
 signWord w z x = bitXor (bitXor (bitAnd (bitXor x (bitAnd z x)) (w .sx)) (bitAnd (bitXor z (bitAnd z x)) (w .sz)))
     (bitAnd (bitAnd z x) (w .sy))
 
-module _ (k : ℕ → Clifford) (w : Action) (W : ActsAs k w) (z x : ℕ) (hz : z < 2 ^ 64) (hx : x < 2 ^ 64) where
-  -- two words, each at the places of another
-  mixed : (u v q : ℕ) → bit (bitXor (bitAnd z u) (bitAnd x v)) q ≡ (bit z q && bit u q) ⊕ (bit x q && bit v q)
-  mixed u v q = bit-xor (bitAnd z u) (bitAnd x v) q ∙ ap₂ _⊕_ (bit-and z u q) (bit-and x v q)
-
-  -- there is no letter at or above 64
-  past : (f g : Bool → Bool → Bool) → f false false ≡ g false false → (q : ℕ) → 64 ≤ q
-      → f (bit z q) (bit x q) ≡ g (bit z q) (bit x q)
-  past f g e q l =
-      ap₂ f (bit-above 64 z hz q l) (bit-above 64 x hx q l) ∙ e
-      ∙ sym (ap₂ g (bit-above 64 z hz q l) (bit-above 64 x hx q l))
-
-  z-sent : (q : ℕ) → bit (bitXor (bitAnd z (w .a)) (bitAnd x (w .b))) q ≡ zAfter (k q) (bit z q) (bit x q)
-  z-sent q = mixed (w .a) (w .b) q ∙ go (lt-or-ge q 64)
-    where
-      go : (q < 64) ⊎ (64 ≤ q)
-          → (bit z q && bit (w .a) q) ⊕ (bit x q && bit (w .b) q) ≡ zAfter (k q) (bit z q) (bit x q)
-      go (inl l) =
-          ap₂ (λ a b. (bit z q && a) ⊕ (bit x q && b)) (W .A q l) (W .B q l) ∙ after-z (k q) (bit z q) (bit x q)
-      go (inr l) = past (λ u v. (u && bit (w .a) q) ⊕ (v && bit (w .b) q)) (zAfter (k q)) refl q l
-
-  x-sent : (q : ℕ) → bit (bitXor (bitAnd z (w .c)) (bitAnd x (w .d))) q ≡ xAfter (k q) (bit z q) (bit x q)
-  x-sent q = mixed (w .c) (w .d) q ∙ go (lt-or-ge q 64)
-    where
-      go : (q < 64) ⊎ (64 ≤ q)
-          → (bit z q && bit (w .c) q) ⊕ (bit x q && bit (w .d) q) ≡ xAfter (k q) (bit z q) (bit x q)
-      go (inl l) =
-          ap₂ (λ a b. (bit z q && a) ⊕ (bit x q && b)) (W .C q l) (W .D q l) ∙ after-x (k q) (bit z q) (bit x q)
-      go (inr l) = past (λ u v. (u && bit (w .c) q) ⊕ (v && bit (w .d) q)) (xAfter (k q)) refl q l
-
+module _ (k : ℕ → Clifford) (w : Action) (W : ActsAs k w) (z x : ℕ) where
   sign-bits : (q : ℕ) → bit (signWord w z x) q
       ≡ signBits (bit z q) (bit x q) (bit (w .sx) q) (bit (w .sz) q) (bit (w .sy) q)
   sign-bits q =
@@ -86,25 +57,53 @@ module _ (k : ℕ → Clifford) (w : Action) (W : ActsAs k w) (z x : ℕ) (hz : 
       at : (u s : ℕ) → bit (bitAnd (bitXor u (bitAnd z x)) s) q ≡ ((bit u q ⊕ (bit z q && bit x q)) && bit s q)
       at u s = bit-and _ _ q ∙ ap (λ b. b && bit s q) (bit-xor _ _ q ∙ ap (λ b. bit u q ⊕ b) (bit-and z x q))
 
-  sign-lt : signWord w z x < 2 ^ 64
-  sign-lt = lt-of-bits 64 _ (λ q l. sign-bits q
-      ∙ past (λ u v. signBits u v (bit (w .sx) q) (bit (w .sz) q) (bit (w .sy) q)) (λ u v. false) refl q l)
-
-  sign-sent : minus (isOdd (ones (signWord w z x))) ≡ sumPhase 64 (λ q. imagePhase (k q) (letter (bit z q) (bit x q)))
-  sign-sent =
-      ap minus (parity-ones 64 _ sign-lt) ∙ fold-hom false _⊕_ i⁰ _+ᵖ_ minus refl minus-⊕ 64 (bit (signWord w z x))
-      ∙ fold-ext i⁰ _+ᵖ_ 64 (λ q l. ap minus (sign-bits q ∙ own q l) ∙ sym (after-sign (k q) (bit z q) (bit x q)))
+  pub signs-sent : SignsOf k z x (signWord w z x)
+  signs-sent q l = ap minus (sign-bits q ∙ own) ∙ sym (after-sign (k q) (bit z q) (bit x q))
     where
-      own : (q : ℕ) → q < 64 → signBits (bit z q) (bit x q) (bit (w .sx) q) (bit (w .sz) q) (bit (w .sy) q)
+      own : signBits (bit z q) (bit x q) (bit (w .sx) q) (bit (w .sz) q) (bit (w .sy) q)
           ≡ signBits (bit z q) (bit x q) ((k q) .sx) ((k q) .sz) (signBit (imagePhase (k q) Y))
-      own q l = ap₂ (λ a b. signBits (bit z q) (bit x q) a b (bit (w .sy) q)) (W .SX q l) (W .SZ q l)
+      own = ap₂ (λ a b. signBits (bit z q) (bit x q) a b (bit (w .sy) q)) (W .SX q l) (W .SZ q l)
           ∙ ap (signBits (bit z q) (bit x q) ((k q) .sx) ((k q) .sz)) (W .SY q l)
 
-  -- as the code has it
-  pub acted : (s m : Bool) → m ≡ isOdd (ones (signWord w z x)) →
-      signedRow (not (Bool·beq s m)) (bitXor (bitAnd z (w .a)) (bitAnd x (w .b)))
-      (bitXor (bitAnd z (w .c)) (bitAnd x (w .d))) ≡ act 64 k (signedRow s z x)
-  unfolding act
-  acted s m e =
-      Pauli-path
-      (ap minus (unequal s m) ∙ minus-⊕ s m ∙ ap (λ t. minus s +ᵖ t) (ap minus e ∙ sign-sent)) z-sent x-sent
+  -- two words, each at the places of another
+  mixed : (u v q : ℕ) → bit (bitXor (bitAnd z u) (bitAnd x v)) q ≡ (bit z q && bit u q) ⊕ (bit x q && bit v q)
+  mixed u v q = bit-xor (bitAnd z u) (bitAnd x v) q ∙ ap₂ _⊕_ (bit-and z u q) (bit-and x v q)
+
+  module _ (hz : z < 2 ^ 64) (hx : x < 2 ^ 64) where
+    -- there is no letter at or above 64
+    past : (f g : Bool → Bool → Bool) → f false false ≡ g false false → (q : ℕ) → 64 ≤ q
+        → f (bit z q) (bit x q) ≡ g (bit z q) (bit x q)
+    past f g e q l =
+        ap₂ f (bit-above 64 z hz q l) (bit-above 64 x hx q l) ∙ e
+        ∙ sym (ap₂ g (bit-above 64 z hz q l) (bit-above 64 x hx q l))
+
+    z-sent : (q : ℕ) → bit (bitXor (bitAnd z (w .a)) (bitAnd x (w .b))) q ≡ zAfter (k q) (bit z q) (bit x q)
+    z-sent q = mixed (w .a) (w .b) q ∙ go (lt-or-ge q 64)
+      where
+        go : (q < 64) ⊎ (64 ≤ q)
+            → (bit z q && bit (w .a) q) ⊕ (bit x q && bit (w .b) q) ≡ zAfter (k q) (bit z q) (bit x q)
+        go (inl l) =
+            ap₂ (λ a b. (bit z q && a) ⊕ (bit x q && b)) (W .A q l) (W .B q l) ∙ after-z (k q) (bit z q) (bit x q)
+        go (inr l) = past (λ u v. (u && bit (w .a) q) ⊕ (v && bit (w .b) q)) (zAfter (k q)) refl q l
+
+    x-sent : (q : ℕ) → bit (bitXor (bitAnd z (w .c)) (bitAnd x (w .d))) q ≡ xAfter (k q) (bit z q) (bit x q)
+    x-sent q = mixed (w .c) (w .d) q ∙ go (lt-or-ge q 64)
+      where
+        go : (q < 64) ⊎ (64 ≤ q)
+            → (bit z q && bit (w .c) q) ⊕ (bit x q && bit (w .d) q) ≡ xAfter (k q) (bit z q) (bit x q)
+        go (inl l) =
+            ap₂ (λ a b. (bit z q && a) ⊕ (bit x q && b)) (W .C q l) (W .D q l) ∙ after-x (k q) (bit z q) (bit x q)
+        go (inr l) = past (λ u v. (u && bit (w .c) q) ⊕ (v && bit (w .d) q)) (xAfter (k q)) refl q l
+
+    -- as the code has it
+    pub acted : (s m : Bool) (signs : ℕ) → signs < 2 ^ 64 → SignsOf k z x signs → m ≡ isOdd (ones signs) →
+        signedRow (not (Bool·beq s m)) (bitXor (bitAnd z (w .a)) (bitAnd x (w .b)))
+        (bitXor (bitAnd z (w .c)) (bitAnd x (w .d))) ≡ act 64 k (signedRow s z x)
+    unfolding act
+    acted s m signs few each e =
+        Pauli-path (ap minus (unequal s m) ∙ minus-⊕ s m ∙ ap (λ t. minus s +ᵖ t) (ap minus e ∙ total)) z-sent x-sent
+      where
+        total : minus (isOdd (ones signs)) ≡ sumPhase 64 (λ q. imagePhase (k q) (letter (bit z q) (bit x q)))
+        total =
+            ap minus (parity-ones 64 signs few) ∙ fold-hom false _⊕_ i⁰ _+ᵖ_ minus refl minus-⊕ 64 (bit signs)
+            ∙ fold-ext i⁰ _+ᵖ_ 64 each

@@ -1,3 +1,4 @@
 pub mod Digits
 pub mod ByDigits
 pub mod Acting
+pub mod Inverses

@@ -1,2 +1,1 @@
-pub mod SendingBack
 pub mod Elements

@@ -1,7 +1,8 @@
 // The value of a Pauli row on a record in its buffers: the row is sent back through the codes, and the element of the
 // graph's group with its x bits stands beside it.
-use clifford::Code;
-use clifford_rows::send_place;
+use clifford_words::act_on;
+use clifford_words::action_of;
+use clifford_words::undoing;
 use pauli::Generator;
 use pauli::Row;
 use words::has;
@@ -28,15 +29,9 @@ fn send_back(g: Generator, codes: &[u8]) -> Generator
     requires { ⌜ (length (now codes) ≤ 64) × ((q : ℕ) → getD (now codes) q 0 < 24) ⌝ }
     ensures { λ r. ⌜ generatorOf r ≡ act 64 (λ q. inverse (codesOf (now (codes .entry)) q)) (generatorOf g) ⌝ }
 {
-    let mut sent = g;
-    let mut q = 0;
-    while q < codes.len() {
-        let code = Code { index: codes[q] };
-        let back = code.inverse();
-        sent = send_place(sent, q, back);
-        q += 1;
-    }
-    sent
+    let by = action_of(codes);
+    let back = undoing(by);
+    act_on(g, back)
 }
 
 // The element of a graph's group with these x bits: the product of the generators that they name, in index order.

@@ -4,7 +4,8 @@ use mathlib.Core.Path.{_∙_, _≡_, ap, ap₂, sym}
 use Prim.Native.Nat.{ℕ}
 use lib.ListN.{length, length-replicate}
 use Rattle.jobs.proofs.ParallelLaws.{steps-zero}
-use Rattle.jobs.specs.internal.Parallel.{OneLength, numberedOp, stepsIn}
+use Rattle.jobs.specs.Parallel.{numberedOp, stepsIn}
+use Rattle.jobs.specs.internal.Parallel.{OneLength}
 use Rattle.job_text.proofs.Feeding.{fed-append}
 use Rattle.job_text.specs.declared.scan.Scan.{Scan}
 use Rattle.job_text.specs.internal.Scan.{asReading, begin, empty, fed, Reading}

@@ -8,7 +8,7 @@ use libc::STDIN_FILENO;
 use libc::STDOUT_FILENO;
 ghost use Prim.Native.Nat.{_≤_};
 ghost use lib.ListN.{length};
-ghost use Rattle.jobs.specs.internal.Parallel.{stepsIn};
+ghost use Rattle.jobs.specs.Parallel.{stepsIn};
 ghost use Rattle.job_reply.specs.Room.{longest};
 ghost use Rattle.job_text.specs.internal.Scan.{asReading};
 ghost use Rattle.job.specs.Reads.{NoSteps, Responded};

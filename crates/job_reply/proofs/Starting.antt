@@ -18,7 +18,7 @@ use Rattle.text.specs.internal.Text.{Printable}
 use Rattle.text.specs.Text.{Printed, recordText}
 use Rattle.used.specs.Used.{UsedRecord}
 use Rattle.jobs.proofs.ParallelLaws.{steps-long}
-use Rattle.jobs.specs.internal.Parallel.{stepsIn}
+use Rattle.jobs.specs.Parallel.{stepsIn}
 use Rattle.jobs_lent.specs.internal.LentRuns.{LentRun}
 use Rattle.job_reply.proofs.KeptResults.{lines-kept}
 use Rattle.job_reply.specs.internal.Room.{Fresh, resultIn}

@@ -4,7 +4,8 @@ use mathlib.Core.Path.{_∙_, _≡_, ap, sym}
 use Prim.Native.Nat.{_<_, ℕ}
 use lib.ListN.{length, set}
 use Rattle.jobs.proofs.ParallelLaws.{op-back, steps-set}
-use Rattle.jobs.specs.internal.Parallel.{OneLength, numberedOp, opNumber, stepsIn}
+use Rattle.jobs.specs.Parallel.{numberedOp, stepsIn}
+use Rattle.jobs.specs.internal.Parallel.{OneLength, opNumber}
 use Rattle.job_text.specs.declared.scan.Scan.{Scan}
 use Rattle.job_text.specs.internal.Scan.{stepOf}
 

@@ -11,7 +11,8 @@ use jobs::op_number;
 ghost use mathlib.Core.Path.{_≡_};
 ghost use Prim.Native.Nat.{_<_};
 ghost use lib.ListN.{length, set};
-ghost use Rattle.jobs.specs.internal.Parallel.{OneLength, stepsIn};
+ghost use Rattle.jobs.specs.Parallel.{stepsIn};
+ghost use Rattle.jobs.specs.internal.Parallel.{OneLength};
 ghost use Rattle.job_text.specs.internal.Scan.{asReading, atLine, begin, fed, feed, headStep, moved, scanByte, stepOf, verdict};
 
 // The bytes of the head that are the same in every job.

@@ -10,7 +10,8 @@ use lib.Seq.{ext-getD, getD-drop, getD-set-other, getD-set-same, getD-take, leng
 use Rattle.jobs.specs.declared.Op.{Op}
 use Rattle.jobs.specs.declared.Op.the-variants.{Complement, Cz, Gate, Measure, Pivot}
 use Rattle.jobs.specs.declared.Step.{Step}
-use Rattle.jobs.specs.internal.Parallel.{listed, numbered, numberedOp, opNumber, stepIn, stepsIn}
+use Rattle.jobs.specs.Parallel.{listed, numbered, numberedOp, stepIn, stepsIn}
+use Rattle.jobs.specs.internal.Parallel.{opNumber}
 
 pub op-back : (op : Op) → numberedOp (opNumber op) ≡ op
 unfolding numberedOp

@@ -2,7 +2,8 @@
 ghost use mathlib.Core.Path.{_≡_};
 ghost use Rattle.jobs.specs.Asked.{unusedSet};
 ghost use Rattle.jobs.specs.internal.Asked.{wrongValue};
-ghost use Rattle.jobs.specs.internal.Parallel.{numberedOp, opNumber};
+ghost use Rattle.jobs.specs.Parallel.{numberedOp};
+ghost use Rattle.jobs.specs.internal.Parallel.{opNumber};
 
 pub enum Op {
     Gate,

@@ -9,7 +9,7 @@ use lib.ListN.{drop, getD, length, length-set, set, take}
 use lib.Seq.{getD-set-other, getD-set-same, length-take-le}
 use Rattle.jobs.proofs.ParallelLaws.{block-is}
 use Rattle.jobs.specs.declared.Step.{Step}
-use Rattle.jobs.specs.internal.Parallel.{numbered, stepIn, stepsIn}
+use Rattle.jobs.specs.Parallel.{numbered, stepIn, stepsIn}
 use Rattle.jobs_lent.proofs.LentLaws.{none-ran, ran-on}
 use Rattle.jobs_lent.specs.internal.LentRuns.{LentRun}
 use Rattle.used.specs.Used.{UsedRecord}

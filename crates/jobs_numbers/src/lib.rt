@@ -8,7 +8,9 @@ use jobs_lent::run_block;
 ghost use mathlib.Core.Path.{_≡_};
 ghost use Prim.Native.Nat.{_+_, _≤_};
 ghost use lib.ListN.{drop, length, take};
-ghost use Rattle.jobs.specs.internal.Parallel.{OneLength, stepIn, stepsIn};
+ghost use Rattle.call_gates.specs.internal.Knowing.{Known};
+ghost use Rattle.jobs.specs.Parallel.{stepIn, stepsIn};
+ghost use Rattle.jobs.specs.internal.Parallel.{OneLength};
 ghost use Rattle.jobs_lent.specs.internal.LentRuns.{LentRun};
 
 // Step k of the slices.
@@ -66,9 +68,45 @@ fn block_length(left: usize) -> usize
     64
 }
 
-// The first steps of the slices, on a record in place. The lines of the record alone are looked at once: a step leaves a
-// record that none of them refuses. What step k answers is kept at place k, and the used word after the last is the
-// result.
+// The first steps of the slices, on a record in place. `known`: no line of the record alone holds; a step leaves a record of
+// which that is so, and none looks at these lines again. What step k answers is kept at place k, and the used word after
+// the last is the result.
+pub fn run_known(
+    n: u64,
+    neighbours: &mut [u64],
+    codes: &mut [u8],
+    used: u64,
+    known: bool,
+    count: usize,
+    ops: &[u8],
+    a: &[u16],
+    b: &[u16],
+    value: &[u16],
+    answers: &mut [u8],
+) -> u64
+    requires { ⌜ (count ≤ length (now ops)) × (count ≤ length (now answers))
+        × OneLength (now ops) (now a) (now b) (now value) × Known known (record {
+          held = record { n = n; neighbours = now neighbours; codes = now codes };
+          used = used;
+        }) ⌝ }
+    ensures { λ r. ⌜ LentRun (record {
+      held = record { n = n; neighbours = now (neighbours .entry); codes = now (codes .entry) };
+      used = used;
+    }) (take count (stepsIn (now (ops .entry)) (now (a .entry)) (now (b .entry)) (now (value .entry)))) 0
+        (now (answers .entry)) (now (neighbours .exit)) (now (codes .exit)) r (now (answers .exit)) ⌝ }
+{
+    let mut word = used;
+    let mut k = 0;
+    while k < count {
+        let m = block_length(count - k);
+        let block = block_at(ops, a, b, value, k, m);
+        word = run_block(n, neighbours, codes, word, known, block, m, k, answers);
+        k += m;
+    }
+    word
+}
+
+// The same where nothing is known of the record: its lines are looked at once.
 pub fn run_numbers(
     n: u64,
     neighbours: &mut [u64],
@@ -90,13 +128,17 @@ pub fn run_numbers(
         (now (answers .entry)) (now (neighbours .exit)) (now (codes .exit)) r (now (answers .exit)) ⌝ }
 {
     let known = known_refusal(n, neighbours, codes, used, false, false) == 0;
-    let mut word = used;
-    let mut k = 0;
-    while k < count {
-        let m = block_length(count - k);
-        let block = block_at(ops, a, b, value, k, m);
-        word = run_block(n, neighbours, codes, word, known, block, m, k, answers);
-        k += m;
-    }
-    word
+    run_known(
+        n,
+        neighbours,
+        codes,
+        used,
+        known,
+        count,
+        ops,
+        a,
+        b,
+        value,
+        answers,
+    )
 }

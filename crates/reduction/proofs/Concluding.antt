@@ -36,8 +36,8 @@ use Rattle.words.proofs.SearchLaws.{first-is}
 use Rattle.words.proofs.Sums.{lt-or-ge}
 use Rattle.words.specs.Bits.{Word, bit, _⊕_}
 use Rattle.words.specs.Search.{IsFirst, first}
-use Rattle.reduction.proofs.Passing.{eliminated-loaded}
-use Rattle.reduction.specs.internal.Passes.{Eliminated, Loaded, pivot, pivoted, skip, start}
+use Rattle.reduction_passes.proofs.Passing.{eliminated-loaded}
+use Rattle.reduction_passes.specs.internal.Passes.{Eliminated, Loaded, pivot, pivoted, skip, start}
 
 -- ---- the passes of the laws, from those of the code
 pub first-of : (n : ℕ) {R : ℕ → Pauli} {w : Word} {q : ℕ} {R₀ : ℕ → Pauli} {w₀ : Word} →

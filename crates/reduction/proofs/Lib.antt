@@ -1,10 +1,3 @@
 pub mod Concluding
 pub mod Loading
-pub mod RelativeSigns
-pub mod Shearing
-pub mod Pivoting
-pub mod Passing
-pub mod Relating
-pub mod Storing
-pub mod Rotating
 pub mod Reading

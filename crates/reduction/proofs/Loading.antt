@@ -22,8 +22,8 @@ use Rattle.words.proofs.BitLaws.{zero-bit}
 use Rattle.words.proofs.Places.{other-place}
 use Rattle.words.proofs.Sums.{lt-or-ge}
 use Rattle.words.specs.Bits.{bit, isOdd, _⊕_}
-use Rattle.reduction.proofs.Storing.{stored-elsewhere, stored-here, stored-long}
-use Rattle.reduction.specs.internal.Passes.{Loaded}
+use Rattle.reduction_passes.proofs.Storing.{stored-elsewhere, stored-here, stored-long}
+use Rattle.reduction_passes.specs.internal.Passes.{Loaded}
 use Rattle.reduction.specs.internal.Reducible.{Reducible}
 
 abbrev blankRow : List ℕ

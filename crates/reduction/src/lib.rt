@@ -1,10 +1,9 @@
 // Reduction by value on an array of 64 rows of two words, z and x, beside one word of signs.
-mod passes;
 mod reading_off;
 
-use crate::passes::pass;
-use crate::passes::rotate;
 use crate::reading_off::write_record;
+use reduction_passes::pass;
+use reduction_passes::rotate;
 use words::flip_where;
 use words::mask;
 ghost use mathlib.Core.Bool.{cond, not};
@@ -14,7 +13,7 @@ ghost use lib.ListN.{length};
 ghost use Rattle.record.specs.Lent.{codeNumbers, neighbourWords};
 ghost use Rattle.record.specs.Reduced.{reduced};
 ghost use Rattle.reduction.specs.internal.Reducible.{Reducible};
-ghost use Rattle.reduction.specs.internal.Passes.{Loaded};
+ghost use Rattle.reduction_passes.specs.internal.Passes.{Loaded};
 ghost use Rattle.stabilizer.specs.Lists.{dependent, rows};
 ghost use Rattle.stabilizer.specs.internal.Tableau.{tableau};
 
@@ -42,7 +41,7 @@ pub fn load_list(n: usize, signs: &[u8], z: &[u64], x: &[u64], minuses: &mut u64
 // The reduced record of the tableau's group, where its rows are independent: then it is written, and the answer is
 // true.
 pub fn reduce_tableau(
-    rows: [[u64; 2]; 64],
+    mut rows: [[u64; 2]; 64],
     signs: u64,
     n: usize,
     neighbours: &mut [u64],
@@ -56,18 +55,17 @@ pub fn reduce_tableau(
     ensures { λ r. ⌜ now (codes .exit)
         ≡ cond r (codeNumbers n (reduced n (tableau signs rows))) (now (codes .entry)) ⌝ }
 {
-    let mut minuses = signs;
     let mut kept = 0;
-    let first = pass(rows, &mut minuses, n, &mut kept);
+    let first = pass(&mut rows, signs, n, &mut kept);
     let all = mask(n);
     let hadamards = all ^ kept;
-    let rotated = rotate(first, &mut minuses, n, hadamards);
+    let rotated = rotate(&mut rows, first, n, hadamards);
     let mut pivots = kept;
-    let second = pass(rotated, &mut minuses, n, &mut pivots);
+    let minuses = pass(&mut rows, rotated, n, &mut pivots);
     if pivots != all {
         return false;
     }
-    write_record(&second, minuses, n, hadamards, neighbours, codes);
+    write_record(&rows, minuses, n, hadamards, neighbours, codes);
     true
 }
 

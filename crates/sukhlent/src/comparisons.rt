@@ -1,5 +1,6 @@
-// The comparison of two lists, as C sees it.
+// The comparison of two lists, and of two records, as C sees them.
 ghost use Rattle.call_compare.specs.Comparisons.{compareCall};
+ghost use Rattle.call_compare_records.specs.RecordComparisons.{compareRecordsCall};
 ghost use Rattle.contracts.specs.Calls.{Call};
 
 // The least choice that carries the group of the first list onto that of the second, and the complementations that
@@ -25,4 +26,37 @@ pub extern "C" fn sukhlent_compare(
         (now (choice .exit)) (now (list .exit)) (now (count .exit))) r ⌝ }
 {
     call_compare::compare(n1, signs1, z1, x1, n2, signs2, z2, x2, choice, list, count)
+}
+
+// The least choice that carries the group of the first record onto that of the second, and the complementations that
+// turn the first reduced graph into the second.
+#[no_mangle]
+pub extern "C" fn sukhlent_compare_records(
+    n1: u64,
+    neighbours1: &[u64],
+    codes1: &[u8],
+    n2: u64,
+    neighbours2: &[u64],
+    codes2: &[u8],
+    choice: &mut [u8],
+    list: &mut [u8],
+    count: &mut u64,
+) -> u8
+    ensures { λ r. ⌜ Call (compareRecordsCall
+        (record { n = n1; neighbours = now (neighbours1 .entry); codes = now (codes1 .entry) })
+        (record { n = n2; neighbours = now (neighbours2 .entry); codes = now (codes2 .entry) })
+        (now (choice .entry)) (now (list .entry)) (now (count .entry))
+        (now (choice .exit)) (now (list .exit)) (now (count .exit))) r ⌝ }
+{
+    call_compare_records::compare_records(
+        n1,
+        neighbours1,
+        codes1,
+        n2,
+        neighbours2,
+        codes2,
+        choice,
+        list,
+        count,
+    )
 }

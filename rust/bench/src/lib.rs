@@ -4,6 +4,7 @@ pub mod calls;
 pub mod load;
 pub mod pairs;
 pub mod plain;
+pub mod runs;
 pub mod session;
 mod timing;
 

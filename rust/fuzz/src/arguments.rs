@@ -3,8 +3,10 @@
 use crate::common::damage::{damage_list, damage_record};
 use crate::common::local::{complemented_record, sent};
 use crate::common::reference::{product, strings_text};
-use crate::common::{list, mixed, random_components, random_rows, random_sizes, rows, use_up};
-use crate::common::{At, Operation, OrbitCall, Random, ReadCall, Side};
+use crate::common::runs::Steps;
+use crate::common::{list, mixed, random_components, random_record, random_rows, random_sizes};
+use crate::common::{rows, use_up};
+use crate::common::{At, Operation, OrbitCall, Random, ReadCall, RecordPairCall, Side};
 use crate::common::{GenerateCall, ImageLengths, Lengths, Letters, ListCall, PairCall, RecordCall};
 use sukhlent::{expand, GeneratorList, Record};
 
@@ -86,6 +88,47 @@ pub fn pair_call(random: &mut Random) -> PairCall {
         first,
         second,
     }
+}
+
+/// Two records to compare: the second mostly has the group of the first under some codes, else it
+/// is another record, at times of another size; one or both may be damaged.
+pub fn record_pair_call(random: &mut Random) -> RecordPairCall {
+    let n = match random.below(8) {
+        0 => size(random),
+        1 => 20,
+        _ => 1 + random.below(8),
+    };
+    let first = match random.below(4) {
+        0 => {
+            let largest = [4, 20, 24][random.below(3)];
+            let sizes = random_sizes(random, n, largest);
+            random_components(random, &sizes)
+        }
+        _ => random_record(random, n),
+    };
+    let second = match random.below(8) {
+        0 => {
+            let n = size(random);
+            random_record(random, n)
+        }
+        1 | 2 => random_record(random, n),
+        _ => Record {
+            codes: first.codes.iter().map(|_| random.below(24) as u8).collect(),
+            ..first.clone()
+        },
+    };
+    let mut call = RecordPairCall::on(&first, &second);
+    if random.below(4) == 0 {
+        damage_record(random, &mut call.first);
+    }
+    if random.below(4) == 0 {
+        damage_record(random, &mut call.second);
+    }
+    if random.below(8) == 0 {
+        call.choice = random.below(66);
+    }
+    call.list = list_places(random);
+    call
 }
 
 /// A call on a list whose reduced graph falls into components, at times one of more than 20 vertices.
@@ -297,6 +340,48 @@ pub fn in_place_call(random: &mut Random, kind: usize, n: usize) -> RecordCall<O
     };
     let record = used_record(random, n);
     harmed(random, record, operation)
+}
+
+/// Steps on a record of n vertices: mostly few, and in range or one too large; at times of any numbers, more than 4,096, or
+/// in slices of other lengths.
+pub fn run_call(random: &mut Random, n: usize) -> RecordCall<Steps> {
+    let count = match random.below(32) {
+        0 => 4097 + random.below(100),
+        1 => 4000 + random.below(97),
+        _ => random.below(130),
+    };
+    let noisy = random.below(8) == 0;
+    let steps: Vec<_> = (0..count).map(|_| run_step(random, n, noisy)).collect();
+    let mut steps = Steps::of(&steps);
+    if random.below(16) == 0 {
+        let lengths = [
+            &mut steps.refusals,
+            &mut steps.outcomes,
+            &mut steps.determined,
+        ];
+        *lengths[random.below(3)] = random.below(200);
+    }
+    if random.below(16) == 0 {
+        [&mut steps.a, &mut steps.b, &mut steps.value][random.below(3)].push(0);
+    }
+    let record = used_record(random, n);
+    harmed(random, record, steps)
+}
+
+/// The operation, the qubits and the value of a step.
+fn run_step(random: &mut Random, n: usize, noisy: bool) -> (u8, u16, u16, u16) {
+    if noisy && random.below(16) == 0 {
+        let [op, a, b, value] = [0; 4].map(|_: u16| random.word() as u16);
+        return (op as u8, a, b, value);
+    }
+    let op = random.below(5) as u8;
+    let [a, b] = [0, 1].map(|_| random.below(n + 1) as u16);
+    match op {
+        0 => (op, a, 0, random.below(25) as u16),
+        2 => (op, a, 0, random.below(7) as u16),
+        3 => (op, a, 0, 0),
+        _ => (op, a, b, 0),
+    }
 }
 
 /// A record, at times harmed, with what goes with it.

@@ -2,7 +2,7 @@
 
 use crate::image::LIST_PLACES;
 use crate::raw::{self, Lent};
-use crate::{GeneratorList, Refusal};
+use crate::{GeneratorList, Record, Refusal};
 
 /// How one state becomes another: what [`compare`] answers.
 ///
@@ -62,4 +62,39 @@ pub fn compare(first: &GeneratorList, second: &GeneratorList) -> Result<Comparis
     );
     answer.complementations.truncate(count as usize);
     Refusal::unless_accepted(number).map(|()| answer)
+}
+
+/// Compares the states of two records, with the answer that [`compare`] gives on their expansions.
+///
+/// Refusals: 2, 4, 5, 6, 7, 3, 13.
+///
+/// ```
+/// use sukhlent::{compare, compare_records, expand, reduce, Refusal};
+///
+/// let path = reduce(&"+XZI\n+ZXZ\n+IZX\n".parse()?)?;
+/// let other = reduce(&"+XZZ\n+ZXI\n+ZIX\n".parse()?)?;
+/// let answer = compare_records(&path, &other)?;
+/// assert_eq!(answer.complementations, [0, 1, 0]);
+/// assert_eq!(Ok(answer), compare(&expand(&path)?, &expand(&other)?));
+/// # Ok::<(), Refusal>(())
+/// ```
+pub fn compare_records(first: &Record, second: &Record) -> Result<Comparison, Refusal> {
+    let mut answer = Comparison {
+        choice: vec![0; first.n()],
+        complementations: vec![0; LIST_PLACES],
+    };
+    let mut count = 0;
+    let number = raw::compare_records(
+        graph(first),
+        graph(second),
+        &mut answer.choice,
+        &mut answer.complementations,
+        &mut count,
+    );
+    answer.complementations.truncate(count as usize);
+    Refusal::unless_accepted(number).map(|()| answer)
+}
+
+fn graph(record: &Record) -> raw::LentGraph<'_> {
+    (record.n() as u64, &record.neighbours, &record.codes)
 }

@@ -16,6 +16,13 @@
 //! assert_eq!((neighbours, held), ([2, 1], [0, 8]));
 //! ```
 
+mod groups;
+
+pub use groups::{
+    group_complement, group_cz, group_forget, group_gate, group_measure, group_return, group_save,
+    Whose,
+};
+
 mod calls {
     extern "C" {
         pub fn sukhlent_version() -> u32;
@@ -104,6 +111,29 @@ mod calls {
             codes_len: usize,
             used: u64,
             a: u64,
+        ) -> u8;
+
+        pub fn sukhlent_run(
+            n: u64,
+            neighbours: *mut u64,
+            neighbours_len: usize,
+            codes: *mut u8,
+            codes_len: usize,
+            used: *mut u64,
+            ops: *const u8,
+            ops_len: usize,
+            a: *const u16,
+            a_len: usize,
+            b: *const u16,
+            b_len: usize,
+            value: *const u16,
+            value_len: usize,
+            refusals: *mut u8,
+            refusals_len: usize,
+            outcomes: *mut u8,
+            outcomes_len: usize,
+            determined: *mut u8,
+            determined_len: usize,
         ) -> u8;
 
         pub fn sukhlent_image(
@@ -228,6 +258,24 @@ mod calls {
             z2_len: usize,
             x2: *const u64,
             x2_len: usize,
+            choice: *mut u8,
+            choice_len: usize,
+            list: *mut u8,
+            list_len: usize,
+            count: *mut u64,
+        ) -> u8;
+
+        pub fn sukhlent_compare_records(
+            n1: u64,
+            neighbours1: *const u64,
+            neighbours1_len: usize,
+            codes1: *const u8,
+            codes1_len: usize,
+            n2: u64,
+            neighbours2: *const u64,
+            neighbours2_len: usize,
+            codes2: *const u8,
+            codes2_len: usize,
             choice: *mut u8,
             choice_len: usize,
             list: *mut u8,
@@ -523,6 +571,62 @@ pub fn complement(n: u64, neighbours: &mut [u64], codes: &mut [u8], used: u64, a
     }
 }
 
+/// Runs steps on the record, one after the other, and writes what each answers.
+///
+/// ```
+/// use sukhlent::{codes, raw};
+///
+/// // +Z; a Hadamard, X measured with the bit 1, which +X contradicts, and with the bit 0.
+/// let (mut neighbours, mut held, mut used) = ([0], [codes::H], 0);
+/// let (ops, a, b, value) = ([0, 2, 2], [0; 3], [0; 3], [8, 1, 0]);
+/// let (mut refusals, mut outcomes, mut determined) = ([9; 3], [9; 3], [9; 3]);
+/// let number = raw::run(
+///     1, &mut neighbours, &mut held, &mut used, &ops, &a, &b, &value, &mut refusals,
+///     &mut outcomes, &mut determined,
+/// );
+/// assert_eq!((number, held, used), (0, [0], 1));
+/// assert_eq!((refusals, outcomes, determined), ([0, 14, 0], [0; 3], [0, 0, 1]));
+/// ```
+#[allow(clippy::too_many_arguments)]
+pub fn run(
+    n: u64,
+    neighbours: &mut [u64],
+    codes: &mut [u8],
+    used: &mut u64,
+    ops: &[u8],
+    a: &[u16],
+    b: &[u16],
+    value: &[u16],
+    refusals: &mut [u8],
+    outcomes: &mut [u8],
+    determined: &mut [u8],
+) -> u8 {
+    unsafe {
+        calls::sukhlent_run(
+            n,
+            neighbours.as_mut_ptr(),
+            neighbours.len(),
+            codes.as_mut_ptr(),
+            codes.len(),
+            used,
+            ops.as_ptr(),
+            ops.len(),
+            a.as_ptr(),
+            a.len(),
+            b.as_ptr(),
+            b.len(),
+            value.as_ptr(),
+            value.len(),
+            refusals.as_mut_ptr(),
+            refusals.len(),
+            outcomes.as_mut_ptr(),
+            outcomes.len(),
+            determined.as_mut_ptr(),
+            determined.len(),
+        )
+    }
+}
+
 /// Writes the graph to which the codes send a graph, its signs, and the complementations.
 ///
 /// ```
@@ -727,6 +831,48 @@ pub fn compare(
             z2.len(),
             x2.as_ptr(),
             x2.len(),
+            choice.as_mut_ptr(),
+            choice.len(),
+            list.as_mut_ptr(),
+            list.len(),
+            count,
+        )
+    }
+}
+
+/// A record without its used word, as it is lent: n, neighbour words, codes.
+pub type LentGraph<'a> = (u64, &'a [u64], &'a [u8]);
+
+/// Writes the least choice that carries the group of one record onto that of another, and the
+/// complementations.
+///
+/// ```
+/// // The graph of one edge, as it is and with a Hadamard at vertex 1.
+/// let edge = (2, &[2, 1][..], &[0, 0][..]);
+/// let bell = (2, &[2, 1][..], &[0, 8][..]);
+/// let (mut choice, mut list, mut count) = ([9; 2], [99; 96], 9);
+/// let number = sukhlent::raw::compare_records(edge, bell, &mut choice, &mut list, &mut count);
+/// assert_eq!((number, choice, count, list[0]), (0, [0, 8], 0, 99));
+/// ```
+pub fn compare_records(
+    (n1, neighbours1, codes1): LentGraph,
+    (n2, neighbours2, codes2): LentGraph,
+    choice: &mut [u8],
+    list: &mut [u8],
+    count: &mut u64,
+) -> u8 {
+    unsafe {
+        calls::sukhlent_compare_records(
+            n1,
+            neighbours1.as_ptr(),
+            neighbours1.len(),
+            codes1.as_ptr(),
+            codes1.len(),
+            n2,
+            neighbours2.as_ptr(),
+            neighbours2.len(),
+            codes2.as_ptr(),
+            codes2.len(),
             choice.as_mut_ptr(),
             choice.len(),
             list.as_mut_ptr(),

@@ -1,6 +1,6 @@
 //! Records.
 
-use crate::{codes, compare, raw, Comparison, GeneratorList, Refusal};
+use crate::{codes, compare_records, raw, Comparison, GeneratorList, Refusal};
 use std::fmt;
 
 /// A graph with one local Clifford per vertex, one place per vertex in the first two fields, and a
@@ -59,9 +59,9 @@ impl Record {
         self.codes.len()
     }
 
-    /// Compares two states, as [`compare`] does with their generators.
+    /// Compares two states, as [`compare`](crate::compare) does with their generators.
     ///
-    /// Refusals: those of [`expand`], of this record and then of the other; those of [`compare`].
+    /// Refusals: those of [`compare_records`].
     ///
     /// ```
     /// use sukhlent::{Record, Refusal};
@@ -78,7 +78,7 @@ impl Record {
     /// # Ok::<(), Refusal>(())
     /// ```
     pub fn compare(&self, other: &Record) -> Result<Comparison, Refusal> {
-        compare(&expand(self)?, &expand(other)?)
+        compare_records(self, other)
     }
 }
 

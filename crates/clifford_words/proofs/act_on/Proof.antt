@@ -6,9 +6,10 @@ use Rattle.clifford_words.proofs.act_on.Tie as tie
 
 returns : tie.Need-returns
 returns c k W =
-    let a = c .before .before .before .before .before .before .before .before .before .args in
-    let odd = c .before .before .before .before .before .odd in
-    acted k (a .by) W (a .g .z) (a .g .x) (search needs) (search needs) (a .g .minus) (odd .result) (odd .ensures)
+    let call = c .before .before .before .before .before in
+    let a = call .before .before .args in
+    acted k (a .by) W (a .g .z) (a .g .x) (search needs) (search needs) (a .g .minus) (call .odd .result)
+    (call .before .negative .result) (search needs) (call .before .negative .ensures k W) (call .odd .ensures)
 
 pub act-on-spec : {M : Type 1} → statement M
-act-on-spec = tie.close (tie.spec (λ c κs. search needs) returns)
+act-on-spec = tie.close (tie.spec (λ c κs. search needs) (λ c κs. search needs) returns)

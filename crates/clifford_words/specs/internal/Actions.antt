@@ -2,7 +2,7 @@
 use mathlib.Core.Path.{_≡_}
 use Prim.Native.Nat.{_<_, ℕ}
 use Rattle.clifford.specs.Clifford.{Clifford, bitC, bitD, image, imagePhase}
-use Rattle.pauli.specs.Pauli.{signBit, zBit}
+use Rattle.pauli.specs.Pauli.{letter, minus, signBit, zBit}
 use Rattle.pauli.specs.declared.Letter.the-variants.{X, Y, Z}
 use Rattle.words.specs.Bits.{bit}
 use Rattle.clifford_words.specs.declared.Action.{Action}
@@ -17,3 +17,7 @@ pub record ActsAs (k : ℕ → Clifford) (w : Action) : Type 0 where
   pub SX : (q : ℕ) → q < 64 → bit (w .sx) q ≡ (k q) .sx
   pub SY : (q : ℕ) → q < 64 → bit (w .sy) q ≡ signBit (imagePhase (k q) Y)
   pub SZ : (q : ℕ) → q < 64 → bit (w .sz) q ≡ (k q) .sz
+
+-- the places where the images of the letters of two words are negative
+abbrev pub SignsOf : (ℕ → Clifford) → ℕ → ℕ → ℕ → Type 0
+SignsOf k z x signs = (q : ℕ) → q < 64 → minus (bit signs q) ≡ imagePhase (k q) (letter (bit z q) (bit x q))

@@ -2,7 +2,7 @@
 use mathlib.Core.Path.{_∙_, _≡_, refl}
 use lib.ListN.{length}
 use borrow.Author.Needs.{needs}
-use Rattle.jobs.specs.internal.Parallel.{stepsIn}
+use Rattle.jobs.specs.Parallel.{stepsIn}
 use Rattle.job_scan.proofs.Keeping.{still-full}
 use Rattle.job_text.specs.internal.Scan.{asReading}
 use Rattle.job.proofs.Blocks.{full, no-block, one-block}

@@ -3,7 +3,7 @@ use mathlib.Core.Path.{_≡_}
 use lib.ListN.{length, take}
 use native.Mathlib.Omega.{arith}
 use borrow.Author.Needs.{needs}
-use Rattle.jobs.specs.internal.Parallel.{stepsIn}
+use Rattle.jobs.specs.Parallel.{stepsIn}
 use Rattle.job_reply.proofs.Starting.{all-printed, all-taken, record-printable}
 use Rattle.job_reply.proofs.print_run.Statement.{statement}
 use Rattle.job_reply.proofs.print_run.Tie as tie

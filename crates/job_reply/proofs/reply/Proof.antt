@@ -3,7 +3,7 @@ use mathlib.Core.Path.{subst, sym, _∙_}
 use Prim.Native.Nat.{_<_, _≤_}
 use native.Mathlib.Omega.{arith}
 use borrow.Author.Needs.{needs}
-use Rattle.jobs.specs.internal.Parallel.{stepsIn}
+use Rattle.jobs.specs.Parallel.{stepsIn}
 use Rattle.job_text.proofs.TextAnswers.{accepted-small, verdict-small}
 use Rattle.job_text.specs.internal.Scan.{Reading, asReading}
 use Rattle.job_reply.proofs.Responses.{job-responds, refusal-responds}

@@ -5,7 +5,7 @@ use Prim.Native.Nat.{_-_, _≤_, zero-le}
 use lib.ListN.{length, take}
 use lib.Seq.{take-all}
 use borrow.Author.Needs.{needs}
-use Rattle.jobs.specs.internal.Parallel.{stepsIn}
+use Rattle.jobs.specs.Parallel.{stepsIn}
 use Rattle.job_text.proofs.Feeding.{fed-more}
 use Rattle.job_text.specs.internal.Scan.{asReading, fed}
 use Rattle.job_scan.proofs.Keeping.{still-full}

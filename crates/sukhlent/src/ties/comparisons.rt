@@ -1,6 +1,8 @@
-// The comparison of two lists: what the demands say of it.
+// The comparison of two lists, and of two records: what the demands say of them.
 use crate::comparisons::sukhlent_compare;
+use crate::comparisons::sukhlent_compare_records;
 ghost use Rattle.claims.specs.Sentences.Comparisons.{CompareSays};
+ghost use Rattle.claims_compare_records.specs.RecordPairs.{CompareRecordsSays};
 
 pub fn compare_says(
     n1: u64,
@@ -22,4 +24,34 @@ pub fn compare_says(
         (now (choice .exit)) (now (list .exit)) (now (count .exit)) r ⌝ }
 {
     sukhlent_compare(n1, signs1, z1, x1, n2, signs2, z2, x2, choice, list, count)
+}
+
+pub fn compare_records_says(
+    n1: u64,
+    neighbours1: &[u64],
+    codes1: &[u8],
+    n2: u64,
+    neighbours2: &[u64],
+    codes2: &[u8],
+    choice: &mut [u8],
+    list: &mut [u8],
+    count: &mut u64,
+) -> u8
+    ensures { λ r. ⌜ CompareRecordsSays
+        (record { n = n1; neighbours = now (neighbours1 .entry); codes = now (codes1 .entry) })
+        (record { n = n2; neighbours = now (neighbours2 .entry); codes = now (codes2 .entry) })
+        (now (choice .entry)) (now (list .entry)) (now (count .entry))
+        (now (choice .exit)) (now (list .exit)) (now (count .exit)) r ⌝ }
+{
+    sukhlent_compare_records(
+        n1,
+        neighbours1,
+        codes1,
+        n2,
+        neighbours2,
+        codes2,
+        choice,
+        list,
+        count,
+    )
 }

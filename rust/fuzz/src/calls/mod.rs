@@ -1,11 +1,13 @@
 //! The public calls, one file for each kind of argument. A call is added by an entry of the table.
 
 mod generator;
+mod groups;
 mod in_place;
 mod lists;
 mod orbits;
 mod pairs;
 mod records;
+mod runs;
 mod stores;
 mod strings;
 
@@ -21,7 +23,7 @@ pub struct Call {
 }
 
 /// Every public call.
-pub const CALLS: [Call; 20] = [
+pub const CALLS: [Call; 29] = [
     Call {
         name: "check",
         once: lists::check,
@@ -51,6 +53,10 @@ pub const CALLS: [Call; 20] = [
         once: in_place::complement,
     },
     Call {
+        name: "run",
+        once: runs::run,
+    },
+    Call {
         name: "image",
         once: records::image,
     },
@@ -73,6 +79,10 @@ pub const CALLS: [Call; 20] = [
     Call {
         name: "compare",
         once: pairs::compare,
+    },
+    Call {
+        name: "compare_records",
+        once: pairs::compare_records,
     },
     Call {
         name: "generate",
@@ -101,5 +111,33 @@ pub const CALLS: [Call; 20] = [
     Call {
         name: "forget",
         once: stores::forget,
+    },
+    Call {
+        name: "group_gate",
+        once: groups::gate,
+    },
+    Call {
+        name: "group_cz",
+        once: groups::cz,
+    },
+    Call {
+        name: "group_measure",
+        once: groups::measure,
+    },
+    Call {
+        name: "group_complement",
+        once: groups::complement,
+    },
+    Call {
+        name: "group_save",
+        once: groups::save,
+    },
+    Call {
+        name: "group_return",
+        once: groups::return_to,
+    },
+    Call {
+        name: "group_forget",
+        once: groups::forget,
     },
 ];

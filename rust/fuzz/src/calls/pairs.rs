@@ -1,9 +1,9 @@
-//! Calls on two generator lists.
+//! Calls on two generator lists, and on two records.
 
-use crate::arguments::pair_call;
+use crate::arguments::{pair_call, record_pair_call};
 use crate::common::local::{complemented, sent};
 use crate::common::{PairCall, Random};
-use sukhlent::{reduce, Comparison};
+use sukhlent::{compare as compare_lists, expand, reduce, Comparison, Record};
 
 /// The least choice carries the first group onto the second, and the list leads from graph to
 /// graph.
@@ -14,6 +14,25 @@ pub fn compare(random: &mut Random) -> u8 {
     call.assert_due(number);
     if let Ok(comparison) = answer {
         assert_carries(&call, &comparison);
+    }
+    number
+}
+
+/// The answer is that of the comparison of the two expansions.
+pub fn compare_records(random: &mut Random) -> u8 {
+    let call = record_pair_call(random);
+    let answer = call.compare();
+    let number = answer.as_ref().err().copied().unwrap_or(0);
+    call.assert_due(number);
+    if let Ok(comparison) = answer {
+        let [first, second] = [&call.first, &call.second].map(|call| {
+            expand(&Record {
+                used: 0,
+                ..call.record()
+            })
+            .expect("an accepted record")
+        });
+        assert_eq!(compare_lists(&first, &second), Ok(comparison), "{call:?}");
     }
     number
 }

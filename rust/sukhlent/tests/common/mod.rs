@@ -19,8 +19,11 @@ pub mod pairs;
 pub mod process;
 pub mod product;
 pub mod reading;
+pub mod record_pairs;
 pub mod reference;
+pub mod runs;
 pub mod seeded;
+pub mod shared;
 pub mod store;
 pub mod strings;
 pub mod vectors;
@@ -35,6 +38,7 @@ pub use image::ImageLengths;
 pub use operation::Operation;
 pub use orbit::OrbitCall;
 pub use pairs::PairCall;
+pub use record_pairs::RecordPairCall;
 pub use seeded::{
     isolate, list, mixed, parsed, pauli, random_components, random_record, random_rows,
     random_sizes, random_used_record, rows, stabilizers, use_up, Circuit, Pauli, Random,

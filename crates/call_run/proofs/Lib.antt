@@ -1,0 +1,3 @@
+pub mod RunLines
+pub mod Telling
+pub mod RunAnswers

@@ -1,0 +1,136 @@
+-- What is claimed of the comparison of two records holds, by the same claims of `compare` on the expansions.
+use mathlib.Core.Bool.{Bool, not, _||_}
+use mathlib.Core.List.{List, [], _∷_}
+use mathlib.Core.Logic.{_↔_}
+use mathlib.Core.Path.{ap, ap₂, refl, subst, sym, _∙_, _≡_}
+use Prim.Native.Nat.{ℕ}
+use lib.Dec.{eqb}
+use lib.ListN.{length}
+use Rattle.buffers.proofs.Lines.{none-of-all}
+use Rattle.buffers.specs.Refusals.{Refusal, firstFitting, line}
+use Rattle.call_compare.specs.Comparisons.{compareCall}
+use Rattle.call_compare_records.proofs.RecordPairs.{records-numbered}
+use Rattle.call_compare_records.specs.RecordComparisons.{
+  compareRecordsCall,
+  recordLargePart,
+  recordsCount,
+  recordsLines,
+  recordsNotSimple,
+}
+use Rattle.claims.proofs.PartsDemandHolds.{large-parts-refused}
+use Rattle.claims.proofs.ThirdDemandHolds.{third-demand}
+use Rattle.claims.proofs.families.Comparisons.{comparisons-accepted, comparisons-conform}
+use Rattle.claims.proofs.families.Shared.{answered}
+use Rattle.comparison.specs.Choices.{noChoice}
+use Rattle.comparison.specs.Compared.{pairLines}
+use Rattle.contracts.specs.Calls.{Call}
+use Rattle.record.specs.Lent.{LentRecord, heldRows, recordCodes, recordLengths, recordStray}
+use Rattle.claims_compare_records.proofs.Expansions.{
+  BothAccepted,
+  both-accepted,
+  expansions-pass,
+  no-line,
+  same-at,
+}
+use Rattle.claims_compare_records.specs.RecordPairs.{
+  CompareRecordsSays,
+  RecordComparisonBuffersUnread,
+  RecordComparisonsAccepted,
+  RecordComparisonsConform,
+  RecordPairsDemand,
+  SameOnExpansions,
+  expansion,
+}
+
+-- the second record, with n as its number of qubits
+abbrev withCount : LentRecord → ℕ → LentRecord
+withCount m n = record { n = n; neighbours = m .neighbours; codes = m .codes }
+
+-- ---- the same answer as on the expansions
+pub same-on-expansions : SameOnExpansions
+same-on-expansions l m choice list count choice′ list′ count′ r e =
+    let A = both-accepted l m choice list e in
+    subst (λ k. BothAccepted l (withCount m k) choice list →
+    Call (compareRecordsCall l (withCount m k) choice list count choice′ list′ count′) r
+    ↔ Call (compareCall (expansion l) (expansion (withCount m k)) choice list count choice′ list′ count′) r)
+    (A .same-count)
+    (λ B. same-at (l .n) (l .neighbours) (l .codes) (m .neighbours) (m .codes) choice list B count choice′ list′ count′ r)
+    A
+
+pub pairs-pass : (l m : LentRecord) (choice list : List ℕ) → firstFitting (recordsLines l m choice list) ≡ 0 →
+    firstFitting (pairLines (expansion l) (expansion m) choice list) ≡ 0
+pairs-pass l m choice list e =
+    let A = both-accepted l m choice list e in
+    subst (λ k. BothAccepted l (withCount m k) choice list →
+    firstFitting (pairLines (expansion l) (expansion (withCount m k)) choice list) ≡ 0) (A .same-count)
+    (λ B. expansions-pass (l .n) (l .neighbours) (l .codes) (m .neighbours) (m .codes) choice list B) A
+
+-- ---- demand 1
+pub record-comparisons-conform : RecordComparisonsConform
+record-comparisons-conform l m choice list count choice′ list′ count′ =
+    record {
+      order = refl;
+      complete = λ z. let all = none-of-all (recordsLines l m choice list) _ (records-numbered l m choice list) z in
+          let C = same-on-expansions l m choice list count _ _ _ 0 (all .0) .0
+          (record { number = sym z; held = (refl, (refl, (refl, tt))) }) in
+          let F = comparisons-conform .comparisons (expansion l) (expansion m) choice list count choice′ list′
+          count′ .complete (sym (C .number)) in
+          (ap length (C .held .0) ∙ F .0, (ap length (C .held .1 .0) ∙ F .1 .0, (tt, tt)));
+    }
+
+pub record-comparison-buffers-unread : RecordComparisonBuffersUnread
+record-comparison-buffers-unread l m choice list choice₂ list₂ e f =
+    ap₂ (λ a b. firstFitting (linesOf (not (eqb a (l .n)) || not (eqb b 96)))) e f
+  where
+    -- the lines, by whether an answer buffer has a wrong length
+    linesOf : Bool → List Refusal
+    linesOf others =
+        line 2 (recordsCount l m) ∷ line 4 (recordLengths l || (recordLengths m || others))
+        ∷ line 5 (recordStray l || recordStray m) ∷ line 6 (recordCodes l || recordCodes m)
+        ∷ line 7 (recordsNotSimple l m) ∷ line 3 (recordLargePart l || recordLargePart m)
+        ∷ line 13 (noChoice (l .n) (heldRows l) (heldRows m)) ∷ []
+
+pub record-comparisons-accepted : RecordComparisonsAccepted
+record-comparisons-accepted l m choice list count choice′ list′ count′ r C = (
+  (λ z. let p = none-of-all (recordsLines l m choice list) _ (records-numbered l m choice list) (sym (C .number) ∙ z) in
+      let A = both-accepted l m choice list (p .0) in
+      record {
+        first = A .first;
+        second = A .second;
+        expansions = comparisons-accepted .compare (expansion l) (expansion m) choice list count choice′ list′ count′ r
+            (same-on-expansions l m choice list count choice′ list′ count′ r (p .0) .0 C) .0 z;
+      }),
+  (λ F. let e = no-line l m choice list (record {
+    first = F .first;
+    second = F .second;
+    same-count = F .expansions .same-count;
+    choice-places = F .expansions .choice-places;
+    list-places = F .expansions .list-places;
+  }) in
+      comparisons-accepted .compare (expansion l) (expansion m) choice list count choice′ list′ count′ r
+      (same-on-expansions l m choice list count choice′ list′ count′ r e .0 C) .1 (F .expansions)),
+)
+
+pub record-pairs-demand : RecordPairsDemand
+record-pairs-demand =
+    record {
+      conform = record-comparisons-conform;
+      unread = record-comparison-buffers-unread;
+      accepted = record-comparisons-accepted;
+      same = same-on-expansions;
+    }
+
+-- ---- all that is said of the exported function
+pub compare-records-says : (l m : LentRecord) (choice list : List ℕ) (count : ℕ) (choice′ list′ : List ℕ)
+    (count′ r : ℕ) → Call (compareRecordsCall l m choice list count choice′ list′ count′) r →
+    CompareRecordsSays l m choice list count choice′ list′ count′ r
+compare-records-says l m choice list count choice′ list′ count′ r C =
+    record {
+      answered = answered (record-comparisons-conform l m choice list count choice′ list′ count′) C;
+      accepted = record-comparisons-accepted l m choice list count choice′ list′ count′ r C;
+      same = λ e. same-on-expansions l m choice list count choice′ list′ count′ r e .0 C;
+      decided = λ e. third-demand (expansion l) (expansion m) choice list count r choice′ list′ count′
+          (same-on-expansions l m choice list count choice′ list′ count′ r e .0 C) (pairs-pass l m choice list e);
+      large = λ e. large-parts-refused (expansion l) (expansion m) choice list count r choice′ list′ count′
+          (same-on-expansions l m choice list count choice′ list′ count′ r e .0 C) (pairs-pass l m choice list e);
+    }

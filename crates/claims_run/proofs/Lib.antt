@@ -1,0 +1,2 @@
+pub mod RunFitting
+pub mod RunDemandHolds

@@ -1,0 +1,8 @@
+pub mod RelativeSigns
+pub mod Shearing
+pub mod Pivoting
+pub mod Passing
+pub mod Relating
+pub mod Storing
+pub mod Rotating
+pub mod Dropping

@@ -1,0 +1,97 @@
+//! Comparisons of two records, on guarded buffers of any lengths and contents.
+
+use super::calls::RecordCall;
+use super::complementations::{Complementations, LIST_PLACES};
+use super::guarded::Guarded;
+use super::reference;
+use sukhlent::{expand, raw, Comparison, Record};
+
+/// The arguments of a comparison of two records; answer buffers by their lengths.
+#[derive(Clone, Debug)]
+pub struct RecordPairCall {
+    pub first: RecordCall<()>,
+    pub second: RecordCall<()>,
+    pub choice: usize,
+    pub list: usize,
+}
+
+impl RecordPairCall {
+    /// The call on two records, with lengths as they should be.
+    pub fn on(first: &Record, second: &Record) -> RecordPairCall {
+        RecordPairCall {
+            first: RecordCall::with(first, ()),
+            second: RecordCall::with(second, ()),
+            choice: first.n(),
+            list: LIST_PLACES,
+        }
+    }
+
+    /// The comparison that the call writes, or the number of its refusal.
+    ///
+    /// Asserts that the records and all guards keep their contents, on a refusal the answer buffers
+    /// too, and always the list of complementations past its count.
+    pub fn compare(&self) -> Result<Comparison, u8> {
+        let records = [&self.first, &self.second];
+        let mut words = records.map(|record| Guarded::holding(&record.neighbours));
+        let mut codes = records.map(|record| Guarded::holding(&record.codes));
+        let mut choice = Guarded::patterned(self.choice);
+        let mut complementations = Complementations::patterned(self.list);
+        let (list, count) = complementations.lent();
+        let [words1, words2] = &mut words;
+        let [codes1, codes2] = &mut codes;
+        let number = raw::compare_records(
+            (self.first.n, words1.lent(), codes1.lent()),
+            (self.second.n, words2.lent(), codes2.lent()),
+            choice.lent(),
+            list,
+            count,
+        );
+        words
+            .iter()
+            .for_each(|words| words.assert_unchanged("neighbours"));
+        codes
+            .iter()
+            .for_each(|codes| codes.assert_unchanged("codes"));
+        if number != 0 {
+            choice.assert_unchanged("choice");
+            complementations.assert_unchanged();
+            return Err(number);
+        }
+        Ok(Comparison {
+            choice: choice.answer("choice"),
+            complementations: complementations.answer(),
+        })
+    }
+
+    /// The number due to the records and the buffers' lengths; None where the search decides.
+    pub fn due(&self) -> Option<u8> {
+        let records = [&self.first, &self.second];
+        let numbers = records.map(|call| reference::record_refusal(call.n, &unused(call), &[]));
+        let counts = records.map(|call| call.n);
+        let early = reference::pair_refusal(counts, numbers, self.choice, self.list);
+        early.or_else(|| records.into_iter().any(has_large_part).then_some(3))
+    }
+
+    /// Panics unless a number is the one due: 0 or 13 where the search decides.
+    pub fn assert_due(&self, number: u8) {
+        match self.due() {
+            Some(due) => assert_eq!(number, due, "{self:?}"),
+            None => assert!([0, 13].contains(&number), "{number}: {self:?}"),
+        }
+    }
+}
+
+/// The record without its used word, which the call does not take.
+fn unused(call: &RecordCall<()>) -> Record {
+    Record {
+        used: 0,
+        ..call.record()
+    }
+}
+
+/// Whether a part of the reduced graph of an accepted record has more than 20 vertices.
+fn has_large_part(call: &RecordCall<()>) -> bool {
+    let list = expand(&unused(call)).expect("an accepted record");
+    let parts = reference::parts(&reference::reduced(&list).neighbours);
+    parts.iter().any(|part| part.len() > 20)
+}
