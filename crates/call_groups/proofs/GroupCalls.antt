@@ -116,8 +116,8 @@ module _ (word g : ℕ) (u : UsedRecord) (o : Operation) (A : Admitted word g u 
       group-done z P = done _ number z (both-put P)
 
 -- ---- a measurement
-module _ (word g : ℕ) (u : UsedRecord) (pauli q b : ℕ) (A : Admitted word g u (measurementOf pauli q b)) {v : UsedRecord}
-    (copied : v ≡ masked (inGroup word g) u) {answer determined r : ℕ} {nb cs : List ℕ}
+module _ (word g : ℕ) (u : UsedRecord) (pauli q b : ℕ) (A : Admitted word g u (measurementOf pauli q b))
+    {v : UsedRecord} (copied : v ≡ masked (inGroup word g) u) {answer determined r : ℕ} {nb cs : List ℕ}
     {own answer′ determined′ : ℕ}
     (C : Call (usedMeasureCall v pauli q b answer determined nb cs own answer′ determined′) r) where
   -- without the further answers

@@ -1,5 +1,5 @@
--- What a group's gate, cz, measurement and complementation promise, for all arguments: their lines in checking order, and
--- what is lent for their answers. A name with a prime is what the buffer, or the lent number, holds at exit.
+-- What a group's gate, cz, measurement and complementation promise, for all arguments: their lines in checking order,
+-- and what is lent for their answers. A name with a prime is what the buffer, or the lent number, holds at exit.
 use mathlib.Core.List.{List, [], _∷_}
 use Prim.Native.Nat.{ℕ}
 use Rattle.contracts.specs.Calls.{Contract, Lent, buffer, contractOf, number}

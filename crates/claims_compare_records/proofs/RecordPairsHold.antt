@@ -37,6 +37,7 @@ use Rattle.claims_compare_records.specs.RecordPairs.{
   RecordComparisonBuffersUnread,
   RecordComparisonsAccepted,
   RecordComparisonsConform,
+  RecordPairsDemand,
   SameOnExpansions,
   expansion,
 }
@@ -109,6 +110,15 @@ record-comparisons-accepted l m choice list count choice′ list′ count′ r C
       comparisons-accepted .compare (expansion l) (expansion m) choice list count choice′ list′ count′ r
       (same-on-expansions l m choice list count choice′ list′ count′ r e .0 C) .1 (F .expansions)),
 )
+
+pub record-pairs-demand : RecordPairsDemand
+record-pairs-demand =
+    record {
+      conform = record-comparisons-conform;
+      unread = record-comparison-buffers-unread;
+      accepted = record-comparisons-accepted;
+      same = same-on-expansions;
+    }
 
 -- ---- all that is said of the exported function
 pub compare-records-says : (l m : LentRecord) (choice list : List ℕ) (count : ℕ) (choice′ list′ : List ℕ)

@@ -58,6 +58,13 @@ SameOnExpansions =
     Call (compareRecordsCall l m choice list count choice′ list′ count′) r
     ↔ Call (compareCall (expansion l) (expansion m) choice list count choice′ list′ count′) r
 
+-- what is claimed of the call for all arguments
+pub record RecordPairsDemand : Type 0 where
+  pub conform : RecordComparisonsConform
+  pub unread : RecordComparisonBuffersUnread
+  pub accepted : RecordComparisonsAccepted
+  pub same : SameOnExpansions
+
 -- ---- sukhlent_compare_records, in one record
 pub record CompareRecordsSays (l m : LentRecord) (choice list : List ℕ) (count : ℕ) (choice′ list′ : List ℕ)
     (count′ r : ℕ) : Type 0 where

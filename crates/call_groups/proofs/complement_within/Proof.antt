@@ -1,4 +1,5 @@
--- `complement_within` meets its contract: local complementation of the copy of the group's vertices, which are put back.
+-- `complement_within` meets its contract: local complementation of the copy of the group's vertices, which are put
+-- back.
 use mathlib.Core.Path.{_∙_}
 use borrow.Author.Needs.{needs}
 use Rattle.groups.specs.internal.Apart.{complement-op}
@@ -50,8 +51,8 @@ put-group-requires c κs =
     let S = T .before .before .before .before .before .before .before .before .before in
     let L = lent-64 (S .args .word) (S .args .group) (lent S) (asked S) (S .pre .0) in (
       (
-        E .before .before .before .before .words2 .given ∙ G .before .before .before .before .before .before .words .given
-            ∙ S .pre .1 .0,
+        E .before .before .before .before .words2 .given
+            ∙ G .before .before .before .before .before .before .words .given ∙ S .pre .1 .0,
         E .before .before .bytes2 .given ∙ G .before .before .before .before .bytes .given ∙ S .pre .1 .1,
       ),
       L,

@@ -32,7 +32,8 @@ number : (E : tie.After-group-refusal) → let S = E .before .before .before .be
 number E =
     let O = E .before .before .before in
     let S = O .before .before .before .before in
-    other-as (S .args .word) (S .args .group) (lent S) (sixOf (asked S)) (E .group-refusal .ensures) (ap₂ _||_ (O .before .outside .ensures) (O .outside2 .ensures))
+    other-as (S .args .word) (S .args .group) (lent S) (sixOf (asked S)) (E .group-refusal .ensures)
+    (ap₂ _||_ (O .before .outside .ensures) (O .outside2 .ensures))
 
 returns : tie.Need-returns
 returns c =
@@ -47,8 +48,11 @@ cz-within-requires c κs =
     let D = c .before .before .before .before in
     let E = D .before in
     let O = E .before .before .before in
-    let S = O .before .before .before .before in
-    (early-admitted (S .args .word) (S .args .group) (lent S) (asked S) (number E) (D .if1 .left), (refl {a = 64}, refl {a = 64}))
+    let S = O .before .before .before .before in (
+      early-admitted (S .args .word) (S .args .group) (lent S) (asked S)
+          (number E) (D .if1 .left),
+      (refl {a = 64}, refl {a = 64}),
+    )
 
 pub cz-spec : {M : Type 1} → statement M
 cz-spec =

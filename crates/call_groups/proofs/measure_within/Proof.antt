@@ -55,9 +55,10 @@ put-group-requires c κs =
     let S = T .before .before .before .before .before .before .before .before .before .before in
     let L = lent-64 (S .args .word) (S .args .group) (lent S) (asked S) (S .pre .0) in (
       (
-        E .before .before .before .before .words2 .given ∙ G .before .before .before .before .before .before .before .before .before .words .given
-            ∙ S .pre .1 .0,
-        E .before .before .bytes2 .given ∙ G .before .before .before .before .before .before .before .bytes .given ∙ S .pre .1 .1,
+        E .before .before .before .before .words2 .given
+            ∙ G .before .before .before .before .before .before .before .before .before .words .given ∙ S .pre .1 .0,
+        E .before .before .bytes2 .given ∙ G .before .before .before .before .before .before .before .bytes .given
+            ∙ S .pre .1 .1,
       ),
       L,
     )
@@ -78,5 +79,6 @@ pub measure-within-spec : {M : Type 1} → statement M
 measure-within-spec =
     tie.close
     (tie.spec take-group-requires measure-known-requires (λ c. search needs) (λ c. search needs) (λ c. search needs)
-    (λ c. search needs) returns put-group-requires (λ c κs. search needs) (λ c. search needs) (λ c. search needs) (λ c. search needs)
+    (λ c. search needs) returns put-group-requires (λ c κs. search needs) (λ c. search needs)
+    (λ c. search needs) (λ c. search needs)
     (λ c. search needs) returns-2)

@@ -13,4 +13,5 @@ returns c =
     (O .own-word .ensures) (M .merge .ensures .0) (M .merge .ensures .1)
 
 pub put-group-spec : {M : Type 1} → statement M
-put-group-spec = tie.close (tie.spec (λ c κs. search needs) (λ c κs. search needs) (λ c. search needs) (λ c. search needs) returns)
+put-group-spec = tie.close (tie.spec (λ c κs. search needs) (λ c κs. search needs) (λ c. search needs)
+    (λ c. search needs) returns)

@@ -14,4 +14,5 @@ returns c =
     (K .mask .ensures .0) (K .mask .ensures .1) (c .mask-used .ensures)
 
 pub take-group-spec : {M : Type 1} → statement M
-take-group-spec = tie.close (tie.spec (λ c κs. search needs) (λ c κs. search needs) (λ c κs. search needs) (λ c. search needs) (λ c. search needs) returns)
+take-group-spec = tie.close (tie.spec (λ c κs. search needs) (λ c κs. search needs) (λ c κs. search needs)
+    (λ c. search needs) (λ c. search needs) returns)

@@ -30,7 +30,8 @@ loop-again c =
     let O = inside .before .before in
     let a = O .before .before .args in
     some-to-one (l .j) 64 _ (l .found) _ (inside .loop-test .taken)
-    (crossing-here (a .word) (a .neighbours .now) (l .j) (O .others .ensures) (P .pick-word .ensures) (c .meet .ensures))
+    (crossing-here (a .word) (a .neighbours .now) (l .j) (O .others .ensures) (P .pick-word .ensures)
+    (c .meet .ensures))
     (l .inv)
 
 returns : tie.Need-returns Inv-loop μ-loop
@@ -41,4 +42,5 @@ returns c =
 pub crosses-spec : {M : Type 1} → statement M
 crosses-spec =
     tie.close
-    (tie.spec Inv-loop μ-loop (λ c κs. search needs) loop-holds (λ c. search needs) shared-slice-read-meet (λ c κs. search needs) (λ c κs. search needs) (λ c. search needs) (λ c. search needs) loop-again returns)
+    (tie.spec Inv-loop μ-loop (λ c κs. search needs) loop-holds (λ c. search needs) shared-slice-read-meet
+    (λ c κs. search needs) (λ c κs. search needs) (λ c. search needs) (λ c. search needs) loop-again returns)

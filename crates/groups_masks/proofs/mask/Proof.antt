@@ -76,5 +76,7 @@ returns c =
 pub mask-spec : {M : Type 1} → statement M
 mask-spec =
     tie.close
-    (tie.spec Inv-loop μ-loop loop-holds (λ c. search needs) shared-slice-read-pick-word (λ c κs. search needs) (λ c. search needs) slice-write-words
-    shared-slice-read-pick-byte (λ c κs. search needs) slice-write-bytes (λ c. search needs) (λ c. search needs) loop-again same-length same-length-2 returns)
+    (tie.spec Inv-loop μ-loop loop-holds (λ c. search needs) shared-slice-read-pick-word (λ c κs. search needs)
+    (λ c. search needs) slice-write-words
+    shared-slice-read-pick-byte (λ c κs. search needs) slice-write-bytes (λ c. search needs)
+    (λ c. search needs) loop-again same-length same-length-2 returns)

@@ -93,6 +93,8 @@ returns c =
 pub merge-spec : {M : Type 1} → statement M
 merge-spec =
     tie.close
-    (tie.spec Inv-loop μ-loop loop-holds (λ c. search needs) shared-slice-read-pick-word (λ c. search needs) slice-read-pick-word (λ c κs. search needs) (λ c. search needs)
-    slice-write-neighbours shared-slice-read-pick-byte slice-read-pick-byte (λ c κs. search needs) slice-write-codes (λ c. search needs) (λ c. search needs) loop-again
+    (tie.spec Inv-loop μ-loop loop-holds (λ c. search needs) shared-slice-read-pick-word
+    (λ c. search needs) slice-read-pick-word (λ c κs. search needs) (λ c. search needs)
+    slice-write-neighbours shared-slice-read-pick-byte slice-read-pick-byte
+    (λ c κs. search needs) slice-write-codes (λ c. search needs) (λ c. search needs) loop-again
     same-length same-length-2 returns)

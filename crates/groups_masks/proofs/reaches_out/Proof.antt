@@ -39,4 +39,5 @@ returns c =
 pub reaches-out-spec : {M : Type 1} → statement M
 reaches-out-spec =
     tie.close
-    (tie.spec Inv-loop μ-loop (λ c κs. search needs) loop-holds (λ c. search needs) shared-slice-read-meet (λ c κs. search needs) (λ c. search needs) (λ c. search needs) loop-again returns)
+    (tie.spec Inv-loop μ-loop (λ c κs. search needs) loop-holds (λ c. search needs) shared-slice-read-meet
+    (λ c κs. search needs) (λ c. search needs) (λ c. search needs) loop-again returns)
