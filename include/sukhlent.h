@@ -20,27 +20,29 @@
  *
  * Every buffer passes as a pointer and its length in elements, and has n places where its call
  * does not say otherwise. A buffer that is not const must overlap no other; const buffers may be
- * the same one. The calls on a record in place (gate, cz, measure, complement, run) read `neighbours`
- * and `codes` and write the new record there; measure and run read and write *used too, and the
- * others leave the word as it is. A store is read, and written by save and forget. All other buffers that are not const are lent for the answer: what they
- * hold before the call does not matter.
+ * the same one. The calls on a record in place (gate, cz, measure, complement, run) read
+ * `neighbours` and `codes` and write the new record there; measure and run read and write *used
+ * too, and the others leave the word as it is. A group's calls do so too, and its return writes
+ * the record and *used. A store is read, and written by save and forget. All other buffers that are
+ * not const are lent for the answer: what they hold before the call does not matter.
  *
  * Every call answers 0 where it accepts, or the first number of this list whose line is true; the
  * list is in checking order. A refused call changes no buffer.
  *    1  a text does not have its form
  *   15  a job has more than 4,096 steps
- *    2  n is 0 or above 64, or the two lists' n differ
+ *    2  n is 0 or above 64, or the two lists' n differ, or a group's call has another n than 64
  *    4  a buffer's length is not what is required
  *    5  a word has a bit at or above n
- *    6  a sign or outcome is above 1, a code above 23, a Pauli not 1 to 3, or a
- *       seed 0
+ *    6  a sign, outcome or group is above 1, a code above 23, a Pauli not 1 to 3, or a seed 0
  *    7  a graph is not simple, or a used vertex has a neighbour or a code other than 0, 2, 4, 6, 8
- *       and 10, or a store holds a name twice
+ *       and 10, or a store holds a name twice, or a group's held state has a neighbour outside it
+ *   19  a group's call names a qubit of the other group, or the record has an edge between the
+ *       groups
  *    8  a qubit number is n or more, or CZ names one qubit twice; in a job also: a pivot names one
  *       qubit twice, or its pair has no edge
  *   16  the call names a used qubit
  *   17  a name to return to or forget is not held
- *   18  a save finds eight other names held
+ *   18  a save finds eight other names held, or a group's save four
  *    9  two generators do not commute
  *   10  the generators are dependent
  *    3  a connected part of either reduced graph of a comparison has more than 20 vertices
@@ -58,8 +60,8 @@
 
 /* The version of this header: major * 10000 + minor * 100 + patch, and as a text.
  * sukhlent_version answers that of the library. */
-#define SUKHLENT_VERSION 1300
-#define SUKHLENT_VERSION_TEXT "0.13.0"
+#define SUKHLENT_VERSION 1400
+#define SUKHLENT_VERSION_TEXT "0.14.0"
 
 /* Refusals by name, in checking order. */
 #define SUKHLENT_ACCEPTED 0
@@ -70,6 +72,7 @@
 #define SUKHLENT_STRAY 5
 #define SUKHLENT_VALUE 6
 #define SUKHLENT_GRAPH 7
+#define SUKHLENT_OTHER_GROUP 19
 #define SUKHLENT_QUBIT 8
 #define SUKHLENT_USED 16
 #define SUKHLENT_NOT_HELD 17
@@ -137,15 +140,16 @@ static inline const char *sukhlent_refusal_text(uint8_t number)
     case SUKHLENT_ACCEPTED: return "accepted";
     case SUKHLENT_FORM: return "the text does not have its form";
     case SUKHLENT_STEPS: return "a job has more than 4,096 steps";
-    case SUKHLENT_COUNT: return "n is 0 or above the call's limit, or the two lists' n differ";
+    case SUKHLENT_COUNT: return "n is 0 or above the call's limit, or the two lists' n differ, or a group's call has another n than 64";
     case SUKHLENT_LENGTH: return "a buffer's length is not what is required";
     case SUKHLENT_STRAY: return "a word has a bit at or above n";
-    case SUKHLENT_VALUE: return "a sign or outcome is above 1, a code above 23, a Pauli not 1 to 3, or a seed 0";
-    case SUKHLENT_GRAPH: return "a graph is not simple, or a used vertex has a neighbour or a code that no measurement leaves, or a store holds a name twice";
+    case SUKHLENT_VALUE: return "a sign, outcome or group is above 1, a code above 23, a Pauli not 1 to 3, or a seed 0";
+    case SUKHLENT_GRAPH: return "a graph is not simple, or a used vertex has a neighbour or a code that no measurement leaves, or a store holds a name twice, or a group's held state has a neighbour outside it";
+    case SUKHLENT_OTHER_GROUP: return "a group's call names a qubit of the other group, or the record has an edge between the groups";
     case SUKHLENT_QUBIT: return "a qubit number is n or more, or a qubit is named twice";
     case SUKHLENT_USED: return "the call names a used qubit";
     case SUKHLENT_NOT_HELD: return "a name to return to or forget is not held";
-    case SUKHLENT_FULL: return "a save finds eight other names held";
+    case SUKHLENT_FULL: return "a save finds eight other names held, or a group's save four";
     case SUKHLENT_ANTICOMMUTE: return "two generators do not commute";
     case SUKHLENT_DEPENDENT: return "the generators are dependent";
     case SUKHLENT_LARGE: return "a connected part has more than 20 vertices";
@@ -417,6 +421,93 @@ uint8_t sukhlent_forget(uint64_t name,
                         uint64_t *heads, size_t heads_len,
                         const uint64_t *held_neighbours, size_t held_neighbours_len,
                         const uint8_t *held_codes, size_t held_codes_len);
+
+/* Two groups that share one record of 64 qubits, which the caller keeps: the record, a word that is
+ * fixed at the start, whose bit q is the group of qubit q, 0 or 1, and the three buffers of a store,
+ * of which group g has the places 4 * g to 4 * g + 3. All starts in +Z: neighbour words 0, codes
+ * SUKHLENT_GATE_H, used 0, and the store empty, with all heads 0.
+ *
+ * A group's call works on its own vertices and leaves all others as they are: neighbour words, codes,
+ * used bits and held states of the other group, be they reduced or not. What it answers and leaves at
+ * its own vertices does not depend on the other group's calls. On its own qubits it does what the
+ * whole-record call of that name does, and gate, cz and measure reduce its own vertices alone. Both
+ * groups may hold one name, for two states. Where a whole-record call has left an edge between the
+ * groups, every group's call is refused by 19 until it is gone. A group may have no qubit.
+ *
+ * Each call gives the numbers of the record first, 2 also where n is not 64, 6 also where `group` is
+ * above 1; with n = 64 no word has a bit at or above n, so that 5 never comes. save, return
+ * and forget check the group's own four places besides, as the calls on a store do: a held n other
+ * than 64 is 2, and a neighbour outside the group in a held state 7. */
+
+/* A group's gate, as sukhlent_gate.
+ * Refusals: 2, 4, 6 (also where `code` is above 23), 7, 19, 8 (`qubit` is 64 or more), 16. */
+uint8_t sukhlent_group_gate(uint64_t n, uint64_t word, uint8_t group,
+                            uint64_t *neighbours, size_t neighbours_len,
+                            uint8_t *codes, size_t codes_len,
+                            uint64_t used,
+                            uint64_t qubit, uint8_t code);
+
+/* A group's CZ, as sukhlent_cz.
+ * Refusals: 2, 4, 6, 7, 19, 8 (`a` or `b` is 64 or more, or they are the same), 16. */
+uint8_t sukhlent_group_cz(uint64_t n, uint64_t word, uint8_t group,
+                          uint64_t *neighbours, size_t neighbours_len,
+                          uint8_t *codes, size_t codes_len,
+                          uint64_t used,
+                          uint64_t a, uint64_t b);
+
+/* A group's measurement, as sukhlent_measure.
+ * Refusals: 2, 4, 6 (also where `pauli` is not 1 to 3 or `outcome` is above 1), 7, 19, 8 (`qubit`
+ * is 64 or more), 16, 14. */
+uint8_t sukhlent_group_measure(uint64_t n, uint64_t word, uint8_t group,
+                               uint64_t *neighbours, size_t neighbours_len,
+                               uint8_t *codes, size_t codes_len,
+                               uint64_t *used,
+                               uint8_t pauli, uint64_t qubit, uint8_t outcome,
+                               uint8_t *answer, uint8_t *determined);
+
+/* A group's complementation, as sukhlent_complement. Nothing is reduced.
+ * Refusals: 2, 4, 6, 7, 19, 8 (`a` is 64 or more), 16. */
+uint8_t sukhlent_group_complement(uint64_t n, uint64_t word, uint8_t group,
+                                  uint64_t *neighbours, size_t neighbours_len,
+                                  uint8_t *codes, size_t codes_len,
+                                  uint64_t used,
+                                  uint64_t a);
+
+/* Saves the group's vertices under a name, among its four places: at the name's place, else at the
+ * smallest free one. The held state has the other group's vertices in +Z, without neighbours and not
+ * used.
+ * Refusals: 2, 4, 6, 7, 19, 18 (four other names are held). */
+uint8_t sukhlent_group_save(uint64_t n, uint64_t word, uint8_t group,
+                            const uint64_t *neighbours, size_t neighbours_len,
+                            const uint8_t *codes, size_t codes_len,
+                            uint64_t used,
+                            uint64_t name,
+                            uint64_t *heads, size_t heads_len,
+                            uint64_t *held_neighbours, size_t held_neighbours_len,
+                            uint8_t *held_codes, size_t held_codes_len);
+
+/* Brings back the group's vertices from the state held under a name, their used bits included. The
+ * state stays held.
+ * Refusals: 2, 4, 6, 7, 19, 17. */
+uint8_t sukhlent_group_return(uint64_t n, uint64_t word, uint8_t group,
+                              uint64_t *neighbours, size_t neighbours_len,
+                              uint8_t *codes, size_t codes_len,
+                              uint64_t *used,
+                              uint64_t name,
+                              const uint64_t *heads, size_t heads_len,
+                              const uint64_t *held_neighbours, size_t held_neighbours_len,
+                              const uint8_t *held_codes, size_t held_codes_len);
+
+/* Makes the place of a name among the group's four free.
+ * Refusals: 2, 4, 6, 7, 19, 17. */
+uint8_t sukhlent_group_forget(uint64_t n, uint64_t word, uint8_t group,
+                              const uint64_t *neighbours, size_t neighbours_len,
+                              const uint8_t *codes, size_t codes_len,
+                              uint64_t used,
+                              uint64_t name,
+                              uint64_t *heads, size_t heads_len,
+                              const uint64_t *held_neighbours, size_t held_neighbours_len,
+                              const uint8_t *held_codes, size_t held_codes_len);
 
 #ifdef __cplusplus
 }

@@ -19,13 +19,14 @@ from .lists import GeneratorList
 from .orbits import Orbit, edges_of, number_of, orbit
 from .plots import plot_svg, read_table, table_of
 from .refusals import TEXTS, Refusal
+from .shared import Group, Shared
 from .state import State
 from .stores import Store
 from .texts import read_list, read_record, read_state
 
 __all__ = [
-    "Equivalence", "GeneratorList", "Image", "Measured", "NAMES", "Orbit", "PlotLine", "Refusal", "Result", "State",
-    "Step", "Store", "TEXTS", "circle", "code", "edges_of", "generate", "grid", "images", "job_text", "line", "number_of",
-    "orbit", "parse_job", "plot_svg", "read_list", "read_record", "read_state", "read_table", "run_job", "run_step",
-    "run_steps", "table_of", "version",
+    "Equivalence", "GeneratorList", "Group", "Image", "Measured", "NAMES", "Orbit", "PlotLine", "Refusal", "Result",
+    "Shared", "State", "Step", "Store", "TEXTS", "circle", "code", "edges_of", "generate", "grid", "images", "job_text",
+    "line", "number_of", "orbit", "parse_job", "plot_svg", "read_list", "read_record", "read_state", "read_table",
+    "run_job", "run_step", "run_steps", "table_of", "version",
 ]  # fmt: skip

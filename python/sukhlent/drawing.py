@@ -52,8 +52,10 @@ def record_svg(
     codes: Sequence[int],
     used: int = 0,
     layout: Iterable[Place] | None = None,
+    group: int = 0,
 ) -> str:
-    """A record: edges, vertices with their numbers, and beside each the gate that its code is. A used vertex is hollow.
+    """A record: edges, vertices with their numbers, and beside each the gate that its code is. A used vertex is hollow,
+    and one with a bit in the word `group` is a square.
 
     >>> print(record_svg([0], [8]).splitlines()[-2])
     <text class="gate" x="14.2" y="-19.0" dy=".35em">H</text>
@@ -73,7 +75,7 @@ def record_svg(
         *_edges(neighbours, places),
     ]
     for q, place in enumerate(places):
-        parts += _vertex(q, place, bool(used >> q & 1))
+        parts += _vertex(q, place, bool(used >> q & 1), bool(group >> q & 1))
         if SYMBOLS[codes[q]]:
             x, y = beside(place, len(SYMBOLS[codes[q]]))
             parts.append(f'<text class="gate" x="{x:.1f}" y="{y:.1f}" dy=".35em">{SYMBOLS[codes[q]]}</text>')
@@ -87,11 +89,17 @@ def _edges(neighbours: Sequence[int], places: Sequence[Place]) -> Iterable[str]:
                 yield f'<line class="edge" x1="{x1:.1f}" y1="{y1:.1f}" x2="{x2:.1f}" y2="{y2:.1f}"/>'
 
 
-def _vertex(q: int, place: Place, gone: bool) -> list[str]:
+def _vertex(q: int, place: Place, gone: bool, square: bool) -> list[str]:
     x, y = place
-    fill, ink, dash = ("#ffffff", "#9ca3af", ' stroke-dasharray="3 2"') if gone else ("#1e3a8a", "#ffffff", "")
+    colour = "#0f766e" if square else "#1e3a8a"
+    fill, ink, dash = ("#ffffff", "#9ca3af", ' stroke-dasharray="3 2"') if gone else (colour, "#ffffff", "")
+    outline = (
+        f'<rect x="{x - 12:.1f}" y="{y - 12:.1f}" width="24" height="24"'
+        if square
+        else f'<circle cx="{x:.1f}" cy="{y:.1f}" r="13"'
+    )
     return [
-        f'<circle cx="{x:.1f}" cy="{y:.1f}" r="13" fill="{fill}" stroke="#1e3a8a"{dash}/>',
+        f'{outline} fill="{fill}" stroke="{colour}"{dash}/>',
         f'<text x="{x:.1f}" y="{y:.1f}" dy=".35em" fill="{ink}">{q}</text>',
     ]
 

@@ -16,6 +16,8 @@ _IN_BYTES, _IN_WORDS = (_BYTES, c_size_t), (_WORDS, c_size_t)
 _IN_HALVES = (POINTER(c_uint16), c_size_t)
 _LIST = (*_IN_BYTES, *_IN_WORDS, *_IN_WORDS)
 _RECORD = (*_IN_WORDS, *_IN_BYTES)
+_STORE = (*_IN_WORDS, *_RECORD)
+_GROUP = (c_uint64, c_uint64, c_uint8, *_RECORD)
 
 #: name: argument types; every call answers a refusal number
 _CALLS: dict[str, tuple] = {
@@ -31,9 +33,16 @@ _CALLS: dict[str, tuple] = {
     "cut": (c_uint64, *_RECORD, c_uint64, c_uint64, _WORDS),
     "amplitude": (c_uint64, *_RECORD, c_uint64, c_uint64, *[POINTER(c_double)] * 3),
     "expectation": (c_uint64, *_RECORD, c_uint64, c_uint64, c_uint64, _BYTES),
-    "save": (c_uint64, *_RECORD, c_uint64, c_uint64, *_IN_WORDS, *_RECORD),
-    "return": (c_uint64, *_IN_WORDS, *_RECORD, _WORDS, *_RECORD, _WORDS),
-    "forget": (c_uint64, *_IN_WORDS, *_RECORD),
+    "save": (c_uint64, *_RECORD, c_uint64, c_uint64, *_STORE),
+    "return": (c_uint64, *_STORE, _WORDS, *_RECORD, _WORDS),
+    "forget": (c_uint64, *_STORE),
+    "group_gate": (*_GROUP, c_uint64, c_uint64, c_uint8),
+    "group_cz": (*_GROUP, c_uint64, c_uint64, c_uint64),
+    "group_measure": (*_GROUP, _WORDS, c_uint8, c_uint64, c_uint8, _BYTES, _BYTES),
+    "group_complement": (*_GROUP, c_uint64, c_uint64),
+    "group_save": (*_GROUP, c_uint64, c_uint64, *_STORE),
+    "group_return": (*_GROUP, _WORDS, c_uint64, *_STORE),
+    "group_forget": (*_GROUP, c_uint64, c_uint64, *_STORE),
     "product": (c_uint64, *_LIST, c_uint64, _WORDS, _WORDS, _BYTES),
     "compare": (c_uint64, *_LIST, c_uint64, *_LIST, *_IN_BYTES, *_IN_BYTES, _WORDS),
     "compare_records": (c_uint64, *_RECORD, c_uint64, *_RECORD, *_IN_BYTES, *_IN_BYTES, _WORDS),

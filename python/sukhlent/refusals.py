@@ -6,15 +6,17 @@ from __future__ import annotations
 TEXTS: dict[int, str] = {
     1: "the text does not have its form",
     15: "a job has more than 4,096 steps",
-    2: "n is 0 or above the call's limit, or the two lists' n differ",
+    2: "n is 0 or above the call's limit, or the two lists' n differ, or a group's call has another n than 64",
     4: "a buffer's length is not what is required",
     5: "a word has a bit at or above n",
-    6: "a sign or outcome is above 1, a code above 23, a Pauli not 1 to 3, or a seed 0",
-    7: "a graph is not simple, or a used vertex has a neighbour or a code that no measurement leaves, or a store holds a name twice",
+    6: "a sign, outcome or group is above 1, a code above 23, a Pauli not 1 to 3, or a seed 0",
+    7: "a graph is not simple, or a used vertex has a neighbour or a code that no measurement leaves, or a store holds a name twice,"
+    " or a group's held state has a neighbour outside it",
+    19: "a group's call names a qubit of the other group, or the record has an edge between the groups",
     8: "a qubit number is n or more, or a qubit is named twice",
     16: "the call names a used qubit",
     17: "a name to return to or forget is not held",
-    18: "a save finds eight other names held",
+    18: "a save finds eight other names held, or a group's save four",
     9: "two generators do not commute",
     10: "the generators are dependent",
     3: "a connected part has more than 20 vertices",
@@ -32,7 +34,7 @@ class Refusal(ValueError):
     >>> State.zeros(65)
     Traceback (most recent call last):
     ...
-    sukhlent.refusals.Refusal: refused 2: n is 0 or above the call's limit, or the two lists' n differ
+    sukhlent.refusals.Refusal: refused 2: n is 0 or above the call's limit, or the two lists' n differ, or a group's call has another n than 64
     >>> try:
     ...     State.zeros(2).measure("Z", 0, 1)
     ... except Refusal as refusal:

@@ -4,7 +4,7 @@ from __future__ import annotations
 
 import random
 from pathlib import Path
-from typing import Iterable, Sequence
+from typing import Callable, Iterable, Sequence
 
 from . import library
 from .answers import Equivalence, Image, Measured, PlotLine
@@ -29,6 +29,30 @@ def neighbour_words(n: int, edges: Iterable[tuple[int, int]]) -> list[int]:
         neighbours[a] |= 1 << b
         neighbours[b] |= 1 << a
     return neighbours
+
+
+def pauli_number(letter: str) -> int:
+    """The number of a Pauli; 0, which every call refuses, of anything else.
+
+    >>> [pauli_number(letter) for letter in "XYZI"]
+    [1, 2, 3, 0]
+    """
+    return _PAULIS.get(letter.upper(), 0)
+
+
+def measured_by_lot(measure: Callable[[int], Measured], source: random.Random | None = None) -> Measured:
+    """Measures with a fair bit, and with the other where the state forbids it.
+
+    >>> measured_by_lot(lambda bit: State.zeros(1).measure("Z", 0, bit))
+    Measured(outcome=0, determined=True)
+    """
+    bit = (source or random).getrandbits(1)
+    try:
+        return measure(bit)
+    except Refusal as refusal:
+        if refusal.number != 14:
+            raise
+        return measure(1 - bit)
 
 
 class State:
@@ -357,18 +381,12 @@ class State:
         Measured(outcome=1, determined=False)
         """
         if outcome is None:
-            bit = (source or random).getrandbits(1)
-            try:
-                return self.measure(pauli, qubit, bit)
-            except Refusal as refusal:
-                if refusal.number != 14:
-                    raise
-                return self.measure(pauli, qubit, 1 - bit)
+            return measured_by_lot(lambda bit: self.measure(pauli, qubit, bit), source)
         used, answer, determined = library.word(self._used), library.octet(), library.octet()
         accept(
             library.call(
                 "measure", self.n, self._neighbours, self._codes, used,
-                _PAULIS.get(pauli.upper(), 0), library.place(qubit), outcome, answer, determined,
+                pauli_number(pauli), library.place(qubit), outcome, answer, determined,
             )
         )  # fmt: skip
         self._used = used.value

@@ -2,17 +2,33 @@
 
 from __future__ import annotations
 
+from typing import Iterable, Sequence
+
 from . import library
 from .refusals import accept
 from .state import State
 
 
-def _number(name: bytes | str) -> int:
-    """A name as one number: at most eight bytes, filled up with spaces."""
+def name_number(name: bytes | str) -> int:
+    """A name as one number: at most eight bytes, filled up with spaces.
+
+    >>> hex(name_number("A"))
+    '0x2020202020202041'
+    """
     given = name.encode() if isinstance(name, str) else bytes(name)
     if len(given) > 8:
         raise ValueError(f"a name has at most eight bytes: {name!r}")
     return int.from_bytes(given.ljust(8), "little")
+
+
+def held_names(heads: Sequence[int], places: Iterable[int]) -> list[str]:
+    """The names held at some places, without the spaces at their end.
+
+    >>> held_names([0, 0, 0, 1, name_number("A"), 0], range(2))
+    ['A']
+    """
+    held = [heads[3 * place + 1] for place in places if heads[3 * place]]
+    return [name.to_bytes(8, "little").decode(errors="replace").rstrip() for name in held]
 
 
 class Store:
@@ -54,11 +70,11 @@ class Store:
         >>> store.save("Z", State.zeros(1))
         Traceback (most recent call last):
         ...
-        sukhlent.refusals.Refusal: refused 18: a save finds eight other names held
+        sukhlent.refusals.Refusal: refused 18: a save finds eight other names held, or a group's save four
         """
         held = (self._heads, self._neighbours, self._codes)
         record = (state.n, library.words(state.neighbours), library.octets(state.codes), state.used)
-        accept(library.call("save", *record, _number(name), *held))
+        accept(library.call("save", *record, name_number(name), *held))
 
     def return_to(self, name: bytes | str) -> State:
         """The state held under the name, which stays held; 17 where there is none.
@@ -71,7 +87,7 @@ class Store:
         n, used = library.word(), library.word()
         neighbours, codes = library.words([0] * 64), library.octets([0] * 64)
         held = (self._heads, self._neighbours, self._codes)
-        accept(library.call("return", _number(name), *held, n, neighbours, codes, used))
+        accept(library.call("return", name_number(name), *held, n, neighbours, codes, used))
         return State(neighbours[: n.value], codes[: n.value], used.value)
 
     def forget(self, name: bytes | str) -> None:
@@ -83,7 +99,7 @@ class Store:
         >>> store.names()
         []
         """
-        accept(library.call("forget", _number(name), self._heads, self._neighbours, self._codes))
+        accept(library.call("forget", name_number(name), self._heads, self._neighbours, self._codes))
 
     def names(self) -> list[str]:
         """The names that are held, in the order of their places, without the spaces at their end.
@@ -91,5 +107,4 @@ class Store:
         >>> Store().names()
         []
         """
-        held = [self._heads[3 * place + 1] for place in range(8) if self._heads[3 * place]]
-        return [name.to_bytes(8, "little").decode(errors="replace").rstrip() for name in held]
+        return held_names(self._heads, range(8))

@@ -78,7 +78,10 @@ class Command(unittest.TestCase):
         self.assertRegex(called("--version")[1], r"^sukhlent \d+\.\d+\.\d+\n$")
 
     def test_a_refusal_ends_with_1_and_its_words(self):
-        said = "sukhlent: refused 2: n is 0 or above the call's limit, or the two lists' n differ\n"
+        said = (
+            "sukhlent: refused 2: n is 0 or above the call's limit, or the two lists' n differ, "
+            "or a group's call has another n than 64\n"
+        )
         self.assertEqual(called("reduce", self.file("empty", "sign z x\n")), (1, "", said))
         crlf = self.file("crlf", "qubits\n2\nop a b value\r\ngate 0 0 8\r\n")
         said = "sukhlent: refused 1: line 3, column 13: a carriage return; lines end with a newline alone, not CRLF\n"

@@ -38,5 +38,6 @@ pub mod AmplitudeDemandHolds
 pub mod PivotStepsHold
 pub mod ExpectationDemandHolds
 pub mod StoreDemandHolds
+pub mod GroupsExactly
 pub mod StoreRefusals
 pub mod NamedSessions

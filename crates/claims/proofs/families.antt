@@ -7,3 +7,4 @@ pub mod Orbits
 pub mod Amplitudes
 pub mod Expectations
 pub mod Stores
+pub mod Groups

@@ -6,3 +6,4 @@ pub mod Orbits
 pub mod Amplitudes
 pub mod Expectations
 pub mod Stores
+pub mod Groups

@@ -1,3 +1,4 @@
+pub mod AcceptedPasses
+pub mod ActionWords
 pub mod SignBytes
-pub mod Beginning
 pub mod Answering

@@ -1,22 +1,23 @@
 // The image of a graph under one local Clifford for each vertex.
-use image_rule::bits_of_codes::code_words;
-use image_rule::complementing::Working;
+use clifford_words::action_of;
+use image_rule::complementing::Tracked;
 use image_rule::image_loop::run_rule;
-use record_copies::copied_codes;
-use record_copies::copied_words;
+use record_copies::copy_record;
 use words::dot_product;
 use words::has;
 ghost use mathlib.Core.Bool.{cond};
+ghost use mathlib.Core.List.{List};
 ghost use mathlib.Core.Path.{_≡_};
 ghost use Prim.Native.Nat.{ℕ, _<_, _≤_};
 ghost use lib.Dec.{eqb};
 ghost use lib.ListN.{getD, length};
 ghost use Rattle.words.specs.Bits.{_⊕_, bit, digit};
 ghost use Rattle.words.specs.internal.Bits.{dot};
+ghost use Rattle.operations.specs.internal.InPlace.{Unrefused, recordIn};
 ghost use Rattle.record.specs.Accepted.{AcceptedRecord};
 ghost use Rattle.record.specs.Lent.{heldRecord};
 ghost use Rattle.image_answer.specs.internal.Answer.{IsImage};
-ghost use Rattle.image_rule.specs.internal.Working.{Begun};
+ghost use Rattle.image_rule.specs.internal.Working.{Tracking, working};
 
 // The number 0, 11 or 12; the neighbour words of the image graph, a sign byte for each vertex, and the list.
 pub struct ImageAnswer {
@@ -27,19 +28,23 @@ pub struct ImageAnswer {
     pub count: usize,
 }
 
-// The state at the start.
-fn begin(n: usize, neighbours: &[u64], codes: &[u8]) -> Working
-    requires { ⌜ AcceptedRecord (record { n = n; neighbours = now neighbours; codes = now codes }) ⌝ }
-    ensures { λ r. ⌜ Begun (record { n = n; neighbours = now (neighbours .entry); codes = now (codes .entry) }) r ⌝ }
+// The number, and how many vertices are on the list.
+pub struct Told {
+    pub number: u8,
+    pub count: usize,
+}
+
+// The bits C and D of the codes, and nothing on the list.
+fn begin(codes: &[u8]) -> Tracked
+    requires { ⌜ (length (now codes) ≤ 64) × ((q : ℕ) → getD (now codes) q 0 < 24) ⌝ }
+    ensures { λ r. ⌜ r .count ≡ 0 ⌝ }
+    ensures { λ r. ⌜ ((words list : List ℕ) → Unrefused (recordIn words (now (codes .entry))) → length list ≡ 96
+        → Tracking (length words) (working words (now (codes .entry)) list r)) ⌝ }
 {
-    let held = copied_codes(codes);
-    let words = code_words(held, n);
-    Working {
-        neighbours: copied_words(neighbours),
-        codes: held,
+    let words = action_of(codes);
+    Tracked {
         c: words.c,
         d: words.d,
-        list: [0u8; 96],
         count: 0,
     }
 }
@@ -59,17 +64,16 @@ fn sign_byte(around: u64, sx: u64, sz: u64, j: usize) -> u8
 }
 
 // A sign byte for each vertex.
-fn sign_bytes(graph: [u64; 64], sx: u64, sz: u64, n: usize) -> [u8; 64]
-    requires { ⌜ n ≤ 64 ⌝ }
-    ensures { λ r. ⌜ ((j : ℕ) → j < n → getD r j 0 ≡ digit (bit sx j ⊕ dot (getD graph j 0) sz)) ⌝ }
+fn sign_bytes(graph: &[u64], sx: u64, sz: u64, signs: &mut [u8])
+    requires { ⌜ (length (now graph) ≤ 64) × (length (now signs) ≡ length (now graph)) ⌝ }
+    ensures { λ r. ⌜ ((j : ℕ) → j < length (now (graph .entry)) → getD (now (signs .exit)) j 0
+        ≡ digit (bit sx j ⊕ dot (getD (now (graph .entry)) j 0) sz)) ⌝ }
 {
-    let mut signs = [0u8; 64];
     let mut j = 0;
-    while j < n {
+    while j < graph.len() {
         signs[j] = sign_byte(graph[j], sx, sz, j);
         j += 1;
     }
-    signs
 }
 
 // 11 where some C is left, 12 where X goes to Y somewhere, else 0.
@@ -83,6 +87,37 @@ fn image_number(c: u64, y: u64) -> u8
     }
 }
 
+// The image in lent buffers. The record is copied and the rule runs on the copy, whose words become the image graph;
+// the signs are written over its codes. X goes to Y where the image of X has both a z bit and an x bit.
+fn image_in(
+    neighbours: &[u64],
+    codes: &[u8],
+    words: &mut [u64],
+    bytes: &mut [u8],
+    list: &mut [u8],
+) -> Told
+    requires { ⌜ Unrefused (recordIn (now neighbours) (now codes)) ⌝ }
+    requires { ⌜ (length (now words) ≡ length (now neighbours)) × (length (now bytes) ≡ length (now neighbours))
+        × (length (now list) ≡ 96) ⌝ }
+    ensures { λ r. ⌜ IsImage (length (now (neighbours .entry)))
+        (heldRecord (recordIn (now (neighbours .entry)) (now (codes .entry)))) (record {
+          number = r .number;
+          graph = now (words .exit);
+          signs = now (bytes .exit);
+          list = now (list .exit);
+          count = r .count;
+        }) ⌝ }
+{
+    copy_record(neighbours, codes, words, bytes);
+    let end = run_rule(words, bytes, list, begin(bytes));
+    let left = action_of(bytes);
+    sign_bytes(words, left.sx, left.sz, bytes);
+    Told {
+        number: image_number(end.c, left.b & left.d),
+        count: end.count,
+    }
+}
+
 // The image of the graph under the codes.
 pub fn image_answer(n: usize, neighbours: &[u64], codes: &[u8]) -> ImageAnswer
     requires { ⌜ AcceptedRecord (record { n = n; neighbours = now neighbours; codes = now codes }) ⌝ }
@@ -92,16 +127,21 @@ pub fn image_answer(n: usize, neighbours: &[u64], codes: &[u8]) -> ImageAnswer
       codes = now (codes .entry);
     })) r ⌝ }
 {
-    let end = run_rule(begin(n, neighbours, codes), n);
-    let graph = end.neighbours;
-    let left = end.codes;
-    let list = end.list;
-    let words = code_words(left, n);
+    let mut graph = [0u64; 64];
+    let mut signs = [0u8; 64];
+    let mut list = [0u8; 96];
+    let told = image_in(
+        neighbours,
+        codes,
+        &mut graph[..n],
+        &mut signs[..n],
+        &mut list,
+    );
     ImageAnswer {
-        number: image_number(end.c, words.y),
+        number: told.number,
         graph,
-        signs: sign_bytes(graph, words.sx, words.sz, n),
+        signs,
         list,
-        count: end.count,
+        count: told.count,
     }
 }

@@ -1,8 +1,6 @@
-pub mod EdgeWords
-pub mod Recoding
+pub mod TrackedRecords
 pub mod Stepping
 pub mod StepLists
 pub mod WordMoves
+pub mod NextMoves
 pub mod Rounds
-pub mod KindsOfRound
-pub mod CodeBits

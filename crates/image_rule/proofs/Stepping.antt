@@ -8,22 +8,19 @@ use native.Mathlib.Numerals.{add-one}
 use native.Mathlib.Omega.{arith}
 use lib.Bits.{bitAnd, bitXor}
 use lib.Dec.{eqb}
-use lib.ListN.{getD, length-set, set, take}
+use lib.ListN.{getD, length, length-set, set, take}
 use lib.Seq.{take-suc-set}
-use Rattle.clifford.specs.Vectors.{codesOf}
-use Rattle.graph.proofs.Complement.{complement-simple}
-use Rattle.graph.specs.Graph.{Simple, complement}
-use Rattle.record.proofs.Unique.{record-path}
-use Rattle.record.specs.Records.{complementRecord, recoded}
+use Rattle.operations.specs.internal.InPlace.{Rewritten}
+use Rattle.operations_rewriting.proofs.Pivoting.{complemented-held, complemented-length, complemented-unrefused}
+use Rattle.record.specs.Records.{complementRecord}
 use Rattle.words.proofs.BitLaws.{bit-and, bit-single, bit-xor}
 use Rattle.words.proofs.Finite.{bits, ⊕-zero}
 use Rattle.words.proofs.Places.{other-place, put-other, put-same, same-place}
 use Rattle.words.specs.Bits.{bit, put, _⊕_}
 use Rattle.image.proofs.TrackedBits.{bits-follow}
 use Rattle.image.specs.Rule.{State, stateOf, complementedAt}
-use Rattle.graph.specs.NeighbourWords.{graphIn}
-use Rattle.image_rule.specs.internal.Working.{Complemented, Tracking, workingRecord}
-use Rattle.image_rule.specs.declared.complementing.Working.{Working}
+use Rattle.image_rule.proofs.TrackedRecords.{tracked-simple}
+use Rattle.image_rule.specs.internal.Working.{Complemented, Tracking, Working, workingRecord}
 
 module _ (n : ℕ) (w : Working) (v : ℕ) (l : v < n) (T : Tracking n w) where
   abbrev around : ℕ
@@ -69,25 +66,26 @@ module _ (n : ℕ) (w : Working) (v : ℕ) (l : v < n) (T : Tracking n w) where
       ∙ sym (T .C q) ∙ T .above q k
 
   module _ (small : w .count < 96) (words codes : List ℕ) (mask : ℕ)
-      (edges : (i j : ℕ) → graphIn words i j ≡ complement (graphIn (w .neighbours)) v i j)
-      (recodes : (q : ℕ) → codesOf codes q ≡ recoded (λ _. bit around) v (codesOf (w .codes)) q)
-      (below : (q : ℕ) → getD codes q 0 < 24) (single : mask ≡ 2 ^ v) where
+      (R : Rewritten (w .neighbours) (w .codes) (λ g. complementRecord g v) words codes) (single : mask ≡ 2 ^ v) where
     abbrev after : Working
     after =
         record {
           neighbours = words;
           codes = codes;
+          list = set (w .list) (w .count) v;
           c = bitXor (w .c) (bitAnd (w .d) mask);
           d = bitXor (w .d) (bitAnd around (w .c));
-          list = set (w .list) (w .count) v;
           count = w .count + 1;
         }
 
+    inside : v < length (w .neighbours)
+    inside = subst (λ m. v < m) (sym (T .long)) l
+
     held : workingRecord after ≡ complementRecord (workingRecord w) v
-    held = record-path _ _ (record { neighbours = edges; code = recodes })
+    held = complemented-held (w .neighbours) (w .codes) (T .unrefused) v inside words codes R
 
     state : stateOf (workingRecord after) ≡ complementedAt S v
-    state = ap stateOf held ∙ bits-follow n (workingRecord w) (T .simple) v
+    state = ap stateOf held ∙ bits-follow n (workingRecord w) (tracked-simple n w T) v
 
     pub complemented-at : Complemented n w (v ∷ []) after
     complemented-at =
@@ -98,9 +96,8 @@ module _ (n : ℕ) (w : Working) (v : ℕ) (l : v < n) (T : Tracking n w) where
           count = refl;
           tracking =
               record {
-                simple = subst (λ r. Simple n (r .graph)) (sym held)
-                    (complement-simple n (graphIn (w .neighbours)) (T .simple) v);
-                codes-below = below;
+                long = complemented-length (w .neighbours) (w .codes) (T .unrefused) v inside words codes R ∙ T .long;
+                unrefused = complemented-unrefused (w .neighbours) (w .codes) (T .unrefused) v inside words codes R;
                 C = λ q. c-after mask single q ∙ ap (λ s. s .C q) (sym state);
                 D = λ q k. d-after q k ∙ ap (λ s. s .D q) (sym state);
                 above = above-after mask single;

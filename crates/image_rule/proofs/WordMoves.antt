@@ -23,8 +23,8 @@ use Rattle.image.proofs.Falling.{pair-is}
 use Rattle.image.proofs.Moves.{Move, alone, joined}
 use Rattle.image.proofs.Running.{Stopped}
 use Rattle.image.specs.Rule.{State, both, onlyC, pair, stateOf}
-use Rattle.image_rule.specs.internal.Working.{Tracking, joinedIn, workingRecord}
-use Rattle.image_rule.specs.declared.complementing.Working.{Working}
+use Rattle.image_rule.proofs.TrackedRecords.{tracked-simple}
+use Rattle.image_rule.specs.internal.Working.{Tracking, Working, joinedIn, workingRecord}
 
 -- ---- words with no bit at or above n
 -- the smallest set bit of a word that is not 0
@@ -159,9 +159,9 @@ module _ (n : ℕ) (small : n ≤ 64) (w : Working) (T : Tracking n w) where
       ]
         where
           not-above : Dec (k ≡ j) → k ≤ j → ⊥
-          not-above (yes e) l = true≢false (sym (to-k .0) ∙ ap (S .graph j) e ∙ T .simple .loopless j)
+          not-above (yes e) l = true≢false (sym (to-k .0) ∙ ap (S .graph j) e ∙ tracked-simple n w T .loopless j)
           not-above (no d) l =
-              true≢false (sym (edge-search k j (T .simple .symmetric k j ∙ to-k .0) (to-k .1) (in-set .0))
+              true≢false (sym (edge-search k j (tracked-simple n w T .symmetric k j ∙ to-k .0) (to-k .1) (in-set .0))
               ∙ first-j .least k (lt-of-le-ne l d))
 
       pair-jk : pair S j k ≡ true

@@ -32,7 +32,7 @@ fn large_count(k: usize, heads: &[u64]) -> bool
 }
 
 // Line 4: whether a buffer of the store has not its length.
-fn wrong_lengths(k: usize, heads: &[u64], neighbours: &[u64], codes: &[u8]) -> bool
+pub fn wrong_lengths(k: usize, heads: &[u64], neighbours: &[u64], codes: &[u8]) -> bool
     requires { ⌜ k ≤ 8 ⌝ }
     ensures { λ r. ⌜ r ≡ storeLengths k (record {
       heads = now (heads .entry);

@@ -3,6 +3,7 @@ pub mod amplitudes;
 pub mod comparisons;
 pub mod expectations;
 pub mod generator;
+pub mod groups;
 pub mod lists;
 pub mod orbits;
 pub mod records;

@@ -4,6 +4,7 @@ mod amplitudes;
 mod comparisons;
 mod expectations;
 mod generator;
+mod groups;
 mod lists;
 mod orbits;
 mod records;

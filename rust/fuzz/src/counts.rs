@@ -5,7 +5,7 @@ use crate::header::published;
 use std::fmt;
 
 /// The numbers of the refusals, and 0.
-const NUMBERS: usize = 19;
+const NUMBERS: usize = 20;
 
 /// For each call of the table, how often it gave each number.
 #[derive(Clone, Default)]
@@ -44,7 +44,7 @@ impl fmt::Display for Counts {
         let heads = (1..NUMBERS).map(|number| format!("{number:>8}"));
         writeln!(
             f,
-            "{:<14}{:>9}{}",
+            "{:<17}{:>9}{}",
             "call",
             "accepted",
             heads.collect::<String>()
@@ -52,7 +52,7 @@ impl fmt::Display for Counts {
         for (call, counts) in CALLS.iter().zip(&self.0) {
             let cells = counts[1..].iter().map(|count| format!("{count:>8}"));
             let cells = cells.collect::<String>();
-            writeln!(f, "{:<14}{:>9}{cells}", call.name, counts[0])?;
+            writeln!(f, "{:<17}{:>9}{cells}", call.name, counts[0])?;
         }
         Ok(())
     }
@@ -83,6 +83,9 @@ mod tests {
             .iter()
             .filter_map(|what| what.strip_suffix(" with 16"));
         let with: Vec<&str> = with.collect();
-        assert_eq!(with, ["gate", "cz", "measure", "complement"]);
+        let calls = ["gate", "cz", "measure", "complement"];
+        let groups = calls.map(|call| format!("group_{call}"));
+        let due = calls.into_iter().chain(groups.iter().map(String::as_str));
+        assert!(with.into_iter().eq(due));
     }
 }

@@ -4,11 +4,14 @@
 //! elimination in plain Rust; outcomes, and bits that the state forbids, with the tableau's;
 //! complements with document 01's text; refusals with its list; the used word with the qubits that
 //! were measured; and the values of some rows with the tableau's. A session goes on with the
-//! qubits that are left, and where all are
-//! used it starts anew.
+//! qubits that are left, and where all are used it starts anew.
+//!
+//! `pairs` makes pairs of runs of two groups on one record: what one group sees does not depend on
+//! the other's calls.
 
 mod choice;
 mod counts;
+mod pairs;
 mod session;
 mod values;
 
@@ -20,6 +23,7 @@ mod common;
 mod plain;
 
 pub use counts::Counts;
+pub use pairs::{pairs, PairCounts};
 pub use session::Session;
 
 /// Makes so many calls on n qubits. The error names the call and what is different.

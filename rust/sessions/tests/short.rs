@@ -1,6 +1,6 @@
 //! Short sessions on some numbers of qubits.
 
-use sessions::{run, Counts};
+use sessions::{pairs, run, Counts};
 
 fn session(n: usize, seed: u64, calls: u64) -> Counts {
     run(n, seed, calls, |_, _| ()).unwrap_or_else(|difference| panic!("{difference}"))
@@ -44,4 +44,19 @@ fn every_number_of_qubits() {
 fn sessions_of_one_seed_are_the_same() {
     assert_eq!(session(9, 5, 2000), session(9, 5, 2000));
     assert_ne!(session(9, 5, 2000), session(9, 6, 2000));
+}
+
+#[test]
+fn ten_thousand_pairs_of_runs_in_which_the_other_groups_calls_differ() {
+    let counts = pairs(1, 10_000).unwrap_or_else(|difference| panic!("{difference}"));
+    assert_eq!(counts.own, 2 * 10_000 * 14);
+    assert!(counts.others > 400_000, "{counts}");
+    assert!(
+        counts.accepted.iter().all(|&times| times > 10_000),
+        "{counts}"
+    );
+    for number in [6, 19, 8, 16, 17, 14, 18] {
+        assert!(counts.refused[number] > 50, "{number}: {counts:?}");
+    }
+    assert!(counts.different > 9_000, "{counts}");
 }

@@ -54,6 +54,7 @@ pub mod raw;
 mod record;
 mod refusal;
 mod run;
+mod shared;
 mod store;
 mod strings;
 
@@ -69,5 +70,6 @@ pub use product::{product, Product};
 pub use record::{expand, Record};
 pub use refusal::Refusal;
 pub use run::{run, Step};
+pub use shared::{Group, Shared};
 pub use store::Store;
 pub use strings::{read_strings, write_strings};

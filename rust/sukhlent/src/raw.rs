@@ -16,6 +16,13 @@
 //! assert_eq!((neighbours, held), ([2, 1], [0, 8]));
 //! ```
 
+mod groups;
+
+pub use groups::{
+    group_complement, group_cz, group_forget, group_gate, group_measure, group_return, group_save,
+    Whose,
+};
+
 mod calls {
     extern "C" {
         pub fn sukhlent_version() -> u32;
@@ -834,6 +841,14 @@ pub fn compare(
 }
 
 /// A record without its used word, as it is lent: n, neighbour words, codes.
+///
+/// ```
+/// // A Bell state with itself.
+/// let bell: sukhlent::raw::LentGraph = (2, &[2, 1], &[0, 8]);
+/// let (mut choice, mut list, mut count) = ([9; 2], [99; 96], 9);
+/// assert_eq!(sukhlent::raw::compare_records(bell, bell, &mut choice, &mut list, &mut count), 0);
+/// assert_eq!((choice, count), ([0, 0], 0));
+/// ```
 pub type LentGraph<'a> = (u64, &'a [u64], &'a [u8]);
 
 /// Writes the least choice that carries the group of one record onto that of another, and the

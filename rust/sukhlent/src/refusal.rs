@@ -15,7 +15,8 @@ use std::fmt;
 pub enum Refusal {
     /// A text is not of its form.
     Form = 1,
-    /// The number of qubits is 0 or above 64, or differs between two lists.
+    /// The number of qubits is 0 or above 64, or differs between two lists, or is not 64 in a
+    /// group's call.
     Qubits = 2,
     /// A connected part of a compared state's reduced graph has more than 20 vertices.
     Comparison = 3,
@@ -23,10 +24,10 @@ pub enum Refusal {
     Length = 4,
     /// A word has a bit outside of the qubits.
     StrayBit = 5,
-    /// A sign, an outcome, a code, a Pauli or a seed is none.
+    /// A sign, an outcome, a group, a code, a Pauli or a seed is none.
     Value = 6,
-    /// A graph is not simple, a used vertex is not as a measurement leaves it, or a store holds a
-    /// name twice.
+    /// A graph is not simple, a used vertex is not as a measurement leaves it, a store holds a name
+    /// twice, or a group's held state has a neighbour outside it.
     Graph = 7,
     /// A qubit number, or a pair of them, names nothing.
     Place = 8,
@@ -48,8 +49,10 @@ pub enum Refusal {
     Used = 16,
     /// A name to return to or forget is not held.
     NotHeld = 17,
-    /// A save finds eight other names held.
+    /// A save finds eight other names held, or a group's save four.
     Full = 18,
+    /// A group's call names a qubit of the other group, or the record has an edge between them.
+    OtherGroup = 19,
 }
 
 impl Refusal {
@@ -60,7 +63,7 @@ impl Refusal {
     ///
     /// assert_eq!(Refusal::ALL[..2], [Refusal::Form, Refusal::Steps]);
     /// ```
-    pub const ALL: [Refusal; 18] = [
+    pub const ALL: [Refusal; 19] = [
         Refusal::Form,
         Refusal::Steps,
         Refusal::Qubits,
@@ -68,6 +71,7 @@ impl Refusal {
         Refusal::StrayBit,
         Refusal::Value,
         Refusal::Graph,
+        Refusal::OtherGroup,
         Refusal::Place,
         Refusal::Used,
         Refusal::NotHeld,
@@ -81,7 +85,7 @@ impl Refusal {
         Refusal::Inequivalent,
     ];
 
-    /// The number, 1 to 18.
+    /// The number, 1 to 19.
     ///
     /// ```
     /// assert_eq!(sukhlent::Refusal::Anticommuting.number(), 9);
@@ -115,15 +119,23 @@ impl Refusal {
     fn line(self) -> &'static str {
         match self {
             Refusal::Form => "a text does not have its form",
-            Refusal::Qubits => "n is 0 or above 64, or the two lists' n differ",
+            Refusal::Qubits => {
+                "n is 0 or above 64, or the two lists' n differ, \
+                 or a group's call has another n than 64"
+            }
             Refusal::Length => "a buffer's length is not what is required",
             Refusal::StrayBit => "a word has a bit at or above n",
             Refusal::Value => {
-                "a sign or outcome is above 1, a code above 23, a Pauli not 1 to 3, or a seed 0"
+                "a sign, outcome or group is above 1, a code above 23, a Pauli not 1 to 3, or a seed 0"
             }
             Refusal::Graph => {
                 "a graph is not simple, or a used vertex has a neighbour \
-                 or a code other than 0, 2, 4, 6, 8 and 10, or a store holds a name twice"
+                 or a code other than 0, 2, 4, 6, 8 and 10, or a store holds a name twice, \
+                 or a group's held state has a neighbour outside it"
+            }
+            Refusal::OtherGroup => {
+                "a group's call names a qubit of the other group, \
+                 or the record has an edge between the groups"
             }
             Refusal::Place => {
                 "a qubit number is n or more, CZ or a job's pivot names one qubit twice, \
@@ -131,7 +143,7 @@ impl Refusal {
             }
             Refusal::Used => "the call names a used qubit",
             Refusal::NotHeld => "a name to return to or forget is not held",
-            Refusal::Full => "a save finds eight other names held",
+            Refusal::Full => "a save finds eight other names held, or a group's save four",
             Refusal::Anticommuting => "two generators do not commute",
             Refusal::Dependent => "the generators are dependent",
             Refusal::Comparison => {
@@ -174,15 +186,15 @@ mod tests {
         assert_eq!(Refusal::unless_accepted(0), Ok(()));
         let mut numbers = Refusal::ALL.map(Refusal::number);
         numbers.sort();
-        assert!(numbers.into_iter().eq(1..=18));
-        assert!((19..=255).all(|number| Refusal::from_number(number).is_none()));
+        assert!(numbers.into_iter().eq(1..=19));
+        assert!((20..=255).all(|number| Refusal::from_number(number).is_none()));
     }
 
     #[test]
-    fn three_and_fourteen_are_checked_after_ten_fifteen_after_one_and_sixteen_after_eight() {
+    fn the_numbers_of_the_requests_stand_at_their_places() {
         let order = Refusal::ALL.map(Refusal::number);
         let due = [
-            1, 15, 2, 4, 5, 6, 7, 8, 16, 17, 18, 9, 10, 3, 14, 11, 12, 13,
+            1, 15, 2, 4, 5, 6, 7, 19, 8, 16, 17, 18, 9, 10, 3, 14, 11, 12, 13,
         ];
         assert_eq!(order, due);
     }
@@ -198,8 +210,8 @@ mod tests {
     }
 
     #[test]
-    #[should_panic(expected = "no refusal has the number 19")]
+    #[should_panic(expected = "no refusal has the number 20")]
     fn other_numbers_are_no_answers() {
-        let _ = Refusal::unless_accepted(19);
+        let _ = Refusal::unless_accepted(20);
     }
 }

@@ -21,9 +21,9 @@ use crate::{raw, Record, Refusal};
 /// ```
 #[derive(Clone, Debug, PartialEq, Eq, Hash)]
 pub struct Store {
-    heads: [u64; 24],
-    neighbours: Box<[u64; 512]>,
-    codes: Box<[u8; 512]>,
+    pub(crate) heads: [u64; 24],
+    pub(crate) neighbours: Box<[u64; 512]>,
+    pub(crate) codes: Box<[u8; 512]>,
 }
 
 impl Default for Store {

@@ -90,6 +90,11 @@ fn store_prints_its_stored_output() {
 }
 
 #[test]
+fn two_groups_prints_its_stored_output() {
+    assert_prints_its_stored_output("two_groups");
+}
+
+#[test]
 fn session_prints_its_stored_output() {
     assert_prints_its_stored_output("session");
 }

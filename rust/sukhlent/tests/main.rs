@@ -44,6 +44,8 @@ mod rewriting;
 mod runs;
 mod rust_example;
 mod sessions;
+mod shared;
+mod shared_sessions;
 mod states;
 mod stores;
 mod strings;

@@ -16,6 +16,9 @@ mod store;
 #[path = "../examples/strings.rs"]
 #[allow(dead_code)]
 mod strings;
+#[path = "../examples/two_groups.rs"]
+#[allow(dead_code)]
+mod two_groups;
 
 #[test]
 fn session_prints_what_the_session_in_c_prints() {
@@ -43,6 +46,13 @@ fn strings_prints_what_strings_in_c_prints() {
     let mut text = String::new();
     strings::show_all(&mut text).unwrap();
     assert_eq!(text, include_str!("../../../examples/c/strings.out"));
+}
+
+#[test]
+fn two_groups_prints_what_two_groups_in_c_prints() {
+    let mut text = String::new();
+    two_groups::session(&mut text).unwrap();
+    assert_eq!(text, include_str!("../../../examples/c/two_groups.out"));
 }
 
 #[test]

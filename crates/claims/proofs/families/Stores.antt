@@ -48,7 +48,7 @@ use Rattle.claims.specs.families.Stores.{
 }
 
 -- ---- stores
-is-record : (u : UsedRecord) → (firstFitting (usedLines u false false false) ≡ 0) ↔ IsRecord u
+pub is-record : (u : UsedRecord) → (firstFitting (usedLines u false false false) ≡ 0) ↔ IsRecord u
 is-record u = ((λ e. used-exactly u false false false .0 e .0), (λ R. used-exactly u false false false .1 (R, refl, refl, refl)))
 
 is-store : (st : Store) → Passing 8 st → IsStore st

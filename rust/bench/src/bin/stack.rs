@@ -20,8 +20,11 @@ const CASES: u64 = 100;
 /// A call: its name, the number of qubits, and what is measured with a seed.
 type Measured = (&'static str, usize, fn(&mut Random, usize) -> usize);
 
+/// Group 0 of two halves.
+const LOWER: raw::Whose = (!0 << 32, 0);
+
 /// Every public call. All arguments are accepted, so that every step is taken.
-const CALLS: [Measured; 24] = [
+const CALLS: [Measured; 31] = [
     ("check", 64, |random, n| {
         let given = list(&random_rows(random, n));
         depth(|| raw::check(n as u64, &given.signs, &given.z, &given.x))
@@ -146,6 +149,47 @@ const CALLS: [Measured; 24] = [
         let (mut heads, words, bytes) = full_store(random);
         depth(|| raw::forget(7, &mut heads, &words, &bytes))
     }),
+    ("group_gate", 64, |random, n| {
+        in_place(random, n, |n, words, codes, used| {
+            raw::group_gate(n, LOWER, words, codes, *used, 0, 8)
+        })
+    }),
+    ("group_cz", 64, |random, n| {
+        in_place(random, n, |n, words, codes, used| {
+            raw::group_cz(n, LOWER, words, codes, *used, 0, 29)
+        })
+    }),
+    ("group_measure", 64, |random, n| {
+        let (mut answer, mut determined) = (0, 0);
+        let outcome = (&mut answer, &mut determined);
+        in_place(random, n, |n, words, codes, used| {
+            raw::group_measure(n, LOWER, words, codes, used, 3, 0, 1, outcome.0, outcome.1)
+        })
+    }),
+    ("group_complement", 64, |random, n| {
+        in_place(random, n, |n, words, codes, used| {
+            raw::group_complement(n, LOWER, words, codes, *used, 0)
+        })
+    }),
+    ("group_save", 64, |random, n| {
+        let (neighbours, codes, used) = used_pairs(random, n);
+        let (mut heads, mut words, mut bytes) = groups_store(random);
+        let record = (n as u64, &*neighbours, &*codes, used);
+        depth(|| raw::group_save(record, LOWER, 3, &mut heads, &mut words, &mut bytes))
+    }),
+    ("group_return", 64, |random, n| {
+        let (heads, words, bytes) = groups_store(random);
+        let store = (&heads[..], &words[..], &bytes[..]);
+        in_place(random, n, |n, words, codes, used| {
+            raw::group_return(n, LOWER, words, codes, used, 3, store)
+        })
+    }),
+    ("group_forget", 64, |random, n| {
+        let (neighbours, codes, used) = used_pairs(random, n);
+        let (mut heads, words, bytes) = groups_store(random);
+        let record = (n as u64, &*neighbours, &*codes, used);
+        depth(|| raw::group_forget(record, LOWER, 3, &mut heads, &words, &bytes))
+    }),
     ("product", 64, |random, n| {
         let given = list(&random_rows(random, n));
         let lent = (n as u64, &*given.signs, &*given.z, &*given.x);
@@ -231,6 +275,20 @@ fn full_store(random: &mut Random) -> ([u64; 24], Vec<u64>, Vec<u8>) {
         heads[3 * name..3 * name + 3].copy_from_slice(&[64, name as u64, used]);
         words.extend(neighbours);
         bytes.extend(codes);
+    }
+    (heads, words, bytes)
+}
+
+/// The same, each place with the vertices of its group alone: four of the lower half, four of the
+/// upper.
+fn groups_store(random: &mut Random) -> ([u64; 24], Vec<u64>, Vec<u8>) {
+    let (mut heads, mut words, mut bytes) = full_store(random);
+    for at in 0..512 {
+        let (place, q) = (at / 64, at % 64);
+        if (place < 4) != (q < 32) {
+            (words[at], bytes[at]) = (0, 8);
+            heads[3 * place + 2] &= !(1 << q);
+        }
     }
     (heads, words, bytes)
 }

@@ -1,6 +1,7 @@
 //! The public calls, one file for each kind of argument. A call is added by an entry of the table.
 
 mod generator;
+mod groups;
 mod in_place;
 mod lists;
 mod orbits;
@@ -22,7 +23,7 @@ pub struct Call {
 }
 
 /// Every public call.
-pub const CALLS: [Call; 22] = [
+pub const CALLS: [Call; 29] = [
     Call {
         name: "check",
         once: lists::check,
@@ -110,5 +111,33 @@ pub const CALLS: [Call; 22] = [
     Call {
         name: "forget",
         once: stores::forget,
+    },
+    Call {
+        name: "group_gate",
+        once: groups::gate,
+    },
+    Call {
+        name: "group_cz",
+        once: groups::cz,
+    },
+    Call {
+        name: "group_measure",
+        once: groups::measure,
+    },
+    Call {
+        name: "group_complement",
+        once: groups::complement,
+    },
+    Call {
+        name: "group_save",
+        once: groups::save,
+    },
+    Call {
+        name: "group_return",
+        once: groups::return_to,
+    },
+    Call {
+        name: "group_forget",
+        once: groups::forget,
     },
 ];

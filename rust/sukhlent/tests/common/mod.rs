@@ -23,6 +23,7 @@ pub mod record_pairs;
 pub mod reference;
 pub mod runs;
 pub mod seeded;
+pub mod shared;
 pub mod store;
 pub mod strings;
 pub mod vectors;

@@ -1,26 +1,44 @@
 -- `complement_at` meets its contract: complements at v and puts v on the list.
+use Prim.Native.Nat.{_≤_}
 use native.Mathlib.Omega.{arith}
+use lib.ListN.{length}
 use borrow.Author.Needs.{needs}
 use Rattle.image_rule.proofs.Stepping.{complemented-at}
+use Rattle.image_rule.proofs.TrackedRecords.{tracked-small}
 use Rattle.image_rule.proofs.complementing.complement_at.Statement.{statement}
 use Rattle.image_rule.proofs.complementing.complement_at.Tie as tie
 
-recode-requires : tie.Need-recode-requires
-recode-requires c κs =
-    let s = c .before .before .before .before in
-    (omega arith, omega arith, s .pre .3 .simple .below (s .args .v), s .pre .3 .codes-below)
+complement-record-requires : tie.Need-complement-record-requires
+complement-record-requires c κs =
+    let s = c .before .before .before .before .before .before in
+    (s .pre .2 .unrefused, s .pre .0)
+
+cast-list : tie.Need-cast-list
+cast-list c =
+    let s = c .before .before .before .before .before .before .before .before .before .before .before in
+    let small : length (s .args .neighbours .now) ≤ 64 = tracked-small _ _ (s .pre .2) in
+    omega (arith, s .pre .0)
+
+slice-write-list : tie.Need-slice-write-list
+slice-write-list c =
+    let s = c .before .before .before .before .before .before .before .before .before .before .before in
+    omega (arith, s .pre .1, s .pre .2 .places)
+
+single-requires : tie.Need-single-requires
+single-requires c κs =
+    let s = c .before .before .before .before .before .before .before .before .before .before .before in
+    let small : length (s .args .neighbours .now) ≤ 64 = tracked-small _ _ (s .pre .2) in
+    omega (arith, s .pre .0)
 
 returns : tie.Need-returns
 returns c =
-    let called = c .before .before .before .before in
-    let s = called .before .before .before .before .before .before in
-    complemented-at (s .args .n) (s .args .w) (s .args .v) (omega arith) (s .pre .3) (omega arith)
-    (called .before .before .flip-edges .result) (called .before .recode .result) (called .single .result)
-    (called .before .before .flip-edges .ensures) (called .before .recode .ensures .0)
-    (called .before .recode .ensures .1) (called .single .ensures)
+    let s = c .before .before .before .before .before .before .before .before .before .before .before .before .before .before .before .before in
+    let called = c .before .before .before .before .before .before .before .before .before in
+    complemented-at _ _ (s .args .v) (s .pre .0) (s .pre .2) (s .pre .1) _ _
+    (c .before .before .before .before .single .result) (called .complement-record .ensures) (c .before .before .before .before .single .ensures)
 
 pub complement-at-spec : {M : Type 1} → statement M
 complement-at-spec =
     tie.close
-    (tie.spec (λ c. search needs) (λ c. search needs) (λ c. search needs) (λ c. search needs) (λ c κs. search needs)
-    recode-requires (λ c κs. search needs) (λ c. search needs) returns)
+    (tie.spec (λ c. search needs) (λ c. search needs) complement-record-requires cast-list slice-write-list
+    single-requires (λ c. search needs) (λ c. search needs) (λ c. search needs) (λ c. search needs) returns)

@@ -1,6 +1,7 @@
 -- `first_joined` meets its contract: the smallest vertex of the set c that has a neighbour in c; n where there is none.
 use mathlib.Core.Path.{sym, _∙_}
 use Prim.Native.Nat.{_-_}
+use lib.ListN.{length}
 use borrow.Author.Needs.{needs}
 use Rattle.image_rule.specs.internal.Working.{joinedIn}
 use Rattle.image.proofs.Searching.{NotYet, found-here, found-none, not-here, not-yet}
@@ -8,33 +9,28 @@ use Rattle.image_rule.proofs.image_loop.first_joined.Statement.{stateme
 use Rattle.image_rule.proofs.image_loop.first_joined.Tie as tie
 
 abbrev Inv-loop : tie.InvT-loop
-Inv-loop c n neighbours j₀ j = NotYet (joinedIn neighbours c) n j
+Inv-loop neighbours c j₀ j = NotYet (joinedIn (neighbours) c) (length (neighbours)) j
 
 abbrev μ-loop : tie.MeasureT-loop
-μ-loop c n neighbours j₀ j = n - j
+μ-loop neighbours c j₀ j = length (neighbours) - j
 
 loop-holds : tie.Need-loop-holds Inv-loop μ-loop
-loop-holds c = not-yet _ (c .args .n)
+loop-holds c = not-yet _ _
 
 returns : tie.Need-returns Inv-loop μ-loop
 returns c =
-    let a = c .before .before .before .before .args in
-    found-here (joinedIn (a .t1) (a .c)) (a .n) (c .before .before .before .loop .j)
-    (c .before .before .before .loop .inv) (c .before .before .loop-test .taken)
+    let l = c .before .before .before .before in
+    found-here _ _ (l .loop .j) (l .loop .inv) (c .before .before .before .loop-test .taken)
     (sym (c .before .joined .ensures) ∙ c .if1 .taken)
 
 loop-again : tie.Need-loop-again Inv-loop μ-loop
 loop-again c =
-    let a = c .before .before .before .before .args in
-    not-here (joinedIn (a .t1) (a .c)) (a .n) (c .before .before .before .loop .j)
-    (c .before .before .before .loop .inv) (c .before .before .loop-test .taken)
+    let l = c .before .before .before .before in
+    not-here _ _ (l .loop .j) (l .loop .inv) (c .before .before .before .loop-test .taken)
     (sym (c .before .joined .ensures) ∙ c .if1 .left)
 
 returns-2 : tie.Need-returns-2 Inv-loop μ-loop
-returns-2 c =
-    let a = c .before .before .args in
-    found-none (joinedIn (a .t1) (a .c)) (a .n) (c .before .loop .j) (c .before .loop .inv)
-    (c .loop-test .left)
+returns-2 c = found-none _ _ (c .before .loop .j) (c .before .loop .inv) (c .loop-test .left)
 
 pub first-joined-spec : {M : Type 1} → statement M
 first-joined-spec =

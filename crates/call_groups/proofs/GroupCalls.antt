@@ -1,0 +1,163 @@
+-- A group's calls from what is done to the copy of its vertices.
+use mathlib.Core.Bool.{_&&_, cond, _||_}
+use mathlib.Core.List.{List}
+use mathlib.Core.Path.{ap, ap₂, refl, subst, sym, _∙_, _≡_}
+use Prim.Native.Nat.{ℕ}
+use lib.ListN.{getD, length}
+use borrow.Author.Tests.{eq-eqb}
+use Rattle.buffers.specs.Buffers.{tabulate}
+use Rattle.buffers.specs.Refusals.{firstFitting}
+use Rattle.call_gates.proofs.InPlaceCalls.{left-by-call, marked-by-call}
+use Rattle.call_gates.specs.InPlaceCalls.{usedCall, usedMeasureCall}
+use Rattle.contracts.proofs.Calling.{done, kept-all, refused, written-all}
+use Rattle.contracts.specs.Answers.{HoldsAnswer}
+use Rattle.contracts.specs.Calls.{Call, EachOf}
+use Rattle.groups.proofs.GroupNumbers.{masked-answer, masked-number}
+use Rattle.groups.proofs.GroupPassing.{group-number}
+use Rattle.groups.proofs.MaskedRecords.{apart-record, masked-passes}
+use Rattle.groups.specs.GroupLines.{groupLines, namesOther}
+use Rattle.groups.specs.Masks.{inGroup, masked, merged}
+use Rattle.groups.specs.internal.Apart.{GroupOp, measure-op}
+use Rattle.groups_masks.proofs.OwnWords.{masked-own, merged-own}
+use Rattle.operations.specs.Measurement.{determinedNumber, outcomeNumber}
+use Rattle.operations.specs.Steps.{Operation, measuredAnswer, measurementOf}
+use Rattle.used.specs.Used.{UsedRecord, UsedUnrefused, usedLinesOf}
+use Rattle.words.specs.Bits.{bit, wordOf}
+use Rattle.call_groups.specs.GroupCalls.{groupCall, groupLent, groupMeasureCall}
+use Rattle.call_groups.specs.internal.BeforeEight.{Admitted, PutBack}
+
+-- ---- the copy, and what is put back
+module _ (word g : ℕ) {own : ℕ} where
+  pub taken : (nb cs : List ℕ) (used : ℕ) → own ≡ wordOf 64 (inGroup word g) → {words bytes : List ℕ} {r : ℕ}
+      → words ≡ (masked (bit own) (record { held = record { n = 64; neighbours = nb; codes = cs }; used = 0 }))
+      .held .neighbours
+      → bytes ≡ (masked (bit own) (record { held = record { n = 64; neighbours = nb; codes = cs }; used = 0 }))
+      .held .codes
+      → r ≡ wordOf 64 (λ q. bit own q && bit used q)
+      → record { held = record { n = 64; neighbours = words; codes = bytes }; used = r }
+      ≡ masked (inGroup word g) (record { held = record { n = 64; neighbours = nb; codes = cs }; used = used })
+  taken nb cs used e en ec eu =
+      (λ i. record { held = record { n = 64; neighbours = en i; codes = ec i }; used = eu i })
+      ∙ masked-own own (inGroup word g) e
+      (record { held = record { n = 64; neighbours = nb; codes = cs }; used = used }) refl
+
+  pub put-back : (words bytes nb cs : List ℕ) → own ≡ wordOf 64 (inGroup word g) → {nb′ cs′ : List ℕ}
+      → nb′ ≡ (merged (bit own) (record { held = record { n = 64; neighbours = words; codes = bytes }; used = 0 })
+      (record { held = record { n = 64; neighbours = nb; codes = cs }; used = 0 })) .held .neighbours
+      → cs′ ≡ (merged (bit own) (record { held = record { n = 64; neighbours = words; codes = bytes }; used = 0 })
+      (record { held = record { n = 64; neighbours = nb; codes = cs }; used = 0 })) .held .codes
+      → PutBack (inGroup word g) words bytes nb cs nb′ cs′
+  put-back words bytes nb cs e en ec =
+      let M = merged-own own (inGroup word g) e
+      (record { held = record { n = 64; neighbours = words; codes = bytes }; used = 0 })
+      (record { held = record { n = 64; neighbours = nb; codes = cs }; used = 0 }) refl in
+      record { neighbours = en ∙ ap (λ w. w .held .neighbours) M; codes = ec ∙ ap (λ w. w .held .codes) M }
+
+module _ (word g : ℕ) (u : UsedRecord) (o : Operation) (A : Admitted word g u o) where
+  -- the record's buffers have 64 places
+  pub lent-64 : (length (u .held .neighbours) ≡ 64) × (length (u .held .codes) ≡ 64)
+  lent-64 =
+      let R = apart-record word u (A .apart) in
+      (R .neighbours-length ∙ A .apart .count, R .codes-length ∙ A .apart .count)
+
+  module _ (O : GroupOp o) where
+    -- the number is that of the call on the copy
+    pub copy-number : firstFitting (usedLinesOf (masked (inGroup word g) u) o) ≡ firstFitting (groupLines word g u o)
+    copy-number = sym (group-number word g u o (eq-eqb (u .held .n) 64 (A .apart .count)) (A .low)
+        (ap₂ _||_ (A .apart .no-crossing)
+        (ap (λ m. namesOther (inGroup word g) m o) (A .apart .count) ∙ A .own))
+        ∙ masked-number word g u (A .apart) o O (A .own))
+
+  -- a copy of 64 qubits is one of n
+  pub copied-whole : (nb cs : List ℕ) (r : ℕ)
+      → record { held = record { n = 64; neighbours = nb; codes = cs }; used = r }
+      ≡ masked (inGroup word g) (record {
+        held = record { n = 64; neighbours = u .held .neighbours; codes = u .held .codes };
+        used = u .used;
+      })
+      → record { held = record { n = u .held .n; neighbours = nb; codes = cs }; used = r } ≡ masked (inGroup word g) u
+  copied-whole nb cs r = subst (λ m. record { held = record { n = m; neighbours = nb; codes = cs }; used = r }
+      ≡ masked (inGroup word g) (record {
+        held = record { n = m; neighbours = u .held .neighbours; codes = u .held .codes };
+        used = u .used;
+      })) (sym (A .apart .count))
+
+  -- the copy
+  module _ {v : UsedRecord} (copied : v ≡ masked (inGroup word g) u) where
+    pub copy-unrefused : UsedUnrefused v
+    copy-unrefused = subst UsedUnrefused (sym copied) (record { no-line = masked-passes word g u (A .apart) })
+
+    -- the call on it
+    module _ (O : GroupOp o) {r : ℕ} {nb cs : List ℕ} (C : Call (usedCall v o nb cs) r) where
+      number : r ≡ firstFitting (groupLines word g u o)
+      number = C .number ∙ ap (λ w. firstFitting (usedLinesOf w o)) copied ∙ copy-number O
+
+      pub group-refused : (r ≡ 0 → ⊥) → Call (groupCall word g u o (u .held .neighbours) (u .held .codes)) r
+      group-refused h = refused _ number h (refl, (refl, tt))
+
+      -- accepted, the group's vertices are put back
+      both-put : {nb′ cs′ : List ℕ}
+          → PutBack (inGroup word g) nb cs (u .held .neighbours) (u .held .codes) nb′ cs′
+          → EachOf HoldsAnswer (groupLent word g u o nb′ cs′)
+      both-put P =
+          let L = left-by-call (masked (inGroup word g) u) o (subst (λ w. Call (usedCall w o nb cs) r) copied C) in (
+            P .neighbours ∙ ap₂ (λ m w. tabulate m (λ q. cond (inGroup word g q) (getD w q 0)
+                (getD (u .held .neighbours) q 0))) (sym (A .apart .count)) (L .0),
+            (
+              P .codes ∙ ap₂ (λ m w. tabulate m (λ q. cond (inGroup word g q) (getD w q 0)
+                  (getD (u .held .codes) q 0))) (sym (A .apart .count)) (L .1),
+              tt,
+            ),
+          )
+
+      pub group-done : r ≡ 0 → {nb′ cs′ : List ℕ}
+          → PutBack (inGroup word g) nb cs (u .held .neighbours) (u .held .codes) nb′ cs′
+          → Call (groupCall word g u o nb′ cs′) 0
+      group-done z P = done _ number z (both-put P)
+
+-- ---- a measurement
+module _ (word g : ℕ) (u : UsedRecord) (pauli q b : ℕ) (A : Admitted word g u (measurementOf pauli q b))
+    {v : UsedRecord} (copied : v ≡ masked (inGroup word g) u) {answer determined r : ℕ} {nb cs : List ℕ}
+    {own answer′ determined′ : ℕ}
+    (C : Call (usedMeasureCall v pauli q b answer determined nb cs own answer′ determined′) r) where
+  -- without the further answers
+  on-record : Call (usedCall v (measurementOf pauli q b) nb cs) r
+  on-record = record { number = C .number; held = C .held .1 .1 .1 }
+
+  measured-number : r ≡ firstFitting (groupLines word g u (measurementOf pauli q b))
+  measured-number = number word g u (measurementOf pauli q b) A copied (measure-op pauli q b) on-record
+
+  pub measure-refused : (r ≡ 0 → ⊥) → Call (groupMeasureCall word g u pauli q b answer determined
+      (u .held .neighbours) (u .held .codes) (u .used) answer′ determined′) r
+  measure-refused h =
+      let K = kept-all C h in
+      refused _ measured-number h (refl, (K .1 .0, (K .1 .1 .0, (refl, (refl, tt)))))
+
+  -- accepted: the outcome is that of the whole record
+  module _ (z : r ≡ 0) where
+    on-copy : Call (usedMeasureCall (masked (inGroup word g) u) pauli q b answer determined nb cs own answer′
+        determined′) r
+    on-copy = subst (λ w. Call (usedMeasureCall w pauli q b answer determined nb cs own answer′ determined′) r) copied C
+
+    same-answer : measuredAnswer ((masked (inGroup word g) u) .held) pauli q b ≡ measuredAnswer (u .held) pauli q b
+    same-answer = sym (masked-answer word g u (A .apart) pauli q b (A .own)
+        (masked-number word g u (A .apart) (measurementOf pauli q b) (measure-op pauli q b) (A .own)
+        ∙ sym (on-copy .number) ∙ z))
+
+    pub measure-done : {nb′ cs′ : List ℕ} {used′ : ℕ}
+        → PutBack (inGroup word g) nb cs (u .held .neighbours) (u .held .codes) nb′ cs′
+        → used′ ≡ wordOf 64 (λ t. cond (inGroup word g t) (bit own t) (bit (u .used) t))
+        → Call (groupMeasureCall word g u pauli q b answer determined nb′ cs′ used′ answer′ determined′) 0
+    measure-done P eu =
+        let W = written-all on-copy z in
+        done _ measured-number z (
+          eu ∙ ap₂ (λ m w. wordOf m (λ t. cond (inGroup word g t) (bit w t) (bit (u .used) t)))
+              (sym (A .apart .count)) (marked-by-call (masked (inGroup word g) u) pauli q b on-copy),
+          (
+            W .1 .0 ∙ ap outcomeNumber same-answer,
+            (
+              W .1 .1 .0 ∙ ap determinedNumber same-answer,
+              both-put word g u (measurementOf pauli q b) A copied (measure-op pauli q b) on-record P,
+            ),
+          ),
+        )

@@ -1,0 +1,2 @@
+pub mod EarlyNumbers
+pub mod GroupCalls

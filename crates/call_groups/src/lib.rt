@@ -1,0 +1,415 @@
+// The public calls of a group on a shared record: gate, cz, measurement, complementation. Each works on a copy in which
+// the other group's vertices stand alone in +Z, and puts the group's own vertices back.
+use call_complement::complement_known;
+use call_gates::cz_known;
+use call_gates::gate_known;
+use call_gates::is_used;
+use call_measure::measure_known;
+use groups_masks::crosses;
+use groups_masks::mask;
+use groups_masks::mask_used;
+use groups_masks::merge;
+use groups_masks::merge_used;
+use groups_masks::own_word;
+use used_checks::used_refusal;
+ghost use mathlib.Core.Bool.{cond};
+ghost use mathlib.Core.Path.{_≡_};
+ghost use lib.ListN.{length};
+ghost use Rattle.buffers.specs.Refusals.{firstFitting};
+ghost use Rattle.contracts.specs.Calls.{Call};
+ghost use Rattle.groups.specs.GroupLines.{outsider};
+ghost use Rattle.groups.specs.Masks.{inGroup, masked};
+ghost use Rattle.operations.specs.Steps.{complementOf, czOn, gateWith, measurementOf};
+ghost use Rattle.words.specs.Bits.{bit, wordOf};
+ghost use Rattle.call_groups.specs.GroupCalls.{groupCall, groupMeasureCall};
+ghost use Rattle.call_groups.specs.internal.BeforeEight.{Admitted, PutBack, beforeEight};
+
+// Whether a qubit of the record is in the other group: bit q of the word is qubit q's group.
+fn outside(n: u64, word: u64, group: u8, qubit: u64) -> bool
+    ensures { λ r. ⌜ r ≡ outsider (inGroup word group) n qubit ⌝ }
+{
+    (qubit < n) & (is_used(word, qubit) != (group == 1))
+}
+
+// The number of the first line before 8 that holds; `six`: line 6 holds of a further argument; `other`: the call names
+// a qubit of the other group.
+fn group_refusal(
+    n: u64,
+    word: u64,
+    group: u8,
+    neighbours: &[u64],
+    codes: &[u8],
+    used: u64,
+    six: bool,
+    other: bool,
+) -> u8
+    ensures { λ r. ⌜ r ≡ firstFitting (beforeEight word group (record {
+      held = record { n = n; neighbours = now (neighbours .entry); codes = now (codes .entry) };
+      used = used;
+    }) six other) ⌝ }
+{
+    if n != 64 {
+        return 2;
+    }
+    let early = used_refusal(n, neighbours, codes, used, 0, false, six | (1 < group));
+    if early != 0 {
+        return early;
+    }
+    if crosses(word, neighbours) | other {
+        19
+    } else {
+        0
+    }
+}
+
+// Copies the group's vertices, the others alone in +Z; answers the group's used qubits.
+fn take_group(
+    word: u64,
+    group: u8,
+    neighbours: &[u64],
+    codes: &[u8],
+    used: u64,
+    words: &mut [u64],
+    bytes: &mut [u8],
+) -> u64
+    requires { ⌜ (length (now neighbours) ≡ 64) × (length (now codes) ≡ 64) ⌝ }
+    requires { ⌜ (length (now words) ≡ 64) × (length (now bytes) ≡ 64) ⌝ }
+    ensures { λ r. ⌜ record {
+      held = record { n = 64; neighbours = now (words .exit); codes = now (bytes .exit) };
+      used = r;
+    } ≡ masked (inGroup word group) (record {
+      held = record { n = 64; neighbours = now (neighbours .entry); codes = now (codes .entry) };
+      used = used;
+    }) ⌝ }
+{
+    let own = own_word(word, group);
+    mask(own, neighbours, codes, words, bytes);
+    mask_used(own, used)
+}
+
+// Puts the group's vertices of a copy into the record; the others stay.
+fn put_group(
+    word: u64,
+    group: u8,
+    words: &[u64],
+    bytes: &[u8],
+    neighbours: &mut [u64],
+    codes: &mut [u8],
+)
+    requires { ⌜ (length (now words) ≡ 64) × (length (now bytes) ≡ 64) ⌝ }
+    requires { ⌜ (length (now neighbours) ≡ 64) × (length (now codes) ≡ 64) ⌝ }
+    ensures { λ r. ⌜ PutBack (inGroup word group) (now (words .entry)) (now (bytes .entry))
+        (now (neighbours .entry)) (now (codes .entry)) (now (neighbours .exit)) (now (codes .exit)) ⌝ }
+{
+    let own = own_word(word, group);
+    merge(own, words, bytes, neighbours, codes);
+}
+
+// The used qubits `new` of the group, and `used` of the other.
+fn put_used(word: u64, group: u8, new: u64, used: u64) -> u64
+    ensures { λ r. ⌜ r ≡ wordOf 64 (λ q. cond (inGroup word group q) (bit new q) (bit used q)) ⌝ }
+{
+    merge_used(own_word(word, group), new, used)
+}
+
+// A gate of a call that is admitted, on the copy; `words` and `bytes` have room for it.
+fn gate_within(
+    n: u64,
+    word: u64,
+    group: u8,
+    neighbours: &mut [u64],
+    codes: &mut [u8],
+    used: u64,
+    qubit: u64,
+    code: u8,
+    words: &mut [u64],
+    bytes: &mut [u8],
+) -> u8
+    requires { ⌜ Admitted word group (record {
+      held = record { n = n; neighbours = now neighbours; codes = now codes };
+      used = used;
+    }) (gateWith qubit code) ⌝ }
+    requires { ⌜ (length (now words) ≡ 64) × (length (now bytes) ≡ 64) ⌝ }
+    ensures { λ r. ⌜ Call (groupCall word group (record {
+      held = record { n = n; neighbours = now (neighbours .entry); codes = now (codes .entry) };
+      used = used;
+    }) (gateWith qubit code) (now (neighbours .exit)) (now (codes .exit))) r ⌝ }
+{
+    let own_used = take_group(word, group, neighbours, codes, used, words, bytes);
+    let number = gate_known(n, words, bytes, own_used, qubit, code, true);
+    if number != 0 {
+        return number;
+    }
+    put_group(word, group, words, bytes, neighbours, codes);
+    0
+}
+
+// A code applied after the code held at a qubit of the group, and the group's vertices reduced.
+pub fn gate(
+    n: u64,
+    word: u64,
+    group: u8,
+    neighbours: &mut [u64],
+    codes: &mut [u8],
+    used: u64,
+    qubit: u64,
+    code: u8,
+) -> u8
+    ensures { λ r. ⌜ Call (groupCall word group (record {
+      held = record { n = n; neighbours = now (neighbours .entry); codes = now (codes .entry) };
+      used = used;
+    }) (gateWith qubit code) (now (neighbours .exit)) (now (codes .exit))) r ⌝ }
+{
+    let other = outside(n, word, group, qubit);
+    let early = group_refusal(n, word, group, neighbours, codes, used, 24 <= code, other);
+    if early != 0 {
+        return early;
+    }
+    let mut words = [0u64; 64];
+    let mut bytes = [0u8; 64];
+    gate_within(
+        n,
+        word,
+        group,
+        neighbours,
+        codes,
+        used,
+        qubit,
+        code,
+        &mut words[..64],
+        &mut bytes[..64],
+    )
+}
+
+// CZ of a call that is admitted, on the copy; `words` and `bytes` have room for it.
+fn cz_within(
+    n: u64,
+    word: u64,
+    group: u8,
+    neighbours: &mut [u64],
+    codes: &mut [u8],
+    used: u64,
+    a: u64,
+    b: u64,
+    words: &mut [u64],
+    bytes: &mut [u8],
+) -> u8
+    requires { ⌜ Admitted word group (record {
+      held = record { n = n; neighbours = now neighbours; codes = now codes };
+      used = used;
+    }) (czOn a b) ⌝ }
+    requires { ⌜ (length (now words) ≡ 64) × (length (now bytes) ≡ 64) ⌝ }
+    ensures { λ r. ⌜ Call (groupCall word group (record {
+      held = record { n = n; neighbours = now (neighbours .entry); codes = now (codes .entry) };
+      used = used;
+    }) (czOn a b) (now (neighbours .exit)) (now (codes .exit))) r ⌝ }
+{
+    let own_used = take_group(word, group, neighbours, codes, used, words, bytes);
+    let number = cz_known(n, words, bytes, own_used, a, b, true);
+    if number != 0 {
+        return number;
+    }
+    put_group(word, group, words, bytes, neighbours, codes);
+    0
+}
+
+// CZ on two qubits of the group, and the group's vertices reduced.
+pub fn cz(
+    n: u64,
+    word: u64,
+    group: u8,
+    neighbours: &mut [u64],
+    codes: &mut [u8],
+    used: u64,
+    a: u64,
+    b: u64,
+) -> u8
+    ensures { λ r. ⌜ Call (groupCall word group (record {
+      held = record { n = n; neighbours = now (neighbours .entry); codes = now (codes .entry) };
+      used = used;
+    }) (czOn a b) (now (neighbours .exit)) (now (codes .exit))) r ⌝ }
+{
+    let other = outside(n, word, group, a) | outside(n, word, group, b);
+    let early = group_refusal(n, word, group, neighbours, codes, used, false, other);
+    if early != 0 {
+        return early;
+    }
+    let mut words = [0u64; 64];
+    let mut bytes = [0u8; 64];
+    cz_within(
+        n,
+        word,
+        group,
+        neighbours,
+        codes,
+        used,
+        a,
+        b,
+        &mut words[..64],
+        &mut bytes[..64],
+    )
+}
+
+// Local complementation of a call that is admitted, on the copy; `words` and `bytes` have room for it.
+fn complement_within(
+    n: u64,
+    word: u64,
+    group: u8,
+    neighbours: &mut [u64],
+    codes: &mut [u8],
+    used: u64,
+    a: u64,
+    words: &mut [u64],
+    bytes: &mut [u8],
+) -> u8
+    requires { ⌜ Admitted word group (record {
+      held = record { n = n; neighbours = now neighbours; codes = now codes };
+      used = used;
+    }) (complementOf a) ⌝ }
+    requires { ⌜ (length (now words) ≡ 64) × (length (now bytes) ≡ 64) ⌝ }
+    ensures { λ r. ⌜ Call (groupCall word group (record {
+      held = record { n = n; neighbours = now (neighbours .entry); codes = now (codes .entry) };
+      used = used;
+    }) (complementOf a) (now (neighbours .exit)) (now (codes .exit))) r ⌝ }
+{
+    let own_used = take_group(word, group, neighbours, codes, used, words, bytes);
+    let number = complement_known(n, words, bytes, own_used, a, true);
+    if number != 0 {
+        return number;
+    }
+    put_group(word, group, words, bytes, neighbours, codes);
+    0
+}
+
+// Local complementation at a vertex of the group; the record is not reduced.
+pub fn complement(
+    n: u64,
+    word: u64,
+    group: u8,
+    neighbours: &mut [u64],
+    codes: &mut [u8],
+    used: u64,
+    a: u64,
+) -> u8
+    ensures { λ r. ⌜ Call (groupCall word group (record {
+      held = record { n = n; neighbours = now (neighbours .entry); codes = now (codes .entry) };
+      used = used;
+    }) (complementOf a) (now (neighbours .exit)) (now (codes .exit))) r ⌝ }
+{
+    let other = outside(n, word, group, a);
+    let early = group_refusal(n, word, group, neighbours, codes, used, false, other);
+    if early != 0 {
+        return early;
+    }
+    let mut words = [0u64; 64];
+    let mut bytes = [0u8; 64];
+    complement_within(
+        n,
+        word,
+        group,
+        neighbours,
+        codes,
+        used,
+        a,
+        &mut words[..64],
+        &mut bytes[..64],
+    )
+}
+
+// A measurement of a call that is admitted, on the copy; `words` and `bytes` have room for it.
+fn measure_within(
+    n: u64,
+    word: u64,
+    group: u8,
+    neighbours: &mut [u64],
+    codes: &mut [u8],
+    used: &mut u64,
+    pauli: u8,
+    qubit: u64,
+    outcome: u8,
+    answer: &mut u8,
+    determined: &mut u8,
+    words: &mut [u64],
+    bytes: &mut [u8],
+) -> u8
+    requires { ⌜ Admitted word group (record {
+      held = record { n = n; neighbours = now neighbours; codes = now codes };
+      used = now used;
+    }) (measurementOf pauli qubit outcome) ⌝ }
+    requires { ⌜ (length (now words) ≡ 64) × (length (now bytes) ≡ 64) ⌝ }
+    ensures { λ r. ⌜ Call (groupMeasureCall word group (record {
+      held = record { n = n; neighbours = now (neighbours .entry); codes = now (codes .entry) };
+      used = now (used .entry);
+    }) pauli qubit outcome (now (answer .entry)) (now (determined .entry))
+        (now (neighbours .exit)) (now (codes .exit)) (now (used .exit)) (now (answer .exit))
+        (now (determined .exit))) r ⌝ }
+{
+    let whole = *used;
+    let mut own_used = take_group(word, group, neighbours, codes, whole, words, bytes);
+    let number = measure_known(
+        n,
+        words,
+        bytes,
+        &mut own_used,
+        pauli,
+        qubit,
+        outcome,
+        answer,
+        determined,
+        true,
+    );
+    if number != 0 {
+        return number;
+    }
+    put_group(word, group, words, bytes, neighbours, codes);
+    *used = put_used(word, group, own_used, whole);
+    0
+}
+
+// A Pauli measured at a qubit of the group: the outcome, whether it was determined, the group's vertices reduced, and
+// the qubit marked as used.
+pub fn measure(
+    n: u64,
+    word: u64,
+    group: u8,
+    neighbours: &mut [u64],
+    codes: &mut [u8],
+    used: &mut u64,
+    pauli: u8,
+    qubit: u64,
+    outcome: u8,
+    answer: &mut u8,
+    determined: &mut u8,
+) -> u8
+    ensures { λ r. ⌜ Call (groupMeasureCall word group (record {
+      held = record { n = n; neighbours = now (neighbours .entry); codes = now (codes .entry) };
+      used = now (used .entry);
+    }) pauli qubit outcome (now (answer .entry)) (now (determined .entry))
+        (now (neighbours .exit)) (now (codes .exit)) (now (used .exit)) (now (answer .exit))
+        (now (determined .exit))) r ⌝ }
+{
+    let other = outside(n, word, group, qubit);
+    let six = (2 <= outcome) | ((pauli == 0) | (4 <= pauli));
+    let whole = *used;
+    let early = group_refusal(n, word, group, neighbours, codes, whole, six, other);
+    if early != 0 {
+        return early;
+    }
+    let mut words = [0u64; 64];
+    let mut bytes = [0u8; 64];
+    measure_within(
+        n,
+        word,
+        group,
+        neighbours,
+        codes,
+        used,
+        pauli,
+        qubit,
+        outcome,
+        answer,
+        determined,
+        &mut words[..64],
+        &mut bytes[..64],
+    )
+}

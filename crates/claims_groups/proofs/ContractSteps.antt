@@ -1,0 +1,185 @@
+-- What the contract of each group call says is the step of a run.
+use mathlib.Core.Bool.{_&&_, Bool, cond, false, true}
+use mathlib.Core.List.{List, [], _∷_}
+use mathlib.Core.Path.{ap, ap₂, refl, sym, _∙_, _≡_}
+use Prim.Native.Nat.{_^_, ℕ}
+use lib.Dec.{eqb}
+use borrow.Author.Tests.{eqb-true, leb-false}
+use Rattle.buffers.specs.Buffers.{accepted, acceptedNumber}
+use Rattle.buffers.specs.Refusals.{firstFitting}
+use Rattle.call_groups.specs.GroupCalls.{groupCall, groupMeasureCall}
+use Rattle.contracts.specs.Calls.{Call}
+use Rattle.groups.proofs.GroupPassing.{group-accepted}
+use Rattle.groups.proofs.MaskedRecords.{apart-stray}
+use Rattle.groups.proofs.Merging.{word-cong}
+use Rattle.groups.specs.GroupLines.{groupAfter, groupLines}
+use Rattle.groups.specs.GroupStores.{groupForgotten, groupReturned, groupSaved}
+use Rattle.groups.specs.Masks.{inGroup, masked}
+use Rattle.groups.specs.internal.Apart.{Apart}
+use Rattle.operations.specs.Measurement.{determinedNumber, outcomeNumber}
+use Rattle.operations.specs.Steps.{Operation, complementOf, czOn, gateWith, leaves, measuredAnswer, measurementOf}
+use Rattle.store.specs.Places.{Store}
+use Rattle.used.specs.Used.{UsedRecord, usedAfter, usedLinesOf, usedStep}
+use Rattle.words.proofs.BitLaws.{bit-wordOf, wordOf-bit}
+use Rattle.words.specs.Bits.{Word, bit}
+use Rattle.claims_groups.specs.GroupContracts.{ContractsAreSteps, withRecord, withStore}
+use Rattle.claims_groups.specs.GroupRuns.{
+  SharedState,
+  groupForget,
+  groupMeasure,
+  groupReturn,
+  groupSave,
+  measuredNumbers,
+  sharedMeasured,
+  sharedNumber,
+}
+
+-- ---- an accepted gate, cz or complementation keeps the used word
+module _ (word g : ℕ) (u : UsedRecord) (o : Operation) (copies : (v : UsedRecord) → usedAfter v o ≡ v .used) where
+  abbrev s : Word
+  s = inGroup word g
+
+  own-used : (usedStep (masked s u) o) .after .used ≡ (masked s u) .used
+  own-used = go (eqb (firstFitting (usedLinesOf (masked s u) o)) 0)
+    where
+      go : (b : Bool) → (cond b (record { held = leaves ((masked s u) .held) o; used = usedAfter (masked s u) o })
+          (masked s u)) .used ≡ (masked s u) .used
+      go true = copies (masked s u)
+      go false = refl
+
+  pub used-kept : Apart word u → (groupAfter word g u o) .used ≡ u .used
+  used-kept H =
+      word-cong (u .held .n) _ (bit (u .used)) (λ q l.
+      ap (λ b. cond (s q) b (bit (u .used) q)) (ap (λ w. bit w q) own-used ∙ bit-wordOf (u .held .n) _ q l)
+      ∙ either (s q) (bit (u .used) q))
+      ∙ wordOf-bit (u .held .n) (u .used) (leb-false (2 ^ (u .held .n)) (u .used) (apart-stray word u H))
+    where
+      either : (b x : Bool) → cond b (b && x) x ≡ x
+      either true x = refl
+      either false x = refl
+
+-- ---- buffers and numbers that hold the answer, or what they held
+module _ (s : SharedState) (N r : ℕ) (number : r ≡ N) where
+  record-step : (v : UsedRecord) → s .current .held .n ≡ v .held .n → (nb′ cs′ : List ℕ) (used′ : ℕ) →
+      nb′ ≡ accepted r (v .held .neighbours) (s .current .held .neighbours) →
+      cs′ ≡ accepted r (v .held .codes) (s .current .held .codes) →
+      used′ ≡ acceptedNumber r (v .used) (s .current .used) →
+      withRecord s nb′ cs′ used′ ≡ cond (eqb N 0) (record { current = v; store = s .store }) s
+  record-step v e nb′ cs′ used′ a b c =
+      (λ j. withRecord s ((a ∙ ap (λ m. accepted m (v .held .neighbours) (s .current .held .neighbours)) number) j)
+      ((b ∙ ap (λ m. accepted m (v .held .codes) (s .current .held .codes)) number) j)
+      ((c ∙ ap (λ m. acceptedNumber m (v .used) (s .current .used)) number) j))
+      ∙ go (eqb N 0)
+    where
+      go : (f : Bool) → withRecord s (cond f (v .held .neighbours) (s .current .held .neighbours))
+          (cond f (v .held .codes) (s .current .held .codes)) (cond f (v .used) (s .current .used))
+          ≡ cond f (record { current = v; store = s .store }) s
+      go true = λ j. record {
+        current = record {
+          held = record { n = e j; neighbours = v .held .neighbours; codes = v .held .codes };
+          used = v .used;
+        };
+        store = s .store;
+      }
+      go false = refl
+
+  store-step : (w : Store) (heads′ nb′ cs′ : List ℕ) → heads′ ≡ accepted r (w .heads) (s .store .heads) →
+      nb′ ≡ accepted r (w .neighbours) (s .store .neighbours) → cs′ ≡ accepted r (w .codes) (s .store .codes) →
+      withStore s heads′ nb′ cs′ ≡ cond (eqb N 0) (record { current = s .current; store = w }) s
+  store-step w heads′ nb′ cs′ a b c =
+      (λ j. withStore s ((a ∙ ap (λ m. accepted m (w .heads) (s .store .heads)) number) j)
+      ((b ∙ ap (λ m. accepted m (w .neighbours) (s .store .neighbours)) number) j)
+      ((c ∙ ap (λ m. accepted m (w .codes) (s .store .codes)) number) j))
+      ∙ go (eqb N 0)
+    where
+      go : (f : Bool) → withStore s (cond f (w .heads) (s .store .heads))
+          (cond f (w .neighbours) (s .store .neighbours))
+          (cond f (w .codes) (s .store .codes)) ≡ cond f (record { current = s .current; store = w }) s
+      go true = refl
+      go false = refl
+
+-- a gate, a cz or a complementation
+module _ (word g : ℕ) (s : SharedState) (o : Operation) (copies : (v : UsedRecord) → usedAfter v o ≡ v .used) (r : ℕ)
+    (nb′ cs′ : List ℕ) (C : Call (groupCall word g (s .current) o nb′ cs′) r) where
+  used-same : s .current .used ≡ acceptedNumber r ((groupAfter word g (s .current) o) .used) (s .current .used)
+  used-same = go (eqb r 0) (eqb-true r 0)
+    where
+      go : (b : Bool) → (b ≡ true → r ≡ 0) →
+          s .current .used ≡ cond b ((groupAfter word g (s .current) o) .used) (s .current .used)
+      go true z = sym (used-kept word g (s .current) o copies
+          (group-accepted word g (s .current) o (sym (C .number) ∙ z refl)))
+      go false z = refl
+
+  operation-step : withRecord s nb′ cs′ (s .current .used)
+      ≡ cond (eqb (firstFitting (groupLines word g (s .current) o)) 0)
+      (record { current = groupAfter word g (s .current) o; store = s .store }) s
+  operation-step = record-step s (firstFitting (groupLines word g (s .current) o)) r (C .number)
+      (groupAfter word g (s .current) o) refl nb′ cs′ (s .current .used) (C .held .0) (C .held .1 .0) used-same
+
+-- a refused call keeps a buffer, and one that answers what was there keeps it too
+kept-buffer : (r : ℕ) (buffer : List ℕ) → buffer ≡ accepted r buffer buffer
+kept-buffer r buffer = go (eqb r 0)
+  where
+    go : (b : Bool) → buffer ≡ cond b buffer buffer
+    go true = refl
+    go false = refl
+
+-- the numbers of an accepted measurement
+told : (word g : ℕ) (s : SharedState) (pauli q b answer determined r : ℕ) (nb′ cs′ : List ℕ)
+    (used′ answer′ determined′ : ℕ) →
+    Call (groupMeasureCall word g (s .current) pauli q b answer determined nb′ cs′ used′ answer′ determined′) r →
+    r ≡ 0 →
+    answer′ ∷ determined′ ∷ [] ≡ sharedMeasured word g s (groupMeasure pauli q b)
+told word g s pauli q b answer determined r nb′ cs′ used′ answer′ determined′ C z =
+    let o = measuredAnswer (s .current .held) pauli q b in
+    ap₂ (λ x y. x ∷ y ∷ []) (C .held .1 .0 ∙ ap (λ m. acceptedNumber m (outcomeNumber o) answer) z)
+    (C .held .1 .1 .0 ∙ ap (λ m. acceptedNumber m (determinedNumber o) determined) z)
+    ∙ sym (ap (λ m. cond (eqb m 0) (measuredNumbers s (groupMeasure pauli q b)) []) (sym (C .number) ∙ z))
+
+pub contracts-are-steps : ContractsAreSteps
+contracts-are-steps =
+    record {
+      gate = λ word g s q k r nb′ cs′ C. record {
+        number = C .number;
+        state = operation-step word g s (gateWith q k) (λ v. refl) r nb′ cs′ C;
+      };
+      cz = λ word g s a b r nb′ cs′ C. record {
+        number = C .number;
+        state = operation-step word g s (czOn a b) (λ v. refl) r nb′ cs′ C;
+      };
+      complement = λ word g s a r nb′ cs′ C. record {
+        number = C .number;
+        state = operation-step word g s (complementOf a) (λ v. refl) r nb′ cs′ C;
+      };
+      measure = λ word g s pauli q b answer determined r nb′ cs′ used′ answer′ determined′ C. (
+        record {
+          number = C .number;
+          state = record-step s (sharedNumber word g s (groupMeasure pauli q b)) r (C .number)
+              (groupAfter word g (s .current) (measurementOf pauli q b)) refl nb′ cs′ used′ (C .held .1 .1 .1 .0)
+              (C .held .1 .1 .1 .1 .0) (C .held .0);
+        },
+        told word g s pauli q b answer determined r nb′ cs′ used′ answer′ determined′ C,
+      );
+      save = λ word g s name r heads′ nb′ cs′ C. record {
+        number = C .number;
+        state = store-step s (sharedNumber word g s (groupSave name)) r (C .number)
+            (groupSaved word g (s .current) name (s .store)) heads′ nb′ cs′ (C .held .0) (C .held .1 .0)
+            (C .held .1 .1 .0);
+      };
+      return-to = λ word g s name r nb′ cs′ used′ C. record {
+        number = C .number;
+        state = record-step s (sharedNumber word g s (groupReturn name)) r (C .number)
+            (groupReturned word g (s .current) name (s .store)) refl nb′ cs′ used′ (C .held .0) (C .held .1 .0)
+            (C .held .1 .1 .0);
+      };
+      forget = λ word g s name r heads′ C. record {
+        number = C .number;
+        state = store-step s (sharedNumber word g s (groupForget name)) r (C .number)
+            (record {
+              heads = groupForgotten g name (s .store);
+              neighbours = s .store .neighbours;
+              codes = s .store .codes;
+            }) heads′ (s .store .neighbours) (s .store .codes) (C .held .0) (kept-buffer r (s .store .neighbours))
+            (kept-buffer r (s .store .codes));
+      };
+    }

@@ -1,0 +1,227 @@
+-- What each call of a group leaves: the other group's vertices and places stay, and under the group's names is held
+-- what a save and a forget say; 17 and 18.
+use mathlib.Core.Bool.{Bool, cond, false, not, true}
+use mathlib.Core.List.{List}
+use mathlib.Core.Path.{ap, refl, subst, sym, _∙_, _≡_}
+use Prim.Native.Nat.{_*_, _+_, _<_, ℕ}
+use borrow.Author.Tests.{not-true}
+use native.Mathlib.Omega.{arith}
+use Rattle.buffers.proofs.Tabulate.{tabulate-length}
+use Rattle.buffers.specs.Refusals.{firstFitting}
+use Rattle.call_groups.specs.GroupCalls.{groupCall}
+use Rattle.contracts.proofs.Fitting.{decides, fits-at, is-first, none-fits-of, skips}
+use Rattle.contracts.specs.Answers.{here}
+use Rattle.contracts.specs.Calls.{Call}
+use Rattle.groups.proofs.GroupPassing.{group-accepted}
+use Rattle.groups.proofs.MaskedRecords.{masked-passes}
+use Rattle.groups.proofs.MergedPasses.{group-apart, merged-apart}
+use Rattle.groups.proofs.Merging.{merged-code, merged-used, merged-word}
+use Rattle.groups.proofs.OwnPlaces.{EightLong, freed-other-heads, freed-own-heads, placed-other-places}
+use Rattle.groups.proofs.SharedLines.{
+  named-count,
+  named-held,
+  named-inside,
+  named-passes,
+  named-place,
+  named-shared,
+  save-place,
+  save-shared,
+  shared-apart,
+  shared-fits,
+  shared-group,
+  shared-long,
+}
+use Rattle.groups.specs.GroupLines.{groupAfter, groupLines}
+use Rattle.groups.specs.GroupStores.{
+  groupForgotten,
+  groupNamedLines,
+  groupReturned,
+  groupSaveLines,
+  groupSaved,
+  ownPlaces,
+  sharedLines,
+}
+use Rattle.groups.specs.Masks.{inGroup, masked, merged, reachesOut}
+use Rattle.groups.specs.internal.Apart.{Apart, GroupOp, complement-op, cz-op, gate-op, measure-op}
+use Rattle.operations.specs.Steps.{Operation, complementOf, czOn, gateWith, measurementOf}
+use Rattle.store.proofs.ForgottenNames.{forgotten-lookup, held-lookup}
+use Rattle.store.proofs.Lookups.{found-nowhere, saved-lookup}
+use Rattle.store.specs.Kept.{savePlace}
+use Rattle.store.specs.Places.{Store, found, holdsName, lookup, nothing, placeAt, placeOf}
+use Rattle.used.specs.Used.{UsedRecord, usedAfter, usedLines, usedStep}
+use Rattle.claims_groups.proofs.ContractSteps.{used-kept}
+use Rattle.claims_groups.proofs.OwnCalls.{held-place, returned-left, saved-left}
+use Rattle.claims_groups.specs.GroupKeeps.{
+  GroupCallsKeep,
+  GroupForgetKeeps,
+  GroupForgetsKeep,
+  GroupFull,
+  GroupKeeps,
+  GroupNamesRefused,
+  GroupNotHeld,
+  GroupReturnGives,
+  GroupReturnsGive,
+  GroupSaveKeeps,
+  GroupSavesKeep,
+  recordLeft,
+}
+
+-- ---- vertices put back into a record with the groups apart
+merged-keeps : (word g : ℕ) (a u : UsedRecord) → Apart word u → Apart word (merged (inGroup word g) a u) →
+    GroupKeeps word g u (merged (inGroup word g) a u)
+merged-keeps word g a u H B =
+    record {
+      words = λ q l h. merged-word (inGroup word g) a u q (below q l) false h;
+      codes = λ q l h. merged-code (inGroup word g) a u q (below q l) false h;
+      used = λ q l h. merged-used (inGroup word g) a u q (below q l) false h;
+      still = B .passes;
+      apart = B .no-crossing;
+    }
+  where
+    below : (q : ℕ) → q < 64 → q < u .held .n
+    below q l = subst (λ n. q < n) (sym (H .count)) l
+
+module _ (word g : ℕ) (u : UsedRecord) (o : Operation) (G : GroupOp o) (nb′ cs′ : List ℕ) (used′ : ℕ) where
+  operation-keeps : firstFitting (groupLines word g u o) ≡ 0 → nb′ ≡ (groupAfter word g u o) .held .neighbours →
+      cs′ ≡ (groupAfter word g u o) .held .codes → used′ ≡ (groupAfter word g u o) .used →
+      GroupKeeps word g u (recordLeft u nb′ cs′ used′)
+  operation-keeps z a b c = subst (GroupKeeps word g u)
+      (λ j. recordLeft u (sym a j) (sym b j) (sym c j))
+      (merged-keeps word g ((usedStep (masked (inGroup word g) u) o) .after) u (group-accepted word g u o z)
+      (group-apart word g u (group-accepted word g u o z) o G z))
+
+-- a gate, a cz or a complementation
+copying-keeps : (word g : ℕ) (u : UsedRecord) (o : Operation) → GroupOp o →
+    ((v : UsedRecord) → usedAfter v o ≡ v .used) →
+    (nb′ cs′ : List ℕ) → Call (groupCall word g u o nb′ cs′) 0 → GroupKeeps word g u (recordLeft u nb′ cs′ (u .used))
+copying-keeps word g u o G copies nb′ cs′ C = operation-keeps word g u o G nb′ cs′ (u .used) (sym (C .number))
+    (C .held .0)
+    (C .held .1 .0) (sym (used-kept word g u o copies (group-accepted word g u o (sym (C .number)))))
+
+pub group-calls-keep : GroupCallsKeep
+group-calls-keep =
+    record {
+      gate = λ word g u q k. copying-keeps word g u (gateWith q k) (gate-op q k) (λ v. refl);
+      cz = λ word g u a b. copying-keeps word g u (czOn a b) (cz-op a b) (λ v. refl);
+      complement = λ word g u a. copying-keeps word g u (complementOf a) (complement-op a) (λ v. refl);
+      measure = λ word g u pauli q b answer determined nb′ cs′ used′ answer′ determined′ C.
+          operation-keeps word g u (measurementOf pauli q b) (measure-op pauli q b) nb′ cs′ used′ (sym (C .number))
+          (C .held .1 .1 .1 .0) (C .held .1 .1 .1 .1 .0) (C .held .0);
+    }
+
+-- ---- a save
+module _ (word g : ℕ) (u : UsedRecord) (name : ℕ) (st : Store)
+    (z : firstFitting (groupSaveLines word g u name st) ≡ 0) where
+  saved-keeps : GroupSaveKeeps word g u name st (groupSaved word g u name st)
+  saved-keeps =
+      let h = save-shared word g u name st z in
+      let H = shared-apart word g u st h in
+      let L = shared-long word g u st h in
+      let lg = shared-group word g u st h in
+      let l = save-place word g u name st z in
+      record {
+        held = λ m. ap (λ own. lookup 4 own m) (saved-left word g lg u name st H L z)
+            ∙ saved-lookup 4 (ownPlaces g st) (shared-fits word g u st h .passing) (masked (inGroup word g) u)
+            (masked-passes word g u H) name l m;
+        others = λ h lh ne. placed-other-places g (savePlace 4 ((ownPlaces g st) .heads) name)
+            (masked (inGroup word g) u)
+            name st lg l (tabulate-length (u .held .n) _ ∙ H .count)
+            (tabulate-length (u .held .n) _ ∙ H .count) L h lh ne;
+      }
+
+pub group-saves-keep : GroupSavesKeep
+group-saves-keep word g u name st heads′ nb′ cs′ C = subst (GroupSaveKeeps word g u name st)
+    (λ j. record { heads = sym (C .held .0) j; neighbours = sym (C .held .1 .0) j; codes = sym (C .held .1 .1 .0) j })
+    (saved-keeps word g u name st (sym (C .number)))
+
+-- ---- a return and a forget
+module _ (word g : ℕ) (u : UsedRecord) (name : ℕ) (st : Store)
+    (z : firstFitting (groupNamedLines word g u name st) ≡ 0) where
+  abbrev own : Store
+  own = ownPlaces g st
+
+  abbrev p : ℕ
+  p = placeOf 4 ((ownPlaces g st) .heads) name
+
+  H : Apart word u
+  H = shared-apart word g u st (named-shared word g u name st z)
+
+  L : EightLong st
+  L = shared-long word g u st (named-shared word g u name st z)
+
+  lg : g < 2
+  lg = shared-group word g u st (named-shared word g u name st z)
+
+  forgotten-keeps : GroupForgetKeeps g name st
+      (record { heads = groupForgotten g name st; neighbours = st .neighbours; codes = st .codes })
+  forgotten-keeps =
+      record {
+        held = λ m. ap
+            (λ heads. lookup 4 (record { heads = heads; neighbours = own .neighbours; codes = own .codes }) m)
+            (freed-own-heads g p (named-place word g u name st z) (st .heads))
+            ∙ forgotten-lookup 4 own (shared-fits word g u st (named-shared word g u name st z) .passing) name
+            (named-held word g u name st z) m;
+        others = λ h lh ne. λ j. record {
+          heads = freed-other-heads g p (named-place word g u name st z) h ne (st .heads) j;
+          neighbours = (ownPlaces h st) .neighbours;
+          codes = (ownPlaces h st) .codes;
+        };
+      }
+
+  returned-gives : GroupReturnGives word g u name st (groupReturned word g u name st)
+  returned-gives =
+      let same = held-place word g lg u name st L z in
+      record {
+        state = placeAt own p;
+        held = held-lookup 4 own (shared-fits word g u st (named-shared word g u name st z) .passing) name
+            (named-held word g u name st z);
+        own = returned-left word g lg u name st H L z;
+        keeps = merged-keeps word g (placeAt st (4 * g + p)) u H (merged-apart word g u (placeAt st (4 * g + p)) H
+            (ap (λ v. v .held .n) same ∙ named-count word g u name st z)
+            (ap (λ v. firstFitting (usedLines v false false false)) same ∙ named-passes word g u name st z)
+            (ap (reachesOut (inGroup word g)) same ∙ named-inside word g u name st z));
+      }
+
+pub group-forgets-keep : GroupForgetsKeep
+group-forgets-keep word g u name st heads′ C = subst (GroupForgetKeeps g name st)
+    (λ j. record { heads = sym (C .held .0) j; neighbours = st .neighbours; codes = st .codes })
+    (forgotten-keeps word g u name st (sym (C .number)))
+
+pub group-returns-give : GroupReturnsGive
+group-returns-give word g u name st nb′ cs′ used′ C = subst (GroupReturnGives word g u name st)
+    (λ j. recordLeft u (sym (C .held .0) j) (sym (C .held .1 .0) j) (sym (C .held .1 .1 .0) j))
+    (returned-gives word g u name st (sym (C .number)))
+
+-- ---- 17 and 18
+module _ (word g : ℕ) (u : UsedRecord) (name : ℕ) (st : Store) where
+  nothing-held : (b : Bool) →
+      cond b (found (placeAt (ownPlaces g st) (placeOf 4 ((ownPlaces g st) .heads) name))) nothing
+      ≡ nothing → b ≡ false
+  nothing-held true e = let z : _≡_ {A = ℕ} 0 1 = cc in absurd (omega (arith, z))
+  nothing-held false e = refl
+
+  not-held : {r : ℕ} → r ≡ firstFitting (groupNamedLines word g u name st) → GroupNotHeld word g u name st r
+  not-held e = (
+    (λ z. let h = skips (sharedLines word g u st) 17 refl z (fits-at (groupNamedLines word g u name st) e) in (
+      none-fits-of (sharedLines word g u st) (h .0),
+      found-nowhere 4 (ownPlaces g st) name (not-true (holdsName 4 ((ownPlaces g st) .heads) name)
+          (is-first (h .1) refl z)),
+    )),
+    (λ h. e ∙ sym (decides (sharedLines word g u st) refl (sym (h .0)) refl
+        (here (ap not (nothing-held (holdsName 4 ((ownPlaces g st) .heads) name) (h .1)))))),
+  )
+
+  full-here : {r : ℕ} → r ≡ firstFitting (groupSaveLines word g u name st) → GroupFull word g u name st r
+  full-here e = (
+    (λ z. let h = skips (sharedLines word g u st) 18 refl z (fits-at (groupSaveLines word g u name st) e) in
+        (none-fits-of (sharedLines word g u st) (h .0), is-first (h .1) refl z)),
+    (λ h. e ∙ sym (decides (sharedLines word g u st) refl (sym (h .0)) refl (here (h .1)))),
+  )
+
+pub group-names-refused : GroupNamesRefused
+group-names-refused =
+    record {
+      save = λ word g u name st heads′ nb′ cs′ r C. full-here word g u name st (C .number);
+      return-to = λ word g u name st nb′ cs′ used′ r C. not-held word g u name st (C .number);
+      forget = λ word g u name st heads′ r C. not-held word g u name st (C .number);
+    }

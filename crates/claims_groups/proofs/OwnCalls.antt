@@ -1,0 +1,184 @@
+-- A group's own call on two states that look alike to it: the same number, the same outcome, and what is left looks
+-- alike.
+use mathlib.Core.Bool.{Bool, cond, false, not, true}
+use mathlib.Core.List.{_++_, [], _∷_}
+use mathlib.Core.Path.{ap, refl, sym, _∙_, _≡_}
+use Prim.Native.Nat.{_*_, _+_, _<_, ℕ}
+use native.Mathlib.Omega.{arith}
+use lib.Dec.{eqb, ltb}
+use lib.ListN.{set}
+use borrow.Author.Tests.{le-ltb}
+use Rattle.buffers.proofs.Tabulate.{tabulate-length}
+use Rattle.buffers.specs.Refusals.{firstFitting, line}
+use Rattle.groups.proofs.AloneNumbers.{group-alone}
+use Rattle.groups.proofs.GroupNumbers.{masked-answer}
+use Rattle.groups.proofs.GroupPassing.{group-passes}
+use Rattle.groups.proofs.Merging.{masked-merged-own}
+use Rattle.groups.proofs.OwnPlaces.{EightLong, freed-own-heads, place-own, placed-own-places}
+use Rattle.groups.proofs.SharedLines.{named-count, named-place, save-place, shared-alone}
+use Rattle.groups.specs.GroupLines.{groupAfter, groupLines}
+use Rattle.groups.specs.GroupStores.{groupNamedLines, groupReturned, groupSaveLines, groupSaved, ownPlaces}
+use Rattle.groups.specs.Masks.{inGroup, masked}
+use Rattle.groups.specs.internal.Apart.{Apart, GroupOp, complement-op, cz-op, gate-op, measure-op}
+use Rattle.operations.specs.Measurement.{determinedNumber, outcomeNumber}
+use Rattle.operations.specs.Steps.{Operation, complementOf, czOn, gateWith, leaves, measuredAnswer, measurementOf}
+use Rattle.store.specs.Kept.{savePlace, withPlace}
+use Rattle.store.specs.Places.{Store, holdsName, othersHeld, placeAt, placeOf}
+use Rattle.used.specs.Used.{UsedRecord, usedAfter, usedLinesOf, usedStep}
+use Rattle.claims_groups.proofs.Views.{Good}
+use Rattle.claims_groups.specs.GroupRuns.{
+  SharedCall,
+  SharedState,
+  groupComplement,
+  groupCz,
+  groupForget,
+  groupGate,
+  groupMeasure,
+  groupReturn,
+  groupSave,
+  measuredNumbers,
+  sharedLeft,
+  sharedNumber,
+}
+use Rattle.claims_groups.specs.GroupsDemand.{LooksAlike}
+
+-- the state that a return finds
+pub held-place : (word g : ℕ) → g < 2 → (u : UsedRecord) (name : ℕ) (st : Store) → EightLong st →
+    firstFitting (groupNamedLines word g u name st) ≡ 0 → placeAt st (4 * g + placeOf 4 ((ownPlaces g st) .heads) name)
+    ≡ placeAt (ownPlaces g st) (placeOf 4 ((ownPlaces g st) .heads) name)
+held-place word g lg u name st L z =
+    place-own g (placeOf 4 ((ownPlaces g st) .heads) name) st lg (named-place word g u name st z) L
+    (omega (arith, named-count word g u name st z))
+
+-- an operation keeps the count
+pub step-count : (u : UsedRecord) (o : Operation) → (usedStep u o) .after .held .n ≡ u .held .n
+step-count u o = go (eqb (firstFitting (usedLinesOf u o)) 0)
+  where
+    go : (b : Bool) → (cond b (record { held = leaves (u .held) o; used = usedAfter u o }) u) .held .n ≡ u .held .n
+    go true = refl
+    go false = refl
+
+-- what a group's operation leaves at its own vertices
+pub operation-left : (word g : ℕ) (u : UsedRecord) (o : Operation) → masked (inGroup word g) (groupAfter word g u o)
+    ≡ masked (inGroup word g) ((usedStep (masked (inGroup word g) u) o) .after)
+operation-left word g u o = masked-merged-own (inGroup word g) ((usedStep (masked (inGroup word g) u) o) .after) u
+    (step-count (masked (inGroup word g) u) o)
+
+-- what a return leaves there
+pub returned-left : (word g : ℕ) → g < 2 → (u : UsedRecord) (name : ℕ) (st : Store) → Apart word u → EightLong st →
+    firstFitting (groupNamedLines word g u name st) ≡ 0 → masked (inGroup word g) (groupReturned word g u name st)
+    ≡ masked (inGroup word g) (placeAt (ownPlaces g st) (placeOf 4 ((ownPlaces g st) .heads) name))
+returned-left word g lg u name st H L z =
+    let p = placeOf 4 ((ownPlaces g st) .heads) name in
+    let same = held-place word g lg u name st L z in
+    masked-merged-own (inGroup word g) (placeAt st (4 * g + p)) u
+    (ap (λ v. v .held .n) same ∙ named-count word g u name st z ∙ sym (H .count))
+    ∙ ap (masked (inGroup word g)) same
+
+-- what a save leaves in its places
+pub saved-left : (word g : ℕ) → g < 2 → (u : UsedRecord) (name : ℕ) (st : Store) → Apart word u → EightLong st →
+    firstFitting (groupSaveLines word g u name st) ≡ 0 → ownPlaces g (groupSaved word g u name st)
+    ≡ withPlace (savePlace 4 ((ownPlaces g st) .heads) name) (masked (inGroup word g) u) name (ownPlaces g st)
+saved-left word g lg u name st H L z =
+    placed-own-places g (savePlace 4 ((ownPlaces g st) .heads) name) (masked (inGroup word g) u) name st lg
+    (save-place word g u name st z) (tabulate-length (u .held .n) _ ∙ H .count)
+    (tabulate-length (u .held .n) _ ∙ H .count) L
+
+module _ (word g : ℕ) (lg : g < 2) (s t : SharedState) (S : Good word s) (T : Good word t)
+    (A : LooksAlike word g s t) where
+  low : ltb 1 g ≡ false
+  low = le-ltb 1 g (omega (arith, lg))
+
+  -- ---- the number
+  operation-number : (o : Operation) → GroupOp o →
+      firstFitting (groupLines word g (s .current) o) ≡ firstFitting (groupLines word g (t .current) o)
+  operation-number o G =
+      group-alone word g (s .current) (S .apart) low o G
+      ∙ ap (λ v. firstFitting (groupLines word g v o)) (A .vertices)
+      ∙ sym (group-alone word g (t .current) (T .apart) low o G)
+
+  pub own-number : (c : SharedCall) → sharedNumber word g s c ≡ sharedNumber word g t c
+  own-number (groupGate q k) = operation-number _ (gate-op q k)
+  own-number (groupCz a b) = operation-number _ (cz-op a b)
+  own-number (groupMeasure pauli q b) = operation-number _ (measure-op pauli q b)
+  own-number (groupComplement a) = operation-number _ (complement-op a)
+  own-number (groupSave name) = λ j. firstFitting
+      (shared-alone word g (s .current) (t .current) (s .store) (t .store) (S .apart) (T .apart) (S .long) (T .long)
+      (A .places) j
+      ++ (line 18 (othersHeld 4 ((A .places j) .heads) name) ∷ []))
+  own-number (groupReturn name) = λ j. firstFitting
+      (shared-alone word g (s .current) (t .current) (s .store) (t .store) (S .apart) (T .apart) (S .long) (T .long)
+      (A .places) j
+      ++ (line 17 (not (holdsName 4 ((A .places j) .heads) name)) ∷ []))
+  own-number (groupForget name) = λ j. firstFitting
+      (shared-alone word g (s .current) (t .current) (s .store) (t .store) (S .apart) (T .apart) (S .long) (T .long)
+      (A .places) j
+      ++ (line 17 (not (holdsName 4 ((A .places j) .heads) name)) ∷ []))
+
+  -- ---- what is left
+  operation-alike : (o : Operation) → LooksAlike word g
+      (record { current = groupAfter word g (s .current) o; store = s .store })
+      (record { current = groupAfter word g (t .current) o; store = t .store })
+  operation-alike o =
+      record {
+        vertices = operation-left word g (s .current) o
+            ∙ ap (λ v. masked (inGroup word g) ((usedStep v o) .after)) (A .vertices)
+            ∙ sym (operation-left word g (t .current) o);
+        places = A .places;
+      }
+
+  pub own-left : (c : SharedCall) → sharedNumber word g s c ≡ 0 →
+      LooksAlike word g (sharedLeft word g s c) (sharedLeft word g t c)
+  own-left (groupGate q k) z = operation-alike (gateWith q k)
+  own-left (groupCz a b) z = operation-alike (czOn a b)
+  own-left (groupMeasure pauli q b) z = operation-alike (measurementOf pauli q b)
+  own-left (groupComplement a) z = operation-alike (complementOf a)
+  own-left (groupSave name) z =
+      record {
+        vertices = A .vertices;
+        places = saved-left word g lg (s .current) name (s .store) (S .apart) (S .long) z
+            ∙ (λ j. withPlace (savePlace 4 ((A .places j) .heads) name) (A .vertices j) name (A .places j))
+            ∙ sym (saved-left word g lg (t .current) name (t .store) (T .apart) (T .long)
+            (sym (own-number (groupSave name)) ∙ z));
+      }
+  own-left (groupReturn name) z =
+      record {
+        vertices = returned-left word g lg (s .current) name (s .store) (S .apart) (S .long) z
+            ∙ ap (λ own. masked (inGroup word g) (placeAt own (placeOf 4 (own .heads) name))) (A .places)
+            ∙ sym (returned-left word g lg (t .current) name (t .store) (T .apart) (T .long)
+            (sym (own-number (groupReturn name)) ∙ z));
+        places = A .places;
+      }
+  own-left (groupForget name) z =
+      record {
+        vertices = A .vertices;
+        places = λ j. record {
+          heads = (freed-own-heads g (placeOf 4 ((ownPlaces g (s .store)) .heads) name)
+              (named-place word g (s .current) name (s .store) z) (s .store .heads)
+              ∙ ap (λ own. set (own .heads) (3 * placeOf 4 (own .heads) name) 0) (A .places)
+              ∙ sym (freed-own-heads g (placeOf 4 ((ownPlaces g (t .store)) .heads) name)
+              (named-place word g (t .current) name (t .store) (sym (own-number (groupForget name)) ∙ z))
+              (t .store .heads))) j;
+          neighbours = (A .places j) .neighbours;
+          codes = (A .places j) .codes;
+        };
+      }
+
+  -- ---- the outcome
+  pub own-measured : (c : SharedCall) → sharedNumber word g s c ≡ 0 → measuredNumbers s c ≡ measuredNumbers t c
+  own-measured (groupGate q k) z = refl
+  own-measured (groupCz a b) z = refl
+  own-measured (groupMeasure pauli q b) z = ap (λ o. outcomeNumber o ∷ determinedNumber o ∷ [])
+      (alone s S z ∙ ap (λ v. measuredAnswer (v .held) pauli q b) (A .vertices)
+      ∙ sym (alone t T (sym (own-number (groupMeasure pauli q b)) ∙ z)))
+    where
+      alone : (r : SharedState) → Good word r → sharedNumber word g r (groupMeasure pauli q b) ≡ 0 →
+          measuredAnswer (r .current .held) pauli q b
+          ≡ measuredAnswer ((masked (inGroup word g) (r .current)) .held) pauli q b
+      alone r R e =
+          let P = group-passes word g (r .current) (measurementOf pauli q b) e in
+          masked-answer word g (r .current) (R .apart) pauli q b (P .own) (P .lines)
+  own-measured (groupComplement a) z = refl
+  own-measured (groupSave name) z = refl
+  own-measured (groupReturn name) z = refl
+  own-measured (groupForget name) z = refl

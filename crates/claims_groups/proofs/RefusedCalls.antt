@@ -1,0 +1,128 @@
+-- Calls on a record with an edge between the groups, and calls with the number of neither group: the number, and that
+-- nothing changes.
+use mathlib.Core.Bool.{Bool, cond, false, or-true, true, true≢false, _||_}
+use mathlib.Core.Path.{ap, refl, sym, _∙_, _≡_}
+use Prim.Native.Nat.{_<_, ℕ}
+use native.Mathlib.Omega.{arith}
+use lib.Dec.{eqb, leb, ltb}
+use borrow.Author.Tests.{lt-ltb, ne-eqb}
+use Rattle.buffers.specs.Refusals.{firstFitting}
+use Rattle.contracts.proofs.Fitting.{decides, none-holds}
+use Rattle.contracts.specs.Answers.{here}
+use Rattle.groups.proofs.GroupPassing.{group-passes}
+use Rattle.groups.specs.GroupLines.{groupLines, namesOther}
+use Rattle.groups.specs.GroupStores.{groupNamedLines, groupSaveLines, ownLines}
+use Rattle.groups.specs.Masks.{crosses, inGroup}
+use Rattle.operations.specs.Steps.{Operation, complementOf, czOn, gateWith, measurementOf}
+use Rattle.record.specs.Lent.{recordCodes}
+use Rattle.store.specs.StoreLines.{holdsLine, ofRecord}
+use Rattle.claims_groups.proofs.OtherCalls.{accepted-group}
+use Rattle.claims_groups.specs.GroupRuns.{
+  SharedCall,
+  SharedState,
+  groupComplement,
+  groupCz,
+  groupForget,
+  groupGate,
+  groupMeasure,
+  groupReturn,
+  groupSave,
+  sharedAfter,
+  sharedCallLines,
+  sharedLeft,
+  sharedNumber,
+}
+use Rattle.claims_groups.specs.GroupsDemand.{CrossingRefused, NeitherRefused, linesBefore}
+
+-- another number than 0: nothing changes
+kept : (word g : ℕ) (s : SharedState) (c : SharedCall) → (sharedNumber word g s c ≡ 0 → ⊥) → sharedAfter word g s c ≡ s
+kept word g s c h = ap (λ b. cond b (sharedLeft word g s c) s) (ne-eqb (sharedNumber word g s c) 0 h)
+
+-- ---- an edge between the groups
+module _ (word g : ℕ) (s : SharedState) (e : crosses word (s .current) ≡ true) where
+  operation-crossing : (o : Operation) →
+      (crosses word (s .current) || namesOther (inGroup word g) (s .current .held .n) o) ≡ true
+  operation-crossing o = ap (λ b. b || namesOther (inGroup word g) (s .current .held .n) o) e
+
+  operation-refused : (o : Operation) → firstFitting (groupLines word g (s .current) o) ≡ 0 → ⊥
+  operation-refused o z = true≢false (sym e ∙ group-passes word g (s .current) o z .no-crossing)
+
+  not-accepted : (c : SharedCall) → sharedNumber word g s c ≡ 0 → ⊥
+  not-accepted (groupGate q k) z = operation-refused (gateWith q k) z
+  not-accepted (groupCz a b) z = operation-refused (czOn a b) z
+  not-accepted (groupMeasure pauli q b) z = operation-refused (measurementOf pauli q b) z
+  not-accepted (groupComplement a) z = operation-refused (complementOf a) z
+  not-accepted (groupSave name) z = true≢false (sym e
+      ∙ none-holds (groupSaveLines word g (s .current) name (s .store)) refl z .1 .1 .1 .1 .1 .0)
+  not-accepted (groupReturn name) z = true≢false (sym e
+      ∙ none-holds (groupNamedLines word g (s .current) name (s .store)) refl z .1 .1 .1 .1 .1 .0)
+  not-accepted (groupForget name) z = true≢false (sym e
+      ∙ none-holds (groupNamedLines word g (s .current) name (s .store)) refl z .1 .1 .1 .1 .1 .0)
+
+  by-nineteen : (c : SharedCall) → firstFitting (linesBefore 19 (sharedCallLines word g s c)) ≡ 0 →
+      19 ≡ sharedNumber word g s c
+  by-nineteen (groupGate q k) z =
+      decides (linesBefore 19 (groupLines word g (s .current) (gateWith q k))) refl (sym z) refl
+      (here (operation-crossing (gateWith q k)))
+  by-nineteen (groupCz a b) z =
+      decides (linesBefore 19 (groupLines word g (s .current) (czOn a b))) refl (sym z) refl
+      (here (operation-crossing (czOn a b)))
+  by-nineteen (groupMeasure pauli q b) z =
+      decides (linesBefore 19 (groupLines word g (s .current) (measurementOf pauli q b))) refl (sym z) refl
+      (here (operation-crossing (measurementOf pauli q b)))
+  by-nineteen (groupComplement a) z =
+      decides (linesBefore 19 (groupLines word g (s .current) (complementOf a))) refl (sym z) refl
+      (here (operation-crossing (complementOf a)))
+  by-nineteen (groupSave name) z =
+      decides (linesBefore 19 (groupSaveLines word g (s .current) name (s .store))) refl (sym z) refl (here e)
+  by-nineteen (groupReturn name) z =
+      decides (linesBefore 19 (groupNamedLines word g (s .current) name (s .store))) refl (sym z) refl (here e)
+  by-nineteen (groupForget name) z =
+      decides (linesBefore 19 (groupNamedLines word g (s .current) name (s .store))) refl (sym z) refl (here e)
+
+pub crossing-refused : CrossingRefused
+crossing-refused word g s e c =
+    record {
+      nineteen = λ z. sym (by-nineteen word g s e c z);
+      unchanged = kept word g s c (not-accepted word g s e c);
+    }
+
+-- ---- neither group
+module _ (word g : ℕ) (above : 1 < g) (s : SharedState) where
+  six-holds : (x : Bool) → ((x || ltb 1 g) || false) ≡ true
+  six-holds x = ap (λ b. (x || b) || false) (lt-ltb 1 g above) ∙ ap (λ b. b || false) (or-true x)
+
+  -- line 6 of an operation, whose arguments have the test `six`, and that of a call on the store
+  operation-six : (six : Bool) →
+      (((((recordCodes (s .current .held) || six) || false) || false) || ltb 1 g) || false) ≡ true
+  operation-six six = six-holds (((recordCodes (s .current .held) || six) || false) || false)
+
+  store-six :
+      (((ofRecord (s .current) 6 || holdsLine 6 (ownLines (inGroup word g) g (s .store))) || ltb 1 g) || false) ≡ true
+  store-six = six-holds (ofRecord (s .current) 6 || holdsLine 6 (ownLines (inGroup word g) g (s .store)))
+
+  by-six : (c : SharedCall) → firstFitting (linesBefore 6 (sharedCallLines word g s c)) ≡ 0 → 6 ≡ sharedNumber word g s c
+  by-six (groupGate q k) z =
+      decides (linesBefore 6 (groupLines word g (s .current) (gateWith q k))) refl (sym z) refl
+      (here (operation-six (leb 24 k)))
+  by-six (groupCz a b) z =
+      decides (linesBefore 6 (groupLines word g (s .current) (czOn a b))) refl (sym z) refl (here (operation-six false))
+  by-six (groupMeasure pauli q b) z =
+      decides (linesBefore 6 (groupLines word g (s .current) (measurementOf pauli q b))) refl (sym z) refl
+      (here (operation-six (leb 2 b || (eqb pauli 0 || leb 4 pauli))))
+  by-six (groupComplement a) z =
+      decides (linesBefore 6 (groupLines word g (s .current) (complementOf a))) refl (sym z) refl
+      (here (operation-six false))
+  by-six (groupSave name) z =
+      decides (linesBefore 6 (groupSaveLines word g (s .current) name (s .store))) refl (sym z) refl (here store-six)
+  by-six (groupReturn name) z =
+      decides (linesBefore 6 (groupNamedLines word g (s .current) name (s .store))) refl (sym z) refl (here store-six)
+  by-six (groupForget name) z =
+      decides (linesBefore 6 (groupNamedLines word g (s .current) name (s .store))) refl (sym z) refl (here store-six)
+
+pub neither-refused : NeitherRefused
+neither-refused word g above s c =
+    record {
+      six = λ z. sym (by-six word g above s c z);
+      unchanged = kept word g s c (λ z. absurd (omega (arith, above, accepted-group word g s c z)));
+    }

@@ -1,0 +1,45 @@
+-- A run of both groups on 64 qubits: the refusals that group 0 sees, and the code of its qubit 0 after each of its
+-- calls.
+use mathlib.Core.List.{List, [], _∷_}
+use mathlib.Core.Path.{_≡_, refl}
+use Prim.Native.Nat.{_^_, _-_, ℕ}
+use lib.ListN.{getD}
+use Rattle.buffers.specs.Buffers.{tabulate}
+use Rattle.buffers.specs.Refusals.{firstFitting, reaching}
+use Rattle.groups.specs.Masks.{crosses, reachesOut}
+use Rattle.record.specs.Lent.{notSimple}
+use Rattle.used.specs.Used.{usedWrong}
+use Rattle.words.specs.Bits.{bit, wordOf}
+use Rattle.words.specs.Search.{every, first, some}
+use Rattle.claims_groups.specs.GroupRuns.{
+  CallOf,
+  SharedCall,
+  Observation,
+  groupComplement,
+  groupForget,
+  groupReturn,
+  groupSave,
+  observations,
+  sharedStart,
+}
+
+-- qubits 0 to 31 are of group 0, the others of group 1
+abbrev halves : ℕ
+halves = 2 ^ 64 - 2 ^ 32
+
+abbrev by : ℕ → SharedCall → CallOf
+by g c = record { group = g; call = c }
+
+abbrev calls : List CallOf
+calls =
+    by 0 (groupSave 65) ∷ by 1 (groupComplement 40) ∷ by 0 (groupComplement 0) ∷ by 1 (groupForget 65)
+    ∷ by 2 (groupSave 66) ∷ by 0 (groupComplement 40) ∷ by 0 (groupReturn 65) ∷ []
+
+-- a refusal, and the code of qubit 0 afterwards
+abbrev told : List Observation → List ℕ
+told [] = []
+told (o ∷ os) = o .refusal ∷ getD (o .vertices .held .codes) 0 0 ∷ told os
+
+pub seen-by-0 : told (observations halves 0 sharedStart calls) ≡ 0 ∷ 8 ∷ 0 ∷ 20 ∷ 19 ∷ 20 ∷ 0 ∷ 8 ∷ []
+unfolding tabulate bit wordOf some every first firstFitting reaching notSimple usedWrong crosses reachesOut
+seen-by-0 = refl

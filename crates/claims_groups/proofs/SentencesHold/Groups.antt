@@ -1,0 +1,115 @@
+-- What the documents say of the exported functions of a group, from their contracts.
+use mathlib.Core.List.{List}
+use Prim.Native.Nat.{ℕ}
+use Rattle.call_group_stores.specs.GroupStoreCalls.{groupForgetCall, groupReturnCall, groupSaveCall}
+use Rattle.call_groups.specs.GroupCalls.{groupCall, groupMeasureCall}
+use Rattle.claims.proofs.families.Groups.{groups-accepted, groups-conform}
+use Rattle.claims.proofs.families.Shared.{answered, at-zero}
+use Rattle.contracts.specs.Calls.{Call}
+use Rattle.operations.specs.Steps.{complementOf, czOn, gateWith}
+use Rattle.store.specs.Places.{Store}
+use Rattle.used.specs.Used.{UsedRecord}
+use Rattle.claims_groups.proofs.CallsStand.{group-calls-stand}
+use Rattle.claims_groups.proofs.ContractSteps.{contracts-are-steps}
+use Rattle.claims_groups.proofs.GroupKeepsHold.{
+  group-calls-keep,
+  group-forgets-keep,
+  group-names-refused,
+  group-returns-give,
+  group-saves-keep,
+}
+use Rattle.claims_groups.specs.Sentences.Groups.{
+  GroupComplementSays,
+  GroupCzSays,
+  GroupForgetSays,
+  GroupGateSays,
+  GroupMeasureSays,
+  GroupReturnSays,
+  GroupSaveSays,
+  together,
+}
+
+module _ (word g : ℕ) (u : UsedRecord) where
+  pub group-gate-says : (q k : ℕ) (nb′ cs′ : List ℕ) (r : ℕ) → Call (groupCall word g u (gateWith q k) nb′ cs′) r →
+      GroupGateSays word g u q k nb′ cs′ r
+  group-gate-says q k nb′ cs′ r C =
+      record {
+        answered = answered (groups-conform .in-place word g u (gateWith q k) nb′ cs′) C;
+        accepted = groups-accepted .gate word g u q k nb′ cs′ r C;
+        step = λ st. contracts-are-steps .gate word g (together u st) q k r nb′ cs′ C;
+        keeps = λ z. group-calls-keep .gate word g u q k nb′ cs′ (at-zero C z);
+        stands = λ z r″ nb″ cs″ W. group-calls-stand .gate word g u q k nb′ cs′ r″ nb″ cs″ (at-zero C z) W;
+      }
+
+  pub group-cz-says : (a b : ℕ) (nb′ cs′ : List ℕ) (r : ℕ) → Call (groupCall word g u (czOn a b) nb′ cs′) r →
+      GroupCzSays word g u a b nb′ cs′ r
+  group-cz-says a b nb′ cs′ r C =
+      record {
+        answered = answered (groups-conform .in-place word g u (czOn a b) nb′ cs′) C;
+        accepted = groups-accepted .cz word g u a b nb′ cs′ r C;
+        step = λ st. contracts-are-steps .cz word g (together u st) a b r nb′ cs′ C;
+        keeps = λ z. group-calls-keep .cz word g u a b nb′ cs′ (at-zero C z);
+        stands = λ z r″ nb″ cs″ W. group-calls-stand .cz word g u a b nb′ cs′ r″ nb″ cs″ (at-zero C z) W;
+      }
+
+  pub group-complement-says : (a : ℕ) (nb′ cs′ : List ℕ) (r : ℕ) → Call (groupCall word g u (complementOf a) nb′ cs′) r →
+      GroupComplementSays word g u a nb′ cs′ r
+  group-complement-says a nb′ cs′ r C =
+      record {
+        answered = answered (groups-conform .in-place word g u (complementOf a) nb′ cs′) C;
+        accepted = groups-accepted .complement word g u a nb′ cs′ r C;
+        step = λ st. contracts-are-steps .complement word g (together u st) a r nb′ cs′ C;
+        keeps = λ z. group-calls-keep .complement word g u a nb′ cs′ (at-zero C z);
+        stands = λ z r″ nb″ cs″ W. group-calls-stand .complement word g u a nb′ cs′ r″ nb″ cs″ (at-zero C z) W;
+      }
+
+  pub group-measure-says : (pauli q b answer determined : ℕ) (nb′ cs′ : List ℕ) (used′ answer′ determined′ r : ℕ) →
+      Call (groupMeasureCall word g u pauli q b answer determined nb′ cs′ used′ answer′ determined′) r →
+      GroupMeasureSays word g u pauli q b answer determined nb′ cs′ used′ answer′ determined′ r
+  group-measure-says pauli q b answer determined nb′ cs′ used′ answer′ determined′ r C =
+      record {
+        answered = answered
+            (groups-conform .measurements word g u pauli q b answer determined nb′ cs′ used′ answer′ determined′) C;
+        accepted = groups-accepted .measure word g u pauli q b answer determined nb′ cs′ used′ answer′ determined′ r C;
+        step = λ st. contracts-are-steps .measure word g (together u st) pauli q b answer determined r nb′ cs′ used′ answer′
+            determined′ C .0;
+        outcome = λ z st. contracts-are-steps .measure word g (together u st) pauli q b answer determined r nb′ cs′ used′
+            answer′ determined′ C .1 z;
+        keeps = λ z. group-calls-keep .measure word g u pauli q b answer determined nb′ cs′ used′ answer′ determined′
+            (at-zero C z);
+        stands = λ z r″ nb″ cs″ used″ answer″ determined″ W. group-calls-stand .measure word g u pauli q b answer determined
+            nb′ cs′ used′ answer′ determined′ r″ nb″ cs″ used″ answer″ determined″ (at-zero C z) W;
+      }
+
+  pub group-save-says : (name : ℕ) (st : Store) (heads′ nb′ cs′ : List ℕ) (r : ℕ) →
+      Call (groupSaveCall word g u name st heads′ nb′ cs′) r → GroupSaveSays word g u name st heads′ nb′ cs′ r
+  group-save-says name st heads′ nb′ cs′ r C =
+      record {
+        answered = answered (groups-conform .saves word g u name st heads′ nb′ cs′) C;
+        accepted = groups-accepted .save word g u name st heads′ nb′ cs′ r C;
+        step = contracts-are-steps .save word g (together u st) name r heads′ nb′ cs′ C;
+        full = group-names-refused .save word g u name st heads′ nb′ cs′ r C;
+        keeps = λ z. group-saves-keep word g u name st heads′ nb′ cs′ (at-zero C z);
+      }
+
+  pub group-return-says : (name : ℕ) (st : Store) (nb′ cs′ : List ℕ) (used′ r : ℕ) →
+      Call (groupReturnCall word g u name st nb′ cs′ used′) r → GroupReturnSays word g u name st nb′ cs′ used′ r
+  group-return-says name st nb′ cs′ used′ r C =
+      record {
+        answered = answered (groups-conform .returns word g u name st nb′ cs′ used′) C;
+        accepted = groups-accepted .return word g u name st nb′ cs′ used′ r C;
+        step = contracts-are-steps .return-to word g (together u st) name r nb′ cs′ used′ C;
+        not-held = group-names-refused .return-to word g u name st nb′ cs′ used′ r C;
+        gives = λ z. group-returns-give word g u name st nb′ cs′ used′ (at-zero C z);
+      }
+
+  pub group-forget-says : (name : ℕ) (st : Store) (heads′ : List ℕ) (r : ℕ) →
+      Call (groupForgetCall word g u name st heads′) r → GroupForgetSays word g u name st heads′ r
+  group-forget-says name st heads′ r C =
+      record {
+        answered = answered (groups-conform .forgets word g u name st heads′) C;
+        accepted = groups-accepted .forget word g u name st heads′ r C;
+        step = contracts-are-steps .forget word g (together u st) name r heads′ C;
+        not-held = group-names-refused .forget word g u name st heads′ r C;
+        keeps = λ z. group-forgets-keep word g u name st heads′ (at-zero C z);
+      }

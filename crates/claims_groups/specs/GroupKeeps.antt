@@ -1,0 +1,111 @@
+-- What each call of a group leaves, of the public calls (02, §13): the other group's vertices and states stay, and
+-- what is held under each of the group's own names; and which calls are refused by 17 and 18.
+use mathlib.Core.Bool.{cond, false, true}
+use mathlib.Core.List.{List}
+use mathlib.Core.Logic.{_↔_}
+use mathlib.Core.Path.{_≡_}
+use Prim.Native.Nat.{_<_, ℕ}
+use lib.Dec.{eqb}
+use lib.ListN.{getD}
+use Rattle.buffers.specs.Refusals.{firstFitting}
+use Rattle.call_group_stores.specs.GroupStoreCalls.{groupForgetCall, groupReturnCall, groupSaveCall}
+use Rattle.call_groups.specs.GroupCalls.{groupCall, groupMeasureCall}
+use Rattle.contracts.specs.Calls.{Call}
+use Rattle.groups.specs.GroupStores.{ownPlaces, sharedLines}
+use Rattle.groups.specs.Masks.{crosses, inGroup, masked}
+use Rattle.jobs.specs.Standing.{left}
+use Rattle.operations.specs.Steps.{complementOf, czOn, gateWith}
+use Rattle.store.specs.Places.{Store, found, lookup, nothing, othersHeld}
+use Rattle.used.specs.Used.{UsedRecord, usedLines}
+use Rattle.words.specs.Bits.{bit}
+
+-- ---- the record
+-- the record with these buffers and this used word
+abbrev pub recordLeft : UsedRecord → List ℕ → List ℕ → ℕ → UsedRecord
+recordLeft u nb cs used = record { held = left (u .held) nb cs; used = used }
+
+-- "codes and neighbour words of the other stay, reduced or not"; so do its used bits. No line refuses the record that
+-- is left, and it has no edge between the groups
+pub record GroupKeeps (word g : ℕ) (u after : UsedRecord) : Type 0 where
+  pub words : (q : ℕ) → q < 64 → inGroup word g q ≡ false →
+      getD (after .held .neighbours) q 0 ≡ getD (u .held .neighbours) q 0
+  pub codes : (q : ℕ) → q < 64 → inGroup word g q ≡ false → getD (after .held .codes) q 0 ≡ getD (u .held .codes) q 0
+  pub used : (q : ℕ) → q < 64 → inGroup word g q ≡ false → bit (after .used) q ≡ bit (u .used) q
+  pub still : firstFitting (usedLines after false false false) ≡ 0
+  pub apart : crosses word after ≡ false
+
+-- of every accepted gate, cz, complementation and measurement of a group
+pub record GroupCallsKeep : Type 0 where
+  pub gate : (word g : ℕ) (u : UsedRecord) (q k : ℕ) (nb′ cs′ : List ℕ) →
+      Call (groupCall word g u (gateWith q k) nb′ cs′) 0 → GroupKeeps word g u (recordLeft u nb′ cs′ (u .used))
+  pub cz : (word g : ℕ) (u : UsedRecord) (a b : ℕ) (nb′ cs′ : List ℕ) →
+      Call (groupCall word g u (czOn a b) nb′ cs′) 0 → GroupKeeps word g u (recordLeft u nb′ cs′ (u .used))
+  pub complement : (word g : ℕ) (u : UsedRecord) (a : ℕ) (nb′ cs′ : List ℕ) →
+      Call (groupCall word g u (complementOf a) nb′ cs′) 0 → GroupKeeps word g u (recordLeft u nb′ cs′ (u .used))
+  pub measure : (word g : ℕ) (u : UsedRecord) (pauli q b answer determined : ℕ) (nb′ cs′ : List ℕ)
+      (used′ answer′ determined′ : ℕ) →
+      Call (groupMeasureCall word g u pauli q b answer determined nb′ cs′ used′ answer′ determined′) 0 →
+      GroupKeeps word g u (recordLeft u nb′ cs′ used′)
+
+-- ---- the store
+-- the other group's places are as they were
+abbrev pub OtherPlacesStay : ℕ → Store → Store → Type 0
+OtherPlacesStay g st after = (h : ℕ) → h < 2 → (h ≡ g → ⊥) → ownPlaces h after ≡ ownPlaces h st
+
+-- "Each holds four named states of its own part": under the name the group's own vertices, under its other names what
+-- was held
+pub record GroupSaveKeeps (word g : ℕ) (u : UsedRecord) (name : ℕ) (st after : Store) : Type 0 where
+  pub held : (m : ℕ) → lookup 4 (ownPlaces g after) m
+      ≡ cond (eqb m name) (found (masked (inGroup word g) u)) (lookup 4 (ownPlaces g st) m)
+  pub others : OtherPlacesStay g st after
+
+-- of every accepted save of a group
+abbrev pub GroupSavesKeep : Type 0
+GroupSavesKeep = (word g : ℕ) (u : UsedRecord) (name : ℕ) (st : Store) (heads′ nb′ cs′ : List ℕ) →
+    Call (groupSaveCall word g u name st heads′ nb′ cs′) 0 →
+    GroupSaveKeeps word g u name st (record { heads = heads′; neighbours = nb′; codes = cs′ })
+
+-- nothing under the name, under its other names what was held
+pub record GroupForgetKeeps (g name : ℕ) (st after : Store) : Type 0 where
+  pub held : (m : ℕ) → lookup 4 (ownPlaces g after) m ≡ cond (eqb m name) nothing (lookup 4 (ownPlaces g st) m)
+  pub others : OtherPlacesStay g st after
+
+-- of every accepted forget of a group
+abbrev pub GroupForgetsKeep : Type 0
+GroupForgetsKeep = (word g : ℕ) (u : UsedRecord) (name : ℕ) (st : Store) (heads′ : List ℕ) →
+    Call (groupForgetCall word g u name st heads′) 0 →
+    GroupForgetKeeps g name st (record { heads = heads′; neighbours = st .neighbours; codes = st .codes })
+
+-- "returning touches only that part": the group's vertices are those of the state held under the name
+pub record GroupReturnGives (word g : ℕ) (u : UsedRecord) (name : ℕ) (st : Store) (after : UsedRecord) : Type 0 where
+  pub state : UsedRecord
+  pub held : lookup 4 (ownPlaces g st) name ≡ found state
+  pub own : masked (inGroup word g) after ≡ masked (inGroup word g) state
+  pub keeps : GroupKeeps word g u after
+
+-- of every accepted return of a group
+abbrev pub GroupReturnsGive : Type 0
+GroupReturnsGive = (word g : ℕ) (u : UsedRecord) (name : ℕ) (st : Store) (nb′ cs′ : List ℕ) (used′ : ℕ) →
+    Call (groupReturnCall word g u name st nb′ cs′ used′) 0 →
+    GroupReturnGives word g u name st (recordLeft u nb′ cs′ used′)
+
+-- ---- refusals
+-- 17: exactly if no earlier line holds and the group holds nothing under the name
+abbrev pub GroupNotHeld : ℕ → ℕ → UsedRecord → ℕ → Store → ℕ → Type 0
+GroupNotHeld word g u name st r =
+    (r ≡ 17) ↔ ((firstFitting (sharedLines word g u st) ≡ 0) × (lookup 4 (ownPlaces g st) name ≡ nothing))
+
+-- 18, "For a group, four names take the place of eight": exactly if no earlier line holds and each of the four places
+-- holds another name
+abbrev pub GroupFull : ℕ → ℕ → UsedRecord → ℕ → Store → ℕ → Type 0
+GroupFull word g u name st r =
+    (r ≡ 18) ↔ ((firstFitting (sharedLines word g u st) ≡ 0) × (othersHeld 4 ((ownPlaces g st) .heads) name ≡ true))
+
+-- of every save, return and forget of a group
+pub record GroupNamesRefused : Type 0 where
+  pub save : (word g : ℕ) (u : UsedRecord) (name : ℕ) (st : Store) (heads′ nb′ cs′ : List ℕ) (r : ℕ) →
+      Call (groupSaveCall word g u name st heads′ nb′ cs′) r → GroupFull word g u name st r
+  pub return-to : (word g : ℕ) (u : UsedRecord) (name : ℕ) (st : Store) (nb′ cs′ : List ℕ) (used′ r : ℕ) →
+      Call (groupReturnCall word g u name st nb′ cs′ used′) r → GroupNotHeld word g u name st r
+  pub forget : (word g : ℕ) (u : UsedRecord) (name : ℕ) (st : Store) (heads′ : List ℕ) (r : ℕ) →
+      Call (groupForgetCall word g u name st heads′) r → GroupNotHeld word g u name st r

@@ -1,0 +1,142 @@
+-- Runs of two groups on one record (02, §13): the calls, what each answers and leaves, and what a group sees of a run.
+use mathlib.Core.Bool.{cond}
+use mathlib.Core.List.{List, [], _∷_}
+use Prim.Native.Nat.{ℕ}
+use lib.Dec.{eqb}
+use lib.ListN.{replicate}
+use Rattle.buffers.specs.Refusals.{Refusal, firstFitting}
+use Rattle.groups.specs.GroupLines.{groupAfter, groupLines}
+use Rattle.groups.specs.GroupStores.{
+  groupForgotten,
+  groupNamedLines,
+  groupReturned,
+  groupSaveLines,
+  groupSaved,
+  ownPlaces,
+}
+use Rattle.groups.specs.Masks.{inGroup, masked}
+use Rattle.jobs.specs.Runs.{started}
+use Rattle.operations.specs.Measurement.{determinedNumber, outcomeNumber}
+use Rattle.operations.specs.Steps.{complementOf, czOn, gateWith, measuredAnswer, measurementOf}
+use Rattle.store.specs.Places.{Store}
+use Rattle.used.specs.Used.{UsedRecord}
+
+-- "Group calls are gate, cz, measure, complement, .. save, return and forget", with their arguments; a group has no
+-- pivot
+pub data SharedCall : Type 0 where
+  groupGate : ℕ → ℕ → SharedCall
+  groupCz : ℕ → ℕ → SharedCall
+  groupMeasure : ℕ → ℕ → ℕ → SharedCall
+  groupComplement : ℕ → SharedCall
+  groupSave : ℕ → SharedCall
+  groupReturn : ℕ → SharedCall
+  groupForget : ℕ → SharedCall
+
+-- a call of a run, with the number of its group. One above 1 is no group: its call is refused, and changes nothing
+pub record CallOf : Type 0 where
+  pub group : ℕ
+  pub call : SharedCall
+
+-- "Two groups share one record", and one store
+pub record SharedState : Type 0 where
+  pub current : UsedRecord
+  pub store : Store
+
+-- "all start in +Z as in §5"; no name is held
+abbrev pub sharedStart : SharedState
+sharedStart =
+    record {
+      current = started 64;
+      store = record { heads = replicate 24 0; neighbours = replicate 512 0; codes = replicate 512 0 };
+    }
+
+-- ---- one call
+-- its lines in checking order
+abbrev pub sharedCallLines : ℕ → ℕ → SharedState → SharedCall → List Refusal
+sharedCallLines word g s (groupGate q k) = groupLines word g (s .current) (gateWith q k)
+sharedCallLines word g s (groupCz a b) = groupLines word g (s .current) (czOn a b)
+sharedCallLines word g s (groupMeasure pauli q b) = groupLines word g (s .current) (measurementOf pauli q b)
+sharedCallLines word g s (groupComplement a) = groupLines word g (s .current) (complementOf a)
+sharedCallLines word g s (groupSave name) = groupSaveLines word g (s .current) name (s .store)
+sharedCallLines word g s (groupReturn name) = groupNamedLines word g (s .current) name (s .store)
+sharedCallLines word g s (groupForget name) = groupNamedLines word g (s .current) name (s .store)
+
+-- the number that it answers
+abbrev pub sharedNumber : ℕ → ℕ → SharedState → SharedCall → ℕ
+sharedNumber word g s c = firstFitting (sharedCallLines word g s c)
+
+-- what an accepted one leaves
+abbrev pub sharedLeft : ℕ → ℕ → SharedState → SharedCall → SharedState
+sharedLeft word g s (groupGate q k) =
+    record { current = groupAfter word g (s .current) (gateWith q k); store = s .store }
+sharedLeft word g s (groupCz a b) = record { current = groupAfter word g (s .current) (czOn a b); store = s .store }
+sharedLeft word g s (groupMeasure pauli q b) =
+    record { current = groupAfter word g (s .current) (measurementOf pauli q b); store = s .store }
+sharedLeft word g s (groupComplement a) =
+    record { current = groupAfter word g (s .current) (complementOf a); store = s .store }
+sharedLeft word g s (groupSave name) =
+    record { current = s .current; store = groupSaved word g (s .current) name (s .store) }
+sharedLeft word g s (groupReturn name) =
+    record { current = groupReturned word g (s .current) name (s .store); store = s .store }
+sharedLeft word g s (groupForget name) =
+    record {
+      current = s .current;
+      store = record {
+        heads = groupForgotten g name (s .store);
+        neighbours = s .store .neighbours;
+        codes = s .store .codes;
+      };
+    }
+
+-- what a call leaves: refused, it "changes no lent byte"
+abbrev pub sharedAfter : ℕ → ℕ → SharedState → SharedCall → SharedState
+sharedAfter word g s c = cond (eqb (sharedNumber word g s c) 0) (sharedLeft word g s c) s
+
+-- the outcome and the determined bit that an accepted call answers: a measurement's alone
+abbrev pub measuredNumbers : SharedState → SharedCall → List ℕ
+measuredNumbers s (groupGate q k) = []
+measuredNumbers s (groupCz a b) = []
+measuredNumbers s (groupMeasure pauli q b) =
+    outcomeNumber (measuredAnswer (s .current .held) pauli q b)
+    ∷ determinedNumber (measuredAnswer (s .current .held) pauli q b) ∷ []
+measuredNumbers s (groupComplement a) = []
+measuredNumbers s (groupSave name) = []
+measuredNumbers s (groupReturn name) = []
+measuredNumbers s (groupForget name) = []
+
+-- those of a call: a refused one answers none
+abbrev pub sharedMeasured : ℕ → ℕ → SharedState → SharedCall → List ℕ
+sharedMeasured word g s c = cond (eqb (sharedNumber word g s c) 0) (measuredNumbers s c) []
+
+-- ---- a run
+-- "one group's calls .. in order"
+abbrev pub ownCalls : ℕ → List CallOf → List SharedCall
+ownCalls g [] = []
+ownCalls g (c ∷ cs) = cond (eqb (c .group) g) (c .call ∷ ownCalls g cs) (ownCalls g cs)
+
+-- "that group's refusals, outcomes, determined bits, codes, neighbour words, used bits and saved states": the last
+-- four as they are after the call. The codes, words and used bits are those at the group's qubits; the saved states,
+-- what its four places hold
+pub record Observation : Type 0 where
+  pub refusal : ℕ
+  pub measured : List ℕ
+  pub vertices : UsedRecord
+  pub saved-states : Store
+
+-- of one call of the group
+abbrev pub observed : ℕ → ℕ → SharedState → SharedCall → Observation
+observed word g s c =
+    record {
+      refusal = sharedNumber word g s c;
+      measured = sharedMeasured word g s c;
+      vertices = masked (inGroup word g) ((sharedAfter word g s c) .current);
+      saved-states = ownPlaces g ((sharedAfter word g s c) .store);
+    }
+
+-- "after each of its calls" of a run from a state; the calls of others are made, and not observed
+abbrev pub observations : ℕ → ℕ → SharedState → List CallOf → List Observation
+observations word g s [] = []
+observations word g s (c ∷ cs) =
+    cond (eqb (c .group) g)
+    (observed word g s (c .call) ∷ observations word g (sharedAfter word (c .group) s (c .call)) cs)
+    (observations word g (sharedAfter word (c .group) s (c .call)) cs)

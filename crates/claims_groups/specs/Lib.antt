@@ -1,0 +1,5 @@
+pub mod GroupRuns
+pub mod GroupContracts
+pub mod GroupsDemand
+pub mod GroupKeeps
+pub mod Sentences

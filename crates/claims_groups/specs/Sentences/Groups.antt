@@ -1,0 +1,117 @@
+-- What the documents say of the exported functions of a group (02, §13), a record for each: demand 1, which arguments it
+-- accepts, that it is a step of the runs of `NonInterference`, what it leaves of the other group, and that its answer
+-- stands for what the whole-record call leaves.
+use mathlib.Core.List.{List, [], _∷_}
+use mathlib.Core.Logic.{_↔_}
+use mathlib.Core.Path.{_≡_}
+use Prim.Native.Nat.{ℕ}
+use Rattle.call_gates.specs.InPlaceCalls.{usedCall, usedMeasureCall}
+use Rattle.call_group_stores.specs.GroupStoreCalls.{groupForgetCall, groupReturnCall, groupSaveCall}
+use Rattle.call_groups.specs.GroupCalls.{groupCall, groupMeasureCall}
+use Rattle.claims.specs.Conforming.{Answered}
+use Rattle.claims.specs.families.Groups.{GroupNameFits, GroupSaveFits, Own, TwoGroups}
+use Rattle.claims.specs.families.Records.{ComplementFits, CzFits, GateFits, MeasureFits}
+use Rattle.contracts.specs.Calls.{Call}
+use Rattle.operations.specs.Steps.{Operation, complementOf, czOn, gateWith}
+use Rattle.store.specs.Places.{Store}
+use Rattle.used.specs.Used.{UsedRecord}
+use Rattle.claims_groups.specs.GroupContracts.{IsStep, withRecord, withStore}
+use Rattle.claims_groups.specs.GroupKeeps.{
+  GroupForgetKeeps,
+  GroupFull,
+  GroupKeeps,
+  GroupNotHeld,
+  GroupReturnGives,
+  GroupSaveKeeps,
+  recordLeft,
+}
+use Rattle.claims_groups.specs.GroupRuns.{
+  SharedCall,
+  SharedState,
+  groupComplement,
+  groupCz,
+  groupForget,
+  groupGate,
+  groupMeasure,
+  groupReturn,
+  groupSave,
+  sharedMeasured,
+}
+use Rattle.claims_groups.specs.GroupsDemand.{StandsAsWhole}
+
+-- the record and a store
+abbrev pub together : UsedRecord → Store → SharedState
+together u st = record { current = u; store = st }
+
+-- a call that is not lent the store is the same step whatever the store
+abbrev pub StepOnRecord : ℕ → ℕ → UsedRecord → SharedCall → ℕ → List ℕ → List ℕ → ℕ → Type 0
+StepOnRecord word g u c r nb′ cs′ used′ =
+    (st : Store) → IsStep word g (together u st) c r (withRecord (together u st) nb′ cs′ used′)
+
+-- "a group call leaves the group's elements as the whole-record call would"
+abbrev pub AsWhole : UsedRecord → Operation → List ℕ → List ℕ → Type 0
+AsWhole u o nb′ cs′ = (r : ℕ) (nb″ cs″ : List ℕ) → Call (usedCall u o nb″ cs″) r → StandsAsWhole u nb′ cs′ r nb″ cs″
+
+-- sukhlent_group_gate
+pub record GroupGateSays (word g : ℕ) (u : UsedRecord) (q k : ℕ) (nb′ cs′ : List ℕ) (r : ℕ) : Type 0 where
+  pub answered : Answered (groupCall word g u (gateWith q k) nb′ cs′) r
+  pub accepted : (r ≡ 0) ↔ (TwoGroups word g u × Own word g q × GateFits u q k)
+  pub step : StepOnRecord word g u (groupGate q k) r nb′ cs′ (u .used)
+  pub keeps : r ≡ 0 → GroupKeeps word g u (recordLeft u nb′ cs′ (u .used))
+  pub stands : r ≡ 0 → AsWhole u (gateWith q k) nb′ cs′
+
+-- sukhlent_group_cz
+pub record GroupCzSays (word g : ℕ) (u : UsedRecord) (a b : ℕ) (nb′ cs′ : List ℕ) (r : ℕ) : Type 0 where
+  pub answered : Answered (groupCall word g u (czOn a b) nb′ cs′) r
+  pub accepted : (r ≡ 0) ↔ (TwoGroups word g u × (Own word g a × Own word g b) × CzFits u a b)
+  pub step : StepOnRecord word g u (groupCz a b) r nb′ cs′ (u .used)
+  pub keeps : r ≡ 0 → GroupKeeps word g u (recordLeft u nb′ cs′ (u .used))
+  pub stands : r ≡ 0 → AsWhole u (czOn a b) nb′ cs′
+
+-- sukhlent_group_complement
+pub record GroupComplementSays (word g : ℕ) (u : UsedRecord) (a : ℕ) (nb′ cs′ : List ℕ) (r : ℕ) : Type 0 where
+  pub answered : Answered (groupCall word g u (complementOf a) nb′ cs′) r
+  pub accepted : (r ≡ 0) ↔ (TwoGroups word g u × Own word g a × ComplementFits u a)
+  pub step : StepOnRecord word g u (groupComplement a) r nb′ cs′ (u .used)
+  pub keeps : r ≡ 0 → GroupKeeps word g u (recordLeft u nb′ cs′ (u .used))
+  pub stands : r ≡ 0 → AsWhole u (complementOf a) nb′ cs′
+
+-- sukhlent_group_measure: its outcome, determined bit and used word are those of the whole-record call too
+pub record GroupMeasureSays (word g : ℕ) (u : UsedRecord) (pauli q b answer determined : ℕ) (nb′ cs′ : List ℕ)
+    (used′ answer′ determined′ r : ℕ) : Type 0 where
+  pub answered : Answered (groupMeasureCall word g u pauli q b answer determined nb′ cs′ used′ answer′ determined′) r
+  pub accepted : (r ≡ 0) ↔ (TwoGroups word g u × Own word g q × MeasureFits u pauli q b)
+  pub step : StepOnRecord word g u (groupMeasure pauli q b) r nb′ cs′ used′
+  pub outcome : r ≡ 0 → (st : Store) →
+      answer′ ∷ determined′ ∷ [] ≡ sharedMeasured word g (together u st) (groupMeasure pauli q b)
+  pub keeps : r ≡ 0 → GroupKeeps word g u (recordLeft u nb′ cs′ used′)
+  pub stands : r ≡ 0 → (r″ : ℕ) (nb″ cs″ : List ℕ) (used″ answer″ determined″ : ℕ) →
+      Call (usedMeasureCall u pauli q b answer determined nb″ cs″ used″ answer″ determined″) r″ →
+      StandsAsWhole u nb′ cs′ r″ nb″ cs″ × (answer′ ≡ answer″) × (determined′ ≡ determined″) × (used′ ≡ used″)
+
+-- sukhlent_group_save
+pub record GroupSaveSays (word g : ℕ) (u : UsedRecord) (name : ℕ) (st : Store) (heads′ nb′ cs′ : List ℕ) (r : ℕ) :
+    Type 0 where
+  pub answered : Answered (groupSaveCall word g u name st heads′ nb′ cs′) r
+  pub accepted : (r ≡ 0) ↔ GroupSaveFits word g u name st
+  pub step : IsStep word g (together u st) (groupSave name) r (withStore (together u st) heads′ nb′ cs′)
+  pub full : GroupFull word g u name st r
+  pub keeps : r ≡ 0 → GroupSaveKeeps word g u name st (record { heads = heads′; neighbours = nb′; codes = cs′ })
+
+-- sukhlent_group_return
+pub record GroupReturnSays (word g : ℕ) (u : UsedRecord) (name : ℕ) (st : Store) (nb′ cs′ : List ℕ) (used′ r : ℕ) :
+    Type 0 where
+  pub answered : Answered (groupReturnCall word g u name st nb′ cs′ used′) r
+  pub accepted : (r ≡ 0) ↔ GroupNameFits word g u name st
+  pub step : IsStep word g (together u st) (groupReturn name) r (withRecord (together u st) nb′ cs′ used′)
+  pub not-held : GroupNotHeld word g u name st r
+  pub gives : r ≡ 0 → GroupReturnGives word g u name st (recordLeft u nb′ cs′ used′)
+
+-- sukhlent_group_forget
+pub record GroupForgetSays (word g : ℕ) (u : UsedRecord) (name : ℕ) (st : Store) (heads′ : List ℕ) (r : ℕ) : Type 0 where
+  pub answered : Answered (groupForgetCall word g u name st heads′) r
+  pub accepted : (r ≡ 0) ↔ GroupNameFits word g u name st
+  pub step : IsStep word g (together u st) (groupForget name) r
+      (withStore (together u st) heads′ (st .neighbours) (st .codes))
+  pub not-held : GroupNotHeld word g u name st r
+  pub keeps : r ≡ 0 → GroupForgetKeeps g name st (record { heads = heads′; neighbours = st .neighbours; codes = st .codes })

@@ -1,0 +1,2 @@
+pub mod HeldStates
+pub mod OwnNumbers

@@ -1,0 +1,83 @@
+-- The record that a group's call leaves stands for the same group as the one that the call on the whole record leaves.
+use mathlib.Core.Bool.{false}
+use mathlib.Core.Path.{_≡_, ap, subst, sym, _∙_}
+use Prim.Native.Nat.{ℕ, _≤_}
+use Rattle.buffers.specs.Refusals.{firstFitting}
+use Rattle.operations.specs.Steps.{Operation, leaves, linesOf, made}
+use Rattle.record.proofs.AcceptedRecords.{held-above}
+use Rattle.record.specs.Accepted.{AcceptedRecord}
+use Rattle.record.specs.Lent.{LentRecord, heldRecord, heldRows}
+use Rattle.record.specs.Records.{rowsOf}
+use Rattle.stabilizer.specs.Groups.{SameGroup}
+use Rattle.store.proofs.PassingStores.{held-record}
+use Rattle.used.proofs.LeftRecords.{used-left}
+use Rattle.used.proofs.UsedPassing.{used-step}
+use Rattle.used.specs.Used.{UsedRecord, usedStep}
+use Rattle.used.specs.UsedLaws.{UsedLeft}
+use Rattle.words.specs.Bits.{Word}
+use Rattle.groups.proofs.GroupNumbers.{masked-number}
+use Rattle.groups.proofs.GroupPassing.{GroupPasses, group-passes}
+use Rattle.groups.proofs.MaskedRecords.{apart-record}
+use Rattle.groups.proofs.MergedPasses.{after-within, group-apart}
+use Rattle.groups.proofs.SameGroupsLent.{mask-of, merged-together, within-split}
+use Rattle.groups.proofs.SameGroupsMade.{made-held, made-same}
+use Rattle.groups.specs.GroupLines.{groupAfter, groupLines, namesOther}
+use Rattle.groups.specs.Masks.{inGroup, masked}
+use Rattle.groups.specs.internal.Apart.{Apart, GroupOp}
+use Rattle.groups.specs.internal.Sides.{PutTogether, Split}
+
+module _ (word g : ℕ) (u : UsedRecord) (H : Apart word u) (o : Operation) (G : GroupOp o)
+    (e : firstFitting (groupLines word g u o) ≡ 0) where
+  abbrev s : Word
+  s = inGroup word g
+
+  abbrev v : UsedRecord
+  v = masked (inGroup word g) u
+
+  abbrev n : ℕ
+  n = u .held .n
+
+  P : GroupPasses word g u o
+  P = group-passes word g u o e
+
+  -- the call is accepted on the whole record and on the group's vertices alone
+  whole : firstFitting (linesOf (u .held) o) ≡ 0
+  whole = used-step u o (P .lines)
+
+  on-own : (usedStep v o) .number ≡ 0
+  on-own = sym (masked-number word g u H o G (P .own)) ∙ P .lines
+
+  -- what the group's vertices become
+  abbrev left : UsedRecord
+  left = (usedStep v o) .after
+
+  L : UsedLeft v o left
+  L = used-left v o on-own
+
+  A : AcceptedRecord (left .held)
+  A = held-record left (L .passes)
+
+  left-made : heldRecord (left .held) ≡ made (v .held) o
+  left-made = ap heldRecord (L .held) ∙ made-held (v .held) o G (used-step v o on-own)
+
+  left-split : Split s ((made (v .held) o) .graph)
+  left-split = subst (λ r. Split s (r .graph)) left-made
+      (within-split s left A (after-within word g u H o G (P .own) on-own))
+
+  -- the record afterwards
+  abbrev after : LentRecord
+  after = (groupAfter word g u o) .held
+
+  put : PutTogether n s (made (v .held) o) (heldRecord (u .held)) (heldRecord after)
+  put = subst (λ r. PutTogether n s r (heldRecord (u .held)) (heldRecord after)) left-made
+      (merged-together s u (apart-record word u H) left (λ i j l. held-above (left .held) (A .neighbours-length) i j
+      (subst (λ k. k ≤ i) (sym (ap (λ r. r .n) (L .held))) l)))
+
+  same : SameGroup n n (heldRows after) (rowsOf n (made (u .held) o))
+  same =
+      made-same s u (mask-of word g u H) o G whole (subst (λ k. namesOther s k o ≡ false) (sym (H .count)) (P .own))
+      left-split (heldRecord after) (apart-record word _ (group-apart word g u H o G e) .simple) put
+
+  pub group-same : SameGroup 64 64 (heldRows ((groupAfter word g u o) .held)) (heldRows (leaves (u .held) o))
+  group-same = subst (λ k. SameGroup k k (heldRows after) (heldRows (leaves (u .held) o))) (H .count)
+      (subst (λ r. SameGroup n n (heldRows after) (rowsOf n r)) (sym (made-held (u .held) o G whole)) same)

@@ -1,0 +1,164 @@
+-- What an accepted operation makes is what its buffers hold; and what a gate, a cz, a measurement and a complementation
+-- on qubits of s make of the vertices of s alone, put together with the others, stands for the group that they make of
+-- the whole record.
+use mathlib.Core.Bool.{_&&_, Bool, false, not, true}
+use mathlib.Core.List.{[], _∷_}
+use mathlib.Core.Logic.{_≢_}
+use mathlib.Core.Path.{_≡_, ap, subst, sym, _∙_}
+use Prim.Native.Nat.{ℕ, _<_, _≤_}
+use native.Mathlib.Omega.{arith}
+use lib.Dec.{leb}
+use lib.ListN.{List·getD-eq-default}
+use borrow.Author.Tests.{eqb-false, leb-false, lt-ltb, not-false}
+use Rattle.buffers.proofs.Lines.{none-of-all, not-held}
+use Rattle.buffers.specs.Refusals.{firstFitting, line}
+use Rattle.clifford.specs.Clifford.{cliffordOf}
+use Rattle.graph.proofs.Complement.{complement-simple}
+use Rattle.graph.specs.Graph.{Simple}
+use Rattle.operations.proofs.CzGroups.{cz-proper}
+use Rattle.operations.proofs.Determined.{measured-proper}
+use Rattle.operations.proofs.MeasuredRecords.{pauli-acts}
+use Rattle.operations.proofs.UnrefusedRecords.{complement-above}
+use Rattle.operations.specs.Gates.{gated}
+use Rattle.operations.specs.Measurement.{pauliLetter}
+use Rattle.operations.specs.Steps.{
+  Operation,
+  complementOf,
+  czOn,
+  gateWith,
+  inPlaceLines,
+  leaves,
+  linesOf,
+  made,
+  measurementOf,
+}
+use Rattle.record.proofs.RecordLines.{record-numbered}
+use Rattle.record.proofs.ReducedRecords.{record-proper}
+use Rattle.record.proofs.Unique.{record-path}
+use Rattle.record.proofs.WrittenRecords.{record-back, reduced-back, writtenRecord}
+use Rattle.record.specs.Lent.{LentRecord, heldRecord, recordLines}
+use Rattle.record.specs.Records.{GraphRecord, SameRecord, complementRecord, rowsOf}
+use Rattle.stabilizer.proofs.EqualRows.{same-group-equal}
+use Rattle.stabilizer.specs.Groups.{Proper, SameGroup}
+use Rattle.used.proofs.AcceptedSteps.{
+  accepted-step,
+  after-made,
+  cz-list,
+  gate-proper,
+  measure-arguments,
+  measured-list,
+}
+use Rattle.used.specs.Used.{UsedRecord}
+use Rattle.words.proofs.Flags.{neither}
+use Rattle.words.specs.Bits.{Word, isOdd}
+use Rattle.groups.proofs.SameGroupsFollowed.{followed-same}
+use Rattle.groups.proofs.SameGroupsMeasured.{measured-followed}
+use Rattle.groups.proofs.SameGroupsRewritten.{rewritten-row}
+use Rattle.groups.proofs.SameGroupsSteps.{cz-followed, gate-followed}
+use Rattle.groups.specs.GroupLines.{namesOther, outsider}
+use Rattle.groups.specs.Masks.{masked}
+use Rattle.groups.specs.internal.Apart.{GroupOp, complement-op, cz-op, gate-op, measure-op}
+use Rattle.groups.specs.internal.Sides.{MaskOf, PutTogether, Split}
+
+-- ---- the arguments of an accepted operation
+eight-passes : (l : LentRecord) (six eight : Bool) → firstFitting (inPlaceLines l six eight) ≡ 0 → eight ≡ false
+eight-passes l six eight e =
+    not-held 7 _ _ (none-of-all (recordLines l false six) (line 8 eight ∷ []) (record-numbered l false six) e .1) .0
+
+gate-argument : (l : LentRecord) (q k : ℕ) → firstFitting (linesOf l (gateWith q k)) ≡ 0 → q < l .n
+gate-argument l q k e = leb-false (l .n) q (eight-passes l (leb 24 k) _ e)
+
+cz-arguments : (l : LentRecord) (a b : ℕ) → firstFitting (linesOf l (czOn a b)) ≡ 0
+    → (a < l .n) × (b < l .n) × (a ≢ b)
+cz-arguments l a b e =
+    let h = neither (leb (l .n) a) _ (eight-passes l false _ e) in
+    let k = neither (leb (l .n) b) _ (h .1) in
+    (leb-false (l .n) a (h .0), leb-false (l .n) b (k .0), eqb-false a b (k .1))
+
+complement-argument : (l : LentRecord) (a : ℕ) → firstFitting (linesOf l (complementOf a)) ≡ 0 → a < l .n
+complement-argument l a e = leb-false (l .n) a (eight-passes l false _ e)
+
+-- a qubit below n that is not outside s
+own-qubit : (s : Word) (n q : ℕ) → q < n → outsider s n q ≡ false → s q ≡ true
+own-qubit s n q l e = not-false (s q) (ap (λ b. b && not (s q)) (sym (lt-ltb q n l)) ∙ e)
+
+-- ---- what the buffers hold
+pub made-held : (l : LentRecord) (o : Operation) → GroupOp o → firstFitting (linesOf l o) ≡ 0
+    → heldRecord (leaves l o) ≡ made l o
+made-held l o g e = ap heldRecord (after-made l o e) ∙ record-path _ (made l o) (back g e)
+  where
+    back : {o : Operation} → GroupOp o → firstFitting (linesOf l o) ≡ 0
+        → SameRecord (heldRecord (writtenRecord (l .n) (made l o))) (made l o)
+    back (gate-op q k) e = reduced-back (l .n) _ (gate-proper l q k (accepted-step l (gateWith q k) e))
+    back (cz-op a b) e = reduced-back (l .n) _ (cz-list l a b e)
+    back (measure-op pauli q b) e = reduced-back (l .n) _ (measured-list l pauli q b e)
+    back (complement-op a) e =
+        let A = accepted-step l (complementOf a) e in
+        record-back (l .n) (complementRecord (heldRecord l) a) (complement-simple (l .n) _ (A .simple) a)
+        (complement-above (l .n) (heldRecord l) (A .simple) a (complement-argument l a e)
+        (λ q k. ap cliffordOf (List·getD-eq-default (l .codes) 0 (subst (λ m. m ≤ q) (sym (A .codes-length)) k))))
+
+-- ---- operations on qubits of s
+module _ (s : Word) (u : UsedRecord)
+    (K : MaskOf (u .held .n) s (heldRecord (u .held)) (heldRecord ((masked s u) .held))) where
+  abbrev n : ℕ
+  n = u .held .n
+
+  abbrev r : GraphRecord
+  r = heldRecord (u .held)
+
+  abbrev m : GraphRecord
+  m = heldRecord ((masked s u) .held)
+
+  whole : Proper n (rowsOf n r)
+  whole = record-proper n r (K .simple)
+
+  alone : Proper n (rowsOf n m)
+  alone = record-proper n m (K .own-simple)
+
+  -- what o makes of the vertices of s, without an edge that leaves s, and put together with the others
+  abbrev Same : Operation → Type 0
+  Same o = Split s ((made ((masked s u) .held) o) .graph) → (t : GraphRecord) → Simple n (t .graph)
+      → PutTogether n s (made ((masked s u) .held) o) r t → SameGroup n n (rowsOf n t) (rowsOf n (made (u .held) o))
+
+  pub gate-same : (q k : ℕ) → q < n → s q ≡ true → Same (gateWith q k)
+  gate-same q k l e =
+      followed-same n s r (K .simple) (K .split) _ _
+      (record-proper n (gated r q (cliffordOf k)) (K .simple))
+      (record-proper n (gated m q (cliffordOf k)) (K .own-simple)) (gate-followed n s r m K q l e (cliffordOf k))
+
+  pub cz-same : (a b : ℕ) → a < n → b < n → a ≢ b → s a ≡ true → s b ≡ true → Same (czOn a b)
+  cz-same a b ha hb ab ea eb =
+      followed-same n s r (K .simple) (K .split) _ _ (cz-proper n a b ha hb ab (rowsOf n r) whole)
+      (cz-proper n a b ha hb ab (rowsOf n m) alone) (cz-followed n s r m K a b ha hb ab ea eb)
+
+  pub measure-same : (pauli q b : ℕ) → pauli ≢ 0 → q < n → s q ≡ true → Same (measurementOf pauli q b)
+  measure-same pauli q b acting l e =
+      followed-same n s r (K .simple) (K .split) _ _
+      (measured-proper n (rowsOf n r) whole (pauliLetter pauli) q l (isOdd b))
+      (measured-proper n (rowsOf n m) alone (pauliLetter pauli) q l (isOdd b))
+      (measured-followed n s r m K (pauliLetter pauli) (pauli-acts pauli (positive pauli acting)) q l e (isOdd b))
+    where
+      positive : (k : ℕ) → k ≢ 0 → 0 < k
+      positive k h = omega (arith, h)
+
+  pub rewritten-same : (a : ℕ) → a < n → s a ≡ true → Same (complementOf a)
+  rewritten-same a l e Y t S T = same-group-equal n (rowsOf n t) (rowsOf n (complementRecord r a))
+      (λ j k. sym (rewritten-row n s r m K a l e t T j k))
+
+  pub made-same : (o : Operation) → GroupOp o → firstFitting (linesOf (u .held) o) ≡ 0 → namesOther s n o ≡ false
+      → Same o
+  made-same o g = go g
+    where
+      go : {o : Operation} → GroupOp o → firstFitting (linesOf (u .held) o) ≡ 0 → namesOther s n o ≡ false → Same o
+      go (gate-op q k) e f =
+          let l = gate-argument (u .held) q k e in gate-same q k l (own-qubit s n q l f)
+      go (cz-op a b) e f =
+          let c = cz-arguments (u .held) a b e in
+          let h = neither (outsider s n a) (outsider s n b) f in
+          cz-same a b (c .0) (c .1) (c .2) (own-qubit s n a (c .0) (h .0)) (own-qubit s n b (c .1) (h .1))
+      go (measure-op pauli q b) e f =
+          let a = measure-arguments (u .held) pauli q b e in
+          measure-same pauli q b (a .not-none) (a .below) (own-qubit s n q (a .below) f)
+      go (complement-op a) e f =
+          let l = complement-argument (u .held) a e in rewritten-same a l (own-qubit s n a l f)

@@ -1,0 +1,81 @@
+-- A record written place by place passes its lines: words below 2 ^ n, codes below 24, a simple graph, and used
+-- vertices that are alone and have one of the six codes.
+use mathlib.Core.Bool.{Bool, cond, false, true, true≢false, _||_}
+use mathlib.Core.Logic.{inl, inr, _⊎_}
+use mathlib.Core.Path.{ap, ap₂, refl, subst, sym, _∙_, _≡_}
+use Prim.Native.Nat.{_<_, _^_, ℕ, _≤_}
+use lib.ListN.{getD}
+use borrow.Author.Tests.{lt-leb}
+use Rattle.buffers.proofs.Lines.{none-fits, passed}
+use Rattle.buffers.proofs.Tabulate.{tabulate-at, tabulate-length}
+use Rattle.buffers.specs.Buffers.{tabulate}
+use Rattle.buffers.specs.Refusals.{firstFitting, reaching}
+use Rattle.record.proofs.SimpleVerdict.{SimpleBelow, simple-exactly}
+use Rattle.record.specs.Lent.{heldRecord, recordLines}
+use Rattle.stabilizer.proofs.SharedTests.{below-passes, count-passes, length-passes}
+use Rattle.used.proofs.LeftRecords.{all-good}
+use Rattle.used.proofs.UsedPassing.{lines-pass}
+use Rattle.used.specs.Used.{UsedRecord, usedCode, usedLines}
+use Rattle.words.proofs.BitLaws.{bit-above, bit-wordOf, wordOf-lt}
+use Rattle.words.proofs.Sums.{lt-or-ge}
+use Rattle.words.specs.Bits.{Word, bit, wordOf}
+
+-- one of two, by what is known of each
+pub by-cond : {A : Type 0} (P : A → Type 0) (b : Bool) {x y : A} → (b ≡ true → P x) → (b ≡ false → P y) → P (cond b x y)
+by-cond P true h k = h refl
+by-cond P false h k = k refl
+
+-- the record with these words, codes and used vertices
+abbrev pub tabled : ℕ → (ℕ → ℕ) → (ℕ → ℕ) → Word → UsedRecord
+tabled n f c w =
+    record {
+      held = record { n = n; neighbours = tabulate n f; codes = tabulate n c };
+      used = wordOf n w;
+    }
+
+pub record Tabled (n : ℕ) (f c : ℕ → ℕ) (w : Word) : Type 0 where
+  pub positive : 1 ≤ n
+  pub upto : n ≤ 64
+  pub words : (j : ℕ) → j < n → f j < 2 ^ n
+  pub codes : (q : ℕ) → q < n → c q < 24
+  pub symmetric : (i j : ℕ) → i < n → j < n → bit (f i) j ≡ bit (f j) i
+  pub loopless : (i : ℕ) → i < n → bit (f i) i ≡ false
+  pub used : (q : ℕ) → q < n → w q ≡ true → (f q ≡ 0) × (usedCode (c q) ≡ true)
+
+module _ (n : ℕ) (f c : ℕ → ℕ) (w : Word) (T : Tabled n f c w) where
+  below : (b : ℕ) (h : ℕ → ℕ) → ((j : ℕ) → j < n → h j < b) → reaching b (tabulate n h) ≡ false
+  below b h k = below-passes b (tabulate n h) (λ j l.
+      let m = subst (λ v. j < v) (tabulate-length n h) l in
+      subst (λ v. v < b) (sym (tabulate-at n h j m)) (k j m))
+
+  simple : SimpleBelow n ((heldRecord ((tabled n f c w) .held)) .graph)
+  simple =
+      record {
+        symmetric = λ i j k l. ap (λ v. bit v j) (tabulate-at n f i k) ∙ T .symmetric i j k l
+            ∙ sym (ap (λ v. bit v i) (tabulate-at n f j l));
+        loopless = λ i k. ap (λ v. bit v i) (tabulate-at n f i k) ∙ T .loopless i k;
+      }
+
+  held-lines : firstFitting (recordLines ((tabled n f c w) .held) false false) ≡ 0
+  held-lines =
+      passed 2 _ (count-passes n (T .positive) (T .upto))
+      ∙ passed 4 _ (ap (λ b. b || false) (ap₂ _||_ (length-passes n (tabulate n f) (tabulate-length n f))
+      (length-passes n (tabulate n c) (tabulate-length n c))))
+      ∙ passed 5 _ (below (2 ^ n) f (T .words))
+      ∙ passed 6 _ (ap (λ b. b || false) (below 24 c (T .codes)))
+      ∙ passed 7 _ (simple-exactly n ((heldRecord ((tabled n f c w) .held)) .graph) .1 simple) ∙ none-fits
+
+  pub tabled-passes : firstFitting (usedLines (tabled n f c w) false false false) ≡ 0
+  tabled-passes =
+      lines-pass (tabled n f c w) false false false .1 (
+        held-lines,
+        ap (λ b. b || false) (lt-leb (2 ^ n) (wordOf n w) (wordOf-lt n w)),
+        all-good (tabled n f c w) (λ t h. at t h (lt-or-ge t n)),
+      )
+    where
+      at : (t : ℕ) → bit (wordOf n w) t ≡ true → (t < n) ⊎ (n ≤ t)
+          → (getD (tabulate n f) t 0 ≡ 0) × (usedCode (getD (tabulate n c) t 0) ≡ true)
+      at t h (inr l) = absurd (true≢false (sym h ∙ bit-above n (wordOf n w) (wordOf-lt n w) t l))
+      at t h (inl l) =
+          let good = T .used t l (sym (bit-wordOf n w t l) ∙ h) in
+          (tabulate-at n f t l ∙ good .0, ap usedCode (tabulate-at n c t l) ∙ good .1)

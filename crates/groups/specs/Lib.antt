@@ -1,0 +1,4 @@
+pub mod Masks
+pub mod GroupLines
+pub mod GroupStores
+pub mod internal
