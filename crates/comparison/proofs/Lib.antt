@@ -4,6 +4,7 @@ pub mod Members
 pub mod Least
 pub mod InducedCodes
 pub mod EquationLaws
+pub mod LastUnknowns
 pub mod Insertion
 pub mod QubitEquations
 pub mod ClassEquations

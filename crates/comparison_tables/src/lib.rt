@@ -73,7 +73,7 @@ fn class_rows(
     while j < n {
         let h = second[j];
         let e = class_equation(g, h);
-        insert(table, 4 * n, e);
+        insert(table, e);
         j += 1;
     }
 }
@@ -114,7 +114,7 @@ pub fn sign_table(
         let p = send(g, &choice);
         let h = element(n, second, frame, p);
         let e = sign_equation(g, p.minus ^ h.minus);
-        insert(table, 4 * n, e);
+        insert(table, e);
         i += 1;
     }
 }

@@ -31,22 +31,16 @@ loop-holds c =
           (empty-rows-solved (a .table .now) (c .pre .1 .1)),
     )
 
-mul-insert : tie.Need-mul-insert Inv-loop μ-loop
-mul-insert c =
-    let few = c .before .before .before .before .before .before .before .before .before .before .pre .0 .0 .few in
-    search needs
-
 insert-requires : tie.Need-insert-requires Inv-loop μ-loop
 insert-requires c κs =
     let s = c .before .before .before .before .before .before .before .before .before .before in
     let a = s .args in
     let l = c .before .before .before .before .before .before .before .before .before .loop in (
-      omega (arith, s .pre .0 .0 .few),
       l .inv .1 .0 .triangular,
       (λ j k. ap (λ e. unknown e j) (c .before .sign-equation .ensures)
           ∙ sign-short (a .n) (getD (a .t3) (l .i) noGenerator)
           (not (Bool·beq (c .before .before .before .before .before .send .result .minus) (c .before .before .before .before .element .result .minus)))
-          (s .pre .0 .0 .proper .within (l .i) (c .before .before .before .before .before .before .before .before .loop-test .taken)) j k),
+          (s .pre .0 .0 .proper .within (l .i) (c .before .before .before .before .before .before .before .before .loop-test .taken)) j (omega (arith, s .pre .0 .0 .few, k))),
     )
 
 loop-again : tie.Need-loop-again Inv-loop μ-loop
@@ -77,5 +71,5 @@ pub sign-table-spec : {M : Type 1} → statement M
 sign-table-spec =
     tie.close
     (tie.spec Inv-loop μ-loop loop-holds (λ c. search needs) (λ c. search needs) (λ c. search needs)
-    (λ c κs. search needs) (λ c κs. search needs) (λ c κs. search needs) mul-insert insert-requires (λ c. search needs)
+    (λ c κs. search needs) (λ c κs. search needs) (λ c κs. search needs) insert-requires (λ c. search needs)
     (λ c. omega arith) loop-again returns)
