@@ -1,6 +1,7 @@
 // The tables of what every choice that works must satisfy, and the first class and the first signs that they allow at a
 // qubit.
-use clifford_rows::send;
+use clifford_words::act_on;
+use clifford_words::action_of;
 use comparison::Equation;
 use comparison_equations::broken;
 use comparison_equations::class_words;
@@ -108,11 +109,13 @@ pub fn sign_table(
     requires { ⌜ SentUpToSign n first second (codesOf choice) × (now table ≡ emptyRows) ⌝ }
     ensures { λ r. ⌜ SignTable n first second (codesOf choice) n (equationsIn (now (table .exit))) ⌝ }
 {
+    let by = action_of(&choice);
+    let undone = action_of(&frame);
     let mut i = 0;
     while i < n {
         let g = first[i];
-        let p = send(g, &choice);
-        let h = element(n, second, frame, p);
+        let p = act_on(g, by);
+        let h = element(n, second, undone, p);
         let e = sign_equation(g, p.minus ^ h.minus);
         insert(table, e);
         i += 1;
