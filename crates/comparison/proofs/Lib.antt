@@ -12,6 +12,7 @@ pub mod SignEquations
 pub mod RecordElements
 pub mod WordsByBits
 pub mod NextChoice
+pub mod PlacedWords
 pub mod EquationTables
 pub mod Filling
 pub mod ComparedRecords

@@ -7,6 +7,7 @@ use comparison_equations::broken;
 use comparison_equations::class_words;
 use comparison_equations::insert;
 use comparison_equations::sign_words;
+use comparison_equations::with_class;
 use comparison_groups::element;
 use pauli::Generator;
 ghost use mathlib.Core.Path.{_≡_};
@@ -127,11 +128,10 @@ pub fn least_class(table: &[[u64; 5]; 80], n: usize, choice: [u8; 20], q: usize)
     requires { ⌜ (n ≤ 20) × (q < n) × Codes choice ⌝ }
     ensures { λ r. ⌜ FirstFit (classAssignment n) (equationsIn (now (table .entry))) q (λ u. codesOf (withClass choice q u)) 6 r ⌝ }
 {
+    let held = class_words(n, choice);
     let mut v = 0u8;
     while v < 6 {
-        let mut next = choice;
-        next[q] = 4 * v;
-        let w = class_words(n, next);
+        let w = with_class(held, q, v);
         if !broken(table, q, w) {
             return v;
         }
