@@ -3,10 +3,11 @@ use mathlib.Core.Bool.{Bool, false}
 use mathlib.Core.List.{List}
 use mathlib.Core.Logic.{inl, inr, _≢_, _⊎_}
 use mathlib.Core.Path.{ap, sym, _∙_, _≡_}
-use Prim.Native.Nat.{_*_, _+_, _/_, _<_, ℕ, _≤_}
+use Prim.Native.Nat.{_%_, _*_, _+_, _/_, _<_, ℕ, _≤_}
 use native.Mathlib.Omega.{arith}
+use lib.Dec.{eqb}
 use lib.ListN.{getD, length}
-use Rattle.clifford.specs.Clifford.{classOf, imageX, imageZ}
+use Rattle.clifford.specs.Clifford.{classOf, cliffordOf, imageX, imageZ}
 use Rattle.clifford.specs.Vectors.{codesOf}
 use Rattle.pauli.specs.Pauli.{xBit, zBit}
 use Rattle.pauli.specs.declared.Letter.{Letter}
@@ -68,3 +69,31 @@ module _ (n : ℕ) (choice : List ℕ) (q v : ℕ) (long : q < length choice) (l
 
       other : (j : ℕ) → j ≢ q → codesOf (withClass choice q v) j ≡ codesOf choice j
       other = code-other choice q (4 * v) long
+
+  pub sign-put : w ≡ signAssignment n (codesOf choice) → (a b : ℕ)
+      → ((j : ℕ) → bit a j ≡ put (bit (w .a)) q (isOdd (v / 2)) j)
+      → ((j : ℕ) → bit b j ≡ put (bit (w .b)) q (isOdd v) j)
+      → _≡_ {A = Assignment} (record { a = a; b = b; c = 0; d = 0 })
+      (signAssignment n (codesOf (withSigns choice q v)))
+  unfolding signAssignment
+  sign-put hw a b pa pb =
+      λ i. record {
+        a = word-put n _ _ (w .a) a q _ (ap (λ w. w .a) hw) l (half (getD choice q 0 / 4) ∙ ap (λ k. k .sx) (sym here))
+            (λ j o. ap (λ k. k .sx) (sym (other j o))) pa i;
+        b = word-put n _ _ (w .b) b q _ (ap (λ w. w .b) hw) l (whole (getD choice q 0 / 4) ∙ ap (λ k. k .sz) (sym here))
+            (λ j o. ap (λ k. k .sz) (sym (other j o))) pb i;
+        c = 0;
+        d = 0;
+      }
+    where
+      half : (k : ℕ) → isOdd (v / 2) ≡ isOdd ((4 * k + v) / 2)
+      half k = ap (λ m. eqb m 1) {x = v / 2 % 2} {y = (4 * k + v) / 2 % 2} (omega arith)
+
+      whole : (k : ℕ) → isOdd v ≡ isOdd (4 * k + v)
+      whole k = ap (λ m. eqb m 1) {x = v % 2} {y = (4 * k + v) % 2} (omega arith)
+
+      here : codesOf (withSigns choice q v) q ≡ cliffordOf (4 * (getD choice q 0 / 4) + v)
+      here = code-here choice q (4 * (getD choice q 0 / 4) + v) long
+
+      other : (j : ℕ) → j ≢ q → codesOf (withSigns choice q v) j ≡ codesOf choice j
+      other = code-other choice q (4 * (getD choice q 0 / 4) + v) long

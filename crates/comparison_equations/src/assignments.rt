@@ -10,7 +10,7 @@ ghost use Prim.Native.Nat.{ℕ, _<_, _≤_};
 ghost use lib.ListN.{length};
 ghost use Rattle.clifford.specs.Vectors.{codesOf};
 ghost use Rattle.comparison.specs.internal.Equations.{classAssignment, signAssignment};
-ghost use Rattle.comparison.specs.internal.Searches.{withClass};
+ghost use Rattle.comparison.specs.internal.Searches.{withClass, withSigns};
 ghost use Rattle.comparison.specs.internal.Setting.{Codes};
 
 // Bit q of the four words is the matrix of the class at q: image z = a z + b x, image x = c z + d x.
@@ -66,5 +66,16 @@ pub fn sign_words(n: usize, choice: [u8; 20]) -> Assignment
         b = put_bit(b, q, code % 2 == 1);
         q += 1;
     }
+    Assignment { a, b, c: 0, d: 0 }
+}
+
+// The words of a choice with signs v put in at qubit q.
+pub fn with_signs(w: Assignment, q: usize, v: u8) -> Assignment
+    requires { ⌜ q < 64 ⌝ }
+    ensures { λ r. ⌜ ((n : ℕ) (choice : List ℕ) → q < n → q < length choice → w ≡ signAssignment n (codesOf choice)
+        → r ≡ signAssignment n (codesOf (withSigns choice q v))) ⌝ }
+{
+    let a = put_bit(w.a, q, v / 2 % 2 == 1);
+    let b = put_bit(w.b, q, v % 2 == 1);
     Assignment { a, b, c: 0, d: 0 }
 }

@@ -8,6 +8,7 @@ use comparison_equations::class_words;
 use comparison_equations::insert;
 use comparison_equations::sign_words;
 use comparison_equations::with_class;
+use comparison_equations::with_signs;
 use comparison_groups::element;
 use pauli::Generator;
 ghost use mathlib.Core.Path.{_≡_};
@@ -145,11 +146,10 @@ pub fn least_sign(table: &[[u64; 5]; 80], n: usize, choice: [u8; 20], q: usize) 
     requires { ⌜ (n ≤ 20) × (q < n) × Codes choice ⌝ }
     ensures { λ r. ⌜ FirstFit (signAssignment n) (equationsIn (now (table .entry))) q (λ u. codesOf (withSigns choice q u)) 4 r ⌝ }
 {
+    let held = sign_words(n, choice);
     let mut v = 0u8;
     while v < 4 {
-        let mut next = choice;
-        next[q] = 4 * (choice[q] / 4) + v;
-        let w = sign_words(n, next);
+        let w = with_signs(held, q, v);
         if !broken(table, q, w) {
             return v;
         }
