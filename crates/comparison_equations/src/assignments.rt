@@ -45,11 +45,12 @@ pub fn with_class(w: Assignment, q: usize, v: u8) -> Assignment
     let letters = image_letters(v);
     let z = letters.z;
     let x = letters.x;
-    let a = put_bit(w.a, q, z_bit(z));
-    let b = put_bit(w.b, q, z_bit(x));
-    let c = put_bit(w.c, q, x_bit(z));
-    let d = put_bit(w.d, q, x_bit(x));
-    Assignment { a, b, c, d }
+    Assignment {
+        a: put_bit(w.a, q, z_bit(z)),
+        b: put_bit(w.b, q, z_bit(x)),
+        c: put_bit(w.c, q, x_bit(z)),
+        d: put_bit(w.d, q, x_bit(x)),
+    }
 }
 
 // Bit q of the first word is sx at q, of the second sz.

@@ -28,7 +28,7 @@ loop-holds c = λ choice long h. none-missed _ _ _ _ _
 with-class-requires : tie.Need-with-class-requires Inv-loop μ-loop
 with-class-requires c κs =
     let s = c .before .before .before in
-    (omega (arith, s .pre .0, s .pre .1), c .loop-test .taken)
+    (omega (arith, s .pre .0, s .pre .1), omega (arith, c .loop-test .taken))
 
 returns : tie.Need-returns Inv-loop μ-loop
 returns c =
