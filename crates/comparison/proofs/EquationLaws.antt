@@ -140,29 +140,27 @@ unknown-added e f j = go (j % 4)
     go (suc (suc zero)) = bit-xor (e .c) (f .c) (j / 4)
     go (suc (suc (suc l))) = bit-xor (e .d) (f .d) (j / 4)
 
+-- the span at a qubit
+pub span-bit : (e : Equation) (q : ℕ)
+    → bit (span e) q ≡ ((bit (e .a) q || bit (e .b) q) || (bit (e .c) q || bit (e .d) q))
+span-bit e q =
+    bit-or (bitOr (e .a) (e .b)) (bitOr (e .c) (e .d)) q
+    ∙ ap₂ _||_ (bit-or (e .a) (e .b) q) (bit-or (e .c) (e .d) q)
+
+-- no unknown at a qubit outside the span
+pub unspanned : (e : Equation) (q : ℕ) → bit (span e) q ≡ false → (l : ℕ)
+    → bit (wordAt l (e .a) (e .b) (e .c) (e .d)) q ≡ false
+unspanned e q h = go
+  where
+    two : ((bit (e .a) q || bit (e .b) q) ≡ false) × ((bit (e .c) q || bit (e .d) q) ≡ false)
+    two = neither (bit (e .a) q || bit (e .b) q) (bit (e .c) q || bit (e .d) q) (sym (span-bit e q) ∙ h)
+
+    go : (l : ℕ) → bit (wordAt l (e .a) (e .b) (e .c) (e .d)) q ≡ false
+    go zero = neither (bit (e .a) q) (bit (e .b) q) (two .0) .0
+    go (suc zero) = neither (bit (e .a) q) (bit (e .b) q) (two .0) .1
+    go (suc (suc zero)) = neither (bit (e .c) q) (bit (e .d) q) (two .1) .0
+    go (suc (suc (suc l))) = neither (bit (e .c) q) (bit (e .d) q) (two .1) .1
+
 -- no qubit, no unknown
 pub no-span : (e : Equation) → span e ≡ 0 → (j : ℕ) → unknown e j ≡ false
-no-span e h j = go (j % 4)
-  where
-    q : ℕ
-    q = j / 4
-
-    four : ((bit (e .a) (j / 4) || bit (e .b) (j / 4)) || (bit (e .c) (j / 4) || bit (e .d) (j / 4))) ≡ false
-    four =
-        sym (bit-or (bitOr (e .a) (e .b)) (bitOr (e .c) (e .d)) (j / 4)
-        ∙ ap₂ _||_ (bit-or (e .a) (e .b) (j / 4)) (bit-or (e .c) (e .d) (j / 4)))
-        ∙ ap (λ u. bit u (j / 4)) h ∙ zero-bit (j / 4)
-
-    two : ((bit (e .a) (j / 4) || bit (e .b) (j / 4)) ≡ false) × ((bit (e .c) (j / 4) || bit (e .d) (j / 4)) ≡ false)
-    two = neither (bit (e .a) (j / 4) || bit (e .b) (j / 4)) (bit (e .c) (j / 4) || bit (e .d) (j / 4)) four
-
-    go : (l : ℕ) → bit (wordAt l (e .a) (e .b) (e .c) (e .d)) (j / 4) ≡ false
-    go zero = neither (bit (e .a) (j / 4)) (bit (e .b) (j / 4)) (two .0) .0
-    go (suc zero) = neither (bit (e .a) (j / 4)) (bit (e .b) (j / 4)) (two .0) .1
-    go (suc (suc zero)) = neither (bit (e .c) (j / 4)) (bit (e .d) (j / 4)) (two .1) .0
-    go (suc (suc (suc l))) = neither (bit (e .c) (j / 4)) (bit (e .d) (j / 4)) (two .1) .1
-
--- what the code has of a word, of four, and of a number
-pub unknown-by : (e : Equation) (i l : ℕ) (r : Bool) → i % 4 ≡ l
-    → r ≡ bit (wordAt l (e .a) (e .b) (e .c) (e .d)) (i / 4) → r ≡ unknown e i
-unknown-by e i l r h k = k ∙ ap (λ l. bit (wordAt l (e .a) (e .b) (e .c) (e .d)) (i / 4)) (sym h)
+no-span e h j = unspanned e (j / 4) (ap (λ u. bit u (j / 4)) h ∙ zero-bit (j / 4)) (j % 4)

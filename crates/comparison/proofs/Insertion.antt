@@ -36,6 +36,12 @@ pub record Inserting (table₀ : List Equation) (e : Equation) (table : List Equ
 pub insert-start : (table : List Equation) (e : Equation) (m : ℕ) → ((j : ℕ) → m ≤ j → unknown e j ≡ false) → Inserting table e table e m
 insert-start table e m h = record { same = refl; above = h; rest = λ w s. refl }
 
+-- .. seen from another number that is above all unknowns left
+pub insert-from : {table₀ : List Equation} {e : Equation} {table : List Equation} {left : Equation} {k : ℕ}
+    → Inserting table₀ e table left k → (i : ℕ) → ((j : ℕ) → i ≤ j → unknown left j ≡ false)
+    → Inserting table₀ e table left i
+insert-from S i h = record { same = S .same; above = h; rest = S .rest }
+
 module _ (table₀ : List Equation) (e : Equation) (T₀ : Triangular table₀) (table : List Equation) (left : Equation)
     (k : ℕ) (more : 0 < k) (inv : Inserting table₀ e table left k) where
   abbrev i : ℕ
@@ -54,9 +60,6 @@ module _ (table₀ : List Equation) (e : Equation) (T₀ : Triangular table₀) 
       go : Dec (j ≡ i) → unknown r j ≡ false
       go (yes p) = ap (unknown r) p ∙ h
       go (no p) = k j (lt-of-le-ne l (λ q. p (sym q)))
-
-  pub insert-skipped : unknown left i ≡ false → Inserting table₀ e table left i
-  insert-skipped h = record { same = S .same; above = down left h (S .above); rest = S .rest }
 
   pub insert-added : unknown left i ≡ true → (p r : Equation) → p ≡ equationAt table i → (span p ≡ 0 → ⊥)
       → r ≡ added left p → Inserting table₀ e table r i

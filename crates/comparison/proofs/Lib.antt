@@ -4,6 +4,7 @@ pub mod Members
 pub mod Least
 pub mod InducedCodes
 pub mod EquationLaws
+pub mod LastUnknowns
 pub mod Insertion
 pub mod QubitEquations
 pub mod ClassEquations
@@ -11,6 +12,7 @@ pub mod SignEquations
 pub mod RecordElements
 pub mod WordsByBits
 pub mod NextChoice
+pub mod PlacedWords
 pub mod EquationTables
 pub mod Filling
 pub mod ComparedRecords

@@ -19,7 +19,7 @@ use Rattle.comparison.specs.internal.Searches.{withClass, withSigns}
 use Rattle.comparison.specs.internal.Setting.{NoSigns, Codes, withoutSigns}
 
 module _ (choice : List ℕ) (q k : ℕ) (long : q < length choice) where
-  code-here : codesOf (set choice q k) q ≡ cliffordOf k
+  pub code-here : codesOf (set choice q k) q ≡ cliffordOf k
   code-here = ap cliffordOf (getD-set-same choice q k 0 long)
 
   pub code-other : (i : ℕ) → i ≢ q → codesOf (set choice q k) i ≡ codesOf choice i

@@ -4,9 +4,11 @@ use comparison::Equation;
 use words::has;
 use words::odd;
 ghost use mathlib.Core.Path.{_≡_};
-ghost use mathlib.Core.Bool.{false};
-ghost use Prim.Native.Nat.{ℕ, _<_, _≤_};
+ghost use mathlib.Core.Bool.{false, true};
+ghost use Prim.Native.Nat.{ℕ, _+_, _<_, _≤_, _^_};
+ghost use Rattle.words.specs.Bits.{bit};
 ghost use Rattle.comparison.specs.internal.Equations.{
+  Bound,
   Inserted,
   QubitTested,
   Triangular,
@@ -46,16 +48,31 @@ fn span(e: Equation) -> u64
     (e.a | e.b) | (e.c | e.d)
 }
 
-// Whether an equation has unknown i % 4 at qubit i / 4.
-fn has_unknown(e: Equation, i: usize) -> bool
-    requires { ⌜ i < 80 ⌝ }
-    ensures { λ r. ⌜ r ≡ unknown e i ⌝ }
+// The largest set bit of a word that is not 0.
+fn largest(w: u64) -> usize
+    requires { ⌜ (w ≡ 0 → ⊥) ⌝ }
+    ensures { λ r. ⌜ (r < 64) × (bit w r ≡ true) × (w < 2 ^ (r + 1)) ⌝ }
 {
-    match i % 4 {
-        0 => has(e.a, i / 4),
-        1 => has(e.b, i / 4),
-        2 => has(e.c, i / 4),
-        _ => has(e.d, i / 4),
+    63 - u64::leading_zeros(w) as usize
+}
+
+// The number after that of the last unknown; 0 where there is none.
+fn bound(e: Equation) -> usize
+    ensures { λ r. ⌜ Bound e r ⌝ }
+{
+    let all = span(e);
+    if all == 0 {
+        return 0;
+    }
+    let q = largest(all);
+    if has(e.d, q) {
+        4 * q + 4
+    } else if has(e.c, q) {
+        4 * q + 3
+    } else if has(e.b, q) {
+        4 * q + 2
+    } else {
+        4 * q + 1
     }
 }
 
@@ -80,22 +97,20 @@ fn row(e: Equation) -> [u64; 5]
 }
 
 // Stores an equation, or a sum of it with stored ones, at the place of its last unknown, or nothing.
-pub fn insert(table: &mut [[u64; 5]; 80], m: usize, e: Equation)
-    requires { ⌜ (m ≤ 80) × Triangular (equationsIn (now table)) × ((j : ℕ) → m ≤ j → unknown e j ≡ false) ⌝ }
+pub fn insert(table: &mut [[u64; 5]; 80], e: Equation)
+    requires { ⌜ Triangular (equationsIn (now table)) × ((j : ℕ) → 80 ≤ j → unknown e j ≡ false) ⌝ }
     ensures { λ r. ⌜ Inserted (equationsIn (now (table .entry))) e (equationsIn (now (table .exit))) ⌝ }
 {
     let mut left = e;
-    let mut i = m;
+    let mut i = bound(left);
     while 0 < i {
-        i -= 1;
-        if has_unknown(left, i) {
-            let p = equation(table[i]);
-            if span(p) == 0 {
-                table[i] = row(left);
-                return;
-            }
-            left = add(left, p);
+        let p = equation(table[i - 1]);
+        if span(p) == 0 {
+            table[i - 1] = row(left);
+            return;
         }
+        left = add(left, p);
+        i = bound(left);
     }
 }
 

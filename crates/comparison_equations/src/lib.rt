@@ -4,5 +4,7 @@ mod equations;
 
 pub use assignments::class_words;
 pub use assignments::sign_words;
+pub use assignments::with_class;
+pub use assignments::with_signs;
 pub use equations::broken;
 pub use equations::insert;

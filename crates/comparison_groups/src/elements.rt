@@ -1,15 +1,17 @@
 // Elements of the group of the second record: found by their x bits once the record's codes are undone.
-use clifford_rows::send;
+use clifford_words::Action;
+use clifford_words::act_on;
 use pauli::Generator;
 use pauli::letters_minus;
 use words::has;
 ghost use mathlib.Core.Path.{_≡_};
 ghost use mathlib.Core.Bool.{false};
-ghost use Prim.Native.Nat.{_≤_};
+ghost use Prim.Native.Nat.{ℕ, _≤_};
 ghost use Rattle.pauli.specs.Pauli.{anticommute, mul};
 ghost use Rattle.pauli.specs.internal.Rows.{generatorOf};
-ghost use Rattle.clifford.specs.Vectors.{codesOf};
-ghost use Rattle.comparison.specs.internal.Setting.{Codes, Framed, Guessed, generatorsOf};
+ghost use Rattle.clifford.specs.Clifford.{Clifford};
+ghost use Rattle.clifford_words.specs.internal.Actions.{ActsAs};
+ghost use Rattle.comparison.specs.internal.Setting.{Framed, Guessed, generatorsOf};
 
 // The product of two generators that commute.
 fn times(p: Generator, g: Generator) -> Generator
@@ -25,11 +27,11 @@ fn times(p: Generator, g: Generator) -> Generator
 }
 
 // An element of the second group: the row itself, or its negative, if that is one.
-pub fn element(n: usize, second: [Generator; 20], frame: [u8; 20], p: Generator) -> Generator
-    requires { ⌜ (n ≤ 20) × Framed n (generatorsOf second) (codesOf frame) × Codes frame ⌝ }
+pub fn element(n: usize, second: [Generator; 20], frame: Action, p: Generator) -> Generator
+    requires { ⌜ (n ≤ 20) × ((k : ℕ → Clifford) × Framed n (generatorsOf second) k × ActsAs k frame) ⌝ }
     ensures { λ r. ⌜ Guessed n (generatorsOf second) (generatorOf p) (generatorOf r) ⌝ }
 {
-    let undone = send(p, &frame);
+    let undone = act_on(p, frame);
     let w = undone.x;
     let mut h = Generator {
         minus: false,

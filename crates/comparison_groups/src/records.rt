@@ -1,6 +1,7 @@
 // A record as the comparison takes it: its generators, and the codes that undo its codes.
 use clifford::Code;
-use clifford_rows::send;
+use clifford_words::act_on;
+use clifford_words::action_of;
 use pauli::Generator;
 use words::single;
 ghost use mathlib.Core.Path.{_≡_};
@@ -21,6 +22,7 @@ pub fn generators(n: usize, neighbours: &[u64], codes: &[u8]) -> [Generator; 20]
         z: 0,
         x: 0,
     }; 20];
+    let by = action_of(codes);
     let mut j = 0;
     while j < n {
         let g = Generator {
@@ -28,7 +30,7 @@ pub fn generators(n: usize, neighbours: &[u64], codes: &[u8]) -> [Generator; 20]
             z: neighbours[j],
             x: single(j),
         };
-        let sent = send(g, codes);
+        let sent = act_on(g, by);
         all[j] = sent;
         j += 1;
     }

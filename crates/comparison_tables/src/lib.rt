@@ -1,11 +1,14 @@
 // The tables of what every choice that works must satisfy, and the first class and the first signs that they allow at a
 // qubit.
-use clifford_rows::send;
+use clifford_words::act_on;
+use clifford_words::action_of;
 use comparison::Equation;
 use comparison_equations::broken;
 use comparison_equations::class_words;
 use comparison_equations::insert;
 use comparison_equations::sign_words;
+use comparison_equations::with_class;
+use comparison_equations::with_signs;
 use comparison_groups::element;
 use pauli::Generator;
 ghost use mathlib.Core.Path.{_≡_};
@@ -73,7 +76,7 @@ fn class_rows(
     while j < n {
         let h = second[j];
         let e = class_equation(g, h);
-        insert(table, 4 * n, e);
+        insert(table, e);
         j += 1;
     }
 }
@@ -108,13 +111,15 @@ pub fn sign_table(
     requires { ⌜ SentUpToSign n first second (codesOf choice) × (now table ≡ emptyRows) ⌝ }
     ensures { λ r. ⌜ SignTable n first second (codesOf choice) n (equationsIn (now (table .exit))) ⌝ }
 {
+    let by = action_of(&choice);
+    let undone = action_of(&frame);
     let mut i = 0;
     while i < n {
         let g = first[i];
-        let p = send(g, &choice);
-        let h = element(n, second, frame, p);
+        let p = act_on(g, by);
+        let h = element(n, second, undone, p);
         let e = sign_equation(g, p.minus ^ h.minus);
-        insert(table, 4 * n, e);
+        insert(table, e);
         i += 1;
     }
 }
@@ -124,11 +129,10 @@ pub fn least_class(table: &[[u64; 5]; 80], n: usize, choice: [u8; 20], q: usize)
     requires { ⌜ (n ≤ 20) × (q < n) × Codes choice ⌝ }
     ensures { λ r. ⌜ FirstFit (classAssignment n) (equationsIn (now (table .entry))) q (λ u. codesOf (withClass choice q u)) 6 r ⌝ }
 {
+    let held = class_words(n, choice);
     let mut v = 0u8;
     while v < 6 {
-        let mut next = choice;
-        next[q] = 4 * v;
-        let w = class_words(n, next);
+        let w = with_class(held, q, v);
         if !broken(table, q, w) {
             return v;
         }
@@ -142,11 +146,10 @@ pub fn least_sign(table: &[[u64; 5]; 80], n: usize, choice: [u8; 20], q: usize) 
     requires { ⌜ (n ≤ 20) × (q < n) × Codes choice ⌝ }
     ensures { λ r. ⌜ FirstFit (signAssignment n) (equationsIn (now (table .entry))) q (λ u. codesOf (withSigns choice q u)) 4 r ⌝ }
 {
+    let held = sign_words(n, choice);
     let mut v = 0u8;
     while v < 4 {
-        let mut next = choice;
-        next[q] = 4 * (choice[q] / 4) + v;
-        let w = sign_words(n, next);
+        let w = with_signs(held, q, v);
         if !broken(table, q, w) {
             return v;
         }

@@ -4,7 +4,7 @@ use mathlib.Core.Bool.{Bool, false, true}
 use mathlib.Core.List.{List, [], _∷_, map}
 use mathlib.Core.Logic.{_⊎_}
 use mathlib.Core.Path.{_≡_}
-use Prim.Native.Nat.{_%_, _*_, _+_, _/_, _<_, _≤_, suc, zero, ℕ}
+use Prim.Native.Nat.{_%_, _*_, _+_, _-_, _/_, _<_, _≤_, suc, zero, ℕ}
 use lib.Bits.{bitAnd, bitOr, bitXor}
 use lib.Dec.{eqb}
 use lib.ListN.{getD, length, replicate}
@@ -61,6 +61,11 @@ wordAt (suc (suc (suc l))) a b c d = d
 -- whether an equation has unknown i: unknown i % 4 of qubit i / 4
 abbrev pub unknown : Equation → ℕ → Bool
 unknown e i = bit (wordAt (i % 4) (e .a) (e .b) (e .c) (e .d)) (i / 4)
+
+-- r is the number after that of the last unknown; 0 where there is none
+pub record Bound (e : Equation) (r : ℕ) : Type 0 where
+  pub above : (j : ℕ) → r ≤ j → unknown e j ≡ false
+  pub last : 0 < r → unknown e (r - 1) ≡ true
 
 -- equation i of the table has unknown i and none above it, or asks nothing
 pub record Triangular (table : List Equation) : Type 0 where

@@ -29,11 +29,10 @@ insert-requires c κs =
     let s = c .before .before .before .before .before .before in
     let l = c .before .before .before .before .loop in
     let T = l .inv (s .args .t3) refl (s .pre .1) in (
-      omega (arith, s .pre .0 .0),
       T .triangular,
       (λ j k. ap (λ e. unknown e j) (c .before .class-equation .ensures)
           ∙ class-short (s .args .n) (getD (s .args .t3) (s .args .i) noGenerator) (getD (s .args .t4) (l .j) noGenerator)
-          (s .pre .0 .1 .within (s .args .i) (s .pre .0 .2)) j k),
+          (s .pre .0 .1 .within (s .args .i) (s .pre .0 .2)) j (omega (arith, s .pre .0 .0, k))),
     )
 
 loop-again : tie.Need-loop-again Inv-loop μ-loop
@@ -56,5 +55,5 @@ pub class-rows-spec : {M : Type 1} → statement M
 class-rows-spec =
     tie.close
     (tie.spec Inv-loop μ-loop (λ c. search needs) (λ c. search needs) loop-holds (λ c. search needs) (λ c. search needs)
-    (λ c κs. search needs) (λ c. search needs) insert-requires (λ c. search needs) (λ c. omega arith) loop-again
+    (λ c κs. search needs) insert-requires (λ c. search needs) (λ c. omega arith) loop-again
     returns)

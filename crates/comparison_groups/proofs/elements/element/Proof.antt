@@ -8,7 +8,6 @@ use Rattle.words.specs.Bits.{bit}
 use Rattle.words.proofs.BitLaws.{zero-bit}
 use Rattle.pauli.specs.internal.Rows.{generatorOf}
 use Rattle.pauli.proofs.PauliLaws.{Pauli-path}
-use Rattle.clifford.specs.Vectors.{codesOf}
 use Rattle.comparison.specs.internal.Setting.{generatorsOf}
 use Rattle.comparison.proofs.RecordElements.{framed-proper, guessed}
 use Rattle.stabilizer.proofs.Multiplying.{Multiplied, multiplied-off, multiplied-on, next-commutes, none-multiplied}
@@ -27,21 +26,21 @@ loop-holds c = none-multiplied _ _ _ _ (Pauli-path refl zero-bit zero-bit)
 times-requires : tie.Need-times-requires Inv-loop μ-loop
 times-requires c κs =
     let l = c .before .before .before .before .loop in
-    let s = c .before .before .before .before .before .before .before in
-    let proper = framed-proper (s .args .n) (generatorsOf (s .args .t2)) (codesOf (s .args .t3)) (s .pre .1) in
+    let s = c .before .before .before .before .before .before in
+    let proper = framed-proper (s .args .n) (generatorsOf (s .args .t2)) (s .pre .1 .0) (s .pre .1 .1) in
     next-commutes (s .args .n) (omega arith) (generatorsOf (s .args .t2)) (proper .within)
-    (bit (c .before .before .before .before .before .send .result .x)) (l .j) (generatorOf (l .h)) (l .inv)
+    (bit (c .before .before .before .before .before .act-on .result .x)) (l .j) (generatorOf (l .h)) (l .inv)
     (c .before .before .before .loop-test .taken) (proper .commuting)
 
 loop-again : tie.Need-loop-again Inv-loop μ-loop
 loop-again c =
-    let s = c .before .before .before .before .before .before in
+    let s = c .before .before .before .before .before in
     let a = s .args in
     let l = c .before .before .before .loop in
-    let w = bit (c .before .before .before .before .send .result .x) in
+    let w = bit (c .before .before .before .before .act-on .result .x) in
     let test = c .before .has .ensures in
     let rows = generatorsOf (a .t2) in
-    let proper = framed-proper (a .n) rows (codesOf (a .t3)) (s .pre .1) in
+    let proper = framed-proper (a .n) rows (s .pre .1 .0) (s .pre .1 .1) in
     let more = c .before .before .loop-test .taken in
     ⊎-elim
     (λ k. subst (λ h. Multiplied (a .n) rows w (l .j + 1) (generatorOf h)) (sym (k .3))
@@ -54,13 +53,13 @@ loop-again c =
 
 returns : tie.Need-returns Inv-loop μ-loop
 returns c =
-    let s = c .before .before .before .before in
-    guessed (s .args .n) (omega arith) (generatorsOf (s .args .t2)) (codesOf (s .args .t3)) (s .pre .1)
-    (generatorOf (s .args .p)) (generatorOf (c .before .before .send .result))
-    (c .before .before .send .ensures) (c .before .loop .j) _ (c .loop-test .left) (c .before .loop .inv)
+    let s = c .before .before .before in
+    guessed (s .args .n) (omega arith) (generatorsOf (s .args .t2)) (s .pre .1 .0) (s .pre .1 .1)
+    (generatorOf (s .args .p)) (generatorOf (c .before .before .act-on .result))
+    (c .before .before .act-on .ensures (s .pre .1 .0) (s .pre .1 .2)) (c .before .loop .j) _ (c .loop-test .left) (c .before .loop .inv)
 
 pub element-spec : {M : Type 1} → statement M
 element-spec =
     tie.close
-    (tie.spec Inv-loop μ-loop (λ c. search needs) (λ c κs. search needs) loop-holds (λ c κs. search needs)
+    (tie.spec Inv-loop μ-loop (λ c κs. search needs) loop-holds (λ c κs. search needs)
     (λ c. search needs) (λ c. search needs) times-requires (λ c. search needs) (λ c. omega arith) loop-again returns)

@@ -4,6 +4,7 @@ use Prim.Native.Nat.{_-_, _<_}
 use native.Mathlib.Omega.{arith}
 use lib.ListN.{length, length-set}
 use borrow.Author.Needs.{needs}
+use Rattle.clifford.specs.Vectors.{codesOf}
 use Rattle.pauli.specs.internal.Rows.{generatorOf}
 use Rattle.record.specs.Lent.{heldRows}
 use Rattle.comparison.specs.internal.Setting.{noGenerator}
@@ -13,19 +14,25 @@ use Rattle.comparison_groups.proofs.records.generators.Statement.{state
 use Rattle.comparison_groups.proofs.records.generators.Tie as tie
 
 abbrev Inv-loop : tie.InvT-loop
-Inv-loop n neighbours codes all₀ j₀ all j = (length all ≡ 20)
+Inv-loop n neighbours codes all₀ by j₀ all j = (length all ≡ 20)
     × Filled noGenerator n
     (λ i g. generatorOf g ≡ heldRows (record { n = n; neighbours = neighbours; codes = codes }) i) j all
 
 abbrev μ-loop : tie.MeasureT-loop
-μ-loop n neighbours codes all₀ j₀ all j = n - j
+μ-loop n neighbours codes all₀ by j₀ all j = n - j
+
+action-of-requires : tie.Need-action-of-requires Inv-loop μ-loop
+action-of-requires c κs =
+    let pre = c .before .before .pre in
+    (omega (arith, pre .0, pre .1 .codes-long), pre .1 .codes-sound)
 
 loop-holds : tie.Need-loop-holds Inv-loop μ-loop
 loop-holds c = (refl, none-filled noGenerator _ _ _)
 
 loop-again : tie.Need-loop-again Inv-loop μ-loop
 loop-again c =
-    let s = c .before .before .before .before .before .before .before in
+    let s = c .before .before .before .before .before .before .before .before in
+    let by = c .before .before .before .before .before .action-of .ensures in
     let a = s .args in
     let l = c .before .before .before .before .loop in
     let more = c .before .before .before .loop-test .taken in
@@ -33,7 +40,7 @@ loop-again c =
       length-set (l .all) (l .j) _ ∙ l .inv .0,
       one-filled noGenerator _ _ (l .j) (l .all) (l .inv .1) more fits _
           (generator-sent (a .n) (s .pre .0) (a .neighbours .now) (a .codes .now) (s .pre .1) (l .j) more _
-          (c .before .single .ensures) _ (c .send .ensures)),
+          (c .before .single .ensures) _ (c .act-on .ensures (codesOf (a .codes .now)) by)),
     )
 
 returns : tie.Need-returns Inv-loop μ-loop
@@ -44,6 +51,6 @@ returns c =
 pub generators-spec : {M : Type 1} → statement M
 generators-spec =
     tie.close
-    (tie.spec Inv-loop μ-loop loop-holds (λ c. search needs) (λ c. search needs) (λ c κs. search needs)
-    (λ c κs. search needs) (λ c. search needs) (λ c. search needs) (λ c. search needs) (λ c. omega arith) loop-again
-    returns)
+    (tie.spec Inv-loop μ-loop action-of-requires loop-holds (λ c. search needs) (λ c. search needs)
+    (λ c κs. search needs) (λ c κs. search needs) (λ c. search needs) (λ c. search needs) (λ c. search needs)
+    (λ c. omega arith) loop-again returns)
