@@ -12,7 +12,6 @@ pub mod RecordElements
 pub mod WordsByBits
 pub mod NextChoice
 pub mod EquationTables
-pub mod Filling
 pub mod ComparedRecords
 pub mod LeastAtVertices
 pub mod ChoicesByParts
