@@ -6,7 +6,8 @@ use mathlib.Core.Path.{ap, refl, subst, _∙_, _≡_}
 use Prim.Native.Nat.{ℕ}
 use lib.Dec.{eqb, leb, lit<, ltb}
 use borrow.Author.Tests.{eqb-true, not-false}
-use Rattle.buffers.proofs.AddedLines.{before-none, before-passes, hasNumber, test-has, test-numbered, test-passes, without-test}
+use Rattle.buffers.proofs.AddedLines.{before-none, before-passes}
+use Rattle.buffers.proofs.AddedLines.{hasNumber, test-has, test-numbered, test-passes, without-test}
 use Rattle.buffers.proofs.Lines.{Numbered, none-of-all, not-held}
 use Rattle.buffers.specs.Refusals.{Refusal, firstFitting, insertedBefore, line, withTest}
 use Rattle.operations.specs.Steps.{Operation, complementOf, czOn, gateWith, linesOf, measurementOf, pivotOf}

@@ -13,7 +13,8 @@ use Rattle.words.proofs.OnesLaws.{parity-ones}
 use Rattle.words.proofs.Sums.{fold-ext, fold-shift}
 use Rattle.words.specs.Bits.{bit, fold, isOdd, _⊕_}
 use Rattle.pauli.proofs.PauliLaws.{Pauli-path, clash-form, mul-x, mul-z, signed-product}
-use Rattle.pauli.proofs.PhaseLaws.{+ᵖ-assoc, exponent-two, minus-⊕, phaseMonoid, phases, sign-of-phase, sumPhase-add}
+use Rattle.pauli.proofs.PhaseLaws.{+ᵖ-assoc, exponent-two, minus-⊕, phaseMonoid, phases, sign-of-phase}
+use Rattle.pauli.proofs.PhaseLaws.{sumPhase-add}
 use Rattle.pauli.specs.Pauli.{
   _+ᵖ_,
   Phase,

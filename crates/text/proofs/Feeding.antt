@@ -31,7 +31,8 @@ module _ {W : Type 0} (feed : W → ℕ → W) where
       → (next : W) → next ≡ feed now (getD block i 0) → next ≡ fedBytes feed w (take (i + 1) block)
   fed-more w now block i inside sofar next e =
       e ∙ ap (λ v. feed v (getD block i 0)) sofar ∙ sym (fed-one w (take i block) (getD block i 0))
-      ∙ ap (fedBytes feed w) (sym (take-suc block i 0 inside)) ∙ ap (λ k. fedBytes feed w (take k block)) (sym (add-one i))
+      ∙ ap (fedBytes feed w) (sym (take-suc block i 0 inside))
+      ∙ ap (λ k. fedBytes feed w (take k block)) (sym (add-one i))
 
   -- what each byte keeps, of the state and the text read, a text keeps
   pub fed-keeps : (P : W → List ℕ → Type 0)

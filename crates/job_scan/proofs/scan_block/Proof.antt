@@ -37,10 +37,10 @@ loop-again : tie.Need-loop-again Inv-loop μ-loop
 loop-again c =
     let N = c .before .before .before .before .before .before .before .before in
     let I = N .before .before .before .before .before .before in
-    let l = I .before .loop in (
+    let l = I .before .loop in
+    let sofar = asReading (l .scan) (stepsIn (l .ops) (l .a) (l .b) (l .value)) in (
       search needs,
-      fed-more feed _ (asReading (l .scan) (stepsIn (l .ops) (l .a) (l .b) (l .value))) _ (l .i) (I .loop-test .taken) (l .inv .1)
-          _ (N .scan-next .ensures),
+      fed-more feed _ sofar _ (l .i) (I .loop-test .taken) (l .inv .1) _ (N .scan-next .ensures),
       search needs,
       search needs,
       search needs,

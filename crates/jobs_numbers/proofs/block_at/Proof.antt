@@ -38,12 +38,15 @@ array-set-from-steps c = place-below c
 loop-again : tie.Need-loop-again Inv-loop μ-loop
 loop-again c =
     let l = c .before .before .loop in
-    (search needs, one-filled (numbered 0 0 0 0) 64 _ (l .steps) (l .k) _ (l .inv .1) (place-below c) (c .step-at .ensures))
+    let F = l .inv .1 in
+    (search needs, one-filled (numbered 0 0 0 0) 64 _ (l .steps) (l .k) _ F (place-below c) (c .step-at .ensures))
 
 returns : tie.Need-returns Inv-loop μ-loop
 returns c =
     let S = c .before .before .before .before .before .before in
-    block-filled _ _ _ _ _ _ _ _ (S .pre .0) (S .pre .1) (c .loop-test .left) (c .before .loop .inv .1)
+    let A = S .args in
+    block-filled (A .ops .now) (A .a .now) (A .b .now) (A .value .now) (A .from) _ _ _
+    (S .pre .0) (S .pre .1) (c .loop-test .left) (c .before .loop .inv .1)
 
 pub block-at-spec : {M : Type 1} → statement M
 block-at-spec =
