@@ -13,7 +13,7 @@ use Rattle.clifford.specs.Vectors.{act}
 use Rattle.graph_steps.specs.internal.ReducedForms.{ReducedForm}
 use Rattle.pauli.specs.Pauli.{Pauli, letter, xBit}
 use Rattle.record.proofs.ColumnLaws.{element-dependent}
-use Rattle.record.proofs.ReducedCodes.{reduced-codes-among}
+use Rattle.record.proofs.ReducedCodes.{code-x, reduced-codes-among}
 use Rattle.record.proofs.ReducedRecords.{reduced-is}
 use Rattle.record.proofs.WrittenRecords.{reduced-identity-above}
 use Rattle.record.specs.Columns.{ColumnDependent}
@@ -26,12 +26,7 @@ use Rattle.words.proofs.Places.{other-place}
 use Rattle.words.proofs.Sums.{bitMonoid, fold-unit, last-or, lt-or-ge}
 use Rattle.words.specs.Bits.{_⊕_}
 
--- codes of a reduced record: the x bit after them, the sign of Z, and C
-code-x : (h y s z x : Bool)
-    → xBit (image (withHadamard h (plainCode y s)) (letter z x)) ≡ cond h (z ⊕ (x && y)) x
-code-x = bits 5 (λ h y s z x. xBit (image (withHadamard h (plainCode y s)) (letter z x)))
-    (λ h y s z x. cond h (z ⊕ (x && y)) x) tt
-
+-- codes of a reduced record: the sign of Z, and C
 code-even : (h y s : Bool) → (withHadamard h (plainCode y s)) .sz ≡ false
 code-even = bits 3 (λ h y s. (withHadamard h (plainCode y s)) .sz) (λ h y s. false) tt
 

@@ -8,7 +8,7 @@ use native.Mathlib.Nat.{lt-irrefl}
 use native.Mathlib.Omega.{arith}
 use lib.Dec.{eqb}
 use Rattle.buffers.proofs.Lines.{Numbered}
-use Rattle.buffers.specs.Refusals.{Refusal, firstFitting, insertedAfter, line, withTest}
+use Rattle.buffers.specs.Refusals.{Refusal, firstFitting, insertedAfter, insertedBefore, line, withTest}
 
 -- some line has the number k
 abbrev pub hasNumber : ℕ → List Refusal → Bool
@@ -65,7 +65,7 @@ test-passes k false ls N h = (
   (λ p. without-test k ls ∙ p .0),
 )
 
--- ---- a line put in
+-- ---- a line put in after another
 -- one that does not hold changes nothing
 pub inserted-none : (k m : ℕ) (ls : List Refusal) → firstFitting (insertedAfter k (line m false) ls) ≡ firstFitting ls
 unfolding firstFitting
@@ -102,4 +102,42 @@ inserted-passes k m true ls N h = (
 inserted-passes k m false ls N h = (
   (λ e. (sym (inserted-none k (suc m) ls) ∙ e, refl)),
   (λ p. inserted-none k (suc m) ls ∙ p .0),
+)
+
+-- ---- a line put in before another
+-- one that does not hold changes nothing
+pub before-none : (k m : ℕ) (ls : List Refusal) → firstFitting (insertedBefore k (line m false) ls) ≡ firstFitting ls
+unfolding firstFitting
+before-none k m [] = refl
+before-none k m (l ∷ ls) = go (eqb (l .number) k) ∙ ap (cond (l .holds) (l .number)) (before-none k m ls)
+  where
+    go : (t : Bool) → firstFitting (cond t (line m false ∷ l ∷ insertedBefore k (line m false) ls)
+        (l ∷ insertedBefore k (line m false) ls)) ≡ firstFitting (l ∷ insertedBefore k (line m false) ls)
+    go true = refl
+    go false = refl
+
+-- one that holds refuses
+before-refuses : (k m : ℕ) (ls : List Refusal) → Numbered ls → hasNumber k ls ≡ true
+    → firstFitting (insertedBefore k (line (suc m) true) ls) ≡ 0 → ⊥
+unfolding firstFitting
+before-refuses k m [] N h e = true≢false (sym h)
+before-refuses k m (l ∷ ls) N h e = go (l .holds) (eqb (l .number) k) h e (before-refuses k m ls (N .1))
+  where
+    go : (v t : Bool) → (t || hasNumber k ls) ≡ true
+        → firstFitting (cond t (line (suc m) true ∷ line (l .number) v ∷ insertedBefore k (line (suc m) true) ls)
+        (line (l .number) v ∷ insertedBefore k (line (suc m) true) ls)) ≡ 0
+        → (hasNumber k ls ≡ true → firstFitting (insertedBefore k (line (suc m) true) ls) ≡ 0 → ⊥) → ⊥
+    go v true h e rest = not-zero (suc m) (omega arith) e
+    go true false h e rest = not-zero (l .number) (N .0) e
+    go false false h e rest = rest h e
+
+pub before-passes : (k m : ℕ) (b : Bool) (ls : List Refusal) → Numbered ls → hasNumber k ls ≡ true
+    → (firstFitting (insertedBefore k (line (suc m) b) ls) ≡ 0) ↔ ((firstFitting ls ≡ 0) × (b ≡ false))
+before-passes k m true ls N h = (
+  (λ e. absurd (before-refuses k m ls N h e)),
+  (λ p. absurd (true≢false (p .1))),
+)
+before-passes k m false ls N h = (
+  (λ e. (sym (before-none k (suc m) ls) ∙ e, refl)),
+  (λ p. before-none k (suc m) ls ∙ p .0),
 )

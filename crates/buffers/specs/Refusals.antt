@@ -31,6 +31,12 @@ abbrev pub insertedAfter : ℕ → Refusal → List Refusal → List Refusal
 insertedAfter k new [] = []
 insertedAfter k new (l ∷ ls) = l ∷ cond (eqb (l .number) k) (new ∷ insertedAfter k new ls) (insertedAfter k new ls)
 
+-- the line put in directly before the one with number k
+abbrev pub insertedBefore : ℕ → Refusal → List Refusal → List Refusal
+insertedBefore k new [] = []
+insertedBefore k new (l ∷ ls) =
+    cond (eqb (l .number) k) (new ∷ l ∷ insertedBefore k new ls) (l ∷ insertedBefore k new ls)
+
 -- ---- tests that several lines share
 -- 2: "n is 0 or above 64"
 abbrev pub badCount : ℕ → Bool

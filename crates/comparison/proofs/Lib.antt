@@ -14,7 +14,6 @@ pub mod WordsByBits
 pub mod NextChoice
 pub mod PlacedWords
 pub mod EquationTables
-pub mod Filling
 pub mod ComparedRecords
 pub mod LeastAtVertices
 pub mod ChoicesByParts

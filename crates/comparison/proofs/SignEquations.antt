@@ -7,7 +7,7 @@ use Rattle.clifford.proofs.CliffordLaws.{fromFive, onClifford, phaseAfter}
 use Rattle.clifford.specs.Clifford.{Clifford, image}
 use Rattle.clifford.specs.Vectors.{act}
 use Rattle.pauli.proofs.PauliLaws.{Pauli-path, mul-x, mul-z}
-use Rattle.pauli.proofs.PhaseLaws.{+ᵖ-assoc, minus-injective, minus-⊕, phases, sumPhase-add}
+use Rattle.pauli.proofs.PhaseLaws.{+ᵖ-assoc, minus-injective, minus-parity, minus-⊕, phases, sumPhase-add}
 use Rattle.pauli.specs.Pauli.{_+ᵖ_, Pauli, identity, i⁰, letterAt, minus, mul, sumPhase, xBit, zBit}
 use Rattle.pauli.specs.internal.Rows.{generatorOf}
 use Rattle.pauli.specs.declared.Generator.{Generator}
@@ -19,8 +19,8 @@ use Rattle.stabilizer.specs.Carries.{Carries}
 use Rattle.stabilizer.specs.Groups.{InGroup, Proper, Trivial, Within, chosen, product}
 use Rattle.words.proofs.Finite.{bits, ⊕-self, ⊕-zero}
 use Rattle.words.proofs.Places.{⊕-cancel}
-use Rattle.words.proofs.Sums.{fold-ext, fold-hom, parity-add}
-use Rattle.words.specs.Bits.{Word, bit, parity, wordOf, _⊕_}
+use Rattle.words.proofs.Sums.{fold-ext, parity-add}
+use Rattle.words.specs.Bits.{bit, parity, wordOf, _⊕_}
 use Rattle.words.specs.internal.Bits.{dot}
 use Rattle.comparison.proofs.ClassEquations.{dot-word, x-word-lt, z-word-lt}
 use Rattle.comparison.proofs.EquationLaws.{zero-dot}
@@ -40,9 +40,6 @@ phase-signs = onClifford _
     (λ a b c d e z x. phaseAfter (withoutSigns (fromFive a b c d e)) z x
     +ᵖ minus (signAt (fromFive a b c d e) z x)) tt)
 
-minus-sum : (n : ℕ) (f : Word) → sumPhase n (λ q. minus (f q)) ≡ minus (parity n f)
-minus-sum n f = sym (fold-hom false _⊕_ i⁰ _+ᵖ_ minus refl minus-⊕ n f)
-
 -- the sign of an image is that under the bare classes, changed by the parity of the signs met
 module _ (n : ℕ) (k : ℕ → Clifford) (g : Generator) (W : Within n (generatorOf g)) where
   pub image-sign : (act n k (generatorOf g)) .phase
@@ -55,7 +52,7 @@ module _ (n : ℕ) (k : ℕ → Clifford) (g : Generator) (W : Within n (generat
       ∙ sym (+ᵖ-assoc (minus (g .minus)) _ _)
       ∙ ap (λ t. (minus (g .minus) +ᵖ sumPhase n (λ q. phaseAfter (withoutSigns (k q)) (bit (g .z) q) (bit (g .x) q)))
       +ᵖ t)
-      (minus-sum n _ ∙ ap minus signs)
+      (minus-parity n _ ∙ ap minus signs)
     where
       signs : parity n (λ q. signAt (k q) (bit (g .z) q) (bit (g .x) q))
           ≡ ((dot (g .x) (wordOf n (λ q. k q .sx)) ⊕ dot (g .z) (wordOf n (λ q. k q .sz)))

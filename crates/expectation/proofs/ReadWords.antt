@@ -1,5 +1,5 @@
 -- The value as the code reads it: from the words of the row that was sent back, and of the element with its x bits.
-use mathlib.Core.Bool.{Bool, cond, false, true, true≢false}
+use mathlib.Core.Bool.{Bool, cond, false, true}
 use mathlib.Core.Path.{ap, refl, subst, sym, _∙_, _≡_}
 use Prim.Native.Nat.{_<_, _^_, ℕ}
 use lib.Dec.{eqb}
@@ -9,9 +9,9 @@ use Rattle.clifford.specs.Vectors.{act, codesOf}
 use Rattle.graph.proofs.GraphGroups.{graph-commuting}
 use Rattle.graph.specs.Graph.{graphGenerator}
 use Rattle.pauli.proofs.PauliLaws.{Pauli-path}
-use Rattle.pauli.proofs.PhaseLaws.{exponent-two}
+use Rattle.pauli.proofs.PhaseLaws.{exponent-two, sign-of-phase}
 use Rattle.pauli.proofs.WordRows.{exponent-power}
-use Rattle.pauli.specs.Pauli.{_+ᵖ_, Pauli, Phase, imaginary, i², i³, i¹, i⁰, minus, power, signBit, signedRow}
+use Rattle.pauli.specs.Pauli.{_+ᵖ_, Pauli, Phase, imaginary, i², i⁰, minus, power, signedRow}
 use Rattle.pauli.specs.declared.Generator.{Generator}
 use Rattle.pauli.specs.declared.Row.{Row}
 use Rattle.pauli.specs.internal.Rows.{generatorOf, pauliOf}
@@ -26,13 +26,6 @@ use Rattle.expectation.proofs.Reading.{element-bits, sent-back-in, sent
 use Rattle.expectation.proofs.ValueLaws.{value-minus, value-neither, value-plus}
 use Rattle.expectation.specs.Values.{negated, stabilizerValue}
 use Rattle.expectation.specs.internal.Reading.{elementWith, readValue, sentBack}
-
--- a phase that is a sign, as the code tests it
-sign-of-phase : (t : Phase) → imaginary t ≡ false → t ≡ minus (signBit t)
-sign-of-phase i⁰ e = refl
-sign-of-phase i¹ e = absurd (true≢false e)
-sign-of-phase i² e = refl
-sign-of-phase i³ e = absurd (true≢false e)
 
 pub row-of-words : (n z x : ℕ) (s : Bool) → z < 2 ^ n → x < 2 ^ n → Within n (signedRow s z x)
 row-of-words n z x s hz hx = record { no-x = bit-above n x hx; no-z = bit-above n z hz }

@@ -4,7 +4,7 @@ use mathlib.Core.Logic.{_≢_}
 use mathlib.Core.Path.{ap, ap₂, refl, subst, sym, _∙_, _≡_}
 use Prim.Native.Nat.{_<_, ℕ, _≤_}
 use Rattle.clifford.proofs.CliffordLaws.{cliffords}
-use Rattle.clifford.proofs.VectorLaws.{act-identity, act-mul, act-scaled, act-then}
+use Rattle.clifford.proofs.VectorLaws.{act-mul, act-scaled, act-then}
 use Rattle.clifford.specs.Clifford.{Clifford, bitC, identityClifford, then}
 use Rattle.clifford.specs.Vectors.{act}
 use Rattle.graph.specs.Graph.{Graph, Simple, graphGenerator}
@@ -16,6 +16,7 @@ use Rattle.record.proofs.Maximality.{inclusion-same}
 use Rattle.record.proofs.ReducedRecords.{record-proper}
 use Rattle.record.specs.Records.{GraphRecord, rowsOf}
 use Rattle.record.specs.Reduced.{reduced}
+use Rattle.stabilizer.proofs.Carried.{act-chosen}
 use Rattle.stabilizer.proofs.GroupLaws.{in-identity, in-mul, in-row}
 use Rattle.stabilizer.specs.Groups.{InGroup, Proper, SameGroup, chosen}
 use Rattle.words.proofs.Finite.{bits}
@@ -53,12 +54,8 @@ module _ (n : ℕ) (r : GraphRecord) (S : Simple n (r .graph)) (F : ReducedForm 
   gb = element n r S F b hb
 
   -- ---- a generator afterwards
-  act-chosen : (v : Bool) (p : Pauli) → act n c (chosen v p) ≡ chosen v (act n c p)
-  act-chosen false p = act-identity n c
-  act-chosen true p = refl
-
   gated-z : (v : Bool) (w : Word) → act n c (zs (λ q. v && w q)) ≡ chosen v (act n c (zs w))
-  gated-z v w = ap (act n c) (sym (chosen-zs v w)) ∙ act-chosen v (zs w)
+  gated-z v w = ap (act n c) (sym (chosen-zs v w)) ∙ act-chosen n c v (zs w)
 
   generator-after : (j : ℕ) → act n c (graphGenerator (joinedBy θ A B) j)
       ≡ mul n (mul n (R j) (chosen (A j) (scaled (minus (reachMinus r b)) (mul n gb (zAt b)))))

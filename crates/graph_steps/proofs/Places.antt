@@ -11,14 +11,14 @@ use Rattle.clifford.specs.Vectors.{act}
 use Rattle.graph.specs.Graph.{Graph, graphGenerator}
 use Rattle.operations.specs.Measurement.{single}
 use Rattle.pauli.proofs.PauliLaws.{Pauli-path, letter-bits}
-use Rattle.pauli.proofs.PhaseLaws.{+ᵖ-comm, +ᵖ-zero, minus-⊕, phaseMonoid, phases}
-use Rattle.pauli.specs.Pauli.{_+ᵖ_, Pauli, i⁰, letter, minus, scaled, sumPhase, xBit, zBit}
+use Rattle.pauli.proofs.PhaseLaws.{+ᵖ-comm, +ᵖ-zero, minus-parity, phaseMonoid, phases}
+use Rattle.pauli.specs.Pauli.{_+ᵖ_, Pauli, i⁰, letter, minus, scaled, xBit, zBit}
 use Rattle.pauli.specs.declared.Letter.{Letter}
 use Rattle.pauli.specs.declared.Letter.the-variants.{I}
 use Rattle.words.proofs.BitLaws.{digit-lt}
 use Rattle.words.proofs.Finite.{bits}
 use Rattle.words.proofs.Places.{other-place, parity-at, same-place}
-use Rattle.words.proofs.Sums.{fold-ext, fold-hom, fold-one, parity-add}
+use Rattle.words.proofs.Sums.{fold-ext, fold-one, parity-add}
 use Rattle.words.specs.Bits.{Word, parity, _⊕_}
 use Rattle.graph_steps.specs.internal.Steps.{pauliCode}
 
@@ -32,10 +32,6 @@ pauli-z = bits 4 (λ u v z x. zBit (image (pauliCode u v) (letter z x))) (λ u v
 
 pauli-x : (u v z x : Bool) → xBit (image (pauliCode u v) (letter z x)) ≡ x
 pauli-x = bits 4 (λ u v z x. xBit (image (pauliCode u v) (letter z x))) (λ u v z x. x) tt
-
--- the sign of a sum of signs
-minus-parity : (n : ℕ) (f : Word) → sumPhase n (λ q. minus (f q)) ≡ minus (parity n f)
-minus-parity n f = sym (fold-hom false _⊕_ i⁰ _+ᵖ_ minus refl minus-⊕ n f)
 
 pub pauli-act : (n : ℕ) (u v : Word) (p : Pauli)
     → act n (λ q. pauliCode (u q) (v q)) p

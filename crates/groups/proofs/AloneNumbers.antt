@@ -5,7 +5,7 @@ use mathlib.Core.Path.{ap, ap₂, refl, subst, sym, _∙_, _≡_}
 use Prim.Native.Nat.{ℕ}
 use lib.Dec.{eqb, leb, ltb}
 use borrow.Author.Tests.{eq-eqb}
-use Rattle.buffers.specs.Refusals.{Refusal, firstFitting, insertedAfter, line, withTest}
+use Rattle.buffers.specs.Refusals.{Refusal, firstFitting, insertedAfter, insertedBefore, line, withTest}
 use Rattle.contracts.proofs.Fitting.{none-holds}
 use Rattle.operations.specs.Measurement.{contradicts, pauliLetter}
 use Rattle.operations.specs.Steps.{Operation, complementOf, czOn, gateWith, measurementOf, pivotOf}
@@ -17,7 +17,7 @@ use Rattle.words.specs.Bits.{isOdd}
 use Rattle.groups.proofs.GroupNumbers.{masked-number}
 use Rattle.groups.proofs.GroupPassing.{group-number}
 use Rattle.groups.proofs.MaskedRecords.{masked-apart}
-use Rattle.groups.specs.GroupLines.{groupLines, insertedBefore, namesOther, withGroup}
+use Rattle.groups.specs.GroupLines.{groupLines, namesOther, withGroup}
 use Rattle.groups.specs.Masks.{crosses, inGroup, masked}
 use Rattle.groups.specs.internal.Apart.{Apart, GroupOp, complement-op, cz-op, gate-op, measure-op}
 

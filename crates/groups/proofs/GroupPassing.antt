@@ -6,19 +6,19 @@ use mathlib.Core.Path.{ap, refl, subst, _∙_, _≡_}
 use Prim.Native.Nat.{ℕ}
 use lib.Dec.{eqb, leb, lit<, ltb}
 use borrow.Author.Tests.{eqb-true, not-false}
+use Rattle.buffers.proofs.AddedLines.{before-none, before-passes}
 use Rattle.buffers.proofs.AddedLines.{hasNumber, test-has, test-numbered, test-passes, without-test}
 use Rattle.buffers.proofs.Lines.{Numbered, none-of-all, not-held}
-use Rattle.buffers.specs.Refusals.{Refusal, firstFitting, line, withTest}
+use Rattle.buffers.specs.Refusals.{Refusal, firstFitting, insertedBefore, line, withTest}
 use Rattle.operations.specs.Steps.{Operation, complementOf, czOn, gateWith, linesOf, measurementOf, pivotOf}
 use Rattle.record.proofs.RecordLines.{record-numbered}
 use Rattle.record.specs.Lent.{LentRecord, recordCodes, recordLines}
 use Rattle.used.proofs.UsedPassing.{lines-pass, used-passes}
 use Rattle.used.specs.Used.{UsedRecord, usedLines, usedLinesOf}
 use Rattle.words.proofs.Flags.{neither}
-use Rattle.groups.specs.GroupLines.{groupLines, insertedBefore, namesOther, withGroup}
+use Rattle.groups.specs.GroupLines.{groupLines, namesOther, withGroup}
 use Rattle.groups.specs.Masks.{crosses, inGroup}
 use Rattle.groups.specs.internal.Apart.{Apart}
-use Rattle.groups.proofs.BeforeLines.{before-none, before-passes}
 
 -- the lines of an operation: 2, 6 and 8 are among them, and no number is 0
 record Lined (lines : List Refusal) : Type 0 where

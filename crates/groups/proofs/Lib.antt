@@ -2,7 +2,6 @@ pub mod GroupExamples
 pub mod Merging
 pub mod OwnPlaces
 pub mod SharedLines
-pub mod BeforeLines
 pub mod GroupPassing
 pub mod TabledRecords
 pub mod Edges

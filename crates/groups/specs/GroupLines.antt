@@ -1,18 +1,13 @@
 -- The lines of a group's gate, cz, measurement and complementation (02, §13), and what each leaves.
-use mathlib.Core.Bool.{_&&_, Bool, cond, not, _||_}
-use mathlib.Core.List.{List, [], _∷_}
+use mathlib.Core.Bool.{_&&_, Bool, not, _||_}
+use mathlib.Core.List.{List}
 use Prim.Native.Nat.{ℕ}
 use lib.Dec.{eqb, ltb}
-use Rattle.buffers.specs.Refusals.{Refusal, firstFitting, line, withTest}
+use Rattle.buffers.specs.Refusals.{Refusal, insertedBefore, line, withTest}
 use Rattle.operations.specs.Steps.{Operation, complementOf, czOn, gateWith, measurementOf, pivotOf}
 use Rattle.used.specs.Used.{UsedRecord, usedLinesOf, usedStep}
 use Rattle.words.specs.Bits.{Word}
 use Rattle.groups.specs.Masks.{crosses, inGroup, masked, merged}
-
--- the line put in directly before the one with number k
-abbrev pub insertedBefore : ℕ → Refusal → List Refusal → List Refusal
-insertedBefore k new [] = []
-insertedBefore k new (l ∷ ls) = cond (eqb (l .number) k) (new ∷ l ∷ insertedBefore k new ls) (l ∷ insertedBefore k new ls)
 
 -- a qubit of the record outside s; a number of n or more is no qubit of it
 abbrev pub outsider : Word → ℕ → ℕ → Bool

@@ -8,11 +8,12 @@ use native.Mathlib.Nat.{add-zero}
 use native.Mathlib.Omega.{arith}
 use lib.Dec.{T, eqb, ltb, ltb→lt}
 use borrow.Author.Tests.{not-true}
+use Rattle.cut.specs.Kernel.{count}
 use Rattle.graph.specs.Graph.{Simple}
 use Rattle.words.proofs.Flags.{both-true}
 use Rattle.words.proofs.Places.{put-other, put-same}
 use Rattle.words.specs.Bits.{digit, put, _⊕_}
-use Rattle.image.proofs.CountLaws.{count-put, countBits}
+use Rattle.image.proofs.CountLaws.{count-put}
 use Rattle.image.specs.Rule.{State, both, follow, onlyC, pair, complementedAt}
 
 -- C at the vertex complemented at; D at a neighbour, and at the other vertices
@@ -30,12 +31,12 @@ module _ (S : State) (v : ℕ) where
   D-other u e q = ap (λ b. cond b (S .C u ⊕ S .D u) (S .D u)) e ∙ q
 
 pub fall-alone : (n : ℕ) (S : State) (v : ℕ) → v < n → both S v ≡ true →
-    countBits n ((complementedAt S v) .C) + 1 ≡ countBits n (S .C)
+    count n ((complementedAt S v) .C) + 1 ≡ count n (S .C)
 fall-alone n S v l e =
     let cv : S .C v ≡ true = both-true (S .C v) (S .D v) e .0 in
     let dv : S .D v ≡ true = both-true (S .C v) (S .D v) e .1 in
-    ap (λ f. countBits n f + 1) (C-after S v cv dv)
-    ∙ ap (λ b. countBits n (put (S .C) v false) + digit b) (sym cv)
+    ap (λ f. count n f + 1) (C-after S v cv dv)
+    ∙ ap (λ b. count n (put (S .C) v false) + digit b) (sym cv)
     ∙ count-put n (S .C) v false l ∙ add-zero _
 
 -- what a pair is
@@ -105,11 +106,11 @@ module _ (n : ℕ) (S : State) (G : Simple n (S .graph)) (j k : ℕ) (a : j < n)
     C3 : (follow S (j ∷ k ∷ j ∷ [])) .C ≡ put (put (put (S .C) j true) k false) j false
     C3 = C-after S2 j (ap (λ f. f j) C2 ∙ C2j) D2j ∙ ap (λ f. put f j false) C2
 
-    pub fall-joined : countBits n ((follow S (j ∷ k ∷ j ∷ [])) .C) + 2 ≡ countBits n (S .C)
+    pub fall-joined : count n ((follow S (j ∷ k ∷ j ∷ [])) .C) + 2 ≡ count n (S .C)
     fall-joined =
         omega (
           arith,
-          ap (countBits n) C3,
+          ap (count n) C3,
           count-put n (put (put (S .C) j true) k false) j false a,
           ap digit C2j,
           count-put n (put (S .C) j true) k false b,

@@ -7,10 +7,11 @@ use Prim.Native.Nat.{_*_, _+_, _<_, suc, suc-le-suc, zero, ℕ, _≤_}
 use native.Mathlib.Nat.{not-suc-le-zero}
 use native.Mathlib.Omega.{arith}
 use lib.ListN.{getD, length, length-append}
+use Rattle.cut.proofs.Counting.{count-upto}
+use Rattle.cut.specs.Kernel.{count}
 use Rattle.graph.proofs.Complement.{complement-simple}
 use Rattle.graph.specs.Graph.{Simple}
 use Rattle.record.proofs.ComplementLists.{VerticesBelow, add, nil}
-use Rattle.image.proofs.CountLaws.{count-le, countBits}
 use Rattle.image.proofs.Falling.{fall-alone, fall-joined, pair-is}
 use Rattle.image.proofs.Moves.{Move, alone, joined, moves-are, moves-unique, stop}
 use Rattle.image.specs.Rule.{State, both, follow, moves, pair, run, complementedAt}
@@ -47,7 +48,7 @@ follow-simple n S (v ∷ ms) G = follow-simple n (complementedAt S v) ms (comple
 
 -- ---- how many complementations: each single one takes one C away, each triple two
 abbrev Fall : ℕ → State → List ℕ → Type 0
-Fall n S ms = 2 * length ms + 3 * countBits n ((follow S ms) .C) ≤ 3 * countBits n (S .C)
+Fall n S ms = 2 * length ms + 3 * count n ((follow S ms) .C) ≤ 3 * count n (S .C)
 
 move-fall : (n : ℕ) (S : State) {ms : List ℕ} → Simple n (S .graph) → Move n S ms → Fall n S ms
 move-fall n S G (alone v F) = omega (arith, fall-alone n S v (F .below) (F .passes))
@@ -65,12 +66,12 @@ run-fall n (suc k) S G =
       length-append ms (run n k (follow S ms)),
       move-fall n S G (moves-are n S),
       run-fall n k (follow S ms) (follow-simple n S ms G),
-      ap (λ T. countBits n (T .C)) (follow-append S ms (run n k (follow S ms))),
+      ap (λ T. count n (T .C)) (follow-append S ms (run n k (follow S ms))),
     )
 
 -- so the list has at most 3 n / 2 places: 96 where n is 64
 pub run-length : (n k : ℕ) (S : State) → Simple n (S .graph) → 2 * length (run n k S) ≤ 3 * n
-run-length n k S G = omega (arith, run-fall n k S G, count-le n (S .C))
+run-length n k S G = omega (arith, run-fall n k S G, count-upto n (S .C))
 
 -- ---- the run comes to a stop: no vertex has both bits 1, and no pair is left
 pub record Stopped (n : ℕ) (S : State) : Type 0 where
@@ -87,7 +88,7 @@ stopped-run n (suc k) S H =
 
 -- a move takes a C away, or there is none
 pub move-lower : (n : ℕ) (S : State) {ms : List ℕ} → Simple n (S .graph) → Move n S ms →
-    Stopped n S ⊎ (countBits n ((follow S ms) .C) < countBits n (S .C))
+    Stopped n S ⊎ (count n ((follow S ms) .C) < count n (S .C))
 move-lower n S G (alone v F) = inr (omega (arith, fall-alone n S v (F .below) (F .passes)))
 move-lower n S G (joined j k none J K) =
     inr (omega (arith, fall-joined n S G j k (J .below) (K .below) (pair-is S j k (K .passes))))
@@ -97,7 +98,7 @@ at-stop : (n k : ℕ) (S : State) → Stopped n S → Stopped n (follow S (run n
 at-stop n k S H = subst (λ ms. Stopped n (follow S ms)) (sym (stopped-run n k S H)) H
 
 -- as many times as there are vertices with C = 1 are enough
-pub run-stops : (n k : ℕ) (S : State) → Simple n (S .graph) → countBits n (S .C) ≤ k
+pub run-stops : (n k : ℕ) (S : State) → Simple n (S .graph) → count n (S .C) ≤ k
     → Stopped n (follow S (run n k S))
 unfolding run
 run-stops n zero S G h = elim (move-lower n S G (moves-are n S)) [
@@ -107,9 +108,9 @@ run-stops n zero S G h = elim (move-lower n S G (moves-are n S)) [
 run-stops n (suc k) S G h =
     go (run-stops n k (follow S (moves n S)) (follow-simple n S (moves n S) G)) (move-lower n S G (moves-are n S))
   where
-    go : (countBits n ((follow S (moves n S)) .C) ≤ k →
+    go : (count n ((follow S (moves n S)) .C) ≤ k →
         Stopped n (follow (follow S (moves n S)) (run n k (follow S (moves n S)))))
-        → Stopped n S ⊎ (countBits n ((follow S (moves n S)) .C) < countBits n (S .C))
+        → Stopped n S ⊎ (count n ((follow S (moves n S)) .C) < count n (S .C))
         → Stopped n (follow S (run n (suc k) S))
     go ih (inl e) = at-stop n (suc k) S e
     go ih (inr l) =

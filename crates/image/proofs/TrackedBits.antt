@@ -6,6 +6,7 @@ use Prim.Native.Nat.{_*_, ℕ, _≤_}
 use native.Mathlib.Decide.{ℕ-discrete}
 use lib.Dec.{eqb}
 use lib.ListN.{length}
+use Rattle.cut.proofs.Counting.{count-upto}
 use Rattle.clifford.proofs.CliffordLaws.{fromFive, onClifford}
 use Rattle.clifford.specs.Clifford.{Clifford, bitC, bitD, cliffordOf, then}
 use Rattle.graph.proofs.Complement.{complement-simple}
@@ -17,7 +18,6 @@ use Rattle.stabilizer.specs.Groups.{SameGroup}
 use Rattle.words.proofs.Finite.{bits}
 use Rattle.words.proofs.Places.{other-place}
 use Rattle.words.specs.Bits.{put, _⊕_}
-use Rattle.image.proofs.CountLaws.{count-le}
 use Rattle.image.proofs.Running.{Stopped, run-below, run-length, run-stops}
 use Rattle.image.specs.Image.{imageGraph, imageRecord}
 use Rattle.image.specs.Rule.{follow, imageList, stateOf, complementedAt}
@@ -108,7 +108,7 @@ module _ (n : ℕ) (r : GraphRecord) (G : Simple n (r .graph)) where
   -- and the rule has come to its stop there
   pub image-stopped : Stopped n (stateOf (imageRecord n r))
   image-stopped = subst (Stopped n) (sym image-bits)
-      (run-stops n n (stateOf r) G (count-le n ((stateOf r) .C)))
+      (run-stops n n (stateOf r) G (count-upto n ((stateOf r) .C)))
 
   -- "Its count is the number of complementations done": at most 3 n / 2
   pub image-length : 2 * length (imageList n r) ≤ 3 * n

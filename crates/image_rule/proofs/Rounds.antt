@@ -6,8 +6,9 @@ use mathlib.Core.Path.{ap, refl, subst, sym, _∙_, _≡_}
 use Prim.Native.Nat.{_+_, _<_, suc, zero, ℕ, _≤_}
 use native.Mathlib.Omega.{arith}
 use lib.ListN.{length, length-append}
+use Rattle.cut.proofs.Counting.{count-ext, count-upto}
+use Rattle.cut.specs.Kernel.{count}
 use Rattle.words.specs.Bits.{bit}
-use Rattle.image.proofs.CountLaws.{count-cong, count-le, countBits}
 use Rattle.image.proofs.Moves.{moves-are, moves-unique, stop}
 use Rattle.image.proofs.Running.{Stopped, move-lower, run-length, stopped-run}
 use Rattle.image_rule.proofs.StepLists.{complemented-append, complemented-none, complemented-state}
@@ -21,13 +22,13 @@ pub record Reached (n : ℕ) (start w : Working) : Type 0 where
   pub so-far : Complemented n start done w
   -- how often the rule may still be applied, which is enough
   pub left : ℕ
-  pub enough : countBits n (bit (w .c)) ≤ left
+  pub enough : count n (bit (w .c)) ≤ left
   pub rest : imageList n (workingRecord start) ≡ done ++ run n left (stateOf (workingRecord w))
 
 -- the measure, by the word and by the codes
 count-word : (n : ℕ) (w : Working) → Tracking n w →
-    countBits n (bit (w .c)) ≡ countBits n ((stateOf (workingRecord w)) .C)
-count-word n w T = count-cong n (bit (w .c)) ((stateOf (workingRecord w)) .C) (λ q l. T .C q)
+    count n (bit (w .c)) ≡ count n ((stateOf (workingRecord w)) .C)
+count-word n w T = count-ext n (bit (w .c)) ((stateOf (workingRecord w)) .C) (λ q l. T .C q)
 
 pub reached-start : (n : ℕ) (start : Working) → Tracking n start → Reached n start start
 reached-start n start T =
@@ -35,7 +36,7 @@ reached-start n start T =
       done = [];
       so-far = complemented-none n start T;
       left = n;
-      enough = count-le n (bit (start .c));
+      enough = count-upto n (bit (start .c));
       rest = refl;
     }
 
@@ -65,7 +66,7 @@ module _ (n : ℕ) (start w : Working) (empty : start .count ≡ 0) (T : Trackin
   stopped-none H = moves-unique n S (stop (H .no-both) (H .no-pair))
 
   abbrev Falls : Type 0
-  Falls = countBits n ((follow S ms) .C) < countBits n (S .C)
+  Falls = count n ((follow S ms) .C) < count n (S .C)
 
   lower : Stopped n S ⊎ Falls
   lower = move-lower n S (tracked-simple n w tracking) (moves-are n S)
@@ -105,14 +106,14 @@ module _ (n : ℕ) (start w : Working) (empty : start .count ≡ 0) (T : Trackin
       state : stateOf (workingRecord r) ≡ follow S ms
       state = complemented-state n w r ms tracking C
 
-      falling-less : countBits n (bit (r .c)) < countBits n (bit (w .c))
+      falling-less : count n (bit (r .c)) < count n (bit (w .c))
       falling-less =
           omega (
             arith,
             falls,
             count-word n w tracking,
             count-word n r (C .tracking),
-            ap (λ s. countBits n (s .C)) state,
+            ap (λ s. count n (s .C)) state,
           )
 
       falling-again : Reached n start r
@@ -151,7 +152,7 @@ module _ (n : ℕ) (start w : Working) (empty : start .count ≡ 0) (T : Trackin
 
     -- a round that lists a vertex takes a C away
     pub round-on : (r .count ≡ w .count → ⊥)
-        → Reached n start r × (countBits n (bit (r .c)) < countBits n (bit (w .c)))
+        → Reached n start r × (count n (bit (r .c)) < count n (bit (w .c)))
     round-on more = elim lower [
       | inl H ↦ absurd (more (C .count ∙ omega (arith, ap length (stopped-none H))))
       | inr f ↦ (falling-again f r C, falling-less f r C)
@@ -167,7 +168,7 @@ module _ (n : ℕ) (start w : Working) (empty : start .count ≡ 0) (T : Trackin
         stopped : Stopped n S
         stopped = elim lower [
           | inl H ↦ H
-          | inr f ↦ absurd (omega (arith, f, ap (λ vs. countBits n ((follow S vs) .C)) none))
+          | inr f ↦ absurd (omega (arith, f, ap (λ vs. count n ((follow S vs) .C)) none))
         ]
 
         all : imageList n (workingRecord start) ≡ R .done ++ ms

@@ -6,16 +6,17 @@ use lib.ListN.{length, length-replicate}
 use Rattle.jobs.proofs.ParallelLaws.{steps-zero}
 use Rattle.jobs.specs.Parallel.{numberedOp, stepsIn}
 use Rattle.jobs.specs.internal.Parallel.{OneLength}
-use Rattle.job_text.proofs.Feeding.{fed-append}
 use Rattle.job_text.specs.declared.scan.Scan.{Scan}
-use Rattle.job_text.specs.internal.Scan.{asReading, begin, empty, fed, Reading}
+use Rattle.job_text.specs.internal.Scan.{asReading, begin, empty, fed, feed, Reading}
+use Rattle.text.proofs.Feeding.{fed-append}
+use Rattle.text.specs.internal.Feeding.{fedBytes}
 use Rattle.job.specs.Reads.{NoSteps}
 use Rattle.job.specs.internal.Reads.{ScannedJob}
 
 -- nothing is read
 pub no-block : (s : Scan) (ops a b value : List ℕ) → s ≡ begin → NoSteps ops a b value
     → ScannedJob (asReading s (stepsIn ops a b value))
-unfolding fed empty numberedOp
+unfolding fedBytes empty numberedOp
 no-block s ops a b value e N =
     record {
       text = [];
@@ -28,7 +29,7 @@ pub one-block : (r r′ : Reading) (block : List ℕ) → ScannedJob r → r′ 
 one-block r r′ block S e =
     record {
       text = S .text ++ block;
-      scanned = e ∙ ap (λ w. fed w block) (S .scanned) ∙ sym (fed-append empty (S .text) block);
+      scanned = e ∙ ap (λ w. fed w block) (S .scanned) ∙ sym (fed-append feed empty (S .text) block);
     }
 
 -- the slices have 4,096 places each

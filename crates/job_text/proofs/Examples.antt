@@ -12,6 +12,7 @@ use Rattle.words.specs.Bits.{bit}
 use Rattle.job_text.specs.Results.{Result, resultLine, resultLines, jobAnswer}
 use Rattle.job_text.specs.Text.{digits, opWord, stepText, stepsText, qubitsLine, stepNames, jobHead}
 use Rattle.job_text.specs.Text.{jobText}
+use Rattle.text.specs.internal.Feeding.{fedBytes}
 use Rattle.job_text.specs.internal.Scan.{digitValue, firstOp, firstStep, headStep, moreStep, opFor, Reading, wordStep}
 use Rattle.job_text.specs.internal.Scan.{oneMore, scanByte, begin, asReading, feed, fed, verdict}
 
@@ -42,7 +43,8 @@ readingOf : List ℕ → Reading
 readingOf t = fed (asReading begin (replicate 4 (record { op = Complement; a = 7; b = 7; value = 7 }))) t
 
 input-read : readingOf input .steps ≡ steps ++ record { op = Complement; a = 7; b = 7; value = 7 } ∷ []
-unfolding steps readingOf fed feed scanByte begin headStep firstOp opFor wordStep digitValue firstStep moreStep oneMore
+unfolding steps readingOf fedBytes feed scanByte begin headStep firstOp opFor wordStep digitValue firstStep
+    moreStep oneMore
 input-read = refl
 
 number : List ℕ → ℕ
@@ -55,7 +57,8 @@ numbers :
     ∷ number (head (57 ∷ 57 ∷ 57 ∷ [])) ∷ number (head (48 ∷ 50 ∷ []))
     ∷ number (head (49 ∷ 48 ∷ 48 ∷ 48 ∷ [])) ∷ number [] ∷ []
     ≡ 0 ∷ 0 ∷ 2 ∷ 2 ∷ 2 ∷ 1 ∷ 1 ∷ 1 ∷ []
-unfolding number readingOf fed feed scanByte begin headStep firstOp opFor wordStep digitValue firstStep moreStep oneMore
+unfolding number readingOf fedBytes feed scanByte begin headStep firstOp opFor wordStep digitValue firstStep
+    moreStep oneMore
     verdict firstFitting
 numbers = refl
 
@@ -68,7 +71,8 @@ malformed :
     ∷ number (head (49 ∷ []) ++ 99 ∷ 110 ∷ 32 ∷ 48 ∷ 32 ∷ 49 ∷ 32 ∷ 48 ∷ 10 ∷ [])
     ∷ []
     ≡ 1 ∷ 1 ∷ 1 ∷ 1 ∷ 1 ∷ []
-unfolding number readingOf fed feed scanByte begin headStep firstOp opFor wordStep digitValue firstStep moreStep oneMore
+unfolding number readingOf fedBytes feed scanByte begin headStep firstOp opFor wordStep digitValue firstStep
+    moreStep oneMore
     verdict firstFitting
 malformed = refl
 

@@ -2,7 +2,7 @@ pub mod Digits
 pub mod Separators
 pub mod OpLaws
 pub mod Steps
-pub mod Feeding
+pub mod OneByte
 pub mod StepLine
 pub mod ScanJob
 pub mod Sofar

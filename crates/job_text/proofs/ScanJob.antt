@@ -17,12 +17,13 @@ use Rattle.text.specs.Text.{newline}
 use Rattle.words.proofs.Sums.{lt-or-ge}
 use Rattle.job_text.specs.Text.{field, Fits, AllFit, stepText, stepsText, qubitsLine, stepNames, jobHead}
 use Rattle.job_text.specs.Text.{jobText, JobTextOf}
+use Rattle.text.proofs.Feeding.{fed-append, fed-one}
+use Rattle.text.specs.internal.Feeding.{fedBytes}
 use Rattle.job_text.specs.internal.Scan.{asReading, begin, digitValue, headStep, moreStep, oneMore, Reading, scanByte, stored}
 use Rattle.job_text.specs.internal.Scan.{feedNext, feed, fed, StepsKept}
 use Rattle.job_text.specs.declared.scan.Field.the-variants.{N, Value}
 use Rattle.job_text.specs.declared.scan.Place.the-variants.{Head, Word, First, More}
 use Rattle.job_text.specs.declared.scan.Scan.{Scan}
-use Rattle.job_text.proofs.Feeding.{fed-append, fed-one}
 use Rattle.job_text.proofs.StepLine.{scanAt, readingAt, field-read, line-read}
 
 -- the steps in their array: i steps are there, and one more comes
@@ -136,17 +137,17 @@ module _ (n : ℕ) (steps : List Step) (s : Step) (w : Reading) (read : Read n s
 -- more lines
 steps-more : (n : ℕ) (ss ts : List Step) (w : Reading) → Read n ss w → AllFit ts
     → Read n (ss ++ ts) (fed w (stepsText ts))
-unfolding stepsText fed
+unfolding stepsText fedBytes
 steps-more n ss [] w read fit = subst (λ l. Read n l w) (sym (append-nil ss)) read
 steps-more n ss (t ∷ ts) w read fit =
-    subst (Read n (ss ++ t ∷ ts)) (sym (fed-append w (stepText t) (stepsText ts)))
+    subst (Read n (ss ++ t ∷ ts)) (sym (fed-append feed w (stepText t) (stepsText ts)))
     (subst (λ l. Read n l (fed (fed w (stepText t)) (stepsText ts))) (append-assoc ss (t ∷ []) ts)
     (steps-more n (ss ++ t ∷ []) ts (fed w (stepText t)) (step-more n ss t w read (fit .0)) (fit .1)))
 
 -- the three lines before the steps
 module _ (S : List Step) (n : ℕ) (few : n < 1000) where
   qubits-read : fed (asReading begin S) qubitsLine ≡ readingAt S 0 0 (First N) Gate 0 0 0
-  unfolding fed feed scanByte headStep begin
+  unfolding fedBytes feed scanByte headStep begin
   qubits-read = refl
 
   n-ends : feed (readingAt S 0 0 (More N) Gate 0 0 n) 10 ≡ readingAt S n 0 (Head 7) Gate 0 0 n
@@ -154,18 +155,18 @@ module _ (S : List Step) (n : ℕ) (few : n < 1000) where
   n-ends = refl
 
   names-read : fed (readingAt S n 0 (Head 7) Gate 0 0 n) stepNames ≡ readingAt S n 0 (Word 0) Gate 0 0 n
-  unfolding fed feed scanByte headStep
+  unfolding fedBytes feed scanByte headStep
   names-read = refl
 
   head-read : fed (asReading begin S) (jobHead n) ≡ readingAt S n 0 (Word 0) Gate 0 0 n
   unfolding jobHead
   head-read =
       let w = asReading begin S in
-      fed-append w (qubitsLine ++ field n ++ newline) stepNames
+      fed-append feed w (qubitsLine ++ field n ++ newline) stepNames
       ∙ ap (λ v. fed v stepNames)
-      (fed-one w (qubitsLine ++ field n) 10
+      (fed-one feed w (qubitsLine ++ field n) 10
       ∙ ap (λ v. feed v 10)
-      (fed-append w qubitsLine (field n) ∙ ap (λ v. fed v (field n)) qubits-read
+      (fed-append feed w qubitsLine (field n) ∙ ap (λ v. fed v (field n)) qubits-read
       ∙ field-read S 0 0 N Gate 0 0 0 n few)
       ∙ n-ends)
       ∙ names-read
@@ -182,7 +183,7 @@ text-read S whole n steps t text =
       whole = whole;
     } in
     let all : fed (asReading begin S) t ≡ fed w (stepsText steps) =
-    ap (fed (asReading begin S)) (text .text) ∙ fed-append (asReading begin S) (jobHead n) (stepsText steps)
+    ap (fed (asReading begin S)) (text .text) ∙ fed-append feed (asReading begin S) (jobHead n) (stepsText steps)
     ∙ ap (λ v. fed v (stepsText steps)) (head-read S n (text .few))
     in
     subst (Read n steps) (sym all) (steps-more n [] steps w none (text .fit))

@@ -11,6 +11,8 @@ use Rattle.jobs.specs.declared.Step.{Step}
 use Rattle.text.proofs.DigitLaws.{by-test}
 use Rattle.text.specs.Text.{space}
 use Rattle.job_text.specs.Text.{digits, field, opWord, Fits, stepText}
+use Rattle.text.proofs.Feeding.{fed-append, fed-one}
+use Rattle.text.specs.internal.Feeding.{fedBytes}
 use Rattle.job_text.specs.internal.Scan.{digitValue, firstOp, firstStep, moreStep, oneMore, opFor, Reading, scanByte, wordStep}
 use Rattle.job_text.specs.internal.Scan.{asReading, feedNext, feed, fed}
 use Rattle.job_text.specs.declared.scan.Field.{Field}
@@ -19,7 +21,7 @@ use Rattle.job_text.specs.declared.scan.Place.{Place}
 use Rattle.job_text.specs.declared.scan.Place.the-variants.{Word, First, More}
 use Rattle.job_text.specs.declared.scan.Scan.{Scan}
 use Rattle.job_text.proofs.Digits.{value-digit, fewer-digits}
-use Rattle.job_text.proofs.Feeding.{fed-append, fed-one, feed-keeps, ran, quiet-fed}
+use Rattle.job_text.proofs.OneByte.{feed-keeps, quiet-fed}
 
 -- a scan at the place p
 abbrev pub scanAt : ℕ → ℕ → Place → Op → ℕ → ℕ → ℕ → Scan
@@ -46,7 +48,7 @@ module _ (S : List Step) (n c : ℕ) where
 
     digits-read : (k u v : ℕ) → v < 10 ^ suc k → v < 1000
         → fed (readingAt (First f) op a b u) (digits (suc k) v) ≡ readingAt (More f) op a b v
-    unfolding digits fed
+    unfolding digits fedBytes
     digits-read zero u v few small =
         by-test (λ l. fed (readingAt (First f) op a b u) l ≡ readingAt (More f) op a b v) (ltb v 10)
         ((48 + v) ∷ []) (digits 0 (v / 10) ++ (48 + v % 10) ∷ [])
@@ -59,7 +61,7 @@ module _ (S : List Step) (n c : ℕ) where
         (λ more.
         let long = ltb-false v 10 more in
         let whole : v / 10 * 10 + v % 10 ≡ v = omega arith in
-        fed-one (readingAt (First f) op a b u) (digits (suc k) (v / 10)) (48 + v % 10)
+        fed-one feed (readingAt (First f) op a b u) (digits (suc k) (v / 10)) (48 + v % 10)
         ∙ ap (λ w. feed w (48 + v % 10))
         (digits-read k u (v / 10) (fewer-digits (suc k) v few) (omega arith))
         ∙ more-read (v / 10) (v % 10) (omega arith) (omega arith) (omega arith)
@@ -73,7 +75,7 @@ module _ (S : List Step) (n c : ℕ) where
   -- an operation and the space after it
   op-read : (op o : Op) (a b v : ℕ)
       → fed (readingAt (Word 0) o a b v) (opWord op ++ space) ≡ readingAt (First A) op a b v
-  unfolding opWord ran scanByte wordStep opFor firstOp
+  unfolding opWord fedBytes scanByte wordStep opFor firstOp
   op-read Gate o a b v =
       quiet-fed (opWord Gate ++ space) (scanAt n c (Word 0) o a b v) S
       (refl, (refl, (refl, (refl, (refl, tt)))))
@@ -117,19 +119,19 @@ module _ (S : List Step) (n c : ℕ) where
       let upto-value = upto-b ++ space ++ field (s .value) in
       let to-op : fed w upto-op ≡ readingAt (First A) (s .op) a b v = op-read (s .op) op a b v in
       let to-a : fed w upto-a ≡ readingAt (More A) (s .op) a b (s .a) =
-      fed-append w upto-op (field (s .a)) ∙ ap (λ r. fed r (field (s .a))) to-op
+      fed-append feed w upto-op (field (s .a)) ∙ ap (λ r. fed r (field (s .a))) to-op
       ∙ field-read A (s .op) a b v (s .a) (fit .a)
       in
       let to-b : fed w upto-b ≡ readingAt (More B) (s .op) (s .a) b (s .b) =
-      fed-append w (upto-a ++ space) (field (s .b))
+      fed-append feed w (upto-a ++ space) (field (s .b))
       ∙ ap (λ r. fed r (field (s .b)))
-      (fed-one w upto-a 32 ∙ ap (λ r. feed r 32) to-a ∙ a-ends (s .op) a b (s .a))
+      (fed-one feed w upto-a 32 ∙ ap (λ r. feed r 32) to-a ∙ a-ends (s .op) a b (s .a))
       ∙ field-read B (s .op) (s .a) b (s .a) (s .b) (fit .b)
       in
       let to-value : fed w upto-value ≡ readingAt (More Value) (s .op) (s .a) (s .b) (s .value) =
-      fed-append w (upto-b ++ space) (field (s .value))
+      fed-append feed w (upto-b ++ space) (field (s .value))
       ∙ ap (λ r. fed r (field (s .value)))
-      (fed-one w upto-b 32 ∙ ap (λ r. feed r 32) to-b ∙ b-ends (s .op) (s .a) b (s .b))
+      (fed-one feed w upto-b 32 ∙ ap (λ r. feed r 32) to-b ∙ b-ends (s .op) (s .a) b (s .b))
       ∙ field-read Value (s .op) (s .a) (s .b) (s .b) (s .value) (fit .value)
       in
-      fed-one w upto-value 10 ∙ ap (λ r. feed r 10) to-value ∙ line-ends (s .op) (s .a) (s .b) (s .value)
+      fed-one feed w upto-value 10 ∙ ap (λ r. feed r 10) to-value ∙ line-ends (s .op) (s .a) (s .b) (s .value)

@@ -2,21 +2,22 @@
 -- its job are kept.
 use mathlib.Core.Path.{_≡_, refl, sym, ap, _∙_, subst}
 use mathlib.Core.Bool.{Bool, true, false, _&&_, cond, false≢true}
-use mathlib.Core.List.{List, [], _∷_, _++_, flatten, append-assoc, append-nil}
+use mathlib.Core.List.{List, [], _∷_, _++_, flatten, append-nil}
 use Prim.Native.Nat.{ℕ, _<_}
 use lib.Dec.{ltb, lit<}
 use lib.ListN.{length, take, replicate, length-replicate}
 use borrow.Author.Tests.{eqb-true}
 use Rattle.jobs.specs.declared.Op.{Op}
 use Rattle.jobs.specs.declared.Step.{Step}
+use Rattle.text.proofs.Feeding.{blocks-fed, fed-keeps}
+use Rattle.text.specs.internal.Feeding.{fedBlocks}
 use Rattle.text.specs.Text.{space}
 use Rattle.job_text.specs.Text.{AllFit, opWord, jobText, HasJobForm}
-use Rattle.job_text.specs.internal.Scan.{asReading, atLine, begin, fed, fedBlocks, feed, feedNext, Reading, scanByte, stored}
+use Rattle.job_text.specs.internal.Scan.{asReading, atLine, begin, fed, feed, feedNext, Reading, scanByte, stored}
 use Rattle.job_text.specs.internal.Scan.{StepsKept, Judged, noStep, empty}
 use Rattle.job_text.specs.declared.scan.Place.{Place}
 use Rattle.job_text.specs.declared.scan.Place.the-variants.{Head, Word, First, More, Broken}
 use Rattle.job_text.specs.declared.scan.Scan.{Scan}
-use Rattle.job_text.proofs.Feeding.{blocks-fed}
 use Rattle.job_text.proofs.ScanJob.{text-read}
 use Rattle.job_text.proofs.ScanSound.{step-sound}
 use Rattle.job_text.proofs.Sofar.{AtWord, Sofar}
@@ -29,16 +30,16 @@ scan-next w next = go (ltb (w .scan .count) (next .count) && ltb (w .scan .count
     go true = refl
     go false = refl
 
+byte-sound : (w : Reading) (t : List ℕ) (b : ℕ) → Sofar (w .scan .place) (w .scan) t
+    → Sofar (feed w b .scan .place) (feed w b .scan) (t ++ b ∷ [])
+unfolding feed scanByte
+byte-sound w t b sofar =
+    subst (λ s. Sofar (s .place) s (t ++ b ∷ [])) (sym (scan-next w (scanByte (w .scan) b)))
+    (step-sound (w .scan) t b (w .scan .place) refl sofar)
+
 fed-sound : (u t : List ℕ) (w : Reading) → Sofar (w .scan .place) (w .scan) t
     → Sofar (fed w u .scan .place) (fed w u .scan) (t ++ u)
-unfolding fed feed scanByte
-fed-sound [] t w sofar = subst (Sofar (w .scan .place) (w .scan)) (sym (append-nil t)) sofar
-fed-sound (b ∷ u) t w sofar =
-    let next = scanByte (w .scan) b in
-    let after = step-sound (w .scan) t b (w .scan .place) refl sofar in
-    subst (Sofar (fed w (b ∷ u) .scan .place) (fed w (b ∷ u) .scan)) (append-assoc t (b ∷ []) u)
-    (fed-sound u (t ++ b ∷ []) (feed w b)
-    (subst (λ s. Sofar (s .place) s (t ++ b ∷ [])) (sym (scan-next w next)) after))
+fed-sound = fed-keeps feed (λ w t. Sofar (w .scan .place) (w .scan) t) byte-sound
 
 -- at the start of a line
 line-sound : (k n : ℕ) (op : Op) (t : List ℕ) → AtWord k n op t → k ≡ 0 → HasJobForm t
@@ -76,9 +77,9 @@ module _ (S : List Step) (whole : length S ≡ 4096) where
       }
 
   -- the text in blocks of any size, as `scan_block` is fed with them
-  pub blocks-judged : (blocks : List (List ℕ)) → Judged (flatten blocks) (fedBlocks (asReading begin S) blocks)
+  pub blocks-judged : (blocks : List (List ℕ)) → Judged (flatten blocks) (fedBlocks feed (asReading begin S) blocks)
   blocks-judged blocks =
-      subst (Judged (flatten blocks)) (sym (blocks-fed (asReading begin S) blocks)) (text-judged (flatten blocks))
+      subst (Judged (flatten blocks)) (sym (blocks-fed feed (asReading begin S) blocks)) (text-judged (flatten blocks))
 
   -- a written job reads back as its n and its steps
   pub read-back : (n : ℕ) (steps : List Step) → n < 1000 → AllFit steps

@@ -1,12 +1,12 @@
 -- Blocks of steps: a block is filled place by place, and blocks run one behind the other.
 use mathlib.Core.List.{_++_, List, [], _∷_}
 use mathlib.Core.Path.{_∙_, _≡_, ap, refl, subst, sym}
-use Prim.Native.Nat.{_+_, _<_, _≤_, suc, zero, ℕ}
-use native.Mathlib.Decide.{ℕ-discrete}
+use Prim.Native.Nat.{_+_, _≤_, suc, zero, ℕ}
 use native.Mathlib.Nat.{suc-add, zero-add}
 use native.Mathlib.Omega.{arith}
-use lib.ListN.{drop, getD, length, length-set, set, take}
-use lib.Seq.{getD-set-other, getD-set-same, length-take-le}
+use lib.ListN.{drop, length, take}
+use lib.Seq.{length-take-le}
+use Rattle.buffers.proofs.Filling.{FilledBy, all-filled}
 use Rattle.jobs.proofs.ParallelLaws.{block-is}
 use Rattle.jobs.specs.declared.Step.{Step}
 use Rattle.jobs.specs.Parallel.{numbered, stepIn, stepsIn}
@@ -14,34 +14,16 @@ use Rattle.jobs_lent.proofs.LentLaws.{none-ran, ran-on}
 use Rattle.jobs_lent.specs.internal.LentRuns.{LentRun}
 use Rattle.used.specs.Used.{UsedRecord}
 
--- the first k steps of a block are those of the lists from a place on
-pub record Filled (ops a b value : List ℕ) (from k : ℕ) (steps : List Step) : Type 0 where
-  pub long : length steps ≡ 64
-  pub each : (j : ℕ) → j < k → getD steps j (numbered 0 0 0 0) ≡ stepIn ops a b value (from + j)
+-- a block of 64 steps, those below k filled with the steps of the lists from a place on
+abbrev pub BlockFilled : List ℕ → List ℕ → List ℕ → List ℕ → ℕ → List Step → ℕ → Type 0
+BlockFilled ops a b value from steps k =
+    FilledBy (numbered 0 0 0 0) 64 (λ j s. s ≡ stepIn ops a b value (from + j)) steps k
 
 module _ (ops a b value : List ℕ) (from : ℕ) where
-  pub filled-none : (steps : List Step) → length steps ≡ 64 → Filled ops a b value from 0 steps
-  filled-none steps e = record { long = e; each = λ j h. absurd (omega arith) }
-
-  -- a step more
-  pub filled-next : (k : ℕ) (steps : List Step) (s : Step) → k < 64 → Filled ops a b value from k steps
-      → s ≡ stepIn ops a b value (from + k) → Filled ops a b value from (k + 1) (set steps k s)
-  filled-next k steps s inside F e =
-      record { long = length-set steps k s ∙ F .long; each = λ j h. go j h (ℕ-discrete j k) }
-    where
-      go : (j : ℕ) → j < k + 1 → Dec (j ≡ k)
-          → getD (set steps k s) j (numbered 0 0 0 0) ≡ stepIn ops a b value (from + j)
-      go j h (yes at) = subst (λ i. getD (set steps k s) i (numbered 0 0 0 0) ≡ stepIn ops a b value (from + i)) (sym at)
-          (getD-set-same steps k s (numbered 0 0 0 0) (subst (λ m. k < m) (sym (F .long)) inside) ∙ e)
-      go j h (no off) = getD-set-other steps k j s (numbered 0 0 0 0) off ∙ F .each j (below j h off)
-        where
-          below : (j : ℕ) → j < k + 1 → (j ≡ k → ⊥) → j < k
-          below j h off = omega (arith, h, off)
-
-  pub filled-all : (count k : ℕ) (steps : List Step) → count ≤ 64 → from + count ≤ length ops → count ≤ k
-      → Filled ops a b value from k steps → take count steps ≡ take count (drop from (stepsIn ops a b value))
-  filled-all count k steps few room end F = block-is ops a b value steps (numbered 0 0 0 0) from count room
-      (omega (arith, F .long)) (λ j h. F .each j (omega (arith, h, end)))
+  pub block-filled : (count k : ℕ) (steps : List Step) → count ≤ 64 → from + count ≤ length ops → count ≤ k
+      → BlockFilled ops a b value from steps k → take count steps ≡ take count (drop from (stepsIn ops a b value))
+  block-filled count k steps few room end F = block-is ops a b value steps (numbered 0 0 0 0) from count room
+      (omega (arith, F .long)) (all-filled (numbered 0 0 0 0) 64 _ steps k count F end)
 
 take-nothing : (m : ℕ) → _≡_ {A = List Step} (take m []) []
 take-nothing zero = refl

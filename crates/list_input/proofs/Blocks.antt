@@ -3,7 +3,8 @@ use mathlib.Core.List.{_++_, List, []}
 use mathlib.Core.Path.{ap, sym, _∙_, _≡_}
 use Prim.Native.Nat.{ℕ}
 use Rattle.text.proofs.Feeding.{fed-append}
-use Rattle.text.specs.internal.Scan.{begin, fed, asReading, verdict}
+use Rattle.text.specs.internal.Feeding.{fedBytes}
+use Rattle.text.specs.internal.Scan.{begin, fed, feed, asReading, verdict}
 use Rattle.text.specs.declared.scan.Scan.{Scan}
 use Rattle.text.specs.declared.scan.Verdict.{Verdict}
 use Rattle.list_input.specs.internal.Scanned.{Scanned}
@@ -14,7 +15,7 @@ Fed signs₀ z₀ x₀ scan signs z x = (t : List ℕ) × (asReading scan signs 
 
 -- nothing is read
 pub no-block : (signs z x : List ℕ) (scan : Scan) → scan ≡ begin → Fed signs z x scan signs z x
-unfolding fed
+unfolding fedBytes
 no-block signs z x scan e = ([], ap (λ s. asReading s signs z x) e)
 
 -- a block more
@@ -23,7 +24,7 @@ pub one-block : (signs₀ z₀ x₀ signs z x signs′ z′ x′ : List ℕ) (sc
     Fed signs₀ z₀ x₀ scan′ signs′ z′ x′
 one-block signs₀ z₀ x₀ signs z x signs′ z′ x′ scan scan′ block F e = (
   F .0 ++ block,
-  e ∙ ap (λ w. fed w block) (F .1) ∙ sym (fed-append (asReading begin signs₀ z₀ x₀) (F .0) block),
+  e ∙ ap (λ w. fed w block) (F .1) ∙ sym (fed-append feed (asReading begin signs₀ z₀ x₀) (F .0) block),
 )
 
 -- the text ends

@@ -61,7 +61,7 @@ fn joined_word(word: u64, to_a: u64, to_b: u64, i: usize) -> u64
 }
 
 // The edges between the two sets flipped.
-fn join_sets(neighbours: &mut [u64], to_a: u64, to_b: u64)
+pub fn join_sets(neighbours: &mut [u64], to_a: u64, to_b: u64)
     requires { ⌜ (length (now neighbours) ≤ 64) × («to_a» < 2 ^ (length (now neighbours)))
         × («to_b» < 2 ^ (length (now neighbours))) ⌝ }
     ensures { λ r. ⌜ SameGraph (graphIn (now (neighbours .exit)))

@@ -1,69 +1,53 @@
--- The loop that removes the edges at a vertex.
-use mathlib.Core.Bool.{_&&_, and-false, and-true, false, not, true}
+-- The edges at a vertex removed: those between it and its neighbours are flipped.
+use mathlib.Core.Bool.{_&&_, Bool, false, not, true}
 use mathlib.Core.List.{List}
-use mathlib.Core.Path.{ap, ap₂, refl, subst, sym, _∙_, _≡_}
-use Prim.Native.Nat.{_<_, _^_, ℕ, _≤_}
-use native.Mathlib.Decide.{ℕ-discrete}
-use lib.Bits.{bitXor}
-use lib.Count.{trailingZeros}
+use mathlib.Core.Path.{ap, ap₂, refl, sym, _∙_, _≡_}
+use Prim.Native.Nat.{_<_, _^_, ℕ}
 use lib.Dec.{eqb}
-use lib.ListN.{getD, length, set}
-use lib.Seq.{getD-set-other, getD-set-same}
+use lib.ListN.{getD, length}
+use borrow.Author.Tests.{eqb-true}
 use Rattle.graph.specs.Graph.{Graph, Simple}
 use Rattle.graph.specs.internal.NeighbourWords.{SameGraph}
 use Rattle.graph.specs.NeighbourWords.{graphIn}
-use Rattle.buffers.proofs.OverSets.{Over, next-named, over-end, over-start, over-step}
-use Rattle.words.proofs.BitLaws.{bit-flip, lt-of-bits, zero-bit}
-use Rattle.words.proofs.Finite.{⊕-zero}
-use Rattle.words.proofs.Places.{other-place, same-place}
+use Rattle.graph_steps.specs.internal.Steps.{joinedBy}
+use Rattle.words.proofs.BitLaws.{bit-single, lt-of-bits}
+use Rattle.words.proofs.Finite.{bits}
 use Rattle.words.specs.Bits.{bit, _⊕_}
 
 abbrev pub partedFrom : Graph → ℕ → Graph
 partedFrom θ q k l = θ k l && (not (eqb k q) && not (eqb l q))
 
--- no edge to q
-abbrev pub PartedAt : List ℕ → ℕ → ℕ → ℕ → Type 0
-PartedAt old q i v = (l : ℕ) → bit v l ≡ (graphIn old i l && not (eqb l q))
-
-abbrev pub Parting : List ℕ → ℕ → List ℕ → ℕ → Type 0
-Parting old q new rest = Over (PartedAt old q) (getD old q 0) old new rest
+-- x is the edge k l, b and c the edges of q to l and to k
+one-edge : (at-k at-l x b c : Bool) → (at-k ≡ true → b ≡ x) → (at-l ≡ true → c ≡ x)
+    → (at-k ≡ true → at-l ≡ true → x ≡ false)
+    → x ⊕ ((at-k && b) ⊕ (c && at-l)) ≡ (x && (not at-k && not at-l))
+one-edge false false x b c hb hc h =
+    bits 3 (λ x b c. x ⊕ ((false && b) ⊕ (c && false))) (λ x b c. x && (not false && not false)) tt x b c
+one-edge true false x b c hb hc h =
+    ap (λ v. x ⊕ ((true && v) ⊕ (c && false))) (hb refl)
+    ∙ bits 2 (λ x c. x ⊕ ((true && x) ⊕ (c && false))) (λ x c. x && (not true && not false)) tt x c
+one-edge false true x b c hb hc h =
+    ap (λ v. x ⊕ ((false && b) ⊕ (v && true))) (hc refl)
+    ∙ bits 2 (λ x b. x ⊕ ((false && b) ⊕ (x && true))) (λ x b. x && (not false && not true)) tt x b
+one-edge true true x b c hb hc h =
+    ap₂ (λ v w. x ⊕ ((true && v) ⊕ (w && true))) (hb refl ∙ h refl refl) (hc refl ∙ h refl refl)
+    ∙ ap (λ v. v ⊕ ((true && false) ⊕ (false && true))) (h refl refl)
+    ∙ sym (ap (λ v. v && (not true && not true)) (h refl refl))
 
 module _ (old : List ℕ) (q : ℕ) (S : Simple (length old) (graphIn old)) where
   abbrev θ : Graph
   θ = graphIn old
 
-  -- what stands at place l, by whether it is q
-  at : (i v : ℕ) → ((l : ℕ) → l ≡ q → bit v l ≡ false) → ((l : ℕ) → (l ≡ q → ⊥) → bit v l ≡ θ i l) → PartedAt old q i v
-  at i v here there l = elim (ℕ-discrete l q) [
-    | yes e ↦ here l e ∙ sym (ap (λ b. θ i l && not b) (ap (λ m. eqb m q) e ∙ same-place q) ∙ and-false (θ i l))
-    | no d ↦ there l d ∙ sym (ap (λ b. θ i l && not b) (other-place d) ∙ and-true (θ i l))
-  ]
+  pub around-below : getD old q 0 < 2 ^ length old
+  around-below = lt-of-bits (length old) (getD old q 0) (S .below q)
 
-  pub part-start : Parting old q old (getD old q 0)
-  part-start = over-start (PartedAt old q) old (getD old q 0) (lt-of-bits (length old) (getD old q 0) (S .below q))
-      (λ i e. at i (getD old i 0) (λ l d. ap (θ i) d ∙ S .symmetric i q ∙ e) (λ l d. refl))
-
-  module _ (new : List ℕ) (rest : ℕ) (P : Parting old q new rest) where
-    pub part-more : length old ≤ 64 → (rest ≡ 0 → ⊥) → (i : ℕ) → i ≡ trailingZeros 64 rest → (v rest′ : ℕ)
-        → v ≡ bitXor (getD new i 0) (2 ^ q) → rest′ ≡ bitXor rest (2 ^ i) → Parting old q (set new i v) rest′
-    part-more s z i e v rest′ h f =
-        over-step (PartedAt old q) (getD old q 0) old new rest P s z i e v rest′
-        (at i v (λ l d. value l ∙ ap₂ _⊕_ (ap (θ i) d ∙ S .symmetric i q ∙ P .named i named)
-        (ap (λ m. eqb m q) d ∙ same-place q))
-        (λ l d. value l ∙ ap (λ b. θ i l ⊕ b) (other-place d) ∙ ⊕-zero (θ i l))) f
-      where
-        named : bit rest i ≡ true
-        named = next-named (PartedAt old q) (getD old q 0) old new rest P s z i e
-
-        value : (l : ℕ) → bit v l ≡ θ i l ⊕ eqb l q
-        value l = ap (λ w. bit w l) (h ∙ ap (λ w. bitXor w (2 ^ q)) (P .left i named)) ∙ bit-flip (getD old i 0) q l
-
-    pub part-end : q < length new → rest ≡ 0 → SameGraph (graphIn (set new q 0)) (partedFrom (graphIn old) q)
-    part-end hq e k l = elim (ℕ-discrete k q) [
-      | yes d ↦ subst (λ m. graphIn (set new q 0) m l ≡ partedFrom θ q m l) (sym d)
-          (ap (λ w. bit w l) (getD-set-same new q 0 0 hq) ∙ zero-bit l
-          ∙ sym (ap (λ b. θ q l && (not b && not (eqb l q))) (same-place q) ∙ and-false (θ q l)))
-      | no d ↦ ap (λ w. bit w l) (getD-set-other new q k 0 0 d)
-          ∙ over-end (PartedAt old q) (getD old q 0) old new rest P e k l
-          ∙ sym (ap (λ b. θ k l && (not b && not (eqb l q))) (other-place d))
-    ]
+  pub edges-removed : (own : ℕ) → own ≡ 2 ^ q
+      → SameGraph (joinedBy (graphIn old) (bit own) (bit (getD old q 0))) (partedFrom (graphIn old) q)
+  edges-removed own e k l =
+      ap₂ (λ a b. θ k l ⊕ ((a && θ q l) ⊕ (θ q k && b))) (at k) (at l)
+      ∙ one-edge (eqb k q) (eqb l q) (θ k l) (θ q l) (θ q k) (λ d. ap (λ m. θ m l) (sym (eqb-true k q d)))
+      (λ d. S .symmetric q k ∙ ap (θ k) (sym (eqb-true l q d)))
+      (λ d f. ap₂ θ (eqb-true k q d) (eqb-true l q f) ∙ S .loopless q)
+    where
+      at : (i : ℕ) → bit own i ≡ eqb i q
+      at i = ap (λ w. bit w i) e ∙ bit-single q i

@@ -2,13 +2,14 @@
 use buffers::sign_digit;
 use clifford::Code;
 use operations::compose;
+use operations_gates::join_sets;
 use operations_gates::where_true;
 use operations_rewriting::complement_record;
 use operations_rewriting::put_before;
 use pauli::Letter;
 use pauli::x_bit;
 use pauli::z_bit;
-use words::flip;
+use words::single;
 use words::smallest;
 ghost use mathlib.Core.Bool.{_&&_, not, true};
 ghost use mathlib.Core.Logic.{_↔_};
@@ -64,20 +65,16 @@ pub fn bring_to_z(neighbours: &mut [u64], codes: &mut [u8], q: usize, l: Letter)
     complement_record(neighbours, codes, q);
 }
 
-// The edges at q removed.
+// The edges at q removed: those between q and its neighbours are flipped.
 fn remove_edges(neighbours: &mut [u64], q: usize)
     requires { ⌜ (length (now neighbours) ≤ 64) × (q < length (now neighbours)) ⌝ }
     requires { ⌜ Simple (length (now neighbours)) (graphIn (now neighbours)) ⌝ }
     ensures { λ r. ⌜ SameGraph (graphIn (now (neighbours .exit)))
         (λ k l. graphIn (now (neighbours .entry)) k l && (not (eqb k q) && not (eqb l q))) ⌝ }
 {
-    let mut rest = neighbours[q];
-    while rest != 0 {
-        let i = smallest(rest);
-        neighbours[i] = flip(neighbours[i], q);
-        rest = flip(rest, i);
-    }
-    neighbours[q] = 0;
+    let around = neighbours[q];
+    let own = single(q);
+    join_sets(neighbours, own, around);
 }
 
 // The code with a Hadamard before it, and a sign t for the image of X.

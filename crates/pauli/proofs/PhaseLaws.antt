@@ -4,8 +4,8 @@ use mathlib.Core.Path.{ap, refl, sym, _∙_, _≡_}
 use Prim.Native.Nat.{ℕ}
 use lib.Dec.{T, eqb, eqb→eq}
 use Rattle.words.proofs.Finite.{Law, Of, bits, law, test}
-use Rattle.words.proofs.Sums.{Monoid, fold-ext, fold-mul}
-use Rattle.words.specs.Bits.{_⊕_}
+use Rattle.words.proofs.Sums.{Monoid, fold-ext, fold-hom, fold-mul}
+use Rattle.words.specs.Bits.{Word, parity, _⊕_}
 use Rattle.pauli.specs.Pauli.{
   _+ᵖ_,
   Phase,
@@ -104,3 +104,14 @@ sign-minus = bits 1 (λ b. signBit (minus b)) (λ b. b) tt
 
 pub minus-injective : (a b : Bool) → minus a ≡ minus b → a ≡ b
 minus-injective a b e = sym (sign-minus a) ∙ ap signBit e ∙ sign-minus b
+
+-- a phase that is a sign
+pub sign-of-phase : (t : Phase) → imaginary t ≡ false → t ≡ minus (signBit t)
+sign-of-phase i⁰ e = refl
+sign-of-phase i¹ e = absurd (true≢false e)
+sign-of-phase i² e = refl
+sign-of-phase i³ e = absurd (true≢false e)
+
+-- the sign of a sum of signs
+pub minus-parity : (n : ℕ) (f : Word) → sumPhase n (λ q. minus (f q)) ≡ minus (parity n f)
+minus-parity n f = sym (fold-hom false _⊕_ i⁰ _+ᵖ_ minus refl minus-⊕ n f)

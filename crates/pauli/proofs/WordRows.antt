@@ -1,5 +1,5 @@
 -- From the words of the code to letters: commutation and the phase of a product are counts of ones.
-use mathlib.Core.Bool.{_&&_, Bool, cond, false, true≢false}
+use mathlib.Core.Bool.{_&&_, Bool, cond, false}
 use mathlib.Core.Path.{ap, ap₂, refl, sym, _∙_, _≡_}
 use Prim.Native.Nat.{_%_, _*_, _+_, _/_, _<_, _^_, suc, zero, ℕ}
 use native.Mathlib.Nat.{div-add-mod', mod-lt, mul-add, mul-one, mul-zero, one-mul, suc-add, suc-mul, zero-add}
@@ -13,15 +13,13 @@ use Rattle.words.proofs.OnesLaws.{parity-ones}
 use Rattle.words.proofs.Sums.{fold-ext, fold-shift}
 use Rattle.words.specs.Bits.{bit, fold, isOdd, _⊕_}
 use Rattle.pauli.proofs.PauliLaws.{Pauli-path, clash-form, mul-x, mul-z, signed-product}
-use Rattle.pauli.proofs.PhaseLaws.{+ᵖ-assoc, exponent-two, minus-⊕, phaseMonoid, phases, sumPhase-add}
+use Rattle.pauli.proofs.PhaseLaws.{+ᵖ-assoc, exponent-two, minus-⊕, phaseMonoid, phases, sign-of-phase}
+use Rattle.pauli.proofs.PhaseLaws.{sumPhase-add}
 use Rattle.pauli.specs.Pauli.{
   _+ᵖ_,
   Phase,
   anticommute,
   exponent,
-  imaginary,
-  i²,
-  i³,
   i¹,
   i⁰,
   letter,
@@ -31,7 +29,6 @@ use Rattle.pauli.specs.Pauli.{
   mul,
   power,
   row,
-  signBit,
   signedRow,
   sumPhase,
   timesI,
@@ -181,18 +178,12 @@ row-times n z x z′ x′ s t u e =
     (λ q. bit-xor x x′ q ∙ sym (mul-x n _ _ q))
 
 -- ---- signs
-signed : (t : Phase) → imaginary t ≡ false → t ≡ minus (signBit t)
-signed i⁰ e = refl
-signed i¹ e = absurd (true≢false e)
-signed i² e = refl
-signed i³ e = absurd (true≢false e)
-
 -- rows that commute: the phase of their letters' product is a sign, minus where its exponent is 2
 pub letters-sign : (n z x z′ x′ k : ℕ) → anticommute n (row i⁰ z x) (row i⁰ z′ x′) ≡ false →
     k ≡ exponent ((mul n (row i⁰ z x) (row i⁰ z′ x′)) .phase) →
     (mul n (row i⁰ z x) (row i⁰ z′ x′)) .phase ≡ minus (eqb k 2)
 letters-sign n z x z′ x′ k h e =
-    signed _ (signed-product n (row i⁰ z x) (row i⁰ z′ x′) refl refl h)
+    sign-of-phase _ (signed-product n (row i⁰ z x) (row i⁰ z′ x′) refl refl h)
     ∙ ap minus (sym (ap (λ j. eqb j 2) e ∙ exponent-two ((mul n (row i⁰ z x) (row i⁰ z′ x′)) .phase)))
 
 -- signed rows whose letters' product has the sign m

@@ -1,6 +1,6 @@
 -- Commuting rows with an x bit at the own place and no other are the rows of a simple graph, with X or Y
 -- at the own place.
-use mathlib.Core.Bool.{_&&_, Bool, and-comm, and-false, and-true, false, not, true, true≢false}
+use mathlib.Core.Bool.{_&&_, Bool, and-comm, and-false, and-true, false, not, true}
 use mathlib.Core.Logic.{inl, inr, _⊎_}
 use mathlib.Core.Path.{ap, ap₂, refl, subst, sym, _∙_, _≡_}
 use Prim.Native.Nat.{_<_, ℕ, _≤_}
@@ -10,7 +10,8 @@ use lib.Dec.{eqb, ltb}
 use borrow.Author.Tests.{le-ltb, lt-ltb}
 use Rattle.graph.specs.Graph.{Simple, graphGenerator}
 use Rattle.pauli.proofs.PauliLaws.{Pauli-path}
-use Rattle.pauli.specs.Pauli.{Pauli, Phase, imaginary, i², i³, i¹, i⁰, minus, signBit}
+use Rattle.pauli.proofs.PhaseLaws.{sign-of-phase}
+use Rattle.pauli.specs.Pauli.{Pauli, minus, signBit}
 use Rattle.stabilizer.proofs.Products.{anticommute-form}
 use Rattle.stabilizer.specs.Groups.{Commuting, Within}
 use Rattle.words.proofs.Finite.{⊕-zero}
@@ -61,16 +62,10 @@ module _ (n : ℕ) (R : ℕ → Pauli) (G : Commuting n n R) (W : (i : ℕ) → 
       Pauli-path
       (plain-phase n (graphOf n R) graph-simple (ysOf n R) (minusesOf n R) j l
       ∙ ap (λ b. minus (b && signBit ((R j) .phase))) (lt-ltb j n l)
-      ∙ minus-signBit ((R j) .phase) (G .signed j l))
+      ∙ sym (sign-of-phase ((R j) .phase) (G .signed j l)))
       (λ q. plain-z n (graphOf n R) (ysOf n R) (minusesOf n R) j q ∙ z-at q (lt-or-ge q n) (ℕ-discrete q j))
       (λ q. plain-x n (ysOf n R) (minusesOf n R) (graphGenerator (graphOf n R) j) q ∙ x-at q (lt-or-ge q n))
     where
-      minus-signBit : (t : Phase) → imaginary t ≡ false → minus (signBit t) ≡ t
-      minus-signBit i⁰ h = refl
-      minus-signBit i¹ h = absurd (true≢false h)
-      minus-signBit i² h = refl
-      minus-signBit i³ h = absurd (true≢false h)
-
       x-at : (q : ℕ) → (q < n) ⊎ (n ≤ q) → eqb q j ≡ (R j) .x q
       x-at q (inl k) = place-comm q j ∙ sym (pivots q k j)
       x-at q (inr k) = other-place {i = q} {j = j} (λ e. absurd (omega (arith, e))) ∙ sym (W j l .no-x q k)

@@ -34,7 +34,7 @@ use Rattle.record.specs.Reduced.{
 }
 
 -- the x bit after a code: that of the plain code, or, after a Hadamard, its z bit
-code-x : (h y s z x : Bool)
+pub code-x : (h y s z x : Bool)
     → xBit (image (withHadamard h (plainCode y s)) (letter z x)) ≡ cond h (z ⊕ (x && y)) x
 code-x = bits 5 (λ h y s z x. xBit (image (withHadamard h (plainCode y s)) (letter z x)))
     (λ h y s z x. cond h (z ⊕ (x && y)) x) tt

@@ -12,14 +12,14 @@ use Rattle.words.specs.Bits.{Word}
 use Rattle.stabilizer.specs.Carries.{Carries}
 use Rattle.stabilizer.specs.Groups.{Commuting, InGroup, SameGroup, chosen, product}
 
-module _ (n m : ℕ) (rows : ℕ → Pauli) (c : ℕ → Clifford) where
-  act-chosen : (b : Bool) (r : Pauli) → act n c (chosen b r) ≡ chosen b (act n c r)
-  act-chosen false r = act-identity n c
-  act-chosen true r = refl
+pub act-chosen : (n : ℕ) (c : ℕ → Clifford) (b : Bool) (r : Pauli) → act n c (chosen b r) ≡ chosen b (act n c r)
+act-chosen n c false r = act-identity n c
+act-chosen n c true r = refl
 
+module _ (n m : ℕ) (rows : ℕ → Pauli) (c : ℕ → Clifford) where
   pub act-product : (w : Word) → act n c (product n m w rows) ≡ product n m w (λ j. act n c (rows j))
   act-product w = fold-hom identity (mul n) identity (mul n) (act n c) (act-identity n c) (act-mul n c) m _
-      ∙ fold-ext identity (mul n) m (λ j l. act-chosen (w j) (rows j))
+      ∙ fold-ext identity (mul n) m (λ j l. act-chosen n c (w j) (rows j))
 
   pub act-in : {p : Pauli} → InGroup n m rows p → InGroup n m (λ j. act n c (rows j)) (act n c p)
   act-in a = (a .0, ap (act n c) (a .1) ∙ act-product (a .0))

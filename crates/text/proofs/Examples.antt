@@ -8,6 +8,7 @@ use lib.ListN.{replicate}
 use Rattle.words.specs.Bits.{bit}
 use Rattle.text.specs.Text.{hexDigit, hexText, decimal, ListLine, lineText, linesText, listNames, listText}
 use Rattle.text.specs.Text.{qubitLine, qubitLines, recordText, refusedText}
+use Rattle.text.specs.internal.Feeding.{fedBytes}
 use Rattle.text.specs.internal.Scan.{hexValue, push, namesStep, signStep, zStep, xStep, oneMore, scanByte, begin}
 use Rattle.text.specs.internal.Scan.{Reading, asReading, feed, fed, verdict}
 use Rattle.text.specs.declared.scan.Verdict.{Verdict}
@@ -56,13 +57,13 @@ judgement : List ℕ → Verdict
 judgement t = verdict (readingOf t .scan)
 
 input-read : judgement input ≡ record { «has_form» = true; count = 2 }
-unfolding judgement readingOf verdict fed feed scanByte namesStep signStep zStep xStep oneMore hexValue push begin
+unfolding judgement readingOf verdict fedBytes feed scanByte namesStep signStep zStep xStep oneMore hexValue push begin
 input-read = refl
 
 empty-read : judgement [] ≡ record { «has_form» = false; count = 0 }
-unfolding judgement readingOf verdict fed begin
+unfolding judgement readingOf verdict fedBytes begin
 empty-read = refl
 
 names-read : judgement listNames ≡ record { «has_form» = true; count = 0 }
-unfolding judgement readingOf verdict fed feed scanByte namesStep begin
+unfolding judgement readingOf verdict fedBytes feed scanByte namesStep begin
 names-read = refl

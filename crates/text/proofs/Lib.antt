@@ -5,6 +5,7 @@ pub mod DigitLaws
 pub mod RecordLaws
 pub mod FormLaws
 pub mod Feeding
+pub mod OneByte
 pub mod ScanLine
 pub mod ScanList
 pub mod ScanSound

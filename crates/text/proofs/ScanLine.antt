@@ -9,6 +9,7 @@ use native.Mathlib.Omega.{arith}
 use lib.Dec.{ltb}
 use borrow.Author.Tests.{lt-ltb, le-ltb}
 use Rattle.text.specs.Text.{hexDigit, hexText, space, ListLine, Fits, lineText}
+use Rattle.text.specs.internal.Feeding.{fedBytes}
 use Rattle.text.specs.internal.Scan.{
   signStep,
   zStep,
@@ -41,10 +42,10 @@ module _ (S : ℕ → ℕ → Reading)
     (digit : (k v d : ℕ) → k < 16 → v < 2 ^ 60 → d < 16
     → feed (S k v) (hexDigit d) ≡ S (k + 1) (v * 16 + d)) where
   pub word-read : (k v : ℕ) → k ≤ 16 → v < 16 ^ k → v < 2 ^ 64 → fed (S 0 0) (hexText k v) ≡ S k v
-  unfolding hexText fed
+  unfolding hexText fedBytes
   word-read zero v upto few small = ap (S 0) (omega arith)
   word-read (suc k) v upto few small =
-      fed-one (S 0 0) (hexText k (v / 16)) (hexDigit (v % 16))
+      fed-one feed (S 0 0) (hexText k (v / 16)) (hexDigit (v % 16))
       ∙ ap (λ w. feed w (hexDigit (v % 16)))
       (word-read k (v / 16) (omega arith) (fewer-digits k v few) (omega arith))
       ∙ digit k (v / 16) (v % 16) (omega arith) (omega arith) (omega arith)
@@ -98,7 +99,7 @@ module _ (A B C : List ℕ) (n : ℕ) where
       → fed (readingAt Sign s z x) (lineText l)
       ≡ feedNext (readingAt (X 16) (l .sign) (l .z) (l .x))
       (scanAt (oneMore n) Sign (l .sign) (l .z) (l .x))
-  unfolding lineText fed
+  unfolding lineText fedBytes
   line-read s z x l fit =
       let w = readingAt Sign s z x in
       let upto-z = (48 + l .sign) ∷ [] ++ space ++ hexText 16 (l .z) in
@@ -106,17 +107,17 @@ module _ (A B C : List ℕ) (n : ℕ) where
       ap (λ v. feed v 32) (sign-read s z x (l .sign) (fit .sign)) ∙ space-read (l .sign) 0 0
       in
       let to-z : fed w upto-z ≡ readingAt (Z 16) (l .sign) (l .z) 0 =
-      fed-append w ((48 + l .sign) ∷ [] ++ space) (hexText 16 (l .z))
+      fed-append feed w ((48 + l .sign) ∷ [] ++ space) (hexText 16 (l .z))
       ∙ ap (λ v. fed v (hexText 16 (l .z))) to-space
       ∙ word-read (λ k v. readingAt (Z k) (l .sign) v 0) (z-read (l .sign) 0) 16 (l .z) (omega arith)
       (fit .z) (fit .z)
       in
       let to-x : fed w (upto-z ++ space ++ hexText 16 (l .x)) ≡ readingAt (X 16) (l .sign) (l .z) (l .x) =
-      fed-append w (upto-z ++ space) (hexText 16 (l .x))
+      fed-append feed w (upto-z ++ space) (hexText 16 (l .x))
       ∙ ap (λ v. fed v (hexText 16 (l .x)))
-      (fed-one w upto-z 32 ∙ ap (λ v. feed v 32) to-z ∙ z-ends (l .sign) (l .z) 0)
+      (fed-one feed w upto-z 32 ∙ ap (λ v. feed v 32) to-z ∙ z-ends (l .sign) (l .z) 0)
       ∙ word-read (λ k v. readingAt (X k) (l .sign) (l .z) v) (x-read (l .sign) (l .z)) 16 (l .x)
       (omega arith) (fit .x) (fit .x)
       in
-      fed-one w (upto-z ++ space ++ hexText 16 (l .x)) 10 ∙ ap (λ v. feed v 10) to-x
+      fed-one feed w (upto-z ++ space ++ hexText 16 (l .x)) 10 ∙ ap (λ v. feed v 10) to-x
       ∙ x-ends (l .sign) (l .z) (l .x)

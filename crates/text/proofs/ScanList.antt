@@ -13,6 +13,7 @@ use lib.Seq.{take-all, take-suc-set, take-append-le}
 use borrow.Author.Tests.{lt-ltb, le-ltb}
 use Rattle.words.proofs.Sums.{lt-or-ge}
 use Rattle.text.specs.Text.{ListLine, Fits, AllFit, lineText, linesText, listNames, listText, TextOf}
+use Rattle.text.specs.internal.Feeding.{fedBytes}
 use Rattle.text.specs.internal.Scan.{
   namesStep,
   scanByte,
@@ -156,16 +157,16 @@ module _ (ls : List ListLine) (l : ListLine) (w : Reading) (read : Read ls w) wh
 -- more lines
 lines-more : (ls ms : List ListLine) (w : Reading) → Read ls w → AllFit ms
     → Read (ls ++ ms) (fed w (linesText ms))
-unfolding linesText fed
+unfolding linesText fedBytes
 lines-more ls [] w read fit = subst (λ l. Read l w) (sym (append-nil ls)) read
 lines-more ls (m ∷ ms) w read fit =
-    subst (Read (ls ++ m ∷ ms)) (sym (fed-append w (lineText m) (linesText ms)))
+    subst (Read (ls ++ m ∷ ms)) (sym (fed-append feed w (lineText m) (linesText ms)))
     (subst (λ l. Read l (fed (fed w (lineText m)) (linesText ms))) (append-assoc ls (m ∷ []) ms)
     (lines-more (ls ++ m ∷ []) ms (fed w (lineText m)) (line-more ls m w read (fit .0)) (fit .1)))
 
 -- the names line
 names-read : (A B C : List ℕ) → fed (asReading begin A B C) listNames ≡ asReading (scanAt 0 Sign 0 0 0) A B C
-unfolding fed feed scanByte namesStep begin
+unfolding fedBytes feed scanByte namesStep begin
 names-read A B C = refl
 
 -- a whole text
@@ -182,7 +183,7 @@ text-read A B C a b c ls t text =
       xs-whole = c;
     } in
     let whole : fed (asReading begin A B C) t ≡ fed w (linesText ls) =
-    ap (fed (asReading begin A B C)) (text .text) ∙ fed-append (asReading begin A B C) listNames (linesText ls)
+    ap (fed (asReading begin A B C)) (text .text) ∙ fed-append feed (asReading begin A B C) listNames (linesText ls)
     ∙ ap (λ v. fed v (linesText ls)) (names-read A B C)
     in
     subst (Read ls) (sym whole) (lines-more [] ls w none (text .fit))

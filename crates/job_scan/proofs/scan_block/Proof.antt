@@ -6,8 +6,9 @@ use lib.ListN.{length, take}
 use lib.Seq.{take-all}
 use borrow.Author.Needs.{needs}
 use Rattle.jobs.specs.Parallel.{stepsIn}
-use Rattle.job_text.proofs.Feeding.{fed-more}
-use Rattle.job_text.specs.internal.Scan.{asReading, fed}
+use Rattle.job_text.specs.internal.Scan.{asReading, fed, feed}
+use Rattle.text.proofs.Feeding.{fed-more}
+use Rattle.text.specs.internal.Feeding.{fedBytes}
 use Rattle.job_scan.proofs.Keeping.{still-full}
 use Rattle.job_scan.proofs.scan_block.Statement.{statement}
 use Rattle.job_scan.proofs.scan_block.Tie as tie
@@ -22,7 +23,7 @@ abbrev μ-loop : tie.MeasureT-loop
 μ-loop block ops₀ a₀ b₀ value₀ scan₀ i₀ ops a b value scan i = length block - i
 
 loop-holds : tie.Need-loop-holds Inv-loop μ-loop
-unfolding fed
+unfolding fedBytes
 loop-holds c = (zero-le, refl, refl, refl, refl, refl)
 
 scan-next-requires : tie.Need-scan-next-requires Inv-loop μ-loop
@@ -36,10 +37,10 @@ loop-again : tie.Need-loop-again Inv-loop μ-loop
 loop-again c =
     let N = c .before .before .before .before .before .before .before .before in
     let I = N .before .before .before .before .before .before in
-    let l = I .before .loop in (
+    let l = I .before .loop in
+    let sofar = asReading (l .scan) (stepsIn (l .ops) (l .a) (l .b) (l .value)) in (
       search needs,
-      fed-more _ (asReading (l .scan) (stepsIn (l .ops) (l .a) (l .b) (l .value))) _ (l .i) (I .loop-test .taken) (l .inv .1)
-          _ (N .scan-next .ensures),
+      fed-more feed _ sofar _ (l .i) (I .loop-test .taken) (l .inv .1) _ (N .scan-next .ensures),
       search needs,
       search needs,
       search needs,

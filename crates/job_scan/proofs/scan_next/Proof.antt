@@ -6,7 +6,7 @@ use lib.Dec.{ltb}
 use borrow.Author.Needs.{needs}
 use borrow.Author.Tests.{ltb-true}
 use Rattle.jobs.specs.Parallel.{stepsIn}
-use Rattle.job_text.proofs.Feeding.{feed-kept, feed-stored}
+use Rattle.job_text.proofs.OneByte.{feed-kept, feed-stored}
 use Rattle.job_text.specs.internal.Scan.{Reading, asReading}
 use Rattle.job_scan.proofs.scan_next.Statement.{statement}
 use Rattle.job_scan.proofs.scan_next.Tie as tie

@@ -11,6 +11,7 @@ use Rattle.buffers.specs.Refusals.{firstFitting}
 use Rattle.jobs.specs.declared.Op.{Op}
 use Rattle.jobs.specs.declared.Op.the-variants.{Gate, Cz, Measure, Complement, Pivot}
 use Rattle.jobs.specs.declared.Step.{Step}
+use Rattle.text.specs.internal.Feeding.{fedBytes}
 use Rattle.job_text.specs.internal.Lines.{textLines}
 use Rattle.job_text.specs.Text.{qubitsLine, stepNames, HasJobForm, JobTextOf}
 use Rattle.job_text.specs.declared.scan.Field.{Field}
@@ -196,14 +197,8 @@ unfoldable pub feed : Reading → ℕ → Reading
 feed w b = feedNext w (scanByte (w .scan) b)
 
 -- one more byte after the other
-unfoldable pub fed : Reading → List ℕ → Reading
-fed w [] = w
-fed w (b ∷ bs) = fed (feed w b) bs
-
--- block after block
-unfoldable pub fedBlocks : Reading → List (List ℕ) → Reading
-fedBlocks w [] = w
-fedBlocks w (block ∷ blocks) = fedBlocks (fed w block) blocks
+abbrev pub fed : Reading → List ℕ → Reading
+fed w t = fedBytes feed w t
 
 -- whether the next byte would start a step
 abbrev pub atLine : Place → Bool

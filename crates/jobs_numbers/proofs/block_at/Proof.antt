@@ -3,18 +3,20 @@ use mathlib.Core.Path.{refl}
 use Prim.Native.Nat.{_-_, _<_, _≤_, zero-le}
 use native.Mathlib.Omega.{arith}
 use borrow.Author.Needs.{needs}
-use Rattle.jobs_numbers.proofs.Blocks.{Filled, filled-all, filled-next, filled-none}
+use Rattle.buffers.proofs.Filling.{none-filled, one-filled}
+use Rattle.jobs.specs.Parallel.{numbered}
+use Rattle.jobs_numbers.proofs.Blocks.{BlockFilled, block-filled}
 use Rattle.jobs_numbers.proofs.block_at.Statement.{statement}
 use Rattle.jobs_numbers.proofs.block_at.Tie as tie
 
 abbrev Inv-loop : tie.InvT-loop
-Inv-loop ops a b value from count steps₀ k₀ steps k = (k ≤ count) × Filled ops a b value from k steps
+Inv-loop ops a b value from count steps₀ k₀ steps k = (k ≤ count) × BlockFilled ops a b value from steps k
 
 abbrev μ-loop : tie.MeasureT-loop
 μ-loop ops a b value from count steps₀ k₀ steps k = count - k
 
 loop-holds : tie.Need-loop-holds Inv-loop μ-loop
-loop-holds c = (zero-le, filled-none _ _ _ _ _ _ refl)
+loop-holds c = (zero-le, none-filled (numbered 0 0 0 0) 64 _ _ refl)
 
 step-at-requires : tie.Need-step-at-requires Inv-loop μ-loop
 step-at-requires c κs =
@@ -36,12 +38,15 @@ array-set-from-steps c = place-below c
 loop-again : tie.Need-loop-again Inv-loop μ-loop
 loop-again c =
     let l = c .before .before .loop in
-    (search needs, filled-next _ _ _ _ _ (l .k) (l .steps) _ (place-below c) (l .inv .1) (c .step-at .ensures))
+    let F = l .inv .1 in
+    (search needs, one-filled (numbered 0 0 0 0) 64 _ (l .steps) (l .k) _ F (place-below c) (c .step-at .ensures))
 
 returns : tie.Need-returns Inv-loop μ-loop
 returns c =
     let S = c .before .before .before .before .before .before in
-    filled-all _ _ _ _ _ _ _ _ (S .pre .0) (S .pre .1) (c .loop-test .left) (c .before .loop .inv .1)
+    let A = S .args in
+    block-filled (A .ops .now) (A .a .now) (A .b .now) (A .value .now) (A .from) _ _ _
+    (S .pre .0) (S .pre .1) (c .loop-test .left) (c .before .loop .inv .1)
 
 pub block-at-spec : {M : Type 1} → statement M
 block-at-spec =

@@ -3,11 +3,12 @@
 use mathlib.Core.Path.{_≡_}
 use mathlib.Core.Logic.{_↔_}
 use mathlib.Core.Bool.{Bool, true, false, _&&_, cond}
-use mathlib.Core.List.{List, [], _∷_, map}
+use mathlib.Core.List.{List, map}
 use Prim.Native.Nat.{ℕ, _+_, _-_, _*_, _%_, _^_, min}
 use lib.Dec.{eqb, ltb}
 use lib.ListN.{length, getD, set, take}
 use Rattle.text.specs.Text.{listNames, ListLine, TextOf, HasForm}
+use Rattle.text.specs.internal.Feeding.{fedBytes}
 use Rattle.text.specs.declared.scan.Scan.{Scan}
 use Rattle.text.specs.declared.scan.Verdict.{Verdict}
 use Rattle.text.specs.declared.scan.Place.{Place}
@@ -113,14 +114,8 @@ unfoldable pub feed : Reading → ℕ → Reading
 feed w b = feedNext w (scanByte (w .scan) b)
 
 -- one more byte after the other
-unfoldable pub fed : Reading → List ℕ → Reading
-fed w [] = w
-fed w (b ∷ bs) = fed (feed w b) bs
-
--- block after block
-unfoldable pub fedBlocks : Reading → List (List ℕ) → Reading
-fedBlocks w [] = w
-fedBlocks w (block ∷ blocks) = fedBlocks (fed w block) blocks
+abbrev pub fed : Reading → List ℕ → Reading
+fed w t = fedBytes feed w t
 
 -- whether the next byte would start a line
 abbrev pub atSign : Place → Bool

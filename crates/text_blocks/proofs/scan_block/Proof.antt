@@ -10,8 +10,10 @@ use lib.ListN.{length, take}
 use lib.Seq.{take-all}
 use borrow.Author.Tests.{ltb-true}
 use borrow.Author.Needs.{needs}
-use Rattle.text.specs.internal.Scan.{asReading, fed}
-use Rattle.text.proofs.Feeding.{turn-stored, turn-kept}
+use Rattle.text.specs.internal.Feeding.{fedBytes}
+use Rattle.text.specs.internal.Scan.{asReading, fed, feed}
+use Rattle.text.proofs.Feeding.{fed-more}
+use Rattle.text.proofs.OneByte.{feed-kept, feed-stored}
 use Rattle.text_blocks.proofs.scan_block.Statement.{statement}
 use Rattle.text_blocks.proofs.scan_block.Tie as tie
 
@@ -23,7 +25,7 @@ abbrev μ-loop : tie.MeasureT-loop
 μ-loop block signs₀ z₀ x₀ s₀ i₀ signs z x s i = length block - i
 
 loop-holds : tie.Need-loop-holds Inv-loop μ-loop
-unfolding fed
+unfolding fedBytes
 loop-holds c = (zero-le, refl)
 
 -- a line is stored only among the first 64
@@ -54,13 +56,14 @@ loop-again c =
     let l = c .before .before .before .before .loop in
     let sofar = asReading (l .s) (l .signs) (l .z) (l .x) in
     let inside = c .before .before .before .loop-test .taken in
-    let stepped = c .before .scan-byte .ensures in (
+    let stepped = c .before .scan-byte .ensures in
+    let on = fed-more feed _ sofar _ (l .i) inside (l .inv .1) in (
       search needs,
       ⊎-elim
           (λ w. (λ k. asReading next (w .1 k) (w .2 k) (w .3 k))
-          ∙ turn-stored _ sofar _ (l .i) inside (l .inv .1) _ stepped (w .0 .taken))
+          ∙ on _ (feed-stored sofar _ _ stepped (w .0 .taken)))
           (λ w. (λ k. asReading next (w .1 k) (w .2 k) (w .3 k))
-          ∙ turn-kept _ sofar _ (l .i) inside (l .inv .1) _ stepped (w .0 .left))
+          ∙ on _ (feed-kept sofar _ _ stepped (w .0 .left)))
           (c .if1 .came),
     )
 

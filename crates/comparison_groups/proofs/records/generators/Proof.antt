@@ -1,22 +1,21 @@
 -- `generators` meets its contract: the generators of a record.
-use mathlib.Core.Path.{_∙_, _≡_, refl}
-use Prim.Native.Nat.{_-_, _<_}
+use mathlib.Core.Path.{_≡_, refl}
+use Prim.Native.Nat.{_-_}
 use native.Mathlib.Omega.{arith}
-use lib.ListN.{length, length-set}
 use borrow.Author.Needs.{needs}
+use Rattle.buffers.proofs.Filling.{FilledBy, all-filled, none-filled, one-filled}
 use Rattle.clifford.specs.Vectors.{codesOf}
 use Rattle.pauli.specs.internal.Rows.{generatorOf}
 use Rattle.record.specs.Lent.{heldRows}
 use Rattle.comparison.specs.internal.Setting.{noGenerator}
 use Rattle.comparison.proofs.ComparedRecords.{generator-sent}
-use Rattle.comparison.proofs.Filling.{Filled, all-filled, none-filled, one-filled}
 use Rattle.comparison_groups.proofs.records.generators.Statement.{statement}
 use Rattle.comparison_groups.proofs.records.generators.Tie as tie
 
 abbrev Inv-loop : tie.InvT-loop
-Inv-loop n neighbours codes all₀ by j₀ all j = (length all ≡ 20)
-    × Filled noGenerator n
-    (λ i g. generatorOf g ≡ heldRows (record { n = n; neighbours = neighbours; codes = codes }) i) j all
+Inv-loop n neighbours codes all₀ by j₀ all j =
+    FilledBy noGenerator 20
+    (λ i g. generatorOf g ≡ heldRows (record { n = n; neighbours = neighbours; codes = codes }) i) all j
 
 abbrev μ-loop : tie.MeasureT-loop
 μ-loop n neighbours codes all₀ by j₀ all j = n - j
@@ -27,7 +26,7 @@ action-of-requires c κs =
     (omega (arith, pre .0, pre .1 .codes-long), pre .1 .codes-sound)
 
 loop-holds : tie.Need-loop-holds Inv-loop μ-loop
-loop-holds c = (refl, none-filled noGenerator _ _ _)
+loop-holds c = none-filled noGenerator 20 _ _ refl
 
 loop-again : tie.Need-loop-again Inv-loop μ-loop
 loop-again c =
@@ -36,17 +35,14 @@ loop-again c =
     let a = s .args in
     let l = c .before .before .before .before .loop in
     let more = c .before .before .before .loop-test .taken in
-    let fits : l .j < length (l .all) = omega (arith, more, l .inv .0, s .pre .0) in (
-      length-set (l .all) (l .j) _ ∙ l .inv .0,
-      one-filled noGenerator _ _ (l .j) (l .all) (l .inv .1) more fits _
-          (generator-sent (a .n) (s .pre .0) (a .neighbours .now) (a .codes .now) (s .pre .1) (l .j) more _
-          (c .before .single .ensures) _ (c .act-on .ensures (codesOf (a .codes .now)) by)),
-    )
+    one-filled noGenerator 20 _ (l .all) (l .j) _ (l .inv) (omega (arith, more, s .pre .0))
+    (generator-sent (a .n) (s .pre .0) (a .neighbours .now) (a .codes .now) (s .pre .1) (l .j) more _
+    (c .before .single .ensures) _ (c .act-on .ensures (codesOf (a .codes .now)) by))
 
 returns : tie.Need-returns Inv-loop μ-loop
 returns c =
     let l = c .before .loop in
-    all-filled noGenerator _ _ (l .j) (l .all) (l .inv .1) (c .loop-test .left)
+    all-filled noGenerator 20 _ (l .all) (l .j) _ (l .inv) (c .loop-test .left)
 
 pub generators-spec : {M : Type 1} → statement M
 generators-spec =

@@ -1,26 +1,25 @@
 -- `inverses` meets its contract: the codes that undo a record's.
-use mathlib.Core.Path.{_∙_, _≡_, refl}
+use mathlib.Core.Path.{refl}
 use Prim.Native.Nat.{_-_, _<_}
 use native.Mathlib.Omega.{arith}
-use lib.ListN.{length, length-set}
+use lib.ListN.{length}
 use borrow.Author.Needs.{needs}
+use Rattle.buffers.proofs.Filling.{Filled, all-filled, fill-start, fill-step}
 use Rattle.clifford.specs.Clifford.{codeOf, inverse}
 use Rattle.clifford.specs.Vectors.{codesOf}
 use Rattle.comparison.specs.internal.Setting.{Codes}
-use Rattle.comparison.proofs.Filling.{Filled, all-filled, none-filled, one-filled}
 use Rattle.comparison.proofs.NextChoice.{at-set, zeros-codes}
 use Rattle.comparison_groups.proofs.records.inverses.Statement.{statement}
 use Rattle.comparison_groups.proofs.records.inverses.Tie as tie
 
 abbrev Inv-loop : tie.InvT-loop
-Inv-loop n codes all₀ q₀ all q = (length all ≡ 20) × Codes all
-    × Filled 0 n (λ i c. c ≡ codeOf (inverse (codesOf codes i))) q all
+Inv-loop n codes all₀ q₀ all q = Codes all × Filled 20 (λ i. codeOf (inverse (codesOf codes i))) all q
 
 abbrev μ-loop : tie.MeasureT-loop
 μ-loop n codes all₀ q₀ all q = n - q
 
 loop-holds : tie.Need-loop-holds Inv-loop μ-loop
-loop-holds c = (refl, zeros-codes 20, none-filled 0 _ _ _)
+loop-holds c = (zeros-codes 20, fill-start 20 _ _ refl)
 
 inverse-requires : tie.Need-inverse-requires Inv-loop μ-loop
 inverse-requires c κs = c .before .before .before .before .pre .2 (c .before .before .loop .q)
@@ -30,16 +29,15 @@ loop-again c =
     let s = c .before .before .before .before .before in
     let l = c .before .before .before .loop in
     let more = c .before .before .loop-test .taken in
-    let fits : l .q < length (l .all) = omega (arith, more, l .inv .0, s .pre .0) in (
-      length-set (l .all) (l .q) _ ∙ l .inv .0,
-      at-set (l .all) (l .q) _ fits (λ k. k < 24) (l .inv .1) (c .inverse .ensures .1),
-      one-filled 0 _ _ (l .q) (l .all) (l .inv .2) more fits _ (c .inverse .ensures .0),
+    let fits : l .q < length (l .all) = omega (arith, more, l .inv .1 .long, s .pre .0) in (
+      at-set (l .all) (l .q) _ fits (λ k. k < 24) (l .inv .0) (c .inverse .ensures .1),
+      fill-step 20 _ (l .all) (l .q) _ (l .inv .1) (omega (arith, more, s .pre .0)) (c .inverse .ensures .0),
     )
 
 returns : tie.Need-returns Inv-loop μ-loop
 returns c =
     let l = c .before .loop in
-    (all-filled 0 _ _ (l .q) (l .all) (l .inv .2) (c .loop-test .left), l .inv .1)
+    (all-filled 0 20 _ (l .all) (l .q) _ (l .inv .1) (c .loop-test .left), l .inv .0)
 
 pub inverses-spec : {M : Type 1} → statement M
 inverses-spec =

@@ -2,8 +2,8 @@
 use mathlib.Core.Path.{sym, _∙_}
 use lib.ListN.{length}
 use borrow.Author.Needs.{needs}
+use Rattle.cut.specs.Kernel.{count}
 use Rattle.words.specs.Bits.{bit}
-use Rattle.image.proofs.CountLaws.{countBits}
 use Rattle.image_rule.proofs.Rounds.{Reached, next-ready, reached-start, round-end, round-on}
 use Rattle.image_rule.proofs.TrackedRecords.{tracked-codes}
 use Rattle.image_rule.specs.internal.Working.{working}
@@ -15,7 +15,7 @@ Inv-loop neighbours₀ codes₀ list₀ at₀ neighbours codes list at =
     Reached (length neighbours₀) (working neighbours₀ codes₀ list₀ at₀) (working neighbours codes list at)
 
 abbrev μ-loop : tie.MeasureT-loop
-μ-loop neighbours₀ codes₀ list₀ at₀ neighbours codes list at = countBits (length neighbours₀) (bit (at .c))
+μ-loop neighbours₀ codes₀ list₀ at₀ neighbours codes list at = count (length neighbours₀) (bit (at .c))
 
 loop-holds : tie.Need-loop-holds Inv-loop μ-loop
 loop-holds c = reached-start _ _ (c .before .before .before .pre .1)
