@@ -1,5 +1,5 @@
 -- A group's calls from what is done to the copy of its vertices.
-use mathlib.Core.Bool.{_&&_, cond, _||_}
+use mathlib.Core.Bool.{cond, _||_}
 use mathlib.Core.List.{List}
 use mathlib.Core.Path.{ap, ap₂, refl, subst, sym, _∙_, _≡_}
 use Prim.Native.Nat.{ℕ}
@@ -15,43 +15,15 @@ use Rattle.contracts.specs.Calls.{Call, EachOf}
 use Rattle.groups.proofs.GroupNumbers.{masked-answer, masked-number}
 use Rattle.groups.proofs.GroupPassing.{group-number}
 use Rattle.groups.proofs.MaskedRecords.{apart-record, masked-passes}
+use Rattle.group_records.specs.internal.BeforeEight.{Admitted, PutBack}
 use Rattle.groups.specs.GroupLines.{groupLines, namesOther}
-use Rattle.groups.specs.Masks.{inGroup, masked, merged}
+use Rattle.groups.specs.Masks.{inGroup, masked}
 use Rattle.groups.specs.internal.Apart.{GroupOp, measure-op}
-use Rattle.groups_masks.proofs.OwnWords.{masked-own, merged-own}
 use Rattle.operations.specs.Measurement.{determinedNumber, outcomeNumber}
 use Rattle.operations.specs.Steps.{Operation, measuredAnswer, measurementOf}
 use Rattle.used.specs.Used.{UsedRecord, UsedUnrefused, usedLinesOf}
 use Rattle.words.specs.Bits.{bit, wordOf}
 use Rattle.call_groups.specs.GroupCalls.{groupCall, groupLent, groupMeasureCall}
-use Rattle.call_groups.specs.internal.BeforeEight.{Admitted, PutBack}
-
--- ---- the copy, and what is put back
-module _ (word g : ℕ) {own : ℕ} where
-  pub taken : (nb cs : List ℕ) (used : ℕ) → own ≡ wordOf 64 (inGroup word g) → {words bytes : List ℕ} {r : ℕ}
-      → words ≡ (masked (bit own) (record { held = record { n = 64; neighbours = nb; codes = cs }; used = 0 }))
-      .held .neighbours
-      → bytes ≡ (masked (bit own) (record { held = record { n = 64; neighbours = nb; codes = cs }; used = 0 }))
-      .held .codes
-      → r ≡ wordOf 64 (λ q. bit own q && bit used q)
-      → record { held = record { n = 64; neighbours = words; codes = bytes }; used = r }
-      ≡ masked (inGroup word g) (record { held = record { n = 64; neighbours = nb; codes = cs }; used = used })
-  taken nb cs used e en ec eu =
-      (λ i. record { held = record { n = 64; neighbours = en i; codes = ec i }; used = eu i })
-      ∙ masked-own own (inGroup word g) e
-      (record { held = record { n = 64; neighbours = nb; codes = cs }; used = used }) refl
-
-  pub put-back : (words bytes nb cs : List ℕ) → own ≡ wordOf 64 (inGroup word g) → {nb′ cs′ : List ℕ}
-      → nb′ ≡ (merged (bit own) (record { held = record { n = 64; neighbours = words; codes = bytes }; used = 0 })
-      (record { held = record { n = 64; neighbours = nb; codes = cs }; used = 0 })) .held .neighbours
-      → cs′ ≡ (merged (bit own) (record { held = record { n = 64; neighbours = words; codes = bytes }; used = 0 })
-      (record { held = record { n = 64; neighbours = nb; codes = cs }; used = 0 })) .held .codes
-      → PutBack (inGroup word g) words bytes nb cs nb′ cs′
-  put-back words bytes nb cs e en ec =
-      let M = merged-own own (inGroup word g) e
-      (record { held = record { n = 64; neighbours = words; codes = bytes }; used = 0 })
-      (record { held = record { n = 64; neighbours = nb; codes = cs }; used = 0 }) refl in
-      record { neighbours = en ∙ ap (λ w. w .held .neighbours) M; codes = ec ∙ ap (λ w. w .held .codes) M }
 
 module _ (word g : ℕ) (u : UsedRecord) (o : Operation) (A : Admitted word g u o) where
   -- the record's buffers have 64 places

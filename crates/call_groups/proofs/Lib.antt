@@ -1,2 +1,1 @@
-pub mod EarlyNumbers
 pub mod GroupCalls

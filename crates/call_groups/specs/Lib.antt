@@ -1,2 +1,1 @@
 pub mod GroupCalls
-pub mod internal

@@ -3,114 +3,18 @@
 use call_complement::complement_known;
 use call_gates::cz_known;
 use call_gates::gate_known;
-use call_gates::is_used;
 use call_measure::measure_known;
-use groups_masks::crosses;
-use groups_masks::mask;
-use groups_masks::mask_used;
-use groups_masks::merge;
-use groups_masks::merge_used;
-use groups_masks::own_word;
-use used_checks::used_refusal;
-ghost use mathlib.Core.Bool.{cond};
+use group_records::group_refusal;
+use group_records::outside;
+use group_records::put_group;
+use group_records::put_used;
+use group_records::take_group;
 ghost use mathlib.Core.Path.{_≡_};
 ghost use lib.ListN.{length};
-ghost use Rattle.buffers.specs.Refusals.{firstFitting};
 ghost use Rattle.contracts.specs.Calls.{Call};
-ghost use Rattle.groups.specs.GroupLines.{outsider};
-ghost use Rattle.groups.specs.Masks.{inGroup, masked};
+ghost use Rattle.group_records.specs.internal.BeforeEight.{Admitted};
 ghost use Rattle.operations.specs.Steps.{complementOf, czOn, gateWith, measurementOf};
-ghost use Rattle.words.specs.Bits.{bit, wordOf};
 ghost use Rattle.call_groups.specs.GroupCalls.{groupCall, groupMeasureCall};
-ghost use Rattle.call_groups.specs.internal.BeforeEight.{Admitted, PutBack, beforeEight};
-
-// Whether a qubit of the record is in the other group: bit q of the word is qubit q's group.
-fn outside(n: u64, word: u64, group: u8, qubit: u64) -> bool
-    ensures { λ r. ⌜ r ≡ outsider (inGroup word group) n qubit ⌝ }
-{
-    (qubit < n) & (is_used(word, qubit) != (group == 1))
-}
-
-// The number of the first line before 8 that holds; `six`: line 6 holds of a further argument; `other`: the call names
-// a qubit of the other group.
-fn group_refusal(
-    n: u64,
-    word: u64,
-    group: u8,
-    neighbours: &[u64],
-    codes: &[u8],
-    used: u64,
-    six: bool,
-    other: bool,
-) -> u8
-    ensures { λ r. ⌜ r ≡ firstFitting (beforeEight word group (record {
-      held = record { n = n; neighbours = now (neighbours .entry); codes = now (codes .entry) };
-      used = used;
-    }) six other) ⌝ }
-{
-    if n != 64 {
-        return 2;
-    }
-    let early = used_refusal(n, neighbours, codes, used, 0, false, six | (1 < group));
-    if early != 0 {
-        return early;
-    }
-    if crosses(word, neighbours) | other {
-        19
-    } else {
-        0
-    }
-}
-
-// Copies the group's vertices, the others alone in +Z; answers the group's used qubits.
-fn take_group(
-    word: u64,
-    group: u8,
-    neighbours: &[u64],
-    codes: &[u8],
-    used: u64,
-    words: &mut [u64],
-    bytes: &mut [u8],
-) -> u64
-    requires { ⌜ (length (now neighbours) ≡ 64) × (length (now codes) ≡ 64) ⌝ }
-    requires { ⌜ (length (now words) ≡ 64) × (length (now bytes) ≡ 64) ⌝ }
-    ensures { λ r. ⌜ record {
-      held = record { n = 64; neighbours = now (words .exit); codes = now (bytes .exit) };
-      used = r;
-    } ≡ masked (inGroup word group) (record {
-      held = record { n = 64; neighbours = now (neighbours .entry); codes = now (codes .entry) };
-      used = used;
-    }) ⌝ }
-{
-    let own = own_word(word, group);
-    mask(own, neighbours, codes, words, bytes);
-    mask_used(own, used)
-}
-
-// Puts the group's vertices of a copy into the record; the others stay.
-fn put_group(
-    word: u64,
-    group: u8,
-    words: &[u64],
-    bytes: &[u8],
-    neighbours: &mut [u64],
-    codes: &mut [u8],
-)
-    requires { ⌜ (length (now words) ≡ 64) × (length (now bytes) ≡ 64) ⌝ }
-    requires { ⌜ (length (now neighbours) ≡ 64) × (length (now codes) ≡ 64) ⌝ }
-    ensures { λ r. ⌜ PutBack (inGroup word group) (now (words .entry)) (now (bytes .entry))
-        (now (neighbours .entry)) (now (codes .entry)) (now (neighbours .exit)) (now (codes .exit)) ⌝ }
-{
-    let own = own_word(word, group);
-    merge(own, words, bytes, neighbours, codes);
-}
-
-// The used qubits `new` of the group, and `used` of the other.
-fn put_used(word: u64, group: u8, new: u64, used: u64) -> u64
-    ensures { λ r. ⌜ r ≡ wordOf 64 (λ q. cond (inGroup word group q) (bit new q) (bit used q)) ⌝ }
-{
-    merge_used(own_word(word, group), new, used)
-}
 
 // A gate of a call that is admitted, on the copy; `words` and `bytes` have room for it.
 fn gate_within(

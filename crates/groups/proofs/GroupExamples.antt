@@ -1,5 +1,5 @@
--- The request's cases: the numbers of a group's calls on 64 qubits; and on two qubits, one a group, what two
--- complementations and a gate leave.
+-- The request's cases that tell the order of the lines, on 64 qubits (the others stand in claims_examples); and on two
+-- qubits, one a group, what two complementations and a gate leave.
 use mathlib.Core.List.{_++_, List, [], _∷_}
 use mathlib.Core.Path.{_≡_, refl}
 use Prim.Native.Nat.{_^_, _-_, ℕ}
@@ -19,18 +19,18 @@ use Rattle.used.specs.Used.{UsedRecord, usedWrong}
 use Rattle.words.specs.Bits.{bit, fold, put, wordOf}
 use Rattle.words.specs.Search.{every, first, some}
 use Rattle.groups.specs.GroupLines.{groupAfter, groupLines}
-use Rattle.groups.specs.GroupStores.{groupNamedLines, groupSaveLines}
+use Rattle.groups.specs.GroupStores.{groupNamedLines}
 use Rattle.groups.specs.Masks.{crosses, reachesOut}
 
 -- qubits 0 to 31 are of group 0, the others of group 1
-abbrev halves : ℕ
+abbrev pub halves : ℕ
 halves = 2 ^ 64 - 2 ^ 32
 
-abbrev plain : UsedRecord
+abbrev pub plain : UsedRecord
 plain = record { held = record { n = 64; neighbours = replicate 64 0; codes = replicate 64 8 }; used = 0 }
 
 -- with an edge 0-40
-abbrev joined : UsedRecord
+abbrev pub joined : UsedRecord
 joined =
     record {
       held = record {
@@ -41,25 +41,18 @@ joined =
       used = 0;
     }
 
-abbrev asked : UsedRecord → ℕ → Operation → ℕ
+abbrev pub asked : UsedRecord → ℕ → Operation → ℕ
 asked u g o = firstFitting (groupLines halves g u o)
 
-abbrev empty : Store
+abbrev pub empty : Store
 empty = record { heads = replicate 24 0; neighbours = replicate 512 0; codes = replicate 512 0 }
 
-abbrev given : List ℕ
-given =
-    asked plain 0 (gateWith 40 0) ∷ asked plain 0 (gateWith 64 0) ∷ asked plain 0 (gateWith 40 24)
-    ∷ asked plain 0 (czOn 40 40) ∷ asked plain 0 (czOn 64 64) ∷ asked plain 0 (czOn 0 40) ∷ asked plain 0 (czOn 40 64)
-    ∷ asked plain 2 (gateWith 0 0) ∷ asked plain 0 (gateWith 31 0) ∷ asked plain 1 (gateWith 32 0)
-    ∷ asked joined 0 (gateWith 1 0) ∷ asked joined 0 (gateWith 1 24) ∷ asked joined 1 (gateWith 64 0)
-    ∷ firstFitting (groupNamedLines halves 0 joined 65 empty) ∷ firstFitting (groupNamedLines halves 0 plain 65 empty)
-    ∷ firstFitting (groupSaveLines halves 1 plain 65 empty) ∷ []
-
-pub group-numbers :
-    given ≡ 19 ∷ 8 ∷ 6 ∷ 19 ∷ 8 ∷ 19 ∷ 19 ∷ 6 ∷ 0 ∷ 0 ∷ 19 ∷ 6 ∷ 19 ∷ 19 ∷ 17 ∷ 0 ∷ []
+-- 19 comes before 8, and before 17
+pub group-order :
+    asked plain 0 (czOn 40 64) ∷ asked plain 0 (gateWith 64 0) ∷ firstFitting (groupNamedLines halves 0 joined 65 empty)
+    ∷ [] ≡ 19 ∷ 8 ∷ 19 ∷ []
 unfolding bit some every first firstFitting reaching notSimple usedWrong crosses reachesOut
-group-numbers = refl
+group-order = refl
 
 -- ---- qubit 0 is of group 0, qubit 1 of group 1
 abbrev two : UsedRecord

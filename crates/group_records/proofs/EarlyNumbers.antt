@@ -21,7 +21,7 @@ use Rattle.used.proofs.UsedPassing.{lines-pass}
 use Rattle.used.specs.Used.{UsedRecord, usedLines, usedStray, usedWrong}
 use Rattle.words.proofs.Finite.{bits}
 use Rattle.words.proofs.Flags.{neither}
-use Rattle.call_groups.specs.internal.BeforeEight.{Admitted, beforeEight, sixOf}
+use Rattle.group_records.specs.internal.BeforeEight.{Admitted, beforeEight, sixOf}
 
 -- a further test of line 6 is one of its arguments
 six-joined : (u : UsedRecord) (six t : Bool)

@@ -6,8 +6,8 @@ use Rattle.groups.proofs.Merging.{word-cong}
 use Rattle.groups.specs.Masks.{inGroup}
 use Rattle.groups_masks.proofs.OwnWords.{own-bit}
 use Rattle.words.specs.Bits.{bit}
-use Rattle.call_groups.proofs.put_used.Statement.{statement}
-use Rattle.call_groups.proofs.put_used.Tie as tie
+use Rattle.group_records.proofs.put_used.Statement.{statement}
+use Rattle.group_records.proofs.put_used.Tie as tie
 
 returns : tie.Need-returns
 returns c =

@@ -4,9 +4,9 @@ use lib.Dec.{ltb}
 use borrow.Author.Needs.{needs}
 use Rattle.used.specs.Used.{UsedRecord}
 use Rattle.used_checks.proofs.UsedNumbers.{no-further}
-use Rattle.call_groups.proofs.EarlyNumbers.{of-64, other-count, record-refused, then-19, then-none}
-use Rattle.call_groups.proofs.group_refusal.Statement.{statement}
-use Rattle.call_groups.proofs.group_refusal.Tie as tie
+use Rattle.group_records.proofs.EarlyNumbers.{of-64, other-count, record-refused, then-19, then-none}
+use Rattle.group_records.proofs.group_refusal.Statement.{statement}
+use Rattle.group_records.proofs.group_refusal.Tie as tie
 
 -- the record that is lent
 abbrev lent : tie.Start → UsedRecord

@@ -1,8 +1,8 @@
 -- `put_group` meets its contract: the group's vertices of a copy put into the record.
 use borrow.Author.Needs.{needs}
-use Rattle.call_groups.proofs.GroupCalls.{put-back}
-use Rattle.call_groups.proofs.put_group.Statement.{statement}
-use Rattle.call_groups.proofs.put_group.Tie as tie
+use Rattle.group_records.proofs.Copies.{put-back}
+use Rattle.group_records.proofs.put_group.Statement.{statement}
+use Rattle.group_records.proofs.put_group.Tie as tie
 
 returns : tie.Need-returns
 returns c =

@@ -5,8 +5,8 @@ use lib.Dec.{eqb, ltb}
 use borrow.Author.Needs.{needs}
 use Rattle.words.proofs.Finite.{bits}
 use Rattle.words.specs.Bits.{bit, sameBit}
-use Rattle.call_groups.proofs.outside.Statement.{statement}
-use Rattle.call_groups.proofs.outside.Tie as tie
+use Rattle.group_records.proofs.outside.Statement.{statement}
+use Rattle.group_records.proofs.outside.Tie as tie
 
 unlike : (a b : Bool) → not (Bool·beq a b) ≡ not (sameBit a b)
 unlike = bits 2 (λ a b. not (Bool·beq a b)) (λ a b. not (sameBit a b)) tt

@@ -1,8 +1,8 @@
 -- `take_group` meets its contract: a copy of the group's vertices, the others alone in +Z.
 use borrow.Author.Needs.{needs}
-use Rattle.call_groups.proofs.GroupCalls.{taken}
-use Rattle.call_groups.proofs.take_group.Statement.{statement}
-use Rattle.call_groups.proofs.take_group.Tie as tie
+use Rattle.group_records.proofs.Copies.{taken}
+use Rattle.group_records.proofs.take_group.Statement.{statement}
+use Rattle.group_records.proofs.take_group.Tie as tie
 
 returns : tie.Need-returns
 returns c =
