@@ -131,7 +131,8 @@
  *   equal. What gate, cz, measure and reduce leave is reduced; any other record is reduced by
  *   sukhlent_expand and sukhlent_reduce.
  * Threads: no call keeps anything between calls. Two threads may call at once, each with buffers
- *   of its own for what is not const. */
+ *   of its own for what is not const.
+ * Stack: a call takes at most 14 kB, and no heap (measured, not proved: docs/SPEED.md). */
 
 /* What a refusal number means, in words. */
 static inline const char *sukhlent_refusal_text(uint8_t number)
@@ -432,7 +433,8 @@ uint8_t sukhlent_forget(uint64_t name,
  * its own vertices does not depend on the other group's calls. On its own qubits it does what the
  * whole-record call of that name does, and gate, cz and measure reduce its own vertices alone. Both
  * groups may hold one name, for two states. Where a whole-record call has left an edge between the
- * groups, every group's call is refused by 19 until it is gone. A group may have no qubit.
+ * groups, every group's call is refused until it is gone, by 19 if by no number before it. A group
+ * may have no qubit.
  *
  * Each call gives the numbers of the record first, 2 also where n is not 64, 6 also where `group` is
  * above 1; with n = 64 no word has a bit at or above n, so that 5 never comes. save, return
