@@ -22,7 +22,7 @@ int main(void)
     return 0;
 }
 """
-PRINTED = "8 a qubit number is n or more, or a qubit is named twice 1\n"
+PRINTED = "8 a qubit number is n or more, or a qubit is named twice, or a pivot's pair has no edge 1\n"
 
 
 def run(*command, **more):
