@@ -137,6 +137,47 @@ fn sources(folder: &str, ending: &str) -> String {
         .collect()
 }
 
+/// Each call that the table of calls of docs/ENGINE.md has, with the programs that it names for it.
+fn shown_in() -> Vec<(String, Vec<String>)> {
+    let text = std::fs::read_to_string(root().join("docs/ENGINE.md")).unwrap();
+    let lines = text
+        .lines()
+        .skip_while(|line| !line.ends_with("| shown in |"));
+    let rows = lines.skip(2).take_while(|line| line.starts_with('|'));
+    let words = |cell: &str| {
+        cell.trim()
+            .split(", ")
+            .map(String::from)
+            .collect::<Vec<_>>()
+    };
+    let cells = rows.map(|row| row.split('|').map(words).collect::<Vec<_>>());
+    cells
+        .flat_map(|row| {
+            row[1]
+                .clone()
+                .into_iter()
+                .map(move |call| (call, row[3].clone()))
+        })
+        .collect()
+}
+
+#[test]
+fn the_table_of_calls_names_a_program_for_each() {
+    let mut named: Vec<String> = shown_in().into_iter().map(|(call, _)| call).collect();
+    let mut declared = calls();
+    named.sort();
+    declared.sort();
+    assert_eq!(named, declared);
+    for (call, programs) in shown_in() {
+        let name = format!("sukhlent_{call}(");
+        for program in programs.iter().filter(|program| *program != "orbits") {
+            let source = root().join(format!("examples/c/{program}.c"));
+            let text = std::fs::read_to_string(source).unwrap();
+            assert!(text.contains(&name), "{call} in {program}.c");
+        }
+    }
+}
+
 #[test]
 fn every_call_has_an_example_in_c_and_in_rust() {
     let c = sources("examples/c", "c");
