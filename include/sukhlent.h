@@ -130,6 +130,8 @@
  * Equal states: two reduced records have equal neighbours and codes exactly if their states are
  *   equal. What gate, cz, measure and reduce leave is reduced; any other record is reduced by
  *   sukhlent_expand and sukhlent_reduce.
+ * Many steps: sukhlent_run does up to 4,096 in one call and checks the record once
+ *   (examples/c/run.c).
  * Threads: no call keeps anything between calls. Two threads may call at once, each with buffers
  *   of its own for what is not const. */
 
