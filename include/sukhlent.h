@@ -132,6 +132,8 @@
  * Equal states: two reduced records have equal neighbours and codes exactly if their states are
  *   equal. What gate, cz, measure and reduce leave is reduced; any other record is reduced by
  *   sukhlent_expand and sukhlent_reduce.
+ * Many steps: sukhlent_run does up to 4,096 in one call and checks the record once
+ *   (examples/c/run.c).
  * Threads: no call keeps anything between calls. Two threads may call at once, each with buffers
  *   of its own for what is not const. */
 
@@ -148,7 +150,7 @@ static inline const char *sukhlent_refusal_text(uint8_t number)
     case SUKHLENT_VALUE: return "a sign, outcome or group is above 1, a code above 23, a Pauli not 1 to 3, or a seed 0";
     case SUKHLENT_GRAPH: return "a graph is not simple, or a used vertex has a neighbour or a code that no measurement leaves, or a store holds a name twice, or a group's held state has a neighbour outside it";
     case SUKHLENT_OTHER_GROUP: return "a group's call names a qubit of the other group, or the record has an edge between the groups";
-    case SUKHLENT_QUBIT: return "a qubit number is n or more, or a qubit is named twice";
+    case SUKHLENT_QUBIT: return "a qubit number is n or more, or a qubit is named twice, or a pivot's pair has no edge";
     case SUKHLENT_USED: return "the call names a used qubit";
     case SUKHLENT_NOT_HELD: return "a name to return to or forget is not held";
     case SUKHLENT_FULL: return "a save finds eight other names held, or a group's save four";

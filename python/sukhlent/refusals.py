@@ -13,7 +13,7 @@ TEXTS: dict[int, str] = {
     7: "a graph is not simple, or a used vertex has a neighbour or a code that no measurement leaves, or a store holds a name twice,"
     " or a group's held state has a neighbour outside it",
     19: "a group's call names a qubit of the other group, or the record has an edge between the groups",
-    8: "a qubit number is n or more, or a qubit is named twice",
+    8: "a qubit number is n or more, or a qubit is named twice, or a pivot's pair has no edge",
     16: "the call names a used qubit",
     17: "a name to return to or forget is not held",
     18: "a save finds eight other names held, or a group's save four",
