@@ -34,8 +34,8 @@
  *       group's call, or a state that it holds, has another n than 64
  *    4  a buffer's length is not what is required
  *    5  a word has a bit at or above n
- *    6  a sign, outcome or group is above 1, a code above 23, a Pauli not 1 to 3, or a seed 0; in a
- *       job or a run also: a field that a step does not use is not 0; in a run: an operation above 4
+ *    6  a sign, outcome or group is above 1, a code above 23, a Pauli not 1 to 3, a seed 0, a run's
+ *       operation above 4, or a field that a step does not use is not 0
  *    7  a graph is not simple, or a used vertex has a neighbour or a code other than 0, 2, 4, 6, 8
  *       and 10, or a store holds a name twice, or a group's held state has a neighbour outside it
  *   19  a group's call names a qubit of the other group, or the record has an edge between the
@@ -143,11 +143,11 @@ static inline const char *sukhlent_refusal_text(uint8_t number)
     switch (number) {
     case SUKHLENT_ACCEPTED: return "accepted";
     case SUKHLENT_FORM: return "the text does not have its form";
-    case SUKHLENT_STEPS: return "a job has more than 4,096 steps";
+    case SUKHLENT_STEPS: return "a job or a run has more than 4,096 steps";
     case SUKHLENT_COUNT: return "n is 0 or above the call's limit, or the two lists' n differ, or a group's call has another n than 64";
     case SUKHLENT_LENGTH: return "a buffer's length is not what is required";
     case SUKHLENT_STRAY: return "a word has a bit at or above n";
-    case SUKHLENT_VALUE: return "a sign, outcome or group is above 1, a code above 23, a Pauli not 1 to 3, or a seed 0";
+    case SUKHLENT_VALUE: return "a sign, outcome or group is above 1, a code above 23, a Pauli not 1 to 3, a seed 0, a run's operation above 4, or a field that a step does not use is not 0";
     case SUKHLENT_GRAPH: return "a graph is not simple, or a used vertex has a neighbour or a code that no measurement leaves, or a store holds a name twice, or a group's held state has a neighbour outside it";
     case SUKHLENT_OTHER_GROUP: return "a group's call names a qubit of the other group, or the record has an edge between the groups";
     case SUKHLENT_QUBIT: return "a qubit number is n or more, or a qubit is named twice, or a pivot's pair has no edge";

@@ -24,7 +24,8 @@ pub enum Refusal {
     Length = 4,
     /// A word has a bit outside of the qubits.
     StrayBit = 5,
-    /// A sign, an outcome, a group, a code, a Pauli or a seed is none.
+    /// A sign, an outcome, a group, a code, a Pauli, a seed or a run's operation is none, or a step
+    /// has a number where it uses none.
     Value = 6,
     /// A graph is not simple, a used vertex is not as a measurement leaves it, a store holds a name
     /// twice, or a group's held state has a neighbour outside it.
@@ -43,7 +44,7 @@ pub enum Refusal {
     Inequivalent = 13,
     /// A supplied outcome is one that the state forbids.
     Contradiction = 14,
-    /// A job has more than 4,096 steps.
+    /// A job or a run has more than 4,096 steps.
     Steps = 15,
     /// A call names a used qubit.
     Used = 16,
@@ -119,7 +120,7 @@ impl Refusal {
     fn line(self) -> &'static str {
         match self {
             Refusal::Form => "the text does not have its form",
-            Refusal::Steps => "a job has more than 4,096 steps",
+            Refusal::Steps => "a job or a run has more than 4,096 steps",
             Refusal::Qubits => {
                 "n is 0 or above the call's limit, or the two lists' n differ, or a group's \
                  call has another n than 64"
@@ -127,8 +128,8 @@ impl Refusal {
             Refusal::Length => "a buffer's length is not what is required",
             Refusal::StrayBit => "a word has a bit at or above n",
             Refusal::Value => {
-                "a sign, outcome or group is above 1, a code above 23, a Pauli not 1 to 3, or \
-                 a seed 0"
+                "a sign, outcome or group is above 1, a code above 23, a Pauli not 1 to 3, a \
+                 seed 0, a run's operation above 4, or a field that a step does not use is not 0"
             }
             Refusal::Graph => {
                 "a graph is not simple, or a used vertex has a neighbour or a code that no \
