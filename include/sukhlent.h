@@ -29,17 +29,19 @@
  * Every call answers 0 where it accepts, or the first number of this list whose line is true; the
  * list is in checking order. A refused call changes no buffer.
  *    1  a text does not have its form
- *   15  a job has more than 4,096 steps
- *    2  n is 0 or above 64, or the two lists' n differ, or a group's call has another n than 64
+ *   15  a job or a run has more than 4,096 steps
+ *    2  n is 0 or above 64 (above 6 for an orbit), or the two lists' or records' n differ, or a
+ *       group's call, or a state that it holds, has another n than 64
  *    4  a buffer's length is not what is required
  *    5  a word has a bit at or above n
- *    6  a sign, outcome or group is above 1, a code above 23, a Pauli not 1 to 3, or a seed 0
+ *    6  a sign, outcome or group is above 1, a code above 23, a Pauli not 1 to 3, a seed 0, a run's
+ *       operation above 4, or a field that a step does not use is not 0
  *    7  a graph is not simple, or a used vertex has a neighbour or a code other than 0, 2, 4, 6, 8
  *       and 10, or a store holds a name twice, or a group's held state has a neighbour outside it
  *   19  a group's call names a qubit of the other group, or the record has an edge between the
  *       groups
- *    8  a qubit number is n or more, or CZ names one qubit twice; in a job also: a pivot names one
- *       qubit twice, or its pair has no edge
+ *    8  a qubit number is n or more, or CZ names one qubit twice; in a job or a run also: a pivot
+ *       names one qubit twice, or its pair has no edge
  *   16  the call names a used qubit
  *   17  a name to return to or forget is not held
  *   18  a save finds eight other names held, or a group's save four
@@ -130,6 +132,8 @@
  * Equal states: two reduced records have equal neighbours and codes exactly if their states are
  *   equal. What gate, cz, measure and reduce leave is reduced; any other record is reduced by
  *   sukhlent_expand and sukhlent_reduce.
+ * Many steps: sukhlent_run does up to 4,096 in one call and checks the record once
+ *   (examples/c/run.c).
  * Threads: no call keeps anything between calls. Two threads may call at once, each with buffers
  *   of its own for what is not const.
  * Stack: a call takes at most 14 kB, and no heap (measured, not proved: docs/SPEED.md). */
@@ -140,14 +144,14 @@ static inline const char *sukhlent_refusal_text(uint8_t number)
     switch (number) {
     case SUKHLENT_ACCEPTED: return "accepted";
     case SUKHLENT_FORM: return "the text does not have its form";
-    case SUKHLENT_STEPS: return "a job has more than 4,096 steps";
+    case SUKHLENT_STEPS: return "a job or a run has more than 4,096 steps";
     case SUKHLENT_COUNT: return "n is 0 or above the call's limit, or the two lists' n differ, or a group's call has another n than 64";
     case SUKHLENT_LENGTH: return "a buffer's length is not what is required";
     case SUKHLENT_STRAY: return "a word has a bit at or above n";
-    case SUKHLENT_VALUE: return "a sign, outcome or group is above 1, a code above 23, a Pauli not 1 to 3, or a seed 0";
+    case SUKHLENT_VALUE: return "a sign, outcome or group is above 1, a code above 23, a Pauli not 1 to 3, a seed 0, a run's operation above 4, or a field that a step does not use is not 0";
     case SUKHLENT_GRAPH: return "a graph is not simple, or a used vertex has a neighbour or a code that no measurement leaves, or a store holds a name twice, or a group's held state has a neighbour outside it";
     case SUKHLENT_OTHER_GROUP: return "a group's call names a qubit of the other group, or the record has an edge between the groups";
-    case SUKHLENT_QUBIT: return "a qubit number is n or more, or a qubit is named twice";
+    case SUKHLENT_QUBIT: return "a qubit number is n or more, or a qubit is named twice, or a pivot's pair has no edge";
     case SUKHLENT_USED: return "the call names a used qubit";
     case SUKHLENT_NOT_HELD: return "a name to return to or forget is not held";
     case SUKHLENT_FULL: return "a save finds eight other names held, or a group's save four";
@@ -245,7 +249,8 @@ uint8_t sukhlent_complement(uint64_t n,
  * sukhlent_measure answers to outcomes[k] and determined[k], where every other step has 0 and 0. A
  * step is refused by 6 (a field that it does not use is not 0, a value is none), 8, 16 or 14, and
  * then changes nothing; the steps behind it run.
- * Refusals: 15, 2, 4, 5, 6 (also where a number of `ops` is above 4), 7. */
+ * Refusals: 15 (`ops` has more than 4,096 places, whatever the other slices have), 2, 4, 5, 6 (also
+ * where a number of `ops` is above 4), 7. */
 uint8_t sukhlent_run(uint64_t n,
                      uint64_t *neighbours, size_t neighbours_len,
                      uint8_t *codes, size_t codes_len,

@@ -1,5 +1,5 @@
 /* The entanglement across every cut of a path of four qubits, before and after a CZ, a gate and a complement; then a
- * product of two rows that do not commute. */
+ * product of two rows that do not commute. rust/sukhlent/examples/cut.rs is the same in Rust. */
 #include <stdio.h>
 
 #include "sukhlent.h"

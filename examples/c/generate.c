@@ -1,10 +1,11 @@
-/* Writes the text of a job that anyone can repeat: generate N COUNT SEED, in decimal. */
+/* Writes the text of a job that anyone can repeat: generate N COUNT SEED, in decimal.
+ * rust/sukhlent/examples/generate.rs is the same in Rust. */
 #include <stdio.h>
 #include <stdlib.h>
 
 #include "sukhlent.h"
 
-enum { PLACES = 61463 };
+enum { PLACES = SUKHLENT_TEXT_PLACES };
 
 static uint8_t text[PLACES];
 

@@ -1,4 +1,5 @@
-/* The recipes of the header: the start of a session, CNOT, a random outcome, equal states. */
+/* The recipes of the header: the start of a session, CNOT, a random outcome, equal states.
+ * rust/sukhlent/examples/recipes.rs is the same in Rust. */
 #include <stdio.h>
 #include <string.h>
 
@@ -60,12 +61,18 @@ static int equal(const struct state *a, const struct state *b)
            memcmp(a->codes, b->codes, sizeof a->codes) == 0;
 }
 
+/* Prints a refusal. */
+static void say(const char *call, uint8_t refusal)
+{
+    printf("%s: refused %d: %s\n", call, refusal, sukhlent_refusal_text(refusal));
+}
+
 int main(void)
 {
     struct state ghz = zeros(), other = zeros();
     uint8_t outcome, determined;
 
-    printf("header and library have one version: %d\n", sukhlent_version() == SUKHLENT_VERSION);
+    printf("compiled for the version of the library: %d\n", sukhlent_version() == SUKHLENT_VERSION);
     gate(&ghz, 0, SUKHLENT_GATE_H);
     cnot(&ghz, 0, 1);
     cnot(&ghz, 1, 2);
@@ -74,13 +81,13 @@ int main(void)
     printf("equal after CNOT 2 0: %d\n", equal(&ghz, &other));
     cnot(&other, 2, 1);
     printf("equal after CNOT 2 1: %d\n", equal(&ghz, &other));
-    printf("CNOT 1 1: %s\n", sukhlent_refusal_text(cnot(&ghz, 1, 1)));
+    say("CNOT 1 1", cnot(&ghz, 1, 1));
     printf("equal after that: %d\n", equal(&ghz, &other));
 
     measure(&ghz, 0, 1, &outcome, &determined);
     printf("Z at 0 with coin 1: outcome %d, determined %d\n", outcome, determined);
     measure(&ghz, 1, 0, &outcome, &determined);
     printf("Z at 1 with coin 0: outcome %d, determined %d\n", outcome, determined);
-    printf("H at 1: %s\n", sukhlent_refusal_text(gate(&ghz, 1, SUKHLENT_GATE_H)));
+    say("H at 1", gate(&ghz, 1, SUKHLENT_GATE_H));
     return 0;
 }

@@ -1,5 +1,6 @@
 /* Marks a point of a session and comes back to it: a Bell pair is saved, one half is measured with
- * outcome 0, then the session returns to the pair and measures with outcome 1. */
+ * outcome 0, then the session returns to the pair and measures with outcome 1.
+ * rust/sukhlent/examples/store.rs is the same in Rust. */
 #include <inttypes.h>
 #include <stdio.h>
 #include <stdlib.h>

@@ -1,5 +1,6 @@
 /* Two experiments on one engine: the lower half of the qubits makes a star, marks it and comes back
- * to it; the upper half makes a path. Neither sees the other. */
+ * to it; the upper half makes a path. Neither sees the other.
+ * rust/sukhlent/examples/two_groups.rs is the same in Rust. */
 #include <inttypes.h>
 #include <stdio.h>
 #include <stdlib.h>

@@ -12,7 +12,8 @@ Place = tuple[float, float]
 
 _STYLE = (
     "<style>text{font:13px sans-serif;text-anchor:middle}"
-    ".gate{font-size:12px;fill:#8a3b12}.edge{stroke:#6b7280;stroke-width:1.6}"
+    ".gate{font-size:12px;fill:#8a3b12;stroke:#ffffff;stroke-width:3;paint-order:stroke}"
+    ".edge{stroke:#6b7280;stroke-width:1.6}"
     "</style>"
 )
 _STEP = 70.0

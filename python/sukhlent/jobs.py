@@ -132,7 +132,7 @@ def run_step(state: State, step: Step) -> Result:
         elif step.op == "pivot":
             _pivot(state, step.a, step.b)
         else:
-            if step.value > 5:
+            if not 0 <= step.value <= 5:
                 raise Refusal(6)
             measured = state.measure("XYZ"[step.value // 2], step.a, step.value % 2)
             return Result(0, measured.outcome, int(measured.determined))
@@ -143,7 +143,7 @@ def run_step(state: State, step: Step) -> Result:
 
 def _pivot(state: State, a: int, b: int) -> None:
     """Complements at a, b, a where the two have an edge; refused by 8 where they have none."""
-    if max(a, b) >= state.n or a == b or not state.neighbours[a] >> b & 1:
+    if not {a, b} <= set(range(state.n)) or a == b or not state.neighbours[a] >> b & 1:
         raise Refusal(8)
     for vertex in (a, b, a):
         state.complement(vertex)

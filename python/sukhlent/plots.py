@@ -97,4 +97,5 @@ def plot_svg(lines: Sequence[PlotLine]) -> str:
         parts.append(f'<text class="word" x="{_LEFT + (y + 0.5) * step:.1f}" y="{bottom:.1f}">{word}</text>')
     width, height = right + 12, bottom + 8
     head = f'<svg xmlns="http://www.w3.org/2000/svg" viewBox="0 0 {width:.1f} {height:.1f}"'
-    return "\n".join([f'{head} width="{width:.0f}" height="{height:.0f}" style="background:#ffffff">', *parts, "</svg>"])
+    ground = f'<path d="M0 0H{width:.1f}V{height:.1f}H0Z" fill="#ffffff"/>'
+    return "\n".join([f'{head} width="{width:.0f}" height="{height:.0f}">', ground, *parts, "</svg>"])

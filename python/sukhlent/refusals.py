@@ -5,15 +5,16 @@ from __future__ import annotations
 #: number: what is wrong; in checking order
 TEXTS: dict[int, str] = {
     1: "the text does not have its form",
-    15: "a job has more than 4,096 steps",
+    15: "a job or a run has more than 4,096 steps",
     2: "n is 0 or above the call's limit, or the two lists' n differ, or a group's call has another n than 64",
     4: "a buffer's length is not what is required",
     5: "a word has a bit at or above n",
-    6: "a sign, outcome or group is above 1, a code above 23, a Pauli not 1 to 3, or a seed 0",
+    6: "a sign, outcome or group is above 1, a code above 23, a Pauli not 1 to 3, a seed 0, a run's operation above 4,"
+    " or a field that a step does not use is not 0",
     7: "a graph is not simple, or a used vertex has a neighbour or a code that no measurement leaves, or a store holds a name twice,"
     " or a group's held state has a neighbour outside it",
     19: "a group's call names a qubit of the other group, or the record has an edge between the groups",
-    8: "a qubit number is n or more, or a qubit is named twice",
+    8: "a qubit number is n or more, or a qubit is named twice, or a pivot's pair has no edge",
     16: "the call names a used qubit",
     17: "a name to return to or forget is not held",
     18: "a save finds eight other names held, or a group's save four",

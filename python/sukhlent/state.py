@@ -17,11 +17,13 @@ _PAULIS = {"X": 1, "Y": 2, "Z": 3}
 
 
 def neighbour_words(n: int, edges: Iterable[tuple[int, int]]) -> list[int]:
-    """The neighbour word of each of n vertices; refused by 5 where an edge leaves them.
+    """The neighbour word of each of n vertices; refused by 2 where n is not 1 to 64, by 5 where an edge leaves them.
 
     >>> neighbour_words(3, [(0, 1), (1, 2)])
     [2, 5, 2]
     """
+    if not 1 <= n <= 64:
+        raise Refusal(2)
     neighbours = [0] * n
     for a, b in edges:
         if not (0 <= a < n and 0 <= b < n):

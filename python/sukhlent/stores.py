@@ -24,11 +24,11 @@ def name_number(name: bytes | str) -> int:
 def held_names(heads: Sequence[int], places: Iterable[int]) -> list[str]:
     """The names held at some places, without the spaces at their end.
 
-    >>> held_names([0, 0, 0, 1, name_number("A"), 0], range(2))
-    ['A']
+    >>> held_names([0, 0, 0, 1, name_number("A"), 0, 1, name_number("A\\n"), 0], range(3))
+    ['A', 'A\\n']
     """
     held = [heads[3 * place + 1] for place in places if heads[3 * place]]
-    return [name.to_bytes(8, "little").decode(errors="replace").rstrip() for name in held]
+    return [name.to_bytes(8, "little").decode(errors="replace").rstrip(" ") for name in held]
 
 
 class Store:

@@ -22,7 +22,7 @@ int main(void)
     return 0;
 }
 """
-PRINTED = "8 a qubit number is n or more, or a qubit is named twice 1\n"
+PRINTED = "8 a qubit number is n or more, or a qubit is named twice, or a pivot's pair has no edge 1\n"
 
 
 def run(*command, **more):
@@ -64,9 +64,10 @@ class Install(unittest.TestCase):
         version = re.search(r'VERSION_TEXT "(.*)"', (ROOT / "include" / "sukhlent.h").read_text())[1]
         self.assertEqual(flags(self.package, "--modversion"), [version])
         self.assertEqual(self.said.splitlines()[-1], f"sukhlent {version} is in {self.prefix}")
-        major = version.split(".")[0]
+        major, minor, _ = version.split(".")
+        series = major if major != "0" else f"{major}.{minor}"
         dynamic = run("readelf", "-d", self.prefix / "lib" / f"libsukhlent.so.{version}")
-        self.assertIn(f"[libsukhlent.so.{major}]", dynamic)
+        self.assertIn(f"[libsukhlent.so.{series}]", dynamic)
 
     def test_programs_in_c_and_c_plus_plus(self):
         words = flags(self.package, "--cflags", "--libs")

@@ -50,6 +50,17 @@ class Jobs(unittest.TestCase):
             self.assertEqual(run_steps(one, steps), [run_step(other, step) for step in steps])
             self.assertEqual((one.neighbours, one.codes, one.used), (other.neighbours, other.codes, other.used))
 
+    def test_negative_fields_are_refused_one_by_one_and_in_one_call(self):
+        ops = {"gate": (8, 6, 6), "cz": (8, 8, 6), "measure": (8, 6, 6), "complement": (8, 6, 6), "pivot": (8, 8, 6)}
+        for op, due in ops.items():
+            for place in range(3):
+                fields = [0, 1 if op in ("cz", "pivot") else 0, 0]
+                fields[place] = -1
+                step, one, other = Step(op, *fields), State.graph(2, [(0, 1)]), State.graph(2, [(0, 1)])
+                self.assertEqual([run_step(one, step)], run_steps(other, [step]), step)
+                self.assertEqual(run_step(one, step).refusal, due[place], step)
+                self.assertEqual(str(one), str(State.graph(2, [(0, 1)])))
+
     def test_more_than_4096_steps_are_refused(self):
         state = State.zeros(1)
         with self.assertRaises(Refusal) as caught:

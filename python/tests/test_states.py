@@ -77,6 +77,13 @@ class States(unittest.TestCase):
             self.assertEqual(refused.exception.number, 8)
             self.assertEqual(str(state), before)
 
+    def test_a_graph_with_no_vertex_or_too_many_is_refused(self):
+        for n, edges in ((-1, []), (0, []), (65, []), (70, [(0, 65)])):
+            for make in (State.graph, orbit):
+                with self.assertRaises(Refusal) as refused:
+                    make(n, edges)
+                self.assertEqual(refused.exception.number, 2, n)
+
     def test_a_random_outcome_is_the_state_s_where_there_is_one(self):
         source = random.Random(2)
         seen = set()

@@ -1,8 +1,29 @@
-//! Times of the engine's calls beside plain Rust, as one table.
+//! Times of the engine's calls beside plain Rust, and of some beside others, as two tables.
 
 use bench::calls::{
-    amplitude, compare, image, in_place, orbit, reduce, stores, strings, values, Line,
+    amplitude, compare, compare_records, generate, graphs, group_stores, groups, image, in_place,
+    orbit, product, reduce, stores, strings, values, Line,
 };
+
+/// Sizes of components of the pairs of records, and what they are called.
+const RECORDS: [(&[usize], &str); 2] = [
+    (&[20], "equivalent pairs, reduced, one component"),
+    (
+        &[20, 20, 20, 4],
+        "equivalent pairs, reduced, components of 20, 20, 20, 4",
+    ),
+];
+/// The same, with the name of what is beside them.
+const BESIDE_LISTS: [(&[usize], &str); 2] = [
+    (
+        &[20],
+        "equivalent pairs, reduced, one component; expand, expand, compare",
+    ),
+    (
+        &[20, 20, 20, 4],
+        "equivalent pairs, reduced, components of 20, 20, 20, 4; expand, expand, compare",
+    ),
+];
 
 fn main() {
     println!("{}", Line::HEAD);
@@ -29,6 +50,9 @@ fn main() {
     ] {
         println!("{}", compare::components(sizes, name));
     }
+    for (sizes, name) in RECORDS {
+        println!("{}", compare_records::line(sizes, name));
+    }
     println!("{}", strings::checking(64));
     for n in [8, 64] {
         println!("{}", strings::reading(n));
@@ -36,6 +60,10 @@ fn main() {
         println!("{}", strings::writing(n));
     }
     println!("{}", orbit::line());
+    println!("{}", graphs::complementing(64));
+    println!("{}", graphs::cutting(64));
+    println!("{}", product::line(64));
+    println!("{}", generate::line(64));
     println!("{}", values::expanding(64));
     println!("{}", values::expectation(64));
     for n in [8, 64] {
@@ -43,4 +71,15 @@ fn main() {
     }
     println!("{}", stores::saving(64));
     println!("{}", stores::returning(64));
+    println!("{}", stores::forgetting(64));
+    println!("\n{}", Line::BESIDE);
+    for kind in groups::KINDS {
+        println!("{}", groups::line(kind));
+    }
+    for line in group_stores::lines() {
+        println!("{line}");
+    }
+    for (sizes, name) in BESIDE_LISTS {
+        println!("{}", compare_records::beside_lists(sizes, name));
+    }
 }

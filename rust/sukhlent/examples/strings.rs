@@ -1,9 +1,9 @@
-//! Generator lists typed as Pauli strings: each text is parsed, its list reduced to a graph with
-//! codes, and the generators of that record displayed. The last three texts are refused.
+//! Generator lists typed as Pauli strings: each text is read, its list reduced to a graph with
+//! codes, and the generators of that record written. The last three texts are refused.
 //! examples/c/strings.c is the same in C.
 
 use std::fmt::{self, Write};
-use sukhlent::{expand, reduce, GeneratorList, Refusal};
+use sukhlent::{expand, read_strings, reduce, write_strings, Refusal};
 
 /// The texts that are shown.
 const TEXTS: [&str; 6] = [
@@ -35,10 +35,9 @@ pub fn show_all(out: &mut impl Write) -> fmt::Result {
 
 /// The reduced record of a text's list, and the generators of that record.
 fn shown(text: &str) -> Result<String, Refusal> {
-    let list: GeneratorList = text.parse()?;
-    let record = reduce(&list)?;
+    let record = reduce(&read_strings(text)?)?;
     let places = record.codes.iter().zip(&record.neighbours).enumerate();
     let vertex = |(q, (code, word))| format!("vertex {q}: code {code}, neighbours {word:016x}\n");
     let vertices: String = places.map(vertex).collect();
-    Ok(format!("{vertices}{}", expand(&record)?))
+    Ok(vertices + &write_strings(&expand(&record)?)?)
 }

@@ -1,6 +1,10 @@
 //! Safe functions over the graph-state engine: stabilizer states on 1 to 64 qubits, held as
 //! generator lists or as records of a graph with one local Clifford per vertex.
 //!
+//! A package depends on it by its path, `sukhlent = { path = "CLONE/rust/sukhlent" }`. It links the
+//! static library of the clone, which `rt staticlib sukhlent` writes, or the one in the folder that
+//! the variable SUKHLENT_LIB names.
+//!
 //! ```
 //! use sukhlent::{expand, reduce, GeneratorList};
 //!

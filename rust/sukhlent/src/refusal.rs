@@ -24,7 +24,8 @@ pub enum Refusal {
     Length = 4,
     /// A word has a bit outside of the qubits.
     StrayBit = 5,
-    /// A sign, an outcome, a group, a code, a Pauli or a seed is none.
+    /// A sign, an outcome, a group, a code, a Pauli, a seed or a run's operation is none, or a step
+    /// has a number where it uses none.
     Value = 6,
     /// A graph is not simple, a used vertex is not as a measurement leaves it, a store holds a name
     /// twice, or a group's held state has a neighbour outside it.
@@ -43,7 +44,7 @@ pub enum Refusal {
     Inequivalent = 13,
     /// A supplied outcome is one that the state forbids.
     Contradiction = 14,
-    /// A job has more than 4,096 steps.
+    /// A job or a run has more than 4,096 steps.
     Steps = 15,
     /// A call names a used qubit.
     Used = 16,
@@ -115,47 +116,43 @@ impl Refusal {
         }
     }
 
-    /// The line of the list of refusals.
+    /// What is wrong, in the words of `sukhlent_refusal_text`.
     fn line(self) -> &'static str {
         match self {
-            Refusal::Form => "a text does not have its form",
+            Refusal::Form => "the text does not have its form",
+            Refusal::Steps => "a job or a run has more than 4,096 steps",
             Refusal::Qubits => {
-                "n is 0 or above 64, or the two lists' n differ, \
-                 or a group's call has another n than 64"
+                "n is 0 or above the call's limit, or the two lists' n differ, or a group's \
+                 call has another n than 64"
             }
             Refusal::Length => "a buffer's length is not what is required",
             Refusal::StrayBit => "a word has a bit at or above n",
             Refusal::Value => {
-                "a sign, outcome or group is above 1, a code above 23, a Pauli not 1 to 3, or a seed 0"
+                "a sign, outcome or group is above 1, a code above 23, a Pauli not 1 to 3, a \
+                 seed 0, a run's operation above 4, or a field that a step does not use is not 0"
             }
             Refusal::Graph => {
-                "a graph is not simple, or a used vertex has a neighbour \
-                 or a code other than 0, 2, 4, 6, 8 and 10, or a store holds a name twice, \
-                 or a group's held state has a neighbour outside it"
+                "a graph is not simple, or a used vertex has a neighbour or a code that no \
+                 measurement leaves, or a store holds a name twice, or a group's held state \
+                 has a neighbour outside it"
             }
             Refusal::OtherGroup => {
-                "a group's call names a qubit of the other group, \
-                 or the record has an edge between the groups"
+                "a group's call names a qubit of the other group, or the record has an edge \
+                 between the groups"
             }
             Refusal::Place => {
-                "a qubit number is n or more, CZ or a job's pivot names one qubit twice, \
-                 or that pivot's pair has no edge"
+                "a qubit number is n or more, or a qubit is named twice, or a pivot's pair \
+                 has no edge"
             }
             Refusal::Used => "the call names a used qubit",
             Refusal::NotHeld => "a name to return to or forget is not held",
             Refusal::Full => "a save finds eight other names held, or a group's save four",
             Refusal::Anticommuting => "two generators do not commute",
             Refusal::Dependent => "the generators are dependent",
-            Refusal::Comparison => {
-                "a connected part of either reduced graph of a comparison has more than 20 vertices"
-            }
+            Refusal::Comparison => "a connected part has more than 20 vertices",
             Refusal::Contradiction => "a determined outcome contradicts the supplied bit",
-            Refusal::Steps => "a job has more than 4,096 steps",
             Refusal::NoGraph => "the image loop stops with some C = 1",
-            Refusal::Loop => {
-                "the image loop stops with every C = 0, \
-                 but the image has Y at some vertex's own place"
-            }
+            Refusal::Loop => "the image has Y at some vertex's own place",
             Refusal::Inequivalent => "no choice of local Cliffords carries one group to the other",
         }
     }
@@ -197,6 +194,18 @@ mod tests {
             1, 15, 2, 4, 5, 6, 7, 19, 8, 16, 17, 18, 9, 10, 3, 14, 11, 12, 13,
         ];
         assert_eq!(order, due);
+    }
+
+    #[test]
+    fn the_words_are_those_of_the_header() {
+        let header = include_str!("../../../include/sukhlent.h");
+        let said: Vec<&str> = header
+            .lines()
+            .filter_map(|line| line.trim().strip_prefix("case SUKHLENT_"))
+            .filter_map(|line| line.split('"').nth(1))
+            .collect();
+        assert_eq!(said[0], "accepted");
+        assert_eq!(said[1..], Refusal::ALL.map(Refusal::line));
     }
 
     #[test]

@@ -192,8 +192,9 @@ impl Group<'_> {
     /// ```
     pub fn record(&self) -> Record {
         let (mut seen, own) = (self.shared.record(), self.own());
-        for q in (0..seen.n().min(64)).filter(|q| own >> q & 1 == 0) {
-            (seen.neighbours[q], seen.codes[q]) = (0, crate::codes::H);
+        let vertices = seen.neighbours.iter_mut().zip(&mut seen.codes);
+        for (_, (word, code)) in (0..64).zip(vertices).filter(|(q, _)| own >> q & 1 == 0) {
+            (*word, *code) = (0, crate::codes::H);
         }
         seen.used &= own;
         seen

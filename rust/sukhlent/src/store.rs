@@ -2,7 +2,8 @@
 
 use crate::{raw, Record, Refusal};
 
-/// Up to eight records, each held under a name of eight bytes. A store starts empty.
+/// Up to eight records, each held under a name of eight bytes. A store starts empty. Two stores are
+/// equal if their buffers are, what free places hold included: one that forgot is not a new one.
 ///
 /// ```
 /// use sukhlent::{cz, gate, codes, Record, Refusal, Store};

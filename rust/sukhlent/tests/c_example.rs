@@ -103,3 +103,97 @@ fn session_prints_its_stored_output() {
 fn strings_prints_its_stored_output() {
     assert_prints_its_stored_output("strings");
 }
+
+#[test]
+fn equivalent_prints_its_stored_output() {
+    assert_prints_its_stored_output("equivalent");
+}
+
+#[test]
+fn run_prints_its_stored_output() {
+    assert_prints_its_stored_output("run");
+}
+
+#[test]
+fn vector_prints_its_stored_output() {
+    assert_prints_its_stored_output("vector");
+}
+
+/// The names of the calls that the header declares, without the prefix.
+fn calls() -> Vec<String> {
+    let header = std::fs::read_to_string(root().join("include/sukhlent.h")).unwrap();
+    let declared = header.lines().filter(|line| line.starts_with("uint"));
+    let names = declared.filter_map(|line| line.split("sukhlent_").nth(1)?.split_once('('));
+    names.map(|(name, _)| name.to_string()).collect()
+}
+
+/// The text of all files of a folder with this ending.
+fn sources(folder: &str, ending: &str) -> String {
+    let files = std::fs::read_dir(root().join(folder)).unwrap();
+    let paths = files.map(|file| file.unwrap().path());
+    let sources = paths.filter(|path| path.extension().is_some_and(|e| e == ending));
+    sources
+        .map(|path| std::fs::read_to_string(path).unwrap())
+        .collect()
+}
+
+/// Each call that the table of calls of docs/ENGINE.md has, with the programs that it names for it.
+fn shown_in() -> Vec<(String, Vec<String>)> {
+    let text = std::fs::read_to_string(root().join("docs/ENGINE.md")).unwrap();
+    let lines = text
+        .lines()
+        .skip_while(|line| !line.ends_with("| shown in |"));
+    let rows = lines.skip(2).take_while(|line| line.starts_with('|'));
+    let words = |cell: &str| {
+        cell.trim()
+            .split(", ")
+            .map(String::from)
+            .collect::<Vec<_>>()
+    };
+    let cells = rows.map(|row| row.split('|').map(words).collect::<Vec<_>>());
+    cells
+        .flat_map(|row| {
+            row[1]
+                .clone()
+                .into_iter()
+                .map(move |call| (call, row[3].clone()))
+        })
+        .collect()
+}
+
+#[test]
+fn the_table_of_calls_names_a_program_for_each() {
+    let mut named: Vec<String> = shown_in().into_iter().map(|(call, _)| call).collect();
+    let mut declared = calls();
+    named.sort();
+    declared.sort();
+    assert_eq!(named, declared);
+    for (call, programs) in shown_in() {
+        let name = format!("sukhlent_{call}(");
+        for program in programs.iter().filter(|program| *program != "orbits") {
+            let source = root().join(format!("examples/c/{program}.c"));
+            let text = std::fs::read_to_string(source).unwrap();
+            assert!(text.contains(&name), "{call} in {program}.c");
+        }
+    }
+}
+
+#[test]
+fn every_call_has_an_example_in_c_and_in_rust() {
+    let c = sources("examples/c", "c");
+    let rust = sources("rust/sukhlent/examples", "rs");
+    assert_eq!(calls().len(), 30);
+    for call in calls() {
+        assert!(c.contains(&format!("sukhlent_{call}(")), "{call} in C");
+        let name = match call.strip_prefix("group_") {
+            Some(own) => format!("er.{}", own), // of the handles lower and upper
+            None => call.clone(),
+        };
+        let name = if name.ends_with("return") {
+            name + "_to"
+        } else {
+            name
+        };
+        assert!(rust.contains(&format!("{name}(")), "{call} in Rust");
+    }
+}

@@ -1,15 +1,29 @@
 //! The examples in Rust print what those in C print, and the catalogue of orbits its stored output.
 
+#[path = "../examples/cut.rs"]
+#[allow(dead_code)]
+mod cut;
+#[path = "../examples/equivalent.rs"]
+#[allow(dead_code)]
+mod equivalent;
+#[path = "../examples/generate.rs"]
+#[allow(dead_code)]
+mod generate;
 #[path = "../examples/orbits.rs"]
 #[allow(dead_code)]
 mod orbits;
+#[path = "../examples/recipes.rs"]
+#[allow(dead_code)]
+mod recipes;
 #[path = "../examples/ring.rs"]
 #[allow(dead_code)]
 mod ring;
+#[path = "../examples/run.rs"]
+#[allow(dead_code)]
+mod run;
 #[path = "../examples/session.rs"]
 #[allow(dead_code)]
 mod session;
-
 #[path = "../examples/store.rs"]
 #[allow(dead_code)]
 mod store;
@@ -19,6 +33,9 @@ mod strings;
 #[path = "../examples/two_groups.rs"]
 #[allow(dead_code)]
 mod two_groups;
+#[path = "../examples/vector.rs"]
+#[allow(dead_code)]
+mod vector;
 
 #[test]
 fn session_prints_what_the_session_in_c_prints() {
@@ -53,6 +70,54 @@ fn two_groups_prints_what_two_groups_in_c_prints() {
     let mut text = String::new();
     two_groups::session(&mut text).unwrap();
     assert_eq!(text, include_str!("../../../examples/c/two_groups.out"));
+}
+
+#[test]
+fn cut_prints_what_cut_in_c_prints() {
+    let mut text = String::new();
+    cut::cuts(&mut text).unwrap();
+    assert_eq!(text, include_str!("../../../examples/c/cut.out"));
+}
+
+#[test]
+fn equivalent_prints_what_equivalent_in_c_prints() {
+    let mut text = String::new();
+    equivalent::compared(&mut text).unwrap();
+    assert_eq!(text, include_str!("../../../examples/c/equivalent.out"));
+}
+
+#[test]
+fn recipes_prints_what_recipes_in_c_prints() {
+    let mut text = String::new();
+    recipes::recipes(&mut text).unwrap();
+    assert_eq!(text, include_str!("../../../examples/c/recipes.out"));
+}
+
+#[test]
+fn run_prints_what_run_in_c_prints() {
+    let mut text = String::new();
+    run::replay(&mut text).unwrap();
+    assert_eq!(text, include_str!("../../../examples/c/run.out"));
+}
+
+#[test]
+fn vector_prints_what_vector_in_c_prints() {
+    let mut text = String::new();
+    vector::vector(&mut text).unwrap();
+    assert_eq!(text, include_str!("../../../examples/c/vector.out"));
+}
+
+#[test]
+fn generate_writes_what_generate_in_c_writes_and_says_what_is_refused() {
+    let text = |words: &[&str]| {
+        let words: Vec<String> = words.iter().map(|word| word.to_string()).collect();
+        generate::text(&words)
+    };
+    let due = include_str!("../../../examples/c/generate.out");
+    assert_eq!(text(&["64", "12", "1"]).as_deref(), Ok(due));
+    assert_eq!(text(&["65", "12", "1"]), Err((1, "refused 2".into())));
+    assert_eq!(text(&["64", "one", "1"]), Err((2, "no number: one".into())));
+    assert_eq!(text(&["64"]).unwrap_err().0, 2);
 }
 
 #[test]

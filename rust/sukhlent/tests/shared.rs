@@ -152,6 +152,20 @@ fn an_edge_between_the_groups_stops_every_group_call_until_it_is_gone() {
 }
 
 #[test]
+fn a_record_with_too_few_words_is_refused_and_still_seen() {
+    let shared = Shared::new(HALVES);
+    let [lower, upper] = shared.groups();
+    shared.operate(|record| record.neighbours.truncate(3));
+    for group in [&lower, &upper] {
+        assert_eq!(group.gate(0, codes::H), Err(Refusal::Length));
+        assert_eq!(group.record().neighbours, [0; 3]);
+    }
+    shared.operate(|record| *record = Record::zeros(70));
+    assert_eq!(lower.gate(0, codes::H), Err(Refusal::Qubits));
+    assert_eq!(lower.record(), Record::zeros(70));
+}
+
+#[test]
 fn each_group_has_four_names_of_its_own() {
     let shared = Shared::new(HALVES);
     let [lower, upper] = shared.groups();

@@ -2,9 +2,15 @@
 
 pub mod amplitude;
 pub mod compare;
+pub mod compare_records;
+pub mod generate;
+pub mod graphs;
+pub mod group_stores;
+pub mod groups;
 pub mod image;
 pub mod in_place;
 pub mod orbit;
+pub mod product;
 pub mod reduce;
 pub mod stores;
 pub mod strings;
@@ -28,7 +34,12 @@ impl Line {
     pub const HEAD: &'static str = "| call | n | run on | engine | plain Rust | ratio |\n\
                                     |---|---|---|---|---|---|";
 
-    /// The times of a call over some cases, so many at once, by the engine and by plain Rust.
+    /// Those of the table that sets calls beside other calls of the engine, which are named.
+    pub const BESIDE: &'static str =
+        "| call | n | run on; beside it | the call | beside it | ratio |\n\
+                                      |---|---|---|---|---|---|";
+
+    /// The times of a call over some cases, so many at once, by the engine and by what stands beside it.
     fn measured<C>(
         (call, n, name): (&'static str, usize, &'static str),
         cases: &[C],

@@ -1,4 +1,5 @@
-//! `save` and `return` on a full store, beside copying the buffers of the record without a check.
+//! `save`, `return` and `forget` on a full store, beside copying the buffers of the record, or clearing
+//! the head, without a check.
 
 use super::Line;
 use crate::seeded::{random_record, Random};
@@ -14,10 +15,26 @@ const PLACES: usize = 8;
 
 /// The three buffers.
 #[derive(Clone)]
-struct Buffers {
+pub(super) struct Buffers {
     heads: [u64; 3 * PLACES],
     neighbours: [u64; 64 * PLACES],
     codes: [u8; 64 * PLACES],
+}
+
+impl Buffers {
+    /// Of a store that holds nothing.
+    pub(super) fn empty() -> Buffers {
+        Buffers {
+            heads: [0; 3 * PLACES],
+            neighbours: [0; 64 * PLACES],
+            codes: [0; 64 * PLACES],
+        }
+    }
+
+    /// The buffers, as the calls take them.
+    pub(super) fn parts(&mut self) -> (&mut [u64], &mut [u64], &mut [u8]) {
+        (&mut self.heads, &mut self.neighbours, &mut self.codes)
+    }
 }
 
 /// A store of eight records, a further record, and one of the names.
@@ -42,15 +59,17 @@ pub fn returning(n: usize) -> Line {
     Line::measured(names, &cases(n), AT_ONCE, [returned, returned_by_copying])
 }
 
+/// The line of forgetting a held name.
+pub fn forgetting(n: usize) -> Line {
+    let names = ("forget", n, "random records, in a store that is full");
+    Line::measured(names, &cases(n), AT_ONCE, [forgotten, cleared])
+}
+
 fn cases(n: usize) -> Vec<Case> {
     let mut random = Random::new(n as u64);
     let cases: Vec<Case> = (0..STORES)
         .map(|_| {
-            let mut store = Buffers {
-                heads: [0; 3 * PLACES],
-                neighbours: [0; 64 * PLACES],
-                codes: [0; 64 * PLACES],
-            };
+            let mut store = Buffers::empty();
             let names: [u64; PLACES] = std::array::from_fn(|_| random.word());
             for name in names {
                 assert_eq!(save(&mut store, &random_record(&mut random, n), name), 0);
@@ -71,12 +90,19 @@ fn cases(n: usize) -> Vec<Case> {
 fn save(store: &mut Buffers, record: &Record, name: u64) -> u8 {
     let n = record.n() as u64;
     let lent = (n, &record.neighbours[..], &record.codes[..], record.used);
-    let Buffers {
-        heads,
-        neighbours,
-        codes,
-    } = store;
+    let (heads, neighbours, codes) = store.parts();
     raw::save(lent, name, heads, neighbours, codes)
+}
+
+fn forget(store: &mut Buffers, name: u64) -> u8 {
+    let (heads, neighbours, codes) = store.parts();
+    raw::forget(name, heads, neighbours, codes)
+}
+
+fn clear(store: &mut Buffers, name: u64) -> u8 {
+    let i = place(store, name);
+    store.heads[3 * i] = 0;
+    0
 }
 
 /// The place that holds a name.
@@ -143,6 +169,23 @@ fn ready_to_return(call: fn(&Buffers, u64) -> (u8, Returned), cases: &[Case]) ->
     })
 }
 
+fn forgotten(cases: &[Case]) -> Ready<'_> {
+    ready_to_forget(forget, cases)
+}
+
+fn cleared(cases: &[Case]) -> Ready<'_> {
+    ready_to_forget(clear, cases)
+}
+
+fn ready_to_forget(call: fn(&mut Buffers, u64) -> u8, cases: &[Case]) -> Ready<'_> {
+    let mut stores: Vec<Buffers> = cases.iter().map(|case| case.store.clone()).collect();
+    Box::new(move || {
+        cases.iter().zip(&mut stores).fold(0, |sum, (case, store)| {
+            sum ^ u64::from(call(store, case.name)) ^ store.heads[0]
+        })
+    })
+}
+
 /// Panics unless call and copy write the same.
 fn assert_same_answers(case: &Case) {
     let (mut by_call, mut by_copy) = (case.store.clone(), case.store.clone());
@@ -155,4 +198,7 @@ fn assert_same_answers(case: &Case) {
         give_back(&by_call, case.name),
         copy_out(&by_copy, case.name)
     );
+    assert_eq!(forget(&mut by_call, case.name), 0);
+    clear(&mut by_copy, case.name);
+    assert_eq!(by_call.heads, by_copy.heads);
 }

@@ -42,12 +42,44 @@ pub fn of_record(n: u64, neighbours: &[u64], codes: &[u8], others: &[usize]) -> 
     if codes.iter().any(|&code| code > 23) {
         return 6;
     }
-    let mut words = neighbours.iter().enumerate();
-    let alone = |a: usize, b: usize| a == b || neighbours[b] >> a & 1 == 0;
-    if words.any(|(a, &word)| places(word).any(|b| alone(a, b))) {
-        return 7;
+    if is_simple(neighbours) {
+        return 0;
     }
-    0
+    7
+}
+
+/// Whether no vertex of a graph is its own neighbour, and every edge is at both its ends: edge by edge
+/// on a few vertices, else by the transposed words.
+fn is_simple(neighbours: &[u64]) -> bool {
+    let mut words = neighbours.iter().enumerate();
+    if neighbours.len() <= FEW {
+        let alone = |a: usize, b: usize| a == b || neighbours[b] >> a & 1 == 0;
+        return !words.any(|(a, &word)| places(word).any(|b| alone(a, b)));
+    }
+    let mut columns = [0; 64];
+    columns[..neighbours.len()].copy_from_slice(neighbours);
+    transpose(&mut columns);
+    let same = neighbours.iter().eq(&columns[..neighbours.len()]);
+    same && !words.any(|(a, word)| word >> a & 1 == 1)
+}
+
+/// So many vertices are looked at edge by edge.
+const FEW: usize = 12;
+
+/// Exchanges the rows and columns of 64 words: halves of blocks, then halves of these, and so on.
+fn transpose(rows: &mut [u64; 64]) {
+    let (mut width, mut mask) = (32, u64::MAX >> 32);
+    while width > 0 {
+        for block in (0..64).step_by(2 * width) {
+            for a in block..block + width {
+                let changed = (rows[a] >> width ^ rows[a + width]) & mask;
+                rows[a] ^= changed << width;
+                rows[a + width] ^= changed;
+            }
+        }
+        width /= 2;
+        mask ^= mask << width;
+    }
 }
 
 /// The refusals of a record with used qubits, of a further word, and of further buffers of n places.

@@ -37,8 +37,13 @@ impl Row {
         (self.phase + 2 * (self.z & y).count_ones()) & 3
     }
 
+    /// The power of i in front of the letters, 0 to 3.
+    pub fn phase_of_letters(&self) -> u8 {
+        (self.phase.wrapping_sub((self.z & self.x).count_ones()) & 3) as u8
+    }
+
     /// Whether the letters have the sign minus.
     pub fn is_minus(&self) -> bool {
-        (self.phase.wrapping_sub((self.z & self.x).count_ones())) & 3 == 2
+        self.phase_of_letters() == 2
     }
 }
