@@ -147,7 +147,8 @@ class Group:
         return [q for q in range(64) if self._shared._word >> q & 1 == self._number]
 
     def state(self) -> State:
-        """The state that the group sees: its own vertices, every other in +Z.
+        """The state that the group sees: its own vertices, every other in +Z. Refused by 19, as every call of a group, while
+        the record has an edge between the groups.
 
         >>> lower, upper = Shared(range(32, 64)).groups()
         >>> upper.gate(40, "X")
@@ -156,6 +157,8 @@ class Group:
         """
         shared, own = self._shared, set(self.qubits())
         neighbours = [word if q in own else 0 for q, word in enumerate(shared._neighbours)]
+        if any(word & ~library.word_of(own) for word in neighbours):
+            raise Refusal(19)
         codes = [held if q in own else 8 for q, held in enumerate(shared._codes)]
         return State(neighbours, codes, shared._used & library.word_of(own))
 

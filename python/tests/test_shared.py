@@ -110,6 +110,7 @@ class Groups(unittest.TestCase):
                 ("save", "B"),
                 ("return_to", "A"),
                 ("forget", "A"),
+                ("state",),
             ):
                 self.assertEqual(made(group, call), 19, call)
         joined = shared.state()

@@ -180,7 +180,8 @@ impl Group<'_> {
         (0..64).filter(move |q| own >> q & 1 == 1)
     }
 
-    /// The record of the group's vertices, the other's in +Z: what a save holds.
+    /// The record of the group's vertices, the other's in +Z: what a save holds. While there is an
+    /// edge between the groups, by which a save is refused, its words have that edge at one end.
     ///
     /// ```
     /// use sukhlent::{codes, Shared};
