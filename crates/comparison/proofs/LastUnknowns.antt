@@ -1,5 +1,5 @@
 -- The last unknown of an equation, by the largest bits of its two words.
-use mathlib.Core.Bool.{Bool, false, true, true≢false, _||_}
+use mathlib.Core.Bool.{Bool, false, true≢false, _||_}
 use mathlib.Core.List.{List}
 use mathlib.Core.Logic.{inl, inr, _⊎_}
 use mathlib.Core.Path.{ap, ap₂, sym, _∙_, _≡_}

@@ -1,5 +1,5 @@
 -- The four bits of one qubit exchanged in two words, as the code does for the class or the signs of a choice.
-use mathlib.Core.Bool.{Bool, cond, false}
+use mathlib.Core.Bool.{cond, false}
 use mathlib.Core.List.{List, [], _∷_}
 use mathlib.Core.Logic.{inl, inr, _⊎_}
 use mathlib.Core.Path.{ap, ap₂, refl, sym, _∙_, _≡_}
@@ -14,7 +14,6 @@ use Rattle.words.proofs.Places.{other-place, put-all}
 use Rattle.words.proofs.Sums.{lt-or-ge}
 use Rattle.words.specs.Bits.{bit, isOdd, put}
 use Rattle.comparison.specs.internal.Equations.{
-  Assignment,
   assignmentOf,
   bitOf,
   classAssignment,

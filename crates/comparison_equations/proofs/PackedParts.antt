@@ -1,5 +1,5 @@
 -- Four words laid into two, and four bits exchanged in one of them.
-use mathlib.Core.Bool.{_&&_, Bool, and-true, cond, false, true, _||_}
+use mathlib.Core.Bool.{_&&_, Bool, cond, false, true, _||_}
 use mathlib.Core.List.{List, [], _∷_}
 use mathlib.Core.Logic.{inl, inr, _⊎_}
 use mathlib.Core.Path.{ap, ap₂, refl, sym, _∙_, _≡_}
@@ -15,8 +15,9 @@ use Rattle.words.proofs.Finite.{bits, ⊕-zero}
 use Rattle.words.proofs.Places.{other-place, same-place}
 use Rattle.words.proofs.Sums.{lt-or-ge}
 use Rattle.words.specs.Bits.{bit, _⊕_}
-use Rattle.comparison.specs.internal.Equations.{bitOf, equationOf, fourth, wordAt}
+use Rattle.comparison.specs.internal.Equations.{bitOf, equationOf, wordAt}
 use Rattle.comparison.proofs.PackedEquations.{bit-high, bit-low, fourth-is}
+use Rattle.comparison_equations.proofs.SpreadWords.{or-false}
 
 -- the bits of u at every fourth place
 abbrev pub Spread : ℕ → ℕ → Type 0
@@ -59,10 +60,6 @@ interleaved a b c d ra rb rc rd A B C D j h =
     ∙ ap₂ _||_ (spread-up c rc 2 (lit< tt) C j h) (spread-up d rd 3 (lit< tt) D j h))
     ∙ one (j % 4) (omega arith)
   where
-    or-false : (b : Bool) → (b || false) ≡ b
-    or-false false = refl
-    or-false true = refl
-
     one : (l : ℕ) → l < 4 → (((eqb l 0 && bit a (j / 4)) || (eqb l 1 && bit b (j / 4)))
         || ((eqb l 2 && bit c (j / 4)) || (eqb l 3 && bit d (j / 4)))) ≡ bit (wordAt l a b c d) (j / 4)
     one zero k = or-false _ ∙ or-false _

@@ -16,6 +16,10 @@ use Rattle.words.specs.Bits.{Word, bit}
 use Rattle.words.specs.Search.{every}
 use Rattle.comparison.proofs.PackedEquations.{low-bit}
 
+pub or-false : (b : Bool) → (b || false) ≡ b
+or-false false = refl
+or-false true = refl
+
 -- bit s - 1 of a word; none for 0
 abbrev read : Word → ℕ → Bool
 read f zero = false
@@ -43,10 +47,6 @@ module _ (f : Word) where
       ∙ sym (ap (λ a. read f (a + b)) e)
   read-or a b (inr e) = ap (λ b. read f a || read f b) e ∙ or-false (read f a)
       ∙ ap (read f) {x = a} {y = a + 0} (omega arith) ∙ sym (ap (λ b. read f (a + b)) e)
-    where
-      or-false : (b : Bool) → (b || false) ≡ b
-      or-false false = refl
-      or-false true = refl
 
   kept : (b : Bool) (s : ℕ) → (read f s && b) ≡ read f (cond b s 0)
   kept true s = and-true (read f s)

@@ -1,5 +1,4 @@
 -- `sign_equation` meets its contract: the equation on the signs of a generator.
-use Prim.Native.Nat.{_<_, _^_}
 use borrow.Author.Needs.{needs}
 use lib.Dec.{lit<}
 use Rattle.comparison.proofs.PackedEquations.{packed-sum}
@@ -8,7 +7,6 @@ use Rattle.comparison_tables.proofs.sign_equation.Tie as tie
 
 returns : tie.Need-returns
 returns c z x =
-    let g = c .before .before .args .g in
     packed-sum (c .before .pack .result) _ (c .before .before .args .sum) (c .flip-where .result)
     (c .before .pack .ensures x z (lit< tt) (lit< tt)) (c .flip-where .ensures)
 
