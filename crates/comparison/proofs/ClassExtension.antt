@@ -36,11 +36,17 @@ use Rattle.comparison.proofs.EquationTables.{class-short}
 use Rattle.comparison.proofs.Extension.{extended}
 use Rattle.comparison.proofs.RecordElements.{framed-proper}
 use Rattle.comparison.specs.Choices.{classKey}
-use Rattle.comparison.specs.internal.Equations.{Solves, classAssignment, classEquation, equationAt, fails}
+use Rattle.comparison.specs.internal.Equations.{
+  Assignment,
+  Equation,
+  Solves,
+  classAssignment,
+  classEquation,
+  equationAt,
+  fails,
+}
 use Rattle.comparison.specs.internal.Searches.{ClassTable, Extendable, SentUpToSign}
 use Rattle.comparison.specs.internal.Setting.{Setting, withoutSigns, generatorsOf, noGenerator}
-use Rattle.comparison.specs.declared.Assignment.{Assignment}
-use Rattle.comparison.specs.declared.Equation.{Equation}
 
 -- ---- the class of a matrix
 abbrev classFor : Bool → Bool → Bool → Bool → Class

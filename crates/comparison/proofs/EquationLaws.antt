@@ -1,24 +1,29 @@
 -- Equations add, and an equation cannot tell apart assignments that agree where it has unknowns.
-use mathlib.Core.Bool.{_&&_, Bool, Bool·beq, false, not, _||_}
+use mathlib.Core.Bool.{_&&_, Bool, false}
 use mathlib.Core.Logic.{inl, inr, _⊎_}
 use mathlib.Core.Path.{ap, ap₂, sym, _∙_, _≡_}
 use Prim.Native.Nat.{_%_, _*_, _+_, _/_, _<_, _≤_, suc, zero, ℕ}
 use native.Mathlib.Nat.{not-suc-le-zero}
 use native.Mathlib.Omega.{arith}
-use lib.Bits.{bitAnd, bitOr, bitXor}
+use lib.Bits.{bitAnd}
 use lib.Count.{ones}
 use lib.Dec.{lit<}
 use lib.Pow.{pow-pos}
-use Rattle.words.proofs.BitLaws.{bit-and, bit-ext∞, bit-or, bit-xor, lt-pow, zero-bit}
-use Rattle.words.proofs.Finite.{bits, unequal}
-use Rattle.words.proofs.Flags.{neither}
-use Rattle.words.proofs.OnesLaws.{dot-bits, dot-comm, dot-xor, parity-xor}
+use Rattle.words.proofs.BitLaws.{bit-and, bit-ext∞, bit-xor, lt-pow, zero-bit}
+use Rattle.words.proofs.Finite.{bits}
+use Rattle.words.proofs.OnesLaws.{dot-bits, dot-comm, dot-xor}
 use Rattle.words.proofs.Sums.{bitMonoid, fold-unit, lt-or-ge}
 use Rattle.words.specs.Bits.{bit, isOdd, _⊕_}
 use Rattle.words.specs.internal.Bits.{dot}
-use Rattle.comparison.specs.internal.Equations.{added, emptyEquation, fails, span, unknown, wordAt}
-use Rattle.comparison.specs.declared.Assignment.{Assignment}
-use Rattle.comparison.specs.declared.Equation.{Equation}
+use Rattle.comparison.specs.internal.Equations.{
+  Assignment,
+  Equation,
+  added,
+  emptyEquation,
+  fails,
+  unknown,
+  wordAt,
+}
 
 pub zero-dot : (w : ℕ) → dot 0 w ≡ false
 zero-dot w = dot-bits w 0 w (pow-pos w) (lt-pow w)
@@ -46,17 +51,6 @@ fails-added e f w =
         bits 10 (λ a a′ b b′ c c′ d d′ s s′. (((a ⊕ a′) ⊕ (b ⊕ b′)) ⊕ ((c ⊕ c′) ⊕ (d ⊕ d′))) ⊕ (s ⊕ s′))
         (λ a a′ b b′ c c′ d d′ s s′. (((a ⊕ b) ⊕ (c ⊕ d)) ⊕ s) ⊕ (((a′ ⊕ b′) ⊕ (c′ ⊕ d′)) ⊕ s′)) tt
 
--- what the code computes of the four products
-pub four-odd : (e : Equation) (w : Assignment) (s : Bool)
-    → s ≡ isOdd (ones (bitXor (bitXor (bitAnd (e .a) (w .a)) (bitAnd (e .b) (w .b)))
-    (bitXor (bitAnd (e .c) (w .c)) (bitAnd (e .d) (w .d))))) → not (Bool·beq s (e .sum)) ≡ fails e w
-unfolding fails dot
-four-odd e w s h =
-    unequal s (e .sum)
-    ∙ ap (λ b. b ⊕ e .sum) (h ∙ parity-xor _ _
-    ∙ ap₂ _⊕_ (parity-xor (bitAnd (e .a) (w .a)) (bitAnd (e .b) (w .b)))
-    (parity-xor (bitAnd (e .c) (w .c)) (bitAnd (e .d) (w .d))))
-
 -- ---- unknowns
 -- the assignment of zeros
 abbrev pub zeroAssignment : Assignment
@@ -69,6 +63,15 @@ fails-zero e =
   where
     none : (u : ℕ) → dot u 0 ≡ false
     none u = dot-comm u 0 ∙ zero-dot u
+
+pub empty-unknown : (j : ℕ) → unknown emptyEquation j ≡ false
+empty-unknown j = go (j % 4)
+  where
+    go : (l : ℕ) → bit (wordAt l 0 0 0 0) (j / 4) ≡ false
+    go zero = zero-bit (j / 4)
+    go (suc zero) = zero-bit (j / 4)
+    go (suc (suc zero)) = zero-bit (j / 4)
+    go (suc (suc (suc l))) = zero-bit (j / 4)
 
 -- unknown l of qubit q
 pub unknown-at : (e : Equation) (q l : ℕ) → l < 4
@@ -139,28 +142,3 @@ unknown-added e f j = go (j % 4)
     go (suc zero) = bit-xor (e .b) (f .b) (j / 4)
     go (suc (suc zero)) = bit-xor (e .c) (f .c) (j / 4)
     go (suc (suc (suc l))) = bit-xor (e .d) (f .d) (j / 4)
-
--- the span at a qubit
-pub span-bit : (e : Equation) (q : ℕ)
-    → bit (span e) q ≡ ((bit (e .a) q || bit (e .b) q) || (bit (e .c) q || bit (e .d) q))
-span-bit e q =
-    bit-or (bitOr (e .a) (e .b)) (bitOr (e .c) (e .d)) q
-    ∙ ap₂ _||_ (bit-or (e .a) (e .b) q) (bit-or (e .c) (e .d) q)
-
--- no unknown at a qubit outside the span
-pub unspanned : (e : Equation) (q : ℕ) → bit (span e) q ≡ false → (l : ℕ)
-    → bit (wordAt l (e .a) (e .b) (e .c) (e .d)) q ≡ false
-unspanned e q h = go
-  where
-    two : ((bit (e .a) q || bit (e .b) q) ≡ false) × ((bit (e .c) q || bit (e .d) q) ≡ false)
-    two = neither (bit (e .a) q || bit (e .b) q) (bit (e .c) q || bit (e .d) q) (sym (span-bit e q) ∙ h)
-
-    go : (l : ℕ) → bit (wordAt l (e .a) (e .b) (e .c) (e .d)) q ≡ false
-    go zero = neither (bit (e .a) q) (bit (e .b) q) (two .0) .0
-    go (suc zero) = neither (bit (e .a) q) (bit (e .b) q) (two .0) .1
-    go (suc (suc zero)) = neither (bit (e .c) q) (bit (e .d) q) (two .1) .0
-    go (suc (suc (suc l))) = neither (bit (e .c) q) (bit (e .d) q) (two .1) .1
-
--- no qubit, no unknown
-pub no-span : (e : Equation) → span e ≡ 0 → (j : ℕ) → unknown e j ≡ false
-no-span e h j = unspanned e (j / 4) (ap (λ u. bit u (j / 4)) h ∙ zero-bit (j / 4)) (j % 4)

@@ -1,38 +1,43 @@
 -- The tables of equations: one more equation, those on the classes and those on the signs.
 use mathlib.Core.Bool.{_&&_, Bool, false}
-use mathlib.Core.List.{List}
+use mathlib.Core.List.{List, []}
 use mathlib.Core.Logic.{inl, inr, _⊎_}
 use mathlib.Core.Path.{ap, ap₂, refl, subst, sym, _∙_, _≡_}
-use Prim.Native.Nat.{_%_, _*_, _+_, _/_, _<_, suc, zero, ℕ, _≤_}
-use native.Mathlib.Nat.{not-suc-le-zero}
+use Prim.Native.Nat.{_%_, _*_, _+_, _/_, _<_, _^_, suc, zero, ℕ, _≤_}
+use native.Mathlib.Nat.{le-trans, ne-of-lt, not-suc-le-zero}
 use native.Mathlib.Omega.{arith}
 use lib.Bits.{bitAnd}
-use lib.ListN.{getD, replicate}
+use lib.ListN.{getD, length, replicate, set}
+use lib.Seq.{getD-set-other, getD-set-same}
+use borrow.Author.Count.{below-more}
 use Rattle.pauli.specs.internal.Rows.{generatorOf}
 use Rattle.pauli.specs.declared.Generator.{Generator}
 use Rattle.stabilizer.specs.Groups.{Within}
-use Rattle.words.proofs.BitLaws.{bit-and, zero-bit}
+use Rattle.words.proofs.BitLaws.{bit-and, lt-of-bits, zero-bit}
 use Rattle.words.proofs.Sums.{last-or}
-use Rattle.words.specs.Bits.{bit}
-use Rattle.comparison.proofs.EquationLaws.{Short, empty-holds, fails-zero, zeroAssignment}
+use Rattle.words.specs.Bits.{bit, wordOf}
+use Rattle.comparison.proofs.EquationLaws.{Short, empty-holds, empty-unknown, fails-zero, zeroAssignment}
 use Rattle.comparison.specs.internal.Equations.{
+  Assignment,
+  Equation,
   Inserted,
   Solves,
   Triangular,
+  bitOf,
   classEquation,
   emptyEquation,
   emptyRows,
   equationAt,
+  equationOf,
   fails,
-  signEquation,
   equationsIn,
+  secondPart,
+  signEquation,
   unknown,
   wordAt,
 }
-use Rattle.comparison.specs.internal.Searches.{ClassAsked, ClassTable, TableOf}
+use Rattle.comparison.specs.internal.Searches.{ClassAsked, ClassTable, SecondParts, TableOf}
 use Rattle.comparison.specs.internal.Setting.{noGenerator}
-use Rattle.comparison.specs.declared.Assignment.{Assignment}
-use Rattle.comparison.specs.declared.Equation.{Equation}
 
 -- ---- a table without equations
 module _ where
@@ -45,18 +50,9 @@ module _ where
   empty-table =
       record {
         long = refl;
-        above = λ i j l. ap (λ e. unknown e j) (all-empty 80 i) ∙ nothing j;
+        above = λ i j l. ap (λ e. unknown e j) (all-empty 80 i) ∙ empty-unknown j;
         leading = λ i. inr (all-empty 80 i);
       }
-    where
-      nothing : (j : ℕ) → unknown emptyEquation j ≡ false
-      nothing j = go (j % 4)
-        where
-          go : (l : ℕ) → bit (wordAt l 0 0 0 0) (j / 4) ≡ false
-          go zero = zero-bit (j / 4)
-          go (suc zero) = zero-bit (j / 4)
-          go (suc (suc zero)) = zero-bit (j / 4)
-          go (suc (suc (suc l))) = zero-bit (j / 4)
 
   pub empty-solved : (w : Assignment) → Solves (replicate 80 emptyEquation) w
   empty-solved w i = ap (λ e. fails e w) (all-empty 80 i) ∙ empty-holds w
@@ -120,6 +116,14 @@ class-short n g h W =
 pub sign-short : (n : ℕ) (g : Generator) (s : Bool) → Within n (generatorOf g) → Short n (signEquation g s)
 sign-short n g s W =
     by-words n (signEquation g s) (W .no-x) (W .no-z) (λ q l. zero-bit q) (λ q l. zero-bit q)
+
+-- ---- the words of a generator on at most 20 qubits
+module _ (n : ℕ) (few : n ≤ 20) (g : Generator) (W : Within n (generatorOf g)) where
+  pub few-z : g .z < 2 ^ 20
+  few-z = lt-of-bits 20 (g .z) (λ q l. W .no-z q (le-trans few l))
+
+  pub few-x : g .x < 2 ^ 20
+  few-x = lt-of-bits 20 (g .x) (λ q l. W .no-x q (le-trans few l))
 
 -- ---- the equations on the classes
 module _ (n : ℕ) (first second : List Generator) where
@@ -193,7 +197,21 @@ module _ (n : ℕ) (first second : List Generator) where
 
 -- the code's table without equations
 pub empty-rows : (rows : List (List ℕ)) → rows ≡ emptyRows → Triangular (equationsIn rows)
+unfolding wordOf bit bitOf
 empty-rows rows e = subst (λ r. Triangular (equationsIn r)) (sym e) empty-table
 
 pub empty-rows-solved : (rows : List (List ℕ)) → rows ≡ emptyRows → (w : Assignment) → Solves (equationsIn rows) w
+unfolding wordOf bit bitOf
 empty-rows-solved rows e w = subst (λ r. Solves (equationsIn r) w) (sym e) (empty-solved w)
+
+-- ---- what the generators of the second group give to the equations
+pub no-parts : (second : List Generator) (parts : List (List ℕ)) → SecondParts second parts 0
+no-parts second parts j l = absurd (not-suc-le-zero l)
+
+pub one-part-more : (second : List Generator) (parts : List (List ℕ)) (i : ℕ) (r : List ℕ) → i < length parts
+    → equationOf r ≡ secondPart (getD second i noGenerator) → SecondParts second parts i
+    → SecondParts second (set parts i r) (i + 1)
+one-part-more second parts i r long here S =
+    below-more (λ j. equationOf (getD (set parts i r) j []) ≡ secondPart (getD second j noGenerator)) i
+    (λ j l. ap equationOf (getD-set-other parts i j r [] (ne-of-lt l)) ∙ S j l)
+    (ap equationOf (getD-set-same parts i r [] long) ∙ here)

@@ -17,6 +17,8 @@ use Rattle.words.specs.Bits.{bit, parity, _⊕_}
 use Rattle.words.specs.internal.Bits.{dot}
 use Rattle.comparison.proofs.EquationLaws.{SameBelow, Short, empty-holds, fails-below}
 use Rattle.comparison.specs.internal.Equations.{
+  Assignment,
+  Equation,
   Solves,
   Triangular,
   emptyEquation,
@@ -25,8 +27,6 @@ use Rattle.comparison.specs.internal.Equations.{
   unknown,
   wordAt,
 }
-use Rattle.comparison.specs.declared.Assignment.{Assignment}
-use Rattle.comparison.specs.declared.Equation.{Equation}
 
 -- ---- one unknown changed
 pub dot-short : (n u v : ℕ) → v < 2 ^ n → dot u v ≡ parity n (λ q. bit u q && bit v q)

@@ -12,10 +12,16 @@ use Rattle.clifford.specs.Clifford.{Clifford}
 use Rattle.words.proofs.Sums.{last-or, lt-or-ge}
 use Rattle.comparison.proofs.EquationLaws.{SameBelow, fails-below}
 use Rattle.comparison.proofs.Extension.{row-short, rows-below}
-use Rattle.comparison.specs.internal.Equations.{QubitTested, Solves, Triangular, equationAt, fails}
+use Rattle.comparison.specs.internal.Equations.{
+  Assignment,
+  Equation,
+  QubitTested,
+  Solves,
+  Triangular,
+  equationAt,
+  fails,
+}
 use Rattle.comparison.specs.internal.Searches.{LeastBelow, FirstFit}
-use Rattle.comparison.specs.declared.Assignment.{Assignment}
-use Rattle.comparison.specs.declared.Equation.{Equation}
 
 -- ---- the loop over the keys of one qubit
 module _ (A : (ℕ → Clifford) → Assignment) (table : List Equation) (q : ℕ) (next : ℕ → ℕ → Clifford) (bound : ℕ) where

@@ -12,6 +12,8 @@ use lib.Seq.{getD-set-other, getD-set-same}
 use Rattle.words.proofs.Finite.{⊕-zero}
 use Rattle.words.specs.Bits.{_⊕_}
 use Rattle.comparison.specs.internal.Equations.{
+  Assignment,
+  Equation,
   Inserted,
   Solves,
   Triangular,
@@ -19,12 +21,9 @@ use Rattle.comparison.specs.internal.Equations.{
   emptyEquation,
   equationAt,
   fails,
-  span,
   unknown,
 }
-use Rattle.comparison.specs.declared.Assignment.{Assignment}
-use Rattle.comparison.specs.declared.Equation.{Equation}
-use Rattle.comparison.proofs.EquationLaws.{fails-added, no-span, no-unknowns, unknown-added, empty-holds}
+use Rattle.comparison.proofs.EquationLaws.{fails-added, no-unknowns, unknown-added, empty-holds, empty-unknown}
 
 -- the state of an insertion: no unknown from i on is left, and on the table's solutions what is left is the equation
 pub record Inserting (table₀ : List Equation) (e : Equation) (table : List Equation) (left : Equation) (i : ℕ) : Type
@@ -61,8 +60,8 @@ module _ (table₀ : List Equation) (e : Equation) (T₀ : Triangular table₀) 
       go (yes p) = ap (unknown r) p ∙ h
       go (no p) = k j (lt-of-le-ne l (λ q. p (sym q)))
 
-  pub insert-added : unknown left i ≡ true → (p r : Equation) → p ≡ equationAt table i → (span p ≡ 0 → ⊥)
-      → r ≡ added left p → Inserting table₀ e table r i
+  pub insert-added : unknown left i ≡ true → (p r : Equation) → p ≡ equationAt table i
+      → (((j : ℕ) → unknown p j ≡ false) → ⊥) → r ≡ added left p → Inserting table₀ e table r i
   insert-added h p r hp some hr =
       record {
         same = S .same;
@@ -75,10 +74,10 @@ module _ (table₀ : List Equation) (e : Equation) (T₀ : Triangular table₀) 
     where
       leads : (unknown (equationAt table i) i ≡ true) ⊎ (equationAt table i ≡ emptyEquation) → unknown p i ≡ true
       leads (inl t) = ap (λ f. unknown f i) hp ∙ t
-      leads (inr t) = absurd (some (ap span (hp ∙ t)))
+      leads (inr t) = absurd (some (λ j. ap (λ f. unknown f j) (hp ∙ t) ∙ empty-unknown j))
 
-  pub insert-stored : i < 80 → unknown left i ≡ true → (p : Equation) → p ≡ equationAt table i → span p ≡ 0
-      → Inserted table₀ e (set table i left)
+  pub insert-stored : i < 80 → unknown left i ≡ true → (p : Equation) → p ≡ equationAt table i
+      → ((j : ℕ) → unknown p j ≡ false) → Inserted table₀ e (set table i left)
   insert-stored l h p hp none =
       record {
         triangular = record {
@@ -121,7 +120,7 @@ module _ (table₀ : List Equation) (e : Equation) (T₀ : Triangular table₀) 
       empty : (unknown (equationAt table i) i ≡ true) ⊎ (equationAt table i ≡ emptyEquation)
           → equationAt table i ≡ emptyEquation
       empty (inr t) = t
-      empty (inl t) = absurd (true≢false (sym t ∙ ap (λ f. unknown f i) (sym hp) ∙ no-span p none i))
+      empty (inl t) = absurd (true≢false (sym t ∙ ap (λ f. unknown f i) (sym hp) ∙ none i))
 
       before : (w : Assignment) → Solves (set table i left) w → Solves table w
       before w s j = go (ℕ-discrete j i)

@@ -34,6 +34,7 @@ use Rattle.comparison.proofs.RecordElements.{carried-all, framed-proper
 use Rattle.comparison.proofs.SignExtension.{signs-kept, signs-send}
 use Rattle.comparison.specs.Choices.{classKey, signKey}
 use Rattle.comparison.specs.internal.Equations.{
+  Equation,
   Solves,
   Triangular,
   classAssignment,
@@ -54,7 +55,6 @@ use Rattle.comparison.specs.internal.Searches.{
   withSigns,
 }
 use Rattle.comparison.specs.internal.Setting.{Codes, Setting, generatorsOf, noGenerator}
-use Rattle.comparison.specs.declared.Equation.{Equation}
 
 -- ---- the loop over the classes
 pub classes-begin : (n : ℕ) (table : List Equation) → ClassesChosen n table 0 (replicate 20 0)

@@ -4,6 +4,8 @@ pub mod Members
 pub mod Least
 pub mod InducedCodes
 pub mod EquationLaws
+pub mod PackedEquations
+pub mod PackedPlaces
 pub mod LastUnknowns
 pub mod Insertion
 pub mod QubitEquations

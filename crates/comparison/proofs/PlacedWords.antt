@@ -15,9 +15,8 @@ use Rattle.words.proofs.BitLaws.{bit-above, bit-ext∞, bit-wordOf, wordOf-lt}
 use Rattle.words.proofs.Places.{put-all}
 use Rattle.words.proofs.Sums.{lt-or-ge}
 use Rattle.words.specs.Bits.{Word, bit, isOdd, put, wordOf}
-use Rattle.comparison.specs.internal.Equations.{classAssignment, signAssignment}
+use Rattle.comparison.specs.internal.Equations.{Assignment, classAssignment, signAssignment}
 use Rattle.comparison.specs.internal.Searches.{withClass, withSigns}
-use Rattle.comparison.specs.declared.Assignment.{Assignment}
 use Rattle.comparison.proofs.NextChoice.{code-here, code-other}
 
 word-put : (n : ℕ) (f g : Word) (w r q : ℕ) (b : Bool) → w ≡ wordOf n f → q < n → b ≡ g q

@@ -27,9 +27,8 @@ use Rattle.comparison.proofs.EquationLaws.{zero-dot}
 use Rattle.comparison.proofs.Least.{act-agree}
 use Rattle.comparison.proofs.NumberOrder.{class-injective}
 use Rattle.comparison.specs.Choices.{classKey}
-use Rattle.comparison.specs.internal.Equations.{fails, signAssignment, signEquation}
+use Rattle.comparison.specs.internal.Equations.{Assignment, fails, signAssignment, signEquation}
 use Rattle.comparison.specs.internal.Setting.{withoutSigns}
-use Rattle.comparison.specs.declared.Assignment.{Assignment}
 
 abbrev signAt : Clifford → Bool → Bool → Bool
 signAt k z x = (x && k .sx) ⊕ (z && k .sz)

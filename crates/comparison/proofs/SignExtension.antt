@@ -38,6 +38,8 @@ use Rattle.comparison.proofs.RecordElements.{framed-proper}
 use Rattle.comparison.proofs.SignEquations.{letters-determine, sign-equation, sign-sends}
 use Rattle.comparison.specs.Choices.{classKey, signKey}
 use Rattle.comparison.specs.internal.Equations.{
+  Assignment,
+  Equation,
   Inserted,
   Solves,
   Triangular,
@@ -48,8 +50,6 @@ use Rattle.comparison.specs.internal.Equations.{
 }
 use Rattle.comparison.specs.internal.Searches.{Extendable, SentUpToSign, SignAsked, SignFor, SignTable}
 use Rattle.comparison.specs.internal.Setting.{Guessed, Setting, withoutSigns, generatorsOf, noGenerator}
-use Rattle.comparison.specs.declared.Assignment.{Assignment}
-use Rattle.comparison.specs.declared.Equation.{Equation}
 
 module _ (n : ℕ) (first second : List Generator) (frame : List ℕ) (S : Setting n first second frame) (c : ℕ → Clifford)
   where

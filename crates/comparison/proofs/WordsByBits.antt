@@ -17,8 +17,7 @@ use Rattle.words.proofs.BitLaws.{bit-above, bit-ext∞, bit-wordOf, wordOf-lt}
 use Rattle.words.proofs.Places.{put-all}
 use Rattle.words.proofs.Sums.{lt-or-ge}
 use Rattle.words.specs.Bits.{Word, bit, isOdd, put, wordOf}
-use Rattle.comparison.specs.internal.Equations.{classAssignment, signAssignment}
-use Rattle.comparison.specs.declared.Assignment.{Assignment}
+use Rattle.comparison.specs.internal.Equations.{Assignment, classAssignment, signAssignment}
 
 pub no-bits : (f : Word) → 0 ≡ wordOf 0 f
 unfolding wordOf

@@ -1,82 +1,82 @@
-// The unknowns of a choice as words: the matrices of its classes, and its signs.
-use clifford::image_letters;
-use comparison::Assignment;
-use pauli::x_bit;
-use pauli::z_bit;
-use words::put_bit;
+// The unknowns of a choice in two words: the matrices of its classes, and its signs.
+use crate::packing::place;
+ghost use mathlib.Core.Bool.{false};
 ghost use mathlib.Core.Path.{_≡_};
 ghost use mathlib.Core.List.{List};
-ghost use Prim.Native.Nat.{ℕ, _<_, _≤_};
+ghost use Prim.Native.Nat.{ℕ, _/_, _<_, _≤_};
 ghost use lib.ListN.{length};
+ghost use Rattle.clifford.specs.Clifford.{classOf};
 ghost use Rattle.clifford.specs.Vectors.{codesOf};
-ghost use Rattle.comparison.specs.internal.Equations.{classAssignment, signAssignment};
+ghost use Rattle.words.specs.Bits.{bit, isOdd};
+ghost use Rattle.comparison.specs.internal.Equations.{assignmentOf, classAssignment, entry, signAssignment};
 ghost use Rattle.comparison.specs.internal.Searches.{withClass, withSigns};
 ghost use Rattle.comparison.specs.internal.Setting.{Codes};
 
-// Bit q of the four words is the matrix of the class at q: image z = a z + b x, image x = c z + d x.
-pub fn class_words(n: usize, choice: [u8; 20]) -> Assignment
-    requires { ⌜ (n ≤ 20) × Codes choice ⌝ }
-    ensures { λ r. ⌜ r ≡ classAssignment n (codesOf choice) ⌝ }
+// The matrix of a class, four bits: image z = a z + b x, image x = c z + d x, and a is the lowest.
+fn class_bits(v: u8) -> u64
+    requires { ⌜ v < 6 ⌝ }
+    ensures { λ r. ⌜ (r < 16) × ((l : ℕ) → l < 4 → bit r l ≡ entry l (classOf v)) ⌝ }
 {
-    let mut a = 0;
-    let mut b = 0;
-    let mut c = 0;
-    let mut d = 0;
+    (0x007E_D6B9 >> (4 * v)) & 15
+}
+
+// The signs, sx the lowest bit and sz the next.
+fn sign_bits(v: u8) -> u64
+    ensures { λ r. ⌜ (r < 16) × ((bit r 0 ≡ isOdd (v / 2)) × (bit r 1 ≡ isOdd v) × (bit r 2 ≡ false) × (bit r 3 ≡ false)) ⌝ }
+{
+    (0b11_01_10_00 >> (2 * (v % 4))) & 3
+}
+
+// The words of the classes of a choice.
+pub fn class_words(n: usize, choice: [u8; 20]) -> [u64; 2]
+    requires { ⌜ (n ≤ 20) × Codes choice ⌝ }
+    ensures { λ r. ⌜ assignmentOf r ≡ classAssignment n (codesOf choice) ⌝ }
+{
+    let mut words = [0, 0];
     let mut q = 0;
     while q < n {
-        let letters = image_letters(choice[q] / 4);
-        let z = letters.z;
-        let x = letters.x;
-        a = put_bit(a, q, z_bit(z));
-        b = put_bit(b, q, z_bit(x));
-        c = put_bit(c, q, x_bit(z));
-        d = put_bit(d, q, x_bit(x));
+        let four = class_bits(choice[q] / 4);
+        let next = place(words, q, four);
+        words = next;
         q += 1;
     }
-    Assignment { a, b, c, d }
+    words
 }
 
 // The words of a choice with class v put in at qubit q.
-pub fn with_class(w: Assignment, q: usize, v: u8) -> Assignment
-    requires { ⌜ (q < 64) × (v < 6) ⌝ }
-    ensures { λ r. ⌜ ((n : ℕ) (choice : List ℕ) → q < n → q < length choice → w ≡ classAssignment n (codesOf choice)
-        → r ≡ classAssignment n (codesOf (withClass choice q v))) ⌝ }
+pub fn with_class(w: [u64; 2], q: usize, v: u8) -> [u64; 2]
+    requires { ⌜ (q < 20) × (v < 6) ⌝ }
+    ensures { λ r. ⌜ ((n : ℕ) (choice : List ℕ) → q < n → q < length choice
+        → assignmentOf w ≡ classAssignment n (codesOf choice)
+        → assignmentOf r ≡ classAssignment n (codesOf (withClass choice q v))) ⌝ }
 {
-    let letters = image_letters(v);
-    let z = letters.z;
-    let x = letters.x;
-    Assignment {
-        a: put_bit(w.a, q, z_bit(z)),
-        b: put_bit(w.b, q, z_bit(x)),
-        c: put_bit(w.c, q, x_bit(z)),
-        d: put_bit(w.d, q, x_bit(x)),
-    }
+    let four = class_bits(v);
+    place(w, q, four)
 }
 
-// Bit q of the first word is sx at q, of the second sz.
-pub fn sign_words(n: usize, choice: [u8; 20]) -> Assignment
+// The words of the signs of a choice.
+pub fn sign_words(n: usize, choice: [u8; 20]) -> [u64; 2]
     requires { ⌜ n ≤ 20 ⌝ }
-    ensures { λ r. ⌜ r ≡ signAssignment n (codesOf choice) ⌝ }
+    ensures { λ r. ⌜ assignmentOf r ≡ signAssignment n (codesOf choice) ⌝ }
 {
-    let mut a = 0;
-    let mut b = 0;
+    let mut words = [0, 0];
     let mut q = 0;
     while q < n {
-        let code = choice[q];
-        a = put_bit(a, q, code / 2 % 2 == 1);
-        b = put_bit(b, q, code % 2 == 1);
+        let four = sign_bits(choice[q]);
+        let next = place(words, q, four);
+        words = next;
         q += 1;
     }
-    Assignment { a, b, c: 0, d: 0 }
+    words
 }
 
 // The words of a choice with signs v put in at qubit q.
-pub fn with_signs(w: Assignment, q: usize, v: u8) -> Assignment
-    requires { ⌜ q < 64 ⌝ }
-    ensures { λ r. ⌜ ((n : ℕ) (choice : List ℕ) → q < n → q < length choice → w ≡ signAssignment n (codesOf choice)
-        → r ≡ signAssignment n (codesOf (withSigns choice q v))) ⌝ }
+pub fn with_signs(w: [u64; 2], q: usize, v: u8) -> [u64; 2]
+    requires { ⌜ q < 20 ⌝ }
+    ensures { λ r. ⌜ ((n : ℕ) (choice : List ℕ) → q < n → q < length choice
+        → assignmentOf w ≡ signAssignment n (codesOf choice)
+        → assignmentOf r ≡ signAssignment n (codesOf (withSigns choice q v))) ⌝ }
 {
-    let a = put_bit(w.a, q, v / 2 % 2 == 1);
-    let b = put_bit(w.b, q, v % 2 == 1);
-    Assignment { a, b, c: 0, d: 0 }
+    let four = sign_bits(v);
+    place(w, q, four)
 }

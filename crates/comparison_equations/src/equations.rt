@@ -1,128 +1,96 @@
-// Linear equations modulo 2 over four words of unknowns, a bit of each for each qubit.
-use comparison::Assignment;
-use comparison::Equation;
+// Linear equations modulo 2, each in two words: unknown i is bit i of both, and the sum asked for the top bit.
 use words::has;
 use words::odd;
 ghost use mathlib.Core.Path.{_≡_};
 ghost use mathlib.Core.Bool.{false, true};
-ghost use Prim.Native.Nat.{ℕ, _+_, _<_, _≤_, _^_};
-ghost use Rattle.words.specs.Bits.{bit};
+ghost use mathlib.Core.List.{[], _∷_};
+ghost use Prim.Native.Nat.{ℕ, _<_, _≤_};
 ghost use Rattle.comparison.specs.internal.Equations.{
   Bound,
   Inserted,
   QubitTested,
+  Size,
   Triangular,
   added,
+  assignmentOf,
   equationOf,
   fails,
-  span,
   equationsIn,
   unknown,
 };
 
 // The sum of two equations.
-fn add(e: Equation, f: Equation) -> Equation
-    ensures { λ r. ⌜ r ≡ added e f ⌝ }
+fn add(e: [u64; 2], f: [u64; 2]) -> [u64; 2]
+    ensures { λ r. ⌜ equationOf r ≡ added (equationOf e) (equationOf f) ⌝ }
 {
-    Equation {
-        a: e.a ^ f.a,
-        b: e.b ^ f.b,
-        c: e.c ^ f.c,
-        d: e.d ^ f.d,
-        sum: e.sum ^ f.sum,
-    }
+    [e[0] ^ f[0], e[1] ^ f[1]]
 }
 
 // Whether the unknowns give another sum than the one asked for.
-fn fails(e: Equation, w: Assignment) -> bool
-    ensures { λ r. ⌜ r ≡ fails e w ⌝ }
+fn fails(low: u64, high: u64, v: u64, w: u64) -> bool
+    ensures { λ r. ⌜ r ≡ fails (equationOf (low ∷ high ∷ [])) (assignmentOf (v ∷ w ∷ [])) ⌝ }
 {
-    let sum = odd(((e.a & w.a) ^ (e.b & w.b)) ^ ((e.c & w.c) ^ (e.d & w.d)));
-    sum ^ e.sum
+    let sum = odd((low & v) ^ (high & (w & 0xFFFF)));
+    sum ^ has(high, 63)
 }
 
-// The qubits at which an equation has an unknown.
-fn span(e: Equation) -> u64
-    ensures { λ r. ⌜ r ≡ span e ⌝ }
+// Whether an equation has no unknown.
+fn empty(low: u64, high: u64) -> bool
+    ensures { λ r. ⌜ (r ≡ true → (j : ℕ) → unknown (equationOf (low ∷ high ∷ [])) j ≡ false) ⌝ }
+    ensures { λ r. ⌜ (r ≡ false → ((j : ℕ) → unknown (equationOf (low ∷ high ∷ [])) j ≡ false) → ⊥) ⌝ }
 {
-    (e.a | e.b) | (e.c | e.d)
+    (low | (high & 0xFFFF)) == 0
 }
 
-// The largest set bit of a word that is not 0.
-fn largest(w: u64) -> usize
-    requires { ⌜ (w ≡ 0 → ⊥) ⌝ }
-    ensures { λ r. ⌜ (r < 64) × (bit w r ≡ true) × (w < 2 ^ (r + 1)) ⌝ }
+// The number of bits of a word.
+fn size(w: u64) -> usize
+    ensures { λ r. ⌜ (r ≤ 64) × Size w r ⌝ }
 {
-    63 - u64::leading_zeros(w) as usize
+    64 - u64::leading_zeros(w) as usize
 }
 
 // The number after that of the last unknown; 0 where there is none.
-fn bound(e: Equation) -> usize
-    ensures { λ r. ⌜ Bound e r ⌝ }
+fn bound(e: [u64; 2]) -> usize
+    ensures { λ r. ⌜ Bound (equationOf e) r ⌝ }
 {
-    let all = span(e);
-    if all == 0 {
-        return 0;
-    }
-    let q = largest(all);
-    if has(e.d, q) {
-        4 * q + 4
-    } else if has(e.c, q) {
-        4 * q + 3
-    } else if has(e.b, q) {
-        4 * q + 2
+    let high = e[1] & 0xFFFF;
+    if high == 0 {
+        size(e[0])
     } else {
-        4 * q + 1
+        64 + size(high)
     }
-}
-
-// The equation of a row.
-fn equation(row: [u64; 5]) -> Equation
-    ensures { λ r. ⌜ r ≡ equationOf row ⌝ }
-{
-    Equation {
-        a: row[0],
-        b: row[1],
-        c: row[2],
-        d: row[3],
-        sum: row[4] == 1,
-    }
-}
-
-// The row of an equation.
-fn row(e: Equation) -> [u64; 5]
-    ensures { λ r. ⌜ equationOf r ≡ e ⌝ }
-{
-    [e.a, e.b, e.c, e.d, if e.sum { 1 } else { 0 }]
 }
 
 // Stores an equation, or a sum of it with stored ones, at the place of its last unknown, or nothing.
-pub fn insert(table: &mut [[u64; 5]; 80], e: Equation)
-    requires { ⌜ Triangular (equationsIn (now table)) × ((j : ℕ) → 80 ≤ j → unknown e j ≡ false) ⌝ }
-    ensures { λ r. ⌜ Inserted (equationsIn (now (table .entry))) e (equationsIn (now (table .exit))) ⌝ }
+pub fn insert(table: &mut [[u64; 2]; 80], e: [u64; 2])
+    requires { ⌜ Triangular (equationsIn (now table)) ⌝ }
+    ensures { λ r. ⌜ Inserted (equationsIn (now (table .entry))) (equationOf e) (equationsIn (now (table .exit))) ⌝ }
 {
     let mut left = e;
     let mut i = bound(left);
     while 0 < i {
-        let p = equation(table[i - 1]);
-        if span(p) == 0 {
-            table[i - 1] = row(left);
+        let p = table[i - 1];
+        if empty(p[0], p[1]) {
+            table[i - 1] = left;
             return;
         }
-        left = add(left, p);
+        let sum = add(left, p);
+        left = sum;
         i = bound(left);
     }
 }
 
 // Whether an equation of qubit q fails: one whose last unknown is of qubit q.
-pub fn broken(table: &[[u64; 5]; 80], q: usize, w: Assignment) -> bool
+pub fn broken(table: &[[u64; 2]; 80], q: usize, w: [u64; 2]) -> bool
     requires { ⌜ q < 20 ⌝ }
-    ensures { λ r. ⌜ QubitTested (equationsIn (now (table .entry))) q w r ⌝ }
+    ensures { λ r. ⌜ QubitTested (equationsIn (now (table .entry))) q (assignmentOf w) r ⌝ }
 {
+    let first = w[0];
+    let second = w[1];
     let mut i = 4 * q;
     while i < 4 * q + 4 {
-        let e = equation(table[i]);
-        if fails(e, w) {
+        let e = table[i];
+        if fails(e[0], e[1], first, second) {
             return true;
         }
         i += 1;

@@ -1,5 +1,9 @@
 // The least choice: for each qubit in turn the first class that the equations allow, then for each the first signs; and
 // the comparison of two records by it. Neither loop steps back: at most 6 classes and 4 signs are tried at a qubit.
+use comparison_equations::class_words;
+use comparison_equations::sign_words;
+use comparison_equations::with_class;
+use comparison_equations::with_signs;
 use comparison_groups::generators;
 use comparison_groups::inverses;
 use comparison_tables::class_table;
@@ -28,15 +32,16 @@ pub struct Answer {
 }
 
 // For each qubit in turn the first class that the equations allow. There is none at the first qubit, or always one.
-fn least_classes(n: usize, table: &[[u64; 5]; 80]) -> Answer
+fn least_classes(n: usize, table: &[[u64; 2]; 80]) -> Answer
     requires { ⌜ (n ≤ 20) × Triangular (equationsIn (now table))
         × Extendable (classAssignment n) classKey 1 n (equationsIn (now table)) ⌝ }
     ensures { λ r. ⌜ ClassesAnswered n (equationsIn (now (table .entry))) (r .found) (r .choice) ⌝ }
 {
     let mut choice = [0u8; 20];
+    let mut held = class_words(n, choice);
     let mut q = 0;
     while q < n {
-        let v = least_class(table, n, choice, q);
+        let v = least_class(table, held, q);
         if 6 <= v {
             return Answer {
                 found: false,
@@ -44,6 +49,8 @@ fn least_classes(n: usize, table: &[[u64; 5]; 80]) -> Answer
             };
         }
         choice[q] = 4 * v;
+        let next = with_class(held, q, v);
+        held = next;
         q += 1;
     }
     Answer {
@@ -53,17 +60,20 @@ fn least_classes(n: usize, table: &[[u64; 5]; 80]) -> Answer
 }
 
 // For each qubit in turn the first signs that the equations allow, the classes kept.
-fn least_signs(n: usize, table: &[[u64; 5]; 80], classes: [u8; 20]) -> [u8; 20]
+fn least_signs(n: usize, table: &[[u64; 2]; 80], classes: [u8; 20]) -> [u8; 20]
     requires { ⌜ (n ≤ 20) × Triangular (equationsIn (now table))
         × Extendable (signAssignment n) signKey 0 n (equationsIn (now table)) ⌝ }
     requires { ⌜ Codes classes ⌝ }
     ensures { λ r. ⌜ SignsChosen n (equationsIn (now (table .entry))) classes n r ⌝ }
 {
     let mut choice = classes;
+    let mut held = sign_words(n, choice);
     let mut q = 0;
     while q < n {
-        let v = least_sign(table, n, choice, q);
+        let v = least_sign(table, held, q);
         choice[q] = 4 * (choice[q] / 4) + v;
+        let next = with_signs(held, q, v);
+        held = next;
         q += 1;
     }
     choice
@@ -79,14 +89,14 @@ fn least_choice(
     requires { ⌜ Setting n first second frame ⌝ }
     ensures { λ r. ⌜ LeastAnswer n (generatorsOf first) (generatorsOf second) (r .found) (r .choice) ⌝ }
 {
-    let mut table = [[0u64; 5]; 80];
+    let mut table = [[0u64; 2]; 80];
     class_table(&mut table, n, first, second);
     let answer = least_classes(n, &table);
     if !answer.found {
         return answer;
     }
     let classes = answer.choice;
-    let mut signs = [[0u64; 5]; 80];
+    let mut signs = [[0u64; 2]; 80];
     sign_table(&mut signs, n, first, second, frame, classes);
     let choice = least_signs(n, &signs, classes);
     Answer {

@@ -2,80 +2,104 @@
 // qubit.
 use clifford_words::act_on;
 use clifford_words::action_of;
-use comparison::Equation;
 use comparison_equations::broken;
-use comparison_equations::class_words;
 use comparison_equations::insert;
-use comparison_equations::sign_words;
+use comparison_equations::pack;
 use comparison_equations::with_class;
 use comparison_equations::with_signs;
 use comparison_groups::element;
 use pauli::Generator;
+use words::flip_where;
+ghost use mathlib.Core.List.{List};
 ghost use mathlib.Core.Path.{_≡_};
-ghost use Prim.Native.Nat.{_+_, _<_, _≤_};
+ghost use Prim.Native.Nat.{ℕ, _+_, _<_, _^_, _≤_};
+ghost use lib.ListN.{length};
 ghost use Rattle.clifford.specs.Vectors.{codesOf};
 ghost use Rattle.stabilizer.specs.Groups.{Proper};
 ghost use Rattle.comparison.specs.internal.Equations.{
+  Triangular,
+  assignmentOf,
   classAssignment,
-  classEquation,
+  common,
   emptyRows,
+  equationOf,
+  equationsIn,
+  firstPart,
+  secondPart,
   signAssignment,
   signEquation,
-  equationsIn,
 };
 ghost use Rattle.comparison.specs.internal.Setting.{NoSigns, Codes, Setting, generatorsOf};
 ghost use Rattle.comparison.specs.internal.Searches.{
   ClassTable,
   FirstFit,
+  SecondParts,
   SentUpToSign,
   SignTable,
   withClass,
   withSigns,
 };
 
-// The equation on the classes by which the image of g commutes with h.
-fn class_equation(g: Generator, h: Generator) -> Equation
-    ensures { λ r. ⌜ r ≡ classEquation g h ⌝ }
+// What a generator of the first group gives to its equations on the classes.
+fn first_part(g: Generator) -> [u64; 2]
+    ensures { λ r. ⌜ (g .z < 2 ^ 20 → g .x < 2 ^ 20 → equationOf r ≡ firstPart g) ⌝ }
 {
-    Equation {
-        a: g.z & h.x,
-        b: g.x & h.x,
-        c: g.z & h.z,
-        d: g.x & h.z,
-        sum: false,
-    }
+    pack(g.z, g.x, g.z, g.x)
+}
+
+// What a generator of the second group gives to them.
+fn second_part(h: Generator) -> [u64; 2]
+    ensures { λ r. ⌜ (h .z < 2 ^ 20 → h .x < 2 ^ 20 → equationOf r ≡ secondPart h) ⌝ }
+{
+    pack(h.x, h.x, h.z, h.z)
+}
+
+// The equation on the classes by which the image of one generator commutes with another.
+fn class_equation(g: [u64; 2], h: [u64; 2]) -> [u64; 2]
+    ensures { λ r. ⌜ equationOf r ≡ common (equationOf g) (equationOf h) ⌝ }
+{
+    [g[0] & h[0], g[1] & h[1]]
 }
 
 // The equation on the signs by which they change the sign of g's image as asked.
-fn sign_equation(g: Generator, sum: bool) -> Equation
-    ensures { λ r. ⌜ r ≡ signEquation g sum ⌝ }
+fn sign_equation(g: Generator, sum: bool) -> [u64; 2]
+    ensures { λ r. ⌜ (g .z < 2 ^ 20 → g .x < 2 ^ 20 → equationOf r ≡ signEquation g sum) ⌝ }
 {
-    Equation {
-        a: g.x,
-        b: g.z,
-        c: 0,
-        d: 0,
-        sum,
+    let words = pack(g.x, g.z, 0, 0);
+    let high = words[1];
+    [words[0], flip_where(high, 63, sum)]
+}
+
+// What the generators of the second group give, each once.
+fn second_parts(parts: &mut [[u64; 2]; 20], n: usize, second: [Generator; 20])
+    requires { ⌜ (n ≤ 20) × Proper n (generatorsOf second) × (length (now parts) ≡ 20) ⌝ }
+    ensures { λ r. ⌜ SecondParts second (now (parts .exit)) n ⌝ }
+{
+    let mut j = 0;
+    while j < n {
+        let h = second[j];
+        parts[j] = second_part(h);
+        j += 1;
     }
 }
 
 // The equations of one generator of the first group with all of the second.
 fn class_rows(
-    table: &mut [[u64; 5]; 80],
+    table: &mut [[u64; 2]; 80],
     n: usize,
     first: [Generator; 20],
-    second: [Generator; 20],
+    parts: &[[u64; 2]; 20],
     i: usize,
 )
-    requires { ⌜ (n ≤ 20) × Proper n (generatorsOf first) × (i < n) ⌝ }
-    requires { ⌜ ClassTable n first second i 0 (equationsIn (now table)) ⌝ }
-    ensures { λ r. ⌜ ClassTable n first second (i + 1) 0 (equationsIn (now (table .exit))) ⌝ }
+    requires { ⌜ (n ≤ 20) × Proper n (generatorsOf first) × (i < n) × Triangular (equationsIn (now table)) ⌝ }
+    ensures { λ r. ⌜ ((second : List Generator) → SecondParts second (now (parts .entry)) n
+        → ClassTable n first second i 0 (equationsIn (now (table .entry)))
+        → ClassTable n first second (i + 1) 0 (equationsIn (now (table .exit)))) ⌝ }
 {
-    let g = first[i];
+    let g = first_part(first[i]);
     let mut j = 0;
     while j < n {
-        let h = second[j];
-        let e = class_equation(g, h);
+        let e = class_equation(g, parts[j]);
         insert(table, e);
         j += 1;
     }
@@ -83,24 +107,26 @@ fn class_rows(
 
 // The class equations put into an empty table.
 pub fn class_table(
-    table: &mut [[u64; 5]; 80],
+    table: &mut [[u64; 2]; 80],
     n: usize,
     first: [Generator; 20],
     second: [Generator; 20],
 )
-    requires { ⌜ (n ≤ 20) × Proper n (generatorsOf first) × (now table ≡ emptyRows) ⌝ }
+    requires { ⌜ (n ≤ 20) × Proper n (generatorsOf first) × Proper n (generatorsOf second) × (now table ≡ emptyRows) ⌝ }
     ensures { λ r. ⌜ ClassTable n first second n 0 (equationsIn (now (table .exit))) ⌝ }
 {
+    let mut parts = [[0u64; 2]; 20];
+    second_parts(&mut parts, n, second);
     let mut i = 0;
     while i < n {
-        class_rows(table, n, first, second, i);
+        class_rows(table, n, first, &parts, i);
         i += 1;
     }
 }
 
 // The sign equations put into an empty table, for classes that send each generator into the second group up to a sign.
 pub fn sign_table(
-    table: &mut [[u64; 5]; 80],
+    table: &mut [[u64; 2]; 80],
     n: usize,
     first: [Generator; 20],
     second: [Generator; 20],
@@ -124,12 +150,13 @@ pub fn sign_table(
     }
 }
 
-// The first class at qubit q that the equations allow after the classes given below it; 6 if there is none.
-pub fn least_class(table: &[[u64; 5]; 80], n: usize, choice: [u8; 20], q: usize) -> u8
-    requires { ⌜ (n ≤ 20) × (q < n) × Codes choice ⌝ }
-    ensures { λ r. ⌜ FirstFit (classAssignment n) (equationsIn (now (table .entry))) q (λ u. codesOf (withClass choice q u)) 6 r ⌝ }
+// The first class at qubit q that the equations allow beside the values held for the other qubits; 6 if there is none.
+pub fn least_class(table: &[[u64; 2]; 80], held: [u64; 2], q: usize) -> u8
+    requires { ⌜ q < 20 ⌝ }
+    ensures { λ r. ⌜ ((n : ℕ) (choice : List ℕ) → q < n → q < length choice
+        → assignmentOf held ≡ classAssignment n (codesOf choice)
+        → FirstFit (classAssignment n) (equationsIn (now (table .entry))) q (λ u. codesOf (withClass choice q u)) 6 r) ⌝ }
 {
-    let held = class_words(n, choice);
     let mut v = 0u8;
     while v < 6 {
         let w = with_class(held, q, v);
@@ -141,12 +168,13 @@ pub fn least_class(table: &[[u64; 5]; 80], n: usize, choice: [u8; 20], q: usize)
     v
 }
 
-// The first signs at qubit q that the equations allow after the signs given below it; 4 if there are none.
-pub fn least_sign(table: &[[u64; 5]; 80], n: usize, choice: [u8; 20], q: usize) -> u8
-    requires { ⌜ (n ≤ 20) × (q < n) × Codes choice ⌝ }
-    ensures { λ r. ⌜ FirstFit (signAssignment n) (equationsIn (now (table .entry))) q (λ u. codesOf (withSigns choice q u)) 4 r ⌝ }
+// The first signs at qubit q that the equations allow beside the values held for the other qubits; 4 if there are none.
+pub fn least_sign(table: &[[u64; 2]; 80], held: [u64; 2], q: usize) -> u8
+    requires { ⌜ q < 20 ⌝ }
+    ensures { λ r. ⌜ ((n : ℕ) (choice : List ℕ) → q < n → q < length choice
+        → assignmentOf held ≡ signAssignment n (codesOf choice)
+        → FirstFit (signAssignment n) (equationsIn (now (table .entry))) q (λ u. codesOf (withSigns choice q u)) 4 r) ⌝ }
 {
-    let held = sign_words(n, choice);
     let mut v = 0u8;
     while v < 4 {
         let w = with_signs(held, q, v);

@@ -1,43 +1,38 @@
--- Linear equations modulo 2 over four words of unknowns, a bit of each for each qubit: how the comparison keeps what the
--- choices that work satisfy.
-use mathlib.Core.Bool.{Bool, false, true}
+-- Linear equations modulo 2 over four words of unknowns, a bit of each for each qubit: what the choices that work
+-- satisfy, and how the code keeps it in two words.
+use mathlib.Core.Bool.{_&&_, Bool, cond, false, true}
 use mathlib.Core.List.{List, [], _∷_, map}
 use mathlib.Core.Logic.{_⊎_}
 use mathlib.Core.Path.{_≡_}
 use Prim.Native.Nat.{_%_, _*_, _+_, _-_, _/_, _<_, _≤_, suc, zero, ℕ}
-use lib.Bits.{bitAnd, bitOr, bitXor}
-use lib.Dec.{eqb}
+use lib.Bits.{bitAnd, bitXor}
+use lib.Dec.{ltb}
 use lib.ListN.{getD, length, replicate}
-use Rattle.clifford.specs.Clifford.{Clifford, imageX, imageZ}
+use Rattle.clifford.specs.Clifford.{Class, Clifford, imageX, imageZ}
 use Rattle.pauli.specs.Pauli.{xBit, zBit}
 use Rattle.pauli.specs.declared.Generator.{Generator}
-use Rattle.words.specs.Bits.{bit, wordOf, _⊕_}
+use Rattle.words.specs.Bits.{Word, bit, wordOf, _⊕_}
 use Rattle.words.specs.internal.Bits.{dot}
-use Rattle.comparison.specs.declared.Assignment.{Assignment}
-use Rattle.comparison.specs.declared.Equation.{Equation}
 
 -- ---- equations
+-- the values of the unknowns: four words, a bit of each for each qubit
+pub record Assignment : Type 0 where
+  pub a : ℕ
+  pub b : ℕ
+  pub c : ℕ
+  pub d : ℕ
+
+-- the coefficients of the unknowns, and the sum that they are to give
+pub record Equation : Type 0 where
+  pub a : ℕ
+  pub b : ℕ
+  pub c : ℕ
+  pub d : ℕ
+  pub sum : Bool
+
 -- nothing asked
 abbrev pub emptyEquation : Equation
 emptyEquation = record { a = 0; b = 0; c = 0; d = 0; sum = false }
-
--- an equation as the code keeps it in a table: four words, and 1 for the sum 1
-abbrev pub equationOf : List ℕ → Equation
-equationOf row =
-    record {
-      a = getD row 0 0;
-      b = getD row 1 0;
-      c = getD row 2 0;
-      d = getD row 3 0;
-      sum = eqb (getD row 4 0) 1;
-    }
-
-abbrev pub equationsIn : List (List ℕ) → List Equation
-equationsIn rows = map equationOf rows
-
--- a table without equations
-abbrev pub emptyRows : List (List ℕ)
-emptyRows = replicate 80 (0 ∷ 0 ∷ 0 ∷ 0 ∷ 0 ∷ [])
 
 -- equation i of a table; the empty one past its end
 abbrev pub equationAt : List Equation → ℕ → Equation
@@ -66,6 +61,11 @@ unknown e i = bit (wordAt (i % 4) (e .a) (e .b) (e .c) (e .d)) (i / 4)
 pub record Bound (e : Equation) (r : ℕ) : Type 0 where
   pub above : (j : ℕ) → r ≤ j → unknown e j ≡ false
   pub last : 0 < r → unknown e (r - 1) ≡ true
+
+-- r is the number of bits of a word
+pub record Size (w r : ℕ) : Type 0 where
+  pub above : (j : ℕ) → r ≤ j → bit w j ≡ false
+  pub last : 0 < r → bit w (r - 1) ≡ true
 
 -- equation i of the table has unknown i and none above it, or asks nothing
 pub record Triangular (table : List Equation) : Type 0 where
@@ -97,11 +97,54 @@ added e f =
       sum = e .sum ⊕ f .sum;
     }
 
--- the qubits at which an equation has an unknown
-abbrev pub span : Equation → ℕ
-span e = bitOr (bitOr (e .a) (e .b)) (bitOr (e .c) (e .d))
+-- the unknowns that two equations have both
+abbrev pub common : Equation → Equation → Equation
+common e f =
+    record {
+      a = bitAnd (e .a) (f .a);
+      b = bitAnd (e .b) (f .b);
+      c = bitAnd (e .c) (f .c);
+      d = bitAnd (e .d) (f .d);
+      sum = e .sum && f .sum;
+    }
+
+-- ---- two words: unknown i of the first 80 is bit i of both, the bits of the second after those of the first, and the
+-- sum asked for is the top bit
+unfoldable pub bitOf : List ℕ → Word
+bitOf row i = cond (ltb i 64) (bit (getD row 0 0) i) (bit (getD row 1 0) (i - 64))
+
+-- of such bits those of the unknowns l of the qubits
+abbrev pub fourth : Word → ℕ → ℕ
+fourth f l = wordOf 20 (λ q. f (4 * q + l))
+
+abbrev pub assignmentBy : Word → Assignment
+assignmentBy f = record { a = fourth f 0; b = fourth f 1; c = fourth f 2; d = fourth f 3 }
+
+abbrev pub equationBy : Word → Bool → Equation
+equationBy f s = record { a = fourth f 0; b = fourth f 1; c = fourth f 2; d = fourth f 3; sum = s }
+
+-- what two words stand for
+abbrev pub assignmentOf : List ℕ → Assignment
+assignmentOf row = assignmentBy (bitOf row)
+
+abbrev pub equationOf : List ℕ → Equation
+equationOf row = equationBy (bitOf row) (bit (getD row 1 0) 63)
+
+abbrev pub equationsIn : List (List ℕ) → List Equation
+equationsIn rows = map equationOf rows
+
+-- a table without equations
+abbrev pub emptyRows : List (List ℕ)
+emptyRows = replicate 80 (0 ∷ 0 ∷ [])
 
 -- ---- the unknowns of a choice
+-- entry l of the matrix of a class
+abbrev pub entry : ℕ → Class → Bool
+entry zero k = zBit (imageZ k)
+entry (suc zero) k = zBit (imageX k)
+entry (suc (suc zero)) k = xBit (imageZ k)
+entry (suc (suc (suc l))) k = xBit (imageX k)
+
 -- the classes: at each qubit image z = a z + b x and image x = c z + d x; (a, c) are the bits (z, x) of the image
 -- of Z, and (b, d) those of the image of X
 unfoldable pub classAssignment : ℕ → (ℕ → Clifford) → Assignment
@@ -118,16 +161,15 @@ unfoldable pub signAssignment : ℕ → (ℕ → Clifford) → Assignment
 signAssignment n k = record { a = wordOf n (λ q. k q .sx); b = wordOf n (λ q. k q .sz); c = 0; d = 0 }
 
 -- ---- what a choice that works satisfies
--- the image of g commutes with h
+-- the image of g commutes with h: what g gives to the equation, and what h gives
+abbrev pub firstPart : Generator → Equation
+firstPart g = record { a = g .z; b = g .x; c = g .z; d = g .x; sum = false }
+
+abbrev pub secondPart : Generator → Equation
+secondPart h = record { a = h .x; b = h .x; c = h .z; d = h .z; sum = false }
+
 abbrev pub classEquation : Generator → Generator → Equation
-classEquation g h =
-    record {
-      a = bitAnd (g .z) (h .x);
-      b = bitAnd (g .x) (h .x);
-      c = bitAnd (g .z) (h .z);
-      d = bitAnd (g .x) (h .z);
-      sum = false;
-    }
+classEquation g h = common (firstPart g) (secondPart h)
 
 -- the signs at the letters of g change the sign of its image by this bit
 abbrev pub signEquation : Generator → Bool → Equation

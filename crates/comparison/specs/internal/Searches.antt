@@ -1,6 +1,6 @@
 -- What the tables of the comparison say, what its two loops choose, and what it answers.
 use mathlib.Core.Bool.{Bool, false, not, true}
-use mathlib.Core.List.{List}
+use mathlib.Core.List.{List, []}
 use mathlib.Core.Logic.{_⊎_}
 use mathlib.Core.Path.{_≡_}
 use Prim.Native.Nat.{_*_, _+_, _/_, _<_, ℕ, _≤_}
@@ -14,18 +14,20 @@ use Rattle.stabilizer.specs.Groups.{InGroup}
 use Rattle.words.specs.Bits.{_⊕_}
 use Rattle.comparison.specs.Choices.{LeastOf, classKey, leastCode, noChoice, signKey}
 use Rattle.comparison.specs.internal.Equations.{
+  Assignment,
+  Equation,
   Solves,
   Triangular,
   classAssignment,
   classEquation,
   equationAt,
+  equationOf,
   fails,
+  secondPart,
   signAssignment,
   signEquation,
 }
 use Rattle.comparison.specs.internal.Setting.{NoSigns, Codes, withoutSigns, generatorsOf, noGenerator}
-use Rattle.comparison.specs.declared.Assignment.{Assignment}
-use Rattle.comparison.specs.declared.Equation.{Equation}
 
 -- ---- the tables
 -- a triangular table whose solutions are those of the equations in A
@@ -43,6 +45,11 @@ ClassAsked n first second i j e =
 
 abbrev pub ClassTable : ℕ → List Generator → List Generator → ℕ → ℕ → List Equation → Type 0
 ClassTable n first second i j = TableOf (ClassAsked n first second i j)
+
+-- the first i rows hold what the generators of the second group give to the equations
+abbrev pub SecondParts : List Generator → List (List ℕ) → ℕ → Type 0
+SecondParts second parts i =
+    (j : ℕ) → j < i → equationOf (getD parts j []) ≡ secondPart (getD second j noGenerator)
 
 -- the equation on the signs at generator j, for the classes of c
 pub record SignFor (n : ℕ) (first second : List Generator) (c : ℕ → Clifford) (j : ℕ) (e : Equation) : Type 0 where

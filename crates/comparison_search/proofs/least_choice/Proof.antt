@@ -15,7 +15,10 @@ use Rattle.comparison_search.proofs.least_choice.Statement.{statement}
 use Rattle.comparison_search.proofs.least_choice.Tie as tie
 
 class-table-requires : tie.Need-class-table-requires
-class-table-requires c κs = (c .before .pre .few, c .before .pre .proper, refl)
+class-table-requires c κs =
+    let s = c .before in
+    let a = s .args in
+    (s .pre .few, s .pre .proper, framed-proper (a .n) (generatorsOf (a .second)) (codesOf (a .frame)) (s .pre .framed), refl)
 
 least-classes-requires : tie.Need-least-classes-requires
 least-classes-requires c κs =

@@ -1,8 +1,7 @@
 -- `sign_table` meets its contract: the sign equations put into an empty table, for classes that send each generator
 -- into the second group up to a sign.
-use mathlib.Core.Bool.{Bool·beq, not}
 use mathlib.Core.List.{List}
-use mathlib.Core.Path.{ap, subst, _∙_}
+use mathlib.Core.Path.{subst}
 use Prim.Native.Nat.{_-_, _≤_, zero-le, ℕ}
 use native.Mathlib.Nat.{le-antisymm}
 use native.Mathlib.Omega.{arith}
@@ -10,10 +9,10 @@ use lib.ListN.{getD}
 use borrow.Author.Needs.{needs}
 use Rattle.clifford.specs.Vectors.{codesOf}
 use Rattle.clifford_words.specs.internal.Actions.{ActsAs}
-use Rattle.comparison.specs.internal.Equations.{equationsIn, unknown}
+use Rattle.comparison.specs.internal.Equations.{equationOf, equationsIn}
 use Rattle.comparison.specs.internal.Searches.{SentUpToSign, SignTable}
 use Rattle.comparison.specs.internal.Setting.{NoSigns, Setting, noGenerator}
-use Rattle.comparison.proofs.EquationTables.{empty-rows, empty-rows-solved, sign-short}
+use Rattle.comparison.proofs.EquationTables.{empty-rows, empty-rows-solved, few-x, few-z}
 use Rattle.comparison.proofs.SignExtension.{sign-found, sign-more, sign-start}
 use Rattle.comparison_tables.proofs.sign_table.Statement.{statement}
 use Rattle.comparison_tables.proofs.sign_table.Tie as tie
@@ -47,14 +46,8 @@ insert-requires c κs =
     let s = c .before .before .before .before .before .before .before .before .before .before .before .before .before in
     let a = s .args in
     let l = c .before .before .before .before .before .before .before .before .loop in
-    let S = s .pre .0 .0 in
-    let T = l .inv .1 (a .t6) (a .t5) S (s .pre .1 .0) (s .pre .0 .2) (c .before .before .before .before .before .before .before .before .before .before .before .action-of .ensures) in (
-      T .0 .triangular,
-      (λ j k. ap (λ e. unknown e j) (c .before .sign-equation .ensures)
-          ∙ sign-short (a .n) (getD (a .t3) (l .i) noGenerator)
-          (not (Bool·beq (c .before .before .before .before .before .act-on .result .minus) (c .before .before .before .before .element .result .minus)))
-          (S .proper .within (l .i) (c .before .before .before .before .before .before .before .loop-test .taken)) j (omega (arith, S .few, k))),
-    )
+    let T = l .inv .1 (a .t6) (a .t5) (s .pre .0 .0) (s .pre .1 .0) (s .pre .0 .2) (c .before .before .before .before .before .before .before .before .before .before .before .action-of .ensures) in
+    T .0 .triangular
 
 add-i : tie.Need-add-i Inv-loop μ-loop
 add-i c =
@@ -69,12 +62,14 @@ loop-again c =
     let more = c .before .before .before .before .before .before .before .before .loop-test .taken in
     let p = c .before .before .before .before .before .before .act-on in
     let h = c .before .before .before .before .before .element in
-    let e = c .before .before .sign-equation in (
+    let e = c .before .before .sign-equation in
+    let g = getD (a .t3) (l .i) noGenerator in (
       omega (arith, more),
       (λ choice frame S sent bare acts. sign-more (a .n) (a .t3) (a .second) frame S (codesOf choice) sent (l .i) more
-          (equationsIn (l .table)) (e .result) _ (l .inv .1 choice frame S sent bare acts)
+          (equationsIn (l .table)) (equationOf (e .result)) _ (l .inv .1 choice frame S sent bare acts)
           (sign-found (a .n) (a .t3) (a .second) frame S (codesOf choice) sent bare (l .i) more (p .result) (h .result)
-          (p .ensures (codesOf choice) acts) (h .ensures) (e .result) (e .ensures)) (c .insert .ensures)),
+          (p .ensures (codesOf choice) acts) (h .ensures) (equationOf (e .result))
+          (e .ensures (few-z (a .n) (S .few) g (S .proper .within (l .i) more)) (few-x (a .n) (S .few) g (S .proper .within (l .i) more)))) (c .insert .ensures)),
     )
 
 returns : tie.Need-returns Inv-loop μ-loop

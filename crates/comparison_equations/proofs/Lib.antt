@@ -1,0 +1,4 @@
+pub mod SpreadWords
+pub mod PackedParts
+pub mod WordSizes
+pub mod CodeBits
