@@ -1,3 +1,4 @@
 pub mod Exponents
+pub mod FoundWords
 pub mod Vertices
 pub mod Loops

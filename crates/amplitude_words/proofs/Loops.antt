@@ -11,7 +11,6 @@ use borrow.Author.Tests.{le-ltb, leb-false, lt-ltb, not-false, not-true}
 use Rattle.amplitude.specs.internal.KeptTurns.{keptBits, keptTurns, unitOf}
 use Rattle.clifford.specs.Clifford.{bitC, cliffordOf}
 use Rattle.clifford.specs.Vectors.{codesOf}
-use Rattle.graph_settling.proofs.FoundWords.{Found}
 use Rattle.graph_steps.proofs.OutOfPlace.{number-C}
 use Rattle.operations.specs.internal.InPlace.{Unrefused, recordIn}
 use Rattle.operations.proofs.UnrefusedRecords.{unrefused-codes, unrefused-long}
@@ -24,6 +23,7 @@ use Rattle.words.proofs.SearchLaws.{every-at}
 use Rattle.words.proofs.Sums.{fold-ext}
 use Rattle.words.specs.Bits.{_⊕_, bit, fold, parity, wordOf}
 use Rattle.words.specs.Search.{every}
+use Rattle.amplitude_words.proofs.FoundWords.{Found}
 use Rattle.amplitude_words.proofs.Exponents.{exponent-add, exponent-lt}
 
 -- ---- every vertex passes

@@ -1,6 +1,7 @@
 // Graphs as neighbour words, and local complementation on them.
 use words::flip;
 use words::smallest;
+use words::without_smallest;
 ghost use Prim.Native.Nat.{_<_, _≤_};
 ghost use lib.ListN.{length};
 ghost use Rattle.graph.specs.Graph.{Simple, complement};
@@ -18,6 +19,6 @@ pub fn complement_words(neighbours: &mut [u64], a: usize)
     while rest != 0 {
         let i = smallest(rest);
         neighbours[i] = neighbours[i] ^ flip(around, i);
-        rest = flip(rest, i);
+        rest = without_smallest(rest);
     }
 }

@@ -1,5 +1,6 @@
 pub mod TopBit
 pub mod SignBuffers
 pub mod Untouched
-pub mod FoundWords
+pub mod SuspectCodes
 pub mod SettlingLoop
+pub mod Counting

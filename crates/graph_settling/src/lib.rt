@@ -2,19 +2,18 @@
 use operations_rewriting::complement_record;
 use operations_rewriting::pivot_record;
 use operations_rewriting::recode;
-use words::flip;
-use words::flip_where;
 use words::single;
 use words::smallest;
+use words::without_smallest;
 ghost use mathlib.Core.Bool.{_&&_, _||_, not, true};
 ghost use mathlib.Core.Path.{_≡_};
-ghost use Prim.Native.Nat.{ℕ, _+_, _/_, _<_, _^_};
-ghost use lib.Dec.{eqb, leb};
-ghost use lib.ListN.{length};
+ghost use Prim.Native.Nat.{ℕ, _+_, _/_, _<_, _^_, _≤_};
+ghost use lib.Dec.{eqb, leb, ltb};
+ghost use lib.ListN.{getD, length};
 ghost use Rattle.graph_steps.specs.internal.KeptGroups.{Nearer, Normalised, unsettled};
 ghost use Rattle.graph_steps.specs.internal.Steps.{signMoved};
 ghost use Rattle.operations.specs.internal.InPlace.{Rewritten, Unrefused, recordIn};
-ghost use Rattle.words.specs.Bits.{_⊕_, bit, isOdd};
+ghost use Rattle.words.specs.Bits.{bit, digit, isOdd};
 ghost use Rattle.words.specs.Search.{first};
 ghost use Rattle.graph_settling.specs.internal.Watching.{Advanced, Elsewhere, Watched};
 
@@ -34,28 +33,25 @@ fn is_unsettled(word: u64, code: u8, j: usize) -> bool
     (12 <= code) | ((code % 2 == 1) | ((8 <= code) & (word >> j != 0)))
 }
 
-// The word with vertex i besides, if that is out of place. A code below 8 that is even says at once that it is not.
-fn marked(all: u64, word: u64, code: u8, i: usize) -> u64
-    requires { ⌜ i < 64 ⌝ }
-    ensures { λ r. ⌜ ((q : ℕ) → bit r q ≡ bit all q ⊕ (eqb q i
-        && (leb 12 code || (isOdd code || (leb 8 code && not (eqb (word / 2 ^ i) 0)))))) ⌝ }
+// 1 for a code that is odd, or 8 or more: only with such a code can a vertex be out of place.
+fn suspicious(code: u8) -> u64
+    requires { ⌜ code < 24 ⌝ }
+    ensures { λ r. ⌜ r ≡ digit (isOdd code || leb 8 code) ⌝ }
 {
-    if (code % 2 == 1) | (8 <= code) {
-        return flip_where(all, i, is_unsettled(word, code, i));
-    }
-    all
+    (code & 25 != 0) as u64
 }
 
-// The vertices out of place.
-fn out_of_place(neighbours: &[u64], codes: &[u8]) -> u64
-    requires { ⌜ Unrefused (recordIn (now neighbours) (now codes)) ⌝ }
-    ensures { λ r. ⌜ Watched (now (neighbours .entry)) (now (codes .entry)) r ⌝ }
+// The vertices with such codes. No branch looks at a code, since which codes are held cannot be foreseen.
+fn suspects(codes: &[u8]) -> u64
+    requires { ⌜ (length (now codes) ≤ 64) × ((q : ℕ) → getD (now codes) q 0 < 24) ⌝ }
+    ensures { λ r. ⌜ ((q : ℕ) → bit r q ≡ (ltb q (length (now (codes .entry)))
+        && (isOdd (getD (now (codes .entry)) q 0) || leb 8 (getD (now (codes .entry)) q 0)))) ⌝ }
 {
     let mut all = 0;
-    let mut i = 0;
-    while i < neighbours.len() {
-        all = marked(all, neighbours[i], codes[i], i);
-        i += 1;
+    let mut i = codes.len();
+    while 0 < i {
+        i -= 1;
+        all = 2 * all + suspicious(codes[i]);
     }
     all
 }
@@ -106,7 +102,7 @@ fn settle_next(neighbours: &mut [u64], codes: &mut [u8], rest: u64) -> u64
 {
     let j = smallest(rest);
     if !is_unsettled(neighbours[j], codes[j], j) {
-        return flip(rest, j);
+        return without_smallest(rest);
     }
     rest | settle_at(neighbours, codes, j)
 }
@@ -131,6 +127,6 @@ pub fn normalise(neighbours: &mut [u64], codes: &mut [u8])
     ensures { λ r. ⌜ Normalised (now (neighbours .entry)) (now (codes .entry))
         (now (neighbours .exit)) (now (codes .exit)) ⌝ }
 {
-    let touched = out_of_place(neighbours, codes);
+    let touched = suspects(codes);
     normalise_from(neighbours, codes, touched);
 }

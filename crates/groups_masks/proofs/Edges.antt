@@ -1,8 +1,10 @@
 -- Edges that leave a group, looked for vertex by vertex.
-use mathlib.Core.Bool.{_&&_, Bool, cond, false, not, true, true≢false}
+use mathlib.Core.Bool.{_&&_, Bool, cond, false, not, true, true≢false, _||_}
 use mathlib.Core.List.{List, []}
-use mathlib.Core.Path.{ap, refl, sym, _∙_, _≡_}
-use Prim.Native.Nat.{_<_, _^_, ℕ, _≤_}
+use mathlib.Core.Path.{ap, ap₂, refl, sym, _∙_, _≡_}
+use Prim.Native.Nat.{_+_, _<_, _^_, ℕ, _≤_}
+use native.Mathlib.Nat.{add-suc, add-zero}
+use native.Mathlib.Omega.{arith}
 use lib.Bits.{bitAnd}
 use lib.Dec.{eqb}
 use lib.ListN.{getD}
@@ -16,6 +18,17 @@ use Rattle.words.proofs.Finite.{bits}
 use Rattle.words.proofs.SearchLaws.{some-ext, some-false, some-true}
 use Rattle.words.specs.Bits.{bit, sameBit, wordOf}
 use Rattle.words.specs.Search.{first, some}
+
+-- ---- searches without an exit
+pub some-to-none : (n : ℕ) (f : ℕ → Bool) → SomeTo 0 n f false
+unfolding some
+some-to-none n f = record { upto = omega arith; held = refl }
+
+pub some-to-one : (i n : ℕ) (f : ℕ → Bool) (found here : Bool) → i < n → here ≡ f i → SomeTo i n f found
+    → SomeTo (i + 1) n f (found || here)
+unfolding some
+some-to-one i n f found here l e S =
+    record { upto = omega arith; held = rw (add-suc, add-zero) (ap₂ _||_ (S .held) e) }
 
 -- words with a bit in common
 pub common-bit : (a b : ℕ) → b < 2 ^ 64 → not (eqb (bitAnd a b) 0) ≡ some 64 (λ k. bit a k && bit b k)

@@ -1,9 +1,9 @@
 // CZ on a record of reduced form, in its buffers: edges between two sets of vertices are flipped.
 use operations_rewriting::put_before;
-use words::flip;
 use words::has;
 use words::single;
 use words::smallest;
+use words::without_smallest;
 ghost use mathlib.Core.Bool.{_&&_, cond};
 ghost use mathlib.Core.Logic.{_≢_};
 ghost use mathlib.Core.Path.{_≡_};
@@ -71,7 +71,7 @@ pub fn join_sets(neighbours: &mut [u64], to_a: u64, to_b: u64)
     while rest != 0 {
         let i = smallest(rest);
         neighbours[i] = joined_word(neighbours[i], to_a, to_b, i);
-        rest = flip(rest, i);
+        rest = without_smallest(rest);
     }
 }
 

@@ -1,8 +1,8 @@
 // Complements and pivots of a record in its buffers.
 use graph::complement_words;
 use operations::compose;
-use words::flip;
 use words::smallest;
+use words::without_smallest;
 ghost use mathlib.Core.Bool.{cond};
 ghost use mathlib.Core.Path.{_≡_};
 ghost use Prim.Native.Nat.{ℕ, _<_, _≤_, _^_};
@@ -27,7 +27,7 @@ pub fn put_before(codes: &mut [u8], word: u64, k: u8)
     while rest != 0 {
         let i = smallest(rest);
         codes[i] = compose(k, codes[i]);
-        rest = flip(rest, i);
+        rest = without_smallest(rest);
     }
 }
 

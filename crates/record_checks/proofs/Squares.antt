@@ -1,20 +1,21 @@
 -- A graph is simple exactly if its square of bits is its own transpose and has no bit on the diagonal.
-use mathlib.Core.Bool.{_&&_, Bool, and-true, false, not, true, true≢false, _||_}
+use mathlib.Core.Bool.{_&&_, Bool, and-false, and-true, false, not, or-false, true, true≢false, _||_}
 use mathlib.Core.List.{List}
 use mathlib.Core.Path.{ap, ap₂, refl, subst, sym, _∙_, _≡_}
-use Prim.Native.Nat.{_+_, _-_, _<_, _^_, suc, zero, ℕ, _≤_}
+use Prim.Native.Nat.{_%_, _*_, _+_, _-_, _<_, _^_, suc, zero, ℕ, _≤_}
 use native.Mathlib.Decide.{ℕ-discrete}
-use native.Mathlib.Nat.{add-suc, add-zero, not-suc-le-zero}
+use native.Mathlib.Nat.{add-suc, add-zero, mod-eq-of-lt, not-suc-le-zero}
 use native.Mathlib.Omega.{arith}
 use lib.Bits.{bitAnd, bitOr, bitXor}
-use lib.Dec.{eqb}
+use lib.Dec.{eqb, ltb}
 use lib.ListN.{getD, length, length-set, set}
-use lib.Pow.{ones-lt, pow-pos}
+use lib.Pow.{ones-lt, pow-add, pow-lt, pow-pos}
 use lib.Seq.{getD-set-other, getD-set-same}
-use borrow.Author.Tests.{eq-eqb, ne-eqb}
+use borrow.Author.Tests.{eq-eqb, le-ltb, lt-ltb, ne-eqb}
 use Rattle.record.specs.Lent.{notSimple}
-use Rattle.words.proofs.BitLaws.{and-lt-right, bit-and, bit-ext, bit-mask, bit-or, bit-xor, zero-bit}
+use Rattle.words.proofs.BitLaws.{and-lt-right, bit-and, bit-ext, bit-mask, bit-or, bit-single, bit-xor, zero-bit}
 use Rattle.words.proofs.Finite.{bits}
+use Rattle.words.proofs.Places.{other-place, same-place, upto-other}
 use Rattle.words.proofs.SearchLaws.{some-ext, some-false, some-true}
 use Rattle.words.specs.Bits.{bit, sameBit, _⊕_}
 use Rattle.words.specs.Search.{first, some}
@@ -51,20 +52,62 @@ copied-all i n words rows l C =
     let whole : i ≡ n = omega arith in
     subst (λ k. Copied k words rows) whole (C .copied)
 
+-- ---- the diagonal: the bits of the first i words at their own places, and the place of the next
+pub record OwnTo (i n : ℕ) (words rows : List ℕ) (own place : ℕ) : Type 0 where
+  pub copied : CopiedTo i n words rows
+  pub next : i < 64 → place ≡ 2 ^ i
+  pub held : (c : ℕ) → bit own c ≡ (ltb c i && bit (getD words c 0) c)
+
+pub own-none : (n : ℕ) (words rows : List ℕ) → length rows ≡ 64 → OwnTo 0 n words rows 0 1
+own-none n words rows e =
+    record {
+      copied = copied-none n words rows e;
+      next = λ l. refl;
+      held = λ c. zero-bit c ∙ ap (λ b. b && bit (getD words c 0) c) (sym (le-ltb c 0 (omega arith)));
+    }
+
+-- the place moves on by a shift, which loses nothing below the last
+pub next-place : (i place : ℕ) → i + 1 < 64 → place ≡ 2 ^ i → place * 2 % 18446744073709551616 ≡ 2 ^ (i + 1)
+next-place i place l e =
+    let doubled : place * 2 ≡ 2 ^ (i + 1) = ap (λ v. v * 2) e ∙ sym (pow-add 2 i 1) in
+    ap (λ v. v % 18446744073709551616) doubled ∙ mod-eq-of-lt (pow-lt l)
+
+pub own-one : (i n : ℕ) (words rows : List ℕ) (own place place′ : ℕ) → n ≤ 64 → i < n → OwnTo i n words rows own place
+    → (i + 1 < 64 → place ≡ 2 ^ i → place′ ≡ 2 ^ (i + 1))
+    → OwnTo (i + 1) n words (set rows i (getD words i 0)) (bitOr own (bitAnd (getD words i 0) place)) place′
+own-one i n words rows own place place′ small l S moved =
+    record {
+      copied = copied-one i n words rows small l (S .copied);
+      next = λ h. moved h (S .next (omega arith));
+      held = λ c. bit-or own (bitAnd (getD words i 0) place) c
+          ∙ ap₂ _||_ (S .held c) (bit-and (getD words i 0) place c
+          ∙ ap (λ w. bit (getD words i 0) c && bit w c) (S .next (omega arith))
+          ∙ ap (λ b. bit (getD words i 0) c && b) (bit-single i c))
+          ∙ at c (ℕ-discrete c i);
+    }
+  where
+    at : (c : ℕ) → Dec (c ≡ i) → ((ltb c i && bit (getD words c 0) c) || (bit (getD words i 0) c && eqb c i))
+        ≡ (ltb c (i + 1) && bit (getD words c 0) c)
+    at c (yes e) = subst (λ c. ((ltb c i && bit (getD words c 0) c) || (bit (getD words i 0) c && eqb c i))
+        ≡ (ltb c (i + 1) && bit (getD words c 0) c)) (sym e)
+        (ap₂ (λ u v. (u && bit (getD words i 0) i) || (bit (getD words i 0) i && v)) (le-ltb i i (omega arith)) (same-place i)
+        ∙ and-true (bit (getD words i 0) i)
+        ∙ ap (λ b. b && bit (getD words i 0) i) (sym (lt-ltb i (i + 1) (omega arith))))
+    at c (no d) = ap₂ (λ u v. (u && bit (getD words c 0) c) || (bit (getD words i 0) c && v)) (sym (upto-other c i d)) (other-place d)
+        ∙ ap (λ b. (ltb c (i + 1) && bit (getD words c 0) c) || b) (and-false (bit (getD words i 0) c))
+        ∙ or-false (ltb c (i + 1) && bit (getD words c 0) c)
+
+pub own-all : (i n : ℕ) (words rows : List ℕ) (own place : ℕ) → n ≤ i → OwnTo i n words rows own place
+    → (c : ℕ) → bit own c ≡ (ltb c n && bit (getD words c 0) c)
+own-all i n words rows own place l S c =
+    let upto : i ≤ n = S .copied .upto in
+    let whole : i ≡ n = omega arith in
+    S .held c ∙ ap (λ k. ltb c k && bit (getD words c 0) c) whole
+
 -- ---- searches without an exit
 pub record SomeTo (i n : ℕ) (f : ℕ → Bool) (found : Bool) : Type 0 where
   pub upto : i ≤ n
   pub held : found ≡ some i f
-
-pub some-to-none : (n : ℕ) (f : ℕ → Bool) → SomeTo 0 n f false
-unfolding some
-some-to-none n f = record { upto = omega arith; held = refl }
-
-pub some-to-one : (i n : ℕ) (f : ℕ → Bool) (found here : Bool) → i < n → here ≡ f i → SomeTo i n f found
-    → SomeTo (i + 1) n f (found || here)
-unfolding some
-some-to-one i n f found here l e S =
-    record { upto = omega arith; held = rw (add-suc, add-zero) (ap₂ _||_ (S .held) e) }
 
 pub some-to-all : (i n : ℕ) (f : ℕ → Bool) (found : Bool) → n ≤ i → SomeTo i n f found → found ≡ some n f
 some-to-all i n f found l S =
@@ -109,31 +152,22 @@ masked-some n w = go (some n (bit w)) refl
         (and-lt-right n w (2 ^ n - 1) (ones-lt n)) (pow-pos n)
         (λ q l. left q l ∙ some-false n (bit w) e q l ∙ sym (zero-bit q))))
 
--- two searches in one
-some-or : (n : ℕ) (f g : ℕ → Bool) → (some n f || some n g) ≡ some n (λ i. f i || g i)
-unfolding some
-some-or zero f g = refl
-some-or (suc n) f g = four (some n f) (f n) (some n g) (g n) ∙ ap (λ v. v || (f n || g n)) (some-or n f g)
-  where
-    four : (a b c d : Bool) → ((a || b) || (c || d)) ≡ ((a || c) || (b || d))
-    four = bits 4 (λ a b c d. (a || b) || (c || d)) (λ a b c d. (a || c) || (b || d)) tt
-
 -- the transpose of the copy is that of the words
 pub turned-back : (n : ℕ) (words rows rows′ : List ℕ) → Copied n words rows
     → ((r c : ℕ) → r < n → c < n → bit (getD rows′ r 0) c ≡ bit (getD rows c 0) r)
     → (r c : ℕ) → r < n → c < n → bit (getD rows′ r 0) c ≡ bit (getD words c 0) r
 turned-back n words rows rows′ C turned r c hr hc = turned r c hr hc ∙ ap (λ w. bit w r) (C .same c hc)
 
-pub square-verdict : (n : ℕ) (words rows : List ℕ) (w m : ℕ) (own : Bool)
+pub square-verdict : (n : ℕ) (words rows : List ℕ) (own w m : ℕ)
     → ((r c : ℕ) → r < n → c < n → bit (getD rows r 0) c ≡ bit (getD words c 0) r)
-    → own ≡ some n (λ i. bit (getD words i 0) i)
+    → ((c : ℕ) → bit own c ≡ (ltb c n && bit (getD words c 0) c))
     → ((c : ℕ) → bit w c ≡ some n (differAt words rows c)) → m ≡ 2 ^ n - 1
-    → (own || not (eqb (bitAnd w m) 0)) ≡ notSimple n (λ j. bit (getD words j 0))
+    → not (eqb (bitAnd (bitOr own w) m) 0) ≡ notSimple n (λ j. bit (getD words j 0))
 unfolding notSimple
-square-verdict n words rows w m own turned eo ew em =
-    ap₂ _||_ eo (ap (λ k. not (eqb (bitAnd w k) 0)) em ∙ masked-some n w ∙ some-ext n _ _ column)
-    ∙ some-or n (λ i. bit (getD words i 0) i)
-    (λ i. some n (λ j. not (sameBit (bit (getD words i 0) j) (bit (getD words j 0) i))))
+square-verdict n words rows own w m turned eo ew em =
+    ap (λ k. not (eqb (bitAnd (bitOr own w) k) 0)) em ∙ masked-some n (bitOr own w)
+    ∙ some-ext n _ _ (λ i l. bit-or own w i
+    ∙ ap₂ _||_ (eo i ∙ ap (λ b. b && bit (getD words i 0) i) (lt-ltb i n l)) (column i l))
   where
     unlike : (a b : Bool) → b ⊕ a ≡ not (sameBit a b)
     unlike = bits 2 (λ a b. b ⊕ a) (λ a b. not (sameBit a b)) tt

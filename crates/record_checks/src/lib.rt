@@ -3,10 +3,11 @@ use buffers::bad_count;
 use buffers::reaches;
 use buffers::strays;
 use transposition::transpose;
-use words::has;
 use words::mask;
+ghost use mathlib.Core.Bool.{_&&_};
 ghost use mathlib.Core.Path.{_≡_};
 ghost use Prim.Native.Nat.{ℕ, _≤_};
+ghost use lib.Dec.{ltb};
 ghost use lib.ListN.{getD, length};
 ghost use Rattle.buffers.specs.Refusals.{firstFitting};
 ghost use Rattle.record.specs.Lent.{notSimple, recordLengths, recordLines};
@@ -25,16 +26,23 @@ fn record_lengths(n: usize, neighbours: &[u64], codes: &[u8]) -> bool
     (neighbours.len() != n) | (codes.len() != n)
 }
 
-// The first n words, copied into a square.
-fn square_of(n: usize, words: &[u64], rows: &mut [u64; 64])
+// The first n words, copied into a square: answers the vertices that are their own neighbours.
+fn square_of(n: usize, words: &[u64], rows: &mut [u64; 64]) -> u64
     requires { ⌜ (n ≤ 64) × (length (now words) ≡ n) × (length (now rows) ≡ 64) ⌝ }
     ensures { λ r. ⌜ Copied n (now (words .entry)) (now (rows .exit)) ⌝ }
+    ensures { λ r. ⌜ ((c : ℕ) → bit r c ≡ (ltb c n && bit (getD (now (words .entry)) c 0) c)) ⌝ }
 {
+    let mut own = 0;
+    let mut place = 1;
     let mut i = 0;
     while i < n {
-        rows[i] = words[i];
+        let word = words[i];
+        own = own | (word & place);
+        rows[i] = word;
+        place = place << 1;
         i += 1;
     }
+    own
 }
 
 // The columns at which one of the first n words differs from its row.
@@ -52,29 +60,15 @@ fn unequal(n: usize, words: &[u64], rows: &[u64; 64]) -> u64
     all
 }
 
-// Whether some vertex is its own neighbour.
-fn own_neighbour(n: usize, neighbours: &[u64]) -> bool
-    requires { ⌜ (n ≤ 64) × (length (now neighbours) ≡ n) ⌝ }
-    ensures { λ r. ⌜ r ≡ some n (λ i. bit (getD (now (neighbours .entry)) i 0) i) ⌝ }
-{
-    let mut found = false;
-    let mut i = 0;
-    while i < n {
-        found = found | has(neighbours[i], i);
-        i += 1;
-    }
-    found
-}
-
 // Line 7: the graph is not simple. Its square of bits is compared with the transpose.
 pub fn not_simple(n: usize, neighbours: &[u64]) -> bool
     requires { ⌜ (1 ≤ n) × (n ≤ 64) × (length (now neighbours) ≡ n) ⌝ }
     ensures { λ r. ⌜ r ≡ notSimple n (λ j. bit (getD (now (neighbours .entry)) j 0)) ⌝ }
 {
     let mut rows = [0; 64];
-    square_of(n, neighbours, &mut rows);
+    let own = square_of(n, neighbours, &mut rows);
     transpose(&mut rows, n);
-    own_neighbour(n, neighbours) | (unequal(n, neighbours, &rows) & mask(n) != 0)
+    (own | unequal(n, neighbours, &rows)) & mask(n) != 0
 }
 
 // The first line of a record that holds; 0 where none does. `others`: a further buffer of the call has a wrong

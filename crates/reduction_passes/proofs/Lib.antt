@@ -5,4 +5,3 @@ pub mod Passing
 pub mod Relating
 pub mod Storing
 pub mod Rotating
-pub mod Dropping

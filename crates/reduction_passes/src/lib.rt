@@ -9,6 +9,7 @@ use words::odd;
 use words::put_bit;
 use words::single;
 use words::smallest;
+use words::without_smallest;
 ghost use mathlib.Core.Bool.{_&&_, false, true};
 ghost use mathlib.Core.List.{[]};
 ghost use mathlib.Core.Path.{_≡_};
@@ -85,14 +86,6 @@ fn minus_word(z: u64, x: u64, z2: u64, x2: u64) -> u64
     } else {
         z & x2
     }
-}
-
-// A word without its smallest set bit.
-fn without_smallest(w: u64) -> u64
-    requires { ⌜ (w ≡ 0 → ⊥) ⌝ }
-    ensures { λ r. ⌜ r ≡ bitXor w (2 ^ trailingZeros 64 w) ⌝ }
-{
-    w & (w - 1)
 }
 
 // Row a multiplied into each row that the word named names, in place.

@@ -6,3 +6,4 @@ pub mod BitLaws
 pub mod OnesLaws
 pub mod Places
 pub mod Trailing
+pub mod Dropping

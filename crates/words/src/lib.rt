@@ -95,3 +95,11 @@ pub fn smallest(w: u64) -> usize
 {
     u64::trailing_zeros(w) as usize
 }
+
+// w without its smallest set bit: sooner there than a flip, which waits for the number of the bit.
+pub fn without_smallest(w: u64) -> u64
+    requires { ⌜ (w ≡ 0 → ⊥) ⌝ }
+    ensures { λ r. ⌜ r ≡ bitXor w (2 ^ trailingZeros 64 w) ⌝ }
+{
+    w & (w - 1)
+}

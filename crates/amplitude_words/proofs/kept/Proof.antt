@@ -6,7 +6,7 @@ use lib.ListN.{length}
 use borrow.Author.Needs.{needs}
 use Rattle.clifford.specs.Clifford.{bitC}
 use Rattle.clifford.specs.Vectors.{codesOf}
-use Rattle.graph_settling.proofs.FoundWords.{Found, found-none, found-one}
+use Rattle.amplitude_words.proofs.FoundWords.{Found, found-none, found-one}
 use Rattle.amplitude_words.proofs.Loops.{found-word}
 use Rattle.amplitude_words.proofs.Vertices.{low-code}
 use Rattle.amplitude_words.proofs.kept.Statement.{statement}

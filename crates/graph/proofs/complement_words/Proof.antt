@@ -3,6 +3,7 @@
 use native.Mathlib.Omega.{arith}
 use borrow.Author.Needs.{needs}
 use Rattle.buffers.proofs.OverSets.{next-in, next-less, next-short}
+use Rattle.words.proofs.Dropping.{dropped-at}
 use Rattle.graph.proofs.ComplementWords.{Complementing, complement-end, complement-more, complement-start}
 use Rattle.graph.proofs.complement_words.Statement.{statement}
 use Rattle.graph.proofs.complement_words.Tie as tie
@@ -61,13 +62,8 @@ slice-write-neighbours c =
     next-in _ _ _ _ _ (inside .before .loop .inv) (start .pre .0 .0) (inside .loop-test .taken) _
     (at-smallest .smallest .ensures .0)
 
-flip-requires-2 : tie.Need-flip-requires-2 Inv-loop μ-loop
-flip-requires-2 c κs =
-    let at-smallest = c .before .before in
-    let inside = at-smallest .before in
-    let start = inside .before .before .before .before in
-    next-short _ _ _ _ _ (inside .before .loop .inv) (start .pre .0 .0) (inside .loop-test .taken) _
-    (at-smallest .smallest .ensures .0)
+without-smallest-requires : tie.Need-without-smallest-requires Inv-loop μ-loop
+without-smallest-requires c κs = c .before .before .before .loop-test .taken
 
 loop-less : tie.Need-loop-less Inv-loop μ-loop
 loop-less c =
@@ -75,7 +71,8 @@ loop-less c =
     let inside = at-smallest .before in
     let start = inside .before .before .before .before in
     next-less _ _ _ _ _ (inside .before .loop .inv) (start .pre .0 .0) (inside .loop-test .taken) _
-    (at-smallest .smallest .ensures .0) _ (c .flip2 .ensures)
+    (at-smallest .smallest .ensures .0) _
+    (dropped-at _ _ _ (c .without-smallest .ensures) (at-smallest .smallest .ensures .0))
 
 loop-again : tie.Need-loop-again Inv-loop μ-loop
 loop-again c =
@@ -83,7 +80,8 @@ loop-again c =
     let inside = at-smallest .before in
     let start = inside .before .before .before .before in
     complement-more _ (start .args .a) _ _ (inside .before .loop .inv) (start .pre .0 .0) (inside .loop-test .taken) _
-    (at-smallest .smallest .ensures .0) _ _ (c .before .flip .ensures) (c .flip2 .ensures)
+    (at-smallest .smallest .ensures .0) _ _ (c .before .flip .ensures)
+    (dropped-at _ _ _ (c .without-smallest .ensures) (at-smallest .smallest .ensures .0))
 
 returns : tie.Need-returns Inv-loop μ-loop
 returns c =
@@ -94,5 +92,5 @@ pub complement-words-spec : {M : Type 1} → statement M
 complement-words-spec =
     tie.close
     (tie.spec Inv-loop μ-loop (λ c. search needs) (λ c. search needs) loop-holds (λ c κs. search needs) mul-neighbours
-    slice-read-neighbours flip-requires mul-neighbours-2 slice-write-neighbours flip-requires-2 loop-less loop-again
+    slice-read-neighbours flip-requires mul-neighbours-2 slice-write-neighbours without-smallest-requires loop-less loop-again
     (λ c. search needs) returns)

@@ -5,6 +5,7 @@ use native.Mathlib.Omega.{arith}
 use borrow.Author.Needs.{needs}
 use borrow.Author.Tests.{not-false, not-true}
 use Rattle.operations.proofs.UnrefusedRecords.{unrefused-place, unrefused-short}
+use Rattle.words.proofs.Dropping.{dropped-at}
 use Rattle.graph_settling.proofs.SettlingLoop.{next-below, next-dropped, next-first, next-settled}
 use Rattle.graph_settling.proofs.settle_next.Statement.{statement}
 use Rattle.graph_settling.proofs.settle_next.Tie as tie
@@ -31,15 +32,8 @@ is-unsettled-requires c κs =
       next-below _ _ (start .0) _ (start .1 .0) (start .1 .1) _ (at .smallest .ensures .0),
     )
 
-flip-requires : tie.Need-flip-requires
-flip-requires c κs =
-    let at = c .before .before .before .before in
-    let start = at .before .before .before .pre in
-    omega (
-      arith,
-      unrefused-short _ _ (start .0),
-      next-below _ _ (start .0) _ (start .1 .0) (start .1 .1) _ (at .smallest .ensures .0),
-    )
+without-smallest-requires : tie.Need-without-smallest-requires
+without-smallest-requires c κs = c .before .before .before .before .before .before .before .pre .1 .1
 
 returns : tie.Need-returns
 returns c =
@@ -48,7 +42,8 @@ returns c =
     let at = looked .before .before .before in
     let start = at .before .before .before .pre in
     next-dropped _ _ (start .0) _ (start .1 .0) (start .1 .1) _ (at .smallest .ensures .0)
-    (sym (looked .is-unsettled .ensures) ∙ not-true _ (branch .if1 .taken)) _ (c .flip .ensures)
+    (sym (looked .is-unsettled .ensures) ∙ not-true _ (branch .if1 .taken)) _
+    (dropped-at _ _ _ (c .without-smallest .ensures) (at .smallest .ensures .0))
 
 settle-at-requires : tie.Need-settle-at-requires
 settle-at-requires c κs =
@@ -76,4 +71,4 @@ pub settle-next-spec : {M : Type 1} → statement M
 settle-next-spec =
     tie.close
     (tie.spec (λ c κs. search needs) (λ c. search needs) slice-read-is-unsettled slice-read-is-unsettled-2
-    is-unsettled-requires flip-requires returns settle-at-requires (λ c. search needs) (λ c. search needs) returns-2)
+    is-unsettled-requires without-smallest-requires returns settle-at-requires (λ c. search needs) (λ c. search needs) returns-2)

@@ -2,8 +2,8 @@
 use Prim.Native.Nat.{_-_}
 use native.Mathlib.Omega.{arith}
 use borrow.Author.Needs.{needs}
-use Rattle.record_checks.proofs.Squares.{SomeTo, some-to-none, some-to-one}
-use Rattle.groups_masks.proofs.Edges.{crossing-all, crossing-here, crossingAt}
+use Rattle.record_checks.proofs.Squares.{SomeTo}
+use Rattle.groups_masks.proofs.Edges.{crossing-all, crossing-here, crossingAt, some-to-none, some-to-one}
 use Rattle.groups_masks.proofs.crosses.Statement.{statement}
 use Rattle.groups_masks.proofs.crosses.Tie as tie
 

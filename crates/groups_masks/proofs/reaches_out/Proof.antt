@@ -2,8 +2,8 @@
 use Prim.Native.Nat.{_-_}
 use native.Mathlib.Omega.{arith}
 use borrow.Author.Needs.{needs}
-use Rattle.record_checks.proofs.Squares.{SomeTo, some-to-none, some-to-one}
-use Rattle.groups_masks.proofs.Edges.{out-all, out-here, outAt}
+use Rattle.record_checks.proofs.Squares.{SomeTo}
+use Rattle.groups_masks.proofs.Edges.{out-all, out-here, outAt, some-to-none, some-to-one}
 use Rattle.groups_masks.proofs.reaches_out.Statement.{statement}
 use Rattle.groups_masks.proofs.reaches_out.Tie as tie
 

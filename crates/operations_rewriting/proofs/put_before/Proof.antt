@@ -2,7 +2,8 @@
 use mathlib.Core.Path.{subst, sym}
 use Prim.Native.Nat.{_<_}
 use borrow.Author.Needs.{needs}
-use Rattle.buffers.proofs.OverSets.{next-in, next-less, next-named, next-short}
+use Rattle.buffers.proofs.OverSets.{next-in, next-less, next-named}
+use Rattle.words.proofs.Dropping.{dropped-at}
 use Rattle.operations_rewriting.proofs.PuttingBefore.{Putting, put-end, put-more, put-start}
 use Rattle.operations_rewriting.proofs.put_before.Statement.{statement}
 use Rattle.operations_rewriting.proofs.put_before.Tie as tie
@@ -47,13 +48,8 @@ slice-write-codes c =
     next-in _ _ _ _ _ (inside .before .loop .inv) (start .pre .0 .0) (inside .loop-test .taken) _
     (at-smallest .smallest .ensures .0)
 
-flip-requires : tie.Need-flip-requires Inv-loop μ-loop
-flip-requires c κs =
-    let at-smallest = c .before .before in
-    let inside = at-smallest .before in
-    let start = inside .before .before .before in
-    next-short _ _ _ _ _ (inside .before .loop .inv) (start .pre .0 .0) (inside .loop-test .taken) _
-    (at-smallest .smallest .ensures .0)
+without-smallest-requires : tie.Need-without-smallest-requires Inv-loop μ-loop
+without-smallest-requires c κs = c .before .before .before .loop-test .taken
 
 loop-less : tie.Need-loop-less Inv-loop μ-loop
 loop-less c =
@@ -61,7 +57,8 @@ loop-less c =
     let inside = at-smallest .before in
     let start = inside .before .before .before in
     next-less _ _ _ _ _ (inside .before .loop .inv) (start .pre .0 .0) (inside .loop-test .taken) _
-    (at-smallest .smallest .ensures .0) _ (c .flip .ensures)
+    (at-smallest .smallest .ensures .0) _
+    (dropped-at _ _ _ (c .without-smallest .ensures) (at-smallest .smallest .ensures .0))
 
 loop-again : tie.Need-loop-again Inv-loop μ-loop
 loop-again c =
@@ -70,7 +67,7 @@ loop-again c =
     let start = inside .before .before .before in
     put-more _ (start .args .word) (start .args .k) _ _ (inside .before .loop .inv) (start .pre .0 .0)
     (inside .loop-test .taken) _ (at-smallest .smallest .ensures .0) _ _ (c .before .compose .ensures .0)
-    (c .flip .ensures)
+    (dropped-at _ _ _ (c .without-smallest .ensures) (at-smallest .smallest .ensures .0))
 
 returns : tie.Need-returns Inv-loop μ-loop
 returns c =
@@ -81,4 +78,4 @@ pub put-before-spec : {M : Type 1} → statement M
 put-before-spec =
     tie.close
     (tie.spec Inv-loop μ-loop loop-holds (λ c κs. search needs) slice-read-compose compose-requires slice-write-codes
-    flip-requires loop-less loop-again (λ c. search needs) returns)
+    without-smallest-requires loop-less loop-again (λ c. search needs) returns)

@@ -7,16 +7,15 @@ use Rattle.record_checks.proofs.not_simple.Tie as tie
 returns : tie.Need-returns
 returns c =
     let at-unequal = c .before in
-    let at-own = at-unequal .before .before in
-    let at-transpose = at-own .before in
+    let at-transpose = at-unequal .before .before in
     let at-square = at-transpose .before .before in
     let a = at-square .before .before .before .args in
     square-verdict (a .n) (a .neighbours .now) (at-transpose .transpose .last .0) _ _ _
-    (turned-back (a .n) (a .neighbours .now) (at-square .square-of .last .1 .1 .0) (at-transpose .transpose .last .0) (at-square .square-of .ensures) (at-transpose .transpose .ensures .turned))
-    (at-own .own-neighbour .ensures) (at-unequal .unequal .ensures) (c .mask .ensures)
+    (turned-back (a .n) (a .neighbours .now) (at-square .square-of .last .1 .1 .0) (at-transpose .transpose .last .0)
+    (at-square .square-of .ensures .0) (at-transpose .transpose .ensures .turned))
+    (at-square .square-of .ensures .1) (at-unequal .unequal .ensures) (c .mask .ensures)
 
 pub not-simple-spec : {M : Type 1} → statement M
 not-simple-spec =
     tie.close
-    (tie.spec (λ c κs. search needs) (λ c κs. search needs) (λ c κs. search needs) (λ c κs. search needs)
-    (λ c κs. search needs) returns)
+    (tie.spec (λ c κs. search needs) (λ c κs. search needs) (λ c κs. search needs) (λ c κs. search needs) returns)

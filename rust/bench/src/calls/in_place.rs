@@ -3,7 +3,7 @@
 use super::Line;
 use crate::operation::Operation;
 use crate::seeded::{Circuit, Gate, Random};
-use crate::timing::Ready;
+use crate::timing::{medians, Ready};
 use sukhlent::{reduce, GeneratorList, Record};
 use tableau::{Measured, Tableau};
 
@@ -21,8 +21,15 @@ pub struct Case {
     operation: Operation,
 }
 
-/// A call, what it is made on, and how a case is made.
-pub type Kind = (&'static str, &'static str, fn(&mut Random) -> Case);
+/// How a state is drawn.
+type Draw<'a> = &'a dyn Fn(&mut Random) -> Tableau;
+
+/// A call, what it is made on, and how a case is made of the states drawn.
+pub type Kind = (
+    &'static str,
+    &'static str,
+    fn(&mut Random, Draw<'_>) -> Case,
+);
 
 /// The timed calls.
 pub const KINDS: [Kind; 4] = [
@@ -32,12 +39,31 @@ pub const KINDS: [Kind; 4] = [
     ("measure", "random states, determined", determined),
 ];
 
-/// The line of a kind of calls.
+/// The line of a kind of calls on random states.
 pub fn line((call, name, case): Kind) -> Line {
-    let mut random = Random::new(N as u64);
-    let cases: Vec<Case> = (0..STATES).map(|_| case(&mut random)).collect();
-    cases.iter().for_each(assert_same_answers);
+    let cases = cases(case, &generic);
     Line::measured((call, N, name), &cases, AT_ONCE, [engine, in_plain_rust])
+}
+
+/// The median times of a kind of calls on graphs of a mean degree, by the engine and by the tableau.
+pub fn at_degree((_, _, case): Kind, degree: f64) -> [f64; 2] {
+    let cases = cases(case, &|random| graph_state(random, degree));
+    medians(&cases, AT_ONCE, [engine, in_plain_rust])
+}
+
+/// The median time of a gate that is refused by 8, and so of the check alone, on graphs of a mean degree.
+pub fn check_at_degree(degree: f64) -> f64 {
+    let cases = cases(gate, &|random| graph_state(random, degree));
+    let [time] = medians(&cases, AT_ONCE, [refused]);
+    time
+}
+
+/// Seeded cases, on which both answer the same.
+fn cases(case: fn(&mut Random, Draw<'_>) -> Case, draw: Draw<'_>) -> Vec<Case> {
+    let mut random = Random::new(N as u64);
+    let cases: Vec<Case> = (0..STATES).map(|_| case(&mut random, draw)).collect();
+    cases.iter().for_each(assert_same_answers);
+    cases
 }
 
 /// The calls of a sample on copies of the records.
@@ -49,6 +75,20 @@ fn engine(cases: &[Case]) -> Ready<'_> {
     Box::new(move || {
         copies.iter_mut().fold(0, |sum, (record, operation)| {
             sum ^ digest(on_record(record, *operation)) ^ record.neighbours[N - 1]
+        })
+    })
+}
+
+/// A gate on a qubit that is not there, for each record of a sample.
+fn refused(cases: &[Case]) -> Ready<'_> {
+    let mut copies: Vec<_> = cases.iter().map(|case| case.record.clone()).collect();
+    Box::new(move || {
+        let gate = Operation::Gate(N as u64, 0);
+        copies.iter_mut().fold(0, |sum, record| {
+            let (neighbours, codes) = (&mut record.neighbours, &mut record.codes);
+            let number = gate.call(N as u64, neighbours, codes, &mut 0, &mut 0, &mut 0);
+            assert_eq!(number, 8);
+            sum ^ u64::from(number)
         })
     })
 }
@@ -124,19 +164,19 @@ fn case(tableau: Tableau, operation: Operation) -> Case {
     }
 }
 
-fn gate(random: &mut Random) -> Case {
+fn gate(random: &mut Random, draw: Draw<'_>) -> Case {
     let operation = Operation::Gate(random.below(N) as u64, random.below(24) as u8);
-    case(generic(random), operation)
+    case(draw(random), operation)
 }
 
-fn cz(random: &mut Random) -> Case {
+fn cz(random: &mut Random, draw: Draw<'_>) -> Case {
     let (a, b) = random.pair_below(N);
-    case(generic(random), Operation::Cz(a as u64, b as u64))
+    case(draw(random), Operation::Cz(a as u64, b as u64))
 }
 
 /// A measurement whose outcome is not determined.
-fn chosen(random: &mut Random) -> Case {
-    let tableau = generic(random);
+fn chosen(random: &mut Random, draw: Draw<'_>) -> Case {
+    let tableau = draw(random);
     loop {
         let (pauli, q, bit) = (1 + random.below(3), random.below(N), random.below(2));
         let measured = tableau.clone().measure(pauli as u8, q, bit as u8);
@@ -148,12 +188,12 @@ fn chosen(random: &mut Random) -> Case {
 }
 
 /// The same measurement once more.
-fn determined(random: &mut Random) -> Case {
+fn determined(random: &mut Random, draw: Draw<'_>) -> Case {
     let Case {
         mut tableau,
         operation,
         ..
-    } = chosen(random);
+    } = chosen(random, draw);
     on_tableau(&mut tableau, operation);
     case(tableau, operation)
 }
@@ -171,6 +211,26 @@ fn generic(random: &mut Random) -> Tableau {
             Gate::S(q) => tableau.gate(q, 4),
             Gate::Cz(a, b) => tableau.cz(a, b),
         }
+    }
+    tableau
+}
+
+/// The state of a random graph with this mean degree and codes that keep it reduced: even, and below 8 where there is
+/// a larger neighbour, else below 12.
+fn graph_state(random: &mut Random, degree: f64) -> Tableau {
+    let mut tableau = Tableau::zero(N);
+    (0..N).for_each(|q| tableau.gate(q, 8));
+    let mut larger = [false; N];
+    for a in 0..N {
+        for b in a + 1..N {
+            if (random.below(1 << 20) as f64) < degree / (N - 1) as f64 * f64::from(1 << 20) {
+                tableau.cz(a, b);
+                larger[a] = true;
+            }
+        }
+    }
+    for (q, larger) in larger.into_iter().enumerate() {
+        tableau.gate(q, 2 * random.below(if larger { 4 } else { 6 }) as u8);
     }
     tableau
 }

@@ -2,6 +2,7 @@
 use native.Mathlib.Omega.{arith}
 use borrow.Author.Needs.{needs}
 use Rattle.buffers.proofs.OverSets.{next-in, next-less, next-short}
+use Rattle.words.proofs.Dropping.{dropped-at}
 use Rattle.operations_gates.proofs.JoinedSets.{Joining, join-end, join-more, join-start}
 use Rattle.operations_gates.proofs.joins.join_sets.Statement.{statement}
 use Rattle.operations_gates.proofs.joins.join_sets.Tie as tie
@@ -62,13 +63,8 @@ slice-write-neighbours c =
     next-in _ _ _ _ _ (inside .before .loop .inv) (start .pre .0) (inside .loop-test .taken) _
     (at-smallest .smallest .ensures .0)
 
-flip-requires : tie.Need-flip-requires Inv-loop μ-loop
-flip-requires c κs =
-    let at-smallest = c .before .before in
-    let inside = at-smallest .before in
-    let start = inside .before .before .before in
-    next-short _ _ _ _ _ (inside .before .loop .inv) (start .pre .0) (inside .loop-test .taken) _
-    (at-smallest .smallest .ensures .0)
+without-smallest-requires : tie.Need-without-smallest-requires Inv-loop μ-loop
+without-smallest-requires c κs = c .before .before .before .loop-test .taken
 
 loop-less : tie.Need-loop-less Inv-loop μ-loop
 loop-less c =
@@ -76,7 +72,8 @@ loop-less c =
     let inside = at-smallest .before in
     let start = inside .before .before .before in
     next-less _ _ _ _ _ (inside .before .loop .inv) (start .pre .0) (inside .loop-test .taken) _
-    (at-smallest .smallest .ensures .0) _ (c .flip .ensures)
+    (at-smallest .smallest .ensures .0) _
+    (dropped-at _ _ _ (c .without-smallest .ensures) (at-smallest .smallest .ensures .0))
 
 loop-again : tie.Need-loop-again Inv-loop μ-loop
 loop-again c =
@@ -85,7 +82,7 @@ loop-again c =
     let start = inside .before .before .before in
     join-more _ (start .args .to-a) (start .args .to-b) _ _ (inside .before .loop .inv) (start .pre .0)
     (inside .loop-test .taken) _ (at-smallest .smallest .ensures .0) _ _ (c .before .joined-word .ensures)
-    (c .flip .ensures)
+    (dropped-at _ _ _ (c .without-smallest .ensures) (at-smallest .smallest .ensures .0))
 
 returns : tie.Need-returns Inv-loop μ-loop
 returns c =
@@ -96,5 +93,5 @@ pub join-sets-spec : {M : Type 1} → statement M
 join-sets-spec =
     tie.close
     (tie.spec Inv-loop μ-loop loop-holds (λ c κs. search needs) mul-joined-word slice-read-joined-word
-    joined-word-requires mul-neighbours slice-write-neighbours flip-requires loop-less loop-again (λ c. search needs)
+    joined-word-requires mul-neighbours slice-write-neighbours without-smallest-requires loop-less loop-again (λ c. search needs)
     returns)

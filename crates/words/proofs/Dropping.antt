@@ -53,3 +53,7 @@ drop-smallest w h nonzero =
     bit-ext∞ (bitAnd w (w - 1)) (bitXor w (2 ^ trailingZeros 64 w)) (λ q.
     bit-and w (w - 1) q ∙ dropped (trailingZeros 64 w) w q (F .passes) (F .least)
     ∙ sym (bit-flip w (trailingZeros 64 w) q))
+
+-- the same with a name for the place
+pub dropped-at : (w i r : ℕ) → r ≡ bitXor w (2 ^ trailingZeros 64 w) → i ≡ trailingZeros 64 w → r ≡ bitXor w (2 ^ i)
+dropped-at w i r h e = h ∙ ap (λ k. bitXor w (2 ^ k)) (sym e)

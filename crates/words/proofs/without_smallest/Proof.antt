@@ -1,8 +1,8 @@
 -- `without_smallest` meets its contract: a word without its smallest set bit.
 use borrow.Author.Needs.{needs}
-use Rattle.reduction_passes.proofs.Dropping.{drop-smallest}
-use Rattle.reduction_passes.proofs.without_smallest.Statement.{statement}
-use Rattle.reduction_passes.proofs.without_smallest.Tie as tie
+use Rattle.words.proofs.Dropping.{drop-smallest}
+use Rattle.words.proofs.without_smallest.Statement.{statement}
+use Rattle.words.proofs.without_smallest.Tie as tie
 
 returns : tie.Need-returns
 returns c = drop-smallest (c .args .w) (c .fits .w .fits) (c .pre)

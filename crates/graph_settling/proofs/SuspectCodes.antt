@@ -1,0 +1,54 @@
+-- The codes with which a vertex may be out of place: odd ones, and those from 8 on.
+use mathlib.Core.Bool.{_&&_, Bool, false, not, true, _||_}
+use mathlib.Core.List.{List}
+use mathlib.Core.Path.{ap, ap₂, refl, subst, sym, _∙_, _≡_}
+use Prim.Native.Nat.{_<_, ℕ, _≤_}
+use native.Mathlib.Omega.{arith}
+use lib.Bits.{bitAnd}
+use lib.Dec.{eqb, leb, ltb}
+use lib.ListN.{getD, length}
+use borrow.Author.Tests.{eqb-true, le-leb, le-ltb, leb-true, lt-ltb}
+use Rattle.operations.proofs.UnrefusedRecords.{unrefused-long, unrefused-place}
+use Rattle.operations.specs.internal.InPlace.{Unrefused, recordIn}
+use Rattle.words.proofs.BitLaws.{lt-of-bits}
+use Rattle.words.proofs.SearchLaws.{every-at}
+use Rattle.words.specs.Bits.{bit, digit, isOdd}
+use Rattle.words.specs.Search.{every}
+use Rattle.graph_settling.specs.internal.Watching.{Watched}
+
+abbrev pub suspect : ℕ → Bool
+suspect code = isOdd code || leb 8 code
+
+-- the bits 0, 3 and 4 of a code
+pub by-bits : (code : ℕ) → code < 24 → digit (not (eqb (bitAnd code 25) 0)) ≡ digit (suspect code)
+unfolding every
+by-bits code l = eqb-true (digit (not (eqb (bitAnd code 25) 0))) (digit (suspect code))
+    (every-at 24 (λ c. eqb (digit (not (eqb (bitAnd c 25) 0))) (digit (suspect c))) refl code l)
+
+-- a vertex out of place has such a code
+out-suspect : (code : ℕ) (b : Bool) → (leb 12 code || (isOdd code || (leb 8 code && b))) ≡ true → suspect code ≡ true
+out-suspect code b h = high (leb 12 code) refl h
+  where
+    odd : (o e : Bool) → (o || (e && b)) ≡ true → (o || e) ≡ true
+    odd true e k = refl
+    odd false true k = refl
+    odd false false k = k
+
+    large : (o : Bool) → (o || true) ≡ true
+    large true = refl
+    large false = refl
+
+    high : (t : Bool) → leb 12 code ≡ t → (t || (isOdd code || (leb 8 code && b))) ≡ true → suspect code ≡ true
+    high true e k = ap (λ v. isOdd code || v) (le-leb 8 code (omega (arith, leb-true 12 code e))) ∙ large (isOdd code)
+    high false e k = odd (isOdd code) (leb 8 code) k
+
+pub suspects-watched : (words codes : List ℕ) (all : ℕ) → Unrefused (recordIn words codes)
+    → ((q : ℕ) → bit all q ≡ (ltb q (length codes) && suspect (getD codes q 0))) → Watched words codes all
+suspects-watched words codes all U held =
+    record {
+      short = lt-of-bits (length words) all (λ q l. held q
+          ∙ ap (λ b. b && suspect (getD codes q 0))
+          (le-ltb q (length codes) (subst (λ m. m ≤ q) (sym (unrefused-long words codes U)) l)));
+      seen = λ q l e. held q
+          ∙ ap₂ _&&_ (lt-ltb q (length codes) (unrefused-place words codes U q l)) (out-suspect (getD codes q 0) _ e);
+    }
