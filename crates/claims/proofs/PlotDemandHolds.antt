@@ -1,7 +1,7 @@
 -- What the program `amplitudes` prints for a text, from what `reply` of plot_reply ensures of it.
 use mathlib.Core.Bool.{cond, false}
 use mathlib.Core.List.{List}
-use mathlib.Core.Path.{_∙_, _≡_, ap, sym}
+use mathlib.Core.Path.{_∙_, _≡_, ap}
 use Prim.Native.Nat.{_^_, ℕ, _≤_}
 use lib.Dec.{eqb}
 use lib.ListN.{take}

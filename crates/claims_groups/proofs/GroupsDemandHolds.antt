@@ -9,7 +9,6 @@ use lib.Dec.{eqb}
 use lib.ListN.{getD-replicate}
 use borrow.Author.Tests.{eq-eqb, eqb-false, eqb-true}
 use Rattle.groups.proofs.Edges.{none-crosses}
-use Rattle.groups.proofs.SharedLines.{eight-fit}
 use Rattle.jobs.proofs.Starting.{started-stands}
 use Rattle.words.proofs.BitLaws.{zero-bit}
 use Rattle.words.specs.Bits.{bit}
@@ -30,13 +29,7 @@ use Rattle.claims_groups.specs.GroupRuns.{
   sharedNumber,
   sharedStart,
 }
-use Rattle.claims_groups.specs.GroupsDemand.{
-  GroupsApart,
-  GroupsStayApart,
-  LooksAlike,
-  NonInterference,
-  NonInterferenceFrom,
-}
+use Rattle.claims_groups.specs.GroupsDemand.{GroupsApart, LooksAlike, NonInterference, NonInterferenceFrom}
 
 -- ---- one call
 -- accepted, or nothing changed
@@ -140,18 +133,6 @@ start-apart word =
       no-crossing = none-crosses word (sharedStart .current) (λ j k hj hk t. absurd (true≢false (sym t
           ∙ ap (λ w. bit w k) (getD-replicate 64 j 0 0 hj) ∙ zero-bit k)));
       lengths = refl;
-    }
-
-pub groups-stay-apart : GroupsStayApart
-groups-stay-apart =
-    record {
-      start = start-apart;
-      after = λ word g s S c. let G = after-good word g s (good word s S) c in record {
-        count = G .apart .count;
-        passes = G .apart .passes;
-        no-crossing = G .apart .no-crossing;
-        lengths = eight-fit ((sharedAfter word g s c) .store) (G .long);
-      };
     }
 
 pub non-interference : NonInterference

@@ -43,12 +43,6 @@ pub record GroupsApart (word : ℕ) (s : SharedState) : Type 0 where
   pub no-crossing : crosses word (s .current) ≡ false
   pub lengths : storeLengths 8 (s .store) ≡ false
 
--- the start is such a state, and every call leaves one
-pub record GroupsStayApart : Type 0 where
-  pub start : (word : ℕ) → GroupsApart word sharedStart
-  pub after : (word g : ℕ) (s : SharedState) → GroupsApart word s → (c : SharedCall) →
-      GroupsApart word (sharedAfter word g s c)
-
 -- to a group two states look alike: its vertices and its four places are the same
 pub record LooksAlike (word g : ℕ) (s t : SharedState) : Type 0 where
   pub vertices : masked (inGroup word g) (s .current) ≡ masked (inGroup word g) (t .current)

@@ -1,6 +1,6 @@
 -- Document 01's examples with a star, those of the request on products, and least choices on one qubit: what the
 -- definitions give, beside what the text says.
-use mathlib.Core.List.{_++_, List, [], map, _∷_}
+use mathlib.Core.List.{_++_, List, [], _∷_}
 use Prim.Native.Nat.{ℕ}
 use lib.ListN.{replicate}
 use Rattle.buffers.specs.Buffers.{tabulate}
