@@ -21,7 +21,7 @@ use Rattle.record.specs.Records.{GraphRecord, rowsOf}
 use Rattle.record.specs.Reduced.{ReductionOf, plainCode, reduced, withHadamard, xWords}
 use Rattle.stabilizer.proofs.GroupLaws.{in-row}
 use Rattle.stabilizer.specs.Groups.{Proper}
-use Rattle.words.proofs.Finite.{bits}
+use Rattle.words.proofs.Finite.{bits, ⊕-zero}
 use Rattle.words.proofs.Places.{other-place}
 use Rattle.words.proofs.Sums.{bitMonoid, fold-unit, last-or, lt-or-ge}
 use Rattle.words.specs.Bits.{_⊕_}
@@ -51,10 +51,7 @@ module _ (n : ℕ) (rows : ℕ → Pauli) (P : Proper n rows) where
       ap (λ k. xBit (image k (letter (r .graph j q) (eqb q j)))) (D .code q)
       ∙ code-x (D .hadamards q) (D .ys q) (D .minuses q) (r .graph j q) (eqb q j)
       ∙ ap (λ v. cond v (r .graph j q ⊕ (eqb q j && D .ys q)) (eqb q j)) h
-      ∙ ap (λ e. r .graph j q ⊕ (e && D .ys q)) (other-place (λ e. d (sym e))) ∙ plain (r .graph j q)
-    where
-      plain : (a : Bool) → a ⊕ false ≡ a
-      plain = bits 1 (λ a. a ⊕ false) (λ a. a) tt
+      ∙ ap (λ e. r .graph j q ⊕ (e && D .ys q)) (other-place (λ e. d (sym e))) ∙ ⊕-zero (r .graph j q)
 
   kept-x : (j q : ℕ) → D .hadamards q ≡ false → (rowsOf n r j) .x q ≡ eqb q j
   unfolding act

@@ -15,15 +15,15 @@ use Rattle.graph.specs.Graph.{Simple}
 use Rattle.graph_steps.proofs.ReducedForms.{form-x}
 use Rattle.graph_steps.specs.internal.ReducedForms.{ReducedForm}
 use Rattle.pauli.proofs.PauliLaws.{letter-bits, mul-comm, mul-identity}
-use Rattle.pauli.proofs.PhaseLaws.{+ᵖ-assoc, +ᵖ-zero, minus-⊕, phaseMonoid, sumPhase-add}
-use Rattle.pauli.specs.Pauli.{_+ᵖ_, Pauli, Phase, anticommute, i⁰, letter, minus, mul, sumPhase}
+use Rattle.pauli.proofs.PhaseLaws.{+ᵖ-assoc, +ᵖ-zero, minus-⊕, sumPhase-add, sumPhase-one}
+use Rattle.pauli.specs.Pauli.{_+ᵖ_, Pauli, anticommute, i⁰, letter, minus, mul, sumPhase}
 use Rattle.pauli.specs.declared.Letter.the-variants.{X}
 use Rattle.record.proofs.ReducedRecords.{record-proper}
 use Rattle.record.specs.Records.{GraphRecord, rowsOf}
 use Rattle.stabilizer.proofs.Products.{anticommute-product, product-x}
 use Rattle.stabilizer.specs.Groups.{chosen, product}
-use Rattle.words.proofs.Places.{other-place, parity-at, place-comm, same-place}
-use Rattle.words.proofs.Sums.{bitMonoid, fold-ext, fold-hom, fold-more, fold-one, fold-unit, lt-or-ge}
+use Rattle.words.proofs.Places.{other-place, parity-at, place-comm}
+use Rattle.words.proofs.Sums.{bitMonoid, fold-ext, fold-hom, fold-more, fold-unit, lt-or-ge}
 use Rattle.words.specs.Bits.{Word, _⊕_, fold, parity}
 use Rattle.amplitude.proofs.Support.{turns-identity}
 use Rattle.amplitude.proofs.TurnLaws.{turns-mul}
@@ -58,11 +58,6 @@ module _ (n : ℕ) (r : GraphRecord) (S : Simple n (r .graph)) (F : ReducedForm 
   abbrev rows : ℕ → Pauli
   rows = rowsOf n r
 
-  one-place : (j : ℕ) → j < n → (f : ℕ → Phase) → sumPhase n (λ q. cond (eqb q j) (f q) i⁰) ≡ f j
-  one-place j l f =
-      fold-one i⁰ _+ᵖ_ phaseMonoid n j l (λ q k d. ap (λ b. cond b (f q) i⁰) (other-place d))
-      ∙ ap (λ b. cond b (f j) i⁰) (same-place j)
-
   -- what a generator gives a word
   row-turns : (j : ℕ) → j < n → (u : Word) → turnsAt n (rows j) u
       ≡ (minus ((r .codes j) .sx) +ᵖ letterTurns (image (r .codes j) X) (u j))
@@ -71,13 +66,13 @@ module _ (n : ℕ) (r : GraphRecord) (S : Simple n (r .graph)) (F : ReducedForm 
   row-turns j l u =
       ap₂ _+ᵖ_
       (fold-ext i⁰ _+ᵖ_ n (λ q k. phase-place (r .codes q) (r .graph j q) (eqb q j) (F .even q k) (no-loop n (r .graph) S j q))
-      ∙ one-place j l (λ q. minus ((r .codes q) .sx)))
+      ∙ sumPhase-one n j l (λ q. minus ((r .codes q) .sx)))
       (fold-ext i⁰ _+ᵖ_ n (λ q k. ap (λ a. letterTurns a (u q)) (letter-bits (image (r .codes q) (letter (r .graph j q) (eqb q j))))
       ∙ turns-place ((r .codes q) .class) ((r .codes q) .sx) ((r .codes q) .sz) (r .graph j q) (eqb q j) (u q)
       (F .low q k) (no-loop n (r .graph) S j q))
       ∙ sumPhase-add n (λ q. cond (eqb q j) (letterTurns (image (r .codes q) X) (u q)) i⁰)
       (λ q. minus ((r .graph j q && not (bitC (r .codes q))) && u q))
-      ∙ ap₂ _+ᵖ_ (one-place j l (λ q. letterTurns (image (r .codes q) X) (u q)))
+      ∙ ap₂ _+ᵖ_ (sumPhase-one n j l (λ q. letterTurns (image (r .codes q) X) (u q)))
       (sym (fold-hom false _⊕_ i⁰ _+ᵖ_ minus refl minus-⊕ n (λ q. (r .graph j q && not (bitC (r .codes q))) && u q))))
       ∙ sym (+ᵖ-assoc (minus ((r .codes j) .sx)) _ _)
 

@@ -16,7 +16,7 @@ use Rattle.amplitude.specs.Ratios.{amplitudeOf, lowest, plotAt}
 use Rattle.amplitude.specs.declared.Amplitude.{Amplitude}
 use Rattle.amplitude.specs.declared.Amplitude.the-variants.{Nothing}
 use Rattle.amplitude.specs.declared.PlotLine.{PlotLine}
-use Rattle.amplitude_words.proofs.Exponents.{exponent-add, exponent-lt, exponent-undone}
+use Rattle.amplitude_words.proofs.Exponents.{exponent-add, exponent-undone}
 use Rattle.clifford.specs.Clifford.{bitC}
 use Rattle.clifford.specs.Vectors.{codesOf}
 use Rattle.cut.specs.Kernel.{count}
@@ -26,6 +26,7 @@ use Rattle.graph_steps.specs.internal.KeptGroups.{Normalised}
 use Rattle.graph_steps.specs.internal.ReducedForms.{ReducedForm}
 use Rattle.operations.proofs.UnrefusedRecords.{unrefused-long, unrefused-simple}
 use Rattle.operations.specs.internal.InPlace.{Unrefused, recordIn}
+use Rattle.pauli.proofs.PhaseLaws.{exponent-lt}
 use Rattle.pauli.specs.Pauli.{Phase, exponent}
 use Rattle.record.proofs.ReducedRecords.{record-proper}
 use Rattle.record.specs.Lent.{heldRecord, heldRows}

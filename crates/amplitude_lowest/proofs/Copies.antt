@@ -1,6 +1,6 @@
--- A copy of a record is not refused where the record is not, and its smallest word is the record's.
+-- The smallest word of a copy of a record is the record's.
 use mathlib.Core.List.{List}
-use mathlib.Core.Path.{ap₂, subst, sym, _∙_, _≡_}
+use mathlib.Core.Path.{ap₂, sym, _∙_, _≡_}
 use Prim.Native.Nat.{ℕ}
 use lib.ListN.{length}
 use Rattle.amplitude.proofs.LowestOfRecord.{lowest-of-record}
@@ -13,9 +13,6 @@ use Rattle.words.specs.Bits.{wordOf}
 
 module _ (words codes : List ℕ) (U : Unrefused (recordIn words codes)) (words′ codes′ : List ℕ)
     (e : (words′ ≡ words) × (codes′ ≡ codes)) where
-  pub copied-unrefused : Unrefused (recordIn words′ codes′)
-  copied-unrefused = subst Unrefused (sym (ap₂ recordIn (e .0) (e .1))) U
-
   pub copied-lowest : (low : ℕ)
       → low ≡ wordOf (length words′) (outcomesDown (length words′) (heldRecord (recordIn words′ codes′)))
       → low ≡ lowest (length words) (heldRows (recordIn words codes))

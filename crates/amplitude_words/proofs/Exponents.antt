@@ -1,7 +1,6 @@
 -- Exponents of powers of i, from 0 to 3, as the code adds them.
 use mathlib.Core.Path.{refl, _≡_}
-use Prim.Native.Nat.{_%_, _*_, _+_, _<_}
-use lib.Dec.{lit<}
+use Prim.Native.Nat.{_%_, _*_, _+_}
 use Rattle.pauli.specs.Pauli.{_+ᵖ_, Phase, exponent, i¹, i², i³, i⁰}
 
 pub exponent-add : (s t : Phase) → (exponent s + exponent t) % 4 ≡ exponent (s +ᵖ t)
@@ -21,12 +20,6 @@ exponent-add i³ i⁰ = refl
 exponent-add i³ i¹ = refl
 exponent-add i³ i² = refl
 exponent-add i³ i³ = refl
-
-pub exponent-lt : (t : Phase) → exponent t < 4
-exponent-lt i⁰ = lit< tt
-exponent-lt i¹ = lit< tt
-exponent-lt i² = lit< tt
-exponent-lt i³ = lit< tt
 
 -- a power undone
 pub exponent-undone : (t : Phase) → 3 * exponent t % 4 ≡ exponent (t +ᵖ (t +ᵖ t))

@@ -14,6 +14,7 @@ use Rattle.clifford.specs.Vectors.{codesOf}
 use Rattle.graph_steps.proofs.OutOfPlace.{number-C}
 use Rattle.operations.specs.internal.InPlace.{Unrefused, recordIn}
 use Rattle.operations.proofs.UnrefusedRecords.{unrefused-codes, unrefused-long}
+use Rattle.pauli.proofs.PhaseLaws.{exponent-lt}
 use Rattle.pauli.specs.Pauli.{_+ᵖ_, Phase, exponent, i⁰, minus}
 use Rattle.record.specs.Lent.{heldRecord}
 use Rattle.record.specs.Records.{GraphRecord}
@@ -23,8 +24,8 @@ use Rattle.words.proofs.SearchLaws.{every-at}
 use Rattle.words.proofs.Sums.{fold-ext}
 use Rattle.words.specs.Bits.{_⊕_, bit, fold, parity, wordOf}
 use Rattle.words.specs.Search.{every}
+use Rattle.amplitude_words.proofs.Exponents.{exponent-add}
 use Rattle.amplitude_words.proofs.FoundWords.{Found}
-use Rattle.amplitude_words.proofs.Exponents.{exponent-add, exponent-lt}
 
 -- ---- every vertex passes
 module _ (f : ℕ → Bool) (j : ℕ) (here : Bool) (e : here ≡ f j) where

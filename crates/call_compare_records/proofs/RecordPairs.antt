@@ -20,7 +20,6 @@ use Rattle.earliest.specs.internal.Earlier.{earlierOf}
 use Rattle.graph_steps.specs.internal.KeptGroups.{Normalised}
 use Rattle.operations.specs.internal.InPlace.{Unrefused, recordIn}
 use Rattle.parts.specs.Parts.{partAbove}
-use Rattle.pauli.specs.Pauli.{Pauli}
 use Rattle.record.proofs.AcceptedRecords.{accepted-record}
 use Rattle.record.specs.Accepted.{AcceptedRecord}
 use Rattle.record.specs.Lent.{

@@ -14,44 +14,23 @@ use Rattle.contracts.specs.Answers.{HoldsAnswer}
 use Rattle.contracts.specs.Calls.{Call, EachOf}
 use Rattle.operations.specs.internal.InPlace.{MeasuredInPlace}
 use Rattle.operations.specs.Measurement.{determinedNumber, outcomeNumber}
-use Rattle.operations.specs.Steps.{
-  Operation,
-  complementOf,
-  czOn,
-  gateWith,
-  leaves,
-  linesOf,
-  made,
-  measuredAnswer,
-  measurementOf,
-  pivotOf,
-}
+use Rattle.operations.specs.Steps.{Operation, leaves, linesOf, made, measuredAnswer, measurementOf}
 use Rattle.operations.specs.declared.Outcome.{Outcome}
-use Rattle.record.specs.Accepted.{AcceptedRecord}
 use Rattle.record.specs.Lent.{LentRecord, codeNumbers, neighbourWords}
 use Rattle.record.specs.Records.{GraphRecord}
+use Rattle.used.proofs.AcceptedSteps.{accepted-step}
 use Rattle.used.proofs.MeasuringMarks.{marked-word}
 use Rattle.used.proofs.UsedPassing.{used-passes, used-step}
 use Rattle.used.specs.Used.{UsedRecord, usedAfter, usedLinesOf, usedStep}
 use Rattle.words.specs.Bits.{isOdd}
-use Rattle.call_gates.proofs.InPlaceLines.{held-accepted}
-use Rattle.call_gates.proofs.MeasureLines.{measure-accepted}
 use Rattle.call_gates.specs.InPlaceCalls.{inPlaceCall, measureCall, recordLent, usedCall, usedMeasureCall}
-
--- no line of an operation holds: the record is accepted
-pub operation-accepted : (l : LentRecord) (o : Operation) → firstFitting (linesOf l o) ≡ 0 → AcceptedRecord l
-operation-accepted l (gateWith q k) e = held-accepted l _ _ e
-operation-accepted l (czOn a b) e = held-accepted l _ _ e
-operation-accepted l (measurementOf pauli q b) e = measure-accepted l pauli q b e
-operation-accepted l (complementOf a) e = held-accepted l _ _ e
-operation-accepted l (pivotOf j k) e = held-accepted l _ _ e
 
 module _ (u : UsedRecord) (o : Operation) {k : ℕ} (e : k ≡ firstFitting (usedLinesOf u o)) (z : k ≡ 0) where
   pub as-before : firstFitting (linesOf (u .held) o) ≡ 0
   as-before = used-step u o (sym e ∙ z)
 
   pub long : length (u .held .neighbours) ≡ u .held .n
-  long = operation-accepted (u .held) o as-before .neighbours-length
+  long = accepted-step (u .held) o as-before .neighbours-length
 
   -- the new record on m vertices
   abbrev At : ℕ → GraphRecord

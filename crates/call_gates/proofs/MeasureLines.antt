@@ -11,7 +11,6 @@ use Rattle.contracts.specs.Answers.{here, later, none}
 use Rattle.operations.specs.internal.InPlace.{recordIn}
 use Rattle.operations.specs.Measurement.{contradicts, pauliLetter}
 use Rattle.operations.specs.Steps.{argumentLines, measureLines, measurementOf}
-use Rattle.record.specs.Accepted.{AcceptedRecord}
 use Rattle.record.specs.Lent.{LentRecord, heldRecord, heldRows}
 use Rattle.record.specs.Records.{rowsOf}
 use Rattle.used.specs.Used.{UsedRecord, namesUsed, usedArgumentsOf, usedLinesOf}
@@ -33,9 +32,6 @@ module _ (l : LentRecord) (pauli q b : ℕ) where
             (h .0, (h .1 .0, (h .1 .1 .0, (h .1 .1 .1 .0, (h .1 .1 .1 .1 .0, (h .1 .1 .1 .1 .1 .0, tt)))))),
         h .1 .1 .1 .1 .1 .1 .0,
       )
-
-  pub measure-accepted : firstFitting (measureLines l pauli q b) ≡ 0 → AcceptedRecord l
-  measure-accepted e = held-accepted l _ _ (measure-passes e .0)
 
 -- ---- with it
 module _ (u : UsedRecord) (pauli q b : ℕ) where

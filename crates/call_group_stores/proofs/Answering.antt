@@ -28,12 +28,12 @@ use Rattle.record.specs.Accepted.{AcceptedRecord}
 use Rattle.record.specs.Lent.{LentRecord}
 use Rattle.store.proofs.PassingStores.{held-record}
 use Rattle.store.proofs.SavePlaces.{full, not-full}
-use Rattle.store.proofs.Searching.{above-none, below-some}
 use Rattle.store.specs.Kept.{savePlace, withPlace}
 use Rattle.store.specs.Places.{Store, countAt, hasName, holdsName, isHeld, partAt, placeAt, placeOf}
 use Rattle.used.specs.Used.{UsedRecord}
 use Rattle.words.proofs.Flags.{both-true}
 use Rattle.words.proofs.SearchLaws.{some-true}
+use Rattle.words.proofs.Searching.{above-none, below-some}
 use Rattle.words.specs.Bits.{bit, wordOf}
 use Rattle.call_group_stores.specs.GroupStoreCalls.{groupForgetCall, groupReturnCall, groupSaveCall}
 

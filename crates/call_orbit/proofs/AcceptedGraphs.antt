@@ -1,23 +1,23 @@
 -- What it means that no line of the call holds.
 use mathlib.Core.Bool.{false, _||_}
 use mathlib.Core.List.{List}
-use mathlib.Core.Path.{ap, ap₂, refl, subst, sym, _≡_}
+use mathlib.Core.Path.{refl, subst, sym, _≡_}
 use Prim.Native.Nat.{_<_, _^_, zero-le, ℕ, _≤_}
 use native.Mathlib.Nat.{le-trans}
 use lib.Arith.{lt-of-le-ne}
 use lib.Dec.{eqb, lit<, lit≤, ltb}
 use lib.ListN.{length, length-replicate, replicate}
 use borrow.Author.Tests.{eqb-false, ltb-false}
+use Rattle.buffers.proofs.Mapping.{zeros, zeros-at}
 use Rattle.buffers.specs.Refusals.{firstFitting, otherThan, reaching}
-use Rattle.contracts.proofs.Fitting.{first-is, none-holds}
-use Rattle.contracts.specs.Answers.{later, none}
+use Rattle.contracts.proofs.Fitting.{none-holds}
 use Rattle.graph.specs.Graph.{Simple}
 use Rattle.graph.specs.NeighbourWords.{graphIn}
-use Rattle.orbit_numbers.proofs.Edges.{zeros-at}
-use Rattle.record.proofs.AcceptedRecords.{accepted-record}
+use Rattle.record.proofs.AcceptedRecords.{accepted-record, none-refuses}
+use Rattle.record.proofs.SimpleVerdict.{simple-exactly}
 use Rattle.record.specs.Accepted.{AcceptedRecord}
 use Rattle.record.specs.Lent.{notSimple}
-use Rattle.stabilizer.proofs.SharedTests.{below-passes, count-passes, has-length, length-passes}
+use Rattle.stabilizer.proofs.SharedTests.{below-passes, has-length}
 use Rattle.words.proofs.Flags.{neither}
 use Rattle.call_orbit.specs.OrbitCalls.{orbitLines}
 
@@ -60,13 +60,13 @@ accepted-graph n neighbours list e =
 -- with a code 0 for each vertex, no line of a record holds
 pub plain-record : {n : ℕ} {neighbours list : List ℕ} → AcceptedGraph n neighbours list
     → AcceptedRecord (record { n = n; neighbours = neighbours; codes = replicate n 0 })
+unfolding zeros
 plain-record {n} {neighbours} A =
     accepted-record (record { n = n; neighbours = neighbours; codes = replicate n 0 }) false false
-    (sym (first-is (later (count-passes n (A .positive) (le-trans (A .few) (lit≤ tt)))
-    (later (ap (λ b. b || false) (ap₂ _||_ (length-passes n neighbours (A .words))
-    (length-passes n (replicate n 0) (length-replicate {A = ℕ} n 0))))
-    (later (A .below) (later (ap (λ b. b || false) (below-passes 24 (replicate n 0)
-    (λ j l. subst (λ v. v < 24) (sym (zeros-at n j)) (lit< tt)))) (later (A .simple) none)))))))
+    (none-refuses (record { n = n; neighbours = neighbours; codes = replicate n 0 }) (A .positive)
+    (le-trans (A .few) (lit≤ tt)) (A .words) (length-replicate {A = ℕ} n 0) (A .below)
+    (below-passes 24 (replicate n 0) (λ j l. subst (λ v. v < 24) (sym (zeros-at n j)) (lit< tt)))
+    (simple-exactly n (graphIn neighbours) .0 (A .simple)))
 
 pub simple-graph : {n : ℕ} {neighbours list : List ℕ} → AcceptedGraph n neighbours list → Simple n (graphIn neighbours)
 simple-graph A = plain-record A .simple

@@ -14,12 +14,12 @@ use Rattle.contracts.specs.Calls.{Call}
 use Rattle.record.specs.Accepted.{AcceptedRecord}
 use Rattle.stabilizer.proofs.SharedTests.{has-length}
 use Rattle.store.proofs.PassingStores.{held-record, others-fit, store-accepted}
-use Rattle.store.proofs.Searching.{above-none, below-some}
 use Rattle.store.specs.Places.{Store, countAt, hasName, holdsName, isHeld, partAt, placeAt, placeOf}
 use Rattle.store.specs.StoreLines.{namedLines, storeLines}
 use Rattle.store.specs.internal.Passing.{Passing}
 use Rattle.words.proofs.Flags.{both-true, neither}
 use Rattle.words.proofs.SearchLaws.{some-true}
+use Rattle.words.proofs.Searching.{above-none, below-some}
 use Rattle.call_store.specs.StoreCalls.{forgetCall, returnCall}
 
 module _ (name : ℕ) (st : Store) (others : Bool) (k : ℕ) (e : k ≡ firstFitting (storeLines 8 st others)) where

@@ -2,7 +2,7 @@
 use mathlib.Core.Bool.{false, true, _||_}
 use mathlib.Core.List.{_++_, List}
 use mathlib.Core.Path.{ap, ap₂, refl, subst, sym, _∙_, _≡_}
-use Prim.Native.Nat.{_<_, _^_, ℕ, _≤_}
+use Prim.Native.Nat.{_^_, ℕ, _≤_}
 use native.Mathlib.Omega.{arith}
 use lib.ListN.{getD, length, length-take, take}
 use lib.Seq.{getD-take}
@@ -10,14 +10,14 @@ use borrow.Author.Tests.{not-false}
 use Rattle.buffers.proofs.Lines.{more-accepted}
 use Rattle.buffers.proofs.Tabulate.{tabulate-at, tabulate-cong, tabulate-length}
 use Rattle.buffers.specs.Buffers.{tabulate}
-use Rattle.buffers.specs.Refusals.{badCount, firstFitting, otherThan, reaching}
+use Rattle.buffers.specs.Refusals.{badCount, firstFitting, otherThan}
 use Rattle.contracts.proofs.Calling.{done, refused}
 use Rattle.contracts.proofs.Fitting.{NoneHolds, decides, fits-at, none-fits-of, none-holds, stays}
 use Rattle.contracts.specs.Calls.{Call}
 use Rattle.call_lists.specs.Calls.{checkCall}
 use Rattle.pauli.specs.Pauli.{Pauli, signBit}
 use Rattle.stabilizer.proofs.EarlyLines.{form-numbered}
-use Rattle.stabilizer.proofs.SharedTests.{below-passes, counted, has-length, length-passes}
+use Rattle.stabilizer.proofs.SharedTests.{counted, has-length, length-passes, table-passes}
 use Rattle.stabilizer.specs.Lists.{formLines, listLines, listOf}
 use Rattle.strings.proofs.BackLaws.{buffers, same-buffers}
 use Rattle.strings.proofs.FormLaws.{form-lines, form-size}
@@ -30,20 +30,15 @@ use Rattle.call_strings.specs.StringCalls.{readStringsCall}
 
 -- ---- a list that is read has its form: lines 4, 5 and 6 do not hold
 module _ (n : ℕ) (R : ℕ → Pauli) where
-  table-passes : (b : ℕ) (f : ℕ → ℕ) → ((j : ℕ) → f j < b) → reaching b (tabulate n f) ≡ false
-  table-passes b f h =
-      below-passes b (tabulate n f)
-      (λ j l. subst (λ k. k < b) (sym (tabulate-at n f j (subst (λ m. j < m) (tabulate-length n f) l))) (h j))
-
   pub listed-form : badCount n ≡ false → NoneHolds (formLines (listOf n R) false)
   listed-form h = (
     h,
     (
       ap (λ b. b || false) (ap₂ _||_ (place _) (ap₂ _||_ (place _) (place _))),
       (
-        ap₂ _||_ (table-passes (2 ^ n) _ (λ j. wordOf-lt n ((R j) .z)))
-            (table-passes (2 ^ n) _ (λ j. wordOf-lt n ((R j) .x))),
-        (table-passes 2 _ (λ j. digit-lt (signBit ((R j) .phase))), tt),
+        ap₂ _||_ (table-passes (2 ^ n) n _ (λ j l. wordOf-lt n ((R j) .z)))
+            (table-passes (2 ^ n) n _ (λ j l. wordOf-lt n ((R j) .x))),
+        (table-passes 2 n _ (λ j l. digit-lt (signBit ((R j) .phase))), tt),
       ),
     ),
   )

@@ -36,14 +36,14 @@ use Rattle.stabilizer.specs.Groups.{InGroup}
 use Rattle.used.proofs.LeftRecords.{used-left}
 use Rattle.used.proofs.UsedPassing.{in-place-counted, used-passes, used-step, with-used-passes}
 use Rattle.used.specs.Used.{UsedRecord, namesUsed, usedArgumentsOf, usedLinesOf, usedStep}
-use Rattle.used.specs.UsedLaws.{UsedLeft}
+use Rattle.used.specs.internal.UsedLaws.{UsedLeft}
 use Rattle.words.specs.Bits.{isOdd}
 use Rattle.claims.proofs.Contradictions.{contradicted-by-group}
 use Rattle.claims.proofs.JobSteps.{HasGroup, operation-stands}
 use Rattle.claims.specs.JobDemand.{JobsStand, RefusedExactly, RunsStand}
 
 module _ (u : UsedRecord) (G : Group) (S : StandsFor u G) where
-  has-group : HasGroup (u .held) G
+  pub has-group : HasGroup (u .held) G
   has-group = record { elements = S .elements }
 
   -- ---- an operation is refused by its lines exactly if its arguments or the group refuse it

@@ -10,11 +10,10 @@ use borrow.Author.Tests.{leb-false, lt-leb}
 use Rattle.buffers.proofs.Lines.{Numbered, more-accepted, none-fits, none-of-all, not-held, passed}
 use Rattle.buffers.specs.Refusals.{Refusal, firstFitting, line, otherThan, reaching}
 use Rattle.contracts.proofs.Fitting.{none-fits-of, none-holds}
-use Rattle.record.proofs.AcceptedRecords.{accepted-record}
+use Rattle.record.proofs.AcceptedRecords.{accepted-passes, accepted-record}
 use Rattle.record.proofs.RecordLines.{record-numbered}
-use Rattle.record.proofs.SimpleVerdict.{simple-exactly}
 use Rattle.record.specs.Accepted.{AcceptedRecord}
-use Rattle.record.specs.Lent.{LentRecord, heldRecord, recordCodes, recordLengths, recordLines}
+use Rattle.record.specs.Lent.{LentRecord, recordCodes, recordLengths, recordLines}
 use Rattle.stabilizer.proofs.Accepted.{WellFormed, accepted-list, formed-passes}
 use Rattle.stabilizer.proofs.SharedTests.{below-passes, count-passes, has-length, length-passes}
 use Rattle.stabilizer.specs.Lists.{GeneratorList, formLines, listLengths, listLines}
@@ -53,29 +52,6 @@ pub last-exactly : (k : ℕ) (b : Bool) → (firstFitting (line (suc k) b ∷ []
 last-exactly k b = ((λ e. not-held k b [] e .0), λ h. passed (suc k) [] h ∙ none-fits)
 
 -- ---- records
-record-passes : (l : LentRecord) → AcceptedRecord l → firstFitting (recordLines l false false) ≡ 0
-record-passes l A =
-    none-fits-of (recordLines l false false) (
-      count-passes (l .n) (A .positive) (A .upto),
-      (
-        both-pass (two-fit (l .n) (l .n) (l .neighbours) (l .codes) .1 (A .neighbours-length, A .codes-length)) refl,
-        (
-          below-passes (2 ^ (l .n)) (l .neighbours) (λ j k. A .words-below j),
-          (
-            both-pass (below-passes 24 (l .codes) (λ q k. A .codes-below q)) refl,
-            (
-              simple-exactly (l .n) ((heldRecord l) .graph) .1
-                  (record {
-                    symmetric = λ i j k h. A .simple .symmetric i j;
-                    loopless = λ i k. A .simple .loopless i;
-                  }),
-              tt,
-            ),
-          ),
-        ),
-      ),
-    )
-
 pub record-exactly : (l : LentRecord) (others six : Bool) →
     (firstFitting (recordLines l others six) ≡ 0) ↔ (AcceptedRecord l × (others ≡ false) × (six ≡ false))
 record-exactly l others six = (
@@ -84,7 +60,7 @@ record-exactly l others six = (
     neither (recordLengths l) others (h .1 .0) .1,
     neither (recordCodes l) six (h .1 .1 .1 .0) .1,
   )),
-  (λ h. ap₂ (λ a b. firstFitting (recordLines l a b)) (h .1) (h .2) ∙ record-passes l (h .0)),
+  (λ h. ap₂ (λ a b. firstFitting (recordLines l a b)) (h .1) (h .2) ∙ accepted-passes l (h .0)),
 )
 
 -- with one more line

@@ -39,7 +39,7 @@ use Rattle.call_gates.proofs.InPlaceLines.{held-accepted, measure-ready, six-pa
 use Rattle.call_gates.proofs.MeasureLines.{measure-passes}
 use Rattle.contracts.specs.Calls.{Call}
 use Rattle.call_gates.specs.InPlaceCalls.{measureCall}
-use Rattle.words.proofs.BitLaws.{digit-odd, odd-digit}
+use Rattle.words.proofs.BitLaws.{digit-odd, isOdd-digit, odd-digit}
 use Rattle.words.proofs.Flags.{neither}
 use Rattle.words.specs.Bits.{digit, isOdd}
 use Rattle.claims.proofs.GatesFollow.{answer-reduced, answer-still, holds-new}
@@ -51,10 +51,6 @@ both-numbers : (d s : Bool) → (outcomeNumber (cond d (Determined s) (Chosen s)
     × (determinedNumber (cond d (Determined s) (Chosen s)) ≡ digit d)
 both-numbers true s = (refl, refl)
 both-numbers false s = (refl, refl)
-
-odd-of-digit : (b : Bool) → isOdd (digit b) ≡ b
-odd-of-digit true = refl
-odd-of-digit false = refl
 
 of-digit : (b : Bool) {k : ℕ} → digit b ≡ k → b ≡ eqb k 1
 of-digit b e = sym (odd-digit b) ∙ ap (λ k. eqb k 1) e
@@ -120,7 +116,7 @@ module _ (l : LentRecord) (pauli q b answer determined : ℕ) (nb′ cs′ : Lis
         outcome = either-digit (outcome n held L q (isOdd b)) read;
         exactly = ((λ e. exactly .0 (found e)), λ h. known ∙ ap digit (exactly .1 h));
         sign = λ e. subst (λ s. InGroup n n held (single L q s))
-            (sym (ap isOdd read ∙ odd-of-digit (outcome n held L q (isOdd b))))
+            (sym (ap isOdd read ∙ isOdd-digit (outcome n held L q (isOdd b))))
             (determined-element n held (A .proper) L q at-qubit (found e) (isOdd b));
         agrees = λ e. sym bit-read;
         kept = λ e. subst (λ S. SameGroup n n S (heldRows after))

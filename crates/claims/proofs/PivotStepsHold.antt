@@ -32,7 +32,8 @@ use Rattle.used.proofs.LeftRecords.{used-left}
 use Rattle.used.proofs.UsedPassing.{used-step}
 use Rattle.used.proofs.UsedRefusing.{edge-unused, pivot-never}
 use Rattle.used.specs.Used.{UsedRecord, usedLines, usedLinesOf, usedStep}
-use Rattle.used.specs.UsedLaws.{UsedLeft, UsedStay}
+use Rattle.used.specs.UsedLaws.{UsedStay}
+use Rattle.used.specs.internal.UsedLaws.{UsedLeft}
 use Rattle.words.proofs.Flags.{neither}
 use Rattle.words.specs.Bits.{bit}
 use Rattle.claims.proofs.CutDemandHolds.{rewritten-ranks}

@@ -1,19 +1,18 @@
 -- What the program `amplitudes` prints for a text, from what `reply` of plot_reply ensures of it.
 use mathlib.Core.Bool.{cond, false}
 use mathlib.Core.List.{List}
-use mathlib.Core.Path.{_∙_, _≡_, ap, sym}
+use mathlib.Core.Path.{_∙_, _≡_, ap}
 use Prim.Native.Nat.{_^_, ℕ, _≤_}
 use lib.Dec.{eqb}
 use lib.ListN.{take}
-use borrow.Author.Tests.{eq-eqb, le-ltb, ne-eqb}
+use borrow.Author.Tests.{eq-eqb, ne-eqb}
 use Rattle.amplitude.proofs.CountedWords.{plot-of-group}
 use Rattle.amplitude.specs.Ratios.{isSupported, plotAt, ratio}
-use Rattle.buffers.proofs.Lines.{passed}
 use Rattle.buffers.specs.Refusals.{firstFitting}
 use Rattle.call_lists.specs.Calls.{checkLines}
 use Rattle.cut.specs.Rank.{rank}
-use Rattle.plot_reply.proofs.Answering.{many-refused}
-use Rattle.plot_reply.specs.Answer.{plotAnswer, plotLines}
+use Rattle.plot_reply.proofs.Answering.{many-refused, same-number}
+use Rattle.plot_reply.specs.Answer.{plotAnswer}
 use Rattle.plot_text.specs.Table.{tableText}
 use Rattle.record.specs.Reduced.{xWords}
 use Rattle.stabilizer.proofs.Accepted.{AcceptedList, accepted-list}
@@ -28,14 +27,10 @@ module _ (l : GeneratorList) (few : l .n ≤ 10) where
   abbrev tableOf : List ℕ
   tableOf = tableText (2 ^ (l .n)) (plotAt (l .n) (rows l))
 
-  -- the program's own line does not hold
-  same-number : firstFitting (plotLines l) ≡ firstFitting (checkLines l)
-  same-number = passed 2 (checkLines l) (le-ltb 10 (l .n) few)
-
   plot-answer : plotAnswer l
       ≡ cond (eqb (firstFitting (checkLines l)) 0) tableOf (refusedText (firstFitting (checkLines l)))
   unfolding plotAnswer
-  plot-answer = ap (λ k. cond (eqb k 0) tableOf (refusedText k)) same-number
+  plot-answer = ap (λ k. cond (eqb k 0) tableOf (refusedText k)) (same-number l few)
 
   plot-refused : (firstFitting (checkLines l) ≡ 0 → ⊥) → plotAnswer l ≡ refusedText (firstFitting (checkLines l))
   plot-refused h =

@@ -2,10 +2,9 @@
 use mathlib.Core.Bool.{Bool, false, true}
 use mathlib.Core.Path.{_≡_, _∙_, ap, refl, subst, sym}
 use Prim.Native.Nat.{_<_, _^_, suc, zero, ℕ}
-use lib.Dec.{lit<}
 use Rattle.pauli.proofs.PauliLaws.{Pauli-path, mul-identity}
-use Rattle.pauli.proofs.PhaseLaws.{power-exponent}
-use Rattle.pauli.specs.Pauli.{Pauli, Phase, exponent, i⁰, i¹, i², i³, mul, power, row}
+use Rattle.pauli.proofs.PhaseLaws.{exponent-lt, power-exponent}
+use Rattle.pauli.specs.Pauli.{Pauli, mul, power, row}
 use Rattle.call_product.proofs.ProductLines.{accepted-rows}
 use Rattle.call_product.specs.Products.{chosenProduct}
 use Rattle.stabilizer.proofs.Accepted.{formed-within}
@@ -28,18 +27,12 @@ product-of n (suc m) w R = go (w m) refl (product-of n m w R)
     go false e before = subst (ProductOf n w R (suc m)) (sym (mul-identity n (product n m w R))) (passed e before)
     go true e before = taken e before
 
-phase-small : (t : Phase) → exponent t < 4
-phase-small i⁰ = lit< tt
-phase-small i¹ = lit< tt
-phase-small i² = lit< tt
-phase-small i³ = lit< tt
-
 pub products-answer : ProductsAnswer
 products-answer l c z x phase z′ x′ phase′ C =
     record {
       product = subst (ProductOf (l .n) (bit c) (rows l) (l .n)) (sym answer)
           (product-of (l .n) (l .n) (bit c) (rows l));
-      turns = subst (λ k. k < 4) (sym (C .held .1 .1 .0)) (phase-small (p .phase));
+      turns = subst (λ k. k < 4) (sym (C .held .1 .1 .0)) (exponent-lt (p .phase));
       z-below = subst (λ k. k < 2 ^ (l .n)) (sym (C .held .0)) (wordOf-lt (l .n) (p .z));
       x-below = subst (λ k. k < 2 ^ (l .n)) (sym (C .held .1 .0)) (wordOf-lt (l .n) (p .x));
     }

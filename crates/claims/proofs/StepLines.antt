@@ -32,7 +32,7 @@ use Rattle.record.specs.Lent.{LentRecord}
 use Rattle.used.proofs.UsedPassing.{used-step}
 use Rattle.used.specs.Used.{UsedRecord}
 use Rattle.claims.proofs.JobSteps.{HasGroup, answer-stands}
-use Rattle.claims.proofs.JobsStand.{refused-exactly}
+use Rattle.claims.proofs.JobsStand.{has-group, refused-exactly}
 use Rattle.claims.specs.ProgramDemand.{Determines, LineSays, OutcomeIs}
 
 -- 0 is not 1
@@ -80,9 +80,6 @@ module _ (l : LentRecord) (G : Group) (S : HasGroup l G) where
 
 -- ---- a step
 module _ (u : UsedRecord) (G : Group) (S : StandsFor u G) (s : Step) where
-  has-group : HasGroup (u .held) G
-  has-group = record { elements = S .elements }
-
   pub line-says : LineSays u G s (resultOf (answerOf u s))
   line-says = go (ℕ-discrete (numberOf u s) 0)
     where
@@ -96,10 +93,10 @@ module _ (u : UsedRecord) (G : Group) (S : StandsFor u G) (s : Step) where
             refused = exactly;
             either = subst (λ v. (v ≡ 0) ⊎ (v ≡ 1)) (sym d) (digit-of (u .held) (asked s));
             determined = (
-              (λ e. ((λ h. exactly .1 h z), determined-of (u .held) G has-group (asked s) no-line .0 (sym d ∙ e))),
-              (λ h. d ∙ determined-of (u .held) G has-group (asked s) no-line .1 (h .1)),
+              (λ e. ((λ h. exactly .1 h z), determined-of (u .held) G (has-group u G S) (asked s) no-line .0 (sym d ∙ e))),
+              (λ h. d ∙ determined-of (u .held) G (has-group u G S) (asked s) no-line .1 (h .1)),
             );
-            outcome = λ h. subst (OutcomeIs G (asked s)) (sym o) (outcome-of (u .held) G has-group (asked s) no-line);
+            outcome = λ h. subst (OutcomeIs G (asked s)) (sym o) (outcome-of (u .held) G (has-group u G S) (asked s) no-line);
             no-outcome = λ h. absurd (exactly .1 h z);
           }
         where

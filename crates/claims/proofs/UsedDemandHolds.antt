@@ -19,8 +19,8 @@ use Rattle.used.proofs.LeftRecords.{marks-measured, used-left}
 use Rattle.used.proofs.UsedPassing.{unused-number, unused-passes}
 use Rattle.used.proofs.UsedRefusing.{used-refused}
 use Rattle.used.specs.Used.{UsedRecord, usedAfter, usedLines, usedStep}
-use Rattle.used.specs.internal.UsedLaws.{MeasuredMarks}
-use Rattle.used.specs.UsedLaws.{UsedLeft, UsedStay}
+use Rattle.used.specs.internal.UsedLaws.{MeasuredMarks, UsedLeft}
+use Rattle.used.specs.UsedLaws.{UsedStay}
 use Rattle.words.specs.Bits.{bit}
 use Rattle.claims.proofs.RewritingsKeep.{is-after}
 use Rattle.claims.proofs.SecondDemandLists.{holds-reduced}

@@ -1,5 +1,5 @@
 -- Two records that no line refuses and their expansions: the same numbers, and the same answers for each buffer.
-use mathlib.Core.Bool.{Bool, false, not, _||_}
+use mathlib.Core.Bool.{false, not, _||_}
 use mathlib.Core.List.{List, [], _∷_}
 use mathlib.Core.Logic.{_↔_}
 use mathlib.Core.Path.{ap, ap₂, refl, sym, _∙_, _≡_}

@@ -10,7 +10,6 @@ use Rattle.buffers.specs.Buffers.{accepted, acceptedNumber}
 use Rattle.buffers.specs.Refusals.{firstFitting}
 use Rattle.groups.proofs.GroupPassing.{GroupPasses, group-accepted, group-passes}
 use Rattle.groups.proofs.GroupNumbers.{in-group, masked-number}
-use Rattle.groups.proofs.Merging.{word-cong}
 use Rattle.groups.proofs.SameGroups.{group-same}
 use Rattle.groups.specs.GroupLines.{groupAfter, groupLines}
 use Rattle.groups.specs.Masks.{inGroup, masked}
@@ -32,7 +31,7 @@ use Rattle.record.specs.Lent.{codeNumbers, heldRows, neighbourWords}
 use Rattle.stabilizer.specs.Groups.{SameGroup}
 use Rattle.used.proofs.UsedPassing.{used-passes}
 use Rattle.used.specs.Used.{UsedRecord, usedAfter, usedLinesOf, usedStep}
-use Rattle.words.proofs.BitLaws.{bit-wordOf}
+use Rattle.words.proofs.BitLaws.{bit-wordOf, word-cong}
 use Rattle.words.proofs.Flags.{never-true}
 use Rattle.words.specs.Bits.{Word, bit}
 use Rattle.claims_groups.specs.GroupsDemand.{GroupCallsStand, StandsAsWhole}

@@ -8,10 +8,10 @@ use borrow.Author.Tests.{eqb-true, leb-false}
 use Rattle.buffers.specs.Buffers.{accepted, acceptedNumber}
 use Rattle.buffers.specs.Refusals.{firstFitting}
 use Rattle.call_groups.specs.GroupCalls.{groupCall, groupMeasureCall}
+use Rattle.claims.specs.StoreDemand.{Session}
 use Rattle.contracts.specs.Calls.{Call}
 use Rattle.groups.proofs.GroupPassing.{group-accepted}
 use Rattle.groups.proofs.MaskedRecords.{apart-stray}
-use Rattle.groups.proofs.Merging.{word-cong}
 use Rattle.groups.specs.GroupLines.{groupAfter, groupLines}
 use Rattle.groups.specs.GroupStores.{groupForgotten, groupReturned, groupSaved}
 use Rattle.groups.specs.Masks.{inGroup, masked}
@@ -20,11 +20,10 @@ use Rattle.operations.specs.Measurement.{determinedNumber, outcomeNumber}
 use Rattle.operations.specs.Steps.{Operation, complementOf, czOn, gateWith, leaves, measuredAnswer, measurementOf}
 use Rattle.store.specs.Places.{Store}
 use Rattle.used.specs.Used.{UsedRecord, usedAfter, usedLinesOf, usedStep}
-use Rattle.words.proofs.BitLaws.{bit-wordOf, wordOf-bit}
+use Rattle.words.proofs.BitLaws.{bit-wordOf, word-cong, wordOf-bit}
 use Rattle.words.specs.Bits.{Word, bit}
 use Rattle.claims_groups.specs.GroupContracts.{ContractsAreSteps, withRecord, withStore}
 use Rattle.claims_groups.specs.GroupRuns.{
-  SharedState,
   groupForget,
   groupMeasure,
   groupReturn,
@@ -59,7 +58,7 @@ module _ (word g : ℕ) (u : UsedRecord) (o : Operation) (copies : (v : UsedReco
       either false x = refl
 
 -- ---- buffers and numbers that hold the answer, or what they held
-module _ (s : SharedState) (N r : ℕ) (number : r ≡ N) where
+module _ (s : Session) (N r : ℕ) (number : r ≡ N) where
   record-step : (v : UsedRecord) → s .current .held .n ≡ v .held .n → (nb′ cs′ : List ℕ) (used′ : ℕ) →
       nb′ ≡ accepted r (v .held .neighbours) (s .current .held .neighbours) →
       cs′ ≡ accepted r (v .held .codes) (s .current .held .codes) →
@@ -99,7 +98,7 @@ module _ (s : SharedState) (N r : ℕ) (number : r ≡ N) where
       go false = refl
 
 -- a gate, a cz or a complementation
-module _ (word g : ℕ) (s : SharedState) (o : Operation) (copies : (v : UsedRecord) → usedAfter v o ≡ v .used) (r : ℕ)
+module _ (word g : ℕ) (s : Session) (o : Operation) (copies : (v : UsedRecord) → usedAfter v o ≡ v .used) (r : ℕ)
     (nb′ cs′ : List ℕ) (C : Call (groupCall word g (s .current) o nb′ cs′) r) where
   used-same : s .current .used ≡ acceptedNumber r ((groupAfter word g (s .current) o) .used) (s .current .used)
   used-same = go (eqb r 0) (eqb-true r 0)
@@ -125,7 +124,7 @@ kept-buffer r buffer = go (eqb r 0)
     go false = refl
 
 -- the numbers of an accepted measurement
-told : (word g : ℕ) (s : SharedState) (pauli q b answer determined r : ℕ) (nb′ cs′ : List ℕ)
+told : (word g : ℕ) (s : Session) (pauli q b answer determined r : ℕ) (nb′ cs′ : List ℕ)
     (used′ answer′ determined′ : ℕ) →
     Call (groupMeasureCall word g (s .current) pauli q b answer determined nb′ cs′ used′ answer′ determined′) r →
     r ≡ 0 →

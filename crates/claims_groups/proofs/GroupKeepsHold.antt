@@ -9,6 +9,7 @@ use native.Mathlib.Omega.{arith}
 use Rattle.buffers.proofs.Tabulate.{tabulate-length}
 use Rattle.buffers.specs.Refusals.{firstFitting}
 use Rattle.call_groups.specs.GroupCalls.{groupCall}
+use Rattle.claims.specs.UsedDemand.{leftUsed}
 use Rattle.contracts.proofs.Fitting.{decides, fits-at, is-first, none-fits-of, skips}
 use Rattle.contracts.specs.Answers.{here}
 use Rattle.contracts.specs.Calls.{Call}
@@ -63,7 +64,6 @@ use Rattle.claims_groups.specs.GroupKeeps.{
   GroupReturnsGive,
   GroupSaveKeeps,
   GroupSavesKeep,
-  recordLeft,
 }
 
 -- ---- vertices put back into a record with the groups apart
@@ -84,16 +84,16 @@ merged-keeps word g a u H B =
 module _ (word g : ℕ) (u : UsedRecord) (o : Operation) (G : GroupOp o) (nb′ cs′ : List ℕ) (used′ : ℕ) where
   operation-keeps : firstFitting (groupLines word g u o) ≡ 0 → nb′ ≡ (groupAfter word g u o) .held .neighbours →
       cs′ ≡ (groupAfter word g u o) .held .codes → used′ ≡ (groupAfter word g u o) .used →
-      GroupKeeps word g u (recordLeft u nb′ cs′ used′)
+      GroupKeeps word g u (leftUsed u nb′ cs′ used′)
   operation-keeps z a b c = subst (GroupKeeps word g u)
-      (λ j. recordLeft u (sym a j) (sym b j) (sym c j))
+      (λ j. leftUsed u (sym a j) (sym b j) (sym c j))
       (merged-keeps word g ((usedStep (masked (inGroup word g) u) o) .after) u (group-accepted word g u o z)
       (group-apart word g u (group-accepted word g u o z) o G z))
 
 -- a gate, a cz or a complementation
 copying-keeps : (word g : ℕ) (u : UsedRecord) (o : Operation) → GroupOp o →
     ((v : UsedRecord) → usedAfter v o ≡ v .used) →
-    (nb′ cs′ : List ℕ) → Call (groupCall word g u o nb′ cs′) 0 → GroupKeeps word g u (recordLeft u nb′ cs′ (u .used))
+    (nb′ cs′ : List ℕ) → Call (groupCall word g u o nb′ cs′) 0 → GroupKeeps word g u (leftUsed u nb′ cs′ (u .used))
 copying-keeps word g u o G copies nb′ cs′ C = operation-keeps word g u o G nb′ cs′ (u .used) (sym (C .number))
     (C .held .0)
     (C .held .1 .0) (sym (used-kept word g u o copies (group-accepted word g u o (sym (C .number)))))
@@ -189,7 +189,7 @@ group-forgets-keep word g u name st heads′ C = subst (GroupForgetKeeps g name 
 
 pub group-returns-give : GroupReturnsGive
 group-returns-give word g u name st nb′ cs′ used′ C = subst (GroupReturnGives word g u name st)
-    (λ j. recordLeft u (sym (C .held .0) j) (sym (C .held .1 .0) j) (sym (C .held .1 .1 .0) j))
+    (λ j. leftUsed u (sym (C .held .0) j) (sym (C .held .1 .0) j) (sym (C .held .1 .1 .0) j))
     (returned-gives word g u name st (sym (C .number)))
 
 -- ---- 17 and 18

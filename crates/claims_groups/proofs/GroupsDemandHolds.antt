@@ -8,8 +8,8 @@ use native.Mathlib.Omega.{arith}
 use lib.Dec.{eqb}
 use lib.ListN.{getD-replicate}
 use borrow.Author.Tests.{eq-eqb, eqb-false, eqb-true}
+use Rattle.claims.specs.StoreDemand.{Session}
 use Rattle.groups.proofs.Edges.{none-crosses}
-use Rattle.groups.proofs.SharedLines.{eight-fit}
 use Rattle.jobs.proofs.Starting.{started-stands}
 use Rattle.words.proofs.BitLaws.{zero-bit}
 use Rattle.words.specs.Bits.{bit}
@@ -19,7 +19,6 @@ use Rattle.claims_groups.proofs.Views.{Good, alike-refl, alike-sym, ali
 use Rattle.claims_groups.specs.GroupRuns.{
   CallOf,
   SharedCall,
-  SharedState,
   measuredNumbers,
   observations,
   observed,
@@ -30,17 +29,11 @@ use Rattle.claims_groups.specs.GroupRuns.{
   sharedNumber,
   sharedStart,
 }
-use Rattle.claims_groups.specs.GroupsDemand.{
-  GroupsApart,
-  GroupsStayApart,
-  LooksAlike,
-  NonInterference,
-  NonInterferenceFrom,
-}
+use Rattle.claims_groups.specs.GroupsDemand.{GroupsApart, LooksAlike, NonInterference, NonInterferenceFrom}
 
 -- ---- one call
 -- accepted, or nothing changed
-after-cases : (word g : ℕ) (s : SharedState) (c : SharedCall) (P : SharedState → Type 0) →
+after-cases : (word g : ℕ) (s : Session) (c : SharedCall) (P : Session → Type 0) →
     (sharedNumber word g s c ≡ 0 → P (sharedLeft word g s c)) → P s → P (sharedAfter word g s c)
 after-cases word g s c P left kept = go (eqb (sharedNumber word g s c) 0) (eqb-true (sharedNumber word g s c) 0)
   where
@@ -48,17 +41,17 @@ after-cases word g s c P left kept = go (eqb (sharedNumber word g s c) 0) (eqb-t
     go true z = left (z refl)
     go false z = kept
 
-after-good : (word g : ℕ) (s : SharedState) → Good word s → (c : SharedCall) → Good word (sharedAfter word g s c)
+after-good : (word g : ℕ) (s : Session) → Good word s → (c : SharedCall) → Good word (sharedAfter word g s c)
 after-good word g s S c = after-cases word g s c (Good word)
     (λ z. left-good word g (accepted-group word g s c z) s S c z) S
 
-after-other : (word g h : ℕ) → g < 2 → (h ≡ g → ⊥) → (s : SharedState) → Good word s → (c : SharedCall) →
+after-other : (word g h : ℕ) → g < 2 → (h ≡ g → ⊥) → (s : Session) → Good word s → (c : SharedCall) →
     LooksAlike word g (sharedAfter word h s c) s
 after-other word g h lg ne s S c = after-cases word h s c (λ r. LooksAlike word g r s)
     (λ z. other-left word g h lg (accepted-group word h s c z) ne s S c z) (alike-refl word g s)
 
 -- ---- a group's own call on two states that look alike
-module _ (word g : ℕ) (lg : g < 2) (s t : SharedState) (S : Good word s) (T : Good word t) (A : LooksAlike word g s t)
+module _ (word g : ℕ) (lg : g < 2) (s t : Session) (S : Good word s) (T : Good word t) (A : LooksAlike word g s t)
     (c : SharedCall) where
   abbrev r : ℕ
   r = sharedNumber word g s c
@@ -98,9 +91,9 @@ alone g [] = []
 alone g (c ∷ cs) = record { group = g; call = c } ∷ alone g cs
 
 -- one call of a run, with what holds of the rest
-module _ (word g : ℕ) (lg : g < 2) (s t : SharedState) (S : Good word s) (T : Good word t) (A : LooksAlike word g s t)
+module _ (word g : ℕ) (lg : g < 2) (s t : Session) (S : Good word s) (T : Good word t) (A : LooksAlike word g s t)
     (c : CallOf)
-    (cs : List CallOf) (rest : (s t : SharedState) → Good word s → Good word t → LooksAlike word g s t →
+    (cs : List CallOf) (rest : (s t : Session) → Good word s → Good word t → LooksAlike word g s t →
     observations word g s cs ≡ observations word g t (alone g (ownCalls g cs))) where
   one-more : (b : Bool) → eqb (c .group) g ≡ b →
       cond b (observed word g s (c .call) ∷ observations word g (sharedAfter word (c .group) s (c .call)) cs)
@@ -118,7 +111,7 @@ module _ (word g : ℕ) (lg : g < 2) (s t : SharedState) (S : Good word s) (T : 
       rest (sharedAfter word (c .group) s (c .call)) t (after-good word (c .group) s S (c .call)) T
       (alike-trans (after-other word g (c .group) lg (eqb-false (c .group) g e) s S (c .call)) A)
 
-run-alone : (word g : ℕ) → g < 2 → (s t : SharedState) → Good word s → Good word t → LooksAlike word g s t →
+run-alone : (word g : ℕ) → g < 2 → (s t : Session) → Good word s → Good word t → LooksAlike word g s t →
     (cs : List CallOf) →
     observations word g s cs ≡ observations word g t (alone g (ownCalls g cs))
 run-alone word g lg s t S T A [] = refl
@@ -140,18 +133,6 @@ start-apart word =
       no-crossing = none-crosses word (sharedStart .current) (λ j k hj hk t. absurd (true≢false (sym t
           ∙ ap (λ w. bit w k) (getD-replicate 64 j 0 0 hj) ∙ zero-bit k)));
       lengths = refl;
-    }
-
-pub groups-stay-apart : GroupsStayApart
-groups-stay-apart =
-    record {
-      start = start-apart;
-      after = λ word g s S c. let G = after-good word g s (good word s S) c in record {
-        count = G .apart .count;
-        passes = G .apart .passes;
-        no-crossing = G .apart .no-crossing;
-        lengths = eight-fit ((sharedAfter word g s c) .store) (G .long);
-      };
     }
 
 pub non-interference : NonInterference

@@ -8,6 +8,7 @@ use lib.ListN.{length-set}
 use borrow.Author.Tests.{ltb-false}
 use Rattle.buffers.proofs.Tabulate.{tabulate-length}
 use Rattle.buffers.specs.Refusals.{firstFitting}
+use Rattle.claims.specs.StoreDemand.{Session}
 use Rattle.groups.proofs.GroupPassing.{group-passes}
 use Rattle.groups.proofs.MergedPasses.{group-apart, merged-apart}
 use Rattle.groups.proofs.Merging.{masked-merged-other}
@@ -34,7 +35,6 @@ use Rattle.claims_groups.proofs.OwnCalls.{held-place}
 use Rattle.claims_groups.proofs.Views.{Good, not-in-both}
 use Rattle.claims_groups.specs.GroupRuns.{
   SharedCall,
-  SharedState,
   groupComplement,
   groupCz,
   groupForget,
@@ -48,7 +48,7 @@ use Rattle.claims_groups.specs.GroupRuns.{
 use Rattle.claims_groups.specs.GroupsDemand.{LooksAlike}
 
 -- ---- an accepted call is of group 0 or 1
-module _ (word g : ℕ) (s : SharedState) where
+module _ (word g : ℕ) (s : Session) where
   operation-group : (o : Operation) → firstFitting (groupLines word g (s .current) o) ≡ 0 → g < 2
   operation-group o z = low (ltb-false 1 g (group-passes word g (s .current) o z .group))
     where
@@ -68,7 +68,7 @@ module _ (word g : ℕ) (s : SharedState) where
       shared-group word g (s .current) (s .store) (named-shared word g (s .current) name (s .store) z)
 
 -- ---- what is left looks the same to the other group
-module _ (word g h : ℕ) (lg : g < 2) (lh : h < 2) (ne : h ≡ g → ⊥) (s : SharedState) (S : Good word s) where
+module _ (word g h : ℕ) (lg : g < 2) (lh : h < 2) (ne : h ≡ g → ⊥) (s : Session) (S : Good word s) where
   apart : (q : ℕ) → inGroup word g q ≡ true → inGroup word h q ≡ false
   apart = not-in-both g h lg lh ne word
 
@@ -116,7 +116,7 @@ module _ (word g h : ℕ) (lg : g < 2) (lh : h < 2) (ne : h ≡ g → ⊥) (s : 
       }
 
 -- ---- the groups stay apart
-module _ (word g : ℕ) (lg : g < 2) (s : SharedState) (S : Good word s) where
+module _ (word g : ℕ) (lg : g < 2) (s : Session) (S : Good word s) where
   operation-good : (o : Operation) → GroupOp o → firstFitting (groupLines word g (s .current) o) ≡ 0 →
       Good word (record { current = groupAfter word g (s .current) o; store = s .store })
   operation-good o G z = record { apart = group-apart word g (s .current) (S .apart) o G z; long = S .long }

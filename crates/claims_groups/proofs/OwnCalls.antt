@@ -10,6 +10,7 @@ use lib.ListN.{set}
 use borrow.Author.Tests.{le-ltb}
 use Rattle.buffers.proofs.Tabulate.{tabulate-length}
 use Rattle.buffers.specs.Refusals.{firstFitting, line}
+use Rattle.claims.specs.StoreDemand.{Session}
 use Rattle.groups.proofs.AloneNumbers.{group-alone}
 use Rattle.groups.proofs.GroupNumbers.{masked-answer}
 use Rattle.groups.proofs.GroupPassing.{group-passes}
@@ -28,7 +29,6 @@ use Rattle.used.specs.Used.{UsedRecord, usedAfter, usedLinesOf, usedStep}
 use Rattle.claims_groups.proofs.Views.{Good}
 use Rattle.claims_groups.specs.GroupRuns.{
   SharedCall,
-  SharedState,
   groupComplement,
   groupCz,
   groupForget,
@@ -84,7 +84,7 @@ saved-left word g lg u name st H L z =
     (save-place word g u name st z) (tabulate-length (u .held .n) _ ∙ H .count)
     (tabulate-length (u .held .n) _ ∙ H .count) L
 
-module _ (word g : ℕ) (lg : g < 2) (s t : SharedState) (S : Good word s) (T : Good word t)
+module _ (word g : ℕ) (lg : g < 2) (s t : Session) (S : Good word s) (T : Good word t)
     (A : LooksAlike word g s t) where
   low : ltb 1 g ≡ false
   low = le-ltb 1 g (omega (arith, lg))
@@ -172,7 +172,7 @@ module _ (word g : ℕ) (lg : g < 2) (s t : SharedState) (S : Good word s) (T : 
       (alone s S z ∙ ap (λ v. measuredAnswer (v .held) pauli q b) (A .vertices)
       ∙ sym (alone t T (sym (own-number (groupMeasure pauli q b)) ∙ z)))
     where
-      alone : (r : SharedState) → Good word r → sharedNumber word g r (groupMeasure pauli q b) ≡ 0 →
+      alone : (r : Session) → Good word r → sharedNumber word g r (groupMeasure pauli q b) ≡ 0 →
           measuredAnswer (r .current .held) pauli q b
           ≡ measuredAnswer ((masked (inGroup word g) (r .current)) .held) pauli q b
       alone r R e =

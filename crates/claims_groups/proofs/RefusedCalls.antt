@@ -7,6 +7,7 @@ use native.Mathlib.Omega.{arith}
 use lib.Dec.{eqb, leb, ltb}
 use borrow.Author.Tests.{lt-ltb, ne-eqb}
 use Rattle.buffers.specs.Refusals.{firstFitting}
+use Rattle.claims.specs.StoreDemand.{Session}
 use Rattle.contracts.proofs.Fitting.{decides, none-holds}
 use Rattle.contracts.specs.Answers.{here}
 use Rattle.groups.proofs.GroupPassing.{group-passes}
@@ -19,7 +20,6 @@ use Rattle.store.specs.StoreLines.{holdsLine, ofRecord}
 use Rattle.claims_groups.proofs.OtherCalls.{accepted-group}
 use Rattle.claims_groups.specs.GroupRuns.{
   SharedCall,
-  SharedState,
   groupComplement,
   groupCz,
   groupForget,
@@ -35,11 +35,11 @@ use Rattle.claims_groups.specs.GroupRuns.{
 use Rattle.claims_groups.specs.GroupsDemand.{CrossingRefused, NeitherRefused, linesBefore}
 
 -- another number than 0: nothing changes
-kept : (word g : ℕ) (s : SharedState) (c : SharedCall) → (sharedNumber word g s c ≡ 0 → ⊥) → sharedAfter word g s c ≡ s
+kept : (word g : ℕ) (s : Session) (c : SharedCall) → (sharedNumber word g s c ≡ 0 → ⊥) → sharedAfter word g s c ≡ s
 kept word g s c h = ap (λ b. cond b (sharedLeft word g s c) s) (ne-eqb (sharedNumber word g s c) 0 h)
 
 -- ---- an edge between the groups
-module _ (word g : ℕ) (s : SharedState) (e : crosses word (s .current) ≡ true) where
+module _ (word g : ℕ) (s : Session) (e : crosses word (s .current) ≡ true) where
   operation-crossing : (o : Operation) →
       (crosses word (s .current) || namesOther (inGroup word g) (s .current .held .n) o) ≡ true
   operation-crossing o = ap (λ b. b || namesOther (inGroup word g) (s .current .held .n) o) e
@@ -88,7 +88,7 @@ crossing-refused word g s e c =
     }
 
 -- ---- neither group
-module _ (word g : ℕ) (above : 1 < g) (s : SharedState) where
+module _ (word g : ℕ) (above : 1 < g) (s : Session) where
   six-holds : (x : Bool) → ((x || ltb 1 g) || false) ≡ true
   six-holds x = ap (λ b. (x || b) || false) (lt-ltb 1 g above) ∙ ap (λ b. b || false) (or-true x)
 

@@ -4,6 +4,7 @@ use mathlib.Core.Path.{ap, refl, sym, _∙_, _≡_}
 use Prim.Native.Nat.{_<_, ℕ}
 use lib.Dec.{eqb}
 use Rattle.buffers.specs.Refusals.{otherThan}
+use Rattle.claims.specs.StoreDemand.{Session}
 use Rattle.groups.proofs.OwnPlaces.{EightLong}
 use Rattle.groups.specs.Masks.{inGroup}
 use Rattle.groups.specs.internal.Apart.{Apart}
@@ -11,15 +12,14 @@ use Rattle.stabilizer.proofs.SharedTests.{has-length}
 use Rattle.words.proofs.BitLaws.{two-cases}
 use Rattle.words.proofs.Flags.{neither}
 use Rattle.words.specs.Bits.{bit, sameBit}
-use Rattle.claims_groups.specs.GroupRuns.{SharedState}
 use Rattle.claims_groups.specs.GroupsDemand.{GroupsApart, LooksAlike}
 
 -- no edge between the groups, a record that passes, and a store of eight places
-pub record Good (word : ℕ) (s : SharedState) : Type 0 where
+pub record Good (word : ℕ) (s : Session) : Type 0 where
   pub apart : Apart word (s .current)
   pub long : EightLong (s .store)
 
-pub good : (word : ℕ) (s : SharedState) → GroupsApart word s → Good word s
+pub good : (word : ℕ) (s : Session) → GroupsApart word s → Good word s
 good word s G =
     let p = neither (otherThan 24 (s .store .heads))
     (otherThan 512 (s .store .neighbours) || otherThan 512 (s .store .codes)) (G .lengths) in
@@ -34,14 +34,14 @@ good word s G =
     }
 
 -- ---- looking alike
-module _ {word g : ℕ} {s t : SharedState} where
+module _ {word g : ℕ} {s t : Session} where
   pub alike-sym : LooksAlike word g s t → LooksAlike word g t s
   alike-sym a = record { vertices = sym (a .vertices); places = sym (a .places) }
 
-  pub alike-trans : {r : SharedState} → LooksAlike word g s t → LooksAlike word g t r → LooksAlike word g s r
+  pub alike-trans : {r : Session} → LooksAlike word g s t → LooksAlike word g t r → LooksAlike word g s r
   alike-trans a b = record { vertices = a .vertices ∙ b .vertices; places = a .places ∙ b .places }
 
-pub alike-refl : (word g : ℕ) (s : SharedState) → LooksAlike word g s s
+pub alike-refl : (word g : ℕ) (s : Session) → LooksAlike word g s s
 alike-refl word g s = record { vertices = refl; places = refl }
 
 -- ---- no qubit is in both groups

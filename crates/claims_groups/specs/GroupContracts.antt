@@ -4,12 +4,12 @@ use mathlib.Core.Path.{_≡_}
 use Prim.Native.Nat.{ℕ}
 use Rattle.call_group_stores.specs.GroupStoreCalls.{groupForgetCall, groupReturnCall, groupSaveCall}
 use Rattle.call_groups.specs.GroupCalls.{groupCall, groupMeasureCall}
+use Rattle.claims.specs.StoreDemand.{Session}
 use Rattle.contracts.specs.Calls.{Call}
 use Rattle.jobs.specs.Standing.{left}
 use Rattle.operations.specs.Steps.{complementOf, czOn, gateWith}
 use Rattle.claims_groups.specs.GroupRuns.{
   SharedCall,
-  SharedState,
   groupComplement,
   groupCz,
   groupForget,
@@ -23,43 +23,43 @@ use Rattle.claims_groups.specs.GroupRuns.{
 }
 
 -- the number r is that of the call, and the state after it is what it leaves
-pub record IsStep (word g : ℕ) (s : SharedState) (c : SharedCall) (r : ℕ) (after : SharedState) : Type 0 where
+pub record IsStep (word g : ℕ) (s : Session) (c : SharedCall) (r : ℕ) (after : Session) : Type 0 where
   pub number : r ≡ sharedNumber word g s c
   pub state : after ≡ sharedAfter word g s c
 
 -- the state with these buffers and this used word for the record
-abbrev pub withRecord : SharedState → List ℕ → List ℕ → ℕ → SharedState
+abbrev pub withRecord : Session → List ℕ → List ℕ → ℕ → Session
 withRecord s nb cs used =
     record { current = record { held = left (s .current .held) nb cs; used = used }; store = s .store }
 
 -- and with these buffers for the store
-abbrev pub withStore : SharedState → List ℕ → List ℕ → List ℕ → SharedState
+abbrev pub withStore : Session → List ℕ → List ℕ → List ℕ → Session
 withStore s heads nb cs =
     record { current = s .current; store = record { heads = heads; neighbours = nb; codes = cs } }
 
 -- of each call. A gate, a cz and a complementation are not lent the used word; an accepted measurement answers its
 -- outcome and its determined bit
 pub record ContractsAreSteps : Type 0 where
-  pub gate : (word g : ℕ) (s : SharedState) (q k r : ℕ) (nb′ cs′ : List ℕ) →
+  pub gate : (word g : ℕ) (s : Session) (q k r : ℕ) (nb′ cs′ : List ℕ) →
       Call (groupCall word g (s .current) (gateWith q k) nb′ cs′) r →
       IsStep word g s (groupGate q k) r (withRecord s nb′ cs′ (s .current .used))
-  pub cz : (word g : ℕ) (s : SharedState) (a b r : ℕ) (nb′ cs′ : List ℕ) →
+  pub cz : (word g : ℕ) (s : Session) (a b r : ℕ) (nb′ cs′ : List ℕ) →
       Call (groupCall word g (s .current) (czOn a b) nb′ cs′) r →
       IsStep word g s (groupCz a b) r (withRecord s nb′ cs′ (s .current .used))
-  pub measure : (word g : ℕ) (s : SharedState) (pauli q b answer determined r : ℕ) (nb′ cs′ : List ℕ)
+  pub measure : (word g : ℕ) (s : Session) (pauli q b answer determined r : ℕ) (nb′ cs′ : List ℕ)
       (used′ answer′ determined′ : ℕ) →
       Call (groupMeasureCall word g (s .current) pauli q b answer determined nb′ cs′ used′ answer′ determined′) r →
       IsStep word g s (groupMeasure pauli q b) r (withRecord s nb′ cs′ used′)
       × (r ≡ 0 → answer′ ∷ determined′ ∷ [] ≡ sharedMeasured word g s (groupMeasure pauli q b))
-  pub complement : (word g : ℕ) (s : SharedState) (a r : ℕ) (nb′ cs′ : List ℕ) →
+  pub complement : (word g : ℕ) (s : Session) (a r : ℕ) (nb′ cs′ : List ℕ) →
       Call (groupCall word g (s .current) (complementOf a) nb′ cs′) r →
       IsStep word g s (groupComplement a) r (withRecord s nb′ cs′ (s .current .used))
-  pub save : (word g : ℕ) (s : SharedState) (name r : ℕ) (heads′ nb′ cs′ : List ℕ) →
+  pub save : (word g : ℕ) (s : Session) (name r : ℕ) (heads′ nb′ cs′ : List ℕ) →
       Call (groupSaveCall word g (s .current) name (s .store) heads′ nb′ cs′) r →
       IsStep word g s (groupSave name) r (withStore s heads′ nb′ cs′)
-  pub return-to : (word g : ℕ) (s : SharedState) (name r : ℕ) (nb′ cs′ : List ℕ) (used′ : ℕ) →
+  pub return-to : (word g : ℕ) (s : Session) (name r : ℕ) (nb′ cs′ : List ℕ) (used′ : ℕ) →
       Call (groupReturnCall word g (s .current) name (s .store) nb′ cs′ used′) r →
       IsStep word g s (groupReturn name) r (withRecord s nb′ cs′ used′)
-  pub forget : (word g : ℕ) (s : SharedState) (name r : ℕ) (heads′ : List ℕ) →
+  pub forget : (word g : ℕ) (s : Session) (name r : ℕ) (heads′ : List ℕ) →
       Call (groupForgetCall word g (s .current) name (s .store) heads′) r →
       IsStep word g s (groupForget name) r (withStore s heads′ (s .store .neighbours) (s .store .codes))

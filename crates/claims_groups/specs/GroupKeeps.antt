@@ -10,20 +10,16 @@ use lib.ListN.{getD}
 use Rattle.buffers.specs.Refusals.{firstFitting}
 use Rattle.call_group_stores.specs.GroupStoreCalls.{groupForgetCall, groupReturnCall, groupSaveCall}
 use Rattle.call_groups.specs.GroupCalls.{groupCall, groupMeasureCall}
+use Rattle.claims.specs.UsedDemand.{leftUsed}
 use Rattle.contracts.specs.Calls.{Call}
 use Rattle.groups.specs.GroupStores.{ownPlaces, sharedLines}
 use Rattle.groups.specs.Masks.{crosses, inGroup, masked}
-use Rattle.jobs.specs.Standing.{left}
 use Rattle.operations.specs.Steps.{complementOf, czOn, gateWith}
 use Rattle.store.specs.Places.{Store, found, lookup, nothing, othersHeld}
 use Rattle.used.specs.Used.{UsedRecord, usedLines}
 use Rattle.words.specs.Bits.{bit}
 
 -- ---- the record
--- the record with these buffers and this used word
-abbrev pub recordLeft : UsedRecord → List ℕ → List ℕ → ℕ → UsedRecord
-recordLeft u nb cs used = record { held = left (u .held) nb cs; used = used }
-
 -- "codes and neighbour words of the other stay, reduced or not"; so do its used bits. No line refuses the record that
 -- is left, and it has no edge between the groups
 pub record GroupKeeps (word g : ℕ) (u after : UsedRecord) : Type 0 where
@@ -37,15 +33,15 @@ pub record GroupKeeps (word g : ℕ) (u after : UsedRecord) : Type 0 where
 -- of every accepted gate, cz, complementation and measurement of a group
 pub record GroupCallsKeep : Type 0 where
   pub gate : (word g : ℕ) (u : UsedRecord) (q k : ℕ) (nb′ cs′ : List ℕ) →
-      Call (groupCall word g u (gateWith q k) nb′ cs′) 0 → GroupKeeps word g u (recordLeft u nb′ cs′ (u .used))
+      Call (groupCall word g u (gateWith q k) nb′ cs′) 0 → GroupKeeps word g u (leftUsed u nb′ cs′ (u .used))
   pub cz : (word g : ℕ) (u : UsedRecord) (a b : ℕ) (nb′ cs′ : List ℕ) →
-      Call (groupCall word g u (czOn a b) nb′ cs′) 0 → GroupKeeps word g u (recordLeft u nb′ cs′ (u .used))
+      Call (groupCall word g u (czOn a b) nb′ cs′) 0 → GroupKeeps word g u (leftUsed u nb′ cs′ (u .used))
   pub complement : (word g : ℕ) (u : UsedRecord) (a : ℕ) (nb′ cs′ : List ℕ) →
-      Call (groupCall word g u (complementOf a) nb′ cs′) 0 → GroupKeeps word g u (recordLeft u nb′ cs′ (u .used))
+      Call (groupCall word g u (complementOf a) nb′ cs′) 0 → GroupKeeps word g u (leftUsed u nb′ cs′ (u .used))
   pub measure : (word g : ℕ) (u : UsedRecord) (pauli q b answer determined : ℕ) (nb′ cs′ : List ℕ)
       (used′ answer′ determined′ : ℕ) →
       Call (groupMeasureCall word g u pauli q b answer determined nb′ cs′ used′ answer′ determined′) 0 →
-      GroupKeeps word g u (recordLeft u nb′ cs′ used′)
+      GroupKeeps word g u (leftUsed u nb′ cs′ used′)
 
 -- ---- the store
 -- the other group's places are as they were
@@ -87,7 +83,7 @@ pub record GroupReturnGives (word g : ℕ) (u : UsedRecord) (name : ℕ) (st : S
 abbrev pub GroupReturnsGive : Type 0
 GroupReturnsGive = (word g : ℕ) (u : UsedRecord) (name : ℕ) (st : Store) (nb′ cs′ : List ℕ) (used′ : ℕ) →
     Call (groupReturnCall word g u name st nb′ cs′ used′) 0 →
-    GroupReturnGives word g u name st (recordLeft u nb′ cs′ used′)
+    GroupReturnGives word g u name st (leftUsed u nb′ cs′ used′)
 
 -- ---- refusals
 -- 17: exactly if no earlier line holds and the group holds nothing under the name

@@ -5,6 +5,7 @@ use Prim.Native.Nat.{ℕ}
 use lib.Dec.{eqb}
 use lib.ListN.{replicate}
 use Rattle.buffers.specs.Refusals.{Refusal, firstFitting}
+use Rattle.claims.specs.StoreDemand.{Session}
 use Rattle.groups.specs.GroupLines.{groupAfter, groupLines}
 use Rattle.groups.specs.GroupStores.{
   groupForgotten,
@@ -37,13 +38,8 @@ pub record CallOf : Type 0 where
   pub group : ℕ
   pub call : SharedCall
 
--- "Two groups share one record", and one store
-pub record SharedState : Type 0 where
-  pub current : UsedRecord
-  pub store : Store
-
--- "all start in +Z as in §5"; no name is held
-abbrev pub sharedStart : SharedState
+-- "Two groups share one record", and one store; "all start in +Z as in §5"; no name is held
+abbrev pub sharedStart : Session
 sharedStart =
     record {
       current = started 64;
@@ -52,7 +48,7 @@ sharedStart =
 
 -- ---- one call
 -- its lines in checking order
-abbrev pub sharedCallLines : ℕ → ℕ → SharedState → SharedCall → List Refusal
+abbrev pub sharedCallLines : ℕ → ℕ → Session → SharedCall → List Refusal
 sharedCallLines word g s (groupGate q k) = groupLines word g (s .current) (gateWith q k)
 sharedCallLines word g s (groupCz a b) = groupLines word g (s .current) (czOn a b)
 sharedCallLines word g s (groupMeasure pauli q b) = groupLines word g (s .current) (measurementOf pauli q b)
@@ -62,11 +58,11 @@ sharedCallLines word g s (groupReturn name) = groupNamedLines word g (s .current
 sharedCallLines word g s (groupForget name) = groupNamedLines word g (s .current) name (s .store)
 
 -- the number that it answers
-abbrev pub sharedNumber : ℕ → ℕ → SharedState → SharedCall → ℕ
+abbrev pub sharedNumber : ℕ → ℕ → Session → SharedCall → ℕ
 sharedNumber word g s c = firstFitting (sharedCallLines word g s c)
 
 -- what an accepted one leaves
-abbrev pub sharedLeft : ℕ → ℕ → SharedState → SharedCall → SharedState
+abbrev pub sharedLeft : ℕ → ℕ → Session → SharedCall → Session
 sharedLeft word g s (groupGate q k) =
     record { current = groupAfter word g (s .current) (gateWith q k); store = s .store }
 sharedLeft word g s (groupCz a b) = record { current = groupAfter word g (s .current) (czOn a b); store = s .store }
@@ -89,11 +85,11 @@ sharedLeft word g s (groupForget name) =
     }
 
 -- what a call leaves: refused, it "changes no lent byte"
-abbrev pub sharedAfter : ℕ → ℕ → SharedState → SharedCall → SharedState
+abbrev pub sharedAfter : ℕ → ℕ → Session → SharedCall → Session
 sharedAfter word g s c = cond (eqb (sharedNumber word g s c) 0) (sharedLeft word g s c) s
 
 -- the outcome and the determined bit that an accepted call answers: a measurement's alone
-abbrev pub measuredNumbers : SharedState → SharedCall → List ℕ
+abbrev pub measuredNumbers : Session → SharedCall → List ℕ
 measuredNumbers s (groupGate q k) = []
 measuredNumbers s (groupCz a b) = []
 measuredNumbers s (groupMeasure pauli q b) =
@@ -105,7 +101,7 @@ measuredNumbers s (groupReturn name) = []
 measuredNumbers s (groupForget name) = []
 
 -- those of a call: a refused one answers none
-abbrev pub sharedMeasured : ℕ → ℕ → SharedState → SharedCall → List ℕ
+abbrev pub sharedMeasured : ℕ → ℕ → Session → SharedCall → List ℕ
 sharedMeasured word g s c = cond (eqb (sharedNumber word g s c) 0) (measuredNumbers s c) []
 
 -- ---- a run
@@ -124,7 +120,7 @@ pub record Observation : Type 0 where
   pub saved-states : Store
 
 -- of one call of the group
-abbrev pub observed : ℕ → ℕ → SharedState → SharedCall → Observation
+abbrev pub observed : ℕ → ℕ → Session → SharedCall → Observation
 observed word g s c =
     record {
       refusal = sharedNumber word g s c;
@@ -134,7 +130,7 @@ observed word g s c =
     }
 
 -- "after each of its calls" of a run from a state; the calls of others are made, and not observed
-abbrev pub observations : ℕ → ℕ → SharedState → List CallOf → List Observation
+abbrev pub observations : ℕ → ℕ → Session → List CallOf → List Observation
 observations word g s [] = []
 observations word g s (c ∷ cs) =
     cond (eqb (c .group) g)

@@ -7,6 +7,7 @@ use lib.Dec.{eqb}
 use Rattle.buffers.specs.Refusals.{Refusal, firstFitting}
 use Rattle.call_gates.specs.InPlaceCalls.{usedCall, usedMeasureCall}
 use Rattle.call_groups.specs.GroupCalls.{groupCall, groupMeasureCall}
+use Rattle.claims.specs.StoreDemand.{Session}
 use Rattle.contracts.specs.Calls.{Call}
 use Rattle.groups.specs.GroupStores.{ownPlaces}
 use Rattle.groups.specs.Masks.{crosses, inGroup, masked}
@@ -19,7 +20,6 @@ use Rattle.used.specs.Used.{UsedRecord, usedLines}
 use Rattle.claims_groups.specs.GroupRuns.{
   CallOf,
   SharedCall,
-  SharedState,
   observations,
   ownCalls,
   sharedAfter,
@@ -37,26 +37,20 @@ NonInterference = (word g : ℕ) → g < 2 → (cs ds : List CallOf) → ownCall
 
 -- ---- from any state, and whatever the other group has
 -- a record of 64 qubits that no line refuses, with no edge between the groups, and a store of eight places
-pub record GroupsApart (word : ℕ) (s : SharedState) : Type 0 where
+pub record GroupsApart (word : ℕ) (s : Session) : Type 0 where
   pub count : s .current .held .n ≡ 64
   pub passes : firstFitting (usedLines (s .current) false false false) ≡ 0
   pub no-crossing : crosses word (s .current) ≡ false
   pub lengths : storeLengths 8 (s .store) ≡ false
 
--- the start is such a state, and every call leaves one
-pub record GroupsStayApart : Type 0 where
-  pub start : (word : ℕ) → GroupsApart word sharedStart
-  pub after : (word g : ℕ) (s : SharedState) → GroupsApart word s → (c : SharedCall) →
-      GroupsApart word (sharedAfter word g s c)
-
 -- to a group two states look alike: its vertices and its four places are the same
-pub record LooksAlike (word g : ℕ) (s t : SharedState) : Type 0 where
+pub record LooksAlike (word g : ℕ) (s t : Session) : Type 0 where
   pub vertices : masked (inGroup word g) (s .current) ≡ masked (inGroup word g) (t .current)
   pub places : ownPlaces g (s .store) ≡ ownPlaces g (t .store)
 
 -- what a group sees comes from its own part and its own calls alone
 abbrev pub NonInterferenceFrom : Type 0
-NonInterferenceFrom = (word g : ℕ) → g < 2 → (s t : SharedState) → GroupsApart word s → GroupsApart word t →
+NonInterferenceFrom = (word g : ℕ) → g < 2 → (s t : Session) → GroupsApart word s → GroupsApart word t →
     LooksAlike word g s t → (cs ds : List CallOf) → ownCalls g cs ≡ ownCalls g ds →
     observations word g s cs ≡ observations word g t ds
 
@@ -68,23 +62,23 @@ linesBefore k (l ∷ ls) = cond (eqb (l .number) k) [] (l ∷ linesBefore k ls)
 
 -- "where they have left an edge between the groups, every group call is refused until it is gone": by 19, where no line
 -- from 2 to 7 refuses it
-pub record RefusedByCrossing (word g : ℕ) (s : SharedState) (c : SharedCall) : Type 0 where
+pub record RefusedByCrossing (word g : ℕ) (s : Session) (c : SharedCall) : Type 0 where
   pub nineteen : firstFitting (linesBefore 19 (sharedCallLines word g s c)) ≡ 0 → sharedNumber word g s c ≡ 19
   pub unchanged : sharedAfter word g s c ≡ s
 
 -- of every call on every record with such an edge
 abbrev pub CrossingRefused : Type 0
-CrossingRefused = (word g : ℕ) (s : SharedState) → crosses word (s .current) ≡ true → (c : SharedCall) →
+CrossingRefused = (word g : ℕ) (s : Session) → crosses word (s .current) ≡ true → (c : SharedCall) →
     RefusedByCrossing word g s c
 
 -- "a call's group above 1 gives 6", where no line before refuses it
-pub record NeitherGroup (word g : ℕ) (s : SharedState) (c : SharedCall) : Type 0 where
+pub record NeitherGroup (word g : ℕ) (s : Session) (c : SharedCall) : Type 0 where
   pub six : firstFitting (linesBefore 6 (sharedCallLines word g s c)) ≡ 0 → sharedNumber word g s c ≡ 6
   pub unchanged : sharedAfter word g s c ≡ s
 
 -- of every call with such a number
 abbrev pub NeitherRefused : Type 0
-NeitherRefused = (word g : ℕ) → 1 < g → (s : SharedState) (c : SharedCall) → NeitherGroup word g s c
+NeitherRefused = (word g : ℕ) → 1 < g → (s : Session) (c : SharedCall) → NeitherGroup word g s c
 
 -- ---- against the whole-record call
 -- that call is accepted too, and "the elements of the group" that the two records stand for are the same

@@ -277,8 +277,5 @@ zAfter-id = bits 2 (zAfter identityClifford) (λ z x. z) tt
 pub xAfter-id : (z x : Bool) → xAfter identityClifford z x ≡ x
 xAfter-id = bits 2 (xAfter identityClifford) (λ z x. x) tt
 
-pub id-then : (k : Clifford) → then identityClifford k ≡ k
-id-then = onClifford _ (cliffords 5 (λ a b c d e. then identityClifford (fromFive a b c d e)) fromFive tt)
-
 pub then-id : (k : Clifford) → then k identityClifford ≡ k
 then-id = onClifford _ (cliffords 5 (λ a b c d e. then (fromFive a b c d e) identityClifford) fromFive tt)

@@ -2,5 +2,4 @@ pub mod CliffordLaws
 pub mod VectorLaws
 pub mod RowWords
 pub mod TableRules
-pub mod Sending
 pub mod Digits

@@ -1,7 +1,7 @@
 -- The action of codes from their digits, each block and each sign by one test over the 24 codes.
 use mathlib.Core.Bool.{_&&_, Bool, _||_, true}
 use mathlib.Core.List.{List}
-use mathlib.Core.Path.{ap, ap₂, refl, subst, sym, _∙_, _≡_}
+use mathlib.Core.Path.{ap₂, refl, subst, sym, _∙_, _≡_}
 use Prim.Native.Nat.{_<_, ℕ}
 use lib.Bits.{bitAnd, bitOr, bitXor}
 use lib.Dec.{T}

@@ -1,5 +1,5 @@
 -- One part compared: what the search on the part's record says of the whole records.
-use mathlib.Core.Bool.{_&&_, Bool, false, false≢true, true, true≢false, _||_}
+use mathlib.Core.Bool.{_&&_, Bool, false, false≢true, or-true, true, true≢false, _||_}
 use mathlib.Core.List.{List}
 use mathlib.Core.Logic.{inl, inr, _⊎_}
 use mathlib.Core.Path.{ap, refl, subst, sym, _∙_, _≡_}
@@ -16,6 +16,7 @@ use Rattle.comparison.proofs.LeastAtVertices.{part-least-at}
 use Rattle.comparison.specs.Choices.{LeastChoice, leastCode, leastNumber, noChoice}
 use Rattle.comparison.specs.internal.LeastAt.{LeastAt}
 use Rattle.comparison.specs.internal.Setting.{Codes}
+use Rattle.cut.proofs.Counting.{ones-count}
 use Rattle.cut.specs.Kernel.{count}
 use Rattle.graph.specs.NeighbourWords.{graphIn}
 use Rattle.parts.proofs.Along.{numbered-or-not}
@@ -26,7 +27,6 @@ use Rattle.parts.proofs.SameParts.{carried-closed}
 use Rattle.parts.specs.internal.Numbered.{Numbers}
 use Rattle.parts.specs.internal.Parts.{Closed}
 use Rattle.parts.specs.Parts.{partOf}
-use Rattle.parts_words.proofs.Spreading.{ones-count}
 use Rattle.parts_words.specs.internal.Spreads.{spreadTo}
 use Rattle.pauli.specs.Pauli.{Pauli}
 use Rattle.record.proofs.ReducedRecords.{record-proper}
@@ -82,10 +82,6 @@ module _ (n : ℕ) (nb cs nb₂ cs₂ : List ℕ) (component : ℕ) (P : SoundPa
         ap (λ w. bit w j) (sym e) ∙ spreads j
         ∙ ap (λ v. bit component j || v) (some-in n (λ i. bit component i && graphIn nb₂ i j) i k (both a b))
         ∙ or-true (bit component j)
-      where
-        or-true : (a : Bool) → (a || true) ≡ true
-        or-true false = refl
-        or-true true = refl
 
     closed-kept : Closed n (graphIn nb₂) (bit component) → x ≡ component
     closed-kept C = bit-ext∞ x component (λ j. spreads j

@@ -2,15 +2,17 @@
 use mathlib.Core.Bool.{_&&_, Bool, and-true, false, not, true}
 use mathlib.Core.Logic.{inl, inr, _⊎_}
 use mathlib.Core.Path.{ap, ap₂, refl, subst, sym, _∙_, _≡_}
-use Prim.Native.Nat.{_+_, _<_, _^_, _≤_, suc, zero, zero-le, ℕ}
-use native.Mathlib.Nat.{add-assoc, add-suc, add-zero, le-antisymm, lt-irrefl, not-suc-le-zero}
+use Prim.Native.Nat.{_+_, _/_, _<_, _^_, _≤_, suc, zero, zero-le, ℕ}
+use native.Mathlib.Nat.{add-assoc, add-suc, add-zero, le-antisymm, lt-irrefl, not-suc-le-zero, zero-add}
 use native.Mathlib.Omega.{arith}
+use lib.Arith.{lt-one}
 use lib.Bits.{bitXor, xor-lt}
+use lib.Count.{ones, ones-step}
 use lib.Dec.{eqb}
-use Rattle.words.proofs.BitLaws.{bit-ext∞, bit-xor}
+use Rattle.words.proofs.BitLaws.{bit-ext∞, bit-suc, bit-xor, bit-zero, digit-odd, half-lt}
 use Rattle.words.proofs.Finite.{⊕-twice}
 use Rattle.words.proofs.Places.{other-place, same-place}
-use Rattle.words.proofs.Sums.{fold-ext, last-or}
+use Rattle.words.proofs.Sums.{Monoid, fold-ext, fold-shift, last-or}
 use Rattle.words.specs.Bits.{bit, digit, fold, _⊕_}
 use Rattle.cut.specs.Kernel.{count}
 
@@ -49,6 +51,19 @@ count-add a zero f = simp add-zero
 count-add a (suc b) f =
     ap (λ c. count c f) (add-suc a b) ∙ ap (λ c. c + digit (f (a + b))) (count-add a b f)
     ∙ add-assoc (count a f) (count b (λ v. f (a + v))) (digit (f (a + b)))
+
+-- the ones of a word
+pub sums : Monoid ℕ 0 _+_
+sums = record { assoc = add-assoc; unit-l = zero-add; unit-r = add-zero }
+
+pub ones-count : (n w : ℕ) → w < 2 ^ n → ones w ≡ count n (bit w)
+unfolding fold ones
+ones-count zero w h = ap ones (lt-one h)
+ones-count (suc n) w h =
+    ones-step w
+    ∙ ap₂ _+_ (sym (ap digit (bit-zero w) ∙ digit-odd w))
+    (ones-count n (w / 2) (half-lt n h) ∙ fold-ext 0 _+_ n (λ q l. ap digit (sym (bit-suc w q))))
+    ∙ sym (fold-shift 0 _+_ sums n (λ q. digit (bit w q)))
 
 -- ---- one number less
 abbrev pub except : (ℕ → Bool) → ℕ → ℕ → Bool

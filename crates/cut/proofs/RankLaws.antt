@@ -1,4 +1,4 @@
--- The rank of a bit matrix: at most the number of columns, and the larger the smaller the kernel is.
+-- The rank of a bit matrix: the larger the smaller the kernel is.
 use mathlib.Core.Bool.{Bool, false, not, true}
 use mathlib.Core.Logic.{inl, inr, _⊎_}
 use mathlib.Core.Path.{ap, ap₂, refl, sym, _∙_, _≡_}
@@ -18,13 +18,10 @@ use lib.Pow.{pow-lt, pow-pos}
 use Rattle.record.specs.Columns.{isColumnDependent}
 use Rattle.words.proofs.Sums.{lt-or-ge}
 use Rattle.words.specs.Bits.{Word, digit, fold}
-use Rattle.cut.proofs.Counting.{count-none, count-upto}
+use Rattle.cut.proofs.Counting.{count-none}
 use Rattle.cut.proofs.KernelLaws.{in-kernel, kernel-doubled, kernel-kept}
 use Rattle.cut.specs.Kernel.{kernelSize}
 use Rattle.cut.specs.Rank.{rank}
-
-pub rank-upto : (m n : ℕ) (M : ℕ → Word) → rank m n M ≤ n
-rank-upto m n M = count-upto n (λ q. not (isColumnDependent m M q))
 
 -- where every column is a sum of earlier ones there is no rank
 pub rank-none : (m n : ℕ) (M : ℕ → Word) → ((q : ℕ) → q < n → isColumnDependent m M q ≡ true) → rank m n M ≡ 0

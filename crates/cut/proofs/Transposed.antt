@@ -3,21 +3,12 @@
 use mathlib.Core.Bool.{_&&_, Bool, and-false, false, not}
 use mathlib.Core.Path.{ap, ap₂, sym, _∙_, _≡_}
 use Prim.Native.Nat.{_*_, _+_, _^_, suc, zero, ℕ}
-use native.Mathlib.Nat.{
-  add-assoc,
-  add-comm,
-  add-mul,
-  add-zero,
-  eq-of-mul-eq-mul-left,
-  le-antisymm,
-  le-of-eq,
-  zero-add,
-  zero-mul,
-}
+use native.Mathlib.Nat.{add-comm, add-mul, eq-of-mul-eq-mul-left, le-antisymm, le-of-eq, zero-mul}
 use native.Mathlib.Omega.{arith}
 use lib.Pow.{pow-pos}
+use Rattle.cut.proofs.Counting.{sums}
 use Rattle.words.proofs.Finite.{and-⊕, bits, ⊕-comm}
-use Rattle.words.proofs.Sums.{Monoid, bitMonoid, fold-ext, fold-hom, fold-mul, fold-swap}
+use Rattle.words.proofs.Sums.{bitMonoid, fold-ext, fold-hom, fold-mul, fold-swap}
 use Rattle.words.specs.Bits.{Word, bit, digit, fold, parity, _⊕_}
 use Rattle.cut.proofs.EvenWords.{evens, evens-twice}
 use Rattle.cut.proofs.KernelLaws.{sumAt}
@@ -28,9 +19,6 @@ use Rattle.cut.specs.Rank.{rank}
 -- ---- sums of numbers
 abbrev sum : ℕ → (ℕ → ℕ) → ℕ
 sum = fold 0 _+_
-
-numbers : Monoid ℕ 0 _+_
-numbers = record { assoc = add-assoc; unit-l = zero-add; unit-r = add-zero }
 
 sum-constant : (b c : ℕ) → sum b (λ v. c) ≡ b * c
 unfolding fold
@@ -48,9 +36,9 @@ module _ (n : ℕ) where
   pairs-kernel : (M : ℕ → Word) → pairs M + pairs M ≡ 2 ^ n * 2 ^ n + kernelSize n n M * 2 ^ n
   unfolding pairs inKernel
   pairs-kernel M =
-      sym (fold-mul 0 _+_ numbers add-comm (2 ^ n) _ _)
+      sym (fold-mul 0 _+_ sums add-comm (2 ^ n) _ _)
       ∙ fold-ext 0 _+_ (2 ^ n) (λ v l. evens-twice n (sumAt n M (bit v)))
-      ∙ fold-mul 0 _+_ numbers add-comm (2 ^ n) _ _
+      ∙ fold-mul 0 _+_ sums add-comm (2 ^ n) _ _
       ∙ ap₂ _+_ (sum-constant (2 ^ n) (2 ^ n)) (sum-times (2 ^ n) (2 ^ n) (λ v. digit (inKernel n n M v)))
 
   -- rows first or columns first
@@ -71,7 +59,7 @@ module _ (n : ℕ) where
   pairs-transposed : (M : ℕ → Word) → pairs M ≡ pairs (λ j t. M t j)
   unfolding pairs
   pairs-transposed M =
-      fold-swap 0 _+_ numbers add-comm (2 ^ n) (2 ^ n) _
+      fold-swap 0 _+_ sums add-comm (2 ^ n) (2 ^ n) _
       ∙ fold-ext 0 _+_ (2 ^ n) (λ u k. fold-ext 0 _+_ (2 ^ n) (λ v l. ap (λ b. digit (not b))
       (exchange M (bit u) (bit v))))
 

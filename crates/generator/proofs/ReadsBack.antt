@@ -1,16 +1,15 @@
--- "The job text it writes must read back as the steps drawn": by its text, and by the scanner, which keeps them.
-use mathlib.Core.Path.{ap, refl, sym, _∙_}
+-- "The job text it writes must read back as the steps drawn": it is the text of these steps and of no other job.
+use mathlib.Core.Path.{refl}
 use mathlib.Core.List.{List}
 use Prim.Native.Nat.{ℕ, _≤_, _<_}
 use native.Mathlib.Omega.{arith}
-use lib.ListN.{length, take}
+use lib.ListN.{length}
 use Rattle.jobs.specs.declared.Step.{Step}
 use Rattle.job_text.specs.Text.{AllFit, JobTextOf}
-use Rattle.job_text.proofs.ReadBack.{back, back-accepted, back-count, back-qubits, back-steps, lines-pass}
+use Rattle.job_text.proofs.ReadBack.{lines-pass}
 use Rattle.job_text.proofs.Unique.{job-unique}
 use Rattle.generator.specs.Drawn.{drawn, generatedText}
 use Rattle.generator.specs.ReadBack.{ReadsBack}
-use Rattle.generator.specs.internal.ReadBack.{Scanned}
 use Rattle.generator.proofs.Shapes.{all-drawable, all-fit, length-drawn}
 
 module _ (n : ℕ) (some : 0 < n) (few : n ≤ 64) (count seed : ℕ) (short : count ≤ 4096) where
@@ -29,19 +28,6 @@ module _ (n : ℕ) (some : 0 < n) (few : n ≤ 64) (count seed : ℕ) (short : c
 
   pub long : length steps ≤ 4096
   long = omega (arith, length-drawn n count seed)
-
-  -- the scan of the text ends with the job
-  pub scanned : Scanned n steps (back n steps some few long fit)
-  scanned =
-      let counted = back-count n steps some few long fit in
-      record {
-        number = back-accepted n steps some few long fit;
-        qubits = back-qubits n steps some few long fit;
-        count = counted;
-        kept =
-            ap (λ k. take k (back n steps some few long fit .steps)) (sym counted)
-            ∙ back-steps n steps some few long fit;
-      }
 
   pub reads-back : ReadsBack n steps text
   reads-back = record {

@@ -12,7 +12,7 @@ use Rattle.jobs.specs.Asked.{unusedSet}
 use Rattle.jobs.specs.declared.Op.the-variants.{Gate, Cz, Measure}
 use Rattle.jobs.specs.declared.Step.{Step}
 use Rattle.job_text.specs.Text.{Fits, AllFit}
-use Rattle.text.proofs.DigitLaws.{by-test}
+use Rattle.words.proofs.Flags.{by-test}
 use Rattle.generator.specs.Draws.{draw}
 use Rattle.generator.specs.Drawn.{does, drawn, drawnCode, drawnOutcome, qubitA, qubitB, stepOf}
 use Rattle.generator.specs.Shapes.{AllDrawable, Drawable}

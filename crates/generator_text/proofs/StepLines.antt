@@ -12,9 +12,9 @@ use Rattle.job_text.specs.Text.{opWord, stepText}
 use Rattle.jobs.specs.declared.Op.{Op}
 use Rattle.jobs.specs.declared.Op.the-variants.{Gate, Cz, Measure, Complement, Pivot}
 use Rattle.jobs.specs.declared.Step.{Step}
-use Rattle.text.proofs.DigitLaws.{by-test}
 use Rattle.text.proofs.Writing.{and-then}
 use Rattle.text.specs.Text.{Printed, decimal, newline, space}
+use Rattle.words.proofs.Flags.{by-test}
 
 -- the letters of an operation without what fills them up
 op-taken : (op : Op) → take (length (opWord op ++ space)) (letters op) ≡ opWord op ++ space

@@ -23,10 +23,6 @@ signs-agree = phases 4
     (λ A B sa sb. minus (A && B)) tt
 
 module _ (n : ℕ) where
-  infixl 70 _·_
-  abbrev _·_ : Pauli → Pauli → Pauli
-  a · b = mul n a b
-
   chosen-mul-both : (v : Bool) (g z : Pauli) → chosen v (mul n g z) ≡ mul n (chosen v g) (chosen v z)
   chosen-mul-both false g z = sym (identity-mul n _)
   chosen-mul-both true g z = refl

@@ -116,9 +116,6 @@ module _ (words codes : List ℕ) (U : Unrefused (recordIn words codes)) where
     below : k j < 24
     below = A .codes-below j
 
-    abbrev pivots : Bool
-    pivots = leb 8 (k j) && ((ltb (k j) 12 || leb 20 (k j)) && not (eqb (w j / 2 ^ j) 0))
-
     -- a step by a pivot
     module _ (taken : (leb 8 (getD codes j 0) && ((ltb (getD codes j 0) 12 || leb 20 (getD codes j 0))
         && not (eqb (getD words j 0 / 2 ^ j) 0))) ≡ true) where

@@ -1,18 +1,19 @@
 -- A group's call that no line refuses: n is 64, the group is 0 or 1, the groups are apart, the call names no qubit of
 -- the other group, and the call on the whole record is not refused either.
 use mathlib.Core.Bool.{Bool, false, not, true, _||_}
-use mathlib.Core.List.{_++_, List}
+use mathlib.Core.List.{List}
 use mathlib.Core.Path.{ap, refl, subst, _∙_, _≡_}
 use Prim.Native.Nat.{ℕ}
-use lib.Dec.{eqb, leb, lit<, ltb}
+use lib.Dec.{eqb, lit<, ltb}
 use borrow.Author.Tests.{eqb-true, not-false}
 use Rattle.buffers.proofs.AddedLines.{before-none, before-passes}
 use Rattle.buffers.proofs.AddedLines.{hasNumber, test-has, test-numbered, test-passes, without-test}
-use Rattle.buffers.proofs.Lines.{Numbered, none-of-all, not-held}
+use Rattle.buffers.proofs.Lines.{Numbered}
 use Rattle.buffers.specs.Refusals.{Refusal, firstFitting, insertedBefore, line, withTest}
 use Rattle.operations.specs.Steps.{Operation, complementOf, czOn, gateWith, linesOf, measurementOf, pivotOf}
-use Rattle.record.proofs.RecordLines.{record-numbered}
-use Rattle.record.specs.Lent.{LentRecord, recordCodes, recordLines}
+use Rattle.record.proofs.AcceptedRecords.{accepted-passes}
+use Rattle.record.specs.Lent.{LentRecord, recordLines}
+use Rattle.used.proofs.AcceptedSteps.{accepted-step}
 use Rattle.used.proofs.UsedPassing.{lines-pass, used-passes}
 use Rattle.used.specs.Used.{UsedRecord, usedLines, usedLinesOf}
 use Rattle.words.proofs.Flags.{neither}
@@ -67,22 +68,7 @@ lined u (pivotOf j k) =
 -- the record of an accepted call passes
 held-passes : (l : LentRecord) (o : Operation) → firstFitting (linesOf l o) ≡ 0
     → firstFitting (recordLines l false false) ≡ 0
-held-passes l o e = go o e
-  where
-    parted : (six : Bool) (rest : List Refusal) → firstFitting (recordLines l false six ++ rest) ≡ 0
-        → firstFitting (recordLines l false false) ≡ 0
-    parted six rest e =
-        let h = none-of-all (recordLines l false six) rest (record-numbered l false six) e .0 in
-        let h4 = not-held 3 _ _ (not-held 1 _ _ h .1) in
-        let h6 = not-held 5 _ _ (not-held 4 _ _ (h4 .1) .1) in
-        subst (λ b. firstFitting (recordLines l false b) ≡ 0) (neither (recordCodes l) six (h6 .0) .1) h
-
-    go : (o : Operation) → firstFitting (linesOf l o) ≡ 0 → firstFitting (recordLines l false false) ≡ 0
-    go (gateWith q k) e = parted (leb 24 k) _ e
-    go (czOn a b) e = parted false _ e
-    go (measurementOf pauli q b) e = parted (leb 2 b || (eqb pauli 0 || leb 4 pauli)) _ e
-    go (complementOf a) e = parted false _ e
-    go (pivotOf j k) e = parted false _ e
+held-passes l o e = accepted-passes l (accepted-step l o e)
 
 pub record-unrefused : (u : UsedRecord) (o : Operation) → firstFitting (usedLinesOf u o) ≡ 0
     → firstFitting (usedLines u false false false) ≡ 0

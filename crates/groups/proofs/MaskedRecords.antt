@@ -18,14 +18,14 @@ use Rattle.store.proofs.PassingStores.{held-record}
 use Rattle.used.proofs.UsedPassing.{lines-pass}
 use Rattle.used.proofs.UsedStaying.{used-code, used-word}
 use Rattle.used.specs.Used.{UsedRecord, usedCode, usedLines, usedStray, usedWrong}
-use Rattle.words.proofs.BitLaws.{bit-above, bit-wordOf, wordOf-lt, zero-bit}
-use Rattle.words.proofs.Flags.{both-true, neither}
+use Rattle.words.proofs.BitLaws.{bit-above, bit-cond, bit-wordOf, wordOf-lt, zero-bit}
+use Rattle.words.proofs.Flags.{both-true, by-test, neither}
 use Rattle.words.proofs.Sums.{lt-or-ge}
 use Rattle.words.specs.Bits.{Word, bit}
-use Rattle.groups.specs.Masks.{crosses, inGroup, masked}
+use Rattle.groups.specs.Masks.{inGroup, masked}
 use Rattle.groups.specs.internal.Apart.{Apart}
 use Rattle.groups.proofs.Edges.{crosses-not, edge-inside, none-crosses}
-use Rattle.groups.proofs.TabledRecords.{by-cond, tabled-passes}
+use Rattle.groups.proofs.TabledRecords.{tabled-passes}
 
 -- ---- a record that passes
 module _ (word : ℕ) (u : UsedRecord) (H : Apart word u) where
@@ -40,11 +40,6 @@ module _ (word : ℕ) (u : UsedRecord) (H : Apart word u) where
 
 -- ---- what the masked record holds
 module _ (s : Word) (u : UsedRecord) where
-  -- the bits of a word, or of 0
-  bit-kept : (b : Bool) (w j : ℕ) → bit (cond b w 0) j ≡ (b && bit w j)
-  bit-kept true w j = refl
-  bit-kept false w j = zero-bit j
-
   pub masked-word : (q : ℕ) → q < u .held .n
       → getD ((masked s u) .held .neighbours) q 0 ≡ cond (s q) (getD (u .held .neighbours) q 0) 0
   masked-word q l = tabulate-at (u .held .n) _ q l
@@ -56,7 +51,7 @@ module _ (s : Word) (u : UsedRecord) where
   pub masked-graph : AcceptedRecord (u .held) → (i j : ℕ)
       → (heldRecord ((masked s u) .held)) .graph i j ≡ (s i && (heldRecord (u .held)) .graph i j)
   masked-graph A i j = elim (lt-or-ge i (u .held .n)) [
-    | inl l ↦ ap (λ w. bit w j) (masked-word i l) ∙ bit-kept (s i) (getD (u .held .neighbours) i 0) j
+    | inl l ↦ ap (λ w. bit w j) (masked-word i l) ∙ bit-cond (s i) (getD (u .held .neighbours) i 0) j
     | inr l ↦ ap (λ w. bit w j) (table-past (u .held .n) _ i l) ∙ zero-bit j
         ∙ sym (ap (λ b. s i && b) (held-above (u .held) (A .neighbours-length) i j l) ∙ and-false (s i))
   ]
@@ -97,11 +92,11 @@ module _ (word g : ℕ) (u : UsedRecord) (H : Apart word u) where
       tabled-passes (u .held .n) _ _ _ (record {
         positive = A .positive;
         upto = A .upto;
-        words = λ j l. by-cond (λ v. v < 2 ^ (u .held .n)) (s j) (λ _. A .words-below j) (λ _. pow-pos (u .held .n));
-        codes = λ q l. by-cond (λ v. v < 24) (s q) (λ _. A .codes-below q) (λ _. lit< tt);
-        symmetric = λ i j k l. bit-kept s u (s i) (getD (u .held .neighbours) i 0) j ∙ kept i j
-            ∙ sym (bit-kept s u (s j) (getD (u .held .neighbours) j 0) i);
-        loopless = λ i l. bit-kept s u (s i) (getD (u .held .neighbours) i 0) i
+        words = λ j l. by-test (λ v. v < 2 ^ (u .held .n)) (s j) _ _ (λ _. A .words-below j) (λ _. pow-pos (u .held .n));
+        codes = λ q l. by-test (λ v. v < 24) (s q) _ _ (λ _. A .codes-below q) (λ _. lit< tt);
+        symmetric = λ i j k l. bit-cond (s i) (getD (u .held .neighbours) i 0) j ∙ kept i j
+            ∙ sym (bit-cond (s j) (getD (u .held .neighbours) j 0) i);
+        loopless = λ i l. bit-cond (s i) (getD (u .held .neighbours) i 0) i
             ∙ ap (λ b. s i && b) (A .simple .loopless i) ∙ and-false (s i);
         used = λ q l e. good q (both-true (s q) (bit (u .used) q) e);
       })

@@ -15,7 +15,7 @@ use Rattle.used.proofs.UsedPassing.{lines-pass}
 use Rattle.used.proofs.UsedStaying.{used-code, used-word}
 use Rattle.used.specs.Used.{UsedRecord, usedCode, usedLines, usedStep, usedStray}
 use Rattle.words.proofs.BitLaws.{zero-bit}
-use Rattle.words.proofs.Flags.{neither, never-true}
+use Rattle.words.proofs.Flags.{by-test, neither, never-true}
 use Rattle.words.specs.Bits.{Word, bit}
 use Rattle.groups.specs.GroupLines.{groupAfter, groupLines, namesOther}
 use Rattle.groups.specs.Masks.{inGroup, masked, merged, reachesOut}
@@ -32,7 +32,7 @@ use Rattle.groups.proofs.GroupNumbers.{masked-number}
 use Rattle.groups.proofs.GroupPassing.{group-passes}
 use Rattle.groups.proofs.MaskedRecords.{apart-record}
 use Rattle.groups.proofs.OutsideStays.{after-outside}
-use Rattle.groups.proofs.TabledRecords.{by-cond, tabled-passes}
+use Rattle.groups.proofs.TabledRecords.{tabled-passes}
 
 -- a used vertex of a record that passes
 used-good : (u : UsedRecord) → firstFitting (usedLines u false false false) ≡ 0 → (q : ℕ) → bit (u .used) q ≡ true
@@ -97,12 +97,12 @@ module _ (word g : ℕ) (u a : UsedRecord) (H : Apart word u) (n64 : a .held .n 
       tabled-passes n _ _ _ (record {
         positive = A .positive;
         upto = A .upto;
-        words = λ j l. by-cond (λ v. v < 2 ^ n) (s j)
+        words = λ j l. by-test (λ v. v < 2 ^ n) (s j) _ _
             (λ _. subst (λ m. getD (a .held .neighbours) j 0 < 2 ^ m) same-n (B .words-below j))
             (λ _. A .words-below j);
-        codes = λ q l. by-cond (λ v. v < 24) (s q) (λ _. B .codes-below q) (λ _. A .codes-below q);
+        codes = λ q l. by-test (λ v. v < 24) (s q) _ _ (λ _. B .codes-below q) (λ _. A .codes-below q);
         symmetric = λ i j k l. symmetric i j;
-        loopless = λ i l. by-cond (λ v. bit v i ≡ false) (s i) (λ _. B .simple .loopless i)
+        loopless = λ i l. by-test (λ v. bit v i ≡ false) (s i) _ _ (λ _. B .simple .loopless i)
             (λ _. A .simple .loopless i);
         used = λ q l. good q (s q);
       })

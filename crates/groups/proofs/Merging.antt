@@ -7,14 +7,9 @@ use lib.ListN.{getD}
 use Rattle.buffers.proofs.Tabulate.{tabulate-at, tabulate-cong}
 use Rattle.buffers.specs.Buffers.{tabulate}
 use Rattle.used.specs.Used.{UsedRecord}
-use Rattle.words.proofs.BitLaws.{bit-ext, bit-wordOf, wordOf-lt}
+use Rattle.words.proofs.BitLaws.{bit-wordOf, word-cong}
 use Rattle.words.specs.Bits.{Word, bit, wordOf}
 use Rattle.groups.specs.Masks.{masked, merged}
-
--- a word is told by its bits below n
-pub word-cong : (n : ℕ) (f g : Word) → ((q : ℕ) → q < n → f q ≡ g q) → wordOf n f ≡ wordOf n g
-word-cong n f g h = bit-ext n (wordOf n f) (wordOf n g) (wordOf-lt n f) (wordOf-lt n g)
-    (λ q l. bit-wordOf n f q l ∙ h q l ∙ sym (bit-wordOf n g q l))
 
 -- ---- where a test is true, or is not asked
 module _ {A : Type 0} where
@@ -78,13 +73,4 @@ masked-merged-other s t apart a u = masked-same t (merged s a u) u (record {
   word = λ q l h. merged-word s a u q l false (apart q h);
   code = λ q l h. merged-code s a u q l false (apart q h);
   used = λ q l h. merged-used s a u q l false (apart q h);
-})
-
--- ---- twice
-pub masked-masked : (s : Word) (u : UsedRecord) → masked s (masked s u) ≡ masked s u
-masked-masked s u = masked-same s (masked s u) u (record {
-  count = refl;
-  word = λ q l h. tabulate-at (u .held .n) _ q l ∙ ap (λ b. cond b (getD (u .held .neighbours) q 0) 0) h;
-  code = λ q l h. tabulate-at (u .held .n) _ q l ∙ ap (λ b. cond b (getD (u .held .codes) q 0) 8) h;
-  used = λ q l h. bit-wordOf (u .held .n) _ q l ∙ ap (λ b. b && bit (u .used) q) h;
 })

@@ -13,7 +13,7 @@ use Rattle.used.proofs.MeasuringMarks.{measured-marks}
 use Rattle.used.proofs.UsedPassing.{used-passes}
 use Rattle.used.proofs.UsedStaying.{stays-after, used-code, used-word}
 use Rattle.used.specs.Used.{UsedRecord, namesUsed, usedAfter, usedCode, usedStep, usedWrong}
-use Rattle.used.specs.UsedLaws.{UsedPasses}
+use Rattle.used.specs.internal.UsedLaws.{UsedPasses}
 use Rattle.words.proofs.BitLaws.{bit-above, bit-wordOf, wordOf-lt}
 use Rattle.words.proofs.Flags.{neither}
 use Rattle.words.proofs.Places.{other-place}

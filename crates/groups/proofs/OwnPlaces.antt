@@ -22,7 +22,7 @@ use lib.Seq.{
   take-set-le,
   take-set-lt,
 }
-use Rattle.store.proofs.PlacedParts.{placed-long}
+use Rattle.store.proofs.PlacedParts.{part-front, placed-long}
 use Rattle.store.specs.Kept.{headed, placedAt, withPlace}
 use Rattle.store.specs.Places.{Store, countAt, partAt, placeAt}
 use Rattle.used.specs.Used.{UsedRecord}
@@ -30,12 +30,6 @@ use Rattle.words.proofs.Sums.{lt-or-ge}
 use Rattle.groups.specs.GroupStores.{ownPlaces}
 
 -- ---- a part of a list
-module _ (a m : ℕ) (front back : List ℕ) (l : a + m ≤ length front) where
-  part-front : take m (drop a (front ++ back)) ≡ take m (drop a front)
-  part-front =
-      ap (take m) (drop-append-le a front back (omega (arith, l)))
-      ∙ take-append-le m (drop a front) back (simp length-drop (omega (arith, l)))
-
 pub part-long : (a m : ℕ) (buffer : List ℕ) → a + m ≤ length buffer → length (take m (drop a buffer)) ≡ m
 part-long a m buffer l = length-take-le m (drop a buffer) (simp length-drop (omega (arith, l)))
 

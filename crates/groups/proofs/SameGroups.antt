@@ -13,7 +13,7 @@ use Rattle.store.proofs.PassingStores.{held-record}
 use Rattle.used.proofs.LeftRecords.{used-left}
 use Rattle.used.proofs.UsedPassing.{used-step}
 use Rattle.used.specs.Used.{UsedRecord, usedStep}
-use Rattle.used.specs.UsedLaws.{UsedLeft}
+use Rattle.used.specs.internal.UsedLaws.{UsedLeft}
 use Rattle.words.specs.Bits.{Word}
 use Rattle.groups.proofs.GroupNumbers.{masked-number}
 use Rattle.groups.proofs.GroupPassing.{GroupPasses, group-passes}

@@ -1,17 +1,14 @@
 -- What an accepted operation makes is what its buffers hold; and what a gate, a cz, a measurement and a complementation
 -- on qubits of s make of the vertices of s alone, put together with the others, stands for the group that they make of
 -- the whole record.
-use mathlib.Core.Bool.{_&&_, Bool, false, not, true}
-use mathlib.Core.List.{[], _∷_}
+use mathlib.Core.Bool.{_&&_, false, not, true}
 use mathlib.Core.Logic.{_≢_}
 use mathlib.Core.Path.{_≡_, ap, subst, sym, _∙_}
 use Prim.Native.Nat.{ℕ, _<_, _≤_}
 use native.Mathlib.Omega.{arith}
-use lib.Dec.{leb}
 use lib.ListN.{List·getD-eq-default}
-use borrow.Author.Tests.{eqb-false, leb-false, lt-ltb, not-false}
-use Rattle.buffers.proofs.Lines.{none-of-all, not-held}
-use Rattle.buffers.specs.Refusals.{firstFitting, line}
+use borrow.Author.Tests.{lt-ltb, not-false}
+use Rattle.buffers.specs.Refusals.{firstFitting}
 use Rattle.clifford.specs.Clifford.{cliffordOf}
 use Rattle.graph.proofs.Complement.{complement-simple}
 use Rattle.graph.specs.Graph.{Simple}
@@ -21,29 +18,21 @@ use Rattle.operations.proofs.MeasuredRecords.{pauli-acts}
 use Rattle.operations.proofs.UnrefusedRecords.{complement-above}
 use Rattle.operations.specs.Gates.{gated}
 use Rattle.operations.specs.Measurement.{pauliLetter}
-use Rattle.operations.specs.Steps.{
-  Operation,
-  complementOf,
-  czOn,
-  gateWith,
-  inPlaceLines,
-  leaves,
-  linesOf,
-  made,
-  measurementOf,
-}
-use Rattle.record.proofs.RecordLines.{record-numbered}
+use Rattle.operations.specs.Steps.{Operation, complementOf, czOn, gateWith, leaves, linesOf, made, measurementOf}
 use Rattle.record.proofs.ReducedRecords.{record-proper}
 use Rattle.record.proofs.Unique.{record-path}
 use Rattle.record.proofs.WrittenRecords.{record-back, reduced-back, writtenRecord}
-use Rattle.record.specs.Lent.{LentRecord, heldRecord, recordLines}
+use Rattle.record.specs.Lent.{LentRecord, heldRecord}
 use Rattle.record.specs.Records.{GraphRecord, SameRecord, complementRecord, rowsOf}
 use Rattle.stabilizer.proofs.EqualRows.{same-group-equal}
 use Rattle.stabilizer.specs.Groups.{Proper, SameGroup}
 use Rattle.used.proofs.AcceptedSteps.{
   accepted-step,
   after-made,
+  complement-arguments,
+  cz-arguments,
   cz-list,
+  gate-arguments,
   gate-proper,
   measure-arguments,
   measured-list,
@@ -59,24 +48,6 @@ use Rattle.groups.specs.GroupLines.{namesOther, outsider}
 use Rattle.groups.specs.Masks.{masked}
 use Rattle.groups.specs.internal.Apart.{GroupOp, complement-op, cz-op, gate-op, measure-op}
 use Rattle.groups.specs.internal.Sides.{MaskOf, PutTogether, Split}
-
--- ---- the arguments of an accepted operation
-eight-passes : (l : LentRecord) (six eight : Bool) → firstFitting (inPlaceLines l six eight) ≡ 0 → eight ≡ false
-eight-passes l six eight e =
-    not-held 7 _ _ (none-of-all (recordLines l false six) (line 8 eight ∷ []) (record-numbered l false six) e .1) .0
-
-gate-argument : (l : LentRecord) (q k : ℕ) → firstFitting (linesOf l (gateWith q k)) ≡ 0 → q < l .n
-gate-argument l q k e = leb-false (l .n) q (eight-passes l (leb 24 k) _ e)
-
-cz-arguments : (l : LentRecord) (a b : ℕ) → firstFitting (linesOf l (czOn a b)) ≡ 0
-    → (a < l .n) × (b < l .n) × (a ≢ b)
-cz-arguments l a b e =
-    let h = neither (leb (l .n) a) _ (eight-passes l false _ e) in
-    let k = neither (leb (l .n) b) _ (h .1) in
-    (leb-false (l .n) a (h .0), leb-false (l .n) b (k .0), eqb-false a b (k .1))
-
-complement-argument : (l : LentRecord) (a : ℕ) → firstFitting (linesOf l (complementOf a)) ≡ 0 → a < l .n
-complement-argument l a e = leb-false (l .n) a (eight-passes l false _ e)
 
 -- a qubit below n that is not outside s
 own-qubit : (s : Word) (n q : ℕ) → q < n → outsider s n q ≡ false → s q ≡ true
@@ -95,7 +66,7 @@ made-held l o g e = ap heldRecord (after-made l o e) ∙ record-path _ (made l o
     back (complement-op a) e =
         let A = accepted-step l (complementOf a) e in
         record-back (l .n) (complementRecord (heldRecord l) a) (complement-simple (l .n) _ (A .simple) a)
-        (complement-above (l .n) (heldRecord l) (A .simple) a (complement-argument l a e)
+        (complement-above (l .n) (heldRecord l) (A .simple) a (complement-arguments l a e)
         (λ q k. ap cliffordOf (List·getD-eq-default (l .codes) 0 (subst (λ m. m ≤ q) (sym (A .codes-length)) k))))
 
 -- ---- operations on qubits of s
@@ -152,7 +123,7 @@ module _ (s : Word) (u : UsedRecord)
     where
       go : {o : Operation} → GroupOp o → firstFitting (linesOf (u .held) o) ≡ 0 → namesOther s n o ≡ false → Same o
       go (gate-op q k) e f =
-          let l = gate-argument (u .held) q k e in gate-same q k l (own-qubit s n q l f)
+          let l = gate-arguments (u .held) q k e in gate-same q k l (own-qubit s n q l f)
       go (cz-op a b) e f =
           let c = cz-arguments (u .held) a b e in
           let h = neither (outsider s n a) (outsider s n b) f in
@@ -161,4 +132,4 @@ module _ (s : Word) (u : UsedRecord)
           let a = measure-arguments (u .held) pauli q b e in
           measure-same pauli q b (a .not-none) (a .below) (own-qubit s n q (a .below) f)
       go (complement-op a) e f =
-          let l = complement-argument (u .held) a e in rewritten-same a l (own-qubit s n a l f)
+          let l = complement-arguments (u .held) a e in rewritten-same a l (own-qubit s n a l f)

@@ -14,7 +14,7 @@ use Rattle.record.specs.Records.{GraphRecord, rowsOf}
 use Rattle.stabilizer.proofs.GroupLaws.{in-row}
 use Rattle.stabilizer.specs.Groups.{InGroup, Proper}
 use Rattle.words.proofs.Places.{⊕-cancel}
-use Rattle.words.specs.Bits.{Word, _⊕_}
+use Rattle.words.specs.Bits.{Word}
 use Rattle.groups.proofs.MeasuredAlike.{determined-alike}
 use Rattle.groups.proofs.SameGroupsRows.{free-commute, row-free, single-free}
 use Rattle.groups.proofs.SameGroupsTogether.{code-own, edges-own, mask-inner}

@@ -1,29 +1,24 @@
 -- A record written place by place passes its lines: words below 2 ^ n, codes below 24, a simple graph, and used
 -- vertices that are alone and have one of the six codes.
-use mathlib.Core.Bool.{Bool, cond, false, true, true≢false, _||_}
+use mathlib.Core.Bool.{false, true, true≢false, _||_}
 use mathlib.Core.Logic.{inl, inr, _⊎_}
-use mathlib.Core.Path.{ap, ap₂, refl, subst, sym, _∙_, _≡_}
+use mathlib.Core.Path.{ap, sym, _∙_, _≡_}
 use Prim.Native.Nat.{_<_, _^_, ℕ, _≤_}
 use lib.ListN.{getD}
 use borrow.Author.Tests.{lt-leb}
-use Rattle.buffers.proofs.Lines.{none-fits, passed}
 use Rattle.buffers.proofs.Tabulate.{tabulate-at, tabulate-length}
 use Rattle.buffers.specs.Buffers.{tabulate}
-use Rattle.buffers.specs.Refusals.{firstFitting, reaching}
-use Rattle.record.proofs.SimpleVerdict.{SimpleBelow, simple-exactly}
+use Rattle.buffers.specs.Refusals.{firstFitting}
+use Rattle.record.proofs.AcceptedRecords.{none-refuses}
+use Rattle.record.proofs.SimpleVerdict.{SimpleBelow}
 use Rattle.record.specs.Lent.{heldRecord, recordLines}
-use Rattle.stabilizer.proofs.SharedTests.{below-passes, count-passes, length-passes}
+use Rattle.stabilizer.proofs.SharedTests.{table-passes}
 use Rattle.used.proofs.LeftRecords.{all-good}
 use Rattle.used.proofs.UsedPassing.{lines-pass}
 use Rattle.used.specs.Used.{UsedRecord, usedCode, usedLines}
 use Rattle.words.proofs.BitLaws.{bit-above, bit-wordOf, wordOf-lt}
 use Rattle.words.proofs.Sums.{lt-or-ge}
 use Rattle.words.specs.Bits.{Word, bit, wordOf}
-
--- one of two, by what is known of each
-pub by-cond : {A : Type 0} (P : A → Type 0) (b : Bool) {x y : A} → (b ≡ true → P x) → (b ≡ false → P y) → P (cond b x y)
-by-cond P true h k = h refl
-by-cond P false h k = k refl
 
 -- the record with these words, codes and used vertices
 abbrev pub tabled : ℕ → (ℕ → ℕ) → (ℕ → ℕ) → Word → UsedRecord
@@ -43,11 +38,6 @@ pub record Tabled (n : ℕ) (f c : ℕ → ℕ) (w : Word) : Type 0 where
   pub used : (q : ℕ) → q < n → w q ≡ true → (f q ≡ 0) × (usedCode (c q) ≡ true)
 
 module _ (n : ℕ) (f c : ℕ → ℕ) (w : Word) (T : Tabled n f c w) where
-  below : (b : ℕ) (h : ℕ → ℕ) → ((j : ℕ) → j < n → h j < b) → reaching b (tabulate n h) ≡ false
-  below b h k = below-passes b (tabulate n h) (λ j l.
-      let m = subst (λ v. j < v) (tabulate-length n h) l in
-      subst (λ v. v < b) (sym (tabulate-at n h j m)) (k j m))
-
   simple : SimpleBelow n ((heldRecord ((tabled n f c w) .held)) .graph)
   simple =
       record {
@@ -58,12 +48,8 @@ module _ (n : ℕ) (f c : ℕ → ℕ) (w : Word) (T : Tabled n f c w) where
 
   held-lines : firstFitting (recordLines ((tabled n f c w) .held) false false) ≡ 0
   held-lines =
-      passed 2 _ (count-passes n (T .positive) (T .upto))
-      ∙ passed 4 _ (ap (λ b. b || false) (ap₂ _||_ (length-passes n (tabulate n f) (tabulate-length n f))
-      (length-passes n (tabulate n c) (tabulate-length n c))))
-      ∙ passed 5 _ (below (2 ^ n) f (T .words))
-      ∙ passed 6 _ (ap (λ b. b || false) (below 24 c (T .codes)))
-      ∙ passed 7 _ (simple-exactly n ((heldRecord ((tabled n f c w) .held)) .graph) .1 simple) ∙ none-fits
+      none-refuses ((tabled n f c w) .held) (T .positive) (T .upto) (tabulate-length n f) (tabulate-length n c)
+      (table-passes (2 ^ n) n f (T .words)) (table-passes 24 n c (T .codes)) simple
 
   pub tabled-passes : firstFitting (usedLines (tabled n f c w) false false false) ≡ 0
   tabled-passes =

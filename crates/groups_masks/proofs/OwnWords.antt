@@ -7,10 +7,9 @@ use lib.Dec.{eqb}
 use lib.ListN.{getD}
 use lib.Pow.{ones-lt}
 use Rattle.buffers.proofs.Tabulate.{tabulate-cong}
-use Rattle.groups.proofs.Merging.{word-cong}
 use Rattle.groups.specs.Masks.{crosses, inGroup, masked, merged, reachesOut}
 use Rattle.used.specs.Used.{UsedRecord}
-use Rattle.words.proofs.BitLaws.{and-lt-right, bit-and, bit-mask, bit-or, bit-wordOf, bit-xor, wordOf-bit}
+use Rattle.words.proofs.BitLaws.{and-lt-right, bit-and, bit-mask, bit-or, bit-wordOf, bit-xor, word-cong, wordOf-bit}
 use Rattle.words.proofs.Finite.{bits}
 use Rattle.words.proofs.SearchLaws.{some-ext}
 use Rattle.words.specs.Bits.{Word, bit, sameBit, wordOf, _⊕_}

@@ -1,7 +1,6 @@
 pub mod Examples
 pub mod Moves
 pub mod CountLaws
-pub mod Searching
 pub mod Falling
 pub mod Running
 pub mod TrackedBits

@@ -13,7 +13,6 @@ use Rattle.clifford.specs.Vectors.{codesOf}
 use Rattle.clifford_words.specs.declared.Action.{Action}
 use Rattle.clifford_words.specs.internal.Actions.{ActsAs}
 use Rattle.image.specs.Image.{isY}
-use Rattle.image_rule.specs.declared.complementing.Tracked.{Tracked}
 use Rattle.image_rule.specs.internal.Working.{Tracking, working}
 use Rattle.operations.proofs.UnrefusedRecords.{unrefused-long, unrefused-short}
 use Rattle.operations.specs.internal.InPlace.{Unrefused, recordIn}

@@ -15,11 +15,10 @@ use Rattle.buffers.specs.Refusals.{firstFitting, line}
 use Rattle.clifford.specs.Clifford.{bitC, image}
 use Rattle.clifford.specs.Vectors.{codesOf}
 use Rattle.graph.specs.Graph.{Simple}
-use Rattle.pauli.specs.Pauli.{letterAt}
 use Rattle.pauli.specs.declared.Letter.the-variants.{X}
 use Rattle.record.specs.Accepted.{AcceptedRecord}
 use Rattle.record.specs.Lent.{heldRecord}
-use Rattle.record.specs.Records.{GraphRecord, rowsOf}
+use Rattle.record.specs.Records.{GraphRecord}
 use Rattle.words.proofs.BitLaws.{bit-ext∞, lt-of-bits, wordOf-bit, zero-bit}
 use Rattle.words.proofs.SearchLaws.{first-is, some-in, some-none}
 use Rattle.words.proofs.Sums.{lt-or-ge}
@@ -179,12 +178,6 @@ answered-longer n words codes A number graph signs list count I more others lg l
         (record { number = number; graph = graph; signs = signs; list = list; count = count })) (A .neighbours-length) I
 
 -- buffers that hold a copy of a record
-pub copied-unrefused : {words codes words′ codes′ : List ℕ} → (words′ ≡ words) × (codes′ ≡ codes)
-    → Unrefused (recordIn words codes) → Unrefused (recordIn words′ codes′)
-copied-unrefused {words} {codes} {words′} {codes′} e =
-    subst (λ ws. Unrefused (recordIn words codes) → Unrefused (recordIn ws codes′)) (sym (e .0))
-    (subst (λ cs. Unrefused (recordIn words codes) → Unrefused (recordIn words cs)) (sym (e .1)) (λ U. U))
-
 pub copied-image : {words codes words′ codes′ : List ℕ} {a : ImageAnswer} → (words′ ≡ words) × (codes′ ≡ codes)
     → IsImage (length words′) (heldRecord (recordIn words′ codes′)) a
     → IsImage (length words) (heldRecord (recordIn words codes)) a

@@ -1,4 +1,3 @@
-pub mod AcceptedPasses
 pub mod ActionWords
 pub mod SignBytes
 pub mod Answering

@@ -1,6 +1,6 @@
 -- The loop of the image rule: what holds before each round, that a round keeps it, and that the loop ends where there
 -- is no move.
-use mathlib.Core.List.{_++_, List, [], append-assoc, append-nil, _∷_}
+use mathlib.Core.List.{_++_, List, [], append-assoc, _∷_}
 use mathlib.Core.Logic.{inl, inr, _⊎_}
 use mathlib.Core.Path.{ap, refl, subst, sym, _∙_, _≡_}
 use Prim.Native.Nat.{_+_, _<_, suc, zero, ℕ, _≤_}

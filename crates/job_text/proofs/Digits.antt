@@ -7,8 +7,9 @@ use native.Mathlib.Nat.{div-lt-iff-lt-mul, pow-suc}
 use native.Mathlib.Omega.{arith}
 use lib.Dec.{ltb, lit<}
 use borrow.Author.Tests.{lt-ltb, le-ltb, ltb-false}
-use Rattle.text.proofs.DigitLaws.{by-test, readDecimal}
+use Rattle.text.proofs.DigitLaws.{readDecimal}
 use Rattle.text.specs.Text.{decimal}
+use Rattle.words.proofs.Flags.{by-test}
 use Rattle.job_text.specs.Text.{digits}
 use Rattle.job_text.specs.internal.Scan.{digitValue}
 

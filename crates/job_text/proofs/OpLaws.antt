@@ -11,8 +11,8 @@ use lib.ListN.{length, getD, take, replicate, length-append, List·getD-append}
 use borrow.Author.Tests.{eqb-true}
 use Rattle.jobs.specs.declared.Op.{Op}
 use Rattle.jobs.specs.declared.Op.the-variants.{Gate, Cz, Measure, Complement, Pivot}
-use Rattle.text.proofs.DigitLaws.{by-test}
 use Rattle.text.specs.Text.{space}
+use Rattle.words.proofs.Flags.{by-test}
 use Rattle.job_text.specs.Text.{opWord}
 use Rattle.job_text.specs.internal.Scan.{letters, firstOp, afterO, opFor}
 use Rattle.job_text.proofs.Separators.{without, without-at}

@@ -6,9 +6,9 @@ use native.Mathlib.Numerals.{add-one}
 use native.Mathlib.Omega.{arith}
 use lib.Dec.{ltb}
 use lib.ListN.{length, length-append}
-use Rattle.text.proofs.DigitLaws.{by-test}
 use Rattle.text.proofs.HexLaws.{length-decimal, length-field}
 use Rattle.text.specs.Text.{decimal, space, newline}
+use Rattle.words.proofs.Flags.{by-test}
 use Rattle.job_text.proofs.Digits.{two-places, digits-last}
 use Rattle.job_text.specs.Results.{Result, resultLine, resultLines}
 use Rattle.job_text.specs.Text.{digits}

@@ -13,8 +13,8 @@ use lib.ListN.{getD, take, length-append, List·getD-append}
 use lib.Seq.{take-suc, take-all, getD-append-add, getD-append-seam}
 use borrow.Author.Tests.{lt-ltb, le-ltb, ltb-true, eqb-true, eqb-false}
 use Rattle.jobs.specs.declared.Step.{Step}
-use Rattle.text.proofs.DigitLaws.{by-test}
 use Rattle.text.specs.Text.{space, newline}
+use Rattle.words.proofs.Flags.{by-test}
 use Rattle.words.proofs.Sums.{lt-or-ge}
 use Rattle.job_text.specs.Text.{field, opWord, Fits, stepText, qubitsLine, stepNames, jobHead}
 use Rattle.job_text.specs.Text.{jobText}

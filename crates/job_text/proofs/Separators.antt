@@ -7,7 +7,7 @@ use native.Mathlib.Omega.{arith}
 use lib.Dec.{eqb, ltb}
 use lib.ListN.{length, getD, drop}
 use borrow.Author.Tests.{eq-eqb, ne-eqb}
-use Rattle.text.proofs.DigitLaws.{by-test}
+use Rattle.words.proofs.Flags.{by-test}
 use Rattle.job_text.specs.Text.{digits}
 
 -- the byte x is not in the list

@@ -8,8 +8,8 @@ use borrow.Author.Tests.{lt-ltb, ltb-true, ltb-false}
 use Rattle.jobs.specs.declared.Op.{Op}
 use Rattle.jobs.specs.declared.Op.the-variants.{Gate, Cz, Measure, Complement, Pivot}
 use Rattle.jobs.specs.declared.Step.{Step}
-use Rattle.text.proofs.DigitLaws.{by-test}
 use Rattle.text.specs.Text.{space}
+use Rattle.words.proofs.Flags.{by-test}
 use Rattle.job_text.specs.Text.{digits, field, opWord, Fits, stepText}
 use Rattle.text.proofs.Feeding.{fed-append, fed-one}
 use Rattle.text.specs.internal.Feeding.{fedBytes}

@@ -28,7 +28,8 @@ use Rattle.operations.specs.declared.Outcome.the-variants.{Chosen, Determined}
 use Rattle.record.specs.Lent.{LentRecord, codeNumbers, neighbourWords}
 use Rattle.record.specs.Records.{GraphRecord}
 use Rattle.used.specs.Used.{UsedRecord, usedAfter, usedLinesOf, usedStep}
-use Rattle.words.specs.Bits.{digit, wordOf}
+use Rattle.words.proofs.BitLaws.{digit-lt}
+use Rattle.words.specs.Bits.{wordOf}
 use Rattle.jobs.specs.Asked.{asked, numberOf, unusedSet}
 use Rattle.jobs.specs.Runs.{afterStep, answerOf, determinedOf, outcomeOf, run, started}
 use Rattle.jobs.specs.declared.Step.{Step}
@@ -111,13 +112,9 @@ refusal-small u s = first-below 20 (withTest 6 (unusedSet (s .op) (s .b) (s .val
     (lit< tt) (below-20 u (unusedSet (s .op) (s .b) (s .value)) (asked s))
 
 -- the outcome and determined are bits
-digit-small : (b : Bool) → digit b < 2
-digit-small true = lit< tt
-digit-small false = lit< tt
-
 outcome-digit : (r : Outcome) → (outcomeNumber r < 2) × (determinedNumber r < 2)
-outcome-digit (Determined b) = (digit-small b, lit< tt)
-outcome-digit (Chosen b) = (digit-small b, lit< tt)
+outcome-digit (Determined b) = (digit-lt b, lit< tt)
+outcome-digit (Chosen b) = (digit-lt b, lit< tt)
 
 outcomes-small : (l : LentRecord) (o : Operation) → (outcomeOf l o < 2) × (determinedOf l o < 2)
 outcomes-small l (gateWith q k) = (lit< tt, lit< tt)

@@ -1,10 +1,9 @@
--- Runs step by step: the record after one step more, and the answer of each step.
+-- Runs step by step: the answer of each step, and the number of qubits.
 use mathlib.Core.Bool.{Bool, cond, false, true}
 use mathlib.Core.List.{List, [], _∷_}
-use mathlib.Core.Path.{_∙_, _≡_, ap, refl}
-use Prim.Native.Nat.{_+_, _<_, suc, zero, ℕ}
+use mathlib.Core.Path.{_∙_, _≡_, refl}
+use Prim.Native.Nat.{_<_, suc, zero, ℕ}
 use native.Mathlib.Nat.{le-of-suc-le-suc, not-suc-le-zero}
-use native.Mathlib.Numerals.{add-one}
 use lib.Dec.{eqb}
 use lib.ListN.{getD, length, take}
 use Rattle.operations.specs.Steps.{leaves}
@@ -13,23 +12,6 @@ use Rattle.jobs.specs.Asked.{asked, numberOf}
 use Rattle.jobs.specs.Runs.{afterStep, answerOf, stepAnswers, run}
 use Rattle.jobs.specs.declared.Answer.{Answer}
 use Rattle.jobs.specs.declared.Step.{Step}
-
--- no step
-pub run-none : (u : UsedRecord) (steps : List Step) → run u (take 0 steps) ≡ u
-unfolding run
-run-none u steps = refl
-
--- one step more; `other` is what a list is read as past its end
-next : (u : UsedRecord) (steps : List Step) (k : ℕ) (other : Step) → k < length steps
-    → run u (take (suc k) steps) ≡ afterStep (run u (take k steps)) (getD steps k other)
-unfolding run
-next u [] k other h = absurd (not-suc-le-zero h)
-next u (s ∷ rest) zero other h = refl
-next u (s ∷ rest) (suc k) other h = next (afterStep u s) rest k other (le-of-suc-le-suc h)
-
-pub run-next : (u : UsedRecord) (steps : List Step) (k : ℕ) (other : Step) → k < length steps
-    → run u (take (k + 1) steps) ≡ afterStep (run u (take k steps)) (getD steps k other)
-run-next u steps k other h = ap (λ m. run u (take m steps)) (add-one k) ∙ next u steps k other h
 
 -- the answer of step k is that on the record after the first k steps
 pub answer-at : (u : UsedRecord) (steps : List Step) (k : ℕ) (other : Step) (none : Answer) → k < length steps

@@ -6,15 +6,7 @@ use Prim.Native.Nat.{_<_, ℕ}
 use native.Mathlib.Decide.{ℕ-discrete}
 use lib.Dec.{eqb}
 use Rattle.pauli.proofs.PauliLaws.{Pauli-path}
-use Rattle.pauli.proofs.PhaseLaws.{
-  +ᵖ-assoc,
-  +ᵖ-left,
-  imaginary-+ᵖ,
-  minus-real,
-  phaseMonoid,
-  phases,
-  sumPhase-add,
-}
+use Rattle.pauli.proofs.PhaseLaws.{+ᵖ-assoc, +ᵖ-left, imaginary-+ᵖ, minus-real, phases, sumPhase-add, sumPhase-one}
 use Rattle.pauli.specs.Pauli.{
   _+ᵖ_,
   Pauli,
@@ -31,8 +23,8 @@ use Rattle.pauli.specs.Pauli.{
   sumPhase,
 }
 use Rattle.words.proofs.Finite.{bits, ⊕-zero}
-use Rattle.words.proofs.Places.{other-place, same-place}
-use Rattle.words.proofs.Sums.{fold-ext, fold-one}
+use Rattle.words.proofs.Places.{other-place}
+use Rattle.words.proofs.Sums.{fold-ext}
 use Rattle.words.specs.Bits.{_⊕_}
 use Rattle.operations.specs.Cz.{cz, czSign}
 
@@ -79,11 +71,6 @@ z-place : (A B z z′ u u′ v v′ : Bool)
 z-place = bits 8 (λ A B z z′ u u′ v v′. flipped A B (z ⊕ z′) (u ⊕ u′) (v ⊕ v′))
     (λ A B z z′ u u′ v v′. flipped A B z u v ⊕ flipped A B z′ u′ v′) tt
 
-one-place : (n a : ℕ) → a < n → (f : ℕ → Phase) → sumPhase n (λ q. cond (eqb q a) (f q) i⁰) ≡ f a
-one-place n a l f =
-    fold-one i⁰ _+ᵖ_ phaseMonoid n a l (λ q k d. ap (λ b. cond b (f q) i⁰) (other-place d))
-    ∙ ap (λ b. cond b (f a) i⁰) (same-place a)
-
 module _ (n a b : ℕ) (ha : a < n) (hb : b < n) (ab : a ≢ b) where
   gainAt : Pauli → Pauli → ℕ → ℕ → Phase
   gainAt p r c q = gain (p .z q) (p .x q) (r .z q) (r .x q) (p .x c) (r .x c)
@@ -106,7 +93,7 @@ module _ (n a b : ℕ) (ha : a < n) (hb : b < n) (ab : a ≢ b) where
       (λ q. cond (eqb q a) (gainAt p r b q) i⁰ +ᵖ cond (eqb q b) (gainAt p r a q) i⁰)
       ∙ ap (λ t. sumPhase n (λ q. letterPhase (letterAt p q) (letterAt r q)) +ᵖ t)
       (sumPhase-add n (λ q. cond (eqb q a) (gainAt p r b q) i⁰) (λ q. cond (eqb q b) (gainAt p r a q) i⁰)
-      ∙ ap₂ _+ᵖ_ (one-place n a ha (gainAt p r b)) (one-place n b hb (gainAt p r a)))
+      ∙ ap₂ _+ᵖ_ (sumPhase-one n a ha (gainAt p r b)) (sumPhase-one n b hb (gainAt p r a)))
 
   regroup : (p r s t u v g : Phase) → s ≡ (u +ᵖ v) +ᵖ g
       → ((p +ᵖ r) +ᵖ t) +ᵖ s ≡ ((p +ᵖ u) +ᵖ (r +ᵖ v)) +ᵖ (t +ᵖ g)

@@ -5,22 +5,8 @@ use mathlib.Core.Logic.{_↔_}
 use mathlib.Core.Path.{ap, refl, subst, sym, _∙_, _≡_}
 use Prim.Native.Nat.{ℕ}
 use Rattle.pauli.proofs.PauliLaws.{mul-swap}
-use Rattle.pauli.proofs.PhaseLaws.{+ᵖ-assoc, +ᵖ-zero, minus-injective}
-use Rattle.pauli.specs.Pauli.{
-  _+ᵖ_,
-  Pauli,
-  Phase,
-  anticommute,
-  identity,
-  imaginary,
-  i²,
-  i³,
-  i¹,
-  i⁰,
-  minus,
-  mul,
-  scaled,
-}
+use Rattle.pauli.proofs.PhaseLaws.{cancel-phase, minus-injective}
+use Rattle.pauli.specs.Pauli.{Pauli, Phase, anticommute, identity, imaginary, minus, mul, scaled}
 use Rattle.stabilizer.specs.Groups.{InGroup, Proper, Trivial, Within, chosen, product}
 use Rattle.words.proofs.Sums.{fold-ext, fold-hom}
 use Rattle.words.specs.Bits.{Word}
@@ -29,16 +15,6 @@ pub record Homomorphism (n : ℕ) (f : Pauli → Pauli) : Type 0 where
   pub on-identity : f identity ≡ identity
   pub on-products : (p r : Pauli) → f (mul n p r) ≡ mul n (f p) (f r)
   pub on-powers : (t : Phase) (p : Pauli) → f (scaled t p) ≡ scaled t (f p)
-
--- a power of i on the right cancels
-cancel-phase : (a b t : Phase) → a +ᵖ t ≡ b +ᵖ t → a ≡ b
-cancel-phase a b t e = sym (undo a t) ∙ ap (λ u. u +ᵖ (t +ᵖ (t +ᵖ t))) e ∙ undo b t
-  where
-    undo : (s t : Phase) → (s +ᵖ t) +ᵖ (t +ᵖ (t +ᵖ t)) ≡ s
-    undo s i⁰ = +ᵖ-assoc s i⁰ i⁰ ∙ +ᵖ-zero s
-    undo s i¹ = +ᵖ-assoc s i¹ i³ ∙ +ᵖ-zero s
-    undo s i² = +ᵖ-assoc s i² i² ∙ +ᵖ-zero s
-    undo s i³ = +ᵖ-assoc s i³ i¹ ∙ +ᵖ-zero s
 
 module _ (n : ℕ) (f : Pauli → Pauli) (F : Homomorphism n f) where
   pub keeps-anticommute : (p r : Pauli) → anticommute n (f p) (f r) ≡ anticommute n p r

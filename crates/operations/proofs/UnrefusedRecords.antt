@@ -6,14 +6,15 @@ use Prim.Native.Nat.{_<_, ℕ, _≤_}
 use native.Mathlib.Omega.{arith}
 use lib.ListN.{List·getD-eq-default, getD, length}
 use Rattle.buffers.proofs.Tabulate.{tabulate-length}
+use Rattle.buffers.specs.Refusals.{firstFitting}
 use Rattle.clifford.specs.Clifford.{cliffordOf, identityClifford, then}
 use Rattle.graph.specs.Graph.{Simple}
 use Rattle.graph.specs.NeighbourWords.{graphIn}
-use Rattle.record.proofs.AcceptedRecords.{accepted-record}
+use Rattle.record.proofs.AcceptedRecords.{accepted-passes, accepted-record}
 use Rattle.record.proofs.Unique.{record-path}
 use Rattle.record.proofs.WrittenRecords.{record-back, record-passes, writtenRecord}
 use Rattle.record.specs.Accepted.{AcceptedRecord}
-use Rattle.record.specs.Lent.{codeNumbers, heldRecord, neighbourWords}
+use Rattle.record.specs.Lent.{codeNumbers, heldRecord, neighbourWords, recordLines}
 use Rattle.record.specs.Records.{GraphRecord, complementRecord}
 use Rattle.words.proofs.Places.{other-place}
 use Rattle.operations.specs.internal.InPlace.{Rewritten, Unrefused, recordIn}
@@ -83,3 +84,18 @@ module _ (words codes : List ℕ) (U : Unrefused (recordIn words codes)) (f : Gr
       let A = accepted-record (recordIn words codes) false false (U .no-line) in
       subst Unrefused (sym are-written)
       (record { no-line = record-passes (length words) new S above (A .positive) (A .upto) })
+
+-- buffers that hold a copy of a record
+pub copied-unrefused : {words codes words′ codes′ : List ℕ} → (words′ ≡ words) × (codes′ ≡ codes)
+    → Unrefused (recordIn words codes) → Unrefused (recordIn words′ codes′)
+copied-unrefused e U = subst Unrefused (sym (ap₂ recordIn (e .0) (e .1))) U
+
+-- the buffers of an accepted record, whose length is n
+pub accepted-unrefused : (n : ℕ) (words codes : List ℕ)
+    → AcceptedRecord (record { n = n; neighbours = words; codes = codes }) → Unrefused (recordIn words codes)
+accepted-unrefused n words codes A =
+    record {
+      no-line =
+          subst (λ m. firstFitting (recordLines (record { n = m; neighbours = words; codes = codes }) false false) ≡ 0)
+          (sym (A .neighbours-length)) (accepted-passes _ A);
+    }

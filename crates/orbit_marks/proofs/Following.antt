@@ -8,10 +8,10 @@ use native.Mathlib.Nat.{le-trans, lt-of-lt-of-le, not-suc-le-zero}
 use native.Mathlib.Omega.{arith}
 use lib.Bits.{bitXor}
 use lib.ListN.{getD, length, replicate}
+use Rattle.buffers.proofs.Mapping.{zeros, zeros-at}
 use Rattle.buffers.proofs.Tabulate.{tabulate-at}
 use Rattle.buffers.specs.Buffers.{tabulate}
 use Rattle.cut.proofs.Counting.{count-none}
-use Rattle.orbit_numbers.proofs.Edges.{zeros-at}
 use Rattle.orbits.proofs.Complements.{complement-flips, complement-lt}
 use Rattle.orbits.proofs.GraphNumbers.{graph-simple}
 use Rattle.orbits.proofs.Pairs.{graphs-fit}
@@ -77,7 +77,7 @@ pub record Following (n g : ℕ) (list₀ : List ℕ) (tail₀ : ℕ) (marks lis
 
 -- no number is marked in words that are 0
 zeros-unmarked : (h : ℕ) → marked (replicate 512 0) h ≡ false
-unfolding marked
+unfolding marked zeros
 zeros-unmarked h = ap (λ w. bit w (h % 64)) (zeros-at 512 (h / 64)) ∙ zero-bit (h % 64)
 
 pub none-marked : (marks list : List ℕ) → marks ≡ replicate 512 0 → length list ≡ 32768 → Queue marks list 0

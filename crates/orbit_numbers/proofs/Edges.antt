@@ -3,7 +3,7 @@ use mathlib.Core.Bool.{_&&_, Bool, and-comm, and-false, and-true, false, or-fals
 use mathlib.Core.List.{List}
 use mathlib.Core.Logic.{_≢_}
 use mathlib.Core.Path.{ap, ap₂, refl, subst, sym, _∙_, _≡_}
-use Prim.Native.Nat.{_+_, _<_, _^_, suc, zero, ℕ, _≤_}
+use Prim.Native.Nat.{_+_, _<_, _^_, ℕ, _≤_}
 use native.Mathlib.Decide.{ℕ-discrete}
 use native.Mathlib.Nat.{le-antisymm}
 use native.Mathlib.Numerals.{add-one}
@@ -12,6 +12,7 @@ use lib.Bits.{bitOr}
 use lib.Dec.{eqb}
 use lib.ListN.{getD, length, length-set, replicate, set}
 use lib.Seq.{getD-set-other, getD-set-same}
+use Rattle.buffers.proofs.Mapping.{zeros, zeros-at}
 use Rattle.orbits.specs.Numbers.{graphAt, joins, nextPair, pairAt, pairCount}
 use Rattle.orbits.specs.declared.Pair.{Pair}
 use Rattle.words.proofs.BitLaws.{bit-or, bit-single, zero-bit}
@@ -52,14 +53,9 @@ pub record Joining (n pairs g : ℕ) (words : List ℕ) (k : ℕ) (pair : Pair) 
   pub long : length words ≡ 6
   pub edges : (i j : ℕ) → bit (getD words i 0) j ≡ some k (λ m. bit g m && joins (pairAt n m) i j)
 
-pub zeros-at : (k i : ℕ) → _≡_ {A = ℕ} (getD (replicate k 0) i 0) 0
-zeros-at zero i = refl
-zeros-at (suc k) zero = refl
-zeros-at (suc k) (suc i) = zeros-at k i
-
 pub none-joined : (n pairs g : ℕ) → n ≤ 6 → pairs ≡ pairCount n
     → Joining n pairs g (replicate 6 0) 0 (record { low = 0; high = 1 })
-unfolding some
+unfolding some zeros
 none-joined n pairs g few e = record {
   at = first-pair n pairs few e;
   long = refl;

@@ -1,43 +1,29 @@
 -- The search for the part of a vertex: what it has reached lies in the part, and where nothing is new it is the part.
-use mathlib.Core.Bool.{_&&_, Bool, false, or-false, true, _||_}
+use mathlib.Core.Bool.{_&&_, Bool, false, or-false, or-true, true, _||_}
 use mathlib.Core.List.{List}
 use mathlib.Core.Logic.{inl, inr, _⊎_}
 use mathlib.Core.Path.{ap, ap₂, refl, subst, sym, _∙_, _≡_}
-use Prim.Native.Nat.{_+_, _-_, _/_, _<_, _≤_, _^_, suc, zero, ℕ}
+use Prim.Native.Nat.{_+_, _-_, _<_, _≤_, _^_, ℕ}
 use native.Mathlib.Numerals.{add-one}
-use native.Mathlib.Nat.{add-assoc, add-zero}
 use native.Mathlib.Omega.{arith}
-use lib.Arith.{lt-one}
 use lib.Bits.{and-le-r, bitAnd, bitOr}
-use lib.Count.{ones, ones-step}
+use lib.Count.{ones}
 use lib.Dec.{eqb, ltb}
 use lib.ListN.{getD, length}
 use lib.Pow.{pow-lt}
 use borrow.Author.Tests.{eqb-true}
-use Rattle.cut.proofs.Counting.{count-ext}
+use Rattle.cut.proofs.Counting.{count-ext, ones-count}
 use Rattle.cut.specs.Kernel.{count}
 use Rattle.graph.specs.Graph.{Graph, Simple}
 use Rattle.graph.specs.NeighbourWords.{graphIn}
 use Rattle.parts.proofs.PartLaws.{both, of-part, part-closed, part-has}
 use Rattle.parts.specs.internal.Parts.{Closed}
 use Rattle.parts.specs.Parts.{partOf}
-use Rattle.words.proofs.BitLaws.{
-  bit-above,
-  bit-and,
-  bit-ext∞,
-  bit-or,
-  bit-single,
-  bit-suc,
-  bit-zero,
-  digit-odd,
-  half-lt,
-  lt-of-bits,
-}
+use Rattle.words.proofs.BitLaws.{bit-above, bit-and, bit-ext∞, bit-or, bit-single, lt-of-bits}
 use Rattle.words.proofs.Flags.{both-true, either, same-by-both}
 use Rattle.words.proofs.Places.{same-place}
 use Rattle.words.proofs.SearchLaws.{some-in, some-none, some-true}
-use Rattle.words.proofs.Sums.{Monoid, fold-ext, fold-shift}
-use Rattle.words.specs.Bits.{bit, digit, fold}
+use Rattle.words.specs.Bits.{bit}
 use Rattle.words.specs.Search.{first, some}
 use Rattle.parts_words.specs.internal.Spreads.{PartWord, spreadTo}
 
@@ -166,24 +152,8 @@ module _ (n : ℕ) (θ : Graph) (S : Simple n θ) (q : ℕ) (l : q < n) where
             ap (λ w. bit w j) (sym e) ∙ G .step j
             ∙ ap (λ v. bit reached j || v) (some-in n (λ i. bit reached i && θ i j) i k (both a b))
             ∙ or-true (bit reached j)
-          where
-            or-true : (a : Bool) → (a || true) ≡ true
-            or-true false = refl
-            or-true true = refl
 
 -- ---- sizes
-sums : Monoid ℕ 0 _+_
-sums = record { assoc = add-assoc; unit-l = λ a. omega arith; unit-r = add-zero }
-
-pub ones-count : (n w : ℕ) → w < 2 ^ n → ones w ≡ count n (bit w)
-unfolding fold ones
-ones-count zero w h = ap ones (lt-one h)
-ones-count (suc n) w h =
-    ones-step w
-    ∙ ap₂ _+_ (sym (ap digit (bit-zero w) ∙ digit-odd w))
-    (ones-count n (w / 2) (half-lt n h) ∙ fold-ext 0 _+_ n (λ q l. ap digit (sym (bit-suc w q))))
-    ∙ sym (fold-shift 0 _+_ sums n (λ q. digit (bit w q)))
-
 pub part-ones : (n : ℕ) (θ : Graph) (q r : ℕ) → PartWord n θ q r → ones r ≡ count n (partOf n θ q)
 part-ones n θ q r P = ones-count n r (P .below) ∙ count-ext n (bit r) (partOf n θ q) (P .marks)
 

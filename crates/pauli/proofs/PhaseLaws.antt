@@ -1,10 +1,11 @@
 -- Powers of i: laws by one test over their two bits, and sums of phases.
-use mathlib.Core.Bool.{Bool, false, true, true≢false}
+use mathlib.Core.Bool.{Bool, cond, false, true, true≢false}
 use mathlib.Core.Path.{ap, refl, sym, _∙_, _≡_}
-use Prim.Native.Nat.{ℕ}
-use lib.Dec.{T, eqb, eqb→eq}
+use Prim.Native.Nat.{_<_, ℕ}
+use lib.Dec.{T, eqb, eqb→eq, lit<}
 use Rattle.words.proofs.Finite.{Law, Of, bits, law, test}
-use Rattle.words.proofs.Sums.{Monoid, fold-ext, fold-hom, fold-mul}
+use Rattle.words.proofs.Places.{other-place, same-place}
+use Rattle.words.proofs.Sums.{Monoid, fold-ext, fold-hom, fold-mul, fold-one}
 use Rattle.words.specs.Bits.{Word, parity, _⊕_}
 use Rattle.pauli.specs.Pauli.{
   _+ᵖ_,
@@ -28,6 +29,12 @@ power-exponent i⁰ = refl
 power-exponent i¹ = refl
 power-exponent i² = refl
 power-exponent i³ = refl
+
+pub exponent-lt : (a : Phase) → exponent a < 4
+exponent-lt i⁰ = lit< tt
+exponent-lt i¹ = lit< tt
+exponent-lt i² = lit< tt
+exponent-lt i³ = lit< tt
 
 pub exponent-two : (a : Phase) → eqb (exponent a) 2 ≡ signBit a
 exponent-two i⁰ = refl
@@ -68,12 +75,31 @@ pub +ᵖ-comm : (a b : Phase) → a +ᵖ b ≡ b +ᵖ a
 pub +ᵖ-zero : (a : Phase) → a +ᵖ i⁰ ≡ a
 +ᵖ-zero = onTurns _ (phases 2 (λ a a′. two a a′ +ᵖ i⁰) two tt)
 
+-- a power of i four times is 1, so it cancels
+pub four-times : (a : Phase) → a +ᵖ (a +ᵖ (a +ᵖ a)) ≡ i⁰
+four-times i⁰ = refl
+four-times i¹ = refl
+four-times i² = refl
+four-times i³ = refl
+
+pub cancel-phase : (a b t : Phase) → a +ᵖ t ≡ b +ᵖ t → a ≡ b
+cancel-phase a b t e = sym (undo a) ∙ ap (λ u. u +ᵖ (t +ᵖ (t +ᵖ t))) e ∙ undo b
+  where
+    undo : (s : Phase) → (s +ᵖ t) +ᵖ (t +ᵖ (t +ᵖ t)) ≡ s
+    undo s = +ᵖ-assoc s t (t +ᵖ (t +ᵖ t)) ∙ ap (λ u. s +ᵖ u) (four-times t) ∙ +ᵖ-zero s
+
 pub imaginary-+ᵖ : (a b : Phase) → imaginary (a +ᵖ b) ≡ imaginary a ⊕ imaginary b
 imaginary-+ᵖ = onTurns _ λ a a′. onTurns _ λ b b′. bits 4 (λ a a′ b b′. imaginary (two a a′ +ᵖ two b b′))
     (λ a a′ b b′. imaginary (two a a′) ⊕ imaginary (two b b′)) tt a a′ b b′
 
 pub phaseMonoid : Monoid Phase i⁰ _+ᵖ_
 phaseMonoid = record { assoc = +ᵖ-assoc; unit-l = λ a. refl; unit-r = +ᵖ-zero }
+
+-- a sum of which one place alone counts
+pub sumPhase-one : (n a : ℕ) → a < n → (f : ℕ → Phase) → sumPhase n (λ q. cond (eqb q a) (f q) i⁰) ≡ f a
+sumPhase-one n a l f =
+    fold-one i⁰ _+ᵖ_ phaseMonoid n a l (λ q k d. ap (λ b. cond b (f q) i⁰) (other-place d))
+    ∙ ap (λ b. cond b (f a) i⁰) (same-place a)
 
 pub sumPhase-add : (n : ℕ) (f g : ℕ → Phase) → sumPhase n (λ q. f q +ᵖ g q) ≡ sumPhase n f +ᵖ sumPhase n g
 sumPhase-add = fold-mul i⁰ _+ᵖ_ phaseMonoid +ᵖ-comm

@@ -49,6 +49,10 @@ places-plotted n few signs z x =
     ap (λ k. plotAnswer (record { n = n; signs = take k signs; z = take k z; x = take k x }))
     (sym (min-eq-left {n = n} {m = 64} (omega (arith, few))))
 
+-- the program's own line does not hold
+pub same-number : (l : GeneratorList) → l .n ≤ 10 → firstFitting (plotLines l) ≡ firstFitting (checkLines l)
+same-number l few = passed 2 (checkLines l) (le-ltb 10 (l .n) few)
+
 module _ (l : GeneratorList) (nb cs words bytes out : List ℕ) (W : RoomFor (l .n) nb cs words bytes out) where
   lent : Lent (l .n) nb cs out
   lent =
@@ -64,17 +68,13 @@ module _ (l : GeneratorList) (nb cs words bytes out : List ℕ) (W : RoomFor (l 
       let most : 2 ^ (l .n) ≤ 1024 = pow-mono (W .few) in
       (omega (arith, e, most), omega (arith, e, most, W .room))
 
-  -- the program's own line does not hold
-  same-number : firstFitting (plotLines l) ≡ firstFitting (checkLines l)
-  same-number = passed 2 (checkLines l) (le-ltb 10 (l .n) (W .few))
-
   module _ (number : ℕ) (nb′ cs′ : List ℕ) (C : Call (reduceCall l nb cs nb′ cs′) number) where
     -- a refusal has at most two digits
     pub refusal-small : number < 100
     refusal-small = number-small l nb cs out lent number nb′ cs′ C
 
     number-found : number ≡ firstFitting (plotLines l)
-    number-found = number-is l nb cs out lent number nb′ cs′ C ∙ sym same-number
+    number-found = number-is l nb cs out lent number nb′ cs′ C ∙ sym (same-number l (W .few))
 
     pub refused-plotted : (number ≡ 0 → ⊥) → refusedText number ≡ plotAnswer l
     unfolding plotAnswer

@@ -1,17 +1,17 @@
--- What it means that a record is accepted.
+-- What it means that a record is accepted, and that no line holds of such a record.
 use mathlib.Core.Bool.{Bool, false, or-false, true, _||_}
 use mathlib.Core.List.{List}
 use mathlib.Core.Logic.{inl, inr, _⊎_}
-use mathlib.Core.Path.{ap, subst, sym, _∙_, _≡_}
+use mathlib.Core.Path.{ap, ap₂, subst, sym, _∙_, _≡_}
 use Prim.Native.Nat.{_<_, _^_, ℕ, _≤_}
 use lib.Dec.{lit<}
 use lib.ListN.{List·getD-eq-default, getD, length}
 use lib.Pow.{pow-pos}
-use Rattle.buffers.proofs.Lines.{not-held, only-where-true}
+use Rattle.buffers.proofs.Lines.{none-fits, not-held, only-where-true, passed}
 use Rattle.buffers.proofs.Reaching.{below-all}
 use Rattle.buffers.specs.Refusals.{badCount, firstFitting, reaching}
 use Rattle.graph.specs.Graph.{Simple}
-use Rattle.stabilizer.proofs.SharedTests.{counted}
+use Rattle.stabilizer.proofs.SharedTests.{below-passes, count-passes, counted, length-passes}
 use Rattle.words.proofs.BitLaws.{bit-above, zero-bit}
 use Rattle.words.proofs.Flags.{neither}
 use Rattle.words.proofs.Sums.{lt-or-ge}
@@ -93,6 +93,24 @@ accepted-record l others six e =
       simple = simple;
       proper = record-proper (l .n) (heldRecord l) simple;
     }
+
+-- no line holds of a record that passes each test
+pub none-refuses : (l : LentRecord) → 1 ≤ l .n → l .n ≤ 64 → length (l .neighbours) ≡ l .n → length (l .codes) ≡ l .n →
+    recordStray l ≡ false → recordCodes l ≡ false → SimpleBelow (l .n) ((heldRecord l) .graph) →
+    firstFitting (recordLines l false false) ≡ 0
+none-refuses l positive upto words codes no-stray no-code simple =
+    passed 2 _ (count-passes (l .n) positive upto)
+    ∙ passed 4 _ (ap (λ b. b || false) (ap₂ _||_ (length-passes (l .n) (l .neighbours) words)
+    (length-passes (l .n) (l .codes) codes)))
+    ∙ passed 5 _ no-stray ∙ passed 6 _ (ap (λ b. b || false) no-code)
+    ∙ passed 7 _ (simple-exactly (l .n) ((heldRecord l) .graph) .1 simple) ∙ none-fits
+
+pub accepted-passes : (l : LentRecord) → AcceptedRecord l → firstFitting (recordLines l false false) ≡ 0
+accepted-passes l A =
+    none-refuses l (A .positive) (A .upto) (A .neighbours-length) (A .codes-length)
+    (below-passes (2 ^ (l .n)) (l .neighbours) (λ j k. A .words-below j))
+    (below-passes 24 (l .codes) (λ q k. A .codes-below q))
+    (record { symmetric = λ i j k h. A .simple .symmetric i j; loopless = λ i k. A .simple .loopless i })
 
 -- "a number comes back only where its line below is true"
 pub record RecordNumbers (l : LentRecord) (others six : Bool) (r : ℕ) : Type 0 where

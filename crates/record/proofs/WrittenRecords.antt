@@ -1,27 +1,26 @@
 -- A record written into buffers and read back: it is the same record, and it is refused by no line.
-use mathlib.Core.Bool.{false, _||_}
+use mathlib.Core.Bool.{false}
 use mathlib.Core.Logic.{inl, inr}
-use mathlib.Core.Path.{ap, ap₂, subst, sym, _∙_, _≡_}
-use Prim.Native.Nat.{_<_, _^_, ℕ, _≤_}
-use Rattle.buffers.proofs.Lines.{none-fits, passed}
+use mathlib.Core.Path.{ap, sym, _∙_, _≡_}
+use Prim.Native.Nat.{_^_, ℕ, _≤_}
 use Rattle.buffers.proofs.Tabulate.{tabulate-at, tabulate-length}
-use Rattle.buffers.specs.Buffers.{tabulate}
-use Rattle.buffers.specs.Refusals.{firstFitting, reaching}
+use Rattle.buffers.specs.Refusals.{firstFitting}
 use Rattle.clifford.proofs.CliffordLaws.{cliffordOf-codeOf, codeOf-lt}
 use Rattle.clifford.specs.Clifford.{cliffordOf, codeOf, identityClifford}
 use Rattle.graph.specs.Graph.{Simple}
 use Rattle.pauli.specs.Pauli.{Pauli}
+use Rattle.record.proofs.AcceptedRecords.{none-refuses}
 use Rattle.stabilizer.proofs.EqualRows.{same-group-equal}
 use Rattle.stabilizer.proofs.GroupLaws.{same-trans}
 use Rattle.stabilizer.proofs.ReadBack.{table-past, word-back}
-use Rattle.stabilizer.proofs.SharedTests.{below-passes, count-passes, length-passes}
+use Rattle.stabilizer.proofs.SharedTests.{table-passes}
 use Rattle.stabilizer.specs.Groups.{Proper, SameGroup}
 use Rattle.words.proofs.BitLaws.{wordOf-lt, zero-bit}
 use Rattle.words.proofs.Sums.{lt-or-ge}
 use Rattle.words.specs.Bits.{bit, wordOf}
 use Rattle.record.proofs.ReducedCodes.{reduced-code-above}
 use Rattle.record.proofs.ReducedRecords.{reduced-is, same-group}
-use Rattle.record.proofs.SimpleVerdict.{SimpleBelow, simple-exactly}
+use Rattle.record.proofs.SimpleVerdict.{SimpleBelow}
 use Rattle.record.proofs.Unique.{record-path}
 use Rattle.record.specs.Lent.{
   LentRecord,
@@ -62,19 +61,10 @@ module _ (n : ℕ) (r : GraphRecord) (S : Simple n (r .graph)) (above : (q : ℕ
 
     pub record-passes : 1 ≤ n → n ≤ 64 → firstFitting (recordLines (writtenRecord n r) false false) ≡ 0
     record-passes positive upto =
-        passed 2 _ (count-passes n positive upto)
-        ∙ passed 4 _ (ap (λ b. b
-        || false) (ap₂ _||_ (length-passes n (neighbourWords n r) (tabulate-length n _))
-        (length-passes n (codeNumbers n r) (tabulate-length n _))))
-        ∙ passed 5 _ (table-below (2 ^ n) (λ j. wordOf n (r .graph j)) (λ j. wordOf-lt n (r .graph j)))
-        ∙ passed 6 _ (ap (λ b. b
-        || false) (table-below 24 (λ q. codeOf (r .codes q)) (λ q. codeOf-lt (r .codes q))))
-        ∙ passed 7 _ (simple-exactly n ((heldRecord (writtenRecord n r)) .graph) .1 still-simple) ∙ none-fits
+        none-refuses (writtenRecord n r) positive upto (tabulate-length n _) (tabulate-length n _)
+        (table-passes (2 ^ n) n (λ j. wordOf n (r .graph j)) (λ j l. wordOf-lt n (r .graph j)))
+        (table-passes 24 n (λ q. codeOf (r .codes q)) (λ q l. codeOf-lt (r .codes q))) still-simple
       where
-        table-below : (b : ℕ) (f : ℕ → ℕ) → ((j : ℕ) → f j < b) → reaching b (tabulate n f) ≡ false
-        table-below b f h = below-passes b (tabulate n f) (λ j l. subst (λ k. k < b)
-            (sym (tabulate-at n f j (subst (λ m. j < m) (tabulate-length n f) l))) (h j))
-
         still-simple : SimpleBelow n ((heldRecord (writtenRecord n r)) .graph)
         still-simple =
             record {

@@ -60,9 +60,6 @@ module _ (n : ℕ) (l : n ≤ 64) (R : ℕ → Pauli) (L : Loaded n R) where
 
 module _ (n : ℕ) (l : n ≤ 64) (R : ℕ → Pauli) (L : Loaded n R) (q i : ℕ) (hq : q < n) (hi : i < n)
     (has : (R i) .x q ≡ true) where
-  lent : ℕ → Pauli
-  lent = shear n R i (lend R q)
-
   loaded-lent : Loaded n (shear n R i (lend R q))
   loaded-lent =
       loaded-shear n l R L i hi (lend R q) (lend-self n R q i hq hi has)

@@ -126,9 +126,6 @@ module _ (R : ℕ → Pauli) (q i holders : ℕ) (P : PivotReady R q i holders) 
 module _ (R : ℕ → Pauli) (q i holders : ℕ) (P : PivotReady R q i holders) (R₁ : ℕ → Pauli)
     (e : (j : ℕ) → R₁ j ≡ shear 64 R i (lend R q) j) (named : ℕ)
     (h : (j : ℕ) → bit named j ≡ put (bit holders) q false j) where
-  lent : ℕ → Pauli
-  lent = shear 64 R i (lend R q)
-
   is-clear : (j : ℕ) → bit named j ≡ clear (shear 64 R i (lend R q)) q j
   is-clear j =
       h j

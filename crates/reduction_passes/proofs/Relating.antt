@@ -1,5 +1,5 @@
 -- Signs and relative signs: they differ where a row's pairs of Y are odd in number.
-use mathlib.Core.Bool.{_&&_, Bool, Bool·beq, and-false, false, not, true}
+use mathlib.Core.Bool.{_&&_, Bool, Bool·beq, false, not, true}
 use mathlib.Core.List.{List, []}
 use mathlib.Core.Logic.{inl, inr, _≢_, _⊎_}
 use mathlib.Core.Path.{ap, ap₂, fun-ext, refl, subst, sym, _∙_, _≡_}

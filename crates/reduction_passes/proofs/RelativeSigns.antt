@@ -8,26 +8,9 @@ use lib.Bits.{and-comm, and-lt, and-self, and-zero-l, bitAnd, bitXor, xor-lt, xo
 use lib.Count.{ones}
 use lib.Dec.{eqb}
 use lib.Pow.{pow-pos}
-use Rattle.pauli.proofs.PhaseLaws.{+ᵖ-assoc, +ᵖ-zero, minus-⊕, phases, sumPhase-add}
+use Rattle.pauli.proofs.PhaseLaws.{cancel-phase, minus-⊕, phases, sumPhase-add}
 use Rattle.pauli.proofs.WordRows.{anticommute-count, backWord, clashWord, countPhase, power-add, row-mul}
-use Rattle.pauli.specs.Pauli.{
-  Pauli,
-  Phase,
-  _+ᵖ_,
-  anticommute,
-  i²,
-  i³,
-  i¹,
-  i⁰,
-  letter,
-  letterAt,
-  letterPhase,
-  minus,
-  mul,
-  power,
-  row,
-  sumPhase,
-}
+use Rattle.pauli.specs.Pauli.{Phase, _+ᵖ_, anticommute, i¹, i⁰, letter, letterPhase, minus, mul, power, row, sumPhase}
 use Rattle.words.proofs.BitLaws.{bit-and, bit-xor, low-digit, odd-add, zero-bit}
 use Rattle.words.proofs.Finite.{bits, ⊕-zero}
 use Rattle.words.proofs.OnesLaws.{dot-bits, dot-xor, dot-xor-r, parity-xor}
@@ -89,19 +72,6 @@ place : (z x z′ x′ : Bool) → letterPhase (letter z x) (letter z′ x′) +
 place = phases 4 (λ z x z′ x′. letterPhase (letter z x) (letter z′ x′) +ᵖ turn ((z ⊕ z′) && (x ⊕ x′)))
     (λ z x z′ x′. (turn (z && x) +ᵖ turn (z′ && x′)) +ᵖ minus (z && x′)) tt
 
--- what is added on both sides cancels
-cancel : (a b c : Phase) → a +ᵖ c ≡ b +ᵖ c → a ≡ b
-cancel a b c e = sym (back a) ∙ ap (λ t. t +ᵖ (c +ᵖ (c +ᵖ c))) e ∙ back b
-  where
-    four : (c : Phase) → c +ᵖ (c +ᵖ (c +ᵖ c)) ≡ i⁰
-    four i⁰ = refl
-    four i¹ = refl
-    four i² = refl
-    four i³ = refl
-
-    back : (a : Phase) → (a +ᵖ c) +ᵖ (c +ᵖ (c +ᵖ c)) ≡ a
-    back a = +ᵖ-assoc a c _ ∙ ap (λ t. a +ᵖ t) (four c) ∙ +ᵖ-zero a
-
 module _ (z x z′ x′ : ℕ) (hz : z < 2 ^ 64) (hx : x < 2 ^ 64) (hz′ : z′ < 2 ^ 64) (hx′ : x′ < 2 ^ 64)
     (commute : anticommute 64 (row i⁰ z x) (row i⁰ z′ x′) ≡ false) where
   -- the number of Y of two words, as a power of i
@@ -154,7 +124,7 @@ module _ (z x z′ x′ : ℕ) (hz : z < 2 ^ 64) (hx : x < 2 ^ 64) (hz′ : z′
       ≡ minus ((((dot z x′ ⊕ (dot z x && dot z′ x′)) ⊕ halfY z x) ⊕ halfY z′ x′) ⊕ halfY (bitXor z z′) (bitXor x x′))
   unfolding mul
   relative-phase =
-      cancel _ _ _ (added ∙ sym (ap (λ b. minus ((((dot z x′ ⊕ (dot z x && dot z′ x′)) ⊕ halfY z x) ⊕ halfY z′ x′)
+      cancel-phase _ _ _ (added ∙ sym (ap (λ b. minus ((((dot z x′ ⊕ (dot z x && dot z′ x′)) ⊕ halfY z x) ⊕ halfY z′ x′)
       ⊕ halfY (bitXor z z′) (bitXor x x′)) +ᵖ (minus (halfY (bitXor z z′) (bitXor x x′)) +ᵖ turn b)) y-parity
       ∙ sums (dot z x′) (dot z x) (dot z′ x′) (halfY z x) (halfY z′ x′) (halfY (bitXor z z′) (bitXor x x′))))
     where

@@ -44,9 +44,6 @@ phase-at = phases 3 (λ h z x. imagePhase (cond h (cliffordOf 8) identityCliffor
 
 -- ---- one row on words
 module _ (h z x : ℕ) (small : h < 2 ^ 64) (s : Bool) where
-  abbrev swapped : ℕ
-  swapped = bitAnd (bitXor z x) h
-
   bit-swapped : (a q : ℕ) → bit (bitXor a (bitAnd (bitXor z x) h)) q ≡ bit a q
       ⊕ ((bit z q ⊕ bit x q) && bit h q)
   bit-swapped a q =

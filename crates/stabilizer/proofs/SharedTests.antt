@@ -1,7 +1,7 @@
 -- What the tests say that the lines of lists and records share: the number of qubits, and a buffer's length.
 use mathlib.Core.Bool.{false, not, _||_}
 use mathlib.Core.List.{List}
-use mathlib.Core.Path.{ap, ap₂, sym, _≡_}
+use mathlib.Core.Path.{ap, ap₂, subst, sym, _≡_}
 use Prim.Native.Nat.{_<_, zero-le, ℕ, _≤_}
 use native.Mathlib.Nat.{le-refl}
 use native.Mathlib.Omega.{arith}
@@ -10,6 +10,8 @@ use lib.Dec.{eqb, ltb}
 use lib.ListN.{getD, length}
 use borrow.Author.Tests.{eq-eqb, eqb-false, eqb-true, le-ltb, lt-leb, ltb-false, ne-eqb, not-false}
 use Rattle.buffers.proofs.Reaching.{reaches-not}
+use Rattle.buffers.proofs.Tabulate.{tabulate-at, tabulate-length}
+use Rattle.buffers.specs.Buffers.{tabulate}
 use Rattle.buffers.specs.Refusals.{badCount, otherThan, reaching}
 use Rattle.words.proofs.Flags.{neither}
 
@@ -34,3 +36,8 @@ pub below-passes : (b : ℕ) (buffer : List ℕ) → ((j : ℕ) → j < length b
     reaching b buffer ≡ false
 below-passes b buffer h =
     reaches-not b buffer (length buffer) (le-refl (length buffer)) (λ j l. lt-leb b (getD buffer j 0) (h j l))
+
+pub table-passes : (b n : ℕ) (f : ℕ → ℕ) → ((j : ℕ) → j < n → f j < b) → reaching b (tabulate n f) ≡ false
+table-passes b n f h = below-passes b (tabulate n f) (λ j l.
+    let m = subst (λ k. j < k) (tabulate-length n f) l in
+    subst (λ v. v < b) (sym (tabulate-at n f j m)) (h j m))

@@ -9,23 +9,18 @@ use lib.Dec.{ltb}
 use lib.ListN.{getD, length, set}
 use borrow.Author.Tests.{le-ltb, lt-ltb}
 use Rattle.buffers.proofs.Mapping.{Mapped, mapped-end, mapped-store}
-use Rattle.words.proofs.BitLaws.{bit-ext∞, bit-xor, zero-bit}
+use Rattle.words.proofs.BitLaws.{bit-cond, bit-ext∞, bit-xor}
 use Rattle.words.proofs.Finite.{⊕-zero}
 use Rattle.words.specs.Bits.{bit, _⊕_}
 use Rattle.stabilizer.proofs.Pairs.{lettersOf}
 use Rattle.stabilizer_independence.proofs.Pivots.{letterBit}
 use Rattle.stabilizer_independence.specs.internal.Additions.{Added, laterWith, sumWhere}
 
--- a word where a bit is set, else 0
-pub cond-bit : (b : Bool) (w q : ℕ) → bit (cond b w 0) q ≡ (b && bit w q)
-cond-bit false w q = zero-bit q
-cond-bit true w q = refl
-
 pub sum-bit : (b : Bool) (words : List ℕ) (k j q : ℕ)
     → bit (sumWhere b words k j) q ≡ bit (getD words j 0) q ⊕ (b && bit (getD words k 0) q)
 sum-bit b words k j q =
     bit-xor (getD words j 0) (cond b (getD words k 0) 0) q
-    ∙ ap (λ c. bit (getD words j 0) q ⊕ c) (cond-bit b (getD words k 0) q)
+    ∙ ap (λ c. bit (getD words j 0) q ⊕ c) (bit-cond b (getD words k 0) q)
 
 -- a row that is not to have it stays
 sum-none : (b : Bool) (words : List ℕ) (k j : ℕ) → b ≡ false → getD words j 0 ≡ sumWhere b words k j

@@ -1,7 +1,6 @@
 pub mod StoreExamples
 pub mod ManyRecords
 pub mod StoreNumbers
-pub mod Searching
 pub mod PassingStores
 pub mod SavePlaces
 pub mod Names

@@ -6,13 +6,14 @@ use mathlib.Core.Path.{ap, refl, subst, sym, _∙_, _≡_}
 use Prim.Native.Nat.{_<_, ℕ}
 use native.Mathlib.Nat.{eq-or-lt-of-le, lt-irrefl, lt-trans}
 use lib.Dec.{eqb}
-use borrow.Author.Tests.{eq-eqb, eqb-true, not-true}
+use borrow.Author.Tests.{eqb-true, not-true}
 use Rattle.words.proofs.Flags.{both-true, never-true}
+use Rattle.words.proofs.Places.{same-place}
 use Rattle.words.proofs.SearchLaws.{some-false, some-in, some-true}
+use Rattle.words.proofs.Searching.{below-some}
 use Rattle.words.proofs.Sums.{lt-or-ge}
 use Rattle.words.specs.Search.{IsFirst, first}
 use Rattle.store.proofs.SavePlaces.{named-place, new-place}
-use Rattle.store.proofs.Searching.{below-some}
 use Rattle.store.specs.Kept.{savePlace}
 use Rattle.store.specs.Places.{freePlace, hasName, holdsName, isHeld, nameAt, namedTwice, placeOf}
 
@@ -43,9 +44,6 @@ module _ (k : ℕ) (heads : List ℕ) where
     ]
   ]
 
-  same-name : (n : ℕ) → eqb n n ≡ true
-  same-name n = eq-eqb n n refl
-
   pub once-names : Once → namedTwice k heads ≡ false
   once-names O = never-true (namedTwice k heads) (λ e. at (first k twiceAt) (some-true k twiceAt e))
     where
@@ -55,7 +53,7 @@ module _ (k : ℕ) (heads : List ℕ) where
           let G = some-true i (hasName heads (nameAt heads i)) (p .1) in
           lt-irrefl i (subst (λ t. t < i) (O (nameAt heads i) (first i (hasName heads (nameAt heads i))) i
           (lt-trans (G .below) (F .below)) (F .below) (G .passes)
-          (ap (λ b. b && eqb (nameAt heads i) (nameAt heads i)) (p .0) ∙ same-name (nameAt heads i))) (G .below))
+          (ap (λ b. b && eqb (nameAt heads i) (nameAt heads i)) (p .0) ∙ same-place (nameAt heads i))) (G .below))
 
 -- a place that holds no other name, where no other place holds the name
 pub record TakenFor (k : ℕ) (heads : List ℕ) (name p : ℕ) : Type 0 where

@@ -21,6 +21,13 @@ use Rattle.words.proofs.Sums.{lt-or-ge}
 use Rattle.store.specs.Kept.{headed, placedAt}
 use Rattle.store.specs.Places.{countAt, nameAt, partAt}
 
+-- a part of the front of a list
+pub part-front : (a m : ℕ) (front back : List ℕ) → a + m ≤ length front
+    → take m (drop a (front ++ back)) ≡ take m (drop a front)
+part-front a m front back l =
+    ap (take m) (drop-append-le a front back (omega (arith, l)))
+    ∙ take-append-le m (drop a front) back (simp length-drop (omega (arith, l)))
+
 -- ---- heads
 module _ (p n name used : ℕ) (heads : List ℕ) (l : 3 * p + 3 ≤ length heads) where
   pub headed-long : length (headed p n name used heads) ≡ length heads
@@ -66,16 +73,10 @@ module _ (p : ℕ) (new old : List ℕ) (few : length new ≤ 64) (l : 64 * p + 
       ap (take (length new)) (drop-at (take (64 * p) old) (new ++ drop (64 * p + length new) old) (64 * p) before-long)
       ∙ take-at new (drop (64 * p + length new) old) (length new) refl
 
-  -- a part that ends before
-  inside : (a m : ℕ) (front back : List ℕ) → a + m ≤ length front → take m (drop a (front ++ back)) ≡ take m (drop a front)
-  inside a m front back h =
-      ap (take m) (drop-append-le a front back (omega (arith, h)))
-      ∙ take-append-le m (drop a front) back (simp length-drop (omega (arith, h)))
-
   pub placed-before : (i m : ℕ) → i < p → m ≤ 64 → partAt i m (placedAt p new old) ≡ partAt i m old
   placed-before i m h few′ =
-      inside (64 * i) m (take (64 * p) old) (new ++ drop (64 * p + length new) old) fits
-      ∙ sym (inside (64 * i) m (take (64 * p) old) (drop (64 * p) old) fits)
+      part-front (64 * i) m (take (64 * p) old) (new ++ drop (64 * p + length new) old) fits
+      ∙ sym (part-front (64 * i) m (take (64 * p) old) (drop (64 * p) old) fits)
       ∙ ap (λ b. take m (drop (64 * i) b)) (take-append-drop (64 * p) old)
     where
       fits : 64 * i + m ≤ length (take (64 * p) old)

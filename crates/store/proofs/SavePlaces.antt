@@ -7,7 +7,7 @@ use native.Mathlib.Nat.{not-le-of-lt}
 use lib.Dec.{eqb}
 use Rattle.words.proofs.Flags.{never-true}
 use Rattle.words.proofs.SearchLaws.{every-at, every-in, some-false, some-true}
-use Rattle.store.proofs.Searching.{above-none, below-some}
+use Rattle.words.proofs.Searching.{above-none, below-some}
 use Rattle.store.specs.Kept.{savePlace}
 use Rattle.store.specs.Places.{freePlace, hasName, holdsName, isHeld, nameAt, othersHeld, placeOf}
 

@@ -10,9 +10,9 @@ use Rattle.pauli.proofs.PhaseLaws.{sign-minus}
 use Rattle.pauli.specs.Pauli.{Pauli, letter, letterAt, minus, signBit, xBit, zBit}
 use Rattle.stabilizer.proofs.Accepted.{WellFormed}
 use Rattle.stabilizer.specs.Lists.{GeneratorList, listOf, rows}
-use Rattle.words.proofs.BitLaws.{bit-ext, bit-wordOf, two-cases, wordOf-bit, wordOf-lt}
+use Rattle.words.proofs.BitLaws.{bit-wordOf, isOdd-digit, two-cases, word-cong, wordOf-bit}
 use Rattle.words.proofs.Finite.{bits}
-use Rattle.words.specs.Bits.{Word, bit, digit, isOdd, wordOf}
+use Rattle.words.specs.Bits.{bit, digit, isOdd, wordOf}
 use Rattle.strings.proofs.FormLaws.{form-text}
 use Rattle.strings.proofs.LineLaws.{letter-read, line-letter, line-sign, same-line, sign-read}
 use Rattle.strings.proofs.TextLaws.{lines-count, string-at}
@@ -24,11 +24,6 @@ pub record SameRow (n : ℕ) (p r : Pauli) : Type 0 where
   pub sign : signBit (p .phase) ≡ signBit (r .phase)
   pub z : (q : ℕ) → q < n → p .z q ≡ r .z q
   pub x : (q : ℕ) → q < n → p .x q ≡ r .x q
-
-pub word-cong : (n : ℕ) (f g : Word) → ((q : ℕ) → q < n → f q ≡ g q) → wordOf n f ≡ wordOf n g
-word-cong n f g h =
-    bit-ext n (wordOf n f) (wordOf n g) (wordOf-lt n f) (wordOf-lt n g)
-    (λ q l. bit-wordOf n f q l ∙ h q l ∙ sym (bit-wordOf n g q l))
 
 abbrev pub buffers : ℕ → List ℕ → List ℕ → List ℕ → GeneratorList
 buffers n s z x = record { n = n; signs = s; z = z; x = x }
@@ -59,9 +54,6 @@ z-letter = bits 2 (λ z x. zBit (letter z x)) (λ z x. z) tt
 
 x-letter : (z x : Bool) → xBit (letter z x) ≡ x
 x-letter = bits 2 (λ z x. xBit (letter z x)) (λ z x. x) tt
-
-odd-sign : (b : Bool) → isOdd (digit b) ≡ b
-odd-sign = bits 1 (λ b. isOdd (digit b)) (λ b. b) tt
 
 -- ---- a list written and read
 -- the rows of the text
@@ -103,7 +95,7 @@ listed-row : (n : ℕ) (R : ℕ → Pauli) (j : ℕ) → j < n → SameRow n (ro
 listed-row n R j l =
     record {
       sign = sign-minus _ ∙ ap isOdd (tabulate-at n (λ j. digit (signBit ((R j) .phase))) j l)
-          ∙ odd-sign (signBit ((R j) .phase));
+          ∙ isOdd-digit (signBit ((R j) .phase));
       z = λ q k. ap (λ w. bit w q) (tabulate-at n (λ j. wordOf n ((R j) .z)) j l) ∙ bit-wordOf n ((R j) .z) q k;
       x = λ q k. ap (λ w. bit w q) (tabulate-at n (λ j. wordOf n ((R j) .x)) j l) ∙ bit-wordOf n ((R j) .x) q k;
     }

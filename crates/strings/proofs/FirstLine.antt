@@ -2,7 +2,7 @@
 use mathlib.Core.Bool.{false, true}
 use mathlib.Core.List.{List}
 use mathlib.Core.Path.{ap, sym, _∙_, _≡_}
-use Prim.Native.Nat.{_*_, _+_, _<_, suc, ℕ}
+use Prim.Native.Nat.{_+_, _<_, suc, ℕ}
 use native.Mathlib.Nat.{zero-add, zero-mul}
 use lib.Dec.{eqb}
 use lib.ListN.{getD}

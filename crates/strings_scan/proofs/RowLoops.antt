@@ -14,9 +14,8 @@ use Rattle.pauli.proofs.PhaseLaws.{sign-minus}
 use Rattle.pauli.specs.Pauli.{xBit, zBit}
 use Rattle.pauli.specs.declared.Generator.{Generator}
 use Rattle.pauli.specs.declared.Letter.{Letter}
-use Rattle.strings.proofs.BackLaws.{word-cong}
 use Rattle.strings.specs.Reading.{isLetter, letterOf, rowOf}
-use Rattle.words.proofs.BitLaws.{wordOf-lt}
+use Rattle.words.proofs.BitLaws.{word-cong, wordOf-lt}
 use Rattle.words.specs.Bits.{Word, digit, wordOf}
 use Rattle.strings_scan.specs.internal.Generators.{LettersFit, bothWords, generatorIn, lettersFrom}
 

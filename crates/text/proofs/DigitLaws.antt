@@ -1,21 +1,16 @@
 -- Digits read back: the value of a printed digit is the digit, a byte that has a value is its printed digit,
 -- and the digits of a number lead back to it.
 use mathlib.Core.Path.{_≡_, refl, ap, ap₂, _∙_, subst}
-use mathlib.Core.Bool.{Bool, true, false, cond}
+use mathlib.Core.Bool.{Bool}
 use mathlib.Core.List.{List, [], _∷_, _++_}
 use Prim.Native.Nat.{ℕ, zero, suc, _+_, _-_, _*_, _/_, _%_, _^_, _<_}
 use native.Mathlib.Nat.{mod-eq-of-lt, div-lt-iff-lt-mul, pow-suc}
 use native.Mathlib.Omega.{arith}
 use lib.Dec.{ltb, lit<}
 use borrow.Author.Tests.{lt-ltb, le-ltb, ltb-true, ltb-false}
+use Rattle.words.proofs.Flags.{by-test}
 use Rattle.text.specs.Text.{hexDigit, hexText, decimal}
 use Rattle.text.specs.internal.Scan.{hexValue, push}
-
--- a statement of a case distinction, by its two cases
-module _ {A : Type 0} (P : A → Type 0) where
-  pub by-test : (test : Bool) (x y : A) → (test ≡ true → P x) → (test ≡ false → P y) → P (cond test x y)
-  by-test true x y f g = f refl
-  by-test false x y f g = g refl
 
 pub value-digit : (d : ℕ) → d < 16 → hexValue (hexDigit d) ≡ d
 unfolding hexValue hexDigit

@@ -12,6 +12,7 @@ use lib.ListN.{getD, take}
 use lib.Pow.{pow-mono, pow-add}
 use lib.Seq.{take-suc}
 use borrow.Author.Tests.{ltb-true, ltb-false, eqb-true, eqb-false}
+use Rattle.words.proofs.Flags.{by-test}
 use Rattle.text.specs.Text.{hexText, space, ListLine, Fits, AllFit, lineText, linesText, listNames, listText}
 use Rattle.text.specs.Text.{HasForm}
 use Rattle.text.specs.internal.Scan.{hexValue, push, moved, namesStep, signStep, zStep, xStep, stepAt, oneMore}
@@ -19,7 +20,7 @@ use Rattle.text.specs.declared.scan.Scan.{Scan}
 use Rattle.text.specs.declared.scan.Place.{Place}
 use Rattle.text.specs.declared.scan.Place.the-variants.{Names, Sign, Space, Z, X, Broken}
 use Rattle.text.proofs.HexLaws.{hex-push}
-use Rattle.text.proofs.DigitLaws.{by-test, digit-value, push-exact}
+use Rattle.text.proofs.DigitLaws.{digit-value, push-exact}
 use Rattle.text.proofs.FormLaws.{list-more, fit-more}
 use Rattle.text.proofs.ScanLine.{scanAt}
 

@@ -70,13 +70,16 @@ module _ (l : LentRecord) where
   accepted-step (pivotOf j k) e = parted false _ e .0
 
   -- nor of the arguments
-  cz-arguments : (a b : ℕ) → firstFitting (linesOf l (czOn a b)) ≡ 0 → (a < l .n) × (b < l .n) × (a ≢ b)
+  pub gate-arguments : (q k : ℕ) → firstFitting (linesOf l (gateWith q k)) ≡ 0 → q < l .n
+  gate-arguments q k e = leb-false (l .n) q (not-held 7 _ _ (parted (leb 24 k) _ e .2) .0)
+
+  pub cz-arguments : (a b : ℕ) → firstFitting (linesOf l (czOn a b)) ≡ 0 → (a < l .n) × (b < l .n) × (a ≢ b)
   cz-arguments a b e =
       let h = neither (leb (l .n) a) _ (not-held 7 _ _ (parted false _ e .2) .0) in
       let k = neither (leb (l .n) b) _ (h .1) in
       (leb-false (l .n) a (h .0), leb-false (l .n) b (k .0), eqb-false a b (k .1))
 
-  complement-arguments : (a : ℕ) → firstFitting (linesOf l (complementOf a)) ≡ 0 → a < l .n
+  pub complement-arguments : (a : ℕ) → firstFitting (linesOf l (complementOf a)) ≡ 0 → a < l .n
   complement-arguments a e = leb-false (l .n) a (not-held 7 _ _ (parted false _ e .2) .0)
 
   pivot-arguments : (j k : ℕ) → firstFitting (linesOf l (pivotOf j k)) ≡ 0 → (j < l .n) × (k < l .n)

@@ -14,11 +14,9 @@ use Rattle.words.proofs.Flags.{either}
 use Rattle.words.proofs.SearchLaws.{some-none}
 use Rattle.words.specs.Bits.{bit}
 use Rattle.used.specs.Used.{UsedRecord, usedAfter, usedCode, usedLines, usedStep, usedStray, usedWrong}
-use Rattle.used.specs.internal.UsedLaws.{MeasuredMarks}
-use Rattle.used.specs.UsedLaws.{UsedDemand, UsedLeft, UsedPasses}
+use Rattle.used.specs.internal.UsedLaws.{MeasuredMarks, UsedLeft, UsedPasses}
 use Rattle.used.proofs.AcceptedSteps.{after-made, made-passes}
-use Rattle.used.proofs.UsedPassing.{lines-pass, used-passes, used-step}
-use Rattle.used.proofs.UsedRefusing.{used-refused}
+use Rattle.used.proofs.UsedPassing.{lines-pass, used-passes}
 use Rattle.used.proofs.UsedStaying.{stays-after, used-code}
 use Rattle.used.proofs.MeasuringMarks.{arguments, measured-bit, measured-code, measured-marks, measured-word, pauli-code}
 
@@ -123,13 +121,3 @@ marks-measured u pauli q b e =
       code = measured-code u pauli q b P ∙ ap (λ s. 4 * (pauli - 1) + 2 * s) (sym (measured-bit u pauli q b P));
       outcome = measured-bit u pauli q b P;
     })
-
--- all of it
-pub used-demand : (u : UsedRecord) (o : Operation) → UsedDemand u o
-used-demand u o =
-    record {
-      passes = used-passes u o;
-      before = used-step u o;
-      left = used-left u o;
-      refused = used-refused u o;
-    }

@@ -32,12 +32,12 @@ use Rattle.record.specs.Lent.{LentRecord, heldRows}
 use Rattle.stabilizer.proofs.GroupLaws.{in-identity}
 use Rattle.stabilizer.proofs.Products.{anticommute-identity}
 use Rattle.stabilizer.specs.Groups.{InGroup, Proper}
+use Rattle.used.specs.internal.UsedLaws.{UsedPasses}
 use Rattle.words.proofs.BitLaws.{bit-above, bit-ext∞, bit-or, bit-single, bit-wordOf, wordOf-lt}
 use Rattle.words.proofs.Places.{other-place}
 use Rattle.words.proofs.Sums.{lt-or-ge}
 use Rattle.words.specs.Bits.{bit, digit, isOdd}
 use Rattle.used.specs.Used.{UsedRecord, usedAfter, usedCode}
-use Rattle.used.specs.UsedLaws.{UsedPasses}
 use Rattle.used.proofs.AcceptedSteps.{MeasureArguments, accepted-step, after-made, measure-arguments, measured-list}
 use Rattle.operations.proofs.AloneVertices.{alone-code, alone-graph, aloneCode}
 use Rattle.used.proofs.UsedStaying.{code-written, word-alone}

@@ -32,10 +32,10 @@ use Rattle.operations.specs.Steps.{
 }
 use Rattle.record.proofs.RecordLines.{record-numbered}
 use Rattle.record.specs.Lent.{LentRecord, recordLines}
+use Rattle.used.specs.internal.UsedLaws.{UsedPasses}
 use Rattle.words.proofs.BitLaws.{zero-bit}
 use Rattle.words.proofs.SearchLaws.{some-none}
 use Rattle.used.specs.Used.{UsedRecord, namesUsed, usedCode, usedLines, usedLinesOf, usedStep, usedStray, usedWrong, withUsed}
-use Rattle.used.specs.UsedLaws.{UsedPasses}
 
 -- the lines of a record: as they were, and the two tests
 pub lines-pass : (u : UsedRecord) (others five six : Bool) → (firstFitting (usedLines u others five six) ≡ 0)

@@ -17,8 +17,8 @@ use Rattle.words.proofs.BitLaws.{zero-bit}
 use Rattle.words.proofs.Flags.{either, never-true}
 use Rattle.words.specs.Bits.{bit, isOdd}
 use Rattle.used.specs.Used.{UsedRecord, namesUsed, usedLinesOf, usedStray, usedWrong}
-use Rattle.used.specs.internal.UsedLaws.{PivotNever}
-use Rattle.used.specs.UsedLaws.{UsedRefused, earlierLines}
+use Rattle.used.specs.internal.UsedLaws.{PivotNever, UsedRefused}
+use Rattle.used.specs.UsedLaws.{earlierLines}
 use Rattle.used.proofs.AcceptedSteps.{accepted-step, pivot-edge}
 use Rattle.used.proofs.UsedPassing.{by-five, by-seven, counted}
 use Rattle.used.proofs.UsedStaying.{used-word}

@@ -24,18 +24,18 @@ use Rattle.record.specs.Records.{GraphRecord, complementRecord, rowsOf}
 use Rattle.record.specs.Reduced.{reduced}
 use Rattle.stabilizer.proofs.GroupLaws.{in-row}
 use Rattle.stabilizer.specs.Groups.{InGroup, Proper}
+use Rattle.used.specs.internal.UsedLaws.{UsedPasses}
 use Rattle.words.proofs.BitLaws.{bit-above, bit-ext, bit-wordOf, wordOf-lt, zero-bit}
 use Rattle.words.proofs.Flags.{both-true, neither}
 use Rattle.words.proofs.Places.{put-other}
 use Rattle.words.proofs.SearchLaws.{some-false}
 use Rattle.words.proofs.Sums.{lt-or-ge}
 use Rattle.words.specs.Bits.{Word, bit, isOdd, wordOf}
-use Rattle.used.specs.Used.{UsedRecord, usedCode, usedStep, usedStray, usedWrong}
-use Rattle.used.specs.UsedLaws.{UsedPasses, UsedStay}
+use Rattle.used.specs.Used.{UsedRecord, usedCode, usedStray, usedWrong}
+use Rattle.used.specs.UsedLaws.{UsedStay}
 use Rattle.used.proofs.AcceptedSteps.{accepted-step, after-made, cz-list, gate-proper, measure-arguments, measured-list}
 use Rattle.operations.proofs.AloneVertices.{Low}
 use Rattle.used.proofs.StayingAlone.{AloneAt, complement-alone, cz-single, kept-code, kept-graph, measured-single}
-use Rattle.used.proofs.UsedPassing.{used-passes}
 
 -- a word without bits
 no-bits : (n : ℕ) (f : Word) → ((q : ℕ) → f q ≡ false) → wordOf n f ≡ 0
@@ -190,8 +190,3 @@ stays-after u o P =
       code = λ q m. ap (λ t. getD (t .codes) q 0) (after-made (u .held) o (P .as-before))
           ∙ code-written (u .held .n) (made (u .held) o) q (hq u o P q m) ∙ stays-made u o P q m .1;
     }
-
--- each used vertex keeps its word, which is 0, and its code
-pub used-stays : (u : UsedRecord) (o : Operation) → (usedStep u o) .number ≡ 0
-    → UsedStay u (leaves (u .held) o)
-used-stays u o e = stays-after u o (used-passes u o .0 e)

@@ -1,5 +1,5 @@
 -- The bits of a word: of xor, and, or, a mask and a single bit; words are equal where their bits are.
-use mathlib.Core.Bool.{_&&_, Bool, and-false, false, true, _||_}
+use mathlib.Core.Bool.{_&&_, Bool, and-false, cond, false, true, _||_}
 use mathlib.Core.Path.{ap, ap₂, refl, subst, sym, _∙_, _≡_}
 use Prim.Native.Nat.{_%_, _*_, _+_, _-_, _/_, _<_, _^_, suc, zero, ℕ, _≤_}
 use native.Mathlib.Decide.{ℕ-discrete}
@@ -98,6 +98,11 @@ pub zero-bit : (q : ℕ) → bit 0 q ≡ false
 unfolding bit
 zero-bit q = ap isOdd (zero-div (2 ^ q))
 
+-- a word where a test holds, else 0
+pub bit-cond : (b : Bool) (w q : ℕ) → bit (cond b w 0) q ≡ (b && bit w q)
+bit-cond false w q = zero-bit q
+bit-cond true w q = refl
+
 pub bit-shr : (w k q : ℕ) → bit (w / 2 ^ k) q ≡ bit w (k + q)
 unfolding bit
 bit-shr w k q = ap isOdd (shr-shr w k q)
@@ -184,6 +189,10 @@ pub odd-digit : (b : Bool) → eqb (digit b) 1 ≡ b
 odd-digit false = refl
 odd-digit true = refl
 
+pub isOdd-digit : (b : Bool) → isOdd (digit b) ≡ b
+isOdd-digit false = refl
+isOdd-digit true = refl
+
 pub bit-wordOf : (n : ℕ) (f : Word) (q : ℕ) → q < n → bit (wordOf n f) q ≡ f q
 unfolding wordOf
 bit-wordOf zero f q l = absurd (not-suc-le-zero l)
@@ -192,6 +201,12 @@ bit-wordOf (suc n) f zero l =
 bit-wordOf (suc n) f (suc q) l =
     bit-suc _ q ∙ ap (λ k. bit k q) (digits-div (wordOf n (λ q. f (suc q))) (digit-lt (f 0)))
     ∙ bit-wordOf n (λ q. f (suc q)) q (omega arith)
+
+-- a word is told by its bits below n
+pub word-cong : (n : ℕ) (f g : Word) → ((q : ℕ) → q < n → f q ≡ g q) → wordOf n f ≡ wordOf n g
+word-cong n f g h =
+    bit-ext n (wordOf n f) (wordOf n g) (wordOf-lt n f) (wordOf-lt n g)
+    (λ q l. bit-wordOf n f q l ∙ h q l ∙ sym (bit-wordOf n g q l))
 
 pub wordOf-bit : (n w : ℕ) → w < 2 ^ n → wordOf n (bit w) ≡ w
 wordOf-bit n w h = bit-ext n (wordOf n (bit w)) w (wordOf-lt n (bit w)) h (λ q l. bit-wordOf n (bit w) q l)

@@ -1,5 +1,5 @@
 -- Tests as bits: what they say of their parts.
-use mathlib.Core.Bool.{_&&_, Bool, Bool·beq, false, false≢true, true, true≢false, _||_}
+use mathlib.Core.Bool.{_&&_, Bool, Bool·beq, cond, false, false≢true, true, true≢false, _||_}
 use mathlib.Core.Logic.{inl, inr, _⊎_}
 use mathlib.Core.Path.{ap, refl, subst, sym, _∙_, _≡_}
 use lib.Dec.{T}
@@ -21,6 +21,12 @@ neither true b e = absurd (true≢false e)
 pub never-true : (b : Bool) → (b ≡ true → ⊥) → b ≡ false
 never-true true h = absurd (h refl)
 never-true false h = refl
+
+-- a statement of a case distinction, by its two cases
+module _ {A : Type 0} (P : A → Type 0) where
+  pub by-test : (test : Bool) (x y : A) → (test ≡ true → P x) → (test ≡ false → P y) → P (cond test x y)
+  by-test true x y f g = f refl
+  by-test false x y f g = g refl
 
 -- tests that hold together are equal
 pub same-by-both : (a b : Bool) → (a ≡ true → b ≡ true) → (b ≡ true → a ≡ true) → a ≡ b

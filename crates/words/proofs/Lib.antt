@@ -2,6 +2,7 @@ pub mod Finite
 pub mod Flags
 pub mod Sums
 pub mod SearchLaws
+pub mod Searching
 pub mod BitLaws
 pub mod OnesLaws
 pub mod Places

@@ -4,6 +4,7 @@
 
 use crate::common::shared::{masked, on, own, random_word, GroupCall};
 use crate::common::{Operation, Random};
+use crate::session::same;
 use std::collections::HashMap;
 use std::fmt;
 use sukhlent::{expand, raw, reduce, Record};
@@ -269,15 +270,6 @@ pub fn pairs(seed: u64, count: u64) -> Result<PairCounts, String> {
         counts.different += u64::from(first.1 != second.1);
     }
     Ok(counts)
-}
-
-/// Whether two answers are equal; the error shows both.
-fn same<T: PartialEq + fmt::Debug>(what: &str, given: T, due: T) -> Result<(), String> {
-    if given == due {
-        Ok(())
-    } else {
-        Err(format!("{what} is {given:?}, not {due:?}"))
-    }
 }
 
 #[cfg(test)]

@@ -193,7 +193,11 @@ fn reduced(list: &GeneratorList) -> Record {
 }
 
 /// Whether two answers are equal; the error shows both.
-fn same<T: PartialEq + std::fmt::Debug>(what: &str, given: T, due: T) -> Result<(), String> {
+pub(crate) fn same<T: PartialEq + std::fmt::Debug>(
+    what: &str,
+    given: T,
+    due: T,
+) -> Result<(), String> {
     if given == due {
         Ok(())
     } else {

@@ -3,10 +3,9 @@ use mathlib.Core.Bool.{cond}
 use Prim.Native.Nat.{ℕ}
 use Rattle.pauli.specs.Pauli.{_+ᵖ_, Phase, exponent}
 use Rattle.record.specs.Records.{GraphRecord}
-use Rattle.words.specs.Bits.{bit, wordOf}
+use Rattle.words.specs.Bits.{bit}
 use Rattle.words.specs.Search.{every}
 use Rattle.amplitude.specs.internal.KeptTurns.{fitsAt, keptTurns}
-use Rattle.amplitude.specs.internal.Measuring.{outcomesDown}
 use Rattle.amplitude.specs.Plotting.{turned}
 use Rattle.amplitude.specs.declared.Amplitude.{Amplitude}
 use Rattle.amplitude.specs.declared.Amplitude.the-variants.{Nothing}
@@ -19,7 +18,3 @@ over a b = a +ᵖ (b +ᵖ (b +ᵖ b))
 abbrev pub answerOver : ℕ → GraphRecord → ℕ → ℕ → Amplitude
 answerOver n r low y = cond (every n (fitsAt r y))
     (turned (exponent (over (keptTurns n r (bit y)) (keptTurns n r (bit low))))) Nothing
-
--- the same, the smallest word by measurements
-abbrev pub recordAnswer : ℕ → GraphRecord → ℕ → Amplitude
-recordAnswer n r y = answerOver n r (wordOf n (outcomesDown n r)) y

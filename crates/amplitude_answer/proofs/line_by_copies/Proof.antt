@@ -1,8 +1,7 @@
 -- `line_by_copies` meets its contract: the line at y of the plot of a record, by two copies of it.
 use mathlib.Core.Path.{_∙_}
 use borrow.Author.Needs.{needs}
-use Rattle.amplitude_lowest.proofs.Copies.{copied-unrefused}
-use Rattle.operations.proofs.UnrefusedRecords.{unrefused-long}
+use Rattle.operations.proofs.UnrefusedRecords.{copied-unrefused, unrefused-long}
 use Rattle.amplitude_answer.proofs.PlotLines.{copied-plots, normalised-plots, normalised-plottable}
 use Rattle.amplitude_answer.proofs.line_by_copies.Statement.{statement}
 use Rattle.amplitude_answer.proofs.line_by_copies.Tie as tie
@@ -16,7 +15,7 @@ normalise-requires : tie.Need-normalise-requires
 normalise-requires c κs =
     let C = c .before .before .before .before .before .before in
     let start = C .before .before .before .before .before .before .before .before .before in
-    copied-unrefused _ _ (start .pre .0) _ _ (C .copy-record .ensures)
+    copied-unrefused (C .copy-record .ensures) (start .pre .0)
 
 line-at-requires : tie.Need-line-at-requires
 line-at-requires c κs =
@@ -24,7 +23,7 @@ line-at-requires c κs =
     let N = L .before .before .before .before .before .before .before .before .before in
     let C = N .before .before .before .before .before .before .before in
     let start = C .before .before .before .before .before .before .before .before .before in
-    normalised-plottable _ _ (copied-unrefused _ _ (start .pre .0) _ _ (C .copy-record .ensures)) _ _
+    normalised-plottable _ _ (copied-unrefused (C .copy-record .ensures) (start .pre .0)) _ _
     (N .normalise .ensures) _ (L .lowest .ensures)
 
 returns : tie.Need-returns
@@ -34,7 +33,7 @@ returns c =
     let C = N .before .before .before .before .before .before .before in
     let start = C .before .before .before .before .before .before .before .before .before in
     c .line-at .ensures
-    ∙ normalised-plots _ _ (copied-unrefused _ _ (start .pre .0) _ _ (C .copy-record .ensures)) _ _ (N .normalise .ensures) _
+    ∙ normalised-plots _ _ (copied-unrefused (C .copy-record .ensures) (start .pre .0)) _ _ (N .normalise .ensures) _
     ∙ copied-plots _ _ _ _ (C .copy-record .ensures) _
 
 pub line-by-copies-spec : {M : Type 1} → statement M

@@ -1,7 +1,7 @@
 -- `lowest` meets its contract: the smallest supported word; words and bytes are room for a copy.
 use borrow.Author.Needs.{needs}
-use Rattle.operations.proofs.UnrefusedRecords.{unrefused-long}
-use Rattle.amplitude_lowest.proofs.Copies.{copied-lowest, copied-unrefused}
+use Rattle.operations.proofs.UnrefusedRecords.{copied-unrefused, unrefused-long}
+use Rattle.amplitude_lowest.proofs.Copies.{copied-lowest}
 use Rattle.amplitude_lowest.proofs.lowest.Statement.{statement}
 use Rattle.amplitude_lowest.proofs.lowest.Tie as tie
 
@@ -14,7 +14,7 @@ measured-down-requires : tie.Need-measured-down-requires
 measured-down-requires c κs =
     let C = c .before .before .before .before .before .before in
     let start = C .before .before .before .before .before .before .before in
-    copied-unrefused _ _ (start .pre .0) _ _ (C .copy-record .ensures)
+    copied-unrefused (C .copy-record .ensures) (start .pre .0)
 
 returns : tie.Need-returns
 returns c =

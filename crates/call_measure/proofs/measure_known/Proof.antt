@@ -5,12 +5,12 @@ use native.Mathlib.Omega.{arith}
 use lib.Bits.{bitOr}
 use borrow.Author.Needs.{needs}
 use Rattle.buffers.specs.Refusals.{firstFitting}
-use Rattle.call_gates.proofs.InPlaceCalls.{as-before, measure-done, operation-accepted}
+use Rattle.call_gates.proofs.InPlaceCalls.{as-before, measure-done}
 use Rattle.call_gates.proofs.InPlaceLines.{measure-ready}
 use Rattle.call_gates.proofs.MeasureLines.{measure-passes}
 use Rattle.contracts.proofs.Calling.{refused}
 use Rattle.operations.specs.Steps.{Operation, linesOf, measurementOf}
-use Rattle.used.proofs.AcceptedSteps.{measure-arguments}
+use Rattle.used.proofs.AcceptedSteps.{accepted-step, measure-arguments}
 use Rattle.used.specs.Used.{UsedRecord}
 use Rattle.call_measure.proofs.measure_known.Statement.{statement}
 use Rattle.call_measure.proofs.measure_known.Tie as tie
@@ -54,7 +54,7 @@ single-requires c κs =
     let a = S .args in
     omega (
       arith,
-      operation-accepted (lent S .held) (asked S) (before D) .upto,
+      accepted-step (lent S .held) (asked S) (before D) .upto,
       measure-arguments (lent S .held) (a .pauli) (a .qubit) (a .outcome) (before D) .below,
     )
 

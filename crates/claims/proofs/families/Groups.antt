@@ -18,10 +18,10 @@ use Rattle.groups.proofs.SharedLines.{save-place}
 use Rattle.groups.specs.GroupLines.{groupLines, outsider}
 use Rattle.groups.specs.GroupStores.{groupNamedLines, groupSaveLines, ownPlaces}
 use Rattle.groups.specs.Masks.{inGroup, masked}
-use Rattle.call_gates.proofs.InPlaceCalls.{operation-accepted}
 use Rattle.operations.specs.Steps.{complementOf, czOn, gateWith, measurementOf, Operation, pivotOf}
 use Rattle.store.specs.Kept.{savePlace}
 use Rattle.store.specs.Places.{Store, holdsName, othersHeld}
+use Rattle.used.proofs.AcceptedSteps.{accepted-step}
 use Rattle.used.proofs.UsedPassing.{used-step}
 use Rattle.used.specs.Used.{UsedRecord}
 use Rattle.words.proofs.Flags.{neither}
@@ -52,7 +52,7 @@ in-order word g u (pivotOf j k) = refl
 record-fills : (word g : ℕ) (u : UsedRecord) (o : Operation) (nb′ cs′ : List ℕ) → firstFitting (groupLines word g u o) ≡ 0
     → EachOf Fills (groupLent word g u o nb′ cs′)
 record-fills word g u o nb′ cs′ z =
-    let A = operation-accepted (u .held) o (used-step u o (group-passes word g u o z .lines)) in (
+    let A = accepted-step (u .held) o (used-step u o (group-passes word g u o z .lines)) in (
       table-fills (u .held .n) _ (u .held .neighbours) (A .neighbours-length),
       (table-fills (u .held .n) _ (u .held .codes) (A .codes-length), tt),
     )

@@ -8,7 +8,6 @@ use native.Mathlib.Omega.{arith}
 use Rattle.buffers.proofs.Lines.{none-of-all}
 use Rattle.buffers.specs.Refusals.{firstFitting, otherThan}
 use Rattle.call_cut.specs.Cuts.{cutLines}
-use Rattle.call_gates.proofs.InPlaceCalls.{operation-accepted}
 use Rattle.call_image.specs.Images.{imageCall}
 use Rattle.contracts.proofs.Fitting.{none-holds}
 use Rattle.contracts.specs.Calls.{Call}
@@ -20,6 +19,7 @@ use Rattle.operations.specs.Steps.{complementOf, czOn, gateWith, measurementOf,
 use Rattle.record.proofs.AcceptedRecords.{accepted-record}
 use Rattle.record.proofs.RecordLines.{record-numbered}
 use Rattle.record.specs.Lent.{heldRecord, LentRecord, recordLines}
+use Rattle.used.proofs.AcceptedSteps.{accepted-step}
 use Rattle.used.proofs.UsedPassing.{used-step}
 use Rattle.used.specs.Used.{usedLines, usedLinesOf, UsedRecord}
 use Rattle.claims.proofs.ImageDemandHolds.{images-follow}
@@ -105,7 +105,7 @@ records-conform =
       };
       in-place = λ u o nb′ cs′. record {
         order = in-order u o;
-        complete = λ z. let A = operation-accepted (u .held) o (used-step u o z) in (
+        complete = λ z. let A = accepted-step (u .held) o (used-step u o z) in (
           table-fills (u .held .n) _ (u .held .neighbours) (A .neighbours-length),
           (table-fills (u .held .n) _ (u .held .codes) (A .codes-length), tt),
         );
@@ -113,7 +113,7 @@ records-conform =
       measurements = λ u pauli q b answer determined nb′ cs′ used′ answer′ determined′. record {
         order = refl;
         complete = λ z. let o = measurementOf pauli q b in
-            let A = operation-accepted (u .held) o (used-step u o z) in (
+            let A = accepted-step (u .held) o (used-step u o z) in (
               tt,
               (
                 tt,

@@ -1,6 +1,6 @@
 -- Examples of the request on faster sessions: the list that a record is expanded to, changed; the record that this
 -- reduces to; and the one that the operation leaves.
-use mathlib.Core.List.{_++_, List, [], map, _∷_}
+use mathlib.Core.List.{_++_, List, [], _∷_}
 use Prim.Native.Nat.{ℕ}
 use Rattle.operations.specs.Steps.{Operation, czOn, gateWith, leaves, measurementOf}
 use Rattle.record.specs.Lent.{LentRecord, codeNumbers, heldRows, neighbourWords}

@@ -1,10 +1,11 @@
 -- Document 01's examples with a star, those of the request on products, and least choices on one qubit: what the
 -- definitions give, beside what the text says.
-use mathlib.Core.List.{_++_, List, [], map, _∷_}
+use mathlib.Core.List.{_++_, List, [], _∷_}
 use Prim.Native.Nat.{ℕ}
 use lib.ListN.{replicate}
 use Rattle.buffers.specs.Buffers.{tabulate}
 use Rattle.buffers.specs.Refusals.{firstFitting}
+use Rattle.claims.specs.SessionDemand.{listIn}
 use Rattle.clifford.specs.Clifford.{cliffordOf, codeOf, inverse, then}
 use Rattle.comparison.specs.Choices.{leastCode}
 use Rattle.comparison.specs.Compared.{compareLines}
@@ -56,12 +57,9 @@ compares l m =
     firstFitting (compareLines l m (replicate (l .n) 0) (replicate 96 0))
     ∷ (tabulate (l .n) (leastCode (l .n) (rows l) (rows m)) ++ compareList (l .n) (rows l) (rows m))
 
-abbrev listWith : ℕ → List ℕ → List ℕ → List ℕ → GeneratorList
-listWith n s z x = record { n = n; signs = s; z = z; x = x }
-
 -- one generator on one qubit
 abbrev one : ℕ → ℕ → ℕ → GeneratorList
-one s z x = listWith 1 (s ∷ []) (z ∷ []) (x ∷ [])
+one s z x = listIn 1 (s ∷ []) (z ∷ []) (x ∷ [])
 
 abbrev recordWith : ℕ → List ℕ → List ℕ → LentRecord
 recordWith n neighbours codes = record { n = n; neighbours = neighbours; codes = codes }
@@ -72,12 +70,12 @@ table =
     example (composed 8 8 ∷ composed 4 4 ∷ composed 8 4 ∷ composed 4 8 ∷ inverseCode 12 ∷ [])
     (0 ∷ 2 ∷ 20 ∷ 18 ∷ 13 ∷ [])
     -- XX, ZZ: one edge, codes 0, 8; -XX, ZZ: codes 2, 8; XX, -YY: as XX, ZZ
-    ∷ example (reduces (listWith 2 (0 ∷ 0 ∷ []) (0 ∷ 3 ∷ []) (3 ∷ 0 ∷ []))) (0 ∷ 2 ∷ 1 ∷ 0 ∷ 8 ∷ [])
-    ∷ example (reduces (listWith 2 (1 ∷ 0 ∷ []) (0 ∷ 3 ∷ []) (3 ∷ 0 ∷ []))) (0 ∷ 2 ∷ 1 ∷ 2 ∷ 8 ∷ [])
-    ∷ example (reduces (listWith 2 (0 ∷ 1 ∷ []) (0 ∷ 3 ∷ []) (3 ∷ 3 ∷ []))) (0 ∷ 2 ∷ 1 ∷ 0 ∷ 8 ∷ [])
+    ∷ example (reduces (listIn 2 (0 ∷ 0 ∷ []) (0 ∷ 3 ∷ []) (3 ∷ 0 ∷ []))) (0 ∷ 2 ∷ 1 ∷ 0 ∷ 8 ∷ [])
+    ∷ example (reduces (listIn 2 (1 ∷ 0 ∷ []) (0 ∷ 3 ∷ []) (3 ∷ 0 ∷ []))) (0 ∷ 2 ∷ 1 ∷ 2 ∷ 8 ∷ [])
+    ∷ example (reduces (listIn 2 (0 ∷ 1 ∷ []) (0 ∷ 3 ∷ []) (3 ∷ 3 ∷ []))) (0 ∷ 2 ∷ 1 ∷ 0 ∷ 8 ∷ [])
     -- one qubit: +Y gives code 4; -Z gives 10
-    ∷ example (reduces (listWith 1 (0 ∷ []) (1 ∷ []) (1 ∷ []))) (0 ∷ 0 ∷ 4 ∷ [])
-    ∷ example (reduces (listWith 1 (1 ∷ []) (1 ∷ []) (0 ∷ []))) (0 ∷ 0 ∷ 10 ∷ [])
+    ∷ example (reduces (listIn 1 (0 ∷ []) (1 ∷ []) (1 ∷ []))) (0 ∷ 0 ∷ 4 ∷ [])
+    ∷ example (reduces (listIn 1 (1 ∷ []) (1 ∷ []) (0 ∷ []))) (0 ∷ 0 ∷ 10 ∷ [])
     -- star with centre 0 and leaves 1, 2, codes 12, 4, 4: triangle, no minus signs, list 0
     ∷ example (images (recordWith 3 (6 ∷ 1 ∷ 1 ∷ []) (12 ∷ 4 ∷ 4 ∷ []))) (0 ∷ 6 ∷ 5 ∷ 3 ∷ 0 ∷ 0 ∷ 0 ∷ 0 ∷ [])
     -- one edge, codes 8, 8: the same edge, list 0, 1, 0
@@ -86,9 +84,9 @@ table =
     ∷ example (imageNumber (recordWith 1 (0 ∷ []) (8 ∷ []))) (11 ∷ [])
     ∷ example (imageNumber (recordWith 1 (0 ∷ []) (4 ∷ []))) (12 ∷ [])
     -- of the request on products: XY = iZ, YX = -iZ; of two qubits with the rows XI, -YI
-    ∷ example (multiplies (listWith 2 (0 ∷ 0 ∷ []) (0 ∷ 1 ∷ []) (1 ∷ 1 ∷ [])) 3) (0 ∷ 1 ∷ 0 ∷ 1 ∷ [])
-    ∷ example (multiplies (listWith 2 (0 ∷ 0 ∷ []) (1 ∷ 0 ∷ []) (1 ∷ 1 ∷ [])) 3) (0 ∷ 1 ∷ 0 ∷ 3 ∷ [])
-    ∷ example (multiplies (listWith 2 (0 ∷ 1 ∷ []) (0 ∷ 1 ∷ []) (1 ∷ 1 ∷ [])) 3) (0 ∷ 1 ∷ 0 ∷ 3 ∷ [])
+    ∷ example (multiplies (listIn 2 (0 ∷ 0 ∷ []) (0 ∷ 1 ∷ []) (1 ∷ 1 ∷ [])) 3) (0 ∷ 1 ∷ 0 ∷ 1 ∷ [])
+    ∷ example (multiplies (listIn 2 (0 ∷ 0 ∷ []) (1 ∷ 0 ∷ []) (1 ∷ 1 ∷ [])) 3) (0 ∷ 1 ∷ 0 ∷ 3 ∷ [])
+    ∷ example (multiplies (listIn 2 (0 ∷ 1 ∷ []) (0 ∷ 1 ∷ []) (1 ∷ 1 ∷ [])) 3) (0 ∷ 1 ∷ 0 ∷ 3 ∷ [])
     -- least choices on one qubit: +Y to +X is 5, +X to +Y is 4; +Z to +Y is 12, with the list 0; +X to -X is 2
     ∷ example (compares (one 0 1 1) (one 0 0 1)) (0 ∷ 5 ∷ [])
     ∷ example (compares (one 0 0 1) (one 0 1 1)) (0 ∷ 4 ∷ [])

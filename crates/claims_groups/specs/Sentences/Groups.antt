@@ -9,6 +9,8 @@ use Rattle.call_gates.specs.InPlaceCalls.{usedCall, usedMeasureCall}
 use Rattle.call_group_stores.specs.GroupStoreCalls.{groupForgetCall, groupReturnCall, groupSaveCall}
 use Rattle.call_groups.specs.GroupCalls.{groupCall, groupMeasureCall}
 use Rattle.claims.specs.Conforming.{Answered}
+use Rattle.claims.specs.StoreDemand.{Session}
+use Rattle.claims.specs.UsedDemand.{leftUsed}
 use Rattle.claims.specs.families.Groups.{GroupNameFits, GroupSaveFits, Own, TwoGroups}
 use Rattle.claims.specs.families.Records.{ComplementFits, CzFits, GateFits, MeasureFits}
 use Rattle.contracts.specs.Calls.{Call}
@@ -23,11 +25,9 @@ use Rattle.claims_groups.specs.GroupKeeps.{
   GroupNotHeld,
   GroupReturnGives,
   GroupSaveKeeps,
-  recordLeft,
 }
 use Rattle.claims_groups.specs.GroupRuns.{
   SharedCall,
-  SharedState,
   groupComplement,
   groupCz,
   groupForget,
@@ -40,7 +40,7 @@ use Rattle.claims_groups.specs.GroupRuns.{
 use Rattle.claims_groups.specs.GroupsDemand.{StandsAsWhole}
 
 -- the record and a store
-abbrev pub together : UsedRecord → Store → SharedState
+abbrev pub together : UsedRecord → Store → Session
 together u st = record { current = u; store = st }
 
 -- a call that is not lent the store is the same step whatever the store
@@ -57,7 +57,7 @@ pub record GroupGateSays (word g : ℕ) (u : UsedRecord) (q k : ℕ) (nb′ cs�
   pub answered : Answered (groupCall word g u (gateWith q k) nb′ cs′) r
   pub accepted : (r ≡ 0) ↔ (TwoGroups word g u × Own word g q × GateFits u q k)
   pub step : StepOnRecord word g u (groupGate q k) r nb′ cs′ (u .used)
-  pub keeps : r ≡ 0 → GroupKeeps word g u (recordLeft u nb′ cs′ (u .used))
+  pub keeps : r ≡ 0 → GroupKeeps word g u (leftUsed u nb′ cs′ (u .used))
   pub stands : r ≡ 0 → AsWhole u (gateWith q k) nb′ cs′
 
 -- sukhlent_group_cz
@@ -65,7 +65,7 @@ pub record GroupCzSays (word g : ℕ) (u : UsedRecord) (a b : ℕ) (nb′ cs′ 
   pub answered : Answered (groupCall word g u (czOn a b) nb′ cs′) r
   pub accepted : (r ≡ 0) ↔ (TwoGroups word g u × (Own word g a × Own word g b) × CzFits u a b)
   pub step : StepOnRecord word g u (groupCz a b) r nb′ cs′ (u .used)
-  pub keeps : r ≡ 0 → GroupKeeps word g u (recordLeft u nb′ cs′ (u .used))
+  pub keeps : r ≡ 0 → GroupKeeps word g u (leftUsed u nb′ cs′ (u .used))
   pub stands : r ≡ 0 → AsWhole u (czOn a b) nb′ cs′
 
 -- sukhlent_group_complement
@@ -73,7 +73,7 @@ pub record GroupComplementSays (word g : ℕ) (u : UsedRecord) (a : ℕ) (nb′ 
   pub answered : Answered (groupCall word g u (complementOf a) nb′ cs′) r
   pub accepted : (r ≡ 0) ↔ (TwoGroups word g u × Own word g a × ComplementFits u a)
   pub step : StepOnRecord word g u (groupComplement a) r nb′ cs′ (u .used)
-  pub keeps : r ≡ 0 → GroupKeeps word g u (recordLeft u nb′ cs′ (u .used))
+  pub keeps : r ≡ 0 → GroupKeeps word g u (leftUsed u nb′ cs′ (u .used))
   pub stands : r ≡ 0 → AsWhole u (complementOf a) nb′ cs′
 
 -- sukhlent_group_measure: its outcome, determined bit and used word are those of the whole-record call too
@@ -84,7 +84,7 @@ pub record GroupMeasureSays (word g : ℕ) (u : UsedRecord) (pauli q b answer de
   pub step : StepOnRecord word g u (groupMeasure pauli q b) r nb′ cs′ used′
   pub outcome : r ≡ 0 → (st : Store) →
       answer′ ∷ determined′ ∷ [] ≡ sharedMeasured word g (together u st) (groupMeasure pauli q b)
-  pub keeps : r ≡ 0 → GroupKeeps word g u (recordLeft u nb′ cs′ used′)
+  pub keeps : r ≡ 0 → GroupKeeps word g u (leftUsed u nb′ cs′ used′)
   pub stands : r ≡ 0 → (r″ : ℕ) (nb″ cs″ : List ℕ) (used″ answer″ determined″ : ℕ) →
       Call (usedMeasureCall u pauli q b answer determined nb″ cs″ used″ answer″ determined″) r″ →
       StandsAsWhole u nb′ cs′ r″ nb″ cs″ × (answer′ ≡ answer″) × (determined′ ≡ determined″) × (used′ ≡ used″)
@@ -105,7 +105,7 @@ pub record GroupReturnSays (word g : ℕ) (u : UsedRecord) (name : ℕ) (st : St
   pub accepted : (r ≡ 0) ↔ GroupNameFits word g u name st
   pub step : IsStep word g (together u st) (groupReturn name) r (withRecord (together u st) nb′ cs′ used′)
   pub not-held : GroupNotHeld word g u name st r
-  pub gives : r ≡ 0 → GroupReturnGives word g u name st (recordLeft u nb′ cs′ used′)
+  pub gives : r ≡ 0 → GroupReturnGives word g u name st (leftUsed u nb′ cs′ used′)
 
 -- sukhlent_group_forget
 pub record GroupForgetSays (word g : ℕ) (u : UsedRecord) (name : ℕ) (st : Store) (heads′ : List ℕ) (r : ℕ) : Type 0 where

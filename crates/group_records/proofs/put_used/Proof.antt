@@ -2,9 +2,9 @@
 use mathlib.Core.Bool.{cond}
 use mathlib.Core.Path.{ap, _∙_}
 use borrow.Author.Needs.{needs}
-use Rattle.groups.proofs.Merging.{word-cong}
 use Rattle.groups.specs.Masks.{inGroup}
 use Rattle.groups_masks.proofs.OwnWords.{own-bit}
+use Rattle.words.proofs.BitLaws.{word-cong}
 use Rattle.words.specs.Bits.{bit}
 use Rattle.group_records.proofs.put_used.Statement.{statement}
 use Rattle.group_records.proofs.put_used.Tie as tie

@@ -7,9 +7,9 @@ use native.Mathlib.Omega.{arith}
 use lib.Dec.{eqb}
 use borrow.Author.Needs.{needs}
 use Rattle.groups.specs.Masks.{reachesOut}
-use Rattle.store.proofs.Searching.{NoneBelow, no-some, none-here, none-yet, some-found}
 use Rattle.store.specs.Places.{isHeld, placeAt}
 use Rattle.store_copies.proofs.Parts.{part-count}
+use Rattle.words.proofs.Searching.{NoneBelow, no-some, none-here, none-yet, some-found}
 use Rattle.words.specs.Bits.{bit}
 use Rattle.group_store_checks.proofs.HeldStates.{out-here}
 use Rattle.group_store_checks.proofs.held_out.Statement.{statement}

@@ -6,8 +6,8 @@ use native.Mathlib.Omega.{arith}
 use lib.Dec.{eqb}
 use lib.ListN.{drop, take}
 use borrow.Author.Needs.{needs}
-use Rattle.store.proofs.Searching.{NoneBelow, no-some, none-here, none-yet, some-found}
 use Rattle.store.specs.Places.{countAt, isHeld}
+use Rattle.words.proofs.Searching.{NoneBelow, no-some, none-here, none-yet, some-found}
 use Rattle.group_store_checks.proofs.OwnNumbers.{own-word-at}
 use Rattle.group_store_checks.proofs.other_count.Statement.{statement}
 use Rattle.group_store_checks.proofs.other_count.Tie as tie

@@ -2,7 +2,7 @@
 use mathlib.Core.Path.{refl, sym, _∙_}
 use borrow.Author.Needs.{needs}
 use Rattle.buffers.proofs.Parts.{part-long}
-use Rattle.image_answer.proofs.AcceptedPasses.{accepted-unrefused}
+use Rattle.operations.proofs.UnrefusedRecords.{accepted-unrefused}
 use Rattle.image_answer.proofs.Answering.{answered-longer}
 use Rattle.image_answer.proofs.image_answer.Statement.{statement}
 use Rattle.image_answer.proofs.image_answer.Tie as tie

@@ -5,8 +5,8 @@ use native.Mathlib.Omega.{arith}
 use lib.ListN.{length}
 use borrow.Author.Needs.{needs}
 use Rattle.image_rule.proofs.TrackedRecords.{tracked-codes}
-use Rattle.operations.proofs.UnrefusedRecords.{unrefused-codes, unrefused-long, unrefused-short}
-use Rattle.image_answer.proofs.Answering.{answered, copied-image, copied-unrefused}
+use Rattle.operations.proofs.UnrefusedRecords.{copied-unrefused, unrefused-codes, unrefused-long, unrefused-short}
+use Rattle.image_answer.proofs.Answering.{answered, copied-image}
 use Rattle.image_answer.proofs.image_in.Statement.{statement}
 use Rattle.image_answer.proofs.image_in.Tie as tie
 

@@ -1,5 +1,4 @@
 -- `sign_bytes` meets its contract: a sign byte for each vertex.
-use mathlib.Core.Path.{_≡_}
 use Prim.Native.Nat.{_-_, zero-le, _≤_}
 use native.Mathlib.Omega.{arith}
 use lib.ListN.{length}

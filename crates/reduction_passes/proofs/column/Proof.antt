@@ -1,7 +1,7 @@
 -- `column` meets its contract: the rows below n that have x bit q.
 use mathlib.Core.List.{[]}
 use mathlib.Core.Path.{sym, _∙_, _≡_}
-use Prim.Native.Nat.{_-_, _/_, _<_, _^_, _≤_, ℕ}
+use Prim.Native.Nat.{_-_, _/_, _^_, _≤_, ℕ}
 use native.Mathlib.Nat.{le-refl}
 use native.Mathlib.Omega.{arith}
 use lib.Bits.{and-mask, bitAnd, mask-lt}

@@ -1,7 +1,7 @@
 -- `by_bit` meets its contract: the word `by` where w has bit i, else 0.
 use mathlib.Core.Bool.{cond}
 use mathlib.Core.Path.{ap, subst, sym, _∙_, _≡_}
-use Prim.Native.Nat.{_%_, _*_, _-_, _/_, _<_, _^_, ℕ, _≤_}
+use Prim.Native.Nat.{_%_, _*_, _/_, _<_, _^_, ℕ, _≤_}
 use native.Mathlib.Nat.{mod-eq-of-lt}
 use native.Mathlib.Omega.{arith}
 use lib.Bits.{and-comm, and-mask, and-zero-l, bitAnd}

@@ -5,8 +5,8 @@ use native.Mathlib.Omega.{arith}
 use lib.Dec.{ltb}
 use borrow.Author.Needs.{needs}
 use borrow.Author.Tests.{le-ltb, lt-ltb}
-use Rattle.store.proofs.Searching.{NoneBelow, no-some, none-here, none-yet, some-found}
 use Rattle.store.specs.Places.{countAt}
+use Rattle.words.proofs.Searching.{NoneBelow, no-some, none-here, none-yet, some-found}
 use Rattle.store_checks.proofs.large_count.Statement.{statement}
 use Rattle.store_checks.proofs.large_count.Tie as tie
 

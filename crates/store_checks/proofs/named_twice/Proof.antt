@@ -5,8 +5,8 @@ use Prim.Native.Nat.{_-_, _≤_}
 use native.Mathlib.Omega.{arith}
 use lib.Dec.{eqb, ltb}
 use borrow.Author.Needs.{needs}
-use Rattle.store.proofs.Searching.{NoneBelow, no-some, none-here, none-yet, some-by-first, some-found}
 use Rattle.store.specs.Places.{holdsName, isHeld, nameAt, placeOf}
+use Rattle.words.proofs.Searching.{NoneBelow, no-some, none-here, none-yet, some-by-first, some-found}
 use Rattle.store_checks.proofs.named_twice.Statement.{statement}
 use Rattle.store_checks.proofs.named_twice.Tie as tie
 

@@ -4,8 +4,8 @@ use mathlib.Core.Path.{sym, _∙_}
 use Prim.Native.Nat.{_-_, _≤_}
 use native.Mathlib.Omega.{arith}
 use borrow.Author.Needs.{needs}
-use Rattle.store.proofs.Searching.{NoneBelow, first-found, none-found, none-here, none-yet}
 use Rattle.store.specs.Places.{isHeld}
+use Rattle.words.proofs.Searching.{NoneBelow, first-found, none-found, none-here, none-yet}
 use Rattle.store_places.proofs.free.Statement.{statement}
 use Rattle.store_places.proofs.free.Tie as tie
 

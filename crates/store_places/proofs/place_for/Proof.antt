@@ -3,8 +3,8 @@ use mathlib.Core.Bool.{cond}
 use mathlib.Core.Path.{_∙_, ap, subst, sym}
 use Prim.Native.Nat.{_<_, _≤_}
 use borrow.Author.Needs.{needs}
-use Rattle.store.proofs.Searching.{above-none, below-some}
 use Rattle.store.specs.Places.{freePlace, placeOf}
+use Rattle.words.proofs.Searching.{above-none, below-some}
 use Rattle.store_places.proofs.place_for.Statement.{statement}
 use Rattle.store_places.proofs.place_for.Tie as tie
 

@@ -3,34 +3,34 @@ use mathlib.Core.Path.{sym, _∙_}
 use Prim.Native.Nat.{_-_}
 use lib.ListN.{length}
 use borrow.Author.Needs.{needs}
+use Rattle.words.proofs.Searching.{NoneBelow, first-found, none-found, none-here, none-yet}
 use Rattle.image_rule.specs.internal.Working.{joinedIn}
-use Rattle.image.proofs.Searching.{NotYet, found-here, found-none, not-here, not-yet}
 use Rattle.image_rule.proofs.image_loop.first_joined.Statement.{statement}
 use Rattle.image_rule.proofs.image_loop.first_joined.Tie as tie
 
 abbrev Inv-loop : tie.InvT-loop
-Inv-loop neighbours c j₀ j = NotYet (joinedIn (neighbours) c) (length (neighbours)) j
+Inv-loop neighbours c j₀ j = NoneBelow (joinedIn neighbours c) j
 
 abbrev μ-loop : tie.MeasureT-loop
-μ-loop neighbours c j₀ j = length (neighbours) - j
+μ-loop neighbours c j₀ j = length neighbours - j
 
 loop-holds : tie.Need-loop-holds Inv-loop μ-loop
-loop-holds c = not-yet _ _
+loop-holds c = none-yet _
 
 returns : tie.Need-returns Inv-loop μ-loop
 returns c =
     let l = c .before .before .before .before in
-    found-here _ _ (l .loop .j) (l .loop .inv) (c .before .before .before .loop-test .taken)
+    first-found _ (l .loop .j) (l .loop .inv) _ (c .before .before .before .loop-test .taken)
     (sym (c .before .joined .ensures) ∙ c .if1 .taken)
 
 loop-again : tie.Need-loop-again Inv-loop μ-loop
 loop-again c =
     let l = c .before .before .before .before in
-    not-here _ _ (l .loop .j) (l .loop .inv) (c .before .before .before .loop-test .taken)
+    none-here _ (l .loop .j) (l .loop .inv)
     (sym (c .before .joined .ensures) ∙ c .if1 .left)
 
 returns-2 : tie.Need-returns-2 Inv-loop μ-loop
-returns-2 c = found-none _ _ (c .before .loop .j) (c .before .loop .inv) (c .loop-test .left)
+returns-2 c = none-found _ (c .before .loop .j) (c .before .loop .inv) _ (c .loop-test .left)
 
 pub first-joined-spec : {M : Type 1} → statement M
 first-joined-spec =

@@ -1,7 +1,6 @@
 -- `run_rule` meets its contract: the image rule, the next complementations until there are none.
 use mathlib.Core.Path.{sym, _∙_}
 use lib.ListN.{length}
-use borrow.Author.Needs.{needs}
 use Rattle.cut.specs.Kernel.{count}
 use Rattle.words.specs.Bits.{bit}
 use Rattle.image_rule.proofs.Rounds.{Reached, next-ready, reached-start, round-end, round-on}

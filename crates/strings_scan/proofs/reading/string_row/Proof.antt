@@ -1,11 +1,8 @@
 -- `string_row` meets its contract: the row of the line of n letters that starts at a place.
-use mathlib.Core.Path.{ap, refl, _∙_}
+use mathlib.Core.Path.{refl}
 use Prim.Native.Nat.{_+_, _/_}
-use native.Mathlib.Nat.{add-assoc}
 use native.Mathlib.Omega.{arith}
-use lib.ListN.{getD}
 use borrow.Author.Needs.{needs}
-use Rattle.strings.specs.Reading.{isLetter}
 use Rattle.strings_scan.proofs.RowLoops.{Halves, letter-fit, letter-read, none-read, room, row-read, x-joins, z-joins}
 use Rattle.strings_scan.proofs.reading.string_row.Statement.{statement}
 use Rattle.strings_scan.proofs.reading.string_row.Tie as tie
