@@ -119,7 +119,7 @@ class Plan:
 
     def wish(self, name):
         """Where the crates that a box is joined to would have it."""
-        joined = [self.x[other] for other in self.lines[name] | self.users[name]]
+        joined = [self.x[other] for other in sorted(self.lines[name] | self.users[name])]
         return sum(joined) / len(joined) if joined else self.x[name]
 
     def sort_rows(self):

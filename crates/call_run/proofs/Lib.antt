@@ -1,3 +1,1 @@
-pub mod RunLines
-pub mod Telling
 pub mod RunAnswers

@@ -22,8 +22,8 @@ use Rattle.jobs_lent.specs.internal.LentRuns.{LentRun}
 use Rattle.stabilizer.proofs.SharedTests.{has-length}
 use Rattle.used.specs.Used.{UsedRecord, UsedUnrefused, usedLines}
 use Rattle.words.proofs.Flags.{neither}
-use Rattle.call_run.proofs.RunLines.{after-15, no-further-argument}
-use Rattle.call_run.proofs.Telling.{determinedAt, outcomeAt, refusalAt}
+use Rattle.run_checks.proofs.RunLines.{after-15, no-further-argument}
+use Rattle.run_checks.proofs.Telling.{determinedAt, outcomeAt, refusalAt}
 use Rattle.call_run.specs.RunCalls.{LentSteps, oneOtherThan, otherLengths, runCall, runLines, stepsOf}
 
 -- three slices have m places

@@ -1,10 +1,11 @@
--- The types of the locals of `run_lent`, the body of its loop and what follows it, as its MIR has them.
-use mathlib.Core.List.{[], _∷_}
+-- The locals of `run_lent`, the body of its loop and what follows it, as its MIR has them.
+use mathlib.Core.List.{List, [], _∷_}
 use denote.Memory.{pointee}
 use denote.RattleType.{RattleType}
 use denote.Slice.{sliceTy}
 use mir.Syntax.{
   Body as Code,
+  Local,
   Ty,
   add,
   addrOf,
@@ -19,6 +20,7 @@ use mir.Syntax.{
   field,
   imm,
   int,
+  local,
   lt,
   mul,
   mut,
@@ -30,9 +32,12 @@ use mir.Syntax.{
   rvOpd,
   seq,
   skip as skipᴹ,
+  tyBool,
   tyInt,
+  tyPtr,
   tyRef,
   unsigned,
+  valueLocal,
   w64,
   w8,
 }
@@ -41,38 +46,47 @@ use Rattle.jobs.proofs.Step.Laws as S′
 use Rattle.jobs_lent.proofs.turn.Symbol.{name as #turn}
 
 -- ---- types of the locals
-abbrev pub R : RattleType
+abbrev R : RattleType
 R = S.the-row
 
 abbrev pub word : Ty
 word = tyInt w64
 
-abbrev pub byte : Ty
+abbrev byte : Ty
 byte = tyInt w8
 
-abbrev pub ptrW : Ty
+abbrev ptrW : Ty
 ptrW = tyRef erased mut word
 
-abbrev pub ptrB : Ty
+abbrev ptrB : Ty
 ptrB = tyRef erased mut byte
 
-abbrev pub sliceW : Ty
+abbrev sliceW : Ty
 sliceW = sliceTy ptrW
 
-abbrev pub sliceB : Ty
+abbrev sliceB : Ty
 sliceB = sliceTy ptrB
 
-abbrev pub slice₀ : Ty
+abbrev slice₀ : Ty
 slice₀ = sliceTy (tyRef (named 0) mut word)
 
-abbrev pub slice₁ : Ty
+abbrev slice₁ : Ty
 slice₁ = sliceTy (tyRef (named 1) mut byte)
 
-abbrev pub slice₂ : Ty
+abbrev slice₂ : Ty
 slice₂ = sliceTy (tyRef (named 2) imm (pointee (R .written)))
 
-abbrev pub slice₃ : Ty
+abbrev slice₃ : Ty
 slice₃ = sliceTy (tyRef (named 3) mut byte)
+
+abbrev value : Ty → Local
+value τ = local τ valueLocal
+
+abbrev pub locals : List Local
+locals =
+    value word ∷ value word ∷ value slice₀ ∷ value slice₁ ∷ value word ∷ value tyBool ∷ value slice₂ ∷ value word ∷ value slice₃
+    ∷ value word ∷ value word ∷ value word ∷ value tyBool ∷ value ptrW ∷ value sliceW ∷ value ptrB ∷ value sliceB
+    ∷ value tyPtr ∷ value S′.mir ∷ value ptrB ∷ value sliceB ∷ []
 
 -- ---- the loop's body, and what follows it
 abbrev pub body : Code

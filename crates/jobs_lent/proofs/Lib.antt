@@ -1,6 +1,13 @@
 pub mod Again
 pub mod Counting
 pub mod KeptAnswers
+pub mod LentCall
 pub mod LentCode
+pub mod Lending
+pub mod LentExit
 pub mod LentLaws
+pub mod LentLoop
+pub mod Locals
 pub mod Prefix
+pub mod StepArray
+pub mod TurnCall

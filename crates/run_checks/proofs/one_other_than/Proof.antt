@@ -2,8 +2,8 @@
 use mathlib.Core.Bool.{_||_}
 use mathlib.Core.Path.{ap₂}
 use borrow.Author.Needs.{needs}
-use Rattle.call_run.proofs.one_other_than.Statement.{statement}
-use Rattle.call_run.proofs.one_other_than.Tie as tie
+use Rattle.run_checks.proofs.one_other_than.Statement.{statement}
+use Rattle.run_checks.proofs.one_other_than.Tie as tie
 
 returns : tie.Need-returns
 returns c =

@@ -4,9 +4,9 @@ use lib.ListN.{length}
 use Prim.Native.Nat.{_-_}
 use native.Mathlib.Omega.{arith}
 use borrow.Author.Needs.{needs}
-use Rattle.call_run.proofs.Telling.{Told, told-all, told-next, told-none}
-use Rattle.call_run.proofs.unpack.Statement.{statement}
-use Rattle.call_run.proofs.unpack.Tie as tie
+use Rattle.run_checks.proofs.Telling.{Told, told-all, told-next, told-none}
+use Rattle.run_checks.proofs.unpack.Statement.{statement}
+use Rattle.run_checks.proofs.unpack.Tie as tie
 
 abbrev Inv-loop : tie.InvT-loop
 Inv-loop answers₀ outcomes₀ determined₀ k₀ answers outcomes determined k =

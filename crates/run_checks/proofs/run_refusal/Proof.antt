@@ -1,9 +1,9 @@
 -- `run_refusal` meets its contract: the number of the first line that holds.
 use borrow.Author.Needs.{needs}
 use Rattle.used.specs.Used.{UsedRecord}
-use Rattle.call_run.proofs.RunLines.{many-steps, record-decides}
-use Rattle.call_run.proofs.run_refusal.Statement.{statement}
-use Rattle.call_run.proofs.run_refusal.Tie as tie
+use Rattle.run_checks.proofs.RunLines.{many-steps, record-decides}
+use Rattle.run_checks.proofs.run_refusal.Statement.{statement}
+use Rattle.run_checks.proofs.run_refusal.Tie as tie
 
 -- the record that is lent
 abbrev lent : tie.Start → UsedRecord
