@@ -8,7 +8,6 @@ use lib.ListN.{length}
 use borrow.Author.Tests.{eq-eqb, ne-eqb}
 use Rattle.buffers.specs.Buffers.{accepted}
 use Rattle.buffers.specs.Refusals.{firstFitting, otherThan}
-use Rattle.call_gates.proofs.InPlaceCalls.{marked-by-call}
 use Rattle.call_gates.specs.InPlaceCalls.{usedCall, usedMeasureCall}
 use Rattle.call_store.specs.StoreCalls.{forgetCall, heldUnder, returnCall, saveCall}
 use Rattle.contracts.specs.Calls.{Call}
@@ -22,7 +21,7 @@ use Rattle.store.specs.Kept.{forgotten, forgottenHeads, saved}
 use Rattle.store.specs.Places.{Store, found}
 use Rattle.store.specs.StoreLines.{namedLines, saveLines}
 use Rattle.used.specs.Used.{UsedRecord, usedAfter, usedLinesOf, usedStep}
-use Rattle.claims.proofs.RewritingsKeep.{is-after}
+use Rattle.claims.proofs.RewritingsKeep.{is-after, is-measured}
 use Rattle.claims.proofs.StoreDemandHolds.{name-held, named-passing, returns-give}
 use Rattle.claims.proofs.families.Shared.{at-zero}
 use Rattle.claims.specs.ActionContracts.{
@@ -63,13 +62,7 @@ measure-leaves : (u : UsedRecord) (pauli q b answer determined r : ℕ) (nb′ c
 measure-leaves u pauli q b answer determined r nb′ cs′ used′ answer′ determined′ C value p e st =
     ap (λ v. session v st) (left-by-operation u (stepOf Measure q 0 value) refl
     ∙ ap₂ (λ p b. (usedStep u (measurementOf p q b)) .after) (sym p) (sym e)
-    ∙ λ i. record {
-      held = sym (is-after u (measurementOf pauli q b) r nb′ cs′ plain) i;
-      used = sym (marked-by-call u pauli q b C) i;
-    })
-  where
-    plain : Call (usedCall u (measurementOf pauli q b) nb′ cs′) r
-    plain = record { number = C .number; held = C .held .1 .1 .1 }
+    ∙ sym (is-measured u pauli q b answer determined r nb′ cs′ used′ answer′ determined′ C))
 
 -- ---- a save
 save-leaves : (u : UsedRecord) (name : ℕ) (st : Store) (r : ℕ) (heads′ nb′ cs′ : List ℕ) →
