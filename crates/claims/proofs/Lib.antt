@@ -38,6 +38,7 @@ pub mod AmplitudeDemandHolds
 pub mod PivotStepsHold
 pub mod ExpectationDemandHolds
 pub mod StoreDemandHolds
+pub mod ActionsByCalls
 pub mod GroupsExactly
 pub mod StoreRefusals
 pub mod NamedSessions

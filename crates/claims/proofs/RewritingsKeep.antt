@@ -13,7 +13,7 @@ use Rattle.graph.specs.Graph.{Simple}
 use Rattle.jobs.specs.Standing.{left}
 use Rattle.operations.proofs.Rewriting.{pivot-same, pivot-simple}
 use Rattle.operations.proofs.UnrefusedRecords.{complement-above}
-use Rattle.operations.specs.Steps.{Operation, complementOf, leaves, pivotOf, pivotRecord}
+use Rattle.operations.specs.Steps.{Operation, complementOf, leaves, measurementOf, pivotOf, pivotRecord}
 use Rattle.record.proofs.Complementing.{complement-same}
 use Rattle.record.proofs.WrittenRecords.{record-back, record-passes, record-rows-back, writtenRecord}
 use Rattle.record.specs.Accepted.{AcceptedRecord}
@@ -22,13 +22,13 @@ use Rattle.record.specs.Records.{GraphRecord, complementRecord, rowsOf}
 use Rattle.stabilizer.proofs.EqualRows.{same-group-equal}
 use Rattle.stabilizer.proofs.GroupLaws.{same-trans}
 use Rattle.stabilizer.specs.Groups.{SameGroup}
-use Rattle.call_gates.proofs.InPlaceCalls.{left-by-call}
+use Rattle.call_gates.proofs.InPlaceCalls.{left-by-call, marked-by-call}
 use Rattle.call_gates.proofs.InPlaceLines.{complement-ready, eight-passes, held-accepted}
-use Rattle.call_gates.specs.InPlaceCalls.{inPlaceCall, usedCall}
+use Rattle.call_gates.specs.InPlaceCalls.{inPlaceCall, usedCall, usedMeasureCall}
 use Rattle.used.specs.Used.{UsedRecord, usedAfter, usedStep}
 use Rattle.words.proofs.Flags.{neither}
 use Rattle.claims.proofs.GatesFollow.{holds-new}
-use Rattle.claims.specs.OperationsDemand.{ComplementsKeep, RewrittenAs, SecondAboutFirst}
+use Rattle.claims.specs.OperationsDemand.{ComplementsKeep, RewrittenAs, SecondAboutFirst, SecondAboutMeasured}
 
 -- ---- complements and pivots
 -- a record rewritten to one of the same group, with code 0 at and above n
@@ -121,3 +121,22 @@ second-about-first u o₁ o₂ r₁ r₂ nb₁ cs₁ nb₂ cs₂ C D =
     is-after (record { held = left (u .held) nb₁ cs₁; used = (usedStep u o₁) .after .used }) o₂ r₂ nb₂ cs₂ D
     ∙ ap (λ r. (usedStep (record { held = r; used = (usedStep u o₁) .after .used }) o₂) .after .held)
     (is-after u o₁ r₁ nb₁ cs₁ C)
+
+-- ---- two measurements
+-- what one leaves is the step's record and used word
+pub is-measured : (u : UsedRecord) (pauli q b answer determined r : ℕ) (nb cs : List ℕ) (used answer′ determined′ : ℕ)
+    → Call (usedMeasureCall u pauli q b answer determined nb cs used answer′ determined′) r
+    → record { held = left (u .held) nb cs; used = used } ≡ (usedStep u (measurementOf pauli q b)) .after
+is-measured u pauli q b answer determined r nb cs used answer′ determined′ C = λ i. record {
+  held = is-after u (measurementOf pauli q b) r nb cs
+      (record { number = C .number; held = C .held .1 .1 .1 }) i;
+  used = marked-by-call u pauli q b C i;
+}
+
+pub second-about-measured : SecondAboutMeasured
+second-about-measured u pauli₁ q₁ b₁ answer₁ determined₁ r₁ pauli₂ q₂ b₂ answer₂ determined₂ r₂ nb₁ cs₁ nb₂ cs₂ used₁
+    answer₁′ determined₁′ used₂ answer₂′ determined₂′ C D =
+    is-measured (record { held = left (u .held) nb₁ cs₁; used = used₁ }) pauli₂ q₂ b₂ answer₂ determined₂ r₂ nb₂ cs₂ used₂
+    answer₂′ determined₂′ D
+    ∙ ap (λ v. (usedStep v (measurementOf pauli₂ q₂ b₂)) .after)
+    (is-measured u pauli₁ q₁ b₁ answer₁ determined₁ r₁ nb₁ cs₁ used₁ answer₁′ determined₁′ C)

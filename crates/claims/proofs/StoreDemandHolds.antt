@@ -1,12 +1,13 @@
 -- Named states: what the calls on a store leave under each name, and sessions over them, from the laws of stores.
-use mathlib.Core.Bool.{Bool, false, not, true, true≢false, _||_}
+use mathlib.Core.Bool.{_&&_, Bool, false, not, true, true≢false, _||_}
 use mathlib.Core.List.{[], List}
 use mathlib.Core.Logic.{inl, inr}
 use mathlib.Core.Path.{_∙_, _≡_, ap, refl, subst, sym}
-use Prim.Native.Nat.{_<_, ℕ}
-use lib.Dec.{lit<}
+use Prim.Native.Nat.{_*_, _<_, ℕ}
+use native.Mathlib.Omega.{arith}
+use lib.Dec.{eqb, lit<}
 use lib.ListN.{drop, length, take}
-use lib.Seq.{drop-at, take-at}
+use lib.Seq.{drop-at, getD-set-same, take-at}
 use borrow.Author.Tests.{not-false}
 use Rattle.buffers.proofs.Lines.{none-of-all, not-held}
 use Rattle.buffers.specs.Buffers.{written}
@@ -17,11 +18,12 @@ use Rattle.store.proofs.ForgottenNames.{forgotten-lookup, forgotten-passing, he
 use Rattle.store.proofs.Lookups.{saved-lookup, saved-passing}
 use Rattle.store.proofs.PassingStores.{held-record, store-accepted, store-passes}
 use Rattle.store.proofs.SavePlaces.{full}
-use Rattle.store.specs.Kept.{forgotten, savePlace, saved}
-use Rattle.store.specs.Places.{Store, found, holdsName, othersHeld}
+use Rattle.store.specs.Kept.{forgotten, forgottenHeads, savePlace, saved}
+use Rattle.store.specs.Places.{Store, found, hasName, holdsName, isHeld, nameAt, othersHeld, placeOf}
 use Rattle.store.specs.StoreLines.{holdsLine, namedLines, ofRecord, recordTests, saveLines, storeLines}
 use Rattle.store.specs.internal.Passing.{Passing}
 use Rattle.used.specs.Used.{UsedRecord, usedLines}
+use Rattle.words.proofs.SearchLaws.{every-at, some-true}
 use Rattle.words.proofs.Sums.{lt-or-ge}
 use Rattle.claims.specs.StoreDemand.{ForgetKeeps, ForgetsKeep, ReturnsGive, SaveKeeps, SavesKeep, storeOf}
 
@@ -82,11 +84,34 @@ saves-keep u name st heads′ nb′ cs′ C = subst (λ t. SaveKeeps u name st t
     same : storeOf heads′ nb′ cs′ ≡ saved 8 u name st
     same = λ i. storeOf (C .held .0 i) (C .held .1 .0 i) (C .held .1 .1 .0 i)
 
+-- the place that a forget makes free holds nothing, so that not every place holds another name
+pub forgotten-free : (k : ℕ) (st : Store) → Passing k st → (name : ℕ) → holdsName k (st .heads) name ≡ true →
+    (m : ℕ) → othersHeld k (forgottenHeads k name (st .heads)) m ≡ false
+forgotten-free k st P name h m = go (othersHeld k heads m) refl
+  where
+    heads : List ℕ
+    heads = forgottenHeads k name (st .heads)
+
+    p : ℕ
+    p = placeOf k (st .heads) name
+
+    below : p < k
+    below = some-true k (hasName (st .heads) name) h .below
+
+    own : (isHeld heads p && not (eqb (nameAt heads p) m)) ≡ false
+    own = ap (λ c. not (eqb c 0) && not (eqb (nameAt heads p) m))
+        (getD-set-same (st .heads) (3 * p) 0 0 (omega (arith, below, P .heads-long)))
+
+    go : (b : Bool) → othersHeld k heads m ≡ b → b ≡ false
+    go true e = absurd (true≢false (sym (every-at k (λ i. isHeld heads i && not (eqb (nameAt heads i) m)) e p below) ∙ own))
+    go false e = refl
+
 pub forgets-keep : ForgetsKeep
 forgets-keep name st heads′ C = subst (λ t. ForgetKeeps name st t) (sym same)
     (record {
       held = forgotten-lookup 8 st P name h;
       still = store-passes 8 (forgotten 8 name st) (forgotten-passing 8 st P name h);
+      free = forgotten-free 8 st P name h;
     })
   where
     P : Passing 8 st

@@ -15,6 +15,7 @@ use Rattle.used.specs.Used.{UsedRecord, namesUsed, usedArgumentsOf, usedLinesOf
 use Rattle.claims.proofs.families.Amplitudes.{amplitudes-accepted}
 use Rattle.claims.proofs.families.Expectations.{expectations-accepted}
 use Rattle.claims.proofs.families.Records.{records-accepted}
+use Rattle.claims.proofs.families.Stores.{stores-accepted}
 use Rattle.claims.proofs.ImageDemandHolds.{images-follow}
 use Rattle.claims.proofs.InPlaceExactly.{against, argument-lines}
 use Rattle.claims.proofs.LinesExactly.{record-exactly, three-fit}
@@ -60,6 +61,7 @@ taken-by-all u R =
       cut = λ side rank rank′ r C e. records-accepted .cut u side rank rank′ r C .1 (R, e);
       amplitude = λ y re im p re′ im′ p′ r C e. amplitudes-accepted .amplitude u y re im p re′ im′ p′ r C .1 (R, e);
       expectation = λ z x value value′ r C e f. expectations-accepted .expectation u z x value value′ r C .1 (R, e, f);
+      save = λ name st heads′ nb′ cs′ r C e f. stores-accepted .save u name st heads′ nb′ cs′ r C .1 (R, e, f);
     }
   where
     one-of : (r : ℕ) {B : Type 0} → ((r ≡ 11 → ⊥) → (r ≡ 12 → ⊥) → (r ≡ 0) × B) →

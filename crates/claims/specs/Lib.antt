@@ -24,3 +24,4 @@ pub mod AmplitudeDemand
 pub mod PivotSteps
 pub mod ExpectationDemand
 pub mod StoreDemand
+pub mod ActionContracts

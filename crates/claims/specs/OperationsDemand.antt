@@ -125,3 +125,14 @@ SecondAboutFirst =
     Call (usedCall u o₁ nb₁ cs₁) r₁ →
     Call (usedCall (record { held = left (u .held) nb₁ cs₁; used = (usedStep u o₁) .after .used }) o₂ nb₂ cs₂) r₂ →
     left (u .held) nb₂ cs₂ ≡ (usedStep ((usedStep u o₁) .after) o₂) .after .held
+
+-- of two measurements: the first leaves the used word too, and the second sets its bit there
+abbrev pub SecondAboutMeasured : Type 0
+SecondAboutMeasured =
+    (u : UsedRecord) (pauli₁ q₁ b₁ answer₁ determined₁ r₁ pauli₂ q₂ b₂ answer₂ determined₂ r₂ : ℕ)
+    (nb₁ cs₁ nb₂ cs₂ : List ℕ) (used₁ answer₁′ determined₁′ used₂ answer₂′ determined₂′ : ℕ) →
+    Call (usedMeasureCall u pauli₁ q₁ b₁ answer₁ determined₁ nb₁ cs₁ used₁ answer₁′ determined₁′) r₁ →
+    Call (usedMeasureCall (record { held = left (u .held) nb₁ cs₁; used = used₁ })
+    pauli₂ q₂ b₂ answer₂ determined₂ nb₂ cs₂ used₂ answer₂′ determined₂′) r₂ →
+    record { held = left (u .held) nb₂ cs₂; used = used₂ }
+    ≡ (usedStep ((usedStep u (measurementOf pauli₁ q₁ b₁)) .after) (measurementOf pauli₂ q₂ b₂)) .after

@@ -39,6 +39,8 @@ SavesKeep = (u : UsedRecord) (name : ℕ) (st : Store) (heads′ nb′ cs′ : L
 pub record ForgetKeeps (name : ℕ) (st after : Store) : Type 0 where
   pub held : (m : ℕ) → lookup 8 after m ≡ cond (eqb m name) nothing (lookup 8 st m)
   pub still : firstFitting (storeLines 8 after false) ≡ 0
+  -- so that 18 does not refuse the next save, whatever its name
+  pub free : (m : ℕ) → othersHeld 8 (after .heads) m ≡ false
 
 -- of every accepted forget
 abbrev pub ForgetsKeep : Type 0

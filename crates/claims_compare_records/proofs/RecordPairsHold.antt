@@ -1,29 +1,32 @@
 -- What is claimed of the comparison of two records holds, by the same claims of `compare` on the expansions.
-use mathlib.Core.Bool.{Bool, not, _||_}
+use mathlib.Core.Bool.{Bool, false, not, true, _||_}
 use mathlib.Core.List.{List, [], _∷_}
-use mathlib.Core.Logic.{_↔_}
+use mathlib.Core.Logic.{inl, inr, _↔_, _⊎_}
 use mathlib.Core.Path.{ap, ap₂, refl, subst, sym, _∙_, _≡_}
 use Prim.Native.Nat.{ℕ}
 use lib.Dec.{eqb}
 use lib.ListN.{length}
-use Rattle.buffers.proofs.Lines.{none-of-all}
+use Rattle.buffers.proofs.Lines.{fits, more-accepted, none-fits, none-of-all, passed}
 use Rattle.buffers.specs.Refusals.{Refusal, firstFitting, line}
 use Rattle.call_compare.specs.Comparisons.{compareCall}
 use Rattle.call_compare_records.proofs.RecordPairs.{records-numbered}
 use Rattle.call_compare_records.specs.RecordComparisons.{
   compareRecordsCall,
+  compareRecordsLines,
   recordLargePart,
   recordsCount,
   recordsLines,
   recordsNotSimple,
 }
+use Rattle.claims.proofs.AcceptedPairs.{accepted-pair}
 use Rattle.claims.proofs.PartsDemandHolds.{large-parts-refused}
-use Rattle.claims.proofs.ThirdDemandHolds.{third-demand}
+use Rattle.claims.proofs.ThirdDemandHolds.{third-demand, third-demand-to-20}
 use Rattle.claims.proofs.families.Comparisons.{comparisons-accepted, comparisons-conform}
 use Rattle.claims.proofs.families.Shared.{answered}
 use Rattle.comparison.specs.Choices.{noChoice}
 use Rattle.comparison.specs.Compared.{pairLines}
 use Rattle.contracts.specs.Calls.{Call}
+use Rattle.record.proofs.AcceptedRecords.{accepted-record}
 use Rattle.record.specs.Lent.{LentRecord, heldRows, recordCodes, recordLengths, recordStray}
 use Rattle.claims_compare_records.proofs.Expansions.{
   BothAccepted,
@@ -33,6 +36,7 @@ use Rattle.claims_compare_records.proofs.Expansions.{
   same-at,
 }
 use Rattle.claims_compare_records.specs.RecordPairs.{
+  AcceptedRecords,
   CompareRecordsSays,
   RecordComparisonBuffersUnread,
   RecordComparisonsAccepted,
@@ -120,6 +124,31 @@ record-pairs-demand =
       same = same-on-expansions;
     }
 
+-- ---- records that no line refuses
+records-pass : (l m : LentRecord) (choice list : List ℕ) → AcceptedRecords l m choice list →
+    firstFitting (recordsLines l m choice list) ≡ 0
+records-pass l m choice list A =
+    no-line l m choice list (record {
+      first = accepted-record l false false (A .first);
+      second = accepted-record m false false (A .second);
+      same-count = A .same-count;
+      choice-places = A .choice-places;
+      list-places = A .list-places;
+    })
+
+pub records-taken : (l m : LentRecord) (choice list : List ℕ) {r : ℕ} →
+    r ≡ firstFitting (compareRecordsLines l m choice list) → AcceptedRecords l m choice list →
+    (r ≡ 0) ⊎ ((r ≡ 3) ⊎ (r ≡ 13))
+records-taken l m choice list {r} number A =
+    go (recordLargePart l || recordLargePart m) (noChoice (l .n) (heldRows l) (heldRows m))
+    (number ∙ more-accepted (recordsLines l m choice list) _ (records-numbered l m choice list)
+    (records-pass l m choice list A))
+  where
+    go : (a b : Bool) → r ≡ firstFitting (line 3 a ∷ line 13 b ∷ []) → (r ≡ 0) ⊎ ((r ≡ 3) ⊎ (r ≡ 13))
+    go true b e = inr (inl (e ∙ fits 3 _ refl))
+    go false true e = inr (inr (e ∙ passed 3 _ refl ∙ fits 13 _ refl))
+    go false false e = inl (e ∙ passed 3 _ refl ∙ passed 13 _ refl ∙ none-fits)
+
 -- ---- all that is said of the exported function
 pub compare-records-says : (l m : LentRecord) (choice list : List ℕ) (count : ℕ) (choice′ list′ : List ℕ)
     (count′ r : ℕ) → Call (compareRecordsCall l m choice list count choice′ list′ count′) r →
@@ -129,6 +158,11 @@ compare-records-says l m choice list count choice′ list′ count′ r C =
       answered = answered (record-comparisons-conform l m choice list count choice′ list′ count′) C;
       accepted = record-comparisons-accepted l m choice list count choice′ list′ count′ r C;
       same = λ e. same-on-expansions l m choice list count choice′ list′ count′ r e .0 C;
+      taken = records-taken l m choice list (C .number);
+      to-20 = λ A h. let e = records-pass l m choice list A in
+          third-demand-to-20 (expansion l) (expansion m) choice list count r choice′ list′ count′
+          (same-on-expansions l m choice list count choice′ list′ count′ r e .0 C)
+          (accepted-pair (expansion l) (expansion m) choice list (pairs-pass l m choice list e)) h;
       decided = λ e. third-demand (expansion l) (expansion m) choice list count r choice′ list′ count′
           (same-on-expansions l m choice list count choice′ list′ count′ r e .0 C) (pairs-pass l m choice list e);
       large = λ e. large-parts-refused (expansion l) (expansion m) choice list count r choice′ list′ count′

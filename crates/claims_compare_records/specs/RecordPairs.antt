@@ -1,9 +1,10 @@
 -- The comparison of two records: demand 1, which arguments it accepts, that its answer is that of `compare` on the
 -- records' expansions, and so demand 3.
+use mathlib.Core.Bool.{false}
 use mathlib.Core.List.{List}
 use mathlib.Core.Logic.{_↔_, _⊎_}
 use mathlib.Core.Path.{_≡_}
-use Prim.Native.Nat.{ℕ}
+use Prim.Native.Nat.{ℕ, _≤_}
 use lib.ListN.{length}
 use Rattle.buffers.specs.Refusals.{firstFitting}
 use Rattle.call_compare.specs.Comparisons.{compareCall}
@@ -14,7 +15,7 @@ use Rattle.claims.specs.ThirdDemand.{Decided}
 use Rattle.claims.specs.families.Comparisons.{CompareFits}
 use Rattle.contracts.specs.Calls.{Call}
 use Rattle.record.specs.Accepted.{AcceptedRecord}
-use Rattle.record.specs.Lent.{LentRecord, heldRows}
+use Rattle.record.specs.Lent.{LentRecord, heldRows, recordLines}
 use Rattle.stabilizer.specs.Lists.{GeneratorList, listOf}
 
 -- the record's expansion: its generators in order, as `expand` writes them
@@ -65,6 +66,14 @@ pub record RecordPairsDemand : Type 0 where
   pub accepted : RecordComparisonsAccepted
   pub same : SameOnExpansions
 
+-- ---- two records that no line refuses, with the same n, and the two answer buffers with their places
+pub record AcceptedRecords (l m : LentRecord) (choice list : List ℕ) : Type 0 where
+  pub first : firstFitting (recordLines l false false) ≡ 0
+  pub second : firstFitting (recordLines m false false) ≡ 0
+  pub same-count : l .n ≡ m .n
+  pub choice-places : length choice ≡ l .n
+  pub list-places : length list ≡ 96
+
 -- ---- sukhlent_compare_records, in one record
 pub record CompareRecordsSays (l m : LentRecord) (choice list : List ℕ) (count : ℕ) (choice′ list′ : List ℕ)
     (count′ r : ℕ) : Type 0 where
@@ -73,6 +82,11 @@ pub record CompareRecordsSays (l m : LentRecord) (choice list : List ℕ) (count
   -- the answer of `compare` on the expansions
   pub same : firstFitting (recordsLines l m choice list) ≡ 0 →
       Call (compareCall (expansion l) (expansion m) choice list count choice′ list′ count′) r
+  -- such records are taken, or refused by 3 or 13
+  pub taken : AcceptedRecords l m choice list → (r ≡ 0) ⊎ ((r ≡ 3) ⊎ (r ≡ 13))
+  -- demand 3 word for word, "n from 1 to 20": without a hypothesis on parts
+  pub to-20 : AcceptedRecords l m choice list → l .n ≤ 20 →
+      Decided (expansion l) (expansion m) list r choice′ list′ count′
   -- demand 3 where no part is larger than 20, and refusal 3 (02, §9)
   pub decided : firstFitting (recordsLines l m choice list) ≡ 0 → SmallParts (expansion l) →
       SmallParts (expansion m) → Decided (expansion l) (expansion m) list r choice′ list′ count′

@@ -9,6 +9,7 @@ use native.Mathlib.Omega.{arith}
 use Rattle.buffers.proofs.Tabulate.{tabulate-length}
 use Rattle.buffers.specs.Refusals.{firstFitting}
 use Rattle.call_groups.specs.GroupCalls.{groupCall}
+use Rattle.claims.proofs.StoreDemandHolds.{forgotten-free}
 use Rattle.claims.specs.UsedDemand.{leftUsed}
 use Rattle.contracts.proofs.Fitting.{decides, fits-at, is-first, none-fits-of, skips}
 use Rattle.contracts.specs.Answers.{here}
@@ -48,7 +49,7 @@ use Rattle.operations.specs.Steps.{Operation, complementOf, czOn, gateWith, mea
 use Rattle.store.proofs.ForgottenNames.{forgotten-lookup, held-lookup}
 use Rattle.store.proofs.Lookups.{found-nowhere, saved-lookup}
 use Rattle.store.specs.Kept.{savePlace}
-use Rattle.store.specs.Places.{Store, found, holdsName, lookup, nothing, placeAt, placeOf}
+use Rattle.store.specs.Places.{Store, found, holdsName, lookup, nothing, othersHeld, placeAt, placeOf}
 use Rattle.used.specs.Used.{UsedRecord, usedAfter, usedLines, usedStep}
 use Rattle.claims_groups.proofs.ContractSteps.{used-kept}
 use Rattle.claims_groups.proofs.OwnCalls.{held-place, returned-left, saved-left}
@@ -160,6 +161,9 @@ module _ (word g : ℕ) (u : UsedRecord) (name : ℕ) (st : Store)
             (λ heads. lookup 4 (record { heads = heads; neighbours = own .neighbours; codes = own .codes }) m)
             (freed-own-heads g p (named-place word g u name st z) (st .heads))
             ∙ forgotten-lookup 4 own (shared-fits word g u st (named-shared word g u name st z) .passing) name
+            (named-held word g u name st z) m;
+        free = λ m. ap (λ heads. othersHeld 4 heads m) (freed-own-heads g p (named-place word g u name st z) (st .heads))
+            ∙ forgotten-free 4 own (shared-fits word g u st (named-shared word g u name st z) .passing) name
             (named-held word g u name st z) m;
         others = λ h lh ne. λ j. record {
           heads = freed-other-heads g p (named-place word g u name st z) h ne (st .heads) j;

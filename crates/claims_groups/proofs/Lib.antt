@@ -6,5 +6,6 @@ pub mod RefusedCalls
 pub mod ContractSteps
 pub mod CallsStand
 pub mod GroupKeepsHold
+pub mod GroupsReduce
 pub mod GroupsDemandHolds
 pub mod SentencesHold

@@ -83,6 +83,7 @@ module _ (word g : ℕ) (s : Session) (e : crosses word (s .current) ≡ true) w
 pub crossing-refused : CrossingRefused
 crossing-refused word g s e c =
     record {
+      refused = not-accepted word g s e c;
       nineteen = λ z. sym (by-nineteen word g s e c z);
       unchanged = kept word g s c (not-accepted word g s e c);
     }

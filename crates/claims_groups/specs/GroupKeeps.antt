@@ -10,6 +10,7 @@ use lib.ListN.{getD}
 use Rattle.buffers.specs.Refusals.{firstFitting}
 use Rattle.call_group_stores.specs.GroupStoreCalls.{groupForgetCall, groupReturnCall, groupSaveCall}
 use Rattle.call_groups.specs.GroupCalls.{groupCall, groupMeasureCall}
+use Rattle.claims.specs.OperationsDemand.{IsReduced}
 use Rattle.claims.specs.UsedDemand.{leftUsed}
 use Rattle.contracts.specs.Calls.{Call}
 use Rattle.groups.specs.GroupStores.{ownPlaces, sharedLines}
@@ -43,6 +44,22 @@ pub record GroupCallsKeep : Type 0 where
       Call (groupMeasureCall word g u pauli q b answer determined nb′ cs′ used′ answer′ determined′) 0 →
       GroupKeeps word g u (leftUsed u nb′ cs′ used′)
 
+-- ---- "A group's gate, cz or measure reduces that group's vertices alone": a record that has these vertices alone is
+-- reduced
+abbrev pub GroupReduced : ℕ → ℕ → UsedRecord → Type 0
+GroupReduced word g after = IsReduced ((masked (inGroup word g) after) .held)
+
+-- after every accepted gate, cz and measurement of a group
+pub record GroupCallsReduce : Type 0 where
+  pub gate : (word g : ℕ) (u : UsedRecord) (q k : ℕ) (nb′ cs′ : List ℕ) →
+      Call (groupCall word g u (gateWith q k) nb′ cs′) 0 → GroupReduced word g (leftUsed u nb′ cs′ (u .used))
+  pub cz : (word g : ℕ) (u : UsedRecord) (a b : ℕ) (nb′ cs′ : List ℕ) →
+      Call (groupCall word g u (czOn a b) nb′ cs′) 0 → GroupReduced word g (leftUsed u nb′ cs′ (u .used))
+  pub measure : (word g : ℕ) (u : UsedRecord) (pauli q b answer determined : ℕ) (nb′ cs′ : List ℕ)
+      (used′ answer′ determined′ : ℕ) →
+      Call (groupMeasureCall word g u pauli q b answer determined nb′ cs′ used′ answer′ determined′) 0 →
+      GroupReduced word g (leftUsed u nb′ cs′ used′)
+
 -- ---- the store
 -- the other group's places are as they were
 abbrev pub OtherPlacesStay : ℕ → Store → Store → Type 0
@@ -64,6 +81,8 @@ GroupSavesKeep = (word g : ℕ) (u : UsedRecord) (name : ℕ) (st : Store) (head
 -- nothing under the name, under its other names what was held
 pub record GroupForgetKeeps (g name : ℕ) (st after : Store) : Type 0 where
   pub held : (m : ℕ) → lookup 4 (ownPlaces g after) m ≡ cond (eqb m name) nothing (lookup 4 (ownPlaces g st) m)
+  -- so that 18 does not refuse the group's next save, whatever its name
+  pub free : (m : ℕ) → othersHeld 4 ((ownPlaces g after) .heads) m ≡ false
   pub others : OtherPlacesStay g st after
 
 -- of every accepted forget of a group

@@ -1,6 +1,7 @@
 -- The request on two groups (02, §13), of runs of their calls.
 use mathlib.Core.Bool.{cond, false, true}
 use mathlib.Core.List.{List, [], _∷_}
+use mathlib.Core.Logic.{_≢_}
 use mathlib.Core.Path.{_≡_}
 use Prim.Native.Nat.{_<_, ℕ}
 use lib.Dec.{eqb}
@@ -63,6 +64,7 @@ linesBefore k (l ∷ ls) = cond (eqb (l .number) k) [] (l ∷ linesBefore k ls)
 -- "where they have left an edge between the groups, every group call is refused until it is gone": by 19, where no line
 -- from 2 to 7 refuses it
 pub record RefusedByCrossing (word g : ℕ) (s : Session) (c : SharedCall) : Type 0 where
+  pub refused : sharedNumber word g s c ≢ 0
   pub nineteen : firstFitting (linesBefore 19 (sharedCallLines word g s c)) ≡ 0 → sharedNumber word g s c ≡ 19
   pub unchanged : sharedAfter word g s c ≡ s
 

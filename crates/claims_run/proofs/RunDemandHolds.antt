@@ -23,7 +23,7 @@ use Rattle.jobs.specs.declared.Answer.{Answer}
 use Rattle.jobs.specs.declared.Step.{Step}
 use Rattle.jobs_lent.proofs.KeptAnswers.{each-answered, part-at}
 use Rattle.used.specs.Used.{UsedRecord}
-use Rattle.claims_run.proofs.RunFitting.{run-accepted-exactly, run-buffers-unread, run-conforms}
+use Rattle.claims_run.proofs.RunFitting.{run-accepted-exactly, run-buffers-unread, run-conforms, run-taken}
 use Rattle.claims_run.specs.RunDemand.{RunDemand, RunSays, RunStands, answerIn, heldGroup}
 
 module _ (u : UsedRecord) (s : LentSteps) (nb cs : List ℕ) (used : ℕ) (refusals outcomes determined : List ℕ)
@@ -102,6 +102,7 @@ run-says u s nb′ cs′ used′ refusals′ outcomes′ determined′ r C =
     record {
       answered = answered (run-conforms u s nb′ cs′ used′ refusals′ outcomes′ determined′) C;
       accepted = run-accepted-exactly u s nb′ cs′ used′ refusals′ outcomes′ determined′ r C;
+      taken = run-taken u s nb′ cs′ used′ refusals′ outcomes′ determined′ r C;
       follows = λ z. let D = at-zero C z in
           run-stands u s nb′ cs′ used′ refusals′ outcomes′ determined′ D (heldGroup u)
           (own-group u s nb′ cs′ used′ refusals′ outcomes′ determined′ D);

@@ -22,9 +22,9 @@ use Rattle.jobs.specs.Runs.{run, stepAnswers}
 use Rattle.jobs.specs.declared.Answer.{Answer}
 use Rattle.jobs_lent.proofs.KeptAnswers.{each-answered}
 use Rattle.stabilizer.proofs.SharedTests.{below-passes}
-use Rattle.used.specs.Used.{UsedRecord, usedLines}
+use Rattle.used.specs.Used.{UsedRecord, UsedUnrefused, usedLines}
 use Rattle.words.proofs.Flags.{neither}
-use Rattle.claims_run.specs.RunDemand.{RunBuffersUnread, RunFits}
+use Rattle.claims_run.specs.RunDemand.{RunBuffersUnread, RunFits, StepsFit}
 
 module _ (u : UsedRecord) (s : LentSteps) where
   abbrev count : ℕ
@@ -52,24 +52,27 @@ module _ (u : UsedRecord) (s : LentSteps) where
         let l = lengths-exactly .0 (x .1) in
         record {
           held = x .0;
-          few = ltb-false 4096 count (h .0);
-          operations = below-all 5 (s .ops) (x .3);
-          a-places = l .0 .0;
-          b-places = l .0 .1;
-          value-places = l .0 .2;
-          refusals-places = l .1 .0;
-          outcomes-places = l .1 .1;
-          determined-places = l .1 .2;
+          steps = record {
+            few = ltb-false 4096 count (h .0);
+            operations = below-all 5 (s .ops) (x .3);
+            a-places = l .0 .0;
+            b-places = l .0 .1;
+            value-places = l .0 .2;
+            refusals-places = l .1 .0;
+            outcomes-places = l .1 .1;
+            determined-places = l .1 .2;
+          };
         }),
-    (λ F. passed 15 _ (le-ltb 4096 count (F .few)) ∙ used-exactly u (otherLengths s) false (reaching 5 (s .ops)) .1 (
-      F .held,
-      lengths-exactly .1 (
-        (F .a-places, F .b-places, F .value-places),
-        (F .refusals-places, F .outcomes-places, F .determined-places),
-      ),
-      refl,
-      below-passes 5 (s .ops) (F .operations),
-    )),
+    (λ F. let S = F .steps in
+        passed 15 _ (le-ltb 4096 count (S .few)) ∙ used-exactly u (otherLengths s) false (reaching 5 (s .ops)) .1 (
+          F .held,
+          lengths-exactly .1 (
+            (S .a-places, S .b-places, S .value-places),
+            (S .refusals-places, S .outcomes-places, S .determined-places),
+          ),
+          refl,
+          below-passes 5 (s .ops) (S .operations),
+        )),
   )
 
   -- ---- its answers fill their buffers
@@ -102,10 +105,10 @@ module _ (u : UsedRecord) (s : LentSteps) where
             (
               sized F .codes-long ∙ sym (F .held .held .codes-length),
               (
-                part-fills F (λ r. r .refusal) (s .refusals) (F .refusals-places),
+                part-fills F (λ r. r .refusal) (s .refusals) (F .steps .refusals-places),
                 (
-                  part-fills F (λ r. r .outcome) (s .outcomes) (F .outcomes-places),
-                  (part-fills F (λ r. r .determined) (s .determined) (F .determined-places), tt),
+                  part-fills F (λ r. r .outcome) (s .outcomes) (F .steps .outcomes-places),
+                  (part-fills F (λ r. r .determined) (s .determined) (F .steps .determined-places), tt),
                 ),
               ),
             ),
@@ -116,6 +119,13 @@ module _ (u : UsedRecord) (s : LentSteps) where
   pub run-accepted-exactly : (nb′ cs′ : List ℕ) (used′ : ℕ) (refusals′ outcomes′ determined′ : List ℕ) (r : ℕ)
       → Call (runCall u s nb′ cs′ used′ refusals′ outcomes′ determined′) r → (r ≡ 0) ↔ RunFits u s
   run-accepted-exactly nb′ cs′ used′ refusals′ outcomes′ determined′ r C = Iff·trans (by-lines C) run-exactly
+
+  -- every record that no line refuses is taken
+  pub run-taken : (nb′ cs′ : List ℕ) (used′ : ℕ) (refusals′ outcomes′ determined′ : List ℕ) (r : ℕ)
+      → Call (runCall u s nb′ cs′ used′ refusals′ outcomes′ determined′) r → UsedUnrefused u → StepsFit s → r ≡ 0
+  run-taken nb′ cs′ used′ refusals′ outcomes′ determined′ r C U S =
+      run-accepted-exactly nb′ cs′ used′ refusals′ outcomes′ determined′ r C .1
+      (record { held = used-exactly u false false false .0 (U .no-line) .0; steps = S })
 
 -- ---- the lines read the lengths of the slices alone
 pub run-buffers-unread : RunBuffersUnread

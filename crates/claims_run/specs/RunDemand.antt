@@ -20,12 +20,11 @@ use Rattle.jobs.specs.Standing.{StandsFor, left}
 use Rattle.pauli.specs.Pauli.{Pauli}
 use Rattle.record.specs.Lent.{heldRows}
 use Rattle.stabilizer.specs.Groups.{InGroup}
-use Rattle.used.specs.Used.{UsedRecord}
+use Rattle.used.specs.Used.{UsedRecord, UsedUnrefused}
 
--- a record, at most 4,096 steps, operations from 0 to 4, and seven slices of one length; what else a step asks is not
--- looked at before it is run
-pub record RunFits (u : UsedRecord) (s : LentSteps) : Type 0 where
-  pub held : IsRecord u
+-- at most 4,096 steps, operations from 0 to 4, and seven slices of one length; what else a step asks is not looked at
+-- before it is run
+pub record StepsFit (s : LentSteps) : Type 0 where
   pub few : length (s .ops) ≤ 4096
   pub operations : (k : ℕ) → k < length (s .ops) → getD (s .ops) k 0 < 5
   pub a-places : length (s .a) ≡ length (s .ops)
@@ -34,6 +33,11 @@ pub record RunFits (u : UsedRecord) (s : LentSteps) : Type 0 where
   pub refusals-places : length (s .refusals) ≡ length (s .ops)
   pub outcomes-places : length (s .outcomes) ≡ length (s .ops)
   pub determined-places : length (s .determined) ≡ length (s .ops)
+
+-- and a record
+pub record RunFits (u : UsedRecord) (s : LentSteps) : Type 0 where
+  pub held : IsRecord u
+  pub steps : StepsFit s
 
 -- ---- what an accepted call leaves
 -- the group of a record: the products of its generators
@@ -61,6 +65,8 @@ pub record RunSays (u : UsedRecord) (s : LentSteps) (neighbours′ codes′ : Li
     (refusals′ outcomes′ determined′ : List ℕ) (r : ℕ) : Type 0 where
   pub answered : Answered (runCall u s neighbours′ codes′ used′ refusals′ outcomes′ determined′) r
   pub accepted : (r ≡ 0) ↔ RunFits u s
+  -- every record that no line refuses is taken
+  pub taken : UsedUnrefused u → StepsFit s → r ≡ 0
   pub follows : r ≡ 0 → RunStands u (heldGroup u) s neighbours′ codes′ used′ refusals′ outcomes′ determined′
 
 -- ---- of every call

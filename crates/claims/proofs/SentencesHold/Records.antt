@@ -12,6 +12,7 @@ use Rattle.contracts.specs.Calls.{Call}
 use Rattle.operations.specs.Steps.{complementOf, czOn, gateWith, measurementOf, Operation, pivotOf}
 use Rattle.record.specs.Lent.{LentRecord}
 use Rattle.used.specs.Used.{UsedRecord}
+use Rattle.claims.proofs.ActionsByCalls.{contracts-are-actions}
 use Rattle.claims.proofs.Contradictions.{contradictions-refused}
 use Rattle.claims.proofs.CutDemandHolds.{complements-keep-ranks, cuts-answer, cz-keeps-ranks, gates-keep-ranks}
 use Rattle.claims.proofs.GatesFollow.{cz-follows, gates-follow}
@@ -63,6 +64,7 @@ gate-says u q k nb′ cs′ r C =
       number-by-expanding = λ hq hk. gate-numbers-by-expanding u q k r nb′ cs′ hq hk C;
       copied = λ z. calls-copy u (gateWith q k) (not-measured refl) nb′ cs′ (at-zero C z);
       refused = used-calls-refused u (gateWith q k) nb′ cs′ r C;
+      action = contracts-are-actions .gate u q k r nb′ cs′ C;
     }
 
 pub cz-says : (u : UsedRecord) (a b : ℕ) (nb′ cs′ : List ℕ) (r : ℕ) → Call (usedCall u (czOn a b) nb′ cs′) r →
@@ -77,6 +79,7 @@ cz-says u a b nb′ cs′ r C =
       number-by-expanding = λ ha hb ab. cz-numbers-by-expanding u a b r nb′ cs′ ha hb ab C;
       copied = λ z. calls-copy u (czOn a b) (not-measured refl) nb′ cs′ (at-zero C z);
       refused = used-calls-refused u (czOn a b) nb′ cs′ r C;
+      action = contracts-are-actions .cz u a b r nb′ cs′ C;
     }
 
 pub complement-says : (u : UsedRecord) (a : ℕ) (nb′ cs′ : List ℕ) (r : ℕ) →
@@ -89,6 +92,7 @@ complement-says u a nb′ cs′ r C =
       ranks = λ z. complements-keep-ranks (u .held) a nb′ cs′ (plainly u (complementOf a) nb′ cs′ C z);
       copied = λ z. calls-copy u (complementOf a) (not-measured refl) nb′ cs′ (at-zero C z);
       refused = used-calls-refused u (complementOf a) nb′ cs′ r C;
+      action = contracts-are-actions .complement u a r nb′ cs′ C;
     }
 
 pub measure-says : (u : UsedRecord) (pauli q b answer determined : ℕ) (nb′ cs′ : List ℕ)
@@ -108,6 +112,7 @@ measure-says u pauli q b answer determined nb′ cs′ used′ answer′ determi
           answer′ determined′ hp hp₂ hq hb C;
       marked = λ z. measurements-mark u pauli q b answer determined nb′ cs′ used′ answer′ determined′ (at-zero C z);
       refused = second-measurements-refused u pauli q b answer determined nb′ cs′ used′ answer′ determined′ r C;
+      action = contracts-are-actions .measure u pauli q b answer determined r nb′ cs′ used′ answer′ determined′ C;
     }
 
 pub image-says : (l : LentRecord) (image signs list : List ℕ) (count : ℕ) (image′ signs′ list′ : List ℕ)

@@ -7,6 +7,7 @@ use Rattle.call_store.specs.StoreCalls.{forgetCall, returnCall, saveCall}
 use Rattle.contracts.specs.Calls.{Call}
 use Rattle.store.specs.Places.{Store}
 use Rattle.used.specs.Used.{UsedRecord}
+use Rattle.claims.proofs.ActionsByCalls.{contracts-are-actions}
 use Rattle.claims.proofs.StoreDemandHolds.{forgets-keep, returns-give, saves-keep}
 use Rattle.claims.proofs.StoreRefusals.{full-exactly, not-held-exactly}
 use Rattle.claims.proofs.families.Shared.{answered, at-zero}
@@ -21,6 +22,7 @@ save-says u name st heads′ nb′ cs′ r C =
       accepted = stores-accepted .save u name st heads′ nb′ cs′ r C;
       full = full-exactly u name st (C .number);
       keeps = λ z. saves-keep u name st heads′ nb′ cs′ (at-zero C z);
+      action = contracts-are-actions .save u name st r heads′ nb′ cs′ C;
     }
 
 pub return-says : (name : ℕ) (st : Store) (n : ℕ) (nb cs : List ℕ) (used n′ : ℕ) (nb′ cs′ : List ℕ) (used′ r : ℕ) →
@@ -31,6 +33,8 @@ return-says name st n nb cs used n′ nb′ cs′ used′ r C =
       accepted = stores-accepted .return name st n nb cs used n′ nb′ cs′ used′ r C;
       not-held = not-held-exactly name st (otherThan 64 nb || otherThan 64 cs) (C .number);
       gives = λ z. returns-give name st n nb cs used n′ nb′ cs′ used′ (at-zero C z);
+      action = λ long codes-long.
+          contracts-are-actions .return-to name st n nb cs used n′ nb′ cs′ used′ r long codes-long C;
     }
 
 pub forget-says : (name : ℕ) (st : Store) (heads′ : List ℕ) (r : ℕ) → Call (forgetCall name st heads′) r →
@@ -41,4 +45,5 @@ forget-says name st heads′ r C =
       accepted = stores-accepted .forget name st heads′ r C;
       not-held = not-held-exactly name st false (C .number);
       keeps = λ z. forgets-keep name st heads′ (at-zero C z);
+      action = contracts-are-actions .forget name st r heads′ C;
     }

@@ -1,5 +1,6 @@
 -- What the documents say of each exported function on records, in one record: demand 1, which arguments it
--- accepts, and the sentences of the demands and of the requests that speak of its answer.
+-- accepts, and the sentences of the demands and of the requests that speak of its answer; of a gate, a cz, a measurement
+-- and a complementation, that it is a step of a job and an action of a session (`action`).
 use mathlib.Core.Bool.{false, _||_}
 use mathlib.Core.List.{List}
 use mathlib.Core.Logic.{_↔_, _≢_}
@@ -11,11 +12,13 @@ use Rattle.call_expand.specs.Expanding.{expandCall}
 use Rattle.call_gates.specs.InPlaceCalls.{usedCall, usedMeasureCall}
 use Rattle.call_image.specs.Images.{imageCall}
 use Rattle.jobs.specs.Standing.{left}
+use Rattle.jobs.specs.declared.Op.the-variants.{Complement, Cz, Gate}
 use Rattle.operations.specs.Steps.{complementOf, czOn, gateWith, measurementOf}
 use Rattle.record.specs.Lent.{heldRecord, LentRecord, recordLines}
 use Rattle.record.specs.Records.{complementRecord}
 use Rattle.used.specs.Used.{UsedRecord}
 use Rattle.words.specs.Bits.{Word}
+use Rattle.claims.specs.ActionContracts.{inPlace, MeasureLeaves, StepLeaves, stepOf}
 use Rattle.claims.specs.Arguments.{Free}
 use Rattle.claims.specs.Conforming.{Answered}
 use Rattle.claims.specs.CutDemand.{CutAnswer, rankAcross}
@@ -42,6 +45,7 @@ pub record GateSays (u : UsedRecord) (q k : ℕ) (nb′ cs′ : List ℕ) (r : �
   pub number-by-expanding : Free u q → k < 24 → NumberByExpanding u r
   pub copied : r ≡ 0 → UsedCopied u nb′ cs′
   pub refused : SixteenExactly u (gateWith q k) r
+  pub action : StepLeaves u (stepOf Gate q 0 k) (inPlace u nb′ cs′ (u .used))
 
 -- sukhlent_cz: demands 1 and 2, and ranks across cuts (02, §1)
 pub record CzSays (u : UsedRecord) (a b : ℕ) (nb′ cs′ : List ℕ) (r : ℕ) : Type 0 where
@@ -54,6 +58,7 @@ pub record CzSays (u : UsedRecord) (a b : ℕ) (nb′ cs′ : List ℕ) (r : ℕ
   pub number-by-expanding : Free u a → Free u b → a ≢ b → NumberByExpanding u r
   pub copied : r ≡ 0 → UsedCopied u nb′ cs′
   pub refused : SixteenExactly u (czOn a b) r
+  pub action : StepLeaves u (stepOf Cz a b 0) (inPlace u nb′ cs′ (u .used))
 
 -- sukhlent_complement: demand 1, the record of the rule with the same group, and ranks across cuts
 pub record ComplementSays (u : UsedRecord) (a : ℕ) (nb′ cs′ : List ℕ) (r : ℕ) : Type 0 where
@@ -64,6 +69,7 @@ pub record ComplementSays (u : UsedRecord) (a : ℕ) (nb′ cs′ : List ℕ) (r
   pub ranks : r ≡ 0 → (side : Word) → rankAcross side (left (u .held) nb′ cs′) ≡ rankAcross side (u .held)
   pub copied : r ≡ 0 → UsedCopied u nb′ cs′
   pub refused : SixteenExactly u (complementOf a) r
+  pub action : StepLeaves u (stepOf Complement a 0 0) (inPlace u nb′ cs′ (u .used))
 
 -- sukhlent_measure: demands 1 and 2, and contradicted outcomes (02, §4)
 pub record MeasureSays (u : UsedRecord) (pauli q b answer determined : ℕ) (nb′ cs′ : List ℕ)
@@ -76,6 +82,7 @@ pub record MeasureSays (u : UsedRecord) (pauli q b answer determined : ℕ) (nb�
   pub number-by-expanding : 1 ≤ pauli → pauli ≤ 3 → Free u q → b < 2 → MeasureNumberByExpanding u pauli q b r
   pub marked : r ≡ 0 → UsedMarked u pauli q b nb′ cs′ used′ answer′
   pub refused : SixteenExactly u (measurementOf pauli q b) r
+  pub action : MeasureLeaves u pauli q b (inPlace u nb′ cs′ used′)
 
 -- sukhlent_image: demands 1 and 2
 pub record ImageSays (l : LentRecord) (image signs list : List ℕ) (count : ℕ) (image′ signs′ list′ : List ℕ)

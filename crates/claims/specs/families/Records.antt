@@ -1,5 +1,5 @@
 -- The calls on records: demand 1, which arguments they accept, and the records that all of them take.
-use mathlib.Core.Bool.{not}
+use mathlib.Core.Bool.{false, not}
 use mathlib.Core.List.{List}
 use mathlib.Core.Logic.{_↔_, _≢_, _⊎_}
 use mathlib.Core.Path.{_≡_}
@@ -13,17 +13,20 @@ use Rattle.call_expand.specs.Expanding.{expandCall, expandLines}
 use Rattle.call_expectation.specs.Expectations.{expectationCall}
 use Rattle.call_gates.specs.InPlaceCalls.{usedCall, usedMeasureCall}
 use Rattle.call_image.specs.Images.{imageCall}
+use Rattle.call_store.specs.StoreCalls.{saveCall}
 use Rattle.contracts.specs.Calls.{Call}
 use Rattle.image.specs.Image.{imageLines, UnsignedGraph}
 use Rattle.operations.specs.Steps.{complementOf, czOn, gateWith, Operation}
 use Rattle.record.specs.Accepted.{AcceptedRecord}
 use Rattle.record.specs.Lent.{heldRows, LentRecord}
 use Rattle.stabilizer.specs.Groups.{InGroup}
+use Rattle.store.specs.Places.{Store, othersHeld}
 use Rattle.used.specs.Used.{UsedRecord}
 use Rattle.words.specs.Bits.{isOdd}
 use Rattle.claims.specs.Arguments.{Free, IsRecord}
 use Rattle.claims.specs.Conforming.{Conforms}
 use Rattle.claims.specs.OperationsDemand.{signedPauli}
+use Rattle.claims.specs.families.Stores.{IsStore}
 
 -- demand 1 of each call: its lines stand in the published order, and its answers fill their buffers
 pub record RecordsConform : Type 0 where
@@ -120,3 +123,5 @@ pub record TakenByAll (u : UsedRecord) : Type 0 where
       y < 2 ^ (u .held .n) → r ≡ 0
   pub expectation : (z x value value′ r : ℕ) → Call (expectationCall u z x value value′) r → z < 2 ^ (u .held .n) →
       x < 2 ^ (u .held .n) → r ≡ 0
+  pub save : (name : ℕ) (st : Store) (heads′ nb′ cs′ : List ℕ) (r : ℕ) → Call (saveCall u name st heads′ nb′ cs′) r →
+      IsStore st → othersHeld 8 (st .heads) name ≡ false → r ≡ 0

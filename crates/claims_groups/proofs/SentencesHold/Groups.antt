@@ -18,6 +18,7 @@ use Rattle.claims_groups.proofs.GroupKeepsHold.{
   group-returns-give,
   group-saves-keep,
 }
+use Rattle.claims_groups.proofs.GroupsReduce.{group-calls-reduce}
 use Rattle.claims_groups.specs.Sentences.Groups.{
   GroupComplementSays,
   GroupCzSays,
@@ -38,6 +39,7 @@ module _ (word g : ℕ) (u : UsedRecord) where
         accepted = groups-accepted .gate word g u q k nb′ cs′ r C;
         step = λ st. contracts-are-steps .gate word g (together u st) q k r nb′ cs′ C;
         keeps = λ z. group-calls-keep .gate word g u q k nb′ cs′ (at-zero C z);
+        reduces = λ z. group-calls-reduce .gate word g u q k nb′ cs′ (at-zero C z);
         stands = λ z r″ nb″ cs″ W. group-calls-stand .gate word g u q k nb′ cs′ r″ nb″ cs″ (at-zero C z) W;
       }
 
@@ -49,6 +51,7 @@ module _ (word g : ℕ) (u : UsedRecord) where
         accepted = groups-accepted .cz word g u a b nb′ cs′ r C;
         step = λ st. contracts-are-steps .cz word g (together u st) a b r nb′ cs′ C;
         keeps = λ z. group-calls-keep .cz word g u a b nb′ cs′ (at-zero C z);
+        reduces = λ z. group-calls-reduce .cz word g u a b nb′ cs′ (at-zero C z);
         stands = λ z r″ nb″ cs″ W. group-calls-stand .cz word g u a b nb′ cs′ r″ nb″ cs″ (at-zero C z) W;
       }
 
@@ -76,6 +79,8 @@ module _ (word g : ℕ) (u : UsedRecord) where
         outcome = λ z st. contracts-are-steps .measure word g (together u st) pauli q b answer determined r nb′ cs′ used′
             answer′ determined′ C .1 z;
         keeps = λ z. group-calls-keep .measure word g u pauli q b answer determined nb′ cs′ used′ answer′ determined′
+            (at-zero C z);
+        reduces = λ z. group-calls-reduce .measure word g u pauli q b answer determined nb′ cs′ used′ answer′ determined′
             (at-zero C z);
         stands = λ z r″ nb″ cs″ used″ answer″ determined″ W. group-calls-stand .measure word g u pauli q b answer determined
             nb′ cs′ used′ answer′ determined′ r″ nb″ cs″ used″ answer″ determined″ (at-zero C z) W;

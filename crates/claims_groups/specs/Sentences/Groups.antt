@@ -23,6 +23,7 @@ use Rattle.claims_groups.specs.GroupKeeps.{
   GroupFull,
   GroupKeeps,
   GroupNotHeld,
+  GroupReduced,
   GroupReturnGives,
   GroupSaveKeeps,
 }
@@ -58,6 +59,7 @@ pub record GroupGateSays (word g : ℕ) (u : UsedRecord) (q k : ℕ) (nb′ cs�
   pub accepted : (r ≡ 0) ↔ (TwoGroups word g u × Own word g q × GateFits u q k)
   pub step : StepOnRecord word g u (groupGate q k) r nb′ cs′ (u .used)
   pub keeps : r ≡ 0 → GroupKeeps word g u (leftUsed u nb′ cs′ (u .used))
+  pub reduces : r ≡ 0 → GroupReduced word g (leftUsed u nb′ cs′ (u .used))
   pub stands : r ≡ 0 → AsWhole u (gateWith q k) nb′ cs′
 
 -- sukhlent_group_cz
@@ -66,6 +68,7 @@ pub record GroupCzSays (word g : ℕ) (u : UsedRecord) (a b : ℕ) (nb′ cs′ 
   pub accepted : (r ≡ 0) ↔ (TwoGroups word g u × (Own word g a × Own word g b) × CzFits u a b)
   pub step : StepOnRecord word g u (groupCz a b) r nb′ cs′ (u .used)
   pub keeps : r ≡ 0 → GroupKeeps word g u (leftUsed u nb′ cs′ (u .used))
+  pub reduces : r ≡ 0 → GroupReduced word g (leftUsed u nb′ cs′ (u .used))
   pub stands : r ≡ 0 → AsWhole u (czOn a b) nb′ cs′
 
 -- sukhlent_group_complement
@@ -85,6 +88,7 @@ pub record GroupMeasureSays (word g : ℕ) (u : UsedRecord) (pauli q b answer de
   pub outcome : r ≡ 0 → (st : Store) →
       answer′ ∷ determined′ ∷ [] ≡ sharedMeasured word g (together u st) (groupMeasure pauli q b)
   pub keeps : r ≡ 0 → GroupKeeps word g u (leftUsed u nb′ cs′ used′)
+  pub reduces : r ≡ 0 → GroupReduced word g (leftUsed u nb′ cs′ used′)
   pub stands : r ≡ 0 → (r″ : ℕ) (nb″ cs″ : List ℕ) (used″ answer″ determined″ : ℕ) →
       Call (usedMeasureCall u pauli q b answer determined nb″ cs″ used″ answer″ determined″) r″ →
       StandsAsWhole u nb′ cs′ r″ nb″ cs″ × (answer′ ≡ answer″) × (determined′ ≡ determined″) × (used′ ≡ used″)

@@ -1,0 +1,136 @@
+-- What the contract of each call on a record and on a store says is the action of a session.
+use mathlib.Core.Bool.{Bool, cond, false, not, true, _||_}
+use mathlib.Core.List.{List}
+use mathlib.Core.Path.{ap, ap₂, refl, sym, _∙_, _≡_}
+use Prim.Native.Nat.{_%_, _+_, _/_, ℕ}
+use lib.Dec.{eqb}
+use lib.ListN.{length}
+use borrow.Author.Tests.{eq-eqb, ne-eqb}
+use Rattle.buffers.specs.Buffers.{accepted}
+use Rattle.buffers.specs.Refusals.{firstFitting, otherThan}
+use Rattle.call_gates.specs.InPlaceCalls.{usedCall, usedMeasureCall}
+use Rattle.call_store.specs.StoreCalls.{forgetCall, heldUnder, returnCall, saveCall}
+use Rattle.contracts.specs.Calls.{Call}
+use Rattle.jobs.proofs.Numbers.{left-by-operation}
+use Rattle.jobs.specs.Asked.{asked, unusedSet}
+use Rattle.jobs.specs.declared.Op.the-variants.{Complement, Cz, Gate, Measure}
+use Rattle.jobs.specs.declared.Step.{Step}
+use Rattle.operations.specs.Steps.{Operation, complementOf, czOn, gateWith, leaves, measurementOf}
+use Rattle.store.proofs.ForgottenNames.{held-lookup}
+use Rattle.store.specs.Kept.{forgotten, forgottenHeads, saved}
+use Rattle.store.specs.Places.{Store, found}
+use Rattle.store.specs.StoreLines.{namedLines, saveLines}
+use Rattle.used.specs.Used.{UsedRecord, usedAfter, usedLinesOf, usedStep}
+use Rattle.claims.proofs.RewritingsKeep.{is-after, is-measured}
+use Rattle.claims.proofs.StoreDemandHolds.{name-held, named-passing, returns-give}
+use Rattle.claims.proofs.families.Shared.{at-zero}
+use Rattle.claims.specs.ActionContracts.{
+  ContractsAreActions,
+  ForgetLeaves,
+  MeasureLeaves,
+  ReturnLeaves,
+  SaveLeaves,
+  StepLeaves,
+  inBuffers,
+  inPlace,
+  session,
+  stepOf,
+}
+use Rattle.claims.specs.StoreDemand.{storeOf}
+
+-- ---- steps
+-- a step whose unused fields are 0 leaves what the call of its operation does
+step-leaves : (u : UsedRecord) (step : Step) → unusedSet (step .op) (step .b) (step .value) ≡ false → (r : ℕ)
+    (nb′ cs′ : List ℕ) (used′ : ℕ) → Call (usedCall u (asked step) nb′ cs′) r →
+    used′ ≡ (usedStep u (asked step)) .after .used → StepLeaves u step (inPlace u nb′ cs′ used′)
+step-leaves u step unset r nb′ cs′ used′ C e st = ap (λ v. session v st)
+    (left-by-operation u step unset
+    ∙ λ i. record { held = sym (is-after u (asked step) r nb′ cs′ C) i; used = sym e i })
+
+-- a step that copies the used word
+copied : (u : UsedRecord) (o : Operation) → usedAfter u o ≡ u .used → u .used ≡ (usedStep u o) .after .used
+copied u o e = go (eqb (firstFitting (usedLinesOf u o)) 0)
+  where
+    go : (b : Bool) → u .used ≡ (cond b (record { held = leaves (u .held) o; used = usedAfter u o }) u) .used
+    go true = sym e
+    go false = refl
+
+measure-leaves : (u : UsedRecord) (pauli q b answer determined r : ℕ) (nb′ cs′ : List ℕ)
+    (used′ answer′ determined′ : ℕ) →
+    Call (usedMeasureCall u pauli q b answer determined nb′ cs′ used′ answer′ determined′) r →
+    MeasureLeaves u pauli q b (inPlace u nb′ cs′ used′)
+measure-leaves u pauli q b answer determined r nb′ cs′ used′ answer′ determined′ C value p e st =
+    ap (λ v. session v st) (left-by-operation u (stepOf Measure q 0 value) refl
+    ∙ ap₂ (λ p b. (usedStep u (measurementOf p q b)) .after) (sym p) (sym e)
+    ∙ sym (is-measured u pauli q b answer determined r nb′ cs′ used′ answer′ determined′ C))
+
+-- ---- a save
+save-leaves : (u : UsedRecord) (name : ℕ) (st : Store) (r : ℕ) (heads′ nb′ cs′ : List ℕ) →
+    Call (saveCall u name st heads′ nb′ cs′) r → SaveLeaves u name st heads′ nb′ cs′
+save-leaves u name st r heads′ nb′ cs′ C = ap (session u) (sym
+    ((λ j. storeOf (by _ _ (C .held .0) j) (by _ _ (C .held .1 .0) j) (by _ _ (C .held .1 .1 .0) j))
+    ∙ go (eqb (firstFitting (saveLines 8 u name st)) 0)))
+  where
+    by : (answer old : List ℕ) {after : List ℕ} → after ≡ accepted r answer old →
+        after ≡ accepted (firstFitting (saveLines 8 u name st)) answer old
+    by answer old e = e ∙ ap (λ k. accepted k answer old) (C .number)
+
+    go : (b : Bool) → storeOf (cond b ((saved 8 u name st) .heads) (st .heads))
+        (cond b ((saved 8 u name st) .neighbours) (st .neighbours))
+        (cond b ((saved 8 u name st) .codes) (st .codes)) ≡ cond b (saved 8 u name st) st
+    go true = refl
+    go false = refl
+
+-- ---- a forget
+forget-leaves : (name : ℕ) (st : Store) (r : ℕ) (heads′ : List ℕ) → Call (forgetCall name st heads′) r →
+    ForgetLeaves name st heads′
+forget-leaves name st r heads′ C u = ap (session u) (sym
+    (ap (λ heads. storeOf heads (st .neighbours) (st .codes))
+    (C .held .0 ∙ ap (λ k. accepted k (forgottenHeads 8 name (st .heads)) (st .heads)) (C .number))
+    ∙ go (eqb (firstFitting (namedLines 8 name st false)) 0)))
+  where
+    go : (b : Bool) → storeOf (cond b (forgottenHeads 8 name (st .heads)) (st .heads)) (st .neighbours) (st .codes)
+        ≡ cond b (forgotten 8 name st) st
+    go true = refl
+    go false = refl
+
+-- ---- a return
+module _ (name : ℕ) (st : Store) (n : ℕ) (nb cs : List ℕ) (used n′ : ℕ) (nb′ cs′ : List ℕ) (used′ r : ℕ)
+    (long : length nb ≡ 64) (codes-long : length cs ≡ 64)
+    (C : Call (returnCall name st n nb cs used n′ nb′ cs′ used′) r) where
+  -- buffers of 64 places refuse nothing
+  number : r ≡ firstFitting (namedLines 8 name st false)
+  number = C .number ∙ ap₂ (λ k l. firstFitting (namedLines 8 name st (not (eqb k 64) || not (eqb l 64)))) long codes-long
+
+  same-record : {u v : UsedRecord} → found u ≡ found v → u ≡ v
+  same-record e = cc
+
+  back : r ≡ 0 → heldUnder name st ≡ inBuffers n′ nb′ cs′ used′
+  back z = same-record (sym (held-lookup 8 st (named-passing name st false lines) name (name-held name st false lines))
+      ∙ returns-give name st n nb cs used n′ nb′ cs′ used′ (at-zero C z) .held)
+    where
+      lines : firstFitting (namedLines 8 name st false) ≡ 0
+      lines = sym number ∙ z
+
+  return-leaves : ReturnLeaves name st n′ nb′ cs′ used′ r
+  return-leaves =
+      record {
+        accepted = λ z u. ap (λ v. session v st)
+            (ap (λ b. cond b (heldUnder name st) u) (eq-eqb _ 0 (sym number ∙ z)) ∙ back z);
+        refused = λ h u. ap (λ v. session v st)
+            (ap (λ b. cond b (heldUnder name st) u) (ne-eqb _ 0 (λ z. h (number ∙ z))));
+      }
+
+pub contracts-are-actions : ContractsAreActions
+contracts-are-actions =
+    record {
+      gate = λ u q k r nb′ cs′ C. step-leaves u (stepOf Gate q 0 k) refl r nb′ cs′ (u .used) C (copied u (gateWith q k) refl);
+      cz = λ u a b r nb′ cs′ C. step-leaves u (stepOf Cz a b 0) refl r nb′ cs′ (u .used) C (copied u (czOn a b) refl);
+      complement = λ u a r nb′ cs′ C.
+          step-leaves u (stepOf Complement a 0 0) refl r nb′ cs′ (u .used) C (copied u (complementOf a) refl);
+      measure = measure-leaves;
+      save = save-leaves;
+      return-to = λ name st n nb cs used n′ nb′ cs′ used′ r long codes-long C.
+          return-leaves name st n nb cs used n′ nb′ cs′ used′ r long codes-long C;
+      forget = forget-leaves;
+    }

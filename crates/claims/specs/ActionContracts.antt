@@ -1,0 +1,80 @@
+-- The actions of a session are the exported calls: what the contract of each says is the action (02, §5, §12).
+use mathlib.Core.List.{List}
+use mathlib.Core.Path.{_≡_}
+use Prim.Native.Nat.{_%_, _+_, _/_, ℕ}
+use lib.ListN.{length, take}
+use Rattle.call_gates.specs.InPlaceCalls.{usedCall, usedMeasureCall}
+use Rattle.call_store.specs.StoreCalls.{forgetCall, returnCall, saveCall}
+use Rattle.contracts.specs.Calls.{Call}
+use Rattle.jobs.specs.Standing.{left}
+use Rattle.jobs.specs.declared.Op.{Op}
+use Rattle.jobs.specs.declared.Op.the-variants.{Complement, Cz, Gate, Measure}
+use Rattle.jobs.specs.declared.Step.{Step}
+use Rattle.operations.specs.Steps.{complementOf, czOn, gateWith}
+use Rattle.store.specs.Places.{Store}
+use Rattle.used.specs.Used.{UsedRecord}
+use Rattle.claims.specs.StoreDemand.{Session, afterAction, does, forgets, returns, saves, storeOf}
+
+-- the record in hand and the store
+abbrev pub session : UsedRecord → Store → Session
+session u st = record { current = u; store = st }
+
+-- ---- steps
+-- the step with these fields
+abbrev pub stepOf : Op → ℕ → ℕ → ℕ → Step
+stepOf op a b value = record { op = op; a = a; b = b; value = value }
+
+-- the step leaves this record, whatever the store, and the store as it was
+abbrev pub StepLeaves : UsedRecord → Step → UsedRecord → Type 0
+StepLeaves u step after = (st : Store) → afterAction (session u st) (does step) ≡ session after st
+
+-- the record with these two buffers and this used word
+abbrev pub inPlace : UsedRecord → List ℕ → List ℕ → ℕ → UsedRecord
+inPlace u nb cs used = record { held = left (u .held) nb cs; used = used }
+
+-- a measurement is each step whose value says its Pauli and its outcome, "2 × (Pauli − 1) + outcome"
+abbrev pub MeasureLeaves : UsedRecord → ℕ → ℕ → ℕ → UsedRecord → Type 0
+MeasureLeaves u pauli q b after =
+    (value : ℕ) → pauli ≡ value / 2 + 1 → b ≡ value % 2 → StepLeaves u (stepOf Measure q 0 value) after
+
+-- ---- calls on the store
+-- a save leaves the record and these three buffers
+abbrev pub SaveLeaves : UsedRecord → ℕ → Store → List ℕ → List ℕ → List ℕ → Type 0
+SaveLeaves u name st heads′ nb′ cs′ =
+    afterAction (session u st) (saves name) ≡ session u (storeOf heads′ nb′ cs′)
+
+-- a forget writes the heads alone
+abbrev pub ForgetLeaves : ℕ → Store → List ℕ → Type 0
+ForgetLeaves name st heads′ = (u : UsedRecord) →
+    afterAction (session u st) (forgets name) ≡ session u (storeOf heads′ (st .neighbours) (st .codes))
+
+-- the record in buffers of 64 places: its n, the first n places, its used word
+abbrev pub inBuffers : ℕ → List ℕ → List ℕ → ℕ → UsedRecord
+inBuffers n nb cs used = record { held = record { n = n; neighbours = take n nb; codes = take n cs }; used = used }
+
+-- a return: accepted, the record in hand is the one in the buffers, whatever it was; refused, nothing is changed
+pub record ReturnLeaves (name : ℕ) (st : Store) (n′ : ℕ) (nb′ cs′ : List ℕ) (used′ r : ℕ) : Type 0 where
+  pub accepted : r ≡ 0 → (u : UsedRecord) →
+      afterAction (session u st) (returns name) ≡ session (inBuffers n′ nb′ cs′ used′) st
+  pub refused : (r ≡ 0 → ⊥) → (u : UsedRecord) → afterAction (session u st) (returns name) ≡ session u st
+
+-- ---- of each call, refused or not. A gate, a cz and a complementation are not lent the used word; a return is lent
+-- buffers of 64 places
+pub record ContractsAreActions : Type 0 where
+  pub gate : (u : UsedRecord) (q k r : ℕ) (nb′ cs′ : List ℕ) → Call (usedCall u (gateWith q k) nb′ cs′) r →
+      StepLeaves u (stepOf Gate q 0 k) (inPlace u nb′ cs′ (u .used))
+  pub cz : (u : UsedRecord) (a b r : ℕ) (nb′ cs′ : List ℕ) → Call (usedCall u (czOn a b) nb′ cs′) r →
+      StepLeaves u (stepOf Cz a b 0) (inPlace u nb′ cs′ (u .used))
+  pub complement : (u : UsedRecord) (a r : ℕ) (nb′ cs′ : List ℕ) → Call (usedCall u (complementOf a) nb′ cs′) r →
+      StepLeaves u (stepOf Complement a 0 0) (inPlace u nb′ cs′ (u .used))
+  pub measure : (u : UsedRecord) (pauli q b answer determined r : ℕ) (nb′ cs′ : List ℕ)
+      (used′ answer′ determined′ : ℕ) →
+      Call (usedMeasureCall u pauli q b answer determined nb′ cs′ used′ answer′ determined′) r →
+      MeasureLeaves u pauli q b (inPlace u nb′ cs′ used′)
+  pub save : (u : UsedRecord) (name : ℕ) (st : Store) (r : ℕ) (heads′ nb′ cs′ : List ℕ) →
+      Call (saveCall u name st heads′ nb′ cs′) r → SaveLeaves u name st heads′ nb′ cs′
+  pub return-to : (name : ℕ) (st : Store) (n : ℕ) (nb cs : List ℕ) (used n′ : ℕ) (nb′ cs′ : List ℕ) (used′ r : ℕ) →
+      length nb ≡ 64 → length cs ≡ 64 → Call (returnCall name st n nb cs used n′ nb′ cs′ used′) r →
+      ReturnLeaves name st n′ nb′ cs′ used′ r
+  pub forget : (name : ℕ) (st : Store) (r : ℕ) (heads′ : List ℕ) → Call (forgetCall name st heads′) r →
+      ForgetLeaves name st heads′
