@@ -27,7 +27,7 @@ use Rattle.store.proofs.PassingStores.{held-record}
 use Rattle.used.proofs.LeftRecords.{used-left}
 use Rattle.used.proofs.UsedPassing.{used-step}
 use Rattle.used.specs.Used.{UsedRecord, usedAfter, usedStep}
-use Rattle.used.specs.UsedLaws.{UsedLeft}
+use Rattle.used.specs.internal.UsedLaws.{UsedLeft}
 use Rattle.words.specs.Bits.{Word}
 use Rattle.claims_groups.proofs.ContractSteps.{used-kept}
 use Rattle.claims_groups.proofs.OwnCalls.{operation-left}
