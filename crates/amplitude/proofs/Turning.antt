@@ -1,9 +1,8 @@
--- Powers of i times a Gaussian integer: turns add, and a number that a turn keeps is 0; none other turns to 0.
-use mathlib.Core.Bool.{false, true≢false}
+-- Powers of i times a Gaussian integer: turns add, and a number that is its own negative is 0; none other turns to 0.
 use mathlib.Core.Path.{_∙_, _≡_, ap, refl, subst, sym}
 use Prim.Native.Nat.{suc, zero}
 use lib.IntN.{ℤ, negsuc, negℤ, pos}
-use Rattle.pauli.specs.Pauli.{_+ᵖ_, Phase, i¹, i², i³, i⁰, samePhase, timesI}
+use Rattle.pauli.specs.Pauli.{_+ᵖ_, Phase, i¹, i², i³, i⁰, timesI}
 use Rattle.amplitude.specs.Vectors.{Gaussian, none, one, turnBy}
 
 neg-neg : (k : ℤ) → negℤ (negℤ k) ≡ k
@@ -47,16 +46,9 @@ own-negative (negsuc k) e = absurd (apart e)
     apart : negsuc k ≡ pos (suc k) → ⊥
     apart e = subst (λ z. elim z as (λ z. Type 0) [ pos k ↦ ⊥ | negsuc k ↦ Unit ]) e tt
 
--- a number that a turn other than by 1 keeps is 0
-pub turned-none : (t : Phase) (z : Gaussian) → samePhase t i⁰ ≡ false → z ≡ turnBy t z → z ≡ none
-turned-none i⁰ z h e = absurd (true≢false h)
-turned-none i¹ z h e =
-    let a = own-negative (z .re) (ap (λ u. u .re) e ∙ ap negℤ (ap (λ u. u .im) e)) in
-    gaussian a (ap (λ u. u .im) e ∙ a)
-turned-none i² z h e = gaussian (own-negative (z .re) (ap (λ u. u .re) e)) (own-negative (z .im) (ap (λ u. u .im) e))
-turned-none i³ z h e =
-    let b = own-negative (z .im) (ap (λ u. u .im) e ∙ ap negℤ (ap (λ u. u .re) e)) in
-    gaussian (ap (λ u. u .re) e ∙ b) b
+-- also among Gaussian integers
+pub negated-none : (z : Gaussian) → turnBy i² z ≡ z → z ≡ none
+negated-none z e = gaussian (own-negative (z .re) (sym (ap (λ u. u .re) e))) (own-negative (z .im) (sym (ap (λ u. u .im) e)))
 
 -- four turns bring a number back, so that only 0 turns to 0
 pub none-turned : (t : Phase) (z : Gaussian) → turnBy t z ≡ none → z ≡ none

@@ -1,5 +1,5 @@
 -- The answers, as a vector of Gaussian integers, are fixed by every element of the group; and every vector that is so
--- is a multiple of it.
+-- is a multiple of it, also one of other numbers.
 use mathlib.Core.Bool.{Bool, cond, false, not, true, true≢false}
 use mathlib.Core.Logic.{inl, inr}
 use mathlib.Core.Path.{_∙_, _≡_, ap, ap₂, refl, sym}
@@ -7,7 +7,7 @@ use Prim.Native.Nat.{_<_, _^_, ℕ}
 use borrow.Author.Tests.{not-false, not-true}
 use Rattle.pauli.proofs.PauliLaws.{mul-x}
 use Rattle.pauli.proofs.PhaseLaws.{+ᵖ-comm}
-use Rattle.pauli.specs.Pauli.{_+ᵖ_, Pauli, identity, i⁰, mul, samePhase}
+use Rattle.pauli.specs.Pauli.{_+ᵖ_, Pauli, Phase, identity, i¹, i², i³, i⁰, mul, samePhase}
 use Rattle.stabilizer.proofs.GroupLaws.{in-identity, in-mul}
 use Rattle.stabilizer.specs.Groups.{InGroup, Proper}
 use Rattle.words.proofs.BitLaws.{bit-ext, bit-wordOf, wordOf-lt}
@@ -19,14 +19,17 @@ use Rattle.words.specs.Search.{every, some}
 use Rattle.amplitude.proofs.Existence.{any-element, leading-leads, lowest-is, some-leads}
 use Rattle.amplitude.proofs.Support.{supported-exactly, supported-ext, supported-moved, turns-ext, turns-identity}
 use Rattle.amplitude.proofs.TurnLaws.{turns-mul}
-use Rattle.amplitude.proofs.Turning.{none-turned, turn-add, turn-none, turned-none, turned-one-some}
+use Rattle.amplitude.proofs.Turning.{negated-none, none-turned, turn-add, turn-none, turned-one-some}
 use Rattle.amplitude.specs.internal.Ratios.{Diagonal}
 use Rattle.amplitude.specs.Ratios.{Leads, chosenBy, leading, lowest, ratio, isSupported}
 use Rattle.amplitude.specs.Turns.{turnsAt}
 use Rattle.amplitude.specs.Vectors.{
   AnyElementFixes,
+  Gaussian,
   LowestLeast,
+  Numbers,
   OnlyVector,
+  OnlyVectorOver,
   Stabilized,
   ZeroExactly,
   amplitudes,
@@ -42,6 +45,17 @@ fails b f e = elim (first-is b (λ i. not (f i))) [
   | inl F ↦ (_, not-true _ (F .passes))
   | inr all ↦ absurd (true≢false (sym (every-in b f (λ i l. not-false (f i) (all i l))) ∙ e))
 ]
+
+-- a number that a turn other than by 1 keeps is 0: turned twice it is its own negative
+turned-zero : (N : Numbers) (t : Phase) (a : N .Number) → samePhase t i⁰ ≡ false → a ≡ N .turn t a → a ≡ N .zero
+turned-zero N i⁰ a h e = absurd (true≢false h)
+turned-zero N i¹ a h e = N .own-negative a (N .turns i¹ i¹ a ∙ sym (e ∙ ap (N .turn i¹) e))
+turned-zero N i² a h e = N .own-negative a (sym e)
+turned-zero N i³ a h e = N .own-negative a (N .turns i³ i³ a ∙ sym (e ∙ ap (N .turn i³) e))
+
+-- the Gaussian integers are such numbers
+abbrev gaussians : Numbers
+gaussians = record { Number = Gaussian; zero = none; turn = turnBy; turns = turn-add; own-negative = negated-none }
 
 -- the bits of the word to which an element sends another, and the way back
 moved-bit : (n : ℕ) (p : Pauli) (y q : ℕ) → q < n → bit (movedTo n p y) q ≡ bit y q ⊕ p .x q
@@ -120,13 +134,13 @@ module _ (n : ℕ) (R : ℕ → Pauli) (P : Proper n R) where
       let g = neither (some n (λ q. (chosenBy n R (f .0)) .x q)) _ (f .1) in
       (chosenBy n R (f .0), (bit (f .0), refl), some-false n _ (g .0), g .1)
 
-  pub only-vector : OnlyVector n R
-  only-vector w W y l = go (isSupported n R y) refl
+  pub only-vector-over : OnlyVectorOver n R
+  only-vector-over N w W y l = go (isSupported n R y) refl
     where
-      go : (b : Bool) → isSupported n R y ≡ b → w y ≡ cond b (turnBy (ratio n R y) (w (lowest n R))) none
+      go : (b : Bool) → isSupported n R y ≡ b → w y ≡ cond b (N .turn (ratio n R y) (w (lowest n R))) (N .zero)
       go false e =
           let t = turned-word y e in
-          turned-none (turnsAt n (t .0) (bit y)) (w y) (t .3)
+          turned-zero N (turnsAt n (t .0) (bit y)) (w y) (t .3)
           (ap w (sym (moved-is n (t .0) y y l (λ q k. ap (λ b. bit y q ⊕ b) (t .2 q k) ∙ ⊕-zero (bit y q))))
           ∙ W (t .0) (t .1) y l)
       go true e =
@@ -136,10 +150,13 @@ module _ (n : ℕ) (R : ℕ → Pauli) (P : Proper n R) where
           ap w (sym (moved-is n (s .0) low y l (λ q k. ap (λ b. bit low q ⊕ b) (s .2 q k)
           ∙ other (bit low q) (bit y q))))
           ∙ W (s .0) (s .1) low (lowest-is n R P .below)
-          ∙ ap (λ t. turnBy t (w low)) (any-element n R P y e (s .0) (s .1) (s .2))
+          ∙ ap (λ t. N .turn t (w low)) (any-element n R P y e (s .0) (s .1) (s .2))
         where
           other : (l y : Bool) → l ⊕ (l ⊕ y) ≡ y
           other = bits 2 (λ l y. l ⊕ (l ⊕ y)) (λ l y. y) tt
+
+  pub only-vector : OnlyVector n R
+  only-vector = only-vector-over gaussians
 
   pub zero-exactly : ZeroExactly n R
   zero-exactly w W z k some y l = (

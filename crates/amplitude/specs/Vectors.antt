@@ -6,7 +6,7 @@ use Prim.Native.Nat.{_<_, _^_, ℕ}
 use lib.IntN.{ℤ, negℤ, pos}
 use Rattle.cut.specs.Kernel.{count}
 use Rattle.cut.specs.Rank.{rank}
-use Rattle.pauli.specs.Pauli.{Pauli, Phase, i¹, i², i³, i⁰}
+use Rattle.pauli.specs.Pauli.{_+ᵖ_, Pauli, Phase, i¹, i², i³, i⁰}
 use Rattle.record.specs.Reduced.{xWords}
 use Rattle.stabilizer.specs.Groups.{InGroup}
 use Rattle.words.specs.Bits.{_⊕_, bit, wordOf}
@@ -65,6 +65,25 @@ pub record AnyElementFixes (n : ℕ) (R : ℕ → Pauli) : Type 0 where
 abbrev pub OnlyVector : ℕ → (ℕ → Pauli) → Type 0
 OnlyVector n R = (w : ℕ → Gaussian) → Stabilized n R w → (y : ℕ) → y < 2 ^ n
     → w y ≡ cond (isSupported n R y) (turnBy (ratio n R y) (w (lowest n R))) none
+
+-- ---- the same of vectors of any other numbers, complex ones among them: powers of i act on them, one after the other as
+-- their product does, and only 0 is its own negative
+pub record Numbers : Type 1 where
+  pub Number : Type 0
+  pub zero : Number
+  pub turn : Phase → Number → Number
+  pub turns : (s t : Phase) (a : Number) → turn (s +ᵖ t) a ≡ turn s (turn t a)
+  pub own-negative : (a : Number) → turn i² a ≡ a → a ≡ zero
+
+-- p v = v for every element p
+abbrev pub StabilizedOver : (N : Numbers) → ℕ → (ℕ → Pauli) → (ℕ → N .Number) → Type 0
+StabilizedOver N n R v = (p : Pauli) → InGroup n n R p → (y : ℕ) → y < 2 ^ n
+    → v (movedTo n p y) ≡ N .turn (turnsAt n p (bit y)) (v y)
+
+-- each is its value at the smallest word, turned by the ratio, and 0 where the answer is nothing
+abbrev pub OnlyVectorOver : ℕ → (ℕ → Pauli) → Type 1
+OnlyVectorOver n R = (N : Numbers) (w : ℕ → N .Number) → StabilizedOver N n R w → (y : ℕ) → y < 2 ^ n
+    → w y ≡ cond (isSupported n R y) (N .turn (ratio n R y) (w (lowest n R))) (N .zero)
 
 -- "nothing, exactly where the amplitude is 0": whatever vector the group fixes, if it is not 0 at some word z
 abbrev pub ZeroExactly : ℕ → (ℕ → Pauli) → Type 0

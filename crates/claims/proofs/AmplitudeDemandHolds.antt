@@ -10,6 +10,7 @@ use Rattle.amplitude.proofs.VectorLaws.{
   any-element-fixes,
   lowest-least,
   only-vector,
+  only-vector-over,
   zero-exactly,
 }
 use Rattle.amplitude.specs.Plotting.{plotted, turned}
@@ -26,6 +27,7 @@ use Rattle.claims.specs.AmplitudeDemand.{
   AmplitudeDemand,
   AmplitudesAnswer,
   PlottedAs,
+  StatesAreMultiples,
   imaginary,
   real,
 }
@@ -40,6 +42,10 @@ amplitude-demand n R P =
       ratio = any-element-fixes n R P;
       words = words-count n R P;
     }
+
+pub states-are-multiples : StatesAreMultiples
+states-are-multiples u y re im p re′ im′ p′ C = only-vector-over (u .held .n) (heldRows (u .held))
+    (amplitude-lines u y .0 (sym (C .number)) .0 .held .proper)
 
 -- the line of a power of i, and of nothing
 pub plotted-as : (b : Bool) (t : Phase) (k : ℕ) → let l = plotted (cond b (turned (exponent t)) Nothing) k in

@@ -10,6 +10,7 @@ use Rattle.amplitude.specs.Vectors.{
   Gaussian,
   LowestLeast,
   OnlyVector,
+  OnlyVectorOver,
   Stabilized,
   WordsCount,
   ZeroExactly,
@@ -34,6 +35,11 @@ pub record AmplitudeDemand (n : ℕ) (R : ℕ → Pauli) : Type 0 where
   pub smallest : LowestLeast n R
   pub ratio : AnyElementFixes n R
   pub words : WordsCount n R
+
+-- whatever numbers a state is written with, complex ones among them: of every accepted call
+abbrev pub StatesAreMultiples : Type 1
+StatesAreMultiples = (u : UsedRecord) (y : ℕ) (re im p re′ im′ p′ : Float) →
+    Call (amplitudeCall u y re im p re′ im′ p′) 0 → OnlyVectorOver (u .held .n) (heldRows (u .held))
 
 -- "a value on the real axis, or a value on the imaginary axis, as a 64-bit float of 1 or −1"; "Every zero is positive"
 pub data OnAxis : Float → Float → Type 0 where
