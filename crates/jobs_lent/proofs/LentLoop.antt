@@ -114,7 +114,7 @@ module _ {M : Type 1} (𝓤 : URA M) (H : Heap 𝓤) (A : Atoms 𝓤) (W : Given
     Left = afterBlock 𝓤 H (afterSeq 𝓤 H (Wp 𝓤 H C Λ En rest (atReturn 𝓤 H En (Post 𝓤 H A W mem run X))) (atReturn 𝓤 H En (Post 𝓤 H A W mem run X)))
 
     -- ---- a turn that goes on
-    more : (i : ℕ) (x : Now) (Y : SProp 𝓤) → i < m → Fitting T x → ((T .place) + i < length (x .answers)) × Known (T .known) (left (T .n) x)
+    more : (i : ℕ) (x : Now) (Y : SProp 𝓤) → i < m → Fitting T x → (T .place + i < length (x .answers)) × Known (T .known) (left (T .n) x)
         → ((v : Val) (y : Now) → Came T x (elem i) i v y → ent 𝓤 (⋆ 𝓤 H A (At (suc i) y)) Y)
         → ent 𝓤 (⋆ 𝓤 H A (At i x)) (Wp 𝓤 H C Λ En body (afterTurn 𝓤 H Y Left))
     unfolding afterTurn
