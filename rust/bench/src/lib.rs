@@ -1,6 +1,7 @@
 //! What the benchmarks share: the calls in plain Rust, seeded cases, and times.
 
 pub mod calls;
+pub mod drawn;
 pub mod load;
 pub mod pairs;
 pub mod plain;

@@ -1,12 +1,12 @@
 //! Drawn jobs in plain Rust are as the engine's, texts and refusals.
 
 use bench::calls::generate::Generate;
-use bench::plain;
+use bench::drawn;
 use sukhlent::raw;
 
 /// The number that both generators give; they leave the same in a text of so many places.
 fn generated(n: u64, count: u64, seed: u64, places: usize) -> u8 {
-    let [engine, plain] = [raw::generate as Generate, plain::generate].map(|call| {
+    let [engine, plain] = [raw::generate as Generate, drawn::generate].map(|call| {
         let (mut text, mut length) = (vec![77; places], 77);
         (call(n, count, seed, &mut text, &mut length), text, length)
     });

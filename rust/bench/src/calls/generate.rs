@@ -1,7 +1,7 @@
 //! `generate`: texts of jobs.
 
 use super::Line;
-use crate::plain;
+use crate::drawn;
 use crate::timing::Ready;
 use sukhlent::raw;
 
@@ -26,7 +26,7 @@ fn engine(cases: &[(u64, u64)]) -> Ready<'_> {
 }
 
 fn in_plain_rust(cases: &[(u64, u64)]) -> Ready<'_> {
-    ready(plain::generate, cases)
+    ready(drawn::generate, cases)
 }
 
 fn ready(call: Generate, cases: &[(u64, u64)]) -> Ready<'_> {
@@ -42,7 +42,7 @@ fn ready(call: Generate, cases: &[(u64, u64)]) -> Ready<'_> {
 
 /// Panics unless both write one text.
 fn assert_same_answers(&(n, seed): &(u64, u64)) {
-    let [engine, plain] = [raw::generate as Generate, plain::generate].map(|call| {
+    let [engine, plain] = [raw::generate as Generate, drawn::generate].map(|call| {
         let (mut text, mut length) = (vec![0; raw::JOB_PLACES], 0);
         (call(n, STEPS, seed, &mut text, &mut length), text, length)
     });

@@ -4,7 +4,6 @@ mod amplitude;
 mod codes;
 mod compare;
 mod equations;
-mod generate;
 mod graphs;
 mod image;
 mod orbit;
@@ -18,7 +17,6 @@ mod values;
 
 pub use amplitude::{amplitude, supported_word};
 pub use compare::compare;
-pub use generate::generate;
 pub use graphs::{complement, cut};
 pub use image::image;
 pub use orbit::orbit;

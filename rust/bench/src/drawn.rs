@@ -1,4 +1,4 @@
-//! The text of a drawn job in plain Rust.
+//! `sukhlent_generate` in plain Rust: the text of a drawn job.
 
 use crate::load::steps;
 use crate::operation::Operation;
