@@ -32,17 +32,17 @@ use Rattle.claims.specs.ActionContracts.{
   SaveLeaves,
   StepLeaves,
   inBuffers,
-  inPlace,
   session,
-  stepOf,
+  stepWith,
 }
+use Rattle.claims.specs.UsedDemand.{leftUsed}
 use Rattle.claims.specs.StoreDemand.{storeOf}
 
 -- ---- steps
 -- a step whose unused fields are 0 leaves what the call of its operation does
 step-leaves : (u : UsedRecord) (step : Step) → unusedSet (step .op) (step .b) (step .value) ≡ false → (r : ℕ)
     (nb′ cs′ : List ℕ) (used′ : ℕ) → Call (usedCall u (asked step) nb′ cs′) r →
-    used′ ≡ (usedStep u (asked step)) .after .used → StepLeaves u step (inPlace u nb′ cs′ used′)
+    used′ ≡ (usedStep u (asked step)) .after .used → StepLeaves u step (leftUsed u nb′ cs′ used′)
 step-leaves u step unset r nb′ cs′ used′ C e st = ap (λ v. session v st)
     (left-by-operation u step unset
     ∙ λ i. record { held = sym (is-after u (asked step) r nb′ cs′ C) i; used = sym e i })
@@ -58,9 +58,9 @@ copied u o e = go (eqb (firstFitting (usedLinesOf u o)) 0)
 measure-leaves : (u : UsedRecord) (pauli q b answer determined r : ℕ) (nb′ cs′ : List ℕ)
     (used′ answer′ determined′ : ℕ) →
     Call (usedMeasureCall u pauli q b answer determined nb′ cs′ used′ answer′ determined′) r →
-    MeasureLeaves u pauli q b (inPlace u nb′ cs′ used′)
+    MeasureLeaves u pauli q b (leftUsed u nb′ cs′ used′)
 measure-leaves u pauli q b answer determined r nb′ cs′ used′ answer′ determined′ C value p e st =
-    ap (λ v. session v st) (left-by-operation u (stepOf Measure q 0 value) refl
+    ap (λ v. session v st) (left-by-operation u (stepWith Measure q 0 value) refl
     ∙ ap₂ (λ p b. (usedStep u (measurementOf p q b)) .after) (sym p) (sym e)
     ∙ sym (is-measured u pauli q b answer determined r nb′ cs′ used′ answer′ determined′ C))
 
@@ -124,10 +124,10 @@ module _ (name : ℕ) (st : Store) (n : ℕ) (nb cs : List ℕ) (used n′ : ℕ
 pub contracts-are-actions : ContractsAreActions
 contracts-are-actions =
     record {
-      gate = λ u q k r nb′ cs′ C. step-leaves u (stepOf Gate q 0 k) refl r nb′ cs′ (u .used) C (copied u (gateWith q k) refl);
-      cz = λ u a b r nb′ cs′ C. step-leaves u (stepOf Cz a b 0) refl r nb′ cs′ (u .used) C (copied u (czOn a b) refl);
+      gate = λ u q k r nb′ cs′ C. step-leaves u (stepWith Gate q 0 k) refl r nb′ cs′ (u .used) C (copied u (gateWith q k) refl);
+      cz = λ u a b r nb′ cs′ C. step-leaves u (stepWith Cz a b 0) refl r nb′ cs′ (u .used) C (copied u (czOn a b) refl);
       complement = λ u a r nb′ cs′ C.
-          step-leaves u (stepOf Complement a 0 0) refl r nb′ cs′ (u .used) C (copied u (complementOf a) refl);
+          step-leaves u (stepWith Complement a 0 0) refl r nb′ cs′ (u .used) C (copied u (complementOf a) refl);
       measure = measure-leaves;
       save = save-leaves;
       return-to = λ name st n nb cs used n′ nb′ cs′ used′ r long codes-long C.

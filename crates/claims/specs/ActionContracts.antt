@@ -6,7 +6,6 @@ use lib.ListN.{length, take}
 use Rattle.call_gates.specs.InPlaceCalls.{usedCall, usedMeasureCall}
 use Rattle.call_store.specs.StoreCalls.{forgetCall, returnCall, saveCall}
 use Rattle.contracts.specs.Calls.{Call}
-use Rattle.jobs.specs.Standing.{left}
 use Rattle.jobs.specs.declared.Op.{Op}
 use Rattle.jobs.specs.declared.Op.the-variants.{Complement, Cz, Gate, Measure}
 use Rattle.jobs.specs.declared.Step.{Step}
@@ -14,6 +13,7 @@ use Rattle.operations.specs.Steps.{complementOf, czOn, gateWith}
 use Rattle.store.specs.Places.{Store}
 use Rattle.used.specs.Used.{UsedRecord}
 use Rattle.claims.specs.StoreDemand.{Session, afterAction, does, forgets, returns, saves, storeOf}
+use Rattle.claims.specs.UsedDemand.{leftUsed}
 
 -- the record in hand and the store
 abbrev pub session : UsedRecord → Store → Session
@@ -21,21 +21,17 @@ session u st = record { current = u; store = st }
 
 -- ---- steps
 -- the step with these fields
-abbrev pub stepOf : Op → ℕ → ℕ → ℕ → Step
-stepOf op a b value = record { op = op; a = a; b = b; value = value }
+abbrev pub stepWith : Op → ℕ → ℕ → ℕ → Step
+stepWith op a b value = record { op = op; a = a; b = b; value = value }
 
 -- the step leaves this record, whatever the store, and the store as it was
 abbrev pub StepLeaves : UsedRecord → Step → UsedRecord → Type 0
 StepLeaves u step after = (st : Store) → afterAction (session u st) (does step) ≡ session after st
 
--- the record with these two buffers and this used word
-abbrev pub inPlace : UsedRecord → List ℕ → List ℕ → ℕ → UsedRecord
-inPlace u nb cs used = record { held = left (u .held) nb cs; used = used }
-
 -- a measurement is each step whose value says its Pauli and its outcome, "2 × (Pauli − 1) + outcome"
 abbrev pub MeasureLeaves : UsedRecord → ℕ → ℕ → ℕ → UsedRecord → Type 0
 MeasureLeaves u pauli q b after =
-    (value : ℕ) → pauli ≡ value / 2 + 1 → b ≡ value % 2 → StepLeaves u (stepOf Measure q 0 value) after
+    (value : ℕ) → pauli ≡ value / 2 + 1 → b ≡ value % 2 → StepLeaves u (stepWith Measure q 0 value) after
 
 -- ---- calls on the store
 -- a save leaves the record and these three buffers
@@ -62,15 +58,15 @@ pub record ReturnLeaves (name : ℕ) (st : Store) (n′ : ℕ) (nb′ cs′ : Li
 -- buffers of 64 places
 pub record ContractsAreActions : Type 0 where
   pub gate : (u : UsedRecord) (q k r : ℕ) (nb′ cs′ : List ℕ) → Call (usedCall u (gateWith q k) nb′ cs′) r →
-      StepLeaves u (stepOf Gate q 0 k) (inPlace u nb′ cs′ (u .used))
+      StepLeaves u (stepWith Gate q 0 k) (leftUsed u nb′ cs′ (u .used))
   pub cz : (u : UsedRecord) (a b r : ℕ) (nb′ cs′ : List ℕ) → Call (usedCall u (czOn a b) nb′ cs′) r →
-      StepLeaves u (stepOf Cz a b 0) (inPlace u nb′ cs′ (u .used))
+      StepLeaves u (stepWith Cz a b 0) (leftUsed u nb′ cs′ (u .used))
   pub complement : (u : UsedRecord) (a r : ℕ) (nb′ cs′ : List ℕ) → Call (usedCall u (complementOf a) nb′ cs′) r →
-      StepLeaves u (stepOf Complement a 0 0) (inPlace u nb′ cs′ (u .used))
+      StepLeaves u (stepWith Complement a 0 0) (leftUsed u nb′ cs′ (u .used))
   pub measure : (u : UsedRecord) (pauli q b answer determined r : ℕ) (nb′ cs′ : List ℕ)
       (used′ answer′ determined′ : ℕ) →
       Call (usedMeasureCall u pauli q b answer determined nb′ cs′ used′ answer′ determined′) r →
-      MeasureLeaves u pauli q b (inPlace u nb′ cs′ used′)
+      MeasureLeaves u pauli q b (leftUsed u nb′ cs′ used′)
   pub save : (u : UsedRecord) (name : ℕ) (st : Store) (r : ℕ) (heads′ nb′ cs′ : List ℕ) →
       Call (saveCall u name st heads′ nb′ cs′) r → SaveLeaves u name st heads′ nb′ cs′
   pub return-to : (name : ℕ) (st : Store) (n : ℕ) (nb cs : List ℕ) (used n′ : ℕ) (nb′ cs′ : List ℕ) (used′ r : ℕ) →

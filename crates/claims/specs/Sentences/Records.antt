@@ -18,7 +18,7 @@ use Rattle.record.specs.Lent.{heldRecord, LentRecord, recordLines}
 use Rattle.record.specs.Records.{complementRecord}
 use Rattle.used.specs.Used.{UsedRecord}
 use Rattle.words.specs.Bits.{Word}
-use Rattle.claims.specs.ActionContracts.{inPlace, MeasureLeaves, StepLeaves, stepOf}
+use Rattle.claims.specs.ActionContracts.{MeasureLeaves, StepLeaves, stepWith}
 use Rattle.claims.specs.Arguments.{Free}
 use Rattle.claims.specs.Conforming.{Answered}
 use Rattle.claims.specs.CutDemand.{CutAnswer, rankAcross}
@@ -26,7 +26,7 @@ use Rattle.claims.specs.ImageDemand.{ImageDecided}
 use Rattle.claims.specs.OperationsDemand.{CzStands, GateStands, MeasurementStands, OutcomeContradicted, RewrittenAs}
 use Rattle.claims.specs.SecondDemand.{BroughtBack}
 use Rattle.claims.specs.SessionDemand.{ByExpanding, czChange, gateChange, MeasuredByExpanding, MeasureNumberByExpanding, NumberByExpanding}
-use Rattle.claims.specs.UsedDemand.{SixteenExactly, UsedCopied, UsedMarked}
+use Rattle.claims.specs.UsedDemand.{SixteenExactly, UsedCopied, UsedMarked, leftUsed}
 use Rattle.claims.specs.families.Records.{ComplementFits, CutFits, CzFits, ExpandFits, GateFits, ImageFits, MeasureFits}
 
 -- sukhlent_expand: demands 1 and 2
@@ -45,7 +45,7 @@ pub record GateSays (u : UsedRecord) (q k : ℕ) (nb′ cs′ : List ℕ) (r : �
   pub number-by-expanding : Free u q → k < 24 → NumberByExpanding u r
   pub copied : r ≡ 0 → UsedCopied u nb′ cs′
   pub refused : SixteenExactly u (gateWith q k) r
-  pub action : StepLeaves u (stepOf Gate q 0 k) (inPlace u nb′ cs′ (u .used))
+  pub action : StepLeaves u (stepWith Gate q 0 k) (leftUsed u nb′ cs′ (u .used))
 
 -- sukhlent_cz: demands 1 and 2, and ranks across cuts (02, §1)
 pub record CzSays (u : UsedRecord) (a b : ℕ) (nb′ cs′ : List ℕ) (r : ℕ) : Type 0 where
@@ -58,7 +58,7 @@ pub record CzSays (u : UsedRecord) (a b : ℕ) (nb′ cs′ : List ℕ) (r : ℕ
   pub number-by-expanding : Free u a → Free u b → a ≢ b → NumberByExpanding u r
   pub copied : r ≡ 0 → UsedCopied u nb′ cs′
   pub refused : SixteenExactly u (czOn a b) r
-  pub action : StepLeaves u (stepOf Cz a b 0) (inPlace u nb′ cs′ (u .used))
+  pub action : StepLeaves u (stepWith Cz a b 0) (leftUsed u nb′ cs′ (u .used))
 
 -- sukhlent_complement: demand 1, the record of the rule with the same group, and ranks across cuts
 pub record ComplementSays (u : UsedRecord) (a : ℕ) (nb′ cs′ : List ℕ) (r : ℕ) : Type 0 where
@@ -69,7 +69,7 @@ pub record ComplementSays (u : UsedRecord) (a : ℕ) (nb′ cs′ : List ℕ) (r
   pub ranks : r ≡ 0 → (side : Word) → rankAcross side (left (u .held) nb′ cs′) ≡ rankAcross side (u .held)
   pub copied : r ≡ 0 → UsedCopied u nb′ cs′
   pub refused : SixteenExactly u (complementOf a) r
-  pub action : StepLeaves u (stepOf Complement a 0 0) (inPlace u nb′ cs′ (u .used))
+  pub action : StepLeaves u (stepWith Complement a 0 0) (leftUsed u nb′ cs′ (u .used))
 
 -- sukhlent_measure: demands 1 and 2, and contradicted outcomes (02, §4)
 pub record MeasureSays (u : UsedRecord) (pauli q b answer determined : ℕ) (nb′ cs′ : List ℕ)
@@ -82,7 +82,7 @@ pub record MeasureSays (u : UsedRecord) (pauli q b answer determined : ℕ) (nb�
   pub number-by-expanding : 1 ≤ pauli → pauli ≤ 3 → Free u q → b < 2 → MeasureNumberByExpanding u pauli q b r
   pub marked : r ≡ 0 → UsedMarked u pauli q b nb′ cs′ used′ answer′
   pub refused : SixteenExactly u (measurementOf pauli q b) r
-  pub action : MeasureLeaves u pauli q b (inPlace u nb′ cs′ used′)
+  pub action : MeasureLeaves u pauli q b (leftUsed u nb′ cs′ used′)
 
 -- sukhlent_image: demands 1 and 2
 pub record ImageSays (l : LentRecord) (image signs list : List ℕ) (count : ℕ) (image′ signs′ list′ : List ℕ)

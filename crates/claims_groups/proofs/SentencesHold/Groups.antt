@@ -1,6 +1,7 @@
 -- What the documents say of the exported functions of a group, from their contracts.
 use mathlib.Core.List.{List}
 use Prim.Native.Nat.{ℕ}
+use Rattle.claims.specs.ActionContracts.{session}
 use Rattle.call_group_stores.specs.GroupStoreCalls.{groupForgetCall, groupReturnCall, groupSaveCall}
 use Rattle.call_groups.specs.GroupCalls.{groupCall, groupMeasureCall}
 use Rattle.claims.proofs.families.Groups.{groups-accepted, groups-conform}
@@ -27,7 +28,6 @@ use Rattle.claims_groups.specs.Sentences.Groups.{
   GroupMeasureSays,
   GroupReturnSays,
   GroupSaveSays,
-  together,
 }
 
 module _ (word g : ℕ) (u : UsedRecord) where
@@ -37,7 +37,7 @@ module _ (word g : ℕ) (u : UsedRecord) where
       record {
         answered = answered (groups-conform .in-place word g u (gateWith q k) nb′ cs′) C;
         accepted = groups-accepted .gate word g u q k nb′ cs′ r C;
-        step = λ st. contracts-are-steps .gate word g (together u st) q k r nb′ cs′ C;
+        step = λ st. contracts-are-steps .gate word g (session u st) q k r nb′ cs′ C;
         keeps = λ z. group-calls-keep .gate word g u q k nb′ cs′ (at-zero C z);
         reduces = λ z. group-calls-reduce .gate word g u q k nb′ cs′ (at-zero C z);
         stands = λ z r″ nb″ cs″ W. group-calls-stand .gate word g u q k nb′ cs′ r″ nb″ cs″ (at-zero C z) W;
@@ -49,7 +49,7 @@ module _ (word g : ℕ) (u : UsedRecord) where
       record {
         answered = answered (groups-conform .in-place word g u (czOn a b) nb′ cs′) C;
         accepted = groups-accepted .cz word g u a b nb′ cs′ r C;
-        step = λ st. contracts-are-steps .cz word g (together u st) a b r nb′ cs′ C;
+        step = λ st. contracts-are-steps .cz word g (session u st) a b r nb′ cs′ C;
         keeps = λ z. group-calls-keep .cz word g u a b nb′ cs′ (at-zero C z);
         reduces = λ z. group-calls-reduce .cz word g u a b nb′ cs′ (at-zero C z);
         stands = λ z r″ nb″ cs″ W. group-calls-stand .cz word g u a b nb′ cs′ r″ nb″ cs″ (at-zero C z) W;
@@ -61,7 +61,7 @@ module _ (word g : ℕ) (u : UsedRecord) where
       record {
         answered = answered (groups-conform .in-place word g u (complementOf a) nb′ cs′) C;
         accepted = groups-accepted .complement word g u a nb′ cs′ r C;
-        step = λ st. contracts-are-steps .complement word g (together u st) a r nb′ cs′ C;
+        step = λ st. contracts-are-steps .complement word g (session u st) a r nb′ cs′ C;
         keeps = λ z. group-calls-keep .complement word g u a nb′ cs′ (at-zero C z);
         stands = λ z r″ nb″ cs″ W. group-calls-stand .complement word g u a nb′ cs′ r″ nb″ cs″ (at-zero C z) W;
       }
@@ -74,9 +74,9 @@ module _ (word g : ℕ) (u : UsedRecord) where
         answered = answered
             (groups-conform .measurements word g u pauli q b answer determined nb′ cs′ used′ answer′ determined′) C;
         accepted = groups-accepted .measure word g u pauli q b answer determined nb′ cs′ used′ answer′ determined′ r C;
-        step = λ st. contracts-are-steps .measure word g (together u st) pauli q b answer determined r nb′ cs′ used′ answer′
+        step = λ st. contracts-are-steps .measure word g (session u st) pauli q b answer determined r nb′ cs′ used′ answer′
             determined′ C .0;
-        outcome = λ z st. contracts-are-steps .measure word g (together u st) pauli q b answer determined r nb′ cs′ used′
+        outcome = λ z st. contracts-are-steps .measure word g (session u st) pauli q b answer determined r nb′ cs′ used′
             answer′ determined′ C .1 z;
         keeps = λ z. group-calls-keep .measure word g u pauli q b answer determined nb′ cs′ used′ answer′ determined′
             (at-zero C z);
@@ -92,7 +92,7 @@ module _ (word g : ℕ) (u : UsedRecord) where
       record {
         answered = answered (groups-conform .saves word g u name st heads′ nb′ cs′) C;
         accepted = groups-accepted .save word g u name st heads′ nb′ cs′ r C;
-        step = contracts-are-steps .save word g (together u st) name r heads′ nb′ cs′ C;
+        step = contracts-are-steps .save word g (session u st) name r heads′ nb′ cs′ C;
         full = group-names-refused .save word g u name st heads′ nb′ cs′ r C;
         keeps = λ z. group-saves-keep word g u name st heads′ nb′ cs′ (at-zero C z);
       }
@@ -103,7 +103,7 @@ module _ (word g : ℕ) (u : UsedRecord) where
       record {
         answered = answered (groups-conform .returns word g u name st nb′ cs′ used′) C;
         accepted = groups-accepted .return word g u name st nb′ cs′ used′ r C;
-        step = contracts-are-steps .return-to word g (together u st) name r nb′ cs′ used′ C;
+        step = contracts-are-steps .return-to word g (session u st) name r nb′ cs′ used′ C;
         not-held = group-names-refused .return-to word g u name st nb′ cs′ used′ r C;
         gives = λ z. group-returns-give word g u name st nb′ cs′ used′ (at-zero C z);
       }
@@ -114,7 +114,7 @@ module _ (word g : ℕ) (u : UsedRecord) where
       record {
         answered = answered (groups-conform .forgets word g u name st heads′) C;
         accepted = groups-accepted .forget word g u name st heads′ r C;
-        step = contracts-are-steps .forget word g (together u st) name r heads′ C;
+        step = contracts-are-steps .forget word g (session u st) name r heads′ C;
         not-held = group-names-refused .forget word g u name st heads′ r C;
         keeps = λ z. group-forgets-keep word g u name st heads′ (at-zero C z);
       }

@@ -8,6 +8,7 @@ use Prim.Native.Nat.{ℕ}
 use Rattle.call_gates.specs.InPlaceCalls.{usedCall, usedMeasureCall}
 use Rattle.call_group_stores.specs.GroupStoreCalls.{groupForgetCall, groupReturnCall, groupSaveCall}
 use Rattle.call_groups.specs.GroupCalls.{groupCall, groupMeasureCall}
+use Rattle.claims.specs.ActionContracts.{session}
 use Rattle.claims.specs.Conforming.{Answered}
 use Rattle.claims.specs.StoreDemand.{Session}
 use Rattle.claims.specs.UsedDemand.{leftUsed}
@@ -40,14 +41,10 @@ use Rattle.claims_groups.specs.GroupRuns.{
 }
 use Rattle.claims_groups.specs.GroupsDemand.{StandsAsWhole}
 
--- the record and a store
-abbrev pub together : UsedRecord → Store → Session
-together u st = record { current = u; store = st }
-
 -- a call that is not lent the store is the same step whatever the store
 abbrev pub StepOnRecord : ℕ → ℕ → UsedRecord → SharedCall → ℕ → List ℕ → List ℕ → ℕ → Type 0
 StepOnRecord word g u c r nb′ cs′ used′ =
-    (st : Store) → IsStep word g (together u st) c r (withRecord (together u st) nb′ cs′ used′)
+    (st : Store) → IsStep word g (session u st) c r (withRecord (session u st) nb′ cs′ used′)
 
 -- "a group call leaves the group's elements as the whole-record call would"
 abbrev pub AsWhole : UsedRecord → Operation → List ℕ → List ℕ → Type 0
@@ -86,7 +83,7 @@ pub record GroupMeasureSays (word g : ℕ) (u : UsedRecord) (pauli q b answer de
   pub accepted : (r ≡ 0) ↔ (TwoGroups word g u × Own word g q × MeasureFits u pauli q b)
   pub step : StepOnRecord word g u (groupMeasure pauli q b) r nb′ cs′ used′
   pub outcome : r ≡ 0 → (st : Store) →
-      answer′ ∷ determined′ ∷ [] ≡ sharedMeasured word g (together u st) (groupMeasure pauli q b)
+      answer′ ∷ determined′ ∷ [] ≡ sharedMeasured word g (session u st) (groupMeasure pauli q b)
   pub keeps : r ≡ 0 → GroupKeeps word g u (leftUsed u nb′ cs′ used′)
   pub reduces : r ≡ 0 → GroupReduced word g (leftUsed u nb′ cs′ used′)
   pub stands : r ≡ 0 → (r″ : ℕ) (nb″ cs″ : List ℕ) (used″ answer″ determined″ : ℕ) →
@@ -98,7 +95,7 @@ pub record GroupSaveSays (word g : ℕ) (u : UsedRecord) (name : ℕ) (st : Stor
     Type 0 where
   pub answered : Answered (groupSaveCall word g u name st heads′ nb′ cs′) r
   pub accepted : (r ≡ 0) ↔ GroupSaveFits word g u name st
-  pub step : IsStep word g (together u st) (groupSave name) r (withStore (together u st) heads′ nb′ cs′)
+  pub step : IsStep word g (session u st) (groupSave name) r (withStore (session u st) heads′ nb′ cs′)
   pub full : GroupFull word g u name st r
   pub keeps : r ≡ 0 → GroupSaveKeeps word g u name st (record { heads = heads′; neighbours = nb′; codes = cs′ })
 
@@ -107,7 +104,7 @@ pub record GroupReturnSays (word g : ℕ) (u : UsedRecord) (name : ℕ) (st : St
     Type 0 where
   pub answered : Answered (groupReturnCall word g u name st nb′ cs′ used′) r
   pub accepted : (r ≡ 0) ↔ GroupNameFits word g u name st
-  pub step : IsStep word g (together u st) (groupReturn name) r (withRecord (together u st) nb′ cs′ used′)
+  pub step : IsStep word g (session u st) (groupReturn name) r (withRecord (session u st) nb′ cs′ used′)
   pub not-held : GroupNotHeld word g u name st r
   pub gives : r ≡ 0 → GroupReturnGives word g u name st (leftUsed u nb′ cs′ used′)
 
@@ -115,7 +112,7 @@ pub record GroupReturnSays (word g : ℕ) (u : UsedRecord) (name : ℕ) (st : St
 pub record GroupForgetSays (word g : ℕ) (u : UsedRecord) (name : ℕ) (st : Store) (heads′ : List ℕ) (r : ℕ) : Type 0 where
   pub answered : Answered (groupForgetCall word g u name st heads′) r
   pub accepted : (r ≡ 0) ↔ GroupNameFits word g u name st
-  pub step : IsStep word g (together u st) (groupForget name) r
-      (withStore (together u st) heads′ (st .neighbours) (st .codes))
+  pub step : IsStep word g (session u st) (groupForget name) r
+      (withStore (session u st) heads′ (st .neighbours) (st .codes))
   pub not-held : GroupNotHeld word g u name st r
   pub keeps : r ≡ 0 → GroupForgetKeeps g name st (record { heads = heads′; neighbours = st .neighbours; codes = st .codes })

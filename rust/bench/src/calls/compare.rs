@@ -18,10 +18,10 @@ const AT_ONCE: usize = 1;
 
 /// What a comparison writes.
 #[derive(Debug, PartialEq)]
-struct Answer {
-    choice: [u8; 64],
-    list: [u8; 96],
-    count: u64,
+pub(super) struct Answer {
+    pub(super) choice: [u8; 64],
+    pub(super) list: [u8; 96],
+    pub(super) count: u64,
 }
 
 /// The line of n qubits, on pairs that are equivalent or on pairs that are not.
@@ -94,7 +94,7 @@ fn run(compare: Compare, pairs: &[Pair]) -> u64 {
 }
 
 impl Answer {
-    fn empty() -> Answer {
+    pub(super) fn empty() -> Answer {
         Answer {
             choice: [0; 64],
             list: [0; 96],

@@ -1,7 +1,7 @@
 //! `compare_records` on pairs of reduced records, beside expanding both and comparing the lists: in
 //! plain Rust, and by the engine's own calls.
 
-use super::compare::Compare;
+use super::compare::{Answer, Compare};
 use super::values::Expand;
 use super::Line;
 use crate::pairs::equivalent;
@@ -18,14 +18,6 @@ type Pair = (Record, Record);
 
 fn lent(record: &Record) -> raw::LentGraph<'_> {
     (record.n() as u64, &record.neighbours, &record.codes)
-}
-
-/// What a comparison writes.
-#[derive(Debug, PartialEq)]
-struct Answer {
-    choice: [u8; 64],
-    list: [u8; 96],
-    count: u64,
 }
 
 /// The line of equivalent pairs with components of these sizes, beside plain Rust.
@@ -75,16 +67,6 @@ fn run(way: fn(&Pair, &mut Answer) -> u8, pairs: &[Pair]) -> u64 {
         let number = way(pair, &mut answer);
         sum ^ answer.count ^ u64::from(answer.choice[pair.0.n() - 1] ^ number)
     })
-}
-
-impl Answer {
-    fn empty() -> Answer {
-        Answer {
-            choice: [0; 64],
-            list: [0; 96],
-            count: 0,
-        }
-    }
 }
 
 fn by_call((first, second): &Pair, answer: &mut Answer) -> u8 {
