@@ -1,3 +1,4 @@
+pub mod Compositions
 pub mod Gating
 pub mod Homomorphisms
 pub mod CzLaws
