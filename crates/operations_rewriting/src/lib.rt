@@ -1,6 +1,6 @@
 // Complements and pivots of a record in its buffers.
 use graph::complement_words;
-use operations::compose;
+use operations::compose_fixed;
 use words::smallest;
 use words::without_smallest;
 ghost use mathlib.Core.Bool.{cond};
@@ -26,7 +26,7 @@ pub fn put_before(codes: &mut [u8], word: u64, k: u8)
     let mut rest = word;
     while rest != 0 {
         let i = smallest(rest);
-        codes[i] = compose(k, codes[i]);
+        codes[i] = compose_fixed(k, codes[i]);
         rest = without_smallest(rest);
     }
 }
@@ -39,7 +39,7 @@ pub fn recode(neighbours: &[u64], codes: &mut [u8], a: usize, own: u8, near: u8)
         (then (cliffordOf own) (codesOf (now (codes .entry)) q)) (cond (bit (getD (now (neighbours .entry)) a 0) q)
         (then (cliffordOf near) (codesOf (now (codes .entry)) q)) (codesOf (now (codes .entry)) q)))) ⌝ }
 {
-    let first = compose(own, codes[a]);
+    let first = compose_fixed(own, codes[a]);
     put_before(codes, neighbours[a], near);
     codes[a] = first;
 }

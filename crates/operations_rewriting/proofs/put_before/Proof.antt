@@ -18,16 +18,16 @@ loop-holds : tie.Need-loop-holds Inv-loop μ-loop
 loop-holds c = let start = c .before in put-start _ (start .args .word) (start .args .k) (start .pre .0 .1)
     (start .pre .1 .0)
 
-slice-read-compose : tie.Need-slice-read-compose Inv-loop μ-loop
-slice-read-compose c =
+slice-read-compose-fixed : tie.Need-slice-read-compose-fixed Inv-loop μ-loop
+slice-read-compose-fixed c =
     let at-smallest = c .before in
     let inside = at-smallest .before in
     let start = inside .before .before .before in
     next-in _ _ _ _ _ (inside .before .loop .inv) (start .pre .0 .0) (inside .loop-test .taken) _
     (at-smallest .smallest .ensures .0)
 
-compose-requires : tie.Need-compose-requires Inv-loop μ-loop
-compose-requires c κs =
+compose-fixed-requires : tie.Need-compose-fixed-requires Inv-loop μ-loop
+compose-fixed-requires c κs =
     let at-smallest = c .before in
     let inside = at-smallest .before in
     let start = inside .before .before .before in
@@ -66,7 +66,7 @@ loop-again c =
     let inside = at-smallest .before in
     let start = inside .before .before .before in
     put-more _ (start .args .word) (start .args .k) _ _ (inside .before .loop .inv) (start .pre .0 .0)
-    (inside .loop-test .taken) _ (at-smallest .smallest .ensures .0) _ _ (c .before .compose .ensures .0)
+    (inside .loop-test .taken) _ (at-smallest .smallest .ensures .0) _ _ (c .before .compose-fixed .ensures .0)
     (dropped-at _ _ _ (c .without-smallest .ensures) (at-smallest .smallest .ensures .0))
 
 returns : tie.Need-returns Inv-loop μ-loop
@@ -77,5 +77,5 @@ returns c =
 pub put-before-spec : {M : Type 1} → statement M
 put-before-spec =
     tie.close
-    (tie.spec Inv-loop μ-loop loop-holds (λ c κs. search needs) slice-read-compose compose-requires slice-write-codes
+    (tie.spec Inv-loop μ-loop loop-holds (λ c κs. search needs) slice-read-compose-fixed compose-fixed-requires slice-write-codes
     without-smallest-requires loop-less loop-again (λ c. search needs) returns)
