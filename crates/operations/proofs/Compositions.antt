@@ -25,49 +25,36 @@ both a b = then (cliffordOf a) (cliffordOf b)
 abbrev classIn : ℕ → ℕ → ℕ → ℕ
 classIn w a b = w / 2 ^ (18 * (a / 8) + 3 * (b / 4)) % 8
 
-abbrev classHolds : ℕ → ℕ → ℕ → ℕ → Bool
+abbrev pub classHolds : ℕ → ℕ → ℕ → ℕ → Bool
 classHolds w p a b = cond (eqb (a / 4 % 2) p) (eqb (classIn w a b) (classNumber (both a b .class))) true
 
-class-in : (w p : ℕ) → every 24 (λ a. every 24 (classHolds w p a)) ≡ true → (a b : ℕ) → a < 24 → b < 24 →
+pub class-in : (w p : ℕ) → every 24 (λ a. every 24 (classHolds w p a)) ≡ true → (a b : ℕ) → a < 24 → b < 24 →
     eqb (a / 4 % 2) p ≡ true → classIn w a b ≡ classNumber (both a b .class)
 class-in w p h a b la lb e =
     eqb-true (classIn w a b) (classNumber (both a b .class))
     (subst (λ v. cond v (eqb (classIn w a b) (classNumber (both a b .class))) true ≡ true) e
     (pairs-at (classHolds w p) h a b la lb))
 
-pub class-even : (a b : ℕ) → a < 24 → b < 24 → a / 4 % 2 ≡ 0 →
-    classIn 1484078178813576 a b ≡ classNumber (both a b .class)
-unfolding every
-class-even a b la lb e = class-in 1484078178813576 0 refl a b la lb (ap (λ v. eqb v 0) e)
-
-pub class-odd : (a b : ℕ) → a < 24 → b < 24 → a / 4 % 2 ≡ 1 →
-    classIn 9057039222156033 a b ≡ classNumber (both a b .class)
-unfolding every
-class-odd a b la lb e = class-in 9057039222156033 1 refl a b la lb (ap (λ v. eqb v 1) e)
-
 -- ---- the signs
 -- whether the next code's class is 1 to 3, and exchanges two letters
 abbrev pub exchanges : ℕ → Bool
 exchanges b = leb 4 b && ltb b 16
 
--- by the class of the first code, whether X and Z go to a letter with an X, and whether with a Z
-abbrev withX : ℕ → ℕ
-withX a = 2010 / 2 ^ (2 * (a / 4)) % 4
+-- by the class of the first code, two bits of a word
+abbrev bitsAt : ℕ → ℕ → ℕ
+bitsAt w a = w / 2 ^ (2 * (a / 4)) % 4
 
-abbrev withZ : ℕ → ℕ
-withZ a = 3693 / 2 ^ (2 * (a / 4)) % 4
+abbrev signs : ℕ → ℕ → ℕ → ℕ → ℕ
+signs x z a b = bitXor (bitXor (bitXor (a % 4) (bitsAt x a * (b / 2 % 2))) (bitsAt z a * (b % 2)))
+    (bitAnd (bitsAt x a * boolByte (exchanges b)) (bitsAt z a))
 
-abbrev signs : ℕ → ℕ → ℕ
-signs a b = bitXor (bitXor (bitXor (a % 4) (withX a * (b / 2 % 2))) (withZ a * (b % 2)))
-    (bitAnd (withX a * boolByte (exchanges b)) (withZ a))
+abbrev pub signsHold : ℕ → ℕ → ℕ → ℕ → Bool
+signsHold x z a b = eqb (signs x z a b) (2 * digit (both a b .sx) + digit (both a b .sz))
 
-abbrev signsHold : ℕ → ℕ → Bool
-signsHold a b = eqb (signs a b) (2 * digit (both a b .sx) + digit (both a b .sz))
-
-pub signs-hold : (a b : ℕ) → a < 24 → b < 24 → signs a b ≡ 2 * digit (both a b .sx) + digit (both a b .sz)
-unfolding every
-signs-hold a b la lb =
-    eqb-true (signs a b) (2 * digit (both a b .sx) + digit (both a b .sz)) (pairs-at signsHold refl a b la lb)
+pub signs-are : (x z : ℕ) → every 24 (λ a. every 24 (signsHold x z a)) ≡ true → (a b : ℕ) → a < 24 → b < 24 →
+    signs x z a b ≡ 2 * digit (both a b .sx) + digit (both a b .sz)
+signs-are x z h a b la lb =
+    eqb-true (signs x z a b) (2 * digit (both a b .sx) + digit (both a b .sz)) (pairs-at (signsHold x z) h a b la lb)
 
 -- .. in products that stay below 256
 pub product-lt : (x y : ℕ) → y < 2 → x % 4 * y < 256

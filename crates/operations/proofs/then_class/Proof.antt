@@ -1,15 +1,23 @@
 -- `then_class` meets its contract: the class of a code and then another.
+use mathlib.Core.Path.{ap, refl, _≡_}
+use Prim.Native.Nat.{_%_, _/_}
 use native.Mathlib.Omega.{arith}
-use Rattle.operations.proofs.Compositions.{class-even, class-odd}
+use lib.Dec.{eqb}
+use Rattle.words.specs.Search.{every}
+use Rattle.operations.proofs.Compositions.{class-in}
 use borrow.Author.Needs.{needs}
 use Rattle.operations.proofs.then_class.Statement.{statement}
 use Rattle.operations.proofs.then_class.Tie as tie
 
 returns : tie.Need-returns
-returns c = class-even _ _ (c .before .pre .0) (c .before .pre .1) (omega arith)
+unfolding every
+returns c = class-in _ 0 refl _ _ (c .before .pre .0) (c .before .pre .1) (ap (λ v. eqb v 0) (c .if1 .taken))
 
 returns-2 : tie.Need-returns-2
-returns-2 c = class-odd _ _ (c .before .pre .0) (c .before .pre .1) (omega arith)
+unfolding every
+returns-2 c =
+    let odd : c .before .args .first / 4 % 2 ≡ 1 = omega arith in
+    class-in _ 1 refl _ _ (c .before .pre .0) (c .before .pre .1) (ap (λ v. eqb v 1) odd)
 
 pub then-class-spec : {M : Type 1} → statement M
 then-class-spec =

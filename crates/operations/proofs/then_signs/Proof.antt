@@ -1,7 +1,9 @@
 -- `then_signs` meets its contract: the signs of a code and then another.
+use mathlib.Core.Path.{refl}
 use native.Mathlib.Omega.{arith}
+use Rattle.words.specs.Search.{every}
 use Rattle.clifford.proofs.Digits.{byte-lt}
-use Rattle.operations.proofs.Compositions.{exchanges, product-lt, signs-hold}
+use Rattle.operations.proofs.Compositions.{exchanges, product-lt, signs-are}
 use borrow.Author.Needs.{needs}
 use Rattle.operations.proofs.then_signs.Statement.{statement}
 use Rattle.operations.proofs.then_signs.Tie as tie
@@ -16,7 +18,8 @@ mul-result-3 : tie.Need-mul-result-3
 mul-result-3 c = record { fits = product-lt _ _ (byte-lt (exchanges (c .args .next))) }
 
 returns : tie.Need-returns
-returns c = signs-hold (c .args .first) (c .args .next) (c .pre .0) (c .pre .1)
+unfolding every
+returns c = signs-are _ _ refl (c .args .first) (c .args .next) (c .pre .0) (c .pre .1)
 
 pub then-signs-spec : {M : Type 1} → statement M
 then-signs-spec =
