@@ -1,0 +1,4 @@
+pub mod SuspectCodes
+pub mod PackedBytes
+pub mod MarkedBytes
+pub mod EightCodes
