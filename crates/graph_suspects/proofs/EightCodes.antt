@@ -45,3 +45,14 @@ module _ (n : ℕ) (f : Word) (word j : ℕ) (N : NamedFrom n f word j) (l : 8 �
     where
       few : N .count ≤ 56
       few = omega (arith, N .reaches, l)
+
+-- such a word, said by its bits
+module _ (n : ℕ) (f : Word) where
+  pub from-held : (word j : ℕ) → NamedFrom n f word j → (i : ℕ) → i ≡ j → word ≡ wordOf (n - i) (λ t. f (i + t))
+  from-held word j N i e = N .held ∙ ap₂ (λ c k. wordOf c (λ t. f (k + t))) count (sym e)
+    where
+      count : N .count ≡ n - i
+      count = omega (arith, N .reaches, e)
+
+  pub held-from : (word i : ℕ) → i ≤ n → word ≡ wordOf (n - i) (λ t. f (i + t)) → NamedFrom n f word i
+  held-from word i l e = record { count = n - i; reaches = omega (arith, l); held = e }

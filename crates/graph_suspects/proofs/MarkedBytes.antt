@@ -32,10 +32,6 @@ gathers : (v : ℕ) → v < 256 → gathered (apart v) ≡ v
 unfolding every bit wordOf
 gathers v l = eqb-true _ _ (every-at 256 (λ v. eqb (gathered (apart v)) v) refl v l)
 
--- the product fits into a word
-pub laid-short : (y : ℕ) → bitAnd y 4294967295 < 2 ^ 32
-laid-short y = and-lt-right 32 y 4294967295 (lit< tt)
-
 module _ (x : ℕ) where
   -- what is asked of byte k
   abbrev asked : Word
@@ -46,6 +42,10 @@ module _ (x : ℕ) where
 
   abbrev marks : ℕ
   marks = bitAnd any 72340172838076673
+
+  -- so that the product fits into a word
+  pub laid-short : laid marks < 2 ^ 32
+  laid-short = and-lt-right 32 (bitOr marks (marks / 2 ^ 28)) 4294967295 (lit< tt)
 
   any-bit : (j : ℕ) → bit any j ≡ (bit x j || (bit x (3 + j) || bit x (4 + j)))
   any-bit j = bit-or x (bitOr (x / 2 ^ 3) (x / 2 ^ 4)) j
@@ -68,9 +68,11 @@ module _ (x : ℕ) where
           ∙ ap₂ _||_ (ap (bit x) here) (ap₂ _||_ (ap (bit x) third) (ap (bit x) fourth))
           ∙ sym (bit-wordOf 8 asked (j / 8) (omega (arith, l)))
 
-  pub gathered-marks : gathered marks ≡ wordOf 8 asked
+  gathered-marks : gathered marks ≡ wordOf 8 asked
   gathered-marks = ap gathered marks-apart ∙ gathers (wordOf 8 asked) (wordOf-lt 8 asked)
 
   pub marked-bytes : (gathered marks < 256) × ((k : ℕ) → k < 8 → bit (gathered marks) k ≡ asked k)
-  marked-bytes = (and-lt-right 8 (laid marks * 2113665 / 2 ^ 21) 255 (lit< tt),
-      λ k l. ap (λ v. bit v k) gathered-marks ∙ bit-wordOf 8 asked k l)
+  marked-bytes = (
+    and-lt-right 8 (laid marks * 2113665 / 2 ^ 21) 255 (lit< tt),
+    λ k l. ap (λ v. bit v k) gathered-marks ∙ bit-wordOf 8 asked k l,
+  )

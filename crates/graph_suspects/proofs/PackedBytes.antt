@@ -14,6 +14,7 @@ use Rattle.words.proofs.BitLaws.{bit-above, bit-or, lt-of-bits}
 use Rattle.words.proofs.Finite.{bits}
 use Rattle.words.proofs.Sums.{lt-or-ge}
 use Rattle.words.specs.Bits.{bit}
+use Rattle.graph_suspects.proofs.SuspectCodes.{by-bits, suspect}
 use Rattle.graph_suspects.specs.internal.Bytes.{Packed}
 
 or-false : (b : Bool) → (b || false) ≡ b
@@ -69,3 +70,12 @@ module _ (codes : List ℕ) (i : ℕ) where
           ap₂ _||_ (bit-above (8 * m) a (A .short) (8 * k + t) (omega (arith, s)))
           (ap (bit up) place ∙ above (8 * (k - m) + t) (omega (arith, s, h, l, few))
           ∙ B .holds (k - m) t (omega (arith, s, h)) l ∙ ap (λ q. bit (getD codes q 0) t) code)
+
+  -- the bits asked for are those of a suspicious code
+  pub packed-suspects : (x : ℕ) → Packed codes i 8 x → ((q : ℕ) → getD codes q 0 < 24) → (k : ℕ) → k < 8
+      → (bit x (8 * k) || (bit x (8 * k + 3) || bit x (8 * k + 4))) ≡ suspect (getD codes (i + k) 0)
+  packed-suspects x P small k l =
+      let first : 8 * k ≡ 8 * k + 0 = omega arith in
+      ap₂ _||_ (ap (bit x) first ∙ P .holds k 0 l (lit< tt))
+      (ap₂ _||_ (P .holds k 3 l (lit< tt)) (P .holds k 4 l (lit< tt)))
+      ∙ by-bits (getD codes (i + k) 0) (small (i + k))

@@ -1,64 +1,73 @@
+-- `suspects_from` meets its contract: the codes from a place on that are odd, or 8 or more.
+use mathlib.Core.Bool.{Bool, false, true}
+use mathlib.Core.Path.{_≡_}
+use Prim.Native.Nat.{_-_, _≤_, ℕ}
+use native.Mathlib.Nat.{le-refl}
+use native.Mathlib.Omega.{arith}
+use lib.ListN.{getD, length}
 use borrow.Author.Needs.{needs}
+use Rattle.reduction_passes.proofs.Pivoting.{NamedFrom, from-small, from-start, from-step}
+use Rattle.words.specs.Bits.{digit}
+use Rattle.graph_suspects.proofs.EightCodes.{from-held}
+use Rattle.graph_suspects.proofs.SuspectCodes.{suspect}
 use Rattle.graph_suspects.proofs.suspects_from.Statement.{statement}
 use Rattle.graph_suspects.proofs.suspects_from.Tie as tie
-use Rattle.graph_suspects.proofs.suspects_from.Reads as reads
-use Rattle.graph_suspects.proofs.suspects_from.Lts as lts
-use Rattle.graph_suspects.proofs.suspicious.Reads as suspicious-reads
 
 abbrev Inv-loop : tie.InvT-loop
-Inv-loop codes from all₀ i₀ all i = ?
+Inv-loop codes from all₀ i₀ all i =
+    (from ≤ i) × (i ≤ length codes) × NamedFrom (length codes) (λ q. suspect (getD codes q 0)) all i
 
 abbrev μ-loop : tie.MeasureT-loop
-μ-loop codes from all₀ i₀ all i = ?
+μ-loop codes from all₀ i₀ all i = i
 
--- src/lib.rt:26:5
+digit-small : (b : Bool) (r : ℕ) → r ≡ digit b → r ≤ 1
+digit-small false r e = omega (arith, e)
+digit-small true r e = omega (arith, e)
+
 loop-holds : tie.Need-loop-holds Inv-loop μ-loop
-loop-holds c = ?
+loop-holds c = (c .before .pre .2, le-refl _, from-start _ _)
 
--- src/lib.rt:27:9
-sub-i : tie.Need-sub-i Inv-loop μ-loop
-sub-i c = search needs
-
--- src/lib.rt:28:15
 mul-all : tie.Need-mul-all Inv-loop μ-loop
-mul-all c = search needs
+mul-all c =
+    let L = c .before .loop in
+    let S = c .before .before .before in
+    omega (arith, from-small _ _ (L .all) (L .i) (L .inv .2) (omega (arith, c .loop-test .taken)) (S .pre .0))
 
--- src/lib.rt:28:36
 shared-slice-read-suspicious : tie.Need-shared-slice-read-suspicious Inv-loop μ-loop
-shared-slice-read-suspicious c = search needs
+shared-slice-read-suspicious c =
+    let I = c .before in
+    omega (arith, I .loop-test .taken, I .before .loop .inv .1)
 
--- src/lib.rt:28:25
 suspicious-requires : tie.Need-suspicious-requires Inv-loop μ-loop
-suspicious-requires c κs = search needs
+suspicious-requires c κs = c .before .before .before .before .pre .1 _
 
--- src/lib.rt:28:15
 add-all : tie.Need-add-all Inv-loop μ-loop
-add-all c = search needs
+add-all c =
+    let I = c .before .before in
+    let L = I .before .loop in
+    let S = I .before .before .before in
+    omega (
+      arith,
+      from-small _ _ (L .all) (L .i) (L .inv .2) (omega (arith, I .loop-test .taken)) (S .pre .0),
+      digit-small (suspect (getD (S .args .codes .now) (L .i - 1) 0)) _ (c .suspicious .ensures),
+    )
 
--- src/lib.rt:26:5
-loop-less : tie.Need-loop-less Inv-loop μ-loop
-loop-less c = search needs
-
--- src/lib.rt:26:5
 loop-again : tie.Need-loop-again Inv-loop μ-loop
-loop-again c = ?
+loop-again c =
+    let I = c .before .before in
+    let L = I .before .loop in (
+      omega (arith, I .loop-test .taken),
+      omega (arith, L .inv .1),
+      from-step _ _ (L .all) (L .i) (L .inv .2) (omega (arith, I .loop-test .taken)) _ (c .suspicious .ensures),
+    )
 
--- src/lib.rt:19:1
 returns : tie.Need-returns Inv-loop μ-loop
-returns c = ?
+returns c =
+    let L = c .before .loop in
+    from-held _ _ (L .all) (L .i) (L .inv .2) _ (omega (arith, L .inv .0, c .loop-test .left))
 
 pub suspects-from-spec : {M : Type 1} → statement M
 suspects-from-spec =
     tie.close
-    (tie.spec
-    Inv-loop
-    μ-loop
-    loop-holds
-    sub-i
-    mul-all
-    shared-slice-read-suspicious
-    suspicious-requires
-    add-all
-    loop-less
-    loop-again
-    returns)
+    (tie.spec Inv-loop μ-loop loop-holds (λ c. search needs) mul-all shared-slice-read-suspicious suspicious-requires
+    add-all (λ c. search needs) loop-again returns)

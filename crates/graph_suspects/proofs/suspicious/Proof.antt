@@ -1,16 +1,11 @@
+-- `suspicious` meets its contract: 1 for a code that is odd, or 8 or more.
 use borrow.Author.Needs.{needs}
+use Rattle.graph_suspects.proofs.SuspectCodes.{by-mask}
 use Rattle.graph_suspects.proofs.suspicious.Statement.{statement}
 use Rattle.graph_suspects.proofs.suspicious.Tie as tie
-use Rattle.graph_suspects.proofs.suspicious.Reads as reads
-use Rattle.graph_suspects.proofs.suspicious.Lts as lts
 
--- src/lib.rt:15:5
-cast-result : tie.Need-cast-result
-cast-result c = search needs
-
--- src/lib.rt:11:1
 returns : tie.Need-returns
-returns c = ?
+returns c = by-mask (c .args .code) (c .pre)
 
 pub suspicious-spec : {M : Type 1} → statement M
-suspicious-spec = tie.close (tie.spec cast-result returns)
+suspicious-spec = tie.close (tie.spec (λ c. search needs) returns)
