@@ -1,6 +1,6 @@
 -- A word made from the highest place down, eight bits at a time.
-use mathlib.Core.Path.{ap, ap₂, fun-ext, refl, subst, sym, _∙_, _≡_}
-use Prim.Native.Nat.{_*_, _+_, _-_, _<_, _^_, suc, zero, ℕ, _≤_}
+use mathlib.Core.Path.{ap, ap₂, fun-ext, subst, sym, _∙_, _≡_}
+use Prim.Native.Nat.{_*_, _+_, _-_, _<_, _^_, suc, ℕ, _≤_}
 use native.Mathlib.Nat.{lt-of-lt-of-le}
 use native.Mathlib.Omega.{arith}
 use lib.Pow.{pow-mono}

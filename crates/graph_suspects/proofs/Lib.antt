@@ -1,4 +1,4 @@
-pub mod SuspectCodes
+pub mod CodeBits
 pub mod PackedBytes
 pub mod MarkedBytes
 pub mod EightCodes

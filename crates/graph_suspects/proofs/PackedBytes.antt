@@ -1,8 +1,8 @@
 -- Codes as the bytes of a word: one code, and the codes of two words in one.
-use mathlib.Core.Bool.{Bool, false, _||_}
+use mathlib.Core.Bool.{false, or-false, _||_}
 use mathlib.Core.List.{List}
 use mathlib.Core.Logic.{inl, inr, _⊎_}
-use mathlib.Core.Path.{ap, ap₂, refl, sym, subst, _∙_, _≡_}
+use mathlib.Core.Path.{ap, ap₂, sym, _∙_, _≡_}
 use Prim.Native.Nat.{_%_, _*_, _+_, _-_, _<_, _^_, ℕ, _≤_}
 use native.Mathlib.Nat.{mod-lt}
 use native.Mathlib.Omega.{arith}
@@ -11,14 +11,10 @@ use lib.Dec.{lit<}
 use lib.ListN.{getD}
 use Rattle.transposition.proofs.PairWords.{bit-mod, bit-shl, bit-shl-low}
 use Rattle.words.proofs.BitLaws.{bit-above, bit-or, lt-of-bits}
-use Rattle.words.proofs.Finite.{bits}
 use Rattle.words.proofs.Sums.{lt-or-ge}
 use Rattle.words.specs.Bits.{bit}
-use Rattle.graph_suspects.proofs.SuspectCodes.{by-bits, suspect}
+use Rattle.graph_suspects.proofs.CodeBits.{by-bits, suspect}
 use Rattle.graph_suspects.specs.internal.Bytes.{Packed}
-
-or-false : (b : Bool) → (b || false) ≡ b
-or-false = bits 1 (λ b. b || false) (λ b. b) tt
 
 module _ (codes : List ℕ) (i : ℕ) where
   pub packed-one : getD codes i 0 < 24 → Packed codes i 1 (getD codes i 0)

@@ -52,8 +52,8 @@ fn eight_codes(codes: &[u8], i: usize) -> u64
     four_codes(codes, i) | (four_codes(codes, i + 4) << 32)
 }
 
-// A bit for each byte: whether bit 0, 3 or 4 of it is set. One bit of each byte is left, those of the upper four bytes are
-// laid between those of the lower, and a product brings them side by side.
+// A bit for each byte: whether bit 0, 3 or 4 of it is set. One bit of each byte is kept, those of the upper four bytes
+// are laid between those of the lower, and a product brings all eight side by side.
 fn marked_bytes(x: u64) -> u64
     ensures { λ r. ⌜ (r < 256)
         × ((k : ℕ) → k < 8 → bit r k ≡ (bit x (8 * k) || (bit x (8 * k + 3) || bit x (8 * k + 4)))) ⌝ }

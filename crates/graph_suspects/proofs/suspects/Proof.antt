@@ -7,7 +7,7 @@ use borrow.Author.Needs.{needs}
 use Rattle.reduction_passes.proofs.Pivoting.{NamedFrom, from-end}
 use Rattle.graph_suspects.proofs.EightCodes.{from-eight, held-from, room-for-eight}
 use Rattle.graph_suspects.proofs.PackedBytes.{packed-suspects}
-use Rattle.graph_suspects.proofs.SuspectCodes.{suspect}
+use Rattle.graph_suspects.proofs.CodeBits.{suspect}
 use Rattle.graph_suspects.proofs.suspects.Statement.{statement}
 use Rattle.graph_suspects.proofs.suspects.Tie as tie
 

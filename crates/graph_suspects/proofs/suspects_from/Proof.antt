@@ -1,15 +1,13 @@
 -- `suspects_from` meets its contract: the codes from a place on that are odd, or 8 or more.
-use mathlib.Core.Bool.{Bool, false, true}
-use mathlib.Core.Path.{_≡_}
-use Prim.Native.Nat.{_-_, _≤_, ℕ}
+use Prim.Native.Nat.{_-_, _≤_}
 use native.Mathlib.Nat.{le-refl}
 use native.Mathlib.Omega.{arith}
 use lib.ListN.{getD, length}
 use borrow.Author.Needs.{needs}
 use Rattle.reduction_passes.proofs.Pivoting.{NamedFrom, from-small, from-start, from-step}
-use Rattle.words.specs.Bits.{digit}
+use Rattle.words.proofs.BitLaws.{digit-lt}
 use Rattle.graph_suspects.proofs.EightCodes.{from-held}
-use Rattle.graph_suspects.proofs.SuspectCodes.{suspect}
+use Rattle.graph_suspects.proofs.CodeBits.{suspect}
 use Rattle.graph_suspects.proofs.suspects_from.Statement.{statement}
 use Rattle.graph_suspects.proofs.suspects_from.Tie as tie
 
@@ -19,10 +17,6 @@ Inv-loop codes from all₀ i₀ all i =
 
 abbrev μ-loop : tie.MeasureT-loop
 μ-loop codes from all₀ i₀ all i = i
-
-digit-small : (b : Bool) (r : ℕ) → r ≡ digit b → r ≤ 1
-digit-small false r e = omega (arith, e)
-digit-small true r e = omega (arith, e)
 
 loop-holds : tie.Need-loop-holds Inv-loop μ-loop
 loop-holds c = (c .before .pre .2, le-refl _, from-start _ _)
@@ -49,7 +43,8 @@ add-all c =
     omega (
       arith,
       from-small _ _ (L .all) (L .i) (L .inv .2) (omega (arith, I .loop-test .taken)) (S .pre .0),
-      digit-small (suspect (getD (S .args .codes .now) (L .i - 1) 0)) _ (c .suspicious .ensures),
+      digit-lt (suspect (getD (S .args .codes .now) (L .i - 1) 0)),
+      c .suspicious .ensures,
     )
 
 loop-again : tie.Need-loop-again Inv-loop μ-loop

@@ -1,6 +1,6 @@
 -- `suspicious` meets its contract: 1 for a code that is odd, or 8 or more.
 use borrow.Author.Needs.{needs}
-use Rattle.graph_suspects.proofs.SuspectCodes.{by-mask}
+use Rattle.graph_suspects.proofs.CodeBits.{by-mask}
 use Rattle.graph_suspects.proofs.suspicious.Statement.{statement}
 use Rattle.graph_suspects.proofs.suspicious.Tie as tie
 
