@@ -38,6 +38,7 @@ fn two_codes(codes: &[u8], i: usize) -> u64
     codes[i] as u64 | ((codes[i + 1] as u64) << 8)
 }
 
+// Four, two above two.
 fn four_codes(codes: &[u8], i: usize) -> u64
     requires { ⌜ ((q : ℕ) → getD (now codes) q 0 < 24) × (i + 4 ≤ length (now codes)) ⌝ }
     ensures { λ r. ⌜ Packed (now (codes .entry)) i 4 r ⌝ }
@@ -45,6 +46,7 @@ fn four_codes(codes: &[u8], i: usize) -> u64
     two_codes(codes, i) | (two_codes(codes, i + 2) << 16)
 }
 
+// Eight, four above four.
 fn eight_codes(codes: &[u8], i: usize) -> u64
     requires { ⌜ ((q : ℕ) → getD (now codes) q 0 < 24) × (i + 8 ≤ length (now codes)) ⌝ }
     ensures { λ r. ⌜ Packed (now (codes .entry)) i 8 r ⌝ }
