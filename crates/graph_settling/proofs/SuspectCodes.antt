@@ -1,29 +1,18 @@
--- The codes with which a vertex may be out of place: odd ones, and those from 8 on.
-use mathlib.Core.Bool.{_&&_, Bool, false, not, true, _||_}
+-- A vertex out of place has a code that is odd, or 8 or more: the word of such codes has every vertex out of place.
+use mathlib.Core.Bool.{_&&_, Bool, false, true, _||_}
 use mathlib.Core.List.{List}
 use mathlib.Core.Path.{ap, ap₂, refl, subst, sym, _∙_, _≡_}
-use Prim.Native.Nat.{_<_, ℕ, _≤_}
+use Prim.Native.Nat.{ℕ, _≤_}
 use native.Mathlib.Omega.{arith}
-use lib.Bits.{bitAnd}
-use lib.Dec.{eqb, leb, ltb}
+use lib.Dec.{leb, ltb}
 use lib.ListN.{getD, length}
-use borrow.Author.Tests.{eqb-true, le-leb, le-ltb, leb-true, lt-ltb}
+use borrow.Author.Tests.{le-leb, le-ltb, leb-true, lt-ltb}
+use Rattle.graph_suspects.proofs.CodeBits.{suspect}
 use Rattle.operations.proofs.UnrefusedRecords.{unrefused-long, unrefused-place}
 use Rattle.operations.specs.internal.InPlace.{Unrefused, recordIn}
 use Rattle.words.proofs.BitLaws.{lt-of-bits}
-use Rattle.words.proofs.SearchLaws.{every-at}
-use Rattle.words.specs.Bits.{bit, digit, isOdd}
-use Rattle.words.specs.Search.{every}
+use Rattle.words.specs.Bits.{bit, isOdd}
 use Rattle.graph_settling.specs.internal.Watching.{Watched}
-
-abbrev pub suspect : ℕ → Bool
-suspect code = isOdd code || leb 8 code
-
--- the bits 0, 3 and 4 of a code
-pub by-bits : (code : ℕ) → code < 24 → digit (not (eqb (bitAnd code 25) 0)) ≡ digit (suspect code)
-unfolding every
-by-bits code l = eqb-true (digit (not (eqb (bitAnd code 25) 0))) (digit (suspect code))
-    (every-at 24 (λ c. eqb (digit (not (eqb (bitAnd c 25) 0))) (digit (suspect c))) refl code l)
 
 -- a vertex out of place has such a code
 out-suspect : (code : ℕ) (b : Bool) → (leb 12 code || (isOdd code || (leb 8 code && b))) ≡ true → suspect code ≡ true

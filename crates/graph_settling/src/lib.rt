@@ -1,4 +1,5 @@
 // A record brought to its reduced form in its buffers, by steps on the graph and its codes that keep the group.
+use graph_suspects::suspects;
 use operations_rewriting::complement_record;
 use operations_rewriting::pivot_record;
 use operations_rewriting::recode;
@@ -7,13 +8,13 @@ use words::smallest;
 use words::without_smallest;
 ghost use mathlib.Core.Bool.{_&&_, _||_, not, true};
 ghost use mathlib.Core.Path.{_≡_};
-ghost use Prim.Native.Nat.{ℕ, _+_, _/_, _<_, _^_, _≤_};
-ghost use lib.Dec.{eqb, leb, ltb};
-ghost use lib.ListN.{getD, length};
+ghost use Prim.Native.Nat.{_+_, _/_, _<_, _^_};
+ghost use lib.Dec.{eqb, leb};
+ghost use lib.ListN.{length};
 ghost use Rattle.graph_steps.specs.internal.KeptGroups.{Nearer, Normalised, unsettled};
 ghost use Rattle.graph_steps.specs.internal.Steps.{signMoved};
 ghost use Rattle.operations.specs.internal.InPlace.{Rewritten, Unrefused, recordIn};
-ghost use Rattle.words.specs.Bits.{bit, digit, isOdd};
+ghost use Rattle.words.specs.Bits.{bit, isOdd};
 ghost use Rattle.words.specs.Search.{first};
 ghost use Rattle.graph_settling.specs.internal.Watching.{Advanced, Elsewhere, Watched};
 
@@ -31,29 +32,6 @@ fn is_unsettled(word: u64, code: u8, j: usize) -> bool
     ensures { λ r. ⌜ r ≡ (leb 12 code || (isOdd code || (leb 8 code && not (eqb (word / 2 ^ j) 0)))) ⌝ }
 {
     (12 <= code) | ((code % 2 == 1) | ((8 <= code) & (word >> j != 0)))
-}
-
-// 1 for a code that is odd, or 8 or more: only with such a code can a vertex be out of place.
-fn suspicious(code: u8) -> u64
-    requires { ⌜ code < 24 ⌝ }
-    ensures { λ r. ⌜ r ≡ digit (isOdd code || leb 8 code) ⌝ }
-{
-    (code & 25 != 0) as u64
-}
-
-// The vertices with such codes. No branch looks at a code, since which codes are held cannot be foreseen.
-fn suspects(codes: &[u8]) -> u64
-    requires { ⌜ (length (now codes) ≤ 64) × ((q : ℕ) → getD (now codes) q 0 < 24) ⌝ }
-    ensures { λ r. ⌜ ((q : ℕ) → bit r q ≡ (ltb q (length (now (codes .entry)))
-        && (isOdd (getD (now (codes .entry)) q 0) || leb 8 (getD (now (codes .entry)) q 0)))) ⌝ }
-{
-    let mut all = 0;
-    let mut i = codes.len();
-    while 0 < i {
-        i -= 1;
-        all = 2 * all + suspicious(codes[i]);
-    }
-    all
 }
 
 // X before the code of vertex a, and Z before those of its neighbours.

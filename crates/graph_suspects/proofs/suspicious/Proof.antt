@@ -1,11 +1,11 @@
 -- `suspicious` meets its contract: 1 for a code that is odd, or 8 or more.
 use borrow.Author.Needs.{needs}
-use Rattle.graph_settling.proofs.SuspectCodes.{by-bits}
-use Rattle.graph_settling.proofs.suspicious.Statement.{statement}
-use Rattle.graph_settling.proofs.suspicious.Tie as tie
+use Rattle.graph_suspects.proofs.CodeBits.{by-mask}
+use Rattle.graph_suspects.proofs.suspicious.Statement.{statement}
+use Rattle.graph_suspects.proofs.suspicious.Tie as tie
 
 returns : tie.Need-returns
-returns c = by-bits (c .args .code) (c .pre)
+returns c = by-mask (c .args .code) (c .pre)
 
 pub suspicious-spec : {M : Type 1} → statement M
 suspicious-spec = tie.close (tie.spec (λ c. search needs) returns)

@@ -1,0 +1,4 @@
+pub mod CodeBits
+pub mod PackedBytes
+pub mod MarkedBytes
+pub mod EightCodes
