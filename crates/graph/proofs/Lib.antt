@@ -1,3 +1,4 @@
 pub mod GraphGroups
 pub mod Complement
 pub mod ComplementWords
+pub mod JoinedSets

@@ -1,9 +1,8 @@
 // A vertex made ready for a measurement, and isolated by it, in the buffers of a record.
 use buffers::sign_digit;
 use clifford::Code;
+use graph::join_sets;
 use operations::compose;
-use operations_gates::join_sets;
-use operations_gates::where_true;
 use operations_rewriting::complement_record;
 use operations_rewriting::put_before;
 use pauli::Letter;
@@ -11,6 +10,7 @@ use pauli::x_bit;
 use pauli::z_bit;
 use words::single;
 use words::smallest;
+use words::where_true;
 ghost use mathlib.Core.Bool.{_&&_, not, true};
 ghost use mathlib.Core.Logic.{_↔_};
 ghost use mathlib.Core.Path.{_≡_};
