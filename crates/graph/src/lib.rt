@@ -1,10 +1,11 @@
-// Graphs as neighbour words: local complementation, and the edges between two sets flipped.
+// Graphs as neighbour words: local complementation, the edges between two sets flipped, and pivots.
 use words::flip;
 use words::has;
+use words::single;
 use words::smallest;
 use words::where_true;
 use words::without_smallest;
-ghost use mathlib.Core.Bool.{_&&_};
+ghost use mathlib.Core.Bool.{_&&_, true};
 ghost use mathlib.Core.Path.{_≡_};
 ghost use Prim.Native.Nat.{ℕ, _<_, _≤_, _^_};
 ghost use lib.ListN.{length};
@@ -51,4 +52,18 @@ pub fn join_sets(neighbours: &mut [u64], to_a: u64, to_b: u64)
         neighbours[i] = joined_word(neighbours[i], to_a, to_b, i);
         rest = without_smallest(rest);
     }
+}
+
+// Pivots the graph on the edge j, k: complementing at j, k and j flips the edges between j with its neighbours and k with
+// its neighbours.
+pub fn pivot_words(neighbours: &mut [u64], j: usize, k: usize)
+    requires { ⌜ (length (now neighbours) ≤ 64) × (j < length (now neighbours)) × (k < length (now neighbours)) ⌝ }
+    requires { ⌜ Simple (length (now neighbours)) (graphIn (now neighbours)) ⌝ }
+    requires { ⌜ graphIn (now neighbours) j k ≡ true ⌝ }
+    ensures { λ r. ⌜ SameGraph (graphIn (now (neighbours .exit)))
+        (complement (complement (complement (graphIn (now (neighbours .entry))) j) k) j) ⌝ }
+{
+    let to_j = neighbours[j] | single(j);
+    let to_k = neighbours[k] | single(k);
+    join_sets(neighbours, to_j, to_k);
 }
