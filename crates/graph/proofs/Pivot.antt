@@ -52,7 +52,7 @@ edge-at jj jk kj e J K J′ K′ E t a b c d hjj hjk hkj h =
     (between J K J′ K′ E t a b c d)) between tt J K J′ K′ E t a b c d)
 
 -- a test that follows from another
-follows : (p q : Bool) → (p ≡ true → q ≡ true) → (not p || q) ≡ true
+pub follows : (p q : Bool) → (p ≡ true → q ≡ true) → (not p || q) ≡ true
 follows false q h = refl
 follows true q h = h refl
 

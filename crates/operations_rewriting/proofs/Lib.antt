@@ -1,3 +1,5 @@
 pub mod PuttingBefore
 pub mod Recoding
+pub mod PivotCodes
+pub mod PivotedRecords
 pub mod Pivoting

@@ -43,37 +43,3 @@ module _ (words codes : List ℕ) (U : Unrefused (recordIn words codes)) (a : �
       (heldRecord (recordIn words codes)) a
   complemented-held = rewritten-held words codes U (λ g. complementRecord g a) words′ codes′ R new-simple
       new-above
-
-  -- so that a further complement may follow
-  pub complement-again : (k : ℕ) → k < length words → Unrefused (recordIn words′ codes′)
-      × (k < length words′)
-  complement-again k l = (complemented-unrefused, subst (λ n. k < n) (sym complemented-length) l)
-
-pub pivoted : (words codes words₁ codes₁ words₂ codes₂ words₃ codes₃ : List ℕ) (j k : ℕ)
-    → Unrefused (recordIn words codes) → j < length words → k < length words
-    → Rewritten words codes (λ g. complementRecord g j) words₁ codes₁
-    → Rewritten words₁ codes₁ (λ g. complementRecord g k) words₂ codes₂
-    → Rewritten words₂ codes₂ (λ g. complementRecord g j) words₃ codes₃
-    → Rewritten words codes (λ g. pivotRecord g j k) words₃ codes₃
-pivoted words codes words₁ codes₁ words₂ codes₂ words₃ codes₃ j k A hj hk R₁ R₂ R₃ =
-    record {
-      neighbours = R₃ .neighbours ∙ ap₂ (λ n g. neighbourWords n (complementRecord g j)) long held;
-      numbers = R₃ .numbers ∙ ap₂ (λ n g. codeNumbers n (complementRecord g j)) long held;
-    }
-  where
-    long₁ : length words₁ ≡ length words
-    long₁ = complemented-length words codes A j hj words₁ codes₁ R₁
-
-    A₁ : Unrefused (recordIn words₁ codes₁)
-    A₁ = complemented-unrefused words codes A j hj words₁ codes₁ R₁
-
-    hk₁ : k < length words₁
-    hk₁ = subst (λ n. k < n) (sym long₁) hk
-
-    long : length words₂ ≡ length words
-    long = complemented-length words₁ codes₁ A₁ k hk₁ words₂ codes₂ R₂ ∙ long₁
-
-    held : heldRecord (recordIn words₂ codes₂)
-        ≡ complementRecord (complementRecord (heldRecord (recordIn words codes)) j) k
-    held = complemented-held words₁ codes₁ A₁ k hk₁ words₂ codes₂ R₂
-        ∙ ap (λ g. complementRecord g k) (complemented-held words codes A j hj words₁ codes₁ R₁)
