@@ -15,7 +15,7 @@ use Rattle.graph_steps.proofs.Keeping.{complement-kept, kept-trans}
 use Rattle.graph_steps.specs.internal.KeptGroups.{BroughtToZ, GroupKept}
 use Rattle.operations.proofs.UnrefusedRecords.{unrefused-short, unrefused-simple}
 use Rattle.operations.specs.internal.InPlace.{Rewritten, Unrefused, recordIn}
-use Rattle.operations_rewriting.proofs.Pivoting.{complemented-held}
+use Rattle.operations_rewriting.proofs.ComplementedRecords.{complemented-held}
 use Rattle.pauli.specs.declared.Letter.{Letter}
 use Rattle.pauli.specs.declared.Letter.the-variants.{I, X, Z}
 use Rattle.record.proofs.AcceptedRecords.{accepted-record}

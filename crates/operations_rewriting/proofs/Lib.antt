@@ -2,4 +2,4 @@ pub mod PuttingBefore
 pub mod Recoding
 pub mod PivotCodes
 pub mod PivotedRecords
-pub mod Pivoting
+pub mod ComplementedRecords

@@ -1,8 +1,8 @@
 -- A pivot on the buffers of a record: what its two calls leave.
-use mathlib.Core.Bool.{cond, false, true, _||_}
+use mathlib.Core.Bool.{cond, false, true}
 use mathlib.Core.List.{List}
 use mathlib.Core.Path.{ap, subst, sym, _∙_, _≡_}
-use Prim.Native.Nat.{_<_, _^_, ℕ}
+use Prim.Native.Nat.{_<_, _^_, ℕ, _≤_}
 use native.Mathlib.Decide.{ℕ-discrete}
 use lib.Bits.{bitOr, or-lt}
 use lib.Dec.{eqb}
@@ -10,16 +10,24 @@ use lib.ListN.{getD, length, length-set, set}
 use lib.Seq.{getD-set-other, getD-set-same}
 use Rattle.buffers.proofs.Tabulate.{tabulate-at, tabulate-cong, tabulate-is, tabulate-length}
 use Rattle.buffers.specs.Buffers.{tabulate}
-use Rattle.clifford.specs.Clifford.{cliffordOf, codeOf, then}
+use Rattle.clifford.specs.Clifford.{cliffordOf, codeOf, identityClifford, then}
 use Rattle.clifford.specs.Vectors.{codesOf}
-use Rattle.graph.proofs.Complement.{complement-simple}
-use Rattle.graph.specs.Graph.{complement}
+use Rattle.graph.specs.Graph.{Simple, complement}
 use Rattle.graph.specs.internal.NeighbourWords.{SameGraph}
 use Rattle.graph.specs.NeighbourWords.{graphIn}
-use Rattle.operations.proofs.UnrefusedRecords.{unrefused-long, unrefused-simple}
+use Rattle.operations.proofs.Rewriting.{pivot-above, pivot-simple}
+use Rattle.operations.proofs.UnrefusedRecords.{
+  rewritten-held,
+  rewritten-length,
+  rewritten-unrefused,
+  unrefused-above,
+  unrefused-long,
+  unrefused-simple,
+}
 use Rattle.operations.specs.internal.InPlace.{Rewritten, Unrefused, recordIn}
 use Rattle.operations.specs.Steps.{pivotRecord}
 use Rattle.record.specs.Lent.{heldRecord}
+use Rattle.record.specs.Records.{GraphRecord}
 use Rattle.words.proofs.BitLaws.{bit-or}
 use Rattle.words.proofs.Places.{other-place, same-place}
 use Rattle.words.specs.Bits.{bit}
@@ -81,10 +89,29 @@ module _ (words codes : List ℕ) (U : Unrefused (recordIn words codes)) (j k : 
       → SameGraph (graphIn words′) (complement (complement (complement (graphIn words) j) k) j)
       → Rewritten words codes (λ g. pivotRecord g j k) words′ codes′
   pivoted edge words′ codes′ coded long edges =
+      let r = heldRecord (recordIn words codes) in
       let S = unrefused-simple words codes U in
-      let simple = complement-simple (length words) in
-      written words codes U j hj (λ g. pivotRecord g j k)
-      (simple _ (simple _ (simple _ S j) k) j) words′ codes′
+      written words codes U j hj (λ g. pivotRecord g j k) (pivot-simple (length words) r S j k) words′ codes′
       (coded ∙ tabulate-cong (length words) _ _
-      (λ q l. ap codeOf (sym (pivot-code (length words) (heldRecord (recordIn words codes)) S j k edge q))))
+      (λ q l. ap codeOf (sym (pivot-code (length words) r S j k edge q))))
       long edges
+
+  -- the buffers hold the new record, and no line refuses it
+  module _ (words′ codes′ : List ℕ) (R : Rewritten words codes (λ g. pivotRecord g j k) words′ codes′) where
+    abbrev old : GraphRecord
+    old = heldRecord (recordIn words codes)
+
+    is-simple : Simple (length words) ((pivotRecord old j k) .graph)
+    is-simple = pivot-simple (length words) old (unrefused-simple words codes U) j k
+
+    is-above : (q : ℕ) → length words ≤ q → (pivotRecord old j k) .codes q ≡ identityClifford
+    is-above = pivot-above (length words) old (unrefused-simple words codes U) j k hj hk (unrefused-above words codes U)
+
+    pub pivoted-length : length words′ ≡ length words
+    pivoted-length = rewritten-length words codes U (λ g. pivotRecord g j k) words′ codes′ R is-simple is-above
+
+    pub pivoted-unrefused : Unrefused (recordIn words′ codes′)
+    pivoted-unrefused = rewritten-unrefused words codes U (λ g. pivotRecord g j k) words′ codes′ R is-simple is-above
+
+    pub pivoted-held : heldRecord (recordIn words′ codes′) ≡ pivotRecord (heldRecord (recordIn words codes)) j k
+    pivoted-held = rewritten-held words codes U (λ g. pivotRecord g j k) words′ codes′ R is-simple is-above

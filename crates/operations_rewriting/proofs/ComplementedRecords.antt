@@ -1,6 +1,6 @@
--- Buffers of a record that was complemented: they are accepted again, and three complements make a pivot.
+-- Buffers of a record that was complemented: they hold the new record, and no line refuses it.
 use mathlib.Core.List.{List}
-use mathlib.Core.Path.{ap, ap₂, subst, sym, _∙_, _≡_}
+use mathlib.Core.Path.{_≡_}
 use Prim.Native.Nat.{_<_, ℕ, _≤_}
 use lib.ListN.{length}
 use Rattle.clifford.specs.Clifford.{identityClifford}
@@ -15,8 +15,7 @@ use Rattle.operations.proofs.UnrefusedRecords.{
   unrefused-simple,
 }
 use Rattle.operations.specs.internal.InPlace.{Rewritten, Unrefused, recordIn}
-use Rattle.operations.specs.Steps.{pivotRecord}
-use Rattle.record.specs.Lent.{codeNumbers, heldRecord, neighbourWords}
+use Rattle.record.specs.Lent.{heldRecord}
 use Rattle.record.specs.Records.{GraphRecord, complementRecord}
 
 module _ (words codes : List ℕ) (U : Unrefused (recordIn words codes)) (a : ℕ) (ha : a < length words)
