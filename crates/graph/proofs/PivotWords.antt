@@ -1,11 +1,10 @@
 -- A pivot on neighbour words: the two sets as words.
-use mathlib.Core.Bool.{_||_, false, true}
+use mathlib.Core.Bool.{true, _||_}
 use mathlib.Core.List.{List}
 use mathlib.Core.Path.{ap, ap₂, fun-ext, sym, _∙_, _≡_}
-use Prim.Native.Nat.{_<_, _^_, ℕ, _≤_}
+use Prim.Native.Nat.{_<_, _^_, ℕ}
 use native.Mathlib.Omega.{arith}
 use lib.Bits.{bitOr}
-use lib.Dec.{eqb}
 use lib.ListN.{getD, length}
 use Rattle.words.proofs.BitLaws.{bit-or, bit-single, lt-of-bits}
 use Rattle.words.proofs.Places.{other-place}
