@@ -4,7 +4,7 @@ use Prim.Native.Nat.{_+_, _-_, _<_, _^_, ℕ}
 use native.Mathlib.Decide.{ℕ-discrete}
 use native.Mathlib.Omega.{arith}
 use lib.Count.{leading-of-zero, leadingZeros}
-use Rattle.graph_settling.proofs.TopBit.{leading-small, top-bit}
+use Rattle.words.proofs.TopBit.{leading-small, top-bit}
 use Rattle.words.proofs.BitLaws.{bit-above, zero-bit}
 use Rattle.words.specs.Bits.{bit}
 use Rattle.comparison.specs.internal.Equations.{Size}

@@ -74,7 +74,7 @@ phaseOld A J u v t = letterPhase (letter t J) (letter (v && u) (v && A))
     +ᵖ (cond (v && J) i³ i⁰ +ᵖ cond (v && A) i¹ i⁰)
 
 -- they agree where the bits are possible
-under : {X : Type 0} (b : Bool) (x y : X) → b ≡ true → cond b x y ≡ y → x ≡ y
+pub under : {X : Type 0} (b : Bool) (x y : X) → b ≡ true → cond b x y ≡ y → x ≡ y
 under b x y h e = ap (λ c. cond c x y) (sym h) ∙ e
 
 z-at : (A J u v t : Bool) → known A J u v t ≡ true → zNew A J u v t ≡ zOld A J u v t

@@ -1,4 +1,3 @@
-pub mod TopBit
 pub mod SignBuffers
 pub mod Untouched
 pub mod SuspectCodes

@@ -3,12 +3,13 @@ use graph_suspects::suspects;
 use operations_rewriting::complement_record;
 use operations_rewriting::pivot_record;
 use operations_rewriting::recode;
+use words::largest;
 use words::single;
 use words::smallest;
 use words::without_smallest;
-ghost use mathlib.Core.Bool.{_&&_, _||_, not, true};
+ghost use mathlib.Core.Bool.{_&&_, _||_, not};
 ghost use mathlib.Core.Path.{_≡_};
-ghost use Prim.Native.Nat.{_+_, _/_, _<_, _^_};
+ghost use Prim.Native.Nat.{_/_, _<_, _^_};
 ghost use lib.Dec.{eqb, leb};
 ghost use lib.ListN.{length};
 ghost use Rattle.graph_steps.specs.internal.KeptGroups.{Nearer, Normalised, unsettled};
@@ -17,14 +18,6 @@ ghost use Rattle.operations.specs.internal.InPlace.{Rewritten, Unrefused, recor
 ghost use Rattle.words.specs.Bits.{bit, isOdd};
 ghost use Rattle.words.specs.Search.{first};
 ghost use Rattle.graph_settling.specs.internal.Watching.{Advanced, Elsewhere, Watched};
-
-// The largest set bit of a word that is not 0.
-fn largest(w: u64) -> usize
-    requires { ⌜ (w ≡ 0 → ⊥) ⌝ }
-    ensures { λ r. ⌜ (bit w r ≡ true) × (w < 2 ^ (r + 1)) ⌝ }
-{
-    63 - u64::leading_zeros(w) as usize
-}
 
 // Whether vertex j, with this code and this neighbour word, is out of place.
 fn is_unsettled(word: u64, code: u8, j: usize) -> bool

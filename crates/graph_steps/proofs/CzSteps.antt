@@ -8,6 +8,7 @@ use Rattle.clifford.proofs.VectorLaws.{act-mul, act-scaled, act-then}
 use Rattle.clifford.specs.Clifford.{Clifford, bitC, identityClifford, then}
 use Rattle.clifford.specs.Vectors.{act}
 use Rattle.graph.specs.Graph.{Graph, Simple, graphGenerator}
+use Rattle.graph.specs.internal.Joined.{joinedBy}
 use Rattle.operations.proofs.CzGroups.{cz-proper}
 use Rattle.operations.proofs.GroupAlone.{reduced-of-group}
 use Rattle.operations.specs.Cz.{cz, czRows, zAt}
@@ -28,7 +29,7 @@ use Rattle.graph_steps.proofs.Reaching.{element, element-no-x, reach-be
 use Rattle.graph_steps.proofs.ReducedForms.{form-reduced}
 use Rattle.graph_steps.proofs.ZRows.{chosen-zs, cz-fixed, cz-product, joined-generator, zs, zs-commute}
 use Rattle.graph_steps.specs.internal.ReducedForms.{ReducedForm}
-use Rattle.graph_steps.specs.internal.Steps.{czRecord, czTurned, joinedBy, pauliCode, reach, reachMinus}
+use Rattle.graph_steps.specs.internal.Steps.{czRecord, czTurned, pauliCode, reach, reachMinus}
 
 module _ (n : ℕ) (r : GraphRecord) (S : Simple n (r .graph)) (F : ReducedForm n r) (a b : ℕ) (ha : a < n) (hb : b < n)
     (ab : a ≢ b) where

@@ -10,7 +10,7 @@ use Rattle.clifford.specs.Clifford.{identityClifford}
 use Rattle.graph.proofs.Complement.{complement-simple}
 use Rattle.graph.specs.Graph.{Simple}
 use Rattle.operations.proofs.GroupAlone.{reduced-of-group}
-use Rattle.operations.proofs.Rewriting.{pivot-same, pivot-simple}
+use Rattle.operations.proofs.Rewriting.{pivot-above, pivot-same, pivot-simple}
 use Rattle.operations.proofs.UnrefusedRecords.{
   complement-above,
   rewritten-held,
@@ -116,28 +116,17 @@ module _ (words codes : List ℕ) (U : Unrefused (recordIn words codes)) (words�
 
   module _ (j k : ℕ) (hj : j < length words) (hk : k < length words)
       (R : Rewritten words codes (λ g. pivotRecord g j k) words′ codes′) where
+    pivot-is-above : (q : ℕ) → length words ≤ q → (pivotRecord r j k) .codes q ≡ identityClifford
+    pivot-is-above = pivot-above (length words) r simple j k hj hk (unrefused-above words codes U)
+
+    pub pivot-kept : GroupKept words codes words′ codes′
+    pivot-kept = rewritten-kept words codes U (λ g. pivotRecord g j k) words′ codes′ R
+        (pivot-simple (length words) r simple j k) pivot-is-above (pivot-same (length words) r simple j k hj hk)
+
     pub pivot-nearer : distance (length words) (pivotRecord (heldRecord (recordIn words codes)) j k)
         < distance (length words) (heldRecord (recordIn words codes)) → Nearer words codes words′ codes′
-    pivot-nearer =
-        rewritten-nearer words codes U (λ g. pivotRecord g j k) words′ codes′ R (pivot-simple n r simple j k)
-        (complement-above n r₂ S₂ j hj (complement-above n r₁ S₁ k hk
-        (complement-above n r simple j hj (unrefused-above words codes U))))
-        (pivot-same n r simple j k hj hk)
-      where
-        n : ℕ
-        n = length words
-
-        r₁ : GraphRecord
-        r₁ = complementRecord r j
-
-        S₁ : Simple n (r₁ .graph)
-        S₁ = complement-simple n (r .graph) simple j
-
-        r₂ : GraphRecord
-        r₂ = complementRecord r₁ k
-
-        S₂ : Simple n (r₂ .graph)
-        S₂ = complement-simple n (r₁ .graph) S₁ k
+    pivot-nearer = rewritten-nearer words codes U (λ g. pivotRecord g j k) words′ codes′ R
+        (pivot-simple (length words) r simple j k) pivot-is-above (pivot-same (length words) r simple j k hj hk)
 
 -- ---- the end: the buffers hold the reduced record
 module _ (words codes : List ℕ) (U : Unrefused (recordIn words codes)) where

@@ -1,5 +1,6 @@
 pub mod TrackedRecords
 pub mod Stepping
+pub mod PivotSteps
 pub mod StepLists
 pub mod WordMoves
 pub mod NextMoves

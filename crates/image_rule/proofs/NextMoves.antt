@@ -1,18 +1,20 @@
 -- The next moves of the image rule in the code: a single vertex, a triple, or none.
+use mathlib.Core.Bool.{true}
 use mathlib.Core.List.{List, [], _∷_}
-use mathlib.Core.Path.{ap, subst, sym, _≡_}
+use mathlib.Core.Path.{ap, subst, sym, _∙_, _≡_}
 use Prim.Native.Nat.{_+_, _<_, ℕ, _≤_}
 use native.Mathlib.Omega.{arith}
 use lib.Bits.{bitAnd}
 use lib.Count.{trailingZeros}
 use lib.Dec.{lit<}
 use lib.ListN.{getD, length}
+use Rattle.words.specs.Bits.{bit}
 use Rattle.words.specs.Search.{first}
 use Rattle.image.proofs.Moves.{Move, moves-unique, stop}
 use Rattle.image.proofs.Running.{below-at, move-below}
 use Rattle.image_rule.proofs.StepLists.{complemented-none}
 use Rattle.image_rule.proofs.TrackedRecords.{tracked-small}
-use Rattle.image_rule.proofs.WordMoves.{joined-below, word-alone, word-joined, word-stopped}
+use Rattle.image_rule.proofs.WordMoves.{joined-below, word-alone, word-edge, word-joined, word-stopped}
 use Rattle.image.specs.Rule.{State, moves, stateOf}
 use Rattle.image_rule.specs.internal.Working.{Complemented, Tracking, Working, joinedIn, workingRecord}
 
@@ -57,12 +59,16 @@ module _ (n : ℕ) (w : Working) (T : Tracking n w)
             subst (λ k. Move n S (j ∷ k ∷ j ∷ [])) (sym e)
             (word-joined n (tracked-small n w T) w T zero-word j found some-pair)
 
-        pub triple-ready : (j < n) × (k < n) × (w .count + 2 < 96) × Tracking n w
+        pub triple-ready : ((j < n) × (k < n) × (w .count + 2 < 96) × Tracking n w)
+            × (bit (getD (w .neighbours) j 0) k ≡ true)
         triple-ready = (
-          pair-below,
-          below-at (move-below triple-move) 1 (lit< tt),
-          omega (arith, room, ap length (moves-unique n S triple-move)),
-          T,
+          (
+            pair-below,
+            below-at (move-below triple-move) 1 (lit< tt),
+            omega (arith, room, ap length (moves-unique n S triple-move)),
+            T,
+          ),
+          ap (bit (getD (w .neighbours) j 0)) e ∙ word-edge n (tracked-small n w T) w T zero-word j found some-pair,
         )
 
         pub triple-done : (r : Working) → Complemented n w (j ∷ k ∷ j ∷ []) r → Complemented n w (moves n S) r

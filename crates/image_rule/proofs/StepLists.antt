@@ -1,7 +1,7 @@
 -- Complementations of the working state, one list after another.
 use mathlib.Core.List.{_++_, List, [], append-assoc, append-nil}
-use mathlib.Core.Path.{ap, refl, subst, sym, _∙_, _≡_}
-use Prim.Native.Nat.{_+_, _<_, ℕ}
+use mathlib.Core.Path.{ap, refl, sym, _∙_, _≡_}
+use Prim.Native.Nat.{ℕ}
 use native.Mathlib.Nat.{add-zero}
 use native.Mathlib.Omega.{arith}
 use lib.ListN.{length, length-append}
@@ -31,19 +31,6 @@ complemented-append {n} {w} {u} {r} {a} {b} A B =
       count = B .count ∙ omega (arith, A .count, length-append a b);
       tracking = B .tracking;
     }
-
--- the same where the second list is said of the buffers' own length
-pub complemented-then : {n : ℕ} {w u r : Working} {a b : List ℕ} → Complemented n w a u
-    → Complemented (length (u .neighbours)) u b r → Complemented n w (a ++ b) r
-complemented-then {n} {w} {u} {r} {a} {b} A B =
-    complemented-append A (subst (λ m. Complemented m u b r) (A .tracking .long) B)
-
--- a further vertex may be complemented
-pub complement-next : {n : ℕ} {w u : Working} {a : List ℕ} → Complemented n w a u → (v : ℕ) → v < n
-    → w .count + length a < 96 → (v < length (u .neighbours)) × (u .count < 96) × Tracking (length (u .neighbours)) u
-complement-next {n} {w} {u} {a} A v l m =
-    subst (λ k. (v < k) × (u .count < 96) × Tracking k u) (sym (A .tracking .long))
-    (l, omega (arith, A .count, m), A .tracking)
 
 -- the state of the rule after a list
 pub complemented-state : (n : ℕ) (w r : Working) (vs : List ℕ) → Tracking n w → Complemented n w vs r →

@@ -1,4 +1,3 @@
 pub mod GatedBuffers
 pub mod ReachedSets
-pub mod JoinedSets
 pub mod CzBuffers

@@ -1,30 +1,20 @@
 // CZ on a record of reduced form, in its buffers: edges between two sets of vertices are flipped.
+use graph::join_sets;
 use operations_rewriting::put_before;
-use words::has;
 use words::single;
-use words::smallest;
-use words::without_smallest;
+use words::where_true;
 ghost use mathlib.Core.Bool.{_&&_, cond};
 ghost use mathlib.Core.Logic.{_≢_};
 ghost use mathlib.Core.Path.{_≡_};
-ghost use Prim.Native.Nat.{ℕ, _<_, _≤_, _^_};
+ghost use Prim.Native.Nat.{ℕ, _<_};
 ghost use lib.Dec.{eqb};
 ghost use lib.ListN.{length};
 ghost use Rattle.clifford.specs.Clifford.{bitC, cliffordOf};
-ghost use Rattle.graph.specs.internal.NeighbourWords.{SameGraph};
-ghost use Rattle.graph.specs.NeighbourWords.{graphIn};
 ghost use Rattle.graph_steps.specs.internal.ReducedForms.{ReducedForm};
-ghost use Rattle.graph_steps.specs.internal.Steps.{czRecord, joinedBy};
+ghost use Rattle.graph_steps.specs.internal.Steps.{czRecord};
 ghost use Rattle.operations.specs.internal.InPlace.{Rewritten, Unrefused, recordIn};
 ghost use Rattle.record.specs.Lent.{heldRecord};
 ghost use Rattle.words.specs.Bits.{_⊕_, bit};
-
-// The word where b is true, else no bit.
-pub fn where_true(b: bool, word: u64) -> u64
-    ensures { λ r. ⌜ ((q : ℕ) → bit r q ≡ (b && bit word q)) ⌝ }
-{
-    if b { word } else { 0 }
-}
 
 // The vertices of the graph over which Z multiplies to Z at vertex a: a itself, or its neighbours where its code has
 // C = 1.
@@ -49,30 +39,6 @@ fn turned_word(to_a: u64, to_b: u64, minus_a: bool, minus_b: bool) -> u64
         ≡ (bit «to_a» q && bit «to_b» q) ⊕ ((«minus_a» && bit «to_b» q) ⊕ («minus_b» && bit «to_a» q))) ⌝ }
 {
     (to_a & to_b) ^ (where_true(minus_a, to_b) ^ where_true(minus_b, to_a))
-}
-
-// The word of vertex i with its edges between the two sets flipped.
-fn joined_word(word: u64, to_a: u64, to_b: u64, i: usize) -> u64
-    requires { ⌜ i < 64 ⌝ }
-    ensures { λ r. ⌜ ((l : ℕ) → bit r l
-        ≡ bit word l ⊕ ((bit «to_a» i && bit «to_b» l) ⊕ (bit «to_b» i && bit «to_a» l))) ⌝ }
-{
-    word ^ (where_true(has(to_a, i), to_b) ^ where_true(has(to_b, i), to_a))
-}
-
-// The edges between the two sets flipped.
-pub fn join_sets(neighbours: &mut [u64], to_a: u64, to_b: u64)
-    requires { ⌜ (length (now neighbours) ≤ 64) × («to_a» < 2 ^ (length (now neighbours)))
-        × («to_b» < 2 ^ (length (now neighbours))) ⌝ }
-    ensures { λ r. ⌜ SameGraph (graphIn (now (neighbours .exit)))
-        (joinedBy (graphIn (now (neighbours .entry))) (bit «to_a») (bit «to_b»)) ⌝ }
-{
-    let mut rest = to_a | to_b;
-    while rest != 0 {
-        let i = smallest(rest);
-        neighbours[i] = joined_word(neighbours[i], to_a, to_b, i);
-        rest = without_smallest(rest);
-    }
 }
 
 // CZ on a and b.

@@ -3,8 +3,6 @@ mod joins;
 
 use crate::joins::cz_reduced;
 use graph_settling::normalise;
-pub use joins::join_sets;
-pub use joins::where_true;
 use operations::compose;
 ghost use mathlib.Core.Logic.{_≢_};
 ghost use mathlib.Core.Path.{_≡_};

@@ -7,9 +7,9 @@ use lib.Dec.{eqb}
 use lib.ListN.{getD, length}
 use borrow.Author.Tests.{eqb-true}
 use Rattle.graph.specs.Graph.{Graph, Simple}
+use Rattle.graph.specs.internal.Joined.{joinedBy}
 use Rattle.graph.specs.internal.NeighbourWords.{SameGraph}
 use Rattle.graph.specs.NeighbourWords.{graphIn}
-use Rattle.graph_steps.specs.internal.Steps.{joinedBy}
 use Rattle.words.proofs.BitLaws.{bit-single, lt-of-bits}
 use Rattle.words.proofs.Finite.{bits}
 use Rattle.words.specs.Bits.{bit, _⊕_}

@@ -1,5 +1,5 @@
 -- Letters compared by their bits, and where codes send them.
-use mathlib.Core.Bool.{_&&_, Bool, Bool·beq, true, true≢false}
+use mathlib.Core.Bool.{_&&_, Bool, Bool·beq, true}
 use mathlib.Core.Logic.{_↔_}
 use mathlib.Core.Path.{ap, ap₂, refl, sym, _∙_, _≡_}
 use Rattle.clifford.specs.Clifford.{
@@ -18,9 +18,8 @@ use Rattle.clifford.specs.Clifford.{
   imageZ,
   then,
 }
-use Rattle.graph_steps.proofs.Isolation.{clash-self}
 use Rattle.pauli.proofs.PauliLaws.{letter-bits}
-use Rattle.pauli.specs.Pauli.{clash, letter, letterProduct, xBit, zBit}
+use Rattle.pauli.specs.Pauli.{letter, letterProduct, xBit, zBit}
 use Rattle.pauli.specs.declared.Letter.{Letter}
 use Rattle.pauli.specs.declared.Letter.the-variants.{I, X, Y, Z}
 use Rattle.words.proofs.Flags.{beq-refl, beq-true, both-true}
@@ -76,29 +75,17 @@ third k l i x z = go (k .class) l i x z
     go ZY Y i x z = absurd (z refl)
     go ZY Z i x z = absurd (x refl)
 
--- 6 first: X goes where Y went, and so not where X went
-pub six-x : (k : Clifford) → image (then (cliffordOf 6) k) X ≡ image k Y
-six-x k = go (k .class)
+-- 11 first: Z goes where X went
+pub eleven-z : (k : Clifford) → image (then (cliffordOf 11) k) Z ≡ image k X
+eleven-z k = go (k .class)
   where
-    go : (c : Class) → imageX (classWith (letterProduct (imageX c) (imageZ c)) (imageZ c))
-        ≡ letterProduct (imageX c) (imageZ c)
+    go : (c : Class) → imageZ (classWith (imageZ c) (imageX c)) ≡ imageX c
     go XZ = refl
     go YZ = refl
     go ZX = refl
     go XY = refl
     go YX = refl
     go ZY = refl
-
-pub y-not-x : (k : Clifford) → image k Y ≡ image k X → ⊥
-y-not-x k e = true≢false (sym (apart (k .class)) ∙ ap (λ l. clash l (image k X)) e ∙ clash-self (image k X))
-  where
-    apart : (c : Class) → clash (letterProduct (imageX c) (imageZ c)) (imageX c) ≡ true
-    apart XZ = refl
-    apart YZ = refl
-    apart ZX = refl
-    apart XY = refl
-    apart YX = refl
-    apart ZY = refl
 
 -- 13 first: Z goes where Y went
 pub thirteen-z : (k : Clifford) → image (then (cliffordOf 13) k) Z ≡ image k Y

@@ -1,16 +1,17 @@
 // A vertex made ready for a measurement, and isolated by it, in the buffers of a record.
 use buffers::sign_digit;
 use clifford::Code;
+use graph::join_sets;
 use operations::compose;
-use operations_gates::join_sets;
-use operations_gates::where_true;
 use operations_rewriting::complement_record;
+use operations_rewriting::pivot_record;
 use operations_rewriting::put_before;
 use pauli::Letter;
 use pauli::x_bit;
 use pauli::z_bit;
+use words::largest;
 use words::single;
-use words::smallest;
+use words::where_true;
 ghost use mathlib.Core.Bool.{_&&_, not, true};
 ghost use mathlib.Core.Logic.{_↔_};
 ghost use mathlib.Core.Path.{_≡_};
@@ -22,7 +23,7 @@ ghost use Rattle.clifford.specs.Vectors.{codesOf};
 ghost use Rattle.graph.specs.Graph.{Simple};
 ghost use Rattle.graph.specs.internal.NeighbourWords.{SameGraph};
 ghost use Rattle.graph.specs.NeighbourWords.{graphIn};
-ghost use Rattle.graph_steps.specs.internal.KeptGroups.{BroughtToZ, GroupKept};
+ghost use Rattle.graph_steps.specs.internal.KeptGroups.{BroughtToZ};
 ghost use Rattle.graph_steps.specs.internal.Steps.{isolated, hadamardCode};
 ghost use Rattle.operations.specs.internal.InPlace.{Rewritten, Unrefused, recordIn};
 ghost use Rattle.pauli.specs.declared.Letter.the-variants.{I, X};
@@ -37,20 +38,9 @@ fn sends(code: u8, from: Letter, to: Letter) -> bool
     (z_bit(letter) == z_bit(to)) & (x_bit(letter) == x_bit(to))
 }
 
-// Where the code at q sends X to the letter, complements at a neighbour: then it sends Y there.
-fn clear_x(neighbours: &mut [u64], codes: &mut [u8], q: usize, l: Letter)
-    requires { ⌜ Unrefused (recordIn (now neighbours) (now codes)) × (q < length (now neighbours)) ⌝ }
-    requires { ⌜ (image (codesOf (now codes) q) X ≡ l → getD (now neighbours) q 0 ≡ 0 → ⊥) ⌝ }
-    ensures { λ r. ⌜ GroupKept (now (neighbours .entry)) (now (codes .entry)) (now (neighbours .exit)) (now (codes .exit)) ⌝ }
-    ensures { λ r. ⌜ (image (codesOf (now (codes .exit)) q) X ≡ l → ⊥) ⌝ }
-{
-    if sends(codes[q], Letter::X, l) {
-        let k = smallest(neighbours[q]);
-        complement_record(neighbours, codes, k);
-    }
-}
-
-// Complements until the code at q sends Z to the letter, which is not I.
+// Rewrites the record so that the code at q sends Z to the letter, which is not I. Where it sends X there, a pivot with
+// the largest neighbour exchanges the two, and that neighbour's other ones are smaller then; where it sends Y there,
+// complementing at q does it.
 pub fn bring_to_z(neighbours: &mut [u64], codes: &mut [u8], q: usize, l: Letter)
     requires { ⌜ Unrefused (recordIn (now neighbours) (now codes)) × (q < length (now neighbours)) ⌝ }
     requires { ⌜ (image (codesOf (now codes) q) X ≡ l → getD (now neighbours) q 0 ≡ 0 → ⊥) ⌝ }
@@ -58,7 +48,11 @@ pub fn bring_to_z(neighbours: &mut [u64], codes: &mut [u8], q: usize, l: Letter)
     ensures { λ r. ⌜ BroughtToZ (now (neighbours .entry)) (now (codes .entry)) q l
         (now (neighbours .exit)) (now (codes .exit)) ⌝ }
 {
-    clear_x(neighbours, codes, q, l);
+    if sends(codes[q], Letter::X, l) {
+        let k = largest(neighbours[q]);
+        pivot_record(neighbours, codes, q, k);
+        return;
+    }
     if sends(codes[q], Letter::Z, l) {
         return;
     }

@@ -1,3 +1,5 @@
 pub mod PuttingBefore
 pub mod Recoding
-pub mod Pivoting
+pub mod PivotCodes
+pub mod PivotedRecords
+pub mod ComplementedRecords

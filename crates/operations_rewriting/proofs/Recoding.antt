@@ -12,13 +12,14 @@ use Rattle.buffers.specs.Buffers.{tabulate}
 use Rattle.clifford.specs.Clifford.{Clifford, cliffordOf, codeOf, then}
 use Rattle.clifford.specs.Vectors.{codesOf}
 use Rattle.graph.proofs.Complement.{complement-simple}
-use Rattle.graph.specs.Graph.{complement}
+use Rattle.graph.specs.Graph.{Simple, complement}
 use Rattle.graph.specs.internal.NeighbourWords.{SameGraph}
 use Rattle.graph.specs.NeighbourWords.{graphIn}
 use Rattle.operations.specs.internal.InPlace.{Rewritten, Unrefused, recordIn}
 use Rattle.record.proofs.AcceptedRecords.{accepted-record}
 use Rattle.record.specs.Accepted.{AcceptedRecord}
-use Rattle.record.specs.Records.{complementRecord, recoded}
+use Rattle.record.specs.Lent.{codeNumbers, heldRecord}
+use Rattle.record.specs.Records.{GraphRecord, complementRecord, recoded}
 use Rattle.words.proofs.BitLaws.{lt-of-bits, wordOf-bit}
 use Rattle.words.proofs.Places.{other-place, same-place}
 use Rattle.words.specs.Bits.{bit, wordOf}
@@ -59,11 +60,12 @@ module _ (words codes : List ℕ) (U : Unrefused (recordIn words codes)) (a : �
             ∙ ap (λ b. codeOf (new q b)) (sym (other-place d))
       ]
 
-  pub complemented : (words′ codes′ : List ℕ)
-      → codes′ ≡ tabulate (length words) (λ q. codeOf (recoded (graphIn words) a (codesOf codes) q))
-      → length words′ ≡ length words → SameGraph (graphIn words′) (complement (graphIn words) a)
-      → Rewritten words codes (λ g. complementRecord g a) words′ codes′
-  complemented words′ codes′ coded long edges =
+  -- what two calls leave, one for the codes and one for the words, is the new record
+  pub written : (f : GraphRecord → GraphRecord) → Simple (length words) ((f (heldRecord (recordIn words codes))) .graph)
+      → (words′ codes′ : List ℕ) → codes′ ≡ codeNumbers (length words) (f (heldRecord (recordIn words codes)))
+      → length words′ ≡ length words → SameGraph (graphIn words′) ((f (heldRecord (recordIn words codes))) .graph)
+      → Rewritten words codes f words′ codes′
+  written f S words′ codes′ coded long edges =
       record {
         neighbours = tabulate-is (length words) _ words′ long
             (λ j l. sym (wordOf-bit (length words) (getD words′ j 0) (below j))
@@ -72,5 +74,10 @@ module _ (words codes : List ℕ) (U : Unrefused (recordIn words codes)) (a : �
       }
     where
       below : (j : ℕ) → getD words′ j 0 < 2 ^ (length words)
-      below j = lt-of-bits (length words) (getD words′ j 0)
-          (λ q l. edges j q ∙ complement-simple (length words) (graphIn words) (A .simple) a .below j q l)
+      below j = lt-of-bits (length words) (getD words′ j 0) (λ q l. edges j q ∙ S .below j q l)
+
+  pub complemented : (words′ codes′ : List ℕ)
+      → codes′ ≡ tabulate (length words) (λ q. codeOf (recoded (graphIn words) a (codesOf codes) q))
+      → length words′ ≡ length words → SameGraph (graphIn words′) (complement (graphIn words) a)
+      → Rewritten words codes (λ g. complementRecord g a) words′ codes′
+  complemented = written (λ g. complementRecord g a) (complement-simple (length words) (graphIn words) (A .simple) a)

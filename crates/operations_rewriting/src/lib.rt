@@ -1,9 +1,11 @@
 // Complements and pivots of a record in its buffers.
 use graph::complement_words;
+use graph::pivot_words;
+use operations::compose;
 use operations::compose_fixed;
 use words::smallest;
 use words::without_smallest;
-ghost use mathlib.Core.Bool.{cond};
+ghost use mathlib.Core.Bool.{_||_, cond, true};
 ghost use mathlib.Core.Path.{_≡_};
 ghost use Prim.Native.Nat.{ℕ, _<_, _≤_, _^_};
 ghost use lib.Dec.{eqb};
@@ -54,14 +56,30 @@ pub fn complement_record(neighbours: &mut [u64], codes: &mut [u8], a: usize)
     complement_words(neighbours, a);
 }
 
-// Pivots the record on the edge j, k: complements j, k, j.
+// The codes after a pivot on j and k: 11 before theirs, and 2 before those of their other neighbours.
+fn pivot_codes(neighbours: &[u64], codes: &mut [u8], j: usize, k: usize)
+    requires { ⌜ Unrefused (recordIn (now neighbours) (now codes)) ⌝ }
+    requires { ⌜ (j < length (now neighbours)) × (k < length (now neighbours)) ⌝ }
+    ensures { λ r. ⌜ now (codes .exit) ≡ tabulate (length (now (neighbours .entry))) (λ q. codeOf
+        (cond (eqb q k || eqb q j) (then (cliffordOf 11) (codesOf (now (codes .entry)) q))
+        (cond (bit (getD (now (neighbours .entry)) j 0) q || bit (getD (now (neighbours .entry)) k 0) q)
+        (then (cliffordOf 2) (codesOf (now (codes .entry)) q)) (codesOf (now (codes .entry)) q)))) ⌝ }
+{
+    let at_j = compose(11, codes[j]);
+    let at_k = compose(11, codes[k]);
+    put_before(codes, neighbours[j] | neighbours[k], 2);
+    codes[j] = at_j;
+    codes[k] = at_k;
+}
+
+// Pivots the record on the edge j, k, which complements j, k, j.
 pub fn pivot_record(neighbours: &mut [u64], codes: &mut [u8], j: usize, k: usize)
     requires { ⌜ Unrefused (recordIn (now neighbours) (now codes)) ⌝ }
     requires { ⌜ (j < length (now neighbours)) × (k < length (now neighbours)) ⌝ }
+    requires { ⌜ bit (getD (now neighbours) j 0) k ≡ true ⌝ }
     ensures { λ r. ⌜ Rewritten (now (neighbours .entry)) (now (codes .entry)) (λ g. pivotRecord g j k)
         (now (neighbours .exit)) (now (codes .exit)) ⌝ }
 {
-    complement_record(neighbours, codes, j);
-    complement_record(neighbours, codes, k);
-    complement_record(neighbours, codes, j);
+    pivot_codes(neighbours, codes, j, k);
+    pivot_words(neighbours, j, k);
 }

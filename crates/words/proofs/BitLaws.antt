@@ -79,6 +79,12 @@ odd-or a b =
 pub bit-xor : (a b q : ℕ) → bit (bitXor a b) q ≡ bit a q ⊕ bit b q
 bit-xor = bit-op bitXor _⊕_ xor-shr odd-xor
 
+-- of two xors, from what is known of the last two words
+pub bit-xors : (w x y : ℕ) (u v : Word) → ((q : ℕ) → bit x q ≡ u q) → ((q : ℕ) → bit y q ≡ v q)
+    → (q : ℕ) → bit (bitXor w (bitXor x y)) q ≡ bit w q ⊕ (u q ⊕ v q)
+bit-xors w x y u v hx hy q =
+    bit-xor w (bitXor x y) q ∙ ap (λ b. bit w q ⊕ b) (bit-xor x y q ∙ ap₂ _⊕_ (hx q) (hy q))
+
 pub bit-and : (a b q : ℕ) → bit (bitAnd a b) q ≡ (bit a q && bit b q)
 bit-and = bit-op bitAnd _&&_ and-shr odd-and
 

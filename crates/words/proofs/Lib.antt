@@ -8,3 +8,4 @@ pub mod OnesLaws
 pub mod Places
 pub mod Trailing
 pub mod Dropping
+pub mod TopBit

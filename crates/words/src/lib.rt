@@ -1,7 +1,7 @@
-// Words of 64 bits: masks, bits read, flipped and counted, the smallest set bit.
-ghost use mathlib.Core.Bool.{_&&_};
+// Words of 64 bits: masks, bits read, flipped and counted, the smallest and the largest set bit.
+ghost use mathlib.Core.Bool.{_&&_, true};
 ghost use mathlib.Core.Path.{_≡_};
-ghost use Prim.Native.Nat.{ℕ, _-_, _<_, _≤_, _^_};
+ghost use Prim.Native.Nat.{ℕ, _+_, _-_, _<_, _≤_, _^_};
 ghost use lib.Bits.{bitXor};
 ghost use lib.Count.{ones, trailingZeros};
 ghost use lib.Dec.{eqb, leb};
@@ -68,6 +68,13 @@ pub fn put_bit(w: u64, q: usize, b: bool) -> u64
     }
 }
 
+// The word where b is true, else no bit.
+pub fn where_true(b: bool, word: u64) -> u64
+    ensures { λ r. ⌜ ((q : ℕ) → bit r q ≡ (b && bit word q)) ⌝ }
+{
+    if b { word } else { 0 }
+}
+
 // The number of ones.
 pub fn count(w: u64) -> u64
     ensures { λ r. ⌜ (r ≡ ones w) × (r ≤ 64) ⌝ }
@@ -102,4 +109,12 @@ pub fn without_smallest(w: u64) -> u64
     ensures { λ r. ⌜ r ≡ bitXor w (2 ^ trailingZeros 64 w) ⌝ }
 {
     w & (w - 1)
+}
+
+// The largest set bit of a word that is not 0.
+pub fn largest(w: u64) -> usize
+    requires { ⌜ (w ≡ 0 → ⊥) ⌝ }
+    ensures { λ r. ⌜ (bit w r ≡ true) × (w < 2 ^ (r + 1)) ⌝ }
+{
+    63 - u64::leading_zeros(w) as usize
 }

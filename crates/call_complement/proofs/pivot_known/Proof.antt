@@ -1,7 +1,8 @@
 -- `pivot_known` meets its contract: a pivot on an edge; the record is not reduced.
-use mathlib.Core.Path.{refl, _≡_}
+use mathlib.Core.Path.{refl, sym, _∙_, _≡_}
 use native.Mathlib.Omega.{arith}
 use borrow.Author.Needs.{needs}
+use borrow.Author.Tests.{not-false}
 use Rattle.buffers.specs.Refusals.{firstFitting}
 use Rattle.call_gates.proofs.InPlaceCalls.{in-place-done}
 use Rattle.call_gates.proofs.InPlaceLines.{pair-below, pair-ready, pairLines}
@@ -62,9 +63,12 @@ returns-2 c =
 
 pivot-record-requires : tie.Need-pivot-record-requires
 pivot-record-requires c κs =
-    let D = c .before .before .before .before .before in
+    let F = c .before .before in
+    let H = F .before in
+    let D = H .before .before in
     let S = D .before .before .before .before .before .before in
-    pair-ready (lent S .held) (S .args .j) (S .args .k) (paired D)
+    let ready = pair-ready (lent S .held) (S .args .j) (S .args .k) (paired D) in
+    (ready .0, (ready .1, sym (H .has .ensures) ∙ not-false _ (F .if2 .left)))
 
 returns-3 : tie.Need-returns-3
 returns-3 c =

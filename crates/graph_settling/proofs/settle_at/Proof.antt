@@ -50,7 +50,8 @@ pivot-record-requires c κs =
     let branch = at-largest .before in
     let start = branch .before .before .before .before .before .pre in
     let top = at-largest .largest .ensures in
-    (start .0 .0, (start .0 .1, larger-below _ _ (start .0 .0) _ (start .0 .1) (start .1) (branch .if1 .taken) _ (top .0) (top .1)))
+    let below = larger-below _ _ (start .0 .0) _ (start .0 .1) (start .1) (branch .if1 .taken) _ (top .0) (top .1) in
+    (start .0 .0, ((start .0 .1, below), top .0))
 
 single-requires : tie.Need-single-requires
 single-requires c κs =

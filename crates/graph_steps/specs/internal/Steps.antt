@@ -3,7 +3,7 @@ use mathlib.Core.Bool.{_&&_, Bool, cond, false, not}
 use Prim.Native.Nat.{ℕ}
 use lib.Dec.{eqb}
 use Rattle.clifford.specs.Clifford.{Clifford, XZ, ZX, bitC, then}
-use Rattle.graph.specs.Graph.{Graph}
+use Rattle.graph.specs.internal.Joined.{joinedBy}
 use Rattle.record.specs.Records.{GraphRecord}
 use Rattle.words.specs.Bits.{Word, put, _⊕_}
 
@@ -26,10 +26,6 @@ reach r a q = cond (bitC (r .codes a)) (r .graph a q) (eqb q a)
 -- and that sign
 abbrev pub reachMinus : GraphRecord → ℕ → Bool
 reachMinus r a = bitC (r .codes a) && (r .codes a) .sx
-
--- the edges between the two sets are flipped
-abbrev pub joinedBy : Graph → Word → Word → Graph
-joinedBy θ A B k l = θ k l ⊕ ((A k && B l) ⊕ (B k && A l))
 
 -- Z before the code: in both sets; in one of them where the other has the sign
 abbrev pub czTurned : GraphRecord → ℕ → ℕ → Word

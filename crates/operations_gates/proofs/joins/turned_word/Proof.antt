@@ -3,16 +3,15 @@
 use mathlib.Core.Bool.{_&&_}
 use mathlib.Core.Path.{ap, _∙_}
 use borrow.Author.Needs.{needs}
-use Rattle.words.proofs.BitLaws.{bit-and}
+use Rattle.words.proofs.BitLaws.{bit-and, bit-xors}
 use Rattle.words.specs.Bits.{bit, _⊕_}
-use Rattle.operations_gates.proofs.ReachedSets.{turned-bits}
 use Rattle.operations_gates.proofs.joins.turned_word.Statement.{statement}
 use Rattle.operations_gates.proofs.joins.turned_word.Tie as tie
 
 returns : tie.Need-returns
 returns c = λ q.
     let a = c .before .before .args in
-    turned-bits _ _ _ (λ q. a .minus-a && bit (a .to-b) q) (λ q. a .minus-b && bit (a .to-a) q)
+    bit-xors _ _ _ (λ q. a .minus-a && bit (a .to-b) q) (λ q. a .minus-b && bit (a .to-a) q)
     (c .before .where-true .ensures) (c .where-true2 .ensures) q
     ∙ ap (λ b. b ⊕ ((a .minus-a && bit (a .to-b) q) ⊕ (a .minus-b && bit (a .to-a) q)))
     (bit-and (a .to-a) (a .to-b) q)

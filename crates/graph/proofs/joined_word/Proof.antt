@@ -2,17 +2,17 @@
 use mathlib.Core.Bool.{_&&_}
 use mathlib.Core.Path.{ap₂, _∙_}
 use borrow.Author.Needs.{needs}
+use Rattle.words.proofs.BitLaws.{bit-xors}
 use Rattle.words.specs.Bits.{bit, _⊕_}
-use Rattle.operations_gates.proofs.ReachedSets.{turned-bits}
-use Rattle.operations_gates.proofs.joins.joined_word.Statement.{statement}
-use Rattle.operations_gates.proofs.joins.joined_word.Tie as tie
+use Rattle.graph.proofs.joined_word.Statement.{statement}
+use Rattle.graph.proofs.joined_word.Tie as tie
 
 returns : tie.Need-returns
 returns c = λ l.
     let at-has2 = c .before in
     let at-has = at-has2 .before .before in
     let a = at-has .before .args in
-    turned-bits (a .word) _ _ (λ l. at-has .has .result && bit (a .to-b) l)
+    bit-xors (a .word) _ _ (λ l. at-has .has .result && bit (a .to-b) l)
     (λ l. at-has2 .has2 .result && bit (a .to-a) l)
     (at-has2 .before .where-true .ensures) (c .where-true2 .ensures) l
     ∙ ap₂ (λ u v. bit (a .word) l ⊕ ((u && bit (a .to-b) l) ⊕ (v && bit (a .to-a) l))) (at-has .has .ensures)

@@ -3,9 +3,9 @@ use native.Mathlib.Omega.{arith}
 use borrow.Author.Needs.{needs}
 use Rattle.buffers.proofs.OverSets.{next-in, next-less, next-short}
 use Rattle.words.proofs.Dropping.{dropped-at}
-use Rattle.operations_gates.proofs.JoinedSets.{Joining, join-end, join-more, join-start}
-use Rattle.operations_gates.proofs.joins.join_sets.Statement.{statement}
-use Rattle.operations_gates.proofs.joins.join_sets.Tie as tie
+use Rattle.graph.proofs.JoinedSets.{Joining, join-end, join-more, join-start}
+use Rattle.graph.proofs.join_sets.Statement.{statement}
+use Rattle.graph.proofs.join_sets.Tie as tie
 
 abbrev Inv-loop : tie.InvT-loop
 Inv-loop neighbours₀ to-a to-b rest₀ neighbours rest = Joining neighbours₀ to-a to-b neighbours rest

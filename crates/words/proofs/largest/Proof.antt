@@ -1,11 +1,11 @@
 -- `largest` meets its contract: the largest set bit of a word that is not 0.
 use Prim.Native.Nat.{_<_, _^_}
 use native.Mathlib.Omega.{arith}
-use Rattle.graph_settling.proofs.TopBit.{leading-small, top-bit}
-use Rattle.graph_settling.proofs.largest.Statement.{statement}
-use Rattle.graph_settling.proofs.largest.Tie as tie
-use Rattle.graph_settling.proofs.largest.Reads as reads
-use Rattle.graph_settling.proofs.largest.Lts as lts
+use Rattle.words.proofs.TopBit.{leading-small, top-bit}
+use Rattle.words.proofs.largest.Statement.{statement}
+use Rattle.words.proofs.largest.Tie as tie
+use Rattle.words.proofs.largest.Reads as reads
+use Rattle.words.proofs.largest.Lts as lts
 
 fits : (c : lts.Start reads.Pre reads.Post) → c .args .w < 2 ^ 64
 fits c = omega (arith, c .fits .w)

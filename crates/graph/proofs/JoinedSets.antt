@@ -6,14 +6,14 @@ use Prim.Native.Nat.{_<_, _^_, ℕ, _≤_}
 use lib.Bits.{bitOr, bitXor}
 use lib.Count.{trailingZeros}
 use lib.ListN.{getD, length, set}
-use Rattle.graph.specs.internal.NeighbourWords.{SameGraph}
-use Rattle.graph.specs.NeighbourWords.{graphIn}
 use Rattle.buffers.proofs.OverSets.{Over, next-named, over-end, over-start, over-step}
-use Rattle.graph_steps.specs.internal.Steps.{joinedBy}
 use Rattle.words.proofs.BitLaws.{bit-above, bit-or, lt-of-bits}
 use Rattle.words.proofs.Finite.{⊕-zero}
 use Rattle.words.proofs.Flags.{neither}
 use Rattle.words.specs.Bits.{bit, _⊕_}
+use Rattle.graph.specs.internal.Joined.{joinedBy}
+use Rattle.graph.specs.internal.NeighbourWords.{SameGraph}
+use Rattle.graph.specs.NeighbourWords.{graphIn}
 
 abbrev pub JoinedAt : List ℕ → ℕ → ℕ → ℕ → ℕ → Type 0
 JoinedAt old a b i v = (l : ℕ) → bit v l ≡ joinedBy (graphIn old) (bit a) (bit b) i l
