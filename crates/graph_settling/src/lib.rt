@@ -15,7 +15,7 @@ ghost use lib.ListN.{length};
 ghost use Rattle.graph_steps.specs.internal.KeptGroups.{Nearer, Normalised, unsettled};
 ghost use Rattle.graph_steps.specs.internal.Steps.{signMoved};
 ghost use Rattle.operations.specs.internal.InPlace.{Rewritten, Unrefused, recordIn};
-ghost use Rattle.words.specs.Bits.{bit, isOdd};
+ghost use Rattle.words.specs.Bits.{isOdd};
 ghost use Rattle.words.specs.Search.{first};
 ghost use Rattle.graph_settling.specs.internal.Watching.{Advanced, Elsewhere, Watched};
 
