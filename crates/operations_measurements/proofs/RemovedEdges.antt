@@ -1,53 +1,71 @@
--- The edges at a vertex removed: those between it and its neighbours are flipped.
-use mathlib.Core.Bool.{_&&_, Bool, false, not, true}
+-- The edges at a vertex removed: a loop in which each neighbour loses the vertex, and then its own word is 0.
+use mathlib.Core.Bool.{_&&_, Bool, and-false, and-true, false, not, true}
 use mathlib.Core.List.{List}
-use mathlib.Core.Path.{ap, ap₂, refl, sym, _∙_, _≡_}
-use Prim.Native.Nat.{_<_, _^_, ℕ}
+use mathlib.Core.Path.{ap, ap₂, refl, subst, sym, _∙_, _≡_}
+use Prim.Native.Nat.{_<_, _^_, ℕ, _≤_}
+use native.Mathlib.Decide.{ℕ-discrete}
+use lib.Bits.{bitXor}
+use lib.Count.{trailingZeros}
 use lib.Dec.{eqb}
-use lib.ListN.{getD, length}
-use borrow.Author.Tests.{eqb-true}
+use lib.ListN.{getD, length, set}
+use lib.Seq.{getD-set-other, getD-set-same}
+use Rattle.buffers.proofs.OverSets.{Over, next-named, over-end, over-start, over-step}
 use Rattle.graph.specs.Graph.{Graph, Simple}
-use Rattle.graph.specs.internal.Joined.{joinedBy}
 use Rattle.graph.specs.internal.NeighbourWords.{SameGraph}
 use Rattle.graph.specs.NeighbourWords.{graphIn}
-use Rattle.words.proofs.BitLaws.{bit-single, lt-of-bits}
-use Rattle.words.proofs.Finite.{bits}
+use Rattle.words.proofs.BitLaws.{bit-flip, lt-of-bits, zero-bit}
+use Rattle.words.proofs.Finite.{⊕-zero}
+use Rattle.words.proofs.Places.{other-place, same-place}
 use Rattle.words.specs.Bits.{bit, _⊕_}
 
 abbrev pub partedFrom : Graph → ℕ → Graph
 partedFrom θ q k l = θ k l && (not (eqb k q) && not (eqb l q))
 
--- x is the edge k l, b and c the edges of q to l and to k
-one-edge : (at-k at-l x b c : Bool) → (at-k ≡ true → b ≡ x) → (at-l ≡ true → c ≡ x)
-    → (at-k ≡ true → at-l ≡ true → x ≡ false)
-    → x ⊕ ((at-k && b) ⊕ (c && at-l)) ≡ (x && (not at-k && not at-l))
-one-edge false false x b c hb hc h =
-    bits 3 (λ x b c. x ⊕ ((false && b) ⊕ (c && false))) (λ x b c. x && (not false && not false)) tt x b c
-one-edge true false x b c hb hc h =
-    ap (λ v. x ⊕ ((true && v) ⊕ (c && false))) (hb refl)
-    ∙ bits 2 (λ x c. x ⊕ ((true && x) ⊕ (c && false))) (λ x c. x && (not true && not false)) tt x c
-one-edge false true x b c hb hc h =
-    ap (λ v. x ⊕ ((false && b) ⊕ (v && true))) (hc refl)
-    ∙ bits 2 (λ x b. x ⊕ ((false && b) ⊕ (x && true))) (λ x b. x && (not false && not true)) tt x b
-one-edge true true x b c hb hc h =
-    ap₂ (λ v w. x ⊕ ((true && v) ⊕ (w && true))) (hb refl ∙ h refl refl) (hc refl ∙ h refl refl)
-    ∙ ap (λ v. v ⊕ ((true && false) ⊕ (false && true))) (h refl refl)
-    ∙ sym (ap (λ v. v && (not true && not true)) (h refl refl))
+-- the word of i without q
+abbrev pub LeftAt : List ℕ → ℕ → ℕ → ℕ → Type 0
+LeftAt old q i v = (l : ℕ) → bit v l ≡ (graphIn old i l && not (eqb l q))
+
+-- the neighbours of q in `rest` are still to come
+abbrev pub Leaving : List ℕ → ℕ → List ℕ → ℕ → Type 0
+Leaving old q new rest = Over (LeftAt old q) (getD old q 0) old new rest
 
 module _ (old : List ℕ) (q : ℕ) (S : Simple (length old) (graphIn old)) where
   abbrev θ : Graph
   θ = graphIn old
 
-  pub around-below : getD old q 0 < 2 ^ length old
-  around-below = lt-of-bits (length old) (getD old q 0) (S .below q)
-
-  pub edges-removed : (own : ℕ) → own ≡ 2 ^ q
-      → SameGraph (joinedBy (graphIn old) (bit own) (bit (getD old q 0))) (partedFrom (graphIn old) q)
-  edges-removed own e k l =
-      ap₂ (λ a b. θ k l ⊕ ((a && θ q l) ⊕ (θ q k && b))) (at k) (at l)
-      ∙ one-edge (eqb k q) (eqb l q) (θ k l) (θ q l) (θ q k) (λ d. ap (λ m. θ m l) (sym (eqb-true k q d)))
-      (λ d. S .symmetric q k ∙ ap (θ k) (sym (eqb-true l q d)))
-      (λ d f. ap₂ θ (eqb-true k q d) (eqb-true l q f) ∙ S .loopless q)
+  -- where i is joined to q or not, as b says, a flip at q where it is takes q away
+  without : (i : ℕ) (b : Bool) → θ q i ≡ b → (l : ℕ) → θ i l ⊕ (b && eqb l q) ≡ (θ i l && not (eqb l q))
+  without i b e l = elim (ℕ-discrete l q) [
+    | yes d ↦ subst (λ m. θ i m ⊕ (b && eqb m q) ≡ (θ i m && not (eqb m q))) (sym d)
+        (ap₂ (λ u v. u ⊕ (b && v)) (S .symmetric i q ∙ e) (same-place q) ∙ gone b
+        ∙ sym (ap (λ v. θ i q && not v) (same-place q) ∙ and-false (θ i q)))
+    | no d ↦ ap (λ v. θ i l ⊕ (b && v)) (other-place d) ∙ ap (λ v. θ i l ⊕ v) (and-false b) ∙ ⊕-zero (θ i l)
+        ∙ sym (ap (λ v. θ i l && not v) (other-place d) ∙ and-true (θ i l))
+  ]
     where
-      at : (i : ℕ) → bit own i ≡ eqb i q
-      at i = ap (λ w. bit w i) e ∙ bit-single q i
+      gone : (b : Bool) → b ⊕ (b && true) ≡ false
+      gone false = refl
+      gone true = refl
+
+  pub leave-start : Leaving old q old (getD old q 0)
+  leave-start = over-start (LeftAt old q) old (getD old q 0) (lt-of-bits (length old) (getD old q 0) (S .below q))
+      (λ i e l. sym (⊕-zero (θ i l)) ∙ without i false e l)
+
+  module _ (new : List ℕ) (rest : ℕ) (L : Leaving old q new rest) where
+    pub leave-more : length old ≤ 64 → (rest ≡ 0 → ⊥) → (i : ℕ) → i ≡ trailingZeros 64 rest → (own rest′ : ℕ)
+        → own ≡ 2 ^ q → rest′ ≡ bitXor rest (2 ^ i) → Leaving old q (set new i (bitXor (getD new i 0) own)) rest′
+    leave-more s z i e own rest′ h f =
+        let named = next-named (LeftAt old q) (getD old q 0) old new rest L s z i e in
+        over-step (LeftAt old q) (getD old q 0) old new rest L s z i e (bitXor (getD new i 0) own) rest′
+        (λ l. ap₂ (λ u v. bit (bitXor u v) l) (L .left i named) h ∙ bit-flip (getD old i 0) q l
+        ∙ without i true (L .named i named) l) f
+
+    pub leave-end : rest ≡ 0 → q < length old → SameGraph (graphIn (set new q 0)) (partedFrom (graphIn old) q)
+    leave-end e hq k l = elim (ℕ-discrete k q) [
+      | yes d ↦ subst (λ m. bit (getD (set new q 0) m 0) l ≡ partedFrom θ q m l) (sym d)
+          (ap (λ w. bit w l) (getD-set-same new q 0 0 (subst (λ m. q < m) (sym (L .long)) hq)) ∙ zero-bit l
+          ∙ sym (ap (λ b. θ q l && (not b && not (eqb l q))) (same-place q) ∙ and-false (θ q l)))
+      | no d ↦ ap (λ w. bit w l) (getD-set-other new q k 0 0 d)
+          ∙ over-end (LeftAt old q) (getD old q 0) old new rest L e k l
+          ∙ ap (λ b. θ k l && (not b && not (eqb l q))) (sym (other-place d))
+    ]

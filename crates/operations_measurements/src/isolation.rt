@@ -1,7 +1,6 @@
 // A vertex made ready for a measurement, and isolated by it, in the buffers of a record.
 use buffers::sign_digit;
 use clifford::Code;
-use graph::join_sets;
 use operations::compose;
 use operations_rewriting::complement_record;
 use operations_rewriting::pivot_record;
@@ -11,7 +10,9 @@ use pauli::x_bit;
 use pauli::z_bit;
 use words::largest;
 use words::single;
+use words::smallest;
 use words::where_true;
+use words::without_smallest;
 ghost use mathlib.Core.Bool.{_&&_, not, true};
 ghost use mathlib.Core.Logic.{_↔_};
 ghost use mathlib.Core.Path.{_≡_};
@@ -59,16 +60,21 @@ pub fn bring_to_z(neighbours: &mut [u64], codes: &mut [u8], q: usize, l: Letter)
     complement_record(neighbours, codes, q);
 }
 
-// The edges at q removed: those between q and its neighbours are flipped.
+// The edges at q removed: each neighbour loses q, and q all of them.
 fn remove_edges(neighbours: &mut [u64], q: usize)
     requires { ⌜ (length (now neighbours) ≤ 64) × (q < length (now neighbours)) ⌝ }
     requires { ⌜ Simple (length (now neighbours)) (graphIn (now neighbours)) ⌝ }
     ensures { λ r. ⌜ SameGraph (graphIn (now (neighbours .exit)))
         (λ k l. graphIn (now (neighbours .entry)) k l && (not (eqb k q) && not (eqb l q))) ⌝ }
 {
-    let around = neighbours[q];
     let own = single(q);
-    join_sets(neighbours, own, around);
+    let mut rest = neighbours[q];
+    while rest != 0 {
+        let i = smallest(rest);
+        neighbours[i] = neighbours[i] ^ own;
+        rest = without_smallest(rest);
+    }
+    neighbours[q] = 0;
 }
 
 // The code with a Hadamard before it, and a sign t for the image of X.
