@@ -175,6 +175,32 @@ class States(unittest.TestCase):
                 self.assertEqual(found.numbers, sorted(reached))
                 self.assertEqual([number_of(n, graph) for graph in found.graphs()], found.numbers)
 
+    def test_the_number_of_a_graph_is_that_of_its_set_of_edges(self):
+        self.assertEqual(number_of(3, [(0, 1), (1, 0), (2, 0)]), number_of(3, [(0, 2), (0, 1)]))
+        for edges, number in (([(0, 3)], 5), ([(0, -1)], 5), ([(1, 1)], 7)):
+            with self.assertRaises(Refusal) as refused:
+                number_of(3, edges)
+            self.assertEqual(refused.exception.number, number)
+
+    def test_a_number_that_is_no_code_has_no_images(self):
+        for number in (-1, 24):
+            with self.assertRaises(Refusal) as refused:
+                images(number)
+            self.assertEqual(refused.exception.number, 6)
+
+    def test_numbers_of_another_type_are_taken_where_they_are_integers(self):
+        class Three:
+            def __index__(self):
+                return 3
+
+        state = State([0] * 4, [Three()] + [8] * 3)
+        state.gate(Three(), Three())
+        self.assertEqual(state.measure(Three(), Three(), 1).outcome, 1)
+        for call in (lambda: state.h(0.0), lambda: state.h("0"), lambda: state.gate(0, 8.0), lambda: state.measure("X", 0, 1.0)):
+            with self.assertRaises(TypeError) as wrong:
+                call()
+            self.assertIn("cannot be interpreted as an integer", str(wrong.exception))
+
     def test_a_drawing_has_a_line_for_each_edge(self):
         state = State.graph(5, [(q, (q + 1) % 5) for q in range(5)])
         self.assertEqual(state.svg().count("<line"), 5)
