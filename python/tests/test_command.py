@@ -58,7 +58,7 @@ class Command(unittest.TestCase):
 
     def file(self, name, text):
         path = self.folder / name
-        path.write_text(text, newline="")
+        path.write_bytes(text.encode())
         return str(path)
 
     def test_files_and_standard_input_give_what_the_program_prints(self):
