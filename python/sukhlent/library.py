@@ -62,10 +62,10 @@ def tree() -> Path:
 
 
 def _candidates() -> list[Path]:
-    """Where the library may stand: named by the environment, in an install tree, in a clone."""
+    """Where the library may stand: where the environment names one, there alone; else in an install tree or a clone."""
     named = os.environ.get("SUKHLENT_LIBRARY")
     places = [tree() / "lib" / _NAME, tree() / "target" / "shared" / _NAME]
-    return [Path(named), *places] if named else places
+    return [Path(named)] if named else places
 
 
 def _load() -> ctypes.CDLL:

@@ -175,6 +175,9 @@ class Command(unittest.TestCase):
         with mock.patch.object(library, "_candidates", lambda: [self.folder / "none.so"]):
             with self.assertRaisesRegex(ImportError, "Build it with tools/shared .*\n.*none.so"):
                 library._load()
+        with mock.patch.dict(os.environ, {"SUKHLENT_LIBRARY": str(self.folder / "named.so")}):
+            with self.assertRaisesRegex(ImportError, "named.so$"):
+                library._load()
         with mock.patch.dict(library._CALLS, {"unheard_of": ()}):
             with self.assertRaisesRegex(ImportError, "has no sukhlent_unheard_of: it is of another version"):
                 library._load()
