@@ -362,11 +362,10 @@ class State:
         >>> state.generators().strings()
         ['+XX', '+ZZ']
         """
-        trial = self.copy()
-        trial.h(target)
-        trial.cz(control, target)
-        trial.h(target)
-        self._neighbours, self._codes = trial._neighbours, trial._codes
+        self.copy().cz(control, target)  # names both qubits: where it is accepted, so is what follows
+        self.h(target)
+        self.cz(control, target)
+        self.h(target)
 
     def measure(
         self, pauli: str | int, qubit: int, outcome: int | None = None, source: random.Random | None = None
