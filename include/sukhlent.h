@@ -145,7 +145,7 @@ static inline const char *sukhlent_refusal_text(uint8_t number)
     case SUKHLENT_ACCEPTED: return "accepted";
     case SUKHLENT_FORM: return "the text does not have its form";
     case SUKHLENT_STEPS: return "a job or a run has more than 4,096 steps";
-    case SUKHLENT_COUNT: return "n is 0 or above the call's limit, or the two lists' n differ, or a group's call has another n than 64";
+    case SUKHLENT_COUNT: return "n is 0 or above the call's limit, or the two lists' or records' n differ, or a group's call has another n than 64";
     case SUKHLENT_LENGTH: return "a buffer's length is not what is required";
     case SUKHLENT_STRAY: return "a word has a bit at or above n";
     case SUKHLENT_VALUE: return "a sign, outcome or group is above 1, a code above 23, a Pauli not 1 to 3, a seed 0, a run's operation above 4, or a field that a step does not use is not 0";
@@ -323,7 +323,8 @@ uint8_t sukhlent_product(uint64_t n,
 
 /* Compares the groups of two generator lists whose reduced graphs have no connected part of more
  * than 20 vertices: writes the least choice of one code per qubit that carries the first group
- * onto the second, and the vertices at which the first reduced graph is complemented, in order, to
+ * onto the second (least by the classes of qubits 0, 1 and so on, then by 2 * sx + sz in the same
+ * order; qubit q goes to qubit q, none is exchanged with another), and the vertices at which the first reduced graph is complemented, in order, to
  * become the second. `choice` has n places, `list` 96; those from *count on keep their values.
  * Refusals: 2, 4, 5, 6, 9, 10, 3, 13. */
 uint8_t sukhlent_compare(uint64_t n1,
@@ -339,7 +340,8 @@ uint8_t sukhlent_compare(uint64_t n1,
                          uint64_t *count);
 
 /* Compares the groups of two records as `sukhlent_compare` compares the groups of their
- * expansions, with the same answer. Refusals: 2, 4, 5, 6, 7, 3, 13. */
+ * expansions, with the same answer. It takes no words of used qubits.
+ * Refusals: 2, 4, 5, 6, 7, 3, 13. */
 uint8_t sukhlent_compare_records(uint64_t n1,
                                  const uint64_t *neighbours1, size_t neighbours1_len,
                                  const uint8_t *codes1, size_t codes1_len,

@@ -6,6 +6,10 @@ negative. Names are those that Stim uses.
 
 from __future__ import annotations
 
+import operator
+
+from .refusals import Refusal
+
 #: NAMES[code]: its name
 NAMES: tuple[str, ...] = (
     "I", "X", "Z", "Y",
@@ -26,13 +30,14 @@ _LETTERS = (("X", "Z"), ("Y", "Z"), ("Z", "X"), ("X", "Y"), ("Y", "X"), ("Z", "Y
 
 
 def code(gate: int | str) -> int:
-    """The code of a gate given by its name, by its short form in drawings, or by its number.
+    """The code of a gate given by its name, by its short form in drawings, or by its number. A number is passed on as it
+    is: the call that gets one above 23 refuses it by 6.
 
     >>> code("H"), code("sqrt_x"), code("S†"), code(4)
     (8, 13, 6, 4)
     """
-    if isinstance(gate, int):
-        return gate
+    if not isinstance(gate, str):
+        return operator.index(gate)
     for known in (NAMES, SYMBOLS):
         if gate.upper() in known and gate:
             return known.index(gate.upper())
@@ -40,10 +45,12 @@ def code(gate: int | str) -> int:
 
 
 def images(number: int) -> tuple[str, str]:
-    """Where a code sends X and Z.
+    """Where a code sends X and Z; refused by 6 where the number is none of 0 to 23.
 
     >>> images(8), images(6)
     (('+Z', '+X'), ('-Y', '+Z'))
     """
+    if not 0 <= number < len(NAMES):
+        raise Refusal(6)
     x, z = _LETTERS[number // 4]
     return "+-"[number >> 1 & 1] + x, "+-"[number & 1] + z

@@ -3,6 +3,7 @@
 from __future__ import annotations
 
 import argparse
+import os
 import re
 import sys
 from pathlib import Path
@@ -71,7 +72,10 @@ def _draw(file: str, layout: str, out: str) -> int:
     if out == "-":
         sys.stdout.write(drawing)
     else:
-        Path(out).write_text(drawing, encoding="utf-8")
+        try:
+            Path(out).write_text(drawing, encoding="utf-8")
+        except OSError as error:
+            raise Trouble(f"{out}: {error.strerror}") from None
     return 0
 
 
@@ -133,23 +137,33 @@ def parser() -> argparse.ArgumentParser:
     return top
 
 
+def _done(given: argparse.Namespace) -> int:
+    """Does what the arguments ask for."""
+    if given.command in PROGRAMS:
+        return _run(given.command, given.file, _bars if getattr(given, "svg", False) else str)
+    if given.command == "draw":
+        return _draw(given.file, given.layout, given.out)
+    if given.command == "expectation":
+        return _expectation(given.file, given.rows)
+    return _compare(given.file, given.second)
+
+
 def main(arguments: list[str] | None = None) -> int:
     """Runs the command, and answers its exit status."""
     given = parser().parse_args(arguments)
     try:
-        if given.command in PROGRAMS:
-            return _run(given.command, given.file, _bars if getattr(given, "svg", False) else str)
-        if given.command == "draw":
-            return _draw(given.file, given.layout, given.out)
-        if given.command == "expectation":
-            return _expectation(given.file, given.rows)
-        return _compare(given.file, given.second)
+        status = _done(given)
+        sys.stdout.flush()
+        return status
     except Refusal as refusal:
         print(f"sukhlent: refused {refusal.number}: {refusal.where or TEXTS[refusal.number]}", file=sys.stderr)
         return 1
     except Trouble as trouble:
         print(f"sukhlent: {trouble}", file=sys.stderr)
         return 2
+    except BrokenPipeError:  # nobody reads on, as in `sukhlent job FILE | head`
+        os.dup2(os.open(os.devnull, os.O_WRONLY), sys.stdout.fileno())
+        return 0
 
 
 if __name__ == "__main__":

@@ -8,7 +8,7 @@ import re
 #: a piece of a line: a pattern and what it is called
 Piece = tuple[str, str]
 
-#: the operations of a job
+#: the operations of a job, in the order of their numbers
 OPS = ("gate", "cz", "measure", "complement", "pivot")
 
 _SPACE: Piece = (" ", "one space")
@@ -18,7 +18,7 @@ _OP: Piece = ("|".join(OPS), f"{', '.join(OPS[:-1])} or {OPS[-1]}")
 
 _GENERATOR: list[Piece] = [("[0-9]", "a sign digit"), _SPACE, _HEX, _SPACE, _HEX]
 _STEP: list[Piece] = [_OP, _SPACE, _FIELD, _SPACE, _FIELD, _SPACE, _FIELD]
-_STRING: list[Piece] = [("[+-]", "+ or -"), ("[IXYZ]+", "letters I, X, Y or Z")]
+_STRING: list[Piece] = [("[+-]", "+ or -"), ("[IXYZ]+", "letters I, X, Y or Z"), (r"\Z", "a letter I, X, Y or Z")]
 
 
 def _literal(text: str) -> list[Piece]:
@@ -97,6 +97,8 @@ def string_fault(text: str) -> str | None:
     'line 2 has 3 letters: expected 2, as many as lines'
     >>> string_fault("+XX\\n ZZ\\n")
     'line 2, column 1: expected + or -'
+    >>> string_fault("+X_\\n+_Z\\n")
+    'line 1, column 3: expected a letter I, X, Y or Z'
     """
     said = _fault(text, [], lambda _: _STRING)
     if said is None:

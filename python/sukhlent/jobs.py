@@ -6,13 +6,9 @@ from dataclasses import dataclass
 from typing import Iterable
 
 from . import library
-from .forms import job_fault
+from .forms import OPS, job_fault
 from .refusals import Refusal, accept
 from .state import State
-
-
-#: the operations in the order of their numbers
-_OPS = ("gate", "cz", "measure", "complement", "pivot")
 
 
 @dataclass(frozen=True)
@@ -102,23 +98,31 @@ Result(refusal=16, outcome=0, determined=0)]
 
 
 def run_steps(state: State, steps: Iterable[Step]) -> list[Result]:
-    """At most 4,096 steps of a job, in place, in one call.
+    """At most 4,096 steps of a job, in place, in one call. Refused as a whole by 1 where an op is unknown, as a text is.
 
     >>> state = State.zeros(2)
     >>> run_steps(state, [Step("gate", 0, 0, 8), Step("cz", 0, 0, 0)])
     [Result(refusal=0, outcome=0, determined=0), Result(refusal=8, outcome=0, determined=0)]
     """
-    numbers = [(_OPS.index(step.op), step.a, step.b, step.value) for step in steps]
+    numbers = [(_op_number(step.op), step.a, step.b, step.value) for step in steps]
     return [Result(*answer) for answer in state.run(numbers)]
 
 
+def _op_number(op: str) -> int:
+    """The number of an operation; refused by 1 where it has none."""
+    if op not in OPS:
+        raise Refusal(1, f"no operation is called {op!r}: expected {', '.join(OPS[:-1])} or {OPS[-1]}")
+    return OPS.index(op)
+
+
 def run_step(state: State, step: Step) -> Result:
-    """One step of a job, in place.
+    """One step of a job, in place. Raises `Refusal` 1 where its op is unknown.
 
     >>> state = State.zeros(2)
     >>> run_step(state, Step("cz", 0, 0, 0))
     Result(refusal=8, outcome=0, determined=0)
     """
+    _op_number(step.op)
     unused = {"gate": step.b, "cz": step.value, "measure": step.b, "complement": step.b | step.value, "pivot": step.value}
     if unused[step.op] != 0:
         return Result(6, 0, 0)

@@ -3,6 +3,7 @@
 from __future__ import annotations
 
 import ctypes
+import operator
 import os
 from ctypes import POINTER, c_double, c_size_t, c_uint8, c_uint16, c_uint32, c_uint64
 from pathlib import Path
@@ -61,10 +62,10 @@ def tree() -> Path:
 
 
 def _candidates() -> list[Path]:
-    """Where the library may stand: named by the environment, in an install tree, in a clone."""
+    """Where the library may stand: where the environment names one, there alone; else in an install tree or a clone."""
     named = os.environ.get("SUKHLENT_LIBRARY")
     places = [tree() / "lib" / _NAME, tree() / "target" / "shared" / _NAME]
-    return [Path(named), *places] if named else places
+    return [Path(named)] if named else places
 
 
 def _load() -> ctypes.CDLL:
@@ -157,8 +158,9 @@ def call(name: str, *arguments: Argument) -> int:
 
 
 def _fitting(value: int, kind: type) -> int:
-    """A number as C gets it. One that no byte holds becomes 255, or of 16 bits 65,535, which every call refuses as it would
-    the number."""
+    """A number as C gets it, of any type that stands for an integer. One that no byte holds becomes 255, or of 16 bits
+    65,535, which every call refuses as it would the number."""
+    value = operator.index(value)
     if kind is c_uint8:
         return value if 0 <= value <= 255 else 255
     if kind is c_uint16:
@@ -170,6 +172,7 @@ def _fitting(value: int, kind: type) -> int:
 
 def place(number: int) -> int:
     """A qubit number as C gets it: one that no word holds becomes one that every call refuses likewise."""
+    number = operator.index(number)
     return number if 0 <= number < 1 << 64 else (1 << 64) - 1
 
 

@@ -61,6 +61,19 @@ class GeneratorList:
         sukhlent.refusals.Refusal: refused 9: two generators do not commute
         """
         text = lines[0] if len(lines) == 1 and "\n" in lines[0] else "".join(line + "\n" for line in lines)
+        return cls.from_text(text)
+
+    @classmethod
+    def from_text(cls, text: str) -> GeneratorList:
+        """The list of a text of such strings, each ended by a newline, the last one too.
+
+        >>> GeneratorList.from_text("+XX\\n-ZZ\\n").strings()
+        ['+XX', '-ZZ']
+        >>> GeneratorList.from_text("+X")
+        Traceback (most recent call last):
+        ...
+        sukhlent.refusals.Refusal: refused 1: line 1, column 3: expected a newline, which ends the last line too
+        """
         octets = library.octets(text.encode("utf-8", "surrogateescape"))
         n = text.count("\n")
         signs, z, x = library.octets([0] * n), library.words([0] * n), library.words([0] * n)
@@ -110,7 +123,7 @@ class GeneratorList:
     def product(self, *rows: int) -> tuple[int, str]:
         """The product of these rows in index order: the power of i in front of it, and its letters.
 
-        The rows of the list need neither commute nor be independent.
+        The rows of the list need neither commute nor be independent; a row that is named twice is taken once.
 
         >>> GeneratorList((0, 0), (0, 1), (1, 1)).product(0, 1)
         (1, 'ZI')

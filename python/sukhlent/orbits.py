@@ -7,18 +7,22 @@ from dataclasses import dataclass
 from typing import Iterable, Iterator
 
 from . import library
-from .refusals import accept
+from .refusals import Refusal, accept
 from .state import neighbour_words
 
 
 def number_of(n: int, edges: Iterable[tuple[int, int]]) -> int:
-    """A graph's number: its pairs 0-1, 0-2, .., 1-2, .. read as bits, the first lowest.
+    """A graph's number: its pairs 0-1, 0-2, .., 1-2, .. read as bits, the first lowest. An edge that is named twice is one
+    edge; refused by 5 where an edge leaves the n vertices, by 7 where it joins one to itself.
 
-    >>> number_of(4, [(0, 3)])
-    4
+    >>> number_of(4, [(0, 3)]), number_of(4, [(0, 3), (3, 0)])
+    (4, 4)
     """
+    words = neighbour_words(n, edges)
+    if any(word >> a & 1 for a, word in enumerate(words)):
+        raise Refusal(7)
     pairs = [(a, b) for a in range(n) for b in range(a + 1, n)]
-    return sum(1 << pairs.index((min(a, b), max(a, b))) for a, b in edges)
+    return sum((words[a] >> b & 1) << place for place, (a, b) in enumerate(pairs))
 
 
 def edges_of(n: int, number: int) -> list[tuple[int, int]]:
@@ -52,7 +56,7 @@ class Orbit:
 
 
 def orbit(n: int, edges: Iterable[tuple[int, int]]) -> Orbit:
-    """All graphs that complementations reach from this one, itself among them.
+    """All graphs that complementations reach from this one, itself among them; refused by 2 where n is not 1 to 6.
 
     >>> path = orbit(3, [(0, 1), (1, 2)])
     >>> path.numbers

@@ -27,8 +27,8 @@ def read_table(text: str) -> list[PlotLine]:
     ...     "1 0000000000000000 bff0000000000000 3fe0000000000000\\n")
     [PlotLine(re=1.0, im=0.0, p=0.5), PlotLine(re=0.0, im=-1.0, p=0.5)]
     """
-    names, *lines = text.splitlines()
-    if names != NAMES:
+    lines = text.splitlines()
+    if not lines or lines.pop(0) != NAMES:
         raise ValueError(f"the first line is not '{NAMES}'")
     found = []
     for y, line in enumerate(lines):

@@ -6,7 +6,7 @@ from __future__ import annotations
 TEXTS: dict[int, str] = {
     1: "the text does not have its form",
     15: "a job or a run has more than 4,096 steps",
-    2: "n is 0 or above the call's limit, or the two lists' n differ, or a group's call has another n than 64",
+    2: "n is 0 or above the call's limit, or the two lists' or records' n differ, or a group's call has another n than 64",
     4: "a buffer's length is not what is required",
     5: "a word has a bit at or above n",
     6: "a sign, outcome or group is above 1, a code above 23, a Pauli not 1 to 3, a seed 0, a run's operation above 4,"
@@ -27,26 +27,35 @@ TEXTS: dict[int, str] = {
     13: "no choice of local Cliffords carries one group to the other",
 }
 
+#: number: its name, which is that of the header without SUKHLENT_
+_NAMES: dict[int, str] = {
+    1: "FORM", 15: "STEPS", 2: "COUNT", 4: "LENGTH", 5: "STRAY", 6: "VALUE", 7: "GRAPH", 19: "OTHER_GROUP",
+    8: "QUBIT", 16: "USED", 17: "NOT_HELD", 18: "FULL", 9: "ANTICOMMUTE", 10: "DEPENDENT", 3: "LARGE",
+    14: "CONTRADICTED", 11: "IMAGE_C", 12: "IMAGE_Y", 13: "INEQUIVALENT",
+}  # fmt: skip
+
 
 class Refusal(ValueError):
-    """A refused call: `number` of the published list, and its `text`.
+    """A refused call: `number` of the published list, its `name` there and its `text`. Which numbers a call can answer
+    stands under its name in include/sukhlent.h, in checking order.
 
     >>> from sukhlent import State
     >>> State.zeros(65)
     Traceback (most recent call last):
     ...
-    sukhlent.refusals.Refusal: refused 2: n is 0 or above the call's limit, or the two lists' n differ, or a group's call has another n than 64
+    sukhlent.refusals.Refusal: refused 2: n is 0 or above the call's limit, or the two lists' or records' n differ, or a group's call has another n than 64
     >>> try:
     ...     State.zeros(2).measure("Z", 0, 1)
     ... except Refusal as refusal:
-    ...     print(refusal.number, refusal.text)
-    14 a determined outcome contradicts the supplied bit
+    ...     print(refusal.number, refusal.name, refusal.text, sep=", ")
+    14, CONTRADICTED, a determined outcome contradicts the supplied bit
 
     `where` says where a text leaves its form, for refusal 1 of a text that this package reads itself.
     """
 
     def __init__(self, number: int, where: str = ""):
         self.number = number
+        self.name = _NAMES.get(number, "UNKNOWN")
         self.text = TEXTS.get(number, "unknown refusal")
         self.where = where
         super().__init__(f"refused {number}: {where or self.text}")

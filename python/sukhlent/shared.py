@@ -197,7 +197,7 @@ class Group:
         accept(library.call("group_cz", *self._record(), used, library.place(a), library.place(b)))
 
     def measure(
-        self, pauli: str, qubit: int, outcome: int | None = None, source: random.Random | None = None
+        self, pauli: str | int, qubit: int, outcome: int | None = None, source: random.Random | None = None
     ) -> Measured:
         """Measures X, Y or Z at a qubit of the group, as `State.measure` does.
 

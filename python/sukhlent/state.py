@@ -4,7 +4,7 @@ from __future__ import annotations
 
 import random
 from pathlib import Path
-from typing import Callable, Iterable, Sequence
+from typing import Callable, Iterable
 
 from . import library
 from .answers import Equivalence, Image, Measured, PlotLine
@@ -33,13 +33,13 @@ def neighbour_words(n: int, edges: Iterable[tuple[int, int]]) -> list[int]:
     return neighbours
 
 
-def pauli_number(letter: str) -> int:
-    """The number of a Pauli; 0, which every call refuses, of anything else.
+def pauli_number(pauli: str | int) -> int:
+    """The number of a Pauli by its letter, or the number itself; 0, which every call refuses, of another letter.
 
-    >>> [pauli_number(letter) for letter in "XYZI"]
+    >>> [pauli_number(pauli) for pauli in ("X", "y", 3, "I")]
     [1, 2, 3, 0]
     """
-    return _PAULIS.get(letter.upper(), 0)
+    return _PAULIS.get(pauli.upper(), 0) if isinstance(pauli, str) else pauli
 
 
 def measured_by_lot(measure: Callable[[int], Measured], source: random.Random | None = None) -> Measured:
@@ -362,16 +362,15 @@ class State:
         >>> state.generators().strings()
         ['+XX', '+ZZ']
         """
-        trial = self.copy()
-        trial.h(target)
-        trial.cz(control, target)
-        trial.h(target)
-        self._neighbours, self._codes = trial._neighbours, trial._codes
+        self.copy().cz(control, target)  # names both qubits: where it is accepted, so is what follows
+        self.h(target)
+        self.cz(control, target)
+        self.h(target)
 
     def measure(
-        self, pauli: str, qubit: int, outcome: int | None = None, source: random.Random | None = None
+        self, pauli: str | int, qubit: int, outcome: int | None = None, source: random.Random | None = None
     ) -> Measured:
-        """Measures X, Y or Z. A given outcome that the state forbids is refused by 14; without one the outcome is
+        """Measures X, Y or Z, by letter or as 1, 2 or 3. A given outcome that the state forbids is refused by 14; without one the outcome is
         the state's, or a fair bit drawn from `source`. The qubit is used afterwards.
 
         >>> state = State.from_strings("+XX", "-ZZ")
@@ -405,7 +404,7 @@ class State:
         vertex = library.place(vertex)
         accept(library.call("complement", self.n, self._neighbours, self._codes, self._used, vertex))
 
-    def run(self, steps: Sequence[tuple[int, int, int, int]]) -> list[tuple[int, int, int]]:
+    def run(self, steps: Iterable[tuple[int, int, int, int]]) -> list[tuple[int, int, int]]:
         """Runs at most 4,096 steps in one call: each is an operation (0 gate, 1 cz, 2 measure, 3 complement, 4 pivot), two
         qubits and a value, as in a job. Answers refusal, outcome and determined of each; a refused step changes nothing.
 
@@ -415,9 +414,10 @@ class State:
         >>> state.used
         1
         """
-        ops = library.octets(step[0] for step in steps)
-        fields = [library.halves(step[k] for step in steps) for k in (1, 2, 3)]
-        answers = [library.octets([0] * len(steps)) for _ in range(3)]
+        given = [(op, a, b, value) for op, a, b, value in steps]
+        ops = library.octets(step[0] for step in given)
+        fields = [library.halves(step[k] for step in given) for k in (1, 2, 3)]
+        answers = [library.octets([0] * len(given)) for _ in range(3)]
         used = library.word(self._used)
         accept(library.call("run", self.n, self._neighbours, self._codes, used, ops, *fields, *answers))
         self._used = used.value

@@ -15,20 +15,21 @@ def name_number(name: bytes | str) -> int:
     >>> hex(name_number("A"))
     '0x2020202020202041'
     """
-    given = name.encode() if isinstance(name, str) else bytes(name)
+    given = name.encode("utf-8", "surrogateescape") if isinstance(name, str) else bytes(name)
     if len(given) > 8:
         raise ValueError(f"a name has at most eight bytes: {name!r}")
     return int.from_bytes(given.ljust(8), "little")
 
 
 def held_names(heads: Sequence[int], places: Iterable[int]) -> list[str]:
-    """The names held at some places, without the spaces at their end.
+    """The names held at some places, without the spaces at their end. Each finds its state again, also one that is no
+    UTF-8.
 
     >>> held_names([0, 0, 0, 1, name_number("A"), 0, 1, name_number("A\\n"), 0], range(3))
     ['A', 'A\\n']
     """
     held = [heads[3 * place + 1] for place in places if heads[3 * place]]
-    return [name.to_bytes(8, "little").decode(errors="replace").rstrip(" ") for name in held]
+    return [name.to_bytes(8, "little").decode("utf-8", "surrogateescape").rstrip(" ") for name in held]
 
 
 class Store:

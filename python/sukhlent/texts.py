@@ -48,7 +48,7 @@ def read_state(text: str) -> State:
         text = text[text.find("qubit code neighbours") :]
     if text.startswith("qubit code neighbours"):
         return read_record(text)
-    return State.from_strings(text)
+    return State.from_generators(GeneratorList.from_text(text))
 
 
 def _formed(fault: str | None) -> None:

@@ -1,9 +1,11 @@
 """The command: files and standard input, statuses, and what it says of a refused text."""
 
+import contextlib
 import io
 import os
 import pty
 import random
+import subprocess
 import sys
 import tempfile
 import time
@@ -15,7 +17,7 @@ from unittest import mock
 from sukhlent import forms, generate, library, plot_svg, read_table
 from sukhlent.command import main
 from sukhlent.programs import Progress
-from tests.places import program, sukhlent
+from tests.places import ROOT, program, sukhlent
 
 BELL = "sign z x\n0 0000000000000000 0000000000000003\n0 0000000000000003 0000000000000000\n"
 RECORD = "qubit code neighbours used\n0 0 0000000000000002 0\n1 8 0000000000000001 0\n"
@@ -30,6 +32,15 @@ def called(*arguments):
         except SystemExit as end:
             status = end.code
     return status, out.getvalue(), err.getvalue()
+
+
+def terminal(ours):
+    """What was written to a terminal whose other end is closed: it may come in pieces."""
+    pieces = []
+    with contextlib.suppress(OSError):  # the end
+        while piece := os.read(ours, 1000):
+            pieces.append(piece)
+    return b"".join(pieces)
 
 
 def damaged(source, text):
@@ -47,7 +58,7 @@ class Command(unittest.TestCase):
 
     def file(self, name, text):
         path = self.folder / name
-        path.write_text(text, newline="")
+        path.write_bytes(text.encode())
         return str(path)
 
     def test_files_and_standard_input_give_what_the_program_prints(self):
@@ -79,7 +90,7 @@ class Command(unittest.TestCase):
 
     def test_a_refusal_ends_with_1_and_its_words(self):
         said = (
-            "sukhlent: refused 2: n is 0 or above the call's limit, or the two lists' n differ, "
+            "sukhlent: refused 2: n is 0 or above the call's limit, or the two lists' or records' n differ, "
             "or a group's call has another n than 64\n"
         )
         self.assertEqual(called("reduce", self.file("empty", "sign z x\n")), (1, "", said))
@@ -109,6 +120,25 @@ class Command(unittest.TestCase):
         self.assertEqual(called("draw", list_file, "--layout", "1x2", "-o", str(target)), (0, "", ""))
         self.assertEqual(target.read_text(), called("draw", list_file, "--layout", "line")[1])
         self.assertEqual(called("draw", list_file, "--layout", "2x2")[0], 2)
+        nowhere = str(self.folder / "none" / "bell.svg")
+        said = f"sukhlent: {nowhere}: No such file or directory\n"
+        self.assertEqual(called("draw", list_file, "-o", nowhere), (2, "", said))
+
+    def test_a_text_of_strings_is_judged_as_the_call_judges_it(self):
+        for text, number in (("", 2), ("+X", 1), ("+X_\n+_Z\n", 1), ("\n", 1), ("+XX\n+ZZ", 1)):
+            status, out, err = called("draw", self.file("strings", text))
+            self.assertEqual((status, out), (1, ""), text)
+            self.assertTrue(err.startswith(f"sukhlent: refused {number}: "), (text, err))
+
+    def test_a_reader_that_ends_early_is_no_fault(self):
+        text = generate(64, 4096, 1)
+        for command in ("job", "draw"):
+            file = self.file("job", text if command == "job" else program("job", text))
+            shell = f'"$0" -m sukhlent {command} "$1" | head -n 1'
+            run = subprocess.run(
+                ["sh", "-c", shell, sys.executable, file], capture_output=True, text=True, timeout=60, cwd=ROOT / "python"
+            )
+            self.assertEqual((run.returncode, run.stderr, run.stdout.count("\n")), (0, "", 1))
 
     def test_forms_say_a_fault_exactly_where_the_programs_refuse_by_1(self):
         source = random.Random(11)
@@ -131,7 +161,7 @@ class Command(unittest.TestCase):
             progress.at(100)
             progress.end()
         sys.stderr = before
-        self.assertEqual(os.read(ours, 1000), b"\rsukhlent: reduce: 50 % of 200 bytes\r\x1b[K")
+        self.assertEqual(terminal(ours), b"\rsukhlent: reduce: 50 % of 200 bytes\r\x1b[K")
         os.close(ours)
         out = io.StringIO()
         with redirect_stderr(out):
@@ -144,6 +174,9 @@ class Command(unittest.TestCase):
     def test_a_library_that_is_missing_or_old_is_told_with_what_to_run(self):
         with mock.patch.object(library, "_candidates", lambda: [self.folder / "none.so"]):
             with self.assertRaisesRegex(ImportError, "Build it with tools/shared .*\n.*none.so"):
+                library._load()
+        with mock.patch.dict(os.environ, {"SUKHLENT_LIBRARY": str(self.folder / "named.so")}):
+            with self.assertRaisesRegex(ImportError, "named.so$"):
                 library._load()
         with mock.patch.dict(library._CALLS, {"unheard_of": ()}):
             with self.assertRaisesRegex(ImportError, "has no sukhlent_unheard_of: it is of another version"):

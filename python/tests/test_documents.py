@@ -36,9 +36,9 @@ class Documents(unittest.TestCase):
         for name, held in public():
             with self.subTest(name=name):
                 seen += 1
-                if name != "GeneratorList.buffers":  # what passes to C
-                    self.assertIn(">>>", inspect.getdoc(held) or "")
                 function = getattr(held, "fget", None) or getattr(held, "__func__", held)
+                if name != "GeneratorList.buffers":  # what passes to C
+                    self.assertIn(">>>", inspect.getdoc(function) or "")
                 if inspect.isfunction(function):
                     hints = set(inspect.signature(function).parameters) - {"self", "cls"}
                     self.assertLessEqual(hints | {"return"}, set(function.__annotations__))

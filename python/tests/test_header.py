@@ -2,11 +2,11 @@
 
 import re
 import unittest
-from pathlib import Path
 
-from sukhlent import NAMES, TEXTS, version
+from sukhlent import NAMES, TEXTS, Refusal, version
+from tests.places import ROOT
 
-HEADER = (Path(__file__).resolve().parents[2] / "include" / "sukhlent.h").read_text()
+HEADER = (ROOT / "include" / "sukhlent.h").read_text()
 NUMBERS = {name: int(number) for name, number in re.findall(r"#define SUKHLENT_(\w+) (\d+)\n", HEADER)}
 
 
@@ -15,6 +15,15 @@ class Header(unittest.TestCase):
         cases = re.findall(r"case SUKHLENT_(\w+): return \"(.*?)\";", HEADER)
         said = {NUMBERS[name]: text for name, text in cases if name != "ACCEPTED"}
         self.assertEqual(said, TEXTS)
+
+    def test_every_published_number_has_one_name_in_c_and_python_and_a_line_in_the_document(self):
+        cases = re.findall(r"case SUKHLENT_(\w+): return", HEADER)
+        named = [(NUMBERS[name], name) for name in cases if name != "ACCEPTED"]
+        self.assertEqual(named, [(number, Refusal(number).name) for number in TEXTS])
+        rust = re.findall(r"^    (\w+) = (\d+),$", (ROOT / "rust/sukhlent/src/refusal.rs").read_text(), re.M)
+        variants = {int(number): name for name, number in rust}
+        rows = re.findall(r"^\| (\d+) \| `(\w+)` \| `(\w+)` \| \w", (ROOT / "docs/ENGINE.md").read_text(), re.M)
+        self.assertEqual(rows, [(str(number), name, variants[number]) for number, name in named])
 
     def test_the_published_list_has_the_same_numbers_in_the_same_order(self):
         comment = HEADER[HEADER.index("in checking order") : HEADER.index("#ifndef")]

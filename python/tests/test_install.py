@@ -83,6 +83,9 @@ class Install(unittest.TestCase):
                 strict = [standard, "-Wall", "-Wextra", "-pedantic", "-Werror"]
                 run(compiler, *strict, source, *words, "-o", program)
                 self.assertEqual(run(program, env=environment), PRINTED)
+                found = f"-Wl,-rpath,{self.prefix}/lib"
+                run(compiler, *strict, source, *words, found, "-o", program)
+                self.assertEqual(run(program), PRINTED)
                 static = self.prefix / "lib" / "libsukhlent.a"
                 run(compiler, *strict, f"-I{self.prefix}/include", source, static, "-o", program)
                 self.assertEqual(run(program), PRINTED)
@@ -93,6 +96,9 @@ class Install(unittest.TestCase):
         text = (ROOT / "crates" / "reduce" / "stdin").read_text()
         due = (ROOT / "crates" / "reduce" / "stdout").read_text()
         self.assertEqual(run(command, "reduce", input=text, env=environment, cwd="/"), due)
+        linked = self.prefix.parent / "linked"
+        linked.symlink_to(command)
+        self.assertEqual(run(linked, "reduce", input=text, env=environment, cwd="/"), due)
         environment["PYTHONPATH"] = str(self.prefix / "share" / "sukhlent" / "python")
         code = "import sukhlent; print(sukhlent.State.zeros(1).generators(), sukhlent.__file__)"
         said = run(sys.executable, "-c", code, env=environment, cwd="/")

@@ -67,6 +67,20 @@ class Jobs(unittest.TestCase):
             run_steps(state, [Step("gate", 0, 0, 1)] * 4097)
         self.assertEqual((caught.exception.number, state.codes), (15, (8,)))
 
+    def test_an_unknown_operation_is_refused_as_in_a_text(self):
+        for run in (run_step, lambda state, step: run_steps(state, [Step("gate", 0, 0, 1), step])):
+            state = State.zeros(1)
+            with self.assertRaises(Refusal) as caught:
+                run(state, Step("h", 0, 0, 0))
+            self.assertEqual((caught.exception.number, state.codes), (1, (8,)))
+            self.assertIn("'h'", str(caught.exception))
+
+    def test_steps_may_come_one_after_the_other(self):
+        state = State.zeros(1)
+        self.assertEqual(state.run(iter([(0, 0, 0, 8), [2, 0, 0, 0]])), [(0, 0, 0), (0, 0, 1)])
+        with self.assertRaises(ValueError):
+            state.run([(0, 0, 0)])
+
     def test_a_parsed_job_has_its_steps(self):
         text = generate(5, 17, 9)
         n, steps = parse_job(text)

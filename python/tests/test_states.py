@@ -8,7 +8,7 @@ import tempfile
 import unittest
 from pathlib import Path
 
-from sukhlent import NAMES, GeneratorList, Refusal, State, generate, images, orbit, run_job
+from sukhlent import NAMES, GeneratorList, Refusal, State, Store, generate, images, orbit, run_job
 from sukhlent.command import main as command
 from sukhlent.orbits import edges_of, number_of
 
@@ -76,6 +76,12 @@ class States(unittest.TestCase):
                 state.cx(*pair)
             self.assertEqual(refused.exception.number, 8)
             self.assertEqual(str(state), before)
+        state.measure("Z", 1, 0)
+        before = str(state)
+        for pair, number in (((0, 1), 16), ((1, 0), 16), ((2, 1), 8), ((1, 1), 8)):
+            with self.assertRaises(Refusal) as refused:
+                state.cx(*pair)
+            self.assertEqual((refused.exception.number, str(state)), (number, before), pair)
 
     def test_a_graph_with_no_vertex_or_too_many_is_refused(self):
         for n, edges in ((-1, []), (0, []), (65, []), (70, [(0, 65)])):
@@ -174,6 +180,42 @@ class States(unittest.TestCase):
                 found = orbit(n, edges_of(n, number))
                 self.assertEqual(found.numbers, sorted(reached))
                 self.assertEqual([number_of(n, graph) for graph in found.graphs()], found.numbers)
+
+    def test_the_names_of_a_store_find_their_states(self):
+        store, names = Store(), ["pair", "", b"\xff\xfe", b"A\0", "käse", b"12345678"]
+        for n, name in enumerate(names, 1):
+            store.save(name, State.zeros(n))
+        self.assertEqual([store.return_to(name).n for name in store.names()], list(range(1, 7)))
+        self.assertEqual(store.return_to("pair    ").n, 1)
+        for name in ("ninebytes", "käsekäse"):
+            with self.assertRaises(ValueError):
+                store.save(name, State.zeros(1))
+
+    def test_the_number_of_a_graph_is_that_of_its_set_of_edges(self):
+        self.assertEqual(number_of(3, [(0, 1), (1, 0), (2, 0)]), number_of(3, [(0, 2), (0, 1)]))
+        for edges, number in (([(0, 3)], 5), ([(0, -1)], 5), ([(1, 1)], 7)):
+            with self.assertRaises(Refusal) as refused:
+                number_of(3, edges)
+            self.assertEqual(refused.exception.number, number)
+
+    def test_a_number_that_is_no_code_has_no_images(self):
+        for number in (-1, 24):
+            with self.assertRaises(Refusal) as refused:
+                images(number)
+            self.assertEqual(refused.exception.number, 6)
+
+    def test_numbers_of_another_type_are_taken_where_they_are_integers(self):
+        class Three:
+            def __index__(self):
+                return 3
+
+        state = State([0] * 4, [Three()] + [8] * 3)
+        state.gate(Three(), Three())
+        self.assertEqual(state.measure(Three(), Three(), 1).outcome, 1)
+        for call in (lambda: state.h(0.0), lambda: state.h("0"), lambda: state.gate(0, 8.0), lambda: state.measure("X", 0, 1.0)):
+            with self.assertRaises(TypeError) as wrong:
+                call()
+            self.assertIn("cannot be interpreted as an integer", str(wrong.exception))
 
     def test_a_drawing_has_a_line_for_each_edge(self):
         state = State.graph(5, [(q, (q + 1) % 5) for q in range(5)])

@@ -9,7 +9,7 @@ use crate::{GeneratorList, Record, Refusal};
 /// ```
 /// use sukhlent::{codes, compare};
 ///
-/// // A Bell state becomes another one by Z at qubit 0.
+/// // A Bell state becomes another one by Z at one of its qubits: the least choice has it at qubit 1.
 /// let answer = compare(&"+XX\n+ZZ\n".parse()?, &"-XX\n+ZZ\n".parse()?)?;
 /// assert_eq!(answer.choice, [codes::I, codes::Z]);
 /// assert_eq!(answer.complementations, []);
@@ -17,7 +17,9 @@ use crate::{GeneratorList, Record, Refusal};
 /// ```
 #[derive(Clone, Debug, Default, PartialEq, Eq, Hash)]
 pub struct Comparison {
-    /// The least choice of one code per qubit that carries the first group onto the second.
+    /// The least choice of one code per qubit that carries the first group onto the second: least by
+    /// the classes of qubits 0, 1 and so on, then by 2 sx + sz in the same order. Qubits keep their
+    /// numbers: none is exchanged with another.
     pub choice: Vec<u8>,
     /// The vertices whose local complementations, in order, turn the reduced graph of the first
     /// list into that of the second.

@@ -3,7 +3,7 @@
 use crate::{raw, Refusal};
 
 /// The text of a job of `count` steps on n qubits, at most 4,096, drawn one after the other from a
-/// seed that is not 0. The same arguments give the same text in every house.
+/// seed that is not 0. The same arguments give the same text everywhere.
 ///
 /// Refusals: 15 (more than 4,096 steps), 2, 6 (the seed is 0).
 ///

@@ -105,8 +105,8 @@ pub fn cz(record: &mut Record, a: usize, b: usize) -> Result<(), Refusal> {
 /// assert_eq!(gate(&mut record, 0, 8), Err(Refusal::Used));
 /// assert_eq!(measure(&mut record, Pauli::Z, 0, 1), Err(Refusal::Used));
 /// // Qubit 1 is in the same state now: outcome 0 is contradicted.
-/// let click = measure(&mut record, Pauli::Z, 1, 0);
-/// assert_eq!(click, Err(Refusal::Contradiction));
+/// let contradicted = measure(&mut record, Pauli::Z, 1, 0);
+/// assert_eq!(contradicted, Err(Refusal::Contradiction));
 /// let second = measure(&mut record, Pauli::Z, 1, 1)?;
 /// assert_eq!(second, Measured { outcome: 1, determined: true });
 /// assert_eq!(record.used, 0b11);

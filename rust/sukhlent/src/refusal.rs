@@ -2,7 +2,8 @@
 
 use std::fmt;
 
-/// The reason for which a call refuses, by its number.
+/// The reason for which a call refuses, by its number. A search for the name that the C header gives
+/// a number, as `SUKHLENT_CONTRADICTED`, finds its variant.
 ///
 /// ```
 /// use sukhlent::{gate, Record, Refusal};
@@ -14,45 +15,64 @@ use std::fmt;
 #[repr(u8)]
 pub enum Refusal {
     /// A text is not of its form.
+    #[doc(alias = "SUKHLENT_FORM")]
     Form = 1,
-    /// The number of qubits is 0 or above 64, or differs between two lists, or is not 64 in a
-    /// group's call.
+    /// The number of qubits is 0 or above the call's limit (64; 6 for an orbit), or differs between
+    /// two lists or records, or is not 64 in a group's call.
+    #[doc(alias = "SUKHLENT_COUNT")]
     Qubits = 2,
     /// A connected part of a compared state's reduced graph has more than 20 vertices.
+    #[doc(alias = "SUKHLENT_LARGE")]
     Comparison = 3,
     /// A buffer has a wrong length.
+    #[doc(alias = "SUKHLENT_LENGTH")]
     Length = 4,
     /// A word has a bit outside of the qubits.
+    #[doc(alias = "SUKHLENT_STRAY")]
     StrayBit = 5,
     /// A sign, an outcome, a group, a code, a Pauli, a seed or a run's operation is none, or a step
     /// has a number where it uses none.
+    #[doc(alias = "SUKHLENT_VALUE")]
     Value = 6,
     /// A graph is not simple, a used vertex is not as a measurement leaves it, a store holds a name
     /// twice, or a group's held state has a neighbour outside it.
+    #[doc(alias = "SUKHLENT_GRAPH")]
     Graph = 7,
-    /// A qubit number, or a pair of them, names nothing.
+    /// A qubit number is n or more, a qubit is named twice, or a pivot's pair has no edge.
+    #[doc(alias = "SUKHLENT_QUBIT")]
     Place = 8,
     /// Two generators anticommute.
+    #[doc(alias = "SUKHLENT_ANTICOMMUTE")]
     Anticommuting = 9,
     /// The generators are dependent.
+    #[doc(alias = "SUKHLENT_DEPENDENT")]
     Dependent = 10,
     /// The image is that of no graph: its x bits have no full rank.
+    #[doc(alias = "SUKHLENT_IMAGE_C")]
     NoGraph = 11,
     /// The image is that of no simple graph: it has a loop.
+    #[doc(alias = "SUKHLENT_IMAGE_Y")]
     Loop = 12,
     /// Two states are not locally equivalent.
+    #[doc(alias = "SUKHLENT_INEQUIVALENT")]
     Inequivalent = 13,
     /// A supplied outcome is one that the state forbids.
+    #[doc(alias = "SUKHLENT_CONTRADICTED")]
     Contradiction = 14,
     /// A job or a run has more than 4,096 steps.
+    #[doc(alias = "SUKHLENT_STEPS")]
     Steps = 15,
     /// A call names a used qubit.
+    #[doc(alias = "SUKHLENT_USED")]
     Used = 16,
     /// A name to return to or forget is not held.
+    #[doc(alias = "SUKHLENT_NOT_HELD")]
     NotHeld = 17,
     /// A save finds eight other names held, or a group's save four.
+    #[doc(alias = "SUKHLENT_FULL")]
     Full = 18,
     /// A group's call names a qubit of the other group, or the record has an edge between them.
+    #[doc(alias = "SUKHLENT_OTHER_GROUP")]
     OtherGroup = 19,
 }
 
@@ -122,8 +142,8 @@ impl Refusal {
             Refusal::Form => "the text does not have its form",
             Refusal::Steps => "a job or a run has more than 4,096 steps",
             Refusal::Qubits => {
-                "n is 0 or above the call's limit, or the two lists' n differ, or a group's \
-                 call has another n than 64"
+                "n is 0 or above the call's limit, or the two lists' or records' n differ, or a \
+                 group's call has another n than 64"
             }
             Refusal::Length => "a buffer's length is not what is required",
             Refusal::StrayBit => "a word has a bit at or above n",
@@ -206,6 +226,29 @@ mod tests {
             .collect();
         assert_eq!(said[0], "accepted");
         assert_eq!(said[1..], Refusal::ALL.map(Refusal::line));
+    }
+
+    #[test]
+    fn every_refusal_is_found_by_its_name_in_the_header() {
+        let header = include_str!("../../../include/sukhlent.h");
+        let source = include_str!("refusal.rs");
+        for refusal in Refusal::ALL {
+            let (number, name) = (refusal.number(), name_in(header, refusal.number()));
+            let due = format!("SUKHLENT_{name}\")]\n    {refusal:?} = {number},");
+            assert!(source.contains(&due), "{due}");
+        }
+    }
+
+    /// The name of a refusal's number: of the names with that value the first, since the refusals
+    /// stand before Paulis, operations and gates.
+    fn name_in(header: &str, number: u8) -> &str {
+        let names = header.split("#define SUKHLENT_ACCEPTED").nth(1).unwrap();
+        let defined = names
+            .lines()
+            .filter_map(|line| line.strip_prefix("#define SUKHLENT_"));
+        let mut pairs = defined.filter_map(|line| line.split_once(' '));
+        let wanted = number.to_string();
+        pairs.find(|(_, value)| *value == wanted).unwrap().0
     }
 
     #[test]

@@ -26,8 +26,8 @@ pub enum Step {
 }
 
 impl Step {
-    /// As it is lent: the number of the operation, two qubits and a value. What no slice holds becomes a number that refuses
-    /// the step likewise.
+    /// As it is lent: the number of the operation, two qubits and a value. What no slice holds becomes
+    /// a number that refuses the step likewise.
     fn numbers(self) -> (u8, u16, u16, u16) {
         let place = |q: usize| u16::try_from(q).unwrap_or(u16::MAX);
         match self {
