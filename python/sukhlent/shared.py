@@ -77,7 +77,8 @@ class Shared:
 
     def replace(self, state: State) -> None:
         """Puts another record of 64 qubits in place, as the operator: every vertex of both groups. Where it has an edge
-        between the groups, every call of a group is refused by 19 until it is gone.
+        between the two groups, every call of either group is refused, by 19 if by no number before it, until no edge joins
+        them.
 
         >>> shared = Shared(range(32, 64))
         >>> shared.replace(State.graph(64, [(0, 40)]))

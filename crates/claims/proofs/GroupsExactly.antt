@@ -14,7 +14,8 @@ use Rattle.earliest.proofs.EarlierNumbers.{earlier-none}
 use Rattle.earliest.specs.internal.Earlier.{earlierOf}
 use Rattle.groups.proofs.Edges.{crosses-not, none-crosses, none-reaches-out, reaches-out-not}
 use Rattle.groups.proofs.GroupPassing.{group-number, group-passes}
-use Rattle.groups.proofs.OwnPlaces.{EightLong, part-long}
+use Rattle.groups.proofs.OwnHeads.{own-heads-long, part-long}
+use Rattle.groups.proofs.OwnPlaces.{EightLong}
 use Rattle.groups.proofs.SharedLines.{eight-fit, eight-long, own-long}
 use Rattle.groups.specs.GroupLines.{groupLines, namesOther, outsider, withGroup}
 use Rattle.groups.specs.GroupStores.{heldOut, otherCount, ownLines, ownPlaces, sharedLines}
@@ -183,7 +184,7 @@ module _ (word g : ℕ) (st : Store) where
           passing : EightLong st → namedTwice 4 (own .heads) ≡ false → Passing 4 own
           passing L twice =
               record {
-                heads-long = part-long (12 * g) 12 (st .heads) (omega (arith, low, L .heads));
+                heads-long = own-heads-long g (st .heads) low (L .heads);
                 words-long = part-long (256 * g) 256 (st .neighbours) (omega (arith, low, L .words));
                 codes-long = part-long (256 * g) 256 (st .codes) (omega (arith, low, L .codes));
                 records = λ i l m. is-record (placeAt own i) .1 (O .records i l m);

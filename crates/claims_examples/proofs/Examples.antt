@@ -16,7 +16,7 @@ use Rattle.stabilizer.specs.Lists.{clashing, dependent}
 use Rattle.stabilizer.specs.Membership.{member}
 use Rattle.words.specs.Bits.{bit, fold, put, wordOf}
 use Rattle.words.specs.Search.{every, first, some}
-use Rattle.jobs.specs.internal.Examples.{AllHold}
+use Rattle.claims_examples.specs.internal.Examples.{AllHold}
 use Rattle.claims_examples.specs.internal.Table.{table}
 
 pub examples : AllHold table

@@ -1,3 +1,5 @@
 pub mod Examples
 pub mod GroupExamples
+pub mod JobExamples
+pub mod RunExamples
 pub mod SessionExamples

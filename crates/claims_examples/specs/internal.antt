@@ -1,2 +1,4 @@
+pub mod Examples
+pub mod JobTable
 pub mod SessionTable
 pub mod Table

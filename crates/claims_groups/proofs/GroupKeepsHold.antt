@@ -18,7 +18,8 @@ use Rattle.groups.proofs.GroupPassing.{group-accepted}
 use Rattle.groups.proofs.MaskedRecords.{masked-passes}
 use Rattle.groups.proofs.MergedPasses.{group-apart, merged-apart}
 use Rattle.groups.proofs.Merging.{merged-code, merged-used, merged-word}
-use Rattle.groups.proofs.OwnPlaces.{EightLong, freed-other-heads, freed-own-heads, placed-other-places}
+use Rattle.groups.proofs.OwnHeads.{freed-other-heads, freed-own-heads}
+use Rattle.groups.proofs.OwnPlaces.{EightLong, placed-other-places}
 use Rattle.groups.proofs.SharedLines.{
   named-count,
   named-held,
@@ -159,14 +160,15 @@ module _ (word g : ℕ) (u : UsedRecord) (name : ℕ) (st : Store)
       record {
         held = λ m. ap
             (λ heads. lookup 4 (record { heads = heads; neighbours = own .neighbours; codes = own .codes }) m)
-            (freed-own-heads g p (named-place word g u name st z) (st .heads))
+            (freed-own-heads g p lg (named-place word g u name st z) (st .heads))
             ∙ forgotten-lookup 4 own (shared-fits word g u st (named-shared word g u name st z) .passing) name
             (named-held word g u name st z) m;
-        free = λ m. ap (λ heads. othersHeld 4 heads m) (freed-own-heads g p (named-place word g u name st z) (st .heads))
+        free = λ m. ap (λ heads. othersHeld 4 heads m)
+            (freed-own-heads g p lg (named-place word g u name st z) (st .heads))
             ∙ forgotten-free 4 own (shared-fits word g u st (named-shared word g u name st z) .passing) name
             (named-held word g u name st z) m;
         others = λ h lh ne. λ j. record {
-          heads = freed-other-heads g p (named-place word g u name st z) h ne (st .heads) j;
+          heads = freed-other-heads g p lg (named-place word g u name st z) h ne (st .heads) j;
           neighbours = (ownPlaces h st) .neighbours;
           codes = (ownPlaces h st) .codes;
         };

@@ -1,4 +1,3 @@
-pub mod RunExamples
 pub mod Views
 pub mod OwnCalls
 pub mod OtherCalls

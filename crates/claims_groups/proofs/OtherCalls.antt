@@ -12,7 +12,8 @@ use Rattle.claims.specs.StoreDemand.{Session}
 use Rattle.groups.proofs.GroupPassing.{group-passes}
 use Rattle.groups.proofs.MergedPasses.{group-apart, merged-apart}
 use Rattle.groups.proofs.Merging.{masked-merged-other}
-use Rattle.groups.proofs.OwnPlaces.{freed-other-heads, placed-eight-long, placed-other-places}
+use Rattle.groups.proofs.OwnHeads.{freed-other-heads}
+use Rattle.groups.proofs.OwnPlaces.{placed-eight-long, placed-other-places}
 use Rattle.groups.proofs.SharedLines.{
   named-count,
   named-inside,
@@ -108,7 +109,7 @@ module _ (word g h : ℕ) (lg : g < 2) (lh : h < 2) (ne : h ≡ g → ⊥) (s : 
       record {
         vertices = refl;
         places = λ j. record {
-          heads = freed-other-heads h (placeOf 4 ((ownPlaces h (s .store)) .heads) name)
+          heads = freed-other-heads h (placeOf 4 ((ownPlaces h (s .store)) .heads) name) lh
               (named-place word h (s .current) name (s .store) z) g other (s .store .heads) j;
           neighbours = (ownPlaces g (s .store)) .neighbours;
           codes = (ownPlaces g (s .store)) .codes;

@@ -15,7 +15,8 @@ use Rattle.groups.proofs.AloneNumbers.{group-alone}
 use Rattle.groups.proofs.GroupNumbers.{masked-answer}
 use Rattle.groups.proofs.GroupPassing.{group-passes}
 use Rattle.groups.proofs.Merging.{masked-merged-own}
-use Rattle.groups.proofs.OwnPlaces.{EightLong, freed-own-heads, place-own, placed-own-places}
+use Rattle.groups.proofs.OwnHeads.{freed-own-heads}
+use Rattle.groups.proofs.OwnPlaces.{EightLong, place-own, placed-own-places}
 use Rattle.groups.proofs.SharedLines.{named-count, named-place, save-place, shared-alone}
 use Rattle.groups.specs.GroupLines.{groupAfter, groupLines}
 use Rattle.groups.specs.GroupStores.{groupNamedLines, groupReturned, groupSaveLines, groupSaved, ownPlaces}
@@ -153,10 +154,10 @@ module _ (word g : ℕ) (lg : g < 2) (s t : Session) (S : Good word s) (T : Good
       record {
         vertices = A .vertices;
         places = λ j. record {
-          heads = (freed-own-heads g (placeOf 4 ((ownPlaces g (s .store)) .heads) name)
+          heads = (freed-own-heads g (placeOf 4 ((ownPlaces g (s .store)) .heads) name) lg
               (named-place word g (s .current) name (s .store) z) (s .store .heads)
               ∙ ap (λ own. set (own .heads) (3 * placeOf 4 (own .heads) name) 0) (A .places)
-              ∙ sym (freed-own-heads g (placeOf 4 ((ownPlaces g (t .store)) .heads) name)
+              ∙ sym (freed-own-heads g (placeOf 4 ((ownPlaces g (t .store)) .heads) name) lg
               (named-place word g (t .current) name (t .store) (sym (own-number (groupForget name)) ∙ z))
               (t .store .heads))) j;
           neighbours = (A .places j) .neighbours;

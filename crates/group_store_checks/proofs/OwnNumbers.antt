@@ -5,13 +5,13 @@ use mathlib.Core.Path.{_∙_, _≡_, ap, ap₂, refl, sym}
 use Prim.Native.Nat.{_*_, _+_, _-_, _<_, _≤_, ℕ}
 use native.Mathlib.Omega.{arith}
 use lib.Dec.{eqb, eqb→eq, ltb}
-use lib.ListN.{drop, drop-of-length-le, getD, length, take}
-use lib.Seq.{getD-drop, getD-take, take-nil}
+use lib.ListN.{drop, drop-of-length-le, length, take}
+use lib.Seq.{take-nil}
 use borrow.Author.Tests.{eqb-true, ne-eqb}
 use Rattle.buffers.specs.Refusals.{Refusal, firstFitting, withTest}
 use Rattle.contracts.proofs.Fitting.{first-is}
 use Rattle.contracts.specs.Answers.{here, later}
-use Rattle.groups.proofs.OwnPlaces.{part-long}
+use Rattle.groups.proofs.OwnHeads.{no-heads, own-heads-of, part-long}
 use Rattle.groups.proofs.SharedLines.{eight-long, own-long}
 use Rattle.groups.specs.GroupStores.{heldOut, otherCount, ownLines, ownPlaces}
 use Rattle.groups.specs.Masks.{inGroup, reachesOut}
@@ -26,11 +26,6 @@ use Rattle.words.specs.Bits.{Word, bit, wordOf}
 use Rattle.words.specs.Search.{some}
 use Rattle.group_store_checks.proofs.HeldStates.{out-own}
 use Rattle.group_store_checks.specs.internal.PlacesNumber.{placesNumber}
-
--- ---- the words of a group's heads
-pub own-word-at : (g : ℕ) (heads : List ℕ) (j : ℕ) → j < 12
-    → getD (take 12 (drop (12 * g) heads)) j 0 ≡ getD heads (12 * g + j) 0
-own-word-at g heads j l = getD-take 12 (drop (12 * g) heads) j 0 l ∙ getD-drop (12 * g) heads j 0
 
 -- ---- tests joined into the lines
 abbrev joined : Of 7 ℕ
@@ -54,6 +49,12 @@ linesOf s own b =
 none-held : (s : Word) → firstFitting (linesOf s (record { heads = []; neighbours = []; codes = [] }) false) ≡ 0
 unfolding firstFitting some
 none-held s = refl
+
+-- a group above 1 has no place
+pub none-counted : (g : ℕ) (heads : List ℕ) → 1 < g
+    → false ≡ otherCount (ownPlaces g (record { heads = heads; neighbours = []; codes = [] }))
+unfolding some
+none-counted g heads l = sym (ap (λ h. otherCount (record { heads = h; neighbours = []; codes = [] })) (no-heads g heads l))
 
 module _ (s : Word) (g : ℕ) (st : Store) where
   abbrev own : Store
@@ -83,11 +84,10 @@ module _ (s : Word) (g : ℕ) (st : Store) where
         ∙ ap (λ b. b || false) (or-true (ofHeld 4 own 4 || false)))))
 
     module _ (fit : storeLengths 8 st ≡ false) where
-      -- a group above 1 has no place
-      pub own-none : 2 ≤ g → 0 ≡ firstFitting (ownLines s g st)
+      pub own-none : 1 < g → 0 ≡ firstFitting (ownLines s g st)
       own-none l = let L = eight-long st fit in
           sym (ap₂ (λ o b. firstFitting (linesOf s o b)) (λ j. record {
-            heads = empty 12 (st .heads) (omega (arith, l, L .heads)) j;
+            heads = no-heads g (st .heads) l j;
             neighbours = empty 256 (st .neighbours) (omega (arith, l, L .words)) j;
             codes = empty 256 (st .codes) (omega (arith, l, L .codes)) j;
           }) fit ∙ none-held s)
@@ -127,13 +127,13 @@ unfolding reachesOut
 codes-unread s heads nb cs = refl
 
 -- ---- the parts of the buffers that a group has
-pub own-cut : (g : ℕ) (st : Store) → ownPlaces g st ≡ record {
+pub own-cut : (g : ℕ) (st : Store) → storeLengths 8 st ≡ false → ownPlaces g st ≡ record {
   heads = take (12 * g + 12 - 12 * g) (drop (12 * g) (st .heads));
   neighbours = take (256 * g + 256 - 256 * g) (drop (256 * g) (st .neighbours));
   codes = take (256 * g + 256 - 256 * g) (drop (256 * g) (st .codes));
 }
-own-cut g st = λ j. record {
-  heads = sym (from-place (12 * g) 12 (st .heads)) j;
+own-cut g st fit = λ j. record {
+  heads = (own-heads-of g (st .heads) (eight-long st fit .heads) ∙ sym (from-place (12 * g) 12 (st .heads))) j;
   neighbours = sym (from-place (256 * g) 256 (st .neighbours)) j;
   codes = sym (from-place (256 * g) 256 (st .codes)) j;
 }
@@ -153,7 +153,7 @@ module _ (g : ℕ) (st : Store) (few : otherCount (ownPlaces g st) ≡ false) (f
     codes = [];
   }) ≡ false) × (length (take (256 * g + 256 - 256 * g) (drop (256 * g) (st .neighbours))) ≡ 256)
   places-fit = (
-    ap otherCount (sym (own-cut g st)) ∙ few,
+    ap otherCount (sym (own-cut g st fit)) ∙ few,
     ap length (from-place (256 * g) 256 (st .neighbours))
         ∙ part-long (256 * g) 256 (st .neighbours) (parts-inside g st fit l .1),
   )
@@ -166,7 +166,7 @@ module _ (word g : ℕ) (st : Store) (few : otherCount (ownPlaces g st) ≡ fals
     codes = take (256 * g + 256 - 256 * g) (drop (256 * g) (st .codes));
   }) → r ≡ firstFitting (ownLines (inGroup word g) g st)
   own-answer own eo r e =
-      e ∙ ap (placesNumber (bit own)) (sym (own-cut g st))
+      e ∙ ap (placesNumber (bit own)) (sym (own-cut g st fit))
       ∙ ap (λ b. cond (eqb (firstFitting (storeLines 4 (ownPlaces g st) false)) 0) (cond b 7 0)
       (firstFitting (storeLines 4 (ownPlaces g st) false))) (out-own (ownPlaces g st) few own (inGroup word g) eo)
       ∙ sym (own-decided (inGroup word g) g st few fit (omega (arith, l)))

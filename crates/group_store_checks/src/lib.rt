@@ -14,7 +14,7 @@ ghost use Rattle.groups.specs.Masks.{inGroup};
 ghost use Rattle.words.specs.Bits.{bit};
 ghost use Rattle.group_store_checks.specs.internal.PlacesNumber.{placesNumber};
 
-// Line 2: whether a state held in the group's places has another n than 64.
+// Line 2: whether a state held in the group's places has another n than 64; a group above 1 has no place.
 fn other_count(group: u8, heads: &[u64]) -> bool
     ensures { λ r. ⌜ r ≡ otherCount (ownPlaces group (record {
       heads = now (heads .entry);
@@ -22,6 +22,9 @@ fn other_count(group: u8, heads: &[u64]) -> bool
       codes = [];
     })) ⌝ }
 {
+    if 1 < group {
+        return false;
+    }
     let at = 12 * (group as usize);
     let mut i = 0;
     while i < 4 {

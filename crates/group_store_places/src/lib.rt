@@ -6,8 +6,9 @@ use store_copies::put_head;
 use store_places::find;
 use store_places::place_for;
 ghost use mathlib.Core.Path.{_≡_};
-ghost use Prim.Native.Nat.{_*_, _<_, _≤_};
-ghost use lib.ListN.{drop, length, take};
+ghost use Prim.Native.Nat.{_<_, _≤_};
+ghost use lib.ListN.{length};
+ghost use Rattle.groups.specs.GroupStores.{ownHeads};
 ghost use Rattle.groups.specs.Masks.{masked, merged};
 ghost use Rattle.record.specs.Lent.{LentRecord};
 ghost use Rattle.store.specs.Kept.{savePlace, withPlace};
@@ -17,7 +18,7 @@ ghost use Rattle.words.specs.Bits.{bit};
 // The place, of the group's four, that holds a state under the name; 4 where none does.
 pub fn own_find(group: u8, heads: &[u64], name: u64) -> usize
     requires { ⌜ (group ≤ 1) × (length (now heads) ≡ 24) ⌝ }
-    ensures { λ r. ⌜ r ≡ placeOf 4 (take 12 (drop (12 * group) (now (heads .entry)))) name ⌝ }
+    ensures { λ r. ⌜ r ≡ placeOf 4 (ownHeads group (now (heads .entry))) name ⌝ }
 {
     let at = 12 * (group as usize); // the group's own names
     find(4, &heads[at..at + 12], name)
@@ -26,7 +27,7 @@ pub fn own_find(group: u8, heads: &[u64], name: u64) -> usize
 // The place, of the group's four, that a save takes; 4 where all hold other names.
 pub fn own_place_for(group: u8, heads: &[u64], name: u64) -> usize
     requires { ⌜ (group ≤ 1) × (length (now heads) ≡ 24) ⌝ }
-    ensures { λ r. ⌜ r ≡ savePlace 4 (take 12 (drop (12 * group) (now (heads .entry)))) name ⌝ }
+    ensures { λ r. ⌜ r ≡ savePlace 4 (ownHeads group (now (heads .entry))) name ⌝ }
 {
     let at = 12 * (group as usize);
     place_for(4, &heads[at..at + 12], name)

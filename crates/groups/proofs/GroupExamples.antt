@@ -19,7 +19,7 @@ use Rattle.used.specs.Used.{UsedRecord, usedWrong}
 use Rattle.words.specs.Bits.{bit, fold, put, wordOf}
 use Rattle.words.specs.Search.{every, first, some}
 use Rattle.groups.specs.GroupLines.{groupAfter, groupLines}
-use Rattle.groups.specs.GroupStores.{groupNamedLines}
+use Rattle.groups.specs.GroupStores.{groupNamedLines, ownLines}
 use Rattle.groups.specs.Masks.{crosses, reachesOut}
 
 -- qubits 0 to 31 are of group 0, the others of group 1
@@ -53,6 +53,12 @@ pub group-order :
     ∷ [] ≡ 19 ∷ 8 ∷ 19 ∷ []
 unfolding bit some every first firstFitting reaching notSimple usedWrong crosses reachesOut
 group-order = refl
+
+-- a group above 1 has no place: words lent beyond the 24 heads are a wrong length, whatever n they hold
+pub beyond : firstFitting (ownLines (bit halves) 2
+    (record { heads = set (replicate 48 0) 24 5; neighbours = []; codes = [] })) ≡ 4
+unfolding some firstFitting
+beyond = refl
 
 -- ---- qubit 0 is of group 0, qubit 1 of group 1
 abbrev two : UsedRecord

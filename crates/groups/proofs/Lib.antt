@@ -1,5 +1,6 @@
 pub mod GroupExamples
 pub mod Merging
+pub mod OwnHeads
 pub mod OwnPlaces
 pub mod SharedLines
 pub mod GroupPassing

@@ -1,94 +1,18 @@
--- The four places of a group in a store of eight, after a place of the eight is written or made free: a place of the
--- group is written there, and a place of the other group leaves them.
+-- The four places of a group in a store of eight, after a place of the eight is written: a place of the group is written
+-- there, and a place of the other group leaves them.
 use mathlib.Core.List.{_++_, List, append-assoc}
-use mathlib.Core.Logic.{inl, inr, _⊎_}
+use mathlib.Core.Logic.{inl, inr}
 use mathlib.Core.Path.{ap, ap₂, subst, sym, _∙_, _≡_}
-use Prim.Native.Nat.{_*_, _+_, _-_, _<_, _≤_, ℕ}
-use native.Mathlib.Nat.{eq-or-lt-of-le}
+use Prim.Native.Nat.{_*_, _+_, _<_, _≤_, ℕ}
 use native.Mathlib.Omega.{arith}
-use lib.ListN.{drop, getD, length, length-drop, length-set, set, take, take-append-drop}
-use lib.Seq.{
-  drop-append-le,
-  drop-at,
-  drop-drop,
-  drop-set-add,
-  drop-set-lt,
-  getD-drop,
-  getD-take,
-  length-take-le,
-  take-add,
-  take-append-le,
-  take-at,
-  take-set-le,
-  take-set-lt,
-}
+use lib.ListN.{drop, getD, length, length-set, take, take-append-drop}
+use lib.Seq.{drop-append-le, drop-at, drop-drop, length-take-le, take-add, take-append-le, take-at}
 use Rattle.store.proofs.PlacedParts.{part-front, placed-long}
-use Rattle.store.specs.Kept.{headed, placedAt, withPlace}
+use Rattle.store.specs.Kept.{placedAt, withPlace}
 use Rattle.store.specs.Places.{Store, countAt, partAt, placeAt}
 use Rattle.used.specs.Used.{UsedRecord}
-use Rattle.words.proofs.Sums.{lt-or-ge}
+use Rattle.groups.proofs.OwnHeads.{headed-other, headed-own, own-head, part-long, side}
 use Rattle.groups.specs.GroupStores.{ownPlaces}
-
--- ---- a part of a list
-pub part-long : (a m : ℕ) (buffer : List ℕ) → a + m ≤ length buffer → length (take m (drop a buffer)) ≡ m
-part-long a m buffer l = length-take-le m (drop a buffer) (simp length-drop (omega (arith, l)))
-
--- ---- one word of the heads
-module _ (g : ℕ) (heads : List ℕ) (i v : ℕ) where
-  own-set : (j : ℕ) → i ≡ 12 * g + j → j < 12
-      → take 12 (drop (12 * g) (set heads i v)) ≡ set (take 12 (drop (12 * g) heads)) j v
-  own-set j e l =
-      ap (λ k. take 12 (drop (12 * g) (set heads k v))) e ∙ ap (take 12) (drop-set-add (12 * g) heads j v)
-      ∙ take-set-lt 12 (drop (12 * g) heads) j v l
-
-  before-set : i < 12 * g → take 12 (drop (12 * g) (set heads i v)) ≡ take 12 (drop (12 * g) heads)
-  before-set l = ap (take 12) (drop-set-lt (12 * g) heads i v l)
-
-  after-set : 12 * g + 12 ≤ i → take 12 (drop (12 * g) (set heads i v)) ≡ take 12 (drop (12 * g) heads)
-  after-set l =
-      ap (λ k. take 12 (drop (12 * g) (set heads k v))) there
-      ∙ ap (take 12) (drop-set-add (12 * g) heads (i - 12 * g) v)
-      ∙ take-set-le 12 (drop (12 * g) heads) (i - 12 * g) v (omega (arith, l))
-    where
-      there : i ≡ 12 * g + (i - 12 * g)
-      there = omega (arith, l)
-
--- before or after
-side : (g h : ℕ) → (g ≡ h → ⊥) → (g < h) ⊎ (h < g)
-side g h ne = elim (lt-or-ge g h) [
-  | inl l ↦ inl l
-  | inr l ↦ elim (eq-or-lt-of-le l) [ inl e ↦ absurd (ne (sym e)) | inr k ↦ inr k ]
-]
-
--- a word of a place of another group
-other-set : (g h : ℕ) → (g ≡ h → ⊥) → (p d : ℕ) → p < 4 → d < 3 → (heads : List ℕ) (i v : ℕ) → i ≡ 3 * (4 * h + p) + d
-    → take 12 (drop (12 * g) (set heads i v)) ≡ take 12 (drop (12 * g) heads)
-other-set g h ne p d lp ld heads i v e = elim (side g h ne) [
-  | inl l ↦ after-set g heads i v (omega (arith, l, e))
-  | inr l ↦ before-set g heads i v (omega (arith, l, lp, ld, e))
-]
-
--- ---- the three words of a place
-module _ (g p n name used : ℕ) (heads : List ℕ) (lp : p < 4) where
-  abbrev own : List ℕ → List ℕ
-  own l = take 12 (drop (12 * g) l)
-
-  headed-own : own (headed (4 * g + p) n name used heads) ≡ headed p n name used (own heads)
-  headed-own =
-      own-set g (set (set heads (3 * (4 * g + p)) n) (3 * (4 * g + p) + 1) name) (3 * (4 * g + p) + 2) used
-      (3 * p + 2) (omega arith) (omega (arith, lp))
-      ∙ ap (λ l. set l (3 * p + 2) used) (own-set g (set heads (3 * (4 * g + p)) n) (3 * (4 * g + p) + 1) name
-      (3 * p + 1) (omega arith) (omega (arith, lp))
-      ∙ ap (λ l. set l (3 * p + 1) name) (own-set g heads (3 * (4 * g + p)) n (3 * p) (omega arith)
-      (omega (arith, lp))))
-
-  headed-other : (h : ℕ) → (h ≡ g → ⊥) →
-      take 12 (drop (12 * h) (headed (4 * g + p) n name used heads)) ≡ take 12 (drop (12 * h) heads)
-  headed-other h ne =
-      other-set h g ne p 2 lp (omega arith) (set (set heads (3 * (4 * g + p)) n) (3 * (4 * g + p) + 1) name)
-      (3 * (4 * g + p) + 2) used (omega arith)
-      ∙ other-set h g ne p 1 lp (omega arith) (set heads (3 * (4 * g + p)) n) (3 * (4 * g + p) + 1) name (omega arith)
-      ∙ other-set h g ne p 0 lp (omega arith) heads (3 * (4 * g + p)) n (omega arith)
 
 -- ---- 64 numbers of a place
 -- a place past the first 4 g, in the part that begins there
@@ -191,7 +115,7 @@ module _ (g p : ℕ) (u : UsedRecord) (name : ℕ) (st : Store) (lg : g < 2) (lp
   -- a record put at a place of the group
   pub placed-own-places : ownPlaces g (withPlace (4 * g + p) u name st) ≡ withPlace p u name (ownPlaces g st)
   placed-own-places = λ j. record {
-    heads = headed-own g p (u .held .n) name (u .used) (st .heads) lp j;
+    heads = headed-own g p (u .held .n) name (u .used) (st .heads) lg lp j;
     neighbours = placed-own-part g p (u .held .neighbours) (st .neighbours) lp words-full words-room j;
     codes = placed-own-part g p (u .held .codes) (st .codes) lp codes-full codes-room j;
   }
@@ -200,7 +124,7 @@ module _ (g p : ℕ) (u : UsedRecord) (name : ℕ) (st : Store) (lg : g < 2) (lp
   pub placed-other-places : (h : ℕ) → h < 2 → (h ≡ g → ⊥) → ownPlaces h (withPlace (4 * g + p) u name st)
       ≡ ownPlaces h st
   placed-other-places h lh ne = λ j. record {
-    heads = headed-other g p (u .held .n) name (u .used) (st .heads) lp h ne j;
+    heads = headed-other g p (u .held .n) name (u .used) (st .heads) lg lp h ne j;
     neighbours = placed-other-part g p (u .held .neighbours) (st .neighbours) lp words-full words-room h ne
         (omega (arith, lh, L .words)) j;
     codes = placed-other-part g p (u .held .codes) (st .codes) lp codes-full codes-room h ne
@@ -217,21 +141,10 @@ module _ (g p : ℕ) (u : UsedRecord) (name : ℕ) (st : Store) (lg : g < 2) (lp
             (subst (λ m. m ≤ 64) (sym codes-full) (omega arith)) (omega (arith, lg, lp, L .codes)) ∙ L .codes;
       }
 
--- the first word of a place
-pub freed-own-heads : (g p : ℕ) → p < 4 → (heads : List ℕ)
-    → take 12 (drop (12 * g) (set heads (3 * (4 * g + p)) 0)) ≡ set (take 12 (drop (12 * g) heads)) (3 * p) 0
-freed-own-heads g p lp heads = own-set g heads (3 * (4 * g + p)) 0 (3 * p) (omega arith) (omega (arith, lp))
-
-pub freed-other-heads : (g p : ℕ) → p < 4 → (h : ℕ) → (h ≡ g → ⊥) → (heads : List ℕ)
-    → take 12 (drop (12 * h) (set heads (3 * (4 * g + p)) 0)) ≡ take 12 (drop (12 * h) heads)
-freed-other-heads g p lp h ne heads = other-set h g ne p 0 lp (omega arith) heads (3 * (4 * g + p)) 0 (omega arith)
-
 -- ---- what a place of a group holds, read among the four or among the eight
 module _ (g p : ℕ) (st : Store) (lg : g < 2) (lp : p < 4) (L : EightLong st) where
   head-at : (i j : ℕ) → i ≡ 12 * g + j → j < 12 → getD (st .heads) i 0 ≡ getD ((ownPlaces g st) .heads) j 0
-  head-at i j e l =
-      ap (λ k. getD (st .heads) k 0) e ∙ sym (getD-drop (12 * g) (st .heads) j 0)
-      ∙ sym (getD-take 12 (drop (12 * g) (st .heads)) j 0 l)
+  head-at i j e l = ap (λ k. getD (st .heads) k 0) e ∙ sym (own-head g (st .heads) j lg l)
 
   part-at : (n : ℕ) → n ≤ 64 → (buffer : List ℕ) → length buffer ≡ 512
       → partAt (4 * g + p) n buffer ≡ partAt p n (take 256 (drop (256 * g) buffer))

@@ -23,7 +23,8 @@ use Rattle.words.proofs.Flags.{both-true, neither}
 use Rattle.words.proofs.SearchLaws.{some-false, some-true}
 use Rattle.words.proofs.Sums.{lt-or-ge}
 use Rattle.words.specs.Search.{some}
-use Rattle.groups.proofs.OwnPlaces.{EightLong, part-long}
+use Rattle.groups.proofs.OwnHeads.{own-heads-long, part-long}
+use Rattle.groups.proofs.OwnPlaces.{EightLong}
 use Rattle.groups.specs.GroupLines.{withGroup}
 use Rattle.groups.specs.GroupStores.{
   groupNamedLines,
@@ -143,7 +144,7 @@ pub record OwnFits (word g : ℕ) (st : Store) : Type 0 where
 -- the buffers of a group's places have their lengths
 pub own-long : (g : ℕ) (st : Store) → g < 2 → EightLong st → storeLengths 4 (ownPlaces g st) ≡ false
 own-long g st lg L = let own = ownPlaces g st in
-    ap₂ _||_ (length-passes 12 (own .heads) (part-long (12 * g) 12 (st .heads) (omega (arith, lg, L .heads))))
+    ap₂ _||_ (length-passes 12 (own .heads) (own-heads-long g (st .heads) lg (L .heads)))
     (ap₂ _||_ (length-passes 256 (own .neighbours) (part-long (256 * g) 256 (st .neighbours)
     (omega (arith, lg, L .words))))
     (length-passes 256 (own .codes) (part-long (256 * g) 256 (st .codes) (omega (arith, lg, L .codes)))))

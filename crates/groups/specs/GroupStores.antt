@@ -15,11 +15,15 @@ use Rattle.words.specs.Search.{some}
 use Rattle.groups.specs.GroupLines.{withGroup}
 use Rattle.groups.specs.Masks.{crosses, inGroup, masked, merged, reachesOut}
 
--- the four places of group g: 4 g to 4 g + 3
+-- the heads of group g's four places, among the 24 of a store: words lent beyond them are no place
+abbrev pub ownHeads : ℕ → List ℕ → List ℕ
+ownHeads g heads = take 12 (drop (12 * g) (take 24 heads))
+
+-- the four places of group g: 4 g to 4 g + 3; a group above 1 has none
 abbrev pub ownPlaces : ℕ → Store → Store
 ownPlaces g st =
     record {
-      heads = take 12 (drop (12 * g) (st .heads));
+      heads = ownHeads g (st .heads);
       neighbours = take 256 (drop (256 * g) (st .neighbours));
       codes = take 256 (drop (256 * g) (st .codes));
     }

@@ -3,5 +3,4 @@ pub mod WrongFields
 pub mod Starting
 pub mod Stepwise
 pub mod Printing
-pub mod JobExamples
 pub mod ParallelLaws

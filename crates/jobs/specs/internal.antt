@@ -1,4 +1,2 @@
 pub mod Asked
-pub mod Examples
-pub mod JobTable
 pub mod Parallel

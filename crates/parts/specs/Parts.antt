@@ -8,7 +8,7 @@ use Rattle.graph.specs.Graph.{Graph}
 use Rattle.words.specs.Bits.{Word, bit}
 use Rattle.words.specs.Search.{every, some}
 
--- the same as a test
+-- no edge leaves the set s of vertices: each neighbour of one of them is one of them
 unfoldable pub isClosed : ℕ → Graph → Word → Bool
 isClosed n θ s = every n (λ i. every n (λ j. not (s i && θ i j) || s j))
 

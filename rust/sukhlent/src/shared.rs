@@ -105,8 +105,9 @@ impl Shared {
         self.lock().record.clone()
     }
 
-    /// Works on the whole record, as its operator. Where this leaves an edge between the groups,
-    /// every call of a group is refused by 19 until it is gone.
+    /// Works on the whole record, as its operator. Where this leaves an edge between the two groups,
+    /// every call of either group is refused, by 19 if by no number before it, until no edge joins
+    /// them.
     ///
     /// ```
     /// use sukhlent::{codes, cz, gate, Refusal, Shared};

@@ -106,6 +106,23 @@ fn the_numbers_of_the_requests_cases() {
     assert_eq!(number(&used, 1, gate(40, 0)), 16);
 }
 
+/// A group above 1 has no place: a store of 48 heads has a wrong length, also where an n stands in them.
+#[test]
+fn words_beyond_the_heads_are_no_place_of_a_group() {
+    let mut long = Lent::start(HALVES);
+    long.heads.resize(48, 5);
+    let calls = [
+        GroupCall::Save(7),
+        GroupCall::Return(7),
+        GroupCall::Forget(7),
+    ];
+    for group in [0, 1, 2, 3, 255] {
+        for call in calls {
+            assert_eq!(long.call(group, call), Err(4), "{call:?} of {group}");
+        }
+    }
+}
+
 #[test]
 fn a_gate_reduces_its_own_groups_vertices_alone() {
     let shared = Shared::new(HALVES);

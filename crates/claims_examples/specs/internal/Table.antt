@@ -19,7 +19,7 @@ use Rattle.pauli.specs.Pauli.{exponent}
 use Rattle.call_product.specs.Products.{chosenProduct, productLines}
 use Rattle.call_lists.specs.Calls.{checkLines}
 use Rattle.words.specs.Bits.{digit, wordOf}
-use Rattle.jobs.specs.internal.Examples.{Example, example}
+use Rattle.claims_examples.specs.internal.Examples.{Example, example}
 
 -- codes by number: first a, then b; the inverse
 abbrev composed : ℕ → ℕ → ℕ

@@ -278,7 +278,7 @@ pub fn damage(random: &mut Random, lent: &mut Lent) {
         5 => lent.record.used ^= bit,
         6 | 7 => join(lent, q, p),
         8 => drop(lent.heads.pop()),
-        9 => lent.heads.extend([random.below(2) as u64 * 64, 1, 0]),
+        9 => lent.heads.extend([[0, 64, 5][random.below(3)], 1, 0]),
         10 => lent.neighbours.push(0),
         11 => drop(lent.codes.pop()),
         12 => put(&mut lent.heads, 3 * i, [1, 63, 65, u64::MAX][j % 4]),

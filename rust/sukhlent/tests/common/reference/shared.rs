@@ -46,7 +46,8 @@ pub fn group_refusal(lent: &Lent, group: u8, call: GroupCall) -> u8 {
 fn own_places_refusal(lent: &Lent, group: u8) -> u8 {
     let word = |at: usize| lent.heads.get(at).copied().unwrap_or(0);
     let first = 4 * usize::from(group);
-    let held: Vec<usize> = (first..first + 4).filter(|i| word(3 * i) != 0).collect();
+    let places = (first..first + 4).filter(|i| *i < 8);
+    let held: Vec<usize> = places.filter(|i| word(3 * i) != 0).collect();
     if held.iter().any(|i| word(3 * i) != 64) {
         return 2;
     }

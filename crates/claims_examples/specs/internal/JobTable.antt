@@ -1,13 +1,13 @@
 -- Jobs as examples: what the definitions give, beside what is expected.
 use mathlib.Core.List.{_++_, List, [], map, _∷_}
 use Prim.Native.Nat.{ℕ}
+use Rattle.jobs.specs.Runs.{run, started, stepAnswers}
+use Rattle.jobs.specs.declared.Answer.{Answer}
+use Rattle.jobs.specs.declared.Op.{Op}
+use Rattle.jobs.specs.declared.Op.the-variants.{Complement, Cz, Gate, Measure, Pivot}
+use Rattle.jobs.specs.declared.Step.{Step}
 use Rattle.used.specs.Used.{UsedRecord}
-use Rattle.jobs.specs.Runs.{stepAnswers, run, started}
-use Rattle.jobs.specs.declared.Answer.{Answer}
-use Rattle.jobs.specs.declared.Op.{Op}
-use Rattle.jobs.specs.declared.Op.the-variants.{Complement, Cz, Gate, Measure, Pivot}
-use Rattle.jobs.specs.declared.Step.{Step}
-use Rattle.jobs.specs.internal.Examples.{Example, example}
+use Rattle.claims_examples.specs.internal.Examples.{Example, example}
 
 abbrev does : Op → ℕ → ℕ → ℕ → Step
 does op a b value = record { op = op; a = a; b = b; value = value }

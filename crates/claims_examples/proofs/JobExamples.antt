@@ -4,6 +4,7 @@ use Rattle.buffers.specs.Buffers.{tabulate}
 use Rattle.buffers.specs.Refusals.{firstFitting, reaching}
 use Rattle.clifford.specs.Clifford.{inverse}
 use Rattle.clifford.specs.Vectors.{act}
+use Rattle.jobs.specs.Runs.{run, stepAnswers}
 use Rattle.operations.specs.Cz.{cz}
 use Rattle.pauli.specs.Pauli.{anticommute, mul, power}
 use Rattle.record.specs.Columns.{isColumnDependent}
@@ -14,9 +15,8 @@ use Rattle.stabilizer.specs.Membership.{member}
 use Rattle.used.specs.Used.{usedWrong}
 use Rattle.words.specs.Bits.{bit, fold, put, wordOf}
 use Rattle.words.specs.Search.{every, first, some}
-use Rattle.jobs.specs.internal.Examples.{AllHold}
-use Rattle.jobs.specs.internal.JobTable.{table}
-use Rattle.jobs.specs.Runs.{stepAnswers, run}
+use Rattle.claims_examples.specs.internal.Examples.{AllHold}
+use Rattle.claims_examples.specs.internal.JobTable.{table}
 
 pub jobs-run : AllHold table
 unfolding fold put bit wordOf some every first power mul anticommute inverse act tabulate firstFitting

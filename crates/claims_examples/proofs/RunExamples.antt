@@ -2,16 +2,11 @@
 -- calls.
 use mathlib.Core.List.{List, [], _∷_}
 use mathlib.Core.Path.{_≡_, refl}
-use Prim.Native.Nat.{_^_, _-_, ℕ}
+use Prim.Native.Nat.{ℕ}
 use lib.ListN.{getD}
 use Rattle.buffers.specs.Buffers.{tabulate}
 use Rattle.buffers.specs.Refusals.{firstFitting, reaching}
-use Rattle.groups.specs.Masks.{crosses, reachesOut}
-use Rattle.record.specs.Lent.{notSimple}
-use Rattle.used.specs.Used.{usedWrong}
-use Rattle.words.specs.Bits.{bit, wordOf}
-use Rattle.words.specs.Search.{every, first, some}
 use Rattle.claims_groups.specs.GroupRuns.{
   CallOf,
   SharedCall,
   Observation,
@@ -22,10 +17,12 @@ use Rattle.claims_groups.specs.GroupRuns.{
   observations,
   sharedStart,
 }
-
--- qubits 0 to 31 are of group 0, the others of group 1
-abbrev halves : ℕ
-halves = 2 ^ 64 - 2 ^ 32
+use Rattle.groups.proofs.GroupExamples.{halves}
+use Rattle.groups.specs.Masks.{crosses, reachesOut}
+use Rattle.record.specs.Lent.{notSimple}
+use Rattle.used.specs.Used.{usedWrong}
+use Rattle.words.specs.Bits.{bit, wordOf}
+use Rattle.words.specs.Search.{every, first, some}
 
 abbrev by : ℕ → SharedCall → CallOf
 by g c = record { group = g; call = c }
