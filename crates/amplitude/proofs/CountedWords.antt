@@ -31,7 +31,7 @@ use Rattle.words.proofs.Sums.{bitMonoid, fold-ext, fold-more, lt-or-ge}
 use Rattle.words.specs.Bits.{Word, _⊕_, bit, digit, fold, parity, sameBit}
 use Rattle.words.specs.Search.{every}
 use Rattle.amplitude.proofs.Answers.{of-group}
-use Rattle.amplitude.proofs.FormOfReduced.{code-c-of, form-of-reduced}
+use Rattle.graph_steps.proofs.FormOfReduced.{code-c-of, form-of-reduced}
 use Rattle.amplitude.proofs.FormWords.{Solves, solves-supported, supported-solves}
 use Rattle.amplitude.proofs.Support.{supported-exactly}
 use Rattle.amplitude.specs.internal.KeptTurns.{fitsAt}

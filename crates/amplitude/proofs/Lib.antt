@@ -1,6 +1,5 @@
 pub mod TurnLaws
 pub mod Support
-pub mod FormOfReduced
 pub mod FormRows
 pub mod FormWords
 pub mod Existence

@@ -8,6 +8,7 @@ ghost use mathlib.Core.Path.{_≡_};
 ghost use Rattle.contracts.specs.Calls.{Call};
 ghost use Rattle.buffers.specs.Refusals.{firstFitting};
 ghost use Rattle.operations.specs.Steps.{czOn, gateWith};
+ghost use Rattle.operations_gates.specs.internal.Settled.{Settled};
 ghost use Rattle.used.specs.Used.{usedLines};
 ghost use Rattle.words.specs.Bits.{bit};
 ghost use Rattle.call_gates.specs.InPlaceCalls.{usedCall};
@@ -88,7 +89,8 @@ pub fn in_place_refusal(
     if sixteen { 16 } else { 0 }
 }
 
-// A code applied after the code held at a qubit, and the reduced record.
+// A code applied after the code held at a qubit, and the reduced record. `known`: no line of the record alone
+// holds; `settled`: it is reduced.
 pub fn gate_known(
     n: u64,
     neighbours: &mut [u64],
@@ -97,11 +99,13 @@ pub fn gate_known(
     qubit: u64,
     code: u8,
     known: bool,
+    settled: bool,
 ) -> u8
     requires { ⌜ Known known (record {
       held = record { n = n; neighbours = now neighbours; codes = now codes };
       used = used;
     }) ⌝ }
+    requires { ⌜ Settled settled (now neighbours) (now codes) ⌝ }
     ensures { λ r. ⌜ Call (usedCall (record {
       held = record { n = n; neighbours = now (neighbours .entry); codes = now (codes .entry) };
       used = used;
@@ -121,7 +125,7 @@ pub fn gate_known(
     if early != 0 {
         return early;
     }
-    gate_record(neighbours, codes, qubit as usize, code);
+    gate_record(neighbours, codes, qubit as usize, code, settled);
     0
 }
 
@@ -134,11 +138,13 @@ pub fn cz_known(
     a: u64,
     b: u64,
     known: bool,
+    settled: bool,
 ) -> u8
     requires { ⌜ Known known (record {
       held = record { n = n; neighbours = now neighbours; codes = now codes };
       used = used;
     }) ⌝ }
+    requires { ⌜ Settled settled (now neighbours) (now codes) ⌝ }
     ensures { λ r. ⌜ Call (usedCall (record {
       held = record { n = n; neighbours = now (neighbours .entry); codes = now (codes .entry) };
       used = used;
@@ -150,7 +156,7 @@ pub fn cz_known(
     if early != 0 {
         return early;
     }
-    cz_record(neighbours, codes, a as usize, b as usize);
+    cz_record(neighbours, codes, a as usize, b as usize, settled);
     0
 }
 
@@ -161,7 +167,7 @@ pub fn gate(n: u64, neighbours: &mut [u64], codes: &mut [u8], used: u64, qubit: 
       used = used;
     }) (gateWith qubit code) (now (neighbours .exit)) (now (codes .exit))) r ⌝ }
 {
-    gate_known(n, neighbours, codes, used, qubit, code, false)
+    gate_known(n, neighbours, codes, used, qubit, code, false, false)
 }
 
 pub fn cz(n: u64, neighbours: &mut [u64], codes: &mut [u8], used: u64, a: u64, b: u64) -> u8
@@ -170,5 +176,5 @@ pub fn cz(n: u64, neighbours: &mut [u64], codes: &mut [u8], used: u64, a: u64, b
       used = used;
     }) (czOn a b) (now (neighbours .exit)) (now (codes .exit))) r ⌝ }
 {
-    cz_known(n, neighbours, codes, used, a, b, false)
+    cz_known(n, neighbours, codes, used, a, b, false, false)
 }

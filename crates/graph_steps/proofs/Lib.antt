@@ -10,3 +10,4 @@ pub mod CzSteps
 pub mod Isolation
 pub mod Keeping
 pub mod OutOfPlace
+pub mod FormOfReduced

@@ -33,7 +33,7 @@ use Rattle.record.proofs.AcceptedRecords.{accepted-record}
 use Rattle.record.specs.Accepted.{AcceptedRecord}
 use Rattle.record.specs.Lent.{heldRecord}
 use Rattle.record.specs.Records.{GraphRecord, complementRecord}
-use Rattle.words.proofs.BitLaws.{bit-above, bit-shr, zero-bit}
+use Rattle.words.proofs.BitLaws.{bit-above, bit-ext∞, bit-shr, zero-bit}
 use Rattle.words.proofs.Flags.{both-true, either, neither, true-sameBit}
 use Rattle.words.proofs.SearchLaws.{every-at, first-is, first-none}
 use Rattle.words.proofs.Sums.{lt-or-ge}
@@ -104,6 +104,23 @@ module _ (words codes : List ℕ) (U : Unrefused (recordIn words codes)) where
           | inr m ↦ absurd (true≢false (sym e ∙ placed q j (h q l) c m))
         ];
       }
+
+  -- and the other way round: in the reduced form no vertex is out of place
+  pub form-settled : ReducedForm (length words) (heldRecord (recordIn words codes)) → (q : ℕ) → q < length words
+      → unsettled words codes q ≡ false
+  form-settled F q l =
+      ap₂ (λ a b. a || (b || (leb 8 (k q) && not (eqb (w q / 2 ^ q) 0))))
+      (lt-leb 12 (k q) (subst (λ m. m < 12) (codeOf-cliffordOf (k q) (A .codes-below q)) (F .low q l))) (F .even q l)
+      ∙ none-larger (leb 8 (k q)) refl
+    where
+      smaller : leb 8 (k q) ≡ true → (j : ℕ) (b : Bool) → bit (w q) (q + j) ≡ b → b ≡ false
+      smaller c j false e = refl
+      smaller c j true e = absurd (omega (arith, F .smaller q (q + j) l (number-C (k q) (A .codes-below q) ∙ c) e))
+
+      none-larger : (b : Bool) → leb 8 (k q) ≡ b → (b && not (eqb (w q / 2 ^ q) 0)) ≡ false
+      none-larger false c = refl
+      none-larger true c = ap (λ v. not (eqb v 0)) {x = w q / 2 ^ q} {y = 0}
+          (bit-ext∞ (w q / 2 ^ q) 0 (λ j. bit-shr (w q) q j ∙ smaller c j _ refl ∙ sym (zero-bit j)))
 
   -- ---- the first vertex out of place
   module _ (j : ℕ) (hj : j < length words) (first-one : j ≡ first (length words) (unsettled words codes)) where

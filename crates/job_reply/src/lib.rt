@@ -30,7 +30,7 @@ fn print_results(count: usize, answers: &[u8], out: &mut [u8]) -> usize
     let mut k = 0;
     while k < count {
         let p = answers[k];
-        at = print_result(k as u16, p / 4 % 64, p / 2 % 2, p % 2, at, out);
+        at = print_result(k as u16, p / 4 % 32, p / 2 % 2, p % 2, at, out);
         k += 1;
     }
     at

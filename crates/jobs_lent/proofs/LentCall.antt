@@ -30,7 +30,6 @@ use prog.Routine.{Routine}
 use prog.Wp.{Heap}
 use types.Kit.{ !, Given, _$_, _∵_, _⊛_, await, check, done, drop as dropᴷ, feqL, fjoin, frame, fsplit, join, keep}
 use types.Kit.{later, move, now as at-once, pick, qed, raw, show, some, split, updating, use1, ‵, ⋆}
-use Rattle.call_gates.specs.internal.Knowing.{Known}
 use Rattle.jobs.proofs.Step as S
 use Rattle.jobs.proofs.Step.Laws as S′
 use Rattle.jobs.specs.declared.Step.{Step}
@@ -38,7 +37,7 @@ use Rattle.used.specs.Used.{UsedRecord}
 use Rattle.jobs_lent.proofs.Lending.{Lent, Own, ref, val}
 use Rattle.jobs_lent.proofs.TurnCall.{Fitting, Now, Turning, left}
 use Rattle.jobs_lent.proofs.run_lent as run-lent
-use Rattle.jobs_lent.specs.internal.LentRuns.{LentRun}
+use Rattle.jobs_lent.specs.internal.LentRuns.{LentRun, ReadyAt}
 
 abbrev pub R : RattleType
 R = S.the-row
@@ -80,7 +79,7 @@ module _ (X : Passed) where
   record-lent = left (T .n) start
 
   abbrev pub Asks : Type 0
-  Asks = (T .place + length (L₂ .first) ≤ length (L₃ .first)) × Known (T .known) record-lent
+  Asks = (T .place + length (L₂ .first) ≤ length (L₃ .first)) × ReadyAt (T .known) (T .place) (L₃ .first) record-lent
 
   -- all steps were run, and the lists are y
   abbrev pub Ran : Now → Type 0

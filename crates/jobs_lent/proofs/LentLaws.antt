@@ -6,10 +6,8 @@ use Prim.Native.Nat.{_+_, _<_, _^_, _≤_, suc, ℕ}
 use native.Mathlib.Omega.{arith}
 use lib.ListN.{getD, length, set, take}
 use lib.Seq.{length-take-le, take-all, take-suc}
-use Rattle.call_gates.specs.internal.Knowing.{Known}
-use Rattle.jobs.proofs.Printing.{outcome-small, refusal-small}
 use Rattle.jobs.proofs.Stepwise.{run-qubits}
-use Rattle.jobs.specs.Runs.{afterStep, answerOf, run, stepAnswers}
+use Rattle.jobs.specs.Runs.{afterStep, answerOf, run}
 use Rattle.jobs.specs.declared.Answer.{Answer}
 use Rattle.jobs.specs.declared.Step.{Step}
 use Rattle.jobs_run.proofs.KeptRecords.{run-known}
@@ -17,7 +15,8 @@ use Rattle.jobs_run.specs.internal.StepRuns.{StepRun}
 use Rattle.text.proofs.Writing.{write-more, write-none, write-one}
 use Rattle.text.specs.Text.{overwritten}
 use Rattle.used.specs.Used.{UsedRecord}
-use Rattle.jobs_lent.specs.internal.LentRuns.{LentRun, SmallAnswer, packed, packedAnswers}
+use Rattle.jobs_lent.proofs.MarkedSteps.{marked-after}
+use Rattle.jobs_lent.specs.internal.LentRuns.{LentRun, ReadyAt, packed, packedAnswers}
 
 -- ---- definitions on a list behind another
 run-append : (u : UsedRecord) (xs ys : List Step) → run u (xs ++ ys) ≡ run (run u xs) ys
@@ -27,42 +26,35 @@ run-append u (x ∷ xs) ys = run-append (afterStep u x) xs ys
 
 answers-append : (u : UsedRecord) (xs ys : List Step)
     → packedAnswers u (xs ++ ys) ≡ packedAnswers u xs ++ packedAnswers (run u xs) ys
-unfolding run stepAnswers
+unfolding run packedAnswers
 answers-append u [] ys = refl
-answers-append u (x ∷ xs) ys = ap (λ t. packed (answerOf u x) ∷ t) (answers-append (afterStep u x) xs ys)
+answers-append u (x ∷ xs) ys = ap (λ t. packed (x .op) (answerOf u x) ∷ t) (answers-append (afterStep u x) xs ys)
 
 pub answers-long : (u : UsedRecord) (xs : List Step) → length (packedAnswers u xs) ≡ length xs
-unfolding stepAnswers
+unfolding packedAnswers
 answers-long u [] = refl
 answers-long u (x ∷ xs) = ap suc (answers-long (afterStep u x) xs)
-
--- ---- answers are small
-pub small-answer : (u : UsedRecord) (s : Step) (r : Answer) → r ≡ answerOf u s → SmallAnswer r
-small-answer u s r e = subst SmallAnswer (sym e) (record {
-  refusal = omega (arith, refusal-small u s);
-  outcome = outcome-small u s .0;
-  determined = outcome-small u s .1;
-})
 
 -- ---- runs
 -- one step, from what it promises
 pub one-ran : (u : UsedRecord) (s : Step) (at : ℕ) (before : List ℕ) → at < length before → (r : Answer) (p : ℕ)
-    → p ≡ packed r → (nb cs : List ℕ) (used : ℕ) → StepRun u s r nb cs used
+    → p ≡ packed (s .op) r → (nb cs : List ℕ) (used : ℕ) → StepRun u s r nb cs used
     → LentRun u (s ∷ []) at before nb cs used (set before at p)
-unfolding run stepAnswers
+unfolding run packedAnswers
 one-ran u s at before inside r p e nb cs used R =
     record {
       words = R .words;
       numbers = R .numbers;
       marks = R .marks;
-      answers = ap (set before at) (e ∙ ap packed (R .answer)) ∙ write-one before at (packed (answerOf u s)) inside;
+      answers = ap (set before at) (e ∙ ap (packed (s .op)) (R .answer))
+          ∙ write-one before at (packed (s .op) (answerOf u s)) inside;
     }
 
 module _ (u : UsedRecord) where
   -- no step
   pub none-ran : (at : ℕ) (before : List ℕ)
       → LentRun u [] at before (u .held .neighbours) (u .held .codes) (u .used) before
-  unfolding run stepAnswers
+  unfolding run packedAnswers
   none-ran at before =
       record { words = refl; numbers = refl; marks = refl; answers = write-none before at }
 
@@ -78,9 +70,14 @@ module _ (u : UsedRecord) where
       used = R .marks i;
     }
 
-    -- what was known of the record is known of it
-    pub known-left : (known : Bool) → Known known u → Known known left
-    known-left known K = subst (Known known) (sym left-is) (run-known u known K xs)
+    -- what was known of the record is known of it, and its last mark tells of it
+    pub ready-left : at ≤ length before → (known : Bool) → ReadyAt known at before u
+        → ReadyAt known (at + length xs) mid left
+    ready-left inside known K =
+        subst (ReadyAt known (at + length xs) mid) (sym left-is)
+        (subst (λ t. ReadyAt known (at + length xs) t (run u xs)) (sym (R .answers))
+        (subst (λ m. ReadyAt known (at + m) (overwritten before at (packedAnswers u xs)) (run u xs)) (answers-long u xs)
+        (record { checked = run-known u known (K .checked) xs; settled = marked-after u xs at before inside (K .settled) })))
 
     -- further steps behind them
     pub ran-on : at + length xs ≤ length before → (ys : List Step) (nb′ cs′ : List ℕ) (used′ : ℕ) (after : List ℕ)
@@ -162,10 +159,15 @@ module _ (u : UsedRecord) (steps : List Step) (at : ℕ) (before : List ℕ) whe
 
     -- what a step asks
     pub upto-asks : Upto u steps at before (suc rest) k nb cs used mid → at + length steps ≤ length before
-        → (known : Bool) → Known known u
-        → (at + k < length mid) × Known known (record { held = record { n = u .held .n; neighbours = nb; codes = cs }; used = used })
-    upto-asks U room known K =
-        (omega (arith, U .count, U .answers-long), known-left u (take k steps) at before nb cs used mid (U .ran) known K)
+        → (known : Bool) → ReadyAt known at before u
+        → (at + k < length mid)
+        × ReadyAt known (at + k) mid (record { held = record { n = u .held .n; neighbours = nb; codes = cs }; used = used })
+    upto-asks U room known K = (
+      omega (arith, U .count, U .answers-long),
+      subst (λ m. ReadyAt known (at + m) mid (record { held = record { n = u .held .n; neighbours = nb; codes = cs }; used = used }))
+          (length-take-le k steps (omega (arith, U .count)))
+          (ready-left u (take k steps) at before nb cs used mid (U .ran) (omega (arith, room)) known K),
+    )
 
     -- all of them
     pub upto-all : Upto u steps at before 0 k nb cs used mid → LentRun u steps at before nb cs used mid

@@ -38,7 +38,6 @@ use types.Part.{agg, look-in, sub, whole}
 use types.Run.{addr, and-then, assigns, assigns-last, bin, exec, fld, forget, from, hop, init, land, leaves-loop, lit}
 use types.Run.{load, look, no-more, of-opd, stays, stop, store}
 use types.Share.{arr-parts}
-use Rattle.call_gates.specs.internal.Knowing.{Known}
 use Rattle.jobs.proofs.Step as S
 use Rattle.jobs.proofs.Step.Laws as S′
 use Rattle.jobs.specs.declared.Op.the-variants.{Gate}
@@ -52,6 +51,7 @@ use Rattle.jobs_lent.proofs.LentLaws.{Upto, upto-all, upto-asks, upto-n
 use Rattle.jobs_lent.proofs.Locals.{Places, at, behind, block, dying, leaves, lying, span}
 use Rattle.jobs_lent.proofs.TurnCall.{Buffers, Came, Fitting, Kepts, Names, Now, Turn, Turning, called, left, mach, returned, to}
 use Rattle.jobs_lent.proofs.turn.Symbol.{name as #turn}
+use Rattle.jobs_lent.specs.internal.LentRuns.{ReadyAt}
 
 -- what a list of steps is read as past its end
 abbrev noStep : Step
@@ -114,7 +114,7 @@ module _ {M : Type 1} (𝓤 : URA M) (H : Heap 𝓤) (A : Atoms 𝓤) (W : Given
     Left = afterBlock 𝓤 H (afterSeq 𝓤 H (Wp 𝓤 H C Λ En rest (atReturn 𝓤 H En (Post 𝓤 H A W mem run X))) (atReturn 𝓤 H En (Post 𝓤 H A W mem run X)))
 
     -- ---- a turn that goes on
-    more : (i : ℕ) (x : Now) (Y : SProp 𝓤) → i < m → Fitting T x → (T .place + i < length (x .answers)) × Known (T .known) (left (T .n) x)
+    more : (i : ℕ) (x : Now) (Y : SProp 𝓤) → i < m → Fitting T x → (T .place + i < length (x .answers)) × ReadyAt (T .known) (T .place + i) (x .answers) (left (T .n) x)
         → ((v : Val) (y : Now) → Came T x (elem i) i v y → ent 𝓤 (⋆ 𝓤 H A (At (suc i) y)) Y)
         → ent 𝓤 (⋆ 𝓤 H A (At i x)) (Wp 𝓤 H C Λ En body (afterTurn 𝓤 H Y Left))
     unfolding afterTurn

@@ -8,6 +8,7 @@ pub mod LentExit
 pub mod LentLaws
 pub mod LentLoop
 pub mod Locals
+pub mod MarkedSteps
 pub mod Prefix
 pub mod StepArray
 pub mod TurnCall

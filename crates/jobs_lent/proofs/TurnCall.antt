@@ -61,12 +61,11 @@ use types.Kit.{
   use3,
   ‵,
 }
-use Rattle.call_gates.specs.internal.Knowing.{Known}
 use Rattle.jobs.proofs.Step as S
 use Rattle.jobs.proofs.Step.Laws as S′
 use Rattle.jobs.specs.declared.Step.{Step}
 use Rattle.used.specs.Used.{UsedRecord}
-use Rattle.jobs_lent.specs.internal.LentRuns.{LentRun}
+use Rattle.jobs_lent.specs.internal.LentRuns.{LentRun, ReadyAt}
 use Rattle.jobs_lent.proofs.Lending.{Holds, Kept, Lent, Out, Token, comes-in, goes-out, ref, val}
 use Rattle.jobs_lent.proofs.turn as turn
 
@@ -165,7 +164,7 @@ module _ (T : Turning) where
       to g = (((g .0 .0 ∷ [], (g .1 .0 .0 ∷ [], (g .1 .1 .0 ∷ [], tt))), (fullShare, (fullShare, (fullShare, tt))), tt, args g, at g), tt)
 
       module _ (gn : n < 2 ^ 64) (gp : place < 2 ^ 64) (gi : i < 2 ^ 64) (gs : Is S.the-row s (mach s ∷ [])) (F : Fitting x)
-          (asks : (place + i < length (x .answers)) × Known known (left n x)) where
+          (asks : (place + i < length (x .answers)) × ReadyAt known (place + i) (x .answers) (left n x)) where
         asked : (g : Names) → ent 𝓤 (sep 𝓤 (sem 𝓤 H A (Token u64 L₀ (g .0))) (sep 𝓤 (sem 𝓤 H A (Token u8 L₁ (g .1 .0))) (sep 𝓤 (sem 𝓤 H A (Token u8 L₃ (g .1 .1)))
             (sep 𝓤 (sem 𝓤 H A (Out u64 L₀ (named 0) (g .0) (x .neighbours))) (sep 𝓤 (sem 𝓤 H A (Out u8 L₁ (named 1) (g .1 .0) (x .codes)))
             (sem 𝓤 H A (Out u8 L₃ (named 2) (g .1 .1) (x .answers)))))))) (Turn 𝓤 H A mem run .pre (to g))

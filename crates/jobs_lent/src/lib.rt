@@ -1,23 +1,61 @@
 // Runs the steps of a lent slice on a lent record in place, and keeps what each answers as one number.
 use jobs::Answer;
+use jobs::Op;
 use jobs::Step;
 use jobs_run::run_step;
 ghost use mathlib.Core.List.{[], _∷_};
 ghost use mathlib.Core.Path.{_≡_};
 ghost use Prim.Native.Nat.{_+_, _<_, _≤_};
 ghost use lib.ListN.{length, take};
-ghost use Rattle.call_gates.specs.internal.Knowing.{Known};
-ghost use Rattle.jobs_lent.specs.internal.LentRuns.{LentRun, SmallAnswer, packed};
+ghost use Rattle.jobs_lent.specs.internal.LentRuns.{LentRun, ReadyAt, SmallAnswer};
+ghost use Rattle.jobs_lent.specs.internal.LentRuns.{leavesReduced, markOf, markedBefore, packed};
 
-// An answer as one number.
-fn pack(r: Answer) -> u8
-    requires { ⌜ SmallAnswer r ⌝ }
-    ensures { λ p. ⌜ p ≡ packed r ⌝ }
+// Whether the operation, if it is accepted, leaves a reduced record.
+fn leaves_reduced(op: Op) -> bool
+    ensures { λ r. ⌜ r ≡ leavesReduced op ⌝ }
 {
-    r.refusal * 4 + r.outcome * 2 + r.determined
+    match op {
+        Op::Gate => true,
+        Op::Cz => true,
+        Op::Measure => true,
+        Op::Complement => false,
+        Op::Pivot => false,
+    }
 }
 
-// One step: what it answers is kept at place at + k, and the used word after it is the result.
+// The mark of a step that left a reduced record.
+fn mark(op: Op, refusal: u8) -> u8
+    ensures { λ r. ⌜ r ≡ markOf op refusal ⌝ }
+{
+    if leaves_reduced(op) & (refusal == 0) {
+        128
+    } else {
+        0
+    }
+}
+
+// An answer as one number, with the mark.
+fn pack(op: Op, r: Answer) -> u8
+    requires { ⌜ SmallAnswer r ⌝ }
+    ensures { λ p. ⌜ p ≡ packed op r ⌝ }
+{
+    let refusal = r.refusal;
+    mark(op, refusal) + (refusal * 4 + r.outcome * 2 + r.determined)
+}
+
+// Whether the answer before a place has the mark; there is none before the first.
+fn marked_before(answers: &[u8], place: usize) -> bool
+    requires { ⌜ place ≤ length (now answers) ⌝ }
+    ensures { λ r. ⌜ r ≡ markedBefore place (now (answers .entry)) ⌝ }
+{
+    if place == 0 {
+        return false;
+    }
+    128 <= answers[place - 1]
+}
+
+// One step: what it answers is kept at place at + k, and the used word after it is the result. What is kept at the place
+// before it tells whether the record is reduced.
 fn turn(
     n: u64,
     neighbours: &mut [u64],
@@ -29,7 +67,7 @@ fn turn(
     k: usize,
     answers: &mut [u8],
 ) -> u64
-    requires { ⌜ (at + k < length (now answers)) × Known known (record {
+    requires { ⌜ (at + k < length (now answers)) × ReadyAt known (at + k) (now answers) (record {
       held = record { n = n; neighbours = now neighbours; codes = now codes };
       used = used;
     }) ⌝ }
@@ -39,9 +77,11 @@ fn turn(
     }) (s ∷ []) (at + k) (now (answers .entry)) (now (neighbours .exit)) (now (codes .exit)) r (now (answers .exit)) ⌝ }
 {
     let mut word = used;
-    let r = run_step(n, neighbours, codes, &mut word, s, known);
     let place = at + k;
-    answers[place] = pack(r);
+    let settled = marked_before(answers, place);
+    let r = run_step(n, neighbours, codes, &mut word, s, known, settled);
+    let op = s.op;
+    answers[place] = pack(op, r);
     word
 }
 
@@ -56,7 +96,7 @@ pub fn run_lent(
     at: usize,
     answers: &mut [u8],
 ) -> u64
-    requires { ⌜ (at + length (now steps) ≤ length (now answers)) × Known known (record {
+    requires { ⌜ (at + length (now steps) ≤ length (now answers)) × ReadyAt known at (now answers) (record {
       held = record { n = n; neighbours = now neighbours; codes = now codes };
       used = used;
     }) ⌝ }
@@ -87,7 +127,7 @@ pub fn run_block(
     at: usize,
     answers: &mut [u8],
 ) -> u64
-    requires { ⌜ (count ≤ 64) × ((at + count ≤ length (now answers)) × Known known (record {
+    requires { ⌜ (count ≤ 64) × ((at + count ≤ length (now answers)) × ReadyAt known at (now answers) (record {
       held = record { n = n; neighbours = now neighbours; codes = now codes };
       used = used;
     })) ⌝ }

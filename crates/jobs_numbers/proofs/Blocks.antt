@@ -1,4 +1,5 @@
 -- Blocks of steps: a block is filled place by place, and blocks run one behind the other.
+use mathlib.Core.Bool.{Bool}
 use mathlib.Core.List.{_++_, List, [], _∷_}
 use mathlib.Core.Path.{_∙_, _≡_, ap, refl, subst, sym}
 use Prim.Native.Nat.{_+_, _≤_, suc, zero, ℕ}
@@ -10,8 +11,8 @@ use Rattle.buffers.proofs.Filling.{FilledBy, all-filled}
 use Rattle.jobs.proofs.ParallelLaws.{block-is}
 use Rattle.jobs.specs.declared.Step.{Step}
 use Rattle.jobs.specs.Parallel.{numbered, stepIn, stepsIn}
-use Rattle.jobs_lent.proofs.LentLaws.{none-ran, ran-on}
-use Rattle.jobs_lent.specs.internal.LentRuns.{LentRun}
+use Rattle.jobs_lent.proofs.LentLaws.{none-ran, ran-on, ready-left}
+use Rattle.jobs_lent.specs.internal.LentRuns.{LentRun, ReadyAt}
 use Rattle.used.specs.Used.{UsedRecord}
 
 -- a block of 64 steps, those below k filled with the steps of the lists from a place on
@@ -33,6 +34,17 @@ take-more : (k m : ℕ) (l : List Step) → take k l ++ take m (drop k l) ≡ ta
 take-more zero m l = ap (λ i. take i l) (sym (zero-add m))
 take-more (suc k) m [] = take-nothing m ∙ sym (take-nothing (suc k + m))
 take-more (suc k) m (x ∷ l) = ap (λ t. x ∷ t) (take-more k m l) ∙ ap (λ i. take i (x ∷ l)) (sym (suc-add k m))
+
+-- what is known before a block is known behind it
+pub block-ready : (u : UsedRecord) (known : Bool) (k m : ℕ) (block : List Step) → m ≤ length block
+    → (before nb cs : List ℕ) (used : ℕ) (after : List ℕ) → LentRun u (take m block) k before nb cs used after
+    → k ≤ length before → ReadyAt known k before u
+    → ReadyAt known (k + m) after (record { held = record { n = u .held .n; neighbours = nb; codes = cs }; used = used })
+block-ready u known k m block few before nb cs used after R inside K =
+    subst (λ j. ReadyAt known (k + j) after (record {
+      held = record { n = u .held .n; neighbours = nb; codes = cs };
+      used = used;
+    })) (length-take-le m block few) (ready-left u (take m block) k before nb cs used after R inside known K)
 
 -- ---- blocks one behind the other
 -- after k of the steps

@@ -15,6 +15,7 @@ ghost use Rattle.contracts.specs.Calls.{Call};
 ghost use Rattle.jobs.specs.Asked.{operationOf};
 ghost use Rattle.call_gates.specs.InPlaceCalls.{usedCall, usedMeasureCall};
 ghost use Rattle.call_gates.specs.internal.Knowing.{Known};
+ghost use Rattle.operations_gates.specs.internal.Settled.{Settled};
 ghost use Rattle.jobs_run.specs.internal.StepRuns.{Rewriting, StepRun};
 
 // A measurement with the value 2 × (Pauli − 1) + outcome. A refused one answers 0 and 0.
@@ -72,27 +73,30 @@ fn rewrite(
     b: u64,
     value: u16,
     known: bool,
+    settled: bool,
 ) -> u8
     requires { ⌜ Rewriting op value ⌝ }
     requires { ⌜ Known known (record {
       held = record { n = n; neighbours = now neighbours; codes = now codes };
       used = used;
     }) ⌝ }
+    requires { ⌜ Settled settled (now neighbours) (now codes) ⌝ }
     ensures { λ r. ⌜ Call (usedCall (record {
       held = record { n = n; neighbours = now (neighbours .entry); codes = now (codes .entry) };
       used = used;
     }) (operationOf op a b value) (now (neighbours .exit)) (now (codes .exit))) r ⌝ }
 {
     match op {
-        Op::Gate => gate_known(n, neighbours, codes, used, a, value as u8, known),
-        Op::Cz => cz_known(n, neighbours, codes, used, a, b, known),
+        Op::Gate => gate_known(n, neighbours, codes, used, a, value as u8, known, settled),
+        Op::Cz => cz_known(n, neighbours, codes, used, a, b, known, settled),
         Op::Complement => complement_known(n, neighbours, codes, used, a, known),
         Op::Pivot => pivot_known(n, neighbours, codes, used, a, b, known),
         Op::Measure => 0,
     }
 }
 
-// One step: its refusal, outcome and determined, and the record as it leaves it. `known`: no line refuses the record.
+// One step: its refusal, outcome and determined, and the record as it leaves it. `known`: no line refuses the
+// record; `settled`: it is reduced.
 pub fn run_step(
     n: u64,
     neighbours: &mut [u64],
@@ -100,11 +104,13 @@ pub fn run_step(
     used: &mut u64,
     s: Step,
     known: bool,
+    settled: bool,
 ) -> Answer
     requires { ⌜ Known known (record {
       held = record { n = n; neighbours = now neighbours; codes = now codes };
       used = now used;
     }) ⌝ }
+    requires { ⌜ Settled settled (now neighbours) (now codes) ⌝ }
     ensures { λ r. ⌜ StepRun (record {
       held = record { n = n; neighbours = now (neighbours .entry); codes = now (codes .entry) };
       used = now (used .entry);
@@ -125,7 +131,18 @@ pub fn run_step(
     if let Op::Measure = op {
         return run_measurement(n, neighbours, codes, used, a, value, known);
     }
-    let refusal = rewrite(n, neighbours, codes, word, op, a, s.b as u64, value, known);
+    let refusal = rewrite(
+        n,
+        neighbours,
+        codes,
+        word,
+        op,
+        a,
+        s.b as u64,
+        value,
+        known,
+        settled,
+    );
     Answer {
         refusal,
         outcome: 0,

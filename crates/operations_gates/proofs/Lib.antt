@@ -1,3 +1,4 @@
 pub mod GatedBuffers
 pub mod ReachedSets
 pub mod CzBuffers
+pub mod SettledRecords

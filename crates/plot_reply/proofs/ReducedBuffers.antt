@@ -5,7 +5,7 @@ use mathlib.Core.Path.{ap, ap₂, subst, sym, _∙_, _≡_}
 use Prim.Native.Nat.{ℕ, _≤_}
 use lib.ListN.{length}
 use Rattle.amplitude.proofs.CountedWords.{plot-of-group}
-use Rattle.amplitude.proofs.FormOfReduced.{form-of-reduced}
+use Rattle.graph_steps.proofs.FormOfReduced.{form-of-reduced}
 use Rattle.amplitude.specs.Ratios.{lowest, plotAt}
 use Rattle.amplitude_answer.specs.internal.Plottable.{Plottable}
 use Rattle.buffers.proofs.Tabulate.{tabulate-length}

@@ -12,7 +12,7 @@ use Rattle.buffers.specs.Buffers.{tabulate}
 
 -- the parts of what place k holds: the number of the refusal, the outcome, and whether it was determined
 abbrev pub refusalAt : List ℕ → ℕ → ℕ
-refusalAt kept k = getD kept k 0 / 4 % 64
+refusalAt kept k = getD kept k 0 / 4 % 32
 
 abbrev pub outcomeAt : List ℕ → ℕ → ℕ
 outcomeAt kept k = getD kept k 0 / 2 % 2
@@ -38,13 +38,13 @@ module _ (kept : List ℕ) where
 
   module _ (refusals outcomes determined : List ℕ) (k : ℕ) (T : Told kept refusals outcomes determined k) where
     -- a place more
-    pub told-next : k < length kept → Told kept (set refusals k (getD refusals k 0 / 4 % 64))
+    pub told-next : k < length kept → Told kept (set refusals k (getD refusals k 0 / 4 % 32))
         (set outcomes k (getD refusals k 0 / 2 % 2)) (set determined k (getD refusals k 0 % 2)) (k + 1)
     told-next inside =
         let same = T .numbers .rest k (le-refl k) in
         record {
           numbers = mapped-store (λ j v. v ≡ refusalAt kept j) kept refusals k _ (T .numbers) inside
-              (ap (λ p. p / 4 % 64) same);
+              (ap (λ p. p / 4 % 32) same);
           bits = fill-step (length kept) (outcomeAt kept) outcomes k _ (T .bits) inside (ap (λ p. p / 2 % 2) same);
           marks = fill-step (length kept) (determinedAt kept) determined k _ (T .marks) inside (ap (λ p. p % 2) same);
         }

@@ -41,11 +41,12 @@ pub fn run_refusal(
     used_refusal(n, neighbours, codes, used, 0, others, six)
 }
 
-// The answers that were kept as one number each, told apart: the number of the refusal stays where it was.
+// The answers that were kept as one number each, told apart: the number of the refusal stays where it was, without the
+// mark.
 pub fn unpack(answers: &mut [u8], outcomes: &mut [u8], determined: &mut [u8])
     requires { ⌜ (length (now outcomes) ≡ length (now answers)) × (length (now determined) ≡ length (now answers)) ⌝ }
     ensures { λ r. ⌜ (now (answers .exit)
-        ≡ tabulate (length (now (answers .entry))) (λ k. getD (now (answers .entry)) k 0 / 4 % 64))
+        ≡ tabulate (length (now (answers .entry))) (λ k. getD (now (answers .entry)) k 0 / 4 % 32))
         × (now (outcomes .exit)
         ≡ tabulate (length (now (answers .entry))) (λ k. getD (now (answers .entry)) k 0 / 2 % 2))
         × (now (determined .exit)
@@ -54,7 +55,7 @@ pub fn unpack(answers: &mut [u8], outcomes: &mut [u8], determined: &mut [u8])
     let mut k = 0;
     while k < answers.len() {
         let p = answers[k];
-        answers[k] = p / 4 % 64;
+        answers[k] = p / 4 % 32;
         outcomes[k] = p / 2 % 2;
         determined[k] = p % 2;
         k += 1;

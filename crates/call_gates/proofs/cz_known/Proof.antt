@@ -41,8 +41,9 @@ cz-record-requires : tie.Need-cz-record-requires
 cz-record-requires c κs =
     let D = c .before .before in
     let S = D .before .before .before .before .before .before .before .before in
-    cz-ready (lent S .held) (S .args .a) (S .args .b)
-    (as-before (lent S) (asked S) (number (D .before)) (D .if1 .left))
+    let ready = cz-ready (lent S .held) (S .args .a) (S .args .b)
+    (as-before (lent S) (asked S) (number (D .before)) (D .if1 .left)) in
+    (ready .0, (ready .1, S .pre .1))
 
 returns-2 : tie.Need-returns-2
 returns-2 c =

@@ -39,8 +39,9 @@ gate-record-requires : tie.Need-gate-record-requires
 gate-record-requires c κs =
     let D = c .before .before in
     let S = D .before .before .before .before .before .before .before in
-    gate-ready (lent S .held) (S .args .qubit) (S .args .code)
-    (as-before (lent S) (asked S) (number (D .before)) (D .if1 .left))
+    let ready = gate-ready (lent S .held) (S .args .qubit) (S .args .code)
+    (as-before (lent S) (asked S) (number (D .before)) (D .if1 .left)) in
+    (ready .0, (ready .1, S .pre .1))
 
 returns-2 : tie.Need-returns-2
 returns-2 c =

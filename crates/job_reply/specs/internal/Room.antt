@@ -19,7 +19,7 @@ pub record Fresh (n : ℕ) (neighbours codes : List ℕ) (count : ℕ) (answers 
 abbrev pub resultIn : List ℕ → ℕ → Result
 resultIn answers k =
     record {
-      refusal = getD answers k 0 / 4 % 64;
+      refusal = getD answers k 0 / 4 % 32;
       outcome = getD answers k 0 / 2 % 2;
       determined = getD answers k 0 % 2;
     }

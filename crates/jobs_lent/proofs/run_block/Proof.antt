@@ -45,7 +45,6 @@ use types.Kit.{later, learn, move, pick, qed, raw, rewrite, some, split, split3,
 use types.Part.{agg, look-in, sub, whole}
 use types.Run.{addr, and-then, assigns, fld, from, hop, init, land, load, look, no-more, of-opd, stop}
 use borrow.Rule.Array.Share.{room-take}
-use Rattle.call_gates.specs.internal.Knowing.{Known}
 use Rattle.jobs.proofs.Step as S
 use Rattle.jobs.proofs.Step.Laws as S′
 use Rattle.jobs.specs.declared.Step.{Step}
@@ -62,6 +61,7 @@ use Rattle.jobs_lent.proofs.run_lent.Key.{name as #run-lent}
 use Rattle.jobs_lent.proofs.run_lent.Met as run-lent-thm
 use Rattle.jobs_lent.proofs.run_block.Statement as stated
 use Rattle.jobs_lent.proofs.run_lent.Symbol as run-lent-def
+use Rattle.jobs_lent.specs.internal.LentRuns.{ReadyAt}
 
 abbrev sliceS : Ty
 sliceS = sliceTy (tyRef erased imm (pointee (R .written)))
@@ -142,7 +142,7 @@ module _ {M : Type 1} (𝓤 : URA M) (H : Heap 𝓤) (A : Atoms 𝓤) (W : Given
   module _ (C : Calls 𝓤 H) (Λ : Loops 𝓤 H) (fm : FmC 𝓤 H (W .laws) C) (knows : Triple 𝓤 (C #run-lent) (RunLent 𝓤 H A mem run))
       (is : Is (Array R 64) xs (array xs count ∷ [])) (long : length xs ≡ 64) (g₀ : Room u64 (length (L₀ .first))) (g₁ : Room u8 (length (L₁ .first))) (g₃ : Room u8 (length (L₃ .first)))
       (gn : T .n < 2 ^ 64) (gu : used < 2 ^ 64) (gc : count < 2 ^ 64) (gp : T .place < 2 ^ 64)
-      (asks : (count ≤ 64) × ((T .place + count ≤ length (L₃ .first)) × Known (T .known) (left (T .n) (record { neighbours = L₀ .first; codes = L₁ .first; used = used; answers = L₃ .first })))) where
+      (asks : (count ≤ 64) × ((T .place + count ≤ length (L₃ .first)) × ReadyAt (T .known) (T .place) (L₃ .first) (left (T .n) (record { neighbours = L₀ .first; codes = L₁ .first; used = used; answers = L₃ .first })))) where
     taken : length (take count xs) ≡ count
     taken = length-take-le count xs (omega (arith, long, asks .0))
 

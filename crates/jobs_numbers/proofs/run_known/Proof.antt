@@ -4,12 +4,11 @@ use Prim.Native.Nat.{_-_}
 use lib.ListN.{length}
 use native.Mathlib.Omega.{arith}
 use borrow.Author.Needs.{needs}
-use Rattle.call_gates.specs.internal.Knowing.{Known}
 use Rattle.jobs.proofs.ParallelLaws.{steps-long}
 use Rattle.jobs.specs.Parallel.{stepsIn}
-use Rattle.jobs_lent.proofs.LentLaws.{known-left}
+use Rattle.jobs_lent.specs.internal.LentRuns.{ReadyAt}
 use Rattle.used.specs.Used.{UsedRecord}
-use Rattle.jobs_numbers.proofs.Blocks.{RunTo, run-all, run-block-more, run-none}
+use Rattle.jobs_numbers.proofs.Blocks.{RunTo, block-ready, run-all, run-block-more, run-none}
 use Rattle.jobs_numbers.proofs.run_known.Statement.{statement}
 use Rattle.jobs_numbers.proofs.run_known.Tie as tie
 
@@ -18,7 +17,7 @@ Inv-loop n nb₀ cs₀ used known count ops a b value ans₀ word₀ k₀ nb cs 
     RunTo (record { held = record { n = n; neighbours = nb₀; codes = cs₀ }; used = used }) (stepsIn ops a b value) count k
     ans₀ nb cs word ans
     × (length nb ≡ length nb₀) × (length cs ≡ length cs₀) × (length ans ≡ length ans₀)
-    × Known known (record { held = record { n = n; neighbours = nb; codes = cs }; used = word })
+    × ReadyAt known k ans (record { held = record { n = n; neighbours = nb; codes = cs }; used = word })
 
 abbrev μ-loop : tie.MeasureT-loop
 μ-loop n nb₀ cs₀ used known count ops a b value ans₀ word₀ k₀ nb cs ans word k = count - k
@@ -36,7 +35,7 @@ abbrev begun : tie.After-slice-known3 Inv-loop μ-loop → tie.Start Inv-loop μ
 begun c = c .before .before .before .before .before .before .before
 
 loop-holds : tie.Need-loop-holds Inv-loop μ-loop
-loop-holds c = (run-none (lent (begun c)) _ _ _, refl, refl, refl, begun c .pre .3)
+loop-holds c = (run-none (lent (begun c)) _ _ _, refl, refl, refl, record { checked = begun c .pre .3; settled = tt })
 
 block-at-requires : tie.Need-block-at-requires Inv-loop μ-loop
 block-at-requires c κs =
@@ -78,10 +77,12 @@ loop-again c =
       R .run-block .kept .1 .0 ∙ l .inv .1,
       R .run-block .kept .1 .1 .0 ∙ l .inv .2,
       R .run-block .kept .1 .1 .1 .1 .1 .1 .1 .1 .0 ∙ l .inv .3,
-      known-left (record {
+      block-ready (record {
         held = record { n = a .n; neighbours = l .neighbours; codes = l .codes };
         used = l .word;
-      }) _ _ _ _ _ _ _ (R .run-block .ensures) (a .known) (l .inv .4),
+      }) (a .known) (l .k) (L .block-length .result) (B .block-at .result) (omega (arith, m .2, B .block-at .ok .1 .0 .1))
+          _ _ _ _ _ (R .run-block .ensures)
+          (omega (arith, m .1, I .loop-test .taken, l .inv .3, S .pre .1)) (l .inv .4),
     )
 
 returns : tie.Need-returns Inv-loop μ-loop

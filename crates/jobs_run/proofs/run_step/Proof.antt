@@ -39,7 +39,7 @@ run-measurement-requires c κs =
     let W = E .before in
     let S = W .before .before .before .before .before in
     let e = wrong-by (lent S) (S .args .s) (W .before .unused-set .ensures) (W .wrong-value .ensures) (E .if1 .left) in
-    (value-small (lent S) (S .args .s) e (T .enum-told .given .1), S .pre)
+    (value-small (lent S) (S .args .s) e (T .enum-told .given .1), S .pre .0)
 
 returns-2 : tie.Need-returns-2
 returns-2 c =
@@ -58,7 +58,7 @@ rewrite-requires c κs =
     let W = E .before in
     let S = W .before .before .before .before .before in
     let e = wrong-by (lent S) (S .args .s) (W .before .unused-set .ensures) (W .wrong-value .ensures) (E .if1 .left) in
-    (rewriting (lent S) (S .args .s) e (M .match .keys2), S .pre)
+    (rewriting (lent S) (S .args .s) e (M .match .keys2), (S .pre .0, S .pre .1))
 
 returns-3 : tie.Need-returns-3
 returns-3 c =

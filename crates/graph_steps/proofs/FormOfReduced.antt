@@ -2,7 +2,7 @@
 -- only.
 use mathlib.Core.Bool.{_&&_, Bool, and-false, cond, false, true, true≢false}
 use mathlib.Core.Logic.{_⊎_, inl, inr}
-use mathlib.Core.Path.{_∙_, _≡_, ap, refl, sym}
+use mathlib.Core.Path.{_∙_, _≡_, ap, refl, subst, sym}
 use Prim.Native.Nat.{_<_, suc, zero, ℕ}
 use native.Mathlib.Decide.{ℕ-discrete}
 use native.Mathlib.Nat.{not-suc-le-zero}
@@ -10,13 +10,14 @@ use native.Mathlib.Omega.{arith}
 use lib.Dec.{eqb}
 use Rattle.clifford.specs.Clifford.{bitC, image}
 use Rattle.clifford.specs.Vectors.{act}
-use Rattle.graph_steps.specs.internal.ReducedForms.{ReducedForm}
 use Rattle.pauli.specs.Pauli.{Pauli, letter, xBit}
 use Rattle.record.proofs.ColumnLaws.{element-dependent}
 use Rattle.record.proofs.ReducedCodes.{code-x, reduced-codes-among}
 use Rattle.record.proofs.ReducedRecords.{reduced-is}
-use Rattle.record.proofs.WrittenRecords.{reduced-identity-above}
+use Rattle.record.proofs.Unique.{record-path}
+use Rattle.record.proofs.WrittenRecords.{reduced-back, reduced-identity-above, writtenRecord}
 use Rattle.record.specs.Columns.{ColumnDependent}
+use Rattle.record.specs.Lent.{heldRecord}
 use Rattle.record.specs.Records.{GraphRecord, rowsOf}
 use Rattle.record.specs.Reduced.{ReductionOf, plainCode, reduced, withHadamard, xWords}
 use Rattle.stabilizer.proofs.GroupLaws.{in-row}
@@ -25,6 +26,7 @@ use Rattle.words.proofs.Finite.{bits, ⊕-zero}
 use Rattle.words.proofs.Places.{other-place}
 use Rattle.words.proofs.Sums.{bitMonoid, fold-unit, last-or, lt-or-ge}
 use Rattle.words.specs.Bits.{_⊕_}
+use Rattle.graph_steps.specs.internal.ReducedForms.{ReducedForm}
 
 -- codes of a reduced record: the sign of Z, and C
 code-even : (h y s : Bool) → (withHadamard h (plainCode y s)) .sz ≡ false
@@ -104,3 +106,8 @@ module _ (n : ℕ) (rows : ℕ → Pauli) (P : Proper n rows) where
           ]
         ]
       ]
+
+  -- so is what the buffers hold where it is written
+  pub written-form : ReducedForm n (heldRecord (writtenRecord n (reduced n rows)))
+  written-form = subst (ReducedForm n)
+      (sym (record-path (heldRecord (writtenRecord n r)) r (reduced-back n rows P))) form-of-reduced
