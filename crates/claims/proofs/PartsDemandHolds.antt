@@ -21,8 +21,8 @@ use Rattle.record.proofs.ReducedRecords.{reduced-is, same-group}
 use Rattle.record.specs.Records.{rowsOf}
 use Rattle.record.specs.Reduced.{reduced, reducedGraph}
 use Rattle.stabilizer.proofs.Accepted.{accepted-list}
-use Rattle.stabilizer.proofs.Carried.{act-same, carries-same}
-use Rattle.stabilizer.proofs.GroupLaws.{same-sym, same-trans}
+use Rattle.stabilizer.proofs.Carried.{carries-moved}
+use Rattle.stabilizer.proofs.GroupLaws.{same-sym}
 use Rattle.stabilizer.specs.Carries.{Carries}
 use Rattle.stabilizer.specs.Groups.{Proper, SameGroup}
 use Rattle.stabilizer.specs.Lists.{GeneratorList, rows}
@@ -41,12 +41,6 @@ use Rattle.claims.specs.PartsDemand.{
 }
 
 -- ---- groups alone matter
-carries-moved : (n : ℕ) (a b a′ b′ : ℕ → Pauli) → SameGroup n n a a′ → SameGroup n n b b′ → (c : ℕ → Clifford)
-    → Carries n c a b → Carries n c a′ b′
-carries-moved n a b a′ b′ s t c C =
-    carries-same n c a′ b′ .1
-    (same-trans (act-same n n c a′ a (same-sym s)) (same-trans (carries-same n c a b .0 C) t))
-
 module _ (n : ℕ) (R S : ℕ → Pauli) (P : Proper n R) (Q : Proper n S) where
   first-group : SameGroup n n R (rowsOf n (reduced n R))
   first-group = same-group n R P

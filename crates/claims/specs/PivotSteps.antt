@@ -17,6 +17,7 @@ use Rattle.record.specs.Lent.{heldRecord}
 use Rattle.used.specs.Used.{UsedRecord}
 use Rattle.used.specs.UsedLaws.{UsedStay}
 use Rattle.words.specs.Bits.{Word}
+use Rattle.claims.specs.ActionContracts.{stepWith}
 use Rattle.claims.specs.Arguments.{IsRecord}
 use Rattle.claims.specs.CutDemand.{rankAcross}
 use Rattle.claims.specs.OperationsDemand.{RewrittenAs}
@@ -24,11 +25,11 @@ use Rattle.claims.specs.UsedDemand.{leftUsed}
 
 -- a step with the op pivot
 abbrev pub pivotStep : ℕ → ℕ → ℕ → Step
-pivotStep a b value = record { op = Pivot; a = a; b = b; value = value }
+pivotStep a b value = stepWith Pivot a b value
 
 -- one that complements at a vertex
 abbrev pub complementStep : ℕ → Step
-complementStep a = record { op = Complement; a = a; b = 0; value = 0 }
+complementStep a = stepWith Complement a 0 0
 
 -- ---- which are accepted
 -- a record, and the ends of an edge, which are not used

@@ -2,7 +2,7 @@
 use mathlib.Core.Bool.{Bool, false, not, true}
 use mathlib.Core.List.{List}
 use mathlib.Core.Logic.{_↔_}
-use mathlib.Core.Path.{ap, fun-ext, refl, _∙_, _≡_}
+use mathlib.Core.Path.{ap, fun-ext, refl, sym, _∙_, _≡_}
 use Prim.Native.Nat.{_<_, _^_, ℕ, _≤_}
 use native.Mathlib.Omega.{arith}
 use lib.ListN.{getD}
@@ -17,8 +17,9 @@ use Rattle.pauli.specs.Pauli.{Pauli, signedRow}
 use Rattle.pauli.specs.declared.Generator.{Generator}
 use Rattle.record.proofs.ReducedRecords.{record-proper}
 use Rattle.record.specs.Lent.{LentRecord, heldRecord, heldRows}
-use Rattle.stabilizer.proofs.Carried.{act-same, carries-same, same-rows}
-use Rattle.stabilizer.proofs.GroupLaws.{same-refl, same-sym, same-trans}
+use Rattle.stabilizer.proofs.Carried.{carries-moved, same-rows}
+use Rattle.stabilizer.proofs.EqualRows.{proper-equal}
+use Rattle.stabilizer.proofs.GroupLaws.{same-refl, same-sym}
 use Rattle.stabilizer.proofs.Within.{act-wide}
 use Rattle.stabilizer.specs.Carries.{Carries}
 use Rattle.stabilizer.specs.Groups.{Proper, SameGroup}
@@ -27,7 +28,6 @@ use Rattle.words.proofs.Flags.{same-by-both}
 use Rattle.words.specs.Bits.{bit}
 use Rattle.words.specs.Search.{first, some}
 use Rattle.comparison.proofs.Members.{carries-is}
-use Rattle.comparison.proofs.RecordElements.{proper-rows}
 use Rattle.comparison.specs.Choices.{isCarrying, choice, choiceAt, leastNumber, noChoice}
 use Rattle.comparison.specs.internal.Searches.{LeastAnswer}
 use Rattle.comparison.specs.internal.Setting.{
@@ -76,17 +76,10 @@ module _ (n : ℕ) (few : n ≤ 20) (neighbours codes : List ℕ) (S : SoundReco
 module _ (n : ℕ) (rows rows′ others others′ : ℕ
     → Pauli) (P : Proper n rows) (P′ : Proper n rows′) (Q : Proper n others)
     (Q′ : Proper n others′) (E : SameGroup n n rows rows′) (F : SameGroup n n others others′) where
-  carries-moved : (a b a′ b′ : ℕ → Pauli) → SameGroup n n a a′ → SameGroup n n b b′ → (c : ℕ → Clifford)
-      → Carries n c a b
-      → Carries n c a′ b′
-  carries-moved a b a′ b′ s t c C =
-      carries-same n c a′ b′ .1
-      (same-trans (act-same n n c a′ a (same-sym s)) (same-trans (carries-same n c a b .0 C) t))
-
   pub carries-groups : (c : ℕ → Clifford) → isCarrying n c rows others ≡ isCarrying n c rows′ others′
   carries-groups c =
-      same-by-both _ _ (λ e. test′ .1 (carries-moved rows others rows′ others′ E F c (test .0 e)))
-      (λ e. test .1 (carries-moved rows′ others′ rows others (same-sym E) (same-sym F) c (test′ .0 e)))
+      same-by-both _ _ (λ e. test′ .1 (carries-moved n rows others rows′ others′ E F c (test .0 e)))
+      (λ e. test .1 (carries-moved n rows′ others′ rows others (same-sym E) (same-sym F) c (test′ .0 e)))
     where
       test : (isCarrying n c rows others ≡ true) ↔ Carries n c rows others
       test = carries-is n c rows others (P .within) (Q .within)
@@ -119,8 +112,8 @@ rows-answer : (n : ℕ) (rows rows′ others others′ : ℕ → Pauli) → Prop
     → (b : Bool) (out : List ℕ)
     → LeastAnswer n rows others b out → LeastAnswer n rows′ others′ b out
 rows-answer n rows rows′ others others′ P Q h k =
-    same-answer n rows rows′ others others′ (proper-rows n rows rows′ h P) P
-    (proper-rows n others others′ k Q) Q
+    same-answer n rows rows′ others others′ (proper-equal n rows′ rows (λ j l. sym (h j l)) P) P
+    (proper-equal n others′ others (λ j l. sym (k j l)) Q) Q
     (same-rows n n rows rows rows′ h same-refl) (same-rows n n others others others′ k same-refl)
 
 -- ---- two lent records, from what the code's calls make
@@ -138,7 +131,7 @@ module _ (n : ℕ) (few : n ≤ 20) (neighbours codes neighbours′ codes′ : L
     records-setting undone small connected =
         record {
           few = few;
-          proper = proper-rows n (generatorsOf first) _ hf (held-proper n few neighbours codes S);
+          proper = proper-equal n _ (generatorsOf first) (λ j l. sym (hf j l)) (held-proper n few neighbours codes S);
           joined = record {
             graph = graphIn neighbours;
             codes = codesOf codes;

@@ -3,13 +3,14 @@ use mathlib.Core.Bool.{false}
 use mathlib.Core.List.{List}
 use mathlib.Core.Logic.{_≢_}
 use mathlib.Core.Path.{ap, refl, subst, sym, _∙_, _≡_}
-use Prim.Native.Nat.{_%_, _*_, _+_, _/_, _<_, suc, zero, ℕ}
+use Prim.Native.Nat.{_%_, _*_, _+_, _/_, _<_, ℕ}
 use native.Mathlib.Decide.{ℕ-discrete}
 use native.Mathlib.Nat.{add-zero, ne-of-lt}
 use native.Mathlib.Omega.{arith}
 use lib.Dec.{eqb, lit<}
 use lib.ListN.{getD, length, replicate, set}
 use lib.Seq.{getD-set-other, getD-set-same}
+use Rattle.buffers.proofs.Mapping.{zeros, zeros-at}
 use Rattle.clifford.specs.Clifford.{classNumber, classOf, cliffordOf}
 use Rattle.clifford.specs.Vectors.{codesOf}
 use Rattle.words.specs.Bits.{isOdd}
@@ -89,13 +90,10 @@ module _ (choice : List ℕ) (C : Codes choice) (q v : ℕ) (long : q < length c
       go (no o) = ap classKey (code-other choice q (4 * (getD choice q 0 / 4) + v) long i o)
 
 -- ---- the array of codes 0
-zeros-at : (k i : ℕ) → _≡_ {A = ℕ} (getD (replicate k 0) i 0) 0
-zeros-at zero i = refl
-zeros-at (suc k) zero = refl
-zeros-at (suc k) (suc i) = zeros-at k i
-
 pub zeros-codes : (k : ℕ) → Codes (replicate k 0)
+unfolding zeros
 zeros-codes k q = subst (λ c. c < 24) (sym (zeros-at k q)) (lit< tt)
 
 pub zeros-bare : (k : ℕ) → NoSigns (replicate k 0)
+unfolding zeros
 zeros-bare k q = subst (λ c. cliffordOf c ≡ withoutSigns (cliffordOf c)) (sym (zeros-at k q)) refl

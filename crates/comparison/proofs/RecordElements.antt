@@ -1,7 +1,7 @@
 -- The one product of a record's generators that can be a given row: its word is read off the row's x bits once the
 -- record's codes are undone.
 use mathlib.Core.Bool.{Bool, Bool·beq, not, true}
-use mathlib.Core.Path.{ap, ap₂, refl, subst, sym, _∙_, _≡_}
+use mathlib.Core.Path.{ap, refl, sym, _∙_, _≡_}
 use Prim.Native.Nat.{_<_, ℕ, _≤_}
 use lib.Bits.{bitXor}
 use Rattle.clifford.proofs.VectorLaws.{act-inverse}
@@ -12,9 +12,7 @@ use Rattle.graph.specs.Graph.{graphGenerator}
 use Rattle.pauli.proofs.WordRows.{signed-mul}
 use Rattle.pauli.specs.Pauli.{
   Pauli,
-  anticommute,
   identity,
-  imaginary,
   i⁰,
   i²,
   letter,
@@ -31,40 +29,23 @@ use Rattle.record.proofs.Maximality.{inclusion-same}
 use Rattle.record.proofs.ReducedRecords.{record-proper}
 use Rattle.record.specs.Records.{recordRow}
 use Rattle.stabilizer.proofs.Carried.{act-product, carries-same}
+use Rattle.stabilizer.proofs.EqualRows.{product-equal, proper-equal}
 use Rattle.stabilizer.proofs.Independence.{act-proper}
 use Rattle.stabilizer.proofs.Multiplying.{Multiplied, all-multiplied}
 use Rattle.stabilizer.proofs.Within.{act-wide, element-within}
-use Rattle.stabilizer.specs.Groups.{InGroup, Proper, Trivial, Within, chosen, product}
+use Rattle.stabilizer.specs.Groups.{InGroup, Proper, Within, chosen, product}
 use Rattle.words.proofs.Finite.{unequal}
 use Rattle.words.proofs.Sums.{fold-ext}
-use Rattle.words.specs.Bits.{Word, _⊕_}
+use Rattle.words.specs.Bits.{_⊕_}
 use Rattle.comparison.proofs.Least.{act-agree}
 use Rattle.comparison.proofs.Members.{carries-is}
 use Rattle.comparison.specs.Choices.{isCarrying}
 use Rattle.comparison.specs.internal.Setting.{Framed, Guessed}
 
-same-products : (n : ℕ) (w : Word) (rows others : ℕ → Pauli) → ((j : ℕ) → j < n → rows j ≡ others j)
-    → product n n w rows ≡ product n n w others
-same-products n w rows others h = fold-ext identity (mul n) n (λ j l. ap (chosen (w j)) (h j l))
-
--- rows that agree with those of a list
-pub proper-rows : (n : ℕ) (rows others : ℕ → Pauli) → ((j : ℕ) → j < n → rows j ≡ others j) → Proper n others
-    → Proper n rows
-proper-rows n rows others h P =
-    record {
-      commuting = record {
-        signed = λ j l. ap (λ p. imaginary (p .phase)) (h j l) ∙ P .commuting .signed j l;
-        commute = λ i j k l. ap₂ (anticommute n) (h i k) (h j l) ∙ P .commuting .commute i j k l;
-      };
-      independent = λ w t. P .independent w
-          (subst (Trivial n) (same-products n w rows others h) t);
-      within = λ j l. subst (Within n) (sym (h j l)) (P .within j l);
-    }
-
 module _ (n : ℕ) (rows : ℕ → Pauli) (frame : ℕ → Clifford) (F : Framed n rows frame) where
   pub framed-proper : Proper n rows
   framed-proper =
-      proper-rows n rows (recordRow n (F .graph) (F .codes)) (F .generators)
+      proper-equal n (recordRow n (F .graph) (F .codes)) rows (λ j l. sym (F .generators j l))
       (record-proper n (record { graph = F .graph; codes = F .codes }) (F .simple))
 
   pub element-word : (p : Pauli) → InGroup n n rows p → p ≡ product n n (λ q. (act n frame p) .x q) rows
@@ -75,7 +56,7 @@ module _ (n : ℕ) (rows : ℕ → Pauli) (frame : ℕ → Clifford) (F : Framed
 
       sent : p ≡ act n (F .codes) plain
       sent =
-          a .1 ∙ same-products n (a .0) rows (recordRow n (F .graph) (F .codes)) (F .generators)
+          a .1 ∙ product-equal n rows (recordRow n (F .graph) (F .codes)) (F .generators) (a .0)
           ∙ sym (act-product n n (graphGenerator (F .graph)) (F .codes) (a .0))
 
       within : Within n p

@@ -1,6 +1,6 @@
 -- The request's cases that tell the order of the lines, on 64 qubits (the others stand in claims_examples); and on two
 -- qubits, one a group, what two complementations and a gate leave.
-use mathlib.Core.List.{_++_, List, [], _∷_}
+use mathlib.Core.List.{_++_, [], _∷_}
 use mathlib.Core.Path.{_≡_, refl}
 use Prim.Native.Nat.{_^_, _-_, ℕ}
 use lib.ListN.{replicate, set}

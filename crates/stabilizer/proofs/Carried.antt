@@ -9,6 +9,7 @@ use Rattle.clifford.specs.Vectors.{act}
 use Rattle.pauli.specs.Pauli.{Pauli, identity, mul}
 use Rattle.words.proofs.Sums.{fold-ext, fold-hom}
 use Rattle.words.specs.Bits.{Word}
+use Rattle.stabilizer.proofs.GroupLaws.{same-sym, same-trans}
 use Rattle.stabilizer.specs.Carries.{Carries}
 use Rattle.stabilizer.specs.Groups.{Commuting, InGroup, SameGroup, chosen, product}
 
@@ -69,3 +70,10 @@ carries-same n c rows others = (
         (product n n (b .0) rows, (b .0, refl), b .1 ∙ sym (act-product n n rows c (b .0)));
   }),
 )
+
+-- the groups alone matter
+pub carries-moved : (n : ℕ) (a b a′ b′ : ℕ → Pauli) → SameGroup n n a a′ → SameGroup n n b b′ → (c : ℕ → Clifford)
+    → Carries n c a b → Carries n c a′ b′
+carries-moved n a b a′ b′ s t c C =
+    carries-same n c a′ b′ .1
+    (same-trans (act-same n n c a′ a (same-sym s)) (same-trans (carries-same n c a b .0 C) t))
