@@ -1,5 +1,1 @@
 pub mod Examples
-pub mod GroupExamples
-pub mod JobExamples
-pub mod RunExamples
-pub mod SessionExamples

@@ -15,8 +15,8 @@ use Rattle.stabilizer.specs.Membership.{member}
 use Rattle.used.specs.Used.{usedWrong}
 use Rattle.words.specs.Bits.{bit, fold, put, wordOf}
 use Rattle.words.specs.Search.{every, first, some}
 use Rattle.claims_examples.specs.internal.Examples.{AllHold}
-use Rattle.claims_examples.specs.internal.JobTable.{table}
+use Rattle.claims_examples_sessions.specs.internal.JobTable.{table}
 
 pub jobs-run : AllHold table
 unfolding fold put bit wordOf some every first power mul anticommute inverse act tabulate firstFitting

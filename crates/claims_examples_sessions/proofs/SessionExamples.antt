@@ -13,8 +13,8 @@ use Rattle.stabilizer.specs.Lists.{clashing, dependent}
 use Rattle.stabilizer.specs.Membership.{member}
 use Rattle.words.specs.Bits.{bit, fold, put, wordOf}
 use Rattle.words.specs.Search.{every, first, some}
 use Rattle.claims_examples.specs.internal.Examples.{AllHold}
-use Rattle.claims_examples.specs.internal.SessionTable.{table}
+use Rattle.claims_examples_sessions.specs.internal.SessionTable.{table}
 
 pub both-ways : AllHold table
 unfolding fold put bit wordOf some every first power mul anticommute inverse act tabulate firstFitting

@@ -1,0 +1,4 @@
+pub mod GroupExamples
+pub mod JobExamples
+pub mod RunExamples
+pub mod SessionExamples
