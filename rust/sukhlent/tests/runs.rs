@@ -61,6 +61,24 @@ fn seeded_runs_are_what_the_calls_leave_step_by_step() {
     }
 }
 
+/// A gate or a CZ finds a reduced record or not, behind each kind of step: a complement and a pivot do not reduce, and a
+/// refused step leaves the record as it was.
+#[test]
+fn gates_behind_rewritings_and_refused_steps() {
+    let mut random = Random::new(128);
+    for n in [2, 3, 5, 8, 13, 40, 64].into_iter().cycle().take(140) {
+        let record = random_record(&mut random, n);
+        let unmeasured = |_| loop {
+            let step = step(&mut random, n);
+            if step.0 != 2 {
+                break step;
+            }
+        };
+        let steps: Vec<_> = (0..200).map(unmeasured).collect();
+        assert_as_the_calls(&RecordCall::with(&record, Steps::of(&steps)));
+    }
+}
+
 #[test]
 fn no_step_and_4096_steps() {
     let mut random = Random::new(1);
