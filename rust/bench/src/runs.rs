@@ -1,10 +1,10 @@
-//! Many steps in one call, and the same steps on the plain tableau.
+//! Many steps in one call, and the same steps on a tableau.
 //!
-//! A run keeps the used word from step to step. So that both ways do the same, the tableau passes over the steps that name
+//! A run keeps the used word from step to step. So that both ways do the same, a tableau passes over the steps that name
 //! a used qubit, or the run is cut behind each measurement and goes on with no used qubit.
 
 use crate::operation::Operation;
-use crate::session::{Answer, Plain, Session};
+use crate::session::{Answer, Session};
 use sukhlent::raw;
 
 /// Steps in parallel slices, as they are lent.
@@ -108,9 +108,9 @@ pub fn cut(n: usize, steps: &Steps) -> Ran {
     ran
 }
 
-/// The tableau, and what each step answered; `kept`: a step that names a used qubit is passed over, as 16.
-pub fn tableau(n: usize, job: &[Operation], kept: bool) -> (Plain, Vec<[u8; 3]>) {
-    let mut session = Plain::start(n);
+/// A tableau after the steps, and what each answered; `kept`: a step that names a used qubit is passed over, as 16.
+pub fn tableau<S: Session>(n: usize, job: &[Operation], kept: bool) -> (S, Vec<[u8; 3]>) {
+    let mut session = S::start(n);
     let mut used = 0;
     let mut step = |operation| {
         let named = named(operation);

@@ -1,25 +1,30 @@
-//! Many steps in one call answer what the tableau does, step by step, and leave its state.
+//! Many steps in one call answer what both tableaux do, step by step, and leave their state.
 
 use bench::load::{cluster, ghz, steps, unmeasured};
 use bench::operation::Operation;
 use bench::runs::{cut, tableau, whole, Steps};
-use bench::session::{Plain, Session};
+use bench::session::{Columns, Plain, Session};
 
-/// In one call and cut behind each measurement; how many steps the call refuses by 16.
+/// In one call and cut behind each measurement, against both tableaux; how many steps the call refuses by 16.
 fn used(n: usize, job: &[Operation]) -> usize {
+    beside::<Columns>(n, job);
+    beside::<Plain>(n, job)
+}
+
+fn beside<S: Session>(n: usize, job: &[Operation]) -> usize {
     let steps = Steps::of(job);
     let ran = whole(n, &steps);
-    let (session, answers) = tableau(n, job, true);
+    let (session, answers) = tableau::<S>(n, job, true);
     assert_eq!(ran.answers(), answers, "{n} qubits, in one call");
     assert_eq!((ran.neighbours, ran.codes), record(&session));
     let ran = cut(n, &steps);
-    let (session, each) = tableau(n, job, false);
+    let (session, each) = tableau::<S>(n, job, false);
     assert_eq!(ran.answers(), each, "{n} qubits, cut");
     assert_eq!((ran.neighbours, ran.codes), record(&session));
     answers.iter().filter(|answer| answer[0] == 16).count()
 }
 
-fn record(session: &Plain) -> (Vec<u64>, Vec<u8>) {
+fn record(session: &impl Session) -> (Vec<u64>, Vec<u8>) {
     let record = session.record();
     (record.neighbours, record.codes)
 }

@@ -1,8 +1,9 @@
-//! Times of a step by many steps in one call, and on the plain tableau, on 64 qubits.
+//! Times of a step by many steps in one call, and on two tableaux that check nothing, on 64 qubits.
 
 use bench::load::{steps, unmeasured};
 use bench::operation::Operation;
 use bench::runs::{cut, tableau, whole, Ran, Steps};
+use bench::session::{Columns, Plain};
 use std::hint::black_box;
 use std::time::Instant;
 
@@ -15,8 +16,10 @@ const RUNS: usize = 101;
 type Way = fn(usize, &Steps) -> Ran;
 
 fn main() {
-    println!("| load | steps | the run | tableau by rows | run over rows |");
-    println!("|---|---|---|---|---|");
+    println!(
+        "| load | steps | the run | tableau by rows | by columns | run over rows | over columns |"
+    );
+    println!("|---|---|---|---|---|---|---|");
     let job = steps(N as u64, STEPS, SEED);
     row(
         "the job of seed 1, cut behind each measurement",
@@ -32,17 +35,22 @@ fn main() {
 
 fn row(name: &str, job: &[Operation], kept: bool, way: Way) {
     let steps = Steps::of(job);
-    let (mut run, mut rows) = (Vec::new(), Vec::new());
+    let mut times: [Vec<f64>; 3] = Default::default();
     for _ in 0..RUNS {
-        run.push(seconds(|| way(N, black_box(&steps))));
-        rows.push(seconds(|| tableau(N, black_box(job), kept)));
+        times[0].push(seconds(|| way(N, black_box(&steps))));
+        times[1].push(seconds(|| tableau::<Plain>(N, black_box(job), kept)));
+        times[2].push(seconds(|| tableau::<Columns>(N, black_box(job), kept)));
     }
-    let [run, rows] = [run, rows].map(|mut times| {
+    let [run, rows, columns] = times.map(|mut times| {
         times.sort_by(f64::total_cmp);
         times[RUNS / 2] * 1e9 / job.len() as f64
     });
-    let (count, ratio) = (job.len(), run / rows);
-    println!("| {name} | {count} | {run:.0} | {rows:.0} | {ratio:.2} |");
+    println!(
+        "| {name} | {} | {run:.0} | {rows:.0} | {columns:.0} | {:.2} | {:.2} |",
+        job.len(),
+        run / rows,
+        run / columns
+    );
 }
 
 /// The seconds that one run takes, from the start on.
