@@ -1,6 +1,9 @@
-"""States against the simulator of rust/simulator, and the examples of document 01."""
+"""States against the simulator of rust/simulator, the examples of document 01, and those in examples/python."""
 
+import contextlib
+import io
 import itertools
+import runpy
 import unittest
 
 from sukhlent import GeneratorList, Refusal, Shared, State, generate
@@ -127,3 +130,13 @@ class Examples(unittest.TestCase):
         with self.assertRaises(Refusal) as refused:
             call()
         return refused.exception.number
+
+
+class Programs(unittest.TestCase):
+    """The programs in examples/python that have a stored output; docs and README show the others."""
+
+    def test_day_prints_its_stored_output(self):
+        folder, said = ROOT / "examples" / "python", io.StringIO()
+        with contextlib.redirect_stdout(said):
+            runpy.run_path(str(folder / "day.py"))
+        self.assertEqual(said.getvalue(), (folder / "day.out").read_text())
