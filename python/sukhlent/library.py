@@ -140,7 +140,7 @@ class FloatCell(Cell):
 
 
 class Wide:
-    """Marks a word, or a buffer of words of which one, has a bit that no 64-bit word has."""
+    """Marks a word with a bit that no 64-bit word has, and a buffer that was to hold one."""
 
 
 class _WideWord(int, Wide):
