@@ -26,21 +26,25 @@ SYMBOLS: tuple[str, ...] = (
     "√X†", "√X", "H_YZ", "H_NYZ", "C_XYZ", "C_XYNZ", "C_XNYZ", "C_NXYZ", "C_ZYX", "C_ZNYX", "C_ZYNX", "C_NZYX",
 )  # fmt: skip
 
+#: the code of a name or short form in lower case
+_CODES = {name.lower(): number for known in (NAMES, SYMBOLS) for number, name in enumerate(known) if name}
+
 _LETTERS = (("X", "Z"), ("Y", "Z"), ("Z", "X"), ("X", "Y"), ("Y", "X"), ("Z", "Y"))
 
 
 def code(gate: int | str) -> int:
-    """The code of a gate given by its name, by its short form in drawings, or by its number. A number is passed on as it
-    is: the call that gets one above 23 refuses it by 6.
+    """The code of a gate given by its name, by its short form in drawings, or by its number. Upper or lower case is the
+    same; Rust's `codes::named` takes the same spellings. A number is passed on as it is: the call that gets one above 23
+    refuses it by 6.
 
     >>> code("H"), code("sqrt_x"), code("S†"), code(4)
     (8, 13, 6, 4)
     """
     if not isinstance(gate, str):
         return operator.index(gate)
-    for known in (NAMES, SYMBOLS):
-        if gate.upper() in known and gate:
-            return known.index(gate.upper())
+    number = _CODES.get(gate.lower())
+    if number is not None:
+        return number
     raise ValueError(f"no local Clifford is called {gate!r}; the names are {', '.join(NAMES)}")
 
 

@@ -52,7 +52,7 @@ def generate(n: int, count: int, seed: int) -> str:
     measure 2 0 5
     """
     text, length = library.octets([0] * 61463), library.word()
-    accept(library.call("generate", n, count, seed, text, length))
+    accept(library.call("generate", library.place(n), library.place(count), seed, text, length))
     return bytes(text[: length.value]).decode()
 
 

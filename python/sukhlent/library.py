@@ -9,7 +9,7 @@ from ctypes import POINTER, c_double, c_size_t, c_uint8, c_uint16, c_uint32, c_u
 from pathlib import Path
 from typing import Iterable, Union
 
-from .refusals import Refusal
+from .refusals import TEXTS
 
 _NAME = "libsukhlent.so"
 _BYTES, _WORDS = POINTER(c_uint8), POINTER(c_uint64)
@@ -139,12 +139,24 @@ class FloatCell(Cell):
         self._held = c_double()
 
 
+class Wide:
+    """Marks a word with a bit that no 64-bit word has, and a buffer that was to hold one."""
+
+
+class _WideWord(int, Wide):
+    """Passes in place of a word with such a bit."""
+
+
 #: what passes to a call: a number, a buffer or a cell
 Argument = Union[int, ctypes.Array, Cell]
 
+#: the numbers that are checked before stray bits: none of them is about the bits of a word
+_BEFORE_STRAY = frozenset(list(TEXTS)[: list(TEXTS).index(5)])
+
 
 def call(name: str, *arguments: Argument) -> int:
-    """Calls `sukhlent_NAME`: a buffer passes as its pointer and its length, a cell as its pointer."""
+    """Calls `sukhlent_NAME`: a buffer passes as its pointer and its length, a cell as its pointer. Where a word has a bit
+    that no word has, it has one at or above n: the answer is 5, or a number that is checked before it."""
     function = getattr(_library, f"sukhlent_{name}")
     spread: list = []
     for argument in arguments:
@@ -154,7 +166,9 @@ def call(name: str, *arguments: Argument) -> int:
             spread.append(argument.pointer())
         else:
             spread.append(_fitting(argument, function.argtypes[len(spread)]))
-    return function(*spread)
+    number = function(*spread)
+    wide = any(isinstance(argument, Wide) for argument in arguments)
+    return 5 if wide and number not in _BEFORE_STRAY else number
 
 
 def _fitting(value: int, kind: type) -> int:
@@ -171,25 +185,32 @@ def _fitting(value: int, kind: type) -> int:
 
 
 def place(number: int) -> int:
-    """A qubit number as C gets it: one that no word holds becomes one that every call refuses likewise."""
+    """A qubit number or a count as C gets it: one that no word holds becomes one that every call refuses likewise."""
     number = operator.index(number)
     return number if 0 <= number < 1 << 64 else (1 << 64) - 1
+
+
+def bits(value: int) -> int:
+    """A word of bits as C gets it. A negative one counts as one with all bits above 63."""
+    value = operator.index(value)
+    return value if 0 <= value < 1 << 64 else _WideWord()
 
 
 def word_of(places: Iterable[int]) -> int:
     """The word with these bits."""
     result = 0
     for number in places:
-        if not 0 <= number < 64:
-            raise Refusal(5)
-        result |= 1 << number
-    return result
+        result |= 1 << (number if 0 <= number < 64 else 64)
+    return bits(result)
 
 
 def words(values: Iterable[int]) -> ctypes.Array:
     """A buffer of 64-bit words."""
-    fitting = [_fitting(value, c_uint64) for value in values]
-    return (c_uint64 * len(fitting))(*fitting)
+    given = [bits(value) for value in values]
+    kind = c_uint64 * len(given)
+    if any(isinstance(value, Wide) for value in given):
+        return type("WideWords", (kind, Wide), {})()
+    return kind(*given)
 
 
 def octets(values: Iterable[int]) -> ctypes.Array:

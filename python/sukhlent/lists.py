@@ -3,6 +3,7 @@
 from __future__ import annotations
 
 from dataclasses import dataclass
+from typing import Iterable
 
 from . import library
 from .forms import string_fault
@@ -24,6 +25,20 @@ def row_words(row: str, n: int) -> tuple[int, int, int]:
     numbers = [_LETTERS.index(letter) for letter in letters]
     z, x = (sum((number >> bit & 1) << q for q, number in enumerate(numbers)) for bit in (1, 0))
     return int(row[:1] == "-"), z, x
+
+
+def _joined(lines: Iterable[str]) -> str:
+    """The text of these lines, each with a newline at its end or without; refused by 1 where a line has one inside."""
+    text = ""
+    for place, line in enumerate(lines, 1):
+        if not isinstance(line, str):
+            raise TypeError(f"line {place} is no string but of the type {type(line).__name__}")
+        whole = line.removesuffix("\n")
+        if "\n" in whole:
+            column = whole.index("\n") + 1
+            raise Refusal(1, f"line {place}, column {column}: a newline, where each string is one line")
+        text += whole + "\n"
+    return text
 
 
 @dataclass(frozen=True)
@@ -52,28 +67,36 @@ class GeneratorList:
         return len(self.signs)
 
     @classmethod
-    def from_strings(cls, *lines: str) -> GeneratorList:
-        """The list of strings such as `+XZ`, leftmost letter qubit 0, or of one text of lines.
+    def from_strings(cls, *lines: str | Iterable[str]) -> GeneratorList:
+        """The list of strings such as `+XZ`, leftmost letter qubit 0: one by one, in one iterable, or as one text of lines.
 
+        >>> GeneratorList.from_strings("+XX", "-ZZ") == GeneratorList.from_strings(["+XX", "-ZZ"])
+        True
         >>> GeneratorList.from_strings("+XI", "+ZI")
         Traceback (most recent call last):
         ...
         sukhlent.refusals.Refusal: refused 9: two generators do not commute
         """
-        text = lines[0] if len(lines) == 1 and "\n" in lines[0] else "".join(line + "\n" for line in lines)
-        return cls.from_text(text)
+        if len(lines) != 1 or isinstance(lines[0], str) and "\n" not in lines[0]:
+            return cls.from_text(lines)  # type: ignore[arg-type]
+        return cls.from_text(lines[0])
 
     @classmethod
-    def from_text(cls, text: str) -> GeneratorList:
-        """The list of a text of such strings, each ended by a newline, the last one too.
+    def from_text(cls, text: str | Iterable[str]) -> GeneratorList:
+        """The list of a text of such strings, each ended by a newline, the last one too; or of an iterable of its lines,
+        as an open file is, each with its newline or without.
 
         >>> GeneratorList.from_text("+XX\\n-ZZ\\n").strings()
+        ['+XX', '-ZZ']
+        >>> GeneratorList.from_text(["+XX", "-ZZ"]).strings()
         ['+XX', '-ZZ']
         >>> GeneratorList.from_text("+X")
         Traceback (most recent call last):
         ...
         sukhlent.refusals.Refusal: refused 1: line 1, column 3: expected a newline, which ends the last line too
         """
+        if not isinstance(text, str):
+            text = _joined(text)
         octets = library.octets(text.encode("utf-8", "surrogateescape"))
         n = text.count("\n")
         signs, z, x = library.octets([0] * n), library.words([0] * n), library.words([0] * n)

@@ -34,6 +34,8 @@ class Shared:
 
     def __init__(self, ones: Iterable[int]):
         self._word = library.word_of(ones)
+        if isinstance(self._word, library.Wide):
+            raise Refusal(5)
         self._neighbours = library.words([0] * 64)
         self._codes = library.octets([8] * 64)
         self._used = 0

@@ -78,7 +78,7 @@ class State:
     def __init__(self, neighbours: Iterable[int], codes: Iterable[int], used: int = 0):
         self._neighbours = library.words(neighbours)
         self._codes = library.octets(codes)
-        self._used = used
+        self._used = library.bits(used)
         self.generators()  # judges the record
 
     # ---- making one
@@ -120,10 +120,10 @@ class State:
         return state
 
     @classmethod
-    def from_strings(cls, *lines: str) -> State:
-        """The state of generators such as `+XX`, `-ZZ`.
+    def from_strings(cls, *lines: str | Iterable[str]) -> State:
+        """The state of generators such as `+XX`, `-ZZ`: strings one by one, an iterable of them, or one text of lines.
 
-        >>> State.from_strings("+XX", "+ZZ") == State.from_strings("+XX", "-YY")
+        >>> State.from_strings("+XX", "+ZZ") == State.from_strings(["+XX", "-YY"])
         True
         """
         return cls.from_generators(GeneratorList.from_strings(*lines))
@@ -226,10 +226,8 @@ class State:
         >>> [State.from_strings("-Y").amplitude(y) for y in (0, 1)]
         [PlotLine(re=1.0, im=0.0, p=0.5), PlotLine(re=0.0, im=-1.0, p=0.5)]
         """
-        if not 0 <= y < 1 << 64:
-            raise Refusal(5)
         re, im, p = library.FloatCell(), library.FloatCell(), library.FloatCell()
-        accept(library.call("amplitude", self.n, self._neighbours, self._codes, self._used, y, re, im, p))
+        accept(library.call("amplitude", self.n, self._neighbours, self._codes, self._used, library.bits(y), re, im, p))
         return PlotLine(re.value, im.value, p.value)
 
     def expectation(self, row: str) -> int:

@@ -1,9 +1,12 @@
-"""States against the simulator of rust/simulator, and the examples of document 01."""
+"""States against the simulator of rust/simulator, the examples of document 01, and those in examples/python."""
 
+import contextlib
+import io
 import itertools
+import runpy
 import unittest
 
-from sukhlent import Refusal, State
+from sukhlent import GeneratorList, Refusal, Shared, State, generate
 from tests.places import ROOT
 from tests.test_states import group
 
@@ -86,11 +89,54 @@ class Examples(unittest.TestCase):
             (5, lambda: state.cut([64])),
             (5, lambda: State.graph(2, [(0, 2)])),
             (6, lambda: State([0], [24])),
+            (2, lambda: generate(1 << 64, 1, 1)),
+            (15, lambda: generate(2, -1, 1)),
         ):
             with self.assertRaises(Refusal) as refused:
                 call()
             self.assertEqual(refused.exception.number, number)
-        for call in (lambda: State([1 << 64], [0]), lambda: State([0], [0], 1 << 64)):
+        for seed in (-1, 1 << 64):
             with self.assertRaises(OverflowError):
-                call()
+                generate(2, 1, seed)
         self.assertEqual(state, State.zeros(2))
+
+    def test_words_that_no_word_holds_are_refused_by_5_after_2_and_4(self):
+        def lists(n, word):
+            short, whole = GeneratorList((0,) * n, (word,), (0,) * n), GeneratorList((0,) * n, (word,) * n, (0,) * n)
+            for given in (whole, short):
+                yield from (given.check, lambda: given.product(0), given.strings, lambda: State.from_generators(given))
+
+        due = {1: [5, 5], 2: [5, 4], 64: [5, 4], 65: [2, 2]}
+        for word in (1 << 64, (1 << 64) + 1, -1, 1 << 999):
+            for n, (whole, short) in due.items():
+                self.assertEqual([self.number_of(call) for call in lists(n, word)], [whole] * 4 + [short] * 4, (n, word))
+            for n in (1, 64):
+                rows = GeneratorList((0,) * n, (0,) * n, (0,) * n)
+                for number, call in (
+                    (5, lambda: State([0] * n, [0] * n, word)),
+                    (5, lambda: State([0] * (n - 1) + [word], [99] * n)),
+                    (4, lambda: State([0] * n + [word], [0] * n)),
+                    (2, lambda: State([word], [])),
+                    (5, lambda: State.zeros(n).amplitude(word)),
+                    (5, lambda: State.zeros(n).cut([0, word])),
+                    (5, lambda: rows.product(word)),
+                    (4, lambda: GeneratorList((0,) * n, (0,) * n, (0,) * (n + 1)).product(word)),
+                    (5, lambda: Shared([word])),
+                ):
+                    self.assertEqual(self.number_of(call), number, (n, word))
+
+    def number_of(self, call):
+        """The number of the refusal that a call raises."""
+        with self.assertRaises(Refusal) as refused:
+            call()
+        return refused.exception.number
+
+
+class Programs(unittest.TestCase):
+    """The programs in examples/python that have a stored output; docs and README show the others."""
+
+    def test_day_prints_its_stored_output(self):
+        folder, said = ROOT / "examples" / "python", io.StringIO()
+        with contextlib.redirect_stdout(said):
+            runpy.run_path(str(folder / "day.py"))
+        self.assertEqual(said.getvalue(), (folder / "day.out").read_text())

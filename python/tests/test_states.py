@@ -8,7 +8,8 @@ import tempfile
 import unittest
 from pathlib import Path
 
-from sukhlent import NAMES, GeneratorList, Refusal, State, Store, generate, images, orbit, run_job
+from sukhlent import NAMES, GeneratorList, Refusal, State, Store, code, generate, images, orbit, run_job
+from sukhlent.codes import SYMBOLS
 from sukhlent.command import main as command
 from sukhlent.orbits import edges_of, number_of
 
@@ -139,6 +140,54 @@ class States(unittest.TestCase):
         self.assertEqual(statuses, [0, 1])
         self.assertEqual(said.getvalue(), "row value\n+XX 1\nXI 0\n-YY 1\n")
         self.assertEqual(refused.getvalue(), "sukhlent: refused 1: the row X is not a sign and 2 letters I, X, Y or Z\n")
+
+    def test_a_graph_is_refused_by_the_first_fitting_number(self):
+        self.assertEqual(State.graph(3, [(0, 1), (1, 0), (1, 2)]).neighbours, (2, 5, 2))
+        for edges, number in (([(0, 3)], 5), ([(-1, 0)], 5), ([(1, 1), (0, 3)], 5), ([(0, 1), (2, 2)], 7)):
+            with self.assertRaises(Refusal) as refused:
+                State.graph(3, edges)
+            self.assertEqual(refused.exception.number, number, edges)
+
+    def test_a_gate_has_its_name_in_either_case_and_no_other(self):
+        for number, names in enumerate(zip(NAMES, SYMBOLS)):
+            spellings = {form for name in names if name for form in (name, name.lower(), name.swapcase())}
+            self.assertEqual({code(form) for form in spellings}, {number})
+        for name in ("", " H", "H ", "SQRT-X", "√S", "√x_DAG", "SQRT_X†", "ſ", "ı", "T"):
+            with self.assertRaises(ValueError) as wrong:
+                code(name)
+            self.assertNotIsInstance(wrong.exception, Refusal)
+
+    def test_lines_are_taken_one_by_one_and_from_an_iterable(self):
+        lines = ["-XZI", "+ZXZ", "+IZY"]
+        text = "".join(line + "\n" for line in lines)
+        due = GeneratorList.from_text(text)
+        with tempfile.TemporaryFile("w+") as file:
+            file.write(text)
+            file.seek(0)
+            for given in (lines, tuple(lines), iter(lines), text.splitlines(True), file):
+                self.assertEqual(GeneratorList.from_text(given), due)
+        for given in ([text], [lines], lines, [iter(lines)], [line + "\n" for line in lines]):
+            self.assertEqual(GeneratorList.from_strings(*given), due)
+        self.assertEqual(State.from_strings(lines), State.from_generators(due))
+
+    def test_each_line_is_judged_as_a_line_of_the_text(self):
+        for lines, number, where in (
+            ([], 2, ""),
+            ([""], 1, "line 1, column 1: expected + or -"),
+            (["+XX", "+ZZZ"], 1, "line 2 has 3 letters: expected 2, as many as lines"),
+            (["+XX", "+zz"], 1, "line 2, column 2: expected letters I, X, Y or Z"),
+            (["+XX", "+Z\nZ"], 1, "line 2, column 3: a newline, where each string is one line"),
+            (["+X\r\n"], 1, "line 1, column 3: a carriage return; lines end with a newline alone, not CRLF"),
+            (["+XX", "+ZI"], 9, ""),
+            (["+XX", "-XX"], 10, ""),
+        ):
+            for make in (GeneratorList.from_text, GeneratorList.from_strings, State.from_strings):
+                with self.assertRaises(Refusal) as refused:
+                    make(lines)
+                self.assertEqual((refused.exception.number, refused.exception.where), (number, where))
+        for given, said in ((["+X", 3], "line 2 is no string but of the type int"), (b"+X", "line 1 is no string")):
+            with self.assertRaisesRegex(TypeError, said):
+                GeneratorList.from_strings(given)
 
     def test_lists_are_read_and_written(self):
         text = "-XZI\n+ZXZ\n+IZY\n"

@@ -47,17 +47,32 @@ pub const NAMES: [&str; 24] = [
     "C_NZYX",
 ];
 
-/// The code with this name.
+/// The short forms that drawings have for some of the names.
+const SHORT: [(&str, u8); 5] = [
+    ("S†", S_DAG),
+    ("√Y†", SQRT_Y_DAG),
+    ("√Y", SQRT_Y),
+    ("√X†", SQRT_X_DAG),
+    ("√X", SQRT_X),
+];
+
+/// The code with this name, or with this short form in drawings: S†, √X, √X†, √Y, √Y†. Upper or
+/// lower case is the same. Python's `code` takes the same spellings.
 ///
 /// ```
 /// use sukhlent::codes;
 ///
 /// assert_eq!(codes::named("S_DAG"), Some(codes::S_DAG));
+/// assert_eq!(codes::named("sqrt_x"), Some(codes::SQRT_X));
+/// assert_eq!(codes::named("√X†"), Some(codes::SQRT_X_DAG));
 /// assert_eq!(codes::named("T"), None);
 /// ```
 pub fn named(name: &str) -> Option<u8> {
-    let place = NAMES.iter().position(|&known| known == name);
-    place.map(|code| code as u8)
+    let names = NAMES.into_iter().zip(0..);
+    let found = names
+        .chain(SHORT)
+        .find(|(known, _)| known.eq_ignore_ascii_case(name));
+    found.map(|(_, code)| code)
 }
 
 /// Where a code sends X and Z, as signed letters; none for a number above 23.
@@ -140,6 +155,39 @@ mod tests {
         for (code, (name, number)) in NAMED.into_iter().enumerate() {
             assert_eq!((NAMES[code], code as u8), (name, number));
             assert_eq!(named(name), Some(number));
+            assert_eq!(named(&name.to_lowercase()), Some(number));
+        }
+    }
+
+    #[test]
+    fn the_short_forms_are_those_of_python() {
+        let source = include_str!("../../../python/sukhlent/codes.py");
+        let forms = source.split("SYMBOLS: tuple[str, ...] = (").nth(1).unwrap();
+        let forms = forms.split("\n)").next().unwrap();
+        let forms: Vec<&str> = forms.split('"').skip(1).step_by(2).collect();
+        assert_eq!(forms.len(), 24);
+        for (code, form) in forms.into_iter().enumerate().skip(1) {
+            assert_eq!(named(form), Some(code as u8), "{form}");
+            assert_eq!(named(&form.to_lowercase()), Some(code as u8), "{form}");
+            assert!(form == NAMES[code] || SHORT.contains(&(form, code as u8)));
+        }
+    }
+
+    #[test]
+    fn other_spellings_are_none() {
+        for name in [
+            "",
+            " H",
+            "H ",
+            "SQRT-X",
+            "√S",
+            "√x_DAG",
+            "SQRT_X†",
+            "ſ",
+            "ı",
+            "T",
+        ] {
+            assert_eq!(named(name), None, "{name}");
         }
     }
 }

@@ -22,8 +22,8 @@
 //! # Ok::<(), sukhlent::Refusal>(())
 //! ```
 //!
-//! A session starts with [`Record::zeros`] and goes on by [`gate`], [`cz`] and [`measure`]. CNOT is
-//! a Hadamard at the target, CZ, and a Hadamard at the target:
+//! A session starts with [`Record::zeros`] or [`Record::graph`] and goes on by [`gate`], [`cz`] and
+//! [`measure`]. CNOT is a Hadamard at the target, CZ, and a Hadamard at the target:
 //!
 //! ```
 //! use sukhlent::{codes, cz, gate, Record};

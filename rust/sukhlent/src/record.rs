@@ -50,6 +50,43 @@ impl Record {
         }
     }
 
+    /// The graph state of these edges on n vertices: code 0 everywhere, no qubit used. An edge that
+    /// is named twice, in either order, is one edge.
+    ///
+    /// Refusals, as Python's `State.graph` has them: 2 where n is not 1 to 64, 5 where an edge leaves
+    /// the n vertices, 7 where one joins a vertex to itself.
+    ///
+    /// ```
+    /// use sukhlent::{expand, Record, Refusal};
+    ///
+    /// let path = Record::graph(3, &[(0, 1), (2, 1), (1, 2)])?;
+    /// assert_eq!(expand(&path)?.to_string(), "+XZI\n+ZXZ\n+IZX\n");
+    /// assert_eq!(Record::graph(3, &[(0, 3)]), Err(Refusal::StrayBit));
+    /// assert_eq!(Record::graph(3, &[(1, 1)]), Err(Refusal::Graph));
+    /// # Ok::<(), Refusal>(())
+    /// ```
+    pub fn graph(n: usize, edges: &[(usize, usize)]) -> Result<Record, Refusal> {
+        if !(1..=64).contains(&n) {
+            return Err(Refusal::Qubits);
+        }
+        if edges.iter().any(|&(a, b)| a.max(b) >= n) {
+            return Err(Refusal::StrayBit);
+        }
+        if edges.iter().any(|&(a, b)| a == b) {
+            return Err(Refusal::Graph);
+        }
+        let mut neighbours = vec![0; n];
+        for &(a, b) in edges {
+            neighbours[a] |= 1 << b;
+            neighbours[b] |= 1 << a;
+        }
+        Ok(Record {
+            neighbours,
+            codes: vec![codes::I; n],
+            used: 0,
+        })
+    }
+
     /// The number of vertices.
     ///
     /// ```
@@ -66,14 +103,10 @@ impl Record {
     /// ```
     /// use sukhlent::{Record, Refusal};
     ///
-    /// let plain = |neighbours: &[u64]| Record {
-    ///     neighbours: neighbours.to_vec(),
-    ///     codes: vec![0; neighbours.len()],
-    ///     used: 0,
-    /// };
-    /// let (path, triangle) = (plain(&[0b010, 0b101, 0b010]), plain(&[0b110, 0b101, 0b011]));
+    /// let path = Record::graph(3, &[(0, 1), (1, 2)])?;
+    /// let triangle = Record::graph(3, &[(0, 1), (1, 2), (0, 2)])?;
     /// assert_eq!(path.compare(&triangle)?.complementations, [1]);
-    /// let apart = plain(&[0, 0, 0]);
+    /// let apart = Record::graph(3, &[])?;
     /// assert_eq!(path.compare(&apart), Err(Refusal::Inequivalent));
     /// # Ok::<(), Refusal>(())
     /// ```

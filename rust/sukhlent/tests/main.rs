@@ -18,6 +18,7 @@ mod expectation_refusals;
 mod expectations;
 mod generate_refusals;
 mod generated;
+mod graph_states;
 mod groups;
 mod image_refusals;
 mod images;

@@ -1,8 +1,12 @@
-//! The examples in Rust print what those in C print, and the catalogue of orbits its stored output.
+//! The examples in Rust print what those in C or Python print, and the catalogue of orbits its stored
+//! output.
 
 #[path = "../examples/cut.rs"]
 #[allow(dead_code)]
 mod cut;
+#[path = "../examples/day.rs"]
+#[allow(dead_code)]
+mod day;
 #[path = "../examples/equivalent.rs"]
 #[allow(dead_code)]
 mod equivalent;
@@ -77,6 +81,13 @@ fn cut_prints_what_cut_in_c_prints() {
     let mut text = String::new();
     cut::cuts(&mut text).unwrap();
     assert_eq!(text, include_str!("../../../examples/c/cut.out"));
+}
+
+#[test]
+fn day_prints_what_day_in_python_prints() {
+    let mut text = String::new();
+    day::day(&mut text).unwrap();
+    assert_eq!(text, include_str!("../../../examples/python/day.out"));
 }
 
 #[test]
