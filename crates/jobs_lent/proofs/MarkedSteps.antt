@@ -21,7 +21,7 @@ use Rattle.jobs.specs.declared.Answer.{Answer}
 use Rattle.jobs.specs.declared.Op.{Op}
 use Rattle.jobs.specs.declared.Op.the-variants.{Complement, Cz, Gate, Measure, Pivot}
 use Rattle.jobs.specs.declared.Step.{Step}
-use Rattle.operations.specs.Steps.{czOn, gateWith, linesOf, made, measurementOf}
+use Rattle.operations.specs.Steps.{gateWith, linesOf, made}
 use Rattle.operations_gates.specs.internal.Settled.{Settled}
 use Rattle.pauli.specs.Pauli.{Pauli}
 use Rattle.record.proofs.WrittenRecords.{writtenRecord}
