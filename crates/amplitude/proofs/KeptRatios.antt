@@ -13,7 +13,7 @@ use Rattle.record.proofs.ReducedRecords.{record-proper}
 use Rattle.record.specs.Records.{GraphRecord, rowsOf}
 use Rattle.stabilizer.proofs.GroupLaws.{elements-signed, in-mul}
 use Rattle.stabilizer.specs.Groups.{Proper, product}
-use Rattle.words.proofs.Finite.{bits}
+use Rattle.words.proofs.Finite.{bits, ⊕-back}
 use Rattle.words.specs.Bits.{Word, _⊕_, bit}
 use Rattle.amplitude.proofs.Existence.{any-element, lowest-is}
 use Rattle.amplitude.proofs.FormWords.{Solves, between, first-solves, first-word, leads-between, supported-solves}
@@ -63,14 +63,11 @@ module _ (n : ℕ) (r : GraphRecord) (S : Simple n (r .graph)) (F : ReducedForm 
   back-turns : (y : Word) → Solves n r S F y → keptTurns n r y +ᵖ turnsAt n (element y) y ≡ i⁰
   back-turns y H =
       ap₂ _+ᵖ_ (sym (element-turns y)) (turns-ext n (element y) y (λ q. base q ⊕ (element y) .x q)
-      (λ q l. sym (ap (λ b. base q ⊕ b) (leads y H q l) ∙ other (base q) (y q))))
+      (λ q l. sym (ap (λ b. base q ⊕ b) (leads y H q l) ∙ ⊕-back (base q) (y q))))
       ∙ sym (turns-mul n (element y) (element y) base)
       ∙ ap (λ p. turnsAt n p base)
       (square n (element y) (elements-signed n n rows (P .commuting) (keptBits r y, refl)))
       ∙ turns-identity n base
-    where
-      other : (a b : Bool) → a ⊕ (a ⊕ b) ≡ b
-      other = bits 2 (λ a b. a ⊕ (a ⊕ b)) (λ a b. b) tt
 
   solves : (y : ℕ) → isSupported n rows y ≡ true → Solves n r S F (bit y)
   solves y e = supported-solves n r S F (bit y) (supported-exactly n rows y .0 e)

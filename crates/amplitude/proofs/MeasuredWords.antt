@@ -16,7 +16,7 @@ use Rattle.pauli.specs.declared.Letter.the-variants.{Z}
 use Rattle.stabilizer.proofs.GroupLaws.{in-identity}
 use Rattle.stabilizer.proofs.Products.{anticommute-identity}
 use Rattle.stabilizer.specs.Groups.{InGroup, Proper}
-use Rattle.words.proofs.Finite.{bits, ⊕-zero}
+use Rattle.words.proofs.Finite.{bits, ⊕-self, ⊕-zero}
 use Rattle.words.proofs.Places.{parity-at, ⊕-cancel}
 use Rattle.words.proofs.Sums.{fold-ext}
 use Rattle.words.specs.Bits.{Word, _⊕_}
@@ -78,10 +78,7 @@ module _ (n q : ℕ) (hq : q < n) where
 
     module _ (y : Word) (H : Supported n R y) (same : y q ≡ b) where
       own : turnsAt n (single Z q b) y ≡ i⁰
-      own = single-turns b y ∙ ap minus (ap (λ v. b ⊕ v) same ∙ twice b)
-        where
-          twice : (b : Bool) → b ⊕ b ≡ false
-          twice = bits 1 (λ b. b ⊕ b) (λ b. false) tt
+      own = single-turns b y ∙ ap minus (ap (λ v. b ⊕ v) same ∙ ⊕-self b)
 
       new-fixes : {p : Pauli} → Measured n R (single Z q b) p → Diagonal n p → turnsAt n p y ≡ i⁰
       new-fixes {p} (kept a e) h = H p a h

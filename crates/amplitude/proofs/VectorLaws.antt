@@ -11,7 +11,7 @@ use Rattle.pauli.specs.Pauli.{_+ᵖ_, Pauli, Phase, identity, i¹, i², i³, i�
 use Rattle.stabilizer.proofs.GroupLaws.{in-identity, in-mul}
 use Rattle.stabilizer.specs.Groups.{InGroup, Proper}
 use Rattle.words.proofs.BitLaws.{bit-ext, bit-wordOf, wordOf-lt}
-use Rattle.words.proofs.Finite.{bits, ⊕-self, ⊕-twice, ⊕-zero}
+use Rattle.words.proofs.Finite.{bits, ⊕-back, ⊕-self, ⊕-twice, ⊕-zero}
 use Rattle.words.proofs.Flags.{neither, same-by-both}
 use Rattle.words.proofs.SearchLaws.{every-in, first-is, some-false}
 use Rattle.words.specs.Bits.{_⊕_, bit}
@@ -93,7 +93,7 @@ module _ (n : ℕ) (R : ℕ → Pauli) (P : Proper n R) where
       ∙ around (p .x q) (bit low q) (bit y q) ∙ ap (λ c. bit low q ⊕ c) (sym (moved-bit n p y q l))))
       ∙ turns-mul n p first (bit low)
       ∙ ap₂ _+ᵖ_ (any-element n R P y H first (bit v, refl) lead)
-      (turns-ext n p _ (bit y) (λ q l. ap (λ c. bit low q ⊕ c) (lead q l) ∙ other (bit low q) (bit y q)))
+      (turns-ext n p _ (bit y) (λ q l. ap (λ c. bit low q ⊕ c) (lead q l) ∙ ⊕-back (bit low q) (bit y q)))
       ∙ +ᵖ-comm (ratio n R y) (turnsAt n p (bit y))
     where
       low : ℕ
@@ -110,9 +110,6 @@ module _ (n : ℕ) (R : ℕ → Pauli) (P : Proper n R) where
 
       around : (x l y : Bool) → x ⊕ (l ⊕ y) ≡ l ⊕ (y ⊕ x)
       around = bits 3 (λ x l y. x ⊕ (l ⊕ y)) (λ x l y. l ⊕ (y ⊕ x)) tt
-
-      other : (l y : Bool) → l ⊕ (l ⊕ y) ≡ y
-      other = bits 2 (λ l y. l ⊕ (l ⊕ y)) (λ l y. y) tt
 
   -- p v = v
   pub amplitudes-stabilized : Stabilized n R (amplitudes n R)
@@ -148,12 +145,9 @@ module _ (n : ℕ) (R : ℕ → Pauli) (P : Proper n R) where
           let s = some-leads n R P (bit low) (bit y) (supported-exactly n R low .0 (lowest-is n R P .passes))
           (supported-exactly n R y .0 e) in
           ap w (sym (moved-is n (s .0) low y l (λ q k. ap (λ b. bit low q ⊕ b) (s .2 q k)
-          ∙ other (bit low q) (bit y q))))
+          ∙ ⊕-back (bit low q) (bit y q))))
           ∙ W (s .0) (s .1) low (lowest-is n R P .below)
           ∙ ap (λ t. N .turn t (w low)) (any-element n R P y e (s .0) (s .1) (s .2))
-        where
-          other : (l y : Bool) → l ⊕ (l ⊕ y) ≡ y
-          other = bits 2 (λ l y. l ⊕ (l ⊕ y)) (λ l y. y) tt
 
   pub only-vector : OnlyVector n R
   only-vector = only-vector-over gaussians

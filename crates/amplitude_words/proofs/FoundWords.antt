@@ -1,14 +1,12 @@
 -- The word of the vertices that pass a test, by a loop over the vertices.
 use mathlib.Core.Bool.{_&&_, Bool}
-use mathlib.Core.Path.{ap, ap₂, subst, sym, _∙_, _≡_}
+use mathlib.Core.Path.{ap, ap₂, sym, _∙_, _≡_}
 use Prim.Native.Nat.{_+_, _<_, ℕ, _≤_}
-use native.Mathlib.Decide.{ℕ-discrete}
 use native.Mathlib.Omega.{arith}
 use lib.Dec.{eqb, ltb}
-use borrow.Author.Tests.{le-ltb, lt-ltb}
+use borrow.Author.Tests.{le-ltb}
 use Rattle.words.proofs.BitLaws.{zero-bit}
-use Rattle.words.proofs.Finite.{⊕-zero}
-use Rattle.words.proofs.Places.{other-place, same-place, upto-other}
+use Rattle.words.proofs.Places.{upto-with}
 use Rattle.words.specs.Bits.{bit, _⊕_}
 
 -- those below i
@@ -25,12 +23,5 @@ pub found-one : (f : ℕ → Bool) (n all i all′ : ℕ) (here : Bool) → i < 
 found-one f n all i all′ here l S h e =
     record {
       upto = omega arith;
-      held = λ q. e q ∙ ap₂ (λ u v. u ⊕ (eqb q i && v)) (S .held q) h ∙ at q (ℕ-discrete q i);
+      held = λ q. e q ∙ ap₂ (λ u v. u ⊕ (eqb q i && v)) (S .held q) h ∙ upto-with f i q;
     }
-  where
-    at : (q : ℕ) → Dec (q ≡ i) → (ltb q i && f q) ⊕ (eqb q i && f i) ≡ (ltb q (i + 1) && f q)
-    at q (yes d) = subst (λ q. (ltb q i && f q) ⊕ (eqb q i && f i) ≡ (ltb q (i + 1) && f q)) (sym d)
-        (ap₂ (λ u v. (u && f i) ⊕ (v && f i)) (le-ltb i i (omega arith)) (same-place i)
-        ∙ ap (λ b. b && f i) (sym (lt-ltb i (i + 1) (omega arith))))
-    at q (no d) = ap₂ (λ u v. (u && f q) ⊕ (v && f i)) (sym (upto-other q i d)) (other-place d)
-        ∙ ⊕-zero (ltb q (i + 1) && f q)

@@ -4,6 +4,7 @@ use mathlib.Core.List.{List, [], _∷_}
 use mathlib.Core.Logic.{_≢_}
 use mathlib.Core.Path.{ap, ap₂, subst, sym, _∙_, _≡_}
 use Prim.Native.Nat.{_<_, ℕ, _≤_}
+use native.Mathlib.Nat.{pos-of-ne-zero}
 use native.Mathlib.Omega.{arith}
 use lib.Dec.{eqb, leb}
 use lib.ListN.{length}
@@ -79,11 +80,8 @@ module _ (l : LentRecord) where
       let positive = eqb-false pauli 0 (u .0) in
       let below = leb-false 4 pauli (u .1) in (
         (held-unrefused l _ _ e, has-qubit l _ _ e q (eight-passes l _ _ e)),
-        (not-zero pauli positive, omega (arith, below)),
+        (pos-of-ne-zero positive, omega (arith, below)),
       )
-    where
-      not-zero : (p : ℕ) → p ≢ 0 → 1 ≤ p
-      not-zero p h = omega (arith, h)
 
   pub complement-ready : (a : ℕ) → firstFitting (complementLines l a) ≡ 0 →
       Ready l × (a < length (l .neighbours))

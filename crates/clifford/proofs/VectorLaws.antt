@@ -1,5 +1,6 @@
 -- One code for each qubit: the action respects products, commutation, signs, composition and inverses.
 use mathlib.Core.Bool.{false}
+use mathlib.Core.Logic.{inl, inr, _⊎_}
 use mathlib.Core.Path.{ap, fun-ext, refl, sym, _∙_, _≡_}
 use Prim.Native.Nat.{ℕ}
 use Rattle.pauli.proofs.PauliLaws.{Pauli-path}
@@ -17,7 +18,11 @@ use Rattle.pauli.specs.Pauli.{
   mul,
   scaled,
   sumPhase,
+  xBit,
+  zBit,
 }
+use Rattle.pauli.specs.declared.Letter.{Letter}
+use Rattle.pauli.specs.declared.Letter.the-variants.{I}
 use Rattle.words.proofs.Finite.{⊕-zero}
 use Rattle.words.proofs.Sums.{bitMonoid, fold-ext, fold-hom, fold-unit}
 use Rattle.words.specs.Bits.{_⊕_}
@@ -36,7 +41,7 @@ use Rattle.clifford.proofs.CliffordLaws.{
   zAfter-sum,
   zAfter-then,
 }
-use Rattle.clifford.specs.Clifford.{Clifford, identityClifford, imagePhase, inverse, then}
+use Rattle.clifford.specs.Clifford.{Clifford, identityClifford, image, imagePhase, inverse, then}
 use Rattle.clifford.specs.Vectors.{act}
 
 -- ---- the action of one code for each qubit
@@ -90,6 +95,21 @@ module _ (n : ℕ) where
   -- codes that agree act alike
   pub act-cong : {c d : ℕ → Clifford} → ((q : ℕ) → c q ≡ d q) → (p : Pauli) → act n c p ≡ act n d p
   act-cong h p = ap (λ f. act n f p) (fun-ext h)
+
+  -- .. and so do codes that differ only where the row has no letter
+  pub act-agree : (c d : ℕ → Clifford) (p : Pauli) → ((q : ℕ) → (c q ≡ d q) ⊎ (letterAt p q ≡ I))
+      → act n c p ≡ act n d p
+  unfolding act
+  act-agree c d p same =
+      Pauli-path
+      (ap (λ t. p .phase +ᵖ t) (fold-ext i⁰ _+ᵖ_ n (λ q l. at imagePhase (λ k. refl) q (same q))))
+      (λ q. at (λ k m. zBit (image k m)) (λ k. refl) q (same q))
+      (λ q. at (λ k m. xBit (image k m)) (λ k. refl) q (same q))
+    where
+      at : {T : Type 0} (f : Clifford → Letter → T) {e : T} → ((k : Clifford) → f k I ≡ e) → (q : ℕ)
+          → (c q ≡ d q) ⊎ (letterAt p q ≡ I) → f (c q) (letterAt p q) ≡ f (d q) (letterAt p q)
+      at f none q (inl h) = ap (λ k. f k (letterAt p q)) h
+      at f none q (inr h) = ap (f (c q)) h ∙ none (c q) ∙ sym (none (d q)) ∙ ap (f (d q)) (sym h)
 
   pub act-inverse : (c : ℕ → Clifford) (p : Pauli) → act n (λ q. inverse (c q)) (act n c p) ≡ p
   act-inverse c p = sym (act-then c (λ q. inverse (c q)) p)

@@ -55,6 +55,15 @@ z-word-lt n g W = lt-of-bits n (g .z) (W .no-z)
 pub x-word-lt : (n : ℕ) (g : Generator) → Within n (generatorOf g) → g .x < 2 ^ n
 x-word-lt n g W = lt-of-bits n (g .x) (W .no-x)
 
+-- what the equation adds up at one qubit, term by term
+pub class-terms : (a b c d z x hz hx : Bool)
+    → ((((a && z) ⊕ (b && x)) && hx) ⊕ (((c && z) ⊕ (d && x)) && hz))
+    ≡ (((z && hx) && a) ⊕ ((x && hx) && b)) ⊕ (((z && hz) && c) ⊕ ((x && hz) && d))
+class-terms =
+    bits 8 (λ a b c d z x hz hx. (((a && z) ⊕ (b && x)) && hx) ⊕ (((c && z) ⊕ (d && x)) && hz))
+    (λ a b c d z x hz hx. (((z && hx) && a) ⊕ ((x && hx) && b))
+    ⊕ (((z && hz) && c) ⊕ ((x && hz) && d))) tt
+
 module _ (n : ℕ) (k : ℕ → Clifford) (g h : Generator) (W : Within n (generatorOf g)) where
   pub anticommute-classes : anticommute n (act n k (generatorOf g)) (generatorOf h)
       ≡ fails (classEquation g h) (classAssignment n k)
@@ -64,7 +73,7 @@ module _ (n : ℕ) (k : ℕ → Clifford) (g h : Generator) (W : Within n (gener
       ∙ sym (parity-add n _ _)
       ∙ fold-ext false _⊕_ n (λ q l. ap₂ (λ u v. (u && bit (h .x) q) ⊕ (v && bit (h .z) q))
       (z-after (k q) (bit (g .z) q) (bit (g .x) q)) (x-after (k q) (bit (g .z) q) (bit (g .x) q))
-      ∙ regroup (zBit (imageZ (k q .class))) (zBit (imageX (k q .class))) (xBit (imageZ (k q .class)))
+      ∙ class-terms (zBit (imageZ (k q .class))) (zBit (imageX (k q .class))) (xBit (imageZ (k q .class)))
       (xBit (imageX (k q .class))) (bit (g .z) q) (bit (g .x) q) (bit (h .z) q) (bit (h .x) q))
       ∙ parity-add n _ _ ∙ ap₂ _⊕_ (parity-add n _ _) (parity-add n _ _)
       ∙ ap₂ _⊕_ (ap₂ _⊕_ (word (g .z) (h .x) _ gz) (word (g .x) (h .x) _ gx))
@@ -76,14 +85,6 @@ module _ (n : ℕ) (k : ℕ → Clifford) (g h : Generator) (W : Within n (gener
 
       gx : g .x < 2 ^ n
       gx = x-word-lt n g W
-
-      regroup : (a b c d z x hz hx : Bool)
-          → ((((a && z) ⊕ (b && x)) && hx) ⊕ (((c && z) ⊕ (d && x)) && hz))
-          ≡ (((z && hx) && a) ⊕ ((x && hx) && b)) ⊕ (((z && hz) && c) ⊕ ((x && hz) && d))
-      regroup =
-          bits 8 (λ a b c d z x hz hx. (((a && z) ⊕ (b && x)) && hx) ⊕ (((c && z) ⊕ (d && x)) && hz))
-          (λ a b c d z x hz hx. (((z && hx) && a) ⊕ ((x && hx) && b))
-          ⊕ (((z && hz) && c) ⊕ ((x && hz) && d))) tt
 
       word : (u v : ℕ) (f : Word) → u < 2 ^ n
           → parity n (λ q. (bit u q && bit v q) && f q) ≡ dot (bitAnd u v) (wordOf n f)

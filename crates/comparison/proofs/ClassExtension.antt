@@ -29,7 +29,7 @@ use Rattle.words.proofs.Places.{⊕-cancel}
 use Rattle.words.proofs.Sums.{fold-ext, parity-add}
 use Rattle.words.specs.Bits.{bit, parity, _⊕_}
 use Rattle.words.specs.internal.Bits.{dot}
-use Rattle.comparison.proofs.ClassEquations.{anticommute-classes, x-word-lt, z-word-lt}
+use Rattle.comparison.proofs.ClassEquations.{anticommute-classes, class-terms, x-word-lt, z-word-lt}
 use Rattle.comparison.proofs.Determinants.{Matrices, det, det-closed, sendBy}
 use Rattle.comparison.proofs.EquationLaws.{SameBelow, fails-below}
 use Rattle.comparison.proofs.EquationTables.{class-short}
@@ -105,7 +105,7 @@ module _ (n : ℕ) (w : Assignment) (g h : Generator) (W : Within n (generatorOf
   matrices-equation =
       anticommute-form n (sendBy (matricesOf w) (generatorOf g)) (generatorOf h)
       ∙ sym (parity-add n _ _)
-      ∙ fold-ext false _⊕_ n (λ q l. regroup (bit (w .a) q) (bit (w .b) q) (bit (w .c) q) (bit (w .d) q)
+      ∙ fold-ext false _⊕_ n (λ q l. class-terms (bit (w .a) q) (bit (w .b) q) (bit (w .c) q) (bit (w .d) q)
       (bit (g .z) q) (bit (g .x) q) (bit (h .z) q) (bit (h .x) q))
       ∙ parity-add n _ _ ∙ ap₂ _⊕_ (parity-add n _ _) (parity-add n _ _)
       ∙ ap₂ _⊕_ (ap₂ _⊕_ (word (g .z) (h .x) (w .a) gz) (word (g .x) (h .x) (w .b) gx))
@@ -117,14 +117,6 @@ module _ (n : ℕ) (w : Assignment) (g h : Generator) (W : Within n (generatorOf
 
       gx : g .x < 2 ^ n
       gx = x-word-lt n g W
-
-      regroup : (a b c d z x hz hx : Bool)
-          → ((((a && z) ⊕ (b && x)) && hx) ⊕ (((c && z) ⊕ (d && x)) && hz))
-          ≡ (((z && hx) && a) ⊕ ((x && hx) && b)) ⊕ (((z && hz) && c) ⊕ ((x && hz) && d))
-      regroup =
-          bits 8 (λ a b c d z x hz hx. (((a && z) ⊕ (b && x)) && hx) ⊕ (((c && z) ⊕ (d && x)) && hz))
-          (λ a b c d z x hz hx. (((z && hx) && a) ⊕ ((x && hx) && b))
-          ⊕ (((z && hz) && c) ⊕ ((x && hz) && d))) tt
 
       word : (u v t : ℕ) → u < 2 ^ n → parity n (λ q. (bit u q && bit v q) && bit t q) ≡ dot (bitAnd u v) t
       word u v t l =

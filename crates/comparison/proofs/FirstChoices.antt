@@ -4,7 +4,7 @@ use mathlib.Core.List.{List}
 use mathlib.Core.Logic.{inl, inr, _⊎_}
 use mathlib.Core.Path.{ap, subst, sym, _∙_, _≡_}
 use Prim.Native.Nat.{_*_, _+_, _<_, _≤_, suc, zero-le, ℕ}
-use native.Mathlib.Nat.{lt-of-le-of-lt, lt-of-lt-of-le, lt-trans, not-suc-le-zero}
+use native.Mathlib.Nat.{lt-of-le-of-lt, lt-of-lt-of-le, lt-trans, not-le-of-lt, not-suc-le-zero}
 use native.Mathlib.Numerals.{add-one}
 use native.Mathlib.Omega.{arith}
 use borrow.Author.Count.{below-more}
@@ -60,12 +60,9 @@ module _ (A : (ℕ → Clifford) → Assignment) (table : List Equation) (q : �
   none-fits v M l =
       record {
         upto = M .upto;
-        hold = λ k. absurd (clash k l);
+        hold = λ k. absurd (not-le-of-lt k l);
         before = M .before;
       }
-    where
-      clash : {a b : ℕ} → a < b → b ≤ a → ⊥
-      clash x y = omega (arith, x, y)
 
 -- ---- one qubit more
 module _ (A : (ℕ → Clifford) → Assignment) (key : Clifford → ℕ) (table : List Equation) (T : Triangular table)

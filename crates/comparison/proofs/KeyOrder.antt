@@ -3,7 +3,7 @@ use mathlib.Core.Bool.{Bool, false, not, true, true≢false}
 use mathlib.Core.Logic.{inl, inr, _⊎_}
 use mathlib.Core.Path.{ap₂, sym, _∙_, _≡_}
 use Prim.Native.Nat.{_*_, _+_, _<_, _≤_, ℕ}
-use native.Mathlib.Omega.{arith}
+use lib.Arith.{lt-of-le-ne}
 use lib.Dec.{eqb}
 use borrow.Author.Tests.{eq-eqb, eqb-true, not-false, not-true}
 use Rattle.clifford.specs.Clifford.{Clifford, cliffordOf}
@@ -44,9 +44,6 @@ module _ (n : ℕ) (f g : ℕ → ℕ) where
       })
       go (inr h) = inr (λ q l. same q (h q l))
 
-less : (a b : ℕ) → a ≤ b → (a ≡ b → ⊥) → a < b
-less a b l d = omega (arith, l, d)
-
 equal-codes : (c d : Clifford) → classKey c ≡ classKey d → signKey c ≡ signKey d → c ≡ d
 equal-codes c d e f = sym (code-of-keys c) ∙ ap₂ (λ a b. cliffordOf (4 * a + b)) e f ∙ code-of-keys d
 
@@ -67,7 +64,7 @@ keys-least n c d class-least sign-least = classes (differ-or-not n (λ q. classK
         D .place,
         D .below,
         D .before,
-        less _ _ (sign-least h (D .place) (D .below) (D .before)) (D .unequal),
+        lt-of-le-ne (sign-least h (D .place) (D .below) (D .before)) (D .unequal),
       ),
     ))
 
@@ -77,6 +74,6 @@ keys-least n c d class-least sign-least = classes (differ-or-not n (λ q. classK
       D .place,
       D .below,
       D .before,
-      less _ _ (class-least (D .place) (D .below) (D .before)) (D .unequal),
+      lt-of-le-ne (class-least (D .place) (D .below) (D .before)) (D .unequal),
     ))
     classes (inr h) = signs h (differ-or-not n (λ q. signKey (c q)) (λ q. signKey (d q)))

@@ -1,5 +1,5 @@
 -- The last unknown of an equation, by the largest bits of its two words.
-use mathlib.Core.Bool.{Bool, false, true≢false, _||_}
+use mathlib.Core.Bool.{false, true≢false, _||_}
 use mathlib.Core.List.{List}
 use mathlib.Core.Logic.{inl, inr, _⊎_}
 use mathlib.Core.Path.{ap, ap₂, sym, _∙_, _≡_}
@@ -84,7 +84,7 @@ module _ (row : List ℕ) where
   pub some-unknown : getD row 0 0 < 2 ^ 64 → ((j : ℕ) → unknown (equationOf row) j ≡ false) → both ≡ 0
   some-unknown fits none =
       bit-ext∞ both 0 (λ q. bit-or (getD row 0 0) (bitAnd (getD row 1 0) 65535) q
-      ∙ two (low q (lt-or-ge q 64)) (high q) ∙ sym (zero-bit q))
+      ∙ ap₂ _||_ (low q (lt-or-ge q 64)) (high q) ∙ sym (zero-bit q))
     where
       low : (q : ℕ) → (q < 64) ⊎ (64 ≤ q) → bit (getD row 0 0) q ≡ false
       low q (inl l) = sym (unknown-low q l) ∙ none q
@@ -94,6 +94,3 @@ module _ (row : List ℕ) where
       high q =
           ap (bit (bitAnd (getD row 1 0) 65535)) {x = q} {y = 64 + q - 64} (omega arith)
           ∙ sym (unknown-high (64 + q) (omega arith)) ∙ none (64 + q)
-
-      two : {a b : Bool} → a ≡ false → b ≡ false → (a || b) ≡ false
-      two ha hb = ap₂ _||_ ha hb

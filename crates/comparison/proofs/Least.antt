@@ -11,17 +11,17 @@ use native.Mathlib.Omega.{arith}
 use lib.ListN.{getD}
 use borrow.Author.Tests.{not-false, not-true}
 use Rattle.clifford.proofs.CliffordLaws.{codeOf-cliffordOf}
-use Rattle.clifford.specs.Clifford.{Clifford, classNumber, cliffordOf, codeOf, image, imagePhase}
+use Rattle.clifford.proofs.VectorLaws.{act-agree}
+use Rattle.clifford.specs.Clifford.{Clifford, classNumber, cliffordOf, codeOf}
 use Rattle.clifford.specs.Vectors.{act, codesOf}
-use Rattle.pauli.proofs.PauliLaws.{Pauli-path}
-use Rattle.pauli.specs.Pauli.{_+ᵖ_, Pauli, i⁰, letter, letterAt, xBit, zBit}
-use Rattle.pauli.specs.declared.Letter.{Letter}
+use Rattle.pauli.specs.Pauli.{Pauli, letter, letterAt}
+use Rattle.pauli.specs.declared.Letter.the-variants.{I}
 use Rattle.stabilizer.proofs.Within.{element-within}
 use Rattle.stabilizer.specs.Carries.{Carries}
 use Rattle.stabilizer.specs.Groups.{InGroup, Within}
 use Rattle.words.proofs.Flags.{never-true}
 use Rattle.words.proofs.SearchLaws.{some-in, some-none, some-true}
-use Rattle.words.proofs.Sums.{fold-ext, lt-or-ge}
+use Rattle.words.proofs.Sums.{lt-or-ge}
 use Rattle.words.specs.Search.{IsFirst, first, some}
 use Rattle.comparison.proofs.Members.{carries-is}
 use Rattle.comparison.proofs.NumberOrder.{choice-lt, number-order, numbered}
@@ -101,29 +101,21 @@ agree-before n c d e h = go
     go (inr a) = inr ((λ q l. ap (λ k. k .class) (sym (h q l)) ∙ a .0 q l), move signKey (a .1))
 
 -- ---- what lies at and above n does not matter
+pub act-within : (n : ℕ) (c d : ℕ → Clifford) → Agree n c d → (p : Pauli) → Within n p → act n c p ≡ act n d p
+act-within n c d h p P = act-agree n c d p (λ q. place q (lt-or-ge q n))
+  where
+    place : (q : ℕ) → (q < n) ⊎ (n ≤ q) → (c q ≡ d q) ⊎ (letterAt p q ≡ I)
+    place q (inl l) = inl (h q l)
+    place q (inr l) = inr (ap₂ letter (P .no-z q l) (P .no-x q l))
+
 module _ (n : ℕ) (rows others : ℕ → Pauli) (W : (j : ℕ) → j < n → Within n (rows j))
     (W′ : (j : ℕ) → j < n → Within n (others j)) where
-  pub act-agree : (c d : ℕ → Clifford) → Agree n c d → (p : Pauli) → Within n p → act n c p ≡ act n d p
-  unfolding act
-  act-agree c d h p P =
-      Pauli-path
-      (ap (λ t. p .phase +ᵖ t) (fold-ext i⁰ _+ᵖ_ n (λ q l. ap (λ k. imagePhase k (letterAt p q)) (h q l))))
-      (λ q. place zBit q (lt-or-ge q n)) (λ q. place xBit q (lt-or-ge q n))
-    where
-      place : (f : Letter → Bool) (q : ℕ) → (q < n) ⊎ (n ≤ q)
-          → f (image (c q) (letterAt p q)) ≡ f (image (d q) (letterAt p q))
-      place f q (inl l) = ap (λ k. f (image k (letterAt p q))) (h q l)
-      place f q (inr l) =
-          ap₂ (λ z x. f (image (c q) (letter z x))) (P .no-z q l) (P .no-x q l)
-          ∙ sym (ap₂ (λ z x. f (image (d q) (letter z x))) (P .no-z q l) (P .no-x q l))
-
   pub carries-agree : (c d : ℕ → Clifford) → Agree n c d → Carries n c rows others → Carries n d rows others
   carries-agree c d h C =
       record {
-        into = λ p a. subst (InGroup n n others) (act-agree c d h p (element-within n n rows W a))
-            (C .into p a);
+        into = λ p a. subst (InGroup n n others) (act-within n c d h p (element-within n n rows W a)) (C .into p a);
         onto = λ p a. let b = C .onto p a in
-            (b .0, b .1, b .2 ∙ act-agree c d h (b .0) (element-within n n rows W (b .1)));
+            (b .0, b .1, b .2 ∙ act-within n c d h (b .0) (element-within n n rows W (b .1)));
       }
 
   pub least-agree : (c d : ℕ → Clifford) → Agree n c d → LeastChoice n rows others c → LeastChoice n rows others d

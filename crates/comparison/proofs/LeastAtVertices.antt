@@ -5,7 +5,7 @@ use mathlib.Core.Logic.{inl, inr, _⊎_}
 use mathlib.Core.Path.{ap, ap₂, refl, subst, sym, _∙_, _≡_}
 use Prim.Native.Nat.{_<_, _≤_, ℕ}
 use native.Mathlib.Decide.{decLt}
-use native.Mathlib.Nat.{lt-trans, ne-of-lt}
+use native.Mathlib.Nat.{le-of-eq, le-of-lt, lt-trans, ne-of-lt}
 use native.Mathlib.Omega.{arith}
 use lib.Dec.{eqb}
 use Rattle.clifford.proofs.VectorLaws.{act-then}
@@ -129,16 +129,10 @@ module _ (n : ℕ) (r t : GraphRecord) (R : Simple n (r .graph)) (T : Simple n (
         meet : (F .0 < i → ⊥) → (i < F .0 → ⊥) → F .0 ≡ i
         meet x y = omega (arith, x, y)
 
-        weaken : {a b : ℕ} → a < b → a ≤ b
-        weaken l = omega (arith, l)
-
-        equal : {a b : ℕ} → a ≡ b → a ≤ b
-        equal p = omega (arith, p)
-
         go : Dec (F .0 < i) → Dec (i < F .0) → f i ≤ g i
         go (yes l) m = absurd (ne-of-lt (F .3) (h (F .0) l))
-        go (no a) (yes m) = equal (F .2 i m)
-        go (no a) (no b) = subst (λ v. f v ≤ g v) (meet a b) (weaken (F .3))
+        go (no a) (yes m) = le-of-eq (F .2 i m)
+        go (no a) (no b) = subst (λ v. f v ≤ g v) (meet a b) (le-of-lt (F .3))
 
     pub part-least-at : LeastChoice k (rowsOf k small) (rowsOf k other) (λ i. c (e i)) → (i : ℕ) → i < k
         → LeastAt n r t c (e i)
@@ -149,23 +143,20 @@ module _ (n : ℕ) (r t : GraphRecord) (R : Simple n (r .graph)) (T : Simple n (
           sign-least = λ d K h g. sign-le d (L .least (λ j. d (e j)) (part-carried n s k e N r t R T C D d K)) h g;
         }
       where
-        equal : {a b : ℕ} → a ≡ b → a ≤ b
-        equal p = omega (arith, p)
-
         class-le : (d : ℕ → Clifford) → Agree k (λ j. c (e j)) (λ j. d (e j)) ⊎ Before k (λ j. c (e j)) (λ j. d (e j))
             → ((u : ℕ) → u < e i → partOf n (r .graph) (e i) u ≡ true → classKey (c u) ≡ classKey (d u))
             → classKey (c (e i)) ≤ classKey (d (e i))
-        class-le d (inl a) h = equal (ap classKey (a i l))
+        class-le d (inl a) h = le-of-eq (ap classKey (a i l))
         class-le d (inr (inl F)) h =
             not-above (λ j. classKey (c (e j))) (λ j. classKey (d (e j))) F i
             (λ j m. h (e j) (N .rising j i m l) (together i j l (lt-trans m l)))
-        class-le d (inr (inr a)) h = equal (ap classNumber (a .0 i l))
+        class-le d (inr (inr a)) h = le-of-eq (ap classNumber (a .0 i l))
 
         sign-le : (d : ℕ → Clifford) → Agree k (λ j. c (e j)) (λ j. d (e j)) ⊎ Before k (λ j. c (e j)) (λ j. d (e j))
             → ((u : ℕ) → u < n → partOf n (r .graph) (e i) u ≡ true → classKey (c u) ≡ classKey (d u))
             → ((u : ℕ) → u < e i → partOf n (r .graph) (e i) u ≡ true → signKey (c u) ≡ signKey (d u))
             → signKey (c (e i)) ≤ signKey (d (e i))
-        sign-le d (inl a) h g = equal (ap signKey (a i l))
+        sign-le d (inl a) h g = le-of-eq (ap signKey (a i l))
         sign-le d (inr (inl F)) h g =
             absurd (ne-of-lt (F .3) (h (e (F .0)) (N .below (F .0) (F .1)) (together i (F .0) l (F .1))))
         sign-le d (inr (inr a)) h g =

@@ -37,7 +37,7 @@ use Rattle.stabilizer.specs.Groups.{InGroup, Proper, Within, chosen, product}
 use Rattle.words.proofs.Finite.{unequal}
 use Rattle.words.proofs.Sums.{fold-ext}
 use Rattle.words.specs.Bits.{_⊕_}
-use Rattle.comparison.proofs.Least.{act-agree}
+use Rattle.comparison.proofs.Least.{act-within}
 use Rattle.comparison.proofs.Members.{carries-is}
 use Rattle.comparison.specs.Choices.{isCarrying}
 use Rattle.comparison.specs.internal.Setting.{Framed, Guessed}
@@ -64,9 +64,7 @@ module _ (n : ℕ) (rows : ℕ → Pauli) (frame : ℕ → Clifford) (F : Framed
 
       undone : act n frame p ≡ plain
       undone =
-          act-agree n rows rows (framed-proper .within) (framed-proper .within) frame
-          (λ q. inverse (F .codes q)) (F .undoes)
-          p within
+          act-within n frame (λ q. inverse (F .codes q)) (F .undoes) p within
           ∙ ap (act n (λ q. inverse (F .codes q))) sent ∙ act-inverse n (F .codes) plain
 
       word : (j : ℕ) → j < n → (act n frame p) .x j ≡ a .0 j

@@ -24,7 +24,7 @@ use Rattle.words.specs.Bits.{bit, parity, wordOf, _⊕_}
 use Rattle.words.specs.internal.Bits.{dot}
 use Rattle.comparison.proofs.ClassEquations.{dot-word, x-word-lt, z-word-lt}
 use Rattle.comparison.proofs.EquationLaws.{zero-dot}
-use Rattle.comparison.proofs.Least.{act-agree}
+use Rattle.comparison.proofs.Least.{act-within}
 use Rattle.comparison.proofs.NumberOrder.{class-injective}
 use Rattle.comparison.specs.Choices.{classKey}
 use Rattle.comparison.specs.internal.Equations.{Assignment, fails, signAssignment, signEquation}
@@ -124,7 +124,7 @@ module _ (n : ℕ) (rows others : ℕ → Pauli) (P : Proper n rows) (P′ : Pro
     where
       bares : act n (λ q. withoutSigns (d q)) (generatorOf g) ≡ generatorOf p
       bares =
-          act-agree n rows others (P .within) (P′ .within) (λ q. withoutSigns (d q)) (λ q. withoutSigns (c q))
+          act-within n (λ q. withoutSigns (d q)) (λ q. withoutSigns (c q))
           (λ q l. ap (λ m. record { class = m; sx = false; sz = false }) (class-injective _ _ (hc q l)))
           (generatorOf g) row-within
           ∙ sym ep
@@ -161,7 +161,7 @@ sign-sends n rows others P P′ d i li g eg c hc p h ep ez ex e = Pauli-path pha
 
     bares : act n (λ q. withoutSigns (d q)) (generatorOf g) ≡ generatorOf p
     bares =
-        act-agree n rows others (P .within) (P′ .within) (λ q. withoutSigns (d q)) (λ q. withoutSigns (c q))
+        act-within n (λ q. withoutSigns (d q)) (λ q. withoutSigns (c q))
         (λ q l. ap (λ m. record { class = m; sx = false; sz = false }) (class-injective _ _ (hc q l)))
         (generatorOf g) within
         ∙ sym ep

@@ -6,7 +6,7 @@ use mathlib.Core.List.{List}
 use mathlib.Core.Logic.{inl, inr, _⊎_}
 use mathlib.Core.Path.{ap, ap₂, refl, subst, sym, _∙_, _≡_}
 use Prim.Native.Nat.{_*_, _+_, _<_, _≤_, suc, ℕ}
-use native.Mathlib.Nat.{le-trans, lt-of-lt-of-le, not-suc-le-zero}
+use native.Mathlib.Nat.{le-trans, lt-of-lt-of-le, not-le-of-lt, not-suc-le-zero}
 use native.Mathlib.Omega.{arith}
 use lib.Dec.{eqb}
 use lib.ListN.{getD}
@@ -101,12 +101,9 @@ module _ (n : ℕ) (first second : List Generator) (frame : List ℕ) (S : Setti
       unfolding flag
       sign-flag j l e F = go (lt-or-ge j n)
         where
-          clash : {a b : ℕ} → a < b → b ≤ a → ⊥
-          clash x y = omega (arith, x, y)
-
           go : (k : (j < n) ⊎ (n ≤ j)) → F .sent .minus ⊕ F .element .minus ≡ flagAt j k
           go (inl k) = sign-which j e F (sent j k)
-          go (inr k) = absurd (clash l k)
+          go (inr k) = absurd (not-le-of-lt l k)
 
       -- ---- Z at these vertices, sent through the codes of the first record, anticommutes with just these generators
       marked : Pauli

@@ -12,7 +12,7 @@ use Rattle.clifford.specs.Clifford.{cliffordOf}
 use Rattle.clifford.specs.Vectors.{act, codesOf}
 use Rattle.comparison.proofs.ComparedRecords.{same-answer}
 use Rattle.comparison.proofs.ConnectedParts.{part-connected}
-use Rattle.comparison.proofs.Least.{act-agree}
+use Rattle.comparison.proofs.Least.{act-within}
 use Rattle.comparison.specs.internal.Searches.{LeastAnswer}
 use Rattle.comparison.specs.internal.Setting.{Connected, SoundRecord, heldGenerators}
 use Rattle.graph.proofs.GraphGroups.{graph-proper}
@@ -98,8 +98,7 @@ module _ (n : ℕ) (nb cs : List ℕ) (s : Word) (k : ℕ) (at : List ℕ) (N : 
   pub part-rows : (i : ℕ) → i < k → heldGenerators k words numbers i ≡ rowsOf k (partOfRecord k at (recordHeld n nb cs)) i
   part-rows i l =
       ap (λ θ. act k (codesOf numbers) (graphGenerator θ i)) graph-is
-      ∙ act-agree k (graphGenerator (partGraph k e (graphIn nb))) (graphGenerator (partGraph k e (graphIn nb)))
-      (P .within) (P .within) (codesOf numbers) (λ j. codesOf cs (e j))
+      ∙ act-within k (codesOf numbers) (λ j. codesOf cs (e j))
       (λ j m. ap cliffordOf (numbers-at j m)) (graphGenerator (partGraph k e (graphIn nb)) i) (P .within i l)
     where
       P : Proper k (graphGenerator (partGraph k e (graphIn nb)))

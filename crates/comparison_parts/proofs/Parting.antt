@@ -1,5 +1,5 @@
 -- The loop over the parts: where it is the least it stays so, and at the end the choice is the least.
-use mathlib.Core.Bool.{_&&_, Bool, false, false≢true, not, true, true≢false}
+use mathlib.Core.Bool.{_&&_, Bool, false, not, true, true≢false}
 use mathlib.Core.List.{List}
 use mathlib.Core.Logic.{inl, inr, _⊎_}
 use mathlib.Core.Path.{ap, ap₂, refl, subst, sym, _∙_, _≡_}
@@ -11,7 +11,7 @@ use lib.Count.{trailingZeros}
 use lib.Dec.{ltb}
 use lib.ListN.{length}
 use lib.Pow.{pow-mono, pow-pos}
-use borrow.Author.Tests.{ltb-false}
+use borrow.Author.Tests.{ltb-false, not-true}
 use Rattle.clifford.specs.Clifford.{cliffordOf}
 use Rattle.clifford.specs.Vectors.{codesOf}
 use Rattle.comparison.proofs.Least.{least-answer}
@@ -30,7 +30,7 @@ use Rattle.record.proofs.ReducedRecords.{record-proper}
 use Rattle.record.specs.Records.{GraphRecord, rowsOf}
 use Rattle.words.proofs.BitLaws.{bit-above, bit-and, bit-ext∞, bit-mask, bit-xor, lt-of-bits, zero-bit}
 use Rattle.words.proofs.Finite.{bits}
-use Rattle.words.proofs.Flags.{both-true}
+use Rattle.words.proofs.Flags.{both-true, never-true}
 use Rattle.words.proofs.SearchLaws.{some-false}
 use Rattle.words.proofs.Sums.{lt-or-ge}
 use Rattle.words.proofs.Trailing.{trailing-set}
@@ -153,17 +153,9 @@ module _ (n : ℕ) (nb cs nb₂ cs₂ : List ℕ) (P : SoundPair n nb cs nb₂ c
               outside : (u v : ℕ) → u < n → v < n → bit rest u ≡ false → partOf n (graphIn nb) u v ≡ true
                   → bit component v ≡ false
               outside u v l m a b =
-                  never (bit component v) (λ h. true≢false (sym (inside v m h) ∙ not-true′ (bit rest v)
+                  never-true (bit component v) (λ h. true≢false (sym (inside v m h) ∙ not-true (bit rest v)
                   (part-within n (graphIn nb) (λ x. not (bit rest x))
                   (rest-closed n (graphIn nb) (P .first .simple .symmetric) (bit rest) (G .closed)) u v l m (ap not a) b)))
-                where
-                  never : (x : Bool) → (x ≡ true → ⊥) → x ≡ false
-                  never true h = absurd (h refl)
-                  never false h = refl
-
-                  not-true′ : (x : Bool) → not x ≡ true → x ≡ false
-                  not-true′ true e = absurd (false≢true e)
-                  not-true′ false e = refl
 
               go : (u : ℕ) → u < n → (x : Bool) → bit rest u ≡ x → (y : Bool) → bit component u ≡ y
                   → (bit rest u && not (bit component u)) ≡ false → LeastAt n r t (codesOf new) u

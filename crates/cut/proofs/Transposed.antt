@@ -7,7 +7,7 @@ use native.Mathlib.Nat.{add-comm, add-mul, eq-of-mul-eq-mul-left, le-antisymm, l
 use native.Mathlib.Omega.{arith}
 use lib.Pow.{pow-pos}
 use Rattle.cut.proofs.Counting.{sums}
-use Rattle.words.proofs.Finite.{and-⊕, bits, ⊕-comm}
+use Rattle.words.proofs.Finite.{and-exchange, and-⊕, ⊕-comm}
 use Rattle.words.proofs.Sums.{bitMonoid, fold-ext, fold-hom, fold-mul, fold-swap}
 use Rattle.words.specs.Bits.{Word, bit, digit, fold, parity, _⊕_}
 use Rattle.cut.proofs.EvenWords.{evens, evens-twice}
@@ -47,14 +47,11 @@ module _ (n : ℕ) where
   exchange M u v =
       fold-ext false _⊕_ n (λ j l. within (u j) (λ t. v t && M j t))
       ∙ fold-swap false _⊕_ bitMonoid ⊕-comm n n (λ j t. u j && (v t && M j t))
-      ∙ fold-ext false _⊕_ n (λ t l. fold-ext false _⊕_ n (λ j k. order (u j) (v t) (M j t))
+      ∙ fold-ext false _⊕_ n (λ t l. fold-ext false _⊕_ n (λ j k. and-exchange (u j) (v t) (M j t))
       ∙ sym (within (v t) (λ j. u j && M j t)))
     where
       within : (a : Bool) (f : Word) → (a && parity n f) ≡ parity n (λ t. a && f t)
       within a f = fold-hom false _⊕_ false _⊕_ (λ b. a && b) (and-false a) (and-⊕ a) n f
-
-      order : (a b c : Bool) → (a && (b && c)) ≡ (b && (a && c))
-      order = bits 3 (λ a b c. a && (b && c)) (λ a b c. b && (a && c)) tt
 
   pairs-transposed : (M : ℕ → Word) → pairs M ≡ pairs (λ j t. M t j)
   unfolding pairs

@@ -20,7 +20,7 @@ use Rattle.cut.specs.Rank.{rank}
 use Rattle.record.proofs.ColumnLaws.{column-dependent}
 use Rattle.record.specs.Columns.{isColumnDependent}
 use Rattle.words.proofs.BitLaws.{bit-above, bit-xor, zero-bit}
-use Rattle.words.proofs.Finite.{bits, ⊕-assoc, ⊕-self, ⊕-twice, ⊕-zero}
+use Rattle.words.proofs.Finite.{bits, ⊕-assoc, ⊕-back, ⊕-self, ⊕-twice, ⊕-zero}
 use Rattle.words.proofs.Flags.{never-true}
 use Rattle.words.proofs.Sums.{lt-or-ge}
 use Rattle.words.proofs.Trailing.{trailing-set}
@@ -149,12 +149,9 @@ module _ (m : ℕ) (small : m ≤ 64) (M : ℕ → Word) (basis : List ℕ) (cou
 
       independent : isColumnDependent m M k ≡ false
       independent = never-true (isColumnDependent m M k) (λ e. S .held (bit r)
-          (span-ext m M k _ _ (λ j l. sym (added-back (M j k) (bit r j)))
+          (span-ext m M k _ _ (λ j l. sym (⊕-back (M j k) (bit r j)))
           (span-add m M k _ _ (column-dependent m M k .0 e) differs))
           i (record { below = row-below; passes = set-at .passes; least = set-at .least }) free)
-        where
-          added-back : (a b : Bool) → a ⊕ (a ⊕ b) ≡ b
-          added-back = bits 2 (λ a b. a ⊕ (a ⊕ b)) (λ a b. b) tt
 
       counts : count + 1 ≡ rank m (suc k) M
       unfolding fold

@@ -1,12 +1,12 @@
 -- A pivot: complementing at j, k, j, where j and k are joined, flips the edges between the closed neighbourhoods of j
 -- and k.
 use mathlib.Core.Bool.{_&&_, Bool, cond, false, not, true, _||_}
-use mathlib.Core.Path.{ap, ap₂, refl, sym, _∙_, _≡_}
+use mathlib.Core.Path.{ap, ap₂, sym, _∙_, _≡_}
 use Prim.Native.Nat.{ℕ}
 use lib.Dec.{eqb}
 use borrow.Author.Tests.{eqb-true}
 use Rattle.words.proofs.Finite.{bits}
-use Rattle.words.proofs.Flags.{sameBit-true}
+use Rattle.words.proofs.Flags.{implies, sameBit-true}
 use Rattle.words.proofs.Places.{place-comm}
 use Rattle.words.specs.Bits.{sameBit, _⊕_}
 use Rattle.graph.proofs.Complement.{under}
@@ -51,11 +51,6 @@ edge-at jj jk kj e J K J′ K′ E t a b c d hjj hjk hkj h =
     (bits 10 (λ J K J′ K′ E t a b c d. cond (known J K J′ K′ E t a b c d) (thrice false true true e J K J′ K′ E t a b c d)
     (between J K J′ K′ E t a b c d)) between tt J K J′ K′ E t a b c d)
 
--- a test that follows from another
-pub follows : (p q : Bool) → (p ≡ true → q ≡ true) → (not p || q) ≡ true
-follows false q h = refl
-follows true q h = h refl
-
 module _ (n : ℕ) (θ : Graph) (S : Simple n θ) (j k : ℕ) (edge : θ j k ≡ true) where
   back : θ k j ≡ true
   back = S .symmetric k j ∙ edge
@@ -63,7 +58,7 @@ module _ (n : ℕ) (θ : Graph) (S : Simple n θ) (j k : ℕ) (edge : θ j k ≡
   -- what is known of x where x is one end v of the edge, and w the other
   at-end : (v w x y : ℕ) → θ w v ≡ true
       → atEnd (eqb x v) (θ v x) (θ w x) (θ x y) (θ v y) (eqb y x) (eqb y v) ≡ true
-  at-end v w x y h = follows (eqb x v) _ (λ d. let e = eqb-true x v d in
+  at-end v w x y h = implies (eqb x v) _ (λ d. let e = eqb-true x v d in
       ap₂ (λ s t. not s && t) (ap (θ v) e ∙ S .loopless v)
       (ap₂ _&&_ (ap (θ w) e ∙ h)
       (ap₂ _&&_ (sameBit-true (ap (λ m. θ m y) e)) (sameBit-true (ap (eqb y) e)))))
@@ -84,7 +79,7 @@ module _ (n : ℕ) (θ : Graph) (S : Simple n θ) (j k : ℕ) (edge : θ j k ≡
       (ap₂ _&&_ (at-other k j x y edge) same)))
     where
       same : (not (eqb y x) || (not (θ x y) && (sameBit (θ j x) (θ j y) && sameBit (θ k x) (θ k y)))) ≡ true
-      same = follows (eqb y x) _ (λ d. let e = eqb-true y x d in
+      same = implies (eqb y x) _ (λ d. let e = eqb-true y x d in
           ap₂ (λ s t. not s && t) (ap (θ x) e ∙ S .loopless x)
           (ap₂ _&&_ (sameBit-true (ap (θ j) (sym e))) (sameBit-true (ap (θ k) (sym e)))))
 

@@ -10,6 +10,7 @@ use Rattle.clifford.specs.Vectors.{act}
 use Rattle.graph.specs.Graph.{Graph, Simple, graphGenerator}
 use Rattle.graph.specs.internal.Joined.{joinedBy}
 use Rattle.operations.proofs.CzGroups.{cz-proper}
+use Rattle.operations.proofs.CzLaws.{cz-fixed}
 use Rattle.operations.proofs.GroupAlone.{reduced-of-group}
 use Rattle.operations.specs.Cz.{cz, czRows, zAt}
 use Rattle.pauli.specs.Pauli.{Pauli, minus, mul, scaled}
@@ -20,14 +21,14 @@ use Rattle.record.specs.Reduced.{reduced}
 use Rattle.stabilizer.proofs.Carried.{act-chosen}
 use Rattle.stabilizer.proofs.GroupLaws.{in-identity, in-mul, in-row}
 use Rattle.stabilizer.specs.Groups.{InGroup, Proper, SameGroup, chosen}
-use Rattle.words.proofs.Finite.{bits}
+use Rattle.words.proofs.Finite.{bits, ⊕-none, ⊕-zero}
 use Rattle.words.proofs.Sums.{bitMonoid, fold-unit}
 use Rattle.words.specs.Bits.{Word, parity, _⊕_}
 use Rattle.graph_steps.proofs.CzProducts.{same-products}
 use Rattle.graph_steps.proofs.Places.{pauli-generator, pauli-low, pauli-then}
 use Rattle.graph_steps.proofs.Reaching.{element, element-no-x, reach-below, reach-kept, reach-z, x-reach}
 use Rattle.graph_steps.proofs.ReducedForms.{form-reduced}
-use Rattle.graph_steps.proofs.ZRows.{chosen-zs, cz-fixed, cz-product, joined-generator, zs, zs-commute}
+use Rattle.graph_steps.proofs.ZRows.{chosen-zs, cz-product, joined-generator, zs, zs-commute}
 use Rattle.graph_steps.specs.internal.ReducedForms.{ReducedForm}
 use Rattle.graph_steps.specs.internal.Steps.{czRecord, czTurned, pauliCode, reach, reachMinus}
 
@@ -119,7 +120,7 @@ module _ (n : ℕ) (r : GraphRecord) (S : Simple n (r .graph)) (F : ReducedForm 
         loopless = λ k. ap (λ t. t ⊕ ((A k && B k) ⊕ (B k && A k))) (S .loopless k) ∙ cancel (A k) (B k);
         below = λ k q l. ap (λ t. t ⊕ ((A k && B q) ⊕ (B k && A q))) (S .below k q l)
             ∙ ap₂ (λ u v. (A k && v) ⊕ (B k && u)) (reach-below n r S F a ha q l) (reach-below n r S F b hb q l)
-            ∙ none (A k) (B k);
+            ∙ ⊕-none (A k) (B k);
       }
     where
       turn : (t u v w x : Bool) → t ⊕ ((u && v) ⊕ (w && x)) ≡ t ⊕ ((x && w) ⊕ (v && u))
@@ -127,9 +128,6 @@ module _ (n : ℕ) (r : GraphRecord) (S : Simple n (r .graph)) (F : ReducedForm 
 
       cancel : (u v : Bool) → (u && v) ⊕ (v && u) ≡ false
       cancel = bits 2 (λ u v. (u && v) ⊕ (v && u)) (λ u v. false) tt
-
-      none : (u v : Bool) → (u && false) ⊕ (v && false) ≡ false
-      none = bits 2 (λ u v. (u && false) ⊕ (v && false)) (λ u v. false) tt
 
   cz-same : SameGroup n n (rowsOf n (czRecord r a b)) (czRows a b R)
   cz-same =
@@ -143,10 +141,7 @@ module _ (n : ℕ) (r : GraphRecord) (S : Simple n (r .graph)) (F : ReducedForm 
   pub turned-above : (q : ℕ) → n ≤ q → czTurned r a b q ≡ false
   turned-above q l =
       ap₂ (λ u v. (u && v) ⊕ ((reachMinus r a && v) ⊕ (reachMinus r b && u))) (reach-below n r S F a ha q l)
-      (reach-below n r S F b hb q l) ∙ none (reachMinus r a) (reachMinus r b)
-    where
-      none : (u v : Bool) → (u && false) ⊕ (v && false) ≡ false
-      none = bits 2 (λ u v. (u && false) ⊕ (v && false)) (λ u v. false) tt
+      (reach-below n r S F b hb q l) ∙ ⊕-none (reachMinus r a) (reachMinus r b)
 
   pub cz-form : ReducedForm n (czRecord r a b)
   cz-form =
@@ -164,11 +159,7 @@ module _ (n : ℕ) (r : GraphRecord) (S : Simple n (r .graph)) (F : ReducedForm 
       still q e = sym (ap bitC (pauli-then false (czTurned r a b q) (c q))) ∙ e
 
       edges : (t v w : Bool) {u x : Bool} → u ≡ false → x ≡ false → t ⊕ ((u && v) ⊕ (x && w)) ≡ t
-      edges t v w e f = ap₂ (λ u x. t ⊕ ((u && v) ⊕ (x && w))) e f ∙ nothing t
-        where
-          nothing : (t : Bool) → t ⊕ false ≡ t
-          nothing false = refl
-          nothing true = refl
+      edges t v w e f = ap₂ (λ u x. t ⊕ ((u && v) ⊕ (x && w))) e f ∙ ⊕-zero t
 
   pub cz-reduced-form : reduced n (czRows a b (rowsOf n r)) ≡ czRecord r a b
   cz-reduced-form =

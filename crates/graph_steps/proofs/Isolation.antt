@@ -1,13 +1,13 @@
 -- A vertex whose Z is measured and isolated: the group of the record is the group after the measurement.
-use mathlib.Core.Bool.{_&&_, Bool, and-comm, and-false, cond, false, not, true, true≢false}
-use mathlib.Core.Logic.{_≢_}
+use mathlib.Core.Bool.{_&&_, Bool, and-comm, and-false, and-true, cond, false, not, true, true≢false}
+use mathlib.Core.Logic.{_≢_, _⊎_, inl, inr}
 use mathlib.Core.Path.{ap, ap₂, refl, subst, sym, _∙_, _≡_}
 use Prim.Native.Nat.{_<_, ℕ, _≤_}
 use native.Mathlib.Decide.{ℕ-discrete}
 use native.Mathlib.Omega.{arith}
 use lib.Dec.{eqb}
 use Rattle.clifford.proofs.CliffordLaws.{cliffords}
-use Rattle.clifford.proofs.VectorLaws.{act-identity, act-mul, act-scaled, act-then}
+use Rattle.clifford.proofs.VectorLaws.{act-agree, act-identity, act-mul, act-scaled, act-then}
 use Rattle.clifford.specs.Clifford.{
   Class,
   Clifford,
@@ -20,7 +20,6 @@ use Rattle.clifford.specs.Clifford.{
   classWith,
   identityClifford,
   image,
-  imagePhase,
   imageX,
   imageZ,
   then,
@@ -46,8 +45,6 @@ use Rattle.pauli.specs.Pauli.{
   minus,
   mul,
   scaled,
-  xBit,
-  zBit,
 }
 use Rattle.pauli.specs.declared.Letter.{Letter}
 use Rattle.pauli.specs.declared.Letter.the-variants.{I, X, Y, Z}
@@ -57,10 +54,10 @@ use Rattle.record.specs.Records.{GraphRecord, rowsOf}
 use Rattle.stabilizer.proofs.GroupLaws.{in-identity, in-row}
 use Rattle.stabilizer.proofs.Products.{anticommute-identity}
 use Rattle.stabilizer.specs.Groups.{SameGroup, chosen}
-use Rattle.words.proofs.Finite.{bits, ⊕-twice, ⊕-zero}
+use Rattle.words.proofs.Finite.{bits, ⊕-cleared, ⊕-twice, ⊕-zero}
 use Rattle.words.proofs.Flags.{never-true}
 use Rattle.words.proofs.Places.{other-place, put-other, put-same, same-place}
-use Rattle.words.proofs.Sums.{bitMonoid, fold-ext, fold-unit}
+use Rattle.words.proofs.Sums.{bitMonoid, fold-unit}
 use Rattle.words.specs.Bits.{_⊕_}
 use Rattle.graph_steps.proofs.CzProducts.{scaled-scaled}
 use Rattle.graph_steps.proofs.Places.{act-single, pauli-generator}
@@ -91,26 +88,6 @@ hadamard-x ZX = refl
 hadamard-x XY = refl
 hadamard-x YX = refl
 hadamard-x ZY = refl
-
--- codes that differ only where the row has no letter
-act-agree : (n : ℕ) (c d : ℕ → Clifford) (p : Pauli) (q : ℕ) → ((i : ℕ) → i ≢ q → c i ≡ d i) → p .z q ≡ false
-    → p .x q ≡ false → act n c p ≡ act n d p
-unfolding act
-act-agree n c d p q same ez ex =
-    Pauli-path
-    (ap (λ t. p .phase +ᵖ t) (fold-ext i⁰ _+ᵖ_ n (λ i l. at (λ k m. imagePhase k m) (λ k. refl) i (ℕ-discrete i q))))
-    (λ i. at (λ k m. zBit (image k m)) (λ k. refl) i (ℕ-discrete i q))
-    (λ i. at (λ k m. xBit (image k m)) (λ k. refl) i (ℕ-discrete i q))
-  where
-    at : {T : Type 0} (f : Clifford → Letter → T) {e : T} → ((k : Clifford) → f k I ≡ e) → (i : ℕ) → Dec (i ≡ q)
-        → f (c i) (letterAt p i) ≡ f (d i) (letterAt p i)
-    at f none i (no h) = ap (λ k. f k (letterAt p i)) (same i h)
-    at f none i (yes h) =
-        subst (λ v. f (c v) (letterAt p v) ≡ f (d v) (letterAt p v)) (sym h)
-        (ap (f (c q)) letterless ∙ none (c q) ∙ sym (none (d q)) ∙ ap (f (d q)) (sym letterless))
-      where
-        letterless : letterAt p q ≡ I
-        letterless = ap₂ letter ez ex
 
 -- Z at a place without x bit multiplies letters with no phase
 no-phase : (z x u : Bool) → (x && u) ≡ false → letterPhase (letter z x) (letter u false) ≡ i⁰
@@ -162,10 +139,7 @@ module _ (n : ℕ) (r : GraphRecord) (S : Simple n (r .graph)) (q : ℕ) (hq : q
       go (yes e) =
           subst (λ v. (θ j v && not (eqb v q)) ≡ θ j v ⊕ (θ q j && eqb v q)) (sym e)
           (ap (λ u. θ j q && not u) (same-place q) ∙ and-false (θ j q)
-          ∙ sym (ap₂ (λ u v. u ⊕ (θ q j && v)) (S .symmetric j q) (same-place q) ∙ both (θ q j)))
-        where
-          both : (u : Bool) → u ⊕ (u && true) ≡ false
-          both = bits 1 (λ u. u ⊕ (u && true)) (λ u. false) tt
+          ∙ sym (ap₂ (λ u v. u ⊕ (θ q j && v)) (S .symmetric j q) (same-place q) ∙ ⊕-cleared (θ q j)))
       go (no e) = ap (λ u. θ j i && not u) (other-place e) ∙ plain (θ j i) (θ q j)
           ∙ sym (ap (λ u. θ j i ⊕ (θ q j && u)) (other-place e))
         where
@@ -203,9 +177,8 @@ module _ (n : ℕ) (r : GraphRecord) (S : Simple n (r .graph)) (q : ℕ) (hq : q
   other-row : (j : ℕ) → j < n → j ≢ q
       → rowsOf n after j ≡ scaled (minus (t && θ q j)) (mul n (R j) (chosen (θ q j) (single l q ((c q) .sz))))
   other-row j h d =
-      act-agree n (after .codes) (λ i. then (pauliCode false (t && θ q i)) (c i)) (graphGenerator (after .graph) j) q
-      (λ i e. put-other _ q (then (hadamardCode t) (c q)) i e) (isolated-simple .symmetric j q ∙ no-edge j)
-      (other-place (λ e. d (sym e)))
+      act-agree n (after .codes) (λ i. then (pauliCode false (t && θ q i)) (c i)) (graphGenerator (after .graph) j)
+      (λ i. place i (ℕ-discrete i q))
       ∙ act-then n (λ i. pauliCode false (t && θ q i)) c (graphGenerator (after .graph) j)
       ∙ ap (act n c)
       (pauli-generator n (λ i. false) (λ i. t && θ q i) (after .graph) j h
@@ -217,6 +190,12 @@ module _ (n : ℕ) (r : GraphRecord) (S : Simple n (r .graph)) (q : ℕ) (hq : q
       ∙ act-mul n c (graphGenerator θ j) (chosen (θ q j) (zAt q))
       ∙ ap (mul n (R j)) (gated (θ q j)))
     where
+      place : (i : ℕ) → Dec (i ≡ q) → (after .codes i ≡ then (pauliCode false (t && θ q i)) (c i))
+          ⊎ (letterAt (graphGenerator (after .graph) j) i ≡ I)
+      place i (no e) = inl (put-other _ q (then (hadamardCode t) (c q)) i e)
+      place i (yes e) = inr (ap (letterAt (graphGenerator (after .graph) j)) e
+          ∙ ap₂ letter (isolated-simple .symmetric j q ∙ no-edge j) (other-place (λ e. d (sym e))))
+
       gated : (v : Bool) → act n c (chosen v (zAt q)) ≡ chosen v (single l q ((c q) .sz))
       gated false = act-identity n c
       gated true = z-image
@@ -254,12 +233,8 @@ module _ (n : ℕ) (r : GraphRecord) (S : Simple n (r .graph)) (q : ℕ) (hq : q
       go : j ≢ q → (v : Bool)
           → Measured n R P (scaled (minus (t && v)) (mul n (R j) (chosen v (single l q ((c q) .sz)))))
       go d true = subst (Measured n R P)
-          (minus-twice ∙ ap (λ s. scaled (minus s) (mul n (R j) (single l q ((c q) .sz)))) (sym (one t)))
+          (minus-twice ∙ ap (λ s. scaled (minus s) (mul n (R j) (single l q ((c q) .sz)))) (sym (and-true t)))
           (joined (in-row n n R j h) (commutes j d))
-        where
-          one : (u : Bool) → (u && true) ≡ u
-          one false = refl
-          one true = refl
       go d false = subst (Measured n R P)
           (sym (mul-identity n (R j)) ∙ ap (λ s. scaled (minus s) (mul n (R j) identity)) (sym (and-false t)))
           (kept (in-row n n R j h) (commutes j d))

@@ -1,5 +1,5 @@
 -- A record of reduced form is the reduced record of its own group.
-use mathlib.Core.Bool.{_&&_, Bool, and-false, cond, false, true, true≢false}
+use mathlib.Core.Bool.{_&&_, Bool, and-false, and-true, cond, false, true, true≢false}
 use mathlib.Core.Logic.{inl, inr}
 use mathlib.Core.Path.{ap, refl, sym, _∙_, _≡_}
 use Prim.Native.Nat.{_<_, ℕ, _≤_}
@@ -108,15 +108,11 @@ module _ (n : ℕ) (r : GraphRecord) (S : Simple n (r .graph)) (F : ReducedForm 
           ∙ elim (lt-or-ge j q) [
             | inl k ↦ fold-one false _⊕_ bitMonoid q j k
                 (λ t o d. ap (λ b. r .graph q t && b) (other-place d) ∙ and-false (r .graph q t))
-                ∙ ap (λ b. r .graph q j && b) (same-place j) ∙ one (r .graph q j) ∙ S .symmetric q j
+                ∙ ap (λ b. r .graph q j && b) (same-place j) ∙ and-true (r .graph q j) ∙ S .symmetric q j
             | inr k ↦ fold-unit false _⊕_ bitMonoid q
                 (λ t o. ap (λ b. r .graph q t && b) (other-place {i = t} {j = j} (λ d. absurd (omega (arith, d))))
                 ∙ and-false (r .graph q t)) ∙ sym (no-larger q j l e k) ∙ S .symmetric q j
           ]
-        where
-          one : (b : Bool) → (b && true) ≡ b
-          one false = refl
-          one true = refl
 
   -- that of a kept vertex is not: its own generator has the bit, and none before it
   stands : (q : ℕ) → q < n → rotated q ≡ false → ColumnDependent n (xWords (rowsOf n r)) q → ⊥

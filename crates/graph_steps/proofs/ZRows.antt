@@ -163,14 +163,3 @@ module _ (n a b : ℕ) (ha : a < n) (hb : b < n) (ab : a ≢ b) (p : Pauli) wher
       regroup t m s u v e =
           ap (λ a. m +ᵖ (a +ᵖ v)) (+ᵖ-zero ((t +ᵖ i⁰) +ᵖ u) ∙ ap (λ a. a +ᵖ u) (+ᵖ-zero t))
           ∙ ap (λ a. m +ᵖ a) (+ᵖ-assoc t u v) ∙ +ᵖ-left m t (u +ᵖ v) ∙ ap (λ a. t +ᵖ a) e
-
--- a row without x bits at a and b stays
-pub cz-fixed : (a b : ℕ) (p : Pauli) → p .x a ≡ false → p .x b ≡ false → cz a b p ≡ p
-unfolding cz
-cz-fixed a b p ea eb =
-    Pauli-path
-    (ap₂ (λ u v. p .phase +ᵖ minus (czSign (p .z a) u (p .z b) v)) ea eb ∙ +ᵖ-zero (p .phase))
-    (λ q. ap₂ (λ u v. p .z q ⊕ ((eqb q a && v) ⊕ (eqb q b && u))) ea eb ∙ none (p .z q) (eqb q a) (eqb q b)) (λ q. refl)
-  where
-    none : (z A B : Bool) → z ⊕ ((A && false) ⊕ (B && false)) ≡ z
-    none = bits 3 (λ z A B. z ⊕ ((A && false) ⊕ (B && false))) (λ z A B. z) tt

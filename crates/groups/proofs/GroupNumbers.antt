@@ -5,7 +5,7 @@ use mathlib.Core.List.{_++_, List, [], _∷_}
 use mathlib.Core.Logic.{_≢_, inl, inr}
 use mathlib.Core.Path.{ap, ap₂, refl, subst, sym, _∙_, _≡_}
 use Prim.Native.Nat.{_<_, _^_, ℕ}
-use native.Mathlib.Omega.{arith}
+use native.Mathlib.Nat.{pos-of-ne-zero}
 use lib.Dec.{eqb, leb}
 use lib.ListN.{getD}
 use borrow.Author.Tests.{eqb-false, leb-false, lt-ltb, not-false}
@@ -99,10 +99,7 @@ module _ (word g : ℕ) (u : UsedRecord) (H : Apart word u) where
     code = sym (ap cliffordOf (masked-code s u q l ∙ ap (λ b. cond b (getD (u .held .codes) q 0) 8) inside))
 
     acts-here : acts (pauliLetter pauli) ≡ true
-    acts-here = pauli-acts pauli (positive pauli acting)
-      where
-        positive : (k : ℕ) → k ≢ 0 → 0 < k
-        positive k h = omega (arith, h)
+    acts-here = pauli-acts pauli (pos-of-ne-zero acting)
 
     contradicted-alike : (b : Bool) → contradicts (u .held .n) (heldRows (u .held)) (pauliLetter pauli) q b
         ≡ contradicts (u .held .n) (heldRows (v .held)) (pauliLetter pauli) q b

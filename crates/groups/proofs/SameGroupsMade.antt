@@ -5,7 +5,7 @@ use mathlib.Core.Bool.{_&&_, false, not, true}
 use mathlib.Core.Logic.{_≢_}
 use mathlib.Core.Path.{_≡_, ap, subst, sym, _∙_}
 use Prim.Native.Nat.{ℕ, _<_, _≤_}
-use native.Mathlib.Omega.{arith}
+use native.Mathlib.Nat.{pos-of-ne-zero}
 use lib.ListN.{List·getD-eq-default}
 use borrow.Author.Tests.{lt-ltb, not-false}
 use Rattle.buffers.specs.Refusals.{firstFitting}
@@ -108,10 +108,7 @@ module _ (s : Word) (u : UsedRecord)
       followed-same n s r (K .simple) (K .split) _ _
       (measured-proper n (rowsOf n r) whole (pauliLetter pauli) q l (isOdd b))
       (measured-proper n (rowsOf n m) alone (pauliLetter pauli) q l (isOdd b))
-      (measured-followed n s r m K (pauliLetter pauli) (pauli-acts pauli (positive pauli acting)) q l e (isOdd b))
-    where
-      positive : (k : ℕ) → k ≢ 0 → 0 < k
-      positive k h = omega (arith, h)
+      (measured-followed n s r m K (pauliLetter pauli) (pauli-acts pauli (pos-of-ne-zero acting)) q l e (isOdd b))
 
   pub rewritten-same : (a : ℕ) → a < n → s a ≡ true → Same (complementOf a)
   rewritten-same a l e Y t S T = same-group-equal n (rowsOf n t) (rowsOf n (complementRecord r a))

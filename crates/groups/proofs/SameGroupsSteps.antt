@@ -1,28 +1,25 @@
 -- A gate and a cz on qubits of s: what each does to the group of a record follows from what it does to the group of the
 -- vertices of s, and the rows of the other vertices stay.
 use mathlib.Core.Bool.{_&&_, Bool, false, true}
-use mathlib.Core.Logic.{_≢_}
+use mathlib.Core.Logic.{inl, inr, _≢_, _⊎_}
 use mathlib.Core.Path.{ap, ap₂, refl, subst, sym, _∙_, _≡_}
 use Prim.Native.Nat.{_<_, ℕ}
 use native.Mathlib.Decide.{ℕ-discrete}
-use lib.Dec.{eqb}
-use Rattle.clifford.proofs.VectorLaws.{act-id}
-use Rattle.clifford.specs.Clifford.{Clifford, identityClifford, image, imagePhase}
+use Rattle.clifford.proofs.VectorLaws.{act-agree, act-id}
+use Rattle.clifford.specs.Clifford.{Clifford, identityClifford, image}
 use Rattle.clifford.specs.Vectors.{act, only}
 use Rattle.operations.proofs.CzGroups.{cz-group}
+use Rattle.operations.proofs.CzLaws.{cz-fixed}
 use Rattle.operations.proofs.Gating.{gate-carries}
 use Rattle.operations.specs.Cz.{cz, czRows}
 use Rattle.operations.specs.Gates.{gated}
-use Rattle.pauli.proofs.PauliLaws.{Pauli-path}
-use Rattle.pauli.proofs.PhaseLaws.{+ᵖ-zero}
-use Rattle.pauli.specs.Pauli.{_+ᵖ_, Pauli, i⁰, letter, letterAt, minus, xBit, zBit}
-use Rattle.pauli.specs.declared.Letter.{Letter}
+use Rattle.pauli.specs.Pauli.{Pauli, letter, letterAt, xBit, zBit}
+use Rattle.pauli.specs.declared.Letter.the-variants.{I}
 use Rattle.record.specs.Records.{GraphRecord, rowsOf}
 use Rattle.stabilizer.proofs.GroupLaws.{in-row}
 use Rattle.stabilizer.specs.Groups.{InGroup}
 use Rattle.words.proofs.Finite.{bits, ⊕-zero}
 use Rattle.words.proofs.Places.{other-place, put-other}
-use Rattle.words.proofs.Sums.{fold-ext}
 use Rattle.words.specs.Bits.{Word, _⊕_}
 use Rattle.groups.proofs.SameGroupsRows.{apart, row-free}
 use Rattle.groups.proofs.SameGroupsTogether.{mask-inner}
@@ -52,24 +49,11 @@ module _ (n : ℕ) (s : Word) (q : ℕ) (own : s q ≡ true) (k : Clifford) wher
 
   -- and fixes the rows that have I on s
   gate-fixes : q < n → (p : Pauli) → Free n s true p → act n (only q k) p ≡ p
-  unfolding act
-  gate-fixes hq p F =
-      Pauli-path
-      (ap (λ v. p .phase +ᵖ v) (fold-ext i⁰ _+ᵖ_ n (λ t l. place imagePhase (λ c d. refl) t)))
-      (place (λ c a. zBit (image c a)) (λ c d. refl))
-      (place (λ c a. xBit (image c a)) (λ c d. refl))
-      ∙ act-id n p
+  gate-fixes hq p F = act-agree n (only q k) (λ t. identityClifford) p (λ t. at t (ℕ-discrete t q)) ∙ act-id n p
     where
-      place : {A : Type 0} (f : Clifford → Letter → A)
-          → ((c d : Clifford) → f c (letter false false) ≡ f d (letter false false)) → (t : ℕ)
-          → f (only q k t) (letterAt p t) ≡ f identityClifford (letterAt p t)
-      place f none t = at (ℕ-discrete t q)
-        where
-          at : Dec (t ≡ q) → f (only q k t) (letterAt p t) ≡ f identityClifford (letterAt p t)
-          at (no d) = ap (λ c. f c (letterAt p t)) (put-other (λ _. identityClifford) q k t d)
-          at (yes e) =
-              let letters = ap₂ letter (ap (p .z) e ∙ F .no-z q hq own) (ap (p .x) e ∙ F .no-x q hq own) in
-              ap (f (only q k t)) letters ∙ none (only q k t) identityClifford ∙ sym (ap (f identityClifford) letters)
+      at : (t : ℕ) → Dec (t ≡ q) → (only q k t ≡ identityClifford) ⊎ (letterAt p t ≡ I)
+      at t (no d) = inl (put-other (λ _. identityClifford) q k t d)
+      at t (yes e) = inr (ap (letterAt p) e ∙ ap₂ letter (F .no-z q hq own) (F .no-x q hq own))
 
 -- ---- cz of two qubits
 module _ (n : ℕ) (s : Word) (a b : ℕ) (own-a : s a ≡ true) (own-b : s b ≡ true) where
@@ -82,18 +66,6 @@ module _ (n : ℕ) (s : Word) (a b : ℕ) (own-a : s a ≡ true) (own-b : s b �
             (other-place (apart s true own-a e)) (other-place (apart s true own-b e)) ∙ ⊕-zero (p .z t))
             ∙ F .no-z t l e;
       }
-
-  cz-fixes : a < n → b < n → (p : Pauli) → Free n s true p → cz a b p ≡ p
-  unfolding cz
-  cz-fixes ha hb p F =
-      Pauli-path
-      (ap (λ v. p .phase +ᵖ minus ((v && p .x b) && (p .z a ⊕ p .z b))) (F .no-x a ha own-a) ∙ +ᵖ-zero (p .phase))
-      (λ t. ap₂ (λ u v. p .z t ⊕ ((eqb t a && u) ⊕ (eqb t b && v))) (F .no-x b hb own-b) (F .no-x a ha own-a)
-      ∙ none (p .z t) (eqb t a) (eqb t b))
-      (λ t. refl)
-    where
-      none : (z c d : Bool) → z ⊕ ((c && false) ⊕ (d && false)) ≡ z
-      none = bits 3 (λ z c d. z ⊕ ((c && false) ⊕ (d && false))) (λ z c d. z) tt
 
 -- ---- both carry every element
 module _ (n : ℕ) (s : Word) (r m : GraphRecord) (K : MaskOf n s r m) where
@@ -128,5 +100,5 @@ module _ (n : ℕ) (s : Word) (r m : GraphRecord) (K : MaskOf n s r m) where
   pub cz-followed : (a b : ℕ) → a < n → b < n → a ≢ b → s a ≡ true → s b ≡ true
       → Followed n s (rowsOf n r) (czRows a b (rowsOf n r)) (czRows a b (rowsOf n m))
   cz-followed a b ha hb ab ea eb =
-      carried (cz a b) (cz-back n s a b ea eb) (cz-fixes n s a b ea eb ha hb) _ _
+      carried (cz a b) (cz-back n s a b ea eb) (λ p F. cz-fixed a b p (F .no-x a ha ea) (F .no-x b hb eb)) _ _
       (λ p i. cz-group n a b ha hb ab rows (cz a b p) .1 (p, i, refl)) (λ p i. cz-group n a b ha hb ab part p .0 i)

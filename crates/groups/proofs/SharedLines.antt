@@ -11,7 +11,7 @@ use borrow.Author.Tests.{eqb-true, ltb-false, not-false}
 use Rattle.buffers.specs.Refusals.{Refusal, firstFitting, line, otherThan, withTest}
 use Rattle.contracts.proofs.Fitting.{NoneHolds, none-fits-of, none-holds}
 use Rattle.stabilizer.proofs.SharedTests.{has-length, length-passes}
-use Rattle.store.proofs.PassingStores.{store-accepted}
+use Rattle.store.proofs.PassingStores.{bare, store-accepted}
 use Rattle.store.proofs.SavePlaces.{full}
 use Rattle.store.proofs.StoreNumbers.{record-number}
 use Rattle.store.specs.Kept.{savePlace}
@@ -131,10 +131,7 @@ module _ (word g : ℕ) (u : UsedRecord) (st : Store) (h : NoneHolds (sharedLine
   -- the buffers of the store have their lengths
   pub shared-long : EightLong st
   shared-long = eight-long st (neither (ofHeld 4 (ownPlaces g st) 4 || false) (storeLengths 8 st)
-      (plain ((ofHeld 4 (ownPlaces g st) 4 || false) || storeLengths 8 st) (four .1)) .1)
-    where
-      plain : (b : Bool) → ((b || false) || false) ≡ false → b ≡ false
-      plain b e = neither b false (neither (b || false) false e .0) .0
+      (bare ((ofHeld 4 (ownPlaces g st) 4 || false) || storeLengths 8 st) (four .1)) .1)
 
 pub record OwnFits (word g : ℕ) (st : Store) : Type 0 where
   pub passing : Passing 4 (ownPlaces g st)
@@ -152,9 +149,6 @@ own-long g st lg L = let own = ownPlaces g st in
 module _ (word g : ℕ) (u : UsedRecord) (st : Store) (h : NoneHolds (sharedLines word g u st)) where
   abbrev own : Store
   own = ownPlaces g st
-
-  bare : (b : Bool) → ((b || false) || false) ≡ false → b ≡ false
-  bare b e = neither b false (neither (b || false) false e .0) .0
 
   counts : (ofHeld 4 own 2 ≡ false) × (otherCount own ≡ false)
   counts = neither (ofHeld 4 own 2) (otherCount own) (bare (ofHeld 4 own 2 || otherCount own)

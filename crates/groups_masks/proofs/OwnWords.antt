@@ -10,7 +10,7 @@ use Rattle.buffers.proofs.Tabulate.{tabulate-cong}
 use Rattle.groups.specs.Masks.{crosses, inGroup, masked, merged, reachesOut}
 use Rattle.used.specs.Used.{UsedRecord}
 use Rattle.words.proofs.BitLaws.{and-lt-right, bit-and, bit-mask, bit-or, bit-wordOf, bit-xor, word-cong, wordOf-bit}
-use Rattle.words.proofs.Finite.{bits}
+use Rattle.words.proofs.Finite.{bits, ⊕-true}
 use Rattle.words.proofs.SearchLaws.{some-ext}
 use Rattle.words.specs.Bits.{Word, bit, sameBit, wordOf, _⊕_}
 use Rattle.words.specs.Search.{some}
@@ -22,10 +22,7 @@ word-of w f h e = sym (wordOf-bit 64 w h) ∙ word-cong 64 (bit w) f e
 -- the other bits
 pub other-bits : (w : ℕ) → w < 2 ^ 64 → bitXor w (2 ^ 64 - 1) ≡ wordOf 64 (λ q. not (bit w q))
 other-bits w h = word-of _ _ (xor-lt 64 w (2 ^ 64 - 1) h (ones-lt 64))
-    (λ q l. bit-xor w (2 ^ 64 - 1) q ∙ ap (λ b. bit w q ⊕ b) (bit-mask 64 q l) ∙ flipped (bit w q))
-  where
-    flipped : (b : Bool) → b ⊕ true ≡ not b
-    flipped = bits 1 (λ b. b ⊕ true) not tt
+    (λ q l. bit-xor w (2 ^ 64 - 1) q ∙ ap (λ b. bit w q ⊕ b) (bit-mask 64 q l) ∙ ⊕-true (bit w q))
 
 -- group 1 has the bits of the word, any other the others
 module _ (word g : ℕ) where

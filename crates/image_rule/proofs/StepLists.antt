@@ -4,7 +4,7 @@ use mathlib.Core.Path.{ap, refl, sym, _∙_, _≡_}
 use Prim.Native.Nat.{ℕ}
 use native.Mathlib.Nat.{add-zero}
 use native.Mathlib.Omega.{arith}
-use lib.ListN.{length, length-append}
+use lib.ListN.{length-append}
 use Rattle.record.specs.Records.{complementAll}
 use Rattle.image.proofs.TrackedBits.{all-append, all-bits}
 use Rattle.image.specs.Rule.{follow, stateOf}

@@ -1,13 +1,13 @@
 -- A text that is accepted is the text of the job that the reading holds.
-use mathlib.Core.Path.{_≡_, refl, sym, ap, _∙_, subst}
-use mathlib.Core.Bool.{Bool, true, false, not, true≢false}
+use mathlib.Core.Path.{_≡_, sym, ap, _∙_, subst}
+use mathlib.Core.Bool.{false, not}
 use mathlib.Core.List.{List, [], _∷_}
 use mathlib.Core.Logic.{⊎-elim}
 use Prim.Native.Nat.{ℕ, _≤_}
 use native.Mathlib.Omega.{arith}
 use lib.Dec.{ltb}
 use lib.ListN.{length, take}
-use borrow.Author.Tests.{ltb-false}
+use borrow.Author.Tests.{ltb-false, not-false}
 use Rattle.buffers.proofs.Lines.{not-held}
 use Rattle.buffers.specs.Refusals.{badCount, firstFitting, line}
 use Rattle.stabilizer.proofs.SharedTests.{counted}
@@ -40,11 +40,7 @@ module _ (t : List ℕ) (w : Reading) (judged : Judged t w) (none : verdict (w .
   some-qubits = counted (w .scan .n) (not-held 1 (badCount (w .scan .n)) [] (counts .1) .0)
 
   has-form : HasJobForm t
-  has-form = judged .form .0 (go (atLine (w .scan .place)) (formed .0))
-    where
-      go : (b : Bool) → not b ≡ false → b ≡ true
-      go true e = refl
-      go false e = absurd (true≢false e)
+  has-form = judged .form .0 (not-false (atLine (w .scan .place)) (formed .0))
 
   pub accepted : Accepted t w
   accepted =

@@ -19,7 +19,6 @@ use prog.Memory.{Memory}
 use prog.Routine.{Routine}
 use prog.Wp.{Heap, params}
 use types.Kit.{ !, Given, _$_, _∵_, done, fjoin, frame, fsplit, join, move, qed, suffices, ‵, ⋆}
-use Rattle.jobs_lent.proofs.Lending.{Lent}
 use Rattle.jobs_lent.proofs.LentCall.{Lasting, Passed, R, Ran, Sized, Steps, args, at-entry, qs, κs}
 use Rattle.jobs_lent.proofs.TurnCall.{Buffers, Fitting, Now, Turning}
 use Rattle.jobs_lent.proofs.run_lent as run-lent
@@ -42,18 +41,6 @@ stayed = (
 module _ {M : Type 1} (𝓤 : URA M) (H : Heap 𝓤) (A : Atoms 𝓤) (W : Given 𝓤 H A) (mem : Memory → SProp 𝓤) (run : Routine → Fun 𝓤) (X : Passed) where
   abbrev T : Turning
   T = X .turning
-
-  abbrev L₀ : Lent u64
-  L₀ = T .neighbours
-
-  abbrev L₁ : Lent u8
-  L₁ = T .codes
-
-  abbrev L₂ : Lent R
-  L₂ = X .steps
-
-  abbrev L₃ : Lent u8
-  L₃ = T .answers
 
   abbrev pub Post : Val → SProp 𝓤
   Post = walkOf 𝓤 H A run-lent.ended stayed (run-lent.clauses 𝓤 H A mem run) .post ((κs X, qs X, tt, args X, at-entry X), tt)

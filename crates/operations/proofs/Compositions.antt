@@ -1,13 +1,13 @@
 -- The class and the signs of a composition as the code works them out, by computed tests over all pairs of codes.
 use mathlib.Core.Bool.{_&&_, Bool, cond, true}
-use mathlib.Core.Path.{ap, refl, subst, sym, _∙_, _≡_}
+use mathlib.Core.Path.{subst, sym, _≡_}
 use Prim.Native.Nat.{_%_, _*_, _+_, _/_, _<_, _^_, ℕ}
 use native.Mathlib.Nat.{lt-of-le-of-lt, mul-le-mul-left}
 use native.Mathlib.Omega.{arith}
 use lib.Bits.{bitAnd, bitXor}
 use lib.Dec.{eqb, leb, ltb}
 use mir.Val.{boolByte}
-use borrow.Author.Tests.{eqb-true, ltb-true}
+use borrow.Author.Tests.{eqb-true}
 use Rattle.words.proofs.SearchLaws.{every-at}
 use Rattle.words.specs.Bits.{digit}
 use Rattle.words.specs.Search.{every}

@@ -1,16 +1,15 @@
 -- CZ on a list: the image is a list, its group is the image of the group, and the answer has that group.
-use mathlib.Core.Bool.{_&&_, Bool, false}
+use mathlib.Core.Bool.{_&&_, false}
 use mathlib.Core.Logic.{_↔_, _≢_}
-use mathlib.Core.Path.{ap, ap₂, sym, _∙_, _≡_}
+use mathlib.Core.Path.{ap, ap₂, subst, _∙_, _≡_}
 use Prim.Native.Nat.{_<_, ℕ, _≤_}
 use native.Mathlib.Omega.{arith}
 use lib.Dec.{eqb}
 use Rattle.pauli.specs.Pauli.{Pauli}
 use Rattle.stabilizer.specs.Groups.{InGroup, Proper, Trivial, Within}
-use Rattle.words.proofs.Finite.{bits}
 use Rattle.words.proofs.Places.{other-place}
 use Rattle.words.specs.Bits.{_⊕_}
-use Rattle.operations.proofs.CzLaws.{cz-signed}
+use Rattle.operations.proofs.CzLaws.{cz-fixed, cz-signed}
 use Rattle.operations.proofs.CzValues.{cz-homomorphism, cz-is}
 use Rattle.operations.proofs.Homomorphisms.{Homomorphism, image-group, image-proper}
 use Rattle.operations.specs.Cz.{cz, czRows}
@@ -30,15 +29,7 @@ cz-within n a b ha hb p W =
 -- no letter goes to I
 cz-letters : (n a b : ℕ) → a < n → b < n → (p : Pauli) → Trivial n (cz a b p) → Trivial n p
 unfolding cz
-cz-letters n a b ha hb p T =
-    record {
-      no-x = T .no-x;
-      no-z = λ q l. sym (ap₂ (λ u v. p .z q ⊕ ((eqb q a && u) ⊕ (eqb q b && v))) (T .no-x b hb) (T .no-x a ha)
-          ∙ none (eqb q a) (eqb q b) (p .z q)) ∙ T .no-z q l;
-    }
-  where
-    none : (A B z : Bool) → z ⊕ ((A && false) ⊕ (B && false)) ≡ z
-    none = bits 3 (λ A B z. z ⊕ ((A && false) ⊕ (B && false))) (λ A B z. z) tt
+cz-letters n a b ha hb p T = subst (Trivial n) (cz-fixed a b p (T .no-x a ha) (T .no-x b hb)) T
 
 module _ (n a b : ℕ) (ha : a < n) (hb : b < n) (ab : a ≢ b) (rows : ℕ → Pauli) where
   homomorphism : Homomorphism n (cz a b)

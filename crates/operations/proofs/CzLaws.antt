@@ -6,7 +6,7 @@ use Prim.Native.Nat.{_<_, ℕ}
 use native.Mathlib.Decide.{ℕ-discrete}
 use lib.Dec.{eqb}
 use Rattle.pauli.proofs.PauliLaws.{Pauli-path}
-use Rattle.pauli.proofs.PhaseLaws.{+ᵖ-assoc, +ᵖ-left, imaginary-+ᵖ, minus-real, phases, sumPhase-add, sumPhase-one}
+use Rattle.pauli.proofs.PhaseLaws.{+ᵖ-assoc, +ᵖ-left, +ᵖ-zero, imaginary-+ᵖ, minus-real, phases, sumPhase-add, sumPhase-one}
 use Rattle.pauli.specs.Pauli.{
   _+ᵖ_,
   Pauli,
@@ -22,7 +22,7 @@ use Rattle.pauli.specs.Pauli.{
   scaled,
   sumPhase,
 }
-use Rattle.words.proofs.Finite.{bits, ⊕-zero}
+use Rattle.words.proofs.Finite.{bits, ⊕-none, ⊕-zero}
 use Rattle.words.proofs.Places.{other-place}
 use Rattle.words.proofs.Sums.{fold-ext}
 use Rattle.words.specs.Bits.{_⊕_}
@@ -113,12 +113,18 @@ pub cz-powers : (a b : ℕ) (t : Phase) (p : Pauli) → cz a b (scaled t p) ≡ 
 unfolding cz
 cz-powers a b t p = Pauli-path (+ᵖ-assoc t (p .phase) _) (λ q. refl) (λ q. refl)
 
-pub cz-identity : (a b : ℕ) → cz a b identity ≡ identity
+-- a row without x bits at a and b stays
+pub cz-fixed : (a b : ℕ) (p : Pauli) → p .x a ≡ false → p .x b ≡ false → cz a b p ≡ p
 unfolding cz
-cz-identity a b = Pauli-path refl (λ q. none (eqb q a) (eqb q b)) (λ q. refl)
-  where
-    none : (A B : Bool) → false ⊕ ((A && false) ⊕ (B && false)) ≡ false
-    none = bits 2 (λ A B. false ⊕ ((A && false) ⊕ (B && false))) (λ A B. false) tt
+cz-fixed a b p ea eb =
+    Pauli-path
+    (ap₂ (λ u v. p .phase +ᵖ minus (czSign (p .z a) u (p .z b) v)) ea eb ∙ +ᵖ-zero (p .phase))
+    (λ q. ap₂ (λ u v. p .z q ⊕ ((eqb q a && v) ⊕ (eqb q b && u))) ea eb
+    ∙ ap (λ t. p .z q ⊕ t) (⊕-none (eqb q a) (eqb q b)) ∙ ⊕-zero (p .z q))
+    (λ q. refl)
+
+pub cz-identity : (a b : ℕ) → cz a b identity ≡ identity
+cz-identity a b = cz-fixed a b identity refl refl
 
 pub cz-signed : (a b : ℕ) (p : Pauli) → imaginary ((cz a b p) .phase) ≡ imaginary (p .phase)
 unfolding cz

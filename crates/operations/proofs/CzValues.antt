@@ -29,7 +29,7 @@ use Rattle.words.proofs.Finite.{bits, ⊕-comm, ⊕-zero}
 use Rattle.words.proofs.Places.{other-place, parity-at, place-comm, same-place}
 use Rattle.words.proofs.Sums.{bitMonoid, fold-ext, fold-unit, lt-or-ge}
 use Rattle.words.specs.Bits.{Word, parity, _⊕_}
-use Rattle.operations.proofs.CzLaws.{cz-identity, cz-powers, cz-products}
+use Rattle.operations.proofs.CzLaws.{cz-fixed, cz-identity, cz-powers, cz-products}
 use Rattle.operations.proofs.Homomorphisms.{Homomorphism, image-product}
 use Rattle.operations.specs.Cz.{IsCz, cz, czSign, xAt, zAt}
 
@@ -75,16 +75,9 @@ cz-is n a b ha hb ab =
       on-powers = cz-powers a b;
       x-first = x-value n a b ab;
       x-second = cz-swap a b (xAt b) ∙ x-value n b a (λ e. ab (sym e));
-      x-other = λ q qa qb. Pauli-path (no-sign (eqb a q) (eqb b q))
-          (λ t. ap₂ (λ u v. (eqb t a && u) ⊕ (eqb t b && v)) (other-place (λ e. qb (sym e)))
-          (other-place (λ e. qa (sym e))) ∙ none (eqb t a) (eqb t b)) (λ t. refl);
-      z-fixed = λ q. Pauli-path refl (λ t. ap (λ c. eqb t q ⊕ c) (none (eqb t a) (eqb t b))
-          ∙ ⊕-zero (eqb t q))
-          (λ t. refl);
+      x-other = λ q qa qb. cz-fixed a b (xAt q) (other-place (λ e. qa (sym e))) (other-place (λ e. qb (sym e)));
+      z-fixed = λ q. cz-fixed a b (zAt q) refl refl;
     }
-  where
-    none : (A B : Bool) → (A && false) ⊕ (B && false) ≡ false
-    none = bits 2 (λ A B. (A && false) ⊕ (B && false)) (λ A B. false) tt
 
 -- ---- a row is a power of i times X at its x bits and Z at its z bits
 module _ (n : ℕ) (p : Pauli) (W : Within n p) where

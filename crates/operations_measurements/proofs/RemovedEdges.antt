@@ -1,7 +1,7 @@
 -- The edges at a vertex removed: a loop in which each neighbour loses the vertex, and then its own word is 0.
 use mathlib.Core.Bool.{_&&_, Bool, and-false, and-true, false, not, true}
 use mathlib.Core.List.{List}
-use mathlib.Core.Path.{ap, ap₂, refl, subst, sym, _∙_, _≡_}
+use mathlib.Core.Path.{ap, ap₂, subst, sym, _∙_, _≡_}
 use Prim.Native.Nat.{_<_, _^_, ℕ, _≤_}
 use native.Mathlib.Decide.{ℕ-discrete}
 use lib.Bits.{bitXor}
@@ -14,7 +14,7 @@ use Rattle.graph.specs.Graph.{Graph, Simple}
 use Rattle.graph.specs.internal.NeighbourWords.{SameGraph}
 use Rattle.graph.specs.NeighbourWords.{graphIn}
 use Rattle.words.proofs.BitLaws.{bit-flip, lt-of-bits, zero-bit}
-use Rattle.words.proofs.Finite.{⊕-zero}
+use Rattle.words.proofs.Finite.{⊕-cleared, ⊕-zero}
 use Rattle.words.proofs.Places.{other-place, same-place}
 use Rattle.words.specs.Bits.{bit, _⊕_}
 
@@ -37,15 +37,11 @@ module _ (old : List ℕ) (q : ℕ) (S : Simple (length old) (graphIn old)) wher
   without : (i : ℕ) (b : Bool) → θ q i ≡ b → (l : ℕ) → θ i l ⊕ (b && eqb l q) ≡ (θ i l && not (eqb l q))
   without i b e l = elim (ℕ-discrete l q) [
     | yes d ↦ subst (λ m. θ i m ⊕ (b && eqb m q) ≡ (θ i m && not (eqb m q))) (sym d)
-        (ap₂ (λ u v. u ⊕ (b && v)) (S .symmetric i q ∙ e) (same-place q) ∙ gone b
+        (ap₂ (λ u v. u ⊕ (b && v)) (S .symmetric i q ∙ e) (same-place q) ∙ ⊕-cleared b
         ∙ sym (ap (λ v. θ i q && not v) (same-place q) ∙ and-false (θ i q)))
     | no d ↦ ap (λ v. θ i l ⊕ (b && v)) (other-place d) ∙ ap (λ v. θ i l ⊕ v) (and-false b) ∙ ⊕-zero (θ i l)
         ∙ sym (ap (λ v. θ i l && not v) (other-place d) ∙ and-true (θ i l))
   ]
-    where
-      gone : (b : Bool) → b ⊕ (b && true) ≡ false
-      gone false = refl
-      gone true = refl
 
   pub leave-start : Leaving old q old (getD old q 0)
   leave-start = over-start (LeftAt old q) old (getD old q 0) (lt-of-bits (length old) (getD old q 0) (S .below q))

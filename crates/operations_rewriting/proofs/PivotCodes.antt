@@ -1,16 +1,16 @@
 -- The codes after a pivot on an edge j, k: 11 before those of j and k, and 2 before those of their other neighbours.
 use mathlib.Core.Bool.{_&&_, Bool, cond, false, not, true, _||_}
-use mathlib.Core.Path.{ap, ap₂, sym, _∙_, _≡_}
+use mathlib.Core.Path.{ap, ap₂, _∙_, _≡_}
 use Prim.Native.Nat.{ℕ}
 use lib.Dec.{eqb}
 use borrow.Author.Tests.{eqb-true}
 use Rattle.clifford.proofs.CliffordLaws.{cliffords, fromFive, onClifford}
 use Rattle.clifford.specs.Clifford.{Clifford, cliffordOf, then}
 use Rattle.graph.proofs.Complement.{under}
-use Rattle.graph.proofs.Pivot.{follows}
 use Rattle.graph.specs.Graph.{Graph, Simple}
 use Rattle.operations.specs.Steps.{pivotRecord}
 use Rattle.record.specs.Records.{GraphRecord}
+use Rattle.words.proofs.Flags.{implies}
 use Rattle.words.specs.Bits.{_⊕_}
 
 -- ---- at one place; the bits say: J and K, it is j, k; a and b, j and k are joined to it. Where j and k are joined:
@@ -51,9 +51,9 @@ module _ (n : ℕ) (r : GraphRecord) (S : Simple n (r .graph)) (j k : ℕ) (edge
 
   possible : (q : ℕ) → known (eqb q j) (eqb q k) (θ j q) (θ k q) ≡ true
   possible q = ap₂ _&&_
-      (follows (eqb q j) _ (λ d. let e = eqb-true q j d in
+      (implies (eqb q j) _ (λ d. let e = eqb-true q j d in
       ap₂ (λ s t. not s && t) (ap (θ j) e ∙ S .loopless j) (ap (θ k) e ∙ back)))
-      (follows (eqb q k) _ (λ d. let e = eqb-true q k d in
+      (implies (eqb q k) _ (λ d. let e = eqb-true q k d in
       ap₂ (λ s t. s && not t) (ap (θ j) e ∙ edge) (ap (θ k) e ∙ S .loopless k)))
 
   pub pivot-code : (q : ℕ) → (pivotRecord r j k) .codes q

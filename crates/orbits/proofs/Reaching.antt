@@ -3,6 +3,7 @@ use mathlib.Core.Bool.{_&&_, Bool, false, not, or-true, true, true≢false, _||_
 use mathlib.Core.Logic.{inl, inr, _⊎_}
 use mathlib.Core.Path.{ap, ap₂, refl, subst, sym, _∙_, _≡_}
 use Prim.Native.Nat.{_<_, _^_, _≤_, suc, zero, ℕ}
+use native.Mathlib.Nat.{not-le-of-lt}
 use native.Mathlib.Omega.{arith}
 use lib.Pow.{pow-lt}
 use borrow.Author.Tests.{eqb-true, not-true}
@@ -106,13 +107,10 @@ module _ (n g : ℕ) (l : g < graphCount n) where
   at-end : spreadOnce n (reachedWithin (graphCount n) n g) ≡ reachedWithin (graphCount n) n g
   at-end = go (rounds (graphCount n) n g l)
     where
-      too-many : (a b : ℕ) → a < b → b ≤ a → ⊥
-      too-many a b l m = omega arith
-
       go : (graphCount n < count (graphCount n) (reached n g))
           ⊎ (spreadOnce n (reachedWithin (graphCount n) n g) ≡ reachedWithin (graphCount n) n g)
           → spreadOnce n (reachedWithin (graphCount n) n g) ≡ reachedWithin (graphCount n) n g
-      go (inl m) = absurd (too-many (graphCount n) _ m (count-upto (graphCount n) (reached n g)))
+      go (inl m) = absurd (not-le-of-lt m (count-upto (graphCount n) (reached n g)))
       go (inr e) = e
 
   -- what is reached stays reached

@@ -1,26 +1,18 @@
 -- Parts: the test of closed sets agrees, a part is the least closed set that has its vertex, and the vertices of a
 -- part have the same one.
-use mathlib.Core.Bool.{_&&_, Bool, false, false≢true, not, true, _||_}
+use mathlib.Core.Bool.{_&&_, Bool, false, not, true, true≢false, _||_}
 use mathlib.Core.Logic.{_↔_}
 use mathlib.Core.Path.{ap, ap₂, fun-ext, refl, sym, _∙_, _≡_}
 use Prim.Native.Nat.{_<_, _^_, ℕ}
+use borrow.Author.Tests.{not-true}
 use Rattle.graph.specs.Graph.{Graph}
 use Rattle.words.proofs.BitLaws.{bit-wordOf, wordOf-lt}
-use Rattle.words.proofs.Flags.{both-true, same-by-both}
+use Rattle.words.proofs.Flags.{both-true, implied, implies, same-by-both}
 use Rattle.words.proofs.SearchLaws.{every-at, every-in}
 use Rattle.words.specs.Bits.{Word, bit, wordOf}
 use Rattle.words.specs.Search.{every}
 use Rattle.parts.specs.internal.Parts.{Closed}
 use Rattle.parts.specs.Parts.{Path, along, isClosed, here, partOf}
-
--- a test of the form 'a implies b'
-pub implied : (a b : Bool) → (not a || b) ≡ true → a ≡ true → b ≡ true
-implied false b e h = absurd (false≢true h)
-implied true b e h = e
-
-pub implies : (a b : Bool) → (a ≡ true → b ≡ true) → (not a || b) ≡ true
-implies false b h = refl
-implies true b h = h refl
 
 pub both : {a b : Bool} → a ≡ true → b ≡ true → (a && b) ≡ true
 both e f = ap₂ _&&_ e f
@@ -90,26 +82,18 @@ module _ (n : ℕ) (θ : Graph) where
     where
       go : (v : Bool) → s j ≡ v → not v ≡ true
       go false e = refl
-      go true e = absurd (clash (s i) (C j i l k e (symmetric j i ∙ b)) a)
-        where
-          clash : (v : Bool) → v ≡ true → not v ≡ true → ⊥
-          clash true e f = false≢true f
-          clash false e f = false≢true e
+      go true e = absurd (true≢false (sym (C j i l k e (symmetric j i ∙ b)) ∙ not-true (s i) a))
 
   -- two vertices of a part lie in one another's
   pub part-together : ((i j : ℕ) → θ i j ≡ θ j i) → (q i j : ℕ) → q < n → i < n → j < n → partOf n θ q i ≡ true
       → partOf n θ q j ≡ true → partOf n θ i j ≡ true
   part-together symmetric q i j k l m a b = in-part i j (λ v C h. go v C h (bit v q) refl)
     where
-      clash : (v : Bool) → v ≡ true → not v ≡ true → ⊥
-      clash true e f = false≢true f
-      clash false e f = false≢true e
-
       go : (v : ℕ) → Closed n θ (bit v) → bit v i ≡ true → (x : Bool) → bit v q ≡ x → bit v j ≡ true
       go v C h true e = part-within (bit v) C q j k m e b
       go v C h false e =
-          absurd (clash (bit v i) h
-          (part-within (λ t. not (bit v t)) (rest-closed symmetric (bit v) C) q i k l (ap not e) a))
+          absurd (true≢false (sym h ∙ not-true (bit v i)
+          (part-within (λ t. not (bit v t)) (rest-closed symmetric (bit v) C) q i k l (ap not e) a)))
 
 -- graphs with the same closed sets have the same parts
 pub same-parts : (n : ℕ) (θ φ : Graph) → ((s : Word) → Closed n θ s → Closed n φ s)

@@ -30,7 +30,7 @@ use Rattle.pauli.specs.Pauli.{
   xBit,
   zBit,
 }
-use Rattle.words.proofs.Finite.{bits}
+use Rattle.words.proofs.Finite.{and-exchange, bits}
 use Rattle.words.proofs.Places.{other-place, same-place}
 use Rattle.words.proofs.Sums.{bitMonoid, fold-ext, lt-or-ge}
 use Rattle.words.specs.Bits.{Word, _⊕_}
@@ -154,15 +154,12 @@ module _ (n : ℕ) (s : Word) (k : ℕ) (e : ℕ → ℕ) (N : Numbers n s k e) 
     pub part-simple : Simple k (partGraph k e θ)
     part-simple =
         record {
-          symmetric = λ i j. turned (ltb i k) (ltb j k) (θ (e i) (e j))
+          symmetric = λ i j. and-exchange (ltb i k) (ltb j k) (θ (e i) (e j))
               ∙ ap (λ b. ltb j k && (ltb i k && b)) (S .symmetric (e i) (e j));
           loopless = λ i. ap (λ b. ltb i k && (ltb i k && b)) (S .loopless (e i)) ∙ none (ltb i k);
           below = λ i q l. ap (λ b. ltb i k && (b && θ (e i) (e q))) (le-ltb q k l) ∙ and-false (ltb i k);
         }
       where
-        turned : (a b c : Bool) → (a && (b && c)) ≡ (b && (a && c))
-        turned = bits 3 (λ a b c. a && (b && c)) (λ a b c. b && (a && c)) tt
-
         none : (a : Bool) → (a && (a && false)) ≡ false
         none = bits 1 (λ a. a && (a && false)) (λ a. false) tt
 

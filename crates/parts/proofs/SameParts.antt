@@ -1,6 +1,6 @@
 -- "equivalent states have the same parts": no edge leaves a set of vertices exactly if the rank across its cut is 0,
 -- and a choice of codes keeps every rank.
-use mathlib.Core.Bool.{_&&_, Bool, false, not, true, true≢false}
+use mathlib.Core.Bool.{_&&_, Bool, and-false, false, not, true, true≢false}
 use mathlib.Core.Logic.{inl, inr, _⊎_}
 use mathlib.Core.Path.{ap, ap₂, refl, sym, _∙_, _≡_}
 use Prim.Native.Nat.{_+_, _<_, _≤_, suc, zero, ℕ}
@@ -50,15 +50,11 @@ module _ (m n : ℕ) (M : ℕ → Word) (e : rank m n M ≡ 0) where
   upto zero h q l j k = absurd (not-suc-le-zero l)
   upto (suc b) h q l j k = go (upto b (omega arith)) (last-or l)
     where
-      and-zero : (a b : Bool) → b ≡ false → (a && b) ≡ false
-      and-zero false b e = refl
-      and-zero true b e = e
-
       go : ((q : ℕ) → q < b → (j : ℕ) → j < m → M j q ≡ false) → (q ≡ b) ⊎ (q < b) → M j q ≡ false
       go ih (inl p) =
           let D = column-dependent m M b .0 (dependent b (omega arith)) in
           ap (M j) p ∙ D .1 j k
-          ∙ fold-unit false _⊕_ bitMonoid b (λ t l. and-zero (D .0 t) (M j t) (ih t l j k))
+          ∙ fold-unit false _⊕_ bitMonoid b (λ t l. ap (λ v. D .0 t && v) (ih t l j k) ∙ and-false (D .0 t))
       go ih (inr l) = ih q l j k
 
   pub no-entry : (q : ℕ) → q < n → (j : ℕ) → j < m → M j q ≡ false

@@ -1,11 +1,12 @@
 -- The search for the part of a vertex: what it has reached lies in the part, and where nothing is new it is the part.
-use mathlib.Core.Bool.{_&&_, Bool, false, or-false, or-true, true, _||_}
+use mathlib.Core.Bool.{_&&_, Bool, and-false, false, or-false, or-true, true, _||_}
 use mathlib.Core.List.{List}
 use mathlib.Core.Logic.{inl, inr, _⊎_}
 use mathlib.Core.Path.{ap, ap₂, refl, subst, sym, _∙_, _≡_}
 use Prim.Native.Nat.{_+_, _-_, _<_, _≤_, _^_, ℕ}
 use native.Mathlib.Numerals.{add-one}
 use native.Mathlib.Omega.{arith}
+use lib.Arith.{lt-of-le-ne}
 use lib.Bits.{and-le-r, bitAnd, bitOr}
 use lib.Count.{ones}
 use lib.Dec.{eqb, ltb}
@@ -92,15 +93,11 @@ module _ (n : ℕ) (θ : Graph) (S : Simple n θ) (q : ℕ) (l : q < n) where
     pub next-below : next < 2 ^ n
     next-below = lt-of-bits n next (λ j k. G .step j
         ∙ ap₂ _||_ (bit-above n reached (G .below) j k)
-        (some-none n (λ i. bit reached i && θ i j) (λ i m. none (bit reached i) (θ i j) (S .below i j k))))
-      where
-        none : (a b : Bool) → b ≡ false → (a && b) ≡ false
-        none false b e = refl
-        none true b e = e
+        (some-none n (λ i. bit reached i && θ i j) (λ i m. ap (λ b. bit reached i && b) (S .below i j k) ∙ and-false (bit reached i))))
 
     -- as numbers the reached words rise
     pub next-above : (next ≡ reached → ⊥) → reached < next
-    next-above d = smaller reached next (and-le same) (λ e. d (sym e))
+    next-above d = lt-of-le-ne (and-le same) (λ e. d (sym e))
       where
         same : bitAnd reached next ≡ reached
         same = bit-ext∞ _ _ (λ j. bit-and reached next j ∙ absorb (bit reached j) (bit next j) (kept j))
@@ -111,9 +108,6 @@ module _ (n : ℕ) (θ : Graph) (S : Simple n θ) (q : ℕ) (l : q < n) where
 
         and-le : bitAnd reached next ≡ reached → reached ≤ next
         and-le e = subst (λ w. w ≤ next) e (and-le-r reached next)
-
-        smaller : (a b : ℕ) → a ≤ b → (a ≡ b → ⊥) → a < b
-        smaller a b h d = omega (arith, h, d)
 
     pub grow-less : (next ≡ reached → ⊥) → 2 ^ n - next < 2 ^ n - reached
     grow-less d = falls (2 ^ n) reached next (next-above d) next-below

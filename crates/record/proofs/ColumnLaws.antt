@@ -9,7 +9,7 @@ use Rattle.stabilizer.proofs.GroupLaws.{in-row}
 use Rattle.stabilizer.proofs.Products.{product-x}
 use Rattle.stabilizer.specs.Groups.{InGroup}
 use Rattle.words.proofs.BitLaws.{bit-wordOf, wordOf-lt}
-use Rattle.words.proofs.Finite.{and-⊕, bits, ⊕-comm}
+use Rattle.words.proofs.Finite.{and-exchange, and-⊕, ⊕-comm}
 use Rattle.words.proofs.Flags.{sameBit-true, true-sameBit}
 use Rattle.words.proofs.SearchLaws.{every-at, every-in, some-in, some-true}
 use Rattle.words.proofs.Sums.{bitMonoid, fold-ext, fold-hom, fold-swap}
@@ -43,12 +43,9 @@ module _ (m : ℕ) (M : ℕ → Word) (q : ℕ) where
       fold-ext false _⊕_ m (λ j l. ap (λ b. u j && b) (D .1 j l)
       ∙ fold-hom false _⊕_ false _⊕_ (λ b. u j && b) (and-false (u j)) (and-⊕ (u j)) q _)
       ∙ fold-swap false _⊕_ bitMonoid ⊕-comm m q (λ j t. u j && (D .0 t && M j t))
-      ∙ fold-ext false _⊕_ q (λ t l. fold-ext false _⊕_ m (λ j k. exchange (u j) (D .0 t) (M j t))
+      ∙ fold-ext false _⊕_ q (λ t l. fold-ext false _⊕_ m (λ j k. and-exchange (u j) (D .0 t) (M j t))
       ∙ sym (fold-hom false _⊕_ false _⊕_ (λ b. D .0 t && b) (and-false (D .0 t)) (and-⊕ (D .0 t)) m
       (λ j. u j && M j t)))
-    where
-      exchange : (a b c : Bool) → (a && (b && c)) ≡ (b && (a && c))
-      exchange = bits 3 (λ a b c. a && (b && c)) (λ a b c. b && (a && c)) tt
 
 -- ---- the x bits of a list
 pub element-dependent : (n : ℕ) (rows : ℕ → Pauli) (q : ℕ) (D : ColumnDependent n (xWords rows) q) (p : Pauli)

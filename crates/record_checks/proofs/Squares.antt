@@ -2,7 +2,7 @@
 use mathlib.Core.Bool.{_&&_, Bool, and-false, and-true, false, not, or-false, true, true≢false, _||_}
 use mathlib.Core.List.{List}
 use mathlib.Core.Path.{ap, ap₂, refl, subst, sym, _∙_, _≡_}
-use Prim.Native.Nat.{_%_, _*_, _+_, _-_, _<_, _^_, suc, zero, ℕ, _≤_}
+use Prim.Native.Nat.{_%_, _*_, _+_, _-_, _<_, _^_, ℕ, _≤_}
 use native.Mathlib.Decide.{ℕ-discrete}
 use native.Mathlib.Nat.{add-suc, add-zero, mod-eq-of-lt, not-suc-le-zero}
 use native.Mathlib.Omega.{arith}

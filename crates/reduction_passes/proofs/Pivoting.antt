@@ -4,8 +4,7 @@ use mathlib.Core.List.{List, []}
 use mathlib.Core.Logic.{inl, inr, _⊎_}
 use mathlib.Core.Path.{ap, ap₂, fun-ext, refl, subst, sym, _∙_, _≡_}
 use Prim.Native.Nat.{_*_, _+_, _-_, _<_, _^_, suc, zero-le, ℕ, _≤_}
-use native.Mathlib.Decide.{ℕ-discrete}
-use native.Mathlib.Nat.{add-zero, le-refl, lt-irrefl, lt-of-lt-of-le, mul-comm, zero-add}
+use native.Mathlib.Nat.{add-zero, lt-irrefl, lt-of-lt-of-le, mul-comm, zero-add}
 use native.Mathlib.Omega.{arith}
 use lib.Dec.{eqb, ltb}
 use lib.ListN.{List·getD-eq-default, getD, length}
@@ -18,8 +17,7 @@ use Rattle.stabilizer.specs.internal.Elimination.{clear, lend, pivotOn}
 use Rattle.stabilizer.specs.Elimination.{shear}
 use Rattle.stabilizer.specs.Groups.{chosen}
 use Rattle.words.proofs.BitLaws.{bit-above, bit-single, bit-wordOf, wordOf-lt, zero-bit}
-use Rattle.words.proofs.Finite.{⊕-zero}
-use Rattle.words.proofs.Places.{other-place, put-all, put-other, put-same, same-place, upto-other}
+use Rattle.words.proofs.Places.{other-place, put-all, put-other, put-same, upto-with}
 use Rattle.words.proofs.Sums.{lt-or-ge}
 use Rattle.words.specs.Bits.{Word, bit, digit, put, wordOf, _⊕_}
 use Rattle.reduction_passes.specs.internal.Passes.{PivotReady}
@@ -35,16 +33,7 @@ named-start f = record { named = λ j. zero-bit j ∙ sym (ap (λ b. b && f j) (
 pub named-step : (f : Word) (word i : ℕ) → NamedBelow f word i → (word′ : ℕ) (b : Bool) → b ≡ f i
     → ((j : ℕ) → bit word′ j ≡ bit word j ⊕ (eqb j i && b)) → NamedBelow f word′ (i + 1)
 named-step f word i C word′ b e h =
-    record { named = λ j. h j ∙ ap₂ (λ u v. u ⊕ (eqb j i && v)) (C .named j) e ∙ at j (ℕ-discrete j i) }
-  where
-    at : (j : ℕ) → Dec (j ≡ i) → (ltb j i && f j) ⊕ (eqb j i && f i) ≡ (ltb j (i + 1) && f j)
-    at j (yes p) =
-        subst (λ v. (ltb v i && f v) ⊕ (eqb v i && f i) ≡ (ltb v (i + 1) && f v)) (sym p)
-        (ap₂ (λ u v. (u && f i) ⊕ (v && f i)) (le-ltb i i (le-refl i)) (same-place i)
-        ∙ sym (ap (λ u. u && f i) (lt-ltb i (i + 1) (omega arith))))
-    at j (no d) =
-        ap (λ u. (ltb j i && f j) ⊕ (u && f i)) (other-place d)
-        ∙ ⊕-zero _ ∙ ap (λ u. u && f j) (sym (upto-other j i d))
+    record { named = λ j. h j ∙ ap₂ (λ u v. u ⊕ (eqb j i && v)) (C .named j) e ∙ upto-with f i j }
 
 -- ---- a word made from the highest row down: the rows from j on, j at bit 0
 pub record NamedFrom (n : ℕ) (f : Word) (word j : ℕ) : Type 0 where

@@ -3,7 +3,7 @@ use mathlib.Core.Bool.{_&&_, Bool, and-false, and-true, cond, false, true}
 use mathlib.Core.Path.{ap, ap₂, refl, sym, _∙_, _≡_}
 use Prim.Native.Nat.{_%_, _*_, _+_, _/_, _<_, _^_, suc, zero, ℕ}
 use native.Mathlib.Nat.{add-zero, div-add-mod', suc-mul}
-use native.Mathlib.Omega.{arith}
+use native.Mathlib.Numerals.{add-one}
 use lib.Bits.{and-comm, and-lt, and-self, and-zero-l, bitAnd, bitXor, xor-lt, xor-self, xor-zero-l}
 use lib.Count.{ones}
 use lib.Dec.{eqb}
@@ -29,10 +29,7 @@ unfolding power
 power-two zero = refl
 power-two (suc j) =
     ap power (suc-mul j 2) ∙ power-add (j * 2) 2
-    ∙ ap₂ _+ᵖ_ (power-two j) refl ∙ sym (minus-⊕ (isOdd j) true) ∙ ap minus (sym (odd-add j 1) ∙ ap isOdd (plus-one j))
-  where
-    plus-one : (j : ℕ) → j + 1 ≡ suc j
-    plus-one j = omega arith
+    ∙ ap₂ _+ᵖ_ (power-two j) refl ∙ sym (minus-⊕ (isOdd j) true) ∙ ap minus (sym (odd-add j 1) ∙ ap isOdd (add-one j))
 
 power-halves : (k : ℕ) → power k ≡ minus (isOdd (k / 2)) +ᵖ turn (isOdd k)
 unfolding power

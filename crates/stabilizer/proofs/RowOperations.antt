@@ -6,7 +6,7 @@ use native.Mathlib.Decide.{ℕ-discrete}
 use lib.Dec.{eqb}
 use Rattle.pauli.proofs.PauliLaws.{mul-assoc, mul-identity}
 use Rattle.pauli.specs.Pauli.{Pauli, mul}
-use Rattle.words.proofs.Finite.{⊕-self, ⊕-zero}
+use Rattle.words.proofs.Finite.{⊕-cleared, ⊕-self, ⊕-zero}
 use Rattle.words.proofs.Places.{other-place, same-place}
 use Rattle.words.specs.Bits.{Word, _⊕_}
 use Rattle.stabilizer.proofs.GroupLaws.{
@@ -91,15 +91,11 @@ module _ (n : ℕ) (R : ℕ → Pauli) (q i : ℕ) (hq : q < n) (hi : i < n) (ha
   pivot-column j = shear-bit n _ (x-linear n q) lent q (clear lent q) j
       ∙ ap (λ b. (lent j) .x q ⊕ (clear lent q j && b)) lent-has-x ∙ go (ℕ-discrete j q)
     where
-      tidy : (b : Bool) → b ⊕ (b && true) ≡ false
-      tidy false = refl
-      tidy true = refl
-
       go : Dec (j ≡ q) → (lent j) .x q ⊕ (clear lent q j && true) ≡ eqb j q
       go (yes e) = subst (λ v. (lent v) .x q ⊕ (clear lent q v && true) ≡ eqb v q) (sym e)
           (ap₂ (λ a b. a ⊕ (b && true)) lent-has-x clear-self ∙ sym (same-place q))
       go (no d) = ap (λ b. (lent j) .x q ⊕ ((not b && (lent j) .x q) && true)) (other-place d)
-          ∙ tidy ((lent j) .x q) ∙ sym (other-place d)
+          ∙ ⊕-cleared ((lent j) .x q) ∙ sym (other-place d)
 
   -- a bit that rows q and i do not have changes nowhere
   pub pivot-keeps : (f : Pauli → Bool) → Linear n f → f (R q) ≡ false → f (R i) ≡ false → (j : ℕ)

@@ -22,7 +22,7 @@ use Rattle.stabilizer.specs.Elimination.{shear}
 use Rattle.stabilizer.specs.Groups.{Independent, Trivial, Within}
 use Rattle.stabilizer.specs.Lists.{dependent}
 use Rattle.words.proofs.BitLaws.{lt-of-bits, zero-bit}
-use Rattle.words.proofs.Finite.{⊕-twice, ⊕-zero}
+use Rattle.words.proofs.Finite.{⊕-cleared, ⊕-twice, ⊕-zero}
 use Rattle.words.proofs.Sums.{lt-or-ge}
 use Rattle.words.proofs.Trailing.{trailing-set}
 use Rattle.words.specs.Bits.{bit, _⊕_}
@@ -83,12 +83,8 @@ module _ (n k : ℕ) (hk : k < n) (in-x : Bool) (i : ℕ) (z x z′ x′ : List 
         later = λ j m h. added-bit n k in-x i z x z′ x′ A in-x i j
             ∙ ap₂ (λ a b. letterBit in-x i (lettersOf z x j) ⊕ (a && b))
             (later-named n k in-x i z x z′ x′ A j m h) own
-            ∙ cleared (letterBit in-x i (lettersOf z x j));
+            ∙ ⊕-cleared (letterBit in-x i (lettersOf z x j));
       }
-    where
-      cleared : (b : Bool) → b ⊕ (b && true) ≡ false
-      cleared false = refl
-      cleared true = refl
 
   -- the pivots of the rows before k stay
   pub kept-pivot : (t : ℕ) → t < k → Pivot n (lettersOf z x) t → Pivot n (lettersOf z′ x′) t

@@ -16,6 +16,10 @@ use Rattle.store.specs.Places.{Store, isHeld, namedTwice, placeAt}
 use Rattle.store.specs.StoreLines.{ofHeld, ofRecord, recordTests, storeLengths, storeLines}
 use Rattle.store.specs.internal.Passing.{Passing}
 
+-- a test beside two that never hold
+pub bare : (b : Bool) → ((b || false) || false) ≡ false → b ≡ false
+bare b e = neither b false (neither (b || false) false e .0) .0
+
 -- a record that passes, by its tests
 tests-pass : (u : UsedRecord) → ofRecord u 2 ≡ false → ofRecord u 4 ≡ false → ofRecord u 5 ≡ false → ofRecord u 6 ≡ false
     → ofRecord u 7 ≡ false → firstFitting (usedLines u false false false) ≡ 0
@@ -56,16 +60,13 @@ module _ (k : ℕ) (st : Store) (others : Bool) where
           words-long = has-length (64 * k) (st .neighbours) (q .0);
           codes-long = has-length (64 * k) (st .codes) (q .1);
           records = λ i l e. tests-pass (placeAt st i)
-              (none-of 2 (plain (all .0)) i l e)
+              (none-of 2 (bare _ (all .0)) i l e)
               (none-of 4 (neither (ofHeld k st 4) (storeLengths k st || others) (neither _ false (all .1 .0) .0) .0) i l e)
-              (none-of 5 (plain (all .1 .1 .0)) i l e)
-              (none-of 6 (plain (all .1 .1 .1 .0)) i l e)
+              (none-of 5 (bare _ (all .1 .1 .0)) i l e)
+              (none-of 6 (bare _ (all .1 .1 .1 .0)) i l e)
               (none-of 7 (neither (ofHeld k st 7) false (seven .0) .0) i l e);
           once = seven .1;
         }
-      where
-        plain : {b : Bool} → ((b || false) || false) ≡ false → b ≡ false
-        plain {b} e = neither b false (neither (b || false) false e .0) .0
 
 -- the other way
 module _ (k : ℕ) (st : Store) (P : Passing k st) where

@@ -3,6 +3,7 @@ use mathlib.Core.Bool.{Bool, cond, false, true, _||_}
 use mathlib.Core.Logic.{_≢_, inl, inr}
 use mathlib.Core.Path.{ap, ap₂, refl, subst, sym, _∙_, _≡_}
 use Prim.Native.Nat.{_*_, _+_, _-_, _<_, _^_, suc, zero, ℕ}
+use native.Mathlib.Nat.{pos-of-ne-zero}
 use native.Mathlib.Omega.{arith}
 use lib.Bits.{bitOr}
 use lib.Dec.{eqb}
@@ -100,10 +101,7 @@ module _ (u : UsedRecord) (pauli q b : ℕ) (P : UsedPasses u (measurementOf pau
   arguments = measure-arguments l pauli q b (P .as-before)
 
   acting : acts (pauliLetter pauli) ≡ true
-  acting = pauli-acts pauli (positive pauli (arguments .not-none))
-    where
-      positive : (k : ℕ) → k ≢ 0 → 0 < k
-      positive k h = omega (arith, h)
+  acting = pauli-acts pauli (pos-of-ne-zero (arguments .not-none))
 
   inside : InGroup (l .n) (l .n) rows (single (pauliLetter pauli) q (isOdd b))
   inside = measured-in (l .n) (heldRows l) (accepted-step l o (P .as-before) .proper) (pauliLetter pauli) q

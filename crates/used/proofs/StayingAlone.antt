@@ -6,20 +6,18 @@ use mathlib.Core.Path.{ap, ap₂, refl, subst, sym, _∙_, _≡_}
 use Prim.Native.Nat.{_<_, ℕ}
 use lib.Dec.{eqb}
 use Rattle.clifford.specs.Clifford.{Clifford, cliffordOf, codeOf, image, then}
+use Rattle.operations.proofs.CzLaws.{cz-fixed}
 use Rattle.operations.proofs.Determined.{determined-kept, measured-group}
 use Rattle.operations.proofs.MeasuredRecords.{image-acts, single-clash}
-use Rattle.operations.specs.Cz.{cz, czSign}
+use Rattle.operations.specs.Cz.{cz}
 use Rattle.operations.specs.Measurement.Measured.{kept}
 use Rattle.operations.specs.Measurement.{isDetermined, measuredRows, single}
-use Rattle.pauli.proofs.PauliLaws.{Pauli-path}
-use Rattle.pauli.proofs.PhaseLaws.{+ᵖ-zero}
-use Rattle.pauli.specs.Pauli.{_+ᵖ_, Pauli, clash, letter, minus, xBit, zBit}
+use Rattle.pauli.specs.Pauli.{Pauli, clash, letter, xBit, zBit}
 use Rattle.pauli.specs.declared.Letter.{Letter}
 use Rattle.pauli.specs.declared.Letter.the-variants.{X}
 use Rattle.record.specs.Records.{GraphRecord, complementRecord}
 use Rattle.record.specs.Reduced.{reduced}
 use Rattle.stabilizer.specs.Groups.{InGroup, Proper}
-use Rattle.words.proofs.Finite.{bits}
 use Rattle.words.proofs.Places.{other-place}
 use Rattle.words.specs.Bits.{_⊕_}
 use Rattle.operations.proofs.AloneVertices.{Low, alone-code, alone-graph, low-number}
@@ -36,23 +34,9 @@ module _ (n : ℕ) (rows : ℕ → Pauli) (P : Proper n rows) (q : ℕ) (hq : q 
 
 -- CZ of two other qubits fixes a Pauli at one qubit
 pub cz-single : (a b q : ℕ) (l : Letter) (s : Bool) → q ≢ a → q ≢ b → cz a b (single l q s) ≡ single l q s
-unfolding cz
 cz-single a b q l s qa qb =
-    Pauli-path
-    (ap (λ e. minus s +ᵖ minus (czSign (e && zBit l) (e && xBit l) (eqb b q && zBit l) (eqb b q && xBit l))) ea
-    ∙ +ᵖ-zero (minus s))
-    (λ t. ap₂ (λ u v. (eqb t q && zBit l) ⊕ ((eqb t a && (u && xBit l)) ⊕ (eqb t b && (v && xBit l)))) eb ea
-    ∙ none (eqb t q && zBit l) (eqb t a) (eqb t b))
-    (λ t. refl)
-  where
-    ea : eqb a q ≡ false
-    ea = other-place (λ e. qa (sym e))
-
-    eb : eqb b q ≡ false
-    eb = other-place (λ e. qb (sym e))
-
-    none : (z c d : Bool) → z ⊕ ((c && false) ⊕ (d && false)) ≡ z
-    none = bits 3 (λ z c d. z ⊕ ((c && false) ⊕ (d && false))) (λ z c d. z) tt
+    cz-fixed a b (single l q s) (ap (λ e. e && xBit l) (other-place (λ e. qa (sym e))))
+    (ap (λ e. e && xBit l) (other-place (λ e. qb (sym e))))
 
 -- a measurement of another qubit keeps it in the group
 pub measured-single : (n : ℕ) (rows : ℕ → Pauli) → Proper n rows → (m : Letter) (a : ℕ) → a < n → (b : Bool)

@@ -60,8 +60,25 @@ pub ⊕-self : (a : Bool) → a ⊕ a ≡ false
 pub ⊕-twice : (a b : Bool) → (a ⊕ b) ⊕ b ≡ a
 ⊕-twice = bits 2 (λ a b. (a ⊕ b) ⊕ b) (λ a b. a) tt
 
+pub ⊕-back : (a b : Bool) → a ⊕ (a ⊕ b) ≡ b
+⊕-back = bits 2 (λ a b. a ⊕ (a ⊕ b)) (λ a b. b) tt
+
 pub ⊕-zero : (a : Bool) → a ⊕ false ≡ a
 ⊕-zero = bits 1 (λ a. a ⊕ false) (λ a. a) tt
+
+pub ⊕-true : (a : Bool) → a ⊕ true ≡ not a
+⊕-true = bits 1 (λ a. a ⊕ true) not tt
+
+-- a bit added to itself where a true test says so
+pub ⊕-cleared : (a : Bool) → a ⊕ (a && true) ≡ false
+⊕-cleared = bits 1 (λ a. a ⊕ (a && true)) (λ a. false) tt
+
+-- two terms with no bit
+pub ⊕-none : (a b : Bool) → (a && false) ⊕ (b && false) ≡ false
+⊕-none = bits 2 (λ a b. (a && false) ⊕ (b && false)) (λ a b. false) tt
+
+pub and-exchange : (a b c : Bool) → (a && (b && c)) ≡ (b && (a && c))
+and-exchange = bits 3 (λ a b c. a && (b && c)) (λ a b c. b && (a && c)) tt
 
 pub and-⊕ : (a b c : Bool) → (a && (b ⊕ c)) ≡ (a && b) ⊕ (a && c)
 and-⊕ = bits 3 (λ a b c. a && (b ⊕ c)) (λ a b c. (a && b) ⊕ (a && c)) tt

@@ -1,5 +1,5 @@
 -- Tests as bits: what they say of their parts.
-use mathlib.Core.Bool.{_&&_, Bool, Bool·beq, cond, false, false≢true, true, true≢false, _||_}
+use mathlib.Core.Bool.{_&&_, Bool, Bool·beq, cond, false, false≢true, not, true, true≢false, _||_}
 use mathlib.Core.Logic.{inl, inr, _⊎_}
 use mathlib.Core.Path.{ap, refl, subst, sym, _∙_, _≡_}
 use lib.Dec.{T}
@@ -21,6 +21,15 @@ neither true b e = absurd (true≢false e)
 pub never-true : (b : Bool) → (b ≡ true → ⊥) → b ≡ false
 never-true true h = absurd (h refl)
 never-true false h = refl
+
+-- a test of the form 'a implies b'
+pub implied : (a b : Bool) → (not a || b) ≡ true → a ≡ true → b ≡ true
+implied false b e h = absurd (false≢true h)
+implied true b e h = e
+
+pub implies : (a b : Bool) → (a ≡ true → b ≡ true) → (not a || b) ≡ true
+implies false b h = refl
+implies true b h = h refl
 
 -- a statement of a case distinction, by its two cases
 module _ {A : Type 0} (P : A → Type 0) where

@@ -4,6 +4,7 @@ use mathlib.Core.Logic.{inl, inr, _≢_, _⊎_}
 use mathlib.Core.Path.{ap, ap₂, refl, subst, sym, _∙_, _≡_}
 use Prim.Native.Nat.{_+_, _<_, _^_, ℕ, _≤_}
 use native.Mathlib.Decide.{ℕ-discrete}
+use native.Mathlib.Nat.{le-refl}
 use native.Mathlib.Numerals.{add-one}
 use native.Mathlib.Omega.{arith}
 use lib.Arith.{lt-of-le-ne}
@@ -11,7 +12,7 @@ use lib.Bits.{bitXor}
 use lib.Dec.{eqb, ltb}
 use borrow.Author.Tests.{eq-eqb, le-ltb, lt-ltb, ne-eqb}
 use Rattle.words.proofs.BitLaws.{bit-flip}
-use Rattle.words.proofs.Finite.{⊕-zero}
+use Rattle.words.proofs.Finite.{⊕-true, ⊕-zero}
 use Rattle.words.proofs.Sums.{bitMonoid, fold-one, lt-or-ge}
 use Rattle.words.specs.Bits.{bit, parity, put, _⊕_}
 
@@ -35,6 +36,19 @@ upto-other j i d = go (lt-or-ge j i)
     go : (j < i) ⊎ (i ≤ j) → ltb j (i + 1) ≡ ltb j i
     go (inl l) = lt-ltb j (i + 1) (omega arith) ∙ sym (lt-ltb j i l)
     go (inr l) = le-ltb j (i + 1) (rw add-one (lt-of-le-ne l (λ e. d (sym e)))) ∙ sym (le-ltb j i l)
+
+-- of the places below i + 1, those below i and i itself
+pub upto-with : (f : ℕ → Bool) (i j : ℕ) → (ltb j i && f j) ⊕ (eqb j i && f i) ≡ (ltb j (i + 1) && f j)
+upto-with f i j = go (ℕ-discrete j i)
+  where
+    go : Dec (j ≡ i) → (ltb j i && f j) ⊕ (eqb j i && f i) ≡ (ltb j (i + 1) && f j)
+    go (yes e) =
+        subst (λ v. (ltb v i && f v) ⊕ (eqb v i && f i) ≡ (ltb v (i + 1) && f v)) (sym e)
+        (ap₂ (λ u v. (u && f i) ⊕ (v && f i)) (le-ltb i i (le-refl i)) (same-place i)
+        ∙ sym (ap (λ u. u && f i) (lt-ltb i (i + 1) (omega arith))))
+    go (no d) =
+        ap (λ u. (ltb j i && f j) ⊕ (u && f i)) (other-place d)
+        ∙ ⊕-zero _ ∙ ap (λ u. u && f j) (sym (upto-other j i d))
 
 pub ⊕-cancel : (a b : Bool) → a ⊕ b ≡ false → a ≡ b
 ⊕-cancel false b e = sym e
@@ -76,12 +90,8 @@ pub bit-put-flipped : (w q : ℕ) (b : Bool) (r : ℕ) {d : Bool} → r ≡ bitX
 bit-put-flipped w q b r {d} e h k j =
     ap (λ v. bit v j) e ∙ bit-flip w q j
     ∙ put-all (λ j v. bit w j ⊕ eqb j q ≡ v) (bit w) q b
-    (ap₂ _⊕_ h (same-place q) ∙ flipped d ∙ sym k) j
+    (ap₂ _⊕_ h (same-place q) ∙ ⊕-true d ∙ sym k) j
     (λ o. ap (λ s. bit w j ⊕ s) (other-place o) ∙ ⊕-zero (bit w j))
-  where
-    flipped : (d : Bool) → d ⊕ true ≡ not d
-    flipped false = refl
-    flipped true = refl
 
 -- a bit flipped where b is true
 pub bit-flip-where : (w q : ℕ) (b : Bool) (r : ℕ) → r ≡ cond b (bitXor w (2 ^ q)) w →

@@ -40,6 +40,20 @@ pub struct Measured {
     pub determined: bool,
 }
 
+impl Measured {
+    /// What a measurement told, where its number is 0.
+    pub(crate) fn unless_refused(
+        number: u8,
+        outcome: u8,
+        determined: u8,
+    ) -> Result<Measured, Refusal> {
+        Refusal::unless_accepted(number).map(|()| Measured {
+            outcome,
+            determined: determined == 1,
+        })
+    }
+}
+
 /// Applies a code after the code held at a qubit; the record becomes the reduced one.
 ///
 /// Refusals: 2, 4, 5, 6 (also for the given code), 7, 8 for a qubit out of range, 16 for a used one.
@@ -131,10 +145,7 @@ pub fn measure(
         &mut outcome,
         &mut determined,
     );
-    Refusal::unless_accepted(number).map(|()| Measured {
-        outcome,
-        determined: determined == 1,
-    })
+    Measured::unless_refused(number, outcome, determined)
 }
 
 /// Complements the graph at a vertex and rewrites the codes so that the group stays. The record is

@@ -278,10 +278,7 @@ impl Group<'_> {
             &mut outcome,
             &mut determined,
         );
-        Refusal::unless_accepted(number).map(|()| Measured {
-            outcome,
-            determined: determined == 1,
-        })
+        Measured::unless_refused(number, outcome, determined)
     }
 
     /// Complements at a vertex of the group, so that its state stays; nothing is reduced.

@@ -1,7 +1,7 @@
 //! Refused calls of the generator: every number, their order, and every length of the buffer near
 //! the required one.
 
-use crate::common::damage::Fault;
+use crate::common::damage::{each_set, Fault};
 use crate::common::{GenerateCall, Random};
 use sukhlent::{generate, raw, Refusal};
 
@@ -19,14 +19,10 @@ fn right() -> GenerateCall {
 
 #[test]
 fn every_set_of_faults_gives_the_first() {
-    for set in 0..16 {
-        let mut call = right();
-        let chosen = (0..4).filter(|k| set >> k & 1 == 1);
-        chosen.clone().for_each(|k| FAULTS[k].1(&mut call));
-        let due = chosen.clone().next().map(|k| FAULTS[k].0);
+    each_set(&FAULTS, right, |call, due| {
         assert_eq!(call.generate().err(), due, "{call:?}");
         assert_eq!(call.due().err(), due, "{call:?}");
-    }
+    });
 }
 
 #[test]

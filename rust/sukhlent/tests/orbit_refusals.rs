@@ -1,6 +1,6 @@
 //! Refused calls on orbits: every number, their order, and lengths near the required ones.
 
-use crate::common::damage::Fault;
+use crate::common::damage::{each_set, Fault};
 use crate::common::{OrbitCall, Random};
 use sukhlent::{orbit, raw, Refusal};
 
@@ -19,14 +19,10 @@ fn right() -> OrbitCall {
 
 #[test]
 fn every_set_of_faults_gives_the_first() {
-    for set in 0..16 {
-        let mut call = right();
-        let chosen = (0..4).filter(|k| set >> k & 1 == 1);
-        chosen.clone().for_each(|k| FAULTS[k].1(&mut call));
-        let due = chosen.clone().next().map(|k| FAULTS[k].0);
+    each_set(&FAULTS, right, |call, due| {
         assert_eq!(call.orbit().err(), due, "{call:?}");
         assert_eq!(call.due().err(), due, "{call:?}");
-    }
+    });
 }
 
 #[test]

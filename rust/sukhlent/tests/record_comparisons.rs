@@ -4,7 +4,9 @@
 use crate::common::damage::{each_fault, each_pair, record_faults};
 use crate::common::local::sent;
 use crate::common::reference::expanded;
-use crate::common::{random_components, random_record, random_sizes, Random, RecordPairCall};
+use crate::common::{
+    random_components, random_record, random_sizes, Random, RecordCall, RecordPairCall,
+};
 use sukhlent::{compare, compare_records, expand, reduce, Record, Refusal};
 
 /// A record with the group of the first under random codes, reduced or with its codes as they come.
@@ -36,15 +38,16 @@ fn assert_refused(call: &RecordPairCall, number: u8, what: &str) {
 
 /// A damaged record with a right one, in either order, gives the record's number, or 2 where their
 /// n differ.
-fn assert_refused_beside(right: &RecordPairCall, damaged: &RecordPairCall, number: u8, what: &str) {
-    let number = match damaged.first.n == right.first.n {
+fn assert_refused_beside(right: &RecordPairCall, damaged: &RecordCall<()>, number: u8, what: &str) {
+    let number = match damaged.n == right.first.n {
         true => number,
         false => 2,
     };
-    let mut exchanged = right.clone();
-    exchanged.second = damaged.first.clone();
-    for call in [damaged, &exchanged] {
-        assert_refused(call, number, what);
+    let [mut first, mut second] = [right.clone(), right.clone()];
+    first.first = damaged.clone();
+    second.second = damaged.clone();
+    for call in [first, second] {
+        assert_refused(&call, number, what);
     }
 }
 
@@ -101,11 +104,7 @@ fn every_fault_of_either_record_gives_its_number() {
         each_fault(
             &record_faults(),
             || right.first.clone(),
-            |damaged, number, what| {
-                let mut call = right.clone();
-                call.first = damaged.clone();
-                assert_refused_beside(&right, &call, number, what);
-            },
+            |damaged, number, what| assert_refused_beside(&right, damaged, number, what),
         );
         for (choice, list) in [(7, 96), (9, 96), (8, 95), (8, 97), (0, 0)] {
             let call = RecordPairCall {
@@ -125,11 +124,7 @@ fn of_two_faults_the_earlier_number_is_given_in_either_record() {
         each_pair(
             &record_faults(),
             || right.first.clone(),
-            |damaged, number, what| {
-                let mut call = right.clone();
-                call.first = damaged.clone();
-                assert_refused_beside(&right, &call, number, what);
-            },
+            |damaged, number, what| assert_refused_beside(&right, damaged, number, what),
         );
         // One fault in each record: the earlier number, whichever record has it.
         for (k, (number, damage)) in record_faults().iter().enumerate() {

@@ -113,6 +113,26 @@ impl GuardedList {
     }
 }
 
+/// The list that a call wrote, or the number of its refusal, which leaves the buffers as they were.
+pub fn answered_list(
+    number: u8,
+    signs: &Guarded<u8>,
+    z: &Guarded<u64>,
+    x: &Guarded<u64>,
+) -> Result<GeneratorList, u8> {
+    if number != 0 {
+        signs.assert_unchanged("signs");
+        z.assert_unchanged("z");
+        x.assert_unchanged("x");
+        return Err(number);
+    }
+    Ok(GeneratorList {
+        signs: signs.answer("signs"),
+        z: z.answer("z"),
+        x: x.answer("x"),
+    })
+}
+
 /// The arguments of a call on a record: the record, and what goes with it.
 #[derive(Clone, Debug)]
 pub struct RecordCall<W> {
@@ -183,17 +203,7 @@ impl RecordCall<Lengths> {
         );
         neighbours.assert_unchanged("neighbours");
         codes.assert_unchanged("codes");
-        if number != 0 {
-            signs.assert_unchanged("signs");
-            z.assert_unchanged("z");
-            x.assert_unchanged("x");
-            return Err(number);
-        }
-        Ok(GeneratorList {
-            signs: signs.answer("signs"),
-            z: z.answer("z"),
-            x: x.answer("x"),
-        })
+        answered_list(number, &signs, &z, &x)
     }
 
     /// The number due to the record and the answer buffers' lengths.

@@ -1,6 +1,7 @@
 //! The buffer for a list of complementations, with its count, between guards.
 
 use super::guarded::Guarded;
+use sukhlent::Comparison;
 
 /// The places that a call requires of the list.
 pub const LIST_PLACES: usize = 96;
@@ -38,5 +39,19 @@ impl Complementations {
         let untouched = Guarded::<u8>::patterned(places.len()).answer("pattern");
         assert_eq!(places[count..], untouched[count..], "past the count");
         places[..count].to_vec()
+    }
+
+    /// The comparison that a call wrote here and into a choice, or the number of its refusal, which
+    /// leaves both as they were.
+    pub fn compared(&self, number: u8, choice: &Guarded<u8>) -> Result<Comparison, u8> {
+        if number != 0 {
+            choice.assert_unchanged("choice");
+            self.assert_unchanged();
+            return Err(number);
+        }
+        Ok(Comparison {
+            choice: choice.answer("choice"),
+            complementations: self.answer(),
+        })
     }
 }

@@ -220,6 +220,20 @@ pub fn each_pair<C>(
     }
 }
 
+/// Each set of faults, given in checking order, with the number of its first; the empty set has none.
+pub fn each_set<C>(
+    faults: &[Fault<C>],
+    base: impl Fn() -> C,
+    assert_given: impl Fn(&C, Option<u8>),
+) {
+    for set in 0..1_u32 << faults.len() {
+        let mut call = base();
+        let chosen = (0..faults.len()).filter(|k| set >> k & 1 == 1);
+        chosen.clone().for_each(|k| faults[k].1(&mut call));
+        assert_given(&call, chosen.map(|k| faults[k].0).next());
+    }
+}
+
 /// The place of a number in the checking order.
 fn place(number: u8) -> Option<usize> {
     Refusal::ALL.iter().position(|r| r.number() == number)

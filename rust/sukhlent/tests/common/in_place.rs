@@ -6,6 +6,18 @@ use super::operation::Operation;
 use super::reference;
 use sukhlent::{Measured, Record};
 
+/// What a measurement wrote into its two buffers.
+pub fn measured(answer: &Guarded<u8>, determined: &Guarded<u8>) -> Measured {
+    Measured {
+        outcome: answer.answer("answer")[0],
+        determined: match determined.answer("determined")[0] {
+            0 => false,
+            1 => true,
+            other => panic!("{other} is not 0 or 1"),
+        },
+    }
+}
+
 impl RecordCall<Operation> {
     /// The record that the call leaves and what it measures, or the number of its refusal.
     ///
@@ -41,14 +53,7 @@ impl RecordCall<Operation> {
             codes: codes.answer("codes"),
             used: used.answer("used")[0],
         };
-        let measured = measures.then(|| Measured {
-            outcome: answer.answer("answer")[0],
-            determined: match determined.answer("determined")[0] {
-                0 => false,
-                1 => true,
-                other => panic!("{other} is not 0 or 1"),
-            },
-        });
+        let measured = measures.then(|| measured(&answer, &determined));
         Ok((record, measured))
     }
 

@@ -4,6 +4,7 @@ use super::calls::ListCall;
 use super::complementations::{Complementations, LIST_PLACES};
 use super::guarded::Guarded;
 use super::reference;
+use std::fmt::Debug;
 use sukhlent::{raw, Comparison, GeneratorList};
 
 /// The arguments of a comparison; answer buffers by their lengths.
@@ -39,15 +40,7 @@ impl PairCall {
         let number = raw::compare(first.lent(), second.lent(), choice.lent(), list, count);
         first.assert_unchanged();
         second.assert_unchanged();
-        if number != 0 {
-            choice.assert_unchanged("choice");
-            complementations.assert_unchanged();
-            return Err(number);
-        }
-        Ok(Comparison {
-            choice: choice.answer("choice"),
-            complementations: complementations.answer(),
-        })
+        complementations.compared(number, &choice)
     }
 
     /// The number due to the lists and the buffers' lengths; None where the search decides.
@@ -56,20 +49,26 @@ impl PairCall {
         let numbers = lists.map(|list| list.due().0);
         let counts = lists.map(|list| list.n);
         let early = reference::pair_refusal(counts, numbers, self.choice, self.list);
-        early.or_else(|| lists.into_iter().any(has_large_part).then_some(3))
+        let large = |call: &ListCall| has_large_part(&call.list());
+        early.or_else(|| lists.into_iter().any(large).then_some(3))
     }
 
     /// Panics unless a number is the one due: 0 or 13 where the search decides.
     pub fn assert_due(&self, number: u8) {
-        match self.due() {
-            Some(due) => assert_eq!(number, due, "{self:?}"),
-            None => assert!([0, 13].contains(&number), "{number}: {self:?}"),
-        }
+        assert_number(number, self.due(), self);
+    }
+}
+
+/// Panics unless a comparison's number is the one due; where none is, the search gives 0 or 13.
+pub fn assert_number(number: u8, due: Option<u8>, call: &impl Debug) {
+    match due {
+        Some(due) => assert_eq!(number, due, "{call:?}"),
+        None => assert!([0, 13].contains(&number), "{number}: {call:?}"),
     }
 }
 
 /// Whether a part of the reduced graph of an accepted list has more than 20 vertices.
-fn has_large_part(call: &ListCall) -> bool {
-    let parts = reference::parts(&reference::reduced(&call.list()).neighbours);
+pub fn has_large_part(list: &GeneratorList) -> bool {
+    let parts = reference::parts(&reference::reduced(list).neighbours);
     parts.iter().any(|part| part.len() > 20)
 }

@@ -3,6 +3,7 @@
 use super::calls::RecordCall;
 use super::complementations::{Complementations, LIST_PLACES};
 use super::guarded::Guarded;
+use super::pairs::{assert_number, has_large_part};
 use super::reference;
 use sukhlent::{expand, raw, Comparison, Record};
 
@@ -52,15 +53,7 @@ impl RecordPairCall {
         codes
             .iter()
             .for_each(|codes| codes.assert_unchanged("codes"));
-        if number != 0 {
-            choice.assert_unchanged("choice");
-            complementations.assert_unchanged();
-            return Err(number);
-        }
-        Ok(Comparison {
-            choice: choice.answer("choice"),
-            complementations: complementations.answer(),
-        })
+        complementations.compared(number, &choice)
     }
 
     /// The number due to the records and the buffers' lengths; None where the search decides.
@@ -69,15 +62,12 @@ impl RecordPairCall {
         let numbers = records.map(|call| reference::record_refusal(call.n, &unused(call), &[]));
         let counts = records.map(|call| call.n);
         let early = reference::pair_refusal(counts, numbers, self.choice, self.list);
-        early.or_else(|| records.into_iter().any(has_large_part).then_some(3))
+        early.or_else(|| records.into_iter().any(has_large_record).then_some(3))
     }
 
     /// Panics unless a number is the one due: 0 or 13 where the search decides.
     pub fn assert_due(&self, number: u8) {
-        match self.due() {
-            Some(due) => assert_eq!(number, due, "{self:?}"),
-            None => assert!([0, 13].contains(&number), "{number}: {self:?}"),
-        }
+        assert_number(number, self.due(), self);
     }
 }
 
@@ -90,8 +80,6 @@ fn unused(call: &RecordCall<()>) -> Record {
 }
 
 /// Whether a part of the reduced graph of an accepted record has more than 20 vertices.
-fn has_large_part(call: &RecordCall<()>) -> bool {
-    let list = expand(&unused(call)).expect("an accepted record");
-    let parts = reference::parts(&reference::reduced(&list).neighbours);
-    parts.iter().any(|part| part.len() > 20)
+fn has_large_record(call: &RecordCall<()>) -> bool {
+    has_large_part(&expand(&unused(call)).expect("an accepted record"))
 }

@@ -1,6 +1,7 @@
 //! Calls of two groups on one record, on guarded buffers of any lengths and contents.
 
 use super::guarded::Guarded;
+use super::in_place::measured;
 use super::operation::Operation;
 use super::seeded::{isolate, random_used_record, Random};
 use sukhlent::{raw, Measured, Record};
@@ -201,14 +202,7 @@ impl Lent {
             neighbours: held.answer("held neighbours"),
             codes: held_codes.answer("held codes"),
         };
-        let measured = measures.then(|| Measured {
-            outcome: answer.answer("answer")[0],
-            determined: match determined.answer("determined")[0] {
-                0 => false,
-                1 => true,
-                other => panic!("{other} is not 0 or 1"),
-            },
-        });
+        let measured = measures.then(|| measured(&answer, &determined));
         Ok((left, measured))
     }
 }

@@ -1,6 +1,6 @@
 //! Reading and writing texts of Pauli strings, on guarded buffers of any lengths and contents.
 
-use super::calls::ListCall;
+use super::calls::{answered_list, ListCall};
 use super::guarded::Guarded;
 use super::reference;
 use sukhlent::{raw, GeneratorList};
@@ -31,17 +31,7 @@ impl ReadCall {
         let [mut z, mut x] = [1, 2].map(|k| Guarded::patterned(self.lengths[k]));
         let number = raw::read_strings(text.lent(), signs.lent(), z.lent(), x.lent());
         text.assert_unchanged("text");
-        if number != 0 {
-            signs.assert_unchanged("signs");
-            z.assert_unchanged("z");
-            x.assert_unchanged("x");
-            return Err(number);
-        }
-        Ok(GeneratorList {
-            signs: signs.answer("signs"),
-            z: z.answer("z"),
-            x: x.answer("x"),
-        })
+        answered_list(number, &signs, &z, &x)
     }
 
     /// The answer due to the text and the lengths.
