@@ -7,7 +7,7 @@ use native.Mathlib.Nat.{le-trans, mul-add, mul-assoc, mul-le-mul-left, mul-le-mu
 use native.Mathlib.Omega.{arith}
 use lib.ListN.{length}
 use Rattle.graph_steps.specs.internal.KeptGroups.{Nearer}
-use Rattle.graph_steps.specs.internal.Settling.{codeWeight, distance, isZY, total}
+use Rattle.graph_steps.specs.internal.Settling.{codeWeight, distance, total}
 use Rattle.graph_steps.proofs.Totals.{total-le}
 use Rattle.operations.specs.internal.InPlace.{recordIn}
 use Rattle.record.specs.Lent.{heldRecord}

@@ -1,5 +1,5 @@
--- The loop of steps towards the reduced form: the group is kept, every vertex out of place is in the word, and at its end
--- there is none.
+-- The loop of steps towards the reduced form: the group is kept, every vertex out of place is in the first word, every one
+-- that can be by its code in the second, and at its end none is out of place.
 use mathlib.Core.Bool.{_&&_, Bool, false, not, or-true, true, true≢false, _||_}
 use mathlib.Core.List.{List}
 use mathlib.Core.Logic.{inl, inr}
@@ -128,8 +128,10 @@ pub settling-start : (words codes : List ℕ) (rest watch : ℕ) → Unrefused (
     → Suspected words codes watch → Watched words codes rest → Settling words codes words codes rest watch
 settling-start words codes rest watch U P W = record { kept = kept-refl words codes U; watched = W; suspected = P }
 
-module _ (words codes words₁ codes₁ : List ℕ) (rest watch : ℕ) (S : Settling words codes words₁ codes₁ rest watch) where
-  module _ (words₂ codes₂ : List ℕ) (rest₂ watch₂ : ℕ) (N : Advanced words₁ codes₁ rest words₂ codes₂ rest₂ watch₂) where
+module _ (words codes words₁ codes₁ : List ℕ) (rest watch : ℕ)
+    (S : Settling words codes words₁ codes₁ rest watch) where
+  module _ (words₂ codes₂ : List ℕ) (rest₂ watch₂ : ℕ)
+      (N : Advanced words₁ codes₁ rest words₂ codes₂ rest₂ watch₂) where
     pub settling-more : Settling words codes words₂ codes₂ rest₂ watch₂
     settling-more =
         record {

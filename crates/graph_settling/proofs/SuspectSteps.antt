@@ -1,5 +1,5 @@
--- Who has a code that is odd, or 8 or more, a step changes only at its own vertices: what is put before the codes of their
--- neighbours keeps Z, and so the image of Z and its sign.
+-- Whether a code is odd, or 8 or more, a step changes only at its own vertices: what it puts before the codes of their
+-- neighbours keeps Z, and so leaves the image of Z and its sign.
 use mathlib.Core.Bool.{Bool, cond, false, true}
 use mathlib.Core.Path.{ap, refl, _∙_, _≡_}
 use Prim.Native.Nat.{ℕ}
@@ -12,6 +12,7 @@ use Rattle.operations.specs.Steps.{pivotRecord}
 use Rattle.record.specs.Records.{GraphRecord, complementRecord}
 use Rattle.words.proofs.Finite.{bits}
 
+-- the code at q is odd, or 8 or more
 abbrev pub suspectIn : GraphRecord → ℕ → Bool
 suspectIn r q = suspect (codeOf (r .codes q))
 
@@ -45,4 +46,5 @@ pivot-suspect r j k q dj dk =
 
 pub sign-suspect : (r : GraphRecord) (a q : ℕ) → eqb q a ≡ false → suspectIn (signMoved r a) q ≡ suspectIn r q
 sign-suspect r a q d =
-    ap (λ u. suspect (codeOf (then (pauliCode u (r .graph a q)) (r .codes q)))) d ∙ signs-before (r .codes q) (r .graph a q)
+    ap (λ u. suspect (codeOf (then (pauliCode u (r .graph a q)) (r .codes q)))) d
+    ∙ signs-before (r .codes q) (r .graph a q)

@@ -17,7 +17,8 @@ use Rattle.graph_settling.proofs.settle_all.Statement.{statement}
 use Rattle.graph_settling.proofs.settle_all.Tie as tie
 
 abbrev Inv-loop : tie.InvT-loop
-Inv-loop neighbours₀ codes₀ touched suspected rest₀ watch₀ neighbours codes rest watch = Settling neighbours₀ codes₀ neighbours codes rest watch
+Inv-loop neighbours₀ codes₀ touched suspected rest₀ watch₀ neighbours codes rest watch =
+    Settling neighbours₀ codes₀ neighbours codes rest watch
 
 abbrev μ-loop : tie.MeasureT-loop
 μ-loop neighbours₀ codes₀ touched suspected rest₀ watch₀ neighbours codes rest watch =
@@ -51,7 +52,8 @@ same-length-2 : tie.Need-same-length-2 Inv-loop μ-loop
 same-length-2 c = kept-codes-long _ _ _ _ (c .before .before .before .before .pre .0) (c .before .loop .inv .kept)
 
 returns : tie.Need-returns Inv-loop μ-loop
-returns c = settling-end _ _ _ _ _ _ (c .before .loop .inv) (c .before .before .before .before .pre .0) (c .loop-test .left)
+returns c =
+    settling-end _ _ _ _ _ _ (c .before .loop .inv) (c .before .before .before .before .pre .0) (c .loop-test .left)
 
 pub settle-all-spec : {M : Type 1} → statement M
 settle-all-spec =

@@ -20,7 +20,8 @@ slice-read-is-unsettled-2 : tie.Need-slice-read-is-unsettled-2
 slice-read-is-unsettled-2 c =
     let at = c .before .before in
     let start = at .before .before .before .pre in
-    unrefused-place _ _ (start .0) _ (next-below _ _ (start .0) _ (start .1 .1 .0) (start .1 .1 .1) _ (at .smallest .ensures .0))
+    unrefused-place _ _ (start .0) _
+    (next-below _ _ (start .0) _ (start .1 .1 .0) (start .1 .1 .1) _ (at .smallest .ensures .0))
 
 is-unsettled-requires : tie.Need-is-unsettled-requires
 is-unsettled-requires c κs =
