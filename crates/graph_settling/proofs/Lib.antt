@@ -1,4 +1,5 @@
 pub mod SignBuffers
+pub mod SuspectSteps
 pub mod Untouched
 pub mod SuspectCodes
 pub mod SettlingLoop

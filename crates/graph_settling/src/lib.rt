@@ -17,7 +17,19 @@ ghost use Rattle.graph_steps.specs.internal.Steps.{signMoved};
 ghost use Rattle.operations.specs.internal.InPlace.{Rewritten, Unrefused, recordIn};
 ghost use Rattle.words.specs.Bits.{isOdd};
 ghost use Rattle.words.specs.Search.{first};
-ghost use Rattle.graph_settling.specs.internal.Watching.{Advanced, Elsewhere, Watched};
+ghost use Rattle.graph_settling.specs.internal.Watching.{Advanced, Elsewhere, Suspected, Watched};
+
+// What a step may have changed: at the vertices `all`, and whether a code is odd, or 8 or more, at `ends` alone.
+struct Touched {
+    all: u64,
+    ends: u64,
+}
+
+// The vertices still to be looked at, and all those that can be out of place by their codes.
+struct Looked {
+    rest: u64,
+    watch: u64,
+}
 
 // Whether vertex j, with this code and this neighbour word, is out of place.
 fn is_unsettled(word: u64, code: u8, j: usize) -> bool
@@ -37,14 +49,14 @@ fn move_sign(neighbours: &[u64], codes: &mut [u8], a: usize)
 }
 
 // One step at the smallest vertex out of place: where C = 1, D = 0 and it has a larger neighbour, a pivot with the
-// largest; with another code from 12, a complementation; else the code is odd, and its sign is moved. Answers the
-// vertices that it may change.
-fn settle_at(neighbours: &mut [u64], codes: &mut [u8], j: usize) -> u64
+// largest; with another code from 12, a complementation; else the code is odd, and its sign is moved. Answers what it
+// may have changed: 6 or 2 before the code of a neighbour leave the image of Z as it is.
+fn settle_at(neighbours: &mut [u64], codes: &mut [u8], j: usize) -> Touched
     requires { ⌜ Unrefused (recordIn (now neighbours) (now codes)) × (j < length (now neighbours)) ⌝ }
     requires { ⌜ j ≡ first (length (now neighbours)) (unsettled (now neighbours) (now codes)) ⌝ }
     ensures { λ r. ⌜ Nearer (now (neighbours .entry)) (now (codes .entry))
         (now (neighbours .exit)) (now (codes .exit)) ⌝ }
-    ensures { λ r. ⌜ Elsewhere r (now (neighbours .entry)) (now (codes .entry))
+    ensures { λ r. ⌜ Elsewhere (r .all) (r .ends) (now (neighbours .entry)) (now (codes .entry))
         (now (neighbours .exit)) (now (codes .exit)) ⌝ }
 {
     let word = neighbours[j];
@@ -53,43 +65,77 @@ fn settle_at(neighbours: &mut [u64], codes: &mut [u8], j: usize) -> u64
         let k = largest(word);
         let others = neighbours[k];
         pivot_record(neighbours, codes, j, k);
-        word | others
+        Touched {
+            all: word | others,
+            ends: single(j) | single(k),
+        }
     } else if 12 <= code {
         complement_record(neighbours, codes, j);
-        word | single(j)
+        let own = single(j);
+        Touched {
+            all: word | own,
+            ends: own,
+        }
     } else {
         move_sign(neighbours, codes, j);
-        word | single(j)
+        let own = single(j);
+        Touched {
+            all: word | own,
+            ends: own,
+        }
     }
 }
 
-// A look at the smallest vertex that may be out of place: if it is, a step, and what the step may change is added; else
-// it is dropped.
-fn settle_next(neighbours: &mut [u64], codes: &mut [u8], rest: u64) -> u64
+// A look at the smallest vertex that may be out of place: if it is, a step, and of what the step may have changed those
+// are added that can be out of place by their codes; else it is dropped.
+fn settle_next(neighbours: &mut [u64], codes: &mut [u8], rest: u64, watch: u64) -> Looked
     requires { ⌜ Unrefused (recordIn (now neighbours) (now codes)) ⌝ }
+    requires { ⌜ Suspected (now neighbours) (now codes) watch ⌝ }
     requires { ⌜ Watched (now neighbours) (now codes) rest × (rest ≡ 0 → ⊥) ⌝ }
     ensures { λ r. ⌜ Advanced (now (neighbours .entry)) (now (codes .entry)) rest
-        (now (neighbours .exit)) (now (codes .exit)) r ⌝ }
+        (now (neighbours .exit)) (now (codes .exit)) (r .rest) (r .watch) ⌝ }
 {
     let j = smallest(rest);
     if !is_unsettled(neighbours[j], codes[j], j) {
-        return without_smallest(rest);
+        return Looked {
+            rest: without_smallest(rest),
+            watch,
+        };
     }
-    rest | settle_at(neighbours, codes, j)
+    let touched = settle_at(neighbours, codes, j);
+    let seen = watch | touched.ends;
+    Looked {
+        rest: rest | (seen & touched.all),
+        watch: seen,
+    }
 }
 
-// Such steps until no vertex is out of place: then the buffers hold the reduced record of the group. `touched` has
-// every vertex that is out of place before.
+// Such steps until no vertex is out of place: then the buffers hold the reduced record of the group. `touched` has every
+// vertex that is out of place before, `suspected` every one with a code that is odd, or 8 or more.
+fn settle_all(neighbours: &mut [u64], codes: &mut [u8], touched: u64, suspected: u64)
+    requires { ⌜ Unrefused (recordIn (now neighbours) (now codes)) ⌝ }
+    requires { ⌜ Suspected (now neighbours) (now codes) suspected ⌝ }
+    requires { ⌜ Watched (now neighbours) (now codes) touched ⌝ }
+    ensures { λ r. ⌜ Normalised (now (neighbours .entry)) (now (codes .entry))
+        (now (neighbours .exit)) (now (codes .exit)) ⌝ }
+{
+    let mut rest = touched;
+    let mut watch = suspected;
+    while rest != 0 {
+        let next = settle_next(neighbours, codes, rest, watch);
+        rest = next.rest;
+        watch = next.watch;
+    }
+}
+
+// The same where `touched` has every vertex that is out of place before, and nothing is known of the codes.
 pub fn normalise_from(neighbours: &mut [u64], codes: &mut [u8], touched: u64)
     requires { ⌜ Unrefused (recordIn (now neighbours) (now codes)) ⌝ }
     requires { ⌜ Watched (now neighbours) (now codes) touched ⌝ }
     ensures { λ r. ⌜ Normalised (now (neighbours .entry)) (now (codes .entry))
         (now (neighbours .exit)) (now (codes .exit)) ⌝ }
 {
-    let mut rest = touched;
-    while rest != 0 {
-        rest = settle_next(neighbours, codes, rest);
-    }
+    settle_all(neighbours, codes, touched, 0xFFFF_FFFF_FFFF_FFFF);
 }
 
 // The same where nothing is known of the record.
@@ -99,5 +145,5 @@ pub fn normalise(neighbours: &mut [u64], codes: &mut [u8])
         (now (neighbours .exit)) (now (codes .exit)) ⌝ }
 {
     let touched = suspects(codes);
-    normalise_from(neighbours, codes, touched);
+    settle_all(neighbours, codes, touched, touched);
 }

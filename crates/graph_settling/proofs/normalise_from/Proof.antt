@@ -1,68 +1,14 @@
--- `normalise_from` meets its contract: such steps until no vertex is out of place: then the buffers hold the reduced
--- record of the group.
-use Prim.Native.Nat.{_*_, _+_, _^_}
-use lib.ListN.{length}
-use Rattle.graph_steps.proofs.Keeping.{kept-codes-long}
-use Rattle.graph_steps.specs.internal.Settling.{distance}
-use Rattle.operations.specs.internal.InPlace.{recordIn}
-use Rattle.record.specs.Lent.{heldRecord}
-use Rattle.graph_settling.proofs.SettlingLoop.{
-  Settling,
-  settling-end,
-  settling-less,
-  settling-more,
-  settling-start,
-}
+-- `normalise_from` meets its contract: the same where nothing is known of the codes.
+use borrow.Author.Needs.{needs}
+use Rattle.graph_settling.proofs.SuspectCodes.{all-suspected}
 use Rattle.graph_settling.proofs.normalise_from.Statement.{statement}
 use Rattle.graph_settling.proofs.normalise_from.Tie as tie
 
-abbrev Inv-loop : tie.InvT-loop
-Inv-loop neighbours₀ codes₀ touched rest₀ neighbours codes rest = Settling neighbours₀ codes₀ neighbours codes rest
-
-abbrev μ-loop : tie.MeasureT-loop
-μ-loop neighbours₀ codes₀ touched rest₀ neighbours codes rest =
-    distance (length neighbours₀) (heldRecord (recordIn neighbours codes)) * 2 ^ 64 + rest
-
-loop-holds : tie.Need-loop-holds Inv-loop μ-loop
-loop-holds c = let start = c .before .before .pre in settling-start _ _ _ (start .0) (start .1)
-
-settle-next-requires : tie.Need-settle-next-requires Inv-loop μ-loop
-settle-next-requires c κs =
-    let inside = c .before .before in
-    let inv = inside .before .loop .inv in
-    (inv .kept .unrefused, (inv .watched, inside .loop-test .taken))
-
-loop-less : tie.Need-loop-less Inv-loop μ-loop
-loop-less c =
-    let stepped = c .before .before .before .before in
-    let inside = stepped .before .before .before in
-    settling-less _ _ _ _ _ (inside .before .loop .inv) _ _ _ (stepped .settle-next .ensures)
-
-loop-again : tie.Need-loop-again Inv-loop μ-loop
-loop-again c =
-    let stepped = c .before .before .before .before in
-    let inside = stepped .before .before .before in
-    settling-more _ _ _ _ _ (inside .before .loop .inv) _ _ _ (stepped .settle-next .ensures)
-
-same-length : tie.Need-same-length Inv-loop μ-loop
-same-length c = c .before .loop .inv .kept .long
-
-same-length-2 : tie.Need-same-length-2 Inv-loop μ-loop
-same-length-2 c = kept-codes-long _ _ _ _ (c .before .before .before .before .pre .0) (c .before .loop .inv .kept)
-
-returns : tie.Need-returns Inv-loop μ-loop
-returns c = settling-end _ _ _ _ _ (c .before .loop .inv) (c .before .before .before .before .pre .0) (c .loop-test .left)
+settle-all-requires : tie.Need-settle-all-requires
+settle-all-requires c κs =
+    let start = c .before .before .before .before .pre in
+    (start .0, (all-suspected _ _ (start .0), start .1))
 
 pub normalise-from-spec : {M : Type 1} → statement M
 normalise-from-spec =
-    tie.close
-    (tie.spec
-    Inv-loop
-    μ-loop
-    loop-holds
-    settle-next-requires
-    loop-less
-    loop-again
-    same-length
-    same-length-2
-    returns)
+    tie.close (tie.spec settle-all-requires (λ c. search needs) (λ c. search needs) (λ c. search needs))

@@ -55,18 +55,36 @@ pivot-record-requires c κs =
 
 single-requires : tie.Need-single-requires
 single-requires c κs =
-    let start = c .before .before .before .before .before .before .before .before .before .before .before .before .before
-    .pre in
+    let at-largest = c .before .before .before .before .before .before .before .before in
+    let start = at-largest .before .before .before .before .before .before .pre in
     omega (arith, start .0 .1, unrefused-short _ _ (start .0 .0))
 
 single-requires-2 : tie.Need-single-requires-2
 single-requires-2 c κs =
+    let at-largest = c .before .before .before .before .before .before .before .before .before in
+    let branch = at-largest .before in
+    let start = branch .before .before .before .before .before .pre in
+    let top = at-largest .largest .ensures in
+    omega (
+      arith,
+      unrefused-short _ _ (start .0 .0),
+      larger-below _ _ (start .0 .0) _ (start .0 .1) (start .1) (branch .if1 .taken) _ (top .0) (top .1),
+    )
+
+single-requires-3 : tie.Need-single-requires-3
+single-requires-3 c κs =
+    let start = c .before .before .before .before .before .before .before .before .before .before .before .before .before
+    .pre in
+    omega (arith, start .0 .1, unrefused-short _ _ (start .0 .0))
+
+single-requires-4 : tie.Need-single-requires-4
+single-requires-4 c κs =
     let start = c .before .before .before .before .before .before .before .before .before .before .before .pre in
     omega (arith, start .0 .1, unrefused-short _ _ (start .0 .0))
 
 returns : tie.Need-returns
 returns c =
-    let at-pivot = c .before .before .before .before in
+    let at-pivot = c .before .before .before .before .before .before in
     let at-largest = at-pivot .before .before .before .before in
     let branch = at-largest .before in
     let start = branch .before .before .before .before .before .pre in
@@ -75,7 +93,8 @@ returns c =
           (larger-below _ _ (start .0 .0) _ (start .0 .1) (start .1) (branch .if1 .taken) _ (top .0) (top .1))
           (at-pivot .pivot-record .ensures)
           (pivot-less _ _ (start .0 .0) _ (start .0 .1) (start .1) (branch .if1 .taken) _ (top .0) (top .1)),
-      pivot-touches _ _ (start .0 .0) _ _ _ _ (top .0) (at-pivot .pivot-record .ensures),
+      pivot-touches _ _ (start .0 .0) _ _ _ _ (top .0) _ _ (c .before .single .ensures) (c .single2 .ensures)
+          (at-pivot .pivot-record .ensures),
     )
 
 returns-2 : tie.Need-returns-2
@@ -85,7 +104,7 @@ returns-2 c =
     let start = branch .before .before .before .before .before .before .pre in (
       complement-nearer _ _ (start .0 .0) _ _ _ (start .0 .1) (at-complement .complement-record .ensures)
           (complement-less _ _ (start .0 .0) _ (start .0 .1) (start .1) (branch .before .if1 .left) (branch .if2 .taken)),
-      complement-touches _ _ (start .0 .0) _ _ _ (start .0 .1) _ (c .single .ensures)
+      complement-touches _ _ (start .0 .0) _ _ _ (start .0 .1) _ (c .single3 .ensures)
           (at-complement .complement-record .ensures),
     )
 
@@ -96,13 +115,13 @@ returns-3 c =
     let start = branch .before .before .before .before .before .before .pre in (
       sign-nearer _ _ (start .0 .0) _ (start .0 .1) _ (at-sign .move-sign .ensures)
           (sign-less _ _ (start .0 .0) _ (start .0 .1) (start .1) (branch .before .if1 .left) (branch .if2 .left)),
-      sign-touches _ _ (start .0 .0) _ _ _ (start .0 .1) _ (c .single2 .ensures) (at-sign .move-sign .ensures),
+      sign-touches _ _ (start .0 .0) _ _ _ (start .0 .1) _ (c .single4 .ensures) (at-sign .move-sign .ensures),
     )
 
 pub settle-at-spec : {M : Type 1} → statement M
 settle-at-spec =
     tie.close
     (tie.spec (λ c. search needs) (λ c. search needs) slice-read-code shr-if1 largest-requires mul-others
-    slice-read-others pivot-record-requires (λ c κs. search needs) single-requires (λ c κs. search needs)
-    single-requires-2 (λ c. search needs) (λ c. search needs) returns (λ c. search needs) (λ c. search needs) returns-2
-    (λ c. search needs) (λ c. search needs) returns-3)
+    slice-read-others pivot-record-requires single-requires single-requires-2 (λ c κs. search needs) single-requires-3
+    (λ c κs. search needs) single-requires-4 (λ c. search needs) (λ c. search needs) returns (λ c. search needs)
+    (λ c. search needs) returns-2 (λ c. search needs) (λ c. search needs) returns-3)

@@ -14,13 +14,14 @@ slice-read-is-unsettled : tie.Need-slice-read-is-unsettled
 slice-read-is-unsettled c =
     let at = c .before in
     let start = at .before .before .before .pre in
-    next-below _ _ (start .0) _ (start .1 .0) (start .1 .1) _ (at .smallest .ensures .0)
+    next-below _ _ (start .0) _ (start .1 .1 .0) (start .1 .1 .1) _ (at .smallest .ensures .0)
 
 slice-read-is-unsettled-2 : tie.Need-slice-read-is-unsettled-2
 slice-read-is-unsettled-2 c =
     let at = c .before .before in
     let start = at .before .before .before .pre in
-    unrefused-place _ _ (start .0) _ (next-below _ _ (start .0) _ (start .1 .0) (start .1 .1) _ (at .smallest .ensures .0))
+    unrefused-place _ _ (start .0) _
+    (next-below _ _ (start .0) _ (start .1 .1 .0) (start .1 .1 .1) _ (at .smallest .ensures .0))
 
 is-unsettled-requires : tie.Need-is-unsettled-requires
 is-unsettled-requires c κs =
@@ -29,11 +30,11 @@ is-unsettled-requires c κs =
     omega (
       arith,
       unrefused-short _ _ (start .0),
-      next-below _ _ (start .0) _ (start .1 .0) (start .1 .1) _ (at .smallest .ensures .0),
+      next-below _ _ (start .0) _ (start .1 .1 .0) (start .1 .1 .1) _ (at .smallest .ensures .0),
     )
 
 without-smallest-requires : tie.Need-without-smallest-requires
-without-smallest-requires c κs = c .before .before .before .before .before .before .before .pre .1 .1
+without-smallest-requires c κs = c .before .before .before .before .before .before .before .pre .1 .1 .1
 
 returns : tie.Need-returns
 returns c =
@@ -41,9 +42,9 @@ returns c =
     let looked = branch .before in
     let at = looked .before .before .before in
     let start = at .before .before .before .pre in
-    next-dropped _ _ (start .0) _ (start .1 .0) (start .1 .1) _ (at .smallest .ensures .0)
+    next-dropped _ _ (start .0) _ (start .1 .1 .0) (start .1 .1 .1) _ (at .smallest .ensures .0)
     (sym (looked .is-unsettled .ensures) ∙ not-true _ (branch .if1 .taken)) _
-    (dropped-at _ _ _ (c .without-smallest .ensures) (at .smallest .ensures .0))
+    (dropped-at _ _ _ (c .without-smallest .ensures) (at .smallest .ensures .0)) _ (start .1 .0)
 
 settle-at-requires : tie.Need-settle-at-requires
 settle-at-requires c κs =
@@ -51,21 +52,21 @@ settle-at-requires c κs =
     let looked = branch .before in
     let at = looked .before .before .before in
     let start = at .before .before .before .pre in
-    let below = next-below _ _ (start .0) _ (start .1 .0) (start .1 .1) _ (at .smallest .ensures .0) in (
+    let below = next-below _ _ (start .0) _ (start .1 .1 .0) (start .1 .1 .1) _ (at .smallest .ensures .0) in (
       (start .0, below),
-      next-first _ _ (start .0) _ (start .1 .0) (start .1 .1) _ (at .smallest .ensures .0)
+      next-first _ _ (start .0) _ (start .1 .1 .0) (start .1 .1 .1) _ (at .smallest .ensures .0)
           (sym (looked .is-unsettled .ensures) ∙ not-false _ (branch .if1 .left)),
     )
 
 returns-2 : tie.Need-returns-2
 returns-2 c =
-    let stepped = c .before .before .before .before in
+    let stepped = c .before .before .before .before .before .before in
     let branch = stepped .before .before .before in
     let looked = branch .before in
     let at = looked .before .before .before in
     let start = at .before .before .before .pre in
-    next-settled _ _ (start .0) _ (start .1 .0) (start .1 .1) _ (at .smallest .ensures .0) _ _ _
-    (stepped .settle-at .ensures .0) (stepped .settle-at .ensures .1)
+    next-settled _ _ (start .0) _ (start .1 .1 .0) (start .1 .1 .1) _ (at .smallest .ensures .0) _
+    (start .1 .0) _ _ _ _ (stepped .settle-at .ensures .0) (stepped .settle-at .ensures .1)
 
 pub settle-next-spec : {M : Type 1} → statement M
 settle-next-spec =
