@@ -1,5 +1,4 @@
 // Graphs as neighbour words: local complementation, the edges between two sets flipped, and pivots.
-use words::flip;
 use words::has;
 use words::single;
 use words::smallest;
@@ -14,21 +13,6 @@ ghost use Rattle.graph.specs.internal.Joined.{joinedBy};
 ghost use Rattle.graph.specs.internal.NeighbourWords.{SameGraph};
 ghost use Rattle.graph.specs.NeighbourWords.{graphIn};
 ghost use Rattle.words.specs.Bits.{_⊕_, bit};
-
-// Complements the graph at vertex a: every edge between two neighbours of a is flipped, by one xor for each of them.
-pub fn complement_words(neighbours: &mut [u64], a: usize)
-    requires { ⌜ (length (now neighbours) ≤ 64) × (a < length (now neighbours)) ⌝ }
-    requires { ⌜ Simple (length (now neighbours)) (graphIn (now neighbours)) ⌝ }
-    ensures { λ r. ⌜ SameGraph (graphIn (now (neighbours .exit))) (complement (graphIn (now (neighbours .entry))) a) ⌝ }
-{
-    let around = neighbours[a];
-    let mut rest = around;
-    while rest != 0 {
-        let i = smallest(rest);
-        neighbours[i] = neighbours[i] ^ flip(around, i);
-        rest = without_smallest(rest);
-    }
-}
 
 // The word of vertex i with its edges between the two sets flipped.
 fn joined_word(word: u64, to_a: u64, to_b: u64, i: usize) -> u64

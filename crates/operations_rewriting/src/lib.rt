@@ -1,8 +1,8 @@
 // Complements and pivots of a record in its buffers.
-use graph::complement_words;
 use graph::pivot_words;
 use operations::compose;
 use operations::compose_fixed;
+use words::flip;
 use words::smallest;
 use words::without_smallest;
 ghost use mathlib.Core.Bool.{_||_, cond, true};
@@ -13,6 +13,9 @@ ghost use lib.ListN.{getD, length};
 ghost use Rattle.buffers.specs.Buffers.{tabulate};
 ghost use Rattle.clifford.specs.Clifford.{cliffordOf, codeOf, then};
 ghost use Rattle.clifford.specs.Vectors.{codesOf};
+ghost use Rattle.graph.specs.Graph.{complement};
+ghost use Rattle.graph.specs.internal.NeighbourWords.{SameGraph};
+ghost use Rattle.graph.specs.NeighbourWords.{graphIn};
 ghost use Rattle.operations.specs.internal.InPlace.{Rewritten, Unrefused, recordIn};
 ghost use Rattle.operations.specs.Steps.{pivotRecord};
 ghost use Rattle.record.specs.Records.{complementRecord};
@@ -46,14 +49,33 @@ pub fn recode(neighbours: &[u64], codes: &mut [u8], a: usize, own: u8, near: u8)
     codes[a] = first;
 }
 
+// Every edge between two neighbours of a is flipped, by one xor for each of them, and 6 comes before its code.
+fn complement_around(neighbours: &mut [u64], codes: &mut [u8], a: usize)
+    requires { ⌜ Unrefused (recordIn (now neighbours) (now codes)) × (a < length (now neighbours)) ⌝ }
+    ensures { λ r. ⌜ SameGraph (graphIn (now (neighbours .exit))) (complement (graphIn (now (neighbours .entry))) a) ⌝ }
+    ensures { λ r. ⌜ now (codes .exit) ≡ tabulate (length (now (codes .entry))) (λ q. codeOf (cond
+        (bit (getD (now (neighbours .entry)) a 0) q)
+        (then (cliffordOf 6) (codesOf (now (codes .entry)) q)) (codesOf (now (codes .entry)) q))) ⌝ }
+{
+    let around = neighbours[a];
+    let mut rest = around;
+    while rest != 0 {
+        let i = smallest(rest);
+        codes[i] = compose_fixed(6, codes[i]);
+        neighbours[i] = neighbours[i] ^ flip(around, i);
+        rest = without_smallest(rest);
+    }
+}
+
 // Complements the record at vertex a: 13 before its code, and 6 before those of its neighbours.
 pub fn complement_record(neighbours: &mut [u64], codes: &mut [u8], a: usize)
     requires { ⌜ Unrefused (recordIn (now neighbours) (now codes)) × (a < length (now neighbours)) ⌝ }
     ensures { λ r. ⌜ Rewritten (now (neighbours .entry)) (now (codes .entry)) (λ g. complementRecord g a)
         (now (neighbours .exit)) (now (codes .exit)) ⌝ }
 {
-    recode(neighbours, codes, a, 13, 6);
-    complement_words(neighbours, a);
+    let first = compose_fixed(13, codes[a]);
+    complement_around(neighbours, codes, a);
+    codes[a] = first;
 }
 
 // The codes after a pivot on j and k: 11 before theirs, and 2 before those of their other neighbours.
