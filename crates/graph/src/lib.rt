@@ -1,4 +1,4 @@
-// Graphs as neighbour words: local complementation, the edges between two sets flipped, and pivots.
+// Graphs as neighbour words: the edges between two sets flipped, and pivots.
 use words::has;
 use words::single;
 use words::smallest;
