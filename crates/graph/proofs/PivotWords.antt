@@ -17,7 +17,7 @@ use Rattle.graph.specs.NeighbourWords.{graphIn}
 
 module _ (words : List ℕ) (S : Simple (length words) (graphIn words)) where
   -- a vertex and its neighbours, as the code makes the word
-  closed-at : (v s : ℕ) → s ≡ 2 ^ v → (q : ℕ) → bit (bitOr (getD words v 0) s) q ≡ closed (graphIn words) v q
+  pub closed-at : (v s : ℕ) → s ≡ 2 ^ v → (q : ℕ) → bit (bitOr (getD words v 0) s) q ≡ closed (graphIn words) v q
   closed-at v s e q =
       bit-or (getD words v 0) s q
       ∙ ap (λ b. graphIn words v q || b) (ap (λ w. bit w q) e ∙ bit-single v q)

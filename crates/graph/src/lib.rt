@@ -1,37 +1,19 @@
-// Graphs as neighbour words: local complementation, the edges between two sets flipped, and pivots.
-use words::flip;
+// Graphs as neighbour words: the edges between two sets flipped.
 use words::has;
-use words::single;
 use words::smallest;
 use words::where_true;
 use words::without_smallest;
-ghost use mathlib.Core.Bool.{_&&_, true};
+ghost use mathlib.Core.Bool.{_&&_};
 ghost use mathlib.Core.Path.{_≡_};
 ghost use Prim.Native.Nat.{ℕ, _<_, _≤_, _^_};
 ghost use lib.ListN.{length};
-ghost use Rattle.graph.specs.Graph.{Simple, complement};
 ghost use Rattle.graph.specs.internal.Joined.{joinedBy};
 ghost use Rattle.graph.specs.internal.NeighbourWords.{SameGraph};
 ghost use Rattle.graph.specs.NeighbourWords.{graphIn};
 ghost use Rattle.words.specs.Bits.{_⊕_, bit};
 
-// Complements the graph at vertex a: every edge between two neighbours of a is flipped, by one xor for each of them.
-pub fn complement_words(neighbours: &mut [u64], a: usize)
-    requires { ⌜ (length (now neighbours) ≤ 64) × (a < length (now neighbours)) ⌝ }
-    requires { ⌜ Simple (length (now neighbours)) (graphIn (now neighbours)) ⌝ }
-    ensures { λ r. ⌜ SameGraph (graphIn (now (neighbours .exit))) (complement (graphIn (now (neighbours .entry))) a) ⌝ }
-{
-    let around = neighbours[a];
-    let mut rest = around;
-    while rest != 0 {
-        let i = smallest(rest);
-        neighbours[i] = neighbours[i] ^ flip(around, i);
-        rest = without_smallest(rest);
-    }
-}
-
 // The word of vertex i with its edges between the two sets flipped.
-fn joined_word(word: u64, to_a: u64, to_b: u64, i: usize) -> u64
+pub fn joined_word(word: u64, to_a: u64, to_b: u64, i: usize) -> u64
     requires { ⌜ i < 64 ⌝ }
     ensures { λ r. ⌜ ((l : ℕ) → bit r l
         ≡ bit word l ⊕ ((bit «to_a» i && bit «to_b» l) ⊕ (bit «to_b» i && bit «to_a» l))) ⌝ }
@@ -52,18 +34,4 @@ pub fn join_sets(neighbours: &mut [u64], to_a: u64, to_b: u64)
         neighbours[i] = joined_word(neighbours[i], to_a, to_b, i);
         rest = without_smallest(rest);
     }
-}
-
-// Pivots the graph on the edge j, k: complementing at j, k and j flips the edges between j with its neighbours and k with
-// its neighbours.
-pub fn pivot_words(neighbours: &mut [u64], j: usize, k: usize)
-    requires { ⌜ (length (now neighbours) ≤ 64) × (j < length (now neighbours)) × (k < length (now neighbours)) ⌝ }
-    requires { ⌜ Simple (length (now neighbours)) (graphIn (now neighbours)) ⌝ }
-    requires { ⌜ graphIn (now neighbours) j k ≡ true ⌝ }
-    ensures { λ r. ⌜ SameGraph (graphIn (now (neighbours .exit)))
-        (complement (complement (complement (graphIn (now (neighbours .entry))) j) k) j) ⌝ }
-{
-    let to_j = neighbours[j] | single(j);
-    let to_k = neighbours[k] | single(k);
-    join_sets(neighbours, to_j, to_k);
 }

@@ -1,7 +1,7 @@
--- A pivot on the buffers of a record: what its two calls leave.
-use mathlib.Core.Bool.{cond, false, true}
+-- A pivot on the buffers of a record: what its loop leaves.
+use mathlib.Core.Bool.{cond, false, or-false, true, _||_}
 use mathlib.Core.List.{List}
-use mathlib.Core.Path.{ap, subst, sym, _∙_, _≡_}
+use mathlib.Core.Path.{ap, ap₂, subst, sym, _∙_, _≡_}
 use Prim.Native.Nat.{_<_, _^_, ℕ, _≤_}
 use native.Mathlib.Decide.{ℕ-discrete}
 use lib.Bits.{bitOr, or-lt}
@@ -12,6 +12,7 @@ use Rattle.buffers.proofs.Tabulate.{tabulate-at, tabulate-cong, tabulate-is, ta
 use Rattle.buffers.specs.Buffers.{tabulate}
 use Rattle.clifford.specs.Clifford.{cliffordOf, codeOf, identityClifford, then}
 use Rattle.clifford.specs.Vectors.{codesOf}
+use Rattle.graph.proofs.PivotWords.{closed-at}
 use Rattle.graph.specs.Graph.{Simple, complement}
 use Rattle.graph.specs.internal.NeighbourWords.{SameGraph}
 use Rattle.graph.specs.NeighbourWords.{graphIn}
@@ -32,42 +33,57 @@ use Rattle.words.proofs.BitLaws.{bit-or}
 use Rattle.words.proofs.Places.{other-place, same-place}
 use Rattle.words.specs.Bits.{bit}
 use Rattle.operations_rewriting.proofs.PivotCodes.{pivot-code, pivotedCode}
-use Rattle.operations_rewriting.proofs.Recoding.{around-below, written}
+use Rattle.operations_rewriting.proofs.Recoding.{written}
+
+-- two sets of vertices, as one
+pub both-below : (words codes : List ℕ) → Unrefused (recordIn words codes) → (v w : ℕ) → v < 2 ^ (length words)
+    → w < 2 ^ (length words) → bitOr v w < 2 ^ (length codes)
+both-below words codes U v w hv hw = subst (λ m. bitOr v w < 2 ^ m) (sym (unrefused-long words codes U))
+    (or-lt (length words) v w hv hw)
 
 module _ (words codes : List ℕ) (U : Unrefused (recordIn words codes)) (j k : ℕ) (hj : j < length words)
     (hk : k < length words) where
-  pub both-below : bitOr (getD words j 0) (getD words k 0) < 2 ^ (length codes)
-  both-below = or-lt (length codes) (getD words j 0) (getD words k 0) (around-below words codes U j hj)
-      (around-below words codes U k hk)
-
   abbrev new : ℕ → ℕ
   new q = codeOf (pivotedCode (eqb q j) (eqb q k) (bit (getD words j 0) q) (bit (getD words k 0) q) (codesOf codes q))
 
+  -- j and k apart, their closed neighbourhoods are their neighbours
+  around : (s t : ℕ) → s ≡ 2 ^ j → t ≡ 2 ^ k → (q : ℕ) → (q ≡ j → ⊥) → (q ≡ k → ⊥)
+      → bit (bitOr (bitOr (getD words j 0) s) (bitOr (getD words k 0) t)) q
+      ≡ (bit (getD words j 0) q || bit (getD words k 0) q)
+  around s t es et q dj dk =
+      bit-or (bitOr (getD words j 0) s) (bitOr (getD words k 0) t) q
+      ∙ ap₂ _||_ (apart j s es dj) (apart k t et dk)
+    where
+      apart : (v r : ℕ) → r ≡ 2 ^ v → (q ≡ v → ⊥) → bit (bitOr (getD words v 0) r) q ≡ bit (getD words v 0) q
+      apart v r e d = closed-at words (unrefused-simple words codes U) v r e q
+          ∙ ap (λ b. bit (getD words v 0) q || b) (other-place d) ∙ or-false (bit (getD words v 0) q)
+
   -- the codes of j and k stored after those of their neighbours
-  pub both-recoded : (codes₁ : List ℕ) (v w : ℕ) → v ≡ codeOf (then (cliffordOf 11) (codesOf codes j))
-      → w ≡ codeOf (then (cliffordOf 11) (codesOf codes k))
-      → codes₁ ≡ tabulate (length codes) (λ q. codeOf (cond (bit (bitOr (getD words j 0) (getD words k 0)) q)
+  pub both-recoded : (s t : ℕ) → s ≡ 2 ^ j → t ≡ 2 ^ k → (codes₁ : List ℕ) (v w : ℕ)
+      → v ≡ codeOf (then (cliffordOf 11) (codesOf codes j)) → w ≡ codeOf (then (cliffordOf 11) (codesOf codes k))
+      → codes₁ ≡ tabulate (length codes) (λ q. codeOf (cond
+      (bit (bitOr (bitOr (getD words j 0) s) (bitOr (getD words k 0) t)) q)
       (then (cliffordOf 2) (codesOf codes q)) (codesOf codes q)))
       → set (set codes₁ j v) k w ≡ tabulate (length words) (λ q. codeOf (pivotedCode (eqb q j) (eqb q k)
       (bit (getD words j 0) q) (bit (getD words k 0) q) (codesOf codes q)))
-  both-recoded codes₁ v w ev ew e₁ =
+  both-recoded s t es et codes₁ v w ev ew e₁ =
       tabulate-is (length words) new (set (set codes₁ j v) k w)
       (length-set (set codes₁ j v) k w ∙ length-set codes₁ j v ∙ long₁) place
     where
       long₁ : length codes₁ ≡ length words
       long₁ = ap length e₁ ∙ tabulate-length (length codes) _ ∙ unrefused-long words codes U
 
-      stored : (q : ℕ) → q < length words → Dec (q ≡ j) → getD (set codes₁ j v) q 0
+      stored : (q : ℕ) → q < length words → (q ≡ k → ⊥) → Dec (q ≡ j) → getD (set codes₁ j v) q 0
           ≡ codeOf (pivotedCode (eqb q j) false (bit (getD words j 0) q) (bit (getD words k 0) q) (codesOf codes q))
-      stored q l (yes d) = subst (λ m. getD (set codes₁ j v) m 0
+      stored q l dk (yes d) = subst (λ m. getD (set codes₁ j v) m 0
           ≡ codeOf (pivotedCode (eqb m j) false (bit (getD words j 0) m) (bit (getD words k 0) m) (codesOf codes m))) (sym d)
           (getD-set-same codes₁ j v 0 (subst (λ m. j < m) (sym long₁) hj) ∙ ev
           ∙ ap (λ b. codeOf (pivotedCode b false (bit (getD words j 0) j) (bit (getD words k 0) j) (codesOf codes j)))
           (sym (same-place j)))
-      stored q l (no d) = getD-set-other codes₁ j q v 0 d ∙ ap (λ m. getD m q 0) e₁
+      stored q l dk (no d) = getD-set-other codes₁ j q v 0 d ∙ ap (λ m. getD m q 0) e₁
           ∙ tabulate-at (length codes) _ q (subst (λ m. q < m) (sym (unrefused-long words codes U)) l)
           ∙ ap (λ b. codeOf (cond b (then (cliffordOf 2) (codesOf codes q)) (codesOf codes q)))
-          (bit-or (getD words j 0) (getD words k 0) q)
+          (around s t es et q d dk)
           ∙ ap (λ b. codeOf (pivotedCode b false (bit (getD words j 0) q) (bit (getD words k 0) q) (codesOf codes q)))
           (sym (other-place d))
 
@@ -77,7 +93,7 @@ module _ (words codes : List ℕ) (U : Unrefused (recordIn words codes)) (j k : 
             (getD-set-same (set codes₁ j v) k w 0 (subst (λ m. k < m) (sym (length-set codes₁ j v ∙ long₁)) hk) ∙ ew
             ∙ ap (λ b. codeOf (pivotedCode (eqb k j) b (bit (getD words j 0) k) (bit (getD words k 0) k) (codesOf codes k)))
             (sym (same-place k)))
-        | no d ↦ getD-set-other (set codes₁ j v) k q w 0 d ∙ stored q l (ℕ-discrete q j)
+        | no d ↦ getD-set-other (set codes₁ j v) k q w 0 d ∙ stored q l d (ℕ-discrete q j)
             ∙ ap (λ b. codeOf (pivotedCode (eqb q j) b (bit (getD words j 0) q) (bit (getD words k 0) q) (codesOf codes q)))
             (sym (other-place d))
       ]

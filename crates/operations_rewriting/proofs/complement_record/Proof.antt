@@ -1,28 +1,43 @@
 -- `complement_record` meets its contract: complements the record at vertex a: 13 before its code, and 6 before those of
 -- its neighbours.
+use mathlib.Core.Path.{subst, sym}
+use Prim.Native.Nat.{_<_}
 use lib.Dec.{lit<}
 use borrow.Author.Needs.{needs}
-use Rattle.operations.proofs.UnrefusedRecords.{unrefused-short, unrefused-simple}
-use Rattle.operations_rewriting.proofs.Recoding.{complemented}
+use Rattle.operations.proofs.UnrefusedRecords.{unrefused-codes, unrefused-place}
+use Rattle.operations_rewriting.proofs.Recoding.{complemented, recoded-all}
 use Rattle.operations_rewriting.proofs.complement_record.Statement.{statement}
 use Rattle.operations_rewriting.proofs.complement_record.Tie as tie
 
-recode-requires : tie.Need-recode-requires
-recode-requires c κs = (c .before .before .before .before .pre, (lit< tt, lit< tt))
+slice-read-compose-fixed : tie.Need-slice-read-compose-fixed
+slice-read-compose-fixed c =
+    let start = c .before .before .before .pre in
+    unrefused-place _ _ (start .0) _ (start .1)
 
-complement-words-requires : tie.Need-complement-words-requires
-complement-words-requires c κs =
-    let start = c .before .before .before .before .before .before .before .before .pre in
-    ((unrefused-short _ _ (start .0), start .1), unrefused-simple _ _ (start .0))
+compose-fixed-requires : tie.Need-compose-fixed-requires
+compose-fixed-requires c κs =
+    let start = c .before .before .before .pre in
+    (lit< tt, unrefused-codes _ _ (start .0) .1 _)
+
+slice-write-codes : tie.Need-slice-write-codes
+slice-write-codes c =
+    let at-around = c .before .before .before .before in
+    let begun = at-around .before .before .before .before .before .before .before in
+    subst (λ m. begun .args .a < m) (sym (at-around .complement-around .kept .1 .0))
+    (unrefused-place _ _ (begun .pre .0) _ (begun .pre .1))
 
 returns : tie.Need-returns
 returns c =
-    let at-words = c .before .before in
-    let at-recode = at-words .before .before .before .before in
-    let begun = at-recode .before .before .before .before .before in
-    complemented _ _ (begun .pre .0) (begun .args .a) (begun .pre .1) _ _ (at-recode .recode .ensures)
-    (at-words .complement-words .kept .0) (at-words .complement-words .ensures)
+    let at-around = c .before .before .before .before in
+    let at-compose = at-around .before .before .before in
+    let begun = at-compose .before .before .before .before in
+    let known = at-around .complement-around in
+    complemented _ _ (begun .pre .0) (begun .args .a) (begun .pre .1) _ _
+    (recoded-all _ _ (begun .pre .0) (begun .args .a) (begun .pre .1) 13 6 _ _ (at-compose .compose-fixed .ensures .0)
+    (known .ensures .1)) (known .kept .0) (known .ensures .0)
 
 pub complement-record-spec : {M : Type 1} → statement M
 complement-record-spec =
-    tie.close (tie.spec recode-requires complement-words-requires (λ c. search needs) (λ c. search needs) returns)
+    tie.close
+    (tie.spec slice-read-compose-fixed compose-fixed-requires (λ c κs. search needs) slice-write-codes (λ c. search needs)
+    (λ c. search needs) returns)
