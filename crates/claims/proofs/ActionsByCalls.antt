@@ -2,12 +2,12 @@
 use mathlib.Core.Bool.{Bool, cond, false, not, true, _||_}
 use mathlib.Core.List.{List}
 use mathlib.Core.Path.{ap, ap₂, refl, sym, _∙_, _≡_}
-use Prim.Native.Nat.{_%_, _+_, _/_, ℕ}
+use Prim.Native.Nat.{ℕ}
 use lib.Dec.{eqb}
 use lib.ListN.{length}
 use borrow.Author.Tests.{eq-eqb, ne-eqb}
 use Rattle.buffers.specs.Buffers.{accepted}
-use Rattle.buffers.specs.Refusals.{firstFitting, otherThan}
+use Rattle.buffers.specs.Refusals.{firstFitting}
 use Rattle.call_gates.specs.InPlaceCalls.{usedCall, usedMeasureCall}
 use Rattle.call_store.specs.StoreCalls.{forgetCall, heldUnder, returnCall, saveCall}
 use Rattle.contracts.specs.Calls.{Call}

@@ -4,6 +4,7 @@ use mathlib.Core.Bool.{Bool, false, not, true, true≢false, _||_}
 use mathlib.Core.Logic.{_↔_, _≢_}
 use mathlib.Core.Path.{_≡_, _∙_, ap, refl, sym}
 use Prim.Native.Nat.{_<_, ℕ, _≤_}
+use native.Mathlib.Nat.{pos-of-ne-zero}
 use native.Mathlib.Omega.{arith}
 use lib.Dec.{eqb, leb, lit<}
 use borrow.Author.Tests.{eqb-false, ne-eqb, not-false}
@@ -87,7 +88,7 @@ module _ (l : LentRecord) where
           let t = neither (leb 2 b) _ (h .1) in
           let u = neither (eqb pauli 0) _ (t .1) in (
             h .0,
-            not-zero pauli (eqb-false pauli 0 (u .0)),
+            pos-of-ne-zero (eqb-false pauli 0 (u .0)),
             omega (arith, below-exactly 4 pauli .0 (u .1)),
             below-exactly (l .n) q .0 (h .2),
             below-exactly 2 b .0 (t .0),
@@ -102,9 +103,6 @@ module _ (l : LentRecord) where
       where
         six : Bool
         six = leb 2 b || (eqb pauli 0 || leb 4 pauli)
-
-        not-zero : (p : ℕ) → p ≢ 0 → 1 ≤ p
-        not-zero p h = omega (arith, h)
 
         some : (p : ℕ) → 1 ≤ p → p ≢ 0
         some p h e = omega (arith, h, e)

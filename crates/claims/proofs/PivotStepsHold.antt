@@ -6,7 +6,7 @@ use mathlib.Core.Path.{_∙_, _≡_, ap, ap₂, refl, subst, sym}
 use Prim.Native.Nat.{_<_, ℕ}
 use native.Mathlib.Omega.{arith}
 use lib.Dec.{eqb, lit<}
-use borrow.Author.Tests.{eq-eqb, eqb-true}
+use borrow.Author.Tests.{eq-eqb, eqb-true, not-false}
 use Rattle.buffers.proofs.Lines.{first-below}
 use Rattle.buffers.specs.Refusals.{firstFitting, withTest}
 use Rattle.call_gates.specs.InPlaceCalls.{usedCall}
@@ -233,13 +233,9 @@ pivots-run u a b value e = (as-complements u a b value e, leaves-so u a b value 
 
 pub pivots-accepted : PivotsAccepted
 pivots-accepted u a b value = (
-  (λ e. (eqb-true value 0 (not-set (eqb value 0) (accepted-unset u (pivotStep a b value) e)), pivot-fits u a b value e)),
+  (λ e. (eqb-true value 0 (not-false (eqb value 0) (accepted-unset u (pivotStep a b value) e)), pivot-fits u a b value e)),
   (λ h. number-of-operation u (pivotStep a b value) (ap not (eq-eqb value 0 (h .0))) ∙ used-pivot u a b .1 (h .1)),
 )
-  where
-    not-set : (t : Bool) → not t ≡ false → t ≡ true
-    not-set true h = refl
-    not-set false h = sym h
 
 pub pivots-refused : PivotsRefused
 pivots-refused u a b value h = refused-keeps u (pivotStep a b value) h

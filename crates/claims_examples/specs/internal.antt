@@ -1,4 +1,2 @@
 pub mod Examples
-pub mod JobTable
-pub mod SessionTable
 pub mod Table

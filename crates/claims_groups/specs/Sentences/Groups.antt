@@ -10,7 +10,6 @@ use Rattle.call_group_stores.specs.GroupStoreCalls.{groupForgetCall, groupRetur
 use Rattle.call_groups.specs.GroupCalls.{groupCall, groupMeasureCall}
 use Rattle.claims.specs.ActionContracts.{session}
 use Rattle.claims.specs.Conforming.{Answered}
-use Rattle.claims.specs.StoreDemand.{Session}
 use Rattle.claims.specs.UsedDemand.{leftUsed}
 use Rattle.claims.specs.families.Groups.{GroupNameFits, GroupSaveFits, Own, TwoGroups}
 use Rattle.claims.specs.families.Records.{ComplementFits, CzFits, GateFits, MeasureFits}

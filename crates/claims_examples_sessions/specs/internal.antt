@@ -1,0 +1,2 @@
+pub mod JobTable
+pub mod SessionTable
