@@ -1,13 +1,14 @@
 -- A vertex isolated in the buffers of a record.
-use mathlib.Core.Bool.{_&&_, Bool, and-false, cond, false, not, true}
+use mathlib.Core.Bool.{_&&_, Bool, cond, false, not, true}
 use mathlib.Core.List.{List}
 use mathlib.Core.Path.{ap, fun-ext, refl, subst, sym, _∙_, _≡_}
-use Prim.Native.Nat.{_*_, _+_, _<_, _^_, ℕ, _≤_}
+use Prim.Native.Nat.{_*_, _+_, _<_, _^_, ℕ}
 use lib.Dec.{eqb}
 use lib.ListN.{getD, length, length-set, set}
 use lib.Seq.{getD-set-other, getD-set-same}
 use Rattle.buffers.proofs.Tabulate.{tabulate-at, tabulate-is, tabulate-length}
 use Rattle.buffers.specs.Buffers.{tabulate}
+use Rattle.clifford.proofs.CliffordLaws.{codeOf-cliffordOf}
 use Rattle.clifford.specs.Clifford.{cliffordOf, codeOf, then}
 use Rattle.clifford.specs.Vectors.{codesOf}
 use Rattle.graph.specs.Graph.{Simple}
@@ -15,11 +16,11 @@ use Rattle.graph.specs.internal.NeighbourWords.{SameGraph}
 use Rattle.graph.specs.NeighbourWords.{graphIn}
 use Rattle.graph_steps.proofs.Places.{z-before}
 use Rattle.graph_steps.specs.internal.Steps.{isolated, hadamardCode, pauliCode}
-use Rattle.operations.proofs.UnrefusedRecords.{unrefused-long, unrefused-simple}
+use Rattle.operations.proofs.UnrefusedRecords.{unrefused-codes, unrefused-long, unrefused-simple}
 use Rattle.operations.specs.internal.InPlace.{Rewritten, Unrefused, recordIn}
 use Rattle.record.specs.Lent.{heldRecord}
 use Rattle.record.specs.Records.{GraphRecord}
-use Rattle.words.proofs.BitLaws.{lt-of-bits, wordOf-bit}
+use Rattle.words.proofs.BitLaws.{lt-of-bits, wordOf-bit, zero-bit}
 use Rattle.words.proofs.Places.{put-all}
 use Rattle.words.specs.Bits.{bit, digit, wordOf}
 use Rattle.operations_measurements.proofs.RemovedEdges.{partedFrom}
@@ -45,12 +46,8 @@ module _ (words codes : List ℕ) (U : Unrefused (recordIn words codes)) (q : �
   simple : Simple (length words) ((heldRecord (recordIn words codes)) .graph)
   simple = unrefused-simple words codes U
 
-  -- the word of the vertices that get Z
-  pub turned-below : (w : ℕ) → ((j : ℕ) → bit w j ≡ (t && bit (getD words q 0) j)) → w < 2 ^ (length codes)
-  turned-below w h = lt-of-bits (length codes) w (λ j l. h j
-      ∙ ap (λ b. t && b) (simple .below q j (subst (λ m. m ≤ j) (unrefused-long words codes U) l)) ∙ and-false t)
-
-  pub isolated-written : (w : ℕ) (codes₁ words′ codes′ : List ℕ) (v : ℕ) → q < length codes
+  -- the word w has the vertices that get Z
+  isolated-written : (w : ℕ) (codes₁ words′ codes′ : List ℕ) (v : ℕ) → q < length codes
       → ((j : ℕ) → bit w j ≡ (t && bit (getD words q 0) j))
       → codes₁ ≡ tabulate (length codes)
       (λ j. codeOf (cond (bit w j) (then (cliffordOf 2) (codesOf codes j)) (codesOf codes j)))
@@ -79,3 +76,24 @@ module _ (words codes : List ℕ) (U : Unrefused (recordIn words codes)) (q : �
           (λ d. getD-set-other codes₁ q j v 0 d ∙ ap (λ c. getD c j 0) e₁ ∙ tabulate-at (length codes) _ j l
           ∙ ap codeOf (z-before (bit w j) (codesOf codes j)
           ∙ ap (λ b. then (pauliCode false b) (codesOf codes j)) (hw j)))
+
+  -- where t is true these are the neighbours of q
+  pub isolated-turning : t ≡ true → (codes₁ words′ codes′ : List ℕ) (v : ℕ) → q < length codes
+      → codes₁ ≡ tabulate (length codes)
+      (λ j. codeOf (cond (bit (getD words q 0) j) (then (cliffordOf 2) (codesOf codes j)) (codesOf codes j)))
+      → v ≡ codeOf (then (hadamardCode t) (codesOf codes q)) → codes′ ≡ set codes₁ q v
+      → length words′ ≡ length words → SameGraph (graphIn words′) (partedFrom (graphIn words) q)
+      → Rewritten words codes (λ g. isolated g q t) words′ codes′
+  isolated-turning e codes₁ words′ codes′ v hq = isolated-written (getD words q 0) codes₁ words′ codes′ v hq
+      (λ j. ap (λ b. b && bit (getD words q 0) j) (sym e))
+
+  -- and where it is false there are none
+  pub isolated-alone : t ≡ false → (words′ codes′ : List ℕ) (v : ℕ) → q < length codes
+      → v ≡ codeOf (then (hadamardCode t) (codesOf codes q)) → codes′ ≡ set codes q v
+      → length words′ ≡ length words → SameGraph (graphIn words′) (partedFrom (graphIn words) q)
+      → Rewritten words codes (λ g. isolated g q t) words′ codes′
+  isolated-alone e words′ codes′ v hq = isolated-written 0 codes words′ codes′ v hq
+      (λ j. zero-bit j ∙ ap (λ b. b && bit (getD words q 0) j) (sym e))
+      (tabulate-is (length codes) _ codes refl
+      (λ j l. sym (ap (λ b. codeOf (cond b (then (cliffordOf 2) (codesOf codes j)) (codesOf codes j))) (zero-bit j)
+      ∙ codeOf-cliffordOf (getD codes j 0) (unrefused-codes words codes U .1 j))))

@@ -2,23 +2,23 @@
 use buffers::sign_digit;
 use clifford::Code;
 use operations::compose;
+use operations::compose_fixed;
 use operations_rewriting::complement_record;
 use operations_rewriting::pivot_record;
-use operations_rewriting::put_before;
 use pauli::Letter;
 use pauli::x_bit;
 use pauli::z_bit;
 use words::largest;
 use words::single;
 use words::smallest;
-use words::where_true;
 use words::without_smallest;
-ghost use mathlib.Core.Bool.{_&&_, not, true};
+ghost use mathlib.Core.Bool.{_&&_, cond, not, true};
 ghost use mathlib.Core.Logic.{_↔_};
 ghost use mathlib.Core.Path.{_≡_};
 ghost use Prim.Native.Nat.{_<_, _≤_};
 ghost use lib.Dec.{eqb};
 ghost use lib.ListN.{getD, length};
+ghost use Rattle.buffers.specs.Buffers.{tabulate};
 ghost use Rattle.clifford.specs.Clifford.{cliffordOf, codeOf, image, then};
 ghost use Rattle.clifford.specs.Vectors.{codesOf};
 ghost use Rattle.graph.specs.Graph.{Simple};
@@ -28,6 +28,7 @@ ghost use Rattle.graph_steps.specs.internal.KeptGroups.{BroughtToZ};
 ghost use Rattle.graph_steps.specs.internal.Steps.{isolated, hadamardCode};
 ghost use Rattle.operations.specs.internal.InPlace.{Rewritten, Unrefused, recordIn};
 ghost use Rattle.pauli.specs.declared.Letter.the-variants.{I, X};
+ghost use Rattle.words.specs.Bits.{bit};
 
 // Whether the code sends a letter to plus or minus another.
 fn sends(code: u8, from: Letter, to: Letter) -> bool
@@ -77,6 +78,26 @@ fn remove_edges(neighbours: &mut [u64], q: usize)
     neighbours[q] = 0;
 }
 
+// The edges at q removed, and 2, which is Z, before the codes of its neighbours.
+fn remove_turning(neighbours: &mut [u64], codes: &mut [u8], q: usize)
+    requires { ⌜ Unrefused (recordIn (now neighbours) (now codes)) × (q < length (now neighbours)) ⌝ }
+    ensures { λ r. ⌜ SameGraph (graphIn (now (neighbours .exit)))
+        (λ k l. graphIn (now (neighbours .entry)) k l && (not (eqb k q) && not (eqb l q))) ⌝ }
+    ensures { λ r. ⌜ now (codes .exit) ≡ tabulate (length (now (codes .entry))) (λ k. codeOf (cond
+        (bit (getD (now (neighbours .entry)) q 0) k)
+        (then (cliffordOf 2) (codesOf (now (codes .entry)) k)) (codesOf (now (codes .entry)) k))) ⌝ }
+{
+    let away = single(q);
+    let mut rest = neighbours[q];
+    while rest != 0 {
+        let i = smallest(rest);
+        codes[i] = compose_fixed(2, codes[i]);
+        neighbours[i] = neighbours[i] ^ away;
+        rest = without_smallest(rest);
+    }
+    neighbours[q] = 0;
+}
+
 // The code with a Hadamard before it, and a sign t for the image of X.
 fn with_hadamard(t: bool, code: u8) -> u8
     requires { ⌜ code < 24 ⌝ }
@@ -91,9 +112,12 @@ pub fn isolate(neighbours: &mut [u64], codes: &mut [u8], q: usize, t: bool)
     ensures { λ r. ⌜ Rewritten (now (neighbours .entry)) (now (codes .entry)) (λ g. isolated g q t)
         (now (neighbours .exit)) (now (codes .exit)) ⌝ }
 {
-    let around = neighbours[q];
-    let code = codes[q];
-    put_before(codes, where_true(t, around), 2);
-    codes[q] = with_hadamard(t, code);
+    let own = with_hadamard(t, codes[q]);
+    if t {
+        remove_turning(neighbours, codes, q);
+        codes[q] = own;
+        return;
+    }
     remove_edges(neighbours, q);
+    codes[q] = own;
 }
