@@ -136,7 +136,7 @@
  *   (examples/c/run.c).
  * Threads: no call keeps anything between calls. Two threads may call at once, each with buffers
  *   of its own for what is not const.
- * Stack: a call takes at most 14 kB, and no heap (measured, not proved: docs/SPEED.md). */
+ * Stack: a call takes at most 10 kB, and no heap (measured, not proved: docs/SPEED.md). */
 
 /* What a refusal number means, in words. */
 static inline const char *sukhlent_refusal_text(uint8_t number)
