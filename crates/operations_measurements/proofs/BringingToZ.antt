@@ -1,8 +1,8 @@
 -- A pivot or a complementation that turns the code at a vertex towards a letter.
-use mathlib.Core.Bool.{Bool, cond, false, true, true≢false, _||_}
+use mathlib.Core.Bool.{cond, false, true, true≢false, _||_}
 use mathlib.Core.List.{List}
-use mathlib.Core.Logic.{inl, inr, _↔_}
-use mathlib.Core.Path.{ap, sym, _∙_, _≡_}
+use mathlib.Core.Logic.{inl, inr}
+use mathlib.Core.Path.{ap, refl, sym, _∙_, _≡_}
 use Prim.Native.Nat.{_<_, _^_, ℕ}
 use lib.Dec.{eqb}
 use lib.ListN.{getD, length}
@@ -17,8 +17,7 @@ use Rattle.operations.specs.Steps.{pivotRecord}
 use Rattle.operations_rewriting.proofs.ComplementedRecords.{complemented-held}
 use Rattle.operations_rewriting.proofs.PivotCodes.{pivot-code, pivotedCode}
 use Rattle.operations_rewriting.proofs.PivotedRecords.{pivoted-held}
-use Rattle.pauli.specs.declared.Letter.{Letter}
-use Rattle.pauli.specs.declared.Letter.the-variants.{I, X, Z}
+use Rattle.pauli.specs.declared.Letter.the-variants.{X, Y, Z}
 use Rattle.record.proofs.AcceptedRecords.{accepted-record}
 use Rattle.record.specs.Lent.{heldRecord}
 use Rattle.record.specs.Records.{GraphRecord, complementRecord}
@@ -26,10 +25,9 @@ use Rattle.words.proofs.BitLaws.{bit-above}
 use Rattle.words.proofs.Places.{other-place, same-place}
 use Rattle.words.proofs.Sums.{lt-or-ge}
 use Rattle.words.specs.Bits.{bit}
-use Rattle.operations_measurements.proofs.SentLetters.{eleven-z, third, thirteen-z}
+use Rattle.operations_measurements.proofs.SentLetters.{eleven-z, thirteen-z}
 
-module _ (words codes : List ℕ) (U : Unrefused (recordIn words codes)) (q : ℕ) (hq : q < length words)
-    (l : Letter) where
+module _ (words codes : List ℕ) (U : Unrefused (recordIn words codes)) (q : ℕ) (hq : q < length words) where
   abbrev n : ℕ
   n = length words
 
@@ -51,11 +49,11 @@ module _ (words codes : List ℕ) (U : Unrefused (recordIn words codes)) (q : �
     ]
 
     pub brought-by-pivot : (words′ codes′ : List ℕ) → Rewritten words codes (λ g. pivotRecord g q k) words′ codes′
-        → image (codesOf codes q) X ≡ l → BroughtToZ words codes q l words′ codes′
-    brought-by-pivot words′ codes′ R x =
+        → BroughtToZ words codes q (image (codesOf codes q) X) words′ codes′
+    brought-by-pivot words′ codes′ R =
         record {
           kept = pivot-kept words codes U words′ codes′ q k hq neighbour-below R;
-          sends-z = ap (λ c. image c Z) code ∙ eleven-z (r .codes q) ∙ x;
+          sends-z = ap (λ c. image c Z) code ∙ eleven-z (r .codes q);
         }
       where
         code : codesOf codes′ q ≡ then (cliffordOf 11) (r .codes q)
@@ -70,19 +68,15 @@ module _ (words codes : List ℕ) (U : Unrefused (recordIn words codes)) (q : �
             apart d = true≢false (sym edge ∙ ap (bit (getD words q 0)) (sym d) ∙ simple .loopless q)
 
   -- ---- nothing to do, or a complementation at the vertex itself
-  pub brought-already : {t : Bool} → (t ≡ true) ↔ (image (codesOf codes q) Z ≡ l) → t ≡ true
-      → BroughtToZ words codes q l words codes
-  brought-already h e = record { kept = kept-refl words codes U; sends-z = h .0 e }
+  pub brought-already : BroughtToZ words codes q (image (codesOf codes q) Z) words codes
+  brought-already = record { kept = kept-refl words codes U; sends-z = refl }
 
-  pub brought-by-complement : (l ≡ I → ⊥) → {t u : Bool} → (t ≡ true) ↔ (image (codesOf codes q) X ≡ l) → t ≡ false
-      → (u ≡ true) ↔ (image (codesOf codes q) Z ≡ l) → u ≡ false
-      → (words′ codes′ : List ℕ) → Rewritten words codes (λ g. complementRecord g q) words′ codes′
-      → BroughtToZ words codes q l words′ codes′
-  brought-by-complement i hx ex hz ez words′ codes′ R =
+  pub brought-by-complement : (words′ codes′ : List ℕ) → Rewritten words codes (λ g. complementRecord g q) words′ codes′
+      → BroughtToZ words codes q (image (codesOf codes q) Y) words′ codes′
+  brought-by-complement words′ codes′ R =
       record {
         kept = complement-kept words codes U words′ codes′ q hq R;
-        sends-z = ap (λ c. image c Z) code ∙ thirteen-z (r .codes q)
-            ∙ third (r .codes q) l i (λ x. true≢false (sym (hx .1 x) ∙ ex)) (λ z. true≢false (sym (hz .1 z) ∙ ez));
+        sends-z = ap (λ c. image c Z) code ∙ thirteen-z (r .codes q);
       }
     where
       code : codesOf codes′ q ≡ then (cliffordOf 13) (r .codes q)

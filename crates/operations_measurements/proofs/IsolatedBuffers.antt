@@ -22,7 +22,7 @@ use Rattle.record.specs.Lent.{heldRecord}
 use Rattle.record.specs.Records.{GraphRecord}
 use Rattle.words.proofs.BitLaws.{lt-of-bits, wordOf-bit, zero-bit}
 use Rattle.words.proofs.Places.{put-all}
-use Rattle.words.specs.Bits.{bit, digit, wordOf}
+use Rattle.words.specs.Bits.{bit, digit, put, wordOf}
 use Rattle.operations_measurements.proofs.RemovedEdges.{partedFrom}
 
 -- a Hadamard's number
@@ -35,6 +35,26 @@ pub hadamard-by-calls : (t : Bool) (code : ℕ) {a r : ℕ} → a ≡ digit t
     → r ≡ codeOf (then (hadamardCode t) (cliffordOf code))
 hadamard-by-calls t code ea e =
     e ∙ ap (λ k. codeOf (then k (cliffordOf code))) (ap (λ a. cliffordOf (8 + 2 * a)) ea ∙ hadamard-number t)
+
+-- the codes: a Hadamard at q, and Z before those of the vertices that the word w has
+pub turned-written : (codes : List ℕ) (q : ℕ) (t : Bool) (near : ℕ → Bool) (w : ℕ) (codes₁ : List ℕ) (v : ℕ)
+    → q < length codes → ((j : ℕ) → bit w j ≡ (t && near j))
+    → codes₁ ≡ tabulate (length codes)
+    (λ j. codeOf (cond (bit w j) (then (cliffordOf 2) (codesOf codes j)) (codesOf codes j)))
+    → v ≡ codeOf (then (hadamardCode t) (codesOf codes q))
+    → set codes₁ q v ≡ tabulate (length codes) (λ j. codeOf (put
+    (λ j. then (pauliCode false (t && near j)) (codesOf codes j)) q (then (hadamardCode t) (codesOf codes q)) j))
+turned-written codes q t near w codes₁ v hq hw e₁ ev =
+    tabulate-is (length codes) _ (set codes₁ q v) (length-set codes₁ q v ∙ long₁)
+    (λ j l. put-all (λ j c. getD (set codes₁ q v) j 0 ≡ codeOf c)
+    (λ j. then (pauliCode false (t && near j)) (codesOf codes j)) q (then (hadamardCode t) (codesOf codes q))
+    (getD-set-same codes₁ q v 0 (subst (λ m. q < m) (sym long₁) hq) ∙ ev) j
+    (λ d. getD-set-other codes₁ q j v 0 d ∙ ap (λ c. getD c j 0) e₁ ∙ tabulate-at (length codes) _ j l
+    ∙ ap codeOf (z-before (bit w j) (codesOf codes j)
+    ∙ ap (λ b. then (pauliCode false b) (codesOf codes j)) (hw j))))
+  where
+    long₁ : length codes₁ ≡ length codes
+    long₁ = ap length e₁ ∙ tabulate-length (length codes) _
 
 module _ (words codes : List ℕ) (U : Unrefused (recordIn words codes)) (q : ℕ) (t : Bool) where
   abbrev n : ℕ
@@ -58,24 +78,13 @@ module _ (words codes : List ℕ) (U : Unrefused (recordIn words codes)) (q : �
       record {
         neighbours = tabulate-is n _ words′ long
             (λ j l. sym (wordOf-bit n (getD words′ j 0) (below j)) ∙ ap (wordOf n) (fun-ext (edges j)));
-        numbers = tabulate-is n _ codes′ (ap length e′ ∙ length-set codes₁ q v ∙ long₁ ∙ unrefused-long words codes U)
-            (λ j l. place j (subst (λ m. j < m) (sym (unrefused-long words codes U)) l));
+        numbers = e′ ∙ turned-written codes q t (bit (getD words q 0)) w codes₁ v hq hw e₁ ev
+            ∙ ap (λ m. tabulate m (λ j. codeOf ((isolated r q t) .codes j))) (unrefused-long words codes U);
       }
     where
-      long₁ : length codes₁ ≡ length codes
-      long₁ = ap length e₁ ∙ tabulate-length (length codes) _
-
       below : (j : ℕ) → getD words′ j 0 < 2 ^ n
       below j = lt-of-bits n (getD words′ j 0)
           (λ l m. edges j l ∙ ap (λ b. b && (not (eqb j q) && not (eqb l q))) (simple .below j l m))
-
-      place : (j : ℕ) → j < length codes → getD codes′ j 0 ≡ codeOf ((isolated r q t) .codes j)
-      place j l = ap (λ c. getD c j 0) e′
-          ∙ put-all (λ j c. getD (set codes₁ q v) j 0 ≡ codeOf c) _ q (then (hadamardCode t) (r .codes q))
-          (getD-set-same codes₁ q v 0 (subst (λ m. q < m) (sym long₁) hq) ∙ ev) j
-          (λ d. getD-set-other codes₁ q j v 0 d ∙ ap (λ c. getD c j 0) e₁ ∙ tabulate-at (length codes) _ j l
-          ∙ ap codeOf (z-before (bit w j) (codesOf codes j)
-          ∙ ap (λ b. then (pauliCode false b) (codesOf codes j)) (hw j)))
 
   -- where t is true these are the neighbours of q
   pub isolated-turning : t ≡ true → (codes₁ words′ codes′ : List ℕ) (v : ℕ) → q < length codes

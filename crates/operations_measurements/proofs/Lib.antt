@@ -5,3 +5,5 @@ pub mod SentLetters
 pub mod BringingToZ
 pub mod RemovedEdges
 pub mod IsolatedBuffers
+pub mod PartedBuffers
+pub mod PartedPivots

@@ -44,6 +44,12 @@ pub named-acts : (k : ℕ) {l : Letter} → 1 ≤ k → l ≡ pauliLetter k → 
 named-acts k h e i = true≢false (sym (pauli-acts k h) ∙ ap acts (sym e ∙ i))
 
 -- ---- the group afterwards
+-- of the letter that the code sends there
+pub measured-letter : {words codes words′ codes′ : List ℕ} {q : ℕ} {b : Bool} {m l : Letter} → m ≡ l
+    → GroupMeasured words codes m q b words′ codes′ → GroupMeasured words codes l q b words′ codes′
+measured-letter {words} {codes} {words′} {codes′} {q} {b} e G =
+    subst (λ l. GroupMeasured words codes l q b words′ codes′) e G
+
 module _ (words codes : List ℕ) (U : Unrefused (recordIn words codes)) (q : ℕ) (hq : q < length words)
     (l : Letter) where
   abbrev n : ℕ

@@ -1,5 +1,5 @@
 -- Letters compared by their bits, and where codes send them.
-use mathlib.Core.Bool.{_&&_, Bool, Bool·beq, true}
+use mathlib.Core.Bool.{_&&_, Bool, Bool·beq, false, true, true≢false}
 use mathlib.Core.Logic.{_↔_}
 use mathlib.Core.Path.{ap, ap₂, refl, sym, _∙_, _≡_}
 use Rattle.clifford.specs.Clifford.{
@@ -50,7 +50,7 @@ sent-by-calls {l = l} {b = b} {az = az} {bz = bz} {ax = ax} {bx = bx} ea hz hz�
 
 -- ---- images
 -- the letter that is neither the image of X nor that of Z
-pub third : (k : Clifford) (l : Letter) → (l ≡ I → ⊥) → (image k X ≡ l → ⊥) → (image k Z ≡ l → ⊥) → image k Y ≡ l
+third : (k : Clifford) (l : Letter) → (l ≡ I → ⊥) → (image k X ≡ l → ⊥) → (image k Z ≡ l → ⊥) → image k Y ≡ l
 third k l i x z = go (k .class) l i x z
   where
     go : (c : Class) (l : Letter) → (l ≡ I → ⊥) → (imageX c ≡ l → ⊥) → (imageZ c ≡ l → ⊥)
@@ -74,6 +74,12 @@ third k l i x z = go (k .class) l i x z
     go ZY X i x z = refl
     go ZY Y i x z = absurd (z refl)
     go ZY Z i x z = absurd (x refl)
+
+-- from two answers that it is neither
+pub third-by-calls : (k : Clifford) (l : Letter) → (l ≡ I → ⊥) → {t u : Bool} → (t ≡ true) ↔ (image k X ≡ l) → t ≡ false
+    → (u ≡ true) ↔ (image k Z ≡ l) → u ≡ false → image k Y ≡ l
+third-by-calls k l i hx ex hz ez =
+    third k l i (λ x. true≢false (sym (hx .1 x) ∙ ex)) (λ z. true≢false (sym (hz .1 z) ∙ ez))
 
 -- 11 first: Z goes where X went
 pub eleven-z : (k : Clifford) → image (then (cliffordOf 11) k) Z ≡ image k X

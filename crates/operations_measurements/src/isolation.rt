@@ -1,14 +1,11 @@
-// A vertex made ready for a measurement, and isolated by it, in the buffers of a record.
+// A vertex isolated by a measurement, in the buffers of a record.
 use buffers::sign_digit;
 use clifford::Code;
 use operations::compose;
 use operations::compose_fixed;
-use operations_rewriting::complement_record;
-use operations_rewriting::pivot_record;
 use pauli::Letter;
 use pauli::x_bit;
 use pauli::z_bit;
-use words::largest;
 use words::single;
 use words::smallest;
 use words::without_smallest;
@@ -24,41 +21,18 @@ ghost use Rattle.clifford.specs.Vectors.{codesOf};
 ghost use Rattle.graph.specs.Graph.{Simple};
 ghost use Rattle.graph.specs.internal.NeighbourWords.{SameGraph};
 ghost use Rattle.graph.specs.NeighbourWords.{graphIn};
-ghost use Rattle.graph_steps.specs.internal.KeptGroups.{BroughtToZ};
 ghost use Rattle.graph_steps.specs.internal.Steps.{isolated, hadamardCode};
 ghost use Rattle.operations.specs.internal.InPlace.{Rewritten, Unrefused, recordIn};
-ghost use Rattle.pauli.specs.declared.Letter.the-variants.{I, X};
 ghost use Rattle.words.specs.Bits.{bit};
 
 // Whether the code sends a letter to plus or minus another.
-fn sends(code: u8, from: Letter, to: Letter) -> bool
+pub fn sends(code: u8, from: Letter, to: Letter) -> bool
     requires { ⌜ code < 24 ⌝ }
     ensures { λ r. ⌜ (r ≡ true) ↔ (image (cliffordOf code) from ≡ to) ⌝ }
 {
     let sent = Code { index: code }.image(from);
     let letter = sent.letter;
     (z_bit(letter) == z_bit(to)) & (x_bit(letter) == x_bit(to))
-}
-
-// Rewrites the record so that the code at q sends Z to the letter, which is not I. Where it sends X there, a pivot with
-// the largest neighbour exchanges the two, and that neighbour's other ones are smaller then; where it sends Y there,
-// complementing at q does it.
-pub fn bring_to_z(neighbours: &mut [u64], codes: &mut [u8], q: usize, l: Letter)
-    requires { ⌜ Unrefused (recordIn (now neighbours) (now codes)) × (q < length (now neighbours)) ⌝ }
-    requires { ⌜ (image (codesOf (now codes) q) X ≡ l → getD (now neighbours) q 0 ≡ 0 → ⊥) ⌝ }
-    requires { ⌜ (l ≡ I → ⊥) ⌝ }
-    ensures { λ r. ⌜ BroughtToZ (now (neighbours .entry)) (now (codes .entry)) q l
-        (now (neighbours .exit)) (now (codes .exit)) ⌝ }
-{
-    if sends(codes[q], Letter::X, l) {
-        let k = largest(neighbours[q]);
-        pivot_record(neighbours, codes, q, k);
-        return;
-    }
-    if sends(codes[q], Letter::Z, l) {
-        return;
-    }
-    complement_record(neighbours, codes, q);
 }
 
 // The edges at q removed: each neighbour loses q, and q all of them.
@@ -99,7 +73,7 @@ fn remove_turning(neighbours: &mut [u64], codes: &mut [u8], q: usize)
 }
 
 // The code with a Hadamard before it, and a sign t for the image of X.
-fn with_hadamard(t: bool, code: u8) -> u8
+pub fn with_hadamard(t: bool, code: u8) -> u8
     requires { ⌜ code < 24 ⌝ }
     ensures { λ r. ⌜ r ≡ codeOf (then (hadamardCode t) (cliffordOf code)) ⌝ }
 {

@@ -1,8 +1,11 @@
 // Measurements on a record in its buffers.
 mod isolation;
+mod parting;
 
-use crate::isolation::bring_to_z;
-use crate::isolation::isolate;
+use crate::isolation::sends;
+use crate::parting::measure_x;
+use crate::parting::measure_y;
+use crate::parting::measure_z;
 use clifford::Code;
 use graph_settling::normalise;
 use operations::Outcome;
@@ -67,8 +70,7 @@ pub fn contradicted(neighbours: &[u64], codes: &[u8], pauli: u8, q: usize, bit: 
     known.determined & (known.minus != bit)
 }
 
-// The group after a measurement of l at q that is not determined: the code at q is turned so that l stands for Z of the
-// graph, and the vertex is isolated.
+// The group after a measurement of l at q that is not determined: l stands for X, Z or Y of the graph there.
 fn measure_open(neighbours: &mut [u64], codes: &mut [u8], l: Letter, q: usize, bit: bool)
     requires { ⌜ Unrefused (recordIn (now neighbours) (now codes)) × (q < length (now neighbours)) ⌝ }
     requires { ⌜ isDetermined (length (now neighbours)) (heldRows (recordIn (now neighbours) (now codes))) l q
@@ -77,9 +79,15 @@ fn measure_open(neighbours: &mut [u64], codes: &mut [u8], l: Letter, q: usize, b
     ensures { λ r. ⌜ GroupMeasured (now (neighbours .entry)) (now (codes .entry)) l q bit
         (now (neighbours .exit)) (now (codes .exit)) ⌝ }
 {
-    bring_to_z(neighbours, codes, q, l);
-    let minus = codes[q] % 2 == 1;
-    isolate(neighbours, codes, q, bit != minus);
+    if sends(codes[q], Letter::X, l) {
+        measure_x(neighbours, codes, q, bit);
+        return;
+    }
+    if sends(codes[q], Letter::Z, l) {
+        measure_z(neighbours, codes, q, bit);
+        return;
+    }
+    measure_y(neighbours, codes, q, bit);
 }
 
 // The group after a measurement of l at q: the same where it is determined.

@@ -82,7 +82,7 @@ pub fn complement_record(neighbours: &mut [u64], codes: &mut [u8], a: usize)
 }
 
 // The edges between the two sets flipped, and 2 before the codes of their vertices.
-fn join_turning(neighbours: &mut [u64], codes: &mut [u8], to_a: u64, to_b: u64)
+pub fn join_turning(neighbours: &mut [u64], codes: &mut [u8], to_a: u64, to_b: u64)
     requires { ⌜ Unrefused (recordIn (now neighbours) (now codes)) ⌝ }
     requires { ⌜ («to_a» < 2 ^ (length (now neighbours))) × («to_b» < 2 ^ (length (now neighbours))) ⌝ }
     ensures { λ r. ⌜ SameGraph (graphIn (now (neighbours .exit)))
