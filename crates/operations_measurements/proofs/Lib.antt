@@ -7,3 +7,4 @@ pub mod RemovedEdges
 pub mod IsolatedBuffers
 pub mod PartedBuffers
 pub mod PartedPivots
+pub mod PartedComplements

@@ -83,7 +83,7 @@ module _ (words codes : List ℕ) (U : Unrefused (recordIn words codes)) (q : �
     abbrev held₁ : GraphRecord
     held₁ = heldRecord (recordIn words₁ codes₁)
 
-    pub brought-below : q < length words₁
+    brought-below : q < length words₁
     brought-below = subst (λ m. q < m) (sym (F .kept .long)) hq
 
     pub measured-open : (b t : Bool) (words₂ codes₂ : List ℕ) → t ≡ not (Bool·beq b (isOdd (getD codes₁ q 0)))

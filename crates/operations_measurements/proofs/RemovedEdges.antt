@@ -29,6 +29,17 @@ LeftAt old q i v = (l : ℕ) → bit v l ≡ (graphIn old i l && not (eqb l q))
 abbrev pub Leaving : List ℕ → ℕ → List ℕ → ℕ → Type 0
 Leaving old q new rest = Over (LeftAt old q) (getD old q 0) old new rest
 
+-- and last its own word
+pub all-parted : (φ : Graph) (q : ℕ) (new : List ℕ) → q < length new
+    → ((k l : ℕ) → graphIn new k l ≡ (φ k l && not (eqb l q))) → SameGraph (graphIn (set new q 0)) (partedFrom φ q)
+all-parted φ q new hq h k l = elim (ℕ-discrete k q) [
+  | yes d ↦ subst (λ m. bit (getD (set new q 0) m 0) l ≡ partedFrom φ q m l) (sym d)
+      (ap (λ w. bit w l) (getD-set-same new q 0 0 hq) ∙ zero-bit l
+      ∙ sym (ap (λ b. φ q l && (not b && not (eqb l q))) (same-place q) ∙ and-false (φ q l)))
+  | no d ↦ ap (λ w. bit w l) (getD-set-other new q k 0 0 d) ∙ h k l
+      ∙ ap (λ b. φ k l && (not b && not (eqb l q))) (sym (other-place d))
+]
+
 module _ (old : List ℕ) (q : ℕ) (S : Simple (length old) (graphIn old)) where
   abbrev θ : Graph
   θ = graphIn old
@@ -57,11 +68,5 @@ module _ (old : List ℕ) (q : ℕ) (S : Simple (length old) (graphIn old)) wher
         ∙ without i true (L .named i named) l) f
 
     pub leave-end : rest ≡ 0 → q < length old → SameGraph (graphIn (set new q 0)) (partedFrom (graphIn old) q)
-    leave-end e hq k l = elim (ℕ-discrete k q) [
-      | yes d ↦ subst (λ m. bit (getD (set new q 0) m 0) l ≡ partedFrom θ q m l) (sym d)
-          (ap (λ w. bit w l) (getD-set-same new q 0 0 (subst (λ m. q < m) (sym (L .long)) hq)) ∙ zero-bit l
-          ∙ sym (ap (λ b. θ q l && (not b && not (eqb l q))) (same-place q) ∙ and-false (θ q l)))
-      | no d ↦ ap (λ w. bit w l) (getD-set-other new q k 0 0 d)
-          ∙ over-end (LeftAt old q) (getD old q 0) old new rest L e k l
-          ∙ ap (λ b. θ k l && (not b && not (eqb l q))) (sym (other-place d))
-    ]
+    leave-end e hq = all-parted θ q new (subst (λ m. q < m) (sym (L .long)) hq)
+        (over-end (LeftAt old q) (getD old q 0) old new rest L e)

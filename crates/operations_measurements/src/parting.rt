@@ -3,21 +3,24 @@
 use crate::isolation::isolate;
 use crate::isolation::with_hadamard;
 use operations::compose;
-use operations_rewriting::complement_record;
+use operations::compose_fixed;
 use operations_rewriting::join_turning;
 use operations_rewriting::put_before;
 use words::flip;
 use words::largest;
 use words::single;
+use words::smallest;
 use words::where_true;
-ghost use mathlib.Core.Bool.{_&&_, false, not, true};
+use words::without_smallest;
+ghost use mathlib.Core.Bool.{_&&_, cond, false, not, true};
 ghost use mathlib.Core.Path.{_≡_};
 ghost use Prim.Native.Nat.{ℕ, _<_, _≤_, _^_};
 ghost use lib.Dec.{eqb};
 ghost use lib.ListN.{getD, length};
 ghost use Rattle.buffers.specs.Buffers.{tabulate};
-ghost use Rattle.clifford.specs.Clifford.{codeOf, image, then};
+ghost use Rattle.clifford.specs.Clifford.{cliffordOf, codeOf, image, then};
 ghost use Rattle.clifford.specs.Vectors.{codesOf};
+ghost use Rattle.graph.specs.Graph.{complement};
 ghost use Rattle.graph.specs.internal.NeighbourWords.{SameGraph};
 ghost use Rattle.graph.specs.NeighbourWords.{graphIn};
 ghost use Rattle.graph_steps.specs.internal.KeptGroups.{GroupMeasured};
@@ -26,6 +29,7 @@ ghost use Rattle.operations.specs.internal.InPlace.{Unrefused, recordIn};
 ghost use Rattle.operations.specs.Steps.{pivotRecord};
 ghost use Rattle.pauli.specs.declared.Letter.the-variants.{X, Y, Z};
 ghost use Rattle.record.specs.Lent.{codeNumbers, heldRecord};
+ghost use Rattle.record.specs.Records.{complementRecord};
 ghost use Rattle.words.specs.Bits.{bit, isOdd, put, _⊕_};
 
 // The codes after Z is measured at q, which has no edges left and had those to `near`: there a Hadamard comes before the
@@ -69,6 +73,43 @@ fn pivot_parted(neighbours: &mut [u64], codes: &mut [u8], q: usize, k: usize) ->
     flip(to_k, q)
 }
 
+// Every edge between two neighbours of q is flipped and each loses q, by one xor for each, and 6 comes before its code; q
+// has no edges then.
+fn complement_away(neighbours: &mut [u64], codes: &mut [u8], q: usize)
+    requires { ⌜ Unrefused (recordIn (now neighbours) (now codes)) × (q < length (now neighbours)) ⌝ }
+    ensures { λ r. ⌜ SameGraph (graphIn (now (neighbours .exit)))
+        (λ i l. complement (graphIn (now (neighbours .entry))) q i l && (not (eqb i q) && not (eqb l q))) ⌝ }
+    ensures { λ r. ⌜ now (codes .exit) ≡ tabulate (length (now (codes .entry))) (λ j. codeOf (cond
+        (bit (getD (now (neighbours .entry)) q 0) j)
+        (then (cliffordOf 6) (codesOf (now (codes .entry)) j)) (codesOf (now (codes .entry)) j))) ⌝ }
+{
+    let mut rest = neighbours[q];
+    let around = rest | single(q);
+    while rest != 0 {
+        let i = smallest(rest);
+        codes[i] = compose_fixed(6, codes[i]);
+        neighbours[i] = neighbours[i] ^ flip(around, i);
+        rest = without_smallest(rest);
+    }
+    neighbours[q] = 0;
+}
+
+// Complements at q without the edges at q. The codes are those of the complementation; the answer is the neighbours of q.
+fn complement_parted(neighbours: &mut [u64], codes: &mut [u8], q: usize) -> u64
+    requires { ⌜ Unrefused (recordIn (now neighbours) (now codes)) × (q < length (now neighbours)) ⌝ }
+    ensures { λ r. ⌜ SameGraph (graphIn (now (neighbours .exit)))
+        (λ i l. complement (graphIn (now (neighbours .entry))) q i l && (not (eqb i q) && not (eqb l q))) ⌝ }
+    ensures { λ r. ⌜ now (codes .exit) ≡ codeNumbers (length (now (neighbours .entry)))
+        (complementRecord (heldRecord (recordIn (now (neighbours .entry)) (now (codes .entry)))) q) ⌝ }
+    ensures { λ r. ⌜ r ≡ getD (now (neighbours .entry)) q 0 ⌝ }
+{
+    let near = neighbours[q];
+    let first = compose_fixed(13, codes[q]);
+    complement_away(neighbours, codes, q);
+    codes[q] = first;
+    near
+}
+
 // Measures the letter to which the code at q sends X: a pivot with the largest neighbour, whose other neighbours are
 // smaller then, brings Z there.
 pub fn measure_x(neighbours: &mut [u64], codes: &mut [u8], q: usize, outcome: bool)
@@ -98,7 +139,6 @@ pub fn measure_y(neighbours: &mut [u64], codes: &mut [u8], q: usize, outcome: bo
     ensures { λ r. ⌜ GroupMeasured (now (neighbours .entry)) (now (codes .entry))
         (image (codesOf (now (codes .entry)) q) Y) q outcome (now (neighbours .exit)) (now (codes .exit)) ⌝ }
 {
-    complement_record(neighbours, codes, q);
-    let minus = codes[q] % 2 == 1;
-    isolate(neighbours, codes, q, outcome != minus);
+    let near = complement_parted(neighbours, codes, q);
+    turn_parted(codes, near, q, outcome);
 }

@@ -1,39 +1,28 @@
 -- `measure_y` meets its contract: measures the letter to which the code at q sends Y.
-use mathlib.Core.Path.{refl}
 use borrow.Author.Needs.{needs}
-use Rattle.operations.proofs.UnrefusedRecords.{unrefused-place}
-use Rattle.operations_measurements.proofs.BringingToZ.{brought-by-complement}
-use Rattle.operations_measurements.proofs.MeasuredGroups.{brought-below, measured-open}
+use Rattle.operations_measurements.proofs.PartedComplements.{complement-asks, complement-measured}
 use Rattle.operations_measurements.proofs.parting.measure_y.Statement.{statement}
 use Rattle.operations_measurements.proofs.parting.measure_y.Tie as tie
 
-slice-read-minus : tie.Need-slice-read-minus
-slice-read-minus c =
+turn-parted-requires : tie.Need-turn-parted-requires
+turn-parted-requires c κs =
     let at-complement = c .before .before .before .before .before in
     let begun = at-complement .before .before .before .before .before in
     let start = begun .pre in
-    let F = brought-by-complement _ _ (start .0) (begun .args .q) (start .1) _ _ (at-complement .complement-record .ensures) in
-    unrefused-place _ _ (F .kept .unrefused) _ (brought-below _ _ (start .0) (begun .args .q) (start .1) _ _ _ F)
-
-isolate-requires : tie.Need-isolate-requires
-isolate-requires c κs =
-    let at-complement = c .before .before .before .before .before .before .before in
-    let begun = at-complement .before .before .before .before .before in
-    let start = begun .pre in
-    let F = brought-by-complement _ _ (start .0) (begun .args .q) (start .1) _ _ (at-complement .complement-record .ensures) in
-    (F .kept .unrefused, brought-below _ _ (start .0) (begun .args .q) (start .1) _ _ _ F)
+    let known = at-complement .complement-parted .ensures in
+    complement-asks _ _ (start .0) (begun .args .q) (start .1) _ _ (known .1 .0) (known .1 .1)
 
 returns : tie.Need-returns
 returns c =
-    let at-isolate = c .before .before .before .before in
-    let at-complement = at-isolate .before .before .before .before .before .before .before .before in
+    let at-turn = c .before .before in
+    let at-complement = at-turn .before .before .before .before .before .before in
     let begun = at-complement .before .before .before .before .before in
     let start = begun .pre in
-    measured-open _ _ (start .0) (begun .args .q) (start .1) _ _ _
-    (brought-by-complement _ _ (start .0) (begun .args .q) (start .1) _ _ (at-complement .complement-record .ensures))
-    (begun .args .outcome) _ _ _ refl (at-isolate .isolate .ensures)
+    let known = at-complement .complement-parted .ensures in
+    complement-measured _ _ (start .0) (begun .args .q) (start .1) _ _ (known .1 .0) (known .1 .1) (begun .args .outcome) _ _
+    (at-complement .complement-parted .kept .0) (known .0) (at-turn .turn-parted .ensures)
 
 pub measure-y-spec : {M : Type 1} → statement M
 measure-y-spec =
     tie.close
-    (tie.spec (λ c κs. search needs) slice-read-minus isolate-requires (λ c. search needs) (λ c. search needs) returns)
+    (tie.spec (λ c κs. search needs) turn-parted-requires (λ c. search needs) (λ c. search needs) returns)
