@@ -14,26 +14,48 @@ const NAMES: [&str; 5] = [
     "measure, determined",
 ];
 
+/// The rounds over all degrees, of which the least times are shown: the machine's clock changes between the rows of one.
+const ROUNDS: usize = 9;
+
+/// The times of a degree: the check alone, then each kind of call by the engine and by the tableau.
+type Row = [f64; 2 * KINDS.len() + 1];
+
 fn main() {
     println!("Nanoseconds of a call by the engine, by the tableau, and the ratio:\n");
     println!("| degree | {} |", NAMES.join(" | "));
     println!("|---|{}", "---|".repeat(NAMES.len()));
-    let mut times: [Vec<f64>; NAMES.len()] = Default::default();
-    for degree in DEGREES {
-        let check = check_at_degree(degree);
-        times[0].push(check);
-        print!("| {degree} | {check:.0} |");
-        for (kind, times) in KINDS.into_iter().zip(&mut times[1..]) {
-            let [engine, plain] = at_degree(kind, degree);
-            times.push(engine);
-            print!(" {engine:.0}, {plain:.0}, {:.2} |", engine / plain);
+    let mut rows = [[f64::MAX; 2 * KINDS.len() + 1]; DEGREES.len()];
+    for _ in 0..ROUNDS {
+        for (row, degree) in rows.iter_mut().zip(DEGREES) {
+            let found = times(degree);
+            row.iter_mut().zip(found).for_each(|(t, f)| *t = t.min(f));
         }
-        println!();
     }
-    let spans = times.map(|times| {
-        let worst = times.iter().copied().fold(0.0, f64::max);
-        let best = times.iter().copied().fold(f64::MAX, f64::min);
-        format!("{:.2}", worst / best)
+    for (row, degree) in rows.iter().zip(DEGREES) {
+        let calls = row[1..].chunks(2).map(|pair| {
+            let [engine, plain] = [pair[0], pair[1]];
+            format!(" {engine:.0}, {plain:.0}, {:.2} |", engine / plain)
+        });
+        println!("| {degree} | {:.0} |{}", row[0], calls.collect::<String>());
+    }
+    let spans = (0..NAMES.len()).map(|column| {
+        let at = if column == 0 { 0 } else { 2 * column - 1 };
+        let engine = rows.iter().map(|row| row[at]);
+        let (best, worst) = (
+            engine.clone().fold(f64::MAX, f64::min),
+            engine.fold(0.0, f64::max),
+        );
+        format!(" {:.2} |", worst / best)
     });
-    println!("| worst over best | {} |", spans.join(" | "));
+    println!("| worst over best |{}", spans.collect::<String>());
+}
+
+/// One round at a degree.
+fn times(degree: f64) -> Row {
+    let mut row = [0.0; 2 * KINDS.len() + 1];
+    row[0] = check_at_degree(degree);
+    for (kind, pair) in KINDS.into_iter().zip(row[1..].chunks_mut(2)) {
+        pair.copy_from_slice(&at_degree(kind, degree));
+    }
+    row
 }
