@@ -24,7 +24,7 @@ pub record Watched (words codes : List ℕ) (rest : ℕ) : Type 0 where
   pub short : rest < 2 ^ length words
   pub seen : (q : ℕ) → q < length words → unsettled words codes q ≡ true → bit rest q ≡ true
 
--- nothing changes but at the vertices of the first word, and of the codes not whether they are such but at the second's
+-- nothing changes but at the vertices of the first word, and whether a code is such a one but at those of the second
 pub record Elsewhere (touched ends : ℕ) (words codes words′ codes′ : List ℕ) : Type 0 where
   pub short : touched < 2 ^ length words
   pub word : (q : ℕ) → q < length words → bit touched q ≡ false → getD words′ q 0 ≡ getD words q 0
