@@ -4,8 +4,8 @@ use mathlib.Core.List.{List}
 use Prim.Native.Nat.{ℕ}
 use lib.ListN.{take}
 use Rattle.claims.specs.PlotDemand.{PlotTextAnswered}
-use Rattle.list_reply.specs.Answer.{ResponseTo}
-use Rattle.plot_reply.specs.Answer.{plotAnswer}
+use Rattle.calls.specs.ListAnswers.{ResponseTo}
+use Rattle.calls.specs.PlotAnswers.{plotAnswer}
 
 -- a text was read, and its answer printed; the bytes up to there say of the text what the demands say
 pub record Responded (before after : List ℕ) (r : ℕ) : Type 0 where

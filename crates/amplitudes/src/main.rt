@@ -5,7 +5,7 @@ use list_input::read_list;
 use plot_reply::reply;
 ghost use Prim.Native.Nat.{_≤_};
 ghost use lib.ListN.{length};
-ghost use Rattle.plot_reply.specs.Answer.{longestTable};
+ghost use Rattle.calls.specs.PlotAnswers.{longestTable};
 ghost use Rattle.amplitudes.specs.Reads.{Responded};
 
 // Prints the answer to the text on standard input.

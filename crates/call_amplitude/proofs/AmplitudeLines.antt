@@ -14,7 +14,7 @@ use Rattle.record.specs.Lent.{heldRecord, heldRows, recordLines}
 use Rattle.record.specs.Records.{rowsOf}
 use Rattle.used.proofs.UsedPassing.{lines-pass}
 use Rattle.used.specs.Used.{UsedRecord}
-use Rattle.call_amplitude.specs.AmplitudeCalls.{amplitudeLines}
+use Rattle.calls.specs.Amplitudes.{amplitudeLines}
 
 module _ (u : UsedRecord) (y : ℕ) (e : firstFitting (amplitudeLines u y) ≡ 0) where
   no-record-line : firstFitting (recordLines (u .held) false false) ≡ 0

@@ -2,7 +2,7 @@
 use amplitude_answer::plot_at;
 use used_checks::used_refusal;
 ghost use Rattle.contracts.specs.Calls.{Call};
-ghost use Rattle.call_amplitude.specs.AmplitudeCalls.{amplitudeCall};
+ghost use Rattle.calls.specs.Amplitudes.{amplitudeCall};
 
 // The line of the plot at y: the amplitude over that at the smallest word with a nonzero amplitude, and the probability.
 pub fn amplitude(

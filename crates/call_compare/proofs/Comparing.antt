@@ -19,13 +19,13 @@ use Rattle.stabilizer.proofs.SharedTests.{counted, has-length, length-passes}
 use Rattle.stabilizer.specs.Lists.{GeneratorList, listLengths, rows}
 use Rattle.words.proofs.Finite.{bits}
 use Rattle.words.proofs.Flags.{neither}
-use Rattle.call_compare.proofs.PairLines.{pair-number, pair-numbered}
+use Rattle.calls.proofs.PairLines.{pair-number, pair-numbered}
 use Rattle.comparison_answer.proofs.ReducedPairs.{reduced-accepted}
-use Rattle.call_lists.specs.Calls.{reduceCall}
-use Rattle.comparison_answer.specs.internal.ComparedPairs.{HoldsReduced, PairAnswered}
+use Rattle.calls.specs.Lists.{reduceCall}
+use Rattle.comparison.specs.internal.ComparedPairs.{HoldsReduced, PairAnswered}
 use Rattle.earliest.proofs.EarlierNumbers.{earlier-none}
 use Rattle.earliest.specs.internal.Earlier.{earlierOf}
-use Rattle.call_compare.specs.Comparisons.{compareCall}
+use Rattle.calls.specs.Comparisons.{compareCall}
 
 -- ---- two lists on n qubits, and the reductions of both
 module _ (n : ℕ) (s z x s₂ z₂ x₂ choice list : List ℕ) (positive : 1 ≤ n) (few : n ≤ 64)
@@ -99,20 +99,6 @@ module _ (l m : GeneratorList) (choice list : List ℕ) (count : ℕ) where
   refused-2 h = record { number = sym (fits 2 _ h); held = (refl, (refl, (refl, tt))) }
 
   module _ (p : pairCount l m ≡ false) where
-    pub counts-agree : l .n ≡ m .n
-    counts-agree =
-        eqb-true (l .n) (m .n) (not-false (eqb (l .n) (m .n))
-        (neither (badCount (m .n)) (not (eqb (l .n) (m .n)))
-        (neither (badCount (l .n)) (badCount (m .n) || not (eqb (l .n) (m .n))) p .1) .1))
-
-    pub at-least-one : 1 ≤ l .n
-    at-least-one =
-        counted (l .n) (neither (badCount (l .n)) (badCount (m .n) || not (eqb (l .n) (m .n))) p .0) .0
-
-    pub at-most-64 : l .n ≤ 64
-    at-most-64 =
-        counted (l .n) (neither (badCount (l .n)) (badCount (m .n) || not (eqb (l .n) (m .n))) p .0) .1
-
     module _ (o : Bool) (e : o ≡ (otherThan (l .n) choice || otherThan 96 list)) where
       pub refused-4 : o ≡ true → Call (compareCall l m choice list count choice list count) 4
       refused-4 t =

@@ -1,2 +1,1 @@
-pub mod PairLines
 pub mod Comparing

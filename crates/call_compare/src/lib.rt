@@ -11,7 +11,7 @@ ghost use lib.Dec.{eqb};
 ghost use lib.ListN.{length};
 ghost use Rattle.contracts.specs.Calls.{Call};
 ghost use Rattle.buffers.specs.Refusals.{badCount};
-ghost use Rattle.call_compare.specs.Comparisons.{compareCall};
+ghost use Rattle.calls.specs.Comparisons.{compareCall};
 
 // Line 2: n is 0 or above 64, or the two n differ.
 pub fn pair_count(n: u64, n2: u64) -> bool

@@ -7,11 +7,12 @@ use Prim.Native.Nat.{ℕ, _≤_}
 use lib.Dec.{eqb, eqb→eq, lit<}
 use lib.ListN.{length}
 use borrow.Author.Tests.{eqb-true, not-false}
+use Rattle.calls.proofs.RecordPairLines.{counts-agree, records-answered, records-number}
 use Rattle.buffers.proofs.Lines.{Numbered, fits, more-accepted, not-held, passed}
 use Rattle.buffers.specs.Refusals.{Refusal, badCount, firstFitting, line, otherThan}
 use Rattle.comparison.specs.Choices.{noChoice}
 use Rattle.comparison_answer.proofs.ReducedPairs.{reduced-accepted}
-use Rattle.comparison_answer.specs.internal.ComparedPairs.{HoldsReduced, PairAnswered}
+use Rattle.comparison.specs.internal.ComparedPairs.{HoldsReduced, PairAnswered}
 use Rattle.contracts.proofs.Calling.{refused}
 use Rattle.contracts.proofs.Fitting.{stays}
 use Rattle.contracts.specs.Calls.{Call}
@@ -36,7 +37,7 @@ use Rattle.record.specs.Reduced.{reducedGraph}
 use Rattle.stabilizer.proofs.SharedTests.{has-length}
 use Rattle.words.proofs.Finite.{Law, Of, law}
 use Rattle.words.proofs.Flags.{neither}
-use Rattle.call_compare_records.specs.RecordComparisons.{
+use Rattle.calls.specs.RecordComparisons.{
   compareRecordsCall,
   recordLargePart,
   recordsCount,
@@ -75,27 +76,6 @@ module _ (n : ℕ) (nb cs : List ℕ) (U : Unrefused (record { n = n; neighbours
     pub reduced-fits : AcceptedRecord (record { n = n; neighbours = w; codes = b })
     reduced-fits = reduced-accepted n (heldRows lent) w b lent-reduced (lent-accepted .positive) (lent-accepted .upto)
 
--- ---- the number of two records
--- lines 4 to 7 of a record, and those of a pair
-module _ (four others five six seven : Bool) where
-  abbrev laterLines : List Refusal
-  laterLines = line 4 (four || others) ∷ line 5 five ∷ line 6 (six || false) ∷ line 7 seven ∷ []
-
-abbrev laterOf : Of 9 ℕ
-laterOf a b c d f g h i o =
-    earlierOf (firstFitting (laterLines a o b c d)) (firstFitting (laterLines f false g h i))
-
-abbrev laterBoth : Of 9 ℕ
-laterBoth a b c d f g h i o =
-    firstFitting (line 4 (a || (f || o)) ∷ line 5 (b || g) ∷ line 6 (c || h) ∷ line 7 (d || i) ∷ [])
-
-earlier-later : Law ℕ 9 laterBoth laterOf
-unfolding firstFitting
-earlier-later = law eqb eqb→eq 9 laterBoth laterOf tt
-
-pub records-numbered : (l m : LentRecord) (choice list : List ℕ) → Numbered (recordsLines l m choice list)
-records-numbered l m choice list = (lit< tt, (lit< tt, (lit< tt, (lit< tt, (lit< tt, tt)))))
-
 -- ---- the call
 module _ (l m : LentRecord) (choice list : List ℕ) where
   pub refused-2 : (count : ℕ) → recordsCount l m ≡ true →
@@ -107,26 +87,8 @@ module _ (l m : LentRecord) (choice list : List ℕ) where
       (o : others ≡ (otherThan (l .n) choice || otherThan 96 list)) {r r₂ early : ℕ}
       (e₁ : r ≡ firstFitting (recordLines l others false)) (e₂ : r₂ ≡ firstFitting (recordLines m false false))
       (e : early ≡ earlierOf r r₂) where
-    second-count : (badCount (m .n) ≡ false) × (not (eqb (l .n) (m .n)) ≡ false)
-    second-count =
-        neither (badCount (m .n)) (not (eqb (l .n) (m .n)))
-        (neither (badCount (l .n)) (badCount (m .n) || not (eqb (l .n) (m .n))) p .1)
-
-    counts-agree : l .n ≡ m .n
-    counts-agree = eqb-true (l .n) (m .n) (not-false (eqb (l .n) (m .n)) (second-count .1))
-
     early-is : early ≡ firstFitting (recordsLines l m choice list)
-    early-is =
-        e ∙ ap₂ earlierOf
-        (e₁ ∙ passed 2 _ (neither (badCount (l .n)) (badCount (m .n) || not (eqb (l .n) (m .n))) p .0))
-        (e₂ ∙ passed 2 _ (second-count .0))
-        ∙ sym (earlier-later (recordLengths l) (recordStray l) (recordCodes l)
-        (notSimple (l .n) ((heldRecord l) .graph)) (recordLengths m) (recordStray m) (recordCodes m)
-        (notSimple (m .n) ((heldRecord m) .graph)) others)
-        ∙ ap (λ v. firstFitting (line 4 (recordLengths l || (recordLengths m || v))
-        ∷ line 5 (recordStray l || recordStray m) ∷ line 6 (recordCodes l || recordCodes m)
-        ∷ line 7 (notSimple (l .n) ((heldRecord l) .graph) || notSimple (m .n) ((heldRecord m) .graph)) ∷ [])) o
-        ∙ sym (passed 2 _ p)
+    early-is = e ∙ ap₂ earlierOf e₁ e₂ ∙ sym (records-number l m choice list p o)
 
     pub compare-refused : (count : ℕ) → (early ≡ 0 → ⊥) →
         Call (compareRecordsCall l m choice list count choice list count) early
@@ -151,7 +113,7 @@ module _ (l m : LentRecord) (choice list : List ℕ) where
       other = record { n = l .n; neighbours = m .neighbours; codes = m .codes }
 
       other-is : other ≡ m
-      other-is = λ i. record { n = counts-agree i; neighbours = m .neighbours; codes = m .codes }
+      other-is = λ i. record { n = counts-agree l m choice list p i; neighbours = m .neighbours; codes = m .codes }
 
       pub second-unrefused : Unrefused other
       second-unrefused = subst Unrefused (sym other-is) (record { no-line = sym e₂ ∙ none .1 })
@@ -173,12 +135,4 @@ module _ (l m : LentRecord) (choice list : List ℕ) where
       compare-decided {count} {k} {choice′} {list′} {count′} P =
           let Q = subst (λ s. PairAnswered (l .n) (heldRows l) (heldRows s) choice list count k choice′ list′ count′)
           other-is P in
-          record {
-            number = Q .number
-                ∙ ap (λ b. firstFitting (line 3 (recordLargePart l || b)
-                ∷ line 13 (noChoice (l .n) (heldRows l) (heldRows m)) ∷ []))
-                (ap (λ j. partAbove 20 j (reducedGraph j (heldRows m))) counts-agree)
-                ∙ sym (more-accepted (recordsLines l m choice list) _ (records-numbered l m choice list)
-                (sym early-is ∙ a));
-            held = (Q .codes, (Q .vertices, (Q .amount, tt)));
-          }
+          records-answered l m choice list p (sym early-is ∙ a) Q

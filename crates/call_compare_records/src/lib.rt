@@ -8,11 +8,11 @@ use record_checks::record_refusal;
 use record_copies::copy_record;
 ghost use mathlib.Core.Path.{_≡_};
 ghost use lib.ListN.{length};
-ghost use Rattle.comparison_answer.specs.internal.ComparedPairs.{HoldsReduced, PairAnswered};
+ghost use Rattle.comparison.specs.internal.ComparedPairs.{HoldsReduced, PairAnswered};
 ghost use Rattle.contracts.specs.Calls.{Call};
 ghost use Rattle.operations.specs.internal.InPlace.{Unrefused, recordIn};
 ghost use Rattle.record.specs.Lent.{heldRows};
-ghost use Rattle.call_compare_records.specs.RecordComparisons.{compareRecordsCall};
+ghost use Rattle.calls.specs.RecordComparisons.{compareRecordsCall};
 
 // Copies a record into two buffers and reduces it there.
 fn reduce_copy(neighbours: &[u64], codes: &[u8], words: &mut [u64], bytes: &mut [u8])

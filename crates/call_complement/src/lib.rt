@@ -5,7 +5,7 @@ use operations_rewriting::complement_record;
 use operations_rewriting::pivot_record;
 use words::has;
 ghost use Rattle.contracts.specs.Calls.{Call};
-ghost use Rattle.call_gates.specs.InPlaceCalls.{usedCall};
+ghost use Rattle.calls.specs.InPlace.{usedCall};
 ghost use Rattle.call_gates.specs.internal.Knowing.{Known};
 ghost use Rattle.operations.specs.Steps.{complementOf, pivotOf};
 

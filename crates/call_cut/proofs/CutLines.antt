@@ -10,7 +10,7 @@ use Rattle.record.specs.Accepted.{AcceptedRecord}
 use Rattle.used.proofs.UsedPassing.{lines-pass}
 use Rattle.used.specs.Used.{UsedRecord, usedStray}
 use Rattle.words.proofs.Flags.{neither}
-use Rattle.call_cut.specs.Cuts.{cutLines}
+use Rattle.calls.specs.Cuts.{cutLines}
 
 pub record AcceptedCut (u : UsedRecord) (side : ℕ) : Type 0 where
   pub held : AcceptedRecord (u .held)

@@ -2,7 +2,7 @@
 use cut_rank::cut_rank;
 use used_checks::used_refusal;
 ghost use Rattle.contracts.specs.Calls.{Call};
-ghost use Rattle.call_cut.specs.Cuts.{cutCall};
+ghost use Rattle.calls.specs.Cuts.{cutCall};
 
 // The rank of the edges between the marked side and the other.
 pub fn cut(n: u64, neighbours: &[u64], codes: &[u8], used: u64, side: u64, rank: &mut u64) -> u8

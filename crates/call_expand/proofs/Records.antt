@@ -18,7 +18,7 @@ use Rattle.used.proofs.UsedPassing.{lines-pass}
 use Rattle.used.specs.Used.{UsedRecord, usedLines, usedStray, usedWrong}
 use Rattle.used_checks.proofs.UsedNumbers.{no-further}
 use Rattle.words.proofs.Flags.{neither}
-use Rattle.call_expand.specs.Expanding.{expandCall, expandLines}
+use Rattle.calls.specs.Expansions.{expandCall, expandLines}
 
 module _ (u : UsedRecord) (s z x : List ℕ) (others : Bool)
     (o : others ≡ (otherThan (u .held .n) s || (otherThan (u .held .n) z || otherThan (u .held .n) x))) (k : ℕ)

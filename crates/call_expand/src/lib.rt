@@ -3,7 +3,7 @@ use buffers::other_than;
 use record_expansion::expand_into;
 use used_checks::used_refusal;
 ghost use Rattle.contracts.specs.Calls.{Call};
-ghost use Rattle.call_expand.specs.Expanding.{expandCall};
+ghost use Rattle.calls.specs.Expansions.{expandCall};
 
 // The generators of a record, in order.
 pub fn expand(

@@ -2,7 +2,7 @@
 use expectation_words::row_value;
 use used_checks::used_refusal;
 ghost use Rattle.contracts.specs.Calls.{Call};
-ghost use Rattle.call_expectation.specs.Expectations.{expectationCall};
+ghost use Rattle.calls.specs.Expectations.{expectationCall};
 
 // 0 where the row is in the record's group, 1 where its negative is, 2 where neither is.
 pub fn expectation(

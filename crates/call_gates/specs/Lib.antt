@@ -1,2 +1,1 @@
-pub mod InPlaceCalls
 pub mod internal

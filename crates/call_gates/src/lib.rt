@@ -11,8 +11,8 @@ ghost use Rattle.operations.specs.Steps.{czOn, gateWith};
 ghost use Rattle.operations_gates.specs.internal.Settled.{Settled};
 ghost use Rattle.used.specs.Used.{usedLines};
 ghost use Rattle.words.specs.Bits.{bit};
-ghost use Rattle.call_gates.specs.InPlaceCalls.{usedCall};
-ghost use Rattle.call_gates.specs.internal.InPlaceCalls.{usedInPlace};
+ghost use Rattle.calls.specs.InPlace.{usedCall};
+ghost use Rattle.calls.specs.internal.InPlace.{usedInPlace};
 ghost use Rattle.call_gates.specs.internal.Knowing.{Known};
 
 // 6 where line 6 holds of a further argument.

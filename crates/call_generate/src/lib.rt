@@ -5,7 +5,7 @@ use generator_text::put_job;
 ghost use mathlib.Core.Path.{_≡_};
 ghost use Rattle.buffers.specs.Refusals.{firstFitting};
 ghost use Rattle.contracts.specs.Calls.{Call};
-ghost use Rattle.call_generate.specs.Generation.{generateCall};
+ghost use Rattle.calls.specs.Generation.{generateCall};
 ghost use Rattle.generator.specs.Lines.{generateLines};
 
 // The first line that holds; 0 where none does.

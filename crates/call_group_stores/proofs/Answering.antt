@@ -35,7 +35,7 @@ use Rattle.words.proofs.Flags.{both-true}
 use Rattle.words.proofs.SearchLaws.{some-true}
 use Rattle.words.proofs.Searching.{above-none, below-some}
 use Rattle.words.specs.Bits.{bit, wordOf}
-use Rattle.call_group_stores.specs.GroupStoreCalls.{groupForgetCall, groupReturnCall, groupSaveCall}
+use Rattle.calls.specs.GroupStores.{groupForgetCall, groupReturnCall, groupSaveCall}
 
 module _ (word g : ℕ) (u : UsedRecord) (name : ℕ) (st : Store) (k : ℕ)
     (e : k ≡ firstFitting (sharedLines word g u st)) where

@@ -18,7 +18,7 @@ ghost use Rattle.contracts.specs.Calls.{Call};
 ghost use Rattle.groups.specs.GroupStores.{ownLines, sharedLines};
 ghost use Rattle.groups.specs.Masks.{inGroup};
 ghost use Rattle.store.specs.StoreLines.{holdsLine, ofRecord, recordTests};
-ghost use Rattle.call_group_stores.specs.GroupStoreCalls.{groupForgetCall, groupReturnCall, groupSaveCall};
+ghost use Rattle.calls.specs.GroupStores.{groupForgetCall, groupReturnCall, groupSaveCall};
 
 // Line 6: 6 where the group is above 1, else 0.
 fn group_number(group: u8) -> u8

@@ -7,8 +7,8 @@ use lib.ListN.{getD, length}
 use borrow.Author.Tests.{eq-eqb}
 use Rattle.buffers.specs.Buffers.{tabulate}
 use Rattle.buffers.specs.Refusals.{firstFitting}
-use Rattle.call_gates.proofs.InPlaceCalls.{left-by-call, marked-by-call}
-use Rattle.call_gates.specs.InPlaceCalls.{usedCall, usedMeasureCall}
+use Rattle.calls.proofs.InPlaceCalls.{left-by-call, marked-by-call}
+use Rattle.calls.specs.InPlace.{usedCall, usedMeasureCall}
 use Rattle.contracts.proofs.Calling.{done, kept-all, refused, written-all}
 use Rattle.contracts.specs.Answers.{HoldsAnswer}
 use Rattle.contracts.specs.Calls.{Call, EachOf}
@@ -23,7 +23,7 @@ use Rattle.operations.specs.Measurement.{determinedNumber, outcomeNumber}
 use Rattle.operations.specs.Steps.{Operation, measuredAnswer, measurementOf}
 use Rattle.used.specs.Used.{UsedRecord, UsedUnrefused, usedLinesOf}
 use Rattle.words.specs.Bits.{bit, wordOf}
-use Rattle.call_groups.specs.GroupCalls.{groupCall, groupLent, groupMeasureCall}
+use Rattle.calls.specs.Groups.{groupCall, groupLent, groupMeasureCall}
 
 module _ (word g : ℕ) (u : UsedRecord) (o : Operation) (A : Admitted word g u o) where
   -- the record's buffers have 64 places

@@ -14,7 +14,7 @@ ghost use lib.ListN.{length};
 ghost use Rattle.contracts.specs.Calls.{Call};
 ghost use Rattle.group_records.specs.internal.BeforeEight.{Admitted};
 ghost use Rattle.operations.specs.Steps.{complementOf, czOn, gateWith, measurementOf};
-ghost use Rattle.call_groups.specs.GroupCalls.{groupCall, groupMeasureCall};
+ghost use Rattle.calls.specs.Groups.{groupCall, groupMeasureCall};
 
 // A gate of a call that is admitted, on the copy; `words` and `bytes` have room for it.
 fn gate_within(

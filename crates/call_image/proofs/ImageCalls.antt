@@ -21,7 +21,7 @@ use Rattle.record.specs.Accepted.{AcceptedRecord}
 use Rattle.record.specs.Lent.{LentRecord, heldRecord, recordLengths, recordLines}
 use Rattle.stabilizer.proofs.SharedTests.{has-length}
 use Rattle.words.proofs.Flags.{neither}
-use Rattle.call_image.specs.Images.{imageCall}
+use Rattle.calls.specs.Images.{imageCall}
 
 -- the buffers lent for the graph, the signs and the list
 module _ (l : LentRecord) (g s v : List ℕ) (count : ℕ) where

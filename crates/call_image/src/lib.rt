@@ -6,7 +6,7 @@ use buffers::other_than;
 use image_answer::image_answer;
 use record_checks::record_refusal;
 ghost use Rattle.contracts.specs.Calls.{Call};
-ghost use Rattle.call_image.specs.Images.{imageCall};
+ghost use Rattle.calls.specs.Images.{imageCall};
 
 // The image graph, its signs, and the list of the vertices complemented.
 pub fn image(

@@ -4,7 +4,7 @@ use reduction::reduce_list;
 use stabilizer_checks::early_refusal;
 use stabilizer_independence::independent;
 ghost use Rattle.contracts.specs.Calls.{Call};
-ghost use Rattle.call_lists.specs.Calls.{checkCall, reduceCall, reduceUnusedCall};
+ghost use Rattle.calls.specs.Lists.{checkCall, reduceCall, reduceUnusedCall};
 
 // Lines 2, 4, 5, 6, 9 and 10 of a generator list.
 pub fn check(n: u64, signs: &[u8], z: &[u64], x: &[u64]) -> u8

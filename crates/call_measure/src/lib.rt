@@ -9,7 +9,7 @@ use words::single;
 ghost use mathlib.Core.Path.{_≡_};
 ghost use Rattle.contracts.specs.Calls.{Call};
 ghost use Rattle.buffers.specs.Refusals.{firstFitting};
-ghost use Rattle.call_gates.specs.InPlaceCalls.{usedMeasureCall};
+ghost use Rattle.calls.specs.InPlace.{usedMeasureCall};
 ghost use Rattle.call_gates.specs.internal.Knowing.{Known};
 ghost use Rattle.operations.specs.Steps.{measurementOf};
 ghost use Rattle.used.specs.Used.{usedLinesOf};

@@ -6,7 +6,7 @@ use record_checks::not_simple;
 ghost use mathlib.Core.Path.{_≡_};
 ghost use Rattle.buffers.specs.Refusals.{firstFitting};
 ghost use Rattle.contracts.specs.Calls.{Call};
-ghost use Rattle.call_orbit.specs.OrbitCalls.{orbitCall, orbitLines};
+ghost use Rattle.calls.specs.Orbits.{orbitCall, orbitLines};
 
 // The first line that holds; 0 where none does.
 fn orbit_refusal(n: u64, neighbours: &[u64], list: &[u16]) -> u8

@@ -1,3 +1,2 @@
-pub mod ProductLines
 pub mod PartProducts
 pub mod ProductCalls

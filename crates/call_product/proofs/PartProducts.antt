@@ -20,8 +20,8 @@ use Rattle.stabilizer.proofs.Multiplying.{
   none-multiplied,
 }
 use Rattle.stabilizer.specs.Lists.{GeneratorList, rows}
-use Rattle.call_product.proofs.ProductLines.{accepted-rows}
-use Rattle.call_product.specs.Products.{chosenProduct, productLines}
+use Rattle.calls.proofs.ProductLines.{accepted-rows}
+use Rattle.calls.specs.Products.{chosenProduct, productLines}
 
 -- a minus sign is two quarter turns
 pub two-turns : (s z x : ℕ) → s < 2 → row (power (2 * s)) z x ≡ signedRow (isOdd s) z x

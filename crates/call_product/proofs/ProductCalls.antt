@@ -15,8 +15,8 @@ use Rattle.stabilizer.proofs.ReadBack.{word-back}
 use Rattle.stabilizer.proofs.Within.{product-within}
 use Rattle.stabilizer.specs.Groups.{Within}
 use Rattle.stabilizer.specs.Lists.{GeneratorList, rows}
-use Rattle.call_product.proofs.ProductLines.{accepted-rows}
-use Rattle.call_product.specs.Products.{chosenProduct, productCall, productLines}
+use Rattle.calls.proofs.ProductLines.{accepted-rows}
+use Rattle.calls.specs.Products.{chosenProduct, productCall, productLines}
 
 module _ (l : GeneratorList) (chosen : ℕ) (e : firstFitting (productLines l chosen) ≡ 0) where
   within : Within (l .n) (chosenProduct l chosen)

@@ -10,7 +10,7 @@ ghost use Rattle.contracts.specs.Calls.{Call};
 ghost use Rattle.buffers.specs.Refusals.{firstFitting};
 ghost use Rattle.pauli.specs.Pauli.{signedRow};
 ghost use Rattle.pauli.specs.internal.Rows.{pauliOf};
-ghost use Rattle.call_product.specs.Products.{chosenProduct, productCall, productLines};
+ghost use Rattle.calls.specs.Products.{chosenProduct, productCall, productLines};
 ghost use Rattle.words.specs.Bits.{isOdd};
 
 // The first line that holds; 0 where none does. Lines 2 and 4 come before the test of the word that chooses, 6 after

@@ -22,9 +22,9 @@ use Rattle.jobs_lent.specs.internal.LentRuns.{LentRun}
 use Rattle.stabilizer.proofs.SharedTests.{has-length}
 use Rattle.used.specs.Used.{UsedRecord, UsedUnrefused, usedLines}
 use Rattle.words.proofs.Flags.{neither}
-use Rattle.run_checks.proofs.RunLines.{after-15, no-further-argument}
+use Rattle.calls.proofs.RunLines.{after-15, no-further-argument}
 use Rattle.run_checks.proofs.Telling.{determinedAt, outcomeAt, refusalAt}
-use Rattle.call_run.specs.RunCalls.{LentSteps, oneOtherThan, otherLengths, runCall, runLines, stepsOf}
+use Rattle.calls.specs.Runs.{LentSteps, oneOtherThan, otherLengths, runCall, runLines, stepsOf}
 
 -- three slices have m places
 all-long : (m : ℕ) (x y z : List ℕ) → oneOtherThan m x y z ≡ false

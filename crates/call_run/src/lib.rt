@@ -4,7 +4,7 @@ use run_checks::one_other_than;
 use run_checks::run_refusal;
 use run_checks::unpack;
 ghost use Rattle.contracts.specs.Calls.{Call};
-ghost use Rattle.call_run.specs.RunCalls.{runCall};
+ghost use Rattle.calls.specs.Runs.{runCall};
 
 // Steps on a record in place, one after the other: the record is looked at once, and what each step answers is written.
 pub fn run(

@@ -20,7 +20,7 @@ use Rattle.store.specs.internal.Passing.{Passing}
 use Rattle.words.proofs.Flags.{both-true, neither}
 use Rattle.words.proofs.SearchLaws.{some-true}
 use Rattle.words.proofs.Searching.{above-none, below-some}
-use Rattle.call_store.specs.StoreCalls.{forgetCall, returnCall}
+use Rattle.calls.specs.Stores.{forgetCall, returnCall}
 
 module _ (name : ℕ) (st : Store) (others : Bool) (k : ℕ) (e : k ≡ firstFitting (storeLines 8 st others)) where
   pub early-number : (k ≡ 0 → ⊥) → k ≡ firstFitting (namedLines 8 name st others)

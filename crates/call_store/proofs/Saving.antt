@@ -6,6 +6,7 @@ use Prim.Native.Nat.{_*_, _+_, _<_, _^_, _≤_, ℕ}
 use native.Mathlib.Omega.{arith}
 use lib.Dec.{leb}
 use lib.ListN.{length}
+use Rattle.calls.proofs.SaveLines.{both-numbers, no-number}
 use Rattle.buffers.specs.Refusals.{firstFitting}
 use Rattle.contracts.proofs.Calling.{done, refused}
 use Rattle.contracts.proofs.Fitting.{decides, stays}
@@ -24,19 +25,13 @@ use Rattle.store.specs.StoreLines.{holdsLine, ofRecord, recordTests, saveLines,
 use Rattle.store.specs.internal.Passing.{Passing}
 use Rattle.used.specs.Used.{UsedRecord, usedLines}
 use Rattle.used_checks.proofs.UsedNumbers.{no-further}
-use Rattle.call_store.specs.StoreCalls.{saveCall}
+use Rattle.calls.specs.Stores.{saveCall}
 
 module _ (u : UsedRecord) (st : Store) where
-  -- the record and the store together
-  pub both-numbers : firstFitting (recordTests (λ m. ofRecord u m || holdsLine m (storeLines 8 st false)))
-      ≡ earlierOf (firstFitting (usedLines u false false false)) (firstFitting (storeLines 8 st false))
-  both-numbers = earlier-of-two (ofRecord u) (λ m. holdsLine m (storeLines 8 st false))
-      ∙ ap₂ earlierOf (record-number u) (told-by-number _ _ _ _ _)
-
   pub save-number : (own others r : ℕ) → own ≡ firstFitting (usedLines u false (leb (2 ^ (u .held .n)) 0) false)
       → others ≡ firstFitting (storeLines 8 st false) → r ≡ earlierOf own others
       → r ≡ firstFitting (recordTests (λ m. ofRecord u m || holdsLine m (storeLines 8 st false)))
-  save-number own others r e f g = g ∙ ap₂ earlierOf (no-further u false false e) f ∙ sym both-numbers
+  save-number own others r e f g = g ∙ ap₂ earlierOf (no-further u false false e) f ∙ sym (both-numbers u st)
 
   module _ (name k : ℕ) (e : k ≡ firstFitting (recordTests (λ m. ofRecord u m || holdsLine m (storeLines 8 st false)))) where
     pub save-refused : (k ≡ 0 → ⊥) → Call (saveCall u name st (st .heads) (st .neighbours) (st .codes)) k
@@ -44,14 +39,11 @@ module _ (u : UsedRecord) (st : Store) where
         (refl, (refl, (refl, tt)))
 
     module _ (z : k ≡ 0) where
-      pub no-number : (firstFitting (usedLines u false false false) ≡ 0) × (firstFitting (storeLines 8 st false) ≡ 0)
-      no-number = earlier-none _ _ (sym both-numbers ∙ sym e ∙ z)
-
       pub record-passes : AcceptedRecord (u .held)
-      record-passes = held-record u (no-number .0)
+      record-passes = held-record u (no-number u st k e z .0)
 
       pub store-passing : Passing 8 st
-      store-passing = store-accepted 8 st false (no-number .1)
+      store-passing = store-accepted 8 st false (no-number u st k e z .1)
 
       module _ (place : ℕ) (p : place ≡ savePlace 8 (st .heads) name) where
         pub save-full : 8 ≤ place → Call (saveCall u name st (st .heads) (st .neighbours) (st .codes)) 18

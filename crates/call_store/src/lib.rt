@@ -14,7 +14,7 @@ ghost use mathlib.Core.Bool.{false, _||_};
 ghost use Rattle.buffers.specs.Refusals.{firstFitting};
 ghost use Rattle.contracts.specs.Calls.{Call};
 ghost use Rattle.store.specs.StoreLines.{holdsLine, ofRecord, recordTests, storeLines};
-ghost use Rattle.call_store.specs.StoreCalls.{forgetCall, returnCall, saveCall};
+ghost use Rattle.calls.specs.Stores.{forgetCall, returnCall, saveCall};
 
 // The first line of the record or of the store that holds; 0 where none does.
 fn save_refusal(

@@ -7,6 +7,7 @@ use native.Mathlib.Omega.{arith}
 use lib.ListN.{getD, length, length-take, take}
 use lib.Seq.{getD-take}
 use borrow.Author.Tests.{not-false}
+use Rattle.calls.proofs.ListedNumbers.{listed-number}
 use Rattle.buffers.proofs.Lines.{more-accepted}
 use Rattle.buffers.proofs.Tabulate.{tabulate-at, tabulate-cong, tabulate-length}
 use Rattle.buffers.specs.Buffers.{tabulate}
@@ -14,7 +15,7 @@ use Rattle.buffers.specs.Refusals.{badCount, firstFitting, otherThan}
 use Rattle.contracts.proofs.Calling.{done, refused}
 use Rattle.contracts.proofs.Fitting.{NoneHolds, decides, fits-at, none-fits-of, none-holds, stays}
 use Rattle.contracts.specs.Calls.{Call}
-use Rattle.call_lists.specs.Calls.{checkCall}
+use Rattle.calls.specs.Lists.{checkCall}
 use Rattle.pauli.specs.Pauli.{Pauli, signBit}
 use Rattle.stabilizer.proofs.EarlyLines.{form-numbered}
 use Rattle.stabilizer.proofs.SharedTests.{counted, has-length, length-passes, table-passes}
@@ -26,32 +27,7 @@ use Rattle.strings.specs.Strings.{textSize}
 use Rattle.strings_scan.specs.internal.Generators.{LinesFit}
 use Rattle.words.proofs.BitLaws.{digit-lt, wordOf-lt}
 use Rattle.words.proofs.Flags.{neither}
-use Rattle.call_strings.specs.StringCalls.{readStringsCall}
-
--- ---- a list that is read has its form: lines 4, 5 and 6 do not hold
-module _ (n : ℕ) (R : ℕ → Pauli) where
-  pub listed-form : badCount n ≡ false → NoneHolds (formLines (listOf n R) false)
-  listed-form h = (
-    h,
-    (
-      ap (λ b. b || false) (ap₂ _||_ (place _) (ap₂ _||_ (place _) (place _))),
-      (
-        ap₂ _||_ (table-passes (2 ^ n) n _ (λ j l. wordOf-lt n ((R j) .z)))
-            (table-passes (2 ^ n) n _ (λ j l. wordOf-lt n ((R j) .x))),
-        (table-passes 2 n _ (λ j l. digit-lt (signBit ((R j) .phase))), tt),
-      ),
-    ),
-  )
-    where
-      place : (f : ℕ → ℕ) → otherThan n (tabulate n f) ≡ false
-      place f = length-passes n (tabulate n f) (tabulate-length n f)
-
-  -- so that lines 9 and 10 decide
-  pub listed-number : badCount n ≡ false →
-      firstFitting (listLines (listOf n R) false) ≡ firstFitting (judgedLines (listOf n R))
-  listed-number h =
-      more-accepted (formLines (listOf n R) false) (judgedLines (listOf n R)) (form-numbered (listOf n R) false)
-      (none-fits-of (formLines (listOf n R) false) (listed-form h))
+use Rattle.calls.specs.Strings.{readStringsCall}
 
 -- ---- an array whose first n places are a table
 pub part-of : (n : ℕ) (array : List ℕ) (f : ℕ → ℕ) → take n array ≡ tabulate n f → n ≡ length (take n array)

@@ -10,13 +10,13 @@ use Rattle.contracts.proofs.Calling.{done, no-line, refused}
 use Rattle.contracts.proofs.Fitting.{first-is}
 use Rattle.contracts.specs.Answers.{here, later}
 use Rattle.contracts.specs.Calls.{Call}
-use Rattle.call_lists.specs.Calls.{checkCall}
+use Rattle.calls.specs.Lists.{checkCall}
 use Rattle.stabilizer.proofs.Accepted.{accepted-list}
 use Rattle.stabilizer.proofs.SharedTests.{has-length}
 use Rattle.stabilizer.specs.Lists.{GeneratorList, listLengths, listLines, rows}
 use Rattle.strings.specs.Reading.{writeLines}
 use Rattle.strings.specs.Strings.{stringsText, textSize}
-use Rattle.call_strings.specs.StringCalls.{writeStringsCall}
+use Rattle.calls.specs.Strings.{writeStringsCall}
 
 module _ (l : GeneratorList) (text : List ℕ) where
   pub write-count : badCount (l .n) ≡ true → Call (writeStringsCall l text text) 2

@@ -11,7 +11,7 @@ use strings_scan::string_form;
 ghost use mathlib.Core.Bool.{true};
 ghost use mathlib.Core.Path.{_≡_};
 ghost use Rattle.buffers.specs.Refusals.{firstFitting};
-ghost use Rattle.call_strings.specs.StringCalls.{readStringsCall, writeStringsCall};
+ghost use Rattle.calls.specs.Strings.{readStringsCall, writeStringsCall};
 ghost use Rattle.contracts.specs.Calls.{Call};
 ghost use Rattle.strings.specs.Reading.{formedLines, lineCount, stringForm};
 

@@ -5,12 +5,12 @@ use mathlib.Core.List.{List}
 use mathlib.Core.Path.{ap₂, refl, subst, sym, _∙_, _≡_}
 use Prim.Native.Nat.{ℕ}
 use Rattle.buffers.specs.Refusals.{badCount, firstFitting}
-use Rattle.call_compare.proofs.Comparing.{counts-agree}
-use Rattle.call_compare.proofs.PairLines.{pair-number}
+use Rattle.calls.proofs.PairCounts.{counts-agree}
+use Rattle.calls.proofs.PairLines.{pair-number}
 use Rattle.comparison.specs.Compared.{pairLines}
 use Rattle.earliest.specs.internal.Earlier.{earlierOf}
 use Rattle.contracts.proofs.Fitting.{none-fits-of, none-holds}
-use Rattle.call_lists.specs.Calls.{checkLines}
+use Rattle.calls.specs.Lists.{checkLines}
 use Rattle.stabilizer.proofs.Accepted.{accepted-list}
 use Rattle.stabilizer.specs.Groups.{Proper}
 use Rattle.stabilizer.specs.Lists.{
@@ -58,7 +58,7 @@ accepted-pair l m choice list e =
         neither (badCount (m .n)) _ (two .1) .0,
         (both-pass (four₂ .0) refl, (five .1, (six .1, (nine .1, (ten .1, tt))))),
       );
-      same-count = counts-agree l m choice list 0 (h .0);
+      same-count = counts-agree l m (h .0);
       choice-places = places .0;
       list-places = places .1;
     }

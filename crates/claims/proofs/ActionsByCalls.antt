@@ -8,8 +8,8 @@ use lib.ListN.{length}
 use borrow.Author.Tests.{eq-eqb, ne-eqb}
 use Rattle.buffers.specs.Buffers.{accepted}
 use Rattle.buffers.specs.Refusals.{firstFitting}
-use Rattle.call_gates.specs.InPlaceCalls.{usedCall, usedMeasureCall}
-use Rattle.call_store.specs.StoreCalls.{forgetCall, heldUnder, returnCall, saveCall}
+use Rattle.calls.specs.InPlace.{usedCall, usedMeasureCall}
+use Rattle.calls.specs.Stores.{forgetCall, heldUnder, returnCall, saveCall}
 use Rattle.contracts.specs.Calls.{Call}
 use Rattle.jobs.proofs.Numbers.{left-by-operation}
 use Rattle.jobs.specs.Asked.{asked, unusedSet}

@@ -11,8 +11,8 @@ use Rattle.operations.proofs.Contradicted.{contradicts-exactly}
 use Rattle.operations.specs.Measurement.{contradicts, pauliLetter}
 use Rattle.operations.specs.Steps.{argumentLines}
 use Rattle.record.specs.Lent.{LentRecord, heldRows}
-use Rattle.call_gates.proofs.InPlaceLines.{held-accepted, measure-ready}
-use Rattle.call_gates.proofs.MeasureLines.{arguments-before, fourteen-exactly}
+use Rattle.calls.proofs.InPlaceLines.{held-accepted, measure-ready}
+use Rattle.calls.proofs.MeasureLines.{arguments-before, fourteen-exactly}
 use Rattle.stabilizer.specs.Groups.{InGroup}
 use Rattle.words.specs.Bits.{isOdd}
 use Rattle.claims.specs.OperationsDemand.{ContradictionsRefused, signedPauli}

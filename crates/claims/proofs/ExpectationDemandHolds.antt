@@ -7,8 +7,8 @@ use Prim.Native.Nat.{_<_, _≤_, suc, zero, ℕ}
 use native.Mathlib.Omega.{arith}
 use lib.Dec.{eqb}
 use lib.ListN.{length}
-use Rattle.call_expectation.proofs.ExpectationLines.{AcceptedRow, accepted-row}
-use Rattle.call_gates.proofs.InPlaceLines.{cz-ready, held-accepted}
+use Rattle.calls.proofs.ExpectationLines.{AcceptedRow, accepted-row}
+use Rattle.calls.proofs.InPlaceLines.{cz-ready, held-accepted}
 use Rattle.clifford.proofs.VectorLaws.{act-anticommute, act-imaginary, act-scaled}
 use Rattle.clifford.specs.Clifford.{Clifford, cliffordOf}
 use Rattle.clifford.specs.Vectors.{act, only}

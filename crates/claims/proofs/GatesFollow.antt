@@ -27,8 +27,8 @@ use Rattle.record.specs.Reduced.{reduced}
 use Rattle.stabilizer.proofs.Carried.{carries-same}
 use Rattle.stabilizer.proofs.GroupLaws.{same-trans}
 use Rattle.stabilizer.specs.Groups.{InGroup, Proper}
-use Rattle.call_gates.proofs.InPlaceLines.{cz-ready, held-accepted}
-use Rattle.call_gates.specs.InPlaceCalls.{inPlaceCall}
+use Rattle.calls.proofs.InPlaceLines.{cz-ready, held-accepted}
+use Rattle.calls.specs.InPlace.{inPlaceCall}
 use Rattle.claims.specs.OperationsDemand.{
   CzFollows,
   CzStands,

@@ -2,7 +2,7 @@
 use mathlib.Core.Path.{ap, ap₂, refl, subst, sym, _∙_, _≡_}
 use lib.ListN.{drop, length, take}
 use lib.Seq.{drop-at, take-at}
-use Rattle.call_generate.proofs.GenerateCalls.{accepted-job}
+use Rattle.calls.proofs.GenerateCalls.{accepted-job}
 use Rattle.generator.proofs.Lengths.{length-text}
 use Rattle.generator.proofs.ReadsBack.{reads-back}
 use Rattle.generator.proofs.Shapes.{all-drawable, length-drawn}

@@ -25,9 +25,9 @@ use Rattle.record.proofs.WrittenRecords.{record-back}
 use Rattle.record.specs.Lent.{LentRecord, heldRecord, heldRows, neighbourWords, recordLines}
 use Rattle.record.specs.Records.{GraphRecord}
 use Rattle.stabilizer.proofs.Carried.{same-rows}
-use Rattle.contracts.proofs.Calling.{written-all}
 use Rattle.contracts.specs.Calls.{Call}
-use Rattle.call_image.specs.Images.{imageCall}
+use Rattle.calls.proofs.ImageLeft.{count-left, image-left, list-left, signs-left}
+use Rattle.calls.specs.Images.{imageCall}
 use Rattle.words.proofs.BitLaws.{digit-lt, odd-digit}
 use Rattle.words.specs.Bits.{digit}
 use Rattle.claims.proofs.ThirdDemandHolds.{graph-each, half}
@@ -61,16 +61,16 @@ module _ (l : LentRecord) (image signs list : List ℕ) (count r : ℕ) (image�
     zero-number = loop-number ∙ passed 11 _ s ∙ passed 12 _ k ∙ none-fits
 
     the-graph : image′ ≡ neighbourWords m (imageRecord m held)
-    the-graph = written-all C zero-number .0
+    the-graph = image-left l image signs list count image′ signs′ list′ count′ r C zero-number
 
     the-signs : signs′ ≡ tabulate m (λ j. digit (imageMinus m held j))
-    the-signs = written-all C zero-number .1 .0
+    the-signs = signs-left l image signs list count image′ signs′ list′ count′ r C zero-number
 
     the-list : list′ ≡ written (imageList m held) list
-    the-list = written-all C zero-number .1 .1 .0
+    the-list = list-left l image signs list count image′ signs′ list′ count′ r C zero-number
 
     the-count : count′ ≡ length (imageList m held)
-    the-count = written-all C zero-number .1 .1 .1 .0
+    the-count = count-left l image signs list count image′ signs′ list′ count′ r C zero-number
 
     -- the words give the image graph back
     same-graph : (i q : ℕ) → imageGraph m held i q ≡ graphIn image′ i q

@@ -30,7 +30,7 @@ use Rattle.operations.specs.Steps.{
 }
 use Rattle.pauli.specs.Pauli.{Pauli}
 use Rattle.record.specs.Lent.{LentRecord, codeNumbers, heldRows, neighbourWords}
-use Rattle.call_gates.specs.InPlaceCalls.{inPlaceCall}
+use Rattle.calls.specs.InPlace.{inPlaceCall}
 use Rattle.stabilizer.specs.Groups.{InGroup, SameGroup}
 use Rattle.words.specs.Bits.{isOdd}
 use Rattle.claims.proofs.GatesFollow.{cz-follows, gates-follow}

@@ -7,8 +7,8 @@ use native.Mathlib.Decide.{ℕ-discrete}
 use lib.ListN.{take}
 use Rattle.buffers.proofs.AddedLines.{without-test}
 use Rattle.buffers.specs.Refusals.{firstFitting, withTest}
-use Rattle.call_gates.proofs.MeasureLines.{arguments-before, measure-passes}
-use Rattle.call_gates.proofs.UsedInPlace.{plain}
+use Rattle.calls.proofs.MeasureLines.{arguments-before, measure-passes}
+use Rattle.calls.proofs.UsedInPlace.{plain}
 use Rattle.contracts.proofs.Fitting.{decides}
 use Rattle.contracts.specs.Answers.{later, none}
 use Rattle.jobs.proofs.Numbers.{

@@ -35,10 +35,10 @@ use Rattle.record.specs.Accepted.{AcceptedRecord}
 use Rattle.record.specs.Lent.{LentRecord, heldRows}
 use Rattle.record.specs.Reduced.{reduced}
 use Rattle.stabilizer.specs.Groups.{InGroup, Proper, SameGroup}
-use Rattle.call_gates.proofs.InPlaceLines.{held-accepted, measure-ready, six-passes}
-use Rattle.call_gates.proofs.MeasureLines.{measure-passes}
+use Rattle.calls.proofs.InPlaceLines.{held-accepted, measure-ready, six-passes}
+use Rattle.calls.proofs.MeasureLines.{measure-passes}
 use Rattle.contracts.specs.Calls.{Call}
-use Rattle.call_gates.specs.InPlaceCalls.{measureCall}
+use Rattle.calls.specs.InPlace.{measureCall}
 use Rattle.words.proofs.BitLaws.{digit-odd, isOdd-digit, odd-digit}
 use Rattle.words.proofs.Flags.{neither}
 use Rattle.words.specs.Bits.{digit, isOdd}

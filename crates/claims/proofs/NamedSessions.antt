@@ -9,7 +9,7 @@ use native.Mathlib.Omega.{arith}
 use lib.Dec.{eqb}
 use borrow.Author.Tests.{eq-eqb, eqb-true, ne-eqb}
 use Rattle.buffers.specs.Refusals.{firstFitting}
-use Rattle.call_store.specs.StoreCalls.{heldUnder}
+use Rattle.calls.specs.Stores.{heldUnder}
 use Rattle.jobs.proofs.Starting.{started-stands}
 use Rattle.jobs.specs.GroupsAfter.{Group}
 use Rattle.jobs.specs.Standing.{StandsFor}

@@ -10,9 +10,9 @@ use lib.Dec.{lit≤}
 use lib.ListN.{drop, length, take}
 use lib.Seq.{drop-at, getD-take, take-at}
 use Rattle.buffers.specs.Refusals.{firstFitting}
-use Rattle.call_orbit.proofs.AcceptedGraphs.{AcceptedGraph, accepted-graph, simple-graph}
-use Rattle.call_orbit.specs.OrbitCalls.{orbitCall, orbitLines, orbitOf}
-use Rattle.call_compare.specs.Comparisons.{compareCall}
+use Rattle.calls.proofs.AcceptedGraphs.{AcceptedGraph, accepted-graph, simple-graph}
+use Rattle.calls.specs.Orbits.{orbitCall, orbitLines, orbitOf}
+use Rattle.calls.specs.Comparisons.{compareCall}
 use Rattle.contracts.specs.Calls.{Call}
 use Rattle.graph.specs.Graph.{Simple}
 use Rattle.graph.specs.NeighbourWords.{graphIn}

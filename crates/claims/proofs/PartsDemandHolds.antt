@@ -26,7 +26,7 @@ use Rattle.stabilizer.proofs.GroupLaws.{same-sym}
 use Rattle.stabilizer.specs.Carries.{Carries}
 use Rattle.stabilizer.specs.Groups.{Proper, SameGroup}
 use Rattle.stabilizer.specs.Lists.{GeneratorList, rows}
-use Rattle.call_compare.proofs.PairLines.{pair-numbered}
+use Rattle.calls.proofs.PairLines.{pair-numbered}
 use Rattle.words.proofs.Flags.{either}
 use Rattle.words.proofs.SearchLaws.{some-false, some-in, some-none, some-true}
 use Rattle.words.specs.Search.{first}

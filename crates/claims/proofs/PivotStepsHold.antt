@@ -9,7 +9,7 @@ use lib.Dec.{eqb, lit<}
 use borrow.Author.Tests.{eq-eqb, eqb-true, not-false}
 use Rattle.buffers.proofs.Lines.{first-below}
 use Rattle.buffers.specs.Refusals.{firstFitting, withTest}
-use Rattle.call_gates.specs.InPlaceCalls.{usedCall}
+use Rattle.calls.specs.InPlace.{usedCall}
 use Rattle.contracts.specs.Calls.{Call}
 use Rattle.jobs.proofs.Numbers.{
   accepted-leaves,

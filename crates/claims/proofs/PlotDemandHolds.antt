@@ -9,10 +9,10 @@ use borrow.Author.Tests.{eq-eqb, ne-eqb}
 use Rattle.amplitude.proofs.CountedWords.{plot-of-group}
 use Rattle.amplitude.specs.Ratios.{isSupported, plotAt, ratio}
 use Rattle.buffers.specs.Refusals.{firstFitting}
-use Rattle.call_lists.specs.Calls.{checkLines}
+use Rattle.calls.specs.Lists.{checkLines}
 use Rattle.cut.specs.Rank.{rank}
-use Rattle.plot_reply.proofs.Answering.{many-refused, same-number}
-use Rattle.plot_reply.specs.Answer.{plotAnswer}
+use Rattle.calls.proofs.PlotLines.{many-refused, same-number}
+use Rattle.calls.specs.PlotAnswers.{plotAnswer}
 use Rattle.plot_text.specs.Table.{tableText}
 use Rattle.record.specs.Reduced.{xWords}
 use Rattle.stabilizer.proofs.Accepted.{AcceptedList, accepted-list}

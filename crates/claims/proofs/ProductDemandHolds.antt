@@ -5,8 +5,8 @@ use Prim.Native.Nat.{_<_, _^_, suc, zero, ℕ}
 use Rattle.pauli.proofs.PauliLaws.{Pauli-path, mul-identity}
 use Rattle.pauli.proofs.PhaseLaws.{exponent-lt, power-exponent}
 use Rattle.pauli.specs.Pauli.{Pauli, mul, power, row}
-use Rattle.call_product.proofs.ProductLines.{accepted-rows}
-use Rattle.call_product.specs.Products.{chosenProduct}
+use Rattle.calls.proofs.ProductLines.{accepted-rows}
+use Rattle.calls.specs.Products.{chosenProduct}
 use Rattle.stabilizer.proofs.Accepted.{formed-within}
 use Rattle.stabilizer.proofs.ReadBack.{word-back}
 use Rattle.stabilizer.proofs.Within.{product-within}

@@ -18,8 +18,8 @@ use Rattle.jobs.specs.GroupsAfter.{GroupAfter, StartGroup}
 use Rattle.jobs.specs.Runs.{recordAfter, run, started}
 use Rattle.jobs.specs.Standing.{StandsFor}
 use Rattle.jobs.specs.declared.Step.{Step}
-use Rattle.call_lists.specs.Calls.{checkLines}
-use Rattle.list_reply.specs.Answer.{answerText as listPrinted}
+use Rattle.calls.specs.Lists.{checkLines}
+use Rattle.calls.specs.ListAnswers.{answerText as listPrinted}
 use Rattle.record.proofs.WrittenRecords.{reduced-held-same}
 use Rattle.stabilizer.proofs.Accepted.{AcceptedList, accepted-list}
 use Rattle.stabilizer.proofs.SharedTests.{count-passes}

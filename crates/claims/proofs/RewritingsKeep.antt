@@ -22,9 +22,9 @@ use Rattle.record.specs.Records.{GraphRecord, complementRecord, rowsOf}
 use Rattle.stabilizer.proofs.EqualRows.{same-group-equal}
 use Rattle.stabilizer.proofs.GroupLaws.{same-trans}
 use Rattle.stabilizer.specs.Groups.{SameGroup}
-use Rattle.call_gates.proofs.InPlaceCalls.{left-by-call, marked-by-call}
-use Rattle.call_gates.proofs.InPlaceLines.{complement-ready, eight-passes, held-accepted}
-use Rattle.call_gates.specs.InPlaceCalls.{inPlaceCall, usedCall, usedMeasureCall}
+use Rattle.calls.proofs.InPlaceCalls.{left-by-call, marked-by-call}
+use Rattle.calls.proofs.InPlaceLines.{complement-ready, eight-passes, held-accepted}
+use Rattle.calls.specs.InPlace.{inPlaceCall, usedCall, usedMeasureCall}
 use Rattle.used.specs.Used.{UsedRecord, usedAfter, usedStep}
 use Rattle.words.proofs.Flags.{neither}
 use Rattle.claims.proofs.GatesFollow.{holds-new}

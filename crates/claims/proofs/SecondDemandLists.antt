@@ -21,8 +21,8 @@ use Rattle.stabilizer.proofs.Accepted.{AcceptedList, accepted-list}
 use Rattle.stabilizer.specs.Groups.{Proper, SameGroup}
 use Rattle.stabilizer.specs.Lists.{GeneratorList, rows}
 use Rattle.contracts.specs.Calls.{Call}
-use Rattle.call_expand.specs.Expanding.{expandCall}
-use Rattle.call_lists.specs.Calls.{reduceCall}
+use Rattle.calls.specs.Expansions.{expandCall}
+use Rattle.calls.specs.Lists.{reduceCall}
 use Rattle.used.proofs.UsedPassing.{lines-pass}
 use Rattle.used.specs.Used.{UsedRecord}
 use Rattle.claims.specs.SecondDemand.{

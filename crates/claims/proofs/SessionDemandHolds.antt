@@ -9,8 +9,8 @@ use Rattle.buffers.specs.Refusals.{firstFitting}
 use Rattle.clifford.specs.Clifford.{Clifford, cliffordOf}
 use Rattle.clifford.specs.Vectors.{act}
 use Rattle.contracts.specs.Calls.{Call}
-use Rattle.call_expand.specs.Expanding.{expandCall}
-use Rattle.call_lists.specs.Calls.{reduceCall}
+use Rattle.calls.specs.Expansions.{expandCall}
+use Rattle.calls.specs.Lists.{reduceCall}
 use Rattle.operations.proofs.CzGroups.{cz-proper}
 use Rattle.operations.proofs.Determined.{measured-proper}
 use Rattle.operations.proofs.Gating.{gated-row}

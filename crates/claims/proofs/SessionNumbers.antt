@@ -11,7 +11,7 @@ use borrow.Author.Tests.{lt-leb, ne-eqb}
 use Rattle.buffers.proofs.Lines.{more-refused}
 use Rattle.buffers.specs.Refusals.{Refusal, firstFitting, line, withTest}
 use Rattle.contracts.specs.Calls.{Call}
-use Rattle.call_expand.specs.Expanding.{expandCall, expandLines}
+use Rattle.calls.specs.Expansions.{expandCall, expandLines}
 use Rattle.operations.specs.Measurement.{contradicts, pauliLetter, single}
 use Rattle.operations.specs.Steps.{inPlaceLines}
 use Rattle.pauli.specs.Pauli.{Pauli}

@@ -12,8 +12,8 @@ use borrow.Author.Tests.{not-false}
 use Rattle.buffers.proofs.Lines.{none-of-all, not-held}
 use Rattle.buffers.specs.Buffers.{written}
 use Rattle.buffers.specs.Refusals.{firstFitting, otherThan}
-use Rattle.call_store.proofs.Saving.{no-number}
-use Rattle.call_store.specs.StoreCalls.{heldUnder}
+use Rattle.calls.proofs.SaveLines.{no-number}
+use Rattle.calls.specs.Stores.{heldUnder}
 use Rattle.store.proofs.ForgottenNames.{forgotten-lookup, forgotten-passing, held-lookup, held-passes}
 use Rattle.store.proofs.Lookups.{saved-lookup, saved-passing}
 use Rattle.store.proofs.PassingStores.{held-record, store-accepted, store-passes}
@@ -36,7 +36,7 @@ module _ (u : UsedRecord) (name : ℕ) (st : Store) (z : firstFitting (saveLines
       (h .0, not-held 17 (othersHeld 8 (st .heads) name) [] (h .1) .0)
 
   both : (firstFitting (usedLines u false false false) ≡ 0) × (firstFitting (storeLines 8 st false) ≡ 0)
-  both = no-number u st name 0 (sym (parts .0)) refl
+  both = no-number u st 0 (sym (parts .0)) refl
 
   pub record-passes : firstFitting (usedLines u false false false) ≡ 0
   record-passes = both .0

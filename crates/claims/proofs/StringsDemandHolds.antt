@@ -6,7 +6,7 @@ use Prim.Native.Nat.{ℕ}
 use lib.ListN.{length}
 use borrow.Author.Tests.{not-true}
 use Rattle.buffers.proofs.Tabulate.{tabulate-length}
-use Rattle.call_strings.specs.StringCalls.{readStringsCall, writeStringsCall}
+use Rattle.calls.specs.Strings.{readStringsCall, writeStringsCall}
 use Rattle.contracts.proofs.Calling.{written-all}
 use Rattle.contracts.proofs.Fitting.{first-is, fits-at, is-first}
 use Rattle.contracts.specs.Answers.{here}

@@ -7,7 +7,7 @@ use Prim.Native.Nat.{ℕ}
 use lib.ListN.{length}
 use borrow.Author.Tests.{not-false}
 use Rattle.buffers.specs.Refusals.{badCount, firstFitting}
-use Rattle.call_strings.proofs.ReadCalls.{listed-number}
+use Rattle.calls.proofs.ListedNumbers.{listed-number}
 use Rattle.contracts.proofs.Fitting.{NoneHolds, none-fits-of, none-holds}
 use Rattle.stabilizer.proofs.Accepted.{accepted-list}
 use Rattle.stabilizer.proofs.SharedTests.{has-length, length-passes}

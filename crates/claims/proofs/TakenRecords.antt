@@ -5,8 +5,8 @@ use mathlib.Core.Path.{_≡_, _∙_, refl, sym}
 use Prim.Native.Nat.{_<_, ℕ, _≤_}
 use native.Mathlib.Decide.{ℕ-discrete}
 use Rattle.buffers.specs.Refusals.{firstFitting}
-use Rattle.call_gates.proofs.MeasureLines.{fourteen-exactly}
-use Rattle.call_gates.proofs.UsedInPlace.{plain}
+use Rattle.calls.proofs.MeasureLines.{fourteen-exactly}
+use Rattle.calls.proofs.UsedInPlace.{plain}
 use Rattle.contracts.proofs.Fitting.{decides}
 use Rattle.contracts.specs.Answers.{later, none}
 use Rattle.operations.specs.Steps.{argumentLines, measurementOf}

@@ -31,9 +31,9 @@ use Rattle.stabilizer.specs.Carries.{Carries}
 use Rattle.stabilizer.specs.Groups.{Proper}
 use Rattle.stabilizer.specs.Lists.{GeneratorList, rows}
 use Rattle.contracts.proofs.Calling.{written-all}
-use Rattle.call_compare.proofs.PairLines.{pair-numbered}
-use Rattle.comparison_answer.proofs.ReducedPairs.{least-held}
-use Rattle.comparison_answer.specs.ComparedPairs.{compareList, inducedRecord}
+use Rattle.calls.proofs.PairLines.{pair-numbered}
+use Rattle.comparison.proofs.LeastCodes.{least-held}
+use Rattle.comparison.specs.ComparedPairs.{compareList, inducedRecord}
 use Rattle.claims.proofs.AcceptedPairs.{accepted-pair, first-proper, no-line-holds, second-proper}
 use Rattle.claims.proofs.PartsDemandHolds.{no-large}
 use Rattle.claims.specs.PartsDemand.{SmallParts, part}

@@ -6,9 +6,9 @@ use mathlib.Core.Path.{_≡_, _∙_, ap, refl, subst, sym}
 use Prim.Native.Nat.{_*_, _+_, _-_, ℕ}
 use lib.ListN.{getD}
 use Rattle.buffers.specs.Refusals.{firstFitting}
-use Rattle.call_gates.proofs.InPlaceCalls.{measured-without, without-used}
-use Rattle.call_gates.specs.InPlaceCalls.{usedCall}
-use Rattle.call_lists.specs.Calls.{reduceCall, reduceUnusedCall}
+use Rattle.calls.proofs.InPlaceCalls.{measured-without, without-used}
+use Rattle.calls.specs.InPlace.{usedCall}
+use Rattle.calls.specs.Lists.{reduceCall, reduceUnusedCall}
 use Rattle.contracts.specs.Calls.{Call}
 use Rattle.operations.specs.Steps.{Operation, complementOf, czOn, gateWith, measurementOf, pivotOf}
 use Rattle.record.proofs.WrittenRecords.{reduced-passes}

@@ -17,7 +17,7 @@ use Rattle.amplitude.specs.Vectors.{
   amplitudes,
   none,
 }
-use Rattle.call_amplitude.specs.AmplitudeCalls.{amplitudeCall}
+use Rattle.calls.specs.Amplitudes.{amplitudeCall}
 use Rattle.contracts.specs.Calls.{Call}
 use Rattle.cut.specs.Rank.{rank}
 use Rattle.pauli.specs.Pauli.{Pauli}

@@ -8,11 +8,11 @@ use Prim.Native.Nat.{_*_, _-_, _^_, ℕ}
 use Rattle.contracts.specs.Calls.{Call}
 use Rattle.cut.specs.Cut.{crossing, cutRank}
 use Rattle.cut.specs.Kernel.{kernelSize}
-use Rattle.call_cut.specs.Cuts.{cutCall}
+use Rattle.calls.specs.Cuts.{cutCall}
 use Rattle.jobs.specs.Standing.{left}
 use Rattle.operations.specs.Steps.{complementOf, czOn, gateWith}
 use Rattle.record.specs.Lent.{LentRecord, heldRecord}
-use Rattle.call_gates.specs.InPlaceCalls.{inPlaceCall}
+use Rattle.calls.specs.InPlace.{inPlaceCall}
 use Rattle.used.specs.Used.{UsedRecord}
 use Rattle.words.specs.Bits.{Word, bit}
 

@@ -6,9 +6,9 @@ use mathlib.Core.List.{List}
 use mathlib.Core.Logic.{_↔_, _⊎_}
 use mathlib.Core.Path.{_≡_}
 use Prim.Native.Nat.{_^_, ℕ}
-use Rattle.call_expectation.specs.Expectations.{expectationCall}
-use Rattle.call_gates.specs.InPlaceCalls.{inPlaceCall, usedMeasureCall}
-use Rattle.call_lists.specs.Calls.{reduceUnusedCall}
+use Rattle.calls.specs.Expectations.{expectationCall}
+use Rattle.calls.specs.InPlace.{inPlaceCall, usedMeasureCall}
+use Rattle.calls.specs.Lists.{reduceUnusedCall}
 use Rattle.clifford.specs.Clifford.{cliffordOf}
 use Rattle.clifford.specs.Vectors.{act, only}
 use Rattle.contracts.specs.Calls.{Call, Contract}

@@ -5,7 +5,7 @@ use mathlib.Core.Path.{_≡_}
 use Prim.Native.Nat.{ℕ, _≤_}
 use lib.ListN.{drop, length, take}
 use Rattle.contracts.specs.Calls.{Call}
-use Rattle.call_generate.specs.Generation.{generateCall}
+use Rattle.calls.specs.Generation.{generateCall}
 use Rattle.generator.specs.Drawn.{drawn}
 use Rattle.generator.specs.ReadBack.{ReadsBack}
 use Rattle.generator.specs.Shapes.{AllDrawable}

@@ -15,7 +15,7 @@ use Rattle.pauli.specs.Pauli.{Pauli, minus, scaled}
 use Rattle.record.specs.Lent.{LentRecord, heldRecord, heldRows, recordLines}
 use Rattle.stabilizer.specs.Groups.{SameGroup}
 use Rattle.contracts.specs.Calls.{Call}
-use Rattle.call_image.specs.Images.{imageCall}
+use Rattle.calls.specs.Images.{imageCall}
 use Rattle.claims.specs.ThirdDemand.{complementEach}
 
 -- the generators of a graph with "one minus sign bit per vertex"

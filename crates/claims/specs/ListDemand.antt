@@ -8,8 +8,8 @@ use lib.Dec.{eqb}
 use Rattle.clifford.specs.Vectors.{act}
 use Rattle.contracts.specs.Calls.{Call}
 use Rattle.graph.specs.Graph.{Graph, Simple}
-use Rattle.call_expand.specs.Expanding.{expandCall}
-use Rattle.call_lists.specs.Calls.{checkCall, reduceCall}
+use Rattle.calls.specs.Expansions.{expandCall}
+use Rattle.calls.specs.Lists.{checkCall, reduceCall}
 use Rattle.jobs.specs.Standing.{StillRecord}
 use Rattle.pauli.specs.Pauli.{Pauli, anticommute, minus}
 use Rattle.record.specs.Columns.{ColumnDependent}

@@ -22,7 +22,7 @@ use Rattle.record.specs.Records.{GraphRecord, SameRecord, complementRecord, row
 use Rattle.record.specs.Reduced.{reduced}
 use Rattle.stabilizer.specs.Carries.{Carries}
 use Rattle.stabilizer.specs.Groups.{InGroup, SameGroup}
-use Rattle.call_gates.specs.InPlaceCalls.{inPlaceCall, measureCall, usedCall, usedMeasureCall}
+use Rattle.calls.specs.InPlace.{inPlaceCall, measureCall, usedCall, usedMeasureCall}
 use Rattle.used.specs.Used.{UsedRecord, usedArgumentsOf, usedStep}
 use Rattle.words.specs.Bits.{isOdd}
 

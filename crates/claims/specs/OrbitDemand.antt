@@ -6,9 +6,9 @@ use mathlib.Core.Path.{_≡_}
 use Prim.Native.Nat.{_<_, _^_, _≤_, ℕ}
 use lib.ListN.{drop, getD, length, take}
 use Rattle.buffers.specs.Refusals.{firstFitting}
-use Rattle.call_orbit.specs.OrbitCalls.{orbitCall, orbitLines}
+use Rattle.calls.specs.Orbits.{orbitCall, orbitLines}
 use Rattle.clifford.specs.Clifford.{cliffordOf}
-use Rattle.call_compare.specs.Comparisons.{compareCall}
+use Rattle.calls.specs.Comparisons.{compareCall}
 use Rattle.contracts.specs.Calls.{Call}
 use Rattle.graph.specs.Graph.{Graph, Simple}
 use Rattle.graph.specs.NeighbourWords.{graphIn}

@@ -15,10 +15,10 @@ use Rattle.parts.specs.Parts.{Path, partOf}
 use Rattle.record.specs.Reduced.{reducedGraph}
 use Rattle.stabilizer.specs.Carries.{Carries}
 use Rattle.stabilizer.specs.Lists.{GeneratorList, rows}
-use Rattle.call_lists.specs.Calls.{checkLines}
+use Rattle.calls.specs.Lists.{checkLines}
 use Rattle.words.specs.Bits.{Word}
 use Rattle.contracts.specs.Calls.{Call}
-use Rattle.call_compare.specs.Comparisons.{compareCall}
+use Rattle.calls.specs.Comparisons.{compareCall}
 
 -- the connected part of vertex q in a list's reduced graph
 abbrev pub part : GeneratorList → ℕ → Word

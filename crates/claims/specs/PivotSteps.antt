@@ -6,7 +6,7 @@ use mathlib.Core.List.{List, [], _∷_}
 use mathlib.Core.Logic.{_↔_, _≢_}
 use mathlib.Core.Path.{_≡_}
 use Prim.Native.Nat.{_<_, ℕ}
-use Rattle.call_gates.specs.InPlaceCalls.{usedCall}
+use Rattle.calls.specs.InPlace.{usedCall}
 use Rattle.contracts.specs.Calls.{Call}
 use Rattle.jobs.specs.Asked.{numberOf}
 use Rattle.jobs.specs.Runs.{afterStep, answerOf, run}

@@ -6,10 +6,10 @@ use Prim.Native.Nat.{_<_, _^_, ℕ, _≤_}
 use lib.ListN.{length, take}
 use Rattle.amplitude.specs.Ratios.{plotAt}
 use Rattle.buffers.specs.Refusals.{firstFitting}
-use Rattle.call_lists.specs.Calls.{checkLines}
-use Rattle.list_reply.specs.Answer.{ResponseTo, listRead}
+use Rattle.calls.specs.Lists.{checkLines}
+use Rattle.calls.specs.ListAnswers.{ResponseTo, listRead}
 use Rattle.pauli.specs.Pauli.{Pauli}
-use Rattle.plot_reply.specs.Answer.{plotAnswer}
+use Rattle.calls.specs.PlotAnswers.{plotAnswer}
 use Rattle.plot_text.specs.Table.{tableText}
 use Rattle.stabilizer.specs.Groups.{Proper, SameGroup}
 use Rattle.stabilizer.specs.Lists.{GeneratorList, rows}

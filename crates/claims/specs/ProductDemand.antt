@@ -5,7 +5,7 @@ use mathlib.Core.Path.{_≡_}
 use Prim.Native.Nat.{_<_, _^_, suc, ℕ}
 use Rattle.contracts.specs.Calls.{Call}
 use Rattle.pauli.specs.Pauli.{Pauli, identity, mul, power, row}
-use Rattle.call_product.specs.Products.{productCall}
+use Rattle.calls.specs.Products.{productCall}
 use Rattle.stabilizer.specs.Lists.{GeneratorList, rows}
 use Rattle.words.specs.Bits.{Word, bit}
 

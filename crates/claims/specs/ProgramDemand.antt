@@ -15,8 +15,8 @@ use Rattle.jobs.specs.GroupsAfter.{Group, GroupAfter, GroupDetermines, Refused,
 use Rattle.jobs.specs.Runs.{recordAfter, run, started}
 use Rattle.jobs.specs.Standing.{StandsFor, StillRecord}
 use Rattle.jobs.specs.declared.Step.{Step}
-use Rattle.call_lists.specs.Calls.{checkLines}
-use Rattle.list_reply.specs.Answer.{ResponseTo as ListResponse, answerText, listRead}
+use Rattle.calls.specs.Lists.{checkLines}
+use Rattle.calls.specs.ListAnswers.{ResponseTo as ListResponse, answerText, listRead}
 use Rattle.operations.specs.Measurement.{pauliLetter, single}
 use Rattle.operations.specs.Steps.{Operation, complementOf, czOn, gateWith, measurementOf, pivotOf}
 use Rattle.pauli.specs.Pauli.{Pauli}

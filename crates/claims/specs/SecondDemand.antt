@@ -10,8 +10,8 @@ use Rattle.contracts.specs.Calls.{Call}
 use Rattle.record.specs.Lent.{LentRecord, heldRows}
 use Rattle.stabilizer.specs.Groups.{SameGroup}
 use Rattle.stabilizer.specs.Lists.{GeneratorList, rows}
-use Rattle.call_expand.specs.Expanding.{expandCall}
-use Rattle.call_lists.specs.Calls.{checkLines, reduceCall}
+use Rattle.calls.specs.Expansions.{expandCall}
+use Rattle.calls.specs.Lists.{checkLines, reduceCall}
 use Rattle.used.specs.Used.{UsedRecord}
 
 -- "a generator list and its reduced record stand for the same group"

@@ -11,8 +11,8 @@ use Rattle.buffers.specs.Refusals.{firstFitting, line}
 use Rattle.clifford.specs.Clifford.{cliffordOf}
 use Rattle.clifford.specs.Vectors.{act, only}
 use Rattle.contracts.specs.Calls.{Call}
-use Rattle.call_expand.specs.Expanding.{expandCall, expandLines}
-use Rattle.call_lists.specs.Calls.{reduceCall, reduceLines}
+use Rattle.calls.specs.Expansions.{expandCall, expandLines}
+use Rattle.calls.specs.Lists.{reduceCall, reduceLines}
 use Rattle.operations.specs.Cz.{cz}
 use Rattle.operations.specs.Measurement.{
   measuredOutcome,
@@ -24,7 +24,7 @@ use Rattle.operations.specs.Measurement.{
 }
 use Rattle.operations.specs.Steps.{czOn, gateWith}
 use Rattle.pauli.specs.Pauli.{Pauli}
-use Rattle.call_gates.specs.InPlaceCalls.{usedCall, usedMeasureCall}
+use Rattle.calls.specs.InPlace.{usedCall, usedMeasureCall}
 use Rattle.stabilizer.specs.Groups.{SameGroup}
 use Rattle.stabilizer.specs.Lists.{GeneratorList, listOf, rows}
 use Rattle.used.specs.Used.{UsedRecord}

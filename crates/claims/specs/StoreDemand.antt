@@ -9,7 +9,7 @@ use Prim.Native.Nat.{_≤_, ℕ}
 use lib.Dec.{eqb}
 use lib.ListN.{drop, replicate, take}
 use Rattle.buffers.specs.Refusals.{firstFitting}
-use Rattle.call_store.specs.StoreCalls.{forgetCall, heldUnder, returnCall, saveCall}
+use Rattle.calls.specs.Stores.{forgetCall, heldUnder, returnCall, saveCall}
 use Rattle.contracts.specs.Calls.{Call}
 use Rattle.jobs.specs.GroupsAfter.{Group, GroupAfterStep, StartGroup}
 use Rattle.jobs.specs.Runs.{afterStep, started}

@@ -5,7 +5,7 @@ use mathlib.Core.Logic.{_↔_}
 use mathlib.Core.Path.{_≡_}
 use Prim.Native.Nat.{ℕ}
 use lib.ListN.{length}
-use Rattle.call_strings.specs.StringCalls.{readStringsCall, writeStringsCall}
+use Rattle.calls.specs.Strings.{readStringsCall, writeStringsCall}
 use Rattle.contracts.specs.Calls.{Call}
 use Rattle.stabilizer.specs.Lists.{GeneratorList}
 use Rattle.strings.specs.Strings.{HasStringForm}

@@ -14,9 +14,9 @@ use Rattle.image.specs.Rule.{imageList}
 use Rattle.record.specs.Reduced.{reducedGraph}
 use Rattle.stabilizer.specs.Carries.{Carries}
 use Rattle.stabilizer.specs.Lists.{GeneratorList, rows}
-use Rattle.call_lists.specs.Calls.{checkLines}
+use Rattle.calls.specs.Lists.{checkLines}
 use Rattle.contracts.specs.Calls.{Call}
-use Rattle.call_compare.specs.Comparisons.{compareCall}
+use Rattle.calls.specs.Comparisons.{compareCall}
 use Rattle.claims.specs.PartsDemand.{SmallParts}
 
 -- "Done one after another": the graph complemented at each vertex of a list

@@ -8,8 +8,8 @@ use Prim.Native.Nat.{_*_, _+_, _-_, _<_, ℕ}
 use lib.Dec.{eqb}
 use lib.ListN.{getD}
 use Rattle.buffers.specs.Refusals.{firstFitting}
-use Rattle.call_gates.specs.InPlaceCalls.{inPlaceCall, measureCall, usedCall, usedMeasureCall}
-use Rattle.call_lists.specs.Calls.{reduceUnusedCall}
+use Rattle.calls.specs.InPlace.{inPlaceCall, measureCall, usedCall, usedMeasureCall}
+use Rattle.calls.specs.Lists.{reduceUnusedCall}
 use Rattle.contracts.specs.Calls.{Call}
 use Rattle.jobs.specs.Standing.{left}
 use Rattle.operations.specs.Steps.{Operation, linesOf, measurementOf}

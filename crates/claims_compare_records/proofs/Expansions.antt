@@ -10,10 +10,10 @@ use borrow.Author.Tests.{eq-eqb, eqb-true, not-false}
 use Rattle.buffers.proofs.Lines.{more-accepted}
 use Rattle.buffers.specs.Buffers.{accepted, acceptedNumber, tabulate, written}
 use Rattle.buffers.specs.Refusals.{badCount, firstFitting, line, otherThan}
-use Rattle.call_compare.proofs.PairLines.{pair-numbered}
-use Rattle.call_compare.specs.Comparisons.{compareCall}
-use Rattle.call_compare_records.proofs.RecordPairs.{records-numbered}
-use Rattle.call_compare_records.specs.RecordComparisons.{
+use Rattle.calls.proofs.PairLines.{pair-numbered}
+use Rattle.calls.proofs.RecordPairLines.{records-numbered}
+use Rattle.calls.specs.Comparisons.{compareCall}
+use Rattle.calls.specs.RecordComparisons.{
   compareRecordsCall,
   compareRecordsLines,
   recordsLines,
@@ -24,7 +24,7 @@ use Rattle.clifford.specs.Clifford.{cliffordOf, inverse, then}
 use Rattle.comparison.proofs.ComparedRecords.{same-least, same-refusal}
 use Rattle.comparison.specs.Choices.{choice, leastCode, leastNumber, noChoice}
 use Rattle.comparison.specs.Compared.{compareLines, pairLines}
-use Rattle.comparison_answer.specs.ComparedPairs.{compareList}
+use Rattle.comparison.specs.ComparedPairs.{compareList}
 use Rattle.contracts.proofs.Fitting.{NoneHolds, none-fits-of, none-holds}
 use Rattle.contracts.specs.Calls.{Call}
 use Rattle.image.specs.Rule.{imageList}

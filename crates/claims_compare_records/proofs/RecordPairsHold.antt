@@ -6,11 +6,11 @@ use mathlib.Core.Path.{ap, ap₂, refl, subst, sym, _∙_, _≡_}
 use Prim.Native.Nat.{ℕ}
 use lib.Dec.{eqb}
 use lib.ListN.{length}
+use Rattle.calls.proofs.RecordPairLines.{records-numbered}
 use Rattle.buffers.proofs.Lines.{fits, more-accepted, none-fits, none-of-all, passed}
 use Rattle.buffers.specs.Refusals.{Refusal, firstFitting, line}
-use Rattle.call_compare.specs.Comparisons.{compareCall}
-use Rattle.call_compare_records.proofs.RecordPairs.{records-numbered}
-use Rattle.call_compare_records.specs.RecordComparisons.{
+use Rattle.calls.specs.Comparisons.{compareCall}
+use Rattle.calls.specs.RecordComparisons.{
   compareRecordsCall,
   compareRecordsLines,
   recordLargePart,

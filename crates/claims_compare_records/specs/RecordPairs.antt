@@ -7,8 +7,8 @@ use mathlib.Core.Path.{_≡_}
 use Prim.Native.Nat.{ℕ, _≤_}
 use lib.ListN.{length}
 use Rattle.buffers.specs.Refusals.{firstFitting}
-use Rattle.call_compare.specs.Comparisons.{compareCall}
-use Rattle.call_compare_records.specs.RecordComparisons.{compareRecordsCall, compareRecordsLines, recordsLines}
+use Rattle.calls.specs.Comparisons.{compareCall}
+use Rattle.calls.specs.RecordComparisons.{compareRecordsCall, compareRecordsLines, recordsLines}
 use Rattle.claims.specs.Conforming.{Answered, Conforms}
 use Rattle.claims.specs.PartsDemand.{LargePart, SmallParts}
 use Rattle.claims.specs.ThirdDemand.{Decided}

@@ -7,7 +7,7 @@ use lib.Dec.{eqb}
 use borrow.Author.Tests.{eqb-true, leb-false}
 use Rattle.buffers.specs.Buffers.{accepted, acceptedNumber}
 use Rattle.buffers.specs.Refusals.{firstFitting}
-use Rattle.call_groups.specs.GroupCalls.{groupCall, groupMeasureCall}
+use Rattle.calls.specs.Groups.{groupCall, groupMeasureCall}
 use Rattle.claims.specs.StoreDemand.{Session}
 use Rattle.contracts.specs.Calls.{Call}
 use Rattle.groups.proofs.GroupPassing.{group-accepted}

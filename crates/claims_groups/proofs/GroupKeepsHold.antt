@@ -8,7 +8,7 @@ use borrow.Author.Tests.{not-true}
 use native.Mathlib.Omega.{arith}
 use Rattle.buffers.proofs.Tabulate.{tabulate-length}
 use Rattle.buffers.specs.Refusals.{firstFitting}
-use Rattle.call_groups.specs.GroupCalls.{groupCall}
+use Rattle.calls.specs.Groups.{groupCall}
 use Rattle.claims.proofs.StoreDemandHolds.{forgotten-free}
 use Rattle.claims.specs.UsedDemand.{leftUsed}
 use Rattle.contracts.proofs.Fitting.{decides, fits-at, is-first, none-fits-of, skips}

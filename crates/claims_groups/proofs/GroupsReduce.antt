@@ -7,7 +7,7 @@ use Prim.Native.Nat.{_<_, ℕ}
 use lib.ListN.{getD}
 use Rattle.buffers.proofs.Tabulate.{tabulate-is}
 use Rattle.buffers.specs.Refusals.{firstFitting}
-use Rattle.call_groups.specs.GroupCalls.{groupCall}
+use Rattle.calls.specs.Groups.{groupCall}
 use Rattle.claims.proofs.GatesFollow.{cz-follows, gates-follow}
 use Rattle.claims.proofs.JobSteps.{call-of}
 use Rattle.claims.proofs.MeasurementsFollow.{measurements-follow}

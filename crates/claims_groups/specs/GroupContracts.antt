@@ -2,8 +2,8 @@
 use mathlib.Core.List.{List, [], _∷_}
 use mathlib.Core.Path.{_≡_}
 use Prim.Native.Nat.{ℕ}
-use Rattle.call_group_stores.specs.GroupStoreCalls.{groupForgetCall, groupReturnCall, groupSaveCall}
-use Rattle.call_groups.specs.GroupCalls.{groupCall, groupMeasureCall}
+use Rattle.calls.specs.GroupStores.{groupForgetCall, groupReturnCall, groupSaveCall}
+use Rattle.calls.specs.Groups.{groupCall, groupMeasureCall}
 use Rattle.claims.specs.StoreDemand.{Session}
 use Rattle.contracts.specs.Calls.{Call}
 use Rattle.jobs.specs.Standing.{left}

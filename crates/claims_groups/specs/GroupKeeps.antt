@@ -8,8 +8,8 @@ use Prim.Native.Nat.{_<_, ℕ}
 use lib.Dec.{eqb}
 use lib.ListN.{getD}
 use Rattle.buffers.specs.Refusals.{firstFitting}
-use Rattle.call_group_stores.specs.GroupStoreCalls.{groupForgetCall, groupReturnCall, groupSaveCall}
-use Rattle.call_groups.specs.GroupCalls.{groupCall, groupMeasureCall}
+use Rattle.calls.specs.GroupStores.{groupForgetCall, groupReturnCall, groupSaveCall}
+use Rattle.calls.specs.Groups.{groupCall, groupMeasureCall}
 use Rattle.claims.specs.OperationsDemand.{IsReduced}
 use Rattle.claims.specs.UsedDemand.{leftUsed}
 use Rattle.contracts.specs.Calls.{Call}

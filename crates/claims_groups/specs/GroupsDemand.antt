@@ -6,8 +6,8 @@ use mathlib.Core.Path.{_≡_}
 use Prim.Native.Nat.{_<_, ℕ}
 use lib.Dec.{eqb}
 use Rattle.buffers.specs.Refusals.{Refusal, firstFitting}
-use Rattle.call_gates.specs.InPlaceCalls.{usedCall, usedMeasureCall}
-use Rattle.call_groups.specs.GroupCalls.{groupCall, groupMeasureCall}
+use Rattle.calls.specs.InPlace.{usedCall, usedMeasureCall}
+use Rattle.calls.specs.Groups.{groupCall, groupMeasureCall}
 use Rattle.claims.specs.StoreDemand.{Session}
 use Rattle.contracts.specs.Calls.{Call}
 use Rattle.groups.specs.GroupStores.{ownPlaces}

@@ -4,8 +4,8 @@ use mathlib.Core.List.{List, map}
 use mathlib.Core.Path.{_∙_, _≡_, ap, subst, sym}
 use Prim.Native.Nat.{_<_, ℕ}
 use lib.ListN.{getD, length, take}
-use Rattle.run_checks.proofs.RunLines.{after-15, no-further-argument}
-use Rattle.call_run.specs.RunCalls.{LentSteps, runCall, stepsOf}
+use Rattle.calls.proofs.RunLines.{after-15, no-further-argument}
+use Rattle.calls.specs.Runs.{LentSteps, runCall, stepsOf}
 use Rattle.claims.proofs.JobsStand.{runs-stand}
 use Rattle.claims.proofs.StepLines.{line-says}
 use Rattle.claims.proofs.families.Shared.{answered, at-zero}

@@ -10,7 +10,7 @@ use borrow.Author.Tests.{le-ltb, ltb-false}
 use Rattle.buffers.proofs.Lines.{not-held, passed}
 use Rattle.buffers.proofs.Reaching.{below-all}
 use Rattle.buffers.specs.Refusals.{firstFitting, line, reaching}
-use Rattle.call_run.specs.RunCalls.{LentSteps, oneOtherThan, otherLengths, runCall, runLines, stepsOf}
+use Rattle.calls.specs.Runs.{LentSteps, oneOtherThan, otherLengths, runCall, runLines, stepsOf}
 use Rattle.claims.proofs.LinesExactly.{both-pass, three-fit}
 use Rattle.claims.proofs.UsedExactly.{used-exactly}
 use Rattle.claims.proofs.families.Shared.{by-lines}

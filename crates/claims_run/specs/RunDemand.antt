@@ -7,7 +7,7 @@ use mathlib.Core.Path.{_≡_}
 use Prim.Native.Nat.{_<_, ℕ, _≤_}
 use lib.ListN.{getD, length, take}
 use Rattle.buffers.specs.Refusals.{firstFitting}
-use Rattle.call_run.specs.RunCalls.{LentSteps, runCall, runLines, stepsOf}
+use Rattle.calls.specs.Runs.{LentSteps, runCall, runLines, stepsOf}
 use Rattle.claims.specs.Arguments.{IsRecord}
 use Rattle.claims.specs.Conforming.{Answered, Conforms}
 use Rattle.claims.specs.ProgramDemand.{LineSays}

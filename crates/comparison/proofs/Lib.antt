@@ -28,3 +28,4 @@ pub mod SignExtension
 pub mod KeyOrder
 pub mod LeastChosen
 pub mod ConnectedParts
+pub mod LeastCodes

@@ -1,4 +1,5 @@
 pub mod Choices
 pub mod Compared
 pub mod PartChoices
+pub mod ComparedPairs
 pub mod internal

@@ -3,3 +3,4 @@ pub mod Equations
 pub mod Searches
 pub mod Setting
 pub mod LeastAt
+pub mod ComparedPairs

@@ -15,6 +15,7 @@ use Rattle.clifford.proofs.CliffordLaws.{cliffordOf-codeOf}
 use Rattle.clifford.specs.Clifford.{cliffordOf, inverse, then}
 use Rattle.clifford.specs.Vectors.{codesOf}
 use Rattle.comparison.proofs.ComparedRecords.{same-answer}
+use Rattle.comparison.proofs.LeastCodes.{least-held}
 use Rattle.comparison.proofs.NumberOrder.{choice-lt}
 use Rattle.comparison.specs.Choices.{choice, digitAt, leastCode, leastNumber, noChoice}
 use Rattle.comparison.specs.Compared.{induced}
@@ -40,8 +41,8 @@ use Rattle.stabilizer.specs.Groups.{SameGroup}
 use Rattle.words.proofs.Flags.{neither}
 use Rattle.words.proofs.Sums.{lt-or-ge}
 use Rattle.words.specs.Search.{first, some}
-use Rattle.comparison_answer.specs.internal.ComparedPairs.{HoldsReduced, PairAnswered}
-use Rattle.comparison_answer.specs.ComparedPairs.{inducedRecord}
+use Rattle.comparison.specs.internal.ComparedPairs.{HoldsReduced, PairAnswered}
+use Rattle.comparison.specs.ComparedPairs.{inducedRecord}
 
 module _ (n : ℕ) (R : ℕ → Pauli) (nb cs : List ℕ) (H : HoldsReduced n R nb cs) where
   abbrev lent : LentRecord
@@ -77,21 +78,6 @@ choice-written n array old choice long e = e ∙ ap (λ m. tabulate m (λ q. get
 pub choice-long : (n : ℕ) (array choice : List ℕ) → choice ≡ tabulate n (λ q. getD array q 0)
     → length choice ≡ n
 choice-long n array choice e = ap length e ∙ tabulate-length n (λ q. getD array q 0)
-
--- the least choice in a buffer of n places
-pub least-held : (n : ℕ) (R S : ℕ → Pauli) (choice′ : List ℕ) → choice′ ≡ tabulate n (leastCode n R S)
-    → (q : ℕ)
-    → codesOf choice′ q ≡ cliffordOf (leastCode n R S q)
-unfolding choice
-least-held n R S choice′ e q = ap (λ v. cliffordOf (getD v q 0)) e ∙ ap cliffordOf (go (lt-or-ge q n))
-  where
-    above : n ≤ q → leastCode n R S q ≡ 0
-    above l = ap (λ b. cond b (4 * digitAt 6 n (leastNumber n R S / 4 ^ n) q
-        + digitAt 4 n (leastNumber n R S % 4 ^ n) q) 0) (le-ltb q n l)
-
-    go : (q < n) ⊎ (n ≤ q) → getD (tabulate n (leastCode n R S)) q 0 ≡ leastCode n R S q
-    go (inl l) = tabulate-at n (leastCode n R S) q l
-    go (inr l) = table-past n (leastCode n R S) q l ∙ sym (above l)
 
 -- ---- line 3
 -- the graphs in the buffers are the reduced ones

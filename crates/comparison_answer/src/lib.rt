@@ -16,7 +16,7 @@ ghost use Rattle.image_answer.specs.internal.Answer.{IsImage};
 ghost use Rattle.pauli.specs.Pauli.{Pauli};
 ghost use Rattle.record.specs.Accepted.{AcceptedRecord};
 ghost use Rattle.record.specs.Lent.{heldRecord};
-ghost use Rattle.comparison_answer.specs.internal.ComparedPairs.{HoldsReduced, PairAnswered};
+ghost use Rattle.comparison.specs.internal.ComparedPairs.{HoldsReduced, PairAnswered};
 
 // The image rule on the first record's graph, under the codes that the choice induces between two records; with
 // room for these codes.

@@ -25,8 +25,8 @@ use Rattle.jobs.specs.declared.Op.the-variants.{Complement, Cz, Gate, Measure, 
 use Rattle.jobs.specs.declared.Step.{Step}
 use Rattle.operations.specs.Steps.{leaves}
 use Rattle.record.specs.Lent.{LentRecord}
-use Rattle.call_gates.proofs.InPlaceCalls.{left-by-call, marked-by-call}
-use Rattle.call_gates.specs.InPlaceCalls.{usedCall, usedMeasureCall}
+use Rattle.calls.proofs.InPlaceCalls.{left-by-call, marked-by-call}
+use Rattle.calls.specs.InPlace.{usedCall, usedMeasureCall}
 use Rattle.used.specs.Used.{UsedRecord, usedAfter, usedLines, usedStep}
 use Rattle.words.proofs.Flags.{neither}
 use Rattle.jobs.proofs.WrongFields.{fields-refuse}

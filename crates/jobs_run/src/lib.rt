@@ -13,7 +13,7 @@ use jobs::wrong_value;
 ghost use Prim.Native.Nat.{_%_, _+_, _/_, _<_};
 ghost use Rattle.contracts.specs.Calls.{Call};
 ghost use Rattle.jobs.specs.Asked.{operationOf};
-ghost use Rattle.call_gates.specs.InPlaceCalls.{usedCall, usedMeasureCall};
+ghost use Rattle.calls.specs.InPlace.{usedCall, usedMeasureCall};
 ghost use Rattle.call_gates.specs.internal.Knowing.{Known};
 ghost use Rattle.operations_gates.specs.internal.Settled.{Settled};
 ghost use Rattle.jobs_run.specs.internal.StepRuns.{Rewriting, StepRun};

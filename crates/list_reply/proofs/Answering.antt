@@ -20,12 +20,12 @@ use Rattle.record.specs.Reduced.{reduced}
 use Rattle.stabilizer.proofs.Accepted.{accepted-list}
 use Rattle.stabilizer.proofs.SharedTests.{length-passes}
 use Rattle.stabilizer.specs.Lists.{GeneratorList, listLines, rows}
-use Rattle.call_lists.specs.Calls.{checkLines, reduceCall, reduceLines}
+use Rattle.calls.specs.Lists.{checkLines, reduceCall, reduceLines}
 use Rattle.text.specs.internal.Text.{Printable}
 use Rattle.text.specs.Text.{recordText, refusedText}
 use Rattle.words.proofs.Sums.{lt-or-ge}
 use Rattle.words.specs.Bits.{wordOf}
-use Rattle.list_reply.specs.Answer.{answerText}
+use Rattle.calls.specs.ListAnswers.{answerText}
 use Rattle.list_reply.specs.internal.Places.{Lent}
 
 -- a list of more than 64 is refused with 2, whatever else it holds

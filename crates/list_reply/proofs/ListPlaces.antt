@@ -5,7 +5,7 @@ use Prim.Native.Nat.{min, ℕ, _≤_}
 use native.Mathlib.Omega.{arith}
 use lib.ListN.{length, take}
 use Rattle.buffers.proofs.Parts.{part-long}
-use Rattle.list_reply.specs.Answer.{answerText}
+use Rattle.calls.specs.ListAnswers.{answerText}
 use Rattle.list_reply.specs.internal.Places.{Lent, listAt}
 use Rattle.list_reply.specs.Places.{longest}
 

@@ -14,7 +14,7 @@ use Rattle.text.specs.internal.Scan.{Reading, begin, fed, asReading, verdict}
 use Rattle.text.specs.Text.{HasForm, TextOf, linesText, listNames, listText, refusedText}
 use Rattle.text.specs.declared.scan.Verdict.{Verdict}
 use Rattle.list_reply.proofs.ReadTexts.{formed-answers, malformed-answers, says-form}
-use Rattle.list_reply.specs.Answer.{Answers, listRead, answerText}
+use Rattle.calls.specs.ListAnswers.{Answers, listRead, answerText}
 use Rattle.list_reply.specs.internal.Places.{ScanOf}
 
 module _ (t : List ℕ) where

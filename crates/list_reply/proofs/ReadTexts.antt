@@ -14,7 +14,7 @@ use Rattle.text.specs.internal.Scan.{Judged, LinesKept, Reading, asReading, ver
 use Rattle.text.specs.Text.{HasForm, ListLine, Printed, refusedText}
 use Rattle.text.specs.declared.scan.Verdict.{Verdict}
 use Rattle.words.proofs.Sums.{lt-or-ge}
-use Rattle.list_reply.specs.Answer.{Answers, ResponseTo, listRead}
+use Rattle.calls.specs.ListAnswers.{Answers, ResponseTo, listRead}
 use Rattle.list_reply.specs.internal.Places.{ScanOf, listAt}
 
 module _ (t : List ℕ) (v : Verdict) (signs z x : List ℕ) (S : ScanOf t v signs z x) where

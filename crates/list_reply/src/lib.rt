@@ -8,7 +8,7 @@ ghost use mathlib.Core.Path.{_≡_};
 ghost use Prim.Native.Nat.{ℕ, _≤_, min};
 ghost use lib.ListN.{length};
 ghost use Rattle.text.specs.Text.{Printed};
-ghost use Rattle.list_reply.specs.Answer.{ResponseTo, answerText};
+ghost use Rattle.calls.specs.ListAnswers.{ResponseTo, answerText};
 ghost use Rattle.list_reply.specs.internal.Places.{Lent, ScanOf, listAt};
 ghost use Rattle.list_reply.specs.Places.{longest};
 

@@ -9,11 +9,12 @@ use lib.Dec.{eqb}
 use lib.ListN.{length, take}
 use lib.Pow.{pow-mono}
 use borrow.Author.Tests.{eq-eqb, le-ltb, lt-ltb, ne-eqb}
+use Rattle.calls.proofs.PlotLines.{many-refused, same-number}
 use Rattle.amplitude.specs.Ratios.{lowest, plotAt}
 use Rattle.amplitude_answer.specs.internal.Plottable.{Plottable}
 use Rattle.buffers.proofs.Lines.{fits, passed}
 use Rattle.buffers.specs.Refusals.{firstFitting}
-use Rattle.call_lists.specs.Calls.{checkLines, reduceCall}
+use Rattle.calls.specs.Lists.{checkLines, reduceCall}
 use Rattle.contracts.proofs.Calling.{written-all}
 use Rattle.contracts.specs.Calls.{Call}
 use Rattle.list_reply.proofs.Answering.{number-is, number-small}
@@ -26,18 +27,12 @@ use Rattle.stabilizer.proofs.Accepted.{AcceptedList, accepted-list}
 use Rattle.stabilizer.specs.Lists.{GeneratorList, rows}
 use Rattle.text.specs.Text.{refusedText}
 use Rattle.plot_reply.proofs.ReducedBuffers.{buffer-length, buffers-plottable, buffers-unrefused, points-same}
-use Rattle.plot_reply.specs.Answer.{plotAnswer, plotLines}
+use Rattle.calls.specs.PlotAnswers.{plotAnswer, plotLines}
 use Rattle.plot_reply.specs.internal.Rooms.{RoomFor}
 
 -- what is printed where no line holds
 abbrev tableOf : GeneratorList → List ℕ
 tableOf l = tableText (2 ^ (l .n)) (plotAt (l .n) (rows l))
-
--- a list of more than 10 is refused with 2, whatever else it holds
-pub many-refused : (l : GeneratorList) → 10 < l .n → plotAnswer l ≡ refusedText 2
-unfolding plotAnswer
-many-refused l h =
-    ap (λ k. cond (eqb k 0) (tableOf l) (refusedText k)) (fits 2 (checkLines l) (lt-ltb 10 (l .n) h))
 
 pub too-many-refused : (l : GeneratorList) → 64 < l .n → plotAnswer l ≡ refusedText 2
 too-many-refused l h = many-refused l (omega (arith, h))
@@ -48,10 +43,6 @@ pub places-plotted : (n : ℕ) → n ≤ 10 → (signs z x : List ℕ) →
 places-plotted n few signs z x =
     ap (λ k. plotAnswer (record { n = n; signs = take k signs; z = take k z; x = take k x }))
     (sym (min-eq-left {n = n} {m = 64} (omega (arith, few))))
-
--- the program's own line does not hold
-pub same-number : (l : GeneratorList) → l .n ≤ 10 → firstFitting (plotLines l) ≡ firstFitting (checkLines l)
-same-number l few = passed 2 (checkLines l) (le-ltb 10 (l .n) few)
 
 module _ (l : GeneratorList) (nb cs words bytes out : List ℕ) (W : RoomFor (l .n) nb cs words bytes out) where
   lent : Lent (l .n) nb cs out

@@ -8,10 +8,10 @@ use words::single;
 ghost use mathlib.Core.List.{List};
 ghost use Prim.Native.Nat.{ℕ, _≤_};
 ghost use lib.ListN.{length};
-ghost use Rattle.list_reply.specs.Answer.{ResponseTo};
+ghost use Rattle.calls.specs.ListAnswers.{ResponseTo};
 ghost use Rattle.list_reply.specs.internal.Places.{ScanOf, listAt};
 ghost use Rattle.text.specs.Text.{Printed};
-ghost use Rattle.plot_reply.specs.Answer.{longestTable, plotAnswer};
+ghost use Rattle.calls.specs.PlotAnswers.{longestTable, plotAnswer};
 ghost use Rattle.plot_reply.specs.internal.Rooms.{RoomFor};
 
 // Reduces a list of at most 10 generators and prints the table of its amplitudes, or the refusal's number; words and

@@ -28,26 +28,3 @@ module _ (u : UsedRecord) (ops : List ℕ) (others : Bool) where
   record-decides six e few h =
       no-further u others six h ∙ ap (λ b. firstFitting (usedLines u others false b)) e
       ∙ sym (passed 15 _ (le-ltb 4096 (length ops) few))
-
--- no line holds: neither does one behind 15
-pub after-15 : (b : Bool) (ls : List Refusal) → firstFitting (line 15 b ∷ ls) ≡ 0 → firstFitting ls ≡ 0
-after-15 b ls e = not-held 14 b ls e .1
-
--- no line of the record holds, with further tests: neither without them, and the lengths are alike
-pub no-further-argument : (u : UsedRecord) (others six : Bool) → firstFitting (usedLines u others false six) ≡ 0
-    → UsedUnrefused u × (others ≡ false)
-no-further-argument u others six z = (
-  record {
-    no-line = sym (ap₂ (λ b c. firstFitting (usedLines u b false c)) (fourth .1) (sixth .1)) ∙ z;
-  },
-  fourth .1,
-)
-  where
-    h : NoneHolds (recordLines (u .held) others six)
-    h = none-holds (recordLines (u .held) others six) refl (lines-pass u others false six .0 z .0)
-
-    fourth : (recordLengths (u .held) ≡ false) × (others ≡ false)
-    fourth = neither (recordLengths (u .held)) others (h .1 .0)
-
-    sixth : (recordCodes (u .held) ≡ false) × (six ≡ false)
-    sixth = neither (recordCodes (u .held)) six (h .1 .1 .1 .0)

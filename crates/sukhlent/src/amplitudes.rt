@@ -1,5 +1,5 @@
 // The amplitudes of a record, as C sees them.
-ghost use Rattle.call_amplitude.specs.AmplitudeCalls.{amplitudeCall};
+ghost use Rattle.calls.specs.Amplitudes.{amplitudeCall};
 ghost use Rattle.contracts.specs.Calls.{Call};
 
 // The amplitude at y over that at the smallest word with a nonzero amplitude, as real and imaginary part, and the

@@ -1,6 +1,6 @@
 // The comparison of two lists, and of two records, as C sees them.
-ghost use Rattle.call_compare.specs.Comparisons.{compareCall};
-ghost use Rattle.call_compare_records.specs.RecordComparisons.{compareRecordsCall};
+ghost use Rattle.calls.specs.Comparisons.{compareCall};
+ghost use Rattle.calls.specs.RecordComparisons.{compareRecordsCall};
 ghost use Rattle.contracts.specs.Calls.{Call};
 
 // The least choice that carries the group of the first list onto that of the second, and the complementations that

@@ -1,5 +1,5 @@
 // The value of a Pauli row, as C sees it.
-ghost use Rattle.call_expectation.specs.Expectations.{expectationCall};
+ghost use Rattle.calls.specs.Expectations.{expectationCall};
 ghost use Rattle.contracts.specs.Calls.{Call};
 
 // 0 where the row is in the record's group, 1 where its negative is, 2 where neither is.

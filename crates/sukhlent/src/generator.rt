@@ -1,5 +1,5 @@
 // The generator of jobs, as C sees it.
-ghost use Rattle.call_generate.specs.Generation.{generateCall};
+ghost use Rattle.calls.specs.Generation.{generateCall};
 ghost use Rattle.contracts.specs.Calls.{Call};
 
 // The text of the job of `count` steps that is drawn from a seed, at the start of the buffer, and its length.

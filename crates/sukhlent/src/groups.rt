@@ -1,6 +1,6 @@
 // Two groups on one record, as C sees them: the calls of one group, on its own vertices and its own four named states.
-ghost use Rattle.call_group_stores.specs.GroupStoreCalls.{groupForgetCall, groupReturnCall, groupSaveCall};
-ghost use Rattle.call_groups.specs.GroupCalls.{groupCall, groupMeasureCall};
+ghost use Rattle.calls.specs.GroupStores.{groupForgetCall, groupReturnCall, groupSaveCall};
+ghost use Rattle.calls.specs.Groups.{groupCall, groupMeasureCall};
 ghost use Rattle.contracts.specs.Calls.{Call};
 ghost use Rattle.operations.specs.Steps.{complementOf, czOn, gateWith};
 

@@ -1,7 +1,7 @@
 // The calls on lists of generators and on texts of Pauli strings, as C sees them.
-ghost use Rattle.call_lists.specs.Calls.{checkCall, reduceUnusedCall};
-ghost use Rattle.call_product.specs.Products.{productCall};
-ghost use Rattle.call_strings.specs.StringCalls.{readStringsCall, writeStringsCall};
+ghost use Rattle.calls.specs.Lists.{checkCall, reduceUnusedCall};
+ghost use Rattle.calls.specs.Products.{productCall};
+ghost use Rattle.calls.specs.Strings.{readStringsCall, writeStringsCall};
 ghost use Rattle.contracts.specs.Calls.{Call};
 
 // Lines 2, 4, 5, 6, 9 and 10 of a generator list.

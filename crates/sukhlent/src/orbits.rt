@@ -1,5 +1,5 @@
 // The orbit of a graph, as C sees it.
-ghost use Rattle.call_orbit.specs.OrbitCalls.{orbitCall};
+ghost use Rattle.calls.specs.Orbits.{orbitCall};
 ghost use Rattle.contracts.specs.Calls.{Call};
 
 // The numbers of all graphs that complementations reach from one on up to 6 vertices, rising, and how many there are.

@@ -1,8 +1,8 @@
 // The calls on records, as C sees them.
-ghost use Rattle.call_cut.specs.Cuts.{cutCall};
-ghost use Rattle.call_expand.specs.Expanding.{expandCall};
-ghost use Rattle.call_gates.specs.InPlaceCalls.{usedCall, usedMeasureCall};
-ghost use Rattle.call_image.specs.Images.{imageCall};
+ghost use Rattle.calls.specs.Cuts.{cutCall};
+ghost use Rattle.calls.specs.Expansions.{expandCall};
+ghost use Rattle.calls.specs.InPlace.{usedCall, usedMeasureCall};
+ghost use Rattle.calls.specs.Images.{imageCall};
 ghost use Rattle.contracts.specs.Calls.{Call};
 ghost use Rattle.operations.specs.Steps.{complementOf, czOn, gateWith};
 

@@ -1,5 +1,5 @@
 // Many steps in one call, as C sees it.
-ghost use Rattle.call_run.specs.RunCalls.{runCall};
+ghost use Rattle.calls.specs.Runs.{runCall};
 ghost use Rattle.contracts.specs.Calls.{Call};
 
 // Steps on a record in place, one after the other, and what each answers.

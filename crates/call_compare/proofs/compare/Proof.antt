@@ -3,17 +3,9 @@
 use mathlib.Core.Bool.{_||_}
 use mathlib.Core.Path.{ap₂, refl, sym, _∙_}
 use borrow.Author.Needs.{needs}
+use Rattle.calls.proofs.PairCounts.{at-least-one, at-most-64, counts-agree}
 use Rattle.stabilizer.specs.Lists.{GeneratorList}
-use Rattle.call_compare.proofs.Comparing.{
-  at-least-one,
-  at-most-64,
-  choice-fits,
-  counts-agree,
-  list-fits,
-  refused-2,
-  refused-4,
-  same-count,
-}
+use Rattle.call_compare.proofs.Comparing.{choice-fits, list-fits, refused-2, refused-4, same-count}
 use Rattle.buffers.proofs.Parts.{part-long}
 use Rattle.call_compare.proofs.compare.Statement.{statement}
 use Rattle.call_compare.proofs.compare.Tie as tie
@@ -47,7 +39,7 @@ array-borrow-prefix-neighbours1 c =
     let a = S .args in
     let l : GeneratorList = record { n = a .n1; signs = a .signs1 .now; z = a .z1 .now; x = a .x1 .now } in
     let m : GeneratorList = record { n = a .n2; signs = a .signs2 .now; z = a .z2 .now; x = a .x2 .now } in
-    at-most-64 l m (a .choice .now) (a .list .now) (a .count .now) (sym (P .pair-count .ensures) ∙ P1 .if1 .left)
+    at-most-64 l m (sym (P .pair-count .ensures) ∙ P1 .if1 .left)
 
 slice-aggregate-compare-lists : tie.Need-slice-aggregate-compare-lists
 slice-aggregate-compare-lists c =
@@ -57,7 +49,7 @@ slice-aggregate-compare-lists c =
     let a = S .args in
     let l : GeneratorList = record { n = a .n1; signs = a .signs1 .now; z = a .z1 .now; x = a .x1 .now } in
     let m : GeneratorList = record { n = a .n2; signs = a .signs2 .now; z = a .z2 .now; x = a .x2 .now } in
-    sym (part-long _ _ (at-most-64 l m (a .choice .now) (a .list .now) (a .count .now) (sym (P .pair-count .ensures) ∙ P1 .if1 .left)) refl)
+    sym (part-long _ _ (at-most-64 l m (sym (P .pair-count .ensures) ∙ P1 .if1 .left)) refl)
 
 array-borrow-prefix-codes1 : tie.Need-array-borrow-prefix-codes1
 array-borrow-prefix-codes1 c =
@@ -67,7 +59,7 @@ array-borrow-prefix-codes1 c =
     let a = S .args in
     let l : GeneratorList = record { n = a .n1; signs = a .signs1 .now; z = a .z1 .now; x = a .x1 .now } in
     let m : GeneratorList = record { n = a .n2; signs = a .signs2 .now; z = a .z2 .now; x = a .x2 .now } in
-    at-most-64 l m (a .choice .now) (a .list .now) (a .count .now) (sym (P .pair-count .ensures) ∙ P1 .if1 .left)
+    at-most-64 l m (sym (P .pair-count .ensures) ∙ P1 .if1 .left)
 
 slice-aggregate-compare-lists-2 : tie.Need-slice-aggregate-compare-lists-2
 slice-aggregate-compare-lists-2 c =
@@ -77,7 +69,7 @@ slice-aggregate-compare-lists-2 c =
     let a = S .args in
     let l : GeneratorList = record { n = a .n1; signs = a .signs1 .now; z = a .z1 .now; x = a .x1 .now } in
     let m : GeneratorList = record { n = a .n2; signs = a .signs2 .now; z = a .z2 .now; x = a .x2 .now } in
-    sym (part-long _ _ (at-most-64 l m (a .choice .now) (a .list .now) (a .count .now) (sym (P .pair-count .ensures) ∙ P1 .if1 .left)) refl)
+    sym (part-long _ _ (at-most-64 l m (sym (P .pair-count .ensures) ∙ P1 .if1 .left)) refl)
 
 array-borrow-prefix-neighbours2 : tie.Need-array-borrow-prefix-neighbours2
 array-borrow-prefix-neighbours2 c =
@@ -87,7 +79,7 @@ array-borrow-prefix-neighbours2 c =
     let a = S .args in
     let l : GeneratorList = record { n = a .n1; signs = a .signs1 .now; z = a .z1 .now; x = a .x1 .now } in
     let m : GeneratorList = record { n = a .n2; signs = a .signs2 .now; z = a .z2 .now; x = a .x2 .now } in
-    at-most-64 l m (a .choice .now) (a .list .now) (a .count .now) (sym (P .pair-count .ensures) ∙ P1 .if1 .left)
+    at-most-64 l m (sym (P .pair-count .ensures) ∙ P1 .if1 .left)
 
 slice-aggregate-compare-lists-3 : tie.Need-slice-aggregate-compare-lists-3
 slice-aggregate-compare-lists-3 c =
@@ -97,7 +89,7 @@ slice-aggregate-compare-lists-3 c =
     let a = S .args in
     let l : GeneratorList = record { n = a .n1; signs = a .signs1 .now; z = a .z1 .now; x = a .x1 .now } in
     let m : GeneratorList = record { n = a .n2; signs = a .signs2 .now; z = a .z2 .now; x = a .x2 .now } in
-    sym (part-long _ _ (at-most-64 l m (a .choice .now) (a .list .now) (a .count .now) (sym (P .pair-count .ensures) ∙ P1 .if1 .left)) refl)
+    sym (part-long _ _ (at-most-64 l m (sym (P .pair-count .ensures) ∙ P1 .if1 .left)) refl)
 
 array-borrow-prefix-codes2 : tie.Need-array-borrow-prefix-codes2
 array-borrow-prefix-codes2 c =
@@ -107,7 +99,7 @@ array-borrow-prefix-codes2 c =
     let a = S .args in
     let l : GeneratorList = record { n = a .n1; signs = a .signs1 .now; z = a .z1 .now; x = a .x1 .now } in
     let m : GeneratorList = record { n = a .n2; signs = a .signs2 .now; z = a .z2 .now; x = a .x2 .now } in
-    at-most-64 l m (a .choice .now) (a .list .now) (a .count .now) (sym (P .pair-count .ensures) ∙ P1 .if1 .left)
+    at-most-64 l m (sym (P .pair-count .ensures) ∙ P1 .if1 .left)
 
 slice-aggregate-compare-lists-4 : tie.Need-slice-aggregate-compare-lists-4
 slice-aggregate-compare-lists-4 c =
@@ -117,7 +109,7 @@ slice-aggregate-compare-lists-4 c =
     let a = S .args in
     let l : GeneratorList = record { n = a .n1; signs = a .signs1 .now; z = a .z1 .now; x = a .x1 .now } in
     let m : GeneratorList = record { n = a .n2; signs = a .signs2 .now; z = a .z2 .now; x = a .x2 .now } in
-    sym (part-long _ _ (at-most-64 l m (a .choice .now) (a .list .now) (a .count .now) (sym (P .pair-count .ensures) ∙ P1 .if1 .left)) refl)
+    sym (part-long _ _ (at-most-64 l m (sym (P .pair-count .ensures) ∙ P1 .if1 .left)) refl)
 
 compare-lists-requires : tie.Need-compare-lists-requires
 compare-lists-requires c κs = let P3 = c .before .before .before .before .before .before .before in
@@ -128,9 +120,9 @@ compare-lists-requires c κs = let P3 = c .before .before .before .before .befor
     let a = S .args in
     let l : GeneratorList = record { n = a .n1; signs = a .signs1 .now; z = a .z1 .now; x = a .x1 .now } in
     let m : GeneratorList = record { n = a .n2; signs = a .signs2 .now; z = a .z2 .now; x = a .x2 .now } in
-    let few = at-most-64 l m (a .choice .now) (a .list .now) (a .count .now) (sym (P .pair-count .ensures) ∙ P1 .if1 .left) in (
+    let few = at-most-64 l m (sym (P .pair-count .ensures) ∙ P1 .if1 .left) in (
       (
-        at-least-one l m (a .choice .now) (a .list .now) (a .count .now) (sym (P .pair-count .ensures)
+        at-least-one l m (sym (P .pair-count .ensures)
             ∙ P1 .if1 .left),
         few,
         choice-fits l m (a .choice .now) (a .list .now) (a .count .now) (sym (P .pair-count .ensures)
@@ -154,7 +146,7 @@ returns-3 c = let Q = c .before .before .before .before .before .before .before 
     let l : GeneratorList = record { n = a .n1; signs = a .signs1 .now; z = a .z1 .now; x = a .x1 .now } in
     let m : GeneratorList = record { n = a .n2; signs = a .signs2 .now; z = a .z2 .now; x = a .x2 .now } in
     same-count (a .n1) (a .n2)
-    (counts-agree l m (a .choice .now) (a .list .now) (a .count .now) (sym (P .pair-count .ensures)
+    (counts-agree l m (sym (P .pair-count .ensures)
     ∙ P1 .if1 .left))
     (a .signs1 .now) (a .z1 .now) (a .x1 .now) (a .signs2 .now) (a .z2 .now) (a .x2 .now) (a .choice .now)
     (a .list .now) (a .count .now) _ _ _ _ (Q .compare-lists .ensures)

@@ -4,9 +4,9 @@ use native.Mathlib.Omega.{arith}
 use borrow.Author.Needs.{needs}
 use borrow.Author.Tests.{not-false}
 use Rattle.buffers.specs.Refusals.{firstFitting}
-use Rattle.call_gates.proofs.InPlaceCalls.{in-place-done}
-use Rattle.call_gates.proofs.InPlaceLines.{pair-below, pair-ready, pairLines}
-use Rattle.call_gates.proofs.UsedInPlace.{edge-accepts, no-edge-refuses, pair-before, pair-refused}
+use Rattle.calls.proofs.InPlaceCalls.{in-place-done}
+use Rattle.calls.proofs.InPlaceLines.{pair-below, pair-ready, pairLines}
+use Rattle.calls.proofs.UsedInPlace.{edge-accepts, no-edge-refuses, pair-before, pair-refused}
 use Rattle.contracts.proofs.Calling.{refused}
 use Rattle.operations.specs.Steps.{pivotOf}
 use Rattle.used.specs.Used.{UsedRecord}

@@ -3,7 +3,7 @@ use mathlib.Core.Path.{refl, sym, _∙_}
 use borrow.Author.Needs.{needs}
 use Rattle.contracts.proofs.Calling.{done, refused}
 use Rattle.used.specs.Used.{UsedRecord}
-use Rattle.call_expectation.proofs.ExpectationLines.{accepted-row, words-joined}
+use Rattle.calls.proofs.ExpectationLines.{accepted-row, words-joined}
 use Rattle.call_expectation.proofs.expectation.Statement.{statement}
 use Rattle.call_expectation.proofs.expectation.Tie as tie
 

@@ -6,9 +6,9 @@ use Rattle.buffers.specs.Refusals.{firstFitting}
 use Rattle.contracts.proofs.Calling.{refused}
 use Rattle.operations.specs.Steps.{Operation, gateWith}
 use Rattle.used.specs.Used.{UsedRecord, usedLinesOf}
-use Rattle.call_gates.proofs.InPlaceCalls.{as-before, in-place-done}
-use Rattle.call_gates.proofs.InPlaceLines.{gate-ready}
-use Rattle.call_gates.proofs.UsedInPlace.{named-as}
+use Rattle.calls.proofs.InPlaceCalls.{as-before, in-place-done}
+use Rattle.calls.proofs.InPlaceLines.{gate-ready}
+use Rattle.calls.proofs.UsedInPlace.{named-as}
 use Rattle.call_gates.proofs.gate_known.Statement.{statement}
 use Rattle.call_gates.proofs.gate_known.Tie as tie
 

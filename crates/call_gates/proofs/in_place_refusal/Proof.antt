@@ -3,7 +3,7 @@
 -- holds.
 use borrow.Author.Needs.{needs}
 use Rattle.used.specs.Used.{UsedRecord}
-use Rattle.call_gates.proofs.UsedInPlace.{record-refused, then-0, then-16, then-8}
+use Rattle.calls.proofs.UsedInPlace.{record-refused, then-0, then-16, then-8}
 use Rattle.call_gates.proofs.in_place_refusal.Statement.{statement}
 use Rattle.call_gates.proofs.in_place_refusal.Tie as tie
 

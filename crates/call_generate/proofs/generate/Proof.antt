@@ -3,7 +3,7 @@
 use mathlib.Core.Path.{refl, sym, _∙_}
 use borrow.Author.Needs.{needs}
 use Rattle.contracts.proofs.Calling.{refused}
-use Rattle.call_generate.proofs.GenerateCalls.{accepted-job, generate-accepted}
+use Rattle.calls.proofs.GenerateCalls.{accepted-job, generate-accepted}
 use Rattle.call_generate.proofs.generate.Statement.{statement}
 use Rattle.call_generate.proofs.generate.Tie as tie
 

@@ -5,9 +5,9 @@ use native.Mathlib.Omega.{arith}
 use lib.Bits.{bitOr}
 use borrow.Author.Needs.{needs}
 use Rattle.buffers.specs.Refusals.{firstFitting}
-use Rattle.call_gates.proofs.InPlaceCalls.{as-before, measure-done}
-use Rattle.call_gates.proofs.InPlaceLines.{measure-ready}
-use Rattle.call_gates.proofs.MeasureLines.{measure-passes}
+use Rattle.calls.proofs.InPlaceCalls.{as-before, measure-done}
+use Rattle.calls.proofs.InPlaceLines.{measure-ready}
+use Rattle.calls.proofs.MeasureLines.{measure-passes}
 use Rattle.contracts.proofs.Calling.{refused}
 use Rattle.operations.specs.Steps.{Operation, linesOf, measurementOf}
 use Rattle.used.proofs.AcceptedSteps.{accepted-step, measure-arguments}

@@ -5,9 +5,9 @@ use mathlib.Core.Path.{_≡_, sym, _∙_}
 use lib.Dec.{eqb, leb}
 use borrow.Author.Needs.{needs}
 use Rattle.buffers.specs.Refusals.{firstFitting}
-use Rattle.call_gates.proofs.InPlaceLines.{measure-ready}
-use Rattle.call_gates.proofs.MeasureLines.{arguments-before, arguments-refuse, then-14, then-none}
-use Rattle.call_gates.proofs.UsedInPlace.{named-as}
+use Rattle.calls.proofs.InPlaceLines.{measure-ready}
+use Rattle.calls.proofs.MeasureLines.{arguments-before, arguments-refuse, then-14, then-none}
+use Rattle.calls.proofs.UsedInPlace.{named-as}
 use Rattle.operations.specs.Steps.{measurementOf}
 use Rattle.used.specs.Used.{UsedRecord, usedArgumentsOf}
 use Rattle.call_measure.proofs.measure_refusal.Statement.{statement}

@@ -8,7 +8,7 @@ use Rattle.orbits.proofs.GraphNumbers.{number-lt}
 use Rattle.orbits.specs.Numbers.{graphCount}
 use Rattle.orbits.specs.Orbits.{orbitList}
 use borrow.Author.Needs.{needs}
-use Rattle.call_orbit.proofs.AcceptedGraphs.{accepted-graph}
+use Rattle.calls.proofs.AcceptedGraphs.{accepted-graph}
 use Rattle.contracts.proofs.Calling.{done, refused}
 use Rattle.call_orbit.proofs.orbit.Statement.{statement}
 use Rattle.call_orbit.proofs.orbit.Tie as tie

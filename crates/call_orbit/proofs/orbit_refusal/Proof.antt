@@ -1,6 +1,6 @@
 -- `orbit_refusal` meets its contract: the first line that holds; 0 where none does.
 use native.Mathlib.Omega.{arith}
-use Rattle.call_orbit.proofs.AcceptedGraphs.{both-lengths, few-vertices}
+use Rattle.calls.proofs.AcceptedGraphs.{both-lengths, few-vertices}
 use Rattle.contracts.proofs.Fitting.{first-is}
 use Rattle.contracts.specs.Answers.{here, later, none}
 use Rattle.stabilizer.proofs.EarlyLines.{says}

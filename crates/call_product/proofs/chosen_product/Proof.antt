@@ -13,7 +13,7 @@ use Rattle.call_product.proofs.PartProducts.{
   row-read,
   whole-product,
 }
-use Rattle.call_product.proofs.ProductLines.{accepted-rows}
+use Rattle.calls.proofs.ProductLines.{accepted-rows}
 use Rattle.call_product.proofs.chosen_product.Statement.{statement}
 use Rattle.call_product.proofs.chosen_product.Tie as tie
 

@@ -2,7 +2,7 @@
 use borrow.Author.Needs.{needs}
 use Rattle.stabilizer.proofs.EarlyLines.{says}
 use Rattle.stabilizer.specs.Lists.{GeneratorList}
-use Rattle.call_product.proofs.ProductLines.{number-2, number-4, word-good, word-strays, word-tested}
+use Rattle.calls.proofs.ProductLines.{number-2, number-4, word-good, word-strays, word-tested}
 use Rattle.call_product.proofs.product_refusal.Statement.{statement}
 use Rattle.call_product.proofs.product_refusal.Tie as tie
 

@@ -5,7 +5,7 @@ use lib.ListN.{length}
 use borrow.Author.Needs.{needs}
 use Rattle.used.specs.Used.{UsedRecord}
 use Rattle.call_run.proofs.RunAnswers.{Ready, run-accepted, run-ready, run-refused}
-use Rattle.call_run.specs.RunCalls.{LentSteps}
+use Rattle.calls.specs.Runs.{LentSteps}
 use Rattle.call_run.proofs.run.Statement.{statement}
 use Rattle.call_run.proofs.run.Tie as tie
 

@@ -1,7 +1,7 @@
 -- What the demands say of the exported function on amplitudes, from its contract.
 use Prim.Native.Nat.{ℕ}
 use lib.Ieee.{Float}
-use Rattle.call_amplitude.specs.AmplitudeCalls.{amplitudeCall}
+use Rattle.calls.specs.Amplitudes.{amplitudeCall}
 use Rattle.contracts.specs.Calls.{Call}
 use Rattle.used.specs.Used.{UsedRecord}
 use Rattle.claims.proofs.AmplitudeDemandHolds.{amplitudes-answer}

@@ -1,7 +1,7 @@
 -- What the demands say of the exported function that compares, from its contract.
 use mathlib.Core.List.{List}
 use Prim.Native.Nat.{ℕ}
-use Rattle.call_compare.specs.Comparisons.{compareCall}
+use Rattle.calls.specs.Comparisons.{compareCall}
 use Rattle.contracts.specs.Calls.{Call}
 use Rattle.stabilizer.specs.Lists.{GeneratorList}
 use Rattle.claims.proofs.ComparedByParts.{compared-by-parts}

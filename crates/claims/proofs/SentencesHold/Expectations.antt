@@ -1,6 +1,6 @@
 -- What the demands say of the exported function that answers the value of a row, from its contract.
 use Prim.Native.Nat.{ℕ}
-use Rattle.call_expectation.specs.Expectations.{expectationCall}
+use Rattle.calls.specs.Expectations.{expectationCall}
 use Rattle.contracts.specs.Calls.{Call}
 use Rattle.used.specs.Used.{UsedRecord}
 use Rattle.claims.proofs.ExpectationDemandHolds.{expectations-answer}

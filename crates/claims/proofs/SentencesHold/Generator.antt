@@ -1,7 +1,7 @@
 -- What the demands say of the exported function that generates jobs, from its contract.
 use mathlib.Core.List.{List}
 use Prim.Native.Nat.{ℕ}
-use Rattle.call_generate.specs.Generation.{generateCall}
+use Rattle.calls.specs.Generation.{generateCall}
 use Rattle.contracts.specs.Calls.{Call}
 use Rattle.claims.proofs.GeneratorDemandHolds.{generator-demand}
 use Rattle.claims.proofs.families.Generator.{generations-accepted, generations-conform}

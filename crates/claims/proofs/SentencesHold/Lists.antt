@@ -2,9 +2,9 @@
 use mathlib.Core.List.{List}
 use mathlib.Core.Path.{_≡_}
 use Prim.Native.Nat.{ℕ}
-use Rattle.call_lists.specs.Calls.{checkCall, reduceCall, reduceUnusedCall}
-use Rattle.call_product.specs.Products.{productCall}
-use Rattle.call_strings.specs.StringCalls.{readStringsCall, writeStringsCall}
+use Rattle.calls.specs.Lists.{checkCall, reduceCall, reduceUnusedCall}
+use Rattle.calls.specs.Products.{productCall}
+use Rattle.calls.specs.Strings.{readStringsCall, writeStringsCall}
 use Rattle.contracts.specs.Calls.{Call}
 use Rattle.stabilizer.specs.Lists.{GeneratorList}
 use Rattle.claims.proofs.ListDemandHolds.{checks-tell, reduction-answers}

@@ -1,7 +1,7 @@
 -- What the demands say of the exported function that lists an orbit, from its contract.
 use mathlib.Core.List.{List}
 use Prim.Native.Nat.{ℕ}
-use Rattle.call_orbit.specs.OrbitCalls.{orbitCall}
+use Rattle.calls.specs.Orbits.{orbitCall}
 use Rattle.contracts.specs.Calls.{Call}
 use Rattle.claims.proofs.OrbitDemandHolds.{orbits-listed}
 use Rattle.claims.proofs.families.Orbits.{orbits-accepted, orbits-conform}

@@ -4,10 +4,10 @@ use mathlib.Core.List.{List}
 use mathlib.Core.Logic.{_≢_}
 use mathlib.Core.Path.{ap, refl, sym, _∙_, _≡_}
 use Prim.Native.Nat.{ℕ}
-use Rattle.call_cut.specs.Cuts.{cutCall}
-use Rattle.call_expand.specs.Expanding.{expandCall}
-use Rattle.call_gates.specs.InPlaceCalls.{inPlaceCall, usedCall, usedMeasureCall}
-use Rattle.call_image.specs.Images.{imageCall}
+use Rattle.calls.specs.Cuts.{cutCall}
+use Rattle.calls.specs.Expansions.{expandCall}
+use Rattle.calls.specs.InPlace.{inPlaceCall, usedCall, usedMeasureCall}
+use Rattle.calls.specs.Images.{imageCall}
 use Rattle.contracts.specs.Calls.{Call}
 use Rattle.operations.specs.Steps.{complementOf, czOn, gateWith, measurementOf, Operation, pivotOf}
 use Rattle.record.specs.Lent.{LentRecord}

@@ -3,7 +3,7 @@ use mathlib.Core.Bool.{false, _||_}
 use mathlib.Core.List.{List}
 use Prim.Native.Nat.{ℕ}
 use Rattle.buffers.specs.Refusals.{otherThan}
-use Rattle.call_store.specs.StoreCalls.{forgetCall, returnCall, saveCall}
+use Rattle.calls.specs.Stores.{forgetCall, returnCall, saveCall}
 use Rattle.contracts.specs.Calls.{Call}
 use Rattle.store.specs.Places.{Store}
 use Rattle.used.specs.Used.{UsedRecord}

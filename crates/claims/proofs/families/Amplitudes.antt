@@ -4,7 +4,7 @@ use mathlib.Core.Logic.{Iff·trans, _↔_}
 use mathlib.Core.Path.{refl, _≡_}
 use Prim.Native.Nat.{ℕ}
 use Rattle.buffers.specs.Refusals.{firstFitting}
-use Rattle.call_amplitude.specs.AmplitudeCalls.{amplitudeLines}
+use Rattle.calls.specs.Amplitudes.{amplitudeLines}
 use Rattle.used.specs.Used.{UsedRecord}
 use Rattle.claims.proofs.LinesExactly.{below-exactly}
 use Rattle.claims.proofs.UsedExactly.{used-exactly}

@@ -8,11 +8,11 @@ use native.Mathlib.Omega.{arith}
 use lib.Dec.{eqb}
 use Rattle.buffers.proofs.Lines.{none-of-all, not-held}
 use Rattle.buffers.specs.Refusals.{firstFitting, line, Refusal}
-use Rattle.call_compare.proofs.PairLines.{pair-numbered}
-use Rattle.call_compare.specs.Comparisons.{compareCall}
+use Rattle.calls.proofs.PairLines.{pair-numbered}
+use Rattle.calls.specs.Comparisons.{compareCall}
 use Rattle.comparison.specs.Choices.{noChoice}
 use Rattle.comparison.specs.Compared.{hasLargePart, pairCount, pairLines}
-use Rattle.comparison_answer.specs.ComparedPairs.{compareList}
+use Rattle.comparison.specs.ComparedPairs.{compareList}
 use Rattle.contracts.specs.Calls.{Call}
 use Rattle.stabilizer.proofs.Accepted.{accepted-list}
 use Rattle.stabilizer.specs.Lists.{clashing, dependent, GeneratorList, listLengths, listSigns, listStray, rows}

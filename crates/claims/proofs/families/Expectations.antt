@@ -4,7 +4,7 @@ use mathlib.Core.Logic.{Iff·trans, _↔_}
 use mathlib.Core.Path.{refl, _≡_}
 use Prim.Native.Nat.{ℕ}
 use Rattle.buffers.specs.Refusals.{firstFitting}
-use Rattle.call_expectation.specs.Expectations.{expectationLines}
+use Rattle.calls.specs.Expectations.{expectationLines}
 use Rattle.used.specs.Used.{UsedRecord}
 use Rattle.words.proofs.Flags.{neither}
 use Rattle.claims.proofs.LinesExactly.{below-exactly, both-pass}

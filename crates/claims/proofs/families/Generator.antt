@@ -8,8 +8,8 @@ use native.Mathlib.Omega.{arith}
 use borrow.Author.Tests.{eqb-false, le-ltb, ltb-false, ne-eqb}
 use lib.Dec.{eqb, ltb}
 use Rattle.buffers.specs.Refusals.{badCount, firstFitting, line, Refusal}
-use Rattle.call_generate.proofs.GenerateCalls.{accepted-job}
-use Rattle.call_generate.specs.Generation.{generateCall}
+use Rattle.calls.proofs.GenerateCalls.{accepted-job}
+use Rattle.calls.specs.Generation.{generateCall}
 use Rattle.contracts.proofs.Fitting.{none-fits-of, none-holds}
 use Rattle.generator.proofs.Lengths.{length-text}
 use Rattle.generator.specs.Drawn.{generatedText}

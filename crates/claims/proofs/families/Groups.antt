@@ -9,8 +9,8 @@ use lib.ListN.{length-set}
 use borrow.Author.Tests.{not-false}
 use Rattle.buffers.proofs.Tabulate.{tabulate-length}
 use Rattle.buffers.specs.Refusals.{firstFitting}
-use Rattle.call_group_stores.specs.GroupStoreCalls.{groupReturnCall, groupSaveCall}
-use Rattle.call_groups.specs.GroupCalls.{groupLent}
+use Rattle.calls.specs.GroupStores.{groupReturnCall, groupSaveCall}
+use Rattle.calls.specs.Groups.{groupLent}
 use Rattle.contracts.specs.Calls.{EachOf}
 use Rattle.groups.proofs.GroupPassing.{group-passes}
 use Rattle.groups.proofs.OwnPlaces.{EightLong, placed-eight-long}

@@ -7,8 +7,8 @@ use mathlib.Core.Path.{ap, ap₂, refl, sym, _∙_, _≡_}
 use Prim.Native.Nat.{ℕ}
 use lib.Dec.{eqb}
 use Rattle.buffers.specs.Refusals.{badCount, firstFitting, line, Refusal}
-use Rattle.call_product.proofs.ProductLines.{accepted-rows, word-good}
-use Rattle.call_product.specs.Products.{productLines}
+use Rattle.calls.proofs.ProductLines.{accepted-rows, word-good}
+use Rattle.calls.specs.Products.{productLines}
 use Rattle.contracts.proofs.Fitting.{none-holds}
 use Rattle.stabilizer.proofs.SharedTests.{has-length}
 use Rattle.stabilizer.specs.Lists.{GeneratorList, listLines, listStray, rows}

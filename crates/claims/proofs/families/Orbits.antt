@@ -8,8 +8,8 @@ use native.Mathlib.Omega.{arith}
 use borrow.Author.Tests.{le-ltb, ne-eqb}
 use lib.Dec.{eqb, ltb}
 use Rattle.buffers.specs.Refusals.{firstFitting, line, otherThan, reaching, Refusal}
-use Rattle.call_orbit.proofs.AcceptedGraphs.{accepted-graph, plain-record, simple-graph}
-use Rattle.call_orbit.specs.OrbitCalls.{orbitCall, orbitLines, orbitOf}
+use Rattle.calls.proofs.AcceptedGraphs.{accepted-graph, plain-record, simple-graph}
+use Rattle.calls.specs.Orbits.{orbitCall, orbitLines, orbitOf}
 use Rattle.contracts.proofs.Fitting.{none-fits-of}
 use Rattle.graph.specs.NeighbourWords.{graphIn}
 use Rattle.orbits.proofs.OrbitLaws.{orbit-length}

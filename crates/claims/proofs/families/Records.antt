@@ -7,8 +7,8 @@ use Prim.Native.Nat.{ℕ}
 use native.Mathlib.Omega.{arith}
 use Rattle.buffers.proofs.Lines.{none-of-all}
 use Rattle.buffers.specs.Refusals.{firstFitting, otherThan}
-use Rattle.call_cut.specs.Cuts.{cutLines}
-use Rattle.call_image.specs.Images.{imageCall}
+use Rattle.calls.specs.Cuts.{cutLines}
+use Rattle.calls.specs.Images.{imageCall}
 use Rattle.contracts.proofs.Fitting.{none-holds}
 use Rattle.contracts.specs.Calls.{Call}
 use Rattle.image.proofs.Accepted.{image-unsigned}

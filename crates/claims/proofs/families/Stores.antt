@@ -8,8 +8,8 @@ use native.Mathlib.Omega.{arith}
 use lib.Dec.{eqb}
 use lib.ListN.{length-set}
 use Rattle.buffers.specs.Refusals.{firstFitting, otherThan}
-use Rattle.call_store.proofs.Saving.{both-numbers}
-use Rattle.call_store.specs.StoreCalls.{heldUnder, returnCall, saveCall}
+use Rattle.calls.proofs.SaveLines.{both-numbers}
+use Rattle.calls.specs.Stores.{heldUnder, returnCall, saveCall}
 use Rattle.contracts.proofs.Fitting.{decides}
 use Rattle.contracts.specs.Answers.{later, none}
 use Rattle.contracts.specs.Calls.{EachOf}

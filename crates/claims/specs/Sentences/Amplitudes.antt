@@ -4,7 +4,7 @@ use mathlib.Core.Logic.{_↔_}
 use mathlib.Core.Path.{_≡_}
 use Prim.Native.Nat.{ℕ}
 use lib.Ieee.{Float}
-use Rattle.call_amplitude.specs.AmplitudeCalls.{amplitudeCall}
+use Rattle.calls.specs.Amplitudes.{amplitudeCall}
 use Rattle.record.specs.Lent.{heldRows}
 use Rattle.used.specs.Used.{UsedRecord}
 use Rattle.claims.specs.AmplitudeDemand.{AmplitudeAnswer}

@@ -5,7 +5,7 @@ use mathlib.Core.Logic.{_↔_, _⊎_}
 use mathlib.Core.Path.{_≡_}
 use Prim.Native.Nat.{ℕ, _≤_}
 use Rattle.buffers.specs.Refusals.{firstFitting}
-use Rattle.call_compare.specs.Comparisons.{compareCall}
+use Rattle.calls.specs.Comparisons.{compareCall}
 use Rattle.comparison.specs.Compared.{pairLines}
 use Rattle.stabilizer.specs.Lists.{GeneratorList}
 use Rattle.claims.specs.Conforming.{Answered}

@@ -4,7 +4,7 @@ use mathlib.Core.List.{List}
 use mathlib.Core.Logic.{_↔_}
 use mathlib.Core.Path.{_≡_}
 use Prim.Native.Nat.{ℕ}
-use Rattle.call_generate.specs.Generation.{generateCall}
+use Rattle.calls.specs.Generation.{generateCall}
 use Rattle.claims.specs.Conforming.{Answered}
 use Rattle.claims.specs.GeneratorDemand.{JobGenerated}
 use Rattle.claims.specs.families.Generator.{GenerateFits}

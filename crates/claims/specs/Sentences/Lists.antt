@@ -5,9 +5,9 @@ use mathlib.Core.Logic.{_↔_}
 use mathlib.Core.Path.{_≡_}
 use Prim.Native.Nat.{_*_, _<_, ℕ}
 use lib.ListN.{getD}
-use Rattle.call_lists.specs.Calls.{checkCall, reduceUnusedCall}
-use Rattle.call_product.specs.Products.{productCall}
-use Rattle.call_strings.specs.StringCalls.{readStringsCall, writeStringsCall}
+use Rattle.calls.specs.Lists.{checkCall, reduceUnusedCall}
+use Rattle.calls.specs.Products.{productCall}
+use Rattle.calls.specs.Strings.{readStringsCall, writeStringsCall}
 use Rattle.record.specs.Lent.{heldRows}
 use Rattle.stabilizer.specs.Groups.{SameGroup}
 use Rattle.stabilizer.specs.Lists.{GeneratorList, rows}

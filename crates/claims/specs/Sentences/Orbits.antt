@@ -4,7 +4,7 @@ use mathlib.Core.List.{List}
 use mathlib.Core.Logic.{_↔_}
 use mathlib.Core.Path.{_≡_}
 use Prim.Native.Nat.{ℕ}
-use Rattle.call_orbit.specs.OrbitCalls.{orbitCall}
+use Rattle.calls.specs.Orbits.{orbitCall}
 use Rattle.claims.specs.Conforming.{Answered}
 use Rattle.claims.specs.OrbitDemand.{Listed, OrbitFits}
 

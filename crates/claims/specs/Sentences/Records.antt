@@ -7,10 +7,10 @@ use mathlib.Core.Logic.{_↔_, _≢_}
 use mathlib.Core.Path.{_≡_}
 use Prim.Native.Nat.{_<_, ℕ, _≤_}
 use Rattle.buffers.specs.Refusals.{firstFitting, otherThan}
-use Rattle.call_cut.specs.Cuts.{cutCall}
-use Rattle.call_expand.specs.Expanding.{expandCall}
-use Rattle.call_gates.specs.InPlaceCalls.{usedCall, usedMeasureCall}
-use Rattle.call_image.specs.Images.{imageCall}
+use Rattle.calls.specs.Cuts.{cutCall}
+use Rattle.calls.specs.Expansions.{expandCall}
+use Rattle.calls.specs.InPlace.{usedCall, usedMeasureCall}
+use Rattle.calls.specs.Images.{imageCall}
 use Rattle.jobs.specs.Standing.{left}
 use Rattle.jobs.specs.declared.Op.the-variants.{Complement, Cz, Gate}
 use Rattle.operations.specs.Steps.{complementOf, czOn, gateWith, measurementOf}

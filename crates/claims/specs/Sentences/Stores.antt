@@ -7,7 +7,7 @@ use mathlib.Core.Path.{_≡_}
 use Prim.Native.Nat.{ℕ}
 use lib.ListN.{length}
 use Rattle.buffers.specs.Refusals.{otherThan}
-use Rattle.call_store.specs.StoreCalls.{forgetCall, returnCall, saveCall}
+use Rattle.calls.specs.Stores.{forgetCall, returnCall, saveCall}
 use Rattle.store.specs.Places.{Store}
 use Rattle.used.specs.Used.{UsedRecord}
 use Rattle.claims.specs.ActionContracts.{ForgetLeaves, ReturnLeaves, SaveLeaves}

@@ -3,7 +3,7 @@ use mathlib.Core.Logic.{_↔_}
 use mathlib.Core.Path.{_≡_}
 use Prim.Native.Nat.{_<_, _^_, ℕ}
 use lib.Ieee.{Float}
-use Rattle.call_amplitude.specs.AmplitudeCalls.{amplitudeCall}
+use Rattle.calls.specs.Amplitudes.{amplitudeCall}
 use Rattle.contracts.specs.Calls.{Call}
 use Rattle.used.specs.Used.{UsedRecord}
 use Rattle.claims.specs.Arguments.{IsRecord}

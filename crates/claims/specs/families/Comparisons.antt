@@ -5,7 +5,7 @@ use mathlib.Core.Path.{_≡_}
 use Prim.Native.Nat.{ℕ}
 use lib.ListN.{length}
 use Rattle.buffers.specs.Refusals.{firstFitting}
-use Rattle.call_compare.specs.Comparisons.{compareCall}
+use Rattle.calls.specs.Comparisons.{compareCall}
 use Rattle.clifford.specs.Clifford.{Clifford}
 use Rattle.comparison.specs.Compared.{compareLines}
 use Rattle.contracts.specs.Calls.{Call}

@@ -2,7 +2,7 @@
 use mathlib.Core.Logic.{_↔_}
 use mathlib.Core.Path.{_≡_}
 use Prim.Native.Nat.{_<_, _^_, ℕ}
-use Rattle.call_expectation.specs.Expectations.{expectationCall}
+use Rattle.calls.specs.Expectations.{expectationCall}
 use Rattle.contracts.specs.Calls.{Call}
 use Rattle.used.specs.Used.{UsedRecord}
 use Rattle.claims.specs.Arguments.{IsRecord}

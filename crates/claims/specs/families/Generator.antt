@@ -5,7 +5,7 @@ use mathlib.Core.Path.{_≡_}
 use Prim.Native.Nat.{ℕ, _≤_}
 use lib.ListN.{length}
 use Rattle.buffers.specs.Refusals.{firstFitting}
-use Rattle.call_generate.specs.Generation.{generateCall}
+use Rattle.calls.specs.Generation.{generateCall}
 use Rattle.contracts.specs.Calls.{Call}
 use Rattle.generator.specs.Lines.{generateLines}
 use Rattle.claims.specs.Conforming.{Conforms}

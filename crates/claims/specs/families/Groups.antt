@@ -5,8 +5,8 @@ use mathlib.Core.Logic.{_↔_}
 use mathlib.Core.Path.{_≡_}
 use Prim.Native.Nat.{_<_, ℕ}
 use lib.ListN.{getD, length}
-use Rattle.call_group_stores.specs.GroupStoreCalls.{groupForgetCall, groupReturnCall, groupSaveCall}
-use Rattle.call_groups.specs.GroupCalls.{groupCall, groupMeasureCall}
+use Rattle.calls.specs.GroupStores.{groupForgetCall, groupReturnCall, groupSaveCall}
+use Rattle.calls.specs.Groups.{groupCall, groupMeasureCall}
 use Rattle.contracts.specs.Calls.{Call}
 use Rattle.groups.specs.GroupStores.{ownPlaces}
 use Rattle.groups.specs.Masks.{inGroup}

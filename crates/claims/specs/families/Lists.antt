@@ -5,9 +5,9 @@ use mathlib.Core.Path.{_≡_}
 use Prim.Native.Nat.{_<_, _^_, ℕ}
 use lib.ListN.{length}
 use Rattle.buffers.specs.Refusals.{firstFitting}
-use Rattle.call_lists.specs.Calls.{checkCall, reduceLines, reduceUnusedCall}
-use Rattle.call_product.specs.Products.{productCall}
-use Rattle.call_strings.specs.StringCalls.{readStringsCall, writeStringsCall}
+use Rattle.calls.specs.Lists.{checkCall, reduceLines, reduceUnusedCall}
+use Rattle.calls.specs.Products.{productCall}
+use Rattle.calls.specs.Strings.{readStringsCall, writeStringsCall}
 use Rattle.contracts.specs.Calls.{Call}
 use Rattle.stabilizer.specs.Lists.{GeneratorList, rows}
 use Rattle.strings.specs.Reading.{readLines, writeLines}

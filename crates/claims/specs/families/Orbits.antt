@@ -5,7 +5,7 @@ use mathlib.Core.Path.{_≡_}
 use Prim.Native.Nat.{ℕ}
 use lib.ListN.{length}
 use Rattle.buffers.specs.Refusals.{firstFitting}
-use Rattle.call_orbit.specs.OrbitCalls.{orbitCall, orbitLines}
+use Rattle.calls.specs.Orbits.{orbitCall, orbitLines}
 use Rattle.contracts.specs.Calls.{Call}
 use Rattle.claims.specs.Conforming.{Conforms}
 use Rattle.claims.specs.OrbitDemand.{OrbitFits}

@@ -7,13 +7,13 @@ use Prim.Native.Nat.{_<_, _^_, ℕ, _≤_}
 use lib.Ieee.{Float}
 use lib.ListN.{length}
 use Rattle.buffers.specs.Refusals.{firstFitting}
-use Rattle.call_amplitude.specs.AmplitudeCalls.{amplitudeCall}
-use Rattle.call_cut.specs.Cuts.{cutCall}
-use Rattle.call_expand.specs.Expanding.{expandCall, expandLines}
-use Rattle.call_expectation.specs.Expectations.{expectationCall}
-use Rattle.call_gates.specs.InPlaceCalls.{usedCall, usedMeasureCall}
-use Rattle.call_image.specs.Images.{imageCall}
-use Rattle.call_store.specs.StoreCalls.{saveCall}
+use Rattle.calls.specs.Amplitudes.{amplitudeCall}
+use Rattle.calls.specs.Cuts.{cutCall}
+use Rattle.calls.specs.Expansions.{expandCall, expandLines}
+use Rattle.calls.specs.Expectations.{expectationCall}
+use Rattle.calls.specs.InPlace.{usedCall, usedMeasureCall}
+use Rattle.calls.specs.Images.{imageCall}
+use Rattle.calls.specs.Stores.{saveCall}
 use Rattle.contracts.specs.Calls.{Call}
 use Rattle.image.specs.Image.{imageLines, UnsignedGraph}
 use Rattle.operations.specs.Steps.{complementOf, czOn, gateWith, Operation}

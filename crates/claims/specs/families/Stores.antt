@@ -6,7 +6,7 @@ use mathlib.Core.Path.{_≡_}
 use Prim.Native.Nat.{_<_, ℕ}
 use lib.ListN.{length}
 use Rattle.buffers.specs.Refusals.{firstFitting, otherThan}
-use Rattle.call_store.specs.StoreCalls.{forgetCall, returnCall, saveCall}
+use Rattle.calls.specs.Stores.{forgetCall, returnCall, saveCall}
 use Rattle.contracts.specs.Calls.{Call}
 use Rattle.store.specs.Places.{Store, hasName, holdsName, isHeld, othersHeld, placeAt}
 use Rattle.store.specs.StoreLines.{namedLines}

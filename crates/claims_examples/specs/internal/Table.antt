@@ -9,15 +9,15 @@ use Rattle.claims.specs.SessionDemand.{listIn}
 use Rattle.clifford.specs.Clifford.{cliffordOf, codeOf, inverse, then}
 use Rattle.comparison.specs.Choices.{leastCode}
 use Rattle.comparison.specs.Compared.{compareLines}
-use Rattle.comparison_answer.specs.ComparedPairs.{compareList}
+use Rattle.comparison.specs.ComparedPairs.{compareList}
 use Rattle.image.specs.Image.{imageGraph, imageLines, imageMinus}
 use Rattle.image.specs.Rule.{imageList}
 use Rattle.record.specs.Lent.{LentRecord, codeNumbers, heldRecord, neighbourWords}
 use Rattle.record.specs.Reduced.{reduced}
 use Rattle.stabilizer.specs.Lists.{GeneratorList, rows}
 use Rattle.pauli.specs.Pauli.{exponent}
-use Rattle.call_product.specs.Products.{chosenProduct, productLines}
-use Rattle.call_lists.specs.Calls.{checkLines}
+use Rattle.calls.specs.Products.{chosenProduct, productLines}
+use Rattle.calls.specs.Lists.{checkLines}
 use Rattle.words.specs.Bits.{digit, wordOf}
 use Rattle.claims_examples.specs.internal.Examples.{Example, example}
 

@@ -2,8 +2,8 @@
 use mathlib.Core.List.{List}
 use Prim.Native.Nat.{ℕ}
 use Rattle.claims.specs.ActionContracts.{session}
-use Rattle.call_group_stores.specs.GroupStoreCalls.{groupForgetCall, groupReturnCall, groupSaveCall}
-use Rattle.call_groups.specs.GroupCalls.{groupCall, groupMeasureCall}
+use Rattle.calls.specs.GroupStores.{groupForgetCall, groupReturnCall, groupSaveCall}
+use Rattle.calls.specs.Groups.{groupCall, groupMeasureCall}
 use Rattle.claims.proofs.families.Groups.{groups-accepted, groups-conform}
 use Rattle.claims.proofs.families.Shared.{answered, at-zero}
 use Rattle.contracts.specs.Calls.{Call}

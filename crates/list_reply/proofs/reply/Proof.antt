@@ -2,7 +2,7 @@
 use borrow.Author.Needs.{needs}
 use Rattle.list_reply.proofs.Answering.{too-many-printed}
 use Rattle.list_reply.proofs.ReadTexts.{formed-responds, malformed-responds}
-use Rattle.list_reply.specs.Answer.{answerText}
+use Rattle.calls.specs.ListAnswers.{answerText}
 use Rattle.list_reply.proofs.reply.Statement.{statement}
 use Rattle.list_reply.proofs.reply.Tie as tie
 

@@ -2,9 +2,10 @@
 use mathlib.Core.Path.{refl, sym}
 use native.Mathlib.Omega.{arith}
 use borrow.Author.Needs.{needs}
+use Rattle.calls.proofs.PlotLines.{many-refused}
 use Rattle.buffers.proofs.Parts.{part-long}
 use Rattle.text.proofs.Writing.{same-print}
-use Rattle.plot_reply.proofs.Answering.{many-refused, places-plotted}
+use Rattle.plot_reply.proofs.Answering.{places-plotted}
 use Rattle.plot_reply.proofs.answer.Statement.{statement}
 use Rattle.plot_reply.proofs.answer.Tie as tie
 

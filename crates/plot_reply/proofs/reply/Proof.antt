@@ -2,7 +2,7 @@
 use borrow.Author.Needs.{needs}
 use Rattle.list_reply.proofs.ReadTexts.{formed-responds, malformed-responds}
 use Rattle.plot_reply.proofs.Answering.{too-many-refused}
-use Rattle.plot_reply.specs.Answer.{plotAnswer}
+use Rattle.calls.specs.PlotAnswers.{plotAnswer}
 use Rattle.plot_reply.proofs.reply.Statement.{statement}
 use Rattle.plot_reply.proofs.reply.Tie as tie
 

@@ -3,7 +3,7 @@ use mathlib.Core.List.{List}
 use mathlib.Core.Path.{_≡_}
 use Prim.Native.Nat.{ℕ, _≤_}
 use lib.ListN.{length}
-use Rattle.plot_reply.specs.Answer.{longestTable}
+use Rattle.calls.specs.PlotAnswers.{longestTable}
 
 -- the buffers lent for the record of a list of n, for a copy of it and for the print
 pub record RoomFor (n : ℕ) (neighbours codes words bytes out : List ℕ) : Type 0 where

@@ -1,0 +1,16 @@
+pub mod InPlaceLines
+pub mod UsedInPlace
+pub mod MeasureLines
+pub mod InPlaceCalls
+pub mod PairLines
+pub mod PairCounts
+pub mod RecordPairLines
+pub mod ProductLines
+pub mod AcceptedGraphs
+pub mod GenerateCalls
+pub mod ExpectationLines
+pub mod SaveLines
+pub mod ListedNumbers
+pub mod PlotLines
+pub mod RunLines
+pub mod ImageLeft

@@ -1,0 +1,1 @@
+// What the public calls and the programs promise: no function stands here.

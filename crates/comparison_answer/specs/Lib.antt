@@ -1,2 +1,0 @@
-pub mod ComparedPairs
-pub mod internal
