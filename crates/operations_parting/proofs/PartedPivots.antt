@@ -22,8 +22,8 @@ use Rattle.graph.specs.NeighbourWords.{graphIn}
 use Rattle.operations.proofs.UnrefusedRecords.{unrefused-simple}
 use Rattle.operations.specs.internal.InPlace.{Unrefused, recordIn}
 use Rattle.operations.specs.Steps.{pivotRecord}
-use Rattle.operations_rewriting.proofs.PivotCodes.{pivot-code}
-use Rattle.operations_rewriting.proofs.PivotedRecords.{both-recoded}
+use Rattle.operations_pivots.proofs.PivotCodes.{pivot-code}
+use Rattle.operations_pivots.proofs.PivotedRecords.{both-recoded}
 use Rattle.record.specs.Lent.{codeNumbers, heldRecord}
 use Rattle.record.specs.Records.{GraphRecord}
 use Rattle.words.proofs.BitLaws.{bit-flip, bit-or}

@@ -2,7 +2,7 @@
 // neighbours are gone through once.
 use operations::compose;
 use operations::compose_fixed;
-use operations_rewriting::join_turning;
+use operations_pivots::join_turning;
 use words::flip;
 use words::single;
 use words::smallest;

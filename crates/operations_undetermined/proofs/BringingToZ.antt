@@ -15,8 +15,8 @@ use Rattle.operations.proofs.UnrefusedRecords.{unrefused-simple}
 use Rattle.operations.specs.internal.InPlace.{Rewritten, Unrefused, recordIn}
 use Rattle.operations.specs.Steps.{pivotRecord}
 use Rattle.operations_rewriting.proofs.ComplementedRecords.{complemented-held}
-use Rattle.operations_rewriting.proofs.PivotCodes.{pivot-code, pivotedCode}
-use Rattle.operations_rewriting.proofs.PivotedRecords.{pivoted-held}
+use Rattle.operations_pivots.proofs.PivotCodes.{pivot-code, pivotedCode}
+use Rattle.operations_pivots.proofs.PivotedRecords.{pivoted-held}
 use Rattle.pauli.specs.declared.Letter.the-variants.{X, Y, Z}
 use Rattle.record.proofs.AcceptedRecords.{accepted-record}
 use Rattle.record.specs.Lent.{heldRecord}

@@ -27,13 +27,13 @@ use Rattle.operations.proofs.UnrefusedRecords.{
 }
 use Rattle.operations.specs.internal.InPlace.{Rewritten, Unrefused, recordIn}
 use Rattle.operations.specs.Steps.{pivotRecord}
+use Rattle.operations_rewriting.proofs.Recoding.{written}
 use Rattle.record.specs.Lent.{heldRecord}
 use Rattle.record.specs.Records.{GraphRecord}
 use Rattle.words.proofs.BitLaws.{bit-or}
 use Rattle.words.proofs.Places.{other-place, same-place}
 use Rattle.words.specs.Bits.{bit}
-use Rattle.operations_rewriting.proofs.PivotCodes.{pivot-code, pivotedCode}
-use Rattle.operations_rewriting.proofs.Recoding.{written}
+use Rattle.operations_pivots.proofs.PivotCodes.{pivot-code, pivotedCode}
 
 -- two sets of vertices, as one
 pub both-below : (words codes : List ℕ) → Unrefused (recordIn words codes) → (v w : ℕ) → v < 2 ^ (length words)

@@ -10,10 +10,10 @@ use Rattle.buffers.proofs.OverSets.{next-in, next-less, next-named, next-short}
 use Rattle.graph.proofs.JoinedSets.{Joining, join-end, join-more, join-start}
 use Rattle.operations.proofs.UnrefusedRecords.{unrefused-codes, unrefused-short}
 use Rattle.words.proofs.Dropping.{dropped-at}
 use Rattle.operations_rewriting.proofs.PuttingBefore.{Putting, put-end, put-more, put-start}
-use Rattle.operations_rewriting.proofs.PivotedRecords.{both-below}
-use Rattle.operations_rewriting.proofs.join_turning.Statement.{statement}
-use Rattle.operations_rewriting.proofs.join_turning.Tie as tie
+use Rattle.operations_pivots.proofs.PivotedRecords.{both-below}
+use Rattle.operations_pivots.proofs.join_turning.Statement.{statement}
+use Rattle.operations_pivots.proofs.join_turning.Tie as tie
 
 abbrev Inv-loop : tie.InvT-loop
 Inv-loop neighbours₀ codes₀ to-a to-b rest₀ neighbours codes rest =

@@ -7,9 +7,9 @@ use lib.ListN.{length-set}
 use borrow.Author.Needs.{needs}
 use Rattle.graph.proofs.PivotWords.{closed-below, pivot-by-sets}
 use Rattle.operations.proofs.UnrefusedRecords.{unrefused-codes, unrefused-place, unrefused-short, unrefused-simple}
-use Rattle.operations_rewriting.proofs.PivotedRecords.{both-recoded, pivoted}
-use Rattle.operations_rewriting.proofs.pivot_record.Statement.{statement}
-use Rattle.operations_rewriting.proofs.pivot_record.Tie as tie
+use Rattle.operations_pivots.proofs.PivotedRecords.{both-recoded, pivoted}
+use Rattle.operations_pivots.proofs.pivot_record.Statement.{statement}
+use Rattle.operations_pivots.proofs.pivot_record.Tie as tie
 
 slice-read-compose : tie.Need-slice-read-compose
 slice-read-compose c =
