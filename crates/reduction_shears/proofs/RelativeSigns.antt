@@ -17,7 +17,7 @@ use Rattle.words.proofs.OnesLaws.{dot-bits, dot-xor, dot-xor-r, parity-xor}
 use Rattle.words.proofs.Sums.{fold-ext, fold-hom}
 use Rattle.words.specs.Bits.{Word, bit, isOdd, parity, _⊕_}
 use Rattle.words.specs.internal.Bits.{dot}
-use Rattle.reduction_passes.specs.internal.Relative.{halfY}
+use Rattle.reduction_shears.specs.internal.Relative.{halfY}
 
 -- i where the bit is set
 abbrev turn : Bool → Phase

@@ -2,9 +2,9 @@
 use mathlib.Core.Bool.{false, true}
 use mathlib.Core.Path.{refl, sym, _∙_}
 use borrow.Author.Needs.{needs}
-use Rattle.reduction_passes.proofs.RelativeSigns.{relative-sign}
-use Rattle.reduction_passes.proofs.minus_word.Statement.{statement}
-use Rattle.reduction_passes.proofs.minus_word.Tie as tie
+use Rattle.reduction_shears.proofs.RelativeSigns.{relative-sign}
+use Rattle.reduction_shears.proofs.minus_word.Statement.{statement}
+use Rattle.reduction_shears.proofs.minus_word.Tie as tie
 
 returns : tie.Need-returns
 returns c =

@@ -21,7 +21,7 @@ use Rattle.words.proofs.OnesLaws.{parity-xor}
 use Rattle.words.proofs.Places.{other-place, same-place}
 use Rattle.words.proofs.Trailing.{trailing-set}
 use Rattle.words.specs.Bits.{bit, isOdd, _⊕_}
-use Rattle.reduction_passes.specs.internal.Relative.{halfY, relative, relativeRow}
+use Rattle.reduction_shears.specs.internal.Relative.{halfY, relative, relativeRow}
 
 module _ (rows₀ : List (List ℕ)) (words₀ : List ℕ) (a named : ℕ) where
   -- what the rows named, but not left in rest, have become

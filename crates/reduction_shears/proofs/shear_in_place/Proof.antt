@@ -6,7 +6,7 @@ use lib.Bits.{bitXor}
 use borrow.Author.Needs.{needs}
 use Rattle.words.proofs.BitLaws.{flip-less}
 use Rattle.words.specs.Bits.{bit}
-use Rattle.reduction_passes.proofs.Shearing.{
+use Rattle.reduction_shears.proofs.Shearing.{
   Sheared,
   next-commutes,
   next-row,
@@ -14,8 +14,8 @@ use Rattle.reduction_passes.proofs.Shearing.{
   shear-start,
   shear-step,
 }
-use Rattle.reduction_passes.proofs.shear_in_place.Statement.{statement}
-use Rattle.reduction_passes.proofs.shear_in_place.Tie as tie
+use Rattle.reduction_shears.proofs.shear_in_place.Statement.{statement}
+use Rattle.reduction_shears.proofs.shear_in_place.Tie as tie
 
 abbrev Inv-loop : tie.InvT-loop
 Inv-loop rows₀ words₀ a named by-z by-x sign rest₀ rows words rest = Sheared rows₀ words₀ a named rows words rest
