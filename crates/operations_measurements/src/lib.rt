@@ -1,5 +1,5 @@
 // Measurements on a record in its buffers.
-use clifford::Code;
+use clifford_codes::Code;
 use graph_settling::normalise;
 use operations::Outcome;
 use operations_undetermined::measure_open;

@@ -1,6 +1,6 @@
 // A measurement that is not determined: the code at the vertex sends X, Z or Y to the letter; a pivot or a complementation
 // brings Z there where it is X or Y, and the vertex is isolated.
-use clifford::Code;
+use clifford_codes::Code;
 use operations_isolation::isolate;
 use operations_isolation::with_hadamard;
 use operations_parting::complement_parted;
