@@ -1,8 +1,8 @@
 // The public call that complements a lent record in place, and the pivot of job texts.
 use call_gates::in_place_refusal;
 use call_gates::is_used;
+use operations_pivots::pivot_record;
 use operations_rewriting::complement_record;
-use operations_rewriting::pivot_record;
 use words::has;
 ghost use Rattle.contracts.specs.Calls.{Call};
 ghost use Rattle.calls.specs.InPlace.{usedCall};

@@ -1,4 +1,1 @@
-pub mod SpreadWords
-pub mod PackedParts
 pub mod WordSizes
-pub mod CodeBits

@@ -1,5 +1,5 @@
 // The codes that a choice induces between two reduced graphs.
-use clifford::Code;
+use clifford_codes::Code;
 ghost use mathlib.Core.Path.{_≡_};
 ghost use Prim.Native.Nat.{_<_};
 ghost use lib.ListN.{length};

@@ -1,5 +1,5 @@
 // A record as the comparison takes it: its generators, and the codes that undo its codes.
-use clifford::Code;
+use clifford_codes::Code;
 use clifford_words::act_on;
 use clifford_words::action_of;
 use pauli::Generator;

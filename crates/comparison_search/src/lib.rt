@@ -1,14 +1,14 @@
 // The least choice: for each qubit in turn the first class that the equations allow, then for each the first signs; and
 // the comparison of two records by it. Neither loop steps back: at most 6 classes and 4 signs are tried at a qubit.
-use comparison_equations::class_words;
-use comparison_equations::sign_words;
-use comparison_equations::with_class;
-use comparison_equations::with_signs;
+use comparison_assignments::class_words;
+use comparison_assignments::sign_words;
+use comparison_assignments::with_class;
+use comparison_assignments::with_signs;
+use comparison_choices::least_class;
+use comparison_choices::least_sign;
 use comparison_groups::generators;
 use comparison_groups::inverses;
 use comparison_tables::class_table;
-use comparison_tables::least_class;
-use comparison_tables::least_sign;
 use comparison_tables::sign_table;
 use pauli::Generator;
 ghost use Prim.Native.Nat.{_≤_};

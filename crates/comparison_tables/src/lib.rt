@@ -1,44 +1,20 @@
-// The tables of what every choice that works must satisfy, and the first class and the first signs that they allow at a
-// qubit.
+// The tables of what every choice that works must satisfy.
 use clifford_words::act_on;
 use clifford_words::action_of;
-use comparison_equations::broken;
+use comparison_assignments::pack;
 use comparison_equations::insert;
-use comparison_equations::pack;
-use comparison_equations::with_class;
-use comparison_equations::with_signs;
 use comparison_groups::element;
 use pauli::Generator;
 use words::flip_where;
 ghost use mathlib.Core.List.{List};
 ghost use mathlib.Core.Path.{_≡_};
-ghost use Prim.Native.Nat.{ℕ, _+_, _<_, _^_, _≤_};
+ghost use Prim.Native.Nat.{_+_, _<_, _^_, _≤_};
 ghost use lib.ListN.{length};
 ghost use Rattle.clifford.specs.Vectors.{codesOf};
 ghost use Rattle.stabilizer.specs.Groups.{Proper};
-ghost use Rattle.comparison.specs.internal.Equations.{
-  Triangular,
-  assignmentOf,
-  classAssignment,
-  common,
-  emptyRows,
-  equationOf,
-  equationsIn,
-  firstPart,
-  secondPart,
-  signAssignment,
-  signEquation,
-};
+ghost use Rattle.comparison.specs.internal.Equations.{Triangular, common, emptyRows, equationOf, equationsIn, firstPart, secondPart, signEquation};
 ghost use Rattle.comparison.specs.internal.Setting.{NoSigns, Codes, Setting, generatorsOf};
-ghost use Rattle.comparison.specs.internal.Searches.{
-  ClassTable,
-  FirstFit,
-  SecondParts,
-  SentUpToSign,
-  SignTable,
-  withClass,
-  withSigns,
-};
+ghost use Rattle.comparison.specs.internal.Searches.{ClassTable, SecondParts, SentUpToSign, SignTable};
 
 // What a generator of the first group gives to its equations on the classes.
 fn first_part(g: Generator) -> [u64; 2]
@@ -148,40 +124,4 @@ pub fn sign_table(
         insert(table, e);
         i += 1;
     }
-}
-
-// The first class at qubit q that the equations allow beside the values held for the other qubits; 6 if there is none.
-pub fn least_class(table: &[[u64; 2]; 80], held: [u64; 2], q: usize) -> u8
-    requires { ⌜ q < 20 ⌝ }
-    ensures { λ r. ⌜ ((n : ℕ) (choice : List ℕ) → q < n → q < length choice
-        → assignmentOf held ≡ classAssignment n (codesOf choice)
-        → FirstFit (classAssignment n) (equationsIn (now (table .entry))) q (λ u. codesOf (withClass choice q u)) 6 r) ⌝ }
-{
-    let mut v = 0u8;
-    while v < 6 {
-        let w = with_class(held, q, v);
-        if !broken(table, q, w) {
-            return v;
-        }
-        v += 1;
-    }
-    v
-}
-
-// The first signs at qubit q that the equations allow beside the values held for the other qubits; 4 if there are none.
-pub fn least_sign(table: &[[u64; 2]; 80], held: [u64; 2], q: usize) -> u8
-    requires { ⌜ q < 20 ⌝ }
-    ensures { λ r. ⌜ ((n : ℕ) (choice : List ℕ) → q < n → q < length choice
-        → assignmentOf held ≡ signAssignment n (codesOf choice)
-        → FirstFit (signAssignment n) (equationsIn (now (table .entry))) q (λ u. codesOf (withSigns choice q u)) 4 r) ⌝ }
-{
-    let mut v = 0u8;
-    while v < 4 {
-        let w = with_signs(held, q, v);
-        if !broken(table, q, w) {
-            return v;
-        }
-        v += 1;
-    }
-    v
 }

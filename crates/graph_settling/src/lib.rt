@@ -1,7 +1,7 @@
 // A record brought to its reduced form in its buffers, by steps on the graph and its codes that keep the group.
 use graph_suspects::suspects;
+use operations_pivots::pivot_record;
 use operations_rewriting::complement_record;
-use operations_rewriting::pivot_record;
 use operations_rewriting::recode;
 use words::largest;
 use words::single;

@@ -14,8 +14,8 @@ use Rattle.clifford.specs.Clifford.{Clifford, bitC, bitD}
 use Rattle.clifford.specs.Vectors.{codesOf}
 use Rattle.operations.specs.internal.InPlace.{Rewritten}
 use Rattle.operations.specs.Steps.{pivotRecord}
-use Rattle.operations_rewriting.proofs.PivotCodes.{pivot-code, pivotedCode}
-use Rattle.operations_rewriting.proofs.PivotedRecords.{pivoted-held, pivoted-length, pivoted-unrefused}
+use Rattle.operations_pivots.proofs.PivotCodes.{pivot-code, pivotedCode}
+use Rattle.operations_pivots.proofs.PivotedRecords.{pivoted-held, pivoted-length, pivoted-unrefused}
 use Rattle.words.proofs.BitLaws.{bit-and, bit-or, bit-single, bit-xor}
 use Rattle.words.proofs.Finite.{bits}
 use Rattle.words.proofs.Places.{other-place}

@@ -1,6 +1,6 @@
 // Complementations of the image rule on a lent record: the bits C and D are followed, and the vertices listed.
+use operations_pivots::pivot_record;
 use operations_rewriting::complement_record;
-use operations_rewriting::pivot_record;
 use words::single;
 ghost use mathlib.Core.Bool.{true};
 ghost use mathlib.Core.List.{[], _∷_};

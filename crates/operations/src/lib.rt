@@ -1,6 +1,6 @@
 // Gates, CZ, measurements, complements and pivots on groups and on records: what they are, and laws.
 use buffers::sign_digit;
-use clifford::Code;
+use clifford_codes::Code;
 ghost use mathlib.Core.Path.{_≡_};
 ghost use Prim.Native.Nat.{_*_, _+_, _<_};
 ghost use Rattle.clifford.specs.Clifford.{classNumber, cliffordOf, codeOf, then};

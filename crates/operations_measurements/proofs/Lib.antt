@@ -1,10 +1,2 @@
 pub mod ReadingOff
-pub mod MeasuredGroups
 pub mod MeasuredBuffers
-pub mod SentLetters
-pub mod BringingToZ
-pub mod RemovedEdges
-pub mod IsolatedBuffers
-pub mod PartedBuffers
-pub mod PartedPivots
-pub mod PartedComplements

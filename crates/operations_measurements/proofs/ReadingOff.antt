@@ -9,7 +9,7 @@ use lib.ListN.{getD, length}
 use borrow.Author.Tests.{eq-eqb, eqb-true}
 use Rattle.clifford.specs.Clifford.{Clifford, cliffordOf, image, imagePhase}
 use Rattle.graph.specs.Graph.{Simple}
-use Rattle.operations_measurements.proofs.SentLetters.{equal-letters, equal-letters-refl, equalLetters}
+use Rattle.operations_undetermined.proofs.SentLetters.{equal-letters, equal-letters-refl, equalLetters}
 use Rattle.operations.proofs.MeasuredRecords.{determined-alone, outcome-alone, pauli-acts}
 use Rattle.operations.specs.internal.InPlace.{Unrefused, recordIn}
 use Rattle.operations.specs.Measurement.{isDetermined, outcome, pauliLetter, single}

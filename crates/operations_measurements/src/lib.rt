@@ -1,18 +1,12 @@
 // Measurements on a record in its buffers.
-mod isolation;
-mod parting;
-
-use crate::isolation::sends;
-use crate::parting::measure_x;
-use crate::parting::measure_y;
-use crate::parting::measure_z;
-use clifford::Code;
+use clifford_codes::Code;
 use graph_settling::normalise;
 use operations::Outcome;
+use operations_undetermined::measure_open;
 use pauli::Letter;
 use pauli::x_bit;
 use pauli::z_bit;
-ghost use mathlib.Core.Bool.{cond, false};
+ghost use mathlib.Core.Bool.{cond};
 ghost use mathlib.Core.Path.{_≡_};
 ghost use Prim.Native.Nat.{_<_, _≤_};
 ghost use lib.ListN.{length};
@@ -68,26 +62,6 @@ pub fn contradicted(neighbours: &[u64], codes: &[u8], pauli: u8, q: usize, bit: 
 {
     let known = read_off(neighbours, codes, pauli, q);
     known.determined & (known.minus != bit)
-}
-
-// The group after a measurement of l at q that is not determined: l stands for X, Z or Y of the graph there.
-fn measure_open(neighbours: &mut [u64], codes: &mut [u8], l: Letter, q: usize, bit: bool)
-    requires { ⌜ Unrefused (recordIn (now neighbours) (now codes)) × (q < length (now neighbours)) ⌝ }
-    requires { ⌜ isDetermined (length (now neighbours)) (heldRows (recordIn (now neighbours) (now codes))) l q
-        ≡ false ⌝ }
-    requires { ⌜ (l ≡ I → ⊥) ⌝ }
-    ensures { λ r. ⌜ GroupMeasured (now (neighbours .entry)) (now (codes .entry)) l q bit
-        (now (neighbours .exit)) (now (codes .exit)) ⌝ }
-{
-    if sends(codes[q], Letter::X, l) {
-        measure_x(neighbours, codes, q, bit);
-        return;
-    }
-    if sends(codes[q], Letter::Z, l) {
-        measure_z(neighbours, codes, q, bit);
-        return;
-    }
-    measure_y(neighbours, codes, q, bit);
 }
 
 // The group after a measurement of l at q: the same where it is determined.

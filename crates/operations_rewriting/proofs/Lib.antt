@@ -1,5 +1,3 @@
 pub mod PuttingBefore
 pub mod Recoding
-pub mod PivotCodes
-pub mod PivotedRecords
 pub mod ComplementedRecords

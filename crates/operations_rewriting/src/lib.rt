@@ -1,26 +1,20 @@
-// Complements and pivots of a record in its buffers.
-use graph::joined_word;
-use operations::compose;
+// Complements of a record in its buffers, and codes put before those of its vertices.
 use operations::compose_fixed;
 use words::flip;
-use words::single;
 use words::smallest;
 use words::without_smallest;
-ghost use mathlib.Core.Bool.{cond, true};
+ghost use mathlib.Core.Bool.{cond};
 ghost use mathlib.Core.Path.{_≡_};
 ghost use Prim.Native.Nat.{ℕ, _<_, _≤_, _^_};
-ghost use lib.Bits.{bitOr};
 ghost use lib.Dec.{eqb};
 ghost use lib.ListN.{getD, length};
 ghost use Rattle.buffers.specs.Buffers.{tabulate};
 ghost use Rattle.clifford.specs.Clifford.{cliffordOf, codeOf, then};
 ghost use Rattle.clifford.specs.Vectors.{codesOf};
 ghost use Rattle.graph.specs.Graph.{complement};
-ghost use Rattle.graph.specs.internal.Joined.{joinedBy};
 ghost use Rattle.graph.specs.internal.NeighbourWords.{SameGraph};
 ghost use Rattle.graph.specs.NeighbourWords.{graphIn};
 ghost use Rattle.operations.specs.internal.InPlace.{Rewritten, Unrefused, recordIn};
-ghost use Rattle.operations.specs.Steps.{pivotRecord};
 ghost use Rattle.record.specs.Records.{complementRecord};
 ghost use Rattle.words.specs.Bits.{bit};
 
@@ -79,41 +73,4 @@ pub fn complement_record(neighbours: &mut [u64], codes: &mut [u8], a: usize)
     let first = compose_fixed(13, codes[a]);
     complement_around(neighbours, codes, a);
     codes[a] = first;
-}
-
-// The edges between the two sets flipped, and 2 before the codes of their vertices.
-pub fn join_turning(neighbours: &mut [u64], codes: &mut [u8], to_a: u64, to_b: u64)
-    requires { ⌜ Unrefused (recordIn (now neighbours) (now codes)) ⌝ }
-    requires { ⌜ («to_a» < 2 ^ (length (now neighbours))) × («to_b» < 2 ^ (length (now neighbours))) ⌝ }
-    ensures { λ r. ⌜ SameGraph (graphIn (now (neighbours .exit)))
-        (joinedBy (graphIn (now (neighbours .entry))) (bit «to_a») (bit «to_b»)) ⌝ }
-    ensures { λ r. ⌜ now (codes .exit) ≡ tabulate (length (now (codes .entry))) (λ q. codeOf (cond
-        (bit (bitOr «to_a» «to_b») q)
-        (then (cliffordOf 2) (codesOf (now (codes .entry)) q)) (codesOf (now (codes .entry)) q))) ⌝ }
-{
-    let mut rest = to_a | to_b;
-    while rest != 0 {
-        let i = smallest(rest);
-        codes[i] = compose_fixed(2, codes[i]);
-        neighbours[i] = joined_word(neighbours[i], to_a, to_b, i);
-        rest = without_smallest(rest);
-    }
-}
-
-// Pivots the record on the edge j, k, which complements j, k, j: the edges between j with its neighbours and k with its
-// neighbours are flipped; 11 comes before the codes of j and k, and 2 before those of their other neighbours.
-pub fn pivot_record(neighbours: &mut [u64], codes: &mut [u8], j: usize, k: usize)
-    requires { ⌜ Unrefused (recordIn (now neighbours) (now codes)) ⌝ }
-    requires { ⌜ (j < length (now neighbours)) × (k < length (now neighbours)) ⌝ }
-    requires { ⌜ bit (getD (now neighbours) j 0) k ≡ true ⌝ }
-    ensures { λ r. ⌜ Rewritten (now (neighbours .entry)) (now (codes .entry)) (λ g. pivotRecord g j k)
-        (now (neighbours .exit)) (now (codes .exit)) ⌝ }
-{
-    let at_j = compose(11, codes[j]);
-    let at_k = compose(11, codes[k]);
-    let to_j = neighbours[j] | single(j);
-    let to_k = neighbours[k] | single(k);
-    join_turning(neighbours, codes, to_j, to_k);
-    codes[j] = at_j;
-    codes[k] = at_k;
 }

@@ -1,3 +1,2 @@
 pub mod Concluding
 pub mod Loading
-pub mod Reading

@@ -1,14 +1,12 @@
 // Reduction by value on an array of 64 rows of two words, z and x, beside one word of signs.
-mod reading_off;
-
-use crate::reading_off::write_record;
 use reduction_passes::pass;
 use reduction_passes::rotate;
+use reduction_records::write_record;
 use words::flip_where;
 use words::mask;
 ghost use mathlib.Core.Bool.{cond, not};
 ghost use mathlib.Core.Path.{_≡_};
-ghost use Prim.Native.Nat.{ℕ, _<_, _≤_};
+ghost use Prim.Native.Nat.{ℕ, _≤_};
 ghost use lib.ListN.{length};
 ghost use Rattle.record.specs.Lent.{codeNumbers, neighbourWords};
 ghost use Rattle.record.specs.Reduced.{reduced};

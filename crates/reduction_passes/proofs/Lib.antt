@@ -1,5 +1,3 @@
-pub mod RelativeSigns
-pub mod Shearing
 pub mod Pivoting
 pub mod Passing
 pub mod Relating

@@ -13,6 +13,7 @@ use borrow.Author.Tests.{lt-ltb}
 use Rattle.pauli.proofs.PauliLaws.{anticommute-swap, mul-identity}
 use Rattle.pauli.specs.Pauli.{Pauli, anticommute, imaginary, mul}
 use Rattle.record.proofs.FirstPass.{unused-bit}
+use Rattle.reduction_shears.specs.internal.Relative.{relative}
 use Rattle.stabilizer.proofs.Products.{anticommute-identity}
 use Rattle.stabilizer.proofs.RowOperations.{clear-self, lend-self, shear-commuting}
 use Rattle.stabilizer.proofs.Within.{anticommute-wide, chosen-within, mul-wide, mul-within}
@@ -26,7 +27,6 @@ use Rattle.words.proofs.Sums.{lt-or-ge}
 use Rattle.words.proofs.Trailing.{trailing-set}
 use Rattle.words.specs.Bits.{Word, bit, put, _⊕_}
 use Rattle.reduction_passes.specs.internal.Passes.{Eliminated, Loaded, PivotReady, pivot, pivoted, skip, start}
-use Rattle.reduction_passes.specs.internal.Relative.{relative}
 
 -- ---- at 64 qubits and rows instead of n
 module _ (n : ℕ) (l : n ≤ 64) (R : ℕ → Pauli) (L : Loaded n R) where

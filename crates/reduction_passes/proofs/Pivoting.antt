@@ -12,6 +12,7 @@ use lib.Pow.{pow-mono}
 use borrow.Author.Tests.{eqb-true, le-ltb, lt-ltb}
 use Rattle.pauli.proofs.PauliLaws.{mul-identity}
 use Rattle.pauli.specs.Pauli.{Pauli, anticommute, mul}
+use Rattle.reduction_shears.specs.internal.Relative.{relative}
 use Rattle.stabilizer.proofs.RowOperations.{clear-self, lend-self, shear-commuting}
 use Rattle.stabilizer.specs.internal.Elimination.{clear, lend, pivotOn}
 use Rattle.stabilizer.specs.Elimination.{shear}
@@ -21,7 +22,6 @@ use Rattle.words.proofs.Places.{other-place, put-all, put-other, put-same, upto
 use Rattle.words.proofs.Sums.{lt-or-ge}
 use Rattle.words.specs.Bits.{Word, bit, digit, put, wordOf, _⊕_}
 use Rattle.reduction_passes.specs.internal.Passes.{PivotReady}
-use Rattle.reduction_passes.specs.internal.Relative.{relative}
 
 -- ---- a word made row after row: the rows below i that pass
 pub record NamedBelow (f : Word) (word i : ℕ) : Type 0 where

@@ -15,13 +15,13 @@ use borrow.Author.Count.{below-more}
 use borrow.Author.Tests.{le-ltb, lt-ltb}
 use Rattle.pauli.proofs.PauliLaws.{Pauli-path}
 use Rattle.pauli.specs.Pauli.{Pauli, minus, signedRow}
+use Rattle.reduction_shears.specs.internal.Relative.{halfY, relative}
 use Rattle.stabilizer.specs.internal.Tableau.{tableau}
 use Rattle.words.proofs.BitLaws.{bit-ext∞, zero-bit}
 use Rattle.words.proofs.Finite.{unequal, ⊕-twice}
 use Rattle.words.proofs.Sums.{lt-or-ge}
 use Rattle.words.specs.Bits.{Word, bit, digit, isOdd, _⊕_}
 use Rattle.reduction_passes.specs.internal.Passes.{Eliminated, Loaded}
-use Rattle.reduction_passes.specs.internal.Relative.{halfY, relative}
 
 -- a row without z letters has no Y
 no-pairs : (z x : ℕ) → ((q : ℕ) → bit z q ≡ false) → halfY z x ≡ false

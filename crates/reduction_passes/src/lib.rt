@@ -1,32 +1,26 @@
-// The elimination on an array of 64 rows of two words, z and x, beside one word of signs: shears, passes, rotation.
-// Within a pass the signs are relative to the rows' numbers of Y, and each stands in a word of its own, minus where the
-// word's ones are odd in number: a product of commuting rows then needs no count.
+// The elimination on an array of 64 rows of two words, z and x, beside one word of signs: passes and rotation. Within a
+// pass the signs are relative to the rows' numbers of Y, each in a word of its own, as the shears have them.
+use reduction_shears::shear_in_place;
 use words::count;
-use words::dot_product;
 use words::flip_where;
 use words::has;
 use words::odd;
 use words::put_bit;
 use words::single;
 use words::smallest;
-use words::without_smallest;
-ghost use mathlib.Core.Bool.{_&&_, false, true};
+ghost use mathlib.Core.Bool.{_&&_};
 ghost use mathlib.Core.List.{[]};
 ghost use mathlib.Core.Path.{_≡_};
-ghost use Prim.Native.Nat.{ℕ, _<_, _≤_, _^_};
-ghost use lib.Bits.{bitXor};
-ghost use lib.Count.{ones, trailingZeros};
+ghost use Prim.Native.Nat.{ℕ, _<_, _≤_};
 ghost use lib.Dec.{ltb};
 ghost use lib.ListN.{getD, length};
 ghost use Rattle.clifford.specs.Vectors.{act};
-ghost use Rattle.pauli.specs.Pauli.{anticommute, i⁰, minus, mul, row};
 ghost use Rattle.record.specs.Reduced.{hadamardWhere};
 ghost use Rattle.reduction_passes.specs.internal.Passes.{Eliminated, Loaded, PivotReady};
-ghost use Rattle.reduction_passes.specs.internal.Relative.{halfY, relative};
+ghost use Rattle.reduction_shears.specs.internal.Relative.{halfY, relative};
 ghost use Rattle.stabilizer.specs.internal.Elimination.{pivotOn};
-ghost use Rattle.stabilizer.specs.Elimination.{shear};
 ghost use Rattle.stabilizer.specs.internal.Tableau.{tableau};
-ghost use Rattle.words.specs.Bits.{_⊕_, bit, digit, isOdd};
+ghost use Rattle.words.specs.Bits.{bit, digit};
 
 // Whether the pairs of Y in a row's letters are odd in number.
 fn odd_pairs(z: u64, x: u64) -> bool
@@ -72,46 +66,6 @@ fn gather_signs(rows: &[[u64; 2]; 64], words: &[u64; 64], n: usize) -> u64
         j += 1;
     }
     signs
-}
-
-// The relative sign of the product of the letters of two rows that commute, as a word: where the second has an odd
-// number of Y, those of the first are counted too.
-fn minus_word(z: u64, x: u64, z2: u64, x2: u64) -> u64
-    requires { ⌜ anticommute 64 (row i⁰ z x) (row i⁰ z2 x2) ≡ false ⌝ }
-    ensures { λ r. ⌜ (mul 64 (row i⁰ z x) (row i⁰ z2 x2)) .phase
-        ≡ minus (((isOdd (ones r) ⊕ halfY z x) ⊕ halfY z2 x2) ⊕ halfY (bitXor z z2) (bitXor x x2)) ⌝ }
-{
-    if dot_product(z2, x2) {
-        z & (x2 ^ x)
-    } else {
-        z & x2
-    }
-}
-
-// Row a multiplied into each row that the word named names, in place.
-fn shear_in_place(rows: &mut [[u64; 2]; 64], words: &mut [u64; 64], a: usize, named: u64)
-    requires { ⌜ (a < 64) × (bit named a ≡ false) × (length (now rows) ≡ 64) × (length (now words) ≡ 64) ⌝ }
-    requires { ⌜ ((j : ℕ) → bit named j ≡ true
-        → anticommute 64 (relative (now words) (now rows) j) (relative (now words) (now rows) a) ≡ false) ⌝ }
-    ensures { λ r. ⌜ (length (now (rows .exit)) ≡ 64) × (length (now (words .exit)) ≡ 64) ⌝ }
-    ensures { λ r. ⌜ ((j : ℕ) → relative (now (words .exit)) (now (rows .exit)) j
-        ≡ shear 64 (relative (now (words .entry)) (now (rows .entry))) a (bit named) j) ⌝ }
-{
-    let by = rows[a];
-    let by_z = by[0];
-    let by_x = by[1];
-    let sign = words[a];
-    let mut rest = named;
-    while rest != 0 {
-        let j = smallest(rest);
-        let row = rows[j];
-        let z = row[0];
-        let x = row[1];
-        let minus = minus_word(z, x, by_z, by_x);
-        rows[j] = [z ^ by_z, x ^ by_x];
-        words[j] = words[j] ^ (sign ^ minus);
-        rest = without_smallest(rest);
-    }
 }
 
 // The rows below n that have x bit q.

@@ -4,3 +4,4 @@ pub mod FormLaws
 pub mod FirstLine
 pub mod BackLaws
 pub mod Examples
+pub mod SizeLaws

@@ -17,7 +17,7 @@ use Rattle.strings.proofs.LineLaws.{line-parts}
 use Rattle.strings.specs.Reading.{byteAt, isLetter, rowOf}
 use Rattle.words.proofs.SearchLaws.{every-at}
 use Rattle.words.specs.Bits.{digit, wordOf}
-use Rattle.strings_scan.proofs.SizeLaws.{next-line}
+use Rattle.strings.proofs.SizeLaws.{next-line}
 use Rattle.strings_scan.specs.internal.Generators.{LettersFit, LinesFit, generatorIn}
 
 -- an array whose first n places are filled

@@ -10,3 +10,4 @@ mod orbits;
 mod records;
 mod run;
 mod stores;
+mod version;

@@ -1,10 +1,11 @@
 // The version, as C sees it.
 ghost use mathlib.Core.Path.{_≡_};
+ghost use Rattle.sukhlent.specs.Version.{versionNumber};
 
-// The number of this version, as SUKHLENT_VERSION of the header has it: major * 10000 + minor * 100 + patch.
+// The number of this version.
 #[no_mangle]
 pub extern "C" fn sukhlent_version() -> u32
-    ensures { λ r. ⌜ r ≡ 1402 ⌝ }
+    ensures { λ r. ⌜ r ≡ versionNumber ⌝ }
 {
     1402
 }

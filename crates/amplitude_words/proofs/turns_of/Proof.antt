@@ -5,7 +5,7 @@ use native.Mathlib.Omega.{arith}
 use borrow.Author.Needs.{needs}
 use borrow.Author.Tests.{not-false, not-true}
 use Rattle.amplitude_words.proofs.Vertices.{turns-none, turns-some}
-use Rattle.clifford.proofs.Digits.{byte-lt}
+use Rattle.clifford_codes.proofs.Digits.{byte-lt}
 use Rattle.words.specs.Bits.{bit, parity}
 use Rattle.amplitude_words.proofs.turns_of.Statement.{statement}
 use Rattle.amplitude_words.proofs.turns_of.Tie as tie

@@ -4,7 +4,7 @@ use native.Mathlib.Omega.{arith}
 use borrow.Author.Needs.{needs}
 use Rattle.stabilizer.proofs.SharedTests.{counted}
 use Rattle.stabilizer.specs.Lists.{GeneratorList}
-use Rattle.strings_scan.proofs.SizeLaws.{size-fits}
+use Rattle.strings.proofs.SizeLaws.{size-fits}
 use Rattle.call_strings.proofs.WriteCalls.{write-count, write-done, write-refused, write-room, write-size}
 use Rattle.call_strings.proofs.write_strings.Statement.{statement}
 use Rattle.call_strings.proofs.write_strings.Tie as tie

@@ -2,7 +2,7 @@
 use mathlib.Core.Path.{refl}
 use native.Mathlib.Omega.{arith}
 use Rattle.words.specs.Search.{every}
-use Rattle.clifford.proofs.Digits.{byte-lt}
+use Rattle.clifford_codes.proofs.Digits.{byte-lt}
 use Rattle.operations.proofs.Compositions.{exchanges, product-lt, signs-are}
 use borrow.Author.Needs.{needs}
 use Rattle.operations.proofs.then_signs.Statement.{statement}

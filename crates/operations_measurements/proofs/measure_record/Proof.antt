@@ -1,7 +1,7 @@
 -- `measure_record` meets its contract: measures a Pauli at q, and leaves the reduced record of the group afterwards.
 use borrow.Author.Needs.{needs}
+use Rattle.operations_undetermined.proofs.MeasuredGroups.{named-acts}
 use Rattle.operations_measurements.proofs.MeasuredBuffers.{determined-as-read, measured-as-read}
-use Rattle.operations_measurements.proofs.MeasuredGroups.{named-acts}
 use Rattle.operations_measurements.proofs.measure_record.Statement.{statement}
 use Rattle.operations_measurements.proofs.measure_record.Tie as tie
 

@@ -3,7 +3,7 @@ use mathlib.Core.Path.{ap}
 use Prim.Native.Nat.{_%_, _/_}
 use lib.Dec.{eqb}
 use borrow.Author.Needs.{needs}
-use Rattle.reduction_passes.specs.internal.Relative.{halfY}
+use Rattle.reduction_shears.specs.internal.Relative.{halfY}
 use Rattle.reduction_passes.proofs.odd_pairs.Statement.{statement}
 use Rattle.reduction_passes.proofs.odd_pairs.Tie as tie
 

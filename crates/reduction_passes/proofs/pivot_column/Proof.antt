@@ -8,7 +8,7 @@ use borrow.Author.Needs.{needs}
 use borrow.Author.Tests.{not-false, not-true}
 use Rattle.stabilizer.specs.internal.Elimination.{lend}
 use Rattle.stabilizer.specs.Elimination.{shear}
-use Rattle.reduction_passes.specs.internal.Relative.{relative}
+use Rattle.reduction_shears.specs.internal.Relative.{relative}
 use Rattle.reduction_passes.proofs.Pivoting.{
   cleared,
   cleared-commutes,

@@ -10,11 +10,11 @@ use lib.Count.{ones}
 use lib.ListN.{getD, length}
 use borrow.Author.Needs.{needs}
 use borrow.Author.Tests.{not-false}
+use Rattle.reduction_shears.specs.internal.Relative.{halfY, relative}
 use Rattle.words.specs.Bits.{bit, isOdd, _⊕_}
 use Rattle.pauli.proofs.PhaseLaws.{minus-real}
 use Rattle.reduction_passes.specs.internal.Passes.{Eliminated}
 use Rattle.reduction_passes.specs.internal.Passes.Eliminated.{pivoted, start}
-use Rattle.reduction_passes.specs.internal.Relative.{halfY, relative}
 use Rattle.reduction_passes.proofs.Passing.{
   column-pivoted,
   column-skipped,

@@ -1,0 +1,3 @@
+pub mod SpreadWords
+pub mod PackedParts
+pub mod CodeBits

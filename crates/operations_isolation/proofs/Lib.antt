@@ -1,0 +1,2 @@
+pub mod RemovedEdges
+pub mod IsolatedBuffers

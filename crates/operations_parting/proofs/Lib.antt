@@ -1,0 +1,2 @@
+pub mod PartedPivots
+pub mod PartedComplements

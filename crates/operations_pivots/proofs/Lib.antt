@@ -1,0 +1,2 @@
+pub mod PivotCodes
+pub mod PivotedRecords

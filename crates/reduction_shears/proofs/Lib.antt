@@ -1,0 +1,2 @@
+pub mod RelativeSigns
+pub mod Shearing
