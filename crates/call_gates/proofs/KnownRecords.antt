@@ -1,15 +1,22 @@
--- A record that no line refuses: what a further argument makes of it.
+-- A record that no line refuses: what a further argument makes of it, and the words that are handed on.
 use mathlib.Core.Bool.{Bool, cond, false, or-true, true, _||_}
+use mathlib.Core.List.{List}
 use mathlib.Core.Path.{ap, refl, subst, sym, _∙_, _≡_}
 use Prim.Native.Nat.{ℕ}
 use lib.Dec.{eqb}
 use borrow.Author.Tests.{eqb-true}
-use Rattle.buffers.specs.Refusals.{firstFitting}
+use Rattle.buffers.specs.Refusals.{firstFitting, reaching}
 use Rattle.contracts.proofs.Fitting.{first-is, none-holds}
 use Rattle.contracts.specs.Answers.{here, later}
+use Rattle.graph_settling.proofs.SuspectCodes.{all-suspected, suspects-held, suspects-watched}
+use Rattle.graph_settling.specs.internal.Watching.{Suspected, Watched}
+use Rattle.operations.specs.internal.InPlace.{Unrefused, recordIn}
+use Rattle.operations_gates.proofs.SettledRecords.{settled-watched}
+use Rattle.operations_gates.specs.internal.Settled.{Settled}
 use Rattle.record.specs.Lent.{recordCodes}
 use Rattle.used.specs.Used.{UsedRecord, UsedUnrefused, usedLines}
-use Rattle.call_gates.specs.internal.Knowing.{Known}
+use Rattle.words.proofs.Flags.{neither}
+use Rattle.call_gates.specs.internal.Knowing.{Handed, Known, looked, reduced}
 
 pub known-true : (u : UsedRecord) {known : Bool} → Known known u → known ≡ true → UsedUnrefused u
 known-true u K e = subst (λ b. Known b u) e K
@@ -29,3 +36,18 @@ six-alone u U true =
     let h = none-holds (usedLines u false false false) refl (U .no-line) in
     first-is (later (h .0) (later (h .1 .0) (later (h .1 .1 .0)
     (here (ap (λ b. (b || false) || false) (or-true (recordCodes (u .held))))))))
+
+-- no code is 24 or more
+pub known-codes : (u : UsedRecord) {known : Bool} → Known known u → known ≡ true → reaching 24 (u .held .codes) ≡ false
+known-codes u K e =
+    let h = none-holds (usedLines u false false false) refl (known-true u K e .no-line) in
+    neither _ _ (neither _ _ (neither _ _ (h .1 .1 .1 .0) .0) .0) .0
+
+-- ---- what is handed on
+pub handed-words : (words codes : List ℕ) {settled : Bool} {touched suspected : ℕ} → Unrefused (recordIn words codes)
+    → Settled settled words codes → Handed settled codes touched suspected
+    → Suspected words codes suspected × Watched words codes touched
+handed-words words codes U S (reduced e) =
+    (all-suspected words codes U, settled-watched words codes U (subst (λ b. Settled b words codes) e S))
+handed-words words codes {touched = word} U S (looked M) =
+    (suspects-held words codes word U M, suspects-watched words codes word U M)

@@ -1,19 +1,28 @@
 // The public calls that rewrite a lent record in place: their refusal, and gate and cz.
+use buffers::reaches;
+use graph_suspects::look;
 use operations_gates::cz_record;
 use operations_gates::gate_record;
-use used_checks::used_refusal;
+use used_checks::used_number;
 use words::has;
-ghost use mathlib.Core.Bool.{cond, false};
+ghost use mathlib.Core.Bool.{cond, false, true};
 ghost use mathlib.Core.Path.{_≡_};
 ghost use Rattle.contracts.specs.Calls.{Call};
-ghost use Rattle.buffers.specs.Refusals.{firstFitting};
+ghost use Rattle.buffers.specs.Refusals.{firstFitting, reaching};
 ghost use Rattle.operations.specs.Steps.{czOn, gateWith};
 ghost use Rattle.operations_gates.specs.internal.Settled.{Settled};
 ghost use Rattle.used.specs.Used.{usedLines};
 ghost use Rattle.words.specs.Bits.{bit};
 ghost use Rattle.calls.specs.InPlace.{usedCall};
 ghost use Rattle.calls.specs.internal.InPlace.{usedInPlace};
-ghost use Rattle.call_gates.specs.internal.Knowing.{Known};
+ghost use Rattle.call_gates.specs.internal.Knowing.{Handed, Known};
+
+// What the first look at the codes of a record tells.
+struct Told {
+    over: bool,
+    touched: u64,
+    suspected: u64,
+}
 
 // 6 where line 6 holds of a further argument.
 fn six_number(six: bool) -> u8
@@ -33,8 +42,45 @@ pub fn is_used(used: u64, qubit: u64) -> bool
     }
 }
 
-// The number of the first line of a record that holds, which need not be looked for where none is known to hold; `six`:
-// line 6 holds of a further argument.
+// Whether a code is 24 or more, which need not be looked for where no line of the record holds.
+fn over_unless(codes: &[u8], known: bool) -> bool
+    requires { ⌜ (known ≡ true → reaching 24 (now codes) ≡ false) ⌝ }
+    ensures { λ r. ⌜ r ≡ reaching 24 (now (codes .entry)) ⌝ }
+{
+    if known {
+        return false;
+    }
+    reaches(codes, 24)
+}
+
+// The number of the first line of a record that holds, which need not be looked for where none is known to hold; `over`:
+// a code is 24 or more; `six`: line 6 holds of a further argument.
+fn known_number(
+    n: u64,
+    neighbours: &[u64],
+    codes: &[u8],
+    used: u64,
+    over: bool,
+    six: bool,
+    known: bool,
+) -> u8
+    requires { ⌜ Known known (record {
+      held = record { n = n; neighbours = now neighbours; codes = now codes };
+      used = used;
+    }) ⌝ }
+    requires { ⌜ over ≡ reaching 24 (now codes) ⌝ }
+    ensures { λ r. ⌜ r ≡ firstFitting (usedLines (record {
+      held = record { n = n; neighbours = now (neighbours .entry); codes = now (codes .entry) };
+      used = used;
+    }) false false six) ⌝ }
+{
+    if known {
+        return six_number(six);
+    }
+    used_number(n, neighbours, codes, used, 0, false, over, six)
+}
+
+// The same, where the codes have not been looked at.
 pub fn known_refusal(
     n: u64,
     neighbours: &[u64],
@@ -52,14 +98,44 @@ pub fn known_refusal(
       used = used;
     }) false false six) ⌝ }
 {
-    if known {
-        return six_number(six);
-    }
-    used_refusal(n, neighbours, codes, used, 0, false, six)
+    let over = over_unless(codes, known);
+    known_number(n, neighbours, codes, used, over, six, known)
 }
 
-// The number of the first line of a record that holds, then 8 where `eight` does, then 16 where `sixteen` does; `six`:
-// line 6 holds of a further argument; `known`: no line of the record alone holds.
+// The number of the first line of a record that holds, then 8 where `eight` does, then 16 where `sixteen` does; `over`: a
+// code is 24 or more; `six`: line 6 holds of a further argument; `known`: no line of the record alone holds.
+fn in_place_number(
+    n: u64,
+    neighbours: &[u64],
+    codes: &[u8],
+    used: u64,
+    over: bool,
+    six: bool,
+    eight: bool,
+    sixteen: bool,
+    known: bool,
+) -> u8
+    requires { ⌜ Known known (record {
+      held = record { n = n; neighbours = now neighbours; codes = now codes };
+      used = used;
+    }) ⌝ }
+    requires { ⌜ over ≡ reaching 24 (now codes) ⌝ }
+    ensures { λ r. ⌜ r ≡ firstFitting (usedInPlace (record {
+      held = record { n = n; neighbours = now (neighbours .entry); codes = now (codes .entry) };
+      used = used;
+    }) six eight sixteen) ⌝ }
+{
+    let early = known_number(n, neighbours, codes, used, over, six, known);
+    if early != 0 {
+        return early;
+    }
+    if eight {
+        return 8;
+    }
+    if sixteen { 16 } else { 0 }
+}
+
+// The same, where the codes have not been looked at.
 pub fn in_place_refusal(
     n: u64,
     neighbours: &[u64],
@@ -79,14 +155,30 @@ pub fn in_place_refusal(
       used = used;
     }) six eight sixteen) ⌝ }
 {
-    let early = known_refusal(n, neighbours, codes, used, six, known);
-    if early != 0 {
-        return early;
+    let over = over_unless(codes, known);
+    in_place_number(n, neighbours, codes, used, over, six, eight, sixteen, known)
+}
+
+// One look at all codes, for line 6 and for what follows: `touched` has every vertex that is out of place, `suspected`
+// every one with a code that is odd, or 8 or more. None is needed where no line of the record holds and it is reduced.
+fn first_look(codes: &[u8], known: bool, settled: bool) -> Told
+    requires { ⌜ (known ≡ true → reaching 24 (now codes) ≡ false) ⌝ }
+    ensures { λ r. ⌜ r .over ≡ reaching 24 (now (codes .entry)) ⌝ }
+    ensures { λ r. ⌜ Handed settled (now (codes .entry)) (r .touched) (r .suspected) ⌝ }
+{
+    if known & settled {
+        return Told {
+            over: false,
+            touched: 0,
+            suspected: 0xFFFF_FFFF_FFFF_FFFF,
+        };
     }
-    if eight {
-        return 8;
+    let seen = look(codes);
+    Told {
+        over: seen.over,
+        touched: seen.suspects,
+        suspected: seen.suspects,
     }
-    if sixteen { 16 } else { 0 }
 }
 
 // A code applied after the code held at a qubit, and the reduced record. `known`: no line of the record alone
@@ -112,11 +204,13 @@ pub fn gate_known(
     }) (gateWith qubit code) (now (neighbours .exit)) (now (codes .exit))) r ⌝ }
 {
     let sixteen = is_used(used, qubit);
-    let early = in_place_refusal(
+    let told = first_look(codes, known, settled);
+    let early = in_place_number(
         n,
         neighbours,
         codes,
         used,
+        told.over,
         24 <= code,
         n <= qubit,
         sixteen,
@@ -125,7 +219,14 @@ pub fn gate_known(
     if early != 0 {
         return early;
     }
-    gate_record(neighbours, codes, qubit as usize, code, settled);
+    gate_record(
+        neighbours,
+        codes,
+        qubit as usize,
+        code,
+        told.touched,
+        told.suspected,
+    );
     0
 }
 
@@ -152,11 +253,29 @@ pub fn cz_known(
 {
     let eight = (n <= a) | ((n <= b) | (a == b));
     let sixteen = is_used(used, a) | is_used(used, b);
-    let early = in_place_refusal(n, neighbours, codes, used, false, eight, sixteen, known);
+    let told = first_look(codes, known, settled);
+    let early = in_place_number(
+        n,
+        neighbours,
+        codes,
+        used,
+        told.over,
+        false,
+        eight,
+        sixteen,
+        known,
+    );
     if early != 0 {
         return early;
     }
-    cz_record(neighbours, codes, a as usize, b as usize, settled);
+    cz_record(
+        neighbours,
+        codes,
+        a as usize,
+        b as usize,
+        told.touched,
+        told.suspected,
+    );
     0
 }
 

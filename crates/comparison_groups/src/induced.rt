@@ -1,5 +1,6 @@
 // The codes that a choice induces between two reduced graphs.
 use clifford_codes::Code;
+use operations::compose;
 ghost use mathlib.Core.Path.{_≡_};
 ghost use Prim.Native.Nat.{_<_};
 ghost use lib.ListN.{length};
@@ -13,13 +14,8 @@ fn induced_code(first: u8, choice: u8, second: u8) -> u8
     requires { ⌜ (first < 24) × (choice < 24) × (second < 24) ⌝ }
     ensures { λ r. ⌜ r ≡ codeOf (then (then (cliffordOf first) (cliffordOf choice)) (inverse (cliffordOf second))) ⌝ }
 {
-    let a = Code { index: first };
-    let b = Code { index: choice };
-    let c = Code { index: second };
-    let chosen = a.then(b);
-    let undone = c.inverse();
-    let all = chosen.then(undone);
-    all.index
+    let undone = Code { index: second }.inverse();
+    compose(compose(first, choice), undone.index)
 }
 
 // .. at each qubit.

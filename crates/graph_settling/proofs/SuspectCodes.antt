@@ -1,18 +1,18 @@
 -- Words that have every vertex whose code is odd, or 8 or more: a vertex out of place has such a code.
 use mathlib.Core.Bool.{_&&_, Bool, false, true, _||_}
 use mathlib.Core.List.{List}
-use mathlib.Core.Path.{ap, ap₂, refl, subst, sym, _∙_, _≡_}
+use mathlib.Core.Path.{ap, refl, subst, sym, _∙_, _≡_}
 use Prim.Native.Nat.{ℕ, _≤_}
 use native.Mathlib.Nat.{lt-of-lt-of-le}
 use native.Mathlib.Omega.{arith}
-use lib.Dec.{leb, ltb}
-use lib.ListN.{getD, length}
-use borrow.Author.Tests.{le-leb, le-ltb, leb-true, lt-ltb}
-use Rattle.graph_suspects.proofs.CodeBits.{suspect}
-use Rattle.operations.proofs.UnrefusedRecords.{unrefused-long, unrefused-place, unrefused-short}
+use lib.Dec.{leb}
+use lib.ListN.{List·getD-eq-default, getD, length}
+use borrow.Author.Tests.{le-leb, leb-true}
+use Rattle.graph_suspects.specs.internal.Suspects.{Marked, suspect}
+use Rattle.operations.proofs.UnrefusedRecords.{unrefused-codes, unrefused-long, unrefused-short}
 use Rattle.operations.specs.internal.InPlace.{Unrefused, recordIn}
 use Rattle.words.proofs.BitLaws.{bit-mask, lt-of-bits}
-use Rattle.words.specs.Bits.{bit, isOdd}
+use Rattle.words.specs.Bits.{isOdd}
 use Rattle.graph_settling.specs.internal.Watching.{Suspected, Watched}
 
 -- a vertex out of place has such a code
@@ -33,18 +33,19 @@ out-suspect code b h = high (leb 12 code) refl h
     high false e k = odd (isOdd code) (leb 8 code) k
 
 pub suspects-held : (words codes : List ℕ) (all : ℕ) → Unrefused (recordIn words codes)
-    → ((q : ℕ) → bit all q ≡ (ltb q (length codes) && suspect (getD codes q 0))) → Suspected words codes all
-suspects-held words codes all U held =
-    record { held = λ q l e. held q ∙ ap₂ _&&_ (lt-ltb q (length codes) (unrefused-place words codes U q l)) e }
+    → Marked codes all → Suspected words codes all
+suspects-held words codes all U M =
+    let C = unrefused-codes words codes U in
+    record { held = λ q l e. M .marked (C .0) (C .1) q ∙ e }
 
 pub suspects-watched : (words codes : List ℕ) (all : ℕ) → Unrefused (recordIn words codes)
-    → ((q : ℕ) → bit all q ≡ (ltb q (length codes) && suspect (getD codes q 0))) → Watched words codes all
-suspects-watched words codes all U held =
+    → Marked codes all → Watched words codes all
+suspects-watched words codes all U M =
+    let C = unrefused-codes words codes U in
     record {
-      short = lt-of-bits (length words) all (λ q l. held q
-          ∙ ap (λ b. b && suspect (getD codes q 0))
-          (le-ltb q (length codes) (subst (λ m. m ≤ q) (sym (unrefused-long words codes U)) l)));
-      seen = λ q l e. suspects-held words codes all U held .held q l (out-suspect (getD codes q 0) _ e);
+      short = lt-of-bits (length words) all (λ q l. M .marked (C .0) (C .1) q ∙ ap suspect
+          (List·getD-eq-default codes 0 (subst (λ m. m ≤ q) (sym (unrefused-long words codes U)) l)));
+      seen = λ q l e. suspects-held words codes all U M .held q l (out-suspect (getD codes q 0) _ e);
     }
 
 -- where nothing is known of the codes, the word has every vertex

@@ -7,7 +7,7 @@ use lib.Dec.{eqb}
 use Rattle.clifford.proofs.CliffordLaws.{fromFive, onClifford}
 use Rattle.clifford.specs.Clifford.{Clifford, cliffordOf, codeOf, then}
 use Rattle.graph_steps.specs.internal.Steps.{pauliCode, signMoved}
-use Rattle.graph_suspects.proofs.CodeBits.{suspect}
+use Rattle.graph_suspects.specs.internal.Suspects.{suspect}
 use Rattle.operations.specs.Steps.{pivotRecord}
 use Rattle.record.specs.Records.{GraphRecord, complementRecord}
 use Rattle.words.proofs.Finite.{bits}

@@ -14,7 +14,7 @@ use Rattle.clifford.specs.Clifford.{cliffordOf, codeOf, then}
 use Rattle.graph.specs.Graph.{Graph, Simple, complement}
 use Rattle.graph_steps.proofs.Places.{z-before}
 use Rattle.graph_steps.specs.internal.Steps.{pauliCode, signMoved}
-use Rattle.graph_suspects.proofs.CodeBits.{suspect}
+use Rattle.graph_suspects.specs.internal.Suspects.{suspect}
 use Rattle.operations.proofs.UnrefusedRecords.{unrefused-simple}
 use Rattle.operations.specs.internal.InPlace.{Rewritten, Unrefused, recordIn}
 use Rattle.operations.specs.Steps.{pivotRecord}

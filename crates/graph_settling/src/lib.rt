@@ -112,7 +112,7 @@ fn settle_next(neighbours: &mut [u64], codes: &mut [u8], rest: u64, watch: u64) 
 
 // Such steps until no vertex is out of place: then the buffers hold the reduced record of the group. `touched` has every
 // vertex that is out of place before, `suspected` every one with a code that is odd, or 8 or more.
-fn settle_all(neighbours: &mut [u64], codes: &mut [u8], touched: u64, suspected: u64)
+pub fn settle_all(neighbours: &mut [u64], codes: &mut [u8], touched: u64, suspected: u64)
     requires { ⌜ Unrefused (recordIn (now neighbours) (now codes)) ⌝ }
     requires { ⌜ Suspected (now neighbours) (now codes) suspected ⌝ }
     requires { ⌜ Watched (now neighbours) (now codes) touched ⌝ }
@@ -126,16 +126,6 @@ fn settle_all(neighbours: &mut [u64], codes: &mut [u8], touched: u64, suspected:
         rest = next.rest;
         watch = next.watch;
     }
-}
-
-// The same where `touched` has every vertex that is out of place before, and nothing is known of the codes.
-pub fn normalise_from(neighbours: &mut [u64], codes: &mut [u8], touched: u64)
-    requires { ⌜ Unrefused (recordIn (now neighbours) (now codes)) ⌝ }
-    requires { ⌜ Watched (now neighbours) (now codes) touched ⌝ }
-    ensures { λ r. ⌜ Normalised (now (neighbours .entry)) (now (codes .entry))
-        (now (neighbours .exit)) (now (codes .exit)) ⌝ }
-{
-    settle_all(neighbours, codes, touched, 0xFFFF_FFFF_FFFF_FFFF);
 }
 
 // The same where nothing is known of the record.

@@ -1,12 +1,20 @@
 -- A word made from the highest place down, eight bits at a time.
+use mathlib.Core.Bool.{_&&_}
+use mathlib.Core.List.{List}
+use mathlib.Core.Logic.{inl, inr, _⊎_}
 use mathlib.Core.Path.{ap, ap₂, fun-ext, subst, sym, _∙_, _≡_}
 use Prim.Native.Nat.{_*_, _+_, _-_, _<_, _^_, suc, ℕ, _≤_}
 use native.Mathlib.Nat.{lt-of-lt-of-le}
 use native.Mathlib.Omega.{arith}
+use lib.Dec.{ltb}
+use lib.ListN.{List·getD-eq-default, getD, length}
 use lib.Pow.{pow-mono}
+use borrow.Author.Tests.{le-ltb, lt-ltb}
 use Rattle.reduction_passes.proofs.Pivoting.{NamedFrom}
 use Rattle.words.proofs.BitLaws.{bit-ext, bit-wordOf, wordOf-lt}
+use Rattle.words.proofs.Sums.{lt-or-ge}
 use Rattle.words.specs.Bits.{Word, bit, wordOf}
+use Rattle.graph_suspects.specs.internal.Suspects.{Marked, suspect}
 
 abbrev more : ℕ → ℕ
 more c = suc (suc (suc (suc (suc (suc (suc (suc c)))))))
@@ -56,3 +64,14 @@ module _ (n : ℕ) (f : Word) where
 
   pub held-from : (word i : ℕ) → i ≤ n → word ≡ wordOf (n - i) (λ t. f (i + t)) → NamedFrom n f word i
   held-from word i l e = record { count = n - i; reaches = omega (arith, l); held = e }
+
+-- a word that has the codes below the length has them all: past it stands 0
+pub below-marked : (codes : List ℕ) (word : ℕ)
+    → ((q : ℕ) → bit word q ≡ (ltb q (length codes) && suspect (getD codes q 0))) → Marked codes word
+below-marked codes word held = record { marked = λ _ _ q. held q ∙ go q (lt-or-ge q (length codes)) }
+  where
+    go : (q : ℕ) → (q < length codes) ⊎ (length codes ≤ q)
+        → (ltb q (length codes) && suspect (getD codes q 0)) ≡ suspect (getD codes q 0)
+    go q (inl l) = ap (λ v. v && suspect (getD codes q 0)) (lt-ltb q (length codes) l)
+    go q (inr l) = ap (λ v. v && suspect (getD codes q 0)) (le-ltb q (length codes) l)
+        ∙ sym (ap suspect (List·getD-eq-default codes 0 l))

@@ -1,48 +1,62 @@
--- Records of reduced form before a step: a gate leaves no vertex but its own out of place, and such a record is its own
--- reduced record.
-use mathlib.Core.Bool.{Bool, false, not, true, true≢false, _&&_, _||_}
+-- Words of the vertices that may be out of place: none in a record of reduced form, and one more where a code is stored.
+use mathlib.Core.Bool.{Bool, false, not, or-true, true, true≢false, _&&_, _||_}
 use mathlib.Core.List.{List}
 use mathlib.Core.Path.{ap, refl, subst, sym, _∙_, _≡_}
 use Prim.Native.Nat.{_/_, _<_, _^_, ℕ}
+use lib.Bits.{bitOr, or-lt}
 use lib.Dec.{eqb, leb}
 use lib.ListN.{getD, length, set}
-use lib.Pow.{pow-lt}
+use lib.Pow.{pow-lt, pow-pos}
 use lib.Seq.{getD-set-other}
 use borrow.Author.Tests.{eqb-false}
-use Rattle.graph_settling.specs.internal.Watching.{Watched}
-use Rattle.graph_steps.proofs.Keeping.{form-normalised, kept-refl}
+use Rattle.graph_settling.specs.internal.Watching.{Suspected, Watched, suspectAt}
 use Rattle.graph_steps.proofs.OutOfPlace.{form-settled}
-use Rattle.graph_steps.specs.internal.KeptGroups.{Normalised}
+use Rattle.graph_steps.specs.internal.KeptGroups.{unsettled}
 use Rattle.operations.specs.internal.InPlace.{Unrefused, recordIn}
-use Rattle.words.proofs.BitLaws.{bit-single}
-use Rattle.words.specs.Bits.{isOdd}
-use Rattle.operations_gates.specs.internal.Settled.{Settled, SettledBut}
+use Rattle.words.proofs.BitLaws.{bit-or, bit-single}
+use Rattle.words.specs.Bits.{bit, isOdd}
+use Rattle.operations_gates.specs.internal.Settled.{Settled}
 
--- ---- where it is known
-pub watched-true : (words codes : List ℕ) (q w : ℕ) {settled : Bool} → SettledBut settled words codes q → settled ≡ true
-    → w ≡ 2 ^ q → Watched words codes w
-watched-true words codes q w S e f =
-    subst (Watched words codes) (sym f) (subst (λ b. SettledBut b words codes q) e S)
-
--- the record is its own reduced record
-pub settled-normalised : (words codes : List ℕ) {settled : Bool} → Unrefused (recordIn words codes)
-    → Settled settled words codes → settled ≡ true → Normalised words codes words codes
-settled-normalised words codes U S e =
-    form-normalised words codes words codes U (kept-refl words codes U) (subst (λ b. Settled b words codes) e S)
+-- no vertex is out of place
+pub settled-watched : (words codes : List ℕ) → Unrefused (recordIn words codes) → Settled true words codes
+    → Watched words codes 0
+settled-watched words codes U F =
+    record {
+      short = pow-pos (length words);
+      seen = λ q l out. absurd (true≢false (sym out ∙ form-settled words codes U F q l));
+    }
 
 -- ---- a code stored at q
-pub settled-but : (words codes : List ℕ) (settled : Bool) → Unrefused (recordIn words codes) → Settled settled words codes
-    → (q : ℕ) → q < length words → (c : ℕ) (codes′ : List ℕ) → codes′ ≡ set codes q c → SettledBut settled words codes′ q
-settled-but words codes false U F q hq c codes′ e = tt
-settled-but words codes true U F q hq c codes′ e =
-    record { short = pow-lt hq; seen = λ p l out. bit-single q p ∙ here p l out (eqb p q) refl }
-  where
-    here : (p : ℕ) → p < length words
-        → (leb 12 (getD codes′ p 0) || (isOdd (getD codes′ p 0)
-        || (leb 8 (getD codes′ p 0) && not (eqb (getD words p 0 / 2 ^ p) 0)))) ≡ true
-        → (b : Bool) → eqb p q ≡ b → b ≡ true
-    here p l out true d = refl
-    here p l out false d = absurd (true≢false (sym out
-        ∙ ap (λ k. leb 12 k || (isOdd k || (leb 8 k && not (eqb (getD words p 0 / 2 ^ p) 0))))
-        (ap (λ t. getD t p 0) e ∙ getD-set-other codes q p c 0 (eqb-false p q d))
-        ∙ form-settled words codes U F p l))
+module _ (words codes : List ℕ) (q c : ℕ) (codes′ : List ℕ) (e : codes′ ≡ set codes q c) (w all : ℕ) (f : w ≡ 2 ^ q) where
+  -- q is in the word
+  own : (p : ℕ) → eqb p q ≡ true → bit (bitOr all w) p ≡ true
+  own p d = bit-or all w p ∙ ap (λ v. bit all p || bit v p) f ∙ ap (λ v. bit all p || v) (bit-single q p ∙ d)
+      ∙ or-true (bit all p)
+
+  -- and every other vertex that was
+  other : (p : ℕ) → bit all p ≡ true → bit (bitOr all w) p ≡ true
+  other p d = bit-or all w p ∙ ap (λ v. v || bit w p) d
+
+  kept : (p : ℕ) → eqb p q ≡ false → getD codes p 0 ≡ getD codes′ p 0
+  kept p d = sym (ap (λ t. getD t p 0) e ∙ getD-set-other codes q p c 0 (eqb-false p q d))
+
+  pub gate-watched : q < length words → Watched words codes all → Watched words codes′ (bitOr all w)
+  gate-watched hq W =
+      record {
+        short = or-lt (length words) all w (W .short) (subst (λ v. v < 2 ^ length words) (sym f) (pow-lt hq));
+        seen = λ p l out. here p l out (eqb p q) refl;
+      }
+    where
+      here : (p : ℕ) → p < length words → unsettled words codes′ p ≡ true → (b : Bool) → eqb p q ≡ b
+          → bit (bitOr all w) p ≡ true
+      here p l out true d = own p d
+      here p l out false d = other p (W .seen p l
+          (ap (λ k. leb 12 k || (isOdd k || (leb 8 k && not (eqb (getD words p 0 / 2 ^ p) 0)))) (kept p d) ∙ out))
+
+  pub gate-suspected : Suspected words codes all → Suspected words codes′ (bitOr all w)
+  gate-suspected S = record { held = λ p l out. here p l out (eqb p q) refl }
+    where
+      here : (p : ℕ) → p < length words → suspectAt codes′ p ≡ true → (b : Bool) → eqb p q ≡ b
+          → bit (bitOr all w) p ≡ true
+      here p l out true d = own p d
+      here p l out false d = other p (S .held p l (ap (λ k. isOdd k || leb 8 k) (kept p d) ∙ out))

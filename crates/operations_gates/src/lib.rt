@@ -2,8 +2,7 @@
 mod joins;
 
 use crate::joins::cz_reduced;
-use graph_settling::normalise;
-use graph_settling::normalise_from;
+use graph_settling::settle_all;
 use operations::compose;
 use words::single;
 ghost use mathlib.Core.Logic.{_≢_};
@@ -12,13 +11,12 @@ ghost use Prim.Native.Nat.{ℕ, _<_};
 ghost use lib.ListN.{getD, length, set};
 ghost use Rattle.clifford.specs.Clifford.{cliffordOf, codeOf, then};
 ghost use Rattle.clifford.specs.Vectors.{codesOf};
-ghost use Rattle.graph_steps.specs.internal.KeptGroups.{Normalised};
+ghost use Rattle.graph_settling.specs.internal.Watching.{Suspected, Watched};
 ghost use Rattle.operations.specs.Cz.{czRows};
 ghost use Rattle.operations.specs.Gates.{gated};
 ghost use Rattle.operations.specs.internal.InPlace.{Rewritten, Unrefused, recordIn};
 ghost use Rattle.record.specs.Records.{rowsOf};
 ghost use Rattle.record.specs.Reduced.{reduced};
-ghost use Rattle.operations_gates.specs.internal.Settled.{Settled, SettledBut};
 
 // Applies code k after the code held at q.
 pub fn gate_code(codes: &mut [u8], q: usize, k: u8)
@@ -29,57 +27,47 @@ pub fn gate_code(codes: &mut [u8], q: usize, k: u8)
     codes[q] = compose(codes[q], k);
 }
 
-// The reduced record, where all vertices are looked at, or q alone: `settled` says that no other is out of place.
-fn normalise_at(neighbours: &mut [u64], codes: &mut [u8], q: usize, settled: bool)
-    requires { ⌜ Unrefused (recordIn (now neighbours) (now codes)) ⌝ }
-    requires { ⌜ (q < length (now neighbours)) × SettledBut settled (now neighbours) (now codes) q ⌝ }
-    ensures { λ r. ⌜ Normalised (now (neighbours .entry)) (now (codes .entry))
-        (now (neighbours .exit)) (now (codes .exit)) ⌝ }
-{
-    if settled {
-        normalise_from(neighbours, codes, single(q));
-    } else {
-        normalise(neighbours, codes);
-    }
-}
-
-// Gate: code k after the code held at q, and the reduced record. `settled`: the record is reduced before it.
-pub fn gate_record(neighbours: &mut [u64], codes: &mut [u8], q: usize, k: u8, settled: bool)
+// Gate: code k after the code held at q, and the reduced record. Before it `touched` has every vertex that is out of place,
+// `suspected` every one with a code that is odd, or 8 or more; the gate touches q.
+pub fn gate_record(
+    neighbours: &mut [u64],
+    codes: &mut [u8],
+    q: usize,
+    k: u8,
+    touched: u64,
+    suspected: u64,
+)
     requires { ⌜ Unrefused (recordIn (now neighbours) (now codes)) ⌝ }
     requires { ⌜ (q < length (now neighbours)) × (k < 24) ⌝ }
-    requires { ⌜ Settled settled (now neighbours) (now codes) ⌝ }
+    requires { ⌜ Suspected (now neighbours) (now codes) suspected × Watched (now neighbours) (now codes) touched ⌝ }
     ensures { λ r. ⌜ Rewritten (now (neighbours .entry)) (now (codes .entry))
         (λ g. reduced (length (now (neighbours .entry)))
         (rowsOf (length (now (neighbours .entry))) (gated g q (cliffordOf k))))
         (now (neighbours .exit)) (now (codes .exit)) ⌝ }
 {
     gate_code(codes, q, k);
-    normalise_at(neighbours, codes, q, settled);
+    let own = single(q);
+    settle_all(neighbours, codes, touched | own, suspected | own);
 }
 
-// The reduced record, which need not be looked for where the record is known to be reduced.
-fn normalise_unless(neighbours: &mut [u64], codes: &mut [u8], settled: bool)
-    requires { ⌜ Unrefused (recordIn (now neighbours) (now codes)) ⌝ }
-    requires { ⌜ Settled settled (now neighbours) (now codes) ⌝ }
-    ensures { λ r. ⌜ Normalised (now (neighbours .entry)) (now (codes .entry))
-        (now (neighbours .exit)) (now (codes .exit)) ⌝ }
-{
-    if settled {
-        return;
-    }
-    normalise(neighbours, codes);
-}
-
-// CZ on a and b, and the reduced record. `settled`: the record is reduced before it.
-pub fn cz_record(neighbours: &mut [u64], codes: &mut [u8], a: usize, b: usize, settled: bool)
+// CZ on a and b, and the reduced record. Before it `touched` has every vertex that is out of place, `suspected` every one
+// with a code that is odd, or 8 or more.
+pub fn cz_record(
+    neighbours: &mut [u64],
+    codes: &mut [u8],
+    a: usize,
+    b: usize,
+    touched: u64,
+    suspected: u64,
+)
     requires { ⌜ Unrefused (recordIn (now neighbours) (now codes)) ⌝ }
     requires { ⌜ (a < length (now neighbours)) × (b < length (now neighbours)) × (a ≢ b) ⌝ }
-    requires { ⌜ Settled settled (now neighbours) (now codes) ⌝ }
+    requires { ⌜ Suspected (now neighbours) (now codes) suspected × Watched (now neighbours) (now codes) touched ⌝ }
     ensures { λ r. ⌜ Rewritten (now (neighbours .entry)) (now (codes .entry))
         (λ g. reduced (length (now (neighbours .entry)))
         (czRows a b (rowsOf (length (now (neighbours .entry))) g)))
         (now (neighbours .exit)) (now (codes .exit)) ⌝ }
 {
-    normalise_unless(neighbours, codes, settled);
+    settle_all(neighbours, codes, touched, suspected);
     cz_reduced(neighbours, codes, a, b);
 }

@@ -9,7 +9,7 @@ ghost use mathlib.Core.Path.{_≡_};
 ghost use Prim.Native.Nat.{ℕ, _≤_};
 ghost use lib.Dec.{ltb};
 ghost use lib.ListN.{getD, length};
-ghost use Rattle.buffers.specs.Refusals.{firstFitting};
+ghost use Rattle.buffers.specs.Refusals.{firstFitting, reaching};
 ghost use Rattle.record.specs.Lent.{notSimple, recordLengths, recordLines};
 ghost use Rattle.words.specs.Bits.{_⊕_, bit};
 ghost use Rattle.words.specs.Search.{some};
@@ -72,8 +72,16 @@ pub fn not_simple(n: usize, neighbours: &[u64]) -> bool
 }
 
 // The first line of a record that holds; 0 where none does. `others`: a further buffer of the call has a wrong
-// length; `six`: line 6 holds of a further argument.
-pub fn record_refusal(n: u64, neighbours: &[u64], codes: &[u8], others: bool, six: bool) -> u8
+// length; `over`: a code is 24 or more, which the caller has looked up; `six`: line 6 holds of a further argument.
+pub fn record_number(
+    n: u64,
+    neighbours: &[u64],
+    codes: &[u8],
+    others: bool,
+    over: bool,
+    six: bool,
+) -> u8
+    requires { ⌜ over ≡ reaching 24 (now codes) ⌝ }
     ensures { λ r. ⌜ r ≡ firstFitting (recordLines (record {
       n = n;
       neighbours = now (neighbours .entry);
@@ -90,11 +98,22 @@ pub fn record_refusal(n: u64, neighbours: &[u64], codes: &[u8], others: bool, si
     if strays(neighbours, count) {
         return 5;
     }
-    if reaches(codes, 24) | six {
+    if over | six {
         return 6;
     }
     if not_simple(count, neighbours) {
         return 7;
     }
     0
+}
+
+// The same, where the codes have not been looked at.
+pub fn record_refusal(n: u64, neighbours: &[u64], codes: &[u8], others: bool, six: bool) -> u8
+    ensures { λ r. ⌜ r ≡ firstFitting (recordLines (record {
+      n = n;
+      neighbours = now (neighbours .entry);
+      codes = now (codes .entry);
+    }) others six) ⌝ }
+{
+    record_number(n, neighbours, codes, others, reaches(codes, 24), six)
 }

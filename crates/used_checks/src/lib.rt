@@ -1,5 +1,6 @@
 // The lines of the refusals that speak of a record with used qubits.
-use record_checks::record_refusal;
+use buffers::reaches;
+use record_checks::record_number;
 use words::flip;
 use words::smallest;
 use words::stray;
@@ -8,7 +9,7 @@ ghost use mathlib.Core.Path.{_≡_};
 ghost use Prim.Native.Nat.{_<_, _≤_, _^_};
 ghost use lib.Dec.{eqb, leb};
 ghost use lib.ListN.{length};
-ghost use Rattle.buffers.specs.Refusals.{firstFitting};
+ghost use Rattle.buffers.specs.Refusals.{firstFitting, reaching};
 ghost use Rattle.operations.specs.internal.InPlace.{recordIn};
 ghost use Rattle.used.specs.Used.{usedCode, usedLines, usedWrong};
 
@@ -40,22 +41,25 @@ fn used_wrong(neighbours: &[u64], codes: &[u8], used: u64) -> bool
 }
 
 // The first line of a record that holds; 0 where none does. `word`: a further word that has no bit at or above n;
-// `others`: a further buffer of the call has a wrong length; `six`: line 6 holds of a further argument.
-pub fn used_refusal(
+// `others`: a further buffer of the call has a wrong length; `over`: a code is 24 or more, which the caller has looked up;
+// `six`: line 6 holds of a further argument.
+pub fn used_number(
     n: u64,
     neighbours: &[u64],
     codes: &[u8],
     used: u64,
     word: u64,
     others: bool,
+    over: bool,
     six: bool,
 ) -> u8
+    requires { ⌜ over ≡ reaching 24 (now codes) ⌝ }
     ensures { λ r. ⌜ r ≡ firstFitting (usedLines (record {
       held = record { n = n; neighbours = now (neighbours .entry); codes = now (codes .entry) };
       used = used;
     }) others (leb (2 ^ n) word) six) ⌝ }
 {
-    let number = record_refusal(n, neighbours, codes, others, six);
+    let number = record_number(n, neighbours, codes, others, over, six);
     if number == 2 {
         return number;
     }
@@ -74,4 +78,31 @@ pub fn used_refusal(
     } else {
         0
     }
+}
+
+// The same, where the codes have not been looked at.
+pub fn used_refusal(
+    n: u64,
+    neighbours: &[u64],
+    codes: &[u8],
+    used: u64,
+    word: u64,
+    others: bool,
+    six: bool,
+) -> u8
+    ensures { λ r. ⌜ r ≡ firstFitting (usedLines (record {
+      held = record { n = n; neighbours = now (neighbours .entry); codes = now (codes .entry) };
+      used = used;
+    }) others (leb (2 ^ n) word) six) ⌝ }
+{
+    used_number(
+        n,
+        neighbours,
+        codes,
+        used,
+        word,
+        others,
+        reaches(codes, 24),
+        six,
+    )
 }

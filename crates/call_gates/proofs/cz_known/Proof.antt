@@ -9,6 +9,7 @@ use Rattle.operations.specs.Steps.{Operation, czOn}
 use Rattle.used.specs.Used.{UsedRecord, usedLinesOf}
 use Rattle.calls.proofs.InPlaceCalls.{as-before, in-place-done}
 use Rattle.calls.proofs.InPlaceLines.{cz-ready}
+use Rattle.call_gates.proofs.KnownRecords.{handed-words, known-codes}
 use Rattle.calls.proofs.UsedInPlace.{named-as}
 use Rattle.call_gates.proofs.cz_known.Statement.{statement}
 use Rattle.call_gates.proofs.cz_known.Tie as tie
@@ -25,14 +26,21 @@ abbrev asked : tie.Start → Operation
 asked S = czOn (S .args .a) (S .args .b)
 
 -- the number of its lines
-number : (E : tie.After-in-place-refusal)
-    → E .in-place-refusal .result ≡ firstFitting (usedLinesOf (lent (E .before .before .before .before .before .before .before)) (asked (E .before .before .before .before .before .before .before)))
+number : (E : tie.After-in-place-number)
+    → E .in-place-number .result
+    ≡ firstFitting (usedLinesOf (lent (E .before .before .before .before .before .before .before .before .before))
+    (asked (E .before .before .before .before .before .before .before .before .before)))
 number E =
-    let I = E .before .before .before in
+    let I = E .before .before .before .before .before in
     let S = I .before .before .before .before in
     let a = S .args in
     named-as (lent S) false (leb (a .n) (a .a) || (leb (a .n) (a .b) || eqb (a .a) (a .b)))
-    (E .in-place-refusal .ensures) (ap₂ _||_ (I .before .is-used .ensures) (I .is-used2 .ensures))
+    (E .in-place-number .ensures) (ap₂ _||_ (I .before .is-used .ensures) (I .is-used2 .ensures))
+
+first-look-requires : tie.Need-first-look-requires
+first-look-requires c κs =
+    let S = c .before .before .before .before .before in
+    known-codes (lent S) (S .pre .0)
 
 returns : tie.Need-returns
 returns c = refused _ (number (c .before)) (c .if1 .taken) (refl, (refl, tt))
@@ -40,21 +48,22 @@ returns c = refused _ (number (c .before)) (c .if1 .taken) (refl, (refl, tt))
 cz-record-requires : tie.Need-cz-record-requires
 cz-record-requires c κs =
     let D = c .before .before in
-    let S = D .before .before .before .before .before .before .before .before in
+    let F = D .before .before .before .before in
+    let S = F .before .before .before .before .before .before in
     let ready = cz-ready (lent S .held) (S .args .a) (S .args .b)
     (as-before (lent S) (asked S) (number (D .before)) (D .if1 .left)) in
-    (ready .0, (ready .1, S .pre .1))
+    (ready .0, (ready .1, handed-words _ _ (ready .0) (S .pre .1) (F .first-look .ensures .1)))
 
 returns-2 : tie.Need-returns-2
 returns-2 c =
     let G = c .before .before .before .before in
     let D = G .before .before .before in
-    let S = D .before .before .before .before .before .before .before .before in
+    let S = D .before .before .before .before .before .before .before .before .before .before in
     in-place-done (lent S) (asked S) (number (D .before)) (D .if1 .left)
     (G .cz-record .ensures .neighbours) (G .cz-record .ensures .numbers)
 
 pub cz-known-spec : {M : Type 1} → statement M
 cz-known-spec =
     tie.close
-    (tie.spec (λ c κs. search needs) (λ c κs. search needs) (λ c κs. search needs) (λ c. search needs)
+    (tie.spec (λ c κs. search needs) (λ c κs. search needs) first-look-requires (λ c κs. search needs) (λ c. search needs)
     (λ c. search needs) returns cz-record-requires (λ c. search needs) (λ c. search needs) returns-2)

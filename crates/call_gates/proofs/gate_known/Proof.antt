@@ -8,6 +8,7 @@ use Rattle.operations.specs.Steps.{Operation, gateWith}
 use Rattle.used.specs.Used.{UsedRecord, usedLinesOf}
 use Rattle.calls.proofs.InPlaceCalls.{as-before, in-place-done}
 use Rattle.calls.proofs.InPlaceLines.{gate-ready}
+use Rattle.call_gates.proofs.KnownRecords.{handed-words, known-codes}
 use Rattle.calls.proofs.UsedInPlace.{named-as}
 use Rattle.call_gates.proofs.gate_known.Statement.{statement}
 use Rattle.call_gates.proofs.gate_known.Tie as tie
@@ -24,13 +25,20 @@ abbrev asked : tie.Start → Operation
 asked S = gateWith (S .args .qubit) (S .args .code)
 
 -- the number of its lines
-number : (E : tie.After-in-place-refusal)
-    → E .in-place-refusal .result ≡ firstFitting (usedLinesOf (lent (E .before .before .before .before .before .before)) (asked (E .before .before .before .before .before .before)))
+number : (E : tie.After-in-place-number)
+    → E .in-place-number .result
+    ≡ firstFitting (usedLinesOf (lent (E .before .before .before .before .before .before .before .before))
+    (asked (E .before .before .before .before .before .before .before .before)))
 number E =
-    let I = E .before .before .before in
+    let I = E .before .before .before .before .before in
     let S = I .before .before .before in
-    named-as (lent S) (leb 24 (S .args .code)) (leb (S .args .n) (S .args .qubit)) (E .in-place-refusal .ensures)
+    named-as (lent S) (leb 24 (S .args .code)) (leb (S .args .n) (S .args .qubit)) (E .in-place-number .ensures)
     (I .is-used .ensures)
+
+first-look-requires : tie.Need-first-look-requires
+first-look-requires c κs =
+    let S = c .before .before .before .before in
+    known-codes (lent S) (S .pre .0)
 
 returns : tie.Need-returns
 returns c = refused _ (number (c .before)) (c .if1 .taken) (refl, (refl, tt))
@@ -38,21 +46,22 @@ returns c = refused _ (number (c .before)) (c .if1 .taken) (refl, (refl, tt))
 gate-record-requires : tie.Need-gate-record-requires
 gate-record-requires c κs =
     let D = c .before .before in
-    let S = D .before .before .before .before .before .before .before in
+    let F = D .before .before .before .before in
+    let S = F .before .before .before .before .before in
     let ready = gate-ready (lent S .held) (S .args .qubit) (S .args .code)
     (as-before (lent S) (asked S) (number (D .before)) (D .if1 .left)) in
-    (ready .0, (ready .1, S .pre .1))
+    (ready .0, (ready .1, handed-words _ _ (ready .0) (S .pre .1) (F .first-look .ensures .1)))
 
 returns-2 : tie.Need-returns-2
 returns-2 c =
     let G = c .before .before .before .before in
     let D = G .before .before .before in
-    let S = D .before .before .before .before .before .before .before in
+    let S = D .before .before .before .before .before .before .before .before .before in
     in-place-done (lent S) (asked S) (number (D .before)) (D .if1 .left)
     (G .gate-record .ensures .neighbours) (G .gate-record .ensures .numbers)
 
 pub gate-known-spec : {M : Type 1} → statement M
 gate-known-spec =
     tie.close
-    (tie.spec (λ c κs. search needs) (λ c κs. search needs) (λ c. search needs) (λ c. search needs) returns
-    gate-record-requires (λ c. search needs) (λ c. search needs) returns-2)
+    (tie.spec (λ c κs. search needs) first-look-requires (λ c κs. search needs) (λ c. search needs) (λ c. search needs)
+    returns gate-record-requires (λ c. search needs) (λ c. search needs) returns-2)

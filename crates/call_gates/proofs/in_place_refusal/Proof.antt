@@ -1,9 +1,8 @@
--- `in_place_refusal` meets its contract: the number of the first line of a record that holds, then 8 where `eight`
--- does, then 16 where `sixteen` does; `six`: line 6 holds of a further argument; `known`: no line of the record alone
--- holds.
+-- `in_place_refusal` meets its contract: the number of the first line that holds, where the codes have not been
+-- looked at.
 use borrow.Author.Needs.{needs}
 use Rattle.used.specs.Used.{UsedRecord}
-use Rattle.calls.proofs.UsedInPlace.{record-refused, then-0, then-16, then-8}
+use Rattle.call_gates.proofs.KnownRecords.{known-codes}
 use Rattle.call_gates.proofs.in_place_refusal.Statement.{statement}
 use Rattle.call_gates.proofs.in_place_refusal.Tie as tie
 
@@ -15,35 +14,10 @@ lent S =
       used = S .args .used;
     }
 
-returns : tie.Need-returns
-returns c =
-    let E = c .before in
-    let S = E .before .before .before in
-    record-refused (lent S) (S .args .six) (E .known-refusal .ensures) (S .args .eight) (S .args .sixteen)
-    (c .if1 .taken)
-
-returns-2 : tie.Need-returns-2
-returns-2 c =
-    let E = c .before .before in
-    let S = E .before .before .before in
-    then-8 (lent S) (S .args .six) (E .known-refusal .ensures) (S .args .eight) (S .args .sixteen)
-    (c .before .if1 .left) (c .if2 .taken)
-
-returns-3 : tie.Need-returns-3
-returns-3 c =
-    let D = c .before in
-    let E = D .before .before in
-    let S = E .before .before .before in
-    then-16 (lent S) (S .args .six) (E .known-refusal .ensures) (S .args .eight) (S .args .sixteen)
-    (D .before .if1 .left) (D .if2 .left) (c .if3 .taken)
-
-returns-4 : tie.Need-returns-4
-returns-4 c =
-    let D = c .before in
-    let E = D .before .before in
-    let S = E .before .before .before in
-    then-0 (lent S) (S .args .six) (E .known-refusal .ensures) (S .args .eight) (S .args .sixteen)
-    (D .before .if1 .left) (D .if2 .left) (c .if3 .left)
+over-unless-requires : tie.Need-over-unless-requires
+over-unless-requires c κs =
+    let S = c .before .before in
+    known-codes (lent S) (S .pre)
 
 pub in-place-refusal-spec : {M : Type 1} → statement M
-in-place-refusal-spec = tie.close (tie.spec (λ c κs. search needs) returns returns-2 returns-3 returns-4)
+in-place-refusal-spec = tie.close (tie.spec over-unless-requires (λ c κs. search needs) (λ c. search needs))

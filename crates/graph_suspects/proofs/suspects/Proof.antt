@@ -5,9 +5,9 @@ use native.Mathlib.Omega.{arith}
 use lib.ListN.{getD, length}
 use borrow.Author.Needs.{needs}
 use Rattle.reduction_passes.proofs.Pivoting.{NamedFrom, from-end}
-use Rattle.graph_suspects.proofs.EightCodes.{from-eight, held-from, room-for-eight}
+use Rattle.graph_suspects.proofs.EightCodes.{below-marked, from-eight, held-from, room-for-eight}
 use Rattle.graph_suspects.proofs.PackedBytes.{packed-suspects}
-use Rattle.graph_suspects.proofs.CodeBits.{suspect}
+use Rattle.graph_suspects.specs.internal.Suspects.{suspect}
 use Rattle.graph_suspects.proofs.suspects.Statement.{statement}
 use Rattle.graph_suspects.proofs.suspects.Tie as tie
 
@@ -30,7 +30,7 @@ sub-i c = omega (arith, c .before .loop .inv .0, c .loop-test .taken)
 eight-codes-requires : tie.Need-eight-codes-requires Inv-loop μ-loop
 eight-codes-requires c κs =
     let L = c .before .loop in
-    (c .before .before .before .before .pre .1, omega (arith, L .inv .0, L .inv .1, c .loop-test .taken))
+    omega (arith, L .inv .0, L .inv .1, c .loop-test .taken)
 
 -- the word so far, and eight places left
 mul-all : tie.Need-mul-all Inv-loop μ-loop
@@ -64,7 +64,7 @@ loop-again c =
 returns : tie.Need-returns Inv-loop μ-loop
 returns c =
     let L = c .before .loop in
-    from-end _ _ (L .all) (L .i) (L .inv .2) (omega arith)
+    below-marked _ _ (from-end _ _ (L .all) (L .i) (L .inv .2) (omega arith))
 
 pub suspects-spec : {M : Type 1} → statement M
 suspects-spec =

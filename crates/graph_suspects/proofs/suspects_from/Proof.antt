@@ -7,7 +7,7 @@ use borrow.Author.Needs.{needs}
 use Rattle.reduction_passes.proofs.Pivoting.{NamedFrom, from-small, from-start, from-step}
 use Rattle.words.proofs.BitLaws.{digit-lt}
 use Rattle.graph_suspects.proofs.EightCodes.{from-held}
-use Rattle.graph_suspects.proofs.CodeBits.{suspect}
+use Rattle.graph_suspects.specs.internal.Suspects.{suspect}
 use Rattle.graph_suspects.proofs.suspects_from.Statement.{statement}
 use Rattle.graph_suspects.proofs.suspects_from.Tie as tie
 

@@ -8,7 +8,7 @@ cz-reduced-requires : tie.Need-cz-reduced-requires
 cz-reduced-requires c κs =
     let at-normalise = c .before .before .before .before .before .before in
     let start = at-normalise .before .before .before .before .before .pre in
-    let done = at-normalise .normalise-unless .ensures in (
+    let done = at-normalise .settle-all .ensures in (
       done .kept .unrefused,
       (
         reduced-here _ _ _ _ (start .0) done,
@@ -25,7 +25,7 @@ returns c =
     let at-cz = c .before .before .before .before in
     let at-normalise = at-cz .before .before .before .before .before .before .before in
     let start = at-normalise .before .before .before .before .before .pre in
-    cz-answered _ _ _ _ (start .0) (at-normalise .normalise-unless .ensures) _ _ (start .1 .0 .0) (start .1 .0 .1)
+    cz-answered _ _ _ _ (start .0) (at-normalise .settle-all .ensures) _ _ (start .1 .0 .0) (start .1 .0 .1)
     (start .1 .0 .2) _ _ (at-cz .cz-reduced .ensures)
 
 pub cz-record-spec : {M : Type 1} → statement M

@@ -1,10 +1,9 @@
 -- What a caller knows of the form of a record before a step.
 use mathlib.Core.Bool.{Bool, false, true}
 use mathlib.Core.List.{List}
-use Prim.Native.Nat.{_^_, ℕ}
+use Prim.Native.Nat.{ℕ}
 use Prim.{Unit}
 use lib.ListN.{length}
-use Rattle.graph_settling.specs.internal.Watching.{Watched}
 use Rattle.graph_steps.specs.internal.ReducedForms.{ReducedForm}
 use Rattle.operations.specs.internal.InPlace.{recordIn}
 use Rattle.record.specs.Lent.{heldRecord}
@@ -13,8 +12,3 @@ use Rattle.record.specs.Lent.{heldRecord}
 abbrev pub Settled : Bool → List ℕ → List ℕ → Type 0
 Settled false words codes = Unit
 Settled true words codes = ReducedForm (length words) (heldRecord (recordIn words codes))
-
--- nothing, or that no vertex but q is out of place
-abbrev pub SettledBut : Bool → List ℕ → List ℕ → ℕ → Type 0
-SettledBut false words codes q = Unit
-SettledBut true words codes q = Watched words codes (2 ^ q)

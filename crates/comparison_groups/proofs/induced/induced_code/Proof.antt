@@ -7,9 +7,9 @@ use Rattle.comparison_groups.proofs.induced.induced_code.Tie as tie
 returns : tie.Need-returns
 returns c =
     let a = c .before .before .before .args in
-    induced-by-calls (a .first) (a .choice) (a .second) (c .before .before .then .result .index)
-    (c .before .inverse .result .index) (c .then2 .result .index)
-    (c .before .before .then .ensures .0) (c .before .inverse .ensures .0) (c .then2 .ensures .0)
+    induced-by-calls (a .first) (a .choice) (a .second) (c .before .compose .result)
+    (c .before .before .inverse .result .index) (c .compose2 .result)
+    (c .before .compose .ensures .0) (c .before .before .inverse .ensures .0) (c .compose2 .ensures .0)
 
 pub induced-code-spec : {M : Type 1} → statement M
 induced-code-spec = tie.close (tie.spec (λ c κs. search needs) (λ c κs. search needs) (λ c κs. search needs) returns)

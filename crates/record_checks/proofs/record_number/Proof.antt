@@ -1,4 +1,4 @@
--- `record_refusal` meets its contract: the first line of a record that holds; 0 where none does.
+-- `record_number` meets its contract: the first line of a record that holds; 0 where none does.
 use mathlib.Core.Path.{refl}
 use borrow.Author.Needs.{needs}
 use Rattle.contracts.proofs.Fitting.{first-is}
@@ -7,8 +7,8 @@ use Rattle.stabilizer.proofs.EarlyLines.{either-says, says}
 use Rattle.stabilizer.proofs.SharedTests.{counted}
 use Rattle.record.specs.Lent.{LentRecord, recordLengths}
 use Rattle.record.proofs.RecordLines.{square-tested}
-use Rattle.record_checks.proofs.record_refusal.Statement.{statement}
-use Rattle.record_checks.proofs.record_refusal.Tie as tie
+use Rattle.record_checks.proofs.record_number.Statement.{statement}
+use Rattle.record_checks.proofs.record_number.Tie as tie
 
 returns : tie.Need-returns
 returns c = first-is (here (says (c .before .bad-count .ensures) (c .if1 .taken)))
@@ -34,17 +34,17 @@ returns-3 c =
 
 returns-4 : tie.Need-returns-4
 returns-4 c =
-    let past5 = c .before .before in
+    let past5 = c .before in
     let past4 = past5 .before .before in
     let past2 = past4 .before .before in
     first-is (later (says (past2 .before .bad-count .ensures) (past2 .if1 .left))
     (later (either-says (past4 .before .record-lengths .ensures) refl (past4 .if2 .left))
     (later (says (past5 .before .strays .ensures) (past5 .if3 .left))
-    (here (either-says (c .before .reaches .ensures) refl (c .if4 .taken))))))
+    (here (either-says (past2 .before .before .before .before .pre) refl (c .if4 .taken))))))
 
 not-simple-requires : tie.Need-not-simple-requires
 not-simple-requires c κs =
-    let past5 = c .before .before in
+    let past5 = c .before in
     let past4 = past5 .before .before in
     let past2 = past4 .before .before in
     let a = past2 .before .before .before .before .args in
@@ -55,29 +55,29 @@ not-simple-requires c κs =
 returns-5 : tie.Need-returns-5
 returns-5 c =
     let past6 = c .before .before in
-    let past5 = past6 .before .before in
+    let past5 = past6 .before in
     let past4 = past5 .before .before in
     let past2 = past4 .before .before in
     first-is (later (says (past2 .before .bad-count .ensures) (past2 .if1 .left))
     (later (either-says (past4 .before .record-lengths .ensures) refl (past4 .if2 .left))
     (later (says (past5 .before .strays .ensures) (past5 .if3 .left))
-    (later (either-says (past6 .before .reaches .ensures) refl (past6 .if4 .left))
+    (later (either-says (past2 .before .before .before .before .pre) refl (past6 .if4 .left))
     (here (says (c .before .not-simple .ensures) (c .if5 .taken)))))))
 
 returns-6 : tie.Need-returns-6
 returns-6 c =
     let past6 = c .before .before in
-    let past5 = past6 .before .before in
+    let past5 = past6 .before in
     let past4 = past5 .before .before in
     let past2 = past4 .before .before in
     first-is (later (says (past2 .before .bad-count .ensures) (past2 .if1 .left))
     (later (either-says (past4 .before .record-lengths .ensures) refl (past4 .if2 .left))
     (later (says (past5 .before .strays .ensures) (past5 .if3 .left))
-    (later (either-says (past6 .before .reaches .ensures) refl (past6 .if4 .left))
+    (later (either-says (past2 .before .before .before .before .pre) refl (past6 .if4 .left))
     (later (says (c .before .not-simple .ensures) (c .if5 .left)) none)))))
 
-pub record-refusal-spec : {M : Type 1} → statement M
-record-refusal-spec =
+pub record-number-spec : {M : Type 1} → statement M
+record-number-spec =
     tie.close
     (tie.spec (λ c κs. search needs) returns (λ c κs. search needs) returns-2 strays-requires returns-3
-    (λ c κs. search needs) returns-4 not-simple-requires returns-5 returns-6)
+    returns-4 not-simple-requires returns-5 returns-6)
