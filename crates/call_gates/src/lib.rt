@@ -1,17 +1,17 @@
 // The public calls that rewrite a lent record in place: their refusal, and gate and cz.
-use buffers::reaches;
 use graph_suspects::look;
 use operations_gates::cz_record;
 use operations_gates::gate_record;
 use used_checks::used_number;
+use used_checks::used_refusal;
 use words::has;
-ghost use mathlib.Core.Bool.{cond, false, true};
+ghost use mathlib.Core.Bool.{Bool, cond, false, true};
 ghost use mathlib.Core.Path.{_≡_};
 ghost use Rattle.contracts.specs.Calls.{Call};
 ghost use Rattle.buffers.specs.Refusals.{firstFitting, reaching};
 ghost use Rattle.operations.specs.Steps.{czOn, gateWith};
 ghost use Rattle.operations_gates.specs.internal.Settled.{Settled};
-ghost use Rattle.used.specs.Used.{usedLines};
+ghost use Rattle.used.specs.Used.{UsedRecord, usedLines};
 ghost use Rattle.words.specs.Bits.{bit};
 ghost use Rattle.call_gates.specs.InPlaceCalls.{usedCall};
 ghost use Rattle.call_gates.specs.internal.InPlaceCalls.{usedInPlace};
@@ -40,17 +40,6 @@ pub fn is_used(used: u64, qubit: u64) -> bool
     } else {
         false
     }
-}
-
-// Whether a code is 24 or more, which need not be looked for where no line of the record holds.
-fn over_unless(codes: &[u8], known: bool) -> bool
-    requires { ⌜ (known ≡ true → reaching 24 (now codes) ≡ false) ⌝ }
-    ensures { λ r. ⌜ r ≡ reaching 24 (now (codes .entry)) ⌝ }
-{
-    if known {
-        return false;
-    }
-    reaches(codes, 24)
 }
 
 // The number of the first line of a record that holds, which need not be looked for where none is known to hold; `over`:
@@ -98,8 +87,24 @@ pub fn known_refusal(
       used = used;
     }) false false six) ⌝ }
 {
-    let over = over_unless(codes, known);
-    known_number(n, neighbours, codes, used, over, six, known)
+    if known {
+        return six_number(six);
+    }
+    used_refusal(n, neighbours, codes, used, 0, false, six)
+}
+
+// The number of a record, then 8 where `eight` holds, then 16 where `sixteen` does.
+fn then_number(early: u8, eight: bool, sixteen: bool) -> u8
+    ensures { λ r. ⌜ ((u : UsedRecord) (six : Bool) → early ≡ firstFitting (usedLines u false false six)
+        → r ≡ firstFitting (usedInPlace u six eight sixteen)) ⌝ }
+{
+    if early != 0 {
+        return early;
+    }
+    if eight {
+        return 8;
+    }
+    if sixteen { 16 } else { 0 }
 }
 
 // The number of the first line of a record that holds, then 8 where `eight` does, then 16 where `sixteen` does; `over`: a
@@ -126,13 +131,7 @@ fn in_place_number(
     }) six eight sixteen) ⌝ }
 {
     let early = known_number(n, neighbours, codes, used, over, six, known);
-    if early != 0 {
-        return early;
-    }
-    if eight {
-        return 8;
-    }
-    if sixteen { 16 } else { 0 }
+    then_number(early, eight, sixteen)
 }
 
 // The same, where the codes have not been looked at.
@@ -155,8 +154,8 @@ pub fn in_place_refusal(
       used = used;
     }) six eight sixteen) ⌝ }
 {
-    let over = over_unless(codes, known);
-    in_place_number(n, neighbours, codes, used, over, six, eight, sixteen, known)
+    let early = known_refusal(n, neighbours, codes, used, six, known);
+    then_number(early, eight, sixteen)
 }
 
 // One look at all codes, for line 6 and for what follows: `touched` has every vertex that is out of place, `suspected`

@@ -1,8 +1,6 @@
--- `in_place_refusal` meets its contract: the number of the first line that holds, where the codes have not been
--- looked at.
+-- `in_place_refusal` meets its contract: the number of the first line that holds, where the codes have not been looked at.
 use borrow.Author.Needs.{needs}
 use Rattle.used.specs.Used.{UsedRecord}
-use Rattle.call_gates.proofs.KnownRecords.{known-codes}
 use Rattle.call_gates.proofs.in_place_refusal.Statement.{statement}
 use Rattle.call_gates.proofs.in_place_refusal.Tie as tie
 
@@ -14,10 +12,11 @@ lent S =
       used = S .args .used;
     }
 
-over-unless-requires : tie.Need-over-unless-requires
-over-unless-requires c κs =
-    let S = c .before .before in
-    known-codes (lent S) (S .pre)
+returns : tie.Need-returns
+returns c =
+    let E = c .before in
+    let S = E .before .before .before in
+    c .then-number .ensures (lent S) (S .args .six) (E .known-refusal .ensures)
 
 pub in-place-refusal-spec : {M : Type 1} → statement M
-in-place-refusal-spec = tie.close (tie.spec over-unless-requires (λ c κs. search needs) (λ c. search needs))
+in-place-refusal-spec = tie.close (tie.spec (λ c κs. search needs) (λ c κs. search needs) returns)

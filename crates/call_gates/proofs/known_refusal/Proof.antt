@@ -1,8 +1,11 @@
--- `known_refusal` meets its contract: the number of the first line of a record that holds, where the codes have not been
--- looked at.
+-- `known_refusal` meets its contract: the number of the first line of a record that holds, which need not be looked for
+-- where none is known to hold; `six`: line 6 holds of a further argument.
+use mathlib.Core.Bool.{false}
+use mathlib.Core.Path.{_∙_}
 use borrow.Author.Needs.{needs}
 use Rattle.used.specs.Used.{UsedRecord}
-use Rattle.call_gates.proofs.KnownRecords.{known-codes}
+use Rattle.used_checks.proofs.UsedNumbers.{no-further}
+use Rattle.call_gates.proofs.KnownRecords.{known-true, six-alone}
 use Rattle.call_gates.proofs.known_refusal.Statement.{statement}
 use Rattle.call_gates.proofs.known_refusal.Tie as tie
 
@@ -14,10 +17,16 @@ lent S =
       used = S .args .used;
     }
 
-over-unless-requires : tie.Need-over-unless-requires
-over-unless-requires c κs =
-    let S = c .before .before in
-    known-codes (lent S) (S .pre)
+returns : tie.Need-returns
+returns c =
+    let branch = c .before in
+    let S = branch .before .before .before in
+    c .six-number .ensures ∙ six-alone (lent S) (known-true (lent S) (S .pre) (branch .if1 .taken)) (S .args .six)
+
+returns-2 : tie.Need-returns-2
+returns-2 c =
+    let S = c .before .before .before .before in
+    no-further (lent S) false (S .args .six) (c .used-refusal .ensures)
 
 pub known-refusal-spec : {M : Type 1} → statement M
-known-refusal-spec = tie.close (tie.spec over-unless-requires (λ c κs. search needs) (λ c. search needs))
+known-refusal-spec = tie.close (tie.spec (λ c κs. search needs) returns (λ c κs. search needs) returns-2)
