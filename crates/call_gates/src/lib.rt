@@ -1,5 +1,4 @@
 // The public calls that rewrite a lent record in place: their refusal, and gate and cz.
-use buffers::reaches;
 use graph_suspects::look;
 use operations_gates::cz_record;
 use operations_gates::gate_record;
@@ -11,6 +10,7 @@ ghost use Rattle.contracts.specs.Calls.{Call};
 ghost use Rattle.buffers.specs.Refusals.{firstFitting, reaching};
 ghost use Rattle.operations.specs.Steps.{czOn, gateWith};
 ghost use Rattle.operations_gates.specs.internal.Settled.{Settled};
+ghost use Rattle.record_checks.specs.internal.Looks.{Looked};
 ghost use Rattle.used.specs.Used.{usedLines};
 ghost use Rattle.words.specs.Bits.{bit};
 ghost use Rattle.calls.specs.InPlace.{usedCall};
@@ -42,24 +42,14 @@ pub fn is_used(used: u64, qubit: u64) -> bool
     }
 }
 
-// Whether a code is 24 or more, which need not be looked for where no line of the record holds.
-fn over_unless(codes: &[u8], known: bool) -> bool
-    requires { ⌜ (known ≡ true → reaching 24 (now codes) ≡ false) ⌝ }
-    ensures { λ r. ⌜ r ≡ reaching 24 (now (codes .entry)) ⌝ }
-{
-    if known {
-        return false;
-    }
-    reaches(codes, 24)
-}
-
-// The number of the first line of a record that holds, which need not be looked for where none is known to hold; `over`:
-// a code is 24 or more; `six`: line 6 holds of a further argument.
+// The number of the first line of a record that holds, which need not be looked for where none is known to hold;
+// `looked`: `over` says whether a code is 24 or more; `six`: line 6 holds of a further argument.
 fn known_number(
     n: u64,
     neighbours: &[u64],
     codes: &[u8],
     used: u64,
+    looked: bool,
     over: bool,
     six: bool,
     known: bool,
@@ -68,7 +58,7 @@ fn known_number(
       held = record { n = n; neighbours = now neighbours; codes = now codes };
       used = used;
     }) ⌝ }
-    requires { ⌜ over ≡ reaching 24 (now codes) ⌝ }
+    requires { ⌜ Looked looked (now codes) over ⌝ }
     ensures { λ r. ⌜ r ≡ firstFitting (usedLines (record {
       held = record { n = n; neighbours = now (neighbours .entry); codes = now (codes .entry) };
       used = used;
@@ -77,7 +67,7 @@ fn known_number(
     if known {
         return six_number(six);
     }
-    used_number(n, neighbours, codes, used, 0, false, over, six)
+    used_number(n, neighbours, codes, used, 0, false, looked, over, six)
 }
 
 // The same, where the codes have not been looked at.
@@ -98,17 +88,18 @@ pub fn known_refusal(
       used = used;
     }) false false six) ⌝ }
 {
-    let over = over_unless(codes, known);
-    known_number(n, neighbours, codes, used, over, six, known)
+    known_number(n, neighbours, codes, used, false, false, six, known)
 }
 
-// The number of the first line of a record that holds, then 8 where `eight` does, then 16 where `sixteen` does; `over`: a
-// code is 24 or more; `six`: line 6 holds of a further argument; `known`: no line of the record alone holds.
+// The number of the first line of a record that holds, then 8 where `eight` does, then 16 where `sixteen` does;
+// `looked`: `over` says whether a code is 24 or more; `six`: line 6 holds of a further argument; `known`: no line of the
+// record alone holds.
 fn in_place_number(
     n: u64,
     neighbours: &[u64],
     codes: &[u8],
     used: u64,
+    looked: bool,
     over: bool,
     six: bool,
     eight: bool,
@@ -119,13 +110,13 @@ fn in_place_number(
       held = record { n = n; neighbours = now neighbours; codes = now codes };
       used = used;
     }) ⌝ }
-    requires { ⌜ over ≡ reaching 24 (now codes) ⌝ }
+    requires { ⌜ Looked looked (now codes) over ⌝ }
     ensures { λ r. ⌜ r ≡ firstFitting (usedInPlace (record {
       held = record { n = n; neighbours = now (neighbours .entry); codes = now (codes .entry) };
       used = used;
     }) six eight sixteen) ⌝ }
 {
-    let early = known_number(n, neighbours, codes, used, over, six, known);
+    let early = known_number(n, neighbours, codes, used, looked, over, six, known);
     if early != 0 {
         return early;
     }
@@ -155,8 +146,18 @@ pub fn in_place_refusal(
       used = used;
     }) six eight sixteen) ⌝ }
 {
-    let over = over_unless(codes, known);
-    in_place_number(n, neighbours, codes, used, over, six, eight, sixteen, known)
+    in_place_number(
+        n,
+        neighbours,
+        codes,
+        used,
+        false,
+        false,
+        six,
+        eight,
+        sixteen,
+        known,
+    )
 }
 
 // One look at all codes, for line 6 and for what follows: `touched` has every vertex that is out of place, `suspected`
@@ -210,6 +211,7 @@ pub fn gate_known(
         neighbours,
         codes,
         used,
+        true,
         told.over,
         24 <= code,
         n <= qubit,
@@ -259,6 +261,7 @@ pub fn cz_known(
         neighbours,
         codes,
         used,
+        true,
         told.over,
         false,
         eight,

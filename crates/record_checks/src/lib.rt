@@ -14,6 +14,7 @@ ghost use Rattle.record.specs.Lent.{notSimple, recordLengths, recordLines};
 ghost use Rattle.words.specs.Bits.{_⊕_, bit};
 ghost use Rattle.words.specs.Search.{some};
 ghost use Rattle.record_checks.specs.internal.Copies.{Copied};
+ghost use Rattle.record_checks.specs.internal.Looks.{Looked};
 
 // Line 4: one of the two buffers does not have n places.
 fn record_lengths(n: usize, neighbours: &[u64], codes: &[u8]) -> bool
@@ -71,17 +72,30 @@ pub fn not_simple(n: usize, neighbours: &[u64]) -> bool
     (own | unequal(n, neighbours, &rows)) & mask(n) != 0
 }
 
+// Line 6: whether a code is 24 or more. `looked`: the caller has looked at the codes, and `over` says it.
+fn over_known(codes: &[u8], looked: bool, over: bool) -> bool
+    requires { ⌜ Looked looked (now codes) over ⌝ }
+    ensures { λ r. ⌜ r ≡ reaching 24 (now (codes .entry)) ⌝ }
+{
+    if looked {
+        return over;
+    }
+    reaches(codes, 24)
+}
+
 // The first line of a record that holds; 0 where none does. `others`: a further buffer of the call has a wrong
-// length; `over`: a code is 24 or more, which the caller has looked up; `six`: line 6 holds of a further argument.
+// length; `looked`: the caller has looked at the codes, and `over` says whether one is 24 or more; `six`: line 6 holds of a
+// further argument.
 pub fn record_number(
     n: u64,
     neighbours: &[u64],
     codes: &[u8],
     others: bool,
+    looked: bool,
     over: bool,
     six: bool,
 ) -> u8
-    requires { ⌜ over ≡ reaching 24 (now codes) ⌝ }
+    requires { ⌜ Looked looked (now codes) over ⌝ }
     ensures { λ r. ⌜ r ≡ firstFitting (recordLines (record {
       n = n;
       neighbours = now (neighbours .entry);
@@ -98,7 +112,7 @@ pub fn record_number(
     if strays(neighbours, count) {
         return 5;
     }
-    if over | six {
+    if over_known(codes, looked, over) | six {
         return 6;
     }
     if not_simple(count, neighbours) {
@@ -115,5 +129,5 @@ pub fn record_refusal(n: u64, neighbours: &[u64], codes: &[u8], others: bool, si
       codes = now (codes .entry);
     }) others six) ⌝ }
 {
-    record_number(n, neighbours, codes, others, reaches(codes, 24), six)
+    record_number(n, neighbours, codes, others, false, false, six)
 }

@@ -1,5 +1,4 @@
 // The lines of the refusals that speak of a record with used qubits.
-use buffers::reaches;
 use record_checks::record_number;
 use words::flip;
 use words::smallest;
@@ -9,8 +8,9 @@ ghost use mathlib.Core.Path.{_≡_};
 ghost use Prim.Native.Nat.{_<_, _≤_, _^_};
 ghost use lib.Dec.{eqb, leb};
 ghost use lib.ListN.{length};
-ghost use Rattle.buffers.specs.Refusals.{firstFitting, reaching};
+ghost use Rattle.buffers.specs.Refusals.{firstFitting};
 ghost use Rattle.operations.specs.internal.InPlace.{recordIn};
+ghost use Rattle.record_checks.specs.internal.Looks.{Looked};
 ghost use Rattle.used.specs.Used.{usedCode, usedLines, usedWrong};
 
 // Line 7 of a used vertex: it has a neighbour, or its code is none of 0, 2, 4, 6, 8 and 10.
@@ -41,8 +41,8 @@ fn used_wrong(neighbours: &[u64], codes: &[u8], used: u64) -> bool
 }
 
 // The first line of a record that holds; 0 where none does. `word`: a further word that has no bit at or above n;
-// `others`: a further buffer of the call has a wrong length; `over`: a code is 24 or more, which the caller has looked up;
-// `six`: line 6 holds of a further argument.
+// `others`: a further buffer of the call has a wrong length; `looked`: the caller has looked at the codes, and `over` says
+// whether one is 24 or more; `six`: line 6 holds of a further argument.
 pub fn used_number(
     n: u64,
     neighbours: &[u64],
@@ -50,16 +50,17 @@ pub fn used_number(
     used: u64,
     word: u64,
     others: bool,
+    looked: bool,
     over: bool,
     six: bool,
 ) -> u8
-    requires { ⌜ over ≡ reaching 24 (now codes) ⌝ }
+    requires { ⌜ Looked looked (now codes) over ⌝ }
     ensures { λ r. ⌜ r ≡ firstFitting (usedLines (record {
       held = record { n = n; neighbours = now (neighbours .entry); codes = now (codes .entry) };
       used = used;
     }) others (leb (2 ^ n) word) six) ⌝ }
 {
-    let number = record_number(n, neighbours, codes, others, over, six);
+    let number = record_number(n, neighbours, codes, others, looked, over, six);
     if number == 2 {
         return number;
     }
@@ -95,14 +96,5 @@ pub fn used_refusal(
       used = used;
     }) others (leb (2 ^ n) word) six) ⌝ }
 {
-    used_number(
-        n,
-        neighbours,
-        codes,
-        used,
-        word,
-        others,
-        reaches(codes, 24),
-        six,
-    )
+    used_number(n, neighbours, codes, used, word, others, false, false, six)
 }

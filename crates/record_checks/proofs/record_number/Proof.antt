@@ -34,17 +34,17 @@ returns-3 c =
 
 returns-4 : tie.Need-returns-4
 returns-4 c =
-    let past5 = c .before in
+    let past5 = c .before .before in
     let past4 = past5 .before .before in
     let past2 = past4 .before .before in
     first-is (later (says (past2 .before .bad-count .ensures) (past2 .if1 .left))
     (later (either-says (past4 .before .record-lengths .ensures) refl (past4 .if2 .left))
     (later (says (past5 .before .strays .ensures) (past5 .if3 .left))
-    (here (either-says (past2 .before .before .before .before .pre) refl (c .if4 .taken))))))
+    (here (either-says (c .before .over-known .ensures) refl (c .if4 .taken))))))
 
 not-simple-requires : tie.Need-not-simple-requires
 not-simple-requires c κs =
-    let past5 = c .before in
+    let past5 = c .before .before in
     let past4 = past5 .before .before in
     let past2 = past4 .before .before in
     let a = past2 .before .before .before .before .args in
@@ -55,29 +55,29 @@ not-simple-requires c κs =
 returns-5 : tie.Need-returns-5
 returns-5 c =
     let past6 = c .before .before in
-    let past5 = past6 .before in
+    let past5 = past6 .before .before in
     let past4 = past5 .before .before in
     let past2 = past4 .before .before in
     first-is (later (says (past2 .before .bad-count .ensures) (past2 .if1 .left))
     (later (either-says (past4 .before .record-lengths .ensures) refl (past4 .if2 .left))
     (later (says (past5 .before .strays .ensures) (past5 .if3 .left))
-    (later (either-says (past2 .before .before .before .before .pre) refl (past6 .if4 .left))
+    (later (either-says (past6 .before .over-known .ensures) refl (past6 .if4 .left))
     (here (says (c .before .not-simple .ensures) (c .if5 .taken)))))))
 
 returns-6 : tie.Need-returns-6
 returns-6 c =
     let past6 = c .before .before in
-    let past5 = past6 .before in
+    let past5 = past6 .before .before in
     let past4 = past5 .before .before in
     let past2 = past4 .before .before in
     first-is (later (says (past2 .before .bad-count .ensures) (past2 .if1 .left))
     (later (either-says (past4 .before .record-lengths .ensures) refl (past4 .if2 .left))
     (later (says (past5 .before .strays .ensures) (past5 .if3 .left))
-    (later (either-says (past2 .before .before .before .before .pre) refl (past6 .if4 .left))
+    (later (either-says (past6 .before .over-known .ensures) refl (past6 .if4 .left))
     (later (says (c .before .not-simple .ensures) (c .if5 .left)) none)))))
 
 pub record-number-spec : {M : Type 1} → statement M
 record-number-spec =
     tie.close
     (tie.spec (λ c κs. search needs) returns (λ c κs. search needs) returns-2 strays-requires returns-3
-    returns-4 not-simple-requires returns-5 returns-6)
+    (λ c κs. search needs) returns-4 not-simple-requires returns-5 returns-6)
