@@ -1,11 +1,15 @@
 // The public calls that rewrite a lent record in place: their refusal, and gate and cz.
+use graph_suspects::Seen;
 use graph_suspects::look;
+use graph_suspects::suspects;
 use operations_gates::cz_record;
 use operations_gates::gate_record;
 use used_checks::used_number;
 use words::has;
 ghost use mathlib.Core.Bool.{cond, false, true};
 ghost use mathlib.Core.Path.{_≡_};
+ghost use Prim.Native.Nat.{ℕ, _<_, _≤_};
+ghost use lib.ListN.{getD, length};
 ghost use Rattle.contracts.specs.Calls.{Call};
 ghost use Rattle.buffers.specs.Refusals.{firstFitting, reaching};
 ghost use Rattle.operations.specs.Steps.{czOn, gateWith};
@@ -15,11 +19,10 @@ ghost use Rattle.used.specs.Used.{usedLines};
 ghost use Rattle.words.specs.Bits.{bit};
 ghost use Rattle.calls.specs.InPlace.{usedCall};
 ghost use Rattle.calls.specs.internal.InPlace.{usedInPlace};
-ghost use Rattle.call_gates.specs.internal.Knowing.{Handed, Known};
+ghost use Rattle.call_gates.specs.internal.Knowing.{Found, Handed, Known};
 
-// What the first look at the codes of a record tells.
+// Every vertex that is out of place, and every one with a code that is odd, or 8 or more, before a step.
 struct Told {
-    over: bool,
     touched: u64,
     suspected: u64,
 }
@@ -160,25 +163,38 @@ pub fn in_place_refusal(
     )
 }
 
-// One look at all codes, for line 6 and for what follows: `touched` has every vertex that is out of place, `suspected`
-// every one with a code that is odd, or 8 or more. None is needed where no line of the record holds and it is reduced.
-fn first_look(codes: &[u8], known: bool, settled: bool) -> Told
+// One look at all codes, for line 6 and for what follows; none where no line of the record holds.
+fn first_look(codes: &[u8], known: bool) -> Seen
     requires { ⌜ (known ≡ true → reaching 24 (now codes) ≡ false) ⌝ }
     ensures { λ r. ⌜ r .over ≡ reaching 24 (now (codes .entry)) ⌝ }
+    ensures { λ r. ⌜ Found known (now (codes .entry)) (r .suspects) ⌝ }
+{
+    if known {
+        return Seen {
+            over: false,
+            suspects: 0,
+        };
+    }
+    look(codes)
+}
+
+// The words from which an accepted step settles the record: none is out of place where it is reduced; else those that the
+// codes tell, which a run has not looked at yet.
+fn first_words(codes: &[u8], known: bool, settled: bool, word: u64) -> Told
+    requires { ⌜ (length (now codes) ≤ 64) × ((q : ℕ) → getD (now codes) q 0 < 24) ⌝ }
+    requires { ⌜ Found known (now codes) word ⌝ }
     ensures { λ r. ⌜ Handed settled (now (codes .entry)) (r .touched) (r .suspected) ⌝ }
 {
-    if known & settled {
+    if settled {
         return Told {
-            over: false,
             touched: 0,
             suspected: 0xFFFF_FFFF_FFFF_FFFF,
         };
     }
-    let seen = look(codes);
+    let found = if known { suspects(codes) } else { word };
     Told {
-        over: seen.over,
-        touched: seen.suspects,
-        suspected: seen.suspects,
+        touched: found,
+        suspected: found,
     }
 }
 
@@ -205,14 +221,14 @@ pub fn gate_known(
     }) (gateWith qubit code) (now (neighbours .exit)) (now (codes .exit))) r ⌝ }
 {
     let sixteen = is_used(used, qubit);
-    let told = first_look(codes, known, settled);
+    let seen = first_look(codes, known);
     let early = in_place_number(
         n,
         neighbours,
         codes,
         used,
         true,
-        told.over,
+        seen.over,
         24 <= code,
         n <= qubit,
         sixteen,
@@ -221,6 +237,7 @@ pub fn gate_known(
     if early != 0 {
         return early;
     }
+    let told = first_words(codes, known, settled, seen.suspects);
     gate_record(
         neighbours,
         codes,
@@ -255,14 +272,14 @@ pub fn cz_known(
 {
     let eight = (n <= a) | ((n <= b) | (a == b));
     let sixteen = is_used(used, a) | is_used(used, b);
-    let told = first_look(codes, known, settled);
+    let seen = first_look(codes, known);
     let early = in_place_number(
         n,
         neighbours,
         codes,
         used,
         true,
-        told.over,
+        seen.over,
         false,
         eight,
         sixteen,
@@ -271,6 +288,7 @@ pub fn cz_known(
     if early != 0 {
         return early;
     }
+    let told = first_words(codes, known, settled, seen.suspects);
     cz_record(
         neighbours,
         codes,

@@ -5,6 +5,7 @@ use lib.Dec.{eqb, leb}
 use borrow.Author.Needs.{needs}
 use Rattle.buffers.specs.Refusals.{firstFitting}
 use Rattle.contracts.proofs.Calling.{refused}
+use Rattle.operations.proofs.UnrefusedRecords.{unrefused-codes}
 use Rattle.operations.specs.Steps.{Operation, czOn}
 use Rattle.used.specs.Used.{UsedRecord, usedLinesOf}
 use Rattle.calls.proofs.InPlaceCalls.{as-before, in-place-done}
@@ -45,19 +46,28 @@ first-look-requires c κs =
 returns : tie.Need-returns
 returns c = refused _ (number (c .before)) (c .if1 .taken) (refl, (refl, tt))
 
-cz-record-requires : tie.Need-cz-record-requires
-cz-record-requires c κs =
-    let D = c .before .before in
+first-words-requires : tie.Need-first-words-requires
+first-words-requires c κs =
+    let D = c .before in
     let F = D .before .before .before .before in
     let S = F .before .before .before .before .before .before in
     let ready = cz-ready (lent S .held) (S .args .a) (S .args .b)
     (as-before (lent S) (asked S) (number (D .before)) (D .if1 .left)) in
-    (ready .0, (ready .1, handed-words _ _ (ready .0) (S .pre .1) (F .first-look .ensures .1)))
+    (unrefused-codes _ _ (ready .0), F .first-look .ensures .1)
+
+cz-record-requires : tie.Need-cz-record-requires
+cz-record-requires c κs =
+    let W = c .before .before in
+    let D = W .before .before in
+    let S = D .before .before .before .before .before .before .before .before .before .before in
+    let ready = cz-ready (lent S .held) (S .args .a) (S .args .b)
+    (as-before (lent S) (asked S) (number (D .before)) (D .if1 .left)) in
+    (ready .0, (ready .1, handed-words _ _ (ready .0) (S .pre .1) (W .first-words .ensures)))
 
 returns-2 : tie.Need-returns-2
 returns-2 c =
     let G = c .before .before .before .before in
-    let D = G .before .before .before in
+    let D = G .before .before .before .before .before in
     let S = D .before .before .before .before .before .before .before .before .before .before in
     in-place-done (lent S) (asked S) (number (D .before)) (D .if1 .left)
     (G .cz-record .ensures .neighbours) (G .cz-record .ensures .numbers)
@@ -66,4 +76,4 @@ pub cz-known-spec : {M : Type 1} → statement M
 cz-known-spec =
     tie.close
     (tie.spec (λ c κs. search needs) (λ c κs. search needs) first-look-requires (λ c κs. search needs) (λ c. search needs)
-    (λ c. search needs) returns cz-record-requires (λ c. search needs) (λ c. search needs) returns-2)
+    (λ c. search needs) returns first-words-requires cz-record-requires (λ c. search needs) (λ c. search needs) returns-2)

@@ -4,6 +4,7 @@ use lib.Dec.{leb}
 use borrow.Author.Needs.{needs}
 use Rattle.buffers.specs.Refusals.{firstFitting}
 use Rattle.contracts.proofs.Calling.{refused}
+use Rattle.operations.proofs.UnrefusedRecords.{unrefused-codes}
 use Rattle.operations.specs.Steps.{Operation, gateWith}
 use Rattle.used.specs.Used.{UsedRecord, usedLinesOf}
 use Rattle.calls.proofs.InPlaceCalls.{as-before, in-place-done}
@@ -43,19 +44,28 @@ first-look-requires c κs =
 returns : tie.Need-returns
 returns c = refused _ (number (c .before)) (c .if1 .taken) (refl, (refl, tt))
 
-gate-record-requires : tie.Need-gate-record-requires
-gate-record-requires c κs =
-    let D = c .before .before in
+first-words-requires : tie.Need-first-words-requires
+first-words-requires c κs =
+    let D = c .before in
     let F = D .before .before .before .before in
     let S = F .before .before .before .before .before in
     let ready = gate-ready (lent S .held) (S .args .qubit) (S .args .code)
     (as-before (lent S) (asked S) (number (D .before)) (D .if1 .left)) in
-    (ready .0, (ready .1, handed-words _ _ (ready .0) (S .pre .1) (F .first-look .ensures .1)))
+    (unrefused-codes _ _ (ready .0), F .first-look .ensures .1)
+
+gate-record-requires : tie.Need-gate-record-requires
+gate-record-requires c κs =
+    let W = c .before .before in
+    let D = W .before .before in
+    let S = D .before .before .before .before .before .before .before .before .before in
+    let ready = gate-ready (lent S .held) (S .args .qubit) (S .args .code)
+    (as-before (lent S) (asked S) (number (D .before)) (D .if1 .left)) in
+    (ready .0, (ready .1, handed-words _ _ (ready .0) (S .pre .1) (W .first-words .ensures)))
 
 returns-2 : tie.Need-returns-2
 returns-2 c =
     let G = c .before .before .before .before in
-    let D = G .before .before .before in
+    let D = G .before .before .before .before .before in
     let S = D .before .before .before .before .before .before .before .before .before in
     in-place-done (lent S) (asked S) (number (D .before)) (D .if1 .left)
     (G .gate-record .ensures .neighbours) (G .gate-record .ensures .numbers)
@@ -64,4 +74,4 @@ pub gate-known-spec : {M : Type 1} → statement M
 gate-known-spec =
     tie.close
     (tie.spec (λ c κs. search needs) first-look-requires (λ c κs. search needs) (λ c. search needs) (λ c. search needs)
-    returns gate-record-requires (λ c. search needs) (λ c. search needs) returns-2)
+    returns first-words-requires gate-record-requires (λ c. search needs) (λ c. search needs) returns-2)
