@@ -1,7 +1,7 @@
 // Jobs: sessions written as steps, each with its operation, its qubits and a value: see specs/ and proofs/.
 ghost use mathlib.Core.Path.{_≡_};
 ghost use Rattle.jobs.specs.Asked.{unusedSet};
-ghost use Rattle.jobs.specs.internal.Asked.{wrongValue};
+ghost use Rattle.jobs.specs.internal.Asked.{valueLimit, withoutB, withoutValue, wrongValue};
 ghost use Rattle.jobs.specs.Parallel.{numberedOp};
 ghost use Rattle.jobs.specs.internal.Parallel.{opNumber};
 
@@ -29,30 +29,57 @@ pub struct Answer {
     pub determined: u8,
 }
 
-// Whether a field that the operation does not use is not 0.
-pub fn unused_set(op: Op, b: u16, value: u16) -> bool
-    ensures { λ r. ⌜ r ≡ unusedSet op b value ⌝ }
+// Whether the operation does not use its second qubit.
+fn without_b(op: Op) -> bool
+    ensures { λ r. ⌜ r ≡ withoutB op ⌝ }
 {
     match op {
-        Op::Gate => b != 0,
-        Op::Cz => value != 0,
-        Op::Measure => b != 0,
-        Op::Complement => (b != 0) | (value != 0),
-        Op::Pivot => value != 0,
+        Op::Gate => true,
+        Op::Cz => false,
+        Op::Measure => true,
+        Op::Complement => true,
+        Op::Pivot => false,
     }
 }
 
-// Whether the value is no code, or for a measurement no Pauli and outcome.
+// Whether the operation does not use its value.
+fn without_value(op: Op) -> bool
+    ensures { λ r. ⌜ r ≡ withoutValue op ⌝ }
+{
+    match op {
+        Op::Gate => false,
+        Op::Cz => true,
+        Op::Measure => false,
+        Op::Complement => true,
+        Op::Pivot => true,
+    }
+}
+
+// The least number that is no value of the operation, of those that use one.
+fn value_limit(op: Op) -> u32
+    ensures { λ r. ⌜ r ≡ valueLimit op ⌝ }
+{
+    match op {
+        Op::Gate => 24,
+        Op::Cz => 65536,
+        Op::Measure => 6,
+        Op::Complement => 65536,
+        Op::Pivot => 65536,
+    }
+}
+
+// Whether a field that the operation does not use is not 0, without a branch on the operation.
+pub fn unused_set(op: Op, b: u16, value: u16) -> bool
+    ensures { λ r. ⌜ r ≡ unusedSet op b value ⌝ }
+{
+    (without_b(op) & (b != 0)) | (without_value(op) & (value != 0))
+}
+
+// Whether the value is no code, or for a measurement no Pauli and outcome, without a branch on the operation.
 pub fn wrong_value(op: Op, value: u16) -> bool
     ensures { λ r. ⌜ r ≡ wrongValue op value ⌝ }
 {
-    match op {
-        Op::Gate => 24 <= value,
-        Op::Cz => false,
-        Op::Measure => 6 <= value,
-        Op::Complement => false,
-        Op::Pivot => false,
-    }
+    value_limit(op) <= value as u32
 }
 
 // The number of an operation.

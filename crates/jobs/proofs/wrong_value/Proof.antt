@@ -1,19 +1,17 @@
--- `wrong_value` meets its contract: whether the value is no code, or for a measurement no Pauli and outcome.
+-- `wrong_value` meets its contract: whether the value is no code, or for a measurement no Pauli and outcome, without a
+-- branch on the operation.
+use mathlib.Core.Path.{_∙_, ap}
+use lib.Dec.{leb}
 use borrow.Author.Needs.{needs}
+use Rattle.jobs.proofs.Fields.{wrong-value-by}
 use Rattle.jobs.proofs.wrong_value.Statement.{statement}
 use Rattle.jobs.proofs.wrong_value.Tie as tie
 
-enum-told : tie.Need-enum-told
-enum-told c = search needs
-
 returns : tie.Need-returns
-returns c = rw (c .enum-told .given .1)
-
-returns-3 : tie.Need-returns-3
-returns-3 c = rw (c .enum-told3 .given .1)
+returns c =
+    let S = c .before in
+    ap (λ m. leb m (S .args .value)) (c .value-limit .ensures)
+    ∙ wrong-value-by (S .args .op) (S .args .value) (search needs)
 
 pub wrong-value-spec : {M : Type 1} → statement M
-wrong-value-spec =
-    tie.close
-    (tie.spec enum-told (λ c. search needs) (λ c. search needs) (λ c. search needs) (λ c. search needs) returns
-    (λ c. search needs) returns-3 (λ c. search needs) (λ c. search needs))
+wrong-value-spec = tie.close (tie.spec (λ c κs. search needs) returns)
