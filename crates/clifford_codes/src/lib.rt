@@ -1,7 +1,6 @@
 // The 24 local Cliffords as codes: 4 × class + 2 × sx + sz. Composition is a table; images and inverses are worked out
 // from the class and the signs.
 use clifford_tables::after_one;
-use clifford_tables::after_six;
 use clifford_tables::after_thirteen;
 use clifford_tables::after_two;
 use clifford_tables::entry;
@@ -94,9 +93,6 @@ impl Code {
             },
             2 => Code {
                 index: after_two(b),
-            },
-            6 => Code {
-                index: after_six(b),
             },
             13 => Code {
                 index: after_thirteen(b),

@@ -1,4 +1,4 @@
--- Rows of the composition table by computed tests: two in words, five bits for each entry, and two as flipped signs.
+-- Rows of the composition table by computed tests: one in words, five bits for each entry, and two as flipped signs.
 use mathlib.Core.Path.{refl, subst, sym, _≡_}
 use Prim.Native.Nat.{_%_, _*_, _+_, _/_, _<_, _^_, ℕ}
 use lib.Bits.{bitXor}
@@ -6,16 +6,6 @@ use lib.Dec.{T, eqb, eqb→eq}
 use Rattle.words.specs.Search.{every}
 use Rattle.words.proofs.SearchLaws.{every-at}
 use Rattle.clifford.specs.Clifford.{cliffordOf, codeOf, then}
-
-pub row6-low : (b : ℕ) → b < 12 → 633441879509405862 / 2 ^ (5 * b) % 32 ≡ codeOf (then (cliffordOf 6) (cliffordOf b))
-unfolding every
-row6-low b h = eqb→eq _ _ (subst T (sym (every-at 12 (λ b. eqb (633441879509405862 / 2 ^ (5 * b) % 32)
-    (codeOf (then (cliffordOf 6) (cliffordOf b)))) refl b h)) tt)
-
-pub row6-high : (b : ℕ) → b < 12 → 554415931026758388 / 2 ^ (5 * b) % 32 ≡ codeOf (then (cliffordOf 6) (cliffordOf (12 + b)))
-unfolding every
-row6-high b h = eqb→eq _ _ (subst T (sym (every-at 12 (λ b. eqb (554415931026758388 / 2 ^ (5 * b) % 32)
-    (codeOf (then (cliffordOf 6) (cliffordOf (12 + b))))) refl b h)) tt)
 
 pub row13-low : (b : ℕ) → b < 12 → 819290733785102733 / 2 ^ (5 * b) % 32 ≡ codeOf (then (cliffordOf 13) (cliffordOf b))
 unfolding every

@@ -1,5 +1,6 @@
 // A pivot and a complementation that leave out the edges at a vertex, which a measurement is about to isolate: its
 // neighbours are gone through once.
+use clifford_tables::row_of_six;
 use operations::compose;
 use operations::compose_fixed;
 use operations_pivots::join_turning;
@@ -60,9 +61,11 @@ fn complement_away(neighbours: &mut [u64], codes: &mut [u8], q: usize)
 {
     let mut rest = neighbours[q];
     let around = rest | single(q);
+    let sixes = row_of_six();
     while rest != 0 {
         let i = smallest(rest);
-        codes[i] = compose_fixed(6, codes[i]);
+        let code = codes[i];
+        codes[i] = sixes[code as usize];
         neighbours[i] = neighbours[i] ^ flip(around, i);
         rest = without_smallest(rest);
     }

@@ -1,4 +1,5 @@
 // Complements of a record in its buffers, and codes put before those of its vertices.
+use clifford_tables::row_of_six;
 use operations::compose_fixed;
 use words::flip;
 use words::smallest;
@@ -55,10 +56,12 @@ fn complement_around(neighbours: &mut [u64], codes: &mut [u8], a: usize)
         (then (cliffordOf 6) (codesOf (now (codes .entry)) q)) (codesOf (now (codes .entry)) q))) ⌝ }
 {
     let around = neighbours[a];
+    let sixes = row_of_six();
     let mut rest = around;
     while rest != 0 {
         let i = smallest(rest);
-        codes[i] = compose_fixed(6, codes[i]);
+        let code = codes[i];
+        codes[i] = sixes[code as usize];
         neighbours[i] = neighbours[i] ^ flip(around, i);
         rest = without_smallest(rest);
     }

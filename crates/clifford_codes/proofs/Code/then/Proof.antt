@@ -25,14 +25,6 @@ returns-2 c =
 returns-3 : tie.Need-returns-3
 returns-3 c =
     let a = c .before .before .args in
-    let k : 6 ≡ a .self .index = omega arith in (
-      c .after-six .ensures .0 ∙ ap (λ v. codeOf (then (cliffordOf v) (cliffordOf (a .next .index)))) k,
-      c .after-six .ensures .1,
-    )
-
-returns-4 : tie.Need-returns-4
-returns-4 c =
-    let a = c .before .before .args in
     let k : 13 ≡ a .self .index = omega arith in (
       c .after-thirteen .ensures .0 ∙ ap (λ v. codeOf (then (cliffordOf v) (cliffordOf (a .next .index)))) k,
       c .after-thirteen .ensures .1,
@@ -41,5 +33,5 @@ returns-4 c =
 pub then-spec : {M : Type 1} → statement M
 then-spec =
     tie.close
-    (tie.spec (λ c κs. search needs) (λ c κs. search needs) (λ c κs. search needs) (λ c κs. search needs)
-    (λ c κs. search needs) returns returns-2 returns-3 returns-4 (λ c. search needs))
+    (tie.spec (λ c κs. search needs) (λ c κs. search needs) (λ c κs. search needs) (λ c κs. search needs) returns
+    returns-2 returns-3 (λ c. search needs))
