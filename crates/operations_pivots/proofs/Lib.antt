@@ -1,2 +1,4 @@
+pub mod FlippedRows
 pub mod PivotCodes
 pub mod PivotedRecords
+pub mod ThreePasses

@@ -1,10 +1,10 @@
--- A pivot on the buffers of a record: what its loop leaves.
+-- A pivot on the buffers of a record: what it leaves.
 use mathlib.Core.Bool.{cond, false, or-false, true, _||_}
 use mathlib.Core.List.{List}
 use mathlib.Core.Path.{ap, ap₂, subst, sym, _∙_, _≡_}
 use Prim.Native.Nat.{_<_, _^_, ℕ, _≤_}
 use native.Mathlib.Decide.{ℕ-discrete}
-use lib.Bits.{bitOr, or-lt}
+use lib.Bits.{bitOr}
 use lib.Dec.{eqb}
 use lib.ListN.{getD, length, length-set, set}
 use lib.Seq.{getD-set-other, getD-set-same}
@@ -34,12 +34,6 @@ use Rattle.words.proofs.BitLaws.{bit-or}
 use Rattle.words.proofs.Places.{other-place, same-place}
 use Rattle.words.specs.Bits.{bit}
 use Rattle.operations_pivots.proofs.PivotCodes.{pivot-code, pivotedCode}
-
--- two sets of vertices, as one
-pub both-below : (words codes : List ℕ) → Unrefused (recordIn words codes) → (v w : ℕ) → v < 2 ^ (length words)
-    → w < 2 ^ (length words) → bitOr v w < 2 ^ (length codes)
-both-below words codes U v w hv hw = subst (λ m. bitOr v w < 2 ^ m) (sym (unrefused-long words codes U))
-    (or-lt (length words) v w hv hw)
 
 module _ (words codes : List ℕ) (U : Unrefused (recordIn words codes)) (j k : ℕ) (hj : j < length words)
     (hk : k < length words) where

@@ -1,13 +1,12 @@
 // Pivots of a record in its buffers.
-use graph::joined_word;
 use operations::compose;
 use operations::compose_fixed;
 use words::single;
 use words::smallest;
 use words::without_smallest;
-ghost use mathlib.Core.Bool.{cond, true};
+ghost use mathlib.Core.Bool.{_&&_, cond, true};
 ghost use mathlib.Core.Path.{_≡_};
-ghost use Prim.Native.Nat.{_<_, _^_};
+ghost use Prim.Native.Nat.{_<_, _^_, ℕ, _≤_};
 ghost use lib.Bits.{bitOr};
 ghost use lib.ListN.{getD, length};
 ghost use Rattle.buffers.specs.Buffers.{tabulate};
@@ -18,9 +17,29 @@ ghost use Rattle.graph.specs.internal.NeighbourWords.{SameGraph};
 ghost use Rattle.graph.specs.NeighbourWords.{graphIn};
 ghost use Rattle.operations.specs.internal.InPlace.{Rewritten, Unrefused, recordIn};
 ghost use Rattle.operations.specs.Steps.{pivotRecord};
-ghost use Rattle.words.specs.Bits.{bit};
+ghost use Rattle.words.specs.Bits.{bit, _⊕_};
 
-// The edges between the two sets flipped, and 2 before the codes of their vertices.
+// Each of these vertices gets the word flipped in its own, and 2 before its code.
+fn turn_rows(neighbours: &mut [u64], codes: &mut [u8], rows: u64, word: u64)
+    requires { ⌜ (length (now neighbours) ≤ 64) × (length (now codes) ≡ length (now neighbours)) ⌝ }
+    requires { ⌜ ((q : ℕ) → getD (now codes) q 0 < 24) ⌝ }
+    requires { ⌜ «rows» < 2 ^ (length (now neighbours)) ⌝ }
+    ensures { λ r. ⌜ SameGraph (graphIn (now (neighbours .exit)))
+        (λ k l. graphIn (now (neighbours .entry)) k l ⊕ (bit «rows» k && bit «word» l)) ⌝ }
+    ensures { λ r. ⌜ now (codes .exit) ≡ tabulate (length (now (codes .entry))) (λ q. codeOf (cond (bit «rows» q)
+        (then (cliffordOf 2) (codesOf (now (codes .entry)) q)) (codesOf (now (codes .entry)) q))) ⌝ }
+{
+    let mut rest = rows;
+    while rest != 0 {
+        let i = smallest(rest);
+        codes[i] = compose_fixed(2, codes[i]);
+        neighbours[i] = neighbours[i] ^ word;
+        rest = without_smallest(rest);
+    }
+}
+
+// The edges between the two sets flipped, and 2 before the codes of their vertices. A vertex of the first set alone gets
+// the second set's word, one of the second alone the first's, and one of both the xor of the two.
 pub fn join_turning(neighbours: &mut [u64], codes: &mut [u8], to_a: u64, to_b: u64)
     requires { ⌜ Unrefused (recordIn (now neighbours) (now codes)) ⌝ }
     requires { ⌜ («to_a» < 2 ^ (length (now neighbours))) × («to_b» < 2 ^ (length (now neighbours))) ⌝ }
@@ -30,13 +49,10 @@ pub fn join_turning(neighbours: &mut [u64], codes: &mut [u8], to_a: u64, to_b: u
         (bit (bitOr «to_a» «to_b») q)
         (then (cliffordOf 2) (codesOf (now (codes .entry)) q)) (codesOf (now (codes .entry)) q))) ⌝ }
 {
-    let mut rest = to_a | to_b;
-    while rest != 0 {
-        let i = smallest(rest);
-        codes[i] = compose_fixed(2, codes[i]);
-        neighbours[i] = joined_word(neighbours[i], to_a, to_b, i);
-        rest = without_smallest(rest);
-    }
+    let both = to_a & to_b;
+    turn_rows(neighbours, codes, to_a ^ both, to_b);
+    turn_rows(neighbours, codes, to_b ^ both, to_a);
+    turn_rows(neighbours, codes, both, to_a ^ to_b);
 }
 
 // Pivots the record on the edge j, k, which complements j, k, j: the edges between j with its neighbours and k with its
