@@ -62,8 +62,8 @@
 
 /* The version of this header: major * 10000 + minor * 100 + patch, and as a text.
  * sukhlent_version answers that of the library. */
-#define SUKHLENT_VERSION 1403
-#define SUKHLENT_VERSION_TEXT "0.14.3"
+#define SUKHLENT_VERSION 1404
+#define SUKHLENT_VERSION_TEXT "0.14.4"
 
 /* Refusals by name, in checking order. */
 #define SUKHLENT_ACCEPTED 0
