@@ -49,7 +49,8 @@
  *   10  the generators are dependent
  *    3  a connected part of either reduced graph of a comparison has more than 20 vertices
  *   14  a determined outcome contradicts the supplied bit
- *   11  the image loop stops with some C = 1
+ *   11  the image is that of no graph: the image loop (docs/ENGINE.md) stops with some C = 1, a code
+ *       that sends Z to a letter other than Z
  *   12  it stops with every C = 0, but the image has Y at some vertex's own place
  *   13  no choice of local Cliffords carries one group to the other
  * Under each call stand the numbers that it can answer.
@@ -122,6 +123,11 @@
 #define SUKHLENT_LIST_PLACES 96
 #define SUKHLENT_TEXT_PLACES 61463
 #define SUKHLENT_ORBIT_PLACES 32768
+#define SUKHLENT_HEAD_PLACES 24
+#define SUKHLENT_HELD_PLACES 512
+
+/* The most steps of a run. */
+#define SUKHLENT_MOST_STEPS 4096
 
 /* Recipes (examples/c/recipes.c).
  *
@@ -134,6 +140,11 @@
  *   sukhlent_expand and sukhlent_reduce.
  * Many steps: sukhlent_run does up to 4,096 in one call and checks the record once
  *   (examples/c/run.c).
+ * Pointers: none is null, also where a length is 0, and each is aligned for its type.
+ * Stores: the three buffers of a store are in the machine's byte order, and may be kept in a file as
+ *   they are; every call checks what it is lent.
+ * Versions: before 1.0 a minor version may change a signature. A program that loads the library
+ *   itself compares sukhlent_version() / 100 with SUKHLENT_VERSION / 100.
  * Threads: no call keeps anything between calls. Two threads may call at once, each with buffers
  *   of its own for what is not const.
  * Stack: a call takes at most 10 kB, and no heap (measured, not proved: docs/SPEED.md). */
@@ -159,7 +170,7 @@ static inline const char *sukhlent_refusal_text(uint8_t number)
     case SUKHLENT_DEPENDENT: return "the generators are dependent";
     case SUKHLENT_LARGE: return "a connected part has more than 20 vertices";
     case SUKHLENT_CONTRADICTED: return "a determined outcome contradicts the supplied bit";
-    case SUKHLENT_IMAGE_C: return "the image loop stops with some C = 1";
+    case SUKHLENT_IMAGE_C: return "the image is that of no graph: the image loop stops with some C = 1";
     case SUKHLENT_IMAGE_Y: return "the image has Y at some vertex's own place";
     case SUKHLENT_INEQUIVALENT: return "no choice of local Cliffords carries one group to the other";
     default: return "no number of the published list";
@@ -247,8 +258,8 @@ uint8_t sukhlent_complement(uint64_t n,
  * the word of used qubits is kept from step to step, and all seven slices have one length.
  * Writes of each step its refusal, or 0, to refusals[k], and of an accepted measurement what
  * sukhlent_measure answers to outcomes[k] and determined[k], where every other step has 0 and 0. A
- * step is refused by 6 (a field that it does not use is not 0, a value is none), 8, 16 or 14, and
- * then changes nothing; the steps behind it run.
+ * step is refused by 6 (a field that it does not use is not 0, a code is above 23, or a measurement's
+ * value above 5), 8, 16 or 14, and then changes nothing; the steps behind it run.
  * Refusals: 15 (`ops` has more than 4,096 places, whatever the other slices have), 2, 4, 5, 6 (also
  * where a number of `ops` is above 4), 7. */
 uint8_t sukhlent_run(uint64_t n,

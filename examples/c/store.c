@@ -7,8 +7,10 @@
 #include <string.h>
 #include "sukhlent.h"
 
-static uint64_t n = 2, used, neighbours[64], heads[24], held_neighbours[512];
-static uint8_t codes[64] = {8, 8}, held_codes[512];
+enum { HEADS = SUKHLENT_HEAD_PLACES, HELD = SUKHLENT_HELD_PLACES };
+
+static uint64_t n = 2, used, neighbours[64], heads[HEADS], held_neighbours[HELD];
+static uint8_t codes[64] = {8, 8}, held_codes[HELD];
 
 static void accept(uint8_t number) {
     if (number != SUKHLENT_ACCEPTED) {
@@ -36,7 +38,7 @@ static void measured(uint8_t outcome) {
 }
 
 static uint8_t forget(uint64_t name) {
-    return sukhlent_forget(name, heads, 24, held_neighbours, 512, held_codes, 512);
+    return sukhlent_forget(name, heads, HEADS, held_neighbours, HELD, held_codes, HELD);
 }
 
 int main(void) {
@@ -48,10 +50,10 @@ int main(void) {
     gate(1, 8);
     show("a Bell pair");
     accept(sukhlent_save(n, neighbours, n, codes, n, used, pair,
-                         heads, 24, held_neighbours, 512, held_codes, 512));
+                         heads, HEADS, held_neighbours, HELD, held_codes, HELD));
     measured(0);
     show("Z at 0 gave 0");
-    accept(sukhlent_return(pair, heads, 24, held_neighbours, 512, held_codes, 512,
+    accept(sukhlent_return(pair, heads, HEADS, held_neighbours, HELD, held_codes, HELD,
                            &n, neighbours, 64, codes, 64, &used));
     show("the pair again");
     measured(1);

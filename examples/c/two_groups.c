@@ -7,12 +7,12 @@
 #include <string.h>
 #include "sukhlent.h"
 
-enum { N = 64, LOWER = 0, UPPER = 1 };
+enum { N = 64, LOWER = 0, UPPER = 1, HEADS = SUKHLENT_HEAD_PLACES, HELD = SUKHLENT_HELD_PLACES };
 
 /* What the groups share: the record, the word, bit q the group of qubit q, and the store. */
 static const uint64_t word = UINT64_C(0xffffffff00000000);
-static uint64_t used, neighbours[N], heads[24], held_neighbours[512];
-static uint8_t codes[N], held_codes[512];
+static uint64_t used, neighbours[N], heads[HEADS], held_neighbours[HELD];
+static uint8_t codes[N], held_codes[HELD];
 
 static void accept(uint8_t number) {
     if (number != SUKHLENT_ACCEPTED) {
@@ -35,7 +35,7 @@ static void join(uint64_t a, uint64_t b) {
 
 static uint8_t return_to(uint8_t group, uint64_t name) {
     return sukhlent_group_return(N, word, group, neighbours, N, codes, N, &used, name,
-                                 heads, 24, held_neighbours, 512, held_codes, 512);
+                                 heads, HEADS, held_neighbours, HELD, held_codes, HELD);
 }
 
 /* The vertices of a group that are not in +Z as at the start, each with its neighbour word and its
@@ -60,7 +60,7 @@ int main(void) {
     cz(LOWER, 0, 1);
     cz(LOWER, 0, 2);
     accept(sukhlent_group_save(N, word, LOWER, neighbours, N, codes, N, used, star,
-                               heads, 24, held_neighbours, 512, held_codes, 512));
+                               heads, HEADS, held_neighbours, HELD, held_codes, HELD));
     show("lower, a star", LOWER);
 
     for (uint64_t q = 40; q < 43; q++)
@@ -88,7 +88,7 @@ int main(void) {
     printf("joined: %u, %u\n", (unsigned)first, (unsigned)second);
     join(1, 40);
     accept(sukhlent_group_forget(N, word, LOWER, neighbours, N, codes, N, used, star,
-                                 heads, 24, held_neighbours, 512, held_codes, 512));
+                                 heads, HEADS, held_neighbours, HELD, held_codes, HELD));
     show("parted: lower", LOWER);
     show("parted: upper, reduced by the operator", UPPER);
     return 0;

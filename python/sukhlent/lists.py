@@ -134,7 +134,7 @@ class GeneratorList:
         return library.octets(self.signs), library.words(self.z), library.words(self.x)
 
     def check(self) -> None:
-        """Raises `Refusal` where the list is none: wrong words, not commuting, or dependent.
+        """Raises `Refusal` where this is no generator list: wrong words, not commuting, or dependent.
 
         >>> GeneratorList((0, 0), (0, 0), (3, 3)).check()
         Traceback (most recent call last):

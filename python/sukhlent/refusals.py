@@ -22,7 +22,7 @@ TEXTS: dict[int, str] = {
     10: "the generators are dependent",
     3: "a connected part has more than 20 vertices",
     14: "a determined outcome contradicts the supplied bit",
-    11: "the image loop stops with some C = 1",
+    11: "the image is that of no graph: the image loop stops with some C = 1",
     12: "the image has Y at some vertex's own place",
     13: "no choice of local Cliffords carries one group to the other",
 }

@@ -9,6 +9,9 @@ use std::fmt;
 /// Generator `j` is X at `j` and Z at the neighbours of `j`, each place sent through its code. The
 /// used word plays no part in it.
 ///
+/// `==` compares the three fields. Two states are equal exactly where their reduced records have
+/// equal neighbours and codes.
+///
 /// ```
 /// use sukhlent::{codes, expand, Record};
 ///

@@ -30,8 +30,8 @@ pub enum Refusal {
     /// A word has a bit outside of the qubits.
     #[doc(alias = "SUKHLENT_STRAY")]
     StrayBit = 5,
-    /// A sign, an outcome, a group, a code, a Pauli, a seed or a run's operation is none, or a step
-    /// has a number where it uses none.
+    /// A sign, outcome or group is above 1, a code above 23, a Pauli not 1 to 3, a seed 0, an
+    /// operation above 4, or a field that a step does not use is not 0.
     #[doc(alias = "SUKHLENT_VALUE")]
     Value = 6,
     /// A graph is not simple, a used vertex is not as a measurement leaves it, a store holds a name
@@ -47,7 +47,7 @@ pub enum Refusal {
     /// The generators are dependent.
     #[doc(alias = "SUKHLENT_DEPENDENT")]
     Dependent = 10,
-    /// The image is that of no graph: its x bits have no full rank.
+    /// The image is that of no graph: its x bits do not have full rank.
     #[doc(alias = "SUKHLENT_IMAGE_C")]
     NoGraph = 11,
     /// The image is that of no simple graph: it has a loop.
@@ -171,7 +171,7 @@ impl Refusal {
             Refusal::Dependent => "the generators are dependent",
             Refusal::Comparison => "a connected part has more than 20 vertices",
             Refusal::Contradiction => "a determined outcome contradicts the supplied bit",
-            Refusal::NoGraph => "the image loop stops with some C = 1",
+            Refusal::NoGraph => "the image is that of no graph: the image loop stops with some C = 1",
             Refusal::Loop => "the image has Y at some vertex's own place",
             Refusal::Inequivalent => "no choice of local Cliffords carries one group to the other",
         }

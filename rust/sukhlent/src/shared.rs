@@ -107,7 +107,7 @@ impl Shared {
 
     /// Works on the whole record, as its operator. Where this leaves an edge between the two groups,
     /// every call of either group is refused, by 19 if by no number before it, until no edge joins
-    /// them.
+    /// them; where it leaves no record of 64 qubits, by 2, 4, 5, 6 or 7.
     ///
     /// ```
     /// use sukhlent::{codes, cz, gate, Refusal, Shared};

@@ -54,8 +54,8 @@ pub fn least_choice(n: usize, first: &Group, second: &Group) -> Option<Choice> {
         second,
         table: class_table(&first.generators[..n], &second.generators[..n]),
     };
-    let shut = |q: usize| (0..6).all(|class| search.table.broken_alone(q, classes(1, q, class)));
-    if (0..n).any(shut) {
+    let no_class = |q: usize| (0..6).all(|class| search.table.broken_alone(q, classes(1, q, class)));
+    if (0..n).any(no_class) {
         return None;
     }
     search.classes([0; 20], 1, 0)
