@@ -171,7 +171,9 @@ impl Refusal {
             Refusal::Dependent => "the generators are dependent",
             Refusal::Comparison => "a connected part has more than 20 vertices",
             Refusal::Contradiction => "a determined outcome contradicts the supplied bit",
-            Refusal::NoGraph => "the image is that of no graph: the image loop stops with some C = 1",
+            Refusal::NoGraph => {
+                "the image is that of no graph: the image loop stops with some C = 1"
+            }
             Refusal::Loop => "the image has Y at some vertex's own place",
             Refusal::Inequivalent => "no choice of local Cliffords carries one group to the other",
         }

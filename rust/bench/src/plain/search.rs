@@ -54,7 +54,8 @@ pub fn least_choice(n: usize, first: &Group, second: &Group) -> Option<Choice> {
         second,
         table: class_table(&first.generators[..n], &second.generators[..n]),
     };
-    let no_class = |q: usize| (0..6).all(|class| search.table.broken_alone(q, classes(1, q, class)));
+    let no_class =
+        |q: usize| (0..6).all(|class| search.table.broken_alone(q, classes(1, q, class)));
     if (0..n).any(no_class) {
         return None;
     }
