@@ -1,13 +1,11 @@
 -- The call on two lists, from what the functions below it answer.
-use mathlib.Core.Bool.{Bool, false, not, true, _||_}
+use mathlib.Core.Bool.{Bool, false, true, _||_}
 use mathlib.Core.List.{List}
 use mathlib.Core.Path.{ap, ap₂, refl, subst, sym, _∙_, _≡_}
 use Prim.Native.Nat.{ℕ, _≤_}
-use lib.Dec.{eqb}
 use lib.ListN.{length}
-use borrow.Author.Tests.{eqb-true, not-false}
 use Rattle.buffers.proofs.Lines.{fits, more-accepted, passed}
-use Rattle.buffers.specs.Refusals.{badCount, firstFitting, otherThan}
+use Rattle.buffers.specs.Refusals.{firstFitting, otherThan}
 use Rattle.comparison.specs.Compared.{pairCount, pairLines}
 use Rattle.contracts.proofs.Calling.{refused, written-all}
 use Rattle.contracts.proofs.Fitting.{stays}
@@ -15,7 +13,7 @@ use Rattle.contracts.specs.Calls.{Call}
 use Rattle.pauli.specs.Pauli.{Pauli}
 use Rattle.record.specs.Accepted.{AcceptedRecord}
 use Rattle.stabilizer.proofs.Accepted.{accepted-list}
-use Rattle.stabilizer.proofs.SharedTests.{counted, has-length, length-passes}
+use Rattle.stabilizer.proofs.SharedTests.{has-length, length-passes}
 use Rattle.stabilizer.specs.Lists.{GeneratorList, listLengths, rows}
 use Rattle.words.proofs.Finite.{bits}
 use Rattle.words.proofs.Flags.{neither}

@@ -1,16 +1,13 @@
 -- The call on two records, from what the functions below it answer: the number of two records together is the earlier of
 -- their numbers, and reduced copies hold the reduced records of the records' generators.
-use mathlib.Core.Bool.{Bool, false, not, true, _||_}
-use mathlib.Core.List.{List, [], _∷_}
+use mathlib.Core.Bool.{Bool, false, true, _||_}
+use mathlib.Core.List.{List}
 use mathlib.Core.Path.{ap, ap₂, refl, subst, sym, _∙_, _≡_}
 use Prim.Native.Nat.{ℕ, _≤_}
-use lib.Dec.{eqb, eqb→eq, lit<}
 use lib.ListN.{length}
-use borrow.Author.Tests.{eqb-true, not-false}
 use Rattle.calls.proofs.RecordPairLines.{counts-agree, records-answered, records-number}
-use Rattle.buffers.proofs.Lines.{Numbered, fits, more-accepted, not-held, passed}
-use Rattle.buffers.specs.Refusals.{Refusal, badCount, firstFitting, line, otherThan}
-use Rattle.comparison.specs.Choices.{noChoice}
+use Rattle.buffers.proofs.Lines.{fits, not-held}
+use Rattle.buffers.specs.Refusals.{firstFitting, otherThan}
 use Rattle.comparison_answer.proofs.ReducedPairs.{reduced-accepted}
 use Rattle.comparison.specs.internal.ComparedPairs.{HoldsReduced, PairAnswered}
 use Rattle.contracts.proofs.Calling.{refused}
@@ -20,29 +17,12 @@ use Rattle.earliest.proofs.EarlierNumbers.{earlier-none}
 use Rattle.earliest.specs.internal.Earlier.{earlierOf}
 use Rattle.graph_steps.specs.internal.KeptGroups.{Normalised}
 use Rattle.operations.specs.internal.InPlace.{Unrefused, recordIn}
-use Rattle.parts.specs.Parts.{partAbove}
 use Rattle.record.proofs.AcceptedRecords.{accepted-record}
 use Rattle.record.specs.Accepted.{AcceptedRecord}
-use Rattle.record.specs.Lent.{
-  LentRecord,
-  heldRecord,
-  heldRows,
-  notSimple,
-  recordCodes,
-  recordLengths,
-  recordLines,
-  recordStray,
-}
-use Rattle.record.specs.Reduced.{reducedGraph}
+use Rattle.record.specs.Lent.{LentRecord, heldRows, recordLengths, recordLines}
 use Rattle.stabilizer.proofs.SharedTests.{has-length}
-use Rattle.words.proofs.Finite.{Law, Of, law}
 use Rattle.words.proofs.Flags.{neither}
-use Rattle.calls.specs.RecordComparisons.{
-  compareRecordsCall,
-  recordLargePart,
-  recordsCount,
-  recordsLines,
-}
+use Rattle.calls.specs.RecordComparisons.{compareRecordsCall, recordsCount, recordsLines}
 
 -- ---- reduced copies
 -- a copy that was reduced holds the reduced record

@@ -12,13 +12,10 @@ use Rattle.contracts.proofs.Calling.{done, refused}
 use Rattle.contracts.proofs.Fitting.{decides, stays}
 use Rattle.contracts.specs.Answers.{here, later, none}
 use Rattle.contracts.specs.Calls.{Call}
-use Rattle.earliest.proofs.EarlierNumbers.{earlier-none}
 use Rattle.earliest.specs.internal.Earlier.{earlierOf}
 use Rattle.record.specs.Accepted.{AcceptedRecord}
-use Rattle.store.proofs.ManyRecords.{earlier-of-two, told-by-number}
 use Rattle.store.proofs.PassingStores.{held-record, store-accepted}
 use Rattle.store.proofs.SavePlaces.{full, not-full}
-use Rattle.store.proofs.StoreNumbers.{record-number}
 use Rattle.store.specs.Kept.{savePlace, saved}
 use Rattle.store.specs.Places.{Store}
 use Rattle.store.specs.StoreLines.{holdsLine, ofRecord, recordTests, saveLines, storeLines}

@@ -1,31 +1,27 @@
 -- The call that reads, from what the functions below it answer. Lines 5 and 6 hold of no list that is read.
 use mathlib.Core.Bool.{false, true, _||_}
 use mathlib.Core.List.{_++_, List}
-use mathlib.Core.Path.{ap, ap₂, refl, subst, sym, _∙_, _≡_}
-use Prim.Native.Nat.{_^_, ℕ, _≤_}
+use mathlib.Core.Path.{ap, refl, subst, sym, _∙_, _≡_}
+use Prim.Native.Nat.{ℕ, _≤_}
 use native.Mathlib.Omega.{arith}
 use lib.ListN.{getD, length, length-take, take}
 use lib.Seq.{getD-take}
 use borrow.Author.Tests.{not-false}
 use Rattle.calls.proofs.ListedNumbers.{listed-number}
-use Rattle.buffers.proofs.Lines.{more-accepted}
 use Rattle.buffers.proofs.Tabulate.{tabulate-at, tabulate-cong, tabulate-length}
 use Rattle.buffers.specs.Buffers.{tabulate}
 use Rattle.buffers.specs.Refusals.{badCount, firstFitting, otherThan}
 use Rattle.contracts.proofs.Calling.{done, refused}
-use Rattle.contracts.proofs.Fitting.{NoneHolds, decides, fits-at, none-fits-of, none-holds, stays}
+use Rattle.contracts.proofs.Fitting.{NoneHolds, decides, fits-at, none-holds, stays}
 use Rattle.contracts.specs.Calls.{Call}
 use Rattle.calls.specs.Lists.{checkCall}
-use Rattle.pauli.specs.Pauli.{Pauli, signBit}
-use Rattle.stabilizer.proofs.EarlyLines.{form-numbered}
-use Rattle.stabilizer.proofs.SharedTests.{counted, has-length, length-passes, table-passes}
-use Rattle.stabilizer.specs.Lists.{formLines, listLines, listOf}
+use Rattle.stabilizer.proofs.SharedTests.{counted, has-length}
+use Rattle.stabilizer.specs.Lists.{listLines, listOf}
 use Rattle.strings.proofs.BackLaws.{buffers, same-buffers}
 use Rattle.strings.proofs.FormLaws.{form-lines, form-size}
 use Rattle.strings.specs.Reading.{byteAt, formedLines, judgedLines, lineCount, rowOf, stringForm, stringList}
 use Rattle.strings.specs.Strings.{textSize}
 use Rattle.strings_scan.specs.internal.Generators.{LinesFit}
-use Rattle.words.proofs.BitLaws.{digit-lt, wordOf-lt}
 use Rattle.words.proofs.Flags.{neither}
 use Rattle.calls.specs.Strings.{readStringsCall}
 

@@ -1,12 +1,12 @@
 -- Buffers that hold reduced records: what the comparison of two of them answers for the lists.
-use mathlib.Core.Bool.{Bool, cond, false, true, _||_}
+use mathlib.Core.Bool.{Bool, false, true, _||_}
 use mathlib.Core.List.{List}
 use mathlib.Core.Logic.{inl, inr, _⊎_}
 use mathlib.Core.Path.{ap, ap₂, refl, subst, sym, _∙_, _≡_}
-use Prim.Native.Nat.{_%_, _*_, _+_, _/_, _<_, _^_, ℕ, _≤_}
+use Prim.Native.Nat.{_<_, ℕ, _≤_}
 use lib.Dec.{lit<}
 use lib.ListN.{List·getD-eq-default, getD, length, take}
-use borrow.Author.Tests.{le-ltb, not-false, not-true}
+use borrow.Author.Tests.{not-false, not-true}
 use Rattle.buffers.proofs.Lines.{fits, none-fits, passed}
 use Rattle.buffers.proofs.Tabulate.{tabulate-at, tabulate-cong, tabulate-length}
 use Rattle.buffers.specs.Buffers.{tabulate, written}
@@ -17,7 +17,7 @@ use Rattle.clifford.specs.Vectors.{codesOf}
 use Rattle.comparison.proofs.ComparedRecords.{same-answer}
 use Rattle.comparison.proofs.LeastCodes.{least-held}
 use Rattle.comparison.proofs.NumberOrder.{choice-lt}
-use Rattle.comparison.specs.Choices.{choice, digitAt, leastCode, leastNumber, noChoice}
+use Rattle.comparison.specs.Choices.{choice, leastCode, leastNumber, noChoice}
 use Rattle.comparison.specs.Compared.{induced}
 use Rattle.comparison.specs.internal.Compared.{inducedCode}
 use Rattle.comparison.specs.internal.Searches.{LeastAnswer}

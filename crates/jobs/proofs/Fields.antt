@@ -1,6 +1,6 @@
 -- The fields of a step tested without a branch on its operation.
 use mathlib.Core.Bool.{not, or-false, _&&_, _||_}
-use mathlib.Core.Path.{_≡_, refl, sym}
+use mathlib.Core.Path.{_≡_, refl}
 use Prim.Native.Nat.{ℕ, _<_}
 use lib.Dec.{eqb, leb}
 use borrow.Author.Tests.{lt-leb}

@@ -5,16 +5,14 @@ use mathlib.Core.Path.{ap, ap₂, sym, _∙_, _≡_}
 use Prim.Native.Nat.{_*_, _+_, _<_, _^_, ℕ, _≤_}
 use native.Mathlib.Nat.{min-eq-left}
 use native.Mathlib.Omega.{arith}
-use lib.Dec.{eqb}
 use lib.ListN.{length, take}
 use lib.Pow.{pow-mono}
-use borrow.Author.Tests.{eq-eqb, le-ltb, lt-ltb, ne-eqb}
+use borrow.Author.Tests.{eq-eqb, ne-eqb}
 use Rattle.calls.proofs.PlotLines.{many-refused, same-number}
 use Rattle.amplitude.specs.Ratios.{lowest, plotAt}
 use Rattle.amplitude_answer.specs.internal.Plottable.{Plottable}
-use Rattle.buffers.proofs.Lines.{fits, passed}
 use Rattle.buffers.specs.Refusals.{firstFitting}
-use Rattle.calls.specs.Lists.{checkLines, reduceCall}
+use Rattle.calls.specs.Lists.{reduceCall}
 use Rattle.contracts.proofs.Calling.{written-all}
 use Rattle.contracts.specs.Calls.{Call}
 use Rattle.list_reply.proofs.Answering.{number-is, number-small}

@@ -1,19 +1,15 @@
 -- The lines of the call over many steps: how its number is found, and what it means that none of them holds.
 use mathlib.Core.Bool.{Bool, false}
 use mathlib.Core.List.{List, _∷_}
-use mathlib.Core.Path.{_∙_, _≡_, ap, ap₂, refl, sym}
+use mathlib.Core.Path.{_∙_, _≡_, ap, sym}
 use Prim.Native.Nat.{_<_, _^_, _≤_, ℕ}
 use lib.Dec.{leb, ltb}
 use lib.ListN.{length}
 use borrow.Author.Tests.{le-ltb, lt-ltb}
-use Rattle.buffers.proofs.Lines.{fits, not-held, passed}
-use Rattle.buffers.specs.Refusals.{Refusal, firstFitting, line, reaching}
-use Rattle.contracts.proofs.Fitting.{NoneHolds, none-holds}
-use Rattle.record.specs.Lent.{recordCodes, recordLengths, recordLines}
-use Rattle.used.proofs.UsedPassing.{lines-pass}
-use Rattle.used.specs.Used.{UsedRecord, UsedUnrefused, usedLines}
+use Rattle.buffers.proofs.Lines.{fits, passed}
+use Rattle.buffers.specs.Refusals.{firstFitting, line, reaching}
+use Rattle.used.specs.Used.{UsedRecord, usedLines}
 use Rattle.used_checks.proofs.UsedNumbers.{no-further}
-use Rattle.words.proofs.Flags.{neither}
 
 module _ (u : UsedRecord) (ops : List ℕ) (others : Bool) where
   -- more than 4,096 steps

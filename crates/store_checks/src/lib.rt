@@ -4,7 +4,7 @@ use earliest::earlier;
 use store_places::find;
 use store_places::word_at;
 use used_checks::used_refusal;
-ghost use mathlib.Core.Bool.{cond, false, not, _||_};
+ghost use mathlib.Core.Bool.{cond, false, not};
 ghost use mathlib.Core.Path.{_≡_};
 ghost use Prim.Native.Nat.{_*_, _≤_};
 ghost use lib.Dec.{eqb};

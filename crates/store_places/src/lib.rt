@@ -2,7 +2,6 @@
 ghost use mathlib.Core.Bool.{not};
 ghost use mathlib.Core.Path.{_≡_};
 ghost use Prim.Native.Nat.{_≤_};
-ghost use lib.Dec.{eqb};
 ghost use lib.ListN.{getD};
 ghost use Rattle.store.specs.Kept.{savePlace};
 ghost use Rattle.store.specs.Places.{freePlace, hasName, isHeld, placeOf};

@@ -3,8 +3,6 @@ use borrow.Author.Needs.{needs}
 use Rattle.amplitude_lines.proofs.HalfPowers.{pattern-good, pattern-is}
 use Rattle.amplitude_lines.proofs.halves.Statement.{statement}
 use Rattle.amplitude_lines.proofs.halves.Tie as tie
-use Rattle.amplitude_lines.proofs.halves.Reads as reads
-use Rattle.amplitude_lines.proofs.halves.Lts as lts
 
 float-from-bits-result : tie.Need-float-from-bits-result
 float-from-bits-result c = pattern-good (c .args .r) (c .pre)

@@ -5,9 +5,6 @@ use lib.Ieee.{ofBits}
 use Rattle.amplitude.specs.Plotting.{nought, plotted}
 use Rattle.amplitude_lines.proofs.plot_line.Statement.{statement}
 use Rattle.amplitude_lines.proofs.plot_line.Tie as tie
-use Rattle.amplitude_lines.proofs.plot_line.Reads as reads
-use Rattle.amplitude_lines.proofs.plot_line.Lts as lts
-use Rattle.amplitude_lines.proofs.halves.Reads as halves-reads
 
 enum-told : tie.Need-enum-told
 enum-told c = search needs

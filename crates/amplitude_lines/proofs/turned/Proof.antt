@@ -6,8 +6,6 @@ use lib.Ieee.{neg, ofBits}
 use Rattle.amplitude.specs.Plotting.{turned}
 use Rattle.amplitude_lines.proofs.turned.Statement.{statement}
 use Rattle.amplitude_lines.proofs.turned.Tie as tie
-use Rattle.amplitude_lines.proofs.turned.Reads as reads
-use Rattle.amplitude_lines.proofs.turned.Lts as lts
 
 three : (k : ℕ) → k < 4 → (k ≡ 0 → ⊥) → (k ≡ 1 → ⊥) → (k ≡ 2 → ⊥) → k ≡ 3
 three zero h a b c = absurd (a refl)

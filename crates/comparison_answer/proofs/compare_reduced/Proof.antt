@@ -21,13 +21,6 @@ use Rattle.comparison_answer.proofs.ReducedPairs.{
 use borrow.Author.Needs.{needs}
 use Rattle.comparison_answer.proofs.compare_reduced.Statement.{statement}
 use Rattle.comparison_answer.proofs.compare_reduced.Tie as tie
-use Rattle.comparison_answer.proofs.compare_reduced.Reads as reads
-use Rattle.comparison_answer.proofs.compare_reduced.Lts as lts
-use Rattle.buffers.proofs.copy_list.Reads as copy-list-reads
-use Rattle.buffers.proofs.copy_bytes.Reads as copy-bytes-reads
-use Rattle.comparison_answer.proofs.induced_image.Reads as induced-image-reads
-use Rattle.comparison_parts.proofs.compare_parts.Reads as compare-parts-reads
-use Rattle.parts_words.proofs.part_above.Reads as part-above-reads
 
 -- src/lib.rt:88:8
 part-above-requires : tie.Need-part-above-requires

@@ -7,10 +7,6 @@ use Rattle.comparison_component.proofs.PartBuffers.{first-connected, fi
 use borrow.Author.Needs.{needs}
 use Rattle.comparison_component.proofs.compare_listed.Statement.{statement}
 use Rattle.comparison_component.proofs.compare_listed.Tie as tie
-use Rattle.comparison_component.proofs.compare_listed.Reads as reads
-use Rattle.comparison_component.proofs.compare_listed.Lts as lts
-use Rattle.comparison_search.proofs.compare_records.Reads as compare-records-reads
-use Rattle.parts_records.proofs.extract.Reads as extract-reads
 
 -- src/lib.rt:47:5
 extract-requires : tie.Need-extract-requires

@@ -5,8 +5,6 @@ use Rattle.comparison_component.proofs.Placing.{Placing, placing-end, p
 use borrow.Author.Needs.{needs}
 use Rattle.comparison_component.proofs.placed.Statement.{statement}
 use Rattle.comparison_component.proofs.placed.Tie as tie
-use Rattle.comparison_component.proofs.placed.Reads as reads
-use Rattle.comparison_component.proofs.placed.Lts as lts
 
 abbrev Inv-loop : tie.InvT-loop
 Inv-loop k at chosen whole₀ i₀ whole i = (i ≤ k) × Placing at chosen whole₀ whole i

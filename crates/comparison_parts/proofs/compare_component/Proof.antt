@@ -15,12 +15,6 @@ use Rattle.comparison_component.specs.internal.Components.{NumberedPair, PartAn
 use borrow.Author.Needs.{needs}
 use Rattle.comparison_parts.proofs.compare_component.Statement.{statement}
 use Rattle.comparison_parts.proofs.compare_component.Tie as tie
-use Rattle.comparison_parts.proofs.compare_component.Reads as reads
-use Rattle.comparison_parts.proofs.compare_component.Lts as lts
-use Rattle.comparison_component.proofs.compare_listed.Reads as compare-listed-reads
-use Rattle.comparison_component.proofs.placed.Reads as placed-reads
-use Rattle.parts_records.proofs.vertices.Reads as vertices-reads
-use Rattle.parts_words.proofs.spread.Reads as spread-reads
 
 -- src/lib.rt:85:8
 -- src/lib.rt:86:9

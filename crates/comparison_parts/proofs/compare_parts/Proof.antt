@@ -20,12 +20,6 @@ use Rattle.comparison_component.specs.internal.Components.{ComponentAnswer, Pro
 use borrow.Author.Needs.{needs}
 use Rattle.comparison_parts.proofs.compare_parts.Statement.{statement}
 use Rattle.comparison_parts.proofs.compare_parts.Tie as tie
-use Rattle.comparison_parts.proofs.compare_parts.Reads as reads
-use Rattle.comparison_parts.proofs.compare_parts.Lts as lts
-use Rattle.comparison_parts.proofs.compare_component.Reads as compare-component-reads
-use Rattle.parts_words.proofs.part.Reads as part-reads
-use Rattle.words.proofs.mask.Reads as mask-reads
-use Rattle.words.proofs.smallest.Reads as smallest-reads
 
 abbrev Inv-loop : tie.InvT-loop
 Inv-loop n neighbours codes neighbours2 codes2 choice₀ rest₀ choice rest =

@@ -1,6 +1,6 @@
 -- `look` meets its contract: whether a code is 24 or more, and the vertices whose codes are odd, or 8 or more.
 use mathlib.Core.Path.{_≡_}
-use Prim.Native.Nat.{_%_, _-_, _≤_}
+use Prim.Native.Nat.{_%_, _≤_}
 use native.Mathlib.Omega.{arith}
 use lib.ListN.{length}
 use borrow.Author.Needs.{needs}

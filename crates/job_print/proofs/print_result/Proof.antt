@@ -1,5 +1,4 @@
 -- `print_result` meets its contract: the line of step k.
-use Rattle.job_print.proofs.print_result.Lts as lts
 use Rattle.job_text.proofs.ResultLaws.{length-step, length-three, line-parts, threeFields}
 use Rattle.job_text.specs.Results.{Result}
 use Rattle.job_text.specs.Text.{digits}

@@ -1,5 +1,4 @@
 -- `put_long_field` meets its contract: a decimal number below 10,000 and the space behind it.
-use Rattle.job_print.proofs.put_long_field.Lts as lts
 use Rattle.job_text.proofs.ResultLaws.{length-digits}
 use Rattle.text.proofs.Writing.{and-then}
 use borrow.Author.Needs.{needs}

@@ -1,7 +1,6 @@
 -- `put_number` meets its contract: a decimal number below 10,000.
 use Prim.Native.Nat.{_+_, _%_}
 use Prim.Native.Nat.{_/_}
-use Rattle.job_print.proofs.put_number.Lts as lts
 use Rattle.job_text.proofs.ResultLaws.{number-long, number-short}
 use Rattle.text.proofs.HexLaws.{length-decimal}
 use Rattle.text.proofs.Writing.{and-then, same-print}

@@ -1,5 +1,4 @@
 -- `at_line` meets its contract: whether the next byte would start a step.
-use Rattle.job_scan.proofs.at_line.Lts as lts
 use Rattle.job_text.specs.internal.Scan.{atLine}
 use borrow.Author.Needs.{needs}
 use mathlib.Core.Path.{ap, sym}

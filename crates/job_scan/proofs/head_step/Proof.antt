@@ -1,5 +1,4 @@
 -- `head_step` meets its contract: at byte k of the head.
-use Rattle.job_scan.proofs.head_step.Lts as lts
 use Rattle.job_text.specs.internal.Scan.{headStep}
 use borrow.Author.Needs.{needs}
 use borrow.Author.Tests.{lt-ltb, le-ltb, eq-eqb, ne-eqb}

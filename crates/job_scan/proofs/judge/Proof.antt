@@ -1,6 +1,5 @@
 -- `judge` meets its contract: the text ends: its number, 0 where it is accepted.
 use Rattle.buffers.specs.Refusals.{firstFitting}
-use Rattle.job_scan.proofs.judge.Lts as lts
 use Rattle.job_text.specs.internal.Scan.{verdict}
 use borrow.Author.Needs.{needs}
 use borrow.Author.Tests.{lt-ltb, le-ltb}

@@ -1,5 +1,4 @@
 -- `scan_byte` meets its contract: the scan after one more byte.
-use Rattle.job_scan.proofs.scan_byte.Lts as lts
 use Rattle.job_text.specs.internal.Scan.{moved, scanByte, stepAt}
 use borrow.Author.Needs.{needs}
 use mathlib.Core.Path.{_∙_, ap, sym}

@@ -1,5 +1,4 @@
 -- `start` meets its contract: the scan of the empty text.
-use Rattle.job_scan.proofs.start.Lts as lts
 use Rattle.job_text.specs.internal.Scan.{begin}
 use mathlib.Core.Path.{refl}
 use Rattle.job_scan.proofs.start.Statement.{statement}

@@ -1,5 +1,4 @@
 -- `digit_value` meets its contract: the value of a decimal digit; 10 for any other byte.
-use Rattle.job_scan_fields.proofs.digit_value.Lts as lts
 use Rattle.job_text.specs.internal.Scan.{digitValue}
 use borrow.Author.Tests.{lt-ltb, le-ltb}
 use Rattle.job_scan_fields.proofs.digit_value.Statement.{statement}

@@ -1,6 +1,5 @@
 -- `field_end` meets its contract: a field has ended.
 use Prim.Native.Nat.{ℕ}
-use Rattle.job_scan_fields.proofs.field_end.Lts as lts
 use Rattle.job_text.specs.internal.Scan.{ended}
 use Rattle.job_text.specs.declared.scan.Place.the-variants.{Word}
 use Rattle.job_text.specs.declared.scan.Scan.{Scan}

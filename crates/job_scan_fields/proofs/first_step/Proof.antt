@@ -1,5 +1,4 @@
 -- `first_step` meets its contract: at the first digit of a field.
-use Rattle.job_scan_fields.proofs.first_step.Lts as lts
 use Rattle.job_text.specs.internal.Scan.{firstStep}
 use borrow.Author.Needs.{needs}
 use borrow.Author.Tests.{lt-ltb, le-ltb}

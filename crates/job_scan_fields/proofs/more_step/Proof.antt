@@ -1,6 +1,5 @@
 -- `more_step` meets its contract: after a digit of a field.
 use Prim.Native.Nat.{_<_}
-use Rattle.job_scan_fields.proofs.more_step.Lts as lts
 use Rattle.job_text.specs.internal.Scan.{moreStep}
 use borrow.Author.Needs.{needs}
 use borrow.Author.Tests.{lt-ltb, le-ltb, ltb-true, eq-eqb, ne-eqb}

@@ -1,5 +1,4 @@
 -- `one_more` meets its contract.
-use Rattle.job_scan_fields.proofs.one_more.Lts as lts
 use Rattle.job_text.specs.internal.Scan.{oneMore}
 use borrow.Author.Needs.{needs}
 use borrow.Author.Tests.{lt-ltb, le-ltb}

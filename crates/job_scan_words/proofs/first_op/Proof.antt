@@ -1,5 +1,4 @@
 -- `first_op` meets its contract.
-use Rattle.job_scan_words.proofs.first_op.Lts as lts
 use Rattle.job_text.specs.internal.Scan.{firstOp}
 use borrow.Author.Tests.{eq-eqb, ne-eqb}
 use Rattle.job_scan_words.proofs.first_op.Statement.{statement}

@@ -1,5 +1,4 @@
 -- `op_for` meets its contract: the operation whose letter k the byte b can be.
-use Rattle.job_scan_words.proofs.op_for.Lts as lts
 use Rattle.job_text.specs.internal.Scan.{opFor}
 use borrow.Author.Needs.{needs}
 use borrow.Author.Tests.{eq-eqb, ne-eqb}

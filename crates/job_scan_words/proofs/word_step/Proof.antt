@@ -1,6 +1,5 @@
 -- `word_step` meets its contract: after k letters of the operation.
 use Prim.Native.Nat.{ℕ, _+_, _<_}
-use Rattle.job_scan_words.proofs.word_step.Lts as lts
 use Rattle.job_text.specs.internal.Scan.{letters, moved, opFor, withOp, wordStep}
 use Rattle.job_text.specs.declared.scan.Field.the-variants.{A}
 use Rattle.job_text.specs.declared.scan.Place.the-variants.{Broken, First, Word}

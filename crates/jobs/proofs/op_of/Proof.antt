@@ -1,7 +1,6 @@
 -- `op_of` meets its contract: the operation of a number.
 use borrow.Author.Tests.{eq-eqb, ne-eqb}
 use Rattle.jobs.specs.Parallel.{numberedOp}
-use Rattle.jobs.proofs.op_of.Lts as lts
 use Rattle.jobs.proofs.op_of.Statement.{statement}
 use Rattle.jobs.proofs.op_of.Tie as tie
 

@@ -5,10 +5,6 @@ use Rattle.parts_records.proofs.Listing.{Compressed, compressed-all, co
 use borrow.Author.Needs.{needs}
 use Rattle.parts_records.proofs.compress.Statement.{statement}
 use Rattle.parts_records.proofs.compress.Tie as tie
-use Rattle.parts_records.proofs.compress.Reads as reads
-use Rattle.parts_records.proofs.compress.Lts as lts
-use Rattle.words.proofs.flip_where.Reads as flip-where-reads
-use Rattle.words.proofs.has.Reads as has-reads
 
 abbrev Inv-loop : tie.InvT-loop
 Inv-loop w k at bits₀ i₀ bits i = (i ≤ k) × Compressed at w bits i

@@ -8,9 +8,6 @@ use Rattle.parts_records.specs.internal.Listed.{renumbered}
 use borrow.Author.Needs.{needs}
 use Rattle.parts_records.proofs.extract.Statement.{statement}
 use Rattle.parts_records.proofs.extract.Tie as tie
-use Rattle.parts_records.proofs.extract.Reads as reads
-use Rattle.parts_records.proofs.extract.Lts as lts
-use Rattle.parts_records.proofs.compress.Reads as compress-reads
 
 abbrev Inv-loop : tie.InvT-loop
 Inv-loop neighbours codes words₀ numbers₀ at k i₀ words numbers i =

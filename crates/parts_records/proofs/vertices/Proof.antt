@@ -15,10 +15,6 @@ use Rattle.parts_records.proofs.Listing.{
 use borrow.Author.Needs.{needs}
 use Rattle.parts_records.proofs.vertices.Statement.{statement}
 use Rattle.parts_records.proofs.vertices.Tie as tie
-use Rattle.parts_records.proofs.vertices.Reads as reads
-use Rattle.parts_records.proofs.vertices.Lts as lts
-use Rattle.words.proofs.flip.Reads as flip-reads
-use Rattle.words.proofs.smallest.Reads as smallest-reads
 
 abbrev Inv-loop : tie.InvT-loop
 Inv-loop component at₀ k₀ rest₀ at k rest = Listing component at k rest

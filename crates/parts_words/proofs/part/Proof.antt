@@ -7,10 +7,6 @@ use Rattle.parts_words.proofs.Spreading.{Growing, grow-less, grow-more,
 use borrow.Author.Needs.{needs}
 use Rattle.parts_words.proofs.part.Statement.{statement}
 use Rattle.parts_words.proofs.part.Tie as tie
-use Rattle.parts_words.proofs.part.Reads as reads
-use Rattle.parts_words.proofs.part.Lts as lts
-use Rattle.parts_words.proofs.spread.Reads as spread-reads
-use Rattle.words.proofs.single.Reads as single-reads
 
 abbrev Inv-loop : tie.InvT-loop
 Inv-loop neighbours q reached₀ next₀ reached next =

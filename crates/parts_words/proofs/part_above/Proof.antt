@@ -10,10 +10,6 @@ use Rattle.parts_words.proofs.Spreading.{isLarge, large-is}
 use borrow.Author.Needs.{needs}
 use Rattle.parts_words.proofs.part_above.Statement.{statement}
 use Rattle.parts_words.proofs.part_above.Tie as tie
-use Rattle.parts_words.proofs.part_above.Reads as reads
-use Rattle.parts_words.proofs.part_above.Lts as lts
-use Rattle.parts_words.proofs.part.Reads as part-reads
-use Rattle.words.proofs.count.Reads as count-reads
 
 abbrev Inv-loop : tie.InvT-loop
 Inv-loop neighbours q₀ q =

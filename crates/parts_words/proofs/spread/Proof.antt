@@ -8,9 +8,6 @@ use Rattle.parts_words.proofs.Spreading.{Passed, passed-all, passed-joi
 use borrow.Author.Needs.{needs}
 use Rattle.parts_words.proofs.spread.Statement.{statement}
 use Rattle.parts_words.proofs.spread.Tie as tie
-use Rattle.parts_words.proofs.spread.Reads as reads
-use Rattle.parts_words.proofs.spread.Lts as lts
-use Rattle.words.proofs.has.Reads as has-reads
 
 abbrev Inv-loop : tie.InvT-loop
 Inv-loop neighbours marked reached₀ i₀ reached i = (i ≤ length neighbours) × Passed neighbours marked reached i
