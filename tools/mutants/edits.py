@@ -174,7 +174,7 @@ def field_edits(tokens, i, declared):
 def variant_edits(tokens, i, declared):
     """A variant of an enum exchanged for the next."""
     variants = declared.enums[tokens[i - 2].text]
-    if tokens[i].text in variants:
+    if tokens[i].text in variants and len(variants) > 1:
         new = next_of(variants, tokens[i].text)
         yield Edit("constant", tokens[i].start, tokens[i].end, new)
 
