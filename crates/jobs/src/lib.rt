@@ -55,7 +55,7 @@ fn without_value(op: Op) -> bool
     }
 }
 
-// The least number that is no value of the operation, of those that use one.
+// The least number that is no value of the operation: no field reaches 65536, of those that use none.
 fn value_limit(op: Op) -> u32
     ensures { λ r. ⌜ r ≡ valueLimit op ⌝ }
 {
@@ -68,14 +68,14 @@ fn value_limit(op: Op) -> u32
     }
 }
 
-// Whether a field that the operation does not use is not 0, without a branch on the operation.
+// Whether a field that the operation does not use is not 0.
 pub fn unused_set(op: Op, b: u16, value: u16) -> bool
     ensures { λ r. ⌜ r ≡ unusedSet op b value ⌝ }
 {
     (without_b(op) & (b != 0)) | (without_value(op) & (value != 0))
 }
 
-// Whether the value is no code, or for a measurement no Pauli and outcome, without a branch on the operation.
+// Whether the value is no code, or for a measurement no Pauli and outcome.
 pub fn wrong_value(op: Op, value: u16) -> bool
     ensures { λ r. ⌜ r ≡ wrongValue op value ⌝ }
 {

@@ -1,7 +1,7 @@
 -- The loop that puts a code before the codes that a word names.
 use mathlib.Core.Bool.{cond}
 use mathlib.Core.List.{List}
-use mathlib.Core.Path.{ap, sym, _∙_, _≡_}
+use mathlib.Core.Path.{ap, subst, sym, _∙_, _≡_}
 use Prim.Native.Nat.{_<_, _^_, ℕ, _≤_}
 use lib.Bits.{bitXor}
 use lib.Count.{trailingZeros}
@@ -38,6 +38,12 @@ module _ (old : List ℕ) (word k : ℕ) where
         over-step (PutAt old word k) word old new rest T s z i e v rest′
         (h ∙ ap (λ c. codeOf (then (cliffordOf k) (cliffordOf c))) (T .left i here)
         ∙ ap (λ b. codeOf (cond b (then (cliffordOf k) (codesOf old i)) (codesOf old i))) (sym (T .named i here))) f
+
+    -- the next code is still the old one
+    pub put-small : length old ≤ 64 → ((q : ℕ) → getD old q 0 < 24) → (rest ≡ 0 → ⊥) → (i : ℕ)
+        → i ≡ trailingZeros 64 rest → getD new i 0 < 24
+    put-small s below z i e =
+        subst (λ v. v < 24) (sym (T .left i (next-named (PutAt old word k) word old new rest T s z i e))) (below i)
 
     pub put-end : rest ≡ 0 → new ≡ tabulate (length old) (putNumber old word k)
     put-end e = tabulate-is (length old) (putNumber old word k) new (T .long)

@@ -7,9 +7,9 @@ use native.Mathlib.Omega.{arith}
 use lib.Dec.{lit<}
 use lib.ListN.{getD, length-set}
 use borrow.Author.Needs.{needs}
-use Rattle.buffers.proofs.OverSets.{next-in, next-less, next-named, next-short}
+use Rattle.buffers.proofs.OverSets.{next-in, next-less, next-short}
 use Rattle.operations.proofs.UnrefusedRecords.{unrefused-codes, unrefused-short, unrefused-simple}
-use Rattle.operations_rewriting.proofs.PuttingBefore.{Putting, put-end, put-more, put-start}
+use Rattle.operations_rewriting.proofs.PuttingBefore.{Putting, put-end, put-more, put-small, put-start}
 use Rattle.operations_rewriting.proofs.Recoding.{around-below}
 use Rattle.words.proofs.Dropping.{dropped-at}
 use Rattle.operations_isolation.proofs.RemovedEdges.{Leaving, leave-end, leave-more, leave-start}
@@ -47,14 +47,10 @@ compose-fixed-requires c κs =
     let at-smallest = c .before in
     let inside = at-smallest .before in
     let start = inside .before .before .before .before .before .before in
-    let inv = inside .before .loop .inv .1 in
-    let known = unrefused-codes _ _ (start .pre .0) in
-    let i = at-smallest .smallest .result in (
+    let known = unrefused-codes _ _ (start .pre .0) in (
       lit< tt,
-      subst (λ v. v < 24)
-          (sym (inv .left i (next-named _ _ _ _ _ inv (known .0) (inside .loop-test .taken) _
-          (at-smallest .smallest .ensures .0))))
-          (known .1 i),
+      put-small _ _ 2 _ _ (inside .before .loop .inv .1) (known .0) (known .1) (inside .loop-test .taken) _
+          (at-smallest .smallest .ensures .0),
     )
 
 slice-write-codes : tie.Need-slice-write-codes Inv-loop μ-loop

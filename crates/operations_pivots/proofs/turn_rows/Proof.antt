@@ -5,8 +5,8 @@ use Prim.Native.Nat.{_<_, _^_, ℕ, _≤_}
 use native.Mathlib.Omega.{arith}
 use lib.Dec.{lit<}
 use borrow.Author.Needs.{needs}
-use Rattle.buffers.proofs.OverSets.{next-in, next-less, next-named, next-short}
-use Rattle.operations_rewriting.proofs.PuttingBefore.{Putting, put-end, put-more, put-start}
+use Rattle.buffers.proofs.OverSets.{next-in, next-less, next-short}
+use Rattle.operations_rewriting.proofs.PuttingBefore.{Putting, put-end, put-more, put-small, put-start}
 use Rattle.words.proofs.Dropping.{dropped-at}
 use Rattle.operations_pivots.proofs.FlippedRows.{Flipping, flip-end, flip-more, flip-start}
 use Rattle.operations_pivots.proofs.turn_rows.Statement.{statement}
@@ -43,14 +43,10 @@ compose-fixed-requires : tie.Need-compose-fixed-requires Inv-loop μ-loop
 compose-fixed-requires c κs =
     let at-smallest = c .before in
     let inside = at-smallest .before in
-    let start = inside .before .before .before .before in
-    let inv = inside .before .loop .inv .1 in
-    let i = at-smallest .smallest .result in (
+    let start = inside .before .before .before .before in (
       lit< tt,
-      subst (λ v. v < 24)
-          (sym (inv .left i (next-named _ _ _ _ _ inv (codes-short (start .pre .0)) (inside .loop-test .taken) _
-          (at-smallest .smallest .ensures .0))))
-          (start .pre .1 .0 i),
+      put-small _ _ 2 _ _ (inside .before .loop .inv .1) (codes-short (start .pre .0)) (start .pre .1 .0)
+          (inside .loop-test .taken) _ (at-smallest .smallest .ensures .0),
     )
 
 slice-write-codes : tie.Need-slice-write-codes Inv-loop μ-loop

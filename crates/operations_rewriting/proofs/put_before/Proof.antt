@@ -1,10 +1,8 @@
 -- `put_before` meets its contract: code k before the codes of the vertices that the word names.
-use mathlib.Core.Path.{subst, sym}
-use Prim.Native.Nat.{_<_}
 use borrow.Author.Needs.{needs}
-use Rattle.buffers.proofs.OverSets.{next-in, next-less, next-named}
+use Rattle.buffers.proofs.OverSets.{next-in, next-less}
 use Rattle.words.proofs.Dropping.{dropped-at}
-use Rattle.operations_rewriting.proofs.PuttingBefore.{Putting, put-end, put-more, put-start}
+use Rattle.operations_rewriting.proofs.PuttingBefore.{Putting, put-end, put-more, put-small, put-start}
 use Rattle.operations_rewriting.proofs.put_before.Statement.{statement}
 use Rattle.operations_rewriting.proofs.put_before.Tie as tie
 
@@ -30,14 +28,10 @@ compose-fixed-requires : tie.Need-compose-fixed-requires Inv-loop μ-loop
 compose-fixed-requires c κs =
     let at-smallest = c .before in
     let inside = at-smallest .before in
-    let start = inside .before .before .before in
-    let inv = inside .before .loop .inv in
-    let i = at-smallest .smallest .result in (
+    let start = inside .before .before .before in (
       start .pre .1 .1,
-      subst (λ v. v < 24)
-          (sym (inv .left i (next-named _ _ _ _ _ inv (start .pre .0 .0) (inside .loop-test .taken) _
-          (at-smallest .smallest .ensures .0))))
-          (start .pre .0 .1 i),
+      put-small _ _ (start .args .k) _ _ (inside .before .loop .inv) (start .pre .0 .0) (start .pre .0 .1) (inside .loop-test .taken) _
+          (at-smallest .smallest .ensures .0),
     )
 
 slice-write-codes : tie.Need-slice-write-codes Inv-loop μ-loop
