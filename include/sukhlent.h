@@ -363,6 +363,33 @@ uint8_t sukhlent_compare_records(uint64_t n1,
                                  uint8_t *list, size_t list_len,
                                  uint64_t *count);
 
+/* Compares two lists as `sukhlent_compare` does, with parts of any size: the same answer where no
+ * part of either reduced graph has more than 20 vertices, and never 3.
+ * Refusals: 2, 4, 5, 6, 9, 10, 13. */
+uint8_t sukhlent_equivalent(uint64_t n1,
+                            const uint8_t *signs1, size_t signs1_len,
+                            const uint64_t *z1, size_t z1_len,
+                            const uint64_t *x1, size_t x1_len,
+                            uint64_t n2,
+                            const uint8_t *signs2, size_t signs2_len,
+                            const uint64_t *z2, size_t z2_len,
+                            const uint64_t *x2, size_t x2_len,
+                            uint8_t *choice, size_t choice_len,
+                            uint8_t *list, size_t list_len,
+                            uint64_t *count);
+
+/* Compares the groups of two records as `sukhlent_compare_records` does, with parts of any size.
+ * Refusals: 2, 4, 5, 6, 7, 13. */
+uint8_t sukhlent_equivalent_records(uint64_t n1,
+                                    const uint64_t *neighbours1, size_t neighbours1_len,
+                                    const uint8_t *codes1, size_t codes1_len,
+                                    uint64_t n2,
+                                    const uint64_t *neighbours2, size_t neighbours2_len,
+                                    const uint8_t *codes2, size_t codes2_len,
+                                    uint8_t *choice, size_t choice_len,
+                                    uint8_t *list, size_t list_len,
+                                    uint64_t *count);
+
 /* Writes the text of a job that anyone can repeat: `count` steps on n qubits, at most 4,096, drawn
  * one after the other from `seed`, which is not 0. `text` has 61,463 places; those from *length
  * on, which is the length of the text, keep their values.

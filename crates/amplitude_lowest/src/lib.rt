@@ -1,6 +1,6 @@
 // The smallest supported word of a record, by measurements on a copy of it.
 use operations_measurements::contradicted;
-use operations_measurements::measure_record;
+use operations_measurements::measure_unsettled;
 use record_copies::copy_record;
 use words::flip_where;
 ghost use mathlib.Core.Bool.{false};
@@ -9,12 +9,11 @@ ghost use Prim.Native.Nat.{_<_};
 ghost use lib.ListN.{length};
 ghost use Rattle.amplitude.specs.internal.Measuring.{outcomesDown};
 ghost use Rattle.amplitude.specs.Ratios.{lowest};
-ghost use Rattle.operations.specs.internal.InPlace.{Rewritten, Unrefused, recordIn};
+ghost use Rattle.graph_steps.specs.internal.KeptGroups.{GroupHeld};
+ghost use Rattle.operations.specs.internal.InPlace.{Unrefused, recordIn};
 ghost use Rattle.operations.specs.Measurement.{contradicts, measuredRows};
 ghost use Rattle.pauli.specs.declared.Letter.the-variants.{Z};
 ghost use Rattle.record.specs.Lent.{heldRecord, heldRows};
-ghost use Rattle.record.specs.Records.{rowsOf};
-ghost use Rattle.record.specs.Reduced.{reduced};
 ghost use Rattle.words.specs.Bits.{wordOf};
 
 // Measures Z at q, with outcome 0 where it is possible; answers whether it is 1.
@@ -22,12 +21,12 @@ fn forced(neighbours: &mut [u64], codes: &mut [u8], q: usize) -> bool
     requires { ⌜ Unrefused (recordIn (now neighbours) (now codes)) × (q < length (now neighbours)) ⌝ }
     ensures { λ r. ⌜ r ≡ contradicts (length (now (neighbours .entry)))
         (heldRows (recordIn (now (neighbours .entry)) (now (codes .entry)))) Z q false ⌝ }
-    ensures { λ r. ⌜ Rewritten (now (neighbours .entry)) (now (codes .entry))
-        (λ g. reduced (length (now (neighbours .entry))) (measuredRows (length (now (neighbours .entry)))
-        (rowsOf (length (now (neighbours .entry))) g) Z q r)) (now (neighbours .exit)) (now (codes .exit)) ⌝ }
+    ensures { λ r. ⌜ GroupHeld (length (now (neighbours .entry))) (measuredRows (length (now (neighbours .entry)))
+        (heldRows (recordIn (now (neighbours .entry)) (now (codes .entry)))) Z q r)
+        (now (neighbours .exit)) (now (codes .exit)) ⌝ }
 {
     let one = contradicted(neighbours, codes, 3, q, false);
-    measure_record(neighbours, codes, 3, q, one);
+    measure_unsettled(neighbours, codes, 3, q, one);
     one
 }
 

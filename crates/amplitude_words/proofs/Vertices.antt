@@ -1,23 +1,21 @@
 -- One vertex: its smaller neighbours in a word, its equation, and its turns, as the code works them out.
 use mathlib.Core.Bool.{_&&_, Bool, Bool·beq, and-true, cond, false, not, true, _||_}
-use mathlib.Core.Logic.{⊎-elim}
 use mathlib.Core.Path.{ap, ap₂, refl, sym, _∙_, _≡_}
 use Prim.Native.Nat.{_%_, _*_, _+_, _-_, _/_, _<_, _^_, ℕ}
 use native.Mathlib.Nat.{lt-of-le-of-lt}
 use lib.Bits.{and-le-l, and-le-r, bitAnd}
-use lib.Dec.{eqb, ltb}
+use lib.Dec.{eqb}
 use lib.Pow.{ones-lt}
 use mir.Val.{boolByte}
-use borrow.Author.Tests.{eqb-true, le-leb, le-ltb, lt-leb, lt-ltb}
+use borrow.Author.Tests.{eqb-true}
 use Rattle.amplitude.specs.internal.KeptTurns.{unitOf}
 use Rattle.clifford.specs.Clifford.{bitC, cliffordOf}
-use Rattle.graph_steps.proofs.OutOfPlace.{number-C}
 use Rattle.pauli.specs.Pauli.{_+ᵖ_, exponent, i⁰, minus}
 use Rattle.words.proofs.BitLaws.{bit-and, bit-mask}
 use Rattle.words.proofs.Finite.{bits}
 use Rattle.words.proofs.OnesLaws.{parity-ones}
 use Rattle.words.proofs.SearchLaws.{every-at}
-use Rattle.words.proofs.Sums.{fold-ext, lt-or-ge}
+use Rattle.words.proofs.Sums.{fold-ext}
 use Rattle.words.specs.Bits.{_⊕_, bit, isOdd, parity, sameBit}
 use Rattle.words.specs.internal.Bits.{dot}
 use Rattle.words.specs.Search.{every}
@@ -35,18 +33,13 @@ dot-below a b j one r e h =
     low : ℕ
     low = bitAnd a (2 ^ j - 1)
 
--- ---- codes by their numbers
--- a code below 8 has no Hadamard
-pub low-code : (code : ℕ) → code < 24 → ltb code 8 ≡ not (bitC (cliffordOf code))
-low-code code l = ⊎-elim
-    (λ k. lt-ltb code 8 k ∙ sym (ap not (number-C code l ∙ lt-leb 8 code k)))
-    (λ k. le-ltb code 8 k ∙ sym (ap not (number-C code l ∙ le-leb 8 code k))) (lt-or-ge code 8)
-
-pub fits-is : (code : ℕ) → code < 24 → (here around : Bool) {b p : Bool} → here ≡ b → around ≡ p
-    → (ltb code 8 || Bool·beq here (not (Bool·beq (isOdd (code / 2)) around)))
+-- ---- the equation of a vertex
+pub fits-is : (code : ℕ) (marked here around : Bool) {b p : Bool} → marked ≡ bitC (cliffordOf code) → here ≡ b
+    → around ≡ p → (not marked || Bool·beq here (not (Bool·beq (isOdd (code / 2)) around)))
     ≡ (not (bitC (cliffordOf code)) || sameBit b (isOdd (code / 2) ⊕ p))
-fits-is code l here around e f =
-    ap₂ _||_ (low-code code l) (same here (isOdd (code / 2)) around ∙ ap₂ (λ u v. sameBit u (isOdd (code / 2) ⊕ v)) e f)
+fits-is code marked here around m e f =
+    ap₂ (λ u v. not u || v) m (same here (isOdd (code / 2)) around
+    ∙ ap₂ (λ u v. sameBit u (isOdd (code / 2) ⊕ v)) e f)
   where
     same : (a s d : Bool) → Bool·beq a (not (Bool·beq s d)) ≡ sameBit a (s ⊕ d)
     same = bits 3 (λ a s d. Bool·beq a (not (Bool·beq s d))) (λ a s d. sameBit a (s ⊕ d)) tt

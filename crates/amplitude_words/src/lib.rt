@@ -1,4 +1,5 @@
 // Words of a record in its buffers: the vertices without a Hadamard, whether a word is supported, and its turns.
+use clifford_codes::Code;
 use words::dot_product;
 use words::flip_where;
 use words::has;
@@ -24,14 +25,14 @@ fn dot_below(a: u64, b: u64, j: usize) -> bool
     dot_product(a & (single(j) - 1), b)
 }
 
-// The equation of vertex j, with this neighbour word and this code: where it has a Hadamard (code 8 or more), its bit of
-// y is the sign of its code and the bits of its smaller neighbours.
+// The equation of vertex j, with this neighbour word and this code: where it has a Hadamard (C = 1), its bit of y is the
+// sign of its code and the bits of its smaller neighbours.
 fn fits(word: u64, code: u8, y: u64, j: usize) -> bool
     requires { ⌜ (j < 64) × (code < 24) ⌝ }
     ensures { λ r. ⌜ r ≡ (not (bitC (cliffordOf code)) || sameBit (bit y j)
         ((cliffordOf code) .sx ⊕ parity j (λ q. bit word q && bit y q))) ⌝ }
 {
-    (code < 8) | (has(y, j) == ((code / 2 % 2 == 1) != dot_below(word, y, j)))
+    !Code { index: code }.c_bit() | (has(y, j) == ((code / 2 % 2 == 1) != dot_below(word, y, j)))
 }
 
 // Whether a word is supported: each equation holds.
@@ -58,7 +59,8 @@ pub fn kept(codes: &[u8]) -> u64
     let mut all = 0;
     let mut i = 0;
     while i < codes.len() {
-        all = flip_where(all, i, codes[i] < 8);
+        let code = Code { index: codes[i] };
+        all = flip_where(all, i, !code.c_bit());
         i += 1;
     }
     all

@@ -23,10 +23,10 @@ use Rattle.calls.specs.Lists.{reduceCall}
 use Rattle.comparison.specs.internal.ComparedPairs.{HoldsReduced, PairAnswered}
 use Rattle.earliest.proofs.EarlierNumbers.{earlier-none}
 use Rattle.earliest.specs.internal.Earlier.{earlierOf}
-use Rattle.calls.specs.Comparisons.{compareCall}
+use Rattle.calls.specs.internal.Limited.{comparingCall}
 
 -- ---- two lists on n qubits, and the reductions of both
-module _ (n : ℕ) (s z x s₂ z₂ x₂ choice list : List ℕ) (positive : 1 ≤ n) (few : n ≤ 64)
+module _ (limited : Bool) (n : ℕ) (s z x s₂ z₂ x₂ choice list : List ℕ) (positive : 1 ≤ n) (few : n ≤ 64)
     (long : length choice ≡ n) (room : length list ≡ 96) (nb cs nb₂ cs₂ nb′ cs′ nb₂′ cs₂′ : List ℕ)
     (nb-long : length nb ≡ n) (cs-long : length cs ≡ n) (nb₂-long : length nb₂ ≡ n)
     (cs₂-long : length cs₂ ≡ n)
@@ -48,7 +48,7 @@ module _ (n : ℕ) (s z x s₂ z₂ x₂ choice list : List ℕ) (positive : 1 �
 
   -- the earlier number comes back
   pub compare-refused : (count : ℕ) → (early ≡ 0 → ⊥) →
-      Call (compareCall l m choice list count choice list count) early
+      Call (comparingCall limited l m choice list count choice list count) early
   compare-refused count h = refused _ (stays (pairLines l m choice list) _ early-is h) h (refl, (refl, (refl, tt)))
 
   module _ (a : early ≡ 0) where
@@ -80,8 +80,8 @@ module _ (n : ℕ) (s z x s₂ z₂ x₂ choice list : List ℕ) (positive : 1 �
     -- and the comparison of the two records decides
     pub compare-decided : (count k : ℕ) (choice′ list′ : List ℕ) (count′ : ℕ) →
         ((R S : ℕ → Pauli) → HoldsReduced n R nb′ cs′ → HoldsReduced n S nb₂′ cs₂′ →
-        PairAnswered n R S choice list count k choice′ list′ count′) →
-        Call (compareCall l m choice list count choice′ list′ count′) k
+        PairAnswered limited n R S choice list count k choice′ list′ count′) →
+        Call (comparingCall limited l m choice list count choice′ list′ count′) k
     compare-decided count k choice′ list′ count′ f =
         let P = f (rows l) (rows m) first-reduced second-reduced in
         record {
@@ -92,13 +92,13 @@ module _ (n : ℕ) (s z x s₂ z₂ x₂ choice list : List ℕ) (positive : 1 �
         }
 
 -- ---- the lines before the reductions
-module _ (l m : GeneratorList) (choice list : List ℕ) (count : ℕ) where
-  pub refused-2 : pairCount l m ≡ true → Call (compareCall l m choice list count choice list count) 2
+module _ (limited : Bool) (l m : GeneratorList) (choice list : List ℕ) (count : ℕ) where
+  pub refused-2 : pairCount l m ≡ true → Call (comparingCall limited l m choice list count choice list count) 2
   refused-2 h = record { number = sym (fits 2 _ h); held = (refl, (refl, (refl, tt))) }
 
   module _ (p : pairCount l m ≡ false) where
     module _ (o : Bool) (e : o ≡ (otherThan (l .n) choice || otherThan 96 list)) where
-      pub refused-4 : o ≡ true → Call (compareCall l m choice list count choice list count) 4
+      pub refused-4 : o ≡ true → Call (comparingCall limited l m choice list count choice list count) 4
       refused-4 t =
           record {
             number = sym (passed 2 _ p
@@ -118,12 +118,12 @@ module _ (l m : GeneratorList) (choice list : List ℕ) (count : ℕ) where
       list-fits f = has-length 96 list (neither (otherThan (l .n) choice) (otherThan 96 list) (sym e ∙ f) .1)
 
 -- two lists on the same number of qubits
-pub same-count : (n n₂ : ℕ) → n ≡ n₂ → (s z x s₂ z₂ x₂ choice list : List ℕ) (count r : ℕ)
+pub same-count : (limited : Bool) (n n₂ : ℕ) → n ≡ n₂ → (s z x s₂ z₂ x₂ choice list : List ℕ) (count r : ℕ)
     (choice′ list′ : List ℕ) (count′ : ℕ) →
-    Call (compareCall (record { n = n; signs = s; z = z; x = x }) (record { n = n; signs = s₂; z = z₂; x = x₂ })
+    Call (comparingCall limited (record { n = n; signs = s; z = z; x = x }) (record { n = n; signs = s₂; z = z₂; x = x₂ })
     choice list count choice′ list′ count′) r →
-    Call (compareCall (record { n = n; signs = s; z = z; x = x }) (record { n = n₂; signs = s₂; z = z₂; x = x₂ })
+    Call (comparingCall limited (record { n = n; signs = s; z = z; x = x }) (record { n = n₂; signs = s₂; z = z₂; x = x₂ })
     choice list count choice′ list′ count′) r
-same-count n n₂ e s z x s₂ z₂ x₂ choice list count r choice′ list′ count′ =
-    subst (λ k. Call (compareCall (record { n = n; signs = s; z = z; x = x })
+same-count limited n n₂ e s z x s₂ z₂ x₂ choice list count r choice′ list′ count′ =
+    subst (λ k. Call (comparingCall limited (record { n = n; signs = s; z = z; x = x })
     (record { n = k; signs = s₂; z = z₂; x = x₂ }) choice list count choice′ list′ count′) r) e

@@ -1,4 +1,4 @@
-// The public call on two generator lists.
+// The public calls on two generator lists.
 use buffers::bad_count;
 use buffers::other_than;
 use call_lists::reduce;
@@ -12,6 +12,8 @@ ghost use lib.ListN.{length};
 ghost use Rattle.contracts.specs.Calls.{Call};
 ghost use Rattle.buffers.specs.Refusals.{badCount};
 ghost use Rattle.calls.specs.Comparisons.{compareCall};
+ghost use Rattle.calls.specs.Equivalences.{equivalentCall};
+ghost use Rattle.calls.specs.internal.Limited.{comparingCall};
 
 // Line 2: n is 0 or above 64, or the two n differ.
 pub fn pair_count(n: u64, n2: u64) -> bool
@@ -22,6 +24,7 @@ pub fn pair_count(n: u64, n2: u64) -> bool
 
 // The comparison of two lists on n qubits, with room for their reduced records.
 fn compare_lists(
+    limited: bool,
     n: u64,
     signs1: &[u8],
     z1: &[u64],
@@ -40,7 +43,7 @@ fn compare_lists(
     requires { ⌜ (1 ≤ n) × (n ≤ 64) × (length (now choice) ≡ n) × (length (now list) ≡ 96) ⌝ }
     requires { ⌜ (length (now neighbours1) ≡ n) × (length (now codes1) ≡ n) × (length (now neighbours2) ≡ n)
         × (length (now codes2) ≡ n) ⌝ }
-    ensures { λ r. ⌜ Call (compareCall
+    ensures { λ r. ⌜ Call (comparingCall limited
         (record { n = n; signs = now (signs1 .entry); z = now (z1 .entry); x = now (x1 .entry) })
         (record { n = n; signs = now (signs2 .entry); z = now (z2 .entry); x = now (x2 .entry) })
         (now (choice .entry)) (now (list .entry)) (now (count .entry))
@@ -53,6 +56,7 @@ fn compare_lists(
         return early;
     }
     compare_reduced(
+        limited,
         n as usize,
         neighbours1,
         codes1,
@@ -65,7 +69,58 @@ fn compare_lists(
 }
 
 // The least choice that carries the group of the first list onto that of the second, and the complementations that
-// turn the first reduced graph into the second.
+// turn the first reduced graph into the second; with a limit for the parts or without one.
+fn compare_by(
+    limited: bool,
+    n1: u64,
+    signs1: &[u8],
+    z1: &[u64],
+    x1: &[u64],
+    n2: u64,
+    signs2: &[u8],
+    z2: &[u64],
+    x2: &[u64],
+    choice: &mut [u8],
+    list: &mut [u8],
+    count: &mut u64,
+) -> u8
+    ensures { λ r. ⌜ Call (comparingCall limited
+        (record { n = n1; signs = now (signs1 .entry); z = now (z1 .entry); x = now (x1 .entry) })
+        (record { n = n2; signs = now (signs2 .entry); z = now (z2 .entry); x = now (x2 .entry) })
+        (now (choice .entry)) (now (list .entry)) (now (count .entry))
+        (now (choice .exit)) (now (list .exit)) (now (count .exit))) r ⌝ }
+{
+    if pair_count(n1, n2) {
+        return 2;
+    }
+    if other_than(choice.len(), n1) | other_than(list.len(), 96) {
+        return 4;
+    }
+    let n = n1 as usize;
+    let mut neighbours1 = [0u64; 64];
+    let mut codes1 = [0u8; 64];
+    let mut neighbours2 = [0u64; 64];
+    let mut codes2 = [0u8; 64];
+    compare_lists(
+        limited,
+        n1,
+        signs1,
+        z1,
+        x1,
+        signs2,
+        z2,
+        x2,
+        &mut neighbours1[..n],
+        &mut codes1[..n],
+        &mut neighbours2[..n],
+        &mut codes2[..n],
+        choice,
+        list,
+        count,
+    )
+}
+
+// The comparison with the limit.
 pub fn compare(
     n1: u64,
     signs1: &[u8],
@@ -85,29 +140,52 @@ pub fn compare(
         (now (choice .entry)) (now (list .entry)) (now (count .entry))
         (now (choice .exit)) (now (list .exit)) (now (count .exit))) r ⌝ }
 {
-    if pair_count(n1, n2) {
-        return 2;
-    }
-    if other_than(choice.len(), n1) | other_than(list.len(), 96) {
-        return 4;
-    }
-    let n = n1 as usize;
-    let mut neighbours1 = [0u64; 64];
-    let mut codes1 = [0u8; 64];
-    let mut neighbours2 = [0u64; 64];
-    let mut codes2 = [0u8; 64];
-    compare_lists(
+    compare_by(
+        true,
         n1,
         signs1,
         z1,
         x1,
+        n2,
         signs2,
         z2,
         x2,
-        &mut neighbours1[..n],
-        &mut codes1[..n],
-        &mut neighbours2[..n],
-        &mut codes2[..n],
+        choice,
+        list,
+        count,
+    )
+}
+
+// The comparison of parts of any size.
+pub fn equivalent(
+    n1: u64,
+    signs1: &[u8],
+    z1: &[u64],
+    x1: &[u64],
+    n2: u64,
+    signs2: &[u8],
+    z2: &[u64],
+    x2: &[u64],
+    choice: &mut [u8],
+    list: &mut [u8],
+    count: &mut u64,
+) -> u8
+    ensures { λ r. ⌜ Call (equivalentCall
+        (record { n = n1; signs = now (signs1 .entry); z = now (z1 .entry); x = now (x1 .entry) })
+        (record { n = n2; signs = now (signs2 .entry); z = now (z2 .entry); x = now (x2 .entry) })
+        (now (choice .entry)) (now (list .entry)) (now (count .entry))
+        (now (choice .exit)) (now (list .exit)) (now (count .exit))) r ⌝ }
+{
+    compare_by(
+        false,
+        n1,
+        signs1,
+        z1,
+        x1,
+        n2,
+        signs2,
+        z2,
+        x2,
         choice,
         list,
         count,

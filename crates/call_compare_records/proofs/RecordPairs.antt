@@ -22,7 +22,8 @@ use Rattle.record.specs.Accepted.{AcceptedRecord}
 use Rattle.record.specs.Lent.{LentRecord, heldRows, recordLengths, recordLines}
 use Rattle.stabilizer.proofs.SharedTests.{has-length}
 use Rattle.words.proofs.Flags.{neither}
-use Rattle.calls.specs.RecordComparisons.{compareRecordsCall, recordsCount, recordsLines}
+use Rattle.calls.specs.internal.Limited.{comparingRecordsCall}
+use Rattle.calls.specs.RecordComparisons.{recordsCount, recordsLines}
 
 -- ---- reduced copies
 -- a copy that was reduced holds the reduced record
@@ -57,9 +58,9 @@ module _ (n : ℕ) (nb cs : List ℕ) (U : Unrefused (record { n = n; neighbours
     reduced-fits = reduced-accepted n (heldRows lent) w b lent-reduced (lent-accepted .positive) (lent-accepted .upto)
 
 -- ---- the call
-module _ (l m : LentRecord) (choice list : List ℕ) where
+module _ (limited : Bool) (l m : LentRecord) (choice list : List ℕ) where
   pub refused-2 : (count : ℕ) → recordsCount l m ≡ true →
-      Call (compareRecordsCall l m choice list count choice list count) 2
+      Call (comparingRecordsCall limited l m choice list count choice list count) 2
   refused-2 count h = record { number = sym (fits 2 _ h); held = (refl, (refl, (refl, tt))) }
 
   -- what the two checks answer where line 2 does not hold
@@ -71,7 +72,7 @@ module _ (l m : LentRecord) (choice list : List ℕ) where
     early-is = e ∙ ap₂ earlierOf e₁ e₂ ∙ sym (records-number l m choice list p o)
 
     pub compare-refused : (count : ℕ) → (early ≡ 0 → ⊥) →
-        Call (compareRecordsCall l m choice list count choice list count) early
+        Call (comparingRecordsCall limited l m choice list count choice list count) early
     compare-refused count h = refused _ (stays (recordsLines l m choice list) _ early-is h) h (refl, (refl, (refl, tt)))
 
     module _ (a : early ≡ 0) where
@@ -110,9 +111,9 @@ module _ (l m : LentRecord) (choice list : List ℕ) where
 
       -- the comparison of the two reduced records decides
       pub compare-decided : {count k : ℕ} {choice′ list′ : List ℕ} {count′ : ℕ} →
-          PairAnswered (l .n) (heldRows l) (heldRows other) choice list count k choice′ list′ count′ →
-          Call (compareRecordsCall l m choice list count choice′ list′ count′) k
+          PairAnswered limited (l .n) (heldRows l) (heldRows other) choice list count k choice′ list′ count′ →
+          Call (comparingRecordsCall limited l m choice list count choice′ list′ count′) k
       compare-decided {count} {k} {choice′} {list′} {count′} P =
-          let Q = subst (λ s. PairAnswered (l .n) (heldRows l) (heldRows s) choice list count k choice′ list′ count′)
+          let Q = subst (λ s. PairAnswered limited (l .n) (heldRows l) (heldRows s) choice list count k choice′ list′ count′)
           other-is P in
           records-answered l m choice list p (sym early-is ∙ a) Q

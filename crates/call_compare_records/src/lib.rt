@@ -1,4 +1,4 @@
-// The public call that compares two records: copies of both are reduced, and these are compared.
+// The public calls that compare two records: copies of both are reduced, and these are compared.
 use buffers::other_than;
 use call_compare::pair_count;
 use comparison_answer::compare_reduced;
@@ -12,7 +12,9 @@ ghost use Rattle.comparison.specs.internal.ComparedPairs.{HoldsReduced, PairAns
 ghost use Rattle.contracts.specs.Calls.{Call};
 ghost use Rattle.operations.specs.internal.InPlace.{Unrefused, recordIn};
 ghost use Rattle.record.specs.Lent.{heldRows};
+ghost use Rattle.calls.specs.Equivalences.{equivalentRecordsCall};
 ghost use Rattle.calls.specs.RecordComparisons.{compareRecordsCall};
+ghost use Rattle.calls.specs.internal.Limited.{comparingRecordsCall};
 
 // Copies a record into two buffers and reduces it there.
 fn reduce_copy(neighbours: &[u64], codes: &[u8], words: &mut [u64], bytes: &mut [u8])
@@ -28,6 +30,7 @@ fn reduce_copy(neighbours: &[u64], codes: &[u8], words: &mut [u64], bytes: &mut 
 
 // The comparison of two records on n qubits, with room for their reduced copies.
 fn compare_copies(
+    limited: bool,
     n: usize,
     neighbours1: &[u64],
     codes1: &[u8],
@@ -45,7 +48,7 @@ fn compare_copies(
     requires { ⌜ Unrefused (record { n = n; neighbours = now neighbours2; codes = now codes2 }) ⌝ }
     requires { ⌜ (length (now words1) ≡ n) × (length (now bytes1) ≡ n) × (length (now words2) ≡ n)
         × (length (now bytes2) ≡ n) × (length (now choice) ≡ n) × (length (now list) ≡ 96) ⌝ }
-    ensures { λ r. ⌜ PairAnswered n
+    ensures { λ r. ⌜ PairAnswered limited n
         (heldRows (record { n = n; neighbours = now (neighbours1 .entry); codes = now (codes1 .entry) }))
         (heldRows (record { n = n; neighbours = now (neighbours2 .entry); codes = now (codes2 .entry) }))
         (now (choice .entry)) (now (list .entry)) (now (count .entry)) r
@@ -53,12 +56,23 @@ fn compare_copies(
 {
     reduce_copy(neighbours1, codes1, words1, bytes1);
     reduce_copy(neighbours2, codes2, words2, bytes2);
-    compare_reduced(n, words1, bytes1, words2, bytes2, choice, list, count)
+    compare_reduced(
+        limited,
+        n,
+        words1,
+        bytes1,
+        words2,
+        bytes2,
+        choice,
+        list,
+        count,
+    )
 }
 
 // The least choice that carries the group of the first record onto that of the second, and the complementations that
-// turn the first reduced graph into the second.
-pub fn compare_records(
+// turn the first reduced graph into the second; with a limit for the parts or without one.
+fn compare_records_by(
+    limited: bool,
     n1: u64,
     neighbours1: &[u64],
     codes1: &[u8],
@@ -69,7 +83,7 @@ pub fn compare_records(
     list: &mut [u8],
     count: &mut u64,
 ) -> u8
-    ensures { λ r. ⌜ Call (compareRecordsCall
+    ensures { λ r. ⌜ Call (comparingRecordsCall limited
         (record { n = n1; neighbours = now (neighbours1 .entry); codes = now (codes1 .entry) })
         (record { n = n2; neighbours = now (neighbours2 .entry); codes = now (codes2 .entry) })
         (now (choice .entry)) (now (list .entry)) (now (count .entry))
@@ -91,6 +105,7 @@ pub fn compare_records(
     let mut words2 = [0u64; 64];
     let mut bytes2 = [0u8; 64];
     compare_copies(
+        limited,
         n,
         neighbours1,
         codes1,
@@ -100,6 +115,70 @@ pub fn compare_records(
         &mut bytes1[..n],
         &mut words2[..n],
         &mut bytes2[..n],
+        choice,
+        list,
+        count,
+    )
+}
+
+// The comparison with the limit.
+pub fn compare_records(
+    n1: u64,
+    neighbours1: &[u64],
+    codes1: &[u8],
+    n2: u64,
+    neighbours2: &[u64],
+    codes2: &[u8],
+    choice: &mut [u8],
+    list: &mut [u8],
+    count: &mut u64,
+) -> u8
+    ensures { λ r. ⌜ Call (compareRecordsCall
+        (record { n = n1; neighbours = now (neighbours1 .entry); codes = now (codes1 .entry) })
+        (record { n = n2; neighbours = now (neighbours2 .entry); codes = now (codes2 .entry) })
+        (now (choice .entry)) (now (list .entry)) (now (count .entry))
+        (now (choice .exit)) (now (list .exit)) (now (count .exit))) r ⌝ }
+{
+    compare_records_by(
+        true,
+        n1,
+        neighbours1,
+        codes1,
+        n2,
+        neighbours2,
+        codes2,
+        choice,
+        list,
+        count,
+    )
+}
+
+// The comparison of parts of any size.
+pub fn equivalent_records(
+    n1: u64,
+    neighbours1: &[u64],
+    codes1: &[u8],
+    n2: u64,
+    neighbours2: &[u64],
+    codes2: &[u8],
+    choice: &mut [u8],
+    list: &mut [u8],
+    count: &mut u64,
+) -> u8
+    ensures { λ r. ⌜ Call (equivalentRecordsCall
+        (record { n = n1; neighbours = now (neighbours1 .entry); codes = now (codes1 .entry) })
+        (record { n = n2; neighbours = now (neighbours2 .entry); codes = now (codes2 .entry) })
+        (now (choice .entry)) (now (list .entry)) (now (count .entry))
+        (now (choice .exit)) (now (list .exit)) (now (count .exit))) r ⌝ }
+{
+    compare_records_by(
+        false,
+        n1,
+        neighbours1,
+        codes1,
+        n2,
+        neighbours2,
+        codes2,
         choice,
         list,
         count,

@@ -1,7 +1,7 @@
 -- Two records compared: the number of both together is the earlier of their numbers, and the comparison of their reduced
 -- records decides.
 use mathlib.Core.Bool.{Bool, false, not, _||_}
-use mathlib.Core.List.{List, [], _∷_}
+use mathlib.Core.List.{_++_, List, [], _∷_}
 use mathlib.Core.Path.{ap, ap₂, sym, _∙_, _≡_}
 use Prim.Native.Nat.{ℕ}
 use lib.Dec.{eqb, eqb→eq, lit<}
@@ -9,7 +9,7 @@ use borrow.Author.Tests.{eqb-true, not-false}
 use Rattle.buffers.proofs.Lines.{Numbered, more-accepted, passed}
 use Rattle.buffers.specs.Refusals.{Refusal, badCount, firstFitting, line, otherThan}
 use Rattle.comparison.specs.Choices.{noChoice}
-use Rattle.comparison.specs.internal.ComparedPairs.{PairAnswered}
+use Rattle.comparison.specs.internal.ComparedPairs.{PairAnswered, limitLines}
 use Rattle.contracts.specs.Calls.{Call}
 use Rattle.earliest.specs.internal.Earlier.{earlierOf}
 use Rattle.parts.specs.Parts.{partAbove}
@@ -26,8 +26,8 @@ use Rattle.record.specs.Lent.{
 use Rattle.record.specs.Reduced.{reducedGraph}
 use Rattle.words.proofs.Finite.{Law, Of, law}
 use Rattle.words.proofs.Flags.{neither}
+use Rattle.calls.specs.internal.Limited.{comparingRecordsCall}
 use Rattle.calls.specs.RecordComparisons.{
-  compareRecordsCall,
   recordLargePart,
   recordsCount,
   recordsLines,
@@ -80,14 +80,14 @@ module _ (l m : LentRecord) (choice list : List ℕ) (p : recordsCount l m ≡ f
 
   -- no line up to 7 holds: the comparison of the two reduced records decides
   pub records-answered : firstFitting (recordsLines l m choice list) ≡ 0 →
-      {count k : ℕ} {choice′ list′ : List ℕ} {count′ : ℕ} →
-      PairAnswered (l .n) (heldRows l) (heldRows m) choice list count k choice′ list′ count′ →
-      Call (compareRecordsCall l m choice list count choice′ list′ count′) k
-  records-answered a Q =
+      {limited : Bool} {count k : ℕ} {choice′ list′ : List ℕ} {count′ : ℕ} →
+      PairAnswered limited (l .n) (heldRows l) (heldRows m) choice list count k choice′ list′ count′ →
+      Call (comparingRecordsCall limited l m choice list count choice′ list′ count′) k
+  records-answered a {limited} Q =
       record {
         number = Q .number
-            ∙ ap (λ b. firstFitting (line 3 (recordLargePart l || b)
-            ∷ line 13 (noChoice (l .n) (heldRows l) (heldRows m)) ∷ []))
+            ∙ ap (λ b. firstFitting (limitLines limited (recordLargePart l || b)
+            ++ (line 13 (noChoice (l .n) (heldRows l) (heldRows m)) ∷ [])))
             (ap (λ j. partAbove 20 j (reducedGraph j (heldRows m))) counts-agree)
             ∙ sym (more-accepted (recordsLines l m choice list) _ (records-numbered l m choice list) a);
         held = (Q .codes, (Q .vertices, (Q .amount, tt)));

@@ -9,6 +9,7 @@ pub mod Amplitudes
 pub mod Expectations
 pub mod Comparisons
 pub mod RecordComparisons
+pub mod Equivalences
 pub mod Generation
 pub mod Orbits
 pub mod Stores

@@ -107,14 +107,16 @@ module _ (l m : GeneratorList) (same-number : l .n ≡ m .n) (P : Proper (l .n) 
             ∙ ap (λ k. reducedGraph k S i j) same-number;
       }
 
--- ---- the demand
-pub third-demand : ThirdDemand
-third-demand l m choice list count r choice′ list′ count′ C e small small₂ =
-    go (noChoice (l .n) (rows l) (rows m)) refl
+-- ---- the demand, of a call that answers 13 where no choice works, and else 0 with the least choice
+pub decided-by : (l m : GeneratorList) (choice list : List ℕ) → AcceptedPair l m choice list → (r : ℕ)
+    (choice′ list′ : List ℕ) (count′ : ℕ)
+    → ((b : Bool) → noChoice (l .n) (rows l) (rows m) ≡ b → r ≡ cond b 13 0)
+    → (r ≡ 0 → (choice′ ≡ tabulate (l .n) (leastCode (l .n) (rows l) (rows m)))
+    × (list′ ≡ written (compareList (l .n) (rows l) (rows m)) list)
+    × (count′ ≡ length (compareList (l .n) (rows l) (rows m))))
+    → Decided l m list r choice′ list′ count′
+decided-by l m choice list A r choice′ list′ count′ number held = go (noChoice (l .n) (rows l) (rows m)) refl
   where
-    A : AcceptedPair l m choice list
-    A = accepted-pair l m choice list e
-
     P : Proper (l .n) (rows l)
     P = first-proper A
 
@@ -124,16 +126,6 @@ third-demand l m choice list count r choice′ list′ count′ C e small small�
     none : (noChoice (l .n) (rows l) (rows m) ≡ true)
         ↔ ((c : ℕ → Clifford) → Carries (l .n) c (rows l) (rows m) → ⊥)
     none = none-carries (l .n) (rows l) (rows m) (P .within) (Q .within)
-
-    number : (b : Bool) → noChoice (l .n) (rows l) (rows m) ≡ b → r ≡ cond b 13 0
-    number b h =
-        C .number ∙ more-accepted (pairLines l m choice list) _ (pair-numbered l m choice list) e
-        ∙ passed 3 _ (ap₂ _||_ (no-large l small) (no-large m small₂)) ∙ last b h
-      where
-        last : (b : Bool) → noChoice (l .n) (rows l) (rows m) ≡ b
-            → firstFitting (line 13 (noChoice (l .n) (rows l) (rows m)) ∷ []) ≡ cond b 13 0
-        last true k = fits 13 _ k
-        last false k = passed 13 _ k ∙ none-fits
 
     differ : (a : ℕ) → a ≡ 0 → a ≡ 13 → ⊥
     differ a x y = omega (arith, x, y)
@@ -145,6 +137,7 @@ third-demand l m choice list count r choice′ list′ count′ C e small small�
           otherwise = λ not-13. absurd (not-13 (number true h));
         }
     go false h =
+        let H = held (number false h) in
         record {
           exactly = (
             (λ x. absurd (differ r (number false h) x)),
@@ -152,11 +145,22 @@ third-demand l m choice list count r choice′ list′ count′ C e small small�
           );
           otherwise = λ _. (
             number false h,
-            comes-back l m (A .same-count) P Q h list choice′ list′ count′
-                (written-all C (number false h) .0) (written-all C (number false h) .1 .0)
-                (written-all C (number false h) .1 .1 .0),
+            comes-back l m (A .same-count) P Q h list choice′ list′ count′ (H .0) (H .1) (H .2),
           );
         }
+
+-- the last line
+pub last-line : (n : ℕ) (R S : ℕ → Pauli) (b : Bool) → noChoice n R S ≡ b
+    → firstFitting (line 13 (noChoice n R S) ∷ []) ≡ cond b 13 0
+last-line n R S true k = fits 13 _ k
+last-line n R S false k = passed 13 _ k ∙ none-fits
+
+pub third-demand : ThirdDemand
+third-demand l m choice list count r choice′ list′ count′ C e small small₂ =
+    decided-by l m choice list (accepted-pair l m choice list e) r choice′ list′ count′
+    (λ b h. C .number ∙ more-accepted (pairLines l m choice list) _ (pair-numbered l m choice list) e
+    ∙ passed 3 _ (ap₂ _||_ (no-large l small) (no-large m small₂)) ∙ last-line (l .n) (rows l) (rows m) b h)
+    (λ z. (written-all C z .0, written-all C z .1 .0, written-all C z .1 .1 .0))
 
 -- ---- up to 20 qubits: no part of a graph on at most 20 vertices is larger
 pub few-small : (l : GeneratorList) → l .n ≤ 20 → SmallParts l

@@ -47,7 +47,7 @@ use Rattle.claims_compare_records.specs.RecordPairs.{
 }
 
 -- the second record, with n as its number of qubits
-abbrev withCount : LentRecord → ℕ → LentRecord
+abbrev pub withCount : LentRecord → ℕ → LentRecord
 withCount m n = record { n = n; neighbours = m .neighbours; codes = m .codes }
 
 -- ---- the same answer as on the expansions
@@ -125,7 +125,7 @@ record-pairs-demand =
     }
 
 -- ---- records that no line refuses
-records-pass : (l m : LentRecord) (choice list : List ℕ) → AcceptedRecords l m choice list →
+pub records-pass : (l m : LentRecord) (choice list : List ℕ) → AcceptedRecords l m choice list →
     firstFitting (recordsLines l m choice list) ≡ 0
 records-pass l m choice list A =
     no-line l m choice list (record {

@@ -47,8 +47,10 @@ use Rattle.groups.specs.GroupStores.{
 use Rattle.groups.specs.Masks.{inGroup, masked, merged, reachesOut}
 use Rattle.groups.specs.internal.Apart.{Apart, GroupOp, complement-op, cz-op, gate-op, measure-op}
 use Rattle.operations.specs.Steps.{Operation, complementOf, czOn, gateWith, measurementOf}
-use Rattle.store.proofs.ForgottenNames.{forgotten-lookup, held-lookup}
-use Rattle.store.proofs.Lookups.{found-nowhere, saved-lookup}
+use Rattle.store.proofs.ForgottenNames.{forgotten-lookup, forgotten-passing, held-lookup}
+use Rattle.store.proofs.Lookups.{found-nowhere, saved-lookup, saved-passing}
+use Rattle.store.proofs.PassingStores.{store-passes}
+use Rattle.store.specs.StoreLines.{storeLines}
 use Rattle.store.specs.Kept.{savePlace}
 use Rattle.store.specs.Places.{Store, found, holdsName, lookup, nothing, othersHeld, placeAt, placeOf}
 use Rattle.used.specs.Used.{UsedRecord, usedAfter, usedLines, usedStep}
@@ -125,6 +127,9 @@ module _ (word g : ℕ) (u : UsedRecord) (name : ℕ) (st : Store)
         held = λ m. ap (λ own. lookup 4 own m) (saved-left word g lg u name st H L z)
             ∙ saved-lookup 4 (ownPlaces g st) (shared-fits word g u st h .passing) (masked (inGroup word g) u)
             (masked-passes word g u H) name l m;
+        still = subst (λ own. firstFitting (storeLines 4 own false) ≡ 0) (sym (saved-left word g lg u name st H L z))
+            (store-passes 4 _ (saved-passing 4 (ownPlaces g st) (shared-fits word g u st h .passing)
+            (masked (inGroup word g) u) (masked-passes word g u H) name l));
         others = λ h lh ne. placed-other-places g (savePlace 4 ((ownPlaces g st) .heads) name)
             (masked (inGroup word g) u)
             name st lg l (tabulate-length (u .held .n) _ ∙ H .count)
@@ -163,6 +168,13 @@ module _ (word g : ℕ) (u : UsedRecord) (name : ℕ) (st : Store)
             (freed-own-heads g p lg (named-place word g u name st z) (st .heads))
             ∙ forgotten-lookup 4 own (shared-fits word g u st (named-shared word g u name st z) .passing) name
             (named-held word g u name st z) m;
+        still = subst (λ heads. firstFitting (storeLines 4 (record {
+          heads = heads;
+          neighbours = own .neighbours;
+          codes = own .codes;
+        }) false) ≡ 0) (sym (freed-own-heads g p lg (named-place word g u name st z) (st .heads)))
+            (store-passes 4 _ (forgotten-passing 4 own
+            (shared-fits word g u st (named-shared word g u name st z) .passing) name (named-held word g u name st z)));
         free = λ m. ap (λ heads. othersHeld 4 heads m)
             (freed-own-heads g p lg (named-place word g u name st z) (st .heads))
             ∙ forgotten-free 4 own (shared-fits word g u st (named-shared word g u name st z) .passing) name

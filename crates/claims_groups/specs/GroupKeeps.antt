@@ -17,6 +17,7 @@ use Rattle.groups.specs.GroupStores.{ownPlaces, sharedLines}
 use Rattle.groups.specs.Masks.{crosses, inGroup, masked}
 use Rattle.operations.specs.Steps.{complementOf, czOn, gateWith}
 use Rattle.store.specs.Places.{Store, found, lookup, nothing, othersHeld}
+use Rattle.store.specs.StoreLines.{storeLines}
 use Rattle.used.specs.Used.{UsedRecord, usedLines}
 use Rattle.words.specs.Bits.{bit}
 
@@ -70,6 +71,8 @@ OtherPlacesStay g st after = (h : ℕ) → h < 2 → (h ≡ g → ⊥) → ownPl
 pub record GroupSaveKeeps (word g : ℕ) (u : UsedRecord) (name : ℕ) (st after : Store) : Type 0 where
   pub held : (m : ℕ) → lookup 4 (ownPlaces g after) m
       ≡ cond (eqb m name) (found (masked (inGroup word g) u)) (lookup 4 (ownPlaces g st) m)
+  -- no line refuses what the group's places hold
+  pub still : firstFitting (storeLines 4 (ownPlaces g after) false) ≡ 0
   pub others : OtherPlacesStay g st after
 
 -- of every accepted save of a group
@@ -81,6 +84,7 @@ GroupSavesKeep = (word g : ℕ) (u : UsedRecord) (name : ℕ) (st : Store) (head
 -- nothing under the name, under its other names what was held
 pub record GroupForgetKeeps (g name : ℕ) (st after : Store) : Type 0 where
   pub held : (m : ℕ) → lookup 4 (ownPlaces g after) m ≡ cond (eqb m name) nothing (lookup 4 (ownPlaces g st) m)
+  pub still : firstFitting (storeLines 4 (ownPlaces g after) false) ≡ 0
   -- so that 18 does not refuse the group's next save, whatever its name
   pub free : (m : ℕ) → othersHeld 4 ((ownPlaces g after) .heads) m ≡ false
   pub others : OtherPlacesStay g st after

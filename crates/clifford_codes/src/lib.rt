@@ -1,15 +1,14 @@
 // The 24 local Cliffords as codes: 4 × class + 2 × sx + sz. Composition is a table; images and inverses are worked out
 // from the class and the signs.
-use clifford_tables::after_one;
-use clifford_tables::after_thirteen;
-use clifford_tables::after_two;
 use clifford_tables::entry;
+use clifford_tables::row;
 use pauli::Letter;
 use pauli::letter_of;
 use pauli::x_bit;
 use pauli::z_bit;
 ghost use mathlib.Core.Path.{_≡_};
-ghost use Prim.Native.Nat.{_<_};
+ghost use Prim.Native.Nat.{ℕ, _<_};
+ghost use lib.ListN.{getD};
 ghost use Rattle.pauli.specs.Pauli.{minus};
 ghost use Rattle.clifford.specs.Clifford.{bitC, bitD, classOf, cliffordOf, codeOf, imageX, imageZ};
 ghost use Rattle.clifford.specs.Clifford.{image, imagePhase, inverse, then};
@@ -79,7 +78,8 @@ pub struct Code {
 }
 
 impl Code {
-    // First this code, then the next.
+    // First this code, then the next, off the table. The codes 1, 11 and 13, which rewritings put first and no reduced
+    // record holds, go by their row, of which the compiler keeps 24 entries, and not the 576 of the table.
     pub fn then(self, next: Code) -> Code
         requires { ⌜ (self .index < 24) × (next .index < 24) ⌝ }
         ensures { λ r. ⌜ r .index ≡ codeOf (then (cliffordOf (self .index)) (cliffordOf (next .index))) ⌝ }
@@ -88,19 +88,25 @@ impl Code {
         let first = self.index;
         let b = next.index;
         match first {
-            1 => Code {
-                index: after_one(b),
-            },
-            2 => Code {
-                index: after_two(b),
-            },
-            13 => Code {
-                index: after_thirteen(b),
-            },
+            1 | 11 | 13 => {
+                let codes = row(first);
+                Code {
+                    index: codes[b as usize],
+                }
+            }
             _ => Code {
                 index: entry(first, b),
             },
         }
+    }
+
+    // This code and then each of the 24, the row of the table, for a loop that puts it before many.
+    pub fn before_each(self) -> [u8; 24]
+        requires { ⌜ self .index < 24 ⌝ }
+        ensures { λ r. ⌜ ((b : ℕ) → b < 24
+            → getD r b 0 ≡ codeOf (then (cliffordOf (self .index)) (cliffordOf b))) ⌝ }
+    {
+        row(self.index)
     }
 
     // The code that undoes this one. Classes 4 and 5 undo each other, the others themselves; X and Z go back to the

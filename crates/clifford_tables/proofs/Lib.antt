@@ -1,2 +1,1 @@
-pub mod RowWords
 pub mod TableRules

@@ -1,7 +1,7 @@
 -- The constant table of the source, and its rule, by one computed test over the whole table.
 use mathlib.Core.Bool.{_&&_, Bool, true}
 use mathlib.Core.List.{List, [], _∷_}
-use mathlib.Core.Path.{ap₂, subst, _∙_, _≡_}
+use mathlib.Core.Path.{ap, ap₂, subst, _∙_, _≡_}
 use Prim.Native.Nat.{_%_, _*_, _+_, _/_, _<_, suc, zero, ℕ}
 use native.Mathlib.Nat.{add-suc, add-zero, le-of-suc-le-suc, not-suc-le-zero, suc-add, zero-add}
 use native.Mathlib.Omega.{arith}
@@ -90,3 +90,10 @@ then-entry a b ha hb =
     entry (λ k. codeOf (then (cliffordOf (k / 24)) (cliffordOf (k % 24)))) thenTable tt (24 * a
     + b) (omega arith)
     ∙ ap₂ (λ u v. codeOf (then (cliffordOf u) (cliffordOf v))) quotient rest
+
+-- the 24 entries from place 24 a on are 'first a', then each code
+pub then-row : (row : List ℕ) (start a : ℕ) → a < 24 → start ≡ 24 * a
+    → ((b : ℕ) → b < 24 → getD row b 0 ≡ getD thenTable (start + b) 0)
+    → (b : ℕ) → b < 24 → getD row b 0 ≡ codeOf (then (cliffordOf a) (cliffordOf b))
+then-row row start a ha e h b hb =
+    h b hb ∙ ap (λ s. getD thenTable (s + b) 0) e ∙ then-entry a b ha hb

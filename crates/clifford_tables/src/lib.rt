@@ -1,71 +1,11 @@
-// The composition of codes: a table; and of the codes that rewritings and moved signs put first, its row as a flipped
-// sign, in two words, or by itself.
+// The composition of codes: a table, and its rows.
 mod tables;
 
 use tables::THEN;
 ghost use mathlib.Core.Path.{_≡_};
-ghost use Prim.Native.Nat.{ℕ, _<_};
+ghost use Prim.Native.Nat.{ℕ, _+_, _<_, _≤_};
 ghost use lib.ListN.{getD};
 ghost use Rattle.clifford.specs.Clifford.{cliffordOf, codeOf, then};
-
-// The codes 1 and 2 and then another: a sign is flipped.
-pub fn after_one(b: u8) -> u8
-    requires { ⌜ b < 24 ⌝ }
-    ensures { λ r. ⌜ (r ≡ codeOf (then (cliffordOf 1) (cliffordOf b))) × (r < 24) ⌝ }
-{
-    b ^ 1
-}
-
-pub fn after_two(b: u8) -> u8
-    requires { ⌜ b < 24 ⌝ }
-    ensures { λ r. ⌜ (r ≡ codeOf (then (cliffordOf 2) (cliffordOf b))) × (r < 24) ⌝ }
-{
-    b ^ 2
-}
-
-// The code 13 and then another, by the row of the table in two words, five bits for each entry.
-pub fn after_thirteen(b: u8) -> u8
-    requires { ⌜ b < 24 ⌝ }
-    ensures { λ r. ⌜ (r ≡ codeOf (then (cliffordOf 13) (cliffordOf b))) × (r < 24) ⌝ }
-{
-    if b < 12 {
-        ((0xb5eb494e307b98du64 >> (5 * b)) % 32) as u8
-    } else {
-        ((0x5a9093988510c20u64 >> (5 * (b - 12))) % 32) as u8
-    }
-}
-
-// The row of the table for the code 6, for a loop that puts it before many codes: entry b is 6 and then b.
-pub fn row_of_six() -> [u8; 24]
-    ensures { λ r. ⌜ ((b : ℕ) → b < 24 → getD r b 0 ≡ codeOf (then (cliffordOf 6) (cliffordOf b))) ⌝ }
-{
-    [
-        6,
-        5,
-        4,
-        7,
-        0,
-        3,
-        2,
-        1,
-        16, // 6 then 8
-        19,
-        18,
-        17,
-        20,
-        23,
-        22,
-        21,
-        10,
-        9,
-        8,
-        11,
-        14,
-        13,
-        12,
-        15,
-    ]
-}
 
 // The entry of the table.
 pub fn entry(first: u8, next: u8) -> u8
@@ -75,4 +15,52 @@ pub fn entry(first: u8, next: u8) -> u8
     let a = first as usize;
     let b = next as usize;
     THEN[24 * a + b]
+}
+
+// 24 entries of a table, from a place on.
+fn entries(table: &[u8; 576], start: usize) -> [u8; 24]
+    requires { ⌜ start ≤ 552 ⌝ }
+    ensures { λ r. ⌜ ((b : ℕ) → b < 24 → getD r b 0 ≡ getD (now (table .entry)) (start + b) 0) ⌝ }
+{
+    let mut row = [0; 24];
+    let mut b = 0;
+    while b < 24 {
+        row[b] = table[start + b];
+        b += 1;
+    }
+    row
+}
+
+// The row of the table for a code that comes before others: entry b is the code and then b. The codes that rewritings and
+// moved signs put first have places that the compiler knows, and of the table it then keeps their 24 entries alone.
+pub fn row(first: u8) -> [u8; 24]
+    requires { ⌜ first < 24 ⌝ }
+    ensures { λ r. ⌜ ((b : ℕ) → b < 24 → getD r b 0 ≡ codeOf (then (cliffordOf first) (cliffordOf b))) ⌝ }
+{
+    match first {
+        1 => {
+            let table = THEN;
+            entries(&table, 24)
+        }
+        2 => {
+            let table = THEN;
+            entries(&table, 48)
+        }
+        6 => {
+            let table = THEN;
+            entries(&table, 144)
+        }
+        11 => {
+            let table = THEN;
+            entries(&table, 264)
+        }
+        13 => {
+            let table = THEN;
+            entries(&table, 312)
+        }
+        _ => {
+            let table = THEN;
+            entries(&table, 24 * (first as usize))
+        }
+    }
 }

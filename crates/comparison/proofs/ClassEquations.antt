@@ -17,7 +17,7 @@ use Rattle.stabilizer.proofs.Products.{anticommute-form}
 use Rattle.stabilizer.specs.Carries.{Carries}
 use Rattle.stabilizer.specs.Groups.{InGroup, Proper, Within}
 use Rattle.words.proofs.BitLaws.{bit-above, bit-and, bit-wordOf, lt-of-bits, wordOf-lt}
-use Rattle.words.proofs.Finite.{bits, ⊕-zero}
+use Rattle.words.proofs.Finite.{bits}
 use Rattle.words.proofs.OnesLaws.{dot-bits}
 use Rattle.words.proofs.Sums.{fold-ext, lt-or-ge, parity-add}
 use Rattle.words.specs.Bits.{Word, bit, digit, isOdd, parity, wordOf, _⊕_}
@@ -78,7 +78,6 @@ module _ (n : ℕ) (k : ℕ → Clifford) (g h : Generator) (W : Within n (gener
       ∙ parity-add n _ _ ∙ ap₂ _⊕_ (parity-add n _ _) (parity-add n _ _)
       ∙ ap₂ _⊕_ (ap₂ _⊕_ (word (g .z) (h .x) _ gz) (word (g .x) (h .x) _ gx))
       (ap₂ _⊕_ (word (g .z) (h .z) _ gz) (word (g .x) (h .z) _ gx))
-      ∙ sym (⊕-zero _)
     where
       gz : g .z < 2 ^ n
       gz = z-word-lt n g W

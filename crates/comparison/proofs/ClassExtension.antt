@@ -23,7 +23,7 @@ use Rattle.stabilizer.proofs.Products.{anticommute-form}
 use Rattle.stabilizer.proofs.Within.{act-within}
 use Rattle.stabilizer.specs.Groups.{Proper, Within}
 use Rattle.words.proofs.BitLaws.{bit-and, bit-wordOf}
-use Rattle.words.proofs.Finite.{bits, ⊕-zero}
+use Rattle.words.proofs.Finite.{bits}
 use Rattle.words.proofs.OnesLaws.{parity-ones}
 use Rattle.words.proofs.Places.{⊕-cancel}
 use Rattle.words.proofs.Sums.{fold-ext, parity-add}
@@ -110,7 +110,6 @@ module _ (n : ℕ) (w : Assignment) (g h : Generator) (W : Within n (generatorOf
       ∙ parity-add n _ _ ∙ ap₂ _⊕_ (parity-add n _ _) (parity-add n _ _)
       ∙ ap₂ _⊕_ (ap₂ _⊕_ (word (g .z) (h .x) (w .a) gz) (word (g .x) (h .x) (w .b) gx))
       (ap₂ _⊕_ (word (g .z) (h .z) (w .c) gz) (word (g .x) (h .z) (w .d) gx))
-      ∙ sym (⊕-zero _)
     where
       gz : g .z < 2 ^ n
       gz = z-word-lt n g W

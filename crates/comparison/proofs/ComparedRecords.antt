@@ -4,7 +4,6 @@ use mathlib.Core.List.{List}
 use mathlib.Core.Logic.{_↔_}
 use mathlib.Core.Path.{ap, fun-ext, refl, sym, _∙_, _≡_}
 use Prim.Native.Nat.{_<_, _^_, ℕ, _≤_}
-use native.Mathlib.Omega.{arith}
 use lib.ListN.{getD}
 use Rattle.clifford.proofs.CliffordLaws.{cliffordOf-codeOf}
 use Rattle.clifford.specs.Clifford.{Clifford, cliffordOf, codeOf, inverse}
@@ -40,7 +39,7 @@ use Rattle.comparison.specs.internal.Setting.{
   heldGenerators,
 }
 
-module _ (n : ℕ) (few : n ≤ 20) (neighbours codes : List ℕ) (S : SoundRecord n neighbours codes) where
+module _ (n : ℕ) (few : n ≤ 64) (neighbours codes : List ℕ) (S : SoundRecord n neighbours codes) where
   abbrev lent : LentRecord
   lent = record { n = n; neighbours = neighbours; codes = codes }
 
@@ -52,7 +51,7 @@ module _ (n : ℕ) (few : n ≤ 20) (neighbours codes : List ℕ) (S : SoundReco
       → r ≡ act 64 (codesOf codes) (signedRow false (getD neighbours j 0) x) → r ≡ heldRows lent j
   generator-sent j l x ex r e =
       e ∙ ap (act 64 (codesOf codes)) plain
-      ∙ act-wide n 64 (omega (arith, few)) (graph-within n ((heldRecord lent) .graph) (S .simple) j l)
+      ∙ act-wide n 64 few (graph-within n ((heldRecord lent) .graph) (S .simple) j l)
       (codesOf codes)
     where
       plain : signedRow false (getD neighbours j 0) x ≡ graphGenerator ((heldRecord lent) .graph) j
@@ -117,7 +116,7 @@ rows-answer n rows rows′ others others′ P Q h k =
     (same-rows n n rows rows rows′ h same-refl) (same-rows n n others others others′ k same-refl)
 
 -- ---- two lent records, from what the code's calls make
-module _ (n : ℕ) (few : n ≤ 20) (neighbours codes neighbours′ codes′ : List ℕ)
+module _ (n : ℕ) (few : n ≤ 64) (neighbours codes neighbours′ codes′ : List ℕ)
     (S : SoundRecord n neighbours codes)
     (S′ : SoundRecord n neighbours′ codes′) (first second : List Generator) (frame : List ℕ)
     (hf : (j : ℕ) → j < n

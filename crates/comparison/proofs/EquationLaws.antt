@@ -32,34 +32,34 @@ zero-dot w = dot-bits w 0 w (pow-pos w) (lt-pow w)
 pub empty-holds : (w : Assignment) → fails emptyEquation w ≡ false
 unfolding fails
 empty-holds w =
-    ap₂ (λ u v. u ⊕ v ⊕ false)
+    ap₂ _⊕_
     (ap₂ _⊕_ (zero-dot (w .a)) (zero-dot (w .b))) (ap₂ _⊕_ (zero-dot (w .c)) (zero-dot (w .d)))
 
 pub fails-added : (e f : Equation) (w : Assignment) → fails (added e f) w ≡ fails e w ⊕ fails f w
 unfolding fails
 fails-added e f w =
-    ap₂ (λ u v. u ⊕ v ⊕ (e .sum ⊕ f .sum))
+    ap₂ _⊕_
     (ap₂ _⊕_ (dot-xor (e .a) (f .a) (w .a)) (dot-xor (e .b) (f .b) (w .b)))
     (ap₂ _⊕_ (dot-xor (e .c) (f .c) (w .c)) (dot-xor (e .d) (f .d) (w .d)))
     ∙ regroup (dot (e .a) (w .a)) (dot (f .a) (w .a)) (dot (e .b) (w .b)) (dot (f .b) (w .b))
     (dot (e .c) (w .c))
-    (dot (f .c) (w .c)) (dot (e .d) (w .d)) (dot (f .d) (w .d)) (e .sum) (f .sum)
+    (dot (f .c) (w .c)) (dot (e .d) (w .d)) (dot (f .d) (w .d))
   where
-    regroup : (a a′ b b′ c c′ d d′ s s′ : Bool) → (((a ⊕ a′) ⊕ (b ⊕ b′)) ⊕ ((c ⊕ c′) ⊕ (d ⊕ d′))) ⊕ (s ⊕ s′)
-        ≡ (((a ⊕ b) ⊕ (c ⊕ d)) ⊕ s) ⊕ (((a′ ⊕ b′) ⊕ (c′ ⊕ d′)) ⊕ s′)
+    regroup : (a a′ b b′ c c′ d d′ : Bool) → ((a ⊕ a′) ⊕ (b ⊕ b′)) ⊕ ((c ⊕ c′) ⊕ (d ⊕ d′))
+        ≡ ((a ⊕ b) ⊕ (c ⊕ d)) ⊕ ((a′ ⊕ b′) ⊕ (c′ ⊕ d′))
     regroup =
-        bits 10 (λ a a′ b b′ c c′ d d′ s s′. (((a ⊕ a′) ⊕ (b ⊕ b′)) ⊕ ((c ⊕ c′) ⊕ (d ⊕ d′))) ⊕ (s ⊕ s′))
-        (λ a a′ b b′ c c′ d d′ s s′. (((a ⊕ b) ⊕ (c ⊕ d)) ⊕ s) ⊕ (((a′ ⊕ b′) ⊕ (c′ ⊕ d′)) ⊕ s′)) tt
+        bits 8 (λ a a′ b b′ c c′ d d′. ((a ⊕ a′) ⊕ (b ⊕ b′)) ⊕ ((c ⊕ c′) ⊕ (d ⊕ d′)))
+        (λ a a′ b b′ c c′ d d′. ((a ⊕ b) ⊕ (c ⊕ d)) ⊕ ((a′ ⊕ b′) ⊕ (c′ ⊕ d′))) tt
 
 -- ---- unknowns
 -- the assignment of zeros
 abbrev pub zeroAssignment : Assignment
 zeroAssignment = record { a = 0; b = 0; c = 0; d = 0 }
 
-pub fails-zero : (e : Equation) → fails e zeroAssignment ≡ e .sum
+pub fails-zero : (e : Equation) → fails e zeroAssignment ≡ false
 unfolding fails
 fails-zero e =
-    ap₂ (λ u v. u ⊕ v ⊕ e .sum) (ap₂ _⊕_ (none (e .a)) (none (e .b))) (ap₂ _⊕_ (none (e .c)) (none (e .d)))
+    ap₂ _⊕_ (ap₂ _⊕_ (none (e .a)) (none (e .b))) (ap₂ _⊕_ (none (e .c)) (none (e .d)))
   where
     none : (u : ℕ) → dot u 0 ≡ false
     none u = dot-comm u 0 ∙ zero-dot u
@@ -115,13 +115,13 @@ dot-below m e u v h k =
 pub fails-below : (e : Equation) (m : ℕ) → Short m e → (w v : Assignment) → SameBelow m w v → fails e w ≡ fails e v
 unfolding fails
 fails-below e m h w v s =
-    ap₂ (λ x y. x ⊕ y ⊕ e .sum)
+    ap₂ _⊕_
     (ap₂ _⊕_ (dot-below m (e .a) (w .a) (v .a) (short-word e m h 0 (lit< tt)) (s .a))
     (dot-below m (e .b) (w .b) (v .b) (short-word e m h 1 (lit< tt)) (s .b)))
     (ap₂ _⊕_ (dot-below m (e .c) (w .c) (v .c) (short-word e m h 2 (lit< tt)) (s .c))
     (dot-below m (e .d) (w .d) (v .d) (short-word e m h 3 (lit< tt)) (s .d)))
 
-pub no-unknowns : (e : Equation) → ((j : ℕ) → unknown e j ≡ false) → (w : Assignment) → fails e w ≡ e .sum
+pub no-unknowns : (e : Equation) → ((j : ℕ) → unknown e j ≡ false) → (w : Assignment) → fails e w ≡ false
 no-unknowns e h w = fails-below e 0 (λ j l. h j) w zeroAssignment nothing ∙ fails-zero e
   where
     nothing : SameBelow 0 w zeroAssignment

@@ -1,42 +1,38 @@
 -- The tables of equations: one more equation, those on the classes and those on the signs.
-use mathlib.Core.Bool.{_&&_, Bool, false}
-use mathlib.Core.List.{List, []}
+use mathlib.Core.Bool.{_&&_, Bool, false, true}
+use mathlib.Core.List.{List}
 use mathlib.Core.Logic.{inl, inr, _⊎_}
 use mathlib.Core.Path.{ap, ap₂, refl, subst, sym, _∙_, _≡_}
-use Prim.Native.Nat.{_%_, _*_, _+_, _/_, _<_, _^_, suc, zero, ℕ, _≤_}
-use native.Mathlib.Nat.{le-trans, ne-of-lt, not-suc-le-zero}
+use Prim.Native.Nat.{_%_, _*_, _+_, _/_, _<_, suc, zero, ℕ, _≤_}
+use native.Mathlib.Nat.{not-suc-le-zero}
 use native.Mathlib.Omega.{arith}
 use lib.Bits.{bitAnd}
-use lib.ListN.{getD, length, replicate, set}
-use lib.Seq.{getD-set-other, getD-set-same}
-use borrow.Author.Count.{below-more}
+use lib.Dec.{lit<}
+use lib.ListN.{getD, replicate}
 use Rattle.pauli.specs.internal.Rows.{generatorOf}
 use Rattle.pauli.specs.declared.Generator.{Generator}
 use Rattle.stabilizer.specs.Groups.{Within}
-use Rattle.words.proofs.BitLaws.{bit-and, lt-of-bits, zero-bit}
+use Rattle.words.proofs.BitLaws.{bit-above, bit-and, zero-bit}
 use Rattle.words.proofs.Sums.{last-or}
-use Rattle.words.specs.Bits.{bit, wordOf}
-use Rattle.comparison.proofs.EquationLaws.{Short, empty-holds, empty-unknown, fails-zero, zeroAssignment}
+use Rattle.words.specs.Bits.{bit, digit}
+use Rattle.comparison.proofs.EquationLaws.{Short, empty-holds, empty-unknown}
 use Rattle.comparison.specs.internal.Equations.{
   Assignment,
   Equation,
   Inserted,
   Solves,
   Triangular,
-  bitOf,
   classEquation,
   emptyEquation,
   emptyRows,
   equationAt,
-  equationOf,
   fails,
   equationsIn,
-  secondPart,
   signEquation,
   unknown,
   wordAt,
 }
-use Rattle.comparison.specs.internal.Searches.{ClassAsked, ClassTable, SecondParts, TableOf}
+use Rattle.comparison.specs.internal.Searches.{ClassAsked, ClassTable, TableOf}
 use Rattle.comparison.specs.internal.Setting.{noGenerator}
 
 -- ---- a table without equations
@@ -46,16 +42,16 @@ module _ where
   all-empty (suc k) zero = refl
   all-empty (suc k) (suc i) = all-empty k i
 
-  pub empty-table : Triangular (replicate 80 emptyEquation)
+  pub empty-table : Triangular (replicate 256 emptyEquation)
   empty-table =
       record {
         long = refl;
-        above = λ i j l. ap (λ e. unknown e j) (all-empty 80 i) ∙ empty-unknown j;
-        leading = λ i. inr (all-empty 80 i);
+        above = λ i j l. ap (λ e. unknown e j) (all-empty 256 i) ∙ empty-unknown j;
+        leading = λ i. inr (all-empty 256 i);
       }
 
-  pub empty-solved : (w : Assignment) → Solves (replicate 80 emptyEquation) w
-  empty-solved w i = ap (λ e. fails e w) (all-empty 80 i) ∙ empty-holds w
+  pub empty-solved : (w : Assignment) → Solves (replicate 256 emptyEquation) w
+  empty-solved w i = ap (λ e. fails e w) (all-empty 256 i) ∙ empty-holds w
 
 -- nothing asked
 pub nothing-asked : (A : Equation → Type 0) → ((e : Equation) → A e → ⊥) → (table : List Equation) → Triangular table
@@ -63,12 +59,11 @@ pub nothing-asked : (A : Equation → Type 0) → ((e : Equation) → A e → �
 nothing-asked A none table T S =
     record { triangular = T; kept = λ w h. S w; asks = λ w s e a. absurd (none e a) }
 
--- ---- one equation more, if there is a common solution
+-- ---- one equation more
 pub one-asked : (A B : Equation → Type 0) (table : List Equation) (e : Equation) (result : List Equation)
     → TableOf A table → Inserted table e result → ((f : Equation) → B f → A f ⊎ (f ≡ e))
-    → ((f : Equation) → A f → B f) → B e → (v : Assignment) → ((f : Equation) → B f → fails f v ≡ false)
-    → TableOf B result
-one-asked A B table e result T I split old new v known =
+    → ((f : Equation) → A f → B f) → B e → TableOf B result
+one-asked A B table e result T I split old new =
     record {
       triangular = I .triangular;
       kept = keep;
@@ -80,7 +75,7 @@ one-asked A B table e result T I split old new v known =
 
     ask : (w : Assignment) → Solves result w → (f : Equation) → A f ⊎ (f ≡ e) → fails f w ≡ false
     ask w s f (inl a) = T .asks w (I .older w s) f a
-    ask w s f (inr p) = ap (λ f. fails f w) p ∙ I .constant w v s (keep v known) ∙ known e new
+    ask w s f (inr p) = ap (λ f. fails f w) p ∙ I .asked w s
 
 pub asked-same : (A B : Equation → Type 0) (table : List Equation) → ((f : Equation) → B f → A f)
     → ((f : Equation) → A f → B f) → TableOf A table → TableOf B table
@@ -113,17 +108,13 @@ class-short n g h W =
     part : (u v : ℕ) → ((q : ℕ) → n ≤ q → bit u q ≡ false) → (q : ℕ) → n ≤ q → bit (bitAnd u v) q ≡ false
     part u v k q l = bit-and u v q ∙ ap (λ b. b && bit v q) (k q l)
 
-pub sign-short : (n : ℕ) (g : Generator) (s : Bool) → Within n (generatorOf g) → Short n (signEquation g s)
-sign-short n g s W =
-    by-words n (signEquation g s) (W .no-x) (W .no-z) (λ q l. zero-bit q) (λ q l. zero-bit q)
-
--- ---- the words of a generator on at most 20 qubits
-module _ (n : ℕ) (few : n ≤ 20) (g : Generator) (W : Within n (generatorOf g)) where
-  pub few-z : g .z < 2 ^ 20
-  few-z = lt-of-bits 20 (g .z) (λ q l. W .no-z q (le-trans few l))
-
-  pub few-x : g .x < 2 ^ 20
-  few-x = lt-of-bits 20 (g .x) (λ q l. W .no-x q (le-trans few l))
+pub sign-short : (n : ℕ) (g : Generator) (s : Bool) → 0 < n → Within n (generatorOf g) → Short n (signEquation g s)
+sign-short n g s some W =
+    by-words n (signEquation g s) (W .no-x) (W .no-z) (one s) (λ q l. zero-bit q)
+  where
+    one : (s : Bool) (q : ℕ) → n ≤ q → bit (digit s) q ≡ false
+    one false q l = zero-bit q
+    one true q l = bit-above 1 1 (lit< tt) q (omega (arith, some, l))
 
 -- ---- the equations on the classes
 module _ (n : ℕ) (first second : List Generator) where
@@ -141,8 +132,7 @@ module _ (n : ℕ) (first second : List Generator) where
   class-more i j l table e result T he I =
       one-asked (ClassAsked n first second i j) (ClassAsked n first second i (j + 1)) table e result T I
       (λ f b. split f (b .0) (b .1) (b .2) (b .3) (b .4))
-      (λ f a. (a .0, a .1, a .2, wider (a .3), a .4)) (i, j, l, inr (refl, omega arith), he) zeroAssignment
-      (λ f b. ap (λ f. fails f zeroAssignment) (b .4) ∙ fails-zero _)
+      (λ f a. (a .0, a .1, a .2, wider (a .3), a .4)) (i, j, l, inr (refl, omega arith), he)
     where
       wider : {s t : ℕ} → (s < i) ⊎ ((s ≡ i) × (t < j)) → (s < i) ⊎ ((s ≡ i) × (t < j + 1))
       wider (inl l) = inl l
@@ -197,21 +187,7 @@ module _ (n : ℕ) (first second : List Generator) where
 
 -- the code's table without equations
 pub empty-rows : (rows : List (List ℕ)) → rows ≡ emptyRows → Triangular (equationsIn rows)
-unfolding wordOf bit bitOf
 empty-rows rows e = subst (λ r. Triangular (equationsIn r)) (sym e) empty-table
 
 pub empty-rows-solved : (rows : List (List ℕ)) → rows ≡ emptyRows → (w : Assignment) → Solves (equationsIn rows) w
-unfolding wordOf bit bitOf
 empty-rows-solved rows e w = subst (λ r. Solves (equationsIn r) w) (sym e) (empty-solved w)
-
--- ---- what the generators of the second group give to the equations
-pub no-parts : (second : List Generator) (parts : List (List ℕ)) → SecondParts second parts 0
-no-parts second parts j l = absurd (not-suc-le-zero l)
-
-pub one-part-more : (second : List Generator) (parts : List (List ℕ)) (i : ℕ) (r : List ℕ) → i < length parts
-    → equationOf r ≡ secondPart (getD second i noGenerator) → SecondParts second parts i
-    → SecondParts second (set parts i r) (i + 1)
-one-part-more second parts i r long here S =
-    below-more (λ j. equationOf (getD (set parts i r) j []) ≡ secondPart (getD second j noGenerator)) i
-    (λ j l. ap equationOf (getD-set-other parts i j r [] (ne-of-lt l)) ∙ S j l)
-    (ap equationOf (getD-set-same parts i r [] long) ∙ here)

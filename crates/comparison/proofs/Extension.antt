@@ -33,7 +33,7 @@ pub dot-short : (n u v : ℕ) → v < 2 ^ n → dot u v ≡ parity n (λ q. bit 
 unfolding dot
 dot-short n u v l = parity-ones n _ (and-lt-right n u v l) ∙ fold-ext false _⊕_ n (λ q k. bit-and u v q)
 
-dot-single : (u q : ℕ) → dot u (2 ^ q) ≡ bit u q
+pub dot-single : (u q : ℕ) → dot u (2 ^ q) ≡ bit u q
 dot-single u q =
     dot-short (suc q) u (2 ^ q) (lt-of-bits (suc q) (2 ^ q) (λ t l. bit-single q t ∙ other-place (λ e. ne-of-lt l (sym e))))
     ∙ fold-ext false _⊕_ (suc q) (λ t l. ap (λ b. bit u t && b) (bit-single q t))
@@ -52,21 +52,21 @@ fails-changed : (l q : ℕ) (e : Equation) (w : Assignment)
     → fails e (changed l q w) ≡ fails e w ⊕ bit (wordAt l (e .a) (e .b) (e .c) (e .d)) q
 unfolding fails
 fails-changed zero q e w =
-    ap (λ t. ((t ⊕ dot (e .b) (w .b)) ⊕ (dot (e .c) (w .c) ⊕ dot (e .d) (w .d))) ⊕ e .sum) (dot-changed (e .a) (w .a) q)
-    ∙ bits 6 (λ a b c d s t. (((a ⊕ t) ⊕ b) ⊕ (c ⊕ d)) ⊕ s) (λ a b c d s t. (((a ⊕ b) ⊕ (c ⊕ d)) ⊕ s) ⊕ t) tt
-    (dot (e .a) (w .a)) (dot (e .b) (w .b)) (dot (e .c) (w .c)) (dot (e .d) (w .d)) (e .sum) (bit (e .a) q)
+    ap (λ t. (t ⊕ dot (e .b) (w .b)) ⊕ (dot (e .c) (w .c) ⊕ dot (e .d) (w .d))) (dot-changed (e .a) (w .a) q)
+    ∙ bits 5 (λ a b c d t. ((a ⊕ t) ⊕ b) ⊕ (c ⊕ d)) (λ a b c d t. ((a ⊕ b) ⊕ (c ⊕ d)) ⊕ t) tt
+    (dot (e .a) (w .a)) (dot (e .b) (w .b)) (dot (e .c) (w .c)) (dot (e .d) (w .d)) (bit (e .a) q)
 fails-changed (suc zero) q e w =
-    ap (λ t. ((dot (e .a) (w .a) ⊕ t) ⊕ (dot (e .c) (w .c) ⊕ dot (e .d) (w .d))) ⊕ e .sum) (dot-changed (e .b) (w .b) q)
-    ∙ bits 6 (λ a b c d s t. ((a ⊕ (b ⊕ t)) ⊕ (c ⊕ d)) ⊕ s) (λ a b c d s t. (((a ⊕ b) ⊕ (c ⊕ d)) ⊕ s) ⊕ t) tt
-    (dot (e .a) (w .a)) (dot (e .b) (w .b)) (dot (e .c) (w .c)) (dot (e .d) (w .d)) (e .sum) (bit (e .b) q)
+    ap (λ t. ((dot (e .a) (w .a) ⊕ t) ⊕ (dot (e .c) (w .c) ⊕ dot (e .d) (w .d)))) (dot-changed (e .b) (w .b) q)
+    ∙ bits 5 (λ a b c d t. (a ⊕ (b ⊕ t)) ⊕ (c ⊕ d)) (λ a b c d t. ((a ⊕ b) ⊕ (c ⊕ d)) ⊕ t) tt
+    (dot (e .a) (w .a)) (dot (e .b) (w .b)) (dot (e .c) (w .c)) (dot (e .d) (w .d)) (bit (e .b) q)
 fails-changed (suc (suc zero)) q e w =
-    ap (λ t. ((dot (e .a) (w .a) ⊕ dot (e .b) (w .b)) ⊕ (t ⊕ dot (e .d) (w .d))) ⊕ e .sum) (dot-changed (e .c) (w .c) q)
-    ∙ bits 6 (λ a b c d s t. ((a ⊕ b) ⊕ ((c ⊕ t) ⊕ d)) ⊕ s) (λ a b c d s t. (((a ⊕ b) ⊕ (c ⊕ d)) ⊕ s) ⊕ t) tt
-    (dot (e .a) (w .a)) (dot (e .b) (w .b)) (dot (e .c) (w .c)) (dot (e .d) (w .d)) (e .sum) (bit (e .c) q)
+    ap (λ t. ((dot (e .a) (w .a) ⊕ dot (e .b) (w .b)) ⊕ (t ⊕ dot (e .d) (w .d)))) (dot-changed (e .c) (w .c) q)
+    ∙ bits 5 (λ a b c d t. (a ⊕ b) ⊕ ((c ⊕ t) ⊕ d)) (λ a b c d t. ((a ⊕ b) ⊕ (c ⊕ d)) ⊕ t) tt
+    (dot (e .a) (w .a)) (dot (e .b) (w .b)) (dot (e .c) (w .c)) (dot (e .d) (w .d)) (bit (e .c) q)
 fails-changed (suc (suc (suc l))) q e w =
-    ap (λ t. ((dot (e .a) (w .a) ⊕ dot (e .b) (w .b)) ⊕ (dot (e .c) (w .c) ⊕ t)) ⊕ e .sum) (dot-changed (e .d) (w .d) q)
-    ∙ bits 6 (λ a b c d s t. ((a ⊕ b) ⊕ (c ⊕ (d ⊕ t))) ⊕ s) (λ a b c d s t. (((a ⊕ b) ⊕ (c ⊕ d)) ⊕ s) ⊕ t) tt
-    (dot (e .a) (w .a)) (dot (e .b) (w .b)) (dot (e .c) (w .c)) (dot (e .d) (w .d)) (e .sum) (bit (e .d) q)
+    ap (λ t. ((dot (e .a) (w .a) ⊕ dot (e .b) (w .b)) ⊕ (dot (e .c) (w .c) ⊕ t))) (dot-changed (e .d) (w .d) q)
+    ∙ bits 5 (λ a b c d t. (a ⊕ b) ⊕ (c ⊕ (d ⊕ t))) (λ a b c d t. ((a ⊕ b) ⊕ (c ⊕ d)) ⊕ t) tt
+    (dot (e .a) (w .a)) (dot (e .b) (w .b)) (dot (e .c) (w .c)) (dot (e .d) (w .d)) (bit (e .d) q)
 
 pub same-refl : (m : ℕ) (w : Assignment) → SameBelow m w w
 same-refl m w = record { a = λ q l. refl; b = λ q l. refl; c = λ q l. refl; d = λ q l. refl }
@@ -132,9 +132,9 @@ module _ (table : List Equation) (T : Triangular table) where
               ap (λ i. fails (equationAt table i) (changed (p % 4) (p / 4) w)) q
               ∙ fails-changed (p % 4) (p / 4) (equationAt table p) w ∙ ap₂ _⊕_ e k
 
-  steps : (d p : ℕ) → p + d ≡ 80 → (w : Assignment) → ((i : ℕ) → i < p → fails (equationAt table i) w ≡ false)
+  steps : (d p : ℕ) → p + d ≡ 256 → (w : Assignment) → ((i : ℕ) → i < p → fails (equationAt table i) w ≡ false)
       → (w′ : Assignment) × ((m : ℕ) → 4 * m ≤ p → SameBelow m w′ w)
-      × ((i : ℕ) → i < 80 → fails (equationAt table i) w′ ≡ false)
+      × ((i : ℕ) → i < 256 → fails (equationAt table i) w′ ≡ false)
   steps zero p e w h = (w, (λ m l. same-refl m w), λ i k. h i (omega (arith, k, e)))
   steps (suc d) p e w h =
       let N = next p w h in
@@ -144,18 +144,18 @@ module _ (table : List Equation) (T : Triangular table) where
         R .2,
       )
 
-  all-rows : (w : Assignment) → ((i : ℕ) → i < 80 → fails (equationAt table i) w ≡ false) → Solves table w
-  all-rows w h i = go (lt-or-ge i 80)
+  all-rows : (w : Assignment) → ((i : ℕ) → i < 256 → fails (equationAt table i) w ≡ false) → Solves table w
+  all-rows w h i = go (lt-or-ge i 256)
     where
-      go : (i < 80) ⊎ (80 ≤ i) → fails (equationAt table i) w ≡ false
+      go : (i < 256) ⊎ (256 ≤ i) → fails (equationAt table i) w ≡ false
       go (inl l) = h i l
       go (inr l) =
           ap (λ e. fails e w) (List·getD-eq-default table emptyEquation (subst (λ n. n ≤ i) (sym (T .long)) l)) ∙ empty-holds w
 
-  pub extended : (q : ℕ) → q ≤ 20 → (w : Assignment) → ((i : ℕ) → i < 4 * q → fails (equationAt table i) w ≡ false)
+  pub extended : (q : ℕ) → q ≤ 64 → (w : Assignment) → ((i : ℕ) → i < 4 * q → fails (equationAt table i) w ≡ false)
       → (w′ : Assignment) × SameBelow q w′ w × Solves table w′
   extended q l w h =
-      let R = steps (80 - 4 * q) (4 * q) (omega (arith, l)) w h in (
+      let R = steps (256 - 4 * q) (4 * q) (omega (arith, l)) w h in (
         R .0,
         R .1 q (le-refl _),
         all-rows (R .0) (R .2),

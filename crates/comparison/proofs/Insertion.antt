@@ -76,7 +76,7 @@ module _ (table₀ : List Equation) (e : Equation) (T₀ : Triangular table₀) 
       leads (inl t) = ap (λ f. unknown f i) hp ∙ t
       leads (inr t) = absurd (some (λ j. ap (λ f. unknown f j) (hp ∙ t) ∙ empty-unknown j))
 
-  pub insert-stored : i < 80 → unknown left i ≡ true → (p : Equation) → p ≡ equationAt table i
+  pub insert-stored : i < 256 → unknown left i ≡ true → (p : Equation) → p ≡ equationAt table i
       → ((j : ℕ) → unknown p j ≡ false) → Inserted table₀ e (set table i left)
   insert-stored l h p hp none =
       record {
@@ -87,7 +87,7 @@ module _ (table₀ : List Equation) (e : Equation) (T₀ : Triangular table₀) 
         };
         kept = λ w f s j. holds w (S .rest w (now w s) ∙ f) (now w s) j (ℕ-discrete j i);
         older = λ w s. subst (λ t. Solves t w) (S .same) (before w s);
-        constant = λ w v s t. asked w s ∙ sym (asked v t);
+        asked = asked;
       }
     where
       here : equationAt (set table i left) i ≡ left
@@ -132,7 +132,7 @@ module _ (table₀ : List Equation) (e : Equation) (T₀ : Triangular table₀) 
       asked : (w : Assignment) → Solves (set table i left) w → fails e w ≡ false
       asked w s = sym (S .rest w (before w s)) ∙ ap (λ f. fails f w) (sym here) ∙ s i
 
--- nothing is left but a sum
+-- nothing is left
 pub insert-nothing : (table₀ : List Equation) (e : Equation) → Triangular table₀ → (table : List Equation)
     (left : Equation) → Inserting table₀ e table left 0 → Inserted table₀ e table
 insert-nothing table₀ e T₀ table left S =
@@ -140,8 +140,5 @@ insert-nothing table₀ e T₀ table left S =
       triangular = subst Triangular (sym (S .same)) T₀;
       kept = λ w f s. subst (λ t. Solves t w) (sym (S .same)) s;
       older = λ w s. subst (λ t. Solves t w) (S .same) s;
-      constant = λ w v s t. value w s ∙ sym (value v t);
+      asked = λ w s. sym (S .rest w s) ∙ no-unknowns left (λ j. S .above j zero-le) w;
     }
-  where
-    value : (w : Assignment) → Solves table w → fails e w ≡ left .sum
-    value w s = sym (S .rest w s) ∙ no-unknowns left (λ j. S .above j zero-le) w

@@ -57,17 +57,17 @@ use Rattle.comparison.specs.internal.Searches.{
 use Rattle.comparison.specs.internal.Setting.{Codes, Setting, generatorsOf, noGenerator}
 
 -- ---- the loop over the classes
-pub classes-begin : (n : ℕ) (table : List Equation) → ClassesChosen n table 0 (replicate 20 0)
+pub classes-begin : (n : ℕ) (table : List Equation) → ClassesChosen n table 0 (replicate 64 0)
 classes-begin n table =
     record {
       upto = zero-le;
       long = refl;
-      codes = zeros-codes 20;
-      bare-codes = zeros-bare 20;
-      chosen = none-chosen (classAssignment n) classKey table (codesOf (replicate 20 0));
+      codes = zeros-codes 64;
+      bare-codes = zeros-bare 64;
+      chosen = none-chosen (classAssignment n) classKey table (codesOf (replicate 64 0));
     }
 
-module _ (n : ℕ) (few : n ≤ 20) (table : List Equation) (T : Triangular table)
+module _ (n : ℕ) (few : n ≤ 64) (table : List Equation) (T : Triangular table)
     (E : Extendable (classAssignment n) classKey 1 n table) (q : ℕ) (choice : List ℕ) (C : ClassesChosen n table q choice)
     (inside : q < n) (v : ℕ) (F : FirstFit (classAssignment n) table q (λ u. codesOf (withClass choice q u)) 6 v) where
   fits : q < length choice
@@ -122,7 +122,7 @@ classes-end n table q choice C l found e =
     }
 
 -- ---- the loop over the signs
-pub signs-begin : (n : ℕ) (table : List Equation) (choice : List ℕ) → length choice ≡ 20 → Codes choice
+pub signs-begin : (n : ℕ) (table : List Equation) (choice : List ℕ) → length choice ≡ 64 → Codes choice
     → SignsChosen n table choice 0 choice
 signs-begin n table choice long codes =
     record {
@@ -133,7 +133,7 @@ signs-begin n table choice long codes =
       chosen = none-chosen (signAssignment n) signKey table (codesOf choice);
     }
 
-module _ (n : ℕ) (few : n ≤ 20) (table : List Equation) (T : Triangular table)
+module _ (n : ℕ) (few : n ≤ 64) (table : List Equation) (T : Triangular table)
     (E : Extendable (signAssignment n) signKey 0 n table) (start : List ℕ) (q : ℕ) (choice : List ℕ)
     (C : SignsChosen n table start q choice) (inside : q < n) (v : ℕ)
     (F : FirstFit (signAssignment n) table q (λ u. codesOf (withSigns choice q u)) 4 v) where

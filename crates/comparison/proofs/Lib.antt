@@ -4,8 +4,8 @@ pub mod Members
 pub mod Least
 pub mod InducedCodes
 pub mod EquationLaws
-pub mod PackedEquations
-pub mod PackedPlaces
+pub mod FourWords
+pub mod PlacedFours
 pub mod LastUnknowns
 pub mod Insertion
 pub mod QubitEquations
@@ -29,3 +29,4 @@ pub mod KeyOrder
 pub mod LeastChosen
 pub mod ConnectedParts
 pub mod LeastCodes
+pub mod GeneratorRows

@@ -72,7 +72,7 @@ module _ (n : ℕ) (choice : List ℕ) (q v : ℕ) (long : q < length choice) (l
   pub sign-put : w ≡ signAssignment n (codesOf choice) → (a b : ℕ)
       → ((j : ℕ) → bit a j ≡ put (bit (w .a)) q (isOdd (v / 2)) j)
       → ((j : ℕ) → bit b j ≡ put (bit (w .b)) q (isOdd v) j)
-      → _≡_ {A = Assignment} (record { a = a; b = b; c = 0; d = 0 })
+      → _≡_ {A = Assignment} (record { a = a; b = b; c = 1; d = 0 })
       (signAssignment n (codesOf (withSigns choice q v)))
   unfolding signAssignment
   sign-put hw a b pa pb =
@@ -81,7 +81,7 @@ module _ (n : ℕ) (choice : List ℕ) (q v : ℕ) (long : q < length choice) (l
             (λ j o. ap (λ k. k .sx) (sym (other j o))) pa i;
         b = word-put n _ _ (w .b) b q _ (ap (λ w. w .b) hw) l (whole (getD choice q 0 / 4) ∙ ap (λ k. k .sz) (sym here))
             (λ j o. ap (λ k. k .sz) (sym (other j o))) pb i;
-        c = 0;
+        c = 1;
         d = 0;
       }
     where

@@ -7,12 +7,10 @@ use native.Mathlib.Nat.{le-refl, lt-of-lt-of-le}
 use native.Mathlib.Omega.{arith}
 use lib.ListN.{List·getD-map, getD, set}
 use borrow.Author.Count.{below-more}
-use Rattle.words.specs.Bits.{bit, wordOf}
 use Rattle.comparison.specs.internal.Equations.{
   Assignment,
   Equation,
   QubitTested,
-  bitOf,
   equationAt,
   equationOf,
   fails,
@@ -57,7 +55,6 @@ module _ (table : List Equation) (q : ℕ) (w : Assignment) where
 
 -- ---- the rows of a table
 pub row-at : (rows : List (List ℕ)) (i : ℕ) → equationAt (equationsIn rows) i ≡ equationOf (getD rows i [])
-unfolding wordOf bit bitOf
 row-at rows i = List·getD-map equationOf rows i []
 
 pub row-set : (rows : List (List ℕ)) (i : ℕ) (r : List ℕ) → equationsIn (set rows i r) ≡ set (equationsIn rows) i (equationOf r)

@@ -1,6 +1,6 @@
 -- The signs of a choice change the sign of a row's image by a parity; elements of a group with the same letters are
 -- equal; so a choice that works solves the sign equations.
-use mathlib.Core.Bool.{_&&_, Bool, false}
+use mathlib.Core.Bool.{_&&_, Bool, false, true}
 use mathlib.Core.Path.{ap, ap₂, refl, subst, sym, _∙_, _≡_}
 use Prim.Native.Nat.{_<_, ℕ}
 use Rattle.clifford.proofs.CliffordLaws.{fromFive, onClifford, phaseAfter}
@@ -18,16 +18,18 @@ use Rattle.stabilizer.proofs.Products.{product-mul}
 use Rattle.stabilizer.specs.Carries.{Carries}
 use Rattle.stabilizer.specs.Groups.{InGroup, Proper, Trivial, Within, chosen, product}
 use Rattle.words.proofs.Finite.{bits, ⊕-self, ⊕-zero}
+use Rattle.words.proofs.OnesLaws.{dot-comm}
 use Rattle.words.proofs.Places.{⊕-cancel}
 use Rattle.words.proofs.Sums.{fold-ext, parity-add}
-use Rattle.words.specs.Bits.{bit, parity, wordOf, _⊕_}
+use Rattle.words.specs.Bits.{bit, digit, parity, wordOf, _⊕_}
 use Rattle.words.specs.internal.Bits.{dot}
 use Rattle.comparison.proofs.ClassEquations.{dot-word, x-word-lt, z-word-lt}
 use Rattle.comparison.proofs.EquationLaws.{zero-dot}
+use Rattle.comparison.proofs.Extension.{dot-single}
 use Rattle.comparison.proofs.Least.{act-within}
 use Rattle.comparison.proofs.NumberOrder.{class-injective}
 use Rattle.comparison.specs.Choices.{classKey}
-use Rattle.comparison.specs.internal.Equations.{Assignment, fails, signAssignment, signEquation}
+use Rattle.comparison.specs.internal.Equations.{fails, signAssignment, signEquation}
 use Rattle.comparison.specs.internal.Setting.{withoutSigns}
 
 abbrev signAt : Clifford → Bool → Bool → Bool
@@ -55,15 +57,14 @@ module _ (n : ℕ) (k : ℕ → Clifford) (g : Generator) (W : Within n (generat
     where
       signs : parity n (λ q. signAt (k q) (bit (g .z) q) (bit (g .x) q))
           ≡ ((dot (g .x) (wordOf n (λ q. k q .sx)) ⊕ dot (g .z) (wordOf n (λ q. k q .sz)))
-          ⊕ (dot 0 0 ⊕ dot 0 0)) ⊕ false
+          ⊕ (dot 0 1 ⊕ dot 0 0))
       signs =
           parity-add n _ _
           ∙ ap₂ _⊕_ (sym (dot-word n (g .x) _ (x-word-lt n g W)))
           (sym (dot-word n (g .z) _ (z-word-lt n g W)))
-          ∙ sym (⊕-zero _) ∙ sym (⊕-zero _)
-          ∙ ap (λ b. ((dot (g .x) (wordOf n (λ q. k q .sx)) ⊕ dot (g .z) (wordOf n (λ q. k q .sz))) ⊕ b)
-          ⊕ false)
-          (sym (ap₂ _⊕_ (zero-dot 0) (zero-dot 0)))
+          ∙ sym (⊕-zero _)
+          ∙ ap (λ b. (dot (g .x) (wordOf n (λ q. k q .sx)) ⊕ dot (g .z) (wordOf n (λ q. k q .sz))) ⊕ b)
+          (sym (ap₂ _⊕_ (zero-dot 1) (zero-dot 0)))
 
 -- ---- elements with the same letters are equal
 pub letters-determine : (n : ℕ) (rows : ℕ → Pauli) → Proper n rows → {p r : Pauli} → InGroup n n rows p
@@ -93,11 +94,20 @@ image-bare k X = refl
 image-bare k Y = refl
 image-bare k Z = refl
 
-asked : (g : Generator) (s : Bool) (w : Assignment)
-    → fails (signEquation g s) w ≡ fails (signEquation g false) w ⊕ s
-unfolding fails
-asked g s w = ap (λ b. b
-    ⊕ s) (sym (⊕-zero ((dot (g .x) (w .a) ⊕ dot (g .z) (w .b)) ⊕ (dot 0 (w .c) ⊕ dot 0 (w .d)))))
+-- the constant of the equation, where unknown c of qubit 0 is 1
+pub dot-digit : (s : Bool) (u : ℕ) → bit u 0 ≡ true → dot (digit s) u ≡ s
+dot-digit false u h = zero-dot u
+dot-digit true u h = dot-comm 1 u ∙ dot-single u 0 ∙ h
+
+asked : (n : ℕ) (g : Generator) (s : Bool) (k : ℕ → Clifford)
+    → fails (signEquation g s) (signAssignment n k) ≡ fails (signEquation g false) (signAssignment n k) ⊕ s
+unfolding fails signAssignment bit
+asked n g s k =
+    ap (λ b. (dot (g .x) (wordOf n (λ q. k q .sx)) ⊕ dot (g .z) (wordOf n (λ q. k q .sz))) ⊕ (b ⊕ dot 0 0)) (dot-digit s 1 refl)
+    ∙ bits 4 (λ a b c s. (a ⊕ b) ⊕ (s ⊕ c)) (λ a b c s. ((a ⊕ b) ⊕ (false ⊕ c)) ⊕ s) tt
+    (dot (g .x) (wordOf n (λ q. k q .sx))) (dot (g .z) (wordOf n (λ q. k q .sz))) (dot 0 0) s
+    ∙ ap (λ b. ((dot (g .x) (wordOf n (λ q. k q .sx)) ⊕ dot (g .z) (wordOf n (λ q. k q .sz))) ⊕ (b ⊕ dot 0 0)) ⊕ s)
+    (sym (zero-dot 1))
 
 shift : (a b c : Bool) → b ⊕ a ≡ c → a ⊕ (b ⊕ c) ≡ false
 shift a b c e = ap (λ k. a ⊕ (b ⊕ k)) (sym e) ∙ bits 2 (λ a b. a ⊕ (b ⊕ (b ⊕ a))) (λ a b. false) tt a b
@@ -118,7 +128,7 @@ module _ (n : ℕ) (rows others : ℕ → Pauli) (P : Proper n rows) (P′ : Pro
       → fails (signEquation g (p .minus ⊕ h .minus)) (signAssignment n d) ≡ false
   unfolding act
   sign-equation c hc p h ep eh ez ex =
-      asked g (p .minus ⊕ h .minus) (signAssignment n d)
+      asked n g (p .minus ⊕ h .minus) d
       ∙ shift (fails (signEquation g false) (signAssignment n d)) (p .minus) (h .minus)
       (minus-injective _ _ signs)
     where
@@ -177,7 +187,7 @@ sign-sends n rows others P P′ d i li g eg c hc p h ep ez ex e = Pauli-path pha
         ∙ ap (λ w. bit w q) ex
 
     change : fails (signEquation g false) (signAssignment n d) ≡ p .minus ⊕ h .minus
-    change = ⊕-cancel _ _ (sym (asked g (p .minus ⊕ h .minus) (signAssignment n d)) ∙ e)
+    change = ⊕-cancel _ _ (sym (asked n g (p .minus ⊕ h .minus) d) ∙ e)
 
     phase : (act n d (generatorOf g)) .phase ≡ minus (h .minus)
     phase =

@@ -5,8 +5,8 @@ use mathlib.Core.Bool.{_&&_, Bool, Bool·beq, and-comm, and-false, false, not, t
 use mathlib.Core.List.{List}
 use mathlib.Core.Logic.{inl, inr, _⊎_}
 use mathlib.Core.Path.{ap, ap₂, refl, subst, sym, _∙_, _≡_}
-use Prim.Native.Nat.{_*_, _+_, _<_, _≤_, suc, ℕ}
-use native.Mathlib.Nat.{le-trans, lt-of-lt-of-le, not-le-of-lt, not-suc-le-zero}
+use Prim.Native.Nat.{_*_, _+_, _<_, _≤_, suc, zero-le, ℕ}
+use native.Mathlib.Nat.{le-refl, le-trans, lt-of-lt-of-le, not-le-of-lt, not-suc-le-zero}
 use native.Mathlib.Omega.{arith}
 use lib.Dec.{eqb}
 use lib.ListN.{getD}
@@ -35,7 +35,7 @@ use Rattle.comparison.proofs.EquationLaws.{SameBelow, fails-below, zero
 use Rattle.comparison.proofs.EquationTables.{nothing-asked, one-asked, sign-short}
 use Rattle.comparison.proofs.Extension.{extended}
 use Rattle.comparison.proofs.RecordElements.{framed-proper}
-use Rattle.comparison.proofs.SignEquations.{letters-determine, sign-equation, sign-sends}
+use Rattle.comparison.proofs.SignEquations.{dot-digit, letters-determine, sign-equation, sign-sends}
 use Rattle.comparison.specs.Choices.{classKey, signKey}
 use Rattle.comparison.specs.internal.Equations.{
   Assignment,
@@ -122,17 +122,16 @@ module _ (n : ℕ) (first second : List Generator) (frame : List ℕ) (S : Setti
           (fold-ext false _⊕_ n (λ q k. and-comm (eqb q j) (flag q)) ∙ parity-at n flag j l)
 
       known : Assignment
-      known = record { a = wordOf n (turner .z); b = wordOf n (turner .x); c = 0; d = 0 }
+      known = record { a = wordOf n (turner .z); b = wordOf n (turner .x); c = 1; d = 0 }
 
       known-value : (j : ℕ) → j < n → (s : Bool) → fails (signEquation (gen j) s) known ≡ flag j ⊕ s
-      unfolding fails known
+      unfolding fails known bit
       known-value j l s =
-          ap (λ b. b ⊕ s)
-          (ap₂ _⊕_ (ap₂ _⊕_ (dot-word n (gen j .x) _ (x-word-lt n (gen j) W)) (dot-word n (gen j .z) _ (z-word-lt n (gen j) W)))
-          (ap₂ _⊕_ (zero-dot 0) (zero-dot 0))
-          ∙ ⊕-zero _
+          ap₂ _⊕_
+          (ap₂ _⊕_ (dot-word n (gen j .x) _ (x-word-lt n (gen j) W)) (dot-word n (gen j .z) _ (z-word-lt n (gen j) W))
           ∙ ⊕-comm (parity n (λ q. bit (gen j .x) q && turner .z q)) (parity n (λ q. bit (gen j .z) q && turner .x q))
           ∙ sym (anticommute-form n (generatorsOf first j) turner) ∙ turns j l)
+          (ap₂ _⊕_ (dot-digit s 1 refl) (zero-dot 0) ∙ ⊕-zero s)
         where
           W : Within n (generatorOf (gen j))
           W = S .proper .within j l
@@ -155,8 +154,7 @@ module _ (n : ℕ) (first second : List Generator) (frame : List ℕ) (S : Setti
           → SignTable n first second c (i + 1) result
       sign-more i l table e result T F I = (
         one-asked (SignAsked n first second c i) (SignAsked n first second c (i + 1)) table e result (T .0) I
-            (λ f b. split f (b .0) (b .1) (b .2)) (λ f a. (a .0, up (a .1), a .2)) (i, here, F) known
-            (known-holds (i + 1) (more l)),
+            (λ f b. split f (b .0) (b .1) (b .2)) (λ f a. (a .0, up (a .1), a .2)) (i, here, F),
         below-more _ _ (T .1) (e, F),
       )
         where
@@ -165,9 +163,6 @@ module _ (n : ℕ) (first second : List Generator) (frame : List ℕ) (S : Setti
 
           here : i < i + 1
           here = omega arith
-
-          more : i < n → i + 1 ≤ n
-          more k = omega (arith, k)
 
           split : (f : Equation) (j : ℕ) → j < i + 1 → SignFor n first second c j f
               → SignAsked n first second c i f ⊎ (f ≡ e)
@@ -198,11 +193,8 @@ module _ (n : ℕ) (first second : List Generator) (frame : List ℕ) (S : Setti
             is = he ∙ ap (signEquation (gen i)) (unequal (p .minus) (h .minus));
           }
         where
-          wide : n ≤ 20 → n ≤ 64
-          wide k = omega (arith, k)
-
           image : generatorOf p ≡ act n (λ q. withoutSigns (c q)) (generatorsOf first i)
-          image = ep ∙ act-wide n 64 (wide (S .few)) (S .proper .within i l) c ∙ act-cong n plain (generatorsOf first i)
+          image = ep ∙ act-wide n 64 (S .few) (S .proper .within i l) c ∙ act-cong n plain (generatorsOf first i)
 
           -- the letters are those of the image, in each case
           go : (f : Pauli → Bool) → f (generatorOf p) ≡ f (scaled i² (generatorOf p))
@@ -214,23 +206,26 @@ module _ (n : ℕ) (first second : List Generator) (frame : List ℕ) (S : Setti
               e ∙ ap f (sym (G .negative (subst (λ r. InGroup n n (generatorsOf second) (scaled i² r)) (sym image) a)))
 
     -- ---- the solutions of the table
+    some : {j : ℕ} → j < n → 0 < n
+    some l = omega (arith, l)
+
     module _ (table : List Equation) (T : SignTable n first second c n table) where
-      -- a sign equation sees two words alone
-      two-words : (g : Generator) (s : Bool) (w : Assignment)
-          → fails (signEquation g s) w ≡ fails (signEquation g s) (record { a = w .a; b = w .b; c = 0; d = 0 })
-      unfolding fails
-      two-words g s w =
-          ap (λ b. ((dot (g .x) (w .a) ⊕ dot (g .z) (w .b)) ⊕ b) ⊕ s)
-          (ap₂ _⊕_ (zero-dot (w .c)) (zero-dot (w .d)) ∙ sym (ap₂ _⊕_ (zero-dot 0) (zero-dot 0)))
+      -- a sign equation sees two words alone, where unknown c of qubit 0 is 1
+      two-words : (g : Generator) (s : Bool) (w : Assignment) → bit (w .c) 0 ≡ true
+          → fails (signEquation g s) w ≡ fails (signEquation g s) (record { a = w .a; b = w .b; c = 1; d = 0 })
+      unfolding fails bit
+      two-words g s w one =
+          ap (λ b. (dot (g .x) (w .a) ⊕ dot (g .z) (w .b)) ⊕ b)
+          (ap₂ _⊕_ (dot-digit s (w .c) one) (zero-dot (w .d)) ∙ sym (ap₂ _⊕_ (dot-digit s 1 refl) (zero-dot 0)))
 
       abbrev signsFor : Assignment → ℕ → Clifford
       signsFor w q = record { class = XZ; sx = bit (w .a) q; sz = bit (w .b) q }
 
-      signs-solve : (w : Assignment) → Solves table w → Solves table (signAssignment n (signsFor w))
+      signs-solve : (w : Assignment) → bit (w .c) 0 ≡ true → Solves table w → Solves table (signAssignment n (signsFor w))
       unfolding signAssignment
-      signs-solve w s = T .0 .kept (signAssignment n (signsFor w)) (λ e a. go e (a .0) (a .1) (a .2))
+      signs-solve w one s = T .0 .kept (signAssignment n (signsFor w)) (λ e a. go e (a .0) (a .1) (a .2))
         where
-          same : SameBelow n (record { a = w .a; b = w .b; c = 0; d = 0 }) (signAssignment n (signsFor w))
+          same : SameBelow n (record { a = w .a; b = w .b; c = 1; d = 0 }) (signAssignment n (signsFor w))
           same = record {
             a = λ q l. sym (bit-wordOf n _ q l);
             b = λ q l. sym (bit-wordOf n _ q l);
@@ -243,22 +238,33 @@ module _ (n : ℕ) (first second : List Generator) (frame : List ℕ) (S : Setti
           go e j l F =
               ap (λ e. fails e (signAssignment n (signsFor w))) (F .is)
               ∙ sym (fails-below (signEquation (gen j) (F .sent .minus ⊕ F .element .minus)) n
-              (sign-short n (gen j) (F .sent .minus ⊕ F .element .minus) (S .proper .within j l)) (record { a = w .a; b = w .b; c = 0; d = 0 })
+              (sign-short n (gen j) (F .sent .minus ⊕ F .element .minus) (some l) (S .proper .within j l))
+              (record { a = w .a; b = w .b; c = 1; d = 0 })
               (signAssignment n (signsFor w)) same)
-              ∙ sym (two-words (gen j) (F .sent .minus ⊕ F .element .minus) w)
+              ∙ sym (two-words (gen j) (F .sent .minus ⊕ F .element .minus) w one)
               ∙ ap (λ e. fails e w) (sym (F .is)) ∙ T .0 .asks w s e (j, l, F)
 
-      pub signs-extend : Extendable (signAssignment n) signKey 0 n table
-      unfolding signAssignment
-      signs-extend d q more l h = (
-        signsFor (R .0),
-        (λ u k. ap₂ (λ a b. 2 * digit a + digit b) (R .1 .a u k ∙ bit-wordOf n _ u (lt-of-lt-of-le k l))
-            (R .1 .b u k ∙ bit-wordOf n _ u (lt-of-lt-of-le k l))),
-        signs-solve (R .0) (R .2),
-      )
+      -- no sign is chosen yet: the known solution; after the first qubit the table extends what is chosen
+      pub signs-extend : SentUpToSign n first second c → Extendable (signAssignment n) signKey 0 n table
+      unfolding signAssignment known bit
+      signs-extend sent d q more l h = go (lt-or-ge 0 q)
         where
-          R : (w : Assignment) × SameBelow q w (signAssignment n d) × Solves table w
-          R = extended table (T .0 .triangular) q (le-trans l (S .few)) (signAssignment n d) h
+          go : (0 < q) ⊎ (q ≤ 0) → (d′ : ℕ → Clifford) × ((u : ℕ) → u < q → signKey (d′ u) ≡ signKey (d u))
+              × Solves table (signAssignment n d′)
+          go (inl k) = (
+            signsFor (R .0),
+            (λ u k. ap₂ (λ a b. 2 * digit a + digit b) (R .1 .a u k ∙ bit-wordOf n _ u (lt-of-lt-of-le k l))
+                (R .1 .b u k ∙ bit-wordOf n _ u (lt-of-lt-of-le k l))),
+            signs-solve (R .0) (R .1 .c 0 k) (R .2),
+          )
+            where
+              R : (w : Assignment) × SameBelow q w (signAssignment n d) × Solves table w
+              R = extended table (T .0 .triangular) q (le-trans l (S .few)) (signAssignment n d) h
+          go (inr k) = (
+            signsFor (known sent),
+            (λ u m. absurd (not-le-of-lt m (le-trans k zero-le))),
+            signs-solve (known sent) refl (T .0 .kept (known sent) (known-holds sent n (le-refl n))),
+          )
 
       -- signs that satisfy the equations of all qubits, with these classes, work
       pub signs-send : (d : ℕ → Clifford) → ((q : ℕ) → q < n → classKey (d q) ≡ classKey (c q))
@@ -269,7 +275,7 @@ module _ (n : ℕ) (first second : List Generator) (frame : List ℕ) (S : Setti
           (sym (sign-sends n (generatorsOf first) (generatorsOf second) (S .proper) proper d j l (gen j) refl c hc
           (F .sent) (F .element) (F .image) (F .same-z) (F .same-x)
           (sym (fails-below (signEquation (gen j) (F .sent .minus ⊕ F .element .minus)) n
-          (sign-short n (gen j) (F .sent .minus ⊕ F .element .minus) (S .proper .within j l)) (R .0) (signAssignment n d) (R .1))
+          (sign-short n (gen j) (F .sent .minus ⊕ F .element .minus) (some l) (S .proper .within j l)) (R .0) (signAssignment n d) (R .1))
           ∙ ap (λ e. fails e (R .0)) (sym (F .is)) ∙ T .0 .asks (R .0) (R .2) (T .1 j l .0) (j, l, F)))) (F .inside)
         where
           F : SignFor n first second c j (T .1 j l .0)

@@ -107,13 +107,13 @@ one-sign-more n choice q a b S l a′ b′ pa pb =
     }
 
 pub all-signs : (n : ℕ) (choice : List ℕ) (q a b : ℕ) → SignsBelow n choice q a b → n ≤ q
-    → _≡_ {A = Assignment} (record { a = a; b = b; c = 0; d = 0 }) (signAssignment n (codesOf choice))
+    → _≡_ {A = Assignment} (record { a = a; b = b; c = 1; d = 0 }) (signAssignment n (codesOf choice))
 unfolding signAssignment
 all-signs n choice q a b S l =
     λ i. record {
       a = whole-word q n _ a (S .upto) l (S .a-is) i;
       b =
           whole-word q n _ b (S .upto) l (S .b-is) i;
-      c = 0;
+      c = 1;
       d = 0;
     }

@@ -43,3 +43,8 @@ abbrev pub compareLines : GeneratorList → GeneratorList → List ℕ → List 
 compareLines l m chosen list =
     pairLines l m chosen list
     ++ (line 3 (hasLargePart l || hasLargePart m) ∷ line 13 (noChoice (l .n) (rows l) (rows m)) ∷ [])
+
+-- the lines of a comparison of parts of any size: the same without 3
+abbrev pub equivalentLines : GeneratorList → GeneratorList → List ℕ → List ℕ → List Refusal
+equivalentLines l m chosen list =
+    pairLines l m chosen list ++ (line 13 (noChoice (l .n) (rows l) (rows m)) ∷ [])

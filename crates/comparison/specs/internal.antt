@@ -4,3 +4,4 @@ pub mod Searches
 pub mod Setting
 pub mod LeastAt
 pub mod ComparedPairs
+pub mod Places

@@ -1,6 +1,6 @@
 -- Buffers that hold reduced records: what the comparison of two of them answers for the lists.
-use mathlib.Core.Bool.{Bool, false, true, _||_}
-use mathlib.Core.List.{List}
+use mathlib.Core.Bool.{_&&_, Bool, false, true, true≢false, _||_}
+use mathlib.Core.List.{_++_, List}
 use mathlib.Core.Logic.{inl, inr, _⊎_}
 use mathlib.Core.Path.{ap, ap₂, refl, subst, sym, _∙_, _≡_}
 use Prim.Native.Nat.{_<_, ℕ, _≤_}
@@ -10,7 +10,7 @@ use borrow.Author.Tests.{not-false, not-true}
 use Rattle.buffers.proofs.Lines.{fits, none-fits, passed}
 use Rattle.buffers.proofs.Tabulate.{tabulate-at, tabulate-cong, tabulate-length}
 use Rattle.buffers.specs.Buffers.{tabulate, written}
-use Rattle.buffers.specs.Refusals.{firstFitting}
+use Rattle.buffers.specs.Refusals.{Refusal, firstFitting}
 use Rattle.clifford.proofs.CliffordLaws.{cliffordOf-codeOf}
 use Rattle.clifford.specs.Clifford.{cliffordOf, inverse, then}
 use Rattle.clifford.specs.Vectors.{codesOf}
@@ -38,10 +38,9 @@ use Rattle.record.specs.Reduced.{reduced, reducedGraph}
 use Rattle.stabilizer.proofs.GroupLaws.{same-sym}
 use Rattle.stabilizer.proofs.ReadBack.{table-past}
 use Rattle.stabilizer.specs.Groups.{SameGroup}
-use Rattle.words.proofs.Flags.{neither}
 use Rattle.words.proofs.Sums.{lt-or-ge}
 use Rattle.words.specs.Search.{first, some}
-use Rattle.comparison.specs.internal.ComparedPairs.{HoldsReduced, PairAnswered}
+use Rattle.comparison.specs.internal.ComparedPairs.{HoldsReduced, PairAnswered, limitLines}
 use Rattle.comparison.specs.ComparedPairs.{inducedRecord}
 
 module _ (n : ℕ) (R : ℕ → Pauli) (nb cs : List ℕ) (H : HoldsReduced n R nb cs) where
@@ -87,27 +86,41 @@ large-held : (n : ℕ) (R S : ℕ → Pauli) (nb cs nb₂ cs₂ : List ℕ) → 
 large-held n R S nb cs nb₂ cs₂ H K =
     ap₂ (λ u v. partAbove 20 n (u .graph) || partAbove 20 n (v .graph)) (held-is n R nb cs H) (held-is n S nb₂ cs₂ K)
 
-pub pair-large : (n : ℕ) (nb cs nb₂ cs₂ : List ℕ)
-    → (partAbove 20 n (graphIn nb) || partAbove 20 n (graphIn nb₂)) ≡ true → (R S : ℕ → Pauli)
+-- it holds where there is a limit and a part is too large
+limit-fits : (limited large : Bool) (lines : List Refusal) → (limited && large) ≡ true
+    → firstFitting (limitLines limited large ++ lines) ≡ 3
+limit-fits true large lines e = fits 3 _ e
+limit-fits false large lines e = absurd (true≢false (sym e))
+
+limit-passed : (limited large : Bool) (lines : List Refusal) → (limited && large) ≡ false
+    → firstFitting (limitLines limited large ++ lines) ≡ firstFitting lines
+limit-passed true large lines e = passed 3 _ e
+limit-passed false large lines e = refl
+
+pub pair-large : (limited : Bool) (n : ℕ) (nb cs nb₂ cs₂ : List ℕ)
+    → (limited && (partAbove 20 n (graphIn nb) || partAbove 20 n (graphIn nb₂))) ≡ true → (R S : ℕ → Pauli)
     → HoldsReduced n R nb cs → HoldsReduced n S nb₂ cs₂ → (choice list : List ℕ) (count : ℕ)
-    → PairAnswered n R S choice list count 3 choice list count
-pair-large n nb cs nb₂ cs₂ e R S H K choice list count =
+    → PairAnswered limited n R S choice list count 3 choice list count
+pair-large limited n nb cs nb₂ cs₂ e R S H K choice list count =
     record {
-      number = sym (fits 3 _ (sym (large-held n R S nb cs nb₂ cs₂ H K) ∙ e));
+      number = sym (limit-fits limited _ _ (ap (λ b. limited && b) (sym (large-held n R S nb cs nb₂ cs₂ H K)) ∙ e));
       codes = refl;
       vertices = refl;
       amount = refl;
     }
 
--- the two tests of the code, on buffers of n places
-pub large-tests : (n : ℕ) (nb nb₂ : List ℕ) (a b v : Bool) → length nb ≡ n → length nb₂ ≡ n
-    → a ≡ partAbove 20 (length nb) (graphIn nb) → b ≡ partAbove 20 (length nb₂) (graphIn nb₂) → (a || b) ≡ v
-    → (partAbove 20 n (graphIn nb) || partAbove 20 n (graphIn nb₂)) ≡ v
-large-tests n nb nb₂ a b v l m ea eb e =
-    sym (ap₂ _||_ (ea ∙ ap (λ k. partAbove 20 k (graphIn nb)) l) (eb ∙ ap (λ k. partAbove 20 k (graphIn nb₂)) m)) ∙ e
+pub limit-off : (limited b : Bool) → limited ≡ false → false ≡ (limited && b)
+limit-off limited b e = sym (ap (λ v. v && b) e)
 
-pub first-small : (a b : Bool) → (a || b) ≡ false → a ≡ false
-first-small a b e = neither a b e .0
+pub limit-on : (limited a b x y : Bool) → limited ≡ true → a ≡ x → b ≡ y → (a || b) ≡ (limited && (x || y))
+limit-on limited a b x y e ea eb = ap₂ _||_ ea eb ∙ sym (ap (λ v. v && (x || y)) e)
+
+-- the test of the code, on buffers of n places
+pub large-tests : (limited : Bool) (n : ℕ) (nb nb₂ : List ℕ) (a v : Bool) → length nb ≡ n → length nb₂ ≡ n
+    → a ≡ (limited && (partAbove 20 (length nb) (graphIn nb) || partAbove 20 (length nb₂) (graphIn nb₂))) → a ≡ v
+    → (limited && (partAbove 20 n (graphIn nb) || partAbove 20 n (graphIn nb₂))) ≡ v
+large-tests limited n nb nb₂ a v l m ea e =
+    sym (ea ∙ ap₂ (λ j k. limited && (partAbove 20 j (graphIn nb) || partAbove 20 k (graphIn nb₂))) l m) ∙ e
 
 -- what the search takes
 pub accepted-pair : (n : ℕ) (nb cs nb₂ cs₂ : List ℕ) → AcceptedRecord (record { n = n; neighbours = nb; codes = cs })
@@ -130,9 +143,10 @@ accepted-pair n nb cs nb₂ cs₂ A B =
     }
 
 -- ---- the code's answer
-module _ (n : ℕ) (nb cs nb₂ cs₂ : List ℕ) (A : AcceptedRecord (record { n = n; neighbours = nb; codes = cs }))
+module _ (limited : Bool) (n : ℕ) (nb cs nb₂ cs₂ : List ℕ)
+    (A : AcceptedRecord (record { n = n; neighbours = nb; codes = cs }))
     (B : AcceptedRecord (record { n = n; neighbours = nb₂; codes = cs₂ }))
-    (small : (partAbove 20 n (graphIn nb) || partAbove 20 n (graphIn nb₂)) ≡ false) (found : Bool) (array : List ℕ)
+    (small : (limited && (partAbove 20 n (graphIn nb) || partAbove 20 n (graphIn nb₂))) ≡ false) (found : Bool) (array : List ℕ)
     (L : LeastAnswer n (heldGenerators n nb cs) (heldGenerators n nb₂ cs₂) found array) where
   -- the codes of a choice found
   pub chosen-codes : found ≡ true → (choice : List ℕ) → choice ≡ tabulate n (λ q. getD array q 0)
@@ -152,15 +166,15 @@ module _ (n : ℕ) (nb cs nb₂ cs₂ : List ℕ) (A : AcceptedRecord (record { 
         (B .proper)
         (K .proper) (held-same n R nb cs H) (held-same n S nb₂ cs₂ K) found array L
 
-    no-large : (partAbove 20 n (reducedGraph n R) || partAbove 20 n (reducedGraph n S)) ≡ false
-    no-large = sym (large-held n R S nb cs nb₂ cs₂ H K) ∙ small
+    no-large : (limited && (partAbove 20 n (reducedGraph n R) || partAbove 20 n (reducedGraph n S))) ≡ false
+    no-large = ap (λ b. limited && b) (sym (large-held n R S nb cs nb₂ cs₂ H K)) ∙ small
 
     -- none found
     pub pair-refused : (choice list : List ℕ) (count : ℕ) → found ≡ false →
-        PairAnswered n R S choice list count 13 choice list count
+        PairAnswered limited n R S choice list count 13 choice list count
     pair-refused choice list count f =
         record {
-          number = sym (passed 3 _ no-large ∙ fits 13 _ (not-false (noChoice n R S) (sym (lists-answer .whether) ∙ f)));
+          number = sym (limit-passed limited _ _ no-large ∙ fits 13 _ (not-false (noChoice n R S) (sym (lists-answer .whether) ∙ f)));
           codes = refl;
           vertices = refl;
           amount = refl;
@@ -214,10 +228,10 @@ module _ (n : ℕ) (nb cs nb₂ cs₂ : List ℕ) (A : AcceptedRecord (record { 
       module _ (answer : ImageAnswer) (M : IsImage n (heldRecord inducedLent) answer) where
         pub pair-accepted : (choice list list′ : List ℕ) (count count′ : ℕ) →
             list′ ≡ written (take (answer .count) (answer .list)) list → count′ ≡ answer .count →
-            PairAnswered n R S choice list count 0 choice′ list′ count′
+            PairAnswered limited n R S choice list count 0 choice′ list′ count′
         pair-accepted choice list list′ count count′ el ec =
             record {
-              number = sym (passed 3 _ no-large
+              number = sym (limit-passed limited _ _ no-large
                   ∙ passed 13 _ (not-true (noChoice n R S) (sym (lists-answer .whether) ∙ t)) ∙ none-fits);
               codes = least-written;
               vertices = el ∙ ap (λ v. written v list) (M .list ∙ ap (imageList n) induced-is);

@@ -6,17 +6,34 @@ use comparison_parts::compare_parts;
 use image_answer::ImageAnswer;
 use image_answer::image_answer;
 use parts_words::part_above;
+ghost use mathlib.Core.Bool.{_&&_, _||_};
 ghost use mathlib.Core.Path.{_≡_};
-ghost use Prim.Native.Nat.{ℕ};
+ghost use Prim.Native.Nat.{ℕ, _≤_};
 ghost use lib.ListN.{length};
 ghost use Rattle.buffers.specs.Buffers.{tabulate};
 ghost use Rattle.comparison.specs.internal.Compared.{inducedCode};
 ghost use Rattle.comparison.specs.internal.Setting.{Codes};
 ghost use Rattle.image_answer.specs.internal.Answer.{IsImage};
+ghost use Rattle.graph.specs.Graph.{Simple};
+ghost use Rattle.graph.specs.NeighbourWords.{graphIn};
+ghost use Rattle.parts.specs.Parts.{partAbove};
 ghost use Rattle.pauli.specs.Pauli.{Pauli};
 ghost use Rattle.record.specs.Accepted.{AcceptedRecord};
 ghost use Rattle.record.specs.Lent.{heldRecord};
 ghost use Rattle.comparison.specs.internal.ComparedPairs.{HoldsReduced, PairAnswered};
+
+// Whether there is a limit of 20 vertices for each part, and a part of either graph has more.
+fn too_large(limited: bool, neighbours: &[u64], neighbours2: &[u64]) -> bool
+    requires { ⌜ (length (now neighbours) ≤ 64) × Simple (length (now neighbours)) (graphIn (now neighbours)) ⌝ }
+    requires { ⌜ (length (now neighbours2) ≤ 64) × Simple (length (now neighbours2)) (graphIn (now neighbours2)) ⌝ }
+    ensures { λ r. ⌜ r ≡ (limited && (partAbove 20 (length (now (neighbours .entry))) (graphIn (now (neighbours .entry)))
+        || partAbove 20 (length (now (neighbours2 .entry))) (graphIn (now (neighbours2 .entry))))) ⌝ }
+{
+    if !limited {
+        return false;
+    }
+    part_above(neighbours) | part_above(neighbours2)
+}
 
 // The image rule on the first record's graph, under the codes that the choice induces between two records; with
 // room for these codes.
@@ -41,9 +58,10 @@ fn induced_image(
     image_answer(n, neighbours, induced)
 }
 
-// The comparison of two reduced records: 3 where a part of either has more than 20 vertices, 13, or the least choice, the
-// complementation list and its count.
+// The comparison of two reduced records: 3 where there is a limit and a part of either has more than 20 vertices, 13, or
+// the least choice, the complementation list and its count.
 pub fn compare_reduced(
+    limited: bool,
     n: usize,
     neighbours: &[u64],
     codes: &[u8],
@@ -58,10 +76,10 @@ pub fn compare_reduced(
     requires { ⌜ (length (now choice) ≡ n) × (length (now list) ≡ 96) ⌝ }
     ensures { λ r. ⌜ ((R S : ℕ → Pauli) → HoldsReduced n R (now (neighbours .entry)) (now (codes .entry))
         → HoldsReduced n S (now (neighbours2 .entry)) (now (codes2 .entry))
-        → PairAnswered n R S (now (choice .entry)) (now (list .entry)) (now (count .entry)) r (now (choice .exit))
+        → PairAnswered limited n R S (now (choice .entry)) (now (list .entry)) (now (count .entry)) r (now (choice .exit))
         (now (list .exit)) (now (count .exit))) ⌝ }
 {
-    if part_above(neighbours) | part_above(neighbours2) {
+    if too_large(limited, neighbours, neighbours2) {
         return 3;
     }
     let least = compare_parts(n, neighbours, codes, neighbours2, codes2);

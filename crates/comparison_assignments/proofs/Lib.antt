@@ -1,3 +1,1 @@
-pub mod SpreadWords
-pub mod PackedParts
 pub mod CodeBits

@@ -1,9 +1,8 @@
-// Equations on the codes of a choice, and the values that a choice gives their unknowns, packed in two words.
+// The values that a choice gives the unknowns of equations on its codes, in four words.
 mod assignments;
-mod packing;
+mod placing;
 
 pub use assignments::class_words;
 pub use assignments::sign_words;
 pub use assignments::with_class;
 pub use assignments::with_signs;
-pub use packing::pack;

@@ -11,8 +11,8 @@ ghost use Rattle.comparison.specs.internal.Equations.{assignmentOf, classAssign
 ghost use Rattle.comparison.specs.internal.Searches.{FirstFit, withClass, withSigns};
 
 // The first class at qubit q that the equations allow beside the values held for the other qubits; 6 if there is none.
-pub fn least_class(table: &[[u64; 2]; 80], held: [u64; 2], q: usize) -> u8
-    requires { ⌜ q < 20 ⌝ }
+pub fn least_class(table: &[[u64; 4]; 256], held: [u64; 4], q: usize) -> u8
+    requires { ⌜ q < 64 ⌝ }
     ensures { λ r. ⌜ ((n : ℕ) (choice : List ℕ) → q < n → q < length choice
         → assignmentOf held ≡ classAssignment n (codesOf choice)
         → FirstFit (classAssignment n) (equationsIn (now (table .entry))) q (λ u. codesOf (withClass choice q u)) 6 r) ⌝ }
@@ -29,8 +29,8 @@ pub fn least_class(table: &[[u64; 2]; 80], held: [u64; 2], q: usize) -> u8
 }
 
 // The first signs at qubit q that the equations allow beside the values held for the other qubits; 4 if there are none.
-pub fn least_sign(table: &[[u64; 2]; 80], held: [u64; 2], q: usize) -> u8
-    requires { ⌜ q < 20 ⌝ }
+pub fn least_sign(table: &[[u64; 4]; 256], held: [u64; 4], q: usize) -> u8
+    requires { ⌜ q < 64 ⌝ }
     ensures { λ r. ⌜ ((n : ℕ) (choice : List ℕ) → q < n → q < length choice
         → assignmentOf held ≡ signAssignment n (codesOf choice)
         → FirstFit (signAssignment n) (equationsIn (now (table .entry))) q (λ u. codesOf (withSigns choice q u)) 4 r) ⌝ }

@@ -15,7 +15,7 @@ pub fn compare_listed(
     neighbours2: &[u64],
     codes2: &[u8],
     component: u64,
-    at: [usize; 20],
+    at: [usize; 64],
     words: &mut [u64],
     numbers: &mut [u8],
     words2: &mut [u64],
@@ -35,8 +35,8 @@ pub fn compare_listed(
 }
 
 // The choice with the codes of a part at its vertices.
-pub fn placed(at: [usize; 20], k: usize, chosen: [u8; 20], choice: [u8; 64]) -> [u8; 64]
-    requires { ⌜ (k ≤ 20) × ((i : ℕ) → i < k → getD at i 0 < 64)
+pub fn placed(at: [usize; 64], k: usize, chosen: [u8; 64], choice: [u8; 64]) -> [u8; 64]
+    requires { ⌜ (k ≤ 64) × ((i : ℕ) → i < k → getD at i 0 < 64)
         × ((i j : ℕ) → i < j → j < k → getD at i 0 < getD at j 0) ⌝ }
     ensures { λ r. ⌜ (((i : ℕ) → i < k → getD r (getD at i 0) 0 ≡ getD chosen i 0)
         × ((q : ℕ) → ((i : ℕ) → i < k → getD at i 0 ≡ q → ⊥) → getD r q 0 ≡ getD choice q 0)) ⌝ }

@@ -1,9 +1,9 @@
-// Linear equations modulo 2, each in two words: unknown i is bit i of both, and the sum asked for the top bit.
+// Linear equations modulo 2 over the unknowns of 64 qubits, four for each, whose sum is to be 0: four words, and unknown
+// l of qubit q is bit q of word l.
 use words::has;
 use words::odd;
 ghost use mathlib.Core.Path.{_≡_};
 ghost use mathlib.Core.Bool.{false, true};
-ghost use mathlib.Core.List.{[], _∷_};
 ghost use Prim.Native.Nat.{ℕ, _<_, _≤_};
 ghost use Rattle.comparison.specs.internal.Equations.{
   Bound,
@@ -20,26 +20,25 @@ ghost use Rattle.comparison.specs.internal.Equations.{
 };
 
 // The sum of two equations.
-fn add(e: [u64; 2], f: [u64; 2]) -> [u64; 2]
+fn add(e: [u64; 4], f: [u64; 4]) -> [u64; 4]
     ensures { λ r. ⌜ equationOf r ≡ added (equationOf e) (equationOf f) ⌝ }
 {
-    [e[0] ^ f[0], e[1] ^ f[1]]
+    [e[0] ^ f[0], e[1] ^ f[1], e[2] ^ f[2], e[3] ^ f[3]]
 }
 
-// Whether the unknowns give another sum than the one asked for.
-fn fails(low: u64, high: u64, v: u64, w: u64) -> bool
-    ensures { λ r. ⌜ r ≡ fails (equationOf (low ∷ high ∷ [])) (assignmentOf (v ∷ w ∷ [])) ⌝ }
+// Whether the unknowns give the sum 1.
+fn fails(e: [u64; 4], w: [u64; 4]) -> bool
+    ensures { λ r. ⌜ r ≡ fails (equationOf e) (assignmentOf w) ⌝ }
 {
-    let sum = odd((low & v) ^ (high & (w & 0xFFFF)));
-    sum ^ has(high, 63)
+    odd(((e[0] & w[0]) ^ (e[1] & w[1])) ^ ((e[2] & w[2]) ^ (e[3] & w[3])))
 }
 
 // Whether an equation has no unknown.
-fn empty(low: u64, high: u64) -> bool
-    ensures { λ r. ⌜ (r ≡ true → (j : ℕ) → unknown (equationOf (low ∷ high ∷ [])) j ≡ false) ⌝ }
-    ensures { λ r. ⌜ (r ≡ false → ((j : ℕ) → unknown (equationOf (low ∷ high ∷ [])) j ≡ false) → ⊥) ⌝ }
+fn empty(e: [u64; 4]) -> bool
+    ensures { λ r. ⌜ (r ≡ true → (j : ℕ) → unknown (equationOf e) j ≡ false) ⌝ }
+    ensures { λ r. ⌜ (r ≡ false → ((j : ℕ) → unknown (equationOf e) j ≡ false) → ⊥) ⌝ }
 {
-    (low | (high & 0xFFFF)) == 0
+    ((e[0] | e[1]) | (e[2] | e[3])) == 0
 }
 
 // The number of bits of a word.
@@ -50,19 +49,28 @@ fn size(w: u64) -> usize
 }
 
 // The number after that of the last unknown; 0 where there is none.
-fn bound(e: [u64; 2]) -> usize
-    ensures { λ r. ⌜ Bound (equationOf e) r ⌝ }
+fn bound(e: [u64; 4]) -> usize
+    ensures { λ r. ⌜ (r ≤ 256) × Bound (equationOf e) r ⌝ }
 {
-    let high = e[1] & 0xFFFF;
-    if high == 0 {
-        size(e[0])
-    } else {
-        64 + size(high)
+    let s = size((e[0] | e[1]) | (e[2] | e[3]));
+    if s == 0 {
+        return 0;
     }
+    let q = s - 1;
+    if has(e[3], q) {
+        return 4 * q + 4;
+    }
+    if has(e[2], q) {
+        return 4 * q + 3;
+    }
+    if has(e[1], q) {
+        return 4 * q + 2;
+    }
+    4 * q + 1
 }
 
 // Stores an equation, or a sum of it with stored ones, at the place of its last unknown, or nothing.
-pub fn insert(table: &mut [[u64; 2]; 80], e: [u64; 2])
+pub fn insert(table: &mut [[u64; 4]; 256], e: [u64; 4])
     requires { ⌜ Triangular (equationsIn (now table)) ⌝ }
     ensures { λ r. ⌜ Inserted (equationsIn (now (table .entry))) (equationOf e) (equationsIn (now (table .exit))) ⌝ }
 {
@@ -70,7 +78,7 @@ pub fn insert(table: &mut [[u64; 2]; 80], e: [u64; 2])
     let mut i = bound(left);
     while 0 < i {
         let p = table[i - 1];
-        if empty(p[0], p[1]) {
+        if empty(p) {
             table[i - 1] = left;
             return;
         }
@@ -81,16 +89,14 @@ pub fn insert(table: &mut [[u64; 2]; 80], e: [u64; 2])
 }
 
 // Whether an equation of qubit q fails: one whose last unknown is of qubit q.
-pub fn broken(table: &[[u64; 2]; 80], q: usize, w: [u64; 2]) -> bool
-    requires { ⌜ q < 20 ⌝ }
+pub fn broken(table: &[[u64; 4]; 256], q: usize, w: [u64; 4]) -> bool
+    requires { ⌜ q < 64 ⌝ }
     ensures { λ r. ⌜ QubitTested (equationsIn (now (table .entry))) q (assignmentOf w) r ⌝ }
 {
-    let first = w[0];
-    let second = w[1];
     let mut i = 4 * q;
     while i < 4 * q + 4 {
         let e = table[i];
-        if fails(e[0], e[1], first, second) {
+        if fails(e, w) {
             return true;
         }
         i += 1;

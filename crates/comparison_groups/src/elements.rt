@@ -1,4 +1,5 @@
 // Elements of the group of the second record: found by their x bits once the record's codes are undone.
+use crate::rows::generator_at;
 use clifford_words::Action;
 use clifford_words::act_on;
 use pauli::Generator;
@@ -11,7 +12,7 @@ ghost use Rattle.pauli.specs.Pauli.{anticommute, mul};
 ghost use Rattle.pauli.specs.internal.Rows.{generatorOf};
 ghost use Rattle.clifford.specs.Clifford.{Clifford};
 ghost use Rattle.clifford_words.specs.internal.Actions.{ActsAs};
-ghost use Rattle.comparison.specs.internal.Setting.{Framed, Guessed, generatorsOf};
+ghost use Rattle.comparison.specs.internal.Setting.{Framed, Guessed, generatorsIn, generatorsOf};
 
 // The product of two generators that commute.
 fn times(p: Generator, g: Generator) -> Generator
@@ -27,9 +28,9 @@ fn times(p: Generator, g: Generator) -> Generator
 }
 
 // An element of the second group: the row itself, or its negative, if that is one.
-pub fn element(n: usize, second: [Generator; 20], frame: Action, p: Generator) -> Generator
-    requires { ⌜ (n ≤ 20) × ((k : ℕ → Clifford) × Framed n (generatorsOf second) k × ActsAs k frame) ⌝ }
-    ensures { λ r. ⌜ Guessed n (generatorsOf second) (generatorOf p) (generatorOf r) ⌝ }
+pub fn element(n: usize, second: &[[u64; 3]; 64], frame: Action, p: Generator) -> Generator
+    requires { ⌜ (n ≤ 64) × ((k : ℕ → Clifford) × Framed n (generatorsOf (generatorsIn (now second))) k × ActsAs k frame) ⌝ }
+    ensures { λ r. ⌜ Guessed n (generatorsOf (generatorsIn (now (second .entry)))) (generatorOf p) (generatorOf r) ⌝ }
 {
     let undone = act_on(p, frame);
     let w = undone.x;
@@ -41,7 +42,7 @@ pub fn element(n: usize, second: [Generator; 20], frame: Action, p: Generator) -
     let mut j = 0;
     while j < n {
         if has(w, j) {
-            let g = second[j];
+            let g = generator_at(second, j);
             h = times(h, g);
         }
         j += 1;

@@ -3,8 +3,10 @@
 mod elements;
 mod induced;
 mod records;
+mod rows;
 
 pub use elements::element;
 pub use induced::induced_codes;
 pub use records::generators;
 pub use records::inverses;
+pub use rows::generator_at;

@@ -6,7 +6,6 @@ use mathlib.Core.Path.{ap, refl, subst, sym, _∙_, _≡_}
 use Prim.Native.Nat.{_<_, _≤_, ℕ}
 use native.Mathlib.Nat.{lt-of-lt-of-le}
 use lib.ListN.{getD, length}
-use lib.Pow.{pow-mono}
 use borrow.Author.Tests.{not-false, not-true}
 use Rattle.clifford.specs.Clifford.{cliffordOf}
 use Rattle.clifford.specs.Vectors.{codesOf}
@@ -16,8 +15,6 @@ use Rattle.comparison.proofs.LeastAtVertices.{part-least-at}
 use Rattle.comparison.specs.Choices.{LeastChoice, leastCode, leastNumber, noChoice}
 use Rattle.comparison.specs.internal.LeastAt.{LeastAt}
 use Rattle.comparison.specs.internal.Setting.{Codes}
-use Rattle.cut.proofs.Counting.{ones-count}
-use Rattle.cut.specs.Kernel.{count}
 use Rattle.graph.specs.NeighbourWords.{graphIn}
 use Rattle.parts.proofs.Along.{numbered-or-not}
 use Rattle.parts.proofs.PartLaws.{both, closed-ext, part-closed, part-together}
@@ -67,11 +64,6 @@ module _ (n : ℕ) (nb cs nb₂ cs₂ : List ℕ) (component : ℕ) (P : SoundPa
       go (inl l) = l
       go (inr l) = absurd (true≢false (sym a ∙ bit-above n component (I .word .below) q l))
 
-  pub component-few : count 64 (bit component) ≤ 20
-  component-few = subst (λ k. k ≤ 20)
-      (sym (ones-count n component (I .word .below))
-      ∙ ones-count 64 component (lt-of-lt-of-le (I .word .below) (pow-mono (P .upto)))) (I .few)
-
   -- ---- the test of the second graph
   module _ (x : ℕ) (h : (j : ℕ) → bit x j ≡ spreadTo (length nb₂) (graphIn nb₂) (bit component) j) where
     spreads : (j : ℕ) → bit x j ≡ spreadTo n (graphIn nb₂) (bit component) j
@@ -113,7 +105,7 @@ module _ (n : ℕ) (nb cs nb₂ cs₂ : List ℕ) (component : ℕ) (P : SoundPa
         }
 
   -- ---- the vertices listed
-  module _ (k : ℕ) (at : List ℕ) (few : k ≤ 20) (M : Numbers 64 (bit component) k (λ i. getD at i 0))
+  module _ (k : ℕ) (at : List ℕ) (few : k ≤ 64) (M : Numbers 64 (bit component) k (λ i. getD at i 0))
       (D : Closed n (graphIn nb₂) (bit component)) where
     numbers : Numbers n (bit component) k (λ i. getD at i 0)
     numbers =

@@ -8,10 +8,9 @@ use native.Mathlib.Nat.{lt-of-lt-of-le}
 use native.Mathlib.Omega.{arith}
 use lib.Bits.{bitAnd, bitXor, xor-add-and}
 use lib.Count.{trailingZeros}
-use lib.Dec.{ltb}
 use lib.ListN.{length}
 use lib.Pow.{pow-mono, pow-pos}
-use borrow.Author.Tests.{ltb-false, not-true}
+use borrow.Author.Tests.{not-true}
 use Rattle.clifford.specs.Clifford.{cliffordOf}
 use Rattle.clifford.specs.Vectors.{codesOf}
 use Rattle.comparison.proofs.Least.{least-answer}
@@ -19,19 +18,16 @@ use Rattle.comparison.proofs.LeastAtVertices.{least-at-agree, least-at-least}
 use Rattle.comparison.specs.internal.Searches.{LeastAnswer}
 use Rattle.comparison.specs.internal.LeastAt.{LeastAt}
 use Rattle.comparison.specs.internal.Setting.{Codes, heldGenerators}
-use Rattle.cut.proofs.Counting.{count-ext}
-use Rattle.cut.specs.Kernel.{count}
 use Rattle.graph.specs.NeighbourWords.{graphIn}
 use Rattle.parts.proofs.PartLaws.{part-has, part-within, rest-closed}
 use Rattle.parts.specs.internal.Parts.{Closed}
-use Rattle.parts.specs.Parts.{partAbove, partOf}
+use Rattle.parts.specs.Parts.{partOf}
 use Rattle.parts_words.specs.internal.Spreads.{PartWord}
 use Rattle.record.proofs.ReducedRecords.{record-proper}
 use Rattle.record.specs.Records.{GraphRecord, rowsOf}
 use Rattle.words.proofs.BitLaws.{bit-above, bit-and, bit-ext∞, bit-mask, bit-xor, lt-of-bits, zero-bit}
 use Rattle.words.proofs.Finite.{bits}
 use Rattle.words.proofs.Flags.{both-true, never-true}
-use Rattle.words.proofs.SearchLaws.{some-false}
 use Rattle.words.proofs.Sums.{lt-or-ge}
 use Rattle.words.proofs.Trailing.{trailing-set}
 use Rattle.words.specs.Bits.{bit, _⊕_}
@@ -78,21 +74,16 @@ module _ (n : ℕ) (nb cs nb₂ cs₂ : List ℕ) (P : SoundPair n nb cs nb₂ c
       pub vertex-in-buffer : q < length nb
       vertex-in-buffer = subst (λ m. q < m) (sym (P .first .neighbours-long)) vertex-below
 
-      module _ (few : partAbove 20 n (graphIn nb) ≡ false) (component : ℕ)
-          (W′ : PartWord (length nb) (graphIn nb) q component) where
+      module _ (component : ℕ) (W′ : PartWord (length nb) (graphIn nb) q component) where
         W : PartWord n (graphIn nb) q component
         W = subst (λ m. PartWord m (graphIn nb) q component) (P .first .neighbours-long) W′
 
         pub next-component : Component n nb component
-        unfolding partAbove
         next-component =
             record {
               vertex = q;
               below = vertex-below;
               word = W;
-              few = subst (λ k. k ≤ 20) (sym (count-ext n (bit component) (partOf n (graphIn nb) q) (W .marks)))
-                  (ltb-false 20 _
-                  (some-false n (λ q. ltb 20 (count n (partOf n (graphIn nb) q))) few q vertex-below));
             }
 
         -- it lies in what is left

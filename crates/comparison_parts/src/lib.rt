@@ -6,13 +6,9 @@ use parts_words::part;
 use parts_words::spread;
 use words::mask;
 use words::smallest;
-ghost use mathlib.Core.Bool.{false};
-ghost use mathlib.Core.Path.{_≡_};
 ghost use Prim.Native.Nat.{_≤_};
 ghost use Rattle.comparison.specs.internal.Searches.{LeastAnswer};
 ghost use Rattle.comparison.specs.internal.Setting.{heldGenerators};
-ghost use Rattle.graph.specs.NeighbourWords.{graphIn};
-ghost use Rattle.parts.specs.Parts.{partAbove};
 ghost use Rattle.comparison_component.specs.internal.Components.{Component, ComponentAnswer, SoundPair, recordHeld};
 
 // Whether a choice was found, and the choice.
@@ -46,10 +42,10 @@ fn compare_component(
     let listed = vertices(component);
     let k = listed.count;
     let at = listed.at;
-    let mut words = [0u64; 20];
-    let mut numbers = [0u8; 20];
-    let mut words2 = [0u64; 20];
-    let mut numbers2 = [0u8; 20];
+    let mut words = [0u64; 64];
+    let mut numbers = [0u8; 64];
+    let mut words2 = [0u64; 64];
+    let mut numbers2 = [0u8; 64];
     let answer = compare_listed(
         n,
         neighbours,
@@ -77,8 +73,7 @@ fn compare_component(
     }
 }
 
-// The least choice that carries the group of the first record onto that of the second; no part of the first graph has
-// more than 20 vertices.
+// The least choice that carries the group of the first record onto that of the second.
 pub fn compare_parts(
     n: usize,
     neighbours: &[u64],
@@ -87,7 +82,6 @@ pub fn compare_parts(
     codes2: &[u8],
 ) -> Whole
     requires { ⌜ (1 ≤ n) × SoundPair n (now neighbours) (now codes) (now neighbours2) (now codes2) ⌝ }
-    requires { ⌜ partAbove 20 n (graphIn (now neighbours)) ≡ false ⌝ }
     ensures { λ r. ⌜ LeastAnswer n (heldGenerators n (now (neighbours .entry)) (now (codes .entry)))
         (heldGenerators n (now (neighbours2 .entry)) (now (codes2 .entry))) (r .found) (r .choice) ⌝ }
 {

@@ -10,7 +10,6 @@ use comparison_groups::generators;
 use comparison_groups::inverses;
 use comparison_tables::class_table;
 use comparison_tables::sign_table;
-use pauli::Generator;
 ghost use Prim.Native.Nat.{_≤_};
 ghost use Rattle.comparison.specs.Choices.{classKey, signKey};
 ghost use Rattle.comparison.specs.internal.Equations.{Triangular, classAssignment, signAssignment, equationsIn};
@@ -20,6 +19,7 @@ ghost use Rattle.comparison.specs.internal.Setting.{
   Connected,
   Setting,
   SoundRecord,
+  generatorsIn,
   generatorsOf,
   heldGenerators,
 };
@@ -28,16 +28,16 @@ ghost use Rattle.graph.specs.NeighbourWords.{graphIn};
 // Whether a choice was found, and the choice.
 pub struct Answer {
     pub found: bool,
-    pub choice: [u8; 20],
+    pub choice: [u8; 64],
 }
 
 // For each qubit in turn the first class that the equations allow. There is none at the first qubit, or always one.
-fn least_classes(n: usize, table: &[[u64; 2]; 80]) -> Answer
-    requires { ⌜ (n ≤ 20) × Triangular (equationsIn (now table))
+fn least_classes(n: usize, table: &[[u64; 4]; 256]) -> Answer
+    requires { ⌜ (n ≤ 64) × Triangular (equationsIn (now table))
         × Extendable (classAssignment n) classKey 1 n (equationsIn (now table)) ⌝ }
     ensures { λ r. ⌜ ClassesAnswered n (equationsIn (now (table .entry))) (r .found) (r .choice) ⌝ }
 {
-    let mut choice = [0u8; 20];
+    let mut choice = [0u8; 64];
     let mut held = class_words(n, choice);
     let mut q = 0;
     while q < n {
@@ -60,8 +60,8 @@ fn least_classes(n: usize, table: &[[u64; 2]; 80]) -> Answer
 }
 
 // For each qubit in turn the first signs that the equations allow, the classes kept.
-fn least_signs(n: usize, table: &[[u64; 2]; 80], classes: [u8; 20]) -> [u8; 20]
-    requires { ⌜ (n ≤ 20) × Triangular (equationsIn (now table))
+fn least_signs(n: usize, table: &[[u64; 4]; 256], classes: [u8; 64]) -> [u8; 64]
+    requires { ⌜ (n ≤ 64) × Triangular (equationsIn (now table))
         × Extendable (signAssignment n) signKey 0 n (equationsIn (now table)) ⌝ }
     requires { ⌜ Codes classes ⌝ }
     ensures { λ r. ⌜ SignsChosen n (equationsIn (now (table .entry))) classes n r ⌝ }
@@ -82,23 +82,24 @@ fn least_signs(n: usize, table: &[[u64; 2]; 80], classes: [u8; 20]) -> [u8; 20]
 // The least choice that carries the first group onto the second.
 fn least_choice(
     n: usize,
-    first: [Generator; 20],
-    second: [Generator; 20],
-    frame: [u8; 20],
+    first: &[[u64; 3]; 64],
+    second: &[[u64; 3]; 64],
+    frame: [u8; 64],
 ) -> Answer
-    requires { ⌜ Setting n first second frame ⌝ }
-    ensures { λ r. ⌜ LeastAnswer n (generatorsOf first) (generatorsOf second) (r .found) (r .choice) ⌝ }
+    requires { ⌜ Setting n (generatorsIn (now first)) (generatorsIn (now second)) frame ⌝ }
+    ensures { λ r. ⌜ LeastAnswer n (generatorsOf (generatorsIn (now (first .entry)))) (generatorsOf (generatorsIn (now (second .entry))))
+        (r .found) (r .choice) ⌝ }
 {
-    let mut table = [[0u64; 2]; 80];
+    let mut table = [[0u64; 4]; 256];
     class_table(&mut table, n, first, second);
     let answer = least_classes(n, &table);
     if !answer.found {
         return answer;
     }
     let classes = answer.choice;
-    let mut signs = [[0u64; 2]; 80];
-    sign_table(&mut signs, n, first, second, frame, classes);
-    let choice = least_signs(n, &signs, classes);
+    table = [[0u64; 4]; 256];
+    sign_table(&mut table, n, first, second, frame, classes);
+    let choice = least_signs(n, &table, classes);
     Answer {
         found: true,
         choice,
@@ -113,14 +114,16 @@ pub fn compare_records(
     neighbours2: &[u64],
     codes2: &[u8],
 ) -> Answer
-    requires { ⌜ (n ≤ 20) × SoundRecord n (now neighbours) (now codes) ⌝ }
+    requires { ⌜ (n ≤ 64) × SoundRecord n (now neighbours) (now codes) ⌝ }
     requires { ⌜ SoundRecord n (now neighbours2) (now codes2) × Connected n (graphIn (now neighbours)) ⌝ }
     ensures { λ r. ⌜ LeastAnswer n (heldGenerators n (now (neighbours .entry)) (now (codes .entry)))
         (heldGenerators n (now (neighbours2 .entry)) (now (codes2 .entry))) (r .found) (r .choice) ⌝ }
 {
-    let first = generators(n, neighbours, codes);
-    let second = generators(n, neighbours2, codes2);
+    let mut first = [[0u64; 3]; 64];
+    generators(n, neighbours, codes, &mut first);
+    let mut second = [[0u64; 3]; 64];
+    generators(n, neighbours2, codes2, &mut second);
     let frame = inverses(n, codes2);
-    let answer = least_choice(n, first, second, frame);
+    let answer = least_choice(n, &first, &second, frame);
     answer
 }

@@ -70,6 +70,17 @@ zs-commute n p r h k =
     ∙ ap₂ _⊕_ (fold-unit false _⊕_ bitMonoid n (λ q l. ap (λ b. p .z q && b) (k q l) ∙ and-false (p .z q)))
     (fold-unit false _⊕_ bitMonoid n (λ q l. ap (λ b. b && r .z q) (h q l))))
 
+-- a row without an x bit there commutes with Z at a place
+pub at-commute : (n b : ℕ) (p : Pauli) → p .x b ≡ false → mul n p (zAt b) ≡ mul n (zAt b) p
+at-commute n b p h =
+    mul-comm n p (zAt b) (anticommute-form n p (zAt b)
+    ∙ ap₂ _⊕_ (fold-unit false _⊕_ bitMonoid n (λ q l. and-false (p .z q)))
+    (fold-unit false _⊕_ bitMonoid n (λ q l. none q (ℕ-discrete q b))))
+  where
+    none : (q : ℕ) → Dec (q ≡ b) → (p .x q && eqb q b) ≡ false
+    none q (yes d) = ap (λ t. p .x t && eqb q b) d ∙ ap (λ v. v && eqb q b) h
+    none q (no d) = ap (λ v. p .x q && v) (other-place d) ∙ and-false (p .x q)
+
 -- ---- a generator with other neighbours
 -- two words of Z that agree at j itself
 joined-phase : (z x u v : Bool) → (x && (u ⊕ v)) ≡ false

@@ -1,4 +1,5 @@
 pub mod KeptGroups
+pub mod ReadyPairs
 pub mod ReducedForms
 pub mod Settling
 pub mod Steps

@@ -1,9 +1,19 @@
 -- The record that a group's call leaves stands for the same group as the one that the call on the whole record leaves.
-use mathlib.Core.Bool.{false}
+use mathlib.Core.Bool.{false, true}
 use mathlib.Core.Path.{_≡_, ap, subst, sym, _∙_}
-use Prim.Native.Nat.{ℕ, _≤_}
+use Prim.Native.Nat.{ℕ, _<_, _≤_}
+use mathlib.Core.Logic.{inl, inr}
+use lib.ListN.{List·getD-eq-default}
+use Rattle.clifford.specs.Clifford.{cliffordOf, identityClifford}
+use Rattle.operations.proofs.UnrefusedRecords.{complement-above}
+use Rattle.record.specs.Records.{SameRecord, complementRecord}
+use Rattle.used.proofs.AcceptedSteps.{complement-arguments}
+use Rattle.words.proofs.Sums.{lt-or-ge}
+use Rattle.groups.proofs.GroupNumbers.{in-group}
+use Rattle.groups.proofs.SameGroupsRewritten.{codes-rewritten, edges-rewritten}
+use Rattle.groups.specs.internal.Apart.{complement-op}
 use Rattle.buffers.specs.Refusals.{firstFitting}
-use Rattle.operations.specs.Steps.{Operation, leaves, linesOf, made}
+use Rattle.operations.specs.Steps.{Operation, complementOf, leaves, linesOf, made}
 use Rattle.record.proofs.AcceptedRecords.{held-above}
 use Rattle.record.specs.Accepted.{AcceptedRecord}
 use Rattle.record.specs.Lent.{LentRecord, heldRecord, heldRows}
@@ -81,3 +91,35 @@ module _ (word g : ℕ) (u : UsedRecord) (H : Apart word u) (o : Operation) (G :
   pub group-same : SameGroup 64 64 (heldRows ((groupAfter word g u o) .held)) (heldRows (leaves (u .held) o))
   group-same = subst (λ k. SameGroup k k (heldRows after) (heldRows (leaves (u .held) o))) (H .count)
       (subst (λ r. SameGroup n n (heldRows after) (rowsOf n r)) (sym (made-held (u .held) o G whole)) same)
+
+-- ---- audit prototype: a group's complementation leaves the record that document 01's rule makes of the whole record
+module _ (word g : ℕ) (u : UsedRecord) (H : Apart word u) (a : ℕ)
+    (e : firstFitting (groupLines word g u (complementOf a)) ≡ 0) where
+  Q : GroupPasses word g u (complementOf a)
+  Q = group-passes word g u (complementOf a) e
+
+  below : a < u .held .n
+  below = complement-arguments (u .held) a (whole word g u H (complementOf a) (complement-op a) e)
+
+  own : inGroup word g a ≡ true
+  own = in-group word g u H a (Q .own) below
+
+  code-above : (l : LentRecord) → AcceptedRecord l → (q : ℕ) → l .n ≤ q → (heldRecord l) .codes q ≡ identityClifford
+  code-above l B q h =
+      ap cliffordOf (List·getD-eq-default (l .codes) 0 (subst (λ m. m ≤ q) (sym (B .codes-length)) h))
+
+  pub group-rewritten : SameRecord (heldRecord ((groupAfter word g u (complementOf a)) .held))
+      (complementRecord (heldRecord (u .held)) a)
+  group-rewritten =
+      let o = complementOf a in
+      let T = put word g u H o (complement-op a) e in
+      let B = apart-record word u H in
+      record {
+        neighbours = edges-rewritten (u .held .n) (inGroup word g) _ _ (mask-of word g u H) a below own _ T;
+        code = λ q. elim (lt-or-ge q (u .held .n)) [
+          | inl l ↦ codes-rewritten (u .held .n) (inGroup word g) _ _ (mask-of word g u H) a below own _ T q l
+          | inr l ↦ code-above ((groupAfter word g u o) .held)
+              (apart-record word _ (group-apart word g u H o (complement-op a) e)) q l
+              ∙ sym (complement-above (u .held .n) (heldRecord (u .held)) (B .simple) a below (code-above (u .held) B) q l)
+        ];
+      }

@@ -27,7 +27,7 @@ module _ (n : ℕ) (s : Word) (r m : GraphRecord) (K : MaskOf n s r m) (a : ℕ)
   word-alike : (i : ℕ) → s i ≡ true → m .graph i ≡ r .graph i
   word-alike i e = fun-ext (λ j. edges-own n s r blank m (K .put) i j e)
 
-  edges-rewritten : (i j : ℕ) → t .graph i j ≡ complement (r .graph) a i j
+  pub edges-rewritten : (i j : ℕ) → t .graph i j ≡ complement (r .graph) a i j
   edges-rewritten i j = T .edges i j ∙ go (s i) refl
     where
       go : (b : Bool) → s i ≡ b → cond b (complement (m .graph) a i j) (r .graph i j) ≡ complement (r .graph) a i j
@@ -35,7 +35,7 @@ module _ (n : ℕ) (s : Word) (r m : GraphRecord) (K : MaskOf n s r m) (a : ℕ)
       go false e = sym (ap (λ v. r .graph i j ⊕ ((v && r .graph a j) && not (eqb j i))) (K .split .none true a i own e)
           ∙ ⊕-zero (r .graph i j))
 
-  codes-rewritten : (q : ℕ) → q < n → t .codes q ≡ recoded (r .graph) a (r .codes) q
+  pub codes-rewritten : (q : ℕ) → q < n → t .codes q ≡ recoded (r .graph) a (r .codes) q
   codes-rewritten q l = T .codes q l ∙ go (s q) refl
     where
       go : (b : Bool) → s q ≡ b

@@ -8,14 +8,11 @@ use native.Mathlib.Nat.{le-of-eq, le-trans}
 use native.Mathlib.Omega.{arith}
 use lib.Bits.{bitAnd}
 use lib.ListN.{List·getD-eq-default, length}
-use Rattle.clifford.specs.Clifford.{Clifford, bitC, cliffordOf, image}
+use Rattle.clifford.specs.Clifford.{Clifford, cliffordOf, image}
 use Rattle.clifford.specs.Vectors.{codesOf}
 use Rattle.clifford_words.specs.declared.Action.{Action}
 use Rattle.clifford_words.specs.internal.Actions.{ActsAs}
 use Rattle.image.specs.Image.{isY}
-use Rattle.image_rule.specs.internal.Working.{Tracking, working}
-use Rattle.operations.proofs.UnrefusedRecords.{unrefused-long, unrefused-short}
-use Rattle.operations.specs.internal.InPlace.{Unrefused, recordIn}
 use Rattle.pauli.specs.Pauli.{zBit}
 use Rattle.pauli.specs.declared.Letter.the-variants.{X}
 use Rattle.words.proofs.BitLaws.{bit-above, bit-and}
@@ -57,26 +54,3 @@ module _ (codes : List ℕ) (n : ℕ) (long : length codes ≡ n) (small : n ≤
 
     pub sz-above : k .sz < 2 ^ 64 → (q : ℕ) → n ≤ q → bit (k .sz) q ≡ false
     sz-above below = word-above (λ c. c .sz) refl (k .sz) below (A .SZ)
-
--- the state at the start
-pub begun : (codes : List ℕ) (k : Action) → ActsAs (codesOf codes) k → k .c < 2 ^ 64 → (words list : List ℕ)
-    → Unrefused (recordIn words codes) → length list ≡ 96
-    → Tracking (length words) (working words codes list (record { c = k .c; d = k .d; count = 0 }))
-begun codes k A below words list U long =
-    record {
-      long = refl;
-      unrefused = U;
-      C = word-is codes n held small bitC refl (k .c) below (A .C);
-      D = λ q l. A .D q (le-trans l small);
-      above = word-above codes n held small bitC refl (k .c) below (A .C);
-      places = long;
-    }
-  where
-    n : ℕ
-    n = length words
-
-    held : length codes ≡ n
-    held = unrefused-long words codes U
-
-    small : n ≤ 64
-    small = unrefused-short words codes U

@@ -1,3 +1,4 @@
 pub mod ActionWords
 pub mod SignBytes
 pub mod Answering
+pub mod CodeBits

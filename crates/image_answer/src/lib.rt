@@ -1,9 +1,11 @@
 // The image of a graph under one local Clifford for each vertex.
+use clifford_codes::Code;
 use clifford_words::action_of;
 use image_rule::complementing::Tracked;
 use image_rule::image_loop::run_rule;
 use record_copies::copy_record;
 use words::dot_product;
+use words::flip_where;
 use words::has;
 ghost use mathlib.Core.Bool.{cond};
 ghost use mathlib.Core.List.{List};
@@ -41,12 +43,16 @@ fn begin(codes: &[u8]) -> Tracked
     ensures { λ r. ⌜ ((words list : List ℕ) → Unrefused (recordIn words (now (codes .entry))) → length list ≡ 96
         → Tracking (length words) (working words (now (codes .entry)) list r)) ⌝ }
 {
-    let words = action_of(codes);
-    Tracked {
-        c: words.c,
-        d: words.d,
-        count: 0,
+    let mut c = 0;
+    let mut d = 0;
+    let mut q = 0;
+    while q < codes.len() {
+        let index = codes[q];
+        c = flip_where(c, q, Code { index }.c_bit());
+        d = flip_where(d, q, Code { index }.d_bit());
+        q += 1;
     }
+    Tracked { c, d, count: 0 }
 }
 
 // The sign of generator j: that of X at j, and those of Z at the neighbours of j.

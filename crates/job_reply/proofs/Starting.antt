@@ -5,7 +5,6 @@ use Prim.Native.Nat.{_*_, _+_, _<_, _≤_, suc, zero, ℕ}
 use native.Mathlib.Nat.{le-of-suc-le-suc, not-suc-le-zero}
 use native.Mathlib.Omega.{arith}
 use lib.ListN.{getD, length, length-append, length-replicate, replicate, take}
-use lib.Seq.{length-take-le}
 use Rattle.job_text.proofs.ResultLaws.{length-results}
 use Rattle.job_text.specs.Answer.{runText, resultsOf}
 use Rattle.job_text.specs.Results.{jobAnswer, resultLines, resultNames}
@@ -17,8 +16,6 @@ use Rattle.text.proofs.Writing.{and-then, length-written}
 use Rattle.text.specs.internal.Text.{Printable}
 use Rattle.text.specs.Text.{Printed, recordText}
 use Rattle.used.specs.Used.{UsedRecord}
-use Rattle.jobs.proofs.ParallelLaws.{steps-long}
-use Rattle.jobs.specs.Parallel.{stepsIn}
 use Rattle.jobs_lent.specs.internal.LentRuns.{LentRun}
 use Rattle.job_reply.proofs.KeptResults.{lines-kept}
 use Rattle.job_reply.specs.internal.Room.{Fresh, resultIn}
@@ -29,12 +26,6 @@ pub repeated-part : (n m v : ℕ) → n ≤ m → take n (replicate m v) ≡ rep
 repeated-part zero m v h = refl
 repeated-part (suc n) zero v h = absurd (not-suc-le-zero h)
 repeated-part (suc n) (suc m) v h = ap (λ t. v ∷ t) (repeated-part n m v (le-of-suc-le-suc h))
-
--- the first steps of the slices
-pub all-taken : (count : ℕ) (ops a b value : List ℕ) → count ≤ length ops
-    → length (take count (stepsIn ops a b value)) ≡ count
-all-taken count ops a b value few =
-    length-take-le count (stepsIn ops a b value) (omega (arith, steps-long ops a b value))
 
 -- buffers of 64 places hold the record that a job starts from
 pub fresh : (n count : ℕ) (out : List ℕ) → n ≤ 64 → count ≤ 4096 → longest ≤ length out

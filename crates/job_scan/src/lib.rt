@@ -1,5 +1,5 @@
-// Reads the text of a job in blocks of any size. A scan is a few numbers; the numbers of the first 4,096 steps are kept in
-// four lent slices of one length.
+// Reads the text of a job in blocks of any size. A scan is a few numbers; the first 4,096 steps are kept together beside
+// it, each with its operation, qubits and value.
 use job_scan_fields::first_step;
 use job_scan_fields::more_step;
 use job_scan_words::word_step;
@@ -7,13 +7,15 @@ use job_text::scan::Field;
 use job_text::scan::Place;
 use job_text::scan::Scan;
 use jobs::Op;
-use jobs::op_number;
+use jobs::Step;
 ghost use mathlib.Core.Path.{_≡_};
-ghost use Prim.Native.Nat.{_<_};
-ghost use lib.ListN.{length, set};
-ghost use Rattle.jobs.specs.Parallel.{stepsIn};
-ghost use Rattle.jobs.specs.internal.Parallel.{OneLength};
-ghost use Rattle.job_text.specs.internal.Scan.{asReading, atLine, begin, fed, feed, headStep, moved, scanByte, stepOf, verdict};
+ghost use Rattle.job_text.specs.internal.Scan.{asReading, atLine, begin, empty, fed, headStep, moved, scanByte, stepOf, verdict};
+
+// A scan, and the first 4,096 steps that it has read.
+pub struct Reading {
+    pub scan: Scan,
+    pub steps: [Step; 4096],
+}
 
 // The bytes of the head that are the same in every job.
 const HEAD: [u8; 20] = *b"qubits\nop a b value\n";
@@ -67,7 +69,7 @@ fn scan_byte(s: Scan, b: u8) -> Scan
 }
 
 // The scan of the empty text.
-pub fn start() -> Scan
+fn start() -> Scan
     ensures { λ r. ⌜ r ≡ begin ⌝ }
 {
     Scan {
@@ -81,65 +83,54 @@ pub fn start() -> Scan
     }
 }
 
-// The step that the scan holds is kept behind the steps before it.
-fn keep_step(s: Scan, ops: &mut [u8], a: &mut [u16], b: &mut [u16], value: &mut [u16])
-    requires { ⌜ (s .count < length (now ops)) × OneLength (now ops) (now a) (now b) (now value) ⌝ }
-    ensures { λ _. ⌜ stepsIn (now (ops .exit)) (now (a .exit)) (now (b .exit)) (now (value .exit))
-        ≡ set (stepsIn (now (ops .entry)) (now (a .entry)) (now (b .entry)) (now (value .entry))) (s .count) (stepOf s) ⌝ }
+// Nothing is read.
+pub fn unread() -> Reading
+    ensures { λ r. ⌜ asReading (r .scan) (r .steps) ≡ empty ⌝ }
 {
-    let row = s.count;
+    let none = Step {
+        op: Op::Gate,
+        a: 0,
+        b: 0,
+        value: 0,
+    };
+    let scan = start();
+    let steps = [none; 4096];
+    Reading { scan, steps }
+}
+
+// The step that the scan holds.
+fn step_of(s: Scan) -> Step
+    ensures { λ r. ⌜ r ≡ stepOf s ⌝ }
+{
     let op = s.op;
-    ops[row] = op_number(op);
-    a[row] = s.a;
-    b[row] = s.b;
-    value[row] = s.number;
-}
-
-// The scan after one more byte. Where it ends one of the first 4,096 steps, that step is kept.
-fn scan_next(
-    s: Scan,
-    byte: u8,
-    ops: &mut [u8],
-    a: &mut [u16],
-    b: &mut [u16],
-    value: &mut [u16],
-) -> Scan
-    requires { ⌜ (length (now ops) ≡ 4096) × OneLength (now ops) (now a) (now b) (now value) ⌝ }
-    ensures { λ r. ⌜ asReading r (stepsIn (now (ops .exit)) (now (a .exit)) (now (b .exit)) (now (value .exit)))
-        ≡ feed (asReading s (stepsIn (now (ops .entry)) (now (a .entry)) (now (b .entry)) (now (value .entry)))) byte ⌝ }
-{
-    let next = scan_byte(s, byte);
-    let row = s.count;
-    let count = next.count;
-    if (row < count) & (row < 4096) {
-        keep_step(s, ops, a, b, value);
-        return next;
+    Step {
+        op,
+        a: s.a,
+        b: s.b,
+        value: s.number,
     }
-    next
 }
 
-// The scan after a block more. The steps that end in it, if they are of the first 4,096, are kept.
-pub fn scan_block(
-    from: Scan,
-    block: &[u8],
-    ops: &mut [u8],
-    a: &mut [u16],
-    b: &mut [u16],
-    value: &mut [u16],
-) -> Scan
-    requires { ⌜ (length (now ops) ≡ 4096) × OneLength (now ops) (now a) (now b) (now value) ⌝ }
-    ensures { λ r. ⌜ asReading r (stepsIn (now (ops .exit)) (now (a .exit)) (now (b .exit)) (now (value .exit)))
-        ≡ fed (asReading from (stepsIn (now (ops .entry)) (now (a .entry)) (now (b .entry)) (now (value .entry))))
-        (now (block .entry)) ⌝ }
+// What is read after a block more. Where a byte ends one of the first 4,096 steps, that step is kept behind those before
+// it.
+pub fn read_block(from: Reading, block: &[u8]) -> Reading
+    ensures { λ r. ⌜ asReading (r .scan) (r .steps) ≡ fed (asReading (from .scan) (from .steps)) (now (block .entry)) ⌝ }
 {
-    let mut scan = from;
+    let mut scan = from.scan;
+    let mut steps = from.steps;
     let mut i = 0;
     while i < block.len() {
-        let next = scan_next(scan, block[i], ops, a, b, value);
+        let next = scan_byte(scan, block[i]);
+        let row = scan.count;
+        let count = next.count;
+        if (row < count) & (row < 4096) {
+            let step = step_of(scan);
+            steps[row] = step;
+        }
         scan = next;
         i += 1;
     }
-    scan
+    Reading { scan, steps }
 }
 
 // Whether the next byte would start a step.

@@ -1,23 +1,21 @@
 -- Answers that a run kept as one number each: what they tell is what its steps answer.
-use mathlib.Core.Bool.{_&&_, Bool, cond, false, true}
+use mathlib.Core.Bool.{Bool, cond, false, true}
 use mathlib.Core.List.{_++_, List, [], map, _∷_}
 use mathlib.Core.Path.{_∙_, _≡_, ap, refl, subst, sym}
 use Prim.Native.Nat.{_%_, _*_, _+_, _/_, _<_, suc, zero, ℕ}
 use native.Mathlib.Nat.{le-of-suc-le-suc, not-suc-le-zero}
 use native.Mathlib.Omega.{arith}
-use lib.Dec.{eqb}
-use lib.ListN.{drop, getD, length, take}
-use Rattle.jobs.proofs.Stepwise.{answer-at}
-use Rattle.jobs.specs.Runs.{afterStep, run, stepAnswers}
+use lib.ListN.{drop, getD, length}
+use Rattle.jobs.specs.Runs.{afterStep, answerOf, stepAnswers}
 use Rattle.jobs.specs.declared.Answer.{Answer}
-use Rattle.jobs.specs.declared.Op.{Op}
-use Rattle.jobs.specs.declared.Op.the-variants.{Gate}
 use Rattle.jobs.specs.declared.Step.{Step}
 use Rattle.text.specs.Text.{overwritten}
 use Rattle.used.specs.Used.{UsedRecord}
 use Rattle.jobs_lent.proofs.LentLaws.{answers-long}
 use Rattle.jobs_lent.proofs.MarkedSteps.{small-answer}
-use Rattle.jobs_lent.specs.internal.LentRuns.{LentRun, SmallAnswer, leavesReduced, packed, packedAnswers}
+use Rattle.jobs_lent.specs.internal.LentRuns.{LentRun, SmallAnswer, markedBefore, packed, packedAnswers}
+use Rattle.jobs.specs.Asked.{numberOf}
+use Rattle.jobs_run.specs.internal.StepRuns.{nextWaiting}
 
 -- ---- an answer from its one number
 abbrev pub Tells : ℕ → Answer → Type 0
@@ -29,9 +27,8 @@ told : (b : Bool) (r o d : ℕ) → r < 32 → o < 2 → d < 2 → ((cond b 128 
 told true r o d hr ho hd = (omega (arith, hr, ho, hd), (omega (arith, ho, hd), omega (arith, ho, hd)))
 told false r o d hr ho hd = (omega (arith, hr, ho, hd), (omega (arith, ho, hd), omega (arith, ho, hd)))
 
-packed-tells : (op : Op) (r : Answer) → SmallAnswer r → Tells (packed op r) r
-packed-tells op r S = told (leavesReduced op && eqb (r .refusal) 0) (r .refusal) (r .outcome) (r .determined) (S .refusal)
-    (S .outcome) (S .determined)
+packed-tells : (b : Bool) (r : Answer) → SmallAnswer r → Tells (packed b r) r
+packed-tells b r S = told b (r .refusal) (r .outcome) (r .determined) (S .refusal) (S .outcome) (S .determined)
 
 -- ---- places
 getD-front : (xs ys : List ℕ) (k : ℕ) → k < length xs → getD (xs ++ ys) k 0 ≡ getD xs k 0
@@ -56,12 +53,14 @@ each-answered u [] = refl
 each-answered u (s ∷ rest) = ap suc (each-answered (afterStep u s) rest)
 
 -- the number that is kept for step k
-packed-at : (u : UsedRecord) (steps : List Step) (k : ℕ) (other : Step) (none : Answer) → k < length steps
-    → getD (packedAnswers u steps) k 0 ≡ packed ((getD steps k other) .op) (getD (stepAnswers u steps) k none)
+packed-at : (mark : Bool) (u : UsedRecord) (steps : List Step) (k : ℕ) (none : Answer) → k < length steps
+    → Tells (getD (packedAnswers mark u steps) k 0) (getD (stepAnswers u steps) k none)
 unfolding packedAnswers stepAnswers
-packed-at u [] k other none h = absurd (not-suc-le-zero h)
-packed-at u (s ∷ rest) zero other none h = refl
-packed-at u (s ∷ rest) (suc k) other none h = packed-at (afterStep u s) rest k other none (le-of-suc-le-suc h)
+packed-at mark u [] k none h = absurd (not-suc-le-zero h)
+packed-at mark u (s ∷ rest) zero none h = packed-tells (nextWaiting (s .op) (numberOf u s) mark) (answerOf u s)
+    (small-answer u s (answerOf u s) refl)
+packed-at mark u (s ∷ rest) (suc k) none h =
+    packed-at (nextWaiting (s .op) (numberOf u s) mark) (afterStep u s) rest k none (le-of-suc-le-suc h)
 
 -- ---- what place k of the kept answers tells
 pub kept-tells : (u : UsedRecord) (steps : List Step) (before nb cs : List ℕ) (used : ℕ) (after : List ℕ)
@@ -69,14 +68,10 @@ pub kept-tells : (u : UsedRecord) (steps : List Step) (before nb cs : List ℕ) 
     → Tells (getD after k 0) (getD (stepAnswers u steps) k other)
 kept-tells u steps before nb cs used after R k other inside =
     subst (λ p. Tells p (getD (stepAnswers u steps) k other)) (sym same)
-    (packed-tells ((getD steps k none) .op) (getD (stepAnswers u steps) k other)
-    (small-answer (run u (take k steps)) (getD steps k none) _ (answer-at u steps k none other inside)))
+    (packed-at (markedBefore 0 before) u steps k other inside)
   where
-    none : Step
-    none = record { op = Gate; a = 0; b = 0; value = 0 }
-
-    same : getD after k 0 ≡ packed ((getD steps k none) .op) (getD (stepAnswers u steps) k other)
+    same : getD after k 0 ≡ getD (packedAnswers (markedBefore 0 before) u steps) k 0
     same =
         ap (λ t. getD t k 0) (R .answers)
-        ∙ written-at before (packedAnswers u steps) k (subst (λ m. k < m) (sym (answers-long u steps)) inside)
-        ∙ packed-at u steps k none other inside
+        ∙ written-at before (packedAnswers (markedBefore 0 before) u steps) k
+        (subst (λ m. k < m) (sym (answers-long (markedBefore 0 before) u steps)) inside)

@@ -37,7 +37,7 @@ use Rattle.used.specs.Used.{UsedRecord}
 use Rattle.jobs_lent.proofs.Lending.{Lent, Own, ref, val}
 use Rattle.jobs_lent.proofs.TurnCall.{Fitting, Now, Turning, left}
 use Rattle.jobs_lent.proofs.run_lent as run-lent
-use Rattle.jobs_lent.specs.internal.LentRuns.{LentRun, ReadyAt}
+use Rattle.jobs_lent.specs.internal.LentRuns.{ReadyAt, WaitingRun}
 
 abbrev pub R : RattleType
 R = S.the-row
@@ -83,7 +83,7 @@ module _ (X : Passed) where
 
   -- all steps were run, and the lists are y
   abbrev pub Ran : Now → Type 0
-  Ran y = LentRun record-lent (L₂ .first) (T .place) (L₃ .first) (y .neighbours) (y .codes) (y .used) (y .answers)
+  Ran y = WaitingRun (T .known) record-lent (L₂ .first) (T .place) (L₃ .first) (y .neighbours) (y .codes) (y .used) (y .answers)
 
   -- ---- the arguments, and their machine values
   abbrev pub κs : Lfts 4

@@ -169,7 +169,7 @@ module _ {M : Type 1} (𝓤 : URA M) (H : Heap 𝓤) (A : Atoms 𝓤) (W : Given
 
     -- ---- the invariant, where t steps are left
     abbrev Going : ℕ → ℕ × Now → Type 0
-    Going t s = Upto (record-lent X) (L₂ .first) (T .place) (L₃ .first) t (s .0) (s .1 .neighbours) (s .1 .codes) (s .1 .used) (s .1 .answers)
+    Going t s = Upto (T .known) (record-lent X) (L₂ .first) (T .place) (L₃ .first) t (s .0) (s .1 .neighbours) (s .1 .codes) (s .1 .used) (s .1 .answers)
 
     abbrev AtState : ℕ × Now → SProp 𝓤
     AtState s = ⋆ 𝓤 H A (At (s .0) (s .1))
@@ -188,11 +188,11 @@ module _ {M : Type 1} (𝓤 : URA M) (H : Heap 𝓤) (A : Atoms 𝓤) (W : Given
 
     turn-at : (t i : ℕ) (x : Now) → Going t (i, x) → ent 𝓤 (⋆ 𝓤 H A (At i x)) (Wp 𝓤 H C Λ En body (afterTurn 𝓤 H (Below t) Left))
     turn-at zero i x f = subst (λ (j : ℕ). ent 𝓤 (⋆ 𝓤 H A (At j x)) (Wp 𝓤 H C Λ En body (afterTurn 𝓤 H (Below zero) Left))) (sym (zero-sum i m (f .count)))
-        (ends x (Below zero) (fitting zero i x f) (upto-all (record-lent X) (L₂ .first) (T .place) (L₃ .first) zero i (x .neighbours) (x .codes) (x .used) (x .answers) f))
+        (ends x (Below zero) (fitting zero i x f) (upto-all (T .known) (record-lent X) (L₂ .first) (T .place) (L₃ .first) zero i (x .neighbours) (x .codes) (x .used) (x .answers) f))
     turn-at (suc t) i x f =
         more i x (Below (suc t)) (omega (arith, f .count)) (fitting (suc t) i x f)
-        (upto-asks (record-lent X) (L₂ .first) (T .place) (L₃ .first) t i (x .neighbours) (x .codes) (x .used) (x .answers) f (asks .0) (T .known) (asks .1))
-        (λ v y c. via 𝓤 (Inv t) (into t (suc i, y) (upto-next (record-lent X) (L₂ .first) (T .place) (L₃ .first) t i (x .neighbours) (x .codes) (x .used) (x .answers) f (asks .0) noStep
+        (upto-asks (T .known) (record-lent X) (L₂ .first) (T .place) (L₃ .first) t i (x .neighbours) (x .codes) (x .used) (x .answers) f (asks .0) (asks .1))
+        (λ v y c. via 𝓤 (Inv t) (into t (suc i, y) (upto-next (T .known) (record-lent X) (L₂ .first) (T .place) (L₃ .first) t i (x .neighbours) (x .codes) (x .used) (x .answers) f (asks .0) noStep
         (y .neighbours) (y .codes) (y .used) (y .answers) (c .fits) (c .neighbours-long) (c .codes-long) (c .answers-long) (c .ran)))
         (via 𝓤 (guard 𝓤 (t < suc t) (Inv t)) (guardI 𝓤 (t < suc t) (Inv t) (omega arith)) (exI 𝓤 (λ (t′ : ℕ). guard 𝓤 (t′ < suc t) (Inv t′)) t)))
 
@@ -200,4 +200,4 @@ module _ {M : Type 1} (𝓤 : URA M) (H : Heap 𝓤) (A : Atoms 𝓤) (W : Given
     turns t = exE 𝓤 (λ (s : ℕ × Now). guard 𝓤 (Going t s) (AtState s)) (λ s. guardE 𝓤 (Going t s) (AtState s) (λ f. turn-at t (s .0) (s .1) f))
 
     pub loops : ent 𝓤 (⋆ 𝓤 H A (At 0 (start X))) (Wp 𝓤 H C Λ En (loop body) Left)
-    loops = via 𝓤 (Inv m) (into m (0, start X) (upto-none (record-lent X) (L₂ .first) (T .place) (L₃ .first) (G .used))) (loop-rule 𝓤 H (W .laws) 𝓣 _<_ (Nat·lt-wfRel .wf) En body Left Inv turns m)
+    loops = via 𝓤 (Inv m) (into m (0, start X) (upto-none (T .known) (record-lent X) (L₂ .first) (T .place) (L₃ .first) (G .used))) (loop-rule 𝓤 H (W .laws) 𝓣 _<_ (Nat·lt-wfRel .wf) En body Left Inv turns m)

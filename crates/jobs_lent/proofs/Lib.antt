@@ -1,6 +1,7 @@
 pub mod Again
 pub mod Counting
 pub mod KeptAnswers
+pub mod LastRecord
 pub mod LentCall
 pub mod LentCode
 pub mod Lending

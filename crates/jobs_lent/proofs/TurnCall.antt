@@ -65,7 +65,7 @@ use Rattle.jobs.proofs.Step as S
 use Rattle.jobs.proofs.Step.Laws as S′
 use Rattle.jobs.specs.declared.Step.{Step}
 use Rattle.used.specs.Used.{UsedRecord}
-use Rattle.jobs_lent.specs.internal.LentRuns.{LentRun, ReadyAt}
+use Rattle.jobs_lent.specs.internal.LentRuns.{ReadyAt, WaitingRun}
 use Rattle.jobs_lent.proofs.Lending.{Holds, Kept, Lent, Out, Token, comes-in, goes-out, ref, val}
 use Rattle.jobs_lent.proofs.turn as turn
 
@@ -140,7 +140,7 @@ module _ (T : Turning) where
     pub neighbours-long : length (y .neighbours) ≡ length (x .neighbours)
     pub codes-long : length (y .codes) ≡ length (x .codes)
     pub answers-long : length (y .answers) ≡ length (x .answers)
-    pub ran : LentRun (left n x) (s ∷ []) (place + i) (x .answers) (y .neighbours) (y .codes) (y .used) (y .answers)
+    pub ran : WaitingRun known (left n x) (s ∷ []) (place + i) (x .answers) (y .neighbours) (y .codes) (y .used) (y .answers)
 
   module _ {M : Type 1} (𝓤 : URA M) (H : Heap 𝓤) (A : Atoms 𝓤) (W : Given 𝓤 H A) (mem : Memory → SProp 𝓤) (run : Routine → Fun 𝓤) where
     module _ (x : Now) (s : Step) (i : ℕ) where
@@ -203,7 +203,7 @@ module _ (T : Turning) where
       Said g r = ensured 𝓤 H A turn.ended (turn.clauses 𝓤 H A mem run) (g .0 .0 ∷ [], (g .1 .0 .0 ∷ [], (g .1 .1 .0 ∷ [], tt))) (args g) tt r
 
       abbrev Ran : Ends → ℕ → Type 0
-      Ran ws r = LentRun (left n x) (s ∷ []) (place + i) (x .answers) (ws .1 .0) (ws .1 .1 .0) r (ws .1 .1 .1 .1 .1 .1 .1 .1 .0)
+      Ran ws r = WaitingRun known (left n x) (s ∷ []) (place + i) (x .answers) (ws .1 .0) (ws .1 .1 .0) r (ws .1 .1 .1 .1 .1 .1 .1 .1 .0)
 
       abbrev after : Ends → ℕ → Now
       after ws r = record { neighbours = ws .1 .0; codes = ws .1 .1 .0; used = r; answers = ws .1 .1 .1 .1 .1 .1 .1 .1 .0 }

@@ -1,10 +1,10 @@
 // Runs steps that lie in parallel slices of numbers. A block of them at a time becomes structs, which are lent to the
 // runner.
-use call_gates::known_refusal;
 use jobs::Op;
 use jobs::Step;
 use jobs::op_of;
 use jobs_lent::run_block;
+use jobs_lent::settle_last;
 ghost use mathlib.Core.Path.{_≡_};
 ghost use Prim.Native.Nat.{_+_, _≤_};
 ghost use lib.ListN.{drop, length, take};
@@ -103,42 +103,6 @@ pub fn run_known(
         word = run_block(n, neighbours, codes, word, known, block, m, k, answers);
         k += m;
     }
+    settle_last(n, neighbours, codes, word, known, count, answers);
     word
-}
-
-// The same where nothing is known of the record: its lines are looked at once.
-pub fn run_numbers(
-    n: u64,
-    neighbours: &mut [u64],
-    codes: &mut [u8],
-    used: u64,
-    count: usize,
-    ops: &[u8],
-    a: &[u16],
-    b: &[u16],
-    value: &[u16],
-    answers: &mut [u8],
-) -> u64
-    requires { ⌜ (count ≤ length (now ops)) × (count ≤ length (now answers))
-        × OneLength (now ops) (now a) (now b) (now value) ⌝ }
-    ensures { λ r. ⌜ LentRun (record {
-      held = record { n = n; neighbours = now (neighbours .entry); codes = now (codes .entry) };
-      used = used;
-    }) (take count (stepsIn (now (ops .entry)) (now (a .entry)) (now (b .entry)) (now (value .entry)))) 0
-        (now (answers .entry)) (now (neighbours .exit)) (now (codes .exit)) r (now (answers .exit)) ⌝ }
-{
-    let known = known_refusal(n, neighbours, codes, used, false, false) == 0;
-    run_known(
-        n,
-        neighbours,
-        codes,
-        used,
-        known,
-        count,
-        ops,
-        a,
-        b,
-        value,
-        answers,
-    )
 }

@@ -1,2 +1,3 @@
 pub mod Running
 pub mod KeptRecords
+pub mod WaitedSteps

@@ -71,7 +71,7 @@ plain-word u op a b v h = kept (eqb ((usedStep u (operationOf op a b v)) .number
     copied Pivot h = refl
 
 module _ (u : UsedRecord) (s : Step) where
-  abbrev wrong : Bool
+  abbrev pub wrong : Bool
   wrong = unusedSet (s .op) (s .b) (s .value) || wrongValue (s .op) (s .value)
 
   -- from what the two tests answer

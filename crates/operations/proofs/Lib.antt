@@ -1,4 +1,3 @@
-pub mod Compositions
 pub mod Gating
 pub mod Homomorphisms
 pub mod CzLaws

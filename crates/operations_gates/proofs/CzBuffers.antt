@@ -1,4 +1,4 @@
--- CZ on the buffers of a record of reduced form: what its calls leave is the record that CZ makes.
+-- CZ on the buffers of a record with two vertices that are ready: what its calls leave is the record that CZ makes.
 use mathlib.Core.Bool.{_&&_, Bool, cond, false}
 use mathlib.Core.List.{List}
 use mathlib.Core.Logic.{_≢_}
@@ -16,7 +16,7 @@ use Rattle.graph.specs.NeighbourWords.{graphIn}
 use Rattle.graph_steps.proofs.CzSteps.{cz-simple, turned-above}
 use Rattle.graph_steps.proofs.Places.{z-before}
 use Rattle.graph_steps.proofs.Reaching.{reach-below}
-use Rattle.graph_steps.specs.internal.ReducedForms.{ReducedForm}
+use Rattle.graph_steps.specs.internal.ReadyPairs.{Ready}
 use Rattle.graph_steps.specs.internal.Steps.{czRecord, czTurned, pauliCode, reach, reachMinus}
 use Rattle.operations.proofs.UnrefusedRecords.{unrefused-long, unrefused-simple}
 use Rattle.operations.specs.internal.InPlace.{Rewritten, Unrefused, recordIn}
@@ -34,8 +34,7 @@ turned-by-calls r a b wa wb t {ma} {mb} hwa hwb ema emb h q =
     h q ∙ ap₂ (λ u v. (u && v) ⊕ ((ma && v) ⊕ (mb && u))) (hwa q) (hwb q)
     ∙ ap₂ (λ s t. (reach r a q && reach r b q) ⊕ ((s && reach r b q) ⊕ (t && reach r a q))) ema emb
 
-module _ (words codes : List ℕ) (U : Unrefused (recordIn words codes))
-    (F : ReducedForm (length words) (heldRecord (recordIn words codes))) where
+module _ (words codes : List ℕ) (U : Unrefused (recordIn words codes)) where
   abbrev n : ℕ
   n = length words
 
@@ -48,13 +47,14 @@ module _ (words codes : List ℕ) (U : Unrefused (recordIn words codes))
   -- a set lies below n
   pub reach-fits : (a : ℕ) → a < length words → (w : ℕ)
       → ((q : ℕ) → bit w q ≡ reach (heldRecord (recordIn words codes)) a q) → w < 2 ^ (length words)
-  reach-fits a ha w h = lt-of-bits n w (λ q l. h q ∙ reach-below n r simple F a ha q l)
+  reach-fits a ha w h = lt-of-bits n w (λ q l. h q ∙ reach-below n r simple a ha q l)
 
-  module _ (a b : ℕ) (ha : a < length words) (hb : b < length words) (ab : a ≢ b) where
+  module _ (a b : ℕ) (ha : a < length words) (hb : b < length words) (ab : a ≢ b)
+      (P : Ready (heldRecord (recordIn words codes)) a b) where
     pub turned-fits : (t : ℕ) → ((q : ℕ) → bit t q ≡ czTurned (heldRecord (recordIn words codes)) a b q)
         → t < 2 ^ (length codes)
     turned-fits t h = lt-of-bits (length codes) t
-        (λ q l. h q ∙ turned-above n r simple F a b ha hb ab q (subst (λ m. m ≤ q) (unrefused-long words codes U) l))
+        (λ q l. h q ∙ turned-above n r simple a b ha hb ab P q (subst (λ m. m ≤ q) (unrefused-long words codes U) l))
 
     pub cz-written : (wa wb t : ℕ) (words′ codes′ : List ℕ)
         → ((q : ℕ) → bit wa q ≡ reach (heldRecord (recordIn words codes)) a q)
@@ -78,4 +78,4 @@ module _ (words codes : List ℕ) (U : Unrefused (recordIn words codes))
         graph j q = edges j q ∙ ap₂ (λ u v. joinedBy (graphIn words) u v j q) (fun-ext hwa) (fun-ext hwb)
 
         below : (j : ℕ) → getD words′ j 0 < 2 ^ n
-        below j = lt-of-bits n (getD words′ j 0) (λ q l. graph j q ∙ cz-simple n r simple F a b ha hb ab .below j q l)
+        below j = lt-of-bits n (getD words′ j 0) (λ q l. graph j q ∙ cz-simple n r simple a b ha hb ab P .below j q l)

@@ -14,7 +14,9 @@ use Rattle.clifford.specs.Vectors.{codesOf}
 use Rattle.graph.specs.Graph.{Simple}
 use Rattle.graph_steps.proofs.CzSteps.{cz-reduced-form}
 use Rattle.graph_steps.proofs.Keeping.{held-words}
+use Rattle.graph_steps.proofs.Reaching.{form-ready}
 use Rattle.graph_steps.specs.internal.KeptGroups.{Normalised}
+use Rattle.graph_steps.specs.internal.ReadyPairs.{Ready}
 use Rattle.graph_steps.specs.internal.ReducedForms.{ReducedForm}
 use Rattle.graph_steps.specs.internal.Steps.{czRecord}
 use Rattle.operations.proofs.CzGroups.{cz-proper}
@@ -72,18 +74,18 @@ module _ (words codes : List ℕ) (U : Unrefused (recordIn words codes)) (q : �
   gated-unrefused = rewritten-unrefused words codes U (λ g. gated g q (cliffordOf k)) words codes′ gated-rewritten
       (unrefused-simple words codes U) gated-above
 
+  pub gated-held : heldRecord (recordIn words codes′) ≡ gated (heldRecord (recordIn words codes)) q (cliffordOf k)
+  gated-held = rewritten-held words codes U (λ g. gated g q (cliffordOf k)) words codes′ gated-rewritten
+      (unrefused-simple words codes U) gated-above
+
   pub gated-reduced : (words″ codes″ : List ℕ) → Normalised words codes′ words″ codes″
       → Rewritten words codes (λ g. reduced (length words) (rowsOf (length words) (gated g q (cliffordOf k)))) words″
       codes″
   gated-reduced words″ codes″ N =
       record {
-        neighbours = N .after .neighbours ∙ ap (λ g. neighbourWords n (reduced n (rowsOf n g))) held;
-        numbers = N .after .numbers ∙ ap (λ g. codeNumbers n (reduced n (rowsOf n g))) held;
+        neighbours = N .after .neighbours ∙ ap (λ g. neighbourWords n (reduced n (rowsOf n g))) gated-held;
+        numbers = N .after .numbers ∙ ap (λ g. codeNumbers n (reduced n (rowsOf n g))) gated-held;
       }
-    where
-      held : heldRecord (recordIn words codes′) ≡ gated (heldRecord (recordIn words codes)) q (cliffordOf k)
-      held = rewritten-held words codes U (λ g. gated g q (cliffordOf k)) words codes′ gated-rewritten
-          (unrefused-simple words codes U) gated-above
 
 -- ---- CZ
 module _ (words codes words₁ codes₁ : List ℕ) (U : Unrefused (recordIn words codes))
@@ -95,8 +97,12 @@ module _ (words codes words₁ codes₁ : List ℕ) (U : Unrefused (recordIn wor
   pub reduced-place : (a : ℕ) → a < length words → a < length words₁
   reduced-place a l = subst (λ k. a < k) (sym (N .kept .long)) l
 
-  pub reduced-here : ReducedForm (length words₁) (heldRecord (recordIn words₁ codes₁))
+  reduced-here : ReducedForm (length words₁) (heldRecord (recordIn words₁ codes₁))
   reduced-here = subst (λ k. ReducedForm k (heldRecord (recordIn words₁ codes₁))) (sym (N .kept .long)) (N .form)
+
+  pub reduced-ready : (a b : ℕ) → a < length words → b < length words → Ready (heldRecord (recordIn words₁ codes₁)) a b
+  reduced-ready a b ha hb = form-ready (length words₁) (heldRecord (recordIn words₁ codes₁))
+      (unrefused-simple words₁ codes₁ (N .kept .unrefused)) reduced-here a b (reduced-place a ha) (reduced-place b hb)
 
   module _ (a b : ℕ) (ha : a < length words) (hb : b < length words) (ab : a ≢ b) where
     pub cz-answered : (words₂ codes₂ : List ℕ) → Rewritten words₁ codes₁ (λ g. czRecord g a b) words₂ codes₂

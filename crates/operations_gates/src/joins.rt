@@ -1,4 +1,4 @@
-// CZ on a record of reduced form, in its buffers: edges between two sets of vertices are flipped.
+// CZ on two vertices that are ready for it, in a record's buffers: edges between two sets of vertices are flipped.
 use graph::join_sets;
 use operations_rewriting::put_before;
 use words::single;
@@ -10,7 +10,7 @@ ghost use Prim.Native.Nat.{ℕ, _<_};
 ghost use lib.Dec.{eqb};
 ghost use lib.ListN.{length};
 ghost use Rattle.clifford.specs.Clifford.{bitC, cliffordOf};
-ghost use Rattle.graph_steps.specs.internal.ReducedForms.{ReducedForm};
+ghost use Rattle.graph_steps.specs.internal.ReadyPairs.{Ready};
 ghost use Rattle.graph_steps.specs.internal.Steps.{czRecord};
 ghost use Rattle.operations.specs.internal.InPlace.{Rewritten, Unrefused, recordIn};
 ghost use Rattle.record.specs.Lent.{heldRecord};
@@ -28,9 +28,13 @@ fn reach_word(word: u64, code: u8, a: usize) -> u64
 // Whether that product is minus Z at the vertex.
 fn reach_minus(code: u8) -> bool
     requires { ⌜ code < 24 ⌝ }
-    ensures { λ r. ⌜ r ≡ (bitC (cliffordOf code) && (cliffordOf code) .sx) ⌝ }
+    ensures { λ r. ⌜ r ≡ cond (bitC (cliffordOf code)) ((cliffordOf code) .sx) ((cliffordOf code) .sz) ⌝ }
 {
-    (8 <= code) & (code / 2 % 2 == 1)
+    if code < 8 {
+        code % 2 == 1
+    } else {
+        code / 2 % 2 == 1
+    }
 }
 
 // The vertices that get Z before their codes: those of both sets, and those of one where the other has the sign.
@@ -42,9 +46,9 @@ fn turned_word(to_a: u64, to_b: u64, minus_a: bool, minus_b: bool) -> u64
 }
 
 // CZ on a and b.
-pub fn cz_reduced(neighbours: &mut [u64], codes: &mut [u8], a: usize, b: usize)
+pub fn cz_ready(neighbours: &mut [u64], codes: &mut [u8], a: usize, b: usize)
     requires { ⌜ Unrefused (recordIn (now neighbours) (now codes)) ⌝ }
-    requires { ⌜ ReducedForm (length (now neighbours)) (heldRecord (recordIn (now neighbours) (now codes))) ⌝ }
+    requires { ⌜ Ready (heldRecord (recordIn (now neighbours) (now codes))) a b ⌝ }
     requires { ⌜ (a < length (now neighbours)) × (b < length (now neighbours)) × (a ≢ b) ⌝ }
     ensures { λ r. ⌜ Rewritten (now (neighbours .entry)) (now (codes .entry)) (λ g. czRecord g a b)
         (now (neighbours .exit)) (now (codes .exit)) ⌝ }

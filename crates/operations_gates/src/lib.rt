@@ -1,7 +1,7 @@
 // Gates and CZ on a record in its buffers.
-mod joins;
+pub mod joins;
 
-use crate::joins::cz_reduced;
+use crate::joins::cz_ready;
 use graph_settling::settle_all;
 use operations::compose;
 use words::single;
@@ -69,5 +69,5 @@ pub fn cz_record(
         (now (neighbours .exit)) (now (codes .exit)) ⌝ }
 {
     settle_all(neighbours, codes, touched, suspected);
-    cz_reduced(neighbours, codes, a, b);
+    cz_ready(neighbours, codes, a, b);
 }

@@ -1,7 +1,7 @@
 // A vertex isolated by a measurement, in the buffers of a record.
 use buffers::sign_digit;
+use operations::before_each;
 use operations::compose;
-use operations::compose_fixed;
 use words::single;
 use words::smallest;
 use words::without_smallest;
@@ -47,10 +47,12 @@ fn remove_turning(neighbours: &mut [u64], codes: &mut [u8], q: usize)
         (then (cliffordOf 2) (codesOf (now (codes .entry)) k)) (codesOf (now (codes .entry)) k))) ⌝ }
 {
     let away = single(q);
+    let twos = before_each(2);
     let mut rest = neighbours[q];
     while rest != 0 {
         let i = smallest(rest);
-        codes[i] = compose_fixed(2, codes[i]);
+        let code = codes[i];
+        codes[i] = twos[code as usize];
         neighbours[i] = neighbours[i] ^ away;
         rest = without_smallest(rest);
     }

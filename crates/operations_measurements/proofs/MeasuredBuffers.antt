@@ -5,7 +5,8 @@ use mathlib.Core.Path.{ap, refl, subst, sym, _∙_, _≡_}
 use Prim.Native.Nat.{_<_, ℕ}
 use lib.ListN.{length}
 use Rattle.graph.specs.Graph.{Simple}
-use Rattle.graph_steps.specs.internal.KeptGroups.{GroupMeasured, Normalised}
+use Rattle.graph_steps.specs.internal.KeptGroups.{GroupHeld, GroupMeasured, Normalised}
+use Rattle.stabilizer.specs.Groups.{SameGroup}
 use Rattle.operations.proofs.Determined.{measured-proper}
 use Rattle.operations.proofs.GroupAlone.{reduced-of-group}
 use Rattle.operations.proofs.UnrefusedRecords.{unrefused-simple}
@@ -51,7 +52,8 @@ module _ (words codes : List ℕ) (pauli q : ℕ) (d m : Bool) (read : ReadOff (
   pub determined-as-read : d ≡ isDetermined (length words) (heldRows (recordIn words codes)) l q
   determined-as-read = read .known ∙ sym (ap (λ l. isDetermined n rows l q) named)
 
-  answered-as-read : (b : Bool) → cond d (Determined m) (Chosen b) ≡ measuredOutcome n rows (pauliLetter pauli) q b
+  pub answered-as-read : (b : Bool) → cond d (Determined m) (Chosen b)
+      ≡ measuredOutcome (length words) (heldRows (recordIn words codes)) (pauliLetter pauli) q b
   answered-as-read b =
       as-outcome d (read .reading b) ∙ ap (λ d. cond d (Determined o) (Chosen o)) (read .known)
     where
@@ -62,6 +64,17 @@ module _ (words codes : List ℕ) (pauli q : ℕ) (d m : Bool) (read : ReadOff (
           → cond d (Determined m) (Chosen b) ≡ cond d (Determined o) (Chosen o)
       as-outcome true e = ap Determined (sym e)
       as-outcome false e = ap Chosen (sym e)
+
+  pub held-as-read : (b : Bool) (words₁ codes₁ : List ℕ) → GroupMeasured words codes l q b words₁ codes₁
+      → GroupHeld (length words) (measuredRows (length words) (heldRows (recordIn words codes)) (pauliLetter pauli) q b)
+      words₁ codes₁
+  held-as-read b words₁ codes₁ G =
+      record {
+        long = G .long;
+        unrefused = G .unrefused;
+        group = subst (λ l. SameGroup n n (measuredRows n rows l q b) (rowsOf n (heldRecord (recordIn words₁ codes₁))))
+            named (G .group);
+      }
 
   pub measured-as-read : Unrefused (recordIn words codes) → q < length words
       → (b : Bool) (r : Outcome) → r ≡ cond d (Determined m) (Chosen b)

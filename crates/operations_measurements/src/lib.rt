@@ -10,9 +10,15 @@ ghost use mathlib.Core.Bool.{cond};
 ghost use mathlib.Core.Path.{_≡_};
 ghost use Prim.Native.Nat.{_<_, _≤_};
 ghost use lib.ListN.{length};
-ghost use Rattle.graph_steps.specs.internal.KeptGroups.{GroupMeasured};
+ghost use Rattle.graph_steps.specs.internal.KeptGroups.{GroupHeld, GroupMeasured};
 ghost use Rattle.operations.specs.internal.InPlace.{MeasuredInPlace, Unrefused, recordIn};
-ghost use Rattle.operations.specs.Measurement.{contradicts, isDetermined, pauliLetter};
+ghost use Rattle.operations.specs.Measurement.{
+  contradicts,
+  isDetermined,
+  measuredOutcome,
+  measuredRows,
+  pauliLetter,
+};
 ghost use Rattle.operations.specs.internal.Steps.{ReadOff};
 ghost use Rattle.operations.specs.declared.Outcome.the-variants.{Chosen, Determined};
 ghost use Rattle.pauli.specs.declared.Letter.the-variants.{I};
@@ -95,6 +101,34 @@ fn outcome_of(known: Reading, bit: bool) -> Outcome
         return Outcome::Determined(sign);
     }
     Outcome::Chosen(bit)
+}
+
+// Measures a Pauli at q, and leaves a record of the group afterwards.
+pub fn measure_unsettled(
+    neighbours: &mut [u64],
+    codes: &mut [u8],
+    pauli: u8,
+    q: usize,
+    bit: bool,
+) -> Outcome
+    requires { ⌜ Unrefused (recordIn (now neighbours) (now codes)) × (q < length (now neighbours)) ⌝ }
+    requires { ⌜ (1 ≤ pauli) × (pauli ≤ 3) ⌝ }
+    ensures { λ r. ⌜ GroupHeld (length (now (neighbours .entry)))
+        (measuredRows (length (now (neighbours .entry))) (heldRows (recordIn (now (neighbours .entry)) (now (codes .entry))))
+        (pauliLetter pauli) q bit) (now (neighbours .exit)) (now (codes .exit)) ⌝ }
+    ensures { λ r. ⌜ r ≡ measuredOutcome (length (now (neighbours .entry)))
+        (heldRows (recordIn (now (neighbours .entry)) (now (codes .entry)))) (pauliLetter pauli) q bit ⌝ }
+{
+    let known = read_off(neighbours, codes, pauli, q);
+    measure_group(
+        neighbours,
+        codes,
+        letter_named(pauli),
+        q,
+        bit,
+        known.determined,
+    );
+    outcome_of(known, bit)
 }
 
 // Measures a Pauli at q, and leaves the reduced record of the group afterwards.

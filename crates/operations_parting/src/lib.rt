@@ -1,8 +1,7 @@
 // A pivot and a complementation that leave out the edges at a vertex, which a measurement is about to isolate: its
 // neighbours are gone through once.
-use clifford_tables::row_of_six;
+use operations::before_each;
 use operations::compose;
-use operations::compose_fixed;
 use operations_pivots::join_turning;
 use words::flip;
 use words::single;
@@ -61,7 +60,7 @@ fn complement_away(neighbours: &mut [u64], codes: &mut [u8], q: usize)
 {
     let mut rest = neighbours[q];
     let around = rest | single(q);
-    let sixes = row_of_six();
+    let sixes = before_each(6);
     while rest != 0 {
         let i = smallest(rest);
         let code = codes[i];
@@ -82,7 +81,7 @@ pub fn complement_parted(neighbours: &mut [u64], codes: &mut [u8], q: usize) -> 
     ensures { λ r. ⌜ r ≡ getD (now (neighbours .entry)) q 0 ⌝ }
 {
     let near = neighbours[q];
-    let first = compose_fixed(13, codes[q]);
+    let first = compose(13, codes[q]);
     complement_away(neighbours, codes, q);
     codes[q] = first;
     near

@@ -1,6 +1,6 @@
 // Pivots of a record in its buffers.
+use operations::before_each;
 use operations::compose;
-use operations::compose_fixed;
 use words::single;
 use words::smallest;
 use words::without_smallest;
@@ -29,10 +29,12 @@ fn turn_rows(neighbours: &mut [u64], codes: &mut [u8], rows: u64, word: u64)
     ensures { λ r. ⌜ now (codes .exit) ≡ tabulate (length (now (codes .entry))) (λ q. codeOf (cond (bit «rows» q)
         (then (cliffordOf 2) (codesOf (now (codes .entry)) q)) (codesOf (now (codes .entry)) q))) ⌝ }
 {
+    let twos = before_each(2);
     let mut rest = rows;
     while rest != 0 {
         let i = smallest(rest);
-        codes[i] = compose_fixed(2, codes[i]);
+        let code = codes[i];
+        codes[i] = twos[code as usize];
         neighbours[i] = neighbours[i] ^ word;
         rest = without_smallest(rest);
     }

@@ -1,6 +1,6 @@
 // Complements of a record in its buffers, and codes put before those of its vertices.
-use clifford_tables::row_of_six;
-use operations::compose_fixed;
+use operations::before_each;
+use operations::compose;
 use words::flip;
 use words::smallest;
 use words::without_smallest;
@@ -26,10 +26,12 @@ pub fn put_before(codes: &mut [u8], word: u64, k: u8)
     ensures { λ r. ⌜ now (codes .exit) ≡ tabulate (length (now (codes .entry))) (λ q. codeOf (cond (bit word q)
         (then (cliffordOf k) (codesOf (now (codes .entry)) q)) (codesOf (now (codes .entry)) q))) ⌝ }
 {
+    let turned = before_each(k);
     let mut rest = word;
     while rest != 0 {
         let i = smallest(rest);
-        codes[i] = compose_fixed(k, codes[i]);
+        let code = codes[i];
+        codes[i] = turned[code as usize];
         rest = without_smallest(rest);
     }
 }
@@ -42,7 +44,7 @@ pub fn recode(neighbours: &[u64], codes: &mut [u8], a: usize, own: u8, near: u8)
         (then (cliffordOf own) (codesOf (now (codes .entry)) q)) (cond (bit (getD (now (neighbours .entry)) a 0) q)
         (then (cliffordOf near) (codesOf (now (codes .entry)) q)) (codesOf (now (codes .entry)) q)))) ⌝ }
 {
-    let first = compose_fixed(own, codes[a]);
+    let first = compose(own, codes[a]);
     put_before(codes, neighbours[a], near);
     codes[a] = first;
 }
@@ -56,7 +58,7 @@ fn complement_around(neighbours: &mut [u64], codes: &mut [u8], a: usize)
         (then (cliffordOf 6) (codesOf (now (codes .entry)) q)) (codesOf (now (codes .entry)) q))) ⌝ }
 {
     let around = neighbours[a];
-    let sixes = row_of_six();
+    let sixes = before_each(6);
     let mut rest = around;
     while rest != 0 {
         let i = smallest(rest);
@@ -73,7 +75,7 @@ pub fn complement_record(neighbours: &mut [u64], codes: &mut [u8], a: usize)
     ensures { λ r. ⌜ Rewritten (now (neighbours .entry)) (now (codes .entry)) (λ g. complementRecord g a)
         (now (neighbours .exit)) (now (codes .exit)) ⌝ }
 {
-    let first = compose_fixed(13, codes[a]);
+    let first = compose(13, codes[a]);
     complement_around(neighbours, codes, a);
     codes[a] = first;
 }

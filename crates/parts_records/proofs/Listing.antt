@@ -13,7 +13,7 @@ use lib.Dec.{eqb, ltb}
 use lib.ListN.{getD, length, length-set, set}
 use lib.Seq.{getD-set-other, getD-set-same}
 use borrow.Author.Tests.{le-ltb, lt-ltb}
-use Rattle.cut.proofs.Counting.{count-except, count-ext, except}
+use Rattle.cut.proofs.Counting.{count-except, count-ext, count-upto, except}
 use Rattle.cut.specs.Kernel.{count}
 use Rattle.parts.specs.internal.Numbered.{Numbers}
 use Rattle.words.proofs.BitLaws.{bit-above, bit-ext, bit-flip, bit-wordOf, lt-of-bits, wordOf-lt, zero-bit}
@@ -25,9 +25,9 @@ use Rattle.parts_records.specs.internal.Listed.{renumbered}
 
 -- ---- the loop that lists: k vertices are listed, the others are in `rest`
 pub record Listing (component : ℕ) (at : List ℕ) (k rest : ℕ) : Type 0 where
-  pub long : length at ≡ 20
+  pub long : length at ≡ 64
   pub small : rest < 2 ^ 64
-  pub few : k + count 64 (bit rest) ≤ 20
+  pub few : k + count 64 (bit rest) ≤ 64
   pub left : (q : ℕ) → bit rest q ≡ true → bit component q ≡ true
   pub rising : (i j : ℕ) → i < j → j < k → getD at i 0 < getD at j 0
   pub before : (i q : ℕ) → i < k → bit rest q ≡ true → getD at i 0 < q
@@ -35,13 +35,13 @@ pub record Listing (component : ℕ) (at : List ℕ) (k rest : ℕ) : Type 0 whe
   pub inside : (i : ℕ) → i < k → bit component (getD at i 0) ≡ true
   pub onto : (q : ℕ) → bit component q ≡ true → (bit rest q ≡ true) ⊎ ((i : ℕ) × (i < k) × (getD at i 0 ≡ q))
 
-pub listing-start : (component : ℕ) (at : List ℕ) → length at ≡ 20 → component < 2 ^ 64 → count 64 (bit component) ≤ 20
+pub listing-start : (component : ℕ) (at : List ℕ) → length at ≡ 64 → component < 2 ^ 64
     → Listing component at 0 component
-listing-start component at l b f =
+listing-start component at l b =
     record {
       long = l;
       small = b;
-      few = omega (arith, f);
+      few = omega (arith, count-upto 64 (bit component));
       left = λ q a. a;
       rising = λ i j m k. absurd (not-suc-le-zero k);
       before = λ i q m a. absurd (not-suc-le-zero m);
@@ -75,7 +75,7 @@ module _ (component : ℕ) (at : List ℕ) (k rest : ℕ) (L : Listing component
     one-less = count-except 64 (bit rest) q (F .below) (F .passes)
         ∙ ap suc (sym (count-ext 64 (bit (bitXor rest (2 ^ q))) (except (bit rest) q) (λ t l. taken t)))
 
-    pub room : k < 20
+    pub room : k < 64
     room = omega (arith, L .few, one-less)
 
     pub place-below : q < 64
@@ -165,7 +165,7 @@ module _ (component : ℕ) (at : List ℕ) (k rest : ℕ) (L : Listing component
         reach t (inl a) (yes d) = inr (k, end, here ∙ sym d)
         reach t (inl a) (no d) = inl (taken t ∙ ap₂ (λ u v. u && not v) a (other-place d))
 
-  pub listing-end : rest ≡ 0 → (k ≤ 20) × Numbers 64 (bit component) k (λ i. getD at i 0)
+  pub listing-end : rest ≡ 0 → (k ≤ 64) × Numbers 64 (bit component) k (λ i. getD at i 0)
   listing-end e = (
     omega (arith, L .few),
     record {

@@ -6,22 +6,20 @@ use words::smallest;
 ghost use mathlib.Core.Path.{_≡_};
 ghost use Prim.Native.Nat.{ℕ, _<_, _≤_};
 ghost use lib.ListN.{getD, length};
-ghost use Rattle.cut.specs.Kernel.{count};
 ghost use Rattle.parts.specs.internal.Numbered.{Numbers};
 ghost use Rattle.words.specs.Bits.{bit};
 ghost use Rattle.parts_records.specs.internal.Listed.{partCodes, renumbered, partWords};
 
-// The vertices of a set of at most 20, in rising order, and how many there are.
+// The vertices of a set, in rising order, and how many there are.
 pub struct Places {
     pub count: usize,
-    pub at: [usize; 20],
+    pub at: [usize; 64],
 }
 
 pub fn vertices(component: u64) -> Places
-    requires { ⌜ count 64 (bit component) ≤ 20 ⌝ }
-    ensures { λ r. ⌜ (r .count ≤ 20) × Numbers 64 (bit component) (r .count) (λ i. getD (r .at) i 0) ⌝ }
+    ensures { λ r. ⌜ (r .count ≤ 64) × Numbers 64 (bit component) (r .count) (λ i. getD (r .at) i 0) ⌝ }
 {
-    let mut at = [0usize; 20];
+    let mut at = [0usize; 64];
     let mut k = 0;
     let mut rest = component;
     while rest != 0 {
@@ -34,8 +32,8 @@ pub fn vertices(component: u64) -> Places
 }
 
 // The bits of a word at the numbered vertices.
-fn compress(w: u64, at: [usize; 20], k: usize) -> u64
-    requires { ⌜ (k ≤ 20) × ((i : ℕ) → i < k → getD at i 0 < 64) ⌝ }
+fn compress(w: u64, at: [usize; 64], k: usize) -> u64
+    requires { ⌜ (k ≤ 64) × ((i : ℕ) → i < k → getD at i 0 < 64) ⌝ }
     ensures { λ r. ⌜ r ≡ renumbered k at w ⌝ }
 {
     let mut bits = 0;
@@ -52,11 +50,11 @@ fn compress(w: u64, at: [usize; 20], k: usize) -> u64
 pub fn extract(
     neighbours: &[u64],
     codes: &[u8],
-    at: [usize; 20],
+    at: [usize; 64],
     words: &mut [u64],
     numbers: &mut [u8],
 )
-    requires { ⌜ (length (now words) ≤ 20) × (length (now numbers) ≡ length (now words)) ⌝ }
+    requires { ⌜ (length (now words) ≤ 64) × (length (now numbers) ≡ length (now words)) ⌝ }
     requires { ⌜ (length (now neighbours) ≤ 64) × (length (now codes) ≡ length (now neighbours))
         × ((i : ℕ) → i < length (now words) → getD at i 0 < length (now neighbours)) ⌝ }
     ensures { λ r. ⌜ (now (words .exit) ≡ partWords (length (now (words .entry))) at (now (neighbours .entry)))

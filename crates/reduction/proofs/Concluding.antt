@@ -3,10 +3,10 @@ use mathlib.Core.Bool.{_&&_, Bool, cond, false, not, true}
 use mathlib.Core.Logic.{inl, inr, _⊎_}
 use mathlib.Core.Path.{ap, ap₂, fun-ext, refl, subst, sym, _∙_, _≡_}
 use Prim.Native.Nat.{_-_, _<_, _^_, ℕ, _≤_}
-use native.Mathlib.Nat.{le-refl, lt-irrefl}
+use native.Mathlib.Nat.{le-refl, le-trans, lt-irrefl}
 use native.Mathlib.Omega.{arith}
 use lib.Bits.{bitXor}
-use lib.Dec.{ltb}
+use lib.Dec.{eqb, ltb}
 use lib.Pow.{ones-lt}
 use borrow.Author.Tests.{le-ltb, lt-ltb, not-false, not-true}
 use Rattle.clifford.proofs.VectorLaws.{act-cong, act-identity}
@@ -30,8 +30,8 @@ use Rattle.stabilizer.proofs.Verdicts.{independent-exactly, not-dependent}
 use Rattle.stabilizer.proofs.Within.{act-wide, act-within}
 use Rattle.stabilizer.specs.Groups.{Commuting, Independent, Within}
 use Rattle.stabilizer.specs.Lists.{dependent}
-use Rattle.words.proofs.BitLaws.{bit-above, bit-ext∞, bit-mask, bit-xor, zero-bit}
-use Rattle.words.proofs.Places.{put-other}
+use Rattle.words.proofs.BitLaws.{bit-above, bit-ext∞, bit-mask, bit-xor, lt-of-bits, zero-bit}
+use Rattle.words.proofs.Places.{other-place, put-other}
 use Rattle.words.proofs.SearchLaws.{first-is}
 use Rattle.words.proofs.Sums.{lt-or-ge}
 use Rattle.words.specs.Bits.{Word, bit, _⊕_}
@@ -109,6 +109,10 @@ module _ (n : ℕ) (l : n ≤ 64) (R₀ : ℕ → Pauli) (L : Loaded n R₀) (R�
       go (inr k) =
           ap₂ _⊕_ (le-ltb q n k) (kept-below q k) ∙ sym (ap (λ b. b && not (bit kept q)) (le-ltb q n k))
 
+  pub hadamards-lt : hadamards < 2 ^ 64
+  hadamards-lt = lt-of-bits 64 hadamards
+      (λ q k. hadamards-are q ∙ ap (λ b. b && not (bit kept q)) (le-ltb q n (le-trans l k)))
+
   module _ (R₂ : ℕ → Pauli) (rot : (j : ℕ) → R₂ j ≡ act 64 (hadamardWhere (bit hadamards)) (R₁ j)) where
     rotated-is : (j : ℕ) → R₂ j ≡ act n (hadamardWhere (failed n (bit kept))) (R₁ j)
     rotated-is j =
@@ -176,3 +180,12 @@ module _ (n : ℕ) (l : n ≤ 64) (R₀ : ℕ → Pauli) (L : Loaded n R₀) (R�
             ap (λ w. recordOf n w R₃) (fun-ext hadamards-are)
             ∙ sym (record-path _ _
             (passes-equation n R₀ R₁ (bit kept) first-done R₃ (bit pivots) second (every-pivot e)))
+
+        -- row j has its x letter at j alone
+        pub one-x : (j : ℕ) → j < n → (t : ℕ) → (R₃ j) .x t ≡ eqb j t
+        one-x j hj t = go (lt-or-ge t n)
+          where
+            go : (t < n) ⊎ (n ≤ t) → (R₃ j) .x t ≡ eqb j t
+            go (inl k) = second .pivots t (every-pivot e t k) j
+            go (inr k) = loaded-second .within j .no-x t k
+                ∙ sym (other-place {i = j} {j = t} (λ p. lt-irrefl n (omega (arith, hj, k, p))))

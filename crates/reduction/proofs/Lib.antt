@@ -1,2 +1,3 @@
 pub mod Concluding
 pub mod Loading
+pub mod Rounds

@@ -172,13 +172,13 @@ pub eliminated-at : {n : ℕ} {R₀ : ℕ → Pauli} {w₀ : Word} {R : ℕ → 
     Eliminated n R₀ w₀ R w q → Eliminated n R₀ w₀ R w q′
 eliminated-at {n} {R₀} {w₀} {R} {w} e E = subst (Eliminated n R₀ w₀ R w) e E
 
--- the same arrays under other names
-pub same-state : {n : ℕ} {R₀ : ℕ → Pauli} {w₀ : Word} {pivots pivots′ q : ℕ} {words words′ : List ℕ}
+-- the same array and words under other names
+pub same-state : {n : ℕ} {R₀ : ℕ → Pauli} {w₀ : Word} {pivots pivots′ q signs signs′ : ℕ}
     {rows rows′ : List (List ℕ)} →
-    words′ ≡ words → pivots′ ≡ pivots → rows′ ≡ rows →
-    Eliminated n R₀ w₀ (relative words rows) (bit pivots) q
-    → Eliminated n R₀ w₀ (relative words′ rows′) (bit pivots′) q
-same-state {n} {R₀} {w₀} {pivots} {pivots′} {q} {words} {words′} {rows} {rows′} es ep er E =
-    subst (λ p. Eliminated n R₀ w₀ (relative words′ rows′) (bit p) q) (sym ep)
-    (subst (λ s. Eliminated n R₀ w₀ (relative s rows′) (bit pivots) q) (sym es)
-    (subst (λ v. Eliminated n R₀ w₀ (relative words v) (bit pivots) q) (sym er) E))
+    signs′ ≡ signs → pivots′ ≡ pivots → rows′ ≡ rows →
+    Eliminated n R₀ w₀ (relative (bit signs) rows) (bit pivots) q
+    → Eliminated n R₀ w₀ (relative (bit signs′) rows′) (bit pivots′) q
+same-state {n} {R₀} {w₀} {pivots} {pivots′} {q} {signs} {signs′} {rows} {rows′} es ep er E =
+    subst (λ p. Eliminated n R₀ w₀ (relative (bit signs′) rows′) (bit p) q) (sym ep)
+    (subst (λ s. Eliminated n R₀ w₀ (relative (bit s) rows′) (bit pivots) q) (sym es)
+    (subst (λ v. Eliminated n R₀ w₀ (relative (bit signs) v) (bit pivots) q) (sym er) E))

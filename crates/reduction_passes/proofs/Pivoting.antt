@@ -1,9 +1,9 @@
 -- The pivot of a column as the code does it, and the words that name the rows.
-use mathlib.Core.Bool.{_&&_, Bool, and-false, and-true, false, not, true, true≢false}
+use mathlib.Core.Bool.{_&&_, and-false, and-true, false, not, true, true≢false}
 use mathlib.Core.List.{List, []}
 use mathlib.Core.Logic.{inl, inr, _⊎_}
 use mathlib.Core.Path.{ap, ap₂, fun-ext, refl, subst, sym, _∙_, _≡_}
-use Prim.Native.Nat.{_*_, _+_, _-_, _<_, _^_, suc, zero-le, ℕ, _≤_}
+use Prim.Native.Nat.{_*_, _+_, _-_, _<_, _^_, suc, ℕ, _≤_}
 use native.Mathlib.Nat.{add-zero, lt-irrefl, lt-of-lt-of-le, mul-comm, zero-add}
 use native.Mathlib.Omega.{arith}
 use lib.Dec.{eqb, ltb}
@@ -18,22 +18,10 @@ use Rattle.stabilizer.specs.internal.Elimination.{clear, lend, pivotOn}
 use Rattle.stabilizer.specs.Elimination.{shear}
 use Rattle.stabilizer.specs.Groups.{chosen}
 use Rattle.words.proofs.BitLaws.{bit-above, bit-single, bit-wordOf, wordOf-lt, zero-bit}
-use Rattle.words.proofs.Places.{other-place, put-all, put-other, put-same, upto-with}
+use Rattle.words.proofs.Places.{other-place, put-all, put-other, put-same}
 use Rattle.words.proofs.Sums.{lt-or-ge}
-use Rattle.words.specs.Bits.{Word, bit, digit, put, wordOf, _⊕_}
+use Rattle.words.specs.Bits.{Word, bit, digit, put, wordOf}
 use Rattle.reduction_passes.specs.internal.Passes.{PivotReady}
-
--- ---- a word made row after row: the rows below i that pass
-pub record NamedBelow (f : Word) (word i : ℕ) : Type 0 where
-  pub named : (j : ℕ) → bit word j ≡ (ltb j i && f j)
-
-pub named-start : (f : Word) → NamedBelow f 0 0
-named-start f = record { named = λ j. zero-bit j ∙ sym (ap (λ b. b && f j) (le-ltb j 0 zero-le)) }
-
-pub named-step : (f : Word) (word i : ℕ) → NamedBelow f word i → (word′ : ℕ) (b : Bool) → b ≡ f i
-    → ((j : ℕ) → bit word′ j ≡ bit word j ⊕ (eqb j i && b)) → NamedBelow f word′ (i + 1)
-named-step f word i C word′ b e h =
-    record { named = λ j. h j ∙ ap₂ (λ u v. u ⊕ (eqb j i && v)) (C .named j) e ∙ upto-with f i j }
 
 -- ---- a word made from the highest row down: the rows from j on, j at bit 0
 pub record NamedFrom (n : ℕ) (f : Word) (word j : ℕ) : Type 0 where
@@ -102,10 +90,6 @@ module _ (R : ℕ → Pauli) (q i holders : ℕ) (P : PivotReady R q i holders) 
         ap (λ b. mul 64 (R j) (chosen b (R i)))
         (bit-here j ∙ sym (ap (λ b. eqb j q && not b) (sym (P .holds q) ∙ lacks) ∙ and-true (eqb j q)))
 
-    pub lender-not-named : bit single i ≡ false
-    lender-not-named = bit-here i ∙ other-place (λ p. true≢false (sym (P .has) ∙ ap (λ v. (R v) .x q) p
-        ∙ sym (P .holds q) ∙ lacks))
-
     pub lent-commutes : (j : ℕ) → bit single j ≡ true → anticommute 64 (R j) (R i) ≡ false
     lent-commutes j e =
         subst (λ v. anticommute 64 (R v) (R i) ≡ false) (sym (eqb-true j q (sym (bit-here j) ∙ e)))
@@ -148,7 +132,7 @@ module _ (R : ℕ → Pauli) (q i holders : ℕ) (P : PivotReady R q i holders) 
           ∙ P .holds j ∙ far j l))
 
 -- a row past the array has no bit
-pub far-row : (rows : List (List ℕ)) (words : List ℕ) (q : ℕ) → length rows ≡ 64 → (j : ℕ) → 64 ≤ j →
-    (relative words rows j) .x q ≡ false
-far-row rows words q e j l =
+pub far-row : (rows : List (List ℕ)) (signs : Word) (q : ℕ) → length rows ≡ 64 → (j : ℕ) → 64 ≤ j →
+    (relative signs rows j) .x q ≡ false
+far-row rows signs q e j l =
     ap (λ v. bit (getD v 1 0) q) (List·getD-eq-default rows [] (subst (λ k. k ≤ j) (sym e) l)) ∙ zero-bit q

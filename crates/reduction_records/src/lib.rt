@@ -32,7 +32,7 @@ fn vertex_code(hadamard: bool, y: bool, minus: bool) -> u8
 
 // Writes the record of rows that have X or Y at their own place and I or Z elsewhere.
 pub fn write_record(
-    rows: &[[u64; 2]; 64],
+    rows: [[u64; 2]; 64],
     signs: u64,
     n: usize,
     hadamards: u64,
@@ -40,11 +40,11 @@ pub fn write_record(
     codes: &mut [u8],
 )
     requires { ⌜ (n ≤ 64) × (length (now neighbours) ≡ n) × (length (now codes) ≡ n) ⌝ }
-    requires { ⌜ ((j : ℕ) → j < n → Within n (tableau signs (now rows) j)) ⌝ }
+    requires { ⌜ ((j : ℕ) → j < n → Within n (tableau signs rows j)) ⌝ }
     ensures { λ r. ⌜ now (neighbours .exit)
-        ≡ neighbourWords n (recordOf n (bit hadamards) (tableau signs (now (rows .entry)))) ⌝ }
+        ≡ neighbourWords n (recordOf n (bit hadamards) (tableau signs rows)) ⌝ }
     ensures { λ r. ⌜ now (codes .exit)
-        ≡ codeNumbers n (recordOf n (bit hadamards) (tableau signs (now (rows .entry)))) ⌝ }
+        ≡ codeNumbers n (recordOf n (bit hadamards) (tableau signs rows)) ⌝ }
 {
     let mut q = 0;
     while q < n {

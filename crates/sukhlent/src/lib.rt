@@ -1,6 +1,7 @@
 // The public calls as C sees them, by family. Each passes its arguments on to the proved call that has the same contract.
 pub mod amplitudes;
 pub mod comparisons;
+pub mod equivalences;
 pub mod expectations;
 pub mod generator;
 pub mod groups;

@@ -2,6 +2,7 @@
 // asks nothing of its arguments.
 mod amplitudes;
 mod comparisons;
+mod equivalences;
 mod expectations;
 mod generator;
 mod groups;

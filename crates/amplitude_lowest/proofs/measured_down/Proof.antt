@@ -2,7 +2,7 @@
 use mathlib.Core.Path.{sym, _∙_}
 use native.Mathlib.Omega.{arith}
 use borrow.Author.Needs.{needs}
-use Rattle.operations.proofs.UnrefusedRecords.{unrefused-long, unrefused-short}
+use Rattle.operations.proofs.UnrefusedRecords.{unrefused-long, unrefused-short, unrefused-simple}
 use Rattle.amplitude_lowest.proofs.Downwards.{Down, down-more, down-start, down-word, next-below}
 use Rattle.amplitude_lowest.proofs.measured_down.Statement.{statement}
 use Rattle.amplitude_lowest.proofs.measured_down.Tie as tie
@@ -36,7 +36,9 @@ loop-again : tie.Need-loop-again Inv-loop μ-loop
 loop-again c =
     let F = c .before .before .before .before .before in
     let inside = F .before .before .before in
-    down-more _ _ _ _ _ _ (inside .before .loop .inv) (inside .loop-test .taken) _ (F .forced .ensures .0) _ _
+    let start = inside .before .before .before .before .pre in
+    down-more _ _ _ _ _ _ (inside .before .loop .inv) (inside .loop-test .taken) (unrefused-simple _ _ start) _
+    (F .forced .ensures .0) _ _
     (F .forced .ensures .1) _ (c .flip-where .ensures)
 
 same-length : tie.Need-same-length Inv-loop μ-loop

@@ -1,5 +1,6 @@
 -- `kept` meets its contract: the vertices without a Hadamard.
 use mathlib.Core.Bool.{not}
+use mathlib.Core.Path.{ap}
 use Prim.Native.Nat.{_-_}
 use native.Mathlib.Omega.{arith}
 use lib.ListN.{length}
@@ -8,7 +9,6 @@ use Rattle.clifford.specs.Clifford.{bitC}
 use Rattle.clifford.specs.Vectors.{codesOf}
 use Rattle.amplitude_words.proofs.FoundWords.{Found, found-none, found-one}
 use Rattle.amplitude_words.proofs.Loops.{found-word}
-use Rattle.amplitude_words.proofs.Vertices.{low-code}
 use Rattle.amplitude_words.proofs.kept.Statement.{statement}
 use Rattle.amplitude_words.proofs.kept.Tie as tie
 
@@ -21,19 +21,24 @@ abbrev μ-loop : tie.MeasureT-loop
 loop-holds : tie.Need-loop-holds Inv-loop μ-loop
 loop-holds c = found-none _ _
 
+c-bit-requires : tie.Need-c-bit-requires Inv-loop μ-loop
+c-bit-requires c κs = c .before .before .before .before .pre .1 (c .before .before .loop .i)
+
 flip-where-requires : tie.Need-flip-where-requires Inv-loop μ-loop
-flip-where-requires c κs = omega (arith, c .before .loop-test .taken, c .before .before .before .before .pre .0)
+flip-where-requires c κs =
+    let inside = c .before .before in
+    omega (arith, inside .loop-test .taken, inside .before .before .before .pre .0)
 
 loop-less : tie.Need-loop-less Inv-loop μ-loop
-loop-less c = omega (arith, c .before .before .loop-test .taken)
+loop-less c = omega (arith, c .before .before .before .loop-test .taken)
 
 loop-again : tie.Need-loop-again Inv-loop μ-loop
 loop-again c =
-    let inside = c .before .before in
+    let inside = c .before .before .before in
     let start = inside .before .before .before in
     let codes = start .args .codes .now in
     found-one (λ q. not (bitC (codesOf codes q))) _ _ _ _ _ (inside .loop-test .taken) (inside .before .loop .inv)
-    (low-code _ (start .pre .1 (inside .before .loop .i))) (c .flip-where .ensures)
+    (ap not (c .before .c-bit .ensures)) (c .flip-where .ensures)
 
 returns : tie.Need-returns Inv-loop μ-loop
 returns c =
@@ -43,5 +48,5 @@ returns c =
 pub kept-spec : {M : Type 1} → statement M
 kept-spec =
     tie.close
-    (tie.spec Inv-loop μ-loop loop-holds (λ c. search needs) flip-where-requires (λ c. search needs) loop-less
-    loop-again returns)
+    (tie.spec Inv-loop μ-loop loop-holds (λ c. search needs) c-bit-requires flip-where-requires (λ c. search needs)
+    loop-less loop-again returns)

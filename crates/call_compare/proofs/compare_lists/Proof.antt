@@ -16,7 +16,7 @@ returns c = let E = c .before in
     let known = C .before .before .before .before .before .before .before .before in
     let S = known .before .before .before .before .before .before .before in
     let a = S .args in
-    compare-refused (a .n) (a .signs1 .now) (a .z1 .now) (a .x1 .now) (a .signs2 .now) (a .z2 .now)
+    compare-refused (a .limited) (a .n) (a .signs1 .now) (a .z1 .now) (a .x1 .now) (a .signs2 .now) (a .z2 .now)
     (a .x2 .now)
     (a .choice .now) (a .list .now) (S .pre .0 .0) (S .pre .0 .1) (S .pre .0 .2) (S .pre .0 .3)
     (a .neighbours1 .now) (a .codes1 .now) (a .neighbours2 .now) (a .codes2 .now) _ _ _ _
@@ -33,14 +33,14 @@ compare-reduced-requires c κs = let N = c .before .before .before .before .befo
     let S = known .before .before .before .before .before .before .before in
     let a = S .args in
     let z = N .if1 .left in (
-      first-accepted (a .n) (a .signs1 .now) (a .z1 .now) (a .x1 .now) (a .signs2 .now)
+      first-accepted (a .limited) (a .n) (a .signs1 .now) (a .z1 .now) (a .x1 .now) (a .signs2 .now)
           (a .z2 .now) (a .x2 .now)
           (a .choice .now) (a .list .now) (S .pre .0 .0) (S .pre .0 .1) (S .pre .0 .2) (S .pre .0 .3)
           (a .neighbours1 .now) (a .codes1 .now) (a .neighbours2 .now) (a .codes2 .now) _ _ _ _
           (S .pre .1 .0) (S .pre .1 .1) (S .pre .1 .2) (S .pre .1 .3) _ _ _
           (C .reduce .ensures) (D .reduce2 .ensures) (E .earlier .ensures) z,
       (
-        second-accepted (a .n) (a .signs1 .now) (a .z1 .now) (a .x1 .now) (a .signs2 .now) (a .z2 .now)
+        second-accepted (a .limited) (a .n) (a .signs1 .now) (a .z1 .now) (a .x1 .now) (a .signs2 .now) (a .z2 .now)
             (a .x2 .now)
             (a .choice .now) (a .list .now) (S .pre .0 .0) (S .pre .0 .1) (S .pre .0 .2) (S .pre .0 .3)
             (a .neighbours1 .now) (a .codes1 .now) (a .neighbours2 .now) (a .codes2 .now) _ _ _ _
@@ -59,7 +59,7 @@ returns-2 c = let Q = c .before .before .before .before in
     let known = C .before .before .before .before .before .before .before .before in
     let S = known .before .before .before .before .before .before .before in
     let a = S .args in
-    compare-decided (a .n) (a .signs1 .now) (a .z1 .now) (a .x1 .now) (a .signs2 .now) (a .z2 .now)
+    compare-decided (a .limited) (a .n) (a .signs1 .now) (a .z1 .now) (a .x1 .now) (a .signs2 .now) (a .z2 .now)
     (a .x2 .now)
     (a .choice .now) (a .list .now) (S .pre .0 .0) (S .pre .0 .1) (S .pre .0 .2) (S .pre .0 .3)
     (a .neighbours1 .now) (a .codes1 .now) (a .neighbours2 .now) (a .codes2 .now) _ _ _ _

@@ -1,5 +1,10 @@
 -- What the documents say of the exported functions of a group, from their contracts.
 use mathlib.Core.List.{List}
+use mathlib.Core.Path.{subst, sym}
+use Rattle.groups.proofs.GroupPassing.{group-accepted}
+use Rattle.groups.proofs.SameGroups.{group-rewritten}
+use Rattle.record.specs.Lent.{heldRecord}
+use Rattle.record.specs.Records.{SameRecord, complementRecord}
 use Prim.Native.Nat.{ℕ}
 use Rattle.claims.specs.ActionContracts.{session}
 use Rattle.calls.specs.GroupStores.{groupForgetCall, groupReturnCall, groupSaveCall}
@@ -63,6 +68,12 @@ module _ (word g : ℕ) (u : UsedRecord) where
         accepted = groups-accepted .complement word g u a nb′ cs′ r C;
         step = λ st. contracts-are-steps .complement word g (session u st) a r nb′ cs′ C;
         keeps = λ z. group-calls-keep .complement word g u a nb′ cs′ (at-zero C z);
+        rewritten = λ z.
+            let D = at-zero C z in
+            let e = sym (D .number) in
+            subst (λ l. SameRecord (heldRecord l) (complementRecord (heldRecord (u .held)) a))
+            (λ j. record { n = u .held .n; neighbours = sym (D .held .0) j; codes = sym (D .held .1 .0) j })
+            (group-rewritten word g u (group-accepted word g u (complementOf a) e) a e);
         stands = λ z r″ nb″ cs″ W. group-calls-stand .complement word g u a nb′ cs′ r″ nb″ cs″ (at-zero C z) W;
       }
 

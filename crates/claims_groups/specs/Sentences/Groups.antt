@@ -15,6 +15,9 @@ use Rattle.claims.specs.families.Groups.{GroupNameFits, GroupSaveFits, Own, Two
 use Rattle.claims.specs.families.Records.{ComplementFits, CzFits, GateFits, MeasureFits}
 use Rattle.contracts.specs.Calls.{Call}
 use Rattle.operations.specs.Steps.{Operation, complementOf, czOn, gateWith}
+use Rattle.jobs.specs.Standing.{left}
+use Rattle.record.specs.Lent.{heldRecord}
+use Rattle.record.specs.Records.{SameRecord, complementRecord}
 use Rattle.store.specs.Places.{Store}
 use Rattle.used.specs.Used.{UsedRecord}
 use Rattle.claims_groups.specs.GroupContracts.{IsStep, withRecord, withStore}
@@ -73,6 +76,8 @@ pub record GroupComplementSays (word g : ℕ) (u : UsedRecord) (a : ℕ) (nb′ 
   pub accepted : (r ≡ 0) ↔ (TwoGroups word g u × Own word g a × ComplementFits u a)
   pub step : StepOnRecord word g u (groupComplement a) r nb′ cs′ (u .used)
   pub keeps : r ≡ 0 → GroupKeeps word g u (leftUsed u nb′ cs′ (u .used))
+  -- "the answer is the record so rewritten, not reduced": that of document 01's rule, of the whole record
+  pub rewritten : r ≡ 0 → SameRecord (heldRecord (left (u .held) nb′ cs′)) (complementRecord (heldRecord (u .held)) a)
   pub stands : r ≡ 0 → AsWhole u (complementOf a) nb′ cs′
 
 -- sukhlent_group_measure: its outcome, determined bit and used word are those of the whole-record call too

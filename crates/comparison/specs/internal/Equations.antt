@@ -1,17 +1,16 @@
 -- Linear equations modulo 2 over four words of unknowns, a bit of each for each qubit: what the choices that work
--- satisfy, and how the code keeps it in two words.
-use mathlib.Core.Bool.{_&&_, Bool, cond, false, true}
+-- satisfy, and how the code keeps them, in four words each.
+use mathlib.Core.Bool.{Bool, false, true}
 use mathlib.Core.List.{List, [], _∷_, map}
 use mathlib.Core.Logic.{_⊎_}
 use mathlib.Core.Path.{_≡_}
 use Prim.Native.Nat.{_%_, _*_, _+_, _-_, _/_, _<_, _≤_, suc, zero, ℕ}
 use lib.Bits.{bitAnd, bitXor}
-use lib.Dec.{ltb}
 use lib.ListN.{getD, length, replicate}
 use Rattle.clifford.specs.Clifford.{Class, Clifford, imageX, imageZ}
 use Rattle.pauli.specs.Pauli.{xBit, zBit}
 use Rattle.pauli.specs.declared.Generator.{Generator}
-use Rattle.words.specs.Bits.{Word, bit, wordOf, _⊕_}
+use Rattle.words.specs.Bits.{bit, digit, wordOf, _⊕_}
 use Rattle.words.specs.internal.Bits.{dot}
 
 -- ---- equations
@@ -22,25 +21,24 @@ pub record Assignment : Type 0 where
   pub c : ℕ
   pub d : ℕ
 
--- the coefficients of the unknowns, and the sum that they are to give
+-- the coefficients of the unknowns, whose sum is to be 0
 pub record Equation : Type 0 where
   pub a : ℕ
   pub b : ℕ
   pub c : ℕ
   pub d : ℕ
-  pub sum : Bool
 
 -- nothing asked
 abbrev pub emptyEquation : Equation
-emptyEquation = record { a = 0; b = 0; c = 0; d = 0; sum = false }
+emptyEquation = record { a = 0; b = 0; c = 0; d = 0 }
 
 -- equation i of a table; the empty one past its end
 abbrev pub equationAt : List Equation → ℕ → Equation
 equationAt table i = getD table i emptyEquation
 
--- the unknowns give another sum than the one asked for
+-- the unknowns give the sum 1
 unfoldable pub fails : Equation → Assignment → Bool
-fails e w = ((dot (e .a) (w .a) ⊕ dot (e .b) (w .b)) ⊕ (dot (e .c) (w .c) ⊕ dot (e .d) (w .d))) ⊕ e .sum
+fails e w = (dot (e .a) (w .a) ⊕ dot (e .b) (w .b)) ⊕ (dot (e .c) (w .c) ⊕ dot (e .d) (w .d))
 
 -- every equation of the table holds
 abbrev pub Solves : List Equation → Assignment → Type 0
@@ -69,16 +67,16 @@ pub record Size (w r : ℕ) : Type 0 where
 
 -- equation i of the table has unknown i and none above it, or asks nothing
 pub record Triangular (table : List Equation) : Type 0 where
-  pub long : length table ≡ 80
+  pub long : length table ≡ 256
   pub above : (i j : ℕ) → i < j → unknown (equationAt table i) j ≡ false
   pub leading : (i : ℕ) → (unknown (equationAt table i) i ≡ true) ⊎ (equationAt table i ≡ emptyEquation)
 
--- the table with an equation added: its solutions are those of the table that solve the equation, if there is one
+-- the table with an equation added: its solutions are those of the table that solve the equation
 pub record Inserted (table : List Equation) (e : Equation) (result : List Equation) : Type 0 where
   pub triangular : Triangular result
   pub kept : (w : Assignment) → fails e w ≡ false → Solves table w → Solves result w
   pub older : (w : Assignment) → Solves result w → Solves table w
-  pub constant : (w v : Assignment) → Solves result w → Solves result v → fails e w ≡ fails e v
+  pub asked : (w : Assignment) → Solves result w → fails e w ≡ false
 
 -- whether one of the equations of qubit q fails
 pub record QubitTested (table : List Equation) (q : ℕ) (w : Assignment) (broken : Bool) : Type 0 where
@@ -94,48 +92,21 @@ added e f =
       b = bitXor (e .b) (f .b);
       c = bitXor (e .c) (f .c);
       d = bitXor (e .d) (f .d);
-      sum = e .sum ⊕ f .sum;
     }
 
--- the unknowns that two equations have both
-abbrev pub common : Equation → Equation → Equation
-common e f =
-    record {
-      a = bitAnd (e .a) (f .a);
-      b = bitAnd (e .b) (f .b);
-      c = bitAnd (e .c) (f .c);
-      d = bitAnd (e .d) (f .d);
-      sum = e .sum && f .sum;
-    }
-
--- ---- two words: unknown i of the first 80 is bit i of both, the bits of the second after those of the first, and the
--- sum asked for is the top bit
-unfoldable pub bitOf : List ℕ → Word
-bitOf row i = cond (ltb i 64) (bit (getD row 0 0) i) (bit (getD row 1 0) (i - 64))
-
--- of such bits those of the unknowns l of the qubits
-abbrev pub fourth : Word → ℕ → ℕ
-fourth f l = wordOf 20 (λ q. f (4 * q + l))
-
-abbrev pub assignmentBy : Word → Assignment
-assignmentBy f = record { a = fourth f 0; b = fourth f 1; c = fourth f 2; d = fourth f 3 }
-
-abbrev pub equationBy : Word → Bool → Equation
-equationBy f s = record { a = fourth f 0; b = fourth f 1; c = fourth f 2; d = fourth f 3; sum = s }
-
--- what two words stand for
+-- ---- what four words stand for
 abbrev pub assignmentOf : List ℕ → Assignment
-assignmentOf row = assignmentBy (bitOf row)
+assignmentOf row = record { a = getD row 0 0; b = getD row 1 0; c = getD row 2 0; d = getD row 3 0 }
 
 abbrev pub equationOf : List ℕ → Equation
-equationOf row = equationBy (bitOf row) (bit (getD row 1 0) 63)
+equationOf row = record { a = getD row 0 0; b = getD row 1 0; c = getD row 2 0; d = getD row 3 0 }
 
 abbrev pub equationsIn : List (List ℕ) → List Equation
 equationsIn rows = map equationOf rows
 
 -- a table without equations
 abbrev pub emptyRows : List (List ℕ)
-emptyRows = replicate 80 (0 ∷ 0 ∷ [])
+emptyRows = replicate 256 (0 ∷ 0 ∷ 0 ∷ 0 ∷ [])
 
 -- ---- the unknowns of a choice
 -- entry l of the matrix of a class
@@ -156,21 +127,21 @@ classAssignment n k =
       d = wordOf n (λ q. xBit (imageX (k q .class)));
     }
 
--- the signs sx and sz
+-- the signs sx and sz; and unknown c of qubit 0 is 1
 unfoldable pub signAssignment : ℕ → (ℕ → Clifford) → Assignment
-signAssignment n k = record { a = wordOf n (λ q. k q .sx); b = wordOf n (λ q. k q .sz); c = 0; d = 0 }
+signAssignment n k = record { a = wordOf n (λ q. k q .sx); b = wordOf n (λ q. k q .sz); c = 1; d = 0 }
 
 -- ---- what a choice that works satisfies
--- the image of g commutes with h: what g gives to the equation, and what h gives
-abbrev pub firstPart : Generator → Equation
-firstPart g = record { a = g .z; b = g .x; c = g .z; d = g .x; sum = false }
-
-abbrev pub secondPart : Generator → Equation
-secondPart h = record { a = h .x; b = h .x; c = h .z; d = h .z; sum = false }
-
+-- the image of g commutes with h
 abbrev pub classEquation : Generator → Generator → Equation
-classEquation g h = common (firstPart g) (secondPart h)
+classEquation g h =
+    record {
+      a = bitAnd (g .z) (h .x);
+      b = bitAnd (g .x) (h .x);
+      c = bitAnd (g .z) (h .z);
+      d = bitAnd (g .x) (h .z);
+    }
 
 -- the signs at the letters of g change the sign of its image by this bit
 abbrev pub signEquation : Generator → Bool → Equation
-signEquation g s = record { a = g .x; b = g .z; c = 0; d = 0; sum = s }
+signEquation g s = record { a = g .x; b = g .z; c = digit s; d = 0 }

@@ -1,6 +1,6 @@
 -- What the tables of the comparison say, what its two loops choose, and what it answers.
 use mathlib.Core.Bool.{Bool, false, not, true}
-use mathlib.Core.List.{List, []}
+use mathlib.Core.List.{List}
 use mathlib.Core.Logic.{_⊎_}
 use mathlib.Core.Path.{_≡_}
 use Prim.Native.Nat.{_*_, _+_, _/_, _<_, ℕ, _≤_}
@@ -21,9 +21,7 @@ use Rattle.comparison.specs.internal.Equations.{
   classAssignment,
   classEquation,
   equationAt,
-  equationOf,
   fails,
-  secondPart,
   signAssignment,
   signEquation,
 }
@@ -45,11 +43,6 @@ ClassAsked n first second i j e =
 
 abbrev pub ClassTable : ℕ → List Generator → List Generator → ℕ → ℕ → List Equation → Type 0
 ClassTable n first second i j = TableOf (ClassAsked n first second i j)
-
--- the first i rows hold what the generators of the second group give to the equations
-abbrev pub SecondParts : List Generator → List (List ℕ) → ℕ → Type 0
-SecondParts second parts i =
-    (j : ℕ) → j < i → equationOf (getD parts j []) ≡ secondPart (getD second j noGenerator)
 
 -- the equation on the signs at generator j, for the classes of c
 pub record SignFor (n : ℕ) (first second : List Generator) (c : ℕ → Clifford) (j : ℕ) (e : Equation) : Type 0 where
@@ -110,7 +103,7 @@ withSigns choice q v = set choice q (4 * (getD choice q 0 / 4) + v)
 -- the loop over the classes has chosen below q
 pub record ClassesChosen (n : ℕ) (table : List Equation) (q : ℕ) (choice : List ℕ) : Type 0 where
   pub upto : q ≤ n
-  pub long : length choice ≡ 20
+  pub long : length choice ≡ 64
   pub codes : Codes choice
   pub bare-codes : NoSigns choice
   pub chosen : LeastBelow (classAssignment n) classKey table q (codesOf choice)
@@ -124,7 +117,7 @@ pub record ClassesAnswered (n : ℕ) (table : List Equation) (found : Bool) (cho
 -- the loop over the signs, from the classes of an array
 pub record SignsChosen (n : ℕ) (table : List Equation) (start : List ℕ) (q : ℕ) (choice : List ℕ) : Type 0 where
   pub upto : q ≤ n
-  pub long : length choice ≡ 20
+  pub long : length choice ≡ 64
   pub codes : Codes choice
   pub classes : (i : ℕ) → classKey (codesOf choice i) ≡ classKey (codesOf start i)
   pub chosen : LeastBelow (signAssignment n) signKey table q (codesOf choice)

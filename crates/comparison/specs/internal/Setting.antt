@@ -1,6 +1,6 @@
 -- What the searches are given: the generators of two reduced records, and the codes that undo the second's.
 use mathlib.Core.Bool.{false, true}
-use mathlib.Core.List.{List}
+use mathlib.Core.List.{List, map}
 use mathlib.Core.Path.{_≡_}
 use Prim.Native.Nat.{_<_, ℕ, _≤_}
 use lib.ListN.{getD, length}
@@ -14,7 +14,7 @@ use Rattle.pauli.specs.declared.Generator.{Generator}
 use Rattle.record.specs.Lent.{heldRecord, heldRows}
 use Rattle.record.specs.Records.{recordRow}
 use Rattle.stabilizer.specs.Groups.{InGroup, Proper}
-use Rattle.words.specs.Bits.{Word}
+use Rattle.words.specs.Bits.{Word, isOdd}
 
 -- the generators that an array holds; the identity past its end
 abbrev pub noGenerator : Generator
@@ -22,6 +22,13 @@ noGenerator = record { minus = false; z = 0; x = 0 }
 
 abbrev pub generatorsOf : List Generator → ℕ → Pauli
 generatorsOf gs j = generatorOf (getD gs j noGenerator)
+
+-- a generator in three words: z, x, and one that is odd for minus
+abbrev pub generatorIn : List ℕ → Generator
+generatorIn row = record { minus = isOdd (getD row 2 0); z = getD row 0 0; x = getD row 1 0 }
+
+abbrev pub generatorsIn : List (List ℕ) → List Generator
+generatorsIn rows = map generatorIn rows
 
 -- every number of the array is a code
 abbrev pub Codes : List ℕ → Type 0
@@ -67,7 +74,7 @@ pub record SoundRecord (n : ℕ) (neighbours codes : List ℕ) : Type 0 where
   pub codes-sound : Codes codes
 
 pub record Setting (n : ℕ) (first second : List Generator) (frame : List ℕ) : Type 0 where
-  pub few : n ≤ 20
+  pub few : n ≤ 64
   pub proper : Proper n (generatorsOf first)
   pub joined : ConnectedRows n (generatorsOf first)
   pub framed : Framed n (generatorsOf second) (codesOf frame)

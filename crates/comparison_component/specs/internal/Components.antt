@@ -9,7 +9,6 @@ use Rattle.clifford.specs.Vectors.{codesOf}
 use Rattle.comparison.specs.internal.Searches.{LeastAnswer}
 use Rattle.comparison.specs.internal.LeastAt.{LeastAt}
 use Rattle.comparison.specs.internal.Setting.{Codes, SoundRecord}
-use Rattle.cut.specs.Kernel.{count}
 use Rattle.graph.specs.NeighbourWords.{graphIn}
 use Rattle.parts.specs.internal.Numbered.{Numbers, partGraph}
 use Rattle.parts.specs.internal.Parts.{Closed}
@@ -33,7 +32,7 @@ pub record SoundPair (n : ℕ) (nb cs nb₂ cs₂ : List ℕ) : Type 0 where
 -- .. and k vertices, listed, that no edge of either graph leaves, of one part of the first
 pub record NumberedPair (n : ℕ) (nb cs nb₂ cs₂ : List ℕ) (component k : ℕ) (at : List ℕ) : Type 0 where
   pub pair : SoundPair n nb cs nb₂ cs₂
-  pub few : k ≤ 20
+  pub few : k ≤ 64
   pub numbers : Numbers n (bit component) k (λ i. getD at i 0)
   pub closed : Closed n (graphIn nb) (bit component)
   pub closed₂ : Closed n (graphIn nb₂) (bit component)
@@ -52,12 +51,11 @@ abbrev pub PartAnswer : ℕ → List ℕ → List ℕ → List ℕ → List ℕ 
 PartAnswer n nb cs nb₂ cs₂ k at =
     LeastAnswer k (rowsOf k (partOfRecord k at (recordHeld n nb cs))) (rowsOf k (partOfRecord k at (recordHeld n nb₂ cs₂)))
 
--- the word marks the part of some vertex, which has at most 20
+-- the word marks the part of some vertex
 pub record Component (n : ℕ) (nb : List ℕ) (component : ℕ) : Type 0 where
   pub vertex : ℕ
   pub below : vertex < n
   pub word : PartWord n (graphIn nb) vertex component
-  pub few : count n (bit component) ≤ 20
 
 -- one part is compared: it has no working choice, and so there is none at all; or the choice is the least at its vertices
 pub record ComponentAnswer (n : ℕ) (r t : GraphRecord) (component : ℕ) (old : List ℕ) (found : Bool) (new : List ℕ) : Type

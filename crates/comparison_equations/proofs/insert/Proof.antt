@@ -1,12 +1,12 @@
 -- `insert` meets its contract: stores an equation, or a sum of it with stored ones, at the place of its last unknown,
 -- or nothing.
 use mathlib.Core.List.{[]}
-use mathlib.Core.Path.{ap, subst, sym, _∙_}
+use mathlib.Core.Path.{subst, sym}
 use Prim.Native.Nat.{_≤_, _-_}
 use native.Mathlib.Omega.{arith}
 use lib.ListN.{getD}
 use borrow.Author.Needs.{needs}
-use Rattle.comparison.specs.internal.Equations.{Bound, Inserted, equationOf, equationsIn, unknown}
+use Rattle.comparison.specs.internal.Equations.{Bound, Inserted, equationOf, equationsIn}
 use Rattle.comparison.proofs.Insertion.{
   Inserting,
   insert-added,
@@ -16,14 +16,13 @@ use Rattle.comparison.proofs.Insertion.{
   insert-stored,
 }
 use Rattle.comparison.proofs.LastUnknowns.{bound-least}
-use Rattle.comparison.proofs.PackedEquations.{two-words, unknown-beyond}
 use Rattle.comparison.proofs.QubitEquations.{row-at, row-set}
 use Rattle.comparison_equations.proofs.insert.Statement.{statement}
 use Rattle.comparison_equations.proofs.insert.Tie as tie
 
 abbrev Inv-loop : tie.InvT-loop
 Inv-loop table₀ left₀ i₀ table left i =
-    (i ≤ 80) × Bound (equationOf left) i
+    (i ≤ 256) × Bound (equationOf left) i
     × Inserting (equationsIn table₀) (equationOf left₀) (equationsIn table) (equationOf left) i
 
 abbrev μ-loop : tie.MeasureT-loop
@@ -32,8 +31,8 @@ abbrev μ-loop : tie.MeasureT-loop
 loop-holds : tie.Need-loop-holds Inv-loop μ-loop
 loop-holds c =
     let s = c .before in
-    let B = c .bound .ensures in (
-      bound-least (equationOf (s .args .e)) (c .bound .result) 80 B (unknown-beyond (s .args .e)),
+    let B = c .bound .ensures .1 in (
+      c .bound .ensures .0,
       B,
       insert-start (equationsIn (s .args .table .now)) (equationOf (s .args .e)) (c .bound .result) (B .above),
     )
@@ -56,7 +55,7 @@ returns c =
     (insert-stored (equationsIn (s .args .table .now)) (equationOf (s .args .e)) (s .pre) (equationsIn (l .table))
     (equationOf (l .left)) (l .i) more (l .inv .2) (omega (arith, l .inv .0, more)) (l .inv .1 .last more) (equationOf p)
     (sym (row-at (l .table) (l .i - 1)))
-    (λ j. ap (λ e. unknown e j) (sym (two-words p)) ∙ c .before .empty .ensures .0 (c .if1 .taken) j))
+    (c .before .empty .ensures .0 (c .if1 .taken)))
 
 loop-less : tie.Need-loop-less Inv-loop μ-loop
 loop-less c =
@@ -68,10 +67,9 @@ loop-less c =
     insert-added (equationsIn (s .args .table .now)) (equationOf (s .args .e)) (s .pre) (equationsIn (l .table))
     (equationOf (l .left)) (l .i) more (l .inv .2) (l .inv .1 .last more) (equationOf p) (equationOf (c .before .add .result))
     (sym (row-at (l .table) (l .i - 1)))
-    (λ none. c .before .before .before .empty .ensures .1 (c .before .before .if1 .left)
-    (λ j. ap (λ e. unknown e j) (two-words p) ∙ none j)) (c .before .add .ensures) in
+    (c .before .before .before .empty .ensures .1 (c .before .before .if1 .left)) (c .before .add .ensures) in
     let lower =
-    bound-least (equationOf (c .before .add .result)) (c .bound2 .result) (l .i - 1) (c .bound2 .ensures) (S .above) in
+    bound-least (equationOf (c .before .add .result)) (c .bound2 .result) (l .i - 1) (c .bound2 .ensures .1) (S .above) in
     omega (arith, lower, more)
 
 loop-again : tie.Need-loop-again Inv-loop μ-loop
@@ -84,13 +82,12 @@ loop-again c =
     insert-added (equationsIn (s .args .table .now)) (equationOf (s .args .e)) (s .pre) (equationsIn (l .table))
     (equationOf (l .left)) (l .i) more (l .inv .2) (l .inv .1 .last more) (equationOf p) (equationOf (c .before .add .result))
     (sym (row-at (l .table) (l .i - 1)))
-    (λ none. c .before .before .before .empty .ensures .1 (c .before .before .if1 .left)
-    (λ j. ap (λ e. unknown e j) (two-words p) ∙ none j)) (c .before .add .ensures) in
+    (c .before .before .before .empty .ensures .1 (c .before .before .if1 .left)) (c .before .add .ensures) in
     let lower =
-    bound-least (equationOf (c .before .add .result)) (c .bound2 .result) (l .i - 1) (c .bound2 .ensures) (S .above) in (
+    bound-least (equationOf (c .before .add .result)) (c .bound2 .result) (l .i - 1) (c .bound2 .ensures .1) (S .above) in (
       omega (arith, lower, l .inv .0),
-      c .bound2 .ensures,
-      insert-from S (c .bound2 .result) (c .bound2 .ensures .above),
+      c .bound2 .ensures .1,
+      insert-from S (c .bound2 .result) (c .bound2 .ensures .1 .above),
     )
 
 returns-2 : tie.Need-returns-2 Inv-loop μ-loop
@@ -106,6 +103,6 @@ pub insert-spec : {M : Type 1} → statement M
 insert-spec =
     tie.close
     (tie.spec Inv-loop μ-loop (λ c κs. search needs) loop-holds (λ c. search needs) (λ c. search needs)
-    element-copy-out-p (λ c. search needs) (λ c. search needs) (λ c κs. search needs) (λ c. search needs)
+    element-copy-out-p (λ c κs. search needs) (λ c. search needs)
     (λ c. search needs) element-set-from-left returns (λ c κs. search needs) (λ c κs. search needs) loop-less
     loop-again returns-2)

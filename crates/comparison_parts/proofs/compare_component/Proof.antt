@@ -4,7 +4,6 @@ use mathlib.Core.Path.{refl, subst, sym, _∙_}
 use borrow.Author.Tests.{not-false, not-true}
 use Rattle.buffers.proofs.Parts.{part-long}
 use Rattle.comparison_parts.proofs.ComponentLaws.{
-  component-few,
   kept-closed,
   leaves-refused,
   numbered-pair,
@@ -24,13 +23,6 @@ returns c =
     let a = S .args in
     leaves-refused (a .n) (a .neighbours .now) (a .codes .now) (a .neighbours2 .now) (a .codes2 .now) (a .component) (S .pre .0) (S .pre .1) _ (c .before .spread .ensures)
     (c .if1 .taken) (a .choice)
-
--- src/lib.rt:88:9
-vertices-requires : tie.Need-vertices-requires
-vertices-requires c κs =
-    let S = c .before .before .before .before .before .before in
-    let a = S .args in
-    component-few (a .n) (a .neighbours .now) (a .codes .now) (a .neighbours2 .now) (a .codes2 .now) (a .component) (S .pre .0) (S .pre .1)
 
 -- src/lib.rt:103:9
 -- src/lib.rt:103:9
@@ -118,6 +110,6 @@ returns-3 c =
 pub compare-component-spec : {M : Type 1} → statement M
 compare-component-spec =
     tie.close
-    (tie.spec (λ c κs. search needs) returns vertices-requires (λ c. search needs) slice-aggregate-compare-listed
+    (tie.spec (λ c κs. search needs) returns (λ c κs. search needs) (λ c. search needs) slice-aggregate-compare-listed
     (λ c. search needs) slice-aggregate-compare-listed-2 (λ c. search needs) slice-aggregate-compare-listed-3
     (λ c. search needs) slice-aggregate-compare-listed-4 compare-listed-requires returns-2 placed-requires returns-3)

@@ -1,5 +1,5 @@
 -- `compare_parts` meets its contract: the least choice that carries the group of the first record onto that of the
--- second; no part of the first graph has more than 20 vertices.
+-- second.
 use mathlib.Core.Path.{subst, sym}
 use native.Mathlib.Omega.{arith}
 use lib.ListN.{replicate}
@@ -34,7 +34,7 @@ loop-holds : tie.Need-loop-holds Inv-loop μ-loop
 loop-holds c =
     let S = c .before .before .before .before .before in
     let a = S .args in
-    progress-start (a .n) (a .neighbours .now) (a .codes .now) (a .neighbours2 .now) (a .codes2 .now) (S .pre .0 .1) _ (c .mask .ensures) (replicate 64 0) (zeros-codes 64)
+    progress-start (a .n) (a .neighbours .now) (a .codes .now) (a .neighbours2 .now) (a .codes2 .now) (S .pre .1) _ (c .mask .ensures) (replicate 64 0) (zeros-codes 64)
 
 -- src/lib.rt:133:13
 -- src/lib.rt:134:13
@@ -43,10 +43,10 @@ part-requires c κs =
     let L = c .before .before in
     let S = L .before .before .before .before .before .before in
     let a = S .args in
-    let F = S .pre .0 .1 .first in (
+    let F = S .pre .1 .first in (
       (
-        omega (arith, F .neighbours-long, S .pre .0 .1 .upto),
-        vertex-in-buffer (a .n) (a .neighbours .now) (a .codes .now) (a .neighbours2 .now) (a .codes2 .now) (S .pre .0 .1) (L .loop .rest) (L .loop .choice) (L .loop .inv)
+        omega (arith, F .neighbours-long, S .pre .1 .upto),
+        vertex-in-buffer (a .n) (a .neighbours .now) (a .codes .now) (a .neighbours2 .now) (a .codes2 .now) (S .pre .1) (L .loop .rest) (L .loop .choice) (L .loop .inv)
             (c .before .loop-test .taken) _ (c .smallest .ensures .0),
       ),
       subst (λ m. Simple m (graphIn (a .neighbours .now))) (sym (F .neighbours-long)) (F .simple),
@@ -59,9 +59,9 @@ compare-component-requires c κs =
     let L = Q .before .before in
     let S = L .before .before .before .before .before .before in
     let a = S .args in (
-      S .pre .0 .1,
-      next-component (a .n) (a .neighbours .now) (a .codes .now) (a .neighbours2 .now) (a .codes2 .now) (S .pre .0 .1) (L .loop .rest) (L .loop .choice) (L .loop .inv)
-          (Q .before .loop-test .taken) _ (Q .smallest .ensures .0) (S .pre .1) _ (c .part .ensures),
+      S .pre .1,
+      next-component (a .n) (a .neighbours .now) (a .codes .now) (a .neighbours2 .now) (a .codes2 .now) (S .pre .1) (L .loop .rest) (L .loop .choice) (L .loop .inv)
+          (Q .before .loop-test .taken) _ (Q .smallest .ensures .0) _ (c .part .ensures),
     )
 
 -- src/lib.rt:138:13
@@ -72,8 +72,8 @@ returns c =
     let L = Q .before .before in
     let S = L .before .before .before .before .before .before in
     let a = S .args in
-    none-answer (a .n) (a .neighbours .now) (a .codes .now) (a .neighbours2 .now) (a .codes2 .now) (S .pre .0 .1) (L .loop .rest) (L .loop .choice) (L .loop .inv)
-    (Q .before .loop-test .taken) _ (Q .smallest .ensures .0) (S .pre .1) _ (I .before .part .ensures) _
+    none-answer (a .n) (a .neighbours .now) (a .codes .now) (a .neighbours2 .now) (a .codes2 .now) (S .pre .1) (L .loop .rest) (L .loop .choice) (L .loop .inv)
+    (Q .before .loop-test .taken) _ (Q .smallest .ensures .0) _ (I .before .part .ensures) _
     (subst (λ f. ComponentAnswer (a .n) (recordHeld (a .n) (a .neighbours .now) (a .codes .now))
     (recordHeld (a .n) (a .neighbours2 .now) (a .codes2 .now)) (I .before .part .result) (L .loop .choice) f
     (I .compare-component .result .choice)) (not-true _ (c .if1 .taken))
@@ -87,8 +87,8 @@ loop-less c =
     let L = Q .before .before in
     let S = L .before .before .before .before .before .before in
     let a = S .args in
-    rest-falls (a .n) (a .neighbours .now) (a .codes .now) (a .neighbours2 .now) (a .codes2 .now) (S .pre .0 .1) (L .loop .rest) (L .loop .choice) (L .loop .inv)
-    (Q .before .loop-test .taken) _ (Q .smallest .ensures .0) (S .pre .1) _ (I .before .part .ensures)
+    rest-falls (a .n) (a .neighbours .now) (a .codes .now) (a .neighbours2 .now) (a .codes2 .now) (S .pre .1) (L .loop .rest) (L .loop .choice) (L .loop .inv)
+    (Q .before .loop-test .taken) _ (Q .smallest .ensures .0) _ (I .before .part .ensures)
 
 -- src/lib.rt:132:5
 loop-again : tie.Need-loop-again Inv-loop μ-loop
@@ -98,8 +98,8 @@ loop-again c =
     let L = Q .before .before in
     let S = L .before .before .before .before .before .before in
     let a = S .args in
-    progress-step (a .n) (a .neighbours .now) (a .codes .now) (a .neighbours2 .now) (a .codes2 .now) (S .pre .0 .1) (L .loop .rest) (L .loop .choice) (L .loop .inv)
-    (Q .before .loop-test .taken) _ (Q .smallest .ensures .0) (S .pre .1) _ (I .before .part .ensures) _
+    progress-step (a .n) (a .neighbours .now) (a .codes .now) (a .neighbours2 .now) (a .codes2 .now) (S .pre .1) (L .loop .rest) (L .loop .choice) (L .loop .inv)
+    (Q .before .loop-test .taken) _ (Q .smallest .ensures .0) _ (I .before .part .ensures) _
     (subst (λ f. ComponentAnswer (a .n) (recordHeld (a .n) (a .neighbours .now) (a .codes .now))
     (recordHeld (a .n) (a .neighbours2 .now) (a .codes2 .now)) (I .before .part .result) (L .loop .choice) f
     (I .compare-component .result .choice)) (not-false _ (c .if1 .left))
@@ -110,7 +110,7 @@ returns-2 : tie.Need-returns-2 Inv-loop μ-loop
 returns-2 c =
     let S = c .before .before .before .before .before .before .before in
     let a = S .args in
-    all-answer (a .n) (a .neighbours .now) (a .codes .now) (a .neighbours2 .now) (a .codes2 .now) (S .pre .0 .1) (c .before .loop .rest) (c .before .loop .choice) (c .before .loop .inv)
+    all-answer (a .n) (a .neighbours .now) (a .codes .now) (a .neighbours2 .now) (a .codes2 .now) (S .pre .1) (c .before .loop .rest) (c .before .loop .choice) (c .before .loop .inv)
     (c .loop-test .left)
 
 pub compare-parts-spec : {M : Type 1} → statement M

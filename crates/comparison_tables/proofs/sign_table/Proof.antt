@@ -1,36 +1,37 @@
 -- `sign_table` meets its contract: the sign equations put into an empty table, for classes that send each generator
 -- into the second group up to a sign.
 use mathlib.Core.List.{List}
-use mathlib.Core.Path.{subst}
+use mathlib.Core.Bool.{Bool·beq, not}
+use mathlib.Core.Path.{ap, subst, _∙_}
 use Prim.Native.Nat.{_-_, _≤_, zero-le, ℕ}
 use native.Mathlib.Nat.{le-antisymm}
 use native.Mathlib.Omega.{arith}
-use lib.ListN.{getD}
 use borrow.Author.Needs.{needs}
-use Rattle.clifford.specs.Vectors.{codesOf}
+use Rattle.clifford.specs.Vectors.{act, codesOf}
 use Rattle.clifford_words.specs.internal.Actions.{ActsAs}
-use Rattle.comparison.specs.internal.Equations.{equationOf, equationsIn}
+use Rattle.pauli.specs.internal.Rows.{generatorOf}
+use Rattle.comparison.specs.internal.Equations.{equationOf, equationsIn, signEquation}
 use Rattle.comparison.specs.internal.Searches.{SentUpToSign, SignTable}
-use Rattle.comparison.specs.internal.Setting.{NoSigns, Setting, noGenerator}
-use Rattle.comparison.proofs.EquationTables.{empty-rows, empty-rows-solved, few-x, few-z}
+use Rattle.comparison.specs.internal.Setting.{NoSigns, Setting, generatorsIn}
+use Rattle.comparison.proofs.EquationTables.{empty-rows, empty-rows-solved}
 use Rattle.comparison.proofs.SignExtension.{sign-found, sign-more, sign-start}
 use Rattle.comparison_tables.proofs.sign_table.Statement.{statement}
 use Rattle.comparison_tables.proofs.sign_table.Tie as tie
 
 abbrev Inv-loop : tie.InvT-loop
-Inv-loop table₀ n second first by undone i₀ table i =
-    (i ≤ n) × ((choice frame : List ℕ) → Setting n first second frame → SentUpToSign n first second (codesOf choice)
-    → NoSigns choice → ActsAs (codesOf choice) by → SignTable n first second (codesOf choice) i (equationsIn table))
+Inv-loop table₀ n first second by undone i₀ table i =
+    (i ≤ n) × ((choice frame : List ℕ) → Setting n (generatorsIn first) (generatorsIn second) frame → SentUpToSign n (generatorsIn first) (generatorsIn second) (codesOf choice)
+    → NoSigns choice → ActsAs (codesOf choice) by → SignTable n (generatorsIn first) (generatorsIn second) (codesOf choice) i (equationsIn table))
 
 abbrev μ-loop : tie.MeasureT-loop
-μ-loop table₀ n second first by undone i₀ table i = n - i
+μ-loop table₀ n first second by undone i₀ table i = n - i
 
 loop-holds : tie.Need-loop-holds Inv-loop μ-loop
 loop-holds c =
     let s = c .before .before .before .before in
     let a = s .args in (
       zero-le,
-      (λ choice frame S sent bare acts. sign-start (a .n) (a .t3) (a .second) frame S (codesOf choice) sent
+      (λ choice frame S sent bare acts. sign-start (a .n) (generatorsIn (a .first .now)) (generatorsIn (a .second .now)) frame S (codesOf choice) sent
           (equationsIn (a .table .now)) (empty-rows (a .table .now) (s .pre .1 .1))
           (empty-rows-solved (a .table .now) (s .pre .1 .1))),
     )
@@ -62,14 +63,15 @@ loop-again c =
     let more = c .before .before .before .before .before .before .before .before .loop-test .taken in
     let p = c .before .before .before .before .before .before .act-on in
     let h = c .before .before .before .before .before .element in
-    let e = c .before .before .sign-equation in
-    let g = getD (a .t3) (l .i) noGenerator in (
+    let g = c .before .before .before .before .before .before .before .generator-at in
+    let e = c .before .before .sign-equation in (
       omega (arith, more),
-      (λ choice frame S sent bare acts. sign-more (a .n) (a .t3) (a .second) frame S (codesOf choice) sent (l .i) more
+      (λ choice frame S sent bare acts. sign-more (a .n) (generatorsIn (a .first .now)) (generatorsIn (a .second .now)) frame S (codesOf choice) sent (l .i) more
           (equationsIn (l .table)) (equationOf (e .result)) _ (l .inv .1 choice frame S sent bare acts)
-          (sign-found (a .n) (a .t3) (a .second) frame S (codesOf choice) sent bare (l .i) more (p .result) (h .result)
-          (p .ensures (codesOf choice) acts) (h .ensures) (equationOf (e .result))
-          (e .ensures (few-z (a .n) (S .few) g (S .proper .within (l .i) more)) (few-x (a .n) (S .few) g (S .proper .within (l .i) more)))) (c .insert .ensures)),
+          (sign-found (a .n) (generatorsIn (a .first .now)) (generatorsIn (a .second .now)) frame S (codesOf choice) sent bare (l .i) more (p .result) (h .result)
+          (p .ensures (codesOf choice) acts ∙ ap (λ g. act 64 (codesOf choice) (generatorOf g)) (g .ensures)) (h .ensures)
+          (equationOf (e .result))
+          (e .ensures ∙ ap (λ g. signEquation g (not (Bool·beq (p .result .minus) (h .result .minus)))) (g .ensures))) (c .insert .ensures)),
     )
 
 returns : tie.Need-returns Inv-loop μ-loop
@@ -77,7 +79,7 @@ returns c =
     let s = c .before .before .before .before .before .before in
     let a = s .args in
     let l = c .before .loop in
-    subst (λ k. SignTable (a .n) (a .t3) (a .second) (codesOf (a .t6)) k (equationsIn (l .table)))
+    subst (λ k. SignTable (a .n) (generatorsIn (a .first .now)) (generatorsIn (a .second .now)) (codesOf (a .t6)) k (equationsIn (l .table)))
     (le-antisymm (l .inv .0) (c .loop-test .left))
     (l .inv .1 (a .t6) (a .t5) (s .pre .0 .0) (s .pre .1 .0) (s .pre .0 .2) (c .before .before .before .before .action-of .ensures))
 
@@ -86,5 +88,5 @@ sign-table-spec =
     tie.close
     (tie.spec Inv-loop μ-loop (λ c. search needs) (λ c κs. search needs) (λ c. search needs)
     (λ c κs. search needs) loop-holds
-    (λ c. search needs) (λ c. search needs) (λ c κs. search needs) element-requires (λ c κs. search needs)
+    (λ c κs. search needs) (λ c κs. search needs) element-requires (λ c κs. search needs)
     insert-requires add-i (λ c. omega arith) loop-again returns)

@@ -9,6 +9,7 @@ use Rattle.clifford.specs.Clifford.{image}
 use Rattle.clifford.specs.Vectors.{codesOf}
 use Rattle.operations.specs.internal.InPlace.{Rewritten, Unrefused, recordIn}
 use Rattle.operations.specs.Measurement.{measuredRows}
+use Rattle.pauli.specs.Pauli.{Pauli}
 use Rattle.pauli.specs.declared.Letter.{Letter}
 use Rattle.pauli.specs.declared.Letter.the-variants.{Z}
 use Rattle.record.specs.Lent.{heldRecord, heldRows}
@@ -56,3 +57,9 @@ pub record GroupMeasured (words codes : List ℕ) (l : Letter) (q : ℕ) (b : Bo
   pub group : SameGroup (length words) (length words)
       (measuredRows (length words) (heldRows (recordIn words codes)) l q b)
       (rowsOf (length words) (heldRecord (recordIn words′ codes′)))
+
+-- two buffers hold a record, which no line refuses, with the group of a list on n qubits
+pub record GroupHeld (n : ℕ) (rows : ℕ → Pauli) (words codes : List ℕ) : Type 0 where
+  pub long : length words ≡ n
+  pub unrefused : Unrefused (recordIn words codes)
+  pub group : SameGroup n n rows (rowsOf n (heldRecord (recordIn words codes)))

@@ -17,15 +17,15 @@ abbrev pub signMoved : GraphRecord → ℕ → GraphRecord
 signMoved r a =
     record { graph = r .graph; codes = λ q. then (pauliCode (eqb q a) (r .graph a q)) (r .codes q) }
 
--- ---- CZ on a record of reduced form
+-- ---- CZ on two vertices that are ready for it
 -- Z at a is, up to a sign, the product of Z over these vertices of the graph: a itself where its code keeps Z, and the
--- neighbours of a where its code is 8 or 10
+-- neighbours of a where its code sends X to Z
 abbrev pub reach : GraphRecord → ℕ → Word
 reach r a q = cond (bitC (r .codes a)) (r .graph a q) (eqb q a)
 
 -- and that sign
 abbrev pub reachMinus : GraphRecord → ℕ → Bool
-reachMinus r a = bitC (r .codes a) && (r .codes a) .sx
+reachMinus r a = cond (bitC (r .codes a)) ((r .codes a) .sx) ((r .codes a) .sz)
 
 -- Z before the code: in both sets; in one of them where the other has the sign
 abbrev pub czTurned : GraphRecord → ℕ → ℕ → Word

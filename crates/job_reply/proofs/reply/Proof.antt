@@ -1,9 +1,8 @@
--- `reply` meets its contract: prints the answer to the text that was scanned, whatever text it was.
+-- `reply` meets its contract: prints the answer to the text that was read, whatever text it was.
 use mathlib.Core.Path.{subst, sym, _∙_}
-use Prim.Native.Nat.{_<_, _≤_}
+use Prim.Native.Nat.{_<_}
 use native.Mathlib.Omega.{arith}
 use borrow.Author.Needs.{needs}
-use Rattle.jobs.specs.Parallel.{stepsIn}
 use Rattle.job_text.proofs.TextAnswers.{accepted-small, verdict-small}
 use Rattle.job_text.specs.internal.Scan.{Reading, asReading}
 use Rattle.job_reply.proofs.Responses.{job-responds, refusal-responds}
@@ -12,17 +11,15 @@ use Rattle.job_reply.proofs.reply.Tie as tie
 
 -- before the text was judged, and the reading there
 abbrev begun : tie.After-judge → tie.Start
-begun J = J .before .before .before .before .before .before
+begun J = J .before .before .before
 
 abbrev held : tie.Start → Reading
-held S =
-    let A = S .args in
-    asReading (A .scan) (stepsIn (A .ops .now) (A .a .now) (A .b .now) (A .value .now))
+held S = asReading (S .args .read .scan) (S .args .read .steps)
 
 print-refusal-requires : tie.Need-print-refusal-requires
 print-refusal-requires c κs =
     let J = c .before .before in
-    (subst (λ k. k < 100) (sym (J .judge .ensures)) (verdict-small _), omega (arith, begun J .pre .0))
+    (subst (λ k. k < 100) (sym (J .judge .ensures)) (verdict-small _), omega (arith, begun J .pre))
 
 returns : tie.Need-returns
 returns c =
@@ -33,16 +30,16 @@ returns c =
 
 answer-requires : tie.Need-answer-requires
 answer-requires c κs =
-    let E = c .before .before in
+    let E = c .before .before .before in
     let J = E .before in
     let S = begun J in
-    let small = accepted-small (S .args .scan) (sym (J .judge .ensures) ∙ E .if1 .left) in
-    (small .0, small .1, S .pre .0, subst (λ m. S .args .scan .count ≤ m) (sym (S .pre .1)) (small .1), S .pre .2)
+    let small = accepted-small (S .args .read .scan) (sym (J .judge .ensures) ∙ E .if1 .left) in
+    (small .0, small .1, S .pre)
 
 returns-2 : tie.Need-returns-2
 returns-2 c =
     let P = c .before .before in
-    let E = P .before .before .before in
+    let E = P .before .before .before .before in
     let J = E .before in
     job-responds (held (begun J)) _ _ _ _ (J .judge .ensures) (E .if1 .left) (P .answer .ensures)
 

@@ -11,7 +11,7 @@ add-result-3 : tie.Need-add-result-3
 add-result-3 c =
     let M = c .before .before in
     let S = M .before in
-    let small = subst (λ m. m ≤ 128) (sym (M .mark .ensures)) (mark-small (S .args .op) (S .args .r .refusal)) in
+    let small = subst (λ m. m ≤ 128) (sym (M .mark .ensures)) (mark-small (S .args .marked)) in
     omega (arith, small, S .pre .refusal, S .pre .outcome, S .pre .determined)
 
 pub pack-spec : {M : Type 1} → statement M

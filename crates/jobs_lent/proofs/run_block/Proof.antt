@@ -66,6 +66,10 @@ use Rattle.jobs_lent.specs.internal.LentRuns.{ReadyAt}
 abbrev sliceS : Ty
 sliceS = sliceTy (tyRef erased imm (pointee (R .written)))
 
+-- there is room for as many
+roomy : Room R 64
+roomy = (lit< tt, lit< tt)
+
 abbrev stayed : Stays (run-block.ended .signature .params) (run-block.ended .kept)
 stayed = (
   stay-none (λ _. u64) yes,
@@ -154,7 +158,7 @@ module _ {M : Type 1} (𝓤 : URA M) (H : Heap 𝓤) (A : Atoms 𝓤) (W : Given
           place = gp;
           neighbours = g₀;
           codes = g₁;
-          steps = room-take R 64 count xs long (lit< tt, lit< tt);
+          steps = room-take R 64 count xs long roomy;
           answers = g₃;
         }
 
@@ -179,12 +183,12 @@ module _ {M : Type 1} (𝓤 : URA M) (H : Heap 𝓤) (A : Atoms 𝓤) (W : Given
             (tt, (tt, (record { fits = g₀ .0 }, tt))),
             (
               (tt, (tt, (record { fits = g₁ .0 }, tt))),
-              ((tt, record { fits = gu }), ((tt, tt), (array-fits xs count 𝓤 H A W is, ((tt, record { fits = gc }), ((tt, record { fits = gp }), ((tt, (tt, (record { fits = g₃ .0 }, tt))), tt)))))),
+              ((tt, record { fits = gu }), ((tt, tt), (array-fits xs count 64 roomy 𝓤 H A W is, ((tt, record { fits = gc }), ((tt, record { fits = gp }), ((tt, (tt, (record { fits = g₃ .0 }, tt))), tt)))))),
             ),
           ),
         ) (λ p.
         -- [the locals, number j at j; ..; the three tokens; the three slices]
-        assigns ! (of-opd ! (load ! (from ! (stop !)) (look ! 6 refl))) (from ! (stop !)) (init ! 10 refl (array-fits xs count 𝓤 H A W is)) $
+        assigns ! (of-opd ! (load ! (from ! (stop !)) (look ! 6 refl))) (from ! (stop !)) (init ! 10 refl (array-fits xs count 64 roomy 𝓤 H A W is)) $
         assigns ! (addr ! (from ! (fld ! refl (hop ! (look-in ! 2 (sub ! 0 refl (whole !))) (stop !))))) (from ! (stop !)) (init ! 11 refl (tt, tt)) $
         assigns ! (agg ! (and-then ! (load ! (from ! (stop !)) (look ! 11 refl)) (and-then ! (load ! (from ! (fld ! refl (stop !))) (look-in ! 2 (sub ! 1 refl (whole !)))) (no-more !)))) (from ! (stop !)) (init ! 12 refl (tt, (tt, (record { fits = g₀ .0 }, tt)))) $
         assigns ! (addr ! (from ! (fld ! refl (hop ! (look-in ! 3 (sub ! 0 refl (whole !))) (stop !))))) (from ! (stop !)) (init ! 13 refl (tt, tt)) $
@@ -196,13 +200,13 @@ module _ {M : Type 1} (𝓤 : URA M) (H : Heap 𝓤) (A : Atoms 𝓤) (W : Given
         assigns ! (agg ! (and-then ! (load ! (from ! (stop !)) (look ! 17 refl)) (and-then ! (load ! (from ! (fld ! refl (stop !))) (look-in ! 9 (sub ! 1 refl (whole !)))) (no-more !)))) (from ! (stop !)) (init ! 18 refl (tt, (tt, (record { fits = g₃ .0 }, tt)))) $
         -- the first steps of the local array are lent, and `run_lent` is called
         move ! (10 ∷ []) $
-        use1 W (later (some (λ (g : ℕ × GName). ‵ (flft (g .0 ∷ []) fullShare) ⊛ ‵ (Slice xs count 𝓤 H A W (lent-at p) g) ⊛ ‵ (Rest xs count 𝓤 H A W (lent-at p) g))))
-        (first-out xs count 𝓤 H A W is long (lent-at p)) $ await ! tt $ pick ! (λ g. split3 ! $ move ! (22 ∷ 23 ∷ 0 ∷ 24 ∷ 25 ∷ 26 ∷ 1 ∷ 27 ∷ []) $ group ! 8 $
+        use1 W (later (some (λ (g : ℕ × GName). ‵ (flft (g .0 ∷ []) fullShare) ⊛ ‵ (Slice xs count 64 roomy 𝓤 H A W (lent-at p) g) ⊛ ‵ (Rest xs count 64 roomy 𝓤 H A W (lent-at p) g))))
+        (first-out xs count 64 roomy 𝓤 H A W is long (lent-at p)) $ await ! tt $ pick ! (λ g. split3 ! $ move ! (22 ∷ 23 ∷ 0 ∷ 24 ∷ 25 ∷ 26 ∷ 1 ∷ 27 ∷ []) $ group ! 8 $
         use1 W (raw (RunLent 𝓤 H A mem run .pre (to (passed (lent-at p) g) 𝓤 H A W mem run))) (called (passed (lent-at p) g) 𝓤 H A W mem run (sized (lent-at p) g) (asked (lent-at p) g)) $
         calls-at ! fm (RunLent 𝓤 H A mem run) knows (to (passed (lent-at p) g) 𝓤 H A W mem run) (and-then ! (load ! (from ! (stop !)) (look ! 3 refl)) (and-then ! (load ! (from ! (stop !)) (look ! 13 refl)) (and-then ! (load ! (from ! (stop !)) (look ! 15 refl)) (and-then ! (load ! (from ! (stop !)) (look ! 6 refl)) (and-then ! (load ! (from ! (stop !)) (look ! 7 refl)) (and-then ! (load ! (from ! (stop !)) (look ! 17 refl)) (and-then ! (load ! (from ! (stop !)) (look ! 10 refl)) (and-then ! (load ! (from ! (stop !)) (look ! 19 refl)) (no-more !))))))))) (λ v.
         use1 W (later (some (λ (y : Now). given (Returned (passed (lent-at p) g) v y) (‵ (flft (g .0 ∷ []) fullShare) ⊛ ‵ (Done (passed (lent-at p) g) y)))))
         (returned (passed (lent-at p) g) 𝓤 H A W mem run v) $ await ! tt $ pick ! (λ y. learn ! (λ B. split ! $ move ! (0 ∷ 2 ∷ []) $
-        use2 W (later (‵ (Cell xs count (lent-at p)))) (first-in xs count 𝓤 H A W long (lent-at p) g) $ await ! tt $
+        use2 W (later (‵ (Cell xs count 64 (lent-at p)))) (first-in xs count 64 roomy 𝓤 H A W long (lent-at p) g) $ await ! tt $
         -- [the array; what is left for the exit; the locals but the array; ..]
         land ! (from ! (stop !)) (init ! 2 refl (subst (λ (r : Val). Holds (hasTy word r) × WT r) (sym (B .is)) (tt, record { fits = B .fits .fits }))) $
         rewrite ! 2 (λ (r : Val). ‵ (fat fullShare word (p .0) 0 r)) (B .is) refl $ move ! (span 2 10 ++ (0 ∷ span 12 9)) $

@@ -1,10 +1,12 @@
 -- `turn` meets its contract: one step, and what it answers is kept.
+use mathlib.Core.Bool.{_&&_}
 use mathlib.Core.Path.{subst, sym}
-use borrow.Author.Needs.{needs}
-use Rattle.operations_gates.specs.internal.Settled.{Settled}
+use Rattle.call_waiting.specs.internal.Waiting.{meant}
 use Rattle.used.specs.Used.{UsedRecord}
-use Rattle.jobs_lent.proofs.LentLaws.{one-ran}
+use Rattle.jobs_lent.specs.internal.LentRuns.{Begun}
 use Rattle.jobs_lent.proofs.MarkedSteps.{small-answer}
+use Rattle.jobs_lent.proofs.LentLaws.{turned}
+use borrow.Author.Needs.{needs}
 use Rattle.jobs_lent.proofs.turn.Statement.{statement}
 use Rattle.jobs_lent.proofs.turn.Tie as tie
 
@@ -16,33 +18,54 @@ lent S =
       used = S .args .used;
     }
 
--- before the look at the answer before
-abbrev begun : tie.After-marked-before → tie.Start
-begun M = M .before .before .before .before .before
+add-place : tie.Need-add-place
+add-place c = search needs
 
-run-step-requires : tie.Need-run-step-requires
-run-step-requires c κs =
-    let M = c .before .before .before in
-    let S = begun M in (
-      S .pre .1 .checked,
-      subst (λ b. Settled b (S .args .neighbours .now) (S .args .codes .now)) (sym (M .marked-before .ensures))
-          (S .pre .1 .settled),
-    )
+marked-before-requires : tie.Need-marked-before-requires
+marked-before-requires c κs = search needs
+
+any-step-requires : tie.Need-any-step-requires
+any-step-requires c κs =
+    let S = c .before .before .before .before .before .before .before .before in
+    subst (λ b. Begun (S .args .known) b (lent S)) (sym (c .before .before .before .marked-before .ensures)) (S .pre .1 .begun)
+
+next-waiting-requires : tie.Need-next-waiting-requires
+next-waiting-requires c κs = search needs
 
 pack-requires : tie.Need-pack-requires
 pack-requires c κs =
-    let R = c .before .before .before .before in
-    let S = begun (R .before .before .before .before) in
-    small-answer (lent S) (S .args .s) _ (R .run-step .ensures .answer)
+    let S = c .before .before .before .before .before .before .before .before .before .before .before .before .before .before in
+    small-answer (meant (S .args .known && c .before .before .before .before .before .before .before .before .before .marked-before .result) (lent S)) (S .args .s) _ (c .before .before .before .before .before .any-step .ensures .run .answer)
+
+slice-write-answers : tie.Need-slice-write-answers
+slice-write-answers c = search needs
+
+same-length : tie.Need-same-length
+same-length c = search needs
+
+same-length-2 : tie.Need-same-length-2
+same-length-2 c = search needs
+
+same-length-3 : tie.Need-same-length-3
+same-length-3 c = search needs
 
 returns : tie.Need-returns
 returns c =
-    let R = c .before .before .before .before .before in
-    let S = begun (R .before .before .before .before) in
-    one-ran (lent S) (S .args .s) _ _ (S .pre .0) _ _ (c .pack .ensures) _ _ _ (R .run-step .ensures)
+    let S = c .before .before .before .before .before .before .before .before .before .before .before .before .before .before .before in
+    turned (S .args .known) _ (lent S) (S .args .s) _ _ _ _ _ _ (S .pre .0) _ _ (c .before .before .before .before .before .before .before .before .before .before .marked-before .ensures) (c .before .next-waiting .ensures)
+    (c .pack .ensures) (c .before .before .before .before .before .before .any-step .ensures)
 
 pub turn-spec : {M : Type 1} → statement M
 turn-spec =
     tie.close
-    (tie.spec (λ c. search needs) (λ c κs. search needs) run-step-requires pack-requires (λ c. search needs)
-    (λ c. search needs) (λ c. search needs) (λ c. search needs) returns)
+    (tie.spec
+    add-place
+    marked-before-requires
+    any-step-requires
+    next-waiting-requires
+    pack-requires
+    slice-write-answers
+    same-length
+    same-length-2
+    same-length-3
+    returns)

@@ -6,15 +6,16 @@ use native.Mathlib.Omega.{arith}
 use borrow.Author.Needs.{needs}
 use Rattle.jobs.proofs.ParallelLaws.{steps-long}
 use Rattle.jobs.specs.Parallel.{stepsIn}
+use Rattle.jobs_lent.proofs.LastRecord.{first-begun}
 use Rattle.jobs_lent.specs.internal.LentRuns.{ReadyAt}
 use Rattle.used.specs.Used.{UsedRecord}
-use Rattle.jobs_numbers.proofs.Blocks.{RunTo, block-ready, run-all, run-block-more, run-none}
+use Rattle.jobs_numbers.proofs.Blocks.{RunTo, at-end, block-ready, run-all, run-block-more, run-none}
 use Rattle.jobs_numbers.proofs.run_known.Statement.{statement}
 use Rattle.jobs_numbers.proofs.run_known.Tie as tie
 
 abbrev Inv-loop : tie.InvT-loop
 Inv-loop n nb₀ cs₀ used known count ops a b value ans₀ word₀ k₀ nb cs ans word k =
-    RunTo (record { held = record { n = n; neighbours = nb₀; codes = cs₀ }; used = used }) (stepsIn ops a b value) count k
+    RunTo known (record { held = record { n = n; neighbours = nb₀; codes = cs₀ }; used = used }) (stepsIn ops a b value) count k
     ans₀ nb cs word ans
     × (length nb ≡ length nb₀) × (length cs ≡ length cs₀) × (length ans ≡ length ans₀)
     × ReadyAt known k ans (record { held = record { n = n; neighbours = nb; codes = cs }; used = word })
@@ -35,7 +36,7 @@ abbrev begun : tie.After-slice-known3 Inv-loop μ-loop → tie.Start Inv-loop μ
 begun c = c .before .before .before .before .before .before .before
 
 loop-holds : tie.Need-loop-holds Inv-loop μ-loop
-loop-holds c = (run-none (lent (begun c)) _ _ _, refl, refl, refl, record { checked = begun c .pre .3; settled = tt })
+loop-holds c = (run-none (begun c .args .known) (lent (begun c)) _ _ _, refl, refl, refl, record { begun = first-begun (begun c .args .known) (lent (begun c)) (begun c .pre .3) })
 
 block-at-requires : tie.Need-block-at-requires Inv-loop μ-loop
 block-at-requires c κs =
@@ -70,7 +71,7 @@ loop-again c =
     let a = S .args in
     let l = A .loop in
     let m = L .block-length .ensures in (
-      run-block-more (lent S) (stepsIn (a .ops .now) (a .a .now) (a .b .now) (a .value .now)) (a .count) (a .answers .now)
+      run-block-more (a .known) (lent S) (stepsIn (a .ops .now) (a .a .now) (a .b .now) (a .value .now)) (a .count) (a .answers .now)
           (l .k) (L .block-length .result) (omega (arith, m .1, I .loop-test .taken))
           (omega (arith, S .pre .0, steps-long (a .ops .now) (a .a .now) (a .b .now) (a .value .now))) (S .pre .1)
           (B .block-at .result) (B .block-at .ensures) _ _ _ _ (l .inv .0) _ _ _ _ (R .run-block .ensures),
@@ -81,18 +82,30 @@ loop-again c =
         held = record { n = a .n; neighbours = l .neighbours; codes = l .codes };
         used = l .word;
       }) (a .known) (l .k) (L .block-length .result) (B .block-at .result) (omega (arith, m .2, B .block-at .ok .1 .0 .1))
-          _ _ _ _ _ (R .run-block .ensures)
-          (omega (arith, m .1, I .loop-test .taken, l .inv .3, S .pre .1)) (l .inv .4),
+          _ _ _ _ _ (R .run-block .ensures) (l .inv .4),
     )
+
+settle-last-requires : tie.Need-settle-last-requires Inv-loop μ-loop
+settle-last-requires c κs =
+    let T = c .before .before .before in
+    let l = T .before .loop in
+    let S = c .before .before .before .before .before .before .before .before .before .before .before .before in
+    (omega (arith, l .inv .3, S .pre .1), at-end (S .args .known) _ _ _ _ (l .inv .0 .bound) (T .loop-test .left) (l .inv .4))
 
 returns : tie.Need-returns Inv-loop μ-loop
 returns c =
-    let A = c .before in
-    run-all (lent (begun (A .before))) _ _ _ _ _ _ _ _ (c .loop-test .left) (A .loop .inv .0)
+    let T = c .before .before .before .before .before .before .before .before in
+    let l = T .before .loop in
+    let S = c .before .before .before .before .before .before .before .before .before .before .before .before .before .before .before .before .before in
+    let a = S .args in
+    run-all (a .known) (lent S) (stepsIn (a .ops .now) (a .a .now) (a .b .now) (a .value .now)) (a .count) (a .answers .now)
+    (l .k) (l .neighbours) (l .codes) (l .word) (l .answers) (T .loop-test .left)
+    (omega (arith, S .pre .0, steps-long (a .ops .now) (a .a .now) (a .b .now) (a .value .now))) (l .inv .0) _ _
+    (c .before .before .before .before .settle-last .ensures)
 
 pub run-known-spec : {M : Type 1} → statement M
 run-known-spec =
     tie.close
     (tie.spec Inv-loop μ-loop loop-holds (λ c. search needs) (λ c κs. search needs)
-    block-at-requires run-block-requires (λ c. search needs) loop-less loop-again (λ c. search needs)
+    block-at-requires run-block-requires (λ c. search needs) loop-less loop-again settle-last-requires (λ c. search needs)
     (λ c. search needs) (λ c. search needs) returns)

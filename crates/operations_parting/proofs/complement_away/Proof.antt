@@ -138,7 +138,7 @@ loop-again c =
           (inside .loop-test .taken) _ (at-smallest .smallest .ensures .0) _ _ _ (at-single .single .ensures)
           (c .before .flip .ensures) dropped,
       put-more _ _ 6 _ _ (inv .1) (unrefused-codes _ _ U .0) (inside .loop-test .taken) _
-          (at-smallest .smallest .ensures .0) _ _ (row .row-of-six .ensures _ (small at-smallest)) dropped,
+          (at-smallest .smallest .ensures .0) _ _ (row .before-each .ensures _ (small at-smallest)) dropped,
     )
 
 slice-write-neighbours-2 : tie.Need-slice-write-neighbours-2 Inv-loop μ-loop

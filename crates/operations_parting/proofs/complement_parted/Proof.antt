@@ -8,13 +8,13 @@ use Rattle.operations_rewriting.proofs.Recoding.{recoded-all}
 use Rattle.operations_parting.proofs.complement_parted.Statement.{statement}
 use Rattle.operations_parting.proofs.complement_parted.Tie as tie
 
-slice-read-compose-fixed : tie.Need-slice-read-compose-fixed
-slice-read-compose-fixed c =
+slice-read-compose : tie.Need-slice-read-compose
+slice-read-compose c =
     let start = c .before .before .before .before .pre in
     unrefused-place _ _ (start .0) _ (start .1)
 
-compose-fixed-requires : tie.Need-compose-fixed-requires
-compose-fixed-requires c κs =
+compose-requires : tie.Need-compose-requires
+compose-requires c κs =
     let start = c .before .before .before .before .pre in
     (lit< tt, unrefused-codes _ _ (start .0) .1 _)
 
@@ -33,7 +33,7 @@ returns c =
     let known = at-away .complement-away .ensures in (
       known .0,
       (
-        recoded-all _ _ (begun .pre .0) (begun .args .q) (begun .pre .1) 13 6 _ _ (at-compose .compose-fixed .ensures .0)
+        recoded-all _ _ (begun .pre .0) (begun .args .q) (begun .pre .1) 13 6 _ _ (at-compose .compose .ensures .0)
             (known .1),
         refl,
       ),
@@ -42,5 +42,5 @@ returns c =
 pub complement-parted-spec : {M : Type 1} → statement M
 complement-parted-spec =
     tie.close
-    (tie.spec (λ c. search needs) (λ c. search needs) slice-read-compose-fixed compose-fixed-requires (λ c κs. search needs)
+    (tie.spec (λ c. search needs) (λ c. search needs) slice-read-compose compose-requires (λ c κs. search needs)
     slice-write-codes (λ c. search needs) (λ c. search needs) returns)

@@ -129,7 +129,7 @@ loop-again c =
       complement-more _ (start .args .a) _ _ (inv .0) (unrefused-short _ _ U) (inside .loop-test .taken) _
           (at-smallest .smallest .ensures .0) _ _ (c .before .flip .ensures) dropped,
       put-more _ _ 6 _ _ (inv .1) (unrefused-codes _ _ U .0) (inside .loop-test .taken) _
-          (at-smallest .smallest .ensures .0) _ _ (row .row-of-six .ensures _ (small at-smallest)) dropped,
+          (at-smallest .smallest .ensures .0) _ _ (row .before-each .ensures _ (small at-smallest)) dropped,
     )
 
 returns : tie.Need-returns Inv-loop μ-loop

@@ -9,13 +9,13 @@ use Rattle.operations_rewriting.proofs.Recoding.{complemented, recoded-
 use Rattle.operations_rewriting.proofs.complement_record.Statement.{statement}
 use Rattle.operations_rewriting.proofs.complement_record.Tie as tie
 
-slice-read-compose-fixed : tie.Need-slice-read-compose-fixed
-slice-read-compose-fixed c =
+slice-read-compose : tie.Need-slice-read-compose
+slice-read-compose c =
     let start = c .before .before .before .pre in
     unrefused-place _ _ (start .0) _ (start .1)
 
-compose-fixed-requires : tie.Need-compose-fixed-requires
-compose-fixed-requires c κs =
+compose-requires : tie.Need-compose-requires
+compose-requires c κs =
     let start = c .before .before .before .pre in
     (lit< tt, unrefused-codes _ _ (start .0) .1 _)
 
@@ -33,11 +33,11 @@ returns c =
     let begun = at-compose .before .before .before .before in
     let known = at-around .complement-around in
     complemented _ _ (begun .pre .0) (begun .args .a) (begun .pre .1) _ _
-    (recoded-all _ _ (begun .pre .0) (begun .args .a) (begun .pre .1) 13 6 _ _ (at-compose .compose-fixed .ensures .0)
+    (recoded-all _ _ (begun .pre .0) (begun .args .a) (begun .pre .1) 13 6 _ _ (at-compose .compose .ensures .0)
     (known .ensures .1)) (known .kept .0) (known .ensures .0)
 
 pub complement-record-spec : {M : Type 1} → statement M
 complement-record-spec =
     tie.close
-    (tie.spec slice-read-compose-fixed compose-fixed-requires (λ c κs. search needs) slice-write-codes (λ c. search needs)
+    (tie.spec slice-read-compose compose-requires (λ c κs. search needs) slice-write-codes (λ c. search needs)
     (λ c. search needs) returns)

@@ -7,13 +7,13 @@ use Rattle.operations_rewriting.proofs.Recoding.{around-below, recoded-
 use Rattle.operations_rewriting.proofs.recode.Statement.{statement}
 use Rattle.operations_rewriting.proofs.recode.Tie as tie
 
-slice-read-compose-fixed : tie.Need-slice-read-compose-fixed
-slice-read-compose-fixed c =
+slice-read-compose : tie.Need-slice-read-compose
+slice-read-compose c =
     let start = c .before .before .before .pre in
     unrefused-place _ _ (start .0 .0) _ (start .0 .1)
 
-compose-fixed-requires : tie.Need-compose-fixed-requires
-compose-fixed-requires c κs =
+compose-requires : tie.Need-compose-requires
+compose-requires c κs =
     let start = c .before .before .before .pre in
     (start .1 .0, unrefused-codes _ _ (start .0 .0) .1 _)
 
@@ -35,10 +35,10 @@ returns c =
     let at-compose = at-put .before .before .before in
     let begun = at-compose .before .before .before .before in
     recoded-all _ _ (begun .pre .0 .0) (begun .args .a) (begun .pre .0 .1) (begun .args .own) (begun .args .near) _ _
-    (at-compose .compose-fixed .ensures .0) (at-put .put-before .ensures)
+    (at-compose .compose .ensures .0) (at-put .put-before .ensures)
 
 pub recode-spec : {M : Type 1} → statement M
 recode-spec =
     tie.close
-    (tie.spec slice-read-compose-fixed compose-fixed-requires (λ c. search needs) (λ c. search needs) put-before-requires
+    (tie.spec slice-read-compose compose-requires (λ c. search needs) (λ c. search needs) put-before-requires
     slice-write-codes (λ c. search needs) returns)

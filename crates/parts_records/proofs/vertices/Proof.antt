@@ -24,7 +24,7 @@ abbrev μ-loop : tie.MeasureT-loop
 
 -- src/lib.rt:28:5
 loop-holds : tie.Need-loop-holds Inv-loop μ-loop
-loop-holds c = listing-start (c .args .component) _ refl (c .fits .component .fits) (c .pre)
+loop-holds c = listing-start (c .args .component) _ refl (c .fits .component .fits)
 
 -- src/lib.rt:29:13
 -- src/lib.rt:30:9

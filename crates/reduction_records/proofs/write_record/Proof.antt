@@ -14,12 +14,12 @@ use Rattle.reduction_records.proofs.write_record.Statement.{statement}
 use Rattle.reduction_records.proofs.write_record.Tie as tie
 
 abbrev Inv-loop : tie.InvT-loop
-Inv-loop rows signs n hadamards neighbours₀ codes₀ q₀ neighbours codes q = (q ≤ n)
+Inv-loop signs n hadamards neighbours₀ codes₀ rows q₀ neighbours codes q = (q ≤ n)
     × Filled n (λ j. wordOf n (graphOf n (tableau signs rows) j)) neighbours q
     × Filled n (λ j. codeOf ((recordOf n (bit hadamards) (tableau signs rows)) .codes j)) codes q
 
 abbrev μ-loop : tie.MeasureT-loop
-μ-loop rows signs n hadamards neighbours₀ codes₀ q₀ neighbours codes q = n - q
+μ-loop signs n hadamards neighbours₀ codes₀ rows q₀ neighbours codes q = n - q
 
 loop-holds : tie.Need-loop-holds Inv-loop μ-loop
 loop-holds c = let P = c .before .before .pre .0 in
@@ -41,10 +41,10 @@ loop-again c = let I = c .before .before .before .before .before .before in
     let l = I .loop-test .taken in (
       omega arith,
       fill-step _ _ _ _ _ (L .inv .1) l
-          (neighbour-word (a .n) (a .signs) (a .rows .now) (L .q) l (S .pre .1 (L .q) l) _
+          (neighbour-word (a .n) (a .signs) (a .t1) (L .q) l (S .pre .1 (L .q) l) _
           (c .before .before .before .before .put-bit .ensures)),
       fill-step _ _ _ _ _ (L .inv .2) l
-          (vertex-number (a .n) (a .hadamards) (a .signs) (a .rows .now) (L .q) l _
+          (vertex-number (a .n) (a .hadamards) (a .signs) (a .t1) (L .q) l _
           (c .before .before .before .has .ensures)
           (c .before .before .has2 .ensures) (c .before .has3 .ensures) (c .vertex-code .ensures .0)),
     )

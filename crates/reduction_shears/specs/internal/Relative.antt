@@ -1,5 +1,5 @@
 -- Signs kept relative to the letters' number of Y. A row with y letters Y, its sign taken off, is i^y X^x Z^z. The
--- elimination keeps the sign before i^(y mod 2) X^x Z^z: for every two Y it is the other one. It keeps each in a word.
+-- elimination keeps the sign before i^(y mod 2) X^x Z^z: for every two Y it is the other one.
 use mathlib.Core.Bool.{Bool}
 use mathlib.Core.List.{List, []}
 use Prim.Native.Nat.{_/_, ℕ}
@@ -7,7 +7,7 @@ use lib.Bits.{bitAnd}
 use lib.Count.{ones}
 use lib.ListN.{getD}
 use Rattle.pauli.specs.Pauli.{Pauli, signedRow}
-use Rattle.words.specs.Bits.{isOdd, _⊕_}
+use Rattle.words.specs.Bits.{Word, isOdd, _⊕_}
 
 -- whether the pairs of Y in the letters of two words are odd in number
 unfoldable pub halfY : ℕ → ℕ → Bool
@@ -17,7 +17,6 @@ halfY z x = isOdd (ones (bitAnd z x) / 2)
 abbrev pub relativeRow : Bool → List ℕ → Pauli
 relativeRow s v = signedRow (s ⊕ halfY (getD v 0 0) (getD v 1 0)) (getD v 0 0) (getD v 1 0)
 
--- row j of a tableau whose relative signs stand in words: minus where the ones of word j are odd in number; the
--- identity past the arrays
-abbrev pub relative : List ℕ → List (List ℕ) → ℕ → Pauli
-relative words rows j = relativeRow (isOdd (ones (getD words j 0))) (getD rows j [])
+-- row j of a tableau whose signs, the bits of a word, are relative; the identity past the array
+abbrev pub relative : Word → List (List ℕ) → ℕ → Pauli
+relative signs rows j = relativeRow (signs j) (getD rows j [])

@@ -1,7 +1,8 @@
 -- `then` meets its contract: first this code, then the next.
-use mathlib.Core.Path.{ap, _∙_, _≡_}
-use native.Mathlib.Omega.{arith}
-use Rattle.clifford.specs.Clifford.{cliffordOf, codeOf, then}
+use mathlib.Core.Path.{subst, sym}
+use Prim.Native.Nat.{_<_}
+use Rattle.clifford.proofs.CliffordLaws.{codeOf-lt}
+use Rattle.clifford.specs.Clifford.{cliffordOf, then}
 use borrow.Author.Needs.{needs}
 use Rattle.clifford_codes.proofs.Code.then.Statement.{statement}
 use Rattle.clifford_codes.proofs.Code.then.Tie as tie
@@ -9,29 +10,11 @@ use Rattle.clifford_codes.proofs.Code.then.Tie as tie
 returns : tie.Need-returns
 returns c =
     let a = c .before .before .args in
-    let k : 1 ≡ a .self .index = omega arith in (
-      c .after-one .ensures .0 ∙ ap (λ v. codeOf (then (cliffordOf v) (cliffordOf (a .next .index)))) k,
-      c .after-one .ensures .1,
-    )
-
-returns-2 : tie.Need-returns-2
-returns-2 c =
-    let a = c .before .before .args in
-    let k : 2 ≡ a .self .index = omega arith in (
-      c .after-two .ensures .0 ∙ ap (λ v. codeOf (then (cliffordOf v) (cliffordOf (a .next .index)))) k,
-      c .after-two .ensures .1,
-    )
-
-returns-3 : tie.Need-returns-3
-returns-3 c =
-    let a = c .before .before .args in
-    let k : 13 ≡ a .self .index = omega arith in (
-      c .after-thirteen .ensures .0 ∙ ap (λ v. codeOf (then (cliffordOf v) (cliffordOf (a .next .index)))) k,
-      c .after-thirteen .ensures .1,
-    )
+    let e = c .row .ensures (a .next .index) (c .before .before .pre .1) in
+    (e, subst (λ v. v < 24) (sym e) (codeOf-lt (then (cliffordOf (a .self .index)) (cliffordOf (a .next .index)))))
 
 pub then-spec : {M : Type 1} → statement M
 then-spec =
     tie.close
-    (tie.spec (λ c κs. search needs) (λ c κs. search needs) (λ c κs. search needs) (λ c κs. search needs) returns
-    returns-2 returns-3 (λ c. search needs))
+    (tie.spec (λ c κs. search needs) (λ c. search needs) (λ c. search needs) (λ c κs. search needs) returns
+    (λ c. search needs))

@@ -2,15 +2,14 @@
 use Prim.Native.Nat.{_-_}
 use native.Mathlib.Omega.{arith}
 use borrow.Author.Needs.{needs}
-use Rattle.comparison.specs.internal.Equations.{bitOf, fourth}
-use Rattle.comparison.proofs.PackedPlaces.{class-next, no-class-words}
-use Rattle.comparison.proofs.WordsByBits.{ClassesBelow, all-classes}
+use Rattle.comparison.proofs.PlacedFours.{ClassesIn, class-next, no-class-words}
+use Rattle.comparison.proofs.WordsByBits.{all-classes}
 use Rattle.comparison_assignments.proofs.assignments.class_words.Statement.{statement}
 use Rattle.comparison_assignments.proofs.assignments.class_words.Tie as tie
 
 abbrev Inv-loop : tie.InvT-loop
 Inv-loop n choice words₀ q₀ words q =
-    ClassesBelow n choice q (fourth (bitOf words) 0) (fourth (bitOf words) 1) (fourth (bitOf words) 2) (fourth (bitOf words) 3)
+    ClassesIn n choice q words
 
 abbrev μ-loop : tie.MeasureT-loop
 μ-loop n choice words₀ q₀ words q = n - q
@@ -22,16 +21,15 @@ class-bits-requires : tie.Need-class-bits-requires Inv-loop μ-loop
 class-bits-requires c κs = omega (arith, c .before .before .pre .1 (c .before .loop .q))
 
 place-requires : tie.Need-place-requires Inv-loop μ-loop
-place-requires c κs =
-    (omega (arith, c .before .before .before .pre .0, c .before .loop-test .taken), c .class-bits .ensures .0)
+place-requires c κs = omega (arith, c .before .before .before .pre .0, c .before .loop-test .taken)
 
 loop-again : tie.Need-loop-again Inv-loop μ-loop
 loop-again c =
     let s = c .before .before .before .before in
     let l = c .before .before .before .loop in
     let more = c .before .before .loop-test .taken in
-    class-next (s .args .n) (s .args .t2) (l .q) (c .before .class-bits .result) (omega (arith, s .pre .0, more)) (l .words)
-    (c .place .result) (c .place .ensures) more (c .before .class-bits .ensures .1) (l .inv)
+    class-next (s .args .n) (s .args .t2) (l .q) (l .words) (c .place .result) more (c .before .class-bits .result)
+    (c .place .ensures) (c .before .class-bits .ensures) (l .inv)
 
 returns : tie.Need-returns Inv-loop μ-loop
 returns c =

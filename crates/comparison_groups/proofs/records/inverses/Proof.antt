@@ -13,13 +13,13 @@ use Rattle.comparison_groups.proofs.records.inverses.Statement.{stateme
 use Rattle.comparison_groups.proofs.records.inverses.Tie as tie
 
 abbrev Inv-loop : tie.InvT-loop
-Inv-loop n codes all₀ q₀ all q = Codes all × Filled 20 (λ i. codeOf (inverse (codesOf codes i))) all q
+Inv-loop n codes all₀ q₀ all q = Codes all × Filled 64 (λ i. codeOf (inverse (codesOf codes i))) all q
 
 abbrev μ-loop : tie.MeasureT-loop
 μ-loop n codes all₀ q₀ all q = n - q
 
 loop-holds : tie.Need-loop-holds Inv-loop μ-loop
-loop-holds c = (zeros-codes 20, fill-start 20 _ _ refl)
+loop-holds c = (zeros-codes 64, fill-start 64 _ _ refl)
 
 inverse-requires : tie.Need-inverse-requires Inv-loop μ-loop
 inverse-requires c κs = c .before .before .before .before .pre .2 (c .before .before .loop .q)
@@ -31,13 +31,13 @@ loop-again c =
     let more = c .before .before .loop-test .taken in
     let fits : l .q < length (l .all) = omega (arith, more, l .inv .1 .long, s .pre .0) in (
       at-set (l .all) (l .q) _ fits (λ k. k < 24) (l .inv .0) (c .inverse .ensures .1),
-      fill-step 20 _ (l .all) (l .q) _ (l .inv .1) (omega (arith, more, s .pre .0)) (c .inverse .ensures .0),
+      fill-step 64 _ (l .all) (l .q) _ (l .inv .1) (omega (arith, more, s .pre .0)) (c .inverse .ensures .0),
     )
 
 returns : tie.Need-returns Inv-loop μ-loop
 returns c =
     let l = c .before .loop in
-    (all-filled 0 20 _ (l .all) (l .q) _ (l .inv .1) (c .loop-test .left), l .inv .0)
+    (all-filled 0 64 _ (l .all) (l .q) _ (l .inv .1) (c .loop-test .left), l .inv .0)
 
 pub inverses-spec : {M : Type 1} → statement M
 inverses-spec =

@@ -1,14 +1,22 @@
 -- `reach_minus` meets its contract: whether that product is minus Z at the vertex.
-use mathlib.Core.Bool.{_&&_}
-use mathlib.Core.Path.{ap, sym}
+use mathlib.Core.Bool.{cond}
+use mathlib.Core.Path.{ap, sym, _∙_}
 use Prim.Native.Nat.{_/_}
+use borrow.Author.Tests.{le-leb, lt-leb}
 use Rattle.graph_steps.proofs.OutOfPlace.{number-C}
 use Rattle.words.specs.Bits.{isOdd}
 use Rattle.operations_gates.proofs.joins.reach_minus.Statement.{statement}
 use Rattle.operations_gates.proofs.joins.reach_minus.Tie as tie
 
 returns : tie.Need-returns
-returns c = ap (λ b. b && isOdd (c .args .code / 2)) (sym (number-C (c .args .code) (c .pre)))
+returns c =
+    let code = c .before .args .code in
+    sym (ap (λ b. cond b (isOdd (code / 2)) (isOdd code)) (number-C code (c .before .pre) ∙ lt-leb 8 code (c .if1 .taken)))
+
+returns-2 : tie.Need-returns-2
+returns-2 c =
+    let code = c .before .args .code in
+    sym (ap (λ b. cond b (isOdd (code / 2)) (isOdd code)) (number-C code (c .before .pre) ∙ le-leb 8 code (c .if1 .left)))
 
 pub reach-minus-spec : {M : Type 1} → statement M
-reach-minus-spec = tie.close (tie.spec returns)
+reach-minus-spec = tie.close (tie.spec returns returns-2)

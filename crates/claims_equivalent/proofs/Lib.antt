@@ -1,0 +1,2 @@
+pub mod EquivalentsHold
+pub mod RecordsHold

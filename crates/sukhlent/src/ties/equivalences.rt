@@ -1,0 +1,56 @@
+// The comparison of two lists, and of two records, with parts of any size: what demands 1 and 3 say of them.
+use crate::equivalences::sukhlent_equivalent;
+use crate::equivalences::sukhlent_equivalent_records;
+ghost use Rattle.claims_equivalent.specs.Equivalents.{EquivalentRecordsSays, EquivalentSays};
+
+pub fn equivalent_says(
+    n1: u64,
+    signs1: &[u8],
+    z1: &[u64],
+    x1: &[u64],
+    n2: u64,
+    signs2: &[u8],
+    z2: &[u64],
+    x2: &[u64],
+    choice: &mut [u8],
+    list: &mut [u8],
+    count: &mut u64,
+) -> u8
+    ensures { λ r. ⌜ EquivalentSays
+        (record { n = n1; signs = now (signs1 .entry); z = now (z1 .entry); x = now (x1 .entry) })
+        (record { n = n2; signs = now (signs2 .entry); z = now (z2 .entry); x = now (x2 .entry) })
+        (now (choice .entry)) (now (list .entry)) (now (count .entry))
+        (now (choice .exit)) (now (list .exit)) (now (count .exit)) r ⌝ }
+{
+    sukhlent_equivalent(n1, signs1, z1, x1, n2, signs2, z2, x2, choice, list, count)
+}
+
+pub fn equivalent_records_says(
+    n1: u64,
+    neighbours1: &[u64],
+    codes1: &[u8],
+    n2: u64,
+    neighbours2: &[u64],
+    codes2: &[u8],
+    choice: &mut [u8],
+    list: &mut [u8],
+    count: &mut u64,
+) -> u8
+    ensures { λ r. ⌜ EquivalentRecordsSays
+        (record { n = n1; neighbours = now (neighbours1 .entry); codes = now (codes1 .entry) })
+        (record { n = n2; neighbours = now (neighbours2 .entry); codes = now (codes2 .entry) })
+        (now (choice .entry)) (now (list .entry)) (now (count .entry))
+        (now (choice .exit)) (now (list .exit)) (now (count .exit)) r ⌝ }
+{
+    sukhlent_equivalent_records(
+        n1,
+        neighbours1,
+        codes1,
+        n2,
+        neighbours2,
+        codes2,
+        choice,
+        list,
+        count,
+    )
+}
