@@ -17,7 +17,8 @@ use Rattle.jobs.specs.Runs.{stepAnswers}
 use Rattle.jobs.specs.declared.Answer.{Answer}
 use Rattle.jobs.specs.declared.Step.{Step}
 use Rattle.jobs.specs.internal.Parallel.{OneLength}
-use Rattle.jobs_lent.proofs.KeptAnswers.{each-answered, kept-tells, part-at}
+use Rattle.jobs.proofs.StepAnswers.{each-answered, part-at}
+use Rattle.jobs_lent.proofs.KeptAnswers.{kept-tells}
 use Rattle.jobs_lent.specs.internal.LentRuns.{LentRun}
 use Rattle.stabilizer.proofs.SharedTests.{has-length}
 use Rattle.used.specs.Used.{UsedRecord, UsedUnrefused, usedLines}

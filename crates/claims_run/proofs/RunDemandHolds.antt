@@ -21,7 +21,7 @@ use Rattle.jobs.specs.Runs.{run, started, stepAnswers}
 use Rattle.jobs.specs.Standing.{StandsFor, left}
 use Rattle.jobs.specs.declared.Answer.{Answer}
 use Rattle.jobs.specs.declared.Step.{Step}
-use Rattle.jobs_lent.proofs.KeptAnswers.{each-answered, part-at}
+use Rattle.jobs.proofs.StepAnswers.{each-answered, part-at}
 use Rattle.used.specs.Used.{UsedRecord}
 use Rattle.claims_run.proofs.RunFitting.{run-accepted-exactly, run-buffers-unread, run-conforms, run-taken}
 use Rattle.claims_run.specs.RunDemand.{RunDemand, RunSays, RunStands, answerIn, heldGroup}

@@ -20,7 +20,7 @@ use Rattle.jobs.proofs.ParallelLaws.{steps-long}
 use Rattle.jobs.proofs.Printing.{Sized, run-sized}
 use Rattle.jobs.specs.Runs.{run, stepAnswers}
 use Rattle.jobs.specs.declared.Answer.{Answer}
-use Rattle.jobs_lent.proofs.KeptAnswers.{each-answered}
+use Rattle.jobs.proofs.StepAnswers.{each-answered}
 use Rattle.stabilizer.proofs.SharedTests.{below-passes}
 use Rattle.used.specs.Used.{UsedRecord, UsedUnrefused, usedLines}
 use Rattle.words.proofs.Flags.{neither}

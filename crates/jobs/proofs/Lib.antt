@@ -1,7 +1,8 @@
 pub mod Fields
 pub mod Numbers
-pub mod WrongFields
-pub mod Starting
-pub mod Stepwise
-pub mod Printing
 pub mod ParallelLaws
+pub mod Printing
+pub mod Starting
+pub mod StepAnswers
+pub mod Stepwise
+pub mod WrongFields

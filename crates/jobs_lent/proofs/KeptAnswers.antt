@@ -1,6 +1,6 @@
 -- Answers that a run kept as one number each: what they tell is what its steps answer.
 use mathlib.Core.Bool.{Bool, cond, false, true}
-use mathlib.Core.List.{_++_, List, [], map, _∷_}
+use mathlib.Core.List.{_++_, List, [], _∷_}
 use mathlib.Core.Path.{_∙_, _≡_, ap, refl, subst, sym}
 use Prim.Native.Nat.{_%_, _*_, _+_, _/_, _<_, suc, zero, ℕ}
 use native.Mathlib.Nat.{le-of-suc-le-suc, not-suc-le-zero}
@@ -39,18 +39,6 @@ getD-front (x ∷ xs) ys (suc k) h = getD-front xs ys k (le-of-suc-le-suc h)
 written-at : (out bytes : List ℕ) (k : ℕ) → k < length bytes → getD (overwritten out 0 bytes) k 0 ≡ getD bytes k 0
 unfolding overwritten
 written-at out bytes k h = getD-front bytes (drop (0 + length bytes) out) k h
-
--- a number of each answer
-pub part-at : (f : Answer → ℕ) (answers : List Answer) (k : ℕ) (other : Answer) → k < length answers
-    → getD (map f answers) k 0 ≡ f (getD answers k other)
-part-at f [] k other h = absurd (not-suc-le-zero h)
-part-at f (r ∷ rest) zero other h = refl
-part-at f (r ∷ rest) (suc k) other h = part-at f rest k other (le-of-suc-le-suc h)
-
-pub each-answered : (u : UsedRecord) (steps : List Step) → length (stepAnswers u steps) ≡ length steps
-unfolding stepAnswers
-each-answered u [] = refl
-each-answered u (s ∷ rest) = ap suc (each-answered (afterStep u s) rest)
 
 -- the number that is kept for step k
 packed-at : (mark : Bool) (u : UsedRecord) (steps : List Step) (k : ℕ) (none : Answer) → k < length steps
