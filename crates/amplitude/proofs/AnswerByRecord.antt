@@ -2,8 +2,8 @@
 use mathlib.Core.Bool.{Bool, cond, false, true}
 use mathlib.Core.Path.{_∙_, _≡_, ap, refl, sym}
 use Prim.Native.Nat.{ℕ}
-use Rattle.graph.specs.Graph.{Simple}
-use Rattle.graph_steps.specs.internal.ReducedForms.{ReducedForm}
+use Rattle.record.specs.Graph.{Simple}
+use Rattle.operations.specs.internal.ReducedForms.{ReducedForm}
 use Rattle.pauli.proofs.PhaseLaws.{+ᵖ-assoc, +ᵖ-zero, four-times}
 use Rattle.pauli.specs.Pauli.{_+ᵖ_, Phase, exponent}
 use Rattle.record.specs.Records.{GraphRecord, rowsOf}

@@ -14,8 +14,8 @@ use Rattle.clifford.specs.Clifford.{bitC}
 use Rattle.cut.proofs.Counting.{count-add, count-ext}
 use Rattle.cut.specs.Kernel.{count}
 use Rattle.cut.specs.Rank.{rank}
-use Rattle.graph.specs.Graph.{Simple}
-use Rattle.graph_steps.specs.internal.ReducedForms.{ReducedForm}
+use Rattle.record.specs.Graph.{Simple}
+use Rattle.operations.specs.internal.ReducedForms.{ReducedForm}
 use Rattle.pauli.specs.Pauli.{Pauli}
 use Rattle.record.proofs.ColumnLaws.{column-dependent}
 use Rattle.record.proofs.ReducedRecords.{record-proper, reduced-is}
@@ -31,7 +31,7 @@ use Rattle.words.proofs.Sums.{bitMonoid, fold-ext, fold-more, lt-or-ge}
 use Rattle.words.specs.Bits.{Word, _⊕_, bit, digit, fold, parity, sameBit}
 use Rattle.words.specs.Search.{every}
 use Rattle.amplitude.proofs.Answers.{of-group}
-use Rattle.graph_steps.proofs.FormOfReduced.{code-c-of, form-of-reduced}
+use Rattle.operations.proofs.FormOfReduced.{code-c-of, form-of-reduced}
 use Rattle.amplitude.proofs.FormWords.{Solves, solves-supported, supported-solves}
 use Rattle.amplitude.proofs.Support.{supported-exactly}
 use Rattle.amplitude.specs.internal.KeptTurns.{fitsAt}

@@ -3,7 +3,7 @@
 use mathlib.Core.Bool.{true}
 use mathlib.Core.Path.{_∙_, _≡_, ap, refl, sym}
 use Prim.Native.Nat.{_^_, ℕ}
-use Rattle.graph_steps.specs.internal.ReducedForms.{ReducedForm}
+use Rattle.operations.specs.internal.ReducedForms.{ReducedForm}
 use Rattle.pauli.specs.Pauli.{Pauli}
 use Rattle.record.proofs.ReducedRecords.{reduced-is}
 use Rattle.record.specs.Records.{GraphRecord, rowsOf}
@@ -15,7 +15,7 @@ use Rattle.words.proofs.Flags.{sameBit-true, true-sameBit}
 use Rattle.words.proofs.SearchLaws.{every-at, every-in, some-in, some-true}
 use Rattle.words.specs.Bits.{Word, _⊕_, bit, sameBit, wordOf}
 use Rattle.words.specs.Search.{IsFirst, every, first}
-use Rattle.graph_steps.proofs.FormOfReduced.{form-of-reduced}
+use Rattle.operations.proofs.FormOfReduced.{form-of-reduced}
 use Rattle.amplitude.proofs.FormWords.{between, first-solves, first-word, leads-between, Solves, solves-supported, supported-solves}
 use Rattle.amplitude.proofs.Support.{named, supported-exactly, supported-ext, supported-of-group, turns-agree}
 use Rattle.amplitude.specs.Ratios.{Leads, chosenBy, leading, lowest, ratio, isSupported}

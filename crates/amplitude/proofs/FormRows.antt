@@ -8,9 +8,9 @@ use native.Mathlib.Omega.{arith}
 use lib.Dec.{eqb}
 use Rattle.clifford.specs.Clifford.{Class, XY, XZ, YX, YZ, ZX, ZY, bitC, codeOf, image, imagePhase}
 use Rattle.clifford.specs.Vectors.{act}
-use Rattle.graph.specs.Graph.{Simple}
-use Rattle.graph_steps.proofs.ReducedForms.{apart, form-x}
-use Rattle.graph_steps.specs.internal.ReducedForms.{ReducedForm}
+use Rattle.record.specs.Graph.{Simple}
+use Rattle.operations.proofs.ReducedForms.{apart, form-x}
+use Rattle.operations.specs.internal.ReducedForms.{ReducedForm}
 use Rattle.pauli.proofs.PhaseLaws.{minus-⊕, phaseMonoid, phases}
 use Rattle.pauli.specs.Pauli.{_+ᵖ_, Pauli, i⁰, letter, minus, zBit}
 use Rattle.record.specs.Records.{GraphRecord, rowsOf}

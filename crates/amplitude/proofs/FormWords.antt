@@ -7,9 +7,9 @@ use native.Mathlib.Nat.{le-refl}
 use native.Mathlib.Omega.{arith}
 use lib.Dec.{eqb}
 use Rattle.clifford.specs.Clifford.{bitC}
-use Rattle.graph.specs.Graph.{Simple}
-use Rattle.graph_steps.proofs.ReducedForms.{apart, form-x}
-use Rattle.graph_steps.specs.internal.ReducedForms.{ReducedForm}
+use Rattle.record.specs.Graph.{Simple}
+use Rattle.operations.proofs.ReducedForms.{apart, form-x}
+use Rattle.operations.specs.internal.ReducedForms.{ReducedForm}
 use Rattle.pauli.proofs.PhaseLaws.{minus-injective, minus-⊕}
 use Rattle.pauli.specs.Pauli.{_+ᵖ_, Pauli, i⁰, minus}
 use Rattle.record.specs.Records.{GraphRecord, rowsOf}

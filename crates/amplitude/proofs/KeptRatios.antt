@@ -4,8 +4,8 @@ use mathlib.Core.Path.{_∙_, _≡_, ap, ap₂, fun-ext, refl, subst, sym}
 use Prim.Native.Nat.{ℕ}
 use native.Mathlib.Nat.{le-refl}
 use Rattle.clifford.specs.Clifford.{bitC}
-use Rattle.graph.specs.Graph.{Simple}
-use Rattle.graph_steps.specs.internal.ReducedForms.{ReducedForm}
+use Rattle.record.specs.Graph.{Simple}
+use Rattle.operations.specs.internal.ReducedForms.{ReducedForm}
 use Rattle.pauli.proofs.PauliLaws.{mul-x, square}
 use Rattle.pauli.proofs.PhaseLaws.{+ᵖ-assoc, +ᵖ-comm, +ᵖ-zero}
 use Rattle.pauli.specs.Pauli.{_+ᵖ_, Pauli, Phase, i⁰, mul}

@@ -10,10 +10,10 @@ use lib.Dec.{eqb, ltb}
 use borrow.Author.Tests.{le-ltb, lt-ltb}
 use Rattle.clifford.specs.Clifford.{Class, Clifford, XY, XZ, YX, YZ, ZX, ZY, bitC, codeOf, image, imagePhase}
 use Rattle.clifford.specs.Vectors.{act}
-use Rattle.graph.proofs.GraphGroups.{no-loop}
-use Rattle.graph.specs.Graph.{Simple}
-use Rattle.graph_steps.proofs.ReducedForms.{form-x}
-use Rattle.graph_steps.specs.internal.ReducedForms.{ReducedForm}
+use Rattle.record.proofs.GraphGroups.{no-loop}
+use Rattle.record.specs.Graph.{Simple}
+use Rattle.operations.proofs.ReducedForms.{form-x}
+use Rattle.operations.specs.internal.ReducedForms.{ReducedForm}
 use Rattle.pauli.proofs.PauliLaws.{letter-bits, mul-comm, mul-identity}
 use Rattle.pauli.proofs.PhaseLaws.{+ᵖ-assoc, +ᵖ-zero, minus-⊕, sumPhase-add, sumPhase-one}
 use Rattle.pauli.specs.Pauli.{_+ᵖ_, Pauli, anticommute, i⁰, letter, minus, mul, sumPhase}

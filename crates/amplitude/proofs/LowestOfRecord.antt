@@ -3,7 +3,7 @@ use mathlib.Core.Bool.{false}
 use mathlib.Core.Path.{_≡_, ap, subst, sym}
 use Prim.Native.Nat.{_-_, _<_, suc, zero, ℕ, _≤_}
 use native.Mathlib.Omega.{arith}
-use Rattle.graph.specs.Graph.{Simple}
+use Rattle.record.specs.Graph.{Simple}
 use Rattle.operations.proofs.Determined.{measured-proper}
 use Rattle.operations.specs.Measurement.{contradicts, measuredRows}
 use Rattle.pauli.specs.Pauli.{Pauli}

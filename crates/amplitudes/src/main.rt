@@ -1,8 +1,8 @@
-// Reads a generator list from standard input, by `read_list` of list_input, and prints the table of its amplitudes, which
-// `reply` of plot_reply makes of what was scanned.
+// Reads a generator list from standard input, by `read_list` of text_replies, and prints the table of its amplitudes, which
+// `reply` of jobs_replies makes of what was scanned.
+use jobs_replies::plots::reply;
 use libc::STDOUT_FILENO;
-use list_input::read_list;
-use plot_reply::reply;
+use text_replies::input::read_list;
 ghost use Prim.Native.Nat.{_≤_};
 ghost use lib.ListN.{length};
 ghost use Rattle.calls.specs.PlotAnswers.{longestTable};

@@ -1,9 +1,12 @@
-pub mod Tabulate
-pub mod Lines
 pub mod AddedLines
-pub mod Reaching
-pub mod Filling
+pub mod Calling
 pub mod CopiedLists
-pub mod Parts
+pub mod EarlierNumbers
+pub mod Filling
+pub mod Fitting
+pub mod Lines
 pub mod Mapping
 pub mod OverSets
+pub mod Parts
+pub mod Reaching
+pub mod Tabulate

@@ -1,2 +1,5 @@
+pub mod Answers
 pub mod Buffers
+pub mod Calls
 pub mod Refusals
+pub mod internal

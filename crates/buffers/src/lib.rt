@@ -1,5 +1,9 @@
 // The tests of lent buffers that several lines of the refusals share, copies into them, and signs as they are lent.
+// The one shape of every public call's contract: see specs/ for the definitions and proofs/ for the laws.
+pub mod arrays;
+pub mod copies;
 mod copying;
+pub mod earliest;
 
 pub use copying::copy_bytes;
 pub use copying::copy_list;

@@ -7,9 +7,9 @@ use lib.ListN.{length}
 use Rattle.buffers.proofs.Lines.{fits, more-accepted, passed}
 use Rattle.buffers.specs.Refusals.{firstFitting, otherThan}
 use Rattle.comparison.specs.Compared.{pairCount, pairLines}
-use Rattle.contracts.proofs.Calling.{refused, written-all}
-use Rattle.contracts.proofs.Fitting.{stays}
-use Rattle.contracts.specs.Calls.{Call}
+use Rattle.buffers.proofs.Calling.{refused, written-all}
+use Rattle.buffers.proofs.Fitting.{stays}
+use Rattle.buffers.specs.Calls.{Call}
 use Rattle.pauli.specs.Pauli.{Pauli}
 use Rattle.record.specs.Accepted.{AcceptedRecord}
 use Rattle.stabilizer.proofs.Accepted.{accepted-list}
@@ -18,11 +18,11 @@ use Rattle.stabilizer.specs.Lists.{GeneratorList, listLengths, rows}
 use Rattle.words.proofs.Finite.{bits}
 use Rattle.words.proofs.Flags.{neither}
 use Rattle.calls.proofs.PairLines.{pair-number, pair-numbered}
-use Rattle.comparison_answer.proofs.ReducedPairs.{reduced-accepted}
+use Rattle.comparison_parts.proofs.ReducedPairs.{reduced-accepted}
 use Rattle.calls.specs.Lists.{reduceCall}
 use Rattle.comparison.specs.internal.ComparedPairs.{HoldsReduced, PairAnswered}
-use Rattle.earliest.proofs.EarlierNumbers.{earlier-none}
-use Rattle.earliest.specs.internal.Earlier.{earlierOf}
+use Rattle.buffers.proofs.EarlierNumbers.{earlier-none}
+use Rattle.buffers.specs.internal.Earlier.{earlierOf}
 use Rattle.calls.specs.internal.Limited.{comparingCall}
 
 -- ---- two lists on n qubits, and the reductions of both

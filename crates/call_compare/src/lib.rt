@@ -1,15 +1,17 @@
 // The public calls on two generator lists.
+pub mod records;
+
 use buffers::bad_count;
+use buffers::earliest::earlier;
 use buffers::other_than;
 use call_lists::reduce;
-use comparison_answer::compare_reduced;
-use earliest::earlier;
+use comparison_parts::answer::compare_reduced;
 ghost use mathlib.Core.Bool.{_||_, not};
 ghost use mathlib.Core.Path.{_≡_};
 ghost use Prim.Native.Nat.{_≤_};
 ghost use lib.Dec.{eqb};
 ghost use lib.ListN.{length};
-ghost use Rattle.contracts.specs.Calls.{Call};
+ghost use Rattle.buffers.specs.Calls.{Call};
 ghost use Rattle.buffers.specs.Refusals.{badCount};
 ghost use Rattle.calls.specs.Comparisons.{compareCall};
 ghost use Rattle.calls.specs.Equivalences.{equivalentCall};

@@ -6,15 +6,15 @@ use Prim.Native.Nat.{ℕ}
 use lib.Dec.{eqb}
 use borrow.Author.Tests.{eqb-true}
 use Rattle.buffers.specs.Refusals.{firstFitting, reaching}
-use Rattle.contracts.proofs.Fitting.{first-is, none-holds}
-use Rattle.contracts.specs.Answers.{here, later}
-use Rattle.graph_settling.proofs.SuspectCodes.{all-suspected, suspects-held, suspects-watched}
-use Rattle.graph_settling.specs.internal.Watching.{Suspected, Watched}
+use Rattle.buffers.proofs.Fitting.{first-is, none-holds}
+use Rattle.buffers.specs.Answers.{here, later}
+use Rattle.operations_gates.proofs.SuspectCodes.{all-suspected, suspects-held, suspects-watched}
+use Rattle.operations_gates.specs.internal.Watching.{Suspected, Watched}
 use Rattle.operations.specs.internal.InPlace.{Unrefused, recordIn}
 use Rattle.operations_gates.proofs.SettledRecords.{settled-watched}
 use Rattle.operations_gates.specs.internal.Settled.{Settled}
 use Rattle.record.specs.Lent.{recordCodes}
-use Rattle.used.specs.Used.{UsedRecord, UsedUnrefused, usedLines}
+use Rattle.operations.specs.Used.{UsedRecord, UsedUnrefused, usedLines}
 use Rattle.words.proofs.Flags.{neither}
 use Rattle.call_gates.specs.internal.Knowing.{Handed, Known, looked, reduced}
 

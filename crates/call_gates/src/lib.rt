@@ -1,21 +1,24 @@
 // The public calls that rewrite a lent record in place: their refusal, and gate and cz.
-use graph_suspects::Seen;
-use graph_suspects::look;
-use graph_suspects::suspects;
+pub mod complement;
+pub mod measure;
+
+use operations_checks::used_number;
 use operations_gates::cz_record;
 use operations_gates::gate_record;
-use used_checks::used_number;
+use operations_gates::suspecting::Seen;
+use operations_gates::suspecting::look;
+use operations_gates::suspecting::suspects;
 use words::has;
 ghost use mathlib.Core.Bool.{cond, false, true};
 ghost use mathlib.Core.Path.{_≡_};
 ghost use Prim.Native.Nat.{ℕ, _<_, _≤_};
 ghost use lib.ListN.{getD, length};
-ghost use Rattle.contracts.specs.Calls.{Call};
+ghost use Rattle.buffers.specs.Calls.{Call};
 ghost use Rattle.buffers.specs.Refusals.{firstFitting, reaching};
 ghost use Rattle.operations.specs.Steps.{czOn, gateWith};
 ghost use Rattle.operations_gates.specs.internal.Settled.{Settled};
-ghost use Rattle.record_checks.specs.internal.Looks.{Looked};
-ghost use Rattle.used.specs.Used.{usedLines};
+ghost use Rattle.record_impl.specs.internal.Looks.{Looked};
+ghost use Rattle.operations.specs.Used.{usedLines};
 ghost use Rattle.words.specs.Bits.{bit};
 ghost use Rattle.calls.specs.InPlace.{usedCall};
 ghost use Rattle.calls.specs.internal.InPlace.{usedInPlace};

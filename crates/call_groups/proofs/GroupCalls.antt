@@ -9,19 +9,19 @@ use Rattle.buffers.specs.Buffers.{tabulate}
 use Rattle.buffers.specs.Refusals.{firstFitting}
 use Rattle.calls.proofs.InPlaceCalls.{left-by-call, marked-by-call}
 use Rattle.calls.specs.InPlace.{usedCall, usedMeasureCall}
-use Rattle.contracts.proofs.Calling.{done, kept-all, refused, written-all}
-use Rattle.contracts.specs.Answers.{HoldsAnswer}
-use Rattle.contracts.specs.Calls.{Call, EachOf}
+use Rattle.buffers.proofs.Calling.{done, kept-all, refused, written-all}
+use Rattle.buffers.specs.Answers.{HoldsAnswer}
+use Rattle.buffers.specs.Calls.{Call, EachOf}
 use Rattle.groups.proofs.GroupNumbers.{masked-answer, masked-number}
 use Rattle.groups.proofs.GroupPassing.{group-number}
 use Rattle.groups.proofs.MaskedRecords.{apart-record, masked-passes}
-use Rattle.group_records.specs.internal.BeforeEight.{Admitted, PutBack}
+use Rattle.groups_impl.specs.internal.BeforeEight.{Admitted, PutBack}
 use Rattle.groups.specs.GroupLines.{groupLines, namesOther}
 use Rattle.groups.specs.Masks.{inGroup, masked}
 use Rattle.groups.specs.internal.Apart.{GroupOp, measure-op}
 use Rattle.operations.specs.Measurement.{determinedNumber, outcomeNumber}
 use Rattle.operations.specs.Steps.{Operation, measuredAnswer, measurementOf}
-use Rattle.used.specs.Used.{UsedRecord, UsedUnrefused, usedLinesOf}
+use Rattle.operations.specs.Used.{UsedRecord, UsedUnrefused, usedLinesOf}
 use Rattle.words.specs.Bits.{bit, wordOf}
 use Rattle.calls.specs.Groups.{groupCall, groupLent, groupMeasureCall}
 

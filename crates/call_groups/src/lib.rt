@@ -1,18 +1,20 @@
 // The public calls of a group on a shared record: gate, cz, measurement, complementation. Each works on a copy in which
 // the other group's vertices stand alone in +Z, and puts the group's own vertices back.
-use call_complement::complement_known;
+pub mod stores;
+
+use call_gates::complement::complement_known;
 use call_gates::cz_known;
 use call_gates::gate_known;
-use call_measure::measure_known;
-use group_records::group_refusal;
-use group_records::outside;
-use group_records::put_group;
-use group_records::put_used;
-use group_records::take_group;
+use call_gates::measure::measure_known;
+use groups_impl::records::group_refusal;
+use groups_impl::records::outside;
+use groups_impl::records::put_group;
+use groups_impl::records::put_used;
+use groups_impl::records::take_group;
 ghost use mathlib.Core.Path.{_≡_};
 ghost use lib.ListN.{length};
-ghost use Rattle.contracts.specs.Calls.{Call};
-ghost use Rattle.group_records.specs.internal.BeforeEight.{Admitted};
+ghost use Rattle.buffers.specs.Calls.{Call};
+ghost use Rattle.groups_impl.specs.internal.BeforeEight.{Admitted};
 ghost use Rattle.operations.specs.Steps.{complementOf, czOn, gateWith, measurementOf};
 ghost use Rattle.calls.specs.Groups.{groupCall, groupMeasureCall};
 

@@ -1,1 +1,5 @@
 pub mod Lists
+pub mod PartProducts
+pub mod ProductCalls
+pub mod ReadCalls
+pub mod WriteCalls

@@ -7,14 +7,14 @@ use lib.ListN.{length}
 use borrow.Author.Tests.{not-false, not-true}
 use Rattle.buffers.proofs.Lines.{more-refused}
 use Rattle.buffers.specs.Refusals.{firstFitting, otherThan}
-use Rattle.contracts.proofs.Calling.{done, kept-all, refused, written-all}
-use Rattle.contracts.proofs.Fitting.{first-is, none-holds, passing}
-use Rattle.contracts.specs.Answers.{here, later, none}
-use Rattle.contracts.specs.Calls.{Call}
+use Rattle.buffers.proofs.Calling.{done, kept-all, refused, written-all}
+use Rattle.buffers.proofs.Fitting.{first-is, none-holds, passing}
+use Rattle.buffers.specs.Answers.{here, later, none}
+use Rattle.buffers.specs.Calls.{Call}
 use Rattle.record.specs.Lent.{codeNumbers, neighbourWords}
 use Rattle.record.specs.Reduced.{reduced}
-use Rattle.reduction.proofs.Loading.{early-reducible}
-use Rattle.reduction.specs.internal.Reducible.{Reducible}
+use Rattle.record_reduction.proofs.Loading.{early-reducible}
+use Rattle.record_reduction.specs.internal.Reducible.{Reducible}
 use Rattle.stabilizer.proofs.Accepted.{early-accepted, early-form}
 use Rattle.stabilizer.proofs.Pairs.{lettersOf}
 use Rattle.stabilizer.proofs.SharedTests.{has-length}

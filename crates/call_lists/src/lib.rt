@@ -1,9 +1,12 @@
 // The public calls on generator lists: check, reduce.
+pub mod product;
+pub mod strings;
+
 use buffers::other_than;
-use reduction::reduce_list;
-use stabilizer_checks::early_refusal;
-use stabilizer_independence::independent;
-ghost use Rattle.contracts.specs.Calls.{Call};
+use record_reduction::reduce_list;
+use stabilizer_impl::checks::early_refusal;
+use stabilizer_impl::independence::independent;
+ghost use Rattle.buffers.specs.Calls.{Call};
 ghost use Rattle.calls.specs.Lists.{checkCall, reduceCall, reduceUnusedCall};
 
 // Lines 2, 4, 5, 6, 9 and 10 of a generator list.

@@ -10,21 +10,21 @@ use lib.Seq.{take-all}
 use Rattle.buffers.proofs.Tabulate.{tabulate-is}
 use Rattle.buffers.specs.Buffers.{tabulate}
 use Rattle.buffers.specs.Refusals.{firstFitting, line, otherThan, reaching}
-use Rattle.contracts.proofs.Calling.{done, refused}
-use Rattle.contracts.specs.Calls.{Call}
+use Rattle.buffers.proofs.Calling.{done, refused}
+use Rattle.buffers.specs.Calls.{Call}
 use Rattle.jobs.proofs.ParallelLaws.{steps-long}
 use Rattle.jobs.specs.Runs.{stepAnswers}
 use Rattle.jobs.specs.declared.Answer.{Answer}
 use Rattle.jobs.specs.declared.Step.{Step}
 use Rattle.jobs.specs.internal.Parallel.{OneLength}
 use Rattle.jobs.proofs.StepAnswers.{each-answered, part-at}
-use Rattle.jobs_lent.proofs.KeptAnswers.{kept-tells}
-use Rattle.jobs_lent.specs.internal.LentRuns.{LentRun}
+use Rattle.call_run.proofs.KeptAnswers.{kept-tells}
+use Rattle.call_run.specs.internal.LentRuns.{LentRun}
 use Rattle.stabilizer.proofs.SharedTests.{has-length}
-use Rattle.used.specs.Used.{UsedRecord, UsedUnrefused, usedLines}
+use Rattle.operations.specs.Used.{UsedRecord, UsedUnrefused, usedLines}
 use Rattle.words.proofs.Flags.{neither}
 use Rattle.calls.proofs.RunLines.{after-15, no-further-argument}
-use Rattle.run_checks.proofs.Telling.{determinedAt, outcomeAt, refusalAt}
+use Rattle.call_run.proofs.Telling.{determinedAt, outcomeAt, refusalAt}
 use Rattle.calls.specs.Runs.{LentSteps, oneOtherThan, otherLengths, runCall, runLines, stepsOf}
 
 -- three slices have m places

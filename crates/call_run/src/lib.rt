@@ -1,9 +1,15 @@
 // The public call that runs many steps on a lent record in place.
-use jobs_numbers::run_known;
-use run_checks::one_other_than;
-use run_checks::run_refusal;
-use run_checks::unpack;
-ghost use Rattle.contracts.specs.Calls.{Call};
+mod checks;
+pub mod lent;
+mod numbers;
+mod steps;
+mod waiting;
+
+use crate::checks::one_other_than;
+use crate::checks::run_refusal;
+use crate::checks::unpack;
+use crate::numbers::run_known;
+ghost use Rattle.buffers.specs.Calls.{Call};
 ghost use Rattle.calls.specs.Runs.{runCall};
 
 // Steps on a record in place, one after the other: the record is looked at once, and what each step answers is written.

@@ -7,10 +7,10 @@ use native.Mathlib.Omega.{arith}
 use lib.ListN.{getD, length, set}
 use Rattle.buffers.specs.Buffers.{written}
 use Rattle.buffers.specs.Refusals.{firstFitting, otherThan}
-use Rattle.contracts.proofs.Calling.{done, refused}
-use Rattle.contracts.proofs.Fitting.{decides, stays}
-use Rattle.contracts.specs.Answers.{here, later, none}
-use Rattle.contracts.specs.Calls.{Call}
+use Rattle.buffers.proofs.Calling.{done, refused}
+use Rattle.buffers.proofs.Fitting.{decides, stays}
+use Rattle.buffers.specs.Answers.{here, later, none}
+use Rattle.buffers.specs.Calls.{Call}
 use Rattle.record.specs.Accepted.{AcceptedRecord}
 use Rattle.stabilizer.proofs.SharedTests.{has-length}
 use Rattle.store.proofs.PassingStores.{held-record, others-fit, store-accepted}

@@ -8,11 +8,11 @@ use lib.Dec.{leb}
 use lib.ListN.{length}
 use Rattle.calls.proofs.SaveLines.{both-numbers, no-number}
 use Rattle.buffers.specs.Refusals.{firstFitting}
-use Rattle.contracts.proofs.Calling.{done, refused}
-use Rattle.contracts.proofs.Fitting.{decides, stays}
-use Rattle.contracts.specs.Answers.{here, later, none}
-use Rattle.contracts.specs.Calls.{Call}
-use Rattle.earliest.specs.internal.Earlier.{earlierOf}
+use Rattle.buffers.proofs.Calling.{done, refused}
+use Rattle.buffers.proofs.Fitting.{decides, stays}
+use Rattle.buffers.specs.Answers.{here, later, none}
+use Rattle.buffers.specs.Calls.{Call}
+use Rattle.buffers.specs.internal.Earlier.{earlierOf}
 use Rattle.record.specs.Accepted.{AcceptedRecord}
 use Rattle.store.proofs.PassingStores.{held-record, store-accepted}
 use Rattle.store.proofs.SavePlaces.{full, not-full}
@@ -20,8 +20,8 @@ use Rattle.store.specs.Kept.{savePlace, saved}
 use Rattle.store.specs.Places.{Store}
 use Rattle.store.specs.StoreLines.{holdsLine, ofRecord, recordTests, saveLines, storeLines}
 use Rattle.store.specs.internal.Passing.{Passing}
-use Rattle.used.specs.Used.{UsedRecord, usedLines}
-use Rattle.used_checks.proofs.UsedNumbers.{no-further}
+use Rattle.operations.specs.Used.{UsedRecord, usedLines}
+use Rattle.operations_checks.proofs.UsedNumbers.{no-further}
 use Rattle.calls.specs.Stores.{saveCall}
 
 module _ (u : UsedRecord) (st : Store) where

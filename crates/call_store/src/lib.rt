@@ -1,18 +1,18 @@
 // The public calls on a store of eight named states.
+use buffers::earliest::earlier;
 use buffers::other_than;
-use earliest::earlier;
-use store_checks::store_refusal;
-use store_copies::put_head;
-use store_copies::put_record;
-use store_copies::take_record;
-use store_places::find;
-use store_places::place_for;
-use store_places::word_at;
-use used_checks::used_refusal;
+use operations_checks::used_refusal;
+use store_impl::checks::store_refusal;
+use store_impl::copies::put_head;
+use store_impl::copies::put_record;
+use store_impl::copies::take_record;
+use store_impl::places::find;
+use store_impl::places::place_for;
+use store_impl::places::word_at;
 ghost use mathlib.Core.Path.{_≡_};
 ghost use mathlib.Core.Bool.{false, _||_};
 ghost use Rattle.buffers.specs.Refusals.{firstFitting};
-ghost use Rattle.contracts.specs.Calls.{Call};
+ghost use Rattle.buffers.specs.Calls.{Call};
 ghost use Rattle.store.specs.StoreLines.{holdsLine, ofRecord, recordTests, storeLines};
 ghost use Rattle.calls.specs.Stores.{forgetCall, returnCall, saveCall};
 

@@ -10,9 +10,9 @@ use lib.ListN.{length, length-replicate, replicate}
 use borrow.Author.Tests.{eqb-false, ltb-false}
 use Rattle.buffers.proofs.Mapping.{zeros, zeros-at}
 use Rattle.buffers.specs.Refusals.{firstFitting, otherThan, reaching}
-use Rattle.contracts.proofs.Fitting.{none-holds}
-use Rattle.graph.specs.Graph.{Simple}
-use Rattle.graph.specs.NeighbourWords.{graphIn}
+use Rattle.buffers.proofs.Fitting.{none-holds}
+use Rattle.record.specs.Graph.{Simple}
+use Rattle.record.specs.NeighbourWords.{graphIn}
 use Rattle.record.proofs.AcceptedRecords.{accepted-record, none-refuses}
 use Rattle.record.proofs.SimpleVerdict.{simple-exactly}
 use Rattle.record.specs.Accepted.{AcceptedRecord}

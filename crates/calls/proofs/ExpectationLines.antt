@@ -9,8 +9,8 @@ use Rattle.buffers.proofs.Reaching.{or-reaches}
 use Rattle.buffers.specs.Refusals.{firstFitting}
 use Rattle.record.proofs.AcceptedRecords.{accepted-record}
 use Rattle.record.specs.Accepted.{AcceptedRecord}
-use Rattle.used.proofs.UsedPassing.{lines-pass}
-use Rattle.used.specs.Used.{UsedRecord, usedLines, usedStray}
+use Rattle.operations.proofs.UsedPassing.{lines-pass}
+use Rattle.operations.specs.Used.{UsedRecord, usedLines, usedStray}
 use Rattle.words.proofs.Flags.{neither}
 use Rattle.calls.specs.Expectations.{expectationLines}
 

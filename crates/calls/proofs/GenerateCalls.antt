@@ -6,11 +6,11 @@ use native.Mathlib.Nat.{zero-add}
 use lib.ListN.{drop, length}
 use borrow.Author.Tests.{ltb-false}
 use Rattle.buffers.specs.Refusals.{firstFitting}
-use Rattle.contracts.proofs.Calling.{done}
-use Rattle.contracts.proofs.Fitting.{none-holds}
-use Rattle.contracts.specs.Calls.{Call}
-use Rattle.generator.specs.Drawn.{generatedText}
-use Rattle.generator.specs.Lines.{generateLines, room}
+use Rattle.buffers.proofs.Calling.{done}
+use Rattle.buffers.proofs.Fitting.{none-holds}
+use Rattle.buffers.specs.Calls.{Call}
+use Rattle.jobs.specs.Drawn.{generatedText}
+use Rattle.jobs.specs.GeneratedLines.{generateLines, room}
 use Rattle.stabilizer.proofs.SharedTests.{counted, has-length}
 use Rattle.text.specs.Text as print
 use Rattle.calls.specs.Generation.{generateCall}

@@ -4,8 +4,8 @@ use mathlib.Core.Path.{_≡_}
 use Prim.Native.Nat.{ℕ}
 use lib.ListN.{length}
 use Rattle.buffers.specs.Buffers.{tabulate, written}
-use Rattle.contracts.proofs.Calling.{written-all}
-use Rattle.contracts.specs.Calls.{Call}
+use Rattle.buffers.proofs.Calling.{written-all}
+use Rattle.buffers.specs.Calls.{Call}
 use Rattle.image.specs.Image.{imageMinus, imageRecord}
 use Rattle.image.specs.Rule.{imageList}
 use Rattle.record.specs.Lent.{LentRecord, heldRecord, neighbourWords}

@@ -9,19 +9,19 @@ use lib.ListN.{length}
 use borrow.Author.Tests.{eqb-false, eqb-true}
 use Rattle.buffers.specs.Buffers.{accepted}
 use Rattle.buffers.specs.Refusals.{firstFitting}
-use Rattle.contracts.proofs.Calling.{done, kept-all, written-all}
-use Rattle.contracts.specs.Answers.{HoldsAnswer}
-use Rattle.contracts.specs.Calls.{Call, EachOf}
+use Rattle.buffers.proofs.Calling.{done, kept-all, written-all}
+use Rattle.buffers.specs.Answers.{HoldsAnswer}
+use Rattle.buffers.specs.Calls.{Call, EachOf}
 use Rattle.operations.specs.internal.InPlace.{MeasuredInPlace}
 use Rattle.operations.specs.Measurement.{determinedNumber, outcomeNumber}
 use Rattle.operations.specs.Steps.{Operation, leaves, linesOf, made, measuredAnswer, measurementOf}
 use Rattle.operations.specs.declared.Outcome.{Outcome}
 use Rattle.record.specs.Lent.{LentRecord, codeNumbers, neighbourWords}
 use Rattle.record.specs.Records.{GraphRecord}
-use Rattle.used.proofs.AcceptedSteps.{accepted-step}
-use Rattle.used.proofs.MeasuringMarks.{marked-word}
-use Rattle.used.proofs.UsedPassing.{used-passes, used-step}
-use Rattle.used.specs.Used.{UsedRecord, usedAfter, usedLinesOf, usedStep}
+use Rattle.operations.proofs.AcceptedSteps.{accepted-step}
+use Rattle.operations.proofs.MeasuringMarks.{marked-word}
+use Rattle.operations.proofs.UsedPassing.{used-passes, used-step}
+use Rattle.operations.specs.Used.{UsedRecord, usedAfter, usedLinesOf, usedStep}
 use Rattle.words.specs.Bits.{isOdd}
 use Rattle.calls.specs.InPlace.{inPlaceCall, measureCall, recordLent, usedCall, usedMeasureCall}
 

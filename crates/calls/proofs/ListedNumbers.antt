@@ -6,12 +6,12 @@ use Rattle.buffers.proofs.Lines.{more-accepted}
 use Rattle.buffers.proofs.Tabulate.{tabulate-length}
 use Rattle.buffers.specs.Buffers.{tabulate}
 use Rattle.buffers.specs.Refusals.{badCount, firstFitting, otherThan}
-use Rattle.contracts.proofs.Fitting.{NoneHolds, none-fits-of}
+use Rattle.buffers.proofs.Fitting.{NoneHolds, none-fits-of}
 use Rattle.pauli.specs.Pauli.{Pauli, signBit}
 use Rattle.stabilizer.proofs.EarlyLines.{form-numbered}
 use Rattle.stabilizer.proofs.SharedTests.{length-passes, table-passes}
 use Rattle.stabilizer.specs.Lists.{formLines, listLines, listOf}
-use Rattle.strings.specs.Reading.{judgedLines}
+use Rattle.text.specs.Reading.{judgedLines}
 use Rattle.words.proofs.BitLaws.{digit-lt, wordOf-lt}
 
 module _ (n : ℕ) (R : ℕ → Pauli) where

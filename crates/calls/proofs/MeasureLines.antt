@@ -6,14 +6,14 @@ use Prim.Native.Nat.{ℕ}
 use lib.Dec.{eqb, leb}
 use lib.ListN.{length}
 use Rattle.buffers.specs.Refusals.{firstFitting}
-use Rattle.contracts.proofs.Fitting.{decides, fits-at, is-first, none-fits-of, none-holds, skips, stays}
-use Rattle.contracts.specs.Answers.{here, later, none}
+use Rattle.buffers.proofs.Fitting.{decides, fits-at, is-first, none-fits-of, none-holds, skips, stays}
+use Rattle.buffers.specs.Answers.{here, later, none}
 use Rattle.operations.specs.internal.InPlace.{recordIn}
 use Rattle.operations.specs.Measurement.{contradicts, pauliLetter}
 use Rattle.operations.specs.Steps.{argumentLines, measureLines, measurementOf}
 use Rattle.record.specs.Lent.{LentRecord, heldRecord, heldRows}
 use Rattle.record.specs.Records.{rowsOf}
-use Rattle.used.specs.Used.{UsedRecord, namesUsed, usedArgumentsOf, usedLinesOf}
+use Rattle.operations.specs.Used.{UsedRecord, namesUsed, usedArgumentsOf, usedLinesOf}
 use Rattle.words.specs.Bits.{isOdd}
 use Rattle.calls.proofs.InPlaceLines.{held-accepted}
 use Rattle.calls.proofs.UsedInPlace.{in-place-before, plain}

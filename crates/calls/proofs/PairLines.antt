@@ -21,7 +21,7 @@ use Rattle.stabilizer.specs.Lists.{
   rows,
 }
 use Rattle.words.proofs.Finite.{Law, Of, law}
-use Rattle.earliest.specs.internal.Earlier.{earlierOf}
+use Rattle.buffers.specs.internal.Earlier.{earlierOf}
 
 -- lines 4 to 10 of each list, and those of the pair
 module _ (a₄ a₅ a₆ a₉ a₁₀ : Bool) where

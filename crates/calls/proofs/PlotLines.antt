@@ -7,7 +7,7 @@ use borrow.Author.Tests.{le-ltb, lt-ltb}
 use Rattle.amplitude.specs.Ratios.{plotAt}
 use Rattle.buffers.proofs.Lines.{fits, passed}
 use Rattle.buffers.specs.Refusals.{firstFitting}
-use Rattle.plot_text.specs.Table.{tableText}
+use Rattle.jobs.specs.Table.{tableText}
 use Rattle.stabilizer.specs.Lists.{GeneratorList, rows}
 use Rattle.text.specs.Text.{refusedText}
 use Rattle.calls.specs.Lists.{checkLines}

@@ -4,8 +4,8 @@ use mathlib.Core.Path.{ap, refl, sym, _∙_, _≡_}
 use Prim.Native.Nat.{_^_, ℕ, _≤_}
 use lib.Dec.{leb}
 use Rattle.buffers.specs.Refusals.{firstFitting}
-use Rattle.contracts.proofs.Fitting.{first-is, fits-at, is-first, none-holds, not-first}
-use Rattle.contracts.specs.Answers.{FirstFits, here, later}
+use Rattle.buffers.proofs.Fitting.{first-is, fits-at, is-first, none-holds, not-first}
+use Rattle.buffers.specs.Answers.{FirstFits, here, later}
 use Rattle.stabilizer.proofs.Accepted.{WellFormed, well-formed}
 use Rattle.stabilizer.proofs.SharedTests.{counted}
 use Rattle.stabilizer.specs.Lists.{GeneratorList, formLines, listStray}

@@ -10,9 +10,9 @@ use Rattle.buffers.proofs.Lines.{Numbered, more-accepted, passed}
 use Rattle.buffers.specs.Refusals.{Refusal, badCount, firstFitting, line, otherThan}
 use Rattle.comparison.specs.Choices.{noChoice}
 use Rattle.comparison.specs.internal.ComparedPairs.{PairAnswered, limitLines}
-use Rattle.contracts.specs.Calls.{Call}
-use Rattle.earliest.specs.internal.Earlier.{earlierOf}
-use Rattle.parts.specs.Parts.{partAbove}
+use Rattle.buffers.specs.Calls.{Call}
+use Rattle.buffers.specs.internal.Earlier.{earlierOf}
+use Rattle.comparison.specs.Parts.{partAbove}
 use Rattle.record.specs.Lent.{
   LentRecord,
   heldRecord,

@@ -4,10 +4,10 @@ use mathlib.Core.List.{List, _∷_}
 use mathlib.Core.Path.{_∙_, _≡_, ap₂, refl, sym}
 use Rattle.buffers.proofs.Lines.{not-held}
 use Rattle.buffers.specs.Refusals.{Refusal, firstFitting, line}
-use Rattle.contracts.proofs.Fitting.{NoneHolds, none-holds}
+use Rattle.buffers.proofs.Fitting.{NoneHolds, none-holds}
 use Rattle.record.specs.Lent.{recordCodes, recordLengths, recordLines}
-use Rattle.used.proofs.UsedPassing.{lines-pass}
-use Rattle.used.specs.Used.{UsedRecord, UsedUnrefused, usedLines}
+use Rattle.operations.proofs.UsedPassing.{lines-pass}
+use Rattle.operations.specs.Used.{UsedRecord, UsedUnrefused, usedLines}
 use Rattle.words.proofs.Flags.{neither}
 
 -- no line holds: neither does one behind 15

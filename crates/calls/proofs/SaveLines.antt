@@ -3,13 +3,13 @@ use mathlib.Core.Bool.{false, _||_}
 use mathlib.Core.Path.{ap₂, sym, _∙_, _≡_}
 use Prim.Native.Nat.{ℕ}
 use Rattle.buffers.specs.Refusals.{firstFitting}
-use Rattle.earliest.proofs.EarlierNumbers.{earlier-none}
-use Rattle.earliest.specs.internal.Earlier.{earlierOf}
+use Rattle.buffers.proofs.EarlierNumbers.{earlier-none}
+use Rattle.buffers.specs.internal.Earlier.{earlierOf}
 use Rattle.store.proofs.ManyRecords.{earlier-of-two, told-by-number}
 use Rattle.store.proofs.StoreNumbers.{record-number}
 use Rattle.store.specs.Places.{Store}
 use Rattle.store.specs.StoreLines.{holdsLine, ofRecord, recordTests, storeLines}
-use Rattle.used.specs.Used.{UsedRecord, usedLines}
+use Rattle.operations.specs.Used.{UsedRecord, usedLines}
 
 module _ (u : UsedRecord) (st : Store) where
   -- the record and the store together

@@ -9,13 +9,13 @@ use lib.Dec.{eqb, leb, lit<}
 use borrow.Author.Tests.{not-false}
 use Rattle.buffers.proofs.Lines.{none-of-all}
 use Rattle.buffers.specs.Refusals.{Refusal, firstFitting, line, withTest}
-use Rattle.contracts.proofs.Fitting.{decides, stays}
-use Rattle.contracts.specs.Answers.{here, later, none}
+use Rattle.buffers.proofs.Fitting.{decides, stays}
+use Rattle.buffers.specs.Answers.{here, later, none}
 use Rattle.operations.specs.Steps.{inPlaceLines, pivotOf}
 use Rattle.record.specs.Lent.{heldRecord, recordLines}
-use Rattle.used.proofs.UsedPassing.{in-place-counted, used-passes, with-used-passes}
-use Rattle.used.proofs.UsedRefusing.{edge-unused}
-use Rattle.used.specs.Used.{UsedRecord, usedLines, usedLinesOf, usedStray, usedWrong}
+use Rattle.operations.proofs.UsedPassing.{in-place-counted, used-passes, with-used-passes}
+use Rattle.operations.proofs.UsedRefusing.{edge-unused}
+use Rattle.operations.specs.Used.{UsedRecord, usedLines, usedLinesOf, usedStray, usedWrong}
 use Rattle.calls.proofs.InPlaceLines.{edge-passes, held-accepted, pairLines}
 use Rattle.calls.specs.internal.InPlace.{usedInPlace}
 

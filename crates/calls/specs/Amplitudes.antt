@@ -6,9 +6,9 @@ use lib.Dec.{leb}
 use lib.Ieee.{Float}
 use Rattle.amplitude.specs.Ratios.{plotAt}
 use Rattle.buffers.specs.Refusals.{Refusal}
-use Rattle.contracts.specs.Calls.{Contract, contractOf, float}
+use Rattle.buffers.specs.Calls.{Contract, contractOf, float}
 use Rattle.record.specs.Lent.{heldRows}
-use Rattle.used.specs.Used.{UsedRecord, usedLines}
+use Rattle.operations.specs.Used.{UsedRecord, usedLines}
 
 -- the lines of a record in checking order. "A y with a bit at or above n gives 5"
 abbrev pub amplitudeLines : UsedRecord → ℕ → List Refusal

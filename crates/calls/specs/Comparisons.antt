@@ -7,7 +7,7 @@ use Rattle.buffers.specs.Buffers.{tabulate, written}
 use Rattle.comparison.specs.Choices.{leastCode}
 use Rattle.comparison.specs.Compared.{compareLines}
 use Rattle.comparison.specs.ComparedPairs.{compareList}
-use Rattle.contracts.specs.Calls.{Contract, buffer, contractOf, number}
+use Rattle.buffers.specs.Calls.{Contract, buffer, contractOf, number}
 use Rattle.stabilizer.specs.Lists.{GeneratorList, rows}
 
 -- ---- sukhlent_compare: the least choice, the complementation list and its count

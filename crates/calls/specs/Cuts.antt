@@ -4,10 +4,10 @@ use mathlib.Core.List.{List, [], _∷_}
 use Prim.Native.Nat.{_^_, ℕ}
 use lib.Dec.{leb}
 use Rattle.buffers.specs.Refusals.{Refusal}
-use Rattle.contracts.specs.Calls.{Contract, contractOf, number}
+use Rattle.buffers.specs.Calls.{Contract, contractOf, number}
 use Rattle.cut.specs.Cut.{cutRank}
 use Rattle.record.specs.Lent.{heldRecord}
-use Rattle.used.specs.Used.{UsedRecord, usedLines}
+use Rattle.operations.specs.Used.{UsedRecord, usedLines}
 use Rattle.words.specs.Bits.{bit}
 
 -- the lines of a record in checking order. 5: also a side word with a bit at or above n; the side may mark used qubits

@@ -8,7 +8,7 @@ use Rattle.buffers.specs.Refusals.{Refusal, line}
 use Rattle.comparison.specs.Choices.{leastCode, noChoice}
 use Rattle.comparison.specs.Compared.{equivalentLines}
 use Rattle.comparison.specs.ComparedPairs.{compareList}
-use Rattle.contracts.specs.Calls.{Contract, buffer, contractOf, number}
+use Rattle.buffers.specs.Calls.{Contract, buffer, contractOf, number}
 use Rattle.record.specs.Lent.{LentRecord, heldRows}
 use Rattle.stabilizer.specs.Lists.{GeneratorList, rows}
 use Rattle.calls.specs.RecordComparisons.{recordsLines}

@@ -4,10 +4,10 @@ use mathlib.Core.Bool.{false, _||_}
 use mathlib.Core.List.{List, [], _∷_}
 use Prim.Native.Nat.{ℕ}
 use Rattle.buffers.specs.Refusals.{Refusal, otherThan}
-use Rattle.contracts.specs.Calls.{Contract, buffer, contractOf}
+use Rattle.buffers.specs.Calls.{Contract, buffer, contractOf}
 use Rattle.record.specs.Lent.{heldRows}
 use Rattle.stabilizer.specs.Lists.{listOf}
-use Rattle.used.specs.Used.{UsedRecord, usedLines}
+use Rattle.operations.specs.Used.{UsedRecord, usedLines}
 
 -- with the three buffers lent for the answer
 abbrev pub expandLines : UsedRecord → List ℕ → List ℕ → List ℕ → List Refusal

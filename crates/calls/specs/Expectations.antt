@@ -5,11 +5,11 @@ use mathlib.Core.List.{List, [], _∷_}
 use Prim.Native.Nat.{_^_, ℕ}
 use lib.Dec.{leb}
 use Rattle.buffers.specs.Refusals.{Refusal}
-use Rattle.contracts.specs.Calls.{Contract, contractOf, number}
+use Rattle.buffers.specs.Calls.{Contract, contractOf, number}
 use Rattle.expectation.specs.Values.{stabilizerValue}
 use Rattle.pauli.specs.Pauli.{signedRow}
 use Rattle.record.specs.Lent.{heldRows}
-use Rattle.used.specs.Used.{UsedRecord, usedLines}
+use Rattle.operations.specs.Used.{UsedRecord, usedLines}
 
 -- the lines of a record in checking order. 5: also a z or an x word with a bit at or above n; the row may have letters on
 -- used qubits

@@ -3,9 +3,9 @@ use mathlib.Core.List.{List, [], _∷_}
 use Prim.Native.Nat.{ℕ}
 use lib.ListN.{length}
 use Rattle.buffers.specs.Buffers.{written}
-use Rattle.contracts.specs.Calls.{Contract, buffer, contractOf, number}
-use Rattle.generator.specs.Drawn.{generatedText}
-use Rattle.generator.specs.Lines.{generateLines}
+use Rattle.buffers.specs.Calls.{Contract, buffer, contractOf, number}
+use Rattle.jobs.specs.Drawn.{generatedText}
+use Rattle.jobs.specs.GeneratedLines.{generateLines}
 
 -- ---- sukhlent_generate: "The generator takes n, a count of steps and a seed"; "Its lent buffer has 61,463 bytes; those
 -- past the text keep their values"

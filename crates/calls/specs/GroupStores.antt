@@ -2,10 +2,10 @@
 -- for their answers. A name with a prime is what the buffer, or the lent number, holds at exit.
 use mathlib.Core.List.{List, [], _∷_}
 use Prim.Native.Nat.{ℕ}
-use Rattle.contracts.specs.Calls.{Contract, buffer, contractOf, number}
+use Rattle.buffers.specs.Calls.{Contract, buffer, contractOf, number}
 use Rattle.groups.specs.GroupStores.{groupForgotten, groupNamedLines, groupReturned, groupSaveLines, groupSaved}
 use Rattle.store.specs.Places.{Store}
-use Rattle.used.specs.Used.{UsedRecord}
+use Rattle.operations.specs.Used.{UsedRecord}
 
 -- ---- sukhlent_group_save
 abbrev pub groupSaveCall : ℕ → ℕ → UsedRecord → ℕ → Store → List ℕ → List ℕ → List ℕ → Contract

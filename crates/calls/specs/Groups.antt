@@ -2,11 +2,11 @@
 -- and what is lent for their answers. A name with a prime is what the buffer, or the lent number, holds at exit.
 use mathlib.Core.List.{List, [], _∷_}
 use Prim.Native.Nat.{ℕ}
-use Rattle.contracts.specs.Calls.{Contract, Lent, buffer, contractOf, number}
+use Rattle.buffers.specs.Calls.{Contract, Lent, buffer, contractOf, number}
 use Rattle.groups.specs.GroupLines.{groupAfter, groupLines}
 use Rattle.operations.specs.Measurement.{determinedNumber, outcomeNumber}
 use Rattle.operations.specs.Steps.{Operation, measuredAnswer, measurementOf}
-use Rattle.used.specs.Used.{UsedRecord}
+use Rattle.operations.specs.Used.{UsedRecord}
 
 -- the record's two buffers
 abbrev pub groupLent : ℕ → ℕ → UsedRecord → Operation → List ℕ → List ℕ → List Lent

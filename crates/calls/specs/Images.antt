@@ -4,7 +4,7 @@ use mathlib.Core.List.{List, [], _∷_}
 use Prim.Native.Nat.{ℕ}
 use lib.ListN.{length}
 use Rattle.buffers.specs.Buffers.{tabulate, written}
-use Rattle.contracts.specs.Calls.{Contract, buffer, contractOf, number}
+use Rattle.buffers.specs.Calls.{Contract, buffer, contractOf, number}
 use Rattle.image.specs.Image.{imageLines, imageMinus, imageRecord}
 use Rattle.image.specs.Rule.{imageList}
 use Rattle.record.specs.Lent.{LentRecord, heldRecord, neighbourWords}

@@ -2,11 +2,11 @@
 -- lent number, holds at exit.
 use mathlib.Core.List.{List, [], _∷_}
 use Prim.Native.Nat.{ℕ}
-use Rattle.contracts.specs.Calls.{Contract, Lent, buffer, contractOf, number}
+use Rattle.buffers.specs.Calls.{Contract, Lent, buffer, contractOf, number}
 use Rattle.operations.specs.Measurement.{determinedNumber, outcomeNumber}
 use Rattle.operations.specs.Steps.{Operation, linesOf, made, measuredAnswer, measurementOf}
 use Rattle.record.specs.Lent.{LentRecord, codeNumbers, neighbourWords}
-use Rattle.used.specs.Used.{UsedRecord, usedAfter, usedLinesOf}
+use Rattle.operations.specs.Used.{UsedRecord, usedAfter, usedLinesOf}
 
 -- the record's two buffers
 abbrev pub recordLent : LentRecord → Operation → List ℕ → List ℕ → List Lent

@@ -4,7 +4,7 @@ use mathlib.Core.Bool.{false, _||_}
 use mathlib.Core.List.{List, [], _∷_}
 use Prim.Native.Nat.{ℕ}
 use Rattle.buffers.specs.Refusals.{Refusal, otherThan}
-use Rattle.contracts.specs.Calls.{Contract, Lent, buffer, contractOf, number}
+use Rattle.buffers.specs.Calls.{Contract, Lent, buffer, contractOf, number}
 use Rattle.record.specs.Lent.{codeNumbers, neighbourWords}
 use Rattle.record.specs.Reduced.{reduced}
 use Rattle.stabilizer.specs.Lists.{GeneratorList, listLines, rows}

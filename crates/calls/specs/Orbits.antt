@@ -6,8 +6,8 @@ use lib.Dec.{eqb, ltb}
 use lib.ListN.{length}
 use Rattle.buffers.specs.Buffers.{written}
 use Rattle.buffers.specs.Refusals.{Refusal, line, otherThan, reaching}
-use Rattle.contracts.specs.Calls.{Contract, buffer, contractOf, number}
-use Rattle.graph.specs.NeighbourWords.{graphIn}
+use Rattle.buffers.specs.Calls.{Contract, buffer, contractOf, number}
+use Rattle.record.specs.NeighbourWords.{graphIn}
 use Rattle.orbits.specs.Numbers.{graphNumber}
 use Rattle.orbits.specs.Orbits.{orbitList}
 use Rattle.record.specs.Lent.{notSimple}

@@ -6,7 +6,7 @@ use lib.Dec.{eqb, ltb}
 use Rattle.amplitude.specs.Ratios.{plotAt}
 use Rattle.buffers.specs.Refusals.{Refusal, firstFitting, line}
 use Rattle.calls.specs.Lists.{checkLines}
-use Rattle.plot_text.specs.Table.{tableText}
+use Rattle.jobs.specs.Table.{tableText}
 use Rattle.stabilizer.specs.Lists.{GeneratorList, rows}
 use Rattle.text.specs.Text.{refusedText}
 

@@ -5,7 +5,7 @@ use mathlib.Core.List.{List, [], _∷_}
 use Prim.Native.Nat.{_^_, ℕ}
 use lib.Dec.{leb}
 use Rattle.buffers.specs.Refusals.{Refusal, badCount, line}
-use Rattle.contracts.specs.Calls.{Contract, contractOf, number}
+use Rattle.buffers.specs.Calls.{Contract, contractOf, number}
 use Rattle.pauli.specs.Pauli.{Pauli, exponent}
 use Rattle.stabilizer.specs.Groups.{product}
 use Rattle.stabilizer.specs.Lists.{GeneratorList, listLengths, listSigns, listStray, rows}

@@ -9,8 +9,8 @@ use Rattle.buffers.specs.Buffers.{tabulate, written}
 use Rattle.buffers.specs.Refusals.{Refusal, badCount, line, otherThan}
 use Rattle.comparison.specs.Choices.{leastCode, noChoice}
 use Rattle.comparison.specs.ComparedPairs.{compareList}
-use Rattle.contracts.specs.Calls.{Contract, buffer, contractOf, number}
-use Rattle.parts.specs.Parts.{partAbove}
+use Rattle.buffers.specs.Calls.{Contract, buffer, contractOf, number}
+use Rattle.comparison.specs.Parts.{partAbove}
 use Rattle.record.specs.Lent.{LentRecord, heldRecord, heldRows, notSimple, recordCodes, recordLengths, recordStray}
 use Rattle.record.specs.Reduced.{reducedGraph}
 

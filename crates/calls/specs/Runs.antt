@@ -6,12 +6,12 @@ use Prim.Native.Nat.{ℕ}
 use lib.Dec.{ltb}
 use lib.ListN.{length}
 use Rattle.buffers.specs.Refusals.{Refusal, line, otherThan, reaching}
-use Rattle.contracts.specs.Calls.{Contract, Lent, buffer, contractOf, number}
+use Rattle.buffers.specs.Calls.{Contract, Lent, buffer, contractOf, number}
 use Rattle.jobs.specs.Parallel.{stepsIn}
 use Rattle.jobs.specs.Runs.{run, stepAnswers}
 use Rattle.jobs.specs.declared.Answer.{Answer}
 use Rattle.jobs.specs.declared.Step.{Step}
-use Rattle.used.specs.Used.{UsedRecord, usedLines}
+use Rattle.operations.specs.Used.{UsedRecord, usedLines}
 
 -- steps as they are lent, in four slices, and the three slices for what each step answers
 pub record LentSteps : Type 0 where

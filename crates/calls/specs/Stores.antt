@@ -5,11 +5,11 @@ use mathlib.Core.List.{List, [], _∷_}
 use Prim.Native.Nat.{ℕ}
 use Rattle.buffers.specs.Buffers.{written}
 use Rattle.buffers.specs.Refusals.{otherThan}
-use Rattle.contracts.specs.Calls.{Contract, buffer, contractOf, number}
+use Rattle.buffers.specs.Calls.{Contract, buffer, contractOf, number}
 use Rattle.store.specs.Kept.{forgottenHeads, saved}
 use Rattle.store.specs.Places.{Store, placeAt, placeOf}
 use Rattle.store.specs.StoreLines.{namedLines, saveLines}
-use Rattle.used.specs.Used.{UsedRecord}
+use Rattle.operations.specs.Used.{UsedRecord}
 
 -- ---- sukhlent_save: the record under the name, "other names keep their records"
 abbrev pub saveCall : UsedRecord → ℕ → Store → List ℕ → List ℕ → List ℕ → Contract

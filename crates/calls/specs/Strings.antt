@@ -2,10 +2,10 @@
 -- exit.
 use mathlib.Core.List.{List, [], _∷_}
 use Prim.Native.Nat.{ℕ}
-use Rattle.contracts.specs.Calls.{Contract, buffer, contractOf}
+use Rattle.buffers.specs.Calls.{Contract, buffer, contractOf}
 use Rattle.stabilizer.specs.Lists.{GeneratorList, rows}
-use Rattle.strings.specs.Reading.{readLines, stringList, writeLines}
-use Rattle.strings.specs.Strings.{stringsText}
+use Rattle.text.specs.Reading.{readLines, stringList, writeLines}
+use Rattle.text.specs.Strings.{stringsText}
 
 -- ---- sukhlent_read_strings: "Reading such a text gives the generator list"
 abbrev pub readStringsCall : List ℕ → List ℕ → List ℕ → List ℕ → List ℕ → List ℕ → List ℕ → Contract

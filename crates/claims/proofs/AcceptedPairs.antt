@@ -8,8 +8,8 @@ use Rattle.buffers.specs.Refusals.{badCount, firstFitting}
 use Rattle.calls.proofs.PairCounts.{counts-agree}
 use Rattle.calls.proofs.PairLines.{pair-number}
 use Rattle.comparison.specs.Compared.{pairLines}
-use Rattle.earliest.specs.internal.Earlier.{earlierOf}
-use Rattle.contracts.proofs.Fitting.{none-fits-of, none-holds}
+use Rattle.buffers.specs.internal.Earlier.{earlierOf}
+use Rattle.buffers.proofs.Fitting.{none-fits-of, none-holds}
 use Rattle.calls.specs.Lists.{checkLines}
 use Rattle.stabilizer.proofs.Accepted.{accepted-list}
 use Rattle.stabilizer.specs.Groups.{Proper}

@@ -10,7 +10,7 @@ use Rattle.buffers.specs.Buffers.{accepted}
 use Rattle.buffers.specs.Refusals.{firstFitting}
 use Rattle.calls.specs.InPlace.{usedCall, usedMeasureCall}
 use Rattle.calls.specs.Stores.{forgetCall, heldUnder, returnCall, saveCall}
-use Rattle.contracts.specs.Calls.{Call}
+use Rattle.buffers.specs.Calls.{Call}
 use Rattle.jobs.proofs.Numbers.{left-by-operation}
 use Rattle.jobs.specs.Asked.{asked, unusedSet}
 use Rattle.jobs.specs.declared.Op.the-variants.{Complement, Cz, Gate, Measure}
@@ -20,7 +20,7 @@ use Rattle.store.proofs.ForgottenNames.{held-lookup}
 use Rattle.store.specs.Kept.{forgotten, forgottenHeads, saved}
 use Rattle.store.specs.Places.{Store, found}
 use Rattle.store.specs.StoreLines.{namedLines, saveLines}
-use Rattle.used.specs.Used.{UsedRecord, usedAfter, usedLinesOf, usedStep}
+use Rattle.operations.specs.Used.{UsedRecord, usedAfter, usedLinesOf, usedStep}
 use Rattle.claims.proofs.RewritingsKeep.{is-after, is-measured}
 use Rattle.claims.proofs.StoreDemandHolds.{name-held, named-passing, returns-give}
 use Rattle.claims.proofs.families.Shared.{at-zero}

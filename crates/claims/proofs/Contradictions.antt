@@ -5,7 +5,7 @@ use mathlib.Core.Path.{_∙_, _≡_, ap₂, subst, sym}
 use Prim.Native.Nat.{_<_, ℕ}
 use native.Mathlib.Omega.{arith}
 use Rattle.buffers.specs.Refusals.{firstFitting}
-use Rattle.contracts.proofs.Calling.{kept-all}
+use Rattle.buffers.proofs.Calling.{kept-all}
 use Rattle.jobs.specs.Standing.{left}
 use Rattle.operations.proofs.Contradicted.{contradicts-exactly}
 use Rattle.operations.specs.Measurement.{contradicts, pauliLetter}

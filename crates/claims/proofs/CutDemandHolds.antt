@@ -12,7 +12,7 @@ use Rattle.cut.proofs.RankLaws.{rank-kernel}
 use Rattle.cut.proofs.Sides.{empty-word, full-word}
 use Rattle.cut.specs.Cut.{crossing, cutRank}
 use Rattle.cut.specs.Kernel.{kernelSize}
-use Rattle.graph.specs.Graph.{Graph, Simple}
+use Rattle.record.specs.Graph.{Graph, Simple}
 use Rattle.jobs.specs.Standing.{StillRecord, left}
 use Rattle.record.proofs.AcceptedRecords.{accepted-record}
 use Rattle.record.specs.Accepted.{AcceptedRecord}

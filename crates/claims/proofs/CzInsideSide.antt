@@ -8,7 +8,7 @@ use lib.Dec.{eqb}
 use Rattle.cut.proofs.CutOfGroups.{mapped-cut}
 use Rattle.cut.specs.Cut.{cutRank}
 use Rattle.cut.specs.OneSided.{Avoids}
-use Rattle.graph.specs.Graph.{Simple}
+use Rattle.record.specs.Graph.{Simple}
 use Rattle.operations.specs.Cz.{cz, czSign}
 use Rattle.pauli.proofs.PauliLaws.{Pauli-path}
 use Rattle.pauli.proofs.PhaseLaws.{+ᵖ-assoc, +ᵖ-zero, phases}

@@ -12,7 +12,7 @@ use Rattle.calls.proofs.InPlaceLines.{cz-ready, held-accepted}
 use Rattle.clifford.proofs.VectorLaws.{act-anticommute, act-imaginary, act-scaled}
 use Rattle.clifford.specs.Clifford.{Clifford, cliffordOf}
 use Rattle.clifford.specs.Vectors.{act, only}
-use Rattle.contracts.specs.Calls.{Call}
+use Rattle.buffers.specs.Calls.{Call}
 use Rattle.expectation.proofs.CarriedValues.{value-carried, value-flipped}
 use Rattle.expectation.proofs.ReadWords.{row-of-words}
 use Rattle.expectation.proofs.ValueLaws.{value-anticommutes, value-minus, value-neither, value-plus, value-upto}
@@ -35,8 +35,8 @@ use Rattle.stabilizer.proofs.Accepted.{accepted-list}
 use Rattle.stabilizer.proofs.Within.{act-within}
 use Rattle.stabilizer.specs.Groups.{InGroup, Proper, SameGroup, Within}
 use Rattle.stabilizer.specs.Lists.{rows}
-use Rattle.used.proofs.UsedPassing.{lines-pass}
-use Rattle.used.specs.Used.{UsedRecord}
+use Rattle.operations.proofs.UsedPassing.{lines-pass}
+use Rattle.operations.specs.Used.{UsedRecord}
 use Rattle.words.proofs.BitLaws.{bit-single, zero-bit}
 use Rattle.words.specs.Bits.{bit, digit, isOdd}
 use Rattle.claims.proofs.Contradictions.{contradictions-refused}

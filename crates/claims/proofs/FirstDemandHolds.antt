@@ -1,9 +1,9 @@
 -- Demand 1 of every public call, from the families; what a buffer lent only for the answer holds makes no line true.
 use mathlib.Core.Path.{subst, sym, _≡_}
 use native.Mathlib.Decide.{ℕ-discrete}
-use Rattle.contracts.proofs.Calling.{done, every-call-answers, refused}
-use Rattle.contracts.proofs.Fitting.{first-is}
-use Rattle.contracts.specs.Calls.{Call}
+use Rattle.buffers.proofs.Calling.{done, every-call-answers, refused}
+use Rattle.buffers.proofs.Fitting.{first-is}
+use Rattle.buffers.specs.Calls.{Call}
 use Rattle.claims.proofs.families.Amplitudes.{amplitudes-conform}
 use Rattle.claims.proofs.families.Comparisons.{comparison-buffers-unread, comparisons-conform}
 use Rattle.claims.proofs.families.Expectations.{expectations-conform}

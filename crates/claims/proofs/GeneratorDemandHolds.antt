@@ -3,12 +3,12 @@ use mathlib.Core.Path.{ap, ap₂, refl, subst, sym, _∙_, _≡_}
 use lib.ListN.{drop, length, take}
 use lib.Seq.{drop-at, take-at}
 use Rattle.calls.proofs.GenerateCalls.{accepted-job}
-use Rattle.generator.proofs.Lengths.{length-text}
-use Rattle.generator.proofs.ReadsBack.{reads-back}
-use Rattle.generator.proofs.Shapes.{all-drawable, length-drawn}
-use Rattle.generator.specs.Drawn.{drawn, generatedText}
-use Rattle.generator.specs.Lines.{room}
-use Rattle.generator.specs.ReadBack.{ReadsBack}
+use Rattle.jobs.proofs.Lengths.{length-text}
+use Rattle.jobs.proofs.ReadsBack.{reads-back}
+use Rattle.jobs.proofs.Shapes.{all-drawable, length-drawn}
+use Rattle.jobs.specs.Drawn.{drawn, generatedText}
+use Rattle.jobs.specs.GeneratedLines.{room}
+use Rattle.jobs.specs.ReadBack.{ReadsBack}
 use Prim.Native.Nat.{_≤_}
 use Rattle.claims.specs.GeneratorDemand.{GeneratorDemand}
 

@@ -10,8 +10,8 @@ use borrow.Author.Tests.{eq-eqb, eqb-true, le-ltb, lt-ltb, ltb-false, not-false}
 use Rattle.buffers.proofs.AddedLines.{test-numbered, test-passes}
 use Rattle.buffers.proofs.Lines.{Numbered}
 use Rattle.buffers.specs.Refusals.{Refusal, firstFitting, line, withTest}
-use Rattle.earliest.proofs.EarlierNumbers.{earlier-none}
-use Rattle.earliest.specs.internal.Earlier.{earlierOf}
+use Rattle.buffers.proofs.EarlierNumbers.{earlier-none}
+use Rattle.buffers.specs.internal.Earlier.{earlierOf}
 use Rattle.groups.proofs.Edges.{crosses-not, none-crosses, none-reaches-out, reaches-out-not}
 use Rattle.groups.proofs.GroupPassing.{group-number, group-passes}
 use Rattle.groups.proofs.OwnHeads.{own-heads-long, part-long}
@@ -28,7 +28,7 @@ use Rattle.store.proofs.StoreNumbers.{record-number}
 use Rattle.store.specs.Places.{Store, countAt, isHeld, namedTwice, placeAt}
 use Rattle.store.specs.StoreLines.{holdsLine, ofHeld, ofRecord, recordTests, storeLengths, storeLines}
 use Rattle.store.specs.internal.Passing.{Passing}
-use Rattle.used.specs.Used.{UsedRecord, usedLines, usedLinesOf}
+use Rattle.operations.specs.Used.{UsedRecord, usedLines, usedLinesOf}
 use Rattle.words.proofs.Flags.{neither}
 use Rattle.words.proofs.SearchLaws.{some-false, some-none}
 use Rattle.words.specs.Bits.{Word}

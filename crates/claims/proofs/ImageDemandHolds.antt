@@ -12,11 +12,11 @@ use Rattle.buffers.proofs.Tabulate.{tabulate-at}
 use Rattle.clifford.specs.Clifford.{identityClifford}
 use Rattle.buffers.specs.Buffers.{tabulate, written}
 use Rattle.buffers.specs.Refusals.{firstFitting, otherThan}
-use Rattle.graph.specs.Graph.{Simple}
+use Rattle.record.specs.Graph.{Simple}
 use Rattle.image.proofs.Accepted.{image-group, image-unsigned}
 use Rattle.image.proofs.Exactly.{refused-exactly}
 use Rattle.image.proofs.TrackedBits.{image-length, image-simple}
-use Rattle.graph.specs.NeighbourWords.{graphIn}
+use Rattle.record.specs.NeighbourWords.{graphIn}
 use Rattle.image.specs.Image.{imageGraph, imageMinus, imageRecord, loopLines, looped, stuck}
 use Rattle.image.specs.Rule.{imageList}
 use Rattle.pauli.specs.Pauli.{i⁰, minus, scaled}
@@ -25,7 +25,7 @@ use Rattle.record.proofs.WrittenRecords.{record-back}
 use Rattle.record.specs.Lent.{LentRecord, heldRecord, heldRows, neighbourWords, recordLines}
 use Rattle.record.specs.Records.{GraphRecord}
 use Rattle.stabilizer.proofs.Carried.{same-rows}
-use Rattle.contracts.specs.Calls.{Call}
+use Rattle.buffers.specs.Calls.{Call}
 use Rattle.calls.proofs.ImageLeft.{count-left, image-left, list-left, signs-left}
 use Rattle.calls.specs.Images.{imageCall}
 use Rattle.words.proofs.BitLaws.{digit-lt, odd-digit}

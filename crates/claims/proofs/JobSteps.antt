@@ -7,7 +7,7 @@ use Rattle.buffers.specs.Buffers.{accepted}
 use Rattle.buffers.specs.Refusals.{firstFitting}
 use Rattle.clifford.specs.Clifford.{cliffordOf}
 use Rattle.clifford.specs.Vectors.{act, only}
-use Rattle.contracts.specs.Calls.{Call}
+use Rattle.buffers.specs.Calls.{Call}
 use Rattle.jobs.specs.GroupsAfter.AfterMeasurement.{joined, kept, same}
 use Rattle.jobs.specs.GroupsAfter.{AfterMeasurement, AfterOperation, Group, GroupDetermines, Sent}
 use Rattle.operations.specs.Cz.{cz}

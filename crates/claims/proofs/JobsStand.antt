@@ -9,8 +9,8 @@ use Rattle.buffers.proofs.AddedLines.{without-test}
 use Rattle.buffers.specs.Refusals.{firstFitting, withTest}
 use Rattle.calls.proofs.MeasureLines.{arguments-before, measure-passes}
 use Rattle.calls.proofs.UsedInPlace.{plain}
-use Rattle.contracts.proofs.Fitting.{decides}
-use Rattle.contracts.specs.Answers.{later, none}
+use Rattle.buffers.proofs.Fitting.{decides}
+use Rattle.buffers.specs.Answers.{later, none}
 use Rattle.jobs.proofs.Numbers.{
   accepted-leaves,
   accepted-number,
@@ -33,10 +33,10 @@ use Rattle.operations.specs.Steps.{Operation, argumentLines, complementOf, czOn
 use Rattle.pauli.specs.Pauli.{Pauli}
 use Rattle.record.specs.Lent.{heldRows}
 use Rattle.stabilizer.specs.Groups.{InGroup}
-use Rattle.used.proofs.LeftRecords.{used-left}
-use Rattle.used.proofs.UsedPassing.{in-place-counted, used-passes, used-step, with-used-passes}
-use Rattle.used.specs.Used.{UsedRecord, namesUsed, usedArgumentsOf, usedLinesOf, usedStep}
-use Rattle.used.specs.internal.UsedLaws.{UsedLeft}
+use Rattle.operations.proofs.LeftRecords.{used-left}
+use Rattle.operations.proofs.UsedPassing.{in-place-counted, used-passes, used-step, with-used-passes}
+use Rattle.operations.specs.Used.{UsedRecord, namesUsed, usedArgumentsOf, usedLinesOf, usedStep}
+use Rattle.operations.specs.internal.UsedLaws.{UsedLeft}
 use Rattle.words.specs.Bits.{isOdd}
 use Rattle.claims.proofs.Contradictions.{contradicted-by-group}
 use Rattle.claims.proofs.JobSteps.{HasGroup, operation-stands}

@@ -9,7 +9,7 @@ use lib.ListN.{getD, length}
 use borrow.Author.Tests.{leb-false, lt-leb}
 use Rattle.buffers.proofs.Lines.{Numbered, more-accepted, none-fits, none-of-all, not-held, passed}
 use Rattle.buffers.specs.Refusals.{Refusal, firstFitting, line, otherThan, reaching}
-use Rattle.contracts.proofs.Fitting.{none-fits-of, none-holds}
+use Rattle.buffers.proofs.Fitting.{none-fits-of, none-holds}
 use Rattle.record.proofs.AcceptedRecords.{accepted-passes, accepted-record}
 use Rattle.record.proofs.RecordLines.{record-numbered}
 use Rattle.record.specs.Accepted.{AcceptedRecord}

@@ -22,7 +22,7 @@ use Rattle.stabilizer.proofs.NumbersTrue.{list-numbers}
 use Rattle.stabilizer.proofs.Verdicts.{clashing-pair, dependent-not}
 use Rattle.stabilizer.specs.Groups.{InGroup, SameGroup}
 use Rattle.stabilizer.specs.Lists.{rows}
-use Rattle.used.proofs.UsedPassing.{unused-passes}
+use Rattle.operations.proofs.UsedPassing.{unused-passes}
 use Rattle.words.specs.Bits.{Word, _⊕_}
 use Rattle.claims.proofs.SecondDemandLists.{expansion-brings-back, holds-reduced, reduction-keeps-group}
 use Rattle.claims.proofs.TakenRecords.{taken-by-all}

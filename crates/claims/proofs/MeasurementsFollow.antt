@@ -37,7 +37,7 @@ use Rattle.record.specs.Reduced.{reduced}
 use Rattle.stabilizer.specs.Groups.{InGroup, Proper, SameGroup}
 use Rattle.calls.proofs.InPlaceLines.{held-accepted, measure-ready, six-passes}
 use Rattle.calls.proofs.MeasureLines.{measure-passes}
-use Rattle.contracts.specs.Calls.{Call}
+use Rattle.buffers.specs.Calls.{Call}
 use Rattle.calls.specs.InPlace.{measureCall}
 use Rattle.words.proofs.BitLaws.{digit-odd, isOdd-digit, odd-digit}
 use Rattle.words.proofs.Flags.{neither}

@@ -19,7 +19,7 @@ use Rattle.store.proofs.PassingStores.{store-passes}
 use Rattle.store.specs.Kept.{forgotten, saved}
 use Rattle.store.specs.Places.{found, lookup, nothing}
 use Rattle.store.specs.StoreLines.{namedLines, saveLines, storeLines}
-use Rattle.used.specs.Used.{UsedRecord}
+use Rattle.operations.specs.Used.{UsedRecord}
 use Rattle.words.specs.Search.{some}
 use Rattle.claims.proofs.JobsStand.{step-stands}
 use Rattle.claims.proofs.StoreDemandHolds.{name-held, named-passing, place-there, record-passes, save-passing}

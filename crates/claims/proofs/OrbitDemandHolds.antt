@@ -13,9 +13,9 @@ use Rattle.buffers.specs.Refusals.{firstFitting}
 use Rattle.calls.proofs.AcceptedGraphs.{AcceptedGraph, accepted-graph, simple-graph}
 use Rattle.calls.specs.Orbits.{orbitCall, orbitLines, orbitOf}
 use Rattle.calls.specs.Comparisons.{compareCall}
-use Rattle.contracts.specs.Calls.{Call}
-use Rattle.graph.specs.Graph.{Simple}
-use Rattle.graph.specs.NeighbourWords.{graphIn}
+use Rattle.buffers.specs.Calls.{Call}
+use Rattle.record.specs.Graph.{Simple}
+use Rattle.record.specs.NeighbourWords.{graphIn}
 use Rattle.orbits.proofs.OrbitLaws.{orbit-exactly, orbit-length, orbit-reached, orbit-rises, rises-once}
 use Rattle.orbits.specs.Numbers.{graphAt, graphCount, graphNumber}
 use Rattle.orbits.specs.Orbits.{On, Reached, Rising}

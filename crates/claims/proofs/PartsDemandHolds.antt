@@ -14,8 +14,8 @@ use Rattle.comparison.proofs.ChoicesByParts.{on-groups, works-by-parts}
 use Rattle.comparison.specs.Choices.{noChoice}
 use Rattle.comparison.specs.Compared.{hasLargePart, pairLines}
 use Rattle.comparison.specs.PartChoices.{CarriesOn}
-use Rattle.parts.proofs.SameParts.{carried-parts}
-use Rattle.parts.specs.Parts.{partAbove, partOf}
+use Rattle.comparison.proofs.SameParts.{carried-parts}
+use Rattle.comparison.specs.Parts.{partAbove, partOf}
 use Rattle.pauli.specs.Pauli.{Pauli}
 use Rattle.record.proofs.ReducedRecords.{reduced-is, same-group}
 use Rattle.record.specs.Records.{rowsOf}

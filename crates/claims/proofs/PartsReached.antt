@@ -9,10 +9,10 @@ use lib.Dec.{eqb}
 use borrow.Author.Tests.{eq-eqb, eqb-true, not-false, not-true}
 use Rattle.cut.proofs.Counting.{count-except, count-ext, except}
 use Rattle.cut.specs.Kernel.{count}
-use Rattle.graph.specs.Graph.{Graph}
-use Rattle.parts.proofs.PartLaws.{closed-is, part-within, path-in-part}
-use Rattle.parts.specs.internal.Parts.{Closed}
-use Rattle.parts.specs.Parts.{Path, along, isClosed, here}
+use Rattle.record.specs.Graph.{Graph}
+use Rattle.comparison.proofs.PartLaws.{closed-is, part-within, path-in-part}
+use Rattle.comparison.specs.internal.Parts.{Closed}
+use Rattle.comparison.specs.Parts.{Path, along, isClosed, here}
 use Rattle.words.proofs.Finite.{bits}
 use Rattle.words.proofs.Flags.{both-true, either, neither}
 use Rattle.words.proofs.SearchLaws.{every-in, first-is}

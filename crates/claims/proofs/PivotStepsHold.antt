@@ -10,7 +10,7 @@ use borrow.Author.Tests.{eq-eqb, eqb-true, not-false}
 use Rattle.buffers.proofs.Lines.{first-below}
 use Rattle.buffers.specs.Refusals.{firstFitting, withTest}
 use Rattle.calls.specs.InPlace.{usedCall}
-use Rattle.contracts.specs.Calls.{Call}
+use Rattle.buffers.specs.Calls.{Call}
 use Rattle.jobs.proofs.Numbers.{
   accepted-leaves,
   accepted-number,
@@ -27,13 +27,13 @@ use Rattle.record.proofs.Unique.{record-path}
 use Rattle.record.proofs.WrittenRecords.{writtenRecord}
 use Rattle.record.specs.Lent.{heldRecord}
 use Rattle.record.specs.Records.{complementRecord}
-use Rattle.used.proofs.AcceptedSteps.{after-made}
-use Rattle.used.proofs.LeftRecords.{used-left}
-use Rattle.used.proofs.UsedPassing.{used-step}
-use Rattle.used.proofs.UsedRefusing.{edge-unused, pivot-never}
-use Rattle.used.specs.Used.{UsedRecord, usedLines, usedLinesOf, usedStep}
-use Rattle.used.specs.UsedLaws.{UsedStay}
-use Rattle.used.specs.internal.UsedLaws.{UsedLeft}
+use Rattle.operations.proofs.AcceptedSteps.{after-made}
+use Rattle.operations.proofs.LeftRecords.{used-left}
+use Rattle.operations.proofs.UsedPassing.{used-step}
+use Rattle.operations.proofs.UsedRefusing.{edge-unused, pivot-never}
+use Rattle.operations.specs.Used.{UsedRecord, usedLines, usedLinesOf, usedStep}
+use Rattle.operations.specs.UsedLaws.{UsedStay}
+use Rattle.operations.specs.internal.UsedLaws.{UsedLeft}
 use Rattle.words.proofs.Flags.{neither}
 use Rattle.words.specs.Bits.{bit}
 use Rattle.claims.proofs.CutDemandHolds.{rewritten-ranks}

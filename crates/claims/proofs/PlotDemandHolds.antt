@@ -1,4 +1,4 @@
--- What the program `amplitudes` prints for a text, from what `reply` of plot_reply ensures of it.
+-- What the program `amplitudes` prints for a text, from what `reply` of jobs_replies ensures of it.
 use mathlib.Core.Bool.{cond, false}
 use mathlib.Core.List.{List}
 use mathlib.Core.Path.{_∙_, _≡_, ap}
@@ -13,7 +13,7 @@ use Rattle.calls.specs.Lists.{checkLines}
 use Rattle.cut.specs.Rank.{rank}
 use Rattle.calls.proofs.PlotLines.{many-refused, same-number}
 use Rattle.calls.specs.PlotAnswers.{plotAnswer}
-use Rattle.plot_text.specs.Table.{tableText}
+use Rattle.jobs.specs.Table.{tableText}
 use Rattle.record.specs.Reduced.{xWords}
 use Rattle.stabilizer.proofs.Accepted.{AcceptedList, accepted-list}
 use Rattle.stabilizer.specs.Lists.{GeneratorList, rows}

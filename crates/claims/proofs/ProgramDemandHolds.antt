@@ -1,4 +1,4 @@
--- What the programs print for a text, from what `reply` of list_reply and of job_reply ensures of it.
+-- What the programs print for a text, from what `reply` of text_replies and of jobs_replies ensures of it.
 use mathlib.Core.Bool.{cond, false, or-true, true, _||_}
 use mathlib.Core.List.{List, [], _∷_}
 use mathlib.Core.Logic.{_⊎_, ⊎-elim}
@@ -11,8 +11,8 @@ use lib.Seq.{take-append-seam, take-length}
 use borrow.Author.Tests.{eq-eqb, le-ltb, lt-ltb, ne-eqb}
 use Rattle.buffers.proofs.Lines.{fits, none-fits, passed}
 use Rattle.buffers.specs.Refusals.{badCount, firstFitting, line}
-use Rattle.job_text.specs.Answer.{runText, noAnswer, answerText as jobPrinted, resultOf}
-use Rattle.job_text.specs.Lines.{jobLines}
+use Rattle.jobs.specs.Answer.{runText, noAnswer, answerText as jobPrinted, resultOf}
+use Rattle.jobs.specs.JobLines.{jobLines}
 use Rattle.jobs.proofs.Stepwise.{answer-at}
 use Rattle.jobs.specs.GroupsAfter.{GroupAfter, StartGroup}
 use Rattle.jobs.specs.Runs.{recordAfter, run, started}

@@ -8,10 +8,10 @@ use Prim.Native.Nat.{_<_, _≤_, ℕ}
 use lib.Dec.{eqb, lit<}
 use Rattle.clifford.proofs.VectorLaws.{act-id}
 use Rattle.clifford.specs.Clifford.{Clifford, cliffordOf}
-use Rattle.graph.proofs.Complement.{complement-simple}
-use Rattle.graph.specs.Graph.{Graph, Simple, complement, graphGenerator}
-use Rattle.graph_steps.proofs.ReducedForms.{form-reduced}
-use Rattle.graph_steps.specs.internal.ReducedForms.{ReducedForm}
+use Rattle.record.proofs.Complement.{complement-simple}
+use Rattle.record.specs.Graph.{Graph, Simple, complement, graphGenerator}
+use Rattle.operations.proofs.ReducedForms.{form-reduced}
+use Rattle.operations.specs.internal.ReducedForms.{ReducedForm}
 use Rattle.operations.proofs.GroupAlone.{reduced-of-group}
 use Rattle.orbits.proofs.Complements.{complement-twice}
 use Rattle.orbits.proofs.OrbitLaws.{reached-simple}

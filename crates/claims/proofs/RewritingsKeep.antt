@@ -7,9 +7,9 @@ use lib.Dec.{eqb, leb}
 use lib.ListN.{List·getD-eq-default}
 use borrow.Author.Tests.{leb-false}
 use Rattle.clifford.specs.Clifford.{cliffordOf, identityClifford}
-use Rattle.contracts.specs.Calls.{Call}
-use Rattle.graph.proofs.Complement.{complement-simple}
-use Rattle.graph.specs.Graph.{Simple}
+use Rattle.buffers.specs.Calls.{Call}
+use Rattle.record.proofs.Complement.{complement-simple}
+use Rattle.record.specs.Graph.{Simple}
 use Rattle.jobs.specs.Standing.{left}
 use Rattle.operations.proofs.Rewriting.{pivot-same, pivot-simple}
 use Rattle.operations.proofs.UnrefusedRecords.{complement-above}
@@ -25,7 +25,7 @@ use Rattle.stabilizer.specs.Groups.{SameGroup}
 use Rattle.calls.proofs.InPlaceCalls.{left-by-call, marked-by-call}
 use Rattle.calls.proofs.InPlaceLines.{complement-ready, eight-passes, held-accepted}
 use Rattle.calls.specs.InPlace.{inPlaceCall, usedCall, usedMeasureCall}
-use Rattle.used.specs.Used.{UsedRecord, usedAfter, usedStep}
+use Rattle.operations.specs.Used.{UsedRecord, usedAfter, usedStep}
 use Rattle.words.proofs.Flags.{neither}
 use Rattle.claims.proofs.GatesFollow.{holds-new}
 use Rattle.claims.specs.OperationsDemand.{ComplementsKeep, RewrittenAs, SecondAboutFirst, SecondAboutMeasured}

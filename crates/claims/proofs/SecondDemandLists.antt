@@ -20,11 +20,11 @@ use Rattle.record.specs.Reduced.{reduced}
 use Rattle.stabilizer.proofs.Accepted.{AcceptedList, accepted-list}
 use Rattle.stabilizer.specs.Groups.{Proper, SameGroup}
 use Rattle.stabilizer.specs.Lists.{GeneratorList, rows}
-use Rattle.contracts.specs.Calls.{Call}
+use Rattle.buffers.specs.Calls.{Call}
 use Rattle.calls.specs.Expansions.{expandCall}
 use Rattle.calls.specs.Lists.{reduceCall}
-use Rattle.used.proofs.UsedPassing.{lines-pass}
-use Rattle.used.specs.Used.{UsedRecord}
+use Rattle.operations.proofs.UsedPassing.{lines-pass}
+use Rattle.operations.specs.Used.{UsedRecord}
 use Rattle.claims.specs.SecondDemand.{
   BroughtBack,
   EqualExactly,

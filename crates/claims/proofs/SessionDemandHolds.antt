@@ -8,7 +8,7 @@ use Prim.Native.Nat.{_<_, ℕ}
 use Rattle.buffers.specs.Refusals.{firstFitting}
 use Rattle.clifford.specs.Clifford.{Clifford, cliffordOf}
 use Rattle.clifford.specs.Vectors.{act}
-use Rattle.contracts.specs.Calls.{Call}
+use Rattle.buffers.specs.Calls.{Call}
 use Rattle.calls.specs.Expansions.{expandCall}
 use Rattle.calls.specs.Lists.{reduceCall}
 use Rattle.operations.proofs.CzGroups.{cz-proper}
@@ -40,7 +40,7 @@ use Rattle.stabilizer.proofs.ReadBack.{back-passes, back-same, rows-back}
 use Rattle.stabilizer.proofs.SharedTests.{length-passes}
 use Rattle.stabilizer.specs.Groups.{Proper, SameGroup}
 use Rattle.stabilizer.specs.Lists.{listLines, rows}
-use Rattle.used.specs.Used.{UsedRecord}
+use Rattle.operations.specs.Used.{UsedRecord}
 use Rattle.words.specs.Bits.{isOdd}
 use Rattle.claims.proofs.LinesExactly.{three-fit}
 use Rattle.claims.proofs.SecondDemandLists.{holds-expanded}

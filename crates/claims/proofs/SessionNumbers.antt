@@ -10,7 +10,7 @@ use lib.Dec.{eqb, leb}
 use borrow.Author.Tests.{lt-leb, ne-eqb}
 use Rattle.buffers.proofs.Lines.{more-refused}
 use Rattle.buffers.specs.Refusals.{Refusal, firstFitting, line, withTest}
-use Rattle.contracts.specs.Calls.{Call}
+use Rattle.buffers.specs.Calls.{Call}
 use Rattle.calls.specs.Expansions.{expandCall, expandLines}
 use Rattle.operations.specs.Measurement.{contradicts, pauliLetter, single}
 use Rattle.operations.specs.Steps.{inPlaceLines}
@@ -22,7 +22,7 @@ use Rattle.record.specs.Lent.{heldRows, recordLines}
 use Rattle.stabilizer.proofs.EqualRows.{product-equal}
 use Rattle.stabilizer.specs.Lists.{rows}
 use Rattle.stabilizer.specs.Membership.{equalBelow, member}
-use Rattle.used.specs.Used.{UsedRecord, usedLines, usedStray, usedWrong, withUsed}
+use Rattle.operations.specs.Used.{UsedRecord, usedLines, usedStray, usedWrong, withUsed}
 use Rattle.words.specs.Bits.{_⊕_, bit, isOdd}
 use Rattle.words.specs.Search.{some}
 use Rattle.claims.proofs.LinesExactly.{three-fit}

@@ -8,7 +8,7 @@ use native.Mathlib.Omega.{arith}
 use borrow.Author.Tests.{eq-eqb, ne-eqb}
 use Rattle.buffers.specs.Buffers.{acceptedNumber}
 use Rattle.buffers.specs.Refusals.{firstFitting}
-use Rattle.job_text.specs.Answer.{resultOf}
+use Rattle.jobs.specs.Answer.{resultOf}
 use Rattle.jobs.proofs.Numbers.{accepted-number}
 use Rattle.jobs.specs.Asked.{asked, numberOf}
 use Rattle.jobs.specs.GroupsAfter.{Group, Refused}
@@ -29,8 +29,8 @@ use Rattle.operations.specs.Steps.{
 use Rattle.operations.specs.declared.Outcome.{Outcome}
 use Rattle.operations.specs.declared.Outcome.the-variants.{Chosen, Determined}
 use Rattle.record.specs.Lent.{LentRecord}
-use Rattle.used.proofs.UsedPassing.{used-step}
-use Rattle.used.specs.Used.{UsedRecord}
+use Rattle.operations.proofs.UsedPassing.{used-step}
+use Rattle.operations.specs.Used.{UsedRecord}
 use Rattle.claims.proofs.JobSteps.{HasGroup, answer-stands}
 use Rattle.claims.proofs.JobsStand.{has-group, refused-exactly}
 use Rattle.claims.specs.ProgramDemand.{Determines, LineSays, OutcomeIs}

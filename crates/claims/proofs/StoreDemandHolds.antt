@@ -22,7 +22,7 @@ use Rattle.store.specs.Kept.{forgotten, forgottenHeads, savePlace, saved}
 use Rattle.store.specs.Places.{Store, found, hasName, holdsName, isHeld, nameAt, othersHeld, placeOf}
 use Rattle.store.specs.StoreLines.{holdsLine, namedLines, ofRecord, recordTests, saveLines, storeLines}
 use Rattle.store.specs.internal.Passing.{Passing}
-use Rattle.used.specs.Used.{UsedRecord, usedLines}
+use Rattle.operations.specs.Used.{UsedRecord, usedLines}
 use Rattle.words.proofs.SearchLaws.{every-at, some-true}
 use Rattle.words.proofs.Sums.{lt-or-ge}
 use Rattle.claims.specs.StoreDemand.{ForgetKeeps, ForgetsKeep, ReturnsGive, SaveKeeps, SavesKeep, storeOf}

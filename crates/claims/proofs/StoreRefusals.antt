@@ -5,12 +5,12 @@ use Prim.Native.Nat.{ℕ}
 use native.Mathlib.Omega.{arith}
 use borrow.Author.Tests.{not-true}
 use Rattle.buffers.specs.Refusals.{firstFitting}
-use Rattle.contracts.proofs.Fitting.{decides, fits-at, is-first, none-fits-of, skips}
-use Rattle.contracts.specs.Answers.{here}
+use Rattle.buffers.proofs.Fitting.{decides, fits-at, is-first, none-fits-of, skips}
+use Rattle.buffers.specs.Answers.{here}
 use Rattle.store.proofs.Lookups.{found-nowhere}
 use Rattle.store.specs.Places.{Store, found, holdsName, nothing, placeAt, placeOf}
 use Rattle.store.specs.StoreLines.{holdsLine, namedLines, ofRecord, recordTests, saveLines, storeLines}
-use Rattle.used.specs.Used.{UsedRecord}
+use Rattle.operations.specs.Used.{UsedRecord}
 use Rattle.claims.specs.StoreDemand.{FullStore, NotHeld}
 
 nothing-held : (st : Store) (name : ℕ) (b : Bool)

@@ -7,15 +7,15 @@ use lib.ListN.{length}
 use borrow.Author.Tests.{not-true}
 use Rattle.buffers.proofs.Tabulate.{tabulate-length}
 use Rattle.calls.specs.Strings.{readStringsCall, writeStringsCall}
-use Rattle.contracts.proofs.Calling.{written-all}
-use Rattle.contracts.proofs.Fitting.{first-is, fits-at, is-first}
-use Rattle.contracts.specs.Answers.{here}
-use Rattle.contracts.specs.Calls.{Call}
+use Rattle.buffers.proofs.Calling.{written-all}
+use Rattle.buffers.proofs.Fitting.{first-is, fits-at, is-first}
+use Rattle.buffers.specs.Answers.{here}
+use Rattle.buffers.specs.Calls.{Call}
 use Rattle.stabilizer.specs.Lists.{GeneratorList, rows}
-use Rattle.strings.proofs.BackLaws.{buffers, text-back}
-use Rattle.strings.proofs.FormLaws.{form-exactly, form-size}
-use Rattle.strings.specs.Reading.{lineCount, readLines, stringForm, stringList}
-use Rattle.strings.specs.Strings.{HasStringForm, stringsText}
+use Rattle.text.proofs.BackLaws.{buffers, text-back}
+use Rattle.text.proofs.StringsFormLaws.{form-exactly, form-size}
+use Rattle.text.specs.Reading.{lineCount, readLines, stringForm, stringList}
+use Rattle.text.specs.Strings.{HasStringForm, stringsText}
 use Rattle.words.proofs.Flags.{never-true}
 use Rattle.claims.proofs.StringsExactly.{read-form, read-lines, read-list, read-places, text-of, write-lines}
 use Rattle.claims.specs.Arguments.{IsList}

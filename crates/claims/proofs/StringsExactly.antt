@@ -8,14 +8,14 @@ use lib.ListN.{length}
 use borrow.Author.Tests.{not-false}
 use Rattle.buffers.specs.Refusals.{badCount, firstFitting}
 use Rattle.calls.proofs.ListedNumbers.{listed-number}
-use Rattle.contracts.proofs.Fitting.{NoneHolds, none-fits-of, none-holds}
+use Rattle.buffers.proofs.Fitting.{NoneHolds, none-fits-of, none-holds}
 use Rattle.stabilizer.proofs.Accepted.{accepted-list}
 use Rattle.stabilizer.proofs.SharedTests.{has-length, length-passes}
 use Rattle.stabilizer.specs.Lists.{GeneratorList, listLines, rows}
-use Rattle.strings.proofs.BackLaws.{list-back, text-back}
-use Rattle.strings.proofs.FormLaws.{text-form}
-use Rattle.strings.specs.Reading.{byteAt, judgedLines, lineCount, readLines, rowOf, stringForm, stringList, writeLines}
-use Rattle.strings.specs.Strings.{stringsText, textSize}
+use Rattle.text.proofs.BackLaws.{list-back, text-back}
+use Rattle.text.proofs.StringsFormLaws.{text-form}
+use Rattle.text.specs.Reading.{byteAt, judgedLines, lineCount, readLines, rowOf, stringForm, stringList, writeLines}
+use Rattle.text.specs.Strings.{stringsText, textSize}
 use Rattle.claims.proofs.LinesExactly.{list-exactly, three-fit}
 use Rattle.claims.specs.Arguments.{IsList}
 use Rattle.claims.specs.families.Lists.{ReadStringsFits, WriteStringsFits}

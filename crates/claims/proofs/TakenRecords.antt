@@ -7,11 +7,11 @@ use native.Mathlib.Decide.{ℕ-discrete}
 use Rattle.buffers.specs.Refusals.{firstFitting}
 use Rattle.calls.proofs.MeasureLines.{fourteen-exactly}
 use Rattle.calls.proofs.UsedInPlace.{plain}
-use Rattle.contracts.proofs.Fitting.{decides}
-use Rattle.contracts.specs.Answers.{later, none}
+use Rattle.buffers.proofs.Fitting.{decides}
+use Rattle.buffers.specs.Answers.{later, none}
 use Rattle.operations.specs.Steps.{argumentLines, measurementOf}
-use Rattle.used.proofs.UsedPassing.{in-place-counted, with-used-passes}
-use Rattle.used.specs.Used.{UsedRecord, namesUsed, usedArgumentsOf, usedLinesOf}
+use Rattle.operations.proofs.UsedPassing.{in-place-counted, with-used-passes}
+use Rattle.operations.specs.Used.{UsedRecord, namesUsed, usedArgumentsOf, usedLinesOf}
 use Rattle.claims.proofs.families.Amplitudes.{amplitudes-accepted}
 use Rattle.claims.proofs.families.Expectations.{expectations-accepted}
 use Rattle.claims.proofs.families.Records.{records-accepted}

@@ -19,7 +19,7 @@ use Rattle.comparison.proofs.NumberOrder.{choice-lt}
 use Rattle.comparison.specs.Choices.{LeastChoice, leastCode, leastNumber, noChoice}
 use Rattle.comparison.specs.Compared.{induced, pairLines}
 use Rattle.cut.proofs.Counting.{count-upto}
-use Rattle.graph.specs.Graph.{Simple}
+use Rattle.record.specs.Graph.{Simple}
 use Rattle.image.proofs.Exactly.{same-leads}
 use Rattle.image.proofs.TrackedBits.{image-length}
 use Rattle.image.specs.Rule.{imageList}
@@ -30,7 +30,7 @@ use Rattle.record.specs.Reduced.{reducedGraph}
 use Rattle.stabilizer.specs.Carries.{Carries}
 use Rattle.stabilizer.specs.Groups.{Proper}
 use Rattle.stabilizer.specs.Lists.{GeneratorList, rows}
-use Rattle.contracts.proofs.Calling.{written-all}
+use Rattle.buffers.proofs.Calling.{written-all}
 use Rattle.calls.proofs.PairLines.{pair-numbered}
 use Rattle.comparison.proofs.LeastCodes.{least-held}
 use Rattle.comparison.specs.ComparedPairs.{compareList, inducedRecord}

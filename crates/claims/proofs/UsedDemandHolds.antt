@@ -9,18 +9,18 @@ use Rattle.buffers.specs.Refusals.{firstFitting}
 use Rattle.calls.proofs.InPlaceCalls.{measured-without, without-used}
 use Rattle.calls.specs.InPlace.{usedCall}
 use Rattle.calls.specs.Lists.{reduceCall, reduceUnusedCall}
-use Rattle.contracts.specs.Calls.{Call}
+use Rattle.buffers.specs.Calls.{Call}
 use Rattle.operations.specs.Steps.{Operation, complementOf, czOn, gateWith, measurementOf, pivotOf}
 use Rattle.record.proofs.WrittenRecords.{reduced-passes}
 use Rattle.record.specs.Lent.{recordLines}
 use Rattle.stabilizer.proofs.Accepted.{AcceptedList, accepted-list}
 use Rattle.stabilizer.specs.Lists.{GeneratorList, rows}
-use Rattle.used.proofs.LeftRecords.{marks-measured, used-left}
-use Rattle.used.proofs.UsedPassing.{unused-number, unused-passes}
-use Rattle.used.proofs.UsedRefusing.{used-refused}
-use Rattle.used.specs.Used.{UsedRecord, usedAfter, usedLines, usedStep}
-use Rattle.used.specs.internal.UsedLaws.{MeasuredMarks, UsedLeft}
-use Rattle.used.specs.UsedLaws.{UsedStay}
+use Rattle.operations.proofs.LeftRecords.{marks-measured, used-left}
+use Rattle.operations.proofs.UsedPassing.{unused-number, unused-passes}
+use Rattle.operations.proofs.UsedRefusing.{used-refused}
+use Rattle.operations.specs.Used.{UsedRecord, usedAfter, usedLines, usedStep}
+use Rattle.operations.specs.internal.UsedLaws.{MeasuredMarks, UsedLeft}
+use Rattle.operations.specs.UsedLaws.{UsedStay}
 use Rattle.words.specs.Bits.{bit}
 use Rattle.claims.proofs.RewritingsKeep.{is-after}
 use Rattle.claims.proofs.SecondDemandLists.{holds-reduced}

@@ -8,11 +8,11 @@ use borrow.Author.Tests.{leb-false, lt-leb}
 use Rattle.buffers.specs.Refusals.{firstFitting}
 use Rattle.operations.specs.Steps.{complementOf, czOn, gateWith, measurementOf, pivotOf}
 use Rattle.record.specs.Accepted.{AcceptedRecord}
-use Rattle.used.proofs.LeftRecords.{all-good}
-use Rattle.used.proofs.UsedPassing.{lines-pass, used-passes}
-use Rattle.used.proofs.UsedRefusing.{edge-unused}
-use Rattle.used.proofs.UsedStaying.{used-code, used-low, used-word}
-use Rattle.used.specs.Used.{UsedRecord, usedCode, usedLines, usedLinesOf, usedStray, usedWrong}
+use Rattle.operations.proofs.LeftRecords.{all-good}
+use Rattle.operations.proofs.UsedPassing.{lines-pass, used-passes}
+use Rattle.operations.proofs.UsedRefusing.{edge-unused}
+use Rattle.operations.proofs.UsedStaying.{used-code, used-low, used-word}
+use Rattle.operations.specs.Used.{UsedRecord, usedCode, usedLines, usedLinesOf, usedStray, usedWrong}
 use Rattle.words.proofs.Flags.{neither}
 use Rattle.words.specs.Bits.{bit}
 use Rattle.claims.proofs.InPlaceExactly.{

@@ -5,13 +5,13 @@ use Prim.Native.Nat.{_%_, _+_, _/_, ℕ}
 use lib.ListN.{length, take}
 use Rattle.calls.specs.InPlace.{usedCall, usedMeasureCall}
 use Rattle.calls.specs.Stores.{forgetCall, returnCall, saveCall}
-use Rattle.contracts.specs.Calls.{Call}
+use Rattle.buffers.specs.Calls.{Call}
 use Rattle.jobs.specs.declared.Op.{Op}
 use Rattle.jobs.specs.declared.Op.the-variants.{Complement, Cz, Gate, Measure}
 use Rattle.jobs.specs.declared.Step.{Step}
 use Rattle.operations.specs.Steps.{complementOf, czOn, gateWith}
 use Rattle.store.specs.Places.{Store}
-use Rattle.used.specs.Used.{UsedRecord}
+use Rattle.operations.specs.Used.{UsedRecord}
 use Rattle.claims.specs.StoreDemand.{Session, afterAction, does, forgets, returns, saves, storeOf}
 use Rattle.claims.specs.UsedDemand.{leftUsed}
 

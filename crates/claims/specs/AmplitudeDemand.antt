@@ -18,12 +18,12 @@ use Rattle.amplitude.specs.Vectors.{
   none,
 }
 use Rattle.calls.specs.Amplitudes.{amplitudeCall}
-use Rattle.contracts.specs.Calls.{Call}
+use Rattle.buffers.specs.Calls.{Call}
 use Rattle.cut.specs.Rank.{rank}
 use Rattle.pauli.specs.Pauli.{Pauli}
 use Rattle.record.specs.Lent.{heldRows}
 use Rattle.record.specs.Reduced.{xWords}
-use Rattle.used.specs.Used.{UsedRecord}
+use Rattle.operations.specs.Used.{UsedRecord}
 
 -- the vector of the answers is fixed by every element of the group, and every vector that is so is a multiple of it;
 -- "the smallest word with a nonzero amplitude"; "A group element whose x part leads from that word to y fixes the ratio";

@@ -8,7 +8,7 @@ use lib.ListN.{getD, length}
 use Rattle.record.specs.Accepted.{AcceptedRecord}
 use Rattle.stabilizer.specs.Groups.{Proper}
 use Rattle.stabilizer.specs.Lists.{GeneratorList, rows}
-use Rattle.used.specs.Used.{UsedRecord}
+use Rattle.operations.specs.Used.{UsedRecord}
 use Rattle.words.specs.Bits.{bit}
 
 -- rows: 1 to 64 qubits, n places in each buffer, signs 0 and 1, no bit at or above n

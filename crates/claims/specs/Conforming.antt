@@ -7,8 +7,8 @@ use Prim.Native.Nat.{ℕ}
 use lib.Dec.{eqb}
 use lib.ListN.{length}
 use Rattle.buffers.specs.Refusals.{firstFitting, Refusal}
-use Rattle.contracts.specs.Answers.{Answers}
-use Rattle.contracts.specs.Calls.{buffer, Call, Contract, EachOf, float, Lent, number}
+use Rattle.buffers.specs.Answers.{Answers}
+use Rattle.buffers.specs.Calls.{buffer, Call, Contract, EachOf, float, Lent, number}
 
 -- "the published list": the numbers in checking order; a call tests some of them, in that order. 14 is "checked after
 -- 10" (02, §4), and so is 3 (02, §9), 15 "directly after 1 and so before 2" (02, §5), 16 "directly after 8" (02, §8);

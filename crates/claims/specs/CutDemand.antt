@@ -5,7 +5,7 @@
 use mathlib.Core.List.{List}
 use mathlib.Core.Path.{_≡_}
 use Prim.Native.Nat.{_*_, _-_, _^_, ℕ}
-use Rattle.contracts.specs.Calls.{Call}
+use Rattle.buffers.specs.Calls.{Call}
 use Rattle.cut.specs.Cut.{crossing, cutRank}
 use Rattle.cut.specs.Kernel.{kernelSize}
 use Rattle.calls.specs.Cuts.{cutCall}
@@ -13,7 +13,7 @@ use Rattle.jobs.specs.Standing.{left}
 use Rattle.operations.specs.Steps.{complementOf, czOn, gateWith}
 use Rattle.record.specs.Lent.{LentRecord, heldRecord}
 use Rattle.calls.specs.InPlace.{inPlaceCall}
-use Rattle.used.specs.Used.{UsedRecord}
+use Rattle.operations.specs.Used.{UsedRecord}
 use Rattle.words.specs.Bits.{Word, bit}
 
 -- the rank across a cut of the graph that a lent record holds

@@ -11,7 +11,7 @@ use Rattle.calls.specs.InPlace.{inPlaceCall, usedMeasureCall}
 use Rattle.calls.specs.Lists.{reduceUnusedCall}
 use Rattle.clifford.specs.Clifford.{cliffordOf}
 use Rattle.clifford.specs.Vectors.{act, only}
-use Rattle.contracts.specs.Calls.{Call, Contract}
+use Rattle.buffers.specs.Calls.{Call, Contract}
 use Rattle.expectation.specs.Values.{exchanged, stabilizerValue}
 use Rattle.jobs.specs.Asked.{numberOf}
 use Rattle.jobs.specs.Runs.{afterStep}
@@ -23,7 +23,7 @@ use Rattle.pauli.specs.Pauli.{Pauli, anticommute, imaginary, signedRow, xBit, z
 use Rattle.record.specs.Lent.{LentRecord, heldRows}
 use Rattle.stabilizer.specs.Groups.{InGroup, Within}
 use Rattle.stabilizer.specs.Lists.{GeneratorList, rows}
-use Rattle.used.specs.Used.{UsedRecord}
+use Rattle.operations.specs.Used.{UsedRecord}
 use Rattle.words.specs.Bits.{digit, isOdd}
 use Rattle.claims.specs.PivotSteps.{pivotStep}
 

@@ -4,11 +4,11 @@ use mathlib.Core.List.{List}
 use mathlib.Core.Path.{_≡_}
 use Prim.Native.Nat.{ℕ, _≤_}
 use lib.ListN.{drop, length, take}
-use Rattle.contracts.specs.Calls.{Call}
+use Rattle.buffers.specs.Calls.{Call}
 use Rattle.calls.specs.Generation.{generateCall}
-use Rattle.generator.specs.Drawn.{drawn}
-use Rattle.generator.specs.ReadBack.{ReadsBack}
-use Rattle.generator.specs.Shapes.{AllDrawable}
+use Rattle.jobs.specs.Drawn.{drawn}
+use Rattle.jobs.specs.ReadBack.{ReadsBack}
+use Rattle.jobs.specs.Shapes.{AllDrawable}
 
 -- what an accepted call of the generator writes
 pub record JobGenerated (n count seed : ℕ) (text text′ : List ℕ) (size′ : ℕ) : Type 0 where

@@ -7,14 +7,14 @@ use Prim.Native.Nat.{_*_, _/_, _<_, ℕ, _≤_}
 use lib.Dec.{eqb}
 use lib.ListN.{drop, getD, length, take}
 use Rattle.buffers.specs.Refusals.{firstFitting, otherThan}
-use Rattle.graph.specs.Graph.{Simple, graphGenerator}
-use Rattle.graph.specs.NeighbourWords.{graphIn}
+use Rattle.record.specs.Graph.{Simple, graphGenerator}
+use Rattle.record.specs.NeighbourWords.{graphIn}
 use Rattle.image.specs.Image.{UnsignedGraph}
 use Rattle.image.specs.Rule.{imageList}
 use Rattle.pauli.specs.Pauli.{Pauli, minus, scaled}
 use Rattle.record.specs.Lent.{LentRecord, heldRecord, heldRows, recordLines}
 use Rattle.stabilizer.specs.Groups.{SameGroup}
-use Rattle.contracts.specs.Calls.{Call}
+use Rattle.buffers.specs.Calls.{Call}
 use Rattle.calls.specs.Images.{imageCall}
 use Rattle.claims.specs.ThirdDemand.{complementEach}
 

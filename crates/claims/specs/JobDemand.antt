@@ -10,7 +10,7 @@ use Rattle.jobs.specs.GroupsAfter.{Group, GroupAfter, Refused, StartGroup}
 use Rattle.jobs.specs.Runs.{recordAfter, run, started}
 use Rattle.jobs.specs.Standing.{StandsFor}
 use Rattle.jobs.specs.declared.Step.{Step}
-use Rattle.used.specs.Used.{UsedRecord}
+use Rattle.operations.specs.Used.{UsedRecord}
 
 -- of every job, after any number of its steps
 abbrev pub JobsStand : Type 0

@@ -6,8 +6,8 @@ use mathlib.Core.Path.{_≡_}
 use Prim.Native.Nat.{_<_, ℕ}
 use lib.Dec.{eqb}
 use Rattle.clifford.specs.Vectors.{act}
-use Rattle.contracts.specs.Calls.{Call}
-use Rattle.graph.specs.Graph.{Graph, Simple}
+use Rattle.buffers.specs.Calls.{Call}
+use Rattle.record.specs.Graph.{Graph, Simple}
 use Rattle.calls.specs.Expansions.{expandCall}
 use Rattle.calls.specs.Lists.{checkCall, reduceCall}
 use Rattle.jobs.specs.Standing.{StillRecord}
@@ -18,7 +18,7 @@ use Rattle.record.specs.Records.{GraphRecord}
 use Rattle.record.specs.Reduced.{ReductionOf, hadamardWhere, plainCode, withHadamard, xWords}
 use Rattle.stabilizer.specs.Groups.{Generated, InGroup, Independent, SameGroup}
 use Rattle.stabilizer.specs.Lists.{GeneratorList, rows}
-use Rattle.used.specs.Used.{UsedRecord, UsedUnrefused}
+use Rattle.operations.specs.Used.{UsedRecord, UsedUnrefused}
 use Rattle.words.specs.Bits.{Word, _⊕_}
 use Rattle.claims.specs.families.Records.{TakenByAll}
 use Rattle.claims.specs.SecondDemand.{unused}

@@ -10,7 +10,7 @@ use Prim.Native.Nat.{ℕ}
 use Rattle.buffers.specs.Refusals.{firstFitting}
 use Rattle.clifford.specs.Clifford.{cliffordOf}
 use Rattle.clifford.specs.Vectors.{only}
-use Rattle.contracts.specs.Calls.{Call}
+use Rattle.buffers.specs.Calls.{Call}
 use Rattle.jobs.specs.Standing.{StillRecord, left}
 use Rattle.operations.specs.Cz.{IsCz, cz}
 use Rattle.operations.specs.Gates.{gated}
@@ -23,7 +23,7 @@ use Rattle.record.specs.Reduced.{reduced}
 use Rattle.stabilizer.specs.Carries.{Carries}
 use Rattle.stabilizer.specs.Groups.{InGroup, SameGroup}
 use Rattle.calls.specs.InPlace.{inPlaceCall, measureCall, usedCall, usedMeasureCall}
-use Rattle.used.specs.Used.{UsedRecord, usedArgumentsOf, usedStep}
+use Rattle.operations.specs.Used.{UsedRecord, usedArgumentsOf, usedStep}
 use Rattle.words.specs.Bits.{isOdd}
 
 -- "All three answer the reduced record of the new group"

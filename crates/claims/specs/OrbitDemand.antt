@@ -9,9 +9,9 @@ use Rattle.buffers.specs.Refusals.{firstFitting}
 use Rattle.calls.specs.Orbits.{orbitCall, orbitLines}
 use Rattle.clifford.specs.Clifford.{cliffordOf}
 use Rattle.calls.specs.Comparisons.{compareCall}
-use Rattle.contracts.specs.Calls.{Call}
-use Rattle.graph.specs.Graph.{Graph, Simple}
-use Rattle.graph.specs.NeighbourWords.{graphIn}
+use Rattle.buffers.specs.Calls.{Call}
+use Rattle.record.specs.Graph.{Graph, Simple}
+use Rattle.record.specs.NeighbourWords.{graphIn}
 use Rattle.orbits.specs.Numbers.{graphAt, graphCount, graphNumber}
 use Rattle.orbits.specs.Orbits.{On, Reached, Rising}
 use Rattle.record.specs.Records.{GraphRecord, rowsOf}

@@ -10,14 +10,14 @@ use Rattle.clifford.specs.Clifford.{Clifford}
 use Rattle.comparison.specs.Compared.{pairLines}
 use Rattle.comparison.specs.PartChoices.{CarriesOn}
 use Rattle.cut.specs.Kernel.{count}
-use Rattle.graph.specs.Graph.{Graph}
-use Rattle.parts.specs.Parts.{Path, partOf}
+use Rattle.record.specs.Graph.{Graph}
+use Rattle.comparison.specs.Parts.{Path, partOf}
 use Rattle.record.specs.Reduced.{reducedGraph}
 use Rattle.stabilizer.specs.Carries.{Carries}
 use Rattle.stabilizer.specs.Lists.{GeneratorList, rows}
 use Rattle.calls.specs.Lists.{checkLines}
 use Rattle.words.specs.Bits.{Word}
-use Rattle.contracts.specs.Calls.{Call}
+use Rattle.buffers.specs.Calls.{Call}
 use Rattle.calls.specs.Comparisons.{compareCall}
 
 -- the connected part of vertex q in a list's reduced graph

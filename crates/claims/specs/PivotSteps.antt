@@ -7,15 +7,15 @@ use mathlib.Core.Logic.{_↔_, _≢_}
 use mathlib.Core.Path.{_≡_}
 use Prim.Native.Nat.{_<_, ℕ}
 use Rattle.calls.specs.InPlace.{usedCall}
-use Rattle.contracts.specs.Calls.{Call}
+use Rattle.buffers.specs.Calls.{Call}
 use Rattle.jobs.specs.Asked.{numberOf}
 use Rattle.jobs.specs.Runs.{afterStep, answerOf, run}
 use Rattle.jobs.specs.declared.Op.the-variants.{Complement, Pivot}
 use Rattle.jobs.specs.declared.Step.{Step}
 use Rattle.operations.specs.Steps.{complementOf, pivotRecord}
 use Rattle.record.specs.Lent.{heldRecord}
-use Rattle.used.specs.Used.{UsedRecord}
-use Rattle.used.specs.UsedLaws.{UsedStay}
+use Rattle.operations.specs.Used.{UsedRecord}
+use Rattle.operations.specs.UsedLaws.{UsedStay}
 use Rattle.words.specs.Bits.{Word}
 use Rattle.claims.specs.ActionContracts.{stepWith}
 use Rattle.claims.specs.Arguments.{IsRecord}

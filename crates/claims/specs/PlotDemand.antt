@@ -1,4 +1,4 @@
--- What the program `amplitudes` prints for a text, from what fn `reply` of plot_reply ensures of the text that was scanned,
+-- What the program `amplitudes` prints for a text, from what fn `reply` of jobs_replies ensures of the text that was scanned,
 -- whatever text it was. The bytes are those of the buffer up to the place that `reply` answers; the program writes these.
 use mathlib.Core.List.{List}
 use mathlib.Core.Path.{_≡_}
@@ -10,7 +10,7 @@ use Rattle.calls.specs.Lists.{checkLines}
 use Rattle.calls.specs.ListAnswers.{ResponseTo, listRead}
 use Rattle.pauli.specs.Pauli.{Pauli}
 use Rattle.calls.specs.PlotAnswers.{plotAnswer}
-use Rattle.plot_text.specs.Table.{tableText}
+use Rattle.jobs.specs.Table.{tableText}
 use Rattle.stabilizer.specs.Groups.{Proper, SameGroup}
 use Rattle.stabilizer.specs.Lists.{GeneratorList, rows}
 use Rattle.text.specs.Text.{HasForm, ListLine, TextOf, refusedText}

@@ -3,7 +3,7 @@
 use mathlib.Core.Bool.{false, true}
 use mathlib.Core.Path.{_≡_}
 use Prim.Native.Nat.{_<_, _^_, suc, ℕ}
-use Rattle.contracts.specs.Calls.{Call}
+use Rattle.buffers.specs.Calls.{Call}
 use Rattle.pauli.specs.Pauli.{Pauli, identity, mul, power, row}
 use Rattle.calls.specs.Products.{productCall}
 use Rattle.stabilizer.specs.Lists.{GeneratorList, rows}

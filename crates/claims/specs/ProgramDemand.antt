@@ -1,4 +1,4 @@
--- What the programs `reduce` and `job` print for a text, from what fn `reply` of list_reply and of job_reply ensures of
+-- What the programs `reduce` and `job` print for a text, from what fn `reply` of text_replies and of jobs_replies ensures of
 -- the text that was scanned, whatever text it was. The bytes are those of the buffer up to the place that `reply`
 -- answers; the program writes these.
 use mathlib.Core.List.{List}
@@ -7,9 +7,9 @@ use mathlib.Core.Path.{_≡_}
 use Prim.Native.Nat.{_<_, ℕ, _≤_}
 use lib.ListN.{getD, length, take}
 use Rattle.buffers.specs.Refusals.{firstFitting}
-use Rattle.job_text.specs.Answer.{ResponseTo as JobResponse, resultsOf}
-use Rattle.job_text.specs.Results.{Result, jobAnswer}
-use Rattle.job_text.specs.Text.{HasJobForm, JobTextOf}
+use Rattle.jobs.specs.Answer.{ResponseTo as JobResponse, resultsOf}
+use Rattle.jobs.specs.Results.{Result, jobAnswer}
+use Rattle.jobs.specs.Text.{HasJobForm, JobTextOf}
 use Rattle.jobs.specs.Asked.{asked, numberOf}
 use Rattle.jobs.specs.GroupsAfter.{Group, GroupAfter, GroupDetermines, Refused, StartGroup}
 use Rattle.jobs.specs.Runs.{recordAfter, run, started}
@@ -25,7 +25,7 @@ use Rattle.record.specs.Reduced.{reduced}
 use Rattle.stabilizer.specs.Groups.{SameGroup}
 use Rattle.stabilizer.specs.Lists.{GeneratorList, rows}
 use Rattle.text.specs.Text.{HasForm, ListLine, TextOf, recordText, refusedText}
-use Rattle.used.specs.Used.{UsedRecord}
+use Rattle.operations.specs.Used.{UsedRecord}
 use Rattle.words.specs.Bits.{isOdd}
 use Rattle.claims.specs.OperationsDemand.{IsReduced}
 

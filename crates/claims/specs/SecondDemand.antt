@@ -6,13 +6,13 @@ use mathlib.Core.Path.{_≡_}
 use Prim.Native.Nat.{_*_, _<_, ℕ}
 use lib.ListN.{getD}
 use Rattle.buffers.specs.Refusals.{firstFitting}
-use Rattle.contracts.specs.Calls.{Call}
+use Rattle.buffers.specs.Calls.{Call}
 use Rattle.record.specs.Lent.{LentRecord, heldRows}
 use Rattle.stabilizer.specs.Groups.{SameGroup}
 use Rattle.stabilizer.specs.Lists.{GeneratorList, rows}
 use Rattle.calls.specs.Expansions.{expandCall}
 use Rattle.calls.specs.Lists.{checkLines, reduceCall}
-use Rattle.used.specs.Used.{UsedRecord}
+use Rattle.operations.specs.Used.{UsedRecord}
 
 -- "a generator list and its reduced record stand for the same group"
 abbrev pub ReductionKeepsGroup : Type 0

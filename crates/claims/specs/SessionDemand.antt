@@ -10,7 +10,7 @@ use lib.ListN.{length}
 use Rattle.buffers.specs.Refusals.{firstFitting, line}
 use Rattle.clifford.specs.Clifford.{cliffordOf}
 use Rattle.clifford.specs.Vectors.{act, only}
-use Rattle.contracts.specs.Calls.{Call}
+use Rattle.buffers.specs.Calls.{Call}
 use Rattle.calls.specs.Expansions.{expandCall, expandLines}
 use Rattle.calls.specs.Lists.{reduceCall, reduceLines}
 use Rattle.operations.specs.Cz.{cz}
@@ -27,7 +27,7 @@ use Rattle.pauli.specs.Pauli.{Pauli}
 use Rattle.calls.specs.InPlace.{usedCall, usedMeasureCall}
 use Rattle.stabilizer.specs.Groups.{SameGroup}
 use Rattle.stabilizer.specs.Lists.{GeneratorList, listOf, rows}
-use Rattle.used.specs.Used.{UsedRecord}
+use Rattle.operations.specs.Used.{UsedRecord}
 use Rattle.words.specs.Bits.{isOdd}
 use Rattle.claims.specs.Arguments.{Free}
 

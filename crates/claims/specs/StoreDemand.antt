@@ -10,7 +10,7 @@ use lib.Dec.{eqb}
 use lib.ListN.{drop, replicate, take}
 use Rattle.buffers.specs.Refusals.{firstFitting}
 use Rattle.calls.specs.Stores.{forgetCall, heldUnder, returnCall, saveCall}
-use Rattle.contracts.specs.Calls.{Call}
+use Rattle.buffers.specs.Calls.{Call}
 use Rattle.jobs.specs.GroupsAfter.{Group, GroupAfterStep, StartGroup}
 use Rattle.jobs.specs.Runs.{afterStep, started}
 use Rattle.jobs.specs.Standing.{StandsFor}
@@ -18,7 +18,7 @@ use Rattle.jobs.specs.declared.Step.{Step}
 use Rattle.store.specs.Kept.{forgotten, saved}
 use Rattle.store.specs.Places.{Store, found, lookup, nothing, othersHeld}
 use Rattle.store.specs.StoreLines.{holdsLine, namedLines, ofRecord, recordTests, saveLines, storeLines}
-use Rattle.used.specs.Used.{UsedRecord}
+use Rattle.operations.specs.Used.{UsedRecord}
 
 -- the store that three buffers hold
 abbrev pub storeOf : List ℕ → List ℕ → List ℕ → Store

@@ -6,9 +6,9 @@ use mathlib.Core.Path.{_≡_}
 use Prim.Native.Nat.{ℕ}
 use lib.ListN.{length}
 use Rattle.calls.specs.Strings.{readStringsCall, writeStringsCall}
-use Rattle.contracts.specs.Calls.{Call}
+use Rattle.buffers.specs.Calls.{Call}
 use Rattle.stabilizer.specs.Lists.{GeneratorList}
-use Rattle.strings.specs.Strings.{HasStringForm}
+use Rattle.text.specs.Strings.{HasStringForm}
 
 -- the list in the buffers after a read; its number of qubits is their length
 abbrev pub listLeft : List ℕ → List ℕ → List ℕ → List ℕ → GeneratorList

@@ -9,13 +9,13 @@ use Rattle.clifford.specs.Clifford.{Clifford}
 use Rattle.clifford.specs.Vectors.{codesOf}
 use Rattle.comparison.specs.Choices.{LeastChoice}
 use Rattle.comparison.specs.Compared.{induced, pairLines}
-use Rattle.graph.specs.Graph.{Graph, complement}
+use Rattle.record.specs.Graph.{Graph, complement}
 use Rattle.image.specs.Rule.{imageList}
 use Rattle.record.specs.Reduced.{reducedGraph}
 use Rattle.stabilizer.specs.Carries.{Carries}
 use Rattle.stabilizer.specs.Lists.{GeneratorList, rows}
 use Rattle.calls.specs.Lists.{checkLines}
-use Rattle.contracts.specs.Calls.{Call}
+use Rattle.buffers.specs.Calls.{Call}
 use Rattle.calls.specs.Comparisons.{compareCall}
 use Rattle.claims.specs.PartsDemand.{SmallParts}
 

@@ -10,13 +10,13 @@ use lib.ListN.{getD}
 use Rattle.buffers.specs.Refusals.{firstFitting}
 use Rattle.calls.specs.InPlace.{inPlaceCall, measureCall, usedCall, usedMeasureCall}
 use Rattle.calls.specs.Lists.{reduceUnusedCall}
-use Rattle.contracts.specs.Calls.{Call}
+use Rattle.buffers.specs.Calls.{Call}
 use Rattle.jobs.specs.Standing.{left}
 use Rattle.operations.specs.Steps.{Operation, linesOf, measurementOf}
 use Rattle.record.specs.Lent.{LentRecord}
 use Rattle.stabilizer.specs.Lists.{GeneratorList}
-use Rattle.used.specs.Used.{UsedRecord, namesUsed, usedLines, usedLinesOf}
-use Rattle.used.specs.UsedLaws.{UsedStay, earlierLines}
+use Rattle.operations.specs.Used.{UsedRecord, namesUsed, usedLines, usedLinesOf}
+use Rattle.operations.specs.UsedLaws.{UsedStay, earlierLines}
 use Rattle.words.specs.Bits.{bit}
 
 -- a record, with the word of used qubits, that a call leaves

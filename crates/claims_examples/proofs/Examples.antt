@@ -6,7 +6,7 @@ use Rattle.clifford.specs.Clifford.{inverse}
 use Rattle.clifford.specs.Vectors.{act}
 use Rattle.comparison.specs.Choices.{isCarrying, choice, leastNumber}
 use Rattle.image.specs.Image.{looped, stuck}
-use Rattle.parts.specs.Parts.{isClosed, partAbove, partOf}
+use Rattle.comparison.specs.Parts.{isClosed, partAbove, partOf}
 use Rattle.image.specs.Rule.{moves, run, complementedAt}
 use Rattle.pauli.specs.Pauli.{anticommute, mul}
 use Rattle.record.specs.Columns.{isColumnDependent}

@@ -9,7 +9,7 @@ use Rattle.groups.specs.GroupStores.{groupNamedLines, groupSaveLines}
 use Rattle.groups.specs.Masks.{crosses, reachesOut}
 use Rattle.operations.specs.Steps.{czOn, gateWith}
 use Rattle.record.specs.Lent.{notSimple}
-use Rattle.used.specs.Used.{usedWrong}
+use Rattle.operations.specs.Used.{usedWrong}
 use Rattle.words.specs.Bits.{bit}
 use Rattle.words.specs.Search.{every, first, some}
 

@@ -12,7 +12,7 @@ use Rattle.record.specs.Lent.{notSimple}
 use Rattle.record.specs.Reduced.{graphOf, minusesOf, reducedRow, ysOf}
 use Rattle.stabilizer.specs.Lists.{clashing, dependent}
 use Rattle.stabilizer.specs.Membership.{member}
-use Rattle.used.specs.Used.{usedWrong}
+use Rattle.operations.specs.Used.{usedWrong}
 use Rattle.words.specs.Bits.{bit, fold, put, wordOf}
 use Rattle.words.specs.Search.{every, first, some}
 use Rattle.claims_examples.specs.internal.Examples.{AllHold}

@@ -20,7 +20,7 @@ use Rattle.claims_groups.specs.GroupRuns.{
 use Rattle.groups.proofs.GroupExamples.{halves}
 use Rattle.groups.specs.Masks.{crosses, reachesOut}
 use Rattle.record.specs.Lent.{notSimple}
-use Rattle.used.specs.Used.{usedWrong}
+use Rattle.operations.specs.Used.{usedWrong}
 use Rattle.words.specs.Bits.{bit, wordOf}
 use Rattle.words.specs.Search.{every, first, some}
 

@@ -29,8 +29,8 @@ use Rattle.operations.specs.Steps.{
 }
 use Rattle.record.specs.Lent.{codeNumbers, heldRows, neighbourWords}
 use Rattle.stabilizer.specs.Groups.{SameGroup}
-use Rattle.used.proofs.UsedPassing.{used-passes}
-use Rattle.used.specs.Used.{UsedRecord, usedAfter, usedLinesOf, usedStep}
+use Rattle.operations.proofs.UsedPassing.{used-passes}
+use Rattle.operations.specs.Used.{UsedRecord, usedAfter, usedLinesOf, usedStep}
 use Rattle.words.proofs.BitLaws.{bit-wordOf, word-cong}
 use Rattle.words.proofs.Flags.{never-true}
 use Rattle.words.specs.Bits.{Word, bit}

@@ -9,7 +9,7 @@ use Rattle.buffers.specs.Buffers.{accepted, acceptedNumber}
 use Rattle.buffers.specs.Refusals.{firstFitting}
 use Rattle.calls.specs.Groups.{groupCall, groupMeasureCall}
 use Rattle.claims.specs.StoreDemand.{Session}
-use Rattle.contracts.specs.Calls.{Call}
+use Rattle.buffers.specs.Calls.{Call}
 use Rattle.groups.proofs.GroupPassing.{group-accepted}
 use Rattle.groups.proofs.MaskedRecords.{apart-stray}
 use Rattle.groups.specs.GroupLines.{groupAfter, groupLines}
@@ -19,7 +19,7 @@ use Rattle.groups.specs.internal.Apart.{Apart}
 use Rattle.operations.specs.Measurement.{determinedNumber, outcomeNumber}
 use Rattle.operations.specs.Steps.{Operation, complementOf, czOn, gateWith, leaves, measuredAnswer, measurementOf}
 use Rattle.store.specs.Places.{Store}
-use Rattle.used.specs.Used.{UsedRecord, usedAfter, usedLinesOf, usedStep}
+use Rattle.operations.specs.Used.{UsedRecord, usedAfter, usedLinesOf, usedStep}
 use Rattle.words.proofs.BitLaws.{bit-wordOf, word-cong, wordOf-bit}
 use Rattle.words.specs.Bits.{Word, bit}
 use Rattle.claims_groups.specs.GroupContracts.{ContractsAreSteps, withRecord, withStore}

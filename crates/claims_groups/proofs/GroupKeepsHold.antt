@@ -11,9 +11,9 @@ use Rattle.buffers.specs.Refusals.{firstFitting}
 use Rattle.calls.specs.Groups.{groupCall}
 use Rattle.claims.proofs.StoreDemandHolds.{forgotten-free}
 use Rattle.claims.specs.UsedDemand.{leftUsed}
-use Rattle.contracts.proofs.Fitting.{decides, fits-at, is-first, none-fits-of, skips}
-use Rattle.contracts.specs.Answers.{here}
-use Rattle.contracts.specs.Calls.{Call}
+use Rattle.buffers.proofs.Fitting.{decides, fits-at, is-first, none-fits-of, skips}
+use Rattle.buffers.specs.Answers.{here}
+use Rattle.buffers.specs.Calls.{Call}
 use Rattle.groups.proofs.GroupPassing.{group-accepted}
 use Rattle.groups.proofs.MaskedRecords.{masked-passes}
 use Rattle.groups.proofs.MergedPasses.{group-apart, merged-apart}
@@ -53,7 +53,7 @@ use Rattle.store.proofs.PassingStores.{store-passes}
 use Rattle.store.specs.StoreLines.{storeLines}
 use Rattle.store.specs.Kept.{savePlace}
 use Rattle.store.specs.Places.{Store, found, holdsName, lookup, nothing, othersHeld, placeAt, placeOf}
-use Rattle.used.specs.Used.{UsedRecord, usedAfter, usedLines, usedStep}
+use Rattle.operations.specs.Used.{UsedRecord, usedAfter, usedLines, usedStep}
 use Rattle.claims_groups.proofs.ContractSteps.{used-kept}
 use Rattle.claims_groups.proofs.OwnCalls.{held-place, returned-left, saved-left}
 use Rattle.claims_groups.specs.GroupKeeps.{

@@ -13,7 +13,7 @@ use Rattle.claims.proofs.JobSteps.{call-of}
 use Rattle.claims.proofs.MeasurementsFollow.{measurements-follow}
 use Rattle.claims.specs.OperationsDemand.{IsReduced}
 use Rattle.claims.specs.UsedDemand.{leftUsed}
-use Rattle.contracts.specs.Calls.{Call}
+use Rattle.buffers.specs.Calls.{Call}
 use Rattle.groups.proofs.GroupNumbers.{masked-number}
 use Rattle.groups.proofs.GroupPassing.{GroupPasses, group-accepted, group-passes}
 use Rattle.groups.proofs.OutsideStays.{AloneIn, after-outside}
@@ -24,10 +24,10 @@ use Rattle.operations.specs.Steps.{Operation, czOn, gateWith, leaves, linesOf, 
 use Rattle.record.specs.Accepted.{AcceptedRecord}
 use Rattle.record.specs.Lent.{LentRecord}
 use Rattle.store.proofs.PassingStores.{held-record}
-use Rattle.used.proofs.LeftRecords.{used-left}
-use Rattle.used.proofs.UsedPassing.{used-step}
-use Rattle.used.specs.Used.{UsedRecord, usedAfter, usedStep}
-use Rattle.used.specs.internal.UsedLaws.{UsedLeft}
+use Rattle.operations.proofs.LeftRecords.{used-left}
+use Rattle.operations.proofs.UsedPassing.{used-step}
+use Rattle.operations.specs.Used.{UsedRecord, usedAfter, usedStep}
+use Rattle.operations.specs.internal.UsedLaws.{UsedLeft}
 use Rattle.words.specs.Bits.{Word}
 use Rattle.claims_groups.proofs.ContractSteps.{used-kept}
 use Rattle.claims_groups.proofs.OwnCalls.{operation-left}

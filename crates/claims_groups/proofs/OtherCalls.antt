@@ -31,7 +31,7 @@ use Rattle.groups.specs.internal.Apart.{GroupOp, complement-op, cz-op, gate-op,
 use Rattle.operations.specs.Steps.{Operation, complementOf, czOn, gateWith, measurementOf}
 use Rattle.store.specs.Kept.{savePlace}
 use Rattle.store.specs.Places.{placeAt, placeOf}
-use Rattle.used.specs.Used.{usedLines, usedStep}
+use Rattle.operations.specs.Used.{usedLines, usedStep}
 use Rattle.claims_groups.proofs.OwnCalls.{held-place}
 use Rattle.claims_groups.proofs.Views.{Good, not-in-both}
 use Rattle.claims_groups.specs.GroupRuns.{

@@ -8,8 +8,8 @@ use lib.Dec.{eqb, leb, ltb}
 use borrow.Author.Tests.{lt-ltb, ne-eqb}
 use Rattle.buffers.specs.Refusals.{firstFitting}
 use Rattle.claims.specs.StoreDemand.{Session}
-use Rattle.contracts.proofs.Fitting.{decides, none-holds}
-use Rattle.contracts.specs.Answers.{here}
+use Rattle.buffers.proofs.Fitting.{decides, none-holds}
+use Rattle.buffers.specs.Answers.{here}
 use Rattle.groups.proofs.GroupPassing.{group-passes}
 use Rattle.groups.specs.GroupLines.{groupLines, namesOther}
 use Rattle.groups.specs.GroupStores.{groupNamedLines, groupSaveLines, ownLines}

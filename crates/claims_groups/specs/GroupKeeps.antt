@@ -12,13 +12,13 @@ use Rattle.calls.specs.GroupStores.{groupForgetCall, groupReturnCall, groupSave
 use Rattle.calls.specs.Groups.{groupCall, groupMeasureCall}
 use Rattle.claims.specs.OperationsDemand.{IsReduced}
 use Rattle.claims.specs.UsedDemand.{leftUsed}
-use Rattle.contracts.specs.Calls.{Call}
+use Rattle.buffers.specs.Calls.{Call}
 use Rattle.groups.specs.GroupStores.{ownPlaces, sharedLines}
 use Rattle.groups.specs.Masks.{crosses, inGroup, masked}
 use Rattle.operations.specs.Steps.{complementOf, czOn, gateWith}
 use Rattle.store.specs.Places.{Store, found, lookup, nothing, othersHeld}
 use Rattle.store.specs.StoreLines.{storeLines}
-use Rattle.used.specs.Used.{UsedRecord, usedLines}
+use Rattle.operations.specs.Used.{UsedRecord, usedLines}
 use Rattle.words.specs.Bits.{bit}
 
 -- ---- the record

@@ -20,7 +20,7 @@ use Rattle.jobs.specs.Runs.{started}
 use Rattle.operations.specs.Measurement.{determinedNumber, outcomeNumber}
 use Rattle.operations.specs.Steps.{complementOf, czOn, gateWith, measuredAnswer, measurementOf}
 use Rattle.store.specs.Places.{Store}
-use Rattle.used.specs.Used.{UsedRecord}
+use Rattle.operations.specs.Used.{UsedRecord}
 
 -- "Group calls are gate, cz, measure, complement, .. save, return and forget", with their arguments; a group has no
 -- pivot

@@ -9,7 +9,7 @@ use Rattle.buffers.specs.Refusals.{Refusal, firstFitting}
 use Rattle.calls.specs.InPlace.{usedCall, usedMeasureCall}
 use Rattle.calls.specs.Groups.{groupCall, groupMeasureCall}
 use Rattle.claims.specs.StoreDemand.{Session}
-use Rattle.contracts.specs.Calls.{Call}
+use Rattle.buffers.specs.Calls.{Call}
 use Rattle.groups.specs.GroupStores.{ownPlaces}
 use Rattle.groups.specs.Masks.{crosses, inGroup, masked}
 use Rattle.jobs.specs.Standing.{left}
@@ -17,7 +17,7 @@ use Rattle.operations.specs.Steps.{complementOf, czOn, gateWith}
 use Rattle.record.specs.Lent.{heldRows}
 use Rattle.stabilizer.specs.Groups.{SameGroup}
 use Rattle.store.specs.StoreLines.{storeLengths}
-use Rattle.used.specs.Used.{UsedRecord, usedLines}
+use Rattle.operations.specs.Used.{UsedRecord, usedLines}
 use Rattle.claims_groups.specs.GroupRuns.{
   CallOf,
   SharedCall,

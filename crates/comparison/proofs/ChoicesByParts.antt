@@ -11,10 +11,10 @@ use Rattle.clifford.proofs.VectorLaws.{act-inverse}
 use Rattle.clifford.specs.Clifford.{Clifford, identityClifford, inverse}
 use Rattle.clifford.specs.Vectors.{act}
 use Rattle.cut.proofs.OneSidedElements.{avoids-act}
-use Rattle.graph.specs.Graph.{Simple, graphGenerator}
-use Rattle.parts.proofs.PartLaws.{part-closed, part-has, part-together}
-use Rattle.parts.specs.internal.Parts.{Closed}
-use Rattle.parts.specs.Parts.{partOf}
+use Rattle.record.specs.Graph.{Simple, graphGenerator}
+use Rattle.comparison.proofs.PartLaws.{part-closed, part-has, part-together}
+use Rattle.comparison.specs.internal.Parts.{Closed}
+use Rattle.comparison.specs.Parts.{partOf}
 use Rattle.pauli.specs.Pauli.{Pauli}
 use Rattle.record.proofs.Maximality.{inclusion-same}
 use Rattle.record.proofs.ReducedRecords.{record-proper}

@@ -8,9 +8,9 @@ use lib.ListN.{getD}
 use Rattle.clifford.proofs.CliffordLaws.{cliffordOf-codeOf}
 use Rattle.clifford.specs.Clifford.{Clifford, cliffordOf, codeOf, inverse}
 use Rattle.clifford.specs.Vectors.{act, codesOf}
-use Rattle.graph.proofs.GraphGroups.{graph-within}
-use Rattle.graph.specs.Graph.{graphGenerator}
-use Rattle.graph.specs.NeighbourWords.{graphIn}
+use Rattle.record.proofs.GraphGroups.{graph-within}
+use Rattle.record.specs.Graph.{graphGenerator}
+use Rattle.record.specs.NeighbourWords.{graphIn}
 use Rattle.pauli.proofs.PauliLaws.{Pauli-path}
 use Rattle.pauli.specs.Pauli.{Pauli, signedRow}
 use Rattle.pauli.specs.declared.Generator.{Generator}

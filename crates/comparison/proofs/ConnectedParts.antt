@@ -6,12 +6,12 @@ use native.Mathlib.Nat.{lt-of-le-of-lt}
 use Prim.Native.Nat.{zero-le}
 use lib.Dec.{eqb}
 use borrow.Author.Tests.{eq-eqb, eqb-true, lt-ltb}
-use Rattle.graph.specs.Graph.{Graph}
-use Rattle.parts.proofs.PartLaws.{both, part-within}
-use Rattle.parts.proofs.PlacedRows.{same-number}
-use Rattle.parts.specs.internal.Numbered.{Numbers, partGraph}
-use Rattle.parts.specs.internal.Parts.{Closed}
-use Rattle.parts.specs.Parts.{partOf}
+use Rattle.record.specs.Graph.{Graph}
+use Rattle.comparison.proofs.PartLaws.{both, part-within}
+use Rattle.comparison.proofs.PlacedRows.{same-number}
+use Rattle.comparison.specs.internal.Numbered.{Numbers, partGraph}
+use Rattle.comparison.specs.internal.Parts.{Closed}
+use Rattle.comparison.specs.Parts.{partOf}
 use Rattle.words.proofs.Flags.{both-true}
 use Rattle.words.proofs.SearchLaws.{some-in, some-true}
 use Rattle.words.specs.Bits.{Word}

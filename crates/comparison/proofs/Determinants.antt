@@ -8,8 +8,8 @@ use lib.Dec.{eqb}
 use Rattle.clifford.proofs.CliffordLaws.{clash-after}
 use Rattle.clifford.specs.Clifford.{Clifford}
 use Rattle.clifford.specs.Vectors.{act}
-use Rattle.graph.specs.Graph.{Graph, Simple, graphGenerator}
-use Rattle.parts.specs.internal.Parts.{Closed}
+use Rattle.record.specs.Graph.{Graph, Simple, graphGenerator}
+use Rattle.comparison.specs.internal.Parts.{Closed}
 use Rattle.pauli.specs.Pauli.{Pauli, anticommute, clash, i⁰, i², letter, letterAt, scaled}
 use Rattle.record.proofs.Maximality.{maximal-list}
 use Rattle.record.proofs.ReducedRecords.{record-proper}

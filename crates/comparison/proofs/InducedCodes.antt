@@ -6,7 +6,7 @@ use Rattle.clifford.proofs.CliffordLaws.{cliffordOf-codeOf}
 use Rattle.clifford.proofs.VectorLaws.{act-inverse, act-then}
 use Rattle.clifford.specs.Clifford.{Clifford, cliffordOf, codeOf, inverse, then}
 use Rattle.clifford.specs.Vectors.{act}
-use Rattle.graph.specs.Graph.{graphGenerator}
+use Rattle.record.specs.Graph.{graphGenerator}
 use Rattle.pauli.specs.Pauli.{Pauli}
 use Rattle.record.proofs.ReducedRecords.{same-group}
 use Rattle.record.specs.Records.{rowsOf}

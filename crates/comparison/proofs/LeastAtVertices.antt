@@ -11,12 +11,12 @@ use lib.Dec.{eqb}
 use Rattle.clifford.proofs.VectorLaws.{act-then}
 use Rattle.clifford.specs.Clifford.{Clifford, classNumber, image, imagePhase, then}
 use Rattle.clifford.specs.Vectors.{act}
-use Rattle.graph.specs.Graph.{Simple, graphGenerator}
-use Rattle.parts.proofs.PartLaws.{part-closed, part-has}
-use Rattle.parts.proofs.PlacedGroups.{part-carried, part-sent, partRecord}
-use Rattle.parts.specs.internal.Numbered.{Numbers}
-use Rattle.parts.specs.internal.Parts.{Closed}
-use Rattle.parts.specs.Parts.{partOf}
+use Rattle.record.specs.Graph.{Simple, graphGenerator}
+use Rattle.comparison.proofs.PartLaws.{part-closed, part-has}
+use Rattle.comparison.proofs.PlacedGroups.{part-carried, part-sent, partRecord}
+use Rattle.comparison.specs.internal.Numbered.{Numbers}
+use Rattle.comparison.specs.internal.Parts.{Closed}
+use Rattle.comparison.specs.Parts.{partOf}
 use Rattle.pauli.proofs.PauliLaws.{Pauli-path}
 use Rattle.pauli.specs.Pauli.{_+ᵖ_, Pauli, i⁰, letter, letterAt, xBit, zBit}
 use Rattle.pauli.specs.declared.Letter.{Letter}

@@ -7,8 +7,8 @@ use lib.Bits.{bitXor}
 use Rattle.clifford.proofs.VectorLaws.{act-inverse}
 use Rattle.clifford.specs.Clifford.{Clifford, image, inverse}
 use Rattle.clifford.specs.Vectors.{act}
-use Rattle.graph.proofs.GraphGroups.{element-x}
-use Rattle.graph.specs.Graph.{graphGenerator}
+use Rattle.record.proofs.GraphGroups.{element-x}
+use Rattle.record.specs.Graph.{graphGenerator}
 use Rattle.pauli.proofs.WordRows.{signed-mul}
 use Rattle.pauli.specs.Pauli.{
   Pauli,

@@ -15,7 +15,7 @@ use Rattle.clifford.proofs.VectorLaws.{act-anticommute, act-cong}
 use Rattle.clifford.specs.Clifford.{Clifford}
 use Rattle.clifford.specs.Clifford.Class.{XZ}
 use Rattle.clifford.specs.Vectors.{act}
-use Rattle.graph.specs.Graph.{graphGenerator}
+use Rattle.record.specs.Graph.{graphGenerator}
 use Rattle.pauli.proofs.PhaseLaws.{minus-injective, minus-⊕}
 use Rattle.pauli.specs.Pauli.{Pauli, anticommute, i⁰, i², minus, scaled}
 use Rattle.pauli.specs.internal.Rows.{generatorOf}

@@ -5,7 +5,7 @@ use Prim.Native.Nat.{ℕ}
 use lib.Dec.{eqb}
 use Rattle.buffers.specs.Refusals.{Refusal, badCount, line, otherThan}
 use Rattle.clifford.specs.Clifford.{Clifford, inverse, then}
-use Rattle.parts.specs.Parts.{partAbove}
+use Rattle.comparison.specs.Parts.{partAbove}
 use Rattle.pauli.specs.Pauli.{Pauli}
 use Rattle.record.specs.Reduced.{reducedCode, reducedGraph}
 use Rattle.stabilizer.specs.Lists.{GeneratorList, clashing, dependent, listLengths, listSigns, listStray, rows}

@@ -1,5 +1,6 @@
 pub mod Choices
 pub mod Compared
-pub mod PartChoices
 pub mod ComparedPairs
+pub mod PartChoices
+pub mod Parts
 pub mod internal

@@ -1,7 +1,9 @@
 pub mod Compared
+pub mod ComparedPairs
 pub mod Equations
+pub mod LeastAt
+pub mod Numbered
+pub mod Parts
+pub mod Places
 pub mod Searches
 pub mod Setting
-pub mod LeastAt
-pub mod ComparedPairs
-pub mod Places

@@ -15,16 +15,16 @@ use Rattle.comparison.proofs.LeastAtVertices.{part-least-at}
 use Rattle.comparison.specs.Choices.{LeastChoice, leastCode, leastNumber, noChoice}
 use Rattle.comparison.specs.internal.LeastAt.{LeastAt}
 use Rattle.comparison.specs.internal.Setting.{Codes}
-use Rattle.graph.specs.NeighbourWords.{graphIn}
-use Rattle.parts.proofs.Along.{numbered-or-not}
-use Rattle.parts.proofs.PartLaws.{both, closed-ext, part-closed, part-together}
-use Rattle.parts.proofs.PlacedGroups.{part-carried}
-use Rattle.parts.proofs.PlacedRows.{part-simple}
-use Rattle.parts.proofs.SameParts.{carried-closed}
-use Rattle.parts.specs.internal.Numbered.{Numbers}
-use Rattle.parts.specs.internal.Parts.{Closed}
-use Rattle.parts.specs.Parts.{partOf}
-use Rattle.parts_words.specs.internal.Spreads.{spreadTo}
+use Rattle.record.specs.NeighbourWords.{graphIn}
+use Rattle.comparison.proofs.Along.{numbered-or-not}
+use Rattle.comparison.proofs.PartLaws.{both, closed-ext, part-closed, part-together}
+use Rattle.comparison.proofs.PlacedGroups.{part-carried}
+use Rattle.comparison.proofs.PlacedRows.{part-simple}
+use Rattle.comparison.proofs.SameParts.{carried-closed}
+use Rattle.comparison.specs.internal.Numbered.{Numbers}
+use Rattle.comparison.specs.internal.Parts.{Closed}
+use Rattle.comparison.specs.Parts.{partOf}
+use Rattle.comparison_parts.specs.internal.Spreads.{spreadTo}
 use Rattle.pauli.specs.Pauli.{Pauli}
 use Rattle.record.proofs.ReducedRecords.{record-proper}
 use Rattle.record.specs.Records.{GraphRecord, rowsOf}
@@ -35,7 +35,7 @@ use Rattle.words.proofs.SearchLaws.{some-in, some-true}
 use Rattle.words.proofs.Sums.{lt-or-ge}
 use Rattle.words.specs.Bits.{bit}
 use Rattle.words.specs.Search.{first, some}
-use Rattle.comparison_component.specs.internal.Components.{
+use Rattle.comparison_parts.specs.internal.Components.{
   Component,
   ComponentAnswer,
   NumberedPair,

@@ -1,2 +1,8 @@
 pub mod ComponentLaws
+pub mod InducedRecords
+pub mod Listing
+pub mod PartBuffers
 pub mod Parting
+pub mod Placing
+pub mod ReducedPairs
+pub mod Spreading

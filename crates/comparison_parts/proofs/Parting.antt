@@ -18,11 +18,11 @@ use Rattle.comparison.proofs.LeastAtVertices.{least-at-agree, least-at-least}
 use Rattle.comparison.specs.internal.Searches.{LeastAnswer}
 use Rattle.comparison.specs.internal.LeastAt.{LeastAt}
 use Rattle.comparison.specs.internal.Setting.{Codes, heldGenerators}
-use Rattle.graph.specs.NeighbourWords.{graphIn}
-use Rattle.parts.proofs.PartLaws.{part-has, part-within, rest-closed}
-use Rattle.parts.specs.internal.Parts.{Closed}
-use Rattle.parts.specs.Parts.{partOf}
-use Rattle.parts_words.specs.internal.Spreads.{PartWord}
+use Rattle.record.specs.NeighbourWords.{graphIn}
+use Rattle.comparison.proofs.PartLaws.{part-has, part-within, rest-closed}
+use Rattle.comparison.specs.internal.Parts.{Closed}
+use Rattle.comparison.specs.Parts.{partOf}
+use Rattle.comparison_parts.specs.internal.Spreads.{PartWord}
 use Rattle.record.proofs.ReducedRecords.{record-proper}
 use Rattle.record.specs.Records.{GraphRecord, rowsOf}
 use Rattle.words.proofs.BitLaws.{bit-above, bit-and, bit-ext∞, bit-mask, bit-xor, lt-of-bits, zero-bit}
@@ -33,7 +33,7 @@ use Rattle.words.proofs.Trailing.{trailing-set}
 use Rattle.words.specs.Bits.{bit, _⊕_}
 use Rattle.words.specs.Search.{IsFirst}
 use Rattle.comparison_parts.proofs.ComponentLaws.{component-closed}
-use Rattle.comparison_component.specs.internal.Components.{Component, ComponentAnswer, Progress, SoundPair, recordHeld}
+use Rattle.comparison_parts.specs.internal.Components.{Component, ComponentAnswer, Progress, SoundPair, recordHeld}
 
 module _ (n : ℕ) (nb cs nb₂ cs₂ : List ℕ) (P : SoundPair n nb cs nb₂ cs₂) where
   abbrev r : GraphRecord

@@ -1,15 +1,20 @@
 // The least choice of local Cliffords, part after part of the graphs.
-use comparison_component::compare_listed;
-use comparison_component::placed;
-use parts_records::vertices;
-use parts_words::part;
-use parts_words::spread;
+pub mod answer;
+mod component;
+mod part_records;
+mod sets;
+
+use crate::component::compare_listed;
+use crate::component::placed;
+use crate::part_records::vertices;
+use crate::sets::part;
+use crate::sets::spread;
 use words::mask;
 use words::smallest;
 ghost use Prim.Native.Nat.{_≤_};
 ghost use Rattle.comparison.specs.internal.Searches.{LeastAnswer};
 ghost use Rattle.comparison.specs.internal.Setting.{heldGenerators};
-ghost use Rattle.comparison_component.specs.internal.Components.{Component, ComponentAnswer, SoundPair, recordHeld};
+ghost use Rattle.comparison_parts.specs.internal.Components.{Component, ComponentAnswer, SoundPair, recordHeld};
 
 // Whether a choice was found, and the choice.
 pub struct Whole {

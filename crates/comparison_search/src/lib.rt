@@ -1,15 +1,25 @@
 // The least choice: for each qubit in turn the first class that the equations allow, then for each the first signs; and
 // the comparison of two records by it. Neither loop steps back: at most 6 classes and 4 signs are tried at a qubit.
-use comparison_assignments::class_words;
-use comparison_assignments::sign_words;
-use comparison_assignments::with_class;
-use comparison_assignments::with_signs;
-use comparison_choices::least_class;
-use comparison_choices::least_sign;
-use comparison_groups::generators;
-use comparison_groups::inverses;
-use comparison_tables::class_table;
-use comparison_tables::sign_table;
+mod assignments;
+mod choices;
+mod elements;
+mod equations;
+pub mod induced;
+mod placing;
+mod records;
+mod rows;
+mod tables;
+
+use crate::assignments::class_words;
+use crate::assignments::sign_words;
+use crate::assignments::with_class;
+use crate::assignments::with_signs;
+use crate::choices::least_class;
+use crate::choices::least_sign;
+use crate::records::generators;
+use crate::records::inverses;
+use crate::tables::class_table;
+use crate::tables::sign_table;
 ghost use Prim.Native.Nat.{_≤_};
 ghost use Rattle.comparison.specs.Choices.{classKey, signKey};
 ghost use Rattle.comparison.specs.internal.Equations.{Triangular, classAssignment, signAssignment, equationsIn};
@@ -23,7 +33,7 @@ ghost use Rattle.comparison.specs.internal.Setting.{
   generatorsOf,
   heldGenerators,
 };
-ghost use Rattle.graph.specs.NeighbourWords.{graphIn};
+ghost use Rattle.record.specs.NeighbourWords.{graphIn};
 
 // Whether a choice was found, and the choice.
 pub struct Answer {

@@ -8,8 +8,8 @@ use lib.Dec.{eqb}
 use Rattle.clifford.proofs.VectorLaws.{act-inverse}
 use Rattle.clifford.specs.Clifford.{Clifford, identityClifford, inverse}
 use Rattle.clifford.specs.Vectors.{act}
-use Rattle.graph.proofs.Complement.{complement-simple}
-use Rattle.graph.specs.Graph.{Graph, Simple, complement}
+use Rattle.record.proofs.Complement.{complement-simple}
+use Rattle.record.specs.Graph.{Graph, Simple, complement}
 use Rattle.record.proofs.Complementing.{complement-same}
 use Rattle.record.proofs.ReducedRecords.{record-proper, reduced-is}
 use Rattle.record.specs.Records.{GraphRecord, complementRecord, rowsOf}

@@ -3,7 +3,7 @@ use mathlib.Core.List.{List, [], _∷_}
 use mathlib.Core.Path.{refl, _≡_}
 use Prim.Native.Nat.{ℕ}
 use lib.ListN.{length}
-use Rattle.graph.specs.NeighbourWords.{graphIn}
+use Rattle.record.specs.NeighbourWords.{graphIn}
 use Rattle.record.specs.Columns.{isColumnDependent}
 use Rattle.words.specs.Bits.{bit, fold}
 use Rattle.words.specs.Search.{every, some}

@@ -6,8 +6,8 @@ use Prim.Native.Nat.{_<_, ℕ}
 use Rattle.clifford.proofs.VectorLaws.{act-inverse}
 use Rattle.clifford.specs.Clifford.{Clifford, image, inverse}
 use Rattle.clifford.specs.Vectors.{act}
-use Rattle.graph.proofs.GraphGroups.{element-x, element-z}
-use Rattle.graph.specs.Graph.{Simple, graphGenerator}
+use Rattle.record.proofs.GraphGroups.{element-x, element-z}
+use Rattle.record.specs.Graph.{Simple, graphGenerator}
 use Rattle.pauli.specs.Pauli.{Pauli, identity, letter, mul, xBit, zBit}
 use Rattle.record.specs.Records.{GraphRecord, rowsOf}
 use Rattle.stabilizer.proofs.Carried.{act-product}

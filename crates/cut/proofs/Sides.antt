@@ -2,7 +2,7 @@
 use mathlib.Core.Bool.{_&&_, Bool, and-false, false, not, true}
 use mathlib.Core.Path.{ap, fun-ext, refl, sym, _∙_, _≡_}
 use Prim.Native.Nat.{_-_, _<_, _^_, ℕ}
-use Rattle.graph.specs.Graph.{Graph, Simple}
+use Rattle.record.specs.Graph.{Graph, Simple}
 use Rattle.record.proofs.ColumnLaws.{column-dependent}
 use Rattle.record.specs.Columns.{isColumnDependent}
 use Rattle.words.proofs.BitLaws.{bit-mask, zero-bit}

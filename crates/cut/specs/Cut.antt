@@ -1,7 +1,7 @@
 -- Cuts of the vertices into two sides, by a word that marks one of them.
 use mathlib.Core.Bool.{_&&_, not}
 use Prim.Native.Nat.{ℕ}
-use Rattle.graph.specs.Graph.{Graph}
+use Rattle.record.specs.Graph.{Graph}
 use Rattle.words.specs.Bits.{Word}
 use Rattle.cut.specs.Rank.{rank}
 

@@ -6,8 +6,8 @@ use lib.Dec.{eqb}
 use borrow.Author.Tests.{eqb-false, eqb-true}
 use Rattle.clifford.specs.Clifford.{inverse}
 use Rattle.clifford.specs.Vectors.{act, codesOf}
-use Rattle.graph.proofs.GraphGroups.{graph-commuting}
-use Rattle.graph.specs.Graph.{graphGenerator}
+use Rattle.record.proofs.GraphGroups.{graph-commuting}
+use Rattle.record.specs.Graph.{graphGenerator}
 use Rattle.pauli.proofs.PauliLaws.{Pauli-path}
 use Rattle.pauli.proofs.PhaseLaws.{exponent-two, sign-of-phase}
 use Rattle.pauli.proofs.WordRows.{exponent-power}

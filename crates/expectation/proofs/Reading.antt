@@ -6,8 +6,8 @@ use Prim.Native.Nat.{_<_, ℕ, _≤_}
 use Rattle.clifford.proofs.VectorLaws.{act-after-inverse, act-inverse, act-scaled}
 use Rattle.clifford.specs.Clifford.{Clifford, inverse}
 use Rattle.clifford.specs.Vectors.{act}
-use Rattle.graph.proofs.GraphGroups.{element-x, graph-within, x-determines}
-use Rattle.graph.specs.Graph.{Simple, graphGenerator}
+use Rattle.record.proofs.GraphGroups.{element-x, graph-within, x-determines}
+use Rattle.record.specs.Graph.{Simple, graphGenerator}
 use Rattle.pauli.specs.Pauli.{Pauli, i²}
 use Rattle.record.specs.Records.{GraphRecord, rowsOf}
 use Rattle.stabilizer.proofs.Carried.{act-product}

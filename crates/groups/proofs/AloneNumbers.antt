@@ -6,12 +6,12 @@ use Prim.Native.Nat.{ℕ}
 use lib.Dec.{eqb, leb, ltb}
 use borrow.Author.Tests.{eq-eqb}
 use Rattle.buffers.specs.Refusals.{Refusal, firstFitting, insertedAfter, insertedBefore, line, withTest}
-use Rattle.contracts.proofs.Fitting.{none-holds}
+use Rattle.buffers.proofs.Fitting.{none-holds}
 use Rattle.operations.specs.Measurement.{contradicts, pauliLetter}
 use Rattle.operations.specs.Steps.{Operation, complementOf, czOn, gateWith, measurementOf, pivotOf}
 use Rattle.record.specs.Lent.{heldRows, recordCodes, recordLengths, recordLines}
-use Rattle.used.proofs.UsedPassing.{lines-pass}
-use Rattle.used.specs.Used.{UsedRecord, namesUsed, usedStray, withUsed}
+use Rattle.operations.proofs.UsedPassing.{lines-pass}
+use Rattle.operations.specs.Used.{UsedRecord, namesUsed, usedStray, withUsed}
 use Rattle.words.proofs.Flags.{neither}
 use Rattle.words.specs.Bits.{isOdd}
 use Rattle.groups.proofs.GroupNumbers.{masked-number}

@@ -8,7 +8,7 @@ use lib.ListN.{getD}
 use borrow.Author.Tests.{not-false}
 use Rattle.record.specs.Accepted.{AcceptedRecord}
 use Rattle.record.specs.Lent.{LentRecord, heldRecord}
-use Rattle.used.specs.Used.{UsedRecord}
+use Rattle.operations.specs.Used.{UsedRecord}
 use Rattle.words.proofs.Flags.{sameBit-true, true-sameBit}
 use Rattle.words.proofs.SearchLaws.{some-false, some-none}
 use Rattle.words.proofs.Sums.{lt-or-ge}

@@ -15,7 +15,7 @@ use Rattle.record.specs.Lent.{notSimple}
 use Rattle.record.specs.Reduced.{graphOf, minusesOf, reducedRow, ysOf}
 use Rattle.stabilizer.specs.Lists.{clashing, dependent}
 use Rattle.store.specs.Places.{Store}
-use Rattle.used.specs.Used.{UsedRecord, usedWrong}
+use Rattle.operations.specs.Used.{UsedRecord, usedWrong}
 use Rattle.words.specs.Bits.{bit, fold, put, wordOf}
 use Rattle.words.specs.Search.{every, first, some}
 use Rattle.groups.specs.GroupLines.{groupAfter, groupLines}

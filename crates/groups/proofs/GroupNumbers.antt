@@ -11,14 +11,14 @@ use lib.ListN.{getD}
 use borrow.Author.Tests.{eqb-false, leb-false, lt-ltb, not-false}
 use Rattle.buffers.specs.Refusals.{Refusal, firstFitting, insertedAfter, line, withTest}
 use Rattle.clifford.specs.Clifford.{cliffordOf}
-use Rattle.contracts.proofs.Fitting.{none-holds}
+use Rattle.buffers.proofs.Fitting.{none-holds}
 use Rattle.operations.proofs.MeasuredRecords.{acts, pauli-acts}
 use Rattle.operations.specs.Measurement.{contradicts, pauliLetter}
 use Rattle.operations.specs.Steps.{Operation, measuredAnswer, measurementOf}
 use Rattle.record.specs.Lent.{heldRecord, heldRows, recordCodes, recordLengths, recordLines}
-use Rattle.used.proofs.AcceptedSteps.{measure-arguments}
-use Rattle.used.proofs.UsedPassing.{lines-pass, used-step}
-use Rattle.used.specs.Used.{UsedRecord, usedLines, usedLinesOf, usedStray, withUsed}
+use Rattle.operations.proofs.AcceptedSteps.{measure-arguments}
+use Rattle.operations.proofs.UsedPassing.{lines-pass, used-step}
+use Rattle.operations.specs.Used.{UsedRecord, usedLines, usedLinesOf, usedStray, withUsed}
 use Rattle.words.proofs.BitLaws.{bit-above}
 use Rattle.words.proofs.Flags.{neither}
 use Rattle.words.proofs.Sums.{lt-or-ge}

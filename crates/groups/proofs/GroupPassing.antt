@@ -13,9 +13,9 @@ use Rattle.buffers.specs.Refusals.{Refusal, firstFitting, insertedBefore, line,
 use Rattle.operations.specs.Steps.{Operation, complementOf, czOn, gateWith, linesOf, measurementOf, pivotOf}
 use Rattle.record.proofs.AcceptedRecords.{accepted-passes}
 use Rattle.record.specs.Lent.{LentRecord, recordLines}
-use Rattle.used.proofs.AcceptedSteps.{accepted-step}
-use Rattle.used.proofs.UsedPassing.{lines-pass, used-passes}
-use Rattle.used.specs.Used.{UsedRecord, usedLines, usedLinesOf}
+use Rattle.operations.proofs.AcceptedSteps.{accepted-step}
+use Rattle.operations.proofs.UsedPassing.{lines-pass, used-passes}
+use Rattle.operations.specs.Used.{UsedRecord, usedLines, usedLinesOf}
 use Rattle.words.proofs.Flags.{neither}
 use Rattle.groups.specs.GroupLines.{groupLines, namesOther, withGroup}
 use Rattle.groups.specs.Masks.{crosses, inGroup}

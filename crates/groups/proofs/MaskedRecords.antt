@@ -15,9 +15,9 @@ use Rattle.record.specs.Accepted.{AcceptedRecord}
 use Rattle.record.specs.Lent.{heldRecord}
 use Rattle.stabilizer.proofs.ReadBack.{table-past}
 use Rattle.store.proofs.PassingStores.{held-record}
-use Rattle.used.proofs.UsedPassing.{lines-pass}
-use Rattle.used.proofs.UsedStaying.{used-code, used-word}
-use Rattle.used.specs.Used.{UsedRecord, usedCode, usedLines, usedStray, usedWrong}
+use Rattle.operations.proofs.UsedPassing.{lines-pass}
+use Rattle.operations.proofs.UsedStaying.{used-code, used-word}
+use Rattle.operations.specs.Used.{UsedRecord, usedCode, usedLines, usedStray, usedWrong}
 use Rattle.words.proofs.BitLaws.{bit-above, bit-cond, bit-wordOf, wordOf-lt, zero-bit}
 use Rattle.words.proofs.Flags.{both-true, by-test, neither}
 use Rattle.words.proofs.Sums.{lt-or-ge}

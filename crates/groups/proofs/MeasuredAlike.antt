@@ -3,7 +3,7 @@ use mathlib.Core.Bool.{_&&_, Bool, cond, false, true}
 use mathlib.Core.Path.{ap, ap₂, refl, sym, _∙_, _≡_}
 use Prim.Native.Nat.{_<_, ℕ}
 use Rattle.clifford.specs.Clifford.{image}
-use Rattle.graph.specs.Graph.{Simple}
+use Rattle.record.specs.Graph.{Simple}
 use Rattle.operations.proofs.MeasuredRecords.{acts, determined-alone, outcome-alone}
 use Rattle.operations.specs.Measurement.{contradicts, isDetermined, measuredOutcome, outcome, single}
 use Rattle.operations.specs.declared.Outcome.the-variants.{Chosen, Determined}

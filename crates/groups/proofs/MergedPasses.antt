@@ -10,10 +10,10 @@ use Rattle.operations.specs.Steps.{Operation}
 use Rattle.record.specs.Accepted.{AcceptedRecord}
 use Rattle.record.specs.Lent.{heldRecord}
 use Rattle.store.proofs.PassingStores.{held-record}
-use Rattle.used.proofs.LeftRecords.{used-left}
-use Rattle.used.proofs.UsedPassing.{lines-pass}
-use Rattle.used.proofs.UsedStaying.{used-code, used-word}
-use Rattle.used.specs.Used.{UsedRecord, usedCode, usedLines, usedStep, usedStray}
+use Rattle.operations.proofs.LeftRecords.{used-left}
+use Rattle.operations.proofs.UsedPassing.{lines-pass}
+use Rattle.operations.proofs.UsedStaying.{used-code, used-word}
+use Rattle.operations.specs.Used.{UsedRecord, usedCode, usedLines, usedStep, usedStray}
 use Rattle.words.proofs.BitLaws.{zero-bit}
 use Rattle.words.proofs.Flags.{by-test, neither, never-true}
 use Rattle.words.specs.Bits.{Word, bit}

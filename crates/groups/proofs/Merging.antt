@@ -6,7 +6,7 @@ use Prim.Native.Nat.{_<_, ℕ}
 use lib.ListN.{getD}
 use Rattle.buffers.proofs.Tabulate.{tabulate-at, tabulate-cong}
 use Rattle.buffers.specs.Buffers.{tabulate}
-use Rattle.used.specs.Used.{UsedRecord}
+use Rattle.operations.specs.Used.{UsedRecord}
 use Rattle.words.proofs.BitLaws.{bit-wordOf, word-cong}
 use Rattle.words.specs.Bits.{Word, bit, wordOf}
 use Rattle.groups.specs.Masks.{masked, merged}

@@ -7,13 +7,13 @@ use Prim.Native.Nat.{_<_, _^_, ℕ, _≤_}
 use lib.ListN.{getD}
 use borrow.Author.Tests.{lt-leb}
 use Rattle.operations.specs.Steps.{Operation}
-use Rattle.used.proofs.AcceptedSteps.{measure-arguments}
-use Rattle.used.proofs.LeftRecords.{all-good, used-left}
-use Rattle.used.proofs.MeasuringMarks.{measured-marks}
-use Rattle.used.proofs.UsedPassing.{used-passes}
-use Rattle.used.proofs.UsedStaying.{stays-after, used-code, used-word}
-use Rattle.used.specs.Used.{UsedRecord, namesUsed, usedAfter, usedCode, usedStep, usedWrong}
-use Rattle.used.specs.internal.UsedLaws.{UsedPasses}
+use Rattle.operations.proofs.AcceptedSteps.{measure-arguments}
+use Rattle.operations.proofs.LeftRecords.{all-good, used-left}
+use Rattle.operations.proofs.MeasuringMarks.{measured-marks}
+use Rattle.operations.proofs.UsedPassing.{used-passes}
+use Rattle.operations.proofs.UsedStaying.{stays-after, used-code, used-word}
+use Rattle.operations.specs.Used.{UsedRecord, namesUsed, usedAfter, usedCode, usedStep, usedWrong}
+use Rattle.operations.specs.internal.UsedLaws.{UsedPasses}
 use Rattle.words.proofs.BitLaws.{bit-above, bit-wordOf, wordOf-lt}
 use Rattle.words.proofs.Flags.{neither}
 use Rattle.words.proofs.Places.{other-place}

@@ -10,7 +10,7 @@ use lib.Seq.{drop-append-le, drop-at, drop-drop, length-take-le, take-add, take-
 use Rattle.store.proofs.PlacedParts.{part-front, placed-long}
 use Rattle.store.specs.Kept.{placedAt, withPlace}
 use Rattle.store.specs.Places.{Store, countAt, partAt, placeAt}
-use Rattle.used.specs.Used.{UsedRecord}
+use Rattle.operations.specs.Used.{UsedRecord}
 use Rattle.groups.proofs.OwnHeads.{headed-other, headed-own, own-head, part-long, side}
 use Rattle.groups.specs.GroupStores.{ownPlaces}
 

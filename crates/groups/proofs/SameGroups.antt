@@ -7,7 +7,7 @@ use lib.ListN.{List·getD-eq-default}
 use Rattle.clifford.specs.Clifford.{cliffordOf, identityClifford}
 use Rattle.operations.proofs.UnrefusedRecords.{complement-above}
 use Rattle.record.specs.Records.{SameRecord, complementRecord}
-use Rattle.used.proofs.AcceptedSteps.{complement-arguments}
+use Rattle.operations.proofs.AcceptedSteps.{complement-arguments}
 use Rattle.words.proofs.Sums.{lt-or-ge}
 use Rattle.groups.proofs.GroupNumbers.{in-group}
 use Rattle.groups.proofs.SameGroupsRewritten.{codes-rewritten, edges-rewritten}
@@ -20,10 +20,10 @@ use Rattle.record.specs.Lent.{LentRecord, heldRecord, heldRows}
 use Rattle.record.specs.Records.{rowsOf}
 use Rattle.stabilizer.specs.Groups.{SameGroup}
 use Rattle.store.proofs.PassingStores.{held-record}
-use Rattle.used.proofs.LeftRecords.{used-left}
-use Rattle.used.proofs.UsedPassing.{used-step}
-use Rattle.used.specs.Used.{UsedRecord, usedStep}
-use Rattle.used.specs.internal.UsedLaws.{UsedLeft}
+use Rattle.operations.proofs.LeftRecords.{used-left}
+use Rattle.operations.proofs.UsedPassing.{used-step}
+use Rattle.operations.specs.Used.{UsedRecord, usedStep}
+use Rattle.operations.specs.internal.UsedLaws.{UsedLeft}
 use Rattle.words.specs.Bits.{Word}
 use Rattle.groups.proofs.GroupNumbers.{masked-number}
 use Rattle.groups.proofs.GroupPassing.{GroupPasses, group-passes}

@@ -13,7 +13,7 @@ use Rattle.record.proofs.AcceptedRecords.{held-above}
 use Rattle.record.specs.Accepted.{AcceptedRecord}
 use Rattle.record.specs.Lent.{heldRecord}
 use Rattle.stabilizer.proofs.ReadBack.{table-past}
-use Rattle.used.specs.Used.{UsedRecord}
+use Rattle.operations.specs.Used.{UsedRecord}
 use Rattle.words.proofs.BitLaws.{zero-bit}
 use Rattle.words.proofs.Flags.{never-true}
 use Rattle.words.proofs.Sums.{lt-or-ge}

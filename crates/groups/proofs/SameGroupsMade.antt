@@ -10,8 +10,8 @@ use lib.ListN.{List·getD-eq-default}
 use borrow.Author.Tests.{lt-ltb, not-false}
 use Rattle.buffers.specs.Refusals.{firstFitting}
 use Rattle.clifford.specs.Clifford.{cliffordOf}
-use Rattle.graph.proofs.Complement.{complement-simple}
-use Rattle.graph.specs.Graph.{Simple}
+use Rattle.record.proofs.Complement.{complement-simple}
+use Rattle.record.specs.Graph.{Simple}
 use Rattle.operations.proofs.CzGroups.{cz-proper}
 use Rattle.operations.proofs.Determined.{measured-proper}
 use Rattle.operations.proofs.MeasuredRecords.{pauli-acts}
@@ -26,7 +26,7 @@ use Rattle.record.specs.Lent.{LentRecord, heldRecord}
 use Rattle.record.specs.Records.{GraphRecord, SameRecord, complementRecord, rowsOf}
 use Rattle.stabilizer.proofs.EqualRows.{same-group-equal}
 use Rattle.stabilizer.specs.Groups.{Proper, SameGroup}
-use Rattle.used.proofs.AcceptedSteps.{
+use Rattle.operations.proofs.AcceptedSteps.{
   accepted-step,
   after-made,
   complement-arguments,
@@ -37,7 +37,7 @@ use Rattle.used.proofs.AcceptedSteps.{
   measure-arguments,
   measured-list,
 }
-use Rattle.used.specs.Used.{UsedRecord}
+use Rattle.operations.specs.Used.{UsedRecord}
 use Rattle.words.proofs.Flags.{neither}
 use Rattle.words.specs.Bits.{Word, isOdd}
 use Rattle.groups.proofs.SameGroupsFollowed.{followed-same}

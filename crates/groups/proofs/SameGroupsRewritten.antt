@@ -4,8 +4,8 @@ use mathlib.Core.Path.{_≡_, ap, ap₂, fun-ext, refl, sym, _∙_}
 use Prim.Native.Nat.{ℕ, _<_}
 use lib.Dec.{eqb}
 use Rattle.clifford.specs.Clifford.{cliffordOf, then}
-use Rattle.graph.proofs.Complement.{complement-simple}
-use Rattle.graph.specs.Graph.{Graph, complement}
+use Rattle.record.proofs.Complement.{complement-simple}
+use Rattle.record.specs.Graph.{Graph, complement}
 use Rattle.record.specs.Records.{GraphRecord, complementRecord, recoded, rowsOf}
 use Rattle.words.proofs.Finite.{⊕-zero}
 use Rattle.words.proofs.Places.{other-place}

@@ -8,7 +8,7 @@ use native.Mathlib.Omega.{arith}
 use lib.Dec.{eqb}
 use Rattle.clifford.specs.Clifford.{Clifford, image, imagePhase}
 use Rattle.clifford.specs.Vectors.{act}
-use Rattle.graph.specs.Graph.{Simple, graphGenerator}
+use Rattle.record.specs.Graph.{Simple, graphGenerator}
 use Rattle.operations.specs.Measurement.{single}
 use Rattle.pauli.proofs.PauliLaws.{Pauli-path}
 use Rattle.pauli.specs.Pauli.{_+ᵖ_, Pauli, anticommute, i⁰, letter, letterAt, xBit, zBit}

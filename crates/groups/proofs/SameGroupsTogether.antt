@@ -5,7 +5,7 @@ use mathlib.Core.Path.{ap, refl, subst, sym, _∙_, _≡_}
 use Prim.Native.Nat.{_<_, ℕ}
 use lib.Dec.{eqb}
 use Rattle.clifford.specs.Clifford.{image}
-use Rattle.graph.specs.Graph.{Simple}
+use Rattle.record.specs.Graph.{Simple}
 use Rattle.operations.proofs.MeasuredRecords.{alone-row}
 use Rattle.operations.specs.Measurement.{single}
 use Rattle.pauli.specs.Pauli.{Pauli, identity, mul}

@@ -9,7 +9,7 @@ use native.Mathlib.Omega.{arith}
 use lib.Dec.{eqb, ltb}
 use borrow.Author.Tests.{eqb-true, ltb-false, not-false}
 use Rattle.buffers.specs.Refusals.{Refusal, firstFitting, line, otherThan, withTest}
-use Rattle.contracts.proofs.Fitting.{NoneHolds, none-fits-of, none-holds}
+use Rattle.buffers.proofs.Fitting.{NoneHolds, none-fits-of, none-holds}
 use Rattle.stabilizer.proofs.SharedTests.{has-length, length-passes}
 use Rattle.store.proofs.PassingStores.{bare, store-accepted}
 use Rattle.store.proofs.SavePlaces.{full}
@@ -18,7 +18,7 @@ use Rattle.store.specs.Kept.{savePlace}
 use Rattle.store.specs.Places.{Store, countAt, hasName, holdsName, isHeld, namedTwice, othersHeld, placeAt, placeOf}
 use Rattle.store.specs.StoreLines.{holdsLine, ofHeld, ofRecord, recordTests, storeLengths, storeLines}
 use Rattle.store.specs.internal.Passing.{Passing}
-use Rattle.used.specs.Used.{UsedRecord, usedLines}
+use Rattle.operations.specs.Used.{UsedRecord, usedLines}
 use Rattle.words.proofs.Flags.{both-true, neither}
 use Rattle.words.proofs.SearchLaws.{some-false, some-true}
 use Rattle.words.proofs.Sums.{lt-or-ge}

@@ -13,9 +13,9 @@ use Rattle.record.proofs.AcceptedRecords.{none-refuses}
 use Rattle.record.proofs.SimpleVerdict.{SimpleBelow}
 use Rattle.record.specs.Lent.{heldRecord, recordLines}
 use Rattle.stabilizer.proofs.SharedTests.{table-passes}
-use Rattle.used.proofs.LeftRecords.{all-good}
-use Rattle.used.proofs.UsedPassing.{lines-pass}
-use Rattle.used.specs.Used.{UsedRecord, usedCode, usedLines}
+use Rattle.operations.proofs.LeftRecords.{all-good}
+use Rattle.operations.proofs.UsedPassing.{lines-pass}
+use Rattle.operations.specs.Used.{UsedRecord, usedCode, usedLines}
 use Rattle.words.proofs.BitLaws.{bit-above, bit-wordOf, wordOf-lt}
 use Rattle.words.proofs.Sums.{lt-or-ge}
 use Rattle.words.specs.Bits.{Word, bit, wordOf}

@@ -5,7 +5,7 @@ use Prim.Native.Nat.{ℕ}
 use lib.Dec.{eqb, ltb}
 use Rattle.buffers.specs.Refusals.{Refusal, insertedBefore, line, withTest}
 use Rattle.operations.specs.Steps.{Operation, complementOf, czOn, gateWith, measurementOf, pivotOf}
-use Rattle.used.specs.Used.{UsedRecord, usedLinesOf, usedStep}
+use Rattle.operations.specs.Used.{UsedRecord, usedLinesOf, usedStep}
 use Rattle.words.specs.Bits.{Word}
 use Rattle.groups.specs.Masks.{crosses, inGroup, masked, merged}
 

@@ -9,7 +9,7 @@ use Rattle.buffers.specs.Refusals.{Refusal, line, withTest}
 use Rattle.store.specs.Kept.{savePlace, withPlace}
 use Rattle.store.specs.Places.{Store, countAt, holdsName, isHeld, namedTwice, othersHeld, placeAt, placeOf}
 use Rattle.store.specs.StoreLines.{holdsLine, ofHeld, ofRecord, recordTests, storeLengths}
-use Rattle.used.specs.Used.{UsedRecord}
+use Rattle.operations.specs.Used.{UsedRecord}
 use Rattle.words.specs.Bits.{Word}
 use Rattle.words.specs.Search.{some}
 use Rattle.groups.specs.GroupLines.{withGroup}

@@ -4,7 +4,7 @@ use Prim.Native.Nat.{ℕ}
 use lib.Dec.{eqb}
 use lib.ListN.{getD}
 use Rattle.buffers.specs.Buffers.{tabulate}
-use Rattle.used.specs.Used.{UsedRecord}
+use Rattle.operations.specs.Used.{UsedRecord}
 use Rattle.words.specs.Bits.{Word, bit, sameBit, wordOf}
 use Rattle.words.specs.Search.{some}
 

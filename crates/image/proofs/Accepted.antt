@@ -3,8 +3,8 @@ use mathlib.Core.Bool.{_&&_, Bool, false, false≢true, not, true}
 use mathlib.Core.Path.{ap, refl, subst, sym, _∙_, _≡_}
 use Prim.Native.Nat.{_<_, ℕ}
 use Rattle.clifford.specs.Clifford.{image}
-use Rattle.graph.proofs.GraphGroups.{graph-within}
-use Rattle.graph.specs.Graph.{Simple, graphGenerator}
+use Rattle.record.proofs.GraphGroups.{graph-within}
+use Rattle.record.specs.Graph.{Simple, graphGenerator}
 use Rattle.pauli.proofs.PauliLaws.{mul-scaled, square}
 use Rattle.pauli.specs.Pauli.{Pauli, i², letterAt, minus, scaled}
 use Rattle.pauli.specs.declared.Letter.the-variants.{X}

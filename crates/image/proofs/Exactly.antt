@@ -4,8 +4,8 @@ use mathlib.Core.Bool.{_&&_, Bool, false, not, true, true≢false}
 use mathlib.Core.Logic.{inl, inr, _↔_, _⊎_}
 use mathlib.Core.Path.{ap, refl, sym, _∙_, _≡_}
 use Prim.Native.Nat.{_<_, ℕ, _≤_}
-use Rattle.graph.proofs.GraphGroups.{x-determines}
-use Rattle.graph.specs.Graph.{Graph, Simple, graphGenerator}
+use Rattle.record.proofs.GraphGroups.{x-determines}
+use Rattle.record.specs.Graph.{Graph, Simple, graphGenerator}
 use Rattle.pauli.specs.Pauli.{letterAt, minus, scaled}
 use Rattle.record.specs.Records.{GraphRecord, rowsOf}
 use Rattle.stabilizer.proofs.GroupLaws.{in-row}

@@ -9,7 +9,7 @@ use native.Mathlib.Omega.{arith}
 use lib.Dec.{T, eqb, ltb, ltb→lt}
 use borrow.Author.Tests.{not-true}
 use Rattle.cut.specs.Kernel.{count}
-use Rattle.graph.specs.Graph.{Simple}
+use Rattle.record.specs.Graph.{Simple}
 use Rattle.words.proofs.Flags.{both-true}
 use Rattle.words.proofs.Places.{put-other, put-same}
 use Rattle.words.specs.Bits.{digit, put, _⊕_}

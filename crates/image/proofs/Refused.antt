@@ -10,8 +10,8 @@ use borrow.Author.Tests.{lt-ltb}
 use Rattle.clifford.proofs.VectorLaws.{act-inverse}
 use Rattle.clifford.specs.Clifford.{bitC, image, inverse}
 use Rattle.clifford.specs.Vectors.{act}
-use Rattle.graph.proofs.GraphGroups.{x-determines}
-use Rattle.graph.specs.Graph.{Simple, graphGenerator}
+use Rattle.record.proofs.GraphGroups.{x-determines}
+use Rattle.record.specs.Graph.{Simple, graphGenerator}
 use Rattle.pauli.proofs.PauliLaws.{letter-bits}
 use Rattle.pauli.specs.Pauli.{identity, letter, letterAt, minus, scaled, xBit}
 use Rattle.pauli.specs.declared.Letter.the-variants.{X}

@@ -9,8 +9,8 @@ use native.Mathlib.Omega.{arith}
 use lib.ListN.{getD, length, length-append}
 use Rattle.cut.proofs.Counting.{count-upto}
 use Rattle.cut.specs.Kernel.{count}
-use Rattle.graph.proofs.Complement.{complement-simple}
-use Rattle.graph.specs.Graph.{Simple}
+use Rattle.record.proofs.Complement.{complement-simple}
+use Rattle.record.specs.Graph.{Simple}
 use Rattle.record.proofs.ComplementLists.{VerticesBelow, add, nil}
 use Rattle.image.proofs.Falling.{fall-alone, fall-joined, pair-is}
 use Rattle.image.proofs.Moves.{Move, alone, joined, moves-are, moves-unique, stop}

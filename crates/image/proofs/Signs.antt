@@ -21,8 +21,8 @@ use Rattle.clifford.specs.Clifford.{
   imageZ,
 }
 use Rattle.clifford.specs.Vectors.{act}
-use Rattle.graph.proofs.GraphGroups.{no-loop}
-use Rattle.graph.specs.Graph.{Graph, Simple, graphGenerator}
+use Rattle.record.proofs.GraphGroups.{no-loop}
+use Rattle.record.specs.Graph.{Graph, Simple, graphGenerator}
 use Rattle.pauli.proofs.PauliLaws.{Pauli-path}
 use Rattle.pauli.proofs.PhaseLaws.{+ᵖ-zero, minus-⊕, phases}
 use Rattle.pauli.specs.Pauli.{_+ᵖ_, i⁰, letter, minus, scaled, xBit, zBit}

@@ -9,9 +9,9 @@ use lib.ListN.{length}
 use Rattle.cut.proofs.Counting.{count-upto}
 use Rattle.clifford.proofs.CliffordLaws.{fromFive, onClifford}
 use Rattle.clifford.specs.Clifford.{Clifford, bitC, bitD, cliffordOf, then}
-use Rattle.graph.proofs.Complement.{complement-simple}
-use Rattle.graph.proofs.GraphGroups.{no-loop}
-use Rattle.graph.specs.Graph.{Simple, complement}
+use Rattle.record.proofs.Complement.{complement-simple}
+use Rattle.record.proofs.GraphGroups.{no-loop}
+use Rattle.record.specs.Graph.{Simple, complement}
 use Rattle.record.proofs.ComplementLists.{complement-all-same, complement-all-simple}
 use Rattle.record.specs.Records.{GraphRecord, complementAll, complementRecord, rowsOf}
 use Rattle.stabilizer.specs.Groups.{SameGroup}

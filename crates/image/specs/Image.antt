@@ -3,7 +3,7 @@ use mathlib.Core.Bool.{_&&_, Bool, false, not, _||_}
 use mathlib.Core.List.{_++_, List, [], _∷_}
 use Prim.Native.Nat.{ℕ}
 use Rattle.buffers.specs.Refusals.{Refusal, line, otherThan}
-use Rattle.graph.specs.Graph.{Graph, Simple, graphGenerator}
+use Rattle.record.specs.Graph.{Graph, Simple, graphGenerator}
 use Rattle.pauli.specs.Pauli.{Pauli, i², letterAt, minus, scaled, xBit, zBit}
 use Rattle.pauli.specs.declared.Letter.{Letter}
 use Rattle.record.specs.Lent.{LentRecord, heldRecord, recordLines}

@@ -4,7 +4,7 @@ use mathlib.Core.List.{_++_, List, [], _∷_}
 use Prim.Native.Nat.{suc, zero, ℕ}
 use lib.Dec.{ltb}
 use Rattle.clifford.specs.Clifford.{bitC, bitD}
-use Rattle.graph.specs.Graph.{Graph, complement}
+use Rattle.record.specs.Graph.{Graph, complement}
 use Rattle.record.specs.Records.{GraphRecord}
 use Rattle.words.specs.Bits.{Word, put, _⊕_}
 use Rattle.words.specs.Search.{first, some}

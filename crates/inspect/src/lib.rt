@@ -1,5 +1,5 @@
 // The codes' tables and the arithmetic of rows, exported for tests. Not part of the engine's public calls.
-use clifford_codes::Code;
+use clifford_impl::codes::Code;
 use pauli::clashes;
 use pauli::letter_of;
 use pauli::letters_phase;

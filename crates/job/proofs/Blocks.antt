@@ -2,7 +2,7 @@
 use mathlib.Core.List.{List, [], _++_}
 use mathlib.Core.Path.{_∙_, _≡_, ap, sym}
 use Prim.Native.Nat.{ℕ}
-use Rattle.job_text.specs.internal.Scan.{empty, fed, feed, Reading}
+use Rattle.jobs.specs.internal.Scan.{empty, fed, feed, Reading}
 use Rattle.text.proofs.Feeding.{fed-append}
 use Rattle.text.specs.internal.Feeding.{fedBytes}
 use Rattle.job.specs.internal.Reads.{ScannedJob}

@@ -4,7 +4,7 @@ use mathlib.Core.List.{List}
 use Prim.Native.Nat.{ℕ}
 use lib.ListN.{take}
 use Rattle.claims.specs.ProgramDemand.{JobTextAnswered}
-use Rattle.job_text.specs.Answer.{ResponseTo}
+use Rattle.jobs.specs.Answer.{ResponseTo}
 
 -- a text was read, and its answer printed; the bytes up to there say of the text what the demands say
 pub record Responded (before after : List ℕ) (r : ℕ) : Type 0 where

@@ -1,15 +1,15 @@
-// Reads a job from standard input, to its end and in blocks, and prints the answer to it, which `reply` of job_reply
+// Reads a job from standard input, to its end and in blocks, and prints the answer to it, which `reply` of jobs_replies
 // makes of what was read.
-use job_reply::reply;
-use job_scan::Reading;
-use job_scan::read_block;
-use job_scan::unread;
+use jobs_impl::scanning::Reading;
+use jobs_impl::scanning::read_block;
+use jobs_impl::scanning::unread;
+use jobs_replies::answers::reply;
 use libc::STDIN_FILENO;
 use libc::STDOUT_FILENO;
 ghost use Prim.Native.Nat.{_≤_};
 ghost use lib.ListN.{length};
-ghost use Rattle.job_reply.specs.Room.{longest};
-ghost use Rattle.job_text.specs.internal.Scan.{asReading};
+ghost use Rattle.jobs_replies.specs.Room.{longest};
+ghost use Rattle.jobs.specs.internal.Scan.{asReading};
 ghost use Rattle.job.specs.Reads.{Responded};
 ghost use Rattle.job.specs.internal.Reads.{ScannedJob};
 

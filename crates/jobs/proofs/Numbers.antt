@@ -24,8 +24,8 @@ use Rattle.operations.specs.Steps.{
   pivotOf,
 }
 use Rattle.record.specs.Lent.{recordCodes, recordLengths, recordLines, recordStray}
-use Rattle.used.proofs.UsedPassing.{lines-pass}
-use Rattle.used.specs.Used.{
+use Rattle.operations.proofs.UsedPassing.{lines-pass}
+use Rattle.operations.specs.Used.{
   UsedRecord,
   namesUsed,
   usedArgumentsOf,

@@ -27,7 +27,7 @@ use Rattle.operations.specs.declared.Outcome.{Outcome}
 use Rattle.operations.specs.declared.Outcome.the-variants.{Chosen, Determined}
 use Rattle.record.specs.Lent.{LentRecord, codeNumbers, neighbourWords}
 use Rattle.record.specs.Records.{GraphRecord}
-use Rattle.used.specs.Used.{UsedRecord, usedAfter, usedLinesOf, usedStep}
+use Rattle.operations.specs.Used.{UsedRecord, usedAfter, usedLinesOf, usedStep}
 use Rattle.words.proofs.BitLaws.{digit-lt}
 use Rattle.words.specs.Bits.{wordOf}
 use Rattle.jobs.specs.Asked.{asked, numberOf, unusedSet}

@@ -10,7 +10,7 @@ use Rattle.buffers.proofs.Tabulate.{tabulate-is}
 use Rattle.buffers.specs.Refusals.{firstFitting}
 use Rattle.clifford.specs.Clifford.{cliffordOf, codeOf, identityClifford, image, imagePhase}
 use Rattle.clifford.specs.Vectors.{act}
-use Rattle.graph.specs.Graph.{Simple}
+use Rattle.record.specs.Graph.{Simple}
 use Rattle.operations.specs.Cz.{zAt}
 use Rattle.pauli.proofs.PhaseLaws.{phaseMonoid}
 use Rattle.pauli.specs.Pauli.{_+ᵖ_, i⁰, letter, xBit, zBit}
@@ -18,8 +18,8 @@ use Rattle.record.proofs.WrittenRecords.{record-passes, record-rows-back, writt
 use Rattle.record.specs.Lent.{heldRows, recordLines}
 use Rattle.record.specs.Records.{GraphRecord, rowsOf}
 use Rattle.stabilizer.proofs.EqualRows.{same-group-equal}
-use Rattle.used.proofs.UsedPassing.{unused-passes}
-use Rattle.used.specs.Used.{usedLines}
+use Rattle.operations.proofs.UsedPassing.{unused-passes}
+use Rattle.operations.specs.Used.{usedLines}
 use Rattle.words.proofs.Sums.{fold-unit}
 use Rattle.words.specs.Bits.{wordOf}
 use Rattle.jobs.specs.GroupsAfter.{StartGroup}

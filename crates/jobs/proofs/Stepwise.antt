@@ -7,7 +7,7 @@ use native.Mathlib.Nat.{le-of-suc-le-suc, not-suc-le-zero}
 use lib.Dec.{eqb}
 use lib.ListN.{getD, length, take}
 use Rattle.operations.specs.Steps.{leaves}
-use Rattle.used.specs.Used.{UsedRecord, usedAfter, usedStep}
+use Rattle.operations.specs.Used.{UsedRecord, usedAfter, usedStep}
 use Rattle.jobs.specs.Asked.{asked, numberOf}
 use Rattle.jobs.specs.Runs.{afterStep, answerOf, stepAnswers, run}
 use Rattle.jobs.specs.declared.Answer.{Answer}

@@ -25,7 +25,7 @@ use Rattle.operations.specs.Steps.{
   pivotLines,
   pivotOf,
 }
-use Rattle.used.specs.Used.{UsedRecord, namesUsed, usedLines, usedLinesOf}
+use Rattle.operations.specs.Used.{UsedRecord, namesUsed, usedLines, usedLinesOf}
 use Rattle.words.proofs.Sums.{lt-or-ge}
 
 -- a measurement's value gives a Pauli 1 to 3 and an outcome, unless it is 6 or more

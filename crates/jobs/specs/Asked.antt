@@ -4,7 +4,7 @@ use Prim.Native.Nat.{_%_, _+_, _/_, ℕ}
 use lib.Dec.{eqb}
 use Rattle.buffers.specs.Refusals.{firstFitting, withTest}
 use Rattle.operations.specs.Steps.{Operation, complementOf, czOn, gateWith, measurementOf, pivotOf}
-use Rattle.used.specs.Used.{UsedRecord, usedLinesOf}
+use Rattle.operations.specs.Used.{UsedRecord, usedLinesOf}
 use Rattle.jobs.specs.declared.Op.{Op}
 use Rattle.jobs.specs.declared.Op.the-variants.{Complement, Cz, Gate, Measure, Pivot}
 use Rattle.jobs.specs.declared.Step.{Step}

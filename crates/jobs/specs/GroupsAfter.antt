@@ -14,7 +14,7 @@ use Rattle.operations.specs.Steps.{Operation, complementOf, czOn, gateWith, mea
 use Rattle.pauli.specs.Pauli.{Pauli, anticommute, mul}
 use Rattle.pauli.specs.declared.Letter.{Letter}
 use Rattle.stabilizer.specs.Groups.{InGroup}
-use Rattle.used.specs.Used.{UsedRecord, usedArgumentsOf}
+use Rattle.operations.specs.Used.{UsedRecord, usedArgumentsOf}
 use Rattle.words.specs.Bits.{isOdd}
 use Rattle.jobs.specs.Asked.{asked, unusedSet}
 use Rattle.jobs.specs.Runs.{afterStep}

@@ -8,7 +8,7 @@ use Rattle.buffers.specs.Buffers.{acceptedNumber}
 use Rattle.operations.specs.Measurement.{determinedNumber, outcomeNumber}
 use Rattle.operations.specs.Steps.{Operation, complementOf, czOn, gateWith, measuredAnswer, measurementOf, pivotOf}
 use Rattle.record.specs.Lent.{LentRecord}
-use Rattle.used.specs.Used.{UsedRecord, usedStep}
+use Rattle.operations.specs.Used.{UsedRecord, usedStep}
 use Rattle.jobs.specs.Asked.{asked, numberOf}
 use Rattle.jobs.specs.declared.Answer.{Answer}
 use Rattle.jobs.specs.declared.Step.{Step}

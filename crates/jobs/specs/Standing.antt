@@ -9,7 +9,7 @@ use Rattle.buffers.specs.Refusals.{firstFitting}
 use Rattle.pauli.specs.Pauli.{Pauli}
 use Rattle.record.specs.Lent.{LentRecord, heldRows, recordLines}
 use Rattle.stabilizer.specs.Groups.{InGroup}
-use Rattle.used.specs.Used.{UsedRecord, usedLines}
+use Rattle.operations.specs.Used.{UsedRecord, usedLines}
 
 -- the record that a call leaves
 abbrev pub left : LentRecord → List ℕ → List ℕ → LentRecord

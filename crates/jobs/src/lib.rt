@@ -1,4 +1,9 @@
 // Jobs: sessions written as steps, each with its operation, its qubits and a value: see specs/ and proofs/.
+// The table of a plot as text. See specs/ for the definitions and proofs/ for the laws.
+pub mod drawing;
+pub mod letters;
+pub mod scan;
+
 ghost use mathlib.Core.Path.{_≡_};
 ghost use Rattle.jobs.specs.Asked.{unusedSet};
 ghost use Rattle.jobs.specs.internal.Asked.{valueLimit, withoutB, withoutValue, wrongValue};

@@ -5,7 +5,7 @@ use Rattle.clifford.proofs.CliffordLaws.{then-id}
 use Rattle.clifford.proofs.VectorLaws.{act-cong, act-then}
 use Rattle.clifford.specs.Clifford.{Clifford, then}
 use Rattle.clifford.specs.Vectors.{act, only}
-use Rattle.graph.specs.Graph.{graphGenerator}
+use Rattle.record.specs.Graph.{graphGenerator}
 use Rattle.record.specs.Records.{GraphRecord, rowsOf}
 use Rattle.stabilizer.proofs.Carried.{carries-same, same-rows}
 use Rattle.stabilizer.proofs.GroupLaws.{same-refl}

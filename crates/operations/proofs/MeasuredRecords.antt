@@ -22,7 +22,7 @@ use Rattle.clifford.specs.Clifford.{
   imageZ,
 }
 use Rattle.clifford.specs.Vectors.{act}
-use Rattle.graph.specs.Graph.{Graph, Simple}
+use Rattle.record.specs.Graph.{Graph, Simple}
 use Rattle.pauli.proofs.PauliLaws.{Pauli-path, letter-bits}
 use Rattle.pauli.proofs.PhaseLaws.{phaseMonoid}
 use Rattle.pauli.specs.Pauli.{_+ᵖ_, Pauli, anticommute, clash, i⁰, letter, letterAt, xBit, zBit}

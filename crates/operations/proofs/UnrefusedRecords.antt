@@ -8,8 +8,8 @@ use lib.ListN.{List·getD-eq-default, getD, length}
 use Rattle.buffers.proofs.Tabulate.{tabulate-length}
 use Rattle.buffers.specs.Refusals.{firstFitting}
 use Rattle.clifford.specs.Clifford.{cliffordOf, identityClifford, then}
-use Rattle.graph.specs.Graph.{Simple}
-use Rattle.graph.specs.NeighbourWords.{graphIn}
+use Rattle.record.specs.Graph.{Simple}
+use Rattle.record.specs.NeighbourWords.{graphIn}
 use Rattle.record.proofs.AcceptedRecords.{accepted-passes, accepted-record}
 use Rattle.record.proofs.Unique.{record-path}
 use Rattle.record.proofs.WrittenRecords.{record-back, record-passes, writtenRecord}

@@ -1,5 +1,7 @@
-pub mod Gates
 pub mod Cz
+pub mod Gates
 pub mod Measurement
 pub mod Steps
+pub mod Used
+pub mod UsedLaws
 pub mod internal

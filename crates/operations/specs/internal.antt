@@ -1,3 +1,9 @@
+pub mod GraphSteps
 pub mod InPlace
+pub mod KeptGroups
+pub mod ReadyPairs
+pub mod ReducedForms
 pub mod Sessions
+pub mod Settling
 pub mod Steps
+pub mod UsedLaws

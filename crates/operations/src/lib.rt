@@ -1,6 +1,9 @@
 // Gates, CZ, measurements, complements and pivots on groups and on records: what they are, and laws.
+// Gates, CZ and measurements as steps on a graph and its codes: see specs/ for the steps, and proofs/ for what they do
+// to the group. The code stands in operations_gates, operations_gates and operations_measurement.
+// Records with a word of used qubits: see specs/ for the lines and what a call leaves, and proofs/ for the laws.
 use buffers::sign_digit;
-use clifford_codes::Code;
+use clifford_impl::codes::Code;
 ghost use mathlib.Core.Path.{_≡_};
 ghost use Prim.Native.Nat.{ℕ, _<_};
 ghost use lib.ListN.{getD};

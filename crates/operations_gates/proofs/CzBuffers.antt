@@ -9,15 +9,15 @@ use Rattle.buffers.proofs.Tabulate.{tabulate-cong, tabulate-is}
 use Rattle.buffers.specs.Buffers.{tabulate}
 use Rattle.clifford.specs.Clifford.{cliffordOf, codeOf, then}
 use Rattle.clifford.specs.Vectors.{codesOf}
-use Rattle.graph.specs.Graph.{Simple}
-use Rattle.graph.specs.internal.Joined.{joinedBy}
-use Rattle.graph.specs.internal.NeighbourWords.{SameGraph}
-use Rattle.graph.specs.NeighbourWords.{graphIn}
-use Rattle.graph_steps.proofs.CzSteps.{cz-simple, turned-above}
-use Rattle.graph_steps.proofs.Places.{z-before}
-use Rattle.graph_steps.proofs.Reaching.{reach-below}
-use Rattle.graph_steps.specs.internal.ReadyPairs.{Ready}
-use Rattle.graph_steps.specs.internal.Steps.{czRecord, czTurned, pauliCode, reach, reachMinus}
+use Rattle.record.specs.Graph.{Simple}
+use Rattle.record.specs.internal.Joined.{joinedBy}
+use Rattle.record.specs.internal.NeighbourWords.{SameGraph}
+use Rattle.record.specs.NeighbourWords.{graphIn}
+use Rattle.operations.proofs.CzSteps.{cz-simple, turned-above}
+use Rattle.operations.proofs.Places.{z-before}
+use Rattle.operations.proofs.Reaching.{reach-below}
+use Rattle.operations.specs.internal.ReadyPairs.{Ready}
+use Rattle.operations.specs.internal.GraphSteps.{czRecord, czTurned, pauliCode, reach, reachMinus}
 use Rattle.operations.proofs.UnrefusedRecords.{unrefused-long, unrefused-simple}
 use Rattle.operations.specs.internal.InPlace.{Rewritten, Unrefused, recordIn}
 use Rattle.record.specs.Lent.{heldRecord}

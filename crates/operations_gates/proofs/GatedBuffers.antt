@@ -11,14 +11,14 @@ use Rattle.buffers.proofs.Tabulate.{tabulate-is}
 use Rattle.clifford.proofs.CliffordLaws.{codeOf-cliffordOf}
 use Rattle.clifford.specs.Clifford.{Clifford, cliffordOf, codeOf, identityClifford, then}
 use Rattle.clifford.specs.Vectors.{codesOf}
-use Rattle.graph.specs.Graph.{Simple}
-use Rattle.graph_steps.proofs.CzSteps.{cz-reduced-form}
-use Rattle.graph_steps.proofs.Keeping.{held-words}
-use Rattle.graph_steps.proofs.Reaching.{form-ready}
-use Rattle.graph_steps.specs.internal.KeptGroups.{Normalised}
-use Rattle.graph_steps.specs.internal.ReadyPairs.{Ready}
-use Rattle.graph_steps.specs.internal.ReducedForms.{ReducedForm}
-use Rattle.graph_steps.specs.internal.Steps.{czRecord}
+use Rattle.record.specs.Graph.{Simple}
+use Rattle.operations.proofs.CzSteps.{cz-reduced-form}
+use Rattle.operations.proofs.Keeping.{held-words}
+use Rattle.operations.proofs.Reaching.{form-ready}
+use Rattle.operations.specs.internal.KeptGroups.{Normalised}
+use Rattle.operations.specs.internal.ReadyPairs.{Ready}
+use Rattle.operations.specs.internal.ReducedForms.{ReducedForm}
+use Rattle.operations.specs.internal.GraphSteps.{czRecord}
 use Rattle.operations.proofs.CzGroups.{cz-proper}
 use Rattle.operations.proofs.GroupAlone.{cz-of-group, reduced-of-group}
 use Rattle.operations.proofs.UnrefusedRecords.{

@@ -5,7 +5,7 @@ use Prim.Native.Nat.{_<_, _^_, ℕ, _≤_}
 use lib.Dec.{eqb}
 use borrow.Author.Tests.{le-leb, lt-leb}
 use Rattle.clifford.specs.Clifford.{bitC, cliffordOf}
-use Rattle.graph_steps.proofs.OutOfPlace.{number-C}
+use Rattle.operations.proofs.OutOfPlace.{number-C}
 use Rattle.words.proofs.BitLaws.{bit-single}
 use Rattle.words.specs.Bits.{bit}
 

@@ -9,9 +9,9 @@ use lib.ListN.{getD, length, set}
 use lib.Pow.{pow-lt, pow-pos}
 use lib.Seq.{getD-set-other}
 use borrow.Author.Tests.{eqb-false}
-use Rattle.graph_settling.specs.internal.Watching.{Suspected, Watched, suspectAt}
-use Rattle.graph_steps.proofs.OutOfPlace.{form-settled}
-use Rattle.graph_steps.specs.internal.KeptGroups.{unsettled}
+use Rattle.operations_gates.specs.internal.Watching.{Suspected, Watched, suspectAt}
+use Rattle.operations.proofs.OutOfPlace.{form-settled}
+use Rattle.operations.specs.internal.KeptGroups.{unsettled}
 use Rattle.operations.specs.internal.InPlace.{Unrefused, recordIn}
 use Rattle.words.proofs.BitLaws.{bit-or, bit-single}
 use Rattle.words.specs.Bits.{bit, isOdd}

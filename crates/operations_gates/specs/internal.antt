@@ -1,1 +1,5 @@
+pub mod Bytes
+pub mod Counting
 pub mod Settled
+pub mod Suspects
+pub mod Watching

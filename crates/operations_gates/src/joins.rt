@@ -1,6 +1,6 @@
 // CZ on two vertices that are ready for it, in a record's buffers: edges between two sets of vertices are flipped.
-use graph::join_sets;
-use operations_rewriting::put_before;
+use operations_rewriting::complements::put_before;
+use record::graph::join_sets;
 use words::single;
 use words::where_true;
 ghost use mathlib.Core.Bool.{_&&_, cond};
@@ -10,8 +10,8 @@ ghost use Prim.Native.Nat.{ℕ, _<_};
 ghost use lib.Dec.{eqb};
 ghost use lib.ListN.{length};
 ghost use Rattle.clifford.specs.Clifford.{bitC, cliffordOf};
-ghost use Rattle.graph_steps.specs.internal.ReadyPairs.{Ready};
-ghost use Rattle.graph_steps.specs.internal.Steps.{czRecord};
+ghost use Rattle.operations.specs.internal.ReadyPairs.{Ready};
+ghost use Rattle.operations.specs.internal.GraphSteps.{czRecord};
 ghost use Rattle.operations.specs.internal.InPlace.{Rewritten, Unrefused, recordIn};
 ghost use Rattle.record.specs.Lent.{heldRecord};
 ghost use Rattle.words.specs.Bits.{_⊕_, bit};

@@ -1,8 +1,11 @@
 // Gates and CZ on a record in its buffers.
-pub mod joins;
+mod joins;
+pub mod settling;
+pub mod suspecting;
+pub mod unsettled;
 
 use crate::joins::cz_ready;
-use graph_settling::settle_all;
+use crate::settling::settle_all;
 use operations::compose;
 use words::single;
 ghost use mathlib.Core.Logic.{_≢_};
@@ -11,7 +14,7 @@ ghost use Prim.Native.Nat.{ℕ, _<_};
 ghost use lib.ListN.{getD, length, set};
 ghost use Rattle.clifford.specs.Clifford.{cliffordOf, codeOf, then};
 ghost use Rattle.clifford.specs.Vectors.{codesOf};
-ghost use Rattle.graph_settling.specs.internal.Watching.{Suspected, Watched};
+ghost use Rattle.operations_gates.specs.internal.Watching.{Suspected, Watched};
 ghost use Rattle.operations.specs.Cz.{czRows};
 ghost use Rattle.operations.specs.Gates.{gated};
 ghost use Rattle.operations.specs.internal.InPlace.{Rewritten, Unrefused, recordIn};

@@ -4,8 +4,8 @@ use mathlib.Core.Path.{_≡_}
 use Prim.Native.Nat.{_<_, ℕ, _≤_}
 use lib.ListN.{length}
 use Rattle.clifford.specs.Clifford.{identityClifford}
-use Rattle.graph.proofs.Complement.{complement-simple}
-use Rattle.graph.specs.Graph.{Simple}
+use Rattle.record.proofs.Complement.{complement-simple}
+use Rattle.record.specs.Graph.{Simple}
 use Rattle.operations.proofs.UnrefusedRecords.{
   complement-above,
   rewritten-held,

@@ -1,3 +1,7 @@
+pub mod ComplementedRecords
+pub mod FlippedRows
+pub mod PivotCodes
+pub mod PivotedRecords
 pub mod PuttingBefore
 pub mod Recoding
-pub mod ComplementedRecords
+pub mod ThreePasses

@@ -11,10 +11,10 @@ use Rattle.buffers.proofs.Tabulate.{tabulate-at, tabulate-is, tabulate-length}
 use Rattle.buffers.specs.Buffers.{tabulate}
 use Rattle.clifford.specs.Clifford.{Clifford, cliffordOf, codeOf, then}
 use Rattle.clifford.specs.Vectors.{codesOf}
-use Rattle.graph.proofs.Complement.{complement-simple}
-use Rattle.graph.specs.Graph.{Simple, complement}
-use Rattle.graph.specs.internal.NeighbourWords.{SameGraph}
-use Rattle.graph.specs.NeighbourWords.{graphIn}
+use Rattle.record.proofs.Complement.{complement-simple}
+use Rattle.record.specs.Graph.{Simple, complement}
+use Rattle.record.specs.internal.NeighbourWords.{SameGraph}
+use Rattle.record.specs.NeighbourWords.{graphIn}
 use Rattle.operations.specs.internal.InPlace.{Rewritten, Unrefused, recordIn}
 use Rattle.record.proofs.AcceptedRecords.{accepted-record}
 use Rattle.record.specs.Accepted.{AcceptedRecord}

@@ -5,8 +5,8 @@ use Prim.Native.Nat.{_<_, ℕ, _≤_}
 use native.Mathlib.Omega.{arith}
 use lib.Bits.{bitXor, xor-lt}
 use lib.Dec.{eqb}
-use Rattle.graph.proofs.Complement.{complement-simple}
-use Rattle.graph.specs.Graph.{Graph, Simple, complement}
+use Rattle.record.proofs.Complement.{complement-simple}
+use Rattle.record.specs.Graph.{Graph, Simple, complement}
 use Rattle.words.proofs.BitLaws.{bit-ext, bit-xor}
 use Rattle.words.proofs.Finite.{⊕-twice, ⊕-zero}
 use Rattle.words.proofs.Places.{other-place}

@@ -3,7 +3,7 @@ use mathlib.Core.List.{List, [], _∷_}
 use mathlib.Core.Path.{refl, _≡_}
 use Prim.Native.Nat.{ℕ}
 use lib.ListN.{length}
-use Rattle.graph.specs.NeighbourWords.{graphIn}
+use Rattle.record.specs.NeighbourWords.{graphIn}
 use Rattle.words.specs.Bits.{bit, wordOf}
 use Rattle.words.specs.Search.{some}
 use Rattle.orbits.specs.Numbers.{complementNumber, graphAt, graphNumber, pairAt}

@@ -7,7 +7,7 @@ use native.Mathlib.Decide.{ℕ-discrete}
 use native.Mathlib.Omega.{arith}
 use lib.Dec.{eqb}
 use borrow.Author.Tests.{eqb-true}
-use Rattle.graph.specs.Graph.{Graph, Simple}
+use Rattle.record.specs.Graph.{Graph, Simple}
 use Rattle.words.proofs.BitLaws.{bit-ext, bit-wordOf, wordOf-lt}
 use Rattle.words.proofs.Finite.{bits}
 use Rattle.words.proofs.Flags.{both-true, either, never-true, same-by-both}

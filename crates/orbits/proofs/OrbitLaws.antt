@@ -8,8 +8,8 @@ use native.Mathlib.Nat.{le-trans}
 use native.Mathlib.Omega.{arith}
 use lib.ListN.{getD, length}
 use Rattle.cut.proofs.Counting.{count-upto}
-use Rattle.graph.proofs.Complement.{complement-simple}
-use Rattle.graph.specs.Graph.{Graph, Simple}
+use Rattle.record.proofs.Complement.{complement-simple}
+use Rattle.record.specs.Graph.{Graph, Simple}
 use Rattle.words.proofs.Sums.{lt-or-ge}
 use Rattle.orbits.proofs.Complements.{complement-graph, complement-number}
 use Rattle.orbits.proofs.GraphNumbers.{graph-number, number-graph, number-lt}

@@ -3,7 +3,7 @@
 use mathlib.Core.Bool.{_&&_, Bool, cond, _||_}
 use Prim.Native.Nat.{_*_, _+_, _-_, _/_, _^_, suc, zero, ℕ}
 use lib.Dec.{eqb, ltb}
-use Rattle.graph.specs.Graph.{Graph, complement}
+use Rattle.record.specs.Graph.{Graph, complement}
 use Rattle.orbits.specs.declared.Pair.{Pair}
 use Rattle.words.specs.Bits.{bit, wordOf}
 use Rattle.words.specs.Search.{some}

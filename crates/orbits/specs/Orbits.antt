@@ -4,7 +4,7 @@ use mathlib.Core.List.{List, [], _++_, _∷_}
 use mathlib.Core.Path.{_≡_}
 use Prim.Native.Nat.{_<_, _^_, suc, zero, ℕ}
 use lib.ListN.{getD, length}
-use Rattle.graph.specs.Graph.{Graph, complement}
+use Rattle.record.specs.Graph.{Graph, complement}
 use Rattle.orbits.specs.Numbers.{complementNumber, graphCount}
 use Rattle.words.specs.Bits.{bit, wordOf}
 use Rattle.words.specs.Search.{some}

@@ -10,7 +10,7 @@ use lib.Pow.{pow-pos}
 use Rattle.buffers.proofs.Lines.{none-fits, not-held, only-where-true, passed}
 use Rattle.buffers.proofs.Reaching.{below-all}
 use Rattle.buffers.specs.Refusals.{badCount, firstFitting, reaching}
-use Rattle.graph.specs.Graph.{Simple}
+use Rattle.record.specs.Graph.{Simple}
 use Rattle.stabilizer.proofs.SharedTests.{below-passes, count-passes, counted, length-passes}
 use Rattle.words.proofs.BitLaws.{bit-above, zero-bit}
 use Rattle.words.proofs.Flags.{neither}

@@ -1,8 +1,8 @@
 -- Complementing at each vertex of a list: the graph stays simple and the group is kept, signs included.
 use mathlib.Core.List.{List, [], _∷_}
 use Prim.Native.Nat.{_<_, ℕ}
-use Rattle.graph.proofs.Complement.{complement-simple}
-use Rattle.graph.specs.Graph.{Simple}
+use Rattle.record.proofs.Complement.{complement-simple}
+use Rattle.record.specs.Graph.{Simple}
 use Rattle.stabilizer.proofs.GroupLaws.{same-refl, same-trans}
 use Rattle.stabilizer.specs.Groups.{SameGroup}
 use Rattle.record.proofs.Complementing.{complement-same}

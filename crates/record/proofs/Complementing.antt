@@ -7,8 +7,8 @@ use Rattle.clifford.proofs.CliffordLaws.{cliffords, fromFive, onClifford}
 use Rattle.clifford.proofs.VectorLaws.{act-then}
 use Rattle.clifford.specs.Clifford.{Clifford, cliffordOf, identityClifford, then}
 use Rattle.clifford.specs.Vectors.{act}
-use Rattle.graph.proofs.Complement.{complement-group, rotation}
-use Rattle.graph.specs.Graph.{Graph, Simple, complement, graphGenerator}
+use Rattle.record.proofs.Complement.{complement-group, rotation}
+use Rattle.record.specs.Graph.{Graph, Simple, complement, graphGenerator}
 use Rattle.stabilizer.proofs.Carried.{act-same, same-rows}
 use Rattle.stabilizer.specs.Groups.{SameGroup}
 use Rattle.record.specs.Records.{GraphRecord, complementRecord, recoded, rowsOf}

@@ -6,8 +6,8 @@ use Prim.Native.Nat.{_<_, _^_, ℕ, _≤_}
 use lib.Dec.{eqb, ltb}
 use borrow.Author.Tests.{le-ltb, lt-ltb}
 use Rattle.clifford.specs.Vectors.{act}
-use Rattle.graph.proofs.GraphGroups.{no-loop}
-use Rattle.graph.specs.Graph.{Graph, graphGenerator}
+use Rattle.record.proofs.GraphGroups.{no-loop}
+use Rattle.record.specs.Graph.{Graph, graphGenerator}
 use Rattle.pauli.proofs.PhaseLaws.{sign-minus}
 use Rattle.pauli.specs.Pauli.{Pauli, identity, mul, signBit}
 use Rattle.stabilizer.proofs.Carried.{act-same, same-rows}

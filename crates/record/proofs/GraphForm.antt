@@ -8,7 +8,7 @@ use native.Mathlib.Decide.{ℕ-discrete}
 use native.Mathlib.Omega.{arith}
 use lib.Dec.{eqb, ltb}
 use borrow.Author.Tests.{le-ltb, lt-ltb}
-use Rattle.graph.specs.Graph.{Simple, graphGenerator}
+use Rattle.record.specs.Graph.{Simple, graphGenerator}
 use Rattle.pauli.proofs.PauliLaws.{Pauli-path}
 use Rattle.pauli.proofs.PhaseLaws.{sign-of-phase}
 use Rattle.pauli.specs.Pauli.{Pauli, minus, signBit}

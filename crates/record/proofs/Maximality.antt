@@ -6,8 +6,8 @@ use Prim.Native.Nat.{_<_, ℕ}
 use Rattle.clifford.proofs.VectorLaws.{act-after-inverse, act-anticommute, act-imaginary, act-scaled}
 use Rattle.clifford.specs.Clifford.{Clifford, inverse}
 use Rattle.clifford.specs.Vectors.{act}
-use Rattle.graph.proofs.GraphGroups.{maximal}
-use Rattle.graph.specs.Graph.{Graph, graphGenerator}
+use Rattle.record.proofs.GraphGroups.{maximal}
+use Rattle.record.specs.Graph.{Graph, graphGenerator}
 use Rattle.pauli.proofs.PauliLaws.{anticommute-swap, mul-scaled, square}
 use Rattle.pauli.proofs.PhaseLaws.{+ᵖ-assoc}
 use Rattle.pauli.specs.Pauli.{Pauli, anticommute, imaginary, i², scaled}

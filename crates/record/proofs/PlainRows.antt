@@ -8,8 +8,8 @@ use Rattle.clifford.proofs.CliffordLaws.{cliffords, fromFive, onClifford}
 use Rattle.clifford.proofs.VectorLaws.{act-id, act-then}
 use Rattle.clifford.specs.Clifford.{Clifford, cliffordOf, identityClifford, image, imagePhase, then}
 use Rattle.clifford.specs.Vectors.{act}
-use Rattle.graph.proofs.GraphGroups.{no-loop, x-determines}
-use Rattle.graph.specs.Graph.{Graph, Simple, graphGenerator}
+use Rattle.record.proofs.GraphGroups.{no-loop, x-determines}
+use Rattle.record.specs.Graph.{Graph, Simple, graphGenerator}
 use Rattle.pauli.proofs.PhaseLaws.{phaseMonoid, phases}
 use Rattle.pauli.specs.Pauli.{_+ᵖ_, Pauli, i⁰, letter, minus, xBit, zBit}
 use Rattle.stabilizer.proofs.Carried.{act-product}

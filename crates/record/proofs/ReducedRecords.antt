@@ -3,8 +3,8 @@
 use mathlib.Core.Logic.{inl, inr, _↔_}
 use mathlib.Core.Path.{subst, sym}
 use Prim.Native.Nat.{ℕ}
-use Rattle.graph.proofs.GraphGroups.{graph-proper}
-use Rattle.graph.specs.Graph.{Simple, graphGenerator}
+use Rattle.record.proofs.GraphGroups.{graph-proper}
+use Rattle.record.specs.Graph.{Simple, graphGenerator}
 use Rattle.pauli.specs.Pauli.{Pauli}
 use Rattle.stabilizer.proofs.GroupLaws.{same-sym, same-trans}
 use Rattle.stabilizer.proofs.Independence.{act-proper}

@@ -4,7 +4,7 @@ use mathlib.Core.Logic.{inl, inr, _↔_, _⊎_}
 use mathlib.Core.Path.{ap, ap₂, refl, sym, _∙_, _≡_}
 use Prim.Native.Nat.{_<_, ℕ}
 use borrow.Author.Tests.{not-false, not-true}
-use Rattle.graph.specs.Graph.{Graph}
+use Rattle.record.specs.Graph.{Graph}
 use Rattle.words.proofs.Flags.{either, neither, sameBit-true, true-sameBit}
 use Rattle.words.proofs.SearchLaws.{some-false, some-in, some-none, some-true}
 use Rattle.words.specs.Bits.{sameBit}

@@ -7,7 +7,7 @@ use Rattle.buffers.proofs.Tabulate.{tabulate-at, tabulate-length}
 use Rattle.buffers.specs.Refusals.{firstFitting}
 use Rattle.clifford.proofs.CliffordLaws.{cliffordOf-codeOf, codeOf-lt}
 use Rattle.clifford.specs.Clifford.{cliffordOf, codeOf, identityClifford}
-use Rattle.graph.specs.Graph.{Simple}
+use Rattle.record.specs.Graph.{Simple}
 use Rattle.pauli.specs.Pauli.{Pauli}
 use Rattle.record.proofs.AcceptedRecords.{none-refuses}
 use Rattle.stabilizer.proofs.EqualRows.{same-group-equal}

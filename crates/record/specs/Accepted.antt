@@ -2,7 +2,7 @@
 use mathlib.Core.Path.{_≡_}
 use Prim.Native.Nat.{_<_, _^_, ℕ, _≤_}
 use lib.ListN.{getD, length}
-use Rattle.graph.specs.Graph.{Simple}
+use Rattle.record.specs.Graph.{Simple}
 use Rattle.stabilizer.specs.Groups.{Proper}
 use Rattle.record.specs.Lent.{LentRecord, heldRecord, heldRows}
 

@@ -6,8 +6,8 @@ use Rattle.buffers.specs.Buffers.{tabulate}
 use Rattle.buffers.specs.Refusals.{Refusal, badCount, line, otherThan, reaching}
 use Rattle.clifford.specs.Clifford.{codeOf}
 use Rattle.clifford.specs.Vectors.{codesOf}
-use Rattle.graph.specs.Graph.{Graph}
-use Rattle.graph.specs.NeighbourWords.{graphIn}
+use Rattle.record.specs.Graph.{Graph}
+use Rattle.record.specs.NeighbourWords.{graphIn}
 use Rattle.pauli.specs.Pauli.{Pauli}
 use Rattle.words.specs.Bits.{sameBit, wordOf}
 use Rattle.words.specs.Search.{some}

@@ -1,5 +1,8 @@
-pub mod Records
-pub mod Columns
-pub mod Reduced
-pub mod Lent
 pub mod Accepted
+pub mod Columns
+pub mod Graph
+pub mod Lent
+pub mod NeighbourWords
+pub mod Records
+pub mod Reduced
+pub mod internal

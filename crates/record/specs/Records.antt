@@ -6,7 +6,7 @@ use Prim.Native.Nat.{ℕ}
 use lib.Dec.{eqb}
 use Rattle.clifford.specs.Clifford.{Clifford, cliffordOf, then}
 use Rattle.clifford.specs.Vectors.{act}
-use Rattle.graph.specs.Graph.{Graph, complement, graphGenerator}
+use Rattle.record.specs.Graph.{Graph, complement, graphGenerator}
 use Rattle.pauli.specs.Pauli.{Pauli}
 
 -- "A record holds n, one neighbour word and one code per vertex"; n is given beside it

@@ -6,7 +6,7 @@ use Prim.Native.Nat.{_<_, _^_, ℕ, _≤_}
 use lib.Dec.{eqb, ltb}
 use Rattle.clifford.specs.Clifford.{Clifford, XZ, YZ, cliffordOf, identityClifford, then}
 use Rattle.clifford.specs.Vectors.{act}
-use Rattle.graph.specs.Graph.{Graph, Simple}
+use Rattle.record.specs.Graph.{Graph, Simple}
 use Rattle.pauli.specs.Pauli.{Pauli, signBit}
 use Rattle.stabilizer.specs.Groups.{SameGroup, product}
 use Rattle.words.specs.Bits.{Word, bit, sameBit}

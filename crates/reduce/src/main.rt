@@ -1,11 +1,11 @@
-// Reads a generator list from standard input, by `read_list` of list_input, and prints the answer to it, which `reply` of
-// list_reply makes of what was scanned.
+// Reads a generator list from standard input, by `read_list` of text_replies, and prints the answer to it, which `reply` of
+// text_replies makes of what was scanned.
 use libc::STDOUT_FILENO;
-use list_input::read_list;
-use list_reply::reply;
+use text_replies::input::read_list;
+use text_replies::reply;
 ghost use Prim.Native.Nat.{_≤_};
 ghost use lib.ListN.{length};
-ghost use Rattle.list_reply.specs.Places.{longest};
+ghost use Rattle.text_replies.specs.Places.{longest};
 ghost use Rattle.reduce.specs.Reads.{Responded};
 
 // Prints the answer to the text on standard input.

@@ -10,7 +10,7 @@ use lib.Dec.{eqb}
 use lib.ListN.{getD, length-set, set}
 use lib.Seq.{getD-set-other, getD-set-same}
 use Rattle.buffers.specs.Refusals.{firstFitting}
-use Rattle.used.specs.Used.{usedLines}
+use Rattle.operations.specs.Used.{usedLines}
 use Rattle.words.proofs.Flags.{both-true}
 use Rattle.words.proofs.SearchLaws.{some-none, some-true}
 use Rattle.words.specs.Search.{IsFirst}

@@ -10,7 +10,7 @@ use lib.ListN.{getD, length}
 use borrow.Author.Tests.{eq-eqb, ne-eqb}
 use Rattle.buffers.specs.Refusals.{firstFitting}
 use Rattle.record.specs.Accepted.{AcceptedRecord}
-use Rattle.used.specs.Used.{UsedRecord, usedLines}
+use Rattle.operations.specs.Used.{UsedRecord, usedLines}
 use Rattle.words.proofs.Flags.{both-true}
 use Rattle.words.proofs.SearchLaws.{first-unique, some-in, some-true}
 use Rattle.words.specs.Search.{first, some}

@@ -5,7 +5,7 @@ use mathlib.Core.Path.{ap, refl, _∙_, _≡_}
 use Prim.Native.Nat.{suc, zero, ℕ}
 use lib.Dec.{eqb, eqb→eq}
 use Rattle.buffers.specs.Refusals.{Refusal, firstFitting, line, withTest}
-use Rattle.earliest.specs.internal.Earlier.{earlierOf, earliestOf}
+use Rattle.buffers.specs.internal.Earlier.{earlierOf, earliestOf}
 use Rattle.words.proofs.Finite.{Law, Of, law}
 use Rattle.words.specs.Search.{some}
 use Rattle.store.specs.StoreLines.{holdsLine, recordTests}

@@ -3,12 +3,12 @@ use mathlib.Core.Bool.{_&&_, Bool, false, true, _||_}
 use mathlib.Core.Path.{ap, ap₂, refl, sym, _∙_, _≡_}
 use Prim.Native.Nat.{_*_, _<_, ℕ}
 use Rattle.buffers.specs.Refusals.{firstFitting, otherThan}
-use Rattle.contracts.proofs.Fitting.{NoneHolds, none-fits-of, none-holds}
+use Rattle.buffers.proofs.Fitting.{NoneHolds, none-fits-of, none-holds}
 use Rattle.record.proofs.AcceptedRecords.{accepted-record}
 use Rattle.record.specs.Accepted.{AcceptedRecord}
 use Rattle.stabilizer.proofs.SharedTests.{has-length, length-passes}
-use Rattle.used.proofs.UsedPassing.{lines-pass}
-use Rattle.used.specs.Used.{UsedRecord, usedLines}
+use Rattle.operations.proofs.UsedPassing.{lines-pass}
+use Rattle.operations.specs.Used.{UsedRecord, usedLines}
 use Rattle.words.proofs.Flags.{neither}
 use Rattle.words.proofs.SearchLaws.{some-false, some-none}
 use Rattle.store.proofs.StoreNumbers.{record-number}

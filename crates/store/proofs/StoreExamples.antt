@@ -6,7 +6,7 @@ use Prim.Native.Nat.{ℕ}
 use lib.ListN.{replicate}
 use Rattle.buffers.specs.Refusals.{firstFitting, reaching}
 use Rattle.record.specs.Lent.{notSimple}
-use Rattle.used.specs.Used.{UsedRecord, usedWrong}
+use Rattle.operations.specs.Used.{UsedRecord, usedWrong}
 use Rattle.words.specs.Bits.{bit}
 use Rattle.words.specs.Search.{every, first, some}
 use Rattle.store.specs.Kept.{forgottenHeads, savePlace, saved}

@@ -5,10 +5,10 @@ use Prim.Native.Nat.{ℕ}
 use lib.Dec.{eqb, ltb}
 use borrow.Author.Tests.{eq-eqb, eqb-true, ne-eqb}
 use Rattle.buffers.specs.Refusals.{firstFitting, withTest}
-use Rattle.contracts.proofs.Fitting.{first-is}
-use Rattle.contracts.specs.Answers.{here, later}
-use Rattle.earliest.specs.internal.Earlier.{earliestOf}
-use Rattle.used.specs.Used.{UsedRecord, usedLines}
+use Rattle.buffers.proofs.Fitting.{first-is}
+use Rattle.buffers.specs.Answers.{here, later}
+use Rattle.buffers.specs.internal.Earlier.{earliestOf}
+use Rattle.operations.specs.Used.{UsedRecord, usedLines}
 use Rattle.words.proofs.SearchLaws.{some-ext}
 use Rattle.store.proofs.ManyRecords.{earlier-of, last-tested, told-by-number}
 use Rattle.store.specs.Places.{Store, countAt, isHeld, namedTwice, placeAt}

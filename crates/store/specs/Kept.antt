@@ -3,7 +3,7 @@ use mathlib.Core.Bool.{cond}
 use mathlib.Core.List.{_++_, List}
 use Prim.Native.Nat.{_*_, _+_, ℕ}
 use lib.ListN.{drop, length, set, take}
-use Rattle.used.specs.Used.{UsedRecord}
+use Rattle.operations.specs.Used.{UsedRecord}
 use Rattle.store.specs.Places.{Store, freePlace, holdsName, placeOf}
 
 -- "saving under a held name replaces it": its place; else the smallest free one

@@ -4,7 +4,7 @@ use mathlib.Core.List.{List}
 use Prim.Native.Nat.{_*_, _+_, ℕ}
 use lib.Dec.{eqb}
 use lib.ListN.{drop, getD, take}
-use Rattle.used.specs.Used.{UsedRecord}
+use Rattle.operations.specs.Used.{UsedRecord}
 use Rattle.words.specs.Search.{every, first, some}
 
 -- "Up to eight records are held, each under an eight-byte name". Each place has three words among the heads: its n,

@@ -5,7 +5,7 @@ use mathlib.Core.List.{_++_, List, [], _∷_}
 use Prim.Native.Nat.{_*_, ℕ}
 use lib.Dec.{eqb}
 use Rattle.buffers.specs.Refusals.{Refusal, line, otherThan, withTest}
-use Rattle.used.specs.Used.{UsedRecord, usedLines}
+use Rattle.operations.specs.Used.{UsedRecord, usedLines}
 use Rattle.words.specs.Search.{some}
 use Rattle.store.specs.Places.{Store, holdsName, isHeld, namedTwice, othersHeld, placeAt}
 

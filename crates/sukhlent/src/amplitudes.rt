@@ -1,6 +1,6 @@
 // The amplitudes of a record, as C sees them.
 ghost use Rattle.calls.specs.Amplitudes.{amplitudeCall};
-ghost use Rattle.contracts.specs.Calls.{Call};
+ghost use Rattle.buffers.specs.Calls.{Call};
 
 // The amplitude at y over that at the smallest word with a nonzero amplitude, as real and imaginary part, and the
 // probability of y.
@@ -20,5 +20,5 @@ pub extern "C" fn sukhlent_amplitude(
       used = used;
     }) y (now (re .entry)) (now (im .entry)) (now (p .entry)) (now (re .exit)) (now (im .exit)) (now (p .exit))) r ⌝ }
 {
-    call_amplitude::amplitude(n, neighbours, codes, used, y, re, im, p)
+    call_readings::amplitudes::amplitude(n, neighbours, codes, used, y, re, im, p)
 }

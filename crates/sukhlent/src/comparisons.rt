@@ -1,7 +1,7 @@
 // The comparison of two lists, and of two records, as C sees them.
 ghost use Rattle.calls.specs.Comparisons.{compareCall};
 ghost use Rattle.calls.specs.RecordComparisons.{compareRecordsCall};
-ghost use Rattle.contracts.specs.Calls.{Call};
+ghost use Rattle.buffers.specs.Calls.{Call};
 
 // The least choice that carries the group of the first list onto that of the second, and the complementations that
 // turn the first reduced graph into the second.
@@ -48,7 +48,7 @@ pub extern "C" fn sukhlent_compare_records(
         (now (choice .entry)) (now (list .entry)) (now (count .entry))
         (now (choice .exit)) (now (list .exit)) (now (count .exit))) r ⌝ }
 {
-    call_compare_records::compare_records(
+    call_compare::records::compare_records(
         n1,
         neighbours1,
         codes1,

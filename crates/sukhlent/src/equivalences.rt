@@ -1,6 +1,6 @@
 // The comparison of two lists, and of two records, with parts of any size, as C sees it.
 ghost use Rattle.calls.specs.Equivalences.{equivalentCall, equivalentRecordsCall};
-ghost use Rattle.contracts.specs.Calls.{Call};
+ghost use Rattle.buffers.specs.Calls.{Call};
 
 // The least choice that carries the group of the first list onto that of the second, and the complementations that
 // turn the first reduced graph into the second.
@@ -47,7 +47,7 @@ pub extern "C" fn sukhlent_equivalent_records(
         (now (choice .entry)) (now (list .entry)) (now (count .entry))
         (now (choice .exit)) (now (list .exit)) (now (count .exit))) r ⌝ }
 {
-    call_compare_records::equivalent_records(
+    call_compare::records::equivalent_records(
         n1,
         neighbours1,
         codes1,

@@ -1,6 +1,6 @@
 // The value of a Pauli row, as C sees it.
 ghost use Rattle.calls.specs.Expectations.{expectationCall};
-ghost use Rattle.contracts.specs.Calls.{Call};
+ghost use Rattle.buffers.specs.Calls.{Call};
 
 // 0 where the row is in the record's group, 1 where its negative is, 2 where neither is.
 #[no_mangle]
@@ -20,5 +20,5 @@ pub extern "C" fn sukhlent_expectation(
         }) z x
         (now (value .entry)) (now (value .exit))) r ⌝ }
 {
-    call_expectation::expectation(n, neighbours, codes, used, z, x, value)
+    call_readings::expectations::expectation(n, neighbours, codes, used, z, x, value)
 }

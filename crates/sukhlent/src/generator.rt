@@ -1,6 +1,6 @@
 // The generator of jobs, as C sees it.
 ghost use Rattle.calls.specs.Generation.{generateCall};
-ghost use Rattle.contracts.specs.Calls.{Call};
+ghost use Rattle.buffers.specs.Calls.{Call};
 
 // The text of the job of `count` steps that is drawn from a seed, at the start of the buffer, and its length.
 #[no_mangle]
@@ -14,5 +14,5 @@ pub extern "C" fn sukhlent_generate(
     ensures { λ r. ⌜ Call (generateCall n count seed (now (text .entry)) (now (length .entry))
         (now (text .exit)) (now (length .exit))) r ⌝ }
 {
-    call_generate::generate(n, count, seed, text, length)
+    call_readings::generated_jobs::generate(n, count, seed, text, length)
 }

@@ -1,7 +1,7 @@
 // Two groups on one record, as C sees them: the calls of one group, on its own vertices and its own four named states.
 ghost use Rattle.calls.specs.GroupStores.{groupForgetCall, groupReturnCall, groupSaveCall};
 ghost use Rattle.calls.specs.Groups.{groupCall, groupMeasureCall};
-ghost use Rattle.contracts.specs.Calls.{Call};
+ghost use Rattle.buffers.specs.Calls.{Call};
 ghost use Rattle.operations.specs.Steps.{complementOf, czOn, gateWith};
 
 // A group's gate: the group's vertices reduced, the others as they were.
@@ -131,7 +131,7 @@ pub extern "C" fn sukhlent_group_save(
       codes = now («held_codes» .entry);
     }) (now (heads .exit)) (now («held_neighbours» .exit)) (now («held_codes» .exit))) r ⌝ }
 {
-    call_group_stores::save(
+    call_groups::stores::save(
         n,
         word,
         group,
@@ -168,7 +168,7 @@ pub extern "C" fn sukhlent_group_return(
       codes = now («held_codes» .entry);
     }) (now (neighbours .exit)) (now (codes .exit)) (now (used .exit))) r ⌝ }
 {
-    call_group_stores::return_to(
+    call_groups::stores::return_to(
         n,
         word,
         group,
@@ -205,7 +205,7 @@ pub extern "C" fn sukhlent_group_forget(
       codes = now («held_codes» .entry);
     }) (now (heads .exit))) r ⌝ }
 {
-    call_group_stores::forget(
+    call_groups::stores::forget(
         n,
         word,
         group,

@@ -2,7 +2,7 @@
 ghost use Rattle.calls.specs.Lists.{checkCall, reduceUnusedCall};
 ghost use Rattle.calls.specs.Products.{productCall};
 ghost use Rattle.calls.specs.Strings.{readStringsCall, writeStringsCall};
-ghost use Rattle.contracts.specs.Calls.{Call};
+ghost use Rattle.buffers.specs.Calls.{Call};
 
 // Lines 2, 4, 5, 6, 9 and 10 of a generator list.
 #[no_mangle]
@@ -49,7 +49,7 @@ pub extern "C" fn sukhlent_product(
         (now («product_z» .entry)) (now («product_x» .entry)) (now (phase .entry))
         (now («product_z» .exit)) (now («product_x» .exit)) (now (phase .exit))) r ⌝ }
 {
-    call_product::product(n, signs, z, x, chosen, product_z, product_x, phase)
+    call_lists::product::product(n, signs, z, x, chosen, product_z, product_x, phase)
 }
 
 // The generator list of a text of Pauli strings.
@@ -64,7 +64,7 @@ pub extern "C" fn sukhlent_read_strings(
         (now (signs .entry)) (now (z .entry)) (now (x .entry))
         (now (signs .exit)) (now (z .exit)) (now (x .exit))) r ⌝ }
 {
-    call_strings::read_strings(text, signs, z, x)
+    call_lists::strings::read_strings(text, signs, z, x)
 }
 
 // The text of a generator list as Pauli strings.
@@ -80,5 +80,5 @@ pub extern "C" fn sukhlent_write_strings(
         (record { n = n; signs = now (signs .entry); z = now (z .entry); x = now (x .entry) })
         (now (text .entry)) (now (text .exit))) r ⌝ }
 {
-    call_strings::write_strings(n, signs, z, x, text)
+    call_lists::strings::write_strings(n, signs, z, x, text)
 }

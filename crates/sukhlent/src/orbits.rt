@@ -1,6 +1,6 @@
 // The orbit of a graph, as C sees it.
 ghost use Rattle.calls.specs.Orbits.{orbitCall};
-ghost use Rattle.contracts.specs.Calls.{Call};
+ghost use Rattle.buffers.specs.Calls.{Call};
 
 // The numbers of all graphs that complementations reach from one on up to 6 vertices, rising, and how many there are.
 #[no_mangle]
@@ -13,5 +13,5 @@ pub extern "C" fn sukhlent_orbit(
     ensures { λ r. ⌜ Call (orbitCall n (now (neighbours .entry)) (now (list .entry)) (now (count .entry))
         (now (list .exit)) (now (count .exit))) r ⌝ }
 {
-    call_orbit::orbit(n, neighbours, list, count)
+    call_readings::orbit_lists::orbit(n, neighbours, list, count)
 }

@@ -3,7 +3,7 @@ ghost use Rattle.calls.specs.Cuts.{cutCall};
 ghost use Rattle.calls.specs.Expansions.{expandCall};
 ghost use Rattle.calls.specs.InPlace.{usedCall, usedMeasureCall};
 ghost use Rattle.calls.specs.Images.{imageCall};
-ghost use Rattle.contracts.specs.Calls.{Call};
+ghost use Rattle.buffers.specs.Calls.{Call};
 ghost use Rattle.operations.specs.Steps.{complementOf, czOn, gateWith};
 
 // The generators of a record, in order.
@@ -25,7 +25,7 @@ pub extern "C" fn sukhlent_expand(
         (now (signs .entry)) (now (z .entry)) (now (x .entry))
         (now (signs .exit)) (now (z .exit)) (now (x .exit))) r ⌝ }
 {
-    call_expand::expand(n, neighbours, codes, used, signs, z, x)
+    call_readings::expansions::expand(n, neighbours, codes, used, signs, z, x)
 }
 
 // A code applied after the code held at a qubit, and the reduced record.
@@ -90,7 +90,7 @@ pub extern "C" fn sukhlent_measure(
         (now (neighbours .exit)) (now (codes .exit)) (now (used .exit)) (now (answer .exit))
         (now (determined .exit))) r ⌝ }
 {
-    call_measure::measure(
+    call_gates::measure::measure(
         n,
         neighbours,
         codes,
@@ -119,7 +119,7 @@ pub extern "C" fn sukhlent_complement(
         })
         (complementOf a) (now (neighbours .exit)) (now (codes .exit))) r ⌝ }
 {
-    call_complement::complement(n, neighbours, codes, used, a)
+    call_gates::complement::complement(n, neighbours, codes, used, a)
 }
 
 // The image graph, its signs, and the list of the vertices complemented.
@@ -138,7 +138,7 @@ pub extern "C" fn sukhlent_image(
         (now (image .entry)) (now (signs .entry)) (now (list .entry)) (now (count .entry))
         (now (image .exit)) (now (signs .exit)) (now (list .exit)) (now (count .exit))) r ⌝ }
 {
-    call_image::image(n, neighbours, codes, image, signs, list, count)
+    call_readings::images::image(n, neighbours, codes, image, signs, list, count)
 }
 
 // The rank of the edges between the marked side of a record's vertices and the other.
@@ -158,5 +158,5 @@ pub extern "C" fn sukhlent_cut(
         }) side
         (now (rank .entry)) (now (rank .exit))) r ⌝ }
 {
-    call_cut::cut(n, neighbours, codes, used, side, rank)
+    call_readings::cuts::cut(n, neighbours, codes, used, side, rank)
 }

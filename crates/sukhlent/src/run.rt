@@ -1,6 +1,6 @@
 // Many steps in one call, as C sees it.
 ghost use Rattle.calls.specs.Runs.{runCall};
-ghost use Rattle.contracts.specs.Calls.{Call};
+ghost use Rattle.buffers.specs.Calls.{Call};
 
 // Steps on a record in place, one after the other, and what each answers.
 #[no_mangle]

@@ -1,6 +1,6 @@
 // Named states, as C sees them: a store of eight places in three lent buffers.
 ghost use Rattle.calls.specs.Stores.{forgetCall, returnCall, saveCall};
-ghost use Rattle.contracts.specs.Calls.{Call};
+ghost use Rattle.buffers.specs.Calls.{Call};
 
 // The record saved under the name: at its place, else at the smallest free one.
 #[no_mangle]

@@ -1,2 +1,4 @@
+pub mod Reading
+pub mod Strings
 pub mod Text
 pub mod internal

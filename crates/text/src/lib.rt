@@ -1,2 +1,3 @@
 // The text of a generator list, the texts that answer it, and the scan of a text: see specs/ and proofs/.
+// The texts of Pauli strings: see specs/ for the definitions and proofs/ for the laws.
 pub mod scan;

@@ -1,4 +1,6 @@
 // Words of 64 bits: masks, bits read, flipped and counted, the smallest and the largest set bit.
+pub mod transposition;
+
 ghost use mathlib.Core.Bool.{_&&_, true};
 ghost use mathlib.Core.Path.{_≡_};
 ghost use Prim.Native.Nat.{ℕ, _+_, _-_, _<_, _≤_, _^_};

@@ -4,10 +4,10 @@ use mathlib.Core.Path.{_≡_, ap₂, refl}
 use lib.Dec.{eqb, leb}
 use borrow.Author.Needs.{needs}
 use Rattle.buffers.specs.Refusals.{firstFitting}
-use Rattle.contracts.proofs.Calling.{refused}
+use Rattle.buffers.proofs.Calling.{refused}
 use Rattle.operations.proofs.UnrefusedRecords.{unrefused-codes}
 use Rattle.operations.specs.Steps.{Operation, czOn}
-use Rattle.used.specs.Used.{UsedRecord, usedLinesOf}
+use Rattle.operations.specs.Used.{UsedRecord, usedLinesOf}
 use Rattle.calls.proofs.InPlaceCalls.{as-before, in-place-done}
 use Rattle.calls.proofs.InPlaceLines.{cz-ready}
 use Rattle.call_gates.proofs.KnownRecords.{handed-words, known-codes}

@@ -3,10 +3,10 @@ use mathlib.Core.Path.{_≡_, refl}
 use lib.Dec.{leb}
 use borrow.Author.Needs.{needs}
 use Rattle.buffers.specs.Refusals.{firstFitting}
-use Rattle.contracts.proofs.Calling.{refused}
+use Rattle.buffers.proofs.Calling.{refused}
 use Rattle.operations.proofs.UnrefusedRecords.{unrefused-codes}
 use Rattle.operations.specs.Steps.{Operation, gateWith}
-use Rattle.used.specs.Used.{UsedRecord, usedLinesOf}
+use Rattle.operations.specs.Used.{UsedRecord, usedLinesOf}
 use Rattle.calls.proofs.InPlaceCalls.{as-before, in-place-done}
 use Rattle.calls.proofs.InPlaceLines.{gate-ready}
 use Rattle.call_gates.proofs.KnownRecords.{handed-words, known-codes}

@@ -2,7 +2,7 @@
 -- does, then 16 where `sixteen` does; `six`: line 6 holds of a further argument; `known`: no line of the record alone
 -- holds.
 use borrow.Author.Needs.{needs}
-use Rattle.used.specs.Used.{UsedRecord}
+use Rattle.operations.specs.Used.{UsedRecord}
 use Rattle.calls.proofs.UsedInPlace.{record-refused, then-0, then-16, then-8}
 use Rattle.call_gates.proofs.in_place_number.Statement.{statement}
 use Rattle.call_gates.proofs.in_place_number.Tie as tie

@@ -3,8 +3,8 @@
 use mathlib.Core.Bool.{false}
 use mathlib.Core.Path.{_∙_}
 use borrow.Author.Needs.{needs}
-use Rattle.used.specs.Used.{UsedRecord}
-use Rattle.used_checks.proofs.UsedNumbers.{no-further}
+use Rattle.operations.specs.Used.{UsedRecord}
+use Rattle.operations_checks.proofs.UsedNumbers.{no-further}
 use Rattle.call_gates.proofs.KnownRecords.{known-true, six-alone}
 use Rattle.call_gates.proofs.known_number.Statement.{statement}
 use Rattle.call_gates.proofs.known_number.Tie as tie

@@ -4,8 +4,8 @@ use mathlib.Core.List.{List}
 use mathlib.Core.Path.{_≡_}
 use Prim.Native.Nat.{ℕ}
 use Prim.{Unit}
-use Rattle.graph_suspects.specs.internal.Suspects.{Marked}
-use Rattle.used.specs.Used.{UsedRecord, UsedUnrefused}
+use Rattle.operations_gates.specs.internal.Suspects.{Marked}
+use Rattle.operations.specs.Used.{UsedRecord, UsedUnrefused}
 
 -- nothing, or that no line of the record alone holds
 abbrev pub Known : Bool → UsedRecord → Type 0

@@ -3,14 +3,14 @@ use mathlib.Core.Bool.{_||_}
 use mathlib.Core.Path.{_≡_, ap₂, refl}
 use borrow.Author.Needs.{needs}
 use Rattle.buffers.specs.Refusals.{firstFitting}
-use Rattle.contracts.proofs.Calling.{refused}
+use Rattle.buffers.proofs.Calling.{refused}
 use Rattle.groups.specs.GroupLines.{namesOther}
 use Rattle.groups.specs.Masks.{inGroup}
 use Rattle.groups.specs.internal.Apart.{cz-op}
 use Rattle.operations.specs.Steps.{Operation, czOn}
-use Rattle.used.specs.Used.{UsedRecord}
-use Rattle.group_records.proofs.EarlyNumbers.{early-admitted, early-refused, other-as}
-use Rattle.group_records.specs.internal.BeforeEight.{beforeEight, sixOf}
+use Rattle.operations.specs.Used.{UsedRecord}
+use Rattle.groups_impl.proofs.EarlyNumbers.{early-admitted, early-refused, other-as}
+use Rattle.groups_impl.specs.internal.BeforeEight.{beforeEight, sixOf}
 use Rattle.call_groups.proofs.cz.Statement.{statement}
 use Rattle.call_groups.proofs.cz.Tie as tie
 

@@ -3,7 +3,7 @@ use mathlib.Core.Path.{_∙_}
 use borrow.Author.Needs.{needs}
 use Rattle.groups.specs.internal.Apart.{gate-op}
 use Rattle.operations.specs.Steps.{Operation, gateWith}
-use Rattle.used.specs.Used.{UsedRecord}
+use Rattle.operations.specs.Used.{UsedRecord}
 use Rattle.call_groups.proofs.GroupCalls.{copied-whole, copy-unrefused, group-done, group-refused, lent-64}
 use Rattle.call_groups.proofs.gate_within.Statement.{statement}
 use Rattle.call_groups.proofs.gate_within.Tie as tie

@@ -2,7 +2,7 @@
 use mathlib.Core.Path.{_∙_}
 use borrow.Author.Needs.{needs}
 use Rattle.operations.specs.Steps.{Operation, measurementOf}
-use Rattle.used.specs.Used.{UsedRecord}
+use Rattle.operations.specs.Used.{UsedRecord}
 use Rattle.call_groups.proofs.GroupCalls.{
   copied-whole,
   copy-unrefused,

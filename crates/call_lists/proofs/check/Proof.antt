@@ -2,9 +2,9 @@
 use mathlib.Core.Bool.{false, not}
 use mathlib.Core.Path.{ap, _∙_}
 use borrow.Author.Needs.{needs}
-use Rattle.contracts.proofs.Calling.{refused}
+use Rattle.buffers.proofs.Calling.{refused}
 use Rattle.stabilizer.specs.Lists.{GeneratorList}
-use Rattle.stabilizer_independence.proofs.Letters.{list-dependent}
+use Rattle.stabilizer_impl.proofs.Letters.{list-dependent}
 use Rattle.call_lists.proofs.Lists.{accepted-last, reducible, refused-early, refused-last, rows-within}
 use Rattle.call_lists.proofs.check.Statement.{statement}
 use Rattle.call_lists.proofs.check.Tie as tie

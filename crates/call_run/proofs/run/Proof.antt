@@ -3,7 +3,7 @@ use mathlib.Core.Path.{_∙_, _≡_, sym}
 use native.Mathlib.Nat.{le-of-eq, le-refl}
 use lib.ListN.{length}
 use borrow.Author.Needs.{needs}
-use Rattle.used.specs.Used.{UsedRecord}
+use Rattle.operations.specs.Used.{UsedRecord}
 use Rattle.call_run.proofs.RunAnswers.{Ready, run-accepted, run-ready, run-refused}
 use Rattle.calls.specs.Runs.{LentSteps}
 use Rattle.call_run.proofs.run.Statement.{statement}

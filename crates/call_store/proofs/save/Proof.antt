@@ -3,7 +3,7 @@ use mathlib.Core.Path.{_∙_, ap}
 use borrow.Author.Needs.{needs}
 use Rattle.store.specs.Kept.{headed, placedAt}
 use Rattle.store.specs.Places.{Store}
-use Rattle.used.specs.Used.{UsedRecord}
+use Rattle.operations.specs.Used.{UsedRecord}
 use Rattle.call_store.proofs.Saving.{head-fits, record-fits, save-done, save-full, save-refused}
 use Rattle.call_store.proofs.save.Statement.{statement}
 use Rattle.call_store.proofs.save.Tie as tie

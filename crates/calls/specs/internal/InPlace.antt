@@ -4,7 +4,7 @@ use mathlib.Core.Bool.{Bool}
 use mathlib.Core.List.{List}
 use Rattle.buffers.specs.Refusals.{Refusal}
 use Rattle.operations.specs.Steps.{inPlaceLines}
-use Rattle.used.specs.Used.{UsedRecord, withUsed}
+use Rattle.operations.specs.Used.{UsedRecord, withUsed}
 
 -- the lines of such a call but 14, with the tests for lines 6, 8 and 16
 abbrev pub usedInPlace : UsedRecord → Bool → Bool → Bool → List Refusal

@@ -9,7 +9,7 @@ use Rattle.comparison.specs.Choices.{leastCode, noChoice}
 use Rattle.comparison.specs.Compared.{hasLargePart, pairLines}
 use Rattle.comparison.specs.ComparedPairs.{compareList}
 use Rattle.comparison.specs.internal.ComparedPairs.{limitLines}
-use Rattle.contracts.specs.Calls.{Contract, buffer, contractOf, number}
+use Rattle.buffers.specs.Calls.{Contract, buffer, contractOf, number}
 use Rattle.record.specs.Lent.{LentRecord, heldRows}
 use Rattle.stabilizer.specs.Lists.{GeneratorList, rows}
 use Rattle.calls.specs.RecordComparisons.{recordLargePart, recordsLines}

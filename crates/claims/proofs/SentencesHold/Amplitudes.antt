@@ -2,8 +2,8 @@
 use Prim.Native.Nat.{ℕ}
 use lib.Ieee.{Float}
 use Rattle.calls.specs.Amplitudes.{amplitudeCall}
-use Rattle.contracts.specs.Calls.{Call}
-use Rattle.used.specs.Used.{UsedRecord}
+use Rattle.buffers.specs.Calls.{Call}
+use Rattle.operations.specs.Used.{UsedRecord}
 use Rattle.claims.proofs.AmplitudeDemandHolds.{amplitudes-answer}
 use Rattle.claims.proofs.families.Amplitudes.{amplitudes-accepted, amplitudes-conform}
 use Rattle.claims.proofs.families.Shared.{answered, at-zero}

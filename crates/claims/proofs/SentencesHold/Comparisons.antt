@@ -2,7 +2,7 @@
 use mathlib.Core.List.{List}
 use Prim.Native.Nat.{ℕ}
 use Rattle.calls.specs.Comparisons.{compareCall}
-use Rattle.contracts.specs.Calls.{Call}
+use Rattle.buffers.specs.Calls.{Call}
 use Rattle.stabilizer.specs.Lists.{GeneratorList}
 use Rattle.claims.proofs.ComparedByParts.{compared-by-parts}
 use Rattle.claims.proofs.PartsDemandHolds.{large-parts-refused}

@@ -1,8 +1,8 @@
 -- What the demands say of the exported function that answers the value of a row, from its contract.
 use Prim.Native.Nat.{ℕ}
 use Rattle.calls.specs.Expectations.{expectationCall}
-use Rattle.contracts.specs.Calls.{Call}
-use Rattle.used.specs.Used.{UsedRecord}
+use Rattle.buffers.specs.Calls.{Call}
+use Rattle.operations.specs.Used.{UsedRecord}
 use Rattle.claims.proofs.ExpectationDemandHolds.{expectations-answer}
 use Rattle.claims.proofs.families.Expectations.{expectations-accepted, expectations-conform}
 use Rattle.claims.proofs.families.Shared.{answered, at-zero}

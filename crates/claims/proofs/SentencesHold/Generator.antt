@@ -2,7 +2,7 @@
 use mathlib.Core.List.{List}
 use Prim.Native.Nat.{ℕ}
 use Rattle.calls.specs.Generation.{generateCall}
-use Rattle.contracts.specs.Calls.{Call}
+use Rattle.buffers.specs.Calls.{Call}
 use Rattle.claims.proofs.GeneratorDemandHolds.{generator-demand}
 use Rattle.claims.proofs.families.Generator.{generations-accepted, generations-conform}
 use Rattle.claims.proofs.families.Shared.{answered, at-zero}

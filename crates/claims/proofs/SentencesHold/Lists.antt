@@ -5,7 +5,7 @@ use Prim.Native.Nat.{ℕ}
 use Rattle.calls.specs.Lists.{checkCall, reduceCall, reduceUnusedCall}
 use Rattle.calls.specs.Products.{productCall}
 use Rattle.calls.specs.Strings.{readStringsCall, writeStringsCall}
-use Rattle.contracts.specs.Calls.{Call}
+use Rattle.buffers.specs.Calls.{Call}
 use Rattle.stabilizer.specs.Lists.{GeneratorList}
 use Rattle.claims.proofs.ListDemandHolds.{checks-tell, reduction-answers}
 use Rattle.claims.proofs.ProductDemandHolds.{products-answer}

@@ -2,7 +2,7 @@
 use mathlib.Core.List.{List}
 use Prim.Native.Nat.{ℕ}
 use Rattle.calls.specs.Orbits.{orbitCall}
-use Rattle.contracts.specs.Calls.{Call}
+use Rattle.buffers.specs.Calls.{Call}
 use Rattle.claims.proofs.OrbitDemandHolds.{orbits-listed}
 use Rattle.claims.proofs.families.Orbits.{orbits-accepted, orbits-conform}
 use Rattle.claims.proofs.families.Shared.{answered, at-zero}

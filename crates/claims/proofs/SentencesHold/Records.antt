@@ -8,10 +8,10 @@ use Rattle.calls.specs.Cuts.{cutCall}
 use Rattle.calls.specs.Expansions.{expandCall}
 use Rattle.calls.specs.InPlace.{inPlaceCall, usedCall, usedMeasureCall}
 use Rattle.calls.specs.Images.{imageCall}
-use Rattle.contracts.specs.Calls.{Call}
+use Rattle.buffers.specs.Calls.{Call}
 use Rattle.operations.specs.Steps.{complementOf, czOn, gateWith, measurementOf, Operation, pivotOf}
 use Rattle.record.specs.Lent.{LentRecord}
-use Rattle.used.specs.Used.{UsedRecord}
+use Rattle.operations.specs.Used.{UsedRecord}
 use Rattle.claims.proofs.ActionsByCalls.{contracts-are-actions}
 use Rattle.claims.proofs.Contradictions.{contradictions-refused}
 use Rattle.claims.proofs.CutDemandHolds.{complements-keep-ranks, cuts-answer, cz-keeps-ranks, gates-keep-ranks}

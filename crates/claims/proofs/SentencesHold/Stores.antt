@@ -4,9 +4,9 @@ use mathlib.Core.List.{List}
 use Prim.Native.Nat.{ℕ}
 use Rattle.buffers.specs.Refusals.{otherThan}
 use Rattle.calls.specs.Stores.{forgetCall, returnCall, saveCall}
-use Rattle.contracts.specs.Calls.{Call}
+use Rattle.buffers.specs.Calls.{Call}
 use Rattle.store.specs.Places.{Store}
-use Rattle.used.specs.Used.{UsedRecord}
+use Rattle.operations.specs.Used.{UsedRecord}
 use Rattle.claims.proofs.ActionsByCalls.{contracts-are-actions}
 use Rattle.claims.proofs.StoreDemandHolds.{forgets-keep, returns-give, saves-keep}
 use Rattle.claims.proofs.StoreRefusals.{full-exactly, not-held-exactly}

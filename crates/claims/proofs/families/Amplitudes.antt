@@ -5,7 +5,7 @@ use mathlib.Core.Path.{refl, _≡_}
 use Prim.Native.Nat.{ℕ}
 use Rattle.buffers.specs.Refusals.{firstFitting}
 use Rattle.calls.specs.Amplitudes.{amplitudeLines}
-use Rattle.used.specs.Used.{UsedRecord}
+use Rattle.operations.specs.Used.{UsedRecord}
 use Rattle.claims.proofs.LinesExactly.{below-exactly}
 use Rattle.claims.proofs.UsedExactly.{used-exactly}
 use Rattle.claims.proofs.families.Shared.{by-lines}

@@ -13,7 +13,7 @@ use Rattle.calls.specs.Comparisons.{compareCall}
 use Rattle.comparison.specs.Choices.{noChoice}
 use Rattle.comparison.specs.Compared.{hasLargePart, pairCount, pairLines}
 use Rattle.comparison.specs.ComparedPairs.{compareList}
-use Rattle.contracts.specs.Calls.{Call}
+use Rattle.buffers.specs.Calls.{Call}
 use Rattle.stabilizer.proofs.Accepted.{accepted-list}
 use Rattle.stabilizer.specs.Lists.{clashing, dependent, GeneratorList, listLengths, listSigns, listStray, rows}
 use Rattle.words.proofs.Flags.{neither}

@@ -5,7 +5,7 @@ use mathlib.Core.Path.{refl, _≡_}
 use Prim.Native.Nat.{ℕ}
 use Rattle.buffers.specs.Refusals.{firstFitting}
 use Rattle.calls.specs.Expectations.{expectationLines}
-use Rattle.used.specs.Used.{UsedRecord}
+use Rattle.operations.specs.Used.{UsedRecord}
 use Rattle.words.proofs.Flags.{neither}
 use Rattle.claims.proofs.LinesExactly.{below-exactly, both-pass}
 use Rattle.claims.proofs.UsedExactly.{used-exactly}

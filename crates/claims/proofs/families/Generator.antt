@@ -10,10 +10,10 @@ use lib.Dec.{eqb, ltb}
 use Rattle.buffers.specs.Refusals.{badCount, firstFitting, line, Refusal}
 use Rattle.calls.proofs.GenerateCalls.{accepted-job}
 use Rattle.calls.specs.Generation.{generateCall}
-use Rattle.contracts.proofs.Fitting.{none-fits-of, none-holds}
-use Rattle.generator.proofs.Lengths.{length-text}
-use Rattle.generator.specs.Drawn.{generatedText}
-use Rattle.generator.specs.Lines.{generateLines, room}
+use Rattle.buffers.proofs.Fitting.{none-fits-of, none-holds}
+use Rattle.jobs.proofs.Lengths.{length-text}
+use Rattle.jobs.specs.Drawn.{generatedText}
+use Rattle.jobs.specs.GeneratedLines.{generateLines, room}
 use Rattle.stabilizer.proofs.SharedTests.{count-passes, counted, has-length, length-passes}
 use Rattle.claims.proofs.families.Shared.{by-lines, written-fills}
 use Rattle.claims.specs.Conforming.{Conforms}

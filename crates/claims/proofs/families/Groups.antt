@@ -11,7 +11,7 @@ use Rattle.buffers.proofs.Tabulate.{tabulate-length}
 use Rattle.buffers.specs.Refusals.{firstFitting}
 use Rattle.calls.specs.GroupStores.{groupReturnCall, groupSaveCall}
 use Rattle.calls.specs.Groups.{groupLent}
-use Rattle.contracts.specs.Calls.{EachOf}
+use Rattle.buffers.specs.Calls.{EachOf}
 use Rattle.groups.proofs.GroupPassing.{group-passes}
 use Rattle.groups.proofs.OwnPlaces.{EightLong, placed-eight-long}
 use Rattle.groups.proofs.SharedLines.{save-place}
@@ -21,9 +21,9 @@ use Rattle.groups.specs.Masks.{inGroup, masked}
 use Rattle.operations.specs.Steps.{complementOf, czOn, gateWith, measurementOf, Operation, pivotOf}
 use Rattle.store.specs.Kept.{savePlace}
 use Rattle.store.specs.Places.{Store, holdsName, othersHeld}
-use Rattle.used.proofs.AcceptedSteps.{accepted-step}
-use Rattle.used.proofs.UsedPassing.{used-step}
-use Rattle.used.specs.Used.{UsedRecord}
+use Rattle.operations.proofs.AcceptedSteps.{accepted-step}
+use Rattle.operations.proofs.UsedPassing.{used-step}
+use Rattle.operations.specs.Used.{UsedRecord}
 use Rattle.words.proofs.Flags.{neither}
 use Rattle.claims.proofs.GroupsExactly.{group-exactly, own-exactly, with-last}
 use Rattle.claims.proofs.UsedExactly.{used-complement, used-cz, used-gate, used-measure}

@@ -9,12 +9,12 @@ use lib.Dec.{eqb}
 use Rattle.buffers.specs.Refusals.{badCount, firstFitting, line, Refusal}
 use Rattle.calls.proofs.ProductLines.{accepted-rows, word-good}
 use Rattle.calls.specs.Products.{productLines}
-use Rattle.contracts.proofs.Fitting.{none-holds}
+use Rattle.buffers.proofs.Fitting.{none-holds}
 use Rattle.stabilizer.proofs.SharedTests.{has-length}
 use Rattle.stabilizer.specs.Lists.{GeneratorList, listLines, listStray, rows}
-use Rattle.strings.proofs.TextLaws.{length-lines}
-use Rattle.strings.specs.Reading.{judgedLines, lineCount, readLines, stringForm, stringList}
-use Rattle.strings.specs.Strings.{textSize}
+use Rattle.text.proofs.TextLaws.{length-lines}
+use Rattle.text.specs.Reading.{judgedLines, lineCount, readLines, stringForm, stringList}
+use Rattle.text.specs.Strings.{textSize}
 use Rattle.words.proofs.Flags.{neither}
 use Rattle.claims.proofs.LinesExactly.{below-exactly, formed-rows, list-exactly, rows-pass, three-fit, two-fit}
 use Rattle.claims.proofs.StringsExactly.{read-lines, write-lines}

@@ -10,8 +10,8 @@ use lib.Dec.{eqb, ltb}
 use Rattle.buffers.specs.Refusals.{firstFitting, line, otherThan, reaching, Refusal}
 use Rattle.calls.proofs.AcceptedGraphs.{accepted-graph, plain-record, simple-graph}
 use Rattle.calls.specs.Orbits.{orbitCall, orbitLines, orbitOf}
-use Rattle.contracts.proofs.Fitting.{none-fits-of}
-use Rattle.graph.specs.NeighbourWords.{graphIn}
+use Rattle.buffers.proofs.Fitting.{none-fits-of}
+use Rattle.record.specs.NeighbourWords.{graphIn}
 use Rattle.orbits.proofs.OrbitLaws.{orbit-length}
 use Rattle.orbits.specs.Numbers.{graphNumber}
 use Rattle.record.proofs.SimpleVerdict.{simple-exactly}

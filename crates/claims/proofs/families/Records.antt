@@ -9,8 +9,8 @@ use Rattle.buffers.proofs.Lines.{none-of-all}
 use Rattle.buffers.specs.Refusals.{firstFitting, otherThan}
 use Rattle.calls.specs.Cuts.{cutLines}
 use Rattle.calls.specs.Images.{imageCall}
-use Rattle.contracts.proofs.Fitting.{none-holds}
-use Rattle.contracts.specs.Calls.{Call}
+use Rattle.buffers.proofs.Fitting.{none-holds}
+use Rattle.buffers.specs.Calls.{Call}
 use Rattle.image.proofs.Accepted.{image-unsigned}
 use Rattle.image.proofs.TrackedBits.{image-length}
 use Rattle.image.specs.Image.{loopLines}
@@ -19,9 +19,9 @@ use Rattle.operations.specs.Steps.{complementOf, czOn, gateWith, measurementOf,
 use Rattle.record.proofs.AcceptedRecords.{accepted-record}
 use Rattle.record.proofs.RecordLines.{record-numbered}
 use Rattle.record.specs.Lent.{heldRecord, LentRecord, recordLines}
-use Rattle.used.proofs.AcceptedSteps.{accepted-step}
-use Rattle.used.proofs.UsedPassing.{used-step}
-use Rattle.used.specs.Used.{usedLines, usedLinesOf, UsedRecord}
+use Rattle.operations.proofs.AcceptedSteps.{accepted-step}
+use Rattle.operations.proofs.UsedPassing.{used-step}
+use Rattle.operations.specs.Used.{usedLines, usedLinesOf, UsedRecord}
 use Rattle.claims.proofs.ImageDemandHolds.{images-follow}
 use Rattle.claims.proofs.LinesExactly.{below-exactly, more-exactly, record-exactly, three-fit}
 use Rattle.claims.proofs.UsedExactly.{used-complement, used-cz, used-exactly, used-gate, used-measure}

@@ -10,8 +10,8 @@ use lib.ListN.{drop, length, length-append, length-drop}
 use Rattle.buffers.proofs.Tabulate.{tabulate-length}
 use Rattle.buffers.specs.Buffers.{tabulate, written}
 use Rattle.buffers.specs.Refusals.{firstFitting, Refusal}
-use Rattle.contracts.proofs.Calling.{every-call-answers}
-use Rattle.contracts.specs.Calls.{Call, Contract}
+use Rattle.buffers.proofs.Calling.{every-call-answers}
+use Rattle.buffers.specs.Calls.{Call, Contract}
 use Rattle.claims.specs.Conforming.{Answered, Conforms}
 
 -- an answer with a place for each of n

@@ -10,10 +10,10 @@ use lib.ListN.{length-set}
 use Rattle.buffers.specs.Refusals.{firstFitting, otherThan}
 use Rattle.calls.proofs.SaveLines.{both-numbers}
 use Rattle.calls.specs.Stores.{heldUnder, returnCall, saveCall}
-use Rattle.contracts.proofs.Fitting.{decides}
-use Rattle.contracts.specs.Answers.{later, none}
-use Rattle.contracts.specs.Calls.{EachOf}
-use Rattle.earliest.specs.internal.Earlier.{earlierOf}
+use Rattle.buffers.proofs.Fitting.{decides}
+use Rattle.buffers.specs.Answers.{later, none}
+use Rattle.buffers.specs.Calls.{EachOf}
+use Rattle.buffers.specs.internal.Earlier.{earlierOf}
 use Rattle.stabilizer.proofs.SharedTests.{has-length, length-passes}
 use Rattle.store.proofs.ForgottenNames.{held-passes}
 use Rattle.store.proofs.Lookups.{saved-passing}
@@ -22,7 +22,7 @@ use Rattle.store.proofs.PassingStores.{held-record, others-fit, store-passes}
 use Rattle.store.specs.Places.{Store, placeAt}
 use Rattle.store.specs.StoreLines.{holdsLine, namedLines, ofRecord, recordTests, saveLines, storeLines}
 use Rattle.store.specs.internal.Passing.{Passing}
-use Rattle.used.specs.Used.{UsedRecord, usedLines}
+use Rattle.operations.specs.Used.{UsedRecord, usedLines}
 use Rattle.words.proofs.Flags.{neither}
 use Rattle.claims.proofs.StoreDemandHolds.{
   name-held,

@@ -6,7 +6,7 @@ use Prim.Native.Nat.{ℕ}
 use lib.Ieee.{Float}
 use Rattle.calls.specs.Amplitudes.{amplitudeCall}
 use Rattle.record.specs.Lent.{heldRows}
-use Rattle.used.specs.Used.{UsedRecord}
+use Rattle.operations.specs.Used.{UsedRecord}
 use Rattle.claims.specs.AmplitudeDemand.{AmplitudeAnswer}
 use Rattle.claims.specs.Conforming.{Answered}
 use Rattle.claims.specs.families.Amplitudes.{AmplitudeFits}

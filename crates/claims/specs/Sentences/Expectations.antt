@@ -4,7 +4,7 @@ use mathlib.Core.Logic.{_↔_}
 use mathlib.Core.Path.{_≡_}
 use Prim.Native.Nat.{ℕ}
 use Rattle.calls.specs.Expectations.{expectationCall}
-use Rattle.used.specs.Used.{UsedRecord}
+use Rattle.operations.specs.Used.{UsedRecord}
 use Rattle.claims.specs.Conforming.{Answered}
 use Rattle.claims.specs.ExpectationDemand.{ExpectationAnswer}
 use Rattle.claims.specs.families.Expectations.{ExpectationFits}

@@ -16,7 +16,7 @@ use Rattle.jobs.specs.declared.Op.the-variants.{Complement, Cz, Gate}
 use Rattle.operations.specs.Steps.{complementOf, czOn, gateWith, measurementOf}
 use Rattle.record.specs.Lent.{heldRecord, LentRecord, recordLines}
 use Rattle.record.specs.Records.{complementRecord}
-use Rattle.used.specs.Used.{UsedRecord}
+use Rattle.operations.specs.Used.{UsedRecord}
 use Rattle.words.specs.Bits.{Word}
 use Rattle.claims.specs.ActionContracts.{MeasureLeaves, StepLeaves, stepWith}
 use Rattle.claims.specs.Arguments.{Free}

@@ -9,7 +9,7 @@ use lib.ListN.{length}
 use Rattle.buffers.specs.Refusals.{otherThan}
 use Rattle.calls.specs.Stores.{forgetCall, returnCall, saveCall}
 use Rattle.store.specs.Places.{Store}
-use Rattle.used.specs.Used.{UsedRecord}
+use Rattle.operations.specs.Used.{UsedRecord}
 use Rattle.claims.specs.ActionContracts.{ForgetLeaves, ReturnLeaves, SaveLeaves}
 use Rattle.claims.specs.Conforming.{Answered}
 use Rattle.claims.specs.StoreDemand.{ForgetKeeps, FullStore, NotHeld, ReturnGives, SaveKeeps, storeOf}

@@ -4,8 +4,8 @@ use mathlib.Core.Path.{_≡_}
 use Prim.Native.Nat.{_<_, _^_, ℕ}
 use lib.Ieee.{Float}
 use Rattle.calls.specs.Amplitudes.{amplitudeCall}
-use Rattle.contracts.specs.Calls.{Call}
-use Rattle.used.specs.Used.{UsedRecord}
+use Rattle.buffers.specs.Calls.{Call}
+use Rattle.operations.specs.Used.{UsedRecord}
 use Rattle.claims.specs.Arguments.{IsRecord}
 use Rattle.claims.specs.Conforming.{Conforms}
 

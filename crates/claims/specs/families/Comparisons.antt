@@ -8,7 +8,7 @@ use Rattle.buffers.specs.Refusals.{firstFitting}
 use Rattle.calls.specs.Comparisons.{compareCall}
 use Rattle.clifford.specs.Clifford.{Clifford}
 use Rattle.comparison.specs.Compared.{compareLines}
-use Rattle.contracts.specs.Calls.{Call}
+use Rattle.buffers.specs.Calls.{Call}
 use Rattle.stabilizer.specs.Carries.{Carries}
 use Rattle.stabilizer.specs.Lists.{GeneratorList, rows}
 use Rattle.claims.specs.Arguments.{IsList}

@@ -6,8 +6,8 @@ use Prim.Native.Nat.{ℕ, _≤_}
 use lib.ListN.{length}
 use Rattle.buffers.specs.Refusals.{firstFitting}
 use Rattle.calls.specs.Generation.{generateCall}
-use Rattle.contracts.specs.Calls.{Call}
-use Rattle.generator.specs.Lines.{generateLines}
+use Rattle.buffers.specs.Calls.{Call}
+use Rattle.jobs.specs.GeneratedLines.{generateLines}
 use Rattle.claims.specs.Conforming.{Conforms}
 
 -- demand 1 of each call: its lines stand in the published order, and its answers fill their buffers

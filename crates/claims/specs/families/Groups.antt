@@ -7,12 +7,12 @@ use Prim.Native.Nat.{_<_, ℕ}
 use lib.ListN.{getD, length}
 use Rattle.calls.specs.GroupStores.{groupForgetCall, groupReturnCall, groupSaveCall}
 use Rattle.calls.specs.Groups.{groupCall, groupMeasureCall}
-use Rattle.contracts.specs.Calls.{Call}
+use Rattle.buffers.specs.Calls.{Call}
 use Rattle.groups.specs.GroupStores.{ownPlaces}
 use Rattle.groups.specs.Masks.{inGroup}
 use Rattle.operations.specs.Steps.{complementOf, czOn, gateWith, Operation}
 use Rattle.store.specs.Places.{Store, hasName, holdsName, isHeld, othersHeld, placeAt}
-use Rattle.used.specs.Used.{UsedRecord}
+use Rattle.operations.specs.Used.{UsedRecord}
 use Rattle.words.specs.Bits.{bit}
 use Rattle.claims.specs.Arguments.{IsRecord}
 use Rattle.claims.specs.Conforming.{Conforms}

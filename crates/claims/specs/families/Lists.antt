@@ -8,10 +8,10 @@ use Rattle.buffers.specs.Refusals.{firstFitting}
 use Rattle.calls.specs.Lists.{checkCall, reduceLines, reduceUnusedCall}
 use Rattle.calls.specs.Products.{productCall}
 use Rattle.calls.specs.Strings.{readStringsCall, writeStringsCall}
-use Rattle.contracts.specs.Calls.{Call}
+use Rattle.buffers.specs.Calls.{Call}
 use Rattle.stabilizer.specs.Lists.{GeneratorList, rows}
-use Rattle.strings.specs.Reading.{readLines, writeLines}
-use Rattle.strings.specs.Strings.{stringsText, textSize}
+use Rattle.text.specs.Reading.{readLines, writeLines}
+use Rattle.text.specs.Strings.{stringsText, textSize}
 use Rattle.claims.specs.Arguments.{IsList, IsRows}
 use Rattle.claims.specs.Conforming.{Conforms}
 

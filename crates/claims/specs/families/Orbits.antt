@@ -6,7 +6,7 @@ use Prim.Native.Nat.{ℕ}
 use lib.ListN.{length}
 use Rattle.buffers.specs.Refusals.{firstFitting}
 use Rattle.calls.specs.Orbits.{orbitCall, orbitLines}
-use Rattle.contracts.specs.Calls.{Call}
+use Rattle.buffers.specs.Calls.{Call}
 use Rattle.claims.specs.Conforming.{Conforms}
 use Rattle.claims.specs.OrbitDemand.{OrbitFits}
 

@@ -14,14 +14,14 @@ use Rattle.calls.specs.Expectations.{expectationCall}
 use Rattle.calls.specs.InPlace.{usedCall, usedMeasureCall}
 use Rattle.calls.specs.Images.{imageCall}
 use Rattle.calls.specs.Stores.{saveCall}
-use Rattle.contracts.specs.Calls.{Call}
+use Rattle.buffers.specs.Calls.{Call}
 use Rattle.image.specs.Image.{imageLines, UnsignedGraph}
 use Rattle.operations.specs.Steps.{complementOf, czOn, gateWith, Operation}
 use Rattle.record.specs.Accepted.{AcceptedRecord}
 use Rattle.record.specs.Lent.{heldRows, LentRecord}
 use Rattle.stabilizer.specs.Groups.{InGroup}
 use Rattle.store.specs.Places.{Store, othersHeld}
-use Rattle.used.specs.Used.{UsedRecord}
+use Rattle.operations.specs.Used.{UsedRecord}
 use Rattle.words.specs.Bits.{isOdd}
 use Rattle.claims.specs.Arguments.{Free, IsRecord}
 use Rattle.claims.specs.Conforming.{Conforms}

@@ -7,10 +7,10 @@ use Prim.Native.Nat.{_<_, ℕ}
 use lib.ListN.{length}
 use Rattle.buffers.specs.Refusals.{firstFitting, otherThan}
 use Rattle.calls.specs.Stores.{forgetCall, returnCall, saveCall}
-use Rattle.contracts.specs.Calls.{Call}
+use Rattle.buffers.specs.Calls.{Call}
 use Rattle.store.specs.Places.{Store, hasName, holdsName, isHeld, othersHeld, placeAt}
 use Rattle.store.specs.StoreLines.{namedLines}
-use Rattle.used.specs.Used.{UsedRecord}
+use Rattle.operations.specs.Used.{UsedRecord}
 use Rattle.claims.specs.Arguments.{IsRecord}
 use Rattle.claims.specs.Conforming.{Conforms}
 

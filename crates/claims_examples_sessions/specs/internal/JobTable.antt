@@ -6,7 +6,7 @@ use Rattle.jobs.specs.declared.Answer.{Answer}
 use Rattle.jobs.specs.declared.Op.{Op}
 use Rattle.jobs.specs.declared.Op.the-variants.{Complement, Cz, Gate, Measure, Pivot}
 use Rattle.jobs.specs.declared.Step.{Step}
-use Rattle.used.specs.Used.{UsedRecord}
+use Rattle.operations.specs.Used.{UsedRecord}
 use Rattle.claims_examples.specs.internal.Examples.{Example, example}
 
 abbrev does : Op → ℕ → ℕ → ℕ → Step

@@ -11,10 +11,10 @@ use Rattle.calls.specs.GroupStores.{groupForgetCall, groupReturnCall, groupSave
 use Rattle.calls.specs.Groups.{groupCall, groupMeasureCall}
 use Rattle.claims.proofs.families.Groups.{groups-accepted, groups-conform}
 use Rattle.claims.proofs.families.Shared.{answered, at-zero}
-use Rattle.contracts.specs.Calls.{Call}
+use Rattle.buffers.specs.Calls.{Call}
 use Rattle.operations.specs.Steps.{complementOf, czOn, gateWith}
 use Rattle.store.specs.Places.{Store}
-use Rattle.used.specs.Used.{UsedRecord}
+use Rattle.operations.specs.Used.{UsedRecord}
 use Rattle.claims_groups.proofs.CallsStand.{group-calls-stand}
 use Rattle.claims_groups.proofs.ContractSteps.{contracts-are-steps}
 use Rattle.claims_groups.proofs.GroupKeepsHold.{

@@ -13,13 +13,13 @@ use Rattle.claims.specs.Conforming.{Answered}
 use Rattle.claims.specs.UsedDemand.{leftUsed}
 use Rattle.claims.specs.families.Groups.{GroupNameFits, GroupSaveFits, Own, TwoGroups}
 use Rattle.claims.specs.families.Records.{ComplementFits, CzFits, GateFits, MeasureFits}
-use Rattle.contracts.specs.Calls.{Call}
+use Rattle.buffers.specs.Calls.{Call}
 use Rattle.operations.specs.Steps.{Operation, complementOf, czOn, gateWith}
 use Rattle.jobs.specs.Standing.{left}
 use Rattle.record.specs.Lent.{heldRecord}
 use Rattle.record.specs.Records.{SameRecord, complementRecord}
 use Rattle.store.specs.Places.{Store}
-use Rattle.used.specs.Used.{UsedRecord}
+use Rattle.operations.specs.Used.{UsedRecord}
 use Rattle.claims_groups.specs.GroupContracts.{IsStep, withRecord, withStore}
 use Rattle.claims_groups.specs.GroupKeeps.{
   GroupForgetKeeps,

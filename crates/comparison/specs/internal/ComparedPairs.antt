@@ -8,7 +8,7 @@ use lib.ListN.{length}
 use Rattle.buffers.specs.Buffers.{accepted, acceptedNumber, tabulate, written}
 use Rattle.buffers.specs.Refusals.{Refusal, firstFitting, line}
 use Rattle.comparison.specs.Choices.{leastCode, noChoice}
-use Rattle.parts.specs.Parts.{partAbove}
+use Rattle.comparison.specs.Parts.{partAbove}
 use Rattle.pauli.specs.Pauli.{Pauli}
 use Rattle.record.specs.Lent.{codeNumbers, neighbourWords}
 use Rattle.record.specs.Reduced.{reduced, reducedGraph}

@@ -5,7 +5,7 @@ use mathlib.Core.Path.{_≡_}
 use Prim.Native.Nat.{_<_, _≤_, ℕ}
 use Rattle.clifford.specs.Clifford.{Clifford}
 use Rattle.clifford.specs.Vectors.{act}
-use Rattle.parts.specs.Parts.{partOf}
+use Rattle.comparison.specs.Parts.{partOf}
 use Rattle.record.specs.Records.{GraphRecord, rowsOf}
 use Rattle.stabilizer.specs.Carries.{Carries}
 use Rattle.stabilizer.specs.Groups.{InGroup}

@@ -6,8 +6,8 @@ use Prim.Native.Nat.{_<_, ℕ, _≤_}
 use lib.ListN.{getD, length}
 use Rattle.clifford.specs.Clifford.{Clifford, inverse}
 use Rattle.clifford.specs.Vectors.{codesOf}
-use Rattle.graph.specs.Graph.{Graph, Simple}
-use Rattle.parts.specs.internal.Parts.{Closed}
+use Rattle.record.specs.Graph.{Graph, Simple}
+use Rattle.comparison.specs.internal.Parts.{Closed}
 use Rattle.pauli.specs.Pauli.{Pauli, i², scaled}
 use Rattle.pauli.specs.internal.Rows.{generatorOf}
 use Rattle.pauli.specs.declared.Generator.{Generator}

@@ -10,7 +10,7 @@ use Rattle.comparison_parts.proofs.ComponentLaws.{
   part-accepted,
   part-refused,
 }
-use Rattle.comparison_component.specs.internal.Components.{NumberedPair, PartAnswer}
+use Rattle.comparison_parts.specs.internal.Components.{NumberedPair, PartAnswer}
 use borrow.Author.Needs.{needs}
 use Rattle.comparison_parts.proofs.compare_component.Statement.{statement}
 use Rattle.comparison_parts.proofs.compare_component.Tie as tie

@@ -5,8 +5,8 @@ use native.Mathlib.Omega.{arith}
 use lib.ListN.{replicate}
 use borrow.Author.Tests.{not-false, not-true}
 use Rattle.comparison.proofs.NextChoice.{zeros-codes}
-use Rattle.graph.specs.Graph.{Simple}
-use Rattle.graph.specs.NeighbourWords.{graphIn}
+use Rattle.record.specs.Graph.{Simple}
+use Rattle.record.specs.NeighbourWords.{graphIn}
 use Rattle.comparison_parts.proofs.Parting.{
   all-answer,
   next-component,
@@ -16,7 +16,7 @@ use Rattle.comparison_parts.proofs.Parting.{
   rest-falls,
   vertex-in-buffer,
 }
-use Rattle.comparison_component.specs.internal.Components.{ComponentAnswer, Progress, recordHeld}
+use Rattle.comparison_parts.specs.internal.Components.{ComponentAnswer, Progress, recordHeld}
 use borrow.Author.Needs.{needs}
 use Rattle.comparison_parts.proofs.compare_parts.Statement.{statement}
 use Rattle.comparison_parts.proofs.compare_parts.Tie as tie

@@ -5,7 +5,7 @@ use Prim.Native.Nat.{ℕ}
 use lib.Dec.{eqb}
 use Rattle.clifford.specs.Clifford.{inverse}
 use Rattle.clifford.specs.Vectors.{act}
-use Rattle.graph.specs.Graph.{graphGenerator}
+use Rattle.record.specs.Graph.{graphGenerator}
 use Rattle.pauli.specs.Pauli.{Pauli}
 use Rattle.pauli.specs.declared.Generator.{Generator}
 use Rattle.pauli.specs.declared.Row.{Row}

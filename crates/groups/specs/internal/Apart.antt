@@ -4,7 +4,7 @@ use mathlib.Core.Path.{_≡_}
 use Prim.Native.Nat.{ℕ}
 use Rattle.buffers.specs.Refusals.{firstFitting}
 use Rattle.operations.specs.Steps.{Operation, complementOf, czOn, gateWith, measurementOf}
-use Rattle.used.specs.Used.{UsedRecord, usedLines}
+use Rattle.operations.specs.Used.{UsedRecord, usedLines}
 use Rattle.groups.specs.Masks.{crosses}
 
 -- a record of 64 qubits that no line refuses, without an edge between the groups

@@ -3,7 +3,7 @@ use mathlib.Core.Bool.{Bool, cond, false, not}
 use mathlib.Core.Path.{_≡_}
 use Prim.Native.Nat.{_<_, ℕ}
 use Rattle.clifford.specs.Clifford.{cliffordOf}
-use Rattle.graph.specs.Graph.{Graph, Simple}
+use Rattle.record.specs.Graph.{Graph, Simple}
 use Rattle.pauli.specs.Pauli.{Pauli}
 use Rattle.record.specs.Records.{GraphRecord}
 use Rattle.stabilizer.specs.Groups.{InGroup}

@@ -2,7 +2,7 @@
 use mathlib.Core.Path.{_≡_}
 use lib.ListN.{length}
 use borrow.Author.Needs.{needs}
-use Rattle.job_text.specs.internal.Scan.{asReading}
+use Rattle.jobs.specs.internal.Scan.{asReading}
 use Rattle.job.proofs.Blocks.{no-block, one-block}
 use Rattle.job.specs.internal.Reads.{ScannedJob}
 use Rattle.job.proofs.read_job.Statement.{statement}

@@ -3,7 +3,7 @@
 use mathlib.Core.List.{List}
 use mathlib.Core.Path.{_≡_}
 use Prim.Native.Nat.{ℕ}
-use Rattle.job_text.specs.internal.Scan.{empty, fed, Reading}
+use Rattle.jobs.specs.internal.Scan.{empty, fed, Reading}
 
 -- a text was read and scanned
 pub record ScannedJob (r : Reading) : Type 0 where

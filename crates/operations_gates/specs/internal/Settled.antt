@@ -4,7 +4,7 @@ use mathlib.Core.List.{List}
 use Prim.Native.Nat.{ℕ}
 use Prim.{Unit}
 use lib.ListN.{length}
-use Rattle.graph_steps.specs.internal.ReducedForms.{ReducedForm}
+use Rattle.operations.specs.internal.ReducedForms.{ReducedForm}
 use Rattle.operations.specs.internal.InPlace.{recordIn}
 use Rattle.record.specs.Lent.{heldRecord}
 

@@ -4,7 +4,7 @@ use mathlib.Core.Path.{_≡_}
 use Prim.Native.Nat.{_*_, _<_, ℕ}
 use lib.ListN.{length}
 use Rattle.buffers.specs.Refusals.{firstFitting}
-use Rattle.used.specs.Used.{usedLines}
+use Rattle.operations.specs.Used.{usedLines}
 use Rattle.store.specs.Places.{Store, isHeld, namedTwice, placeAt}
 
 -- its buffers have their lengths, no line refuses a held record, and no name is held twice

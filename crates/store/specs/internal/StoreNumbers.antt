@@ -4,7 +4,7 @@ use mathlib.Core.List.{List}
 use Prim.Native.Nat.{ℕ}
 use lib.Dec.{ltb}
 use Rattle.buffers.specs.Refusals.{firstFitting}
-use Rattle.used.specs.Used.{usedLines}
+use Rattle.operations.specs.Used.{usedLines}
 use Rattle.words.specs.Search.{some}
 use Rattle.store.specs.Places.{Store, countAt, isHeld, placeAt}
 

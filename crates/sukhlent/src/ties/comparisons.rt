@@ -2,7 +2,7 @@
 use crate::comparisons::sukhlent_compare;
 use crate::comparisons::sukhlent_compare_records;
 ghost use Rattle.claims.specs.Sentences.Comparisons.{CompareSays};
-ghost use Rattle.claims_compare_records.specs.RecordPairs.{CompareRecordsSays};
+ghost use Rattle.claims.specs.RecordPairs.{CompareRecordsSays};
 
 pub fn compare_says(
     n1: u64,

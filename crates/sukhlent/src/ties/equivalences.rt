@@ -1,7 +1,7 @@
 // The comparison of two lists, and of two records, with parts of any size: what demands 1 and 3 say of them.
 use crate::equivalences::sukhlent_equivalent;
 use crate::equivalences::sukhlent_equivalent_records;
-ghost use Rattle.claims_equivalent.specs.Equivalents.{EquivalentRecordsSays, EquivalentSays};
+ghost use Rattle.claims.specs.Equivalents.{EquivalentRecordsSays, EquivalentSays};
 
 pub fn equivalent_says(
     n1: u64,

@@ -1,6 +1,6 @@
 // Many steps in one call: what the demands say of it.
 use crate::run::sukhlent_run;
-ghost use Rattle.claims_run.specs.RunDemand.{RunSays};
+ghost use Rattle.claims.specs.RunDemand.{RunSays};
 
 pub fn run_says(
     n: u64,

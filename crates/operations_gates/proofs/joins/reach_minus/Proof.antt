@@ -3,7 +3,7 @@ use mathlib.Core.Bool.{cond}
 use mathlib.Core.Path.{ap, sym, _∙_}
 use Prim.Native.Nat.{_/_}
 use borrow.Author.Tests.{le-leb, lt-leb}
-use Rattle.graph_steps.proofs.OutOfPlace.{number-C}
+use Rattle.operations.proofs.OutOfPlace.{number-C}
 use Rattle.words.specs.Bits.{isOdd}
 use Rattle.operations_gates.proofs.joins.reach_minus.Statement.{statement}
 use Rattle.operations_gates.proofs.joins.reach_minus.Tie as tie

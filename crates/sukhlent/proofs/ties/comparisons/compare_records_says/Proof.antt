@@ -1,6 +1,6 @@
 -- `compare_records_says` meets its contract.
 use borrow.Author.Needs.{needs}
-use Rattle.claims_compare_records.proofs.RecordPairsHold.{compare-records-says}
+use Rattle.claims.proofs.RecordPairsHold.{compare-records-says}
 use Rattle.sukhlent.proofs.ties.comparisons.compare_records_says.Statement.{statement}
 use Rattle.sukhlent.proofs.ties.comparisons.compare_records_says.Tie as tie
 

@@ -1,6 +1,6 @@
 -- `equivalent_records_says` meets its contract.
 use borrow.Author.Needs.{needs}
-use Rattle.claims_equivalent.proofs.RecordsHold.{equivalent-records-says}
+use Rattle.claims.proofs.RecordsHold.{equivalent-records-says}
 use Rattle.sukhlent.proofs.ties.equivalences.equivalent_records_says.Statement.{statement}
 use Rattle.sukhlent.proofs.ties.equivalences.equivalent_records_says.Tie as tie
 

@@ -1,6 +1,6 @@
 -- `equivalent_says` meets its contract.
 use borrow.Author.Needs.{needs}
-use Rattle.claims_equivalent.proofs.EquivalentsHold.{equivalent-says}
+use Rattle.claims.proofs.EquivalentsHold.{equivalent-says}
 use Rattle.sukhlent.proofs.ties.equivalences.equivalent_says.Statement.{statement}
 use Rattle.sukhlent.proofs.ties.equivalences.equivalent_says.Tie as tie
 

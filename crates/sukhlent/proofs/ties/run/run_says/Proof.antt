@@ -1,6 +1,6 @@
 -- `run_says` meets its contract.
 use borrow.Author.Needs.{needs}
-use Rattle.claims_run.proofs.RunDemandHolds.{run-says}
+use Rattle.claims.proofs.RunDemandHolds.{run-says}
 use Rattle.sukhlent.proofs.ties.run.run_says.Statement.{statement}
 use Rattle.sukhlent.proofs.ties.run.run_says.Tie as tie
 

@@ -1,2 +1,0 @@
-pub mod KeptCounts
-pub mod PlotLines

@@ -1,2 +1,0 @@
-pub mod Downwards
-pub mod Copies

@@ -1,4 +1,0 @@
-pub mod Exponents
-pub mod FoundWords
-pub mod Vertices
-pub mod Loops

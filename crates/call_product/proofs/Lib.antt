@@ -1,2 +1,0 @@
-pub mod PartProducts
-pub mod ProductCalls

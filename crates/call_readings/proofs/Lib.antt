@@ -1,0 +1,4 @@
+pub mod AmplitudeLines
+pub mod CutLines
+pub mod ImageCalls
+pub mod Records

@@ -1,0 +1,3 @@
+pub mod LentRuns
+pub mod StepRuns
+pub mod Waiting

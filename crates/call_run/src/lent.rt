@@ -1,0 +1,249 @@
+// Runs the steps of a lent slice on a lent record in place, and keeps what each answers as one number.
+use crate::steps::run_step;
+use crate::steps::wait_step;
+use crate::waiting::settle_waiting;
+use jobs::Answer;
+use jobs::Op;
+use jobs::Step;
+ghost use mathlib.Core.Bool.{_&&_, cond};
+ghost use mathlib.Core.List.{[], _∷_};
+ghost use mathlib.Core.Path.{_≡_};
+ghost use Prim.Native.Nat.{_+_, _<_, _≤_};
+ghost use lib.ListN.{length, take};
+ghost use Rattle.call_run.specs.internal.Waiting.{meant};
+ghost use Rattle.call_run.specs.internal.StepRuns.{leavesReduced, nextWaiting};
+ghost use Rattle.call_run.specs.internal.LentRuns.{AnyStep, Begun, ReadyAt, SmallAnswer, WaitingRun};
+ghost use Rattle.call_run.specs.internal.LentRuns.{markedBefore, packed};
+
+// Whether the operation, if it is accepted, leaves a reduced record.
+fn leaves_reduced(op: Op) -> bool
+    ensures { λ r. ⌜ r ≡ leavesReduced op ⌝ }
+{
+    match op {
+        Op::Gate => true,
+        Op::Cz => true,
+        Op::Measure => true,
+        Op::Complement => false,
+        Op::Pivot => false,
+    }
+}
+
+// Whether the record waits to be reduced after a step.
+fn next_waiting(op: Op, refusal: u8, waiting: bool) -> bool
+    ensures { λ r. ⌜ r ≡ nextWaiting op refusal waiting ⌝ }
+{
+    if refusal == 0 {
+        return leaves_reduced(op);
+    }
+    waiting
+}
+
+// The mark of a record that waits.
+fn mark(marked: bool) -> u8
+    ensures { λ r. ⌜ r ≡ cond marked 128 0 ⌝ }
+{
+    if marked { 128 } else { 0 }
+}
+
+// An answer as one number, with the mark.
+fn pack(marked: bool, r: Answer) -> u8
+    requires { ⌜ SmallAnswer r ⌝ }
+    ensures { λ p. ⌜ p ≡ packed marked r ⌝ }
+{
+    let refusal = r.refusal;
+    mark(marked) + (refusal * 4 + r.outcome * 2 + r.determined)
+}
+
+// Whether the answer before a place has the mark; there is none before the first.
+fn marked_before(answers: &[u8], place: usize) -> bool
+    requires { ⌜ place ≤ length (now answers) ⌝ }
+    ensures { λ r. ⌜ r ≡ markedBefore place (now (answers .entry)) ⌝ }
+{
+    if place == 0 {
+        return false;
+    }
+    128 <= answers[place - 1]
+}
+
+// One step. `known`: no line refuses the record that is meant; `waiting`: that is the reduced one of its group.
+fn any_step(
+    n: u64,
+    neighbours: &mut [u64],
+    codes: &mut [u8],
+    used: &mut u64,
+    s: Step,
+    known: bool,
+    waiting: bool,
+) -> Answer
+    requires { ⌜ Begun known waiting (record {
+      held = record { n = n; neighbours = now neighbours; codes = now codes };
+      used = now used;
+    }) ⌝ }
+    ensures { λ r. ⌜ AnyStep known waiting (record {
+      held = record { n = n; neighbours = now (neighbours .entry); codes = now (codes .entry) };
+      used = now (used .entry);
+    }) s r (now (neighbours .exit)) (now (codes .exit)) (now (used .exit)) ⌝ }
+{
+    if known {
+        return wait_step(n, neighbours, codes, used, s, waiting);
+    }
+    run_step(n, neighbours, codes, used, s, false, false)
+}
+
+// One step: what it answers is kept at place at + k, and the used word after it is the result. What is kept at the place
+// before it tells whether the record waits to be reduced.
+pub fn turn(
+    n: u64,
+    neighbours: &mut [u64],
+    codes: &mut [u8],
+    used: u64,
+    known: bool,
+    s: Step,
+    at: usize,
+    k: usize,
+    answers: &mut [u8],
+) -> u64
+    requires { ⌜ (at + k < length (now answers)) × ReadyAt known (at + k) (now answers) (record {
+      held = record { n = n; neighbours = now neighbours; codes = now codes };
+      used = used;
+    }) ⌝ }
+    ensures { λ r. ⌜ WaitingRun known (record {
+      held = record { n = n; neighbours = now (neighbours .entry); codes = now (codes .entry) };
+      used = used;
+    }) (s ∷ []) (at + k) (now (answers .entry)) (now (neighbours .exit)) (now (codes .exit)) r (now (answers .exit)) ⌝ }
+{
+    let mut word = used;
+    let place = at + k;
+    let waiting = marked_before(answers, place);
+    let r = any_step(n, neighbours, codes, &mut word, s, known, waiting);
+    let op = s.op;
+    let marked = next_waiting(op, r.refusal, waiting);
+    answers[place] = pack(marked, r);
+    word
+}
+
+// The steps of a lent slice, one after the other. What step k answers is kept at place at + k.
+pub fn run_lent(
+    n: u64,
+    neighbours: &mut [u64],
+    codes: &mut [u8],
+    used: u64,
+    known: bool,
+    steps: &[Step],
+    at: usize,
+    answers: &mut [u8],
+) -> u64
+    requires { ⌜ (at + length (now steps) ≤ length (now answers)) × ReadyAt known at (now answers) (record {
+      held = record { n = n; neighbours = now neighbours; codes = now codes };
+      used = used;
+    }) ⌝ }
+    ensures { λ r. ⌜ WaitingRun known (record {
+      held = record { n = n; neighbours = now (neighbours .entry); codes = now (codes .entry) };
+      used = used;
+    }) (now (steps .entry)) at (now (answers .entry)) (now (neighbours .exit)) (now (codes .exit)) r
+        (now (answers .exit)) ⌝ }
+{
+    let mut word = used;
+    let mut k = 0;
+    while k < steps.len() {
+        word = turn(n, neighbours, codes, word, known, steps[k], at, k, answers);
+        k += 1;
+    }
+    word
+}
+
+// The first steps of a block, lent.
+pub fn run_block(
+    n: u64,
+    neighbours: &mut [u64],
+    codes: &mut [u8],
+    used: u64,
+    known: bool,
+    steps: [Step; 64],
+    count: usize,
+    at: usize,
+    answers: &mut [u8],
+) -> u64
+    requires { ⌜ (count ≤ 64) × ((at + count ≤ length (now answers)) × ReadyAt known at (now answers) (record {
+      held = record { n = n; neighbours = now neighbours; codes = now codes };
+      used = used;
+    })) ⌝ }
+    ensures { λ r. ⌜ WaitingRun known (record {
+      held = record { n = n; neighbours = now (neighbours .entry); codes = now (codes .entry) };
+      used = used;
+    }) (take count steps) at (now (answers .entry)) (now (neighbours .exit)) (now (codes .exit)) r
+        (now (answers .exit)) ⌝ }
+{
+    run_lent(
+        n,
+        neighbours,
+        codes,
+        used,
+        known,
+        &steps[..count],
+        at,
+        answers,
+    )
+}
+
+// The first steps of a job, lent whole.
+pub fn run_steps(
+    n: u64,
+    neighbours: &mut [u64],
+    codes: &mut [u8],
+    used: u64,
+    known: bool,
+    steps: [Step; 4096],
+    count: usize,
+    at: usize,
+    answers: &mut [u8],
+) -> u64
+    requires { ⌜ (count ≤ 4096) × ((at + count ≤ length (now answers)) × ReadyAt known at (now answers) (record {
+      held = record { n = n; neighbours = now neighbours; codes = now codes };
+      used = used;
+    })) ⌝ }
+    ensures { λ r. ⌜ WaitingRun known (record {
+      held = record { n = n; neighbours = now (neighbours .entry); codes = now (codes .entry) };
+      used = used;
+    }) (take count steps) at (now (answers .entry)) (now (neighbours .exit)) (now (codes .exit)) r
+        (now (answers .exit)) ⌝ }
+{
+    run_lent(
+        n,
+        neighbours,
+        codes,
+        used,
+        known,
+        &steps[..count],
+        at,
+        answers,
+    )
+}
+
+// The record that is meant after the steps, in the buffers.
+pub fn settle_last(
+    n: u64,
+    neighbours: &mut [u64],
+    codes: &mut [u8],
+    used: u64,
+    known: bool,
+    place: usize,
+    answers: &[u8],
+)
+    requires { ⌜ (place ≤ length (now answers)) × ReadyAt known place (now answers) (record {
+      held = record { n = n; neighbours = now neighbours; codes = now codes };
+      used = used;
+    }) ⌝ }
+    ensures { λ r. ⌜ record {
+      held = record { n = n; neighbours = now (neighbours .exit); codes = now (codes .exit) };
+      used = used;
+    } ≡ meant (known && markedBefore place (now (answers .entry))) (record {
+      held = record { n = n; neighbours = now (neighbours .entry); codes = now (codes .entry) };
+      used = used;
+    }) ⌝ }
+{
+    let waiting = marked_before(answers, place);
+    if known {
+        settle_waiting(n, neighbours, codes, used, waiting);
+    }
+}

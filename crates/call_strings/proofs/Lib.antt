@@ -1,2 +1,0 @@
-pub mod WriteCalls
-pub mod ReadCalls

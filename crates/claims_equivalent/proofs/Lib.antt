@@ -1,2 +1,0 @@
-pub mod EquivalentsHold
-pub mod RecordsHold

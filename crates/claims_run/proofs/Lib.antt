@@ -1,2 +1,0 @@
-pub mod RunFitting
-pub mod RunDemandHolds

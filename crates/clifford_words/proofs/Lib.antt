@@ -1,4 +1,0 @@
-pub mod Digits
-pub mod ByDigits
-pub mod Acting
-pub mod Inverses

@@ -1,2 +1,0 @@
-pub mod ReducedPairs
-pub mod InducedRecords

@@ -1,0 +1,3 @@
+pub mod Components
+pub mod Listed
+pub mod Spreads

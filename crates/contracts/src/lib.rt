@@ -1,1 +1,0 @@
-// The one shape of every public call's contract: see specs/ for the definitions and proofs/ for the laws.

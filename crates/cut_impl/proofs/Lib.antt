@@ -1,0 +1,4 @@
+pub mod Crossings
+pub mod Elimination
+pub mod Remainders
+pub mod Spans

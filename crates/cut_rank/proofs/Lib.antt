@@ -1,4 +1,0 @@
-pub mod Spans
-pub mod Remainders
-pub mod Elimination
-pub mod Crossings

@@ -1,4 +1,0 @@
-pub mod Shapes
-pub mod Lengths
-pub mod ReadsBack
-pub mod Examples

@@ -1,2 +1,0 @@
-pub mod StepLines
-pub mod JobLines

@@ -1,6 +1,0 @@
-pub mod GraphGroups
-pub mod Complement
-pub mod ComplementWords
-pub mod JoinedSets
-pub mod Pivot
-pub mod PivotWords

@@ -1,2 +1,0 @@
-pub mod Watching
-pub mod Counting

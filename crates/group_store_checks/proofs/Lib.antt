@@ -1,2 +1,0 @@
-pub mod HeldStates
-pub mod OwnNumbers

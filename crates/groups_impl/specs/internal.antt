@@ -1,0 +1,2 @@
+pub mod BeforeEight
+pub mod PlacesNumber

@@ -1,0 +1,105 @@
+// A group's part of a shared record: the lines of its calls before 8, its vertices taken out and put back.
+use crate::masks::crosses;
+use crate::masks::mask;
+use crate::masks::mask_used;
+use crate::masks::merge;
+use crate::masks::merge_used;
+use crate::masks::own_word;
+use call_gates::is_used;
+use operations_checks::used_refusal;
+ghost use mathlib.Core.Bool.{cond};
+ghost use mathlib.Core.Path.{_≡_};
+ghost use lib.ListN.{length};
+ghost use Rattle.buffers.specs.Refusals.{firstFitting};
+ghost use Rattle.groups.specs.GroupLines.{outsider};
+ghost use Rattle.groups.specs.Masks.{inGroup, masked};
+ghost use Rattle.words.specs.Bits.{bit, wordOf};
+ghost use Rattle.groups_impl.specs.internal.BeforeEight.{PutBack, beforeEight};
+
+// Whether a qubit of the record is in the other group: bit q of the word is qubit q's group.
+pub fn outside(n: u64, word: u64, group: u8, qubit: u64) -> bool
+    ensures { λ r. ⌜ r ≡ outsider (inGroup word group) n qubit ⌝ }
+{
+    (qubit < n) & (is_used(word, qubit) != (group == 1))
+}
+
+// The number of the first line before 8 that holds; `six`: line 6 holds of a further argument; `other`: the call names
+// a qubit of the other group.
+pub fn group_refusal(
+    n: u64,
+    word: u64,
+    group: u8,
+    neighbours: &[u64],
+    codes: &[u8],
+    used: u64,
+    six: bool,
+    other: bool,
+) -> u8
+    ensures { λ r. ⌜ r ≡ firstFitting (beforeEight word group (record {
+      held = record { n = n; neighbours = now (neighbours .entry); codes = now (codes .entry) };
+      used = used;
+    }) six other) ⌝ }
+{
+    if n != 64 {
+        return 2;
+    }
+    let early = used_refusal(n, neighbours, codes, used, 0, false, six | (1 < group));
+    if early != 0 {
+        return early;
+    }
+    if crosses(word, neighbours) | other {
+        19
+    } else {
+        0
+    }
+}
+
+// Copies the group's vertices, the others alone in +Z; answers the group's used qubits.
+pub fn take_group(
+    word: u64,
+    group: u8,
+    neighbours: &[u64],
+    codes: &[u8],
+    used: u64,
+    words: &mut [u64],
+    bytes: &mut [u8],
+) -> u64
+    requires { ⌜ (length (now neighbours) ≡ 64) × (length (now codes) ≡ 64) ⌝ }
+    requires { ⌜ (length (now words) ≡ 64) × (length (now bytes) ≡ 64) ⌝ }
+    ensures { λ r. ⌜ record {
+      held = record { n = 64; neighbours = now (words .exit); codes = now (bytes .exit) };
+      used = r;
+    } ≡ masked (inGroup word group) (record {
+      held = record { n = 64; neighbours = now (neighbours .entry); codes = now (codes .entry) };
+      used = used;
+    }) ⌝ }
+{
+    let own = own_word(word, group);
+    mask(own, neighbours, codes, words, bytes);
+    mask_used(own, used)
+}
+
+// Puts the group's vertices of a copy into the record; the others stay.
+pub fn put_group(
+    word: u64,
+    group: u8,
+    words: &[u64],
+    bytes: &[u8],
+    neighbours: &mut [u64],
+    codes: &mut [u8],
+)
+    requires { ⌜ (length (now words) ≡ 64) × (length (now bytes) ≡ 64) ⌝ }
+    requires { ⌜ (length (now neighbours) ≡ 64) × (length (now codes) ≡ 64) ⌝ }
+    ensures { λ r. ⌜ PutBack (inGroup word group) (now (words .entry)) (now (bytes .entry))
+        (now (neighbours .entry)) (now (codes .entry)) (now (neighbours .exit)) (now (codes .exit)) ⌝ }
+{
+    let own = own_word(word, group);
+    merge(own, words, bytes, neighbours, codes);
+}
+
+// The used qubits `new` of the group, and `used` of the other.
+pub fn put_used(word: u64, group: u8, new: u64, used: u64) -> u64
+    ensures { λ r. ⌜ r ≡ wordOf 64 (λ q. cond (inGroup word group q) (bit new q) (bit used q)) ⌝ }
+{
+    merge_used(own_word(word, group), new, used)
+}

@@ -1,2 +1,0 @@
-pub mod OwnWords
-pub mod Edges

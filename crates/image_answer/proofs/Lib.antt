@@ -1,4 +1,0 @@
-pub mod ActionWords
-pub mod SignBytes
-pub mod Answering
-pub mod CodeBits

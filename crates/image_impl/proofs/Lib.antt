@@ -1,0 +1,11 @@
+pub mod ActionWords
+pub mod Answering
+pub mod CodeBits
+pub mod NextMoves
+pub mod PivotSteps
+pub mod Rounds
+pub mod SignBytes
+pub mod StepLists
+pub mod Stepping
+pub mod TrackedRecords
+pub mod WordMoves

@@ -1,4 +1,0 @@
-pub mod KeptResults
-pub mod Lines
-pub mod Starting
-pub mod Responses

@@ -1,3 +1,0 @@
-pub mod Running
-pub mod KeptRecords
-pub mod WaitedSteps

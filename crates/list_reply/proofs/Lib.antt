@@ -1,4 +1,0 @@
-pub mod Answering
-pub mod ListPlaces
-pub mod ReadTexts
-pub mod OneAnswer

@@ -1,0 +1,2 @@
+pub mod UsedNumbers
+pub mod UsedVertices

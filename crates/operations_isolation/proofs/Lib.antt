@@ -1,2 +1,0 @@
-pub mod RemovedEdges
-pub mod IsolatedBuffers

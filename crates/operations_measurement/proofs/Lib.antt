@@ -1,0 +1,12 @@
+pub mod BringingToZ
+pub mod IsolatedBuffers
+pub mod MeasuredBuffers
+pub mod MeasuredComplements
+pub mod MeasuredGroups
+pub mod MeasuredPivots
+pub mod PartedBuffers
+pub mod PartedComplements
+pub mod PartedPivots
+pub mod ReadingOff
+pub mod RemovedEdges
+pub mod SentLetters

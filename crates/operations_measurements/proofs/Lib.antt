@@ -1,2 +1,0 @@
-pub mod ReadingOff
-pub mod MeasuredBuffers

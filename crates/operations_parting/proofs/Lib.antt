@@ -1,2 +1,0 @@
-pub mod PartedPivots
-pub mod PartedComplements

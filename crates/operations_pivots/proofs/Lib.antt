@@ -1,4 +1,0 @@
-pub mod FlippedRows
-pub mod PivotCodes
-pub mod PivotedRecords
-pub mod ThreePasses

@@ -1,6 +1,0 @@
-pub mod SentLetters
-pub mod BringingToZ
-pub mod MeasuredGroups
-pub mod PartedBuffers
-pub mod MeasuredPivots
-pub mod MeasuredComplements

@@ -1,3 +1,0 @@
-pub mod Marking
-pub mod Following
-pub mod WrittenNumbers

@@ -1,2 +1,0 @@
-pub mod PairLoops
-pub mod Edges

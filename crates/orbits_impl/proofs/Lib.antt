@@ -1,0 +1,5 @@
+pub mod Edges
+pub mod Following
+pub mod Marking
+pub mod PairLoops
+pub mod WrittenNumbers

@@ -1,6 +1,0 @@
-pub mod PartLaws
-pub mod SameParts
-pub mod Along
-pub mod PlacedRows
-pub mod PlacedGroups
-pub mod Examples

@@ -1,2 +1,0 @@
-pub mod ReducedBuffers
-pub mod Answering

@@ -1,0 +1,11 @@
+pub mod Concluding
+pub mod Loading
+pub mod Passing
+pub mod Pivoting
+pub mod Reading
+pub mod Relating
+pub mod RelativeSigns
+pub mod Rotating
+pub mod Rounds
+pub mod Shearing
+pub mod Storing

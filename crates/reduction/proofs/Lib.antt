@@ -1,3 +1,0 @@
-pub mod Concluding
-pub mod Loading
-pub mod Rounds

@@ -1,2 +1,0 @@
-pub mod RelativeSigns
-pub mod Shearing

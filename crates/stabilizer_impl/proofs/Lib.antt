@@ -1,0 +1,4 @@
+pub mod Additions
+pub mod Elimination
+pub mod Letters
+pub mod Pivots

@@ -1,4 +1,0 @@
-pub mod Letters
-pub mod Pivots
-pub mod Additions
-pub mod Elimination

@@ -1,3 +1,0 @@
-pub mod LetterBits
-pub mod RowLoops
-pub mod ListLoops

@@ -1,4 +1,0 @@
-pub mod RoundTests
-pub mod PairWords
-pub mod Exchanging
-pub mod Rounds

@@ -1,2 +1,0 @@
-pub mod UsedVertices
-pub mod UsedNumbers
