@@ -10,3 +10,4 @@ pub mod OverSets
 pub mod Parts
 pub mod Reaching
 pub mod Tabulate
+pub mod Writing

@@ -1,8 +1,8 @@
 // The public call that complements a lent record in place, and the pivot of job texts.
 use crate::in_place_refusal;
-use crate::is_used;
 use operations_rewriting::complements::complement_record;
 use operations_rewriting::pivots::pivot_record;
+use words::bit_at;
 use words::has;
 ghost use Rattle.buffers.specs.Calls.{Call};
 ghost use Rattle.calls.specs.InPlace.{usedCall};
@@ -27,7 +27,7 @@ pub fn complement_known(
       used = used;
     }) (complementOf a) (now (neighbours .exit)) (now (codes .exit))) r ⌝ }
 {
-    let sixteen = is_used(used, a);
+    let sixteen = bit_at(used, a);
     let early = in_place_refusal(n, neighbours, codes, used, false, n <= a, sixteen, known);
     if early != 0 {
         return early;

@@ -8,7 +8,7 @@ use operations_gates::gate_record;
 use operations_gates::suspecting::Seen;
 use operations_gates::suspecting::look;
 use operations_gates::suspecting::suspects;
-use words::has;
+use words::bit_at;
 ghost use mathlib.Core.Bool.{cond, false, true};
 ghost use mathlib.Core.Path.{_≡_};
 ghost use Prim.Native.Nat.{ℕ, _<_, _≤_};
@@ -19,7 +19,6 @@ ghost use Rattle.operations.specs.Steps.{czOn, gateWith};
 ghost use Rattle.operations_gates.specs.internal.Settled.{Settled};
 ghost use Rattle.record_impl.specs.internal.Looks.{Looked};
 ghost use Rattle.operations.specs.Used.{usedLines};
-ghost use Rattle.words.specs.Bits.{bit};
 ghost use Rattle.calls.specs.InPlace.{usedCall};
 ghost use Rattle.calls.specs.internal.InPlace.{usedInPlace};
 ghost use Rattle.call_gates.specs.internal.Knowing.{Found, Handed, Known};
@@ -35,17 +34,6 @@ fn six_number(six: bool) -> u8
     ensures { λ r. ⌜ r ≡ cond six 6 0 ⌝ }
 {
     if six { 6 } else { 0 }
-}
-
-// Whether a qubit is used; one with a number above 63 is not.
-pub fn is_used(used: u64, qubit: u64) -> bool
-    ensures { λ r. ⌜ r ≡ bit used qubit ⌝ }
-{
-    if qubit < 64 {
-        has(used, qubit as usize)
-    } else {
-        false
-    }
 }
 
 // The number of the first line of a record that holds, which need not be looked for where none is known to hold;
@@ -223,7 +211,7 @@ pub fn gate_known(
       used = used;
     }) (gateWith qubit code) (now (neighbours .exit)) (now (codes .exit))) r ⌝ }
 {
-    let sixteen = is_used(used, qubit);
+    let sixteen = bit_at(used, qubit);
     let seen = first_look(codes, known);
     let early = in_place_number(
         n,
@@ -274,7 +262,7 @@ pub fn cz_known(
     }) (czOn a b) (now (neighbours .exit)) (now (codes .exit))) r ⌝ }
 {
     let eight = (n <= a) | ((n <= b) | (a == b));
-    let sixteen = is_used(used, a) | is_used(used, b);
+    let sixteen = bit_at(used, a) | bit_at(used, b);
     let seen = first_look(codes, known);
     let early = in_place_number(
         n,

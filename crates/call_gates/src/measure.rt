@@ -1,10 +1,10 @@
 // The public call that measures a Pauli on a lent record in place.
 use crate::in_place_refusal;
-use crate::is_used;
 use operations::determined_number;
 use operations::outcome_number;
 use operations_measurement::contradicted;
 use operations_measurement::measure_record;
+use words::bit_at;
 use words::single;
 ghost use mathlib.Core.Path.{_≡_};
 ghost use Rattle.buffers.specs.Calls.{Call};
@@ -36,7 +36,7 @@ fn measure_refusal(
     }) (measurementOf pauli qubit outcome)) ⌝ }
 {
     let six = (2 <= outcome) | ((pauli == 0) | (4 <= pauli));
-    let sixteen = is_used(used, qubit);
+    let sixteen = bit_at(used, qubit);
     let early = in_place_refusal(n, neighbours, codes, used, six, n <= qubit, sixteen, known);
     if early != 0 {
         return early;

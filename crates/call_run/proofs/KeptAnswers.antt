@@ -9,7 +9,7 @@ use lib.ListN.{drop, getD, length}
 use Rattle.jobs.specs.Runs.{afterStep, answerOf, stepAnswers}
 use Rattle.jobs.specs.declared.Answer.{Answer}
 use Rattle.jobs.specs.declared.Step.{Step}
-use Rattle.text.specs.Text.{overwritten}
+use Rattle.buffers.specs.Writing.{overwritten}
 use Rattle.operations.specs.Used.{UsedRecord}
 use Rattle.call_run.proofs.LentLaws.{answers-long}
 use Rattle.call_run.proofs.MarkedSteps.{small-answer}

@@ -10,7 +10,7 @@ use Rattle.call_gates.specs.internal.Knowing.{Known}
 use Rattle.call_run.specs.internal.Waiting.{meant}
 use Rattle.jobs.specs.Runs.{run}
 use Rattle.jobs.specs.declared.Step.{Step}
-use Rattle.text.specs.Text.{overwritten}
+use Rattle.buffers.specs.Writing.{overwritten}
 use Rattle.operations.proofs.UsedPassing.{lines-pass}
 use Rattle.operations.specs.Used.{UsedRecord}
 use Rattle.call_run.specs.internal.LentRuns.{Begun, LentRun, ReadyAt, WaitingRun, markedBefore, packedAnswers}

@@ -14,8 +14,8 @@ use Rattle.jobs.specs.declared.Answer.{Answer}
 use Rattle.jobs.specs.declared.Step.{Step}
 use Rattle.call_run.proofs.KeptRecords.{run-known}
 use Rattle.call_run.specs.internal.StepRuns.{StepRun, WaitedStep, nextWaiting}
-use Rattle.text.proofs.Writing.{write-more, write-none, write-one}
-use Rattle.text.specs.Text.{overwritten}
+use Rattle.buffers.proofs.Writing.{write-more, write-none, write-one}
+use Rattle.buffers.specs.Writing.{overwritten}
 use Rattle.operations.specs.Used.{UsedRecord, UsedUnrefused}
 use Rattle.call_run.proofs.MarkedSteps.{answers-append, last-kept, lastOf, mark-kept, small-answer}
 use Rattle.call_run.specs.internal.LentRuns.{

@@ -15,7 +15,7 @@ use Rattle.jobs.specs.Runs.{afterStep, answerOf, run}
 use Rattle.jobs.specs.declared.Answer.{Answer}
 use Rattle.jobs.specs.declared.Step.{Step}
 use Rattle.call_run.specs.internal.StepRuns.{nextWaiting}
-use Rattle.text.specs.Text.{overwritten}
+use Rattle.buffers.specs.Writing.{overwritten}
 use Rattle.operations.specs.Used.{UsedRecord}
 use Rattle.call_run.specs.internal.LentRuns.{SmallAnswer, markedBefore, packed, packedAnswers}
 

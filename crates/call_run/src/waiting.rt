@@ -1,7 +1,6 @@
 // Steps on a lent record that stands for the reduced record of its group: it is reduced only where that is wanted.
 use call_gates::complement::complement_known;
 use call_gates::complement::pivot_known;
-use call_gates::is_used;
 use jobs::Answer;
 use operations::determined_number;
 use operations::outcome_number;
@@ -10,6 +9,7 @@ use operations_gates::unsettled::cz_unsettled;
 use operations_gates::unsettled::gate_unsettled;
 use operations_measurement::contradicted;
 use operations_measurement::measure_unsettled;
+use words::bit_at;
 use words::single;
 ghost use mathlib.Core.Bool.{cond};
 ghost use mathlib.Core.Path.{_≡_};
@@ -52,7 +52,7 @@ pub fn gate_waiting(
       used = used;
     }) (gateWith qubit code) (now (neighbours .entry)) (now (codes .exit)) r ⌝ }
 {
-    let sixteen = is_used(used, qubit);
+    let sixteen = bit_at(used, qubit);
     let early = argument_number(24 <= code, n <= qubit, sixteen);
     if early != 0 {
         return early;
@@ -81,7 +81,7 @@ pub fn cz_waiting(
     }) (czOn a b) (now (neighbours .exit)) (now (codes .exit)) r ⌝ }
 {
     let eight = (n <= a) | ((n <= b) | (a == b));
-    let sixteen = is_used(used, a) | is_used(used, b);
+    let sixteen = bit_at(used, a) | bit_at(used, b);
     let early = argument_number(false, eight, sixteen);
     if early != 0 {
         return early;
@@ -111,7 +111,7 @@ fn measure_number(
     })) (measurementOf pauli qubit outcome)) ⌝ }
 {
     let six = (2 <= outcome) | ((pauli == 0) | (4 <= pauli));
-    let sixteen = is_used(used, qubit);
+    let sixteen = bit_at(used, qubit);
     let early = argument_number(six, n <= qubit, sixteen);
     if early != 0 {
         return early;

@@ -12,7 +12,7 @@ use Rattle.buffers.specs.Calls.{Call}
 use Rattle.jobs.specs.Drawn.{generatedText}
 use Rattle.jobs.specs.GeneratedLines.{generateLines, room}
 use Rattle.stabilizer.proofs.SharedTests.{counted, has-length}
-use Rattle.text.specs.Text as print
+use Rattle.buffers.specs.Writing as print
 use Rattle.calls.specs.Generation.{generateCall}
 
 -- what it means that the call is accepted

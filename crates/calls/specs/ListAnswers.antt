@@ -10,7 +10,8 @@ use Rattle.calls.specs.Lists.{checkLines}
 use Rattle.record.specs.Lent.{codeNumbers, neighbourWords}
 use Rattle.record.specs.Reduced.{reduced}
 use Rattle.stabilizer.specs.Lists.{GeneratorList, rows}
-use Rattle.text.specs.Text.{HasForm, ListLine, Printed, TextOf, recordText, refusedText}
+use Rattle.text.specs.Text.{HasForm, ListLine, TextOf, recordText, refusedText}
+use Rattle.buffers.specs.Writing.{Printed}
 
 -- "one line per generator, n being their number"
 abbrev pub listRead : List ListLine → GeneratorList

@@ -24,7 +24,8 @@ use Rattle.record.proofs.WrittenRecords.{reduced-held-same}
 use Rattle.stabilizer.proofs.Accepted.{AcceptedList, accepted-list}
 use Rattle.stabilizer.proofs.SharedTests.{count-passes}
 use Rattle.stabilizer.specs.Lists.{GeneratorList, rows}
-use Rattle.text.specs.Text.{Printed, recordText, refusedText, overwritten}
+use Rattle.text.specs.Text.{recordText, refusedText}
+use Rattle.buffers.specs.Writing.{Printed, overwritten}
 use Rattle.claims.proofs.GatesFollow.{answer-reduced, answer-still}
 use Rattle.claims.proofs.JobsStand.{jobs-stand}
 use Rattle.claims.proofs.StepLines.{line-says}

@@ -1,28 +1,19 @@
 -- The words of a group's qubits, and records with the vertices of such a word alone or put back.
 use mathlib.Core.Bool.{_&&_, Bool, cond, false, not, true, _||_}
 use mathlib.Core.Path.{ap, ap₂, subst, sym, _∙_, _≡_}
-use Prim.Native.Nat.{_-_, _<_, _^_, ℕ}
-use lib.Bits.{bitAnd, bitOr, bitXor, or-lt, xor-lt}
+use Prim.Native.Nat.{_<_, _^_, ℕ}
+use lib.Bits.{bitAnd, bitOr, or-lt}
 use lib.Dec.{eqb}
 use lib.ListN.{getD}
-use lib.Pow.{ones-lt}
 use Rattle.buffers.proofs.Tabulate.{tabulate-cong}
 use Rattle.groups.specs.Masks.{crosses, inGroup, masked, merged, reachesOut}
 use Rattle.operations.specs.Used.{UsedRecord}
-use Rattle.words.proofs.BitLaws.{and-lt-right, bit-and, bit-mask, bit-or, bit-wordOf, bit-xor, word-cong, wordOf-bit}
-use Rattle.words.proofs.Finite.{bits, ⊕-true}
+use Rattle.words.proofs.Complement.{word-of}
+use Rattle.words.proofs.BitLaws.{and-lt-right, bit-and, bit-or, bit-wordOf, word-cong}
+use Rattle.words.proofs.Finite.{bits}
 use Rattle.words.proofs.SearchLaws.{some-ext}
-use Rattle.words.specs.Bits.{Word, bit, sameBit, wordOf, _⊕_}
+use Rattle.words.specs.Bits.{Word, bit, sameBit, wordOf}
 use Rattle.words.specs.Search.{some}
-
--- a word with these bits
-pub word-of : (w : ℕ) (f : Word) → w < 2 ^ 64 → ((q : ℕ) → q < 64 → bit w q ≡ f q) → w ≡ wordOf 64 f
-word-of w f h e = sym (wordOf-bit 64 w h) ∙ word-cong 64 (bit w) f e
-
--- the other bits
-pub other-bits : (w : ℕ) → w < 2 ^ 64 → bitXor w (2 ^ 64 - 1) ≡ wordOf 64 (λ q. not (bit w q))
-other-bits w h = word-of _ _ (xor-lt 64 w (2 ^ 64 - 1) h (ones-lt 64))
-    (λ q l. bit-xor w (2 ^ 64 - 1) q ∙ ap (λ b. bit w q ⊕ b) (bit-mask 64 q l) ∙ ⊕-true (bit w q))
 
 -- group 1 has the bits of the word, any other the others
 module _ (word g : ℕ) where

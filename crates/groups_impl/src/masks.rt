@@ -1,7 +1,8 @@
 // One group's vertices of a record of 64 qubits: the word of its qubits, its vertices alone, and put back; edges that
 // leave it.
 use words::has;
-ghost use mathlib.Core.Bool.{_&&_, cond, not};
+use words::others;
+ghost use mathlib.Core.Bool.{_&&_, cond};
 ghost use mathlib.Core.List.{[]};
 ghost use mathlib.Core.Path.{_≡_};
 ghost use Prim.Native.Nat.{_<_};
@@ -9,13 +10,6 @@ ghost use lib.ListN.{length};
 ghost use Rattle.groups.specs.Masks.{crosses, inGroup, masked, merged, reachesOut};
 ghost use Rattle.words.specs.Bits.{bit, wordOf};
 ghost use Rattle.words.specs.Search.{some};
-
-// The bits that a word has not.
-fn others(word: u64) -> u64
-    ensures { λ r. ⌜ r ≡ wordOf 64 (λ q. not (bit word q)) ⌝ }
-{
-    word ^ 0xFFFF_FFFF_FFFF_FFFF
-}
 
 // The word of the qubits of a group.
 pub fn own_word(word: u64, group: u8) -> u64

@@ -5,8 +5,8 @@ use crate::masks::mask_used;
 use crate::masks::merge;
 use crate::masks::merge_used;
 use crate::masks::own_word;
-use call_gates::is_used;
 use operations_checks::used_refusal;
+use words::bit_at;
 ghost use mathlib.Core.Bool.{cond};
 ghost use mathlib.Core.Path.{_≡_};
 ghost use lib.ListN.{length};
@@ -20,7 +20,7 @@ ghost use Rattle.groups_impl.specs.internal.BeforeEight.{PutBack, before
 pub fn outside(n: u64, word: u64, group: u8, qubit: u64) -> bool
     ensures { λ r. ⌜ r ≡ outsider (inGroup word group) n qubit ⌝ }
 {
-    (qubit < n) & (is_used(word, qubit) != (group == 1))
+    (qubit < n) & (bit_at(word, qubit) != (group == 1))
 }
 
 // The number of the first line before 8 that holds; `six`: line 6 holds of a further argument; `other`: the call names

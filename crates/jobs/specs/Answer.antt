@@ -10,7 +10,8 @@ use Rattle.buffers.specs.Refusals.{firstFitting}
 use Rattle.jobs.specs.Runs.{stepAnswers, run, started}
 use Rattle.jobs.specs.declared.Answer.{Answer}
 use Rattle.jobs.specs.declared.Step.{Step}
-use Rattle.text.specs.Text.{Printed, refusedText}
+use Rattle.text.specs.Text.{refusedText}
+use Rattle.buffers.specs.Writing.{Printed}
 use Rattle.operations.specs.Used.{UsedRecord}
 use Rattle.jobs.specs.JobLines.{jobLines}
 use Rattle.jobs.specs.Results.{Result, jobAnswer}

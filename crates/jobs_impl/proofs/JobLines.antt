@@ -15,8 +15,9 @@ use Rattle.jobs.specs.internal.Shapes.{Small}
 use Rattle.jobs.proofs.Digits.{two-places}
 use Rattle.jobs.specs.Text.{field, jobHead, jobText, qubitsLine, stepNames, stepText, stepsText}
 use Rattle.jobs.specs.declared.Step.{Step}
-use Rattle.text.proofs.Writing.{and-then, write-none}
-use Rattle.text.specs.Text.{Printed, decimal, newline}
+use Rattle.buffers.proofs.Writing.{and-then, write-none}
+use Rattle.text.specs.Text.{decimal, newline}
+use Rattle.buffers.specs.Writing.{Printed}
 
 -- the three lines before the steps
 pub head-parts : (n : ℕ) → n ≤ 64 → qubitsLine ++ decimal n ++ (10 ∷ stepNames) ≡ jobHead n

@@ -12,8 +12,9 @@ use Rattle.jobs.specs.Text.{opWord, stepText}
 use Rattle.jobs.specs.declared.Op.{Op}
 use Rattle.jobs.specs.declared.Op.the-variants.{Gate, Cz, Measure, Complement, Pivot}
 use Rattle.jobs.specs.declared.Step.{Step}
-use Rattle.text.proofs.Writing.{and-then}
-use Rattle.text.specs.Text.{Printed, decimal, newline, space}
+use Rattle.buffers.proofs.Writing.{and-then}
+use Rattle.text.specs.Text.{decimal, newline, space}
+use Rattle.buffers.specs.Writing.{Printed}
 use Rattle.words.proofs.Flags.{by-test}
 
 -- the letters of an operation without what fills them up

@@ -16,7 +16,8 @@ ghost use Rattle.jobs.specs.Drawn.{generatedText};
 ghost use Rattle.jobs.specs.GeneratedLines.{room};
 ghost use Rattle.jobs.specs.internal.Shapes.{Small};
 ghost use Rattle.jobs.specs.Text.{jobHead, opWord, stepText};
-ghost use Rattle.text.specs.Text.{Printed, space};
+ghost use Rattle.text.specs.Text.{space};
+ghost use Rattle.buffers.specs.Writing.{Printed};
 
 // How many letters an operation and the space behind it have.
 fn op_length(op: Op) -> usize

@@ -8,7 +8,8 @@ ghost use Prim.Native.Nat.{_+_, _<_, _≤_};
 ghost use lib.ListN.{length};
 ghost use Rattle.jobs.specs.Results.{resultNames, resultLine};
 ghost use Rattle.jobs.specs.Text.{digits};
-ghost use Rattle.text.specs.Text.{space, Printed};
+ghost use Rattle.text.specs.Text.{space};
+ghost use Rattle.buffers.specs.Writing.{Printed};
 
 // A decimal number below 10,000.
 fn put_number(k: u16, at: usize, out: &mut [u8]) -> usize

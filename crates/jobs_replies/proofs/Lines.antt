@@ -7,8 +7,8 @@ use native.Mathlib.Omega.{arith}
 use lib.ListN.{length}
 use Rattle.jobs.proofs.ResultLaws.{length-results, results-more}
 use Rattle.jobs.specs.Results.{Result, resultLine, resultLines, resultNames}
-use Rattle.text.proofs.Writing.{and-then, length-written, write-none}
-use Rattle.text.specs.Text.{Printed}
+use Rattle.buffers.proofs.Writing.{and-then, length-written, write-none}
+use Rattle.buffers.specs.Writing.{Printed}
 use Rattle.jobs_replies.specs.Room.{linesRoom}
 
 -- behind the names there is room for the lines

@@ -6,7 +6,8 @@ use lib.ListN.{take}
 use Rattle.jobs.proofs.TextAnswers.{accepted-answers, refused-answers}
 use Rattle.jobs.specs.Answer.{Answers, ResponseTo, runText}
 use Rattle.jobs.specs.internal.Scan.{empty, fed, Reading, verdict}
-use Rattle.text.specs.Text.{Printed, refusedText}
+use Rattle.text.specs.Text.{refusedText}
+use Rattle.buffers.specs.Writing.{Printed}
 
 module _ (w : Reading) (before after : List ℕ) (end k : ℕ) (e : k ≡ verdict (w .scan)) where
   -- a refusal

@@ -12,9 +12,10 @@ use Rattle.jobs.proofs.Printing.{run-sized, started-sized}
 use Rattle.jobs.proofs.Stepwise.{run-qubits}
 use Rattle.jobs.specs.Runs.{started}
 use Rattle.jobs.specs.declared.Step.{Step}
-use Rattle.text.proofs.Writing.{and-then, length-written}
+use Rattle.buffers.proofs.Writing.{and-then, length-written}
 use Rattle.text.specs.internal.Text.{Printable}
-use Rattle.text.specs.Text.{Printed, recordText}
+use Rattle.text.specs.Text.{recordText}
+use Rattle.buffers.specs.Writing.{Printed}
 use Rattle.operations.specs.Used.{UsedRecord}
 use Rattle.call_run.specs.internal.LentRuns.{LentRun}
 use Rattle.jobs_replies.proofs.KeptResults.{lines-kept}

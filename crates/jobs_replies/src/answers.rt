@@ -14,7 +14,7 @@ ghost use mathlib.Core.List.{List, _++_};
 ghost use mathlib.Core.Path.{_≡_};
 ghost use Prim.Native.Nat.{ℕ, _≤_};
 ghost use lib.ListN.{length, take};
-ghost use Rattle.text.specs.Text.{Printed};
+ghost use Rattle.buffers.specs.Writing.{Printed};
 ghost use Rattle.jobs.specs.Answer.{ResponseTo, runText};
 ghost use Rattle.jobs.specs.Results.{resultLines, resultNames};
 ghost use Rattle.jobs.specs.internal.Scan.{asReading, empty, fed};

@@ -10,7 +10,7 @@ ghost use Prim.Native.Nat.{ℕ, _≤_};
 ghost use lib.ListN.{length};
 ghost use Rattle.calls.specs.ListAnswers.{ResponseTo};
 ghost use Rattle.text_replies.specs.internal.Places.{ScanOf, listAt};
-ghost use Rattle.text.specs.Text.{Printed};
+ghost use Rattle.buffers.specs.Writing.{Printed};
 ghost use Rattle.calls.specs.PlotAnswers.{longestTable, plotAnswer};
 ghost use Rattle.jobs_replies.specs.internal.Rooms.{RoomFor};
 

@@ -15,7 +15,7 @@ ghost use Rattle.amplitude.specs.Ratios.{plotAt};
 ghost use Rattle.amplitude_impl.specs.internal.Plottable.{Plottable};
 ghost use Rattle.operations.specs.internal.InPlace.{recordIn};
 ghost use Rattle.record.specs.Lent.{heldRows};
-ghost use Rattle.text.specs.Text.{Printed};
+ghost use Rattle.buffers.specs.Writing.{Printed};
 ghost use Rattle.jobs.specs.Table.{floatText, plotNames, pointText, tableText};
 ghost use Rattle.jobs.specs.internal.Numbers.{AllNumbers};
 

@@ -15,9 +15,9 @@ use Rattle.buffers.specs.Buffers.{written}
 use Rattle.cut.proofs.Counting.{count-upto, except}
 use Rattle.orbits.proofs.Selecting.{selected-add, selected-ext, selected-first, selected-length, selected-none}
 use Rattle.orbits.specs.Orbits.{orbitList, selected}
-use Rattle.text.proofs.Writing.{and-then, write-none, write-one}
-use Rattle.text.specs.Text as print
-use Rattle.text.specs.Text.{Printed}
+use Rattle.buffers.proofs.Writing.{and-then, write-none, write-one}
+use Rattle.buffers.specs.Writing as print
+use Rattle.buffers.specs.Writing.{Printed}
 use Rattle.words.proofs.BitLaws.{bit-flip, flip-less, zero-bit}
 use Rattle.words.proofs.Finite.{⊕-zero}
 use Rattle.words.proofs.Places.{other-place, same-place}

@@ -8,7 +8,7 @@ ghost use lib.ListN.{length};
 ghost use Rattle.buffers.specs.Buffers.{written};
 ghost use Rattle.orbits.specs.Orbits.{selected};
 ghost use Rattle.orbits_impl.specs.internal.Marks.{marked};
-ghost use Rattle.text.specs.Text.{Printed};
+ghost use Rattle.buffers.specs.Writing.{Printed};
 ghost use Rattle.words.specs.Bits.{bit};
 
 // The numbers of one word of marks, from place at on. Returns the place behind them.

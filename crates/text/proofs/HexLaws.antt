@@ -8,8 +8,9 @@ use native.Mathlib.Omega.{arith}
 use lib.Dec.{ltb, lit≤}
 use lib.ListN.{length, set, length-append}
 use lib.Pow.{shr-shr}
-use Rattle.text.specs.Text.{hexDigit, hexText, decimal, space, overwritten}
-use Rattle.text.proofs.Writing.{write-next}
+use Rattle.text.specs.Text.{hexDigit, hexText, decimal, space}
+use Rattle.buffers.specs.Writing.{overwritten}
+use Rattle.buffers.proofs.Writing.{write-next}
 
 pub length-hex : (k w : ℕ) → length (hexText k w) ≡ k
 unfolding hexText

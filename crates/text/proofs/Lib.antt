@@ -18,4 +18,3 @@ pub mod StringsExamples
 pub mod StringsFormLaws
 pub mod TextLaws
 pub mod Verdict
-pub mod Writing

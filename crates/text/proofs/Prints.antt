@@ -5,7 +5,7 @@ use Prim.Native.Nat.{_+_, ℕ, _≤_}
 use native.Mathlib.Omega.{arith}
 use lib.ListN.{drop, length, length-append, length-drop, take}
 use lib.Seq.{length-take-le}
-use Rattle.text.specs.Text.{Printed, overwritten}
+use Rattle.buffers.specs.Writing.{Printed, overwritten}
 
 -- what was printed ends within the buffer
 pub printed-fits : (bytes before after : List ℕ) (r : ℕ) → Printed bytes 0 before after r →

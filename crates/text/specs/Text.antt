@@ -5,7 +5,7 @@ use mathlib.Core.Bool.{Bool, cond}
 use mathlib.Core.List.{List, [], _∷_, _++_}
 use Prim.Native.Nat.{ℕ, zero, suc, _+_, _/_, _%_, _^_, _<_}
 use lib.Dec.{ltb}
-use lib.ListN.{length, getD, take, drop}
+use lib.ListN.{getD}
 use Rattle.words.specs.Bits.{bit, digit}
 
 -- a lower-case hexadecimal digit
@@ -104,12 +104,3 @@ refusedWord = 114 ∷ 101 ∷ 102 ∷ 117 ∷ 115 ∷ 101 ∷ 100 ∷ 32 ∷ []
 -- the print of refusal k
 unfoldable pub refusedText : ℕ → List ℕ
 refusedText k = refusedWord ++ decimal k ++ newline
-
--- out with these bytes from place at on
-unfoldable pub overwritten : List ℕ → ℕ → List ℕ → List ℕ
-overwritten out at bytes = take at out ++ bytes ++ drop (at + length bytes) out
-
--- the bytes are printed at place at, which turns the buffer from before into after; r is the place behind them
-pub record Printed (bytes : List ℕ) (at : ℕ) (before after : List ℕ) (r : ℕ) : Type 0 where
-  pub end : r ≡ at + length bytes
-  pub out : after ≡ overwritten before at bytes

@@ -5,7 +5,8 @@ ghost use mathlib.Core.List.{[], _∷_, _++_};
 ghost use Prim.Native.Nat.{_+_, _<_, _≤_};
 ghost use lib.ListN.{length};
 ghost use Rattle.text.specs.Text.{hexDigit, hexText, decimal, space, qubitLine, recordText, refusedText};
-ghost use Rattle.text.specs.Text.{Printed, usedColumn};
+ghost use Rattle.text.specs.Text.{usedColumn};
+ghost use Rattle.buffers.specs.Writing.{Printed};
 ghost use Rattle.text.specs.internal.Text.{Printable};
 
 fn hex_digit(d: u8) -> u8

@@ -11,7 +11,8 @@ use Rattle.stabilizer.specs.Lists.{GeneratorList}
 use Rattle.text.proofs.KeptLaws.{count-few, count-many, signs-few, xs-few, zs-few}
 use Rattle.text.proofs.Verdict.{text-judged}
 use Rattle.text.specs.internal.Scan.{Judged, LinesKept, Reading, asReading, verdict}
-use Rattle.text.specs.Text.{HasForm, ListLine, Printed, refusedText}
+use Rattle.text.specs.Text.{HasForm, ListLine, refusedText}
+use Rattle.buffers.specs.Writing.{Printed}
 use Rattle.text.specs.declared.scan.Verdict.{Verdict}
 use Rattle.words.proofs.Sums.{lt-or-ge}
 use Rattle.calls.specs.ListAnswers.{Answers, ResponseTo, listRead}

@@ -9,7 +9,7 @@ ghost use mathlib.Core.List.{List};
 ghost use mathlib.Core.Path.{_≡_};
 ghost use Prim.Native.Nat.{ℕ, _≤_, min};
 ghost use lib.ListN.{length};
-ghost use Rattle.text.specs.Text.{Printed};
+ghost use Rattle.buffers.specs.Writing.{Printed};
 ghost use Rattle.calls.specs.ListAnswers.{ResponseTo, answerText};
 ghost use Rattle.text_replies.specs.internal.Places.{Lent, ScanOf, listAt};
 ghost use Rattle.text_replies.specs.Places.{longest};

@@ -14,8 +14,9 @@ use Rattle.pauli.proofs.PhaseLaws.{sign-minus}
 use Rattle.pauli.specs.Pauli.{Pauli, letter, signedRow}
 use Rattle.text.proofs.TextLaws.{length-lines}
 use Rattle.text.specs.Strings.{letterByte, signByte, stringLine, stringLines, stringsText, textSize}
-use Rattle.text.proofs.Writing.{and-then, same-print, write-none, write-taken}
-use Rattle.text.specs.Text.{Printed, newline, overwritten}
+use Rattle.buffers.proofs.Writing.{and-then, same-print, write-none, write-taken}
+use Rattle.text.specs.Text.{newline}
+use Rattle.buffers.specs.Writing.{Printed, overwritten}
 use Rattle.words.specs.Bits.{bit}
 use Rattle.text.proofs.SizeLaws.{line-inside}
 

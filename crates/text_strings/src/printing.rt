@@ -10,7 +10,7 @@ ghost use Rattle.buffers.specs.Buffers.{tabulate};
 ghost use Rattle.pauli.specs.Pauli.{letter, signedRow};
 ghost use Rattle.stabilizer.specs.Lists.{rows};
 ghost use Rattle.text.specs.Strings.{letterByte, signByte, stringLine, stringsText, textSize};
-ghost use Rattle.text.specs.Text.{Printed};
+ghost use Rattle.buffers.specs.Writing.{Printed};
 ghost use Rattle.words.specs.Bits.{bit, isOdd};
 
 fn letter_byte(l: Letter) -> u8

@@ -1,4 +1,5 @@
 pub mod BitLaws
+pub mod Complement
 pub mod Dropping
 pub mod Exchanging
 pub mod Finite

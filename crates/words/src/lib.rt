@@ -1,13 +1,13 @@
 // Words of 64 bits: masks, bits read, flipped and counted, the smallest and the largest set bit.
 pub mod transposition;
 
-ghost use mathlib.Core.Bool.{_&&_, true};
+ghost use mathlib.Core.Bool.{_&&_, not, true};
 ghost use mathlib.Core.Path.{_≡_};
 ghost use Prim.Native.Nat.{ℕ, _+_, _-_, _<_, _≤_, _^_};
 ghost use lib.Bits.{bitXor};
 ghost use lib.Count.{ones, trailingZeros};
 ghost use lib.Dec.{eqb, leb};
-ghost use Rattle.words.specs.Bits.{_⊕_, bit, isOdd, put};
+ghost use Rattle.words.specs.Bits.{_⊕_, bit, isOdd, put, wordOf};
 ghost use Rattle.words.specs.internal.Bits.{dot};
 
 // The mask of n qubits: the bits below n are 1. No shift reaches 64.
@@ -32,6 +32,20 @@ pub fn has(w: u64, q: usize) -> bool
     ensures { λ r. ⌜ r ≡ bit w q ⌝ }
 {
     (w >> q) & 1 == 1
+}
+
+// Bit q of w for any number q: there is none above 63.
+pub fn bit_at(w: u64, q: u64) -> bool
+    ensures { λ r. ⌜ r ≡ bit w q ⌝ }
+{
+    if q < 64 { has(w, q as usize) } else { false }
+}
+
+// The bits that w has not.
+pub fn others(w: u64) -> u64
+    ensures { λ r. ⌜ r ≡ wordOf 64 (λ q. not (bit w q)) ⌝ }
+{
+    w ^ 0xFFFF_FFFF_FFFF_FFFF
 }
 
 // The word with bit q alone.

@@ -36,7 +36,7 @@ number E =
     let S = I .before .before .before .before in
     let a = S .args in
     named-as (lent S) false (leb (a .n) (a .a) || (leb (a .n) (a .b) || eqb (a .a) (a .b)))
-    (E .in-place-number .ensures) (ap₂ _||_ (I .before .is-used .ensures) (I .is-used2 .ensures))
+    (E .in-place-number .ensures) (ap₂ _||_ (I .before .bit-at .ensures) (I .bit-at2 .ensures))
 
 first-look-requires : tie.Need-first-look-requires
 first-look-requires c κs =

@@ -34,7 +34,7 @@ number E =
     let I = E .before .before .before .before .before in
     let S = I .before .before .before in
     named-as (lent S) (leb 24 (S .args .code)) (leb (S .args .n) (S .args .qubit)) (E .in-place-number .ensures)
-    (I .is-used .ensures)
+    (I .bit-at .ensures)
 
 first-look-requires : tie.Need-first-look-requires
 first-look-requires c κs =

@@ -14,7 +14,7 @@ use Rattle.jobs.specs.declared.Answer.{Answer}
 use Rattle.jobs.specs.declared.Step.{Step}
 use Rattle.call_run.specs.internal.StepRuns.{StepRun, nextWaiting}
 use Rattle.operations.specs.internal.InPlace.{Unrefused}
-use Rattle.text.specs.Text.{overwritten}
+use Rattle.buffers.specs.Writing.{overwritten}
 use Rattle.operations.specs.Used.{UsedRecord}
 
 -- an answer as one number, with the mark of a record that waits after it

@@ -2,7 +2,7 @@
 use mathlib.Core.Path.{refl, sym}
 use borrow.Author.Needs.{needs}
 use Rattle.text_replies.proofs.ListPlaces.{lent-places, places-long, places-printed}
-use Rattle.text.proofs.Writing.{same-print}
+use Rattle.buffers.proofs.Writing.{same-print}
 use Rattle.text_replies.proofs.answer.Statement.{statement}
 use Rattle.text_replies.proofs.answer.Tie as tie
 

@@ -3,7 +3,7 @@ use native.Mathlib.Omega.{arith}
 use borrow.Author.Needs.{needs}
 use Rattle.stabilizer.specs.Lists.{GeneratorList}
 use Rattle.text_replies.proofs.Answering.{number-small, printable, record-printed, refused-printed}
-use Rattle.text.proofs.Writing.{same-print}
+use Rattle.buffers.proofs.Writing.{same-print}
 use Rattle.text_replies.proofs.print_reduced.Statement.{statement}
 use Rattle.text_replies.proofs.print_reduced.Tie as tie
 

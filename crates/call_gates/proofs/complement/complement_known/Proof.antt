@@ -31,7 +31,7 @@ number E =
     let I = E .before .before .before in
     let S = I .before .before .before in
     named-as (lent S) false (leb (S .args .n) (S .args .a)) (E .in-place-refusal .ensures)
-    (I .is-used .ensures)
+    (I .bit-at .ensures)
 
 returns : tie.Need-returns
 returns c = refused _ (number (c .before)) (c .if1 .taken) (refl, (refl, tt))

@@ -30,7 +30,7 @@ number E =
     let S = I .before .before .before in
     let a = S .args in
     named-as (lent S) (leb 2 (a .outcome) || (eqb (a .pauli) 0 || leb 4 (a .pauli))) (leb (a .n) (a .qubit))
-    (E .in-place-refusal .ensures) (I .is-used .ensures)
+    (E .in-place-refusal .ensures) (I .bit-at .ensures)
 
 returns : tie.Need-returns
 returns c =

@@ -29,13 +29,13 @@ number E =
     let S = E .before .before .before .before .before in
     let a = S .args in
     numbered (meant (a .waiting) (lent S)) (S .pre .checked) false (leb (a .n) (a .a) || (leb (a .n) (a .b) || eqb (a .a) (a .b)))
-    (E .argument-number .ensures) (ap₂ _||_ (E .before .before .is-used .ensures) (E .before .is-used2 .ensures))
+    (E .argument-number .ensures) (ap₂ _||_ (E .before .before .bit-at .ensures) (E .before .bit-at2 .ensures))
 
-is-used-requires : tie.Need-is-used-requires
-is-used-requires c κs = search needs
+bit-at-requires : tie.Need-bit-at-requires
+bit-at-requires c κs = search needs
 
-is-used-requires-2 : tie.Need-is-used-requires-2
-is-used-requires-2 c κs = search needs
+bit-at-requires-2 : tie.Need-bit-at-requires-2
+bit-at-requires-2 c κs = search needs
 
 argument-number-requires : tie.Need-argument-number-requires
 argument-number-requires c κs = search needs
@@ -68,8 +68,8 @@ pub cz-waiting-spec : {M : Type 1} → statement M
 cz-waiting-spec =
     tie.close
     (tie.spec
-    is-used-requires
-    is-used-requires-2
+    bit-at-requires
+    bit-at-requires-2
     argument-number-requires
     returns
     cz-unsettled-requires

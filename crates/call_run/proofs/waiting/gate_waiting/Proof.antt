@@ -27,10 +27,10 @@ number : (E : tie.After-argument-number) → let S = E .before .before .before .
 number E =
     let S = E .before .before .before .before in
     numbered (meant (S .args .waiting) (lent S)) (S .pre .checked) (leb 24 (S .args .code)) (leb (S .args .n) (S .args .qubit))
-    (E .argument-number .ensures) (E .before .is-used .ensures)
+    (E .argument-number .ensures) (E .before .bit-at .ensures)
 
-is-used-requires : tie.Need-is-used-requires
-is-used-requires c κs = search needs
+bit-at-requires : tie.Need-bit-at-requires
+bit-at-requires c κs = search needs
 
 argument-number-requires : tie.Need-argument-number-requires
 argument-number-requires c κs = search needs
@@ -60,7 +60,7 @@ pub gate-waiting-spec : {M : Type 1} → statement M
 gate-waiting-spec =
     tie.close
     (tie.spec
-    is-used-requires
+    bit-at-requires
     argument-number-requires
     returns
     gate-unsettled-requires

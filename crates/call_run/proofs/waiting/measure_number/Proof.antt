@@ -28,10 +28,10 @@ number E =
     let S = E .before .before .before .before in
     let a = S .args in
     numbered (meant (a .waiting) (lent S)) (S .pre .checked) (leb 2 (a .outcome) || (eqb (a .pauli) 0 || leb 4 (a .pauli)))
-    (leb (a .n) (a .qubit)) (E .argument-number .ensures) (E .before .is-used .ensures)
+    (leb (a .n) (a .qubit)) (E .argument-number .ensures) (E .before .bit-at .ensures)
 
-is-used-requires : tie.Need-is-used-requires
-is-used-requires c κs = search needs
+bit-at-requires : tie.Need-bit-at-requires
+bit-at-requires c κs = search needs
 
 argument-number-requires : tie.Need-argument-number-requires
 argument-number-requires c κs = search needs
@@ -68,7 +68,7 @@ pub measure-number-spec : {M : Type 1} → statement M
 measure-number-spec =
     tie.close
     (tie.spec
-    is-used-requires
+    bit-at-requires
     argument-number-requires
     returns
     contradicted-requires

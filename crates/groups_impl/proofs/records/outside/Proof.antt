@@ -14,7 +14,7 @@ unlike = bits 2 (λ a b. not (Bool·beq a b)) (λ a b. not (sameBit a b)) tt
 returns : tie.Need-returns
 returns c =
     let a = c .before .args in
-    ap (λ b. ltb (a .qubit) (a .n) && b) (ap (λ b. not (Bool·beq b (eqb (a .group) 1))) (c .is-used .ensures)
+    ap (λ b. ltb (a .qubit) (a .n) && b) (ap (λ b. not (Bool·beq b (eqb (a .group) 1))) (c .bit-at .ensures)
     ∙ unlike (bit (a .word) (a .qubit)) (eqb (a .group) 1))
 
 pub outside-spec : {M : Type 1} → statement M

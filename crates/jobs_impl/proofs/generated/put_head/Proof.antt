@@ -5,8 +5,9 @@ use lib.ListN.{length-append}
 use borrow.Author.Needs.{needs}
 use Rattle.jobs.specs.Text.{qubitsLine}
 use Rattle.text.proofs.HexLaws.{length-decimal}
-use Rattle.text.proofs.Writing.{and-then}
-use Rattle.text.specs.Text.{Printed, decimal}
+use Rattle.buffers.proofs.Writing.{and-then}
+use Rattle.text.specs.Text.{decimal}
+use Rattle.buffers.specs.Writing.{Printed}
 use Rattle.jobs_impl.proofs.JobLines.{head-parts}
 use Rattle.jobs_impl.proofs.generated.put_head.Statement.{statement}
 use Rattle.jobs_impl.proofs.generated.put_head.Tie as tie

@@ -4,7 +4,7 @@ use native.Mathlib.Omega.{arith}
 use lib.ListN.{length}
 use lib.Seq.{length-take-le}
 use borrow.Author.Needs.{needs}
-use Rattle.text.specs.Text.{Printed}
+use Rattle.buffers.specs.Writing.{Printed}
 use Rattle.jobs_impl.proofs.StepLines.{letters-inside, letters-taken}
 use Rattle.jobs_impl.proofs.generated.put_op.Statement.{statement}
 use Rattle.jobs_impl.proofs.generated.put_op.Tie as tie

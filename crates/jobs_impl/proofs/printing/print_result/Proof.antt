@@ -3,7 +3,7 @@ use Rattle.jobs.proofs.ResultLaws.{length-step, length-three, line-parts, three
 use Rattle.jobs.specs.Results.{Result}
 use Rattle.jobs.specs.Text.{digits}
 use Rattle.text.proofs.HexLaws.{length-decimal, length-field}
-use Rattle.text.proofs.Writing.{and-then, same-print}
+use Rattle.buffers.proofs.Writing.{and-then, same-print}
 use Rattle.text.specs.Text.{decimal, space}
 use borrow.Author.Needs.{needs}
 use lib.ListN.{length-append}

@@ -1,6 +1,6 @@
 -- `put_long_field` meets its contract: a decimal number below 10,000 and the space behind it.
 use Rattle.jobs.proofs.ResultLaws.{length-digits}
-use Rattle.text.proofs.Writing.{and-then}
+use Rattle.buffers.proofs.Writing.{and-then}
 use borrow.Author.Needs.{needs}
 use native.Mathlib.Omega.{arith}
 use Rattle.jobs_impl.proofs.printing.put_long_field.Statement.{statement}

@@ -3,7 +3,7 @@ use Prim.Native.Nat.{_+_, _%_}
 use Prim.Native.Nat.{_/_}
 use Rattle.jobs.proofs.ResultLaws.{number-long, number-short}
 use Rattle.text.proofs.HexLaws.{length-decimal}
-use Rattle.text.proofs.Writing.{and-then, same-print}
+use Rattle.buffers.proofs.Writing.{and-then, same-print}
 use Rattle.text.specs.Text.{decimal}
 use borrow.Author.Needs.{needs}
 use lib.ListN.{length-append}

@@ -5,7 +5,7 @@ use lib.ListN.{length}
 use native.Mathlib.Omega.{arith}
 use borrow.Author.Needs.{needs}
 use Rattle.jobs.specs.Results.{resultLines}
-use Rattle.text.specs.Text.{Printed}
+use Rattle.buffers.specs.Writing.{Printed}
 use Rattle.jobs_replies.proofs.Lines.{all-lines, line-fits, no-line, one-line}
 use Rattle.jobs_replies.specs.internal.Room.{resultIn}
 use Rattle.jobs_replies.proofs.answers.print_results.Statement.{statement}

@@ -4,7 +4,7 @@ use native.Mathlib.Omega.{arith}
 use borrow.Author.Needs.{needs}
 use Rattle.calls.proofs.PlotLines.{many-refused}
 use Rattle.buffers.proofs.Parts.{part-long}
-use Rattle.text.proofs.Writing.{same-print}
+use Rattle.buffers.proofs.Writing.{same-print}
 use Rattle.jobs_replies.proofs.PlotAnswering.{places-plotted}
 use Rattle.jobs_replies.proofs.plots.answer.Statement.{statement}
 use Rattle.jobs_replies.proofs.plots.answer.Tie as tie

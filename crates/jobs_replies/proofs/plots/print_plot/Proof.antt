@@ -2,7 +2,7 @@
 use native.Mathlib.Omega.{arith}
 use borrow.Author.Needs.{needs}
 use Rattle.stabilizer.specs.Lists.{GeneratorList}
-use Rattle.text.proofs.Writing.{same-print}
+use Rattle.buffers.proofs.Writing.{same-print}
 use Rattle.jobs_replies.proofs.PlotAnswering.{
   reduced-length,
   reduced-plottable,

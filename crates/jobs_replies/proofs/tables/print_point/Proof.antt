@@ -3,7 +3,7 @@ use borrow.Author.Needs.{needs}
 use native.Mathlib.Omega.{arith}
 use Rattle.jobs.proofs.ResultLaws.{length-step}
 use Rattle.jobs.proofs.TableLaws.{length-float, length-imaginary, length-real, point-parts}
-use Rattle.text.proofs.Writing.{and-then, same-print}
+use Rattle.buffers.proofs.Writing.{and-then, same-print}
 use Rattle.jobs_replies.proofs.tables.print_point.Statement.{statement}
 use Rattle.jobs_replies.proofs.tables.print_point.Tie as tie
 

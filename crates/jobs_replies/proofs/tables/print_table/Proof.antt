@@ -13,8 +13,8 @@ use Rattle.jobs.proofs.TableLaws.{length-points, points-more}
 use Rattle.jobs.specs.Table.{plotNames, pointText, pointTexts, tableText}
 use Rattle.jobs.specs.internal.Numbers.{AllNumbers}
 use Rattle.record.specs.Lent.{heldRows}
-use Rattle.text.proofs.Writing.{and-then, same-print, write-none}
-use Rattle.text.specs.Text.{Printed}
+use Rattle.buffers.proofs.Writing.{and-then, same-print, write-none}
+use Rattle.buffers.specs.Writing.{Printed}
 use Rattle.jobs_replies.proofs.tables.print_table.Statement.{statement}
 use Rattle.jobs_replies.proofs.tables.print_table.Tie as tie
 

@@ -3,7 +3,7 @@ use borrow.Author.Needs.{needs}
 use native.Mathlib.Omega.{arith}
 use lib.Ieee.{binary64, toBits}
 use Rattle.text.proofs.HexLaws.{length-hex}
-use Rattle.text.proofs.Writing.{and-then}
+use Rattle.buffers.proofs.Writing.{and-then}
 use Rattle.jobs_replies.proofs.tables.put_float.Statement.{statement}
 use Rattle.jobs_replies.proofs.tables.put_float.Tie as tie
 

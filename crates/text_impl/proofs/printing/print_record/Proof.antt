@@ -7,9 +7,10 @@ use native.Mathlib.Nat.{add-zero}
 use native.Mathlib.Omega.{arith}
 use lib.ListN.{length}
 use borrow.Author.Needs.{needs}
-use Rattle.text.specs.Text.{qubitLine, recordNames, qubitLines, recordText, Printed}
+use Rattle.text.specs.Text.{qubitLine, recordNames, qubitLines, recordText}
+use Rattle.buffers.specs.Writing.{Printed}
 use Rattle.text.proofs.RecordLaws.{length-lines}
-use Rattle.text.proofs.Writing.{and-then, same-print, write-none}
+use Rattle.buffers.proofs.Writing.{and-then, same-print, write-none}
 use Rattle.text_impl.proofs.printing.print_record.Statement.{statement}
 use Rattle.text_impl.proofs.printing.print_record.Tie as tie
 

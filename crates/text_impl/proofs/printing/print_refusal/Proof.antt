@@ -4,7 +4,7 @@ use lib.ListN.{length-append}
 use borrow.Author.Needs.{needs}
 use Rattle.text.specs.Text.{decimal, refusedWord, refusedText}
 use Rattle.text.proofs.HexLaws.{length-decimal}
-use Rattle.text.proofs.Writing.{and-then}
+use Rattle.buffers.proofs.Writing.{and-then}
 use Rattle.text_impl.proofs.printing.print_refusal.Statement.{statement}
 use Rattle.text_impl.proofs.printing.print_refusal.Tie as tie
 

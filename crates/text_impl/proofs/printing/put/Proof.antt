@@ -1,7 +1,7 @@
 -- `put` meets its contract.
 use mathlib.Core.Path.{refl}
 use borrow.Author.Needs.{needs}
-use Rattle.text.proofs.Writing.{write-one}
+use Rattle.buffers.proofs.Writing.{write-one}
 use Rattle.text_impl.proofs.printing.put.Statement.{statement}
 use Rattle.text_impl.proofs.printing.put.Tie as tie
 

@@ -5,8 +5,8 @@ use native.Mathlib.Omega.{arith}
 use lib.Seq.{take-all}
 use lib.ListN.{length, getD, take, set, length-set}
 use borrow.Author.Needs.{needs}
-use Rattle.text.specs.Text.{overwritten}
-use Rattle.text.proofs.Writing.{write-none, write-taken}
+use Rattle.buffers.specs.Writing.{overwritten}
+use Rattle.buffers.proofs.Writing.{write-none, write-taken}
 use Rattle.text_impl.proofs.printing.put_bytes.Statement.{statement}
 use Rattle.text_impl.proofs.printing.put_bytes.Tie as tie
 

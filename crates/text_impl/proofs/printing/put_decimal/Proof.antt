@@ -3,7 +3,7 @@ use native.Mathlib.Omega.{arith}
 use borrow.Author.Tests.{lt-ltb, le-ltb}
 use borrow.Author.Needs.{needs}
 use Rattle.text.specs.Text.{decimal}
-use Rattle.text.proofs.Writing.{and-then}
+use Rattle.buffers.proofs.Writing.{and-then}
 use Rattle.text_impl.proofs.printing.put_decimal.Statement.{statement}
 use Rattle.text_impl.proofs.printing.put_decimal.Tie as tie
 

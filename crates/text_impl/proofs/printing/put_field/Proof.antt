@@ -2,7 +2,7 @@
 use native.Mathlib.Omega.{arith}
 use borrow.Author.Needs.{needs}
 use Rattle.text.proofs.HexLaws.{length-decimal}
-use Rattle.text.proofs.Writing.{and-then}
+use Rattle.buffers.proofs.Writing.{and-then}
 use Rattle.text_impl.proofs.printing.put_field.Statement.{statement}
 use Rattle.text_impl.proofs.printing.put_field.Tie as tie
 

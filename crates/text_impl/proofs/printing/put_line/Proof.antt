@@ -4,10 +4,11 @@ use mathlib.Core.List.{_++_}
 use native.Mathlib.Omega.{arith}
 use lib.ListN.{length-append}
 use borrow.Author.Needs.{needs}
-use Rattle.text.specs.Text.{hexText, decimal, space, Printed}
+use Rattle.text.specs.Text.{hexText, decimal, space}
+use Rattle.buffers.specs.Writing.{Printed}
 use Rattle.text.proofs.RecordLaws.{line-parts}
 use Rattle.text.proofs.HexLaws.{length-field, length-hex}
-use Rattle.text.proofs.Writing.{and-then}
+use Rattle.buffers.proofs.Writing.{and-then}
 use Rattle.text_impl.proofs.printing.put_line.Statement.{statement}
 use Rattle.text_impl.proofs.printing.put_line.Tie as tie
 

@@ -1,7 +1,7 @@
 -- `put_used` meets its contract: the column `used`, and the end of the line.
 use mathlib.Core.Path.{ap, sym}
 use borrow.Author.Needs.{needs}
-use Rattle.text.proofs.Writing.{same-print}
+use Rattle.buffers.proofs.Writing.{same-print}
 use Rattle.text.specs.Text.{usedColumn}
 use Rattle.text_impl.proofs.printing.put_used.Statement.{statement}
 use Rattle.text_impl.proofs.printing.put_used.Tie as tie

@@ -5,9 +5,10 @@ use native.Mathlib.Omega.{arith}
 use native.Mathlib.Nat.{div-one}
 use lib.ListN.{length, set, length-set}
 use borrow.Author.Needs.{needs}
-use Rattle.text.specs.Text.{hexText, overwritten}
+use Rattle.text.specs.Text.{hexText}
+use Rattle.buffers.specs.Writing.{overwritten}
 use Rattle.text.proofs.HexLaws.{length-hex, write-digit}
-use Rattle.text.proofs.Writing.{write-none}
+use Rattle.buffers.proofs.Writing.{write-none}
 use Rattle.text_impl.proofs.printing.put_word.Statement.{statement}
 use Rattle.text_impl.proofs.printing.put_word.Tie as tie
 

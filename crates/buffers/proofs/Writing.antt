@@ -7,7 +7,7 @@ use native.Mathlib.Numerals.{add-one}
 use native.Mathlib.Omega.{arith}
 use lib.ListN.{length, getD, take, drop, set, length-append, length-drop, take-append-drop}
 use lib.Seq.{length-take-le, take-at, take-suc, drop-append-add, drop-drop, set-split, append-snoc}
-use Rattle.text.specs.Text.{overwritten, Printed}
+use Rattle.buffers.specs.Writing.{Printed, overwritten}
 
 pub write-none : (o : List ℕ) (at : ℕ) → o ≡ overwritten o at []
 unfolding overwritten
