@@ -78,25 +78,14 @@ pub struct Code {
 }
 
 impl Code {
-    // First this code, then the next, off the table. The codes 1, 11 and 13, which rewritings put first and no reduced
-    // record holds, go by their row, of which the compiler keeps 24 entries, and not the 576 of the table.
+    // First this code, then the next: the entry of the table.
     pub fn then(self, next: Code) -> Code
         requires { ⌜ (self .index < 24) × (next .index < 24) ⌝ }
         ensures { λ r. ⌜ r .index ≡ codeOf (then (cliffordOf (self .index)) (cliffordOf (next .index))) ⌝ }
         ensures { λ r. ⌜ r .index < 24 ⌝ }
     {
-        let first = self.index;
-        let b = next.index;
-        match first {
-            1 | 11 | 13 => {
-                let codes = row(first);
-                Code {
-                    index: codes[b as usize],
-                }
-            }
-            _ => Code {
-                index: entry(first, b),
-            },
+        Code {
+            index: entry(self.index, next.index),
         }
     }
 

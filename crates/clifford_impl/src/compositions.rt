@@ -29,17 +29,13 @@ fn entries(table: &[u8; 576], start: usize) -> [u8; 24]
     row
 }
 
-// The row of the table for a code that comes before others: entry b is the code and then b. The codes that rewritings and
-// moved signs put first have places that the compiler knows, and of the table it then keeps their 24 entries alone.
+// The row of the table for a code that comes before others: entry b is the code and then b. The codes that loops put
+// first, 2 and 6, have places that the compiler knows, and of the table it then keeps their 24 entries alone.
 pub fn row(first: u8) -> [u8; 24]
     requires { ⌜ first < 24 ⌝ }
     ensures { λ r. ⌜ ((b : ℕ) → b < 24 → getD r b 0 ≡ codeOf (then (cliffordOf first) (cliffordOf b))) ⌝ }
 {
     match first {
-        1 => {
-            let table = THEN;
-            entries(&table, 24)
-        }
         2 => {
             let table = THEN;
             entries(&table, 48)
@@ -47,14 +43,6 @@ pub fn row(first: u8) -> [u8; 24]
         6 => {
             let table = THEN;
             entries(&table, 144)
-        }
-        11 => {
-            let table = THEN;
-            entries(&table, 264)
-        }
-        13 => {
-            let table = THEN;
-            entries(&table, 312)
         }
         _ => {
             let table = THEN;

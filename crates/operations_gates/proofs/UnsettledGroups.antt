@@ -1,22 +1,16 @@
 -- Buffers that are made ready for CZ, and the groups after CZ and after a gate.
-use mathlib.Core.Bool.{_&&_, false, true, true≢false}
+use mathlib.Core.Bool.{false, true≢false}
 use mathlib.Core.List.{List}
 use mathlib.Core.Logic.{_≢_}
 use mathlib.Core.Path.{ap₂, refl, subst, sym, _∙_, _≡_}
 use Prim.Native.Nat.{_<_, ℕ, _≤_}
-use lib.Dec.{leb, ltb}
-use Rattle.words.proofs.Flags.{true-sameBit}
-use Rattle.words.proofs.SearchLaws.{every-at}
-use Rattle.words.specs.Bits.{bit, sameBit}
-use Rattle.words.specs.Search.{every}
+use Rattle.words.specs.Bits.{bit}
 use lib.ListN.{getD, length, set}
-use borrow.Author.Tests.{lt-leb}
 use Rattle.clifford.proofs.CliffordLaws.{cliffords}
 use Rattle.clifford.specs.Clifford.{bitC, cliffordOf, codeOf, identityClifford, then}
 use Rattle.clifford.specs.Vectors.{codesOf}
 use Rattle.record.specs.Graph.{Simple}
 use Rattle.operations.proofs.CzSteps.{cz-same, cz-simple, turned-above}
-use Rattle.operations.proofs.OutOfPlace.{number-C}
 use Rattle.operations.proofs.Reaching.{form-ready}
 use Rattle.operations.specs.internal.KeptGroups.{GroupHeld, GroupKept, Normalised}
 use Rattle.operations.specs.internal.ReadyPairs.{Ready, crossed}
@@ -27,7 +21,6 @@ use Rattle.operations.proofs.UnrefusedRecords.{
   rewritten-length,
   rewritten-unrefused,
   unrefused-above,
-  unrefused-codes,
   unrefused-simple,
 }
 use Rattle.operations.specs.Cz.{czRows}
@@ -39,22 +32,14 @@ use Rattle.record.specs.Records.{GraphRecord, rowsOf}
 use Rattle.stabilizer.proofs.GroupLaws.{same-refl, same-sym, same-trans}
 use Rattle.stabilizer.specs.Groups.{SameGroup}
 
--- ---- crossed codes, by their numbers
-pub number-crossed : (k : ℕ) → k < 24 → (leb 12 k && ltb k 20) ≡ crossed (cliffordOf k)
-unfolding every
-number-crossed k l = true-sameBit _ _ (every-at 24 (λ k. sameBit (leb 12 k && ltb k 20) (crossed (cliffordOf k))) refl k l)
-
 -- ---- ready pairs
 module _ (words codes : List ℕ) (U : Unrefused (recordIn words codes)) (a b : ℕ) where
-  keeps-z : (q : ℕ) → getD codes q 0 < 8 → bitC (cliffordOf (getD codes q 0)) ≡ true → ⊥
-  keeps-z q l e = true≢false (sym e ∙ number-C (getD codes q 0) (unrefused-codes words codes U .1 q) ∙ lt-leb 8 (getD codes q 0) l)
-
   module _ (e : crossed (cliffordOf (getD codes a 0)) ≡ false) (f : crossed (cliffordOf (getD codes b 0)) ≡ false) where
-    pub ready-first : getD codes a 0 < 8 → Ready (heldRecord (recordIn words codes)) a b
-    ready-first l = record { first = e; second = f; parted = λ c d. absurd (keeps-z a l c) }
+    pub ready-first : bitC (cliffordOf (getD codes a 0)) ≡ false → Ready (heldRecord (recordIn words codes)) a b
+    ready-first l = record { first = e; second = f; parted = λ c d. absurd (true≢false (sym c ∙ l)) }
 
-    pub ready-second : getD codes b 0 < 8 → Ready (heldRecord (recordIn words codes)) a b
-    ready-second l = record { first = e; second = f; parted = λ c d. absurd (keeps-z b l d) }
+    pub ready-second : bitC (cliffordOf (getD codes b 0)) ≡ false → Ready (heldRecord (recordIn words codes)) a b
+    ready-second l = record { first = e; second = f; parted = λ c d. absurd (true≢false (sym d ∙ l)) }
 
     pub ready-parted : bit (getD words a 0) b ≡ false → Ready (heldRecord (recordIn words codes)) a b
     ready-parted h = record { first = e; second = f; parted = λ c d. h }

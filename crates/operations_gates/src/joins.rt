@@ -1,4 +1,5 @@
 // CZ on two vertices that are ready for it, in a record's buffers: edges between two sets of vertices are flipped.
+use clifford_impl::codes::Code;
 use operations_rewriting::complements::put_before;
 use record::graph::join_sets;
 use words::single;
@@ -22,7 +23,8 @@ fn reach_word(word: u64, code: u8, a: usize) -> u64
     requires { ⌜ (code < 24) × (a < 64) ⌝ }
     ensures { λ r. ⌜ ((q : ℕ) → bit r q ≡ cond (bitC (cliffordOf code)) (bit word q) (eqb q a)) ⌝ }
 {
-    if code < 8 { single(a) } else { word }
+    let own = Code { index: code };
+    if own.c_bit() { word } else { single(a) }
 }
 
 // Whether that product is minus Z at the vertex.
@@ -30,10 +32,11 @@ fn reach_minus(code: u8) -> bool
     requires { ⌜ code < 24 ⌝ }
     ensures { λ r. ⌜ r ≡ cond (bitC (cliffordOf code)) ((cliffordOf code) .sx) ((cliffordOf code) .sz) ⌝ }
 {
-    if code < 8 {
-        code % 2 == 1
-    } else {
+    let own = Code { index: code };
+    if own.c_bit() {
         code / 2 % 2 == 1
+    } else {
+        code % 2 == 1
     }
 }
 

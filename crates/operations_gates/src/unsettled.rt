@@ -3,6 +3,7 @@
 use crate::gate_code;
 use crate::joins::cz_ready;
 use crate::settling::normalise;
+use clifford_impl::codes::Code;
 use operations_rewriting::complements::complement_record;
 use operations_rewriting::pivots::pivot_record;
 use words::has;
@@ -25,7 +26,8 @@ fn is_crossed(code: u8) -> bool
     requires { ⌜ code < 24 ⌝ }
     ensures { λ r. ⌜ r ≡ crossed (cliffordOf code) ⌝ }
 {
-    (12 <= code) & (code < 20)
+    let own = Code { index: code };
+    own.c_bit() & own.d_bit()
 }
 
 // Whether CZ can act on the graph at a and b as they are.
@@ -42,10 +44,12 @@ fn is_ready(neighbours: &[u64], codes: &[u8], a: usize, b: usize) -> bool
     if is_crossed(second) {
         return false;
     }
-    if first < 8 {
+    let here = Code { index: first };
+    if !here.c_bit() {
         return true;
     }
-    if second < 8 {
+    let there = Code { index: second };
+    if !there.c_bit() {
         return true;
     }
     !has(neighbours[a], b)

@@ -1,13 +1,14 @@
 -- The record read off the rows: the neighbour words and the codes.
-use mathlib.Core.Bool.{_&&_, Bool, and-false, and-true, false, not}
+use mathlib.Core.Bool.{_&&_, Bool, and-false, and-true, false, not, true}
 use mathlib.Core.List.{List, []}
 use mathlib.Core.Logic.{inl, inr, _⊎_}
-use mathlib.Core.Path.{ap, ap₂, sym, _∙_, _≡_}
-use Prim.Native.Nat.{_<_, ℕ, _≤_}
-use lib.Dec.{eqb}
+use mathlib.Core.Path.{ap, ap₂, refl, sym, _∙_, _≡_}
+use Prim.Native.Nat.{_*_, _+_, _<_, ℕ, _≤_}
+use lib.Dec.{eqb, lit<}
 use lib.ListN.{getD}
+use mir.Val.{boolByte}
 use borrow.Author.Tests.{lt-ltb}
-use Rattle.clifford.specs.Clifford.{codeOf}
+use Rattle.clifford.specs.Clifford.{cliffordOf, codeOf, then}
 use Rattle.pauli.proofs.PhaseLaws.{sign-minus}
 use Rattle.pauli.specs.Pauli.{minus, signBit}
 use Rattle.record.specs.Reduced.{graphOf, minusesOf, plainCode, recordOf, withHadamard, ysOf}
@@ -64,9 +65,40 @@ vertex-number n hadamards signs rows q l v {y = y} {s = s} eh ey es e =
     (ey ∙ sym (ap (λ b. b && bit (getD (getD rows q []) 0 0) q) (lt-ltb q n l)))
     (es ∙ sym (ap (λ b. b && signBit (minus (bit signs q))) (lt-ltb q n l) ∙ sign-minus (bit signs q)))
 
--- a code's three bits known
-pub vertex-code-is : (h y s : Bool) {a b c : Bool} → h ≡ a → y ≡ b → s ≡ c →
-    codeOf (withHadamard a (plainCode b c)) ≡ codeOf (withHadamard h (plainCode y s))
-vertex-code-is h y s {a = a} eh ey es =
-    sym (ap (λ v. codeOf (withHadamard v (plainCode y s))) eh
-    ∙ ap₂ (λ u v. codeOf (withHadamard a (plainCode u v))) ey es)
+-- ---- the code of a vertex, by its three bits
+-- the number of a code without a Hadamard, as the source reckons it
+abbrev pub plainNumber : Bool → Bool → ℕ
+plainNumber y s = 4 * boolByte y + 2 * boolByte s
+
+pub plain-lt : (y s : Bool) → plainNumber y s < 24
+plain-lt false false = lit< tt
+plain-lt false true = lit< tt
+plain-lt true false = lit< tt
+plain-lt true true = lit< tt
+
+plain-is : (y s : Bool) → cliffordOf (plainNumber y s) ≡ plainCode y s
+plain-is false false = refl
+plain-is false true = refl
+plain-is true false = refl
+plain-is true true = refl
+
+plain-number : (y s : Bool) → plainNumber y s ≡ codeOf (plainCode y s)
+plain-number false false = refl
+plain-number false true = refl
+plain-number true false = refl
+plain-number true true = refl
+
+-- without a Hadamard
+pub plain-vertex : (h y s : Bool) → h ≡ false
+    → (plainNumber y s ≡ codeOf (withHadamard h (plainCode y s))) × (plainNumber y s < 24)
+plain-vertex h y s e =
+    (plain-number y s ∙ sym (ap (λ b. codeOf (withHadamard b (plainCode y s))) e), plain-lt y s)
+
+-- with one
+pub turned-vertex : (h y s : Bool) (r : ℕ) → h ≡ true → r ≡ codeOf (then (cliffordOf (plainNumber y s)) (cliffordOf 8))
+    → r < 24 → (r ≡ codeOf (withHadamard h (plainCode y s))) × (r < 24)
+turned-vertex h y s r e t l = (
+  t ∙ ap (λ k. codeOf (then k (cliffordOf 8))) (plain-is y s)
+      ∙ sym (ap (λ b. codeOf (withHadamard b (plainCode y s))) e),
+  l,
+)

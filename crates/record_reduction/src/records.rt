@@ -1,4 +1,5 @@
 // The record read off rows that have X or Y at their own place and I or Z elsewhere.
+use clifford_impl::codes::Code;
 use words::has;
 use words::put_bit;
 ghost use mathlib.Core.Path.{_≡_};
@@ -15,19 +16,12 @@ ghost use Rattle.words.specs.Bits.{bit};
 fn vertex_code(hadamard: bool, y: bool, minus: bool) -> u8
     ensures { λ r. ⌜ (r ≡ codeOf (withHadamard hadamard (plainCode y minus))) × (r < 24) ⌝ }
 {
-    if hadamard {
-        if y {
-            if minus { 16 } else { 18 }
-        } else {
-            if minus { 10 } else { 8 }
-        }
-    } else {
-        if y {
-            if minus { 6 } else { 4 }
-        } else {
-            if minus { 2 } else { 0 }
-        }
+    let index = 4 * (y as u8) + 2 * (minus as u8);
+    if !hadamard {
+        return index;
     }
+    let turned = Code { index }.then(Code { index: 8 });
+    turned.index
 }
 
 // Writes the record of rows that have X or Y at their own place and I or Z elsewhere.

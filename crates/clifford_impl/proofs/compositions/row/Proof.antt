@@ -11,46 +11,24 @@ returns : tie.Need-returns
 unfolding thenTable
 returns c =
     let start = c .before .before .before in
-    let k : 24 ≡ 24 * (start .args .first) = omega arith in
-    then-row (c .entries .result) 24 (start .args .first) (start .pre) k (c .entries .ensures)
+    let k : 48 ≡ 24 * (start .args .first) = omega arith in
+    then-row (c .entries .result) 48 (start .args .first) (start .pre) k (c .entries .ensures)
 
 returns-2 : tie.Need-returns-2
 unfolding thenTable
 returns-2 c =
     let start = c .before .before .before in
-    let k : 48 ≡ 24 * (start .args .first) = omega arith in
-    then-row (c .entries2 .result) 48 (start .args .first) (start .pre) k (c .entries2 .ensures)
+    let k : 144 ≡ 24 * (start .args .first) = omega arith in
+    then-row (c .entries2 .result) 144 (start .args .first) (start .pre) k (c .entries2 .ensures)
 
 returns-3 : tie.Need-returns-3
 unfolding thenTable
 returns-3 c =
     let start = c .before .before .before in
-    let k : 144 ≡ 24 * (start .args .first) = omega arith in
-    then-row (c .entries3 .result) 144 (start .args .first) (start .pre) k (c .entries3 .ensures)
-
-returns-4 : tie.Need-returns-4
-unfolding thenTable
-returns-4 c =
-    let start = c .before .before .before in
-    let k : 264 ≡ 24 * (start .args .first) = omega arith in
-    then-row (c .entries4 .result) 264 (start .args .first) (start .pre) k (c .entries4 .ensures)
-
-returns-5 : tie.Need-returns-5
-unfolding thenTable
-returns-5 c =
-    let start = c .before .before .before in
-    let k : 312 ≡ 24 * (start .args .first) = omega arith in
-    then-row (c .entries5 .result) 312 (start .args .first) (start .pre) k (c .entries5 .ensures)
-
-returns-6 : tie.Need-returns-6
-unfolding thenTable
-returns-6 c =
-    let start = c .before .before .before in
-    then-row (c .entries6 .result) _ (start .args .first) (start .pre) refl (c .entries6 .ensures)
+    then-row (c .entries3 .result) _ (start .args .first) (start .pre) refl (c .entries3 .ensures)
 
 pub row-spec : {M : Type 1} → statement M
 row-spec =
     tie.close
-    (tie.spec (λ c κs. search needs) (λ c κs. search needs) (λ c κs. search needs) (λ c κs. search needs)
-    (λ c κs. search needs) (λ c. search needs) (λ c κs. search needs) returns returns-2 returns-3 returns-4 returns-5
-    returns-6)
+    (tie.spec (λ c κs. search needs) (λ c κs. search needs) (λ c. search needs) (λ c κs. search needs) returns returns-2
+    returns-3)

@@ -27,17 +27,23 @@ is-crossed-requires-2 c κs = unrefused-codes _ _ (c .before .before .before .be
 returns-2 : tie.Need-returns-2
 returns-2 c = λ e. absurd (true≢false (sym e))
 
+c-bit-requires : tie.Need-c-bit-requires
+c-bit-requires c κs = unrefused-codes _ _ (c .before .before .before .before .before .before .before .before .pre .0) .1 _
+
 returns-3 : tie.Need-returns-3
 returns-3 c = λ e.
-    let begun = c .before .before .before .before .before .before .before .before .before in
-    ready-first _ _ (begun .pre .0) (begun .args .a) (begun .args .b) (sym (c .before .before .before .before .is-crossed .ensures) ∙ c .before .before .before .if1 .left)
-    (sym (c .before .before .is-crossed2 .ensures) ∙ c .before .if2 .left) (c .if3 .taken)
+    let begun = c .before .before .before .before .before .before .before .before .before .before in
+    ready-first _ _ (begun .pre .0) (begun .args .a) (begun .args .b) (sym (c .before .before .before .before .before .is-crossed .ensures) ∙ c .before .before .before .before .if1 .left)
+    (sym (c .before .before .before .is-crossed2 .ensures) ∙ c .before .before .if2 .left) (sym (c .before .c-bit .ensures) ∙ not-true _ (c .if3 .taken))
+
+c-bit-requires-2 : tie.Need-c-bit-requires-2
+c-bit-requires-2 c κs = unrefused-codes _ _ (c .before .before .before .before .before .before .before .before .before .before .pre .0) .1 _
 
 returns-4 : tie.Need-returns-4
 returns-4 c = λ e.
-    let begun = c .before .before .before .before .before .before .before .before .before .before in
-    ready-second _ _ (begun .pre .0) (begun .args .a) (begun .args .b) (sym (c .before .before .before .before .before .is-crossed .ensures) ∙ c .before .before .before .before .if1 .left)
-    (sym (c .before .before .before .is-crossed2 .ensures) ∙ c .before .before .if2 .left) (c .if4 .taken)
+    let begun = c .before .before .before .before .before .before .before .before .before .before .before .before in
+    ready-second _ _ (begun .pre .0) (begun .args .a) (begun .args .b) (sym (c .before .before .before .before .before .before .before .is-crossed .ensures) ∙ c .before .before .before .before .before .before .if1 .left)
+    (sym (c .before .before .before .before .before .is-crossed2 .ensures) ∙ c .before .before .before .before .if2 .left) (sym (c .before .c-bit2 .ensures) ∙ not-true _ (c .if4 .taken))
 
 mul-has : tie.Need-mul-has
 mul-has c = search needs
@@ -47,14 +53,14 @@ shared-slice-read-has c = search needs
 
 has-requires : tie.Need-has-requires
 has-requires c κs =
-    let start = c .before .before .before .before .before .before .before .before .before .before .before .pre in
+    let start = c .before .before .before .before .before .before .before .before .before .before .before .before .before .pre in
     omega (arith, start .1 .1, unrefused-short _ _ (start .0))
 
 returns-5 : tie.Need-returns-5
 returns-5 c = λ e.
-    let begun = c .before .before .before .before .before .before .before .before .before .before .before .before in
-    ready-parted _ _ (begun .pre .0) (begun .args .a) (begun .args .b) (sym (c .before .before .before .before .before .before .before .is-crossed .ensures) ∙ c .before .before .before .before .before .before .if1 .left)
-    (sym (c .before .before .before .before .before .is-crossed2 .ensures) ∙ c .before .before .before .before .if2 .left) (sym (c .has .ensures) ∙ not-true _ e)
+    let begun = c .before .before .before .before .before .before .before .before .before .before .before .before .before .before in
+    ready-parted _ _ (begun .pre .0) (begun .args .a) (begun .args .b) (sym (c .before .before .before .before .before .before .before .before .before .is-crossed .ensures) ∙ c .before .before .before .before .before .before .before .before .if1 .left)
+    (sym (c .before .before .before .before .before .before .before .is-crossed2 .ensures) ∙ c .before .before .before .before .before .before .if2 .left) (sym (c .has .ensures) ∙ not-true _ e)
 
 pub is-ready-spec : {M : Type 1} → statement M
 is-ready-spec =
@@ -66,7 +72,9 @@ is-ready-spec =
     returns
     is-crossed-requires-2
     returns-2
+    c-bit-requires
     returns-3
+    c-bit-requires-2
     returns-4
     mul-has
     shared-slice-read-has
