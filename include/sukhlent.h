@@ -47,7 +47,8 @@
  *   18  a save finds eight other names held, or a group's save four
  *    9  two generators do not commute
  *   10  the generators are dependent
- *    3  a connected part of either reduced graph of a comparison has more than 20 vertices
+ *    3  a connected part of either reduced graph of a comparison with that limit has more than 20
+ *       vertices
  *   14  a determined outcome contradicts the supplied bit
  *   11  the image is that of no graph: the image loop (docs/ENGINE.md) stops with some C = 1, a code
  *       that sends Z to a letter other than Z
@@ -147,7 +148,7 @@
  *   itself compares sukhlent_version() / 100 with SUKHLENT_VERSION / 100.
  * Threads: no call keeps anything between calls. Two threads may call at once, each with buffers
  *   of its own for what is not const.
- * Stack: a call takes at most 10 kB, and no heap (measured, not proved: docs/SPEED.md). */
+ * Stack: a call takes at most 18 kB, and no heap (measured, not proved: docs/SPEED.md). */
 
 /* What a refusal number means, in words. */
 static inline const char *sukhlent_refusal_text(uint8_t number)
@@ -335,8 +336,9 @@ uint8_t sukhlent_product(uint64_t n,
 /* Compares the groups of two generator lists whose reduced graphs have no connected part of more
  * than 20 vertices: writes the least choice of one code per qubit that carries the first group
  * onto the second (least by the classes of qubits 0, 1 and so on, then by 2 * sx + sz in the same
- * order; qubit q goes to qubit q, none is exchanged with another), and the vertices at which the first reduced graph is complemented, in order, to
- * become the second. `choice` has n places, `list` 96; those from *count on keep their values.
+ * order; qubit q goes to qubit q, none is exchanged with another), and the vertices at which the
+ * first reduced graph is complemented, in order, to become the second. `choice` has n places, `list`
+ * 96; those from *count on keep their values.
  * Refusals: 2, 4, 5, 6, 9, 10, 3, 13. */
 uint8_t sukhlent_compare(uint64_t n1,
                          const uint8_t *signs1, size_t signs1_len,
@@ -363,8 +365,10 @@ uint8_t sukhlent_compare_records(uint64_t n1,
                                  uint8_t *list, size_t list_len,
                                  uint64_t *count);
 
-/* Compares two lists as `sukhlent_compare` does, with parts of any size: the same answer where no
- * part of either reduced graph has more than 20 vertices, and never 3.
+/* Compares the groups of any two generator lists on up to 64 qubits: what `sukhlent_compare` writes,
+ * whatever the size of the connected parts of their reduced graphs. Where no part has more than 20
+ * vertices both answer the same; this call never answers 3. `choice` has n places, `list` 96; those
+ * from *count on keep their values.
  * Refusals: 2, 4, 5, 6, 9, 10, 13. */
 uint8_t sukhlent_equivalent(uint64_t n1,
                             const uint8_t *signs1, size_t signs1_len,
@@ -378,7 +382,8 @@ uint8_t sukhlent_equivalent(uint64_t n1,
                             uint8_t *list, size_t list_len,
                             uint64_t *count);
 
-/* Compares the groups of two records as `sukhlent_compare_records` does, with parts of any size.
+/* Compares the groups of two records as `sukhlent_equivalent` compares the groups of their
+ * expansions, with the same answer. It takes no words of used qubits.
  * Refusals: 2, 4, 5, 6, 7, 13. */
 uint8_t sukhlent_equivalent_records(uint64_t n1,
                                     const uint64_t *neighbours1, size_t neighbours1_len,

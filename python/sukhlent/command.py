@@ -91,10 +91,11 @@ def _places(layout: str, state: State) -> "list[Place] | None":
     return grid(int(found[1]), int(found[2]))
 
 
-def _compare(first: str, second: str) -> int:
+def _compare(first: str, second: str, any_size: bool) -> int:
     if first == second == "-":
         raise Trouble("only one of the two files can be standard input")
-    found = read_state(_text(first)).compare(read_state(_text(second)))
+    one, two = read_state(_text(first)), read_state(_text(second))
+    found = one.equivalent(two) if any_size else one.compare(two)
     if found is None:
         raise Refusal(13)
     print("qubit code gate")
@@ -129,8 +130,10 @@ def parser() -> argparse.ArgumentParser:
     draw.add_argument("--layout", default="circle", help="circle, line, or rows and columns as 2x3")
     draw.add_argument("-o", "--out", default="-", metavar="FILE", help="where to write it, if not to standard output")
     compare = command("compare", "the least choice of local Cliffords that carries the first state onto the second")
-    compare.add_argument("file", metavar="FIRST")
-    compare.add_argument("second", metavar="SECOND")
+    equivalent = command("equivalent", "the same, for states whose graphs have connected parts of more than 20 vertices too")
+    for pair in compare, equivalent:
+        pair.add_argument("file", metavar="FIRST")
+        pair.add_argument("second", metavar="SECOND")
     expectation = command("expectation", "expectation values, 1, -1 or 0, of Pauli rows such as +XZI (with a minus: after --)")
     expectation.add_argument("file", metavar="FILE")
     expectation.add_argument("rows", nargs="+", metavar="ROW")
@@ -145,7 +148,7 @@ def _done(given: argparse.Namespace) -> int:
         return _draw(given.file, given.layout, given.out)
     if given.command == "expectation":
         return _expectation(given.file, given.rows)
-    return _compare(given.file, given.second)
+    return _compare(given.file, given.second, given.command == "equivalent")
 
 
 def main(arguments: list[str] | None = None) -> int:

@@ -257,6 +257,7 @@ class State:
 
     def compare(self, other: State) -> Equivalence | None:
         """The least choice of local Cliffords that carries this state onto the other; None where there is none.
+        Refused by 3 where a connected part of either reduced graph has more than 20 vertices.
 
         >>> path = State.graph(3, [(0, 1), (1, 2)])
         >>> triangle = State.graph(3, [(0, 1), (1, 2), (0, 2)])
@@ -265,9 +266,25 @@ class State:
         >>> print(path.compare(State.zeros(3)))
         None
         """
+        return self._compared("compare_records", other)
+
+    def equivalent(self, other: State) -> Equivalence | None:
+        """What `compare` answers, for states with connected parts of any size.
+
+        >>> star = State.graph(64, [(0, q) for q in range(1, 64)])
+        >>> complete = State.graph(64, [(a, b) for b in range(64) for a in range(b)])
+        >>> star.equivalent(complete).complementations
+        (0,)
+        >>> print(star.equivalent(State.zeros(64)))
+        None
+        """
+        return self._compared("equivalent_records", other)
+
+    def _compared(self, call: str, other: State) -> Equivalence | None:
+        """What a comparison of two records answers."""
         choice, places, count = library.octets([0] * self.n), library.octets([0] * 96), library.word()
         number = library.call(
-            "compare_records", self.n, self._neighbours, self._codes, other.n, other._neighbours, other._codes,
+            call, self.n, self._neighbours, self._codes, other.n, other._neighbours, other._codes,
             choice, places, count,
         )
         if number == 13:

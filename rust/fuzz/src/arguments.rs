@@ -66,6 +66,7 @@ pub fn pair_call(random: &mut Random) -> PairCall {
     let n = match random.below(8) {
         0 => size(random),
         1 => 20,
+        2 => 21 + random.below(44),
         _ => 1 + random.below(8),
     };
     let first = match random.below(4) {
@@ -96,6 +97,7 @@ pub fn record_pair_call(random: &mut Random) -> RecordPairCall {
     let n = match random.below(8) {
         0 => size(random),
         1 => 20,
+        2 => 21 + random.below(44),
         _ => 1 + random.below(8),
     };
     let first = match random.below(4) {

@@ -63,7 +63,7 @@ mod store;
 mod strings;
 
 pub use amplitude::PlotLine;
-pub use comparison::{compare, compare_records, Comparison};
+pub use comparison::{compare, compare_records, equivalent, equivalent_records, Comparison};
 pub use cut::cut;
 pub use generator::generate;
 pub use image::{image, Image};

@@ -283,6 +283,46 @@ mod calls {
             count: *mut u64,
         ) -> u8;
 
+        pub fn sukhlent_equivalent(
+            n1: u64,
+            signs1: *const u8,
+            signs1_len: usize,
+            z1: *const u64,
+            z1_len: usize,
+            x1: *const u64,
+            x1_len: usize,
+            n2: u64,
+            signs2: *const u8,
+            signs2_len: usize,
+            z2: *const u64,
+            z2_len: usize,
+            x2: *const u64,
+            x2_len: usize,
+            choice: *mut u8,
+            choice_len: usize,
+            list: *mut u8,
+            list_len: usize,
+            count: *mut u64,
+        ) -> u8;
+
+        pub fn sukhlent_equivalent_records(
+            n1: u64,
+            neighbours1: *const u64,
+            neighbours1_len: usize,
+            codes1: *const u8,
+            codes1_len: usize,
+            n2: u64,
+            neighbours2: *const u64,
+            neighbours2_len: usize,
+            codes2: *const u8,
+            codes2_len: usize,
+            choice: *mut u8,
+            choice_len: usize,
+            list: *mut u8,
+            list_len: usize,
+            count: *mut u64,
+        ) -> u8;
+
         pub fn sukhlent_generate(
             n: u64,
             count: u64,
@@ -871,6 +911,89 @@ pub fn compare_records(
 ) -> u8 {
     unsafe {
         calls::sukhlent_compare_records(
+            n1,
+            neighbours1.as_ptr(),
+            neighbours1.len(),
+            codes1.as_ptr(),
+            codes1.len(),
+            n2,
+            neighbours2.as_ptr(),
+            neighbours2.len(),
+            codes2.as_ptr(),
+            codes2.len(),
+            choice.as_mut_ptr(),
+            choice.len(),
+            list.as_mut_ptr(),
+            list.len(),
+            count,
+        )
+    }
+}
+
+/// Writes what [`compare`] writes, with parts of any size.
+///
+/// ```
+/// // A GHZ state on 21 qubits with itself: its reduced graph is one part.
+/// let (signs, z) = ([0; 21], std::array::from_fn::<u64, 21, _>(|q| if q == 0 { 0 } else { 3 << (q - 1) }));
+/// let x = std::array::from_fn::<u64, 21, _>(|q| if q == 0 { (1 << 21) - 1 } else { 0 });
+/// let ghz = (21, &signs[..], &z[..], &x[..]);
+/// let (mut choice, mut list, mut count) = ([9; 21], [99; 96], 9);
+/// assert_eq!(sukhlent::raw::compare(ghz, ghz, &mut choice, &mut list, &mut count), 3);
+/// assert_eq!(sukhlent::raw::equivalent(ghz, ghz, &mut choice, &mut list, &mut count), 0);
+/// assert_eq!((choice, count, list[0]), ([0; 21], 0, 99));
+/// ```
+pub fn equivalent(
+    (n1, signs1, z1, x1): Lent,
+    (n2, signs2, z2, x2): Lent,
+    choice: &mut [u8],
+    list: &mut [u8],
+    count: &mut u64,
+) -> u8 {
+    unsafe {
+        calls::sukhlent_equivalent(
+            n1,
+            signs1.as_ptr(),
+            signs1.len(),
+            z1.as_ptr(),
+            z1.len(),
+            x1.as_ptr(),
+            x1.len(),
+            n2,
+            signs2.as_ptr(),
+            signs2.len(),
+            z2.as_ptr(),
+            z2.len(),
+            x2.as_ptr(),
+            x2.len(),
+            choice.as_mut_ptr(),
+            choice.len(),
+            list.as_mut_ptr(),
+            list.len(),
+            count,
+        )
+    }
+}
+
+/// Writes what [`compare_records`] writes, with parts of any size.
+///
+/// ```
+/// // A star on 64 vertices with itself, its centre 0.
+/// let words: [u64; 64] = std::array::from_fn(|q| if q == 0 { !1 } else { 1 });
+/// let star = (64, &words[..], &[0; 64][..]);
+/// let (mut choice, mut list, mut count) = ([9; 64], [99; 96], 9);
+/// assert_eq!(sukhlent::raw::compare_records(star, star, &mut choice, &mut list, &mut count), 3);
+/// assert_eq!(sukhlent::raw::equivalent_records(star, star, &mut choice, &mut list, &mut count), 0);
+/// assert_eq!((choice, count, list[0]), ([0; 64], 0, 99));
+/// ```
+pub fn equivalent_records(
+    (n1, neighbours1, codes1): LentGraph,
+    (n2, neighbours2, codes2): LentGraph,
+    choice: &mut [u8],
+    list: &mut [u8],
+    count: &mut u64,
+) -> u8 {
+    unsafe {
+        calls::sukhlent_equivalent_records(
             n1,
             neighbours1.as_ptr(),
             neighbours1.len(),

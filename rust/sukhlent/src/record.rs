@@ -1,6 +1,6 @@
 //! Records.
 
-use crate::{codes, compare_records, raw, Comparison, GeneratorList, Refusal};
+use crate::{codes, compare_records, equivalent_records, raw, Comparison, GeneratorList, Refusal};
 use std::fmt;
 
 /// A graph with one local Clifford per vertex, one place per vertex in the first two fields, and a
@@ -115,6 +115,27 @@ impl Record {
     /// ```
     pub fn compare(&self, other: &Record) -> Result<Comparison, Refusal> {
         compare_records(self, other)
+    }
+
+    /// Compares two states with connected parts of any size, as [`equivalent`](crate::equivalent)
+    /// does with their generators.
+    ///
+    /// Refusals: those of [`equivalent_records`].
+    ///
+    /// ```
+    /// use sukhlent::{Record, Refusal};
+    ///
+    /// // A ring on 64 vertices, and the ring with the neighbours of 0 joined.
+    /// let mut edges: Vec<(usize, usize)> = (0..64).map(|q| (q, (q + 1) % 64)).collect();
+    /// let ring = Record::graph(64, &edges)?;
+    /// edges.push((1, 63));
+    /// let chord = Record::graph(64, &edges)?;
+    /// assert_eq!(ring.equivalent(&chord)?.complementations, [0]);
+    /// assert_eq!(ring.compare(&chord), Err(Refusal::Comparison));
+    /// # Ok::<(), Refusal>(())
+    /// ```
+    pub fn equivalent(&self, other: &Record) -> Result<Comparison, Refusal> {
+        equivalent_records(self, other)
     }
 }
 

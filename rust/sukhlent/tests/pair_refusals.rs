@@ -35,6 +35,10 @@ fn either_order(call: &PairCall, first: &ListCall, second: &ListCall) -> [PairCa
 fn assert_refused(call: &PairCall, number: u8, what: &str) {
     assert_eq!(call.due(), Some(number), "the fault itself: {what}");
     assert_eq!(call.compare(), Err(number), "{what}: {call:?}");
+    match number {
+        3 => assert!(call.equivalent().is_ok(), "{what}: {call:?}"),
+        _ => assert_eq!(call.equivalent(), Err(number), "{what}: {call:?}"),
+    }
 }
 
 /// A damaged list with a right one, in either order, gives the list's number, or 2 where their n
@@ -210,6 +214,7 @@ fn a_part_of_more_than_twenty_gives_3_where_nothing_else_is_wrong() {
             let mut call = right.clone();
             damage_list(&mut Random::new(seed), &mut call.first);
             call.assert_due(call.compare().expect_err("a large part"));
+            call.assert_due_of_any_size(call.equivalent().err().unwrap_or(0));
         }
     }
 }
@@ -231,6 +236,7 @@ fn groups_that_are_not_equivalent_give_13_and_nothing_is_written() {
         for call in either_order(&right, &product, &star) {
             assert_eq!(call.due(), None, "{call:?}");
             assert_eq!(call.compare(), Err(13), "{call:?}");
+            assert_eq!(call.equivalent(), Err(13), "{call:?}");
         }
         assert!(PairCall {
             first: star.clone(),
@@ -283,9 +289,13 @@ fn seeded_damage_against_the_reference() {
             1 => call.list = random.below(200),
             _ => (),
         }
-        let number = call.compare().err().unwrap_or(0);
+        let answer = call.compare();
+        let number = answer.as_ref().err().copied().unwrap_or(0);
         call.assert_due(number);
         counts[usize::from(number)] += 1;
+        let other = call.equivalent();
+        call.assert_due_of_any_size(other.as_ref().err().copied().unwrap_or(0));
+        assert!(number == 3 || other == answer, "{call:?}");
     }
     let all = [0, 2, 3, 4, 5, 6, 9, 10, 13];
     assert!(all.iter().all(|&k| counts[k] > 20), "{counts:?}");

@@ -7,7 +7,8 @@ use crate::common::reference::expanded;
 use crate::common::{
     random_components, random_record, random_sizes, Random, RecordCall, RecordPairCall,
 };
-use sukhlent::{compare, compare_records, expand, reduce, Record, Refusal};
+use sukhlent::{compare, compare_records, equivalent_records, expand, reduce};
+use sukhlent::{Comparison, Record, Refusal};
 
 /// A record with the group of the first under random codes, reduced or with its codes as they come.
 fn image(random: &mut Random, record: &Record) -> Record {
@@ -34,6 +35,7 @@ fn base(seed: u64, n: usize) -> RecordPairCall {
 fn assert_refused(call: &RecordPairCall, number: u8, what: &str) {
     assert_eq!(call.due(), Some(number), "the fault itself: {what}");
     assert_eq!(call.compare(), Err(number), "{what}: {call:?}");
+    assert_eq!(call.equivalent(), Err(number), "{what}: {call:?}");
 }
 
 /// A damaged record with a right one, in either order, gives the record's number, or 2 where their
@@ -60,11 +62,9 @@ fn answers_are_those_of_the_expansions() {
         for second in others {
             let lists = [&first, &second].map(|record| expand(record).expect("a record"));
             let due = compare(&lists[0], &lists[1]);
-            assert_eq!(
-                compare_records(&first, &second),
-                due,
-                "{first:?} {second:?}"
-            );
+            for call in [compare_records, equivalent_records] {
+                assert_eq!(call(&first, &second), due, "{first:?} {second:?}");
+            }
         }
     }
 }
@@ -80,6 +80,7 @@ fn answers_on_64_qubits_are_those_of_the_expansions() {
         let due = compare(&lists[0], &lists[1]);
         assert!(due.is_ok(), "{first:?}");
         assert_eq!(compare_records(&first, &second), due);
+        assert_eq!(equivalent_records(&first, &second), due);
     }
 }
 
@@ -90,10 +91,20 @@ fn a_part_above_20_is_refused_by_3_and_inequivalent_records_by_13() {
     let small = random_components(&mut random, &[20, 3]);
     for (first, second) in [(&large, &small), (&small, &large), (&large, &large)] {
         assert_eq!(compare_records(first, second), Err(Refusal::Comparison));
+        let due = match first == second {
+            true => Ok(Comparison {
+                choice: vec![0; 23],
+                complementations: vec![],
+            }),
+            false => Err(Refusal::Inequivalent),
+        };
+        assert_eq!(equivalent_records(first, second), due);
     }
     let path = reduce(&"+XZI\n+ZXZ\n+IZX\n".parse().unwrap()).unwrap();
     let apart = Record::zeros(3);
-    assert_eq!(compare_records(&path, &apart), Err(Refusal::Inequivalent));
+    for call in [compare_records, equivalent_records] {
+        assert_eq!(call(&path, &apart), Err(Refusal::Inequivalent));
+    }
 }
 
 #[test]

@@ -1,6 +1,9 @@
 //! The examples in Rust print what those in C or Python print, and the catalogue of orbits its stored
 //! output.
 
+#[path = "../examples/clusters.rs"]
+#[allow(dead_code)]
+mod clusters;
 #[path = "../examples/cut.rs"]
 #[allow(dead_code)]
 mod cut;
@@ -74,6 +77,14 @@ fn two_groups_prints_what_two_groups_in_c_prints() {
     let mut text = String::new();
     two_groups::session(&mut text).unwrap();
     assert_eq!(text, include_str!("../../../examples/c/two_groups.out"));
+}
+
+#[test]
+fn clusters_prints_what_clusters_in_c_prints() {
+    let mut text = String::new();
+    clusters::ghz_and_star(&mut text).unwrap();
+    clusters::clusters(&mut text).unwrap();
+    assert_eq!(text, include_str!("../../../examples/c/clusters.out"));
 }
 
 #[test]

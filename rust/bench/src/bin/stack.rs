@@ -20,11 +20,15 @@ const CASES: u64 = 100;
 /// A call: its name, the number of qubits, and what is measured with a seed.
 type Measured = (&'static str, usize, fn(&mut Random, usize) -> usize);
 
+/// A comparison of two lists, and of two records.
+type Compare = fn(raw::Lent, raw::Lent, &mut [u8], &mut [u8], &mut u64) -> u8;
+type CompareRecords = fn(raw::LentGraph, raw::LentGraph, &mut [u8], &mut [u8], &mut u64) -> u8;
+
 /// Group 0 of two halves.
 const LOWER: raw::Whose = (!0 << 32, 0);
 
 /// Every public call. All arguments are accepted, so that every step is taken.
-const CALLS: [Measured; 31] = [
+const CALLS: [Measured; 34] = [
     ("check", 64, |random, n| {
         let given = list(&random_rows(random, n));
         depth(|| raw::check(n as u64, &given.signs, &given.z, &given.x))
@@ -200,6 +204,9 @@ const CALLS: [Measured; 31] = [
     ("compare", 20, of_compare),
     ("compare", 64, of_compare),
     ("compare_records", 64, of_compare_records),
+    ("equivalent", 21, of_equivalent),
+    ("equivalent", 64, of_equivalent),
+    ("equivalent_records", 64, of_equivalent_records),
     ("generate", 64, |random, n| {
         let (mut text, mut length) = (vec![0; raw::JOB_PLACES], 0);
         let seed = random.word() | 1;
@@ -234,20 +241,40 @@ fn of_compare(random: &mut Random, n: usize) -> usize {
         rest -= taken;
         taken
     });
-    let record = random_components(random, &fitting);
+    of_lists(raw::compare, random, &fitting)
+}
+
+/// The same of a state in one part.
+fn of_equivalent(random: &mut Random, n: usize) -> usize {
+    of_lists(raw::equivalent, random, &[n])
+}
+
+fn of_lists(compare: Compare, random: &mut Random, sizes: &[usize]) -> usize {
+    let record = random_components(random, sizes);
+    let n = record.n();
     let rows = rows(&expand(&record).expect("a simple graph"));
     let [a, b] = [list(&rows), list(&mixed(random, &rows))];
     let [a, b] = [&a, &b].map(|list| (n as u64, &*list.signs, &*list.z, &*list.x));
     let (mut choice, mut list, mut count) = (vec![0; n], [0; 96], 0);
-    depth(|| raw::compare(a, b, &mut choice, &mut list, &mut count))
+    depth(|| compare(a, b, &mut choice, &mut list, &mut count))
 }
 
 /// A comparison of a record with itself, in parts of 20.
 fn of_compare_records(random: &mut Random, n: usize) -> usize {
-    let record = random_components(random, &[20, 20, 20, n - 60]);
+    of_records(raw::compare_records, random, &[20, 20, 20, n - 60])
+}
+
+/// The same of a record in one part.
+fn of_equivalent_records(random: &mut Random, n: usize) -> usize {
+    of_records(raw::equivalent_records, random, &[n])
+}
+
+fn of_records(compare: CompareRecords, random: &mut Random, sizes: &[usize]) -> usize {
+    let record = random_components(random, sizes);
+    let n = record.n();
     let lent = (n as u64, &*record.neighbours, &*record.codes);
     let (mut choice, mut list, mut count) = (vec![0; n], [0; 96], 0);
-    depth(|| raw::compare_records(lent, lent, &mut choice, &mut list, &mut count))
+    depth(|| compare(lent, lent, &mut choice, &mut list, &mut count))
 }
 
 /// A call on a record in place.

@@ -23,7 +23,7 @@ pub struct Call {
 }
 
 /// Every public call.
-pub const CALLS: [Call; 29] = [
+pub const CALLS: [Call; 31] = [
     Call {
         name: "check",
         once: lists::check,
@@ -83,6 +83,14 @@ pub const CALLS: [Call; 29] = [
     Call {
         name: "compare_records",
         once: pairs::compare_records,
+    },
+    Call {
+        name: "equivalent",
+        once: pairs::equivalent,
+    },
+    Call {
+        name: "equivalent_records",
+        once: pairs::equivalent_records,
     },
     Call {
         name: "generate",

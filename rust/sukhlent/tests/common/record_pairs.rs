@@ -7,6 +7,9 @@ use super::pairs::{assert_number, has_large_part};
 use super::reference;
 use sukhlent::{expand, raw, Comparison, Record};
 
+/// A comparison of two records.
+type Compare = fn(raw::LentGraph, raw::LentGraph, &mut [u8], &mut [u8], &mut u64) -> u8;
+
 /// The arguments of a comparison of two records; answer buffers by their lengths.
 #[derive(Clone, Debug)]
 pub struct RecordPairCall {
@@ -27,11 +30,21 @@ impl RecordPairCall {
         }
     }
 
-    /// The comparison that the call writes, or the number of its refusal.
+    /// The comparison that `compare_records` writes, or the number of its refusal.
+    pub fn compare(&self) -> Result<Comparison, u8> {
+        self.answered(raw::compare_records)
+    }
+
+    /// The comparison that `equivalent_records` writes, or the number of its refusal.
+    pub fn equivalent(&self) -> Result<Comparison, u8> {
+        self.answered(raw::equivalent_records)
+    }
+
+    /// The comparison that a call writes, or the number of its refusal.
     ///
     /// Asserts that the records and all guards keep their contents, on a refusal the answer buffers
     /// too, and always the list of complementations past its count.
-    pub fn compare(&self) -> Result<Comparison, u8> {
+    fn answered(&self, call: Compare) -> Result<Comparison, u8> {
         let records = [&self.first, &self.second];
         let mut words = records.map(|record| Guarded::holding(&record.neighbours));
         let mut codes = records.map(|record| Guarded::holding(&record.codes));
@@ -40,7 +53,7 @@ impl RecordPairCall {
         let (list, count) = complementations.lent();
         let [words1, words2] = &mut words;
         let [codes1, codes2] = &mut codes;
-        let number = raw::compare_records(
+        let number = call(
             (self.first.n, words1.lent(), codes1.lent()),
             (self.second.n, words2.lent(), codes2.lent()),
             choice.lent(),
@@ -56,18 +69,30 @@ impl RecordPairCall {
         complementations.compared(number, &choice)
     }
 
-    /// The number due to the records and the buffers' lengths; None where the search decides.
-    pub fn due(&self) -> Option<u8> {
+    /// The number due to the records and the buffers' lengths, for parts of any size; None where the
+    /// search decides.
+    pub fn due_of_any_size(&self) -> Option<u8> {
         let records = [&self.first, &self.second];
         let numbers = records.map(|call| reference::record_refusal(call.n, &unused(call), &[]));
         let counts = records.map(|call| call.n);
-        let early = reference::pair_refusal(counts, numbers, self.choice, self.list);
-        early.or_else(|| records.into_iter().any(has_large_record).then_some(3))
+        reference::pair_refusal(counts, numbers, self.choice, self.list)
     }
 
-    /// Panics unless a number is the one due: 0 or 13 where the search decides.
+    /// The same of `compare_records`, whose parts have at most 20 vertices.
+    pub fn due(&self) -> Option<u8> {
+        let records = [&self.first, &self.second];
+        self.due_of_any_size()
+            .or_else(|| records.into_iter().any(has_large_record).then_some(3))
+    }
+
+    /// Panics unless a number of `compare_records` is the one due: 0 or 13 where the search decides.
     pub fn assert_due(&self, number: u8) {
         assert_number(number, self.due(), self);
+    }
+
+    /// The same of `equivalent_records`.
+    pub fn assert_due_of_any_size(&self, number: u8) {
+        assert_number(number, self.due_of_any_size(), self);
     }
 }
 
