@@ -7,7 +7,7 @@ use borrow.Author.Tests.{eq-eqb, ne-eqb}
 use Rattle.buffers.specs.Refusals.{firstFitting}
 use Rattle.buffers.proofs.Fitting.{fits-at}
 use Rattle.buffers.specs.Answers.{EveryCallAnswers, Unchanged, HoldsAnswer}
-use Rattle.buffers.specs.Calls.{Call, Contract, EachOf, Held, Lent, buffer, float, number}
+use Rattle.buffers.specs.Calls.{Call, Contract, EachOf, Held, Lent, buffer, number}
 
 module _ (r : ℕ) where
   each-held : (h : r ≡ 0 → ⊥) (bs : List Lent) → EachOf Unchanged bs → EachOf (Held r) bs
@@ -16,8 +16,6 @@ module _ (r : ℕ) where
       (U .0 ∙ sym (ap (λ v. cond v answer before) (ne-eqb r 0 h)), each-held h bs (U .1))
   each-held h (number before answer after ∷ bs) U =
       (U .0 ∙ sym (ap (λ v. cond v answer before) (ne-eqb r 0 h)), each-held h bs (U .1))
-  each-held h (float before answer after ∷ bs) U =
-      (U .0 ∙ sym (ap (λ v. cond v answer before) (ne-eqb r 0 h)), each-held h bs (U .1))
 
   each-unchanged : (h : r ≡ 0 → ⊥) (bs : List Lent) → EachOf (Held r) bs → EachOf Unchanged bs
   each-unchanged h [] H = tt
@@ -25,16 +23,12 @@ module _ (r : ℕ) where
       (H .0 ∙ ap (λ v. cond v answer before) (ne-eqb r 0 h), each-unchanged h bs (H .1))
   each-unchanged h (number before answer after ∷ bs) H =
       (H .0 ∙ ap (λ v. cond v answer before) (ne-eqb r 0 h), each-unchanged h bs (H .1))
-  each-unchanged h (float before answer after ∷ bs) H =
-      (H .0 ∙ ap (λ v. cond v answer before) (ne-eqb r 0 h), each-unchanged h bs (H .1))
 
   each-written : (z : r ≡ 0) (bs : List Lent) → EachOf (Held r) bs → EachOf HoldsAnswer bs
   each-written z [] H = tt
   each-written z (buffer before answer after ∷ bs) H =
       (H .0 ∙ ap (λ v. cond v answer before) (eq-eqb r 0 z), each-written z bs (H .1))
   each-written z (number before answer after ∷ bs) H =
-      (H .0 ∙ ap (λ v. cond v answer before) (eq-eqb r 0 z), each-written z bs (H .1))
-  each-written z (float before answer after ∷ bs) H =
       (H .0 ∙ ap (λ v. cond v answer before) (eq-eqb r 0 z), each-written z bs (H .1))
 
 -- ---- a call is made
@@ -50,7 +44,6 @@ done c e z W = record { number = sym z ∙ e; held = each-done (c .lent) W }
     each-done [] W = tt
     each-done (buffer before answer after ∷ bs) W = (W .0, each-done bs (W .1))
     each-done (number before answer after ∷ bs) W = (W .0, each-done bs (W .1))
-    each-done (float before answer after ∷ bs) W = (W .0, each-done bs (W .1))
 
 -- ---- what its caller learns
 module _ {c : Contract} {r : ℕ} (C : Call c r) where

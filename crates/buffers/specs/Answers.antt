@@ -5,7 +5,7 @@ use mathlib.Core.List.{List, [], _∷_}
 use mathlib.Core.Path.{_≡_}
 use Prim.Native.Nat.{ℕ}
 use Rattle.buffers.specs.Refusals.{Refusal}
-use Rattle.buffers.specs.Calls.{Call, Contract, EachOf, Lent, buffer, float, number}
+use Rattle.buffers.specs.Calls.{Call, Contract, EachOf, Lent, buffer, number}
 
 -- "the first fitting number": that of a line that holds where none before it does; 0 where none holds
 pub data FirstFits : List Refusal → ℕ → Type 0 where
@@ -17,13 +17,11 @@ pub data FirstFits : List Refusal → ℕ → Type 0 where
 abbrev pub Unchanged : Lent → Type 0
 Unchanged (buffer before answer after) = after ≡ before
 Unchanged (number before answer after) = after ≡ before
-Unchanged (float before answer after) = after ≡ before
 
 -- it holds the answer
 abbrev pub HoldsAnswer : Lent → Type 0
 HoldsAnswer (buffer before answer after) = after ≡ answer
 HoldsAnswer (number before answer after) = after ≡ answer
-HoldsAnswer (float before answer after) = after ≡ answer
 
 -- the three together: which number, what a refused call leaves, what an accepted one does
 pub record Answers (c : Contract) (r : ℕ) : Type 0 where

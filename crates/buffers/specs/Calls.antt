@@ -1,20 +1,16 @@
 -- The one shape of the contracts of the public calls: the lines of the call in checking order, and the buffers lent for
 -- its answer.
-use mathlib.Core.Bool.{cond}
 use mathlib.Core.List.{List, [], _∷_}
 use mathlib.Core.Path.{_≡_}
 use Prim.Native.Nat.{ℕ}
-use lib.Dec.{eqb}
-use lib.Ieee.{Float}
 use Rattle.buffers.specs.Buffers.{accepted, acceptedNumber}
 use Rattle.buffers.specs.Refusals.{Refusal, firstFitting}
 
--- what is lent for an answer, a buffer, one number or one float: what it holds before the call, the answer for it, and
--- what it holds after
+-- what is lent for an answer, a buffer or one number: what it holds before the call, the answer for it, and what it
+-- holds after
 pub data Lent : Type 0 where
   buffer : List ℕ → List ℕ → List ℕ → Lent
   number : ℕ → ℕ → ℕ → Lent
-  float : Float → Float → Float → Lent
 
 -- P holds of each that is lent
 abbrev pub EachOf : (Lent → Type 0) → List Lent → Type 0
@@ -25,7 +21,6 @@ EachOf P (b ∷ bs) = P b × EachOf P bs
 abbrev pub Held : ℕ → Lent → Type 0
 Held r (buffer before answer after) = after ≡ accepted r answer before
 Held r (number before answer after) = after ≡ acceptedNumber r answer before
-Held r (float before answer after) = after ≡ cond (eqb r 0) answer before
 
 -- the lines and the buffers of a call with its arguments
 pub record Contract : Type 0 where

@@ -1,12 +1,13 @@
--- What the call on amplitudes promises, for all arguments. A name with a prime is what the lent float holds at exit.
+-- What the call on amplitudes promises, for all arguments. The three floats are lent as their 64 bits, so that a refused
+-- call keeps a NaN bit for bit. A name with a prime is what is lent at exit.
 use mathlib.Core.Bool.{false}
 use mathlib.Core.List.{List, [], _∷_}
 use Prim.Native.Nat.{_^_, ℕ}
 use lib.Dec.{leb}
-use lib.Ieee.{Float}
+use lib.Ieee.{Float, binary64, toBits}
 use Rattle.amplitude.specs.Ratios.{plotAt}
 use Rattle.buffers.specs.Refusals.{Refusal}
-use Rattle.buffers.specs.Calls.{Contract, contractOf, float}
+use Rattle.buffers.specs.Calls.{Contract, contractOf, number}
 use Rattle.record.specs.Lent.{heldRows}
 use Rattle.operations.specs.Used.{UsedRecord, usedLines}
 
@@ -14,10 +15,14 @@ use Rattle.operations.specs.Used.{UsedRecord, usedLines}
 abbrev pub amplitudeLines : UsedRecord → ℕ → List Refusal
 amplitudeLines u y = usedLines u false (leb (2 ^ (u .held .n)) y) false
 
+-- the 64 bits of a float
+abbrev pub bitsOf : Float → ℕ
+bitsOf = toBits binary64
+
 -- ---- sukhlent_amplitude: "three floats, real part, imaginary part and probability"
-abbrev pub amplitudeCall : UsedRecord → ℕ → Float → Float → Float → Float → Float → Float → Contract
+abbrev pub amplitudeCall : UsedRecord → ℕ → ℕ → ℕ → ℕ → ℕ → ℕ → ℕ → Contract
 amplitudeCall u y re im p re′ im′ p′ =
     contractOf (amplitudeLines u y)
-    (float re ((plotAt (u .held .n) (heldRows (u .held)) y) .re) re′
-    ∷ float im ((plotAt (u .held .n) (heldRows (u .held)) y) .im) im′
-    ∷ float p ((plotAt (u .held .n) (heldRows (u .held)) y) .p) p′ ∷ [])
+    (number re (bitsOf ((plotAt (u .held .n) (heldRows (u .held)) y) .re)) re′
+    ∷ number im (bitsOf ((plotAt (u .held .n) (heldRows (u .held)) y) .im)) im′
+    ∷ number p (bitsOf ((plotAt (u .held .n) (heldRows (u .held)) y) .p)) p′ ∷ [])

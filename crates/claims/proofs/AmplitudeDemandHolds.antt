@@ -1,6 +1,6 @@
 -- The demands of amplitudes, from the laws of the vector and the contract of the call.
 use mathlib.Core.Bool.{Bool, cond, false, true}
-use mathlib.Core.Path.{refl, subst, sym, _≡_}
+use mathlib.Core.Path.{ap, refl, subst, sym, _∙_, _≡_}
 use Prim.Native.Nat.{ℕ}
 use lib.Ieee.{Float}
 use Rattle.amplitude.proofs.CountedWords.{words-count}
@@ -14,7 +14,7 @@ use Rattle.amplitude.proofs.VectorLaws.{
   zero-exactly,
 }
 use Rattle.amplitude.specs.Plotting.{plotted, turned}
-use Rattle.amplitude.specs.Ratios.{isSupported, ratio}
+use Rattle.amplitude.specs.Ratios.{isSupported, plotAt, ratio}
 use Rattle.amplitude.specs.Vectors.{Gaussian, none, one, turnBy}
 use Rattle.amplitude.specs.declared.Amplitude.the-variants.{Nothing}
 use Rattle.cut.specs.Rank.{rank}
@@ -22,12 +22,14 @@ use Rattle.pauli.specs.Pauli.{Pauli, Phase, exponent, i¹, i², i³, i⁰}
 use Rattle.record.specs.Lent.{heldRows}
 use Rattle.record.specs.Reduced.{xWords}
 use Rattle.stabilizer.specs.Groups.{Proper}
+use Rattle.claims.proofs.PlotBits.{AllBack, line-back}
 use Rattle.claims.proofs.families.Amplitudes.{amplitude-lines}
 use Rattle.claims.specs.AmplitudeDemand.{
   AmplitudeDemand,
   AmplitudesAnswer,
   PlottedAs,
   StatesAreMultiples,
+  floatIn,
   imaginary,
   real,
 }
@@ -97,8 +99,10 @@ pub amplitudes-answer : AmplitudesAnswer
 amplitudes-answer u y re im p re′ im′ p′ C =
     let n = u .held .n in
     let R = heldRows (u .held) in
+    let fits = amplitude-lines u y .0 (sym (C .number)) in
+    let back : AllBack (plotAt n R y) = line-back n R y (fits .0 .held .upto) in
     record {
-      vector = amplitude-demand n R (amplitude-lines u y .0 (sym (C .number)) .0 .held .proper);
-      line = as-held (C .held .0) (C .held .1 .0) (C .held .1 .1 .0)
-          (plotted-as (isSupported n R y) (ratio n R y) (rank n n (xWords R)));
+      vector = amplitude-demand n R (fits .0 .held .proper);
+      line = as-held (ap floatIn (C .held .0) ∙ back .re) (ap floatIn (C .held .1 .0) ∙ back .im)
+          (ap floatIn (C .held .1 .1 .0) ∙ back .p) (plotted-as (isSupported n R y) (ratio n R y) (rank n n (xWords R)));
     }

@@ -25,6 +25,7 @@ pub mod OrbitDemandHolds
 pub mod PartsDemandHolds
 pub mod PartsReached
 pub mod PivotStepsHold
+pub mod PlotBits
 pub mod PlotDemandHolds
 pub mod ProductDemandHolds
 pub mod ProgramDemandHolds

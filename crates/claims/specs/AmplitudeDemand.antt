@@ -1,9 +1,10 @@
 -- Amplitudes (02, §11): the answers are the state that the group fixes, over its value at the smallest word with a nonzero
--- amplitude; what an accepted call writes. A name with a prime is what the lent float holds at exit.
+-- amplitude; what an accepted call writes. The three floats are lent as their bits; a name with a prime is what
+-- is lent at exit.
 use mathlib.Core.Bool.{Bool}
 use mathlib.Core.Path.{_≡_}
 use Prim.Native.Nat.{ℕ}
-use lib.Ieee.{Float}
+use lib.Ieee.{Float, binary64, ofBits}
 use Rattle.amplitude.specs.Plotting.{floatOf, halves, nought, unit}
 use Rattle.amplitude.specs.Vectors.{
   AnyElementFixes,
@@ -38,8 +39,12 @@ pub record AmplitudeDemand (n : ℕ) (R : ℕ → Pauli) : Type 0 where
 
 -- whatever numbers a state is written with, complex ones among them: of every accepted call
 abbrev pub StatesAreMultiples : Type 1
-StatesAreMultiples = (u : UsedRecord) (y : ℕ) (re im p re′ im′ p′ : Float) →
+StatesAreMultiples = (u : UsedRecord) (y re im p re′ im′ p′ : ℕ) →
     Call (amplitudeCall u y re im p re′ im′ p′) 0 → OnlyVectorOver (u .held .n) (heldRows (u .held))
+
+-- the float that 64 bits hold
+abbrev pub floatIn : ℕ → Float
+floatIn = ofBits binary64
 
 -- "a value on the real axis, or a value on the imaginary axis, as a 64-bit float of 1 or −1"; "Every zero is positive"
 pub data OnAxis : Float → Float → Type 0 where
@@ -60,6 +65,6 @@ pub record AmplitudeAnswer (n : ℕ) (R : ℕ → Pauli) (y : ℕ) (re im p : Fl
 
 -- of every accepted call
 abbrev pub AmplitudesAnswer : Type 0
-AmplitudesAnswer = (u : UsedRecord) (y : ℕ) (re im p re′ im′ p′ : Float) →
+AmplitudesAnswer = (u : UsedRecord) (y re im p re′ im′ p′ : ℕ) →
     Call (amplitudeCall u y re im p re′ im′ p′) 0 →
-    AmplitudeAnswer (u .held .n) (heldRows (u .held)) y re′ im′ p′
+    AmplitudeAnswer (u .held .n) (heldRows (u .held)) y (floatIn re′) (floatIn im′) (floatIn p′)

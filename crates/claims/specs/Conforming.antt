@@ -8,7 +8,7 @@ use lib.Dec.{eqb}
 use lib.ListN.{length}
 use Rattle.buffers.specs.Refusals.{firstFitting, Refusal}
 use Rattle.buffers.specs.Answers.{Answers}
-use Rattle.buffers.specs.Calls.{buffer, Call, Contract, EachOf, float, Lent, number}
+use Rattle.buffers.specs.Calls.{buffer, Call, Contract, EachOf, Lent, number}
 
 -- "the published list": the numbers in checking order; a call tests some of them, in that order. 14 is "checked after
 -- 10" (02, §4), and so is 3 (02, §9), 15 "directly after 1 and so before 2" (02, §5), 16 "directly after 8" (02, §8);
@@ -30,7 +30,6 @@ InOrder lines = isSubsequence published (map (λ l. l .number) lines) ≡ true
 abbrev pub Fills : Lent → Type 0
 Fills (buffer before answer after) = length answer ≡ length before
 Fills (number before answer after) = Unit
-Fills (float before answer after) = Unit
 
 -- what is to show of each call apart
 pub record Conforms (c : Contract) : Type 0 where

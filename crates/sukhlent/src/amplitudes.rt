@@ -3,7 +3,7 @@ ghost use Rattle.calls.specs.Amplitudes.{amplitudeCall};
 ghost use Rattle.buffers.specs.Calls.{Call};
 
 // The amplitude at y over that at the smallest word with a nonzero amplitude, as real and imaginary part, and the
-// probability of y.
+// probability of y, as the bits of three floats, which C declares as floats.
 #[no_mangle]
 pub extern "C" fn sukhlent_amplitude(
     n: u64,
@@ -11,9 +11,9 @@ pub extern "C" fn sukhlent_amplitude(
     codes: &[u8],
     used: u64,
     y: u64,
-    re: &mut f64,
-    im: &mut f64,
-    p: &mut f64,
+    re: &mut u64,
+    im: &mut u64,
+    p: &mut u64,
 ) -> u8
     ensures { λ r. ⌜ Call (amplitudeCall (record {
       held = record { n = n; neighbours = now (neighbours .entry); codes = now (codes .entry) };

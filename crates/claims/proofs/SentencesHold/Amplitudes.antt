@@ -1,6 +1,5 @@
 -- What the demands say of the exported function on amplitudes, from its contract.
 use Prim.Native.Nat.{ℕ}
-use lib.Ieee.{Float}
 use Rattle.calls.specs.Amplitudes.{amplitudeCall}
 use Rattle.buffers.specs.Calls.{Call}
 use Rattle.operations.specs.Used.{UsedRecord}
@@ -9,7 +8,7 @@ use Rattle.claims.proofs.families.Amplitudes.{amplitudes-accepted, ampl
 use Rattle.claims.proofs.families.Shared.{answered, at-zero}
 use Rattle.claims.specs.Sentences.Amplitudes.{AmplitudeSays}
 
-pub amplitude-says : (u : UsedRecord) (y : ℕ) (re im p re′ im′ p′ : Float) (r : ℕ) →
+pub amplitude-says : (u : UsedRecord) (y re im p re′ im′ p′ r : ℕ) →
     Call (amplitudeCall u y re im p re′ im′ p′) r → AmplitudeSays u y re im p re′ im′ p′ r
 amplitude-says u y re im p re′ im′ p′ r C =
     record {

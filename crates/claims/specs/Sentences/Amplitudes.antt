@@ -3,16 +3,15 @@
 use mathlib.Core.Logic.{_↔_}
 use mathlib.Core.Path.{_≡_}
 use Prim.Native.Nat.{ℕ}
-use lib.Ieee.{Float}
 use Rattle.calls.specs.Amplitudes.{amplitudeCall}
 use Rattle.record.specs.Lent.{heldRows}
 use Rattle.operations.specs.Used.{UsedRecord}
-use Rattle.claims.specs.AmplitudeDemand.{AmplitudeAnswer}
+use Rattle.claims.specs.AmplitudeDemand.{AmplitudeAnswer, floatIn}
 use Rattle.claims.specs.Conforming.{Answered}
 use Rattle.claims.specs.families.Amplitudes.{AmplitudeFits}
 
--- of amplitude: demand 1, and that the answers are the state that the group fixes
-pub record AmplitudeSays (u : UsedRecord) (y : ℕ) (re im p re′ im′ p′ : Float) (r : ℕ) : Type 0 where
+-- of amplitude: demand 1, bit for bit, and that the floats answered are the state that the group fixes
+pub record AmplitudeSays (u : UsedRecord) (y re im p re′ im′ p′ r : ℕ) : Type 0 where
   pub answered : Answered (amplitudeCall u y re im p re′ im′ p′) r
   pub accepted : (r ≡ 0) ↔ AmplitudeFits u y
-  pub answer : r ≡ 0 → AmplitudeAnswer (u .held .n) (heldRows (u .held)) y re′ im′ p′
+  pub answer : r ≡ 0 → AmplitudeAnswer (u .held .n) (heldRows (u .held)) y (floatIn re′) (floatIn im′) (floatIn p′)

@@ -4,7 +4,6 @@ use mathlib.Core.List.{List}
 use mathlib.Core.Logic.{_↔_, _≢_, _⊎_}
 use mathlib.Core.Path.{_≡_}
 use Prim.Native.Nat.{_<_, _^_, ℕ, _≤_}
-use lib.Ieee.{Float}
 use lib.ListN.{length}
 use Rattle.buffers.specs.Refusals.{firstFitting}
 use Rattle.calls.specs.Amplitudes.{amplitudeCall}
@@ -119,7 +118,7 @@ pub record TakenByAll (u : UsedRecord) : Type 0 where
       Call (imageCall (u .held) image signs list count image′ signs′ list′ count′) r → length image ≡ u .held .n →
       length signs ≡ u .held .n → length list ≡ 96 → (r ≡ 0) ⊎ ((r ≡ 11) ⊎ (r ≡ 12))
   pub cut : (side rank rank′ r : ℕ) → Call (cutCall u side rank rank′) r → side < 2 ^ (u .held .n) → r ≡ 0
-  pub amplitude : (y : ℕ) (re im p re′ im′ p′ : Float) (r : ℕ) → Call (amplitudeCall u y re im p re′ im′ p′) r →
+  pub amplitude : (y re im p re′ im′ p′ r : ℕ) → Call (amplitudeCall u y re im p re′ im′ p′) r →
       y < 2 ^ (u .held .n) → r ≡ 0
   pub expectation : (z x value value′ r : ℕ) → Call (expectationCall u z x value value′) r → z < 2 ^ (u .held .n) →
       x < 2 ^ (u .held .n) → r ≡ 0

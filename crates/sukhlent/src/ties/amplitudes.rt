@@ -8,9 +8,9 @@ pub fn amplitude_says(
     codes: &[u8],
     used: u64,
     y: u64,
-    re: &mut f64,
-    im: &mut f64,
-    p: &mut f64,
+    re: &mut u64,
+    im: &mut u64,
+    p: &mut u64,
 ) -> u8
     ensures { λ r. ⌜ AmplitudeSays (record {
       held = record { n = n; neighbours = now (neighbours .entry); codes = now (codes .entry) };

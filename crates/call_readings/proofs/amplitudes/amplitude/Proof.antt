@@ -1,7 +1,9 @@
--- `amplitude` meets its contract: the line of the plot at y.
-use mathlib.Core.Path.{ap, refl, sym, _∙_}
+use mathlib.Core.Path.{ap, refl, subst, sym, _∙_}
 use borrow.Author.Needs.{needs}
+use Rattle.calls.specs.Amplitudes.{bitsOf}
 use Rattle.buffers.proofs.Calling.{done, refused}
+use Rattle.jobs.proofs.PlotNumbers.{all-numbers}
+use Rattle.jobs.specs.internal.Numbers.{AllNumbers}
 use Rattle.operations.specs.Used.{UsedRecord}
 use Rattle.call_readings.proofs.AmplitudeLines.{amplitude-unrefused, line-held}
 use Rattle.call_readings.proofs.amplitudes.amplitude.Statement.{statement}
@@ -20,16 +22,32 @@ plot-at-requires c κs =
     } in
     amplitude-unrefused u (a .y) (sym (E .used-refusal .ensures) ∙ c .if1 .left)
 
+bits-requires : tie.Need-bits-requires
+bits-requires c κs = subst AllNumbers (sym (c .plot-at .ensures)) (all-numbers _ _ _) .re
+
+bits-requires-2 : tie.Need-bits-requires-2
+bits-requires-2 c κs = subst AllNumbers (sym (c .before .plot-at .ensures)) (all-numbers _ _ _) .im
+
+bits-requires-3 : tie.Need-bits-requires-3
+bits-requires-3 c κs = subst AllNumbers (sym (c .before .before .plot-at .ensures)) (all-numbers _ _ _) .p
+
 returns-2 : tie.Need-returns-2
 returns-2 c =
-    let E = c .before .before in
+    let P = c .before .before .before in
+    let E = P .before .before in
     let a = E .before .before .before .args in
     let u : UsedRecord = record {
       held = record { n = a .n; neighbours = a .neighbours .now; codes = a .codes .now };
       used = a .used;
     } in
-    let l = line-held u (a .y) (sym (E .used-refusal .ensures) ∙ c .before .if1 .left) _ (c .plot-at .ensures) in
-    done _ (E .used-refusal .ensures) (c .before .if1 .left) (ap (λ v. v .re) l, (ap (λ v. v .im) l, (ap (λ v. v .p) l, tt)))
+    let l = line-held u (a .y) (sym (E .used-refusal .ensures) ∙ P .before .if1 .left) _ (P .plot-at .ensures) in
+    done _ (E .used-refusal .ensures) (P .before .if1 .left) (
+      c .before .before .bits .ensures ∙ ap (λ v. bitsOf (v .re)) l,
+      (
+        c .before .bits2 .ensures ∙ ap (λ v. bitsOf (v .im)) l,
+        (c .bits3 .ensures ∙ ap (λ v. bitsOf (v .p)) l, tt),
+      ),
+    )
 
 pub amplitude-spec : {M : Type 1} → statement M
-amplitude-spec = tie.close (tie.spec (λ c κs. search needs) returns plot-at-requires returns-2)
+amplitude-spec = tie.close (tie.spec (λ c κs. search needs) returns plot-at-requires bits-requires bits-requires-2 bits-requires-3 returns-2)
