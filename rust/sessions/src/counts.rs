@@ -22,6 +22,8 @@ pub struct Counts {
     pub starts: u64,
     /// Rows in the group, rows whose negative is, and others.
     pub values: [u64; 3],
+    /// Comparisons with an earlier state: not equivalent, and equivalent.
+    pub compared: [u64; 2],
 }
 
 impl fmt::Display for Counts {
@@ -30,7 +32,7 @@ impl fmt::Display for Counts {
             f,
             "{} gates, {} CZ, {} outcomes chosen, {} determined and {} contradicted, \
              {} complements, {} on used qubits, {} refused, {} starts anew; \
-             {} rows plus, {} minus, {} neither",
+             {} rows plus, {} minus, {} neither; {} states equivalent to earlier ones, {} not",
             self.gates,
             self.czs,
             self.chosen,
@@ -42,7 +44,9 @@ impl fmt::Display for Counts {
             self.starts,
             self.values[0],
             self.values[1],
-            self.values[2]
+            self.values[2],
+            self.compared[1],
+            self.compared[0]
         )
     }
 }

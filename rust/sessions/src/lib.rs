@@ -3,14 +3,16 @@
 //! After each call the record is compared with the reduced record of the tableau's group, by an
 //! elimination in plain Rust; outcomes, and bits that the state forbids, with the tableau's;
 //! complements with document 01's text; refusals with its list; the used word with the qubits that
-//! were measured; and the values of some rows with the tableau's. A session goes on with the
-//! qubits that are left, and where all are used it starts anew.
+//! were measured; and the values of some rows with the tableau's. Every few calls the state is
+//! compared with an earlier one under local Cliffords. A session goes on with the qubits that are
+//! left, and where all are used it starts anew.
 //!
 //! `pairs` makes pairs of runs of two groups on one record: what one group sees does not depend on
 //! the other's calls.
 
 mod choice;
 mod counts;
+mod marks;
 mod pairs;
 mod session;
 mod values;

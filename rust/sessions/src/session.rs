@@ -5,6 +5,7 @@ use crate::common::local::complemented_record;
 use crate::common::reference::{argument_refusal, expanded};
 use crate::common::{Operation, Random};
 use crate::counts::Counts;
+use crate::marks::{Mark, APART};
 use crate::plain;
 use crate::values::{answered, words, ROWS};
 use sukhlent::{GeneratorList, Record};
@@ -24,6 +25,8 @@ pub struct Session {
     measured: Vec<bool>,
     /// The calls since the start.
     number: usize,
+    /// The record some calls ago.
+    mark: Mark,
     pub counts: Counts,
 }
 
@@ -37,6 +40,7 @@ impl Session {
             tableau: Tableau::zero(n),
             measured: vec![false; n],
             number: 0,
+            mark: Mark::at(&start(n)),
             counts: Counts::default(),
         }
     }
@@ -49,6 +53,7 @@ impl Session {
             self.tableau = Tableau::zero(n);
             self.measured = vec![false; n];
             self.number = 0;
+            self.mark = Mark::at(&self.record);
             self.counts.starts += 1;
         }
     }
@@ -77,7 +82,24 @@ impl Session {
             })
             .map_err(|e| format!("{operation:?} on {before:?}: {e}"))?;
         self.count(operation, due);
+        self.look_back(operation, due)?;
         (0..ROWS).try_for_each(|kind| self.ask(kind))
+    }
+
+    /// Compares the state with that of the last mark, every few calls. A gate, a complement and a
+    /// determined outcome keep it up to local Cliffords.
+    fn look_back(&mut self, operation: Operation, due: Result<(u8, u8), u8>) -> Result<(), String> {
+        self.mark.local &= match (due, operation) {
+            (Ok(_), Operation::Cz(..)) => false,
+            (Ok((_, determined)), Operation::Measure(..)) => determined == 1,
+            _ => true,
+        };
+        if self.number.is_multiple_of(APART) {
+            let same = self.mark.compared(&self.record)?;
+            self.counts.compared[usize::from(same)] += 1;
+            self.mark = Mark::at(&self.record);
+        }
+        Ok(())
     }
 
     /// Asks for the value of a row, and compares with the tableau's.
@@ -177,7 +199,7 @@ fn of_tableau(tableau: &Tableau) -> GeneratorList {
 }
 
 /// The reduced record of a list, by plain Rust.
-fn reduced(list: &GeneratorList) -> Record {
+pub(crate) fn reduced(list: &GeneratorList) -> Record {
     let mut record = start(list.n());
     let number = plain::reduce(
         list.n() as u64,

@@ -21,6 +21,7 @@ fn sixty_four_qubits() {
             refused,
             starts,
             values,
+            compared,
         } = counts;
         let outcomes = [chosen, determined, contradicted, used, refused];
         let all = [&outcomes, &[gates, czs, complements][..]].concat();
@@ -30,6 +31,9 @@ fn sixty_four_qubits() {
         // 36,000 rows of each seed, and of each value many.
         assert_eq!(values.iter().sum::<u64>(), 36_000);
         assert!(values.iter().all(|&times| times > 3000), "{counts}");
+        // Each eighth call a comparison with the state eight calls before.
+        assert!(compared.iter().sum::<u64>() > 700, "{counts}");
+        assert!(compared.iter().all(|&times| times > 50), "{counts}");
     }
 }
 

@@ -26,6 +26,7 @@ mod in_place_refusals;
 mod job_runs;
 mod job_texts;
 mod large;
+mod large_parts;
 mod lengths;
 mod library;
 mod list_damage;

@@ -1,10 +1,11 @@
-//! Families of graphs on 20 vertices.
+//! Families of graphs on 20 and on 64 vertices.
 
 use bench::pairs::Graph;
 use bench::seeded::Random;
 
-/// The number of vertices.
+/// The numbers of vertices.
 pub const N: usize = 20;
+pub const LARGE: usize = 64;
 
 /// A family of graphs.
 pub struct Family {
@@ -25,14 +26,14 @@ const fn family(name: &'static str, member: fn(&mut Random) -> Graph) -> Family 
     }
 }
 
-/// The families that are compared.
+/// The families on 20 vertices.
 pub const FAMILIES: [Family; 15] = [
-    family("random graphs", |random| random_graph(random, 2)),
-    family("sparse random graphs", |random| random_graph(random, 8)),
-    family("paths", |random| relabelled(random, &graph(path(0, N)))),
-    family("rings", |random| relabelled(random, &ring())),
-    family("stars", |random| relabelled(random, &star())),
-    family("grids 4 × 5", |random| relabelled(random, &grid())),
+    family("random graphs", |random| random_graph(random, N, 2)),
+    family("sparse random graphs", |random| random_graph(random, N, 8)),
+    family("paths", |random| relabelled(random, &graph(N, path(0, N)))),
+    family("rings", |random| relabelled(random, &ring(N))),
+    family("stars", |random| relabelled(random, &star(N))),
+    family("grids 4 × 5", |random| relabelled(random, &grid(4, 5))),
     family("complete bipartite 10 + 10", |random| {
         relabelled(random, &joined(N, |a, b| a < 10 && b >= 10))
     }),
@@ -43,34 +44,97 @@ pub const FAMILIES: [Family; 15] = [
         )
     }),
     family("rook's graph 4 × 4, path", |random| {
-        relabelled(random, &padded(16, rook))
+        relabelled(random, &padded(N, 16, rook))
     }),
     family("Shrikhande graph, path", |random| {
-        relabelled(random, &padded(16, shrikhande))
+        relabelled(random, &padded(N, 16, shrikhande))
     }),
     Family {
         name: "rook's, Shrikhande",
-        member: |_| padded(16, rook),
-        other: |_, _| padded(16, shrikhande),
+        member: |_| padded(N, 16, rook),
+        other: |_, _| padded(N, 16, shrikhande),
     },
     family("Clebsch graph, path", |random| {
-        relabelled(random, &padded(16, clebsch))
+        relabelled(random, &padded(N, 16, clebsch))
     }),
     family("Paley graph of 17, path", |random| {
-        relabelled(random, &padded(17, paley))
+        relabelled(random, &padded(N, 17, paley_17))
     }),
     family("triples of six points", |random| {
         relabelled(random, &joined(N, triples))
     }),
     Family {
         name: "8 Bell pairs, then 4 vertices",
-        member: |_| graph(bell_pairs(8).chain(path(16, N))),
-        other: |_, _| graph(bell_pairs(8).chain((17..N).map(|b| (16, b)))),
+        member: |_| graph(N, bell_pairs(8).chain(path(16, N))),
+        other: |_, _| graph(N, bell_pairs(8).chain((17..N).map(|b| (16, b)))),
     },
 ];
 
-fn graph(edges: impl IntoIterator<Item = (usize, usize)>) -> Graph {
-    let mut neighbours = vec![0; N];
+/// The families on 64 vertices.
+pub const LARGE_FAMILIES: [Family; 12] = [
+    family("random graphs", |random| random_graph(random, LARGE, 2)),
+    family("trees and 64 edges more", |random| {
+        let mut graph = tree(random);
+        for _ in 0..LARGE {
+            let (a, b) = random.pair_below(LARGE);
+            graph[a] |= 1 << b;
+            graph[b] |= 1 << a;
+        }
+        graph
+    }),
+    family("trees", tree),
+    family("rings", |random| relabelled(random, &ring(LARGE))),
+    family("stars", |random| relabelled(random, &star(LARGE))),
+    family("complete graphs", |_| joined(LARGE, |_, _| true)),
+    family("grids 8 × 8", |random| relabelled(random, &grid(8, 8))),
+    family("complete bipartite 32 + 32", |random| {
+        relabelled(random, &joined(LARGE, |a, b| a < 32 && b >= 32))
+    }),
+    family("Paley graph of 61, path", |random| {
+        relabelled(random, &chained(&padded(LARGE, 61, paley_61), &[60]))
+    }),
+    family("two rook's, two Shrikhande", |random| {
+        relabelled(random, &joined(LARGE, four_squares))
+    }),
+    family("the same in a chain", |random| {
+        relabelled(random, &in_a_chain(four_squares))
+    }),
+    Family {
+        name: "four rook's in a chain, that chain",
+        member: |_| in_a_chain(|a, b| a / 16 == b / 16 && rook(a % 16, b % 16)),
+        other: |_, _| in_a_chain(four_squares),
+    },
+];
+
+/// Two rook's graphs and two Shrikhande graphs side by side.
+fn four_squares(a: usize, b: usize) -> bool {
+    let edge = if a < 32 { rook } else { shrikhande };
+    a / 16 == b / 16 && edge(a % 16, b % 16)
+}
+
+/// The graph with the last vertex of each sixteen joined to the next.
+fn in_a_chain(edge: impl Fn(usize, usize) -> bool) -> Graph {
+    chained(&joined(LARGE, edge), &[15, 31, 47])
+}
+
+/// The graph with some vertices joined to the next.
+fn chained(graph: &Graph, vertices: &[usize]) -> Graph {
+    let mut chained = graph.clone();
+    for &a in vertices {
+        chained[a] |= 2 << a;
+        chained[a + 1] |= 1 << a;
+    }
+    chained
+}
+
+/// A tree on 64 vertices, each joined to one before it.
+fn tree(random: &mut Random) -> Graph {
+    let edges: Vec<_> = (1..LARGE).map(|b| (random.below(b), b)).collect();
+    relabelled(random, &graph(LARGE, edges))
+}
+
+fn graph(n: usize, edges: impl IntoIterator<Item = (usize, usize)>) -> Graph {
+    let mut neighbours = vec![0; n];
     for (a, b) in edges {
         neighbours[a] |= 1 << b;
         neighbours[b] |= 1 << a;
@@ -81,21 +145,21 @@ fn graph(edges: impl IntoIterator<Item = (usize, usize)>) -> Graph {
 /// The graph in which a and b, a below b and b below n, are joined where `edge` says so.
 fn joined(n: usize, edge: impl Fn(usize, usize) -> bool) -> Graph {
     let pairs = (0..n).flat_map(|b| (0..b).map(move |a| (a, b)));
-    graph(pairs.filter(|&(a, b)| edge(a, b)))
+    graph(n, pairs.filter(|&(a, b)| edge(a, b)))
 }
 
-/// A graph on the first n vertices, and a path on the others.
-fn padded(n: usize, edge: fn(usize, usize) -> bool) -> Graph {
-    let rest = graph(path(n, N));
-    let first = joined(n, edge);
+/// A graph on the first k of n vertices, and a path on the others.
+fn padded(n: usize, k: usize, edge: fn(usize, usize) -> bool) -> Graph {
+    let first = joined(n, |a, b| b < k && edge(a, b));
+    let rest = graph(n, path(k, n));
     first.iter().zip(rest).map(|(a, b)| a | b).collect()
 }
 
-/// A graph in which one pair in `of` is joined.
-fn random_graph(random: &mut Random, of: usize) -> Graph {
-    let pairs = (0..N).flat_map(|b| (0..b).map(move |a| (a, b)));
+/// A graph on n vertices in which one pair in `of` is joined.
+fn random_graph(random: &mut Random, n: usize, of: usize) -> Graph {
+    let pairs = (0..n).flat_map(|b| (0..b).map(move |a| (a, b)));
     let edges: Vec<_> = pairs.filter(|_| random.below(of) == 0).collect();
-    graph(edges)
+    graph(n, edges)
 }
 
 fn path(first: usize, end: usize) -> impl Iterator<Item = (usize, usize)> {
@@ -106,16 +170,18 @@ fn bell_pairs(number: usize) -> impl Iterator<Item = (usize, usize)> {
     (0..number).map(|k| (2 * k, 2 * k + 1))
 }
 
-fn ring() -> Graph {
-    graph(path(0, N).chain([(0, N - 1)]))
+fn ring(n: usize) -> Graph {
+    graph(n, path(0, n).chain([(0, n - 1)]))
 }
 
-fn star() -> Graph {
-    graph((1..N).map(|b| (0, b)))
+fn star(n: usize) -> Graph {
+    graph(n, (1..n).map(|b| (0, b)))
 }
 
-fn grid() -> Graph {
-    joined(N, |a, b| b == a + 5 || b == a + 1 && b % 5 != 0)
+fn grid(rows: usize, columns: usize) -> Graph {
+    joined(rows * columns, |a, b| {
+        b == a + columns || b == a + 1 && b % columns != 0
+    })
 }
 
 /// Vertices 0 to 4 are a ring, 5 to 9 a five-pointed star, and k is joined to 5 + k.
@@ -145,8 +211,17 @@ fn clebsch(a: usize, b: usize) -> bool {
 }
 
 /// Numbers modulo 17 whose difference is a square.
-fn paley(a: usize, b: usize) -> bool {
-    [1, 2, 4, 8, 9, 13, 15, 16].contains(&(b - a))
+fn paley_17(a: usize, b: usize) -> bool {
+    is_square(b - a, 17)
+}
+
+/// Numbers modulo 61 whose difference is a square.
+fn paley_61(a: usize, b: usize) -> bool {
+    is_square(b - a, 61)
+}
+
+fn is_square(number: usize, modulus: usize) -> bool {
+    (1..modulus).any(|k| k * k % modulus == number)
 }
 
 /// Triples of six points, joined where they share two.
@@ -158,11 +233,12 @@ fn triples(a: usize, b: usize) -> bool {
 
 /// The graph with its vertices in random order.
 fn relabelled(random: &mut Random, graph: &Graph) -> Graph {
-    let mut order: Vec<usize> = (0..N).collect();
-    for k in 1..N {
+    let n = graph.len();
+    let mut order: Vec<usize> = (0..n).collect();
+    for k in 1..n {
         order.swap(k, random.below(k + 1));
     }
-    joined(N, |a, b| graph[order[a]] >> order[b] & 1 == 1)
+    joined(n, |a, b| graph[order[a]] >> order[b] & 1 == 1)
 }
 
 /// The graph in another order, or with one to three edges changed.
@@ -173,7 +249,7 @@ fn relabelled_or_changed(random: &mut Random, graph: &Graph) -> Graph {
     }
     let mut other = graph.clone();
     for _ in 0..changes {
-        let (a, b) = random.pair_below(N);
+        let (a, b) = random.pair_below(graph.len());
         other[a] ^= 1 << b;
         other[b] ^= 1 << a;
     }

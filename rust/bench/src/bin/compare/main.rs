@@ -1,15 +1,15 @@
-//! Times of `compare` over families of states on 20 qubits, and brute force.
+//! Times of `compare` over families of states on 20 qubits, of `equivalent` on 64, and brute force.
 
 mod brute;
 mod families;
 
 use bench::local::{complemented, sent};
-use bench::pairs::{differ, equivalent, inequivalent, state, Pair};
+use bench::pairs::{self, differ, inequivalent, state, Pair};
 use bench::plain;
 use bench::seeded::Random;
-use families::{FAMILIES, N};
+use families::{Family, FAMILIES, LARGE, LARGE_FAMILIES, N};
 use std::time::{Duration, Instant};
-use sukhlent::{compare, Comparison, GeneratorList, Record, Refusal};
+use sukhlent::{compare, equivalent, Comparison, GeneratorList, Record, Refusal};
 
 /// The number of pairs of each kind in a family.
 const PAIRS: u64 = 100;
@@ -22,32 +22,44 @@ struct Measured {
     times: Vec<Duration>,
 }
 
+/// A comparison of two lists.
+type Compare = fn(&GeneratorList, &GeneratorList) -> Result<Comparison, Refusal>;
+
 fn main() {
     println!("compare on {N} qubits, {PAIRS} pairs of each kind, each the least time of {RUNS}");
-    println!("{:<32}{:^22}{:^22}", "", "equivalent", "not equivalent");
-    let columns = format!("{:>11}{:>11}", "mean", "worst");
-    println!("{:<32}{columns}{columns}", "family");
-    for family in &FAMILIES {
-        let mut random = Random::new(20);
-        let (mut same, mut other) = (Measured::default(), Measured::default());
-        for _ in 0..PAIRS {
-            let graph = (family.member)(&mut random);
-            same.pair(&equivalent(&mut random, &graph), true);
-            let graph = (family.member)(&mut random);
-            other.pair(&inequivalent(&mut random, &graph, family.other), false);
-        }
-        println!("{:<32}{}{}", family.name, same.columns(), other.columns());
-    }
+    table(compare, &FAMILIES);
+    println!();
+    println!("equivalent on {LARGE} qubits, as above");
+    table(equivalent, &LARGE_FAMILIES);
     println!();
     println!("a pair that is not equivalent, and brute force over all 6^n classes");
     println!("{:<4}{:>11}{:>17}", "n", "engine", "brute force");
     [6, 8, 10].into_iter().for_each(against_brute_force);
 }
 
+/// Prints the times of a call over families.
+fn table(compare: Compare, families: &[Family]) {
+    println!("{:<36}{:^22}{:^22}", "", "equivalent", "not equivalent");
+    let columns = format!("{:>11}{:>11}", "mean", "worst");
+    println!("{:<36}{columns}{columns}", "family");
+    for family in families {
+        let mut random = Random::new(20);
+        let (mut same, mut other) = (Measured::default(), Measured::default());
+        for _ in 0..PAIRS {
+            let graph = (family.member)(&mut random);
+            same.pair(compare, &pairs::equivalent(&mut random, &graph), true);
+            let graph = (family.member)(&mut random);
+            let told = inequivalent(&mut random, &graph, family.other);
+            other.pair(compare, &told, false);
+        }
+        println!("{:<36}{}{}", family.name, same.columns(), other.columns());
+    }
+}
+
 impl Measured {
     /// Compares a pair, and panics unless the answer is right.
-    fn pair(&mut self, (first, second): &Pair, equivalent: bool) {
-        let (time, answer) = timed(first, second);
+    fn pair(&mut self, compare: Compare, (first, second): &Pair, equivalent: bool) {
+        let (time, answer) = timed(compare, first, second);
         assert_right(first, second, &answer, equivalent);
         self.times.push(time);
     }
@@ -65,7 +77,11 @@ fn micros(time: Duration) -> f64 {
 }
 
 /// The least time of some runs of the public call, and its answer.
-fn timed(first: &GeneratorList, second: &GeneratorList) -> (Duration, Result<Comparison, Refusal>) {
+fn timed(
+    compare: Compare,
+    first: &GeneratorList,
+    second: &GeneratorList,
+) -> (Duration, Result<Comparison, Refusal>) {
     let run = |_| {
         let start = Instant::now();
         let answer = compare(first, second);
@@ -123,13 +139,13 @@ fn against_brute_force(n: usize) {
     (chord[0], chord[3]) = (chord[0] | 1 << 3, chord[3] | 1);
     assert!(differ(&mut random, &ring(n), &chord));
 
-    let (first, second) = equivalent(&mut random, &ring(n));
+    let (first, second) = pairs::equivalent(&mut random, &ring(n));
     let answer = compare(&first, &second).expect("an equivalent pair");
     let classes: Vec<u8> = answer.choice.iter().map(|code| code / 4).collect();
     assert_eq!(brute::least_classes(&first, &second), Some(classes));
 
     let other = state(&mut random, &chord);
-    let (time, answer) = timed(&first, &other);
+    let (time, answer) = timed(compare, &first, &other);
     assert_eq!(answer, Err(Refusal::Inequivalent));
     let start = Instant::now();
     assert_eq!(brute::least_classes(&first, &other), None);

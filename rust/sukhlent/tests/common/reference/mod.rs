@@ -2,6 +2,7 @@
 
 mod amplitude;
 mod cut;
+mod equivalence;
 mod expansion;
 mod generator;
 mod membership;
@@ -17,6 +18,7 @@ mod strings;
 
 pub use amplitude::{plot_lines, turns, Bits};
 pub use cut::cut_rank;
+pub use equivalence::{image_of, least_choice, Group};
 pub use expansion::expanded;
 pub use generator::{draw, generate_refusal, job_text, step, steps, Step};
 pub use membership::{is_element, row_value};
