@@ -1,33 +1,22 @@
--- A record that no line refuses: what a further argument makes of it, and the words that are handed on.
+-- A record that no line refuses: what a further argument makes of it, and the word that is handed on.
 use mathlib.Core.Bool.{Bool, cond, false, or-true, true, _||_}
 use mathlib.Core.List.{List}
-use mathlib.Core.Path.{ap, refl, subst, sym, _∙_, _≡_}
+use mathlib.Core.Path.{ap, refl, subst, sym, _≡_}
 use Prim.Native.Nat.{ℕ}
-use lib.Dec.{eqb}
-use borrow.Author.Tests.{eqb-true}
 use Rattle.buffers.specs.Refusals.{firstFitting, reaching}
 use Rattle.buffers.proofs.Fitting.{first-is, none-holds}
 use Rattle.buffers.specs.Answers.{here, later}
-use Rattle.operations_gates.proofs.SuspectCodes.{all-suspected, suspects-held, suspects-watched}
+use Rattle.operations_gates.proofs.SuspectCodes.{suspects-held, suspects-watched}
 use Rattle.operations_gates.specs.internal.Watching.{Suspected, Watched}
+use Rattle.operations_gates.specs.internal.Suspects.{Marked}
 use Rattle.operations.specs.internal.InPlace.{Unrefused, recordIn}
-use Rattle.operations_gates.proofs.SettledRecords.{settled-watched}
-use Rattle.operations_gates.specs.internal.Settled.{Settled}
 use Rattle.record.specs.Lent.{recordCodes}
 use Rattle.operations.specs.Used.{UsedRecord, UsedUnrefused, usedLines}
 use Rattle.words.proofs.Flags.{neither}
-use Rattle.call_gates.specs.internal.Knowing.{Handed, Known, looked, reduced}
+use Rattle.call_gates.specs.internal.Knowing.{Known}
 
 pub known-true : (u : UsedRecord) {known : Bool} → Known known u → known ≡ true → UsedUnrefused u
 known-true u K e = subst (λ b. Known b u) e K
-
--- from what the lines of the record answer
-pub known-by : (u : UsedRecord) (r : ℕ) → r ≡ firstFitting (usedLines u false false false) → Known (eqb r 0) u
-known-by u r e = go (eqb r 0) refl
-  where
-    go : (b : Bool) → eqb r 0 ≡ b → Known b u
-    go true h = record { no-line = sym e ∙ eqb-true r 0 h }
-    go false h = tt
 
 pub six-alone : (u : UsedRecord) → UsedUnrefused u → (six : Bool)
     → cond six 6 0 ≡ firstFitting (usedLines u false false six)
@@ -43,11 +32,7 @@ known-codes u K e =
     let h = none-holds (usedLines u false false false) refl (known-true u K e .no-line) in
     neither _ _ (neither _ _ (neither _ _ (h .1 .1 .1 .0) .0) .0) .0
 
--- ---- what is handed on
-pub handed-words : (words codes : List ℕ) {settled : Bool} {touched suspected : ℕ} → Unrefused (recordIn words codes)
-    → Settled settled words codes → Handed settled codes touched suspected
-    → Suspected words codes suspected × Watched words codes touched
-handed-words words codes U S (reduced e) =
-    (all-suspected words codes U, settled-watched words codes U (subst (λ b. Settled b words codes) e S))
-handed-words words codes {touched = word} U S (looked M) =
-    (suspects-held words codes word U M, suspects-watched words codes word U M)
+-- ---- the word of a look
+pub marked-words : (words codes : List ℕ) (word : ℕ) → Unrefused (recordIn words codes) → Marked codes word
+    → Suspected words codes word × Watched words codes word
+marked-words words codes word U M = (suspects-held words codes word U M, suspects-watched words codes word U M)

@@ -15,19 +15,13 @@ ghost use Prim.Native.Nat.{ℕ, _<_, _≤_};
 ghost use lib.ListN.{getD, length};
 ghost use Rattle.buffers.specs.Calls.{Call};
 ghost use Rattle.buffers.specs.Refusals.{firstFitting, reaching};
+ghost use Rattle.operations_gates.specs.internal.Suspects.{Marked};
 ghost use Rattle.operations.specs.Steps.{czOn, gateWith};
-ghost use Rattle.operations_gates.specs.internal.Settled.{Settled};
 ghost use Rattle.record_impl.specs.internal.Looks.{Looked};
 ghost use Rattle.operations.specs.Used.{usedLines};
 ghost use Rattle.calls.specs.InPlace.{usedCall};
 ghost use Rattle.calls.specs.internal.InPlace.{usedInPlace};
-ghost use Rattle.call_gates.specs.internal.Knowing.{Found, Handed, Known};
-
-// Every vertex that is out of place, and every one with a code that is odd, or 8 or more, before a step.
-struct Told {
-    touched: u64,
-    suspected: u64,
-}
+ghost use Rattle.call_gates.specs.internal.Knowing.{Found, Known};
 
 // 6 where line 6 holds of a further argument.
 fn six_number(six: bool) -> u8
@@ -169,28 +163,17 @@ fn first_look(codes: &[u8], known: bool) -> Seen
     look(codes)
 }
 
-// The words from which an accepted step settles the record: none is out of place where it is reduced; else those that the
-// codes tell, which a run has not looked at yet.
-fn first_words(codes: &[u8], known: bool, settled: bool, word: u64) -> Told
+// The vertices with a code that is odd, or 8 or more: as the first look told, or by a look where none was made.
+fn found(codes: &[u8], known: bool, word: u64) -> u64
     requires { ⌜ (length (now codes) ≤ 64) × ((q : ℕ) → getD (now codes) q 0 < 24) ⌝ }
     requires { ⌜ Found known (now codes) word ⌝ }
-    ensures { λ r. ⌜ Handed settled (now (codes .entry)) (r .touched) (r .suspected) ⌝ }
+    ensures { λ r. ⌜ Marked (now (codes .entry)) r ⌝ }
 {
-    if settled {
-        return Told {
-            touched: 0,
-            suspected: 0xFFFF_FFFF_FFFF_FFFF,
-        };
-    }
-    let found = if known { suspects(codes) } else { word };
-    Told {
-        touched: found,
-        suspected: found,
-    }
+    if known { suspects(codes) } else { word }
 }
 
 // A code applied after the code held at a qubit, and the reduced record. `known`: no line of the record alone
-// holds; `settled`: it is reduced.
+// holds.
 pub fn gate_known(
     n: u64,
     neighbours: &mut [u64],
@@ -199,13 +182,11 @@ pub fn gate_known(
     qubit: u64,
     code: u8,
     known: bool,
-    settled: bool,
 ) -> u8
     requires { ⌜ Known known (record {
       held = record { n = n; neighbours = now neighbours; codes = now codes };
       used = used;
     }) ⌝ }
-    requires { ⌜ Settled settled (now neighbours) (now codes) ⌝ }
     ensures { λ r. ⌜ Call (usedCall (record {
       held = record { n = n; neighbours = now (neighbours .entry); codes = now (codes .entry) };
       used = used;
@@ -228,15 +209,8 @@ pub fn gate_known(
     if early != 0 {
         return early;
     }
-    let told = first_words(codes, known, settled, seen.suspects);
-    gate_record(
-        neighbours,
-        codes,
-        qubit as usize,
-        code,
-        told.touched,
-        told.suspected,
-    );
+    let touched = found(codes, known, seen.suspects);
+    gate_record(neighbours, codes, qubit as usize, code, touched);
     0
 }
 
@@ -249,13 +223,11 @@ pub fn cz_known(
     a: u64,
     b: u64,
     known: bool,
-    settled: bool,
 ) -> u8
     requires { ⌜ Known known (record {
       held = record { n = n; neighbours = now neighbours; codes = now codes };
       used = used;
     }) ⌝ }
-    requires { ⌜ Settled settled (now neighbours) (now codes) ⌝ }
     ensures { λ r. ⌜ Call (usedCall (record {
       held = record { n = n; neighbours = now (neighbours .entry); codes = now (codes .entry) };
       used = used;
@@ -279,15 +251,8 @@ pub fn cz_known(
     if early != 0 {
         return early;
     }
-    let told = first_words(codes, known, settled, seen.suspects);
-    cz_record(
-        neighbours,
-        codes,
-        a as usize,
-        b as usize,
-        told.touched,
-        told.suspected,
-    );
+    let touched = found(codes, known, seen.suspects);
+    cz_record(neighbours, codes, a as usize, b as usize, touched);
     0
 }
 
@@ -298,7 +263,7 @@ pub fn gate(n: u64, neighbours: &mut [u64], codes: &mut [u8], used: u64, qubit: 
       used = used;
     }) (gateWith qubit code) (now (neighbours .exit)) (now (codes .exit))) r ⌝ }
 {
-    gate_known(n, neighbours, codes, used, qubit, code, false, false)
+    gate_known(n, neighbours, codes, used, qubit, code, false)
 }
 
 pub fn cz(n: u64, neighbours: &mut [u64], codes: &mut [u8], used: u64, a: u64, b: u64) -> u8
@@ -307,5 +272,5 @@ pub fn cz(n: u64, neighbours: &mut [u64], codes: &mut [u8], used: u64, a: u64, b
       used = used;
     }) (czOn a b) (now (neighbours .exit)) (now (codes .exit))) r ⌝ }
 {
-    cz_known(n, neighbours, codes, used, a, b, false, false)
+    cz_known(n, neighbours, codes, used, a, b, false)
 }

@@ -42,7 +42,7 @@ fn gate_within(
     }) (gateWith qubit code) (now (neighbours .exit)) (now (codes .exit))) r ⌝ }
 {
     let own_used = take_group(word, group, neighbours, codes, used, words, bytes);
-    let number = gate_known(n, words, bytes, own_used, qubit, code, true, false);
+    let number = gate_known(n, words, bytes, own_used, qubit, code, true);
     if number != 0 {
         return number;
     }
@@ -111,7 +111,7 @@ fn cz_within(
     }) (czOn a b) (now (neighbours .exit)) (now (codes .exit))) r ⌝ }
 {
     let own_used = take_group(word, group, neighbours, codes, used, words, bytes);
-    let number = cz_known(n, words, bytes, own_used, a, b, true, false);
+    let number = cz_known(n, words, bytes, own_used, a, b, true);
     if number != 0 {
         return number;
     }

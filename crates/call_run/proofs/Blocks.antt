@@ -1,5 +1,4 @@
 -- Blocks of steps: a block is filled place by place, and blocks run one behind the other.
-use mathlib.Core.Bool.{_&&_, Bool}
 use mathlib.Core.List.{_++_, List, [], _∷_}
 use mathlib.Core.Path.{_∙_, _≡_, ap, refl, subst, sym}
 use Prim.Native.Nat.{_+_, _≤_, suc, zero, ℕ}
@@ -38,43 +37,43 @@ take-more (suc k) m [] = take-nothing m ∙ sym (take-nothing (suc k + m))
 take-more (suc k) m (x ∷ l) = ap (λ t. x ∷ t) (take-more k m l) ∙ ap (λ i. take i (x ∷ l)) (sym (suc-add k m))
 
 -- what is known before a block is known behind it
-pub block-ready : (u : UsedRecord) (known : Bool) (k m : ℕ) (block : List Step) → m ≤ length block
-    → (before nb cs : List ℕ) (used : ℕ) (after : List ℕ) → WaitingRun known u (take m block) k before nb cs used after
-    → ReadyAt known k before u
-    → ReadyAt known (k + m) after (record { held = record { n = u .held .n; neighbours = nb; codes = cs }; used = used })
-block-ready u known k m block few before nb cs used after R K =
-    subst (λ j. ReadyAt known (k + j) after (record {
+pub block-ready : (u : UsedRecord) (k m : ℕ) (block : List Step) → m ≤ length block
+    → (before nb cs : List ℕ) (used : ℕ) (after : List ℕ) → WaitingRun u (take m block) k before nb cs used after
+    → ReadyAt k before u
+    → ReadyAt (k + m) after (record { held = record { n = u .held .n; neighbours = nb; codes = cs }; used = used })
+block-ready u k m block few before nb cs used after R K =
+    subst (λ j. ReadyAt (k + j) after (record {
       held = record { n = u .held .n; neighbours = nb; codes = cs };
       used = used;
     })) (length-take-le m block few) (R .ready K)
 
 -- ---- blocks one behind the other
 -- after k of the steps
-pub record RunTo (known : Bool) (u : UsedRecord) (steps : List Step) (count k : ℕ) (before nb cs : List ℕ) (used : ℕ) (mid : List ℕ)
+pub record RunTo (u : UsedRecord) (steps : List Step) (count k : ℕ) (before nb cs : List ℕ) (used : ℕ) (mid : List ℕ)
     : Type 0 where
   pub bound : k ≤ count
-  pub ran : WaitingRun known u (take k steps) 0 before nb cs used mid
+  pub ran : WaitingRun u (take k steps) 0 before nb cs used mid
 
-module _ (known : Bool) (u : UsedRecord) (steps : List Step) (count : ℕ) (before : List ℕ) where
-  pub run-none : RunTo known u steps count 0 before (u .held .neighbours) (u .held .codes) (u .used) before
-  run-none = record { bound = omega arith; ran = none-ran known u 0 before }
+module _ (u : UsedRecord) (steps : List Step) (count : ℕ) (before : List ℕ) where
+  pub run-none : RunTo u steps count 0 before (u .held .neighbours) (u .held .codes) (u .used) before
+  run-none = record { bound = omega arith; ran = none-ran u 0 before }
 
   -- a block more
   pub run-block-more : (k m : ℕ) → k + m ≤ count → count ≤ length steps → count ≤ length before → (block : List Step)
       → take m block ≡ take m (drop k steps) → (nb cs : List ℕ) (used : ℕ) (mid : List ℕ)
-      → RunTo known u steps count k before nb cs used mid → (nb′ cs′ : List ℕ) (used′ : ℕ) (after : List ℕ)
-      → WaitingRun known (record { held = record { n = u .held .n; neighbours = nb; codes = cs }; used = used }) (take m block) k mid
+      → RunTo u steps count k before nb cs used mid → (nb′ cs′ : List ℕ) (used′ : ℕ) (after : List ℕ)
+      → WaitingRun (record { held = record { n = u .held .n; neighbours = nb; codes = cs }; used = used }) (take m block) k mid
       nb′ cs′ used′ after
-      → RunTo known u steps count (k + m) before nb′ cs′ used′ after
+      → RunTo u steps count (k + m) before nb′ cs′ used′ after
   run-block-more k m few inside room block e nb cs used mid R nb′ cs′ used′ after S =
       record {
         bound = few;
-        ran = subst (λ t. WaitingRun known u t 0 before nb′ cs′ used′ after) (take-more k m steps)
-            (ran-on known u (take k steps) 0 before nb cs used mid (R .ran) (omega (arith, long)) (take m (drop k steps)) nb′ cs′
+        ran = subst (λ t. WaitingRun u t 0 before nb′ cs′ used′ after) (take-more k m steps)
+            (ran-on u (take k steps) 0 before nb cs used mid (R .ran) (omega (arith, long)) (take m (drop k steps)) nb′ cs′
             used′ after
-            (subst (λ t. WaitingRun known (record { held = record { n = u .held .n; neighbours = nb; codes = cs }; used = used }) t (0 + length (take k steps)) mid
+            (subst (λ t. WaitingRun (record { held = record { n = u .held .n; neighbours = nb; codes = cs }; used = used }) t (0 + length (take k steps)) mid
             nb′ cs′ used′ after) e
-            (subst (λ i. WaitingRun known (record { held = record { n = u .held .n; neighbours = nb; codes = cs }; used = used }) (take m block) i mid nb′ cs′ used′
+            (subst (λ i. WaitingRun (record { held = record { n = u .held .n; neighbours = nb; codes = cs }; used = used }) (take m block) i mid nb′ cs′ used′
             after) (sym (zero-add (length (take k steps)) ∙ long)) S)));
       }
     where
@@ -83,21 +82,21 @@ module _ (known : Bool) (u : UsedRecord) (steps : List Step) (count : ℕ) (befo
 
   -- all of them, and the record that is meant
   pub run-all : (k : ℕ) (nb cs : List ℕ) (used : ℕ) (mid : List ℕ) → count ≤ k → count ≤ length steps
-      → RunTo known u steps count k before nb cs used mid → (nb′ cs′ : List ℕ)
+      → RunTo u steps count k before nb cs used mid → (nb′ cs′ : List ℕ)
       → _≡_ {A = UsedRecord} (record { held = record { n = u .held .n; neighbours = nb′; codes = cs′ }; used = used })
-      (meant (known && markedBefore count mid) (record { held = record { n = u .held .n; neighbours = nb; codes = cs }; used = used }))
+      (meant (markedBefore count mid) (record { held = record { n = u .held .n; neighbours = nb; codes = cs }; used = used }))
       → LentRun u (take count steps) 0 before nb′ cs′ used mid
   run-all k nb cs used mid end inside R nb′ cs′ e =
-      last-settled known u (take count steps) count (length-take-le count steps inside) before nb cs used mid
-      (subst (λ i. WaitingRun known u (take i steps) 0 before nb cs used mid) (here k (R .bound) end) (R .ran)) nb′ cs′ e
+      last-settled u (take count steps) count (length-take-le count steps inside) before nb cs used mid
+      (subst (λ i. WaitingRun u (take i steps) 0 before nb cs used mid) (here k (R .bound) end) (R .ran)) nb′ cs′ e
     where
       here : (k : ℕ) → k ≤ count → count ≤ k → k ≡ count
       here k a b = omega (arith, a, b)
 
 -- all steps are run
-pub at-end : (known : Bool) (k count : ℕ) (answers : List ℕ) (u : UsedRecord) → k ≤ count → count ≤ k
-    → ReadyAt known k answers u → ReadyAt known count answers u
-at-end known k count answers u a b K = subst (λ i. ReadyAt known i answers u) same K
+pub at-end : (k count : ℕ) (answers : List ℕ) (u : UsedRecord) → k ≤ count → count ≤ k
+    → ReadyAt k answers u → ReadyAt count answers u
+at-end k count answers u a b K = subst (λ i. ReadyAt i answers u) same K
   where
     same : k ≡ count
     same = omega (arith, a, b)

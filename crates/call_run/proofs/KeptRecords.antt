@@ -1,9 +1,7 @@
 -- A step leaves a record that no line refuses, if it found one; and so do steps one after the other.
-use mathlib.Core.Bool.{Bool, false, true}
 use mathlib.Core.List.{List, [], _∷_}
 use mathlib.Core.Path.{_≡_, subst, sym}
 use native.Mathlib.Decide.{ℕ-discrete}
-use Rattle.call_gates.specs.internal.Knowing.{Known}
 use Rattle.jobs.proofs.Numbers.{accepted-leaves, accepted-number, refused-keeps}
 use Rattle.jobs.specs.Asked.{asked, numberOf}
 use Rattle.jobs.specs.Runs.{afterStep, run}
@@ -19,12 +17,7 @@ after-unrefused u U s = go (ℕ-discrete (numberOf u s) 0)
         (record { no-line = used-left u (asked s) (accepted-number u s z) .passes })
     go (no h) = subst UsedUnrefused (sym (refused-keeps u s h)) U
 
-run-unrefused : (u : UsedRecord) → UsedUnrefused u → (steps : List Step) → UsedUnrefused (run u steps)
+pub run-unrefused : (u : UsedRecord) → UsedUnrefused u → (steps : List Step) → UsedUnrefused (run u steps)
 unfolding run
 run-unrefused u U [] = U
 run-unrefused u U (s ∷ rest) = run-unrefused (afterStep u s) (after-unrefused u U s) rest
-
--- what is known of a record is known after the steps
-pub run-known : (u : UsedRecord) (known : Bool) → Known known u → (steps : List Step) → Known known (run u steps)
-run-known u false K steps = tt
-run-known u true K steps = run-unrefused u K steps

@@ -10,9 +10,9 @@ use base.Fml.{Fml, flft, fsep, ftrue}
 use base.Logic.{SProp, ent, ex, guard, id⊢, sep}
 use contract.Lifetimes.{Lfts, Shares}
 use contract.Monad.{Fun, fact}
-use denote.Builtin.{bool, u64, u8, usize}
+use denote.Builtin.{u64, u8, usize}
 use denote.Laws.{Is, shows}
-use denote.Plain.{bool-makes, uint-makes}
+use denote.Plain.{uint-makes}
 use denote.RattleType.{RattleType}
 use denote.Slice.{Room, ShrSlice, finally}
 use denote.Steps.{facts, heard, nothing, only, owned}
@@ -24,7 +24,7 @@ use denote.Triple.Statement.{Contract}
 use denote.Triple.Walked.{says}
 use ghost.Atoms.{Atoms, sem}
 use mir.Syntax.{named, w64}
-use mir.Val.{Val, vbool, vint}
+use mir.Val.{Val, vint}
 use prog.Memory.{Memory}
 use prog.Routine.{Routine}
 use prog.Wp.{Heap}
@@ -79,11 +79,11 @@ module _ (X : Passed) where
   record-lent = left (T .n) start
 
   abbrev pub Asks : Type 0
-  Asks = (T .place + length (L₂ .first) ≤ length (L₃ .first)) × ReadyAt (T .known) (T .place) (L₃ .first) record-lent
+  Asks = (T .place + length (L₂ .first) ≤ length (L₃ .first)) × ReadyAt (T .place) (L₃ .first) record-lent
 
   -- all steps were run, and the lists are y
   abbrev pub Ran : Now → Type 0
-  Ran y = WaitingRun (T .known) record-lent (L₂ .first) (T .place) (L₃ .first) (y .neighbours) (y .codes) (y .used) (y .answers)
+  Ran y = WaitingRun record-lent (L₂ .first) (T .place) (L₃ .first) (y .neighbours) (y .codes) (y .used) (y .answers)
 
   -- ---- the arguments, and their machine values
   abbrev pub κs : Lfts 4
@@ -97,7 +97,7 @@ module _ (X : Passed) where
     T .n,
     (
       ref u64 L₀ (L₀ .γ) (L₀ .first),
-      (ref u8 L₁ (L₁ .γ) (L₁ .first), (X .used, (T .known, (ref R L₂ (L₂ .γ) (L₂ .first), (T .place, (ref u8 L₃ (L₃ .γ) (L₃ .first), tt)))))),
+      (ref u8 L₁ (L₁ .γ) (L₁ .first), (X .used, (ref R L₂ (L₂ .γ) (L₂ .first), (T .place, (ref u8 L₃ (L₃ .γ) (L₃ .first), tt))))),
     ),
   )
 
@@ -106,13 +106,13 @@ module _ (X : Passed) where
     vint w64 (T .n) ∷ [],
     (
       val u64 L₀ ∷ [],
-      (val u8 L₁ ∷ [], (vint w64 (X .used) ∷ [], (vbool (T .known) ∷ [], (val R L₂ ∷ [], (vint w64 (T .place) ∷ [], (val u8 L₃ ∷ [], tt)))))),
+      (val u8 L₁ ∷ [], (vint w64 (X .used) ∷ [], (val R L₂ ∷ [], (vint w64 (T .place) ∷ [], (val u8 L₃ ∷ [], tt))))),
     ),
   )
 
   abbrev pub values : List Val
   values =
-      vint w64 (T .n) ∷ val u64 L₀ ∷ val u8 L₁ ∷ vint w64 (X .used) ∷ vbool (T .known) ∷ val R L₂ ∷ vint w64 (T .place) ∷ val u8 L₃ ∷ []
+      vint w64 (T .n) ∷ val u64 L₀ ∷ val u8 L₁ ∷ vint w64 (X .used) ∷ val R L₂ ∷ vint w64 (T .place) ∷ val u8 L₃ ∷ []
 
   -- they fit their types
   pub record Sized : Type 0 where
@@ -157,14 +157,14 @@ module _ (X : Passed) where
         qed W (map ‵ given-for) ∵ says ! asks $
         nothing ! $ move ! (4 ∷ 0 ∷ []) $ join ! $ move ! (3 ∷ 0 ∷ []) $ join ! $ move ! (2 ∷ 0 ∷ []) $ join ! $ move ! (1 ∷ 0 ∷ []) $ join ! $ frame ! $
         nothing ! $ move ! (4 ∷ 0 ∷ []) $ fjoin ! $ owned ! usize (Is usize) (uint-makes 𝓤 H A W w64) (T .place) _ (refl, G .place) $ fjoin ! $ move ! (3 ∷ 0 ∷ []) $ fjoin ! $
-        owned ! bool (Is bool) (bool-makes 𝓤 H A W) (T .known) _ refl $ fjoin ! $ owned ! u64 (Is u64) (uint-makes 𝓤 H A W w64) (X .used) _ (refl, G .used) $ fjoin ! $
+        owned ! u64 (Is u64) (uint-makes 𝓤 H A W w64) (X .used) _ (refl, G .used) $ fjoin ! $
         move ! (2 ∷ 0 ∷ []) $ fjoin ! $ move ! (1 ∷ 0 ∷ []) $ fjoin ! $ owned ! u64 (Is u64) (uint-makes 𝓤 H A W w64) (T .n) _ (refl, G .n) $ fjoin ! $ done !
 
     abbrev Ends : Type 0
-    Ends = Unit {0} × (List ℕ × (List ℕ × (Unit {0} × (Unit {0} × (Unit {0} × (Unit {0} × (List ℕ × Unit {0})))))))
+    Ends = Unit {0} × (List ℕ × (List ℕ × (Unit {0} × (Unit {0} × (Unit {0} × (List ℕ × Unit {0}))))))
 
     abbrev after : Ends → ℕ → Now
-    after ws r = record { neighbours = ws .1 .0; codes = ws .1 .1 .0; used = r; answers = ws .1 .1 .1 .1 .1 .1 .1 .0 }
+    after ws r = record { neighbours = ws .1 .0; codes = ws .1 .1 .0; used = r; answers = ws .1 .1 .1 .1 .1 .1 .0 }
 
     abbrev Said : ℕ → SProp 𝓤
     Said r = ensured 𝓤 H A run-lent.ended (run-lent.clauses 𝓤 H A mem run) κs args tt r
@@ -177,7 +177,7 @@ module _ (X : Passed) where
         use1 W (some (λ (ws : Ends). ‵ (lasts run-lent.ended κs args ws) ⊛ raw (fact 𝓤 (Ran (after ws r))))) (id⊢ 𝓤 _) $ pick ! (λ ws.
         split ! $ move ! (1 ∷ []) $ heard ! (Ran (after ws r)) (λ e. fsplit ! $ dropᴷ ! $ fsplit ! $ fsplit ! $
         move ! (1 ∷ []) $ feqL ! (λ e₀. move ! (1 ∷ []) $ fsplit ! $ fsplit ! $ move ! (1 ∷ []) $ feqL ! (λ e₁. move ! (1 ∷ []) $ fsplit ! $ dropᴷ ! $
-        fsplit ! $ dropᴷ ! $ fsplit ! $ dropᴷ ! $ fsplit ! $ dropᴷ ! $ fsplit ! $ fsplit ! $ move ! (1 ∷ []) $ feqL ! (λ e₃. move ! (4 ∷ []) $ split ! $
+        fsplit ! $ dropᴷ ! $ fsplit ! $ dropᴷ ! $ fsplit ! $ fsplit ! $ move ! (1 ∷ []) $ feqL ! (λ e₃. move ! (4 ∷ []) $ split ! $
         move ! (1 ∷ []) $ facts ! u64 (Is u64) (shows 𝓤 H A u64) r (v ∷ []) (λ is.
         split ! $ move ! (1 ∷ []) $ split ! $ move ! (1 ∷ []) $ split ! $ move ! (1 ∷ []) $ split ! $
         -- [the token of the answers; -; of the steps; of the codes; of the neighbours; the last answers; -; the last codes; the last neighbours]

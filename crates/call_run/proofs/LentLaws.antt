@@ -1,5 +1,5 @@
 -- Runs of lent steps, one behind the other: no step, one step, and steps behind steps.
-use mathlib.Core.Bool.{_&&_, Bool, false, true, true≢false}
+use mathlib.Core.Bool.{Bool}
 use mathlib.Core.List.{_++_, List, [], _∷_}
 use mathlib.Core.Path.{_∙_, _≡_, ap, refl, subst, sym}
 use Prim.Native.Nat.{_+_, _<_, _^_, _≤_, suc, ℕ}
@@ -7,20 +7,18 @@ use native.Mathlib.Omega.{arith}
 use lib.Dec.{leb}
 use lib.ListN.{getD, length, length-append, set, take}
 use lib.Seq.{length-take-le, take-all, take-suc}
-use Rattle.call_run.specs.internal.Waiting.{Standing, heldIn, meant, meantRecord}
+use Rattle.call_run.specs.internal.Waiting.{heldIn, meant, meantRecord}
 use Rattle.jobs.proofs.Stepwise.{run-qubits}
 use Rattle.jobs.specs.Runs.{afterStep, run}
 use Rattle.jobs.specs.declared.Answer.{Answer}
 use Rattle.jobs.specs.declared.Step.{Step}
-use Rattle.call_run.proofs.KeptRecords.{run-known}
+use Rattle.call_run.proofs.KeptRecords.{run-unrefused}
 use Rattle.call_run.specs.internal.StepRuns.{StepRun, WaitedStep, nextWaiting}
 use Rattle.buffers.proofs.Writing.{write-more, write-none, write-one}
 use Rattle.buffers.specs.Writing.{overwritten}
 use Rattle.operations.specs.Used.{UsedRecord, UsedUnrefused}
 use Rattle.call_run.proofs.MarkedSteps.{answers-append, last-kept, lastOf, mark-kept, small-answer}
 use Rattle.call_run.specs.internal.LentRuns.{
-  AnyStep,
-  Begun,
   LentRun,
   ReadyAt,
   WaitingRun,
@@ -105,112 +103,89 @@ module _ (u : UsedRecord) where
         }
 
 -- ---- runs on the record that waits
-module _ (known : Bool) where
-  -- the same run, counted otherwise
-  counted : (u : UsedRecord) (xs : List Step) (at : ℕ) (before nb cs : List ℕ) (used : ℕ) (after : List ℕ) (k : ℕ)
-      → k ≡ at + length xs
-      → LentRun (meant (known && markedBefore at before) u) xs at before
-      ((meantRecord (known && markedBefore k after) (heldIn u nb cs)) .neighbours)
-      ((meantRecord (known && markedBefore k after) (heldIn u nb cs)) .codes) used after
-      → (ReadyAt known at before u → ReadyAt known k after (record { held = heldIn u nb cs; used = used }))
-      → WaitingRun known u xs at before nb cs used after
-  counted u xs at before nb cs used after k e R K =
-      record {
-        ran = subst (λ k. LentRun (meant (known && markedBefore at before) u) xs at before
-            ((meantRecord (known && markedBefore k after) (heldIn u nb cs)) .neighbours)
-            ((meantRecord (known && markedBefore k after) (heldIn u nb cs)) .codes) used after) e R;
-        ready = λ T. subst (λ k. ReadyAt known k after (record { held = heldIn u nb cs; used = used })) e (K T);
-      }
+-- the same run, counted otherwise
+counted : (u : UsedRecord) (xs : List Step) (at : ℕ) (before nb cs : List ℕ) (used : ℕ) (after : List ℕ) (k : ℕ)
+    → k ≡ at + length xs
+    → LentRun (meant (markedBefore at before) u) xs at before
+    ((meantRecord (markedBefore k after) (heldIn u nb cs)) .neighbours)
+    ((meantRecord (markedBefore k after) (heldIn u nb cs)) .codes) used after
+    → (ReadyAt at before u → ReadyAt k after (record { held = heldIn u nb cs; used = used }))
+    → WaitingRun u xs at before nb cs used after
+counted u xs at before nb cs used after k e R K =
+    record {
+      ran = subst (λ k. LentRun (meant (markedBefore at before) u) xs at before
+          ((meantRecord (markedBefore k after) (heldIn u nb cs)) .neighbours)
+          ((meantRecord (markedBefore k after) (heldIn u nb cs)) .codes) used after) e R;
+      ready = λ T. subst (λ k. ReadyAt k after (record { held = heldIn u nb cs; used = used })) e (K T);
+    }
 
-  -- no step
-  pub none-ran : (u : UsedRecord) (at : ℕ) (before : List ℕ)
-      → WaitingRun known u [] at before (u .held .neighbours) (u .held .codes) (u .used) before
-  none-ran u at before = counted u [] at before _ _ _ before at (omega arith)
-      (none-lent (meant (known && markedBefore at before) u) at before) (λ K. K)
+-- no step
+pub none-ran : (u : UsedRecord) (at : ℕ) (before : List ℕ)
+    → WaitingRun u [] at before (u .held .neighbours) (u .held .codes) (u .used) before
+none-ran u at before = counted u [] at before _ _ _ before at (omega arith)
+    (none-lent (meant (markedBefore at before) u) at before) (λ K. K)
 
-  -- what is known after a step
-  module _ (u : UsedRecord) (s : Step) (at : ℕ) (before : List ℕ) (inside : at < length before) (r : Answer) (p : ℕ)
-      (e : p ≡ packed (nextWaiting (s .op) (r .refusal) (markedBefore at before)) r) (nb cs : List ℕ) (used : ℕ)
-      (A : AnyStep known (markedBefore at before) u s r nb cs used) where
-    abbrev v : UsedRecord
-    v = meant (known && markedBefore at before) u
+-- one step
+module _ (u : UsedRecord) (s : Step) (at : ℕ) (before : List ℕ) (inside : at < length before) (r : Answer) (p : ℕ)
+    (e : p ≡ packed (nextWaiting (s .op) (r .refusal) (markedBefore at before)) r) (nb cs : List ℕ) (used : ℕ)
+    (A : WaitedStep (markedBefore at before) u s r nb cs used) where
+  abbrev v : UsedRecord
+  v = meant (markedBefore at before) u
 
-    next : markedBefore (at + 1) (set before at p) ≡ nextWaiting (s .op) (r .refusal) (markedBefore at before)
-    next = mark-kept before at p inside (nextWaiting (s .op) (r .refusal) (markedBefore at before)) r
-        (small-answer v s r (A .run .answer)) e
+  next : markedBefore (at + 1) (set before at p) ≡ nextWaiting (s .op) (r .refusal) (markedBefore at before)
+  next = mark-kept before at p inside (nextWaiting (s .op) (r .refusal) (markedBefore at before)) r
+      (small-answer v s r (A .run .answer)) e
 
-    stepped : LentRun v (s ∷ []) at before
-        ((meantRecord (known && markedBefore (at + 1) (set before at p)) (heldIn u nb cs)) .neighbours)
-        ((meantRecord (known && markedBefore (at + 1) (set before at p)) (heldIn u nb cs)) .codes) used (set before at p)
-    stepped = subst (λ b. LentRun v (s ∷ []) at before ((meantRecord (known && b) (heldIn u nb cs)) .neighbours)
-        ((meantRecord (known && b) (heldIn u nb cs)) .codes) used (set before at p)) (sym next)
-        (one-lent v s at before inside r p e _ _ used (A .run))
+  stepped : LentRun v (s ∷ []) at before
+      ((meantRecord (markedBefore (at + 1) (set before at p)) (heldIn u nb cs)) .neighbours)
+      ((meantRecord (markedBefore (at + 1) (set before at p)) (heldIn u nb cs)) .codes) used (set before at p)
+  stepped = subst (λ b. LentRun v (s ∷ []) at before ((meantRecord b (heldIn u nb cs)) .neighbours)
+      ((meantRecord b (heldIn u nb cs)) .codes) used (set before at p)) (sym next)
+      (one-lent v s at before inside r p e _ _ used (A .run))
 
-  pub one-ran : (u : UsedRecord) (s : Step) (at : ℕ) (before : List ℕ) → at < length before → (r : Answer) (p : ℕ)
-      → p ≡ packed (nextWaiting (s .op) (r .refusal) (markedBefore at before)) r → (nb cs : List ℕ) (used : ℕ)
-      → AnyStep known (markedBefore at before) u s r nb cs used
-      → WaitingRun known u (s ∷ []) at before nb cs used (set before at p)
-  one-ran u s at before inside r p e nb cs used A =
-      counted u (s ∷ []) at before nb cs used (set before at p) (at + 1) refl (stepped u s at before inside r p e nb cs used A)
-      (λ K. record { begun = after known A (stepped u s at before inside r p e nb cs used A) (K .begun) })
-    where
-      after : (k : Bool) → AnyStep k (markedBefore at before) u s r nb cs used
-          → LentRun (meant (k && markedBefore at before) u) (s ∷ []) at before
-          ((meantRecord (k && markedBefore (at + 1) (set before at p)) (heldIn u nb cs)) .neighbours)
-          ((meantRecord (k && markedBefore (at + 1) (set before at p)) (heldIn u nb cs)) .codes) used (set before at p)
-          → Begun k (markedBefore at before) u
-          → Begun k (markedBefore (at + 1) (set before at p)) (record { held = heldIn u nb cs; used = used })
-      after false A L B = tt
-      after true A L B =
-          record {
-            sound = A .sound refl;
-            checked = subst UsedUnrefused (sym (left-is _ (s ∷ []) at before _ _ used (set before at p) L))
-                (run-known _ true (B .checked) (s ∷ []));
-          }
+  one-ran : WaitingRun u (s ∷ []) at before nb cs used (set before at p)
+  one-ran = counted u (s ∷ []) at before nb cs used (set before at p) (at + 1) refl stepped
+      (λ K. record {
+        standing = record {
+          sound = A .sound;
+          checked = subst UsedUnrefused (sym (left-is _ (s ∷ []) at before _ _ used (set before at p) stepped))
+              (run-unrefused _ (K .standing .checked) (s ∷ []));
+        };
+      })
 
-  -- further steps behind them
-  pub ran-on : (u : UsedRecord) (xs : List Step) (at : ℕ) (before nb cs : List ℕ) (used : ℕ) (mid : List ℕ)
-      → WaitingRun known u xs at before nb cs used mid → at + length xs ≤ length before → (ys : List Step)
-      → (nb′ cs′ : List ℕ) (used′ : ℕ) (after : List ℕ)
-      → WaitingRun known (record { held = record { n = u .held .n; neighbours = nb; codes = cs }; used = used }) ys (at + length xs)
-      mid nb′ cs′ used′ after
-      → WaitingRun known u (xs ++ ys) at before nb′ cs′ used′ after
-  ran-on u xs at before nb cs used mid R room ys nb′ cs′ used′ after S =
-      counted u (xs ++ ys) at before nb′ cs′ used′ after (at + length xs + length ys)
-      (omega (arith, length-append xs ys))
-      (lent-on _ xs at before _ _ used mid (R .ran) room ys _ _ used′ after (S .ran)) (λ K. S .ready (R .ready K))
+-- from what its calls answer
+pub turned : (waiting : Bool) (u : UsedRecord) (s : Step) (r : Answer) (nb cs : List ℕ) (used : ℕ) (at : ℕ)
+    (before : List ℕ) → at < length before → (marked : Bool) (p : ℕ) → waiting ≡ markedBefore at before
+    → marked ≡ nextWaiting (s .op) (r .refusal) waiting → p ≡ packed marked r → WaitedStep waiting u s r nb cs used
+    → WaitingRun u (s ∷ []) at before nb cs used (set before at p)
+turned waiting u s r nb cs used at before inside marked p ew em ep A = one-ran u s at before inside r p
+    (ep ∙ ap (λ b. packed b r) (em ∙ ap (nextWaiting (s .op) (r .refusal)) ew)) nb cs used
+    (subst (λ b. WaitedStep b u s r nb cs used) ew A)
 
--- ---- one step, from what its calls answer
-pub begun-true : (known waiting : Bool) (u : UsedRecord) → Begun known waiting u → known ≡ true → Standing waiting u
-begun-true known waiting u B e = subst (λ k. Begun k waiting u) e B
-
-module _ (known waiting : Bool) (u : UsedRecord) (s : Step) (r : Answer) (nb cs : List ℕ) (used : ℕ) where
-  pub any-waited : known ≡ true → WaitedStep waiting u s r nb cs used → AnyStep known waiting u s r nb cs used
-  any-waited e W = subst (λ k. AnyStep k waiting u s r nb cs used) (sym e) (record { sound = λ t. W .sound; run = W .run })
-
-  pub any-plain : known ≡ false → StepRun u s r nb cs used → AnyStep known waiting u s r nb cs used
-  any-plain e R = subst (λ k. AnyStep k waiting u s r nb cs used) (sym e)
-      (record { sound = λ t. absurd (true≢false (sym t)); run = R })
-
-  pub turned : (at : ℕ) (before : List ℕ) → at < length before → (marked : Bool) (p : ℕ) → waiting ≡ markedBefore at before
-      → marked ≡ nextWaiting (s .op) (r .refusal) waiting → p ≡ packed marked r → AnyStep known waiting u s r nb cs used
-      → WaitingRun known u (s ∷ []) at before nb cs used (set before at p)
-  turned at before inside marked p ew em ep A = one-ran known u s at before inside r p
-      (ep ∙ ap (λ b. packed b r) (em ∙ ap (nextWaiting (s .op) (r .refusal)) ew)) nb cs used
-      (subst (λ b. AnyStep known b u s r nb cs used) ew A)
+-- further steps behind them
+pub ran-on : (u : UsedRecord) (xs : List Step) (at : ℕ) (before nb cs : List ℕ) (used : ℕ) (mid : List ℕ)
+    → WaitingRun u xs at before nb cs used mid → at + length xs ≤ length before → (ys : List Step)
+    → (nb′ cs′ : List ℕ) (used′ : ℕ) (after : List ℕ)
+    → WaitingRun (record { held = record { n = u .held .n; neighbours = nb; codes = cs }; used = used }) ys (at + length xs)
+    mid nb′ cs′ used′ after
+    → WaitingRun u (xs ++ ys) at before nb′ cs′ used′ after
+ran-on u xs at before nb cs used mid R room ys nb′ cs′ used′ after S =
+    counted u (xs ++ ys) at before nb′ cs′ used′ after (at + length xs + length ys)
+    (omega (arith, length-append xs ys))
+    (lent-on _ xs at before _ _ used mid (R .ran) room ys _ _ used′ after (S .ran)) (λ K. S .ready (R .ready K))
 
 -- one step more of a list; `other` is what a list is read as past its end
-pub ran-next : (known : Bool) (u : UsedRecord) (steps : List Step) (k at : ℕ) (other : Step) → k < length steps
+pub ran-next : (u : UsedRecord) (steps : List Step) (k at : ℕ) (other : Step) → k < length steps
     → (before : List ℕ) → at + length steps ≤ length before → (nb cs : List ℕ) (used : ℕ) (mid : List ℕ)
-    → WaitingRun known u (take k steps) at before nb cs used mid
+    → WaitingRun u (take k steps) at before nb cs used mid
     → (nb′ cs′ : List ℕ) (used′ : ℕ) (after : List ℕ)
-    → WaitingRun known (record { held = record { n = u .held .n; neighbours = nb; codes = cs }; used = used })
+    → WaitingRun (record { held = record { n = u .held .n; neighbours = nb; codes = cs }; used = used })
     (getD steps k other ∷ []) (at + k) mid nb′ cs′ used′ after
-    → WaitingRun known u (take (suc k) steps) at before nb′ cs′ used′ after
-ran-next known u steps k at other inside before room nb cs used mid R nb′ cs′ used′ after S =
-    subst (λ t. WaitingRun known u t at before nb′ cs′ used′ after) (sym (take-suc steps k other inside))
-    (ran-on known u (take k steps) at before nb cs used mid R (omega (arith, long)) (getD steps k other ∷ []) nb′ cs′ used′ after
-    (subst (λ m. WaitingRun known (record { held = record { n = u .held .n; neighbours = nb; codes = cs }; used = used }) (getD steps k other ∷ []) (at + m) mid nb′ cs′ used′ after)
+    → WaitingRun u (take (suc k) steps) at before nb′ cs′ used′ after
+ran-next u steps k at other inside before room nb cs used mid R nb′ cs′ used′ after S =
+    subst (λ t. WaitingRun u t at before nb′ cs′ used′ after) (sym (take-suc steps k other inside))
+    (ran-on u (take k steps) at before nb cs used mid R (omega (arith, long)) (getD steps k other ∷ []) nb′ cs′ used′ after
+    (subst (λ m. WaitingRun (record { held = record { n = u .held .n; neighbours = nb; codes = cs }; used = used }) (getD steps k other ∷ []) (at + m) mid nb′ cs′ used′ after)
     (sym long) S))
   where
     long : length (take k steps) ≡ k
@@ -218,23 +193,23 @@ ran-next known u steps k at other inside before room nb cs used mid R nb′ cs�
 
 -- ---- the loop over a lent slice
 -- after k of the steps, with `rest` of them to run
-pub record Upto (known : Bool) (u : UsedRecord) (steps : List Step) (at : ℕ) (before : List ℕ) (rest k : ℕ) (nb cs : List ℕ) (used : ℕ)
+pub record Upto (u : UsedRecord) (steps : List Step) (at : ℕ) (before : List ℕ) (rest k : ℕ) (nb cs : List ℕ) (used : ℕ)
     (mid : List ℕ) : Type 0 where
   pub count : k + rest ≡ length steps
   pub fits : used < 2 ^ 64
-  pub ran : WaitingRun known u (take k steps) at before nb cs used mid
+  pub ran : WaitingRun u (take k steps) at before nb cs used mid
   pub neighbours-long : length nb ≡ length (u .held .neighbours)
   pub codes-long : length cs ≡ length (u .held .codes)
   pub answers-long : length mid ≡ length before
 
-module _ (known : Bool) (u : UsedRecord) (steps : List Step) (at : ℕ) (before : List ℕ) where
+module _ (u : UsedRecord) (steps : List Step) (at : ℕ) (before : List ℕ) where
   pub upto-none : u .used < 2 ^ 64
-      → Upto known u steps at before (length steps) 0 (u .held .neighbours) (u .held .codes) (u .used) before
+      → Upto u steps at before (length steps) 0 (u .held .neighbours) (u .held .codes) (u .used) before
   upto-none fits =
       record {
         count = omega arith;
         fits = fits;
-        ran = none-ran known u at before;
+        ran = none-ran u at before;
         neighbours-long = refl;
         codes-long = refl;
         answers-long = refl;
@@ -242,34 +217,34 @@ module _ (known : Bool) (u : UsedRecord) (steps : List Step) (at : ℕ) (before 
 
   module _ (rest k : ℕ) (nb cs : List ℕ) (used : ℕ) (mid : List ℕ) where
     -- a step more
-    pub upto-next : Upto known u steps at before (suc rest) k nb cs used mid → at + length steps ≤ length before → (other : Step)
+    pub upto-next : Upto u steps at before (suc rest) k nb cs used mid → at + length steps ≤ length before → (other : Step)
         → (nb′ cs′ : List ℕ) (used′ : ℕ) (after : List ℕ) → used′ < 2 ^ 64 → length nb′ ≡ length nb → length cs′ ≡ length cs
         → length after ≡ length mid
-        → WaitingRun known (record { held = record { n = u .held .n; neighbours = nb; codes = cs }; used = used })
+        → WaitingRun (record { held = record { n = u .held .n; neighbours = nb; codes = cs }; used = used })
         (getD steps k other ∷ []) (at + k) mid nb′ cs′ used′ after
-        → Upto known u steps at before rest (suc k) nb′ cs′ used′ after
+        → Upto u steps at before rest (suc k) nb′ cs′ used′ after
     upto-next U room other nb′ cs′ used′ after fits n c a R =
         record {
           count = omega (arith, U .count);
           fits = fits;
-          ran = ran-next known u steps k at other (omega (arith, U .count)) before room nb cs used mid (U .ran) nb′ cs′ used′ after R;
+          ran = ran-next u steps k at other (omega (arith, U .count)) before room nb cs used mid (U .ran) nb′ cs′ used′ after R;
           neighbours-long = n ∙ U .neighbours-long;
           codes-long = c ∙ U .codes-long;
           answers-long = a ∙ U .answers-long;
         }
 
     -- what a step asks
-    pub upto-asks : Upto known u steps at before (suc rest) k nb cs used mid → at + length steps ≤ length before
-        → ReadyAt known at before u
+    pub upto-asks : Upto u steps at before (suc rest) k nb cs used mid → at + length steps ≤ length before
+        → ReadyAt at before u
         → (at + k < length mid)
-        × ReadyAt known (at + k) mid (record { held = record { n = u .held .n; neighbours = nb; codes = cs }; used = used })
+        × ReadyAt (at + k) mid (record { held = record { n = u .held .n; neighbours = nb; codes = cs }; used = used })
     upto-asks U room K = (
       omega (arith, U .count, U .answers-long),
-      subst (λ m. ReadyAt known (at + m) mid (record { held = record { n = u .held .n; neighbours = nb; codes = cs }; used = used }))
+      subst (λ m. ReadyAt (at + m) mid (record { held = record { n = u .held .n; neighbours = nb; codes = cs }; used = used }))
           (length-take-le k steps (omega (arith, U .count)))
           (U .ran .ready K),
     )
 
     -- all of them
-    pub upto-all : Upto known u steps at before 0 k nb cs used mid → WaitingRun known u steps at before nb cs used mid
-    upto-all U = subst (λ t. WaitingRun known u t at before nb cs used mid) (take-all k steps (omega (arith, U .count))) (U .ran)
+    pub upto-all : Upto u steps at before 0 k nb cs used mid → WaitingRun u steps at before nb cs used mid
+    upto-all U = subst (λ t. WaitingRun u t at before nb cs used mid) (take-all k steps (omega (arith, U .count))) (U .ran)

@@ -1,18 +1,17 @@
 // Runs the steps of a lent slice on a lent record in place, and keeps what each answers as one number.
 use crate::steps::run_step;
-use crate::steps::wait_step;
 use crate::waiting::settle_waiting;
 use jobs::Answer;
 use jobs::Op;
 use jobs::Step;
-ghost use mathlib.Core.Bool.{_&&_, cond};
+ghost use mathlib.Core.Bool.{cond};
 ghost use mathlib.Core.List.{[], _∷_};
 ghost use mathlib.Core.Path.{_≡_};
 ghost use Prim.Native.Nat.{_+_, _<_, _≤_};
 ghost use lib.ListN.{length, take};
 ghost use Rattle.call_run.specs.internal.Waiting.{meant};
 ghost use Rattle.call_run.specs.internal.StepRuns.{leavesReduced, nextWaiting};
-ghost use Rattle.call_run.specs.internal.LentRuns.{AnyStep, Begun, ReadyAt, SmallAnswer, WaitingRun};
+ghost use Rattle.call_run.specs.internal.LentRuns.{ReadyAt, SmallAnswer, WaitingRun};
 ghost use Rattle.call_run.specs.internal.LentRuns.{markedBefore, packed};
 
 // Whether the operation, if it is accepted, leaves a reduced record.
@@ -65,31 +64,6 @@ fn marked_before(answers: &[u8], place: usize) -> bool
     128 <= answers[place - 1]
 }
 
-// One step. `known`: no line refuses the record that is meant; `waiting`: that is the reduced one of its group.
-fn any_step(
-    n: u64,
-    neighbours: &mut [u64],
-    codes: &mut [u8],
-    used: &mut u64,
-    s: Step,
-    known: bool,
-    waiting: bool,
-) -> Answer
-    requires { ⌜ Begun known waiting (record {
-      held = record { n = n; neighbours = now neighbours; codes = now codes };
-      used = now used;
-    }) ⌝ }
-    ensures { λ r. ⌜ AnyStep known waiting (record {
-      held = record { n = n; neighbours = now (neighbours .entry); codes = now (codes .entry) };
-      used = now (used .entry);
-    }) s r (now (neighbours .exit)) (now (codes .exit)) (now (used .exit)) ⌝ }
-{
-    if known {
-        return wait_step(n, neighbours, codes, used, s, waiting);
-    }
-    run_step(n, neighbours, codes, used, s, false, false)
-}
-
 // One step: what it answers is kept at place at + k, and the used word after it is the result. What is kept at the place
 // before it tells whether the record waits to be reduced.
 pub fn turn(
@@ -97,17 +71,16 @@ pub fn turn(
     neighbours: &mut [u64],
     codes: &mut [u8],
     used: u64,
-    known: bool,
     s: Step,
     at: usize,
     k: usize,
     answers: &mut [u8],
 ) -> u64
-    requires { ⌜ (at + k < length (now answers)) × ReadyAt known (at + k) (now answers) (record {
+    requires { ⌜ (at + k < length (now answers)) × ReadyAt (at + k) (now answers) (record {
       held = record { n = n; neighbours = now neighbours; codes = now codes };
       used = used;
     }) ⌝ }
-    ensures { λ r. ⌜ WaitingRun known (record {
+    ensures { λ r. ⌜ WaitingRun (record {
       held = record { n = n; neighbours = now (neighbours .entry); codes = now (codes .entry) };
       used = used;
     }) (s ∷ []) (at + k) (now (answers .entry)) (now (neighbours .exit)) (now (codes .exit)) r (now (answers .exit)) ⌝ }
@@ -115,7 +88,7 @@ pub fn turn(
     let mut word = used;
     let place = at + k;
     let waiting = marked_before(answers, place);
-    let r = any_step(n, neighbours, codes, &mut word, s, known, waiting);
+    let r = run_step(n, neighbours, codes, &mut word, s, waiting);
     let op = s.op;
     let marked = next_waiting(op, r.refusal, waiting);
     answers[place] = pack(marked, r);
@@ -128,16 +101,15 @@ pub fn run_lent(
     neighbours: &mut [u64],
     codes: &mut [u8],
     used: u64,
-    known: bool,
     steps: &[Step],
     at: usize,
     answers: &mut [u8],
 ) -> u64
-    requires { ⌜ (at + length (now steps) ≤ length (now answers)) × ReadyAt known at (now answers) (record {
+    requires { ⌜ (at + length (now steps) ≤ length (now answers)) × ReadyAt at (now answers) (record {
       held = record { n = n; neighbours = now neighbours; codes = now codes };
       used = used;
     }) ⌝ }
-    ensures { λ r. ⌜ WaitingRun known (record {
+    ensures { λ r. ⌜ WaitingRun (record {
       held = record { n = n; neighbours = now (neighbours .entry); codes = now (codes .entry) };
       used = used;
     }) (now (steps .entry)) at (now (answers .entry)) (now (neighbours .exit)) (now (codes .exit)) r
@@ -146,7 +118,7 @@ pub fn run_lent(
     let mut word = used;
     let mut k = 0;
     while k < steps.len() {
-        word = turn(n, neighbours, codes, word, known, steps[k], at, k, answers);
+        word = turn(n, neighbours, codes, word, steps[k], at, k, answers);
         k += 1;
     }
     word
@@ -158,32 +130,22 @@ pub fn run_block(
     neighbours: &mut [u64],
     codes: &mut [u8],
     used: u64,
-    known: bool,
     steps: [Step; 64],
     count: usize,
     at: usize,
     answers: &mut [u8],
 ) -> u64
-    requires { ⌜ (count ≤ 64) × ((at + count ≤ length (now answers)) × ReadyAt known at (now answers) (record {
+    requires { ⌜ (count ≤ 64) × ((at + count ≤ length (now answers)) × ReadyAt at (now answers) (record {
       held = record { n = n; neighbours = now neighbours; codes = now codes };
       used = used;
     })) ⌝ }
-    ensures { λ r. ⌜ WaitingRun known (record {
+    ensures { λ r. ⌜ WaitingRun (record {
       held = record { n = n; neighbours = now (neighbours .entry); codes = now (codes .entry) };
       used = used;
     }) (take count steps) at (now (answers .entry)) (now (neighbours .exit)) (now (codes .exit)) r
         (now (answers .exit)) ⌝ }
 {
-    run_lent(
-        n,
-        neighbours,
-        codes,
-        used,
-        known,
-        &steps[..count],
-        at,
-        answers,
-    )
+    run_lent(n, neighbours, codes, used, &steps[..count], at, answers)
 }
 
 // The first steps of a job, lent whole.
@@ -192,32 +154,22 @@ pub fn run_steps(
     neighbours: &mut [u64],
     codes: &mut [u8],
     used: u64,
-    known: bool,
     steps: [Step; 4096],
     count: usize,
     at: usize,
     answers: &mut [u8],
 ) -> u64
-    requires { ⌜ (count ≤ 4096) × ((at + count ≤ length (now answers)) × ReadyAt known at (now answers) (record {
+    requires { ⌜ (count ≤ 4096) × ((at + count ≤ length (now answers)) × ReadyAt at (now answers) (record {
       held = record { n = n; neighbours = now neighbours; codes = now codes };
       used = used;
     })) ⌝ }
-    ensures { λ r. ⌜ WaitingRun known (record {
+    ensures { λ r. ⌜ WaitingRun (record {
       held = record { n = n; neighbours = now (neighbours .entry); codes = now (codes .entry) };
       used = used;
     }) (take count steps) at (now (answers .entry)) (now (neighbours .exit)) (now (codes .exit)) r
         (now (answers .exit)) ⌝ }
 {
-    run_lent(
-        n,
-        neighbours,
-        codes,
-        used,
-        known,
-        &steps[..count],
-        at,
-        answers,
-    )
+    run_lent(n, neighbours, codes, used, &steps[..count], at, answers)
 }
 
 // The record that is meant after the steps, in the buffers.
@@ -226,24 +178,21 @@ pub fn settle_last(
     neighbours: &mut [u64],
     codes: &mut [u8],
     used: u64,
-    known: bool,
     place: usize,
     answers: &[u8],
 )
-    requires { ⌜ (place ≤ length (now answers)) × ReadyAt known place (now answers) (record {
+    requires { ⌜ (place ≤ length (now answers)) × ReadyAt place (now answers) (record {
       held = record { n = n; neighbours = now neighbours; codes = now codes };
       used = used;
     }) ⌝ }
     ensures { λ r. ⌜ record {
       held = record { n = n; neighbours = now (neighbours .exit); codes = now (codes .exit) };
       used = used;
-    } ≡ meant (known && markedBefore place (now (answers .entry))) (record {
+    } ≡ meant (markedBefore place (now (answers .entry))) (record {
       held = record { n = n; neighbours = now (neighbours .entry); codes = now (codes .entry) };
       used = used;
     }) ⌝ }
 {
     let waiting = marked_before(answers, place);
-    if known {
-        settle_waiting(n, neighbours, codes, used, waiting);
-    }
+    settle_waiting(n, neighbours, codes, used, waiting);
 }

@@ -8,7 +8,7 @@ mod waiting;
 use crate::checks::one_other_than;
 use crate::checks::run_refusal;
 use crate::checks::unpack;
-use crate::numbers::run_known;
+use crate::numbers::run_numbers;
 ghost use Rattle.buffers.specs.Calls.{Call};
 ghost use Rattle.calls.specs.Runs.{runCall};
 
@@ -48,12 +48,11 @@ pub fn run(
     if early != 0 {
         return early;
     }
-    let next = run_known(
+    let next = run_numbers(
         n,
         neighbours,
         codes,
         word,
-        true,
         count,
         ops,
         a,

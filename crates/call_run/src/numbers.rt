@@ -8,10 +8,10 @@ use jobs::op_of;
 ghost use mathlib.Core.Path.{_≡_};
 ghost use Prim.Native.Nat.{_+_, _≤_};
 ghost use lib.ListN.{drop, length, take};
-ghost use Rattle.call_gates.specs.internal.Knowing.{Known};
 ghost use Rattle.jobs.specs.Parallel.{stepIn, stepsIn};
 ghost use Rattle.jobs.specs.internal.Parallel.{OneLength};
 ghost use Rattle.call_run.specs.internal.LentRuns.{LentRun};
+ghost use Rattle.operations.specs.Used.{UsedUnrefused};
 
 // Step k of the slices.
 fn step_at(ops: &[u8], a: &[u16], b: &[u16], value: &[u16], k: usize) -> Step
@@ -68,15 +68,13 @@ fn block_length(left: usize) -> usize
     64
 }
 
-// The first steps of the slices, on a record in place. `known`: no line of the record alone holds; a step leaves a record of
-// which that is so, and none looks at these lines again. What step k answers is kept at place k, and the used word after
-// the last is the result.
-pub fn run_known(
+// The first steps of the slices, on a record in place that no line refuses. A step leaves such a record, and none looks at
+// its lines again. What step k answers is kept at place k, and the used word after the last is the result.
+pub fn run_numbers(
     n: u64,
     neighbours: &mut [u64],
     codes: &mut [u8],
     used: u64,
-    known: bool,
     count: usize,
     ops: &[u8],
     a: &[u16],
@@ -85,7 +83,7 @@ pub fn run_known(
     answers: &mut [u8],
 ) -> u64
     requires { ⌜ (count ≤ length (now ops)) × (count ≤ length (now answers))
-        × OneLength (now ops) (now a) (now b) (now value) × Known known (record {
+        × OneLength (now ops) (now a) (now b) (now value) × UsedUnrefused (record {
           held = record { n = n; neighbours = now neighbours; codes = now codes };
           used = used;
         }) ⌝ }
@@ -100,9 +98,9 @@ pub fn run_known(
     while k < count {
         let m = block_length(count - k);
         let block = block_at(ops, a, b, value, k, m);
-        word = run_block(n, neighbours, codes, word, known, block, m, k, answers);
+        word = run_block(n, neighbours, codes, word, block, m, k, answers);
         k += m;
     }
-    settle_last(n, neighbours, codes, word, known, count, answers);
+    settle_last(n, neighbours, codes, word, count, answers);
     word
 }

@@ -4,157 +4,14 @@ use crate::waiting::cz_waiting;
 use crate::waiting::gate_waiting;
 use crate::waiting::measure_waiting;
 use crate::waiting::pivot_waiting;
-use call_gates::complement::complement_known;
-use call_gates::complement::pivot_known;
-use call_gates::cz_known;
-use call_gates::gate_known;
-use call_gates::known_refusal;
-use call_gates::measure::measure_known;
 use jobs::Answer;
 use jobs::Op;
 use jobs::Step;
 use jobs::unused_set;
 use jobs::wrong_value;
 ghost use Prim.Native.Nat.{_%_, _+_, _/_, _<_};
-ghost use Rattle.buffers.specs.Calls.{Call};
-ghost use Rattle.jobs.specs.Asked.{operationOf};
-ghost use Rattle.calls.specs.InPlace.{usedCall, usedMeasureCall};
-ghost use Rattle.call_gates.specs.internal.Knowing.{Known};
-ghost use Rattle.operations_gates.specs.internal.Settled.{Settled};
 ghost use Rattle.call_run.specs.internal.Waiting.{MeasuredStep, Standing};
-ghost use Rattle.call_run.specs.internal.StepRuns.{Rewriting, StepRun, WaitedCall, WaitedStep};
-
-// A measurement with the value 2 × (Pauli − 1) + outcome. A refused one answers 0 and 0.
-fn run_measurement(
-    n: u64,
-    neighbours: &mut [u64],
-    codes: &mut [u8],
-    used: &mut u64,
-    qubit: u64,
-    value: u16,
-    known: bool,
-) -> Answer
-    requires { ⌜ value < 6 ⌝ }
-    requires { ⌜ Known known (record {
-      held = record { n = n; neighbours = now neighbours; codes = now codes };
-      used = now used;
-    }) ⌝ }
-    ensures { λ r. ⌜ Call (usedMeasureCall (record {
-      held = record { n = n; neighbours = now (neighbours .entry); codes = now (codes .entry) };
-      used = now (used .entry);
-    }) (value / 2 + 1) qubit (value % 2) 0 0 (now (neighbours .exit)) (now (codes .exit))
-        (now (used .exit)) (r .outcome) (r .determined)) (r .refusal) ⌝ }
-{
-    let pauli = (value / 2 + 1) as u8;
-    let bit = (value % 2) as u8;
-    let mut outcome = 0;
-    let mut determined = 0;
-    let refusal = measure_known(
-        n,
-        neighbours,
-        codes,
-        used,
-        pauli,
-        qubit,
-        bit,
-        &mut outcome,
-        &mut determined,
-        known,
-    );
-    Answer {
-        refusal,
-        outcome,
-        determined,
-    }
-}
-
-// The operations without outcome, by the calls.
-fn rewrite(
-    n: u64,
-    neighbours: &mut [u64],
-    codes: &mut [u8],
-    used: u64,
-    op: Op,
-    a: u64,
-    b: u64,
-    value: u16,
-    known: bool,
-    settled: bool,
-) -> u8
-    requires { ⌜ Rewriting op value ⌝ }
-    requires { ⌜ Known known (record {
-      held = record { n = n; neighbours = now neighbours; codes = now codes };
-      used = used;
-    }) ⌝ }
-    requires { ⌜ Settled settled (now neighbours) (now codes) ⌝ }
-    ensures { λ r. ⌜ Call (usedCall (record {
-      held = record { n = n; neighbours = now (neighbours .entry); codes = now (codes .entry) };
-      used = used;
-    }) (operationOf op a b value) (now (neighbours .exit)) (now (codes .exit))) r ⌝ }
-{
-    match op {
-        Op::Gate => gate_known(n, neighbours, codes, used, a, value as u8, known, settled),
-        Op::Cz => cz_known(n, neighbours, codes, used, a, b, known, settled),
-        Op::Complement => complement_known(n, neighbours, codes, used, a, known),
-        Op::Pivot => pivot_known(n, neighbours, codes, used, a, b, known),
-        Op::Measure => 0,
-    }
-}
-
-// One step: its refusal, outcome and determined, and the record as it leaves it. `known`: no line refuses the
-// record; `settled`: it is reduced.
-pub fn run_step(
-    n: u64,
-    neighbours: &mut [u64],
-    codes: &mut [u8],
-    used: &mut u64,
-    s: Step,
-    known: bool,
-    settled: bool,
-) -> Answer
-    requires { ⌜ Known known (record {
-      held = record { n = n; neighbours = now neighbours; codes = now codes };
-      used = now used;
-    }) ⌝ }
-    requires { ⌜ Settled settled (now neighbours) (now codes) ⌝ }
-    ensures { λ r. ⌜ StepRun (record {
-      held = record { n = n; neighbours = now (neighbours .entry); codes = now (codes .entry) };
-      used = now (used .entry);
-    }) s r (now (neighbours .exit)) (now (codes .exit)) (now (used .exit)) ⌝ }
-{
-    let op = s.op;
-    let value = s.value;
-    let word = *used;
-    if unused_set(op, s.b, value) | wrong_value(op, value) {
-        let wrong = known_refusal(n, neighbours, codes, word, true, known);
-        return Answer {
-            refusal: wrong,
-            outcome: 0,
-            determined: 0,
-        };
-    }
-    let a = s.a as u64;
-    if let Op::Measure = op {
-        return run_measurement(n, neighbours, codes, used, a, value, known);
-    }
-    let refusal = rewrite(
-        n,
-        neighbours,
-        codes,
-        word,
-        op,
-        a,
-        s.b as u64,
-        value,
-        known,
-        settled,
-    );
-    Answer {
-        refusal,
-        outcome: 0,
-        determined: 0,
-    }
-}
+ghost use Rattle.call_run.specs.internal.StepRuns.{Rewriting, WaitedCall, WaitedStep};
 
 // A measurement with the value 2 × (Pauli − 1) + outcome, on a record that may wait to be reduced.
 fn measure_value(
@@ -183,7 +40,7 @@ fn measure_value(
 }
 
 // The operations without outcome, on a record that may wait to be reduced.
-fn rewrite_waiting(
+fn rewrite(
     n: u64,
     neighbours: &mut [u64],
     codes: &mut [u8],
@@ -214,7 +71,7 @@ fn rewrite_waiting(
 }
 
 // One step on a record that no line refuses. `waiting`: it stands for the reduced record of its group.
-pub fn wait_step(
+pub fn run_step(
     n: u64,
     neighbours: &mut [u64],
     codes: &mut [u8],
@@ -245,7 +102,7 @@ pub fn wait_step(
     if let Op::Measure = op {
         return measure_value(n, neighbours, codes, used, a, value, waiting);
     }
-    let refusal = rewrite_waiting(
+    let refusal = rewrite(
         n,
         neighbours,
         codes,

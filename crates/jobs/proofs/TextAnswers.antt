@@ -2,12 +2,12 @@
 use mathlib.Core.Bool.{Bool, cond, false, not, true, true≢false}
 use mathlib.Core.List.{List, []}
 use mathlib.Core.Path.{_∙_, _≡_, ap, ap₂, refl, subst, sym}
-use Prim.Native.Nat.{_<_, _≤_, ℕ}
+use Prim.Native.Nat.{_<_, _≤_, suc, zero, ℕ}
 use native.Mathlib.Decide.{ℕ-discrete}
 use native.Mathlib.Omega.{arith}
 use lib.Dec.{eqb, lit<, ltb}
 use lib.ListN.{length, take}
-use borrow.Author.Tests.{eq-eqb, ltb-false, ne-eqb}
+use borrow.Author.Tests.{eq-eqb, eqb-false, ltb-false, ne-eqb}
 use Rattle.buffers.proofs.Lines.{first-below, not-held}
 use Rattle.buffers.specs.Refusals.{badCount, firstFitting}
 use Rattle.text.specs.Text.{refusedText}
@@ -28,13 +28,18 @@ verdict-small s = first-below 100 (textLines (atLine (s .place)) (s .n) (s .coun
     (lit< tt, (lit< tt, (lit< tt, tt)))
 
 -- a job that no line refuses is small
-lines-pass : (n count : ℕ) → firstFitting (jobLines n count) ≡ 0 → (n ≤ 64) × (count ≤ 4096)
+lines-pass : (n count : ℕ) → firstFitting (jobLines n count) ≡ 0 → (1 ≤ n) × (n ≤ 64) × (count ≤ 4096)
 lines-pass n count e =
     let h15 = not-held 14 (ltb 4096 count) _ e in
     let h2 = not-held 1 (badCount n) [] (h15 .1) in
-    (ltb-false 64 n (neither (eqb n 0) (ltb 64 n) (h2 .0) .1), ltb-false 4096 count (h15 .0))
+    let sized = neither (eqb n 0) (ltb 64 n) (h2 .0) in
+    (some n (sized .0), ltb-false 64 n (sized .1), ltb-false 4096 count (h15 .0))
+  where
+    some : (n : ℕ) → eqb n 0 ≡ false → 1 ≤ n
+    some zero f = absurd (eqb-false 0 0 f refl)
+    some (suc n) f = omega arith
 
-pub accepted-small : (s : Scan) → verdict s ≡ 0 → (s .n ≤ 64) × (s .count ≤ 4096)
+pub accepted-small : (s : Scan) → verdict s ≡ 0 → (1 ≤ s .n) × (s .n ≤ 64) × (s .count ≤ 4096)
 unfolding verdict
 accepted-small s e = lines-pass (s .n) (s .count) (not-held 0 (not (atLine (s .place))) _ e .1)
 
@@ -65,7 +70,7 @@ module _ (t : List ℕ) (w : Reading) (scanned : w ≡ fed empty t) where
         malformed = λ none. absurd (differ (sym z ∙ number .malformed none));
         formed = λ n steps T. let e = sym (number .formed n steps T) ∙ z in
             ap₂ runText (judged .job n steps T .qubits)
-            (steps-few n steps w (judged .job n steps T) (lines-pass n (length steps) e .1))
+            (steps-few n steps w (judged .job n steps T) (lines-pass n (length steps) e .2))
             ∙ sym (ap (λ b. cond b (runText n steps) (refusedText (firstFitting (jobLines n (length steps)))))
             (eq-eqb (firstFitting (jobLines n (length steps))) 0 e));
       }

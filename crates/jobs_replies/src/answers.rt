@@ -1,6 +1,5 @@
 // Answers the text of a job that was scanned: runs its steps, and prints what each answers and the record after the
 // last; or a refusal.
-use call_gates::known_refusal;
 use call_run::lent::run_steps;
 use call_run::lent::settle_last;
 use jobs::Step;
@@ -19,6 +18,7 @@ ghost use Rattle.jobs.specs.Answer.{ResponseTo, runText};
 ghost use Rattle.jobs.specs.Results.{resultLines, resultNames};
 ghost use Rattle.jobs.specs.internal.Scan.{asReading, empty, fed};
 ghost use Rattle.call_run.specs.internal.LentRuns.{LentRun};
+ghost use Rattle.operations.specs.Used.{UsedUnrefused};
 ghost use Rattle.jobs_replies.specs.internal.Room.{Fresh, resultIn};
 ghost use Rattle.jobs_replies.specs.Room.{linesRoom, longest};
 
@@ -38,8 +38,8 @@ fn print_results(count: usize, answers: &[u8], out: &mut [u8]) -> usize
     at
 }
 
-// The first steps, lent to the runner. Nothing is known of the record before: its lines are looked at once. What step k
-// answers is kept at place k, and the used word after the last is the result.
+// The first steps, lent to the runner, on a record that no line refuses. What step k answers is kept at place k, and the used
+// word after the last is the result.
 fn run(
     n: u64,
     neighbours: &mut [u64],
@@ -48,16 +48,18 @@ fn run(
     count: usize,
     answers: &mut [u8],
 ) -> u64
-    requires { ⌜ (count ≤ 4096) × (count ≤ length (now answers)) ⌝ }
+    requires { ⌜ (count ≤ 4096) × (count ≤ length (now answers)) × UsedUnrefused (record {
+      held = record { n = n; neighbours = now neighbours; codes = now codes };
+      used = 0;
+    }) ⌝ }
     ensures { λ r. ⌜ LentRun (record {
       held = record { n = n; neighbours = now (neighbours .entry); codes = now (codes .entry) };
       used = 0;
     }) (take count steps) 0 (now (answers .entry)) (now (neighbours .exit)) (now (codes .exit)) r
         (now (answers .exit)) ⌝ }
 {
-    let known = known_refusal(n, neighbours, codes, 0, false, false) == 0;
-    let used = run_steps(n, neighbours, codes, 0, known, steps, count, 0, answers);
-    settle_last(n, neighbours, codes, used, known, count, answers);
+    let used = run_steps(n, neighbours, codes, 0, steps, count, 0, answers);
+    settle_last(n, neighbours, codes, used, count, answers);
     used
 }
 
@@ -81,7 +83,7 @@ fn print_run(
 
 // Prints the answer to a job, whose steps stand at the start of the array.
 fn answer(n: usize, steps: [Step; 4096], count: usize, out: &mut [u8]) -> usize
-    requires { ⌜ (n ≤ 64) × (count ≤ 4096) × (longest ≤ length (now out)) ⌝ }
+    requires { ⌜ (1 ≤ n) × (n ≤ 64) × (count ≤ 4096) × (longest ≤ length (now out)) ⌝ }
     ensures { λ r. ⌜ Printed (runText n (take count steps)) 0 (now (out .entry)) (now (out .exit)) r ⌝ }
 {
     let mut neighbours = [0u64; 64];

@@ -8,11 +8,11 @@ pub mod LookedAt
 pub mod MarkedBytes
 pub mod PackedBytes
 pub mod ReachedSets
-pub mod SettledRecords
 pub mod SettlingLoop
 pub mod SignBuffers
 pub mod SuspectCodes
 pub mod SuspectSteps
+pub mod TouchedRecords
 pub mod TurnedRows
 pub mod UnsettledGroups
 pub mod Untouched

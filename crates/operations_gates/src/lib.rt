@@ -31,46 +31,32 @@ pub fn gate_code(codes: &mut [u8], q: usize, k: u8)
 }
 
 // Gate: code k after the code held at q, and the reduced record. Before it `touched` has every vertex that is out of place,
-// `suspected` every one with a code that is odd, or 8 or more; the gate touches q.
-pub fn gate_record(
-    neighbours: &mut [u64],
-    codes: &mut [u8],
-    q: usize,
-    k: u8,
-    touched: u64,
-    suspected: u64,
-)
+// and every one with a code that is odd, or 8 or more; the gate touches q.
+pub fn gate_record(neighbours: &mut [u64], codes: &mut [u8], q: usize, k: u8, touched: u64)
     requires { ⌜ Unrefused (recordIn (now neighbours) (now codes)) ⌝ }
     requires { ⌜ (q < length (now neighbours)) × (k < 24) ⌝ }
-    requires { ⌜ Suspected (now neighbours) (now codes) suspected × Watched (now neighbours) (now codes) touched ⌝ }
+    requires { ⌜ Suspected (now neighbours) (now codes) touched × Watched (now neighbours) (now codes) touched ⌝ }
     ensures { λ r. ⌜ Rewritten (now (neighbours .entry)) (now (codes .entry))
         (λ g. reduced (length (now (neighbours .entry)))
         (rowsOf (length (now (neighbours .entry))) (gated g q (cliffordOf k))))
         (now (neighbours .exit)) (now (codes .exit)) ⌝ }
 {
     gate_code(codes, q, k);
-    let own = single(q);
-    settle_all(neighbours, codes, touched | own, suspected | own);
+    let all = touched | single(q);
+    settle_all(neighbours, codes, all, all);
 }
 
-// CZ on a and b, and the reduced record. Before it `touched` has every vertex that is out of place, `suspected` every one
-// with a code that is odd, or 8 or more.
-pub fn cz_record(
-    neighbours: &mut [u64],
-    codes: &mut [u8],
-    a: usize,
-    b: usize,
-    touched: u64,
-    suspected: u64,
-)
+// CZ on a and b, and the reduced record. Before it `touched` has every vertex that is out of place, and every one with a code
+// that is odd, or 8 or more.
+pub fn cz_record(neighbours: &mut [u64], codes: &mut [u8], a: usize, b: usize, touched: u64)
     requires { ⌜ Unrefused (recordIn (now neighbours) (now codes)) ⌝ }
     requires { ⌜ (a < length (now neighbours)) × (b < length (now neighbours)) × (a ≢ b) ⌝ }
-    requires { ⌜ Suspected (now neighbours) (now codes) suspected × Watched (now neighbours) (now codes) touched ⌝ }
+    requires { ⌜ Suspected (now neighbours) (now codes) touched × Watched (now neighbours) (now codes) touched ⌝ }
     ensures { λ r. ⌜ Rewritten (now (neighbours .entry)) (now (codes .entry))
         (λ g. reduced (length (now (neighbours .entry)))
         (czRows a b (rowsOf (length (now (neighbours .entry))) g)))
         (now (neighbours .exit)) (now (codes .exit)) ⌝ }
 {
-    settle_all(neighbours, codes, touched, suspected);
+    settle_all(neighbours, codes, touched, touched);
     cz_ready(neighbours, codes, a, b);
 }

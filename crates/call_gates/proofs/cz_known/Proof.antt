@@ -10,7 +10,7 @@ use Rattle.operations.specs.Steps.{Operation, czOn}
 use Rattle.operations.specs.Used.{UsedRecord, usedLinesOf}
 use Rattle.calls.proofs.InPlaceCalls.{as-before, in-place-done}
 use Rattle.calls.proofs.InPlaceLines.{cz-ready}
-use Rattle.call_gates.proofs.KnownRecords.{handed-words, known-codes}
+use Rattle.call_gates.proofs.KnownRecords.{marked-words, known-codes}
 use Rattle.calls.proofs.UsedInPlace.{named-as}
 use Rattle.call_gates.proofs.cz_known.Statement.{statement}
 use Rattle.call_gates.proofs.cz_known.Tie as tie
@@ -41,13 +41,13 @@ number E =
 first-look-requires : tie.Need-first-look-requires
 first-look-requires c κs =
     let S = c .before .before .before .before .before in
-    known-codes (lent S) (S .pre .0)
+    known-codes (lent S) (S .pre)
 
 returns : tie.Need-returns
 returns c = refused _ (number (c .before)) (c .if1 .taken) (refl, (refl, tt))
 
-first-words-requires : tie.Need-first-words-requires
-first-words-requires c κs =
+found-requires : tie.Need-found-requires
+found-requires c κs =
     let D = c .before in
     let F = D .before .before .before .before in
     let S = F .before .before .before .before .before .before in
@@ -62,7 +62,7 @@ cz-record-requires c κs =
     let S = D .before .before .before .before .before .before .before .before .before .before in
     let ready = cz-ready (lent S .held) (S .args .a) (S .args .b)
     (as-before (lent S) (asked S) (number (D .before)) (D .if1 .left)) in
-    (ready .0, (ready .1, handed-words _ _ (ready .0) (S .pre .1) (W .first-words .ensures)))
+    (ready .0, (ready .1, marked-words _ _ _ (ready .0) (W .found .ensures)))
 
 returns-2 : tie.Need-returns-2
 returns-2 c =
@@ -76,4 +76,4 @@ pub cz-known-spec : {M : Type 1} → statement M
 cz-known-spec =
     tie.close
     (tie.spec (λ c κs. search needs) (λ c κs. search needs) first-look-requires (λ c κs. search needs) (λ c. search needs)
-    (λ c. search needs) returns first-words-requires cz-record-requires (λ c. search needs) (λ c. search needs) returns-2)
+    (λ c. search needs) returns found-requires cz-record-requires (λ c. search needs) (λ c. search needs) returns-2)

@@ -9,7 +9,7 @@ use Rattle.operations.specs.Steps.{Operation, gateWith}
 use Rattle.operations.specs.Used.{UsedRecord, usedLinesOf}
 use Rattle.calls.proofs.InPlaceCalls.{as-before, in-place-done}
 use Rattle.calls.proofs.InPlaceLines.{gate-ready}
-use Rattle.call_gates.proofs.KnownRecords.{handed-words, known-codes}
+use Rattle.call_gates.proofs.KnownRecords.{marked-words, known-codes}
 use Rattle.calls.proofs.UsedInPlace.{named-as}
 use Rattle.call_gates.proofs.gate_known.Statement.{statement}
 use Rattle.call_gates.proofs.gate_known.Tie as tie
@@ -39,13 +39,13 @@ number E =
 first-look-requires : tie.Need-first-look-requires
 first-look-requires c κs =
     let S = c .before .before .before .before in
-    known-codes (lent S) (S .pre .0)
+    known-codes (lent S) (S .pre)
 
 returns : tie.Need-returns
 returns c = refused _ (number (c .before)) (c .if1 .taken) (refl, (refl, tt))
 
-first-words-requires : tie.Need-first-words-requires
-first-words-requires c κs =
+found-requires : tie.Need-found-requires
+found-requires c κs =
     let D = c .before in
     let F = D .before .before .before .before in
     let S = F .before .before .before .before .before in
@@ -60,7 +60,7 @@ gate-record-requires c κs =
     let S = D .before .before .before .before .before .before .before .before .before in
     let ready = gate-ready (lent S .held) (S .args .qubit) (S .args .code)
     (as-before (lent S) (asked S) (number (D .before)) (D .if1 .left)) in
-    (ready .0, (ready .1, handed-words _ _ (ready .0) (S .pre .1) (W .first-words .ensures)))
+    (ready .0, (ready .1, marked-words _ _ _ (ready .0) (W .found .ensures)))
 
 returns-2 : tie.Need-returns-2
 returns-2 c =
@@ -74,4 +74,4 @@ pub gate-known-spec : {M : Type 1} → statement M
 gate-known-spec =
     tie.close
     (tie.spec (λ c κs. search needs) first-look-requires (λ c κs. search needs) (λ c. search needs) (λ c. search needs)
-    returns first-words-requires gate-record-requires (λ c. search needs) (λ c. search needs) returns-2)
+    returns found-requires gate-record-requires (λ c. search needs) (λ c. search needs) returns-2)

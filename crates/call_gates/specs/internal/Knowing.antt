@@ -1,7 +1,6 @@
 -- What a caller knows of a record before a call.
 use mathlib.Core.Bool.{Bool, false, true}
 use mathlib.Core.List.{List}
-use mathlib.Core.Path.{_≡_}
 use Prim.Native.Nat.{ℕ}
 use Prim.{Unit}
 use Rattle.operations_gates.specs.internal.Suspects.{Marked}
@@ -16,8 +15,3 @@ Known true u = UsedUnrefused u
 abbrev pub Found : Bool → List ℕ → ℕ → Type 0
 Found false codes word = Marked codes word
 Found true codes word = Unit
-
--- the words handed to a gate or a CZ: no vertex of a reduced record is out of place; else those that the codes tell
-pub data Handed (settled : Bool) (codes : List ℕ) : ℕ → ℕ → Type 0 where
-  reduced : settled ≡ true → Handed settled codes 0 0xFFFFFFFFFFFFFFFF
-  looked : {word : ℕ} → Marked codes word → Handed settled codes word word

@@ -28,11 +28,9 @@ cz-known-requires : tie.Need-cz-known-requires
 cz-known-requires c κs =
     let T = c .before .before .before .before .before .before in
     let S = T .before .before .before .before .before .before .before .before .before in
-    let a = S .args in (
-      copy-unrefused (a .word) (a .group) (lent S) (asked S) (S .pre .0)
-          (copied-whole (a .word) (a .group) (lent S) (asked S) (S .pre .0) _ _ _ (T .take-group .ensures)),
-      tt,
-    )
+    let a = S .args in
+    copy-unrefused (a .word) (a .group) (lent S) (asked S) (S .pre .0)
+    (copied-whole (a .word) (a .group) (lent S) (asked S) (S .pre .0) _ _ _ (T .take-group .ensures))
 
 returns : tie.Need-returns
 returns c =

@@ -55,19 +55,19 @@ good D =
     run-ready (lent S) (steps S) _ _ (T .before .one-other-than .ensures) (T .one-other-than2 .ensures) _
     (E .run-refusal .ensures) (D .if1 .left)
 
-abbrev passed : tie.After-run-known → tie.Else1
+abbrev passed : tie.After-run-numbers → tie.Else1
 passed K = K .before .before .before .before
 
-run-known-requires : tie.Need-run-known-requires
-run-known-requires c κs =
+run-numbers-requires : tie.Need-run-numbers-requires
+run-numbers-requires c κs =
     let R = good (c .before .before .before) in
     (le-refl _, le-of-eq (sym (R .refusals)), R .asked, R .held)
 
 -- what the run kept is as long as the steps
-kept-long : (K : tie.After-run-known)
+kept-long : (K : tie.After-run-numbers)
     → let S = begun (tested (passed K .before)) in
-    length (K .run-known .last .1 .1 .1 .1 .1 .1 .1 .1 .1 .1 .0) ≡ length (S .args .refusals .now)
-kept-long K = K .run-known .kept .1 .1 .1 .1 .1 .1 .1 .1 .1 .1 .0
+    length (K .run-numbers .last .1 .1 .1 .1 .1 .1 .1 .1 .1 .0) ≡ length (S .args .refusals .now)
+kept-long K = K .run-numbers .kept .1 .1 .1 .1 .1 .1 .1 .1 .1 .0
 
 unpack-requires : tie.Need-unpack-requires
 unpack-requires c κs =
@@ -85,12 +85,12 @@ returns-2 c =
     let T = tested E in
     let S = begun T in
     run-accepted (lent S) (steps S) _ _ (T .before .one-other-than .ensures) (T .one-other-than2 .ensures) _
-    (E .run-refusal .ensures) (D .if1 .left) _ _ _ _ _ _ _ (K .run-known .ensures) (kept-long K)
+    (E .run-refusal .ensures) (D .if1 .left) _ _ _ _ _ _ _ (K .run-numbers .ensures) (kept-long K)
     (U .unpack .ensures .0) (U .unpack .ensures .1) (U .unpack .ensures .2)
 
 pub run-spec : {M : Type 1} → statement M
 run-spec =
     tie.close
     (tie.spec (λ c κs. search needs) (λ c κs. search needs) (λ c κs. search needs) (λ c. search needs) (λ c. search needs)
-    returns run-known-requires unpack-requires (λ c. search needs) (λ c. search needs) (λ c. search needs)
+    returns run-numbers-requires unpack-requires (λ c. search needs) (λ c. search needs) (λ c. search needs)
     (λ c. search needs) (λ c. search needs) returns-2)

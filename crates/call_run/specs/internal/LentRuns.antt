@@ -1,10 +1,9 @@
 -- What the run of lent steps promises: the record after the last, and what each answers, kept as one number. A name with
 -- a prime is what the buffer holds at exit, or the word that is returned.
-use mathlib.Core.Bool.{_&&_, Bool, cond, false, true}
+use mathlib.Core.Bool.{Bool, cond}
 use mathlib.Core.List.{List, [], _∷_}
 use mathlib.Core.Path.{_≡_}
 use Prim.Native.Nat.{_*_, _+_, _<_, ℕ}
-use Prim.{Unit}
 use lib.Dec.{leb}
 use lib.ListN.{getD, length}
 use Rattle.call_run.specs.internal.Waiting.{Standing, heldIn, meant, meantRecord}
@@ -12,8 +11,7 @@ use Rattle.jobs.specs.Asked.{numberOf}
 use Rattle.jobs.specs.Runs.{afterStep, answerOf, run}
 use Rattle.jobs.specs.declared.Answer.{Answer}
 use Rattle.jobs.specs.declared.Step.{Step}
-use Rattle.call_run.specs.internal.StepRuns.{StepRun, nextWaiting}
-use Rattle.operations.specs.internal.InPlace.{Unrefused}
+use Rattle.call_run.specs.internal.StepRuns.{nextWaiting}
 use Rattle.buffers.specs.Writing.{overwritten}
 use Rattle.operations.specs.Used.{UsedRecord}
 
@@ -48,28 +46,15 @@ pub record LentRun (u : UsedRecord) (steps : List Step) (at : ℕ) (before neigh
   pub answers : after ≡ overwritten before at (packedAnswers (markedBefore at before) u steps)
 
 -- ---- the record as it is held between steps
--- what is known of it: nothing, or that it stands for one that no line refuses
-abbrev pub Begun : Bool → Bool → UsedRecord → Type 0
-Begun false waiting u = Unit
-Begun true waiting u = Standing waiting u
-
 -- before the step that answers at a place: it waits where the answer before has the mark
-pub record ReadyAt (known : Bool) (place : ℕ) (answers : List ℕ) (u : UsedRecord) : Type 0 where
-  pub begun : Begun known (markedBefore place answers) u
-
--- one step, where the record waits or not; of which nothing is known, it never waits
-pub record AnyStep (known waiting : Bool) (u : UsedRecord) (s : Step) (r : Answer) (words′ codes′ : List ℕ) (used′ : ℕ) :
-    Type 0 where
-  pub sound : known ≡ true → Unrefused (heldIn u words′ codes′)
-  pub run : StepRun (meant (known && waiting) u) s r
-      ((meantRecord (known && nextWaiting (s .op) (r .refusal) waiting) (heldIn u words′ codes′)) .neighbours)
-      ((meantRecord (known && nextWaiting (s .op) (r .refusal) waiting) (heldIn u words′ codes′)) .codes) used′
+pub record ReadyAt (place : ℕ) (answers : List ℕ) (u : UsedRecord) : Type 0 where
+  pub standing : Standing (markedBefore place answers) u
 
 -- steps, from the record that is meant before them to that which is meant after them
-pub record WaitingRun (known : Bool) (u : UsedRecord) (steps : List Step) (at : ℕ) (before words′ codes′ : List ℕ)
-    (used′ : ℕ) (after : List ℕ) : Type 0 where
-  pub ran : LentRun (meant (known && markedBefore at before) u) steps at before
-      ((meantRecord (known && markedBefore (at + length steps) after) (heldIn u words′ codes′)) .neighbours)
-      ((meantRecord (known && markedBefore (at + length steps) after) (heldIn u words′ codes′)) .codes) used′ after
-  pub ready : ReadyAt known at before u
-      → ReadyAt known (at + length steps) after (record { held = heldIn u words′ codes′; used = used′ })
+pub record WaitingRun (u : UsedRecord) (steps : List Step) (at : ℕ) (before words′ codes′ : List ℕ) (used′ : ℕ)
+    (after : List ℕ) : Type 0 where
+  pub ran : LentRun (meant (markedBefore at before) u) steps at before
+      ((meantRecord (markedBefore (at + length steps) after) (heldIn u words′ codes′)) .neighbours)
+      ((meantRecord (markedBefore (at + length steps) after) (heldIn u words′ codes′)) .codes) used′ after
+  pub ready : ReadyAt at before u
+      → ReadyAt (at + length steps) after (record { held = heldIn u words′ codes′; used = used′ })

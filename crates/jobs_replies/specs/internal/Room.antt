@@ -8,6 +8,7 @@ use Rattle.jobs_replies.specs.Room.{longest}
 
 -- the buffers hold the record that a job starts from, and there is room
 pub record Fresh (n : ℕ) (neighbours codes : List ℕ) (count : ℕ) (answers out : List ℕ) : Type 0 where
+  pub positive : 1 ≤ n
   pub upto : n ≤ 64
   pub no-edge : neighbours ≡ replicate n 0
   pub eights : codes ≡ replicate n 8

@@ -3,7 +3,7 @@ use native.Mathlib.Omega.{arith}
 use borrow.Author.Needs.{needs}
 use Rattle.operations.proofs.UnrefusedRecords.{unrefused-codes, unrefused-place, unrefused-short}
 use Rattle.operations_gates.proofs.GatedBuffers.{gated-reduced, gated-unrefused}
-use Rattle.operations_gates.proofs.SettledRecords.{gate-suspected, gate-watched}
+use Rattle.operations_gates.proofs.TouchedRecords.{gate-suspected, gate-watched}
 use Rattle.operations_gates.proofs.gate_record.Statement.{statement}
 use Rattle.operations_gates.proofs.gate_record.Tie as tie
 
@@ -28,7 +28,7 @@ settle-all-requires c κs =
     let own = at-single .single .ensures in (
       gated-unrefused _ _ (p .0) (a .q) (p .1 .0 .0) (a .k) _ gated,
       (
-        gate-suspected _ _ (a .q) _ _ gated _ (a .suspected) own (p .1 .1 .0),
+        gate-suspected _ _ (a .q) _ _ gated _ (a .touched) own (p .1 .1 .0),
         gate-watched _ _ (a .q) _ _ gated _ (a .touched) own (p .1 .0 .0) (p .1 .1 .1),
       ),
     )

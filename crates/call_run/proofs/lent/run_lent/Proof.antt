@@ -8,9 +8,9 @@ use base.Fml.{flft, ftrue}
 use base.Logic.{SProp, ent}
 use contract.Monad.{Fun}
 use contract.Running.{givenOf, tables, tablesOf}
-use denote.Builtin.{bool, u64, u8, usize}
+use denote.Builtin.{u64, u8, usize}
 use denote.Exit.{yes}
-use denote.Plain.{bool-tells, bool-vals, uint-tells, uint-vals}
+use denote.Plain.{uint-tells, uint-vals}
 use denote.RattleType.{owns}
 use denote.Signature.{plain}
 use denote.Slice.{MutSlice, ShrSlice, mut-slice-tells, shr-slice-tells, slice-vals}
@@ -62,9 +62,9 @@ module _ {M : Type 1} (𝓤 : URA M) (H : Heap 𝓤) (A : Atoms 𝓤) (W : Given
       → ent 𝓤 (onEntry 𝓤 H A run-lent.signature (κs X) (qs X) (args X) (at-entry X)) (WpFn 𝓤 H (𝓣 .C) (𝓣 .Λ) code.function (values X) (Post 𝓤 H A W mem run X))
   walk 𝓣 knows G asks =
       qed W ((‵ (flft (L₀ .κ) (L₀ .q)) ⊛ (‵ (flft (L₁ .κ) (L₁ .q)) ⊛ (‵ (Lasting X) ⊛ (‵ (flft (L₃ .κ) (L₃ .q)) ⊛ ‵ ftrue))))
-      ∷ ‵ (owns (u64 ∷ MutSlice (named 0) (L₀ .κ) u64 ∷ MutSlice (named 1) (L₁ .κ) u8 ∷ u64 ∷ bool ∷ ShrSlice (named 2) (L₂ .κ) R ∷ usize ∷ MutSlice (named 3) (L₃ .κ) u8 ∷ []) (args X) (at-entry X)) ∷ []) ∵
+      ∷ ‵ (owns (u64 ∷ MutSlice (named 0) (L₀ .κ) u64 ∷ MutSlice (named 1) (L₁ .κ) u8 ∷ u64 ∷ ShrSlice (named 2) (L₂ .κ) R ∷ usize ∷ MutSlice (named 3) (L₃ .κ) u8 ∷ []) (args X) (at-entry X)) ∷ []) ∵
       split ! $ move ! (1 ∷ []) $ split ! $ move ! (1 ∷ []) $ split ! $ move ! (1 ∷ []) $ split ! $ move ! (5 ∷ []) $ fsplit ! $ dropᴷ ! $ fsplit ! $
-      move ! (1 ∷ []) $ fsplit ! $ move ! (1 ∷ []) $ fsplit ! $ dropᴷ ! $ fsplit ! $ dropᴷ ! $ fsplit ! $ move ! (1 ∷ []) $ fsplit ! $ dropᴷ ! $ fsplit ! $
+      move ! (1 ∷ []) $ fsplit ! $ move ! (1 ∷ []) $ fsplit ! $ dropᴷ ! $ fsplit ! $ move ! (1 ∷ []) $ fsplit ! $ dropᴷ ! $ fsplit ! $
       -- [the answers; -; the steps; the codes; the neighbours; the token of the answers; -; of the steps; of the codes; of the neighbours]
       move ! (0 ∷ 5 ∷ []) $ fjoin ! $ move ! (3 ∷ 7 ∷ []) $ fjoin ! $ fjoin ! $ move ! (3 ∷ 6 ∷ []) $ fjoin ! $ fjoin ! $ move ! (2 ∷ []) $ fsplit ! $
       move ! (1 ∷ []) $ fsplit ! $ keep ! (1 ∷ 6 ∷ 3 ∷ 2 ∷ 0 ∷ []) $
@@ -74,17 +74,17 @@ module _ {M : Type 1} (𝓤 : URA M) (H : Heap 𝓤) (A : Atoms 𝓤) (W : Given
           (tt, (tt, (record { fits = G .neighbours .0 }, tt))),
           (
             (tt, (tt, (record { fits = G .codes .0 }, tt))),
-            ((tt, record { fits = G .used }), ((tt, tt), ((tt, (tt, (record { fits = G .steps .0 }, tt))), ((tt, record { fits = G .place }), ((tt, (tt, (record { fits = G .answers .0 }, tt))), tt))))),
+            ((tt, record { fits = G .used }), ((tt, (tt, (record { fits = G .steps .0 }, tt))), ((tt, record { fits = G .place }), ((tt, (tt, (record { fits = G .answers .0 }, tt))), tt)))),
           ),
         ),
       ) (λ p.
-      assigns ! (of-opd ! (load ! (from ! (stop !)) (look ! 4 refl))) (from ! (stop !)) (init ! 9 refl (tt, record { fits = G .used })) $
-      assigns ! (of-opd ! (lit ! tt)) (from ! (stop !)) (init ! 10 refl (tt, record { fits = lit< tt })) $ move ! (22 ∷ 23 ∷ 24 ∷ []) $ by ! (loops 𝓤 H A W mem run X 𝓣 knows G asks p))
+      assigns ! (of-opd ! (load ! (from ! (stop !)) (look ! 4 refl))) (from ! (stop !)) (init ! 8 refl (tt, record { fits = G .used })) $
+      assigns ! (of-opd ! (lit ! tt)) (from ! (stop !)) (init ! 9 refl (tt, record { fits = lit< tt })) $ move ! (21 ∷ 22 ∷ 23 ∷ []) $ by ! (loops 𝓤 H A W mem run X 𝓣 knows G asks p))
 
 module _ {M : Type 1} (𝓤 : URA M) (H : Heap 𝓤) (A : Atoms 𝓤) (W : Given 𝓤 H A) (mem : Memory → SProp 𝓤) (run : Routine → Fun 𝓤) where
   run-lent-walks : (𝓣 : Tables 𝓤 H) → Triple 𝓤 (𝓣 .C #turn) (Turn 𝓤 H A mem run) → Walks 𝓤 H A run-lent.ended stayed (WpFn 𝓤 H (𝓣 .C) (𝓣 .Λ) code.function) (run-lent.clauses 𝓤 H A mem run)
   run-lent-walks 𝓣 knows = walked 𝓤 H A run-lent.ended stayed (run-lent.clauses 𝓤 H A mem run) (WpFn 𝓤 H (𝓣 .C) (𝓣 .Λ) code.function)
-      (λ κs. (uint-vals w64, (slice-vals, (slice-vals, (uint-vals w64, (bool-vals, (slice-vals, (uint-vals w64, (slice-vals, tt)))))))))
+      (λ κs. (uint-vals w64, (slice-vals, (slice-vals, (uint-vals w64, (slice-vals, (uint-vals w64, (slice-vals, tt))))))))
       (λ κs. (
         uint-tells w64,
         (
@@ -94,13 +94,10 @@ module _ {M : Type 1} (𝓤 : URA M) (H : Heap 𝓤) (A : Atoms 𝓤) (W : Given
             (
               uint-tells w64,
               (
-                bool-tells,
+                shr-slice-tells (named 2) (κs .1 .1 .0) R,
                 (
-                  shr-slice-tells (named 2) (κs .1 .1 .0) R,
-                  (
-                    uint-tells w64,
-                    (mut-slice-tells (named 3) (κs .1 .1 .1 .0) u8, tt),
-                  ),
+                  uint-tells w64,
+                  (mut-slice-tells (named 3) (κs .1 .1 .1 .0) u8, tt),
                 ),
               ),
             ),
@@ -111,22 +108,21 @@ module _ {M : Type 1} (𝓤 : URA M) (H : Heap 𝓤) (A : Atoms 𝓤) (W : Given
       (walk 𝓤 H A W mem run (record {
         turning = record {
           n = a .0;
-          known = a .1 .1 .1 .1 .0;
-          place = a .1 .1 .1 .1 .1 .1 .0;
+          place = a .1 .1 .1 .1 .1 .0;
           neighbours = lent u64 (κs .0) (qs .0) (a .1 .0);
           codes = lent u8 (κs .1 .0) (qs .1 .0) (a .1 .1 .0);
-          answers = lent u8 (κs .1 .1 .1 .0) (qs .1 .1 .1 .0) (a .1 .1 .1 .1 .1 .1 .1 .0);
+          answers = lent u8 (κs .1 .1 .1 .0) (qs .1 .1 .1 .0) (a .1 .1 .1 .1 .1 .1 .0);
         };
-        steps = lent R (κs .1 .1 .0) (qs .1 .1 .0) (a .1 .1 .1 .1 .1 .0);
+        steps = lent R (κs .1 .1 .0) (qs .1 .1 .0) (a .1 .1 .1 .1 .0);
         used = a .1 .1 .1 .0;
       }) 𝓣 knows (record {
         n = are .0 .1;
         used = are .1 .1 .1 .0 .1;
-        place = are .1 .1 .1 .1 .1 .1 .0 .1;
+        place = are .1 .1 .1 .1 .1 .0 .1;
         neighbours = are .1 .0 .0 .1;
         codes = are .1 .1 .0 .0 .1;
-        steps = are .1 .1 .1 .1 .1 .0 .0 .1;
-        answers = are .1 .1 .1 .1 .1 .1 .1 .0 .0 .1;
+        steps = are .1 .1 .1 .1 .0 .0 .1;
+        answers = are .1 .1 .1 .1 .1 .1 .0 .0 .1;
       })))
 
 run-lent-meets : {M : Type 1} (𝓤 : URA M) (H : Heap 𝓤) (A : Atoms 𝓤) → Given 𝓤 H A → (mem : Memory → SProp 𝓤) (run : Routine → Fun 𝓤) (𝓣 : Tables 𝓤 H) → Triple 𝓤 (𝓣 .C #turn) (Turn 𝓤 H A mem run)
@@ -140,13 +136,10 @@ run-lent-meets 𝓤 H A W mem run 𝓣 knows = walk-meets 𝓤 H A run-lent.ende
       (
         goes-none 𝓤 H A W 4 (λ _. u64) yes (λ κs x f. refl),
         (
-          goes-none 𝓤 H A W 4 (λ _. bool) yes (λ κs x f. refl),
+          goes-none-slice 𝓤 H A W 4 (2 ∷ []) tt (plain (λ _. R)) yes,
           (
-            goes-none-slice 𝓤 H A W 4 (2 ∷ []) tt (plain (λ _. R)) yes,
-            (
-              goes-none 𝓤 H A W 4 (λ _. usize) yes (λ κs x f. refl),
-              (goes-slice 𝓤 H A W 4 3 tt (plain (λ _. u8)), tt),
-            ),
+            goes-none 𝓤 H A W 4 (λ _. usize) yes (λ κs x f. refl),
+            (goes-slice 𝓤 H A W 4 3 tt (plain (λ _. u8)), tt),
           ),
         ),
       ),

@@ -1,10 +1,7 @@
 -- `settle_last` meets its contract: the record that is meant after the steps.
-use mathlib.Core.Bool.{_&&_}
 use mathlib.Core.Path.{ap, subst, sym, _∙_}
 use Rattle.call_run.specs.internal.Waiting.{Standing, meant}
 use Rattle.operations.specs.Used.{UsedRecord}
-use Rattle.call_run.specs.internal.LentRuns.{markedBefore}
-use Rattle.call_run.proofs.LentLaws.{begun-true}
 use borrow.Author.Needs.{needs}
 use Rattle.call_run.proofs.lent.settle_last.Statement.{statement}
 use Rattle.call_run.proofs.lent.settle_last.Tie as tie
@@ -22,9 +19,8 @@ marked-before-requires c κs = search needs
 
 settle-waiting-requires : tie.Need-settle-waiting-requires
 settle-waiting-requires c κs =
-    let S = c .before .before .before .before .before .before .before in
-    subst (λ b. Standing b (lent S)) (sym (c .before .before .before .marked-before .ensures))
-    (begun-true (S .args .known) _ (lent S) (S .pre .1 .begun) (c .before .before .if1 .taken))
+    let S = c .before .before .before .before .before .before in
+    subst (λ b. Standing b (lent S)) (sym (c .before .before .marked-before .ensures)) (S .pre .1 .standing)
 
 same-length : tie.Need-same-length
 same-length c = search needs
@@ -34,23 +30,9 @@ same-length-2 c = search needs
 
 returns : tie.Need-returns
 returns c =
-    let S = c .before .before .before .before .before .before .before .before .before .before .before .before in
+    let S = c .before .before .before .before .before .before .before .before .before .before .before in
     c .before .before .before .before .settle-waiting .ensures
-    ∙ ap (λ b. meant b (lent S)) (c .before .before .before .before .before .before .before .before .marked-before .ensures
-    ∙ sym (ap (λ k. k && markedBefore (S .args .place) (S .args .answers .now)) (c .before .before .before .before .before .before .before .if1 .taken)))
-
-returns-2 : tie.Need-returns-2
-returns-2 c =
-    let S = c .before .before .before .before .before in
-    ap (λ k. meant (k && markedBefore (S .args .place) (S .args .answers .now)) (lent S)) (sym (c .if1 .left))
+    ∙ ap (λ b. meant b (lent S)) (c .before .before .before .before .before .before .before .marked-before .ensures)
 
 pub settle-last-spec : {M : Type 1} → statement M
-settle-last-spec =
-    tie.close
-    (tie.spec
-    marked-before-requires
-    settle-waiting-requires
-    same-length
-    same-length-2
-    returns
-    returns-2)
+settle-last-spec = tie.close (tie.spec marked-before-requires settle-waiting-requires same-length same-length-2 returns)

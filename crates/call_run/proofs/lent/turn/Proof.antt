@@ -1,9 +1,7 @@
 -- `turn` meets its contract: one step, and what it answers is kept.
-use mathlib.Core.Bool.{_&&_}
 use mathlib.Core.Path.{subst, sym}
-use Rattle.call_run.specs.internal.Waiting.{meant}
+use Rattle.call_run.specs.internal.Waiting.{Standing, meant}
 use Rattle.operations.specs.Used.{UsedRecord}
-use Rattle.call_run.specs.internal.LentRuns.{Begun}
 use Rattle.call_run.proofs.MarkedSteps.{small-answer}
 use Rattle.call_run.proofs.LentLaws.{turned}
 use borrow.Author.Needs.{needs}
@@ -24,10 +22,10 @@ add-place c = search needs
 marked-before-requires : tie.Need-marked-before-requires
 marked-before-requires c κs = search needs
 
-any-step-requires : tie.Need-any-step-requires
-any-step-requires c κs =
+run-step-requires : tie.Need-run-step-requires
+run-step-requires c κs =
     let S = c .before .before .before .before .before .before .before .before in
-    subst (λ b. Begun (S .args .known) b (lent S)) (sym (c .before .before .before .marked-before .ensures)) (S .pre .1 .begun)
+    subst (λ b. Standing b (lent S)) (sym (c .before .before .before .marked-before .ensures)) (S .pre .1 .standing)
 
 next-waiting-requires : tie.Need-next-waiting-requires
 next-waiting-requires c κs = search needs
@@ -35,7 +33,7 @@ next-waiting-requires c κs = search needs
 pack-requires : tie.Need-pack-requires
 pack-requires c κs =
     let S = c .before .before .before .before .before .before .before .before .before .before .before .before .before .before in
-    small-answer (meant (S .args .known && c .before .before .before .before .before .before .before .before .before .marked-before .result) (lent S)) (S .args .s) _ (c .before .before .before .before .before .any-step .ensures .run .answer)
+    small-answer (meant (c .before .before .before .before .before .before .before .before .before .marked-before .result) (lent S)) (S .args .s) _ (c .before .before .before .before .before .run-step .ensures .run .answer)
 
 slice-write-answers : tie.Need-slice-write-answers
 slice-write-answers c = search needs
@@ -52,8 +50,8 @@ same-length-3 c = search needs
 returns : tie.Need-returns
 returns c =
     let S = c .before .before .before .before .before .before .before .before .before .before .before .before .before .before .before in
-    turned (S .args .known) _ (lent S) (S .args .s) _ _ _ _ _ _ (S .pre .0) _ _ (c .before .before .before .before .before .before .before .before .before .before .marked-before .ensures) (c .before .next-waiting .ensures)
-    (c .pack .ensures) (c .before .before .before .before .before .before .any-step .ensures)
+    turned _ (lent S) (S .args .s) _ _ _ _ _ _ (S .pre .0) _ _ (c .before .before .before .before .before .before .before .before .before .before .marked-before .ensures) (c .before .next-waiting .ensures)
+    (c .pack .ensures) (c .before .before .before .before .before .before .run-step .ensures)
 
 pub turn-spec : {M : Type 1} → statement M
 turn-spec =
@@ -61,7 +59,7 @@ turn-spec =
     (tie.spec
     add-place
     marked-before-requires
-    any-step-requires
+    run-step-requires
     next-waiting-requires
     pack-requires
     slice-write-answers

@@ -1,15 +1,8 @@
--- `run_step` meets its contract: one step: its refusal, outcome and determined, and the record as it leaves it.
-use borrow.Author.Needs.{needs}
+-- `run_step` meets its contract: one step on a record that no line refuses.
 use Rattle.operations.specs.Used.{UsedRecord}
-use Rattle.call_run.proofs.Running.{
-  measured-run,
-  not-measure,
-  plain-run,
-  rewriting,
-  value-small,
-  wrong-by,
-  wrong-run,
-}
+use Rattle.call_run.proofs.Running.{not-measure, rewriting, value-small, wrong-by}
+use Rattle.call_run.proofs.WaitedSteps.{measured-waited, plain-waited, wrong-waited}
+use borrow.Author.Needs.{needs}
 use Rattle.call_run.proofs.steps.run_step.Statement.{statement}
 use Rattle.call_run.proofs.steps.run_step.Tie as tie
 
@@ -21,59 +14,75 @@ lent S =
       used = S .args .used .now;
     }
 
+unused-set-requires : tie.Need-unused-set-requires
+unused-set-requires c κs = search needs
+
+wrong-value-requires : tie.Need-wrong-value-requires
+wrong-value-requires c κs = search needs
+
 returns : tie.Need-returns
 returns c =
-    let I = c .before .before .before in
-    let W = I .before in
-    let S = W .before .before .before .before .before in
-    wrong-run (lent S) (S .args .s) (wrong-by (lent S) (S .args .s) (W .before .unused-set .ensures) (W .wrong-value .ensures) (I .if1 .taken))
-    _ (c .known-refusal .ensures)
+    let S = c .before .before .before .before .before .before in
+    wrong-waited (S .args .waiting) (lent S) (S .pre) (S .args .s) (wrong-by (lent S) (S .args .s) (c .before .before .unused-set .ensures) (c .before .wrong-value .ensures) (c .if1 .taken))
+
+cast-a : tie.Need-cast-a
+cast-a c = search needs
 
 enum-told : tie.Need-enum-told
 enum-told c = search needs
 
-run-measurement-requires : tie.Need-run-measurement-requires
-run-measurement-requires c κs =
-    let T = c .before .before .before in
-    let E = T .before .before .before in
-    let W = E .before in
-    let S = W .before .before .before .before .before in
-    let e = wrong-by (lent S) (S .args .s) (W .before .unused-set .ensures) (W .wrong-value .ensures) (E .if1 .left) in
-    (value-small (lent S) (S .args .s) e (T .enum-told .given .1), S .pre .0)
+measure-value-requires : tie.Need-measure-value-requires
+measure-value-requires c κs =
+    let S = c .before .before .before .before .before .before .before .before .before .before .before .before in
+    (value-small (lent S) (S .args .s) (wrong-by (lent S) (S .args .s) (c .before .before .before .before .before .before .before .before .unused-set .ensures) (c .before .before .before .before .before .before .before .wrong-value .ensures) (c .before .before .before .before .before .before .if1 .left)) (c .before .before .before .enum-told .given .1), S .pre)
+
+same-length : tie.Need-same-length
+same-length c = search needs
+
+same-length-2 : tie.Need-same-length-2
+same-length-2 c = search needs
 
 returns-2 : tie.Need-returns-2
 returns-2 c =
-    let C = c .before .before .before .before in
-    let T = C .before .before .before .before in
-    let E = T .before .before .before in
-    let W = E .before in
-    let S = W .before .before .before .before .before in
-    let e = wrong-by (lent S) (S .args .s) (W .before .unused-set .ensures) (W .wrong-value .ensures) (E .if1 .left) in
-    measured-run (lent S) (S .args .s) e (T .enum-told .given .1) _ _ _ _ (C .run-measurement .ensures)
+    let S = c .before .before .before .before .before .before .before .before .before .before .before .before .before .before .before .before .before in
+    measured-waited (S .args .waiting) (lent S) (S .pre) (S .args .s) (wrong-by (lent S) (S .args .s) (c .before .before .before .before .before .before .before .before .before .before .before .before .before .unused-set .ensures) (c .before .before .before .before .before .before .before .before .before .before .before .before .wrong-value .ensures) (c .before .before .before .before .before .before .before .before .before .before .before .if1 .left))
+    (c .before .before .before .before .before .before .before .before .enum-told .given .1) _ _ _ _ (c .before .before .before .before .measure-value .ensures)
+
+cast-rewrite : tie.Need-cast-rewrite
+cast-rewrite c = search needs
 
 rewrite-requires : tie.Need-rewrite-requires
 rewrite-requires c κs =
-    let M = c .before .before .before in
-    let E = M .before .before in
-    let W = E .before in
-    let S = W .before .before .before .before .before in
-    let e = wrong-by (lent S) (S .args .s) (W .before .unused-set .ensures) (W .wrong-value .ensures) (E .if1 .left) in
-    (rewriting (lent S) (S .args .s) e (M .match .keys2), (S .pre .0, S .pre .1))
+    let S = c .before .before .before .before .before .before .before .before .before .before .before in
+    (rewriting (lent S) (S .args .s) (wrong-by (lent S) (S .args .s) (c .before .before .before .before .before .before .before .unused-set .ensures) (c .before .before .before .before .before .before .wrong-value .ensures) (c .before .before .before .before .before .if1 .left)) (c .before .before .before .match .keys2), S .pre)
+
+same-length-3 : tie.Need-same-length-3
+same-length-3 c = search needs
+
+same-length-4 : tie.Need-same-length-4
+same-length-4 c = search needs
 
 returns-3 : tie.Need-returns-3
 returns-3 c =
-    let C = c .before .before .before .before in
-    let M = C .before .before .before .before in
-    let E = M .before .before in
-    let W = E .before in
-    let S = W .before .before .before .before .before in
-    let e = wrong-by (lent S) (S .args .s) (W .before .unused-set .ensures) (W .wrong-value .ensures) (E .if1 .left) in
-    plain-run (lent S) (S .args .s) e (not-measure (lent S) (S .args .s) (M .match .keys2)) _ _ _ (C .rewrite .ensures)
+    let S = c .before .before .before .before .before .before .before .before .before .before .before .before .before .before .before .before in
+    plain-waited (S .args .waiting) (lent S) (S .pre) (S .args .s) (wrong-by (lent S) (S .args .s) (c .before .before .before .before .before .before .before .before .before .before .before .before .unused-set .ensures) (c .before .before .before .before .before .before .before .before .before .before .before .wrong-value .ensures) (c .before .before .before .before .before .before .before .before .before .before .if1 .left))
+    (not-measure (lent S) (S .args .s) (c .before .before .before .before .before .before .before .before .match .keys2)) _ _ _ (c .before .before .before .before .rewrite .ensures)
 
 pub run-step-spec : {M : Type 1} → statement M
 run-step-spec =
     tie.close
-    (tie.spec (λ c κs. search needs) (λ c κs. search needs) (λ c κs. search needs) (λ c. search needs)
-    (λ c. search needs) returns (λ c. search needs) enum-told run-measurement-requires (λ c. search needs)
-    (λ c. search needs) returns-2 (λ c. search needs) rewrite-requires (λ c. search needs) (λ c. search needs)
+    (tie.spec
+    unused-set-requires
+    wrong-value-requires
+    returns
+    cast-a
+    enum-told
+    measure-value-requires
+    same-length
+    same-length-2
+    returns-2
+    cast-rewrite
+    rewrite-requires
+    same-length-3
+    same-length-4
     returns-3)

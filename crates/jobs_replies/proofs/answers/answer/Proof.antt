@@ -7,15 +7,15 @@ use Rattle.jobs_replies.proofs.answers.answer.Statement.{statement}
 use Rattle.jobs_replies.proofs.answers.answer.Tie as tie
 
 slice-aggregate-print-run : tie.Need-slice-aggregate-print-run
-slice-aggregate-print-run c = sym (part-long _ _ (c .before .before .pre .0) refl)
+slice-aggregate-print-run c = sym (part-long _ _ (c .before .before .pre .1) refl)
 
 slice-aggregate-print-run-2 : tie.Need-slice-aggregate-print-run-2
-slice-aggregate-print-run-2 c = sym (part-long _ _ (c .before .before .before .pre .0) refl)
+slice-aggregate-print-run-2 c = sym (part-long _ _ (c .before .before .before .pre .1) refl)
 
 print-run-requires : tie.Need-print-run-requires
 print-run-requires c κs =
     let S = c .before .before .before .before .before in
-    fresh _ _ _ (S .pre .0) (S .pre .1) (S .pre .2)
+    fresh _ _ _ (S .pre .0) (S .pre .1) (S .pre .2) (S .pre .3)
 
 pub answer-spec : {M : Type 1} → statement M
 answer-spec =

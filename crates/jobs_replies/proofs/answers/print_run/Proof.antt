@@ -4,7 +4,7 @@ use lib.ListN.{length, take}
 use lib.Seq.{length-take-le}
 use native.Mathlib.Omega.{arith}
 use borrow.Author.Needs.{needs}
-use Rattle.jobs_replies.proofs.Starting.{all-printed, record-printable}
+use Rattle.jobs_replies.proofs.Starting.{all-printed, record-printable, start-unrefused}
 use Rattle.jobs_replies.proofs.answers.print_run.Statement.{statement}
 use Rattle.jobs_replies.proofs.answers.print_run.Tie as tie
 
@@ -18,7 +18,7 @@ all S = length-take-le (S .args .count) (S .args .steps) (omega (arith, S .pre .
 run-requires : tie.Need-run-requires
 run-requires c κs =
     let F = c .before .before .before .before .before .before .before .pre in
-    (F .few, F .kept)
+    (F .few, F .kept, start-unrefused _ _ _ _ _ _ F)
 
 print-results-requires : tie.Need-print-results-requires
 print-results-requires c κs =

@@ -34,7 +34,7 @@ answer-requires c κs =
     let J = E .before in
     let S = begun J in
     let small = accepted-small (S .args .read .scan) (sym (J .judge .ensures) ∙ E .if1 .left) in
-    (small .0, small .1, S .pre)
+    (small .0, small .1, small .2, S .pre)
 
 returns-2 : tie.Need-returns-2
 returns-2 c =

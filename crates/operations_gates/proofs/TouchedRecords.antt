@@ -1,30 +1,18 @@
--- Words of the vertices that may be out of place: none in a record of reduced form, and one more where a code is stored.
-use mathlib.Core.Bool.{Bool, false, not, or-true, true, true≢false, _&&_, _||_}
+-- Words of the vertices that may be out of place: one more where a code is stored.
+use mathlib.Core.Bool.{Bool, false, not, or-true, true, _&&_, _||_}
 use mathlib.Core.List.{List}
 use mathlib.Core.Path.{ap, refl, subst, sym, _∙_, _≡_}
 use Prim.Native.Nat.{_/_, _<_, _^_, ℕ}
 use lib.Bits.{bitOr, or-lt}
 use lib.Dec.{eqb, leb}
 use lib.ListN.{getD, length, set}
-use lib.Pow.{pow-lt, pow-pos}
+use lib.Pow.{pow-lt}
 use lib.Seq.{getD-set-other}
 use borrow.Author.Tests.{eqb-false}
 use Rattle.operations_gates.specs.internal.Watching.{Suspected, Watched, suspectAt}
-use Rattle.operations.proofs.OutOfPlace.{form-settled}
 use Rattle.operations.specs.internal.KeptGroups.{unsettled}
-use Rattle.operations.specs.internal.InPlace.{Unrefused, recordIn}
 use Rattle.words.proofs.BitLaws.{bit-or, bit-single}
 use Rattle.words.specs.Bits.{bit, isOdd}
-use Rattle.operations_gates.specs.internal.Settled.{Settled}
-
--- no vertex is out of place
-pub settled-watched : (words codes : List ℕ) → Unrefused (recordIn words codes) → Settled true words codes
-    → Watched words codes 0
-settled-watched words codes U F =
-    record {
-      short = pow-pos (length words);
-      seen = λ q l out. absurd (true≢false (sym out ∙ form-settled words codes U F q l));
-    }
 
 -- ---- a code stored at q
 module _ (words codes : List ℕ) (q c : ℕ) (codes′ : List ℕ) (e : codes′ ≡ set codes q c) (w all : ℕ) (f : w ≡ 2 ^ q) where
