@@ -16,17 +16,3 @@ pub fn copied_words(lent: &[u64]) -> [u64; 64]
     }
     words
 }
-
-// Lent codes in an array; 0 past their end.
-pub fn copied_codes(lent: &[u8]) -> [u8; 64]
-    requires { ⌜ length (now lent) ≤ 64 ⌝ }
-    ensures { λ r. ⌜ ((i : ℕ) → getD r i 0 ≡ getD (now (lent .entry)) i 0) ⌝ }
-{
-    let mut codes = [0u8; 64];
-    let mut i = 0;
-    while i < lent.len() {
-        codes[i] = lent[i];
-        i += 1;
-    }
-    codes
-}

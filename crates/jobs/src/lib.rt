@@ -8,7 +8,6 @@ ghost use mathlib.Core.Path.{_≡_};
 ghost use Rattle.jobs.specs.Asked.{unusedSet};
 ghost use Rattle.jobs.specs.internal.Asked.{valueLimit, withoutB, withoutValue, wrongValue};
 ghost use Rattle.jobs.specs.Parallel.{numberedOp};
-ghost use Rattle.jobs.specs.internal.Parallel.{opNumber};
 
 pub enum Op {
     Gate,
@@ -85,19 +84,6 @@ pub fn wrong_value(op: Op, value: u16) -> bool
     ensures { λ r. ⌜ r ≡ wrongValue op value ⌝ }
 {
     value_limit(op) <= value as u32
-}
-
-// The number of an operation.
-pub fn op_number(op: Op) -> u8
-    ensures { λ r. ⌜ r ≡ opNumber op ⌝ }
-{
-    match op {
-        Op::Gate => 0,
-        Op::Cz => 1,
-        Op::Measure => 2,
-        Op::Complement => 3,
-        Op::Pivot => 4,
-    }
 }
 
 // The operation of a number.

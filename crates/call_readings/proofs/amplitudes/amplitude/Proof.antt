@@ -1,3 +1,4 @@
+-- `amplitude` meets its contract: the first line that holds, or the bits of the three floats at y.
 use mathlib.Core.Path.{ap, refl, subst, sym, _∙_}
 use borrow.Author.Needs.{needs}
 use Rattle.calls.specs.Amplitudes.{bitsOf}
