@@ -9,4 +9,5 @@ pub mod Mapping
 pub mod OverSets
 pub mod Parts
 pub mod Reaching
+pub mod SentenceLaws
 pub mod Tabulate

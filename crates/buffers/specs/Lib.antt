@@ -2,4 +2,5 @@ pub mod Answers
 pub mod Buffers
 pub mod Calls
 pub mod Refusals
+pub mod Sentences
 pub mod internal
