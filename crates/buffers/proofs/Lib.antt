@@ -9,5 +9,6 @@ pub mod Mapping
 pub mod OverSets
 pub mod Parts
 pub mod Reaching
+pub mod SentenceLaws
 pub mod Tabulate
 pub mod Writing

@@ -31,7 +31,11 @@ use Rattle.claims.specs.Equivalents.{
   SameRecordsWhereSmall,
   SameWhereSmall,
   ThirdDemandTo64,
+  equivalentSentences,
 }
+use Rattle.buffers.proofs.SentenceLaws.{and-line}
+use Rattle.claims.proofs.NumbersHold.{in-words, none-of-choices, pair-words}
+use Rattle.claims.specs.Numbers.{pairSentences}
 
 pub to-64 : ThirdDemandTo64
 to-64 l m choice list count r choice′ list′ count′ C A =
@@ -131,6 +135,9 @@ module _ (l m : GeneratorList) (choice list : List ℕ) (count : ℕ) (choice′
       record {
         answered = answered (conforms l m choice list count choice′ list′ count′) C;
         accepted = exactly;
+        numbers = in-words (equivalentSentences l m choice list)
+            (and-line (pairLines l m choice list) (pairSentences l m choice list) 13 (pair-words l m choice list)
+            (none-of-choices l m choice list)) C;
         to-64 = to-64 l m choice list count r choice′ list′ count′ C;
         never-3 = never-3 l m choice list count r choice′ list′ count′ C;
         same = λ small small₂. same-where-small l m choice list count r choice′ list′ count′ small small₂ .1 C;

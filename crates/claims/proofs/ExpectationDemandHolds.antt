@@ -45,7 +45,7 @@ use Rattle.claims.proofs.MeasurementsFollow.{measurements-follow}
 use Rattle.claims.proofs.PivotStepsHold.{pivot-fits, pivot-kept, pivot-left}
 use Rattle.claims.proofs.RewritingsKeep.{complements-keep}
 use Rattle.claims.proofs.SecondDemandLists.{reduction-keeps-group}
-use Rattle.claims.proofs.UsedDemandHolds.{accepted-measured-without, reduced-without, reductions-unused}
+use Rattle.claims.proofs.UsedDemandHolds.{accepted-measured-without, reductions-unused}
 use Rattle.claims.specs.ExpectationDemand.{
   ComplementsKeepValues,
   ContradictionsAgree,
@@ -227,7 +227,7 @@ reductions-keep-values l nb cs used nb′ cs′ used′ C =
     (accepted-record after false false
     (lines-pass (record { held = after; used = used′ }) false false false .0
     (reductions-unused l nb cs used nb′ cs′ used′ C .passes) .0) .proper)
-    (reduction-keeps-group l nb cs nb′ cs′ (reduced-without l nb cs used nb′ cs′ used′ C))
+    (reduction-keeps-group l nb cs used nb′ cs′ used′ C)
   where
     after : LentRecord
     after = record { n = l .n; neighbours = nb′; codes = cs′ }

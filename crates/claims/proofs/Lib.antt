@@ -2,6 +2,7 @@ pub mod AcceptedCallsHold
 pub mod AcceptedPairs
 pub mod ActionsByCalls
 pub mod AmplitudeDemandHolds
+pub mod ClaimsCompareRecordsNumbersHold
 pub mod ComparedByParts
 pub mod Contradictions
 pub mod CutDemandHolds
@@ -21,6 +22,7 @@ pub mod LinesExactly
 pub mod ListDemandHolds
 pub mod MeasurementsFollow
 pub mod NamedSessions
+pub mod NumbersHold
 pub mod OrbitDemandHolds
 pub mod PartsDemandHolds
 pub mod PartsReached

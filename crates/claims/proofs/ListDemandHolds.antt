@@ -37,7 +37,7 @@ use Rattle.claims.specs.ListDemand.{
   ReductionAnswers,
   ownRow,
 }
-use Rattle.claims.specs.SecondDemand.{unused}
+use Rattle.claims.specs.SecondDemand.{recordLeft}
 
 -- ---- lists
 pub checks-tell : ChecksTell
@@ -97,10 +97,10 @@ module _ (n : ℕ) (R : ℕ → Pauli) (r : GraphRecord) (F : ReductionOf n R r)
       }
 
 pub reduction-answers : ReductionAnswers
-reduction-answers l nb cs nb′ cs′ C =
+reduction-answers l nb cs used nb′ cs′ used′ C =
     let A = accepted-list l _ (sym (C .number)) in
     let F = reduced-is (l .n) (rows l) (A .proper) in
-    subst (ReducedTo l) (sym (holds-reduced l nb cs nb′ cs′ C))
+    subst (ReducedTo l) (sym (holds-reduced l nb cs used nb′ cs′ used′ C))
     (record {
       taken = records-taken _ (record {
         no-line = unused-passes (writtenRecord (l .n) (reduced (l .n) (rows l))) false false
@@ -113,6 +113,6 @@ reduction-answers l nb cs nb′ cs′ C =
     })
 
 pub list-brought-back : ListBroughtBack
-list-brought-back l nb cs nb′ cs′ s z x s′ z′ x′ C E =
-    same-trans (reduction-keeps-group l nb cs nb′ cs′ C)
-    (expansion-brings-back (unused (l .n) nb′ cs′) s z x s′ z′ x′ E .group)
+list-brought-back l nb cs nb′ cs′ s z x s′ z′ x′ used used′ C E =
+    same-trans (reduction-keeps-group l nb cs used nb′ cs′ used′ C)
+    (expansion-brings-back (recordLeft (l .n) nb′ cs′ used′) s z x s′ z′ x′ E .group)

@@ -107,7 +107,7 @@ pub small-parts : (l : GeneratorList) → hasLargePart l ≡ false → SmallPart
 unfolding partAbove
 small-parts l e q k = ltb-false 20 (partSize l q) (some-false (l .n) (λ q. ltb 20 (partSize l q)) e q k)
 
-large-exactly : (l : GeneratorList) → (hasLargePart l ≡ true) ↔ LargePart l
+pub large-exactly : (l : GeneratorList) → (hasLargePart l ≡ true) ↔ LargePart l
 unfolding partAbove
 large-exactly l = (
   (λ e. let F = some-true (l .n) (λ q. ltb 20 (partSize l q)) e in

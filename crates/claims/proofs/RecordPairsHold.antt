@@ -43,8 +43,11 @@ use Rattle.claims.specs.RecordPairs.{
   RecordComparisonsConform,
   RecordPairsDemand,
   SameOnExpansions,
+  compareRecordsSentences,
   expansion,
 }
+use Rattle.claims.proofs.NumbersHold.{in-words}
+use Rattle.claims.proofs.ClaimsCompareRecordsNumbersHold.{compare-words}
 
 -- the second record, with n as its number of qubits
 abbrev pub withCount : LentRecord → ℕ → LentRecord
@@ -157,6 +160,7 @@ compare-records-says l m choice list count choice′ list′ count′ r C =
     record {
       answered = answered (record-comparisons-conform l m choice list count choice′ list′ count′) C;
       accepted = record-comparisons-accepted l m choice list count choice′ list′ count′ r C;
+      numbers = in-words (compareRecordsSentences l m choice list) (compare-words l m choice list) C;
       same = λ e. same-on-expansions l m choice list count choice′ list′ count′ r e .0 C;
       taken = records-taken l m choice list (C .number);
       to-20 = λ A h. let e = records-pass l m choice list A in

@@ -25,12 +25,15 @@ use Rattle.claims.proofs.Expansions.{
   refusal-back,
 }
 use Rattle.claims.proofs.RecordPairsHold.{pairs-pass, records-pass, withCount}
-use Rattle.claims.specs.RecordPairs.{expansion}
+use Rattle.claims.specs.RecordPairs.{expansion, recordsSentences}
 use Rattle.comparison.specs.Compared.{equivalentLines, pairLines}
 use Rattle.buffers.specs.Calls.{Call}
 use Rattle.record.specs.Lent.{LentRecord, heldRows}
 use Rattle.claims.proofs.EquivalentsHold.{conforms, same-records-where-small, to-64}
-use Rattle.claims.specs.Equivalents.{EquivalentRecordsSays}
+use Rattle.claims.specs.Equivalents.{EquivalentRecordsSays, equivalentRecordsSentences}
+use Rattle.buffers.proofs.SentenceLaws.{and-line}
+use Rattle.claims.proofs.NumbersHold.{in-words}
+use Rattle.claims.proofs.ClaimsCompareRecordsNumbersHold.{none-of-choices, records-words}
 
 -- ---- two records on the same number of qubits: what the call answers, the call on lists answers on the expansions
 module _ (n : ℕ) (nb cs nb₂ cs₂ chosen list : List ℕ)
@@ -114,6 +117,9 @@ pub equivalent-records-says : (l m : LentRecord) (choice list : List ℕ) (count
 equivalent-records-says l m choice list count choice′ list′ count′ r C =
     record {
       answered = answered (records-conform l m choice list count choice′ list′ count′) C;
+      numbers = in-words (equivalentRecordsSentences l m choice list)
+          (and-line (recordsLines l m choice list) (recordsSentences l m choice list) 13
+          (records-words l m choice list) (none-of-choices l m choice list)) C;
       expanded = λ e. expanded l m choice list count choice′ list′ count′ r e C;
       to-64 = λ A. let e = records-pass l m choice list A in
           to-64 (expansion l) (expansion m) choice list count r choice′ list′ count′

@@ -1,11 +1,11 @@
 -- Many steps in one call: the record that it leaves stands for the group after the steps, and the answers say what the
 -- definitions say of the group that each step meets.
 use mathlib.Core.List.{List, map}
-use mathlib.Core.Path.{_∙_, _≡_, ap, subst, sym}
+use mathlib.Core.Path.{_∙_, _≡_, ap, refl, subst, sym}
 use Prim.Native.Nat.{_<_, ℕ}
 use lib.ListN.{getD, length, take}
 use Rattle.calls.proofs.RunLines.{after-15, no-further-argument}
-use Rattle.calls.specs.Runs.{LentSteps, runCall, stepsOf}
+use Rattle.calls.specs.Runs.{LentSteps, runCall, runLines, stepsOf}
 use Rattle.claims.proofs.JobsStand.{runs-stand}
 use Rattle.claims.proofs.StepLines.{line-says}
 use Rattle.claims.proofs.families.Shared.{answered, at-zero}
@@ -24,7 +24,11 @@ use Rattle.jobs.specs.declared.Step.{Step}
 use Rattle.jobs.proofs.StepAnswers.{each-answered, part-at}
 use Rattle.operations.specs.Used.{UsedRecord}
 use Rattle.claims.proofs.RunFitting.{run-accepted-exactly, run-buffers-unread, run-conforms, run-taken}
-use Rattle.claims.specs.RunDemand.{RunDemand, RunSays, RunStands, answerIn, heldGroup}
+use Rattle.claims.specs.RunDemand.{RunDemand, RunSays, RunStands, answerIn, heldGroup, runSentences}
+use Rattle.buffers.proofs.SentenceLaws.{Matches, above, or-decides, or-none, some-above, stray}
+use Rattle.claims.proofs.NumbersHold.{in-words, three}
+use Rattle.record.proofs.RecordInWords.{code-above-23, misfits, stray-neighbour}
+use Rattle.operations.proofs.UsedInWords.{used-in-words}
 
 module _ (u : UsedRecord) (s : LentSteps) (nb cs : List ℕ) (used : ℕ) (refusals outcomes determined : List ℕ)
     (C : Call (runCall u s nb cs used refusals outcomes determined) 0) where
@@ -93,6 +97,20 @@ run-demand =
           run-stands (started n) s nb cs used refusals outcomes determined C (StartGroup n) (started-stands n positive upto);
     }
 
+-- its lines in words
+run-words : (u : UsedRecord) (s : LentSteps) → Matches (runLines u s) (runSentences u s)
+run-words u s = (
+  refl,
+  (
+    above 4096 (length (s .ops)),
+    λ e. used-in-words u _ false _ _ _ _
+        (or-decides (misfits (u .held)) (or-decides (three (length (s .ops)) (s .a) (s .b) (s .value))
+        (three (length (s .ops)) (s .refusals) (s .outcomes) (s .determined))))
+        (or-decides (stray-neighbour (u .held)) (or-none (stray (u .held .n) (u .used))))
+        (or-decides (code-above-23 (u .held)) (some-above 4 (s .ops))),
+  ),
+)
+
 -- what the documents say of the exported function, from its contract
 pub run-says : (u : UsedRecord) (s : LentSteps) (nb′ cs′ : List ℕ) (used′ : ℕ)
     (refusals′ outcomes′ determined′ : List ℕ) (r : ℕ) →
@@ -102,6 +120,7 @@ run-says u s nb′ cs′ used′ refusals′ outcomes′ determined′ r C =
     record {
       answered = answered (run-conforms u s nb′ cs′ used′ refusals′ outcomes′ determined′) C;
       accepted = run-accepted-exactly u s nb′ cs′ used′ refusals′ outcomes′ determined′ r C;
+      numbers = in-words (runSentences u s) (run-words u s) C;
       taken = run-taken u s nb′ cs′ used′ refusals′ outcomes′ determined′ r C;
       follows = λ z. let D = at-zero C z in
           run-stands u s nb′ cs′ used′ refusals′ outcomes′ determined′ D (heldGroup u)

@@ -22,7 +22,7 @@ use Rattle.stabilizer.specs.Groups.{Proper, SameGroup}
 use Rattle.stabilizer.specs.Lists.{GeneratorList, rows}
 use Rattle.buffers.specs.Calls.{Call}
 use Rattle.calls.specs.Expansions.{expandCall}
-use Rattle.calls.specs.Lists.{reduceCall}
+use Rattle.calls.specs.Lists.{reduceUnusedCall}
 use Rattle.operations.proofs.UsedPassing.{lines-pass}
 use Rattle.operations.specs.Used.{UsedRecord}
 use Rattle.claims.specs.SecondDemand.{
@@ -33,7 +33,7 @@ use Rattle.claims.specs.SecondDemand.{
   ReducedCodes,
   ReducesToItself,
   ReductionKeepsGroup,
-  unused,
+  recordLeft,
 }
 
 -- records and lists as they are lent, by their buffers
@@ -48,19 +48,20 @@ listed : {n : ℕ} {s s₂ z z₂ x x₂ : List ℕ} → s ≡ s₂ → z ≡ z�
 listed {n} p q r = λ i. record { n = n; signs = p i; z = q i; x = r i }
 
 -- ---- an accepted reduction
-module _ (l : GeneratorList) (nb cs nb′ cs′ : List ℕ) (C : Call (reduceCall l nb cs nb′ cs′) 0) where
+module _ (l : GeneratorList) (nb cs : List ℕ) (used : ℕ) (nb′ cs′ : List ℕ) (used′ : ℕ)
+    (C : Call (reduceUnusedCall l nb cs used nb′ cs′ used′) 0) where
   reduced-list : AcceptedList l
   reduced-list = accepted-list l _ (sym (C .number))
 
   -- the buffers hold the reduced record
   pub holds-reduced : _≡_ {A = LentRecord} (record { n = l .n; neighbours = nb′; codes = cs′ })
       (writtenRecord (l .n) (reduced (l .n) (rows l)))
-  holds-reduced = lent (C .held .0) (C .held .1 .0)
+  holds-reduced = lent (C .held .1 .0) (C .held .1 .1 .0)
 
 pub reduction-keeps-group : ReductionKeepsGroup
-reduction-keeps-group l nb cs nb′ cs′ C =
-    subst (λ r. SameGroup (l .n) (l .n) (rows l) (heldRows r)) (sym (holds-reduced l nb cs nb′ cs′ C))
-    (reduced-held-same (l .n) (rows l) (reduced-list l nb cs nb′ cs′ C .proper))
+reduction-keeps-group l nb cs used nb′ cs′ used′ C =
+    subst (λ r. SameGroup (l .n) (l .n) (rows l) (heldRows r)) (sym (holds-reduced l nb cs used nb′ cs′ used′ C))
+    (reduced-held-same (l .n) (rows l) (reduced-list l nb cs used nb′ cs′ used′ C .proper))
 
 -- ---- an accepted expansion
 module _ (u : UsedRecord) (s z x s′ z′ x′ : List ℕ) (C : Call (expandCall u s z x s′ z′ x′) 0) where
@@ -80,12 +81,12 @@ expansion-brings-back u s z x s′ z′ x′ C =
 
 -- ---- equal records exactly if equal groups
 pub equal-records-exactly : EqualExactly
-equal-records-exactly n s z x s₂ z₂ x₂ nb cs nb₂ cs₂ nb′ cs′ nb₂′ cs₂′ C D = (
+equal-records-exactly n s z x s₂ z₂ x₂ nb cs nb₂ cs₂ nb′ cs′ nb₂′ cs₂′ used used₂ used′ used₂′ C D = (
   λ e. equal-exactly n R S P Q .0 (same (lent (e .0) (e .1))),
   λ g. let e = record-path _ _ (equal-exactly n R S P Q .1 g) in (
-    C .held .0 ∙ ap (neighbourWords n) e ∙ sym (D .held .0),
-    C .held .1 .0 ∙ ap (codeNumbers n) e
-        ∙ sym (D .held .1 .0),
+    C .held .1 .0 ∙ ap (neighbourWords n) e ∙ sym (D .held .1 .0),
+    C .held .1 .1 .0 ∙ ap (codeNumbers n) e
+        ∙ sym (D .held .1 .1 .0),
   ),
 )
   where
@@ -102,52 +103,53 @@ equal-records-exactly n s z x s₂ z₂ x₂ nb cs nb₂ cs₂ nb′ cs′ nb₂
     S = rows m
 
     P : Proper n R
-    P = reduced-list l nb cs nb′ cs′ C .proper
+    P = reduced-list l nb cs used nb′ cs′ used′ C .proper
 
     Q : Proper n S
-    Q = reduced-list m nb₂ cs₂ nb₂′ cs₂′ D .proper
+    Q = reduced-list m nb₂ cs₂ used₂ nb₂′ cs₂′ used₂′ D .proper
 
     same : _≡_ {A = LentRecord} (record { n = n; neighbours = nb′; codes = cs′ })
         (record { n = n; neighbours = nb₂′; codes = cs₂′ }) → SameRecord (reduced n R) (reduced n S)
     same e =
         let p = sym (record-path _ _ (reduced-back n R P))
-        ∙ ap heldRecord (sym (holds-reduced l nb cs nb′ cs′ C) ∙ e
-        ∙ holds-reduced m nb₂ cs₂ nb₂′ cs₂′ D) ∙ record-path _ _ (reduced-back n S Q) in
+        ∙ ap heldRecord (sym (holds-reduced l nb cs used nb′ cs′ used′ C) ∙ e
+        ∙ holds-reduced m nb₂ cs₂ used₂ nb₂′ cs₂′ used₂′ D) ∙ record-path _ _ (reduced-back n S Q) in
         record { neighbours = λ i j. ap (λ r. r .graph i j) p; code = λ q. ap (λ r. r .codes q) p }
 
 -- ---- the reduced record of a reduced record's expansion
 pub reduces-to-itself : ReducesToItself
-reduces-to-itself l nb cs nb′ cs′ s z x s′ z′ x′ nb₂ cs₂ nb₂′ cs₂′ C E D = (
-  D .held .0 ∙ ap (λ r. neighbourWords (l .n) r) again ∙ sym (C .held .0),
-  D .held .1 .0 ∙ ap (λ r. codeNumbers (l .n) r) again ∙ sym (C .held .1 .0),
+reduces-to-itself l nb cs nb′ cs′ s z x s′ z′ x′ nb₂ cs₂ nb₂′ cs₂′ used used₂ used′ used₂′ C E D = (
+  D .held .1 .0 ∙ ap (λ r. neighbourWords (l .n) r) again ∙ sym (C .held .1 .0),
+  D .held .1 .1 .0 ∙ ap (λ r. codeNumbers (l .n) r) again ∙ sym (C .held .1 .1 .0),
 )
   where
     R : ℕ → Pauli
     R = rows l
 
     P : AcceptedList l
-    P = reduced-list l nb cs nb′ cs′ C
+    P = reduced-list l nb cs used nb′ cs′ used′ C
 
     again : reduced (l .n) (rows (record { n = l .n; signs = s′; z = z′; x = x′ })) ≡ reduced (l .n) (rows l)
     again =
         ap (λ m. reduced (l .n) (rows m))
-        (holds-expanded (unused (l .n) nb′ cs′) s z x s′ z′ x′ E ∙ ap expanded (holds-reduced l nb cs nb′ cs′ C))
+        (holds-expanded (recordLeft (l .n) nb′ cs′ used′) s z x s′ z′ x′ E ∙ ap expanded (holds-reduced l nb cs used nb′ cs′ used′ C))
         ∙ record-path _ _ (reduced-expands-back (l .n) (rows l) (P .proper) (P .formed .positive)
         (P .formed .upto))
 
 pub reduced-codes : ReducedCodes
-reduced-codes l nb cs nb′ cs′ C q k =
-    let A = reduced-codes-among (l .n) (rows l) (reduced-list l nb cs nb′ cs′ C .proper) q in
-    (A .0, A .1, ap (λ v. getD v q 0) (C .held .1 .0) ∙ tabulate-at (l .n) _ q k ∙ A .2)
+reduced-codes l nb cs used nb′ cs′ used′ C q k =
+    let A = reduced-codes-among (l .n) (rows l) (reduced-list l nb cs used nb′ cs′ used′ C .proper) q in
+    (A .0, A .1, ap (λ v. getD v q 0) (C .held .1 .1 .0) ∙ tabulate-at (l .n) _ q k ∙ A .2)
 
 -- ---- lists with any two numbers of qubits
 -- the words that a reduction leaves are n
-words-left : (l : GeneratorList) (nb cs nb′ cs′ : List ℕ) → Call (reduceCall l nb cs nb′ cs′) 0 → length nb′ ≡ l .n
-words-left l nb cs nb′ cs′ C = ap length (C .held .0) ∙ tabulate-length (l .n) _
+words-left : (l : GeneratorList) (nb cs : List ℕ) (used : ℕ) (nb′ cs′ : List ℕ) (used′ : ℕ) →
+    Call (reduceUnusedCall l nb cs used nb′ cs′ used′) 0 → length nb′ ≡ l .n
+words-left l nb cs used nb′ cs′ used′ C = ap length (C .held .1 .0) ∙ tabulate-length (l .n) _
 
 pub equal-for-all : EqualForAll
-equal-for-all l m nb cs nb₂ cs₂ nb′ cs′ nb₂′ cs₂′ C D = (
-  λ e. let same-count = sym (words-left l nb cs nb′ cs′ C) ∙ ap length (e .0) ∙ words-left m nb₂ cs₂ nb₂′ cs₂′ D in
+equal-for-all l m nb cs nb₂ cs₂ nb′ cs′ nb₂′ cs₂′ used used₂ used′ used₂′ C D = (
+  λ e. let same-count = sym (words-left l nb cs used nb′ cs′ used′ C) ∙ ap length (e .0) ∙ words-left m nb₂ cs₂ used₂ nb₂′ cs₂′ used₂′ D in
       (same-count, at (m .n) same-count D .0 e),
   λ h. at (m .n) (h .0) D .1 (h .1),
 )
@@ -156,9 +158,9 @@ equal-for-all l m nb cs nb₂ cs₂ nb′ cs′ nb₂′ cs₂′ C D = (
     on : ℕ → GeneratorList
     on k = record { n = k; signs = m .signs; z = m .z; x = m .x }
 
-    at : (k : ℕ) → l .n ≡ k → Call (reduceCall (on k) nb₂ cs₂ nb₂′ cs₂′) 0 →
+    at : (k : ℕ) → l .n ≡ k → Call (reduceUnusedCall (on k) nb₂ cs₂ used₂ nb₂′ cs₂′ used₂′) 0 →
         ((nb′ ≡ nb₂′) × (cs′ ≡ cs₂′)) ↔ SameGroup (l .n) (l .n) (rows l) (rows (on k))
-    at k e = subst (λ k. Call (reduceCall (on k) nb₂ cs₂ nb₂′ cs₂′) 0 →
+    at k e = subst (λ k. Call (reduceUnusedCall (on k) nb₂ cs₂ used₂ nb₂′ cs₂′ used₂′) 0 →
         ((nb′ ≡ nb₂′) × (cs′ ≡ cs₂′)) ↔ SameGroup (l .n) (l .n) (rows l) (rows (on k))) e
         (λ D. equal-records-exactly (l .n) (l .signs) (l .z) (l .x) (m .signs) (m .z) (m .x) nb cs nb₂ cs₂ nb′ cs′ nb₂′
-        cs₂′ C D)
+        cs₂′ used used₂ used′ used₂′ C D)

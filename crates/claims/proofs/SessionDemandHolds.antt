@@ -10,7 +10,7 @@ use Rattle.clifford.specs.Clifford.{Clifford, cliffordOf}
 use Rattle.clifford.specs.Vectors.{act}
 use Rattle.buffers.specs.Calls.{Call}
 use Rattle.calls.specs.Expansions.{expandCall}
-use Rattle.calls.specs.Lists.{reduceCall}
+use Rattle.calls.specs.Lists.{reduceUnusedCall}
 use Rattle.operations.proofs.CzGroups.{cz-proper}
 use Rattle.operations.proofs.Determined.{measured-proper}
 use Rattle.operations.proofs.Gating.{gated-row}
@@ -105,11 +105,11 @@ module _ (u : UsedRecord) (I : IsRecord u) (f : (ℕ → Pauli) → ℕ → Paul
     P : Proper n (f S)
     P = O .proper S (X .list .proper)
 
-    equal-all : (s z x nb cs nb₂ cs₂ : List ℕ) → SameGroup n n (f S) (rows (listIn n s z x)) →
-        Call (reduceCall (listIn n s z x) nb cs nb₂ cs₂) 0 → (nb₂ ≡ nb′) × (cs₂ ≡ cs′)
-    equal-all s z x nb cs nb₂ cs₂ G D = (
-      D .held .0 ∙ ap (neighbourWords n) same ∙ sym neighbours-held,
-      D .held .1 .0 ∙ ap (codeNumbers n) same ∙ sym codes-held,
+    equal-all : (s z x nb cs nb₂ cs₂ : List ℕ) (used used₂ : ℕ) → SameGroup n n (f S) (rows (listIn n s z x)) →
+        Call (reduceUnusedCall (listIn n s z x) nb cs used nb₂ cs₂ used₂) 0 → (nb₂ ≡ nb′) × (cs₂ ≡ cs′)
+    equal-all s z x nb cs nb₂ cs₂ used used₂ G D = (
+      D .held .1 .0 ∙ ap (neighbourWords n) same ∙ sym neighbours-held,
+      D .held .1 .1 .0 ∙ ap (codeNumbers n) same ∙ sym codes-held,
     )
       where
         same : reduced n (rows (listIn n s z x)) ≡ made (u .held) o
@@ -124,8 +124,8 @@ module _ (u : UsedRecord) (I : IsRecord u) (f : (ℕ → Pauli) → ℕ → Paul
           accepted = λ nb cs e d. ap (λ t. firstFitting (listLines (changed f (expanded (u .held))) t))
               (ap₂ _||_ (length-passes n nb e) (length-passes n cs d))
               ∙ back-passes n (f S) P (A .positive) (A .upto);
-          equal = λ nb cs nb₂ cs₂ D. let t = changed f (expanded (u .held)) in
-              equal-all (t .signs) (t .z) (t .x) nb cs nb₂ cs₂ (back-same n (f S) P) D;
+          equal = λ nb cs nb₂ cs₂ used used₂ D. let t = changed f (expanded (u .held)) in
+              equal-all (t .signs) (t .z) (t .x) nb cs nb₂ cs₂ used used₂ (back-same n (f S) P) D;
           equal-all = equal-all;
         }
 

@@ -8,13 +8,12 @@ use lib.ListN.{getD}
 use Rattle.buffers.specs.Refusals.{firstFitting}
 use Rattle.calls.proofs.InPlaceCalls.{measured-without, without-used}
 use Rattle.calls.specs.InPlace.{usedCall}
-use Rattle.calls.specs.Lists.{reduceCall, reduceUnusedCall}
 use Rattle.buffers.specs.Calls.{Call}
 use Rattle.operations.specs.Steps.{Operation, complementOf, czOn, gateWith, measurementOf, pivotOf}
 use Rattle.record.proofs.WrittenRecords.{reduced-passes}
 use Rattle.record.specs.Lent.{recordLines}
 use Rattle.stabilizer.proofs.Accepted.{AcceptedList, accepted-list}
-use Rattle.stabilizer.specs.Lists.{GeneratorList, rows}
+use Rattle.stabilizer.specs.Lists.{rows}
 use Rattle.operations.proofs.LeftRecords.{marks-measured, used-left}
 use Rattle.operations.proofs.UsedPassing.{unused-number, unused-passes}
 use Rattle.operations.proofs.UsedRefusing.{used-refused}
@@ -110,10 +109,6 @@ pub numbers-without : NumbersWithout
 numbers-without l o = unused-number l o
 
 -- ---- a record made from a list
-pub reduced-without : (l : GeneratorList) (nb cs : List ℕ) (used : ℕ) (nb′ cs′ : List ℕ) (used′ : ℕ) {r : ℕ}
-    → Call (reduceUnusedCall l nb cs used nb′ cs′ used′) r → Call (reduceCall l nb cs nb′ cs′) r
-reduced-without l nb cs used nb′ cs′ used′ C = record { number = C .number; held = C .held .1 }
-
 pub reductions-unused : ReductionsUnused
 reductions-unused l nb cs used nb′ cs′ used′ C =
     record {
@@ -123,7 +118,7 @@ reductions-unused l nb cs used nb′ cs′ used′ C =
         used = w;
       }) false false false) ≡ 0) (sym (C .held .0)) (unused-passes (record { n = l .n; neighbours = nb′; codes = cs′ }) false false
           (subst (λ r. firstFitting (recordLines r false false) ≡ 0)
-          (sym (holds-reduced l nb cs nb′ cs′ (reduced-without l nb cs used nb′ cs′ used′ C)))
+          (sym (holds-reduced l nb cs used nb′ cs′ used′ C))
           (reduced-passes (l .n) (rows l) (A .proper) (A .formed .positive) (A .formed .upto))));
     }
   where

@@ -1,23 +1,25 @@
 -- The comparison of parts of any size: demand 3 for n from 1 to 64, without a hypothesis on parts; and where no part is
 -- larger than 20 its answers are those of the comparison with the limit.
 use mathlib.Core.Bool.{false}
-use mathlib.Core.List.{List}
+use mathlib.Core.List.{_++_, List, [], _∷_}
 use mathlib.Core.Logic.{_↔_}
 use mathlib.Core.Path.{_≡_}
 use Prim.Native.Nat.{ℕ}
 use lib.ListN.{length}
 use Rattle.buffers.specs.Refusals.{firstFitting}
+use Rattle.buffers.specs.Sentences.{FirstTrue, Sentence, sentence}
 use Rattle.calls.specs.Comparisons.{compareCall}
 use Rattle.calls.specs.Equivalences.{equivalentCall, equivalentRecordsCall}
 use Rattle.calls.specs.RecordComparisons.{compareRecordsCall, recordLargePart, recordsLines}
 use Rattle.claims.specs.Arguments.{IsList}
 use Rattle.claims.specs.Conforming.{Answered}
+use Rattle.claims.specs.Numbers.{NoneCarries, pairSentences}
 use Rattle.claims.specs.PartsDemand.{SmallParts}
 use Rattle.claims.specs.ThirdDemand.{AcceptedPair, Decided}
-use Rattle.claims.specs.RecordPairs.{AcceptedRecords, expansion}
+use Rattle.claims.specs.RecordPairs.{AcceptedRecords, expansion, recordsSentences}
 use Rattle.clifford.specs.Clifford.{Clifford}
 use Rattle.buffers.specs.Calls.{Call}
-use Rattle.record.specs.Lent.{LentRecord}
+use Rattle.record.specs.Lent.{LentRecord, heldRows}
 use Rattle.stabilizer.specs.Carries.{Carries}
 use Rattle.stabilizer.specs.Lists.{GeneratorList, rows}
 
@@ -59,12 +61,23 @@ pub record EquivalentFits (l m : GeneratorList) (choice list : List ℕ) : Type 
   pub list-places : length list ≡ 96
   pub equivalent : (c : ℕ → Clifford) × Carries (l .n) c (rows l) (rows m)
 
+-- its lines in words: those of sukhlent_compare without 3
+abbrev pub equivalentSentences : GeneratorList → GeneratorList → List ℕ → List ℕ → List Sentence
+equivalentSentences l m choice list =
+    pairSentences l m choice list ++ (sentence 13 (NoneCarries (l .n) (rows l) (rows m)) ∷ [])
+
+-- .. and of two records
+abbrev pub equivalentRecordsSentences : LentRecord → LentRecord → List ℕ → List ℕ → List Sentence
+equivalentRecordsSentences l m choice list =
+    recordsSentences l m choice list ++ (sentence 13 (NoneCarries (l .n) (heldRows l) (heldRows m)) ∷ [])
+
 -- sukhlent_equivalent, in one record: demand 1, which arguments it accepts, demand 3 for n up to 64, and where no part
 -- is larger than 20 the answer of sukhlent_compare
 pub record EquivalentSays (l m : GeneratorList) (choice list : List ℕ) (count : ℕ) (choice′ list′ : List ℕ)
     (count′ r : ℕ) : Type 0 where
   pub answered : Answered (equivalentCall l m choice list count choice′ list′ count′) r
   pub accepted : (r ≡ 0) ↔ EquivalentFits l m choice list
+  pub numbers : FirstTrue (equivalentSentences l m choice list) r
   pub to-64 : AcceptedPair l m choice list → Decided l m list r choice′ list′ count′
   pub never-3 : r ≡ 3 → ⊥
   pub same : SmallParts l → SmallParts m → Call (compareCall l m choice list count choice′ list′ count′) r
@@ -74,6 +87,7 @@ pub record EquivalentSays (l m : GeneratorList) (choice list : List ℕ) (count 
 pub record EquivalentRecordsSays (l m : LentRecord) (choice list : List ℕ) (count : ℕ) (choice′ list′ : List ℕ)
     (count′ r : ℕ) : Type 0 where
   pub answered : Answered (equivalentRecordsCall l m choice list count choice′ list′ count′) r
+  pub numbers : FirstTrue (equivalentRecordsSentences l m choice list) r
   pub expanded : firstFitting (recordsLines l m choice list) ≡ 0 →
       Call (equivalentCall (expansion l) (expansion m) choice list count choice′ list′ count′) r
   pub to-64 : AcceptedRecords l m choice list → Decided (expansion l) (expansion m) list r choice′ list′ count′

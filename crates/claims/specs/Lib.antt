@@ -11,6 +11,7 @@ pub mod GeneratorDemand
 pub mod ImageDemand
 pub mod JobDemand
 pub mod ListDemand
+pub mod Numbers
 pub mod OperationsDemand
 pub mod OrbitDemand
 pub mod PartsDemand

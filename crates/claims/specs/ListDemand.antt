@@ -9,28 +9,25 @@ use Rattle.clifford.specs.Vectors.{act}
 use Rattle.buffers.specs.Calls.{Call}
 use Rattle.record.specs.Graph.{Graph, Simple}
 use Rattle.calls.specs.Expansions.{expandCall}
-use Rattle.calls.specs.Lists.{checkCall, reduceCall}
+use Rattle.calls.specs.Lists.{checkCall, reduceUnusedCall}
 use Rattle.jobs.specs.Standing.{StillRecord}
-use Rattle.pauli.specs.Pauli.{Pauli, anticommute, minus}
+use Rattle.pauli.specs.Pauli.{Pauli, minus}
 use Rattle.record.specs.Columns.{ColumnDependent}
 use Rattle.record.specs.Lent.{LentRecord, heldRecord, heldRows}
 use Rattle.record.specs.Records.{GraphRecord}
 use Rattle.record.specs.Reduced.{ReductionOf, hadamardWhere, plainCode, withHadamard, xWords}
+use Rattle.stabilizer.specs.ListSentences.{TwoClash}
 use Rattle.stabilizer.specs.Groups.{Generated, InGroup, Independent, SameGroup}
 use Rattle.stabilizer.specs.Lists.{GeneratorList, rows}
 use Rattle.operations.specs.Used.{UsedRecord, UsedUnrefused}
 use Rattle.words.specs.Bits.{Word, _⊕_}
 use Rattle.claims.specs.families.Records.{TakenByAll}
-use Rattle.claims.specs.SecondDemand.{unused}
+use Rattle.claims.specs.SecondDemand.{recordLeft}
 
 -- ---- lists
 -- "its group is all products, signs included"
 abbrev pub AllProducts : ℕ → (ℕ → Pauli) → Type 0
 AllProducts n R = (p : Pauli) → InGroup n n R p ↔ Generated n n R p
-
--- "Two generators do not commute"
-abbrev pub TwoClash : ℕ → (ℕ → Pauli) → Type 0
-TwoClash n R = (i : ℕ) × (j : ℕ) × (i < n) × (j < n) × (anticommute n (R i) (R j) ≡ true)
 
 -- what a check tells of the list besides
 pub record Checked (l : GeneratorList) (r : ℕ) : Type 0 where
@@ -81,11 +78,12 @@ pub record ReducedTo (l : GeneratorList) (r : LentRecord) : Type 0 where
 
 -- of every accepted call
 abbrev pub ReductionAnswers : Type 0
-ReductionAnswers = (l : GeneratorList) (nb cs nb′ cs′ : List ℕ) → Call (reduceCall l nb cs nb′ cs′) 0 →
-    ReducedTo l (record { n = l .n; neighbours = nb′; codes = cs′ })
+ReductionAnswers = (l : GeneratorList) (nb cs : List ℕ) (used : ℕ) (nb′ cs′ : List ℕ) (used′ : ℕ) →
+    Call (reduceUnusedCall l nb cs used nb′ cs′ used′) 0 → ReducedTo l (record { n = l .n; neighbours = nb′; codes = cs′ })
 
 -- "expansion brings that group back": the group of the list that was reduced
 abbrev pub ListBroughtBack : Type 0
-ListBroughtBack = (l : GeneratorList) (nb cs nb′ cs′ s z x s′ z′ x′ : List ℕ) → Call (reduceCall l nb cs nb′ cs′) 0 →
-    Call (expandCall (unused (l .n) nb′ cs′) s z x s′ z′ x′) 0 →
+ListBroughtBack = (l : GeneratorList) (nb cs nb′ cs′ s z x s′ z′ x′ : List ℕ) (used used′ : ℕ) →
+    Call (reduceUnusedCall l nb cs used nb′ cs′ used′) 0 →
+    Call (expandCall (recordLeft (l .n) nb′ cs′ used′) s z x s′ z′ x′) 0 →
     SameGroup (l .n) (l .n) (rows l) (rows (record { n = l .n; signs = s′; z = z′; x = x′ }))

@@ -1,10 +1,10 @@
 -- The comparison of two records: demand 1, which arguments it accepts, that its answer is that of `compare` on the
 -- records' expansions, and so demand 3.
 use mathlib.Core.Bool.{false}
-use mathlib.Core.List.{List}
+use mathlib.Core.List.{_++_, List, [], _∷_}
 use mathlib.Core.Logic.{_↔_, _⊎_}
 use mathlib.Core.Path.{_≡_}
-use Prim.Native.Nat.{ℕ, _≤_}
+use Prim.Native.Nat.{_<_, ℕ, _≤_}
 use lib.ListN.{length}
 use Rattle.buffers.specs.Refusals.{firstFitting}
 use Rattle.calls.specs.Comparisons.{compareCall}
@@ -17,6 +17,13 @@ use Rattle.buffers.specs.Calls.{Call}
 use Rattle.record.specs.Accepted.{AcceptedRecord}
 use Rattle.record.specs.Lent.{LentRecord, heldRows, recordLines}
 use Rattle.stabilizer.specs.Lists.{GeneratorList, listOf}
+use Rattle.buffers.specs.Sentences.{FirstTrue, Sentence, sentence}
+use Rattle.claims.specs.Numbers.{AnswersMisfit, CountsWrong, NoneCarries}
+use Rattle.cut.specs.Kernel.{count}
+use Rattle.record.specs.NeighbourWords.{graphIn}
+use Rattle.comparison.specs.Parts.{partOf}
+use Rattle.record.specs.RecordSentences.{CodeAbove23, NoSimpleGraph, RecordMisfits, StrayNeighbour}
+use Rattle.record.specs.Reduced.{reducedGraph}
 
 -- the record's expansion: its generators in order, as `expand` writes them
 abbrev pub expansion : LentRecord → GeneratorList
@@ -74,11 +81,31 @@ pub record AcceptedRecords (l m : LentRecord) (choice list : List ℕ) : Type 0 
   pub choice-places : length choice ≡ l .n
   pub list-places : length list ≡ 96
 
+-- ---- its lines in words
+-- lines 2 to 7 of two records
+abbrev pub recordsSentences : LentRecord → LentRecord → List ℕ → List ℕ → List Sentence
+recordsSentences l m choice list =
+    sentence 2 (CountsWrong (l .n) (m .n))
+    ∷ sentence 4 (RecordMisfits l ⊎ (RecordMisfits m ⊎ AnswersMisfit (l .n) choice list))
+    ∷ sentence 5 (StrayNeighbour l ⊎ StrayNeighbour m) ∷ sentence 6 (CodeAbove23 l ⊎ CodeAbove23 m)
+    ∷ sentence 7 (NoSimpleGraph (l .n) (graphIn (l .neighbours)) ⊎ NoSimpleGraph (m .n) (graphIn (m .neighbours))) ∷ []
+
+-- 3: "a part exceeds 20", of the record's reduced graph
+abbrev pub LargePartOf : LentRecord → Type 0
+LargePartOf l = (q : ℕ) × (q < l .n) × (20 < count (l .n) (partOf (l .n) (reducedGraph (l .n) (heldRows l)) q))
+
+-- then 3 and 13
+abbrev pub compareRecordsSentences : LentRecord → LentRecord → List ℕ → List ℕ → List Sentence
+compareRecordsSentences l m choice list =
+    recordsSentences l m choice list
+    ++ (sentence 3 (LargePartOf l ⊎ LargePartOf m) ∷ sentence 13 (NoneCarries (l .n) (heldRows l) (heldRows m)) ∷ [])
+
 -- ---- sukhlent_compare_records, in one record
 pub record CompareRecordsSays (l m : LentRecord) (choice list : List ℕ) (count : ℕ) (choice′ list′ : List ℕ)
     (count′ r : ℕ) : Type 0 where
   pub answered : Answered (compareRecordsCall l m choice list count choice′ list′ count′) r
   pub accepted : (r ≡ 0) ↔ CompareRecordsFits l m choice list
+  pub numbers : FirstTrue (compareRecordsSentences l m choice list) r
   -- the answer of `compare` on the expansions
   pub same : firstFitting (recordsLines l m choice list) ≡ 0 →
       Call (compareCall (expansion l) (expansion m) choice list count choice′ list′ count′) r

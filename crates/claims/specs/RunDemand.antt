@@ -1,8 +1,8 @@
 -- Many steps in one call: demand 1 of sukhlent_run, which arguments it accepts, and what the record that it leaves and the
 -- answer of each step say of the group. What `JobsStand` says of jobs is said of it: "the record after the first k steps
 -- stands for the group that the definitions give, refused steps counting as no change" (02, §5).
-use mathlib.Core.List.{List}
-use mathlib.Core.Logic.{_↔_}
+use mathlib.Core.List.{List, _∷_}
+use mathlib.Core.Logic.{_↔_, _⊎_}
 use mathlib.Core.Path.{_≡_}
 use Prim.Native.Nat.{_<_, ℕ, _≤_}
 use lib.ListN.{getD, length, take}
@@ -21,6 +21,10 @@ use Rattle.pauli.specs.Pauli.{Pauli}
 use Rattle.record.specs.Lent.{heldRows}
 use Rattle.stabilizer.specs.Groups.{InGroup}
 use Rattle.operations.specs.Used.{UsedRecord, UsedUnrefused}
+use Rattle.buffers.specs.Sentences.{FirstTrue, Sentence, SomeAbove, sentence}
+use Rattle.record.specs.RecordSentences.{CodeAbove23, RecordMisfits}
+use Rattle.operations.specs.UsedSentences.{StrayBit, usedSentences}
+use Rattle.claims.specs.Numbers.{ThreeMisfit}
 
 -- at most 4,096 steps, operations from 0 to 4, and seven slices of one length; what else a step asks is not looked at
 -- before it is run
@@ -38,6 +42,18 @@ pub record StepsFit (s : LentSteps) : Type 0 where
 pub record RunFits (u : UsedRecord) (s : LentSteps) : Type 0 where
   pub held : IsRecord u
   pub steps : StepsFit s
+
+-- a slice has another length than the operations
+abbrev pub SlicesDiffer : LentSteps → Type 0
+SlicesDiffer s =
+    ThreeMisfit (length (s .ops)) (s .a) (s .b) (s .value)
+    ⊎ ThreeMisfit (length (s .ops)) (s .refusals) (s .outcomes) (s .determined)
+
+-- its lines in words. 15: "more than 4,096 steps"; 4: "all seven slices have one length"; 6: "an op above 4"
+abbrev pub runSentences : UsedRecord → LentSteps → List Sentence
+runSentences u s =
+    sentence 15 (4096 < length (s .ops))
+    ∷ usedSentences u (RecordMisfits (u .held) ⊎ SlicesDiffer s) (StrayBit u) (CodeAbove23 (u .held) ⊎ SomeAbove 4 (s .ops))
 
 -- ---- what an accepted call leaves
 -- the group of a record: the products of its generators
@@ -65,6 +81,7 @@ pub record RunSays (u : UsedRecord) (s : LentSteps) (neighbours′ codes′ : Li
     (refusals′ outcomes′ determined′ : List ℕ) (r : ℕ) : Type 0 where
   pub answered : Answered (runCall u s neighbours′ codes′ used′ refusals′ outcomes′ determined′) r
   pub accepted : (r ≡ 0) ↔ RunFits u s
+  pub numbers : FirstTrue (runSentences u s) r
   -- every record that no line refuses is taken
   pub taken : UsedUnrefused u → StepsFit s → r ≡ 0
   pub follows : r ≡ 0 → RunStands u (heldGroup u) s neighbours′ codes′ used′ refusals′ outcomes′ determined′

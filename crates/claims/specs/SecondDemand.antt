@@ -11,13 +11,14 @@ use Rattle.record.specs.Lent.{LentRecord, heldRows}
 use Rattle.stabilizer.specs.Groups.{SameGroup}
 use Rattle.stabilizer.specs.Lists.{GeneratorList, rows}
 use Rattle.calls.specs.Expansions.{expandCall}
-use Rattle.calls.specs.Lists.{checkLines, reduceCall}
+use Rattle.calls.specs.Lists.{checkLines, reduceUnusedCall}
 use Rattle.operations.specs.Used.{UsedRecord}
 
 -- "a generator list and its reduced record stand for the same group"
 abbrev pub ReductionKeepsGroup : Type 0
 ReductionKeepsGroup =
-    (l : GeneratorList) (nb cs nb′ cs′ : List ℕ) → Call (reduceCall l nb cs nb′ cs′) 0 →
+    (l : GeneratorList) (nb cs : List ℕ) (used : ℕ) (nb′ cs′ : List ℕ) (used′ : ℕ) →
+    Call (reduceUnusedCall l nb cs used nb′ cs′ used′) 0 →
     SameGroup (l .n) (l .n) (rows l) (heldRows (record { n = l .n; neighbours = nb′; codes = cs′ }))
 
 -- "expansion brings that group back": the list written is accepted, and has the record's group; "Expansion writes
@@ -33,16 +34,16 @@ ExpansionBringsBack =
     (u : UsedRecord) (s z x s′ z′ x′ : List ℕ) → Call (expandCall u s z x s′ z′ x′) 0 →
     BroughtBack (u .held) (record { n = u .held .n; signs = s′; z = z′; x = x′ })
 
--- "a record made from a list has the word 0" of used qubits (02, §8)
-abbrev pub unused : ℕ → List ℕ → List ℕ → UsedRecord
-unused n nb cs = record { held = record { n = n; neighbours = nb; codes = cs }; used = 0 }
+-- the record that a reduction leaves, with its word of used qubits
+abbrev pub recordLeft : ℕ → List ℕ → List ℕ → ℕ → UsedRecord
+recordLeft n nb cs used = record { held = record { n = n; neighbours = nb; codes = cs }; used = used }
 
 -- "two accepted lists reduce to equal records exactly if their groups are equal"
 abbrev pub EqualExactly : Type 0
 EqualExactly =
-    (n : ℕ) (s z x s₂ z₂ x₂ nb cs nb₂ cs₂ nb′ cs′ nb₂′ cs₂′ : List ℕ) →
-    Call (reduceCall (record { n = n; signs = s; z = z; x = x }) nb cs nb′ cs′) 0 →
-    Call (reduceCall (record { n = n; signs = s₂; z = z₂; x = x₂ }) nb₂ cs₂ nb₂′ cs₂′) 0 →
+    (n : ℕ) (s z x s₂ z₂ x₂ nb cs nb₂ cs₂ nb′ cs′ nb₂′ cs₂′ : List ℕ) (used used₂ used′ used₂′ : ℕ) →
+    Call (reduceUnusedCall (record { n = n; signs = s; z = z; x = x }) nb cs used nb′ cs′ used′) 0 →
+    Call (reduceUnusedCall (record { n = n; signs = s₂; z = z₂; x = x₂ }) nb₂ cs₂ used₂ nb₂′ cs₂′ used₂′) 0 →
     ((nb′ ≡ nb₂′) × (cs′ ≡ cs₂′))
     ↔ SameGroup n n (rows (record { n = n; signs = s; z = z; x = x }))
     (rows (record { n = n; signs = s₂; z = z₂; x = x₂ }))
@@ -50,21 +51,22 @@ EqualExactly =
 -- the same of lists with any two numbers of qubits: equal records are of lists with one n
 abbrev pub EqualForAll : Type 0
 EqualForAll =
-    (l m : GeneratorList) (nb cs nb₂ cs₂ nb′ cs′ nb₂′ cs₂′ : List ℕ) → Call (reduceCall l nb cs nb′ cs′) 0 →
-    Call (reduceCall m nb₂ cs₂ nb₂′ cs₂′) 0 →
+    (l m : GeneratorList) (nb cs nb₂ cs₂ nb′ cs′ nb₂′ cs₂′ : List ℕ) (used used₂ used′ used₂′ : ℕ) →
+    Call (reduceUnusedCall l nb cs used nb′ cs′ used′) 0 → Call (reduceUnusedCall m nb₂ cs₂ used₂ nb₂′ cs₂′ used₂′) 0 →
     ((nb′ ≡ nb₂′) × (cs′ ≡ cs₂′)) ↔ ((l .n ≡ m .n) × SameGroup (l .n) (l .n) (rows l) (rows m))
 
 -- a reduced record, expanded and reduced again, is that record
 abbrev pub ReducesToItself : Type 0
 ReducesToItself =
-    (l : GeneratorList) (nb cs nb′ cs′ s z x s′ z′ x′ nb₂ cs₂ nb₂′ cs₂′ : List ℕ)
-    → Call (reduceCall l nb cs nb′ cs′) 0 →
-    Call (expandCall (unused (l .n) nb′ cs′) s z x s′ z′ x′) 0 →
-    Call (reduceCall (record { n = l .n; signs = s′; z = z′; x = x′ }) nb₂ cs₂ nb₂′ cs₂′) 0 →
+    (l : GeneratorList) (nb cs nb′ cs′ s z x s′ z′ x′ nb₂ cs₂ nb₂′ cs₂′ : List ℕ) (used used₂ used′ used₂′ : ℕ) →
+    Call (reduceUnusedCall l nb cs used nb′ cs′ used′) 0 →
+    Call (expandCall (recordLeft (l .n) nb′ cs′ used′) s z x s′ z′ x′) 0 →
+    Call (reduceUnusedCall (record { n = l .n; signs = s′; z = z′; x = x′ }) nb₂ cs₂ used₂ nb₂′ cs₂′ used₂′) 0 →
     (nb₂′ ≡ nb′) × (cs₂′ ≡ cs′)
 
 -- reduced codes are among 0, 2, 4, 6, 8 and 10
 abbrev pub ReducedCodes : Type 0
 ReducedCodes =
-    (l : GeneratorList) (nb cs nb′ cs′ : List ℕ) → Call (reduceCall l nb cs nb′ cs′) 0 → (q : ℕ) → q < l .n →
+    (l : GeneratorList) (nb cs : List ℕ) (used : ℕ) (nb′ cs′ : List ℕ) (used′ : ℕ) →
+    Call (reduceUnusedCall l nb cs used nb′ cs′ used′) 0 → (q : ℕ) → q < l .n →
     (i : ℕ) × (i < 6) × (getD cs′ q 0 ≡ 2 * i)

@@ -12,7 +12,7 @@ use Rattle.clifford.specs.Clifford.{cliffordOf}
 use Rattle.clifford.specs.Vectors.{act, only}
 use Rattle.buffers.specs.Calls.{Call}
 use Rattle.calls.specs.Expansions.{expandCall, expandLines}
-use Rattle.calls.specs.Lists.{reduceCall, reduceLines}
+use Rattle.calls.specs.Lists.{reduceLines, reduceUnusedCall}
 use Rattle.operations.specs.Cz.{cz}
 use Rattle.operations.specs.Measurement.{
   measuredOutcome,
@@ -66,12 +66,12 @@ pub record ReducesTo (m : GeneratorList) (f : (ℕ → Pauli) → ℕ → Pauli)
   pub accepted : (nb cs : List ℕ) → length nb ≡ m .n → length cs ≡ m .n →
       firstFitting (reduceLines (changed f m) nb cs) ≡ 0
   -- reducing it leaves nb′, cs′ there
-  pub equal : (nb cs nb₂ cs₂ : List ℕ) → Call (reduceCall (changed f m) nb cs nb₂ cs₂) 0 →
-      (nb₂ ≡ nb′) × (cs₂ ≡ cs′)
+  pub equal : (nb cs nb₂ cs₂ : List ℕ) (used used₂ : ℕ) →
+      Call (reduceUnusedCall (changed f m) nb cs used nb₂ cs₂ used₂) 0 → (nb₂ ≡ nb′) × (cs₂ ≡ cs′)
   -- and so does every other accepted list of that group, however it was made
-  pub equal-all : (s z x nb cs nb₂ cs₂ : List ℕ) →
+  pub equal-all : (s z x nb cs nb₂ cs₂ : List ℕ) (used used₂ : ℕ) →
       SameGroup (m .n) (m .n) (f (rows m)) (rows (listIn (m .n) s z x)) →
-      Call (reduceCall (listIn (m .n) s z x) nb cs nb₂ cs₂) 0 → (nb₂ ≡ nb′) × (cs₂ ≡ cs′)
+      Call (reduceUnusedCall (listIn (m .n) s z x) nb cs used nb₂ cs₂ used₂) 0 → (nb₂ ≡ nb′) × (cs₂ ≡ cs′)
 
 -- the answer nb′, cs′ of a call "equals the one from expanding, changing the list and reducing"
 pub record ByExpanding (u : UsedRecord) (f : (ℕ → Pauli) → ℕ → Pauli) (nb′ cs′ : List ℕ) : Type 0 where

@@ -21,3 +21,4 @@ pub mod SameGroupsLent
 pub mod SameGroupsMade
 pub mod SameGroups
 pub mod AloneNumbers
+pub mod GroupInWords

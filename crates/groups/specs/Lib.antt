@@ -1,4 +1,5 @@
 pub mod Masks
 pub mod GroupLines
 pub mod GroupStores
+pub mod GroupSentences
 pub mod internal

@@ -29,6 +29,7 @@ pub mod StayingAlone
 pub mod Totals
 pub mod UnrefusedRecords
 pub mod UsedExamples
+pub mod UsedInWords
 pub mod UsedPassing
 pub mod UsedRefusing
 pub mod UsedStaying

@@ -4,4 +4,5 @@ pub mod Measurement
 pub mod Steps
 pub mod Used
 pub mod UsedLaws
+pub mod UsedSentences
 pub mod internal

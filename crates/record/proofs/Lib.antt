@@ -16,6 +16,7 @@ pub mod Maximality
 pub mod Pivot
 pub mod PivotWords
 pub mod PlainRows
+pub mod RecordInWords
 pub mod RecordLines
 pub mod ReducedCodes
 pub mod ReducedRecords

@@ -3,6 +3,7 @@ pub mod Columns
 pub mod Graph
 pub mod Lent
 pub mod NeighbourWords
+pub mod RecordSentences
 pub mod Records
 pub mod Reduced
 pub mod internal

@@ -16,3 +16,4 @@ pub mod Accepted
 pub mod EqualRows
 pub mod ReadBack
 pub mod MembershipLaws
+pub mod ListInWords

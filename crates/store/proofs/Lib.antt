@@ -7,3 +7,4 @@ pub mod Names
 pub mod PlacedParts
 pub mod Lookups
 pub mod ForgottenNames
+pub mod StoreInWords

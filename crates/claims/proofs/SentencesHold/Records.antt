@@ -26,6 +26,10 @@ use Rattle.claims.proofs.UsedDemandHolds.{accepted-measured-without, ac
 use Rattle.claims.proofs.families.Records.{records-accepted, records-conform}
 use Rattle.claims.proofs.families.Shared.{answered, at-zero}
 use Rattle.claims.specs.Sentences.Records.{ComplementSays, CutSays, CzSays, ExpandSays, GateSays, ImageSays, MeasureSays}
+use Rattle.operations.proofs.UsedInWords.{complement-in-words, cz-in-words, gate-in-words, measure-in-words}
+use Rattle.operations.specs.UsedSentences.{complementSentences, czSentences, gateSentences, measureSentences}
+use Rattle.claims.proofs.NumbersHold.{cut-words, expand-words, image-words, in-words}
+use Rattle.claims.specs.Numbers.{expandSentences, imageSentences, withWordSentences}
 
 -- an accepted call in place, without the used word
 plainly : (u : UsedRecord) (o : Operation) (nb′ cs′ : List ℕ) {r : ℕ} → Call (usedCall u o nb′ cs′) r → r ≡ 0 →
@@ -49,6 +53,7 @@ expand-says u s z x s′ z′ x′ r C =
     record {
       answered = answered (records-conform .expand u s z x s′ z′ x′) C;
       accepted = records-accepted .expand u s z x s′ z′ x′ r C;
+      numbers = in-words (expandSentences u s z x) (expand-words u s z x) C;
       group = λ e. expansion-brings-back u s z x s′ z′ x′ (at-zero C e);
     }
 
@@ -58,6 +63,7 @@ gate-says u q k nb′ cs′ r C =
     record {
       answered = answered (records-conform .in-place u (gateWith q k) nb′ cs′) C;
       accepted = records-accepted .gate u q k nb′ cs′ r C;
+      numbers = in-words (gateSentences u q k) (gate-in-words u q k) C;
       group = λ z. gates-follow (u .held) q k nb′ cs′ (plainly u (gateWith q k) nb′ cs′ C z);
       ranks = λ z. gates-keep-ranks (u .held) q k nb′ cs′ (plainly u (gateWith q k) nb′ cs′ C z);
       by-expanding = λ z. gates-by-expanding u q k nb′ cs′ (at-zero C z);
@@ -73,6 +79,7 @@ cz-says u a b nb′ cs′ r C =
     record {
       answered = answered (records-conform .in-place u (czOn a b) nb′ cs′) C;
       accepted = records-accepted .cz u a b nb′ cs′ r C;
+      numbers = in-words (czSentences u a b) (cz-in-words u a b) C;
       group = λ z. cz-follows (u .held) a b nb′ cs′ (plainly u (czOn a b) nb′ cs′ C z);
       ranks = λ z. cz-keeps-ranks (u .held) a b nb′ cs′ (plainly u (czOn a b) nb′ cs′ C z);
       by-expanding = λ z. cz-by-expanding u a b nb′ cs′ (at-zero C z);
@@ -88,6 +95,7 @@ complement-says u a nb′ cs′ r C =
     record {
       answered = answered (records-conform .in-place u (complementOf a) nb′ cs′) C;
       accepted = records-accepted .complement u a nb′ cs′ r C;
+      numbers = in-words (complementSentences u a) (complement-in-words u a) C;
       group = λ z. complements-keep (u .held) a nb′ cs′ (plainly u (complementOf a) nb′ cs′ C z);
       ranks = λ z. complements-keep-ranks (u .held) a nb′ cs′ (plainly u (complementOf a) nb′ cs′ C z);
       copied = λ z. calls-copy u (complementOf a) (not-measured refl) nb′ cs′ (at-zero C z);
@@ -103,6 +111,7 @@ measure-says u pauli q b answer determined nb′ cs′ used′ answer′ determi
     record {
       answered = answered (records-conform .measurements u pauli q b answer determined nb′ cs′ used′ answer′ determined′) C;
       accepted = records-accepted .measure u pauli q b answer determined nb′ cs′ used′ answer′ determined′ r C;
+      numbers = in-words (measureSentences u pauli q b) (measure-in-words u pauli q b) C;
       group = λ z. measurements-follow (u .held) pauli q b answer determined nb′ cs′ answer′ determined′
           (accepted-measured-without u pauli q b answer determined nb′ cs′ used′ answer′ determined′ (at-zero C z));
       contradicted = contradictions-refused u pauli q b answer determined r nb′ cs′ used′ answer′ determined′ C;
@@ -122,6 +131,7 @@ image-says l image signs list count image′ signs′ list′ count′ r C =
     record {
       answered = answered (records-conform .images l image signs list count image′ signs′ list′ count′) C;
       accepted = records-accepted .image l image signs list count image′ signs′ list′ count′ r C;
+      numbers = in-words (imageSentences l image signs list) (image-words l image signs list) C;
       decided = images-follow l image signs list count r image′ signs′ list′ count′ C;
     }
 
@@ -131,5 +141,6 @@ cut-says u side rank rank′ r C =
     record {
       answered = answered (records-conform .cuts u side rank rank′) C;
       accepted = records-accepted .cut u side rank rank′ r C;
+      numbers = in-words (withWordSentences u side) (cut-words u side) C;
       answer = λ z. cuts-answer u side rank rank′ (at-zero C z);
     }

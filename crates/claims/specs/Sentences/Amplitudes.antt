@@ -9,9 +9,12 @@ use Rattle.operations.specs.Used.{UsedRecord}
 use Rattle.claims.specs.AmplitudeDemand.{AmplitudeAnswer, floatIn}
 use Rattle.claims.specs.Conforming.{Answered}
 use Rattle.claims.specs.families.Amplitudes.{AmplitudeFits}
+use Rattle.buffers.specs.Sentences.{FirstTrue}
+use Rattle.claims.specs.Numbers.{withWordSentences}
 
 -- of amplitude: demand 1, bit for bit, and that the floats answered are the state that the group fixes
 pub record AmplitudeSays (u : UsedRecord) (y re im p re′ im′ p′ r : ℕ) : Type 0 where
   pub answered : Answered (amplitudeCall u y re im p re′ im′ p′) r
   pub accepted : (r ≡ 0) ↔ AmplitudeFits u y
+  pub numbers : FirstTrue (withWordSentences u y) r
   pub answer : r ≡ 0 → AmplitudeAnswer (u .held .n) (heldRows (u .held)) y (floatIn re′) (floatIn im′) (floatIn p′)

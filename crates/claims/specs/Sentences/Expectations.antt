@@ -8,9 +8,12 @@ use Rattle.operations.specs.Used.{UsedRecord}
 use Rattle.claims.specs.Conforming.{Answered}
 use Rattle.claims.specs.ExpectationDemand.{ExpectationAnswer}
 use Rattle.claims.specs.families.Expectations.{ExpectationFits}
+use Rattle.buffers.specs.Sentences.{FirstTrue}
+use Rattle.claims.specs.Numbers.{withRowSentences}
 
 -- sukhlent_expectation: demand 1; the answer is one of three, by membership in the group
 pub record ExpectationSays (u : UsedRecord) (z x value value′ r : ℕ) : Type 0 where
   pub answered : Answered (expectationCall u z x value value′) r
   pub accepted : (r ≡ 0) ↔ ExpectationFits u z x
+  pub numbers : FirstTrue (withRowSentences u z x) r
   pub answer : r ≡ 0 → ExpectationAnswer (u .held) z x value′

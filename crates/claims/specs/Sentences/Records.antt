@@ -28,17 +28,22 @@ use Rattle.claims.specs.SecondDemand.{BroughtBack}
 use Rattle.claims.specs.SessionDemand.{ByExpanding, czChange, gateChange, MeasuredByExpanding, MeasureNumberByExpanding, NumberByExpanding}
 use Rattle.claims.specs.UsedDemand.{SixteenExactly, UsedCopied, UsedMarked, leftUsed}
 use Rattle.claims.specs.families.Records.{ComplementFits, CutFits, CzFits, ExpandFits, GateFits, ImageFits, MeasureFits}
+use Rattle.buffers.specs.Sentences.{FirstTrue}
+use Rattle.operations.specs.UsedSentences.{complementSentences, czSentences, gateSentences, measureSentences}
+use Rattle.claims.specs.Numbers.{expandSentences, imageSentences, withWordSentences}
 
 -- sukhlent_expand: demands 1 and 2
 pub record ExpandSays (u : UsedRecord) (s z x s′ z′ x′ : List ℕ) (r : ℕ) : Type 0 where
   pub answered : Answered (expandCall u s z x s′ z′ x′) r
   pub accepted : (r ≡ 0) ↔ ExpandFits u s z x
+  pub numbers : FirstTrue (expandSentences u s z x) r
   pub group : r ≡ 0 → BroughtBack (u .held) (record { n = u .held .n; signs = s′; z = z′; x = x′ })
 
 -- sukhlent_gate: demands 1 and 2, and ranks across cuts (02, §1)
 pub record GateSays (u : UsedRecord) (q k : ℕ) (nb′ cs′ : List ℕ) (r : ℕ) : Type 0 where
   pub answered : Answered (usedCall u (gateWith q k) nb′ cs′) r
   pub accepted : (r ≡ 0) ↔ GateFits u q k
+  pub numbers : FirstTrue (gateSentences u q k) r
   pub group : r ≡ 0 → GateStands (u .held) q k (left (u .held) nb′ cs′)
   pub ranks : r ≡ 0 → (side : Word) → rankAcross side (left (u .held) nb′ cs′) ≡ rankAcross side (u .held)
   pub by-expanding : r ≡ 0 → ByExpanding u (gateChange (u .held .n) q k) nb′ cs′
@@ -51,6 +56,7 @@ pub record GateSays (u : UsedRecord) (q k : ℕ) (nb′ cs′ : List ℕ) (r : �
 pub record CzSays (u : UsedRecord) (a b : ℕ) (nb′ cs′ : List ℕ) (r : ℕ) : Type 0 where
   pub answered : Answered (usedCall u (czOn a b) nb′ cs′) r
   pub accepted : (r ≡ 0) ↔ CzFits u a b
+  pub numbers : FirstTrue (czSentences u a b) r
   pub group : r ≡ 0 → CzStands (u .held) a b (left (u .held) nb′ cs′)
   pub ranks : r ≡ 0 → (side : Word) → side a ≡ side b →
       rankAcross side (left (u .held) nb′ cs′) ≡ rankAcross side (u .held)
@@ -64,6 +70,7 @@ pub record CzSays (u : UsedRecord) (a b : ℕ) (nb′ cs′ : List ℕ) (r : ℕ
 pub record ComplementSays (u : UsedRecord) (a : ℕ) (nb′ cs′ : List ℕ) (r : ℕ) : Type 0 where
   pub answered : Answered (usedCall u (complementOf a) nb′ cs′) r
   pub accepted : (r ≡ 0) ↔ ComplementFits u a
+  pub numbers : FirstTrue (complementSentences u a) r
   pub group : r ≡ 0 →
       RewrittenAs (u .held) (left (u .held) nb′ cs′) (complementRecord (heldRecord (u .held)) a)
   pub ranks : r ≡ 0 → (side : Word) → rankAcross side (left (u .held) nb′ cs′) ≡ rankAcross side (u .held)
@@ -76,6 +83,7 @@ pub record MeasureSays (u : UsedRecord) (pauli q b answer determined : ℕ) (nb�
     (used′ answer′ determined′ r : ℕ) : Type 0 where
   pub answered : Answered (usedMeasureCall u pauli q b answer determined nb′ cs′ used′ answer′ determined′) r
   pub accepted : (r ≡ 0) ↔ MeasureFits u pauli q b
+  pub numbers : FirstTrue (measureSentences u pauli q b) r
   pub group : r ≡ 0 → MeasurementStands (u .held) pauli q b (left (u .held) nb′ cs′) answer′ determined′
   pub contradicted : OutcomeContradicted u pauli q b answer determined r nb′ cs′ used′ answer′ determined′
   pub by-expanding : r ≡ 0 → MeasuredByExpanding u pauli q b nb′ cs′ answer′ determined′
@@ -89,6 +97,7 @@ pub record ImageSays (l : LentRecord) (image signs list : List ℕ) (count : ℕ
     (count′ r : ℕ) : Type 0 where
   pub answered : Answered (imageCall l image signs list count image′ signs′ list′ count′) r
   pub accepted : (r ≡ 0) ↔ ImageFits l image signs list
+  pub numbers : FirstTrue (imageSentences l image signs list) r
   pub decided : firstFitting (recordLines l (otherThan (l .n) image
       || (otherThan (l .n) signs || otherThan 96 list)) false) ≡ 0 → ImageDecided l list r image′ signs′ list′ count′
 
@@ -96,4 +105,5 @@ pub record ImageSays (l : LentRecord) (image signs list : List ℕ) (count : ℕ
 pub record CutSays (u : UsedRecord) (side rank rank′ r : ℕ) : Type 0 where
   pub answered : Answered (cutCall u side rank rank′) r
   pub accepted : (r ≡ 0) ↔ CutFits u side
+  pub numbers : FirstTrue (withWordSentences u side) r
   pub answer : r ≡ 0 → CutAnswer (u .held) side rank′

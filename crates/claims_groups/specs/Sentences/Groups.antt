@@ -42,6 +42,8 @@ use Rattle.claims_groups.specs.GroupRuns.{
   sharedMeasured,
 }
 use Rattle.claims_groups.specs.GroupsDemand.{StandsAsWhole}
+use Rattle.buffers.specs.Sentences.{FirstTrue}
+use Rattle.groups.specs.GroupSentences.{groupComplementSentences, groupCzSentences, groupGateSentences, groupMeasureSentences, groupNamedSentences, groupSaveSentences}
 
 -- a call that is not lent the store is the same step whatever the store
 abbrev pub StepOnRecord : ℕ → ℕ → UsedRecord → SharedCall → ℕ → List ℕ → List ℕ → ℕ → Type 0
@@ -56,6 +58,7 @@ AsWhole u o nb′ cs′ = (r : ℕ) (nb″ cs″ : List ℕ) → Call (usedCall 
 pub record GroupGateSays (word g : ℕ) (u : UsedRecord) (q k : ℕ) (nb′ cs′ : List ℕ) (r : ℕ) : Type 0 where
   pub answered : Answered (groupCall word g u (gateWith q k) nb′ cs′) r
   pub accepted : (r ≡ 0) ↔ (TwoGroups word g u × Own word g q × GateFits u q k)
+  pub numbers : FirstTrue (groupGateSentences word g u q k) r
   pub step : StepOnRecord word g u (groupGate q k) r nb′ cs′ (u .used)
   pub keeps : r ≡ 0 → GroupKeeps word g u (leftUsed u nb′ cs′ (u .used))
   pub reduces : r ≡ 0 → GroupReduced word g (leftUsed u nb′ cs′ (u .used))
@@ -65,6 +68,7 @@ pub record GroupGateSays (word g : ℕ) (u : UsedRecord) (q k : ℕ) (nb′ cs�
 pub record GroupCzSays (word g : ℕ) (u : UsedRecord) (a b : ℕ) (nb′ cs′ : List ℕ) (r : ℕ) : Type 0 where
   pub answered : Answered (groupCall word g u (czOn a b) nb′ cs′) r
   pub accepted : (r ≡ 0) ↔ (TwoGroups word g u × (Own word g a × Own word g b) × CzFits u a b)
+  pub numbers : FirstTrue (groupCzSentences word g u a b) r
   pub step : StepOnRecord word g u (groupCz a b) r nb′ cs′ (u .used)
   pub keeps : r ≡ 0 → GroupKeeps word g u (leftUsed u nb′ cs′ (u .used))
   pub reduces : r ≡ 0 → GroupReduced word g (leftUsed u nb′ cs′ (u .used))
@@ -74,6 +78,7 @@ pub record GroupCzSays (word g : ℕ) (u : UsedRecord) (a b : ℕ) (nb′ cs′ 
 pub record GroupComplementSays (word g : ℕ) (u : UsedRecord) (a : ℕ) (nb′ cs′ : List ℕ) (r : ℕ) : Type 0 where
   pub answered : Answered (groupCall word g u (complementOf a) nb′ cs′) r
   pub accepted : (r ≡ 0) ↔ (TwoGroups word g u × Own word g a × ComplementFits u a)
+  pub numbers : FirstTrue (groupComplementSentences word g u a) r
   pub step : StepOnRecord word g u (groupComplement a) r nb′ cs′ (u .used)
   pub keeps : r ≡ 0 → GroupKeeps word g u (leftUsed u nb′ cs′ (u .used))
   -- "the answer is the record so rewritten, not reduced": that of document 01's rule, of the whole record
@@ -85,6 +90,7 @@ pub record GroupMeasureSays (word g : ℕ) (u : UsedRecord) (pauli q b answer de
     (used′ answer′ determined′ r : ℕ) : Type 0 where
   pub answered : Answered (groupMeasureCall word g u pauli q b answer determined nb′ cs′ used′ answer′ determined′) r
   pub accepted : (r ≡ 0) ↔ (TwoGroups word g u × Own word g q × MeasureFits u pauli q b)
+  pub numbers : FirstTrue (groupMeasureSentences word g u pauli q b) r
   pub step : StepOnRecord word g u (groupMeasure pauli q b) r nb′ cs′ used′
   pub outcome : r ≡ 0 → (st : Store) →
       answer′ ∷ determined′ ∷ [] ≡ sharedMeasured word g (session u st) (groupMeasure pauli q b)
@@ -99,6 +105,7 @@ pub record GroupSaveSays (word g : ℕ) (u : UsedRecord) (name : ℕ) (st : Stor
     Type 0 where
   pub answered : Answered (groupSaveCall word g u name st heads′ nb′ cs′) r
   pub accepted : (r ≡ 0) ↔ GroupSaveFits word g u name st
+  pub numbers : FirstTrue (groupSaveSentences word g u name st) r
   pub step : IsStep word g (session u st) (groupSave name) r (withStore (session u st) heads′ nb′ cs′)
   pub full : GroupFull word g u name st r
   pub keeps : r ≡ 0 → GroupSaveKeeps word g u name st (record { heads = heads′; neighbours = nb′; codes = cs′ })
@@ -108,6 +115,7 @@ pub record GroupReturnSays (word g : ℕ) (u : UsedRecord) (name : ℕ) (st : St
     Type 0 where
   pub answered : Answered (groupReturnCall word g u name st nb′ cs′ used′) r
   pub accepted : (r ≡ 0) ↔ GroupNameFits word g u name st
+  pub numbers : FirstTrue (groupNamedSentences word g u name st) r
   pub step : IsStep word g (session u st) (groupReturn name) r (withRecord (session u st) nb′ cs′ used′)
   pub not-held : GroupNotHeld word g u name st r
   pub gives : r ≡ 0 → GroupReturnGives word g u name st (leftUsed u nb′ cs′ used′)
@@ -116,6 +124,7 @@ pub record GroupReturnSays (word g : ℕ) (u : UsedRecord) (name : ℕ) (st : St
 pub record GroupForgetSays (word g : ℕ) (u : UsedRecord) (name : ℕ) (st : Store) (heads′ : List ℕ) (r : ℕ) : Type 0 where
   pub answered : Answered (groupForgetCall word g u name st heads′) r
   pub accepted : (r ≡ 0) ↔ GroupNameFits word g u name st
+  pub numbers : FirstTrue (groupNamedSentences word g u name st) r
   pub step : IsStep word g (session u st) (groupForget name) r
       (withStore (session u st) heads′ (st .neighbours) (st .codes))
   pub not-held : GroupNotHeld word g u name st r
