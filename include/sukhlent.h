@@ -58,13 +58,15 @@
 #ifndef SUKHLENT_H
 #define SUKHLENT_H
 
-#include <stddef.h>
 #include <stdint.h>
 
 /* The version of this header: major * 10000 + minor * 100 + patch, and as a text.
  * sukhlent_version answers that of the library. */
 #define SUKHLENT_VERSION 1404
 #define SUKHLENT_VERSION_TEXT "0.14.4"
+
+/* The length of a buffer, in elements: 64 bits on every processor, also where size_t has 32. */
+typedef uint64_t sukhlent_length;
 
 /* Refusals by name, in checking order. */
 #define SUKHLENT_ACCEPTED 0
@@ -147,7 +149,17 @@
  *   itself compares sukhlent_version() / 100 with SUKHLENT_VERSION / 100.
  * Threads: no call keeps anything between calls. Two threads may call at once, each with buffers
  *   of its own for what is not const.
- * Stack: a call takes at most 10 kB, and no heap (measured, not proved: docs/SPEED.md). */
+ * Stack: no call uses the heap. Of the stack, compare, equivalent and those of records take at most
+ *   these bytes, and every other call at most 6,000 (measured, not proved: docs/PROCESSORS.md):
+ *   x86-64        18,000
+ *   x86-64-v3     18,500
+ *   aarch64       18,000
+ *   riscv64       18,500
+ *   armv7         18,500
+ *   wasm32        17,500
+ *   cortex-m4     18,500
+ *   riscv64-none  18,500
+ *   aarch64-none  18,500 */
 
 /* What a refusal number means, in words. */
 static inline const char *sukhlent_refusal_text(uint8_t number)
@@ -187,44 +199,44 @@ uint32_t sukhlent_version(void);
 /* Checks a generator list. Writes nothing.
  * Refusals: 2, 4, 5, 6, 9, 10. */
 uint8_t sukhlent_check(uint64_t n,
-                       const uint8_t *signs, size_t signs_len,
-                       const uint64_t *z, size_t z_len,
-                       const uint64_t *x, size_t x_len);
+                       const uint8_t *signs, sukhlent_length signs_len,
+                       const uint64_t *z, sukhlent_length z_len,
+                       const uint64_t *x, sukhlent_length x_len);
 
 /* Reduces a generator list: writes the reduced record of its group, with 0 to *used. Lists of one
  * group give one record, and lists of different groups give different ones.
  * Refusals: 2, 4, 5, 6, 9, 10. */
 uint8_t sukhlent_reduce(uint64_t n,
-                        const uint8_t *signs, size_t signs_len,
-                        const uint64_t *z, size_t z_len,
-                        const uint64_t *x, size_t x_len,
-                        uint64_t *neighbours, size_t neighbours_len,
-                        uint8_t *codes, size_t codes_len,
+                        const uint8_t *signs, sukhlent_length signs_len,
+                        const uint64_t *z, sukhlent_length z_len,
+                        const uint64_t *x, sukhlent_length x_len,
+                        uint64_t *neighbours, sukhlent_length neighbours_len,
+                        uint8_t *codes, sukhlent_length codes_len,
                         uint64_t *used);
 
 /* Expands a record: writes its n generators, in order.
  * Refusals: 2, 4, 5, 6, 7. */
 uint8_t sukhlent_expand(uint64_t n,
-                        const uint64_t *neighbours, size_t neighbours_len,
-                        const uint8_t *codes, size_t codes_len,
+                        const uint64_t *neighbours, sukhlent_length neighbours_len,
+                        const uint8_t *codes, sukhlent_length codes_len,
                         uint64_t used,
-                        uint8_t *signs, size_t signs_len,
-                        uint64_t *z, size_t z_len,
-                        uint64_t *x, size_t x_len);
+                        uint8_t *signs, sukhlent_length signs_len,
+                        uint64_t *z, sukhlent_length z_len,
+                        uint64_t *x, sukhlent_length x_len);
 
 /* Applies a code after the code held at a qubit, and leaves the reduced record of the new group.
  * Refusals: 2, 4, 5, 6 (also where `code` is above 23), 7, 8 (`qubit` is n or more), 16. */
 uint8_t sukhlent_gate(uint64_t n,
-                      uint64_t *neighbours, size_t neighbours_len,
-                      uint8_t *codes, size_t codes_len,
+                      uint64_t *neighbours, sukhlent_length neighbours_len,
+                      uint8_t *codes, sukhlent_length codes_len,
                       uint64_t used,
                       uint64_t qubit, uint8_t code);
 
 /* Applies CZ to two qubits, and leaves the reduced record of the new group.
  * Refusals: 2, 4, 5, 6, 7, 8 (`a` or `b` is n or more, or they are the same), 16. */
 uint8_t sukhlent_cz(uint64_t n,
-                    uint64_t *neighbours, size_t neighbours_len,
-                    uint8_t *codes, size_t codes_len,
+                    uint64_t *neighbours, sukhlent_length neighbours_len,
+                    uint8_t *codes, sukhlent_length codes_len,
                     uint64_t used,
                     uint64_t a, uint64_t b);
 
@@ -236,8 +248,8 @@ uint8_t sukhlent_cz(uint64_t n,
  * Refusals: 2, 4, 5, 6 (also where `pauli` is not 1 to 3 or `outcome` is above 1), 7, 8 (`qubit`
  * is n or more), 16, 14. */
 uint8_t sukhlent_measure(uint64_t n,
-                         uint64_t *neighbours, size_t neighbours_len,
-                         uint8_t *codes, size_t codes_len,
+                         uint64_t *neighbours, sukhlent_length neighbours_len,
+                         uint8_t *codes, sukhlent_length codes_len,
                          uint64_t *used,
                          uint8_t pauli, uint64_t qubit, uint8_t outcome,
                          uint8_t *answer, uint8_t *determined);
@@ -246,8 +258,8 @@ uint8_t sukhlent_measure(uint64_t n,
  * so that the group stays. The record is not reduced.
  * Refusals: 2, 4, 5, 6, 7, 8 (`a` is n or more), 16. */
 uint8_t sukhlent_complement(uint64_t n,
-                            uint64_t *neighbours, size_t neighbours_len,
-                            uint8_t *codes, size_t codes_len,
+                            uint64_t *neighbours, sukhlent_length neighbours_len,
+                            uint8_t *codes, sukhlent_length codes_len,
                             uint64_t used,
                             uint64_t a);
 
@@ -263,27 +275,27 @@ uint8_t sukhlent_complement(uint64_t n,
  * Refusals: 15 (`ops` has more than 4,096 places, whatever the other slices have), 2, 4, 5, 6 (also
  * where a number of `ops` is above 4), 7. */
 uint8_t sukhlent_run(uint64_t n,
-                     uint64_t *neighbours, size_t neighbours_len,
-                     uint8_t *codes, size_t codes_len,
+                     uint64_t *neighbours, sukhlent_length neighbours_len,
+                     uint8_t *codes, sukhlent_length codes_len,
                      uint64_t *used,
-                     const uint8_t *ops, size_t ops_len,
-                     const uint16_t *a, size_t a_len,
-                     const uint16_t *b, size_t b_len,
-                     const uint16_t *value, size_t value_len,
-                     uint8_t *refusals, size_t refusals_len,
-                     uint8_t *outcomes, size_t outcomes_len,
-                     uint8_t *determined, size_t determined_len);
+                     const uint8_t *ops, sukhlent_length ops_len,
+                     const uint16_t *a, sukhlent_length a_len,
+                     const uint16_t *b, sukhlent_length b_len,
+                     const uint16_t *value, sukhlent_length value_len,
+                     uint8_t *refusals, sukhlent_length refusals_len,
+                     uint8_t *outcomes, sukhlent_length outcomes_len,
+                     uint8_t *determined, sukhlent_length determined_len);
 
 /* Sends a graph through its codes, by the image rule: writes the image graph, a sign per vertex
  * (1 for minus) and the vertices at which the graph is complemented, in order. `list` has 96
  * places; those from *count on keep their values. It takes no word of used qubits.
  * Refusals: 2, 4, 5, 6, 7, 11, 12. */
 uint8_t sukhlent_image(uint64_t n,
-                       const uint64_t *neighbours, size_t neighbours_len,
-                       const uint8_t *codes, size_t codes_len,
-                       uint64_t *image, size_t image_len,
-                       uint8_t *signs, size_t signs_len,
-                       uint8_t *list, size_t list_len,
+                       const uint64_t *neighbours, sukhlent_length neighbours_len,
+                       const uint8_t *codes, sukhlent_length codes_len,
+                       uint64_t *image, sukhlent_length image_len,
+                       uint8_t *signs, sukhlent_length signs_len,
+                       uint8_t *list, sukhlent_length list_len,
                        uint64_t *count);
 
 /* Reads the entanglement between two sides of the qubits: writes to *rank the rank modulo 2 of the
@@ -291,8 +303,8 @@ uint8_t sukhlent_image(uint64_t n,
  * side gives 0. A side may mark used qubits.
  * Refusals: 2, 4, 5 (also where `side` has a bit at or above n), 6, 7. */
 uint8_t sukhlent_cut(uint64_t n,
-                     const uint64_t *neighbours, size_t neighbours_len,
-                     const uint8_t *codes, size_t codes_len,
+                     const uint64_t *neighbours, sukhlent_length neighbours_len,
+                     const uint8_t *codes, sukhlent_length codes_len,
                      uint64_t used,
                      uint64_t side, uint64_t *rank);
 
@@ -303,8 +315,8 @@ uint8_t sukhlent_cut(uint64_t n,
  * Every zero is positive.
  * Refusals: 2, 4, 5 (also where `y` has a bit at or above n), 6, 7. */
 uint8_t sukhlent_amplitude(uint64_t n,
-                           const uint64_t *neighbours, size_t neighbours_len,
-                           const uint8_t *codes, size_t codes_len,
+                           const uint64_t *neighbours, sukhlent_length neighbours_len,
+                           const uint8_t *codes, sukhlent_length codes_len,
                            uint64_t used,
                            uint64_t y,
                            double *re, double *im, double *p);
@@ -315,8 +327,8 @@ uint8_t sukhlent_amplitude(uint64_t n,
  * neither is (0). The record need not be reduced, and the row may have letters at used qubits.
  * Refusals: 2, 4, 5 (also where `z` or `x` has a bit at or above n), 6, 7. */
 uint8_t sukhlent_expectation(uint64_t n,
-                             const uint64_t *neighbours, size_t neighbours_len,
-                             const uint8_t *codes, size_t codes_len,
+                             const uint64_t *neighbours, sukhlent_length neighbours_len,
+                             const uint8_t *codes, sukhlent_length codes_len,
                              uint64_t used,
                              uint64_t z, uint64_t x, uint8_t *value);
 
@@ -326,9 +338,9 @@ uint8_t sukhlent_expectation(uint64_t n,
  * (X times Y is iZ: phase 1, letter Z). The empty word gives the identity with phase 0.
  * Refusals: 2, 4, 5 (also where `chosen` has a bit at or above n), 6. */
 uint8_t sukhlent_product(uint64_t n,
-                         const uint8_t *signs, size_t signs_len,
-                         const uint64_t *z, size_t z_len,
-                         const uint64_t *x, size_t x_len,
+                         const uint8_t *signs, sukhlent_length signs_len,
+                         const uint64_t *z, sukhlent_length z_len,
+                         const uint64_t *x, sukhlent_length x_len,
                          uint64_t chosen,
                          uint64_t *product_z, uint64_t *product_x, uint8_t *phase);
 
@@ -339,55 +351,55 @@ uint8_t sukhlent_product(uint64_t n,
  * become the second. `choice` has n places, `list` 96; those from *count on keep their values.
  * Refusals: 2, 4, 5, 6, 9, 10, 3, 13. */
 uint8_t sukhlent_compare(uint64_t n1,
-                         const uint8_t *signs1, size_t signs1_len,
-                         const uint64_t *z1, size_t z1_len,
-                         const uint64_t *x1, size_t x1_len,
+                         const uint8_t *signs1, sukhlent_length signs1_len,
+                         const uint64_t *z1, sukhlent_length z1_len,
+                         const uint64_t *x1, sukhlent_length x1_len,
                          uint64_t n2,
-                         const uint8_t *signs2, size_t signs2_len,
-                         const uint64_t *z2, size_t z2_len,
-                         const uint64_t *x2, size_t x2_len,
-                         uint8_t *choice, size_t choice_len,
-                         uint8_t *list, size_t list_len,
+                         const uint8_t *signs2, sukhlent_length signs2_len,
+                         const uint64_t *z2, sukhlent_length z2_len,
+                         const uint64_t *x2, sukhlent_length x2_len,
+                         uint8_t *choice, sukhlent_length choice_len,
+                         uint8_t *list, sukhlent_length list_len,
                          uint64_t *count);
 
 /* Compares the groups of two records as `sukhlent_compare` compares the groups of their
  * expansions, with the same answer. It takes no words of used qubits.
  * Refusals: 2, 4, 5, 6, 7, 3, 13. */
 uint8_t sukhlent_compare_records(uint64_t n1,
-                                 const uint64_t *neighbours1, size_t neighbours1_len,
-                                 const uint8_t *codes1, size_t codes1_len,
+                                 const uint64_t *neighbours1, sukhlent_length neighbours1_len,
+                                 const uint8_t *codes1, sukhlent_length codes1_len,
                                  uint64_t n2,
-                                 const uint64_t *neighbours2, size_t neighbours2_len,
-                                 const uint8_t *codes2, size_t codes2_len,
-                                 uint8_t *choice, size_t choice_len,
-                                 uint8_t *list, size_t list_len,
+                                 const uint64_t *neighbours2, sukhlent_length neighbours2_len,
+                                 const uint8_t *codes2, sukhlent_length codes2_len,
+                                 uint8_t *choice, sukhlent_length choice_len,
+                                 uint8_t *list, sukhlent_length list_len,
                                  uint64_t *count);
 
 /* Compares two lists as `sukhlent_compare` does, with parts of any size: the same answer where no
  * part of either reduced graph has more than 20 vertices, and never 3.
  * Refusals: 2, 4, 5, 6, 9, 10, 13. */
 uint8_t sukhlent_equivalent(uint64_t n1,
-                            const uint8_t *signs1, size_t signs1_len,
-                            const uint64_t *z1, size_t z1_len,
-                            const uint64_t *x1, size_t x1_len,
+                            const uint8_t *signs1, sukhlent_length signs1_len,
+                            const uint64_t *z1, sukhlent_length z1_len,
+                            const uint64_t *x1, sukhlent_length x1_len,
                             uint64_t n2,
-                            const uint8_t *signs2, size_t signs2_len,
-                            const uint64_t *z2, size_t z2_len,
-                            const uint64_t *x2, size_t x2_len,
-                            uint8_t *choice, size_t choice_len,
-                            uint8_t *list, size_t list_len,
+                            const uint8_t *signs2, sukhlent_length signs2_len,
+                            const uint64_t *z2, sukhlent_length z2_len,
+                            const uint64_t *x2, sukhlent_length x2_len,
+                            uint8_t *choice, sukhlent_length choice_len,
+                            uint8_t *list, sukhlent_length list_len,
                             uint64_t *count);
 
 /* Compares the groups of two records as `sukhlent_compare_records` does, with parts of any size.
  * Refusals: 2, 4, 5, 6, 7, 13. */
 uint8_t sukhlent_equivalent_records(uint64_t n1,
-                                    const uint64_t *neighbours1, size_t neighbours1_len,
-                                    const uint8_t *codes1, size_t codes1_len,
+                                    const uint64_t *neighbours1, sukhlent_length neighbours1_len,
+                                    const uint8_t *codes1, sukhlent_length codes1_len,
                                     uint64_t n2,
-                                    const uint64_t *neighbours2, size_t neighbours2_len,
-                                    const uint8_t *codes2, size_t codes2_len,
-                                    uint8_t *choice, size_t choice_len,
-                                    uint8_t *list, size_t list_len,
+                                    const uint64_t *neighbours2, sukhlent_length neighbours2_len,
+                                    const uint8_t *codes2, sukhlent_length codes2_len,
+                                    uint8_t *choice, sukhlent_length choice_len,
+                                    uint8_t *list, sukhlent_length list_len,
                                     uint64_t *count);
 
 /* Writes the text of a job that anyone can repeat: `count` steps on n qubits, at most 4,096, drawn
@@ -395,26 +407,26 @@ uint8_t sukhlent_equivalent_records(uint64_t n1,
  * on, which is the length of the text, keep their values.
  * Refusals: 15, 2, 4, 6 (`seed` is 0). */
 uint8_t sukhlent_generate(uint64_t n, uint64_t count, uint64_t seed,
-                          uint8_t *text, size_t text_len,
+                          uint8_t *text, sukhlent_length text_len,
                           uint64_t *length);
 
 /* Reads the generator list of a text of Pauli strings: n lines, each a plus or an ASCII hyphen for
  * minus, n letters of I, X, Y, Z, the leftmost for qubit 0, and a newline, as in "+XX\n-ZZ\n".
  * `signs`, `z` and `x` have as many places as the text has lines, which are all judged first.
  * Refusals: 1, 2 (the text is empty, or has more than 64 lines), 4, 9, 10. */
-uint8_t sukhlent_read_strings(const uint8_t *text, size_t text_len,
-                              uint8_t *signs, size_t signs_len,
-                              uint64_t *z, size_t z_len,
-                              uint64_t *x, size_t x_len);
+uint8_t sukhlent_read_strings(const uint8_t *text, sukhlent_length text_len,
+                              uint8_t *signs, sukhlent_length signs_len,
+                              uint64_t *z, sukhlent_length z_len,
+                              uint64_t *x, sukhlent_length x_len);
 
 /* Writes the text of a generator list that sukhlent_read_strings reads: a list has one text, and a
  * text one list. `text` has n * (n + 2) places.
  * Refusals: 2, 4, 5, 6, 9, 10. */
 uint8_t sukhlent_write_strings(uint64_t n,
-                               const uint8_t *signs, size_t signs_len,
-                               const uint64_t *z, size_t z_len,
-                               const uint64_t *x, size_t x_len,
-                               uint8_t *text, size_t text_len);
+                               const uint8_t *signs, sukhlent_length signs_len,
+                               const uint64_t *z, sukhlent_length z_len,
+                               const uint64_t *x, sukhlent_length x_len,
+                               uint8_t *text, sukhlent_length text_len);
 
 /* Writes the numbers of all graphs that complementations reach from one on up to 6 vertices, the
  * graph itself among them, each once and rising. A graph's number has a bit for each pair of
@@ -422,8 +434,8 @@ uint8_t sukhlent_write_strings(uint64_t n,
  * 32,768 places; those from *count on, which is how many numbers there are, keep their values.
  * Refusals: 2 (n is 0 or above 6), 4, 5, 7. */
 uint8_t sukhlent_orbit(uint64_t n,
-                       const uint64_t *neighbours, size_t neighbours_len,
-                       uint16_t *list, size_t list_len,
+                       const uint64_t *neighbours, sukhlent_length neighbours_len,
+                       uint16_t *list, sukhlent_length list_len,
                        uint64_t *count);
 
 /* A store of up to eight named states, which the caller keeps in three buffers:
@@ -440,33 +452,33 @@ uint8_t sukhlent_orbit(uint64_t n,
  * free place. Other names keep their records.
  * Refusals: 2, 4, 5, 6, 7, 18. */
 uint8_t sukhlent_save(uint64_t n,
-                      const uint64_t *neighbours, size_t neighbours_len,
-                      const uint8_t *codes, size_t codes_len,
+                      const uint64_t *neighbours, sukhlent_length neighbours_len,
+                      const uint8_t *codes, sukhlent_length codes_len,
                       uint64_t used,
                       uint64_t name,
-                      uint64_t *heads, size_t heads_len,
-                      uint64_t *held_neighbours, size_t held_neighbours_len,
-                      uint8_t *held_codes, size_t held_codes_len);
+                      uint64_t *heads, sukhlent_length heads_len,
+                      uint64_t *held_neighbours, sukhlent_length held_neighbours_len,
+                      uint8_t *held_codes, sukhlent_length held_codes_len);
 
 /* Brings back the record held under a name: writes its n, its neighbour words, its codes and its
  * used word. `neighbours` and `codes` have 64 places, whatever *n; those from *n on keep their
  * values. The record stays held.
  * Refusals: 2, 4, 5, 6, 7, 17. */
 uint8_t sukhlent_return(uint64_t name,
-                        const uint64_t *heads, size_t heads_len,
-                        const uint64_t *held_neighbours, size_t held_neighbours_len,
-                        const uint8_t *held_codes, size_t held_codes_len,
+                        const uint64_t *heads, sukhlent_length heads_len,
+                        const uint64_t *held_neighbours, sukhlent_length held_neighbours_len,
+                        const uint8_t *held_codes, sukhlent_length held_codes_len,
                         uint64_t *n,
-                        uint64_t *neighbours, size_t neighbours_len,
-                        uint8_t *codes, size_t codes_len,
+                        uint64_t *neighbours, sukhlent_length neighbours_len,
+                        uint8_t *codes, sukhlent_length codes_len,
                         uint64_t *used);
 
 /* Makes the place of a name free. Other names keep their records.
  * Refusals: 2, 4, 5, 6, 7, 17. */
 uint8_t sukhlent_forget(uint64_t name,
-                        uint64_t *heads, size_t heads_len,
-                        const uint64_t *held_neighbours, size_t held_neighbours_len,
-                        const uint8_t *held_codes, size_t held_codes_len);
+                        uint64_t *heads, sukhlent_length heads_len,
+                        const uint64_t *held_neighbours, sukhlent_length held_neighbours_len,
+                        const uint8_t *held_codes, sukhlent_length held_codes_len);
 
 /* Two groups that share one record of 64 qubits, which the caller keeps: the record, a word that is
  * fixed at the start, whose bit q is the group of qubit q, 0 or 1, and the three buffers of a store,
@@ -489,16 +501,16 @@ uint8_t sukhlent_forget(uint64_t name,
 /* A group's gate, as sukhlent_gate.
  * Refusals: 2, 4, 6 (also where `code` is above 23), 7, 19, 8 (`qubit` is 64 or more), 16. */
 uint8_t sukhlent_group_gate(uint64_t n, uint64_t word, uint8_t group,
-                            uint64_t *neighbours, size_t neighbours_len,
-                            uint8_t *codes, size_t codes_len,
+                            uint64_t *neighbours, sukhlent_length neighbours_len,
+                            uint8_t *codes, sukhlent_length codes_len,
                             uint64_t used,
                             uint64_t qubit, uint8_t code);
 
 /* A group's CZ, as sukhlent_cz.
  * Refusals: 2, 4, 6, 7, 19, 8 (`a` or `b` is 64 or more, or they are the same), 16. */
 uint8_t sukhlent_group_cz(uint64_t n, uint64_t word, uint8_t group,
-                          uint64_t *neighbours, size_t neighbours_len,
-                          uint8_t *codes, size_t codes_len,
+                          uint64_t *neighbours, sukhlent_length neighbours_len,
+                          uint8_t *codes, sukhlent_length codes_len,
                           uint64_t used,
                           uint64_t a, uint64_t b);
 
@@ -506,8 +518,8 @@ uint8_t sukhlent_group_cz(uint64_t n, uint64_t word, uint8_t group,
  * Refusals: 2, 4, 6 (also where `pauli` is not 1 to 3 or `outcome` is above 1), 7, 19, 8 (`qubit`
  * is 64 or more), 16, 14. */
 uint8_t sukhlent_group_measure(uint64_t n, uint64_t word, uint8_t group,
-                               uint64_t *neighbours, size_t neighbours_len,
-                               uint8_t *codes, size_t codes_len,
+                               uint64_t *neighbours, sukhlent_length neighbours_len,
+                               uint8_t *codes, sukhlent_length codes_len,
                                uint64_t *used,
                                uint8_t pauli, uint64_t qubit, uint8_t outcome,
                                uint8_t *answer, uint8_t *determined);
@@ -515,8 +527,8 @@ uint8_t sukhlent_group_measure(uint64_t n, uint64_t word, uint8_t group,
 /* A group's complementation, as sukhlent_complement. Nothing is reduced.
  * Refusals: 2, 4, 6, 7, 19, 8 (`a` is 64 or more), 16. */
 uint8_t sukhlent_group_complement(uint64_t n, uint64_t word, uint8_t group,
-                                  uint64_t *neighbours, size_t neighbours_len,
-                                  uint8_t *codes, size_t codes_len,
+                                  uint64_t *neighbours, sukhlent_length neighbours_len,
+                                  uint8_t *codes, sukhlent_length codes_len,
                                   uint64_t used,
                                   uint64_t a);
 
@@ -525,36 +537,36 @@ uint8_t sukhlent_group_complement(uint64_t n, uint64_t word, uint8_t group,
  * used.
  * Refusals: 2, 4, 6, 7, 19, 18 (four other names are held). */
 uint8_t sukhlent_group_save(uint64_t n, uint64_t word, uint8_t group,
-                            const uint64_t *neighbours, size_t neighbours_len,
-                            const uint8_t *codes, size_t codes_len,
+                            const uint64_t *neighbours, sukhlent_length neighbours_len,
+                            const uint8_t *codes, sukhlent_length codes_len,
                             uint64_t used,
                             uint64_t name,
-                            uint64_t *heads, size_t heads_len,
-                            uint64_t *held_neighbours, size_t held_neighbours_len,
-                            uint8_t *held_codes, size_t held_codes_len);
+                            uint64_t *heads, sukhlent_length heads_len,
+                            uint64_t *held_neighbours, sukhlent_length held_neighbours_len,
+                            uint8_t *held_codes, sukhlent_length held_codes_len);
 
 /* Brings back the group's vertices from the state held under a name, their used bits included. The
  * state stays held.
  * Refusals: 2, 4, 6, 7, 19, 17. */
 uint8_t sukhlent_group_return(uint64_t n, uint64_t word, uint8_t group,
-                              uint64_t *neighbours, size_t neighbours_len,
-                              uint8_t *codes, size_t codes_len,
+                              uint64_t *neighbours, sukhlent_length neighbours_len,
+                              uint8_t *codes, sukhlent_length codes_len,
                               uint64_t *used,
                               uint64_t name,
-                              const uint64_t *heads, size_t heads_len,
-                              const uint64_t *held_neighbours, size_t held_neighbours_len,
-                              const uint8_t *held_codes, size_t held_codes_len);
+                              const uint64_t *heads, sukhlent_length heads_len,
+                              const uint64_t *held_neighbours, sukhlent_length held_neighbours_len,
+                              const uint8_t *held_codes, sukhlent_length held_codes_len);
 
 /* Makes the place of a name among the group's four free.
  * Refusals: 2, 4, 6, 7, 19, 17. */
 uint8_t sukhlent_group_forget(uint64_t n, uint64_t word, uint8_t group,
-                              const uint64_t *neighbours, size_t neighbours_len,
-                              const uint8_t *codes, size_t codes_len,
+                              const uint64_t *neighbours, sukhlent_length neighbours_len,
+                              const uint8_t *codes, sukhlent_length codes_len,
                               uint64_t used,
                               uint64_t name,
-                              uint64_t *heads, size_t heads_len,
-                              const uint64_t *held_neighbours, size_t held_neighbours_len,
-                              const uint8_t *held_codes, size_t held_codes_len);
+                              uint64_t *heads, sukhlent_length heads_len,
+                              const uint64_t *held_neighbours, sukhlent_length held_neighbours_len,
+                              const uint8_t *held_codes, sukhlent_length held_codes_len);
 
 #ifdef __cplusplus
 }

@@ -5,7 +5,7 @@ from __future__ import annotations
 import ctypes
 import operator
 import os
-from ctypes import POINTER, c_double, c_size_t, c_uint8, c_uint16, c_uint32, c_uint64
+from ctypes import POINTER, c_double, c_uint8, c_uint16, c_uint32, c_uint64
 from pathlib import Path
 from typing import Iterable, Union
 
@@ -13,8 +13,8 @@ from .refusals import TEXTS
 
 _NAME = "libsukhlent.so"
 _BYTES, _WORDS = POINTER(c_uint8), POINTER(c_uint64)
-_IN_BYTES, _IN_WORDS = (_BYTES, c_size_t), (_WORDS, c_size_t)
-_IN_HALVES = (POINTER(c_uint16), c_size_t)
+_IN_BYTES, _IN_WORDS = (_BYTES, c_uint64), (_WORDS, c_uint64)
+_IN_HALVES = (POINTER(c_uint16), c_uint64)
 _LIST = (*_IN_BYTES, *_IN_WORDS, *_IN_WORDS)
 _RECORD = (*_IN_WORDS, *_IN_BYTES)
 _STORE = (*_IN_WORDS, *_RECORD)

@@ -2,15 +2,58 @@
 
 import re
 import unittest
+from ctypes import POINTER, c_double, c_uint8, c_uint16, c_uint64
 
 from sukhlent import NAMES, TEXTS, Refusal, version
+from sukhlent.library import _CALLS
 from tests.places import ROOT
 
 HEADER = (ROOT / "include" / "sukhlent.h").read_text()
 NUMBERS = {name: int(number) for name, number in re.findall(r"#define SUKHLENT_(\w+) (\d+)\n", HEADER)}
 
+#: a type of C: its name in Rust, and its type in Python
+TYPES = {
+    "uint8_t": ("u8", c_uint8),
+    "uint16_t": ("u16", c_uint16),
+    "uint64_t": ("u64", c_uint64),
+    "sukhlent_length": ("u64", c_uint64),
+    "double": ("f64", c_double),
+}
+
+
+def declared():
+    """Of each call: its parameters, as (const, type, pointer, name)."""
+    found = re.findall(r"^uint8_t sukhlent_(\w+)\(([^)]*)\);", HEADER, re.M)
+    split = {name: [" ".join(one.split()) for one in parameters.split(",")] for name, parameters in found}
+    parts = re.compile(r"(const )?(\w+) (\*?)(\w+)")
+    return {name: [parts.fullmatch(one).groups() for one in parameters] for name, parameters in split.items()}
+
 
 class Header(unittest.TestCase):
+    def test_a_length_has_64_bits_and_a_type_of_its_own(self):
+        self.assertIn("typedef uint64_t sukhlent_length;", HEADER)
+        for name, parameters in declared().items():
+            for _, kind, _, parameter in parameters:
+                self.assertEqual(kind == "sukhlent_length", parameter.endswith("_len"), f"{parameter} of {name}")
+                self.assertIn(kind, TYPES, f"{parameter} of {name}")
+
+    def test_rust_declares_what_c_declares(self):
+        text = "".join((ROOT / "rust/sukhlent/src" / name).read_text() for name in ("raw.rs", "raw/groups.rs"))
+        found = re.findall(r"pub fn sukhlent_(\w+)\(([^)]*)\) -> u8;", text)
+        self.assertEqual(len(found), text.count("pub fn sukhlent_") - 1)  # the version answers no refusal
+        for name, said in found:
+            words = []
+            for const, kind, pointer, parameter in declared()[name]:
+                mark = ("*const " if const else "*mut ") if pointer else ""
+                words.append(f"{parameter}: {mark}{TYPES[kind][0]}")
+            said = [" ".join(one.split()) for one in said.split(",")]
+            self.assertEqual([one for one in said if one], words, name)
+
+    def test_python_declares_what_c_declares(self):
+        for name, types in _CALLS.items():
+            kinds = [(TYPES[kind][1], pointer) for _, kind, pointer, _ in declared()[name]]
+            self.assertEqual(list(types), [POINTER(kind) if pointer else kind for kind, pointer in kinds], name)
+
     def test_every_published_number_has_one_text_on_both_sides(self):
         cases = re.findall(r"case SUKHLENT_(\w+): return \"(.*?)\";", HEADER)
         said = {NUMBERS[name]: text for name, text in cases if name != "ACCEPTED"}

@@ -103,3 +103,40 @@ class Install(unittest.TestCase):
         code = "import sukhlent; print(sukhlent.State.zeros(1).generators(), sukhlent.__file__)"
         said = run(sys.executable, "-c", code, env=environment, cwd="/")
         self.assertTrue(said.startswith("+Z\n") and str(self.prefix) in said, said)
+
+
+class Target(unittest.TestCase):
+    """What `tools/install --target` installs."""
+
+    def setUp(self):
+        folder = tempfile.TemporaryDirectory()
+        self.addCleanup(folder.cleanup)
+        self.prefix = Path(folder.name) / "prefix"
+
+    def installed(self, target):
+        """The files below the prefix."""
+        said = run(ROOT / "tools" / "install", "--target", target, self.prefix).splitlines()[-1]
+        self.assertTrue(said.startswith("sukhlent ") and said.endswith(f" for {target} is in {self.prefix}"), said)
+        return {str(path.relative_to(self.prefix)) for path in self.prefix.rglob("*") if path.is_file()}
+
+    def test_header_library_and_package_file_of_a_target(self):
+        files = {"include/sukhlent.h", "lib/libsukhlent.a", "lib/pkgconfig/sukhlent.pc"}
+        self.assertEqual(self.installed("x86-64-v3"), files)
+        self.assertEqual((self.prefix / "include/sukhlent.h").read_bytes(), (ROOT / "include/sukhlent.h").read_bytes())
+        package = self.prefix / "lib" / "pkgconfig"
+        self.assertIn("target=x86-64-v3\n", (package / "sukhlent.pc").read_text())
+        source, program = self.prefix / "first.c", self.prefix / "first"
+        source.write_text(SOURCE)
+        run("cc", "-std=c99", "-Wall", "-Wextra", "-pedantic", "-Werror", source, *flags(package, "--cflags", "--libs"), "-o", program)
+        if " avx2 " in Path("/proc/cpuinfo").read_text():
+            self.assertEqual(run(program), PRINTED)
+
+    def test_wasm32_has_its_module(self):
+        self.assertIn("lib/sukhlent.wasm", self.installed("wasm32"))
+        self.assertEqual((self.prefix / "lib/sukhlent.wasm").read_bytes()[:4], b"\0asm")
+
+    def test_an_unknown_target_is_named_and_nothing_is_installed(self):
+        words = [str(ROOT / "tools" / "install"), "--target", "z80", str(self.prefix)]
+        done = subprocess.run(words, capture_output=True, text=True, timeout=120)
+        self.assertEqual((done.returncode, done.stderr), (1, "no target z80: tools/cross --list\n"))
+        self.assertFalse(self.prefix.exists())
