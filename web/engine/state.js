@@ -1,0 +1,304 @@
+// A stabilizer state held as a record: a graph with one local Clifford per vertex, and a word of used qubits.
+import * as beyond from "./beyond.js";
+import { code } from "./codes.js";
+import { RECORD_NAMES, recordFault } from "./forms.js";
+import { call, floatCell, octetCell, wordCell } from "./library.js";
+import { GeneratorList, rowWords } from "./lists.js";
+import { bits, fairBit, halves, octet, octets, place, placesOf, wordOf, words } from "./numbers.js";
+import { Refusal, accept } from "./refusals.js";
+
+const LIST_PLACES = 96;
+
+/** The number of a Pauli by its letter, or the number itself; 0, which every call refuses, of another letter. */
+const pauliNumber = (pauli) => (typeof pauli === "string" ? "XYZ".indexOf(pauli.toUpperCase()) + 1 : octet(pauli));
+
+/** The number of qubits; refused by 2 where it is not 1 to 64. */
+function count(n) {
+  const given = place(n);
+  if (given < 1n || given > 64n) throw new Refusal(2);
+  return Number(given);
+}
+
+/** The neighbour words of n vertices with these edges. */
+function neighbourWords(n, edges) {
+  const found = Array(n).fill(0n);
+  for (const [a, b] of edges) {
+    if (!(a >= 0 && a < n && b >= 0 && b < n)) throw new Refusal(5);
+    found[a] |= 1n << BigInt(b);
+    found[b] |= 1n << BigInt(a);
+  }
+  return found;
+}
+
+/** A state on 1 to 64 qubits. Calls change it in place; a refused call throws a Refusal and changes nothing. */
+export class State {
+  #neighbours;
+  #codes;
+  #used;
+
+  constructor(neighbours, codes, used = 0n) {
+    if (neighbours instanceof State) {
+      [this.#neighbours, this.#codes] = [neighbours.#neighbours.slice(), neighbours.#codes.slice()];
+      this.#used = neighbours.#used;
+    } else {
+      [this.#neighbours, this.#codes, this.#used] = [words(neighbours), octets(codes), bits(used)];
+      this.generators(); // judges the record
+    }
+  }
+
+  // ---- making one
+
+  /** Every qubit in +Z: no edge, code 8 everywhere. */
+  static zeros(n) {
+    return new State(Array(count(n)).fill(0n), Array(count(n)).fill(8));
+  }
+
+  /** The graph state of these edges, then one gate per vertex where gates are given, by name or code. */
+  static graph(n, edges, gates) {
+    const neighbours = neighbourWords(count(n), edges);
+    return new State(neighbours, gates === undefined ? neighbours.map(() => 0) : Array.from(gates, code));
+  }
+
+  /** The reduced record of a list: lists of one group give equal records. */
+  static fromGenerators(list) {
+    const [neighbours, codes, used] = [new BigUint64Array(list.n), new Uint8Array(list.n), wordCell()];
+    accept(call("reduce", BigInt(list.n), ...list.buffers(), neighbours, codes, used));
+    return new State(neighbours, codes, used.value);
+  }
+
+  /** The state of generators such as "+XX", "-ZZ", or of one text of such lines. */
+  static fromStrings(...lines) {
+    return State.fromGenerators(GeneratorList.fromStrings(...lines));
+  }
+
+  /** The state of a record that a program printed. */
+  static fromText(text) {
+    const fault = recordFault(text);
+    if (fault) throw new Refusal(1, fault);
+    const rows = text.split("\n").slice(1, -1).map((line) => line.split(" "));
+    if (rows.length > 64) throw new Refusal(2);
+    const used = wordOf([...rows.keys()].filter((q) => rows[q][3] === "1"));
+    return new State(rows.map((row) => BigInt(`0x${row[2]}`)), rows.map((row) => Number(row[1])), used);
+  }
+
+  /** The same record, apart. */
+  copy() {
+    return new State(this);
+  }
+
+  // ---- reading it
+
+  /** The number of qubits. */
+  get n() {
+    return this.#codes.length;
+  }
+
+  /** The neighbour word of each vertex: bit q is 1 where q is a neighbour. */
+  get neighbours() {
+    return Array.from(this.#neighbours);
+  }
+
+  /** The code of each vertex. */
+  get codes() {
+    return Array.from(this.#codes);
+  }
+
+  /** The word of used qubits: those that were measured and not renewed. */
+  get used() {
+    return this.#used;
+  }
+
+  /** Whether a qubit is used. */
+  isUsed(qubit) {
+    return ((this.#used >> BigInt(qubit)) & 1n) === 1n;
+  }
+
+  /** The neighbours of a vertex, rising. */
+  neighboursOf(vertex) {
+    return placesOf(this.#neighbours[vertex] ?? 0n);
+  }
+
+  /** The edges of the graph, each once. */
+  edges() {
+    return this.codes.flatMap((_, a) => this.neighboursOf(a).filter((b) => b > a).map((b) => [a, b]));
+  }
+
+  #record() {
+    return [BigInt(this.n), this.#neighbours, this.#codes];
+  }
+
+  /** The record expanded: its n generators, in order. */
+  generators() {
+    const { n } = this;
+    const [signs, z, x] = [new Uint8Array(n), new BigUint64Array(n), new BigUint64Array(n)];
+    accept(call("expand", ...this.#record(), this.#used, signs, z, x));
+    return new GeneratorList(signs, z, x);
+  }
+
+  /** The reduced record of the state, with no qubit used. Equal states have equal reduced records. */
+  reduced() {
+    return State.fromGenerators(this.generators());
+  }
+
+  /** Whether the record is the reduced one. */
+  isReduced() {
+    const reduced = this.reduced();
+    return String(reduced.neighbours) === String(this.neighbours) && String(reduced.codes) === String(this.codes);
+  }
+
+  /** Whether two records stand for one state. */
+  equals(other) {
+    const [mine, others] = [this.reduced(), other.reduced()];
+    return String(mine) === String(others);
+  }
+
+  /** The entanglement between these qubits and the others: the rank of the edges between them. */
+  cut(side) {
+    const rank = wordCell();
+    accept(call("cut", ...this.#record(), this.#used, wordOf(side), rank));
+    return Number(rank.value);
+  }
+
+  /** The amplitude at a word, bit q for qubit q, over that at the smallest word whose amplitude is not 0. */
+  amplitude(word) {
+    const [re, im, p] = [floatCell(), floatCell(), floatCell()];
+    accept(call("amplitude", ...this.#record(), this.#used, bits(word), re, im, p));
+    return { re: re.value, im: im.value, p: p.value };
+  }
+
+  /** The expectation value, 1, -1 or 0, of a Pauli row such as "+XZI". */
+  expectation(row) {
+    const { sign, z, x } = rowWords(row, this.n);
+    const value = octetCell();
+    accept(call("expectation", ...this.#record(), this.#used, z, x, value));
+    return value.value === 2 ? 0 : value.value === sign ? 1 : -1;
+  }
+
+  /** The graph to which the codes send the graph; refused by 11 or 12 where that is no graph's group. */
+  image() {
+    const { n } = this;
+    const [neighbours, signs] = [new BigUint64Array(n), new Uint8Array(n)];
+    const [list, count] = [new Uint8Array(LIST_PLACES), wordCell()];
+    accept(call("image", ...this.#record(), neighbours, signs, list, count));
+    const complementations = Array.from(list.slice(0, Number(count.value)));
+    return { neighbours: Array.from(neighbours), signs: Array.from(signs), complementations };
+  }
+
+  /**
+   * The least choice of local Cliffords that carries this state onto the other, parts of any size, and the vertices at
+   * which the first reduced graph is complemented to become the second; null where there is none.
+   */
+  compare(other) {
+    const [choice, list, count] = [new Uint8Array(this.n), new Uint8Array(LIST_PLACES), wordCell()];
+    const number = call("equivalent_records", ...this.#record(), ...other.#record(), choice, list, count);
+    if (number === 13) return null;
+    accept(number);
+    return { choice: Array.from(choice), complementations: Array.from(list.slice(0, Number(count.value))) };
+  }
+
+  // ---- changing it
+
+  /** Applies a local Clifford, by name or code, and leaves the reduced record. */
+  gate(qubit, gate) {
+    accept(call("gate", ...this.#record(), this.#used, place(qubit), octet(code(gate))));
+  }
+
+  h(qubit) {
+    this.gate(qubit, "H");
+  }
+
+  s(qubit) {
+    this.gate(qubit, "S");
+  }
+
+  x(qubit) {
+    this.gate(qubit, "X");
+  }
+
+  y(qubit) {
+    this.gate(qubit, "Y");
+  }
+
+  z(qubit) {
+    this.gate(qubit, "Z");
+  }
+
+  /** CZ on two qubits, and the reduced record. */
+  cz(a, b) {
+    accept(call("cz", ...this.#record(), this.#used, place(a), place(b)));
+  }
+
+  /** CNOT: a Hadamard, CZ and a Hadamard at the target. Refused as a whole, before the first gate. */
+  cx(control, target) {
+    this.copy().cz(control, target); // names both qubits: where it is accepted, so is what follows
+    this.h(target);
+    this.cz(control, target);
+    this.h(target);
+  }
+
+  /**
+   * Measures X, Y or Z, by letter or as 1, 2 or 3; the qubit is used afterwards. An outcome that the state forbids is
+   * refused by 14; without one the outcome is the state's, or a fair bit.
+   */
+  measure(pauli, qubit, outcome) {
+    if (outcome === undefined) return this.observe(pauli, qubit, fairBit());
+    const [used, answer, determined] = [wordCell(this.#used), octetCell(), octetCell()];
+    const asked = [pauliNumber(pauli), place(qubit), octet(outcome)];
+    accept(call("measure", ...this.#record(), used, ...asked, answer, determined));
+    this.#used = used.value;
+    return { outcome: answer.value, determined: determined.value === 1 };
+  }
+
+  /** Measures with a bit by lot, which is ignored where the state determines the outcome. */
+  observe(pauli, qubit, bit) {
+    return beyond.observe(this, pauli, qubit, bit);
+  }
+
+  /** Measures a Pauli row with a bit by lot. No qubit is used by it. */
+  measureRow(row, bit = fairBit()) {
+    const { outcome, determined, record } = beyond.measureRow(this, row, bit);
+    this.#neighbours = words(record.neighbours);
+    this.#codes = octets(record.codes);
+    return { outcome, determined };
+  }
+
+  /** A new photon at a used place, in the state of its code: 0, 2, 4, 6, 8, 10 for +X, -X, +Y, -Y, +Z, -Z. */
+  renew(qubit, gate = 8) {
+    const { number, used } = beyond.renewed(this, qubit, code(gate));
+    accept(number);
+    this.#used = used;
+    this.#codes[qubit] = code(gate);
+  }
+
+  /** Complements the graph at a vertex and rewrites the codes: the same state, not reduced. */
+  complement(vertex) {
+    accept(call("complement", ...this.#record(), this.#used, place(vertex)));
+  }
+
+  /**
+   * Runs at most 4,096 steps in one call: each is an operation (0 gate, 1 cz, 2 measure, 3 complement, 4 pivot), two
+   * qubits and a value, as in a job. Answers refusal, outcome and determined of each; a refused step changes nothing.
+   */
+  run(steps) {
+    const ops = octets(steps.map(([op]) => op));
+    const fields = [1, 2, 3].map((k) => halves(steps.map((step) => step[k])));
+    const answers = [0, 1, 2].map(() => new Uint8Array(steps.length));
+    const used = wordCell(this.#used);
+    accept(call("run", ...this.#record(), used, ops, ...fields, ...answers));
+    this.#used = used.value;
+    return steps.map((_, k) => answers.map((values) => values[k]));
+  }
+
+  /** The same state with a qubit more, unentangled, in the state of its code. */
+  grown(gate = 8) {
+    if (this.n === 64) throw new Refusal(2);
+    return new State([...this.#neighbours, 0n], [...this.#codes, code(gate)], this.#used);
+  }
+
+  /** The record as programs print it. */
+  toString() {
+    const line = (q) =>
+      `${q} ${this.#codes[q]} ${this.#neighbours[q].toString(16).padStart(16, "0")} ${this.isUsed(q) ? 1 : 0}\n`;
+    return `${RECORD_NAMES}\n${this.codes.map((_, q) => line(q)).join("")}`;
+  }
+}
