@@ -5,7 +5,9 @@ from __future__ import annotations
 import argparse
 import errno
 import os
+import signal
 import sys
+import threading
 
 from . import actions
 from .actions import Trouble
@@ -61,6 +63,7 @@ def main(arguments: "list[str] | None" = None) -> int:
     given = vars(parser().parse_args(arguments))
     given.pop("command")
     action = given.pop("action")
+    _interruptible()
     try:
         status = action(**given)
         sys.stdout.flush()
@@ -80,6 +83,12 @@ def main(arguments: "list[str] | None" = None) -> int:
         return _said(f"{error.filename or 'standard output'}: {error.strerror}", 2)
     except (Trouble, ValueError) as trouble:
         return _said(str(trouble), 2)
+
+
+def _interruptible() -> None:
+    """From here on an interrupt is a KeyboardInterrupt (starting.py has had it so far)."""
+    if threading.current_thread() is threading.main_thread():
+        signal.signal(signal.SIGINT, signal.default_int_handler)
 
 
 def _said(what: str, status: int) -> int:

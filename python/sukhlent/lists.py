@@ -13,6 +13,11 @@ from .rows import row_words
 _LETTERS = "IXZY"
 
 
+def _letters(z: int, x: int, n: int) -> str:
+    """The letters of a row."""
+    return "".join(_LETTERS[2 * (z >> q & 1) + (x >> q & 1)] for q in range(n))
+
+
 def _clash(rows: "list[tuple[int, int]]") -> "tuple[int, int] | None":
     """The first two rows, each a z word and an x word, that do not commute."""
     for b, (z, x) in enumerate(rows):
@@ -32,11 +37,13 @@ def _of_text(number: int, lines: list[Line], strict: str, fault: "str | None") -
     return Refusal(9, f"lines {lines[pair[0]].number} and {lines[pair[1]].number} do not commute" if pair else "")
 
 
-@dataclass(frozen=True)
+@dataclass(frozen=True, repr=False)
 class GeneratorList:
     """Signs (1 for minus), z words and x words; bit q of a word belongs to qubit q.
 
-    >>> bell = GeneratorList.from_strings("+XX", "-ZZ")
+    >>> bell = GeneratorList((0, 1), (0, 3), (3, 0))
+    >>> bell
+    GeneratorList.from_strings('+XX', '-ZZ')
     >>> bell.signs, bell.z, bell.x
     ((0, 1), (0, 3), (3, 0))
     >>> print(bell, end="")
@@ -93,6 +100,13 @@ class GeneratorList:
         if number:
             raise _of_text(number, lines, strict, fault)
         return cls(tuple(signs), tuple(z), tuple(x))
+
+    def __repr__(self) -> str:
+        n = self.n
+        if len(self.z) != n or len(self.x) != n or any(word >> n for word in self.z + self.x) or set(self.signs) - {0, 1}:
+            return f"GeneratorList({self.signs}, {self.z}, {self.x})"
+        rows = zip(self.signs, self.z, self.x)
+        return f"GeneratorList.from_strings({', '.join(repr('+-'[sign] + _letters(z, x, n)) for sign, z, x in rows)})"
 
     def __str__(self) -> str:
         text = library.blank_octets(self.n * (self.n + 2))
@@ -151,5 +165,4 @@ class GeneratorList:
         z, x, phase = library.word(), library.word(), library.octet()
         chosen = library.word_of(rows)
         accept(library.call("product", self.n, *self.buffers(), chosen, z, x, phase))
-        letters = (_LETTERS[2 * (z.value >> q & 1) + (x.value >> q & 1)] for q in range(self.n))
-        return phase.value, "".join(letters)
+        return phase.value, _letters(z.value, x.value, self.n)

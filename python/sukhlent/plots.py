@@ -37,7 +37,7 @@ def read_table(text: str) -> list[PlotLine]:
 
 
 def table_of(state: State) -> list[PlotLine]:
-    """The same by the library, for a state on up to 10 qubits.
+    """The amplitudes of a state on up to 10 qubits by the library: a line for each word.
 
     >>> table_of(State.from_strings("-Y"))
     [PlotLine(re=1.0, im=0.0, p=0.5), PlotLine(re=0.0, im=-1.0, p=0.5)]
@@ -97,8 +97,8 @@ def plot_svg(lines: Sequence[PlotLine]) -> str:
     axis = _axis(n)
     parts.append(f'<text font-size="11" x="0" y="{bottom + 18:.1f}">{axis}</text></g>')
     width, height = max(right + 12, 6.2 * len(axis)), bottom + 26
-    ground = f'<path d="M0 0H{width:.1f}V{height:.1f}H0Z" fill="#ffffff"/>'
-    return "\n".join([opening(0, 0, width, height), ground, *parts, "</svg>"])
+    ground = f'<path d="M-8 0H{width:.1f}V{height:.1f}H-8Z" fill="#ffffff"/>'
+    return "\n".join([opening(-8, 0, width + 8, height), ground, *parts, "</svg>"])
 
 
 def _axis(n: int) -> str:

@@ -72,6 +72,8 @@ def run_many(states: Iterable[Any], ops: Any, a: Any, b: Any, value: Any, thread
         raise ValueError(f"run_many(states, ops, ..): {view.shape[0]} rows of steps for {count} states")  # type: ignore[index]
     steps = view.nbytes if shared else view.nbytes // max(count, 1)
     answers = [_like(ops, (count, steps)) for _ in range(3)]
+    if count == 0:
+        return Ran(*answers)
     flat = [_flat(given) for given in (*slices, *answers)]
 
     def part(first: int, last: int) -> int:

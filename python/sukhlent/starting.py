@@ -2,6 +2,7 @@
 sukhlent` raises ImportError; the command ends with one line and status 2. Any Python 3 reads this file."""
 
 import os
+import signal
 import sys
 
 
@@ -20,6 +21,15 @@ def stop(why):
         sys.exit(2)
     raise ImportError(why)
 
+
+def _interrupted(number, frame):
+    """Ends the command while it still starts; from then on command.py does."""
+    os.write(2, b"sukhlent: interrupted\n")
+    os._exit(130)
+
+
+if _as_command():
+    signal.signal(signal.SIGINT, _interrupted)
 
 if sys.version_info < (3, 9):
     stop("this needs Python 3.9 or later, and is run by Python %d.%d" % sys.version_info[:2])

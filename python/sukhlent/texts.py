@@ -15,7 +15,7 @@ def read_list(text: str) -> GeneratorList:
     """The generator list of a text that the program `reduce` reads.
 
     >>> read_list("sign z x\\n1 0000000000000001 0000000000000000\\n")
-    GeneratorList(signs=(1,), z=(1,), x=(0,))
+    GeneratorList.from_strings('-Z')
     """
     rows = _rows(text, forms.list_fault(text))
     signs = tuple(int(sign) for sign, _, _ in rows)

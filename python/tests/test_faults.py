@@ -175,11 +175,15 @@ class Command(unittest.TestCase):
         return subprocess.Popen([python, "-m", "sukhlent", *arguments], env=environment, **{**pipes, **more})
 
     def test_an_interrupt(self):
-        with self.start("reduce") as process:
-            time.sleep(1.5)  # it waits for its text
-            process.send_signal(signal.SIGINT)
-            out, err = process.communicate(timeout=60)
-        self.assertEqual((process.returncode, out, err), (130, "", "sukhlent: interrupted\n"))
+        for wait in (0, 1.0):  # while the package is loaded, and while the command waits for its text
+            with self.start("reduce") as process:
+                end = time.monotonic() + 60
+                while "libsukhlent" not in Path(f"/proc/{process.pid}/maps").read_text() and time.monotonic() < end:
+                    time.sleep(0.01)
+                time.sleep(wait)
+                process.send_signal(signal.SIGINT)
+                out, err = process.communicate(timeout=60)
+            self.assertEqual((process.returncode, out, err), (130, "", "sukhlent: interrupted\n"))
 
     def test_a_full_disk(self):
         for arguments in (["draw"], ["reduce"], ["draw", "-o", "/dev/full"]):
