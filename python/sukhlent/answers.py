@@ -71,3 +71,28 @@ class Image:
     neighbours: tuple[int, ...]
     signs: tuple[int, ...]
     complementations: tuple[int, ...]
+
+
+@dataclass(frozen=True)
+class Renumbered:
+    """What a comparison with renumbering finds: qubit q of the second state is qubit `order[q]` of the first; then a local
+    Clifford per qubit of the second, and complementations, as in an `Equivalence`.
+
+    >>> from sukhlent import State
+    >>> star, other = State.graph(3, [(0, 1), (0, 2)]), State.graph(3, [(2, 1), (2, 0)])
+    >>> star.equivalent(other, renumbered=True)
+    Renumbered(order=(0, 1, 2), choice=(8, 0, 8), complementations=(0, 2, 0))
+    """
+
+    order: tuple[int, ...]
+    choice: tuple[int, ...]
+    complementations: tuple[int, ...]
+
+    @property
+    def gates(self) -> tuple[str, ...]:
+        """The choice by names.
+
+        >>> Renumbered((1, 0), (4, 12), ()).gates
+        ('S', 'SQRT_X_DAG')
+        """
+        return tuple(NAMES[number] for number in self.choice)

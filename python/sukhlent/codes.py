@@ -6,8 +6,7 @@ negative. Names are those that Stim uses.
 
 from __future__ import annotations
 
-import operator
-
+from .arguments import whole
 from .refusals import Refusal
 
 #: NAMES[code]: its name
@@ -29,6 +28,9 @@ SYMBOLS: tuple[str, ...] = (
 #: the code of a name or short form in lower case
 _CODES = {name.lower(): number for known in (NAMES, SYMBOLS) for number, name in enumerate(known) if name}
 
+#: the code of each name, in upper and in lower case
+CODES = {form: number for number, name in enumerate(NAMES) for form in (name, name.lower())}
+
 _LETTERS = (("X", "Z"), ("Y", "Z"), ("Z", "X"), ("X", "Y"), ("Y", "X"), ("Z", "Y"))
 
 
@@ -41,7 +43,7 @@ def code(gate: int | str) -> int:
     (8, 13, 6, 4)
     """
     if not isinstance(gate, str):
-        return operator.index(gate)
+        return whole(gate, "a gate by its name or code")
     number = _CODES.get(gate.lower())
     if number is not None:
         return number

@@ -1,15 +1,16 @@
-"""Where a text leaves its form, in words: line, column, and what was expected there. The engine judges; this only says
-why it refused by 1. Each function answers None of a text that has its form."""
+"""Where a text leaves its form, in words: line, column, and what was expected there. The engine judges what plain_text
+(reading.py) leaves of it; this only says why it refused by 1. Each function answers None of a text that has its form."""
 
 from __future__ import annotations
 
 import re
 
+from .reading import plain_lines
+from .rows import shown
+from .running import OPS
+
 #: a piece of a line: a pattern and what it is called
 Piece = tuple[str, str]
-
-#: the operations of a job, in the order of their numbers
-OPS = ("gate", "cz", "measure", "complement", "pivot")
 
 _SPACE: Piece = (" ", "one space")
 _HEX: Piece = ("[0-9a-f]{16}", "16 lower-case hexadecimal digits")
@@ -18,7 +19,6 @@ _OP: Piece = ("|".join(OPS), f"{', '.join(OPS[:-1])} or {OPS[-1]}")
 
 _GENERATOR: list[Piece] = [("[0-9]", "a sign digit"), _SPACE, _HEX, _SPACE, _HEX]
 _STEP: list[Piece] = [_OP, _SPACE, _FIELD, _SPACE, _FIELD, _SPACE, _FIELD]
-_STRING: list[Piece] = [("[+-]", "+ or -"), ("[IXYZ]+", "letters I, X, Y or Z"), (r"\Z", "a letter I, X, Y or Z")]
 
 
 def _literal(text: str) -> list[Piece]:
@@ -43,19 +43,18 @@ def _line_fault(line: str, pieces: list[Piece]) -> tuple[int, str] | None:
 
 def _fault(text: str, heads: list[list[Piece]], body) -> str | None:
     """The first fault of a text whose first lines are `heads` and whose line k after them is `body(k)`."""
-    *lines, rest = text.split("\n")
-    for place, line in enumerate([*lines, rest] if rest else lines):
+    lines = plain_lines(text)
+    for place, (number, column, content) in enumerate(lines):
         pieces = heads[place] if place < len(heads) else body(place - len(heads))
-        whole = line.removesuffix("\r")
-        fault = _line_fault(whole, pieces)
+        fault = _line_fault(content, pieces)
         if fault is not None:
-            return f"line {place + 1}, column {fault[0]}: expected {fault[1]}"
-        if whole != line:
-            return f"line {place + 1}, column {len(line)}: a carriage return; lines end with a newline alone, not CRLF"
-    if rest:
-        return f"line {len(lines) + 1}, column {len(rest) + 1}: expected a newline, which ends the last line too"
+            at, due = fault
+            there = content[at - 1 : at]
+            strange = f" ({shown(there)} stands there)" if there and not (there.isascii() and there.isprintable()) else ""
+            return f"line {number}, column {column + at - 1}: expected {due}{strange}"
     if len(lines) < len(heads):
-        return f"line {len(lines) + 1}, column 1: expected {heads[len(lines)][0][1]}"
+        last = lines[-1].number if lines else 0
+        return f"line {last + 1}, column 1: expected {heads[len(lines)][0][1]}"
     return None
 
 
@@ -65,7 +64,6 @@ def list_fault(text: str) -> str | None:
     >>> list_fault("sign z x\\n0 0000000000000000 000000000000003\\n")
     'line 2, column 20: expected 16 lower-case hexadecimal digits'
     >>> list_fault("sign z x\\r\\n")
-    'line 1, column 9: a carriage return; lines end with a newline alone, not CRLF'
     """
     return _fault(text, [_literal("sign z x")], lambda _: _GENERATOR)
 
@@ -84,26 +82,7 @@ def job_fault(text: str) -> str | None:
 
     >>> job_fault("qubits\\n2\\nop a b value\\nhadamard 0 0 0\\n")
     'line 4, column 1: expected gate, cz, measure, complement or pivot'
-    >>> job_fault("qubits\\n2\\nop a b value\\ngate 0 0 8")
-    'line 4, column 11: expected a newline, which ends the last line too'
+    >>> job_fault("qubits\\n2\\nop a b value\\ngate 0 0")
+    'line 4, column 9: expected one space'
     """
     return _fault(text, [_literal("qubits"), [_FIELD], _literal("op a b value")], lambda _: _STEP)
-
-
-def string_fault(text: str) -> str | None:
-    """Why a text of Pauli strings is refused by 1.
-
-    >>> string_fault("+XX\\n+ZZZ\\n")
-    'line 2 has 3 letters: expected 2, as many as lines'
-    >>> string_fault("+XX\\n ZZ\\n")
-    'line 2, column 1: expected + or -'
-    >>> string_fault("+X_\\n+_Z\\n")
-    'line 1, column 3: expected a letter I, X, Y or Z'
-    """
-    said = _fault(text, [], lambda _: _STRING)
-    if said is None:
-        lines = text.split("\n")[:-1]
-        for place, line in enumerate(lines):
-            if len(line) - 1 != len(lines):
-                return f"line {place + 1} has {len(line) - 1} letters: expected {len(lines)}, as many as lines"
-    return said

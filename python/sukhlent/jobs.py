@@ -6,8 +6,11 @@ from dataclasses import dataclass
 from typing import Iterable
 
 from . import library
-from .forms import OPS, job_fault
+from .forms import job_fault
+from .reading import plain_text
 from .refusals import Refusal, accept
+from .running import OPS
+from .shared import Group
 from .state import State
 
 
@@ -51,7 +54,7 @@ def generate(n: int, count: int, seed: int) -> str:
     gate 1 0 4
     measure 2 0 5
     """
-    text, length = library.octets([0] * 61463), library.word()
+    text, length = library.blank_octets(61463), library.word()
     accept(library.call("generate", library.place(n), library.place(count), seed, text, length))
     return bytes(text[: length.value]).decode()
 
@@ -74,11 +77,11 @@ def parse_job(text: str) -> tuple[int, list[Step]]:
     fault = job_fault(text)
     if fault is not None:
         raise Refusal(1, fault)
-    _, n, _, *lines = text.splitlines()
+    _, n, _, *lines = plain_text(text).splitlines()
     if len(lines) > 4096:
-        raise Refusal(15)
+        raise Refusal(15, f"{len(lines)} steps, but a job has at most 4,096")
     if not 1 <= int(n) <= 64:
-        raise Refusal(2)
+        raise Refusal(2, f"{n} qubits, but a state has 1 to 64")
     fields = (line.split(" ") for line in lines)
     return int(n), [Step(op, int(a), int(b), int(value)) for op, a, b, value in fields]
 
@@ -115,7 +118,7 @@ def _op_number(op: str) -> int:
     return OPS.index(op)
 
 
-def run_step(state: State, step: Step) -> Result:
+def run_step(state: "State | Group", step: Step) -> Result:
     """One step of a job, in place. Raises `Refusal` 1 where its op is unknown.
 
     >>> state = State.zeros(2)
@@ -145,9 +148,14 @@ def run_step(state: State, step: Step) -> Result:
     return Result(0, 0, 0)
 
 
-def _pivot(state: State, a: int, b: int) -> None:
+def _pivot(state: "State | Group", a: int, b: int) -> None:
     """Complements at a, b, a where the two have an edge; refused by 8 where they have none."""
-    if not {a, b} <= set(range(state.n)) or a == b or not state.neighbours[a] >> b & 1:
+    held = state.state() if isinstance(state, Group) else state
+    if not {a, b} <= set(range(held.n)) or a == b:
+        raise Refusal(8)
+    if isinstance(state, Group):
+        state._all_own((a, b))
+    if not held.neighbours[a] >> b & 1:
         raise Refusal(8)
     for vertex in (a, b, a):
         state.complement(vertex)

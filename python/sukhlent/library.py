@@ -3,12 +3,12 @@
 from __future__ import annotations
 
 import ctypes
-import operator
 import os
 from ctypes import POINTER, c_double, c_uint8, c_uint16, c_uint32, c_uint64
 from pathlib import Path
-from typing import Iterable, Union
+from typing import Any, Iterable, Union
 
+from .arguments import ABOVE, whole
 from .refusals import TEXTS
 
 _NAME = "libsukhlent.so"
@@ -56,29 +56,44 @@ _CALLS: dict[str, tuple] = {
 }
 
 
+#: the slices of a run, in order
+RUN_NAMES = ("ops", "a", "b", "value", "refusals", "outcomes", "determined")
+
+#: where this package stands
+HERE = Path(__file__).resolve().parent
+
+
 def tree() -> Path:
     """The root of what is installed, or of the clone, that this package stands in."""
-    here = Path(__file__).resolve().parent
-    installed = here.parts[-4:-1] == ("share", "sukhlent", "python")
-    return here.parents[3] if installed else here.parents[1]
+    installed = HERE.parts[-4:-1] == ("share", "sukhlent", "python")
+    return HERE.parents[3] if installed else HERE.parents[1]
 
 
 def _candidates() -> list[Path]:
-    """Where the library may stand: where the environment names one, there alone; else in an install tree or a clone."""
+    """Where the library may stand: where the environment names one, there alone; else in the package, as pip installs
+    it, in an install tree, or in a clone."""
     named = os.environ.get("SUKHLENT_LIBRARY")
-    places = [tree() / "lib" / _NAME, tree() / "target" / "shared" / _NAME]
+    places = [HERE / _NAME, tree() / "lib" / _NAME, tree() / "target" / "shared" / _NAME]
     return [Path(named)] if named else places
 
 
-def _load() -> ctypes.CDLL:
+def _found() -> Path:
     for path in _candidates():
         if path.is_file():
-            return _declared(ctypes.CDLL(str(path)), path)
+            return path
     tried = "\n  ".join(str(path) for path in _candidates())
     raise ImportError(
-        f"{_NAME} was not found. Build it with tools/shared in a clone, install with tools/install PREFIX, or name"
+        f"{_NAME} was not found. Build it with tools/shared in a clone, install with pip or tools/install PREFIX, or name"
         f" it in SUKHLENT_LIBRARY. Tried:\n  {tried}"
     )
+
+
+def _load() -> ctypes.CDLL:
+    path = _found()
+    try:
+        return _declared(ctypes.CDLL(str(path)), path)
+    except OSError as error:
+        raise ImportError(f"{path} is no library that this Python can load: {error}") from None
 
 
 def _declared(library: ctypes.CDLL, path: Path) -> ctypes.CDLL:
@@ -97,6 +112,14 @@ def _declared(library: ctypes.CDLL, path: Path) -> ctypes.CDLL:
 
 _library = _load()
 
+#: the file of the library that was loaded
+PATH = _found()
+
+
+def number() -> int:
+    """The version of the library as one number, as SUKHLENT_VERSION has it."""
+    return _library.sukhlent_version()
+
 
 def version() -> str:
     """The version of the library that was loaded.
@@ -104,8 +127,8 @@ def version() -> str:
     >>> version().count(".")
     2
     """
-    number = _library.sukhlent_version()
-    return f"{number // 10000}.{number // 100 % 100}.{number % 100}"
+    whole_number = number()
+    return f"{whole_number // 10000}.{whole_number // 100 % 100}.{whole_number % 100}"
 
 
 class Cell:
@@ -113,6 +136,13 @@ class Cell:
 
     def __init__(self, kind: type, value: int = 0):
         self._held = kind(_fitting(value, kind))
+
+    @classmethod
+    def at(cls, held: Any) -> Cell:
+        """The cell of a number that stands elsewhere."""
+        cell = cls.__new__(cls)
+        cell._held = held
+        return cell
 
     @property
     def value(self) -> int:
@@ -176,7 +206,7 @@ def call(name: str, *arguments: Argument) -> int:
 def _fitting(value: int, kind: type) -> int:
     """A number as C gets it, of any type that stands for an integer. One that no byte holds becomes 255, or of 16 bits
     65,535, which every call refuses as it would the number."""
-    value = operator.index(value)
+    value = whole(value)
     if kind is c_uint8:
         return value if 0 <= value <= 255 else 255
     if kind is c_uint16:
@@ -188,13 +218,13 @@ def _fitting(value: int, kind: type) -> int:
 
 def place(number: int) -> int:
     """A qubit number or a count as C gets it: one that no word holds becomes one that every call refuses likewise."""
-    number = operator.index(number)
-    return number if 0 <= number < 1 << 64 else (1 << 64) - 1
+    number = whole(number)
+    return number if 0 <= number < 1 << 64 else ABOVE
 
 
 def bits(value: int) -> int:
     """A word of bits as C gets it. A negative one counts as one with all bits above 63."""
-    value = operator.index(value)
+    value = whole(value)
     return value if 0 <= value < 1 << 64 else _WideWord()
 
 
@@ -225,3 +255,30 @@ def halves(values: Iterable[int]) -> ctypes.Array:
     """A buffer of numbers of 16 bits."""
     fitting = [_fitting(value, c_uint16) for value in values]
     return (c_uint16 * len(fitting))(*fitting)
+
+
+def lent(name: str, given: Any) -> ctypes.Array:
+    """A slice of a run as it is: any buffer of numbers of 16 bits for a, b and value, of eight bits for the others."""
+    view = memoryview(given)
+    kind, letter, width = (c_uint16, "H", 16) if name in RUN_NAMES[1:4] else (c_uint8, "B", 8)
+    if view.format.lstrip("@=<") != letter:
+        raise TypeError(
+            f"{name} holds items of the format '{view.format.lstrip('@=<')}', where numbers of {width} bits without a"
+            f" sign are taken: '{letter}' (array('{letter}'), numpy.uint{width})"
+        )
+    flat = view.cast("B")
+    if view.readonly and name in RUN_NAMES[4:]:
+        raise BufferError("Object is not writable.")
+    if view.readonly:
+        flat = memoryview(bytearray(flat))
+    return (kind * (view.nbytes // view.itemsize)).from_buffer(flat)
+
+
+def blank_words(count: int) -> ctypes.Array:
+    """A buffer of so many words, for an answer."""
+    return (c_uint64 * count)()
+
+
+def blank_octets(count: int) -> ctypes.Array:
+    """A buffer of so many bytes, for an answer."""
+    return (c_uint8 * count)()

@@ -6,46 +6,44 @@ from dataclasses import dataclass
 from typing import Iterable
 
 from . import library
-from .forms import string_fault
+from .reading import Line, plain_lines, strict_strings, string_fault
 from .refusals import Refusal, accept
+from .rows import row_words
 
 _LETTERS = "IXZY"
 
 
-def row_words(row: str, n: int) -> tuple[int, int, int]:
-    """The sign (1 for minus), z word and x word of a row such as `-XZI`, leftmost letter qubit 0; a plus may be left
-    out. A row of another form than a letter for each of n qubits is refused by 1.
-
-    >>> row_words("-XZY", 3)
-    (1, 6, 5)
-    """
-    letters = row[1:] if row[:1] in ("+", "-") else row
-    if len(letters) != n or not set(letters) <= set(_LETTERS):
-        raise Refusal(1, f"the row {row} is not a sign and {n} letters I, X, Y or Z")
-    numbers = [_LETTERS.index(letter) for letter in letters]
-    z, x = (sum((number >> bit & 1) << q for q, number in enumerate(numbers)) for bit in (1, 0))
-    return int(row[:1] == "-"), z, x
+def _letters(z: int, x: int, n: int) -> str:
+    """The letters of a row."""
+    return "".join(_LETTERS[2 * (z >> q & 1) + (x >> q & 1)] for q in range(n))
 
 
-def _joined(lines: Iterable[str]) -> str:
-    """The text of these lines, each with a newline at its end or without; refused by 1 where a line has one inside."""
-    text = ""
-    for place, line in enumerate(lines, 1):
-        if not isinstance(line, str):
-            raise TypeError(f"line {place} is no string but of the type {type(line).__name__}")
-        whole = line.removesuffix("\n")
-        if "\n" in whole:
-            column = whole.index("\n") + 1
-            raise Refusal(1, f"line {place}, column {column}: a newline, where each string is one line")
-        text += whole + "\n"
-    return text
+def _clash(rows: "list[tuple[int, int]]") -> "tuple[int, int] | None":
+    """The first two rows, each a z word and an x word, that do not commute."""
+    for b, (z, x) in enumerate(rows):
+        for a in range(b):
+            if bin(rows[a][0] & x).count("1") + bin(rows[a][1] & z).count("1") & 1:
+                return a, b
+    return None
 
 
-@dataclass(frozen=True)
+def _of_text(number: int, lines: list[Line], strict: str, fault: "str | None") -> Refusal:
+    """The refusal of a text of strings, by the numbers of its lines."""
+    if number == 2:
+        return Refusal(2, f"{len(lines)} strings, but a state has 1 to 64 qubits")
+    if number != 9:
+        return Refusal(number, fault or "" if number == 1 else "")
+    pair = _clash([row_words(line, len(lines))[1:] for line in strict.splitlines()])
+    return Refusal(9, f"lines {lines[pair[0]].number} and {lines[pair[1]].number} do not commute" if pair else "")
+
+
+@dataclass(frozen=True, repr=False)
 class GeneratorList:
     """Signs (1 for minus), z words and x words; bit q of a word belongs to qubit q.
 
-    >>> bell = GeneratorList.from_strings("+XX", "-ZZ")
+    >>> bell = GeneratorList((0, 1), (0, 3), (3, 0))
+    >>> bell
+    GeneratorList.from_strings('+XX', '-ZZ')
     >>> bell.signs, bell.z, bell.x
     ((0, 1), (0, 3), (3, 0))
     >>> print(bell, end="")
@@ -67,47 +65,51 @@ class GeneratorList:
         return len(self.signs)
 
     @classmethod
-    def from_strings(cls, *lines: str | Iterable[str]) -> GeneratorList:
-        """The list of strings such as `+XZ`, leftmost letter qubit 0: one by one, in one iterable, or as one text of lines.
+    def from_strings(cls, *lines: "str | Iterable[str]") -> GeneratorList:
+        """The list of strings such as `+XZ`, leftmost letter qubit 0: one by one, in one iterable, or as one text of lines. A
+        plus may be left out, and I may be written _.
 
-        >>> GeneratorList.from_strings("+XX", "-ZZ") == GeneratorList.from_strings(["+XX", "-ZZ"])
+        >>> GeneratorList.from_strings("+XX", "-ZZ") == GeneratorList.from_strings(["XX", "-ZZ"])
         True
         >>> GeneratorList.from_strings("+XI", "+ZI")
         Traceback (most recent call last):
         ...
-        sukhlent.refusals.Refusal: refused 9: two generators do not commute
+        sukhlent.refusals.Refusal: refused 9: lines 1 and 2 do not commute
         """
         if len(lines) != 1 or isinstance(lines[0], str) and "\n" not in lines[0]:
             return cls.from_text(lines)  # type: ignore[arg-type]
         return cls.from_text(lines[0])
 
     @classmethod
-    def from_text(cls, text: str | Iterable[str]) -> GeneratorList:
-        """The list of a text of such strings, each ended by a newline, the last one too; or of an iterable of its lines,
-        as an open file is, each with its newline or without.
+    def from_text(cls, text: "str | Iterable[str]") -> GeneratorList:
+        """The list of a text of such strings, one a line; or of an iterable of its lines, as an open file is. Blank lines,
+        spaces at the ends of a line, carriage returns and a byte order mark in front are left out; what is left is read by
+        the proved reader.
 
         >>> GeneratorList.from_text("+XX\\n-ZZ\\n").strings()
         ['+XX', '-ZZ']
-        >>> GeneratorList.from_text(["+XX", "-ZZ"]).strings()
-        ['+XX', '-ZZ']
-        >>> GeneratorList.from_text("+X")
-        Traceback (most recent call last):
-        ...
-        sukhlent.refusals.Refusal: refused 1: line 1, column 3: expected a newline, which ends the last line too
+        >>> GeneratorList.from_text(["X_", "-_Z"]).strings()
+        ['+XI', '-IZ']
         """
-        if not isinstance(text, str):
-            text = _joined(text)
-        octets = library.octets(text.encode("utf-8", "surrogateescape"))
-        n = text.count("\n")
-        signs, z, x = library.octets([0] * n), library.words([0] * n), library.words([0] * n)
-        number = library.call("read_strings", octets, signs, z, x)
-        if number == 1:
-            raise Refusal(1, string_fault(text) or "")
-        accept(number)
+        lines = plain_lines(text)
+        fault = string_fault(lines)
+        strict = strict_strings(lines)
+        n = len(lines)
+        signs, z, x = library.blank_octets(n), library.blank_words(n), library.blank_words(n)
+        number = library.call("read_strings", library.octets(strict.encode("utf-8", "surrogateescape")), signs, z, x)
+        if number:
+            raise _of_text(number, lines, strict, fault)
         return cls(tuple(signs), tuple(z), tuple(x))
 
+    def __repr__(self) -> str:
+        n = self.n
+        if len(self.z) != n or len(self.x) != n or any(word >> n for word in self.z + self.x) or set(self.signs) - {0, 1}:
+            return f"GeneratorList({self.signs}, {self.z}, {self.x})"
+        rows = zip(self.signs, self.z, self.x)
+        return f"GeneratorList.from_strings({', '.join(repr('+-'[sign] + _letters(z, x, n)) for sign, z, x in rows)})"
+
     def __str__(self) -> str:
-        text = library.octets([0] * (self.n * (self.n + 2)))
+        text = library.blank_octets(self.n * (self.n + 2))
         accept(library.call("write_strings", self.n, *self.buffers(), text))
         return bytes(text).decode()
 
@@ -128,6 +130,15 @@ class GeneratorList:
         """
         rows = zip(self.signs, self.z, self.x)
         return "".join(["sign z x\n", *(f"{sign} {z:016x} {x:016x}\n" for sign, z, x in rows)])
+
+    def refused(self, number: int) -> Refusal:
+        """The refusal of this list in words that name its generators, counted from 0.
+
+        >>> GeneratorList((0, 0), (0, 1), (1, 0)).refused(9)
+        Refusal(9, 'generators 0 and 1 do not commute')
+        """
+        pair = _clash(list(zip(self.z, self.x))) if number == 9 else None
+        return Refusal(9, f"generators {pair[0]} and {pair[1]} do not commute") if pair else Refusal(number)
 
     def buffers(self) -> tuple[library.Argument, ...]:
         """Signs, z words and x words as lent buffers."""
@@ -154,5 +165,4 @@ class GeneratorList:
         z, x, phase = library.word(), library.word(), library.octet()
         chosen = library.word_of(rows)
         accept(library.call("product", self.n, *self.buffers(), chosen, z, x, phase))
-        letters = (_LETTERS[2 * (z.value >> q & 1) + (x.value >> q & 1)] for q in range(self.n))
-        return phase.value, "".join(letters)
+        return phase.value, _letters(z.value, x.value, self.n)

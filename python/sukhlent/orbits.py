@@ -7,8 +7,8 @@ from dataclasses import dataclass
 from typing import Iterable, Iterator
 
 from . import library
-from .refusals import Refusal, accept
-from .state import neighbour_words
+from .graphs import neighbour_words
+from .refusals import Refusal
 
 
 def number_of(n: int, edges: Iterable[tuple[int, int]]) -> int:
@@ -19,8 +19,6 @@ def number_of(n: int, edges: Iterable[tuple[int, int]]) -> int:
     (4, 4)
     """
     words = neighbour_words(n, edges)
-    if any(word >> a & 1 for a, word in enumerate(words)):
-        raise Refusal(7)
     pairs = [(a, b) for a in range(n) for b in range(a + 1, n)]
     return sum((words[a] >> b & 1) << place for place, (a, b) in enumerate(pairs))
 
@@ -63,5 +61,7 @@ def orbit(n: int, edges: Iterable[tuple[int, int]]) -> Orbit:
     [3, 5, 6, 7]
     """
     places, count = (ctypes.c_uint16 * 32768)(), library.word()
-    accept(library.call("orbit", n, library.words(neighbour_words(n, edges)), places, count))
+    number = library.call("orbit", n, library.words(neighbour_words(n, edges)), places, count)
+    if number:
+        raise Refusal(number, f"{n} vertices, but an orbit has 1 to 6" if number == 2 else "")
     return Orbit(n, list(places[: count.value]))

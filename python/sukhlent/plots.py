@@ -8,15 +8,12 @@ from fractions import Fraction
 from typing import Iterator, Sequence
 
 from .answers import PlotLine
+from .drawing import opening
 from .state import State
 
 NAMES = "y re im p"
 
-_STYLE = (
-    "<style>text{font:12px sans-serif;fill:#111827}.word{font-size:11px;text-anchor:middle}"
-    ".tick{font-size:11px;text-anchor:end}.axis{stroke:#6b7280;stroke-width:1}"
-    ".re{fill:#1e3a8a}.im{fill:#8a3b12}.p{fill:#4b5563}</style>"
-)
+_COLOURS = {"re": "#1e3a8a", "im": "#8a3b12", "p": "#4b5563"}
 _LEFT, _ROW, _GAP = 64, 72, 22
 
 
@@ -40,7 +37,7 @@ def read_table(text: str) -> list[PlotLine]:
 
 
 def table_of(state: State) -> list[PlotLine]:
-    """The same by the library, for a state on up to 10 qubits.
+    """The amplitudes of a state on up to 10 qubits by the library: a line for each word.
 
     >>> table_of(State.from_strings("-Y"))
     [PlotLine(re=1.0, im=0.0, p=0.5), PlotLine(re=0.0, im=-1.0, p=0.5)]
@@ -56,7 +53,7 @@ def _bars(kind: str, values: Sequence[float], base: float, unit: float, step: fl
         if value:
             top = base - max(value, 0.0) * unit
             yield (
-                f'<rect class="{kind}" x="{_LEFT + (y + 0.15) * step:.2f}" y="{top:.2f}" width="{0.7 * step:.2f}"'
+                f'<rect fill="{_COLOURS[kind]}" x="{_LEFT + (y + 0.15) * step:.2f}" y="{top:.2f}" width="{0.7 * step:.2f}"'
                 f' height="{abs(value) * unit:.2f}"/>'
             )
 
@@ -64,8 +61,8 @@ def _bars(kind: str, values: Sequence[float], base: float, unit: float, step: fl
 def _ticks(values: Sequence[tuple[str, float]], right: float) -> Iterator[str]:
     """Lines across, with what they stand for."""
     for name, y in values:
-        yield f'<line class="axis" x1="{_LEFT}" y1="{y:.1f}" x2="{right:.1f}" y2="{y:.1f}" opacity=".4"/>'
-        yield f'<text class="tick" x="{_LEFT - 6}" y="{y:.1f}" dy=".35em">{name}</text>'
+        yield f'<line stroke="#6b7280" x1="{_LEFT}" y1="{y:.1f}" x2="{right:.1f}" y2="{y:.1f}" opacity=".4"/>'
+        yield f'<text font-size="11" text-anchor="end" x="{_LEFT - 6}" y="{y:.1f}" dy=".35em">{name}</text>'
 
 
 def plot_svg(lines: Sequence[PlotLine]) -> str:
@@ -79,7 +76,7 @@ def plot_svg(lines: Sequence[PlotLine]) -> str:
         raise ValueError(f"a table of {len(lines)} words")
     step = max(24.0, 9.0 * n + 4) if n <= 5 else 1440 / len(lines)
     right = _LEFT + step * len(lines)
-    parts = [_STYLE]
+    parts = ['<g font-family="sans-serif" font-size="12" fill="#111827">']
     top = 14.0
     for kind, name in (("re", "real"), ("im", "imag.")):
         base = top + _ROW / 2
@@ -94,8 +91,22 @@ def plot_svg(lines: Sequence[PlotLine]) -> str:
     bottom = top + _ROW + 16
     for y in range(0, len(lines), 1 if n <= 5 else len(lines) // 32):
         word = f"{y:0{n}b}" if n <= 5 else str(y)
-        parts.append(f'<text class="word" x="{_LEFT + (y + 0.5) * step:.1f}" y="{bottom:.1f}">{word}</text>')
-    width, height = right + 12, bottom + 8
-    head = f'<svg xmlns="http://www.w3.org/2000/svg" viewBox="0 0 {width:.1f} {height:.1f}"'
-    ground = f'<path d="M0 0H{width:.1f}V{height:.1f}H0Z" fill="#ffffff"/>'
-    return "\n".join([f'{head} width="{width:.0f}" height="{height:.0f}">', ground, *parts, "</svg>"])
+        parts.append(
+            f'<text font-size="11" text-anchor="middle" x="{_LEFT + (y + 0.5) * step:.1f}" y="{bottom:.1f}">{word}</text>'
+        )
+    axis = _axis(n)
+    parts.append(f'<text font-size="11" x="0" y="{bottom + 18:.1f}">{axis}</text></g>')
+    width, height = max(right + 12, 6.2 * len(axis)), bottom + 26
+    ground = f'<path d="M-8 0H{width:.1f}V{height:.1f}H-8Z" fill="#ffffff"/>'
+    return "\n".join([opening(-8, 0, width + 8, height), ground, *parts, "</svg>"])
+
+
+def _axis(n: int) -> str:
+    """Which bit of a word is which qubit.
+
+    >>> _axis(1), _axis(3), _axis(7)
+    ('word: the bit of qubit 0', 'word: bits of qubits 2 to 0, qubit 0 last', 'word as a number: bit q is qubit q')
+    """
+    if n > 5:
+        return "word as a number: bit q is qubit q"
+    return f"word: bits of qubits {n - 1} to 0, qubit 0 last" if n > 1 else "word: the bit of qubit 0"

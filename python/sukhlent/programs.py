@@ -10,14 +10,15 @@ import threading
 import time
 from pathlib import Path
 
-from .library import tree
+from .library import HERE, tree
 
 _BLOCK = 1 << 16
 
 
 def path_of(name: str) -> str | None:
-    """A proved program: in the folder that SUKHLENT_PROGRAMS names, in the install tree, in a clone, or on the path."""
-    places = [tree() / "libexec" / "sukhlent" / name, tree() / "target" / "bin" / name]
+    """A proved program: in the folder that SUKHLENT_PROGRAMS names, in the package, as pip installs it, in the install
+    tree, in a clone, or on the path."""
+    places = [HERE / "bin" / name, tree() / "libexec" / "sukhlent" / name, tree() / "target" / "bin" / name]
     folder = os.environ.get("SUKHLENT_PROGRAMS")
     if folder:
         places.insert(0, Path(folder) / name)

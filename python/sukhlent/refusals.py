@@ -31,26 +31,25 @@ TEXTS: dict[int, str] = {
 _NAMES: dict[int, str] = {
     1: "FORM", 15: "STEPS", 2: "COUNT", 4: "LENGTH", 5: "STRAY", 6: "VALUE", 7: "GRAPH", 19: "OTHER_GROUP",
     8: "QUBIT", 16: "USED", 17: "NOT_HELD", 18: "FULL", 9: "ANTICOMMUTE", 10: "DEPENDENT", 3: "LARGE",
-    14: "CONTRADICTED", 11: "IMAGE_C", 12: "IMAGE_Y", 13: "INEQUIVALENT",
+    14: "CONTRADICTED", 11: "IMAGE_C", 12: "IMAGE_Y", 13: "INEQUIVALENT", 20: "NOT_USED",
 }  # fmt: skip
 
 
 class Refusal(ValueError):
-    """A refused call: `number` of the published list, its `name` there and its `text`. Which numbers a call can answer
-    stands under its name in include/sukhlent.h, in checking order.
+    """A refused call: `number` of the published list, its `name` there and its `text`; `where` says which argument it was,
+    or where a text leaves its form. Which numbers a call can answer stands under its name in include/sukhlent.h, in
+    checking order.
 
     >>> from sukhlent import State
     >>> State.zeros(65)
     Traceback (most recent call last):
     ...
-    sukhlent.refusals.Refusal: refused 2: n is 0 or above the call's limit, or the two lists' or records' n differ, or a group's call has another n than 64
+    sukhlent.refusals.Refusal: refused 2: 65 qubits, but a state has 1 to 64
     >>> try:
     ...     State.zeros(2).measure("Z", 0, 1)
     ... except Refusal as refusal:
-    ...     print(refusal.number, refusal.name, refusal.text, sep=", ")
-    14, CONTRADICTED, a determined outcome contradicts the supplied bit
-
-    `where` says where a text leaves its form, for refusal 1 of a text that this package reads itself.
+    ...     print(refusal.number, refusal.name, refusal.text, refusal.where, sep="; ")
+    14; CONTRADICTED; a determined outcome contradicts the supplied bit; Z at qubit 0 has the outcome 0 in this state, not 1
     """
 
     def __init__(self, number: int, where: str = ""):
@@ -59,6 +58,12 @@ class Refusal(ValueError):
         self.text = TEXTS.get(number, "unknown refusal")
         self.where = where
         super().__init__(f"refused {number}: {where or self.text}")
+
+    def __repr__(self) -> str:
+        return f"Refusal({self.number}, {self.where!r})"
+
+    def __reduce__(self) -> "tuple[type[Refusal], tuple[int, str]]":
+        return type(self), (self.number, self.where)
 
 
 def accept(number: int) -> None:

@@ -2,18 +2,20 @@
 
 from __future__ import annotations
 
-import ctypes
-import random
 from pathlib import Path
-from typing import Iterable
+from typing import Any, Iterable, Sequence
 
-from . import library
-from .answers import Measured
-from .codes import code
-from .drawing import Place, grid, record_svg
-from .refusals import Refusal, accept
-from .state import State, measured_by_lot, pauli_number
-from .stores import held_names, name_number
+from . import beyond, blocks, calls, explain, library
+from .arguments import qubits
+from .drawing import record_svg
+from .gates import Gates
+from .layouts import Layout
+from .pictures import draw
+from .refusals import Refusal
+from .rows import Row, row_words
+from .running import OPS
+from .state import State
+from .stores import Buffers, held_names, name_number, not_held
 
 
 class Shared:
@@ -29,17 +31,35 @@ class Shared:
     >>> upper.h(0)
     Traceback (most recent call last):
     ...
-    sukhlent.refusals.Refusal: refused 19: a group's call names a qubit of the other group, or the record has an edge between the groups
+    sukhlent.refusals.Refusal: refused 19: qubit 0 belongs to group 0, and this is group 1
     """
 
     def __init__(self, ones: Iterable[int]):
-        self._word = library.word_of(ones)
-        if isinstance(self._word, library.Wide):
-            raise Refusal(5)
-        self._neighbours = library.words([0] * 64)
-        self._codes = library.octets([8] * 64)
-        self._used = 0
-        self._store = (library.words([0] * 24), library.words([0] * 512), library.octets([0] * 512))
+        given = qubits(ones, "Shared(qubits)")
+        strange = next((q for q in given if not 0 <= q < 64), None)
+        if strange is not None:
+            raise Refusal(5, explain.far(strange, 64))
+        self._word = library.word_of(given)
+        self._block = blocks.made([0] * 64, [8] * 64, 0)
+        self._store = Buffers()
+
+    def copy(self) -> Shared:
+        """The same record, groups and named states, apart; groups have handles of their own there.
+
+        >>> first = Shared(range(32, 64))
+        >>> second = first.copy()
+        >>> second.group(0).h(0)
+        >>> first.state() == second.state()
+        False
+        """
+        shared = Shared(())
+        shared._word, shared._block, shared._store = self._word, bytearray(self._block), self._store.__copy__()
+        return shared
+
+    __copy__ = copy
+
+    def __deepcopy__(self, memo: dict) -> Shared:
+        return self.copy()
 
     def groups(self) -> tuple[Group, Group]:
         """The handles of groups 0 and 1.
@@ -57,7 +77,7 @@ class Shared:
         [1, 3]
         """
         if number not in (0, 1):
-            raise Refusal(6)
+            raise Refusal(6, f"the group {number}, but groups are 0 and 1")
         return Group(self, number)
 
     @property
@@ -70,12 +90,12 @@ class Shared:
         return self._word
 
     def state(self) -> State:
-        """The whole record as it is now, apart.
+        """The whole record as it is now, apart, drawn in eight rows.
 
         >>> Shared([]).state() == State.zeros(64)
         True
         """
-        return State(self._neighbours, self._codes, self._used)
+        return State._of(bytearray(self._block), "grid 8 x 8")
 
     def replace(self, state: State) -> None:
         """Puts another record of 64 qubits in place, as the operator: every vertex of both groups. Where it has an edge
@@ -87,25 +107,23 @@ class Shared:
         >>> shared.groups()[0].h(1)
         Traceback (most recent call last):
         ...
-        sukhlent.refusals.Refusal: refused 19: a group's call names a qubit of the other group, or the record has an edge between the groups
+        sukhlent.refusals.Refusal: refused 19: the record has an edge between the groups
         """
         if state.n != 64:
-            raise Refusal(2)
-        self._neighbours = library.words(state.neighbours)
-        self._codes = library.octets(state.codes)
-        self._used = state.used
+            raise Refusal(2, f"a state of {state.n} qubits, but two groups share one of 64")
+        self._block = bytearray(state._block)
 
-    def svg(self, layout: Iterable[Place] | None = None) -> str:
+    def svg(self, layout: Layout = "grid 8 x 8") -> str:
         """A drawing, eight vertices in a row, or at given places: group 0 as discs, group 1 as squares.
 
         >>> Shared(range(32, 64)).svg().count("<circle")
         32
         """
-        places = grid(8, 8) if layout is None else layout
-        return record_svg(list(self._neighbours), list(self._codes), self._used, places, self._word)
+        neighbours, codes, used = blocks.parts(self._block)
+        return record_svg(neighbours, codes, used, layout, self._word)
 
-    def draw(self, file: str | Path, layout: Iterable[Place] | None = None) -> None:
-        """Writes the drawing to a file.
+    def draw(self, file: "str | Path", layout: Layout = "grid 8 x 8") -> None:
+        """Writes the drawing to a file: .svg, .png or .pdf.
 
         >>> import os, tempfile
         >>> with tempfile.TemporaryDirectory() as folder:
@@ -113,13 +131,13 @@ class Shared:
         ...     os.listdir(folder)
         ['shared.svg']
         """
-        Path(file).write_text(self.svg(layout) + "\n", encoding="utf-8")
+        draw(self.svg(layout), file)
 
     def _repr_svg_(self) -> str:
         return self.svg()
 
 
-class Group:
+class Group(Gates):
     """The handle of one group: its calls work on its own qubits and on its own named states; one that names a qubit of
     the other group is refused by 19. `Shared.groups` hands it out.
 
@@ -132,14 +150,16 @@ class Group:
     (0, [])
     """
 
+    __slots__ = ("_shared", "_number")
+
     def __init__(self, shared: Shared, number: int):
         self._shared = shared
         self._number = number
 
-    def _record(self) -> tuple[int, int, int, ctypes.Array, ctypes.Array]:
-        """What each call begins with."""
-        shared = self._shared
-        return 64, shared._word, self._number, shared._neighbours, shared._codes
+    def _own(self) -> int:
+        """The word of the group's qubits."""
+        word = self._shared._word
+        return word if self._number else ~word & (1 << 64) - 1
 
     def qubits(self) -> list[int]:
         """The qubits of the group, rising.
@@ -147,7 +167,7 @@ class Group:
         >>> [len(group.qubits()) for group in Shared(range(10)).groups()]
         [54, 10]
         """
-        return [q for q in range(64) if self._shared._word >> q & 1 == self._number]
+        return [q for q in range(64) if self._own() >> q & 1]
 
     def state(self) -> State:
         """The state that the group sees: its own vertices, every other in +Z. Refused by 19, as every call of a group, while
@@ -158,14 +178,30 @@ class Group:
         >>> lower.state().codes[40], upper.state().codes[40]
         (8, 10)
         """
-        shared, own = self._shared, set(self.qubits())
-        neighbours = [word if q in own else 0 for q, word in enumerate(shared._neighbours)]
-        if any(word & ~library.word_of(own) for word in neighbours):
-            raise Refusal(19)
-        codes = [held if q in own else 8 for q, held in enumerate(shared._codes)]
-        return State(neighbours, codes, shared._used & library.word_of(own))
+        neighbours, codes, used = blocks.parts(self._shared._block)
+        own = self._own()
+        seen = [word if own >> q & 1 else 0 for q, word in enumerate(neighbours)]
+        if any(word & ~own for word in seen):
+            raise self._other(19, ())
+        kept = [held if own >> q & 1 else 8 for q, held in enumerate(codes)]
+        return State._of(blocks.made(seen, kept, used & own), "grid 8 x 8")
 
-    def gate(self, qubit: int, gate: int | str) -> None:
+    def _other(self, number: int, named: Sequence[int]) -> Refusal:
+        """The refusal by 19."""
+        foreign = [q for q in named if 0 <= q < 64 and not self._own() >> q & 1]
+        if number != 19:
+            return Refusal(number)
+        if not foreign:
+            return Refusal(19, "the record has an edge between the groups")
+        return Refusal(19, f"qubit {foreign[0]} belongs to group {1 - self._number}, and this is group {self._number}")
+
+    def _head(self) -> tuple[bytearray, int, int]:
+        return self._shared._block, self._shared._word, self._number
+
+    def _used(self) -> int:
+        return blocks.used(self._shared._block)
+
+    def gate(self, qubit: int, gate: "int | str") -> None:
         """Applies a local Clifford, by name or code, and reduces the group's vertices.
 
         >>> lower, _ = Shared(range(32, 64)).groups()
@@ -173,18 +209,12 @@ class Group:
         >>> lower.state().codes[0]
         6
         """
-        used = self._shared._used
-        accept(library.call("group_gate", *self._record(), used, library.place(qubit), code(gate)))
-
-    def h(self, qubit: int) -> None:
-        """The Hadamard.
-
-        >>> lower, _ = Shared(range(32, 64)).groups()
-        >>> lower.h(0)
-        >>> lower.state().codes[0]
-        0
-        """
-        self.gate(qubit, "H")
+        try:
+            number = calls.group_gate(*self._head(), qubit, gate)
+        except TypeError as error:
+            raise TypeError(f"gate(qubit, gate): {error}") from None
+        if number:
+            raise self._other(19, (qubit,)) if number == 19 else explain.gate(number, 64, self._used(), qubit, gate)
 
     def cz(self, a: int, b: int) -> None:
         """CZ on two qubits of the group.
@@ -196,27 +226,46 @@ class Group:
         >>> upper.state().edges()
         [(40, 41)]
         """
-        used = self._shared._used
-        accept(library.call("group_cz", *self._record(), used, library.place(a), library.place(b)))
+        self._pair(self._shared._block, a, b, "cz(a, b)")
 
-    def measure(
-        self, pauli: str | int, qubit: int, outcome: int | None = None, source: random.Random | None = None
-    ) -> Measured:
-        """Measures X, Y or Z at a qubit of the group, as `State.measure` does.
+    def _pair(self, block: bytearray, a: int, b: int, call: str) -> None:
+        """CZ on a block; raises where it is refused."""
+        try:
+            number = calls.group_cz(block, self._shared._word, self._number, a, b)
+        except TypeError as error:
+            raise TypeError(f"{call}: {error}") from None
+        if number == 19:
+            raise self._other(19, (a, b))
+        if number:
+            raise explain.on_qubits(number, 64, self._used(), (a, b), call.partition("(")[0])
 
-        >>> lower, upper = Shared(range(32, 64)).groups()
-        >>> lower.measure("Z", 0)
-        Measured(outcome=0, determined=True)
-        >>> lower.state().used, upper.state().used
-        (1, 0)
+    def cx(self, control: int, target: int) -> None:
+        """CNOT on two qubits of the group. Refused as a whole, before the first gate.
+
+        >>> _, upper = Shared(range(32, 64)).groups()
+        >>> upper.h(40)
+        >>> upper.cx(40, 41)
+        >>> upper.expectation("X40*X41"), upper.expectation("Z40*Z41")
+        (1, 1)
         """
-        if outcome is None:
-            return measured_by_lot(lambda bit: self.measure(pauli, qubit, bit), source)
-        used, answer, determined = library.word(self._shared._used), library.octet(), library.octet()
-        given = (pauli_number(pauli), library.place(qubit), outcome)
-        accept(library.call("group_measure", *self._record(), used, *given, answer, determined))
-        self._shared._used = used.value
-        return Measured(answer.value, bool(determined.value))
+        self._pair(bytearray(self._shared._block), control, target, "cx(control, target)")
+        self.h(target)
+        self.cz(control, target)
+        self.h(target)
+
+    def _measured(self, pauli: "str | int", qubit: int, outcome: int) -> int:
+        try:
+            found = calls.group_measure(*self._head(), pauli, qubit, outcome)
+        except TypeError as error:
+            raise TypeError(f"measure(pauli, qubit, outcome): {error}") from None
+        if found == -19:
+            raise self._other(19, (qubit,))
+        if found < 0 and found != -14:
+            raise explain.measure(-found, 64, self._used(), pauli, qubit, outcome)
+        return found
+
+    def _forbidden(self, pauli: "str | int", qubit: int, outcome: int) -> Refusal:
+        return explain.measure(14, 64, self._used(), pauli, qubit, outcome)
 
     def complement(self, vertex: int) -> None:
         """Complements at a vertex of the group: the same state, not reduced.
@@ -227,9 +276,92 @@ class Group:
         >>> lower.state().codes[0]
         20
         """
-        accept(library.call("group_complement", *self._record(), self._shared._used, library.place(vertex)))
+        try:
+            number = calls.group_complement(*self._head(), vertex)
+        except TypeError as error:
+            raise TypeError(f"complement(vertex): {error}") from None
+        if number:
+            raise self._other(19, (vertex,)) if number == 19 else explain.on_qubits(
+                number, 64, self._used(), (vertex,), "complement"
+            )
 
-    def save(self, name: bytes | str) -> None:
+    def run(self, steps: Iterable[Sequence[int]]) -> list[tuple[int, int, int]]:
+        """Runs steps of the group one after the other, given as to `State.run`: an operation, two qubits and a value each.
+        Answers refusal, outcome and determined of each; a refused step changes nothing. Refused as a whole by 15 where
+        there are more than 4,096, by 6 where an operation is none.
+
+        >>> lower, upper = Shared(range(32, 64)).groups()
+        >>> lower.run([(0, 0, 0, 8), (0, 40, 0, 8), (2, 0, 0, 0)])
+        [(0, 0, 0), (19, 0, 0), (0, 0, 1)]
+        """
+        from .jobs import Step, run_step
+
+        given = [(op, a, b, value) for op, a, b, value in steps]
+        if len(given) > 4096:
+            raise Refusal(15, f"{len(given)} steps, but a run has at most 4,096")
+        strange = next(((k, step[0]) for k, step in enumerate(given) if not 0 <= step[0] < len(OPS)), None)
+        if strange is not None:
+            raise Refusal(6, f"step {strange[0]} has the operation {strange[1]}, but operations are 0 to {len(OPS) - 1}")
+        found = (run_step(self, Step(OPS[op], a, b, value)) for op, a, b, value in given)
+        return [(result.refusal, result.outcome, result.determined) for result in found]
+
+    def expectation(self, row: Row) -> int:
+        """The expectation value of a Pauli row on the group's qubits, as `State.expectation` has it: a row of 64 letters, or
+        one that names its qubits.
+
+        >>> lower, upper = Shared(range(32, 64)).groups()
+        >>> lower.expectation("Z0*Z1"), lower.expectation({0: "X"})
+        (1, 0)
+        """
+        sign, z, x = row_words(row, 64)
+        self._all_own([q for q in range(64) if (z | x) >> q & 1])
+        return self.state().expectation(row)
+
+    def cut(self, side: Iterable[int]) -> int:
+        """The entanglement between these qubits of the group and the group's others.
+
+        >>> lower, upper = Shared(range(32, 64)).groups()
+        >>> lower.h(0)
+        >>> lower.cx(0, 1)
+        >>> lower.cut([0])
+        1
+        """
+        given = qubits(side, "cut(qubits)")
+        self._all_own(given)
+        return self.state().cut(given)
+
+    def _all_own(self, named: Sequence[int]) -> None:
+        """Refused by 19 where a qubit is the other group's."""
+        if any(0 <= q < 64 and not self._own() >> q & 1 for q in named):
+            raise self._other(19, named)
+
+    def renew(self, qubit: int, photon: str = "+Z") -> None:
+        """Puts a new photon at a used place of the group, as `State.renew` does.
+
+        >>> lower, upper = Shared(range(32, 64)).groups()
+        >>> lower.measure("X", 0, 1)
+        Measured(outcome=1, determined=False)
+        >>> lower.renew(0)
+        >>> lower.state() == State.zeros(64)
+        True
+        """
+        state = self.state()
+        self._all_own([qubit])
+        state.renew(qubit, photon)
+        beyond.renew(self._shared._block, qubit, state.codes[qubit])
+
+    def _named(self, call: str, name: "bytes | str", used: Any) -> None:
+        """A call on the group's named states; raises where it is refused."""
+        neighbours, codes, _ = blocks.parts(self._shared._block)
+        lent = library.words(neighbours), library.octets(codes)
+        head = (64, self._shared._word, self._number, *lent)
+        number = library.call(call, *head, used, name_number(name), *self._shared._store.all)
+        if number:
+            raise self._other(19, ()) if number == 19 else not_held(number, name, self.names())
+        if call == "group_return":
+            self._shared._block[:] = blocks.made(*lent, used.value)
+
+    def save(self, name: "bytes | str") -> None:
         """Holds the group's vertices under the name; 18 where the group holds four other names.
 
         >>> lower, upper = Shared(range(32, 64)).groups()
@@ -239,12 +371,11 @@ class Group:
         >>> lower.save("E")
         Traceback (most recent call last):
         ...
-        sukhlent.refusals.Refusal: refused 18: a save finds eight other names held, or a group's save four
+        sukhlent.refusals.Refusal: refused 18: no place is free for 'E'; held: 'A', 'B', 'C', 'D'
         """
-        given = (self._shared._used, name_number(name), *self._shared._store)
-        accept(library.call("group_save", *self._record(), *given))
+        self._named("group_save", name, self._used())
 
-    def return_to(self, name: bytes | str) -> None:
+    def return_to(self, name: "bytes | str") -> None:
         """Brings the group's vertices back to what it holds under the name; 17 where there is nothing.
 
         >>> lower, upper = Shared(range(32, 64)).groups()
@@ -255,11 +386,9 @@ class Group:
         >>> lower.state() == State.zeros(64), upper.state().codes[40]
         (True, 0)
         """
-        used = library.word(self._shared._used)
-        accept(library.call("group_return", *self._record(), used, name_number(name), *self._shared._store))
-        self._shared._used = used.value
+        self._named("group_return", name, library.word(self._used()))
 
-    def forget(self, name: bytes | str) -> None:
+    def forget(self, name: "bytes | str") -> None:
         """Makes the place of the name free; 17 where the group holds nothing under it.
 
         >>> lower, upper = Shared(range(32, 64)).groups()
@@ -267,11 +396,10 @@ class Group:
         >>> upper.forget("start")
         Traceback (most recent call last):
         ...
-        sukhlent.refusals.Refusal: refused 17: a name to return to or forget is not held
+        sukhlent.refusals.Refusal: refused 17: nothing is held under 'start'; held: nothing
         >>> lower.forget("start")
         """
-        given = (self._shared._used, name_number(name), *self._shared._store)
-        accept(library.call("group_forget", *self._record(), *given))
+        self._named("group_forget", name, self._used())
 
     def names(self) -> list[str]:
         """The names that the group holds, in the order of their places.
@@ -281,4 +409,4 @@ class Group:
         >>> lower.names(), upper.names()
         (['start'], [])
         """
-        return held_names(self._shared._store[0], range(4 * self._number, 4 * self._number + 4))
+        return held_names(self._shared._store.all[0], range(4 * self._number, 4 * self._number + 4))

@@ -2,62 +2,48 @@
 
 from __future__ import annotations
 
-import random
-from pathlib import Path
-from typing import Callable, Iterable
+import struct
+from typing import Any, Iterable, Sequence
 
-from . import library
-from .answers import Equivalence, Image, Measured, PlotLine
+from . import beyond, blocks, calls, explain, library
+from .answers import Measured
+from .arguments import called, whole
 from .codes import code
-from .drawing import Place, record_svg
-from .lists import GeneratorList, row_words
-from .refusals import Refusal, accept
+from .gates import MEASURED, Gates
+from .graphs import Graphs, neighbour_words
+from .layouts import Layout, lattice_of
+from .lists import GeneratorList
+from .lots import Source, bits_from
+from .reads import Reads
+from .refusals import Refusal
+from .rows import Row, row_words, sparse
+from .running import Ran, run_buffers, run_tuples
+from .shows import Shows
 
-_PAULIS = {"X": 1, "Y": 2, "Z": 3}
+_new = object.__new__
 
-
-def neighbour_words(n: int, edges: Iterable[tuple[int, int]]) -> list[int]:
-    """The neighbour word of each of n vertices; refused by 2 where n is not 1 to 64, by 5 where an edge leaves them.
-
-    >>> neighbour_words(3, [(0, 1), (1, 2)])
-    [2, 5, 2]
-    """
-    if not 1 <= n <= 64:
-        raise Refusal(2)
-    neighbours = [0] * n
-    for a, b in edges:
-        if not (0 <= a < n and 0 <= b < n):
-            raise Refusal(5)
-        neighbours[a] |= 1 << b
-        neighbours[b] |= 1 << a
-    return neighbours
+#: the codes of a new photon, by its state
+_PHOTONS = {"+X": 0, "-X": 2, "+Y": 4, "-Y": 6, "+Z": 8, "-Z": 10}
 
 
-def pauli_number(pauli: str | int) -> int:
-    """The number of a Pauli by its letter, or the number itself; 0, which every call refuses, of another letter.
-
-    >>> [pauli_number(pauli) for pauli in ("X", "y", 3, "I")]
-    [1, 2, 3, 0]
-    """
-    return _PAULIS.get(pauli.upper(), 0) if isinstance(pauli, str) else pauli
-
-
-def measured_by_lot(measure: Callable[[int], Measured], source: random.Random | None = None) -> Measured:
-    """Measures with a fair bit, and with the other where the state forbids it.
-
-    >>> measured_by_lot(lambda bit: State.zeros(1).measure("Z", 0, bit))
-    Measured(outcome=0, determined=True)
-    """
-    bit = (source or random).getrandbits(1)
+def _judged(neighbours: Iterable[int], codes: Iterable[int], used: int) -> bytearray:
+    """The block of a record; refused where it is none."""
+    words, numbers = list(neighbours), list(codes)
     try:
-        return measure(bit)
-    except Refusal as refusal:
-        if refusal.number != 14:
-            raise
-        return measure(1 - bit)
+        if len(words) != len(numbers) or not 1 <= len(numbers) <= blocks.MOST:
+            raise struct.error
+        block = blocks.made(words, numbers, used)
+        number = -min(calls.cut(block, 0), 0)
+    except struct.error:
+        rank = library.word()
+        lent = library.words(words), library.octets(numbers), library.bits(used)
+        number = library.call("cut", len(numbers), *lent, 0, rank)
+    if number:
+        raise explain.record(number, words, numbers, used)
+    return block
 
 
-class State:
+class State(Gates, Reads, Graphs, Shows):
     """A state on 1 to 64 qubits. Calls change it in place; a refused call raises `Refusal` and changes nothing.
 
     >>> state = State.zeros(2)
@@ -75,13 +61,21 @@ class State:
     A record that is given must be one: `State([2, 0], [0, 0])` is refused by 7, since its graph is not simple.
     """
 
+    __slots__ = ("_block", "_layout", "_labels")
+
     def __init__(self, neighbours: Iterable[int], codes: Iterable[int], used: int = 0):
-        self._neighbours = library.words(neighbours)
-        self._codes = library.octets(codes)
-        self._used = library.bits(used)
-        self.generators()  # judges the record
+        self._block = _judged(neighbours, codes, used)
+        self._layout: Layout = None
+        self._labels: "tuple[Any, ...] | None" = None
 
     # ---- making one
+
+    @classmethod
+    def _of(cls, block: bytearray, layout: Layout = None, labels: "tuple[Any, ...] | None" = None) -> State:
+        """The state of a block that is a record."""
+        state = _new(cls)
+        state._block, state._layout, state._labels = block, layout, labels
+        return state
 
     @classmethod
     def zeros(cls, n: int) -> State:
@@ -90,10 +84,11 @@ class State:
         >>> State.zeros(2).generators().strings()
         ['+ZI', '+IZ']
         """
-        return cls([0] * n, [8] * n)
+        count = whole(n, "a number of qubits")
+        return cls([0] * count, [8] * count) if count >= 0 else cls([], [])
 
     @classmethod
-    def graph(cls, n: int, edges: Iterable[tuple[int, int]], gates: Iterable[int | str] | None = None) -> State:
+    def graph(cls, n: int, edges: Iterable[tuple[int, int]], gates: "Iterable[int | str] | None" = None) -> State:
         """The graph state of these edges, then one gate per vertex where gates are given, by name or code.
 
         >>> State.graph(3, [(0, 1), (1, 2)]).generators().strings()
@@ -101,8 +96,10 @@ class State:
         >>> State.graph(3, [(0, 1), (1, 2)], ["I", "H", "S_DAG"]).codes
         (0, 8, 6)
         """
-        codes = [0] * n if gates is None else [code(gate) for gate in gates]
-        return cls(neighbour_words(n, edges), codes)
+        words = neighbour_words(n, edges)
+        state = cls(words, [0] * n if gates is None else [code(gate) for gate in gates])
+        state._layout = lattice_of(words)
+        return state
 
     @classmethod
     def from_generators(cls, given: GeneratorList) -> State:
@@ -111,22 +108,37 @@ class State:
         >>> State.from_generators(GeneratorList((0, 1), (0, 3), (3, 0))).codes
         (0, 10)
         """
-        state = cls.__new__(cls)
-        state._neighbours = library.words([0] * given.n)
-        state._codes = library.octets([0] * given.n)
-        used = library.word()
-        accept(library.call("reduce", given.n, *given.buffers(), state._neighbours, state._codes, used))
-        state._used = used.value
-        return state
+        if not isinstance(given, GeneratorList):
+            raise TypeError(f"from_generators(given): expected a GeneratorList, not {called(given)}")
+        words, numbers, used = library.blank_words(given.n), library.blank_octets(given.n), library.word()
+        number = library.call("reduce", given.n, *given.buffers(), words, numbers, used)
+        if number:
+            raise given.refused(number)
+        return cls._of(blocks.made(words, numbers, used.value))
 
     @classmethod
-    def from_strings(cls, *lines: str | Iterable[str]) -> State:
-        """The state of generators such as `+XX`, `-ZZ`: strings one by one, an iterable of them, or one text of lines.
+    def from_strings(cls, *lines: "str | Iterable[str]") -> State:
+        """The state of generators such as `+XX`, `-ZZ`: strings one by one, an iterable of them, or one text of lines. A plus
+        may be left out, and I may be written _.
 
         >>> State.from_strings("+XX", "+ZZ") == State.from_strings(["+XX", "-YY"])
         True
         """
         return cls.from_generators(GeneratorList.from_strings(*lines))
+
+    @classmethod
+    def from_text(cls, text: str) -> State:
+        """The state of any text that the package knows (`read_state`): Pauli strings, a generator list, a record as `str`
+        and the programs print it, or what the program `job` prints.
+
+        >>> State.from_text(str(State.zeros(2))) == State.zeros(2)
+        True
+        """
+        from .texts import read_state
+
+        return read_state(text)
+
+    # ---- copies
 
     def copy(self) -> State:
         """The same record, apart.
@@ -137,164 +149,33 @@ class State:
         >>> first == second
         False
         """
-        return State(self._neighbours, self._codes, self._used)
+        state = _new(type(self))
+        state._block, state._layout, state._labels = bytearray(self._block), self._layout, self._labels
+        return state
 
-    # ---- reading it
+    __copy__ = copy
 
-    @property
-    def n(self) -> int:
-        """The number of qubits.
+    def __deepcopy__(self, memo: dict) -> State:
+        return self.copy()
 
-        >>> State.zeros(5).n
-        5
-        """
-        return len(self._codes)
-
-    @property
-    def neighbours(self) -> tuple[int, ...]:
-        """The neighbour word of each vertex: bit q is 1 where q is a neighbour.
-
-        >>> State.graph(3, [(0, 1), (1, 2)]).neighbours
-        (2, 5, 2)
-        """
-        return tuple(self._neighbours)
-
-    @property
-    def codes(self) -> tuple[int, ...]:
-        """The code of each vertex.
-
-        >>> State.zeros(2).codes
-        (8, 8)
-        """
-        return tuple(self._codes)
-
-    @property
-    def used(self) -> int:
-        """The word of used qubits: those that were measured.
-
-        >>> state = State.zeros(3)
-        >>> _ = state.measure("X", 2)
-        >>> bin(state.used)
-        '0b100'
-        """
-        return self._used
-
-    def edges(self) -> list[tuple[int, int]]:
-        """The edges of the graph, each once.
-
-        >>> State.graph(3, [(2, 1), (1, 0)]).edges()
-        [(0, 1), (1, 2)]
-        """
-        pairs = ((a, b) for a in range(self.n) for b in range(a + 1, self.n))
-        return [(a, b) for a, b in pairs if self._neighbours[a] >> b & 1]
-
-    def generators(self) -> GeneratorList:
-        """The record expanded: its n generators, in order.
-
-        >>> print(State([2, 1], [0, 8]).generators(), end="")
-        +XX
-        +ZZ
-        """
-        n = self.n
-        signs, z, x = library.octets([0] * n), library.words([0] * n), library.words([0] * n)
-        accept(library.call("expand", n, self._neighbours, self._codes, self._used, signs, z, x))
-        return GeneratorList(tuple(signs), tuple(z), tuple(x))
+    def __reduce__(self) -> tuple:
+        return _restored, (type(self), bytes(self._block), self._layout, self._labels)
 
     def reduced(self) -> State:
-        """The reduced record of the state, with no qubit used. Equal states have equal reduced records.
+        """The reduced record of the state, with the same used qubits. Equal states have equal reduced records.
 
         >>> State([2, 1], [8, 0]).reduced()
         State([2, 1], [0, 8], 0)
         """
-        return State.from_generators(self.generators())
-
-    def cut(self, side: Iterable[int]) -> int:
-        """The entanglement between these qubits and the others: the rank of the edges between them.
-
-        >>> path = State.graph(4, [(0, 1), (1, 2), (2, 3)])
-        >>> path.cut([0, 1]), path.cut([0, 2])
-        (1, 2)
-        """
-        rank = library.word()
-        word = library.word_of(side)
-        accept(library.call("cut", self.n, self._neighbours, self._codes, self._used, word, rank))
-        return rank.value
-
-    def amplitude(self, y: int) -> PlotLine:
-        """The amplitude at the word y, bit q for qubit q, over that at the smallest word with a nonzero amplitude.
-
-        >>> [State.from_strings("-Y").amplitude(y) for y in (0, 1)]
-        [PlotLine(re=1.0, im=0.0, p=0.5), PlotLine(re=0.0, im=-1.0, p=0.5)]
-        """
-        re, im, p = library.FloatCell(), library.FloatCell(), library.FloatCell()
-        accept(library.call("amplitude", self.n, self._neighbours, self._codes, self._used, library.bits(y), re, im, p))
-        return PlotLine(re.value, im.value, p.value)
-
-    def expectation(self, row: str) -> int:
-        """The expectation value of a Pauli row such as `+XZI`, leftmost letter qubit 0: 1 where the row is in the group
-        of the state, -1 where its negative is, 0 where neither is. A row of another form is refused by 1.
-
-        >>> bell = State.from_strings("+XX", "+ZZ")
-        >>> [bell.expectation(row) for row in ("+XX", "+YY", "-YY", "XI")]
-        [1, -1, 1, 0]
-        """
-        sign, z, x = row_words(row, self.n)
-        value = library.octet()
-        accept(library.call("expectation", self.n, self._neighbours, self._codes, self._used, z, x, value))
-        return (1, -1, 0)[value.value] * (1 - 2 * sign)
-
-    def image(self) -> Image:
-        """The graph to which the codes send the graph; refused by 11 or 12 where that is no graph's group.
-
-        >>> State([2, 1], [0, 2]).image()
-        Image(neighbours=(2, 1), signs=(0, 1), complementations=())
-        """
-        n = self.n
-        words, signs = library.words([0] * n), library.octets([0] * n)
-        places, count = library.octets([0] * 96), library.word()
-        accept(library.call("image", n, self._neighbours, self._codes, words, signs, places, count))
-        return Image(tuple(words), tuple(signs), tuple(places[: count.value]))
-
-    def compare(self, other: State) -> Equivalence | None:
-        """The least choice of local Cliffords that carries this state onto the other; None where there is none.
-        Refused by 3 where a connected part of either reduced graph has more than 20 vertices.
-
-        >>> path = State.graph(3, [(0, 1), (1, 2)])
-        >>> triangle = State.graph(3, [(0, 1), (1, 2), (0, 2)])
-        >>> path.compare(triangle)
-        Equivalence(choice=(4, 12, 4), complementations=(1,))
-        >>> print(path.compare(State.zeros(3)))
-        None
-        """
-        return self._compared("compare_records", other)
-
-    def equivalent(self, other: State) -> Equivalence | None:
-        """What `compare` answers, for states with connected parts of any size.
-
-        >>> star = State.graph(64, [(0, q) for q in range(1, 64)])
-        >>> complete = State.graph(64, [(a, b) for b in range(64) for a in range(b)])
-        >>> star.equivalent(complete).complementations
-        (0,)
-        >>> print(star.equivalent(State.zeros(64)))
-        None
-        """
-        return self._compared("equivalent_records", other)
-
-    def _compared(self, call: str, other: State) -> Equivalence | None:
-        """What a comparison of two records answers."""
-        choice, places, count = library.octets([0] * self.n), library.octets([0] * 96), library.word()
-        number = library.call(
-            call, self.n, self._neighbours, self._codes, other.n, other._neighbours, other._codes,
-            choice, places, count,
-        )
-        if number == 13:
-            return None
-        accept(number)
-        return Equivalence(tuple(choice), tuple(places[: count.value]))
+        state = self.copy()
+        number = calls.reduce(state._block)
+        if number:
+            raise Refusal(number)
+        return state
 
     # ---- changing it
 
-    def gate(self, qubit: int, gate: int | str) -> None:
+    def gate(self, qubit: int, gate: "int | str") -> None:
         """Applies a local Clifford, by name or code, and leaves the reduced record.
 
         >>> state = State.from_strings("+X")
@@ -302,61 +183,12 @@ class State:
         >>> state.generators().strings()
         ['-Z']
         """
-        accept(
-            library.call(
-                "gate", self.n, self._neighbours, self._codes, self._used, library.place(qubit), code(gate)
-            )
-        )
-
-    def h(self, qubit: int) -> None:
-        """The Hadamard.
-
-        >>> state = State.zeros(1)
-        >>> state.h(0)
-        >>> state.generators().strings()
-        ['+X']
-        """
-        self.gate(qubit, "H")
-
-    def s(self, qubit: int) -> None:
-        """The phase gate.
-
-        >>> state = State.from_strings("+X")
-        >>> state.s(0)
-        >>> state.generators().strings()
-        ['+Y']
-        """
-        self.gate(qubit, "S")
-
-    def x(self, qubit: int) -> None:
-        """X.
-
-        >>> state = State.zeros(1)
-        >>> state.x(0)
-        >>> state.generators().strings()
-        ['-Z']
-        """
-        self.gate(qubit, "X")
-
-    def y(self, qubit: int) -> None:
-        """Y.
-
-        >>> state = State.from_strings("+X")
-        >>> state.y(0)
-        >>> state.generators().strings()
-        ['-X']
-        """
-        self.gate(qubit, "Y")
-
-    def z(self, qubit: int) -> None:
-        """Z.
-
-        >>> state = State.from_strings("+Y")
-        >>> state.z(0)
-        >>> state.generators().strings()
-        ['-Y']
-        """
-        self.gate(qubit, "Z")
+        try:
+            number = calls.gate(self._block, qubit, gate)
+        except TypeError as error:
+            raise TypeError(f"gate(qubit, gate): {error}") from None
+        if number:
+            raise explain.gate(number, self.n, self.used, qubit, gate)
 
     def cz(self, a: int, b: int) -> None:
         """CZ on two qubits.
@@ -366,8 +198,12 @@ class State:
         >>> state.edges()
         [(0, 1)]
         """
-        a, b = library.place(a), library.place(b)
-        accept(library.call("cz", self.n, self._neighbours, self._codes, self._used, a, b))
+        try:
+            number = calls.cz(self._block, a, b)
+        except TypeError as error:
+            raise TypeError(f"cz(a, b): {error}") from None
+        if number:
+            raise explain.on_qubits(number, self.n, self.used, (a, b), "cz")
 
     def cx(self, control: int, target: int) -> None:
         """CNOT: a Hadamard, CZ and a Hadamard at the target. Refused as a whole, before the first gate.
@@ -377,36 +213,70 @@ class State:
         >>> state.generators().strings()
         ['+XX', '+ZZ']
         """
-        self.copy().cz(control, target)  # names both qubits: where it is accepted, so is what follows
-        self.h(target)
-        self.cz(control, target)
-        self.h(target)
+        try:
+            number = calls.cx(self._block, control, target)
+        except TypeError as error:
+            raise TypeError(f"cx(control, target): {error}") from None
+        if number:
+            raise explain.on_qubits(number, self.n, self.used, (control, target), "cx")
 
-    def measure(
-        self, pauli: str | int, qubit: int, outcome: int | None = None, source: random.Random | None = None
-    ) -> Measured:
-        """Measures X, Y or Z, by letter or as 1, 2 or 3. A given outcome that the state forbids is refused by 14; without one the outcome is
-        the state's, or a fair bit drawn from `source`. The qubit is used afterwards.
+    def _measured(self, pauli: "str | int", qubit: int, outcome: int) -> int:
+        try:
+            found = calls.measure(self._block, pauli, qubit, outcome)
+        except TypeError as error:
+            raise TypeError(f"measure(pauli, qubit, outcome): {error}") from None
+        if found < 0 and found != -14:
+            raise explain.measure(-found, self.n, self.used, pauli, qubit, outcome)
+        return found
 
-        >>> state = State.from_strings("+XX", "-ZZ")
-        >>> state.measure("Z", 0, 0)
-        Measured(outcome=0, determined=False)
-        >>> state.measure("Z", 1)
-        Measured(outcome=1, determined=True)
-        >>> State.from_strings("+X").measure("Z", 0, source=random.Random(5))
+    def _forbidden(self, pauli: "str | int", qubit: int, outcome: int) -> Refusal:
+        return explain.measure(14, self.n, self.used, pauli, qubit, outcome)
+
+    def measure_row(self, row: Row, outcome: "int | None" = None, source: Source = None) -> Measured:
+        """Measures a Pauli row of any weight, such as a parity `ZZI` or `X0*X3`, and uses no qubit up. The outcome is 1 where
+        the row's value is -1. A given outcome that the state forbids is refused by 14; without one it is the state's, or a
+        fair bit from `source`.
+
+        >>> state = State.from_strings("+XI", "+IX")
+        >>> state.measure_row("ZZ", 1)
         Measured(outcome=1, determined=False)
+        >>> state.generators().strings(), state.measure_row("XX")
+        (['+XX', '-ZZ'], Measured(outcome=0, determined=True))
         """
-        if outcome is None:
-            return measured_by_lot(lambda bit: self.measure(pauli, qubit, bit), source)
-        used, answer, determined = library.word(self._used), library.octet(), library.octet()
-        accept(
-            library.call(
-                "measure", self.n, self._neighbours, self._codes, used,
-                pauli_number(pauli), library.place(qubit), outcome, answer, determined,
-            )
-        )  # fmt: skip
-        self._used = used.value
-        return Measured(answer.value, bool(determined.value))
+        sign, z, x = row_words(row, self.n)
+        if outcome is not None and whole(outcome, "an outcome, 0 or 1") not in (0, 1):
+            raise Refusal(6, f"the outcome {outcome}, but an outcome is 0, or 1 for minus")
+        if (z | x) & self.used:
+            raise explain.on_qubits(16, self.n, self.used, [q for q in range(self.n) if (z | x) >> q & 1], "measure_row")
+        value = calls.expectation(self._block, z, x)
+        if outcome is not None and value < 2 and value != outcome ^ sign:
+            raise Refusal(14, f"{sparse(z, x)} has the outcome {1 - outcome} in this state, not {outcome}")
+        bit = bits_from(source)() if outcome is None else outcome
+        found = beyond.measure_row(self._block, z, x, bit ^ sign)
+        if found < 0:
+            raise Refusal(-found)
+        return MEASURED[found ^ sign]
+
+    def renew(self, qubit: int, photon: str = "+Z") -> None:
+        """Puts a new photon at a used place, in the state +X, -X, +Y, -Y, +Z or -Z, so that a source goes on.
+
+        >>> state = State.zeros(1)
+        >>> state.measure("X", 0, 1), state.used
+        (Measured(outcome=1, determined=False), 1)
+        >>> state.renew(0)
+        >>> state.used, state.generators().strings()
+        (0, ['+Z'])
+        """
+        if photon not in _PHOTONS:
+            raise ValueError(f"renew(qubit, photon): a photon is {', '.join(_PHOTONS)}, not {called(photon)}")
+        try:
+            number = beyond.renew(self._block, qubit, _PHOTONS[photon])
+        except TypeError as error:
+            raise TypeError(f"renew(qubit, photon): {error}") from None
+        if number == 20:
+            raise Refusal(20, f"qubit {qubit} is not used, so that no new photon can take its place")
+        if number:
+            raise explain.on_qubits(number, self.n, self.used, (qubit,), "renew")
 
     def complement(self, vertex: int) -> None:
         """Complements the graph at a vertex and rewrites the codes: the same state, not reduced.
@@ -416,10 +286,14 @@ class State:
         >>> path.edges(), path.codes
         ([(0, 1), (0, 2), (1, 2)], (6, 13, 6))
         """
-        vertex = library.place(vertex)
-        accept(library.call("complement", self.n, self._neighbours, self._codes, self._used, vertex))
+        try:
+            number = calls.complement(self._block, vertex)
+        except TypeError as error:
+            raise TypeError(f"complement(vertex): {error}") from None
+        if number:
+            raise explain.on_qubits(number, self.n, self.used, (vertex,), "complement")
 
-    def run(self, steps: Iterable[tuple[int, int, int, int]]) -> list[tuple[int, int, int]]:
+    def run(self, steps: Any, a: Any = None, b: Any = None, value: Any = None) -> "list[tuple[int, int, int]] | Ran":
         """Runs at most 4,096 steps in one call: each is an operation (0 gate, 1 cz, 2 measure, 3 complement, 4 pivot), two
         qubits and a value, as in a job. Answers refusal, outcome and determined of each; a refused step changes nothing.
 
@@ -428,53 +302,34 @@ class State:
         [(0, 0, 0), (0, 0, 1), (16, 0, 0)]
         >>> state.used
         1
+
+        Four buffers (numpy arrays, `array.array`, anything with numbers of 8 bits for the operations and of 16 for the
+        others) are taken as they are, without a copy, and give arrays back:
+
+        >>> from array import array
+        >>> State.zeros(2).run(array("B", [0, 2]), array("H", [0, 0]), array("H", [0, 0]), array("H", [8, 0])).determined
+        array('B', [0, 1])
         """
-        given = [(op, a, b, value) for op, a, b, value in steps]
-        ops = library.octets(step[0] for step in given)
-        fields = [library.halves(step[k] for step in given) for k in (1, 2, 3)]
-        answers = [library.octets([0] * len(given)) for _ in range(3)]
-        used = library.word(self._used)
-        accept(library.call("run", self.n, self._neighbours, self._codes, used, ops, *fields, *answers))
-        self._used = used.value
-        return list(zip(*answers))
+        if a is None and b is None and value is None:
+            return run_tuples(self._block, steps)
+        return run_buffers(self._block, steps, a, b, value)
 
-    # ---- showing it
+    def run_circuit(self, text: str, source: Source = None) -> list[Measured]:
+        """Runs a circuit of Clifford gates, written for Stim or in OpenQASM 2 or 3, from this state on; answers its
+        measurements in order. Outcomes that the state leaves open are by lot. No qubit is used up.
 
-    def __eq__(self, other: object) -> bool:
-        """Whether the two records stand for one state: their reduced graphs and codes are equal."""
-        if not isinstance(other, State):
-            return NotImplemented
-        mine, others = self.reduced(), other.reduced()
-        return mine.neighbours == others.neighbours and mine.codes == others.codes
-
-    __hash__ = None  # type: ignore[assignment]
-
-    def __str__(self) -> str:
-        rows = zip(range(self.n), self._codes, self._neighbours)
-        lines = (f"{q} {k} {word:016x} {self._used >> q & 1}" for q, k, word in rows)
-        return "\n".join(["qubit code neighbours used", *lines])
-
-    def __repr__(self) -> str:
-        return f"State({list(self.neighbours)}, {list(self.codes)}, {self._used})"
-
-    def svg(self, layout: Iterable[Place] | None = None) -> str:
-        """A drawing: vertices on a circle, or at given places; a code as its gate; used vertices hollow.
-
-        >>> State.graph(3, [(0, 1), (1, 2)]).svg().count("<line")
-        2
+        >>> state = State.zeros(3)
+        >>> [measured.outcome for measured in state.run_circuit("H 0\\nCX 0 1 1 2\\nM 0 1 2", source=5)]
+        [1, 1, 1]
         """
-        return record_svg(self.neighbours, self.codes, self.used, layout)
+        from .circuits import read_circuit
 
-    def draw(self, file: str | Path, layout: Iterable[Place] | None = None) -> None:
-        """Writes the drawing to a file. (A notebook shows a state by itself.)
+        return read_circuit(text).run(self, source).measurements
 
-        >>> import os, tempfile
-        >>> with tempfile.TemporaryDirectory() as folder:
-        ...     State.zeros(2).draw(folder + "/state.svg")
-        ...     os.listdir(folder)
-        ['state.svg']
-        """
-        Path(file).write_text(self.svg(layout) + "\n", encoding="utf-8")
 
-    def _repr_svg_(self) -> str:
-        return self.svg()
+def _restored(kind: type, block: bytes, layout: Layout, labels: "tuple[Any, ...] | None") -> State:
+    """What a pickle holds, judged anew."""
+    state = kind.__new__(kind)
+    state.__init__(*blocks.parts(block))
+    state._layout, state._labels = layout, labels
+    return state

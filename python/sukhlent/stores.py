@@ -2,10 +2,11 @@
 
 from __future__ import annotations
 
-from typing import Iterable, Sequence
+from typing import Any, Iterable, Sequence
 
 from . import library
-from .refusals import accept
+from .arguments import called
+from .refusals import Refusal
 from .state import State
 
 
@@ -15,9 +16,11 @@ def name_number(name: bytes | str) -> int:
     >>> hex(name_number("A"))
     '0x2020202020202041'
     """
+    if not isinstance(name, (str, bytes, bytearray)):
+        raise TypeError(f"expected a name as text or bytes, not {called(name)}")
     given = name.encode("utf-8", "surrogateescape") if isinstance(name, str) else bytes(name)
     if len(given) > 8:
-        raise ValueError(f"a name has at most eight bytes: {name!r}")
+        raise ValueError(f"a name has at most eight bytes: {name!r} has {len(given)}")
     return int.from_bytes(given.ljust(8), "little")
 
 
@@ -30,6 +33,46 @@ def held_names(heads: Sequence[int], places: Iterable[int]) -> list[str]:
     """
     held = [heads[3 * place + 1] for place in places if heads[3 * place]]
     return [name.to_bytes(8, "little").decode("utf-8", "surrogateescape").rstrip(" ") for name in held]
+
+
+class Buffers:
+    """Held states as the engine keeps them: three buffers, which copies and pickles hold as bytes."""
+
+    KINDS = (library.blank_words, library.blank_words, library.blank_octets)
+    SIZES = (24, 512, 512)
+
+    def __init__(self) -> None:
+        self.all: tuple[Any, ...] = tuple(kind(size) for kind, size in zip(self.KINDS, self.SIZES))
+
+    def __reduce__(self) -> tuple:
+        return _restored, (tuple(bytes(held) for held in self.all),)
+
+    def __copy__(self) -> Buffers:
+        return _restored(tuple(bytes(held) for held in self.all))
+
+    def __deepcopy__(self, memo: dict) -> Buffers:
+        return self.__copy__()
+
+
+def _restored(held: tuple[bytes, ...]) -> Buffers:
+    """The buffers with these bytes."""
+    buffers = Buffers()
+    buffers.all = tuple(type(room).from_buffer_copy(given) for room, given in zip(buffers.all, held))
+    return buffers
+
+
+def not_held(number: int, name: "bytes | str", names: "list[str]") -> Refusal:
+    """The refusal of a call on a name, with the names that are held.
+
+    >>> not_held(17, "start", ["end"])
+    Refusal(17, "nothing is held under 'start'; held: 'end'")
+    """
+    held = ", ".join(repr(other) for other in names) or "nothing"
+    if number == 17:
+        return Refusal(17, f"nothing is held under {name!r}; held: {held}")
+    if number == 18:
+        return Refusal(18, f"no place is free for {name!r}; held: {held}")
+    return Refusal(number)
 
 
 class Store:
@@ -50,13 +93,29 @@ class Store:
     >>> store.forget("plus")
     Traceback (most recent call last):
     ...
-    sukhlent.refusals.Refusal: refused 17: a name to return to or forget is not held
+    sukhlent.refusals.Refusal: refused 17: nothing is held under 'plus'; held: nothing
     """
 
     def __init__(self) -> None:
-        self._heads = library.words([0] * 24)
-        self._neighbours = library.words([0] * 512)
-        self._codes = library.octets([0] * 512)
+        self._buffers = Buffers()
+
+    def copy(self) -> Store:
+        """The same names with the same states, apart.
+
+        >>> first = Store()
+        >>> second = first.copy()
+        >>> second.save("start", State.zeros(1))
+        >>> first.names(), second.names()
+        ([], ['start'])
+        """
+        store = Store()
+        store._buffers = self._buffers.__copy__()
+        return store
+
+    __copy__ = copy
+
+    def __deepcopy__(self, memo: dict) -> Store:
+        return self.copy()
 
     def save(self, name: bytes | str, state: State) -> None:
         """Holds the state under the name: in place of what is held under it, else at a free place; 18 where eight other
@@ -71,11 +130,14 @@ class Store:
         >>> store.save("Z", State.zeros(1))
         Traceback (most recent call last):
         ...
-        sukhlent.refusals.Refusal: refused 18: a save finds eight other names held, or a group's save four
+        sukhlent.refusals.Refusal: refused 18: no place is free for 'Z'; held: 'A', 'B', 'C', 'D', 'E', 'F', 'G', 'H'
         """
-        held = (self._heads, self._neighbours, self._codes)
+        if not isinstance(state, State):
+            raise TypeError(f"save(name, state): expected a State, not {called(state)}")
         record = (state.n, library.words(state.neighbours), library.octets(state.codes), state.used)
-        accept(library.call("save", *record, name_number(name), *held))
+        number = library.call("save", *record, name_number(name), *self._buffers.all)
+        if number:
+            raise not_held(number, name, self.names())
 
     def return_to(self, name: bytes | str) -> State:
         """The state held under the name, which stays held; 17 where there is none.
@@ -86,9 +148,10 @@ class Store:
         True
         """
         n, used = library.word(), library.word()
-        neighbours, codes = library.words([0] * 64), library.octets([0] * 64)
-        held = (self._heads, self._neighbours, self._codes)
-        accept(library.call("return", name_number(name), *held, n, neighbours, codes, used))
+        neighbours, codes = library.blank_words(64), library.blank_octets(64)
+        number = library.call("return", name_number(name), *self._buffers.all, n, neighbours, codes, used)
+        if number:
+            raise not_held(number, name, self.names())
         return State(neighbours[: n.value], codes[: n.value], used.value)
 
     def forget(self, name: bytes | str) -> None:
@@ -100,7 +163,9 @@ class Store:
         >>> store.names()
         []
         """
-        accept(library.call("forget", name_number(name), self._heads, self._neighbours, self._codes))
+        number = library.call("forget", name_number(name), *self._buffers.all)
+        if number:
+            raise not_held(number, name, self.names())
 
     def names(self) -> list[str]:
         """The names that are held, in the order of their places, without the spaces at their end.
@@ -108,4 +173,4 @@ class Store:
         >>> Store().names()
         []
         """
-        return held_names(self._heads, range(8))
+        return held_names(self._buffers.all[0], range(8))

@@ -17,6 +17,7 @@ from unittest import mock
 from sukhlent import forms, generate, library, plot_svg, read_table
 from sukhlent.command import main
 from sukhlent.programs import Progress
+from sukhlent.reading import plain_text
 from tests.places import ROOT, program, sukhlent
 
 BELL = "sign z x\n0 0000000000000000 0000000000000003\n0 0000000000000003 0000000000000000\n"
@@ -94,13 +95,10 @@ class Command(unittest.TestCase):
             "or a group's call has another n than 64\n"
         )
         self.assertEqual(called("reduce", self.file("empty", "sign z x\n")), (1, "", said))
-        crlf = self.file("crlf", "qubits\n2\nop a b value\r\ngate 0 0 8\r\n")
-        said = "sukhlent: refused 1: line 3, column 13: a carriage return; lines end with a newline alone, not CRLF\n"
-        self.assertEqual(called("job", crlf), (1, "", said))
         for name in ("reduce", "draw"):
-            status, out, err = called(name, self.file("cut", BELL[:-1]))
+            status, out, err = called(name, self.file("cut", BELL[:-2]))
             self.assertEqual((status, out), (1, ""))
-            self.assertIn("line 3, column 36: expected a newline", err)
+            self.assertIn("line 3, column 20: expected 16 lower-case hexadecimal digits", err)
 
     def test_comparisons_of_texts_of_every_kind(self):
         strings, record = self.file("strings", "+XX\n-ZZ\n"), self.file("record", RECORD)
@@ -129,7 +127,7 @@ class Command(unittest.TestCase):
         self.assertEqual(called("draw", list_file, "-o", nowhere), (2, "", said))
 
     def test_a_text_of_strings_is_judged_as_the_call_judges_it(self):
-        for text, number in (("", 2), ("+X", 1), ("+X_\n+_Z\n", 1), ("\n", 1), ("+XX\n+ZZ", 1)):
+        for text, number in (("", 2), ("+XX", 1), ("+X*\n+_Z\n", 1), ("\n", 2), ("+XX\n+ZI", 9)):
             status, out, err = called("draw", self.file("strings", text))
             self.assertEqual((status, out), (1, ""), text)
             self.assertTrue(err.startswith(f"sukhlent: refused {number}: "), (text, err))
@@ -148,7 +146,7 @@ class Command(unittest.TestCase):
         source = random.Random(11)
         for name, fault, good in (("reduce", forms.list_fault, BELL), ("job", forms.job_fault, generate(3, 2, 9))):
             texts = [good, "", good[:9]] + [damaged(source, good) for _ in range(120)]
-            told = [(program(name, text) == "refused 1\n", fault(text)) for text in texts]
+            told = [(program(name, plain_text(text)) == "refused 1\n", fault(text)) for text in texts]
             for text, (refused, said) in zip(texts, told):
                 self.assertEqual(refused, said is not None, repr(text))
                 self.assertRegex(said or "line 1, column 1", r"^line \d+, column \d+")

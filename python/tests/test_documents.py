@@ -10,8 +10,8 @@ import sukhlent
 
 
 def load_tests(loader, tests, pattern):
-    for module in pkgutil.iter_modules(sukhlent.__path__, "sukhlent."):
-        if not module.name.endswith("__main__"):
+    for module in pkgutil.walk_packages(sukhlent.__path__, "sukhlent."):
+        if not module.name.endswith(("__main__", "_calls")):
             tests.addTests(doctest.DocTestSuite(importlib.import_module(module.name)))
     tests.addTests(doctest.DocTestSuite(sukhlent))
     return tests
@@ -25,9 +25,13 @@ def public():
             yield name, held
         elif inspect.isclass(held):
             yield name, held
-            for method, inside in vars(held).items():
-                if not method.startswith("_") and (callable(inside) or isinstance(inside, (property, classmethod))):
-                    yield f"{name}.{method}", inside
+            for kind in held.__mro__:
+                if not kind.__module__.startswith("sukhlent"):
+                    continue
+                for method, inside in vars(kind).items():
+                    if not method.startswith("_") and (callable(inside) or isinstance(inside, (property, classmethod))):
+                        if getattr(held, method).__doc__ == inside.__doc__:  # not overridden
+                            yield f"{name}.{method}", inside
 
 
 class Documents(unittest.TestCase):
@@ -42,4 +46,4 @@ class Documents(unittest.TestCase):
                 if inspect.isfunction(function):
                     hints = set(inspect.signature(function).parameters) - {"self", "cls"}
                     self.assertLessEqual(hints | {"return"}, set(function.__annotations__))
-        self.assertGreater(seen, 45)
+        self.assertGreater(seen, 100)

@@ -6,7 +6,7 @@ import itertools
 import runpy
 import unittest
 
-from sukhlent import GeneratorList, Refusal, Shared, State, generate
+from sukhlent import GeneratorList, Refusal, Shared, State, generate, number_of, orbit
 from tests.places import ROOT
 from tests.test_states import group
 
@@ -133,10 +133,40 @@ class Examples(unittest.TestCase):
 
 
 class Programs(unittest.TestCase):
-    """The programs in examples/python that have a stored output; docs and README show the others."""
+    """The programs in examples/python: each prints what is stored beside it, and docs/RECIPES.md or another document shows
+    each."""
 
-    def test_day_prints_its_stored_output(self):
-        folder, said = ROOT / "examples" / "python", io.StringIO()
-        with contextlib.redirect_stdout(said):
-            runpy.run_path(str(folder / "day.py"))
-        self.assertEqual(said.getvalue(), (folder / "day.out").read_text())
+    def test_each_prints_its_stored_output(self):
+        folder = ROOT / "examples" / "python"
+        seen = 0
+        for program in sorted(folder.glob("*.py")):
+            stored = program.with_suffix(".out")
+            if program.name == "first.py":  # README shows it
+                continue
+            with self.subTest(program=program.name):
+                said = io.StringIO()
+                with contextlib.redirect_stdout(said):
+                    runpy.run_path(str(program), run_name="__main__")
+                self.assertEqual(said.getvalue(), stored.read_text())
+                seen += 1
+        self.assertGreaterEqual(seen, 9)
+
+    def test_each_is_shown_in_a_document(self):
+        shown = "".join(path.read_text() for path in (ROOT / "README.md", *(ROOT / "docs").glob("*.md")))
+        for program in sorted((ROOT / "examples" / "python").glob("*.py")):
+            self.assertIn(f"```python examples/python/{program.name}\n", shown)
+
+    def test_the_classes_of_six_are_all_and_apart(self):
+        with contextlib.redirect_stdout(io.StringIO()):
+            classes = runpy.run_path(str(ROOT / "examples" / "python" / "classes.py"))["CLASSES"]
+        self.assertEqual(len(classes), 11)
+        seen = set()
+        for edges in classes.values():
+            own = set()
+            for order in itertools.permutations(range(6)):
+                moved = [(order[a], order[b]) for a, b in edges]
+                if number_of(6, moved) not in own:
+                    own.update(orbit(6, moved).numbers)
+            self.assertFalse(own & seen)
+            seen |= own
+        self.assertEqual(len(seen), 26704)  # connected graphs on six numbered vertices

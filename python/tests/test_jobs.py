@@ -4,6 +4,7 @@ import random
 import unittest
 
 from sukhlent import Refusal, State, Step, generate, job_text, parse_job, run_job, run_step, run_steps
+from sukhlent.reading import plain_text
 from tests.places import program
 
 
@@ -35,7 +36,7 @@ class Jobs(unittest.TestCase):
         texts += [good.replace("2", "0", 1), good.replace("2", "65", 1), "qubits\n2\nop a b value\n"]
         texts += [good + "gate 0 0 0\n" * 4094]
         for text in texts:
-            self.assertEqual(printed(text), program("job", text))
+            self.assertEqual(printed(text), program("job", plain_text(text)))
 
     def test_many_steps_in_one_call_are_the_steps_one_by_one(self):
         source = random.Random(5)

@@ -190,13 +190,13 @@ class States(unittest.TestCase):
 
     def test_each_line_is_judged_as_a_line_of_the_text(self):
         for lines, number, where in (
-            ([], 2, ""),
-            ([""], 1, "line 1, column 1: expected + or -"),
+            ([], 2, "0 strings, but a state has 1 to 64 qubits"),
+            ([""], 2, "0 strings, but a state has 1 to 64 qubits"),
             (["+XX", "+ZZZ"], 1, "line 2 has 3 letters: expected 2, as many as lines"),
-            (["+XX", "+zz"], 1, "line 2, column 2: expected letters I, X, Y or Z"),
+            (["+XX", "+zz"], 1, "line 2, column 2: 'z', where a letter I, X, Y, Z or _ was expected"),
             (["+XX", "+Z\nZ"], 1, "line 2, column 3: a newline, where each string is one line"),
-            (["+X\r\n"], 1, "line 1, column 3: a carriage return; lines end with a newline alone, not CRLF"),
-            (["+XX", "+ZI"], 9, ""),
+            (["+XX", "", "+ZI"], 9, "lines 1 and 3 do not commute"),
+            (["+"], 1, "line 1 has 0 letters: expected 1, as many as lines"),
             (["+XX", "-XX"], 10, ""),
         ):
             for make in (GeneratorList.from_text, GeneratorList.from_strings, State.from_strings):
@@ -282,7 +282,7 @@ class States(unittest.TestCase):
         for call in (lambda: state.h(0.0), lambda: state.h("0"), lambda: state.gate(0, 8.0), lambda: state.measure("X", 0, 1.0)):
             with self.assertRaises(TypeError) as wrong:
                 call()
-            self.assertIn("cannot be interpreted as an integer", str(wrong.exception))
+            self.assertRegex(str(wrong.exception), r"^(gate|measure)\(.*\): expected .*, not ")
 
     def test_a_drawing_has_a_line_for_each_edge(self):
         state = State.graph(5, [(q, (q + 1) % 5) for q in range(5)])

@@ -1,0 +1,117 @@
+"""Outcomes by lot, new photons at used places, joint measurements, and records as texts: by the calls that the library
+has. Each works on a block and answers as the functions of calls.py do: 0 or a refusal; of a measurement its outcome, and 2
+more where it was determined, or a refusal as a negative number."""
+
+from __future__ import annotations
+
+from typing import Iterator
+
+from . import blocks, calls
+from .arguments import pauli_number, place
+
+#: how X, Y and Z become Z: the code that is applied, and the one that undoes it
+_TO_Z = {1: (8, 8), 2: (13, 12), 3: (0, 0)}
+
+_PHOTONS = (0, 2, 4, 6, 8, 10)
+
+
+def observe(block: bytearray, pauli: "int | str", qubit: int, bit: int) -> int:
+    """Measures with a bit by lot: where the state determines the outcome, the bit is ignored.
+
+    >>> observe(blocks.made([0], [10], 0), "Z", 0, 0)
+    3
+    """
+    found = calls.measure(block, pauli, qubit, bit)
+    return calls.measure(block, pauli, qubit, 1 - bit) if found == -14 else found
+
+
+def look(block: bytearray, pauli: "int | str", qubit: int, bit: int) -> int:
+    """The same, and the qubit is not used afterwards: it stays in the measured state.
+
+    >>> block = blocks.made([0], [8], 0)
+    >>> look(block, "X", 0, 1), blocks.parts(block)
+    (1, ((0,), (2,), 0))
+    """
+    used = blocks.used(block)
+    found = observe(block, pauli, qubit, bit)
+    if found >= 0:
+        blocks.set_used(block, used)
+    return found
+
+
+def renew(block: bytearray, qubit: int, code: int) -> int:
+    """Puts a new photon at a used place, in the state of a code: 0, 2, 4, 6, 8, 10 are +X, -X, +Y, -Y, +Z, -Z.
+
+    >>> block = blocks.made([0], [2], 1)
+    >>> renew(block, 0, 8), blocks.parts(block), renew(block, 0, 8)
+    (0, ((0,), (8,), 0), 20)
+    """
+    if code not in _PHOTONS:
+        return 6
+    qubit = place(qubit)
+    if qubit >= blocks.size(block):
+        return 8
+    used = blocks.used(block)
+    if not used >> qubit & 1:
+        return 20
+    blocks.set_used(block, used & ~(1 << qubit))
+    blocks.set_code(block, qubit, code)
+    return 0
+
+
+def reset(block: bytearray, qubit: int, code: int, bit: int) -> int:
+    """Puts a qubit that is not used into the state of a code, whatever it was; the bit is by lot.
+
+    >>> block = blocks.made([2, 1], [0, 8], 0)
+    >>> reset(block, 0, 8, 1), blocks.parts(block)
+    (0, ((0, 0), (8, 10), 0))
+    """
+    found = observe(block, code // 4 + 1, qubit, bit)
+    return -found if found < 0 else renew(block, qubit, code)
+
+
+def measure_row(block: bytearray, z: int, x: int, bit: int) -> int:
+    """Measures a Pauli row of any weight with a bit by lot, and uses no qubit up: the row is led to Z at its last qubit
+    by gates and CNOTs, measured there, and led back. The identity is determined, 0.
+
+    >>> bell = blocks.made([0, 0], [0, 0], 0)
+    >>> measure_row(bell, 0b11, 0, 1), blocks.parts(bell)
+    (1, ((2, 1), (0, 10), 0))
+    """
+    n, used = blocks.size(block), blocks.used(block)
+    if (z | x) >> n:
+        return -5
+    if bit not in (0, 1):
+        return -6
+    if (z | x) & used:
+        return -16
+    row = [(q, (0, 1, 3, 2)[(x >> q & 1) + 2 * (z >> q & 1)]) for q in range(n) if (z | x) >> q & 1]
+    if not row:
+        return 2
+    last = row[-1][0]
+    led = list(_led(row, last))
+    for kind, a, b in led:
+        _ = calls.gate(block, a, _TO_Z[b][0]) if kind == "to Z" else calls.cx(block, a, b)
+    found = look(block, 3, last, bit)
+    for kind, a, b in reversed(led):
+        _ = calls.gate(block, a, _TO_Z[b][1]) if kind == "to Z" else calls.cx(block, a, b)
+    return found
+
+
+def _led(row: list[tuple[int, int]], last: int) -> Iterator[tuple[str, int, int]]:
+    """The steps that lead a row to Z at its last qubit."""
+    for qubit, pauli in row:
+        yield "to Z", qubit, pauli
+    for qubit, _ in row[:-1]:
+        yield "cx", qubit, last
+
+
+def record_text(block: bytearray) -> str:
+    """A record as the program `reduce` prints it, the last newline too.
+
+    >>> record_text(blocks.made([0], [8], 1))
+    'qubit code neighbours used\\n0 8 0000000000000000 1\\n'
+    """
+    neighbours, codes, used = blocks.parts(block)
+    lines = (f"{q} {k} {word:016x} {used >> q & 1}\n" for q, (k, word) in enumerate(zip(codes, neighbours)))
+    return "".join(["qubit code neighbours used\n", *lines])

@@ -1,0 +1,143 @@
+"""The calls on a record's block through ctypes: the same as python/extension/calls.c, for a Python without that
+extension. Each answers the refusal, or 0; where a call has an answer of its own, that, or the refusal as a negative
+number."""
+
+from __future__ import annotations
+
+from ctypes import c_uint8, c_uint64
+from typing import Any, Sequence
+
+from . import blocks, library
+from .arguments import pauli_number, place
+from .codes import code
+
+
+def _record(block: bytearray) -> tuple[Any, ...]:
+    """n and the two buffers of a block."""
+    n = blocks.size(block)
+    return n, (c_uint64 * n).from_buffer(block), (c_uint8 * n).from_buffer(block, 8 * n + 8)
+
+
+def _used(block: bytearray) -> library.Cell:
+    """The used word of a block, as a cell that a call writes."""
+    return library.Cell.at(c_uint64.from_buffer(block, 8 * blocks.size(block)))
+
+
+def _call(name: str, block: bytearray, *more: Any) -> int:
+    return library.call(name, *_record(block), blocks.used(block), *more)
+
+
+def gate(block: bytearray, qubit: int, named: "int | str") -> int:
+    """A local Clifford at a qubit."""
+    return _call("gate", block, place(qubit), code(named))
+
+
+def cz(block: bytearray, a: int, b: int) -> int:
+    """CZ."""
+    return _call("cz", block, place(a), place(b))
+
+
+def cx(block: bytearray, control: int, target: int) -> int:
+    """CNOT; refused as CZ is, before its first gate."""
+    number = cz(bytearray(block), control, target)
+    if not number:
+        gate(block, target, 8)
+        cz(block, control, target)
+        gate(block, target, 8)
+    return number
+
+
+def _measured(number: int, answer: library.Cell, determined: library.Cell) -> int:
+    return -number if number else answer.value + 2 * determined.value
+
+
+def measure(block: bytearray, pauli: "int | str", qubit: int, outcome: int) -> int:
+    """A Pauli measured: the outcome, and 2 more where it was determined."""
+    answer, determined = library.octet(), library.octet()
+    given = (pauli_number(pauli), place(qubit), place(outcome))
+    number = library.call("measure", *_record(block), _used(block), *given, answer, determined)
+    return _measured(number, answer, determined)
+
+
+def complement(block: bytearray, vertex: int) -> int:
+    """A complementation."""
+    return _call("complement", block, place(vertex))
+
+
+def cut(block: bytearray, side: int) -> int:
+    """The rank between a side and the rest."""
+    rank = library.word()
+    number = _call("cut", block, place(side), rank)
+    return -number if number else rank.value
+
+
+def expectation(block: bytearray, z: int, x: int) -> int:
+    """0, 1 or 2 where a row is in the group, its negative is, or neither."""
+    value = library.octet()
+    number = _call("expectation", block, place(z), place(x), value)
+    return -number if number else value.value
+
+
+def reduce(block: bytearray) -> int:
+    """Makes the record the reduced one: by the gate I at a qubit that is not used; where all are, it is reduced."""
+    unused = ~blocks.used(block) & (1 << blocks.size(block)) - 1
+    return gate(block, (unused & -unused).bit_length() - 1, 0) if unused else 0
+
+
+def same(first: bytearray, second: bytearray) -> bool:
+    """Whether two blocks have equal reduced records and used words."""
+    if len(first) != len(second):
+        return False
+    mine, others = bytearray(first), bytearray(second)
+    return not reduce(mine) and not reduce(others) and mine == others
+
+
+def run(block: bytearray, *slices: Any) -> int:
+    """Steps on buffers as they are: ops, a, b, value, refusals, outcomes, determined."""
+    lent = [library.lent(name, given) for name, given in zip(library.RUN_NAMES, slices)]
+    return library.call("run", *_record(block), _used(block), *lent)
+
+
+def run_many(records: Sequence[bytearray], *slices: Any) -> int:
+    """The same on each record of a list: one run for all of them, or one for each."""
+    views = [memoryview(given) for given in slices]
+    flat = [view.cast("B").cast(view.format.lstrip("@=<")) for view in views]
+    steps = len(flat[4]) // len(records) if records else 0
+    shared = len(flat[0]) == steps and len(records) != 1
+    if {len(view) for view in flat[4:]} != {steps * len(records)} or len({len(view) for view in flat[:4]}) != 1:
+        raise ValueError("the buffers of a run have other lengths than its steps")
+    for k, block in enumerate(records):
+        own = slice(k * steps, (k + 1) * steps)
+        given = flat[:4] if shared else [view[own] for view in flat[:4]]
+        number = run(block, *given, *(view[own] for view in flat[4:]))
+        if number:
+            return number
+    return 0
+
+
+def _group(block: bytearray, word: int, number: int) -> tuple[Any, ...]:
+    n, neighbours, codes = _record(block)
+    return n, word, number, neighbours, codes
+
+
+def group_gate(block: bytearray, word: int, group: int, qubit: int, named: "int | str") -> int:
+    """A group's gate."""
+    return library.call("group_gate", *_group(block, word, group), blocks.used(block), place(qubit), code(named))
+
+
+def group_cz(block: bytearray, word: int, group: int, a: int, b: int) -> int:
+    """A group's CZ."""
+    return library.call("group_cz", *_group(block, word, group), blocks.used(block), place(a), place(b))
+
+
+def group_measure(block: bytearray, word: int, group: int, pauli: "int | str", qubit: int, outcome: int) -> int:
+    """A group's measurement."""
+    answer, determined = library.octet(), library.octet()
+    given = (pauli_number(pauli), place(qubit), place(outcome))
+    number = library.call("group_measure", *_group(block, word, group), _used(block), *given, answer, determined)
+    return _measured(number, answer, determined)
+
+
+def group_complement(block: bytearray, word: int, group: int, vertex: int) -> int:
+    """A group's complementation."""
+    return library.call("group_complement", *_group(block, word, group), blocks.used(block), place(vertex))

@@ -1,0 +1,146 @@
+"""Many steps in one call, on one record or on many, from tuples or from buffers as they are."""
+
+from __future__ import annotations
+
+from array import array
+from typing import Any, Callable, Iterable, NamedTuple, Sequence
+
+from . import calls, library
+from .arguments import called
+from .refusals import Refusal
+
+#: the names of the operations of a run, in the order of their numbers
+OPS = ("gate", "cz", "measure", "complement", "pivot")
+
+
+class Ran(NamedTuple):
+    """What each step of a run answered: its refusal (0 where it ran), the outcome and whether it was determined.
+
+    >>> from array import array
+    >>> from sukhlent import State
+    >>> ran = State.zeros(1).run(array("B", [2]), array("H", [0]), array("H", [0]), array("H", [4]))
+    >>> ran
+    Ran(refusals=array('B', [0]), outcomes=array('B', [0]), determined=array('B', [1]))
+    """
+
+    refusals: Any
+    outcomes: Any
+    determined: Any
+
+
+def run_tuples(block: bytearray, steps: Iterable[Sequence[int]]) -> list[tuple[int, int, int]]:
+    """Steps given one by one, as four numbers each."""
+    given = [(op, a, b, value) for op, a, b, value in steps]
+    columns = list(zip(*given)) if given else [()] * 4
+    try:
+        slices: list[Any] = [array("B", columns[0]), *(array("H", column) for column in columns[1:])]
+    except (OverflowError, TypeError):
+        slices = [library.octets(columns[0]), *(library.halves(column) for column in columns[1:])]
+    answers = [bytearray(len(given)) for _ in range(3)]
+    _accept(calls.run(block, *slices, *answers), slices[0])
+    return list(zip(*answers))
+
+
+def run_buffers(block: bytearray, ops: Any, a: Any, b: Any, value: Any) -> Ran:
+    """Steps in four buffers, which are not copied; the answers in arrays of their kind."""
+    slices = _buffers(ops, a, b, value)
+    answers = [_like(ops, (len(memoryview(ops)),)) for _ in range(3)]
+    _accept(calls.run(block, *slices, *answers), ops)
+    return Ran(*answers)
+
+
+def run_many(states: Iterable[Any], ops: Any, a: Any, b: Any, value: Any, threads: int = 1) -> Ran:
+    """Runs steps on many states in one call: the same steps on each where the buffers have one dimension; where they have
+    two, the steps of row k on state k. The answers have a row for each state (one after the other in an array of one
+    dimension where the buffers are not numpy's). The interpreter's lock is free meanwhile, and `threads` parts of the
+    states run at once.
+
+    >>> from array import array
+    >>> from sukhlent import State
+    >>> pair = [State.zeros(1), State.from_strings("-Z")]
+    >>> ran = run_many(pair, array("B", [2]), array("H", [0]), array("H", [0]), array("H", [5]))
+    >>> ran.refusals, ran.outcomes
+    (array('B', [14, 0]), array('B', [0, 1]))
+    """
+    records = [state._block for state in states]
+    if len({id(block) for block in records}) != len(records):
+        raise ValueError("run_many(states, ..): a state is given twice, where each runs by itself")
+    slices = _buffers(ops, a, b, value)
+    view = memoryview(ops)
+    shared, count = view.ndim == 1, len(records)
+    if not shared and view.shape[0] != count:  # type: ignore[index]
+        raise ValueError(f"run_many(states, ops, ..): {view.shape[0]} rows of steps for {count} states")  # type: ignore[index]
+    steps = view.nbytes if shared else view.nbytes // max(count, 1)
+    answers = [_like(ops, (count, steps)) for _ in range(3)]
+    if count == 0:
+        return Ran(*answers)
+    flat = [_flat(given) for given in (*slices, *answers)]
+
+    def part(first: int, last: int) -> int:
+        own = slice(first * steps, last * steps)
+        given = flat[:4] if shared else [each[own] for each in flat[:4]]
+        return calls.run_many(records[first:last], *given, *(each[own] for each in flat[4:]))
+
+    parts = max(1, min(threads, count))
+    bounds = [count * k // parts for k in range(parts + 1)]
+    numbers = _at_once(part, list(zip(bounds, bounds[1:])))
+    _accept(next((number for number in numbers if number), 0), ops)
+    return Ran(*answers)
+
+
+def _at_once(part: Callable[[int, int], int], spans: list[tuple[int, int]]) -> list[int]:
+    """The parts of a work, each in a thread of its own where there are several."""
+    if len(spans) == 1:
+        return [part(*spans[0])]
+    from concurrent.futures import ThreadPoolExecutor
+
+    with ThreadPoolExecutor(len(spans)) as pool:
+        return list(pool.map(lambda span: part(*span), spans))
+
+
+def _flat(given: Any) -> memoryview:
+    """A buffer in one dimension."""
+    view = memoryview(given)
+    if view.ndim == 1:
+        return view
+    return view.cast("B").cast(view.format.lstrip("@=<"))
+
+
+def _buffers(*given: Any) -> list[Any]:
+    """The buffers of a run; `TypeError` where one is none."""
+    for name, slice_ in zip(library.RUN_NAMES, given):
+        try:
+            memoryview(slice_)
+        except TypeError:
+            raise TypeError(f"run({', '.join(library.RUN_NAMES[:4])}): {name} is {called(slice_)}, and no buffer of numbers") from None
+    return list(given)
+
+
+def _numpy(given: Any) -> bool:
+    return type(given).__module__ == "numpy"
+
+
+def _like(given: Any, shape: tuple[int, ...]) -> Any:
+    """An array for answers: numpy's where the steps are, else one of the standard library."""
+    if _numpy(given):
+        import numpy  # type: ignore[import-not-found]
+
+        return numpy.zeros(shape, numpy.uint8)
+    count = 1
+    for extent in shape:
+        count *= extent
+    return array("B", bytes(count))
+
+
+def _accept(number: int, ops: Any) -> None:
+    """Raises the refusal of a whole run, with the step that it comes from."""
+    if number == 0:
+        return
+    found = memoryview(ops).nbytes
+    if number == 15:
+        raise Refusal(15, f"{found} steps, but a run has at most 4,096")
+    if number == 6:
+        strange = [(k, op) for k, op in enumerate(memoryview(ops).tobytes()) if op >= len(OPS)]
+        if strange:
+            raise Refusal(6, f"step {strange[0][0]} has the operation {strange[0][1]}, but operations are 0 to {len(OPS) - 1}")
+    raise Refusal(number)

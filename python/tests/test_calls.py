@@ -1,0 +1,109 @@
+"""The extension and ctypes answer alike, call by call, on sound and on damaged arguments."""
+
+import random
+import unittest
+from array import array
+
+from sukhlent import State, blocks, by_ctypes, calls, generate, run_job
+
+
+def drawn(source):
+    """A block of a state with used qubits."""
+    n = source.choice((1, 2, 5, 33, 64))
+    state, _ = run_job(generate(n, source.randrange(1, 90), source.randrange(1, 1 << 40)))
+    if source.random() < 0.3:
+        state.complement(source.choice([q for q in range(n) if not state.used >> q & 1] or [0])) if state.used != (1 << n) - 1 else None
+    return state._block
+
+
+def arguments(source, n):
+    """A call by name, and its arguments behind the block."""
+    place = lambda: source.choice((source.randrange(n), source.randrange(n), n, -1, 1 << 70, True))
+    word = lambda: source.choice((source.getrandbits(n), 1 << 63, source.getrandbits(64)))
+    gate = lambda: source.choice((source.randrange(24), "H", "s_dag", "√X", 24, 300, -1))
+    pauli = lambda: source.choice(("X", "y", 3, 0, 7, "T"))
+    bit = lambda: source.choice((0, 1, 1, 2, 256))
+    group = (source.getrandbits(64), source.choice((0, 1, 2)))
+    return source.choice(
+        [
+            ("gate", place(), gate()), ("cz", place(), place()), ("cx", place(), place()),
+            ("measure", pauli(), place(), bit()), ("complement", place()), ("cut", word()),
+            ("expectation", word(), word()), ("reduce",), ("group_gate", *group, place(), gate()),
+            ("group_cz", *group, place(), place()), ("group_measure", *group, pauli(), place(), bit()),
+            ("group_complement", *group, place()),
+        ]
+    )  # fmt: skip
+
+
+@unittest.skipUnless(calls.TAKEN == "extension", "the extension is not built for this Python")
+class Alike(unittest.TestCase):
+    def test_each_call(self):
+        source, seen = random.Random(8), set()
+        for _ in range(3000):
+            one = drawn(source) if source.random() < 0.05 or not seen else one
+            name, *given = arguments(source, blocks.size(one))
+            other = bytearray(one)
+            answer = getattr(calls, name)(one, *given)
+            self.assertEqual((answer, one), (getattr(by_ctypes, name)(other, *given), other), (name, given))
+            seen.add((name, answer == 0 or answer > 0 and name in ("measure", "cut", "expectation", "group_measure")))
+        self.assertGreater(len(seen), 20)
+
+    def test_equality(self):
+        source = random.Random(9)
+        seen = set()
+        for _ in range(200):
+            one = drawn(source)
+            other = bytearray(one) if source.random() < 0.6 else drawn(source)
+            calls.complement(other, source.randrange(blocks.size(other)))
+            seen.add(calls.same(one, other))
+            self.assertEqual(calls.same(one, other), by_ctypes.same(one, other))
+        self.assertEqual(seen, {True, False})
+
+    def test_runs_over_buffers(self):
+        source = random.Random(10)
+        for _ in range(60):
+            one = drawn(source)
+            n, length = blocks.size(one), source.choice((0, 1, 7, 300, 4096, 4097))
+            slices = [
+                array("B", [source.randrange(5 + (source.random() < 0.0005)) for _ in range(length)]),
+                *(array("H", [source.choice((0, source.randrange(n), source.randrange(30))) for _ in range(length)]) for _ in range(3)),
+            ]
+            if source.random() < 0.2:
+                slices[source.randrange(4)].append(0)
+            other, answers, others = bytearray(one), [array("B", bytes(length)) for _ in range(3)], [array("B", bytes(length)) for _ in range(3)]
+            self.assertEqual(calls.run(one, *slices, *answers), by_ctypes.run(other, *slices, *others))
+            self.assertEqual((one, answers), (other, others))
+
+    def test_wrong_arguments_are_told_alike(self):
+        for name, given in (
+            ("gate", ("H", 0)), ("gate", (0, 1.5)), ("gate", (0, "T")), ("cz", (0, None)), ("measure", ("X", "Z", 0)),
+            ("measure", ("X", 0, 0.5)), ("measure", (None, 0, 0)), ("complement", ([0],)),
+        ):  # fmt: skip
+            said = []
+            for module in (calls, by_ctypes):
+                with self.assertRaises((TypeError, ValueError)) as wrong:
+                    getattr(module, name)(State.zeros(2)._block, *given)
+                said.append((type(wrong.exception), str(wrong.exception)))
+            self.assertEqual(said[0], said[1])
+
+    def test_wrong_buffers_are_told_alike(self):
+        good = [array("B", [0]), *(array("H", [0]) for _ in range(3)), *(array("B", [0]) for _ in range(3))]
+        for place, wrong in ((0, array("H", [0])), (1, array("B", [0])), (2, array("l", [0])), (3, [0]), (4, b"\0"), (5, array("h", [0]))):
+            said = []
+            for module in (calls, by_ctypes):
+                with self.assertRaises((TypeError, BufferError)) as error:
+                    module.run(State.zeros(2)._block, *good[:place], wrong, *good[place + 1 :])
+                said.append(str(error.exception) if place in (0, 1, 2, 5) else "")
+            self.assertEqual(said[0], said[1])
+
+
+class Blocks(unittest.TestCase):
+    def test_what_is_no_block_is_refused(self):
+        for wrong in (bytearray(7), bytearray(18), bytearray(9 * 65 + 8), bytearray(8)):
+            if calls.TAKEN == "extension":
+                with self.assertRaises(ValueError):
+                    calls.gate(wrong, 0, 0)
+
+
+if __name__ == "__main__":
+    unittest.main()
