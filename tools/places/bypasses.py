@@ -35,13 +35,19 @@ BYPASSES = [
         ("    codes[q] = compose(codes[q], k);\n", "    codes[q] = codes[q] ^ k;\n"),
     ]),
     ("one composition", "the code of a reduced vertex is written down", [
-        ("    let turned = Code { index }.then(Code { index: 8 });\n", "    let turned = Code { index: 8 + 2 * (minus as u8) };\n"),
+        (
+            "    let turned = Code { index }.then(Code { index: 8 });\n",
+            "    let turned = Code { index: 8 + 2 * (minus as u8) };\n",
+        ),
     ]),
     ("one composition", "a Hadamard comes before a code without the table", [
         ("    compose(8 + 2 * sign_digit(t), code)\n", "    packed(t, code)\n"),
     ]),
     ("one composition", "a complementation has a row of its own", [
-        ("    let around = rest | single(q);\n    let sixes = before_each(6);\n", "    let around = rest | single(q);\n    let sixes = row_of_six();\n"),
+        (
+            "    let around = rest | single(q);\n    let sixes = before_each(6);\n",
+            "    let around = rest | single(q);\n    let sixes = row_of_six();\n",
+        ),
     ]),
     ("inverse", "the codes that undo a record's are not asked for", [
         ("        let undone = code.inverse();\n", "        let undone = undone_by_digits(code);\n"),
@@ -53,13 +59,22 @@ BYPASSES = [
         ("    let sent = Code { index: code }.image(from);\n", "    let sent = by_digits(code, from);\n"),
     ]),
     ("image of a letter", "a measurement is read off by digits", [
-        ("    let own = Code { index: codes[q] }.image(Letter::X);\n", "    let own = by_digits(codes[q], Letter::X);\n"),
+        (
+            "    let own = Code { index: codes[q] }.image(Letter::X);\n",
+            "    let own = by_digits(codes[q], Letter::X);\n",
+        ),
     ]),
     ("match on the class, bits C and D", "C by the number of the code", [
-        ("        let z = letters.z;\n        x_bit(z)\n", "        let z = letters.z;\n        x_bit(z) | (8 <= index)\n"),
+        (
+            "        let z = letters.z;\n        x_bit(z)\n",
+            "        let z = letters.z;\n        x_bit(z) | (8 <= index)\n",
+        ),
     ]),
     ("match on the class, bits C and D", "D without the match", [
-        ("        let letters = image_letters(index / 4);\n        let x = letters.x;\n        x_bit(x)\n", "        index < 8\n"),
+        (
+            "        let letters = image_letters(index / 4);\n        let x = letters.x;\n        x_bit(x)\n",
+            "        index < 8\n",
+        ),
     ]),
     ("match on the class, bits C and D", "the letters by digits", [
         ("        4 => ImageLetters { x: y, z: x },\n", ""),
@@ -77,17 +92,32 @@ BYPASSES = [
         ("        c = flip_where(c, q, Code { index }.c_bit());\n", "        c = flip_where(c, q, 8 <= index);\n"),
     ]),
     ("bits C and D of the image rule", "the image rule takes its bits from words of digits", [
-        ("    let end = run_rule(words, bytes, list, begin(bytes));\n", "    let end = run_rule(words, bytes, list, by_words(action_of(bytes)));\n"),
+        (
+            "    let end = run_rule(words, bytes, list, begin(bytes));\n",
+            "    let end = run_rule(words, bytes, list, by_words(action_of(bytes)));\n",
+        ),
     ]),
     ("reduction by value", "the rows are lent", [
-        ("    mut rows: [[u64; 2]; 64],\n    mut signs: u64,\n", "    rows: &mut [[u64; 2]; 64],\n    mut signs: u64,\n"),
-        ("    reduce_tableau(rows, minuses, n, neighbours, codes)\n", "    reduce_tableau(&mut rows, minuses, n, neighbours, codes)\n"),
+        (
+            "    mut rows: [[u64; 2]; 64],\n    mut signs: u64,\n",
+            "    rows: &mut [[u64; 2]; 64],\n    mut signs: u64,\n",
+        ),
+        (
+            "    reduce_tableau(rows, minuses, n, neighbours, codes)\n",
+            "    reduce_tableau(&mut rows, minuses, n, neighbours, codes)\n",
+        ),
     ]),
     ("reduction by value", "a sign word for each row", [
-        ("    mut rows: [[u64; 2]; 64],\n    mut signs: u64,\n", "    mut rows: [[u64; 2]; 64],\n    mut signs: [u64; 64],\n"),
+        (
+            "    mut rows: [[u64; 2]; 64],\n    mut signs: u64,\n",
+            "    mut rows: [[u64; 2]; 64],\n    mut signs: [u64; 64],\n",
+        ),
     ]),
     ("reduction by value", "a pass is lent the rows", [
-        ("    let mut pivots = 0;\n    let mut hadamards = 0;\n", "    pass(&mut rows);\n    let mut pivots = 0;\n    let mut hadamards = 0;\n"),
+        (
+            "    let mut pivots = 0;\n    let mut hadamards = 0;\n",
+            "    pass(&mut rows);\n    let mut pivots = 0;\n    let mut hadamards = 0;\n",
+        ),
     ]),
     ("reduction by value", "lists are reduced elsewhere", [
         ("    reduce_tableau(rows, minuses, n, neighbours, codes)\n", "    reduce_words(n, neighbours, codes)\n"),
@@ -112,7 +142,10 @@ BYPASSES = [
         ),
     ]),
     ("Amplitude taken apart by match", "a line of the plot from the turns", [
-        ("    plot_line(answer, count(kept(codes)))\n", "    PlotLine { re: 0.0, im: 0.0, p: halves(count(kept(codes))) }\n"),
+        (
+            "    plot_line(answer, count(kept(codes)))\n",
+            "    PlotLine { re: 0.0, im: 0.0, p: halves(count(kept(codes))) }\n",
+        ),
     ]),
     ("Amplitude taken apart by match", "an answer of another kind", [
         ("    Imag(f64),\n", "    Imag(i8),\n"),
@@ -124,7 +157,10 @@ BYPASSES = [
         ("    pub re: f64,\n    pub im: f64,\n    pub p: f64,\n", "    pub all: [f64; 3],\n"),
     ]),
     ("lent slice of step structs", "the steps of a job in four arrays", [
-        ("    pub steps: [Step; 4096],\n", "    pub ops: [u8; 4096],\n    pub a: [u16; 4096],\n    pub b: [u16; 4096],\n    pub value: [u16; 4096],\n"),
+        (
+            "    pub steps: [Step; 4096],\n",
+            "    pub ops: [u8; 4096],\n    pub a: [u16; 4096],\n    pub b: [u16; 4096],\n    pub value: [u16; 4096],\n",
+        ),
     ]),
     ("lent slice of step structs", "a job is run from parallel slices", [
         (

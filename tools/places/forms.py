@@ -128,7 +128,9 @@ def then_reads(world):
     found = methods(world).get("then")
     if not found:
         return ["there is no method then"]
-    wrong = [] if set(table_readers(world)) & world.way(found) else [f"{lines_of(found)} does not read the composition table"]
+    wrong = []
+    if not set(table_readers(world)) & world.way(found):
+        wrong.append(f"{lines_of(found)} does not read the composition table")
     if ARITHMETIC & set(found.body()):
         wrong.append(f"{lines_of(found)} reckons: {' '.join(sorted(ARITHMETIC & set(found.body())))}")
     return wrong + world.missing(COMPOSING, [found], "then")
@@ -246,7 +248,7 @@ def image_bits(world):
         names = {one.name for one in world.sources.named(item) if one.owner}
         if not {"c_bit", "d_bit"} <= names:
             wrong.append(f"{lines_of(item)} begins the image rule without asking c_bit and d_bit")
-    return wrong + world.missing(["image", "compare", "compare_records"], starts, "the bits C and D of the match on the class")
+    return wrong + world.missing(["image", "compare", "compare_records"], starts, "C and D of the match on the class")
 
 
 # ---- words
@@ -265,7 +267,7 @@ def lent_rows(world):
     """References to the array of the reduction: in a type, or of a variable that holds it."""
     wrong = []
     for item in world.functions:
-        if any(re.match(r"& (?:mut )?\[ \[ u64 ; 2 \]", kind) for kind in parameters(item).values()):
+        if any(re.match(r"& (?:mut )?\[ \[ u64 ; 2 \] (?:; 64 )?\]", kind) for kind in parameters(item).values()):
             wrong.append(f"{lines_of(item)} is lent the rows of the reduction")
         for name in rows_held(world, item):
             if re.search(rf"& (?:mut )?{name}\b", " ".join(item.body())):
@@ -290,7 +292,8 @@ def reduction(world):
     """'a sign bit, a z word and an x word': reduction by value on an array of 64 arrays of two words, one sign word."""
     found = reductions(world)
     if len(found) != 1:
-        return [f"{len(found)} functions reduce an array of 64 rows of two words by value beside one word of signs"] + lent_rows(world)
+        wrong = f"{len(found)} functions reduce an array of 64 rows of two words by value beside one word of signs"
+        return [wrong, *lent_rows(world)]
     wrong = lent_rows(world)
     if re.search(r"\[ (?:0\w*|false) ; 64 \]", " ".join(found[0].body())) or "& mut u64" in parameters(found[0]).values():
         wrong.append(f"{lines_of(found[0])} keeps signs beside its one word")
@@ -328,11 +331,13 @@ def edge_flips(world):
     """'bit q of a word belongs to qubit q': edges are flipped by an xor of words, a bit of a word is found by a shift."""
     flip = r"neighbours \[ (\w+) \] = neighbours \[ \1 \] \^"
     flips = [item for item in world.functions if re.search(flip, " ".join(item.body()))]
+    complementing = world.promising(world.promises.definition("complement", "Simple"))
     wrong = [
         f"{lines_of(item)} flips edges without an xor of words"
-        for item in world.promising(world.promises.definition("complement", "Simple")) if not set(flips) & world.way(item)
+        for item in complementing if not set(flips) & world.way(item)
     ]
-    shifts = [item for item in world.functions if {"<<", ">>"} & set(item.body()) and item.function.answer in ("bool", "u64")]
+    shifting = [item for item in world.functions if {"<<", ">>"} & set(item.body())]
+    shifts = [item for item in shifting if item.function.answer in ("bool", "u64")]
     wrong += world.missing(["complement", "image", "cz"], flips, "edges flipped by an xor of words")
     return wrong + world.missing(["check", "reduce", "complement", "image"], shifts, "a shift of a word")
 
@@ -351,7 +356,8 @@ def amplitude_enum(world):
     for item in world.functions:
         taken = [name for name, kind in parameters(item).items() if kind == "Amplitude"]
         body = " ".join(item.body())
-        if taken and f"match {taken[0]} {{" in body and all(f"Amplitude :: {one}" in body for one in ("Nothing", "Real", "Imag")):
+        cases = all(f"Amplitude :: {one}" in body for one in ("Nothing", "Real", "Imag"))
+        if taken and cases and f"match {taken[0]} {{" in body:
             apart.append(item)
     wrong = world.missing(["amplitude", "program amplitudes"], apart, "Amplitude taken apart by match")
     lines = {item.name for item in three_floats(world)}
@@ -390,30 +396,29 @@ def step_struct(world):
     return found[0].name if len(found) == 1 else ""
 
 
+def lends_whole(world, item, whole, runners):
+    """Whether a function is given an array of all steps and lends the first of them to a runner."""
+    given = [name for name, kind in parameters(item).items() if re.fullmatch(whole, kind)]
+    lent = any(re.search(rf"& {name} \[ \.\. \w+ \]", " ".join(item.body())) for name in given)
+    return lent and bool(set(runners) & world.sources.named(item))
+
+
 def job_steps(world):
     """'The steps read are kept together': one array of step structs, lent whole to one thin runner."""
-    step = step_struct(world)
-    if not step:
-        return ["there is no struct of an operation, two qubits and a value"]
-    job = world.root_of("program job")
-    if job is None:
-        return ["there is no program job"]
+    step, job = step_struct(world), world.root_of("program job")
+    if not step or job is None:
+        return ["there is no program job, or no struct of an operation, two qubits and a value"]
     on_way = [item for item in world.way(job) if item.kind == "fn"]
     runners = [item for item in on_way if f"& [ {step} ]" in parameters(item).values() and "while" in item.body()]
     wrong = [] if len(runners) == 1 else [f"{len(runners)} functions on the way of job run a lent slice of steps"]
     whole = rf"\[ {step} ; 4096 \]"
-    lenders = [
-        item for item in on_way for name, kind in parameters(item).items()
-        if re.fullmatch(whole, kind) and re.search(rf"& {name} \[ \.\. \w+ \]", " ".join(item.body())) and set(runners) & world.sources.named(item)
-    ]
-    if not lenders:
+    if not any(lends_whole(world, item, whole, runners) for item in on_way):
         wrong.append("job does not lend one array of 4,096 steps to the runner")
-    keepers = [item for item in world.way(job) if item.kind == "struct" and any(re.search(whole, " ".join(one)) for one in item.fields)]
-    if not keepers:
+    structs = [item for item in world.way(job) if item.kind == "struct"]
+    if not any(re.search(whole, " ".join(one)) for item in structs for one in item.fields):
         wrong.append("job does not keep the steps that it reads in one array of structs")
     for item in on_way:
-        kinds = list(parameters(item).values())
-        if sum(kind in ("& [ u16 ]", "& mut [ u16 ]") for kind in kinds) > 1:
+        if sum(kind in ("& [ u16 ]", "& mut [ u16 ]") for kind in parameters(item).values()) > 1:
             wrong.append(f"{lines_of(item)} takes the steps of a job as parallel slices")
     return wrong
 

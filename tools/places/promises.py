@@ -59,6 +59,7 @@ class Promises:
         bits, found = {self.definition("bitC"), self.definition("bitD")}, set()
         for path in self.tree.specs():
             for one in self.tree.sources[path].definitions:
-                if re.search(r":\s*Clifford → Bool\s*$", one.code.split("\n")[0]) and bits & ({one} | self.tree.named_by(one)):
+                boolean = re.search(r":\s*Clifford → Bool\s*$", one.code.split("\n")[0])
+                if boolean and bits & ({one} | self.tree.named_by(one)):
                     found.add(one)
         return found
