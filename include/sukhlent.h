@@ -169,7 +169,7 @@ static inline const char *sukhlent_refusal_text(uint8_t number)
     case SUKHLENT_ACCEPTED: return "accepted";
     case SUKHLENT_FORM: return "the text does not have its form";
     case SUKHLENT_STEPS: return "a job or a run has more than 4,096 steps";
-    case SUKHLENT_COUNT: return "n is 0 or above the call's limit, or the two lists' or records' n differ, or a group's call has another n than 64";
+    case SUKHLENT_COUNT: return "n is 0 or above the call's limit, or the two lists' or records' n differ, or a group's call, or a state that it holds, has another n than 64";
     case SUKHLENT_LENGTH: return "a buffer's length is not what is required";
     case SUKHLENT_STRAY: return "a word has a bit at or above n";
     case SUKHLENT_VALUE: return "a sign, outcome or group is above 1, a code above 23, a Pauli not 1 to 3, a seed 0, a run's operation above 4, or a field that a step does not use is not 0";

@@ -6,7 +6,8 @@ from __future__ import annotations
 TEXTS: dict[int, str] = {
     1: "the text does not have its form",
     15: "a job or a run has more than 4,096 steps",
-    2: "n is 0 or above the call's limit, or the two lists' or records' n differ, or a group's call has another n than 64",
+    2: "n is 0 or above the call's limit, or the two lists' or records' n differ, or a group's call, or a state that it holds,"
+    " has another n than 64",
     4: "a buffer's length is not what is required",
     5: "a word has a bit at or above n",
     6: "a sign, outcome or group is above 1, a code above 23, a Pauli not 1 to 3, a seed 0, a run's operation above 4,"

@@ -19,7 +19,7 @@ use Rattle.words.proofs.Finite.{bits}
 use Rattle.words.proofs.Flags.{neither}
 use Rattle.calls.proofs.PairLines.{pair-number, pair-numbered}
 use Rattle.comparison_parts.proofs.ReducedPairs.{reduced-accepted}
-use Rattle.calls.specs.Lists.{reduceCall}
+use Rattle.calls.specs.internal.Reductions.{reduceCall}
 use Rattle.comparison.specs.internal.ComparedPairs.{HoldsReduced, PairAnswered}
 use Rattle.buffers.proofs.EarlierNumbers.{earlier-none}
 use Rattle.buffers.specs.internal.Earlier.{earlierOf}

@@ -21,7 +21,8 @@ use Rattle.stabilizer.proofs.SharedTests.{has-length}
 use Rattle.stabilizer.specs.Groups.{Within}
 use Rattle.stabilizer.specs.Lists.{GeneratorList, dependent, earlyLines, listLengths, listLines, rows}
 use Rattle.words.proofs.Flags.{neither}
-use Rattle.calls.specs.Lists.{reduceCall, reduceLines, reduceUnusedCall}
+use Rattle.calls.specs.Lists.{reduceLines, reduceUnusedCall}
+use Rattle.calls.specs.internal.Reductions.{reduceCall}
 
 -- ---- the early lines, and dependence after them
 module _ (l : GeneratorList) (others : Bool) (k : ℕ) (e : k ≡ firstFitting (earlyLines l others)) where

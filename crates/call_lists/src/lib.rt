@@ -7,7 +7,8 @@ use record_reduction::reduce_list;
 use stabilizer_impl::checks::early_refusal;
 use stabilizer_impl::independence::independent;
 ghost use Rattle.buffers.specs.Calls.{Call};
-ghost use Rattle.calls.specs.Lists.{checkCall, reduceCall, reduceUnusedCall};
+ghost use Rattle.calls.specs.Lists.{checkCall, reduceUnusedCall};
+ghost use Rattle.calls.specs.internal.Reductions.{reduceCall};
 
 // Lines 2, 4, 5, 6, 9 and 10 of a generator list.
 pub fn check(n: u64, signs: &[u8], z: &[u64], x: &[u64]) -> u8

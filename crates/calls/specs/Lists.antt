@@ -27,11 +27,6 @@ reduceLent l neighbours codes neighbours′ codes′ =
     buffer neighbours (neighbourWords (l .n) (reduced (l .n) (rows l))) neighbours′
     ∷ buffer codes (codeNumbers (l .n) (reduced (l .n) (rows l))) codes′ ∷ []
 
--- the reduced record of the list: graph and codes
-abbrev pub reduceCall : GeneratorList → List ℕ → List ℕ → List ℕ → List ℕ → Contract
-reduceCall l neighbours codes neighbours′ codes′ =
-    contractOf (reduceLines l neighbours codes) (reduceLent l neighbours codes neighbours′ codes′)
-
 -- ---- sukhlent_reduce: "a record made from a list has the word 0"
 abbrev pub reduceUnusedCall : GeneratorList → List ℕ → List ℕ → ℕ → List ℕ → List ℕ → ℕ → Contract
 reduceUnusedCall l neighbours codes used neighbours′ codes′ used′ =

@@ -12,7 +12,7 @@ use Rattle.calls.proofs.PlotLines.{many-refused, same-number}
 use Rattle.amplitude.specs.Ratios.{lowest, plotAt}
 use Rattle.amplitude_impl.specs.internal.Plottable.{Plottable}
 use Rattle.buffers.specs.Refusals.{firstFitting}
-use Rattle.calls.specs.Lists.{reduceCall}
+use Rattle.calls.specs.internal.Reductions.{reduceCall}
 use Rattle.buffers.proofs.Calling.{written-all}
 use Rattle.buffers.specs.Calls.{Call}
 use Rattle.text_replies.proofs.Answering.{number-is, number-small}

@@ -20,7 +20,8 @@ use Rattle.record.specs.Reduced.{reduced}
 use Rattle.stabilizer.proofs.Accepted.{accepted-list}
 use Rattle.stabilizer.proofs.SharedTests.{length-passes}
 use Rattle.stabilizer.specs.Lists.{GeneratorList, listLines, rows}
-use Rattle.calls.specs.Lists.{checkLines, reduceCall, reduceLines}
+use Rattle.calls.specs.Lists.{checkLines, reduceLines}
+use Rattle.calls.specs.internal.Reductions.{reduceCall}
 use Rattle.text.specs.internal.Text.{Printable}
 use Rattle.text.specs.Text.{recordText, refusedText}
 use Rattle.words.proofs.Sums.{lt-or-ge}

@@ -18,7 +18,7 @@ pub enum Refusal {
     #[doc(alias = "SUKHLENT_FORM")]
     Form = 1,
     /// The number of qubits is 0 or above the call's limit (64; 6 for an orbit), or differs between
-    /// two lists or records, or is not 64 in a group's call.
+    /// two lists or records, or is not 64 in a group's call or in a state that the group holds.
     #[doc(alias = "SUKHLENT_COUNT")]
     Qubits = 2,
     /// A connected part of a compared state's reduced graph has more than 20 vertices.
@@ -143,7 +143,7 @@ impl Refusal {
             Refusal::Steps => "a job or a run has more than 4,096 steps",
             Refusal::Qubits => {
                 "n is 0 or above the call's limit, or the two lists' or records' n differ, or a \
-                 group's call has another n than 64"
+                 group's call, or a state that it holds, has another n than 64"
             }
             Refusal::Length => "a buffer's length is not what is required",
             Refusal::StrayBit => "a word has a bit at or above n",
