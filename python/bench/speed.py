@@ -14,14 +14,11 @@ import random
 import subprocess
 import sys
 import tempfile
-import threading
 import time
 from array import array
 from pathlib import Path
 
-from sukhlent import State, by_ctypes, calls, generate, library, run_job, run_many
-from sukhlent.jobs import parse_job
-from sukhlent.running import OPS
+from sukhlent import State, by_ctypes, calls, library, run_many
 
 ROOT = Path(__file__).resolve().parents[2]
 N = 64
@@ -64,20 +61,34 @@ def drawn(seed):
     return state
 
 
-def numpy_tableau(state):
-    """A numpy tableau that was led the same way, or None."""
+def numpy_tableau():
+    """A random numpy tableau, or None. Its gates and measurements are held to the engine first."""
     if not importlib.util.find_spec("numpy"):
         return None
     from tableau import Tableau
 
-    chance, table = random.Random(1), Tableau(N)
+    chance, table, state = random.Random(1), Tableau(N), State.zeros(N)
+    for _ in range(1500):
+        a, b = chance.sample(range(N), 2)
+        for name, qubits in chance.choice(([("h", (a,)), ("s", (b,))], [("cz", (a, b))], [("cx", (a, b))])):
+            getattr(table, name)(*qubits)
+            getattr(state, name)(*qubits)
+    other = table.copy()
     for q in range(N):
-        table.h(q)
-    for _ in range(400):
-        table.s(chance.randrange(N))
-        table.h(chance.randrange(N))
-        table.cz(*chance.sample(range(N), 2))
+        bit = chance.randrange(2)
+        if other.measure(q, bit) != state.measure_row(f"Z{q}", source=FixedBit(bit)).outcome:
+            raise SystemExit("the tableau in numpy does not agree with the engine")
     return table
+
+
+class FixedBit:
+    """A source of one bit."""
+
+    def __init__(self, bit):
+        self.bit = bit
+
+    def getrandbits(self, count):
+        return self.bit
 
 
 def steps_of(count, seed):
@@ -138,9 +149,9 @@ def bindings():
 
 def table():
     """The calls of a state beside a numpy tableau."""
-    state, other, sealed = drawn(1), drawn(1), drawn(2)
-    numpy = numpy_tableau(state)
-    fresh = [drawn(3) for _ in range(8)]
+    state, other = drawn(1), drawn(1)
+    sealed = other.copy()
+    numpy = numpy_tableau()
     measured = [state.copy() for _ in range(200 * ROUNDS + 1)]
     peers = [numpy.copy() for _ in range(200 * ROUNDS + 1)] if numpy else []
     works = {
@@ -154,7 +165,6 @@ def table():
         "`state.cut(range(32))`": (lambda: state.cut(range(32)), None),
         "`state.key()`": (lambda: state.key(), None),
     }
-    sealed = other.copy()
     lines = []
     for name, (mine, peer) in works.items():
         times = least([mine] + ([peer] if peer else []))
@@ -166,15 +176,23 @@ def runs():
     """4,096 steps in one call: through C alone, from buffers, from tuples; and many records in threads."""
     slices = steps_of(4096, 4)
     state = drawn(5)
+    start = bytes(state._block)  # every run starts from the same record
     given = list(zip(*slices))
     answers = [(ctypes.c_uint8 * 4096)() for _ in range(3)]
     n, neighbours, codes = by_ctypes._record(state._block)
     used = ctypes.c_uint64(0)
     lent = [library.lent(name, part) for name, part in zip(library.RUN_NAMES, slices)]
     spread = [value for part in (*lent, *answers) for value in (part, 4096)]
-    c = lambda: library._library.sukhlent_run(n, neighbours, n, codes, n, ctypes.byref(used), *spread)
+
+    def anew(work):
+        def done():
+            state._block[:] = start
+            work()
+
+        return done
+
     named = {
-        "the C call": c,
+        "the C call": lambda: library._library.sukhlent_run(n, neighbours, n, codes, n, ctypes.byref(used), *spread),
         "`state.run(ops, a, b, value)`, arrays": lambda: state.run(*slices),
         "`state.run(steps)`, tuples": lambda: state.run(given),
     }
@@ -183,13 +201,20 @@ def runs():
 
         arrays = [numpy.array(part, "uint8" if k == 0 else "uint16") for k, part in enumerate(slices)]
         named["`state.run(ops, a, b, value)`, numpy"] = lambda: state.run(*arrays)
-    times = least(list(named.values()), 3, 25)
+    times = least([anew(work) for work in named.values()], 3, 40)
     lines = [[name, f"{t / 4.096:.0f} ns", f"{t / times[0]:.2f}"] for name, t in zip(named, times)]
     rows(["a step of a run of 4,096 at 64 qubits", "time", "to the C call"], lines)
-    states = [drawn(6)] * 1 + [drawn(6).copy() for _ in range(63)]
-    one, two = least([lambda: run_many(states, *slices), lambda: run_many(states, *slices, threads=2)], 1, 9)
-    print(f"64 records of 4,096 steps each: {one / 1000:.1f} ms in one thread, {two / 1000:.1f} ms in two, {two / one:.2f} of it"
-          f" ({os.cpu_count()} cores, load {os.getloadavg()[0]:.1f}).\n")
+    states = [drawn(6) for _ in range(17)]
+    one, two = least([lambda threads=threads: many(states, slices, threads) for threads in (1, 2)], 1, 200)
+    print(f"`run_many` on 16 records of 4,096 steps each: {one / 1000:.2f} ms in one thread, {two / 1000:.2f} ms in two, {two / one:.2f} of"
+          f" it ({os.cpu_count()} cores).\n")
+
+
+def many(states, slices, threads):
+    """All states from the same record on, in one call."""
+    for state in states[1:]:
+        state._block[:] = states[0]._block
+    run_many(states[1:], *slices, threads=threads)
 
 
 def qutip():

@@ -98,7 +98,8 @@ def record(number: int, neighbours: Sequence[int], codes: Sequence[int], used: i
     n = len(codes)
     said = {2: _count(n), 4: f"{len(neighbours)} neighbour words, but {n} codes", 5: _stray(neighbours, used, n)}
     if number == 6:
-        return Refusal(6, next((f"the code {k} at qubit {q}, but codes are 0 to 23" for q, k in enumerate(codes) if not 0 <= k <= 23), ""))
+        strange = [(q, k) for q, k in enumerate(codes) if not 0 <= k <= 23]
+        return Refusal(6, f"the code {strange[0][1]} at qubit {strange[0][0]}, but codes are 0 to 23" if strange else "")
     if number == 7:
         return Refusal(7, _not_simple(neighbours, codes, used))
     return Refusal(number, said.get(number, ""))

@@ -2,6 +2,7 @@
 
 from __future__ import annotations
 
+import threading
 from array import array
 from typing import Any, Callable, Iterable, NamedTuple, Sequence
 
@@ -89,13 +90,25 @@ def run_many(states: Iterable[Any], ops: Any, a: Any, b: Any, value: Any, thread
 
 
 def _at_once(part: Callable[[int, int], int], spans: list[tuple[int, int]]) -> list[int]:
-    """The parts of a work, each in a thread of its own where there are several."""
-    if len(spans) == 1:
-        return [part(*spans[0])]
-    from concurrent.futures import ThreadPoolExecutor
+    """The parts of a work: the first here, each other one in a thread of its own."""
+    found: list[Any] = [None] * len(spans)
 
-    with ThreadPoolExecutor(len(spans)) as pool:
-        return list(pool.map(lambda span: part(*span), spans))
+    def done(k: int) -> None:
+        try:
+            found[k] = part(*spans[k])
+        except Exception as error:  # raised again below, in the thread of the caller
+            found[k] = error
+
+    workers = [threading.Thread(target=done, args=(k,)) for k in range(1, len(spans))]
+    for worker in workers:
+        worker.start()
+    done(0)
+    for worker in workers:
+        worker.join()
+    for answer in found:
+        if isinstance(answer, Exception):
+            raise answer
+    return found
 
 
 def _flat(given: Any) -> memoryview:
@@ -112,7 +125,8 @@ def _buffers(*given: Any) -> list[Any]:
         try:
             memoryview(slice_)
         except TypeError:
-            raise TypeError(f"run({', '.join(library.RUN_NAMES[:4])}): {name} is {called(slice_)}, and no buffer of numbers") from None
+            taken = ", ".join(library.RUN_NAMES[:4])
+            raise TypeError(f"run({taken}): {name} is {called(slice_)}, and no buffer of numbers") from None
     return list(given)
 
 
@@ -129,7 +143,7 @@ def _like(given: Any, shape: tuple[int, ...]) -> Any:
     count = 1
     for extent in shape:
         count *= extent
-    return array("B", bytes(count))
+    return array("B", b"\0") * count
 
 
 def _accept(number: int, ops: Any) -> None:

@@ -1,8 +1,13 @@
 """The extension and ctypes answer alike, call by call, on sound and on damaged arguments."""
 
+import os
 import random
+import shutil
+import sys
+import sysconfig
 import unittest
 from array import array
+from pathlib import Path
 
 from sukhlent import State, blocks, by_ctypes, calls, generate, run_job
 
@@ -11,8 +16,9 @@ def drawn(source):
     """A block of a state with used qubits."""
     n = source.choice((1, 2, 5, 33, 64))
     state, _ = run_job(generate(n, source.randrange(1, 90), source.randrange(1, 1 << 40)))
-    if source.random() < 0.3:
-        state.complement(source.choice([q for q in range(n) if not state.used >> q & 1] or [0])) if state.used != (1 << n) - 1 else None
+    left = [q for q in range(n) if not state.used >> q & 1]
+    if left and source.random() < 0.3:
+        state.complement(source.choice(left))
     return state._block
 
 
@@ -66,11 +72,12 @@ class Alike(unittest.TestCase):
             n, length = blocks.size(one), source.choice((0, 1, 7, 300, 4096, 4097))
             slices = [
                 array("B", [source.randrange(5 + (source.random() < 0.0005)) for _ in range(length)]),
-                *(array("H", [source.choice((0, source.randrange(n), source.randrange(30))) for _ in range(length)]) for _ in range(3)),
+                *(array("H", [source.choice((0, source.randrange(n), 29)) for _ in range(length)]) for _ in range(3)),
             ]
             if source.random() < 0.2:
                 slices[source.randrange(4)].append(0)
-            other, answers, others = bytearray(one), [array("B", bytes(length)) for _ in range(3)], [array("B", bytes(length)) for _ in range(3)]
+            other = bytearray(one)
+            answers, others = ([array("B", bytes(length)) for _ in range(3)] for _ in range(2))
             self.assertEqual(calls.run(one, *slices, *answers), by_ctypes.run(other, *slices, *others))
             self.assertEqual((one, answers), (other, others))
 
@@ -88,7 +95,7 @@ class Alike(unittest.TestCase):
 
     def test_wrong_buffers_are_told_alike(self):
         good = [array("B", [0]), *(array("H", [0]) for _ in range(3)), *(array("B", [0]) for _ in range(3))]
-        for place, wrong in ((0, array("H", [0])), (1, array("B", [0])), (2, array("l", [0])), (3, [0]), (4, b"\0"), (5, array("h", [0]))):
+        for place, wrong in enumerate((array("H", [0]), array("B", [0]), array("l", [0]), [0], b"\0", array("h", [0]))):
             said = []
             for module in (calls, by_ctypes):
                 with self.assertRaises((TypeError, BufferError)) as error:
@@ -98,6 +105,12 @@ class Alike(unittest.TestCase):
 
 
 class Blocks(unittest.TestCase):
+    def test_the_extension_is_taken_where_it_can_be_built(self):
+        header = Path(sysconfig.get_paths()["include"]) / "Python.h"
+        if os.environ.get("SUKHLENT_CALLS") or sys.version_info < (3, 11) or not header.is_file() or not shutil.which("cc"):
+            self.skipTest("ctypes is asked for, or there is no compiler with Python.h")
+        self.assertEqual(calls.TAKEN, "extension")
+
     def test_what_is_no_block_is_refused(self):
         for wrong in (bytearray(7), bytearray(18), bytearray(9 * 65 + 8), bytearray(8)):
             if calls.TAKEN == "extension":

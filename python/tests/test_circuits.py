@@ -215,11 +215,37 @@ class Refused(unittest.TestCase):
             ("OPENQASM 2.0; qreg q[65];", "line 1, column 20: 65 qubits, but a state has at most 64"),
             ("OPENQASM 2.0; qreg q[2]; h r[0];", "line 1, column 28: no qubit is called r"),
             ("OPENQASM 2.0; qreg q[2]; h q[0]", "line 1, column 32: expected ;, not the end of the file"),
+            ("OPENQASM 2.0; qreg q[1]; gate g a { g a; }\ng q[0];", "line 1, column 37: g is no Clifford gate that this reader knows"),
+            ("OPENQASM 2.0; qreg q[1]; rz() q[0];", "line 1, column 26: rz takes 1 angles and 1 qubits, not 0 and 1"),
+            ("OPENQASM 2.0; qreg q[1]; u2(pi,) q[0];", "line 1, column 32: ) is no part of an angle that this reader knows"),
+            ("OPENQASM 2.0; qreg q[1]; rz" + "(" * 5000 + ")" * 5000 + " q[0];", "the circuit is nested too deeply for this reader"),
+            ("H ²", "line 1, column 3: expected a qubit number, not ²"),
+            ("H " + "1" * 5000, f"line 1, column 3: expected a qubit number, not {'1' * 20}"),
+            ("OPENQASM 2.0; qreg q[1]; creg c[99999999];", "line 1, column 31: 99999999 bits, but this reader keeps at most 1000000 in a register"),
             ("OPENQASM 2.0; qreg q[2]; creg c[1]; measure q -> c;", "line 1, column 37: 2 qubits are measured into 1 bits"),
         ):
             with self.assertRaises(Refusal) as refused:
                 State.zeros(4).run_circuit(text)
             self.assertEqual((refused.exception.number, refused.exception.where), (1, said), text)
+
+    def test_damaged_texts_are_read_or_refused(self):
+        source = random.Random(6)
+        stim = "R 0 1\nH 0\nCX 0 1\nREPEAT 2 {\n MPP X0*!Z1\n MR !1\n}\nCZ rec[-1] 0\nSPP Y1\nMXX 0 1\n"
+        qasm = (
+            "OPENQASM 3.0; qubit[2] q; bit[2] c; gate g(t) a, b { rz(t) a; inv @ cx a, b; }\n"
+            "g(pi/2) q[0], q[1]; c = measure q; if (c[0] == 1) { x q[1]; } else reset q[0]; u3(pi/2, 0, -pi) q[1];\n"
+        )
+        refused = 0
+        for _ in range(1500):
+            text = list(source.choice((stim, qasm)))
+            for _ in range(source.randrange(1, 4)):
+                at = source.randrange(len(text))
+                text[at : at + source.randrange(3)] = source.choice(("", " ", "\n", "(", ")", "!", "*", "9", "q", "}", ";", "π", "-", "["))
+            try:
+                State.zeros(2).run_circuit("".join(text), 1)
+            except Refusal:
+                refused += 1
+        self.assertGreater(refused, 500)
 
     def test_a_refused_circuit_changes_nothing(self):
         state = State.zeros(3)

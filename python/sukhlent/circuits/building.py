@@ -14,6 +14,15 @@ def fault(line: int, column: int, why: str) -> Refusal:
     return Refusal(1, f"line {line}, column {column}: {why}")
 
 
+def small(text: str) -> "int | None":
+    """A number of at most nine digits; None of anything else.
+
+    >>> small("12"), small("-1"), small("1" * 10)
+    (12, None, None)
+    """
+    return int(text) if text.isascii() and text.isdigit() and len(text) <= 9 else None
+
+
 class Building:
     """The parts of a circuit, or of a part of it."""
 

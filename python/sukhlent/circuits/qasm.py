@@ -3,11 +3,12 @@ bits."""
 
 from __future__ import annotations
 
-from typing import Callable, NamedTuple
+from typing import Callable, Iterator, NamedTuple
 
-from .building import Building, circuit, fault
+from .building import Building, circuit, fault, small
 from .model import Circuit, Measure, Reset, Where
-from .qasm_gates import PLAIN, TURNS, applied
+from .qasm_gates import applied
+from .steps import Step
 from .tokens import Angles, Token, tokens
 
 _REFUSED = frozenset(
@@ -16,12 +17,16 @@ _REFUSED = frozenset(
 )
 
 
+_MOST_BITS = 1_000_000
+
+
 class Defined(NamedTuple):
-    """A gate that the file defines: the names of its angles and qubits, and its words."""
+    """A gate that the file defines: the names of its angles and qubits, its words, and the gates defined before it."""
 
     angles: list[str]
     qubits: list[str]
     body: list[Token]
+    known: "dict[str, Defined]"
 
 
 class _Parser:
@@ -62,9 +67,10 @@ class _Parser:
 
     def number(self) -> int:
         word = self.take()
-        if not word.text.isdigit():
+        number = small(word.text)
+        if number is None:
             raise fault(word.line, word.column, f"expected a number, not {word.text}")
-        return int(word.text)
+        return number
 
     def optional(self, text: str) -> bool:
         if self.peek().text == text:
@@ -137,6 +143,8 @@ class _Parser:
     def declare(self, quantum: bool, name: Token, size: int, several: bool) -> None:
         if name.text in self.qubits or name.text in self.registers:
             raise fault(name.line, name.column, f"{name.text} is declared twice")
+        if not quantum and size > _MOST_BITS:
+            raise fault(name.line, name.column, f"{size} bits, but this reader keeps at most {_MOST_BITS} in a register")
         if not quantum:
             self.registers[name.text] = size
             return
@@ -162,7 +170,7 @@ class _Parser:
             if self.peek().kind == "end":
                 self.expect("}")
             self.at += 1
-        self.defined[name.text] = Defined(angles, qubits, self.words[start : self.at])
+        self.defined[name.text] = Defined(angles, qubits, self.words[start : self.at], dict(self.defined))
         self.expect("}")
 
     # ---- operands
@@ -269,62 +277,67 @@ class _Parser:
             raise fault(name.line, name.column, f"{name.text} takes registers of one length")
         for k in range(length):
             qubits = [operand[k if len(operand) > 1 else 0] for operand in operands]
-            into.steps(self.gate(name, angles, qubits, inverse))
+            into.steps(made_of(name, angles, qubits, inverse, self.defined))
 
     def angles(self, names: dict[str, float]) -> list[float]:
         """The angles between brackets behind a gate's name."""
         if not self.optional("("):
             return []
-        found, part, depth = [], [], 0
+        parts: list[list[Token]] = [[]]
+        ends: list[Token] = []
+        depth = 0
         while depth or self.peek().text != ")":
             word = self.take()
             if word.kind == "end":
                 raise fault(word.line, word.column, "expected ), not the end of the file")
             depth += {"(": 1, ")": -1}.get(word.text, 0)
             if word.text == "," and not depth:
-                found.append(Angles(part, names).value())
-                part = []
+                ends.append(word)
+                parts.append([])
             else:
-                part.append(word)
-        self.expect(")")
-        return [*found, Angles(part, names).value()] if part else found
+                parts[-1].append(word)
+        ends.append(self.expect(")"))
+        if parts == [[]]:
+            return []
+        return [Angles(part, names, end).value() for part, end in zip(parts, ends)]
 
-    def gate(self, name: Token, angles: list[float], qubits: list[int], inverse: bool) -> list:
-        """The steps of a gate on these qubits."""
-        if len(set(qubits)) != len(qubits):
-            raise fault(name.line, name.column, f"{name.text} names a qubit twice")
-        made = self.defined.get(name.text)
-        if made is None:
-            return applied(name, angles, qubits, inverse)
-        if (len(angles), len(qubits)) != (len(made.angles), len(made.qubits)):
-            raise fault(name.line, name.column, f"{name.text} takes {len(made.angles)} angles and {len(made.qubits)} qubits")
-        return self.expanded(made, dict(zip(made.angles, angles)), dict(zip(made.qubits, qubits)), inverse)
 
-    def expanded(self, made: Defined, angles: dict[str, float], places: dict[str, int], inverse: bool) -> list:
-        """The steps of a gate that the file defines."""
-        inside = _Parser("")
-        inside.words, inside.defined = made.body, self.defined
-        parts = []
-        while inside.peek().kind != "end":
-            turned = inverse
-            while inside.optional("inv"):
-                inside.expect("@")
-                turned = not turned
-            name = inside.name()
-            if name.text == "barrier":
-                while inside.take().text != ";":
-                    pass
-                continue
-            given = inside.angles(angles)
-            named = [inside.name()]
-            while inside.optional(","):
-                named.append(inside.name())
-            inside.expect(";")
-            strange = next((word for word in named if word.text not in places), None)
-            if strange:
-                raise fault(strange.line, strange.column, f"no qubit of the gate is called {strange.text}")
-            parts.append(self.gate(name, given, [places[word.text] for word in named], turned))
-        return [step for part in (reversed(parts) if inverse else parts) for step in part]
+def made_of(name: Token, angles: list[float], qubits: list[int], inverse: bool, defined: dict[str, Defined]) -> list[Step]:
+    """The steps of a gate on these qubits, among the gates that the file has defined so far."""
+    if len(set(qubits)) != len(qubits):
+        raise fault(name.line, name.column, f"{name.text} names a qubit twice")
+    made = defined.get(name.text)
+    if made is None:
+        return applied(name, angles, qubits, inverse)
+    if (len(angles), len(qubits)) != (len(made.angles), len(made.qubits)):
+        raise fault(name.line, name.column, f"{name.text} takes {len(made.angles)} angles and {len(made.qubits)} qubits")
+    parts = list(_expanded(made, dict(zip(made.angles, angles)), dict(zip(made.qubits, qubits)), inverse))
+    return [step for part in (reversed(parts) if inverse else parts) for step in part]
+
+
+def _expanded(made: Defined, angles: dict[str, float], places: dict[str, int], inverse: bool) -> Iterator[list[Step]]:
+    """The steps of each gate inside one that the file defines."""
+    inside = _Parser("")
+    inside.words = made.body
+    while inside.peek().kind != "end":
+        turned = inverse
+        while inside.optional("inv"):
+            inside.expect("@")
+            turned = not turned
+        name = inside.name()
+        if name.text == "barrier":
+            while inside.peek().kind != "end" and inside.take().text != ";":
+                pass
+            continue
+        given = inside.angles(angles)
+        named = [inside.name()]
+        while inside.optional(","):
+            named.append(inside.name())
+        inside.expect(";")
+        strange = next((word for word in named if word.text not in places), None)
+        if strange:
+            raise fault(strange.line, strange.column, f"no qubit of the gate is called {strange.text}")
+        yield made_of(name, given, [places[word.text] for word in named], turned, made.known)
 
 
 def read_qasm(text: str) -> Circuit:
@@ -337,6 +350,3 @@ def read_qasm(text: str) -> Circuit:
     while parser.peek().kind != "end":
         parser.statement(whole)
     return circuit(whole, max(parser.n, 1), parser.registers)
-
-
-__all__ = ["PLAIN", "TURNS", "read_qasm"]

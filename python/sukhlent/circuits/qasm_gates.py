@@ -26,8 +26,6 @@ _PAIR_TURNS = {"rxx": "X", "ryy": "Y", "rzz": "Z"}
 #: gates that take three angles, or two, as U(theta, phi, lambda)
 _GENERAL = {"U": 3, "u": 3, "u3": 3, "u2": 2}
 
-PLAIN = (*_SINGLES, *_PAIRS)
-
 #: how many angles and qubits each gate takes
 _TAKES = {
     **{name: (0, 1) for name in _SINGLES}, **{name: (0, 2) for name in _PAIRS}, **{name: (1, 1) for name in TURNS},
@@ -45,8 +43,8 @@ def applied(name: Token, angles: list[float], qubits: list[int], inverse: bool) 
     if text not in _TAKES:
         raise fault(name.line, name.column, f"{text} is no Clifford gate that this reader knows")
     if (len(angles), len(qubits)) != _TAKES[text]:
-        due = _TAKES[text]
-        raise fault(name.line, name.column, f"{text} takes {due[0]} angles and {due[1]} qubits, not {len(angles)} and {len(qubits)}")
+        due = "{} angles and {} qubits".format(*_TAKES[text])
+        raise fault(name.line, name.column, f"{text} takes {due}, not {len(angles)} and {len(qubits)}")
     if text in _SINGLES:
         return [gate(qubits[0], CODES[_SINGLES[text][inverse]])]
     if text in _PAIRS:

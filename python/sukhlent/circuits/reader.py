@@ -5,6 +5,7 @@ from __future__ import annotations
 import re
 
 from ..arguments import called
+from ..refusals import Refusal
 from .model import Circuit
 from .qasm import read_qasm
 from .stim import read_stim
@@ -26,7 +27,10 @@ def read_circuit(text: str) -> Circuit:
     if not isinstance(text, str):
         raise TypeError(f"read_circuit(text): expected the text of a circuit, not {called(text)}")
     plain = text.removeprefix("\ufeff")
-    return read_qasm(plain) if is_qasm(plain) else read_stim(plain)
+    try:
+        return read_qasm(plain) if is_qasm(plain) else read_stim(plain)
+    except RecursionError:
+        raise Refusal(1, "the circuit is nested too deeply for this reader") from None
 
 
 def is_qasm(text: str) -> bool:

@@ -5,7 +5,7 @@ from __future__ import annotations
 import re
 from typing import Callable, NamedTuple
 
-from .building import Building, circuit, fault
+from .building import Building, circuit, fault, small
 from .model import Circuit, Measure, Part, Reset, Where
 from .steps import PAIRS, SINGLES, gate, phased
 
@@ -54,9 +54,9 @@ class _Reader:
 
     def qubit(self, number: int, target: Target) -> int:
         """A target that is a qubit."""
-        if not target.text.isdigit():
-            raise fault(number, target.column, f"expected a qubit number, not {target.text}")
-        qubit = int(target.text)
+        qubit = small(target.text)
+        if qubit is None:
+            raise fault(number, target.column, f"expected a qubit number, not {target.text[:20]}")
         if qubit > 63:
             raise fault(number, target.column, f"qubit {qubit}, but a state has qubits 0 to 63")
         self.n = max(self.n, qubit + 1)
@@ -68,7 +68,7 @@ class _Reader:
         inverted = 0
         column = target.column
         for piece in target.text.split("*"):
-            found = re.fullmatch(r"(!?)([XYZxyz])(\d+)", piece)
+            found = re.fullmatch(r"(!?)([XYZxyz])([0-9]+)", piece)
             if found is None:
                 raise fault(number, column, f"expected a product such as X1*Z2, not {target.text}")
             qubit = self.qubit(number, Target(column + found.start(3), found[3]))
@@ -148,7 +148,7 @@ def _judge(name: str, number: int, column: int) -> None:
 
 
 def _opened(reader: _Reader, number: int, column: int, rest: str) -> None:
-    found = re.fullmatch(r"\s*(\d+)\s*\{\s*", rest)
+    found = re.fullmatch(r"\s*([0-9]{1,18})\s*\{\s*", rest)
     if found is None:
         raise fault(number, column, "expected REPEAT, a count and {")
     reader.open.append((Building(), int(found[1]), number, column))
@@ -219,9 +219,9 @@ def _paired(reader: _Reader, name: str, number: int, targets: list[Target]) -> N
 def _fed_back(reader: _Reader, name: str, number: int, first: Target, second: Target) -> Part:
     """A Pauli that is done where an earlier outcome is 1."""
     for outcome, target, codes in ((first, second, _FEEDBACK), (second, first, _BACKWARDS)):
-        found = re.fullmatch(r"rec\[-(\d+)\]", outcome.text)
-        if found and name in codes and target.text.isdigit():
-            if found[1] == "0":
+        found = re.fullmatch(r"rec\[-([0-9]{1,9})\]", outcome.text)
+        if found and name in codes and small(target.text) is not None:
+            if int(found[1]) == 0:
                 raise fault(number, outcome.column, f"{outcome.text} is no outcome: the last is rec[-1]")
             body = Building()
             body.steps([gate(reader.qubit(number, target), codes[name])])

@@ -11,7 +11,7 @@ from .building import fault
 _TOKEN = re.compile(
     r"(?P<blank>\s+|//[^\n]*|/\*.*?\*/)|(?P<number>\d+\.\d*(?:[eE][+-]?\d+)?|\.\d+|\d+(?:[eE][+-]?\d+)?)"
     r"|(?P<word>[A-Za-z_π][A-Za-z0-9_π]*)|(?P<text>\"[^\"\n]*\")|(?P<mark>->|==|!=|&&|\|\||\*\*|[-+*/()\[\]{},;:=!@<>&|^~%$'#.])",
-    re.S,
+    re.S | re.A,
 )
 
 
@@ -47,8 +47,8 @@ def tokens(text: str) -> list[Token]:
 class Angles:
     """An angle written with numbers, pi, the names of a gate's angles, + - * / and brackets."""
 
-    def __init__(self, words: list[Token], names: dict[str, float]):
-        self._words, self._names, self._at = words, names, 0
+    def __init__(self, words: list[Token], names: dict[str, float], end: Token):
+        self._words, self._names, self._end, self._at = words, names, end, 0
 
     def value(self) -> float:
         """What it comes to."""
@@ -58,7 +58,7 @@ class Angles:
         return found
 
     def _strange(self) -> Exception:
-        word = self._words[min(self._at, len(self._words) - 1)]
+        word = self._words[self._at] if self._at < len(self._words) else self._end
         return fault(word.line, word.column, f"{word.text} is no part of an angle that this reader knows")
 
     def _next(self) -> str:
