@@ -38,6 +38,9 @@ class Recorder:
 
     def call(self, name, *values):
         """Makes and writes one call, of numbers, lists of numbers and Lent: its answer, and the buffers afterwards."""
+        due = len(self.calls[name])
+        if len(values) != due:
+            raise SystemExit(f"{name} takes {due} arguments, and tools/replay/sound.py gives it {len(values)}")
         written = bytearray([self.numbers[name]])
         words, lent = [], []
         for room, argument, value in zip(self.rooms, self.calls[name], values):

@@ -98,6 +98,11 @@ class Sound:
     def qubit(self, record):
         return self.draw.randrange(record.n)
 
+    def used_qubit(self, record, own=range(64)):
+        """Mostly a used one of these qubits."""
+        used = [q for q in own if record.used >> q & 1]
+        return self.draw.choice(used if used and self.draw.random() < 0.8 else [q for q in own if q < record.n] or [0])
+
     def in_place(self, record, answer, after, used=False):
         """Takes over what an accepted call has left."""
         if answer == 0:
@@ -167,8 +172,8 @@ class Sound:
 
     def renew(self):
         record = self.record()
-        code = 2 * self.draw.randrange(6)
-        self.in_place(record, *self.call("renew", *record.lent(), [record.used], self.qubit(record), code), used=True)
+        photon = self.used_qubit(record), 2 * self.draw.randrange(6)
+        self.in_place(record, *self.call("renew", *record.lent(), [record.used], *photon), used=True)
 
     def measure_row(self):
         """A row that acts on no used qubit, now and then one of the group."""
@@ -301,15 +306,16 @@ class Sound:
     # groups
 
     def group(self, name, *more, used=None):
-        """A call of one of the two groups, mostly on qubits of its own: `qubit` stands for one. `used` is a list where the
-        call writes the word."""
+        """A call of one of the two groups, mostly on qubits of its own: "qubit" stands for one, "used" for a used one. The
+        call writes the word of used qubits where `used` is given."""
         draw = self.draw
         if draw.random() < 0.01:
             self.groups = Groups(draw)
         groups, group = self.groups, draw.randrange(2)
         own = [q for q in range(64) if groups.word >> q & 1 == group and draw.random() > 0.05] or [0]
-        words = [draw.choice(own) if word == "qubit" else word for word in more]
         record = groups.record
+        drawn = {"qubit": lambda: draw.choice(own), "used": lambda: self.used_qubit(record, own)}
+        words = [drawn[word]() if isinstance(word, str) else word for word in more]
         head = 64, groups.word, group, record.neighbours, record.codes
         answer, after = self.call("group_" + name, *head, [record.used] if used else record.used, *words)
         self.in_place(record, answer, after, used)
@@ -331,7 +337,7 @@ class Sound:
         self.group("observe", self.draw.randint(1, 3), "qubit", self.draw.randrange(2), Lent(1), Lent(1), used=True)
 
     def group_renew(self):
-        self.group("renew", "qubit", 2 * self.draw.randrange(6), used=True)
+        self.group("renew", "used", 2 * self.draw.randrange(6), used=True)
 
     def group_return(self):
         self.group("return", self.name(), *self.groups.store.lent, used=True)
