@@ -15,7 +15,7 @@ function vertexOf(move, n) {
 export class Display {
   #due = false;
   #panelDue = true;
-  #fresh = [];
+  #fresh = null;
   #drawn = null;
   #pending = null;
 
@@ -42,7 +42,7 @@ export class Display {
     this.#drawn = state;
     if (before === state) return;
     const held = before && !opened ? new Set(edgesOf(before).map(String)) : null;
-    this.#fresh = held ? edgesOf(state).filter((edge) => !held.has(String(edge))) : [];
+    this.#fresh = edgesOf(state).filter((edge) => held && !held.has(String(edge)));
   }
 
   /** Draws at the next frame: the graph, and the panel too where the state may have changed. */
@@ -60,7 +60,7 @@ export class Display {
     const { bench, view, from } = this;
     bench.aspect = view.size[0] / view.size[1];
     view.draw({ state: bench.state, places: bench.places, side: bench.side, from, fresh: this.#fresh });
-    this.#fresh = [];
+    this.#fresh = null;
     if (this.#panelDue) this.panels[this.chosen]();
     this.#panelDue = false;
     $("undo").disabled = !bench.session.canUndo;

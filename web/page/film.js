@@ -6,7 +6,12 @@ import { GraphView } from "./graph.js";
 const PACE = 1300;
 
 const named = (edges) => edges.map(([a, b]) => `${a}–${b}`).join(", ");
-const without = (edges, others) => edges.filter(([a, b]) => !others.some(([c, d]) => a === c && b === d));
+
+/** The edges that are not among others. */
+function without(edges, others) {
+  const held = new Set(others.map(String));
+  return edges.filter((edge) => !held.has(String(edge)));
+}
 
 /** The graphs on the way: each complemented at the next vertex of the list. */
 export function frames(graph, list) {
@@ -54,7 +59,7 @@ export class Film {
   show(at) {
     this.at = Math.max(0, Math.min(this.frames.length - 1, at));
     const { state, vertex, fresh, gone } = this.frames[this.at];
-    this.view.draw({ state, places: this.places, centre: vertex, fresh: fresh.length ? fresh : null, gone });
+    this.view.draw({ state, places: this.places, centre: vertex, fresh, gone });
     $("film-at").value = this.at;
     say($("frame"), told(this.frames[this.at], this.at, this.frames.length - 1));
   }

@@ -43,6 +43,7 @@ export class GraphView {
     root.replaceChildren(...Object.values(this.paths), this.group);
     this.points = [];
     this.radius = 0;
+    this.round = 0;
   }
 
   get size() {
@@ -82,7 +83,7 @@ export class GraphView {
   }
 
   /** Draws a state: places, the vertices on the side, one that a pair begins with, edges that are new or gone. */
-  draw({ state, places, side = new Set(), from = null, centre = null, fresh = [], gone = [] }) {
+  draw({ state, places, side = new Set(), from = null, centre = null, fresh = null, gone = null }) {
     const { n } = state;
     this.points = places.slice(0, n).map((place) => this.point(place, n));
     this.radius = this.#radius();
@@ -98,21 +99,26 @@ export class GraphView {
   #drawEdges(state, side, fresh, gone) {
     const edges = edgesOf(state);
     const crosses = ([a, b]) => side.has(a) !== side.has(b);
-    put(this.paths.edges, "d", pathOf(edges.filter((edge) => !crosses(edge)), this.points, this.radius));
-    put(this.paths.crossing, "d", pathOf(edges.filter(crosses), this.points, this.radius));
-    put(this.paths.gone, "d", pathOf(gone, this.points, this.radius));
-    this.#drawFresh(fresh);
-    this.root.classList.toggle("dense", edges.length > DENSE);
+    const dense = edges.length > DENSE;
+    this.round = dense ? 0 : this.radius;
+    put(this.paths.edges, "d", this.#path(edges.filter((edge) => !crosses(edge))));
+    put(this.paths.crossing, "d", this.#path(edges.filter(crosses)));
+    this.#drawAnew("gone", gone);
+    this.#drawAnew("fresh", fresh);
+    this.root.classList.toggle("dense", dense);
   }
 
-  /** New edges in an element of their own, so that each fades out from its beginning. */
-  #drawFresh(edges) {
-    if (edges === null) return put(this.paths.fresh, "d", "");
-    if (!edges.length) return undefined;
-    const path = svg("path", { class: "fresh", d: pathOf(edges, this.points, this.radius) });
-    this.paths.fresh.replaceWith(path);
-    this.paths.fresh = path;
-    return undefined;
+  /** Edges as a path, bent round vertices where they are not too many. */
+  #path(edges) {
+    return pathOf(edges, this.points, this.round);
+  }
+
+  /** Edges that come or go, in a new element, so that what the style does with them begins anew; null leaves them. */
+  #drawAnew(name, edges) {
+    if (edges === null) return;
+    const path = svg("path", { class: name, d: this.#path(edges) });
+    this.paths[name].replaceWith(path);
+    this.paths[name] = path;
   }
 
   #count(n) {

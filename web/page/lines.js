@@ -13,10 +13,10 @@ function apart([x, y], [a, b], [c, d]) {
 
 const text = ([x, y]) => `${x.toFixed(1)} ${y.toFixed(1)}`;
 
-/** The path of an edge between points, vertices having a radius. */
+/** The path of an edge between points, vertices having a radius; straight in any case where that is 0. */
 function path([a, b], points, radius) {
   const [from, to] = [points[a], points[b]];
-  const hit = points.some((point, q) => q !== a && q !== b && apart(point, from, to) < radius);
+  const hit = radius > 0 && points.some((point, q) => q !== a && q !== b && apart(point, from, to) < radius);
   if (!hit) return `M${text(from)}L${text(to)}`;
   const [dx, dy] = [to[0] - from[0], to[1] - from[1]];
   const by = Math.max(BEND, (1.9 * radius) / Math.hypot(dx, dy));

@@ -37,10 +37,10 @@ export function linkOf({ session, places, store }) {
 export const stateLink = ({ session, places }) =>
   linkOf({ session: new Session(session.state), places: places.slice(0, session.state.n), store: new Store() });
 
-/** The session of such a part; an Error or a Refusal where it is none. */
+/** The session of such a part, all moves done where it does not say how many; an Error or a Refusal where it is none. */
 export function opened(hash) {
   const fields = new Map(hash.replace(/^#/, "").split("&").map((part) => part.split(/=(.*)/s, 2)));
   const moves = fields.get("moves") ? fields.get("moves").split(";").map(unwritten) : [];
-  const session = new Session(unpacked(fields.get("start") ?? ""), moves, Number(fields.get("at") ?? 0));
+  const session = new Session(unpacked(fields.get("start") ?? ""), moves, Number(fields.get("at") ?? moves.length));
   return { session, places: placesRead(fields.get("places") ?? ""), store: heldRead(fields.get("held")) };
 }

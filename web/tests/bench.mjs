@@ -3,9 +3,9 @@ import { spawn } from "node:child_process";
 import { Browser } from "./browser.mjs";
 import { ROOT } from "./places.mjs";
 
-/** Serves the page, and answers its address and what ends it. */
+/** Serves target/web, and answers its address and what ends it. */
 export async function served() {
-  const server = spawn("python3", [`${ROOT}tools/bench-page`, "--quiet"], { stdio: ["ignore", "pipe", "inherit"] });
+  const server = spawn("python3", [`${ROOT}tools/bench-page`, "--made", "--quiet", "--port", "0"], { stdio: ["ignore", "pipe", "inherit"] });
   process.once("exit", () => server.kill());
   process.once("SIGTERM", () => process.exit(1));
   const address = await new Promise((resolve, reject) => {

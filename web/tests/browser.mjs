@@ -18,8 +18,9 @@ function found() {
   throw new Error("chromium was not found: apt-get install chromium");
 }
 
+// Without its sandbox: as root and in containers it has none, and it opens only pages of this machine.
 const WORDS = [
-  "--headless=new", "--remote-debugging-pipe", "--no-first-run", "--no-default-browser-check", "--disable-gpu",
+  "--headless=new", "--no-sandbox", "--remote-debugging-pipe", "--no-first-run", "--no-default-browser-check", "--disable-gpu",
   "--disable-extensions", "--disable-dev-shm-usage", "--hide-scrollbars", "--force-device-scale-factor=1",
 ];
 
@@ -46,12 +47,14 @@ export class Browser {
   #waiting = new Map();
   #rest = "";
   #listeners = [];
+  said = "";
 
   static async start({ width = 1280, height = 820 } = {}) {
     const browser = new Browser();
     browser.folder = mkdtempSync(join(tmpdir(), "bench-"));
-    const words = [...WORDS, `--user-data-dir=${browser.folder}`, ...(process.getuid?.() === 0 ? ["--no-sandbox"] : [])];
-    browser.process = spawn(found(), [...words, "about:blank"], { stdio: ["ignore", "ignore", "ignore", "pipe", "pipe"] });
+    const words = [...WORDS, `--user-data-dir=${browser.folder}`, "about:blank"];
+    browser.process = spawn(found(), words, { stdio: ["ignore", "ignore", "pipe", "pipe", "pipe"] });
+    browser.process.stdio[2].setEncoding("utf8").on("data", (text) => (browser.said = (browser.said + text).slice(-2000)));
     browser.process.stdio[4].setEncoding("utf8").on("data", (text) => browser.#heard(text));
     browser.process.on("exit", () => browser.#ended());
     const { targetId } = await browser.send("Target.createTarget", { url: "about:blank" }, null);
@@ -89,7 +92,8 @@ export class Browser {
   }
 
   #ended() {
-    for (const { reject, name } of this.#waiting.values()) reject(new Error(`${name}: chromium has ended`));
+    const error = new Error(`chromium has ended: ${this.said}`);
+    for (const { reject } of this.#waiting.values()) reject(error);
   }
 
   listen(listener) {
@@ -107,6 +111,7 @@ export class Browser {
   async size(width, height, mobile = false) {
     await this.send("Emulation.setDeviceMetricsOverride", { width, height, deviceScaleFactor: 1, mobile });
     await this.send("Emulation.setTouchEmulationEnabled", { enabled: mobile });
+    for (let frame = 0; frame < 3; frame++) await this.settled();
   }
 
   async colours(scheme) {
@@ -147,12 +152,12 @@ export class Browser {
     await this.send("Page.navigate", { url: "about:blank" });
     await this.send("Page.navigate", { url: address });
     await this.until("document.documentElement.dataset.ready");
-    await this.settled();
+    for (let frame = 0; frame < 2; frame++) await this.settled();
   }
 
-  /** Waits for two frames: what was due is drawn. */
+  /** Waits for a frame: what was due before it is drawn. */
   settled() {
-    return this.value("new Promise((done) => requestAnimationFrame(() => requestAnimationFrame(() => done(true))))");
+    return this.value("new Promise((done) => requestAnimationFrame(() => done(true)))");
   }
 
   async mouse(type, x, y, more = {}) {

@@ -1,5 +1,5 @@
 // The page in chromium, by clicks, keys and fingers; its answers against those of the proved programs and the command.
-// Needs chromium, target/web's parts (tools/bench-page makes it), target/bin and target/shared.
+// Needs chromium, target/web (tools/bench-page --build), target/bin and target/shared.
 import assert from "node:assert/strict";
 import { mkdtempSync, rmSync, writeFileSync } from "node:fs";
 import { tmpdir } from "node:os";

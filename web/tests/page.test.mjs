@@ -119,6 +119,7 @@ test("a link holds the session, its places and its named states", () => {
   again.places.flat().forEach((part, k) => assert.ok(Math.abs(part - flat[k]) < 1e-3));
   assert.match(linkOf({ session, places, store }), /^[\w.~*;=&,%-]+$/);
   assert.equal(String(opened(stateLink({ session, places })).session.state), String(session.state));
+  assert.equal(strings(opened("#start=2.II..0&moves=H.0;CX.0.1").session.state), "+XX +ZZ");
   assert.throws(() => opened("#start=nothing"), /record that is none/);
 });
 

@@ -1,4 +1,5 @@
 // Writes the pictures of the page that documents show: node web/tests/pictures.mjs (to docs/pictures, or to a folder).
+// Needs chromium and target/web (tools/bench-page --build).
 import { BenchPage, served } from "./bench.mjs";
 import { ROOT } from "./places.mjs";
 
