@@ -20,7 +20,7 @@
 EACH_CALL(POINTER)
 
 /* Set by `open`: the codes and Paulis by name, and the functions of Python that judge any other argument. */
-static PyObject *codes_by_name, *paulis_by_name, *judge_code, *judge_pauli, *judge_place;
+static PyObject *codes_by_name, *paulis_by_name, *judge_code, *judge_pauli, *judge_place, *judge_bit;
 
 typedef struct {
     uint64_t n;
@@ -153,7 +153,7 @@ static PyObject *measure(PyObject *self, PyObject *const *args, Py_ssize_t count
     uint8_t pauli, outcome, answer = 0, determined = 0;
     if (!takes(count, 4) || !record_of(args[0], &r)) return NULL;
     if (!octet_of(args[1], paulis_by_name, judge_pauli, &pauli) || !place_of(args[2], &qubit)) return NULL;
-    if (!octet_of(args[3], NULL, judge_place, &outcome)) return NULL;
+    if (!octet_of(args[3], NULL, judge_bit, &outcome)) return NULL;
     uint8_t number = call_measure(r.n, r.neighbours, r.n, r.codes, r.n, r.used, pauli, qubit, outcome, &answer,
                                   &determined);
     return measured(number, answer, determined);
@@ -230,6 +230,10 @@ static int fits(const Py_buffer *view, int k)
     const char *format = view->format ? view->format : "B";
     if (*format == '=' || *format == '<' || *format == '@') format++;
     const char *due = k >= 1 && k <= 3 ? "H" : "B";
+    if (strcmp(format, due) == 0 && (uintptr_t)view->buf % (uintptr_t)view->itemsize) {
+        PyErr_Format(PyExc_BufferError, "%s does not begin at an address for numbers of 16 bits", RUN_NAMES[k]);
+        return 0;
+    }
     if (strcmp(format, due) == 0) return 1;
     PyErr_Format(PyExc_TypeError,
                  "%s holds items of the format '%s', where numbers of %s bits without a sign are taken: '%s' (array('%s'), "
@@ -366,7 +370,7 @@ static PyObject *group_measure(PyObject *self, PyObject *const *args, Py_ssize_t
     uint8_t group, pauli, outcome, answer = 0, determined = 0;
     if (!takes(count, 6) || !group_of(args, &r, &word, &group)) return NULL;
     if (!octet_of(args[3], paulis_by_name, judge_pauli, &pauli) || !place_of(args[4], &qubit)) return NULL;
-    if (!octet_of(args[5], NULL, judge_place, &outcome)) return NULL;
+    if (!octet_of(args[5], NULL, judge_bit, &outcome)) return NULL;
     uint8_t number = call_group_measure(r.n, word, group, r.neighbours, r.n, r.codes, r.n, r.used, pauli, qubit,
                                         outcome, &answer, &determined);
     return measured(number, answer, determined);
@@ -390,13 +394,13 @@ static int found(void *library, const char *name, void **pointer)
     return *pointer != NULL;
 }
 
-/* open(path, codes_by_name, paulis_by_name, judge_code, judge_pauli, judge_place) */
+/* open(path, codes_by_name, paulis_by_name, judge_code, judge_pauli, judge_place, judge_bit) */
 static PyObject *open_library(PyObject *self, PyObject *args)
 {
     const char *path;
-    PyObject *given[5];
-    if (!PyArg_ParseTuple(args, "sO!O!OOO", &path, &PyDict_Type, &given[0], &PyDict_Type, &given[1], &given[2],
-                          &given[3], &given[4]))
+    PyObject *given[6];
+    if (!PyArg_ParseTuple(args, "sO!O!OOOO", &path, &PyDict_Type, &given[0], &PyDict_Type, &given[1], &given[2],
+                          &given[3], &given[4], &given[5]))
         return NULL;
     void *library = dlopen(path, RTLD_NOW | RTLD_LOCAL);
     if (!library) {
@@ -405,8 +409,8 @@ static PyObject *open_library(PyObject *self, PyObject *args)
     }
 #define TAKE(name) if (!found(library, "sukhlent_" #name, (void **)&call_##name)) return NULL;
     EACH_CALL(TAKE)
-    PyObject **held[5] = {&codes_by_name, &paulis_by_name, &judge_code, &judge_pauli, &judge_place};
-    for (int k = 0; k < 5; k++) {
+    PyObject **held[6] = {&codes_by_name, &paulis_by_name, &judge_code, &judge_pauli, &judge_place, &judge_bit};
+    for (int k = 0; k < 6; k++) {
         PyObject *before = *held[k];
         Py_INCREF(given[k]);
         *held[k] = given[k];

@@ -102,7 +102,7 @@ def _circuit(text: str, seed: "int | None") -> int:
     return 0
 
 
-def drawn(file: str, layout: str, out: str) -> int:
+def drawn(file: str, layout: "str | None", out: str) -> int:
     """The record of a state as a picture."""
     state = read_state(text_of(file))
     return shown_or_written(state.svg(layout), out)

@@ -3,7 +3,7 @@
 from __future__ import annotations
 
 import operator
-from typing import Iterable
+from typing import Any, Iterable
 
 _PAULIS = {"X": 1, "Y": 2, "Z": 3}
 
@@ -34,14 +34,14 @@ def called(value: object) -> str:
     """A value as an error names it.
 
     >>> called("H"), called(0.5), called(None)
-    ("the text 'H'", '0.5, a float', 'None')
+    ("the text 'H'", '0.5 (float)', 'None')
     """
     if isinstance(value, str):
         return f"the text {value!r}"
     shown = repr(value)
     if value is None or len(shown) > 60:
-        return "None" if value is None else f"a {type(value).__name__}"
-    return f"{shown}, a {type(value).__name__}"
+        return "None" if value is None else f"something of the type {type(value).__name__}"
+    return f"{shown} ({type(value).__name__})"
 
 
 def place(value: object) -> int:
@@ -51,6 +51,16 @@ def place(value: object) -> int:
     (5, True)
     """
     number = whole(value, "a qubit number")
+    return number if 0 <= number < 1 << 64 else ABOVE
+
+
+def bit(value: object) -> int:
+    """An outcome as a number; every call refuses one above 1.
+
+    >>> bit(1), bit(True), bit(-1) == ABOVE
+    (1, 1, True)
+    """
+    number = whole(value, "an outcome, 0 or 1")
     return number if 0 <= number < 1 << 64 else ABOVE
 
 
@@ -84,10 +94,23 @@ def qubits(given: Iterable[int], call: str) -> list[int]:
 def of_type(value: object, kind: type, call: str) -> None:
     """`TypeError` where a value is not of a type.
 
-    >>> of_type("x", int, "compare(other)")
+    >>> of_type("x", dict, "compare(other)")
     Traceback (most recent call last):
     ...
-    TypeError: compare(other): expected a int, not the text 'x'
+    TypeError: compare(other): expected a dict, not the text 'x'
     """
     if not isinstance(value, kind):
         raise TypeError(f"{call}: expected a {kind.__name__}, not {called(value)}")
+
+
+def listed(values: Any, what: str, call: str) -> list:
+    """The values of an iterable; `TypeError` of anything else.
+
+    >>> listed(3, "codes", "State(neighbours, codes)")
+    Traceback (most recent call last):
+    ...
+    TypeError: State(neighbours, codes): expected a list of codes, not 3 (int)
+    """
+    if isinstance(values, (str, bytes)) or not hasattr(values, "__iter__"):
+        raise TypeError(f"{call}: expected a list of {what}, not {called(values)}")
+    return list(values)

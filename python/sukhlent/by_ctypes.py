@@ -8,7 +8,7 @@ from ctypes import c_uint8, c_uint64
 from typing import Any, Sequence
 
 from . import blocks, library
-from .arguments import pauli_number, place
+from .arguments import bit, pauli_number, place
 from .codes import code
 
 
@@ -54,7 +54,7 @@ def _measured(number: int, answer: library.Cell, determined: library.Cell) -> in
 def measure(block: bytearray, pauli: "int | str", qubit: int, outcome: int) -> int:
     """A Pauli measured: the outcome, and 2 more where it was determined."""
     answer, determined = library.octet(), library.octet()
-    given = (pauli_number(pauli), place(qubit), place(outcome))
+    given = (pauli_number(pauli), place(qubit), bit(outcome))
     number = library.call("measure", *_record(block), _used(block), *given, answer, determined)
     return _measured(number, answer, determined)
 
@@ -133,7 +133,7 @@ def group_cz(block: bytearray, word: int, group: int, a: int, b: int) -> int:
 def group_measure(block: bytearray, word: int, group: int, pauli: "int | str", qubit: int, outcome: int) -> int:
     """A group's measurement."""
     answer, determined = library.octet(), library.octet()
-    given = (pauli_number(pauli), place(qubit), place(outcome))
+    given = (pauli_number(pauli), place(qubit), bit(outcome))
     number = library.call("group_measure", *_group(block, word, group), _used(block), *given, answer, determined)
     return _measured(number, answer, determined)
 

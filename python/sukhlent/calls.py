@@ -11,7 +11,7 @@ from pathlib import Path
 from types import ModuleType
 
 from . import by_ctypes, library
-from .arguments import PAULIS, pauli_number, place
+from .arguments import PAULIS, bit, pauli_number, place
 from .codes import CODES, code
 
 #: the module's name in the package, and the stem of its file
@@ -36,7 +36,7 @@ def _opened(path: Path) -> "ModuleType | None":
     spec.loader.exec_module(module)
     if module.VERSION != library.number():
         return None
-    module.open(os.fspath(library.PATH), CODES, PAULIS, code, pauli_number, place)
+    module.open(os.fspath(library.PATH), CODES, PAULIS, code, pauli_number, place, bit)
     return module
 
 

@@ -50,13 +50,14 @@ def code(gate: int | str) -> int:
     raise ValueError(f"no local Clifford is called {gate!r}; the names are {', '.join(NAMES)}")
 
 
-def images(number: int) -> tuple[str, str]:
-    """Where a code sends X and Z; refused by 6 where the number is none of 0 to 23.
+def images(gate: int | str) -> tuple[str, str]:
+    """Where a gate, by its name or code, sends X and Z; refused by 6 where the number is none of 0 to 23.
 
-    >>> images(8), images(6)
+    >>> images("H"), images(6)
     (('+Z', '+X'), ('-Y', '+Z'))
     """
+    number = code(gate)
     if not 0 <= number < len(NAMES):
-        raise Refusal(6)
+        raise Refusal(6, f"the code {number}, but codes are 0 to 23")
     x, z = _LETTERS[number // 4]
     return "+-"[number >> 1 & 1] + x, "+-"[number & 1] + z

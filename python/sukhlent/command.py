@@ -40,7 +40,7 @@ def parser() -> argparse.ArgumentParser:
     job = command("job", "a session as text, or a circuit (Stim, OpenQASM 2 and 3): what it answers, and the record", actions.job)
     job.add_argument("--seed", type=int, help="where a circuit's outcomes come from, else by lot")
     draw = command("draw", "the record of a state as a picture", actions.drawn)
-    draw.add_argument("--layout", default="circle", help="circle, line, or rows and columns as 2x3")
+    draw.add_argument("--layout", help="circle, line, or rows and columns as 2x3")
     _with_out(draw)
     about = "the least choice of local Cliffords that carries the first state onto the second"
     compare = command("compare", about, actions.compare, file=False)

@@ -4,8 +4,8 @@ other."""
 from __future__ import annotations
 
 import math
+from html import escape
 from typing import Any, Iterable, Sequence
-from xml.sax.saxutils import escape
 
 from .codes import SYMBOLS
 from .layouts import Layout, Place, circle, places
@@ -90,7 +90,7 @@ def _vertex(label: str, place: Place, gone: bool, square: bool) -> list[str]:
         if square
         else f'<circle cx="{x:.1f}" cy="{y:.1f}" r="13"'
     )
-    fitted = f' textLength="22" lengthAdjust="spacingAndGlyphs"' if len(label) > 3 else ""
+    fitted = f' font-size="{max(5, 36 // len(label))}"' if len(label) > 3 else ""
     return [
         f'{outline} fill="{fill}" stroke="{colour}"{dash}/>',
         f'<text x="{x:.1f}" y="{y:.1f}" dy=".35em" fill="{ink}"{fitted}>{escape(label)}</text>',

@@ -62,6 +62,7 @@ class Graphs:
         """
         from .layouts import lattice_words
 
+        rows, columns = whole(rows, "a number of rows"), whole(columns, "a number of columns")
         if not 1 <= rows * columns <= blocks.MOST or rows < 1:
             raise Refusal(2, f"{rows} x {columns} qubits, but a state has 1 to 64")
         state = cls(lattice_words(rows, columns), [0] * (rows * columns))  # type: ignore[call-arg]

@@ -6,9 +6,10 @@ from dataclasses import dataclass
 from typing import Iterable
 
 from . import library
+from .arguments import of_type, whole
 from .forms import job_fault
 from .reading import plain_text
-from .refusals import Refusal, accept
+from .refusals import Refusal
 from .running import OPS
 from .shared import Group
 from .state import State
@@ -55,7 +56,10 @@ def generate(n: int, count: int, seed: int) -> str:
     measure 2 0 5
     """
     text, length = library.blank_octets(61463), library.word()
-    accept(library.call("generate", library.place(n), library.place(count), seed, text, length))
+    number = library.call("generate", library.place(n), library.place(count), whole(seed, "a seed"), text, length)
+    if number:
+        said = {15: f"{count} steps, but a job has at most 4,096", 2: f"{n} qubits, but a state has 1 to 64", 6: "the seed 0"}
+        raise Refusal(number, said.get(number, ""))
     return bytes(text[: length.value]).decode()
 
 
@@ -107,7 +111,10 @@ def run_steps(state: State, steps: Iterable[Step]) -> list[Result]:
     >>> run_steps(state, [Step("gate", 0, 0, 8), Step("cz", 0, 0, 0)])
     [Result(refusal=0, outcome=0, determined=0), Result(refusal=8, outcome=0, determined=0)]
     """
-    numbers = [(_op_number(step.op), step.a, step.b, step.value) for step in steps]
+    given = list(steps)
+    for step in given:
+        of_type(step, Step, "run_steps(state, steps)")
+    numbers = [(_op_number(step.op), step.a, step.b, step.value) for step in given]
     return [Result(*answer) for answer in state.run(numbers)]
 
 
@@ -125,6 +132,7 @@ def run_step(state: "State | Group", step: Step) -> Result:
     >>> run_step(state, Step("cz", 0, 0, 0))
     Result(refusal=8, outcome=0, determined=0)
     """
+    of_type(step, Step, "run_step(state, step)")
     _op_number(step.op)
     unused = {"gate": step.b, "cz": step.value, "measure": step.b, "complement": step.b | step.value, "pivot": step.value}
     if unused[step.op] != 0:

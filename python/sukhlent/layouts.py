@@ -6,6 +6,8 @@ import math
 import re
 from typing import Iterable, Sequence, Union
 
+from .arguments import called
+
 #: a place in pixels, right and down
 Place = tuple[float, float]
 
@@ -65,7 +67,10 @@ def places(layout: Layout, n: int) -> "list[Place] | None":
                 f"the layout {layout} is not circle, line, or rows and columns, as 2x3 or 'grid 2 x 3', of {n} vertices"
             )
         return grid(int(found[1]), int(found[2]))
-    given = [(float(x), float(y)) for x, y in layout]
+    try:
+        given = [(float(x), float(y)) for x, y in layout]
+    except (TypeError, ValueError):
+        raise TypeError(f"a layout is circle, line, rows and columns, or a place for each vertex, not {called(layout)}") from None
     if len(given) != n:
         raise ValueError(f"a layout of {len(given)} places for {n} vertices")
     return given

@@ -271,7 +271,10 @@ def lent(name: str, given: Any) -> ctypes.Array:
         raise BufferError("Object is not writable.")
     if view.readonly:
         flat = memoryview(bytearray(flat))
-    return (kind * (view.nbytes // view.itemsize)).from_buffer(flat)
+    found = (kind * (view.nbytes // view.itemsize)).from_buffer(flat)
+    if ctypes.addressof(found) % view.itemsize:
+        raise BufferError(f"{name} does not begin at an address for numbers of 16 bits")
+    return found
 
 
 def blank_words(count: int) -> ctypes.Array:

@@ -27,14 +27,35 @@ def _clash(rows: "list[tuple[int, int]]") -> "tuple[int, int] | None":
     return None
 
 
+def _product(rows: "list[tuple[int, int]]") -> "int | None":
+    """The first row that is a product of those before it, signs dropped."""
+    basis: list[int] = []
+    for k, (z, x) in enumerate(rows):
+        word = z << 64 | x
+        for other in basis:
+            word = min(word, word ^ other)
+        if word == 0:
+            return k
+        basis.append(word)
+    return None
+
+
 def _of_text(number: int, lines: list[Line], strict: str, fault: "str | None") -> Refusal:
     """The refusal of a text of strings, by the numbers of its lines."""
     if number == 2:
         return Refusal(2, f"{len(lines)} strings, but a state has 1 to 64 qubits")
-    if number != 9:
+    if number not in (9, 10):
         return Refusal(number, fault or "" if number == 1 else "")
-    pair = _clash([row_words(line, len(lines))[1:] for line in strict.splitlines()])
-    return Refusal(9, f"lines {lines[pair[0]].number} and {lines[pair[1]].number} do not commute" if pair else "")
+    places = [line.number for line in lines]
+    return Refusal(number, _why(number, [row_words(line, len(lines))[1:] for line in strict.splitlines()], "line", places))
+
+
+def _why(number: int, rows: "list[tuple[int, int]]", noun: str, places: "list[int]") -> str:
+    """Why rows are refused by 9 or 10."""
+    pair, product = _clash(rows) if number == 9 else None, _product(rows) if number == 10 else None
+    if pair is not None:
+        return f"{noun}s {places[pair[0]]} and {places[pair[1]]} do not commute"
+    return f"{noun} {places[product]} is a product of those before it, up to its sign" if product is not None else ""
 
 
 @dataclass(frozen=True, repr=False)
@@ -103,8 +124,10 @@ class GeneratorList:
 
     def __repr__(self) -> str:
         n = self.n
-        if len(self.z) != n or len(self.x) != n or any(word >> n for word in self.z + self.x) or set(self.signs) - {0, 1}:
-            return f"GeneratorList({self.signs}, {self.z}, {self.x})"
+        words = (*self.z, *self.x)
+        sound = all(isinstance(word, int) and 0 <= word < 1 << n for word in words) and not set(self.signs) - {0, 1}
+        if len(self.z) != n or len(self.x) != n or not sound:
+            return f"GeneratorList({self.signs!r}, {self.z!r}, {self.x!r})"
         rows = zip(self.signs, self.z, self.x)
         return f"GeneratorList.from_strings({', '.join(repr('+-'[sign] + _letters(z, x, n)) for sign, z, x in rows)})"
 
@@ -137,8 +160,7 @@ class GeneratorList:
         >>> GeneratorList((0, 0), (0, 1), (1, 0)).refused(9)
         Refusal(9, 'generators 0 and 1 do not commute')
         """
-        pair = _clash(list(zip(self.z, self.x))) if number == 9 else None
-        return Refusal(9, f"generators {pair[0]} and {pair[1]} do not commute") if pair else Refusal(number)
+        return Refusal(number, _why(number, list(zip(self.z, self.x)), "generator", list(range(self.n))))
 
     def buffers(self) -> tuple[library.Argument, ...]:
         """Signs, z words and x words as lent buffers."""
@@ -150,9 +172,11 @@ class GeneratorList:
         >>> GeneratorList((0, 0), (0, 0), (3, 3)).check()
         Traceback (most recent call last):
         ...
-        sukhlent.refusals.Refusal: refused 10: the generators are dependent
+        sukhlent.refusals.Refusal: refused 10: generator 1 is a product of those before it, up to its sign
         """
-        accept(library.call("check", self.n, *self.buffers()))
+        number = library.call("check", self.n, *self.buffers())
+        if number:
+            raise self.refused(number)
 
     def product(self, *rows: int) -> tuple[int, str]:
         """The product of these rows in index order: the power of i in front of it, and its letters.

@@ -30,6 +30,8 @@ def edges_of(n: int, number: int) -> list[tuple[int, int]]:
     [(0, 3)]
     """
     pairs = [(a, b) for a in range(n) for b in range(a + 1, n)]
+    if not 0 <= number < 1 << len(pairs):
+        raise ValueError(f"a graph on {n} vertices has a number below {1 << len(pairs)}, not {number}")
     return [pair for place, pair in enumerate(pairs) if number >> place & 1]
 
 

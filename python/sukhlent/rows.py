@@ -32,7 +32,8 @@ def row_words(row: Row, n: int) -> tuple[int, int, int]:
     if _SPARSE.match(row):
         return _words(sign, [(int(part[1:]), part[0]) for part in letters.split("*")], n, row)
     if len(letters) != n or not set(letters) <= set(_NUMBERS):
-        raise Refusal(1, f"the row {row} is not a sign and {n} letters I, X, Y or Z{_stranger(letters)}")
+        named = row if row and row.isprintable() and " " not in row else repr(row)
+        raise Refusal(1, f"the row {named} is not a sign and {n} letters I, X, Y or Z{_stranger(letters)}")
     return _words(sign, list(enumerate(letters)), n, row)
 
 

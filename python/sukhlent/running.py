@@ -7,7 +7,7 @@ from array import array
 from typing import Any, Callable, Iterable, NamedTuple, Sequence
 
 from . import calls, library
-from .arguments import called
+from .arguments import called, listed
 from .refusals import Refusal
 
 #: the names of the operations of a run, in the order of their numbers
@@ -31,7 +31,7 @@ class Ran(NamedTuple):
 
 def run_tuples(block: bytearray, steps: Iterable[Sequence[int]]) -> list[tuple[int, int, int]]:
     """Steps given one by one, as four numbers each."""
-    given = [(op, a, b, value) for op, a, b, value in steps]
+    given = _steps(steps)
     columns = list(zip(*given)) if given else [()] * 4
     try:
         slices: list[Any] = [array("B", columns[0]), *(array("H", column) for column in columns[1:])]
@@ -40,6 +40,19 @@ def run_tuples(block: bytearray, steps: Iterable[Sequence[int]]) -> list[tuple[i
     answers = [bytearray(len(given)) for _ in range(3)]
     _accept(calls.run(block, *slices, *answers), slices[0])
     return list(zip(*answers))
+
+
+def _steps(steps: Iterable[Sequence[int]]) -> list[tuple[int, int, int, int]]:
+    """Steps as four numbers each; an error names the first that is none."""
+    given = listed(steps, "steps, four numbers each", "run(steps)")
+    try:
+        return [(op, a, b, value) for op, a, b, value in given]
+    except (TypeError, ValueError):
+        for k, step in enumerate(given):
+            if not hasattr(step, "__len__") or len(step) != 4:
+                why = f"run(steps): step {k} is {called(step)}, where an operation, two qubits and a value are taken"
+                raise (ValueError if hasattr(step, "__len__") else TypeError)(why) from None
+        raise
 
 
 def run_buffers(block: bytearray, ops: Any, a: Any, b: Any, value: Any) -> Ran:

@@ -7,7 +7,7 @@ from typing import Any
 
 from . import beyond, blocks
 from .drawing import record_svg
-from .layouts import Layout, places
+from .layouts import Layout, lattice_of, places
 from .pictures import draw
 
 
@@ -28,8 +28,9 @@ class Shows:
 
     @property
     def layout(self) -> Layout:
-        """How the state is drawn where a drawing is not told otherwise: None for a circle, "line", "grid 8 x 8", or a place
-        for each vertex. It stays with copies. A lattice that `graph` makes has its grid.
+        """How the state is drawn where a drawing is not told otherwise: "circle", "line", "grid 8 x 8", or a place for each
+        vertex; None is a circle, or the grid of a graph that is a lattice. It stays with copies, and a lattice that `graph`
+        makes keeps its grid.
 
         >>> from sukhlent import State
         >>> state = State.zeros(6)
@@ -63,7 +64,8 @@ class Shows:
         2
         """
         neighbours, codes, used = blocks.parts(self._block)
-        return record_svg(neighbours, codes, used, self._layout if layout is None else layout, labels=self._labels)
+        own = self._layout if self._layout is not None else lattice_of(neighbours)
+        return record_svg(neighbours, codes, used, own if layout is None else layout, labels=self._labels)
 
     def draw(self, file: "str | Path", layout: Layout = None) -> None:
         """Writes the drawing to a file: .svg, .png or .pdf. (A notebook shows a state by itself.)

@@ -7,7 +7,7 @@ from typing import Any, Iterable, Sequence
 
 from . import beyond, blocks, calls, explain, library
 from .answers import Measured
-from .arguments import called, whole
+from .arguments import called, listed, whole
 from .codes import code
 from .gates import MEASURED, Gates
 from .graphs import Graphs, neighbour_words
@@ -28,7 +28,8 @@ _PHOTONS = {"+X": 0, "-X": 2, "+Y": 4, "-Y": 6, "+Z": 8, "-Z": 10}
 
 def _judged(neighbours: Iterable[int], codes: Iterable[int], used: int) -> bytearray:
     """The block of a record; refused where it is none."""
-    words, numbers = list(neighbours), list(codes)
+    call = "State(neighbours, codes, used)"
+    words, numbers = listed(neighbours, "neighbour words", call), listed(codes, "codes", call)
     try:
         if len(words) != len(numbers) or not 1 <= len(numbers) <= blocks.MOST:
             raise struct.error
@@ -97,7 +98,10 @@ class State(Gates, Reads, Graphs, Shows):
         (0, 8, 6)
         """
         words = neighbour_words(n, edges)
-        state = cls(words, [0] * n if gates is None else [code(gate) for gate in gates])
+        given = [0] * n if gates is None else [code(gate) for gate in gates]
+        if len(given) != n:
+            raise Refusal(4, f"{len(given)} gates, but {n} qubits")
+        state = cls(words, given)
         state._layout = lattice_of(words)
         return state
 
@@ -327,9 +331,6 @@ class State(Gates, Reads, Graphs, Shows):
         return read_circuit(text).run(self, source).measurements
 
 
-def _restored(kind: type, block: bytes, layout: Layout, labels: "tuple[Any, ...] | None") -> State:
+def _restored(kind: type[State], block: bytes, layout: Layout, labels: "tuple[Any, ...] | None") -> State:
     """What a pickle holds, judged anew."""
-    state = kind.__new__(kind)
-    state.__init__(*blocks.parts(block))
-    state._layout, state._labels = layout, labels
-    return state
+    return kind._of(_judged(*blocks.parts(block)), layout, labels)

@@ -104,6 +104,15 @@ class Alike(unittest.TestCase):
             self.assertEqual(said[0], said[1])
 
 
+    def test_a_buffer_at_an_odd_address_is_refused(self):
+        odd = memoryview(bytearray(9))[1:].cast("H")
+        good = [array("B", [0] * 4), *(array("H", [0] * 4) for _ in range(3)), *(array("B", [0] * 4) for _ in range(3))]
+        for module in (calls, by_ctypes):
+            for place in (1, 2, 3):
+                with self.assertRaisesRegex(BufferError, "does not begin at an address for numbers of 16 bits"):
+                    module.run(State.zeros(2)._block, *good[:place], odd, *good[place + 1 :])
+
+
 class Blocks(unittest.TestCase):
     def test_the_extension_is_taken_where_it_can_be_built(self):
         header = Path(sysconfig.get_paths()["include"]) / "Python.h"

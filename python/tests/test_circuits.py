@@ -187,6 +187,22 @@ class Known(unittest.TestCase):
             self.assertEqual(state, other, gate)
 
 
+    def test_inverses_of_openqasm(self):
+        singles = ("h", "s", "sdg", "sx", "sxdg", "x", "rz(pi/2)", "rx(-pi/2)", "ry(pi/2)", "p(pi)", "u2(pi/2,pi)", "u1(pi/2)",
+                   "U(pi/2,pi/2,pi)", "u3(pi/2,-pi/2,0)", "made(pi/2)")  # fmt: skip
+        pairs = ("cx", "cy", "cz", "swap", "iswap", "rxx(pi/2)", "ryy(-pi/2)", "rzz(pi/2)", "two")
+        head = "OPENQASM 3; qubit[2] q; gate made(t) a { rz(t) a; h a; U(t, t, 0) a; } gate two a, b { h a; cx a, b; s b; }"
+        for start in ("h q[0]; s q[0];", "sx q[0]; h q[1]; cz q[0], q[1];", ""):
+            due = State.zeros(2)
+            due.run_circuit(head + start)
+            for gates, target in ((singles, "q[0]"), (pairs, "q[0], q[1]")):
+                for gate in gates:
+                    for text in (f"{gate} {target}; inv @ {gate} {target};", f"inv @ {gate} {target}; inv @ inv @ {gate} {target};"):
+                        state = State.zeros(2)
+                        state.run_circuit(head + start + text)
+                        self.assertEqual(state, due, (gate, start))
+
+
 class Refused(unittest.TestCase):
     def test_what_is_refused_is_named_with_its_place(self):
         for text, said in (

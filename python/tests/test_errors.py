@@ -4,7 +4,7 @@ import random
 import unittest
 from array import array
 
-from sukhlent import Refusal, Shared, State, Store, orbit, run_many
+from sukhlent import Refusal, Shared, State, Store, edges_of, generate, images, orbit, run_many, run_step, run_steps
 
 GRAPH = State.graph(3, [(0, 1), (1, 2)])
 
@@ -46,6 +46,12 @@ class Errors(unittest.TestCase):
             (lambda: State.from_strings("+XX", "+ZI"), 9, "ANTICOMMUTE", "lines 1 and 2 do not commute"),
             (lambda: State.from_strings("\u2212X"), 1, "FORM", "line 1, column 1: '\u2212' (U+2212), where a sign (+ or -) or a letter I, X, Y, Z or _ was expected"),
             (lambda: State.from_strings("+X\ufeff"), 1, "FORM", "line 1, column 3: U+FEFF, a byte order mark, where a letter I, X, Y, Z or _ was expected"),
+            (lambda: State.from_strings("XX", "-XX"), 10, "DEPENDENT", "line 2 is a product of those before it, up to its sign"),
+            (lambda: State.graph(3, [], ["H"]), 4, "LENGTH", "1 gates, but 3 qubits"),
+            (lambda: images(24), 6, "VALUE", "the code 24, but codes are 0 to 23"),
+            (lambda: generate(3, 5, 0), 6, "VALUE", "the seed 0"),
+            (lambda: generate(3, 5000, 1), 15, "STEPS", "5000 steps, but a job has at most 4,096"),
+            (lambda: GRAPH.expectation(""), 1, "FORM", "the row '' is not a sign and 3 letters I, X, Y or Z"),
             (lambda: Store().return_to("x"), 17, "NOT_HELD", "nothing is held under 'x'; held: nothing"),
             (lambda: lower.h(40), 19, "OTHER_GROUP", "qubit 40 belongs to group 1, and this is group 0"),
             (lambda: lower.h(64), 8, "QUBIT", "qubit 64, but the state has qubits 0 to 63"),
@@ -68,21 +74,29 @@ class Errors(unittest.TestCase):
             (lambda: GRAPH.gate("H", 0), "gate(qubit, gate): expected a qubit number, not the text 'H'"),
             (lambda: GRAPH.measure(0, "Z"), "measure(pauli, qubit, outcome): expected a qubit number, not the text 'Z'"),
             (lambda: GRAPH.cut("01"), "cut(qubits): expected qubit numbers, as [0, 1], not the text '01'"),
-            (lambda: GRAPH.cut(3), "cut(qubits): expected qubit numbers, as [0, 1], not 3, a int"),
-            (lambda: GRAPH.cut([0.5]), "cut(qubits): expected a qubit number, not 0.5, a float"),
+            (lambda: GRAPH.cut(3), "cut(qubits): expected qubit numbers, as [0, 1], not 3 (int)"),
+            (lambda: GRAPH.cut([0.5]), "cut(qubits): expected a qubit number, not 0.5 (float)"),
             (lambda: GRAPH.compare("x"), "compare(other): expected a State, not the text 'x'"),
             (lambda: GRAPH.equivalent(None), "equivalent(other): expected a State, not None"),
-            (lambda: GRAPH.cz(0, 1.0), "cz(a, b): expected a qubit number, not 1.0, a float"),
+            (lambda: GRAPH.cz(0, 1.0), "cz(a, b): expected a qubit number, not 1.0 (float)"),
             (lambda: GRAPH.cx("0", 1), "cx(control, target): expected a qubit number, not the text '0'"),
             (lambda: GRAPH.complement(None), "complement(vertex): expected a qubit number, not None"),
+            (lambda: GRAPH.measure("X", 0, "1"), "measure(pauli, qubit, outcome): expected an outcome, 0 or 1, not the text '1'"),
+            (lambda: State(3, 3), "State(neighbours, codes, used): expected a list of neighbour words, not 3 (int)"),
+            (lambda: GRAPH.run(3), "run(steps): expected a list of steps, four numbers each, not 3 (int)"),
+            (lambda: GRAPH.run([1]), "run(steps): step 0 is 1 (int), where an operation, two qubits and a value are taken"),
+            (lambda: GRAPH.svg(5), "a layout is circle, line, rows and columns, or a place for each vertex, not 5 (int)"),
+            (lambda: State.lattice("a", 3), "expected a number of rows, not the text 'a'"),
+            (lambda: run_step(GRAPH, "h 0"), "run_step(state, step): expected a Step, not the text 'h 0'"),
+            (lambda: run_steps(GRAPH, [(0, 0, 0, 8)]), "run_steps(state, steps): expected a Step, not (0, 0, 0, 8) (tuple)"),
             (lambda: GRAPH.measure("X", 0, source="lot"), "source: expected a seed, random.Random or numpy's Generator, not the text 'lot'"),
-            (lambda: GRAPH.expectation(3), "expected a row such as '+XZI', not 3, a int"),
-            (lambda: State.graph(3, [0, 1]), "expected an edge as two qubit numbers, as (0, 1), not 0, a int"),
+            (lambda: GRAPH.expectation(3), "expected a row such as '+XZI', not 3 (int)"),
+            (lambda: State.graph(3, [0, 1]), "expected an edge as two qubit numbers, as (0, 1), not 0 (int)"),
             (lambda: State.graph(3, ["01"]), "expected an edge as two qubit numbers, as (0, 1), not the text '01'"),
             (lambda: State.zeros("3"), "expected a number of qubits, not the text '3'"),
-            (lambda: Store().save("x", 3), "save(name, state): expected a State, not 3, a int"),
-            (lambda: Store().save(3, GRAPH), "expected a name as text or bytes, not 3, a int"),
-            (lambda: GRAPH.run(array("B", [0]), [0], [0], [0]), "run(ops, a, b, value): a is [0], a list, and no buffer of numbers"),
+            (lambda: Store().save("x", 3), "save(name, state): expected a State, not 3 (int)"),
+            (lambda: Store().save(3, GRAPH), "expected a name as text or bytes, not 3 (int)"),
+            (lambda: GRAPH.run(array("B", [0]), [0], [0], [0]), "run(ops, a, b, value): a is [0] (list), and no buffer of numbers"),
             (lambda: run_many([GRAPH], array("l", [0]), *[array("H", [0])] * 3), "ops holds items of the format 'l', where numbers of 8 bits without a sign are taken: 'B' (array('B'), numpy.uint8)"),
         ):
             with self.assertRaises(TypeError) as wrong:
@@ -92,6 +106,8 @@ class Errors(unittest.TestCase):
     def test_other_wrong_values(self):
         for call, said in (
             (lambda: GRAPH.gate(0, "T"), "no local Clifford is called 'T'; the names are I, X, "),
+            (lambda: GRAPH.run([(1, 2, 3)]), r"run\(steps\): step 0 is \(1, 2, 3\) \(tuple\), where an operation"),
+            (lambda: edges_of(3, 99), "a graph on 3 vertices has a number below 8, not 99"),
             (lambda: GRAPH.permute([0, 1]), r"permute\(order\): an order names each of qubits 0 to 2 once, not \[0, 1\]"),
             (lambda: setattr(GRAPH, "layout", "2x2"), "the layout 2x2 is not circle, line, or rows and columns"),
             (lambda: GRAPH.renew(0, "+Q"), r"renew\(qubit, photon\): a photon is \+X, -X, "),

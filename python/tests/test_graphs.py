@@ -97,6 +97,13 @@ class Graphs(unittest.TestCase):
         self.assertEqual(State.lattice(3, 4).layout, "grid 3 x 4")
         self.assertEqual(State.graph(12, State.lattice(3, 4).edges()).layout, "grid 3 x 4")
         self.assertIsNone(State.graph(12, State.lattice(3, 4).edges()[:-1]).layout)
+        read = State.from_strings(State.lattice(3, 4).generators().strings())
+        self.assertEqual((read.layout, read.svg()), (None, State.lattice(3, 4).svg()))
+        read.layout = "circle"
+        self.assertNotEqual(read.svg(), State.lattice(3, 4).svg())
+        measured = State.lattice(3, 4)
+        measured.measure("X", 5, 1)
+        self.assertEqual((measured.layout, measured.copy().layout, measured.reduced().layout), ("grid 3 x 4",) * 3)
         self.assertEqual(State.lattice(1, 5).edges(), [(q, q + 1) for q in range(4)])
         for rows, columns in ((0, 3), (8, 9), (-1, -2)):
             with self.assertRaises(Refusal):

@@ -1,6 +1,7 @@
 """`pip install .` into a fresh virtual environment, with no network: the package, its library, its programs and its command
 run there, and so do the examples. Also a wheel, an editable install, and a build without a compiler."""
 
+import importlib.util
 import os
 import re
 import shutil
@@ -34,6 +35,8 @@ class Pip(unittest.TestCase):
         cls.folder = tempfile.TemporaryDirectory()
         cls.addClassCleanup(cls.folder.cleanup)
         cls.venv = Path(cls.folder.name) / "venv"
+        if importlib.util.find_spec("ensurepip") is None:
+            raise AssertionError("python3 makes no virtual environment with pip here: install Debian's python3-venv")
         run(sys.executable, "-m", "venv", cls.venv)
         cls.python = cls.venv / "bin" / "python"
         run(cls.python, "-m", "pip", "install", "--no-build-isolation", ROOT)

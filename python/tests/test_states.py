@@ -197,7 +197,7 @@ class States(unittest.TestCase):
             (["+XX", "+Z\nZ"], 1, "line 2, column 3: a newline, where each string is one line"),
             (["+XX", "", "+ZI"], 9, "lines 1 and 3 do not commute"),
             (["+"], 1, "line 1 has 0 letters: expected 1, as many as lines"),
-            (["+XX", "-XX"], 10, ""),
+            (["+XX", "-XX"], 10, "line 2 is a product of those before it, up to its sign"),
         ):
             for make in (GeneratorList.from_text, GeneratorList.from_strings, State.from_strings):
                 with self.assertRaises(Refusal) as refused:
