@@ -1,5 +1,6 @@
 -- Many steps in one call: the record that it leaves stands for the group after the steps, and the answers say what the
 -- definitions say of the group that each step meets.
+use mathlib.Core.Bool.{false}
 use mathlib.Core.List.{List, map}
 use mathlib.Core.Path.{_∙_, _≡_, ap, refl, subst, sym}
 use Prim.Native.Nat.{_<_, ℕ}
