@@ -42,6 +42,10 @@ def pauli_number(pauli: str | int) -> int:
     return _PAULIS.get(pauli.upper(), 0) if isinstance(pauli, str) else pauli
 
 
+#: the states of a new photon, by name: their codes
+PHOTONS: dict[str, int] = {"+X": 0, "-X": 2, "+Y": 4, "-Y": 6, "+Z": 8, "-Z": 10}
+
+
 def measured_by_lot(measure: Callable[[int], Measured], source: random.Random | None = None) -> Measured:
     """Measures with a fair bit, and with the other where the state forbids it.
 
@@ -379,17 +383,36 @@ class State:
         >>> State.from_strings("+X").measure("Z", 0, source=random.Random(5))
         Measured(outcome=1, determined=False)
         """
-        if outcome is None:
-            return measured_by_lot(lambda bit: self.measure(pauli, qubit, bit), source)
+        name, bit = ("measure", outcome) if outcome is not None else ("observe", (source or random).getrandbits(1))
         used, answer, determined = library.word(self._used), library.octet(), library.octet()
         accept(
             library.call(
-                "measure", self.n, self._neighbours, self._codes, used,
-                pauli_number(pauli), library.place(qubit), outcome, answer, determined,
+                name, self.n, self._neighbours, self._codes, used,
+                pauli_number(pauli), library.place(qubit), bit, answer, determined,
             )
         )  # fmt: skip
         self._used = used.value
         return Measured(answer.value, bool(determined.value))
+
+    def renew(self, qubit: int, photon: str | int = "+X") -> None:
+        """Puts a new photon at a used qubit, in the state +X, -X, +Y, -Y, +Z or -Z, by name or by code. One that is not used is
+        refused by 20.
+
+        >>> state = State.zeros(2)
+        >>> state.measure("Z", 0)
+        Measured(outcome=0, determined=True)
+        >>> state.renew(0, "-Y")
+        >>> state.codes, state.used
+        ((6, 8), 0)
+        >>> state.renew(0, "+Z")
+        Traceback (most recent call last):
+        ...
+        sukhlent.refusals.Refusal: refused 20: the qubit to renew is not used
+        """
+        code = PHOTONS[photon] if isinstance(photon, str) else photon
+        used = library.word(self._used)
+        accept(library.call("renew", self.n, self._neighbours, self._codes, used, library.place(qubit), code))
+        self._used = used.value
 
     def complement(self, vertex: int) -> None:
         """Complements the graph at a vertex and rewrites the codes: the same state, not reduced.

@@ -21,6 +21,7 @@ pub mod LinesExactly
 pub mod ListDemandHolds
 pub mod MeasurementsFollow
 pub mod NamedSessions
+pub mod ObservationsHold
 pub mod OrbitDemandHolds
 pub mod PartsDemandHolds
 pub mod PartsReached
@@ -31,6 +32,7 @@ pub mod ProgramDemandHolds
 pub mod ReachedStates
 pub mod RecordPairsHold
 pub mod RecordsHold
+pub mod RenewalsHold
 pub mod RewritingsKeep
 pub mod RunDemandHolds
 pub mod RunFitting

@@ -158,7 +158,7 @@ impl Session {
 }
 
 /// +Z at each of n qubits, none of them used.
-fn start(n: usize) -> Record {
+pub(crate) fn start(n: usize) -> Record {
     Record {
         neighbours: vec![0; n],
         codes: vec![8; n],
@@ -167,7 +167,7 @@ fn start(n: usize) -> Record {
 }
 
 /// The generators of a tableau.
-fn of_tableau(tableau: &Tableau) -> GeneratorList {
+pub(crate) fn of_tableau(tableau: &Tableau) -> GeneratorList {
     let rows = tableau.generators();
     GeneratorList {
         signs: rows.iter().map(|row| row.sign()).collect(),
@@ -177,7 +177,7 @@ fn of_tableau(tableau: &Tableau) -> GeneratorList {
 }
 
 /// The reduced record of a list, by plain Rust.
-fn reduced(list: &GeneratorList) -> Record {
+pub(crate) fn reduced(list: &GeneratorList) -> Record {
     let mut record = start(list.n());
     let number = plain::reduce(
         list.n() as u64,

@@ -24,7 +24,7 @@ type Measured = (&'static str, usize, fn(&mut Random, usize) -> usize);
 const LOWER: raw::Whose = (!0 << 32, 0);
 
 /// Every public call. All arguments are accepted, so that every step is taken.
-const CALLS: [Measured; 31] = [
+const CALLS: [Measured; 33] = [
     ("check", 64, |random, n| {
         let given = list(&random_rows(random, n));
         depth(|| raw::check(n as u64, &given.signs, &given.z, &given.x))
@@ -55,6 +55,17 @@ const CALLS: [Measured; 31] = [
         let (mut answer, mut determined) = (0, 0);
         in_place(random, n, |n, words, codes, used| {
             raw::measure(n, words, codes, used, 3, 0, 1, &mut answer, &mut determined)
+        })
+    }),
+    ("observe", 64, |random, n| {
+        let (mut answer, mut determined) = (0, 0);
+        in_place(random, n, |n, words, codes, used| {
+            raw::observe(n, words, codes, used, 3, 0, 1, &mut answer, &mut determined)
+        })
+    }),
+    ("renew", 64, |random, n| {
+        in_place(random, n, |n, words, codes, used| {
+            raw::renew(n, words, codes, used, 63, 0)
         })
     }),
     ("complement", 64, |random, n| {
