@@ -13,17 +13,17 @@
  *                  gives the letters to which X and Z go: 0 (X,Z), 1 (Y,Z), 2 (Z,X), 3 (X,Y),
  *                  4 (Y,X), 5 (Z,Y); sx or sz is 1 if that image is negative
  *   used           bit q is 1 where qubit q is used: an accepted measurement sets it, and no call
- *                  in place may name the qubit from then on. A used vertex has no neighbour, and
- *                  its code is 0, 2, 4, 6, 8 or 10
+ *                  in place but renew, which takes it away, may name the qubit from then on. A used
+ *                  vertex has no neighbour, and its code is 0, 2, 4, 6, 8 or 10
  * Its generator j is +X at j and Z at the neighbours of j, each place then sent through its code;
  * the word of used qubits is checked and plays no part in it. With the word 0 no qubit is used.
  *
  * Every buffer passes as a pointer and its length in elements, and has n places where its call
  * does not say otherwise. A buffer that is not const must overlap no other; const buffers may be
- * the same one. The calls on a record in place (gate, cz, measure, complement, run) read
- * `neighbours` and `codes` and write the new record there; measure and run read and write *used
- * too, and the others leave the word as it is. A group's calls do so too, and its return writes
- * the record and *used. A store is read, and written by save and forget. All other buffers that are
+ * the same one. The calls on a record in place (gate, cz, measure, observe, renew, complement, run)
+ * read `neighbours` and `codes` and write the new record there; measure, observe, renew and run read
+ * and write *used too, and the others leave the word as it is. A group's calls do so too, and its
+ * return writes the record and *used. A store is read, and written by save and forget. All other buffers that are
  * not const are lent for the answer: what they hold before the call does not matter.
  *
  * Every call answers 0 where it accepts, or the first number of this list whose line is true; the
@@ -34,8 +34,9 @@
  *       group's call, or a state that it holds, has another n than 64
  *    4  a buffer's length is not what is required
  *    5  a word has a bit at or above n
- *    6  a sign, outcome or group is above 1, a code above 23, a Pauli not 1 to 3, a seed 0, a run's
- *       operation above 4, or a field that a step does not use is not 0
+ *    6  a sign, outcome or group is above 1, a code above 23, or not a photon's where a qubit is
+ *       renewed, a Pauli not 1 to 3, a seed 0, a run's operation above 4, or a field that a step does
+ *       not use is not 0
  *    7  a graph is not simple, or a used vertex has a neighbour or a code other than 0, 2, 4, 6, 8
  *       and 10, or a store holds a name twice, or a group's held state has a neighbour outside it
  *   19  a group's call names a qubit of the other group, or the record has an edge between the
@@ -43,6 +44,7 @@
  *    8  a qubit number is n or more, or CZ names one qubit twice; in a job or a run also: a pivot
  *       names one qubit twice, or its pair has no edge
  *   16  the call names a used qubit
+ *   20  the qubit to renew is not used
  *   17  a name to return to or forget is not held
  *   18  a save finds eight other names held, or a group's save four
  *    9  two generators do not commute
@@ -81,6 +83,7 @@ typedef uint64_t sukhlent_length;
 #define SUKHLENT_OTHER_GROUP 19
 #define SUKHLENT_QUBIT 8
 #define SUKHLENT_USED 16
+#define SUKHLENT_NOT_USED 20
 #define SUKHLENT_NOT_HELD 17
 #define SUKHLENT_FULL 18
 #define SUKHLENT_ANTICOMMUTE 9
@@ -91,10 +94,18 @@ typedef uint64_t sukhlent_length;
 #define SUKHLENT_IMAGE_Y 12
 #define SUKHLENT_INEQUIVALENT 13
 
-/* Paulis for sukhlent_measure. */
+/* Paulis for sukhlent_measure and sukhlent_observe. */
 #define SUKHLENT_PAULI_X 1
 #define SUKHLENT_PAULI_Y 2
 #define SUKHLENT_PAULI_Z 3
+
+/* States of a photon for sukhlent_renew: +X, -X, +Y, -Y, +Z and -Z. */
+#define SUKHLENT_PHOTON_PLUS_X 0
+#define SUKHLENT_PHOTON_MINUS_X 2
+#define SUKHLENT_PHOTON_PLUS_Y 4
+#define SUKHLENT_PHOTON_MINUS_Y 6
+#define SUKHLENT_PHOTON_PLUS_Z 8
+#define SUKHLENT_PHOTON_MINUS_Z 10
 
 /* Operations for sukhlent_run. */
 #define SUKHLENT_OP_GATE 0
@@ -136,11 +147,14 @@ typedef uint64_t sukhlent_length;
  *
  * A session starts with every qubit in +Z: no neighbours, every code SUKHLENT_GATE_H, used 0.
  * CNOT is H, CZ, H: SUKHLENT_GATE_H at the target, sukhlent_cz, SUKHLENT_GATE_H at the target.
- * A random outcome: ask sukhlent_measure with one fair bit; where that is refused by
- *   SUKHLENT_CONTRADICTED the state determines the outcome, and the other bit is it.
+ * A random outcome: ask sukhlent_observe with one fair bit, which is the outcome where the state
+ *   does not determine it.
+ * A source that goes on: a measured photon's place is used; sukhlent_renew puts a new photon there,
+ *   in one of six states (examples/c/source.c).
  * Equal states: two reduced records have equal neighbours and codes exactly if their states are
- *   equal. What gate, cz, measure and reduce leave is reduced; any other record is reduced by
- *   sukhlent_expand and sukhlent_reduce.
+ *   equal. What gate, cz, measure, observe and reduce leave is reduced, and
+ *   what renew leaves of a reduced one; any other record is reduced by sukhlent_expand and
+ *   sukhlent_reduce.
  * Many steps: sukhlent_run does up to 4,096 in one call and checks the record once
  *   (examples/c/run.c).
  * Pointers: none is null, also where a length is 0, and each is aligned for its type.
@@ -172,11 +186,12 @@ static inline const char *sukhlent_refusal_text(uint8_t number)
     case SUKHLENT_COUNT: return "n is 0 or above the call's limit, or the two lists' or records' n differ, or a group's call, or a state that it holds, has another n than 64";
     case SUKHLENT_LENGTH: return "a buffer's length is not what is required";
     case SUKHLENT_STRAY: return "a word has a bit at or above n";
-    case SUKHLENT_VALUE: return "a sign, outcome or group is above 1, a code above 23, a Pauli not 1 to 3, a seed 0, a run's operation above 4, or a field that a step does not use is not 0";
+    case SUKHLENT_VALUE: return "a sign, outcome or group is above 1, a code above 23 or no photon's, a Pauli not 1 to 3, a seed 0, a run's operation above 4, or a field that a step does not use is not 0";
     case SUKHLENT_GRAPH: return "a graph is not simple, or a used vertex has a neighbour or a code that no measurement leaves, or a store holds a name twice, or a group's held state has a neighbour outside it";
     case SUKHLENT_OTHER_GROUP: return "a group's call names a qubit of the other group, or the record has an edge between the groups";
     case SUKHLENT_QUBIT: return "a qubit number is n or more, or a qubit is named twice, or a pivot's pair has no edge";
     case SUKHLENT_USED: return "the call names a used qubit";
+    case SUKHLENT_NOT_USED: return "the qubit to renew is not used";
     case SUKHLENT_NOT_HELD: return "a name to return to or forget is not held";
     case SUKHLENT_FULL: return "a save finds eight other names held, or a group's save four";
     case SUKHLENT_ANTICOMMUTE: return "two generators do not commute";
@@ -254,6 +269,28 @@ uint8_t sukhlent_measure(uint64_t n,
                          uint64_t *used,
                          uint8_t pauli, uint64_t qubit, uint8_t outcome,
                          uint8_t *answer, uint8_t *determined);
+
+/* Measures a Pauli (1 X, 2 Y, 3 Z) at a qubit with a bit by lot: as sukhlent_measure, but where the
+ * Pauli or its negative is in the group the bit plays no part, and *answer is the sign. So no
+ * outcome is refused, and where sukhlent_measure accepts the same bit both answer and leave the same.
+ * Refusals: 2, 4, 5, 6 (also where `pauli` is not 1 to 3 or `bit` is above 1), 7, 8 (`qubit` is n or
+ * more), 16. */
+uint8_t sukhlent_observe(uint64_t n,
+                         uint64_t *neighbours, sukhlent_length neighbours_len,
+                         uint8_t *codes, sukhlent_length codes_len,
+                         uint64_t *used,
+                         uint8_t pauli, uint64_t qubit, uint8_t bit,
+                         uint8_t *answer, uint8_t *determined);
+
+/* Puts a new photon at a used qubit: the code at the qubit becomes `code`, one of 0, 2, 4, 6, 8 and 10
+ * for the state +X, -X, +Y, -Y, +Z and -Z, its bit of *used becomes 0, and all else stays. A reduced
+ * record stays reduced.
+ * Refusals: 2, 4, 5, 6 (also where `code` is none of the six), 7, 8 (`qubit` is n or more), 20. */
+uint8_t sukhlent_renew(uint64_t n,
+                       uint64_t *neighbours, sukhlent_length neighbours_len,
+                       uint8_t *codes, sukhlent_length codes_len,
+                       uint64_t *used,
+                       uint64_t qubit, uint8_t code);
 
 /* Complements at a vertex: flips every edge between two neighbours of `a`, and rewrites the codes
  * so that the group stays. The record is not reduced.

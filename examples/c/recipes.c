@@ -42,16 +42,12 @@ static uint8_t cnot(struct state *state, uint64_t control, uint64_t target)
     return refusal;
 }
 
-/* Measures Z with a bit from a coin; where the state forbids it, with the other. */
+/* Measures Z with a bit from a coin, which is the outcome where the state does not determine it. */
 static uint8_t measure(struct state *state, uint64_t qubit, uint8_t coin, uint8_t *outcome,
                        uint8_t *determined)
 {
-    uint8_t refusal = sukhlent_measure(N, state->neighbours, N, state->codes, N, &state->used,
-                                       SUKHLENT_PAULI_Z, qubit, coin, outcome, determined);
-    if (refusal != SUKHLENT_CONTRADICTED)
-        return refusal;
-    return sukhlent_measure(N, state->neighbours, N, state->codes, N, &state->used,
-                            SUKHLENT_PAULI_Z, qubit, 1 - coin, outcome, determined);
+    return sukhlent_observe(N, state->neighbours, N, state->codes, N, &state->used,
+                            SUKHLENT_PAULI_Z, qubit, coin, outcome, determined);
 }
 
 /* Whether two reduced records are those of one state. */

@@ -10,13 +10,14 @@ TEXTS: dict[int, str] = {
     " has another n than 64",
     4: "a buffer's length is not what is required",
     5: "a word has a bit at or above n",
-    6: "a sign, outcome or group is above 1, a code above 23, a Pauli not 1 to 3, a seed 0, a run's operation above 4,"
+    6: "a sign, outcome or group is above 1, a code above 23 or no photon's, a Pauli not 1 to 3, a seed 0, a run's operation above 4,"
     " or a field that a step does not use is not 0",
     7: "a graph is not simple, or a used vertex has a neighbour or a code that no measurement leaves, or a store holds a name twice,"
     " or a group's held state has a neighbour outside it",
     19: "a group's call names a qubit of the other group, or the record has an edge between the groups",
     8: "a qubit number is n or more, or a qubit is named twice, or a pivot's pair has no edge",
     16: "the call names a used qubit",
+    20: "the qubit to renew is not used",
     17: "a name to return to or forget is not held",
     18: "a save finds eight other names held, or a group's save four",
     9: "two generators do not commute",
@@ -31,8 +32,8 @@ TEXTS: dict[int, str] = {
 #: number: its name, which is that of the header without SUKHLENT_
 _NAMES: dict[int, str] = {
     1: "FORM", 15: "STEPS", 2: "COUNT", 4: "LENGTH", 5: "STRAY", 6: "VALUE", 7: "GRAPH", 19: "OTHER_GROUP",
-    8: "QUBIT", 16: "USED", 17: "NOT_HELD", 18: "FULL", 9: "ANTICOMMUTE", 10: "DEPENDENT", 3: "LARGE",
-    14: "CONTRADICTED", 11: "IMAGE_C", 12: "IMAGE_Y", 13: "INEQUIVALENT", 20: "NOT_USED",
+    8: "QUBIT", 16: "USED", 20: "NOT_USED", 17: "NOT_HELD", 18: "FULL", 9: "ANTICOMMUTE", 10: "DEPENDENT", 3: "LARGE",
+    14: "CONTRADICTED", 11: "IMAGE_C", 12: "IMAGE_Y", 13: "INEQUIVALENT",
 }  # fmt: skip
 
 

@@ -58,6 +58,27 @@ fn known_number(
     used_number(n, neighbours, codes, used, 0, false, looked, over, six)
 }
 
+// The same, where the codes have not been looked at.
+pub fn known_refusal(
+    n: u64,
+    neighbours: &[u64],
+    codes: &[u8],
+    used: u64,
+    six: bool,
+    known: bool,
+) -> u8
+    requires { ⌜ Known known (record {
+      held = record { n = n; neighbours = now neighbours; codes = now codes };
+      used = used;
+    }) ⌝ }
+    ensures { λ r. ⌜ r ≡ firstFitting (usedLines (record {
+      held = record { n = n; neighbours = now (neighbours .entry); codes = now (codes .entry) };
+      used = used;
+    }) false false six) ⌝ }
+{
+    known_number(n, neighbours, codes, used, false, false, six, known)
+}
+
 // The number of the first line of a record that holds, then 8 where `eight` does, then 16 where `sixteen` does;
 // `looked`: `over` says whether a code is 24 or more; `six`: line 6 holds of a further argument; `known`: no line of the
 // record alone holds.

@@ -12,7 +12,32 @@ ghost use Rattle.buffers.specs.Refusals.{firstFitting};
 ghost use Rattle.calls.specs.InPlace.{usedMeasureCall};
 ghost use Rattle.call_gates.specs.internal.Knowing.{Known};
 ghost use Rattle.operations.specs.Steps.{measurementOf};
-ghost use Rattle.operations.specs.Used.{usedLinesOf};
+ghost use Rattle.operations.specs.Used.{usedArgumentsOf, usedLinesOf};
+
+// The number of the first line of a measurement's arguments that holds.
+pub fn argument_refusal(
+    n: u64,
+    neighbours: &[u64],
+    codes: &[u8],
+    used: u64,
+    pauli: u8,
+    qubit: u64,
+    outcome: u8,
+    known: bool,
+) -> u8
+    requires { ⌜ Known known (record {
+      held = record { n = n; neighbours = now neighbours; codes = now codes };
+      used = used;
+    }) ⌝ }
+    ensures { λ r. ⌜ r ≡ firstFitting (usedArgumentsOf (record {
+      held = record { n = n; neighbours = now (neighbours .entry); codes = now (codes .entry) };
+      used = used;
+    }) (measurementOf pauli qubit outcome)) ⌝ }
+{
+    let six = (2 <= outcome) | ((pauli == 0) | (4 <= pauli));
+    let sixteen = bit_at(used, qubit);
+    in_place_refusal(n, neighbours, codes, used, six, n <= qubit, sixteen, known)
+}
 
 // The number of the first line of a measurement that holds: those of its arguments, and 14 where a determined outcome
 // contradicts the supplied bit.
@@ -35,9 +60,7 @@ fn measure_refusal(
       used = used;
     }) (measurementOf pauli qubit outcome)) ⌝ }
 {
-    let six = (2 <= outcome) | ((pauli == 0) | (4 <= pauli));
-    let sixteen = bit_at(used, qubit);
-    let early = in_place_refusal(n, neighbours, codes, used, six, n <= qubit, sixteen, known);
+    let early = argument_refusal(n, neighbours, codes, used, pauli, qubit, outcome, known);
     if early != 0 {
         return early;
     }

@@ -14,3 +14,4 @@ pub mod ListedNumbers
 pub mod PlotLines
 pub mod RunLines
 pub mod ImageLeft
+pub mod SourceCalls

@@ -3,6 +3,7 @@ pub mod Products
 pub mod Strings
 pub mod Expansions
 pub mod InPlace
+pub mod Sources
 pub mod Images
 pub mod Cuts
 pub mod Amplitudes

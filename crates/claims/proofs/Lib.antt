@@ -23,6 +23,7 @@ pub mod ListDemandHolds
 pub mod MeasurementsFollow
 pub mod NamedSessions
 pub mod NumbersHold
+pub mod ObservationsHold
 pub mod OrbitDemandHolds
 pub mod PartsDemandHolds
 pub mod PartsReached
@@ -34,6 +35,7 @@ pub mod ProgramDemandHolds
 pub mod ReachedStates
 pub mod RecordPairsHold
 pub mod RecordsHold
+pub mod RenewalsHold
 pub mod RewritingsKeep
 pub mod RunDemandHolds
 pub mod RunFitting

@@ -29,7 +29,7 @@ use Rattle.claims.specs.families.Records.{ComplementFits, CzFits, GateFi
 use Rattle.claims.specs.PivotSteps.{PivotFits}
 
 -- one of the six codes
-six-codes : (c i : ℕ) → i < 6 → c ≡ 2 * i → usedCode c ≡ true
+pub six-codes : (c i : ℕ) → i < 6 → c ≡ 2 * i → usedCode c ≡ true
 six-codes c i h e = ap usedCode e ∙ go i h
   where
     go : (i : ℕ) → i < 6 → usedCode (2 * i) ≡ true
@@ -43,7 +43,7 @@ six-codes c i h e = ap usedCode e ∙ go i h
 
 module _ (u : UsedRecord) where
   -- the two tests of the used word
-  record-of : AcceptedRecord (u .held) → usedStray u ≡ false → usedWrong u ≡ false → IsRecord u
+  pub record-of : AcceptedRecord (u .held) → usedStray u ≡ false → usedWrong u ≡ false → IsRecord u
   record-of A s w =
       record {
         held = A;

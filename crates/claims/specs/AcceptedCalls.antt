@@ -1,6 +1,6 @@
 -- Which calls are accepted, in the documents' words: the number of each exported function is 0 exactly if its arguments
 -- fit. Of sukhlent_run claims/specs/RunDemand says it, of sukhlent_compare_records
--- claims/specs/RecordPairs.
+-- claims/specs/RecordPairs, of sukhlent_observe and sukhlent_renew claims/specs/Sources.
 use Rattle.claims.specs.families.Amplitudes.{AmplitudesAccepted}
 use Rattle.claims.specs.families.Comparisons.{ComparisonsAccepted}
 use Rattle.claims.specs.families.Expectations.{ExpectationsAccepted}

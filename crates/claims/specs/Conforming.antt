@@ -12,9 +12,9 @@ use Rattle.buffers.specs.Calls.{buffer, Call, Contract, EachOf, Lent, number}
 
 -- "the published list": the numbers in checking order; a call tests some of them, in that order. 14 is "checked after
 -- 10" (02, §4), and so is 3 (02, §9), 15 "directly after 1 and so before 2" (02, §5), 16 "directly after 8" (02, §8);
--- 17 and 18 are "both checked after 8" (02, §12), 19 "directly before 8" (02, §13)
+-- 17 and 18 are "both checked after 8" (02, §12), 19 "directly before 8" (02, §13), 20 directly after 16
 abbrev pub published : List ℕ
-published = 1 ∷ 15 ∷ 2 ∷ 4 ∷ 5 ∷ 6 ∷ 7 ∷ 19 ∷ 8 ∷ 16 ∷ 17 ∷ 18 ∷ 9 ∷ 10 ∷ 3 ∷ 14 ∷ 11 ∷ 12 ∷ 13 ∷ []
+published = 1 ∷ 15 ∷ 2 ∷ 4 ∷ 5 ∷ 6 ∷ 7 ∷ 19 ∷ 8 ∷ 16 ∷ 20 ∷ 17 ∷ 18 ∷ 9 ∷ 10 ∷ 3 ∷ 14 ∷ 11 ∷ 12 ∷ 13 ∷ []
 
 -- whether the numbers stand in the order of a list, some of its numbers left out
 abbrev pub isSubsequence : List ℕ → List ℕ → Bool

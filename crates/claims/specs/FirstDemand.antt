@@ -1,7 +1,8 @@
 -- Demand 1, of every public call: "A call that is accepted, on any words, codes, signs and qubit numbers, ends with a
 -- complete answer .. A call that is refused .. returns the first fitting number of the published list and changes no
 -- lent byte". That a call ends, and touches no other byte, is what a contract of the language means. Of sukhlent_run
--- claims/specs/RunDemand says it, of sukhlent_compare_records claims/specs/RecordPairs.
+-- claims/specs/RunDemand says it, of sukhlent_compare_records claims/specs/RecordPairs, of
+-- sukhlent_observe and sukhlent_renew claims/specs/Sources.
 use Rattle.buffers.specs.Answers.{EveryCallAnswers}
 use Rattle.claims.specs.families.Amplitudes.{AmplitudesConform}
 use Rattle.claims.specs.families.Comparisons.{ComparisonBuffersUnread, ComparisonsConform}

@@ -24,6 +24,7 @@ pub mod RunDemand
 pub mod SecondDemand
 pub mod Sentences
 pub mod SessionDemand
+pub mod Sources
 pub mod StoreDemand
 pub mod StringsDemand
 pub mod ThirdDemand

@@ -9,6 +9,7 @@ pub mod lists;
 pub mod orbits;
 pub mod records;
 pub mod run;
+pub mod source;
 pub mod stores;
 mod ties;
 pub mod version;

@@ -10,5 +10,6 @@ mod lists;
 mod orbits;
 mod records;
 mod run;
+mod source;
 mod stores;
 mod version;

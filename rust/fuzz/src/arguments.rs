@@ -4,6 +4,7 @@ use crate::common::damage::{damage_list, damage_record};
 use crate::common::local::{complemented_record, sent};
 use crate::common::reference::{product, strings_text};
 use crate::common::runs::Steps;
+use crate::common::source::Source;
 use crate::common::{list, mixed, random_components, random_record, random_rows, random_sizes};
 use crate::common::{rows, use_up};
 use crate::common::{At, Operation, OrbitCall, Random, ReadCall, RecordPairCall, Side};
@@ -342,6 +343,27 @@ pub fn in_place_call(random: &mut Random, kind: usize, n: usize) -> RecordCall<O
     };
     let record = used_record(random, n);
     harmed(random, record, operation)
+}
+
+/// An observation (0) or a renewal (1) on a record of n vertices. Every second renewal names a used
+/// qubit, if there is one, since few others do.
+pub fn source_call(random: &mut Random, kind: usize, n: usize) -> RecordCall<Source> {
+    let record = used_record(random, n);
+    let used: Vec<usize> = (0..n).filter(|q| record.used >> q & 1 == 1).collect();
+    let qubit = match random.below(8) {
+        0 => number(random),
+        1..=4 if !used.is_empty() => used[random.below(used.len())] as u64,
+        _ => random.below(n + 1) as u64,
+    };
+    let byte = random.word() as u8;
+    let noisy = random.below(8) == 0;
+    let with = match kind {
+        0 if noisy => Source::Observe(byte, qubit, random.word() as u8),
+        0 => Source::Observe(random.below(5) as u8, random.below(n + 1) as u64, byte % 2),
+        _ if noisy => Source::Renew(qubit, byte),
+        _ => Source::Renew(qubit, 2 * (byte % 6)),
+    };
+    harmed(random, record, with)
 }
 
 /// Steps on a record of n vertices: mostly few, and in range or one too large; at times of any numbers, more than 4,096, or

@@ -8,13 +8,14 @@
 //! left, and where all are used it starts anew.
 //!
 //! `pairs` makes pairs of runs of two groups on one record: what one group sees does not depend on
-//! the other's calls.
+//! the other's calls. `source` makes sessions that go on: a used place gets a new photon.
 
 mod choice;
 mod counts;
 mod marks;
 mod pairs;
 mod session;
+mod source;
 mod values;
 
 #[path = "../../sukhlent/tests/common/mod.rs"]
@@ -27,6 +28,7 @@ mod plain;
 pub use counts::Counts;
 pub use pairs::{pairs, PairCounts};
 pub use session::Session;
+pub use source::{source, SourceCounts};
 
 /// Makes so many calls on n qubits. The error names the call and what is different.
 pub fn run(

@@ -1,5 +1,7 @@
-//! A long session on 64 qubits: `sessions [calls [seed]]`.
+//! A long session on 64 qubits: `sessions [calls [seed]]`, or with new photons at used places
+//! `sessions source [calls [seed]]`.
 
+use std::fmt::Display;
 use std::process::ExitCode;
 use std::time::Instant;
 
@@ -7,16 +9,21 @@ use std::time::Instant;
 const PROGRESS: u64 = 100_000;
 
 fn main() -> ExitCode {
-    let arguments: Option<Vec<u64>> = std::env::args().skip(1).map(|a| a.parse().ok()).collect();
+    let mut arguments = std::env::args().skip(1).peekable();
+    let renews = arguments.next_if(|a| a == "source").is_some();
+    let arguments: Option<Vec<u64>> = arguments.map(|a| a.parse().ok()).collect();
     let (calls, seed) = match arguments.as_deref() {
         Some([]) => (1_000_000, 1),
         Some([calls]) => (*calls, 1),
         Some([calls, seed]) => (*calls, *seed),
         _ => {
-            eprintln!("usage: sessions [calls [seed]]");
+            eprintln!("usage: sessions [source] [calls [seed]]");
             return ExitCode::from(2);
         }
     };
+    if renews {
+        return told(calls, seed, sessions::source(64, seed, calls));
+    }
     let start = Instant::now();
     let progress = |number: u64, counts: &sessions::Counts| {
         if number.is_multiple_of(PROGRESS) {
@@ -24,7 +31,12 @@ fn main() -> ExitCode {
             println!("{number} calls in {seconds:.1} s: {counts}");
         }
     };
-    match sessions::run(64, seed, calls, progress) {
+    told(calls, seed, sessions::run(64, seed, calls, progress))
+}
+
+/// Prints what happened, or the difference.
+fn told(calls: u64, seed: u64, ended: Result<impl Display, String>) -> ExitCode {
+    match ended {
         Ok(counts) => {
             println!("{calls} calls of seed {seed} without a difference: {counts}");
             ExitCode::SUCCESS

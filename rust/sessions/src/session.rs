@@ -180,7 +180,7 @@ impl Session {
 }
 
 /// +Z at each of n qubits, none of them used.
-fn start(n: usize) -> Record {
+pub(crate) fn start(n: usize) -> Record {
     Record {
         neighbours: vec![0; n],
         codes: vec![8; n],
@@ -189,7 +189,7 @@ fn start(n: usize) -> Record {
 }
 
 /// The generators of a tableau.
-fn of_tableau(tableau: &Tableau) -> GeneratorList {
+pub(crate) fn of_tableau(tableau: &Tableau) -> GeneratorList {
     let rows = tableau.generators();
     GeneratorList {
         signs: rows.iter().map(|row| row.sign()).collect(),

@@ -1,6 +1,6 @@
 //! Short sessions on some numbers of qubits.
 
-use sessions::{pairs, run, Counts};
+use sessions::{pairs, run, source, Counts};
 
 fn session(n: usize, seed: u64, calls: u64) -> Counts {
     run(n, seed, calls, |_, _| ()).unwrap_or_else(|difference| panic!("{difference}"))
@@ -48,6 +48,22 @@ fn every_number_of_qubits() {
 fn sessions_of_one_seed_are_the_same() {
     assert_eq!(session(9, 5, 2000), session(9, 5, 2000));
     assert_ne!(session(9, 5, 2000), session(9, 6, 2000));
+}
+
+#[test]
+fn a_source_that_goes_on() {
+    for seed in 1..=3 {
+        let counts = source(64, seed, 6000).unwrap_or_else(|difference| panic!("{difference}"));
+        let made = [counts.gates, counts.czs, counts.chosen, counts.determined];
+        let refused = [counts.used, counts.not_used];
+        let all = [&made[..], &refused, &[counts.renewed]].concat();
+        assert!(all.iter().all(|&times| times > 50), "{counts}");
+        assert_eq!(all.iter().sum::<u64>(), 6000, "{counts}");
+        assert!(counts.other_bits > 20 && counts.most_used > 5, "{counts}");
+    }
+    for n in 1..=64 {
+        source(n, n as u64, 300).unwrap_or_else(|difference| panic!("{difference}"));
+    }
 }
 
 #[test]

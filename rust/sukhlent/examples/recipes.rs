@@ -3,7 +3,7 @@
 
 use std::error::Error;
 use std::fmt::Write;
-use sukhlent::{codes, cz, gate, measure, raw, Measured, Pauli, Record, Refusal};
+use sukhlent::{codes, cz, gate, observe, raw, Pauli, Record, Refusal};
 
 fn main() -> Result<(), Box<dyn Error>> {
     let mut text = String::new();
@@ -37,7 +37,7 @@ pub fn recipes(out: &mut impl Write) -> Result<(), Box<dyn Error>> {
     writeln!(out, "equal after that: {}", u8::from(ghz == other))?;
 
     for (qubit, coin) in [(0, 1), (1, 0)] {
-        let found = tossed(&mut ghz, qubit, coin)?;
+        let found = observe(&mut ghz, Pauli::Z, qubit, coin)?;
         let (outcome, determined) = (found.outcome, u8::from(found.determined));
         write!(out, "Z at {qubit} with coin {coin}: ")?;
         writeln!(out, "outcome {outcome}, determined {determined}")?;
@@ -55,12 +55,4 @@ fn cnot(record: &mut Record, control: usize, target: usize) -> Result<(), Refusa
     gate(&mut trial, target, codes::H)?;
     *record = trial;
     Ok(())
-}
-
-/// Measures Z with a bit from a coin; where the state forbids it, with the other.
-fn tossed(record: &mut Record, qubit: usize, coin: u8) -> Result<Measured, Refusal> {
-    match measure(record, Pauli::Z, qubit, coin) {
-        Err(Refusal::Contradiction) => measure(record, Pauli::Z, qubit, 1 - coin),
-        answer => answer,
-    }
 }

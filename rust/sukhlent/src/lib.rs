@@ -23,7 +23,8 @@
 //! ```
 //!
 //! A session starts with [`Record::zeros`] or [`Record::graph`] and goes on by [`gate`], [`cz`] and
-//! [`measure`]. CNOT is a Hadamard at the target, CZ, and a Hadamard at the target:
+//! [`measure`], or [`observe`] with a bit by lot; [`Record::renew`] puts a new photon at a measured
+//! qubit. CNOT is a Hadamard at the target, CZ, and a Hadamard at the target:
 //!
 //! ```
 //! use sukhlent::{codes, cz, gate, Record};
@@ -59,6 +60,7 @@ mod record;
 mod refusal;
 mod run;
 mod shared;
+mod source;
 mod store;
 mod strings;
 
@@ -75,5 +77,6 @@ pub use record::{expand, Record};
 pub use refusal::Refusal;
 pub use run::{run, Step};
 pub use shared::{Group, Shared};
+pub use source::{observe, Photon};
 pub use store::Store;
 pub use strings::{read_strings, write_strings};

@@ -103,6 +103,31 @@ mod calls {
             determined: *mut u8,
         ) -> u8;
 
+        pub fn sukhlent_observe(
+            n: u64,
+            neighbours: *mut u64,
+            neighbours_len: u64,
+            codes: *mut u8,
+            codes_len: u64,
+            used: *mut u64,
+            pauli: u8,
+            qubit: u64,
+            bit: u8,
+            answer: *mut u8,
+            determined: *mut u8,
+        ) -> u8;
+
+        pub fn sukhlent_renew(
+            n: u64,
+            neighbours: *mut u64,
+            neighbours_len: u64,
+            codes: *mut u8,
+            codes_len: u64,
+            used: *mut u64,
+            qubit: u64,
+            code: u8,
+        ) -> u8;
+
         pub fn sukhlent_complement(
             n: u64,
             neighbours: *mut u64,
@@ -584,6 +609,82 @@ pub fn measure(
             outcome,
             answer,
             determined,
+        )
+    }
+}
+
+/// Measures a Pauli (1 X, 2 Y, 3 Z) at a qubit with a bit by lot: as [`measure`], but where the state
+/// determines the outcome the bit plays no part.
+///
+/// ```
+/// use sukhlent::raw;
+///
+/// // Qubit 0 is in -Z already: the bit 0 is not the outcome.
+/// let (mut neighbours, mut codes, mut used) = ([0, 0], [10, 10], 0);
+/// let (mut answer, mut determined) = (9, 9);
+/// let number = raw::observe(
+///     2, &mut neighbours, &mut codes, &mut used, 3, 0, 0, &mut answer, &mut determined,
+/// );
+/// assert_eq!((number, answer, determined), (0, 1, 1));
+/// assert_eq!((neighbours, codes, used), ([0, 0], [10, 10], 1));
+/// ```
+#[allow(clippy::too_many_arguments)]
+pub fn observe(
+    n: u64,
+    neighbours: &mut [u64],
+    codes: &mut [u8],
+    used: &mut u64,
+    pauli: u8,
+    qubit: u64,
+    bit: u8,
+    answer: &mut u8,
+    determined: &mut u8,
+) -> u8 {
+    unsafe {
+        calls::sukhlent_observe(
+            n,
+            neighbours.as_mut_ptr(),
+            neighbours.len() as u64,
+            codes.as_mut_ptr(),
+            codes.len() as u64,
+            used,
+            pauli,
+            qubit,
+            bit,
+            answer,
+            determined,
+        )
+    }
+}
+
+/// Puts a new photon at a used qubit, in the state of its code: 0, 2, 4, 6, 8 or 10.
+///
+/// ```
+/// use sukhlent::raw;
+///
+/// let (mut neighbours, mut codes, mut used) = ([0, 0], [10, 10], 1);
+/// assert_eq!(raw::renew(2, &mut neighbours, &mut codes, &mut used, 1, 0), 20);
+/// assert_eq!(raw::renew(2, &mut neighbours, &mut codes, &mut used, 0, 0), 0);
+/// assert_eq!((neighbours, codes, used), ([0, 0], [0, 10], 0));
+/// ```
+pub fn renew(
+    n: u64,
+    neighbours: &mut [u64],
+    codes: &mut [u8],
+    used: &mut u64,
+    qubit: u64,
+    code: u8,
+) -> u8 {
+    unsafe {
+        calls::sukhlent_renew(
+            n,
+            neighbours.as_mut_ptr(),
+            neighbours.len() as u64,
+            codes.as_mut_ptr(),
+            codes.len() as u64,
+            used,
+            qubit,
+            code,
         )
     }
 }

@@ -30,8 +30,8 @@ pub enum Refusal {
     /// A word has a bit outside of the qubits.
     #[doc(alias = "SUKHLENT_STRAY")]
     StrayBit = 5,
-    /// A sign, outcome or group is above 1, a code above 23, a Pauli not 1 to 3, a seed 0, an
-    /// operation above 4, or a field that a step does not use is not 0.
+    /// A sign, outcome or group is above 1, a code above 23 or no photon's, a Pauli not 1 to 3, a
+    /// seed 0, an operation above 4, or a field that a step does not use is not 0.
     #[doc(alias = "SUKHLENT_VALUE")]
     Value = 6,
     /// A graph is not simple, a used vertex is not as a measurement leaves it, a store holds a name
@@ -74,6 +74,9 @@ pub enum Refusal {
     /// A group's call names a qubit of the other group, or the record has an edge between them.
     #[doc(alias = "SUKHLENT_OTHER_GROUP")]
     OtherGroup = 19,
+    /// The qubit to renew is not used.
+    #[doc(alias = "SUKHLENT_NOT_USED")]
+    NotUsed = 20,
 }
 
 impl Refusal {
@@ -84,7 +87,7 @@ impl Refusal {
     ///
     /// assert_eq!(Refusal::ALL[..2], [Refusal::Form, Refusal::Steps]);
     /// ```
-    pub const ALL: [Refusal; 19] = [
+    pub const ALL: [Refusal; 20] = [
         Refusal::Form,
         Refusal::Steps,
         Refusal::Qubits,
@@ -95,6 +98,7 @@ impl Refusal {
         Refusal::OtherGroup,
         Refusal::Place,
         Refusal::Used,
+        Refusal::NotUsed,
         Refusal::NotHeld,
         Refusal::Full,
         Refusal::Anticommuting,
@@ -106,7 +110,7 @@ impl Refusal {
         Refusal::Inequivalent,
     ];
 
-    /// The number, 1 to 19.
+    /// The number, 1 to 20.
     ///
     /// ```
     /// assert_eq!(sukhlent::Refusal::Anticommuting.number(), 9);
@@ -148,8 +152,9 @@ impl Refusal {
             Refusal::Length => "a buffer's length is not what is required",
             Refusal::StrayBit => "a word has a bit at or above n",
             Refusal::Value => {
-                "a sign, outcome or group is above 1, a code above 23, a Pauli not 1 to 3, a \
-                 seed 0, a run's operation above 4, or a field that a step does not use is not 0"
+                "a sign, outcome or group is above 1, a code above 23 or no photon's, a Pauli not \
+                 1 to 3, a seed 0, a run's operation above 4, or a field that a step does not use \
+                 is not 0"
             }
             Refusal::Graph => {
                 "a graph is not simple, or a used vertex has a neighbour or a code that no \
@@ -165,6 +170,7 @@ impl Refusal {
                  has no edge"
             }
             Refusal::Used => "the call names a used qubit",
+            Refusal::NotUsed => "the qubit to renew is not used",
             Refusal::NotHeld => "a name to return to or forget is not held",
             Refusal::Full => "a save finds eight other names held, or a group's save four",
             Refusal::Anticommuting => "two generators do not commute",
@@ -205,15 +211,15 @@ mod tests {
         assert_eq!(Refusal::unless_accepted(0), Ok(()));
         let mut numbers = Refusal::ALL.map(Refusal::number);
         numbers.sort();
-        assert!(numbers.into_iter().eq(1..=19));
-        assert!((20..=255).all(|number| Refusal::from_number(number).is_none()));
+        assert!(numbers.into_iter().eq(1..=20));
+        assert!((21..=255).all(|number| Refusal::from_number(number).is_none()));
     }
 
     #[test]
     fn the_numbers_of_the_requests_stand_at_their_places() {
         let order = Refusal::ALL.map(Refusal::number);
         let due = [
-            1, 15, 2, 4, 5, 6, 7, 19, 8, 16, 17, 18, 9, 10, 3, 14, 11, 12, 13,
+            1, 15, 2, 4, 5, 6, 7, 19, 8, 16, 20, 17, 18, 9, 10, 3, 14, 11, 12, 13,
         ];
         assert_eq!(order, due);
     }
@@ -264,8 +270,8 @@ mod tests {
     }
 
     #[test]
-    #[should_panic(expected = "no refusal has the number 20")]
+    #[should_panic(expected = "no refusal has the number 21")]
     fn other_numbers_are_no_answers() {
-        let _ = Refusal::unless_accepted(20);
+        let _ = Refusal::unless_accepted(21);
     }
 }

@@ -120,6 +120,11 @@ fn run_prints_its_stored_output() {
 }
 
 #[test]
+fn source_prints_its_stored_output() {
+    assert_prints_its_stored_output("source");
+}
+
+#[test]
 fn vector_prints_its_stored_output() {
     assert_prints_its_stored_output("vector");
 }

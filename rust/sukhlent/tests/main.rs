@@ -48,6 +48,7 @@ mod rust_example;
 mod sessions;
 mod shared;
 mod shared_sessions;
+mod source;
 mod states;
 mod stores;
 mod strings;

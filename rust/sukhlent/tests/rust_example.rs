@@ -31,6 +31,9 @@ mod run;
 #[path = "../examples/session.rs"]
 #[allow(dead_code)]
 mod session;
+#[path = "../examples/source.rs"]
+#[allow(dead_code)]
+mod source;
 #[path = "../examples/store.rs"]
 #[allow(dead_code)]
 mod store;
@@ -56,6 +59,13 @@ fn ring_prints_what_the_ring_in_c_prints() {
     let mut text = String::new();
     ring::show(&mut text).unwrap();
     assert_eq!(text, include_str!("../../../examples/c/ring.out"));
+}
+
+#[test]
+fn source_prints_what_source_in_c_prints() {
+    let mut text = String::new();
+    source::source(1_000_001, &mut text).unwrap();
+    assert_eq!(text, include_str!("../../../examples/c/source.out"));
 }
 
 #[test]

@@ -61,6 +61,17 @@ const CALLS: [Measured; 34] = [
             raw::measure(n, words, codes, used, 3, 0, 1, &mut answer, &mut determined)
         })
     }),
+    ("observe", 64, |random, n| {
+        let (mut answer, mut determined) = (0, 0);
+        in_place(random, n, |n, words, codes, used| {
+            raw::observe(n, words, codes, used, 3, 0, 1, &mut answer, &mut determined)
+        })
+    }),
+    ("renew", 64, |random, n| {
+        in_place(random, n, |n, words, codes, used| {
+            raw::renew(n, words, codes, used, 63, 0)
+        })
+    }),
     ("complement", 64, |random, n| {
         in_place(random, n, |n, words, codes, used| {
             raw::complement(n, words, codes, *used, 0)

@@ -8,6 +8,7 @@ mod orbits;
 mod pairs;
 mod records;
 mod runs;
+mod source;
 mod stores;
 mod strings;
 
@@ -47,6 +48,14 @@ pub const CALLS: [Call; 31] = [
     Call {
         name: "measure",
         once: in_place::measure,
+    },
+    Call {
+        name: "observe",
+        once: source::observe,
+    },
+    Call {
+        name: "renew",
+        once: source::renew,
     },
     Call {
         name: "complement",

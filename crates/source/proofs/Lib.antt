@@ -1,0 +1,4 @@
+pub mod RenewedGroups
+pub mod RenewedRecords
+pub mod Observed
+pub mod SourceExamples

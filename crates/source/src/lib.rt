@@ -1,0 +1,2 @@
+// New photons at used places, and measurements with a bit by lot: see specs/ for the lines and what a call leaves, and
+// proofs/ for the laws.
