@@ -15,6 +15,7 @@ use Rattle.calls.specs.InPlace.{usedMeasureCall}
 use Rattle.calls.specs.Sources.{observeCall}
 use Rattle.claims.proofs.InPlaceExactly.{argument-lines}
 use Rattle.claims.proofs.MeasurementsFollow.{measurements-follow}
+use Rattle.claims.proofs.NumbersHold.{in-words}
 use Rattle.claims.proofs.UsedDemandHolds.{accepted-measured-without, measurements-mark}
 use Rattle.claims.proofs.UsedExactly.{no-stray, none-wrong, record-of, used-measure}
 use Rattle.claims.proofs.families.Shared.{answered, at-zero, by-lines, table-fills}
@@ -31,12 +32,13 @@ use Rattle.operations.specs.Steps.{argumentLines, measurementOf}
 use Rattle.operations.specs.declared.Outcome.the-variants.{Chosen, Determined}
 use Rattle.record.specs.Lent.{heldRows}
 use Rattle.stabilizer.specs.Groups.{InGroup}
+use Rattle.operations.proofs.UsedInWords.{arguments-in-words}
 use Rattle.operations.proofs.UsedPassing.{in-place-counted, with-used-passes}
 use Rattle.operations.specs.Used.{UsedRecord, usedArgumentsOf, usedStray, usedWrong}
 use Rattle.operations.specs.UsedLaws.{earlierLines}
 use Rattle.words.proofs.BitLaws.{digit-odd}
 use Rattle.words.specs.Bits.{bit, digit, isOdd}
-use Rattle.claims.specs.Sources.{ObservationStands, ObserveFits, ObserveSays}
+use Rattle.claims.specs.Sources.{ObservationStands, ObserveFits, ObserveSays, observeSentences}
 
 -- a list that has been passed to its end has number 0
 pub passed-all : {k : ℕ} → FirstFits [] k → k ≡ 0
@@ -169,6 +171,7 @@ module _ (u : UsedRecord) (pauli q b : ℕ) where
           record {
             answered = answered observe-conforms C;
             accepted = Iff·trans (by-lines C) observe-lines;
+            numbers = in-words (observeSentences u pauli q b) (arguments-in-words u pauli q b) C;
             group = λ z. stands (at-zero C z);
             same = same;
             as-measured = λ z. as-measured (at-zero C z);

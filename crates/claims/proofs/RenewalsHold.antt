@@ -1,15 +1,19 @@
 -- A new photon at a used place: what is claimed of it holds, by its contract and the laws of the record left.
 use mathlib.Core.Bool.{_&&_, false, not}
-use mathlib.Core.List.{List}
-use mathlib.Core.Logic.{Iff·trans, _↔_}
+use mathlib.Core.List.{List, [], _∷_}
+use mathlib.Core.Logic.{Iff·trans, _↔_, _⊎_}
 use mathlib.Core.Path.{_∙_, _≡_, ap, ap₂, refl, subst, sym}
-use Prim.Native.Nat.{_<_, ℕ}
+use Prim.Native.Nat.{_<_, _≤_, ℕ}
+use lib.Dec.{leb}
 use lib.ListN.{length-set}
 use lib.Seq.{getD-set-other, getD-set-same}
 use borrow.Author.Tests.{lt-leb, not-true}
-use Rattle.buffers.specs.Refusals.{firstFitting}
+use Rattle.buffers.proofs.SentenceLaws.{Matches, and-then, at-most, itself, not-decides, or-decides, or-none, stray}
+use Rattle.buffers.specs.Refusals.{firstFitting, line}
+use Rattle.buffers.specs.Sentences.{sentence}
 use Rattle.calls.proofs.SourceCalls.{renew-0}
 use Rattle.calls.specs.Sources.{renewCall}
+use Rattle.claims.proofs.NumbersHold.{in-words}
 use Rattle.claims.proofs.UsedExactly.{record-of, six-codes, used-exactly}
 use Rattle.claims.proofs.families.Shared.{answered, at-zero, by-lines}
 use Rattle.claims.specs.Conforming.{Conforms}
@@ -27,8 +31,10 @@ use Rattle.operations.proofs.UnrefusedRecords.{accepted-unrefused}
 use Rattle.operations.specs.internal.InPlace.{Unrefused, recordIn}
 use Rattle.pauli.proofs.PauliLaws.{identity-mul}
 use Rattle.pauli.specs.Pauli.{Pauli}
+use Rattle.record.proofs.RecordInWords.{code-above-23, misfits, stray-neighbour}
 use Rattle.record.specs.Accepted.{AcceptedRecord}
 use Rattle.record.specs.Lent.{codeNumbers, heldRecord, heldRows, neighbourWords}
+use Rattle.record.specs.RecordSentences.{CodeAbove23, RecordMisfits}
 use Rattle.record.specs.Records.{GraphRecord, rowsOf}
 use Rattle.record.specs.Reduced.{reduced}
 use Rattle.source.proofs.RenewedGroups.{renewed-group}
@@ -45,11 +51,13 @@ use Rattle.source.proofs.RenewedRecords as below
 use Rattle.source.specs.Renewal.{Renewed, joined, photon, renewLines, renewed}
 use Rattle.stabilizer.proofs.GroupLaws.{in-identity}
 use Rattle.stabilizer.specs.Groups.{InGroup}
+use Rattle.operations.proofs.UsedInWords.{of-six, used-in-words}
 use Rattle.operations.proofs.UsedStaying.{used-low}
-use Rattle.operations.specs.Used.{UsedRecord}
+use Rattle.operations.specs.Used.{UsedRecord, usedCode, usedLines}
+use Rattle.operations.specs.UsedSentences.{IsUsed, OfSix, StrayBit, usedSentences}
 use Rattle.words.proofs.Places.{same-place}
 use Rattle.words.specs.Bits.{bit}
-use Rattle.claims.specs.Sources.{RenewFits, RenewSays, RenewalStands, linesBefore20}
+use Rattle.claims.specs.Sources.{RenewFits, RenewSays, RenewalStands, linesBefore20, renewSentences}
 
 module _ (u : UsedRecord) (q k : ℕ) where
   pub renew-lines : (firstFitting (renewLines u q k) ≡ 0) ↔ RenewFits u q k
@@ -124,6 +132,17 @@ module _ (u : UsedRecord) (q k : ℕ) where
           reduced = stays-reduced;
         }
 
+  -- the tests decide the sentences
+  renew-in-words : Matches (renewLines u q k) (renewSentences u q k)
+  renew-in-words = and-then (usedLines u false false (not (usedCode k)))
+      (line 8 (leb (u .held .n) q) ∷ line 20 (not (bit (u .used) q)) ∷ [])
+      (usedSentences u (RecordMisfits (u .held)) (StrayBit u) (CodeAbove23 (u .held) ⊎ (OfSix k → ⊥)))
+      (sentence 8 (u .held .n ≤ q) ∷ sentence 20 (IsUsed u q → ⊥) ∷ [])
+      (used-in-words u false false (not (usedCode k)) _ _ _ (or-none (misfits (u .held)))
+      (or-decides (stray-neighbour (u .held)) (or-none (stray (u .held .n) (u .used))))
+      (or-decides (code-above-23 (u .held)) (not-decides (of-six k))))
+      (λ e. (refl, (at-most (u .held .n) q, λ f. (refl, (not-decides itself, λ g. tt)))))
+
   module _ (nb′ cs′ : List ℕ) (used′ r : ℕ) (C : Call (renewCall u q k nb′ cs′ used′) r) where
     accepted-stands : r ≡ 0 → RenewalStands u q k (leftUsed u nb′ cs′ used′)
     accepted-stands z =
@@ -147,6 +166,7 @@ module _ (u : UsedRecord) (q k : ℕ) where
         record {
           answered = answered (renew-conforms nb′ cs′ used′) C;
           accepted = Iff·trans (by-lines C) renew-lines;
+          numbers = in-words (renewSentences u q k) renew-in-words C;
           stands = accepted-stands;
           refused = twenty;
         }

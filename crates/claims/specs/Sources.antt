@@ -8,6 +8,7 @@ use Prim.Native.Nat.{_*_, _<_, ℕ, _≤_}
 use lib.Dec.{eqb, leb}
 use lib.ListN.{getD}
 use Rattle.buffers.specs.Refusals.{Refusal, firstFitting, line}
+use Rattle.buffers.specs.Sentences.{FirstTrue, Sentence, sentence}
 use Rattle.calls.specs.InPlace.{usedMeasureCall}
 use Rattle.calls.specs.Sources.{observeCall, renewCall}
 use Rattle.claims.specs.Arguments.{Free, IsRecord}
@@ -21,9 +22,11 @@ use Rattle.operations.specs.Measurement.{Measured}
 use Rattle.operations.specs.Steps.{measurementOf}
 use Rattle.pauli.specs.Pauli.{Pauli}
 use Rattle.record.specs.Lent.{LentRecord, heldRows}
+use Rattle.record.specs.RecordSentences.{CodeAbove23, RecordMisfits}
 use Rattle.source.specs.Renewal.{Renewed, photon}
 use Rattle.stabilizer.specs.Groups.{InGroup, SameGroup}
 use Rattle.operations.specs.Used.{UsedRecord, usedCode, usedLines}
+use Rattle.operations.specs.UsedSentences.{IsUsed, MeasureMisfits, OfSix, StrayBit, inPlaceSentences, usedSentences}
 use Rattle.words.specs.Bits.{bit, isOdd}
 
 -- ---- observations
@@ -54,11 +57,17 @@ pub record ObservationStands (l : LentRecord) (pauli q b : ℕ) (after : LentRec
   pub joined : determined′ ≡ 0 → (p : Pauli) → InGroup (l .n) (l .n) (heldRows after) p
       ↔ Measured (l .n) (heldRows l) (signedPauli pauli q (isOdd b)) p
 
+-- its lines: those of a measurement without 14
+abbrev pub observeSentences : UsedRecord → ℕ → ℕ → ℕ → List Sentence
+observeSentences u pauli q b =
+    inPlaceSentences u (CodeAbove23 (u .held) ⊎ MeasureMisfits pauli b) (u .held .n ≤ q) (IsUsed u q)
+
 -- sukhlent_observe, in one record
 pub record ObserveSays (u : UsedRecord) (pauli q b answer determined : ℕ) (nb′ cs′ : List ℕ)
     (used′ answer′ determined′ r : ℕ) : Type 0 where
   pub answered : Answered (observeCall u pauli q b answer determined nb′ cs′ used′ answer′ determined′) r
   pub accepted : (r ≡ 0) ↔ ObserveFits u pauli q b
+  pub numbers : FirstTrue (observeSentences u pauli q b) r
   pub group : r ≡ 0 → ObservationStands (u .held) pauli q b (left (u .held) nb′ cs′) answer′ determined′
   -- "where `measure` with the same bit is accepted, both answer and leave the same"
   pub same : MeasureFits u pauli q b →
@@ -101,10 +110,18 @@ pub record RenewalStands (u : UsedRecord) (q k : ℕ) (after : UsedRecord) : Typ
 abbrev pub linesBefore20 : UsedRecord → ℕ → ℕ → List Refusal
 linesBefore20 u q k = usedLines u false false (not (usedCode k)) ++ (line 8 (leb (u .held .n) q) ∷ [])
 
+-- its lines. 6: the code is none of 0, 2, 4, 6, 8 and 10; 8: "A qubit number is n or more"; 20: "the qubit to renew is not
+-- used"
+abbrev pub renewSentences : UsedRecord → ℕ → ℕ → List Sentence
+renewSentences u q k =
+    usedSentences u (RecordMisfits (u .held)) (StrayBit u) (CodeAbove23 (u .held) ⊎ (OfSix k → ⊥))
+    ++ (sentence 8 (u .held .n ≤ q) ∷ sentence 20 (IsUsed u q → ⊥) ∷ [])
+
 -- sukhlent_renew, in one record
 pub record RenewSays (u : UsedRecord) (q k : ℕ) (nb′ cs′ : List ℕ) (used′ r : ℕ) : Type 0 where
   pub answered : Answered (renewCall u q k nb′ cs′ used′) r
   pub accepted : (r ≡ 0) ↔ RenewFits u q k
+  pub numbers : FirstTrue (renewSentences u q k) r
   pub stands : r ≡ 0 → RenewalStands u q k (leftUsed u nb′ cs′ used′)
   -- 20 exactly if no earlier line holds and the qubit is not used
   pub refused : (r ≡ 20) ↔ ((firstFitting (linesBefore20 u q k) ≡ 0) × (bit (u .used) q ≡ false))
