@@ -1,5 +1,8 @@
 // The bench in a browser: served by tools/bench-page, and used by clicks and keys.
 import { spawn } from "node:child_process";
+import { readFile } from "node:fs/promises";
+import { createServer } from "node:http";
+import { extname } from "node:path";
 import { Browser } from "./browser.mjs";
 import { ROOT } from "./places.mjs";
 
@@ -14,6 +17,20 @@ export async function served() {
   });
   const gone = new Promise((resolve) => server.once("exit", resolve));
   return { address, end: () => server.kill() && gone };
+}
+
+const TYPES = { ".html": "text/html", ".css": "text/css", ".js": "text/javascript", ".svg": "image/svg+xml" };
+
+/** Serves target/web below a folder by a plain file server that knows few types, not .wasm and not .mjs. */
+export async function plainlyServed() {
+  const server = createServer(async (request, answer) => {
+    const name = /^\/some\/where\/([^?]*)/.exec(request.url)?.[1] || "index.html";
+    const bytes = await readFile(`${ROOT}target/web/${name}`).catch(() => null);
+    answer.writeHead(bytes ? 200 : 404, { "Content-Type": TYPES[extname(name)] ?? "application/octet-stream" });
+    answer.end(bytes ?? "");
+  });
+  await new Promise((resolve) => server.listen(0, "127.0.0.1", resolve));
+  return { address: `http://127.0.0.1:${server.address().port}/some/where/`, end: () => (server.close(), server.closeAllConnections()) };
 }
 
 /** What runs in the page: the place of a button by its text, from 1. */

@@ -5,7 +5,7 @@ import { mkdtempSync, rmSync, writeFileSync } from "node:fs";
 import { tmpdir } from "node:os";
 import { join } from "node:path";
 import { after, before, test } from "node:test";
-import { BenchPage, served } from "./bench.mjs";
+import { BenchPage, plainlyServed, served } from "./bench.mjs";
 import { command, program } from "./places.mjs";
 
 let page;
@@ -333,6 +333,15 @@ test("all comes from the page's own address, nothing after it is loaded, and no 
   for (const tab of ["steps", "compare", "texts", "state"]) await page.tab(tab);
   await page.network(true);
   assert.equal(asked.length, loaded);
+  assert.deepEqual(page.faults, []);
+});
+
+test("any file server will do, below any folder", async (context) => {
+  const plain = await plainlyServed();
+  context.after(() => plain.end());
+  await page.open(plain.address);
+  await page.until("document.documentElement.dataset.kept");
+  assert.match(await page.text("#generators"), /^\+XZIIIZ\n/);
   assert.deepEqual(page.faults, []);
 });
 
