@@ -47,6 +47,7 @@ _CALLS: dict[str, tuple] = {
     "product": (c_uint64, *_LIST, c_uint64, _WORDS, _WORDS, _BYTES),
     "compare": (c_uint64, *_LIST, c_uint64, *_LIST, *_IN_BYTES, *_IN_BYTES, _WORDS),
     "compare_records": (c_uint64, *_RECORD, c_uint64, *_RECORD, *_IN_BYTES, *_IN_BYTES, _WORDS),
+    "equivalent": (c_uint64, *_LIST, c_uint64, *_LIST, *_IN_BYTES, *_IN_BYTES, _WORDS),
     "equivalent_records": (c_uint64, *_RECORD, c_uint64, *_RECORD, *_IN_BYTES, *_IN_BYTES, _WORDS),
     "generate": (c_uint64, c_uint64, c_uint64, *_IN_BYTES, _WORDS),
     "read_strings": (*_IN_BYTES, *_LIST),

@@ -81,7 +81,7 @@ class Command(unittest.TestCase):
     def test_help_and_wrong_calls(self):
         status, out, _ = called("--help")
         self.assertEqual(status, 0)
-        for name in ("reduce", "amplitudes", "job", "draw", "compare"):
+        for name in ("reduce", "amplitudes", "job", "draw", "compare", "equivalent"):
             self.assertRegex(out, rf"(?m)^    {name}\b")
             self.assertEqual(called(name, "--help")[0], 0)
         self.assertEqual(called()[0], 2)
@@ -109,6 +109,12 @@ class Command(unittest.TestCase):
         self.assertIn("refused 13", called("compare", job, strings)[2])
         other = self.file("three", "+X\n")
         self.assertIn("refused 2", called("compare", strings, other)[2])
+        self.assertEqual(called("equivalent", record, strings), called("compare", record, strings))
+        ghz = self.file("ghz", "+" + 21 * "X" + "\n" + "".join(f"+{q * 'I'}ZZ{(19 - q) * 'I'}\n" for q in range(20)))
+        self.assertIn("refused 3", called("compare", ghz, ghz)[2])
+        self.assertEqual(called("equivalent", ghz, ghz)[1].splitlines()[21:], ["20 0 I", "complementations"])
+        status, out, _ = called("equivalent", "--renumbered", record, strings)
+        self.assertEqual((status, out.splitlines()[0]), (0, "qubit from code gate"))
 
     def test_drawings_of_every_layout(self):
         list_file = self.file("bell", BELL)

@@ -114,6 +114,24 @@ class States(unittest.TestCase):
             lines = {send(line, qubit, number) for line in lines}
         self.assertEqual(lines, group(other.generators().strings()))
 
+    def test_states_with_parts_of_more_than_20_vertices(self):
+        edges = [(q, q + 1) for q in range(20)]
+        path = State.graph(21, edges)
+        other = path.copy()
+        for vertex in range(21):
+            other.gate(vertex, (7 * vertex + 5) % 24)
+        with self.assertRaises(Refusal) as refused:
+            path.compare(other)
+        self.assertEqual(refused.exception.number, 3)
+        found = path.equivalent(other)
+        for vertex, number in enumerate(found.choice):
+            path.gate(vertex, number)
+        self.assertEqual(path, other)
+        self.assertIsNone(other.equivalent(State.graph(21, edges[:-1])))
+        with self.assertRaises(Refusal) as refused:
+            path.equivalent(State.zeros(20))
+        self.assertEqual(refused.exception.number, 2)
+
     def test_values_are_those_of_the_group(self):
         source = random.Random(3)
         for _ in range(40):
