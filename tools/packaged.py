@@ -95,7 +95,7 @@ def extension(folder):
     new = folder / f"{path.name}.{os.getpid()}"
     interface = [f"-DPy_LIMITED_API=0x{LIMITED[0]:02x}{LIMITED[1]:02x}0000"] if limited() else []
     command = [*compiler.split(), "-O2", "-fPIC", "-shared", "-Wall", "-Wextra", "-Wno-unused-parameter", *interface,
-               f"-I{ROOT / 'include'}", f"-I{include}", str(ROOT / "python" / "extension" / "calls.c"), "-o", str(new), "-ldl"]
+               f"-I{ROOT / 'include'}", f"-I{include}", str(ROOT / "python" / "extension" / "calls.c"), "-o", str(new), "-ldl", "-pthread"]
     run = subprocess.run(command, stdout=subprocess.PIPE, stderr=subprocess.STDOUT, text=True)
     if run.returncode != 0:
         raise Missing(f"{compiler} could not compile python/extension/calls.c:\n{run.stdout}")

@@ -2,7 +2,7 @@
 """What a call costs from Python at 64 qubits, beside a tableau in numpy (python/bench/tableau.py) and, where it is
 installed, QuTiP at 10 qubits. Prints the tables of docs/SPEED.md. Needs tools/shared; numpy and cffi where they are compared.
 
-    PYTHONPATH=python python3 python/bench/speed.py
+    PYTHONPATH=python python3 python/bench/speed.py            # --quick: once, to see that it runs
 
 Each figure is the least of several rounds, taken in turns, so that what else runs on the machine counts least.
 """
@@ -23,10 +23,12 @@ from sukhlent import State, by_ctypes, calls, library, run_many
 ROOT = Path(__file__).resolve().parents[2]
 N = 64
 ROUNDS = 15
+QUICK = sys.argv[1:] == ["--quick"]
 
 
 def least(works, calls_each=200, rounds=ROUNDS):
     """The least time of one call of each work, in microseconds: the works in turns."""
+    rounds = 1 if QUICK else rounds
     best = [float("inf")] * len(works)
     for _ in range(rounds):
         for k, work in enumerate(works):
@@ -204,17 +206,25 @@ def runs():
     times = least([anew(work) for work in named.values()], 3, 40)
     lines = [[name, f"{t / 4.096:.0f} ns", f"{t / times[0]:.2f}"] for name, t in zip(named, times)]
     rows(["a step of a run of 4,096 at 64 qubits", "time", "to the C call"], lines)
-    states = [drawn(6) for _ in range(17)]
-    one, two = least([lambda threads=threads: many(states, slices, threads) for threads in (1, 2)], 1, 200)
-    print(f"`run_many` on 16 records of 4,096 steps each: {one / 1000:.2f} ms in one thread, {two / 1000:.2f} ms in two, {two / one:.2f} of"
-          f" it ({os.cpu_count()} cores).\n")
+    many()
 
 
-def many(states, slices, threads):
-    """All states from the same record on, in one call."""
-    for state in states[1:]:
-        state._block[:] = states[0]._block
-    run_many(states[1:], *slices, threads=threads)
+def many():
+    """16 records, each with 4,096 steps of its own, in one call: in one thread and in two."""
+    states = [drawn(seed) for seed in range(16)]
+    starts = [bytes(state._block) for state in states]
+    own = [steps_of(4096, seed) for seed in range(16)]
+    flat = [array("H" if k else "B", b"".join(bytes(part[k]) for part in own)) for k in range(4)]
+    rows_of_steps = [memoryview(part).cast("B").cast(part.typecode, [16, 4096]) for part in flat]
+
+    def work(threads):
+        for state, start in zip(states, starts):
+            state._block[:] = start
+        run_many(states, *rows_of_steps, threads=threads)
+
+    one, two = least([lambda threads=threads: work(threads) for threads in (1, 2)], 1, 500)
+    print(f"`run_many` on 16 records, each with 4,096 steps of its own: {one / 1000:.2f} ms in one thread, {two / 1000:.2f} ms in two,"
+          f" {two / one:.2f} of it ({os.cpu_count()} cores).\n")
 
 
 def qutip():

@@ -8,6 +8,7 @@
 #include <Python.h>
 
 #include <dlfcn.h>
+#include <pthread.h>
 #include <string.h>
 
 #include "sukhlent.h"
@@ -72,7 +73,11 @@ static int number_of(PyObject *given, PyObject *by_name, PyObject *judge, uint64
         if (!known && PyErr_Occurred()) return 0;
     }
     if (known) return word_of_integer(known, number);
-    PyObject *judged = PyObject_CallFunctionObjArgs(judge, given, NULL);
+    PyObject *judged = PyIndex_Check(given) ? PyNumber_Index(given) : NULL; /* numpy's integers and the like */
+    if (!judged) {
+        PyErr_Clear();
+        judged = PyObject_CallFunctionObjArgs(judge, given, NULL);
+    }
     if (!judged) return 0;
     int good = word_of_integer(judged, number);
     Py_DECREF(judged);
@@ -265,16 +270,6 @@ static int lent(PyObject *const *given, Py_buffer *views)
 
 static size_t items(const Py_buffer *view) { return (size_t)(view->len / view->itemsize); }
 
-/* The run of one record on the steps from `from` on, with its answers from `at` on; the buffers have `steps` left. */
-static uint8_t run_at(const Record *r, const Py_buffer *v, size_t from, size_t at, size_t steps)
-{
-    return call_run(r->n, r->neighbours, r->n, r->codes, r->n, r->used,
-                    (const uint8_t *)v[0].buf + from, steps, (const uint16_t *)v[1].buf + from, steps,
-                    (const uint16_t *)v[2].buf + from, steps, (const uint16_t *)v[3].buf + from, steps,
-                    (uint8_t *)v[4].buf + at, steps, (uint8_t *)v[5].buf + at, steps,
-                    (uint8_t *)v[6].buf + at, steps);
-}
-
 /* run(block, ops, a, b, value, refusals, outcomes, determined) on buffers as they are, without the interpreter's lock. */
 static PyObject *run(PyObject *self, PyObject *const *args, Py_ssize_t count)
 {
@@ -291,44 +286,111 @@ static PyObject *run(PyObject *self, PyObject *const *args, Py_ssize_t count)
     return PyLong_FromLong(number);
 }
 
-/* How many steps each of the records has: the buffers hold one run for all of them, or one for each. */
-static int steps_of_each(const Py_buffer *v, size_t records, size_t *steps, int *shared)
+/* The runs of the records from `first` to below `last`: each on the same steps, or on its own. */
+typedef struct {
+    const Record *all;
+    const Py_buffer *views;
+    size_t first, last, steps;
+    int shared;
+    uint8_t number;
+} Part;
+
+static void *run_part(void *given)
 {
-    size_t whole = items(&v[4]);
-    *steps = records ? whole / records : 0;
-    *shared = items(&v[0]) == *steps && records != 1;
-    int good = *steps * records == whole;
+    Part *part = given;
+    const Py_buffer *v = part->views;
+    size_t steps = part->steps;
+    for (size_t k = part->first; k < part->last && !part->number; k++) {
+        const Record *r = &part->all[k];
+        size_t at = k * steps, from = part->shared ? 0 : at;
+        part->number = call_run(
+            r->n, r->neighbours, r->n, r->codes, r->n, r->used, (const uint8_t *)v[0].buf + from, steps,
+            (const uint16_t *)v[1].buf + from, steps, (const uint16_t *)v[2].buf + from, steps,
+            (const uint16_t *)v[3].buf + from, steps, (uint8_t *)v[4].buf + at, steps, (uint8_t *)v[5].buf + at, steps,
+            (uint8_t *)v[6].buf + at, steps);
+    }
+    return NULL;
+}
+
+enum { MOST_THREADS = 64 };
+
+/* All parts at once, the first in this thread; one for which no thread can be had comes after it. Answers the first
+ * refusal. */
+static uint8_t run_parts(const Part *whole, size_t records, size_t threads)
+{
+    Part parts[MOST_THREADS];
+    pthread_t workers[MOST_THREADS];
+    int started[MOST_THREADS] = {0};
+    for (size_t k = 0; k < threads; k++) {
+        parts[k] = *whole;
+        parts[k].first = records * k / threads;
+        parts[k].last = records * (k + 1) / threads;
+        if (k > 0) started[k] = pthread_create(&workers[k], NULL, run_part, &parts[k]) == 0;
+    }
+    run_part(&parts[0]);
+    uint8_t number = parts[0].number;
+    for (size_t k = 1; k < threads; k++) {
+        if (started[k]) pthread_join(workers[k], NULL);
+        else run_part(&parts[k]);
+        if (!number) number = parts[k].number;
+    }
+    return number;
+}
+
+/* How many steps each of the records has: the buffers hold one run for all of them, or one for each. */
+static int steps_of_each(size_t records, Part *whole)
+{
+    const Py_buffer *v = whole->views;
+    size_t answers = items(&v[4]);
+    whole->steps = records ? answers / records : 0;
+    whole->shared = items(&v[0]) == whole->steps && records != 1;
+    int good = whole->steps * records == answers;
     for (int k = 1; k < 4; k++) good &= items(&v[k]) == items(&v[0]);
-    for (int k = 5; k < 7; k++) good &= items(&v[k]) == whole;
-    good &= *shared || items(&v[0]) == whole;
+    for (int k = 5; k < 7; k++) good &= items(&v[k]) == answers;
+    good &= whole->shared || items(&v[0]) == answers;
     if (!good) PyErr_SetString(PyExc_ValueError, "the buffers of a run have other lengths than its steps");
     return good;
 }
 
-/* run_many(blocks, ops, a, b, value, refusals, outcomes, determined): each record of a list, without the
- * interpreter's lock. Answers 0, or the first refusal; records in front of it have run. */
+static Record *records_of(PyObject *list, Py_ssize_t records)
+{
+    Record *all = PyMem_Malloc((records ? (size_t)records : 1) * sizeof *all);
+    if (!all) {
+        PyErr_NoMemory();
+        return NULL;
+    }
+    for (Py_ssize_t k = 0; k < records; k++) {
+        if (!record_of(PyList_GetItem(list, k), &all[k])) {
+            PyMem_Free(all);
+            return NULL;
+        }
+    }
+    return all;
+}
+
+/* run_many(blocks, ops, a, b, value, refusals, outcomes, determined, threads): each record of a list, without the
+ * interpreter's lock, in so many threads. Answers 0, or the first refusal; other records have run. */
 static PyObject *run_many(PyObject *self, PyObject *const *args, Py_ssize_t count)
 {
     Py_buffer v[7];
-    size_t steps;
-    int shared;
-    if (!takes(count, 8)) return NULL;
+    uint64_t threads;
+    if (!takes(count, 9) || !place_of(args[8], &threads)) return NULL;
     Py_ssize_t records = PyList_Size(args[0]);
     if (records < 0) return NULL;
-    Record *all = PyMem_Malloc((records ? (size_t)records : 1) * sizeof *all);
-    if (!all) return PyErr_NoMemory();
-    int good = 1;
-    for (Py_ssize_t k = 0; good && k < records; k++) good = record_of(PyList_GetItem(args[0], k), &all[k]);
-    if (!good || !lent(args + 1, v)) {
+    Record *all = records_of(args[0], records);
+    if (!all) return NULL;
+    if (!lent(args + 1, v)) {
         PyMem_Free(all);
         return NULL;
     }
+    Part whole = {all, v, 0, (size_t)records, 0, 0, 0};
     uint8_t number = 0;
-    good = steps_of_each(v, (size_t)records, &steps, &shared);
-    if (good) {
+    int good = steps_of_each((size_t)records, &whole);
+    if (threads > (uint64_t)records) threads = (uint64_t)records;
+    if (threads > MOST_THREADS) threads = MOST_THREADS;
+    if (good && records > 0) {
         Py_BEGIN_ALLOW_THREADS
-        for (Py_ssize_t k = 0; k < records && !number; k++)
-            number = run_at(&all[k], v, shared ? 0 : (size_t)k * steps, (size_t)k * steps, steps);
+        number = run_parts(&whole, (size_t)records, threads ? (size_t)threads : 1);
         Py_END_ALLOW_THREADS
     }
     released(v, 7);

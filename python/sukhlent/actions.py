@@ -108,27 +108,27 @@ def drawn(file: str, layout: "str | None", out: str) -> int:
     return shown_or_written(state.svg(layout), out)
 
 
-def pair(first: str, second: str) -> "tuple[State, State]":
+def compare(first: str, second: str) -> int:
+    """How the first state becomes the second, for connected parts of at most 20 vertices."""
+    one, two = _pair(first, second)
+    return _carried(one.compare(two))
+
+
+def equivalent(first: str, second: str, renumbered: bool) -> int:
+    """The same for parts of any size, and in any order of the qubits."""
+    one, two = _pair(first, second)
+    return _carried(one.equivalent(two, renumbered))
+
+
+def _pair(first: str, second: str) -> tuple[State, State]:
     """The states of two files."""
     if first == second == "-":
         raise Trouble("only one of the two files can be standard input")
     return read_state(text_of(first)), read_state(text_of(second))
 
 
-def compare(first: str, second: str) -> int:
-    """How the first state becomes the second, in connected parts of at most 20 vertices."""
-    one, two = pair(first, second)
-    return shown_choice(one.compare(two))
-
-
-def equivalent(first: str, second: str, renumbered: bool) -> int:
-    """How the first state becomes the second, in parts of any size."""
-    one, two = pair(first, second)
-    return shown_choice(one.equivalent(two, renumbered))
-
-
-def shown_choice(found: "Equivalence | Renumbered | None") -> int:
-    """Prints the choice, and the order where one was looked for."""
+def _carried(found: "Equivalence | Renumbered | None") -> int:
+    """Prints what a comparison found."""
     if found is None:
         raise Refusal(13)
     order = getattr(found, "order", None)

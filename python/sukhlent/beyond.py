@@ -88,7 +88,9 @@ def measure_row(block: bytearray, z: int, x: int, bit: int) -> int:
     row = [(q, (0, 1, 3, 2)[(x >> q & 1) + 2 * (z >> q & 1)]) for q in range(n) if (z | x) >> q & 1]
     if not row:
         return 2
-    last = row[-1][0]
+    last, letter = row[-1]
+    if len(row) == 1:
+        return look(block, letter, last, bit)
     led = list(_led(row, last))
     for kind, a, b in led:
         _ = calls.gate(block, a, _TO_Z[b][0]) if kind == "to Z" else calls.cx(block, a, b)
@@ -101,7 +103,8 @@ def measure_row(block: bytearray, z: int, x: int, bit: int) -> int:
 def _led(row: list[tuple[int, int]], last: int) -> Iterator[tuple[str, int, int]]:
     """The steps that lead a row to Z at its last qubit."""
     for qubit, pauli in row:
-        yield "to Z", qubit, pauli
+        if pauli != 3:
+            yield "to Z", qubit, pauli
     for qubit, _ in row[:-1]:
         yield "cx", qubit, last
 

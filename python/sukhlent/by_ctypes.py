@@ -98,21 +98,36 @@ def run(block: bytearray, *slices: Any) -> int:
     return library.call("run", *_record(block), _used(block), *lent)
 
 
-def run_many(records: Sequence[bytearray], *slices: Any) -> int:
-    """The same on each record of a list: one run for all of them, or one for each."""
-    views = [memoryview(given) for given in slices]
-    flat = [view.cast("B").cast(view.format.lstrip("@=<")) for view in views]
-    steps = len(flat[4]) // len(records) if records else 0
-    shared = len(flat[0]) == steps and len(records) != 1
-    if {len(view) for view in flat[4:]} != {steps * len(records)} or len({len(view) for view in flat[:4]}) != 1:
+def run_many(records: Sequence[bytearray], *given: Any) -> int:
+    """The same on each record of a list, in as many threads as the last argument says: one run for all of them, or one for
+    each."""
+    *slices, threads = given
+    flat = [_flat(name, part) for name, part in zip(library.RUN_NAMES, slices)]
+    count = len(records)
+    steps = len(flat[4]) // count if count else 0
+    shared = len(flat[0]) == steps and count != 1
+    asked = {len(view) for view in flat[:4]}
+    if {len(view) for view in flat[4:]} != {steps * count} or asked not in ({steps}, {steps * count}):
         raise ValueError("the buffers of a run have other lengths than its steps")
-    for k, block in enumerate(records):
+
+    def one(k: int) -> int:
         own = slice(k * steps, (k + 1) * steps)
-        given = flat[:4] if shared else [view[own] for view in flat[:4]]
-        number = run(block, *given, *(view[own] for view in flat[4:]))
-        if number:
-            return number
-    return 0
+        mine = flat[:4] if shared else [view[own] for view in flat[:4]]
+        return run(records[k], *mine, *(view[own] for view in flat[4:]))
+
+    if threads == 1:
+        return next((number for number in map(one, range(count)) if number), 0)
+    from concurrent.futures import ThreadPoolExecutor
+
+    with ThreadPoolExecutor(min(threads, 64)) as pool:
+        return next((number for number in pool.map(one, range(count)) if number), 0)
+
+
+def _flat(name: str, given: Any) -> memoryview:
+    """A slice of a run in one dimension; `TypeError` where its numbers are of another kind."""
+    library.lent(name, given)
+    view = memoryview(given)
+    return view.cast("B").cast(view.format.lstrip("@=<"))
 
 
 def _group(block: bytearray, word: int, number: int) -> tuple[Any, ...]:

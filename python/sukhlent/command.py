@@ -46,9 +46,9 @@ def parser() -> argparse.ArgumentParser:
     compare = command("compare", about, actions.compare, file=False)
     about = "the same, for states whose graphs have connected parts of more than 20 vertices too"
     equivalent = command("equivalent", about, actions.equivalent, file=False)
-    for two in compare, equivalent:
-        two.add_argument("first", metavar="FIRST")
-        two.add_argument("second", metavar="SECOND")
+    for pair in compare, equivalent:
+        pair.add_argument("first", metavar="FIRST")
+        pair.add_argument("second", metavar="SECOND")
     equivalent.add_argument("--renumbered", action="store_true", help="in any order of the qubits, on up to 8")
     about = "expectation values, 1, -1 or 0, of Pauli rows such as +XZI or X0*Z1 (with a minus: after --)"
     expectation = command("expectation", about, actions.expectation, file=False)

@@ -2,12 +2,11 @@
 
 from __future__ import annotations
 
-import threading
 from array import array
-from typing import Any, Callable, Iterable, NamedTuple, Sequence
+from typing import Any, Iterable, NamedTuple, Sequence
 
 from . import calls, library
-from .arguments import called, listed
+from .arguments import called, listed, whole
 from .refusals import Refusal
 
 #: the names of the operations of a run, in the order of their numbers
@@ -67,7 +66,7 @@ def run_many(states: Iterable[Any], ops: Any, a: Any, b: Any, value: Any, thread
     """Runs steps on many states in one call: the same steps on each where the buffers have one dimension; where they have
     two, the steps of row k on state k. The answers have a row for each state (one after the other in an array of one
     dimension where the buffers are not numpy's). The interpreter's lock is free meanwhile, and `threads` parts of the
-    states run at once.
+    states run at once. Where the run of one state is refused as a whole, that is raised; states in other parts have run.
 
     >>> from array import array
     >>> from sukhlent import State
@@ -76,7 +75,11 @@ def run_many(states: Iterable[Any], ops: Any, a: Any, b: Any, value: Any, thread
     >>> ran.refusals, ran.outcomes
     (array('B', [14, 0]), array('B', [0, 1]))
     """
-    records = [state._block for state in states]
+    given_states = listed(states, "states", "run_many(states, ..)")
+    strange = next((state for state in given_states if not hasattr(state, "_block") or not hasattr(state, "run")), None)
+    if strange is not None:
+        raise TypeError(f"run_many(states, ..): expected a State, not {called(strange)}")
+    records = [state._block for state in given_states]
     if len({id(block) for block in records}) != len(records):
         raise ValueError("run_many(states, ..): a state is given twice, where each runs by itself")
     slices = _buffers(ops, a, b, value)
@@ -89,39 +92,8 @@ def run_many(states: Iterable[Any], ops: Any, a: Any, b: Any, value: Any, thread
     if count == 0:
         return Ran(*answers)
     flat = [_flat(given) for given in (*slices, *answers)]
-
-    def part(first: int, last: int) -> int:
-        own = slice(first * steps, last * steps)
-        given = flat[:4] if shared else [each[own] for each in flat[:4]]
-        return calls.run_many(records[first:last], *given, *(each[own] for each in flat[4:]))
-
-    parts = max(1, min(threads, count))
-    bounds = [count * k // parts for k in range(parts + 1)]
-    numbers = _at_once(part, list(zip(bounds, bounds[1:])))
-    _accept(next((number for number in numbers if number), 0), ops)
+    _accept(calls.run_many(records, *flat, max(1, whole(threads, "a number of threads"))), ops)
     return Ran(*answers)
-
-
-def _at_once(part: Callable[[int, int], int], spans: list[tuple[int, int]]) -> list[int]:
-    """The parts of a work: the first here, each other one in a thread of its own."""
-    found: list[Any] = [None] * len(spans)
-
-    def done(k: int) -> None:
-        try:
-            found[k] = part(*spans[k])
-        except Exception as error:  # raised again below, in the thread of the caller
-            found[k] = error
-
-    workers = [threading.Thread(target=done, args=(k,)) for k in range(1, len(spans))]
-    for worker in workers:
-        worker.start()
-    done(0)
-    for worker in workers:
-        worker.join()
-    for answer in found:
-        if isinstance(answer, Exception):
-            raise answer
-    return found
 
 
 def _flat(given: Any) -> memoryview:

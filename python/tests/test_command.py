@@ -92,7 +92,7 @@ class Command(unittest.TestCase):
     def test_a_refusal_ends_with_1_and_its_words(self):
         said = (
             "sukhlent: refused 2: n is 0 or above the call's limit, or the two lists' or records' n differ, "
-            "or a group's call, or a state that it holds, has another n than 64\n"
+            "or a group's call has another n than 64\n"
         )
         self.assertEqual(called("reduce", self.file("empty", "sign z x\n")), (1, "", said))
         for name in ("reduce", "draw"):
@@ -113,6 +113,8 @@ class Command(unittest.TestCase):
         ghz = self.file("ghz", "+" + 21 * "X" + "\n" + "".join(f"+{q * 'I'}ZZ{(19 - q) * 'I'}\n" for q in range(20)))
         self.assertIn("refused 3", called("compare", ghz, ghz)[2])
         self.assertEqual(called("equivalent", ghz, ghz)[1].splitlines()[21:], ["20 0 I", "complementations"])
+        status, out, _ = called("equivalent", "--renumbered", record, strings)
+        self.assertEqual((status, out.splitlines()[0]), (0, "qubit from code gate"))
 
     def test_drawings_of_every_layout(self):
         list_file = self.file("bell", BELL)

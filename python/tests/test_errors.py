@@ -86,6 +86,8 @@ class Errors(unittest.TestCase):
             (lambda: GRAPH.run(3), "run(steps): expected a list of steps, four numbers each, not 3 (int)"),
             (lambda: GRAPH.run([1]), "run(steps): step 0 is 1 (int), where an operation, two qubits and a value are taken"),
             (lambda: GRAPH.svg(5), "a layout is circle, line, rows and columns, or a place for each vertex, not 5 (int)"),
+            (lambda: run_many(GRAPH, *[array("B", [0])] * 4), "run_many(states, ..): expected a list of states, not State([2, 5, 2], [0, 0, 0], 0) (State)"),
+            (lambda: run_many([3], *[array("B", [0])] * 4), "run_many(states, ..): expected a State, not 3 (int)"),
             (lambda: State.lattice("a", 3), "expected a number of rows, not the text 'a'"),
             (lambda: run_step(GRAPH, "h 0"), "run_step(state, step): expected a Step, not the text 'h 0'"),
             (lambda: run_steps(GRAPH, [(0, 0, 0, 8)]), "run_steps(state, steps): expected a Step, not (0, 0, 0, 8) (tuple)"),

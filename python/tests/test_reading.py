@@ -84,12 +84,13 @@ class Reading(unittest.TestCase):
                     said.append(
                         [
                             called("reduce", str(file)), called("amplitudes", str(file)), called("draw", str(file)),
-                            called("compare", str(file), str(file)), called("expectation", str(file), "XZ_", "X0*Z1"),
+                            called("compare", str(file), str(file)), called("equivalent", str(file), str(file)),
+                            called("expectation", str(file), "XZ_", "X0*Z1"),
                         ]
                     )  # fmt: skip
             for one in said:
                 self.assertEqual(one, said[0])
-            self.assertEqual([status for status, _, _ in said[0]], [0] * 5)
+            self.assertEqual([status for status, _, _ in said[0]], [0] * 6)
             self.assertEqual(said[0][0][1], str(STATE) + "\n")
 
     def test_other_encodings(self):

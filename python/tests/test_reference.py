@@ -1,5 +1,6 @@
-"""The documents that are made from the package: the reference, and the table of the codes."""
+"""The documents that are made from the package: the reference, the table of the codes, and the times."""
 
+import os
 import re
 import subprocess
 import sys
@@ -25,6 +26,16 @@ class Reference(unittest.TestCase):
                 self.assertEqual(NAMES[int(number)], name)
                 self.assertEqual(images(int(number)), (signs[0] + x, signs[1] + z))
                 self.assertEqual(int(number) // 4, int(place))
+
+    def test_the_times_are_measured(self):
+        command = [sys.executable, "-B", str(ROOT / "python" / "bench" / "speed.py"), "--quick"]
+        environment = {**os.environ, "PYTHONPATH": str(ROOT / "python")}
+        run = subprocess.run(command, capture_output=True, text=True, timeout=120, env=environment)
+        self.assertEqual(run.returncode, 0, run.stderr)
+        shown = (ROOT / "docs" / "SPEED.md").read_text()
+        for head in ("| one gate at 64 qubits | time |", "| at 64 qubits | Sukhlent | a tableau in numpy |", "to the C call |"):
+            self.assertIn(head, run.stdout)
+            self.assertIn(head, shown)
 
 
 if __name__ == "__main__":
