@@ -11,17 +11,13 @@ import ctypes
 import importlib.util
 import os
 import random
-import subprocess
 import sys
 import tempfile
-import threading
 import time
 from array import array
 from pathlib import Path
 
-from sukhlent import State, by_ctypes, calls, generate, library, run_job, run_many
-from sukhlent.jobs import parse_job
-from sukhlent.running import OPS
+from sukhlent import State, by_ctypes, calls, library, run_many
 
 ROOT = Path(__file__).resolve().parents[2]
 N = 64
@@ -140,7 +136,6 @@ def table():
     """The calls of a state beside a numpy tableau."""
     state, other, sealed = drawn(1), drawn(1), drawn(2)
     numpy = numpy_tableau(state)
-    fresh = [drawn(3) for _ in range(8)]
     measured = [state.copy() for _ in range(200 * ROUNDS + 1)]
     peers = [numpy.copy() for _ in range(200 * ROUNDS + 1)] if numpy else []
     works = {

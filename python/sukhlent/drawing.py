@@ -90,7 +90,7 @@ def _vertex(label: str, place: Place, gone: bool, square: bool) -> list[str]:
         if square
         else f'<circle cx="{x:.1f}" cy="{y:.1f}" r="13"'
     )
-    fitted = f' textLength="22" lengthAdjust="spacingAndGlyphs"' if len(label) > 3 else ""
+    fitted = ' textLength="22" lengthAdjust="spacingAndGlyphs"' if len(label) > 3 else ""
     return [
         f'{outline} fill="{fill}" stroke="{colour}"{dash}/>',
         f'<text x="{x:.1f}" y="{y:.1f}" dy=".35em" fill="{ink}"{fitted}>{escape(label)}</text>',
