@@ -7,7 +7,7 @@ from __future__ import annotations
 from typing import Iterator
 
 from . import blocks, calls
-from .arguments import pauli_number, place
+from .arguments import place
 
 #: how X, Y and Z become Z: the code that is applied, and the one that undoes it
 _TO_Z = {1: (8, 8), 2: (13, 12), 3: (0, 0)}

@@ -44,7 +44,7 @@ def arguments(source, n):
 @unittest.skipUnless(calls.TAKEN == "extension", "the extension is not built for this Python")
 class Alike(unittest.TestCase):
     def test_each_call(self):
-        source, seen = random.Random(8), set()
+        source, seen, one = random.Random(8), set(), None
         for _ in range(3000):
             one = drawn(source) if source.random() < 0.05 or not seen else one
             name, *given = arguments(source, blocks.size(one))
