@@ -5,7 +5,7 @@ use crate::header::published;
 use std::fmt;
 
 /// The numbers of the refusals, and 0.
-const NUMBERS: usize = 20;
+const NUMBERS: usize = 21;
 
 /// For each call of the table, how often it gave each number.
 #[derive(Clone, Default)]
