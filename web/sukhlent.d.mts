@@ -4,6 +4,8 @@
 export type Gate = string | number;
 /** A Pauli by its letter, or as 1, 2 or 3. */
 export type Pauli = "X" | "Y" | "Z" | 1 | 2 | 3;
+/** The state of a new photon by its name, or by its code. */
+export type Photon = "+X" | "-X" | "+Y" | "-Y" | "+Z" | "-Z" | 0 | 2 | 4 | 6 | 8 | 10;
 export type Bit = 0 | 1;
 export type Integer = number | bigint;
 /** An operation (0 gate, 1 cz, 2 measure, 3 complement, 4 pivot), two qubits and a value. */
@@ -104,7 +106,7 @@ export class State {
   measure(pauli: Pauli, qubit: Integer, outcome?: Bit): Measured;
   observe(pauli: Pauli, qubit: Integer, bit: Bit): Measured;
   measureRow(row: string, bit?: Bit): Measured;
-  renew(qubit: number, gate?: Gate): void;
+  renew(qubit: Integer, photon?: Photon): void;
   complement(vertex: Integer): void;
   run(steps: readonly Step[]): [refusal: number, outcome: Bit, determined: Bit][];
   grown(gate?: Gate): State;

@@ -14,7 +14,7 @@
 #include "sukhlent.h"
 
 #define EACH_CALL(X) \
-    X(gate) X(cz) X(measure) X(complement) X(run) X(cut) X(expectation) \
+    X(gate) X(cz) X(measure) X(observe) X(renew) X(complement) X(run) X(cut) X(expectation) \
     X(group_gate) X(group_cz) X(group_measure) X(group_complement)
 
 #define POINTER(name) static __typeof__(sukhlent_##name) *call_##name;
@@ -151,17 +151,37 @@ static PyObject *cx(PyObject *self, PyObject *const *args, Py_ssize_t count)
                                     refusals, 3, outcomes, 3, determined, 3));
 }
 
-static PyObject *measure(PyObject *self, PyObject *const *args, Py_ssize_t count)
+/* A Pauli at a qubit and a bit, by sukhlent_measure or sukhlent_observe. */
+static PyObject *measured_by(__typeof__(sukhlent_measure) *call, PyObject *const *args, Py_ssize_t count)
 {
     Record r;
     uint64_t qubit;
-    uint8_t pauli, outcome, answer = 0, determined = 0;
+    uint8_t pauli, bit, answer = 0, determined = 0;
     if (!takes(count, 4) || !record_of(args[0], &r)) return NULL;
     if (!octet_of(args[1], paulis_by_name, judge_pauli, &pauli) || !place_of(args[2], &qubit)) return NULL;
-    if (!octet_of(args[3], NULL, judge_bit, &outcome)) return NULL;
-    uint8_t number = call_measure(r.n, r.neighbours, r.n, r.codes, r.n, r.used, pauli, qubit, outcome, &answer,
-                                  &determined);
+    if (!octet_of(args[3], NULL, judge_bit, &bit)) return NULL;
+    uint8_t number = call(r.n, r.neighbours, r.n, r.codes, r.n, r.used, pauli, qubit, bit, &answer, &determined);
     return measured(number, answer, determined);
+}
+
+static PyObject *measure(PyObject *self, PyObject *const *args, Py_ssize_t count)
+{
+    return measured_by(call_measure, args, count);
+}
+
+static PyObject *observe(PyObject *self, PyObject *const *args, Py_ssize_t count)
+{
+    return measured_by(call_observe, args, count);
+}
+
+static PyObject *renew(PyObject *self, PyObject *const *args, Py_ssize_t count)
+{
+    Record r;
+    uint64_t qubit;
+    uint8_t code;
+    if (!takes(count, 3) || !record_of(args[0], &r) || !place_of(args[1], &qubit)) return NULL;
+    if (!octet_of(args[2], codes_by_name, judge_code, &code)) return NULL;
+    return PyLong_FromLong(call_renew(r.n, r.neighbours, r.n, r.codes, r.n, r.used, qubit, code));
 }
 
 static PyObject *complement(PyObject *self, PyObject *const *args, Py_ssize_t count)
@@ -484,9 +504,9 @@ static PyObject *open_library(PyObject *self, PyObject *args)
 #define METHOD(name) {#name, (PyCFunction)(void (*)(void))name, METH_FASTCALL, NULL}
 static PyMethodDef methods[] = {
     {"open", open_library, METH_VARARGS, NULL},
-    METHOD(gate), METHOD(cz), METHOD(cx), METHOD(measure), METHOD(complement), METHOD(cut), METHOD(expectation),
-    METHOD(reduce), METHOD(same), METHOD(run), METHOD(run_many), METHOD(group_gate), METHOD(group_cz),
-    METHOD(group_measure), METHOD(group_complement), {NULL, NULL, 0, NULL},
+    METHOD(gate), METHOD(cz), METHOD(cx), METHOD(measure), METHOD(observe), METHOD(renew), METHOD(complement),
+    METHOD(cut), METHOD(expectation), METHOD(reduce), METHOD(same), METHOD(run), METHOD(run_many), METHOD(group_gate),
+    METHOD(group_cz), METHOD(group_measure), METHOD(group_complement), {NULL, NULL, 0, NULL},
 };
 
 static struct PyModuleDef module = {

@@ -1,4 +1,4 @@
-"""Outcomes by lot, new photons at used places, joint measurements, and records as texts: by the calls that the library
+"""Measurements that use no qubit up, of one qubit and of rows, resets, and records as texts: by the calls that the library
 has. Each works on a block and answers as the functions of calls.py do: 0 or a refusal; of a measurement its outcome, and 2
 more where it was determined, or a refusal as a negative number."""
 
@@ -7,56 +7,23 @@ from __future__ import annotations
 from typing import Iterator
 
 from . import blocks, calls
-from .arguments import place
 
 #: how X, Y and Z become Z: the code that is applied, and the one that undoes it
 _TO_Z = {1: (8, 8), 2: (13, 12), 3: (0, 0)}
 
-_PHOTONS = (0, 2, 4, 6, 8, 10)
-
-
-def observe(block: bytearray, pauli: "int | str", qubit: int, bit: int) -> int:
-    """Measures with a bit by lot: where the state determines the outcome, the bit is ignored.
-
-    >>> observe(blocks.made([0], [10], 0), "Z", 0, 0)
-    3
-    """
-    found = calls.measure(block, pauli, qubit, bit)
-    return calls.measure(block, pauli, qubit, 1 - bit) if found == -14 else found
-
 
 def look(block: bytearray, pauli: "int | str", qubit: int, bit: int) -> int:
-    """The same, and the qubit is not used afterwards: it stays in the measured state.
+    """Measures with a bit by lot, and the qubit is not used afterwards: it stays in the measured state.
 
     >>> block = blocks.made([0], [8], 0)
     >>> look(block, "X", 0, 1), blocks.parts(block)
     (1, ((0,), (2,), 0))
     """
     used = blocks.used(block)
-    found = observe(block, pauli, qubit, bit)
+    found = calls.observe(block, pauli, qubit, bit)
     if found >= 0:
         blocks.set_used(block, used)
     return found
-
-
-def renew(block: bytearray, qubit: int, code: int) -> int:
-    """Puts a new photon at a used place, in the state of a code: 0, 2, 4, 6, 8, 10 are +X, -X, +Y, -Y, +Z, -Z.
-
-    >>> block = blocks.made([0], [2], 1)
-    >>> renew(block, 0, 8), blocks.parts(block), renew(block, 0, 8)
-    (0, ((0,), (8,), 0), 20)
-    """
-    if code not in _PHOTONS:
-        return 6
-    qubit = place(qubit)
-    if qubit >= blocks.size(block):
-        return 8
-    used = blocks.used(block)
-    if not used >> qubit & 1:
-        return 20
-    blocks.set_used(block, used & ~(1 << qubit))
-    blocks.set_code(block, qubit, code)
-    return 0
 
 
 def reset(block: bytearray, qubit: int, code: int, bit: int) -> int:
@@ -66,8 +33,8 @@ def reset(block: bytearray, qubit: int, code: int, bit: int) -> int:
     >>> reset(block, 0, 8, 1), blocks.parts(block)
     (0, ((0, 0), (8, 10), 0))
     """
-    found = observe(block, code // 4 + 1, qubit, bit)
-    return -found if found < 0 else renew(block, qubit, code)
+    found = calls.observe(block, code // 4 + 1, qubit, bit)
+    return -found if found < 0 else calls.renew(block, qubit, code)
 
 
 def measure_row(block: bytearray, z: int, x: int, bit: int) -> int:

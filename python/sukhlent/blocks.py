@@ -70,14 +70,3 @@ def set_used(block: bytearray, word: int) -> None:
     """
     n = size(block)
     block[8 * n : 8 * n + 8] = word.to_bytes(8, "little")
-
-
-def set_code(block: bytearray, qubit: int, code: int) -> None:
-    """Writes the code of a qubit.
-
-    >>> block = made([0], [8], 1)
-    >>> set_code(block, 0, 10)
-    >>> parts(block)
-    ((0,), (10,), 1)
-    """
-    block[8 * size(block) + 8 + qubit] = code

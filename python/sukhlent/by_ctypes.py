@@ -51,12 +51,26 @@ def _measured(number: int, answer: library.Cell, determined: library.Cell) -> in
     return -number if number else answer.value + 2 * determined.value
 
 
+def _measured_by(name: str, block: bytearray, pauli: "int | str", qubit: int, given: int) -> int:
+    answer, determined = library.octet(), library.octet()
+    asked = (pauli_number(pauli), place(qubit), bit(given))
+    number = library.call(name, *_record(block), _used(block), *asked, answer, determined)
+    return _measured(number, answer, determined)
+
+
 def measure(block: bytearray, pauli: "int | str", qubit: int, outcome: int) -> int:
     """A Pauli measured: the outcome, and 2 more where it was determined."""
-    answer, determined = library.octet(), library.octet()
-    given = (pauli_number(pauli), place(qubit), bit(outcome))
-    number = library.call("measure", *_record(block), _used(block), *given, answer, determined)
-    return _measured(number, answer, determined)
+    return _measured_by("measure", block, pauli, qubit, outcome)
+
+
+def observe(block: bytearray, pauli: "int | str", qubit: int, lot: int) -> int:
+    """The same with a bit by lot, which plays no part where the state determines the outcome."""
+    return _measured_by("observe", block, pauli, qubit, lot)
+
+
+def renew(block: bytearray, qubit: int, photon: int) -> int:
+    """A new photon at a used qubit, in the state of a code: 0, 2, 4, 6, 8, 10 are +X, -X, +Y, -Y, +Z, -Z."""
+    return library.call("renew", *_record(block), _used(block), place(qubit), code(photon))
 
 
 def complement(block: bytearray, vertex: int) -> int:

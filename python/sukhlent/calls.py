@@ -55,7 +55,8 @@ _taken = _chosen()
 #: "extension" or "ctypes"
 TAKEN = "ctypes" if _taken is by_ctypes else "extension"
 
-gate, cz, cx, measure, complement = _taken.gate, _taken.cz, _taken.cx, _taken.measure, _taken.complement
+gate, cz, cx, complement = _taken.gate, _taken.cz, _taken.cx, _taken.complement
+measure, observe, renew = _taken.measure, _taken.observe, _taken.renew
 cut, expectation, reduce, same = _taken.cut, _taken.expectation, _taken.reduce, _taken.same
 run, run_many = _taken.run, _taken.run_many
 group_gate, group_cz = _taken.group_gate, _taken.group_cz

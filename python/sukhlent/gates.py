@@ -10,7 +10,7 @@ MEASURED = (Measured(0, False), Measured(1, False), Measured(0, True), Measured(
 
 
 class Gates:
-    """What has `gate`, `cz` and `_measured` has all of these."""
+    """What has `gate`, `cz`, `_measured` and `_observed` has all of these."""
 
     __slots__ = ()
 
@@ -19,11 +19,11 @@ class Gates:
         raise NotImplementedError
 
     def _measured(self, pauli: "str | int", qubit: int, outcome: int) -> int:
-        """The outcome, and 2 more where it was determined, or -14; raises where it is refused otherwise."""
+        """The outcome, and 2 more where it was determined; raises where it is refused."""
         raise NotImplementedError
 
-    def _forbidden(self, pauli: "str | int", qubit: int, outcome: int) -> Exception:
-        """What is raised where the state forbids an outcome."""
+    def _observed(self, pauli: "str | int", qubit: int, bit: int) -> int:
+        """The same with a bit by lot, which plays no part where the state determines the outcome."""
         raise NotImplementedError
 
     def h(self, qubit: int) -> None:
@@ -98,10 +98,5 @@ class Gates:
         Measured(outcome=1, determined=False)
         """
         if outcome is not None:
-            found = self._measured(pauli, qubit, outcome)
-            if found < 0:
-                raise self._forbidden(pauli, qubit, outcome)
-            return MEASURED[found]
-        bit = bits_from(source)()
-        found = self._measured(pauli, qubit, bit)
-        return MEASURED[self._measured(pauli, qubit, 1 - bit) if found < 0 else found]
+            return MEASURED[self._measured(pauli, qubit, outcome)]
+        return MEASURED[self._observed(pauli, qubit, bits_from(source)())]

@@ -5,7 +5,7 @@ from __future__ import annotations
 from pathlib import Path
 from typing import Any, Iterable, Sequence
 
-from . import beyond, blocks, calls, explain, library
+from . import blocks, calls, explain, library
 from .arguments import qubits
 from .drawing import record_svg
 from .gates import Gates
@@ -254,6 +254,18 @@ class Group(Gates):
         self.h(target)
 
     def _measured(self, pauli: "str | int", qubit: int, outcome: int) -> int:
+        found = self._asked(pauli, qubit, outcome)
+        if found < 0:
+            raise explain.measure(14, 64, self._used(), pauli, qubit, outcome)
+        return found
+
+    def _observed(self, pauli: "str | int", qubit: int, bit: int) -> int:
+        """By the other bit where the state forbids the first."""
+        found = self._asked(pauli, qubit, bit)
+        return self._asked(pauli, qubit, 1 - bit) if found < 0 else found
+
+    def _asked(self, pauli: "str | int", qubit: int, outcome: int) -> int:
+        """The outcome, and 2 more where it was determined, or -14; raises where it is refused otherwise."""
         try:
             found = calls.group_measure(*self._head(), pauli, qubit, outcome)
         except TypeError as error:
@@ -263,9 +275,6 @@ class Group(Gates):
         if found < 0 and found != -14:
             raise explain.measure(-found, 64, self._used(), pauli, qubit, outcome)
         return found
-
-    def _forbidden(self, pauli: "str | int", qubit: int, outcome: int) -> Refusal:
-        return explain.measure(14, 64, self._used(), pauli, qubit, outcome)
 
     def complement(self, vertex: int) -> None:
         """Complements at a vertex of the group: the same state, not reduced.
@@ -348,7 +357,7 @@ class Group(Gates):
         state = self.state()
         self._all_own([qubit])
         state.renew(qubit, photon)
-        beyond.renew(self._shared._block, qubit, state.codes[qubit])
+        calls.renew(self._shared._block, qubit, state.codes[qubit])
 
     def _named(self, call: str, name: "bytes | str", used: Any) -> None:
         """A call on the group's named states; raises where it is refused."""

@@ -3,7 +3,7 @@
 from __future__ import annotations
 
 import struct
-from typing import Any, Iterable
+from typing import Any, Callable, Iterable
 
 from . import beyond, blocks, calls, explain, library
 from .answers import Measured
@@ -225,16 +225,19 @@ class State(Gates, Reads, Graphs, Shows):
             raise explain.on_qubits(number, self.n, self.used, (control, target), "cx")
 
     def _measured(self, pauli: "str | int", qubit: int, outcome: int) -> int:
+        return self._measured_by(calls.measure, pauli, qubit, outcome)
+
+    def _observed(self, pauli: "str | int", qubit: int, bit: int) -> int:
+        return self._measured_by(calls.observe, pauli, qubit, bit)
+
+    def _measured_by(self, call: Callable[..., int], pauli: "str | int", qubit: int, bit: int) -> int:
         try:
-            found = calls.measure(self._block, pauli, qubit, outcome)
+            found = call(self._block, pauli, qubit, bit)
         except TypeError as error:
             raise TypeError(f"measure(pauli, qubit, outcome): {error}") from None
-        if found < 0 and found != -14:
-            raise explain.measure(-found, self.n, self.used, pauli, qubit, outcome)
+        if found < 0:
+            raise explain.measure(-found, self.n, self.used, pauli, qubit, bit)
         return found
-
-    def _forbidden(self, pauli: "str | int", qubit: int, outcome: int) -> Refusal:
-        return explain.measure(14, self.n, self.used, pauli, qubit, outcome)
 
     def measure_row(self, row: Row, outcome: "int | None" = None, source: Source = None) -> Measured:
         """Measures a Pauli row of any weight, such as a parity `ZZI` or `X0*X3`, and uses no qubit up. The outcome is 1 where
@@ -274,7 +277,7 @@ class State(Gates, Reads, Graphs, Shows):
         if photon not in _PHOTONS:
             raise ValueError(f"renew(qubit, photon): a photon is {', '.join(_PHOTONS)}, not {called(photon)}")
         try:
-            number = beyond.renew(self._block, qubit, _PHOTONS[photon])
+            number = calls.renew(self._block, qubit, _PHOTONS[photon])
         except TypeError as error:
             raise TypeError(f"renew(qubit, photon): {error}") from None
         if number == 20:

@@ -29,11 +29,13 @@ def arguments(source, n):
     gate = lambda: source.choice((source.randrange(24), "H", "s_dag", "√X", 24, 300, -1))
     pauli = lambda: source.choice(("X", "y", 3, 0, 7, "T"))
     bit = lambda: source.choice((0, 1, 1, 2, 256))
+    photon = lambda: source.choice((2 * source.randrange(6), source.randrange(24), "H", 300, -1))
     group = (source.getrandbits(64), source.choice((0, 1, 2)))
     return source.choice(
         [
             ("gate", place(), gate()), ("cz", place(), place()), ("cx", place(), place()),
-            ("measure", pauli(), place(), bit()), ("complement", place()), ("cut", word()),
+            ("measure", pauli(), place(), bit()), ("observe", pauli(), place(), bit()), ("renew", place(), photon()),
+            ("complement", place()), ("cut", word()),
             ("expectation", word(), word()), ("reduce",), ("group_gate", *group, place(), gate()),
             ("group_cz", *group, place(), place()), ("group_measure", *group, pauli(), place(), bit()),
             ("group_complement", *group, place()),
@@ -41,18 +43,24 @@ def arguments(source, n):
     )  # fmt: skip
 
 
+#: the calls with an answer of their own
+ANSWERING = ("measure", "observe", "cut", "expectation", "group_measure")
+
+
 @unittest.skipUnless(calls.TAKEN == "extension", "the extension is not built for this Python")
 class Alike(unittest.TestCase):
     def test_each_call(self):
-        source, seen, one = random.Random(8), set(), None
+        source, seen, numbers, one = random.Random(8), set(), set(), None
         for _ in range(3000):
             one = drawn(source) if source.random() < 0.05 or not seen else one
             name, *given = arguments(source, blocks.size(one))
             other = bytearray(one)
             answer = getattr(calls, name)(one, *given)
             self.assertEqual((answer, one), (getattr(by_ctypes, name)(other, *given), other), (name, given))
-            seen.add((name, answer == 0 or answer > 0 and name in ("measure", "cut", "expectation", "group_measure")))
-        self.assertGreater(len(seen), 20)
+            seen.add((name, answer == 0 or answer > 0 and name in ANSWERING))
+            numbers.add(-answer if name in ANSWERING else answer)
+        self.assertGreater(len(seen), 24)
+        self.assertLessEqual({0, 5, 6, 8, 16, 19, 20}, numbers)
 
     def test_equality(self):
         source = random.Random(9)
@@ -84,7 +92,8 @@ class Alike(unittest.TestCase):
     def test_wrong_arguments_are_told_alike(self):
         for name, given in (
             ("gate", ("H", 0)), ("gate", (0, 1.5)), ("gate", (0, "T")), ("cz", (0, None)), ("measure", ("X", "Z", 0)),
-            ("measure", ("X", 0, 0.5)), ("measure", (None, 0, 0)), ("complement", ([0],)),
+            ("measure", ("X", 0, 0.5)), ("measure", (None, 0, 0)), ("complement", ([0],)), ("observe", ("X", "Z", 0)),
+            ("observe", ("X", 0, 0.5)), ("observe", (None, 0, 0)), ("renew", ("H", 0)), ("renew", (0, "T")),
         ):  # fmt: skip
             said = []
             for module in (calls, by_ctypes):

@@ -92,7 +92,7 @@ class Command(unittest.TestCase):
     def test_a_refusal_ends_with_1_and_its_words(self):
         said = (
             "sukhlent: refused 2: n is 0 or above the call's limit, or the two lists' or records' n differ, "
-            "or a group's call has another n than 64\n"
+            "or a group's call, or a state that it holds, has another n than 64\n"
         )
         self.assertEqual(called("reduce", self.file("empty", "sign z x\n")), (1, "", said))
         for name in ("reduce", "draw"):

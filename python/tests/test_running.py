@@ -7,8 +7,9 @@ import subprocess
 import threading
 import unittest
 from array import array
+from unittest import mock
 
-from sukhlent import State, generate, run_job, run_many
+from sukhlent import Refusal, State, calls, generate, run_job, run_many
 from tests.places import ROOT
 from tests.vectors import Vector
 
@@ -136,11 +137,36 @@ class Rows(unittest.TestCase):
             state.measure("X", b, source=source)
             state.renew(b, source.choice(("+X", "-X", "+Y", "-Y", "+Z", "-Z")))
             self.assertEqual(state.used, 0)
+
+    def test_an_outcome_by_lot_is_one_call(self):
+        """An observation answers what a measurement with one of the two bits answers, and takes the given one if it may."""
+        source, seen = random.Random(7), set()
+        for _ in range(200):
+            state, bit = run_job(generate(4, 12, source.randrange(1, 1 << 40)))[0], source.randrange(2)
+            pauli, qubit = source.choice("XYZ"), source.randrange(4)
+            before, other = bytearray(state._block), bytearray(state._block)
+            found, due = calls.observe(state._block, pauli, qubit, bit), calls.measure(other, pauli, qubit, bit)
+            if due == -14:
+                self.assertEqual((found, other), (3 - bit, before))
+                due = calls.measure(other, pauli, qubit, 1 - bit)
+            self.assertEqual((found, state._block), (due, other))
+            seen.add(found)
+        self.assertEqual(seen, {0, 1, 2, 3, -16})
+        with mock.patch.object(calls, "measure", side_effect=AssertionError):
+            self.assertEqual([State.from_strings("-Z").measure("Z", 0, source=k).outcome for k in range(8)], [1] * 8)
+
+    def test_a_new_photon_is_in_the_state_that_is_named(self):
         state = State.zeros(1)
         for letter, sign in itertools.product("XYZ", "+-"):
             state.measure("Z", 0)
             state.renew(0, sign + letter)
             self.assertEqual(state.generators().strings(), [sign + letter])
+            with self.assertRaises(Refusal) as refused:
+                state.renew(0, sign + letter)
+            self.assertEqual((refused.exception.number, state.used), (20, 0))
+        block = State([0], [0], 1)._block
+        for code in range(26):
+            self.assertEqual(calls.renew(bytearray(block), 0, code), 0 if code in (0, 2, 4, 6, 8, 10) else 6)
 
 
 if __name__ == "__main__":

@@ -1,27 +1,7 @@
-// Observations, joint measurements and renewal, made of the calls that the library has.
+// Joint measurements, made of the calls that the library has.
 import { GeneratorList, rowWords } from "./lists.js";
 import { State } from "./state.js";
 import { Refusal } from "./refusals.js";
-
-const STATES = [0, 2, 4, 6, 8, 10];
-
-/** Measures with a bit by lot: with the other one where the state forbids it. */
-export function observe(state, pauli, qubit, bit) {
-  try {
-    return state.measure(pauli, qubit, bit);
-  } catch (error) {
-    if (error.number !== 14) throw error;
-    return state.measure(pauli, qubit, 1 - bit);
-  }
-}
-
-/** What a renewal answers, and the word of used qubits after it. */
-export function renewed(state, qubit, code) {
-  if (!STATES.includes(code)) return { number: 6 };
-  if (!(Number.isInteger(qubit) && qubit >= 0 && qubit < state.n)) return { number: 8 };
-  if (!state.isUsed(qubit)) return { number: 20 };
-  return { number: 0, used: state.used & ~(1n << BigInt(qubit)) };
-}
 
 const odd = (word) => word.toString(2).replaceAll("0", "").length % 2 === 1;
 

@@ -1,5 +1,5 @@
 // A stabilizer state held as a record: a graph with one local Clifford per vertex, and a word of used qubits.
-import * as beyond from "./beyond.js";
+import { measureRow } from "./beyond.js";
 import { code } from "./codes.js";
 import { RECORD_NAMES, recordFault } from "./forms.js";
 import { call, floatCell, octetCell, wordCell } from "./library.js";
@@ -8,9 +8,13 @@ import { bits, fairBit, halves, octet, octets, place, placesOf, wordOf, words } 
 import { Refusal, accept } from "./refusals.js";
 
 const LIST_PLACES = 96;
+const PHOTONS = ["+X", "-X", "+Y", "-Y", "+Z", "-Z"];
 
 /** The number of a Pauli by its letter, or the number itself; 0, which every call refuses, of another letter. */
 const pauliNumber = (pauli) => (typeof pauli === "string" ? "XYZ".indexOf(pauli.toUpperCase()) + 1 : octet(pauli));
+
+/** The code of a photon by its state, or the code itself; one that every call refuses of another text. */
+const photonCode = (photon) => octet(typeof photon === "string" ? 2 * PHOTONS.indexOf(photon) : photon);
 
 /** The number of qubits; refused by 2 where it is not 1 to 64. */
 function count(n) {
@@ -241,33 +245,35 @@ export class State {
    * refused by 14; without one the outcome is the state's, or a fair bit.
    */
   measure(pauli, qubit, outcome) {
-    if (outcome === undefined) return this.observe(pauli, qubit, fairBit());
+    return outcome === undefined ? this.observe(pauli, qubit, fairBit()) : this.#measured("measure", pauli, qubit, outcome);
+  }
+
+  /** Measures with a bit by lot, which plays no part where the state determines the outcome. */
+  observe(pauli, qubit, bit) {
+    return this.#measured("observe", pauli, qubit, bit);
+  }
+
+  #measured(name, pauli, qubit, bit) {
     const [used, answer, determined] = [wordCell(this.#used), octetCell(), octetCell()];
-    const asked = [pauliNumber(pauli), place(qubit), octet(outcome)];
-    accept(call("measure", ...this.#record(), used, ...asked, answer, determined));
+    const asked = [pauliNumber(pauli), place(qubit), octet(bit)];
+    accept(call(name, ...this.#record(), used, ...asked, answer, determined));
     this.#used = used.value;
     return { outcome: answer.value, determined: determined.value === 1 };
   }
 
-  /** Measures with a bit by lot, which is ignored where the state determines the outcome. */
-  observe(pauli, qubit, bit) {
-    return beyond.observe(this, pauli, qubit, bit);
-  }
-
   /** Measures a Pauli row with a bit by lot. No qubit is used by it. */
   measureRow(row, bit = fairBit()) {
-    const { outcome, determined, record } = beyond.measureRow(this, row, bit);
+    const { outcome, determined, record } = measureRow(this, row, bit);
     this.#neighbours = words(record.neighbours);
     this.#codes = octets(record.codes);
     return { outcome, determined };
   }
 
-  /** A new photon at a used place, in the state of its code: 0, 2, 4, 6, 8, 10 for +X, -X, +Y, -Y, +Z, -Z. */
-  renew(qubit, gate = 8) {
-    const { number, used } = beyond.renewed(this, qubit, code(gate));
-    accept(number);
-    this.#used = used;
-    this.#codes[qubit] = code(gate);
+  /** A new photon at a used place, in the state +X, -X, +Y, -Y, +Z or -Z, by name or by its code 0, 2, 4, 6, 8 or 10. */
+  renew(qubit, photon = "+Z") {
+    const used = wordCell(this.#used);
+    accept(call("renew", ...this.#record(), used, place(qubit), photonCode(photon)));
+    this.#used = used.value;
   }
 
   /** Complements the graph at a vertex and rewrites the codes: the same state, not reduced. */
