@@ -49,6 +49,7 @@ enum class Refusal : std::uint8_t {
     OtherGroup = SUKHLENT_OTHER_GROUP,
     Qubit = SUKHLENT_QUBIT,
     Used = SUKHLENT_USED,
+    NotUsed = SUKHLENT_NOT_USED,
     NotHeld = SUKHLENT_NOT_HELD,
     Full = SUKHLENT_FULL,
     Anticommute = SUKHLENT_ANTICOMMUTE,
@@ -382,6 +383,21 @@ public:
         const std::uint8_t letter = static_cast<std::uint8_t>(pauli);
         const std::uint8_t number = sukhlent_record_measure(&record_, letter, qubit, outcome ? 1 : 0, &found);
         return detail::answer(number, Measured{found.outcome == 1, found.determined == 1});
+    }
+
+    // Measures with a bit by lot, which plays no part where the state determines the outcome.
+    Answer<Measured> observe(Pauli pauli, std::uint64_t qubit, bool bit)
+    {
+        sukhlent_measured found = {0, 0};
+        const std::uint8_t letter = static_cast<std::uint8_t>(pauli);
+        const std::uint8_t number = sukhlent_record_observe(&record_, letter, qubit, bit ? 1 : 0, &found);
+        return detail::answer(number, Measured{found.outcome == 1, found.determined == 1});
+    }
+
+    // Puts a new photon at a used qubit, in the state of a code: 0, 2, 4, 6, 8, 10 are +X, -X, +Y, -Y, +Z, -Z.
+    Done renew(std::uint64_t qubit, std::uint8_t code)
+    {
+        return done(sukhlent_record_renew(&record_, qubit, code));
     }
 
     // Runs at most 4,096 steps, each with its own refusal; the record is checked once.

@@ -150,6 +150,24 @@ static inline uint8_t sukhlent_record_measure(sukhlent_record *record, uint8_t p
                             qubit, outcome, &measured->outcome, &measured->determined);
 }
 
+/* Measures with a bit by lot, which plays no part where the state determines the outcome. */
+static inline uint8_t sukhlent_record_observe(sukhlent_record *record, uint8_t pauli, uint64_t qubit,
+                                              uint8_t bit, sukhlent_measured *measured)
+{
+    const sukhlent_length n = sukhlent_places(record->n);
+    return sukhlent_observe(record->n, record->neighbours, n, record->codes, n, &record->used, pauli,
+                            qubit, bit, &measured->outcome, &measured->determined);
+}
+
+/* Puts a new photon at a used qubit, in the state of a code: 0, 2, 4, 6, 8, 10 are +X, -X, +Y, -Y,
+ * +Z, -Z. */
+static inline uint8_t sukhlent_record_renew(sukhlent_record *record, uint64_t qubit, uint8_t code)
+{
+    const sukhlent_length n = sukhlent_places(record->n);
+    return sukhlent_renew(record->n, record->neighbours, n, record->codes, n, &record->used, qubit,
+                          code);
+}
+
 /* Complements at a vertex; the group stays, and the record is not reduced. */
 static inline uint8_t sukhlent_record_complement(sukhlent_record *record, uint64_t a)
 {
