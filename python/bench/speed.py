@@ -11,7 +11,6 @@ import ctypes
 import importlib.util
 import os
 import random
-import subprocess
 import sys
 import tempfile
 import time

@@ -10,7 +10,7 @@ Measured(outcome=0, determined=False)
 docs/PYTHON.md is a tour with pictures, docs/RECIPES.md a page of short programs.
 """
 
-from . import starting  # first: says what is missing before anything needs it
+from . import starting  # noqa: F401  first: says what is missing before anything needs it
 from .answers import Equivalence, Image, Measured, PlotLine, Renumbered
 from .circuits import Circuit, CircuitResult, read_circuit
 from .codes import NAMES, code, images

@@ -50,7 +50,7 @@ ANSWERING = ("measure", "observe", "cut", "expectation", "group_measure")
 @unittest.skipUnless(calls.TAKEN == "extension", "the extension is not built for this Python")
 class Alike(unittest.TestCase):
     def test_each_call(self):
-        source, seen, numbers = random.Random(8), set(), set()
+        source, seen, numbers, one = random.Random(8), set(), set(), None
         for _ in range(3000):
             one = drawn(source) if source.random() < 0.05 or not seen else one
             name, *given = arguments(source, blocks.size(one))

@@ -68,7 +68,7 @@ class Random(unittest.TestCase):
     def test_random_circuits_are_followed_by_a_vector(self):
         chance, seen = random.Random(4), set()
         for _ in range(60):
-            lines, n = [], 3
+            n = 3
             state, vector = State.zeros(n), Vector(n)
             for _ in range(25):
                 a, b = chance.sample(range(n), 2)

@@ -81,6 +81,7 @@ class Header(unittest.TestCase):
         major, minor, patch = map(int, re.search(r'VERSION_TEXT "(\d+)\.(\d+)\.(\d+)"', HEADER).groups())
         self.assertEqual(NUMBERS["VERSION"], major * 10000 + minor * 100 + patch)
         self.assertEqual(version(), f"{major}.{minor}.{patch}")
+        self.assertIn(f"\nversion: {version()}\n", (ROOT / "CITATION.cff").read_text())
 
     def test_the_words_of_a_number_are_those_of_its_line_in_the_published_list(self):
         comment = HEADER[HEADER.index("in checking order") : HEADER.index("Under each call")]

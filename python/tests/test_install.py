@@ -22,6 +22,26 @@ int main(void)
     return 0;
 }
 """
+INSTALL = ROOT / "tools" / "install"
+TO_COMPILE = {
+    "include/sukhlent.h",
+    "include/sukhlent.hpp",
+    "include/sukhlent_record.h",
+    "lib/cmake/sukhlent/sukhlent-config-version.cmake",
+    "lib/cmake/sukhlent/sukhlent-config.cmake",
+    "lib/pkgconfig/sukhlent.pc",
+}
+CMAKE = """cmake_minimum_required(VERSION 3.13)
+project(first C CXX)
+find_package(sukhlent {version} REQUIRED)
+add_executable(shared first.c)
+target_link_libraries(shared sukhlent::sukhlent)
+add_executable(static first.c)
+target_link_libraries(static sukhlent::static)
+add_executable(classes {classes})
+target_compile_features(classes PRIVATE cxx_std_17)
+target_link_libraries(classes sukhlent::sukhlent)
+"""
 PRINTED = "8 a qubit number is n or more, or a qubit is named twice, or a pivot's pair has no edge 1\n"
 
 
@@ -39,7 +59,7 @@ def flags(folder, *what):
         return run("pkg-config", *what, "sukhlent", env={**os.environ, "PKG_CONFIG_PATH": str(folder)}).split()
     print("no pkg-config here: its file is read by the test", file=sys.stderr)
     text = (folder / "sukhlent.pc").read_text()
-    names = dict(re.findall(r"^(\w+)=(.*)$", text, re.M))
+    names = {**dict(re.findall(r"^(\w+)=(.*)$", text, re.M)), "pcfiledir": str(folder)}
     fields = dict(re.findall(r"^(\w+): (.*)$", text, re.M))
     said = {"--cflags": "Cflags", "--libs": "Libs", "--modversion": "Version"}
     words = " ".join(fields[said[word]] for word in what)
@@ -53,7 +73,7 @@ class Install(unittest.TestCase):
     def setUpClass(cls):
         cls.folder = tempfile.TemporaryDirectory()
         cls.prefix = Path(cls.folder.name) / "prefix"
-        cls.said = run(ROOT / "tools" / "install", cls.prefix)
+        cls.said = run(INSTALL, cls.prefix)
         cls.package = cls.prefix / "lib" / "pkgconfig"
 
     @classmethod
@@ -63,7 +83,7 @@ class Install(unittest.TestCase):
     def test_the_version_is_the_header_s(self):
         version = re.search(r'VERSION_TEXT "(.*)"', (ROOT / "include" / "sukhlent.h").read_text())[1]
         self.assertEqual(flags(self.package, "--modversion"), [version])
-        self.assertEqual(self.said.splitlines()[-1], f"sukhlent {version} is in {self.prefix}")
+        self.assertIn(f"sukhlent {version} is in {self.prefix}", self.said.splitlines())
         major, minor, _ = version.split(".")
         series = major if major != "0" else f"{major}.{minor}"
         dynamic = run("readelf", "-d", self.prefix / "lib" / f"libsukhlent.so.{version}")
@@ -90,6 +110,64 @@ class Install(unittest.TestCase):
                 run(compiler, *strict, f"-I{self.prefix}/include", source, static, "-o", program)
                 self.assertEqual(run(program), PRINTED)
 
+    def test_the_lines_to_type_next_are_true(self):
+        source = self.prefix.parent / "next.c"
+        source.write_text(SOURCE)
+        lines = re.findall(r":\s+(export .*)$", self.said, re.M)
+        self.assertEqual(len(lines), 4, self.said)
+        code = "import sukhlent; print(sukhlent.__file__)"
+        compiled = f"cc {source} $(pkg-config --cflags --libs sukhlent) -o {source}.program && {source}.program"
+        words = "\n".join(["set -e", *lines, compiled, "command -v sukhlent", f"python3 -c '{code}'"])
+        environment = {name: os.environ[name] for name in ("PATH", "HOME") if name in os.environ}
+        said = run("sh", "-c", words, env=environment, cwd="/").splitlines(keepends=True)
+        self.assertEqual(said[0], PRINTED)
+        self.assertEqual(said[1], f"{self.prefix}/bin/sukhlent\n")
+        self.assertTrue(said[2].startswith(f"{self.prefix}/share/"), said)
+
+    def test_programs_by_cmake_also_where_the_folder_was_moved(self):
+        if not shutil.which("cmake"):
+            self.skipTest("no cmake here")
+        moved = self.prefix.parent / "moved"
+        shutil.copytree(self.prefix, moved, symlinks=True)
+        source = self.prefix.parent / "project"
+        source.mkdir()
+        (source / "first.c").write_text(SOURCE)
+        version = flags(moved / "lib" / "pkgconfig", "--modversion")[0]
+        major, minor, _ = version.split(".")
+        classes = ROOT / "examples" / "cpp" / "record.cpp"
+        for asked, found in (("99", False), (f"{major}.{int(minor) + 1}", False), (f"{major}.{minor}", True), (version, True)):
+            (source / "CMakeLists.txt").write_text(CMAKE.format(version=asked, classes=classes))
+            build = source / asked
+            words = ["cmake", "-S", str(source), "-B", str(build), f"-DCMAKE_PREFIX_PATH={moved}"]
+            done = subprocess.run(words, capture_output=True, text=True, timeout=120)
+            self.assertEqual(done.returncode == 0, found, done.stdout + done.stderr)
+        run("cmake", "--build", source / version)
+        for name, due in (("shared", PRINTED), ("static", PRINTED), ("classes", classes.with_suffix(".out").read_text())):
+            self.assertEqual(run(source / version / name), due)
+        self.assertIn(str(moved), run("ldd", source / version / "shared"))
+        self.assertNotIn("sukhlent", run("ldd", source / version / "static"))
+
+    def test_the_manual_names_every_call_and_every_command(self):
+        header = (ROOT / "include" / "sukhlent.h").read_text()
+        page = (self.prefix / "share/man/man3/sukhlent.3").read_text()
+        calls = re.findall(r"^uint\d+_t (sukhlent_\w+)\(", header, re.M)
+        self.assertEqual(re.findall(r"^\.SS (\w+)$", page, re.M), calls)
+        page = (self.prefix / "share/man/man1/sukhlent.1").read_text()
+        said = run(self.prefix / "bin" / "sukhlent", "--help")
+        commands = re.findall(r"^    (\w+)\b", said, re.M)
+        self.assertEqual(re.findall(r"^\.SS (\w+)$", page, re.M), commands)
+        if shutil.which("man"):
+            environment = {**os.environ, "MANPATH": str(self.prefix / "share" / "man"), "MANWIDTH": "100"}
+            for section in "13":
+                self.assertIn("sukhlent - a proved graph-state engine", run("man", "--warnings", section, "sukhlent", env=environment))
+
+    def test_the_shell_completes_commands_and_options(self):
+        script = self.prefix / "share/bash-completion/completions/sukhlent"
+        for typed, due in (("equi", ["equivalent"]), ("draw --la", ["--layout"]), ("job --o", [])):
+            words = ["sukhlent", *typed.split()]
+            code = f"source {script}; COMP_WORDS=({' '.join(words)}); COMP_CWORD={len(words) - 1}; _sukhlent; echo \"${{COMPREPLY[@]}}\""
+            self.assertEqual(run("bash", "-c", code).split(), due, typed)
+
     def test_the_command_and_the_package(self):
         command = self.prefix / "bin" / "sukhlent"
         environment = {name: value for name, value in os.environ.items() if name != "PYTHONPATH"}
@@ -105,6 +183,47 @@ class Install(unittest.TestCase):
         self.assertTrue(said.startswith("+Z\n") and str(self.prefix) in said, said)
 
 
+class Places(unittest.TestCase):
+    """Where `tools/install` puts what, and that it takes all of it away."""
+
+    def setUp(self):
+        folder = tempfile.TemporaryDirectory()
+        self.addCleanup(folder.cleanup)
+        self.root = Path(folder.name)
+
+    def files(self):
+        return {str(path.relative_to(self.root)) for path in self.root.rglob("*") if not path.is_dir()}
+
+    def test_below_destdir_and_away_again(self):
+        environment = {**os.environ, "DESTDIR": str(self.root)}
+        (self.root / "usr/lib").mkdir(parents=True)
+        (self.root / "usr/lib/other").write_text("kept\n")
+        said = run(INSTALL, "/usr", env=environment)
+        self.assertNotIn(str(self.root), said)
+        self.assertLess({f"usr/{name}" for name in TO_COMPILE}, self.files())
+        for name in self.files() - {"usr/lib/other"}:
+            self.assertNotIn(str(self.root).encode(), (self.root / name).read_bytes(), name)
+        run(self.root / "usr/bin/sukhlent", "--version")  # leaves compiled files of Python
+        (self.root / "usr/share/sukhlent/python/sukhlent/gone.py").write_text("")
+        installed = self.root / "usr/share/sukhlent/installed"
+        installed.write_text(installed.read_text() + "share/sukhlent/python/sukhlent/gone.py\n")
+        run(INSTALL, "/usr", env=environment)  # over itself: what an older version had is gone
+        self.assertNotIn("usr/share/sukhlent/python/sukhlent/gone.py", self.files())
+        self.assertEqual(run(INSTALL, "--uninstall", "/usr", env=environment), f"sukhlent is gone from {self.root}/usr\n")
+        self.assertEqual(self.files(), {"usr/lib/other"})
+        self.assertEqual([path.name for path in (self.root / "usr").iterdir()], ["lib"])
+
+    def test_what_cannot_be_is_said(self):
+        cases = [
+            (["--uninstall", str(self.root)], {}, f"nothing is installed in {self.root}: it has no share/sukhlent/installed\n"),
+            (["usr"], {"DESTDIR": str(self.root)}, "tools/install: with DESTDIR the prefix is a whole path, and usr is not\n"),
+        ]
+        for words, more, due in cases:
+            done = subprocess.run([str(INSTALL), *words], capture_output=True, text=True, env={**os.environ, **more}, timeout=120)
+            self.assertEqual((done.returncode, done.stderr), (1, due))
+        self.assertEqual(self.files(), set())
+
+
 class Target(unittest.TestCase):
     """What `tools/install --target` installs."""
 
@@ -115,13 +234,12 @@ class Target(unittest.TestCase):
 
     def installed(self, target):
         """The files below the prefix."""
-        said = run(ROOT / "tools" / "install", "--target", target, self.prefix).splitlines()[-1]
+        said = run(INSTALL, "--target", target, self.prefix).splitlines()[-1]
         self.assertTrue(said.startswith("sukhlent ") and said.endswith(f" for {target} is in {self.prefix}"), said)
         return {str(path.relative_to(self.prefix)) for path in self.prefix.rglob("*") if path.is_file()}
 
     def test_header_library_and_package_file_of_a_target(self):
-        files = {"include/sukhlent.h", "lib/libsukhlent.a", "lib/pkgconfig/sukhlent.pc"}
-        self.assertEqual(self.installed("x86-64-v3"), files)
+        self.assertEqual(self.installed("x86-64-v3"), TO_COMPILE | {"lib/libsukhlent.a", "share/sukhlent/installed"})
         self.assertEqual((self.prefix / "include/sukhlent.h").read_bytes(), (ROOT / "include/sukhlent.h").read_bytes())
         package = self.prefix / "lib" / "pkgconfig"
         self.assertIn("target=x86-64-v3\n", (package / "sukhlent.pc").read_text())
@@ -136,7 +254,7 @@ class Target(unittest.TestCase):
         self.assertEqual((self.prefix / "lib/sukhlent.wasm").read_bytes()[:4], b"\0asm")
 
     def test_an_unknown_target_is_named_and_nothing_is_installed(self):
-        words = [str(ROOT / "tools" / "install"), "--target", "z80", str(self.prefix)]
+        words = [str(INSTALL), "--target", "z80", str(self.prefix)]
         done = subprocess.run(words, capture_output=True, text=True, timeout=120)
         self.assertEqual((done.returncode, done.stderr), (1, "no target z80: tools/cross --list\n"))
         self.assertFalse(self.prefix.exists())

@@ -1,15 +1,16 @@
 -- What is claimed of the comparison of parts of any size holds, by the contract and what was shown of the comparison.
-use mathlib.Core.Bool.{Bool, cond, false, true, _||_}
+use mathlib.Core.Bool.{Bool, cond, false, not, true, _||_}
 use mathlib.Core.List.{_++_, List, [], _∷_}
 use mathlib.Core.Logic.{_↔_}
 use mathlib.Core.Path.{ap, ap₂, refl, sym, _∙_, _≡_}
 use Prim.Native.Nat.{ℕ}
 use native.Mathlib.Omega.{arith}
+use lib.Dec.{eqb}
 use Rattle.buffers.proofs.Lines.{more-accepted, none-of-all, passed}
 use Rattle.buffers.specs.Refusals.{Refusal, firstFitting, line}
 use Rattle.calls.proofs.PairLines.{pair-numbered}
 use Rattle.calls.specs.Equivalences.{equivalentCall}
-use Rattle.calls.specs.RecordComparisons.{recordsLines}
+use Rattle.calls.specs.RecordComparisons.{recordsCount, recordsLines, recordsNotSimple}
 use Rattle.claims.proofs.AcceptedPairs.{accepted-pair, no-line-holds}
 use Rattle.claims.proofs.LinesExactly.{list-exactly}
 use Rattle.claims.proofs.PartsDemandHolds.{no-large}
@@ -17,14 +18,17 @@ use Rattle.claims.proofs.ThirdDemandHolds.{decided-by, last-line}
 use Rattle.claims.proofs.families.Shared.{answered, table-fills, written-fills}
 use Rattle.claims.specs.Conforming.{Conforms}
 use Rattle.comparison.specs.Choices.{noChoice}
-use Rattle.comparison.specs.Compared.{pairLines}
+use Rattle.comparison.specs.Compared.{pairCount, pairLines}
 use Rattle.comparison.specs.ComparedPairs.{compareList}
 use Rattle.buffers.proofs.Calling.{written-all}
 use Rattle.buffers.specs.Calls.{Call}
+use Rattle.record.specs.Lent.{heldRows, recordCodes, recordLengths, recordStray}
 use Rattle.stabilizer.proofs.Accepted.{accepted-list}
-use Rattle.stabilizer.specs.Lists.{GeneratorList, rows}
+use Rattle.stabilizer.specs.Lists.{GeneratorList, clashing, dependent, listLengths, listSigns, listStray, rows}
 use Rattle.claims.specs.Equivalents.{
+  EquivalentBuffersUnread,
   EquivalentFits,
+  EquivalentRecordsBuffersUnread,
   EquivalentSays,
   EquivalentsDemand,
   NeverTooLarge,
@@ -143,6 +147,36 @@ module _ (l m : GeneratorList) (choice list : List ℕ) (count : ℕ) (choice′
         same = λ small small₂. same-where-small l m choice list count r choice′ list′ count′ small small₂ .1 C;
       }
 
+-- ---- the answer buffers: only whether one has a wrong length is a line's matter
+buffers-unread : EquivalentBuffersUnread
+buffers-unread l m choice list choice₂ list₂ e f =
+    ap₂ (λ a b. firstFitting (linesOf (not (eqb a (l .n)) || not (eqb b 96)))) e f
+  where
+    linesOf : Bool → List Refusal
+    linesOf others =
+        line 2 (pairCount l m) ∷ line 4 (listLengths l || (listLengths m || others))
+        ∷ line 5 (listStray l || listStray m) ∷ line 6 (listSigns l || listSigns m)
+        ∷ line 9 (clashing (l .n) (rows l) || clashing (m .n) (rows m))
+        ∷ line 10 (dependent (l .n) (rows l) || dependent (m .n) (rows m))
+        ∷ line 13 (noChoice (l .n) (rows l) (rows m)) ∷ []
+
+records-buffers-unread : EquivalentRecordsBuffersUnread
+records-buffers-unread l m choice list choice₂ list₂ e f =
+    ap₂ (λ a b. firstFitting (linesOf (not (eqb a (l .n)) || not (eqb b 96)))) e f
+  where
+    linesOf : Bool → List Refusal
+    linesOf others =
+        line 2 (recordsCount l m) ∷ line 4 (recordLengths l || (recordLengths m || others))
+        ∷ line 5 (recordStray l || recordStray m) ∷ line 6 (recordCodes l || recordCodes m)
+        ∷ line 7 (recordsNotSimple l m) ∷ line 13 (noChoice (l .n) (heldRows l) (heldRows m)) ∷ []
+
 pub equivalents-demand : EquivalentsDemand
 equivalents-demand =
-    record { to-64 = to-64; never-3 = never-3; same = same-where-small; same-records = same-records-where-small }
+    record {
+      to-64 = to-64;
+      never-3 = never-3;
+      same = same-where-small;
+      same-records = same-records-where-small;
+      unread = buffers-unread;
+      unread-records = records-buffers-unread;
+    }

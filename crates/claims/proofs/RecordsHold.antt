@@ -1,11 +1,12 @@
 -- What is claimed of the comparison of two records with parts of any size holds, by the comparison of their expansions.
 use mathlib.Core.Bool.{Bool, false, true}
 use mathlib.Core.List.{List, [], _∷_}
+use mathlib.Core.Logic.{inl, inr, _↔_, _⊎_}
 use mathlib.Core.Path.{ap, refl, subst, sym, _∙_, _≡_}
 use Prim.Native.Nat.{ℕ}
 use native.Mathlib.Omega.{arith}
 use lib.ListN.{length}
-use Rattle.buffers.proofs.Lines.{more-accepted, none-of-all}
+use Rattle.buffers.proofs.Lines.{fits, more-accepted, none-fits, none-of-all, passed}
 use Rattle.buffers.specs.Buffers.{accepted, acceptedNumber, written}
 use Rattle.buffers.specs.Refusals.{firstFitting, line}
 use Rattle.calls.proofs.PairLines.{pair-numbered}
@@ -25,15 +26,16 @@ use Rattle.claims.proofs.Expansions.{
   refusal-back,
 }
 use Rattle.claims.proofs.RecordPairsHold.{pairs-pass, records-pass, withCount}
-use Rattle.claims.specs.RecordPairs.{expansion, recordsSentences}
+use Rattle.claims.specs.RecordPairs.{expansion, recordsSentences, AcceptedRecords}
 use Rattle.comparison.specs.Compared.{equivalentLines, pairLines}
 use Rattle.buffers.specs.Calls.{Call}
 use Rattle.record.specs.Lent.{LentRecord, heldRows}
-use Rattle.claims.proofs.EquivalentsHold.{conforms, same-records-where-small, to-64}
-use Rattle.claims.specs.Equivalents.{EquivalentRecordsSays, equivalentRecordsSentences}
+use Rattle.claims.proofs.EquivalentsHold.{conforms, same-records-where-small, to-64, equivalent-says}
+use Rattle.claims.specs.Equivalents.{EquivalentRecordsSays, equivalentRecordsSentences, EquivalentRecordsFits}
 use Rattle.buffers.proofs.SentenceLaws.{and-line}
 use Rattle.claims.proofs.NumbersHold.{in-words}
 use Rattle.claims.proofs.ClaimsCompareRecordsNumbersHold.{none-of-choices, records-words}
+use Rattle.comparison.specs.Choices.{noChoice}
 
 -- ---- two records on the same number of qubits: what the call answers, the call on lists answers on the expansions
 module _ (n : ℕ) (nb cs nb₂ cs₂ chosen list : List ℕ)
@@ -98,6 +100,41 @@ module _ (l m : LentRecord) (choice list : List ℕ) (count : ℕ) where
             (ap length (C .held .0) ∙ F .0, (ap length (C .held .1 .0) ∙ F .1 .0, (tt, tt)));
       }
 
+  -- ---- which arguments it accepts
+  module _ (choice′ list′ : List ℕ) (count′ r : ℕ)
+      (C : Call (equivalentRecordsCall l m choice list count choice′ list′ count′) r) where
+    exactly : (r ≡ 0) ↔ EquivalentRecordsFits l m choice list
+    exactly = (
+      (λ z. let p = none-of-all (recordsLines l m choice list) _ (records-numbered l m choice list)
+          (sym (C .number) ∙ z) in
+          let A = both-accepted l m choice list (p .0) in
+          record {
+            first = A .first;
+            second = A .second;
+            expansions = equivalent-says (expansion l) (expansion m) choice list count choice′ list′ count′ r
+                (expanded choice′ list′ count′ r (p .0) C) .accepted .0 z;
+          }),
+      (λ F. let e = no-line l m choice list (record {
+        first = F .first;
+        second = F .second;
+        same-count = F .expansions .same-count;
+        choice-places = F .expansions .choice-places;
+        list-places = F .expansions .list-places;
+      }) in
+          equivalent-says (expansion l) (expansion m) choice list count choice′ list′ count′ r
+          (expanded choice′ list′ count′ r e C) .accepted .1 (F .expansions)),
+    )
+
+    taken : AcceptedRecords l m choice list → (r ≡ 0) ⊎ (r ≡ 13)
+    taken A =
+        go (noChoice (l .n) (heldRows l) (heldRows m))
+        (C .number ∙ more-accepted (recordsLines l m choice list) _ (records-numbered l m choice list)
+        (records-pass l m choice list A))
+      where
+        go : (b : Bool) → r ≡ firstFitting (line 13 b ∷ []) → (r ≡ 0) ⊎ (r ≡ 13)
+        go true e = inr (e ∙ fits 13 _ refl)
+        go false e = inl (e ∙ passed 13 _ refl ∙ none-fits)
+
 -- none of its lines is 3
 others : (a b c d e f : Bool)
     → firstFitting (line 2 a ∷ line 4 b ∷ line 5 c ∷ line 6 d ∷ line 7 e ∷ line 13 f ∷ []) ≡ 3 → ⊥
@@ -117,6 +154,8 @@ pub equivalent-records-says : (l m : LentRecord) (choice list : List ℕ) (count
 equivalent-records-says l m choice list count choice′ list′ count′ r C =
     record {
       answered = answered (records-conform l m choice list count choice′ list′ count′) C;
+      accepted = exactly l m choice list count choice′ list′ count′ r C;
+      taken = taken l m choice list count choice′ list′ count′ r C;
       numbers = in-words (equivalentRecordsSentences l m choice list)
           (and-line (recordsLines l m choice list) (recordsSentences l m choice list) 13
           (records-words l m choice list) (none-of-choices l m choice list)) C;

@@ -1,2 +1,3 @@
 pub mod CodeBits
+pub mod EquationsRows
 pub mod WordSizes

@@ -2,6 +2,8 @@
 // l of qubit q is bit q of word l.
 use words::has;
 use words::odd;
+use words::smallest;
+use words::without_smallest;
 ghost use mathlib.Core.Path.{_≡_};
 ghost use mathlib.Core.Bool.{false, true};
 ghost use Prim.Native.Nat.{ℕ, _<_, _≤_};
@@ -18,6 +20,7 @@ ghost use Rattle.comparison.specs.internal.Equations.{
   equationsIn,
   unknown,
 };
+ghost use Rattle.comparison_search.specs.internal.Rewriting.{Rewritten, Summed};
 
 // The sum of two equations.
 fn add(e: [u64; 4], f: [u64; 4]) -> [u64; 4]
@@ -69,8 +72,25 @@ fn bound(e: [u64; 4]) -> usize
     4 * q + 1
 }
 
+// An equation with those equations of the table added whose last unknown is unknown l of a marked qubit.
+fn add_rows(table: &[[u64; 4]; 256], marked: u64, l: usize, e: [u64; 4]) -> [u64; 4]
+    requires { ⌜ l < 4 ⌝ }
+    ensures { λ r. ⌜ Summed (equationsIn (now (table .entry))) (equationOf e) (equationOf r) ⌝ }
+{
+    let mut left = e;
+    let mut rest = marked;
+    while rest != 0 {
+        let q = smallest(rest);
+        let p = table[4 * q + l];
+        let sum = add(left, p);
+        left = sum;
+        rest = without_smallest(rest);
+    }
+    left
+}
+
 // Stores an equation, or a sum of it with stored ones, at the place of its last unknown, or nothing.
-pub fn insert(table: &mut [[u64; 4]; 256], e: [u64; 4])
+fn store(table: &mut [[u64; 4]; 256], e: [u64; 4])
     requires { ⌜ Triangular (equationsIn (now table)) ⌝ }
     ensures { λ r. ⌜ Inserted (equationsIn (now (table .entry))) (equationOf e) (equationsIn (now (table .exit))) ⌝ }
 {
@@ -86,6 +106,53 @@ pub fn insert(table: &mut [[u64; 4]; 256], e: [u64; 4])
         left = sum;
         i = bound(left);
     }
+}
+
+// Whether an equation has unknown i.
+fn has_unknown(e: [u64; 4], i: usize) -> bool
+    requires { ⌜ i < 256 ⌝ }
+    ensures { λ r. ⌜ r ≡ unknown (equationOf e) i ⌝ }
+{
+    has(e[i % 4], i / 4)
+}
+
+// Equation i added to those after it, up to an end, that have unknown i.
+fn clear(table: &mut [[u64; 4]; 256], i: usize, end: usize)
+    requires { ⌜ Triangular (equationsIn (now table)) × (i < 256) × (end ≤ 256) ⌝ }
+    ensures { λ r. ⌜ Rewritten (equationsIn (now (table .entry))) (equationsIn (now (table .exit))) ⌝ }
+{
+    let p = table[i];
+    let mut k = i + 1;
+    while k < end {
+        let e = table[k];
+        if has_unknown(e, i) {
+            table[k] = add(e, p);
+        }
+        k += 1;
+    }
+}
+
+// Adds an equation on n qubits to the table. From 16 qubits on no other equation of the table has the last unknown of one,
+// so that at most one for each unknown is to be added to what comes; on fewer that costs more than it saves. Nothing but the
+// time depends on it.
+pub fn insert(table: &mut [[u64; 4]; 256], n: usize, e: [u64; 4])
+    requires { ⌜ (n ≤ 64) × Triangular (equationsIn (now table)) ⌝ }
+    ensures { λ r. ⌜ Inserted (equationsIn (now (table .entry))) (equationOf e) (equationsIn (now (table .exit))) ⌝ }
+{
+    if n < 16 {
+        store(table, e);
+        return;
+    }
+    let a = add_rows(table, e[0], 0, e);
+    let b = add_rows(table, e[1], 1, a);
+    let c = add_rows(table, e[2], 2, b);
+    let left = add_rows(table, e[3], 3, c);
+    let i = bound(left);
+    if i == 0 {
+        return;
+    }
+    store(table, left);
+    clear(table, i - 1, 4 * n);
 }
 
 // Whether an equation of qubit q fails: one whose last unknown is of qubit q.

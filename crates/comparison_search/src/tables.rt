@@ -40,7 +40,7 @@ fn class_rows(table: &mut [[u64; 4]; 256], n: usize, g: Generator, second: &[[u6
     while j < n {
         let h = generator_at(second, j);
         let e = class_equation(g, h);
-        insert(table, e);
+        insert(table, n, e);
         j += 1;
     }
 }
@@ -86,7 +86,7 @@ pub fn sign_table(
         let p = act_on(g, by);
         let h = element(n, second, undone, p);
         let e = sign_equation(g, p.minus ^ h.minus);
-        insert(table, e);
+        insert(table, n, e);
         i += 1;
     }
 }

@@ -5,11 +5,17 @@ use crate::header::published;
 use std::fmt;
 
 /// The numbers of the refusals, and 0.
-const NUMBERS: usize = 20;
+const NUMBERS: usize = 21;
 
 /// For each call of the table, how often it gave each number.
-#[derive(Clone, Default)]
+#[derive(Clone)]
 pub struct Counts([[u64; NUMBERS]; CALLS.len()]);
+
+impl Default for Counts {
+    fn default() -> Counts {
+        Counts([[0; NUMBERS]; CALLS.len()])
+    }
+}
 
 impl Counts {
     /// Adds a call's answer.

@@ -195,9 +195,9 @@ mod calls {
             codes_len: u64,
             used: u64,
             y: u64,
-            re: *mut u64,
-            im: *mut u64,
-            p: *mut u64,
+            re: *mut f64,
+            im: *mut f64,
+            p: *mut f64,
         ) -> u8;
 
         pub fn sukhlent_expectation(
@@ -829,11 +829,6 @@ pub fn cut(n: u64, neighbours: &[u64], codes: &[u8], used: u64, side: u64, rank:
     }
 }
 
-/// Where the bits of a float are: the library has them as a word.
-fn bits(float: &mut f64) -> *mut u64 {
-    (float as *mut f64).cast()
-}
-
 /// Writes the amplitude at a word over that at the smallest word with a nonzero amplitude, real part
 /// and imaginary part, and the word's probability.
 ///
@@ -863,9 +858,9 @@ pub fn amplitude(
             codes.len() as u64,
             used,
             y,
-            bits(re),
-            bits(im),
-            bits(p),
+            re,
+            im,
+            p,
         )
     }
 }

@@ -1,4 +1,4 @@
-//! The C examples, compiled with the header and the static library, print their stored outputs.
+//! The C and C++ examples, compiled with the headers and the static library, print their stored outputs.
 
 use std::path::{Path, PathBuf};
 use std::process::Command;
@@ -10,17 +10,23 @@ fn root() -> PathBuf {
 
 /// Compiles examples/c/NAME.c.
 fn compiled(name: &str) -> PathBuf {
+    compiled_by("cc", &["-std=c99"], &format!("c/{name}.c"), name)
+}
+
+/// Compiles a source below examples with a compiler and these words.
+fn compiled_by(compiler: &str, words: &[&str], source: &str, name: &str) -> PathBuf {
     let root = root();
     let program = Path::new(env!("CARGO_TARGET_TMPDIR")).join(name);
-    let compiled = Command::new("cc")
-        .args(["-std=c99", "-pedantic", "-Wall", "-Wextra", "-Werror", "-I"])
+    let compiled = Command::new(compiler)
+        .args(words)
+        .args(["-pedantic", "-Wall", "-Wextra", "-Werror", "-I"])
         .arg(root.join("include"))
-        .arg(root.join(format!("examples/c/{name}.c")))
+        .arg(root.join("examples").join(source))
         .arg(root.join("target/staticlib/libsukhlent.a"))
         .arg("-o")
         .arg(&program)
         .output()
-        .expect("cc runs");
+        .expect("the compiler runs");
     let messages = String::from_utf8_lossy(&compiled.stderr);
     assert!(compiled.status.success(), "{messages}");
     assert_eq!(messages, "", "no warnings");
@@ -72,6 +78,62 @@ fn generate_prints_its_stored_output_and_says_what_is_refused() {
     assert_eq!(run(&program, &["64", "4096", "0"]), refused(6));
     assert_eq!(run(&program, &["64", "4096", "one"]).0, Some(2));
     assert_eq!(run(&program, &["64", "4096"]).0, Some(2));
+}
+
+#[test]
+fn record_prints_its_stored_output() {
+    assert_prints_its_stored_output("record");
+}
+
+#[test]
+fn record_in_c_plus_plus_prints_its_stored_output_with_spans_of_its_own_and_of_the_standard() {
+    let due = std::fs::read_to_string(root().join("examples/cpp/record.out")).unwrap();
+    for standard in ["c++17", "c++20"] {
+        let words = [&format!("-std={standard}"), "-Wshadow", "-Wconversion"];
+        let program = compiled_by("c++", &words, "cpp/record.cpp", standard);
+        assert_eq!(run(&program, &[]), (Some(0), due.clone(), String::new()));
+    }
+}
+
+#[test]
+fn without_exceptions_a_refusal_is_read_and_its_value_ends_the_program() {
+    let words = ["-std=c++17", "-fno-exceptions"];
+    let program = compiled_by("c++", &words, "cpp/quiet.cpp", "quiet");
+    let due = "refused 8\n".to_string();
+    assert_eq!(run(&program, &[]), (Some(0), due.clone(), String::new()));
+    assert_eq!(run(&program, &["value"]), (None, due, String::new()));
+}
+
+#[test]
+fn an_answer_that_nobody_looks_at_or_that_is_gone_does_not_compile() {
+    let lines = [
+        ("bell.gate(0, 0).value();", true),
+        ("bell.gate(0, 0);", false),
+        (
+            "for (int code : bell.equivalent(bell).value().choice) (void)code;",
+            true,
+        ),
+        (
+            "for (int code : bell.equivalent(bell)->choice) (void)code;",
+            false,
+        ),
+    ];
+    for (line, compiles) in lines {
+        let source = Path::new(env!("CARGO_TARGET_TMPDIR")).join("looked_at.cpp");
+        let start =
+            "#include <sukhlent.hpp>\nint main() { auto bell = sukhlent::Record::zeros(2).value();";
+        std::fs::write(&source, format!("{start} {line} }}\n")).unwrap();
+        let compiler = Command::new("c++")
+            .args(["-std=c++17", "-Wall", "-Werror", "-fsyntax-only", "-I"])
+            .arg(root().join("include"))
+            .arg(&source)
+            .output();
+        assert_eq!(
+            compiler.expect("c++ runs").status.success(),
+            compiles,
+            "{line}"
+        );
+    }
 }
 
 #[test]

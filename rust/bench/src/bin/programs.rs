@@ -2,7 +2,6 @@
 //! all, and the stack: the smallest limit, in steps of 4 KiB, under which a run prints what it prints without one.
 
 #[path = "../../../sukhlent/tests/common/seeded/mod.rs"]
-#[allow(dead_code, unused_imports)]
 mod seeded;
 
 use seeded::{list, random_rows, Random};

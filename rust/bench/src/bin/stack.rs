@@ -28,7 +28,7 @@ type CompareRecords = fn(raw::LentGraph, raw::LentGraph, &mut [u8], &mut [u8], &
 const LOWER: raw::Whose = (!0 << 32, 0);
 
 /// Every public call. All arguments are accepted, so that every step is taken.
-const CALLS: [Measured; 34] = [
+const CALLS: [Measured; 36] = [
     ("check", 64, |random, n| {
         let given = list(&random_rows(random, n));
         depth(|| raw::check(n as u64, &given.signs, &given.z, &given.x))

@@ -1,108 +1,48 @@
--- `insert` meets its contract: stores an equation, or a sum of it with stored ones, at the place of its last unknown,
--- or nothing.
-use mathlib.Core.List.{[]}
-use mathlib.Core.Path.{subst, sym}
-use Prim.Native.Nat.{_≤_, _-_}
+-- `insert` meets its contract: adds an equation on n qubits to the table.
+use mathlib.Core.Path.{_∙_}
 use native.Mathlib.Omega.{arith}
-use lib.ListN.{getD}
 use borrow.Author.Needs.{needs}
-use Rattle.comparison.specs.internal.Equations.{Bound, Inserted, equationOf, equationsIn}
-use Rattle.comparison.proofs.Insertion.{
-  Inserting,
-  insert-added,
-  insert-from,
-  insert-nothing,
-  insert-start,
-  insert-stored,
-}
-use Rattle.comparison.proofs.LastUnknowns.{bound-least}
-use Rattle.comparison.proofs.QubitEquations.{row-at, row-set}
+use Rattle.comparison.specs.internal.Equations.{equationOf, equationsIn}
+use Rattle.comparison_search.proofs.EquationsRows.{nothing-left, stored-and-cleared}
 use Rattle.comparison_search.proofs.equations.insert.Statement.{statement}
 use Rattle.comparison_search.proofs.equations.insert.Tie as tie
 
-abbrev Inv-loop : tie.InvT-loop
-Inv-loop table₀ left₀ i₀ table left i =
-    (i ≤ 256) × Bound (equationOf left) i
-    × Inserting (equationsIn table₀) (equationOf left₀) (equationsIn table) (equationOf left) i
+store-requires : tie.Need-store-requires
+store-requires c κs = c .before .before .pre .1
 
-abbrev μ-loop : tie.MeasureT-loop
-μ-loop table₀ left₀ i₀ table left i = i
+returns : tie.Need-returns
+returns c = c .store .ensures
 
-loop-holds : tie.Need-loop-holds Inv-loop μ-loop
-loop-holds c =
-    let s = c .before in
-    let B = c .bound .ensures .1 in (
-      c .bound .ensures .0,
-      B,
-      insert-start (equationsIn (s .args .table .now)) (equationOf (s .args .e)) (c .bound .result) (B .above),
-    )
-
-element-copy-out-p : tie.Need-element-copy-out-p Inv-loop μ-loop
-element-copy-out-p c = omega (arith, c .before .loop .inv .0, c .loop-test .taken)
-
-element-set-from-left : tie.Need-element-set-from-left Inv-loop μ-loop
-element-set-from-left c =
-    omega (arith, c .before .before .before .before .loop .inv .0, c .before .before .before .loop-test .taken)
-
-returns : tie.Need-returns Inv-loop μ-loop
-returns c =
-    let s = c .before .before .before .before .before .before in
-    let l = c .before .before .before .before .loop in
-    let more = c .before .before .before .loop-test .taken in
-    let p = getD (l .table) (l .i - 1) [] in
-    subst (Inserted (equationsIn (s .args .table .now)) (equationOf (s .args .e)))
-    (sym (row-set (l .table) (l .i - 1) (l .left)))
-    (insert-stored (equationsIn (s .args .table .now)) (equationOf (s .args .e)) (s .pre) (equationsIn (l .table))
-    (equationOf (l .left)) (l .i) more (l .inv .2) (omega (arith, l .inv .0, more)) (l .inv .1 .last more) (equationOf p)
-    (sym (row-at (l .table) (l .i - 1)))
-    (c .before .empty .ensures .0 (c .if1 .taken)))
-
-loop-less : tie.Need-loop-less Inv-loop μ-loop
-loop-less c =
-    let s = c .before .before .before .before .before .before .before .before in
-    let l = c .before .before .before .before .before .before .loop in
-    let more = c .before .before .before .before .before .loop-test .taken in
-    let p = getD (l .table) (l .i - 1) [] in
-    let S =
-    insert-added (equationsIn (s .args .table .now)) (equationOf (s .args .e)) (s .pre) (equationsIn (l .table))
-    (equationOf (l .left)) (l .i) more (l .inv .2) (l .inv .1 .last more) (equationOf p) (equationOf (c .before .add .result))
-    (sym (row-at (l .table) (l .i - 1)))
-    (c .before .before .before .empty .ensures .1 (c .before .before .if1 .left)) (c .before .add .ensures) in
-    let lower =
-    bound-least (equationOf (c .before .add .result)) (c .bound2 .result) (l .i - 1) (c .bound2 .ensures .1) (S .above) in
-    omega (arith, lower, more)
-
-loop-again : tie.Need-loop-again Inv-loop μ-loop
-loop-again c =
-    let s = c .before .before .before .before .before .before .before .before in
-    let l = c .before .before .before .before .before .before .loop in
-    let more = c .before .before .before .before .before .loop-test .taken in
-    let p = getD (l .table) (l .i - 1) [] in
-    let S =
-    insert-added (equationsIn (s .args .table .now)) (equationOf (s .args .e)) (s .pre) (equationsIn (l .table))
-    (equationOf (l .left)) (l .i) more (l .inv .2) (l .inv .1 .last more) (equationOf p) (equationOf (c .before .add .result))
-    (sym (row-at (l .table) (l .i - 1)))
-    (c .before .before .before .empty .ensures .1 (c .before .before .if1 .left)) (c .before .add .ensures) in
-    let lower =
-    bound-least (equationOf (c .before .add .result)) (c .bound2 .result) (l .i - 1) (c .bound2 .ensures .1) (S .above) in (
-      omega (arith, lower, l .inv .0),
-      c .bound2 .ensures .1,
-      insert-from S (c .bound2 .result) (c .bound2 .ensures .1 .above),
-    )
-
-returns-2 : tie.Need-returns-2 Inv-loop μ-loop
+returns-2 : tie.Need-returns-2
 returns-2 c =
-    let s = c .before .before .before in
-    let l = c .before .loop in
-    insert-nothing (equationsIn (s .args .table .now)) (equationOf (s .args .e)) (s .pre) (equationsIn (l .table))
-    (equationOf (l .left))
-    (subst (Inserting (equationsIn (s .args .table .now)) (equationOf (s .args .e)) (equationsIn (l .table)) (equationOf (l .left)))
-    (omega (arith, c .loop-test .left)) (l .inv .2))
+    let s = c .before .before .before .before .before .before .before .before .before .before .before in
+    nothing-left (equationsIn (s .args .table .now)) (equationOf (s .args .t3)) (equationOf (c .before .before .add-rows4 .result))
+    (s .pre .1)
+    (λ w s. c .before .before .add-rows4 .ensures w s ∙ c .before .before .before .before .add-rows3 .ensures w s
+    ∙ c .before .before .before .before .before .before .add-rows2 .ensures w s ∙ c .before .before .before .before .before .before .before .before .add-rows .ensures w s)
+    (λ j. c .before .bound .ensures .1 .above j (omega (arith, c .if2 .taken)))
+
+store-requires-2 : tie.Need-store-requires-2
+store-requires-2 c κs = c .before .before .before .before .before .before .before .before .before .before .before .before .pre .1
+
+clear-requires : tie.Need-clear-requires
+clear-requires c κs =
+    let s = c .before .before .before .before .before .before .before .before .before .before .before .before .before .before in
+    let i = c .before .before .before .before .bound .ensures .0 in
+    let more = c .before .before .before .if2 .left in
+    (c .before .store2 .ensures .triangular, omega (arith, i, more), omega (arith, s .pre .0))
+
+returns-3 : tie.Need-returns-3
+returns-3 c =
+    let s = c .before .before .before .before .before .before .before .before .before .before .before .before .before .before .before in
+    stored-and-cleared (equationsIn (s .args .table .now)) (equationOf (s .args .t3)) (equationOf (c .before .before .before .before .before .before .add-rows4 .result)) _ _
+    (λ w s. c .before .before .before .before .before .before .add-rows4 .ensures w s ∙ c .before .before .before .before .before .before .before .before .add-rows3 .ensures w s
+    ∙ c .before .before .before .before .before .before .before .before .before .before .add-rows2 .ensures w s ∙ c .before .before .before .before .before .before .before .before .before .before .before .before .add-rows .ensures w s)
+    (c .before .before .store2 .ensures) (c .clear .ensures)
 
 pub insert-spec : {M : Type 1} → statement M
 insert-spec =
     tie.close
-    (tie.spec Inv-loop μ-loop (λ c κs. search needs) loop-holds (λ c. search needs) (λ c. search needs)
-    element-copy-out-p (λ c κs. search needs) (λ c. search needs)
-    (λ c. search needs) element-set-from-left returns (λ c κs. search needs) (λ c κs. search needs) loop-less
-    loop-again returns-2)
+    (tie.spec store-requires returns (λ c. search needs) (λ c κs. search needs) (λ c. search needs) (λ c κs. search needs)
+    (λ c. search needs) (λ c κs. search needs) (λ c. search needs) (λ c κs. search needs) (λ c κs. search needs) returns-2
+    store-requires-2 (λ c. search needs) (λ c. search needs) clear-requires returns-3)

@@ -26,7 +26,8 @@ loop-holds : tie.Need-loop-holds Inv-loop μ-loop
 loop-holds c = (c .pre .1, (λ first i e T. T))
 
 insert-requires : tie.Need-insert-requires Inv-loop μ-loop
-insert-requires c κs = c .before .before .before .before .loop .inv .0
+insert-requires c κs =
+    (c .before .before .before .before .before .pre .0, c .before .before .before .before .loop .inv .0)
 
 loop-again : tie.Need-loop-again Inv-loop μ-loop
 loop-again c =

@@ -48,7 +48,7 @@ insert-requires c κs =
     let a = s .args in
     let l = c .before .before .before .before .before .before .before .before .loop in
     let T = l .inv .1 (a .t6) (a .t5) (s .pre .0 .0) (s .pre .1 .0) (s .pre .0 .2) (c .before .before .before .before .before .before .before .before .before .before .before .action-of .ensures) in
-    T .0 .triangular
+    (s .pre .0 .0 .few, T .0 .triangular)
 
 add-i : tie.Need-add-i Inv-loop μ-loop
 add-i c =

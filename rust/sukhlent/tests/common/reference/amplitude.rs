@@ -19,8 +19,8 @@ pub fn plot_lines(state: &State) -> Vec<Bits> {
         true => [0.0, 0.0, 0.0],
         false => {
             let ratio = *value * inverse;
-            let powers = (0..4).map(Complex::i_pow);
-            let power = powers.filter(|power| power.approx_eq(ratio)).last();
+            let mut powers = (0..4).map(Complex::i_pow);
+            let power = powers.rfind(|power| power.approx_eq(ratio));
             let power = power.expect("a power of i");
             [power.re + 0.0, power.im + 0.0, 1.0 / count as f64]
         }
