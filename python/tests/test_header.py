@@ -17,7 +17,7 @@ TYPES = {
     "uint16_t": ("u16", c_uint16),
     "uint64_t": ("u64", c_uint64),
     "sukhlent_length": ("u64", c_uint64),
-    "double": ("u64", c_double),  # Rust has the bits of a float as a word
+    "double": ("f64", c_double),
 }
 
 
