@@ -8,8 +8,14 @@ use std::fmt;
 const NUMBERS: usize = 21;
 
 /// For each call of the table, how often it gave each number.
-#[derive(Clone, Default)]
+#[derive(Clone)]
 pub struct Counts([[u64; NUMBERS]; CALLS.len()]);
+
+impl Default for Counts {
+    fn default() -> Counts {
+        Counts([[0; NUMBERS]; CALLS.len()])
+    }
+}
 
 impl Counts {
     /// Adds a call's answer.

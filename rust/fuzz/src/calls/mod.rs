@@ -24,7 +24,7 @@ pub struct Call {
 }
 
 /// Every public call.
-pub const CALLS: [Call; 31] = [
+pub const CALLS: [Call; 33] = [
     Call {
         name: "check",
         once: lists::check,
@@ -132,6 +132,14 @@ pub const CALLS: [Call; 31] = [
     Call {
         name: "group_measure",
         once: groups::measure,
+    },
+    Call {
+        name: "group_observe",
+        once: groups::observe,
+    },
+    Call {
+        name: "group_renew",
+        once: groups::renew,
     },
     Call {
         name: "group_complement",
