@@ -566,6 +566,24 @@ uint8_t sukhlent_group_measure(uint64_t n, uint64_t word, uint8_t group,
                                uint8_t pauli, uint64_t qubit, uint8_t outcome,
                                uint8_t *answer, uint8_t *determined);
 
+/* A group's measurement with a bit by lot, as sukhlent_observe.
+ * Refusals: 2, 4, 6 (also where `pauli` is not 1 to 3 or `bit` is above 1), 7, 19, 8 (`qubit` is 64
+ * or more), 16. */
+uint8_t sukhlent_group_observe(uint64_t n, uint64_t word, uint8_t group,
+                               uint64_t *neighbours, sukhlent_length neighbours_len,
+                               uint8_t *codes, sukhlent_length codes_len,
+                               uint64_t *used,
+                               uint8_t pauli, uint64_t qubit, uint8_t bit,
+                               uint8_t *answer, uint8_t *determined);
+
+/* A group's new photon at a used qubit, as sukhlent_renew.
+ * Refusals: 2, 4, 6 (also where `code` is none of the six), 7, 19, 8 (`qubit` is 64 or more), 20. */
+uint8_t sukhlent_group_renew(uint64_t n, uint64_t word, uint8_t group,
+                             uint64_t *neighbours, sukhlent_length neighbours_len,
+                             uint8_t *codes, sukhlent_length codes_len,
+                             uint64_t *used,
+                             uint64_t qubit, uint8_t code);
+
 /* A group's complementation, as sukhlent_complement. Nothing is reduced.
  * Refusals: 2, 4, 6, 7, 19, 8 (`a` is 64 or more), 16. */
 uint8_t sukhlent_group_complement(uint64_t n, uint64_t word, uint8_t group,

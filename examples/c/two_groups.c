@@ -73,6 +73,11 @@ int main(void) {
     accept(sukhlent_group_measure(N, word, LOWER, neighbours, N, codes, N, &used,
                                   SUKHLENT_PAULI_Z, 0, 1, &answer, &determined));
     show("lower, Z at 0 gave 1", LOWER);
+    accept(sukhlent_group_observe(N, word, LOWER, neighbours, N, codes, N, &used,
+                                  SUKHLENT_PAULI_X, 1, 0, &answer, &determined));
+    printf("lower, X at 1 with a bit 0: %u, determined %u\n", (unsigned)answer, (unsigned)determined);
+    accept(sukhlent_group_renew(N, word, LOWER, neighbours, N, codes, N, &used, 0, SUKHLENT_PHOTON_PLUS_Y));
+    show("lower, a new photon at 0", LOWER);
     accept(return_to(LOWER, star));
     show("lower, the star again", LOWER);
     show("upper, as it was", UPPER);

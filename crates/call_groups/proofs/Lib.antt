@@ -1,3 +1,4 @@
 pub mod Answering
 pub mod GroupCalls
+pub mod GroupSourceCalls
 pub mod Sharing

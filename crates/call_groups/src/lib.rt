@@ -1,5 +1,6 @@
 // The public calls of a group on a shared record: gate, cz, measurement, complementation. Each works on a copy in which
 // the other group's vertices stand alone in +Z, and puts the group's own vertices back.
+pub mod source_calls;
 pub mod stores;
 
 use call_gates::complement::complement_known;

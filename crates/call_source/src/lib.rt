@@ -85,7 +85,7 @@ pub fn observe(
 }
 
 // Whether a code is none of a photon's: 0, 2, 4, 6, 8 and 10.
-fn no_photon(code: u8) -> bool
+pub fn no_photon(code: u8) -> bool
     ensures { λ r. ⌜ r ≡ not (usedCode code) ⌝ }
 {
     !((code < 12) & (code % 2 != 1))

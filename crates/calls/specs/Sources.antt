@@ -1,9 +1,11 @@
 -- What the calls of a source that goes on promise, for all arguments: a measurement with a bit by lot, and a new photon at
--- a used place. A name with a prime is what the buffer, or the lent number, holds at exit.
+-- a used place, of a record and of a group. A name with a prime is what the buffer, or the lent number, holds at exit.
 use mathlib.Core.List.{List, [], _∷_}
 use Prim.Native.Nat.{ℕ}
 use Rattle.buffers.specs.Calls.{Contract, buffer, contractOf, number}
-use Rattle.operations.specs.Steps.{measurementOf}
+use Rattle.source.specs.GroupSources.{groupObserveLines, groupObserved, groupRenewLines}
+use Rattle.operations.specs.Measurement.{determinedNumber, outcomeNumber}
+use Rattle.operations.specs.Steps.{measuredAnswer, measurementOf}
 use Rattle.source.specs.Renewal.{renewLines, renewed}
 use Rattle.operations.specs.Used.{UsedRecord, usedAfter, usedArgumentsOf}
 use Rattle.calls.specs.InPlace.{measureLent}
@@ -20,6 +22,24 @@ observeCall u pauli q b answer determined neighbours′ codes′ used′ answer�
 abbrev pub renewCall : UsedRecord → ℕ → ℕ → List ℕ → List ℕ → ℕ → Contract
 renewCall u q k neighbours′ codes′ used′ =
     contractOf (renewLines u q k)
+    (number (u .used) ((renewed u q k) .used) used′
+    ∷ buffer (u .held .neighbours) ((renewed u q k) .held .neighbours) neighbours′
+    ∷ buffer (u .held .codes) ((renewed u q k) .held .codes) codes′ ∷ [])
+
+-- ---- sukhlent_group_observe: outcome and determined are those of the whole record
+abbrev pub groupObserveCall : ℕ → ℕ → UsedRecord → ℕ → ℕ → ℕ → ℕ → ℕ → List ℕ → List ℕ → ℕ → ℕ → ℕ → Contract
+groupObserveCall word g u pauli q b answer determined neighbours′ codes′ used′ answer′ determined′ =
+    contractOf (groupObserveLines word g u pauli q b)
+    (number (u .used) ((groupObserved word g u pauli q b) .used) used′
+    ∷ number answer (outcomeNumber (measuredAnswer (u .held) pauli q b)) answer′
+    ∷ number determined (determinedNumber (measuredAnswer (u .held) pauli q b)) determined′
+    ∷ buffer (u .held .neighbours) ((groupObserved word g u pauli q b) .held .neighbours) neighbours′
+    ∷ buffer (u .held .codes) ((groupObserved word g u pauli q b) .held .codes) codes′ ∷ [])
+
+-- ---- sukhlent_group_renew
+abbrev pub groupRenewCall : ℕ → ℕ → UsedRecord → ℕ → ℕ → List ℕ → List ℕ → ℕ → Contract
+groupRenewCall word g u q k neighbours′ codes′ used′ =
+    contractOf (groupRenewLines word g u q k)
     (number (u .used) ((renewed u q k) .used) used′
     ∷ buffer (u .held .neighbours) ((renewed u q k) .held .neighbours) neighbours′
     ∷ buffer (u .held .codes) ((renewed u q k) .held .codes) codes′ ∷ [])

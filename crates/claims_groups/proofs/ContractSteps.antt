@@ -8,8 +8,10 @@ use borrow.Author.Tests.{eqb-true, leb-false}
 use Rattle.buffers.specs.Buffers.{accepted, acceptedNumber}
 use Rattle.buffers.specs.Refusals.{firstFitting}
 use Rattle.calls.specs.Groups.{groupCall, groupMeasureCall}
+use Rattle.calls.specs.Sources.{groupObserveCall}
 use Rattle.claims.specs.StoreDemand.{Session}
 use Rattle.buffers.specs.Calls.{Call}
+use Rattle.source.specs.GroupSources.{groupObserved}
 use Rattle.groups.proofs.GroupPassing.{group-accepted}
 use Rattle.groups.proofs.MaskedRecords.{apart-stray}
 use Rattle.groups.specs.GroupLines.{groupAfter, groupLines}
@@ -18,6 +20,7 @@ use Rattle.groups.specs.Masks.{inGroup, masked}
 use Rattle.groups.specs.internal.Apart.{Apart}
 use Rattle.operations.specs.Measurement.{determinedNumber, outcomeNumber}
 use Rattle.operations.specs.Steps.{Operation, complementOf, czOn, gateWith, leaves, measuredAnswer, measurementOf}
+use Rattle.source.specs.Renewal.{renewed}
 use Rattle.store.specs.Places.{Store}
 use Rattle.operations.specs.Used.{UsedRecord, usedAfter, usedLinesOf, usedStep}
 use Rattle.words.proofs.BitLaws.{bit-wordOf, word-cong, wordOf-bit}
@@ -26,6 +29,8 @@ use Rattle.claims_groups.specs.GroupContracts.{ContractsAreSteps, withRe
 use Rattle.claims_groups.specs.GroupRuns.{
   groupForget,
   groupMeasure,
+  groupObserve,
+  groupRenew,
   groupReturn,
   groupSave,
   measuredNumbers,
@@ -135,6 +140,18 @@ told word g s pauli q b answer determined r nb′ cs′ used′ answer′ determ
     (C .held .1 .1 .0 ∙ ap (λ m. acceptedNumber m (determinedNumber o) determined) z)
     ∙ sym (ap (λ m. cond (eqb m 0) (measuredNumbers s (groupMeasure pauli q b)) []) (sym (C .number) ∙ z))
 
+-- and of an accepted observation
+told-by-lot : (word g : ℕ) (s : Session) (pauli q b answer determined r : ℕ) (nb′ cs′ : List ℕ)
+    (used′ answer′ determined′ : ℕ) →
+    Call (groupObserveCall word g (s .current) pauli q b answer determined nb′ cs′ used′ answer′ determined′) r →
+    r ≡ 0 →
+    answer′ ∷ determined′ ∷ [] ≡ sharedMeasured word g s (groupObserve pauli q b)
+told-by-lot word g s pauli q b answer determined r nb′ cs′ used′ answer′ determined′ C z =
+    let o = measuredAnswer (s .current .held) pauli q b in
+    ap₂ (λ x y. x ∷ y ∷ []) (C .held .1 .0 ∙ ap (λ m. acceptedNumber m (outcomeNumber o) answer) z)
+    (C .held .1 .1 .0 ∙ ap (λ m. acceptedNumber m (determinedNumber o) determined) z)
+    ∙ sym (ap (λ m. cond (eqb m 0) (measuredNumbers s (groupObserve pauli q b)) []) (sym (C .number) ∙ z))
+
 pub contracts-are-steps : ContractsAreSteps
 contracts-are-steps =
     record {
@@ -159,6 +176,20 @@ contracts-are-steps =
         },
         told word g s pauli q b answer determined r nb′ cs′ used′ answer′ determined′ C,
       );
+      observe = λ word g s pauli q b answer determined r nb′ cs′ used′ answer′ determined′ C. (
+        record {
+          number = C .number;
+          state = record-step s (sharedNumber word g s (groupObserve pauli q b)) r (C .number)
+              (groupObserved word g (s .current) pauli q b) refl nb′ cs′ used′ (C .held .1 .1 .1 .0)
+              (C .held .1 .1 .1 .1 .0) (C .held .0);
+        },
+        told-by-lot word g s pauli q b answer determined r nb′ cs′ used′ answer′ determined′ C,
+      );
+      renew = λ word g s q k r nb′ cs′ used′ C. record {
+        number = C .number;
+        state = record-step s (sharedNumber word g s (groupRenew q k)) r (C .number) (renewed (s .current) q k) refl nb′ cs′
+            used′ (C .held .1 .0) (C .held .1 .1 .0) (C .held .0);
+      };
       save = λ word g s name r heads′ nb′ cs′ C. record {
         number = C .number;
         state = store-step s (sharedNumber word g s (groupSave name)) r (C .number)

@@ -8,3 +8,4 @@ pub mod GroupKeepsHold
 pub mod GroupsReduce
 pub mod GroupsDemandHolds
 pub mod SentencesHold
+pub mod SourceSentences

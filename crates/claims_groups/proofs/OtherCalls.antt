@@ -9,6 +9,9 @@ use borrow.Author.Tests.{ltb-false}
 use Rattle.buffers.proofs.Tabulate.{tabulate-length}
 use Rattle.buffers.specs.Refusals.{firstFitting}
 use Rattle.claims.specs.StoreDemand.{Session}
+use Rattle.source.proofs.ObservedGroups.{group-observed, like, like-a-gate}
+use Rattle.source.proofs.RenewedMasks.{renewed-apart, renewed-other, renewed-passes-group}
+use Rattle.groups.proofs.GroupNumbers.{in-group}
 use Rattle.groups.proofs.GroupPassing.{group-passes}
 use Rattle.groups.proofs.MergedPasses.{group-apart, merged-apart}
 use Rattle.groups.proofs.Merging.{masked-merged-other}
@@ -29,6 +32,8 @@ use Rattle.groups.specs.GroupStores.{ownPlaces}
 use Rattle.groups.specs.Masks.{inGroup, masked, reachesOut}
 use Rattle.groups.specs.internal.Apart.{GroupOp, complement-op, cz-op, gate-op, measure-op}
 use Rattle.operations.specs.Steps.{Operation, complementOf, czOn, gateWith, measurementOf}
+use Rattle.source.proofs.Observed.{answered}
+use Rattle.source.proofs.RenewedRecords.{renew-passes}
 use Rattle.store.specs.Kept.{savePlace}
 use Rattle.store.specs.Places.{placeAt, placeOf}
 use Rattle.operations.specs.Used.{usedLines, usedStep}
@@ -41,6 +46,8 @@ use Rattle.claims_groups.specs.GroupRuns.{
   groupForget,
   groupGate,
   groupMeasure,
+  groupObserve,
+  groupRenew,
   groupReturn,
   groupSave,
   sharedLeft,
@@ -67,6 +74,10 @@ module _ (word g : ℕ) (s : Session) where
       shared-group word g (s .current) (s .store) (named-shared word g (s .current) name (s .store) z)
   accepted-group (groupForget name) z =
       shared-group word g (s .current) (s .store) (named-shared word g (s .current) name (s .store) z)
+  accepted-group (groupObserve pauli q b) z = operation-group (like word g (s .current) pauli q b)
+      (sym (ap firstFitting (like-a-gate word g (s .current) pauli q b)) ∙ z)
+  accepted-group (groupRenew q k) z =
+      let l = ltb-false 1 g (renewed-passes-group word g (s .current) q k z .group) in omega (arith, l)
 
 -- ---- what is left looks the same to the other group
 module _ (word g h : ℕ) (lg : g < 2) (lh : h < 2) (ne : h ≡ g → ⊥) (s : Session) (S : Good word s) where
@@ -115,6 +126,15 @@ module _ (word g h : ℕ) (lg : g < 2) (lh : h < 2) (ne : h ≡ g → ⊥) (s : 
           codes = (ownPlaces g (s .store)) .codes;
         };
       }
+  other-left (groupObserve pauli q b) z = operation-other (measurementOf pauli q (answered (s .current) pauli q b))
+  other-left (groupRenew q k) z =
+      let P = renewed-passes-group word h (s .current) q k z in
+      let F = renew-passes (s .current) q k (P .lines) in
+      record {
+        vertices = renewed-other (inGroup word g) (s .current) q k (F .held .codes-length) (F .below)
+            (not-in-both h g lh lg other word q (in-group word h (s .current) (S .apart) q (P .own) (F .below)));
+        places = refl;
+      }
 
 -- ---- the groups stay apart
 module _ (word g : ℕ) (lg : g < 2) (s : Session) (S : Good word s) where
@@ -155,4 +175,12 @@ module _ (word g : ℕ) (lg : g < 2) (s : Session) (S : Good word s) where
           words = S .long .words;
           codes = S .long .codes;
         };
+      }
+  left-good (groupObserve pauli q b) z =
+      operation-good (measurementOf pauli q (answered (s .current) pauli q b))
+      (measure-op pauli q (answered (s .current) pauli q b)) (group-observed word g (s .current) pauli q b z)
+  left-good (groupRenew q k) z =
+      record {
+        apart = renewed-apart word (s .current) q k (S .apart) (renewed-passes-group word g (s .current) q k z .lines);
+        long = S .long;
       }

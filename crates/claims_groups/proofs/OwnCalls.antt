@@ -2,7 +2,7 @@
 -- alike.
 use mathlib.Core.Bool.{Bool, cond, false, not, true}
 use mathlib.Core.List.{_++_, [], _∷_}
-use mathlib.Core.Path.{ap, refl, sym, _∙_, _≡_}
+use mathlib.Core.Path.{ap, ap₂, refl, sym, _∙_, _≡_}
 use Prim.Native.Nat.{_*_, _+_, _<_, ℕ}
 use native.Mathlib.Omega.{arith}
 use lib.Dec.{eqb, ltb}
@@ -11,8 +11,11 @@ use borrow.Author.Tests.{le-ltb}
 use Rattle.buffers.proofs.Tabulate.{tabulate-length}
 use Rattle.buffers.specs.Refusals.{firstFitting, line}
 use Rattle.claims.specs.StoreDemand.{Session}
+use Rattle.source.proofs.ObservedGroups.{like, like-a-gate, likeCode, observed-alone}
+use Rattle.source.proofs.RenewedMasks.{renew-alone, renewed-own, renewed-passes-group}
+use Rattle.source.specs.GroupSources.{groupRenewLines}
 use Rattle.groups.proofs.AloneNumbers.{group-alone}
-use Rattle.groups.proofs.GroupNumbers.{masked-answer}
+use Rattle.groups.proofs.GroupNumbers.{in-group, masked-answer}
 use Rattle.groups.proofs.GroupPassing.{group-passes}
 use Rattle.groups.proofs.Merging.{masked-merged-own}
 use Rattle.groups.proofs.OwnHeads.{freed-own-heads}
@@ -24,6 +27,9 @@ use Rattle.groups.specs.Masks.{inGroup, masked}
 use Rattle.groups.specs.internal.Apart.{Apart, GroupOp, complement-op, cz-op, gate-op, measure-op}
 use Rattle.operations.specs.Measurement.{determinedNumber, outcomeNumber}
 use Rattle.operations.specs.Steps.{Operation, complementOf, czOn, gateWith, leaves, measuredAnswer, measurementOf}
+use Rattle.source.proofs.Observed.{answered}
+use Rattle.source.proofs.RenewedRecords.{renew-passes}
+use Rattle.source.specs.Renewal.{renewed}
 use Rattle.store.specs.Kept.{savePlace, withPlace}
 use Rattle.store.specs.Places.{Store, holdsName, othersHeld, placeAt, placeOf}
 use Rattle.operations.specs.Used.{UsedRecord, usedAfter, usedLinesOf, usedStep}
@@ -35,6 +41,8 @@ use Rattle.claims_groups.specs.GroupRuns.{
   groupForget,
   groupGate,
   groupMeasure,
+  groupObserve,
+  groupRenew,
   groupReturn,
   groupSave,
   measuredNumbers,
@@ -64,6 +72,15 @@ pub operation-left : (word g : ℕ) (u : UsedRecord) (o : Operation) → masked 
     ≡ masked (inGroup word g) ((usedStep (masked (inGroup word g) u) o) .after)
 operation-left word g u o = masked-merged-own (inGroup word g) ((usedStep (masked (inGroup word g) u) o) .after) u
     (step-count (masked (inGroup word g) u) o)
+
+-- what a renewal leaves there
+pub renewal-left : (word g : ℕ) (u : UsedRecord) (q k : ℕ) → Apart word u →
+    firstFitting (groupRenewLines word g u q k) ≡ 0 →
+    masked (inGroup word g) (renewed u q k) ≡ renewed (masked (inGroup word g) u) q k
+renewal-left word g u q k H z =
+    let P = renewed-passes-group word g u q k z in
+    let F = renew-passes u q k (P .lines) in
+    renewed-own (inGroup word g) u q k (F .held .codes-length) (F .below) (in-group word g u H q (P .own) (F .below))
 
 -- what a return leaves there
 pub returned-left : (word g : ℕ) → g < 2 → (u : UsedRecord) (name : ℕ) (st : Store) → Apart word u → EightLong st →
@@ -115,6 +132,22 @@ module _ (word g : ℕ) (lg : g < 2) (s t : Session) (S : Good word s) (T : Good
       (shared-alone word g (s .current) (t .current) (s .store) (t .store) (S .apart) (T .apart) (S .long) (T .long)
       (A .places) j
       ++ (line 17 (not (holdsName 4 ((A .places j) .heads) name)) ∷ []))
+  own-number (groupObserve pauli q b) =
+      ap firstFitting (like-a-gate word g (s .current) pauli q b)
+      ∙ operation-number (like word g (s .current) pauli q b) (gate-op q (likeCode pauli b))
+      ∙ sym (ap firstFitting (like-a-gate word g (t .current) pauli q b))
+  own-number (groupRenew q k) =
+      renew-alone word g (s .current) q k (S .apart) low
+      ∙ ap (λ v. firstFitting (groupRenewLines word g v q k)) (A .vertices)
+      ∙ sym (renew-alone word g (t .current) q k (T .apart) low)
+
+  -- an observation answers alike
+  observed-alike : (pauli q b : ℕ) → sharedNumber word g s (groupObserve pauli q b) ≡ 0 →
+      measuredAnswer (s .current .held) pauli q b ≡ measuredAnswer (t .current .held) pauli q b
+  observed-alike pauli q b z =
+      observed-alone word g (s .current) pauli q b z (S .apart)
+      ∙ ap (λ v. measuredAnswer (v .held) pauli q b) (A .vertices)
+      ∙ sym (observed-alone word g (t .current) pauli q b (sym (own-number (groupObserve pauli q b)) ∙ z) (T .apart))
 
   -- ---- what is left
   operation-alike : (o : Operation) → LooksAlike word g
@@ -164,6 +197,20 @@ module _ (word g : ℕ) (lg : g < 2) (s t : Session) (S : Good word s) (T : Good
           codes = (A .places j) .codes;
         };
       }
+  own-left (groupObserve pauli q b) z =
+      record {
+        vertices = operation-left word g (s .current) (measurementOf pauli q (answered (s .current) pauli q b))
+            ∙ ap₂ (λ v o. masked (inGroup word g) ((usedStep v (measurementOf pauli q (outcomeNumber o))) .after))
+            (A .vertices) (observed-alike pauli q b z)
+            ∙ sym (operation-left word g (t .current) (measurementOf pauli q (answered (t .current) pauli q b)));
+        places = A .places;
+      }
+  own-left (groupRenew q k) z =
+      record {
+        vertices = renewal-left word g (s .current) q k (S .apart) z ∙ ap (λ v. renewed v q k) (A .vertices)
+            ∙ sym (renewal-left word g (t .current) q k (T .apart) (sym (own-number (groupRenew q k)) ∙ z));
+        places = A .places;
+      }
 
   -- ---- the outcome
   pub own-measured : (c : SharedCall) → sharedNumber word g s c ≡ 0 → measuredNumbers s c ≡ measuredNumbers t c
@@ -183,3 +230,6 @@ module _ (word g : ℕ) (lg : g < 2) (s t : Session) (S : Good word s) (T : Good
   own-measured (groupSave name) z = refl
   own-measured (groupReturn name) z = refl
   own-measured (groupForget name) z = refl
+  own-measured (groupObserve pauli q b) z =
+      ap (λ o. outcomeNumber o ∷ determinedNumber o ∷ []) (observed-alike pauli q b z)
+  own-measured (groupRenew q k) z = refl

@@ -1,6 +1,6 @@
 -- Calls on a record with an edge between the groups, and calls with the number of neither group: the number, and that
 -- nothing changes.
-use mathlib.Core.Bool.{Bool, cond, false, or-true, true, true≢false, _||_}
+use mathlib.Core.Bool.{Bool, cond, false, not, or-true, true, true≢false, _||_}
 use mathlib.Core.Path.{ap, refl, sym, _∙_, _≡_}
 use Prim.Native.Nat.{_<_, ℕ}
 use native.Mathlib.Omega.{arith}
@@ -10,13 +10,17 @@ use Rattle.buffers.specs.Refusals.{firstFitting}
 use Rattle.claims.specs.StoreDemand.{Session}
 use Rattle.buffers.proofs.Fitting.{decides, none-holds}
 use Rattle.buffers.specs.Answers.{here}
+use Rattle.source.proofs.ObservedGroups.{observed-passes-group}
+use Rattle.source.proofs.RenewedMasks.{renewed-passes-group}
+use Rattle.source.specs.GroupSources.{groupObserveLines, groupRenewLines}
 use Rattle.groups.proofs.GroupPassing.{group-passes}
-use Rattle.groups.specs.GroupLines.{groupLines, namesOther}
+use Rattle.groups.specs.GroupLines.{groupLines, namesOther, outsider}
 use Rattle.groups.specs.GroupStores.{groupNamedLines, groupSaveLines, ownLines}
 use Rattle.groups.specs.Masks.{crosses, inGroup}
 use Rattle.operations.specs.Steps.{Operation, complementOf, czOn, gateWith, measurementOf}
 use Rattle.record.specs.Lent.{recordCodes}
 use Rattle.store.specs.StoreLines.{holdsLine, ofRecord}
+use Rattle.operations.specs.Used.{usedCode}
 use Rattle.claims_groups.proofs.OtherCalls.{accepted-group}
 use Rattle.claims_groups.specs.GroupRuns.{
   SharedCall,
@@ -25,6 +29,8 @@ use Rattle.claims_groups.specs.GroupRuns.{
   groupForget,
   groupGate,
   groupMeasure,
+  groupObserve,
+  groupRenew,
   groupReturn,
   groupSave,
   sharedAfter,
@@ -58,6 +64,13 @@ module _ (word g : ℕ) (s : Session) (e : crosses word (s .current) ≡ true) w
       ∙ none-holds (groupNamedLines word g (s .current) name (s .store)) refl z .1 .1 .1 .1 .1 .0)
   not-accepted (groupForget name) z = true≢false (sym e
       ∙ none-holds (groupNamedLines word g (s .current) name (s .store)) refl z .1 .1 .1 .1 .1 .0)
+  not-accepted (groupObserve pauli q b) z =
+      true≢false (sym e ∙ observed-passes-group word g (s .current) pauli q b z .no-crossing)
+  not-accepted (groupRenew q k) z =
+      true≢false (sym e ∙ renewed-passes-group word g (s .current) q k z .no-crossing)
+
+  crossing-at : (q : ℕ) → (crosses word (s .current) || outsider (inGroup word g) (s .current .held .n) q) ≡ true
+  crossing-at q = ap (λ b. b || outsider (inGroup word g) (s .current .held .n) q) e
 
   by-nineteen : (c : SharedCall) → firstFitting (linesBefore 19 (sharedCallLines word g s c)) ≡ 0 →
       19 ≡ sharedNumber word g s c
@@ -79,6 +92,10 @@ module _ (word g : ℕ) (s : Session) (e : crosses word (s .current) ≡ true) w
       decides (linesBefore 19 (groupNamedLines word g (s .current) name (s .store))) refl (sym z) refl (here e)
   by-nineteen (groupForget name) z =
       decides (linesBefore 19 (groupNamedLines word g (s .current) name (s .store))) refl (sym z) refl (here e)
+  by-nineteen (groupObserve pauli q b) z =
+      decides (linesBefore 19 (groupObserveLines word g (s .current) pauli q b)) refl (sym z) refl (here (crossing-at q))
+  by-nineteen (groupRenew q k) z =
+      decides (linesBefore 19 (groupRenewLines word g (s .current) q k)) refl (sym z) refl (here (crossing-at q))
 
 pub crossing-refused : CrossingRefused
 crossing-refused word g s e c =
@@ -120,6 +137,12 @@ module _ (word g : ℕ) (above : 1 < g) (s : Session) where
       decides (linesBefore 6 (groupNamedLines word g (s .current) name (s .store))) refl (sym z) refl (here store-six)
   by-six (groupForget name) z =
       decides (linesBefore 6 (groupNamedLines word g (s .current) name (s .store))) refl (sym z) refl (here store-six)
+  by-six (groupObserve pauli q b) z =
+      decides (linesBefore 6 (groupObserveLines word g (s .current) pauli q b)) refl (sym z) refl
+      (here (operation-six (leb 2 b || (eqb pauli 0 || leb 4 pauli))))
+  by-six (groupRenew q k) z =
+      decides (linesBefore 6 (groupRenewLines word g (s .current) q k)) refl (sym z) refl
+      (here (operation-six (not (usedCode k))))
 
 pub neither-refused : NeitherRefused
 neither-refused word g above s c =

@@ -4,6 +4,7 @@ use mathlib.Core.Path.{_≡_}
 use Prim.Native.Nat.{ℕ}
 use Rattle.calls.specs.GroupStores.{groupForgetCall, groupReturnCall, groupSaveCall}
 use Rattle.calls.specs.Groups.{groupCall, groupMeasureCall}
+use Rattle.calls.specs.Sources.{groupObserveCall, groupRenewCall}
 use Rattle.claims.specs.StoreDemand.{Session}
 use Rattle.buffers.specs.Calls.{Call}
 use Rattle.jobs.specs.Standing.{left}
@@ -15,6 +16,8 @@ use Rattle.claims_groups.specs.GroupRuns.{
   groupForget,
   groupGate,
   groupMeasure,
+  groupObserve,
+  groupRenew,
   groupReturn,
   groupSave,
   sharedAfter,
@@ -37,8 +40,8 @@ abbrev pub withStore : Session → List ℕ → List ℕ → List ℕ → Sessio
 withStore s heads nb cs =
     record { current = s .current; store = record { heads = heads; neighbours = nb; codes = cs } }
 
--- of each call. A gate, a cz and a complementation are not lent the used word; an accepted measurement answers its
--- outcome and its determined bit
+-- of each call. A gate, a cz and a complementation are not lent the used word; an accepted measurement or observation
+-- answers its outcome and its determined bit
 pub record ContractsAreSteps : Type 0 where
   pub gate : (word g : ℕ) (s : Session) (q k r : ℕ) (nb′ cs′ : List ℕ) →
       Call (groupCall word g (s .current) (gateWith q k) nb′ cs′) r →
@@ -63,3 +66,11 @@ pub record ContractsAreSteps : Type 0 where
   pub forget : (word g : ℕ) (s : Session) (name r : ℕ) (heads′ : List ℕ) →
       Call (groupForgetCall word g (s .current) name (s .store) heads′) r →
       IsStep word g s (groupForget name) r (withStore s heads′ (s .store .neighbours) (s .store .codes))
+  pub observe : (word g : ℕ) (s : Session) (pauli q b answer determined r : ℕ) (nb′ cs′ : List ℕ)
+      (used′ answer′ determined′ : ℕ) →
+      Call (groupObserveCall word g (s .current) pauli q b answer determined nb′ cs′ used′ answer′ determined′) r →
+      IsStep word g s (groupObserve pauli q b) r (withRecord s nb′ cs′ used′)
+      × (r ≡ 0 → answer′ ∷ determined′ ∷ [] ≡ sharedMeasured word g s (groupObserve pauli q b))
+  pub renew : (word g : ℕ) (s : Session) (q k r : ℕ) (nb′ cs′ : List ℕ) (used′ : ℕ) →
+      Call (groupRenewCall word g (s .current) q k nb′ cs′ used′) r →
+      IsStep word g s (groupRenew q k) r (withRecord s nb′ cs′ used′)

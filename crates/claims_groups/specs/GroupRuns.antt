@@ -16,14 +16,16 @@ use Rattle.groups.specs.GroupStores.{
   ownPlaces,
 }
 use Rattle.groups.specs.Masks.{inGroup, masked}
+use Rattle.source.specs.GroupSources.{groupObserveLines, groupObserved, groupRenewLines}
 use Rattle.jobs.specs.Runs.{started}
 use Rattle.operations.specs.Measurement.{determinedNumber, outcomeNumber}
 use Rattle.operations.specs.Steps.{complementOf, czOn, gateWith, measuredAnswer, measurementOf}
+use Rattle.source.specs.Renewal.{renewed}
 use Rattle.store.specs.Places.{Store}
 use Rattle.operations.specs.Used.{UsedRecord}
 
 -- "Group calls are gate, cz, measure, complement, .. save, return and forget", with their arguments; a group has no
--- pivot
+-- pivot. Besides, a measurement with a bit by lot and a new photon at a used qubit
 pub data SharedCall : Type 0 where
   groupGate : ℕ → ℕ → SharedCall
   groupCz : ℕ → ℕ → SharedCall
@@ -32,6 +34,8 @@ pub data SharedCall : Type 0 where
   groupSave : ℕ → SharedCall
   groupReturn : ℕ → SharedCall
   groupForget : ℕ → SharedCall
+  groupObserve : ℕ → ℕ → ℕ → SharedCall
+  groupRenew : ℕ → ℕ → SharedCall
 
 -- a call of a run, with the number of its group. One above 1 is no group: its call is refused, and changes nothing
 pub record CallOf : Type 0 where
@@ -56,6 +60,8 @@ sharedCallLines word g s (groupComplement a) = groupLines word g (s .current) (c
 sharedCallLines word g s (groupSave name) = groupSaveLines word g (s .current) name (s .store)
 sharedCallLines word g s (groupReturn name) = groupNamedLines word g (s .current) name (s .store)
 sharedCallLines word g s (groupForget name) = groupNamedLines word g (s .current) name (s .store)
+sharedCallLines word g s (groupObserve pauli q b) = groupObserveLines word g (s .current) pauli q b
+sharedCallLines word g s (groupRenew q k) = groupRenewLines word g (s .current) q k
 
 -- the number that it answers
 abbrev pub sharedNumber : ℕ → ℕ → Session → SharedCall → ℕ
@@ -83,12 +89,15 @@ sharedLeft word g s (groupForget name) =
         codes = s .store .codes;
       };
     }
+sharedLeft word g s (groupObserve pauli q b) =
+    record { current = groupObserved word g (s .current) pauli q b; store = s .store }
+sharedLeft word g s (groupRenew q k) = record { current = renewed (s .current) q k; store = s .store }
 
 -- what a call leaves: refused, it "changes no lent byte"
 abbrev pub sharedAfter : ℕ → ℕ → Session → SharedCall → Session
 sharedAfter word g s c = cond (eqb (sharedNumber word g s c) 0) (sharedLeft word g s c) s
 
--- the outcome and the determined bit that an accepted call answers: a measurement's alone
+-- the outcome and the determined bit that an accepted call answers: a measurement's and an observation's alone
 abbrev pub measuredNumbers : Session → SharedCall → List ℕ
 measuredNumbers s (groupGate q k) = []
 measuredNumbers s (groupCz a b) = []
@@ -99,6 +108,10 @@ measuredNumbers s (groupComplement a) = []
 measuredNumbers s (groupSave name) = []
 measuredNumbers s (groupReturn name) = []
 measuredNumbers s (groupForget name) = []
+measuredNumbers s (groupObserve pauli q b) =
+    outcomeNumber (measuredAnswer (s .current .held) pauli q b)
+    ∷ determinedNumber (measuredAnswer (s .current .held) pauli q b) ∷ []
+measuredNumbers s (groupRenew q k) = []
 
 -- those of a call: a refused one answers none
 abbrev pub sharedMeasured : ℕ → ℕ → Session → SharedCall → List ℕ

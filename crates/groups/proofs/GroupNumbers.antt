@@ -79,7 +79,7 @@ module _ (word g : ℕ) (u : UsedRecord) (H : Apart word u) where
       (ap (λ b. b && not (s q)) (sym (lt-ltb q 64 (subst (λ m. q < m) (H .count) l))) ∙ e)
 
   -- it is used in both records or in none
-  used-alike : (q : ℕ) → outsider s 64 q ≡ false → bit (u .used) q ≡ bit (v .used) q
+  pub used-alike : (q : ℕ) → outsider s 64 q ≡ false → bit (u .used) q ≡ bit (v .used) q
   used-alike q e = sym (masked-used s u (apart-stray word u H) q ∙ (elim (lt-or-ge q (u .held .n)) [
     | inl l ↦ ap (λ b. b && bit (u .used) q) (in-group q e l)
     | inr l ↦ let below = leb-false (2 ^ (u .held .n)) (u .used) (apart-stray word u H) in
@@ -106,7 +106,7 @@ module _ (word g : ℕ) (u : UsedRecord) (H : Apart word u) where
     contradicted-alike = contradicts-alike (u .held .n) (heldRecord (u .held)) (heldRecord (v .held))
         (apart-record word u H .simple) (apart-record word v H′ .simple) q l code row (pauliLetter pauli) acts-here
 
-    answered-alike : (b : ℕ) → measuredAnswer (u .held) pauli q b ≡ measuredAnswer (v .held) pauli q b
+    pub answered-alike : (b : ℕ) → measuredAnswer (u .held) pauli q b ≡ measuredAnswer (v .held) pauli q b
     answered-alike b = answer-alike (u .held .n) (heldRecord (u .held)) (heldRecord (v .held))
         (apart-record word u H .simple) (apart-record word v H′ .simple) q l code row (pauliLetter pauli) acts-here
         (isOdd b)

@@ -1,2 +1,3 @@
+pub mod GroupSources
 pub mod Renewal
 pub mod internal

@@ -2,8 +2,9 @@
 //! drawn anew and placed anywhere. After each of its calls the group sees the same in both runs; and
 //! each accepted call leaves the group that the whole-record call leaves.
 
-use crate::common::shared::{masked, on, own, random_word, GroupCall};
-use crate::common::{Operation, Random};
+use crate::common::shared::{masked, of, on, own, random_word, GroupCall};
+use crate::common::source::Source;
+use crate::common::{Operation, Random, RecordCall};
 use crate::session::same;
 use std::collections::HashMap;
 use std::fmt;
@@ -33,10 +34,11 @@ pub struct PairCounts {
     /// Calls of the group that is watched, and of the other.
     pub own: u64,
     pub others: u64,
-    /// Accepted gates, CZ, measurements, complementations, saves, returns, forgets.
-    pub accepted: [u64; 7],
+    /// Accepted gates, CZ, measurements, complementations, saves, returns, forgets, observations,
+    /// renewals.
+    pub accepted: [u64; 9],
     /// Refused calls, by their number.
-    pub refused: [u64; 20],
+    pub refused: [u64; 21],
     /// Pairs in which the other group's vertices differ at the end.
     pub different: u64,
 }
@@ -44,12 +46,13 @@ pub struct PairCounts {
 impl fmt::Display for PairCounts {
     fn fmt(&self, f: &mut fmt::Formatter<'_>) -> fmt::Result {
         let refused: u64 = self.refused.iter().sum();
-        let [gates, czs, measured, complements, saves, returns, forgets] = self.accepted;
+        let [gates, czs, measured, complements, saves, returns, forgets, observed, renewed] =
+            self.accepted;
         write!(
             f,
             "{} calls of the group and {} of the other, {refused} of them refused; {gates} gates, \
              {czs} CZ, {measured} measurements, {complements} complements, {saves} saves, {returns} \
-             returns and {forgets} forgets; the other's vertices differ at the end of {} pairs",
+             returns, {forgets} forgets, {observed} observations and {renewed} renewals; the other's vertices differ at the end of {} pairs",
             self.own, self.others, self.different
         )
     }
@@ -110,6 +113,10 @@ impl Run {
                 let outcome = [answer, determined];
                 on(operation, (64, whose), words, codes, used, outcome)
             }
+            GroupCall::Of(source) => {
+                let outcome = [answer, determined];
+                of(source, (64, whose), words, codes, used, outcome)
+            }
             GroupCall::Save(name) => {
                 let record = (64, &**words, &**codes, *used);
                 raw::group_save(record, whose, name, held.0, held.1, held.2)
@@ -166,6 +173,15 @@ impl Run {
                 same("the group's vertices", &seen.vertices, &vertices)?;
                 same_elements(&self.record, &whole)
             }
+            GroupCall::Of(source) => {
+                let (whole, measured) = RecordCall::with(before, source)
+                    .apply_source()
+                    .map_err(|number| format!("the whole-record call is refused by {number}"))?;
+                let due = measured.map_or(UNTOUCHED, |m| [m.outcome, u8::from(m.determined)]);
+                same("the outcome", seen.outcome, due)?;
+                same("the used word", self.record.used, whole.used)?;
+                same_elements(&self.record, &whole)
+            }
             GroupCall::Save(name) => {
                 let vertices = masked(before, own(self.word, group));
                 self.saved.insert((group, name), vertices);
@@ -194,6 +210,8 @@ fn kind_of(call: GroupCall) -> usize {
         GroupCall::Save(_) => 4,
         GroupCall::Return(_) => 5,
         GroupCall::Forget(_) => 6,
+        GroupCall::Of(Source::Observe(..)) => 7,
+        GroupCall::Of(Source::Renew(..)) => 8,
     }
 }
 
@@ -213,8 +231,8 @@ fn elements(record: &Record) -> Result<Record, String> {
 
 /// A call of a group that has some of the qubits: mostly gates and CZ at first, all kinds later.
 fn drawn(random: &mut Random, word: u64, group: u8, number: usize) -> GroupCall {
-    let few = [0, 1, 0, 1, 3, 4, 2, 5, 6];
-    let all = [0, 1, 2, 2, 3, 4, 5, 5, 6];
+    let few = [0, 1, 0, 1, 3, 4, 2, 5, 6, 7, 8];
+    let all = [0, 1, 2, 2, 3, 4, 5, 5, 6, 7, 8];
     let kinds = if 2 * number < CALLS { few } else { all };
     let kind = kinds[random.below(kinds.len())];
     GroupCall::random(random, kind, own(word, group))

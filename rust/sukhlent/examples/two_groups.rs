@@ -2,7 +2,7 @@
 //! to it; the upper half makes a path. Neither sees the other.
 
 use std::fmt::Write;
-use sukhlent::{codes, cz, Group, Pauli, Refusal, Shared};
+use sukhlent::{codes, cz, Group, Pauli, Photon, Refusal, Shared};
 
 /// The vertices of a group that are not in +Z as at the start, each with its neighbour word and its
 /// code, and the group's used qubits.
@@ -39,6 +39,15 @@ pub fn session(text: &mut String) -> Result<(), Refusal> {
 
     lower.measure(Pauli::Z, 0, 1)?;
     show(text, "lower, Z at 0 gave 1", &lower);
+    let told = lower.observe(Pauli::X, 1, 0)?;
+    let (outcome, determined) = (told.outcome, u8::from(told.determined));
+    writeln!(
+        text,
+        "lower, X at 1 with a bit 0: {outcome}, determined {determined}"
+    )
+    .expect("room for text");
+    lower.renew(0, Photon::PlusY)?;
+    show(text, "lower, a new photon at 0", &lower);
     lower.return_to(*b"star    ")?;
     show(text, "lower, the star again", &lower);
     show(text, "upper, as it was", &upper);

@@ -19,8 +19,8 @@
 mod groups;
 
 pub use groups::{
-    group_complement, group_cz, group_forget, group_gate, group_measure, group_return, group_save,
-    Whose,
+    group_complement, group_cz, group_forget, group_gate, group_measure, group_observe,
+    group_renew, group_return, group_save, Whose,
 };
 
 mod calls {

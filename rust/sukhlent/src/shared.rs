@@ -1,6 +1,6 @@
 //! Two groups that share one record.
 
-use crate::{raw, Measured, Pauli, Record, Refusal, Store};
+use crate::{raw, Measured, Pauli, Photon, Record, Refusal, Store};
 use std::sync::{Mutex, MutexGuard, PoisonError};
 
 /// A record of 64 qubits that two groups share, each with four named states of its own.
@@ -279,6 +279,67 @@ impl Group<'_> {
             &mut determined,
         );
         Measured::unless_refused(number, outcome, determined)
+    }
+
+    /// Measures a Pauli at a qubit of the group with a bit by lot, as [`observe`](crate::observe).
+    ///
+    /// Refusals: 6 for a bit above 1, 19, 8 for a qubit out of range, 16 for a used one.
+    ///
+    /// ```
+    /// use sukhlent::{Measured, Pauli, Refusal, Shared};
+    ///
+    /// let shared = Shared::new(!0 << 32);
+    /// let [lower, upper] = shared.groups();
+    /// let answer = upper.observe(Pauli::Z, 40, 1)?;
+    /// assert_eq!(answer, Measured { outcome: 0, determined: true });
+    /// assert_eq!(lower.observe(Pauli::Z, 40, 1), Err(Refusal::OtherGroup));
+    /// # Ok::<(), Refusal>(())
+    /// ```
+    pub fn observe(&self, pauli: Pauli, qubit: usize, bit: u8) -> Result<Measured, Refusal> {
+        let record = &mut self.shared.lock().record;
+        let (mut outcome, mut determined) = (0, 0);
+        let number = raw::group_observe(
+            record.n() as u64,
+            self.whose(),
+            &mut record.neighbours,
+            &mut record.codes,
+            &mut record.used,
+            pauli as u8,
+            qubit as u64,
+            bit,
+            &mut outcome,
+            &mut determined,
+        );
+        Measured::unless_refused(number, outcome, determined)
+    }
+
+    /// Puts a new photon at a used qubit of the group, as [`Record::renew`](crate::Record::renew).
+    ///
+    /// Refusals: 19, 8 for a qubit out of range, 20 for one that is not used.
+    ///
+    /// ```
+    /// use sukhlent::{Pauli, Photon, Refusal, Shared};
+    ///
+    /// let shared = Shared::new(!0 << 32);
+    /// let [lower, upper] = shared.groups();
+    /// upper.observe(Pauli::X, 40, 1)?;
+    /// assert_eq!(lower.renew(40, Photon::PlusZ), Err(Refusal::OtherGroup));
+    /// upper.renew(40, Photon::PlusZ)?;
+    /// assert_eq!(upper.renew(40, Photon::PlusZ), Err(Refusal::NotUsed));
+    /// # Ok::<(), Refusal>(())
+    /// ```
+    pub fn renew(&self, qubit: usize, photon: Photon) -> Result<(), Refusal> {
+        let record = &mut self.shared.lock().record;
+        let number = raw::group_renew(
+            record.n() as u64,
+            self.whose(),
+            &mut record.neighbours,
+            &mut record.codes,
+            &mut record.used,
+            qubit as u64,
+            photon as u8,
+        );
+        Refusal::unless_accepted(number)
     }
 
     /// Complements at a vertex of the group, so that its state stays; nothing is reduced.

@@ -8,11 +8,13 @@ use Prim.Native.Nat.{ℕ}
 use Rattle.calls.specs.InPlace.{usedCall, usedMeasureCall}
 use Rattle.calls.specs.GroupStores.{groupForgetCall, groupReturnCall, groupSaveCall}
 use Rattle.calls.specs.Groups.{groupCall, groupMeasureCall}
+use Rattle.calls.specs.Sources.{groupObserveCall, groupRenewCall, observeCall, renewCall}
 use Rattle.claims.specs.ActionContracts.{session}
 use Rattle.claims.specs.Conforming.{Answered}
 use Rattle.claims.specs.UsedDemand.{leftUsed}
 use Rattle.claims.specs.families.Groups.{GroupNameFits, GroupSaveFits, Own, TwoGroups}
 use Rattle.claims.specs.families.Records.{ComplementFits, CzFits, GateFits, MeasureFits}
+use Rattle.claims.specs.Sources.{ObserveFits, RenewFits, RenewalStands}
 use Rattle.buffers.specs.Calls.{Call}
 use Rattle.operations.specs.Steps.{Operation, complementOf, czOn, gateWith}
 use Rattle.jobs.specs.Standing.{left}
@@ -37,6 +39,8 @@ use Rattle.claims_groups.specs.GroupRuns.{
   groupForget,
   groupGate,
   groupMeasure,
+  groupObserve,
+  groupRenew,
   groupReturn,
   groupSave,
   sharedMeasured,
@@ -129,3 +133,30 @@ pub record GroupForgetSays (word g : ℕ) (u : UsedRecord) (name : ℕ) (st : St
       (withStore (session u st) heads′ (st .neighbours) (st .codes))
   pub not-held : GroupNotHeld word g u name st r
   pub keeps : r ≡ 0 → GroupForgetKeeps g name st (record { heads = heads′; neighbours = st .neighbours; codes = st .codes })
+
+-- sukhlent_group_observe: its outcome, determined bit and used word are those of the whole-record call too
+pub record GroupObserveSays (word g : ℕ) (u : UsedRecord) (pauli q b answer determined : ℕ) (nb′ cs′ : List ℕ)
+    (used′ answer′ determined′ r : ℕ) : Type 0 where
+  pub answered : Answered (groupObserveCall word g u pauli q b answer determined nb′ cs′ used′ answer′ determined′) r
+  pub accepted : (r ≡ 0) ↔ (TwoGroups word g u × Own word g q × ObserveFits u pauli q b)
+  pub step : StepOnRecord word g u (groupObserve pauli q b) r nb′ cs′ used′
+  pub outcome : r ≡ 0 → (st : Store) →
+      answer′ ∷ determined′ ∷ [] ≡ sharedMeasured word g (session u st) (groupObserve pauli q b)
+  pub never-14 : r ≡ 14 → ⊥
+  -- accepted, it is the group's measurement with the outcome that it answers
+  pub as-measured : r ≡ 0 →
+      Call (groupMeasureCall word g u pauli q answer′ answer determined nb′ cs′ used′ answer′ determined′) 0
+  pub keeps : r ≡ 0 → GroupKeeps word g u (leftUsed u nb′ cs′ used′)
+  pub reduces : r ≡ 0 → GroupReduced word g (leftUsed u nb′ cs′ used′)
+  pub stands : r ≡ 0 → (r″ : ℕ) (nb″ cs″ : List ℕ) (used″ answer″ determined″ : ℕ) →
+      Call (observeCall u pauli q b answer determined nb″ cs″ used″ answer″ determined″) r″ →
+      StandsAsWhole u nb′ cs′ r″ nb″ cs″ × (answer′ ≡ answer″) × (determined′ ≡ determined″) × (used′ ≡ used″)
+
+-- sukhlent_group_renew: what it leaves is what the whole-record call leaves
+pub record GroupRenewSays (word g : ℕ) (u : UsedRecord) (q k : ℕ) (nb′ cs′ : List ℕ) (used′ r : ℕ) : Type 0 where
+  pub answered : Answered (groupRenewCall word g u q k nb′ cs′ used′) r
+  pub accepted : (r ≡ 0) ↔ (TwoGroups word g u × Own word g q × RenewFits u q k)
+  pub step : StepOnRecord word g u (groupRenew q k) r nb′ cs′ used′
+  pub whole : r ≡ 0 → Call (renewCall u q k nb′ cs′ used′) 0
+  pub stands : r ≡ 0 → RenewalStands u q k (leftUsed u nb′ cs′ used′)
+  pub keeps : r ≡ 0 → GroupKeeps word g u (leftUsed u nb′ cs′ used′)

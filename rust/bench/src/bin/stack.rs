@@ -24,11 +24,12 @@ type Measured = (&'static str, usize, fn(&mut Random, usize) -> usize);
 type Compare = fn(raw::Lent, raw::Lent, &mut [u8], &mut [u8], &mut u64) -> u8;
 type CompareRecords = fn(raw::LentGraph, raw::LentGraph, &mut [u8], &mut [u8], &mut u64) -> u8;
 
-/// Group 0 of two halves.
+/// The groups of two halves.
 const LOWER: raw::Whose = (!0 << 32, 0);
+const UPPER: raw::Whose = (!0 << 32, 1);
 
 /// Every public call. All arguments are accepted, so that every step is taken.
-const CALLS: [Measured; 36] = [
+const CALLS: [Measured; 38] = [
     ("check", 64, |random, n| {
         let given = list(&random_rows(random, n));
         depth(|| raw::check(n as u64, &given.signs, &given.z, &given.x))
@@ -179,6 +180,18 @@ const CALLS: [Measured; 36] = [
         let outcome = (&mut answer, &mut determined);
         in_place(random, n, |n, words, codes, used| {
             raw::group_measure(n, LOWER, words, codes, used, 3, 0, 1, outcome.0, outcome.1)
+        })
+    }),
+    ("group_observe", 64, |random, n| {
+        let (mut answer, mut determined) = (0, 0);
+        let outcome = (&mut answer, &mut determined);
+        in_place(random, n, |n, words, codes, used| {
+            raw::group_observe(n, LOWER, words, codes, used, 3, 0, 1, outcome.0, outcome.1)
+        })
+    }),
+    ("group_renew", 64, |random, n| {
+        in_place(random, n, |n, words, codes, used| {
+            raw::group_renew(n, UPPER, words, codes, used, 63, 0)
         })
     }),
     ("group_complement", 64, |random, n| {

@@ -54,3 +54,11 @@ pub fn return_to(random: &mut Random) -> u8 {
 pub fn forget(random: &mut Random) -> u8 {
     once(random, 6)
 }
+
+pub fn observe(random: &mut Random) -> u8 {
+    once(random, 7)
+}
+
+pub fn renew(random: &mut Random) -> u8 {
+    once(random, 8)
+}

@@ -142,6 +142,14 @@ pub const CALLS: [Call; 33] = [
         once: groups::measure,
     },
     Call {
+        name: "group_observe",
+        once: groups::observe,
+    },
+    Call {
+        name: "group_renew",
+        once: groups::renew,
+    },
+    Call {
         name: "group_complement",
         once: groups::complement,
     },

@@ -46,6 +46,35 @@ mod calls {
             determined: *mut u8,
         ) -> u8;
 
+        pub fn sukhlent_group_observe(
+            n: u64,
+            word: u64,
+            group: u8,
+            neighbours: *mut u64,
+            neighbours_len: u64,
+            codes: *mut u8,
+            codes_len: u64,
+            used: *mut u64,
+            pauli: u8,
+            qubit: u64,
+            bit: u8,
+            answer: *mut u8,
+            determined: *mut u8,
+        ) -> u8;
+
+        pub fn sukhlent_group_renew(
+            n: u64,
+            word: u64,
+            group: u8,
+            neighbours: *mut u64,
+            neighbours_len: u64,
+            codes: *mut u8,
+            codes_len: u64,
+            used: *mut u64,
+            qubit: u64,
+            code: u8,
+        ) -> u8;
+
         pub fn sukhlent_group_complement(
             n: u64,
             word: u64,
@@ -234,6 +263,88 @@ pub fn group_measure(
             outcome,
             answer,
             determined,
+        )
+    }
+}
+
+/// A group's measurement with a bit by lot.
+///
+/// ```
+/// use sukhlent::raw;
+///
+/// // Qubit 40 is in +Z: the bit 1 is not the outcome.
+/// let (mut neighbours, mut codes, mut used) = ([0; 64], [8; 64], 0);
+/// let (mut answer, mut determined) = (9, 9);
+/// let number = raw::group_observe(
+///     64, (!0 << 32, 1), &mut neighbours, &mut codes, &mut used, 3, 40, 1, &mut answer, &mut determined,
+/// );
+/// assert_eq!((number, answer, determined, used), (0, 0, 1, 1 << 40));
+/// ```
+#[allow(clippy::too_many_arguments)]
+pub fn group_observe(
+    n: u64,
+    (word, group): Whose,
+    neighbours: &mut [u64],
+    codes: &mut [u8],
+    used: &mut u64,
+    pauli: u8,
+    qubit: u64,
+    bit: u8,
+    answer: &mut u8,
+    determined: &mut u8,
+) -> u8 {
+    unsafe {
+        calls::sukhlent_group_observe(
+            n,
+            word,
+            group,
+            neighbours.as_mut_ptr(),
+            neighbours.len() as u64,
+            codes.as_mut_ptr(),
+            codes.len() as u64,
+            used,
+            pauli,
+            qubit,
+            bit,
+            answer,
+            determined,
+        )
+    }
+}
+
+/// A group's new photon at a used qubit.
+///
+/// ```
+/// use sukhlent::raw;
+///
+/// let (mut neighbours, mut codes, mut used) = ([0; 64], [8; 64], 1 << 40);
+/// let mut renew = |group, qubit| {
+///     raw::group_renew(64, (!0 << 32, group), &mut neighbours, &mut codes, &mut used, qubit, 2)
+/// };
+/// assert_eq!([renew(0, 40), renew(1, 41), renew(1, 40)], [19, 20, 0]);
+/// assert_eq!((codes[40], used), (2, 0));
+/// ```
+pub fn group_renew(
+    n: u64,
+    (word, group): Whose,
+    neighbours: &mut [u64],
+    codes: &mut [u8],
+    used: &mut u64,
+    qubit: u64,
+    code: u8,
+) -> u8 {
+    unsafe {
+        calls::sukhlent_group_renew(
+            n,
+            word,
+            group,
+            neighbours.as_mut_ptr(),
+            neighbours.len() as u64,
+            codes.as_mut_ptr(),
+            codes.len() as u64,
+            used,
+            qubit,
+            code,
         )
     }
 }

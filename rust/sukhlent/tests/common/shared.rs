@@ -4,6 +4,7 @@ use super::guarded::Guarded;
 use super::in_place::measured;
 use super::operation::Operation;
 use super::seeded::{isolate, random_used_record, Random};
+use super::source::Source;
 use sukhlent::{raw, Measured, Record};
 
 /// A call of a group.
@@ -11,6 +12,8 @@ use sukhlent::{raw, Measured, Record};
 pub enum GroupCall {
     /// A gate, a CZ, a measurement or a complementation.
     On(Operation),
+    /// An observation or a renewal.
+    Of(Source),
     /// A save under a name.
     Save(u64),
     /// A return to a name.
@@ -20,7 +23,7 @@ pub enum GroupCall {
 }
 
 impl GroupCall {
-    /// A random call of one kind, 0 to 6, mostly on the qubits of a word; names are 0 to 5.
+    /// A random call of one kind, 0 to 8, mostly on the qubits of a word; names are 0 to 5.
     pub fn random(random: &mut Random, kind: usize, own: u64) -> GroupCall {
         let qubits: Vec<u64> = (0..64).filter(|q| own >> q & 1 == 1).collect();
         let mut qubit = || match random.below(24) {
@@ -47,7 +50,18 @@ impl GroupCall {
             3 => GroupCall::On(Operation::Complement(a)),
             4 => GroupCall::Save(random.below(6) as u64),
             5 => GroupCall::Return(random.below(6) as u64),
-            _ => GroupCall::Forget(random.below(6) as u64),
+            6 => GroupCall::Forget(random.below(6) as u64),
+            7 => {
+                let (pauli, bit) = (random.below(3) as u8 + 1, random.below(2) as u8);
+                let wrong = [rare(random), rare(random)];
+                let observed = Source::Observe(pauli * (1 - wrong[0]), a, bit + 2 * wrong[1]);
+                GroupCall::Of(observed)
+            }
+            _ => {
+                let wrong = rare(random);
+                let code = 2 * random.below(6) as u8 + wrong;
+                GroupCall::Of(Source::Renew(a, code))
+            }
         }
     }
 }
@@ -144,6 +158,14 @@ impl Lent {
                 &mut used.lent()[0],
                 [&mut answer.lent()[0], &mut determined.lent()[0]],
             ),
+            GroupCall::Of(source) => of(
+                source,
+                (n, whose),
+                words.lent(),
+                codes.lent(),
+                &mut used.lent()[0],
+                [&mut answer.lent()[0], &mut determined.lent()[0]],
+            ),
             GroupCall::Save(name) => {
                 let record = (n, &*words.lent(), &*codes.lent(), self.record.used);
                 let (heads, held) = (heads.lent(), held.lent());
@@ -164,8 +186,14 @@ impl Lent {
                 raw::group_forget(record, whose, name, heads, held, held_codes.lent())
             }
         };
-        let measures = matches!(call, GroupCall::On(Operation::Measure(..))) && number == 0;
-        let record = matches!(call, GroupCall::On(_) | GroupCall::Return(_)) && number == 0;
+        let observes = matches!(call, GroupCall::Of(Source::Observe(..)));
+        let measures =
+            (observes || matches!(call, GroupCall::On(Operation::Measure(..)))) && number == 0;
+        let renews = matches!(call, GroupCall::Of(Source::Renew(..))) && number == 0;
+        let record = matches!(
+            call,
+            GroupCall::On(_) | GroupCall::Of(_) | GroupCall::Return(_)
+        ) && number == 0;
         let returns = matches!(call, GroupCall::Return(_)) && number == 0;
         let saves = matches!(call, GroupCall::Save(_)) && number == 0;
         let forgets = matches!(call, GroupCall::Forget(_)) && number == 0;
@@ -173,7 +201,7 @@ impl Lent {
             answer.assert_unchanged("answer");
             determined.assert_unchanged("determined");
         }
-        if !measures && !returns {
+        if !measures && !renews && !returns {
             used.assert_unchanged("used");
         }
         if !record {
@@ -225,6 +253,25 @@ pub fn on(
             n, whose, neighbours, codes, used, pauli, qubit, outcome, answer, determined,
         ),
         Operation::Complement(a) => raw::group_complement(n, whose, neighbours, codes, *used, a),
+    }
+}
+
+/// The number of a group's observation, which writes to the last two, or renewal.
+pub fn of(
+    source: Source,
+    (n, whose): (u64, raw::Whose),
+    neighbours: &mut [u64],
+    codes: &mut [u8],
+    used: &mut u64,
+    [answer, determined]: [&mut u8; 2],
+) -> u8 {
+    match source {
+        Source::Observe(pauli, qubit, bit) => raw::group_observe(
+            n, whose, neighbours, codes, used, pauli, qubit, bit, answer, determined,
+        ),
+        Source::Renew(qubit, code) => {
+            raw::group_renew(n, whose, neighbours, codes, used, qubit, code)
+        }
     }
 }
 

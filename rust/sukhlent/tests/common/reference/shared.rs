@@ -4,19 +4,23 @@
 use super::{after, in_place_refusal, record_refusal};
 use crate::common::operation::Operation;
 use crate::common::shared::{masked, own, GroupCall, Lent};
+use crate::common::source::Source;
+use crate::common::RecordCall;
 use sukhlent::{Measured, Record};
 
-/// The first line, of 2, 4, 6, 7, 19, 8, 16, 17, 18 and 14, that is true of a group's call.
+/// The first line, of 2, 4, 6, 7, 19, 8, 16, 20, 17, 18 and 14, that is true of a group's call.
 pub fn group_refusal(lent: &Lent, group: u8, call: GroupCall) -> u8 {
     let of_record = record_refusal(lent.n, &lent.record, &[]);
     let of_store = match call {
-        GroupCall::On(_) => 0,
+        GroupCall::On(_) | GroupCall::Of(_) => 0,
         _ => own_places_refusal(lent, group),
     };
     let either = |number: u8| of_record == number || of_store == number;
     let six = match call {
         GroupCall::On(Operation::Gate(_, code)) => code > 23,
-        GroupCall::On(Operation::Measure(pauli, _, bit)) => !(1..=3).contains(&pauli) || bit > 1,
+        GroupCall::On(Operation::Measure(pauli, _, bit))
+        | GroupCall::Of(Source::Observe(pauli, _, bit)) => !(1..=3).contains(&pauli) || bit > 1,
+        GroupCall::Of(Source::Renew(_, code)) => ![0, 2, 4, 6, 8, 10].contains(&code),
         _ => false,
     };
     let lines = [
@@ -37,6 +41,7 @@ pub fn group_refusal(lent: &Lent, group: u8, call: GroupCall) -> u8 {
     let full = (first..first + 4).all(|i| lent.heads[3 * i] != 0);
     match call {
         GroupCall::On(operation) => in_place_refusal(64, &lent.record, operation),
+        GroupCall::Of(source) => RecordCall::with(&lent.record, source).due_number(),
         GroupCall::Save(name) => 18 * u8::from(full && !held(name)),
         GroupCall::Return(name) | GroupCall::Forget(name) => 17 * u8::from(!held(name)),
     }
@@ -83,10 +88,12 @@ fn has_crossing_edge(lent: &Lent) -> bool {
 
 /// Whether a call names a qubit below 64 that is not the group's.
 fn names_other(lent: &Lent, group: u8, call: GroupCall) -> bool {
-    let GroupCall::On(operation) = call else {
-        return false;
+    let names = |q: usize| match call {
+        GroupCall::On(operation) => operation.names(q),
+        GroupCall::Of(Source::Observe(_, a, _) | Source::Renew(a, _)) => a == q as u64,
+        _ => false,
     };
-    (0..64).any(|q| operation.names(q) && own(lent.word, group) >> q & 1 == 0)
+    (0..64).any(|q| names(q) && own(lent.word, group) >> q & 1 == 0)
 }
 
 /// What an accepted call leaves, and what it measures.
@@ -98,6 +105,14 @@ pub fn group_after(lent: &Lent, group: u8, call: GroupCall) -> (Lent, Option<Mea
         GroupCall::On(operation) => {
             let qubits: Vec<usize> = (0..64).filter(|q| own >> q & 1 == 1).collect();
             let (small, measured) = after(&taken(&lent.record, &qubits), moved(operation, &qubits));
+            put_back(&mut left.record, &qubits, &small);
+            return (left, measured);
+        }
+        GroupCall::Of(source) => {
+            let qubits: Vec<usize> = (0..64).filter(|q| own >> q & 1 == 1).collect();
+            let small = taken(&lent.record, &qubits);
+            let (small, measured) =
+                RecordCall::with(&small, renumbered(source, &qubits)).due_after();
             put_back(&mut left.record, &qubits, &small);
             return (left, measured);
         }
@@ -149,9 +164,22 @@ fn put_back(record: &mut Record, qubits: &[usize], small: &Record) {
     record.used = record.used & !own | spread(small.used);
 }
 
+/// The new number of a qubit.
+fn new_number(q: u64, qubits: &[usize]) -> u64 {
+    qubits.iter().position(|&own| own as u64 == q).unwrap() as u64
+}
+
+/// A call of a source with the new number of its qubit.
+fn renumbered(source: Source, qubits: &[usize]) -> Source {
+    match source {
+        Source::Observe(pauli, q, bit) => Source::Observe(pauli, new_number(q, qubits), bit),
+        Source::Renew(q, code) => Source::Renew(new_number(q, qubits), code),
+    }
+}
+
 /// A call with the new numbers of its qubits.
 fn moved(operation: Operation, qubits: &[usize]) -> Operation {
-    let new = |q: u64| qubits.iter().position(|&own| own as u64 == q).unwrap() as u64;
+    let new = |q: u64| new_number(q, qubits);
     match operation {
         Operation::Gate(q, code) => Operation::Gate(new(q), code),
         Operation::Cz(a, b) => Operation::Cz(new(a), new(b)),

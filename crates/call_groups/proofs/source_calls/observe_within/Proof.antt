@@ -1,0 +1,79 @@
+-- `observe_within` meets its contract: a Pauli measured with a bit by lot on the copy of the group's vertices, which are put back.
+use mathlib.Core.Path.{_∙_}
+use borrow.Author.Needs.{needs}
+use Rattle.operations.specs.Steps.{Operation, measurementOf}
+use Rattle.operations.specs.Used.{UsedRecord}
+use Rattle.call_groups.proofs.GroupCalls.{copied-whole, copy-unrefused, lent-64}
+use Rattle.call_groups.proofs.GroupSourceCalls.{observe-done, observe-refused}
+use Rattle.call_groups.proofs.source_calls.observe_within.Statement.{statement}
+use Rattle.call_groups.proofs.source_calls.observe_within.Tie as tie
+
+-- the record that is lent
+abbrev lent : tie.Start → UsedRecord
+lent S =
+    record {
+      held = record { n = S .args .n; neighbours = S .args .neighbours .now; codes = S .args .codes .now };
+      used = S .args .used .now;
+    }
+
+abbrev asked : tie.Start → Operation
+asked S = measurementOf (S .args .pauli) (S .args .qubit) (S .args .bit)
+
+take-group-requires : tie.Need-take-group-requires
+take-group-requires c κs =
+    let S = c .before .before .before .before .before .before .before .before .before in
+    (lent-64 (S .args .word) (S .args .group) (lent S) (asked S) (S .pre .0), S .pre .1)
+
+observe-known-requires : tie.Need-observe-known-requires
+observe-known-requires c κs =
+    let T = c .before .before .before .before .before .before .before .before .before in
+    let S = T .before .before .before .before .before .before .before .before .before .before in
+    let a = S .args in
+    copy-unrefused (a .word) (a .group) (lent S) (asked S) (S .pre .0)
+    (copied-whole (a .word) (a .group) (lent S) (asked S) (S .pre .0) _ _ _ (T .take-group .ensures))
+
+returns : tie.Need-returns
+returns c =
+    let G = c .before .before .before .before .before in
+    let T = G .before .before .before .before .before .before .before .before .before .before in
+    let S = T .before .before .before .before .before .before .before .before .before .before in
+    let a = S .args in
+    observe-refused (a .word) (a .group) (lent S) (a .pauli) (a .qubit) (a .bit) (S .pre .0)
+    (copied-whole (a .word) (a .group) (lent S) (asked S) (S .pre .0) _ _ _ (T .take-group .ensures))
+    (G .observe-known .ensures) (c .if1 .taken)
+
+put-group-requires : tie.Need-put-group-requires
+put-group-requires c κs =
+    let E = c .before .before .before .before in
+    let G = E .before .before .before .before .before in
+    let T = G .before .before .before .before .before .before .before .before .before .before in
+    let S = T .before .before .before .before .before .before .before .before .before .before in
+    let L = lent-64 (S .args .word) (S .args .group) (lent S) (asked S) (S .pre .0) in (
+      (
+        E .before .before .before .before .words2 .given
+            ∙ G .before .before .before .before .before .before .before .before .before .words .given ∙ S .pre .1 .0,
+        E .before .before .bytes2 .given ∙ G .before .before .before .before .before .before .before .bytes .given
+            ∙ S .pre .1 .1,
+      ),
+      L,
+    )
+
+returns-2 : tie.Need-returns-2
+returns-2 c =
+    let P = c .before .before .before .before .before in
+    let E = P .before .before .before .before .before in
+    let G = E .before .before .before .before .before in
+    let T = G .before .before .before .before .before .before .before .before .before .before in
+    let S = T .before .before .before .before .before .before .before .before .before .before in
+    let a = S .args in
+    observe-done (a .word) (a .group) (lent S) (a .pauli) (a .qubit) (a .bit) (S .pre .0)
+    (copied-whole (a .word) (a .group) (lent S) (asked S) (S .pre .0) _ _ _ (T .take-group .ensures))
+    (G .observe-known .ensures) (E .if1 .left) (P .put-group .ensures) (c .put-used .ensures)
+
+pub observe-within-spec : {M : Type 1} → statement M
+observe-within-spec =
+    tie.close
+    (tie.spec take-group-requires observe-known-requires (λ c. search needs) (λ c. search needs) (λ c. search needs)
+    (λ c. search needs) returns put-group-requires (λ c κs. search needs) (λ c. search needs)
+    (λ c. search needs) (λ c. search needs)
+    (λ c. search needs) returns-2)

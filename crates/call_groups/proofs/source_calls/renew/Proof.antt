@@ -1,0 +1,70 @@
+-- `renew` meets its contract: a new photon at a used qubit of the group.
+use mathlib.Core.Bool.{not}
+use mathlib.Core.Path.{_≡_, _∙_, ap, refl}
+use borrow.Author.Needs.{needs}
+use Rattle.buffers.specs.Refusals.{firstFitting}
+use Rattle.buffers.proofs.Calling.{refused}
+use Rattle.groups_impl.proofs.EarlyNumbers.{other-as}
+use Rattle.groups_impl.specs.internal.BeforeEight.{beforeEight}
+use Rattle.groups.specs.GroupLines.{outsider}
+use Rattle.groups.specs.Masks.{inGroup}
+use Rattle.operations.specs.Used.{UsedRecord, usedCode}
+use Rattle.call_groups.proofs.GroupSourceCalls.{renew-admitted, renew-early-group, renew-whole}
+use Rattle.call_groups.proofs.source_calls.renew.Statement.{statement}
+use Rattle.call_groups.proofs.source_calls.renew.Tie as tie
+
+-- the record that is lent
+abbrev lent : tie.Start → UsedRecord
+lent S =
+    record {
+      held = record { n = S .args .n; neighbours = S .args .neighbours .now; codes = S .args .codes .now };
+      used = S .args .used .now;
+    }
+
+abbrev at : tie.After-group-refusal → tie.Start
+at E = E .before .before .before .before .before .before .before .before
+
+-- the number of the lines before 8
+number : (E : tie.After-group-refusal) → let S = at E in
+    E .group-refusal .result ≡ firstFitting (beforeEight (S .args .word) (S .args .group) (lent S) (not (usedCode (S .args .code)))
+    (outsider (inGroup (S .args .word) (S .args .group)) (S .args .n) (S .args .qubit)))
+number E =
+    let N = E .before .before .before .before in
+    let S = at E in
+    let a = S .args in
+    other-as (a .word) (a .group) (lent S) (not (usedCode (a .code)))
+    (E .group-refusal .ensures
+    ∙ ap (λ s. firstFitting (beforeEight (a .word) (a .group) (lent S) s (N .before .outside .result))) (N .no-photon .ensures))
+    (N .before .outside .ensures)
+
+returns : tie.Need-returns
+returns c =
+    let E = c .before in
+    let S = at E in
+    let a = S .args in
+    refused _ (renew-early-group (a .word) (a .group) (lent S) (a .qubit) (a .code) (number E) (c .if1 .taken))
+    (c .if1 .taken) (refl, (refl, (refl, tt)))
+
+renew-known-requires : tie.Need-renew-known-requires
+renew-known-requires c κs =
+    let D = c .before .before .before in
+    let S = at (D .before) in
+    let a = S .args in
+    record {
+      no-line = renew-admitted (a .word) (a .group) (lent S) (a .qubit) (a .code) (number (D .before)) (D .if1 .left)
+          .apart .passes;
+    }
+
+returns-2 : tie.Need-returns-2
+returns-2 c =
+    let R = c .before .before .before .before in
+    let D = R .before .before .before .before in
+    let S = at (D .before) in
+    let a = S .args in
+    renew-whole (a .word) (a .group) (lent S) (a .qubit) (a .code) (number (D .before)) (D .if1 .left) (R .renew-known .ensures)
+
+pub renew-spec : {M : Type 1} → statement M
+renew-spec =
+    tie.close
+    (tie.spec (λ c κs. search needs) (λ c κs. search needs) (λ c κs. search needs) (λ c. search needs) (λ c. search needs)
+    returns renew-known-requires (λ c. search needs) (λ c. search needs) returns-2)

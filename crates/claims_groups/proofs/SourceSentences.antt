@@ -1,0 +1,190 @@
+-- What is said of a group's observation and renewal, from their contracts: the observation is the group's measurement with the
+-- outcome that it answers, and the renewal is that of the whole record.
+use mathlib.Core.Bool.{_&&_, and-true, false, not, or-false, true≢false}
+use mathlib.Core.List.{List, []}
+use mathlib.Core.Logic.{_↔_, _≢_}
+use mathlib.Core.Path.{ap, refl, subst, sym, _∙_, _≡_}
+use Prim.Native.Nat.{_<_, ℕ}
+use native.Mathlib.Omega.{arith}
+use lib.ListN.{getD, length-set}
+use Rattle.buffers.specs.Refusals.{firstFitting}
+use Rattle.calls.proofs.GroupSourceCalls.{observed-as-measured}
+use Rattle.calls.proofs.InPlaceLines.{held-accepted}
+use Rattle.calls.proofs.MeasureLines.{arguments-before}
+use Rattle.calls.proofs.SourceCalls.{observe-as-measured}
+use Rattle.calls.specs.Groups.{groupMeasureCall}
+use Rattle.calls.specs.Sources.{groupObserveCall, groupRenewCall, renewCall}
+use Rattle.claims.proofs.GroupsExactly.{groups-of, of-groups, own-exactly}
+use Rattle.claims.proofs.families.Shared.{answered, at-zero, by-lines, table-fills}
+use Rattle.claims.specs.ActionContracts.{session}
+use Rattle.claims.specs.Conforming.{Conforms}
+use Rattle.claims.specs.UsedDemand.{leftUsed}
+use Rattle.claims.specs.families.Groups.{Own, TwoGroups}
+use Rattle.claims.proofs.ObservationsHold.{observe-lines, passed-all}
+use Rattle.claims.proofs.RenewalsHold.{renew-lines, renew-says}
+use Rattle.claims.specs.Sources.{ObserveFits, RenewFits, RenewalStands}
+use Rattle.buffers.proofs.Fitting.{fits-at, skips}
+use Rattle.buffers.specs.Calls.{Call}
+use Rattle.source.proofs.ObservedGroups.{lines-number, observed-passes-group}
+use Rattle.source.proofs.RenewedMasks.{renewed-apart, renewed-passes-group}
+use Rattle.source.specs.GroupSources.{groupObserveLines, groupRenewLines}
+use Rattle.groups.specs.Masks.{crosses, inGroup}
+use Rattle.groups.specs.internal.Apart.{Apart}
+use Rattle.operations.specs.Steps.{measurementOf}
+use Rattle.record.proofs.AcceptedRecords.{accepted-passes}
+use Rattle.source.proofs.Observed as source
+use Rattle.source.proofs.RenewedRecords.{renew-passes}
+use Rattle.source.specs.Renewal.{renewLines, renewed}
+use Rattle.operations.proofs.UsedPassing.{lines-pass}
+use Rattle.operations.specs.Used.{UsedRecord, usedArgumentsOf, usedStray}
+use Rattle.words.proofs.Places.{other-place}
+use Rattle.words.specs.Bits.{bit}
+use Rattle.claims_groups.proofs.CallsStand.{group-calls-stand}
+use Rattle.claims_groups.proofs.ContractSteps.{contracts-are-steps}
+use Rattle.claims_groups.proofs.GroupKeepsHold.{group-calls-keep}
+use Rattle.claims_groups.proofs.GroupsReduce.{group-calls-reduce}
+use Rattle.claims_groups.specs.GroupKeeps.{GroupKeeps}
+use Rattle.claims_groups.specs.GroupsDemand.{StandsAsWhole}
+use Rattle.claims_groups.specs.Sentences.Groups.{GroupObserveSays, GroupRenewSays}
+
+module _ (word g : ℕ) (u : UsedRecord) where
+  -- ---- observations
+  module _ (pauli q b : ℕ) where
+    exactly : (firstFitting (groupObserveLines word g u pauli q b) ≡ 0)
+        ↔ (TwoGroups word g u × Own word g q × ObserveFits u pauli q b)
+    exactly = (
+      (λ z. let P = observed-passes-group word g u pauli q b z in
+          let F = observe-lines u pauli q b .0 (P .lines) in (
+            groups-of word g u (P .count) (P .group) (P .no-crossing),
+            own-exactly (inGroup word g) q (subst (λ m. q < m) (P .count) (F .qubit .0)) .0 (P .own),
+            F,
+          )),
+      (λ h. let p = of-groups word g u (h .0) in
+          lines-number word g u q (usedArgumentsOf u (measurementOf pauli q b)) (h .0 .count) (p .0) (p .1)
+          (own-exactly (inGroup word g) q (subst (λ m. q < m) (h .0 .count) (h .2 .qubit .0)) .1 (h .1))
+          ∙ observe-lines u pauli q b .1 (h .2)),
+    )
+
+    module _ (answer determined : ℕ) (nb′ cs′ : List ℕ) (used′ answer′ determined′ r : ℕ)
+        (C : Call (groupObserveCall word g u pauli q b answer determined nb′ cs′ used′ answer′ determined′) r) where
+      conforms : Conforms (groupObserveCall word g u pauli q b answer determined nb′ cs′ used′ answer′ determined′)
+      conforms =
+          record {
+            order = refl;
+            complete = λ z. let A = held-accepted (u .held) _ _
+                (arguments-before u pauli q b (observed-passes-group word g u pauli q b z .lines)) in (
+                  tt,
+                  (
+                    tt,
+                    (
+                      tt,
+                      (
+                        table-fills (u .held .n) _ (u .held .neighbours) (A .neighbours-length),
+                        (table-fills (u .held .n) _ (u .held .codes) (A .codes-length), tt),
+                      ),
+                    ),
+                  ),
+                );
+          }
+
+      measured : r ≡ 0 → Call (groupMeasureCall word g u pauli q (source.answered u pauli q b) answer determined nb′ cs′ used′
+          answer′ determined′) 0
+      measured z = observed-as-measured word g u pauli q b answer determined nb′ cs′ used′ answer′ determined′ (at-zero C z)
+
+      pub group-observe-says : GroupObserveSays word g u pauli q b answer determined nb′ cs′ used′ answer′ determined′ r
+      group-observe-says =
+          record {
+            answered = answered conforms C;
+            accepted = ((λ z. exactly .0 (by-lines C .0 z)), λ h. by-lines C .1 (exactly .1 h));
+            step = λ st. contracts-are-steps .observe word g (session u st) pauli q b answer determined r nb′ cs′ used′
+                answer′ determined′ C .0;
+            outcome = λ z st. contracts-are-steps .observe word g (session u st) pauli q b answer determined r nb′ cs′ used′
+                answer′ determined′ C .1 z;
+            never-14 = λ e. let p = skips (groupObserveLines word g u pauli q b) {ms = []} 14 refl e
+                (fits-at (groupObserveLines word g u pauli q b) (C .number)) in
+                absurd (omega (arith, e, passed-all (p .1)));
+            as-measured = λ z. subst (λ v. Call (groupMeasureCall word g u pauli q v answer determined nb′ cs′ used′ answer′
+                determined′) 0) (sym (at-zero C z .held .1 .0)) (measured z);
+            keeps = λ z. group-calls-keep .measure word g u pauli q (source.answered u pauli q b) answer determined nb′ cs′ used′
+                answer′ determined′ (measured z);
+            reduces = λ z. group-calls-reduce .measure word g u pauli q (source.answered u pauli q b) answer determined nb′ cs′
+                used′ answer′ determined′ (measured z);
+            stands = λ z r″ nb″ cs″ used″ answer″ determined″ W.
+                let zero : r″ ≡ 0 = W .number ∙ observed-passes-group word g u pauli q b (by-lines C .0 z) .lines in
+                let S = group-calls-stand .measure word g u pauli q (source.answered u pauli q b) answer determined
+                nb′ cs′ used′ answer′ determined′ 0 nb″ cs″ used″ answer″ determined″ (measured z)
+                (observe-as-measured u pauli q b (at-zero W zero)) in
+                (subst (λ k. StandsAsWhole u nb′ cs′ k nb″ cs″) (sym zero) (S .0), S .1, S .2, S .3);
+          }
+
+  -- ---- renewals
+  module _ (q k : ℕ) where
+    renew-exactly : (firstFitting (groupRenewLines word g u q k) ≡ 0)
+        ↔ (TwoGroups word g u × Own word g q × RenewFits u q k)
+    renew-exactly = (
+      (λ z. let P = renewed-passes-group word g u q k z in
+          let F = renew-lines u q k .0 (P .lines) in (
+            groups-of word g u (P .count) (P .group) (P .no-crossing),
+            own-exactly (inGroup word g) q (subst (λ m. q < m) (P .count) (F .qubit)) .0 (P .own),
+            F,
+          )),
+      (λ h. let p = of-groups word g u (h .0) in
+          lines-number word g u q (renewLines u q k) (h .0 .count) (p .0) (p .1)
+          (own-exactly (inGroup word g) q (subst (λ m. q < m) (h .0 .count) (h .2 .qubit)) .1 (h .1))
+          ∙ renew-lines u q k .1 (h .2)),
+    )
+
+    apart-of : firstFitting (groupRenewLines word g u q k) ≡ 0 → Apart word u
+    apart-of z =
+        let P = renewed-passes-group word g u q k z in
+        let F = renew-passes u q k (P .lines) in
+        record {
+          count = P .count;
+          passes = lines-pass u false false false .1
+              (accepted-passes (u .held) (F .held), or-false (usedStray u) ∙ F .no-stray, F .none-wrong);
+          no-crossing = P .no-crossing;
+        }
+
+    -- the other group's vertices are as they were
+    keeps : {nb′ cs′ : List ℕ} {used′ : ℕ} → firstFitting (groupRenewLines word g u q k) ≡ 0
+        → RenewalStands u q k (leftUsed u nb′ cs′ used′) → renewed u q k ≡ leftUsed u nb′ cs′ used′
+        → GroupKeeps word g u (leftUsed u nb′ cs′ used′)
+    keeps z S e =
+        let own = renew-exactly .0 z .1 in
+        let other : (t : ℕ) → inGroup word g t ≡ false → t ≢ q =
+        λ t h d. true≢false (sym own ∙ ap (inGroup word g) (sym d) ∙ h) in
+        record {
+          words = λ t l h. ap (λ nb. getD nb t 0) (S .neighbours);
+          codes = λ t l h. S .codes t (other t h);
+          used = λ t l h. S .unmarked t ∙ ap (λ e. bit (u .used) t && not e) (other-place (other t h)) ∙ and-true (bit (u .used) t);
+          still = S .passes;
+          apart = subst (λ v. crosses word v ≡ false) e (renewed-apart word u q k (apart-of z) (renewed-passes-group word g u q k z .lines) .no-crossing);
+        }
+
+    module _ (nb′ cs′ : List ℕ) (used′ r : ℕ) (C : Call (groupRenewCall word g u q k nb′ cs′ used′) r) where
+      renew-conforms : Conforms (groupRenewCall word g u q k nb′ cs′ used′)
+      renew-conforms = record { order = refl; complete = λ z. (tt, (refl, (length-set (u .held .codes) q k, tt))) }
+
+      whole : r ≡ 0 → Call (renewCall u q k nb′ cs′ used′) 0
+      whole z =
+          record {
+            number = sym (renewed-passes-group word g u q k (by-lines C .0 z) .lines);
+            held = at-zero C z .held;
+          }
+
+      same : r ≡ 0 → renewed u q k ≡ leftUsed u nb′ cs′ used′
+      same z = let D = at-zero C z in λ i. record {
+        held = record { n = u .held .n; neighbours = sym (D .held .1 .0) i; codes = sym (D .held .1 .1 .0) i };
+        used = sym (D .held .0) i;
+      }
+
+      pub group-renew-says : GroupRenewSays word g u q k nb′ cs′ used′ r
+      group-renew-says =
+          record {
+            answered = answered renew-conforms C;
+            accepted = ((λ z. renew-exactly .0 (by-lines C .0 z)), λ h. by-lines C .1 (renew-exactly .1 h));
+            step = λ st. contracts-are-steps .renew word g (session u st) q k r nb′ cs′ used′ C;
+            whole = whole;
+            stands = λ z. renew-says u q k nb′ cs′ used′ 0 (whole z) .stands refl;
+            keeps = λ z. keeps (by-lines C .0 z) (renew-says u q k nb′ cs′ used′ 0 (whole z) .stands refl) (same z);
+          }
