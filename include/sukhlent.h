@@ -166,15 +166,15 @@ typedef uint64_t sukhlent_length;
  *   of its own for what is not const.
  * Stack: no call uses the heap. Of the stack, compare, equivalent and those of records take at most
  *   these bytes, and every other call at most 6,000 (measured, not proved: docs/PROCESSORS.md):
- *   x86-64        18,000
- *   x86-64-v3     18,500
- *   aarch64       18,000
- *   riscv64       18,500
- *   armv7         18,500
- *   wasm32        17,500
- *   cortex-m4     18,500
- *   riscv64-none  18,500
- *   aarch64-none  18,500 */
+ *   x86-64        19,000
+ *   x86-64-v3     19,000
+ *   aarch64       18,500
+ *   riscv64       19,500
+ *   armv7         19,000
+ *   wasm32        18,000
+ *   cortex-m4     19,000
+ *   riscv64-none  19,500
+ *   aarch64-none  19,500 */
 
 /* What a refusal number means, in words. */
 static inline const char *sukhlent_refusal_text(uint8_t number)

@@ -91,7 +91,7 @@ impl Run {
         let pauli = 1 + random.below(3) as u8;
         let photon = 2 * random.below(6) as u8;
         let wrong = random.below(20) == 0;
-        match random.below(4) {
+        match random.below(5) {
             _ if is_used != wrong => Call::Of(Source::Renew(a as u64, photon)),
             0 | 1 if a != b => Call::On(Operation::Cz(a as u64, b as u64)),
             2 | 3 => Call::Of(Source::Observe(pauli, a as u64, bit)),
