@@ -1,12 +1,14 @@
 -- What is said of a group's observation and renewal, from their contracts: the observation is the group's measurement with the
 -- outcome that it answers, and the renewal is that of the whole record.
-use mathlib.Core.Bool.{_&&_, and-true, false, not, or-false, true≢false}
+use mathlib.Core.Bool.{_&&_, Bool, and-true, false, not, or-false, true≢false, _||_}
 use mathlib.Core.List.{List, []}
 use mathlib.Core.Logic.{_↔_, _≢_}
 use mathlib.Core.Path.{ap, refl, subst, sym, _∙_, _≡_}
 use Prim.Native.Nat.{_<_, ℕ}
 use native.Mathlib.Omega.{arith}
+use lib.Dec.{ltb}
 use lib.ListN.{getD, length-set}
+use Rattle.buffers.proofs.SentenceLaws.{Matches, above, at-most, bad-count, equal, itself, not-decides, or-decides, or-none, stray}
 use Rattle.buffers.specs.Refusals.{firstFitting}
 use Rattle.calls.proofs.GroupSourceCalls.{observed-as-measured}
 use Rattle.calls.proofs.InPlaceLines.{held-accepted}
@@ -20,6 +22,7 @@ use Rattle.claims.specs.ActionContracts.{session}
 use Rattle.claims.specs.Conforming.{Conforms}
 use Rattle.claims.specs.UsedDemand.{leftUsed}
 use Rattle.claims.specs.families.Groups.{Own, TwoGroups}
+use Rattle.claims.proofs.NumbersHold.{in-words}
 use Rattle.claims.proofs.ObservationsHold.{observe-lines, passed-all}
 use Rattle.claims.proofs.RenewalsHold.{renew-lines, renew-says}
 use Rattle.claims.specs.Sources.{ObserveFits, RenewFits, RenewalStands}
@@ -28,15 +31,21 @@ use Rattle.buffers.specs.Calls.{Call}
 use Rattle.source.proofs.ObservedGroups.{lines-number, observed-passes-group}
 use Rattle.source.proofs.RenewedMasks.{renewed-apart, renewed-passes-group}
 use Rattle.source.specs.GroupSources.{groupObserveLines, groupRenewLines}
+use Rattle.groups.proofs.GroupInWords.{arguments-in-words, edge-between, other-groups}
+use Rattle.groups.specs.GroupSentences.{groupArgumentSentences}
 use Rattle.groups.specs.Masks.{crosses, inGroup}
 use Rattle.groups.specs.internal.Apart.{Apart}
 use Rattle.operations.specs.Steps.{measurementOf}
 use Rattle.record.proofs.AcceptedRecords.{accepted-passes}
+use Rattle.record.proofs.RecordInWords.{code-above-23, misfits, stray-neighbour}
+use Rattle.record.specs.Lent.{recordCodes}
 use Rattle.source.proofs.Observed as source
 use Rattle.source.proofs.RenewedRecords.{renew-passes}
 use Rattle.source.specs.Renewal.{renewLines, renewed}
+use Rattle.operations.proofs.UsedInWords.{no-record, of-six}
 use Rattle.operations.proofs.UsedPassing.{lines-pass}
-use Rattle.operations.specs.Used.{UsedRecord, usedArgumentsOf, usedStray}
+use Rattle.operations.specs.Used.{UsedRecord, usedArgumentsOf, usedCode, usedStray}
+use Rattle.words.proofs.Flags.{neither}
 use Rattle.words.proofs.Places.{other-place}
 use Rattle.words.specs.Bits.{bit}
 use Rattle.claims_groups.proofs.CallsStand.{group-calls-stand}
@@ -45,7 +54,7 @@ use Rattle.claims_groups.proofs.GroupKeepsHold.{group-calls-keep}
 use Rattle.claims_groups.proofs.GroupsReduce.{group-calls-reduce}
 use Rattle.claims_groups.specs.GroupKeeps.{GroupKeeps}
 use Rattle.claims_groups.specs.GroupsDemand.{StandsAsWhole}
-use Rattle.claims_groups.specs.Sentences.Groups.{GroupObserveSays, GroupRenewSays}
+use Rattle.claims_groups.specs.Sentences.Groups.{GroupObserveSays, GroupRenewSays, groupRenewSentences}
 
 module _ (word g : ℕ) (u : UsedRecord) where
   -- ---- observations
@@ -96,6 +105,7 @@ module _ (word g : ℕ) (u : UsedRecord) where
           record {
             answered = answered conforms C;
             accepted = ((λ z. exactly .0 (by-lines C .0 z)), λ h. by-lines C .1 (exactly .1 h));
+            numbers = in-words (groupArgumentSentences word g u pauli q b) (arguments-in-words word g u pauli q b) C;
             step = λ st. contracts-are-steps .observe word g (session u st) pauli q b answer determined r nb′ cs′ used′
                 answer′ determined′ C .0;
             outcome = λ z st. contracts-are-steps .observe word g (session u st) pauli q b answer determined r nb′ cs′ used′
@@ -133,6 +143,59 @@ module _ (word g : ℕ) (u : UsedRecord) where
           (own-exactly (inGroup word g) q (subst (λ m. q < m) (h .0 .count) (h .2 .qubit)) .1 (h .1))
           ∙ renew-lines u q k .1 (h .2)),
     )
+
+    -- the tests decide the sentences
+    renew-in-words : Matches (groupRenewLines word g u q k) (groupRenewSentences word g u q k)
+    renew-in-words = (
+      refl,
+      (
+        or-decides (or-none (or-none (or-none (bad-count (u .held .n))))) (not-decides (equal (u .held .n) 64)),
+        λ e. (
+          refl,
+          (
+            or-none (or-none (or-none (or-none (or-none (misfits (u .held)))))),
+            λ e. (
+              refl,
+              (
+                or-none (or-none (or-none
+                    (or-decides (stray-neighbour (u .held)) (or-none (stray (u .held .n) (u .used)))))),
+                λ e. (
+                  refl,
+                  (
+                    or-none (or-decides (or-none (or-none (or-decides (code-above-23 (u .held)) (not-decides (of-six k)))))
+                        (above 1 g)),
+                    λ e6. (
+                      refl,
+                      (
+                        or-none (or-none (no-record u)),
+                        λ e. (
+                          refl,
+                          (
+                            or-decides (edge-between word u) (other-groups word g u q
+                                (low (((recordCodes (u .held) || not (usedCode k)) || false) || false) e6)),
+                            λ e. (
+                              refl,
+                              (
+                                or-none (or-none (at-most (u .held .n) q)),
+                                λ e. (refl, (or-none (or-none (not-decides itself)), λ e. tt)),
+                              ),
+                            ),
+                          ),
+                        ),
+                      ),
+                    ),
+                  ),
+                ),
+              ),
+            ),
+          ),
+        ),
+      ),
+    )
+      where
+        -- no line 6: the group is 0 or 1
+        low : (a : Bool) → ((a || ltb 1 g) || false) ≡ false → ltb 1 g ≡ false
+        low a e = neither a (ltb 1 g) (neither (a || ltb 1 g) false e .0) .1
 
     apart-of : firstFitting (groupRenewLines word g u q k) ≡ 0 → Apart word u
     apart-of z =
@@ -183,6 +246,7 @@ module _ (word g : ℕ) (u : UsedRecord) where
           record {
             answered = answered renew-conforms C;
             accepted = ((λ z. renew-exactly .0 (by-lines C .0 z)), λ h. by-lines C .1 (renew-exactly .1 h));
+            numbers = in-words (groupRenewSentences word g u q k) renew-in-words C;
             step = λ st. contracts-are-steps .renew word g (session u st) q k r nb′ cs′ used′ C;
             whole = whole;
             stands = λ z. renew-says u q k nb′ cs′ used′ 0 (whole z) .stands refl;

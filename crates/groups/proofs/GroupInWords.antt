@@ -157,7 +157,7 @@ module _ (word g : ℕ) (u : UsedRecord) where
     arguments = insertedBefore 8 (line 19 (crosses word u || outsider (inGroup word g) (u .held .n) q))
         (withGroup g (u .held .n) whole)
 
-    arguments-in-words : Matches arguments (groupArgumentSentences word g u pauli q b)
+    pub arguments-in-words : Matches arguments (groupArgumentSentences word g u pauli q b)
     arguments-in-words = group-in-words _ _ _ _ _ _ _ _
         (or-decides (code-above-23 (u .held)) (or-decides (from 1 b) (or-decides (equal pauli 0) (from 3 pauli))))
         (other-groups word g u q) (at-most (u .held .n) q) itself

@@ -90,7 +90,7 @@ mod tests {
             .filter_map(|what| what.strip_suffix(" with 16"));
         let with: Vec<&str> = with.collect();
         let calls = ["gate", "cz", "measure", "observe", "complement"];
-        let groups = ["gate", "cz", "measure", "complement"].map(|call| format!("group_{call}"));
+        let groups = calls.map(|call| format!("group_{call}"));
         let due = calls.into_iter().chain(groups.iter().map(String::as_str));
         assert!(with.into_iter().eq(due));
     }

@@ -2,9 +2,9 @@
 -- accepts, that it is a step of the runs of `NonInterference`, what it leaves of the other group, and that its answer
 -- stands for what the whole-record call leaves.
 use mathlib.Core.List.{List, [], _∷_}
-use mathlib.Core.Logic.{_↔_}
+use mathlib.Core.Logic.{_↔_, _⊎_}
 use mathlib.Core.Path.{_≡_}
-use Prim.Native.Nat.{ℕ}
+use Prim.Native.Nat.{_<_, _≤_, ℕ}
 use Rattle.calls.specs.InPlace.{usedCall, usedMeasureCall}
 use Rattle.calls.specs.GroupStores.{groupForgetCall, groupReturnCall, groupSaveCall}
 use Rattle.calls.specs.Groups.{groupCall, groupMeasureCall}
@@ -22,6 +22,8 @@ use Rattle.record.specs.Lent.{heldRecord}
 use Rattle.record.specs.Records.{SameRecord, complementRecord}
 use Rattle.store.specs.Places.{Store}
 use Rattle.operations.specs.Used.{UsedRecord}
+use Rattle.operations.specs.UsedSentences.{IsUsed, NoRecord, OfSix, StrayBit}
+use Rattle.record.specs.RecordSentences.{CodeAbove23, RecordMisfits}
 use Rattle.claims_groups.specs.GroupContracts.{IsStep, withRecord, withStore}
 use Rattle.claims_groups.specs.GroupKeeps.{
   GroupForgetKeeps,
@@ -46,8 +48,8 @@ use Rattle.claims_groups.specs.GroupRuns.{
   sharedMeasured,
 }
 use Rattle.claims_groups.specs.GroupsDemand.{StandsAsWhole}
-use Rattle.buffers.specs.Sentences.{FirstTrue}
-use Rattle.groups.specs.GroupSentences.{groupComplementSentences, groupCzSentences, groupGateSentences, groupMeasureSentences, groupNamedSentences, groupSaveSentences}
+use Rattle.buffers.specs.Sentences.{FirstTrue, Sentence, sentence}
+use Rattle.groups.specs.GroupSentences.{EdgeBetween, NotSixtyFour, OtherGroups, groupArgumentSentences, groupComplementSentences, groupCzSentences, groupGateSentences, groupMeasureSentences, groupNamedSentences, groupSaveSentences}
 
 -- a call that is not lent the store is the same step whatever the store
 abbrev pub StepOnRecord : ℕ → ℕ → UsedRecord → SharedCall → ℕ → List ℕ → List ℕ → ℕ → Type 0
@@ -139,6 +141,7 @@ pub record GroupObserveSays (word g : ℕ) (u : UsedRecord) (pauli q b answer de
     (used′ answer′ determined′ r : ℕ) : Type 0 where
   pub answered : Answered (groupObserveCall word g u pauli q b answer determined nb′ cs′ used′ answer′ determined′) r
   pub accepted : (r ≡ 0) ↔ (TwoGroups word g u × Own word g q × ObserveFits u pauli q b)
+  pub numbers : FirstTrue (groupArgumentSentences word g u pauli q b) r
   pub step : StepOnRecord word g u (groupObserve pauli q b) r nb′ cs′ used′
   pub outcome : r ≡ 0 → (st : Store) →
       answer′ ∷ determined′ ∷ [] ≡ sharedMeasured word g (session u st) (groupObserve pauli q b)
@@ -152,10 +155,19 @@ pub record GroupObserveSays (word g : ℕ) (u : UsedRecord) (pauli q b answer de
       Call (observeCall u pauli q b answer determined nb″ cs″ used″ answer″ determined″) r″ →
       StandsAsWhole u nb′ cs′ r″ nb″ cs″ × (answer′ ≡ answer″) × (determined′ ≡ determined″) × (used′ ≡ used″)
 
+-- the lines of a group's renewal. 6: the code is none of the six; 19: "checked directly before 8"; 20: the qubit is not used
+abbrev pub groupRenewSentences : ℕ → ℕ → UsedRecord → ℕ → ℕ → List Sentence
+groupRenewSentences word g u q k =
+    sentence 2 (NotSixtyFour u) ∷ sentence 4 (RecordMisfits (u .held)) ∷ sentence 5 (StrayBit u)
+    ∷ sentence 6 ((CodeAbove23 (u .held) ⊎ (OfSix k → ⊥)) ⊎ (1 < g)) ∷ sentence 7 (NoRecord u)
+    ∷ sentence 19 (EdgeBetween word u ⊎ OtherGroups word g u q) ∷ sentence 8 (u .held .n ≤ q)
+    ∷ sentence 20 (IsUsed u q → ⊥) ∷ []
+
 -- sukhlent_group_renew: what it leaves is what the whole-record call leaves
 pub record GroupRenewSays (word g : ℕ) (u : UsedRecord) (q k : ℕ) (nb′ cs′ : List ℕ) (used′ r : ℕ) : Type 0 where
   pub answered : Answered (groupRenewCall word g u q k nb′ cs′ used′) r
   pub accepted : (r ≡ 0) ↔ (TwoGroups word g u × Own word g q × RenewFits u q k)
+  pub numbers : FirstTrue (groupRenewSentences word g u q k) r
   pub step : StepOnRecord word g u (groupRenew q k) r nb′ cs′ used′
   pub whole : r ≡ 0 → Call (renewCall u q k nb′ cs′ used′) 0
   pub stands : r ≡ 0 → RenewalStands u q k (leftUsed u nb′ cs′ used′)

@@ -24,7 +24,7 @@ pub struct Call {
 }
 
 /// Every public call.
-pub const CALLS: [Call; 33] = [
+pub const CALLS: [Call; 35] = [
     Call {
         name: "check",
         once: lists::check,
