@@ -164,8 +164,8 @@ BYPASSES = [
     ]),
     ("lent slice of step structs", "a job is run from parallel slices", [
         (
-            "    let used = run_steps(n, neighbours, codes, 0, known, steps, count, 0, answers);\n",
-            "    let used = run_numbers(n, neighbours, codes, 0, known, ops, a, b, values, 0, answers);\n",
+            "    let used = run_steps(n, neighbours, codes, 0, steps, count, 0, answers);\n",
+            "    let used = run_numbers(n, neighbours, codes, 0, count, ops, a, b, values, answers);\n",
         ),
     ]),
     ("lent slice of step structs", "a job is lent to the runner 64 steps at a time", [
