@@ -72,7 +72,7 @@ export const EXPORTS = {
   strings: ["Pauli strings", "state.txt", ({ session }) => String(session.state.generators())],
   record: ["Record", "record.txt", ({ session }) => String(session.state)],
   list: ["Generator list (sign z x)", "list.txt", ({ session }) => session.state.generators().text()],
-  steps: ["Job: the steps of this session", "job.txt", ({ session }) => jobOfSession(session)],
+  steps: ["Job: the steps so far", "job.txt", ({ session }) => jobOfSession(session)],
   job: ["Job: makes this state", "job.txt", ({ session }) => jobOfState(session.state)],
   svg: ["Drawing (SVG)", "graph.svg", ({ session: { state }, places }) => drawing(state, places.slice(0, state.n))],
 };

@@ -59,7 +59,7 @@ export class Texts {
     const text = EXPORTS[$("export-kind").value][2](this.bench);
     $("exported").value = text ?? "";
     $("copy").disabled = $("download").disabled = text === null;
-    const none = "This session has steps that no job has (or does not start in +Z): take the job that makes its state.";
+    const none = "Some steps are none of a job, or they do not start in +Z: take the job that makes this state.";
     say($("export-said"), text === null ? none : "", text === null);
   }
 
