@@ -15,7 +15,7 @@ use Rattle.stabilizer.specs.Groups.{Within}
 use Rattle.words.proofs.BitLaws.{bit-above, bit-and, zero-bit}
 use Rattle.words.proofs.Sums.{last-or}
 use Rattle.words.specs.Bits.{bit, digit}
-use Rattle.comparison.proofs.EquationLaws.{Short, empty-holds, empty-unknown}
+use Rattle.comparison.proofs.EquationLaws.{Short}
 use Rattle.comparison.specs.internal.Equations.{
   Assignment,
   Equation,
@@ -34,24 +34,6 @@ use Rattle.comparison.specs.internal.Equations.{
 }
 use Rattle.comparison.specs.internal.Searches.{ClassAsked, ClassTable, TableOf}
 use Rattle.comparison.specs.internal.Setting.{noGenerator}
-
--- ---- a table without equations
-module _ where
-  all-empty : (k i : ℕ) → equationAt (replicate k emptyEquation) i ≡ emptyEquation
-  all-empty zero i = refl
-  all-empty (suc k) zero = refl
-  all-empty (suc k) (suc i) = all-empty k i
-
-  pub empty-table : Triangular (replicate 256 emptyEquation)
-  empty-table =
-      record {
-        long = refl;
-        above = λ i j l. ap (λ e. unknown e j) (all-empty 256 i) ∙ empty-unknown j;
-        leading = λ i. inr (all-empty 256 i);
-      }
-
-  pub empty-solved : (w : Assignment) → Solves (replicate 256 emptyEquation) w
-  empty-solved w i = ap (λ e. fails e w) (all-empty 256 i) ∙ empty-holds w
 
 -- nothing asked
 pub nothing-asked : (A : Equation → Type 0) → ((e : Equation) → A e → ⊥) → (table : List Equation) → Triangular table
@@ -184,10 +166,3 @@ module _ (n : ℕ) (first second : List Generator) where
         where
           here : s ≡ i → s < i + 1
           here e = omega (arith, e)
-
--- the code's table without equations
-pub empty-rows : (rows : List (List ℕ)) → rows ≡ emptyRows → Triangular (equationsIn rows)
-empty-rows rows e = subst (λ r. Triangular (equationsIn r)) (sym e) empty-table
-
-pub empty-rows-solved : (rows : List (List ℕ)) → rows ≡ emptyRows → (w : Assignment) → Solves (equationsIn rows) w
-empty-rows-solved rows e w = subst (λ r. Solves (equationsIn r) w) (sym e) (empty-solved w)

@@ -39,7 +39,7 @@ dot-single u q =
     ∙ fold-ext false _⊕_ (suc q) (λ t l. ap (λ b. bit u t && b) (bit-single q t))
     ∙ parity-at (suc q) (bit u) q (omega arith)
 
-abbrev changed : ℕ → ℕ → Assignment → Assignment
+abbrev pub changed : ℕ → ℕ → Assignment → Assignment
 changed zero q w = record { a = bitXor (w .a) (2 ^ q); b = w .b; c = w .c; d = w .d }
 changed (suc zero) q w = record { a = w .a; b = bitXor (w .b) (2 ^ q); c = w .c; d = w .d }
 changed (suc (suc zero)) q w = record { a = w .a; b = w .b; c = bitXor (w .c) (2 ^ q); d = w .d }
@@ -48,7 +48,7 @@ changed (suc (suc (suc l))) q w = record { a = w .a; b = w .b; c = w .c; d = bit
 dot-changed : (u v q : ℕ) → dot u (bitXor v (2 ^ q)) ≡ dot u v ⊕ bit u q
 dot-changed u v q = dot-xor-r u v (2 ^ q) ∙ ap (λ b. dot u v ⊕ b) (dot-single u q)
 
-fails-changed : (l q : ℕ) (e : Equation) (w : Assignment)
+pub fails-changed : (l q : ℕ) (e : Equation) (w : Assignment)
     → fails e (changed l q w) ≡ fails e w ⊕ bit (wordAt l (e .a) (e .b) (e .c) (e .d)) q
 unfolding fails
 fails-changed zero q e w =

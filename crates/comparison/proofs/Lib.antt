@@ -35,4 +35,5 @@ pub mod RecordElements
 pub mod SameParts
 pub mod SignEquations
 pub mod SignExtension
+pub mod TableEnds
 pub mod WordsByBits

@@ -5,10 +5,12 @@ use comparison_search::compare_records;
 ghost use mathlib.Core.Path.{_≡_};
 ghost use Prim.Native.Nat.{ℕ, _<_, _≤_};
 ghost use lib.ListN.{getD, length};
+ghost use Rattle.comparison.specs.internal.Equations.{EmptyFrom, equationsIn};
 ghost use Rattle.comparison_parts.specs.internal.Components.{NumberedPair, PartAnswer};
 
-// The least choice of a part, with room for its two records.
+// The least choice of a part, with room for its two records, by a table without equations, which it leaves so.
 pub fn compare_listed(
+    table: &mut [[u64; 4]; 256],
     n: usize,
     neighbours: &[u64],
     codes: &[u8],
@@ -25,13 +27,15 @@ pub fn compare_listed(
         (length (now words)) at ⌝ }
     requires { ⌜ (length (now numbers) ≡ length (now words)) × (length (now words2) ≡ length (now words))
         × (length (now numbers2) ≡ length (now words)) ⌝ }
+    requires { ⌜ EmptyFrom 0 (equationsIn (now table)) ⌝ }
     ensures { λ r. ⌜ PartAnswer n (now (neighbours .entry)) (now (codes .entry)) (now (neighbours2 .entry))
         (now (codes2 .entry)) (length (now (words .entry))) at (r .found) (r .choice) ⌝ }
+    ensures { λ r. ⌜ EmptyFrom 0 (equationsIn (now (table .exit))) ⌝ }
 {
     let k = words.len();
     extract(neighbours, codes, at, words, numbers);
     extract(neighbours2, codes2, at, words2, numbers2);
-    compare_records(k, words, numbers, words2, numbers2)
+    compare_records(table, k, words, numbers, words2, numbers2)
 }
 
 // The choice with the codes of a part at its vertices.

@@ -12,6 +12,7 @@ use crate::sets::spread;
 use words::mask;
 use words::smallest;
 ghost use Prim.Native.Nat.{_≤_};
+ghost use Rattle.comparison.specs.internal.Equations.{EmptyFrom, equationsIn};
 ghost use Rattle.comparison.specs.internal.Searches.{LeastAnswer};
 ghost use Rattle.comparison.specs.internal.Setting.{heldGenerators};
 ghost use Rattle.comparison_parts.specs.internal.Components.{Component, ComponentAnswer, SoundPair, recordHeld};
@@ -23,8 +24,9 @@ pub struct Whole {
 }
 
 // One part compared: no choice, where an edge of the second graph leaves it or it has none; else its least choice beside
-// those of other parts.
+// those of other parts; by a table without equations, which it leaves so.
 fn compare_component(
+    table: &mut [[u64; 4]; 256],
     n: usize,
     neighbours: &[u64],
     codes: &[u8],
@@ -34,9 +36,10 @@ fn compare_component(
     choice: [u8; 64],
 ) -> Whole
     requires { ⌜ SoundPair n (now neighbours) (now codes) (now neighbours2) (now codes2) ⌝ }
-    requires { ⌜ Component n (now neighbours) component ⌝ }
+    requires { ⌜ Component n (now neighbours) component × EmptyFrom 0 (equationsIn (now table)) ⌝ }
     ensures { λ r. ⌜ ComponentAnswer n (recordHeld n (now (neighbours .entry)) (now (codes .entry)))
         (recordHeld n (now (neighbours2 .entry)) (now (codes2 .entry))) component choice (r .found) (r .choice) ⌝ }
+    ensures { λ r. ⌜ EmptyFrom 0 (equationsIn (now (table .exit))) ⌝ }
 {
     if spread(neighbours2, component) != component {
         return Whole {
@@ -52,6 +55,7 @@ fn compare_component(
     let mut words2 = [0u64; 64];
     let mut numbers2 = [0u8; 64];
     let answer = compare_listed(
+        table,
         n,
         neighbours,
         codes,
@@ -90,12 +94,22 @@ pub fn compare_parts(
     ensures { λ r. ⌜ LeastAnswer n (heldGenerators n (now (neighbours .entry)) (now (codes .entry)))
         (heldGenerators n (now (neighbours2 .entry)) (now (codes2 .entry))) (r .found) (r .choice) ⌝ }
 {
+    let mut table = [[0u64; 4]; 256];
     let mut choice = [0u8; 64];
     let mut rest = mask(n);
     while rest != 0 {
         let q = smallest(rest);
         let component = part(neighbours, q);
-        let whole = compare_component(n, neighbours, codes, neighbours2, codes2, component, choice);
+        let whole = compare_component(
+            &mut table,
+            n,
+            neighbours,
+            codes,
+            neighbours2,
+            codes2,
+            component,
+            choice,
+        );
         let next = whole.choice;
         if !whole.found {
             return Whole {

@@ -9,6 +9,7 @@ ghost use mathlib.Core.Bool.{false, true};
 ghost use Prim.Native.Nat.{ℕ, _<_, _≤_};
 ghost use Rattle.comparison.specs.internal.Equations.{
   Bound,
+  EmptyFrom,
   Inserted,
   QubitTested,
   Size,
@@ -169,4 +170,16 @@ pub fn broken(table: &[[u64; 4]; 256], q: usize, w: [u64; 4]) -> bool
         i += 1;
     }
     false
+}
+
+// A table without equations, of one that has none from an end on.
+pub fn wipe(table: &mut [[u64; 4]; 256], end: usize)
+    requires { ⌜ (end ≤ 256) × EmptyFrom end (equationsIn (now table)) ⌝ }
+    ensures { λ r. ⌜ EmptyFrom 0 (equationsIn (now (table .exit))) ⌝ }
+{
+    let mut i = end;
+    while 0 < i {
+        i -= 1;
+        table[i] = [0, 0, 0, 0];
+    }
 }

@@ -16,13 +16,14 @@ use crate::assignments::with_class;
 use crate::assignments::with_signs;
 use crate::choices::least_class;
 use crate::choices::least_sign;
+use crate::equations::wipe;
 use crate::records::generators;
 use crate::records::inverses;
 use crate::tables::class_table;
 use crate::tables::sign_table;
 ghost use Prim.Native.Nat.{_≤_};
 ghost use Rattle.comparison.specs.Choices.{classKey, signKey};
-ghost use Rattle.comparison.specs.internal.Equations.{Triangular, classAssignment, signAssignment, equationsIn};
+ghost use Rattle.comparison.specs.internal.Equations.{EmptyFrom, Triangular, classAssignment, signAssignment, equationsIn};
 ghost use Rattle.comparison.specs.internal.Searches.{ClassesAnswered, Extendable, LeastAnswer, SignsChosen};
 ghost use Rattle.comparison.specs.internal.Setting.{
   Codes,
@@ -89,35 +90,39 @@ fn least_signs(n: usize, table: &[[u64; 4]; 256], classes: [u8; 64]) -> [u8; 64]
     choice
 }
 
-// The least choice that carries the first group onto the second.
+// The least choice that carries the first group onto the second, by a table without equations, which it leaves so.
 fn least_choice(
+    table: &mut [[u64; 4]; 256],
     n: usize,
     first: &[[u64; 3]; 64],
     second: &[[u64; 3]; 64],
     frame: [u8; 64],
 ) -> Answer
     requires { ⌜ Setting n (generatorsIn (now first)) (generatorsIn (now second)) frame ⌝ }
+    requires { ⌜ EmptyFrom 0 (equationsIn (now table)) ⌝ }
     ensures { λ r. ⌜ LeastAnswer n (generatorsOf (generatorsIn (now (first .entry)))) (generatorsOf (generatorsIn (now (second .entry))))
         (r .found) (r .choice) ⌝ }
+    ensures { λ r. ⌜ EmptyFrom 0 (equationsIn (now (table .exit))) ⌝ }
 {
-    let mut table = [[0u64; 4]; 256];
-    class_table(&mut table, n, first, second);
-    let answer = least_classes(n, &table);
+    class_table(table, n, first, second);
+    let answer = least_classes(n, table);
+    wipe(table, 4 * n);
     if !answer.found {
         return answer;
     }
     let classes = answer.choice;
-    table = [[0u64; 4]; 256];
-    sign_table(&mut table, n, first, second, frame, classes);
-    let choice = least_signs(n, &table, classes);
+    sign_table(table, n, first, second, frame, classes);
+    let choice = least_signs(n, table, classes);
+    wipe(table, 4 * n);
     Answer {
         found: true,
         choice,
     }
 }
 
-// The least choice that carries the group of the first record onto that of the second.
+// The least choice that carries the group of the first record onto that of the second, by such a table.
 pub fn compare_records(
+    table: &mut [[u64; 4]; 256],
     n: usize,
     neighbours: &[u64],
     codes: &[u8],
@@ -126,14 +131,16 @@ pub fn compare_records(
 ) -> Answer
     requires { ⌜ (n ≤ 64) × SoundRecord n (now neighbours) (now codes) ⌝ }
     requires { ⌜ SoundRecord n (now neighbours2) (now codes2) × Connected n (graphIn (now neighbours)) ⌝ }
+    requires { ⌜ EmptyFrom 0 (equationsIn (now table)) ⌝ }
     ensures { λ r. ⌜ LeastAnswer n (heldGenerators n (now (neighbours .entry)) (now (codes .entry)))
         (heldGenerators n (now (neighbours2 .entry)) (now (codes2 .entry))) (r .found) (r .choice) ⌝ }
+    ensures { λ r. ⌜ EmptyFrom 0 (equationsIn (now (table .exit))) ⌝ }
 {
     let mut first = [[0u64; 3]; 64];
     generators(n, neighbours, codes, &mut first);
     let mut second = [[0u64; 3]; 64];
     generators(n, neighbours2, codes2, &mut second);
     let frame = inverses(n, codes2);
-    let answer = least_choice(n, &first, &second, frame);
+    let answer = least_choice(table, n, &first, &second, frame);
     answer
 }

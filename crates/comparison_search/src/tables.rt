@@ -10,7 +10,7 @@ ghost use mathlib.Core.Path.{_≡_};
 ghost use Prim.Native.Nat.{ℕ, _+_, _≤_};
 ghost use lib.ListN.{getD};
 ghost use Rattle.clifford.specs.Vectors.{codesOf};
-ghost use Rattle.comparison.specs.internal.Equations.{Triangular, classEquation, emptyRows, equationOf, equationsIn, signEquation};
+ghost use Rattle.comparison.specs.internal.Equations.{EmptyFrom, Triangular, classEquation, equationOf, equationsIn, signEquation};
 ghost use Rattle.comparison.specs.internal.Setting.{NoSigns, Codes, Setting, generatorsIn, noGenerator};
 ghost use Rattle.comparison.specs.internal.Searches.{ClassTable, SentUpToSign, SignTable};
 
@@ -52,7 +52,7 @@ pub fn class_table(
     first: &[[u64; 3]; 64],
     second: &[[u64; 3]; 64],
 )
-    requires { ⌜ (n ≤ 64) × (now table ≡ emptyRows) ⌝ }
+    requires { ⌜ (n ≤ 64) × EmptyFrom 0 (equationsIn (now table)) ⌝ }
     ensures { λ r. ⌜ ClassTable n (generatorsIn (now (first .entry))) (generatorsIn (now (second .entry))) n 0
         (equationsIn (now (table .exit))) ⌝ }
 {
@@ -74,7 +74,7 @@ pub fn sign_table(
     choice: [u8; 64],
 )
     requires { ⌜ Setting n (generatorsIn (now first)) (generatorsIn (now second)) frame × Codes choice × NoSigns choice ⌝ }
-    requires { ⌜ SentUpToSign n (generatorsIn (now first)) (generatorsIn (now second)) (codesOf choice) × (now table ≡ emptyRows) ⌝ }
+    requires { ⌜ SentUpToSign n (generatorsIn (now first)) (generatorsIn (now second)) (codesOf choice) × EmptyFrom 0 (equationsIn (now table)) ⌝ }
     ensures { λ r. ⌜ SignTable n (generatorsIn (now (first .entry))) (generatorsIn (now (second .entry))) (codesOf choice) n
         (equationsIn (now (table .exit))) ⌝ }
 {

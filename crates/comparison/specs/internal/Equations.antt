@@ -71,6 +71,11 @@ pub record Triangular (table : List Equation) : Type 0 where
   pub above : (i j : ℕ) → i < j → unknown (equationAt table i) j ≡ false
   pub leading : (i : ℕ) → (unknown (equationAt table i) i ≡ true) ⊎ (equationAt table i ≡ emptyEquation)
 
+-- from equation m on the table asks nothing
+pub record EmptyFrom (m : ℕ) (table : List Equation) : Type 0 where
+  pub long : length table ≡ 256
+  pub empty : (i : ℕ) → m ≤ i → equationAt table i ≡ emptyEquation
+
 -- the table with an equation added: its solutions are those of the table that solve the equation
 pub record Inserted (table : List Equation) (e : Equation) (result : List Equation) : Type 0 where
   pub triangular : Triangular result

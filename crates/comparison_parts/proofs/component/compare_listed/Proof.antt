@@ -1,4 +1,5 @@
--- `compare_listed` meets its contract: the least choice of a part, with room for its two records.
+-- `compare_listed` meets its contract: the least choice of a part, with room for its two records, by a table
+-- without equations, which it leaves so.
 use mathlib.Core.Path.{ap, sym, _∙_}
 use native.Mathlib.Omega.{arith}
 use lib.ListN.{length}
@@ -14,7 +15,7 @@ extract-requires c κs =
     let S = c .before .before .before .before .before .before .before .before .before .before in
     let G = S .pre .0 in
     let F = G .pair .first in (
-      (G .few, S .pre .1 .0),
+      (G .few, S .pre .1 .0 .0),
       (
         omega (arith, F .neighbours-long, G .pair .upto),
         F .codes-long ∙ sym (F .neighbours-long),
@@ -28,29 +29,32 @@ extract-requires-2 c κs =
     let S = c .before .before .before .before .before .before .before .before .before .before .before .before .before .before .before .before .before in
     let G = S .pre .0 in
     let F = G .pair .second in (
-      (omega (arith, G .few, S .pre .1 .1), S .pre .1 .2 ∙ sym (S .pre .1 .1)),
+      (omega (arith, G .few, S .pre .1 .0 .1), S .pre .1 .0 .2 ∙ sym (S .pre .1 .0 .1)),
       (
         omega (arith, F .neighbours-long, G .pair .upto),
         F .codes-long ∙ sym (F .neighbours-long),
-        λ i l. omega (arith, F .neighbours-long, G .numbers .below i (omega (arith, l, S .pre .1 .1))),
+        λ i l. omega (arith, F .neighbours-long, G .numbers .below i (omega (arith, l, S .pre .1 .0 .1))),
       ),
     )
 
 -- src/lib.rt:49:5
 compare-records-requires : tie.Need-compare-records-requires
 compare-records-requires c κs =
-    let E = c .before .before .before .before .before .before .before .before in
+    let E = c .before .before .before .before .before .before .before .before .before in
     let H = E .before .before .before .before .before .before .before in
     let S = H .before .before .before .before .before .before .before .before .before .before .before in
     let a = S .args in
     let G = S .pre .0 in
     let k = length (a .words .now) in
-    let ew = E .extract2 .ensures .0 ∙ ap (λ m. partWords m (a .at) (a .neighbours2 .now)) (S .pre .1 .1) in
-    let en = E .extract2 .ensures .1 ∙ ap (λ m. partCodes m (a .at) (a .codes2 .now)) (S .pre .1 .1) in (
+    let ew = E .extract2 .ensures .0 ∙ ap (λ m. partWords m (a .at) (a .neighbours2 .now)) (S .pre .1 .0 .1) in
+    let en = E .extract2 .ensures .1 ∙ ap (λ m. partCodes m (a .at) (a .codes2 .now)) (S .pre .1 .0 .1) in (
       (G .few, first-sound (a .n) (a .neighbours .now) (a .codes .now) (a .neighbours2 .now) (a .codes2 .now) (a .component) k (a .at) G _ _ _ _ (H .extract .ensures .0) (H .extract .ensures .1) ew en),
       (
-        second-sound (a .n) (a .neighbours .now) (a .codes .now) (a .neighbours2 .now) (a .codes2 .now) (a .component) k (a .at) G _ _ _ _ (H .extract .ensures .0) (H .extract .ensures .1) ew en,
-        first-connected (a .n) (a .neighbours .now) (a .codes .now) (a .neighbours2 .now) (a .codes2 .now) (a .component) k (a .at) G _ _ _ _ (H .extract .ensures .0) (H .extract .ensures .1) ew en,
+        (
+          second-sound (a .n) (a .neighbours .now) (a .codes .now) (a .neighbours2 .now) (a .codes2 .now) (a .component) k (a .at) G _ _ _ _ (H .extract .ensures .0) (H .extract .ensures .1) ew en,
+          first-connected (a .n) (a .neighbours .now) (a .codes .now) (a .neighbours2 .now) (a .codes2 .now) (a .component) k (a .at) G _ _ _ _ (H .extract .ensures .0) (H .extract .ensures .1) ew en,
+        ),
+        S .pre .1 .1,
       ),
     )
 
@@ -61,16 +65,18 @@ compare-records-requires c κs =
 -- src/lib.rt:27:1
 returns : tie.Need-returns
 returns c =
-    let E = c .before .before .before .before .before .before .before .before .before in
+    let E = c .before .before .before .before .before .before .before .before .before .before in
     let H = E .before .before .before .before .before .before .before in
     let S = H .before .before .before .before .before .before .before .before .before .before .before in
     let a = S .args in
     let G = S .pre .0 in
     let k = length (a .words .now) in
-    let ew = E .extract2 .ensures .0 ∙ ap (λ m. partWords m (a .at) (a .neighbours2 .now)) (S .pre .1 .1) in
-    let en = E .extract2 .ensures .1 ∙ ap (λ m. partCodes m (a .at) (a .codes2 .now)) (S .pre .1 .1) in
-    part-answered (a .n) (a .neighbours .now) (a .codes .now) (a .neighbours2 .now) (a .codes2 .now) (a .component) k (a .at) G _ _ _ _ (H .extract .ensures .0) (H .extract .ensures .1) ew en
-    _ _ (c .compare-records .ensures)
+    let ew = E .extract2 .ensures .0 ∙ ap (λ m. partWords m (a .at) (a .neighbours2 .now)) (S .pre .1 .0 .1) in
+    let en = E .extract2 .ensures .1 ∙ ap (λ m. partCodes m (a .at) (a .codes2 .now)) (S .pre .1 .0 .1) in (
+      part-answered (a .n) (a .neighbours .now) (a .codes .now) (a .neighbours2 .now) (a .codes2 .now) (a .component) k (a .at) G _ _ _ _ (H .extract .ensures .0) (H .extract .ensures .1) ew en
+          _ _ (c .compare-records .ensures .0),
+      c .compare-records .ensures .1,
+    )
 
 pub compare-listed-spec : {M : Type 1} → statement M
 compare-listed-spec =

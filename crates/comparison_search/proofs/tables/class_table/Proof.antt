@@ -7,7 +7,8 @@ use borrow.Author.Needs.{needs}
 use Rattle.comparison.specs.internal.Equations.{equationsIn}
 use Rattle.comparison.specs.internal.Searches.{ClassTable}
 use Rattle.comparison.specs.internal.Setting.{generatorsIn}
-use Rattle.comparison.proofs.EquationTables.{class-start, empty-rows, empty-rows-solved}
+use Rattle.comparison.proofs.EquationTables.{class-start}
+use Rattle.comparison.proofs.TableEnds.{empty-solved, empty-triangular}
 use Rattle.comparison_search.proofs.tables.class_table.Statement.{statement}
 use Rattle.comparison_search.proofs.tables.class_table.Tie as tie
 
@@ -21,8 +22,8 @@ loop-holds : tie.Need-loop-holds Inv-loop μ-loop
 loop-holds c =
     let a = c .args in (
       zero-le,
-      class-start (a .n) (generatorsIn (a .first .now)) (generatorsIn (a .second .now)) (equationsIn (a .table .now)) (empty-rows (a .table .now) (c .pre .1))
-          (empty-rows-solved (a .table .now) (c .pre .1)),
+      class-start (a .n) (generatorsIn (a .first .now)) (generatorsIn (a .second .now)) (equationsIn (a .table .now)) (empty-triangular _ (c .pre .1))
+          (empty-solved _ (c .pre .1)),
     )
 
 class-rows-requires : tie.Need-class-rows-requires Inv-loop μ-loop

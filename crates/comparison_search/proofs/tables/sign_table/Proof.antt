@@ -13,7 +13,7 @@ use Rattle.pauli.specs.internal.Rows.{generatorOf}
 use Rattle.comparison.specs.internal.Equations.{equationOf, equationsIn, signEquation}
 use Rattle.comparison.specs.internal.Searches.{SentUpToSign, SignTable}
 use Rattle.comparison.specs.internal.Setting.{NoSigns, Setting, generatorsIn}
-use Rattle.comparison.proofs.EquationTables.{empty-rows, empty-rows-solved}
+use Rattle.comparison.proofs.TableEnds.{empty-solved, empty-triangular}
 use Rattle.comparison.proofs.SignExtension.{sign-found, sign-more, sign-start}
 use Rattle.comparison_search.proofs.tables.sign_table.Statement.{statement}
 use Rattle.comparison_search.proofs.tables.sign_table.Tie as tie
@@ -32,8 +32,8 @@ loop-holds c =
     let a = s .args in (
       zero-le,
       (λ choice frame S sent bare acts. sign-start (a .n) (generatorsIn (a .first .now)) (generatorsIn (a .second .now)) frame S (codesOf choice) sent
-          (equationsIn (a .table .now)) (empty-rows (a .table .now) (s .pre .1 .1))
-          (empty-rows-solved (a .table .now) (s .pre .1 .1))),
+          (equationsIn (a .table .now)) (empty-triangular _ (s .pre .1 .1))
+          (empty-solved _ (s .pre .1 .1))),
     )
 
 element-requires : tie.Need-element-requires Inv-loop μ-loop
