@@ -2,13 +2,13 @@
 use mathlib.Core.Bool.{_&&_, Bool, false, true}
 use mathlib.Core.List.{List}
 use mathlib.Core.Logic.{inl, inr, _⊎_}
-use mathlib.Core.Path.{ap, ap₂, refl, subst, sym, _∙_, _≡_}
+use mathlib.Core.Path.{ap, ap₂, refl, sym, _∙_, _≡_}
 use Prim.Native.Nat.{_%_, _*_, _+_, _/_, _<_, suc, zero, ℕ, _≤_}
 use native.Mathlib.Nat.{not-suc-le-zero}
 use native.Mathlib.Omega.{arith}
 use lib.Bits.{bitAnd}
 use lib.Dec.{lit<}
-use lib.ListN.{getD, replicate}
+use lib.ListN.{getD}
 use Rattle.pauli.specs.internal.Rows.{generatorOf}
 use Rattle.pauli.specs.declared.Generator.{Generator}
 use Rattle.stabilizer.specs.Groups.{Within}
@@ -23,13 +23,8 @@ use Rattle.comparison.specs.internal.Equations.{
   Solves,
   Triangular,
   classEquation,
-  emptyEquation,
-  emptyRows,
-  equationAt,
   fails,
-  equationsIn,
   signEquation,
-  unknown,
   wordAt,
 }
 use Rattle.comparison.specs.internal.Searches.{ClassAsked, ClassTable, TableOf}

@@ -28,7 +28,6 @@ use Rattle.comparison.specs.internal.Equations.{
   equationAt,
   equationsIn,
   fails,
-  signEquation,
   unknown,
 }
 use Rattle.comparison.specs.internal.Searches.{ClassAsked, ClassTable, SignAsked, SignTable, TableOf}

@@ -1,5 +1,5 @@
 -- The search for the part of a vertex: what it has reached lies in the part, and where nothing is new it is the part.
-use mathlib.Core.Bool.{_&&_, Bool, and-false, false, or-false, or-true, true, _||_}
+use mathlib.Core.Bool.{_&&_, Bool, and-false, false, or-false, or-true, true, true≢false, _||_}
 use mathlib.Core.List.{List}
 use mathlib.Core.Logic.{inl, inr, _⊎_}
 use mathlib.Core.Path.{ap, ap₂, refl, subst, sym, _∙_, _≡_}
@@ -17,10 +17,11 @@ use Rattle.cut.proofs.Counting.{count-ext, ones-count}
 use Rattle.cut.specs.Kernel.{count}
 use Rattle.record.specs.Graph.{Graph, Simple}
 use Rattle.record.specs.NeighbourWords.{graphIn}
-use Rattle.comparison.proofs.PartLaws.{both, of-part, part-closed, part-has}
+use Rattle.stabilizer.proofs.Scanning.{NoneSoFar, none-at, none-at-first}
+use Rattle.comparison.proofs.PartLaws.{both, of-part, part-closed, part-has, part-together}
 use Rattle.comparison.specs.internal.Parts.{Closed}
 use Rattle.comparison.specs.Parts.{partOf}
-use Rattle.words.proofs.BitLaws.{bit-above, bit-and, bit-ext∞, bit-or, bit-single, lt-of-bits}
+use Rattle.words.proofs.BitLaws.{bit-above, bit-and, bit-ext∞, bit-or, bit-single, lt-of-bits, zero-bit}
 use Rattle.words.proofs.Flags.{both-true, either, same-by-both}
 use Rattle.words.proofs.Places.{same-place}
 use Rattle.words.proofs.SearchLaws.{some-in, some-none, some-true}
@@ -157,3 +158,41 @@ isLarge n θ q = ltb 20 (count n (partOf n θ q))
 
 pub large-is : (n : ℕ) (θ : Graph) (q r o : ℕ) → PartWord n θ q r → o ≡ ones r → ltb 20 o ≡ isLarge n θ q
 large-is n θ q r o P e = ap (ltb 20) (e ∙ part-ones n θ q r P)
+
+-- the vertices of a part have one part
+part-size : (n : ℕ) (θ : Graph) → Simple n θ → (q t : ℕ) → q < n → t < n → partOf n θ q t ≡ true
+    → count n (partOf n θ t) ≡ count n (partOf n θ q)
+part-size n θ S q t l k a =
+    count-ext n (partOf n θ t) (partOf n θ q)
+    (λ j m. same-by-both (partOf n θ t j) (partOf n θ q j) (part-together n θ (S .symmetric) t q j k l m home)
+    (part-together n θ (S .symmetric) q t j l k m a))
+  where
+    home : partOf n θ t q ≡ true
+    home = part-together n θ (S .symmetric) q t q l k l a (part-has n θ q)
+
+-- no part of a vertex below q, or of one that is seen, has more than 20
+pub record Seen (n : ℕ) (θ : Graph) (seen q : ℕ) : Type 0 where
+  pub before : NoneSoFar n (isLarge n θ) q
+  pub small : (t : ℕ) → t < n → bit seen t ≡ true → isLarge n θ t ≡ false
+
+module _ (n : ℕ) (θ : Graph) where
+  pub seen-none : Seen n θ 0 0
+  seen-none =
+      record { before = none-at-first n (isLarge n θ); small = λ t l e. absurd (true≢false (sym e ∙ zero-bit t)) }
+
+  module _ (seen q : ℕ) (K : Seen n θ seen q) (l : q < n) where
+    pub seen-again : bit seen q ≡ true → Seen n θ seen (q + 1)
+    seen-again e = record { before = none-at n (isLarge n θ) q (K .before) l refl (K .small q l e); small = K .small }
+
+    pub seen-more : Simple n θ → (r o s : ℕ) → PartWord n θ q r → o ≡ ones r → ltb 20 o ≡ false → s ≡ bitOr seen r
+        → Seen n θ s (q + 1)
+    seen-more S r o s P eo few es =
+        record {
+          before = none-at n (isLarge n θ) q (K .before) l (large-is n θ q r o P eo) few;
+          small = λ t k e. go t k (either (bit seen t) (bit r t) (sym (ap (λ w. bit w t) es ∙ bit-or seen r t) ∙ e));
+        }
+      where
+        go : (t : ℕ) → t < n → (bit seen t ≡ true) ⊎ (bit r t ≡ true) → isLarge n θ t ≡ false
+        go t k (inl a) = K .small t k a
+        go t k (inr a) =
+            ap (ltb 20) (part-size n θ S q t l k (sym (P .marks t k) ∙ a)) ∙ sym (large-is n θ q r o P eo) ∙ few

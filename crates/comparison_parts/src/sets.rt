@@ -43,16 +43,21 @@ pub fn part(neighbours: &[u64], q: usize) -> u64
     reached
 }
 
-// Whether some part has more than 20 vertices.
+// Whether some part has more than 20 vertices. The part of a vertex seen in an earlier one is that one.
 pub fn part_above(neighbours: &[u64]) -> bool
     requires { ⌜ length (now neighbours) ≤ 64 ⌝ }
     requires { ⌜ Simple (length (now neighbours)) (graphIn (now neighbours)) ⌝ }
     ensures { λ r. ⌜ r ≡ partAbove 20 (length (now (neighbours .entry))) (graphIn (now (neighbours .entry))) ⌝ }
 {
+    let mut seen = 0;
     let mut q = 0;
     while q < neighbours.len() {
-        if 20 < count(part(neighbours, q)) {
-            return true;
+        if !has(seen, q) {
+            let component = part(neighbours, q);
+            if 20 < count(component) {
+                return true;
+            }
+            seen = seen | component;
         }
         q += 1;
     }

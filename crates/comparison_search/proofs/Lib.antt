@@ -1,3 +1,4 @@
 pub mod CodeBits
 pub mod EquationsRows
+pub mod FirstCodes
 pub mod WordSizes

@@ -133,14 +133,14 @@ fn clear(table: &mut [[u64; 4]; 256], i: usize, end: usize)
     }
 }
 
-// Adds an equation on n qubits to the table. From 16 qubits on no other equation of the table has the last unknown of one,
+// Adds an equation on n qubits to the table. From 8 qubits on no other equation of the table has the last unknown of one,
 // so that at most one for each unknown is to be added to what comes; on fewer that costs more than it saves. Nothing but the
 // time depends on it.
 pub fn insert(table: &mut [[u64; 4]; 256], n: usize, e: [u64; 4])
     requires { ⌜ (n ≤ 64) × Triangular (equationsIn (now table)) ⌝ }
     ensures { λ r. ⌜ Inserted (equationsIn (now (table .entry))) (equationOf e) (equationsIn (now (table .exit))) ⌝ }
 {
-    if n < 16 {
+    if n < 8 {
         store(table, e);
         return;
     }

@@ -78,8 +78,8 @@ pub fn sign_table(
     ensures { λ r. ⌜ SignTable n (generatorsIn (now (first .entry))) (generatorsIn (now (second .entry))) (codesOf choice) n
         (equationsIn (now (table .exit))) ⌝ }
 {
-    let by = action_of(&choice);
-    let undone = action_of(&frame);
+    let by = action_of(&choice[..n]);
+    let undone = action_of(&frame[..n]);
     let mut i = 0;
     while i < n {
         let g = generator_at(first, i);
