@@ -17,7 +17,7 @@ pub fn compare_listed(
     neighbours2: &[u64],
     codes2: &[u8],
     component: u64,
-    at: [usize; 64],
+    at: [u8; 64],
     words: &mut [u64],
     numbers: &mut [u8],
     words2: &mut [u64],
@@ -39,7 +39,7 @@ pub fn compare_listed(
 }
 
 // The choice with the codes of a part at its vertices.
-pub fn placed(at: [usize; 64], k: usize, chosen: [u8; 64], choice: [u8; 64]) -> [u8; 64]
+pub fn placed(at: [u8; 64], k: usize, chosen: [u8; 64], choice: [u8; 64]) -> [u8; 64]
     requires { ⌜ (k ≤ 64) × ((i : ℕ) → i < k → getD at i 0 < 64)
         × ((i j : ℕ) → i < j → j < k → getD at i 0 < getD at j 0) ⌝ }
     ensures { λ r. ⌜ (((i : ℕ) → i < k → getD r (getD at i 0) 0 ≡ getD chosen i 0)
@@ -48,7 +48,7 @@ pub fn placed(at: [usize; 64], k: usize, chosen: [u8; 64], choice: [u8; 64]) -> 
     let mut whole = choice;
     let mut i = 0;
     while i < k {
-        let v = at[i];
+        let v = at[i] as usize;
         whole[v] = chosen[i];
         i += 1;
     }

@@ -13,18 +13,18 @@ ghost use Rattle.comparison_parts.specs.internal.Listed.{partCodes, renu
 // The vertices of a set, in rising order, and how many there are.
 pub struct Places {
     pub count: usize,
-    pub at: [usize; 64],
+    pub at: [u8; 64],
 }
 
 pub fn vertices(component: u64) -> Places
     ensures { λ r. ⌜ (r .count ≤ 64) × Numbers 64 (bit component) (r .count) (λ i. getD (r .at) i 0) ⌝ }
 {
-    let mut at = [0usize; 64];
+    let mut at = [0u8; 64];
     let mut k = 0;
     let mut rest = component;
     while rest != 0 {
         let q = smallest(rest);
-        at[k] = q;
+        at[k] = q as u8;
         k += 1;
         rest = flip(rest, q);
     }
@@ -32,14 +32,14 @@ pub fn vertices(component: u64) -> Places
 }
 
 // The bits of a word at the numbered vertices.
-fn compress(w: u64, at: [usize; 64], k: usize) -> u64
+fn compress(w: u64, at: [u8; 64], k: usize) -> u64
     requires { ⌜ (k ≤ 64) × ((i : ℕ) → i < k → getD at i 0 < 64) ⌝ }
     ensures { λ r. ⌜ r ≡ renumbered k at w ⌝ }
 {
     let mut bits = 0;
     let mut i = 0;
     while i < k {
-        let v = at[i];
+        let v = at[i] as usize;
         bits = flip_where(bits, i, has(w, v));
         i += 1;
     }
@@ -50,7 +50,7 @@ fn compress(w: u64, at: [usize; 64], k: usize) -> u64
 pub fn extract(
     neighbours: &[u64],
     codes: &[u8],
-    at: [usize; 64],
+    at: [u8; 64],
     words: &mut [u64],
     numbers: &mut [u8],
 )
@@ -63,7 +63,7 @@ pub fn extract(
     let k = words.len();
     let mut i = 0;
     while i < k {
-        let v = at[i];
+        let v = at[i] as usize;
         words[i] = compress(neighbours[v], at, k);
         numbers[i] = codes[v];
         i += 1;

@@ -28,14 +28,9 @@ loop-holds c = listing-start (c .args .component) _ refl (c .fits .component .fi
 
 -- src/lib.rt:29:13
 -- src/lib.rt:30:9
-mul-at : tie.Need-mul-at Inv-loop μ-loop
-mul-at c =
-    let L = c .before .before in
-    omega (
-      arith,
-      room (L .before .args .component) (L .loop .at) (L .loop .k) (L .loop .rest) (L .loop .inv)
-          (c .before .loop-test .taken) _ (c .smallest .ensures .0),
-    )
+-- src/lib.rt:30:9
+cast-at : tie.Need-cast-at Inv-loop μ-loop
+cast-at c = let few = c .smallest .ensures .1 in search needs
 
 -- src/lib.rt:30:9
 array-write-at : tie.Need-array-write-at Inv-loop μ-loop
@@ -89,5 +84,5 @@ returns c =
 pub vertices-spec : {M : Type 1} → statement M
 vertices-spec =
     tie.close
-    (tie.spec Inv-loop μ-loop loop-holds (λ c κs. search needs) mul-at array-write-at add-k flip-requires loop-less
+    (tie.spec Inv-loop μ-loop loop-holds (λ c κs. search needs) cast-at array-write-at add-k flip-requires loop-less
     loop-again returns)
