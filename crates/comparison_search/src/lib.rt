@@ -100,7 +100,8 @@ fn least_choice(
 ) -> Answer
     requires { ⌜ Setting n (generatorsIn (now first)) (generatorsIn (now second)) frame ⌝ }
     requires { ⌜ EmptyFrom 0 (equationsIn (now table)) ⌝ }
-    ensures { λ r. ⌜ LeastAnswer n (generatorsOf (generatorsIn (now (first .entry)))) (generatorsOf (generatorsIn (now (second .entry))))
+    ensures { λ r. ⌜ LeastAnswer n (generatorsOf (generatorsIn (now (first .entry))))
+        (generatorsOf (generatorsIn (now (second .entry))))
         (r .found) (r .choice) ⌝ }
     ensures { λ r. ⌜ EmptyFrom 0 (equationsIn (now (table .exit))) ⌝ }
 {
@@ -121,7 +122,7 @@ fn least_choice(
 }
 
 // The least choice that carries the group of the first record onto that of the second, by such a table.
-pub fn compare_records(
+pub fn search_records(
     table: &mut [[u64; 4]; 256],
     n: usize,
     neighbours: &[u64],
