@@ -1,0 +1,5 @@
+pub mod RowGroups
+pub mod RowLetters
+pub mod RowPassing
+pub mod RowUsed
+pub mod RowValues
