@@ -1,3 +1,6 @@
+pub mod ChangedLists
+pub mod ReducedLists
+pub mod RowAnswers
 pub mod RowGroups
 pub mod RowLetters
 pub mod RowPassing
