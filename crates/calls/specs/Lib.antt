@@ -8,6 +8,7 @@ pub mod Images
 pub mod Cuts
 pub mod Amplitudes
 pub mod Expectations
+pub mod Parities
 pub mod Comparisons
 pub mod RecordComparisons
 pub mod Equivalences

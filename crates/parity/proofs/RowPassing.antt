@@ -1,10 +1,11 @@
 -- What it means that no line of the measurement of a row holds.
-use mathlib.Core.Bool.{_&&_, Bool, false, true, _||_}
+use mathlib.Core.Bool.{_&&_, Bool, false, not, true, _||_}
 use mathlib.Core.Logic.{_↔_}
 use mathlib.Core.Path.{ap, refl, sym, _∙_, _≡_}
 use Prim.Native.Nat.{_<_, _^_, ℕ}
-use lib.Dec.{leb}
-use borrow.Author.Tests.{leb-false}
+use lib.Bits.{bitAnd, bitOr, or-lt}
+use lib.Dec.{eqb, leb}
+use borrow.Author.Tests.{eqb-false, eqb-true, leb-false}
 use Rattle.buffers.proofs.Fitting.{decides, fits-at, is-first, none-fits-of, none-holds, skips}
 use Rattle.buffers.specs.Answers.{here, later, none}
 use Rattle.buffers.specs.Refusals.{firstFitting}
@@ -14,9 +15,12 @@ use Rattle.operations.specs.Used.{UsedRecord, usedStray, usedWrong}
 use Rattle.record.proofs.AcceptedRecords.{accepted-record}
 use Rattle.record.specs.Accepted.{AcceptedRecord}
 use Rattle.record.specs.Lent.{recordCodes, recordLines}
+use Rattle.stabilizer.proofs.Verdicts.{some-bit}
+use Rattle.words.proofs.BitLaws.{and-lt-right, bit-and, bit-or, zero-bit}
 use Rattle.words.proofs.Flags.{neither}
-use Rattle.words.proofs.SearchLaws.{some-false, some-none}
+use Rattle.words.proofs.SearchLaws.{some-false, some-in, some-none}
 use Rattle.words.specs.Bits.{bit}
+use Rattle.words.specs.Search.{some}
 use Rattle.parity.specs.RowLines.{actsOnUsed, measureRowLines, rowArguments}
 
 -- the arguments are in order
@@ -89,3 +93,20 @@ module _ (u : UsedRecord) (z x b : ℕ) where
       at : (q : ℕ) (d : Bool) → bit (u .used) q ≡ d → (d && (bit z q || bit x q)) ≡ false
       at q false m = refl
       at q true m = ap (λ a. a || bit x q) (h q m .0) ∙ h q m .1
+
+-- the test on words: the used word and the union of the row's two
+module _ (u : UsedRecord) (z x : ℕ) (hz : z < 2 ^ (u .held .n)) (hx : x < 2 ^ (u .held .n)) where
+  abbrev both : ℕ
+  both = bitAnd (u .used) (bitOr z x)
+
+  both-bit : (q : ℕ) → bit both q ≡ (bit (u .used) q && (bit z q || bit x q))
+  both-bit q = bit-and (u .used) (bitOr z x) q ∙ ap (λ b. bit (u .used) q && b) (bit-or z x q)
+
+  pub acts-by-word : not (eqb (bitAnd (u .used) (bitOr z x)) 0) ≡ actsOnUsed u z x
+  unfolding actsOnUsed
+  acts-by-word = go (eqb both 0) refl
+    where
+      go : (d : Bool) → eqb both 0 ≡ d → not d ≡ some (u .held .n) (λ q. bit (u .used) q && (bit z q || bit x q))
+      go true e = sym (some-none (u .held .n) _ (λ q l. sym (both-bit q) ∙ ap (λ v. bit v q) (eqb-true both 0 e) ∙ zero-bit q))
+      go false e = let s = some-bit (u .held .n) both (and-lt-right (u .held .n) (u .used) (bitOr z x) (or-lt (u .held .n) z x hz hx))
+          (eqb-false both 0 e) in sym (some-in (u .held .n) _ (s .0) (s .1) (sym (both-bit (s .0)) ∙ s .2))

@@ -7,6 +7,7 @@ pub mod generator;
 pub mod groups;
 pub mod lists;
 pub mod orbits;
+pub mod parity;
 pub mod records;
 pub mod run;
 pub mod source;

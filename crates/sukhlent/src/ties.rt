@@ -8,6 +8,7 @@ mod generator;
 mod groups;
 mod lists;
 mod orbits;
+mod parity;
 mod records;
 mod run;
 mod source;
