@@ -20,9 +20,9 @@
  *
  * Every buffer passes as a pointer and its length in elements, and has n places where its call
  * does not say otherwise. A buffer that is not const must overlap no other; const buffers may be
- * the same one. The calls on a record in place (gate, cz, measure, observe, renew, complement, run)
- * read `neighbours` and `codes` and write the new record there; measure, observe, renew and run read
- * and write *used too, and the others leave the word as it is. A group's calls do so too, and its
+ * the same one. The calls on a record in place (gate, cz, measure, observe, measure_row, renew,
+ * complement, run) read `neighbours` and `codes` and write the new record there; measure, observe,
+ * renew and run read and write *used too, and the others leave the word as it is. A group's calls do so too, and its
  * return writes the record and *used. A store is read, and written by save and forget. All other buffers that are
  * not const are lent for the answer: what they hold before the call does not matter.
  *
@@ -152,7 +152,7 @@ typedef uint64_t sukhlent_length;
  * A source that goes on: a measured photon's place is used; sukhlent_renew puts a new photon there,
  *   in one of six states (examples/c/source.c).
  * Equal states: two reduced records have equal neighbours and codes exactly if their states are
- *   equal. What gate, cz, measure, observe and reduce leave is reduced, and
+ *   equal. What gate, cz, measure, observe, measure_row and reduce leave is reduced, and
  *   what renew leaves of a reduced one; any other record is reduced by sukhlent_expand and
  *   sukhlent_reduce.
  * Many steps: sukhlent_run does up to 4,096 in one call and checks the record once
@@ -281,6 +281,21 @@ uint8_t sukhlent_observe(uint64_t n,
                          uint64_t *used,
                          uint8_t pauli, uint64_t qubit, uint8_t bit,
                          uint8_t *answer, uint8_t *determined);
+
+/* Measures a Pauli row of any weight, sign plus, with a bit by lot: at each qubit its bits (z, x) are 00
+ * for I, 01 for X, 10 for Z, 11 for Y, as for sukhlent_expectation. Where the row or its negative is
+ * in the group *determined is 1, *answer the sign (1 for minus), and the group stays. Otherwise
+ * *determined is 0, *answer is `bit`, and the group becomes the elements that commute with the row,
+ * joined by the row with that sign. The reduced record is left. No qubit is used up: `used` is only
+ * read. The identity row is determined, 0.
+ * Refusals: 2, 4, 5 (also where `z` or `x` has a bit at or above n), 6 (also where `bit` is above 1),
+ * 7, 16 (the row acts on a used qubit). */
+uint8_t sukhlent_measure_row(uint64_t n,
+                             uint64_t *neighbours, sukhlent_length neighbours_len,
+                             uint8_t *codes, sukhlent_length codes_len,
+                             uint64_t used,
+                             uint64_t z, uint64_t x, uint8_t bit,
+                             uint8_t *answer, uint8_t *determined);
 
 /* Puts a new photon at a used qubit: the code at the qubit becomes `code`, one of 0, 2, 4, 6, 8 and 10
  * for the state +X, -X, +Y, -Y, +Z and -Z, its bit of *used becomes 0, and all else stays. A reduced

@@ -394,6 +394,14 @@ public:
         return detail::answer(number, Measured{found.outcome == 1, found.determined == 1});
     }
 
+    // Measures a Pauli row of any weight, sign plus, with a bit by lot; no qubit is used up.
+    Answer<Measured> measure_row(std::uint64_t z, std::uint64_t x, bool bit)
+    {
+        sukhlent_measured found = {0, 0};
+        const std::uint8_t number = sukhlent_record_measure_row(&record_, z, x, bit ? 1 : 0, &found);
+        return detail::answer(number, Measured{found.outcome == 1, found.determined == 1});
+    }
+
     // Puts a new photon at a used qubit, in the state of a code: 0, 2, 4, 6, 8, 10 are +X, -X, +Y, -Y, +Z, -Z.
     Done renew(std::uint64_t qubit, std::uint8_t code)
     {

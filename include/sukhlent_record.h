@@ -159,6 +159,15 @@ static inline uint8_t sukhlent_record_observe(sukhlent_record *record, uint8_t p
                             qubit, bit, &measured->outcome, &measured->determined);
 }
 
+/* Measures a Pauli row of any weight, sign plus, with a bit by lot; no qubit is used up. */
+static inline uint8_t sukhlent_record_measure_row(sukhlent_record *record, uint64_t z, uint64_t x,
+                                                  uint8_t bit, sukhlent_measured *measured)
+{
+    const sukhlent_length n = sukhlent_places(record->n);
+    return sukhlent_measure_row(record->n, record->neighbours, n, record->codes, n, record->used, z, x,
+                                bit, &measured->outcome, &measured->determined);
+}
+
 /* Puts a new photon at a used qubit, in the state of a code: 0, 2, 4, 6, 8, 10 are +X, -X, +Y, -Y,
  * +Z, -Z. */
 static inline uint8_t sukhlent_record_renew(sukhlent_record *record, uint64_t qubit, uint8_t code)

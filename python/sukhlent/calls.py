@@ -57,6 +57,7 @@ TAKEN = "ctypes" if _taken is by_ctypes else "extension"
 
 gate, cz, cx, complement = _taken.gate, _taken.cz, _taken.cx, _taken.complement
 measure, observe, renew = _taken.measure, _taken.observe, _taken.renew
+measure_row = _taken.measure_row
 cut, expectation, reduce, same = _taken.cut, _taken.expectation, _taken.reduce, _taken.same
 run, run_many = _taken.run, _taken.run_many
 group_gate, group_cz = _taken.group_gate, _taken.group_cz

@@ -29,6 +29,7 @@ _CALLS: dict[str, tuple] = {
     "cz": (c_uint64, *_RECORD, c_uint64, c_uint64, c_uint64),
     "measure": (c_uint64, *_RECORD, _WORDS, c_uint8, c_uint64, c_uint8, _BYTES, _BYTES),
     "observe": (c_uint64, *_RECORD, _WORDS, c_uint8, c_uint64, c_uint8, _BYTES, _BYTES),
+    "measure_row": (c_uint64, *_RECORD, c_uint64, c_uint64, c_uint64, c_uint8, _BYTES, _BYTES),
     "renew": (c_uint64, *_RECORD, _WORDS, c_uint64, c_uint8),
     "complement": (c_uint64, *_RECORD, c_uint64, c_uint64),
     "run": (c_uint64, *_RECORD, _WORDS, *_IN_BYTES, *_IN_HALVES * 3, *_IN_BYTES * 3),

@@ -259,7 +259,7 @@ class State(Gates, Reads, Graphs, Shows):
         if outcome is not None and value < 2 and value != outcome ^ sign:
             raise Refusal(14, f"{sparse(z, x)} has the outcome {1 - outcome} in this state, not {outcome}")
         bit = bits_from(source)() if outcome is None else outcome
-        found = beyond.measure_row(self._block, z, x, bit ^ sign)
+        found = calls.measure_row(self._block, z, x, bit ^ sign)
         if found < 0:
             raise Refusal(-found)
         return MEASURED[found ^ sign]

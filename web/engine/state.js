@@ -1,5 +1,4 @@
 // A stabilizer state held as a record: a graph with one local Clifford per vertex, and a word of used qubits.
-import { measureRow } from "./beyond.js";
 import { code } from "./codes.js";
 import { RECORD_NAMES, recordFault } from "./forms.js";
 import { call, floatCell, octetCell, wordCell } from "./library.js";
@@ -263,10 +262,11 @@ export class State {
 
   /** Measures a Pauli row with a bit by lot. No qubit is used by it. */
   measureRow(row, bit = fairBit()) {
-    const { outcome, determined, record } = measureRow(this, row, bit);
-    this.#neighbours = words(record.neighbours);
-    this.#codes = octets(record.codes);
-    return { outcome, determined };
+    const { sign, z, x } = rowWords(row, this.n);
+    const [answer, determined] = [octetCell(), octetCell()];
+    const lot = bit === 0 || bit === 1 ? bit ^ sign : bit;
+    accept(call("measure_row", ...this.#record(), this.#used, z, x, octet(lot), answer, determined));
+    return { outcome: answer.value ^ sign, determined: determined.value === 1 };
   }
 
   /** A new photon at a used place, in the state +X, -X, +Y, -Y, +Z or -Z, by name or by its code 0, 2, 4, 6, 8 or 10. */

@@ -13,10 +13,11 @@ use Rattle.record.specs.Records.{GraphRecord}
 use Rattle.record.specs.Reduced.{reduced}
 use Rattle.words.specs.Bits.{isOdd}
 
--- what is answered, and "The reduced record is left"
+-- what is answered
 abbrev pub rowAnswer : LentRecord → ℕ → ℕ → ℕ → Outcome
 rowAnswer l z x b = rowOutcome (l .n) (heldRows l) z x (isOdd b)
 
+-- "The reduced record is left"
 abbrev pub rowRecord : LentRecord → ℕ → ℕ → ℕ → GraphRecord
 rowRecord l z x b = reduced (l .n) (rowMeasured (l .n) (heldRows l) z x (isOdd b))
 

@@ -2,6 +2,7 @@
 
 use crate::common::damage::{damage_list, damage_record};
 use crate::common::local::{complemented_record, sent};
+use crate::common::parity::Joint;
 use crate::common::reference::{product, strings_text};
 use crate::common::runs::Steps;
 use crate::common::source::Source;
@@ -204,6 +205,29 @@ pub fn expectation_call(random: &mut Random, n: usize) -> RecordCall<Letters> {
         _ => (),
     }
     harmed(random, record, row)
+}
+
+/// A row as above, with a bit by lot: mostly one that acts on no used qubit.
+pub fn row_call(random: &mut Random, n: usize) -> RecordCall<Joint> {
+    let call = expectation_call(random, n);
+    let kept = match random.below(4) {
+        0 => u64::MAX,
+        _ => !call.used,
+    };
+    let noisy = random.below(16) == 0;
+    let byte = random.word() as u8;
+    let with = Joint {
+        z: call.with.z & kept,
+        x: call.with.x & kept,
+        bit: if noisy { byte } else { byte % 2 },
+    };
+    RecordCall {
+        n: call.n,
+        neighbours: call.neighbours,
+        codes: call.codes,
+        used: call.used,
+        with,
+    }
 }
 
 /// A job: mostly of few steps, at times near the limit, at times with any numbers or another buffer.

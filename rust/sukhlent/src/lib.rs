@@ -23,8 +23,8 @@
 //! ```
 //!
 //! A session starts with [`Record::zeros`] or [`Record::graph`] and goes on by [`gate`], [`cz`] and
-//! [`measure`], or [`observe`] with a bit by lot; [`Record::renew`] puts a new photon at a measured
-//! qubit. CNOT is a Hadamard at the target, CZ, and a Hadamard at the target:
+//! [`measure`], or [`observe`] with a bit by lot; [`Record::measure_row`] measures a Pauli row of any
+//! weight, and [`Record::renew`] puts a new photon at a measured qubit. CNOT is a Hadamard at the target, CZ, and a Hadamard at the target:
 //!
 //! ```
 //! use sukhlent::{codes, cz, gate, Record};
@@ -54,6 +54,7 @@ mod image;
 mod in_place;
 mod list;
 mod orbit;
+mod parity;
 mod product;
 pub mod raw;
 mod record;

@@ -117,6 +117,20 @@ mod calls {
             determined: *mut u8,
         ) -> u8;
 
+        pub fn sukhlent_measure_row(
+            n: u64,
+            neighbours: *mut u64,
+            neighbours_len: u64,
+            codes: *mut u8,
+            codes_len: u64,
+            used: u64,
+            z: u64,
+            x: u64,
+            bit: u8,
+            answer: *mut u8,
+            determined: *mut u8,
+        ) -> u8;
+
         pub fn sukhlent_renew(
             n: u64,
             neighbours: *mut u64,
@@ -650,6 +664,51 @@ pub fn observe(
             used,
             pauli,
             qubit,
+            bit,
+            answer,
+            determined,
+        )
+    }
+}
+
+/// Measures a Pauli row of any weight, sign plus, with a bit by lot; no qubit is used up.
+///
+/// ```
+/// use sukhlent::raw;
+///
+/// // The parity ZZ of two photons in +X: by lot, and then it is determined.
+/// let (mut neighbours, mut codes) = ([0, 0], [0, 0]);
+/// let (mut answer, mut determined) = (9, 9);
+/// let number = raw::measure_row(
+///     2, &mut neighbours, &mut codes, 0, 0b11, 0b00, 1, &mut answer, &mut determined,
+/// );
+/// assert_eq!((number, answer, determined), (0, 1, 0));
+/// assert_eq!((neighbours, codes), ([2, 1], [0, 10]));
+/// raw::measure_row(2, &mut neighbours, &mut codes, 0, 0b11, 0b00, 0, &mut answer, &mut determined);
+/// assert_eq!((answer, determined), (1, 1));
+/// ```
+#[allow(clippy::too_many_arguments)]
+pub fn measure_row(
+    n: u64,
+    neighbours: &mut [u64],
+    codes: &mut [u8],
+    used: u64,
+    z: u64,
+    x: u64,
+    bit: u8,
+    answer: &mut u8,
+    determined: &mut u8,
+) -> u8 {
+    unsafe {
+        calls::sukhlent_measure_row(
+            n,
+            neighbours.as_mut_ptr(),
+            neighbours.len() as u64,
+            codes.as_mut_ptr(),
+            codes.len() as u64,
+            used,
+            z,
+            x,
             bit,
             answer,
             determined,

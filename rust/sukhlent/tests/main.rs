@@ -34,6 +34,7 @@ mod list_refusals;
 mod orbit_refusals;
 mod orbits;
 mod pair_refusals;
+mod parities;
 mod pivot_steps;
 mod plots;
 mod product_refusals;

@@ -22,6 +22,9 @@ mod orbits;
 #[path = "../examples/recipes.rs"]
 #[allow(dead_code)]
 mod recipes;
+#[path = "../examples/parity.rs"]
+#[allow(dead_code)]
+mod parity;
 #[path = "../examples/ring.rs"]
 #[allow(dead_code)]
 mod ring;
@@ -52,6 +55,13 @@ fn session_prints_what_the_session_in_c_prints() {
     let mut text = String::new();
     session::session(&mut text).unwrap();
     assert_eq!(text, include_str!("../../../examples/c/session.out"));
+}
+
+#[test]
+fn parity_prints_what_parity_in_c_prints() {
+    let mut text = String::new();
+    parity::show(&mut text).unwrap();
+    assert_eq!(text, include_str!("../../../examples/c/parity.out"));
 }
 
 #[test]

@@ -68,6 +68,15 @@ const CALLS: [Measured; 38] = [
             raw::observe(n, words, codes, used, 3, 0, 1, &mut answer, &mut determined)
         })
     }),
+    ("measure_row", 64, |random, n| {
+        let (mut answer, mut determined) = (0, 0);
+        let told = (&mut answer, &mut determined);
+        let (z, x) = (random.word(), random.word());
+        in_place(random, n, |n, words, codes, used| {
+            let kept = !*used;
+            raw::measure_row(n, words, codes, *used, z & kept, x & kept, 1, told.0, told.1)
+        })
+    }),
     ("renew", 64, |random, n| {
         in_place(random, n, |n, words, codes, used| {
             raw::renew(n, words, codes, used, 63, 0)

@@ -6,6 +6,7 @@ mod in_place;
 mod lists;
 mod orbits;
 mod pairs;
+mod parity;
 mod records;
 mod runs;
 mod source;
@@ -24,7 +25,7 @@ pub struct Call {
 }
 
 /// Every public call.
-pub const CALLS: [Call; 35] = [
+pub const CALLS: [Call; 36] = [
     Call {
         name: "check",
         once: lists::check,
@@ -52,6 +53,10 @@ pub const CALLS: [Call; 35] = [
     Call {
         name: "observe",
         once: source::observe,
+    },
+    Call {
+        name: "measure_row",
+        once: parity::measure_row,
     },
     Call {
         name: "renew",

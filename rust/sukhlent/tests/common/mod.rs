@@ -16,6 +16,7 @@ pub mod local;
 pub mod operation;
 pub mod orbit;
 pub mod pairs;
+pub mod parity;
 pub mod process;
 pub mod product;
 pub mod reading;
