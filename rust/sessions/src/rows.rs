@@ -86,8 +86,17 @@ impl Run {
 
     fn gate(&mut self, q: usize) -> Result<(), String> {
         let (code, used) = (self.random.below(24) as u8, self.record.used);
-        let Record { neighbours, codes, .. } = &mut self.record;
-        let number = raw::gate(neighbours.len() as u64, neighbours, codes, used, q as u64, code);
+        let Record {
+            neighbours, codes, ..
+        } = &mut self.record;
+        let number = raw::gate(
+            neighbours.len() as u64,
+            neighbours,
+            codes,
+            used,
+            q as u64,
+            code,
+        );
         self.tableau.gate(q, code);
         self.counts.gates += 1;
         same("the number of a gate", number, 0).and_then(|()| self.compare())
@@ -95,8 +104,17 @@ impl Run {
 
     fn cz(&mut self, a: usize, b: usize) -> Result<(), String> {
         let used = self.record.used;
-        let Record { neighbours, codes, .. } = &mut self.record;
-        let number = raw::cz(neighbours.len() as u64, neighbours, codes, used, a as u64, b as u64);
+        let Record {
+            neighbours, codes, ..
+        } = &mut self.record;
+        let number = raw::cz(
+            neighbours.len() as u64,
+            neighbours,
+            codes,
+            used,
+            a as u64,
+            b as u64,
+        );
         self.tableau.cz(a, b);
         self.counts.czs += 1;
         same("the number of a CZ", number, 0).and_then(|()| self.compare())
@@ -104,22 +122,33 @@ impl Run {
 
     fn observe(&mut self, q: usize) -> Result<(), String> {
         let (pauli, bit) = (1 + self.random.below(3) as u8, self.random.below(2) as u8);
-        let Record { neighbours, codes, used } = &mut self.record;
+        let Record {
+            neighbours,
+            codes,
+            used,
+        } = &mut self.record;
         let (mut answer, mut determined) = (9, 9);
         let answers = (&mut answer, &mut determined);
         let n = neighbours.len() as u64;
-        let number = raw::observe(n, neighbours, codes, used, pauli, q as u64, bit, answers.0, answers.1);
+        let number = raw::observe(
+            n, neighbours, codes, used, pauli, q as u64, bit, answers.0, answers.1,
+        );
         let due = self.tableau.measure_row(&Row::single(pauli, q), bit);
         self.counts.observed += 1;
         let due = (0, due.outcome, u8::from(due.determined));
-        same("the answer at a qubit", (number, answer, determined), due).and_then(|()| self.compare())
+        same("the answer at a qubit", (number, answer, determined), due)
+            .and_then(|()| self.compare())
     }
 
     /// A row of few letters or many, every third one of the group.
     fn words(&mut self) -> (u64, u64) {
         let random = &mut self.random;
         let all = u64::MAX >> (64 - self.record.n());
-        let kept = if random.below(8) == 0 { all } else { all & !self.record.used };
+        let kept = if random.below(8) == 0 {
+            all
+        } else {
+            all & !self.record.used
+        };
         let (mut z, mut x) = (random.word(), random.word());
         for _ in 0..random.below(6) {
             let few = random.word();
@@ -129,7 +158,9 @@ impl Run {
             let chosen = random.word();
             let named = |j: &usize| chosen >> j & 1 == 1;
             let rows = self.tableau.generators();
-            (z, x) = (0..rows.len()).filter(named).fold((0, 0), |(z, x), j| (z ^ rows[j].z, x ^ rows[j].x));
+            (z, x) = (0..rows.len())
+                .filter(named)
+                .fold((0, 0), |(z, x), j| (z ^ rows[j].z, x ^ rows[j].x));
         }
         (z & kept, x & kept)
     }
@@ -139,9 +170,21 @@ impl Run {
         let ((z, x), bit) = (self.words(), self.random.below(2) as u8);
         let (before, used) = (self.record.clone(), self.record.used);
         let (mut answer, mut determined, mut value) = (9, 9, 9);
-        let Record { neighbours, codes, .. } = &mut self.record;
+        let Record {
+            neighbours, codes, ..
+        } = &mut self.record;
         let n = neighbours.len() as u64;
-        let number = raw::measure_row(n, neighbours, codes, used, z, x, bit, &mut answer, &mut determined);
+        let number = raw::measure_row(
+            n,
+            neighbours,
+            codes,
+            used,
+            z,
+            x,
+            bit,
+            &mut answer,
+            &mut determined,
+        );
         let told = |e: String| format!("z {z:x}, x {x:x}, bit {bit} on {before:?}: {e}");
         if used & (z | x) != 0 {
             self.counts.used += 1;
@@ -150,7 +193,12 @@ impl Run {
         }
         let due = self.tableau.measure_row(&Row::letters(z, x), bit);
         same("the number", number, 0).map_err(told)?;
-        same("the answer", (answer, determined), (due.outcome, u8::from(due.determined))).map_err(told)?;
+        same(
+            "the answer",
+            (answer, determined),
+            (due.outcome, u8::from(due.determined)),
+        )
+        .map_err(told)?;
         raw::expectation(n, neighbours, codes, used, z, x, &mut value);
         same("the value afterwards", value, answer).map_err(told)?;
         self.count(due.determined, answer != bit, (z | x).count_ones());

@@ -71,9 +71,19 @@ fn rows_of_any_weight() {
     let counts = rows(64, 1, 200_000).unwrap_or_else(|difference| panic!("{difference}"));
     let made = [counts.gates, counts.czs, counts.observed, counts.used];
     let measured = [counts.chosen, counts.determined];
-    assert_eq!([&made[..], &measured].concat().iter().sum::<u64>(), 200_000, "{counts}");
-    assert!(made.iter().all(|&times| times > 7) && measured.iter().all(|&times| times > 20_000), "{counts}");
-    assert!(counts.other_bits > 10_000 && counts.most_letters > 50, "{counts}");
+    assert_eq!(
+        [&made[..], &measured].concat().iter().sum::<u64>(),
+        200_000,
+        "{counts}"
+    );
+    assert!(
+        made.iter().all(|&times| times > 7) && measured.iter().all(|&times| times > 20_000),
+        "{counts}"
+    );
+    assert!(
+        counts.other_bits > 10_000 && counts.most_letters > 50,
+        "{counts}"
+    );
     for n in 1..=64 {
         rows(n, n as u64, 300).unwrap_or_else(|difference| panic!("{difference}"));
     }

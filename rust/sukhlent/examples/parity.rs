@@ -39,7 +39,11 @@ pub fn show(out: &mut impl Write) -> Result<(), Box<dyn Error>> {
             let mut record = word.clone();
             gate(&mut record, q, code)?;
             let (outcomes, _) = measured(&mut record)?;
-            write!(out, "{letter}{q} {outcomes}{}", if q < 4 { ' ' } else { '\n' })?;
+            write!(
+                out,
+                "{letter}{q} {outcomes}{}",
+                if q < 4 { ' ' } else { '\n' }
+            )?;
         }
     }
     Ok(())

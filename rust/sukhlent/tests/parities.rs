@@ -7,29 +7,45 @@ use crate::common::vectors::state_of;
 use crate::common::{random_record, random_used_record, Random, RecordCall};
 use simulator::{Row, State};
 use std::collections::BTreeMap;
-use sukhlent::{cz, expand, gate, reduce, Measured, Record};
+use sukhlent::{cut, cz, expand, gate, reduce, Measured, Record};
 
 /// The vector of a record is that of the state before, projected onto the outcome of the row.
 fn assert_projected(before: &State, call: &RecordCall<Joint>) -> bool {
     let Joint { z, x, bit } = call.with;
-    let (record, found) = call.measure_row().unwrap_or_else(|number| panic!("{number}: {call:?}"));
+    let (record, found) = call
+        .measure_row()
+        .unwrap_or_else(|number| panic!("{number}: {call:?}"));
     let row = Row::new(0, z, x);
-    let due = before.project(&row, found.outcome).expect("an outcome that can be");
+    let due = before
+        .project(&row, found.outcome)
+        .expect("an outcome that can be");
     let after = state_of(&record);
-    assert!((after.overlap(&due) - 1.0).abs() < 1e-9, "{call:?}: {found:?}");
+    assert!(
+        (after.overlap(&due) - 1.0).abs() < 1e-9,
+        "{call:?}: {found:?}"
+    );
     let chance = before.probability(&row, found.outcome);
     let certain = if found.determined { 1.0 } else { 0.5 };
     assert!((chance - certain).abs() < 1e-9, "{call:?}: {found:?}");
-    assert!(found.determined || found.outcome == bit, "{call:?}: {found:?}");
+    assert!(
+        found.determined || found.outcome == bit,
+        "{call:?}: {found:?}"
+    );
     assert_eq!(record.used, call.used);
-    assert_eq!(reduce(&expand(&record).unwrap()).unwrap().codes, record.codes);
+    assert_eq!(
+        reduce(&expand(&record).unwrap()).unwrap().codes,
+        record.codes
+    );
     found.determined
 }
 
 #[test]
 fn every_row_on_every_record_of_two_qubits() {
     let (mut determined, mut chosen) = (0, 0);
-    for (graph, codes) in [[0, 0], [2, 1]].iter().flat_map(|g| (0..24 * 24).map(move |c| (g, c))) {
+    for (graph, codes) in [[0, 0], [2, 1]]
+        .iter()
+        .flat_map(|g| (0..24 * 24).map(move |c| (g, c)))
+    {
         let record = Record {
             neighbours: graph.to_vec(),
             codes: vec![(codes % 24) as u8, (codes / 24) as u8],
@@ -37,7 +53,11 @@ fn every_row_on_every_record_of_two_qubits() {
         };
         let before = state_of(&record);
         for (row, bit) in (0..16).flat_map(|row| [(row, 0), (row, 1)]) {
-            let with = Joint { z: row >> 2, x: row & 3, bit };
+            let with = Joint {
+                z: row >> 2,
+                x: row & 3,
+                bit,
+            };
             match assert_projected(&before, &RecordCall::with(&record, with)) {
                 true => determined += 1,
                 false => chosen += 1,
@@ -61,8 +81,15 @@ fn seeded_rows_on_up_to_eight_qubits() {
             let j = random.below(n);
             (z, x) = (list.z[j], list.x[j]);
         }
-        let with = Joint { z, x, bit: random.below(2) as u8 };
-        determined += usize::from(assert_projected(&state_of(&record), &RecordCall::with(&record, with)));
+        let with = Joint {
+            z,
+            x,
+            bit: random.below(2) as u8,
+        };
+        determined += usize::from(assert_projected(
+            &state_of(&record),
+            &RecordCall::with(&record, with),
+        ));
     }
     assert!((1_000..3_000).contains(&determined), "{determined}");
 }
@@ -73,14 +100,26 @@ fn a_single_letter_is_observed() {
     for _ in 0..20_000 {
         let n = 1 + random.below(12);
         let record = random_used_record(&mut random, n);
-        let (pauli, q, bit) = (1 + random.below(3) as u8, random.below(n), random.below(2) as u8);
+        let (pauli, q, bit) = (
+            1 + random.below(3) as u8,
+            random.below(n),
+            random.below(2) as u8,
+        );
         let letter = |at: [u8; 2]| u64::from(at.contains(&pauli)) << q;
-        let with = Joint { z: letter([2, 3]), x: letter([1, 2]), bit };
+        let with = Joint {
+            z: letter([2, 3]),
+            x: letter([1, 2]),
+            bit,
+        };
         let row = RecordCall::with(&record, with).measure_row();
-        let observed = RecordCall::with(&record, Source::Observe(pauli, q as u64, bit)).apply_source();
+        let observed =
+            RecordCall::with(&record, Source::Observe(pauli, q as u64, bit)).apply_source();
         match (row, observed) {
             (Ok((left, found)), Ok((due, answer))) => {
-                assert_eq!((&left.neighbours, &left.codes), (&due.neighbours, &due.codes));
+                assert_eq!(
+                    (&left.neighbours, &left.codes),
+                    (&due.neighbours, &due.codes)
+                );
                 assert_eq!((Some(found), left.used), (answer, record.used));
             }
             (row, observed) => assert_eq!(row.err(), observed.err()),
@@ -126,7 +165,10 @@ fn the_identity_row_is_determined() {
         let record = random_record(&mut random, n);
         for bit in 0..2 {
             let call = RecordCall::with(&record, Joint { z: 0, x: 0, bit });
-            let due = Measured { outcome: 0, determined: true };
+            let due = Measured {
+                outcome: 0,
+                determined: true,
+            };
             let (left, found) = call.measure_row().unwrap();
             assert_eq!(found, due);
             assert_eq!(left, reduce(&expand(&record).unwrap()).unwrap());
@@ -155,7 +197,10 @@ fn syndrome(record: &mut Record, rows: &[&str]) -> Vec<u8> {
         let (z, x) = row(text);
         record.measure_row(z, x, 1).unwrap()
     });
-    found.inspect(|m| assert!(m.determined)).map(|m| m.outcome).collect()
+    found
+        .inspect(|m| assert!(m.determined))
+        .map(|m| m.outcome)
+        .collect()
 }
 
 /// Every error of one letter has a syndrome of its own, and it is that of commutation.
@@ -167,7 +212,10 @@ fn assert_corrects(rows: &[&str]) -> BTreeMap<Vec<u8>, (usize, u8)> {
         let mut record = clean.clone();
         gate(&mut record, q, error_code(error)).unwrap();
         let clashes = |text: &&str| {
-            let letter = b"IXYZ".iter().position(|l| *l == text.as_bytes()[q]).unwrap() as u8;
+            let letter = b"IXYZ"
+                .iter()
+                .position(|l| *l == text.as_bytes()[q])
+                .unwrap() as u8;
             u8::from(letter != 0 && letter != error)
         };
         let due: Vec<u8> = rows.iter().map(clashes).collect();
@@ -191,7 +239,9 @@ fn the_five_qubit_code_tells_fifteen_errors_apart() {
 
 #[test]
 fn steanes_code_tells_x_and_z_errors_apart() {
-    let rows = ["IIIZZZZ", "IZZIIZZ", "ZIZIZIZ", "IIIXXXX", "IXXIIXX", "XIXIXIX"];
+    let rows = [
+        "IIIZZZZ", "IZZIIZZ", "ZIZIZIZ", "IIIXXXX", "IXXIIXX", "XIXIXIX",
+    ];
     let table = assert_corrects(&rows);
     assert_eq!(table.len(), 21);
 }
@@ -206,15 +256,19 @@ fn a_fusion_of_two_linear_clusters() {
             codes: vec![0; 6],
             used: 0,
         };
-        let rows = if fail { ["IIZIII", "IIIZII"] } else { ["IIXZII", "IIZXII"] };
+        let rows = if fail {
+            ["IIZIII", "IIIZII"]
+        } else {
+            ["IIXZII", "IIZXII"]
+        };
         for (z, x) in rows.map(row) {
             assert!(!record.measure_row(z, x, 0).unwrap().determined);
         }
         record
     };
     let side = 0b000011 | 0b000100;
-    assert_eq!(both(false).cut(side).unwrap(), 2);
-    assert_eq!(both(true).cut(side).unwrap(), 0);
+    assert_eq!(cut(&both(false), side).unwrap(), 2);
+    assert_eq!(cut(&both(true), side).unwrap(), 0);
     // The photons that are left: 0-1-4-5, a linear cluster again.
     for text in ["XZIIII", "ZXIIZI", "IZIIXZ", "IIIIZX"] {
         let (z, x) = row(text);
@@ -228,22 +282,36 @@ fn a_parity_check_repeated_and_by_a_helper() {
     for _ in 0..200 {
         let n = 2 + random.below(6);
         let mut record = random_record(&mut random, n + 1);
-        record.neighbours.iter_mut().for_each(|word| *word &= !(1 << n));
+        record
+            .neighbours
+            .iter_mut()
+            .for_each(|word| *word &= !(1 << n));
         (record.neighbours[n], record.codes[n]) = (0, 8);
         let mask = random.word() >> (64 - n);
         let bit = random.below(2) as u8;
         let mut joint = record.clone();
         let first = joint.measure_row(mask, 0, bit).unwrap();
         let again = joint.measure_row(mask, 0, 1 - first.outcome).unwrap();
-        assert_eq!(again, Measured { outcome: first.outcome, determined: true });
+        assert_eq!(
+            again,
+            Measured {
+                outcome: first.outcome,
+                determined: true
+            }
+        );
         // A helper in +X, a CZ to each qubit of the parity, and X of the helper.
         gate(&mut record, n, sukhlent::codes::H).unwrap();
-        (0..n).filter(|q| mask >> q & 1 == 1).for_each(|q| cz(&mut record, n, q).unwrap());
+        (0..n)
+            .filter(|q| mask >> q & 1 == 1)
+            .for_each(|q| cz(&mut record, n, q).unwrap());
         let helper = sukhlent::observe(&mut record, sukhlent::Pauli::X, n, bit).unwrap();
         assert_eq!(helper, first);
         for _ in 0..20 {
             let [z, x] = [0, 1].map(|_| random.word() >> (64 - n));
-            assert_eq!(record.expectation(z, x).unwrap(), joint.expectation(z, x).unwrap());
+            assert_eq!(
+                record.expectation(z, x).unwrap(),
+                joint.expectation(z, x).unwrap()
+            );
         }
     }
 }

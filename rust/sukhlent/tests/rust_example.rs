@@ -19,12 +19,12 @@ mod generate;
 #[path = "../examples/orbits.rs"]
 #[allow(dead_code)]
 mod orbits;
-#[path = "../examples/recipes.rs"]
-#[allow(dead_code)]
-mod recipes;
 #[path = "../examples/parity.rs"]
 #[allow(dead_code)]
 mod parity;
+#[path = "../examples/recipes.rs"]
+#[allow(dead_code)]
+mod recipes;
 #[path = "../examples/ring.rs"]
 #[allow(dead_code)]
 mod ring;

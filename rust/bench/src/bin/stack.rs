@@ -74,7 +74,17 @@ const CALLS: [Measured; 38] = [
         let (z, x) = (random.word(), random.word());
         in_place(random, n, |n, words, codes, used| {
             let kept = !*used;
-            raw::measure_row(n, words, codes, *used, z & kept, x & kept, 1, told.0, told.1)
+            raw::measure_row(
+                n,
+                words,
+                codes,
+                *used,
+                z & kept,
+                x & kept,
+                1,
+                told.0,
+                told.1,
+            )
         })
     }),
     ("renew", 64, |random, n| {

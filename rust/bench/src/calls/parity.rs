@@ -34,7 +34,11 @@ fn cases(n: usize) -> Vec<Case> {
     };
     let cases: Vec<Case> = (0..RECORDS).map(one).collect();
     for case in &cases {
-        assert_eq!(measured(raw::measure_row, case), measured(plain::measure_row, case), "{case:?}");
+        assert_eq!(
+            measured(raw::measure_row, case),
+            measured(plain::measure_row, case),
+            "{case:?}"
+        );
     }
     cases
 }
@@ -60,7 +64,11 @@ fn measured(call: MeasureRow, (record, z, x): &Case) -> (u8, u8, u8, Record) {
     let (mut record, mut answer, mut determined) = (record.clone(), 9, 9);
     let told = (&mut answer, &mut determined);
     let n = record.n() as u64;
-    let Record { neighbours, codes, used } = &mut record;
+    let Record {
+        neighbours,
+        codes,
+        used,
+    } = &mut record;
     let number = call(n, neighbours, codes, *used, *z, *x, 1, told.0, told.1);
     (number, answer, determined, record)
 }

@@ -24,7 +24,11 @@ pub fn measure_row(
 ) -> u8 {
     let refusal = refusals::of_used_record(n, neighbours, codes, used, z | x, &[]);
     if refusal != 0 || bit > 1 || used & (z | x) != 0 {
-        return if refusal != 0 { refusal } else { 6 + 10 * u8::from(bit < 2) };
+        return if refusal != 0 {
+            refusal
+        } else {
+            6 + 10 * u8::from(bit < 2)
+        };
     }
     let mut value = 2;
     super::expectation(n, neighbours, codes, used, z, x, &mut value);

@@ -1,8 +1,9 @@
 //! The measurement of a Pauli row.
 
 use crate::arguments::{row_call, size};
-use crate::common::reference::{reduced, row_value};
+use crate::common::reference::{expanded, reduced, row_value};
 use crate::common::{Random, RecordCall};
+use sukhlent::Record;
 
 /// The answer is the value of the row before, or the bit; afterwards it is the row's value, and the record is reduced.
 pub fn measure_row(random: &mut Random) -> u8 {
@@ -18,7 +19,12 @@ pub fn measure_row(random: &mut Random) -> u8 {
         assert_eq!(found.outcome, due, "{call:?}");
         let value = RecordCall::row_of(&after, call.with.z, call.with.x).expectation();
         assert_eq!(value, Ok(due), "{call:?}");
-        assert_eq!(reduced(&after), after, "{call:?}");
+        let list = expanded(&after);
+        let due = Record {
+            used: after.used,
+            ..reduced(&list)
+        };
+        assert_eq!(after, due, "{call:?}");
     }
     number
 }
