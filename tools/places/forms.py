@@ -5,8 +5,8 @@ import re
 from .calls import lines_of, parameters
 
 REDUCING = ["reduce", "measure_row", "compare", "equivalent", "program reduce", "program amplitudes"]
-COMPOSING = ["gate", "cz", "measure", "measure_row", "complement", "image", "compare", "compare_records", "run", "amplitude", "reduce",
-             "group_gate", "group_cz", "group_measure", "group_complement",
+COMPOSING = ["gate", "cz", "measure", "measure_row", "complement", "image", "compare", "compare_records", "run",
+             "amplitude", "reduce", "group_gate", "group_cz", "group_measure", "group_complement",
              "program reduce", "program job", "program amplitudes"]
 ROWS = "[ [ u64 ; 2 ] ; 64 ]"
 ARITHMETIC = {"+", "-", "*", "/", "%", "^", "|", "<<", ">>"}
