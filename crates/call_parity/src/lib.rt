@@ -5,6 +5,7 @@ use operations_checks::used_refusal;
 use parity_impl::measure_row_record;
 ghost use Rattle.buffers.specs.Calls.{Call};
 ghost use Rattle.calls.specs.Parities.{measureRowCall};
+ghost use Rattle.operations.specs.Used.{usedRecord};
 
 // The row of two words measured, sign plus, with a bit by lot: the outcome is the bit only where the state does not
 // determine it. The reduced record; no qubit is used up.
@@ -19,10 +20,8 @@ pub fn measure_row(
     answer: &mut u8,
     determined: &mut u8,
 ) -> u8
-    ensures { λ r. ⌜ Call (measureRowCall (record {
-      held = record { n = n; neighbours = now (neighbours .entry); codes = now (codes .entry) };
-      used = used;
-    }) z x bit (now (answer .entry)) (now (determined .entry))
+    ensures { λ r. ⌜ Call (measureRowCall (usedRecord n (now (neighbours .entry)) (now (codes .entry)) used) z x bit
+        (now (answer .entry)) (now (determined .entry))
         (now (neighbours .exit)) (now (codes .exit)) (now (answer .exit)) (now (determined .exit))) r ⌝ }
 {
     let row = z | x;

@@ -15,5 +15,5 @@ pub mod PlotLines
 pub mod RunLines
 pub mod ImageLeft
 pub mod SourceCalls
-pub mod GroupSourceCalls
+pub mod PartySourceCalls
 pub mod ParityCalls

@@ -17,7 +17,7 @@ use Rattle.operations.specs.declared.Outcome.{Outcome}
 use Rattle.parity.proofs.RowPassing.{RowReady, acts-by-word, row-accepted, row-early, row-ready}
 use Rattle.parity.specs.RowLines.{measureRowLines, rowArguments}
 use Rattle.parity.specs.internal.InPlace.{RowInPlace}
-use Rattle.record.specs.Lent.{LentRecord, codeNumbers, neighbourWords}
+use Rattle.record.specs.Lent.{codeNumbers, LentRecord, lentRecord, neighbourWords}
 use Rattle.words.specs.Bits.{isOdd}
 use Rattle.calls.specs.Parities.{measureRowCall, rowAnswer, rowRecord}
 
@@ -60,7 +60,7 @@ module _ (u : UsedRecord) (z x b : ℕ) {k : ℕ}
           )
         where
           at : ℕ → LentRecord
-          at m = record { n = m; neighbours = u .held .neighbours; codes = u .held .codes }
+          at m = lentRecord m (u .held .neighbours) (u .held .codes)
 
           long : length (u .held .neighbours) ≡ u .held .n
           long = row-fits .held .neighbours-length

@@ -22,7 +22,8 @@ abbrev pub rowRecord : LentRecord → ℕ → ℕ → ℕ → GraphRecord
 rowRecord l z x b = reduced (l .n) (rowMeasured (l .n) (heldRows l) z x (isOdd b))
 
 -- ---- sukhlent_measure_row: "the Pauli row (z, x), sign plus, of any weight"; "the used word is only read"
-abbrev pub measureRowCall : UsedRecord → ℕ → ℕ → ℕ → ℕ → ℕ → List ℕ → List ℕ → ℕ → ℕ → Contract
+abbrev pub measureRowCall : (u : UsedRecord) (z x b answer determined : ℕ) (neighbours′ codes′ : List ℕ)
+    (answer′ determined′ : ℕ) → Contract
 measureRowCall u z x b answer determined neighbours′ codes′ answer′ determined′ =
     contractOf (measureRowLines u z x b)
     (number answer (outcomeNumber (rowAnswer (u .held) z x b)) answer′

@@ -1,6 +1,7 @@
 // The measurement of a Pauli row of any weight, as C sees it.
 ghost use Rattle.calls.specs.Parities.{measureRowCall};
 ghost use Rattle.buffers.specs.Calls.{Call};
+ghost use Rattle.operations.specs.Used.{usedRecord};
 
 // A Pauli row measured, with a bit by lot: the outcome, whether it was determined, and the reduced record.
 #[no_mangle]
@@ -16,10 +17,7 @@ pub extern "C" fn sukhlent_measure_row(
     determined: &mut u8,
 ) -> u8
     ensures { λ r. ⌜ Call (measureRowCall
-        (record {
-          held = record { n = n; neighbours = now (neighbours .entry); codes = now (codes .entry) };
-          used = used;
-        })
+        (usedRecord n (now (neighbours .entry)) (now (codes .entry)) used)
         z x bit (now (answer .entry)) (now (determined .entry))
         (now (neighbours .exit)) (now (codes .exit)) (now (answer .exit)) (now (determined .exit))) r ⌝ }
 {

@@ -9,7 +9,7 @@ use borrow.Author.Tests.{eq-eqb, ne-eqb}
 use Rattle.buffers.proofs.Calling.{refused}
 use Rattle.calls.proofs.ParityCalls.{row-16, row-done, row-fits, row-refused}
 use Rattle.operations.proofs.UnrefusedRecords.{accepted-unrefused}
-use Rattle.operations.specs.Used.{UsedRecord}
+use Rattle.operations.specs.Used.{UsedRecord, usedRecord}
 use Rattle.parity.proofs.RowPassing.{RowReady}
 use Rattle.call_parity.proofs.measure_row.Statement.{statement}
 use Rattle.call_parity.proofs.measure_row.Tie as tie
@@ -17,10 +17,7 @@ use Rattle.call_parity.proofs.measure_row.Tie as tie
 -- the record that is lent
 abbrev lent : tie.Start → UsedRecord
 lent S =
-    record {
-      held = record { n = S .args .n; neighbours = S .args .neighbours .now; codes = S .args .codes .now };
-      used = S .args .used;
-    }
+    usedRecord (S .args .n) (S .args .neighbours .now) (S .args .codes .now) (S .args .used)
 
 abbrev at : tie.After-used-refusal → tie.Start
 at E = E .before .before .before .before .before

@@ -1,6 +1,7 @@
 // The measurement of a Pauli row: what is said of it.
 use crate::parity::sukhlent_measure_row;
 ghost use Rattle.claims_parity.specs.Parities.{MeasureRowSays};
+ghost use Rattle.operations.specs.Used.{usedRecord};
 
 pub fn measure_row_says(
     n: u64,
@@ -14,10 +15,7 @@ pub fn measure_row_says(
     determined: &mut u8,
 ) -> u8
     ensures { λ r. ⌜ MeasureRowSays
-        (record {
-          held = record { n = n; neighbours = now (neighbours .entry); codes = now (codes .entry) };
-          used = used;
-        })
+        (usedRecord n (now (neighbours .entry)) (now (codes .entry)) used)
         z x bit (now (answer .entry)) (now (determined .entry))
         (now (neighbours .exit)) (now (codes .exit)) (now (answer .exit)) (now (determined .exit)) r ⌝ }
 {
