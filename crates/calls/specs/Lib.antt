@@ -10,6 +10,7 @@ pub mod Amplitudes
 pub mod Expectations
 pub mod Comparisons
 pub mod RecordComparisons
+pub mod RecordTexts
 pub mod Equivalences
 pub mod Generation
 pub mod Orbits

@@ -34,7 +34,8 @@ use Rattle.jobs.specs.declared.scan.Field.the-variants.{N, A, B, Value}
 use Rattle.jobs.specs.declared.scan.Place.{Place}
 use Rattle.jobs.specs.declared.scan.Place.the-variants.{Head, Word, First, More, Broken}
 use Rattle.jobs.specs.declared.scan.Scan.{Scan}
-use Rattle.jobs.proofs.Digits.{digit-value, one-place, digits-push}
+use Rattle.text.proofs.NumeralLaws.{one-place}
+use Rattle.jobs.proofs.Digits.{digit-value, digits-push}
 use Rattle.jobs.proofs.OpLaws.{letter-at, space-last, same-start}
 use Rattle.jobs.proofs.Steps.{job-none, job-more, fit-more}
 use Rattle.jobs.proofs.Sofar.{Upto, aPart, bPart, valuePart, Before, Inside, AtHead, AtWord, Sofar}

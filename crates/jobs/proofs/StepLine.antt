@@ -8,9 +8,9 @@ use borrow.Author.Tests.{lt-ltb, ltb-true, ltb-false}
 use Rattle.jobs.specs.declared.Op.{Op}
 use Rattle.jobs.specs.declared.Op.the-variants.{Gate, Cz, Measure, Complement, Pivot}
 use Rattle.jobs.specs.declared.Step.{Step}
-use Rattle.text.specs.Text.{space}
+use Rattle.text.specs.Text.{digits, space}
 use Rattle.words.proofs.Flags.{by-test}
-use Rattle.jobs.specs.Text.{digits, field, opWord, Fits, stepText}
+use Rattle.jobs.specs.Text.{field, opWord, Fits, stepText}
 use Rattle.text.proofs.Feeding.{fed-append, fed-one}
 use Rattle.text.specs.internal.Feeding.{fedBytes}
 use Rattle.jobs.specs.internal.Scan.{digitValue, firstOp, firstStep, moreStep, oneMore, opFor, Reading, scanByte, wordStep}
@@ -20,7 +20,8 @@ use Rattle.jobs.specs.declared.scan.Field.the-variants.{A, B, Value}
 use Rattle.jobs.specs.declared.scan.Place.{Place}
 use Rattle.jobs.specs.declared.scan.Place.the-variants.{Word, First, More}
 use Rattle.jobs.specs.declared.scan.Scan.{Scan}
-use Rattle.jobs.proofs.Digits.{value-digit, fewer-digits}
+use Rattle.text.proofs.NumeralLaws.{fewer-digits}
+use Rattle.jobs.proofs.Digits.{value-digit}
 use Rattle.jobs.proofs.OneByte.{feed-keeps, quiet-fed}
 
 -- a scan at the place p

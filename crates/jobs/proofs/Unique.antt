@@ -13,7 +13,7 @@ use Rattle.text.specs.Text.{space, newline}
 use Rattle.jobs.specs.Text.{field, opWord, Fits, AllFit, stepText, stepsText, qubitsLine, stepNames}
 use Rattle.jobs.specs.Text.{jobHead, jobText, JobTextOf}
 use Rattle.jobs.specs.internal.Scan.{firstOp, opFor}
-use Rattle.jobs.proofs.Digits.{digits-back}
+use Rattle.text.proofs.NumeralLaws.{digits-back}
 use Rattle.jobs.proofs.OpLaws.{op-without}
 use Rattle.jobs.proofs.Separators.{parts-at, digits-without}
 

@@ -1,18 +1,11 @@
 -- The text of a job, as a list of bytes: 10 ends a line, 32 is the space, 48 the digit 0, 97 the letter a.
 use mathlib.Core.Path.{_≡_}
-use mathlib.Core.Bool.{cond}
 use mathlib.Core.List.{List, [], _∷_, _++_}
-use Prim.Native.Nat.{ℕ, zero, suc, _+_, _/_, _%_, _<_}
-use lib.Dec.{ltb}
+use Prim.Native.Nat.{ℕ, _<_}
 use Rattle.jobs.specs.declared.Op.{Op}
 use Rattle.jobs.specs.declared.Op.the-variants.{Gate, Cz, Measure, Complement, Pivot}
 use Rattle.jobs.specs.declared.Step.{Step}
-use Rattle.text.specs.Text.{space, newline}
-
--- a number's decimal digits, at most k of them, with no leading zero
-unfoldable pub digits : ℕ → ℕ → List ℕ
-digits zero v = []
-digits (suc k) v = cond (ltb v 10) ((48 + v) ∷ []) (digits k (v / 10) ++ (48 + v % 10) ∷ [])
+use Rattle.text.specs.Text.{digits, space, newline}
 
 -- "A field has one to three decimal digits and no leading zero"
 abbrev pub field : ℕ → List ℕ

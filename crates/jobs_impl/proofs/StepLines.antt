@@ -6,7 +6,7 @@ use native.Mathlib.Omega.{arith}
 use lib.Dec.{lit≤, ltb}
 use lib.ListN.{length, length-append, take}
 use Rattle.jobs.specs.internal.Shapes.{Small}
-use Rattle.jobs.proofs.Digits.{two-places}
+use Rattle.text.proofs.NumeralLaws.{two-places}
 use Rattle.jobs.specs.internal.Scan.{letters}
 use Rattle.jobs.specs.Text.{opWord, stepText}
 use Rattle.jobs.specs.declared.Op.{Op}
