@@ -1,1 +1,2 @@
-
+pub mod ReadCalls
+pub mod WriteCalls

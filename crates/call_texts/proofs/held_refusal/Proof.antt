@@ -1,42 +1,57 @@
+-- `held_refusal` meets its contract: the first of lines 2 to 7 that holds of the record in the first n of 64 places.
+use mathlib.Core.Path.{_∙_, sym}
+use lib.ListN.{take}
 use borrow.Author.Needs.{needs}
+use Rattle.buffers.proofs.Parts.{part-long}
+use Rattle.operations.specs.Used.{UsedRecord}
+use Rattle.operations_checks.proofs.UsedNumbers.{no-further}
+use Rattle.stabilizer.proofs.SharedTests.{counted}
+use Rattle.call_texts.proofs.ReadCalls.{two}
 use Rattle.call_texts.proofs.held_refusal.Statement.{statement}
 use Rattle.call_texts.proofs.held_refusal.Tie as tie
-use Rattle.call_texts.proofs.held_refusal.Reads as reads
-use Rattle.call_texts.proofs.held_refusal.Lts as lts
-use Rattle.buffers.proofs.bad_count.Reads as bad-count-reads
-use Rattle.operations_checks.proofs.used_refusal.Reads as used-refusal-reads
 
--- src/lib.rt:50:8
-bad-count-requires : tie.Need-bad-count-requires
-bad-count-requires c κs = search needs
+-- the record in the first n places
+abbrev lent : tie.Start → UsedRecord
+lent S =
+    record {
+      held = record {
+        n = S .args .n;
+        neighbours = take (S .args .n) (S .args .neighbours .now);
+        codes = take (S .args .n) (S .args .codes .now);
+      };
+      used = S .args .used;
+    }
 
--- src/lib.rt:51:9
 returns : tie.Need-returns
-returns c = ?
+returns c =
+    let B = c .before in
+    let S = B .before .before .before in
+    two (lent S) (S .args .others) (sym (B .bad-count .ensures) ∙ c .if1 .taken)
 
--- src/lib.rt:55:9
 slice-aggregate-used-refusal : tie.Need-slice-aggregate-used-refusal
-slice-aggregate-used-refusal c = search needs
+slice-aggregate-used-refusal c =
+    let D = c .before in
+    let B = D .before in
+    let S = B .before .before .before in
+    sym (part-long (S .args .n) (S .args .neighbours .now)
+    (counted (S .args .n) (sym (B .bad-count .ensures) ∙ D .if1 .left) .1) (S .pre .0))
 
--- src/lib.rt:56:9
 slice-aggregate-used-refusal-2 : tie.Need-slice-aggregate-used-refusal-2
-slice-aggregate-used-refusal-2 c = search needs
+slice-aggregate-used-refusal-2 c =
+    let D = c .before .before in
+    let B = D .before in
+    let S = B .before .before .before in
+    sym (part-long (S .args .n) (S .args .codes .now)
+    (counted (S .args .n) (sym (B .bad-count .ensures) ∙ D .if1 .left) .1) (S .pre .1))
 
--- src/lib.rt:53:5
-used-refusal-requires : tie.Need-used-refusal-requires
-used-refusal-requires c κs = search needs
-
--- src/lib.rt:42:1
 returns-2 : tie.Need-returns-2
-returns-2 c = ?
+returns-2 c =
+    let D = c .before .before .before in
+    let S = D .before .before .before .before in
+    no-further (lent S) _ _ (c .used-refusal .ensures)
 
 pub held-refusal-spec : {M : Type 1} → statement M
 held-refusal-spec =
     tie.close
-    (tie.spec
-    bad-count-requires
-    returns
-    slice-aggregate-used-refusal
-    slice-aggregate-used-refusal-2
-    used-refusal-requires
-    returns-2)
+    (tie.spec (λ c κs. search needs) returns slice-aggregate-used-refusal slice-aggregate-used-refusal-2
+    (λ c κs. search needs) returns-2)

@@ -1,84 +1,69 @@
+-- `read_record` meets its contract: the record of a text.
+use mathlib.Core.Bool.{_||_}
+use mathlib.Core.Path.{_≡_, ap₂}
 use borrow.Author.Needs.{needs}
+use borrow.Author.Tests.{not-false, not-true}
+use Rattle.buffers.specs.Refusals.{otherThan}
+use Rattle.call_texts.proofs.ReadCalls.{read-done, read-refused, read-room, read-unformed}
 use Rattle.call_texts.proofs.read_record.Statement.{statement}
 use Rattle.call_texts.proofs.read_record.Tie as tie
-use Rattle.call_texts.proofs.read_record.Reads as reads
-use Rattle.call_texts.proofs.read_record.Lts as lts
-use Rattle.buffers.proofs.other_than.Reads as other-than-reads
-use Rattle.call_texts.proofs.held_refusal.Reads as held-refusal-reads
-use Rattle.store_impl.proofs.copies.take_record.Reads as take-record-reads
-use Rattle.text_records.proofs.reading.read_text.Reads as read-text-reads
 
--- src/lib.rt:76:9
-read-text-requires : tie.Need-read-text-requires
-read-text-requires c κs = search needs
+abbrev at : tie.After-read-text → tie.Start
+at R = R .before .before .before .before
 
--- src/lib.rt:79:9
+abbrev read : tie.After-other-than2 → tie.After-read-text
+read O = O .before .before .before .before .before
+
+-- line 4 of the two buffers
+others-are : (O : tie.After-other-than2) → let a = at (read O) .args in
+    (O .before .other-than .result || O .other-than2 .result)
+    ≡ (otherThan 64 (a .neighbours .now) || otherThan 64 (a .codes .now))
+others-are O = ap₂ _||_ (O .before .other-than .ensures) (O .other-than2 .ensures)
+
 returns : tie.Need-returns
-returns c = ?
+returns c =
+    let R = c .before in
+    let a = at R .args in
+    read-unformed (a .text .now) (a .n .now) (a .neighbours .now) (a .codes .now) (a .used .now) (R .read-text .result)
+    (R .read-text .ensures) (not-true _ (c .if1 .taken))
 
--- src/lib.rt:85:18
-other-than-requires : tie.Need-other-than-requires
-other-than-requires c κs = search needs
-
--- src/lib.rt:85:53
-other-than-requires-2 : tie.Need-other-than-requires-2
-other-than-requires-2 c κs = search needs
-
--- src/lib.rt:86:38
-slice-aggregate-held-refusal : tie.Need-slice-aggregate-held-refusal
-slice-aggregate-held-refusal c = search needs
-
--- src/lib.rt:86:55
-slice-aggregate-held-refusal-2 : tie.Need-slice-aggregate-held-refusal-2
-slice-aggregate-held-refusal-2 c = search needs
-
--- src/lib.rt:86:9
-held-refusal-requires : tie.Need-held-refusal-requires
-held-refusal-requires c κs = search needs
-
--- src/lib.rt:88:9
 returns-2 : tie.Need-returns-2
-returns-2 c = ?
+returns-2 c =
+    let H = c .before in
+    let O = H .before .before .before in
+    let D = O .before .before .before .before in
+    let R = D .before in
+    let a = at R .args in
+    read-refused (a .text .now) (a .n .now) (a .neighbours .now) (a .codes .now) (a .used .now) (R .read-text .result)
+    (R .read-text .ensures) (not-false _ (D .if1 .left)) _ (others-are O) _ (H .held-refusal .ensures) (c .if2 .taken)
 
--- src/lib.rt:93:9
-slice-aggregate-take-record : tie.Need-slice-aggregate-take-record
-slice-aggregate-take-record c = search needs
-
--- src/lib.rt:94:9
-slice-aggregate-take-record-2 : tie.Need-slice-aggregate-take-record-2
-slice-aggregate-take-record-2 c = search needs
-
--- src/lib.rt:90:5
 take-record-requires : tie.Need-take-record-requires
-take-record-requires c κs = search needs
+take-record-requires c κs =
+    let E = c .before .before .before .before in
+    let H = E .before in
+    let O = H .before .before .before in
+    let D = O .before .before .before .before in
+    let R = D .before in
+    let a = at R .args in
+    read-room (a .text .now) (a .n .now) (a .neighbours .now) (a .codes .now) (a .used .now) (R .read-text .result)
+    (R .read-text .ensures) (not-false _ (D .if1 .left)) _ (others-are O) _ (H .held-refusal .ensures) (E .if2 .left)
 
--- src/lib.rt:65:1
-same-length : tie.Need-same-length
-same-length c = search needs
-
--- src/lib.rt:65:1
-same-length-2 : tie.Need-same-length-2
-same-length-2 c = search needs
-
--- src/lib.rt:65:1
 returns-3 : tie.Need-returns-3
-returns-3 c = ?
+returns-3 c =
+    let T = c .before .before .before .before in
+    let E = T .before .before .before .before .before in
+    let H = E .before in
+    let O = H .before .before .before in
+    let D = O .before .before .before .before in
+    let R = D .before in
+    let a = at R .args in
+    read-done (a .text .now) (a .n .now) (a .neighbours .now) (a .codes .now) (a .used .now) (R .read-text .result)
+    (R .read-text .ensures) (not-false _ (D .if1 .left)) _ (others-are O) _ (H .held-refusal .ensures) (E .if2 .left)
+    (T .take-record .ensures .0) (T .take-record .ensures .1)
 
 pub read-record-spec : {M : Type 1} → statement M
 read-record-spec =
     tie.close
-    (tie.spec
-    read-text-requires
-    returns
-    other-than-requires
-    other-than-requires-2
-    slice-aggregate-held-refusal
-    slice-aggregate-held-refusal-2
-    held-refusal-requires
-    returns-2
-    slice-aggregate-take-record
-    slice-aggregate-take-record-2
-    take-record-requires
-    same-length
-    same-length-2
-    returns-3)
+    (tie.spec (λ c κs. search needs) returns (λ c κs. search needs) (λ c κs. search needs) (λ c. search needs)
+    (λ c. search needs) (λ c κs. search needs) returns-2 (λ c. search needs) (λ c. search needs) take-record-requires
+    (λ c. search needs) (λ c. search needs) returns-3)

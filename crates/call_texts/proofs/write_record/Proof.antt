@@ -1,43 +1,46 @@
+-- `write_record` meets its contract: the text of a record, and how many bytes it has.
 use borrow.Author.Needs.{needs}
+use Rattle.operations.specs.Used.{UsedRecord}
+use Rattle.call_texts.proofs.WriteCalls.{write-done, write-refused, write-room}
 use Rattle.call_texts.proofs.write_record.Statement.{statement}
 use Rattle.call_texts.proofs.write_record.Tie as tie
-use Rattle.call_texts.proofs.write_record.Reads as reads
-use Rattle.call_texts.proofs.write_record.Lts as lts
-use Rattle.buffers.proofs.other_than.Reads as other-than-reads
-use Rattle.operations_checks.proofs.used_refusal.Reads as used-refusal-reads
-use Rattle.text_impl.proofs.printing.print_record.Reads as print-record-reads
 
--- src/lib.rt:30:9
-other-than-requires : tie.Need-other-than-requires
-other-than-requires c κs = search needs
+-- the record that is lent
+abbrev lent : tie.Start → UsedRecord
+lent S =
+    record {
+      held = record { n = S .args .n; neighbours = S .args .neighbours .now; codes = S .args .codes .now };
+      used = S .args .used;
+    }
 
--- src/lib.rt:31:9
-used-refusal-requires : tie.Need-used-refusal-requires
-used-refusal-requires c κs = search needs
+abbrev at : tie.After-used-refusal → tie.Start
+at E = E .before .before .before .before .before
 
--- src/lib.rt:33:9
 returns : tie.Need-returns
-returns c = ?
+returns c =
+    let E = c .before in
+    let a = at E .args in
+    write-refused (lent (at E)) (a .text .now) (a .size .now) _ (E .before .other-than .ensures) _
+    (E .used-refusal .ensures) (c .if1 .taken)
 
--- src/lib.rt:35:9
 print-record-requires : tie.Need-print-record-requires
-print-record-requires c κs = search needs
+print-record-requires c κs =
+    let D = c .before in
+    let E = D .before in
+    let a = at E .args in
+    write-room (lent (at E)) (a .text .now) (a .size .now) _ (E .before .other-than .ensures) _
+    (E .used-refusal .ensures) (D .if1 .left)
 
--- src/lib.rt:17:1
-same-length : tie.Need-same-length
-same-length c = search needs
-
--- src/lib.rt:17:1
 returns-2 : tie.Need-returns-2
-returns-2 c = ?
+returns-2 c =
+    let P = c .before .before in
+    let D = P .before .before in
+    let E = D .before in
+    let a = at E .args in
+    write-done (lent (at E)) (a .text .now) (a .size .now) _ (E .before .other-than .ensures) _
+    (E .used-refusal .ensures) (D .if1 .left) (P .print-record .ensures)
 
 pub write-record-spec : {M : Type 1} → statement M
 write-record-spec =
     tie.close
-    (tie.spec
-    other-than-requires
-    used-refusal-requires
-    returns
-    print-record-requires
-    same-length
-    returns-2)
+    (tie.spec (λ c κs. search needs) (λ c κs. search needs) returns print-record-requires (λ c. search needs) returns-2)
