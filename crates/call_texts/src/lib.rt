@@ -50,15 +50,7 @@ fn held_refusal(n: usize, neighbours: &[u64], codes: &[u8], used: u64, others: b
     if bad_count(count) {
         return 2;
     }
-    used_refusal(
-        count,
-        &neighbours[..n],
-        &codes[..n],
-        used,
-        0,
-        others,
-        false,
-    )
+    used_refusal(count, &neighbours[..n], &codes[..n], used, 0, others, false)
 }
 
 // The record of a text, into buffers of 64 places; those from n on keep their values.
@@ -87,14 +79,7 @@ pub fn read_record(
     if number != 0 {
         return number;
     }
-    take_record(
-        0,
-        count,
-        &own_neighbours,
-        &own_codes,
-        neighbours,
-        codes,
-    );
+    take_record(0, count, &own_neighbours, &own_codes, neighbours, codes);
     *n = count as u64;
     *used = own_used;
     0

@@ -34,6 +34,8 @@ pub mod ProductDemandHolds
 pub mod ProgramDemandHolds
 pub mod ReachedStates
 pub mod RecordPairsHold
+pub mod RecordTextsExactly
+pub mod RecordTextsHold
 pub mod RecordsHold
 pub mod RenewalsHold
 pub mod RewritingsKeep
