@@ -1,7 +1,7 @@
 -- The call that reads a record, from what the functions below it answer.
 use mathlib.Core.Bool.{Bool, false, not, true, _||_}
 use mathlib.Core.List.{List}
-use mathlib.Core.Path.{ap, ap₂, refl, sym, _∙_, _≡_}
+use mathlib.Core.Path.{ap, refl, sym, _∙_, _≡_}
 use Prim.Native.Nat.{_*_, _+_, _<_, ℕ, _≤_}
 use native.Mathlib.Omega.{arith}
 use lib.ListN.{length, length-take, take}
@@ -15,11 +15,11 @@ use Rattle.buffers.specs.Calls.{Call}
 use Rattle.buffers.specs.Refusals.{badCount, firstFitting, otherThan}
 use Rattle.calls.specs.RecordTexts.{readRecordCall, readRecordLines, recordOf}
 use Rattle.operations.proofs.UsedPassing.{lines-pass}
-use Rattle.operations.specs.Used.{UsedRecord, usedLines, usedStray, usedWrong}
+use Rattle.operations.specs.Used.{UsedRecord, usedLines}
 use Rattle.record.specs.Lent.{recordLengths, recordLines}
 use Rattle.stabilizer.proofs.SharedTests.{counted, has-length}
 use Rattle.store.specs.Places.{partAt}
-use Rattle.text.specs.RecordTexts.{lineRead, qubitCount, recordForm}
+use Rattle.text.specs.RecordTexts.{lineRead}
 use Rattle.text_records.specs.declared.reading.ReadRecord.{ReadRecord}
 use Rattle.text_records.specs.internal.Reads.{TextTold}
 use Rattle.words.proofs.Flags.{neither}

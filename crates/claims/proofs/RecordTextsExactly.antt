@@ -1,9 +1,9 @@
 -- A record written and read, and a text read and written: each comes back; the lines of both calls, exactly.
-use mathlib.Core.Bool.{Bool, false, not, true, _||_}
+use mathlib.Core.Bool.{false, not, true, _||_}
 use mathlib.Core.List.{List}
 use mathlib.Core.Logic.{_↔_}
 use mathlib.Core.Path.{ap, ap₂, refl, sym, _∙_, _≡_}
-use Prim.Native.Nat.{_*_, _+_, _<_, _^_, ℕ, _≤_}
+use Prim.Native.Nat.{_<_, ℕ, _≤_}
 use native.Mathlib.Nat.{lt-of-lt-of-le}
 use native.Mathlib.Omega.{arith}
 use lib.ListN.{getD, length, length-append}
@@ -21,8 +21,9 @@ use Rattle.stabilizer.proofs.SharedTests.{has-length, length-passes}
 use Rattle.text.proofs.RecordForm.{count-back, form-text, lines-back, text-form}
 use Rattle.text.proofs.RecordLaws.{length-lines}
 use Rattle.text.proofs.RecordLines.{print-lines, same-text}
-use Rattle.text.specs.RecordTexts.{LineFits, lineHeld, lineRead, qubitCount, recordForm, recordLinesText}
+use Rattle.text.specs.RecordTexts.{LineFits, lineRead, qubitCount, recordForm, recordLinesText}
 use Rattle.text.specs.Text.{qubitLines, recordNames, recordText}
+use Rattle.text.specs.internal.Text.{lineHeld}
 use Rattle.text.specs.declared.records.RecordLine.{RecordLine}
 use Rattle.words.proofs.BitLaws.{bit-wordOf, word-cong, wordOf-bit}
 use Rattle.words.proofs.Flags.{neither}

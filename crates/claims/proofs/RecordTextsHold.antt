@@ -1,18 +1,16 @@
 -- What is said of the calls that write a record as a text and read it, from their contracts.
-use mathlib.Core.Bool.{false, true, _||_}
+use mathlib.Core.Bool.{false}
 use mathlib.Core.List.{List, _++_}
 use mathlib.Core.Logic.{Iff·trans}
 use mathlib.Core.Path.{ap, ap₂, refl, subst, sym, _∙_, _≡_}
-use Prim.Native.Nat.{ℕ, _≤_}
+use Prim.Native.Nat.{ℕ}
 use native.Mathlib.Omega.{arith}
 use lib.ListN.{drop, length, take}
 use lib.Seq.{drop-at, take-at}
 use Rattle.buffers.proofs.Calling.{no-line, written-all}
 use Rattle.buffers.proofs.SentenceLaws.{Matches, not-decides, or-decides, or-none, other-length, stray}
-use Rattle.buffers.proofs.Tabulate.{tabulate-length}
 use Rattle.buffers.specs.Buffers.{written}
-use Rattle.buffers.specs.Calls.{Call, EachOf}
-use Rattle.buffers.specs.Refusals.{firstFitting}
+use Rattle.buffers.specs.Calls.{Call}
 use Rattle.calls.specs.RecordTexts.{
   printOf,
   readRecordCall,
@@ -25,13 +23,11 @@ use Rattle.jobs.specs.Answer.{resultsOf}
 use Rattle.jobs.specs.Results.{jobAnswer, resultLines, resultNames}
 use Rattle.jobs.specs.Runs.{run, started}
 use Rattle.jobs.specs.Standing.{StillRecord}
-use Rattle.jobs.specs.declared.Step.{Step}
 use Rattle.operations.proofs.UsedInWords.{used-in-words}
 use Rattle.operations.proofs.UsedPassing.{unused-passes}
-use Rattle.operations.specs.Used.{UsedRecord, usedLines}
+use Rattle.operations.specs.Used.{UsedRecord}
 use Rattle.record.specs.Lent.{LentRecord}
 use Rattle.record.proofs.RecordInWords.{code-above-23, misfits, stray-neighbour}
-use Rattle.stabilizer.specs.Lists.{GeneratorList}
 use Rattle.text.proofs.RecordForm.{record-form-exactly}
 use Rattle.claims.proofs.NumbersHold.{in-words}
 use Rattle.claims.proofs.RecordTextsExactly.{
@@ -43,12 +39,11 @@ use Rattle.claims.proofs.RecordTextsExactly.{
   text-back,
   write-lines,
 }
-use Rattle.claims.proofs.UsedExactly.{used-exactly}
 use Rattle.claims.proofs.families.Shared.{answered, at-zero, by-lines, written-fills}
 use Rattle.claims.proofs.families.Stores.{is-record}
 use Rattle.claims.specs.Arguments.{IsRecord}
-use Rattle.claims.specs.Conforming.{Conforms, Fills}
-use Rattle.claims.specs.ProgramDemand.{JobPrinted, RecordPrinted, reducedRecord}
+use Rattle.claims.specs.Conforming.{Conforms}
+use Rattle.claims.specs.ProgramDemand.{reducedRecord}
 use Rattle.claims.specs.RecordTexts.{
   ReadRecordSays,
   RecordComesBack,

@@ -11,10 +11,8 @@ use lib.Seq.{drop-at, drop-drop, ext-getD}
 use borrow.Author.Tests.{eq-eqb, eqb-true}
 use Rattle.words.proofs.Flags.{both-true}
 use Rattle.words.proofs.SearchLaws.{every-at, every-in}
-use Rattle.words.specs.Search.{every}
 use Rattle.text.proofs.RecordLines.{lines-counted, same-text, text-more, text-next}
 use Rattle.text.proofs.RecordReading.{line-back, read-fits}
-use Rattle.text.specs.Reading.{lineCount}
 use Rattle.text.specs.RecordTexts.{
   HasRecordForm,
   LineFits,
@@ -29,7 +27,7 @@ use Rattle.text.specs.RecordTexts.{
   recordLinesText,
   sameText,
 }
-use Rattle.text.specs.Text.{recordNames, space}
+use Rattle.text.specs.Text.{space}
 use Rattle.text.specs.declared.records.RecordLine.{RecordLine}
 
 -- ---- equal texts

@@ -5,19 +5,20 @@ use mathlib.Core.Path.{ap, ap₂, refl, subst, sym, _∙_, _≡_}
 use Prim.Native.Nat.{_%_, _+_, _-_, _/_, _<_, suc, zero, ℕ, _≤_}
 use native.Mathlib.Nat.{add-suc, add-zero}
 use native.Mathlib.Omega.{arith}
-use lib.Dec.{eqb, ltb}
-use lib.ListN.{getD, length, length-append}
+use lib.Dec.{ltb}
+use lib.ListN.{length, length-append}
 use borrow.Author.Tests.{ne-eqb}
 use Rattle.words.proofs.Flags.{by-test}
-use Rattle.words.specs.Bits.{bit, digit}
+use Rattle.words.specs.Bits.{digit}
 use Rattle.text.proofs.NumeralLaws.{digits-count, no-digit, numeral-decimal}
 use Rattle.text.proofs.RecordLaws.{line-columns}
 use Rattle.text.proofs.TextLaws.{count-append}
 use Rattle.text.specs.Reading.{lineCount}
-use Rattle.text.specs.RecordTexts.{columns, lineHeld, numberedLine, numberedLines, numeral, recordLinesText}
+use Rattle.text.specs.RecordTexts.{columns, numberedLine, numberedLines, numeral, recordLinesText}
 use Rattle.text.specs.Text.{decimal, hexDigit, hexText, qubitLine, qubitLines, recordNames, recordText, space}
 use Rattle.text.specs.Text.{usedColumn}
 use Rattle.text.specs.declared.records.RecordLine.{RecordLine}
+use Rattle.text.specs.internal.Text.{lineHeld}
 
 module _ (L : ℕ → RecordLine) where
   -- one line more

@@ -3,12 +3,12 @@ use mathlib.Core.Bool.{Bool, cond, false, true}
 use mathlib.Core.List.{_++_, List, [], _∷_, append-assoc}
 use mathlib.Core.Path.{ap, ap₂, refl, subst, sym, _∙_, _≡_}
 use Prim.Native.Nat.{_%_, _*_, _+_, _/_, _<_, _^_, suc, zero, ℕ}
-use native.Mathlib.Nat.{add-assoc, pow-suc}
+use native.Mathlib.Nat.{pow-suc}
 use native.Mathlib.Omega.{arith}
 use lib.Dec.{eqb, ltb}
-use lib.ListN.{getD, length}
+use lib.ListN.{getD}
 use lib.Seq.{append-snoc, getD-append-add, getD-at}
-use borrow.Author.Tests.{le-ltb, lt-ltb, ltb-false, ltb-true, ne-eqb}
+use borrow.Author.Tests.{le-ltb, lt-ltb, ltb-true, ne-eqb}
 use Rattle.words.proofs.Flags.{by-test}
 use Rattle.words.specs.Bits.{digit}
 use Rattle.text.proofs.DigitLaws.{fewer-digits, value-digit}

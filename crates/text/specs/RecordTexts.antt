@@ -6,7 +6,6 @@ use mathlib.Core.Path.{_≡_}
 use Prim.Native.Nat.{_%_, _*_, _+_, _-_, _<_, _^_, suc, zero, ℕ}
 use lib.Dec.{eqb}
 use lib.ListN.{drop, getD, length}
-use Rattle.words.specs.Bits.{bit}
 use Rattle.words.specs.Search.{every}
 use Rattle.text.specs.Reading.{lineCount}
 use Rattle.text.specs.Text.{decimal, digits, hexText, hexValue, recordNames, space, usedColumn}
@@ -43,11 +42,6 @@ pub record LineFits (l : RecordLine) : Type 0 where
 -- "the form is exactly what is printed": it is the text of some lines. Refusal 1 is that a text does not have it
 abbrev pub HasRecordForm : List ℕ → Type 0
 HasRecordForm t = (n : ℕ) × (L : ℕ → RecordLine) × ((q : ℕ) → q < n → LineFits (L q)) × (t ≡ recordLinesText n L)
-
--- what a record says of each qubit
-abbrev pub lineHeld : List ℕ → List ℕ → ℕ → ℕ → RecordLine
-lineHeld neighbours codes used q =
-    record { code = getD codes q 0; word = getD neighbours q 0; used = bit used q }
 
 -- ---- reading
 -- the value of a decimal digit, and a digit for any other byte

@@ -5,7 +5,7 @@ use mathlib.Core.Path.{ap, sym, _∙_, _≡_}
 use Prim.Native.Nat.{_+_, ℕ, _≤_}
 use native.Mathlib.Nat.{zero-add}
 use native.Mathlib.Omega.{arith}
-use lib.ListN.{drop, getD, length, length-append, take}
+use lib.ListN.{drop, getD, length, take}
 use lib.Seq.{take-at}
 use Rattle.buffers.proofs.Writing.{and-then}
 use Rattle.buffers.specs.Writing.{Printed, overwritten}

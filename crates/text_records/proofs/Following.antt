@@ -3,11 +3,11 @@ use mathlib.Core.Bool.{Bool, false, false≢true, true}
 use mathlib.Core.List.{_++_, List}
 use mathlib.Core.Logic.{inl, inr}
 use mathlib.Core.Path.{ap, ap₂, refl, subst, sym, _∙_, _≡_}
-use Prim.Native.Nat.{_%_, _+_, _-_, _<_, suc, zero, ℕ, _≤_}
+use Prim.Native.Nat.{_%_, _+_, _-_, _<_, ℕ, _≤_}
 use native.Mathlib.Nat.{le-antisymm, mod-eq-of-lt, ne-of-lt}
 use native.Mathlib.Numerals.{add-one}
 use native.Mathlib.Omega.{arith}
-use lib.ListN.{drop, getD, length, length-append, length-drop, length-set, length-take, set, take}
+use lib.ListN.{drop, length, length-append, length-drop, length-set, length-take, set, take}
 use lib.Seq.{drop-at, drop-drop, getD-take, length-take-le, take-add, take-all, take-append-seam, take-at}
 use Rattle.buffers.proofs.Filling.{Filled, fill-start, fill-step}
 use Rattle.buffers.proofs.Parts.{part-long}
@@ -19,7 +19,7 @@ use Rattle.words.proofs.Places.{put-other, put-same}
 use Rattle.words.proofs.Sums.{lt-or-ge}
 use Rattle.words.specs.Bits.{bit, put, wordOf}
 use Rattle.text.proofs.RecordForm.{form-text, own-lines}
-use Rattle.text.proofs.RecordLines.{text-longer, text-more, text-next, text-split}
+use Rattle.text.proofs.RecordLines.{text-longer, text-more, text-next}
 use Rattle.text.specs.RecordTexts.{
   columns,
   fromLine,
@@ -33,7 +33,7 @@ use Rattle.text.specs.RecordTexts.{
 }
 use Rattle.text.specs.Text.{recordNames, space}
 use Rattle.text.specs.declared.records.RecordLine.{RecordLine}
-use Rattle.text_records.specs.internal.Reads.{LineTold, TextTold, printAt}
+use Rattle.text_records.specs.internal.Reads.{LineTold, TextTold}
 use Rattle.text_records.specs.declared.lines.ReadLine.{ReadLine}
 use Rattle.text_records.specs.declared.reading.ReadRecord.{ReadRecord}
 

@@ -1,12 +1,11 @@
 -- Whether a text starts with the first bytes of a buffer, byte by byte.
 use mathlib.Core.List.{List}
-use mathlib.Core.Logic.{inl, inr}
 use mathlib.Core.Path.{ap, sym, _∙_, _≡_}
 use Prim.Native.Nat.{_+_, _<_, zero-le, ℕ, _≤_}
 use native.Mathlib.Omega.{arith}
 use lib.ListN.{getD, length, length-take, take}
 use lib.Seq.{ext-getD, getD-take, length-take-le}
-use borrow.Author.Count.{below-more, below-none}
+use borrow.Author.Count.{below-more}
 
 -- the first i bytes are equal
 pub record SameBelow (text head : List ℕ) (size i : ℕ) : Type 0 where

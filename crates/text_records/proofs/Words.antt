@@ -1,6 +1,6 @@
 -- A word read digit by digit.
 use mathlib.Core.Path.{ap, sym, _∙_, _≡_}
-use Prim.Native.Nat.{_%_, _+_, _<_, _^_, ℕ}
+use Prim.Native.Nat.{_%_, _+_, _<_, ℕ}
 use native.Mathlib.Nat.{lt-of-lt-of-le, pow-le-pow-right}
 use native.Mathlib.Numerals.{add-one}
 use native.Mathlib.Omega.{arith}

@@ -1,6 +1,6 @@
 -- The proof of the cycle of calls {put_numeral}: a decimal number of any size. The measure is the number.
 use mathlib.Core.List.{[], _∷_}
-use mathlib.Core.Path.{ap, subst, sym}
+use mathlib.Core.Path.{ap, sym}
 use Prim.Native.Nat.{ℕ, _%_, _+_, _/_, _<_}
 use native.Mathlib.Omega.{arith}
 use lib.ListN.{length, length-append}

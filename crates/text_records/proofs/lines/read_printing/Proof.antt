@@ -1,6 +1,6 @@
 -- `read_printing` meets its contract: the line of qubit q at the start of a text, printed and compared with the text.
 use mathlib.Core.Path.{subst, sym}
-use Prim.Native.Nat.{_<_, _≤_, _+_}
+use Prim.Native.Nat.{_≤_, _+_}
 use native.Mathlib.Omega.{arith}
 use lib.ListN.{length, length-append}
 use borrow.Author.Needs.{needs}

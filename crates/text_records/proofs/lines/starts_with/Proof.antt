@@ -1,8 +1,6 @@
 -- `starts_with` meets its contract: whether a text starts with the first bytes of a buffer.
 use mathlib.Core.Bool.{false≢true, true≢false}
-use Prim.Native.Nat.{_-_, _<_, _≤_}
-use native.Mathlib.Omega.{arith}
-use lib.ListN.{length}
+use Prim.Native.Nat.{_-_}
 use borrow.Author.Needs.{needs}
 use Rattle.text_records.proofs.Starts.{
   SameBelow,
