@@ -136,6 +136,7 @@ typedef uint64_t sukhlent_length;
 #define SUKHLENT_QUBITS 64
 #define SUKHLENT_LIST_PLACES 96
 #define SUKHLENT_TEXT_PLACES 61463
+#define SUKHLENT_RECORD_PLACES 1627
 #define SUKHLENT_ORBIT_PLACES 32768
 #define SUKHLENT_HEAD_PLACES 24
 #define SUKHLENT_HELD_PLACES 512
@@ -469,6 +470,24 @@ uint8_t sukhlent_write_strings(uint64_t n,
                                const uint64_t *z, sukhlent_length z_len,
                                const uint64_t *x, sukhlent_length x_len,
                                uint8_t *text, sukhlent_length text_len);
+
+/* Writes a record as a text: the names `qubit code neighbours used` and a line for each qubit, rising
+ * from 0, with its number and code in decimal, its neighbours in 16 hexadecimal digits and 1 where it
+ * is used, as the programs print it. `text` has 1,627 places; `*length` is how many of
+ * them are the text, and those past it keep their values. No zero is put behind the text.
+ * Refusals: 2, 4, 5, 6, 7. */
+uint8_t sukhlent_write_record(uint64_t n,
+                              const uint64_t *neighbours, sukhlent_length neighbours_len,
+                              const uint8_t *codes, sukhlent_length codes_len, uint64_t used,
+                              uint8_t *text, sukhlent_length text_len, uint64_t *length);
+
+/* Reads the record of a text as sukhlent_write_record writes it, byte for byte: a record has one text,
+ * and a text one record. `neighbours` and `codes` have 64 places; those from `*n` on keep their values.
+ * Refusals: 1 (also for the empty text), 2 (the names alone, or more than 64 lines), 4, 5, 6 (a code
+ * from 24 to 99), 7. */
+uint8_t sukhlent_read_record(const uint8_t *text, sukhlent_length text_len, uint64_t *n,
+                             uint64_t *neighbours, sukhlent_length neighbours_len,
+                             uint8_t *codes, sukhlent_length codes_len, uint64_t *used);
 
 /* Writes the numbers of all graphs that complementations reach from one on up to 6 vertices, the
  * graph itself among them, each once and rising. A graph's number has a bit for each pair of

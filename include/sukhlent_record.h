@@ -168,6 +168,23 @@ static inline uint8_t sukhlent_record_renew(sukhlent_record *record, uint64_t qu
                           code);
 }
 
+/* Writes the text of a record: `text` has SUKHLENT_RECORD_PLACES bytes, of which the first `*length` are
+ * the text; no zero is put behind them. */
+static inline uint8_t sukhlent_record_write(const sukhlent_record *record, char *text, uint64_t *length)
+{
+    const sukhlent_length n = sukhlent_places(record->n);
+    return sukhlent_write_record(record->n, record->neighbours, n, record->codes, n, record->used,
+                                 (uint8_t *)text, SUKHLENT_RECORD_PLACES, length);
+}
+
+/* Reads the text of a record, of this many bytes. */
+static inline uint8_t sukhlent_record_read(sukhlent_record *record, const char *text,
+                                           sukhlent_length bytes)
+{
+    return sukhlent_read_record((const uint8_t *)text, bytes, &record->n, record->neighbours,
+                                SUKHLENT_QUBITS, record->codes, SUKHLENT_QUBITS, &record->used);
+}
+
 /* Complements at a vertex; the group stays, and the record is not reduced. */
 static inline uint8_t sukhlent_record_complement(sukhlent_record *record, uint64_t a)
 {

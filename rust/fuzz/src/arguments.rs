@@ -2,6 +2,7 @@
 
 use crate::common::damage::{damage_list, damage_record};
 use crate::common::local::{complemented_record, sent};
+use crate::common::record_text::{plain_text, Places, ReadRecord, PLACES};
 use crate::common::reference::{product, strings_text};
 use crate::common::runs::Steps;
 use crate::common::source::Source;
@@ -242,6 +243,47 @@ pub fn read_call(random: &mut Random, n: usize) -> ReadCall {
     let mut call = ReadCall::on(&text);
     if random.below(16) == 0 {
         call.lengths[random.below(3)] = random.below(200);
+    }
+    call
+}
+
+/// A record of n vertices to be written, into a buffer that mostly has its places.
+pub fn write_record_call(random: &mut Random, n: usize) -> RecordCall<Places> {
+    let places = match random.below(16) {
+        0 => random.below(2000),
+        _ => PLACES,
+    };
+    let record = used_record(random, n);
+    harmed(random, record, Places(places))
+}
+
+/// The text of a record of n vertices, with some bytes changed at times, or noise; at times of more
+/// lines than 64.
+pub fn read_record_call(random: &mut Random, n: usize) -> ReadRecord {
+    let lines = match random.below(16) {
+        0 => 65 + random.below(60),
+        _ => n.clamp(1, 64),
+    };
+    let mut text = match random.below(16) {
+        0 => noisy_text(random),
+        _ => plain_text(&Record {
+            neighbours: vec![0; lines],
+            codes: (0..lines).map(|_| 2 * random.below(14) as u8).collect(),
+            used: 0,
+        })
+        .into_bytes(),
+    };
+    if lines <= 64 && random.below(2) == 0 {
+        text = plain_text(&used_record(random, lines)).into_bytes();
+    }
+    let faults = match random.below(4) {
+        0 => 1 + random.below(3),
+        _ => 0,
+    };
+    (0..faults).for_each(|_| damage_text(random, &mut text));
+    let mut call = ReadRecord::on(&text);
+    if random.below(16) == 0 {
+        call.lengths[random.below(2)] = random.below(100);
     }
     call
 }

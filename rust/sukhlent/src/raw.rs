@@ -380,6 +380,29 @@ mod calls {
             text_len: u64,
         ) -> u8;
 
+        pub fn sukhlent_write_record(
+            n: u64,
+            neighbours: *const u64,
+            neighbours_len: u64,
+            codes: *const u8,
+            codes_len: u64,
+            used: u64,
+            text: *mut u8,
+            text_len: u64,
+            length: *mut u64,
+        ) -> u8;
+
+        pub fn sukhlent_read_record(
+            text: *const u8,
+            text_len: u64,
+            n: *mut u64,
+            neighbours: *mut u64,
+            neighbours_len: u64,
+            codes: *mut u8,
+            codes_len: u64,
+            used: *mut u64,
+        ) -> u8;
+
         pub fn sukhlent_orbit(
             n: u64,
             neighbours: *const u64,
@@ -1171,6 +1194,66 @@ pub fn write_strings((n, signs, z, x): Lent, text: &mut [u8]) -> u8 {
             x.len() as u64,
             text.as_mut_ptr(),
             text.len() as u64,
+        )
+    }
+}
+
+/// Writes the text of a record, and how many bytes it has.
+///
+/// ```
+/// let (mut text, mut length) = ([0; 1627], 0);
+/// assert_eq!(sukhlent::raw::write_record(1, &[0], &[8], 0, &mut text, &mut length), 0);
+/// let due = b"qubit code neighbours used\n0 8 0000000000000000 0\n";
+/// assert_eq!(&text[..length as usize], due);
+/// ```
+pub fn write_record(
+    n: u64,
+    neighbours: &[u64],
+    codes: &[u8],
+    used: u64,
+    text: &mut [u8],
+    length: &mut u64,
+) -> u8 {
+    unsafe {
+        calls::sukhlent_write_record(
+            n,
+            neighbours.as_ptr(),
+            neighbours.len() as u64,
+            codes.as_ptr(),
+            codes.len() as u64,
+            used,
+            text.as_mut_ptr(),
+            text.len() as u64,
+            length,
+        )
+    }
+}
+
+/// Reads the record of a text into buffers of 64 places.
+///
+/// ```
+/// let (mut n, mut neighbours, mut codes, mut used) = (0, [0; 64], [0; 64], 0);
+/// let text = b"qubit code neighbours used\n0 8 0000000000000000 0\n";
+/// let read = sukhlent::raw::read_record(text, &mut n, &mut neighbours, &mut codes, &mut used);
+/// assert_eq!((read, n, codes[0]), (0, 1, 8));
+/// ```
+pub fn read_record(
+    text: &[u8],
+    n: &mut u64,
+    neighbours: &mut [u64],
+    codes: &mut [u8],
+    used: &mut u64,
+) -> u8 {
+    unsafe {
+        calls::sukhlent_read_record(
+            text.as_ptr(),
+            text.len() as u64,
+            n,
+            neighbours.as_mut_ptr(),
+            neighbours.len() as u64,
+            codes.as_mut_ptr(),
+            codes.len() as u64,
+            used,
         )
     }
 }

@@ -1,7 +1,6 @@
 //! Records.
 
 use crate::{codes, compare_records, equivalent_records, raw, Comparison, GeneratorList, Refusal};
-use std::fmt;
 
 /// A graph with one local Clifford per vertex, one place per vertex in the first two fields, and a
 /// word of used qubits.
@@ -136,24 +135,6 @@ impl Record {
     /// ```
     pub fn equivalent(&self, other: &Record) -> Result<Comparison, Refusal> {
         equivalent_records(self, other)
-    }
-}
-
-impl fmt::Display for Record {
-    /// The text that the programs print: a line with the names of the columns, and a line for each
-    /// vertex.
-    ///
-    /// ```
-    /// let text = "qubit code neighbours used\n0 8 0000000000000000 0\n";
-    /// assert_eq!(sukhlent::Record::zeros(1).to_string(), text);
-    /// ```
-    fn fmt(&self, f: &mut fmt::Formatter<'_>) -> fmt::Result {
-        writeln!(f, "qubit code neighbours used")?;
-        for (q, (code, word)) in self.codes.iter().zip(&self.neighbours).enumerate() {
-            let used = self.used.checked_shr(q as u32).unwrap_or(0) & 1;
-            writeln!(f, "{q} {code} {word:016x} {used}")?;
-        }
-        Ok(())
     }
 }
 

@@ -6,6 +6,7 @@ mod in_place;
 mod lists;
 mod orbits;
 mod pairs;
+mod record_texts;
 mod records;
 mod runs;
 mod source;
@@ -24,7 +25,7 @@ pub struct Call {
 }
 
 /// Every public call.
-pub const CALLS: [Call; 35] = [
+pub const CALLS: [Call; 37] = [
     Call {
         name: "check",
         once: lists::check,
@@ -112,6 +113,14 @@ pub const CALLS: [Call; 35] = [
     Call {
         name: "write_strings",
         once: strings::write,
+    },
+    Call {
+        name: "read_record",
+        once: record_texts::read,
+    },
+    Call {
+        name: "write_record",
+        once: record_texts::write,
     },
     Call {
         name: "orbit",

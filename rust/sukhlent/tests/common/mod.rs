@@ -20,6 +20,7 @@ pub mod process;
 pub mod product;
 pub mod reading;
 pub mod record_pairs;
+pub mod record_text;
 pub mod reference;
 pub mod runs;
 pub mod seeded;
