@@ -344,6 +344,24 @@ public:
         return detail::answer(sukhlent_record_reduce(&made.record_, &list.list_), made);
     }
 
+    // From the text that text() writes and the programs print, byte for byte.
+    static Answer<Record> read(std::string_view text)
+    {
+        Record made;
+        const char *bytes = text.empty() ? "" : text.data();
+        return detail::answer(sukhlent_record_read(&made.record_, bytes, text.size()), made);
+    }
+
+    // Its text, as read takes it.
+    Answer<std::string> text() const
+    {
+        std::string made(SUKHLENT_RECORD_PLACES, ' ');
+        std::uint64_t length = 0;
+        const std::uint8_t number = sukhlent_record_write(&record_, made.data(), &length);
+        made.resize(length);
+        return detail::answer(number, std::move(made));
+    }
+
     // From words, codes and the used word; the two slices have one length.
     static Answer<Record> of(Span<const std::uint64_t> neighbours, Span<const std::uint8_t> codes, std::uint64_t used = 0)
     {

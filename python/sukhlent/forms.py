@@ -27,7 +27,7 @@ def _literal(text: str) -> list[Piece]:
 
 def _vertex(number: int) -> list[Piece]:
     said = (str(number), f"{number}, the vertices rising from 0")
-    return [said, _SPACE, ("[0-9]{1,2}", "a code"), _SPACE, _HEX, _SPACE, ("[01]", "0 or 1, for a used qubit")]
+    return [said, _SPACE, ("0|[1-9][0-9]?", "a code"), _SPACE, _HEX, _SPACE, ("[01]", "0 or 1, for a used qubit")]
 
 
 def _line_fault(line: str, pieces: list[Piece]) -> tuple[int, str] | None:

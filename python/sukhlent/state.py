@@ -142,6 +142,17 @@ class State(Gates, Reads, Graphs, Shows):
 
         return read_state(text)
 
+    @classmethod
+    def read(cls, text: str) -> State:
+        """The state of a record as `str` and the programs print it, read by the proved reader.
+
+        >>> State.read(str(State.zeros(2))) == State.zeros(2)
+        True
+        """
+        from .texts import read_record
+
+        return read_record(text)
+
     # ---- copies
 
     def copy(self) -> State:

@@ -2,7 +2,7 @@
 
 from __future__ import annotations
 
-from . import forms
+from . import beyond, forms
 from .lists import GeneratorList
 from .reading import plain_text
 from .refusals import Refusal
@@ -29,6 +29,9 @@ def read_record(text: str) -> State:
     State([0], [8], 1)
     """
     rows = _rows(text, forms.record_fault(text))
+    found = beyond.read_text("".join(["qubit code neighbours used\n", *(" ".join(row) + "\n" for row in rows)]))
+    if not isinstance(found, int):
+        return State._of(found)
     if len(rows) > 64:
         raise Refusal(2, f"{len(rows)} qubits, but a state has 1 to 64")
     used = sum(1 << q for q, row in enumerate(rows) if row[3] == "1")

@@ -247,6 +247,34 @@ const CALLS: [Measured; 38] = [
         let mut text = [0; 64 * 66];
         depth(|| raw::write_strings(lent, &mut text))
     }),
+    ("write_record", 64, |random, n| {
+        let given = random_record(random, n);
+        let (mut text, mut length) = ([0; 1627], 0);
+        depth(|| {
+            raw::write_record(
+                n as u64,
+                &given.neighbours,
+                &given.codes,
+                0,
+                &mut text,
+                &mut length,
+            )
+        })
+    }),
+    ("read_record", 64, |random, n| {
+        let text = random_record(random, n).to_string();
+        let (mut count, mut used) = (0, 0);
+        let (mut neighbours, mut codes) = ([0; 64], [0; 64]);
+        depth(|| {
+            raw::read_record(
+                text.as_bytes(),
+                &mut count,
+                &mut neighbours,
+                &mut codes,
+                &mut used,
+            )
+        })
+    }),
     ("orbit", 6, |random, n| {
         let graph = random_record(random, n).neighbours;
         let (mut list, mut count) = (vec![0; raw::ORBIT_PLACES], 0);

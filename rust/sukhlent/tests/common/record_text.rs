@@ -47,7 +47,11 @@ impl RecordCall<Places> {
     /// The answer due to the record and the buffer.
     pub fn write_due(&self) -> Result<String, u8> {
         let record = self.record();
-        let room = if self.with.0 == PLACES { self.n as usize } else { 65 };
+        let room = if self.with.0 == PLACES {
+            self.n as usize
+        } else {
+            65
+        };
         match record_refusal(self.n, &record, &[room]) {
             0 => Ok(plain_text(&record)),
             number => Err(number),
@@ -59,7 +63,10 @@ impl RecordCall<Places> {
 pub fn plain_text(record: &Record) -> String {
     let line = |q: usize| {
         let used = record.used.checked_shr(q as u32).unwrap_or(0) & 1;
-        format!("{q} {} {:016x} {used}\n", record.codes[q], record.neighbours[q])
+        format!(
+            "{q} {} {:016x} {used}\n",
+            record.codes[q], record.neighbours[q]
+        )
     };
     let lines: String = (0..record.n()).map(line).collect();
     format!("qubit code neighbours used\n{lines}")
