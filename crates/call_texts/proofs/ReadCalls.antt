@@ -15,7 +15,7 @@ use Rattle.buffers.specs.Calls.{Call}
 use Rattle.buffers.specs.Refusals.{badCount, firstFitting, otherThan}
 use Rattle.calls.specs.RecordTexts.{readRecordCall, readRecordLines, recordOf}
 use Rattle.operations.proofs.UsedPassing.{lines-pass}
-use Rattle.operations.specs.Used.{UsedRecord, usedLines}
+use Rattle.operations.specs.Used.{usedLines, UsedRecord, usedRecord}
 use Rattle.record.specs.Lent.{recordLengths, recordLines}
 use Rattle.stabilizer.proofs.SharedTests.{counted, has-length}
 use Rattle.store.specs.Places.{partAt}
@@ -33,10 +33,7 @@ two u others h = first-is (here (ap (λ b. (b || false) || false) h))
 -- the record that was read, in the first places of the arrays
 abbrev heldBy : ReadRecord → UsedRecord
 heldBy r =
-    record {
-      held = record { n = r .count; neighbours = take (r .count) (r .neighbours); codes = take (r .count) (r .codes) };
-      used = r .used;
-    }
+    usedRecord (r .count) (take (r .count) (r .neighbours)) (take (r .count) (r .codes)) (r .used)
 
 module _ (t : List ℕ) (n : ℕ) (nb cs : List ℕ) (used : ℕ) (r : ReadRecord) (T : TextTold t r) where
   pub read-unformed : r .form ≡ false → Call (readRecordCall t n nb cs used n nb cs used) 1
@@ -51,10 +48,7 @@ module _ (t : List ℕ) (n : ℕ) (nb cs : List ℕ) (used : ℕ) (r : ReadRecor
         let words = T .neighbours f few ∙ ap (λ k. tabulate k (λ q. (lineRead t q) .word)) c in
         let marks = T .codes f few ∙ ap (λ k. tabulate k (λ q. (lineRead t q) .code)) c in
         let bits = T .used f few ∙ ap (λ k. wordOf k (λ q. (lineRead t q) .used)) c in
-        λ i. record {
-          held = record { n = c i; neighbours = words i; codes = marks i };
-          used = bits i;
-        }
+        λ i. usedRecord (c i) (words i) (marks i) (bits i)
 
     same-number : (others : Bool) → firstFitting (usedLines (heldBy r) others false false)
         ≡ firstFitting (usedLines (recordOf t) others false false)

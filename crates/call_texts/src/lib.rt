@@ -11,7 +11,7 @@ ghost use lib.ListN.{length, take};
 ghost use Rattle.buffers.specs.Calls.{Call};
 ghost use Rattle.buffers.specs.Refusals.{firstFitting};
 ghost use Rattle.calls.specs.RecordTexts.{readRecordCall, writeRecordCall};
-ghost use Rattle.operations.specs.Used.{usedLines};
+ghost use Rattle.operations.specs.Used.{usedLines, usedRecord};
 
 // The text of a record, and how many bytes it has; the places past them keep their values.
 pub fn write_record(
@@ -22,10 +22,8 @@ pub fn write_record(
     text: &mut [u8],
     size: &mut u64,
 ) -> u8
-    ensures { λ r. ⌜ Call (writeRecordCall (record {
-      held = record { n = n; neighbours = now (neighbours .entry); codes = now (codes .entry) };
-      used = used;
-    }) (now (text .entry)) (now (size .entry)) (now (text .exit)) (now (size .exit))) r ⌝ }
+    ensures { λ r. ⌜ Call (writeRecordCall (usedRecord n (now (neighbours .entry)) (now (codes .entry)) used)
+        (now (text .entry)) (now (size .entry)) (now (text .exit)) (now (size .exit))) r ⌝ }
 {
     let others = other_than(text.len(), 1627);
     let early = used_refusal(n, neighbours, codes, used, 0, others, false);
@@ -41,10 +39,8 @@ pub fn write_record(
 // the call has a wrong length.
 fn held_refusal(n: usize, neighbours: &[u64], codes: &[u8], used: u64, others: bool) -> u8
     requires { ⌜ (length (now neighbours) ≡ 64) × (length (now codes) ≡ 64) ⌝ }
-    ensures { λ r. ⌜ r ≡ firstFitting (usedLines (record {
-      held = record { n = n; neighbours = take n (now (neighbours .entry)); codes = take n (now (codes .entry)) };
-      used = used;
-    }) others false false) ⌝ }
+    ensures { λ r. ⌜ r ≡ firstFitting (usedLines (usedRecord n (take n (now (neighbours .entry)))
+        (take n (now (codes .entry))) used) others false false) ⌝ }
 {
     let count = n as u64;
     if bad_count(count) {

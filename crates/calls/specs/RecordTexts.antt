@@ -7,7 +7,7 @@ use lib.ListN.{length}
 use Rattle.buffers.specs.Buffers.{tabulate, written}
 use Rattle.buffers.specs.Calls.{Contract, buffer, contractOf, number}
 use Rattle.buffers.specs.Refusals.{Refusal, line, otherThan}
-use Rattle.operations.specs.Used.{UsedRecord, usedLines}
+use Rattle.operations.specs.Used.{usedLines, UsedRecord}
 use Rattle.text.specs.RecordTexts.{lineRead, qubitCount, recordForm}
 use Rattle.text.specs.Text.{recordText}
 use Rattle.words.specs.Bits.{wordOf}
@@ -45,7 +45,8 @@ readRecordLines t nb cs =
     line 1 (not (recordForm t)) ∷ usedLines (recordOf t) (otherThan 64 nb || otherThan 64 cs) false false
 
 -- ---- sukhlent_read_record: "those from `*n` on keep their values"
-abbrev pub readRecordCall : List ℕ → ℕ → List ℕ → List ℕ → ℕ → ℕ → List ℕ → List ℕ → ℕ → Contract
+abbrev pub readRecordCall : (t : List ℕ) (n : ℕ) (nb cs : List ℕ) (used n′ : ℕ) (nb′ cs′ : List ℕ) (used′ : ℕ) →
+    Contract
 readRecordCall t n nb cs used n′ nb′ cs′ used′ =
     contractOf (readRecordLines t nb cs)
     (number n ((recordOf t) .held .n) n′ ∷ buffer nb (written ((recordOf t) .held .neighbours) nb) nb′

@@ -16,7 +16,7 @@ use Rattle.buffers.specs.Answers.{later}
 use Rattle.buffers.specs.Buffers.{tabulate}
 use Rattle.buffers.specs.Refusals.{firstFitting, otherThan}
 use Rattle.calls.specs.RecordTexts.{printOf, readRecordLines, recordOf, writeRecordLines}
-use Rattle.operations.specs.Used.{UsedRecord, usedLines}
+use Rattle.operations.specs.Used.{usedLines, UsedRecord, usedRecord}
 use Rattle.stabilizer.proofs.SharedTests.{has-length, length-passes}
 use Rattle.text.proofs.RecordForm.{count-back, form-text, lines-back, text-form}
 use Rattle.text.proofs.RecordLaws.{length-lines}
@@ -78,10 +78,7 @@ module _ (u : UsedRecord) (R : IsRecord u) where
           ∙ word-cong n _ (bit (u .used)) (λ q l. ap (λ l. l .used) (lines-back n said said-fits q l))
           ∙ wordOf-bit n (u .used) (R .below)
           in
-          λ i. record {
-            held = record { n = count i; neighbours = words i; codes = marks i };
-            used = bits i;
-          }
+          λ i. usedRecord (count i) (words i) (marks i) (bits i)
 
 -- ---- a text read and written
 pub text-back : (t : List ℕ) → recordForm t ≡ true → qubitCount t ≤ 64 → printOf (recordOf t) ≡ t

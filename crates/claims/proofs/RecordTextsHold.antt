@@ -25,7 +25,7 @@ use Rattle.jobs.specs.Runs.{run, started}
 use Rattle.jobs.specs.Standing.{StillRecord}
 use Rattle.operations.proofs.UsedInWords.{used-in-words}
 use Rattle.operations.proofs.UsedPassing.{unused-passes}
-use Rattle.operations.specs.Used.{UsedRecord}
+use Rattle.operations.specs.Used.{UsedRecord, usedRecord}
 use Rattle.record.specs.Lent.{LentRecord}
 use Rattle.record.proofs.RecordInWords.{code-above-23, misfits, stray-neighbour}
 use Rattle.text.proofs.RecordForm.{record-form-exactly}
@@ -133,10 +133,7 @@ module _ (t : List ℕ) (n : ℕ) (nb cs : List ℕ) (used n′ : ℕ) (nb′ cs
       ∙ take-at (u .held .codes) (drop (length (u .held .codes)) cs) (u .held .n) (A .codes-length) in
       let n-is = W .0 in
       let used-is = W .1 .1 .1 .0 in
-      λ i. record {
-        held = record { n = n-is i; neighbours = words i; codes = marks i };
-        used = used-is i;
-      }
+      λ i. usedRecord (n-is i) (words i) (marks i) (used-is i)
 
   past : (new old new′ : List ℕ) → length new ≡ n′ → new′ ≡ written new old → drop n′ new′ ≡ drop n′ old
   past new old new′ e w =

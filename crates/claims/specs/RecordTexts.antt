@@ -13,7 +13,7 @@ use Rattle.claims.specs.Conforming.{Answered}
 use Rattle.claims.specs.ProgramDemand.{JobPrinted, RecordPrinted, reducedRecord}
 use Rattle.jobs.specs.Runs.{run, started}
 use Rattle.jobs.specs.declared.Step.{Step}
-use Rattle.operations.specs.Used.{UsedRecord}
+use Rattle.operations.specs.Used.{UsedRecord, usedRecord}
 use Rattle.operations.specs.UsedSentences.{StrayBit, usedSentences}
 use Rattle.record.specs.RecordSentences.{CodeAbove23, RecordMisfits}
 use Rattle.stabilizer.specs.Lists.{GeneratorList}
@@ -32,7 +32,7 @@ writeRecordSentences u text =
 -- the record in the buffers after a read
 abbrev pub recordRead : ℕ → List ℕ → List ℕ → ℕ → UsedRecord
 recordRead n′ nb′ cs′ used′ =
-    record { held = record { n = n′; neighbours = take n′ nb′; codes = take n′ cs′ }; used = used′ }
+    usedRecord n′ (take n′ nb′) (take n′ cs′) used′
 
 -- "reading back a written record yields that record": every read of the text into buffers of 64 places is accepted, and
 -- leaves the record

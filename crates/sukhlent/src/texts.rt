@@ -1,6 +1,7 @@
 // The calls on a record as a text, as C sees them.
 ghost use Rattle.calls.specs.RecordTexts.{readRecordCall, writeRecordCall};
 ghost use Rattle.buffers.specs.Calls.{Call};
+ghost use Rattle.operations.specs.Used.{usedRecord};
 
 // The text of a record, and how many bytes it has.
 #[no_mangle]
@@ -13,10 +14,7 @@ pub extern "C" fn sukhlent_write_record(
     length: &mut u64,
 ) -> u8
     ensures { λ r. ⌜ Call (writeRecordCall
-        (record {
-          held = record { n = n; neighbours = now (neighbours .entry); codes = now (codes .entry) };
-          used = used;
-        })
+        (usedRecord n (now (neighbours .entry)) (now (codes .entry)) used)
         (now (text .entry)) (now (length .entry)) (now (text .exit)) (now (length .exit))) r ⌝ }
 {
     call_texts::write_record(n, neighbours, codes, used, text, length)

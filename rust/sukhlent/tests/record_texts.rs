@@ -156,7 +156,7 @@ fn buffers_of_other_lengths_are_refused() {
 
 #[test]
 fn the_safe_functions_answer_refusals() {
-    assert_eq!(write_record(&Record::zeros(65)), Err(Refusal::Qubits));
+    assert_eq!(write_record(&Record::zeros(65)), Err(Refusal::Count));
     assert_eq!(read_record("qubit"), Err(Refusal::Form));
-    assert_eq!(Record::zeros(0).to_string(), Refusal::Qubits.to_string());
+    assert_eq!(Record::zeros(0).to_string(), Refusal::Count.to_string());
 }

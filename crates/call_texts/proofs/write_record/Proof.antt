@@ -1,6 +1,6 @@
 -- `write_record` meets its contract: the text of a record, and how many bytes it has.
 use borrow.Author.Needs.{needs}
-use Rattle.operations.specs.Used.{UsedRecord}
+use Rattle.operations.specs.Used.{UsedRecord, usedRecord}
 use Rattle.call_texts.proofs.WriteCalls.{write-done, write-refused, write-room}
 use Rattle.call_texts.proofs.write_record.Statement.{statement}
 use Rattle.call_texts.proofs.write_record.Tie as tie
@@ -8,10 +8,7 @@ use Rattle.call_texts.proofs.write_record.Tie as tie
 -- the record that is lent
 abbrev lent : tie.Start → UsedRecord
 lent S =
-    record {
-      held = record { n = S .args .n; neighbours = S .args .neighbours .now; codes = S .args .codes .now };
-      used = S .args .used;
-    }
+    usedRecord (S .args .n) (S .args .neighbours .now) (S .args .codes .now) (S .args .used)
 
 abbrev at : tie.After-used-refusal → tie.Start
 at E = E .before .before .before .before .before

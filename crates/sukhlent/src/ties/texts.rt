@@ -2,6 +2,7 @@
 use crate::texts::sukhlent_read_record;
 use crate::texts::sukhlent_write_record;
 ghost use Rattle.claims.specs.RecordTexts.{ReadRecordSays, WriteRecordSays};
+ghost use Rattle.operations.specs.Used.{usedRecord};
 
 pub fn write_record_says(
     n: u64,
@@ -12,10 +13,7 @@ pub fn write_record_says(
     length: &mut u64,
 ) -> u8
     ensures { λ r. ⌜ WriteRecordSays
-        (record {
-          held = record { n = n; neighbours = now (neighbours .entry); codes = now (codes .entry) };
-          used = used;
-        })
+        (usedRecord n (now (neighbours .entry)) (now (codes .entry)) used)
         (now (text .entry)) (now (length .entry)) (now (text .exit)) (now (length .exit)) r ⌝ }
 {
     sukhlent_write_record(n, neighbours, codes, used, text, length)
