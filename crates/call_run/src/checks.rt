@@ -32,12 +32,12 @@ pub fn run_refusal(
     ensures { λ r. ⌜ r ≡ firstFitting (line 15 (ltb 4096 (length (now (ops .entry)))) ∷ usedLines (record {
       held = record { n = n; neighbours = now (neighbours .entry); codes = now (codes .entry) };
       used = used;
-    }) others false (reaching 5 (now (ops .entry)))) ⌝ }
+    }) others false (reaching 7 (now (ops .entry)))) ⌝ }
 {
     if 4096 < ops.len() {
         return 15;
     }
-    let six = reaches(ops, 5);
+    let six = reaches(ops, 7);
     used_refusal(n, neighbours, codes, used, 0, others, six)
 }
 
