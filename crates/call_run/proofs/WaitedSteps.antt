@@ -137,47 +137,47 @@ module _ (waiting : Bool) (u : UsedRecord) (W : Standing waiting u) where
 
   -- ---- a new photon
   module _ (q c : ℕ) (words′ codes′ : List ℕ) (used′ k : ℕ) (C : Call (renewCall (meant waiting u) q c words′ codes′ used′) k)
-      where
-    renewed-sound : Unrefused (heldIn u words′ codes′)
-    renewed-sound = go (ℕ-discrete k 0)
-      where
-        held-as : (w : LentRecord) → w .n ≡ u .held .n → words′ ≡ w .neighbours → codes′ ≡ w .codes
-            → firstFitting (recordLines w false false) ≡ 0 → Unrefused (heldIn u words′ codes′)
-        held-as w en ew ec h = record {
-          no-line = subst (λ t. firstFitting (recordLines t false false) ≡ 0)
-              (λ i. record { n = en i; neighbours = sym ew i; codes = sym ec i }) h;
-        }
+    where
+      renewed-sound : Unrefused (heldIn u words′ codes′)
+      renewed-sound = go (ℕ-discrete k 0)
+        where
+          held-as : (w : LentRecord) → w .n ≡ u .held .n → words′ ≡ w .neighbours → codes′ ≡ w .codes
+              → firstFitting (recordLines w false false) ≡ 0 → Unrefused (heldIn u words′ codes′)
+          held-as w en ew ec h = record {
+            no-line = subst (λ t. firstFitting (recordLines t false false) ≡ 0)
+                (λ i. record { n = en i; neighbours = sym ew i; codes = sym ec i }) h;
+          }
 
-        go : Dec (k ≡ 0) → Unrefused (heldIn u words′ codes′)
-        go (yes z) =
-            let w = written-all C z in
-            let F = renew-passes v q c (sym (C .number) ∙ z) in
-            held-as ((renewed v q c) .held) refl (w .1 .0) (w .1 .1 .0)
-            (lines-pass (renewed v q c) false false false .0 (renewed-passes v q c F) .0)
-        go (no h) =
-            let w = kept-all C h in
-            held-as (v .held) refl (w .1 .0) (w .1 .1 .0) (lines-pass v false false false .0 (W .checked .no-line) .0)
+          go : Dec (k ≡ 0) → Unrefused (heldIn u words′ codes′)
+          go (yes z) =
+              let w = written-all C z in
+              let F = renew-passes v q c (sym (C .number) ∙ z) in
+              held-as ((renewed v q c) .held) refl (w .1 .0) (w .1 .1 .0)
+              (lines-pass (renewed v q c) false false false .0 (renewed-passes v q c F) .0)
+          go (no h) =
+              let w = kept-all C h in
+              held-as (v .held) refl (w .1 .0) (w .1 .1 .0) (lines-pass v false false false .0 (W .checked .no-line) .0)
 
-    renewed-call : Call (renewCall (meant waiting u) q c
-        ((meantRecord (cond (eqb k 0) false waiting) (heldIn u words′ codes′)) .neighbours)
-        ((meantRecord (cond (eqb k 0) false waiting) (heldIn u words′ codes′)) .codes) used′) k
-    renewed-call = go (ℕ-discrete k 0)
-      where
-        Said : Bool → Type 0
-        Said b = Call (renewCall v q c ((meantRecord (cond b false waiting) (heldIn u words′ codes′)) .neighbours)
-            ((meantRecord (cond b false waiting) (heldIn u words′ codes′)) .codes) used′) k
+      renewed-call : Call (renewCall (meant waiting u) q c
+          ((meantRecord (cond (eqb k 0) false waiting) (heldIn u words′ codes′)) .neighbours)
+          ((meantRecord (cond (eqb k 0) false waiting) (heldIn u words′ codes′)) .codes) used′) k
+      renewed-call = go (ℕ-discrete k 0)
+        where
+          Said : Bool → Type 0
+          Said b = Call (renewCall v q c ((meantRecord (cond b false waiting) (heldIn u words′ codes′)) .neighbours)
+              ((meantRecord (cond b false waiting) (heldIn u words′ codes′)) .codes) used′) k
 
-        go : Dec (k ≡ 0) → Said (eqb k 0)
-        go (yes z) = subst Said (sym (eq-eqb k 0 z)) C
-        go (no h) =
-            let w = kept-all C h in
-            subst Said (sym (ne-eqb k 0 h)) (refused _ (C .number) h (
-              w .0,
-              (
-                ap₂ (λ a b. (meantRecord waiting (heldIn u a b)) .neighbours) (w .1 .0) (w .1 .1 .0) ∙ meant-again waiting u W .0,
-                (ap₂ (λ a b. (meantRecord waiting (heldIn u a b)) .codes) (w .1 .0) (w .1 .1 .0) ∙ meant-again waiting u W .1, tt),
-              ),
-            ))
+          go : Dec (k ≡ 0) → Said (eqb k 0)
+          go (yes z) = subst Said (sym (eq-eqb k 0 z)) C
+          go (no h) =
+              let w = kept-all C h in
+              subst Said (sym (ne-eqb k 0 h)) (refused _ (C .number) h (
+                w .0,
+                (
+                  ap₂ (λ a b. (meantRecord waiting (heldIn u a b)) .neighbours) (w .1 .0) (w .1 .1 .0) ∙ meant-again waiting u W .0,
+                  (ap₂ (λ a b. (meantRecord waiting (heldIn u a b)) .codes) (w .1 .0) (w .1 .1 .0) ∙ meant-again waiting u W .1, tt),
+                ),
+              ))
 
   -- ---- a step
   module _ (s : Step) where
