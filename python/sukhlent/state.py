@@ -300,9 +300,12 @@ class State(Gates, Reads, Graphs, Shows):
         if number:
             raise explain.on_qubits(number, self.n, self.used, (vertex,), "complement")
 
-    def run(self, steps: Any, a: Any = None, b: Any = None, value: Any = None) -> "list[tuple[int, int, int]] | Ran":
-        """Runs at most 4,096 steps in one call: each is an operation (0 gate, 1 cz, 2 measure, 3 complement, 4 pivot), two
-        qubits and a value, as in a job. Answers refusal, outcome and determined of each; a refused step changes nothing.
+    def run(
+        self, steps: Any, a: Any = None, b: Any = None, value: Any = None, source: Source = None
+    ) -> "list[tuple[int, int, int]] | Ran":
+        """Runs at most 4,096 steps in one call: each is an operation (0 gate, 1 cz, 2 measure, 3 complement, 4 pivot,
+        5 observe, 6 renew), two qubits and a value, as in a job. Answers refusal, outcome and determined of each; a refused
+        step changes nothing.
 
         >>> state = State.zeros(2)
         >>> state.run([(0, 0, 0, 8), (2, 0, 0, 0), (1, 0, 1, 0)])
@@ -316,10 +319,16 @@ class State(Gates, Reads, Graphs, Shows):
         >>> from array import array
         >>> State.zeros(2).run(array("B", [0, 2]), array("H", [0, 0]), array("H", [0, 0]), array("H", [8, 0])).determined
         array('B', [0, 1])
+
+        An observation (value `2 * (pauli - 1) + bit`) takes its bit where the state does not determine the outcome; with a
+        `source` all bits of observations are drawn from it, those given play no part. A renewal's value is the photon's code.
+
+        >>> State.zeros(1).run([(5, 0, 0, 0), (6, 0, 0, 8), (5, 0, 0, 4)], source=5)
+        [(0, 1, 0), (0, 0, 0), (0, 0, 1)]
         """
         if a is None and b is None and value is None:
-            return run_tuples(self._block, steps)
-        return run_buffers(self._block, steps, a, b, value)
+            return run_tuples(self._block, steps, source)
+        return run_buffers(self._block, steps, a, b, value, source)
 
     def run_circuit(self, text: str, source: Source = None) -> list[Measured]:
         """Runs a circuit of Clifford gates, written for Stim or in OpenQASM 2 or 3, from this state on; answers its

@@ -201,12 +201,12 @@ pub fn observe_waiting(
     }
     let measured = measure_unsettled(neighbours, codes, pauli, qubit as usize, bit % 2 == 1);
     *used = word | single(qubit as usize);
-    let answered = outcome_number(measured);
-    let found = determined_number(measured);
+    let told = outcome_number(measured);
+    let known = determined_number(measured);
     Answer {
         refusal: 0,
-        outcome: answered,
-        determined: found,
+        outcome: told,
+        determined: known,
     }
 }
 

@@ -398,11 +398,12 @@ fn run_step(random: &mut Random, n: usize, noisy: bool) -> (u8, u16, u16, u16) {
         let [op, a, b, value] = [0; 4].map(|_: u16| random.word() as u16);
         return (op as u8, a, b, value);
     }
-    let op = random.below(5) as u8;
+    let op = random.below(7) as u8;
     let [a, b] = [0, 1].map(|_| random.below(n + 1) as u16);
     match op {
         0 => (op, a, 0, random.below(25) as u16),
-        2 => (op, a, 0, random.below(7) as u16),
+        2 | 5 => (op, a, 0, random.below(7) as u16),
+        6 => (op, a, 0, random.below(13) as u16),
         3 => (op, a, 0, 0),
         _ => (op, a, b, 0),
     }

@@ -31,7 +31,7 @@ pub enum Refusal {
     #[doc(alias = "SUKHLENT_STRAY")]
     StrayBit = 5,
     /// A sign, outcome or group is above 1, a code above 23 or no photon's, a Pauli not 1 to 3, a
-    /// seed 0, an operation above 4, or a field that a step does not use is not 0.
+    /// seed 0, an operation above 6, or a field that a step does not use is not 0.
     #[doc(alias = "SUKHLENT_VALUE")]
     Value = 6,
     /// A graph is not simple, a used vertex is not as a measurement leaves it, a store holds a name
@@ -153,7 +153,7 @@ impl Refusal {
             Refusal::StrayBit => "a word has a bit at or above n",
             Refusal::Value => {
                 "a sign, outcome or group is above 1, a code above 23 or no photon's, a Pauli not \
-                 1 to 3, a seed 0, a run's operation above 4, or a field that a step does not use \
+                 1 to 3, a seed 0, a run's operation above 6, or a field that a step does not use \
                  is not 0"
             }
             Refusal::Graph => {
