@@ -40,7 +40,7 @@ def run_tuples(block: bytearray, steps: Iterable[Sequence[int]], source: Source 
     given = _steps(steps)
     if source is not None:
         draw = bits_from(source)
-        given = [(op, a, b, _with_bit(value, draw) if op == OBSERVE else value) for op, a, b, value in given]
+        given = [(op, a, b, with_bit(value, draw) if op == OBSERVE else value) for op, a, b, value in given]
     columns = list(zip(*given)) if given else [()] * 4
     try:
         slices: list[Any] = [array("B", columns[0]), *(array("H", column) for column in columns[1:])]
@@ -64,7 +64,7 @@ def _steps(steps: Iterable[Sequence[int]]) -> list[tuple[int, int, int, int]]:
         raise
 
 
-def _with_bit(value: Any, draw: Callable[[], int]) -> Any:
+def with_bit(value: Any, draw: Callable[[], int]) -> Any:
     """An observation's value with a drawn bit in place of its own."""
     return whole(value, "a value") & ~1 | draw()
 

@@ -10,11 +10,12 @@ from .arguments import qubits
 from .drawing import record_svg
 from .gates import Gates
 from .layouts import Layout
+from .lots import Source, bits_from
 from .pictures import draw
 from .refusals import Refusal
 from .rows import Row, row_words
-from .running import OPS
-from .state import State
+from .running import OBSERVE, OPS, RUN_OPS, with_bit
+from .state import PHOTONS, State
 from .stores import Buffers, held_names, name_number, not_held
 
 
@@ -294,25 +295,45 @@ class Group(Gates):
                 number, 64, self._used(), (vertex,), "complement"
             )
 
-    def run(self, steps: Iterable[Sequence[int]]) -> list[tuple[int, int, int]]:
+    def run(self, steps: Iterable[Sequence[int]], source: Source = None) -> list[tuple[int, int, int]]:
         """Runs steps of the group one after the other, given as to `State.run`: an operation, two qubits and a value each.
         Answers refusal, outcome and determined of each; a refused step changes nothing. Refused as a whole by 15 where
-        there are more than 4,096, by 6 where an operation is none.
+        there are more than 4,096, by 6 where an operation is none. With a `source` the bits of observations are drawn from it.
 
         >>> lower, upper = Shared(range(32, 64)).groups()
         >>> lower.run([(0, 0, 0, 8), (0, 40, 0, 8), (2, 0, 0, 0)])
         [(0, 0, 0), (19, 0, 0), (0, 0, 1)]
+        >>> lower.run([(6, 0, 0, 8), (5, 0, 0, 5), (5, 40, 0, 4)])
+        [(0, 0, 0), (0, 0, 1), (19, 0, 0)]
         """
-        from .jobs import Step, run_step
-
+        bit = None if source is None else bits_from(source)
         given = [(op, a, b, value) for op, a, b, value in steps]
         if len(given) > 4096:
             raise Refusal(15, f"{len(given)} steps, but a run has at most 4,096")
-        strange = next(((k, step[0]) for k, step in enumerate(given) if not 0 <= step[0] < len(OPS)), None)
+        strange = next(((k, step[0]) for k, step in enumerate(given) if not 0 <= step[0] < len(RUN_OPS)), None)
         if strange is not None:
-            raise Refusal(6, f"step {strange[0]} has the operation {strange[1]}, but operations are 0 to {len(OPS) - 1}")
-        found = (run_step(self, Step(OPS[op], a, b, value)) for op, a, b, value in given)
-        return [(result.refusal, result.outcome, result.determined) for result in found]
+            raise Refusal(6, f"step {strange[0]} has the operation {strange[1]}, but operations are 0 to {len(RUN_OPS) - 1}")
+        if bit is not None:
+            given = [(op, a, b, with_bit(value, bit) if op == OBSERVE else value) for op, a, b, value in given]
+        return [self._stepped(*step) for step in given]
+
+    def _stepped(self, op: int, a: int, b: int, value: int) -> tuple[int, int, int]:
+        """What a step of a run answers."""
+        from .jobs import Step, run_step
+
+        if op < len(OPS):
+            result = run_step(self, Step(OPS[op], a, b, value))
+            return result.refusal, result.outcome, result.determined
+        try:
+            if b != 0 or value not in (range(6) if op == OBSERVE else PHOTONS.values()):
+                raise Refusal(6)
+            if op == OBSERVE:
+                found = self._observed("XYZ"[value // 2], a, value % 2)
+                return 0, found & 1, found >> 1
+            self.renew(a, next(photon for photon, code in PHOTONS.items() if code == value))
+        except Refusal as refusal:
+            return refusal.number, 0, 0
+        return 0, 0, 0
 
     def expectation(self, row: Row) -> int:
         """The expectation value of a Pauli row on the group's qubits, as `State.expectation` has it: a row of 64 letters, or

@@ -23,7 +23,7 @@ from .shows import Shows
 _new = object.__new__
 
 #: the codes of a new photon, by its state
-_PHOTONS = {"+X": 0, "-X": 2, "+Y": 4, "-Y": 6, "+Z": 8, "-Z": 10}
+PHOTONS = {"+X": 0, "-X": 2, "+Y": 4, "-Y": 6, "+Z": 8, "-Z": 10}
 
 
 def _judged(neighbours: Iterable[int], codes: Iterable[int], used: int) -> bytearray:
@@ -274,10 +274,10 @@ class State(Gates, Reads, Graphs, Shows):
         >>> state.used, state.generators().strings()
         (0, ['+Z'])
         """
-        if photon not in _PHOTONS:
-            raise ValueError(f"renew(qubit, photon): a photon is {', '.join(_PHOTONS)}, not {called(photon)}")
+        if photon not in PHOTONS:
+            raise ValueError(f"renew(qubit, photon): a photon is {', '.join(PHOTONS)}, not {called(photon)}")
         try:
-            number = calls.renew(self._block, qubit, _PHOTONS[photon])
+            number = calls.renew(self._block, qubit, PHOTONS[photon])
         except TypeError as error:
             raise TypeError(f"renew(qubit, photon): {error}") from None
         if number == 20:
