@@ -29,7 +29,7 @@ use Rattle.jobs.specs.declared.Op.the-variants.{Complement, Cz, Gate, Measure, 
 use Rattle.jobs.specs.declared.Step.{Step}
 use Rattle.operations.specs.Steps.{Operation, complementOf, czOn, gateWith, leaves, pivotOf}
 use Rattle.operations.specs.internal.InPlace.{Unrefused}
-use Rattle.record.specs.Lent.{LentRecord, recordLines}
+use Rattle.record.specs.Lent.{LentRecord, lentRecord, recordLines}
 use Rattle.operations.proofs.LeftRecords.{used-left}
 use Rattle.operations.proofs.UsedPassing.{lines-pass}
 use Rattle.operations.specs.Used.{UsedRecord, UsedUnrefused, usedAfter, usedStep}
@@ -145,7 +145,7 @@ module _ (waiting : Bool) (u : UsedRecord) (W : Standing waiting u) where
               → firstFitting (recordLines w false false) ≡ 0 → Unrefused (heldIn u words′ codes′)
           held-as w en ew ec h = record {
             no-line = subst (λ t. firstFitting (recordLines t false false) ≡ 0)
-                (λ i. record { n = en i; neighbours = sym ew i; codes = sym ec i }) h;
+                (λ i. lentRecord (en i) (sym ew i) (sym ec i)) h;
           }
 
           go : Dec (k ≡ 0) → Unrefused (heldIn u words′ codes′)

@@ -1,4 +1,4 @@
--- What the contract of each call on a record and on a store says is the action of a session.
+-- What the contract of each call on a record and on a store says is the action of a sessionOf.
 use mathlib.Core.Bool.{Bool, cond, false, not, true, _||_}
 use mathlib.Core.List.{List}
 use mathlib.Core.Path.{ap, ap₂, refl, sym, _∙_, _≡_}
@@ -34,7 +34,7 @@ use Rattle.store.proofs.ForgottenNames.{held-lookup}
 use Rattle.store.specs.Kept.{forgotten, forgottenHeads, saved}
 use Rattle.store.specs.Places.{Store, found}
 use Rattle.store.specs.StoreLines.{namedLines, saveLines}
-use Rattle.operations.specs.Used.{UsedRecord, usedAfter, usedLinesOf, usedStep}
+use Rattle.operations.specs.Used.{usedAfter, usedLinesOf, UsedRecord, usedRecord, usedStep}
 use Rattle.source.proofs.Observed.{answered}
 use Rattle.claims.proofs.RewritingsKeep.{is-after, is-measured}
 use Rattle.claims.proofs.StoreDemandHolds.{name-held, named-passing, returns-give}
@@ -48,7 +48,7 @@ use Rattle.claims.specs.ActionContracts.{
   SaveLeaves,
   StepLeaves,
   inBuffers,
-  session,
+  sessionOf,
   stepWith,
 }
 use Rattle.claims.specs.UsedDemand.{leftUsed}
@@ -59,14 +59,14 @@ use Rattle.claims.specs.StoreDemand.{storeOf}
 step-leaves : (u : UsedRecord) (step : Step) (o : Operation) → asked step ≡ carryOut o →
     unusedSet (step .op) (step .b) (step .value) ≡ false → (r : ℕ) (nb′ cs′ : List ℕ) (used′ : ℕ) →
     Call (usedCall u o nb′ cs′) r → used′ ≡ (usedStep u o) .after .used → StepLeaves u step (leftUsed u nb′ cs′ used′)
-step-leaves u step o g unset r nb′ cs′ used′ C e st = ap (λ v. session v st)
+step-leaves u step o g unset r nb′ cs′ used′ C e st = ap (λ v. sessionOf v st)
     (left-by-operation u step o g unset ∙ λ i. record { held = sym (is-after u o r nb′ cs′ C) i; used = sym e i })
 
 -- a step that stands for any call: where it is accepted, and where it is not
 called-leaves : (u : UsedRecord) (step : Step) (t : Request) → asked step ≡ t →
     unusedSet (step .op) (step .b) (step .value) ≡ false → (r : ℕ) → r ≡ firstFitting (requestLines u t) →
     (after : UsedRecord) → (r ≡ 0 → after ≡ requestLeaves u t) → ((r ≡ 0 → ⊥) → after ≡ u) → StepLeaves u step after
-called-leaves u step t g unset r e after yes-left no-left st = ap (λ v. session v st) (go (ℕ-discrete r 0))
+called-leaves u step t g unset r e after yes-left no-left st = ap (λ v. sessionOf v st) (go (ℕ-discrete r 0))
   where
     number : numberOf u step ≡ r
     number = number-of-request u step unset ∙ ap (λ t. firstFitting (requestLines u t)) g ∙ sym e
@@ -88,7 +88,7 @@ measure-leaves : (u : UsedRecord) (pauli q b answer determined r : ℕ) (nb′ c
     Call (usedMeasureCall u pauli q b answer determined nb′ cs′ used′ answer′ determined′) r →
     MeasureLeaves u pauli q b (leftUsed u nb′ cs′ used′)
 measure-leaves u pauli q b answer determined r nb′ cs′ used′ answer′ determined′ C value p e st =
-    ap (λ v. session v st) (left-by-operation u (stepWith Measure q 0 value) _ refl refl
+    ap (λ v. sessionOf v st) (left-by-operation u (stepWith Measure q 0 value) _ refl refl
     ∙ ap₂ (λ p b. (usedStep u (measurementOf p q b)) .after) (sym p) (sym e)
     ∙ sym (is-measured u pauli q b answer determined r nb′ cs′ used′ answer′ determined′ C))
 
@@ -103,21 +103,21 @@ observe-leaves u pauli q b answer determined r nb′ cs′ used′ answer′ det
     (λ z. is-measured u pauli q (answered u pauli q b) answer determined 0 nb′ cs′ used′ answer′ determined′
     (observe-as-measured u pauli q b (at-zero C z)))
     (λ h. let w = kept-all C h in
-    λ i. record { held = record { n = u .held .n; neighbours = w .1 .1 .1 .0 i; codes = w .1 .1 .1 .1 .0 i }; used = w .0 i })
+    λ i. usedRecord (u .held .n) (w .1 .1 .1 .0 i) (w .1 .1 .1 .1 .0 i) (w .0 i))
 
 renew-leaves : (u : UsedRecord) (q k r : ℕ) (nb′ cs′ : List ℕ) (used′ : ℕ) → Call (renewCall u q k nb′ cs′ used′) r →
     StepLeaves u (stepWith Renew q 0 k) (leftUsed u nb′ cs′ used′)
 renew-leaves u q k r nb′ cs′ used′ C =
     called-leaves u (stepWith Renew q 0 k) (renewalOf q k) refl refl r (C .number) (leftUsed u nb′ cs′ used′)
     (λ z. let w = written-all C z in
-    λ i. record { held = record { n = u .held .n; neighbours = w .1 .0 i; codes = w .1 .1 .0 i }; used = w .0 i })
+    λ i. usedRecord (u .held .n) (w .1 .0 i) (w .1 .1 .0 i) (w .0 i))
     (λ h. let w = kept-all C h in
-    λ i. record { held = record { n = u .held .n; neighbours = w .1 .0 i; codes = w .1 .1 .0 i }; used = w .0 i })
+    λ i. usedRecord (u .held .n) (w .1 .0 i) (w .1 .1 .0 i) (w .0 i))
 
 -- ---- a save
 save-leaves : (u : UsedRecord) (name : ℕ) (st : Store) (r : ℕ) (heads′ nb′ cs′ : List ℕ) →
     Call (saveCall u name st heads′ nb′ cs′) r → SaveLeaves u name st heads′ nb′ cs′
-save-leaves u name st r heads′ nb′ cs′ C = ap (session u) (sym
+save-leaves u name st r heads′ nb′ cs′ C = ap (sessionOf u) (sym
     ((λ j. storeOf (by _ _ (C .held .0) j) (by _ _ (C .held .1 .0) j) (by _ _ (C .held .1 .1 .0) j))
     ∙ go (eqb (firstFitting (saveLines 8 u name st)) 0)))
   where
@@ -134,7 +134,7 @@ save-leaves u name st r heads′ nb′ cs′ C = ap (session u) (sym
 -- ---- a forget
 forget-leaves : (name : ℕ) (st : Store) (r : ℕ) (heads′ : List ℕ) → Call (forgetCall name st heads′) r →
     ForgetLeaves name st heads′
-forget-leaves name st r heads′ C u = ap (session u) (sym
+forget-leaves name st r heads′ C u = ap (sessionOf u) (sym
     (ap (λ heads. storeOf heads (st .neighbours) (st .codes))
     (C .held .0 ∙ ap (λ k. accepted k (forgottenHeads 8 name (st .heads)) (st .heads)) (C .number))
     ∙ go (eqb (firstFitting (namedLines 8 name st false)) 0)))
@@ -165,9 +165,9 @@ module _ (name : ℕ) (st : Store) (n : ℕ) (nb cs : List ℕ) (used n′ : ℕ
   return-leaves : ReturnLeaves name st n′ nb′ cs′ used′ r
   return-leaves =
       record {
-        accepted = λ z u. ap (λ v. session v st)
+        accepted = λ z u. ap (λ v. sessionOf v st)
             (ap (λ b. cond b (heldUnder name st) u) (eq-eqb _ 0 (sym number ∙ z)) ∙ back z);
-        refused = λ h u. ap (λ v. session v st)
+        refused = λ h u. ap (λ v. sessionOf v st)
             (ap (λ b. cond b (heldUnder name st) u) (ne-eqb _ 0 (λ z. h (number ∙ z))));
       }
 

@@ -11,7 +11,7 @@ use borrow.Author.Tests.{eq-eqb, ne-eqb, eqb-false}
 use Rattle.jobs.specs.Asked.{unusedSet}
 use Rattle.jobs.specs.declared.Op.the-variants.{Gate, Cz, Measure}
 use Rattle.jobs.specs.declared.Step.{Step}
-use Rattle.jobs.specs.Text.{Fits, AllFit, inTexts}
+use Rattle.jobs.specs.Text.{StepFits, EachStepFits, inTexts}
 use Rattle.words.proofs.Flags.{by-test}
 use Rattle.jobs.specs.Draws.{draw}
 use Rattle.jobs.specs.Drawn.{does, drawn, drawnCode, drawnOutcome, qubitA, qubitB, stepOf}
@@ -80,11 +80,11 @@ module _ {n : ℕ} (few : n ≤ 64) where
   named (cz h k differ) = refl
   named (measure h k) = refl
 
-  fits : {s : Step} → Drawable n s → Fits s
+  fits : {s : Step} → Drawable n s → StepFits s
   fits d = let m = small d in
       record { op = named d; a = omega (arith, m .a); b = omega (arith, m .b); value = omega (arith, m .value) }
 
-  pub all-fit : (ss : List Step) → AllDrawable n ss → AllFit ss
+  pub all-fit : (ss : List Step) → AllDrawable n ss → EachStepFits ss
   all-fit [] d = tt
   all-fit (s ∷ ss) d = (fits (d .0), all-fit ss (d .1))
 

@@ -1,7 +1,7 @@
 -- `run_step` meets its contract: one step on a record that no line refuses.
 use mathlib.Core.Bool.{false}
 use mathlib.Core.Path.{_≡_}
-use Rattle.operations.specs.Used.{UsedRecord}
+use Rattle.operations.specs.Used.{UsedRecord, usedRecord}
 use Rattle.call_run.proofs.Running.{lot-small, photon-small, rewriting, value-small, wrong, wrong-by}
 use Rattle.call_run.proofs.WaitedSteps.{
   measured-waited,
@@ -17,10 +17,7 @@ use Rattle.call_run.proofs.steps.run_step.Tie as tie
 -- the record that is lent
 abbrev lent : tie.Start → UsedRecord
 lent S =
-    record {
-      held = record { n = S .args .n; neighbours = S .args .neighbours .now; codes = S .args .codes .now };
-      used = S .args .used .now;
-    }
+    usedRecord (S .args .n) (S .args .neighbours .now) (S .args .codes .now) (S .args .used .now)
 
 unused-set-requires : tie.Need-unused-set-requires
 unused-set-requires c κs = search needs

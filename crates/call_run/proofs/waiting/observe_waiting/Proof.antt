@@ -6,7 +6,7 @@ use lib.Dec.{eqb, leb}
 use Rattle.buffers.specs.Refusals.{firstFitting}
 use Rattle.call_run.specs.internal.Waiting.{meant}
 use Rattle.operations.specs.Steps.{measurementOf}
-use Rattle.operations.specs.Used.{UsedRecord, usedArgumentsOf}
+use Rattle.operations.specs.Used.{usedArgumentsOf, UsedRecord, usedRecord}
 use Rattle.call_run.proofs.WaitingLaws.{asks-before, numbered, observe-below, observe-stepped, refused-observation}
 use borrow.Author.Needs.{needs}
 use Rattle.call_run.proofs.waiting.observe_waiting.Statement.{statement}
@@ -15,10 +15,7 @@ use Rattle.call_run.proofs.waiting.observe_waiting.Tie as tie
 -- the record that is lent
 abbrev lent : tie.Start → UsedRecord
 lent S =
-    record {
-      held = record { n = S .args .n; neighbours = S .args .neighbours .now; codes = S .args .codes .now };
-      used = S .args .used .now;
-    }
+    usedRecord (S .args .n) (S .args .neighbours .now) (S .args .codes .now) (S .args .used .now)
 
 abbrev at : tie.After-argument-number → tie.Start
 at E = E .before .before .before .before .before
