@@ -99,6 +99,17 @@ impl Record {
         self.codes.len()
     }
 
+    /// The record as the raw calls read it.
+    pub(crate) fn lent(&self) -> raw::LentRecord<'_> {
+        (self.n() as u64, &self.neighbours, &self.codes, self.used)
+    }
+
+    /// The record as the raw calls rewrite it.
+    pub(crate) fn lent_mut(&mut self) -> (u64, &mut [u64], &mut [u8], &mut u64) {
+        let n = self.n() as u64;
+        (n, &mut self.neighbours, &mut self.codes, &mut self.used)
+    }
+
     /// Compares two states, as [`compare`](crate::compare) does with their generators.
     ///
     /// Refusals: those of [`compare_records`].
