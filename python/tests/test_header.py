@@ -90,14 +90,17 @@ class Header(unittest.TestCase):
         said = {NUMBERS[name]: text for name, text in cases if name != "ACCEPTED"}
         self.assertEqual(said, TEXTS)
 
-    def test_every_published_number_has_one_name_in_c_and_python_and_a_line_in_the_document(self):
+    def test_every_published_number_has_one_name_in_every_language_and_a_line_in_the_document(self):
         cases = re.findall(r"case SUKHLENT_(\w+): return", HEADER)
         named = [(NUMBERS[name], name) for name in cases if name != "ACCEPTED"]
         self.assertEqual(named, [(number, Refusal(number).name) for number in TEXTS])
-        rust = re.findall(r"^    (\w+) = (\d+),$", (ROOT / "rust/sukhlent/src/refusal.rs").read_text(), re.M)
-        variants = {int(number): name for name, number in rust}
+        words = {name: name.title().replace("_", "") for _, name in named}  # NOT_USED is NotUsed in Rust and C++
+        rust = re.findall(r'^    (\w+) = (\d+), "SUKHLENT_(\w+)",$', (ROOT / "rust/sukhlent/src/refusal.rs").read_text(), re.M)
+        self.assertEqual(rust, [(words[name], str(number), name) for number, name in named])
+        plus = re.findall(r"^    (\w+) = SUKHLENT_(\w+),?$", (ROOT / "include/sukhlent.hpp").read_text(), re.M)
+        self.assertEqual(plus[: len(named) + 1], [("Accepted", "ACCEPTED"), *((words[name], name) for _, name in named)])
         rows = re.findall(r"^\| (\d+) \| `(\w+)` \| `(\w+)` \| \w", (ROOT / "docs/ENGINE.md").read_text(), re.M)
-        self.assertEqual(rows, [(str(number), name, variants[number]) for number, name in named])
+        self.assertEqual(rows, [(str(number), name, words[name]) for number, name in named])
 
     def test_the_published_list_has_the_same_numbers_in_the_same_order(self):
         comment = HEADER[HEADER.index("in checking order") : HEADER.index("#ifndef")]

@@ -89,7 +89,7 @@ pub fn gate(record: &mut Record, qubit: usize, code: u8) -> Result<(), Refusal> 
 /// let mut record = Record { neighbours: vec![0, 0], codes: vec![0, 0], used: 0 };
 /// cz(&mut record, 0, 1)?;
 /// assert_eq!(record.neighbours, [0b10, 0b01]);
-/// assert_eq!(cz(&mut record, 1, 1), Err(Refusal::Place));
+/// assert_eq!(cz(&mut record, 1, 1), Err(Refusal::Qubit));
 /// # Ok::<(), Refusal>(())
 /// ```
 pub fn cz(record: &mut Record, a: usize, b: usize) -> Result<(), Refusal> {
@@ -123,7 +123,7 @@ pub fn cz(record: &mut Record, a: usize, b: usize) -> Result<(), Refusal> {
 /// assert_eq!(measure(&mut record, Pauli::Z, 0, 1), Err(Refusal::Used));
 /// // Qubit 1 is in the same state now: outcome 0 is contradicted.
 /// let contradicted = measure(&mut record, Pauli::Z, 1, 0);
-/// assert_eq!(contradicted, Err(Refusal::Contradiction));
+/// assert_eq!(contradicted, Err(Refusal::Contradicted));
 /// let second = measure(&mut record, Pauli::Z, 1, 1)?;
 /// assert_eq!(second, Measured { outcome: 1, determined: true });
 /// assert_eq!(record.used, 0b11);

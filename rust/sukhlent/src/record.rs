@@ -64,16 +64,16 @@ impl Record {
     ///
     /// let path = Record::graph(3, &[(0, 1), (2, 1), (1, 2)])?;
     /// assert_eq!(expand(&path)?.to_string(), "+XZI\n+ZXZ\n+IZX\n");
-    /// assert_eq!(Record::graph(3, &[(0, 3)]), Err(Refusal::StrayBit));
+    /// assert_eq!(Record::graph(3, &[(0, 3)]), Err(Refusal::Stray));
     /// assert_eq!(Record::graph(3, &[(1, 1)]), Err(Refusal::Graph));
     /// # Ok::<(), Refusal>(())
     /// ```
     pub fn graph(n: usize, edges: &[(usize, usize)]) -> Result<Record, Refusal> {
         if !(1..=64).contains(&n) {
-            return Err(Refusal::Qubits);
+            return Err(Refusal::Count);
         }
         if edges.iter().any(|&(a, b)| a.max(b) >= n) {
-            return Err(Refusal::StrayBit);
+            return Err(Refusal::Stray);
         }
         if edges.iter().any(|&(a, b)| a == b) {
             return Err(Refusal::Graph);
@@ -142,7 +142,7 @@ impl Record {
     /// edges.push((1, 63));
     /// let chord = Record::graph(64, &edges)?;
     /// assert_eq!(ring.equivalent(&chord)?.complementations, [0]);
-    /// assert_eq!(ring.compare(&chord), Err(Refusal::Comparison));
+    /// assert_eq!(ring.compare(&chord), Err(Refusal::Large));
     /// # Ok::<(), Refusal>(())
     /// ```
     pub fn equivalent(&self, other: &Record) -> Result<Comparison, Refusal> {

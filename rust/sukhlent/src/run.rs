@@ -63,9 +63,9 @@ impl Step {
 /// ])?;
 /// assert_eq!(answers, [
 ///     Ok(None),
-///     Err(Refusal::Contradiction),
+///     Err(Refusal::Contradicted),
 ///     Ok(Some(Measured { outcome: 0, determined: true })),
-///     Err(Refusal::Place),
+///     Err(Refusal::Qubit),
 /// ]);
 /// # Ok::<(), Refusal>(())
 /// ```

@@ -213,7 +213,7 @@ impl Group<'_> {
     /// let [lower, _] = shared.groups();
     /// lower.gate(31, codes::H)?;
     /// assert_eq!(lower.gate(32, codes::H), Err(Refusal::OtherGroup));
-    /// assert_eq!(lower.gate(64, codes::H), Err(Refusal::Place));
+    /// assert_eq!(lower.gate(64, codes::H), Err(Refusal::Qubit));
     /// # Ok::<(), Refusal>(())
     /// ```
     pub fn gate(&self, qubit: usize, code: u8) -> Result<(), Refusal> {
@@ -233,7 +233,7 @@ impl Group<'_> {
     /// let shared = Shared::new(!0 << 32);
     /// let [_, upper] = shared.groups();
     /// upper.cz(40, 41)?;
-    /// assert_eq!(upper.cz(40, 40), Err(Refusal::Place));
+    /// assert_eq!(upper.cz(40, 40), Err(Refusal::Qubit));
     /// assert_eq!(upper.cz(0, 0), Err(Refusal::OtherGroup));
     /// # Ok::<(), Refusal>(())
     /// ```
@@ -258,7 +258,7 @@ impl Group<'_> {
     /// let answer = lower.measure(Pauli::X, 0, 1)?;
     /// assert_eq!(answer, Measured { outcome: 1, determined: false });
     /// assert_eq!(lower.measure(Pauli::X, 0, 1), Err(Refusal::Used));
-    /// assert_eq!(upper.measure(Pauli::Z, 40, 1), Err(Refusal::Contradiction));
+    /// assert_eq!(upper.measure(Pauli::Z, 40, 1), Err(Refusal::Contradicted));
     /// # Ok::<(), Refusal>(())
     /// ```
     pub fn measure(&self, pauli: Pauli, qubit: usize, bit: u8) -> Result<Measured, Refusal> {

@@ -69,7 +69,7 @@ impl Photon {
 /// let first = observe(&mut record, Pauli::Z, 0, 1)?;
 /// assert_eq!(first, Measured { outcome: 1, determined: false });
 /// let refused = measure(&mut record.clone(), Pauli::Z, 1, 0);
-/// assert_eq!(refused, Err(Refusal::Contradiction));
+/// assert_eq!(refused, Err(Refusal::Contradicted));
 /// let second = observe(&mut record, Pauli::Z, 1, 0)?;
 /// assert_eq!(second, Measured { outcome: 1, determined: true });
 /// # Ok::<(), sukhlent::Refusal>(())

@@ -186,7 +186,7 @@ fn a_place_measured_renewed_and_measured_again() {
         cz(&mut record, 0, 1).unwrap();
         observe(&mut record, sukhlent::Pauli::Z, 0, 1).unwrap();
         assert_eq!(record.renew(1, photon), Err(Refusal::NotUsed));
-        assert_eq!(record.renew(2, photon), Err(Refusal::Place));
+        assert_eq!(record.renew(2, photon), Err(Refusal::Qubit));
         record.renew(0, photon).unwrap();
         let due = Measured {
             outcome: sign,
@@ -194,7 +194,7 @@ fn a_place_measured_renewed_and_measured_again() {
         };
         assert_eq!(measure(&mut record.clone(), pauli, 0, sign), Ok(due));
         let forbidden = measure(&mut record.clone(), pauli, 0, 1 - sign);
-        assert_eq!(forbidden, Err(Refusal::Contradiction));
+        assert_eq!(forbidden, Err(Refusal::Contradicted));
         assert_eq!(observe(&mut record.clone(), pauli, 0, 1 - sign), Ok(due));
     }
 }
