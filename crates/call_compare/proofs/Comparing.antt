@@ -6,7 +6,7 @@ use Prim.Native.Nat.{ℕ, _≤_}
 use lib.ListN.{length}
 use Rattle.buffers.proofs.Lines.{fits, more-accepted, passed}
 use Rattle.buffers.specs.Refusals.{firstFitting, otherThan}
-use Rattle.comparison.specs.Compared.{pairCount, pairLines}
+use Rattle.comparison.specs.Compared.{badCounts, pairLines}
 use Rattle.buffers.proofs.Calling.{refused, written-all}
 use Rattle.buffers.proofs.Fitting.{stays}
 use Rattle.buffers.specs.Calls.{Call}
@@ -24,6 +24,7 @@ use Rattle.comparison.specs.internal.ComparedPairs.{HoldsReduced, PairAnswered}
 use Rattle.buffers.proofs.EarlierNumbers.{earlier-none}
 use Rattle.buffers.specs.internal.Earlier.{earlierOf}
 use Rattle.calls.specs.internal.Limited.{comparingCall}
+use Rattle.record.specs.Lent.{lentRecord}
 
 -- ---- two lists on n qubits, and the reductions of both
 module _ (limited : Bool) (n : ℕ) (s z x s₂ z₂ x₂ choice list : List ℕ) (positive : 1 ≤ n) (few : n ≤ 64)
@@ -71,10 +72,10 @@ module _ (limited : Bool) (n : ℕ) (s z x s₂ z₂ x₂ choice list : List ℕ
           numbers = written-all D (none .1) .1 .0;
         }
 
-    pub first-accepted : AcceptedRecord (record { n = n; neighbours = nb′; codes = cs′ })
+    pub first-accepted : AcceptedRecord (lentRecord n nb′ cs′)
     first-accepted = reduced-accepted n (rows l) nb′ cs′ first-reduced positive few
 
-    pub second-accepted : AcceptedRecord (record { n = n; neighbours = nb₂′; codes = cs₂′ })
+    pub second-accepted : AcceptedRecord (lentRecord n nb₂′ cs₂′)
     second-accepted = reduced-accepted n (rows m) nb₂′ cs₂′ second-reduced positive few
 
     -- and the comparison of the two records decides
@@ -93,10 +94,10 @@ module _ (limited : Bool) (n : ℕ) (s z x s₂ z₂ x₂ choice list : List ℕ
 
 -- ---- the lines before the reductions
 module _ (limited : Bool) (l m : GeneratorList) (choice list : List ℕ) (count : ℕ) where
-  pub refused-2 : pairCount l m ≡ true → Call (comparingCall limited l m choice list count choice list count) 2
+  pub refused-2 : badCounts l m ≡ true → Call (comparingCall limited l m choice list count choice list count) 2
   refused-2 h = record { number = sym (fits 2 _ h); held = (refl, (refl, (refl, tt))) }
 
-  module _ (p : pairCount l m ≡ false) where
+  module _ (p : badCounts l m ≡ false) where
     module _ (o : Bool) (e : o ≡ (otherThan (l .n) choice || otherThan 96 list)) where
       pub refused-4 : o ≡ true → Call (comparingCall limited l m choice list count choice list count) 4
       refused-4 t =

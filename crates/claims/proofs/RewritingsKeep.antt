@@ -17,7 +17,7 @@ use Rattle.operations.specs.Steps.{Operation, complementOf, leaves, measurement
 use Rattle.record.proofs.Complementing.{complement-same}
 use Rattle.record.proofs.WrittenRecords.{record-back, record-passes, record-rows-back, writtenRecord}
 use Rattle.record.specs.Accepted.{AcceptedRecord}
-use Rattle.record.specs.Lent.{LentRecord, heldRecord, heldRows}
+use Rattle.record.specs.Lent.{heldRecord, heldRows, LentRecord}
 use Rattle.record.specs.Records.{GraphRecord, complementRecord, rowsOf}
 use Rattle.stabilizer.proofs.EqualRows.{same-group-equal}
 use Rattle.stabilizer.proofs.GroupLaws.{same-trans}

@@ -18,7 +18,7 @@ use Rattle.jobs.specs.declared.Step.{Step}
 use Rattle.store.specs.Kept.{forgotten, saved}
 use Rattle.store.specs.Places.{Store, found, lookup, nothing, othersHeld}
 use Rattle.store.specs.StoreLines.{holdsLine, namedLines, ofRecord, recordTests, saveLines, storeLines}
-use Rattle.operations.specs.Used.{UsedRecord}
+use Rattle.operations.specs.Used.{UsedRecord, usedRecord}
 
 -- the store that three buffers hold
 abbrev pub storeOf : List ℕ → List ℕ → List ℕ → Store
@@ -49,10 +49,7 @@ ForgetsKeep = (name : ℕ) (st : Store) (heads′ : List ℕ) → Call (forgetCa
 
 -- ---- "Returning brings back the whole record, its n and used word included": the first n′ places; the others keep theirs
 pub record ReturnGives (name : ℕ) (st : Store) (nb cs : List ℕ) (n′ : ℕ) (nb′ cs′ : List ℕ) (used′ : ℕ) : Type 0 where
-  pub held : lookup 8 st name ≡ found (record {
-    held = record { n = n′; neighbours = take n′ nb′; codes = take n′ cs′ };
-    used = used′;
-  })
+  pub held : lookup 8 st name ≡ found (usedRecord n′ (take n′ nb′) (take n′ cs′) used′)
   pub words-kept : drop n′ nb′ ≡ drop n′ nb
   pub codes-kept : drop n′ cs′ ≡ drop n′ cs
 
@@ -118,9 +115,9 @@ pub record Groups : Type 1 where
   pub named : ℕ → Group
 
 -- the first where the test is true, else the second
-abbrev pub chosen : Bool → Group → Group → Group
-chosen true G H = G
-chosen false G H = H
+abbrev pub eitherGroup : Bool → Group → Group → Group
+eitherGroup true G H = G
+eitherGroup false G H = H
 
 -- what each action makes of the groups: a save puts the group in hand under its name, a return takes that group in
 -- hand; refused actions count as no change
@@ -129,12 +126,12 @@ groupsAfter s g (does step) = record { current = GroupAfterStep (s .current) (g 
 groupsAfter s g (saves name) =
     record {
       current = g .current;
-      named = λ m. chosen (eqb (firstFitting (saveLines 8 (s .current) name (s .store))) 0 && eqb m name)
+      named = λ m. eitherGroup (eqb (firstFitting (saveLines 8 (s .current) name (s .store))) 0 && eqb m name)
           (g .current) (g .named m);
     }
 groupsAfter s g (returns name) =
     record {
-      current = chosen (eqb (firstFitting (namedLines 8 name (s .store) false)) 0) (g .named name) (g .current);
+      current = eitherGroup (eqb (firstFitting (namedLines 8 name (s .store) false)) 0) (g .named name) (g .current);
       named = g .named;
     }
 groupsAfter s g (forgets name) = g

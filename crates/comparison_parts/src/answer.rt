@@ -19,14 +19,15 @@ ghost use Rattle.record.specs.NeighbourWords.{graphIn};
 ghost use Rattle.comparison.specs.Parts.{partAbove};
 ghost use Rattle.pauli.specs.Pauli.{Pauli};
 ghost use Rattle.record.specs.Accepted.{AcceptedRecord};
-ghost use Rattle.record.specs.Lent.{heldRecord};
+ghost use Rattle.record.specs.Lent.{heldRecord, lentRecord};
 ghost use Rattle.comparison.specs.internal.ComparedPairs.{HoldsReduced, PairAnswered};
 
 // Whether there is a limit of 20 vertices for each part, and a part of either graph has more.
 fn too_large(limited: bool, neighbours: &[u64], neighbours2: &[u64]) -> bool
     requires { ⌜ (length (now neighbours) ≤ 64) × Simple (length (now neighbours)) (graphIn (now neighbours)) ⌝ }
     requires { ⌜ (length (now neighbours2) ≤ 64) × Simple (length (now neighbours2)) (graphIn (now neighbours2)) ⌝ }
-    ensures { λ r. ⌜ r ≡ (limited && (partAbove 20 (length (now (neighbours .entry))) (graphIn (now (neighbours .entry)))
+    ensures { λ r. ⌜ r ≡ (limited && (partAbove 20 (length (now (neighbours .entry)))
+        (graphIn (now (neighbours .entry)))
         || partAbove 20 (length (now (neighbours2 .entry))) (graphIn (now (neighbours2 .entry))))) ⌝ }
 {
     if !limited {
@@ -45,7 +46,7 @@ fn induced_image(
     codes2: &[u8],
     induced: &mut [u8],
 ) -> ImageAnswer
-    requires { ⌜ AcceptedRecord (record { n = n; neighbours = now neighbours; codes = now codes }) ⌝ }
+    requires { ⌜ AcceptedRecord (lentRecord n (now neighbours) (now codes)) ⌝ }
     requires { ⌜ (length (now choice) ≡ n) × (length (now codes2) ≡ n) × (length (now induced) ≡ n) ⌝ }
     requires { ⌜ Codes (now choice) × Codes (now codes2) ⌝ }
     ensures { λ r. ⌜ IsImage n (heldRecord (record {
@@ -71,8 +72,8 @@ pub fn compare_reduced(
     list: &mut [u8],
     count: &mut u64,
 ) -> u8
-    requires { ⌜ AcceptedRecord (record { n = n; neighbours = now neighbours; codes = now codes }) ⌝ }
-    requires { ⌜ AcceptedRecord (record { n = n; neighbours = now neighbours2; codes = now codes2 }) ⌝ }
+    requires { ⌜ AcceptedRecord (lentRecord n (now neighbours) (now codes)) ⌝ }
+    requires { ⌜ AcceptedRecord (lentRecord n (now neighbours2) (now codes2)) ⌝ }
     requires { ⌜ (length (now choice) ≡ n) × (length (now list) ≡ 96) ⌝ }
     ensures { λ r. ⌜ ((R S : ℕ → Pauli) → HoldsReduced n R (now (neighbours .entry)) (now (codes .entry))
         → HoldsReduced n S (now (neighbours2 .entry)) (now (codes2 .entry))

@@ -25,7 +25,7 @@ use Rattle.operations.specs.Steps.{
 }
 use Rattle.operations.specs.declared.Outcome.{Outcome}
 use Rattle.operations.specs.declared.Outcome.the-variants.{Chosen, Determined}
-use Rattle.record.specs.Lent.{LentRecord, codeNumbers, neighbourWords}
+use Rattle.record.specs.Lent.{codeNumbers, LentRecord, neighbourWords}
 use Rattle.record.specs.Records.{GraphRecord}
 use Rattle.operations.specs.Used.{UsedRecord, usedAfter, usedLinesOf, usedStep}
 use Rattle.words.proofs.BitLaws.{digit-lt}

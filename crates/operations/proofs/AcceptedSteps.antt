@@ -37,10 +37,10 @@ use Rattle.record.proofs.ReducedRecords.{record-proper, reduced-is}
 use Rattle.record.proofs.WrittenRecords.{record-passes, reduced-identity-above, writtenRecord}
 use Rattle.record.specs.Accepted.{AcceptedRecord}
 use Rattle.record.specs.Lent.{
-  LentRecord,
   codeNumbers,
   heldRecord,
   heldRows,
+  LentRecord,
   neighbourWords,
   recordCodes,
   recordLines,

@@ -6,7 +6,7 @@ use lib.Dec.{eqb, leb}
 use Rattle.buffers.specs.Buffers.{accepted}
 use Rattle.buffers.specs.Refusals.{Refusal, firstFitting, line}
 use Rattle.clifford.specs.Clifford.{cliffordOf}
-use Rattle.record.specs.Lent.{LentRecord, codeNumbers, heldRecord, heldRows, neighbourWords, recordLines}
+use Rattle.record.specs.Lent.{codeNumbers, heldRecord, heldRows, LentRecord, neighbourWords, recordLines}
 use Rattle.record.specs.Records.{GraphRecord, complementAll, complementRecord, rowsOf}
 use Rattle.record.specs.Reduced.{reduced}
 use Rattle.words.specs.Bits.{isOdd}

@@ -10,7 +10,7 @@ use lib.ListN.{getD, length}
 use borrow.Author.Tests.{eq-eqb, ne-eqb}
 use Rattle.buffers.specs.Refusals.{firstFitting}
 use Rattle.record.specs.Accepted.{AcceptedRecord}
-use Rattle.operations.specs.Used.{UsedRecord, usedLines}
+use Rattle.operations.specs.Used.{usedLines, UsedRecord}
 use Rattle.words.proofs.Flags.{both-true}
 use Rattle.words.proofs.SearchLaws.{first-unique, some-in, some-true}
 use Rattle.words.specs.Search.{first, some}
@@ -117,10 +117,8 @@ module _ (k : ℕ) (st : Store) (P : Passing k st) (u : UsedRecord) (passes : fi
   place-own = λ j. record {
     held = record {
       n = count-own j;
-      neighbours = (ap (λ m. partAt p m (after .neighbours)) (count-own ∙ sym (A .neighbours-length))
-          ∙ placed-own p (u .held .neighbours) (st .neighbours) few-words words) j;
-      codes = (ap (λ m. partAt p m (after .codes)) (count-own ∙ sym (A .codes-length))
-          ∙ placed-own p (u .held .codes) (st .codes) few-bytes bytes) j;
+      neighbours = (ap (λ m. partAt p m (after .neighbours)) (count-own ∙ sym (A .neighbours-length)) ∙ placed-own p (u .held .neighbours) (st .neighbours) few-words words) j;
+      codes = (ap (λ m. partAt p m (after .codes)) (count-own ∙ sym (A .codes-length)) ∙ placed-own p (u .held .codes) (st .codes) few-bytes bytes) j;
     };
     used = headed-used p (u .held .n) name (u .used) (st .heads) head j;
   }
@@ -148,10 +146,8 @@ module _ (k : ℕ) (st : Store) (P : Passing k st) (u : UsedRecord) (passes : fi
   place-other i h few = λ j. record {
     held = record {
       n = count-other i h j;
-      neighbours = (ap (λ m. partAt i m (after .neighbours)) (count-other i h)
-          ∙ placed-other p (u .held .neighbours) (st .neighbours) few-words words i (countAt (st .heads) i) h few) j;
-      codes = (ap (λ m. partAt i m (after .codes)) (count-other i h)
-          ∙ placed-other p (u .held .codes) (st .codes) few-bytes bytes i (countAt (st .heads) i) h few) j;
+      neighbours = (ap (λ m. partAt i m (after .neighbours)) (count-other i h) ∙ placed-other p (u .held .neighbours) (st .neighbours) few-words words i (countAt (st .heads) i) h few) j;
+      codes = (ap (λ m. partAt i m (after .codes)) (count-other i h) ∙ placed-other p (u .held .codes) (st .codes) few-bytes bytes i (countAt (st .heads) i) h few) j;
     };
     used = word-other i 2 (omega arith) h j;
   }

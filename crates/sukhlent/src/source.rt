@@ -1,7 +1,8 @@
 // The calls of a source that goes on, as C sees them: a measurement with a bit by lot, and a new photon at a used place, of a
 // record and of a group.
-ghost use Rattle.calls.specs.Sources.{groupObserveCall, groupRenewCall, observeCall, renewCall};
+ghost use Rattle.calls.specs.Sources.{partyObserveCall, partyRenewCall, observeCall, renewCall};
 ghost use Rattle.buffers.specs.Calls.{Call};
+ghost use Rattle.operations.specs.Used.{usedRecord};
 
 // A Pauli measured at a qubit, with a bit by lot: the outcome, whether it was determined, and the reduced record.
 #[no_mangle]
@@ -17,10 +18,7 @@ pub extern "C" fn sukhlent_observe(
     determined: &mut u8,
 ) -> u8
     ensures { λ r. ⌜ Call (observeCall
-        (record {
-          held = record { n = n; neighbours = now (neighbours .entry); codes = now (codes .entry) };
-          used = now (used .entry);
-        })
+        (usedRecord n (now (neighbours .entry)) (now (codes .entry)) (now (used .entry)))
         pauli qubit bit (now (answer .entry)) (now (determined .entry))
         (now (neighbours .exit)) (now (codes .exit)) (now (used .exit)) (now (answer .exit))
         (now (determined .exit))) r ⌝ }
@@ -49,10 +47,7 @@ pub extern "C" fn sukhlent_renew(
     code: u8,
 ) -> u8
     ensures { λ r. ⌜ Call (renewCall
-        (record {
-          held = record { n = n; neighbours = now (neighbours .entry); codes = now (codes .entry) };
-          used = now (used .entry);
-        })
+        (usedRecord n (now (neighbours .entry)) (now (codes .entry)) (now (used .entry)))
         qubit code (now (neighbours .exit)) (now (codes .exit)) (now (used .exit))) r ⌝ }
 {
     call_source::renew(n, neighbours, codes, used, qubit, code)
@@ -73,16 +68,13 @@ pub extern "C" fn sukhlent_group_observe(
     answer: &mut u8,
     determined: &mut u8,
 ) -> u8
-    ensures { λ r. ⌜ Call (groupObserveCall word group
-        (record {
-          held = record { n = n; neighbours = now (neighbours .entry); codes = now (codes .entry) };
-          used = now (used .entry);
-        })
+    ensures { λ r. ⌜ Call (partyObserveCall word group
+        (usedRecord n (now (neighbours .entry)) (now (codes .entry)) (now (used .entry)))
         pauli qubit bit (now (answer .entry)) (now (determined .entry))
         (now (neighbours .exit)) (now (codes .exit)) (now (used .exit)) (now (answer .exit))
         (now (determined .exit))) r ⌝ }
 {
-    call_groups::source_calls::observe(
+    call_parties::source_calls::observe(
         n,
         word,
         group,
@@ -109,12 +101,9 @@ pub extern "C" fn sukhlent_group_renew(
     qubit: u64,
     code: u8,
 ) -> u8
-    ensures { λ r. ⌜ Call (groupRenewCall word group
-        (record {
-          held = record { n = n; neighbours = now (neighbours .entry); codes = now (codes .entry) };
-          used = now (used .entry);
-        })
+    ensures { λ r. ⌜ Call (partyRenewCall word group
+        (usedRecord n (now (neighbours .entry)) (now (codes .entry)) (now (used .entry)))
         qubit code (now (neighbours .exit)) (now (codes .exit)) (now (used .exit))) r ⌝ }
 {
-    call_groups::source_calls::renew(n, word, group, neighbours, codes, used, qubit, code)
+    call_parties::source_calls::renew(n, word, group, neighbours, codes, used, qubit, code)
 }

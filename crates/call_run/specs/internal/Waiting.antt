@@ -8,7 +8,7 @@ use Rattle.calls.specs.InPlace.{usedCall, usedMeasureCall}
 use Rattle.buffers.specs.Calls.{Call}
 use Rattle.operations.specs.Steps.{Operation}
 use Rattle.operations.specs.internal.InPlace.{Unrefused}
-use Rattle.record.specs.Lent.{LentRecord, codeNumbers, heldRows, neighbourWords}
+use Rattle.record.specs.Lent.{codeNumbers, heldRows, LentRecord, lentRecord, neighbourWords}
 use Rattle.record.specs.Reduced.{reduced}
 use Rattle.operations.specs.Used.{UsedRecord, UsedUnrefused}
 
@@ -32,7 +32,7 @@ pub record Standing (waiting : Bool) (u : UsedRecord) : Type 0 where
 
 -- two buffers of a record on as many qubits
 abbrev pub heldIn : UsedRecord → List ℕ → List ℕ → LentRecord
-heldIn u words codes = record { n = u .held .n; neighbours = words; codes = codes }
+heldIn u words codes = lentRecord (u .held .n) words codes
 
 -- it waits after a gate, a CZ or a measurement that is accepted
 abbrev pub thenWaiting : ℕ → Bool → Bool
