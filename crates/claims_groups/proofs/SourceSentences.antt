@@ -18,7 +18,6 @@ use Rattle.calls.specs.Groups.{groupMeasureCall}
 use Rattle.calls.specs.Sources.{groupObserveCall, groupRenewCall, renewCall}
 use Rattle.claims.proofs.GroupsExactly.{groups-of, of-groups, own-exactly}
 use Rattle.claims.proofs.families.Shared.{answered, at-zero, by-lines, table-fills}
-use Rattle.claims.specs.ActionContracts.{session}
 use Rattle.claims.specs.Conforming.{Conforms}
 use Rattle.claims.specs.UsedDemand.{leftUsed}
 use Rattle.claims.specs.families.Groups.{Own, TwoGroups}
@@ -49,7 +48,6 @@ use Rattle.words.proofs.Flags.{neither}
 use Rattle.words.proofs.Places.{other-place}
 use Rattle.words.specs.Bits.{bit}
 use Rattle.claims_groups.proofs.CallsStand.{group-calls-stand}
-use Rattle.claims_groups.proofs.ContractSteps.{contracts-are-steps}
 use Rattle.claims_groups.proofs.GroupKeepsHold.{group-calls-keep}
 use Rattle.claims_groups.proofs.GroupsReduce.{group-calls-reduce}
 use Rattle.claims_groups.specs.GroupKeeps.{GroupKeeps}
@@ -106,10 +104,6 @@ module _ (word g : ℕ) (u : UsedRecord) where
             answered = answered conforms C;
             accepted = ((λ z. exactly .0 (by-lines C .0 z)), λ h. by-lines C .1 (exactly .1 h));
             numbers = in-words (groupArgumentSentences word g u pauli q b) (arguments-in-words word g u pauli q b) C;
-            step = λ st. contracts-are-steps .observe word g (session u st) pauli q b answer determined r nb′ cs′ used′
-                answer′ determined′ C .0;
-            outcome = λ z st. contracts-are-steps .observe word g (session u st) pauli q b answer determined r nb′ cs′ used′
-                answer′ determined′ C .1 z;
             never-14 = λ e. let p = skips (groupObserveLines word g u pauli q b) {ms = []} 14 refl e
                 (fits-at (groupObserveLines word g u pauli q b) (C .number)) in
                 absurd (omega (arith, e, passed-all (p .1)));
@@ -247,7 +241,6 @@ module _ (word g : ℕ) (u : UsedRecord) where
             answered = answered renew-conforms C;
             accepted = ((λ z. renew-exactly .0 (by-lines C .0 z)), λ h. by-lines C .1 (renew-exactly .1 h));
             numbers = in-words (groupRenewSentences word g u q k) renew-in-words C;
-            step = λ st. contracts-are-steps .renew word g (session u st) q k r nb′ cs′ used′ C;
             whole = whole;
             stands = λ z. renew-says u q k nb′ cs′ used′ 0 (whole z) .stands refl;
             keeps = λ z. keeps (by-lines C .0 z) (renew-says u q k nb′ cs′ used′ 0 (whole z) .stands refl) (same z);

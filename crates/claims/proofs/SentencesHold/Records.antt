@@ -12,7 +12,6 @@ use Rattle.buffers.specs.Calls.{Call}
 use Rattle.operations.specs.Steps.{complementOf, czOn, gateWith, measurementOf, Operation, pivotOf}
 use Rattle.record.specs.Lent.{LentRecord}
 use Rattle.operations.specs.Used.{UsedRecord}
-use Rattle.claims.proofs.ActionsByCalls.{contracts-are-actions}
 use Rattle.claims.proofs.Contradictions.{contradictions-refused}
 use Rattle.claims.proofs.CutDemandHolds.{complements-keep-ranks, cuts-answer, cz-keeps-ranks, gates-keep-ranks}
 use Rattle.claims.proofs.GatesFollow.{cz-follows, gates-follow}
@@ -20,8 +19,6 @@ use Rattle.claims.proofs.ImageDemandHolds.{images-follow}
 use Rattle.claims.proofs.MeasurementsFollow.{measurements-follow}
 use Rattle.claims.proofs.RewritingsKeep.{complements-keep}
 use Rattle.claims.proofs.SecondDemandLists.{expansion-brings-back}
-use Rattle.claims.proofs.SessionDemandHolds.{cz-by-expanding, gates-by-expanding, measurements-by-expanding}
-use Rattle.claims.proofs.SessionNumbers.{cz-numbers-by-expanding, gate-numbers-by-expanding, measure-numbers-by-expanding}
 use Rattle.claims.proofs.UsedDemandHolds.{accepted-measured-without, accepted-without, calls-copy, measurements-mark, second-measurements-refused, used-calls-refused}
 use Rattle.claims.proofs.families.Records.{records-accepted, records-conform}
 use Rattle.claims.proofs.families.Shared.{answered, at-zero}
@@ -66,11 +63,8 @@ gate-says u q k nb′ cs′ r C =
       numbers = in-words (gateSentences u q k) (gate-in-words u q k) C;
       group = λ z. gates-follow (u .held) q k nb′ cs′ (plainly u (gateWith q k) nb′ cs′ C z);
       ranks = λ z. gates-keep-ranks (u .held) q k nb′ cs′ (plainly u (gateWith q k) nb′ cs′ C z);
-      by-expanding = λ z. gates-by-expanding u q k nb′ cs′ (at-zero C z);
-      number-by-expanding = λ hq hk. gate-numbers-by-expanding u q k r nb′ cs′ hq hk C;
       copied = λ z. calls-copy u (gateWith q k) (not-measured refl) nb′ cs′ (at-zero C z);
       refused = used-calls-refused u (gateWith q k) nb′ cs′ r C;
-      action = contracts-are-actions .gate u q k r nb′ cs′ C;
     }
 
 pub cz-says : (u : UsedRecord) (a b : ℕ) (nb′ cs′ : List ℕ) (r : ℕ) → Call (usedCall u (czOn a b) nb′ cs′) r →
@@ -82,11 +76,8 @@ cz-says u a b nb′ cs′ r C =
       numbers = in-words (czSentences u a b) (cz-in-words u a b) C;
       group = λ z. cz-follows (u .held) a b nb′ cs′ (plainly u (czOn a b) nb′ cs′ C z);
       ranks = λ z. cz-keeps-ranks (u .held) a b nb′ cs′ (plainly u (czOn a b) nb′ cs′ C z);
-      by-expanding = λ z. cz-by-expanding u a b nb′ cs′ (at-zero C z);
-      number-by-expanding = λ ha hb ab. cz-numbers-by-expanding u a b r nb′ cs′ ha hb ab C;
       copied = λ z. calls-copy u (czOn a b) (not-measured refl) nb′ cs′ (at-zero C z);
       refused = used-calls-refused u (czOn a b) nb′ cs′ r C;
-      action = contracts-are-actions .cz u a b r nb′ cs′ C;
     }
 
 pub complement-says : (u : UsedRecord) (a : ℕ) (nb′ cs′ : List ℕ) (r : ℕ) →
@@ -100,7 +91,6 @@ complement-says u a nb′ cs′ r C =
       ranks = λ z. complements-keep-ranks (u .held) a nb′ cs′ (plainly u (complementOf a) nb′ cs′ C z);
       copied = λ z. calls-copy u (complementOf a) (not-measured refl) nb′ cs′ (at-zero C z);
       refused = used-calls-refused u (complementOf a) nb′ cs′ r C;
-      action = contracts-are-actions .complement u a r nb′ cs′ C;
     }
 
 pub measure-says : (u : UsedRecord) (pauli q b answer determined : ℕ) (nb′ cs′ : List ℕ)
@@ -115,13 +105,8 @@ measure-says u pauli q b answer determined nb′ cs′ used′ answer′ determi
       group = λ z. measurements-follow (u .held) pauli q b answer determined nb′ cs′ answer′ determined′
           (accepted-measured-without u pauli q b answer determined nb′ cs′ used′ answer′ determined′ (at-zero C z));
       contradicted = contradictions-refused u pauli q b answer determined r nb′ cs′ used′ answer′ determined′ C;
-      by-expanding = λ z. measurements-by-expanding u pauli q b answer determined nb′ cs′ used′ answer′ determined′
-          (at-zero C z);
-      number-by-expanding = λ hp hp₂ hq hb. measure-numbers-by-expanding u pauli q b answer determined r nb′ cs′ used′
-          answer′ determined′ hp hp₂ hq hb C;
       marked = λ z. measurements-mark u pauli q b answer determined nb′ cs′ used′ answer′ determined′ (at-zero C z);
       refused = second-measurements-refused u pauli q b answer determined nb′ cs′ used′ answer′ determined′ r C;
-      action = contracts-are-actions .measure u pauli q b answer determined r nb′ cs′ used′ answer′ determined′ C;
     }
 
 pub image-says : (l : LentRecord) (image signs list : List ℕ) (count : ℕ) (image′ signs′ list′ : List ℕ)

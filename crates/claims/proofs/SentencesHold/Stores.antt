@@ -7,7 +7,6 @@ use Rattle.calls.specs.Stores.{forgetCall, returnCall, saveCall}
 use Rattle.buffers.specs.Calls.{Call}
 use Rattle.store.specs.Places.{Store}
 use Rattle.operations.specs.Used.{UsedRecord}
-use Rattle.claims.proofs.ActionsByCalls.{contracts-are-actions}
 use Rattle.claims.proofs.StoreDemandHolds.{forgets-keep, returns-give, saves-keep}
 use Rattle.claims.proofs.StoreRefusals.{full-exactly, not-held-exactly}
 use Rattle.claims.proofs.families.Shared.{answered, at-zero}
@@ -27,7 +26,6 @@ save-says u name st heads′ nb′ cs′ r C =
       numbers = in-words (saveSentences 8 u name st) (save-in-words 8 st u name) C;
       full = full-exactly u name st (C .number);
       keeps = λ z. saves-keep u name st heads′ nb′ cs′ (at-zero C z);
-      action = contracts-are-actions .save u name st r heads′ nb′ cs′ C;
     }
 
 pub return-says : (name : ℕ) (st : Store) (n : ℕ) (nb cs : List ℕ) (used n′ : ℕ) (nb′ cs′ : List ℕ) (used′ r : ℕ) →
@@ -39,8 +37,6 @@ return-says name st n nb cs used n′ nb′ cs′ used′ r C =
       numbers = in-words (returnSentences name st nb cs) (return-words name st nb cs) C;
       not-held = not-held-exactly name st (otherThan 64 nb || otherThan 64 cs) (C .number);
       gives = λ z. returns-give name st n nb cs used n′ nb′ cs′ used′ (at-zero C z);
-      action = λ long codes-long.
-          contracts-are-actions .return-to name st n nb cs used n′ nb′ cs′ used′ r long codes-long C;
     }
 
 pub forget-says : (name : ℕ) (st : Store) (heads′ : List ℕ) (r : ℕ) → Call (forgetCall name st heads′) r →
@@ -52,5 +48,4 @@ forget-says name st heads′ r C =
       numbers = in-words (forgetSentences name st) (forget-words name st) C;
       not-held = not-held-exactly name st false (C .number);
       keeps = λ z. forgets-keep name st heads′ (at-zero C z);
-      action = contracts-are-actions .forget name st r heads′ C;
     }

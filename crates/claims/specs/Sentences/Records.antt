@@ -1,32 +1,29 @@
 -- What the documents say of each exported function on records, in one record: demand 1, which arguments it
--- accepts, and the sentences of the demands and of the requests that speak of its answer; of a gate, a cz, a measurement
--- and a complementation, that it is a step of a job and an action of a session (`action`).
+-- accepts, and the sentences of the demands and of the requests that speak of its answer. That it answers as expanding,
+-- changing the list and reducing would, and that it is a step of a job and an action of a session, are theorems of their own
+-- (`GatesByExpanding` and the like, `ContractsAreActions`).
 use mathlib.Core.Bool.{false, _||_}
 use mathlib.Core.List.{List}
-use mathlib.Core.Logic.{_↔_, _≢_}
+use mathlib.Core.Logic.{_↔_}
 use mathlib.Core.Path.{_≡_}
-use Prim.Native.Nat.{_<_, ℕ, _≤_}
+use Prim.Native.Nat.{ℕ}
 use Rattle.buffers.specs.Refusals.{firstFitting, otherThan}
 use Rattle.calls.specs.Cuts.{cutCall}
 use Rattle.calls.specs.Expansions.{expandCall}
 use Rattle.calls.specs.InPlace.{usedCall, usedMeasureCall}
 use Rattle.calls.specs.Images.{imageCall}
 use Rattle.jobs.specs.Standing.{left}
-use Rattle.jobs.specs.declared.Op.the-variants.{Complement, Cz, Gate}
 use Rattle.operations.specs.Steps.{complementOf, czOn, gateWith, measurementOf}
 use Rattle.record.specs.Lent.{heldRecord, LentRecord, recordLines}
 use Rattle.record.specs.Records.{complementRecord}
 use Rattle.operations.specs.Used.{UsedRecord}
 use Rattle.words.specs.Bits.{Word}
-use Rattle.claims.specs.ActionContracts.{MeasureLeaves, StepLeaves, stepWith}
-use Rattle.claims.specs.Arguments.{Free}
 use Rattle.claims.specs.Conforming.{Answered}
 use Rattle.claims.specs.CutDemand.{CutAnswer, rankAcross}
 use Rattle.claims.specs.ImageDemand.{ImageDecided}
 use Rattle.claims.specs.OperationsDemand.{CzStands, GateStands, MeasurementStands, OutcomeContradicted, RewrittenAs}
 use Rattle.claims.specs.SecondDemand.{BroughtBack}
-use Rattle.claims.specs.SessionDemand.{ByExpanding, czChange, gateChange, MeasuredByExpanding, MeasureNumberByExpanding, NumberByExpanding}
-use Rattle.claims.specs.UsedDemand.{SixteenExactly, UsedCopied, UsedMarked, leftUsed}
+use Rattle.claims.specs.UsedDemand.{SixteenExactly, UsedCopied, UsedMarked}
 use Rattle.claims.specs.families.Records.{ComplementFits, CutFits, CzFits, ExpandFits, GateFits, ImageFits, MeasureFits}
 use Rattle.buffers.specs.Sentences.{FirstTrue}
 use Rattle.operations.specs.UsedSentences.{complementSentences, czSentences, gateSentences, measureSentences}
@@ -46,11 +43,8 @@ pub record GateSays (u : UsedRecord) (q k : ℕ) (nb′ cs′ : List ℕ) (r : �
   pub numbers : FirstTrue (gateSentences u q k) r
   pub group : r ≡ 0 → GateStands (u .held) q k (left (u .held) nb′ cs′)
   pub ranks : r ≡ 0 → (side : Word) → rankAcross side (left (u .held) nb′ cs′) ≡ rankAcross side (u .held)
-  pub by-expanding : r ≡ 0 → ByExpanding u (gateChange (u .held .n) q k) nb′ cs′
-  pub number-by-expanding : Free u q → k < 24 → NumberByExpanding u r
   pub copied : r ≡ 0 → UsedCopied u nb′ cs′
   pub refused : SixteenExactly u (gateWith q k) r
-  pub action : StepLeaves u (stepWith Gate q 0 k) (leftUsed u nb′ cs′ (u .used))
 
 -- sukhlent_cz: demands 1 and 2, and ranks across cuts (02, §1)
 pub record CzSays (u : UsedRecord) (a b : ℕ) (nb′ cs′ : List ℕ) (r : ℕ) : Type 0 where
@@ -60,11 +54,8 @@ pub record CzSays (u : UsedRecord) (a b : ℕ) (nb′ cs′ : List ℕ) (r : ℕ
   pub group : r ≡ 0 → CzStands (u .held) a b (left (u .held) nb′ cs′)
   pub ranks : r ≡ 0 → (side : Word) → side a ≡ side b →
       rankAcross side (left (u .held) nb′ cs′) ≡ rankAcross side (u .held)
-  pub by-expanding : r ≡ 0 → ByExpanding u (czChange a b) nb′ cs′
-  pub number-by-expanding : Free u a → Free u b → a ≢ b → NumberByExpanding u r
   pub copied : r ≡ 0 → UsedCopied u nb′ cs′
   pub refused : SixteenExactly u (czOn a b) r
-  pub action : StepLeaves u (stepWith Cz a b 0) (leftUsed u nb′ cs′ (u .used))
 
 -- sukhlent_complement: demand 1, the record of the rule with the same group, and ranks across cuts
 pub record ComplementSays (u : UsedRecord) (a : ℕ) (nb′ cs′ : List ℕ) (r : ℕ) : Type 0 where
@@ -76,7 +67,6 @@ pub record ComplementSays (u : UsedRecord) (a : ℕ) (nb′ cs′ : List ℕ) (r
   pub ranks : r ≡ 0 → (side : Word) → rankAcross side (left (u .held) nb′ cs′) ≡ rankAcross side (u .held)
   pub copied : r ≡ 0 → UsedCopied u nb′ cs′
   pub refused : SixteenExactly u (complementOf a) r
-  pub action : StepLeaves u (stepWith Complement a 0 0) (leftUsed u nb′ cs′ (u .used))
 
 -- sukhlent_measure: demands 1 and 2, and contradicted outcomes (02, §4)
 pub record MeasureSays (u : UsedRecord) (pauli q b answer determined : ℕ) (nb′ cs′ : List ℕ)
@@ -86,11 +76,8 @@ pub record MeasureSays (u : UsedRecord) (pauli q b answer determined : ℕ) (nb�
   pub numbers : FirstTrue (measureSentences u pauli q b) r
   pub group : r ≡ 0 → MeasurementStands (u .held) pauli q b (left (u .held) nb′ cs′) answer′ determined′
   pub contradicted : OutcomeContradicted u pauli q b answer determined r nb′ cs′ used′ answer′ determined′
-  pub by-expanding : r ≡ 0 → MeasuredByExpanding u pauli q b nb′ cs′ answer′ determined′
-  pub number-by-expanding : 1 ≤ pauli → pauli ≤ 3 → Free u q → b < 2 → MeasureNumberByExpanding u pauli q b r
   pub marked : r ≡ 0 → UsedMarked u pauli q b nb′ cs′ used′ answer′
   pub refused : SixteenExactly u (measurementOf pauli q b) r
-  pub action : MeasureLeaves u pauli q b (leftUsed u nb′ cs′ used′)
 
 -- sukhlent_image: demands 1 and 2
 pub record ImageSays (l : LentRecord) (image signs list : List ℕ) (count : ℕ) (image′ signs′ list′ : List ℕ)

@@ -1,16 +1,15 @@
 -- What the documents say of the exported functions on a store of named states, a record for each: demand 1, which arguments
--- it accepts, its own refusal, the sentences of the request that speak of its answer, and that it is an action of a session.
+-- it accepts, its own refusal, and the sentences of the request that speak of its answer. That it is an action of a session is
+-- a theorem of its own (`ContractsAreActions`).
 use mathlib.Core.Bool.{false, _||_}
 use mathlib.Core.List.{List}
 use mathlib.Core.Logic.{_↔_}
 use mathlib.Core.Path.{_≡_}
 use Prim.Native.Nat.{ℕ}
-use lib.ListN.{length}
 use Rattle.buffers.specs.Refusals.{otherThan}
 use Rattle.calls.specs.Stores.{forgetCall, returnCall, saveCall}
 use Rattle.store.specs.Places.{Store}
 use Rattle.operations.specs.Used.{UsedRecord}
-use Rattle.claims.specs.ActionContracts.{ForgetLeaves, ReturnLeaves, SaveLeaves}
 use Rattle.claims.specs.Conforming.{Answered}
 use Rattle.claims.specs.StoreDemand.{ForgetKeeps, FullStore, NotHeld, ReturnGives, SaveKeeps, storeOf}
 use Rattle.claims.specs.families.Stores.{ForgetFits, ReturnFits, SaveFits}
@@ -25,7 +24,6 @@ pub record SaveSays (u : UsedRecord) (name : ℕ) (st : Store) (heads′ nb′ c
   pub numbers : FirstTrue (saveSentences 8 u name st) r
   pub full : FullStore u name st r
   pub keeps : r ≡ 0 → SaveKeeps u name st (storeOf heads′ nb′ cs′)
-  pub action : SaveLeaves u name st heads′ nb′ cs′
 
 -- of return: the record that is held under the name
 pub record ReturnSays (name : ℕ) (st : Store) (n : ℕ) (nb cs : List ℕ) (used n′ : ℕ) (nb′ cs′ : List ℕ) (used′ r : ℕ) :
@@ -35,7 +33,6 @@ pub record ReturnSays (name : ℕ) (st : Store) (n : ℕ) (nb cs : List ℕ) (us
   pub numbers : FirstTrue (returnSentences name st nb cs) r
   pub not-held : NotHeld name st (otherThan 64 nb || otherThan 64 cs) r
   pub gives : r ≡ 0 → ReturnGives name st nb cs n′ nb′ cs′ used′
-  pub action : length nb ≡ 64 → length cs ≡ 64 → ReturnLeaves name st n′ nb′ cs′ used′ r
 
 -- of forget: nothing under the name, every other name as it was
 pub record ForgetSays (name : ℕ) (st : Store) (heads′ : List ℕ) (r : ℕ) : Type 0 where
@@ -44,4 +41,3 @@ pub record ForgetSays (name : ℕ) (st : Store) (heads′ : List ℕ) (r : ℕ) 
   pub numbers : FirstTrue (forgetSentences name st) r
   pub not-held : NotHeld name st false r
   pub keeps : r ≡ 0 → ForgetKeeps name st (storeOf heads′ (st .neighbours) (st .codes))
-  pub action : ForgetLeaves name st heads′

@@ -6,7 +6,6 @@ use Rattle.groups.proofs.SameGroups.{group-rewritten}
 use Rattle.record.specs.Lent.{heldRecord}
 use Rattle.record.specs.Records.{SameRecord, complementRecord}
 use Prim.Native.Nat.{ℕ}
-use Rattle.claims.specs.ActionContracts.{session}
 use Rattle.calls.specs.GroupStores.{groupForgetCall, groupReturnCall, groupSaveCall}
 use Rattle.calls.specs.Groups.{groupCall, groupMeasureCall}
 use Rattle.claims.proofs.families.Groups.{groups-accepted, groups-conform}
@@ -16,7 +15,6 @@ use Rattle.operations.specs.Steps.{complementOf, czOn, gateWith}
 use Rattle.store.specs.Places.{Store}
 use Rattle.operations.specs.Used.{UsedRecord}
 use Rattle.claims_groups.proofs.CallsStand.{group-calls-stand}
-use Rattle.claims_groups.proofs.ContractSteps.{contracts-are-steps}
 use Rattle.claims_groups.proofs.GroupKeepsHold.{
   group-calls-keep,
   group-forgets-keep,
@@ -46,7 +44,6 @@ module _ (word g : ℕ) (u : UsedRecord) where
         answered = answered (groups-conform .in-place word g u (gateWith q k) nb′ cs′) C;
         accepted = groups-accepted .gate word g u q k nb′ cs′ r C;
         numbers = in-words (groupGateSentences word g u q k) (gate-in-words word g u q k) C;
-        step = λ st. contracts-are-steps .gate word g (session u st) q k r nb′ cs′ C;
         keeps = λ z. group-calls-keep .gate word g u q k nb′ cs′ (at-zero C z);
         reduces = λ z. group-calls-reduce .gate word g u q k nb′ cs′ (at-zero C z);
         stands = λ z r″ nb″ cs″ W. group-calls-stand .gate word g u q k nb′ cs′ r″ nb″ cs″ (at-zero C z) W;
@@ -59,7 +56,6 @@ module _ (word g : ℕ) (u : UsedRecord) where
         answered = answered (groups-conform .in-place word g u (czOn a b) nb′ cs′) C;
         accepted = groups-accepted .cz word g u a b nb′ cs′ r C;
         numbers = in-words (groupCzSentences word g u a b) (cz-in-words word g u a b) C;
-        step = λ st. contracts-are-steps .cz word g (session u st) a b r nb′ cs′ C;
         keeps = λ z. group-calls-keep .cz word g u a b nb′ cs′ (at-zero C z);
         reduces = λ z. group-calls-reduce .cz word g u a b nb′ cs′ (at-zero C z);
         stands = λ z r″ nb″ cs″ W. group-calls-stand .cz word g u a b nb′ cs′ r″ nb″ cs″ (at-zero C z) W;
@@ -72,7 +68,6 @@ module _ (word g : ℕ) (u : UsedRecord) where
         answered = answered (groups-conform .in-place word g u (complementOf a) nb′ cs′) C;
         accepted = groups-accepted .complement word g u a nb′ cs′ r C;
         numbers = in-words (groupComplementSentences word g u a) (complement-in-words word g u a) C;
-        step = λ st. contracts-are-steps .complement word g (session u st) a r nb′ cs′ C;
         keeps = λ z. group-calls-keep .complement word g u a nb′ cs′ (at-zero C z);
         rewritten = λ z.
             let D = at-zero C z in
@@ -92,10 +87,6 @@ module _ (word g : ℕ) (u : UsedRecord) where
             (groups-conform .measurements word g u pauli q b answer determined nb′ cs′ used′ answer′ determined′) C;
         accepted = groups-accepted .measure word g u pauli q b answer determined nb′ cs′ used′ answer′ determined′ r C;
         numbers = in-words (groupMeasureSentences word g u pauli q b) (measure-in-words word g u pauli q b) C;
-        step = λ st. contracts-are-steps .measure word g (session u st) pauli q b answer determined r nb′ cs′ used′ answer′
-            determined′ C .0;
-        outcome = λ z st. contracts-are-steps .measure word g (session u st) pauli q b answer determined r nb′ cs′ used′
-            answer′ determined′ C .1 z;
         keeps = λ z. group-calls-keep .measure word g u pauli q b answer determined nb′ cs′ used′ answer′ determined′
             (at-zero C z);
         reduces = λ z. group-calls-reduce .measure word g u pauli q b answer determined nb′ cs′ used′ answer′ determined′
@@ -111,7 +102,6 @@ module _ (word g : ℕ) (u : UsedRecord) where
         answered = answered (groups-conform .saves word g u name st heads′ nb′ cs′) C;
         accepted = groups-accepted .save word g u name st heads′ nb′ cs′ r C;
         numbers = in-words (groupSaveSentences word g u name st) (save-in-words word g u st name) C;
-        step = contracts-are-steps .save word g (session u st) name r heads′ nb′ cs′ C;
         full = group-names-refused .save word g u name st heads′ nb′ cs′ r C;
         keeps = λ z. group-saves-keep word g u name st heads′ nb′ cs′ (at-zero C z);
       }
@@ -123,7 +113,6 @@ module _ (word g : ℕ) (u : UsedRecord) where
         answered = answered (groups-conform .returns word g u name st nb′ cs′ used′) C;
         accepted = groups-accepted .return word g u name st nb′ cs′ used′ r C;
         numbers = in-words (groupNamedSentences word g u name st) (named-in-words word g u st name) C;
-        step = contracts-are-steps .return-to word g (session u st) name r nb′ cs′ used′ C;
         not-held = group-names-refused .return-to word g u name st nb′ cs′ used′ r C;
         gives = λ z. group-returns-give word g u name st nb′ cs′ used′ (at-zero C z);
       }
@@ -135,7 +124,6 @@ module _ (word g : ℕ) (u : UsedRecord) where
         answered = answered (groups-conform .forgets word g u name st heads′) C;
         accepted = groups-accepted .forget word g u name st heads′ r C;
         numbers = in-words (groupNamedSentences word g u name st) (named-in-words word g u st name) C;
-        step = contracts-are-steps .forget word g (session u st) name r heads′ C;
         not-held = group-names-refused .forget word g u name st heads′ r C;
         keeps = λ z. group-forgets-keep word g u name st heads′ (at-zero C z);
       }

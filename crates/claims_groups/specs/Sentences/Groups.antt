@@ -1,6 +1,6 @@
 -- What the documents say of the exported functions of a group (02, §13), a record for each: demand 1, which arguments it
--- accepts, that it is a step of the runs of `NonInterference`, what it leaves of the other group, and that its answer
--- stands for what the whole-record call leaves.
+-- accepts, what it leaves of the other group, and that its answer stands for what the whole-record call leaves. That each is a
+-- step of the runs of `NonInterference` is a theorem of its own (`ContractsAreSteps`).
 use mathlib.Core.List.{List, [], _∷_}
 use mathlib.Core.Logic.{_↔_, _⊎_}
 use mathlib.Core.Path.{_≡_}
@@ -9,7 +9,6 @@ use Rattle.calls.specs.InPlace.{usedCall, usedMeasureCall}
 use Rattle.calls.specs.GroupStores.{groupForgetCall, groupReturnCall, groupSaveCall}
 use Rattle.calls.specs.Groups.{groupCall, groupMeasureCall}
 use Rattle.calls.specs.Sources.{groupObserveCall, groupRenewCall, observeCall, renewCall}
-use Rattle.claims.specs.ActionContracts.{session}
 use Rattle.claims.specs.Conforming.{Answered}
 use Rattle.claims.specs.UsedDemand.{leftUsed}
 use Rattle.claims.specs.families.Groups.{GroupNameFits, GroupSaveFits, Own, TwoGroups}
@@ -24,7 +23,6 @@ use Rattle.store.specs.Places.{Store}
 use Rattle.operations.specs.Used.{UsedRecord}
 use Rattle.operations.specs.UsedSentences.{IsUsed, NoRecord, OfSix, StrayBit}
 use Rattle.record.specs.RecordSentences.{CodeAbove23, RecordMisfits}
-use Rattle.claims_groups.specs.GroupContracts.{IsStep, withRecord, withStore}
 use Rattle.claims_groups.specs.GroupKeeps.{
   GroupForgetKeeps,
   GroupFull,
@@ -34,27 +32,9 @@ use Rattle.claims_groups.specs.GroupKeeps.{
   GroupReturnGives,
   GroupSaveKeeps,
 }
-use Rattle.claims_groups.specs.GroupRuns.{
-  SharedCall,
-  groupComplement,
-  groupCz,
-  groupForget,
-  groupGate,
-  groupMeasure,
-  groupObserve,
-  groupRenew,
-  groupReturn,
-  groupSave,
-  sharedMeasured,
-}
 use Rattle.claims_groups.specs.GroupsDemand.{StandsAsWhole}
 use Rattle.buffers.specs.Sentences.{FirstTrue, Sentence, sentence}
 use Rattle.groups.specs.GroupSentences.{EdgeBetween, NotSixtyFour, OtherGroups, groupArgumentSentences, groupComplementSentences, groupCzSentences, groupGateSentences, groupMeasureSentences, groupNamedSentences, groupSaveSentences}
-
--- a call that is not lent the store is the same step whatever the store
-abbrev pub StepOnRecord : ℕ → ℕ → UsedRecord → SharedCall → ℕ → List ℕ → List ℕ → ℕ → Type 0
-StepOnRecord word g u c r nb′ cs′ used′ =
-    (st : Store) → IsStep word g (session u st) c r (withRecord (session u st) nb′ cs′ used′)
 
 -- "a group call leaves the group's elements as the whole-record call would"
 abbrev pub AsWhole : UsedRecord → Operation → List ℕ → List ℕ → Type 0
@@ -65,7 +45,6 @@ pub record GroupGateSays (word g : ℕ) (u : UsedRecord) (q k : ℕ) (nb′ cs�
   pub answered : Answered (groupCall word g u (gateWith q k) nb′ cs′) r
   pub accepted : (r ≡ 0) ↔ (TwoGroups word g u × Own word g q × GateFits u q k)
   pub numbers : FirstTrue (groupGateSentences word g u q k) r
-  pub step : StepOnRecord word g u (groupGate q k) r nb′ cs′ (u .used)
   pub keeps : r ≡ 0 → GroupKeeps word g u (leftUsed u nb′ cs′ (u .used))
   pub reduces : r ≡ 0 → GroupReduced word g (leftUsed u nb′ cs′ (u .used))
   pub stands : r ≡ 0 → AsWhole u (gateWith q k) nb′ cs′
@@ -75,7 +54,6 @@ pub record GroupCzSays (word g : ℕ) (u : UsedRecord) (a b : ℕ) (nb′ cs′ 
   pub answered : Answered (groupCall word g u (czOn a b) nb′ cs′) r
   pub accepted : (r ≡ 0) ↔ (TwoGroups word g u × (Own word g a × Own word g b) × CzFits u a b)
   pub numbers : FirstTrue (groupCzSentences word g u a b) r
-  pub step : StepOnRecord word g u (groupCz a b) r nb′ cs′ (u .used)
   pub keeps : r ≡ 0 → GroupKeeps word g u (leftUsed u nb′ cs′ (u .used))
   pub reduces : r ≡ 0 → GroupReduced word g (leftUsed u nb′ cs′ (u .used))
   pub stands : r ≡ 0 → AsWhole u (czOn a b) nb′ cs′
@@ -85,7 +63,6 @@ pub record GroupComplementSays (word g : ℕ) (u : UsedRecord) (a : ℕ) (nb′ 
   pub answered : Answered (groupCall word g u (complementOf a) nb′ cs′) r
   pub accepted : (r ≡ 0) ↔ (TwoGroups word g u × Own word g a × ComplementFits u a)
   pub numbers : FirstTrue (groupComplementSentences word g u a) r
-  pub step : StepOnRecord word g u (groupComplement a) r nb′ cs′ (u .used)
   pub keeps : r ≡ 0 → GroupKeeps word g u (leftUsed u nb′ cs′ (u .used))
   -- "the answer is the record so rewritten, not reduced": that of document 01's rule, of the whole record
   pub rewritten : r ≡ 0 → SameRecord (heldRecord (left (u .held) nb′ cs′)) (complementRecord (heldRecord (u .held)) a)
@@ -97,9 +74,6 @@ pub record GroupMeasureSays (word g : ℕ) (u : UsedRecord) (pauli q b answer de
   pub answered : Answered (groupMeasureCall word g u pauli q b answer determined nb′ cs′ used′ answer′ determined′) r
   pub accepted : (r ≡ 0) ↔ (TwoGroups word g u × Own word g q × MeasureFits u pauli q b)
   pub numbers : FirstTrue (groupMeasureSentences word g u pauli q b) r
-  pub step : StepOnRecord word g u (groupMeasure pauli q b) r nb′ cs′ used′
-  pub outcome : r ≡ 0 → (st : Store) →
-      answer′ ∷ determined′ ∷ [] ≡ sharedMeasured word g (session u st) (groupMeasure pauli q b)
   pub keeps : r ≡ 0 → GroupKeeps word g u (leftUsed u nb′ cs′ used′)
   pub reduces : r ≡ 0 → GroupReduced word g (leftUsed u nb′ cs′ used′)
   pub stands : r ≡ 0 → (r″ : ℕ) (nb″ cs″ : List ℕ) (used″ answer″ determined″ : ℕ) →
@@ -112,7 +86,6 @@ pub record GroupSaveSays (word g : ℕ) (u : UsedRecord) (name : ℕ) (st : Stor
   pub answered : Answered (groupSaveCall word g u name st heads′ nb′ cs′) r
   pub accepted : (r ≡ 0) ↔ GroupSaveFits word g u name st
   pub numbers : FirstTrue (groupSaveSentences word g u name st) r
-  pub step : IsStep word g (session u st) (groupSave name) r (withStore (session u st) heads′ nb′ cs′)
   pub full : GroupFull word g u name st r
   pub keeps : r ≡ 0 → GroupSaveKeeps word g u name st (record { heads = heads′; neighbours = nb′; codes = cs′ })
 
@@ -122,7 +95,6 @@ pub record GroupReturnSays (word g : ℕ) (u : UsedRecord) (name : ℕ) (st : St
   pub answered : Answered (groupReturnCall word g u name st nb′ cs′ used′) r
   pub accepted : (r ≡ 0) ↔ GroupNameFits word g u name st
   pub numbers : FirstTrue (groupNamedSentences word g u name st) r
-  pub step : IsStep word g (session u st) (groupReturn name) r (withRecord (session u st) nb′ cs′ used′)
   pub not-held : GroupNotHeld word g u name st r
   pub gives : r ≡ 0 → GroupReturnGives word g u name st (leftUsed u nb′ cs′ used′)
 
@@ -131,8 +103,6 @@ pub record GroupForgetSays (word g : ℕ) (u : UsedRecord) (name : ℕ) (st : St
   pub answered : Answered (groupForgetCall word g u name st heads′) r
   pub accepted : (r ≡ 0) ↔ GroupNameFits word g u name st
   pub numbers : FirstTrue (groupNamedSentences word g u name st) r
-  pub step : IsStep word g (session u st) (groupForget name) r
-      (withStore (session u st) heads′ (st .neighbours) (st .codes))
   pub not-held : GroupNotHeld word g u name st r
   pub keeps : r ≡ 0 → GroupForgetKeeps g name st (record { heads = heads′; neighbours = st .neighbours; codes = st .codes })
 
@@ -142,9 +112,6 @@ pub record GroupObserveSays (word g : ℕ) (u : UsedRecord) (pauli q b answer de
   pub answered : Answered (groupObserveCall word g u pauli q b answer determined nb′ cs′ used′ answer′ determined′) r
   pub accepted : (r ≡ 0) ↔ (TwoGroups word g u × Own word g q × ObserveFits u pauli q b)
   pub numbers : FirstTrue (groupArgumentSentences word g u pauli q b) r
-  pub step : StepOnRecord word g u (groupObserve pauli q b) r nb′ cs′ used′
-  pub outcome : r ≡ 0 → (st : Store) →
-      answer′ ∷ determined′ ∷ [] ≡ sharedMeasured word g (session u st) (groupObserve pauli q b)
   pub never-14 : r ≡ 14 → ⊥
   -- accepted, it is the group's measurement with the outcome that it answers
   pub as-measured : r ≡ 0 →
@@ -168,7 +135,6 @@ pub record GroupRenewSays (word g : ℕ) (u : UsedRecord) (q k : ℕ) (nb′ cs�
   pub answered : Answered (groupRenewCall word g u q k nb′ cs′ used′) r
   pub accepted : (r ≡ 0) ↔ (TwoGroups word g u × Own word g q × RenewFits u q k)
   pub numbers : FirstTrue (groupRenewSentences word g u q k) r
-  pub step : StepOnRecord word g u (groupRenew q k) r nb′ cs′ used′
   pub whole : r ≡ 0 → Call (renewCall u q k nb′ cs′ used′) 0
   pub stands : r ≡ 0 → RenewalStands u q k (leftUsed u nb′ cs′ used′)
   pub keeps : r ≡ 0 → GroupKeeps word g u (leftUsed u nb′ cs′ used′)
