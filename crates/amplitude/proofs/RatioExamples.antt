@@ -5,7 +5,7 @@ use mathlib.Core.Path.{_≡_, refl}
 use Prim.Native.Nat.{ℕ, zero, suc}
 use Rattle.clifford.specs.Vectors.{act}
 use Rattle.pauli.specs.Pauli.{Pauli, exponent, identity, mul, signedRow}
-use Rattle.record.specs.Lent.{heldRows}
+use Rattle.record.specs.Lent.{heldRows, lentRecord}
 use Rattle.words.specs.Bits.{bit, fold}
 use Rattle.words.specs.Search.{every, first, some}
 use Rattle.amplitude.specs.Ratios.{leading, ratio, isSupported}
@@ -24,7 +24,7 @@ both p r zero = p
 both p r (suc j) = r
 
 abbrev edge : ℕ → ℕ → ℕ → Pauli
-edge c d = heldRows (record { n = 2; neighbours = 2 ∷ 1 ∷ []; codes = c ∷ d ∷ [] })
+edge c d = heldRows (lentRecord 2 (2 ∷ 1 ∷ []) (c ∷ d ∷ []))
 
 abbrev given : List (List ℕ)
 given =

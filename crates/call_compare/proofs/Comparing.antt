@@ -24,6 +24,7 @@ use Rattle.comparison.specs.internal.ComparedPairs.{HoldsReduced, PairAnswered}
 use Rattle.buffers.proofs.EarlierNumbers.{earlier-none}
 use Rattle.buffers.specs.internal.Earlier.{earlierOf}
 use Rattle.calls.specs.internal.Limited.{comparingCall}
+use Rattle.record.specs.Lent.{lentRecord}
 
 -- ---- two lists on n qubits, and the reductions of both
 module _ (limited : Bool) (n : ℕ) (s z x s₂ z₂ x₂ choice list : List ℕ) (positive : 1 ≤ n) (few : n ≤ 64)
@@ -71,10 +72,10 @@ module _ (limited : Bool) (n : ℕ) (s z x s₂ z₂ x₂ choice list : List ℕ
           numbers = written-all D (none .1) .1 .0;
         }
 
-    pub first-accepted : AcceptedRecord (record { n = n; neighbours = nb′; codes = cs′ })
+    pub first-accepted : AcceptedRecord (lentRecord n nb′ cs′)
     first-accepted = reduced-accepted n (rows l) nb′ cs′ first-reduced positive few
 
-    pub second-accepted : AcceptedRecord (record { n = n; neighbours = nb₂′; codes = cs₂′ })
+    pub second-accepted : AcceptedRecord (lentRecord n nb₂′ cs₂′)
     second-accepted = reduced-accepted n (rows m) nb₂′ cs₂′ second-reduced positive few
 
     -- and the comparison of the two records decides

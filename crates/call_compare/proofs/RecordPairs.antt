@@ -19,7 +19,7 @@ use Rattle.operations.specs.internal.KeptGroups.{Normalised}
 use Rattle.operations.specs.internal.InPlace.{Unrefused, recordIn}
 use Rattle.record.proofs.AcceptedRecords.{accepted-record}
 use Rattle.record.specs.Accepted.{AcceptedRecord}
-use Rattle.record.specs.Lent.{LentRecord, heldRows, recordLengths, recordLines}
+use Rattle.record.specs.Lent.{heldRows, LentRecord, lentRecord, recordLengths, recordLines}
 use Rattle.stabilizer.proofs.SharedTests.{has-length}
 use Rattle.words.proofs.Flags.{neither}
 use Rattle.calls.specs.internal.Limited.{comparingRecordsCall}
@@ -37,24 +37,24 @@ copied-reduced nb cs U w b E w′ b′ N =
       numbers = N .after .numbers;
     })
 
-module _ (n : ℕ) (nb cs : List ℕ) (U : Unrefused (record { n = n; neighbours = nb; codes = cs })) where
+module _ (n : ℕ) (nb cs : List ℕ) (U : Unrefused (lentRecord n nb cs)) where
   abbrev pub lent : LentRecord
-  lent = record { n = n; neighbours = nb; codes = cs }
+  lent = lentRecord n nb cs
 
   pub lent-accepted : AcceptedRecord lent
   lent-accepted = accepted-record lent false false (U .no-line)
 
   pub lent-in : Unrefused (recordIn nb cs)
   lent-in =
-      subst (λ k. Unrefused (record { n = k; neighbours = nb; codes = cs })) (sym (lent-accepted .neighbours-length)) U
+      subst (λ k. Unrefused (lentRecord k nb cs)) (sym (lent-accepted .neighbours-length)) U
 
   module _ {w b : List ℕ} (H : HoldsReduced (length nb) (heldRows (recordIn nb cs)) w b) where
     pub lent-reduced : HoldsReduced n (heldRows lent) w b
     lent-reduced =
-        subst (λ k. HoldsReduced k (heldRows (record { n = k; neighbours = nb; codes = cs })) w b)
+        subst (λ k. HoldsReduced k (heldRows (lentRecord k nb cs)) w b)
         (lent-accepted .neighbours-length) H
 
-    pub reduced-fits : AcceptedRecord (record { n = n; neighbours = w; codes = b })
+    pub reduced-fits : AcceptedRecord (lentRecord n w b)
     reduced-fits = reduced-accepted n (heldRows lent) w b lent-reduced (lent-accepted .positive) (lent-accepted .upto)
 
 -- ---- the call
@@ -91,10 +91,10 @@ module _ (limited : Bool) (l m : LentRecord) (choice list : List ℕ) where
 
       -- the second record, with the first's number of qubits
       abbrev other : LentRecord
-      other = record { n = l .n; neighbours = m .neighbours; codes = m .codes }
+      other = lentRecord (l .n) (m .neighbours) (m .codes)
 
       other-is : other ≡ m
-      other-is = λ i. record { n = counts-agree l m choice list p i; neighbours = m .neighbours; codes = m .codes }
+      other-is = λ i. lentRecord (counts-agree l m choice list p i) (m .neighbours) (m .codes)
 
       pub second-unrefused : Unrefused other
       second-unrefused = subst Unrefused (sym other-is) (record { no-line = sym e₂ ∙ none .1 })

@@ -11,7 +11,7 @@ ghost use lib.ListN.{length};
 ghost use Rattle.comparison.specs.internal.ComparedPairs.{HoldsReduced, PairAnswered};
 ghost use Rattle.buffers.specs.Calls.{Call};
 ghost use Rattle.operations.specs.internal.InPlace.{Unrefused, recordIn};
-ghost use Rattle.record.specs.Lent.{heldRows};
+ghost use Rattle.record.specs.Lent.{heldRows, lentRecord};
 ghost use Rattle.calls.specs.Equivalences.{equivalentRecordsCall};
 ghost use Rattle.calls.specs.RecordComparisons.{compareRecordsCall};
 ghost use Rattle.calls.specs.internal.Limited.{comparingRecordsCall};
@@ -44,13 +44,13 @@ fn compare_copies(
     list: &mut [u8],
     count: &mut u64,
 ) -> u8
-    requires { ⌜ Unrefused (record { n = n; neighbours = now neighbours1; codes = now codes1 }) ⌝ }
-    requires { ⌜ Unrefused (record { n = n; neighbours = now neighbours2; codes = now codes2 }) ⌝ }
+    requires { ⌜ Unrefused (lentRecord n (now neighbours1) (now codes1)) ⌝ }
+    requires { ⌜ Unrefused (lentRecord n (now neighbours2) (now codes2)) ⌝ }
     requires { ⌜ (length (now words1) ≡ n) × (length (now bytes1) ≡ n) × (length (now words2) ≡ n)
         × (length (now bytes2) ≡ n) × (length (now choice) ≡ n) × (length (now list) ≡ 96) ⌝ }
     ensures { λ r. ⌜ PairAnswered limited n
-        (heldRows (record { n = n; neighbours = now (neighbours1 .entry); codes = now (codes1 .entry) }))
-        (heldRows (record { n = n; neighbours = now (neighbours2 .entry); codes = now (codes2 .entry) }))
+        (heldRows (lentRecord n (now (neighbours1 .entry)) (now (codes1 .entry))))
+        (heldRows (lentRecord n (now (neighbours2 .entry)) (now (codes2 .entry))))
         (now (choice .entry)) (now (list .entry)) (now (count .entry)) r
         (now (choice .exit)) (now (list .exit)) (now (count .exit)) ⌝ }
 {
@@ -84,8 +84,8 @@ fn compare_records_by(
     count: &mut u64,
 ) -> u8
     ensures { λ r. ⌜ Call (comparingRecordsCall limited
-        (record { n = n1; neighbours = now (neighbours1 .entry); codes = now (codes1 .entry) })
-        (record { n = n2; neighbours = now (neighbours2 .entry); codes = now (codes2 .entry) })
+        (lentRecord n1 (now (neighbours1 .entry)) (now (codes1 .entry)))
+        (lentRecord n2 (now (neighbours2 .entry)) (now (codes2 .entry)))
         (now (choice .entry)) (now (list .entry)) (now (count .entry))
         (now (choice .exit)) (now (list .exit)) (now (count .exit))) r ⌝ }
 {
@@ -134,8 +134,8 @@ pub fn compare_records(
     count: &mut u64,
 ) -> u8
     ensures { λ r. ⌜ Call (compareRecordsCall
-        (record { n = n1; neighbours = now (neighbours1 .entry); codes = now (codes1 .entry) })
-        (record { n = n2; neighbours = now (neighbours2 .entry); codes = now (codes2 .entry) })
+        (lentRecord n1 (now (neighbours1 .entry)) (now (codes1 .entry)))
+        (lentRecord n2 (now (neighbours2 .entry)) (now (codes2 .entry)))
         (now (choice .entry)) (now (list .entry)) (now (count .entry))
         (now (choice .exit)) (now (list .exit)) (now (count .exit))) r ⌝ }
 {
@@ -166,8 +166,8 @@ pub fn equivalent_records(
     count: &mut u64,
 ) -> u8
     ensures { λ r. ⌜ Call (equivalentRecordsCall
-        (record { n = n1; neighbours = now (neighbours1 .entry); codes = now (codes1 .entry) })
-        (record { n = n2; neighbours = now (neighbours2 .entry); codes = now (codes2 .entry) })
+        (lentRecord n1 (now (neighbours1 .entry)) (now (codes1 .entry)))
+        (lentRecord n2 (now (neighbours2 .entry)) (now (codes2 .entry)))
         (now (choice .entry)) (now (list .entry)) (now (count .entry))
         (now (choice .exit)) (now (list .exit)) (now (count .exit))) r ⌝ }
 {

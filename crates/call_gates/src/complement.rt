@@ -8,6 +8,7 @@ ghost use Rattle.buffers.specs.Calls.{Call};
 ghost use Rattle.calls.specs.InPlace.{usedCall};
 ghost use Rattle.call_gates.specs.internal.Knowing.{Known};
 ghost use Rattle.operations.specs.Steps.{complementOf, pivotOf};
+ghost use Rattle.operations.specs.Used.{usedRecord};
 
 // Local complementation at a vertex; the record is not reduced.
 pub fn complement_known(
@@ -18,14 +19,8 @@ pub fn complement_known(
     a: u64,
     known: bool,
 ) -> u8
-    requires { ⌜ Known known (record {
-      held = record { n = n; neighbours = now neighbours; codes = now codes };
-      used = used;
-    }) ⌝ }
-    ensures { λ r. ⌜ Call (usedCall (record {
-      held = record { n = n; neighbours = now (neighbours .entry); codes = now (codes .entry) };
-      used = used;
-    }) (complementOf a) (now (neighbours .exit)) (now (codes .exit))) r ⌝ }
+    requires { ⌜ Known known (usedRecord n (now neighbours) (now codes) used) ⌝ }
+    ensures { λ r. ⌜ Call (usedCall (usedRecord n (now (neighbours .entry)) (now (codes .entry)) used) (complementOf a) (now (neighbours .exit)) (now (codes .exit))) r ⌝ }
 {
     let sixteen = bit_at(used, a);
     let early = in_place_refusal(n, neighbours, codes, used, false, n <= a, sixteen, known);
@@ -47,14 +42,8 @@ pub fn pivot_known(
     k: u64,
     known: bool,
 ) -> u8
-    requires { ⌜ Known known (record {
-      held = record { n = n; neighbours = now neighbours; codes = now codes };
-      used = used;
-    }) ⌝ }
-    ensures { λ r. ⌜ Call (usedCall (record {
-      held = record { n = n; neighbours = now (neighbours .entry); codes = now (codes .entry) };
-      used = used;
-    }) (pivotOf j k) (now (neighbours .exit)) (now (codes .exit))) r ⌝ }
+    requires { ⌜ Known known (usedRecord n (now neighbours) (now codes) used) ⌝ }
+    ensures { λ r. ⌜ Call (usedCall (usedRecord n (now (neighbours .entry)) (now (codes .entry)) used) (pivotOf j k) (now (neighbours .exit)) (now (codes .exit))) r ⌝ }
 {
     let eight = (n <= j) | ((n <= k) | (j == k));
     let early = in_place_refusal(n, neighbours, codes, used, false, eight, false, known);
@@ -70,10 +59,7 @@ pub fn pivot_known(
 
 // The same where nothing is known of the record.
 pub fn complement(n: u64, neighbours: &mut [u64], codes: &mut [u8], used: u64, a: u64) -> u8
-    ensures { λ r. ⌜ Call (usedCall (record {
-      held = record { n = n; neighbours = now (neighbours .entry); codes = now (codes .entry) };
-      used = used;
-    }) (complementOf a) (now (neighbours .exit)) (now (codes .exit))) r ⌝ }
+    ensures { λ r. ⌜ Call (usedCall (usedRecord n (now (neighbours .entry)) (now (codes .entry)) used) (complementOf a) (now (neighbours .exit)) (now (codes .exit))) r ⌝ }
 {
     complement_known(n, neighbours, codes, used, a, false)
 }

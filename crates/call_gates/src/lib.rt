@@ -18,7 +18,7 @@ ghost use Rattle.buffers.specs.Refusals.{firstFitting, reaching};
 ghost use Rattle.operations_gates.specs.internal.Suspects.{Marked};
 ghost use Rattle.operations.specs.Steps.{czOn, gateWith};
 ghost use Rattle.record_impl.specs.internal.Looks.{Looked};
-ghost use Rattle.operations.specs.Used.{usedLines};
+ghost use Rattle.operations.specs.Used.{usedLines, usedRecord};
 ghost use Rattle.calls.specs.InPlace.{usedCall};
 ghost use Rattle.calls.specs.internal.InPlace.{usedInPlace};
 ghost use Rattle.call_gates.specs.internal.Knowing.{Found, Known};
@@ -42,15 +42,9 @@ fn known_number(
     six: bool,
     known: bool,
 ) -> u8
-    requires { ⌜ Known known (record {
-      held = record { n = n; neighbours = now neighbours; codes = now codes };
-      used = used;
-    }) ⌝ }
+    requires { ⌜ Known known (usedRecord n (now neighbours) (now codes) used) ⌝ }
     requires { ⌜ Looked looked (now codes) over ⌝ }
-    ensures { λ r. ⌜ r ≡ firstFitting (usedLines (record {
-      held = record { n = n; neighbours = now (neighbours .entry); codes = now (codes .entry) };
-      used = used;
-    }) false false six) ⌝ }
+    ensures { λ r. ⌜ r ≡ firstFitting (usedLines (usedRecord n (now (neighbours .entry)) (now (codes .entry)) used) false false six) ⌝ }
 {
     if known {
         return six_number(six);
@@ -67,14 +61,8 @@ pub fn known_refusal(
     six: bool,
     known: bool,
 ) -> u8
-    requires { ⌜ Known known (record {
-      held = record { n = n; neighbours = now neighbours; codes = now codes };
-      used = used;
-    }) ⌝ }
-    ensures { λ r. ⌜ r ≡ firstFitting (usedLines (record {
-      held = record { n = n; neighbours = now (neighbours .entry); codes = now (codes .entry) };
-      used = used;
-    }) false false six) ⌝ }
+    requires { ⌜ Known known (usedRecord n (now neighbours) (now codes) used) ⌝ }
+    ensures { λ r. ⌜ r ≡ firstFitting (usedLines (usedRecord n (now (neighbours .entry)) (now (codes .entry)) used) false false six) ⌝ }
 {
     known_number(n, neighbours, codes, used, false, false, six, known)
 }
@@ -94,15 +82,9 @@ fn in_place_number(
     sixteen: bool,
     known: bool,
 ) -> u8
-    requires { ⌜ Known known (record {
-      held = record { n = n; neighbours = now neighbours; codes = now codes };
-      used = used;
-    }) ⌝ }
+    requires { ⌜ Known known (usedRecord n (now neighbours) (now codes) used) ⌝ }
     requires { ⌜ Looked looked (now codes) over ⌝ }
-    ensures { λ r. ⌜ r ≡ firstFitting (usedInPlace (record {
-      held = record { n = n; neighbours = now (neighbours .entry); codes = now (codes .entry) };
-      used = used;
-    }) six eight sixteen) ⌝ }
+    ensures { λ r. ⌜ r ≡ firstFitting (usedInPlace (usedRecord n (now (neighbours .entry)) (now (codes .entry)) used) six eight sixteen) ⌝ }
 {
     let early = known_number(n, neighbours, codes, used, looked, over, six, known);
     if early != 0 {
@@ -125,14 +107,8 @@ pub fn in_place_refusal(
     sixteen: bool,
     known: bool,
 ) -> u8
-    requires { ⌜ Known known (record {
-      held = record { n = n; neighbours = now neighbours; codes = now codes };
-      used = used;
-    }) ⌝ }
-    ensures { λ r. ⌜ r ≡ firstFitting (usedInPlace (record {
-      held = record { n = n; neighbours = now (neighbours .entry); codes = now (codes .entry) };
-      used = used;
-    }) six eight sixteen) ⌝ }
+    requires { ⌜ Known known (usedRecord n (now neighbours) (now codes) used) ⌝ }
+    ensures { λ r. ⌜ r ≡ firstFitting (usedInPlace (usedRecord n (now (neighbours .entry)) (now (codes .entry)) used) six eight sixteen) ⌝ }
 {
     in_place_number(
         n,
@@ -183,14 +159,8 @@ pub fn gate_known(
     code: u8,
     known: bool,
 ) -> u8
-    requires { ⌜ Known known (record {
-      held = record { n = n; neighbours = now neighbours; codes = now codes };
-      used = used;
-    }) ⌝ }
-    ensures { λ r. ⌜ Call (usedCall (record {
-      held = record { n = n; neighbours = now (neighbours .entry); codes = now (codes .entry) };
-      used = used;
-    }) (gateWith qubit code) (now (neighbours .exit)) (now (codes .exit))) r ⌝ }
+    requires { ⌜ Known known (usedRecord n (now neighbours) (now codes) used) ⌝ }
+    ensures { λ r. ⌜ Call (usedCall (usedRecord n (now (neighbours .entry)) (now (codes .entry)) used) (gateWith qubit code) (now (neighbours .exit)) (now (codes .exit))) r ⌝ }
 {
     let sixteen = bit_at(used, qubit);
     let seen = first_look(codes, known);
@@ -224,14 +194,8 @@ pub fn cz_known(
     b: u64,
     known: bool,
 ) -> u8
-    requires { ⌜ Known known (record {
-      held = record { n = n; neighbours = now neighbours; codes = now codes };
-      used = used;
-    }) ⌝ }
-    ensures { λ r. ⌜ Call (usedCall (record {
-      held = record { n = n; neighbours = now (neighbours .entry); codes = now (codes .entry) };
-      used = used;
-    }) (czOn a b) (now (neighbours .exit)) (now (codes .exit))) r ⌝ }
+    requires { ⌜ Known known (usedRecord n (now neighbours) (now codes) used) ⌝ }
+    ensures { λ r. ⌜ Call (usedCall (usedRecord n (now (neighbours .entry)) (now (codes .entry)) used) (czOn a b) (now (neighbours .exit)) (now (codes .exit))) r ⌝ }
 {
     let eight = (n <= a) | ((n <= b) | (a == b));
     let sixteen = bit_at(used, a) | bit_at(used, b);
@@ -258,19 +222,13 @@ pub fn cz_known(
 
 // The same where nothing is known of the record.
 pub fn gate(n: u64, neighbours: &mut [u64], codes: &mut [u8], used: u64, qubit: u64, code: u8) -> u8
-    ensures { λ r. ⌜ Call (usedCall (record {
-      held = record { n = n; neighbours = now (neighbours .entry); codes = now (codes .entry) };
-      used = used;
-    }) (gateWith qubit code) (now (neighbours .exit)) (now (codes .exit))) r ⌝ }
+    ensures { λ r. ⌜ Call (usedCall (usedRecord n (now (neighbours .entry)) (now (codes .entry)) used) (gateWith qubit code) (now (neighbours .exit)) (now (codes .exit))) r ⌝ }
 {
     gate_known(n, neighbours, codes, used, qubit, code, false)
 }
 
 pub fn cz(n: u64, neighbours: &mut [u64], codes: &mut [u8], used: u64, a: u64, b: u64) -> u8
-    ensures { λ r. ⌜ Call (usedCall (record {
-      held = record { n = n; neighbours = now (neighbours .entry); codes = now (codes .entry) };
-      used = used;
-    }) (czOn a b) (now (neighbours .exit)) (now (codes .exit))) r ⌝ }
+    ensures { λ r. ⌜ Call (usedCall (usedRecord n (now (neighbours .entry)) (now (codes .entry)) used) (czOn a b) (now (neighbours .exit)) (now (codes .exit))) r ⌝ }
 {
     cz_known(n, neighbours, codes, used, a, b, false)
 }

@@ -12,7 +12,7 @@ ghost use Rattle.buffers.specs.Refusals.{firstFitting};
 ghost use Rattle.calls.specs.InPlace.{usedMeasureCall};
 ghost use Rattle.call_gates.specs.internal.Knowing.{Known};
 ghost use Rattle.operations.specs.Steps.{measurementOf};
-ghost use Rattle.operations.specs.Used.{usedArgumentsOf, usedLinesOf};
+ghost use Rattle.operations.specs.Used.{usedArgumentsOf, usedLinesOf, usedRecord};
 
 // The number of the first line of a measurement's arguments that holds.
 pub fn argument_refusal(
@@ -25,14 +25,8 @@ pub fn argument_refusal(
     outcome: u8,
     known: bool,
 ) -> u8
-    requires { ⌜ Known known (record {
-      held = record { n = n; neighbours = now neighbours; codes = now codes };
-      used = used;
-    }) ⌝ }
-    ensures { λ r. ⌜ r ≡ firstFitting (usedArgumentsOf (record {
-      held = record { n = n; neighbours = now (neighbours .entry); codes = now (codes .entry) };
-      used = used;
-    }) (measurementOf pauli qubit outcome)) ⌝ }
+    requires { ⌜ Known known (usedRecord n (now neighbours) (now codes) used) ⌝ }
+    ensures { λ r. ⌜ r ≡ firstFitting (usedArgumentsOf (usedRecord n (now (neighbours .entry)) (now (codes .entry)) used) (measurementOf pauli qubit outcome)) ⌝ }
 {
     let six = (2 <= outcome) | ((pauli == 0) | (4 <= pauli));
     let sixteen = bit_at(used, qubit);
@@ -51,14 +45,8 @@ fn measure_refusal(
     outcome: u8,
     known: bool,
 ) -> u8
-    requires { ⌜ Known known (record {
-      held = record { n = n; neighbours = now neighbours; codes = now codes };
-      used = used;
-    }) ⌝ }
-    ensures { λ r. ⌜ r ≡ firstFitting (usedLinesOf (record {
-      held = record { n = n; neighbours = now (neighbours .entry); codes = now (codes .entry) };
-      used = used;
-    }) (measurementOf pauli qubit outcome)) ⌝ }
+    requires { ⌜ Known known (usedRecord n (now neighbours) (now codes) used) ⌝ }
+    ensures { λ r. ⌜ r ≡ firstFitting (usedLinesOf (usedRecord n (now (neighbours .entry)) (now (codes .entry)) used) (measurementOf pauli qubit outcome)) ⌝ }
 {
     let early = argument_refusal(n, neighbours, codes, used, pauli, qubit, outcome, known);
     if early != 0 {
@@ -84,14 +72,8 @@ pub fn measure_known(
     determined: &mut u8,
     known: bool,
 ) -> u8
-    requires { ⌜ Known known (record {
-      held = record { n = n; neighbours = now neighbours; codes = now codes };
-      used = now used;
-    }) ⌝ }
-    ensures { λ r. ⌜ Call (usedMeasureCall (record {
-      held = record { n = n; neighbours = now (neighbours .entry); codes = now (codes .entry) };
-      used = now (used .entry);
-    }) pauli qubit outcome (now (answer .entry)) (now (determined .entry))
+    requires { ⌜ Known known (usedRecord n (now neighbours) (now codes) (now used)) ⌝ }
+    ensures { λ r. ⌜ Call (usedMeasureCall (usedRecord n (now (neighbours .entry)) (now (codes .entry)) (now (used .entry))) pauli qubit outcome (now (answer .entry)) (now (determined .entry))
         (now (neighbours .exit)) (now (codes .exit)) (now (used .exit)) (now (answer .exit))
         (now (determined .exit))) r ⌝ }
 {
@@ -119,10 +101,7 @@ pub fn measure(
     answer: &mut u8,
     determined: &mut u8,
 ) -> u8
-    ensures { λ r. ⌜ Call (usedMeasureCall (record {
-      held = record { n = n; neighbours = now (neighbours .entry); codes = now (codes .entry) };
-      used = now (used .entry);
-    }) pauli qubit outcome (now (answer .entry)) (now (determined .entry))
+    ensures { λ r. ⌜ Call (usedMeasureCall (usedRecord n (now (neighbours .entry)) (now (codes .entry)) (now (used .entry))) pauli qubit outcome (now (answer .entry)) (now (determined .entry))
         (now (neighbours .exit)) (now (codes .exit)) (now (used .exit)) (now (answer .exit))
         (now (determined .exit))) r ⌝ }
 {

@@ -25,12 +25,12 @@ use Rattle.groups.specs.GroupStores.{
 use Rattle.groups.specs.Masks.{inGroup, masked, merged}
 use Rattle.groups_impl.proofs.OwnWords.{masked-own, merged-own}
 use Rattle.record.specs.Accepted.{AcceptedRecord}
-use Rattle.record.specs.Lent.{LentRecord}
+use Rattle.record.specs.Lent.{LentRecord, lentRecord}
 use Rattle.store.proofs.PassingStores.{held-record}
 use Rattle.store.proofs.SavePlaces.{full, not-full}
 use Rattle.store.specs.Kept.{savePlace, withPlace}
 use Rattle.store.specs.Places.{Store, countAt, hasName, holdsName, isHeld, partAt, placeAt, placeOf}
-use Rattle.operations.specs.Used.{UsedRecord}
+use Rattle.operations.specs.Used.{UsedRecord, usedRecord}
 use Rattle.words.proofs.Flags.{both-true}
 use Rattle.words.proofs.SearchLaws.{some-true}
 use Rattle.words.proofs.Searching.{above-none, below-some}
@@ -107,10 +107,7 @@ module _ (word g : ℕ) (u : UsedRecord) (name : ℕ) (st : Store) (k : ℕ)
 
             alone : masked (bit own) (of64 (u .held .neighbours) (u .held .codes) (u .used)) ≡ masked (inGroup word g) u
             alone =
-                ap (λ m. masked (bit own) (record {
-                  held = record { n = m; neighbours = u .held .neighbours; codes = u .held .codes };
-                  used = u .used;
-                })) (sym count)
+                ap (λ m. masked (bit own) (usedRecord m (u .held .neighbours) (u .held .codes) (u .used))) (sym count)
                 ∙ masked-own own (inGroup word g) eo u count
 
             left : st′ ≡ groupSaved word g u name st
@@ -145,7 +142,7 @@ module _ (word g : ℕ) (u : UsedRecord) (name : ℕ) (st : Store) (k : ℕ)
 
         pub return-done : (own : ℕ) → own ≡ wordOf 64 (inGroup word g) → (was : ℕ)
             → was ≡ getD (st .heads) (3 * (4 * g + place) + 2) 0 → (nb′ cs′ : List ℕ) (used′ : ℕ)
-            → _≡_ {A = LentRecord} (record { n = 64; neighbours = nb′; codes = cs′ }) ((merged (bit own)
+            → _≡_ {A = LentRecord} (lentRecord 64 nb′ cs′) ((merged (bit own)
             (of64 (partAt (4 * g + place) 64 (st .neighbours)) (partAt (4 * g + place) 64 (st .codes)) 0)
             (of64 (u .held .neighbours) (u .held .codes) 0)) .held)
             → used′ ≡ wordOf 64 (λ q. cond (bit own q) (bit was q) (bit (u .used) q))
@@ -166,17 +163,7 @@ module _ (word g : ℕ) (u : UsedRecord) (name : ℕ) (st : Store) (k : ℕ)
 
             -- the two records, with their counts
             together : ℕ → ℕ → UsedRecord
-            together m c = merged (bit own) (record {
-              held = record {
-                n = c;
-                neighbours = partAt (4 * g + place) c (st .neighbours);
-                codes = partAt (4 * g + place) c (st .codes);
-              };
-              used = getD (st .heads) (3 * (4 * g + place) + 2) 0;
-            }) (record {
-              held = record { n = m; neighbours = u .held .neighbours; codes = u .held .codes };
-              used = u .used;
-            })
+            together m c = merged (bit own) (usedRecord c (partAt (4 * g + place) c (st .neighbours)) (partAt (4 * g + place) c (st .codes)) (getD (st .heads) (3 * (4 * g + place) + 2) 0)) (usedRecord m (u .held .neighbours) (u .held .codes) (u .used))
 
             left : together 64 64 ≡ groupReturned word g u name st
             left =

@@ -21,7 +21,7 @@ use Rattle.groups.specs.Masks.{inGroup, masked}
 use Rattle.groups.specs.internal.Apart.{GroupOp, measure-op}
 use Rattle.operations.specs.Measurement.{determinedNumber, outcomeNumber}
 use Rattle.operations.specs.Steps.{Operation, measuredAnswer, measurementOf}
-use Rattle.operations.specs.Used.{UsedRecord, UsedUnrefused, usedLinesOf}
+use Rattle.operations.specs.Used.{usedLinesOf, UsedRecord, usedRecord, UsedUnrefused}
 use Rattle.words.specs.Bits.{bit, wordOf}
 use Rattle.calls.specs.Groups.{groupCall, groupLent, groupMeasureCall}
 
@@ -42,17 +42,11 @@ module _ (word g : ℕ) (u : UsedRecord) (o : Operation) (A : Admitted word g u 
 
   -- a copy of 64 qubits is one of n
   pub copied-whole : (nb cs : List ℕ) (r : ℕ)
-      → record { held = record { n = 64; neighbours = nb; codes = cs }; used = r }
-      ≡ masked (inGroup word g) (record {
-        held = record { n = 64; neighbours = u .held .neighbours; codes = u .held .codes };
-        used = u .used;
-      })
-      → record { held = record { n = u .held .n; neighbours = nb; codes = cs }; used = r } ≡ masked (inGroup word g) u
-  copied-whole nb cs r = subst (λ m. record { held = record { n = m; neighbours = nb; codes = cs }; used = r }
-      ≡ masked (inGroup word g) (record {
-        held = record { n = m; neighbours = u .held .neighbours; codes = u .held .codes };
-        used = u .used;
-      })) (sym (A .apart .count))
+      → usedRecord 64 nb cs r
+      ≡ masked (inGroup word g) (usedRecord 64 (u .held .neighbours) (u .held .codes) (u .used))
+      → usedRecord (u .held .n) nb cs r ≡ masked (inGroup word g) u
+  copied-whole nb cs r = subst (λ m. usedRecord m nb cs r
+      ≡ masked (inGroup word g) (usedRecord m (u .held .neighbours) (u .held .codes) (u .used))) (sym (A .apart .count))
 
   -- the copy
   module _ {v : UsedRecord} (copied : v ≡ masked (inGroup word g) u) where

@@ -18,6 +18,7 @@ ghost use Rattle.buffers.specs.Calls.{Call};
 ghost use Rattle.groups_impl.specs.internal.BeforeEight.{Admitted};
 ghost use Rattle.operations.specs.Steps.{complementOf, czOn, gateWith, measurementOf};
 ghost use Rattle.calls.specs.Groups.{groupCall, groupMeasureCall};
+ghost use Rattle.operations.specs.Used.{usedRecord};
 
 // A gate of a call that is admitted, on the copy; `words` and `bytes` have room for it.
 fn gate_within(
@@ -32,15 +33,9 @@ fn gate_within(
     words: &mut [u64],
     bytes: &mut [u8],
 ) -> u8
-    requires { ⌜ Admitted word group (record {
-      held = record { n = n; neighbours = now neighbours; codes = now codes };
-      used = used;
-    }) (gateWith qubit code) ⌝ }
+    requires { ⌜ Admitted word group (usedRecord n (now neighbours) (now codes) used) (gateWith qubit code) ⌝ }
     requires { ⌜ (length (now words) ≡ 64) × (length (now bytes) ≡ 64) ⌝ }
-    ensures { λ r. ⌜ Call (groupCall word group (record {
-      held = record { n = n; neighbours = now (neighbours .entry); codes = now (codes .entry) };
-      used = used;
-    }) (gateWith qubit code) (now (neighbours .exit)) (now (codes .exit))) r ⌝ }
+    ensures { λ r. ⌜ Call (groupCall word group (usedRecord n (now (neighbours .entry)) (now (codes .entry)) used) (gateWith qubit code) (now (neighbours .exit)) (now (codes .exit))) r ⌝ }
 {
     let own_used = take_group(word, group, neighbours, codes, used, words, bytes);
     let number = gate_known(n, words, bytes, own_used, qubit, code, true);
@@ -62,10 +57,7 @@ pub fn gate(
     qubit: u64,
     code: u8,
 ) -> u8
-    ensures { λ r. ⌜ Call (groupCall word group (record {
-      held = record { n = n; neighbours = now (neighbours .entry); codes = now (codes .entry) };
-      used = used;
-    }) (gateWith qubit code) (now (neighbours .exit)) (now (codes .exit))) r ⌝ }
+    ensures { λ r. ⌜ Call (groupCall word group (usedRecord n (now (neighbours .entry)) (now (codes .entry)) used) (gateWith qubit code) (now (neighbours .exit)) (now (codes .exit))) r ⌝ }
 {
     let other = outside(n, word, group, qubit);
     let early = group_refusal(n, word, group, neighbours, codes, used, 24 <= code, other);
@@ -101,15 +93,9 @@ fn cz_within(
     words: &mut [u64],
     bytes: &mut [u8],
 ) -> u8
-    requires { ⌜ Admitted word group (record {
-      held = record { n = n; neighbours = now neighbours; codes = now codes };
-      used = used;
-    }) (czOn a b) ⌝ }
+    requires { ⌜ Admitted word group (usedRecord n (now neighbours) (now codes) used) (czOn a b) ⌝ }
     requires { ⌜ (length (now words) ≡ 64) × (length (now bytes) ≡ 64) ⌝ }
-    ensures { λ r. ⌜ Call (groupCall word group (record {
-      held = record { n = n; neighbours = now (neighbours .entry); codes = now (codes .entry) };
-      used = used;
-    }) (czOn a b) (now (neighbours .exit)) (now (codes .exit))) r ⌝ }
+    ensures { λ r. ⌜ Call (groupCall word group (usedRecord n (now (neighbours .entry)) (now (codes .entry)) used) (czOn a b) (now (neighbours .exit)) (now (codes .exit))) r ⌝ }
 {
     let own_used = take_group(word, group, neighbours, codes, used, words, bytes);
     let number = cz_known(n, words, bytes, own_used, a, b, true);
@@ -131,10 +117,7 @@ pub fn cz(
     a: u64,
     b: u64,
 ) -> u8
-    ensures { λ r. ⌜ Call (groupCall word group (record {
-      held = record { n = n; neighbours = now (neighbours .entry); codes = now (codes .entry) };
-      used = used;
-    }) (czOn a b) (now (neighbours .exit)) (now (codes .exit))) r ⌝ }
+    ensures { λ r. ⌜ Call (groupCall word group (usedRecord n (now (neighbours .entry)) (now (codes .entry)) used) (czOn a b) (now (neighbours .exit)) (now (codes .exit))) r ⌝ }
 {
     let other = outside(n, word, group, a) | outside(n, word, group, b);
     let early = group_refusal(n, word, group, neighbours, codes, used, false, other);
@@ -169,15 +152,9 @@ fn complement_within(
     words: &mut [u64],
     bytes: &mut [u8],
 ) -> u8
-    requires { ⌜ Admitted word group (record {
-      held = record { n = n; neighbours = now neighbours; codes = now codes };
-      used = used;
-    }) (complementOf a) ⌝ }
+    requires { ⌜ Admitted word group (usedRecord n (now neighbours) (now codes) used) (complementOf a) ⌝ }
     requires { ⌜ (length (now words) ≡ 64) × (length (now bytes) ≡ 64) ⌝ }
-    ensures { λ r. ⌜ Call (groupCall word group (record {
-      held = record { n = n; neighbours = now (neighbours .entry); codes = now (codes .entry) };
-      used = used;
-    }) (complementOf a) (now (neighbours .exit)) (now (codes .exit))) r ⌝ }
+    ensures { λ r. ⌜ Call (groupCall word group (usedRecord n (now (neighbours .entry)) (now (codes .entry)) used) (complementOf a) (now (neighbours .exit)) (now (codes .exit))) r ⌝ }
 {
     let own_used = take_group(word, group, neighbours, codes, used, words, bytes);
     let number = complement_known(n, words, bytes, own_used, a, true);
@@ -198,10 +175,7 @@ pub fn complement(
     used: u64,
     a: u64,
 ) -> u8
-    ensures { λ r. ⌜ Call (groupCall word group (record {
-      held = record { n = n; neighbours = now (neighbours .entry); codes = now (codes .entry) };
-      used = used;
-    }) (complementOf a) (now (neighbours .exit)) (now (codes .exit))) r ⌝ }
+    ensures { λ r. ⌜ Call (groupCall word group (usedRecord n (now (neighbours .entry)) (now (codes .entry)) used) (complementOf a) (now (neighbours .exit)) (now (codes .exit))) r ⌝ }
 {
     let other = outside(n, word, group, a);
     let early = group_refusal(n, word, group, neighbours, codes, used, false, other);
@@ -239,15 +213,9 @@ fn measure_within(
     words: &mut [u64],
     bytes: &mut [u8],
 ) -> u8
-    requires { ⌜ Admitted word group (record {
-      held = record { n = n; neighbours = now neighbours; codes = now codes };
-      used = now used;
-    }) (measurementOf pauli qubit outcome) ⌝ }
+    requires { ⌜ Admitted word group (usedRecord n (now neighbours) (now codes) (now used)) (measurementOf pauli qubit outcome) ⌝ }
     requires { ⌜ (length (now words) ≡ 64) × (length (now bytes) ≡ 64) ⌝ }
-    ensures { λ r. ⌜ Call (groupMeasureCall word group (record {
-      held = record { n = n; neighbours = now (neighbours .entry); codes = now (codes .entry) };
-      used = now (used .entry);
-    }) pauli qubit outcome (now (answer .entry)) (now (determined .entry))
+    ensures { λ r. ⌜ Call (groupMeasureCall word group (usedRecord n (now (neighbours .entry)) (now (codes .entry)) (now (used .entry))) pauli qubit outcome (now (answer .entry)) (now (determined .entry))
         (now (neighbours .exit)) (now (codes .exit)) (now (used .exit)) (now (answer .exit))
         (now (determined .exit))) r ⌝ }
 {
@@ -288,10 +256,7 @@ pub fn measure(
     answer: &mut u8,
     determined: &mut u8,
 ) -> u8
-    ensures { λ r. ⌜ Call (groupMeasureCall word group (record {
-      held = record { n = n; neighbours = now (neighbours .entry); codes = now (codes .entry) };
-      used = now (used .entry);
-    }) pauli qubit outcome (now (answer .entry)) (now (determined .entry))
+    ensures { λ r. ⌜ Call (groupMeasureCall word group (usedRecord n (now (neighbours .entry)) (now (codes .entry)) (now (used .entry))) pauli qubit outcome (now (answer .entry)) (now (determined .entry))
         (now (neighbours .exit)) (now (codes .exit)) (now (used .exit)) (now (answer .exit))
         (now (determined .exit))) r ⌝ }
 {

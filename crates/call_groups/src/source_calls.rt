@@ -14,6 +14,7 @@ ghost use Rattle.buffers.specs.Calls.{Call};
 ghost use Rattle.groups_impl.specs.internal.BeforeEight.{Admitted};
 ghost use Rattle.operations.specs.Steps.{measurementOf};
 ghost use Rattle.calls.specs.Sources.{groupObserveCall, groupRenewCall};
+ghost use Rattle.operations.specs.Used.{usedRecord};
 
 // An observation of a call that is admitted, on the copy; `words` and `bytes` have room for it.
 fn observe_within(
@@ -31,15 +32,9 @@ fn observe_within(
     words: &mut [u64],
     bytes: &mut [u8],
 ) -> u8
-    requires { ⌜ Admitted word group (record {
-      held = record { n = n; neighbours = now neighbours; codes = now codes };
-      used = now used;
-    }) (measurementOf pauli qubit bit) ⌝ }
+    requires { ⌜ Admitted word group (usedRecord n (now neighbours) (now codes) (now used)) (measurementOf pauli qubit bit) ⌝ }
     requires { ⌜ (length (now words) ≡ 64) × (length (now bytes) ≡ 64) ⌝ }
-    ensures { λ r. ⌜ Call (groupObserveCall word group (record {
-      held = record { n = n; neighbours = now (neighbours .entry); codes = now (codes .entry) };
-      used = now (used .entry);
-    }) pauli qubit bit (now (answer .entry)) (now (determined .entry))
+    ensures { λ r. ⌜ Call (groupObserveCall word group (usedRecord n (now (neighbours .entry)) (now (codes .entry)) (now (used .entry))) pauli qubit bit (now (answer .entry)) (now (determined .entry))
         (now (neighbours .exit)) (now (codes .exit)) (now (used .exit)) (now (answer .exit))
         (now (determined .exit))) r ⌝ }
 {
@@ -80,10 +75,7 @@ pub fn observe(
     answer: &mut u8,
     determined: &mut u8,
 ) -> u8
-    ensures { λ r. ⌜ Call (groupObserveCall word group (record {
-      held = record { n = n; neighbours = now (neighbours .entry); codes = now (codes .entry) };
-      used = now (used .entry);
-    }) pauli qubit bit (now (answer .entry)) (now (determined .entry))
+    ensures { λ r. ⌜ Call (groupObserveCall word group (usedRecord n (now (neighbours .entry)) (now (codes .entry)) (now (used .entry))) pauli qubit bit (now (answer .entry)) (now (determined .entry))
         (now (neighbours .exit)) (now (codes .exit)) (now (used .exit)) (now (answer .exit))
         (now (determined .exit))) r ⌝ }
 {
@@ -124,10 +116,7 @@ pub fn renew(
     qubit: u64,
     code: u8,
 ) -> u8
-    ensures { λ r. ⌜ Call (groupRenewCall word group (record {
-      held = record { n = n; neighbours = now (neighbours .entry); codes = now (codes .entry) };
-      used = now (used .entry);
-    }) qubit code (now (neighbours .exit)) (now (codes .exit)) (now (used .exit))) r ⌝ }
+    ensures { λ r. ⌜ Call (groupRenewCall word group (usedRecord n (now (neighbours .entry)) (now (codes .entry)) (now (used .entry))) qubit code (now (neighbours .exit)) (now (codes .exit)) (now (used .exit))) r ⌝ }
 {
     let other = outside(n, word, group, qubit);
     let six = no_photon(code);

@@ -19,6 +19,7 @@ ghost use Rattle.groups.specs.GroupStores.{ownLines, sharedLines};
 ghost use Rattle.groups.specs.Masks.{inGroup};
 ghost use Rattle.store.specs.StoreLines.{holdsLine, ofRecord, recordTests};
 ghost use Rattle.calls.specs.GroupStores.{groupForgetCall, groupReturnCall, groupSaveCall};
+ghost use Rattle.operations.specs.Used.{usedRecord};
 
 // Line 6: 6 where the group is above 1, else 0.
 fn group_number(group: u8) -> u8
@@ -39,10 +40,7 @@ fn both_refusal(
     held_neighbours: &[u64],
     held_codes: &[u8],
 ) -> u8
-    ensures { λ r. ⌜ r ≡ firstFitting (recordTests (λ m. ofRecord (record {
-      held = record { n = n; neighbours = now (neighbours .entry); codes = now (codes .entry) };
-      used = used;
-    }) m || holdsLine m (ownLines (inGroup word group) group (record {
+    ensures { λ r. ⌜ r ≡ firstFitting (recordTests (λ m. ofRecord (usedRecord n (now (neighbours .entry)) (now (codes .entry)) used) m || holdsLine m (ownLines (inGroup word group) group (record {
       heads = now (heads .entry);
       neighbours = now («held_neighbours» .entry);
       codes = now («held_codes» .entry);
@@ -65,10 +63,7 @@ fn shared_refusal(
     held_neighbours: &[u64],
     held_codes: &[u8],
 ) -> u8
-    ensures { λ r. ⌜ r ≡ firstFitting (sharedLines word group (record {
-      held = record { n = n; neighbours = now (neighbours .entry); codes = now (codes .entry) };
-      used = used;
-    }) (record {
+    ensures { λ r. ⌜ r ≡ firstFitting (sharedLines word group (usedRecord n (now (neighbours .entry)) (now (codes .entry)) used) (record {
       heads = now (heads .entry);
       neighbours = now («held_neighbours» .entry);
       codes = now («held_codes» .entry);
@@ -108,10 +103,7 @@ pub fn save(
     held_neighbours: &mut [u64],
     held_codes: &mut [u8],
 ) -> u8
-    ensures { λ r. ⌜ Call (groupSaveCall word group (record {
-      held = record { n = n; neighbours = now (neighbours .entry); codes = now (codes .entry) };
-      used = used;
-    }) name (record {
+    ensures { λ r. ⌜ Call (groupSaveCall word group (usedRecord n (now (neighbours .entry)) (now (codes .entry)) used) name (record {
       heads = now (heads .entry);
       neighbours = now («held_neighbours» .entry);
       codes = now («held_codes» .entry);
@@ -162,10 +154,7 @@ pub fn return_to(
     held_neighbours: &[u64],
     held_codes: &[u8],
 ) -> u8
-    ensures { λ r. ⌜ Call (groupReturnCall word group (record {
-      held = record { n = n; neighbours = now (neighbours .entry); codes = now (codes .entry) };
-      used = now (used .entry);
-    }) name (record {
+    ensures { λ r. ⌜ Call (groupReturnCall word group (usedRecord n (now (neighbours .entry)) (now (codes .entry)) (now (used .entry))) name (record {
       heads = now (heads .entry);
       neighbours = now («held_neighbours» .entry);
       codes = now («held_codes» .entry);
@@ -209,10 +198,7 @@ pub fn forget(
     held_neighbours: &[u64],
     held_codes: &[u8],
 ) -> u8
-    ensures { λ r. ⌜ Call (groupForgetCall word group (record {
-      held = record { n = n; neighbours = now (neighbours .entry); codes = now (codes .entry) };
-      used = used;
-    }) name (record {
+    ensures { λ r. ⌜ Call (groupForgetCall word group (usedRecord n (now (neighbours .entry)) (now (codes .entry)) used) name (record {
       heads = now (heads .entry);
       neighbours = now («held_neighbours» .entry);
       codes = now («held_codes» .entry);

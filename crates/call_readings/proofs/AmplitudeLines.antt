@@ -10,7 +10,7 @@ use Rattle.amplitude.specs.declared.PlotLine.{PlotLine}
 use Rattle.buffers.specs.Refusals.{firstFitting}
 use Rattle.operations.specs.internal.InPlace.{Unrefused, recordIn}
 use Rattle.record.proofs.AcceptedRecords.{accepted-record}
-use Rattle.record.specs.Lent.{heldRecord, heldRows, recordLines}
+use Rattle.record.specs.Lent.{heldRecord, heldRows, lentRecord, recordLines}
 use Rattle.record.specs.Records.{rowsOf}
 use Rattle.operations.proofs.UsedPassing.{lines-pass}
 use Rattle.operations.specs.Used.{UsedRecord}
@@ -27,11 +27,7 @@ module _ (u : UsedRecord) (y : ℕ) (e : firstFitting (amplitudeLines u y) ≡ 0
   pub amplitude-unrefused : Unrefused (recordIn (u .held .neighbours) (u .held .codes))
   amplitude-unrefused =
       record {
-        no-line = subst (λ m. firstFitting (recordLines (record {
-          n = m;
-          neighbours = u .held .neighbours;
-          codes = u .held .codes;
-        }) false false) ≡ 0) long no-record-line;
+        no-line = subst (λ m. firstFitting (recordLines (lentRecord m (u .held .neighbours) (u .held .codes)) false false) ≡ 0) long no-record-line;
       }
 
   pub line-held : (l : PlotLine) → l ≡ plotAt (length (u .held .neighbours))

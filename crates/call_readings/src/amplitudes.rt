@@ -7,6 +7,7 @@ ghost use lib.Dec.{T};
 ghost use lib.Ieee.{isNan};
 ghost use Rattle.buffers.specs.Calls.{Call};
 ghost use Rattle.calls.specs.Amplitudes.{amplitudeCall, bitsOf};
+ghost use Rattle.operations.specs.Used.{usedRecord};
 
 // The bits of a float that is a number.
 fn bits(v: f64) -> u64
@@ -28,10 +29,7 @@ pub fn amplitude(
     im: &mut u64,
     p: &mut u64,
 ) -> u8
-    ensures { λ r. ⌜ Call (amplitudeCall (record {
-      held = record { n = n; neighbours = now (neighbours .entry); codes = now (codes .entry) };
-      used = used;
-    }) y (now (re .entry)) (now (im .entry)) (now (p .entry)) (now (re .exit)) (now (im .exit)) (now (p .exit))) r ⌝ }
+    ensures { λ r. ⌜ Call (amplitudeCall (usedRecord n (now (neighbours .entry)) (now (codes .entry)) used) y (now (re .entry)) (now (im .entry)) (now (p .entry)) (now (re .exit)) (now (im .exit)) (now (p .exit))) r ⌝ }
 {
     let number = used_refusal(n, neighbours, codes, used, y, false, false);
     if number != 0 {

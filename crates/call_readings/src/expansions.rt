@@ -4,6 +4,7 @@ use operations_checks::used_refusal;
 use record_impl::expansion::expand_into;
 ghost use Rattle.buffers.specs.Calls.{Call};
 ghost use Rattle.calls.specs.Expansions.{expandCall};
+ghost use Rattle.operations.specs.Used.{usedRecord};
 
 // The generators of a record, in order.
 pub fn expand(
@@ -15,10 +16,7 @@ pub fn expand(
     z: &mut [u64],
     x: &mut [u64],
 ) -> u8
-    ensures { λ r. ⌜ Call (expandCall (record {
-      held = record { n = n; neighbours = now (neighbours .entry); codes = now (codes .entry) };
-      used = used;
-    }) (now (signs .entry)) (now (z .entry)) (now (x .entry))
+    ensures { λ r. ⌜ Call (expandCall (usedRecord n (now (neighbours .entry)) (now (codes .entry)) used) (now (signs .entry)) (now (z .entry)) (now (x .entry))
         (now (signs .exit)) (now (z .exit)) (now (x .exit))) r ⌝ }
 {
     let others = other_than(signs.len(), n) | (other_than(z.len(), n) | other_than(x.len(), n));

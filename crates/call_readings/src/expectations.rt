@@ -3,6 +3,7 @@ use expectation_impl::row_value;
 use operations_checks::used_refusal;
 ghost use Rattle.buffers.specs.Calls.{Call};
 ghost use Rattle.calls.specs.Expectations.{expectationCall};
+ghost use Rattle.operations.specs.Used.{usedRecord};
 
 // 0 where the row is in the record's group, 1 where its negative is, 2 where neither is.
 pub fn expectation(
@@ -14,10 +15,7 @@ pub fn expectation(
     x: u64,
     value: &mut u8,
 ) -> u8
-    ensures { λ r. ⌜ Call (expectationCall (record {
-      held = record { n = n; neighbours = now (neighbours .entry); codes = now (codes .entry) };
-      used = used;
-    }) z x (now (value .entry)) (now (value .exit))) r ⌝ }
+    ensures { λ r. ⌜ Call (expectationCall (usedRecord n (now (neighbours .entry)) (now (codes .entry)) used) z x (now (value .entry)) (now (value .exit))) r ⌝ }
 {
     let number = used_refusal(n, neighbours, codes, used, z | x, false, false);
     if number != 0 {

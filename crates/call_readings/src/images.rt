@@ -7,6 +7,7 @@ use image_impl::answer::image_answer;
 use record_impl::checks::record_refusal;
 ghost use Rattle.buffers.specs.Calls.{Call};
 ghost use Rattle.calls.specs.Images.{imageCall};
+ghost use Rattle.record.specs.Lent.{lentRecord};
 
 // The image graph, its signs, and the list of the vertices complemented.
 pub fn image(
@@ -19,7 +20,7 @@ pub fn image(
     count: &mut u64,
 ) -> u8
     ensures { λ r. ⌜ Call (imageCall
-        (record { n = n; neighbours = now (neighbours .entry); codes = now (codes .entry) })
+        (lentRecord n (now (neighbours .entry)) (now (codes .entry)))
         (now (image .entry)) (now (signs .entry)) (now (list .entry)) (now (count .entry))
         (now (image .exit)) (now (signs .exit)) (now (list .exit)) (now (count .exit))) r ⌝ }
 {

@@ -14,7 +14,7 @@ use Rattle.call_run.proofs.LastRecord.{last-settled}
 use Rattle.call_run.proofs.LentLaws.{none-ran, ran-on}
 use Rattle.call_run.specs.internal.LentRuns.{LentRun, ReadyAt, WaitingRun, markedBefore}
 use Rattle.call_run.specs.internal.Waiting.{meant}
-use Rattle.operations.specs.Used.{UsedRecord}
+use Rattle.operations.specs.Used.{UsedRecord, usedRecord}
 
 -- a block of 64 steps, those below k filled with the steps of the lists from a place on
 abbrev pub BlockFilled : List ℕ → List ℕ → List ℕ → List ℕ → ℕ → List Step → ℕ → Type 0
@@ -40,12 +40,9 @@ take-more (suc k) m (x ∷ l) = ap (λ t. x ∷ t) (take-more k m l) ∙ ap (λ 
 pub block-ready : (u : UsedRecord) (k m : ℕ) (block : List Step) → m ≤ length block
     → (before nb cs : List ℕ) (used : ℕ) (after : List ℕ) → WaitingRun u (take m block) k before nb cs used after
     → ReadyAt k before u
-    → ReadyAt (k + m) after (record { held = record { n = u .held .n; neighbours = nb; codes = cs }; used = used })
+    → ReadyAt (k + m) after (usedRecord (u .held .n) nb cs used)
 block-ready u k m block few before nb cs used after R K =
-    subst (λ j. ReadyAt (k + j) after (record {
-      held = record { n = u .held .n; neighbours = nb; codes = cs };
-      used = used;
-    })) (length-take-le m block few) (R .ready K)
+    subst (λ j. ReadyAt (k + j) after (usedRecord (u .held .n) nb cs used)) (length-take-le m block few) (R .ready K)
 
 -- ---- blocks one behind the other
 -- after k of the steps
@@ -62,7 +59,7 @@ module _ (u : UsedRecord) (steps : List Step) (count : ℕ) (before : List ℕ) 
   pub run-block-more : (k m : ℕ) → k + m ≤ count → count ≤ length steps → count ≤ length before → (block : List Step)
       → take m block ≡ take m (drop k steps) → (nb cs : List ℕ) (used : ℕ) (mid : List ℕ)
       → RunTo u steps count k before nb cs used mid → (nb′ cs′ : List ℕ) (used′ : ℕ) (after : List ℕ)
-      → WaitingRun (record { held = record { n = u .held .n; neighbours = nb; codes = cs }; used = used }) (take m block) k mid
+      → WaitingRun (usedRecord (u .held .n) nb cs used) (take m block) k mid
       nb′ cs′ used′ after
       → RunTo u steps count (k + m) before nb′ cs′ used′ after
   run-block-more k m few inside room block e nb cs used mid R nb′ cs′ used′ after S =
@@ -71,9 +68,9 @@ module _ (u : UsedRecord) (steps : List Step) (count : ℕ) (before : List ℕ) 
         ran = subst (λ t. WaitingRun u t 0 before nb′ cs′ used′ after) (take-more k m steps)
             (ran-on u (take k steps) 0 before nb cs used mid (R .ran) (omega (arith, long)) (take m (drop k steps)) nb′ cs′
             used′ after
-            (subst (λ t. WaitingRun (record { held = record { n = u .held .n; neighbours = nb; codes = cs }; used = used }) t (0 + length (take k steps)) mid
+            (subst (λ t. WaitingRun (usedRecord (u .held .n) nb cs used) t (0 + length (take k steps)) mid
             nb′ cs′ used′ after) e
-            (subst (λ i. WaitingRun (record { held = record { n = u .held .n; neighbours = nb; codes = cs }; used = used }) (take m block) i mid nb′ cs′ used′
+            (subst (λ i. WaitingRun (usedRecord (u .held .n) nb cs used) (take m block) i mid nb′ cs′ used′
             after) (sym (zero-add (length (take k steps)) ∙ long)) S)));
       }
     where
@@ -83,8 +80,8 @@ module _ (u : UsedRecord) (steps : List Step) (count : ℕ) (before : List ℕ) 
   -- all of them, and the record that is meant
   pub run-all : (k : ℕ) (nb cs : List ℕ) (used : ℕ) (mid : List ℕ) → count ≤ k → count ≤ length steps
       → RunTo u steps count k before nb cs used mid → (nb′ cs′ : List ℕ)
-      → _≡_ {A = UsedRecord} (record { held = record { n = u .held .n; neighbours = nb′; codes = cs′ }; used = used })
-      (meant (markedBefore count mid) (record { held = record { n = u .held .n; neighbours = nb; codes = cs }; used = used }))
+      → _≡_ {A = UsedRecord} (usedRecord (u .held .n) nb′ cs′ used)
+      (meant (markedBefore count mid) (usedRecord (u .held .n) nb cs used))
       → LentRun u (take count steps) 0 before nb′ cs′ used mid
   run-all k nb cs used mid end inside R nb′ cs′ e =
       last-settled u (take count steps) count (length-take-le count steps inside) before nb cs used mid

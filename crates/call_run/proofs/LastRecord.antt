@@ -9,7 +9,7 @@ use lib.ListN.{length}
 use Rattle.call_run.specs.internal.Waiting.{meant}
 use Rattle.jobs.specs.declared.Step.{Step}
 use Rattle.operations.proofs.UsedPassing.{lines-pass}
-use Rattle.operations.specs.Used.{UsedRecord, UsedUnrefused}
+use Rattle.operations.specs.Used.{UsedRecord, usedRecord, UsedUnrefused}
 use Rattle.call_run.specs.internal.LentRuns.{LentRun, ReadyAt, WaitingRun, markedBefore}
 
 -- before the first step nothing waits
@@ -26,7 +26,7 @@ module _ (u : UsedRecord) (steps : List Step) (count : ℕ) (long : length steps
     (before nb cs : List ℕ) (used : ℕ) (mid : List ℕ) (R : WaitingRun u steps 0 before nb cs used mid) where
   -- the record in the buffers after the last step
   abbrev last : UsedRecord
-  last = record { held = record { n = u .held .n; neighbours = nb; codes = cs }; used = used }
+  last = usedRecord (u .held .n) nb cs used
 
   -- what is known of it
   pub last-ready : ReadyAt 0 before u → ReadyAt count mid last
@@ -34,7 +34,7 @@ module _ (u : UsedRecord) (steps : List Step) (count : ℕ) (long : length steps
 
   -- the record that is meant, in the buffers
   pub last-settled : (nb′ cs′ : List ℕ)
-      → _≡_ {A = UsedRecord} (record { held = record { n = u .held .n; neighbours = nb′; codes = cs′ }; used = used })
+      → _≡_ {A = UsedRecord} (usedRecord (u .held .n) nb′ cs′ used)
       (meant (markedBefore count mid) last)
       → LentRun u steps 0 before nb′ cs′ used mid
   last-settled nb′ cs′ e =

@@ -16,7 +16,7 @@ use Rattle.call_run.proofs.KeptRecords.{run-unrefused}
 use Rattle.call_run.specs.internal.StepRuns.{StepRun, WaitedStep, nextWaiting}
 use Rattle.buffers.proofs.Writing.{write-more, write-none, write-one}
 use Rattle.buffers.specs.Writing.{overwritten}
-use Rattle.operations.specs.Used.{UsedRecord, UsedUnrefused}
+use Rattle.operations.specs.Used.{UsedRecord, usedRecord, UsedUnrefused}
 use Rattle.call_run.proofs.MarkedSteps.{answers-append, last-kept, lastOf, mark-kept, small-answer}
 use Rattle.call_run.specs.internal.LentRuns.{
   LentRun,
@@ -65,13 +65,10 @@ module _ (u : UsedRecord) where
       (R : LentRun u xs at before nb cs used mid) where
     -- the record that the buffers hold
     abbrev left : UsedRecord
-    left = record { held = record { n = u .held .n; neighbours = nb; codes = cs }; used = used }
+    left = usedRecord (u .held .n) nb cs used
 
     pub left-is : left ≡ run u xs
-    left-is = λ i. record {
-      held = record { n = sym (run-qubits u xs) i; neighbours = R .words i; codes = R .numbers i };
-      used = R .marks i;
-    }
+    left-is = λ i. usedRecord (sym (run-qubits u xs) i) (R .words i) (R .numbers i) (R .marks i)
 
     -- the mark behind the steps is their last
     abbrev kept : List ℕ
@@ -166,7 +163,7 @@ turned waiting u s r nb cs used at before inside marked p ew em ep A = one-ran u
 pub ran-on : (u : UsedRecord) (xs : List Step) (at : ℕ) (before nb cs : List ℕ) (used : ℕ) (mid : List ℕ)
     → WaitingRun u xs at before nb cs used mid → at + length xs ≤ length before → (ys : List Step)
     → (nb′ cs′ : List ℕ) (used′ : ℕ) (after : List ℕ)
-    → WaitingRun (record { held = record { n = u .held .n; neighbours = nb; codes = cs }; used = used }) ys (at + length xs)
+    → WaitingRun (usedRecord (u .held .n) nb cs used) ys (at + length xs)
     mid nb′ cs′ used′ after
     → WaitingRun u (xs ++ ys) at before nb′ cs′ used′ after
 ran-on u xs at before nb cs used mid R room ys nb′ cs′ used′ after S =
@@ -179,13 +176,13 @@ pub ran-next : (u : UsedRecord) (steps : List Step) (k at : ℕ) (other : Step) 
     → (before : List ℕ) → at + length steps ≤ length before → (nb cs : List ℕ) (used : ℕ) (mid : List ℕ)
     → WaitingRun u (take k steps) at before nb cs used mid
     → (nb′ cs′ : List ℕ) (used′ : ℕ) (after : List ℕ)
-    → WaitingRun (record { held = record { n = u .held .n; neighbours = nb; codes = cs }; used = used })
+    → WaitingRun (usedRecord (u .held .n) nb cs used)
     (getD steps k other ∷ []) (at + k) mid nb′ cs′ used′ after
     → WaitingRun u (take (suc k) steps) at before nb′ cs′ used′ after
 ran-next u steps k at other inside before room nb cs used mid R nb′ cs′ used′ after S =
     subst (λ t. WaitingRun u t at before nb′ cs′ used′ after) (sym (take-suc steps k other inside))
     (ran-on u (take k steps) at before nb cs used mid R (omega (arith, long)) (getD steps k other ∷ []) nb′ cs′ used′ after
-    (subst (λ m. WaitingRun (record { held = record { n = u .held .n; neighbours = nb; codes = cs }; used = used }) (getD steps k other ∷ []) (at + m) mid nb′ cs′ used′ after)
+    (subst (λ m. WaitingRun (usedRecord (u .held .n) nb cs used) (getD steps k other ∷ []) (at + m) mid nb′ cs′ used′ after)
     (sym long) S))
   where
     long : length (take k steps) ≡ k
@@ -220,7 +217,7 @@ module _ (u : UsedRecord) (steps : List Step) (at : ℕ) (before : List ℕ) whe
     pub upto-next : Upto u steps at before (suc rest) k nb cs used mid → at + length steps ≤ length before → (other : Step)
         → (nb′ cs′ : List ℕ) (used′ : ℕ) (after : List ℕ) → used′ < 2 ^ 64 → length nb′ ≡ length nb → length cs′ ≡ length cs
         → length after ≡ length mid
-        → WaitingRun (record { held = record { n = u .held .n; neighbours = nb; codes = cs }; used = used })
+        → WaitingRun (usedRecord (u .held .n) nb cs used)
         (getD steps k other ∷ []) (at + k) mid nb′ cs′ used′ after
         → Upto u steps at before rest (suc k) nb′ cs′ used′ after
     upto-next U room other nb′ cs′ used′ after fits n c a R =
@@ -237,10 +234,10 @@ module _ (u : UsedRecord) (steps : List Step) (at : ℕ) (before : List ℕ) whe
     pub upto-asks : Upto u steps at before (suc rest) k nb cs used mid → at + length steps ≤ length before
         → ReadyAt at before u
         → (at + k < length mid)
-        × ReadyAt (at + k) mid (record { held = record { n = u .held .n; neighbours = nb; codes = cs }; used = used })
+        × ReadyAt (at + k) mid (usedRecord (u .held .n) nb cs used)
     upto-asks U room K = (
       omega (arith, U .count, U .answers-long),
-      subst (λ m. ReadyAt (at + m) mid (record { held = record { n = u .held .n; neighbours = nb; codes = cs }; used = used }))
+      subst (λ m. ReadyAt (at + m) mid (usedRecord (u .held .n) nb cs used))
           (length-take-le k steps (omega (arith, U .count)))
           (U .ran .ready K),
     )

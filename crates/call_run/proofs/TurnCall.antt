@@ -63,7 +63,7 @@ use types.Kit.{
 use Rattle.jobs.proofs.Step as S
 use Rattle.jobs.proofs.Step.Laws as S′
 use Rattle.jobs.specs.declared.Step.{Step}
-use Rattle.operations.specs.Used.{UsedRecord}
+use Rattle.operations.specs.Used.{UsedRecord, usedRecord}
 use Rattle.call_run.specs.internal.LentRuns.{ReadyAt, WaitingRun}
 use Rattle.call_run.proofs.Lending.{Holds, Kept, Lent, Out, Token, comes-in, goes-out, ref, val}
 use Rattle.call_run.proofs.lent.turn as turn
@@ -76,7 +76,7 @@ pub record Now : Type 0 where
   pub answers : List ℕ
 
 abbrev pub left : ℕ → Now → UsedRecord
-left n x = record { held = record { n = n; neighbours = x .neighbours; codes = x .codes }; used = x .used }
+left n x = usedRecord n (x .neighbours) (x .codes) (x .used)
 
 -- a step as the machine holds it
 abbrev pub mach : Step → Val

@@ -10,7 +10,7 @@ ghost use lib.Dec.{eqb, ltb};
 ghost use lib.ListN.{getD, length};
 ghost use Rattle.buffers.specs.Buffers.{tabulate};
 ghost use Rattle.buffers.specs.Refusals.{firstFitting, line, reaching};
-ghost use Rattle.operations.specs.Used.{usedLines};
+ghost use Rattle.operations.specs.Used.{usedLines, usedRecord};
 
 // Line 4: whether one of three slices does not have a place for each step.
 pub fn one_other_than(count: usize, first: usize, second: usize, third: usize) -> bool
@@ -29,10 +29,7 @@ pub fn run_refusal(
     ops: &[u8],
     others: bool,
 ) -> u8
-    ensures { λ r. ⌜ r ≡ firstFitting (line 15 (ltb 4096 (length (now (ops .entry)))) ∷ usedLines (record {
-      held = record { n = n; neighbours = now (neighbours .entry); codes = now (codes .entry) };
-      used = used;
-    }) others false (reaching 5 (now (ops .entry)))) ⌝ }
+    ensures { λ r. ⌜ r ≡ firstFitting (line 15 (ltb 4096 (length (now (ops .entry)))) ∷ usedLines (usedRecord n (now (neighbours .entry)) (now (codes .entry)) used) others false (reaching 5 (now (ops .entry)))) ⌝ }
 {
     if 4096 < ops.len() {
         return 15;

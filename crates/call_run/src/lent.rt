@@ -13,6 +13,7 @@ ghost use Rattle.call_run.specs.internal.Waiting.{meant};
 ghost use Rattle.call_run.specs.internal.StepRuns.{leavesReduced, nextWaiting};
 ghost use Rattle.call_run.specs.internal.LentRuns.{ReadyAt, SmallAnswer, WaitingRun};
 ghost use Rattle.call_run.specs.internal.LentRuns.{markedBefore, packed};
+ghost use Rattle.operations.specs.Used.{usedRecord};
 
 // Whether the operation, if it is accepted, leaves a reduced record.
 fn leaves_reduced(op: Op) -> bool
@@ -76,14 +77,8 @@ pub fn turn(
     k: usize,
     answers: &mut [u8],
 ) -> u64
-    requires { ⌜ (at + k < length (now answers)) × ReadyAt (at + k) (now answers) (record {
-      held = record { n = n; neighbours = now neighbours; codes = now codes };
-      used = used;
-    }) ⌝ }
-    ensures { λ r. ⌜ WaitingRun (record {
-      held = record { n = n; neighbours = now (neighbours .entry); codes = now (codes .entry) };
-      used = used;
-    }) (s ∷ []) (at + k) (now (answers .entry)) (now (neighbours .exit)) (now (codes .exit)) r (now (answers .exit)) ⌝ }
+    requires { ⌜ (at + k < length (now answers)) × ReadyAt (at + k) (now answers) (usedRecord n (now neighbours) (now codes) used) ⌝ }
+    ensures { λ r. ⌜ WaitingRun (usedRecord n (now (neighbours .entry)) (now (codes .entry)) used) (s ∷ []) (at + k) (now (answers .entry)) (now (neighbours .exit)) (now (codes .exit)) r (now (answers .exit)) ⌝ }
 {
     let mut word = used;
     let place = at + k;
@@ -105,14 +100,8 @@ pub fn run_lent(
     at: usize,
     answers: &mut [u8],
 ) -> u64
-    requires { ⌜ (at + length (now steps) ≤ length (now answers)) × ReadyAt at (now answers) (record {
-      held = record { n = n; neighbours = now neighbours; codes = now codes };
-      used = used;
-    }) ⌝ }
-    ensures { λ r. ⌜ WaitingRun (record {
-      held = record { n = n; neighbours = now (neighbours .entry); codes = now (codes .entry) };
-      used = used;
-    }) (now (steps .entry)) at (now (answers .entry)) (now (neighbours .exit)) (now (codes .exit)) r
+    requires { ⌜ (at + length (now steps) ≤ length (now answers)) × ReadyAt at (now answers) (usedRecord n (now neighbours) (now codes) used) ⌝ }
+    ensures { λ r. ⌜ WaitingRun (usedRecord n (now (neighbours .entry)) (now (codes .entry)) used) (now (steps .entry)) at (now (answers .entry)) (now (neighbours .exit)) (now (codes .exit)) r
         (now (answers .exit)) ⌝ }
 {
     let mut word = used;
@@ -135,14 +124,8 @@ pub fn run_block(
     at: usize,
     answers: &mut [u8],
 ) -> u64
-    requires { ⌜ (count ≤ 64) × ((at + count ≤ length (now answers)) × ReadyAt at (now answers) (record {
-      held = record { n = n; neighbours = now neighbours; codes = now codes };
-      used = used;
-    })) ⌝ }
-    ensures { λ r. ⌜ WaitingRun (record {
-      held = record { n = n; neighbours = now (neighbours .entry); codes = now (codes .entry) };
-      used = used;
-    }) (take count steps) at (now (answers .entry)) (now (neighbours .exit)) (now (codes .exit)) r
+    requires { ⌜ (count ≤ 64) × ((at + count ≤ length (now answers)) × ReadyAt at (now answers) (usedRecord n (now neighbours) (now codes) used)) ⌝ }
+    ensures { λ r. ⌜ WaitingRun (usedRecord n (now (neighbours .entry)) (now (codes .entry)) used) (take count steps) at (now (answers .entry)) (now (neighbours .exit)) (now (codes .exit)) r
         (now (answers .exit)) ⌝ }
 {
     run_lent(n, neighbours, codes, used, &steps[..count], at, answers)
@@ -159,14 +142,8 @@ pub fn run_steps(
     at: usize,
     answers: &mut [u8],
 ) -> u64
-    requires { ⌜ (count ≤ 4096) × ((at + count ≤ length (now answers)) × ReadyAt at (now answers) (record {
-      held = record { n = n; neighbours = now neighbours; codes = now codes };
-      used = used;
-    })) ⌝ }
-    ensures { λ r. ⌜ WaitingRun (record {
-      held = record { n = n; neighbours = now (neighbours .entry); codes = now (codes .entry) };
-      used = used;
-    }) (take count steps) at (now (answers .entry)) (now (neighbours .exit)) (now (codes .exit)) r
+    requires { ⌜ (count ≤ 4096) × ((at + count ≤ length (now answers)) × ReadyAt at (now answers) (usedRecord n (now neighbours) (now codes) used)) ⌝ }
+    ensures { λ r. ⌜ WaitingRun (usedRecord n (now (neighbours .entry)) (now (codes .entry)) used) (take count steps) at (now (answers .entry)) (now (neighbours .exit)) (now (codes .exit)) r
         (now (answers .exit)) ⌝ }
 {
     run_lent(n, neighbours, codes, used, &steps[..count], at, answers)
@@ -181,17 +158,8 @@ pub fn settle_last(
     place: usize,
     answers: &[u8],
 )
-    requires { ⌜ (place ≤ length (now answers)) × ReadyAt place (now answers) (record {
-      held = record { n = n; neighbours = now neighbours; codes = now codes };
-      used = used;
-    }) ⌝ }
-    ensures { λ r. ⌜ record {
-      held = record { n = n; neighbours = now (neighbours .exit); codes = now (codes .exit) };
-      used = used;
-    } ≡ meant (markedBefore place (now (answers .entry))) (record {
-      held = record { n = n; neighbours = now (neighbours .entry); codes = now (codes .entry) };
-      used = used;
-    }) ⌝ }
+    requires { ⌜ (place ≤ length (now answers)) × ReadyAt place (now answers) (usedRecord n (now neighbours) (now codes) used) ⌝ }
+    ensures { λ r. ⌜ usedRecord n (now (neighbours .exit)) (now (codes .exit)) used ≡ meant (markedBefore place (now (answers .entry))) (usedRecord n (now (neighbours .entry)) (now (codes .entry)) used) ⌝ }
 {
     let waiting = marked_before(answers, place);
     settle_waiting(n, neighbours, codes, used, waiting);

@@ -11,6 +11,7 @@ use crate::checks::unpack;
 use crate::numbers::run_numbers;
 ghost use Rattle.buffers.specs.Calls.{Call};
 ghost use Rattle.calls.specs.Runs.{runCall};
+ghost use Rattle.operations.specs.Used.{usedRecord};
 
 // Steps on a record in place, one after the other: the record is looked at once, and what each step answers is written.
 pub fn run(
@@ -26,10 +27,7 @@ pub fn run(
     outcomes: &mut [u8],
     determined: &mut [u8],
 ) -> u8
-    ensures { λ r. ⌜ Call (runCall (record {
-      held = record { n = n; neighbours = now (neighbours .entry); codes = now (codes .entry) };
-      used = now (used .entry);
-    }) (record {
+    ensures { λ r. ⌜ Call (runCall (usedRecord n (now (neighbours .entry)) (now (codes .entry)) (now (used .entry))) (record {
       ops = now (ops .entry);
       a = now (a .entry);
       b = now (b .entry);

@@ -11,7 +11,7 @@ ghost use lib.ListN.{drop, length, take};
 ghost use Rattle.jobs.specs.Parallel.{stepIn, stepsIn};
 ghost use Rattle.jobs.specs.internal.Parallel.{OneLength};
 ghost use Rattle.call_run.specs.internal.LentRuns.{LentRun};
-ghost use Rattle.operations.specs.Used.{UsedUnrefused};
+ghost use Rattle.operations.specs.Used.{usedRecord, UsedUnrefused};
 
 // Step k of the slices.
 fn step_at(ops: &[u8], a: &[u16], b: &[u16], value: &[u16], k: usize) -> Step
@@ -83,14 +83,8 @@ pub fn run_numbers(
     answers: &mut [u8],
 ) -> u64
     requires { ⌜ (count ≤ length (now ops)) × (count ≤ length (now answers))
-        × OneLength (now ops) (now a) (now b) (now value) × UsedUnrefused (record {
-          held = record { n = n; neighbours = now neighbours; codes = now codes };
-          used = used;
-        }) ⌝ }
-    ensures { λ r. ⌜ LentRun (record {
-      held = record { n = n; neighbours = now (neighbours .entry); codes = now (codes .entry) };
-      used = used;
-    }) (take count (stepsIn (now (ops .entry)) (now (a .entry)) (now (b .entry)) (now (value .entry)))) 0
+        × OneLength (now ops) (now a) (now b) (now value) × UsedUnrefused (usedRecord n (now neighbours) (now codes) used) ⌝ }
+    ensures { λ r. ⌜ LentRun (usedRecord n (now (neighbours .entry)) (now (codes .entry)) used) (take count (stepsIn (now (ops .entry)) (now (a .entry)) (now (b .entry)) (now (value .entry)))) 0
         (now (answers .entry)) (now (neighbours .exit)) (now (codes .exit)) r (now (answers .exit)) ⌝ }
 {
     let mut word = used;

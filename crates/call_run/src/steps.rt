@@ -12,6 +12,7 @@ use jobs::wrong_value;
 ghost use Prim.Native.Nat.{_%_, _+_, _/_, _<_};
 ghost use Rattle.call_run.specs.internal.Waiting.{MeasuredStep, Standing};
 ghost use Rattle.call_run.specs.internal.StepRuns.{Rewriting, WaitedCall, WaitedStep};
+ghost use Rattle.operations.specs.Used.{usedRecord};
 
 // A measurement with the value 2 × (Pauli − 1) + outcome, on a record that may wait to be reduced.
 fn measure_value(
@@ -24,14 +25,8 @@ fn measure_value(
     waiting: bool,
 ) -> Answer
     requires { ⌜ value < 6 ⌝ }
-    requires { ⌜ Standing waiting (record {
-      held = record { n = n; neighbours = now neighbours; codes = now codes };
-      used = now used;
-    }) ⌝ }
-    ensures { λ r. ⌜ MeasuredStep waiting (record {
-      held = record { n = n; neighbours = now (neighbours .entry); codes = now (codes .entry) };
-      used = now (used .entry);
-    }) (value / 2 + 1) qubit (value % 2) (now (neighbours .exit)) (now (codes .exit)) (now (used .exit)) (r .outcome)
+    requires { ⌜ Standing waiting (usedRecord n (now neighbours) (now codes) (now used)) ⌝ }
+    ensures { λ r. ⌜ MeasuredStep waiting (usedRecord n (now (neighbours .entry)) (now (codes .entry)) (now (used .entry))) (value / 2 + 1) qubit (value % 2) (now (neighbours .exit)) (now (codes .exit)) (now (used .exit)) (r .outcome)
         (r .determined) (r .refusal) ⌝ }
 {
     let pauli = (value / 2 + 1) as u8;
@@ -52,14 +47,8 @@ fn rewrite(
     waiting: bool,
 ) -> u8
     requires { ⌜ Rewriting op value ⌝ }
-    requires { ⌜ Standing waiting (record {
-      held = record { n = n; neighbours = now neighbours; codes = now codes };
-      used = used;
-    }) ⌝ }
-    ensures { λ r. ⌜ WaitedCall waiting (record {
-      held = record { n = n; neighbours = now (neighbours .entry); codes = now (codes .entry) };
-      used = used;
-    }) op a b value (now (neighbours .exit)) (now (codes .exit)) r ⌝ }
+    requires { ⌜ Standing waiting (usedRecord n (now neighbours) (now codes) used) ⌝ }
+    ensures { λ r. ⌜ WaitedCall waiting (usedRecord n (now (neighbours .entry)) (now (codes .entry)) used) op a b value (now (neighbours .exit)) (now (codes .exit)) r ⌝ }
 {
     match op {
         Op::Gate => gate_waiting(n, neighbours, codes, used, a, value as u8, waiting),
@@ -79,14 +68,8 @@ pub fn run_step(
     s: Step,
     waiting: bool,
 ) -> Answer
-    requires { ⌜ Standing waiting (record {
-      held = record { n = n; neighbours = now neighbours; codes = now codes };
-      used = now used;
-    }) ⌝ }
-    ensures { λ r. ⌜ WaitedStep waiting (record {
-      held = record { n = n; neighbours = now (neighbours .entry); codes = now (codes .entry) };
-      used = now (used .entry);
-    }) s r (now (neighbours .exit)) (now (codes .exit)) (now (used .exit)) ⌝ }
+    requires { ⌜ Standing waiting (usedRecord n (now neighbours) (now codes) (now used)) ⌝ }
+    ensures { λ r. ⌜ WaitedStep waiting (usedRecord n (now (neighbours .entry)) (now (codes .entry)) (now (used .entry))) s r (now (neighbours .exit)) (now (codes .exit)) (now (used .exit)) ⌝ }
 {
     let op = s.op;
     let value = s.value;

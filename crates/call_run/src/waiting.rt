@@ -17,7 +17,7 @@ ghost use Rattle.buffers.specs.Refusals.{firstFitting};
 ghost use Rattle.calls.specs.InPlace.{usedCall};
 ghost use Rattle.buffers.specs.Calls.{Call};
 ghost use Rattle.operations.specs.Steps.{complementOf, czOn, gateWith, measurementOf, pivotOf};
-ghost use Rattle.operations.specs.Used.{usedLinesOf};
+ghost use Rattle.operations.specs.Used.{usedLinesOf, usedRecord};
 ghost use Rattle.call_run.specs.internal.Waiting.{MeasuredStep, Standing, Stepped, meant};
 
 // The number of the first line of a step that holds, where none of the record's does.
@@ -43,14 +43,8 @@ pub fn gate_waiting(
     code: u8,
     waiting: bool,
 ) -> u8
-    requires { ⌜ Standing waiting (record {
-      held = record { n = n; neighbours = now neighbours; codes = now codes };
-      used = used;
-    }) ⌝ }
-    ensures { λ r. ⌜ Stepped waiting (record {
-      held = record { n = n; neighbours = now (neighbours .entry); codes = now (codes .entry) };
-      used = used;
-    }) (gateWith qubit code) (now (neighbours .entry)) (now (codes .exit)) r ⌝ }
+    requires { ⌜ Standing waiting (usedRecord n (now neighbours) (now codes) used) ⌝ }
+    ensures { λ r. ⌜ Stepped waiting (usedRecord n (now (neighbours .entry)) (now (codes .entry)) used) (gateWith qubit code) (now (neighbours .entry)) (now (codes .exit)) r ⌝ }
 {
     let sixteen = bit_at(used, qubit);
     let early = argument_number(24 <= code, n <= qubit, sixteen);
@@ -71,14 +65,8 @@ pub fn cz_waiting(
     b: u64,
     waiting: bool,
 ) -> u8
-    requires { ⌜ Standing waiting (record {
-      held = record { n = n; neighbours = now neighbours; codes = now codes };
-      used = used;
-    }) ⌝ }
-    ensures { λ r. ⌜ Stepped waiting (record {
-      held = record { n = n; neighbours = now (neighbours .entry); codes = now (codes .entry) };
-      used = used;
-    }) (czOn a b) (now (neighbours .exit)) (now (codes .exit)) r ⌝ }
+    requires { ⌜ Standing waiting (usedRecord n (now neighbours) (now codes) used) ⌝ }
+    ensures { λ r. ⌜ Stepped waiting (usedRecord n (now (neighbours .entry)) (now (codes .entry)) used) (czOn a b) (now (neighbours .exit)) (now (codes .exit)) r ⌝ }
 {
     let eight = (n <= a) | ((n <= b) | (a == b));
     let sixteen = bit_at(used, a) | bit_at(used, b);
@@ -101,14 +89,8 @@ fn measure_number(
     outcome: u8,
     waiting: bool,
 ) -> u8
-    requires { ⌜ Standing waiting (record {
-      held = record { n = n; neighbours = now neighbours; codes = now codes };
-      used = used;
-    }) ⌝ }
-    ensures { λ r. ⌜ r ≡ firstFitting (usedLinesOf (meant waiting (record {
-      held = record { n = n; neighbours = now (neighbours .entry); codes = now (codes .entry) };
-      used = used;
-    })) (measurementOf pauli qubit outcome)) ⌝ }
+    requires { ⌜ Standing waiting (usedRecord n (now neighbours) (now codes) used) ⌝ }
+    ensures { λ r. ⌜ r ≡ firstFitting (usedLinesOf (meant waiting (usedRecord n (now (neighbours .entry)) (now (codes .entry)) used)) (measurementOf pauli qubit outcome)) ⌝ }
 {
     let six = (2 <= outcome) | ((pauli == 0) | (4 <= pauli));
     let sixteen = bit_at(used, qubit);
@@ -134,14 +116,8 @@ pub fn measure_waiting(
     outcome: u8,
     waiting: bool,
 ) -> Answer
-    requires { ⌜ Standing waiting (record {
-      held = record { n = n; neighbours = now neighbours; codes = now codes };
-      used = now used;
-    }) ⌝ }
-    ensures { λ r. ⌜ MeasuredStep waiting (record {
-      held = record { n = n; neighbours = now (neighbours .entry); codes = now (codes .entry) };
-      used = now (used .entry);
-    }) pauli qubit outcome (now (neighbours .exit)) (now (codes .exit)) (now (used .exit)) (r .outcome)
+    requires { ⌜ Standing waiting (usedRecord n (now neighbours) (now codes) (now used)) ⌝ }
+    ensures { λ r. ⌜ MeasuredStep waiting (usedRecord n (now (neighbours .entry)) (now (codes .entry)) (now (used .entry))) pauli qubit outcome (now (neighbours .exit)) (now (codes .exit)) (now (used .exit)) (r .outcome)
         (r .determined) (r .refusal) ⌝ }
 {
     let word = *used;
@@ -166,17 +142,8 @@ pub fn measure_waiting(
 
 // The record that is meant, in the buffers.
 pub fn settle_waiting(n: u64, neighbours: &mut [u64], codes: &mut [u8], used: u64, waiting: bool)
-    requires { ⌜ Standing waiting (record {
-      held = record { n = n; neighbours = now neighbours; codes = now codes };
-      used = used;
-    }) ⌝ }
-    ensures { λ r. ⌜ record {
-      held = record { n = n; neighbours = now (neighbours .exit); codes = now (codes .exit) };
-      used = used;
-    } ≡ meant waiting (record {
-      held = record { n = n; neighbours = now (neighbours .entry); codes = now (codes .entry) };
-      used = used;
-    }) ⌝ }
+    requires { ⌜ Standing waiting (usedRecord n (now neighbours) (now codes) used) ⌝ }
+    ensures { λ r. ⌜ usedRecord n (now (neighbours .exit)) (now (codes .exit)) used ≡ meant waiting (usedRecord n (now (neighbours .entry)) (now (codes .entry)) used) ⌝ }
 {
     if waiting {
         normalise(neighbours, codes);
@@ -192,14 +159,8 @@ pub fn complement_waiting(
     a: u64,
     waiting: bool,
 ) -> u8
-    requires { ⌜ Standing waiting (record {
-      held = record { n = n; neighbours = now neighbours; codes = now codes };
-      used = used;
-    }) ⌝ }
-    ensures { λ r. ⌜ Call (usedCall (meant waiting (record {
-      held = record { n = n; neighbours = now (neighbours .entry); codes = now (codes .entry) };
-      used = used;
-    })) (complementOf a) (now (neighbours .exit)) (now (codes .exit))) r ⌝ }
+    requires { ⌜ Standing waiting (usedRecord n (now neighbours) (now codes) used) ⌝ }
+    ensures { λ r. ⌜ Call (usedCall (meant waiting (usedRecord n (now (neighbours .entry)) (now (codes .entry)) used)) (complementOf a) (now (neighbours .exit)) (now (codes .exit))) r ⌝ }
 {
     settle_waiting(n, neighbours, codes, used, waiting);
     complement_known(n, neighbours, codes, used, a, true)
@@ -215,14 +176,8 @@ pub fn pivot_waiting(
     k: u64,
     waiting: bool,
 ) -> u8
-    requires { ⌜ Standing waiting (record {
-      held = record { n = n; neighbours = now neighbours; codes = now codes };
-      used = used;
-    }) ⌝ }
-    ensures { λ r. ⌜ Call (usedCall (meant waiting (record {
-      held = record { n = n; neighbours = now (neighbours .entry); codes = now (codes .entry) };
-      used = used;
-    })) (pivotOf j k) (now (neighbours .exit)) (now (codes .exit))) r ⌝ }
+    requires { ⌜ Standing waiting (usedRecord n (now neighbours) (now codes) used) ⌝ }
+    ensures { λ r. ⌜ Call (usedCall (meant waiting (usedRecord n (now (neighbours .entry)) (now (codes .entry)) used)) (pivotOf j k) (now (neighbours .exit)) (now (codes .exit))) r ⌝ }
 {
     settle_waiting(n, neighbours, codes, used, waiting);
     pivot_known(n, neighbours, codes, used, j, k, true)

@@ -12,7 +12,7 @@ ghost use mathlib.Core.Path.{_≡_};
 ghost use Rattle.buffers.specs.Calls.{Call};
 ghost use Rattle.calls.specs.Sources.{observeCall, renewCall};
 ghost use Rattle.call_gates.specs.internal.Knowing.{Known};
-ghost use Rattle.operations.specs.Used.{usedCode};
+ghost use Rattle.operations.specs.Used.{usedCode, usedRecord};
 
 // A Pauli measured at a qubit, with a bit by lot: the outcome is the bit only where the state does not determine it. The
 // reduced record, and the qubit marked as used. `known`: no line of the record alone holds.
@@ -28,14 +28,8 @@ pub fn observe_known(
     determined: &mut u8,
     known: bool,
 ) -> u8
-    requires { ⌜ Known known (record {
-      held = record { n = n; neighbours = now neighbours; codes = now codes };
-      used = now used;
-    }) ⌝ }
-    ensures { λ r. ⌜ Call (observeCall (record {
-      held = record { n = n; neighbours = now (neighbours .entry); codes = now (codes .entry) };
-      used = now (used .entry);
-    }) pauli qubit bit (now (answer .entry)) (now (determined .entry))
+    requires { ⌜ Known known (usedRecord n (now neighbours) (now codes) (now used)) ⌝ }
+    ensures { λ r. ⌜ Call (observeCall (usedRecord n (now (neighbours .entry)) (now (codes .entry)) (now (used .entry))) pauli qubit bit (now (answer .entry)) (now (determined .entry))
         (now (neighbours .exit)) (now (codes .exit)) (now (used .exit)) (now (answer .exit))
         (now (determined .exit))) r ⌝ }
 {
@@ -63,10 +57,7 @@ pub fn observe(
     answer: &mut u8,
     determined: &mut u8,
 ) -> u8
-    ensures { λ r. ⌜ Call (observeCall (record {
-      held = record { n = n; neighbours = now (neighbours .entry); codes = now (codes .entry) };
-      used = now (used .entry);
-    }) pauli qubit bit (now (answer .entry)) (now (determined .entry))
+    ensures { λ r. ⌜ Call (observeCall (usedRecord n (now (neighbours .entry)) (now (codes .entry)) (now (used .entry))) pauli qubit bit (now (answer .entry)) (now (determined .entry))
         (now (neighbours .exit)) (now (codes .exit)) (now (used .exit)) (now (answer .exit))
         (now (determined .exit))) r ⌝ }
 {
@@ -101,14 +92,8 @@ pub fn renew_known(
     code: u8,
     known: bool,
 ) -> u8
-    requires { ⌜ Known known (record {
-      held = record { n = n; neighbours = now neighbours; codes = now codes };
-      used = now used;
-    }) ⌝ }
-    ensures { λ r. ⌜ Call (renewCall (record {
-      held = record { n = n; neighbours = now (neighbours .entry); codes = now (codes .entry) };
-      used = now (used .entry);
-    }) qubit code (now (neighbours .exit)) (now (codes .exit)) (now (used .exit))) r ⌝ }
+    requires { ⌜ Known known (usedRecord n (now neighbours) (now codes) (now used)) ⌝ }
+    ensures { λ r. ⌜ Call (renewCall (usedRecord n (now (neighbours .entry)) (now (codes .entry)) (now (used .entry))) qubit code (now (neighbours .exit)) (now (codes .exit)) (now (used .exit))) r ⌝ }
 {
     let word = *used;
     let early = known_refusal(n, neighbours, codes, word, no_photon(code), known);
@@ -135,10 +120,7 @@ pub fn renew(
     qubit: u64,
     code: u8,
 ) -> u8
-    ensures { λ r. ⌜ Call (renewCall (record {
-      held = record { n = n; neighbours = now (neighbours .entry); codes = now (codes .entry) };
-      used = now (used .entry);
-    }) qubit code (now (neighbours .exit)) (now (codes .exit)) (now (used .exit))) r ⌝ }
+    ensures { λ r. ⌜ Call (renewCall (usedRecord n (now (neighbours .entry)) (now (codes .entry)) (now (used .entry))) qubit code (now (neighbours .exit)) (now (codes .exit)) (now (used .exit))) r ⌝ }
 {
     renew_known(n, neighbours, codes, used, qubit, code, false)
 }

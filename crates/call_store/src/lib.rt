@@ -15,6 +15,7 @@ ghost use Rattle.buffers.specs.Refusals.{firstFitting};
 ghost use Rattle.buffers.specs.Calls.{Call};
 ghost use Rattle.store.specs.StoreLines.{holdsLine, ofRecord, recordTests, storeLines};
 ghost use Rattle.calls.specs.Stores.{forgetCall, returnCall, saveCall};
+ghost use Rattle.operations.specs.Used.{usedRecord};
 
 // The first line of the record or of the store that holds; 0 where none does.
 fn save_refusal(
@@ -26,10 +27,7 @@ fn save_refusal(
     held_neighbours: &[u64],
     held_codes: &[u8],
 ) -> u8
-    ensures { λ r. ⌜ r ≡ firstFitting (recordTests (λ m. ofRecord (record {
-      held = record { n = n; neighbours = now (neighbours .entry); codes = now (codes .entry) };
-      used = used;
-    }) m || holdsLine m (storeLines 8 (record {
+    ensures { λ r. ⌜ r ≡ firstFitting (recordTests (λ m. ofRecord (usedRecord n (now (neighbours .entry)) (now (codes .entry)) used) m || holdsLine m (storeLines 8 (record {
       heads = now (heads .entry);
       neighbours = now («held_neighbours» .entry);
       codes = now («held_codes» .entry);
@@ -51,10 +49,7 @@ pub fn save(
     held_neighbours: &mut [u64],
     held_codes: &mut [u8],
 ) -> u8
-    ensures { λ r. ⌜ Call (saveCall (record {
-      held = record { n = n; neighbours = now (neighbours .entry); codes = now (codes .entry) };
-      used = used;
-    }) name (record {
+    ensures { λ r. ⌜ Call (saveCall (usedRecord n (now (neighbours .entry)) (now (codes .entry)) used) name (record {
       heads = now (heads .entry);
       neighbours = now («held_neighbours» .entry);
       codes = now («held_codes» .entry);

@@ -16,7 +16,7 @@ use Rattle.record.specs.NeighbourWords.{graphIn}
 use Rattle.record.proofs.AcceptedRecords.{accepted-record, none-refuses}
 use Rattle.record.proofs.SimpleVerdict.{simple-exactly}
 use Rattle.record.specs.Accepted.{AcceptedRecord}
-use Rattle.record.specs.Lent.{notSimple}
+use Rattle.record.specs.Lent.{lentRecord, notSimple}
 use Rattle.stabilizer.proofs.SharedTests.{below-passes, has-length}
 use Rattle.words.proofs.Flags.{neither}
 use Rattle.calls.specs.Orbits.{orbitLines}
@@ -59,11 +59,11 @@ accepted-graph n neighbours list e =
 
 -- with a code 0 for each vertex, no line of a record holds
 pub plain-record : {n : ℕ} {neighbours list : List ℕ} → AcceptedGraph n neighbours list
-    → AcceptedRecord (record { n = n; neighbours = neighbours; codes = replicate n 0 })
+    → AcceptedRecord (lentRecord n neighbours (replicate n 0))
 unfolding zeros
 plain-record {n} {neighbours} A =
-    accepted-record (record { n = n; neighbours = neighbours; codes = replicate n 0 }) false false
-    (none-refuses (record { n = n; neighbours = neighbours; codes = replicate n 0 }) (A .positive)
+    accepted-record (lentRecord n neighbours (replicate n 0)) false false
+    (none-refuses (lentRecord n neighbours (replicate n 0)) (A .positive)
     (le-trans (A .few) (lit≤ tt)) (A .words) (length-replicate {A = ℕ} n 0) (A .below)
     (below-passes 24 (replicate n 0) (λ j l. subst (λ v. v < 24) (sym (zeros-at n j)) (lit< tt)))
     (simple-exactly n (graphIn neighbours) .0 (A .simple)))

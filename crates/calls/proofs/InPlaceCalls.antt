@@ -16,7 +16,7 @@ use Rattle.operations.specs.internal.InPlace.{MeasuredInPlace}
 use Rattle.operations.specs.Measurement.{determinedNumber, outcomeNumber}
 use Rattle.operations.specs.Steps.{Operation, leaves, linesOf, made, measuredAnswer, measurementOf}
 use Rattle.operations.specs.declared.Outcome.{Outcome}
-use Rattle.record.specs.Lent.{LentRecord, codeNumbers, neighbourWords}
+use Rattle.record.specs.Lent.{codeNumbers, LentRecord, lentRecord, neighbourWords}
 use Rattle.record.specs.Records.{GraphRecord}
 use Rattle.operations.proofs.AcceptedSteps.{accepted-step}
 use Rattle.operations.proofs.MeasuringMarks.{marked-word}
@@ -34,7 +34,7 @@ module _ (u : UsedRecord) (o : Operation) {k : ℕ} (e : k ≡ firstFitting (use
 
   -- the new record on m vertices
   abbrev At : ℕ → GraphRecord
-  At m = made (record { n = m; neighbours = u .held .neighbours; codes = u .held .codes }) o
+  At m = made (lentRecord m (u .held .neighbours) (u .held .codes)) o
 
   -- the operations on two buffers take n from their lengths
   module _ {nb′ cs′ : List ℕ}
@@ -111,5 +111,5 @@ measure-done u pauli q b answer determined e z r nb′ cs′ M used′ answer′
   where
     answers : r ≡ measuredAnswer (u .held) pauli q b
     answers = M .answer ∙ ap (λ m. measuredAnswer
-        (record { n = m; neighbours = u .held .neighbours; codes = u .held .codes }) pauli q b)
+        (lentRecord m (u .held .neighbours) (u .held .codes)) pauli q b)
         (long u (measurementOf pauli q b) e z)

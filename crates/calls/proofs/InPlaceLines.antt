@@ -16,7 +16,7 @@ use Rattle.operations.specs.Steps.{argumentLines, complementLines, czLines, gat
 use Rattle.record.proofs.AcceptedRecords.{accepted-record}
 use Rattle.record.proofs.RecordLines.{record-numbered}
 use Rattle.record.specs.Accepted.{AcceptedRecord}
-use Rattle.record.specs.Lent.{LentRecord, heldRecord, recordCodes, recordLines}
+use Rattle.record.specs.Lent.{heldRecord, LentRecord, lentRecord, recordCodes, recordLines}
 use Rattle.words.proofs.Flags.{neither}
 
 -- ---- no line holds
@@ -42,7 +42,7 @@ module _ (l : LentRecord) (six eight : Bool) (e : firstFitting (inPlaceLines l s
   held-unrefused : Unrefused (recordIn (l .neighbours) (l .codes))
   held-unrefused = record {
     no-line = ap (λ m. firstFitting (recordLines
-        (record { n = m; neighbours = l .neighbours; codes = l .codes }) false false))
+        (lentRecord m (l .neighbours) (l .codes)) false false))
         (held-accepted .neighbours-length)
         ∙ ap (λ s. firstFitting (recordLines l false s)) (sym six-passes) ∙ no-line l six eight e .0;
   }

@@ -15,7 +15,7 @@ use Rattle.operations.specs.internal.InPlace.{MeasuredInPlace}
 use Rattle.operations.specs.Measurement.{determinedNumber, outcomeNumber}
 use Rattle.operations.specs.Steps.{made, measuredAnswer, measurementOf}
 use Rattle.operations.specs.declared.Outcome.{Outcome}
-use Rattle.record.specs.Lent.{LentRecord, codeNumbers, neighbourWords}
+use Rattle.record.specs.Lent.{codeNumbers, LentRecord, lentRecord, neighbourWords}
 use Rattle.source.proofs.Observed.{answered, observed-accepted, observed-answer, observed-made, observed-passes}
 use Rattle.source.proofs.RenewedRecords.{renew-passes, unmarked-word}
 use Rattle.source.specs.Renewal.{renewLines}
@@ -49,7 +49,7 @@ observe-done u pauli q b answer determined e z r nb′ cs′ M used′ answer′
     )
   where
     at : ℕ → LentRecord
-    at m = record { n = m; neighbours = u .held .neighbours; codes = u .held .codes }
+    at m = lentRecord m (u .held .neighbours) (u .held .codes)
 
     long : length (u .held .neighbours) ≡ u .held .n
     long = held-accepted (u .held) _ _ (arguments-before u pauli q b (sym e ∙ z)) .neighbours-length

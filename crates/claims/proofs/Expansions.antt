@@ -33,9 +33,10 @@ use Rattle.comparison.specs.Parts.{partAbove}
 use Rattle.pauli.specs.Pauli.{Pauli}
 use Rattle.record.specs.Accepted.{AcceptedRecord}
 use Rattle.record.specs.Lent.{
-  LentRecord,
   heldRecord,
   heldRows,
+  LentRecord,
+  lentRecord,
   notSimple,
   recordCodes,
   recordLengths,
@@ -145,13 +146,13 @@ module _ (n : ℕ) (R S : ℕ → Pauli) (P : Proper n R) (Q : Proper n S) where
 
 -- the number of the call, and that of `compare` on the expansions
 module _ (n : ℕ) (nb cs nb₂ cs₂ chosen list : List ℕ)
-    (A : BothAccepted (record { n = n; neighbours = nb; codes = cs }) (record { n = n; neighbours = nb₂; codes = cs₂ })
+    (A : BothAccepted (lentRecord n nb cs) (lentRecord n nb₂ cs₂)
     chosen list) where
   abbrev l : LentRecord
-  l = record { n = n; neighbours = nb; codes = cs }
+  l = lentRecord n nb cs
 
   abbrev m : LentRecord
-  m = record { n = n; neighbours = nb₂; codes = cs₂ }
+  m = lentRecord n nb₂ cs₂
 
   pub expansions-pass : firstFitting (pairLines (expansion l) (expansion m) chosen list) ≡ 0
   expansions-pass =

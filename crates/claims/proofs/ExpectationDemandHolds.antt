@@ -29,7 +29,7 @@ use Rattle.pauli.specs.Pauli.{Pauli, i², signedRow, xBit, zBit}
 use Rattle.pauli.specs.declared.Letter.{Letter}
 use Rattle.record.proofs.AcceptedRecords.{accepted-record}
 use Rattle.record.specs.Accepted.{AcceptedRecord}
-use Rattle.record.specs.Lent.{LentRecord, heldRows}
+use Rattle.record.specs.Lent.{heldRows, LentRecord, lentRecord}
 use Rattle.record.specs.Records.{GraphRecord}
 use Rattle.stabilizer.proofs.Accepted.{accepted-list}
 use Rattle.stabilizer.proofs.Within.{act-within}
@@ -230,4 +230,4 @@ reductions-keep-values l nb cs used nb′ cs′ used′ C =
     (reduction-keeps-group l nb cs used nb′ cs′ used′ C)
   where
     after : LentRecord
-    after = record { n = l .n; neighbours = nb′; codes = cs′ }
+    after = lentRecord (l .n) nb′ cs′

@@ -27,7 +27,7 @@ use Rattle.comparison.specs.Choices.{noChoice}
 use Rattle.comparison.specs.Compared.{pairLines}
 use Rattle.buffers.specs.Calls.{Call}
 use Rattle.record.proofs.AcceptedRecords.{accepted-record}
-use Rattle.record.specs.Lent.{LentRecord, heldRows, recordCodes, recordLengths, recordStray}
+use Rattle.record.specs.Lent.{heldRows, LentRecord, lentRecord, recordCodes, recordLengths, recordStray}
 use Rattle.claims.proofs.Expansions.{
   BothAccepted,
   both-accepted,
@@ -51,7 +51,7 @@ use Rattle.claims.proofs.ClaimsCompareRecordsNumbersHold.{compare-words
 
 -- the second record, with n as its number of qubits
 abbrev pub withCount : LentRecord → ℕ → LentRecord
-withCount m n = record { n = n; neighbours = m .neighbours; codes = m .codes }
+withCount m n = lentRecord n (m .neighbours) (m .codes)
 
 -- ---- the same answer as on the expansions
 pub same-on-expansions : SameOnExpansions

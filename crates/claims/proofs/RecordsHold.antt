@@ -29,7 +29,7 @@ use Rattle.claims.proofs.RecordPairsHold.{pairs-pass, records-pass, wit
 use Rattle.claims.specs.RecordPairs.{expansion, recordsSentences, AcceptedRecords}
 use Rattle.comparison.specs.Compared.{equivalentLines, pairLines}
 use Rattle.buffers.specs.Calls.{Call}
-use Rattle.record.specs.Lent.{LentRecord, heldRows}
+use Rattle.record.specs.Lent.{heldRows, LentRecord, lentRecord}
 use Rattle.claims.proofs.EquivalentsHold.{conforms, same-records-where-small, to-64, equivalent-says}
 use Rattle.claims.specs.Equivalents.{EquivalentRecordsSays, equivalentRecordsSentences, EquivalentRecordsFits}
 use Rattle.buffers.proofs.SentenceLaws.{and-line}
@@ -39,13 +39,13 @@ use Rattle.comparison.specs.Choices.{noChoice}
 
 -- ---- two records on the same number of qubits: what the call answers, the call on lists answers on the expansions
 module _ (n : ℕ) (nb cs nb₂ cs₂ chosen list : List ℕ)
-    (A : BothAccepted (record { n = n; neighbours = nb; codes = cs }) (record { n = n; neighbours = nb₂; codes = cs₂ })
+    (A : BothAccepted (lentRecord n nb cs) (lentRecord n nb₂ cs₂)
     chosen list) where
   abbrev l : LentRecord
-  l = record { n = n; neighbours = nb; codes = cs }
+  l = lentRecord n nb cs
 
   abbrev m : LentRecord
-  m = record { n = n; neighbours = nb₂; codes = cs₂ }
+  m = lentRecord n nb₂ cs₂
 
   same-number : firstFitting (equivalentRecordsLines l m chosen list)
       ≡ firstFitting (equivalentLines (expansion l) (expansion m) chosen list)

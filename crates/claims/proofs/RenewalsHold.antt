@@ -33,7 +33,7 @@ use Rattle.pauli.proofs.PauliLaws.{identity-mul}
 use Rattle.pauli.specs.Pauli.{Pauli}
 use Rattle.record.proofs.RecordInWords.{code-above-23, misfits, stray-neighbour}
 use Rattle.record.specs.Accepted.{AcceptedRecord}
-use Rattle.record.specs.Lent.{codeNumbers, heldRecord, heldRows, neighbourWords}
+use Rattle.record.specs.Lent.{codeNumbers, heldRecord, heldRows, lentRecord, neighbourWords}
 use Rattle.record.specs.RecordSentences.{CodeAbove23, RecordMisfits}
 use Rattle.record.specs.Records.{GraphRecord, rowsOf}
 use Rattle.record.specs.Reduced.{reduced}
@@ -53,7 +53,7 @@ use Rattle.stabilizer.proofs.GroupLaws.{in-identity}
 use Rattle.stabilizer.specs.Groups.{InGroup}
 use Rattle.operations.proofs.UsedInWords.{of-six, used-in-words}
 use Rattle.operations.proofs.UsedStaying.{used-low}
-use Rattle.operations.specs.Used.{UsedRecord, usedCode, usedLines}
+use Rattle.operations.specs.Used.{usedCode, usedLines, UsedRecord, usedRecord}
 use Rattle.operations.specs.UsedSentences.{IsUsed, OfSix, StrayBit, usedSentences}
 use Rattle.words.proofs.Places.{same-place}
 use Rattle.words.specs.Bits.{bit}
@@ -105,7 +105,7 @@ module _ (u : UsedRecord) (q k : ℕ) where
     -- the reduced form is read off the record
     form : IsReduced (u .held) → ReducedForm n (heldRecord (u .held))
     form R = subst (ReducedForm n)
-        (ap₂ (λ nb cs. heldRecord (record { n = n; neighbours = nb; codes = cs })) (sym (R .neighbours)) (sym (R .codes)))
+        (ap₂ (λ nb cs. heldRecord (lentRecord n nb cs)) (sym (R .neighbours)) (sym (R .codes)))
         (written-form n (heldRows (u .held)) (F .held .proper))
 
     stays-reduced : IsReduced (u .held) → IsReduced (after .held)
@@ -148,10 +148,7 @@ module _ (u : UsedRecord) (q k : ℕ) where
     accepted-stands z =
         let D = at-zero C z in
         let same : renewed u q k ≡ leftUsed u nb′ cs′ used′ =
-        λ i. record {
-          held = record { n = u .held .n; neighbours = sym (D .held .1 .0) i; codes = sym (D .held .1 .1 .0) i };
-          used = sym (D .held .0) i;
-        } in
+        λ i. usedRecord (u .held .n) (sym (D .held .1 .0) i) (sym (D .held .1 .1 .0) i) (sym (D .held .0) i) in
         subst (RenewalStands u q k) same (stands (renew-passes u q k (sym (D .number))))
 
     twenty : (r ≡ 20) ↔ ((firstFitting (linesBefore20 u q k) ≡ 0) × (bit (u .used) q ≡ false))

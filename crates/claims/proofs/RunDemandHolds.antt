@@ -23,7 +23,7 @@ use Rattle.jobs.specs.Standing.{StandsFor, left}
 use Rattle.jobs.specs.declared.Answer.{Answer}
 use Rattle.jobs.specs.declared.Step.{Step}
 use Rattle.jobs.proofs.StepAnswers.{each-answered, part-at}
-use Rattle.operations.specs.Used.{UsedRecord}
+use Rattle.operations.specs.Used.{UsedRecord, usedRecord}
 use Rattle.claims.proofs.RunFitting.{run-accepted-exactly, run-buffers-unread, run-conforms, run-taken}
 use Rattle.claims.specs.RunDemand.{RunDemand, RunSays, RunStands, answerIn, heldGroup, runSentences}
 use Rattle.buffers.proofs.SentenceLaws.{Matches, above, or-decides, or-none, some-above, stray}
@@ -38,10 +38,7 @@ module _ (u : UsedRecord) (s : LentSteps) (nb cs : List ℕ) (used : ℕ) (refus
 
   -- the record that it leaves
   left-ran : _≡_ {A = UsedRecord} (record { held = left (u .held) nb cs; used = used }) (run u steps)
-  left-ran = λ i. record {
-    held = record { n = sym (run-qubits u steps) i; neighbours = C .held .1 .0 i; codes = C .held .1 .1 .0 i };
-    used = C .held .0 i;
-  }
+  left-ran = λ i. usedRecord (sym (run-qubits u steps) i) (C .held .1 .0 i) (C .held .1 .1 .0 i) (C .held .0 i)
 
   module _ (k : ℕ) (inside : k < length (s .ops)) where
     none : Answer

@@ -14,7 +14,7 @@ use Rattle.record.proofs.ReducedRecords.{equal-exactly}
 use Rattle.record.proofs.Unique.{record-path}
 use Rattle.record.proofs.WrittenRecords.{reduced-back, reduced-held-same, writtenRecord}
 use Rattle.record.specs.Accepted.{AcceptedRecord}
-use Rattle.record.specs.Lent.{LentRecord, codeNumbers, heldRecord, heldRows, neighbourWords}
+use Rattle.record.specs.Lent.{codeNumbers, heldRecord, heldRows, LentRecord, lentRecord, neighbourWords}
 use Rattle.record.specs.Records.{SameRecord}
 use Rattle.record.specs.Reduced.{reduced}
 use Rattle.stabilizer.proofs.Accepted.{AcceptedList, accepted-list}
@@ -38,9 +38,9 @@ use Rattle.claims.specs.SecondDemand.{
 
 -- records and lists as they are lent, by their buffers
 lent : {n : ℕ} {nb nb₂ cs cs₂ : List ℕ} → nb ≡ nb₂ → cs ≡ cs₂ →
-    _≡_ {A = LentRecord} (record { n = n; neighbours = nb; codes = cs })
-    (record { n = n; neighbours = nb₂; codes = cs₂ })
-lent {n} p q = λ i. record { n = n; neighbours = p i; codes = q i }
+    _≡_ {A = LentRecord} (lentRecord n nb cs)
+    (lentRecord n nb₂ cs₂)
+lent {n} p q = λ i. lentRecord n (p i) (q i)
 
 listed : {n : ℕ} {s s₂ z z₂ x x₂ : List ℕ} → s ≡ s₂ → z ≡ z₂ → x ≡ x₂ →
     _≡_ {A = GeneratorList} (record { n = n; signs = s; z = z; x = x })
@@ -54,7 +54,7 @@ module _ (l : GeneratorList) (nb cs : List ℕ) (used : ℕ) (nb′ cs′ : List
   reduced-list = accepted-list l _ (sym (C .number))
 
   -- the buffers hold the reduced record
-  pub holds-reduced : _≡_ {A = LentRecord} (record { n = l .n; neighbours = nb′; codes = cs′ })
+  pub holds-reduced : _≡_ {A = LentRecord} (lentRecord (l .n) nb′ cs′)
       (writtenRecord (l .n) (reduced (l .n) (rows l)))
   holds-reduced = lent (C .held .1 .0) (C .held .1 .1 .0)
 
@@ -108,8 +108,8 @@ equal-records-exactly n s z x s₂ z₂ x₂ nb cs nb₂ cs₂ nb′ cs′ nb₂
     Q : Proper n S
     Q = reduced-list m nb₂ cs₂ used₂ nb₂′ cs₂′ used₂′ D .proper
 
-    same : _≡_ {A = LentRecord} (record { n = n; neighbours = nb′; codes = cs′ })
-        (record { n = n; neighbours = nb₂′; codes = cs₂′ }) → SameRecord (reduced n R) (reduced n S)
+    same : _≡_ {A = LentRecord} (lentRecord n nb′ cs′)
+        (lentRecord n nb₂′ cs₂′) → SameRecord (reduced n R) (reduced n S)
     same e =
         let p = sym (record-path _ _ (reduced-back n R P))
         ∙ ap heldRecord (sym (holds-reduced l nb cs used nb′ cs′ used′ C) ∙ e

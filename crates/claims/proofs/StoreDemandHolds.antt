@@ -22,7 +22,7 @@ use Rattle.store.specs.Kept.{forgotten, forgottenHeads, savePlace, saved}
 use Rattle.store.specs.Places.{Store, found, hasName, holdsName, isHeld, nameAt, othersHeld, placeOf}
 use Rattle.store.specs.StoreLines.{holdsLine, namedLines, ofRecord, recordTests, saveLines, storeLines}
 use Rattle.store.specs.internal.Passing.{Passing}
-use Rattle.operations.specs.Used.{UsedRecord, usedLines}
+use Rattle.operations.specs.Used.{usedLines, UsedRecord, usedRecord}
 use Rattle.words.proofs.SearchLaws.{every-at, some-true}
 use Rattle.words.proofs.Sums.{lt-or-ge}
 use Rattle.claims.specs.StoreDemand.{ForgetKeeps, ForgetsKeep, ReturnsGive, SaveKeeps, SavesKeep, storeOf}
@@ -149,15 +149,5 @@ returns-give name st n nb cs used n′ nb′ cs′ used′ C =
     kept : (old new part : List ℕ) → new ≡ written part old → length part ≡ n′ → drop n′ new ≡ drop n′ old
     kept old new part e l = ap (drop n′) e ∙ drop-at part (drop (length part) old) n′ l ∙ ap (λ k. drop k old) l
 
-    back : record {
-      held = record { n = n′; neighbours = take n′ nb′; codes = take n′ cs′ };
-      used = used′;
-    } ≡ heldUnder name st
-    back = λ i. record {
-      held = record {
-        n = C .held .0 i;
-        neighbours = front nb nb′ ((heldUnder name st) .held .neighbours) (C .held .1 .0) words i;
-        codes = front cs cs′ ((heldUnder name st) .held .codes) (C .held .1 .1 .0) codes i;
-      };
-      used = C .held .1 .1 .1 .0 i;
-    }
+    back : usedRecord n′ (take n′ nb′) (take n′ cs′) used′ ≡ heldUnder name st
+    back = λ i. usedRecord (C .held .0 i) (front nb nb′ ((heldUnder name st) .held .neighbours) (C .held .1 .0) words i) (front cs cs′ ((heldUnder name st) .held .codes) (C .held .1 .1 .0) codes i) (C .held .1 .1 .1 .0 i)

@@ -11,13 +11,13 @@ use Rattle.calls.specs.InPlace.{usedCall}
 use Rattle.buffers.specs.Calls.{Call}
 use Rattle.operations.specs.Steps.{Operation, complementOf, czOn, gateWith, measurementOf, pivotOf}
 use Rattle.record.proofs.WrittenRecords.{reduced-passes}
-use Rattle.record.specs.Lent.{recordLines}
+use Rattle.record.specs.Lent.{lentRecord, recordLines}
 use Rattle.stabilizer.proofs.Accepted.{AcceptedList, accepted-list}
 use Rattle.stabilizer.specs.Lists.{rows}
 use Rattle.operations.proofs.LeftRecords.{marks-measured, used-left}
 use Rattle.operations.proofs.UsedPassing.{unused-number, unused-passes}
 use Rattle.operations.proofs.UsedRefusing.{used-refused}
-use Rattle.operations.specs.Used.{UsedRecord, usedAfter, usedLines, usedStep}
+use Rattle.operations.specs.Used.{usedAfter, usedLines, UsedRecord, usedRecord, usedStep}
 use Rattle.operations.specs.internal.UsedLaws.{MeasuredMarks, UsedLeft}
 use Rattle.operations.specs.UsedLaws.{UsedStay}
 use Rattle.words.specs.Bits.{bit}
@@ -113,10 +113,7 @@ pub reductions-unused : ReductionsUnused
 reductions-unused l nb cs used nb′ cs′ used′ C =
     record {
       none = C .held .0;
-      passes = subst (λ w. firstFitting (usedLines (record {
-        held = record { n = l .n; neighbours = nb′; codes = cs′ };
-        used = w;
-      }) false false false) ≡ 0) (sym (C .held .0)) (unused-passes (record { n = l .n; neighbours = nb′; codes = cs′ }) false false
+      passes = subst (λ w. firstFitting (usedLines (usedRecord (l .n) nb′ cs′ w) false false false) ≡ 0) (sym (C .held .0)) (unused-passes (lentRecord (l .n) nb′ cs′) false false
           (subst (λ r. firstFitting (recordLines r false false) ≡ 0)
           (sym (holds-reduced l nb cs used nb′ cs′ used′ C))
           (reduced-passes (l .n) (rows l) (A .proper) (A .formed .positive) (A .formed .upto))));

@@ -11,7 +11,7 @@ use Rattle.jobs.specs.declared.Op.the-variants.{Complement, Cz, Gate, Measure}
 use Rattle.jobs.specs.declared.Step.{Step}
 use Rattle.operations.specs.Steps.{complementOf, czOn, gateWith}
 use Rattle.store.specs.Places.{Store}
-use Rattle.operations.specs.Used.{UsedRecord}
+use Rattle.operations.specs.Used.{UsedRecord, usedRecord}
 use Rattle.claims.specs.StoreDemand.{Session, afterAction, does, forgets, returns, saves, storeOf}
 use Rattle.claims.specs.UsedDemand.{leftUsed}
 
@@ -46,7 +46,7 @@ ForgetLeaves name st heads′ = (u : UsedRecord) →
 
 -- the record in buffers of 64 places: its n, the first n places, its used word
 abbrev pub inBuffers : ℕ → List ℕ → List ℕ → ℕ → UsedRecord
-inBuffers n nb cs used = record { held = record { n = n; neighbours = take n nb; codes = take n cs }; used = used }
+inBuffers n nb cs used = usedRecord n (take n nb) (take n cs) used
 
 -- a return: accepted, the record in hand is the one in the buffers, whatever it was; refused, nothing is changed
 pub record ReturnLeaves (name : ℕ) (st : Store) (n′ : ℕ) (nb′ cs′ : List ℕ) (used′ r : ℕ) : Type 0 where

@@ -20,7 +20,7 @@ use Rattle.operations.specs.Cz.{cz}
 use Rattle.operations.specs.Measurement.{pauliLetter}
 use Rattle.operations.specs.Steps.{complementOf, czOn, gateWith}
 use Rattle.pauli.specs.Pauli.{Pauli, anticommute, imaginary, signedRow, xBit, zBit}
-use Rattle.record.specs.Lent.{LentRecord, heldRows}
+use Rattle.record.specs.Lent.{heldRows, LentRecord, lentRecord}
 use Rattle.stabilizer.specs.Groups.{InGroup, Within}
 use Rattle.stabilizer.specs.Lists.{GeneratorList, rows}
 use Rattle.operations.specs.Used.{UsedRecord}
@@ -115,4 +115,4 @@ PivotsKeepValues = (u : UsedRecord) (a b value : ℕ) → numberOf u (pivotStep 
 abbrev pub ReductionsKeepValues : Type 0
 ReductionsKeepValues = (l : GeneratorList) (nb cs : List ℕ) (used : ℕ) (nb′ cs′ : List ℕ) (used′ : ℕ) →
     Call (reduceUnusedCall l nb cs used nb′ cs′ used′) 0 → (p : Pauli) → RowOn (l .n) p →
-    valueOn (record { n = l .n; neighbours = nb′; codes = cs′ }) p ≡ stabilizerValue (l .n) (rows l) p
+    valueOn (lentRecord (l .n) nb′ cs′) p ≡ stabilizerValue (l .n) (rows l) p

@@ -13,7 +13,7 @@ use Rattle.calls.specs.Lists.{checkCall, reduceUnusedCall}
 use Rattle.jobs.specs.Standing.{StillRecord}
 use Rattle.pauli.specs.Pauli.{Pauli, minus}
 use Rattle.record.specs.Columns.{ColumnDependent}
-use Rattle.record.specs.Lent.{LentRecord, heldRecord, heldRows}
+use Rattle.record.specs.Lent.{heldRecord, heldRows, LentRecord, lentRecord}
 use Rattle.record.specs.Records.{GraphRecord}
 use Rattle.record.specs.Reduced.{ReductionOf, hadamardWhere, plainCode, withHadamard, xWords}
 use Rattle.stabilizer.specs.ListSentences.{TwoClash}
@@ -79,7 +79,7 @@ pub record ReducedTo (l : GeneratorList) (r : LentRecord) : Type 0 where
 -- of every accepted call
 abbrev pub ReductionAnswers : Type 0
 ReductionAnswers = (l : GeneratorList) (nb cs : List ℕ) (used : ℕ) (nb′ cs′ : List ℕ) (used′ : ℕ) →
-    Call (reduceUnusedCall l nb cs used nb′ cs′ used′) 0 → ReducedTo l (record { n = l .n; neighbours = nb′; codes = cs′ })
+    Call (reduceUnusedCall l nb cs used nb′ cs′ used′) 0 → ReducedTo l (lentRecord (l .n) nb′ cs′)
 
 -- "expansion brings that group back": the group of the list that was reduced
 abbrev pub ListBroughtBack : Type 0

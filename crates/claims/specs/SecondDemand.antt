@@ -7,19 +7,19 @@ use Prim.Native.Nat.{_*_, _<_, ℕ}
 use lib.ListN.{getD}
 use Rattle.buffers.specs.Refusals.{firstFitting}
 use Rattle.buffers.specs.Calls.{Call}
-use Rattle.record.specs.Lent.{LentRecord, heldRows}
+use Rattle.record.specs.Lent.{heldRows, LentRecord, lentRecord}
 use Rattle.stabilizer.specs.Groups.{SameGroup}
 use Rattle.stabilizer.specs.Lists.{GeneratorList, rows}
 use Rattle.calls.specs.Expansions.{expandCall}
 use Rattle.calls.specs.Lists.{checkLines, reduceUnusedCall}
-use Rattle.operations.specs.Used.{UsedRecord}
+use Rattle.operations.specs.Used.{UsedRecord, usedRecord}
 
 -- "a generator list and its reduced record stand for the same group"
 abbrev pub ReductionKeepsGroup : Type 0
 ReductionKeepsGroup =
     (l : GeneratorList) (nb cs : List ℕ) (used : ℕ) (nb′ cs′ : List ℕ) (used′ : ℕ) →
     Call (reduceUnusedCall l nb cs used nb′ cs′ used′) 0 →
-    SameGroup (l .n) (l .n) (rows l) (heldRows (record { n = l .n; neighbours = nb′; codes = cs′ }))
+    SameGroup (l .n) (l .n) (rows l) (heldRows (lentRecord (l .n) nb′ cs′))
 
 -- "expansion brings that group back": the list written is accepted, and has the record's group; "Expansion writes
 -- these n generators in order j"
@@ -36,7 +36,7 @@ ExpansionBringsBack =
 
 -- the record that a reduction leaves, with its word of used qubits
 abbrev pub recordLeft : ℕ → List ℕ → List ℕ → ℕ → UsedRecord
-recordLeft n nb cs used = record { held = record { n = n; neighbours = nb; codes = cs }; used = used }
+recordLeft n nb cs used = usedRecord n nb cs used
 
 -- "two accepted lists reduce to equal records exactly if their groups are equal"
 abbrev pub EqualExactly : Type 0

@@ -18,7 +18,7 @@ use Rattle.jobs.specs.declared.Step.{Step}
 use Rattle.store.specs.Kept.{forgotten, saved}
 use Rattle.store.specs.Places.{Store, found, lookup, nothing, othersHeld}
 use Rattle.store.specs.StoreLines.{holdsLine, namedLines, ofRecord, recordTests, saveLines, storeLines}
-use Rattle.operations.specs.Used.{UsedRecord}
+use Rattle.operations.specs.Used.{UsedRecord, usedRecord}
 
 -- the store that three buffers hold
 abbrev pub storeOf : List ℕ → List ℕ → List ℕ → Store
@@ -49,10 +49,7 @@ ForgetsKeep = (name : ℕ) (st : Store) (heads′ : List ℕ) → Call (forgetCa
 
 -- ---- "Returning brings back the whole record, its n and used word included": the first n′ places; the others keep theirs
 pub record ReturnGives (name : ℕ) (st : Store) (nb cs : List ℕ) (n′ : ℕ) (nb′ cs′ : List ℕ) (used′ : ℕ) : Type 0 where
-  pub held : lookup 8 st name ≡ found (record {
-    held = record { n = n′; neighbours = take n′ nb′; codes = take n′ cs′ };
-    used = used′;
-  })
+  pub held : lookup 8 st name ≡ found (usedRecord n′ (take n′ nb′) (take n′ cs′) used′)
   pub words-kept : drop n′ nb′ ≡ drop n′ nb
   pub codes-kept : drop n′ cs′ ≡ drop n′ cs
 

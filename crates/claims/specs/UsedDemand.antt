@@ -15,7 +15,7 @@ use Rattle.jobs.specs.Standing.{left}
 use Rattle.operations.specs.Steps.{Operation, linesOf, measurementOf}
 use Rattle.record.specs.Lent.{LentRecord}
 use Rattle.stabilizer.specs.Lists.{GeneratorList}
-use Rattle.operations.specs.Used.{UsedRecord, namesUsed, usedLines, usedLinesOf}
+use Rattle.operations.specs.Used.{namesUsed, usedLines, usedLinesOf, UsedRecord, usedRecord}
 use Rattle.operations.specs.UsedLaws.{UsedStay, earlierLines}
 use Rattle.words.specs.Bits.{bit}
 
@@ -91,10 +91,7 @@ NumbersWithout = (l : LentRecord) (o : Operation) →
 -- ---- "a record made from a list has the word 0", and is refused by no line
 pub record MadeUnused (l : GeneratorList) (nb′ cs′ : List ℕ) (used′ : ℕ) : Type 0 where
   pub none : used′ ≡ 0
-  pub passes : firstFitting (usedLines (record {
-    held = record { n = l .n; neighbours = nb′; codes = cs′ };
-    used = used′;
-  }) false false false) ≡ 0
+  pub passes : firstFitting (usedLines (usedRecord (l .n) nb′ cs′ used′) false false false) ≡ 0
 
 -- of every accepted reduction
 abbrev pub ReductionsUnused : Type 0

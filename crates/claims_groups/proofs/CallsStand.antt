@@ -27,7 +27,7 @@ use Rattle.operations.specs.Steps.{
   measuredAnswer,
   measurementOf,
 }
-use Rattle.record.specs.Lent.{codeNumbers, heldRows, neighbourWords}
+use Rattle.record.specs.Lent.{codeNumbers, heldRows, lentRecord, neighbourWords}
 use Rattle.stabilizer.specs.Groups.{SameGroup}
 use Rattle.operations.proofs.UsedPassing.{used-passes}
 use Rattle.operations.specs.Used.{UsedRecord, usedAfter, usedLinesOf, usedStep}
@@ -53,15 +53,10 @@ module _ (word g : ℕ) (u : UsedRecord) (o : Operation) (G : GroupOp o)
     plain = zero ∙ sym (used-passes u o .0 (P .lines) .as-before)
 
     whole : left (u .held) nb″ cs″ ≡ leaves (u .held) o
-    whole = λ j. record {
-      n = u .held .n;
-      neighbours = (c
-          ∙ ap (λ m. accepted m (neighbourWords (u .held .n) (made (u .held) o)) (u .held .neighbours)) plain) j;
-      codes = (d ∙ ap (λ m. accepted m (codeNumbers (u .held .n) (made (u .held) o)) (u .held .codes)) plain) j;
-    }
+    whole = λ j. lentRecord (u .held .n) ((c ∙ ap (λ m. accepted m (neighbourWords (u .held .n) (made (u .held) o)) (u .held .neighbours)) plain) j) ((d ∙ ap (λ m. accepted m (codeNumbers (u .held .n) (made (u .held) o)) (u .held .codes)) plain) j)
 
     own : left (u .held) nb′ cs′ ≡ (groupAfter word g u o) .held
-    own = λ j. record { n = u .held .n; neighbours = a j; codes = b j }
+    own = λ j. lentRecord (u .held .n) (a j) (b j)
 
     stands : StandsAsWhole u nb′ cs′ r nb″ cs″
     stands =

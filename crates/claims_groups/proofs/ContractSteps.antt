@@ -22,7 +22,7 @@ use Rattle.operations.specs.Measurement.{determinedNumber, outcomeNumber}
 use Rattle.operations.specs.Steps.{Operation, complementOf, czOn, gateWith, leaves, measuredAnswer, measurementOf}
 use Rattle.source.specs.Renewal.{renewed}
 use Rattle.store.specs.Places.{Store}
-use Rattle.operations.specs.Used.{UsedRecord, usedAfter, usedLinesOf, usedStep}
+use Rattle.operations.specs.Used.{usedAfter, usedLinesOf, UsedRecord, usedRecord, usedStep}
 use Rattle.words.proofs.BitLaws.{bit-wordOf, word-cong, wordOf-bit}
 use Rattle.words.specs.Bits.{Word, bit}
 use Rattle.claims_groups.specs.GroupContracts.{ContractsAreSteps, withRecord, withStore}
@@ -79,10 +79,7 @@ module _ (s : Session) (N r : ℕ) (number : r ≡ N) where
           (cond f (v .held .codes) (s .current .held .codes)) (cond f (v .used) (s .current .used))
           ≡ cond f (record { current = v; store = s .store }) s
       go true = λ j. record {
-        current = record {
-          held = record { n = e j; neighbours = v .held .neighbours; codes = v .held .codes };
-          used = v .used;
-        };
+        current = usedRecord (e j) (v .held .neighbours) (v .held .codes) (v .used);
         store = s .store;
       }
       go false = refl

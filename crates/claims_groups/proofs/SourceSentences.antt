@@ -43,7 +43,7 @@ use Rattle.source.proofs.RenewedRecords.{renew-passes}
 use Rattle.source.specs.Renewal.{renewLines, renewed}
 use Rattle.operations.proofs.UsedInWords.{no-record, of-six}
 use Rattle.operations.proofs.UsedPassing.{lines-pass}
-use Rattle.operations.specs.Used.{UsedRecord, usedArgumentsOf, usedCode, usedStray}
+use Rattle.operations.specs.Used.{usedArgumentsOf, usedCode, UsedRecord, usedRecord, usedStray}
 use Rattle.words.proofs.Flags.{neither}
 use Rattle.words.proofs.Places.{other-place}
 use Rattle.words.specs.Bits.{bit}
@@ -230,10 +230,7 @@ module _ (word g : ℕ) (u : UsedRecord) where
           }
 
       same : r ≡ 0 → renewed u q k ≡ leftUsed u nb′ cs′ used′
-      same z = let D = at-zero C z in λ i. record {
-        held = record { n = u .held .n; neighbours = sym (D .held .1 .0) i; codes = sym (D .held .1 .1 .0) i };
-        used = sym (D .held .0) i;
-      }
+      same z = let D = at-zero C z in λ i. usedRecord (u .held .n) (sym (D .held .1 .0) i) (sym (D .held .1 .1 .0) i) (sym (D .held .0) i)
 
       pub group-renew-says : GroupRenewSays word g u q k nb′ cs′ used′ r
       group-renew-says =

@@ -15,7 +15,7 @@ use Rattle.pauli.proofs.PauliLaws.{Pauli-path}
 use Rattle.pauli.specs.Pauli.{Pauli, signedRow}
 use Rattle.pauli.specs.declared.Generator.{Generator}
 use Rattle.record.proofs.ReducedRecords.{record-proper}
-use Rattle.record.specs.Lent.{LentRecord, heldRecord, heldRows}
+use Rattle.record.specs.Lent.{heldRecord, heldRows, LentRecord, lentRecord}
 use Rattle.stabilizer.proofs.Carried.{carries-moved, same-rows}
 use Rattle.stabilizer.proofs.EqualRows.{proper-equal}
 use Rattle.stabilizer.proofs.GroupLaws.{same-refl, same-sym}
@@ -41,7 +41,7 @@ use Rattle.comparison.specs.internal.Setting.{
 
 module _ (n : ℕ) (few : n ≤ 64) (neighbours codes : List ℕ) (S : SoundRecord n neighbours codes) where
   abbrev lent : LentRecord
-  lent = record { n = n; neighbours = neighbours; codes = codes }
+  lent = lentRecord n neighbours codes
 
   pub held-proper : Proper n (heldRows lent)
   held-proper = record-proper n (heldRecord lent) (S .simple)

@@ -15,15 +15,15 @@ use Rattle.image_impl.specs.internal.Answer.{IsImage}
 use Rattle.image_impl.specs.declared.answer.ImageAnswer.{ImageAnswer}
 use Rattle.record.proofs.ReducedRecords.{record-proper}
 use Rattle.record.specs.Accepted.{AcceptedRecord}
-use Rattle.record.specs.Lent.{heldRecord}
+use Rattle.record.specs.Lent.{heldRecord, lentRecord}
 use Rattle.stabilizer.proofs.ReadBack.{table-past}
 use Rattle.words.proofs.Sums.{lt-or-ge}
 
 module _ (n : ℕ) (nb cs choice cs₂ : List ℕ)
-    (A : AcceptedRecord (record { n = n; neighbours = nb; codes = cs }))
+    (A : AcceptedRecord (lentRecord n nb cs))
   where
     induced-accepted : AcceptedRecord
-        (record { n = n; neighbours = nb; codes = tabulate n (inducedCode cs choice cs₂) })
+        (lentRecord n nb (tabulate n (inducedCode cs choice cs₂)))
     induced-accepted =
         record {
           positive = A .positive;
@@ -34,7 +34,7 @@ module _ (n : ℕ) (nb cs choice cs₂ : List ℕ)
           codes-below = λ q. below q (lt-or-ge q n);
           simple = A .simple;
           proper = record-proper n
-              (heldRecord (record { n = n; neighbours = nb; codes = tabulate n (inducedCode cs choice cs₂) }))
+              (heldRecord (lentRecord n nb (tabulate n (inducedCode cs choice cs₂))))
               (A .simple);
         }
       where
@@ -49,15 +49,15 @@ module _ (n : ℕ) (nb cs choice cs₂ : List ℕ)
       made-is : made ≡ tabulate n (inducedCode cs choice cs₂)
       made-is = e ∙ ap (λ m. tabulate m (inducedCode cs choice cs₂)) long
 
-      pub made-accepted : AcceptedRecord (record { n = n; neighbours = nb; codes = made })
+      pub made-accepted : AcceptedRecord (lentRecord n nb made)
       made-accepted =
-          subst (λ v. AcceptedRecord (record { n = n; neighbours = nb; codes = v })) (sym made-is)
+          subst (λ v. AcceptedRecord (lentRecord n nb v)) (sym made-is)
           induced-accepted
 
       pub made-answer : (answer : ImageAnswer) →
-          IsImage n (heldRecord (record { n = n; neighbours = nb; codes = made })) answer →
+          IsImage n (heldRecord (lentRecord n nb made)) answer →
           IsImage n
-          (heldRecord (record { n = n; neighbours = nb; codes = tabulate n (inducedCode cs choice cs₂) }))
+          (heldRecord (lentRecord n nb (tabulate n (inducedCode cs choice cs₂))))
           answer
       made-answer answer =
-          subst (λ v. IsImage n (heldRecord (record { n = n; neighbours = nb; codes = v })) answer) made-is
+          subst (λ v. IsImage n (heldRecord (lentRecord n nb v)) answer) made-is

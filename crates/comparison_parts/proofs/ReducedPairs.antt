@@ -33,7 +33,7 @@ use Rattle.record.proofs.AcceptedRecords.{accepted-record}
 use Rattle.record.proofs.Unique.{record-path}
 use Rattle.record.proofs.WrittenRecords.{reduced-back, reduced-held-same, reduced-passes, writtenRecord}
 use Rattle.record.specs.Accepted.{AcceptedRecord}
-use Rattle.record.specs.Lent.{LentRecord, heldRecord, heldRows, recordLines}
+use Rattle.record.specs.Lent.{heldRecord, heldRows, LentRecord, lentRecord, recordLines}
 use Rattle.record.specs.Reduced.{reduced, reducedGraph}
 use Rattle.stabilizer.proofs.GroupLaws.{same-sym}
 use Rattle.stabilizer.proofs.ReadBack.{table-past}
@@ -45,10 +45,10 @@ use Rattle.comparison.specs.ComparedPairs.{inducedRecord}
 
 module _ (n : ℕ) (R : ℕ → Pauli) (nb cs : List ℕ) (H : HoldsReduced n R nb cs) where
   abbrev lent : LentRecord
-  lent = record { n = n; neighbours = nb; codes = cs }
+  lent = lentRecord n nb cs
 
   holds-written : lent ≡ writtenRecord n (reduced n R)
-  holds-written = λ i. record { n = n; neighbours = H .words i; codes = H .numbers i }
+  holds-written = λ i. lentRecord n (H .words i) (H .numbers i)
 
   pub held-same : SameGroup n n (heldRows lent) R
   held-same =
@@ -123,8 +123,8 @@ large-tests limited n nb nb₂ a v l m ea e =
     sym (ea ∙ ap₂ (λ j k. limited && (partAbove 20 j (graphIn nb) || partAbove 20 k (graphIn nb₂))) l m) ∙ e
 
 -- what the search takes
-pub accepted-pair : (n : ℕ) (nb cs nb₂ cs₂ : List ℕ) → AcceptedRecord (record { n = n; neighbours = nb; codes = cs })
-    → AcceptedRecord (record { n = n; neighbours = nb₂; codes = cs₂ }) → SoundPair n nb cs nb₂ cs₂
+pub accepted-pair : (n : ℕ) (nb cs nb₂ cs₂ : List ℕ) → AcceptedRecord (lentRecord n nb cs)
+    → AcceptedRecord (lentRecord n nb₂ cs₂) → SoundPair n nb cs nb₂ cs₂
 accepted-pair n nb cs nb₂ cs₂ A B =
     record {
       upto = A .upto;
@@ -144,8 +144,8 @@ accepted-pair n nb cs nb₂ cs₂ A B =
 
 -- ---- the code's answer
 module _ (limited : Bool) (n : ℕ) (nb cs nb₂ cs₂ : List ℕ)
-    (A : AcceptedRecord (record { n = n; neighbours = nb; codes = cs }))
-    (B : AcceptedRecord (record { n = n; neighbours = nb₂; codes = cs₂ }))
+    (A : AcceptedRecord (lentRecord n nb cs))
+    (B : AcceptedRecord (lentRecord n nb₂ cs₂))
     (small : (limited && (partAbove 20 n (graphIn nb) || partAbove 20 n (graphIn nb₂))) ≡ false) (found : Bool) (array : List ℕ)
     (L : LeastAnswer n (heldGenerators n nb cs) (heldGenerators n nb₂ cs₂) found array) where
   -- the codes of a choice found
@@ -189,7 +189,7 @@ module _ (limited : Bool) (n : ℕ) (nb cs nb₂ cs₂ : List ℕ)
       choice-at = least-held n R S choice′ least-written
 
       abbrev inducedLent : LentRecord
-      inducedLent = record { n = n; neighbours = nb; codes = tabulate n (inducedCode cs choice′ cs₂) }
+      inducedLent = lentRecord n nb (tabulate n (inducedCode cs choice′ cs₂))
 
       -- the codes that the code induces are those of the definition
       induced-at : (q : ℕ) → induced n R S (λ q. cliffordOf (leastCode n R S q)) q

@@ -19,7 +19,7 @@ ghost use Rattle.record.specs.NeighbourWords.{graphIn};
 ghost use Rattle.comparison.specs.Parts.{partAbove};
 ghost use Rattle.pauli.specs.Pauli.{Pauli};
 ghost use Rattle.record.specs.Accepted.{AcceptedRecord};
-ghost use Rattle.record.specs.Lent.{heldRecord};
+ghost use Rattle.record.specs.Lent.{heldRecord, lentRecord};
 ghost use Rattle.comparison.specs.internal.ComparedPairs.{HoldsReduced, PairAnswered};
 
 // Whether there is a limit of 20 vertices for each part, and a part of either graph has more.
@@ -45,14 +45,10 @@ fn induced_image(
     codes2: &[u8],
     induced: &mut [u8],
 ) -> ImageAnswer
-    requires { ⌜ AcceptedRecord (record { n = n; neighbours = now neighbours; codes = now codes }) ⌝ }
+    requires { ⌜ AcceptedRecord (lentRecord n (now neighbours) (now codes)) ⌝ }
     requires { ⌜ (length (now choice) ≡ n) × (length (now codes2) ≡ n) × (length (now induced) ≡ n) ⌝ }
     requires { ⌜ Codes (now choice) × Codes (now codes2) ⌝ }
-    ensures { λ r. ⌜ IsImage n (heldRecord (record {
-      n = n;
-      neighbours = now (neighbours .entry);
-      codes = tabulate n (inducedCode (now (codes .entry)) (now (choice .entry)) (now (codes2 .entry)));
-    })) r ⌝ }
+    ensures { λ r. ⌜ IsImage n (heldRecord (lentRecord n (now (neighbours .entry)) (tabulate n (inducedCode (now (codes .entry)) (now (choice .entry)) (now (codes2 .entry)))))) r ⌝ }
 {
     induced_codes(codes, choice, codes2, induced);
     image_answer(n, neighbours, induced)
@@ -71,8 +67,8 @@ pub fn compare_reduced(
     list: &mut [u8],
     count: &mut u64,
 ) -> u8
-    requires { ⌜ AcceptedRecord (record { n = n; neighbours = now neighbours; codes = now codes }) ⌝ }
-    requires { ⌜ AcceptedRecord (record { n = n; neighbours = now neighbours2; codes = now codes2 }) ⌝ }
+    requires { ⌜ AcceptedRecord (lentRecord n (now neighbours) (now codes)) ⌝ }
+    requires { ⌜ AcceptedRecord (lentRecord n (now neighbours2) (now codes2)) ⌝ }
     requires { ⌜ (length (now choice) ≡ n) × (length (now list) ≡ 96) ⌝ }
     ensures { λ r. ⌜ ((R S : ℕ → Pauli) → HoldsReduced n R (now (neighbours .entry)) (now (codes .entry))
         → HoldsReduced n S (now (neighbours2 .entry)) (now (codes2 .entry))

@@ -5,7 +5,7 @@ use mathlib.Core.Path.{refl, _≡_}
 use Prim.Native.Nat.{ℕ}
 use Rattle.clifford.specs.Vectors.{act}
 use Rattle.pauli.specs.Pauli.{mul, signedRow}
-use Rattle.record.specs.Lent.{LentRecord, heldRows}
+use Rattle.record.specs.Lent.{heldRows, LentRecord, lentRecord}
 use Rattle.stabilizer.specs.Membership.{member}
 use Rattle.words.specs.Bits.{bit, fold}
 use Rattle.words.specs.Search.{every, first, some}
@@ -17,11 +17,11 @@ valueAt l z x = stabilizerValue (l .n) (heldRows l) (signedRow false z x)
 
 -- XX and ZZ
 abbrev bell : LentRecord
-bell = record { n = 2; neighbours = 2 ∷ 1 ∷ []; codes = 0 ∷ 8 ∷ [] }
+bell = lentRecord 2 (2 ∷ 1 ∷ []) (0 ∷ 8 ∷ [])
 
 -- 0-1-2-0
 abbrev triangle : LentRecord
-triangle = record { n = 3; neighbours = 6 ∷ 5 ∷ 3 ∷ []; codes = 0 ∷ 0 ∷ 0 ∷ [] }
+triangle = lentRecord 3 (6 ∷ 5 ∷ 3 ∷ []) (0 ∷ 0 ∷ 0 ∷ [])
 
 -- II, XX, ZZ and YY; XI, ZY
 pub bells : (valueAt bell 0 0 ∷ valueAt bell 0 3 ∷ valueAt bell 3 0 ∷ valueAt bell 3 3 ∷ valueAt bell 0 1

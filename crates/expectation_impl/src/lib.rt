@@ -20,7 +20,7 @@ ghost use Rattle.record.specs.NeighbourWords.{graphIn};
 ghost use Rattle.pauli.specs.Pauli.{signedRow};
 ghost use Rattle.pauli.specs.internal.Rows.{generatorOf, pauliOf};
 ghost use Rattle.record.specs.Accepted.{AcceptedRecord};
-ghost use Rattle.record.specs.Lent.{heldRows};
+ghost use Rattle.record.specs.Lent.{heldRows, lentRecord};
 ghost use Rattle.stabilizer.specs.Groups.{product};
 ghost use Rattle.words.specs.Bits.{bit};
 
@@ -73,13 +73,9 @@ fn read(element: Row, row: Generator) -> u8
 
 // The value of the row with these two words, sign plus.
 pub fn row_value(n: usize, neighbours: &[u64], codes: &[u8], z: u64, x: u64) -> u8
-    requires { ⌜ AcceptedRecord (record { n = n; neighbours = now neighbours; codes = now codes }) ⌝ }
+    requires { ⌜ AcceptedRecord (lentRecord n (now neighbours) (now codes)) ⌝ }
     requires { ⌜ (z < 2 ^ n) × (x < 2 ^ n) ⌝ }
-    ensures { λ r. ⌜ r ≡ stabilizerValue n (heldRows (record {
-      n = n;
-      neighbours = now (neighbours .entry);
-      codes = now (codes .entry);
-    })) (signedRow false z x) ⌝ }
+    ensures { λ r. ⌜ r ≡ stabilizerValue n (heldRows (lentRecord n (now (neighbours .entry)) (now (codes .entry)))) (signedRow false z x) ⌝ }
 {
     let plus = Generator {
         minus: false,

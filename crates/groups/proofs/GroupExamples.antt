@@ -15,7 +15,7 @@ use Rattle.record.specs.Lent.{notSimple}
 use Rattle.record.specs.Reduced.{graphOf, minusesOf, reducedRow, ysOf}
 use Rattle.stabilizer.specs.Lists.{clashing, dependent}
 use Rattle.store.specs.Places.{Store}
-use Rattle.operations.specs.Used.{UsedRecord, usedWrong}
+use Rattle.operations.specs.Used.{UsedRecord, usedRecord, usedWrong}
 use Rattle.words.specs.Bits.{bit, fold, put, wordOf}
 use Rattle.words.specs.Search.{every, first, some}
 use Rattle.groups.specs.GroupLines.{groupAfter, groupLines}
@@ -27,19 +27,12 @@ abbrev pub halves : ℕ
 halves = 2 ^ 64 - 2 ^ 32
 
 abbrev pub plain : UsedRecord
-plain = record { held = record { n = 64; neighbours = replicate 64 0; codes = replicate 64 8 }; used = 0 }
+plain = usedRecord 64 (replicate 64 0) (replicate 64 8) 0
 
 -- with an edge 0-40
 abbrev pub joined : UsedRecord
 joined =
-    record {
-      held = record {
-        n = 64;
-        neighbours = set (set (replicate 64 0) 0 (2 ^ 40)) 40 1;
-        codes = replicate 64 8;
-      };
-      used = 0;
-    }
+    usedRecord 64 (set (set (replicate 64 0) 0 (2 ^ 40)) 40 1) (replicate 64 8) 0
 
 abbrev pub asked : UsedRecord → ℕ → Operation → ℕ
 asked u g o = firstFitting (groupLines halves g u o)
@@ -62,7 +55,7 @@ beyond = refl
 
 -- ---- qubit 0 is of group 0, qubit 1 of group 1
 abbrev two : UsedRecord
-two = record { held = record { n = 2; neighbours = replicate 2 0; codes = replicate 2 8 }; used = 0 }
+two = usedRecord 2 (replicate 2 0) (replicate 2 8) 0
 
 abbrev first-complement : UsedRecord
 first-complement = groupAfter 2 0 two (complementOf 0)

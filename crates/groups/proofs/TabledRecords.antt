@@ -15,7 +15,7 @@ use Rattle.record.specs.Lent.{heldRecord, recordLines}
 use Rattle.stabilizer.proofs.SharedTests.{table-passes}
 use Rattle.operations.proofs.LeftRecords.{all-good}
 use Rattle.operations.proofs.UsedPassing.{lines-pass}
-use Rattle.operations.specs.Used.{UsedRecord, usedCode, usedLines}
+use Rattle.operations.specs.Used.{usedCode, usedLines, UsedRecord, usedRecord}
 use Rattle.words.proofs.BitLaws.{bit-above, bit-wordOf, wordOf-lt}
 use Rattle.words.proofs.Sums.{lt-or-ge}
 use Rattle.words.specs.Bits.{Word, bit, wordOf}
@@ -23,10 +23,7 @@ use Rattle.words.specs.Bits.{Word, bit, wordOf}
 -- the record with these words, codes and used vertices
 abbrev pub tabled : ℕ → (ℕ → ℕ) → (ℕ → ℕ) → Word → UsedRecord
 tabled n f c w =
-    record {
-      held = record { n = n; neighbours = tabulate n f; codes = tabulate n c };
-      used = wordOf n w;
-    }
+    usedRecord n (tabulate n f) (tabulate n c) (wordOf n w)
 
 pub record Tabled (n : ℕ) (f c : ℕ → ℕ) (w : Word) : Type 0 where
   pub positive : 1 ≤ n

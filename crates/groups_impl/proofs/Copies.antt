@@ -7,29 +7,30 @@ use Rattle.groups.specs.Masks.{inGroup, masked, merged}
 use Rattle.groups_impl.proofs.OwnWords.{masked-own, merged-own}
 use Rattle.words.specs.Bits.{bit, wordOf}
 use Rattle.groups_impl.specs.internal.BeforeEight.{PutBack}
+use Rattle.operations.specs.Used.{usedRecord}
 
 module _ (word g : ℕ) {own : ℕ} where
   pub taken : (nb cs : List ℕ) (used : ℕ) → own ≡ wordOf 64 (inGroup word g) → {words bytes : List ℕ} {r : ℕ}
-      → words ≡ (masked (bit own) (record { held = record { n = 64; neighbours = nb; codes = cs }; used = 0 }))
+      → words ≡ (masked (bit own) (usedRecord 64 nb cs 0))
       .held .neighbours
-      → bytes ≡ (masked (bit own) (record { held = record { n = 64; neighbours = nb; codes = cs }; used = 0 }))
+      → bytes ≡ (masked (bit own) (usedRecord 64 nb cs 0))
       .held .codes
       → r ≡ wordOf 64 (λ q. bit own q && bit used q)
-      → record { held = record { n = 64; neighbours = words; codes = bytes }; used = r }
-      ≡ masked (inGroup word g) (record { held = record { n = 64; neighbours = nb; codes = cs }; used = used })
+      → usedRecord 64 words bytes r
+      ≡ masked (inGroup word g) (usedRecord 64 nb cs used)
   taken nb cs used e en ec eu =
-      (λ i. record { held = record { n = 64; neighbours = en i; codes = ec i }; used = eu i })
+      (λ i. usedRecord 64 (en i) (ec i) (eu i))
       ∙ masked-own own (inGroup word g) e
-      (record { held = record { n = 64; neighbours = nb; codes = cs }; used = used }) refl
+      (usedRecord 64 nb cs used) refl
 
   pub put-back : (words bytes nb cs : List ℕ) → own ≡ wordOf 64 (inGroup word g) → {nb′ cs′ : List ℕ}
-      → nb′ ≡ (merged (bit own) (record { held = record { n = 64; neighbours = words; codes = bytes }; used = 0 })
-      (record { held = record { n = 64; neighbours = nb; codes = cs }; used = 0 })) .held .neighbours
-      → cs′ ≡ (merged (bit own) (record { held = record { n = 64; neighbours = words; codes = bytes }; used = 0 })
-      (record { held = record { n = 64; neighbours = nb; codes = cs }; used = 0 })) .held .codes
+      → nb′ ≡ (merged (bit own) (usedRecord 64 words bytes 0)
+      (usedRecord 64 nb cs 0)) .held .neighbours
+      → cs′ ≡ (merged (bit own) (usedRecord 64 words bytes 0)
+      (usedRecord 64 nb cs 0)) .held .codes
       → PutBack (inGroup word g) words bytes nb cs nb′ cs′
   put-back words bytes nb cs e en ec =
       let M = merged-own own (inGroup word g) e
-      (record { held = record { n = 64; neighbours = words; codes = bytes }; used = 0 })
-      (record { held = record { n = 64; neighbours = nb; codes = cs }; used = 0 }) refl in
+      (usedRecord 64 words bytes 0)
+      (usedRecord 64 nb cs 0) refl in
       record { neighbours = en ∙ ap (λ w. w .held .neighbours) M; codes = ec ∙ ap (λ w. w .held .codes) M }

@@ -18,7 +18,7 @@ use Rattle.operations.specs.Steps.{Operation}
 use Rattle.record.proofs.AcceptedRecords.{accepted-record}
 use Rattle.record.specs.Lent.{heldRecord, notSimple, recordCodes, recordLengths, recordLines, recordStray}
 use Rattle.operations.proofs.UsedPassing.{lines-pass}
-use Rattle.operations.specs.Used.{UsedRecord, usedLines, usedStray, usedWrong}
+use Rattle.operations.specs.Used.{usedLines, UsedRecord, usedRecord, usedStray, usedWrong}
 use Rattle.words.proofs.Finite.{bits}
 use Rattle.words.proofs.Flags.{neither}
 use Rattle.groups_impl.specs.internal.BeforeEight.{Admitted, beforeEight, sixOf}
@@ -63,10 +63,7 @@ module _ (word g : ℕ) (u : UsedRecord) (six other : Bool) where
       of-64 = accepted-record (u .held) false (six || ltb 1 g)
           (lines-pass u false false (six || ltb 1 g) .0 (sym e ∙ z) .0) .neighbours-length ∙ n64
 
-      module _ {crossing : Bool} (f : crossing ≡ crosses word (record {
-        held = record { n = 64; neighbours = u .held .neighbours; codes = [] };
-        used = 0;
-      })) where
+      module _ {crossing : Bool} (f : crossing ≡ crosses word (usedRecord 64 (u .held .neighbours) [] 0)) where
         nineteen : {t : Bool} → (crossing || other) ≡ t → (crosses word u || other) ≡ t
         nineteen h = ap (λ b. b || other) (sym (f ∙ crosses-reads _ u (sym n64) refl word)) ∙ h
 

@@ -12,7 +12,7 @@ use lib.Pow.{pow-pos}
 use borrow.Author.Tests.{eq-eqb, ne-eqb}
 use Rattle.groups.specs.Masks.{crosses, reachesOut}
 use Rattle.record_impl.proofs.Squares.{SomeTo, some-to-all}
-use Rattle.operations.specs.Used.{UsedRecord}
+use Rattle.operations.specs.Used.{UsedRecord, usedRecord}
 use Rattle.words.proofs.BitLaws.{and-lt-right, bit-and, bit-ext, bit-wordOf, zero-bit}
 use Rattle.words.proofs.Finite.{bits}
 use Rattle.words.proofs.SearchLaws.{some-ext, some-false, some-true}
@@ -64,7 +64,7 @@ crossing-here word nb j {o} {v} eo ev eh = eh ∙ some-ext 64 _ _ (λ k l. ap (�
 
 -- the record of 64 qubits that these neighbour words are of
 abbrev wordsOnly : List ℕ → UsedRecord
-wordsOnly nb = record { held = record { n = 64; neighbours = nb; codes = [] }; used = 0 }
+wordsOnly nb = usedRecord 64 nb [] 0
 
 pub crossing-all : (word : ℕ) (nb : List ℕ) {found : Bool} {j : ℕ} → SomeTo j 64 (crossingAt word nb) found → 64 ≤ j
     → found ≡ crosses word (wordsOnly nb)

@@ -6,16 +6,16 @@ use Prim.Native.Nat.{_*_, _+_, _-_, ℕ}
 use lib.ListN.{drop, take}
 use Rattle.buffers.proofs.Tabulate.{tabulate-length}
 use Rattle.groups.specs.Masks.{masked, merged}
-use Rattle.record.specs.Lent.{LentRecord}
+use Rattle.record.specs.Lent.{LentRecord, lentRecord}
 use Rattle.store.specs.Kept.{headed, withPlace}
 use Rattle.store.specs.Places.{Store, partAt}
 use Rattle.store_impl.proofs.Parts.{from-place, placed}
-use Rattle.operations.specs.Used.{UsedRecord}
+use Rattle.operations.specs.Used.{UsedRecord, usedRecord}
 use Rattle.words.specs.Bits.{bit, wordOf}
 
 -- a record of 64 qubits
 abbrev pub of64 : List ℕ → List ℕ → ℕ → UsedRecord
-of64 nb cs used = record { held = record { n = 64; neighbours = nb; codes = cs }; used = used }
+of64 nb cs used = usedRecord 64 nb cs used
 
 module _ (i own : ℕ) (nb cs : List ℕ) where
   pub put-at : (used name w : ℕ) (heads hn hc heads′ words bytes : List ℕ)
@@ -38,11 +38,6 @@ module _ (i own : ℕ) (nb cs : List ℕ) where
       (take (64 * i + 64 - 64 * i) (drop (64 * i) hc)) 0) (of64 nb cs 0)) .held .neighbours
       → cs′ ≡ (merged (bit own) (of64 (take (64 * i + 64 - 64 * i) (drop (64 * i) hn))
       (take (64 * i + 64 - 64 * i) (drop (64 * i) hc)) 0) (of64 nb cs 0)) .held .codes
-      → _≡_ {A = LentRecord} (record { n = 64; neighbours = nb′; codes = cs′ })
+      → _≡_ {A = LentRecord} (lentRecord 64 nb′ cs′)
       ((merged (bit own) (of64 (partAt i 64 hn) (partAt i 64 hc) 0) (of64 nb cs 0)) .held)
-  taken-at hn hc nb′ cs′ en ec = λ j. record {
-    n = 64;
-    neighbours = (en ∙ ap (λ w. (merged (bit own) (of64 w cs 0) (of64 nb cs 0)) .held .neighbours)
-        (from-place (64 * i) 64 hn)) j;
-    codes = (ec ∙ ap (λ w. (merged (bit own) (of64 nb w 0) (of64 nb cs 0)) .held .codes) (from-place (64 * i) 64 hc)) j;
-  }
+  taken-at hn hc nb′ cs′ en ec = λ j. lentRecord 64 ((en ∙ ap (λ w. (merged (bit own) (of64 w cs 0) (of64 nb cs 0)) .held .neighbours) (from-place (64 * i) 64 hn)) j) ((ec ∙ ap (λ w. (merged (bit own) (of64 nb w 0) (of64 nb cs 0)) .held .codes) (from-place (64 * i) 64 hc)) j)

@@ -10,6 +10,7 @@ ghost use lib.ListN.{length};
 ghost use Rattle.groups.specs.Masks.{crosses, inGroup, masked, merged, reachesOut};
 ghost use Rattle.words.specs.Bits.{bit, wordOf};
 ghost use Rattle.words.specs.Search.{some};
+ghost use Rattle.operations.specs.Used.{usedRecord};
 
 // The word of the qubits of a group.
 pub fn own_word(word: u64, group: u8) -> u64
@@ -37,13 +38,7 @@ fn pick_byte(word: u64, q: usize, a: u8, b: u8) -> u8
 pub fn mask(own: u64, neighbours: &[u64], codes: &[u8], words: &mut [u64], bytes: &mut [u8])
     requires { ⌜ (length (now neighbours) ≡ 64) × (length (now codes) ≡ 64) ⌝ }
     requires { ⌜ (length (now words) ≡ 64) × (length (now bytes) ≡ 64) ⌝ }
-    ensures { λ r. ⌜ (now (words .exit) ≡ (masked (bit own) (record {
-      held = record { n = 64; neighbours = now (neighbours .entry); codes = now (codes .entry) };
-      used = 0;
-    })) .held .neighbours) × (now (bytes .exit) ≡ (masked (bit own) (record {
-      held = record { n = 64; neighbours = now (neighbours .entry); codes = now (codes .entry) };
-      used = 0;
-    })) .held .codes) ⌝ }
+    ensures { λ r. ⌜ (now (words .exit) ≡ (masked (bit own) (usedRecord 64 (now (neighbours .entry)) (now (codes .entry)) 0)) .held .neighbours) × (now (bytes .exit) ≡ (masked (bit own) (usedRecord 64 (now (neighbours .entry)) (now (codes .entry)) 0)) .held .codes) ⌝ }
 {
     let mut q = 0;
     while q < 64 {
@@ -57,19 +52,7 @@ pub fn mask(own: u64, neighbours: &[u64], codes: &[u8], words: &mut [u64], bytes
 pub fn merge(own: u64, words: &[u64], bytes: &[u8], neighbours: &mut [u64], codes: &mut [u8])
     requires { ⌜ (length (now words) ≡ 64) × (length (now bytes) ≡ 64) ⌝ }
     requires { ⌜ (length (now neighbours) ≡ 64) × (length (now codes) ≡ 64) ⌝ }
-    ensures { λ r. ⌜ (now (neighbours .exit) ≡ (merged (bit own) (record {
-      held = record { n = 64; neighbours = now (words .entry); codes = now (bytes .entry) };
-      used = 0;
-    }) (record {
-      held = record { n = 64; neighbours = now (neighbours .entry); codes = now (codes .entry) };
-      used = 0;
-    })) .held .neighbours) × (now (codes .exit) ≡ (merged (bit own) (record {
-      held = record { n = 64; neighbours = now (words .entry); codes = now (bytes .entry) };
-      used = 0;
-    }) (record {
-      held = record { n = 64; neighbours = now (neighbours .entry); codes = now (codes .entry) };
-      used = 0;
-    })) .held .codes) ⌝ }
+    ensures { λ r. ⌜ (now (neighbours .exit) ≡ (merged (bit own) (usedRecord 64 (now (words .entry)) (now (bytes .entry)) 0) (usedRecord 64 (now (neighbours .entry)) (now (codes .entry)) 0)) .held .neighbours) × (now (codes .exit) ≡ (merged (bit own) (usedRecord 64 (now (words .entry)) (now (bytes .entry)) 0) (usedRecord 64 (now (neighbours .entry)) (now (codes .entry)) 0)) .held .codes) ⌝ }
 {
     let mut q = 0;
     while q < 64 {
@@ -103,10 +86,7 @@ fn meet(a: u64, b: u64) -> bool
 // Whether a record of 64 qubits has an edge between the groups.
 pub fn crosses(word: u64, neighbours: &[u64]) -> bool
     requires { ⌜ length (now neighbours) ≡ 64 ⌝ }
-    ensures { λ r. ⌜ r ≡ crosses word (record {
-      held = record { n = 64; neighbours = now (neighbours .entry); codes = [] };
-      used = 0;
-    }) ⌝ }
+    ensures { λ r. ⌜ r ≡ crosses word (usedRecord 64 (now (neighbours .entry)) [] 0) ⌝ }
 {
     let other = others(word);
     let mut found = false;
@@ -121,10 +101,7 @@ pub fn crosses(word: u64, neighbours: &[u64]) -> bool
 // Whether some vertex of a record of 64 qubits has a neighbour outside the word `own`.
 pub fn reaches_out(own: u64, neighbours: &[u64]) -> bool
     requires { ⌜ length (now neighbours) ≡ 64 ⌝ }
-    ensures { λ r. ⌜ r ≡ reachesOut (bit own) (record {
-      held = record { n = 64; neighbours = now (neighbours .entry); codes = [] };
-      used = 0;
-    }) ⌝ }
+    ensures { λ r. ⌜ r ≡ reachesOut (bit own) (usedRecord 64 (now (neighbours .entry)) [] 0) ⌝ }
 {
     let outside = others(own);
     let mut found = false;

@@ -10,10 +10,11 @@ ghost use Prim.Native.Nat.{_<_, _≤_};
 ghost use lib.ListN.{length};
 ghost use Rattle.groups.specs.GroupStores.{ownHeads};
 ghost use Rattle.groups.specs.Masks.{masked, merged};
-ghost use Rattle.record.specs.Lent.{LentRecord};
+ghost use Rattle.record.specs.Lent.{LentRecord, lentRecord};
 ghost use Rattle.store.specs.Kept.{savePlace, withPlace};
 ghost use Rattle.store.specs.Places.{Store, partAt, placeOf};
 ghost use Rattle.words.specs.Bits.{bit};
+ghost use Rattle.operations.specs.Used.{usedRecord};
 
 // The place, of the group's four, that holds a state under the name; 4 where none does.
 pub fn own_find(group: u8, heads: &[u64], name: u64) -> usize
@@ -52,10 +53,7 @@ pub fn put_masked(
       heads = now (heads .exit);
       neighbours = now («held_neighbours» .exit);
       codes = now («held_codes» .exit);
-    }) (withPlace i (masked (bit own) (record {
-      held = record { n = 64; neighbours = now (neighbours .entry); codes = now (codes .entry) };
-      used = used;
-    })) name (record {
+    }) (withPlace i (masked (bit own) (usedRecord 64 (now (neighbours .entry)) (now (codes .entry)) used)) name (record {
       heads = now (heads .entry);
       neighbours = now («held_neighbours» .entry);
       codes = now («held_codes» .entry);
@@ -85,18 +83,8 @@ pub fn take_merged(
     requires { ⌜ (i < 8) × (length (now «held_neighbours») ≡ 512) × (length (now «held_codes») ≡ 512) ⌝ }
     requires { ⌜ (length (now neighbours) ≡ 64) × (length (now codes) ≡ 64) ⌝ }
     ensures { λ r. ⌜ _≡_ {A = LentRecord}
-        (record { n = 64; neighbours = now (neighbours .exit); codes = now (codes .exit) })
-        ((merged (bit own) (record {
-          held = record {
-            n = 64;
-            neighbours = partAt i 64 (now («held_neighbours» .entry));
-            codes = partAt i 64 (now («held_codes» .entry));
-          };
-          used = 0;
-        }) (record {
-          held = record { n = 64; neighbours = now (neighbours .entry); codes = now (codes .entry) };
-          used = 0;
-        })) .held) ⌝ }
+        (lentRecord 64 (now (neighbours .exit)) (now (codes .exit)))
+        ((merged (bit own) (usedRecord 64 (partAt i 64 (now («held_neighbours» .entry))) (partAt i 64 (now («held_codes» .entry))) 0) (usedRecord 64 (now (neighbours .entry)) (now (codes .entry)) 0)) .held) ⌝ }
 {
     let at = 64 * i;
     let end = at + 64;

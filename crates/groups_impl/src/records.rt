@@ -15,6 +15,7 @@ ghost use Rattle.groups.specs.GroupLines.{outsider};
 ghost use Rattle.groups.specs.Masks.{inGroup, masked};
 ghost use Rattle.words.specs.Bits.{bit, wordOf};
 ghost use Rattle.groups_impl.specs.internal.BeforeEight.{PutBack, beforeEight};
+ghost use Rattle.operations.specs.Used.{usedRecord};
 
 // Whether a qubit of the record is in the other group: bit q of the word is qubit q's group.
 pub fn outside(n: u64, word: u64, group: u8, qubit: u64) -> bool
@@ -35,10 +36,7 @@ pub fn group_refusal(
     six: bool,
     other: bool,
 ) -> u8
-    ensures { λ r. ⌜ r ≡ firstFitting (beforeEight word group (record {
-      held = record { n = n; neighbours = now (neighbours .entry); codes = now (codes .entry) };
-      used = used;
-    }) six other) ⌝ }
+    ensures { λ r. ⌜ r ≡ firstFitting (beforeEight word group (usedRecord n (now (neighbours .entry)) (now (codes .entry)) used) six other) ⌝ }
 {
     if n != 64 {
         return 2;
@@ -66,13 +64,7 @@ pub fn take_group(
 ) -> u64
     requires { ⌜ (length (now neighbours) ≡ 64) × (length (now codes) ≡ 64) ⌝ }
     requires { ⌜ (length (now words) ≡ 64) × (length (now bytes) ≡ 64) ⌝ }
-    ensures { λ r. ⌜ record {
-      held = record { n = 64; neighbours = now (words .exit); codes = now (bytes .exit) };
-      used = r;
-    } ≡ masked (inGroup word group) (record {
-      held = record { n = 64; neighbours = now (neighbours .entry); codes = now (codes .entry) };
-      used = used;
-    }) ⌝ }
+    ensures { λ r. ⌜ usedRecord 64 (now (words .exit)) (now (bytes .exit)) r ≡ masked (inGroup word group) (usedRecord 64 (now (neighbours .entry)) (now (codes .entry)) used) ⌝ }
 {
     let own = own_word(word, group);
     mask(own, neighbours, codes, words, bytes);

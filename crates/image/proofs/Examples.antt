@@ -7,7 +7,7 @@ use Rattle.buffers.specs.Buffers.{accepted, tabulate}
 use Rattle.buffers.specs.Refusals.{firstFitting, reaching}
 use Rattle.clifford.specs.Vectors.{act}
 use Rattle.pauli.specs.Pauli.{mul}
-use Rattle.record.specs.Lent.{LentRecord, heldRecord, neighbourWords, notSimple}
+use Rattle.record.specs.Lent.{heldRecord, LentRecord, lentRecord, neighbourWords, notSimple}
 use Rattle.stabilizer.specs.Membership.{member}
 use Rattle.words.specs.Bits.{bit, digit, fold, put, wordOf}
 use Rattle.words.specs.Search.{every, first, some}
@@ -17,7 +17,7 @@ use Rattle.image.specs.Rule.{imageList, moves, run, complementedAt}
 -- the number; where it is 0 also the neighbour words, the minus signs and the list
 abbrev answer : ℕ → List ℕ → List ℕ → List ℕ
 answer n neighbours codes =
-    let l : LentRecord = record { n = n; neighbours = neighbours; codes = codes } in
+    let l : LentRecord = lentRecord n neighbours codes in
     let number = firstFitting (imageLines l (replicate n 0) (replicate n 0) (replicate 96 0)) in
     number ∷ accepted number
     (neighbourWords n (imageRecord n (heldRecord l))

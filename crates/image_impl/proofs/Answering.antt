@@ -17,7 +17,7 @@ use Rattle.clifford.specs.Vectors.{codesOf}
 use Rattle.record.specs.Graph.{Simple}
 use Rattle.pauli.specs.declared.Letter.the-variants.{X}
 use Rattle.record.specs.Accepted.{AcceptedRecord}
-use Rattle.record.specs.Lent.{heldRecord}
+use Rattle.record.specs.Lent.{heldRecord, lentRecord}
 use Rattle.record.specs.Records.{GraphRecord}
 use Rattle.words.proofs.BitLaws.{bit-ext∞, lt-of-bits, wordOf-bit, zero-bit}
 use Rattle.words.proofs.SearchLaws.{first-is, some-in, some-none}
@@ -157,7 +157,7 @@ answered words codes list′ U t empty end C k W b-below sz-below a number graph
     counted = count ∙ C .count ∙ ap (λ c. c + length (imageList n r)) empty ∙ zero-add _
 
 -- the answer with words and signs at the start of longer arrays
-pub answered-longer : (n : ℕ) (words codes : List ℕ) → AcceptedRecord (record { n = n; neighbours = words; codes = codes })
+pub answered-longer : (n : ℕ) (words codes : List ℕ) → AcceptedRecord (lentRecord n words codes)
     → (number : ℕ) (graph signs list : List ℕ) (count : ℕ) → IsImage (length words) (heldRecord (recordIn words codes))
     (record { number = number; graph = graph; signs = signs; list = list; count = count }) → (more others : List ℕ)
     → length graph ≡ n → length signs ≡ n → IsImage n (heldRecord (recordIn words codes))

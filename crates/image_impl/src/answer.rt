@@ -17,7 +17,7 @@ ghost use Rattle.words.specs.Bits.{_⊕_, bit, digit};
 ghost use Rattle.words.specs.internal.Bits.{dot};
 ghost use Rattle.operations.specs.internal.InPlace.{Unrefused, recordIn};
 ghost use Rattle.record.specs.Accepted.{AcceptedRecord};
-ghost use Rattle.record.specs.Lent.{heldRecord};
+ghost use Rattle.record.specs.Lent.{heldRecord, lentRecord};
 ghost use Rattle.image_impl.specs.internal.Answer.{IsImage};
 ghost use Rattle.image_impl.specs.internal.Working.{Tracking, working};
 
@@ -126,12 +126,8 @@ fn image_in(
 
 // The image of the graph under the codes.
 pub fn image_answer(n: usize, neighbours: &[u64], codes: &[u8]) -> ImageAnswer
-    requires { ⌜ AcceptedRecord (record { n = n; neighbours = now neighbours; codes = now codes }) ⌝ }
-    ensures { λ r. ⌜ IsImage n (heldRecord (record {
-      n = n;
-      neighbours = now (neighbours .entry);
-      codes = now (codes .entry);
-    })) r ⌝ }
+    requires { ⌜ AcceptedRecord (lentRecord n (now neighbours) (now codes)) ⌝ }
+    ensures { λ r. ⌜ IsImage n (heldRecord (lentRecord n (now (neighbours .entry)) (now (codes .entry)))) r ⌝ }
 {
     let mut graph = [0u64; 64];
     let mut signs = [0u8; 64];

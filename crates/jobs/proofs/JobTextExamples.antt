@@ -15,6 +15,7 @@ use Rattle.jobs.specs.Text.{jobText}
 use Rattle.text.specs.internal.Feeding.{fedBytes}
 use Rattle.jobs.specs.internal.Scan.{digitValue, firstOp, firstStep, headStep, moreStep, opFor, Reading, wordStep}
 use Rattle.jobs.specs.internal.Scan.{oneMore, scanByte, begin, asReading, feed, fed, verdict}
+use Rattle.operations.specs.Used.{usedRecord}
 
 -- a gate, a CZ and a measurement; the form allows every number of at most three digits
 steps : List Step
@@ -86,7 +87,7 @@ many = refl
 results : ℕ → Result
 results k = record { refusal = 14 * k; outcome = 0; determined = 0 }
 
-answer : jobAnswer 2 results (record { held = record { n = 1; neighbours = 0 ∷ []; codes = 8 ∷ [] }; used = 1 })
+answer : jobAnswer 2 results (usedRecord 1 (0 ∷ []) (8 ∷ []) 1)
     ≡ 115 ∷ 116 ∷ 101 ∷ 112 ∷ 32 ∷ 114 ∷ 101 ∷ 102 ∷ 117 ∷ 115 ∷ 97 ∷ 108 ∷ 32
     ∷ 111 ∷ 117 ∷ 116 ∷ 99 ∷ 111 ∷ 109 ∷ 101 ∷ 32
     ∷ 100 ∷ 101 ∷ 116 ∷ 101 ∷ 114 ∷ 109 ∷ 105 ∷ 110 ∷ 101 ∷ 100 ∷ 10

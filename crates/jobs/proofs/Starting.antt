@@ -15,7 +15,7 @@ use Rattle.operations.specs.Cz.{zAt}
 use Rattle.pauli.proofs.PhaseLaws.{phaseMonoid}
 use Rattle.pauli.specs.Pauli.{_+ᵖ_, i⁰, letter, xBit, zBit}
 use Rattle.record.proofs.WrittenRecords.{record-passes, record-rows-back, writtenRecord}
-use Rattle.record.specs.Lent.{heldRows, recordLines}
+use Rattle.record.specs.Lent.{heldRows, lentRecord, recordLines}
 use Rattle.record.specs.Records.{GraphRecord, rowsOf}
 use Rattle.stabilizer.proofs.EqualRows.{same-group-equal}
 use Rattle.operations.proofs.UsedPassing.{unused-passes}
@@ -46,7 +46,7 @@ module _ (n : ℕ) where
   above q l = ap (λ b. cond b (cliffordOf 8) identityClifford) (le-ltb q n l)
 
   is-written : started n .held ≡ writtenRecord n plusZ
-  is-written = ap₂ (λ nb cs. record { n = n; neighbours = nb; codes = cs })
+  is-written = ap₂ (λ nb cs. lentRecord n nb cs)
       (tabulate-is n _ (replicate n 0) (length-replicate n 0)
       (λ i l. getD-replicate n i 0 0 l ∙ sym (no-bits n)))
       (tabulate-is n _ (replicate n 8) (length-replicate n 8)

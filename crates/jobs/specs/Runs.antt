@@ -8,7 +8,7 @@ use Rattle.buffers.specs.Buffers.{acceptedNumber}
 use Rattle.operations.specs.Measurement.{determinedNumber, outcomeNumber}
 use Rattle.operations.specs.Steps.{Operation, complementOf, czOn, gateWith, measuredAnswer, measurementOf, pivotOf}
 use Rattle.record.specs.Lent.{LentRecord}
-use Rattle.operations.specs.Used.{UsedRecord, usedStep}
+use Rattle.operations.specs.Used.{UsedRecord, usedRecord, usedStep}
 use Rattle.jobs.specs.Asked.{asked, numberOf}
 use Rattle.jobs.specs.declared.Answer.{Answer}
 use Rattle.jobs.specs.declared.Step.{Step}
@@ -16,7 +16,7 @@ use Rattle.jobs.specs.declared.Step.{Step}
 -- "All qubits start in +Z, with code 8 and no edge"
 abbrev pub started : ℕ → UsedRecord
 started n =
-    record { held = record { n = n; neighbours = replicate n 0; codes = replicate n 8 }; used = 0 }
+    usedRecord n (replicate n 0) (replicate n 8) 0
 
 -- "A refused step changes nothing": else the record is what the operation leaves
 abbrev pub afterStep : UsedRecord → Step → UsedRecord

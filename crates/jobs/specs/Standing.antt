@@ -7,13 +7,13 @@ use mathlib.Core.Path.{_≡_}
 use Prim.Native.Nat.{ℕ}
 use Rattle.buffers.specs.Refusals.{firstFitting}
 use Rattle.pauli.specs.Pauli.{Pauli}
-use Rattle.record.specs.Lent.{LentRecord, heldRows, recordLines}
+use Rattle.record.specs.Lent.{heldRows, LentRecord, lentRecord, recordLines}
 use Rattle.stabilizer.specs.Groups.{InGroup}
 use Rattle.operations.specs.Used.{UsedRecord, usedLines}
 
 -- the record that a call leaves
 abbrev pub left : LentRecord → List ℕ → List ℕ → LentRecord
-left l nb cs = record { n = l .n; neighbours = nb; codes = cs }
+left l nb cs = lentRecord (l .n) nb cs
 
 -- it is a record again, so that the next call is about it
 abbrev pub StillRecord : LentRecord → Type 0

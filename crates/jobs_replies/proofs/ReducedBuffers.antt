@@ -15,7 +15,7 @@ use Rattle.pauli.specs.Pauli.{Pauli}
 use Rattle.record.proofs.AcceptedRecords.{accepted-record}
 use Rattle.record.proofs.Unique.{record-path}
 use Rattle.record.proofs.WrittenRecords.{reduced-back, reduced-held-same, reduced-passes, writtenRecord}
-use Rattle.record.specs.Lent.{codeNumbers, heldRecord, heldRows, neighbourWords}
+use Rattle.record.specs.Lent.{codeNumbers, heldRecord, heldRows, lentRecord, neighbourWords}
 use Rattle.record.specs.Reduced.{reduced}
 use Rattle.stabilizer.specs.Groups.{Proper}
 
@@ -27,11 +27,7 @@ module _ (n : ℕ) (R : ℕ → Pauli) (P : Proper n R) (positive : 1 ≤ n) (up
   are-written : recordIn words codes ≡ writtenRecord n (reduced n R)
   are-written =
       ap₂ recordIn e f
-      ∙ ap (λ m. record {
-        n = m;
-        neighbours = neighbourWords n (reduced n R);
-        codes = codeNumbers n (reduced n R);
-      }) (tabulate-length n _)
+      ∙ ap (λ m. lentRecord m (neighbourWords n (reduced n R)) (codeNumbers n (reduced n R))) (tabulate-length n _)
 
   pub buffers-unrefused : Unrefused (recordIn words codes)
   buffers-unrefused = subst Unrefused (sym are-written) (record { no-line = reduced-passes n R P positive upto })

@@ -17,7 +17,7 @@ use Rattle.buffers.proofs.Writing.{and-then, length-written}
 use Rattle.text.specs.internal.Text.{Printable}
 use Rattle.text.specs.Text.{recordText}
 use Rattle.buffers.specs.Writing.{Printed}
-use Rattle.operations.specs.Used.{UsedRecord, UsedUnrefused}
+use Rattle.operations.specs.Used.{UsedRecord, usedRecord, UsedUnrefused}
 use Rattle.call_run.specs.internal.LentRuns.{LentRun}
 use Rattle.jobs_replies.proofs.KeptResults.{lines-kept}
 use Rattle.jobs_replies.specs.internal.Room.{Fresh, resultIn}
@@ -45,16 +45,16 @@ fresh n count out positive upto few room =
 
 -- the record at the start
 module _ (n : ℕ) (nb cs : List ℕ) (count : ℕ) (kept before : List ℕ) (F : Fresh n nb cs count kept before) where
-  start : _≡_ {A = UsedRecord} (record { held = record { n = n; neighbours = nb; codes = cs }; used = 0 }) (started n)
-  start = λ i. record { held = record { n = n; neighbours = F .no-edge i; codes = F .eights i }; used = 0 }
+  start : _≡_ {A = UsedRecord} (usedRecord n nb cs 0) (started n)
+  start = λ i. usedRecord n (F .no-edge i) (F .eights i) 0
 
   -- no line refuses it
-  pub start-unrefused : UsedUnrefused (record { held = record { n = n; neighbours = nb; codes = cs }; used = 0 })
+  pub start-unrefused : UsedUnrefused (usedRecord n nb cs 0)
   start-unrefused = subst UsedUnrefused (sym start) (record { no-line = started-stands n (F .positive) (F .upto) .still })
 
 module _ (n : ℕ) (nb cs : List ℕ) (count : ℕ) (steps : List Step) (few : length steps ≡ count) (kept before : List ℕ)
     (F : Fresh n nb cs count kept before) (nb′ cs′ : List ℕ) (used′ : ℕ) (kept′ : List ℕ)
-    (R : LentRun (record { held = record { n = n; neighbours = nb; codes = cs }; used = 0 }) steps 0 kept nb′ cs′ used′
+    (R : LentRun (usedRecord n nb cs 0) steps 0 kept nb′ cs′ used′
     kept′) (out : List ℕ) (at : ℕ) (P : Printed (resultNames ++ resultLines count (resultIn kept′)) 0 before out at) where
   ran : LentRun (started n) steps 0 kept nb′ cs′ used′ kept′
   ran = subst (λ u. LentRun u steps 0 kept nb′ cs′ used′ kept′) (start n nb cs count kept before F) R

@@ -18,7 +18,7 @@ ghost use Rattle.jobs.specs.Answer.{ResponseTo, runText};
 ghost use Rattle.jobs.specs.Results.{resultLines, resultNames};
 ghost use Rattle.jobs.specs.internal.Scan.{asReading, empty, fed};
 ghost use Rattle.call_run.specs.internal.LentRuns.{LentRun};
-ghost use Rattle.operations.specs.Used.{UsedUnrefused};
+ghost use Rattle.operations.specs.Used.{usedRecord, UsedUnrefused};
 ghost use Rattle.jobs_replies.specs.internal.Room.{Fresh, resultIn};
 ghost use Rattle.jobs_replies.specs.Room.{linesRoom, longest};
 
@@ -48,14 +48,8 @@ fn run(
     count: usize,
     answers: &mut [u8],
 ) -> u64
-    requires { ⌜ (count ≤ 4096) × (count ≤ length (now answers)) × UsedUnrefused (record {
-      held = record { n = n; neighbours = now neighbours; codes = now codes };
-      used = 0;
-    }) ⌝ }
-    ensures { λ r. ⌜ LentRun (record {
-      held = record { n = n; neighbours = now (neighbours .entry); codes = now (codes .entry) };
-      used = 0;
-    }) (take count steps) 0 (now (answers .entry)) (now (neighbours .exit)) (now (codes .exit)) r
+    requires { ⌜ (count ≤ 4096) × (count ≤ length (now answers)) × UsedUnrefused (usedRecord n (now neighbours) (now codes) 0) ⌝ }
+    ensures { λ r. ⌜ LentRun (usedRecord n (now (neighbours .entry)) (now (codes .entry)) 0) (take count steps) 0 (now (answers .entry)) (now (neighbours .exit)) (now (codes .exit)) r
         (now (answers .exit)) ⌝ }
 {
     let used = run_steps(n, neighbours, codes, 0, steps, count, 0, answers);

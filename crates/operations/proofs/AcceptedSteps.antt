@@ -37,10 +37,11 @@ use Rattle.record.proofs.ReducedRecords.{record-proper, reduced-is}
 use Rattle.record.proofs.WrittenRecords.{record-passes, reduced-identity-above, writtenRecord}
 use Rattle.record.specs.Accepted.{AcceptedRecord}
 use Rattle.record.specs.Lent.{
-  LentRecord,
   codeNumbers,
   heldRecord,
   heldRows,
+  LentRecord,
+  lentRecord,
   neighbourWords,
   recordCodes,
   recordLines,
@@ -161,11 +162,7 @@ module _ (l : LentRecord) where
     -- the buffers hold what the operation makes
     pub after-made : leaves l o ≡ writtenRecord (l .n) (made l o)
     after-made =
-        ap (λ k. record {
-          n = l .n;
-          neighbours = accepted k (neighbourWords (l .n) (made l o)) (l .neighbours);
-          codes = accepted k (codeNumbers (l .n) (made l o)) (l .codes);
-        }) e
+        ap (λ k. lentRecord (l .n) (accepted k (neighbourWords (l .n) (made l o)) (l .neighbours)) (accepted k (codeNumbers (l .n) (made l o)) (l .codes))) e
 
     pub made-passes : firstFitting (recordLines (writtenRecord (l .n) (made l o)) false false) ≡ 0
     made-passes =

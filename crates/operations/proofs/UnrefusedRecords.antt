@@ -14,7 +14,7 @@ use Rattle.record.proofs.AcceptedRecords.{accepted-passes, accepted-record}
 use Rattle.record.proofs.Unique.{record-path}
 use Rattle.record.proofs.WrittenRecords.{record-back, record-passes, writtenRecord}
 use Rattle.record.specs.Accepted.{AcceptedRecord}
-use Rattle.record.specs.Lent.{codeNumbers, heldRecord, neighbourWords, recordLines}
+use Rattle.record.specs.Lent.{codeNumbers, heldRecord, lentRecord, neighbourWords, recordLines}
 use Rattle.record.specs.Records.{GraphRecord, complementRecord}
 use Rattle.words.proofs.Places.{other-place}
 use Rattle.operations.specs.internal.InPlace.{Rewritten, Unrefused, recordIn}
@@ -68,11 +68,7 @@ module _ (words codes : List ℕ) (U : Unrefused (recordIn words codes)) (f : Gr
   are-written : recordIn words′ codes′ ≡ writtenRecord (length words) new
   are-written =
       ap₂ recordIn (R .neighbours) (R .numbers)
-      ∙ ap (λ m. record {
-        n = m;
-        neighbours = neighbourWords (length words) new;
-        codes = codeNumbers (length words) new;
-      }) (tabulate-length (length words) _)
+      ∙ ap (λ m. lentRecord m (neighbourWords (length words) new) (codeNumbers (length words) new)) (tabulate-length (length words) _)
 
   pub rewritten-held : heldRecord (recordIn words′ codes′) ≡ f (heldRecord (recordIn words codes))
   rewritten-held = ap heldRecord are-written
@@ -92,10 +88,10 @@ copied-unrefused e U = subst Unrefused (sym (ap₂ recordIn (e .0) (e .1))) U
 
 -- the buffers of an accepted record, whose length is n
 pub accepted-unrefused : (n : ℕ) (words codes : List ℕ)
-    → AcceptedRecord (record { n = n; neighbours = words; codes = codes }) → Unrefused (recordIn words codes)
+    → AcceptedRecord (lentRecord n words codes) → Unrefused (recordIn words codes)
 accepted-unrefused n words codes A =
     record {
       no-line =
-          subst (λ m. firstFitting (recordLines (record { n = m; neighbours = words; codes = codes }) false false) ≡ 0)
+          subst (λ m. firstFitting (recordLines (lentRecord m words codes) false false) ≡ 0)
           (sym (A .neighbours-length)) (accepted-passes _ A);
     }

@@ -16,10 +16,10 @@ use Rattle.stabilizer.specs.Lists.{clashing, dependent}
 use Rattle.stabilizer.specs.Membership.{member}
 use Rattle.words.specs.Bits.{bit, fold, put, wordOf}
 use Rattle.words.specs.Search.{every, first, some}
-use Rattle.operations.specs.Used.{UsedRecord, usedStep, usedWrong}
+use Rattle.operations.specs.Used.{UsedRecord, usedRecord, usedStep, usedWrong}
 
 abbrev two : List ℕ → List ℕ → ℕ → UsedRecord
-two nb cs u = record { held = record { n = 2; neighbours = nb; codes = cs }; used = u }
+two nb cs u = usedRecord 2 nb cs u
 
 abbrev number : UsedRecord → Operation → ℕ
 number u o = (usedStep u o) .number

@@ -17,7 +17,7 @@ use Rattle.operations.specs.Steps.{
   measurementOf,
   pivotOf,
 }
-use Rattle.record.specs.Lent.{LentRecord, recordLines}
+use Rattle.record.specs.Lent.{LentRecord, lentRecord, recordLines}
 use Rattle.words.specs.Bits.{bit, isOdd, wordOf}
 use Rattle.words.specs.Search.{some}
 
@@ -25,6 +25,10 @@ use Rattle.words.specs.Search.{some}
 pub record UsedRecord : Type 0 where
   pub held : LentRecord
   pub used : ℕ
+
+-- the record that these four arguments of a call are
+abbrev pub usedRecord : ℕ → List ℕ → List ℕ → ℕ → UsedRecord
+usedRecord n neighbours codes used = record { held = lentRecord n neighbours codes; used = used }
 
 -- "its code is 0, 2, 4, 6, 8 or 10"
 abbrev pub usedCode : ℕ → Bool

@@ -15,7 +15,7 @@ use Rattle.record.specs.Accepted.{AcceptedRecord}
 use Rattle.record.specs.Lent.{heldRecord, notSimple, recordCodes, recordLengths, recordLines, recordStray}
 use Rattle.stabilizer.proofs.SharedTests.{counted}
 use Rattle.operations.proofs.UsedPassing.{lines-pass}
-use Rattle.operations.specs.Used.{UsedRecord, usedLines, usedStray, usedWrong}
+use Rattle.operations.specs.Used.{usedLines, UsedRecord, usedRecord, usedStray, usedWrong}
 use Rattle.words.proofs.Flags.{neither}
 
 -- a flag with two tests of other lines
@@ -83,10 +83,7 @@ module _ (u : UsedRecord) (others five six : Bool) (k : ℕ) (e : k ≡ firstFit
         used = u .used;
       })) where
         decided : {t : Bool} → b ≡ t → usedWrong u ≡ t
-        decided h = sym (w ∙ ap (λ m. usedWrong (record {
-          held = record { n = m; neighbours = u .held .neighbours; codes = u .held .codes };
-          used = u .used;
-        })) (held-accepted .neighbours-length)) ∙ h
+        decided h = sym (w ∙ ap (λ m. usedWrong (usedRecord m (u .held .neighbours) (u .held .codes) (u .used))) (held-accepted .neighbours-length)) ∙ h
 
         pub number-7 : b ≡ true → 7 ≡ firstFitting (usedLines u others five six)
         number-7 h = let n = none-holds (recordLines (u .held) others six) refl (sym e ∙ z) in

@@ -11,7 +11,7 @@ ghost use lib.ListN.{length};
 ghost use Rattle.buffers.specs.Refusals.{firstFitting};
 ghost use Rattle.operations.specs.internal.InPlace.{recordIn};
 ghost use Rattle.record_impl.specs.internal.Looks.{Looked};
-ghost use Rattle.operations.specs.Used.{usedCode, usedLines, usedWrong};
+ghost use Rattle.operations.specs.Used.{usedCode, usedLines, usedRecord, usedWrong};
 
 // Line 7 of a used vertex: it has a neighbour, or its code is none of 0, 2, 4, 6, 8 and 10.
 fn wrong_vertex(word: u64, code: u8) -> bool
@@ -55,10 +55,7 @@ pub fn used_number(
     six: bool,
 ) -> u8
     requires { ⌜ Looked looked (now codes) over ⌝ }
-    ensures { λ r. ⌜ r ≡ firstFitting (usedLines (record {
-      held = record { n = n; neighbours = now (neighbours .entry); codes = now (codes .entry) };
-      used = used;
-    }) others (leb (2 ^ n) word) six) ⌝ }
+    ensures { λ r. ⌜ r ≡ firstFitting (usedLines (usedRecord n (now (neighbours .entry)) (now (codes .entry)) used) others (leb (2 ^ n) word) six) ⌝ }
 {
     let number = record_number(n, neighbours, codes, others, looked, over, six);
     if number == 2 {
@@ -91,10 +88,7 @@ pub fn used_refusal(
     others: bool,
     six: bool,
 ) -> u8
-    ensures { λ r. ⌜ r ≡ firstFitting (usedLines (record {
-      held = record { n = n; neighbours = now (neighbours .entry); codes = now (codes .entry) };
-      used = used;
-    }) others (leb (2 ^ n) word) six) ⌝ }
+    ensures { λ r. ⌜ r ≡ firstFitting (usedLines (usedRecord n (now (neighbours .entry)) (now (codes .entry)) used) others (leb (2 ^ n) word) six) ⌝ }
 {
     used_number(n, neighbours, codes, used, word, others, false, false, six)
 }

@@ -23,10 +23,11 @@ use Rattle.record.proofs.ReducedRecords.{reduced-is, same-group}
 use Rattle.record.proofs.SimpleVerdict.{SimpleBelow}
 use Rattle.record.proofs.Unique.{record-path}
 use Rattle.record.specs.Lent.{
-  LentRecord,
   codeNumbers,
   heldRecord,
   heldRows,
+  LentRecord,
+  lentRecord,
   neighbourWords,
   recordLines,
 }
@@ -34,7 +35,7 @@ use Rattle.record.specs.Records.{GraphRecord, SameRecord, rowsOf}
 use Rattle.record.specs.Reduced.{reduced}
 
 abbrev pub writtenRecord : ℕ → GraphRecord → LentRecord
-writtenRecord n r = record { n = n; neighbours = neighbourWords n r; codes = codeNumbers n r }
+writtenRecord n r = lentRecord n (neighbourWords n r) (codeNumbers n r)
 
 module _ (n : ℕ) (r : GraphRecord) (S : Simple n (r .graph)) (above : (q : ℕ) → n ≤ q
     → r .codes q ≡ identityClifford)

@@ -19,6 +19,10 @@ pub record LentRecord : Type 0 where
   pub neighbours : List ℕ
   pub codes : List ℕ
 
+-- the record that these three arguments of a call are
+abbrev pub lentRecord : ℕ → List ℕ → List ℕ → LentRecord
+lentRecord n neighbours codes = record { n = n; neighbours = neighbours; codes = codes }
+
 -- what the buffers hold; no neighbour and code 0 at and above their length
 abbrev pub heldRecord : LentRecord → GraphRecord
 heldRecord l = record { graph = graphIn (l .neighbours); codes = codesOf (l .codes) }

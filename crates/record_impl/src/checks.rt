@@ -10,7 +10,7 @@ ghost use Prim.Native.Nat.{ℕ, _≤_};
 ghost use lib.Dec.{ltb};
 ghost use lib.ListN.{getD, length};
 ghost use Rattle.buffers.specs.Refusals.{firstFitting, reaching};
-ghost use Rattle.record.specs.Lent.{notSimple, recordLengths, recordLines};
+ghost use Rattle.record.specs.Lent.{lentRecord, notSimple, recordLengths, recordLines};
 ghost use Rattle.words.specs.Bits.{_⊕_, bit};
 ghost use Rattle.words.specs.Search.{some};
 ghost use Rattle.record_impl.specs.internal.Copies.{Copied};
@@ -18,11 +18,7 @@ ghost use Rattle.record_impl.specs.internal.Looks.{Looked};
 
 // Line 4: one of the two buffers does not have n places.
 fn record_lengths(n: usize, neighbours: &[u64], codes: &[u8]) -> bool
-    ensures { λ r. ⌜ r ≡ recordLengths (record {
-      n = n;
-      neighbours = now (neighbours .entry);
-      codes = now (codes .entry);
-    }) ⌝ }
+    ensures { λ r. ⌜ r ≡ recordLengths (lentRecord n (now (neighbours .entry)) (now (codes .entry))) ⌝ }
 {
     (neighbours.len() != n) | (codes.len() != n)
 }
@@ -96,11 +92,7 @@ pub fn record_number(
     six: bool,
 ) -> u8
     requires { ⌜ Looked looked (now codes) over ⌝ }
-    ensures { λ r. ⌜ r ≡ firstFitting (recordLines (record {
-      n = n;
-      neighbours = now (neighbours .entry);
-      codes = now (codes .entry);
-    }) others six) ⌝ }
+    ensures { λ r. ⌜ r ≡ firstFitting (recordLines (lentRecord n (now (neighbours .entry)) (now (codes .entry))) others six) ⌝ }
 {
     if bad_count(n) {
         return 2;
@@ -123,11 +115,7 @@ pub fn record_number(
 
 // The same, where the codes have not been looked at.
 pub fn record_refusal(n: u64, neighbours: &[u64], codes: &[u8], others: bool, six: bool) -> u8
-    ensures { λ r. ⌜ r ≡ firstFitting (recordLines (record {
-      n = n;
-      neighbours = now (neighbours .entry);
-      codes = now (codes .entry);
-    }) others six) ⌝ }
+    ensures { λ r. ⌜ r ≡ firstFitting (recordLines (lentRecord n (now (neighbours .entry)) (now (codes .entry))) others six) ⌝ }
 {
     record_number(n, neighbours, codes, others, false, false, six)
 }

@@ -20,7 +20,7 @@ use Rattle.record.specs.Lent.{recordCodes, recordLengths, recordLines}
 use Rattle.source.proofs.RenewedRecords.{renew-passes, renewed-passes}
 use Rattle.source.specs.Renewal.{renewLines, renewed, unmarked}
 use Rattle.operations.proofs.UsedPassing.{lines-pass}
-use Rattle.operations.specs.Used.{UsedRecord, usedCode, usedStray}
+use Rattle.operations.specs.Used.{usedCode, UsedRecord, usedRecord, usedStray}
 use Rattle.words.proofs.BitLaws.{bit-wordOf, word-cong}
 use Rattle.words.proofs.Finite.{bits}
 use Rattle.words.proofs.Flags.{neither}
@@ -109,10 +109,7 @@ module _ (s : Word) (u : UsedRecord) (q k : ℕ) (long : length (u .held .codes)
 
   -- of the vertices of a group that has the qubit: the renewal of them alone
   pub renewed-own : s q ≡ true → masked s (renewed u q k) ≡ renewed (masked s u) q k
-  renewed-own own = λ i. record {
-    held = record { n = n; neighbours = (masked s u) .held .neighbours; codes = codes i };
-    used = used i;
-  }
+  renewed-own own = λ i. usedRecord n ((masked s u) .held .neighbours) (codes i) (used i)
     where
       kept : List ℕ
       kept = (masked s u) .held .codes
@@ -138,10 +135,7 @@ module _ (s : Word) (u : UsedRecord) (q k : ℕ) (long : length (u .held .codes)
 
   -- of the other group's vertices: nothing changes
   pub renewed-other : s q ≡ false → masked s (renewed u q k) ≡ masked s u
-  renewed-other other = λ i. record {
-    held = record { n = n; neighbours = (masked s u) .held .neighbours; codes = codes i };
-    used = used i;
-  }
+  renewed-other other = λ i. usedRecord n ((masked s u) .held .neighbours) (codes i) (used i)
     where
       at : (t : ℕ) → Dec (t ≡ q) → cond (s t) (getD (set (u .held .codes) q k) t 0) 8 ≡ cond (s t) (getD (u .held .codes) t 0) 8
       at t (no d) = ap (λ c. cond (s t) c 8) (getD-set-other (u .held .codes) q t k 0 d)

@@ -6,7 +6,7 @@ use Prim.Native.Nat.{ℕ}
 use Rattle.buffers.specs.Refusals.{firstFitting, reaching}
 use Rattle.operations.specs.Measurement.{pauliLetter, single}
 use Rattle.record.specs.Lent.{notSimple}
-use Rattle.operations.specs.Used.{UsedRecord, usedWrong}
+use Rattle.operations.specs.Used.{UsedRecord, usedRecord, usedWrong}
 use Rattle.words.specs.Bits.{bit, wordOf}
 use Rattle.words.specs.Search.{some}
 use Rattle.source.specs.Renewal.{photon, renewLines, renewed}
@@ -19,7 +19,7 @@ photons = refl
 
 -- two qubits apart in -Z, of which qubit 0 is used
 abbrev measured : UsedRecord
-measured = record { held = record { n = 2; neighbours = 0 ∷ 0 ∷ []; codes = 10 ∷ 10 ∷ [] }; used = 1 }
+measured = usedRecord 2 (0 ∷ 0 ∷ []) (10 ∷ 10 ∷ []) 1
 
 abbrev left : UsedRecord → ℕ → ℕ → List ℕ
 left u q k = firstFitting (renewLines u q k) ∷ (renewed u q k) .used

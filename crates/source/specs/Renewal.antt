@@ -10,7 +10,7 @@ use Rattle.clifford.specs.Clifford.{cliffordOf, image}
 use Rattle.operations.specs.Measurement.{single}
 use Rattle.pauli.specs.Pauli.{Pauli, letterAt, mul}
 use Rattle.pauli.specs.declared.Letter.the-variants.{I, X}
-use Rattle.operations.specs.Used.{UsedRecord, usedCode, usedLines}
+use Rattle.operations.specs.Used.{usedCode, usedLines, UsedRecord, usedRecord}
 use Rattle.words.specs.Bits.{bit, wordOf}
 
 -- the Pauli of a photon at qubit q: X, sent through its code. Codes 0, 2, 4, 6, 8 and 10 give +X, -X, +Y, -Y, +Z and -Z
@@ -35,7 +35,4 @@ unmarked u q = wordOf (u .held .n) (λ t. bit (u .used) t && not (eqb t q))
 -- ".. its code is `code`, all else stays": the record after an accepted call
 abbrev pub renewed : UsedRecord → ℕ → ℕ → UsedRecord
 renewed u q k =
-    record {
-      held = record { n = u .held .n; neighbours = u .held .neighbours; codes = set (u .held .codes) q k };
-      used = unmarked u q;
-    }
+    usedRecord (u .held .n) (u .held .neighbours) (set (u .held .codes) q k) (unmarked u q)

@@ -6,7 +6,7 @@ use Prim.Native.Nat.{ℕ}
 use lib.ListN.{replicate}
 use Rattle.buffers.specs.Refusals.{firstFitting, reaching}
 use Rattle.record.specs.Lent.{notSimple}
-use Rattle.operations.specs.Used.{UsedRecord, usedWrong}
+use Rattle.operations.specs.Used.{UsedRecord, usedRecord, usedWrong}
 use Rattle.words.specs.Bits.{bit}
 use Rattle.words.specs.Search.{every, first, some}
 use Rattle.store.specs.Kept.{forgottenHeads, savePlace, saved}
@@ -15,11 +15,11 @@ use Rattle.store.specs.StoreLines.{namedLines, saveLines}
 
 -- one qubit with this code
 abbrev qubit : ℕ → UsedRecord
-qubit c = record { held = record { n = 1; neighbours = 0 ∷ []; codes = c ∷ [] }; used = 0 }
+qubit c = usedRecord 1 (0 ∷ []) (c ∷ []) 0
 
 -- an edge and a measured qubit
 abbrev three : UsedRecord
-three = record { held = record { n = 3; neighbours = 2 ∷ 1 ∷ 0 ∷ []; codes = 0 ∷ 8 ∷ 10 ∷ [] }; used = 4 }
+three = usedRecord 3 (2 ∷ 1 ∷ 0 ∷ []) (0 ∷ 8 ∷ 10 ∷ []) 4
 
 abbrev stored : List ℕ → Store
 stored heads = record { heads = heads; neighbours = replicate 512 0; codes = replicate 512 0 }

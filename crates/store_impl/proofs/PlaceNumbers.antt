@@ -16,7 +16,7 @@ use Rattle.stabilizer.proofs.SharedTests.{has-length}
 use Rattle.store.specs.Places.{Store, countAt}
 use Rattle.store.specs.StoreLines.{storeLengths}
 use Rattle.store.specs.internal.StoreNumbers.{largeCount, numberAt}
-use Rattle.operations.specs.Used.{usedLines}
+use Rattle.operations.specs.Used.{usedLines, usedRecord}
 use Rattle.words.proofs.Flags.{neither}
 use Rattle.words.proofs.SearchLaws.{some-false}
 
@@ -63,10 +63,7 @@ module _ (k : ℕ) (st : Store) where
     pub place-passed : (n used : ℕ) (nb cs : List ℕ) → i < k → n ≤ 64 → n ≡ countAt (st .heads) i
         → used ≡ getD (st .heads) (3 * i + 2) 0
         → nb ≡ take 64 (drop (64 * i) (st .neighbours)) → cs ≡ take 64 (drop (64 * i) (st .codes))
-        → (here : ℕ) → here ≡ cond (not (eqb n 0)) (firstFitting (usedLines (record {
-          held = record { n = n; neighbours = take n nb; codes = take n cs };
-          used = used;
-        }) false false false)) 0
+        → (here : ℕ) → here ≡ cond (not (eqb n 0)) (firstFitting (usedLines (usedRecord n (take n nb) (take n cs) used) false false false)) 0
         → (next : ℕ) → next ≡ earlierOf number here → Passed k st next (i + 1)
     unfolding earliestOf
     place-passed n used nb cs l small en eu enb ecs here eh next e =
@@ -76,10 +73,7 @@ module _ (k : ℕ) (st : Store) where
         }
       where
         at : ℕ → ℕ → List ℕ → List ℕ → ℕ
-        at m u ws bs = cond (not (eqb m 0)) (firstFitting (usedLines (record {
-          held = record { n = m; neighbours = ws; codes = bs };
-          used = u;
-        }) false false false)) 0
+        at m u ws bs = cond (not (eqb m 0)) (firstFitting (usedLines (usedRecord m ws bs u) false false false)) 0
 
         is-number : here ≡ numberAt st i
         is-number =

@@ -1,6 +1,7 @@
 // The amplitudes of a record, as C sees them.
 ghost use Rattle.calls.specs.Amplitudes.{amplitudeCall};
 ghost use Rattle.buffers.specs.Calls.{Call};
+ghost use Rattle.operations.specs.Used.{usedRecord};
 
 // The amplitude at y over that at the smallest word with a nonzero amplitude, as real and imaginary part, and the
 // probability of y, as the bits of three floats, which C declares as floats.
@@ -15,10 +16,7 @@ pub extern "C" fn sukhlent_amplitude(
     im: &mut u64,
     p: &mut u64,
 ) -> u8
-    ensures { λ r. ⌜ Call (amplitudeCall (record {
-      held = record { n = n; neighbours = now (neighbours .entry); codes = now (codes .entry) };
-      used = used;
-    }) y (now (re .entry)) (now (im .entry)) (now (p .entry)) (now (re .exit)) (now (im .exit)) (now (p .exit))) r ⌝ }
+    ensures { λ r. ⌜ Call (amplitudeCall (usedRecord n (now (neighbours .entry)) (now (codes .entry)) used) y (now (re .entry)) (now (im .entry)) (now (p .entry)) (now (re .exit)) (now (im .exit)) (now (p .exit))) r ⌝ }
 {
     call_readings::amplitudes::amplitude(n, neighbours, codes, used, y, re, im, p)
 }

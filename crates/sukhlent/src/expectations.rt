@@ -1,6 +1,7 @@
 // The value of a Pauli row, as C sees it.
 ghost use Rattle.calls.specs.Expectations.{expectationCall};
 ghost use Rattle.buffers.specs.Calls.{Call};
+ghost use Rattle.operations.specs.Used.{usedRecord};
 
 // 0 where the row is in the record's group, 1 where its negative is, 2 where neither is.
 #[no_mangle]
@@ -14,10 +15,7 @@ pub extern "C" fn sukhlent_expectation(
     value: &mut u8,
 ) -> u8
     ensures { λ r. ⌜ Call (expectationCall
-        (record {
-          held = record { n = n; neighbours = now (neighbours .entry); codes = now (codes .entry) };
-          used = used;
-        }) z x
+        (usedRecord n (now (neighbours .entry)) (now (codes .entry)) used) z x
         (now (value .entry)) (now (value .exit))) r ⌝ }
 {
     call_readings::expectations::expectation(n, neighbours, codes, used, z, x, value)

@@ -3,6 +3,7 @@ ghost use Rattle.calls.specs.GroupStores.{groupForgetCall, groupReturnCall, gro
 ghost use Rattle.calls.specs.Groups.{groupCall, groupMeasureCall};
 ghost use Rattle.buffers.specs.Calls.{Call};
 ghost use Rattle.operations.specs.Steps.{complementOf, czOn, gateWith};
+ghost use Rattle.operations.specs.Used.{usedRecord};
 
 // A group's gate: the group's vertices reduced, the others as they were.
 #[no_mangle]
@@ -17,10 +18,7 @@ pub extern "C" fn sukhlent_group_gate(
     code: u8,
 ) -> u8
     ensures { λ r. ⌜ Call (groupCall word group
-        (record {
-          held = record { n = n; neighbours = now (neighbours .entry); codes = now (codes .entry) };
-          used = used;
-        })
+        (usedRecord n (now (neighbours .entry)) (now (codes .entry)) used)
         (gateWith qubit code) (now (neighbours .exit)) (now (codes .exit))) r ⌝ }
 {
     call_groups::gate(n, word, group, neighbours, codes, used, qubit, code)
@@ -39,10 +37,7 @@ pub extern "C" fn sukhlent_group_cz(
     b: u64,
 ) -> u8
     ensures { λ r. ⌜ Call (groupCall word group
-        (record {
-          held = record { n = n; neighbours = now (neighbours .entry); codes = now (codes .entry) };
-          used = used;
-        })
+        (usedRecord n (now (neighbours .entry)) (now (codes .entry)) used)
         (czOn a b) (now (neighbours .exit)) (now (codes .exit))) r ⌝ }
 {
     call_groups::cz(n, word, group, neighbours, codes, used, a, b)
@@ -64,10 +59,7 @@ pub extern "C" fn sukhlent_group_measure(
     determined: &mut u8,
 ) -> u8
     ensures { λ r. ⌜ Call (groupMeasureCall word group
-        (record {
-          held = record { n = n; neighbours = now (neighbours .entry); codes = now (codes .entry) };
-          used = now (used .entry);
-        })
+        (usedRecord n (now (neighbours .entry)) (now (codes .entry)) (now (used .entry)))
         pauli qubit outcome (now (answer .entry)) (now (determined .entry))
         (now (neighbours .exit)) (now (codes .exit)) (now (used .exit)) (now (answer .exit))
         (now (determined .exit))) r ⌝ }
@@ -99,10 +91,7 @@ pub extern "C" fn sukhlent_group_complement(
     a: u64,
 ) -> u8
     ensures { λ r. ⌜ Call (groupCall word group
-        (record {
-          held = record { n = n; neighbours = now (neighbours .entry); codes = now (codes .entry) };
-          used = used;
-        })
+        (usedRecord n (now (neighbours .entry)) (now (codes .entry)) used)
         (complementOf a) (now (neighbours .exit)) (now (codes .exit))) r ⌝ }
 {
     call_groups::complement(n, word, group, neighbours, codes, used, a)
@@ -122,10 +111,7 @@ pub extern "C" fn sukhlent_group_save(
     held_neighbours: &mut [u64],
     held_codes: &mut [u8],
 ) -> u8
-    ensures { λ r. ⌜ Call (groupSaveCall word group (record {
-      held = record { n = n; neighbours = now (neighbours .entry); codes = now (codes .entry) };
-      used = used;
-    }) name (record {
+    ensures { λ r. ⌜ Call (groupSaveCall word group (usedRecord n (now (neighbours .entry)) (now (codes .entry)) used) name (record {
       heads = now (heads .entry);
       neighbours = now («held_neighbours» .entry);
       codes = now («held_codes» .entry);
@@ -159,10 +145,7 @@ pub extern "C" fn sukhlent_group_return(
     held_neighbours: &[u64],
     held_codes: &[u8],
 ) -> u8
-    ensures { λ r. ⌜ Call (groupReturnCall word group (record {
-      held = record { n = n; neighbours = now (neighbours .entry); codes = now (codes .entry) };
-      used = now (used .entry);
-    }) name (record {
+    ensures { λ r. ⌜ Call (groupReturnCall word group (usedRecord n (now (neighbours .entry)) (now (codes .entry)) (now (used .entry))) name (record {
       heads = now (heads .entry);
       neighbours = now («held_neighbours» .entry);
       codes = now («held_codes» .entry);
@@ -196,10 +179,7 @@ pub extern "C" fn sukhlent_group_forget(
     held_neighbours: &[u64],
     held_codes: &[u8],
 ) -> u8
-    ensures { λ r. ⌜ Call (groupForgetCall word group (record {
-      held = record { n = n; neighbours = now (neighbours .entry); codes = now (codes .entry) };
-      used = used;
-    }) name (record {
+    ensures { λ r. ⌜ Call (groupForgetCall word group (usedRecord n (now (neighbours .entry)) (now (codes .entry)) used) name (record {
       heads = now (heads .entry);
       neighbours = now («held_neighbours» .entry);
       codes = now («held_codes» .entry);

@@ -5,6 +5,8 @@ ghost use Rattle.calls.specs.InPlace.{usedCall, usedMeasureCall};
 ghost use Rattle.calls.specs.Images.{imageCall};
 ghost use Rattle.buffers.specs.Calls.{Call};
 ghost use Rattle.operations.specs.Steps.{complementOf, czOn, gateWith};
+ghost use Rattle.record.specs.Lent.{lentRecord};
+ghost use Rattle.operations.specs.Used.{usedRecord};
 
 // The generators of a record, in order.
 #[no_mangle]
@@ -18,10 +20,7 @@ pub extern "C" fn sukhlent_expand(
     x: &mut [u64],
 ) -> u8
     ensures { λ r. ⌜ Call (expandCall
-        (record {
-          held = record { n = n; neighbours = now (neighbours .entry); codes = now (codes .entry) };
-          used = used;
-        })
+        (usedRecord n (now (neighbours .entry)) (now (codes .entry)) used)
         (now (signs .entry)) (now (z .entry)) (now (x .entry))
         (now (signs .exit)) (now (z .exit)) (now (x .exit))) r ⌝ }
 {
@@ -39,10 +38,7 @@ pub extern "C" fn sukhlent_gate(
     code: u8,
 ) -> u8
     ensures { λ r. ⌜ Call (usedCall
-        (record {
-          held = record { n = n; neighbours = now (neighbours .entry); codes = now (codes .entry) };
-          used = used;
-        })
+        (usedRecord n (now (neighbours .entry)) (now (codes .entry)) used)
         (gateWith qubit code) (now (neighbours .exit)) (now (codes .exit))) r ⌝ }
 {
     call_gates::gate(n, neighbours, codes, used, qubit, code)
@@ -59,10 +55,7 @@ pub extern "C" fn sukhlent_cz(
     b: u64,
 ) -> u8
     ensures { λ r. ⌜ Call (usedCall
-        (record {
-          held = record { n = n; neighbours = now (neighbours .entry); codes = now (codes .entry) };
-          used = used;
-        })
+        (usedRecord n (now (neighbours .entry)) (now (codes .entry)) used)
         (czOn a b) (now (neighbours .exit)) (now (codes .exit))) r ⌝ }
 {
     call_gates::cz(n, neighbours, codes, used, a, b)
@@ -82,10 +75,7 @@ pub extern "C" fn sukhlent_measure(
     determined: &mut u8,
 ) -> u8
     ensures { λ r. ⌜ Call (usedMeasureCall
-        (record {
-          held = record { n = n; neighbours = now (neighbours .entry); codes = now (codes .entry) };
-          used = now (used .entry);
-        })
+        (usedRecord n (now (neighbours .entry)) (now (codes .entry)) (now (used .entry)))
         pauli qubit outcome (now (answer .entry)) (now (determined .entry))
         (now (neighbours .exit)) (now (codes .exit)) (now (used .exit)) (now (answer .exit))
         (now (determined .exit))) r ⌝ }
@@ -113,10 +103,7 @@ pub extern "C" fn sukhlent_complement(
     a: u64,
 ) -> u8
     ensures { λ r. ⌜ Call (usedCall
-        (record {
-          held = record { n = n; neighbours = now (neighbours .entry); codes = now (codes .entry) };
-          used = used;
-        })
+        (usedRecord n (now (neighbours .entry)) (now (codes .entry)) used)
         (complementOf a) (now (neighbours .exit)) (now (codes .exit))) r ⌝ }
 {
     call_gates::complement::complement(n, neighbours, codes, used, a)
@@ -134,7 +121,7 @@ pub extern "C" fn sukhlent_image(
     count: &mut u64,
 ) -> u8
     ensures { λ r. ⌜ Call (imageCall
-        (record { n = n; neighbours = now (neighbours .entry); codes = now (codes .entry) })
+        (lentRecord n (now (neighbours .entry)) (now (codes .entry)))
         (now (image .entry)) (now (signs .entry)) (now (list .entry)) (now (count .entry))
         (now (image .exit)) (now (signs .exit)) (now (list .exit)) (now (count .exit))) r ⌝ }
 {
@@ -152,10 +139,7 @@ pub extern "C" fn sukhlent_cut(
     rank: &mut u64,
 ) -> u8
     ensures { λ r. ⌜ Call (cutCall
-        (record {
-          held = record { n = n; neighbours = now (neighbours .entry); codes = now (codes .entry) };
-          used = used;
-        }) side
+        (usedRecord n (now (neighbours .entry)) (now (codes .entry)) used) side
         (now (rank .entry)) (now (rank .exit))) r ⌝ }
 {
     call_readings::cuts::cut(n, neighbours, codes, used, side, rank)

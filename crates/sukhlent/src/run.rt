@@ -1,6 +1,7 @@
 // Many steps in one call, as C sees it.
 ghost use Rattle.calls.specs.Runs.{runCall};
 ghost use Rattle.buffers.specs.Calls.{Call};
+ghost use Rattle.operations.specs.Used.{usedRecord};
 
 // Steps on a record in place, one after the other, and what each answers.
 #[no_mangle]
@@ -17,10 +18,7 @@ pub extern "C" fn sukhlent_run(
     outcomes: &mut [u8],
     determined: &mut [u8],
 ) -> u8
-    ensures { λ r. ⌜ Call (runCall (record {
-      held = record { n = n; neighbours = now (neighbours .entry); codes = now (codes .entry) };
-      used = now (used .entry);
-    }) (record {
+    ensures { λ r. ⌜ Call (runCall (usedRecord n (now (neighbours .entry)) (now (codes .entry)) (now (used .entry))) (record {
       ops = now (ops .entry);
       a = now (a .entry);
       b = now (b .entry);

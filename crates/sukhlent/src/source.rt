@@ -2,6 +2,7 @@
 // record and of a group.
 ghost use Rattle.calls.specs.Sources.{groupObserveCall, groupRenewCall, observeCall, renewCall};
 ghost use Rattle.buffers.specs.Calls.{Call};
+ghost use Rattle.operations.specs.Used.{usedRecord};
 
 // A Pauli measured at a qubit, with a bit by lot: the outcome, whether it was determined, and the reduced record.
 #[no_mangle]
@@ -17,10 +18,7 @@ pub extern "C" fn sukhlent_observe(
     determined: &mut u8,
 ) -> u8
     ensures { λ r. ⌜ Call (observeCall
-        (record {
-          held = record { n = n; neighbours = now (neighbours .entry); codes = now (codes .entry) };
-          used = now (used .entry);
-        })
+        (usedRecord n (now (neighbours .entry)) (now (codes .entry)) (now (used .entry)))
         pauli qubit bit (now (answer .entry)) (now (determined .entry))
         (now (neighbours .exit)) (now (codes .exit)) (now (used .exit)) (now (answer .exit))
         (now (determined .exit))) r ⌝ }
@@ -49,10 +47,7 @@ pub extern "C" fn sukhlent_renew(
     code: u8,
 ) -> u8
     ensures { λ r. ⌜ Call (renewCall
-        (record {
-          held = record { n = n; neighbours = now (neighbours .entry); codes = now (codes .entry) };
-          used = now (used .entry);
-        })
+        (usedRecord n (now (neighbours .entry)) (now (codes .entry)) (now (used .entry)))
         qubit code (now (neighbours .exit)) (now (codes .exit)) (now (used .exit))) r ⌝ }
 {
     call_source::renew(n, neighbours, codes, used, qubit, code)
@@ -74,10 +69,7 @@ pub extern "C" fn sukhlent_group_observe(
     determined: &mut u8,
 ) -> u8
     ensures { λ r. ⌜ Call (groupObserveCall word group
-        (record {
-          held = record { n = n; neighbours = now (neighbours .entry); codes = now (codes .entry) };
-          used = now (used .entry);
-        })
+        (usedRecord n (now (neighbours .entry)) (now (codes .entry)) (now (used .entry)))
         pauli qubit bit (now (answer .entry)) (now (determined .entry))
         (now (neighbours .exit)) (now (codes .exit)) (now (used .exit)) (now (answer .exit))
         (now (determined .exit))) r ⌝ }
@@ -110,10 +102,7 @@ pub extern "C" fn sukhlent_group_renew(
     code: u8,
 ) -> u8
     ensures { λ r. ⌜ Call (groupRenewCall word group
-        (record {
-          held = record { n = n; neighbours = now (neighbours .entry); codes = now (codes .entry) };
-          used = now (used .entry);
-        })
+        (usedRecord n (now (neighbours .entry)) (now (codes .entry)) (now (used .entry)))
         qubit code (now (neighbours .exit)) (now (codes .exit)) (now (used .exit))) r ⌝ }
 {
     call_groups::source_calls::renew(n, word, group, neighbours, codes, used, qubit, code)

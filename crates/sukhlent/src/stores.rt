@@ -1,6 +1,7 @@
 // Named states, as C sees them: a store of eight places in three lent buffers.
 ghost use Rattle.calls.specs.Stores.{forgetCall, returnCall, saveCall};
 ghost use Rattle.buffers.specs.Calls.{Call};
+ghost use Rattle.operations.specs.Used.{usedRecord};
 
 // The record saved under the name: at its place, else at the smallest free one.
 #[no_mangle]
@@ -14,10 +15,7 @@ pub extern "C" fn sukhlent_save(
     held_neighbours: &mut [u64],
     held_codes: &mut [u8],
 ) -> u8
-    ensures { λ r. ⌜ Call (saveCall (record {
-      held = record { n = n; neighbours = now (neighbours .entry); codes = now (codes .entry) };
-      used = used;
-    }) name (record {
+    ensures { λ r. ⌜ Call (saveCall (usedRecord n (now (neighbours .entry)) (now (codes .entry)) used) name (record {
       heads = now (heads .entry);
       neighbours = now («held_neighbours» .entry);
       codes = now («held_codes» .entry);

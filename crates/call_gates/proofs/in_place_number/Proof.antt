@@ -2,7 +2,7 @@
 -- does, then 16 where `sixteen` does; `six`: line 6 holds of a further argument; `known`: no line of the record alone
 -- holds.
 use borrow.Author.Needs.{needs}
-use Rattle.operations.specs.Used.{UsedRecord}
+use Rattle.operations.specs.Used.{UsedRecord, usedRecord}
 use Rattle.calls.proofs.UsedInPlace.{record-refused, then-0, then-16, then-8}
 use Rattle.call_gates.proofs.in_place_number.Statement.{statement}
 use Rattle.call_gates.proofs.in_place_number.Tie as tie
@@ -10,10 +10,7 @@ use Rattle.call_gates.proofs.in_place_number.Tie as tie
 -- the record that is lent
 abbrev lent : tie.Start → UsedRecord
 lent S =
-    record {
-      held = record { n = S .args .n; neighbours = S .args .neighbours .now; codes = S .args .codes .now };
-      used = S .args .used;
-    }
+    usedRecord (S .args .n) (S .args .neighbours .now) (S .args .codes .now) (S .args .used)
 
 returns : tie.Need-returns
 returns c =

@@ -3,7 +3,7 @@
 use mathlib.Core.Bool.{false}
 use mathlib.Core.Path.{_∙_}
 use borrow.Author.Needs.{needs}
-use Rattle.operations.specs.Used.{UsedRecord}
+use Rattle.operations.specs.Used.{UsedRecord, usedRecord}
 use Rattle.operations_checks.proofs.UsedNumbers.{no-further}
 use Rattle.call_gates.proofs.KnownRecords.{known-true, six-alone}
 use Rattle.call_gates.proofs.known_number.Statement.{statement}
@@ -12,10 +12,7 @@ use Rattle.call_gates.proofs.known_number.Tie as tie
 -- the record that is lent
 abbrev lent : tie.Start → UsedRecord
 lent S =
-    record {
-      held = record { n = S .args .n; neighbours = S .args .neighbours .now; codes = S .args .codes .now };
-      used = S .args .used;
-    }
+    usedRecord (S .args .n) (S .args .neighbours .now) (S .args .codes .now) (S .args .used)
 
 returns : tie.Need-returns
 returns c =

@@ -4,7 +4,7 @@ use mathlib.Core.Path.{_∙_}
 use borrow.Author.Needs.{needs}
 use Rattle.groups.specs.internal.Apart.{complement-op}
 use Rattle.operations.specs.Steps.{Operation, complementOf}
-use Rattle.operations.specs.Used.{UsedRecord}
+use Rattle.operations.specs.Used.{UsedRecord, usedRecord}
 use Rattle.call_groups.proofs.GroupCalls.{copied-whole, copy-unrefused, group-done, group-refused, lent-64}
 use Rattle.call_groups.proofs.complement_within.Statement.{statement}
 use Rattle.call_groups.proofs.complement_within.Tie as tie
@@ -12,10 +12,7 @@ use Rattle.call_groups.proofs.complement_within.Tie as tie
 -- the record that is lent
 abbrev lent : tie.Start → UsedRecord
 lent S =
-    record {
-      held = record { n = S .args .n; neighbours = S .args .neighbours .now; codes = S .args .codes .now };
-      used = S .args .used;
-    }
+    usedRecord (S .args .n) (S .args .neighbours .now) (S .args .codes .now) (S .args .used)
 
 abbrev asked : tie.Start → Operation
 asked S = complementOf (S .args .a)

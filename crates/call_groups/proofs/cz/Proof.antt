@@ -8,7 +8,7 @@ use Rattle.groups.specs.GroupLines.{namesOther}
 use Rattle.groups.specs.Masks.{inGroup}
 use Rattle.groups.specs.internal.Apart.{cz-op}
 use Rattle.operations.specs.Steps.{Operation, czOn}
-use Rattle.operations.specs.Used.{UsedRecord}
+use Rattle.operations.specs.Used.{UsedRecord, usedRecord}
 use Rattle.groups_impl.proofs.EarlyNumbers.{early-admitted, early-refused, other-as}
 use Rattle.groups_impl.specs.internal.BeforeEight.{beforeEight, sixOf}
 use Rattle.call_groups.proofs.cz.Statement.{statement}
@@ -17,10 +17,7 @@ use Rattle.call_groups.proofs.cz.Tie as tie
 -- the record that is lent
 abbrev lent : tie.Start → UsedRecord
 lent S =
-    record {
-      held = record { n = S .args .n; neighbours = S .args .neighbours .now; codes = S .args .codes .now };
-      used = S .args .used;
-    }
+    usedRecord (S .args .n) (S .args .neighbours .now) (S .args .codes .now) (S .args .used)
 
 abbrev asked : tie.Start → Operation
 asked S = czOn (S .args .a) (S .args .b)

@@ -7,7 +7,7 @@ use Rattle.groups.specs.GroupLines.{namesOther}
 use Rattle.groups.specs.Masks.{inGroup}
 use Rattle.groups.specs.internal.Apart.{gate-op}
 use Rattle.operations.specs.Steps.{Operation, gateWith}
-use Rattle.operations.specs.Used.{UsedRecord}
+use Rattle.operations.specs.Used.{UsedRecord, usedRecord}
 use Rattle.groups_impl.proofs.EarlyNumbers.{early-admitted, early-refused, other-as}
 use Rattle.groups_impl.specs.internal.BeforeEight.{beforeEight, sixOf}
 use Rattle.call_groups.proofs.gate.Statement.{statement}
@@ -16,10 +16,7 @@ use Rattle.call_groups.proofs.gate.Tie as tie
 -- the record that is lent
 abbrev lent : tie.Start → UsedRecord
 lent S =
-    record {
-      held = record { n = S .args .n; neighbours = S .args .neighbours .now; codes = S .args .codes .now };
-      used = S .args .used;
-    }
+    usedRecord (S .args .n) (S .args .neighbours .now) (S .args .codes .now) (S .args .used)
 
 abbrev asked : tie.Start → Operation
 asked S = gateWith (S .args .qubit) (S .args .code)

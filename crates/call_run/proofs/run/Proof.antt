@@ -3,7 +3,7 @@ use mathlib.Core.Path.{_∙_, _≡_, sym}
 use native.Mathlib.Nat.{le-of-eq, le-refl}
 use lib.ListN.{length}
 use borrow.Author.Needs.{needs}
-use Rattle.operations.specs.Used.{UsedRecord}
+use Rattle.operations.specs.Used.{UsedRecord, usedRecord}
 use Rattle.call_run.proofs.RunAnswers.{Ready, run-accepted, run-ready, run-refused}
 use Rattle.calls.specs.Runs.{LentSteps}
 use Rattle.call_run.proofs.run.Statement.{statement}
@@ -12,10 +12,7 @@ use Rattle.call_run.proofs.run.Tie as tie
 -- the record and the steps that are lent
 abbrev lent : tie.Start → UsedRecord
 lent S =
-    record {
-      held = record { n = S .args .n; neighbours = S .args .neighbours .now; codes = S .args .codes .now };
-      used = S .args .used .now;
-    }
+    usedRecord (S .args .n) (S .args .neighbours .now) (S .args .codes .now) (S .args .used .now)
 
 abbrev steps : tie.Start → LentSteps
 steps S =

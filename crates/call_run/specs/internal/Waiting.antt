@@ -8,18 +8,14 @@ use Rattle.calls.specs.InPlace.{usedCall, usedMeasureCall}
 use Rattle.buffers.specs.Calls.{Call}
 use Rattle.operations.specs.Steps.{Operation}
 use Rattle.operations.specs.internal.InPlace.{Unrefused}
-use Rattle.record.specs.Lent.{LentRecord, codeNumbers, heldRows, neighbourWords}
+use Rattle.record.specs.Lent.{codeNumbers, heldRows, LentRecord, lentRecord, neighbourWords}
 use Rattle.record.specs.Reduced.{reduced}
 use Rattle.operations.specs.Used.{UsedRecord, UsedUnrefused}
 
 -- the record that is meant: where one is waiting to be reduced, the reduced record of its group
 abbrev pub meantRecord : Bool → LentRecord → LentRecord
 meantRecord waiting l =
-    record {
-      n = l .n;
-      neighbours = cond waiting (neighbourWords (l .n) (reduced (l .n) (heldRows l))) (l .neighbours);
-      codes = cond waiting (codeNumbers (l .n) (reduced (l .n) (heldRows l))) (l .codes);
-    }
+    lentRecord (l .n) (cond waiting (neighbourWords (l .n) (reduced (l .n) (heldRows l))) (l .neighbours)) (cond waiting (codeNumbers (l .n) (reduced (l .n) (heldRows l))) (l .codes))
 
 -- with its used word
 abbrev pub meant : Bool → UsedRecord → UsedRecord
@@ -32,7 +28,7 @@ pub record Standing (waiting : Bool) (u : UsedRecord) : Type 0 where
 
 -- two buffers of a record on as many qubits
 abbrev pub heldIn : UsedRecord → List ℕ → List ℕ → LentRecord
-heldIn u words codes = record { n = u .held .n; neighbours = words; codes = codes }
+heldIn u words codes = lentRecord (u .held .n) words codes
 
 -- it waits after a gate, a CZ or a measurement that is accepted
 abbrev pub thenWaiting : ℕ → Bool → Bool

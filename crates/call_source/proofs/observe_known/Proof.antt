@@ -10,17 +10,14 @@ use Rattle.calls.proofs.MeasureLines.{arguments-before}
 use Rattle.calls.proofs.SourceCalls.{observe-done}
 use Rattle.buffers.proofs.Calling.{refused}
 use Rattle.operations.specs.Steps.{argumentLines}
-use Rattle.operations.specs.Used.{UsedRecord}
+use Rattle.operations.specs.Used.{UsedRecord, usedRecord}
 use Rattle.call_source.proofs.observe_known.Statement.{statement}
 use Rattle.call_source.proofs.observe_known.Tie as tie
 
 -- the record that is lent
 abbrev lent : tie.Start → UsedRecord
 lent S =
-    record {
-      held = record { n = S .args .n; neighbours = S .args .neighbours .now; codes = S .args .codes .now };
-      used = S .args .used .now;
-    }
+    usedRecord (S .args .n) (S .args .neighbours .now) (S .args .codes .now) (S .args .used .now)
 
 -- accepted, no line of the arguments held without the used word
 before : (D : tie.Else1) → let S = D .before .before .before .before .before .before .before in

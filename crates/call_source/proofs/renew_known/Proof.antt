@@ -10,17 +10,14 @@ use Rattle.calls.proofs.SourceCalls.{renew-0, renew-20, renew-8, renew-done, re
 use Rattle.buffers.proofs.Calling.{refused}
 use Rattle.source.proofs.RenewedRecords.{renew-passes}
 use Rattle.source.specs.Renewal.{renewLines}
-use Rattle.operations.specs.Used.{UsedRecord, usedCode, usedLines}
+use Rattle.operations.specs.Used.{usedCode, usedLines, UsedRecord, usedRecord}
 use Rattle.call_source.proofs.renew_known.Statement.{statement}
 use Rattle.call_source.proofs.renew_known.Tie as tie
 
 -- the record that is lent
 abbrev lent : tie.Start → UsedRecord
 lent S =
-    record {
-      held = record { n = S .args .n; neighbours = S .args .neighbours .now; codes = S .args .codes .now };
-      used = S .args .used .now;
-    }
+    usedRecord (S .args .n) (S .args .neighbours .now) (S .args .codes .now) (S .args .used .now)
 
 abbrev at : tie.After-known-refusal → tie.Start
 at E = E .before .before .before .before .before .before .before

@@ -3,7 +3,7 @@ use mathlib.Core.Path.{_∙_, ap}
 use borrow.Author.Needs.{needs}
 use Rattle.store.specs.Kept.{headed, placedAt}
 use Rattle.store.specs.Places.{Store}
-use Rattle.operations.specs.Used.{UsedRecord}
+use Rattle.operations.specs.Used.{UsedRecord, usedRecord}
 use Rattle.call_store.proofs.Saving.{head-fits, record-fits, save-done, save-full, save-refused}
 use Rattle.call_store.proofs.save.Statement.{statement}
 use Rattle.call_store.proofs.save.Tie as tie
@@ -11,10 +11,7 @@ use Rattle.call_store.proofs.save.Tie as tie
 -- the record that is lent
 abbrev lent : tie.Start → UsedRecord
 lent S =
-    record {
-      held = record { n = S .args .n; neighbours = S .args .neighbours .now; codes = S .args .codes .now };
-      used = S .args .used;
-    }
+    usedRecord (S .args .n) (S .args .neighbours .now) (S .args .codes .now) (S .args .used)
 
 -- the store that is lent
 abbrev store : tie.Start → Store

@@ -2,6 +2,7 @@
 use borrow.Author.Needs.{needs}
 use Rattle.call_store.proofs.Saving.{save-number}
 use Rattle.call_store.proofs.save_refusal.Statement.{statement}
+use Rattle.operations.specs.Used.{usedRecord}
 use Rattle.call_store.proofs.save_refusal.Tie as tie
 
 returns : tie.Need-returns
@@ -9,10 +10,7 @@ returns c =
     let T = c .before in
     let U = T .before in
     let S = U .before .before .before .before .before .before in
-    save-number (record {
-      held = record { n = S .args .n; neighbours = S .args .neighbours .now; codes = S .args .codes .now };
-      used = S .args .used;
-    }) (record {
+    save-number (usedRecord (S .args .n) (S .args .neighbours .now) (S .args .codes .now) (S .args .used)) (record {
       heads = S .args .heads .now;
       neighbours = S .args .held-neighbours .now;
       codes = S .args .held-codes .now;

@@ -8,7 +8,7 @@ use lib.ListN.{getD}
 use Rattle.calls.specs.Lists.{checkCall, reduceUnusedCall}
 use Rattle.calls.specs.Products.{productCall}
 use Rattle.calls.specs.Strings.{readStringsCall, writeStringsCall}
-use Rattle.record.specs.Lent.{heldRows}
+use Rattle.record.specs.Lent.{heldRows, lentRecord}
 use Rattle.stabilizer.specs.Groups.{SameGroup}
 use Rattle.stabilizer.specs.Lists.{GeneratorList, rows}
 use Rattle.claims.specs.Arguments.{IsList}
@@ -35,8 +35,8 @@ pub record ReduceSays (l : GeneratorList) (nb cs : List ℕ) (used : ℕ) (nb′
   pub accepted : (r ≡ 0) ↔ ReduceFits l nb cs
   pub numbers : FirstTrue (reduceSentences l nb cs) r
   pub group : r ≡ 0 →
-      SameGroup (l .n) (l .n) (rows l) (heldRows (record { n = l .n; neighbours = nb′; codes = cs′ }))
-  pub form : r ≡ 0 → ReducedTo l (record { n = l .n; neighbours = nb′; codes = cs′ })
+      SameGroup (l .n) (l .n) (rows l) (heldRows (lentRecord (l .n) nb′ cs′))
+  pub form : r ≡ 0 → ReducedTo l (lentRecord (l .n) nb′ cs′)
   pub codes : r ≡ 0 → (q : ℕ) → q < l .n → (i : ℕ) × (i < 6) × (getD cs′ q 0 ≡ 2 * i)
   pub unused : r ≡ 0 → MadeUnused l nb′ cs′ used′
 

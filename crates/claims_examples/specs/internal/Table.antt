@@ -12,7 +12,7 @@ use Rattle.comparison.specs.Compared.{compareLines}
 use Rattle.comparison.specs.ComparedPairs.{compareList}
 use Rattle.image.specs.Image.{imageGraph, imageLines, imageMinus}
 use Rattle.image.specs.Rule.{imageList}
-use Rattle.record.specs.Lent.{LentRecord, codeNumbers, heldRecord, neighbourWords}
+use Rattle.record.specs.Lent.{codeNumbers, heldRecord, LentRecord, lentRecord, neighbourWords}
 use Rattle.record.specs.Reduced.{reduced}
 use Rattle.stabilizer.specs.Lists.{GeneratorList, rows}
 use Rattle.pauli.specs.Pauli.{exponent}
@@ -62,7 +62,7 @@ abbrev one : ℕ → ℕ → ℕ → GeneratorList
 one s z x = listIn 1 (s ∷ []) (z ∷ []) (x ∷ [])
 
 abbrev recordWith : ℕ → List ℕ → List ℕ → LentRecord
-recordWith n neighbours codes = record { n = n; neighbours = neighbours; codes = codes }
+recordWith n neighbours codes = lentRecord n neighbours codes
 
 abbrev pub table : List (Example (List ℕ))
 table =

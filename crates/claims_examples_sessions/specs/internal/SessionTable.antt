@@ -3,7 +3,7 @@
 use mathlib.Core.List.{_++_, List, [], _∷_}
 use Prim.Native.Nat.{ℕ}
 use Rattle.operations.specs.Steps.{Operation, czOn, gateWith, leaves, measurementOf}
-use Rattle.record.specs.Lent.{LentRecord, codeNumbers, heldRows, neighbourWords}
+use Rattle.record.specs.Lent.{codeNumbers, heldRows, LentRecord, lentRecord, neighbourWords}
 use Rattle.record.specs.Reduced.{reduced}
 use Rattle.stabilizer.specs.Lists.{GeneratorList, listOf, rows}
 use Rattle.claims.specs.SessionDemand.{Change, changed, czChange, gateChange, measureChange}
@@ -24,10 +24,10 @@ bothWays l o f = inNumbers (changed f (listOf (l .n) (heldRows l)))
 
 -- XX, ZZ, and -ZI, -IZ
 abbrev joined : LentRecord
-joined = record { n = 2; neighbours = 2 ∷ 1 ∷ []; codes = 0 ∷ 8 ∷ [] }
+joined = lentRecord 2 (2 ∷ 1 ∷ []) (0 ∷ 8 ∷ [])
 
 abbrev apart : LentRecord
-apart = record { n = 2; neighbours = 0 ∷ 0 ∷ []; codes = 10 ∷ 10 ∷ [] }
+apart = lentRecord 2 (0 ∷ 0 ∷ []) (10 ∷ 10 ∷ [])
 
 -- signs, z words and x words; then, for both ways, neighbour words and codes
 abbrev session : List (List ℕ) → List ℕ → List ℕ → List ℕ → List ℕ → List ℕ → Example (List (List ℕ))

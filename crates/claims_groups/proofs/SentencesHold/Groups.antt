@@ -3,7 +3,7 @@ use mathlib.Core.List.{List}
 use mathlib.Core.Path.{subst, sym}
 use Rattle.groups.proofs.GroupPassing.{group-accepted}
 use Rattle.groups.proofs.SameGroups.{group-rewritten}
-use Rattle.record.specs.Lent.{heldRecord}
+use Rattle.record.specs.Lent.{heldRecord, lentRecord}
 use Rattle.record.specs.Records.{SameRecord, complementRecord}
 use Prim.Native.Nat.{ℕ}
 use Rattle.calls.specs.GroupStores.{groupForgetCall, groupReturnCall, groupSaveCall}
@@ -73,7 +73,7 @@ module _ (word g : ℕ) (u : UsedRecord) where
             let D = at-zero C z in
             let e = sym (D .number) in
             subst (λ l. SameRecord (heldRecord l) (complementRecord (heldRecord (u .held)) a))
-            (λ j. record { n = u .held .n; neighbours = sym (D .held .0) j; codes = sym (D .held .1 .0) j })
+            (λ j. lentRecord (u .held .n) (sym (D .held .0) j) (sym (D .held .1 .0) j))
             (group-rewritten word g u (group-accepted word g u (complementOf a) e) a e);
         stands = λ z r″ nb″ cs″ W. group-calls-stand .complement word g u a nb′ cs′ r″ nb″ cs″ (at-zero C z) W;
       }

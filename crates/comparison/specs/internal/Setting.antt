@@ -11,7 +11,7 @@ use Rattle.comparison.specs.internal.Parts.{Closed}
 use Rattle.pauli.specs.Pauli.{Pauli, i², scaled}
 use Rattle.pauli.specs.internal.Rows.{generatorOf}
 use Rattle.pauli.specs.declared.Generator.{Generator}
-use Rattle.record.specs.Lent.{heldRecord, heldRows}
+use Rattle.record.specs.Lent.{heldRecord, heldRows, lentRecord}
 use Rattle.record.specs.Records.{recordRow}
 use Rattle.stabilizer.specs.Groups.{InGroup, Proper}
 use Rattle.words.specs.Bits.{Word, isOdd}
@@ -64,13 +64,13 @@ pub record ConnectedRows (n : ℕ) (rows : ℕ → Pauli) : Type 0 where
 
 -- the generators of a lent record
 abbrev pub heldGenerators : ℕ → List ℕ → List ℕ → ℕ → Pauli
-heldGenerators n neighbours codes = heldRows (record { n = n; neighbours = neighbours; codes = codes })
+heldGenerators n neighbours codes = heldRows (lentRecord n neighbours codes)
 
 -- lent buffers that hold a record on n vertices
 pub record SoundRecord (n : ℕ) (neighbours codes : List ℕ) : Type 0 where
   pub neighbours-long : length neighbours ≡ n
   pub codes-long : length codes ≡ n
-  pub simple : Simple n ((heldRecord (record { n = n; neighbours = neighbours; codes = codes })) .graph)
+  pub simple : Simple n ((heldRecord (lentRecord n neighbours codes)) .graph)
   pub codes-sound : Codes codes
 
 pub record Setting (n : ℕ) (first second : List Generator) (frame : List ℕ) : Type 0 where

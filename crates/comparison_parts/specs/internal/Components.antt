@@ -14,14 +14,14 @@ use Rattle.comparison.specs.internal.Numbered.{Numbers, partGraph}
 use Rattle.comparison.specs.internal.Parts.{Closed}
 use Rattle.comparison.specs.Parts.{partOf}
 use Rattle.comparison_parts.specs.internal.Spreads.{PartWord}
-use Rattle.record.specs.Lent.{heldRecord}
+use Rattle.record.specs.Lent.{heldRecord, lentRecord}
 use Rattle.record.specs.Records.{GraphRecord, rowsOf}
 use Rattle.stabilizer.specs.Carries.{Carries}
 use Rattle.words.specs.Bits.{bit}
 
 -- what two buffers hold
 abbrev pub recordHeld : ℕ → List ℕ → List ℕ → GraphRecord
-recordHeld n neighbours codes = heldRecord (record { n = n; neighbours = neighbours; codes = codes })
+recordHeld n neighbours codes = heldRecord (lentRecord n neighbours codes)
 
 -- two records on n vertices
 pub record SoundPair (n : ℕ) (nb cs nb₂ cs₂ : List ℕ) : Type 0 where

@@ -6,7 +6,7 @@ use Rattle.expectation.proofs.ReadWords.{read-is}
 use Rattle.record.specs.Graph.{Simple, graphGenerator}
 use Rattle.record.specs.NeighbourWords.{graphIn}
 use Rattle.pauli.specs.internal.Rows.{pauliOf}
-use Rattle.record.specs.Lent.{LentRecord}
+use Rattle.record.specs.Lent.{LentRecord, lentRecord}
 use Rattle.stabilizer.specs.Groups.{product}
 use Rattle.words.specs.Bits.{bit}
 use Rattle.expectation_impl.proofs.row_value.Statement.{statement}
@@ -28,7 +28,7 @@ returns c =
     let S = B .before .before .before in
     let a = S .args in
     let A = S .pre .0 in
-    let l : LentRecord = record { n = a .n; neighbours = a .neighbours .now; codes = a .codes .now } in
+    let l : LentRecord = lentRecord (a .n) (a .neighbours .now) (a .codes .now) in
     c .read .ensures
     ∙ read-is l A (a .z) (a .x) (S .pre .1 .0) (S .pre .1 .1) _ (B .send-back .ensures) _
     (E .graph-element .ensures .1)

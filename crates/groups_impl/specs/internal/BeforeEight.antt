@@ -9,7 +9,7 @@ use Rattle.groups.specs.GroupLines.{namesOther, withGroup}
 use Rattle.groups.specs.Masks.{crosses, inGroup, merged}
 use Rattle.groups.specs.internal.Apart.{Apart}
 use Rattle.operations.specs.Steps.{Operation, complementOf, czOn, gateWith, measurementOf, pivotOf}
-use Rattle.operations.specs.Used.{UsedRecord, usedLines}
+use Rattle.operations.specs.Used.{usedLines, UsedRecord, usedRecord}
 use Rattle.words.specs.Bits.{Word}
 
 -- 2, 4, 5, 6, 7 and 19; `six`: line 6 holds of a further argument; `other`: the call names a qubit of the other group
@@ -33,7 +33,7 @@ pub record Admitted (word g : ℕ) (u : UsedRecord) (o : Operation) : Type 0 whe
 
 -- the buffers of a record of 64 qubits after the vertices of s were put back: words and bytes hold those vertices
 pub record PutBack (s : Word) (words bytes nb cs nb′ cs′ : List ℕ) : Type 0 where
-  pub neighbours : nb′ ≡ (merged s (record { held = record { n = 64; neighbours = words; codes = bytes }; used = 0 })
-      (record { held = record { n = 64; neighbours = nb; codes = cs }; used = 0 })) .held .neighbours
-  pub codes : cs′ ≡ (merged s (record { held = record { n = 64; neighbours = words; codes = bytes }; used = 0 })
-      (record { held = record { n = 64; neighbours = nb; codes = cs }; used = 0 })) .held .codes
+  pub neighbours : nb′ ≡ (merged s (usedRecord 64 words bytes 0)
+      (usedRecord 64 nb cs 0)) .held .neighbours
+  pub codes : cs′ ≡ (merged s (usedRecord 64 words bytes 0)
+      (usedRecord 64 nb cs 0)) .held .codes

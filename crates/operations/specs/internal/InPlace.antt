@@ -5,7 +5,15 @@ use mathlib.Core.Path.{_≡_}
 use Prim.Native.Nat.{ℕ}
 use lib.ListN.{length}
 use Rattle.buffers.specs.Refusals.{firstFitting}
-use Rattle.record.specs.Lent.{LentRecord, codeNumbers, heldRecord, heldRows, neighbourWords, recordLines}
+use Rattle.record.specs.Lent.{
+  codeNumbers,
+  heldRecord,
+  heldRows,
+  LentRecord,
+  lentRecord,
+  neighbourWords,
+  recordLines,
+}
 use Rattle.record.specs.Records.{GraphRecord, rowsOf}
 use Rattle.record.specs.Reduced.{reduced}
 use Rattle.operations.specs.Measurement.{measuredOutcome, measuredRows, pauliLetter}
@@ -13,7 +21,7 @@ use Rattle.operations.specs.declared.Outcome.{Outcome}
 
 -- the record that two lent buffers hold, n being the length of the first
 abbrev pub recordIn : List ℕ → List ℕ → LentRecord
-recordIn words codes = record { n = length words; neighbours = words; codes = codes }
+recordIn words codes = lentRecord (length words) words codes
 
 -- no line of a record refuses it
 pub record Unrefused (l : LentRecord) : Type 0 where

@@ -3,7 +3,7 @@
 use mathlib.Core.List.{_++_, List, [], map, _∷_}
 use Prim.Native.Nat.{ℕ}
 use Rattle.buffers.specs.Refusals.{firstFitting}
-use Rattle.record.specs.Lent.{LentRecord}
+use Rattle.record.specs.Lent.{LentRecord, lentRecord}
 use Rattle.operations.specs.Measurement.{determinedNumber, outcomeNumber}
 use Rattle.operations.specs.Steps.{
   Operation,
@@ -19,10 +19,10 @@ use Rattle.operations.specs.Steps.{
 
 -- a record on two vertices, joined by an edge or apart
 abbrev edge : ℕ → ℕ → LentRecord
-edge c d = record { n = 2; neighbours = 2 ∷ 1 ∷ []; codes = c ∷ d ∷ [] }
+edge c d = lentRecord 2 (2 ∷ 1 ∷ []) (c ∷ d ∷ [])
 
 abbrev apart : ℕ → ℕ → LentRecord
-apart c d = record { n = 2; neighbours = 0 ∷ 0 ∷ []; codes = c ∷ d ∷ [] }
+apart c d = lentRecord 2 (0 ∷ 0 ∷ []) (c ∷ d ∷ [])
 
 -- what the buffers hold: the neighbour words, then the codes
 abbrev contents : LentRecord → List ℕ
@@ -71,7 +71,7 @@ table =
     ∷ example (answer (edge 0 0) (czOn 0 1)) (accepts (apart 0 0))
     ∷ example (answer (apart 0 0) (czOn 1 0)) (accepts (edge 0 0))
     -- a gate comes after the code held: 4, then 8, is 18, which sends X to -Y
-    ∷ example (answer (record { n = 1; neighbours = 0 ∷ []; codes = 4 ∷ [] }) (gateWith 0 8)) (0 ∷ 0 ∷ 6 ∷ [])
+    ∷ example (answer (lentRecord 1 (0 ∷ []) (4 ∷ [])) (gateWith 0 8)) (0 ∷ 0 ∷ 6 ∷ [])
     -- refusals
     ∷ example (number (edge 0 0) (gateWith 2 24) ∷ number (edge 0 0) (gateWith 2 0)
     ∷ number (edge 0 0) (czOn 1 1)

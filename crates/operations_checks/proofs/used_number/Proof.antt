@@ -4,7 +4,7 @@ use Prim.Native.Nat.{_^_}
 use lib.Dec.{leb}
 use borrow.Author.Needs.{needs}
 use Rattle.stabilizer.proofs.EarlyLines.{either-says}
-use Rattle.operations.specs.Used.{UsedRecord}
+use Rattle.operations.specs.Used.{UsedRecord, usedRecord}
 use Rattle.operations_checks.proofs.UsedNumbers.{
   number-0,
   number-2,
@@ -21,10 +21,7 @@ use Rattle.operations_checks.proofs.used_number.Tie as tie
 -- the record that is lent, and whether the further word has a bit at or above n
 abbrev lent : tie.Start → UsedRecord
 lent S =
-    record {
-      held = record { n = S .args .n; neighbours = S .args .neighbours .now; codes = S .args .codes .now };
-      used = S .args .used;
-    }
+    usedRecord (S .args .n) (S .args .neighbours .now) (S .args .codes .now) (S .args .used)
 
 abbrev five : tie.Start → Bool
 five S = leb (2 ^ (S .args .n)) (S .args .word)

@@ -3,6 +3,7 @@ use crate::comparisons::sukhlent_compare;
 use crate::comparisons::sukhlent_compare_records;
 ghost use Rattle.claims.specs.Sentences.Comparisons.{CompareSays};
 ghost use Rattle.claims.specs.RecordPairs.{CompareRecordsSays};
+ghost use Rattle.record.specs.Lent.{lentRecord};
 
 pub fn compare_says(
     n1: u64,
@@ -38,8 +39,8 @@ pub fn compare_records_says(
     count: &mut u64,
 ) -> u8
     ensures { λ r. ⌜ CompareRecordsSays
-        (record { n = n1; neighbours = now (neighbours1 .entry); codes = now (codes1 .entry) })
-        (record { n = n2; neighbours = now (neighbours2 .entry); codes = now (codes2 .entry) })
+        (lentRecord n1 (now (neighbours1 .entry)) (now (codes1 .entry)))
+        (lentRecord n2 (now (neighbours2 .entry)) (now (codes2 .entry)))
         (now (choice .entry)) (now (list .entry)) (now (count .entry))
         (now (choice .exit)) (now (list .exit)) (now (count .exit)) r ⌝ }
 {

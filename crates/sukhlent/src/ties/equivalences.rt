@@ -2,6 +2,7 @@
 use crate::equivalences::sukhlent_equivalent;
 use crate::equivalences::sukhlent_equivalent_records;
 ghost use Rattle.claims.specs.Equivalents.{EquivalentRecordsSays, EquivalentSays};
+ghost use Rattle.record.specs.Lent.{lentRecord};
 
 pub fn equivalent_says(
     n1: u64,
@@ -37,8 +38,8 @@ pub fn equivalent_records_says(
     count: &mut u64,
 ) -> u8
     ensures { λ r. ⌜ EquivalentRecordsSays
-        (record { n = n1; neighbours = now (neighbours1 .entry); codes = now (codes1 .entry) })
-        (record { n = n2; neighbours = now (neighbours2 .entry); codes = now (codes2 .entry) })
+        (lentRecord n1 (now (neighbours1 .entry)) (now (codes1 .entry)))
+        (lentRecord n2 (now (neighbours2 .entry)) (now (codes2 .entry)))
         (now (choice .entry)) (now (list .entry)) (now (count .entry))
         (now (choice .exit)) (now (list .exit)) (now (count .exit)) r ⌝ }
 {

@@ -1,6 +1,7 @@
 // The value of a Pauli row: what the demands say of it.
 use crate::expectations::sukhlent_expectation;
 ghost use Rattle.claims.specs.Sentences.Expectations.{ExpectationSays};
+ghost use Rattle.operations.specs.Used.{usedRecord};
 
 pub fn expectation_says(
     n: u64,
@@ -12,10 +13,7 @@ pub fn expectation_says(
     value: &mut u8,
 ) -> u8
     ensures { λ r. ⌜ ExpectationSays
-        (record {
-          held = record { n = n; neighbours = now (neighbours .entry); codes = now (codes .entry) };
-          used = used;
-        }) z x
+        (usedRecord n (now (neighbours .entry)) (now (codes .entry)) used) z x
         (now (value .entry)) (now (value .exit)) r ⌝ }
 {
     sukhlent_expectation(n, neighbours, codes, used, z, x, value)

@@ -8,6 +8,7 @@ use crate::groups::sukhlent_group_return;
 use crate::groups::sukhlent_group_save;
 ghost use Rattle.claims_groups.specs.Sentences.Groups.{GroupComplementSays, GroupCzSays, GroupForgetSays, GroupGateSays};
 ghost use Rattle.claims_groups.specs.Sentences.Groups.{GroupMeasureSays, GroupReturnSays, GroupSaveSays};
+ghost use Rattle.operations.specs.Used.{usedRecord};
 
 pub fn group_gate_says(
     n: u64,
@@ -20,10 +21,7 @@ pub fn group_gate_says(
     code: u8,
 ) -> u8
     ensures { λ r. ⌜ GroupGateSays word group
-        (record {
-          held = record { n = n; neighbours = now (neighbours .entry); codes = now (codes .entry) };
-          used = used;
-        })
+        (usedRecord n (now (neighbours .entry)) (now (codes .entry)) used)
         qubit code (now (neighbours .exit)) (now (codes .exit)) r ⌝ }
 {
     sukhlent_group_gate(n, word, group, neighbours, codes, used, qubit, code)
@@ -40,10 +38,7 @@ pub fn group_cz_says(
     b: u64,
 ) -> u8
     ensures { λ r. ⌜ GroupCzSays word group
-        (record {
-          held = record { n = n; neighbours = now (neighbours .entry); codes = now (codes .entry) };
-          used = used;
-        })
+        (usedRecord n (now (neighbours .entry)) (now (codes .entry)) used)
         a b (now (neighbours .exit)) (now (codes .exit)) r ⌝ }
 {
     sukhlent_group_cz(n, word, group, neighbours, codes, used, a, b)
@@ -63,10 +58,7 @@ pub fn group_measure_says(
     determined: &mut u8,
 ) -> u8
     ensures { λ r. ⌜ GroupMeasureSays word group
-        (record {
-          held = record { n = n; neighbours = now (neighbours .entry); codes = now (codes .entry) };
-          used = now (used .entry);
-        })
+        (usedRecord n (now (neighbours .entry)) (now (codes .entry)) (now (used .entry)))
         pauli qubit outcome (now (answer .entry)) (now (determined .entry))
         (now (neighbours .exit)) (now (codes .exit)) (now (used .exit)) (now (answer .exit))
         (now (determined .exit)) r ⌝ }
@@ -96,10 +88,7 @@ pub fn group_complement_says(
     a: u64,
 ) -> u8
     ensures { λ r. ⌜ GroupComplementSays word group
-        (record {
-          held = record { n = n; neighbours = now (neighbours .entry); codes = now (codes .entry) };
-          used = used;
-        })
+        (usedRecord n (now (neighbours .entry)) (now (codes .entry)) used)
         a (now (neighbours .exit)) (now (codes .exit)) r ⌝ }
 {
     sukhlent_group_complement(n, word, group, neighbours, codes, used, a)
@@ -117,10 +106,7 @@ pub fn group_save_says(
     held_neighbours: &mut [u64],
     held_codes: &mut [u8],
 ) -> u8
-    ensures { λ r. ⌜ GroupSaveSays word group (record {
-      held = record { n = n; neighbours = now (neighbours .entry); codes = now (codes .entry) };
-      used = used;
-    }) name (record {
+    ensures { λ r. ⌜ GroupSaveSays word group (usedRecord n (now (neighbours .entry)) (now (codes .entry)) used) name (record {
       heads = now (heads .entry);
       neighbours = now («held_neighbours» .entry);
       codes = now («held_codes» .entry);
@@ -152,10 +138,7 @@ pub fn group_return_says(
     held_neighbours: &[u64],
     held_codes: &[u8],
 ) -> u8
-    ensures { λ r. ⌜ GroupReturnSays word group (record {
-      held = record { n = n; neighbours = now (neighbours .entry); codes = now (codes .entry) };
-      used = now (used .entry);
-    }) name (record {
+    ensures { λ r. ⌜ GroupReturnSays word group (usedRecord n (now (neighbours .entry)) (now (codes .entry)) (now (used .entry))) name (record {
       heads = now (heads .entry);
       neighbours = now («held_neighbours» .entry);
       codes = now («held_codes» .entry);
@@ -187,10 +170,7 @@ pub fn group_forget_says(
     held_neighbours: &[u64],
     held_codes: &[u8],
 ) -> u8
-    ensures { λ r. ⌜ GroupForgetSays word group (record {
-      held = record { n = n; neighbours = now (neighbours .entry); codes = now (codes .entry) };
-      used = used;
-    }) name (record {
+    ensures { λ r. ⌜ GroupForgetSays word group (usedRecord n (now (neighbours .entry)) (now (codes .entry)) used) name (record {
       heads = now (heads .entry);
       neighbours = now («held_neighbours» .entry);
       codes = now («held_codes» .entry);

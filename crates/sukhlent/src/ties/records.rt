@@ -8,6 +8,8 @@ use crate::records::sukhlent_image;
 use crate::records::sukhlent_measure;
 ghost use Rattle.claims.specs.Sentences.Records.{ComplementSays, CutSays, CzSays, ExpandSays};
 ghost use Rattle.claims.specs.Sentences.Records.{GateSays, ImageSays, MeasureSays};
+ghost use Rattle.record.specs.Lent.{lentRecord};
+ghost use Rattle.operations.specs.Used.{usedRecord};
 
 pub fn expand_says(
     n: u64,
@@ -19,10 +21,7 @@ pub fn expand_says(
     x: &mut [u64],
 ) -> u8
     ensures { λ r. ⌜ ExpandSays
-        (record {
-          held = record { n = n; neighbours = now (neighbours .entry); codes = now (codes .entry) };
-          used = used;
-        })
+        (usedRecord n (now (neighbours .entry)) (now (codes .entry)) used)
         (now (signs .entry)) (now (z .entry)) (now (x .entry))
         (now (signs .exit)) (now (z .exit)) (now (x .exit)) r ⌝ }
 {
@@ -38,10 +37,7 @@ pub fn gate_says(
     code: u8,
 ) -> u8
     ensures { λ r. ⌜ GateSays
-        (record {
-          held = record { n = n; neighbours = now (neighbours .entry); codes = now (codes .entry) };
-          used = used;
-        })
+        (usedRecord n (now (neighbours .entry)) (now (codes .entry)) used)
         qubit code (now (neighbours .exit)) (now (codes .exit)) r ⌝ }
 {
     sukhlent_gate(n, neighbours, codes, used, qubit, code)
@@ -49,10 +45,7 @@ pub fn gate_says(
 
 pub fn cz_says(n: u64, neighbours: &mut [u64], codes: &mut [u8], used: u64, a: u64, b: u64) -> u8
     ensures { λ r. ⌜ CzSays
-        (record {
-          held = record { n = n; neighbours = now (neighbours .entry); codes = now (codes .entry) };
-          used = used;
-        })
+        (usedRecord n (now (neighbours .entry)) (now (codes .entry)) used)
         a b (now (neighbours .exit)) (now (codes .exit)) r ⌝ }
 {
     sukhlent_cz(n, neighbours, codes, used, a, b)
@@ -70,10 +63,7 @@ pub fn measure_says(
     determined: &mut u8,
 ) -> u8
     ensures { λ r. ⌜ MeasureSays
-        (record {
-          held = record { n = n; neighbours = now (neighbours .entry); codes = now (codes .entry) };
-          used = now (used .entry);
-        })
+        (usedRecord n (now (neighbours .entry)) (now (codes .entry)) (now (used .entry)))
         pauli qubit outcome (now (answer .entry)) (now (determined .entry))
         (now (neighbours .exit)) (now (codes .exit)) (now (used .exit)) (now (answer .exit))
         (now (determined .exit)) r ⌝ }
@@ -93,10 +83,7 @@ pub fn measure_says(
 
 pub fn complement_says(n: u64, neighbours: &mut [u64], codes: &mut [u8], used: u64, a: u64) -> u8
     ensures { λ r. ⌜ ComplementSays
-        (record {
-          held = record { n = n; neighbours = now (neighbours .entry); codes = now (codes .entry) };
-          used = used;
-        })
+        (usedRecord n (now (neighbours .entry)) (now (codes .entry)) used)
         a (now (neighbours .exit)) (now (codes .exit)) r ⌝ }
 {
     sukhlent_complement(n, neighbours, codes, used, a)
@@ -112,7 +99,7 @@ pub fn image_says(
     count: &mut u64,
 ) -> u8
     ensures { λ r. ⌜ ImageSays
-        (record { n = n; neighbours = now (neighbours .entry); codes = now (codes .entry) })
+        (lentRecord n (now (neighbours .entry)) (now (codes .entry)))
         (now (image .entry)) (now (signs .entry)) (now (list .entry)) (now (count .entry))
         (now (image .exit)) (now (signs .exit)) (now (list .exit)) (now (count .exit)) r ⌝ }
 {
@@ -128,10 +115,7 @@ pub fn cut_says(
     rank: &mut u64,
 ) -> u8
     ensures { λ r. ⌜ CutSays
-        (record {
-          held = record { n = n; neighbours = now (neighbours .entry); codes = now (codes .entry) };
-          used = used;
-        })
+        (usedRecord n (now (neighbours .entry)) (now (codes .entry)) used)
         side (now (rank .entry)) (now (rank .exit)) r ⌝ }
 {
     sukhlent_cut(n, neighbours, codes, used, side, rank)

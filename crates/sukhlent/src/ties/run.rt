@@ -1,6 +1,7 @@
 // Many steps in one call: what the demands say of it.
 use crate::run::sukhlent_run;
 ghost use Rattle.claims.specs.RunDemand.{RunSays};
+ghost use Rattle.operations.specs.Used.{usedRecord};
 
 pub fn run_says(
     n: u64,
@@ -15,10 +16,7 @@ pub fn run_says(
     outcomes: &mut [u8],
     determined: &mut [u8],
 ) -> u8
-    ensures { λ r. ⌜ RunSays (record {
-      held = record { n = n; neighbours = now (neighbours .entry); codes = now (codes .entry) };
-      used = now (used .entry);
-    }) (record {
+    ensures { λ r. ⌜ RunSays (usedRecord n (now (neighbours .entry)) (now (codes .entry)) (now (used .entry))) (record {
       ops = now (ops .entry);
       a = now (a .entry);
       b = now (b .entry);

@@ -5,6 +5,7 @@ use crate::source::sukhlent_observe;
 use crate::source::sukhlent_renew;
 ghost use Rattle.claims_groups.specs.Sentences.Groups.{GroupObserveSays, GroupRenewSays};
 ghost use Rattle.claims.specs.Sources.{ObserveSays, RenewSays};
+ghost use Rattle.operations.specs.Used.{usedRecord};
 
 pub fn observe_says(
     n: u64,
@@ -18,10 +19,7 @@ pub fn observe_says(
     determined: &mut u8,
 ) -> u8
     ensures { λ r. ⌜ ObserveSays
-        (record {
-          held = record { n = n; neighbours = now (neighbours .entry); codes = now (codes .entry) };
-          used = now (used .entry);
-        })
+        (usedRecord n (now (neighbours .entry)) (now (codes .entry)) (now (used .entry)))
         pauli qubit bit (now (answer .entry)) (now (determined .entry))
         (now (neighbours .exit)) (now (codes .exit)) (now (used .exit)) (now (answer .exit))
         (now (determined .exit)) r ⌝ }
@@ -48,10 +46,7 @@ pub fn renew_says(
     code: u8,
 ) -> u8
     ensures { λ r. ⌜ RenewSays
-        (record {
-          held = record { n = n; neighbours = now (neighbours .entry); codes = now (codes .entry) };
-          used = now (used .entry);
-        })
+        (usedRecord n (now (neighbours .entry)) (now (codes .entry)) (now (used .entry)))
         qubit code (now (neighbours .exit)) (now (codes .exit)) (now (used .exit)) r ⌝ }
 {
     sukhlent_renew(n, neighbours, codes, used, qubit, code)
@@ -71,10 +66,7 @@ pub fn group_observe_says(
     determined: &mut u8,
 ) -> u8
     ensures { λ r. ⌜ GroupObserveSays word group
-        (record {
-          held = record { n = n; neighbours = now (neighbours .entry); codes = now (codes .entry) };
-          used = now (used .entry);
-        })
+        (usedRecord n (now (neighbours .entry)) (now (codes .entry)) (now (used .entry)))
         pauli qubit bit (now (answer .entry)) (now (determined .entry))
         (now (neighbours .exit)) (now (codes .exit)) (now (used .exit)) (now (answer .exit))
         (now (determined .exit)) r ⌝ }
@@ -105,10 +97,7 @@ pub fn group_renew_says(
     code: u8,
 ) -> u8
     ensures { λ r. ⌜ GroupRenewSays word group
-        (record {
-          held = record { n = n; neighbours = now (neighbours .entry); codes = now (codes .entry) };
-          used = now (used .entry);
-        })
+        (usedRecord n (now (neighbours .entry)) (now (codes .entry)) (now (used .entry)))
         qubit code (now (neighbours .exit)) (now (codes .exit)) (now (used .exit)) r ⌝ }
 {
     sukhlent_group_renew(n, word, group, neighbours, codes, used, qubit, code)

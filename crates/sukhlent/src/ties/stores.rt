@@ -3,6 +3,7 @@ use crate::stores::sukhlent_forget;
 use crate::stores::sukhlent_return;
 use crate::stores::sukhlent_save;
 ghost use Rattle.claims.specs.Sentences.Stores.{ForgetSays, ReturnSays, SaveSays};
+ghost use Rattle.operations.specs.Used.{usedRecord};
 
 pub fn save_says(
     n: u64,
@@ -14,10 +15,7 @@ pub fn save_says(
     held_neighbours: &mut [u64],
     held_codes: &mut [u8],
 ) -> u8
-    ensures { λ r. ⌜ SaveSays (record {
-      held = record { n = n; neighbours = now (neighbours .entry); codes = now (codes .entry) };
-      used = used;
-    }) name (record {
+    ensures { λ r. ⌜ SaveSays (usedRecord n (now (neighbours .entry)) (now (codes .entry)) used) name (record {
       heads = now (heads .entry);
       neighbours = now («held_neighbours» .entry);
       codes = now («held_codes» .entry);

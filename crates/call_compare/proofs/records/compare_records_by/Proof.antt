@@ -4,7 +4,7 @@ use mathlib.Core.Bool.{_||_}
 use mathlib.Core.Path.{ap₂, refl, sym, _∙_}
 use borrow.Author.Needs.{needs}
 use Rattle.buffers.proofs.Parts.{part-long}
-use Rattle.record.specs.Lent.{LentRecord}
+use Rattle.record.specs.Lent.{LentRecord, lentRecord}
 use Rattle.call_compare.proofs.RecordPairs.{
   choice-fits,
   compare-decided,
@@ -22,8 +22,8 @@ returns : tie.Need-returns
 returns c =
     let P = c .before in
     let a = P .before .before .before .before .before .before .before .args in
-    let l : LentRecord = record { n = a .n1; neighbours = a .neighbours1 .now; codes = a .codes1 .now } in
-    let m : LentRecord = record { n = a .n2; neighbours = a .neighbours2 .now; codes = a .codes2 .now } in
+    let l : LentRecord = lentRecord (a .n1) (a .neighbours1 .now) (a .codes1 .now) in
+    let m : LentRecord = lentRecord (a .n2) (a .neighbours2 .now) (a .codes2 .now) in
     refused-2 (a .limited) l m (a .choice .now) (a .list .now) (a .count .now) (sym (P .pair-count .ensures) ∙ c .if1 .taken)
 
 returns-2 : tie.Need-returns-2
@@ -36,8 +36,8 @@ returns-2 c =
     let L = O₁ .before in
     let P = L .before in
     let a = P .before .before .before .before .before .before .before .args in
-    let l : LentRecord = record { n = a .n1; neighbours = a .neighbours1 .now; codes = a .codes1 .now } in
-    let m : LentRecord = record { n = a .n2; neighbours = a .neighbours2 .now; codes = a .codes2 .now } in
+    let l : LentRecord = lentRecord (a .n1) (a .neighbours1 .now) (a .codes1 .now) in
+    let m : LentRecord = lentRecord (a .n2) (a .neighbours2 .now) (a .codes2 .now) in
     compare-refused (a .limited) l m (a .choice .now) (a .list .now) (sym (P .pair-count .ensures) ∙ L .if1 .left)
     (ap₂ _||_ (O₁ .other-than .ensures) (O₂ .other-than2 .ensures)) (R₁ .record-refusal .ensures)
     (R₂ .record-refusal2 .ensures) (A .earlier .ensures) (a .count .now) (c .if2 .taken)
@@ -53,8 +53,8 @@ few-behind E =
     let L = O₁ .before in
     let P = L .before in
     let a = P .before .before .before .before .before .before .before .args in
-    let l : LentRecord = record { n = a .n1; neighbours = a .neighbours1 .now; codes = a .codes1 .now } in
-    let m : LentRecord = record { n = a .n2; neighbours = a .neighbours2 .now; codes = a .codes2 .now } in
+    let l : LentRecord = lentRecord (a .n1) (a .neighbours1 .now) (a .codes1 .now) in
+    let m : LentRecord = lentRecord (a .n2) (a .neighbours2 .now) (a .codes2 .now) in
     few (a .limited) l m (a .choice .now) (a .list .now) (sym (P .pair-count .ensures) ∙ L .if1 .left)
     (ap₂ _||_ (O₁ .other-than .ensures) (O₂ .other-than2 .ensures)) (R₁ .record-refusal .ensures)
     (R₂ .record-refusal2 .ensures) (A .earlier .ensures) (E .if2 .left)
@@ -70,8 +70,8 @@ compare-copies-requires c κs =
     let L = O₁ .before in
     let P = L .before in
     let a = P .before .before .before .before .before .before .before .args in
-    let l : LentRecord = record { n = a .n1; neighbours = a .neighbours1 .now; codes = a .codes1 .now } in
-    let m : LentRecord = record { n = a .n2; neighbours = a .neighbours2 .now; codes = a .codes2 .now } in
+    let l : LentRecord = lentRecord (a .n1) (a .neighbours1 .now) (a .codes1 .now) in
+    let m : LentRecord = lentRecord (a .n2) (a .neighbours2 .now) (a .codes2 .now) in
     let n-few = few-behind E in (
       first-unrefused (a .limited) l m (a .choice .now) (a .list .now) (sym (P .pair-count .ensures) ∙ L .if1 .left)
           (ap₂ _||_ (O₁ .other-than .ensures) (O₂ .other-than2 .ensures)) (R₁ .record-refusal .ensures)
@@ -107,8 +107,8 @@ returns-3 c =
     let L = O₁ .before in
     let P = L .before in
     let a = P .before .before .before .before .before .before .before .args in
-    let l : LentRecord = record { n = a .n1; neighbours = a .neighbours1 .now; codes = a .codes1 .now } in
-    let m : LentRecord = record { n = a .n2; neighbours = a .neighbours2 .now; codes = a .codes2 .now } in
+    let l : LentRecord = lentRecord (a .n1) (a .neighbours1 .now) (a .codes1 .now) in
+    let m : LentRecord = lentRecord (a .n2) (a .neighbours2 .now) (a .codes2 .now) in
     compare-decided (a .limited) l m (a .choice .now) (a .list .now) (sym (P .pair-count .ensures) ∙ L .if1 .left)
     (ap₂ _||_ (O₁ .other-than .ensures) (O₂ .other-than2 .ensures)) (R₁ .record-refusal .ensures)
     (R₂ .record-refusal2 .ensures) (A .earlier .ensures) (E .if2 .left)

@@ -6,7 +6,7 @@ use borrow.Author.Needs.{needs}
 use Rattle.buffers.specs.Refusals.{firstFitting}
 use Rattle.buffers.proofs.Calling.{refused}
 use Rattle.operations.specs.Steps.{Operation, complementOf}
-use Rattle.operations.specs.Used.{UsedRecord, usedLinesOf}
+use Rattle.operations.specs.Used.{usedLinesOf, UsedRecord, usedRecord}
 use Rattle.calls.proofs.InPlaceCalls.{as-before, in-place-done}
 use Rattle.calls.proofs.InPlaceLines.{complement-ready}
 use Rattle.calls.proofs.UsedInPlace.{named-as}
@@ -16,10 +16,7 @@ use Rattle.call_gates.proofs.complement.complement_known.Tie as tie
 -- the record that is lent
 abbrev lent : tie.Start → UsedRecord
 lent S =
-    record {
-      held = record { n = S .args .n; neighbours = S .args .neighbours .now; codes = S .args .codes .now };
-      used = S .args .used;
-    }
+    usedRecord (S .args .n) (S .args .neighbours .now) (S .args .codes .now) (S .args .used)
 
 abbrev asked : tie.Start → Operation
 asked S = complementOf (S .args .a)

@@ -9,17 +9,14 @@ use Rattle.calls.proofs.InPlaceLines.{pair-below, pair-ready, pairLines}
 use Rattle.calls.proofs.UsedInPlace.{edge-accepts, no-edge-refuses, pair-before, pair-refused}
 use Rattle.buffers.proofs.Calling.{refused}
 use Rattle.operations.specs.Steps.{pivotOf}
-use Rattle.operations.specs.Used.{UsedRecord}
+use Rattle.operations.specs.Used.{UsedRecord, usedRecord}
 use Rattle.call_gates.proofs.complement.pivot_known.Statement.{statement}
 use Rattle.call_gates.proofs.complement.pivot_known.Tie as tie
 
 -- the record that is lent
 abbrev lent : tie.Start → UsedRecord
 lent S =
-    record {
-      held = record { n = S .args .n; neighbours = S .args .neighbours .now; codes = S .args .codes .now };
-      used = S .args .used;
-    }
+    usedRecord (S .args .n) (S .args .neighbours .now) (S .args .codes .now) (S .args .used)
 
 -- no line of the pair holds
 paired : (D : tie.Else1) → let S = D .before .before .before .before .before .before in

@@ -3,17 +3,14 @@ use mathlib.Core.Bool.{_||_}
 use lib.Dec.{eqb, leb}
 use borrow.Author.Needs.{needs}
 use Rattle.calls.proofs.UsedInPlace.{named-as}
-use Rattle.operations.specs.Used.{UsedRecord}
+use Rattle.operations.specs.Used.{UsedRecord, usedRecord}
 use Rattle.call_gates.proofs.measure.argument_refusal.Statement.{statement}
 use Rattle.call_gates.proofs.measure.argument_refusal.Tie as tie
 
 -- the record that is lent
 abbrev lent : tie.Start → UsedRecord
 lent S =
-    record {
-      held = record { n = S .args .n; neighbours = S .args .neighbours .now; codes = S .args .codes .now };
-      used = S .args .used;
-    }
+    usedRecord (S .args .n) (S .args .neighbours .now) (S .args .codes .now) (S .args .used)
 
 returns : tie.Need-returns
 returns c =

@@ -11,17 +11,14 @@ use Rattle.calls.proofs.MeasureLines.{measure-passes}
 use Rattle.buffers.proofs.Calling.{refused}
 use Rattle.operations.specs.Steps.{Operation, linesOf, measurementOf}
 use Rattle.operations.proofs.AcceptedSteps.{accepted-step, measure-arguments}
-use Rattle.operations.specs.Used.{UsedRecord}
+use Rattle.operations.specs.Used.{UsedRecord, usedRecord}
 use Rattle.call_gates.proofs.measure.measure_known.Statement.{statement}
 use Rattle.call_gates.proofs.measure.measure_known.Tie as tie
 
 -- the record that is lent
 abbrev lent : tie.Start → UsedRecord
 lent S =
-    record {
-      held = record { n = S .args .n; neighbours = S .args .neighbours .now; codes = S .args .codes .now };
-      used = S .args .used .now;
-    }
+    usedRecord (S .args .n) (S .args .neighbours .now) (S .args .codes .now) (S .args .used .now)
 
 abbrev asked : tie.Start → Operation
 asked S = measurementOf (S .args .pauli) (S .args .qubit) (S .args .outcome)

@@ -4,17 +4,14 @@ use mathlib.Core.Path.{sym, _∙_}
 use borrow.Author.Needs.{needs}
 use Rattle.calls.proofs.InPlaceLines.{measure-ready}
 use Rattle.calls.proofs.MeasureLines.{arguments-before, arguments-refuse, then-14, then-none}
-use Rattle.operations.specs.Used.{UsedRecord}
+use Rattle.operations.specs.Used.{UsedRecord, usedRecord}
 use Rattle.call_gates.proofs.measure.measure_refusal.Statement.{statement}
 use Rattle.call_gates.proofs.measure.measure_refusal.Tie as tie
 
 -- the record that is lent
 abbrev lent : tie.Start → UsedRecord
 lent S =
-    record {
-      held = record { n = S .args .n; neighbours = S .args .neighbours .now; codes = S .args .codes .now };
-      used = S .args .used;
-    }
+    usedRecord (S .args .n) (S .args .neighbours .now) (S .args .codes .now) (S .args .used)
 
 returns : tie.Need-returns
 returns c =

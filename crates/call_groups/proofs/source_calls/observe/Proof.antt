@@ -5,7 +5,7 @@ use Rattle.buffers.specs.Refusals.{firstFitting}
 use Rattle.buffers.proofs.Calling.{refused}
 use Rattle.groups.specs.GroupLines.{outsider}
 use Rattle.groups.specs.Masks.{inGroup}
-use Rattle.operations.specs.Used.{UsedRecord}
+use Rattle.operations.specs.Used.{UsedRecord, usedRecord}
 use Rattle.groups_impl.proofs.EarlyNumbers.{other-as}
 use Rattle.groups_impl.specs.internal.BeforeEight.{beforeEight}
 use Rattle.source.proofs.ObservedGroups.{observedSix}
@@ -16,10 +16,7 @@ use Rattle.call_groups.proofs.source_calls.observe.Tie as tie
 -- the record that is lent
 abbrev lent : tie.Start → UsedRecord
 lent S =
-    record {
-      held = record { n = S .args .n; neighbours = S .args .neighbours .now; codes = S .args .codes .now };
-      used = S .args .used .now;
-    }
+    usedRecord (S .args .n) (S .args .neighbours .now) (S .args .codes .now) (S .args .used .now)
 
 -- the number of the lines before 8
 number : (E : tie.After-group-refusal) → let S = E .before .before .before .before .before .before .before in

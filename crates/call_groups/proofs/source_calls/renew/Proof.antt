@@ -8,7 +8,7 @@ use Rattle.groups_impl.proofs.EarlyNumbers.{other-as}
 use Rattle.groups_impl.specs.internal.BeforeEight.{beforeEight}
 use Rattle.groups.specs.GroupLines.{outsider}
 use Rattle.groups.specs.Masks.{inGroup}
-use Rattle.operations.specs.Used.{UsedRecord, usedCode}
+use Rattle.operations.specs.Used.{usedCode, UsedRecord, usedRecord}
 use Rattle.call_groups.proofs.GroupSourceCalls.{renew-admitted, renew-early-group, renew-whole}
 use Rattle.call_groups.proofs.source_calls.renew.Statement.{statement}
 use Rattle.call_groups.proofs.source_calls.renew.Tie as tie
@@ -16,10 +16,7 @@ use Rattle.call_groups.proofs.source_calls.renew.Tie as tie
 -- the record that is lent
 abbrev lent : tie.Start → UsedRecord
 lent S =
-    record {
-      held = record { n = S .args .n; neighbours = S .args .neighbours .now; codes = S .args .codes .now };
-      used = S .args .used .now;
-    }
+    usedRecord (S .args .n) (S .args .neighbours .now) (S .args .codes .now) (S .args .used .now)
 
 abbrev at : tie.After-group-refusal → tie.Start
 at E = E .before .before .before .before .before .before .before .before

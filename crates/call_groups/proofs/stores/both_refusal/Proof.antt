@@ -2,6 +2,7 @@
 use borrow.Author.Needs.{needs}
 use Rattle.call_groups.proofs.Sharing.{both-number}
 use Rattle.call_groups.proofs.stores.both_refusal.Statement.{statement}
+use Rattle.operations.specs.Used.{usedRecord}
 use Rattle.call_groups.proofs.stores.both_refusal.Tie as tie
 
 returns : tie.Need-returns
@@ -9,10 +10,7 @@ returns c =
     let H = c .before in
     let U = H .before in
     let S = U .before .before .before .before .before .before in
-    both-number (S .args .word) (S .args .group) (record {
-      held = record { n = S .args .n; neighbours = S .args .neighbours .now; codes = S .args .codes .now };
-      used = S .args .used;
-    }) (record {
+    both-number (S .args .word) (S .args .group) (usedRecord (S .args .n) (S .args .neighbours .now) (S .args .codes .now) (S .args .used)) (record {
       heads = S .args .heads .now;
       neighbours = S .args .held-neighbours .now;
       codes = S .args .held-codes .now;

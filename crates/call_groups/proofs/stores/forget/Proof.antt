@@ -1,7 +1,7 @@
 -- `forget` meets its contract: the group's place of the name made free.
 use borrow.Author.Needs.{needs}
 use Rattle.store.specs.Places.{Store}
-use Rattle.operations.specs.Used.{UsedRecord}
+use Rattle.operations.specs.Used.{UsedRecord, usedRecord}
 use Rattle.call_groups.proofs.Answering.{
   forget-done,
   forget-not-held,
@@ -15,10 +15,7 @@ use Rattle.call_groups.proofs.stores.forget.Tie as tie
 -- the record that is lent
 abbrev lent : tie.Start → UsedRecord
 lent S =
-    record {
-      held = record { n = S .args .n; neighbours = S .args .neighbours .now; codes = S .args .codes .now };
-      used = S .args .used;
-    }
+    usedRecord (S .args .n) (S .args .neighbours .now) (S .args .codes .now) (S .args .used)
 
 -- the store that is lent
 abbrev store : tie.Start → Store

@@ -1,7 +1,7 @@
 -- `save` meets its contract: the group's vertices saved under the name.
 use borrow.Author.Needs.{needs}
 use Rattle.store.specs.Places.{Store}
-use Rattle.operations.specs.Used.{UsedRecord}
+use Rattle.operations.specs.Used.{UsedRecord, usedRecord}
 use Rattle.call_groups.proofs.Answering.{put-fits, save-done, save-full, save-refused, search-fits}
 use Rattle.call_groups.proofs.stores.save.Statement.{statement}
 use Rattle.call_groups.proofs.stores.save.Tie as tie
@@ -9,10 +9,7 @@ use Rattle.call_groups.proofs.stores.save.Tie as tie
 -- the record that is lent
 abbrev lent : tie.Start → UsedRecord
 lent S =
-    record {
-      held = record { n = S .args .n; neighbours = S .args .neighbours .now; codes = S .args .codes .now };
-      used = S .args .used;
-    }
+    usedRecord (S .args .n) (S .args .neighbours .now) (S .args .codes .now) (S .args .used)
 
 -- the store that is lent
 abbrev store : tie.Start → Store

@@ -4,7 +4,7 @@ use mathlib.Core.Path.{_∙_, refl, sym}
 use borrow.Author.Needs.{needs}
 use Rattle.groups_impl.proofs.OwnWords.{crosses-reads}
 use Rattle.store.specs.Places.{Store}
-use Rattle.operations.specs.Used.{UsedRecord}
+use Rattle.operations.specs.Used.{UsedRecord, usedRecord}
 use Rattle.call_groups.proofs.Sharing.{shared-2, shared-early, shared-last, words-fit}
 use Rattle.call_groups.proofs.stores.shared_refusal.Statement.{statement}
 use Rattle.call_groups.proofs.stores.shared_refusal.Tie as tie
@@ -12,10 +12,7 @@ use Rattle.call_groups.proofs.stores.shared_refusal.Tie as tie
 -- the record that is lent
 abbrev lent : tie.Start → UsedRecord
 lent S =
-    record {
-      held = record { n = S .args .n; neighbours = S .args .neighbours .now; codes = S .args .codes .now };
-      used = S .args .used;
-    }
+    usedRecord (S .args .n) (S .args .neighbours .now) (S .args .codes .now) (S .args .used)
 
 -- the store that is lent
 abbrev store : tie.Start → Store
@@ -55,10 +52,7 @@ returns-3 c =
     shared-last (S .args .word) (S .args .group) (lent S) (store S) (B .before .if1 .left) _ _ _
     (B .both-refusal .ensures) (G .group-number .ensures) (E .earlier .ensures) (X .before .if2 .left) _
     (sym (c .if3 .taken) ∙ X .crosses .ensures
-    ∙ crosses-reads (record {
-      held = record { n = 64; neighbours = S .args .neighbours .now; codes = [] };
-      used = 0;
-    }) (lent S) (sym (B .before .if1 .left)) refl (S .args .word))
+    ∙ crosses-reads (usedRecord 64 (S .args .neighbours .now) [] 0) (lent S) (sym (B .before .if1 .left)) refl (S .args .word))
 
 returns-4 : tie.Need-returns-4
 returns-4 c =
@@ -70,10 +64,7 @@ returns-4 c =
     shared-last (S .args .word) (S .args .group) (lent S) (store S) (B .before .if1 .left) _ _ _
     (B .both-refusal .ensures) (G .group-number .ensures) (E .earlier .ensures) (X .before .if2 .left) _
     (sym (c .if3 .left) ∙ X .crosses .ensures
-    ∙ crosses-reads (record {
-      held = record { n = 64; neighbours = S .args .neighbours .now; codes = [] };
-      used = 0;
-    }) (lent S) (sym (B .before .if1 .left)) refl (S .args .word))
+    ∙ crosses-reads (usedRecord 64 (S .args .neighbours .now) [] 0) (lent S) (sym (B .before .if1 .left)) refl (S .args .word))
 
 pub shared-refusal-spec : {M : Type 1} → statement M
 shared-refusal-spec =

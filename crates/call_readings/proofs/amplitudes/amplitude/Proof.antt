@@ -5,7 +5,7 @@ use Rattle.calls.specs.Amplitudes.{bitsOf}
 use Rattle.buffers.proofs.Calling.{done, refused}
 use Rattle.jobs.proofs.PlotNumbers.{all-numbers}
 use Rattle.jobs.specs.internal.Numbers.{AllNumbers}
-use Rattle.operations.specs.Used.{UsedRecord}
+use Rattle.operations.specs.Used.{UsedRecord, usedRecord}
 use Rattle.call_readings.proofs.AmplitudeLines.{amplitude-unrefused, line-held}
 use Rattle.call_readings.proofs.amplitudes.amplitude.Statement.{statement}
 use Rattle.call_readings.proofs.amplitudes.amplitude.Tie as tie
@@ -17,10 +17,7 @@ plot-at-requires : tie.Need-plot-at-requires
 plot-at-requires c κs =
     let E = c .before in
     let a = E .before .before .before .args in
-    let u : UsedRecord = record {
-      held = record { n = a .n; neighbours = a .neighbours .now; codes = a .codes .now };
-      used = a .used;
-    } in
+    let u : UsedRecord = usedRecord (a .n) (a .neighbours .now) (a .codes .now) (a .used) in
     amplitude-unrefused u (a .y) (sym (E .used-refusal .ensures) ∙ c .if1 .left)
 
 bits-requires : tie.Need-bits-requires
@@ -37,10 +34,7 @@ returns-2 c =
     let P = c .before .before .before in
     let E = P .before .before in
     let a = E .before .before .before .args in
-    let u : UsedRecord = record {
-      held = record { n = a .n; neighbours = a .neighbours .now; codes = a .codes .now };
-      used = a .used;
-    } in
+    let u : UsedRecord = usedRecord (a .n) (a .neighbours .now) (a .codes .now) (a .used) in
     let l = line-held u (a .y) (sym (E .used-refusal .ensures) ∙ P .before .if1 .left) _ (P .plot-at .ensures) in
     done _ (E .used-refusal .ensures) (P .before .if1 .left) (
       c .before .before .bits .ensures ∙ ap (λ v. bitsOf (v .re)) l,

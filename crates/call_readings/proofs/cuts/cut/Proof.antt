@@ -2,7 +2,7 @@
 use mathlib.Core.Path.{refl, sym, _∙_}
 use borrow.Author.Needs.{needs}
 use Rattle.buffers.proofs.Calling.{done, refused}
-use Rattle.operations.specs.Used.{UsedRecord}
+use Rattle.operations.specs.Used.{UsedRecord, usedRecord}
 use Rattle.call_readings.proofs.CutLines.{accepted-cut}
 use Rattle.call_readings.proofs.cuts.cut.Statement.{statement}
 use Rattle.call_readings.proofs.cuts.cut.Tie as tie
@@ -14,10 +14,7 @@ cut-rank-requires : tie.Need-cut-rank-requires
 cut-rank-requires c κs =
     let E = c .before in
     let a = E .before .before .before .args in
-    let u : UsedRecord = record {
-      held = record { n = a .n; neighbours = a .neighbours .now; codes = a .codes .now };
-      used = a .used;
-    } in
+    let u : UsedRecord = usedRecord (a .n) (a .neighbours .now) (a .codes .now) (a .used) in
     let A = accepted-cut u (a .side) (sym (E .used-refusal .ensures) ∙ c .if1 .left) in
     ((A .held .upto, A .held .neighbours-length, A .below), A .held .simple)
 

@@ -2,7 +2,7 @@
 use mathlib.Core.Path.{refl, sym, _∙_}
 use borrow.Author.Needs.{needs}
 use Rattle.buffers.proofs.Calling.{done, refused}
-use Rattle.operations.specs.Used.{UsedRecord}
+use Rattle.operations.specs.Used.{UsedRecord, usedRecord}
 use Rattle.calls.proofs.ExpectationLines.{accepted-row, words-joined}
 use Rattle.call_readings.proofs.expectations.expectation.Statement.{statement}
 use Rattle.call_readings.proofs.expectations.expectation.Tie as tie
@@ -10,10 +10,7 @@ use Rattle.call_readings.proofs.expectations.expectation.Tie as tie
 -- the record that is lent
 abbrev lent : tie.Start → UsedRecord
 lent S =
-    record {
-      held = record { n = S .args .n; neighbours = S .args .neighbours .now; codes = S .args .codes .now };
-      used = S .args .used;
-    }
+    usedRecord (S .args .n) (S .args .neighbours .now) (S .args .codes .now) (S .args .used)
 
 returns : tie.Need-returns
 returns c =

@@ -2,7 +2,7 @@
 use mathlib.Core.Bool.{_||_}
 use mathlib.Core.Path.{ap₂}
 use borrow.Author.Needs.{needs}
-use Rattle.record.specs.Lent.{LentRecord}
+use Rattle.record.specs.Lent.{LentRecord, lentRecord}
 use Rattle.call_readings.proofs.ImageCalls.{
   accepted-held,
   graph-upto,
@@ -20,7 +20,7 @@ returns c =
     let E = c .before in
     let O = E .before in
     let a = O .before .before .before .before .before .before .before .before .args in
-    let l : LentRecord = record { n = a .n; neighbours = a .neighbours .now; codes = a .codes .now } in
+    let l : LentRecord = lentRecord (a .n) (a .neighbours .now) (a .codes .now) in
     let o = ap₂ _||_ (O .before .before .other-than .ensures)
     (ap₂ _||_ (O .before .other-than2 .ensures) (O .other-than3 .ensures)) in
     image-refused l (a .image .now) (a .signs .now) (a .list .now) (a .count .now) _ o _
@@ -31,7 +31,7 @@ image-answer-requires c κs =
     let E = c .before in
     let O = E .before in
     let a = O .before .before .before .before .before .before .before .before .args in
-    let l : LentRecord = record { n = a .n; neighbours = a .neighbours .now; codes = a .codes .now } in
+    let l : LentRecord = lentRecord (a .n) (a .neighbours .now) (a .codes .now) in
     let o = ap₂ _||_ (O .before .before .other-than .ensures)
     (ap₂ _||_ (O .before .other-than2 .ensures) (O .other-than3 .ensures)) in
     accepted-held l (a .image .now) (a .signs .now) (a .list .now) (a .count .now) _ o _
@@ -43,7 +43,7 @@ returns-2 c =
     let E = P .before .before in
     let O = E .before in
     let a = O .before .before .before .before .before .before .before .before .args in
-    let l : LentRecord = record { n = a .n; neighbours = a .neighbours .now; codes = a .codes .now } in
+    let l : LentRecord = lentRecord (a .n) (a .neighbours .now) (a .codes .now) in
     let o = ap₂ _||_ (O .before .before .other-than .ensures)
     (ap₂ _||_ (O .before .other-than2 .ensures) (O .other-than3 .ensures)) in
     image-looped l (a .image .now) (a .signs .now) (a .list .now) (a .count .now) _ o _
@@ -55,7 +55,7 @@ copy-words-requires c κs =
     let E = P .before .before in
     let O = E .before in
     let a = O .before .before .before .before .before .before .before .before .args in
-    let l : LentRecord = record { n = a .n; neighbours = a .neighbours .now; codes = a .codes .now } in
+    let l : LentRecord = lentRecord (a .n) (a .neighbours .now) (a .codes .now) in
     let o = ap₂ _||_ (O .before .before .other-than .ensures)
     (ap₂ _||_ (O .before .other-than2 .ensures) (O .other-than3 .ensures)) in
     graph-upto l (a .image .now) (a .signs .now) (a .list .now) (a .count .now) _ o _
@@ -67,7 +67,7 @@ copy-bytes-requires c κs =
     let E = P .before .before in
     let O = E .before in
     let a = O .before .before .before .before .before .before .before .before .args in
-    let l : LentRecord = record { n = a .n; neighbours = a .neighbours .now; codes = a .codes .now } in
+    let l : LentRecord = lentRecord (a .n) (a .neighbours .now) (a .codes .now) in
     let o = ap₂ _||_ (O .before .before .other-than .ensures)
     (ap₂ _||_ (O .before .other-than2 .ensures) (O .other-than3 .ensures)) in
     signs-upto l (a .image .now) (a .signs .now) (a .list .now) (a .count .now) _ o _
@@ -80,7 +80,7 @@ copy-list-requires c κs =
     let E = P .before .before in
     let O = E .before in
     let a = O .before .before .before .before .before .before .before .before .args in
-    let l : LentRecord = record { n = a .n; neighbours = a .neighbours .now; codes = a .codes .now } in
+    let l : LentRecord = lentRecord (a .n) (a .neighbours .now) (a .codes .now) in
     let o = ap₂ _||_ (O .before .before .other-than .ensures)
     (ap₂ _||_ (O .before .other-than2 .ensures) (O .other-than3 .ensures)) in (
       P .image-answer .ensures .room,
@@ -98,7 +98,7 @@ returns-3 c =
     let E = P .before .before in
     let O = E .before in
     let a = O .before .before .before .before .before .before .before .before .args in
-    let l : LentRecord = record { n = a .n; neighbours = a .neighbours .now; codes = a .codes .now } in
+    let l : LentRecord = lentRecord (a .n) (a .neighbours .now) (a .codes .now) in
     let o = ap₂ _||_ (O .before .before .other-than .ensures)
     (ap₂ _||_ (O .before .other-than2 .ensures) (O .other-than3 .ensures)) in
     image-accepted l (a .image .now) (a .signs .now) (a .list .now) (a .count .now) _ o _

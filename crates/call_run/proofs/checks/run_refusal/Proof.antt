@@ -1,6 +1,6 @@
 -- `run_refusal` meets its contract: the number of the first line that holds.
 use borrow.Author.Needs.{needs}
-use Rattle.operations.specs.Used.{UsedRecord}
+use Rattle.operations.specs.Used.{UsedRecord, usedRecord}
 use Rattle.call_run.proofs.RunLines.{many-steps, record-decides}
 use Rattle.call_run.proofs.checks.run_refusal.Statement.{statement}
 use Rattle.call_run.proofs.checks.run_refusal.Tie as tie
@@ -8,10 +8,7 @@ use Rattle.call_run.proofs.checks.run_refusal.Tie as tie
 -- the record that is lent
 abbrev lent : tie.Start → UsedRecord
 lent S =
-    record {
-      held = record { n = S .args .n; neighbours = S .args .neighbours .now; codes = S .args .codes .now };
-      used = S .args .used;
-    }
+    usedRecord (S .args .n) (S .args .neighbours .now) (S .args .codes .now) (S .args .used)
 
 returns : tie.Need-returns
 returns c =

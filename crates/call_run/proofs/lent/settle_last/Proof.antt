@@ -1,7 +1,7 @@
 -- `settle_last` meets its contract: the record that is meant after the steps.
 use mathlib.Core.Path.{ap, subst, sym, _∙_}
 use Rattle.call_run.specs.internal.Waiting.{Standing, meant}
-use Rattle.operations.specs.Used.{UsedRecord}
+use Rattle.operations.specs.Used.{UsedRecord, usedRecord}
 use borrow.Author.Needs.{needs}
 use Rattle.call_run.proofs.lent.settle_last.Statement.{statement}
 use Rattle.call_run.proofs.lent.settle_last.Tie as tie
@@ -9,10 +9,7 @@ use Rattle.call_run.proofs.lent.settle_last.Tie as tie
 -- the record that is lent
 abbrev lent : tie.Start → UsedRecord
 lent S =
-    record {
-      held = record { n = S .args .n; neighbours = S .args .neighbours .now; codes = S .args .codes .now };
-      used = S .args .used;
-    }
+    usedRecord (S .args .n) (S .args .neighbours .now) (S .args .codes .now) (S .args .used)
 
 marked-before-requires : tie.Need-marked-before-requires
 marked-before-requires c κs = search needs

@@ -1,7 +1,7 @@
 -- `turn` meets its contract: one step, and what it answers is kept.
 use mathlib.Core.Path.{subst, sym}
 use Rattle.call_run.specs.internal.Waiting.{Standing, meant}
-use Rattle.operations.specs.Used.{UsedRecord}
+use Rattle.operations.specs.Used.{UsedRecord, usedRecord}
 use Rattle.call_run.proofs.MarkedSteps.{small-answer}
 use Rattle.call_run.proofs.LentLaws.{turned}
 use borrow.Author.Needs.{needs}
@@ -11,10 +11,7 @@ use Rattle.call_run.proofs.lent.turn.Tie as tie
 -- the record that is lent
 abbrev lent : tie.Start → UsedRecord
 lent S =
-    record {
-      held = record { n = S .args .n; neighbours = S .args .neighbours .now; codes = S .args .codes .now };
-      used = S .args .used;
-    }
+    usedRecord (S .args .n) (S .args .neighbours .now) (S .args .codes .now) (S .args .used)
 
 add-place : tie.Need-add-place
 add-place c = search needs

@@ -8,17 +8,17 @@ use Rattle.jobs.proofs.ParallelLaws.{steps-long}
 use Rattle.jobs.specs.Parallel.{stepsIn}
 use Rattle.call_run.proofs.LastRecord.{first-ready}
 use Rattle.call_run.specs.internal.LentRuns.{ReadyAt}
-use Rattle.operations.specs.Used.{UsedRecord}
+use Rattle.operations.specs.Used.{UsedRecord, usedRecord}
 use Rattle.call_run.proofs.Blocks.{RunTo, at-end, block-ready, run-all, run-block-more, run-none}
 use Rattle.call_run.proofs.numbers.run_numbers.Statement.{statement}
 use Rattle.call_run.proofs.numbers.run_numbers.Tie as tie
 
 abbrev Inv-loop : tie.InvT-loop
 Inv-loop n nb₀ cs₀ used count ops a b value ans₀ word₀ k₀ nb cs ans word k =
-    RunTo (record { held = record { n = n; neighbours = nb₀; codes = cs₀ }; used = used }) (stepsIn ops a b value) count k
+    RunTo (usedRecord n nb₀ cs₀ used) (stepsIn ops a b value) count k
     ans₀ nb cs word ans
     × (length nb ≡ length nb₀) × (length cs ≡ length cs₀) × (length ans ≡ length ans₀)
-    × ReadyAt k ans (record { held = record { n = n; neighbours = nb; codes = cs }; used = word })
+    × ReadyAt k ans (usedRecord n nb cs word)
 
 abbrev μ-loop : tie.MeasureT-loop
 μ-loop n nb₀ cs₀ used count ops a b value ans₀ word₀ k₀ nb cs ans word k = count - k
@@ -26,10 +26,7 @@ abbrev μ-loop : tie.MeasureT-loop
 -- the record that is lent
 abbrev lent : tie.Start Inv-loop μ-loop → UsedRecord
 lent S =
-    record {
-      held = record { n = S .args .n; neighbours = S .args .neighbours .now; codes = S .args .codes .now };
-      used = S .args .used;
-    }
+    usedRecord (S .args .n) (S .args .neighbours .now) (S .args .codes .now) (S .args .used)
 
 -- before the loop
 abbrev begun : tie.After-slice-known3 Inv-loop μ-loop → tie.Start Inv-loop μ-loop
@@ -78,10 +75,7 @@ loop-again c =
       R .run-block .kept .1 .0 ∙ l .inv .1,
       R .run-block .kept .1 .1 .0 ∙ l .inv .2,
       R .run-block .kept .1 .1 .1 .1 .1 .1 .1 .0 ∙ l .inv .3,
-      block-ready (record {
-        held = record { n = a .n; neighbours = l .neighbours; codes = l .codes };
-        used = l .word;
-      }) (l .k) (L .block-length .result) (B .block-at .result) (omega (arith, m .2, B .block-at .ok .1 .0 .1))
+      block-ready (usedRecord (a .n) (l .neighbours) (l .codes) (l .word)) (l .k) (L .block-length .result) (B .block-at .result) (omega (arith, m .2, B .block-at .ok .1 .0 .1))
           _ _ _ _ _ (R .run-block .ensures) (l .inv .4),
     )
 

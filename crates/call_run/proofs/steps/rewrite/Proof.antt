@@ -1,6 +1,6 @@
 -- `rewrite` meets its contract: the operations without outcome, on a record that may wait.
 use native.Mathlib.Omega.{arith}
-use Rattle.operations.specs.Used.{UsedRecord}
+use Rattle.operations.specs.Used.{UsedRecord, usedRecord}
 use Rattle.call_run.proofs.WaitedSteps.{complement-waited, cz-waited, gate-waited, pivot-waited}
 use borrow.Author.Needs.{needs}
 use Rattle.call_run.proofs.steps.rewrite.Statement.{statement}
@@ -9,10 +9,7 @@ use Rattle.call_run.proofs.steps.rewrite.Tie as tie
 -- the record that is lent
 abbrev lent : tie.Start → UsedRecord
 lent S =
-    record {
-      held = record { n = S .args .n; neighbours = S .args .neighbours .now; codes = S .args .codes .now };
-      used = S .args .used;
-    }
+    usedRecord (S .args .n) (S .args .neighbours .now) (S .args .codes .now) (S .args .used)
 
 enum-told : tie.Need-enum-told
 enum-told c = search needs

@@ -1,5 +1,5 @@
 -- `run_step` meets its contract: one step on a record that no line refuses.
-use Rattle.operations.specs.Used.{UsedRecord}
+use Rattle.operations.specs.Used.{UsedRecord, usedRecord}
 use Rattle.call_run.proofs.Running.{not-measure, rewriting, value-small, wrong-by}
 use Rattle.call_run.proofs.WaitedSteps.{measured-waited, plain-waited, wrong-waited}
 use borrow.Author.Needs.{needs}
@@ -9,10 +9,7 @@ use Rattle.call_run.proofs.steps.run_step.Tie as tie
 -- the record that is lent
 abbrev lent : tie.Start → UsedRecord
 lent S =
-    record {
-      held = record { n = S .args .n; neighbours = S .args .neighbours .now; codes = S .args .codes .now };
-      used = S .args .used .now;
-    }
+    usedRecord (S .args .n) (S .args .neighbours .now) (S .args .codes .now) (S .args .used .now)
 
 unused-set-requires : tie.Need-unused-set-requires
 unused-set-requires c κs = search needs

@@ -4,7 +4,7 @@ use mathlib.Core.Path.{_≡_}
 use lib.Dec.{eqb, leb}
 use Rattle.buffers.specs.Refusals.{firstFitting}
 use Rattle.call_run.specs.internal.Waiting.{meant}
-use Rattle.operations.specs.Used.{UsedRecord, usedArgumentsOf}
+use Rattle.operations.specs.Used.{usedArgumentsOf, UsedRecord, usedRecord}
 use Rattle.calls.proofs.MeasureLines.{arguments-refuse}
 use Rattle.operations.specs.Steps.{measurementOf}
 use Rattle.call_run.proofs.WaitingLaws.{asks-before, found-14, found-none, numbered}
@@ -15,10 +15,7 @@ use Rattle.call_run.proofs.waiting.measure_number.Tie as tie
 -- the record that is lent
 abbrev lent : tie.Start → UsedRecord
 lent S =
-    record {
-      held = record { n = S .args .n; neighbours = S .args .neighbours .now; codes = S .args .codes .now };
-      used = S .args .used;
-    }
+    usedRecord (S .args .n) (S .args .neighbours .now) (S .args .codes .now) (S .args .used)
 
 -- the number of the lines of its arguments
 number : (E : tie.After-argument-number) → let S = E .before .before .before .before in

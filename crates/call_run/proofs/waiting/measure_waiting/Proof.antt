@@ -1,7 +1,7 @@
 -- `measure_waiting` meets its contract: a Pauli measured at a qubit, which is marked as used.
 use mathlib.Core.Path.{ap}
 use lib.Bits.{bitOr}
-use Rattle.operations.specs.Used.{UsedRecord}
+use Rattle.operations.specs.Used.{UsedRecord, usedRecord}
 use Rattle.call_run.proofs.WaitingLaws.{measure-asks, measure-below, measure-stepped, refused-measurement}
 use borrow.Author.Needs.{needs}
 use Rattle.call_run.proofs.waiting.measure_waiting.Statement.{statement}
@@ -10,10 +10,7 @@ use Rattle.call_run.proofs.waiting.measure_waiting.Tie as tie
 -- the record that is lent
 abbrev lent : tie.Start → UsedRecord
 lent S =
-    record {
-      held = record { n = S .args .n; neighbours = S .args .neighbours .now; codes = S .args .codes .now };
-      used = S .args .used .now;
-    }
+    usedRecord (S .args .n) (S .args .neighbours .now) (S .args .codes .now) (S .args .used .now)
 
 measure-number-requires : tie.Need-measure-number-requires
 measure-number-requires c κs = search needs

@@ -1,7 +1,7 @@
 -- `settle_waiting` meets its contract: the record that is meant, in the buffers.
 use mathlib.Core.Path.{ap, sym, _∙_}
 use Rattle.call_run.specs.internal.Waiting.{meant}
-use Rattle.operations.specs.Used.{UsedRecord}
+use Rattle.operations.specs.Used.{UsedRecord, usedRecord}
 use Rattle.call_run.proofs.WaitingLaws.{ready-held, settled-meant}
 use borrow.Author.Needs.{needs}
 use Rattle.call_run.proofs.waiting.settle_waiting.Statement.{statement}
@@ -10,10 +10,7 @@ use Rattle.call_run.proofs.waiting.settle_waiting.Tie as tie
 -- the record that is lent
 abbrev lent : tie.Start → UsedRecord
 lent S =
-    record {
-      held = record { n = S .args .n; neighbours = S .args .neighbours .now; codes = S .args .codes .now };
-      used = S .args .used;
-    }
+    usedRecord (S .args .n) (S .args .neighbours .now) (S .args .codes .now) (S .args .used)
 
 normalise-requires : tie.Need-normalise-requires
 normalise-requires c κs = ready-held _ (lent (c .before .before .before .before .before)) (c .before .before .before .before .before .pre)

@@ -6,7 +6,7 @@ use borrow.Author.Needs.{needs}
 use Rattle.buffers.proofs.Filling.{FilledBy, all-filled, none-filled}
 use Rattle.clifford.specs.Vectors.{codesOf}
 use Rattle.pauli.specs.internal.Rows.{generatorOf}
-use Rattle.record.specs.Lent.{heldRows}
+use Rattle.record.specs.Lent.{heldRows, lentRecord}
 use Rattle.comparison.specs.internal.Setting.{generatorsIn, noGenerator}
 use Rattle.comparison.proofs.ComparedRecords.{generator-sent}
 use Rattle.comparison.proofs.GeneratorRows.{generator-stored, generators-long}
@@ -16,7 +16,7 @@ use Rattle.comparison_search.proofs.records.generators.Tie as tie
 abbrev Inv-loop : tie.InvT-loop
 Inv-loop n neighbours codes rows₀ by j₀ rows j =
     FilledBy noGenerator 64
-    (λ i g. generatorOf g ≡ heldRows (record { n = n; neighbours = neighbours; codes = codes }) i) (generatorsIn rows) j
+    (λ i g. generatorOf g ≡ heldRows (lentRecord n neighbours codes) i) (generatorsIn rows) j
 
 abbrev μ-loop : tie.MeasureT-loop
 μ-loop n neighbours codes rows₀ by j₀ rows j = n - j

@@ -2,7 +2,7 @@
 use mathlib.Core.Bool.{false, _||_}
 use lib.Dec.{ltb}
 use borrow.Author.Needs.{needs}
-use Rattle.operations.specs.Used.{UsedRecord}
+use Rattle.operations.specs.Used.{UsedRecord, usedRecord}
 use Rattle.operations_checks.proofs.UsedNumbers.{no-further}
 use Rattle.groups_impl.proofs.EarlyNumbers.{of-64, other-count, record-refused, then-19, then-none}
 use Rattle.groups_impl.proofs.records.group_refusal.Statement.{statement}
@@ -11,10 +11,7 @@ use Rattle.groups_impl.proofs.records.group_refusal.Tie as tie
 -- the record that is lent
 abbrev lent : tie.Start → UsedRecord
 lent S =
-    record {
-      held = record { n = S .args .n; neighbours = S .args .neighbours .now; codes = S .args .codes .now };
-      used = S .args .used;
-    }
+    usedRecord (S .args .n) (S .args .neighbours .now) (S .args .codes .now) (S .args .used)
 
 returns : tie.Need-returns
 returns c =

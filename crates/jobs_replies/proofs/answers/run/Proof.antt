@@ -5,17 +5,14 @@ use lib.Seq.{length-take-le}
 use native.Mathlib.Omega.{arith}
 use borrow.Author.Needs.{needs}
 use Rattle.call_run.proofs.LastRecord.{first-ready, last-ready, last-settled}
-use Rattle.operations.specs.Used.{UsedRecord}
+use Rattle.operations.specs.Used.{UsedRecord, usedRecord}
 use Rattle.jobs_replies.proofs.answers.run.Statement.{statement}
 use Rattle.jobs_replies.proofs.answers.run.Tie as tie
 
 -- the record that is lent
 abbrev lent : tie.Start → UsedRecord
 lent S =
-    record {
-      held = record { n = S .args .n; neighbours = S .args .neighbours .now; codes = S .args .codes .now };
-      used = 0;
-    }
+    usedRecord (S .args .n) (S .args .neighbours .now) (S .args .codes .now) 0
 
 all : (S : tie.Start) → length (take (S .args .count) (S .args .steps)) ≡ S .args .count
 all S = length-take-le (S .args .count) (S .args .steps) (omega (arith, S .pre .0, S .good .1 .1 .1 .0 .1))

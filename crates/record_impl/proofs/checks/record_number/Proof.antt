@@ -5,7 +5,7 @@ use Rattle.buffers.proofs.Fitting.{first-is}
 use Rattle.buffers.specs.Answers.{here, later, none}
 use Rattle.stabilizer.proofs.EarlyLines.{either-says, says}
 use Rattle.stabilizer.proofs.SharedTests.{counted}
-use Rattle.record.specs.Lent.{LentRecord, recordLengths}
+use Rattle.record.specs.Lent.{LentRecord, lentRecord, recordLengths}
 use Rattle.record.proofs.RecordLines.{square-tested}
 use Rattle.record_impl.proofs.checks.record_number.Statement.{statement}
 use Rattle.record_impl.proofs.checks.record_number.Tie as tie
@@ -48,7 +48,7 @@ not-simple-requires c κs =
     let past4 = past5 .before .before in
     let past2 = past4 .before .before in
     let a = past2 .before .before .before .before .args in
-    let l : LentRecord = record { n = a .n; neighbours = a .neighbours .now; codes = a .codes .now } in
+    let l : LentRecord = lentRecord (a .n) (a .neighbours .now) (a .codes .now) in
     square-tested l (a .others) (says (past2 .before .bad-count .ensures) (past2 .if1 .left))
     (either-says {b = recordLengths l} (past4 .before .record-lengths .ensures) refl (past4 .if2 .left))
 

@@ -2,7 +2,7 @@
 use mathlib.Core.Path.{_∙_}
 use Prim.Native.Nat.{_-_}
 use borrow.Author.Needs.{needs}
-use Rattle.record.specs.Lent.{LentRecord, heldRows}
+use Rattle.record.specs.Lent.{heldRows, LentRecord, lentRecord}
 use Rattle.record.proofs.ExpandedBuffers.{BuffersMade, all-made, none-made, one-made}
 use Rattle.record.proofs.ExpandedRows.{held-row, held-within}
 use Rattle.record_impl.proofs.expansion.expand_into.Statement.{statement}
@@ -10,7 +10,7 @@ use Rattle.record_impl.proofs.expansion.expand_into.Tie as tie
 
 abbrev Inv-loop : tie.InvT-loop
 Inv-loop n neighbours codes signs₀ z₀ x₀ by j₀ signs z x j =
-    BuffersMade n (heldRows (record { n = n; neighbours = neighbours; codes = codes })) signs z x j
+    BuffersMade n (heldRows (lentRecord n neighbours codes)) signs z x j
 
 abbrev μ-loop : tie.MeasureT-loop
 μ-loop n neighbours codes signs₀ z₀ x₀ by j₀ signs z x j = n - j
@@ -27,7 +27,7 @@ loop-again c =
     let start = at .before .before in
     let s = start .before .before .before .before .before .before in
     let a = s .args in
-    let l : LentRecord = record { n = a .n; neighbours = a .neighbours .now; codes = a .codes .now } in
+    let l : LentRecord = lentRecord (a .n) (a .neighbours .now) (a .codes .now) in
     let g = c .before .expanded-row .result in
     let j = at .before .loop .j in
     one-made (a .n) (heldRows l) (at .before .loop .signs) (at .before .loop .z) (at .before .loop .x) j
@@ -41,7 +41,7 @@ returns : tie.Need-returns Inv-loop μ-loop
 returns c =
     let s = c .before .before .before .before .before .before .before .before in
     let a = s .args in
-    let l : LentRecord = record { n = a .n; neighbours = a .neighbours .now; codes = a .codes .now } in
+    let l : LentRecord = lentRecord (a .n) (a .neighbours .now) (a .codes .now) in
     all-made (a .n) (heldRows l) (c .before .loop .signs) (c .before .loop .z) (c .before .loop .x)
     (c .before .loop .j) (c .before .loop .inv) (c .loop-test .left)
 
