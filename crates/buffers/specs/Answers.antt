@@ -24,11 +24,11 @@ HoldsAnswer (buffer before answer after) = after ≡ answer
 HoldsAnswer (number before answer after) = after ≡ answer
 
 -- the three together: which number, what a refused call leaves, what an accepted one does
-pub record Answers (c : Contract) (r : ℕ) : Type 0 where
+pub record CallAnswers (c : Contract) (r : ℕ) : Type 0 where
   pub first : FirstFits (c .lines) r
   pub refused : (r ≡ 0 → ⊥) → EachOf Unchanged (c .lent)
   pub accepted : r ≡ 0 → EachOf HoldsAnswer (c .lent)
 
 -- of every call
 abbrev pub EveryCallAnswers : Type 0
-EveryCallAnswers = (c : Contract) (r : ℕ) → Call c r → Answers c r
+EveryCallAnswers = (c : Contract) (r : ℕ) → Call c r → CallAnswers c r

@@ -6,7 +6,7 @@ use Prim.Native.Nat.{ℕ, _≤_}
 use lib.ListN.{length}
 use Rattle.buffers.proofs.Lines.{fits, more-accepted, passed}
 use Rattle.buffers.specs.Refusals.{firstFitting, otherThan}
-use Rattle.comparison.specs.Compared.{pairCount, pairLines}
+use Rattle.comparison.specs.Compared.{badCounts, pairLines}
 use Rattle.buffers.proofs.Calling.{refused, written-all}
 use Rattle.buffers.proofs.Fitting.{stays}
 use Rattle.buffers.specs.Calls.{Call}
@@ -94,10 +94,10 @@ module _ (limited : Bool) (n : ℕ) (s z x s₂ z₂ x₂ choice list : List ℕ
 
 -- ---- the lines before the reductions
 module _ (limited : Bool) (l m : GeneratorList) (choice list : List ℕ) (count : ℕ) where
-  pub refused-2 : pairCount l m ≡ true → Call (comparingCall limited l m choice list count choice list count) 2
+  pub refused-2 : badCounts l m ≡ true → Call (comparingCall limited l m choice list count choice list count) 2
   refused-2 h = record { number = sym (fits 2 _ h); held = (refl, (refl, (refl, tt))) }
 
-  module _ (p : pairCount l m ≡ false) where
+  module _ (p : badCounts l m ≡ false) where
     module _ (o : Bool) (e : o ≡ (otherThan (l .n) choice || otherThan 96 list)) where
       pub refused-4 : o ≡ true → Call (comparingCall limited l m choice list count choice list count) 4
       refused-4 t =

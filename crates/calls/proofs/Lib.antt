@@ -15,4 +15,4 @@ pub mod PlotLines
 pub mod RunLines
 pub mod ImageLeft
 pub mod SourceCalls
-pub mod GroupSourceCalls
+pub mod PartySourceCalls

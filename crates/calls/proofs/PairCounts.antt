@@ -5,12 +5,12 @@ use Prim.Native.Nat.{_≤_}
 use lib.Dec.{eqb}
 use borrow.Author.Tests.{eqb-true, not-false}
 use Rattle.buffers.specs.Refusals.{badCount}
-use Rattle.comparison.specs.Compared.{pairCount}
+use Rattle.comparison.specs.Compared.{badCounts}
 use Rattle.stabilizer.proofs.SharedTests.{counted}
 use Rattle.stabilizer.specs.Lists.{GeneratorList}
 use Rattle.words.proofs.Flags.{neither}
 
-module _ (l m : GeneratorList) (p : pairCount l m ≡ false) where
+module _ (l m : GeneratorList) (p : badCounts l m ≡ false) where
   pub counts-agree : l .n ≡ m .n
   counts-agree =
       eqb-true (l .n) (m .n) (not-false (eqb (l .n) (m .n))

@@ -14,8 +14,8 @@ pub mod Equivalences
 pub mod Generation
 pub mod Orbits
 pub mod Stores
-pub mod Groups
-pub mod GroupStores
+pub mod Parties
+pub mod PartyStores
 pub mod Runs
 pub mod ListAnswers
 pub mod PlotAnswers

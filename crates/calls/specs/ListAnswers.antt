@@ -21,8 +21,8 @@ listRead ls =
 -- "it prints the names `qubit code neighbours` and one line per qubit ..; or the one line `refused` and the number":
 -- the list's record, or the number of the first line that holds of the list. "A record made from a list has the word 0"
 -- of used qubits
-unfoldable pub answerText : GeneratorList → List ℕ
-answerText l =
+unfoldable pub listAnswer : GeneratorList → List ℕ
+listAnswer l =
     cond (eqb (firstFitting (checkLines l)) 0)
     (recordText (l .n) (neighbourWords (l .n) (reduced (l .n) (rows l)))
     (codeNumbers (l .n) (reduced (l .n) (rows l))) 0)
@@ -30,12 +30,12 @@ answerText l =
 
 -- these bytes answer the text t, where `answer` says what is printed for a list. 1: "The program's text does not have its
 -- form"
-pub record Answers (answer : GeneratorList → List ℕ) (t bytes : List ℕ) : Type 0 where
+pub record AnswersList (answer : GeneratorList → List ℕ) (t bytes : List ℕ) : Type 0 where
   pub malformed : (HasForm t → ⊥) → bytes ≡ refusedText 1
   pub formed : (ls : List ListLine) → TextOf ls t → bytes ≡ answer (listRead ls)
 
 -- the answer to the text t was printed
-pub record ResponseTo (answer : GeneratorList → List ℕ) (t before after : List ℕ) (r : ℕ) : Type 0 where
+pub record ListResponse (answer : GeneratorList → List ℕ) (t before after : List ℕ) (r : ℕ) : Type 0 where
   pub bytes : List ℕ
-  pub answers : Answers answer t bytes
+  pub answers : AnswersList answer t bytes
   pub out : Printed bytes 0 before after r

@@ -3,7 +3,7 @@
 use mathlib.Core.List.{List, [], _∷_}
 use Prim.Native.Nat.{ℕ}
 use Rattle.buffers.specs.Calls.{Contract, buffer, contractOf, number}
-use Rattle.source.specs.GroupSources.{groupObserveLines, groupObserved, groupRenewLines}
+use Rattle.source.specs.PartySources.{partyObserveLines, partyObserved, partyRenewLines}
 use Rattle.operations.specs.Measurement.{determinedNumber, outcomeNumber}
 use Rattle.operations.specs.Steps.{measuredAnswer, measurementOf}
 use Rattle.source.specs.Renewal.{renewLines, renewed}
@@ -27,19 +27,19 @@ renewCall u q k neighbours′ codes′ used′ =
     ∷ buffer (u .held .codes) ((renewed u q k) .held .codes) codes′ ∷ [])
 
 -- ---- sukhlent_group_observe: outcome and determined are those of the whole record
-abbrev pub groupObserveCall : ℕ → ℕ → UsedRecord → ℕ → ℕ → ℕ → ℕ → ℕ → List ℕ → List ℕ → ℕ → ℕ → ℕ → Contract
-groupObserveCall word g u pauli q b answer determined neighbours′ codes′ used′ answer′ determined′ =
-    contractOf (groupObserveLines word g u pauli q b)
-    (number (u .used) ((groupObserved word g u pauli q b) .used) used′
+abbrev pub partyObserveCall : ℕ → ℕ → UsedRecord → ℕ → ℕ → ℕ → ℕ → ℕ → List ℕ → List ℕ → ℕ → ℕ → ℕ → Contract
+partyObserveCall word g u pauli q b answer determined neighbours′ codes′ used′ answer′ determined′ =
+    contractOf (partyObserveLines word g u pauli q b)
+    (number (u .used) ((partyObserved word g u pauli q b) .used) used′
     ∷ number answer (outcomeNumber (measuredAnswer (u .held) pauli q b)) answer′
     ∷ number determined (determinedNumber (measuredAnswer (u .held) pauli q b)) determined′
-    ∷ buffer (u .held .neighbours) ((groupObserved word g u pauli q b) .held .neighbours) neighbours′
-    ∷ buffer (u .held .codes) ((groupObserved word g u pauli q b) .held .codes) codes′ ∷ [])
+    ∷ buffer (u .held .neighbours) ((partyObserved word g u pauli q b) .held .neighbours) neighbours′
+    ∷ buffer (u .held .codes) ((partyObserved word g u pauli q b) .held .codes) codes′ ∷ [])
 
 -- ---- sukhlent_group_renew
-abbrev pub groupRenewCall : ℕ → ℕ → UsedRecord → ℕ → ℕ → List ℕ → List ℕ → ℕ → Contract
-groupRenewCall word g u q k neighbours′ codes′ used′ =
-    contractOf (groupRenewLines word g u q k)
+abbrev pub partyRenewCall : ℕ → ℕ → UsedRecord → ℕ → ℕ → List ℕ → List ℕ → ℕ → Contract
+partyRenewCall word g u q k neighbours′ codes′ used′ =
+    contractOf (partyRenewLines word g u q k)
     (number (u .used) ((renewed u q k) .used) used′
     ∷ buffer (u .held .neighbours) ((renewed u q k) .held .neighbours) neighbours′
     ∷ buffer (u .held .codes) ((renewed u q k) .held .codes) codes′ ∷ [])

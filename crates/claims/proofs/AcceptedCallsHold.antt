@@ -3,7 +3,7 @@ use Rattle.claims.proofs.families.Amplitudes.{amplitudes-accepted}
 use Rattle.claims.proofs.families.Comparisons.{comparisons-accepted}
 use Rattle.claims.proofs.families.Expectations.{expectations-accepted}
 use Rattle.claims.proofs.families.Generator.{generations-accepted}
-use Rattle.claims.proofs.families.Groups.{groups-accepted}
+use Rattle.claims.proofs.families.Parties.{parties-accepted}
 use Rattle.claims.proofs.families.Lists.{lists-accepted}
 use Rattle.claims.proofs.families.Orbits.{orbits-accepted}
 use Rattle.claims.proofs.families.Records.{records-accepted}
@@ -21,5 +21,5 @@ accepted-exactly =
       amplitudes = amplitudes-accepted;
       expectations = expectations-accepted;
       stores = stores-accepted;
-      groups = groups-accepted;
+      parties = parties-accepted;
     }

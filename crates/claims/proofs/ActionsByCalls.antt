@@ -1,4 +1,4 @@
--- What the contract of each call on a record and on a store says is the action of a session.
+-- What the contract of each call on a record and on a store says is the action of a sessionOf.
 use mathlib.Core.Bool.{Bool, cond, false, not, true, _||_}
 use mathlib.Core.List.{List}
 use mathlib.Core.Path.{ap, ap₂, refl, sym, _∙_, _≡_}
@@ -32,7 +32,7 @@ use Rattle.claims.specs.ActionContracts.{
   SaveLeaves,
   StepLeaves,
   inBuffers,
-  session,
+  sessionOf,
   stepWith,
 }
 use Rattle.claims.specs.UsedDemand.{leftUsed}
@@ -43,7 +43,7 @@ use Rattle.claims.specs.StoreDemand.{storeOf}
 step-leaves : (u : UsedRecord) (step : Step) → unusedSet (step .op) (step .b) (step .value) ≡ false → (r : ℕ)
     (nb′ cs′ : List ℕ) (used′ : ℕ) → Call (usedCall u (asked step) nb′ cs′) r →
     used′ ≡ (usedStep u (asked step)) .after .used → StepLeaves u step (leftUsed u nb′ cs′ used′)
-step-leaves u step unset r nb′ cs′ used′ C e st = ap (λ v. session v st)
+step-leaves u step unset r nb′ cs′ used′ C e st = ap (λ v. sessionOf v st)
     (left-by-operation u step unset
     ∙ λ i. record { held = sym (is-after u (asked step) r nb′ cs′ C) i; used = sym e i })
 
@@ -60,14 +60,14 @@ measure-leaves : (u : UsedRecord) (pauli q b answer determined r : ℕ) (nb′ c
     Call (usedMeasureCall u pauli q b answer determined nb′ cs′ used′ answer′ determined′) r →
     MeasureLeaves u pauli q b (leftUsed u nb′ cs′ used′)
 measure-leaves u pauli q b answer determined r nb′ cs′ used′ answer′ determined′ C value p e st =
-    ap (λ v. session v st) (left-by-operation u (stepWith Measure q 0 value) refl
+    ap (λ v. sessionOf v st) (left-by-operation u (stepWith Measure q 0 value) refl
     ∙ ap₂ (λ p b. (usedStep u (measurementOf p q b)) .after) (sym p) (sym e)
     ∙ sym (is-measured u pauli q b answer determined r nb′ cs′ used′ answer′ determined′ C))
 
 -- ---- a save
 save-leaves : (u : UsedRecord) (name : ℕ) (st : Store) (r : ℕ) (heads′ nb′ cs′ : List ℕ) →
     Call (saveCall u name st heads′ nb′ cs′) r → SaveLeaves u name st heads′ nb′ cs′
-save-leaves u name st r heads′ nb′ cs′ C = ap (session u) (sym
+save-leaves u name st r heads′ nb′ cs′ C = ap (sessionOf u) (sym
     ((λ j. storeOf (by _ _ (C .held .0) j) (by _ _ (C .held .1 .0) j) (by _ _ (C .held .1 .1 .0) j))
     ∙ go (eqb (firstFitting (saveLines 8 u name st)) 0)))
   where
@@ -84,7 +84,7 @@ save-leaves u name st r heads′ nb′ cs′ C = ap (session u) (sym
 -- ---- a forget
 forget-leaves : (name : ℕ) (st : Store) (r : ℕ) (heads′ : List ℕ) → Call (forgetCall name st heads′) r →
     ForgetLeaves name st heads′
-forget-leaves name st r heads′ C u = ap (session u) (sym
+forget-leaves name st r heads′ C u = ap (sessionOf u) (sym
     (ap (λ heads. storeOf heads (st .neighbours) (st .codes))
     (C .held .0 ∙ ap (λ k. accepted k (forgottenHeads 8 name (st .heads)) (st .heads)) (C .number))
     ∙ go (eqb (firstFitting (namedLines 8 name st false)) 0)))
@@ -115,9 +115,9 @@ module _ (name : ℕ) (st : Store) (n : ℕ) (nb cs : List ℕ) (used n′ : ℕ
   return-leaves : ReturnLeaves name st n′ nb′ cs′ used′ r
   return-leaves =
       record {
-        accepted = λ z u. ap (λ v. session v st)
+        accepted = λ z u. ap (λ v. sessionOf v st)
             (ap (λ b. cond b (heldUnder name st) u) (eq-eqb _ 0 (sym number ∙ z)) ∙ back z);
-        refused = λ h u. ap (λ v. session v st)
+        refused = λ h u. ap (λ v. sessionOf v st)
             (ap (λ b. cond b (heldUnder name st) u) (ne-eqb _ 0 (λ z. h (number ∙ z))));
       }
 

@@ -18,7 +18,7 @@ use Rattle.claims.proofs.ThirdDemandHolds.{decided-by, last-line}
 use Rattle.claims.proofs.families.Shared.{answered, table-fills, written-fills}
 use Rattle.claims.specs.Conforming.{Conforms}
 use Rattle.comparison.specs.Choices.{noChoice}
-use Rattle.comparison.specs.Compared.{pairCount, pairLines}
+use Rattle.comparison.specs.Compared.{badCounts, pairLines}
 use Rattle.comparison.specs.ComparedPairs.{compareList}
 use Rattle.buffers.proofs.Calling.{written-all}
 use Rattle.buffers.specs.Calls.{Call}
@@ -154,7 +154,7 @@ buffers-unread l m choice list choice₂ list₂ e f =
   where
     linesOf : Bool → List Refusal
     linesOf others =
-        line 2 (pairCount l m) ∷ line 4 (listLengths l || (listLengths m || others))
+        line 2 (badCounts l m) ∷ line 4 (listLengths l || (listLengths m || others))
         ∷ line 5 (listStray l || listStray m) ∷ line 6 (listSigns l || listSigns m)
         ∷ line 9 (clashing (l .n) (rows l) || clashing (m .n) (rows m))
         ∷ line 10 (dependent (l .n) (rows l) || dependent (m .n) (rows m))

@@ -8,7 +8,7 @@ use Rattle.claims.proofs.families.Amplitudes.{amplitudes-conform}
 use Rattle.claims.proofs.families.Comparisons.{comparison-buffers-unread, comparisons-conform}
 use Rattle.claims.proofs.families.Expectations.{expectations-conform}
 use Rattle.claims.proofs.families.Generator.{generation-buffers-unread, generations-conform}
-use Rattle.claims.proofs.families.Groups.{groups-conform}
+use Rattle.claims.proofs.families.Parties.{parties-conform}
 use Rattle.claims.proofs.families.Lists.{list-buffers-unread, lists-conform}
 use Rattle.claims.proofs.families.Orbits.{orbit-buffers-unread, orbits-conform}
 use Rattle.claims.proofs.families.Records.{record-buffers-unread, records-conform}
@@ -28,7 +28,7 @@ first-demand =
       amplitudes = amplitudes-conform;
       expectations = expectations-conform;
       stores = stores-conform;
-      groups = groups-conform;
+      parties = parties-conform;
     }
 
 pub answer-buffers-unread : AnswerBuffersUnread

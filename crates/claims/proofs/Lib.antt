@@ -13,7 +13,7 @@ pub mod ExpectationDemandHolds
 pub mod FirstDemandHolds
 pub mod GatesFollow
 pub mod GeneratorDemandHolds
-pub mod GroupsExactly
+pub mod PartiesExactly
 pub mod ImageDemandHolds
 pub mod InPlaceExactly
 pub mod JobSteps

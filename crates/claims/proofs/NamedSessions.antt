@@ -31,7 +31,7 @@ use Rattle.claims.specs.StoreDemand.{
   SessionsStand,
   StartedSessionsStand,
   afterAction,
-  chosen,
+  eitherGroup,
   does,
   emptyStore,
   forgets,
@@ -47,11 +47,11 @@ not-found : {A : Type 0} {v : UsedRecord} → nothing ≡ found v → A
 not-found e = let z : _≡_ {A = ℕ} 0 1 = cc in absurd (omega (arith, z))
 
 -- by whether the name is the one in question
-chosen-same : (b : Bool) (G H : Group) (v : UsedRecord) → b ≡ true → StandsFor v G → StandsFor v (chosen b G H)
+chosen-same : (b : Bool) (G H : Group) (v : UsedRecord) → b ≡ true → StandsFor v G → StandsFor v (eitherGroup b G H)
 chosen-same true G H v e S = S
 chosen-same false G H v e S = absurd (false≢true e)
 
-chosen-other : (b : Bool) (G H : Group) (v : UsedRecord) → b ≡ false → StandsFor v H → StandsFor v (chosen b G H)
+chosen-other : (b : Bool) (G H : Group) (v : UsedRecord) → b ≡ false → StandsFor v H → StandsFor v (eitherGroup b G H)
 chosen-other true G H v e S = absurd (true≢false e)
 chosen-other false G H v e S = S
 
@@ -59,7 +59,7 @@ module _ (s : Session) (g : Groups) (S : SessionStands s g) (name : ℕ) where
   -- ---- a save
   save-named : firstFitting (saveLines 8 (s .current) name (s .store)) ≡ 0 → (m : ℕ) (v : UsedRecord)
       → lookup 8 (saved 8 (s .current) name (s .store)) m ≡ found v → Dec (m ≡ name)
-      → StandsFor v (chosen (eqb m name) (g .current) (g .named m))
+      → StandsFor v (eitherGroup (eqb m name) (g .current) (g .named m))
   save-named z m v e (yes p) = chosen-same (eqb m name) (g .current) (g .named m) v (eq-eqb m name p)
       (subst (λ w. StandsFor w (g .current)) (same-record (sym (ap (λ b. cond b (found (s .current)) (lookup 8 (s .store) m))
       (eq-eqb m name p)) ∙ sym (under z m) ∙ e)) (S .current))
@@ -76,7 +76,7 @@ module _ (s : Session) (g : Groups) (S : SessionStands s g) (name : ℕ) where
 
   save-stands : (b : Bool) → (b ≡ true → firstFitting (saveLines 8 (s .current) name (s .store)) ≡ 0) → SessionStands
       (record { current = s .current; store = cond b (saved 8 (s .current) name (s .store)) (s .store) })
-      (record { current = g .current; named = λ m. chosen (b && eqb m name) (g .current) (g .named m) })
+      (record { current = g .current; named = λ m. eitherGroup (b && eqb m name) (g .current) (g .named m) })
   save-stands false z = record { current = S .current; named = S .named; still = S .still }
   save-stands true z =
       record {
@@ -90,7 +90,7 @@ module _ (s : Session) (g : Groups) (S : SessionStands s g) (name : ℕ) where
   -- ---- a return
   return-stands : (b : Bool) → (b ≡ true → firstFitting (namedLines 8 name (s .store) false) ≡ 0) → SessionStands
       (record { current = cond b (heldUnder name (s .store)) (s .current); store = s .store })
-      (record { current = chosen b (g .named name) (g .current); named = g .named })
+      (record { current = eitherGroup b (g .named name) (g .current); named = g .named })
   return-stands false z = record { current = S .current; named = S .named; still = S .still }
   return-stands true z =
       record {

@@ -5,7 +5,7 @@ use Rattle.claims.specs.families.Amplitudes.{AmplitudesAccepted}
 use Rattle.claims.specs.families.Comparisons.{ComparisonsAccepted}
 use Rattle.claims.specs.families.Expectations.{ExpectationsAccepted}
 use Rattle.claims.specs.families.Generator.{GenerationsAccepted}
-use Rattle.claims.specs.families.Groups.{GroupsAccepted}
+use Rattle.claims.specs.families.Parties.{PartiesAccepted}
 use Rattle.claims.specs.families.Lists.{ListsAccepted}
 use Rattle.claims.specs.families.Orbits.{OrbitsAccepted}
 use Rattle.claims.specs.families.Records.{RecordsAccepted}
@@ -21,4 +21,4 @@ pub record AcceptedExactly : Type 0 where
   pub amplitudes : AmplitudesAccepted
   pub expectations : ExpectationsAccepted
   pub stores : StoresAccepted
-  pub groups : GroupsAccepted
+  pub parties : PartiesAccepted

@@ -1,4 +1,4 @@
--- The actions of a session are the exported calls: what the contract of each says is the action (02, §5, §12).
+-- The actions of a sessionOf are the exported calls: what the contract of each says is the action (02, §5, §12).
 use mathlib.Core.List.{List}
 use mathlib.Core.Path.{_≡_}
 use Prim.Native.Nat.{_%_, _+_, _/_, ℕ}
@@ -16,8 +16,8 @@ use Rattle.claims.specs.StoreDemand.{Session, afterAction, does, forgets
 use Rattle.claims.specs.UsedDemand.{leftUsed}
 
 -- the record in hand and the store
-abbrev pub session : UsedRecord → Store → Session
-session u st = record { current = u; store = st }
+abbrev pub sessionOf : UsedRecord → Store → Session
+sessionOf u st = record { current = u; store = st }
 
 -- ---- steps
 -- the step with these fields
@@ -26,7 +26,7 @@ stepWith op a b value = record { op = op; a = a; b = b; value = value }
 
 -- the step leaves this record, whatever the store, and the store as it was
 abbrev pub StepLeaves : UsedRecord → Step → UsedRecord → Type 0
-StepLeaves u step after = (st : Store) → afterAction (session u st) (does step) ≡ session after st
+StepLeaves u step after = (st : Store) → afterAction (sessionOf u st) (does step) ≡ sessionOf after st
 
 -- a measurement is each step whose value says its Pauli and its outcome, "2 × (Pauli − 1) + outcome"
 abbrev pub MeasureLeaves : UsedRecord → ℕ → ℕ → ℕ → UsedRecord → Type 0
@@ -37,12 +37,12 @@ MeasureLeaves u pauli q b after =
 -- a save leaves the record and these three buffers
 abbrev pub SaveLeaves : UsedRecord → ℕ → Store → List ℕ → List ℕ → List ℕ → Type 0
 SaveLeaves u name st heads′ nb′ cs′ =
-    afterAction (session u st) (saves name) ≡ session u (storeOf heads′ nb′ cs′)
+    afterAction (sessionOf u st) (saves name) ≡ sessionOf u (storeOf heads′ nb′ cs′)
 
 -- a forget writes the heads alone
 abbrev pub ForgetLeaves : ℕ → Store → List ℕ → Type 0
 ForgetLeaves name st heads′ = (u : UsedRecord) →
-    afterAction (session u st) (forgets name) ≡ session u (storeOf heads′ (st .neighbours) (st .codes))
+    afterAction (sessionOf u st) (forgets name) ≡ sessionOf u (storeOf heads′ (st .neighbours) (st .codes))
 
 -- the record in buffers of 64 places: its n, the first n places, its used word
 abbrev pub inBuffers : ℕ → List ℕ → List ℕ → ℕ → UsedRecord
@@ -51,8 +51,8 @@ inBuffers n nb cs used = usedRecord n (take n nb) (take n cs) used
 -- a return: accepted, the record in hand is the one in the buffers, whatever it was; refused, nothing is changed
 pub record ReturnLeaves (name : ℕ) (st : Store) (n′ : ℕ) (nb′ cs′ : List ℕ) (used′ r : ℕ) : Type 0 where
   pub accepted : r ≡ 0 → (u : UsedRecord) →
-      afterAction (session u st) (returns name) ≡ session (inBuffers n′ nb′ cs′ used′) st
-  pub refused : (r ≡ 0 → ⊥) → (u : UsedRecord) → afterAction (session u st) (returns name) ≡ session u st
+      afterAction (sessionOf u st) (returns name) ≡ sessionOf (inBuffers n′ nb′ cs′ used′) st
+  pub refused : (r ≡ 0 → ⊥) → (u : UsedRecord) → afterAction (sessionOf u st) (returns name) ≡ sessionOf u st
 
 -- ---- of each call, refused or not. A gate, a cz and a complementation are not lent the used word; a return is lent
 -- buffers of 64 places

@@ -7,7 +7,7 @@ use Prim.Native.Nat.{ℕ}
 use lib.Dec.{eqb}
 use lib.ListN.{length}
 use Rattle.buffers.specs.Refusals.{firstFitting, Refusal}
-use Rattle.buffers.specs.Answers.{Answers}
+use Rattle.buffers.specs.Answers.{CallAnswers}
 use Rattle.buffers.specs.Calls.{buffer, Call, Contract, EachOf, Lent, number}
 
 -- "the published list": the numbers in checking order; a call tests some of them, in that order. 14 is "checked after
@@ -38,10 +38,10 @@ pub record Conforms (c : Contract) : Type 0 where
 
 -- demand 1 of a call that answers r
 pub record Answered (c : Contract) (r : ℕ) : Type 0 where
-  pub answers : Answers c r
+  pub answers : CallAnswers c r
   pub conforms : Conforms c
 
 -- what a call answers is all that its contract says: a sentence about two calls with these contracts is one about any
 -- two functions of which demand 1 holds
 abbrev pub AnswersSayAll : Type 0
-AnswersSayAll = (c : Contract) (r : ℕ) → Answers c r → Call c r
+AnswersSayAll = (c : Contract) (r : ℕ) → CallAnswers c r → Call c r

@@ -8,7 +8,7 @@ use Rattle.claims.specs.families.Amplitudes.{AmplitudesConform}
 use Rattle.claims.specs.families.Comparisons.{ComparisonBuffersUnread, ComparisonsConform}
 use Rattle.claims.specs.families.Expectations.{ExpectationsConform}
 use Rattle.claims.specs.families.Generator.{GenerationBuffersUnread, GenerationsConform}
-use Rattle.claims.specs.families.Groups.{GroupsConform}
+use Rattle.claims.specs.families.Parties.{PartiesConform}
 use Rattle.claims.specs.families.Lists.{ListBuffersUnread, ListsConform}
 use Rattle.claims.specs.families.Orbits.{OrbitBuffersUnread, OrbitsConform}
 use Rattle.claims.specs.families.Records.{RecordBuffersUnread, RecordsConform}
@@ -25,7 +25,7 @@ pub record FirstDemand : Type 0 where
   pub amplitudes : AmplitudesConform
   pub expectations : ExpectationsConform
   pub stores : StoresConform
-  pub groups : GroupsConform
+  pub parties : PartiesConform
 
 -- "What a buffer lent only for the answer holds before the call makes no line true": buffers of equal lengths give equal
 -- numbers

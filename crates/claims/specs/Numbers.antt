@@ -3,7 +3,7 @@
 -- where its line below is true", and it is the first.
 --
 -- Of the calls in place: operations/specs/UsedSentences; of a store: store/specs/StoreSentences; of a group:
--- groups/specs/GroupSentences.
+-- groups/specs/PartySentences.
 use mathlib.Core.Bool.{true}
 use mathlib.Core.List.{_++_, List, [], _∷_}
 use mathlib.Core.Logic.{_≢_, _⊎_}

@@ -7,7 +7,7 @@ use lib.ListN.{length, take}
 use Rattle.amplitude.specs.Ratios.{plotAt}
 use Rattle.buffers.specs.Refusals.{firstFitting}
 use Rattle.calls.specs.Lists.{checkLines}
-use Rattle.calls.specs.ListAnswers.{ResponseTo, listRead}
+use Rattle.calls.specs.ListAnswers.{ListResponse, listRead}
 use Rattle.pauli.specs.Pauli.{Pauli}
 use Rattle.calls.specs.PlotAnswers.{plotAnswer}
 use Rattle.jobs.specs.Table.{tableText}
@@ -41,4 +41,4 @@ pub record PlotTextAnswered (t bytes : List ℕ) : Type 0 where
 -- of every response of `amplitudes`
 abbrev pub PlotTextsAnswered : Type 0
 PlotTextsAnswered =
-    (t before after : List ℕ) (end : ℕ) → ResponseTo plotAnswer t before after end → PlotTextAnswered t (take end after)
+    (t before after : List ℕ) (end : ℕ) → ListResponse plotAnswer t before after end → PlotTextAnswered t (take end after)

@@ -16,7 +16,7 @@ use Rattle.jobs.specs.Runs.{recordAfter, run, started}
 use Rattle.jobs.specs.Standing.{StandsFor, StillRecord}
 use Rattle.jobs.specs.declared.Step.{Step}
 use Rattle.calls.specs.Lists.{checkLines}
-use Rattle.calls.specs.ListAnswers.{ResponseTo as ListResponse, answerText, listRead}
+use Rattle.calls.specs.ListAnswers.{ResponseTo as ListResponse, listAnswer, listRead}
 use Rattle.operations.specs.Measurement.{pauliLetter, single}
 use Rattle.operations.specs.Steps.{Operation, complementOf, czOn, gateWith, measurementOf, pivotOf}
 use Rattle.pauli.specs.Pauli.{Pauli}
@@ -55,7 +55,7 @@ pub record ListTextAnswered (t bytes : List ℕ) : Type 0 where
 -- of every response of `reduce`
 abbrev pub ListTextsAnswered : Type 0
 ListTextsAnswered =
-    (t before after : List ℕ) (end : ℕ) → ListResponse answerText t before after end → ListTextAnswered t (take end after)
+    (t before after : List ℕ) (end : ℕ) → ListResponse listAnswer t before after end → ListTextAnswered t (take end after)
 
 -- ---- `job`
 -- the operation is a measurement, and "the Pauli or its negative is in the group"

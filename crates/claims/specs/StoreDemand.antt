@@ -115,9 +115,9 @@ pub record Groups : Type 1 where
   pub named : ℕ → Group
 
 -- the first where the test is true, else the second
-abbrev pub chosen : Bool → Group → Group → Group
-chosen true G H = G
-chosen false G H = H
+abbrev pub eitherGroup : Bool → Group → Group → Group
+eitherGroup true G H = G
+eitherGroup false G H = H
 
 -- what each action makes of the groups: a save puts the group in hand under its name, a return takes that group in
 -- hand; refused actions count as no change
@@ -126,12 +126,12 @@ groupsAfter s g (does step) = record { current = GroupAfterStep (s .current) (g 
 groupsAfter s g (saves name) =
     record {
       current = g .current;
-      named = λ m. chosen (eqb (firstFitting (saveLines 8 (s .current) name (s .store))) 0 && eqb m name)
+      named = λ m. eitherGroup (eqb (firstFitting (saveLines 8 (s .current) name (s .store))) 0 && eqb m name)
           (g .current) (g .named m);
     }
 groupsAfter s g (returns name) =
     record {
-      current = chosen (eqb (firstFitting (namedLines 8 name (s .store) false)) 0) (g .named name) (g .current);
+      current = eitherGroup (eqb (firstFitting (namedLines 8 name (s .store) false)) 0) (g .named name) (g .current);
       named = g .named;
     }
 groupsAfter s g (forgets name) = g

@@ -7,7 +7,7 @@ use Rattle.clifford.specs.Vectors.{act}
 use Rattle.comparison.specs.Choices.{isCarrying, choice, leastNumber}
 use Rattle.image.specs.Image.{looped, stuck}
 use Rattle.comparison.specs.Parts.{isClosed, partAbove, partOf}
-use Rattle.image.specs.Rule.{moves, run, complementedAt}
+use Rattle.image.specs.Rule.{moves, movesUpto, complementedAt}
 use Rattle.pauli.specs.Pauli.{anticommute, mul}
 use Rattle.record.specs.Columns.{isColumnDependent}
 use Rattle.record.specs.Lent.{notSimple}
@@ -21,6 +21,6 @@ use Rattle.claims_examples.specs.internal.Table.{table}
 
 pub examples : AllHold table
 unfolding inverse first some every fold put bit wordOf mul anticommute act clashing dependent isColumnDependent
-    reducedRow graphOf ysOf minusesOf tabulate firstFitting reaching notSimple complementedAt moves run member stuck
+    reducedRow graphOf ysOf minusesOf tabulate firstFitting reaching notSimple complementedAt moves movesUpto member stuck
     looped isCarrying choice leastNumber isClosed partOf partAbove
 examples = refl

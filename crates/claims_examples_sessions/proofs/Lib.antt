@@ -1,4 +1,4 @@
-pub mod GroupExamples
+pub mod PartyExamples
 pub mod JobExamples
 pub mod RunExamples
 pub mod SessionExamples

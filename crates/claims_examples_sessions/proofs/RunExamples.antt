@@ -6,19 +6,19 @@ use Prim.Native.Nat.{ℕ}
 use lib.ListN.{getD}
 use Rattle.buffers.specs.Buffers.{tabulate}
 use Rattle.buffers.specs.Refusals.{firstFitting, reaching}
-use Rattle.claims_groups.specs.GroupRuns.{
+use Rattle.claims_parties.specs.PartyRuns.{
   CallOf,
   SharedCall,
   Observation,
-  groupComplement,
-  groupForget,
-  groupReturn,
-  groupSave,
+  partyComplement,
+  partyForget,
+  partyReturn,
+  partySave,
   observations,
   sharedStart,
 }
-use Rattle.groups.proofs.GroupExamples.{halves}
-use Rattle.groups.specs.Masks.{crosses, reachesOut}
+use Rattle.parties.proofs.PartyExamples.{halves}
+use Rattle.parties.specs.Masks.{crosses, reachesOut}
 use Rattle.record.specs.Lent.{notSimple}
 use Rattle.operations.specs.Used.{usedWrong}
 use Rattle.words.specs.Bits.{bit, wordOf}
@@ -29,8 +29,8 @@ by g c = record { group = g; call = c }
 
 abbrev calls : List CallOf
 calls =
-    by 0 (groupSave 65) ∷ by 1 (groupComplement 40) ∷ by 0 (groupComplement 0) ∷ by 1 (groupForget 65)
-    ∷ by 2 (groupSave 66) ∷ by 0 (groupComplement 40) ∷ by 0 (groupReturn 65) ∷ []
+    by 0 (partySave 65) ∷ by 1 (partyComplement 40) ∷ by 0 (partyComplement 0) ∷ by 1 (partyForget 65)
+    ∷ by 2 (partySave 66) ∷ by 0 (partyComplement 40) ∷ by 0 (partyReturn 65) ∷ []
 
 -- a refusal, and the code of qubit 0 afterwards
 abbrev told : List Observation → List ℕ

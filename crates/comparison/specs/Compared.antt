@@ -18,8 +18,8 @@ induced n rows others c q = then (then (reducedCode n rows q) (c q)) (inverse (r
 
 -- ---- lines; "With two lists, of the numbers found in either the first in checking order is returned"
 -- 2: "n is 0 or above 64, or the two lists' n differ"
-abbrev pub pairCount : GeneratorList → GeneratorList → Bool
-pairCount l m = badCount (l .n) || (badCount (m .n) || not (eqb (l .n) (m .n)))
+abbrev pub badCounts : GeneratorList → GeneratorList → Bool
+badCounts l m = badCount (l .n) || (badCount (m .n) || not (eqb (l .n) (m .n)))
 
 -- 4: a list's buffer, the choice's or the complementation list's; "The list buffer is 96 bytes"
 abbrev pub pairLengths : GeneratorList → GeneratorList → List ℕ → List ℕ → Bool
@@ -29,7 +29,7 @@ pairLengths l m chosen list = listLengths l
 -- 2 to 10 of the lists, and 4 of the buffers
 abbrev pub pairLines : GeneratorList → GeneratorList → List ℕ → List ℕ → List Refusal
 pairLines l m chosen list =
-    line 2 (pairCount l m) ∷ line 4 (pairLengths l m chosen list)
+    line 2 (badCounts l m) ∷ line 4 (pairLengths l m chosen list)
     ∷ line 5 (listStray l || listStray m) ∷ line 6 (listSigns l || listSigns m)
     ∷ line 9 (clashing (l .n) (rows l) || clashing (m .n) (rows m))
     ∷ line 10 (dependent (l .n) (rows l) || dependent (m .n) (rows m)) ∷ []

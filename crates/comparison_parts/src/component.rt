@@ -1,7 +1,7 @@
 // The least choice of one part, on its record in its own numbers, and its codes placed at its vertices.
 use crate::part_records::extract;
 use comparison_search::Answer;
-use comparison_search::compare_records;
+use comparison_search::search_records;
 ghost use mathlib.Core.Path.{_≡_};
 ghost use Prim.Native.Nat.{ℕ, _<_, _≤_};
 ghost use lib.ListN.{getD, length};
@@ -31,7 +31,7 @@ pub fn compare_listed(
     let k = words.len();
     extract(neighbours, codes, at, words, numbers);
     extract(neighbours2, codes2, at, words2, numbers2);
-    compare_records(k, words, numbers, words2, numbers2)
+    search_records(k, words, numbers, words2, numbers2)
 }
 
 // The choice with the codes of a part at its vertices.

@@ -1,6 +1,6 @@
 // The codes that a choice induces between two reduced graphs.
 use clifford_impl::codes::Code;
-use operations::compose;
+use clifford_impl::numbers::compose;
 ghost use mathlib.Core.Path.{_≡_};
 ghost use Prim.Native.Nat.{_<_};
 ghost use lib.ListN.{length};

@@ -117,7 +117,7 @@ fn least_choice(
 }
 
 // The least choice that carries the group of the first record onto that of the second.
-pub fn compare_records(
+pub fn search_records(
     n: usize,
     neighbours: &[u64],
     codes: &[u8],

@@ -12,7 +12,7 @@ use Rattle.stabilizer.specs.Membership.{member}
 use Rattle.words.specs.Bits.{bit, digit, fold, put, wordOf}
 use Rattle.words.specs.Search.{every, first, some}
 use Rattle.image.specs.Image.{imageLines, imageMinus, imageRecord, looped, stuck}
-use Rattle.image.specs.Rule.{imageList, moves, run, complementedAt}
+use Rattle.image.specs.Rule.{imageList, moves, movesUpto, complementedAt}
 
 -- the number; where it is 0 also the neighbour words, the minus signs and the list
 abbrev answer : ℕ → List ℕ → List ℕ → List ℕ
@@ -57,6 +57,6 @@ expected =
     ∷ []
 
 pub image-examples : given ≡ expected
-unfolding firstFitting reaching notSimple stuck looped member complementedAt moves run act mul fold put bit wordOf
+unfolding firstFitting reaching notSimple stuck looped member complementedAt moves movesUpto act mul fold put bit wordOf
     tabulate some every first
 image-examples = refl

@@ -14,7 +14,7 @@ use Rattle.words.proofs.Flags.{both-true}
 use Rattle.words.proofs.Places.{put-other, put-same}
 use Rattle.words.specs.Bits.{digit, put, _⊕_}
 use Rattle.image.proofs.CountLaws.{count-put}
-use Rattle.image.specs.Rule.{State, both, follow, onlyC, pair, complementedAt}
+use Rattle.image.specs.Rule.{State, both, follow, onlyC, pivotMove, complementedAt}
 
 -- C at the vertex complemented at; D at a neighbour, and at the other vertices
 module _ (S : State) (v : ℕ) where
@@ -39,7 +39,7 @@ fall-alone n S v l e =
     ∙ ap (λ b. count n (put (S .C) v false) + digit b) (sym cv)
     ∙ count-put n (S .C) v false l ∙ add-zero _
 
--- what a pair is
+-- what a pivotMove is
 pub record IsPair (S : State) (j k : ℕ) : Type 0 where
   pub above : j < k
   pub edge : S .graph j k ≡ true
@@ -48,7 +48,7 @@ pub record IsPair (S : State) (j k : ℕ) : Type 0 where
   pub Ck : S .C k ≡ true
   pub Dk : S .D k ≡ false
 
-pub pair-is : (S : State) (j k : ℕ) → pair S j k ≡ true → IsPair S j k
+pub pair-is : (S : State) (j k : ℕ) → pivotMove S j k ≡ true → IsPair S j k
 pair-is S j k e =
     record {
       above = ltb→lt j k (subst T {x = true} {y = ltb j k} (sym (b1 .0)) tt);

@@ -1,4 +1,4 @@
--- The whole run of the image rule: it stops, and 2 · count ≤ 3 n.
+-- The whole movesUpto of the image rule: it stops, and 2 · count ≤ 3 n.
 use mathlib.Core.Bool.{false}
 use mathlib.Core.List.{_++_, List, [], _∷_}
 use mathlib.Core.Logic.{inl, inr, _⊎_}
@@ -14,7 +14,7 @@ use Rattle.record.specs.Graph.{Simple}
 use Rattle.record.proofs.ComplementLists.{VerticesBelow, add, nil}
 use Rattle.image.proofs.Falling.{fall-alone, fall-joined, pair-is}
 use Rattle.image.proofs.Moves.{Move, alone, joined, moves-are, moves-unique, stop}
-use Rattle.image.specs.Rule.{State, both, follow, moves, pair, run, complementedAt}
+use Rattle.image.specs.Rule.{State, both, follow, moves, pivotMove, movesUpto, complementedAt}
 
 -- ---- the vertices of a list are below n
 pub below-append : {n : ℕ} {a b : List ℕ} → VerticesBelow n a → VerticesBelow n b → VerticesBelow n (a ++ b)
@@ -26,8 +26,8 @@ move-below (alone v F) = add v (F .below) nil
 move-below (joined j k none J K) = add j (J .below) (add k (K .below) (add j (J .below) nil))
 move-below (stop none apart) = nil
 
-pub run-below : (n k : ℕ) (S : State) → VerticesBelow n (run n k S)
-unfolding run
+pub run-below : (n k : ℕ) (S : State) → VerticesBelow n (movesUpto n k S)
+unfolding movesUpto
 run-below n zero S = nil
 run-below n (suc k) S = below-append (move-below (moves-are n S)) (run-below n k (follow S (moves n S)))
 
@@ -56,34 +56,34 @@ move-fall n S G (joined j k none J K) =
     omega (arith, fall-joined n S G j k (J .below) (K .below) (pair-is S j k (K .passes)))
 move-fall n S G (stop none apart) = omega arith
 
-pub run-fall : (n k : ℕ) (S : State) → Simple n (S .graph) → Fall n S (run n k S)
-unfolding run
+pub run-fall : (n k : ℕ) (S : State) → Simple n (S .graph) → Fall n S (movesUpto n k S)
+unfolding movesUpto
 run-fall n zero S G = omega arith
 run-fall n (suc k) S G =
     let ms = moves n S in
     omega (
       arith,
-      length-append ms (run n k (follow S ms)),
+      length-append ms (movesUpto n k (follow S ms)),
       move-fall n S G (moves-are n S),
       run-fall n k (follow S ms) (follow-simple n S ms G),
-      ap (λ T. count n (T .C)) (follow-append S ms (run n k (follow S ms))),
+      ap (λ T. count n (T .C)) (follow-append S ms (movesUpto n k (follow S ms))),
     )
 
 -- so the list has at most 3 n / 2 places: 96 where n is 64
-pub run-length : (n k : ℕ) (S : State) → Simple n (S .graph) → 2 * length (run n k S) ≤ 3 * n
+pub run-length : (n k : ℕ) (S : State) → Simple n (S .graph) → 2 * length (movesUpto n k S) ≤ 3 * n
 run-length n k S G = omega (arith, run-fall n k S G, count-upto n (S .C))
 
--- ---- the run comes to a stop: no vertex has both bits 1, and no pair is left
+-- ---- the movesUpto comes to a stop: no vertex has both bits 1, and no pivotMove is left
 pub record Stopped (n : ℕ) (S : State) : Type 0 where
   pub no-both : (v : ℕ) → v < n → both S v ≡ false
-  pub no-pair : (j k : ℕ) → j < n → k < n → pair S j k ≡ false
+  pub no-pair : (j k : ℕ) → j < n → k < n → pivotMove S j k ≡ false
 
 -- a state at a stop stays
-pub stopped-run : (n k : ℕ) (S : State) → Stopped n S → run n k S ≡ []
-unfolding run
+pub stopped-run : (n k : ℕ) (S : State) → Stopped n S → movesUpto n k S ≡ []
+unfolding movesUpto
 stopped-run n zero S H = refl
 stopped-run n (suc k) S H =
-    ap (λ ms. ms ++ run n k (follow S ms)) (moves-unique n S (stop (H .no-both) (H .no-pair)))
+    ap (λ ms. ms ++ movesUpto n k (follow S ms)) (moves-unique n S (stop (H .no-both) (H .no-pair)))
     ∙ stopped-run n k S H
 
 -- a move takes a C away, or there is none
@@ -94,13 +94,13 @@ move-lower n S G (joined j k none J K) =
     inr (omega (arith, fall-joined n S G j k (J .below) (K .below) (pair-is S j k (K .passes))))
 move-lower n S G (stop none apart) = inl (record { no-both = none; no-pair = apart })
 
-at-stop : (n k : ℕ) (S : State) → Stopped n S → Stopped n (follow S (run n k S))
+at-stop : (n k : ℕ) (S : State) → Stopped n S → Stopped n (follow S (movesUpto n k S))
 at-stop n k S H = subst (λ ms. Stopped n (follow S ms)) (sym (stopped-run n k S H)) H
 
 -- as many times as there are vertices with C = 1 are enough
 pub run-stops : (n k : ℕ) (S : State) → Simple n (S .graph) → count n (S .C) ≤ k
-    → Stopped n (follow S (run n k S))
-unfolding run
+    → Stopped n (follow S (movesUpto n k S))
+unfolding movesUpto
 run-stops n zero S G h = elim (move-lower n S G (moves-are n S)) [
   | inl e ↦ at-stop n zero S e
   | inr l ↦ absurd (omega arith)
@@ -109,10 +109,10 @@ run-stops n (suc k) S G h =
     go (run-stops n k (follow S (moves n S)) (follow-simple n S (moves n S) G)) (move-lower n S G (moves-are n S))
   where
     go : (count n ((follow S (moves n S)) .C) ≤ k →
-        Stopped n (follow (follow S (moves n S)) (run n k (follow S (moves n S)))))
+        Stopped n (follow (follow S (moves n S)) (movesUpto n k (follow S (moves n S)))))
         → Stopped n S ⊎ (count n ((follow S (moves n S)) .C) < count n (S .C))
-        → Stopped n (follow S (run n (suc k) S))
+        → Stopped n (follow S (movesUpto n (suc k) S))
     go ih (inl e) = at-stop n (suc k) S e
     go ih (inr l) =
-        subst (Stopped n) (sym (follow-append S (moves n S) (run n k (follow S (moves n S)))))
+        subst (Stopped n) (sym (follow-append S (moves n S) (movesUpto n k (follow S (moves n S)))))
         (ih (omega arith))

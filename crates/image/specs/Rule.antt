@@ -45,31 +45,31 @@ abbrev pub onlyC : State → ℕ → Bool
 onlyC S v = S .C v && not (S .D v)
 
 -- "k above it, joined by an edge, both with C = 1 and D = 0"
-abbrev pub pair : State → ℕ → ℕ → Bool
-pair S j k = ltb j k && (S .graph j k && (onlyC S j && onlyC S k))
+abbrev pub pivotMove : State → ℕ → ℕ → Bool
+pivotMove S j k = ltb j k && (S .graph j k && (onlyC S j && onlyC S k))
 
--- whether some k forms such a pair with j
+-- whether some k forms such a pivotMove with j
 abbrev pub hasPair : ℕ → State → ℕ → Bool
-hasPair n S j = some n (pair S j)
+hasPair n S j = some n (pivotMove S j)
 
 -- "Take the smallest vertex whose two bits are both 1, complement there"
-abbrev pub single : ℕ → State → List ℕ
-single n S = first n (both S) ∷ []
+abbrev pub complementMove : ℕ → State → List ℕ
+complementMove n S = first n (both S) ∷ []
 
 -- "take the smallest j, then smallest k above it .. and do j, k, j in this way"
 abbrev pub triple : ℕ → State → List ℕ
-triple n S = let j = first n (hasPair n S) in j ∷ first n (pair S j) ∷ j ∷ []
+triple n S = let j = first n (hasPair n S) in j ∷ first n (pivotMove S j) ∷ j ∷ []
 
 -- "If no such vertex exists, take the smallest j .. Otherwise stop"
 unfoldable pub moves : ℕ → State → List ℕ
-moves n S = cond (some n (both S)) (single n S) (cond (some n (hasPair n S)) (triple n S) [])
+moves n S = cond (some n (both S)) (complementMove n S) (cond (some n (hasPair n S)) (triple n S) [])
 
 -- ---- the list
 -- at most k times
-unfoldable pub run : ℕ → ℕ → State → List ℕ
-run n zero S = []
-run n (suc k) S = moves n S ++ run n k (follow S (moves n S))
+unfoldable pub movesUpto : ℕ → ℕ → State → List ℕ
+movesUpto n zero S = []
+movesUpto n (suc k) S = moves n S ++ movesUpto n k (follow S (moves n S))
 
 -- the list of the vertices complemented, in order; the rule stops within n times
 abbrev pub imageList : ℕ → GraphRecord → List ℕ
-imageList n r = run n n (stateOf r)
+imageList n r = movesUpto n n (stateOf r)

@@ -13,7 +13,7 @@ use Rattle.image.proofs.Moves.{moves-are, moves-unique, stop}
 use Rattle.image.proofs.Running.{Stopped, move-lower, run-length, stopped-run}
 use Rattle.image_impl.proofs.StepLists.{complemented-append, complemented-none, complemented-state}
 use Rattle.image_impl.proofs.TrackedRecords.{tracked-simple, tracked-small}
-use Rattle.image.specs.Rule.{State, follow, imageList, moves, run, stateOf}
+use Rattle.image.specs.Rule.{State, follow, imageList, moves, movesUpto, stateOf}
 use Rattle.image_impl.specs.internal.Working.{Complemented, Tracking, Working, workingRecord}
 
 -- the complementations done so far, and what is left of the list
@@ -23,7 +23,7 @@ pub record Reached (n : ℕ) (start w : Working) : Type 0 where
   -- how often the rule may still be applied, which is enough
   pub left : ℕ
   pub enough : count n (bit (w .c)) ≤ left
-  pub rest : imageList n (workingRecord start) ≡ done ++ run n left (stateOf (workingRecord w))
+  pub rest : imageList n (workingRecord start) ≡ done ++ movesUpto n left (stateOf (workingRecord w))
 
 -- the measure, by the word and by the codes
 count-word : (n : ℕ) (w : Working) → Tracking n w →
@@ -84,11 +84,11 @@ module _ (n : ℕ) (start w : Working) (empty : start .count ≡ 0) (T : Trackin
     unfolding after
     one-less = once-more (R .left) refl .1
 
-    rest-is : imageList n (workingRecord start) ≡ (R .done ++ ms) ++ run n after (follow S ms)
-    unfolding run
+    rest-is : imageList n (workingRecord start) ≡ (R .done ++ ms) ++ movesUpto n after (follow S ms)
+    unfolding movesUpto
     rest-is =
-        R .rest ∙ ap (λ k. R .done ++ run n k S) one-less
-        ∙ sym (append-assoc (R .done) ms (run n after (follow S ms)))
+        R .rest ∙ ap (λ k. R .done ++ movesUpto n k S) one-less
+        ∙ sym (append-assoc (R .done) ms (movesUpto n after (follow S ms)))
 
     falling-room : w .count + length ms ≤ 96
     falling-room =
@@ -98,7 +98,7 @@ module _ (n : ℕ) (start w : Working) (empty : start .count ≡ 0) (T : Trackin
           empty,
           whole,
           ap length rest-is,
-          length-append (R .done ++ ms) (run n after (follow S ms)),
+          length-append (R .done ++ ms) (movesUpto n after (follow S ms)),
           length-append (R .done) ms,
         )
 
@@ -123,7 +123,7 @@ module _ (n : ℕ) (start w : Working) (empty : start .count ≡ 0) (T : Trackin
             so-far = complemented-append (R .so-far) C;
             left = after;
             enough = omega (arith, one-less, R .enough, falling-less);
-            rest = rest-is ∙ ap (λ s. (R .done ++ ms) ++ run n after s) (sym state);
+            rest = rest-is ∙ ap (λ s. (R .done ++ ms) ++ movesUpto n after s) (sym state);
           }
 
   -- the list has room for the next moves
@@ -135,7 +135,7 @@ module _ (n : ℕ) (start w : Working) (empty : start .count ≡ 0) (T : Trackin
       empty,
       whole,
       ap length (R .rest),
-      length-append (R .done) (run n (R .left) S),
+      length-append (R .done) (movesUpto n (R .left) S),
       ap length (stopped-none H),
     )
     | inr f ↦ falling-room f

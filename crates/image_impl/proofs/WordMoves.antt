@@ -22,7 +22,7 @@ use Rattle.words.specs.Search.{IsFirst, first}
 use Rattle.image.proofs.Falling.{pair-is}
 use Rattle.image.proofs.Moves.{Move, alone, joined}
 use Rattle.image.proofs.Running.{Stopped}
-use Rattle.image.specs.Rule.{State, both, onlyC, pair, stateOf}
+use Rattle.image.specs.Rule.{State, both, onlyC, pivotMove, stateOf}
 use Rattle.image_impl.proofs.TrackedRecords.{tracked-simple}
 use Rattle.image_impl.specs.internal.Working.{Tracking, Working, joinedIn, workingRecord}
 
@@ -104,13 +104,13 @@ module _ (n : ℕ) (small : n ≤ 64) (w : Working) (T : Tracking n w) where
     edge-search i k e ci ck =
         ap₂ _&&_ (T .C i ∙ ci) (set-bit (among i) k (among-bit i k ∙ ap₂ _&&_ e ck))
 
-    pair-search : (i k : ℕ) → pair S i k ≡ true → search i ≡ true
+    pair-search : (i k : ℕ) → pivotMove S i k ≡ true → search i ≡ true
     pair-search i k e = let P = pair-is S i k e in edge-search i k (P .edge) (P .Cj) (P .Ck)
 
-    no-pair : (i : ℕ) → search i ≡ false → (k : ℕ) → pair S i k ≡ false
-    no-pair i h k = go (pair S i k) refl
+    no-pair : (i : ℕ) → search i ≡ false → (k : ℕ) → pivotMove S i k ≡ false
+    no-pair i h k = go (pivotMove S i k) refl
       where
-        go : (b : Bool) → pair S i k ≡ b → pair S i k ≡ false
+        go : (b : Bool) → pivotMove S i k ≡ b → pivotMove S i k ≡ false
         go false e = e
         go true e = absurd (true≢false (sym (pair-search i k e) ∙ h))
 
@@ -167,14 +167,14 @@ module _ (n : ℕ) (small : n ≤ 64) (w : Working) (T : Tracking n w) where
               true≢false (sym (edge-search k j (tracked-simple n w T .symmetric k j ∙ to-k .0) (to-k .1) (in-set .0))
               ∙ first-j .least k (lt-of-le-ne l d))
 
-      pair-jk : pair S j k ≡ true
+      pair-jk : pivotMove S j k ≡ true
       pair-jk = ap₂ _&&_ (lt-ltb j k j-below-k) (ap₂ _&&_ (to-k .0)
           (ap₂ _&&_ (only j joined-below (in-set .0)) (only k (first-k .below) (to-k .1))))
 
-      least-k : (i : ℕ) → i < k → pair S j i ≡ false
-      least-k i l = go (pair S j i) refl
+      least-k : (i : ℕ) → i < k → pivotMove S j i ≡ false
+      least-k i l = go (pivotMove S j i) refl
         where
-          go : (b : Bool) → pair S j i ≡ b → pair S j i ≡ false
+          go : (b : Bool) → pivotMove S j i ≡ b → pivotMove S j i ≡ false
           go false e = e
           go true e =
               let P = pair-is S j i e in
@@ -185,7 +185,7 @@ module _ (n : ℕ) (small : n ≤ 64) (w : Working) (T : Tracking n w) where
           joined j k no-both
           (record {
             below = joined-below;
-            passes = some-in n (pair S j) k (first-k .below) pair-jk;
-            least = λ i l. some-none n (pair S i) (λ q m. no-pair i (first-j .least i l) q);
+            passes = some-in n (pivotMove S j) k (first-k .below) pair-jk;
+            least = λ i l. some-none n (pivotMove S i) (λ q m. no-pair i (first-j .least i l) q);
           })
           (record { below = first-k .below; passes = pair-jk; least = least-k })

@@ -3,14 +3,14 @@
 use jobs_impl::scanning::Reading;
 use jobs_impl::scanning::read_block;
 use jobs_impl::scanning::unread;
-use jobs_replies::answers::reply;
+use jobs_replies::answers::job_reply;
 use libc::STDIN_FILENO;
 use libc::STDOUT_FILENO;
 ghost use Prim.Native.Nat.{_≤_};
 ghost use lib.ListN.{length};
-ghost use Rattle.jobs_replies.specs.Room.{longest};
+ghost use Rattle.jobs_replies.specs.Room.{longestJob};
 ghost use Rattle.jobs.specs.internal.Scan.{asReading};
-ghost use Rattle.job.specs.Reads.{Responded};
+ghost use Rattle.job.specs.Reads.{JobResponded};
 ghost use Rattle.job.specs.internal.Reads.{ScannedJob};
 
 // Reads standard input to its end, block after block, and keeps the steps together.
@@ -34,10 +34,10 @@ fn read_job() -> Reading
 
 // Prints the answer to the text on standard input.
 fn respond(out: &mut [u8]) -> usize
-    requires { ⌜ longest ≤ length (now out) ⌝ }
-    ensures { λ r. ⌜ Responded (now (out .entry)) (now (out .exit)) r ⌝ }
+    requires { ⌜ longestJob ≤ length (now out) ⌝ }
+    ensures { λ r. ⌜ JobResponded (now (out .entry)) (now (out .exit)) r ⌝ }
 {
-    reply(read_job(), out)
+    job_reply(read_job(), out)
 }
 
 fn main() {

@@ -10,7 +10,7 @@ use lib.Seq.{ext-getD, getD-drop, getD-set-other, getD-set-same, getD-take, leng
 use Rattle.jobs.specs.declared.Op.{Op}
 use Rattle.jobs.specs.declared.Op.the-variants.{Complement, Cz, Gate, Measure, Pivot}
 use Rattle.jobs.specs.declared.Step.{Step}
-use Rattle.jobs.specs.Parallel.{listed, numbered, numberedOp, stepIn, stepsIn}
+use Rattle.jobs.specs.Parallel.{stepsBelow, numbered, numberedOp, stepIn, stepsIn}
 use Rattle.jobs.specs.internal.Parallel.{opNumber}
 
 pub op-back : (op : Op) → numberedOp (opNumber op) ≡ op
@@ -21,14 +21,14 @@ op-back Measure = refl
 op-back Complement = refl
 op-back Pivot = refl
 
--- ---- listed steps
-listed-long : (n : ℕ) (f : ℕ → Step) → length (listed n f) ≡ n
-unfolding listed
+-- ---- stepsBelow steps
+listed-long : (n : ℕ) (f : ℕ → Step) → length (stepsBelow n f) ≡ n
+unfolding stepsBelow
 listed-long zero f = refl
 listed-long (suc n) f = ap suc (listed-long n (λ k. f (suc k)))
 
-listed-at : (n : ℕ) (f : ℕ → Step) (i : ℕ) (other : Step) → i < n → getD (listed n f) i other ≡ f i
-unfolding listed
+listed-at : (n : ℕ) (f : ℕ → Step) (i : ℕ) (other : Step) → i < n → getD (stepsBelow n f) i other ≡ f i
+unfolding stepsBelow
 listed-at zero f i other l = absurd (not-suc-le-zero l)
 listed-at (suc n) f zero other l = refl
 listed-at (suc n) f (suc i) other l = listed-at n (λ k. f (suc k)) i other (le-of-suc-le-suc l)

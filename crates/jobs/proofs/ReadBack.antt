@@ -8,7 +8,7 @@ use borrow.Author.Tests.{le-ltb, ne-eqb}
 use Rattle.buffers.specs.Refusals.{firstFitting}
 use Rattle.jobs.specs.declared.Step.{Step}
 use Rattle.jobs.specs.JobLines.{jobLines}
-use Rattle.jobs.specs.Text.{AllFit, jobText, JobTextOf}
+use Rattle.jobs.specs.Text.{EachStepFits, jobText, JobTextOf}
 use Rattle.jobs.specs.internal.Scan.{empty, fed, Reading, StepsKept, verdict}
 use Rattle.jobs.proofs.KeptLaws.{count-few, steps-few, text-number}
 use Rattle.jobs.proofs.Verdict.{empty-judged}
@@ -20,7 +20,7 @@ lines-pass n count some upto few =
     simp (le-ltb 4096 count few, ne-eqb n 0 (λ e. omega arith), le-ltb 64 n upto)
 
 module _ (n : ℕ) (steps : List Step) (some : 1 ≤ n) (upto : n ≤ 64) (few : length steps ≤ 4096)
-    (fit : AllFit steps) where
+    (fit : EachStepFits steps) where
   -- the reading of the written text
   abbrev pub back : Reading
   back = fed empty (jobText n steps)

@@ -5,7 +5,7 @@ use Prim.Native.Nat.{ℕ, _≤_, _<_}
 use native.Mathlib.Omega.{arith}
 use lib.ListN.{length}
 use Rattle.jobs.specs.declared.Step.{Step}
-use Rattle.jobs.specs.Text.{AllFit, JobTextOf}
+use Rattle.jobs.specs.Text.{EachStepFits, JobTextOf}
 use Rattle.jobs.proofs.ReadBack.{lines-pass}
 use Rattle.jobs.proofs.Unique.{job-unique}
 use Rattle.jobs.specs.Drawn.{drawn, generatedText}
@@ -19,7 +19,7 @@ module _ (n : ℕ) (some : 0 < n) (few : n ≤ 64) (count seed : ℕ) (short : c
   abbrev text : List ℕ
   text = generatedText n count seed
 
-  pub fit : AllFit steps
+  pub fit : EachStepFits steps
   fit = all-fit few steps (all-drawable n some count seed)
 
   -- the text has the form

@@ -15,7 +15,7 @@ use Rattle.jobs.specs.declared.Op.the-variants.{Gate}
 use Rattle.jobs.specs.declared.Step.{Step}
 use Rattle.text.specs.Text.{newline}
 use Rattle.words.proofs.Sums.{lt-or-ge}
-use Rattle.jobs.specs.Text.{field, Fits, AllFit, stepText, stepsText, qubitsLine, stepNames, jobHead}
+use Rattle.jobs.specs.Text.{field, StepFits, EachStepFits, stepText, stepsText, qubitsLine, stepNames, jobHead}
 use Rattle.jobs.specs.Text.{jobText, JobTextOf}
 use Rattle.text.proofs.Feeding.{fed-append, fed-one}
 use Rattle.text.specs.internal.Feeding.{fedBytes}
@@ -109,7 +109,7 @@ module _ (n : ℕ) (steps : List Step) (s : Step) (w : Reading) (read : Read n s
       }
 
   -- a line more
-  step-more : Fits s → Read n (steps ++ s ∷ []) (fed w (stepText s))
+  step-more : StepFits s → Read n (steps ++ s ∷ []) (fed w (stepText s))
   unfolding oneMore
   step-more fit =
       let h = w .scan in
@@ -135,7 +135,7 @@ module _ (n : ℕ) (steps : List Step) (s : Step) (w : Reading) (read : Read n s
       (lt-or-ge (length steps) 4096))
 
 -- more lines
-steps-more : (n : ℕ) (ss ts : List Step) (w : Reading) → Read n ss w → AllFit ts
+steps-more : (n : ℕ) (ss ts : List Step) (w : Reading) → Read n ss w → EachStepFits ts
     → Read n (ss ++ ts) (fed w (stepsText ts))
 unfolding stepsText fedBytes
 steps-more n ss [] w read fit = subst (λ l. Read n l w) (sym (append-nil ss)) read

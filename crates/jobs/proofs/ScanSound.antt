@@ -16,7 +16,7 @@ use Rattle.jobs.specs.declared.Step.{Step}
 use Rattle.text.specs.Text.{space, newline}
 use Rattle.words.proofs.Flags.{by-test}
 use Rattle.words.proofs.Sums.{lt-or-ge}
-use Rattle.jobs.specs.Text.{field, opWord, Fits, stepText, qubitsLine, stepNames, jobHead}
+use Rattle.jobs.specs.Text.{field, opWord, StepFits, stepText, qubitsLine, stepNames, jobHead}
 use Rattle.jobs.specs.Text.{jobText}
 use Rattle.jobs.specs.internal.Scan.{moved, withOp, withNumber, headBytes, headStep, letters}
 use Rattle.jobs.specs.internal.Scan.{
@@ -190,7 +190,7 @@ module _ (s : Scan) (t : List ℕ) (b : ℕ) where
   )
   ended-sound Value sofar byte =
       let l : Step = record { op = s .op; a = s .a; b = s .b; value = s .number } in
-      let fit : Fits l = record { a = sofar .before .1; b = sofar .before .2; value = sofar .small } in
+      let fit : StepFits l = record { a = sofar .before .1; b = sofar .before .2; value = sofar .small } in
       let line : Upto (s .n) (t ++ b ∷ []) (stepText l) =
       subst (λ c. Upto (s .n) (t ++ b ∷ []) (valuePart (s .op) (s .a) (s .b) ++ field (s .number) ++ c ∷ [])) byte
       (upto-field (s .number) b (sofar .text) (sofar .before .0)) in

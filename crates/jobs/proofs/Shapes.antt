@@ -11,7 +11,7 @@ use borrow.Author.Tests.{eq-eqb, ne-eqb, eqb-false}
 use Rattle.jobs.specs.Asked.{unusedSet}
 use Rattle.jobs.specs.declared.Op.the-variants.{Gate, Cz, Measure}
 use Rattle.jobs.specs.declared.Step.{Step}
-use Rattle.jobs.specs.Text.{Fits, AllFit}
+use Rattle.jobs.specs.Text.{StepFits, EachStepFits}
 use Rattle.words.proofs.Flags.{by-test}
 use Rattle.jobs.specs.Draws.{draw}
 use Rattle.jobs.specs.Drawn.{does, drawn, drawnCode, drawnOutcome, qubitA, qubitB, stepOf}
@@ -75,11 +75,11 @@ module _ {n : ℕ} (few : n ≤ 64) where
   small (cz h k differ) = record { a = omega arith; b = omega arith; value = lit< tt }
   small (measure h k) = record { a = omega arith; b = lit< tt; value = omega arith }
 
-  fits : {s : Step} → Drawable n s → Fits s
+  fits : {s : Step} → Drawable n s → StepFits s
   fits d = let m = small d in
       record { a = omega (arith, m .a); b = omega (arith, m .b); value = omega (arith, m .value) }
 
-  pub all-fit : (ss : List Step) → AllDrawable n ss → AllFit ss
+  pub all-fit : (ss : List Step) → AllDrawable n ss → EachStepFits ss
   all-fit [] d = tt
   all-fit (s ∷ ss) d = (fits (d .0), all-fit ss (d .1))
 

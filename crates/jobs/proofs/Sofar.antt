@@ -9,7 +9,7 @@ use lib.ListN.{length, take}
 use Rattle.jobs.specs.declared.Op.{Op}
 use Rattle.jobs.specs.declared.Step.{Step}
 use Rattle.text.specs.Text.{space, newline}
-use Rattle.jobs.specs.Text.{field, opWord, AllFit, qubitsLine, stepNames}
+use Rattle.jobs.specs.Text.{field, opWord, EachStepFits, qubitsLine, stepNames}
 use Rattle.jobs.specs.Text.{jobText}
 use Rattle.jobs.specs.declared.scan.Field.{Field}
 use Rattle.jobs.specs.declared.scan.Field.the-variants.{N, A, B, Value}
@@ -21,7 +21,7 @@ use Rattle.jobs.specs.declared.scan.Scan.{Scan}
 pub record Upto (n : ℕ) (t part : List ℕ) : Type 0 where
   pub steps : List Step
   pub few : n < 1000
-  pub fit : AllFit steps
+  pub fit : EachStepFits steps
   pub text : t ≡ jobText n steps ++ part
 
 -- the part of a line before each field

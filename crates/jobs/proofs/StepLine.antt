@@ -10,7 +10,7 @@ use Rattle.jobs.specs.declared.Op.the-variants.{Gate, Cz, Measure, Compl
 use Rattle.jobs.specs.declared.Step.{Step}
 use Rattle.text.specs.Text.{space}
 use Rattle.words.proofs.Flags.{by-test}
-use Rattle.jobs.specs.Text.{digits, field, opWord, Fits, stepText}
+use Rattle.jobs.specs.Text.{digits, field, opWord, StepFits, stepText}
 use Rattle.text.proofs.Feeding.{fed-append, fed-one}
 use Rattle.text.specs.internal.Feeding.{fedBytes}
 use Rattle.jobs.specs.internal.Scan.{digitValue, firstOp, firstStep, moreStep, oneMore, opFor, Reading, scanByte, wordStep}
@@ -106,7 +106,7 @@ module _ (S : List Step) (n c : ℕ) where
   line-ends op a b v = refl
 
   -- the reading after a whole line
-  pub line-read : (op : Op) (a b v : ℕ) (s : Step) → Fits s
+  pub line-read : (op : Op) (a b v : ℕ) (s : Step) → StepFits s
       → fed (readingAt (Word 0) op a b v) (stepText s)
       ≡ feedNext (readingAt (More Value) (s .op) (s .a) (s .b) (s .value))
       (scanAt n (oneMore c) (Word 0) (s .op) (s .a) (s .b) (s .value))

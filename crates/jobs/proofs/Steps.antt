@@ -3,7 +3,7 @@ use mathlib.Core.Path.{_≡_, refl, sym, ap, _∙_}
 use mathlib.Core.List.{List, [], _∷_, _++_, append-assoc, append-nil}
 use Prim.Native.Nat.{ℕ}
 use Rattle.jobs.specs.declared.Step.{Step}
-use Rattle.jobs.specs.Text.{Fits, AllFit, stepText, stepsText, jobHead, jobText}
+use Rattle.jobs.specs.Text.{StepFits, EachStepFits, stepText, stepsText, jobHead, jobText}
 
 steps-append : (ss ts : List Step) → stepsText (ss ++ ts) ≡ stepsText ss ++ stepsText ts
 unfolding stepsText
@@ -24,6 +24,6 @@ job-more n ss s =
     ap (λ t. jobHead n ++ t) (steps-append ss (s ∷ []) ∙ ap (λ t. stepsText ss ++ t) (append-nil (stepText s)))
     ∙ sym (append-assoc (jobHead n) (stepsText ss) (stepText s))
 
-pub fit-more : (ss : List Step) (s : Step) → AllFit ss → Fits s → AllFit (ss ++ s ∷ [])
+pub fit-more : (ss : List Step) (s : Step) → EachStepFits ss → StepFits s → EachStepFits (ss ++ s ∷ [])
 fit-more [] s f g = (g, tt)
 fit-more (k ∷ ss) s f g = (f .0, fit-more ss s (f .1) g)

@@ -12,7 +12,7 @@ use Rattle.buffers.proofs.Lines.{first-below, not-held}
 use Rattle.buffers.specs.Refusals.{badCount, firstFitting}
 use Rattle.text.specs.Text.{refusedText}
 use Rattle.words.proofs.Flags.{neither}
-use Rattle.jobs.specs.Answer.{Answers, runText, answerText}
+use Rattle.jobs.specs.Answer.{AnswersJob, runText, jobAnswerText}
 use Rattle.jobs.specs.internal.Lines.{TextNumber, textLines}
 use Rattle.jobs.specs.JobLines.{jobLines}
 use Rattle.jobs.specs.internal.Scan.{atLine, empty, fed, Judged, Reading, verdict}
@@ -51,8 +51,8 @@ module _ (t : List ℕ) (w : Reading) (scanned : w ≡ fed empty t) where
   number = text-number t w judged
 
   -- a refused text
-  pub refused-answers : (verdict (w .scan) ≡ 0 → ⊥) → Answers t (refusedText (verdict (w .scan)))
-  unfolding answerText
+  pub refused-answers : (verdict (w .scan) ≡ 0 → ⊥) → AnswersJob t (refusedText (verdict (w .scan)))
+  unfolding jobAnswerText
   refused-answers h =
       record {
         malformed = λ none. ap refusedText (number .malformed none);
@@ -63,8 +63,8 @@ module _ (t : List ℕ) (w : Reading) (scanned : w ≡ fed empty t) where
 
   -- an accepted one
   pub accepted-answers : verdict (w .scan) ≡ 0
-      → Answers t (runText (w .scan .n) (take (w .scan .count) (w .steps)))
-  unfolding answerText
+      → AnswersJob t (runText (w .scan .n) (take (w .scan .count) (w .steps)))
+  unfolding jobAnswerText
   accepted-answers z =
       record {
         malformed = λ none. absurd (differ (sym z ∙ number .malformed none));
@@ -84,14 +84,14 @@ module _ (t : List ℕ) where
   abbrev whole : Reading
   whole = fed empty t
 
-  pub has-answer : (bytes : List ℕ) × Answers t bytes
+  pub has-answer : (bytes : List ℕ) × AnswersJob t bytes
   has-answer = go (ℕ-discrete (verdict (whole .scan)) 0)
     where
-      go : Dec (verdict (whole .scan) ≡ 0) → (bytes : List ℕ) × Answers t bytes
+      go : Dec (verdict (whole .scan) ≡ 0) → (bytes : List ℕ) × AnswersJob t bytes
       go (yes z) = (_, accepted-answers t whole refl z)
       go (no h) = (_, refused-answers t whole refl h)
 
-  pub one-answer : (a b : List ℕ) → Answers t a → Answers t b → a ≡ b
+  pub one-answer : (a b : List ℕ) → AnswersJob t a → AnswersJob t b → a ≡ b
   one-answer a b A B = go (atLine (whole .scan .place)) refl
     where
       J : Judged t whole

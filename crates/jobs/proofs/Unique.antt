@@ -10,7 +10,7 @@ use Rattle.jobs.specs.declared.Op.the-variants.{Gate, Cz, Measure, Compl
 use Rattle.jobs.specs.declared.Step.{Step}
 use Rattle.text.proofs.DigitLaws.{readDecimal}
 use Rattle.text.specs.Text.{space, newline}
-use Rattle.jobs.specs.Text.{field, opWord, Fits, AllFit, stepText, stepsText, qubitsLine, stepNames}
+use Rattle.jobs.specs.Text.{field, opWord, StepFits, EachStepFits, stepText, stepsText, qubitsLine, stepNames}
 use Rattle.jobs.specs.Text.{jobHead, jobText, JobTextOf}
 use Rattle.jobs.specs.internal.Scan.{firstOp, opFor}
 use Rattle.jobs.proofs.Digits.{digits-back}
@@ -43,7 +43,7 @@ unfolded : (s : Step) (t : List ℕ)
 unfolding stepText
 unfolded s t = simp append-assoc
 
-line-parts : (s r : Step) (t u : List ℕ) → Fits s → Fits r → stepText s ++ t ≡ stepText r ++ u
+line-parts : (s r : Step) (t u : List ℕ) → StepFits s → StepFits r → stepText s ++ t ≡ stepText r ++ u
     → (s ≡ r) × (t ≡ u)
 line-parts s r t u fs fr e =
     let ops = parts-at 32 (opWord (s .op)) _ (opWord (r .op)) _ (op-without (s .op)) (op-without (r .op))
@@ -60,7 +60,7 @@ some-bytes s t =
     let fields = opWord (s .op) ++ space ++ field (s .a) ++ space ++ field (s .b) ++ space ++ field (s .value) in
     omega (arith, length-append (fields ++ newline) t, length-append fields newline)
 
-steps-injective : (ss rs : List Step) → AllFit ss → AllFit rs → stepsText ss ≡ stepsText rs → ss ≡ rs
+steps-injective : (ss rs : List Step) → EachStepFits ss → EachStepFits rs → stepsText ss ≡ stepsText rs → ss ≡ rs
 unfolding stepsText
 steps-injective [] [] f g e = refl
 steps-injective [] (r ∷ rs) f g e = absurd (omega (arith, some-bytes r (stepsText rs), ap length e))

@@ -12,7 +12,7 @@ use Rattle.jobs.specs.declared.Step.{Step}
 use Rattle.text.proofs.Feeding.{blocks-fed, fed-keeps}
 use Rattle.text.specs.internal.Feeding.{fedBlocks}
 use Rattle.text.specs.Text.{space}
-use Rattle.jobs.specs.Text.{AllFit, opWord, jobText, HasJobForm}
+use Rattle.jobs.specs.Text.{EachStepFits, opWord, jobText, HasJobForm}
 use Rattle.jobs.specs.internal.Scan.{asReading, atLine, begin, fed, feed, feedNext, Reading, scanByte, stored}
 use Rattle.jobs.specs.internal.Scan.{StepsKept, Judged, noStep, empty}
 use Rattle.jobs.specs.declared.scan.Place.{Place}
@@ -82,7 +82,7 @@ module _ (S : List Step) (whole : length S ≡ 4096) where
       subst (Judged (flatten blocks)) (sym (blocks-fed feed (asReading begin S) blocks)) (text-judged (flatten blocks))
 
   -- a written job reads back as its n and its steps
-  pub read-back : (n : ℕ) (steps : List Step) → n < 1000 → AllFit steps
+  pub read-back : (n : ℕ) (steps : List Step) → n < 1000 → EachStepFits steps
       → StepsKept n steps (fed (asReading begin S) (jobText n steps))
   read-back n steps few fit =
       text-judged (jobText n steps) .job n steps (record { few = few; fit = fit; text = refl })

@@ -34,18 +34,18 @@ abbrev pub runText : ℕ → List Step → List ℕ
 runText n steps = jobAnswer (length steps) (resultsOf (started n) steps) (run (started n) steps)
 
 -- the answer to a text of a job: 15 and 2 are checked "before any step runs"
-unfoldable pub answerText : ℕ → List Step → List ℕ
-answerText n steps =
+unfoldable pub jobAnswerText : ℕ → List Step → List ℕ
+jobAnswerText n steps =
     cond (eqb (firstFitting (jobLines n (length steps))) 0) (runText n steps)
     (refusedText (firstFitting (jobLines n (length steps))))
 
 -- these bytes answer the text t. 1: "The program's text does not have its form"
-pub record Answers (t bytes : List ℕ) : Type 0 where
+pub record AnswersJob (t bytes : List ℕ) : Type 0 where
   pub malformed : (HasJobForm t → ⊥) → bytes ≡ refusedText 1
-  pub formed : (n : ℕ) (steps : List Step) → JobTextOf n steps t → bytes ≡ answerText n steps
+  pub formed : (n : ℕ) (steps : List Step) → JobTextOf n steps t → bytes ≡ jobAnswerText n steps
 
 -- the answer to the text t was printed
-pub record ResponseTo (t before after : List ℕ) (r : ℕ) : Type 0 where
+pub record JobResponse (t before after : List ℕ) (r : ℕ) : Type 0 where
   pub bytes : List ℕ
-  pub answers : Answers t bytes
+  pub answers : AnswersJob t bytes
   pub out : Printed bytes 0 before after r

@@ -19,9 +19,9 @@ abbrev pub numbered : ℕ → ℕ → ℕ → ℕ → Step
 numbered op a b value = record { op = numberedOp op; a = a; b = b; value = value }
 
 -- f 0, f 1 .. f (n - 1)
-unfoldable pub listed : ℕ → (ℕ → Step) → List Step
-listed zero f = []
-listed (suc n) f = f 0 ∷ listed n (λ k. f (suc k))
+unfoldable pub stepsBelow : ℕ → (ℕ → Step) → List Step
+stepsBelow zero f = []
+stepsBelow (suc n) f = f 0 ∷ stepsBelow n (λ k. f (suc k))
 
 -- step k of the lists
 abbrev pub stepIn : List ℕ → List ℕ → List ℕ → List ℕ → ℕ → Step
@@ -29,4 +29,4 @@ stepIn ops a b value k = numbered (getD ops k 0) (getD a k 0) (getD b k 0) (getD
 
 -- the steps that the lists hold
 abbrev pub stepsIn : List ℕ → List ℕ → List ℕ → List ℕ → List Step
-stepsIn ops a b value = listed (length ops) (stepIn ops a b value)
+stepsIn ops a b value = stepsBelow (length ops) (stepIn ops a b value)

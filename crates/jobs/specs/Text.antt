@@ -27,15 +27,15 @@ opWord Complement = 99 ∷ 111 ∷ 109 ∷ 112 ∷ 108 ∷ 101 ∷ 109 ∷ 101 �
 opWord Pivot = 112 ∷ 105 ∷ 118 ∷ 111 ∷ 116 ∷ []
 
 -- numbers of at most three digits
-pub record Fits (s : Step) : Type 0 where
+pub record StepFits (s : Step) : Type 0 where
   pub a : s .a < 1000
   pub b : s .b < 1000
   pub value : s .value < 1000
 
 -- each step has such numbers
-abbrev pub AllFit : List Step → Type 0
-AllFit [] = Unit
-AllFit (s ∷ ss) = Fits s × AllFit ss
+abbrev pub EachStepFits : List Step → Type 0
+EachStepFits [] = Unit
+EachStepFits (s ∷ ss) = StepFits s × EachStepFits ss
 
 -- "the line `op a b value` and one line per step"; "layout .. as for `reduce`": "fields parted by one space, every
 -- line ended by a newline"
@@ -67,7 +67,7 @@ jobText n steps = jobHead n ++ stepsText steps
 -- t is the text of this job
 pub record JobTextOf (n : ℕ) (steps : List Step) (t : List ℕ) : Type 0 where
   pub few : n < 1000
-  pub fit : AllFit steps
+  pub fit : EachStepFits steps
   pub text : t ≡ jobText n steps
 
 -- the text has the form; refusal 1 is that it has not

@@ -21,7 +21,7 @@ use Rattle.operations.specs.Used.{UsedRecord, usedRecord, UsedUnrefused}
 use Rattle.call_run.specs.internal.LentRuns.{LentRun}
 use Rattle.jobs_replies.proofs.KeptResults.{lines-kept}
 use Rattle.jobs_replies.specs.internal.Room.{Fresh, resultIn}
-use Rattle.jobs_replies.specs.Room.{longest}
+use Rattle.jobs_replies.specs.Room.{longestJob}
 
 -- the first n places of a buffer of equal numbers
 pub repeated-part : (n m v : ℕ) → n ≤ m → take n (replicate m v) ≡ replicate n v
@@ -30,7 +30,7 @@ repeated-part (suc n) zero v h = absurd (not-suc-le-zero h)
 repeated-part (suc n) (suc m) v h = ap (λ t. v ∷ t) (repeated-part n m v (le-of-suc-le-suc h))
 
 -- buffers of 64 places hold the record that a job starts from
-pub fresh : (n count : ℕ) (out : List ℕ) → 1 ≤ n → n ≤ 64 → count ≤ 4096 → longest ≤ length out
+pub fresh : (n count : ℕ) (out : List ℕ) → 1 ≤ n → n ≤ 64 → count ≤ 4096 → longestJob ≤ length out
     → Fresh n (take n (replicate 64 0)) (take n (replicate 64 8)) count (replicate 4096 0) out
 fresh n count out positive upto few room =
     record {

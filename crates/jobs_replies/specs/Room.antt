@@ -6,5 +6,5 @@ abbrev pub linesRoom : ℕ
 linesRoom = 32 + 4096 * 14
 
 -- room for every answer: the names, 4,096 lines and the record of 64 qubits
-abbrev pub longest : ℕ
-longest = linesRoom + 27 + 64 * 25
+abbrev pub longestJob : ℕ
+longestJob = linesRoom + 27 + 64 * 25

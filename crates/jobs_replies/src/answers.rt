@@ -14,13 +14,13 @@ ghost use mathlib.Core.Path.{_≡_};
 ghost use Prim.Native.Nat.{ℕ, _≤_};
 ghost use lib.ListN.{length, take};
 ghost use Rattle.buffers.specs.Writing.{Printed};
-ghost use Rattle.jobs.specs.Answer.{ResponseTo, runText};
+ghost use Rattle.jobs.specs.Answer.{JobResponse, runText};
 ghost use Rattle.jobs.specs.Results.{resultLines, resultNames};
 ghost use Rattle.jobs.specs.internal.Scan.{asReading, empty, fed};
 ghost use Rattle.call_run.specs.internal.LentRuns.{LentRun};
 ghost use Rattle.operations.specs.Used.{usedRecord, UsedUnrefused};
 ghost use Rattle.jobs_replies.specs.internal.Room.{Fresh, resultIn};
-ghost use Rattle.jobs_replies.specs.Room.{linesRoom, longest};
+ghost use Rattle.jobs_replies.specs.Room.{linesRoom, longestJob};
 
 // Prints the names, and the line of each step by what it answered.
 fn print_results(count: usize, answers: &[u8], out: &mut [u8]) -> usize
@@ -76,8 +76,8 @@ fn print_run(
 }
 
 // Prints the answer to a job, whose steps stand at the start of the array.
-fn answer(n: usize, steps: [Step; 4096], count: usize, out: &mut [u8]) -> usize
-    requires { ⌜ (1 ≤ n) × (n ≤ 64) × (count ≤ 4096) × (longest ≤ length (now out)) ⌝ }
+fn job_answer(n: usize, steps: [Step; 4096], count: usize, out: &mut [u8]) -> usize
+    requires { ⌜ (1 ≤ n) × (n ≤ 64) × (count ≤ 4096) × (longestJob ≤ length (now out)) ⌝ }
     ensures { λ r. ⌜ Printed (runText n (take count steps)) 0 (now (out .entry)) (now (out .exit)) r ⌝ }
 {
     let mut neighbours = [0u64; 64];
@@ -95,10 +95,10 @@ fn answer(n: usize, steps: [Step; 4096], count: usize, out: &mut [u8]) -> usize
 }
 
 // Prints the answer to the text that was read, whatever text it was.
-pub fn reply(read: Reading, out: &mut [u8]) -> usize
-    requires { ⌜ longest ≤ length (now out) ⌝ }
+pub fn job_reply(read: Reading, out: &mut [u8]) -> usize
+    requires { ⌜ longestJob ≤ length (now out) ⌝ }
     ensures { λ r. ⌜ ((t : List ℕ) → asReading (read .scan) (read .steps) ≡ fed empty t
-        → ResponseTo t (now (out .entry)) (now (out .exit)) r) ⌝ }
+        → JobResponse t (now (out .entry)) (now (out .exit)) r) ⌝ }
 {
     let scan = read.scan;
     let number = judge(scan);
@@ -106,5 +106,5 @@ pub fn reply(read: Reading, out: &mut [u8]) -> usize
         return print_refusal(number, out);
     }
     let steps = read.steps;
-    answer(scan.n as usize, steps, scan.count, out)
+    job_answer(scan.n as usize, steps, scan.count, out)
 }

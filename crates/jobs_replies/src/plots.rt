@@ -8,7 +8,7 @@ use words::single;
 ghost use mathlib.Core.List.{List};
 ghost use Prim.Native.Nat.{ℕ, _≤_};
 ghost use lib.ListN.{length};
-ghost use Rattle.calls.specs.ListAnswers.{ResponseTo};
+ghost use Rattle.calls.specs.ListAnswers.{ListResponse};
 ghost use Rattle.text_replies.specs.internal.Places.{ScanOf, listAt};
 ghost use Rattle.buffers.specs.Writing.{Printed};
 ghost use Rattle.calls.specs.PlotAnswers.{longestTable, plotAnswer};
@@ -41,7 +41,7 @@ fn print_plot(
 }
 
 // Prints the answer to the list of n generators at the start of the buffers.
-fn answer(n: usize, signs: [u8; 64], z: [u64; 64], x: [u64; 64], out: &mut [u8]) -> usize
+fn plot_answer(n: usize, signs: [u8; 64], z: [u64; 64], x: [u64; 64], out: &mut [u8]) -> usize
     requires { ⌜ longestTable ≤ length (now out) ⌝ }
     ensures { λ r. ⌜ Printed (plotAnswer (listAt n signs z x)) 0 (now (out .entry)) (now (out .exit)) r ⌝ }
 {
@@ -66,13 +66,19 @@ fn answer(n: usize, signs: [u8; 64], z: [u64; 64], x: [u64; 64], out: &mut [u8])
 }
 
 // Prints the answer to the text that was scanned, whatever text it was.
-pub fn reply(verdict: Verdict, signs: [u8; 64], z: [u64; 64], x: [u64; 64], out: &mut [u8]) -> usize
+pub fn plot_reply(
+    verdict: Verdict,
+    signs: [u8; 64],
+    z: [u64; 64],
+    x: [u64; 64],
+    out: &mut [u8],
+) -> usize
     requires { ⌜ longestTable ≤ length (now out) ⌝ }
     ensures { λ r. ⌜ ((t : List ℕ) → ScanOf t verdict signs z x
-        → ResponseTo plotAnswer t (now (out .entry)) (now (out .exit)) r) ⌝ }
+        → ListResponse plotAnswer t (now (out .entry)) (now (out .exit)) r) ⌝ }
 {
     if verdict.has_form {
-        return answer(verdict.count, signs, z, x, out);
+        return plot_answer(verdict.count, signs, z, x, out);
     }
     print_refusal(1, out)
 }

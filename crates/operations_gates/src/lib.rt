@@ -6,7 +6,7 @@ pub mod unsettled;
 
 use crate::joins::cz_ready;
 use crate::settling::settle_all;
-use operations::compose;
+use clifford_impl::numbers::compose;
 use words::single;
 ghost use mathlib.Core.Logic.{_≢_};
 ghost use mathlib.Core.Path.{_≡_};

@@ -1,7 +1,8 @@
 // A vertex isolated by a measurement, in the buffers of a record.
 use buffers::sign_digit;
-use operations::before_each;
-use operations::compose;
+use clifford_impl::numbers::Z;
+use clifford_impl::numbers::before_each;
+use clifford_impl::numbers::compose;
 use words::single;
 use words::smallest;
 use words::without_smallest;
@@ -47,7 +48,7 @@ fn remove_turning(neighbours: &mut [u64], codes: &mut [u8], q: usize)
         (then (cliffordOf 2) (codesOf (now (codes .entry)) k)) (codesOf (now (codes .entry)) k))) ⌝ }
 {
     let away = single(q);
-    let twos = before_each(2);
+    let twos = before_each(Z);
     let mut rest = neighbours[q];
     while rest != 0 {
         let i = smallest(rest);

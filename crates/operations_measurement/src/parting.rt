@@ -1,7 +1,10 @@
 // A pivot and a complementation that leave out the edges at a vertex, which a measurement is about to isolate: its
 // neighbours are gone through once.
-use operations::before_each;
-use operations::compose;
+use clifford_impl::numbers::H_NXZ;
+use clifford_impl::numbers::S_DAG;
+use clifford_impl::numbers::SQRT_X;
+use clifford_impl::numbers::before_each;
+use clifford_impl::numbers::compose;
 use operations_rewriting::pivots::join_turning;
 use words::flip;
 use words::single;
@@ -38,8 +41,8 @@ pub fn pivot_parted(neighbours: &mut [u64], codes: &mut [u8], q: usize, k: usize
     ensures { λ r. ⌜ ((j : ℕ) → bit r j
         ≡ (pivotRecord (heldRecord (recordIn (now (neighbours .entry)) (now (codes .entry)))) q k) .graph q j) ⌝ }
 {
-    let at_q = compose(11, codes[q]);
-    let at_k = compose(11, codes[k]);
+    let at_q = compose(H_NXZ, codes[q]);
+    let at_k = compose(H_NXZ, codes[k]);
     let to_q = neighbours[q];
     let to_k = neighbours[k] | single(k);
     join_turning(neighbours, codes, to_q, to_k);
@@ -60,7 +63,7 @@ fn complement_away(neighbours: &mut [u64], codes: &mut [u8], q: usize)
 {
     let mut rest = neighbours[q];
     let around = rest | single(q);
-    let sixes = before_each(6);
+    let sixes = before_each(S_DAG);
     while rest != 0 {
         let i = smallest(rest);
         let code = codes[i];
@@ -81,7 +84,7 @@ pub fn complement_parted(neighbours: &mut [u64], codes: &mut [u8], q: usize) -> 
     ensures { λ r. ⌜ r ≡ getD (now (neighbours .entry)) q 0 ⌝ }
 {
     let near = neighbours[q];
-    let first = compose(13, codes[q]);
+    let first = compose(SQRT_X, codes[q]);
     complement_away(neighbours, codes, q);
     codes[q] = first;
     near

@@ -1,6 +1,8 @@
 // Complements of a record in its buffers, and codes put before those of its vertices.
-use operations::before_each;
-use operations::compose;
+use clifford_impl::numbers::S_DAG;
+use clifford_impl::numbers::SQRT_X;
+use clifford_impl::numbers::before_each;
+use clifford_impl::numbers::compose;
 use words::flip;
 use words::smallest;
 use words::without_smallest;
@@ -58,7 +60,7 @@ fn complement_around(neighbours: &mut [u64], codes: &mut [u8], a: usize)
         (then (cliffordOf 6) (codesOf (now (codes .entry)) q)) (codesOf (now (codes .entry)) q))) ⌝ }
 {
     let around = neighbours[a];
-    let sixes = before_each(6);
+    let sixes = before_each(S_DAG);
     let mut rest = around;
     while rest != 0 {
         let i = smallest(rest);
@@ -75,7 +77,7 @@ pub fn complement_record(neighbours: &mut [u64], codes: &mut [u8], a: usize)
     ensures { λ r. ⌜ Rewritten (now (neighbours .entry)) (now (codes .entry)) (λ g. complementRecord g a)
         (now (neighbours .exit)) (now (codes .exit)) ⌝ }
 {
-    let first = compose(13, codes[a]);
+    let first = compose(SQRT_X, codes[a]);
     complement_around(neighbours, codes, a);
     codes[a] = first;
 }

@@ -1,6 +1,8 @@
 // Pivots of a record in its buffers.
-use operations::before_each;
-use operations::compose;
+use clifford_impl::numbers::H_NXZ;
+use clifford_impl::numbers::Z;
+use clifford_impl::numbers::before_each;
+use clifford_impl::numbers::compose;
 use words::single;
 use words::smallest;
 use words::without_smallest;
@@ -29,7 +31,7 @@ fn turn_rows(neighbours: &mut [u64], codes: &mut [u8], rows: u64, word: u64)
     ensures { λ r. ⌜ now (codes .exit) ≡ tabulate (length (now (codes .entry))) (λ q. codeOf (cond (bit «rows» q)
         (then (cliffordOf 2) (codesOf (now (codes .entry)) q)) (codesOf (now (codes .entry)) q))) ⌝ }
 {
-    let twos = before_each(2);
+    let twos = before_each(Z);
     let mut rest = rows;
     while rest != 0 {
         let i = smallest(rest);
@@ -66,8 +68,8 @@ pub fn pivot_record(neighbours: &mut [u64], codes: &mut [u8], j: usize, k: usize
     ensures { λ r. ⌜ Rewritten (now (neighbours .entry)) (now (codes .entry)) (λ g. pivotRecord g j k)
         (now (neighbours .exit)) (now (codes .exit)) ⌝ }
 {
-    let at_j = compose(11, codes[j]);
-    let at_k = compose(11, codes[k]);
+    let at_j = compose(H_NXZ, codes[j]);
+    let at_k = compose(H_NXZ, codes[k]);
     let to_j = neighbours[j] | single(j);
     let to_k = neighbours[k] | single(k);
     join_turning(neighbours, codes, to_j, to_k);

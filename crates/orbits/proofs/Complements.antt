@@ -13,7 +13,7 @@ use Rattle.words.proofs.Places.{other-place}
 use Rattle.words.specs.Bits.{bit, _⊕_}
 use Rattle.orbits.proofs.GraphNumbers.{graph-bit, graph-number, graph-simple, number-bit, number-graph, number-lt}
 use Rattle.orbits.proofs.Pairs.{pair-inside}
-use Rattle.orbits.specs.Numbers.{complementNumber, graphAt, graphCount, graphNumber, pairAt, pairCount}
+use Rattle.orbits.specs.Numbers.{complementNumber, graphAt, graphCount, graphNumber, pairAt, pairsOf}
 use Rattle.orbits.specs.internal.Numbers.{pairsWithin}
 
 -- complementing twice at a vertex changes nothing
@@ -52,7 +52,7 @@ module _ (n : ℕ) (few : n ≤ 6) where
       → bitXor g (pairsWithin n s) ≡ complementNumber n g a
   unfolding complementNumber pairsWithin
   complement-flips g a s l h =
-      bit-ext (pairCount n) _ _ (xor-lt (pairCount n) g _ l (number-lt n (λ i j. bit s i && bit s j)))
+      bit-ext (pairsOf n) _ _ (xor-lt (pairsOf n) g _ l (number-lt n (λ i j. bit s i && bit s j)))
       (number-lt n (complement (graphAt n g) a)) at
     where
       apart : (u v : ℕ) → u < v → v ≡ u → ⊥
@@ -64,7 +64,7 @@ module _ (n : ℕ) (few : n ≤ 6) where
           ap₂ _&&_ (h u) (h v)
           ∙ sym (ap (λ b. (graphAt n g a u && graphAt n g a v) && not b) (other-place (apart u v l)) ∙ and-true _)
 
-      at : (k : ℕ) → k < pairCount n
+      at : (k : ℕ) → k < pairsOf n
           → bit (bitXor g (graphNumber n (λ i j. bit s i && bit s j))) k
           ≡ bit (graphNumber n (complement (graphAt n g) a)) k
       at k p =

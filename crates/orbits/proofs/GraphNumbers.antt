@@ -17,7 +17,7 @@ use Rattle.words.proofs.Sums.{lt-or-ge}
 use Rattle.words.specs.Bits.{bit}
 use Rattle.words.specs.Search.{first, some}
 use Rattle.orbits.proofs.Pairs.{pair-apart, pair-inside, pair-met}
-use Rattle.orbits.specs.Numbers.{graphAt, graphCount, graphNumber, joins, pairAt, pairCount}
+use Rattle.orbits.specs.Numbers.{graphAt, graphCount, graphNumber, joins, pairAt, pairsOf}
 use Rattle.orbits.specs.declared.Pair.{Pair}
 
 joins-comm : (p : Pair) (i j : ℕ) → joins p i j ≡ joins p j i
@@ -35,14 +35,14 @@ joined p i j e = go (either (eqb i (p .low) && eqb j (p .high)) (eqb i (p .high)
     go (inr h) = let b = both-true _ _ h in inr (eqb-true _ _ (b .0), eqb-true _ _ (b .1))
 
 -- ---- the number of a graph
-pub number-bit : (n : ℕ) (θ : Graph) (k : ℕ) → k < pairCount n
+pub number-bit : (n : ℕ) (θ : Graph) (k : ℕ) → k < pairsOf n
     → bit (graphNumber n θ) k ≡ θ ((pairAt n k) .low) ((pairAt n k) .high)
 unfolding graphNumber
-number-bit n θ k l = bit-wordOf (pairCount n) (λ k. θ ((pairAt n k) .low) ((pairAt n k) .high)) k l
+number-bit n θ k l = bit-wordOf (pairsOf n) (λ k. θ ((pairAt n k) .low) ((pairAt n k) .high)) k l
 
 pub number-lt : (n : ℕ) (θ : Graph) → graphNumber n θ < graphCount n
 unfolding graphNumber
-number-lt n θ = wordOf-lt (pairCount n) (λ k. θ ((pairAt n k) .low) ((pairAt n k) .high))
+number-lt n θ = wordOf-lt (pairsOf n) (λ k. θ ((pairAt n k) .low) ((pairAt n k) .high))
 
 module _ (n : ℕ) (few : n ≤ 6) where
   -- ---- the graph with a number
@@ -50,8 +50,8 @@ module _ (n : ℕ) (few : n ≤ 6) where
   joined-inside : (g i j : ℕ) → graphAt n g i j ≡ true → (i < n) × ((j < n) × (i ≡ j → ⊥))
   unfolding graphAt
   joined-inside g i j e =
-      let F = some-true (pairCount n) (λ k. bit g k && joins (pairAt n k) i j) e in
-      let k = first (pairCount n) (λ k. bit g k && joins (pairAt n k) i j) in
+      let F = some-true (pairsOf n) (λ k. bit g k && joins (pairAt n k) i j) e in
+      let k = first (pairsOf n) (λ k. bit g k && joins (pairAt n k) i j) in
       let between = pair-inside n few k (F .below) in
       go (pairAt n k) (between .0) (between .1) (joined (pairAt n k) i j (both-true (bit g k) _ (F .passes) .1))
     where
@@ -70,37 +70,37 @@ module _ (n : ℕ) (few : n ≤ 6) where
       }
     where
       symmetric : (i j : ℕ) → graphAt n g i j ≡ graphAt n g j i
-      symmetric i j = some-ext (pairCount n) _ _ (λ k l. ap (λ b. bit g k && b) (joins-comm (pairAt n k) i j))
+      symmetric i j = some-ext (pairsOf n) _ _ (λ k l. ap (λ b. bit g k && b) (joins-comm (pairAt n k) i j))
 
       high : (q : ℕ) → n ≤ q → q < n → ⊥
       high q l h = omega arith
 
   -- at a pair it has the bit
-  pub graph-bit : (g k : ℕ) → k < pairCount n → graphAt n g ((pairAt n k) .low) ((pairAt n k) .high) ≡ bit g k
+  pub graph-bit : (g k : ℕ) → k < pairsOf n → graphAt n g ((pairAt n k) .low) ((pairAt n k) .high) ≡ bit g k
   unfolding graphAt
   graph-bit g k l = same-by-both _ _ forth back
     where
       test : ℕ → Bool
       test m = bit g m && joins (pairAt n m) ((pairAt n k) .low) ((pairAt n k) .high)
 
-      forth : some (pairCount n) test ≡ true → bit g k ≡ true
+      forth : some (pairsOf n) test ≡ true → bit g k ≡ true
       forth e =
-          let F = some-true (pairCount n) test e in
-          let m = first (pairCount n) test in
+          let F = some-true (pairsOf n) test e in
+          let m = first (pairsOf n) test in
           let b = both-true (bit g m) _ (F .passes) in
           ap (bit g) (eqb-true k m (sym (pair-apart n few m (F .below) k l) ∙ b .1)) ∙ b .0
 
-      back : bit g k ≡ true → some (pairCount n) test ≡ true
-      back e = some-in (pairCount n) test k l (ap₂ _&&_ e (pair-apart n few k l k l ∙ same-place k))
+      back : bit g k ≡ true → some (pairsOf n) test ≡ true
+      back e = some-in (pairsOf n) test k l (ap₂ _&&_ e (pair-apart n few k l k l ∙ same-place k))
 
   -- ---- there and back
   pub graph-number : (g : ℕ) → g < graphCount n → graphNumber n (graphAt n g) ≡ g
   graph-number g l =
-      bit-ext (pairCount n) _ g (number-lt n (graphAt n g)) l (λ k h. number-bit n (graphAt n g) k h ∙ graph-bit g k h)
+      bit-ext (pairsOf n) _ g (number-lt n (graphAt n g)) l (λ k h. number-bit n (graphAt n g) k h ∙ graph-bit g k h)
 
   -- simple graphs that agree at every pair are equal
   pub same-at-pairs : (θ φ : Graph) → Simple n θ → Simple n φ
-      → ((k : ℕ) → k < pairCount n → θ ((pairAt n k) .low) ((pairAt n k) .high) ≡ φ ((pairAt n k) .low) ((pairAt n k) .high))
+      → ((k : ℕ) → k < pairsOf n → θ ((pairAt n k) .low) ((pairAt n k) .high) ≡ φ ((pairAt n k) .low) ((pairAt n k) .high))
       → θ ≡ φ
   same-at-pairs θ φ S R h = fun-ext (λ i. fun-ext (λ j. all i j (lt-or-ge i n) (lt-or-ge j n)))
     where

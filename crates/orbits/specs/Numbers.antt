@@ -9,12 +9,12 @@ use Rattle.words.specs.Bits.{bit, wordOf}
 use Rattle.words.specs.Search.{some}
 
 -- how many pairs there are
-abbrev pub pairCount : ℕ → ℕ
-pairCount n = n * (n - 1) / 2
+abbrev pub pairsOf : ℕ → ℕ
+pairsOf n = n * (n - 1) / 2
 
 -- how many graphs there are, and so numbers
 abbrev pub graphCount : ℕ → ℕ
-graphCount n = 2 ^ pairCount n
+graphCount n = 2 ^ pairsOf n
 
 -- the pair behind: the next larger high vertex, or else the next larger low vertex with the one after it
 abbrev pub nextPair : ℕ → Pair → Pair
@@ -33,11 +33,11 @@ joins p i j = (eqb i (p .low) && eqb j (p .high)) || (eqb i (p .high) && eqb j (
 
 -- a graph's number
 unfoldable pub graphNumber : ℕ → Graph → ℕ
-graphNumber n θ = wordOf (pairCount n) (λ k. θ ((pairAt n k) .low) ((pairAt n k) .high))
+graphNumber n θ = wordOf (pairsOf n) (λ k. θ ((pairAt n k) .low) ((pairAt n k) .high))
 
 -- the graph with the number g
 unfoldable pub graphAt : ℕ → ℕ → Graph
-graphAt n g i j = some (pairCount n) (λ k. bit g k && joins (pairAt n k) i j)
+graphAt n g i j = some (pairsOf n) (λ k. bit g k && joins (pairAt n k) i j)
 
 -- the number of that graph complemented at a
 unfoldable pub complementNumber : ℕ → ℕ → ℕ → ℕ

@@ -13,7 +13,7 @@ use lib.Dec.{eqb}
 use lib.ListN.{getD, length, length-set, replicate, set}
 use lib.Seq.{getD-set-other, getD-set-same}
 use Rattle.buffers.proofs.Mapping.{zeros, zeros-at}
-use Rattle.orbits.specs.Numbers.{graphAt, joins, nextPair, pairAt, pairCount}
+use Rattle.orbits.specs.Numbers.{graphAt, joins, nextPair, pairAt, pairsOf}
 use Rattle.orbits.specs.declared.Pair.{Pair}
 use Rattle.words.proofs.BitLaws.{bit-or, bit-single, zero-bit}
 use Rattle.words.proofs.Places.{other-place, same-place}
@@ -53,7 +53,7 @@ pub record Joining (n pairs g : ℕ) (words : List ℕ) (k : ℕ) (pair : Pair) 
   pub long : length words ≡ 6
   pub edges : (i j : ℕ) → bit (getD words i 0) j ≡ some k (λ m. bit g m && joins (pairAt n m) i j)
 
-pub none-joined : (n pairs g : ℕ) → n ≤ 6 → pairs ≡ pairCount n
+pub none-joined : (n pairs g : ℕ) → n ≤ 6 → pairs ≡ pairsOf n
     → Joining n pairs g (replicate 6 0) 0 (record { low = 0; high = 1 })
 unfolding some zeros
 none-joined n pairs g few e = record {

@@ -12,7 +12,7 @@ use borrow.Author.Tests.{le-ltb, lt-ltb, ltb-true}
 use Rattle.record.specs.Graph.{Graph}
 use Rattle.orbits.proofs.GraphNumbers.{number-bit, number-lt}
 use Rattle.orbits.proofs.Pairs.{few-pairs, pair-inside}
-use Rattle.orbits.specs.Numbers.{graphNumber, nextPair, pairAt, pairCount}
+use Rattle.orbits.specs.Numbers.{graphNumber, nextPair, pairAt, pairsOf}
 use Rattle.orbits.specs.declared.Pair.{Pair}
 use Rattle.words.proofs.BitLaws.{bit-above, bit-ext∞, zero-bit}
 use Rattle.words.proofs.Places.{put-other, put-same, upto-other}
@@ -32,11 +32,11 @@ product-fits n few = ltb-true (n * (n - 1)) 64 (every-at 7 (λ n. ltb (n * (n - 
 -- the loop is at pair k of n vertices
 pub record AtPair (n pairs k : ℕ) (pair : Pair) : Type 0 where
   pub few : n ≤ 6
-  pub all : pairs ≡ pairCount n
+  pub all : pairs ≡ pairsOf n
   pub upto : k ≤ pairs
   pub is : pair ≡ pairAt n k
 
-pub first-pair : (n pairs : ℕ) → n ≤ 6 → pairs ≡ pairCount n → AtPair n pairs 0 (record { low = 0; high = 1 })
+pub first-pair : (n pairs : ℕ) → n ≤ 6 → pairs ≡ pairsOf n → AtPair n pairs 0 (record { low = 0; high = 1 })
 unfolding pairAt
 first-pair n pairs few e = record { few = few; all = e; upto = omega arith; is = refl }
 
@@ -59,7 +59,7 @@ module _ {n pairs k : ℕ} {pair : Pair} (A : AtPair n pairs k pair) (more : k <
 
   pub this-pair : Inside n k pair
   this-pair =
-      let within : k < pairCount n = subst (λ m. k < m) (A .all) more in
+      let within : k < pairsOf n = subst (λ m. k < m) (A .all) more in
       let P = pair-inside n (A .few) k within in
       record {
         rises = subst (λ p. p .low < p .high) (sym (A .is)) (P .0);
@@ -73,7 +73,7 @@ pub record Numbering (n pairs : ℕ) (θ : Graph) (number k : ℕ) (pair : Pair)
   pub at : AtPair n pairs k pair
   pub bits : (q : ℕ) → bit number q ≡ (ltb q k && θ ((pairAt n q) .low) ((pairAt n q) .high))
 
-pub none-numbered : (n pairs : ℕ) (θ : Graph) → n ≤ 6 → pairs ≡ pairCount n
+pub none-numbered : (n pairs : ℕ) (θ : Graph) → n ≤ 6 → pairs ≡ pairsOf n
     → Numbering n pairs θ 0 0 (record { low = 0; high = 1 })
 none-numbered n pairs θ few e = record {
   at = first-pair n pairs few e;
@@ -100,16 +100,16 @@ module _ {n pairs number k : ℕ} {pair : Pair} (θ : Graph) (N : Numbering n pa
           ∙ ap (λ b. b && θ ((pairAt n q) .low) ((pairAt n q) .high)) (sym (upto-other q k d))
 
   pub all-numbered : pairs ≤ k → number ≡ graphNumber n θ
-  all-numbered end = bit-ext∞ number (graphNumber n θ) (λ q. N .bits q ∙ at q (lt-or-ge q (pairCount n)))
+  all-numbered end = bit-ext∞ number (graphNumber n θ) (λ q. N .bits q ∙ at q (lt-or-ge q (pairsOf n)))
     where
-      last : k ≡ pairCount n
+      last : k ≡ pairsOf n
       last = le-antisymm (N .at .upto) end ∙ N .at .all
 
-      at : (q : ℕ) → (q < pairCount n) ⊎ (pairCount n ≤ q)
+      at : (q : ℕ) → (q < pairsOf n) ⊎ (pairsOf n ≤ q)
           → (ltb q k && θ ((pairAt n q) .low) ((pairAt n q) .high)) ≡ bit (graphNumber n θ) q
       at q (inl l) =
           ap (λ b. b && θ ((pairAt n q) .low) ((pairAt n q) .high)) (ap (ltb q) last ∙ lt-ltb q _ l)
           ∙ sym (number-bit n θ q l)
       at q (inr l) =
           ap (λ b. b && θ ((pairAt n q) .low) ((pairAt n q) .high)) (ap (ltb q) last ∙ le-ltb q _ l)
-          ∙ sym (bit-above (pairCount n) (graphNumber n θ) (number-lt n θ) q l)
+          ∙ sym (bit-above (pairsOf n) (graphNumber n θ) (number-lt n θ) q l)

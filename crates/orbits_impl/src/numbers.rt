@@ -11,13 +11,13 @@ ghost use lib.ListN.{length};
 ghost use Rattle.buffers.specs.Buffers.{tabulate};
 ghost use Rattle.record.specs.NeighbourWords.{graphIn};
 ghost use Rattle.orbits.specs.internal.Numbers.{WordsOf, pairsWithin};
-ghost use Rattle.orbits.specs.Numbers.{graphNumber, nextPair, pairCount};
+ghost use Rattle.orbits.specs.Numbers.{graphNumber, nextPair, pairsOf};
 ghost use Rattle.words.specs.Bits.{bit};
 
 // How many pairs n vertices have.
 fn pair_count(n: usize) -> usize
     requires { ⌜ (1 ≤ n) × (n ≤ 6) ⌝ }
-    ensures { λ r. ⌜ r ≡ pairCount n ⌝ }
+    ensures { λ r. ⌜ r ≡ pairsOf n ⌝ }
 {
     n * (n - 1) / 2
 }

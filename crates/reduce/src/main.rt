@@ -2,22 +2,22 @@
 // text_replies makes of what was scanned.
 use libc::STDOUT_FILENO;
 use text_replies::input::read_list;
-use text_replies::reply;
+use text_replies::list_reply;
 ghost use Prim.Native.Nat.{_≤_};
 ghost use lib.ListN.{length};
-ghost use Rattle.text_replies.specs.Places.{longest};
-ghost use Rattle.reduce.specs.Reads.{Responded};
+ghost use Rattle.text_replies.specs.Places.{longestRecord};
+ghost use Rattle.reduce.specs.Reads.{ReduceResponded};
 
 // Prints the answer to the text on standard input.
 fn respond(out: &mut [u8]) -> usize
-    requires { ⌜ longest ≤ length (now out) ⌝ }
-    ensures { λ r. ⌜ Responded (now (out .entry)) (now (out .exit)) r ⌝ }
+    requires { ⌜ longestRecord ≤ length (now out) ⌝ }
+    ensures { λ r. ⌜ ReduceResponded (now (out .entry)) (now (out .exit)) r ⌝ }
 {
     let mut signs = [0u8; 64];
     let mut z = [0u64; 64];
     let mut x = [0u64; 64];
     let verdict = read_list(&mut signs, &mut z, &mut x);
-    reply(verdict, signs, z, x, out)
+    list_reply(verdict, signs, z, x, out)
 }
 
 fn main() {

@@ -1,5 +1,5 @@
 pub mod Observed
-pub mod ObservedGroups
+pub mod ObservedParties
 pub mod RenewedGroups
 pub mod RenewedMasks
 pub mod RenewedRecords

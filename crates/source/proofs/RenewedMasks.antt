@@ -11,11 +11,11 @@ use borrow.Author.Tests.{eq-eqb, eqb-true, not-false}
 use Rattle.buffers.proofs.Tabulate.{tabulate-at, tabulate-cong, tabulate-length}
 use Rattle.buffers.specs.Refusals.{badCount, firstFitting, line}
 use Rattle.buffers.proofs.Fitting.{none-holds}
-use Rattle.groups.proofs.GroupNumbers.{used-alike}
-use Rattle.groups.proofs.MaskedRecords.{masked-apart}
-use Rattle.groups.specs.GroupLines.{outsider}
-use Rattle.groups.specs.Masks.{crosses, inGroup, masked}
-use Rattle.groups.specs.internal.Apart.{Apart}
+use Rattle.parties.proofs.PartyNumbers.{used-alike}
+use Rattle.parties.proofs.MaskedRecords.{masked-apart}
+use Rattle.parties.specs.PartyLines.{outsider}
+use Rattle.parties.specs.Masks.{crosses, inParty, masked}
+use Rattle.parties.specs.internal.Apart.{Apart}
 use Rattle.record.specs.Lent.{recordCodes, recordLengths, recordLines}
 use Rattle.source.proofs.RenewedRecords.{renew-passes, renewed-passes}
 use Rattle.source.specs.Renewal.{renewLines, renewed, unmarked}
@@ -26,8 +26,8 @@ use Rattle.words.proofs.Finite.{bits}
 use Rattle.words.proofs.Flags.{neither}
 use Rattle.words.proofs.Places.{other-place}
 use Rattle.words.specs.Bits.{Word, bit}
-use Rattle.source.specs.GroupSources.{groupRenewLines}
-use Rattle.source.proofs.ObservedGroups.{lines-number}
+use Rattle.source.specs.PartySources.{partyRenewLines}
+use Rattle.source.proofs.ObservedParties.{lines-number}
 
 module _ (word g : ℕ) (u : UsedRecord) (q k : ℕ) where
   -- ---- accepted
@@ -35,18 +35,18 @@ module _ (word g : ℕ) (u : UsedRecord) (q k : ℕ) where
     pub count : u .held .n ≡ 64
     pub group : ltb 1 g ≡ false
     pub no-crossing : crosses word u ≡ false
-    pub own : outsider (inGroup word g) 64 q ≡ false
+    pub own : outsider (inParty word g) 64 q ≡ false
     pub lines : firstFitting (renewLines u q k) ≡ 0
 
-  pub renewed-passes-group : firstFitting (groupRenewLines word g u q k) ≡ 0 → RenewedPasses
-  renewed-passes-group z =
-      let h = none-holds (groupRenewLines word g u q k) refl z in
+  pub renewed-passes-party : firstFitting (partyRenewLines word g u q k) ≡ 0 → RenewedPasses
+  renewed-passes-party z =
+      let h = none-holds (partyRenewLines word g u q k) refl z in
       let n64 = eqb-true (u .held .n) 64 (not-false (eqb (u .held .n) 64)
       (neither (((badCount (u .held .n) || false) || false) || false) (not (eqb (u .held .n) 64)) (h .0) .1)) in
       let six : Bool = ((recordCodes (u .held) || not (usedCode k)) || false) || false in
       let low = neither six (ltb 1 g) (neither (six || ltb 1 g) false (h .1 .1 .1 .0) .0) .1 in
       let h19 = neither (crosses word u) _ (h .1 .1 .1 .1 .1 .0) in
-      let own = sym (ap (λ m. outsider (inGroup word g) m q) n64) ∙ h19 .1 in
+      let own = sym (ap (λ m. outsider (inParty word g) m q) n64) ∙ h19 .1 in
       record {
         count = n64;
         group = low;
@@ -62,8 +62,8 @@ byArguments six nineteen eight twenty =
     ∷ line 8 ((eight || false) || false) ∷ line 20 ((twenty || false) || false) ∷ [])
 
 passed-number : (word g : ℕ) (u : UsedRecord) (q k : ℕ) → Apart word u → ltb 1 g ≡ false
-    → firstFitting (groupRenewLines word g u q k) ≡ byArguments (not (usedCode k))
-    (outsider (inGroup word g) (u .held .n) q) (leb (u .held .n) q) (not (bit (u .used) q))
+    → firstFitting (partyRenewLines word g u q k) ≡ byArguments (not (usedCode k))
+    (outsider (inParty word g) (u .held .n) q) (leb (u .held .n) q) (not (bit (u .used) q))
 unfolding firstFitting
 passed-number word g u q k H low =
     let P = lines-pass u false false false .0 (H .passes) in
@@ -77,7 +77,7 @@ passed-number word g u q k H low =
     ∷ line 5 ((((h .1 .1 .0 i || (stray i || false)) || false) || false) || false)
     ∷ line 6 (((((codes i || not (usedCode k)) || false) || false) || low i) || false)
     ∷ line 7 ((((h .1 .1 .1 .1 .0 i || false) || P .2 i) || false) || false)
-    ∷ line 19 (H .no-crossing i || outsider (inGroup word g) (u .held .n) q)
+    ∷ line 19 (H .no-crossing i || outsider (inParty word g) (u .held .n) q)
     ∷ line 8 ((leb (u .held .n) q || false) || false)
     ∷ line 20 ((not (bit (u .used) q) || false) || false) ∷ [])
 
@@ -91,13 +91,13 @@ same-twenty false false eight h = ap (byArguments false false eight) (h refl)
 
 -- a group's renewal has the same number on the group's vertices alone
 pub renew-alone : (word g : ℕ) (u : UsedRecord) (q k : ℕ) → Apart word u → ltb 1 g ≡ false
-    → firstFitting (groupRenewLines word g u q k)
-    ≡ firstFitting (groupRenewLines word g (masked (inGroup word g) u) q k)
+    → firstFitting (partyRenewLines word g u q k)
+    ≡ firstFitting (partyRenewLines word g (masked (inParty word g) u) q k)
 renew-alone word g u q k H low =
     passed-number word g u q k H low
-    ∙ same-twenty (not (usedCode k)) (outsider (inGroup word g) (u .held .n) q) (leb (u .held .n) q)
-    (λ e. ap not (used-alike word g u H q (sym (ap (λ m. outsider (inGroup word g) m q) (H .count)) ∙ e)))
-    ∙ sym (passed-number word g (masked (inGroup word g) u) q k (masked-apart word g u H) low)
+    ∙ same-twenty (not (usedCode k)) (outsider (inParty word g) (u .held .n) q) (leb (u .held .n) q)
+    (λ e. ap not (used-alike word g u H q (sym (ap (λ m. outsider (inParty word g) m q) (H .count)) ∙ e)))
+    ∙ sym (passed-number word g (masked (inParty word g) u) q k (masked-apart word g u H) low)
 
 -- ---- what is left
 assoc : (a b c : Bool) → (a && (b && c)) ≡ ((a && b) && c)

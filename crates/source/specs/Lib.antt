@@ -1,3 +1,3 @@
-pub mod GroupSources
+pub mod PartySources
 pub mod Renewal
 pub mod internal

@@ -1,6 +1,6 @@
 // Two groups on one record, as C sees them: the calls of one group, on its own vertices and its own four named states.
-ghost use Rattle.calls.specs.GroupStores.{groupForgetCall, groupReturnCall, groupSaveCall};
-ghost use Rattle.calls.specs.Groups.{groupCall, groupMeasureCall};
+ghost use Rattle.calls.specs.PartyStores.{partyForgetCall, partyReturnCall, partySaveCall};
+ghost use Rattle.calls.specs.Parties.{partyCall, partyMeasureCall};
 ghost use Rattle.buffers.specs.Calls.{Call};
 ghost use Rattle.operations.specs.Steps.{complementOf, czOn, gateWith};
 ghost use Rattle.operations.specs.Used.{usedRecord};
@@ -17,11 +17,11 @@ pub extern "C" fn sukhlent_group_gate(
     qubit: u64,
     code: u8,
 ) -> u8
-    ensures { λ r. ⌜ Call (groupCall word group
+    ensures { λ r. ⌜ Call (partyCall word group
         (usedRecord n (now (neighbours .entry)) (now (codes .entry)) used)
         (gateWith qubit code) (now (neighbours .exit)) (now (codes .exit))) r ⌝ }
 {
-    call_groups::gate(n, word, group, neighbours, codes, used, qubit, code)
+    call_parties::gate(n, word, group, neighbours, codes, used, qubit, code)
 }
 
 // A group's CZ: the group's vertices reduced, the others as they were.
@@ -36,11 +36,11 @@ pub extern "C" fn sukhlent_group_cz(
     a: u64,
     b: u64,
 ) -> u8
-    ensures { λ r. ⌜ Call (groupCall word group
+    ensures { λ r. ⌜ Call (partyCall word group
         (usedRecord n (now (neighbours .entry)) (now (codes .entry)) used)
         (czOn a b) (now (neighbours .exit)) (now (codes .exit))) r ⌝ }
 {
-    call_groups::cz(n, word, group, neighbours, codes, used, a, b)
+    call_parties::cz(n, word, group, neighbours, codes, used, a, b)
 }
 
 // A Pauli measured at a group's qubit: the outcome, whether it was determined, and the group's vertices reduced.
@@ -58,13 +58,13 @@ pub extern "C" fn sukhlent_group_measure(
     answer: &mut u8,
     determined: &mut u8,
 ) -> u8
-    ensures { λ r. ⌜ Call (groupMeasureCall word group
+    ensures { λ r. ⌜ Call (partyMeasureCall word group
         (usedRecord n (now (neighbours .entry)) (now (codes .entry)) (now (used .entry)))
         pauli qubit outcome (now (answer .entry)) (now (determined .entry))
         (now (neighbours .exit)) (now (codes .exit)) (now (used .exit)) (now (answer .exit))
         (now (determined .exit))) r ⌝ }
 {
-    call_groups::measure(
+    call_parties::measure(
         n,
         word,
         group,
@@ -90,11 +90,11 @@ pub extern "C" fn sukhlent_group_complement(
     used: u64,
     a: u64,
 ) -> u8
-    ensures { λ r. ⌜ Call (groupCall word group
+    ensures { λ r. ⌜ Call (partyCall word group
         (usedRecord n (now (neighbours .entry)) (now (codes .entry)) used)
         (complementOf a) (now (neighbours .exit)) (now (codes .exit))) r ⌝ }
 {
-    call_groups::complement(n, word, group, neighbours, codes, used, a)
+    call_parties::complement(n, word, group, neighbours, codes, used, a)
 }
 
 // The group's vertices saved under the name, at one of its four places.
@@ -111,13 +111,13 @@ pub extern "C" fn sukhlent_group_save(
     held_neighbours: &mut [u64],
     held_codes: &mut [u8],
 ) -> u8
-    ensures { λ r. ⌜ Call (groupSaveCall word group (usedRecord n (now (neighbours .entry)) (now (codes .entry)) used) name (record {
+    ensures { λ r. ⌜ Call (partySaveCall word group (usedRecord n (now (neighbours .entry)) (now (codes .entry)) used) name (record {
       heads = now (heads .entry);
       neighbours = now («held_neighbours» .entry);
       codes = now («held_codes» .entry);
     }) (now (heads .exit)) (now («held_neighbours» .exit)) (now («held_codes» .exit))) r ⌝ }
 {
-    call_groups::stores::save(
+    call_parties::stores::save(
         n,
         word,
         group,
@@ -145,13 +145,13 @@ pub extern "C" fn sukhlent_group_return(
     held_neighbours: &[u64],
     held_codes: &[u8],
 ) -> u8
-    ensures { λ r. ⌜ Call (groupReturnCall word group (usedRecord n (now (neighbours .entry)) (now (codes .entry)) (now (used .entry))) name (record {
+    ensures { λ r. ⌜ Call (partyReturnCall word group (usedRecord n (now (neighbours .entry)) (now (codes .entry)) (now (used .entry))) name (record {
       heads = now (heads .entry);
       neighbours = now («held_neighbours» .entry);
       codes = now («held_codes» .entry);
     }) (now (neighbours .exit)) (now (codes .exit)) (now (used .exit))) r ⌝ }
 {
-    call_groups::stores::return_to(
+    call_parties::stores::return_to(
         n,
         word,
         group,
@@ -179,13 +179,13 @@ pub extern "C" fn sukhlent_group_forget(
     held_neighbours: &[u64],
     held_codes: &[u8],
 ) -> u8
-    ensures { λ r. ⌜ Call (groupForgetCall word group (usedRecord n (now (neighbours .entry)) (now (codes .entry)) used) name (record {
+    ensures { λ r. ⌜ Call (partyForgetCall word group (usedRecord n (now (neighbours .entry)) (now (codes .entry)) used) name (record {
       heads = now (heads .entry);
       neighbours = now («held_neighbours» .entry);
       codes = now («held_codes» .entry);
     }) (now (heads .exit))) r ⌝ }
 {
-    call_groups::stores::forget(
+    call_parties::stores::forget(
         n,
         word,
         group,

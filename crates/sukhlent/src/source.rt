@@ -1,6 +1,6 @@
 // The calls of a source that goes on, as C sees them: a measurement with a bit by lot, and a new photon at a used place, of a
 // record and of a group.
-ghost use Rattle.calls.specs.Sources.{groupObserveCall, groupRenewCall, observeCall, renewCall};
+ghost use Rattle.calls.specs.Sources.{partyObserveCall, partyRenewCall, observeCall, renewCall};
 ghost use Rattle.buffers.specs.Calls.{Call};
 ghost use Rattle.operations.specs.Used.{usedRecord};
 
@@ -68,13 +68,13 @@ pub extern "C" fn sukhlent_group_observe(
     answer: &mut u8,
     determined: &mut u8,
 ) -> u8
-    ensures { λ r. ⌜ Call (groupObserveCall word group
+    ensures { λ r. ⌜ Call (partyObserveCall word group
         (usedRecord n (now (neighbours .entry)) (now (codes .entry)) (now (used .entry)))
         pauli qubit bit (now (answer .entry)) (now (determined .entry))
         (now (neighbours .exit)) (now (codes .exit)) (now (used .exit)) (now (answer .exit))
         (now (determined .exit))) r ⌝ }
 {
-    call_groups::source_calls::observe(
+    call_parties::source_calls::observe(
         n,
         word,
         group,
@@ -101,9 +101,9 @@ pub extern "C" fn sukhlent_group_renew(
     qubit: u64,
     code: u8,
 ) -> u8
-    ensures { λ r. ⌜ Call (groupRenewCall word group
+    ensures { λ r. ⌜ Call (partyRenewCall word group
         (usedRecord n (now (neighbours .entry)) (now (codes .entry)) (now (used .entry)))
         qubit code (now (neighbours .exit)) (now (codes .exit)) (now (used .exit))) r ⌝ }
 {
-    call_groups::source_calls::renew(n, word, group, neighbours, codes, used, qubit, code)
+    call_parties::source_calls::renew(n, word, group, neighbours, codes, used, qubit, code)
 }

@@ -26,7 +26,7 @@ use Rattle.text.specs.internal.Text.{Printable}
 use Rattle.text.specs.Text.{recordText, refusedText}
 use Rattle.words.proofs.Sums.{lt-or-ge}
 use Rattle.words.specs.Bits.{wordOf}
-use Rattle.calls.specs.ListAnswers.{answerText}
+use Rattle.calls.specs.ListAnswers.{listAnswer}
 use Rattle.text_replies.specs.internal.Places.{Lent}
 
 -- a list of more than 64 is refused with 2, whatever else it holds
@@ -34,8 +34,8 @@ pub too-many : (l : GeneratorList) (others : Bool) → 64 < l .n → firstFittin
 too-many l others h =
     fits 2 _ (ap (λ b. eqb (l .n) 0 || b) (lt-ltb 64 (l .n) h) ∙ or-true (eqb (l .n) 0))
 
-pub too-many-printed : (l : GeneratorList) → 64 < l .n → answerText l ≡ refusedText 2
-unfolding answerText
+pub too-many-printed : (l : GeneratorList) → 64 < l .n → listAnswer l ≡ refusedText 2
+unfolding listAnswer
 too-many-printed l h =
     ap (λ k. cond (eqb k 0) (recordText (l .n) (neighbourWords (l .n) (reduced (l .n) (rows l)))
     (codeNumbers (l .n) (reduced (l .n) (rows l))) 0) (refusedText k)) (too-many l false h)
@@ -70,8 +70,8 @@ module _ (l : GeneratorList) (nb cs out : List ℕ) (L : Lent (l .n) nb cs out) 
         (first-below 100 (reduceLines l nb cs) (lit< tt)
         (lit< tt, (lit< tt, (lit< tt, (lit< tt, (lit< tt, (lit< tt, tt)))))))
 
-    pub refused-printed : (number ≡ 0 → ⊥) → refusedText number ≡ answerText l
-    unfolding answerText
+    pub refused-printed : (number ≡ 0 → ⊥) → refusedText number ≡ listAnswer l
+    unfolding listAnswer
     refused-printed h =
         ap refusedText number-is
         ∙ sym (ap (λ b. cond b (recordText (l .n) answerWords answerCodes 0)
@@ -88,8 +88,8 @@ module _ (l : GeneratorList) (nb cs out : List ℕ) (L : Lent (l .n) nb cs out) 
       codes-are : cs′ ≡ answerCodes
       codes-are = written-all R z .1 .0
 
-      pub record-printed : recordText (l .n) nb′ cs′ 0 ≡ answerText l
-      unfolding answerText
+      pub record-printed : recordText (l .n) nb′ cs′ 0 ≡ listAnswer l
+      unfolding listAnswer
       record-printed =
           ap₂ (λ words codes. recordText (l .n) words codes 0) words-are codes-are
           ∙ sym (ap (λ b. cond b (recordText (l .n) answerWords answerCodes 0)

@@ -14,7 +14,7 @@ use Rattle.text.specs.internal.Scan.{Reading, begin, fed, asReading, verdict}
 use Rattle.text.specs.Text.{HasForm, TextOf, linesText, listNames, listText, refusedText}
 use Rattle.text.specs.declared.scan.Verdict.{Verdict}
 use Rattle.text_replies.proofs.ReadTexts.{formed-answers, malformed-answers, says-form}
-use Rattle.calls.specs.ListAnswers.{Answers, listRead, answerText}
+use Rattle.calls.specs.ListAnswers.{AnswersList, listRead, listAnswer}
 use Rattle.text_replies.specs.internal.Places.{ScanOf}
 
 module _ (t : List ℕ) where
@@ -30,15 +30,15 @@ module _ (t : List ℕ) where
 
   module _ (answer : GeneratorList → List ℕ) where
     pub has-answer : ((l : GeneratorList) → 64 < l .n → answer l ≡ refusedText 2)
-        → (bytes : List ℕ) × Answers answer t bytes
+        → (bytes : List ℕ) × AnswersList answer t bytes
     has-answer too-many = go (judgement .«has_form») refl
       where
-        go : (b : Bool) → judgement .«has_form» ≡ b → (bytes : List ℕ) × Answers answer t bytes
+        go : (b : Bool) → judgement .«has_form» ≡ b → (bytes : List ℕ) × AnswersList answer t bytes
         go true e =
             (_, formed-answers t judgement (whole .signs) (whole .zs) (whole .xs) scan-of answer too-many e)
         go false e = (_, malformed-answers t judgement (whole .signs) (whole .zs) (whole .xs) scan-of answer e)
 
-    pub one-answer : (a b : List ℕ) → Answers answer t a → Answers answer t b → a ≡ b
+    pub one-answer : (a b : List ℕ) → AnswersList answer t a → AnswersList answer t b → a ≡ b
     one-answer a b A B = go (judgement .«has_form») refl
       where
         form-said : (judgement .«has_form» ≡ true) ↔ HasForm t
@@ -51,7 +51,7 @@ module _ (t : List ℕ) where
             A .malformed none ∙ sym (B .malformed none)
 
 -- "Empty input gives 1"
-pub empty-answer : (answer : GeneratorList → List ℕ) → Answers answer [] (refusedText 1)
+pub empty-answer : (answer : GeneratorList → List ℕ) → AnswersList answer [] (refusedText 1)
 unfolding listText
 empty-answer answer =
     record {
@@ -60,7 +60,7 @@ empty-answer answer =
     }
 
 -- "the names alone give 2": the answer to the list of no generator
-pub names-answer : (answer : GeneratorList → List ℕ) → Answers answer listNames (answer (listRead []))
+pub names-answer : (answer : GeneratorList → List ℕ) → AnswersList answer listNames (answer (listRead []))
 unfolding listText linesText
 names-answer answer =
     record {
@@ -71,6 +71,6 @@ names-answer answer =
     alone : TextOf [] listNames
     alone = record { fit = tt; text = refl }
 
-pub no-generator : answerText (listRead []) ≡ refusedText 2
-unfolding answerText firstFitting
+pub no-generator : listAnswer (listRead []) ≡ refusedText 2
+unfolding listAnswer firstFitting
 no-generator = refl

@@ -15,7 +15,7 @@ use Rattle.text.specs.Text.{HasForm, ListLine, refusedText}
 use Rattle.buffers.specs.Writing.{Printed}
 use Rattle.text.specs.declared.scan.Verdict.{Verdict}
 use Rattle.words.proofs.Sums.{lt-or-ge}
-use Rattle.calls.specs.ListAnswers.{Answers, ResponseTo, listRead}
+use Rattle.calls.specs.ListAnswers.{AnswersList, ListResponse, listRead}
 use Rattle.text_replies.specs.internal.Places.{ScanOf, listAt}
 
 module _ (t : List ℕ) (v : Verdict) (signs z x : List ℕ) (S : ScanOf t v signs z x) where
@@ -28,7 +28,7 @@ module _ (t : List ℕ) (v : Verdict) (signs z x : List ℕ) (S : ScanOf t v sig
   says-form = subst (λ w. (w .«has_form» ≡ true) ↔ HasForm t) (sym (S .judged)) (read-judged .form)
 
   -- a text without the form
-  pub malformed-answers : (answer : GeneratorList → List ℕ) → v .«has_form» ≡ false → Answers answer t (refusedText 1)
+  pub malformed-answers : (answer : GeneratorList → List ℕ) → v .«has_form» ≡ false → AnswersList answer t (refusedText 1)
   malformed-answers answer e =
       record {
         malformed = λ h. refl;
@@ -61,7 +61,7 @@ module _ (t : List ℕ) (v : Verdict) (signs z x : List ℕ) (S : ScanOf t v sig
               x = (ap (λ k. take k x) m ∙ xs-few ls w K h) i;
             })
 
-    pub formed-answers : v .«has_form» ≡ true → Answers answer t (answer (listAt (v .count) signs z x))
+    pub formed-answers : v .«has_form» ≡ true → AnswersList answer t (answer (listAt (v .count) signs z x))
     unfolding verdict
     formed-answers e =
         record {
@@ -73,13 +73,13 @@ module _ (t : List ℕ) (v : Verdict) (signs z x : List ℕ) (S : ScanOf t v sig
 -- the answer, printed
 module _ (answer : GeneratorList → List ℕ) (v : Verdict) (signs z x before after : List ℕ) (end : ℕ) where
   pub malformed-responds : v .«has_form» ≡ false → Printed (refusedText 1) 0 before after end →
-      (t : List ℕ) → ScanOf t v signs z x → ResponseTo answer t before after end
+      (t : List ℕ) → ScanOf t v signs z x → ListResponse answer t before after end
   malformed-responds e P t S =
       record { bytes = refusedText 1; answers = malformed-answers t v signs z x S answer e; out = P }
 
   pub formed-responds : ((l : GeneratorList) → 64 < l .n → answer l ≡ refusedText 2) → v .«has_form» ≡ true →
       Printed (answer (listAt (v .count) signs z x)) 0 before after end →
-      (t : List ℕ) → ScanOf t v signs z x → ResponseTo answer t before after end
+      (t : List ℕ) → ScanOf t v signs z x → ListResponse answer t before after end
   formed-responds too-many e P t S =
       record {
         bytes = answer (listAt (v .count) signs z x);

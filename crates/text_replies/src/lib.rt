@@ -10,9 +10,9 @@ ghost use mathlib.Core.Path.{_≡_};
 ghost use Prim.Native.Nat.{ℕ, _≤_, min};
 ghost use lib.ListN.{length};
 ghost use Rattle.buffers.specs.Writing.{Printed};
-ghost use Rattle.calls.specs.ListAnswers.{ResponseTo, answerText};
+ghost use Rattle.calls.specs.ListAnswers.{ListResponse, listAnswer};
 ghost use Rattle.text_replies.specs.internal.Places.{Lent, ScanOf, listAt};
-ghost use Rattle.text_replies.specs.Places.{longest};
+ghost use Rattle.text_replies.specs.Places.{longestRecord};
 
 // Reduces a list and prints its record, or the refusal's number.
 fn print_reduced(
@@ -26,7 +26,7 @@ fn print_reduced(
 ) -> usize
     requires { ⌜ Lent n (now neighbours) (now codes) (now out) ⌝ }
     ensures { λ r. ⌜ Printed
-        (answerText (record { n = n; signs = now (signs .entry); z = now (z .entry); x = now (x .entry) }))
+        (listAnswer (record { n = n; signs = now (signs .entry); z = now (z .entry); x = now (x .entry) }))
         0 (now (out .entry)) (now (out .exit)) r ⌝ }
 {
     let number = reduce(n as u64, signs, z, x, neighbours, codes);
@@ -44,9 +44,9 @@ fn places(n: usize) -> usize
 }
 
 // Prints the answer to the list of n generators at the start of the buffers.
-fn answer(n: usize, signs: [u8; 64], z: [u64; 64], x: [u64; 64], out: &mut [u8]) -> usize
-    requires { ⌜ longest ≤ length (now out) ⌝ }
-    ensures { λ r. ⌜ Printed (answerText (listAt n signs z x)) 0 (now (out .entry)) (now (out .exit)) r ⌝ }
+fn list_answer(n: usize, signs: [u8; 64], z: [u64; 64], x: [u64; 64], out: &mut [u8]) -> usize
+    requires { ⌜ longestRecord ≤ length (now out) ⌝ }
+    ensures { λ r. ⌜ Printed (listAnswer (listAt n signs z x)) 0 (now (out .entry)) (now (out .exit)) r ⌝ }
 {
     let m = places(n);
     let mut neighbours = [0u64; 64];
@@ -63,13 +63,19 @@ fn answer(n: usize, signs: [u8; 64], z: [u64; 64], x: [u64; 64], out: &mut [u8])
 }
 
 // Prints the answer to the text that was scanned, whatever text it was.
-pub fn reply(verdict: Verdict, signs: [u8; 64], z: [u64; 64], x: [u64; 64], out: &mut [u8]) -> usize
-    requires { ⌜ longest ≤ length (now out) ⌝ }
+pub fn list_reply(
+    verdict: Verdict,
+    signs: [u8; 64],
+    z: [u64; 64],
+    x: [u64; 64],
+    out: &mut [u8],
+) -> usize
+    requires { ⌜ longestRecord ≤ length (now out) ⌝ }
     ensures { λ r. ⌜ ((t : List ℕ) → ScanOf t verdict signs z x
-        → ResponseTo answerText t (now (out .entry)) (now (out .exit)) r) ⌝ }
+        → ListResponse listAnswer t (now (out .entry)) (now (out .exit)) r) ⌝ }
 {
     if verdict.has_form {
-        return answer(verdict.count, signs, z, x, out);
+        return list_answer(verdict.count, signs, z, x, out);
     }
     print_refusal(1, out)
 }

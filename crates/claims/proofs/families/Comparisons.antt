@@ -11,7 +11,7 @@ use Rattle.buffers.specs.Refusals.{firstFitting, line, Refusal}
 use Rattle.calls.proofs.PairLines.{pair-numbered}
 use Rattle.calls.specs.Comparisons.{compareCall}
 use Rattle.comparison.specs.Choices.{noChoice}
-use Rattle.comparison.specs.Compared.{hasLargePart, pairCount, pairLines}
+use Rattle.comparison.specs.Compared.{hasLargePart, badCounts, pairLines}
 use Rattle.comparison.specs.ComparedPairs.{compareList}
 use Rattle.buffers.specs.Calls.{Call}
 use Rattle.stabilizer.proofs.Accepted.{accepted-list}
@@ -98,7 +98,7 @@ comparison-buffers-unread =
     -- those of a comparison, by whether an answer buffer has a wrong length
     linesOf : GeneratorList → GeneratorList → Bool → List Refusal
     linesOf l m others =
-        line 2 (pairCount l m) ∷ line 4 (listLengths l || (listLengths m || others))
+        line 2 (badCounts l m) ∷ line 4 (listLengths l || (listLengths m || others))
         ∷ line 5 (listStray l || listStray m) ∷ line 6 (listSigns l || listSigns m)
         ∷ line 9 (clashing (l .n) (rows l) || clashing (m .n) (rows m))
         ∷ line 10 (dependent (l .n) (rows l) || dependent (m .n) (rows m))

@@ -8,7 +8,7 @@ returns : tie.Need-returns
 returns c =
     let R = c .before .before in
     let J = R .before .before .read-job .ensures in
-    let P = R .reply .ensures (J .text) (J .scanned) in
+    let P = R .job-reply .ensures (J .text) (J .scanned) in
     record { text = J .text; response = P; answered = job-texts-answered _ _ _ _ P }
 
 pub respond-spec : {M : Type 1} → statement M

@@ -4,7 +4,7 @@ use mathlib.Core.Path.{_≡_}
 use Prim.Native.Nat.{_%_, _/_, _≤_, ℕ}
 use lib.ListN.{getD, length, replicate}
 use Rattle.jobs.specs.Results.{Result}
-use Rattle.jobs_replies.specs.Room.{longest}
+use Rattle.jobs_replies.specs.Room.{longestJob}
 
 -- the buffers hold the record that a job starts from, and there is room
 pub record Fresh (n : ℕ) (neighbours codes : List ℕ) (count : ℕ) (answers out : List ℕ) : Type 0 where
@@ -14,7 +14,7 @@ pub record Fresh (n : ℕ) (neighbours codes : List ℕ) (count : ℕ) (answers 
   pub eights : codes ≡ replicate n 8
   pub few : count ≤ 4096
   pub kept : count ≤ length answers
-  pub room : longest ≤ length out
+  pub room : longestJob ≤ length out
 
 -- what is printed of the answer at place k
 abbrev pub resultIn : List ℕ → ℕ → Result

@@ -8,7 +8,7 @@ returns : tie.Need-returns
 returns c =
     let R = c .before .before in
     let S = R .before .before .read-list .ensures in
-    let P = R .reply .ensures (S .text) (record { scan = S .scan; lines = S .lines; judged = S .judged }) in
+    let P = R .list-reply .ensures (S .text) (record { scan = S .scan; lines = S .lines; judged = S .judged }) in
     record { text = S .text; response = P; answered = list-texts-answered _ _ _ _ P }
 
 pub respond-spec : {M : Type 1} → statement M

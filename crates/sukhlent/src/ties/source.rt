@@ -3,7 +3,7 @@ use crate::source::sukhlent_group_observe;
 use crate::source::sukhlent_group_renew;
 use crate::source::sukhlent_observe;
 use crate::source::sukhlent_renew;
-ghost use Rattle.claims_groups.specs.Sentences.Groups.{GroupObserveSays, GroupRenewSays};
+ghost use Rattle.claims_parties.specs.Sentences.Parties.{GroupObserveSays, GroupRenewSays};
 ghost use Rattle.claims.specs.Sources.{ObserveSays, RenewSays};
 ghost use Rattle.operations.specs.Used.{usedRecord};
 

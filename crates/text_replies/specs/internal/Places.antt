@@ -7,7 +7,7 @@ use Rattle.stabilizer.specs.Lists.{GeneratorList}
 use Rattle.text.specs.internal.Scan.{begin, fed, asReading, verdict}
 use Rattle.text.specs.declared.scan.Scan.{Scan}
 use Rattle.text.specs.declared.scan.Verdict.{Verdict}
-use Rattle.text_replies.specs.Places.{longest}
+use Rattle.text_replies.specs.Places.{longestRecord}
 
 -- the text t was scanned into buffers of zeros: this is the verdict on it, and this is what the buffers hold
 pub record ScanOf (t : List ℕ) (v : Verdict) (signs z x : List ℕ) : Type 0 where
@@ -24,4 +24,4 @@ listAt n signs z x =
 pub record Lent (n : ℕ) (neighbours codes out : List ℕ) : Type 0 where
   pub words-fit : n ≤ 64 → length neighbours ≡ n
   pub codes-fit : n ≤ 64 → length codes ≡ n
-  pub room : longest ≤ length out
+  pub room : longestRecord ≤ length out

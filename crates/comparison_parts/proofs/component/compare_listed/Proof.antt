@@ -37,8 +37,8 @@ extract-requires-2 c κs =
     )
 
 -- src/lib.rt:49:5
-compare-records-requires : tie.Need-compare-records-requires
-compare-records-requires c κs =
+search-records-requires : tie.Need-search-records-requires
+search-records-requires c κs =
     let E = c .before .before .before .before .before .before .before .before in
     let H = E .before .before .before .before .before .before .before in
     let S = H .before .before .before .before .before .before .before .before .before .before .before in
@@ -70,10 +70,10 @@ returns c =
     let ew = E .extract2 .ensures .0 ∙ ap (λ m. partWords m (a .at) (a .neighbours2 .now)) (S .pre .1 .1) in
     let en = E .extract2 .ensures .1 ∙ ap (λ m. partCodes m (a .at) (a .codes2 .now)) (S .pre .1 .1) in
     part-answered (a .n) (a .neighbours .now) (a .codes .now) (a .neighbours2 .now) (a .codes2 .now) (a .component) k (a .at) G _ _ _ _ (H .extract .ensures .0) (H .extract .ensures .1) ew en
-    _ _ (c .compare-records .ensures)
+    _ _ (c .search-records .ensures)
 
 pub compare-listed-spec : {M : Type 1} → statement M
 compare-listed-spec =
     tie.close
-    (tie.spec extract-requires extract-requires-2 compare-records-requires (λ c. search needs) (λ c. search needs)
+    (tie.spec extract-requires extract-requires-2 search-records-requires (λ c. search needs) (λ c. search needs)
     (λ c. search needs) (λ c. search needs) returns)

@@ -1,6 +1,6 @@
 -- `group_complement_says` meets its contract.
 use borrow.Author.Needs.{needs}
-use Rattle.claims_groups.proofs.SentencesHold.Groups.{group-complement-says}
+use Rattle.claims_parties.proofs.SentencesHold.Parties.{group-complement-says}
 use Rattle.sukhlent.proofs.ties.groups.group_complement_says.Statement.{statement}
 use Rattle.sukhlent.proofs.ties.groups.group_complement_says.Tie as tie
 

@@ -1,6 +1,6 @@
 -- `group_cz_says` meets its contract.
 use borrow.Author.Needs.{needs}
-use Rattle.claims_groups.proofs.SentencesHold.Groups.{group-cz-says}
+use Rattle.claims_parties.proofs.SentencesHold.Parties.{group-cz-says}
 use Rattle.sukhlent.proofs.ties.groups.group_cz_says.Statement.{statement}
 use Rattle.sukhlent.proofs.ties.groups.group_cz_says.Tie as tie
 

@@ -1,6 +1,6 @@
 -- `group_forget_says` meets its contract.
 use borrow.Author.Needs.{needs}
-use Rattle.claims_groups.proofs.SentencesHold.Groups.{group-forget-says}
+use Rattle.claims_parties.proofs.SentencesHold.Parties.{group-forget-says}
 use Rattle.sukhlent.proofs.ties.groups.group_forget_says.Statement.{statement}
 use Rattle.sukhlent.proofs.ties.groups.group_forget_says.Tie as tie
 

@@ -1,6 +1,6 @@
 -- `group_gate_says` meets its contract.
 use borrow.Author.Needs.{needs}
-use Rattle.claims_groups.proofs.SentencesHold.Groups.{group-gate-says}
+use Rattle.claims_parties.proofs.SentencesHold.Parties.{group-gate-says}
 use Rattle.sukhlent.proofs.ties.groups.group_gate_says.Statement.{statement}
 use Rattle.sukhlent.proofs.ties.groups.group_gate_says.Tie as tie
 

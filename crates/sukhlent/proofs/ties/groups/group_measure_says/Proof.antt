@@ -1,6 +1,6 @@
 -- `group_measure_says` meets its contract.
 use borrow.Author.Needs.{needs}
-use Rattle.claims_groups.proofs.SentencesHold.Groups.{group-measure-says}
+use Rattle.claims_parties.proofs.SentencesHold.Parties.{group-measure-says}
 use Rattle.sukhlent.proofs.ties.groups.group_measure_says.Statement.{statement}
 use Rattle.sukhlent.proofs.ties.groups.group_measure_says.Tie as tie
 

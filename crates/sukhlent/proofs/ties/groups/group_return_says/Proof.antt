@@ -1,6 +1,6 @@
 -- `group_return_says` meets its contract.
 use borrow.Author.Needs.{needs}
-use Rattle.claims_groups.proofs.SentencesHold.Groups.{group-return-says}
+use Rattle.claims_parties.proofs.SentencesHold.Parties.{group-return-says}
 use Rattle.sukhlent.proofs.ties.groups.group_return_says.Statement.{statement}
 use Rattle.sukhlent.proofs.ties.groups.group_return_says.Tie as tie
 

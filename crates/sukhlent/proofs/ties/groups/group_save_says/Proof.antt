@@ -1,6 +1,6 @@
 -- `group_save_says` meets its contract.
 use borrow.Author.Needs.{needs}
-use Rattle.claims_groups.proofs.SentencesHold.Groups.{group-save-says}
+use Rattle.claims_parties.proofs.SentencesHold.Parties.{group-save-says}
 use Rattle.sukhlent.proofs.ties.groups.group_save_says.Statement.{statement}
 use Rattle.sukhlent.proofs.ties.groups.group_save_says.Tie as tie
 

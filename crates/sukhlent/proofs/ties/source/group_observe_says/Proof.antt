@@ -1,6 +1,6 @@
 -- `group_observe_says` meets its contract.
 use borrow.Author.Needs.{needs}
-use Rattle.claims_groups.proofs.SourceSentences.{group-observe-says}
+use Rattle.claims_parties.proofs.SourceSentences.{group-observe-says}
 use Rattle.sukhlent.proofs.ties.source.group_observe_says.Statement.{statement}
 use Rattle.sukhlent.proofs.ties.source.group_observe_says.Tie as tie
 

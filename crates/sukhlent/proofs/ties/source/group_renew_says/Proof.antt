@@ -1,6 +1,6 @@
 -- `group_renew_says` meets its contract.
 use borrow.Author.Needs.{needs}
-use Rattle.claims_groups.proofs.SourceSentences.{group-renew-says}
+use Rattle.claims_parties.proofs.SourceSentences.{group-renew-says}
 use Rattle.sukhlent.proofs.ties.source.group_renew_says.Statement.{statement}
 use Rattle.sukhlent.proofs.ties.source.group_renew_says.Tie as tie
 

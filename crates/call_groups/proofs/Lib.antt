@@ -1,4 +1,0 @@
-pub mod Answering
-pub mod GroupCalls
-pub mod GroupSourceCalls
-pub mod Sharing

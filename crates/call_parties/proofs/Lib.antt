@@ -1,0 +1,4 @@
+pub mod Answering
+pub mod PartyCalls
+pub mod PartySourceCalls
+pub mod Sharing

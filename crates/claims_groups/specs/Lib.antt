@@ -1,5 +1,0 @@
-pub mod GroupRuns
-pub mod GroupContracts
-pub mod GroupsDemand
-pub mod GroupKeeps
-pub mod Sentences

@@ -1,1 +1,0 @@
-// Two groups on one record, as theorems over runs of their calls: see specs/ for the statements and proofs/ for the proofs.

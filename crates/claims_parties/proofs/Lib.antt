@@ -1,0 +1,11 @@
+pub mod Views
+pub mod OwnCalls
+pub mod OtherCalls
+pub mod RefusedCalls
+pub mod ContractSteps
+pub mod CallsStand
+pub mod PartyKeepsHold
+pub mod PartiesReduce
+pub mod PartiesDemandHolds
+pub mod SentencesHold
+pub mod SourceSentences

@@ -1,0 +1,5 @@
+pub mod PartyRuns
+pub mod PartyContracts
+pub mod PartiesDemand
+pub mod PartyKeeps
+pub mod Sentences
