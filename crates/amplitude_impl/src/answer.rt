@@ -54,7 +54,8 @@ fn line_by_copies(
 ) -> PlotLine
     requires { ⌜ Unrefused (recordIn (now neighbours) (now codes)) ⌝ }
     requires { ⌜ (length (now words) ≡ length (now neighbours)) × (length (now bytes) ≡ length (now neighbours)) ⌝ }
-    requires { ⌜ (length (now measured) ≡ length (now neighbours)) × (length (now numbers) ≡ length (now neighbours)) ⌝ }
+    requires { ⌜ (length (now measured) ≡ length (now neighbours)) × (length (now numbers) ≡ length
+        (now neighbours)) ⌝ }
     ensures { λ r. ⌜ r ≡ plotAt (length (now (neighbours .entry)))
         (heldRows (recordIn (now (neighbours .entry)) (now (codes .entry)))) y ⌝ }
 {

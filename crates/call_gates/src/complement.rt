@@ -20,7 +20,8 @@ pub fn complement_known(
     known: bool,
 ) -> u8
     requires { ⌜ Known known (usedRecord n (now neighbours) (now codes) used) ⌝ }
-    ensures { λ r. ⌜ Call (usedCall (usedRecord n (now (neighbours .entry)) (now (codes .entry)) used) (complementOf a) (now (neighbours .exit)) (now (codes .exit))) r ⌝ }
+    ensures { λ r. ⌜ Call (usedCall (usedRecord n (now (neighbours .entry)) (now (codes .entry)) used)
+        (complementOf a) (now (neighbours .exit)) (now (codes .exit))) r ⌝ }
 {
     let sixteen = bit_at(used, a);
     let early = in_place_refusal(n, neighbours, codes, used, false, n <= a, sixteen, known);
@@ -43,7 +44,8 @@ pub fn pivot_known(
     known: bool,
 ) -> u8
     requires { ⌜ Known known (usedRecord n (now neighbours) (now codes) used) ⌝ }
-    ensures { λ r. ⌜ Call (usedCall (usedRecord n (now (neighbours .entry)) (now (codes .entry)) used) (pivotOf j k) (now (neighbours .exit)) (now (codes .exit))) r ⌝ }
+    ensures { λ r. ⌜ Call (usedCall (usedRecord n (now (neighbours .entry)) (now (codes .entry)) used) (pivotOf j k)
+        (now (neighbours .exit)) (now (codes .exit))) r ⌝ }
 {
     let eight = (n <= j) | ((n <= k) | (j == k));
     let early = in_place_refusal(n, neighbours, codes, used, false, eight, false, known);
@@ -59,7 +61,8 @@ pub fn pivot_known(
 
 // The same where nothing is known of the record.
 pub fn complement(n: u64, neighbours: &mut [u64], codes: &mut [u8], used: u64, a: u64) -> u8
-    ensures { λ r. ⌜ Call (usedCall (usedRecord n (now (neighbours .entry)) (now (codes .entry)) used) (complementOf a) (now (neighbours .exit)) (now (codes .exit))) r ⌝ }
+    ensures { λ r. ⌜ Call (usedCall (usedRecord n (now (neighbours .entry)) (now (codes .entry)) used)
+        (complementOf a) (now (neighbours .exit)) (now (codes .exit))) r ⌝ }
 {
     complement_known(n, neighbours, codes, used, a, false)
 }

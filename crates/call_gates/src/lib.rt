@@ -44,7 +44,8 @@ fn known_number(
 ) -> u8
     requires { ⌜ Known known (usedRecord n (now neighbours) (now codes) used) ⌝ }
     requires { ⌜ Looked looked (now codes) over ⌝ }
-    ensures { λ r. ⌜ r ≡ firstFitting (usedLines (usedRecord n (now (neighbours .entry)) (now (codes .entry)) used) false false six) ⌝ }
+    ensures { λ r. ⌜ r ≡ firstFitting (usedLines (usedRecord n (now (neighbours .entry)) (now (codes .entry)) used)
+        false false six) ⌝ }
 {
     if known {
         return six_number(six);
@@ -62,7 +63,8 @@ pub fn known_refusal(
     known: bool,
 ) -> u8
     requires { ⌜ Known known (usedRecord n (now neighbours) (now codes) used) ⌝ }
-    ensures { λ r. ⌜ r ≡ firstFitting (usedLines (usedRecord n (now (neighbours .entry)) (now (codes .entry)) used) false false six) ⌝ }
+    ensures { λ r. ⌜ r ≡ firstFitting (usedLines (usedRecord n (now (neighbours .entry)) (now (codes .entry)) used)
+        false false six) ⌝ }
 {
     known_number(n, neighbours, codes, used, false, false, six, known)
 }
@@ -84,7 +86,8 @@ fn in_place_number(
 ) -> u8
     requires { ⌜ Known known (usedRecord n (now neighbours) (now codes) used) ⌝ }
     requires { ⌜ Looked looked (now codes) over ⌝ }
-    ensures { λ r. ⌜ r ≡ firstFitting (usedInPlace (usedRecord n (now (neighbours .entry)) (now (codes .entry)) used) six eight sixteen) ⌝ }
+    ensures { λ r. ⌜ r ≡ firstFitting (usedInPlace (usedRecord n (now (neighbours .entry)) (now (codes .entry)) used)
+        six eight sixteen) ⌝ }
 {
     let early = known_number(n, neighbours, codes, used, looked, over, six, known);
     if early != 0 {
@@ -108,7 +111,8 @@ pub fn in_place_refusal(
     known: bool,
 ) -> u8
     requires { ⌜ Known known (usedRecord n (now neighbours) (now codes) used) ⌝ }
-    ensures { λ r. ⌜ r ≡ firstFitting (usedInPlace (usedRecord n (now (neighbours .entry)) (now (codes .entry)) used) six eight sixteen) ⌝ }
+    ensures { λ r. ⌜ r ≡ firstFitting (usedInPlace (usedRecord n (now (neighbours .entry)) (now (codes .entry)) used)
+        six eight sixteen) ⌝ }
 {
     in_place_number(
         n,
@@ -160,7 +164,8 @@ pub fn gate_known(
     known: bool,
 ) -> u8
     requires { ⌜ Known known (usedRecord n (now neighbours) (now codes) used) ⌝ }
-    ensures { λ r. ⌜ Call (usedCall (usedRecord n (now (neighbours .entry)) (now (codes .entry)) used) (gateWith qubit code) (now (neighbours .exit)) (now (codes .exit))) r ⌝ }
+    ensures { λ r. ⌜ Call (usedCall (usedRecord n (now (neighbours .entry)) (now (codes .entry)) used) (gateWith qubit
+        code) (now (neighbours .exit)) (now (codes .exit))) r ⌝ }
 {
     let sixteen = bit_at(used, qubit);
     let seen = first_look(codes, known);
@@ -195,7 +200,8 @@ pub fn cz_known(
     known: bool,
 ) -> u8
     requires { ⌜ Known known (usedRecord n (now neighbours) (now codes) used) ⌝ }
-    ensures { λ r. ⌜ Call (usedCall (usedRecord n (now (neighbours .entry)) (now (codes .entry)) used) (czOn a b) (now (neighbours .exit)) (now (codes .exit))) r ⌝ }
+    ensures { λ r. ⌜ Call (usedCall (usedRecord n (now (neighbours .entry)) (now (codes .entry)) used) (czOn a b)
+        (now (neighbours .exit)) (now (codes .exit))) r ⌝ }
 {
     let eight = (n <= a) | ((n <= b) | (a == b));
     let sixteen = bit_at(used, a) | bit_at(used, b);
@@ -222,13 +228,15 @@ pub fn cz_known(
 
 // The same where nothing is known of the record.
 pub fn gate(n: u64, neighbours: &mut [u64], codes: &mut [u8], used: u64, qubit: u64, code: u8) -> u8
-    ensures { λ r. ⌜ Call (usedCall (usedRecord n (now (neighbours .entry)) (now (codes .entry)) used) (gateWith qubit code) (now (neighbours .exit)) (now (codes .exit))) r ⌝ }
+    ensures { λ r. ⌜ Call (usedCall (usedRecord n (now (neighbours .entry)) (now (codes .entry)) used) (gateWith qubit
+        code) (now (neighbours .exit)) (now (codes .exit))) r ⌝ }
 {
     gate_known(n, neighbours, codes, used, qubit, code, false)
 }
 
 pub fn cz(n: u64, neighbours: &mut [u64], codes: &mut [u8], used: u64, a: u64, b: u64) -> u8
-    ensures { λ r. ⌜ Call (usedCall (usedRecord n (now (neighbours .entry)) (now (codes .entry)) used) (czOn a b) (now (neighbours .exit)) (now (codes .exit))) r ⌝ }
+    ensures { λ r. ⌜ Call (usedCall (usedRecord n (now (neighbours .entry)) (now (codes .entry)) used) (czOn a b)
+        (now (neighbours .exit)) (now (codes .exit))) r ⌝ }
 {
     cz_known(n, neighbours, codes, used, a, b, false)
 }

@@ -26,7 +26,8 @@ pub fn argument_refusal(
     known: bool,
 ) -> u8
     requires { ⌜ Known known (usedRecord n (now neighbours) (now codes) used) ⌝ }
-    ensures { λ r. ⌜ r ≡ firstFitting (usedArgumentsOf (usedRecord n (now (neighbours .entry)) (now (codes .entry)) used) (measurementOf pauli qubit outcome)) ⌝ }
+    ensures { λ r. ⌜ r ≡ firstFitting (usedArgumentsOf (usedRecord n (now (neighbours .entry)) (now (codes .entry))
+        used) (measurementOf pauli qubit outcome)) ⌝ }
 {
     let six = (2 <= outcome) | ((pauli == 0) | (4 <= pauli));
     let sixteen = bit_at(used, qubit);
@@ -46,7 +47,8 @@ fn measure_refusal(
     known: bool,
 ) -> u8
     requires { ⌜ Known known (usedRecord n (now neighbours) (now codes) used) ⌝ }
-    ensures { λ r. ⌜ r ≡ firstFitting (usedLinesOf (usedRecord n (now (neighbours .entry)) (now (codes .entry)) used) (measurementOf pauli qubit outcome)) ⌝ }
+    ensures { λ r. ⌜ r ≡ firstFitting (usedLinesOf (usedRecord n (now (neighbours .entry)) (now (codes .entry)) used)
+        (measurementOf pauli qubit outcome)) ⌝ }
 {
     let early = argument_refusal(n, neighbours, codes, used, pauli, qubit, outcome, known);
     if early != 0 {
@@ -73,7 +75,8 @@ pub fn measure_known(
     known: bool,
 ) -> u8
     requires { ⌜ Known known (usedRecord n (now neighbours) (now codes) (now used)) ⌝ }
-    ensures { λ r. ⌜ Call (usedMeasureCall (usedRecord n (now (neighbours .entry)) (now (codes .entry)) (now (used .entry))) pauli qubit outcome (now (answer .entry)) (now (determined .entry))
+    ensures { λ r. ⌜ Call (usedMeasureCall (usedRecord n (now (neighbours .entry)) (now (codes .entry))
+        (now (used .entry))) pauli qubit outcome (now (answer .entry)) (now (determined .entry))
         (now (neighbours .exit)) (now (codes .exit)) (now (used .exit)) (now (answer .exit))
         (now (determined .exit))) r ⌝ }
 {
@@ -101,7 +104,8 @@ pub fn measure(
     answer: &mut u8,
     determined: &mut u8,
 ) -> u8
-    ensures { λ r. ⌜ Call (usedMeasureCall (usedRecord n (now (neighbours .entry)) (now (codes .entry)) (now (used .entry))) pauli qubit outcome (now (answer .entry)) (now (determined .entry))
+    ensures { λ r. ⌜ Call (usedMeasureCall (usedRecord n (now (neighbours .entry)) (now (codes .entry))
+        (now (used .entry))) pauli qubit outcome (now (answer .entry)) (now (determined .entry))
         (now (neighbours .exit)) (now (codes .exit)) (now (used .exit)) (now (answer .exit))
         (now (determined .exit))) r ⌝ }
 {

@@ -163,7 +163,14 @@ module _ (word g : ℕ) (u : UsedRecord) (name : ℕ) (st : Store) (k : ℕ)
 
             -- the two records, with their counts
             together : ℕ → ℕ → UsedRecord
-            together m c = merged (bit own) (usedRecord c (partAt (4 * g + place) c (st .neighbours)) (partAt (4 * g + place) c (st .codes)) (getD (st .heads) (3 * (4 * g + place) + 2) 0)) (usedRecord m (u .held .neighbours) (u .held .codes) (u .used))
+            together m c = merged (bit own) (record {
+              held = record {
+                n = c;
+                neighbours = partAt (4 * g + place) c (st .neighbours);
+                codes = partAt (4 * g + place) c (st .codes);
+              };
+              used = getD (st .heads) (3 * (4 * g + place) + 2) 0;
+            }) (usedRecord m (u .held .neighbours) (u .held .codes) (u .used))
 
             left : together 64 64 ≡ partyReturned word g u name st
             left =

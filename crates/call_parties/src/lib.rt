@@ -35,7 +35,8 @@ fn gate_within(
 ) -> u8
     requires { ⌜ Admitted word party (usedRecord n (now neighbours) (now codes) used) (gateWith qubit code) ⌝ }
     requires { ⌜ (length (now words) ≡ 64) × (length (now bytes) ≡ 64) ⌝ }
-    ensures { λ r. ⌜ Call (partyCall word party (usedRecord n (now (neighbours .entry)) (now (codes .entry)) used) (gateWith qubit code) (now (neighbours .exit)) (now (codes .exit))) r ⌝ }
+    ensures { λ r. ⌜ Call (partyCall word party (usedRecord n (now (neighbours .entry)) (now (codes .entry)) used)
+        (gateWith qubit code) (now (neighbours .exit)) (now (codes .exit))) r ⌝ }
 {
     let own_used = take_party(word, party, neighbours, codes, used, words, bytes);
     let number = gate_known(n, words, bytes, own_used, qubit, code, true);
@@ -57,7 +58,8 @@ pub fn gate(
     qubit: u64,
     code: u8,
 ) -> u8
-    ensures { λ r. ⌜ Call (partyCall word party (usedRecord n (now (neighbours .entry)) (now (codes .entry)) used) (gateWith qubit code) (now (neighbours .exit)) (now (codes .exit))) r ⌝ }
+    ensures { λ r. ⌜ Call (partyCall word party (usedRecord n (now (neighbours .entry)) (now (codes .entry)) used)
+        (gateWith qubit code) (now (neighbours .exit)) (now (codes .exit))) r ⌝ }
 {
     let other = outside(n, word, party, qubit);
     let early = party_refusal(n, word, party, neighbours, codes, used, 24 <= code, other);
@@ -95,7 +97,8 @@ fn cz_within(
 ) -> u8
     requires { ⌜ Admitted word party (usedRecord n (now neighbours) (now codes) used) (czOn a b) ⌝ }
     requires { ⌜ (length (now words) ≡ 64) × (length (now bytes) ≡ 64) ⌝ }
-    ensures { λ r. ⌜ Call (partyCall word party (usedRecord n (now (neighbours .entry)) (now (codes .entry)) used) (czOn a b) (now (neighbours .exit)) (now (codes .exit))) r ⌝ }
+    ensures { λ r. ⌜ Call (partyCall word party (usedRecord n (now (neighbours .entry)) (now (codes .entry)) used)
+        (czOn a b) (now (neighbours .exit)) (now (codes .exit))) r ⌝ }
 {
     let own_used = take_party(word, party, neighbours, codes, used, words, bytes);
     let number = cz_known(n, words, bytes, own_used, a, b, true);
@@ -117,7 +120,8 @@ pub fn cz(
     a: u64,
     b: u64,
 ) -> u8
-    ensures { λ r. ⌜ Call (partyCall word party (usedRecord n (now (neighbours .entry)) (now (codes .entry)) used) (czOn a b) (now (neighbours .exit)) (now (codes .exit))) r ⌝ }
+    ensures { λ r. ⌜ Call (partyCall word party (usedRecord n (now (neighbours .entry)) (now (codes .entry)) used)
+        (czOn a b) (now (neighbours .exit)) (now (codes .exit))) r ⌝ }
 {
     let other = outside(n, word, party, a) | outside(n, word, party, b);
     let early = party_refusal(n, word, party, neighbours, codes, used, false, other);
@@ -154,7 +158,8 @@ fn complement_within(
 ) -> u8
     requires { ⌜ Admitted word party (usedRecord n (now neighbours) (now codes) used) (complementOf a) ⌝ }
     requires { ⌜ (length (now words) ≡ 64) × (length (now bytes) ≡ 64) ⌝ }
-    ensures { λ r. ⌜ Call (partyCall word party (usedRecord n (now (neighbours .entry)) (now (codes .entry)) used) (complementOf a) (now (neighbours .exit)) (now (codes .exit))) r ⌝ }
+    ensures { λ r. ⌜ Call (partyCall word party (usedRecord n (now (neighbours .entry)) (now (codes .entry)) used)
+        (complementOf a) (now (neighbours .exit)) (now (codes .exit))) r ⌝ }
 {
     let own_used = take_party(word, party, neighbours, codes, used, words, bytes);
     let number = complement_known(n, words, bytes, own_used, a, true);
@@ -175,7 +180,8 @@ pub fn complement(
     used: u64,
     a: u64,
 ) -> u8
-    ensures { λ r. ⌜ Call (partyCall word party (usedRecord n (now (neighbours .entry)) (now (codes .entry)) used) (complementOf a) (now (neighbours .exit)) (now (codes .exit))) r ⌝ }
+    ensures { λ r. ⌜ Call (partyCall word party (usedRecord n (now (neighbours .entry)) (now (codes .entry)) used)
+        (complementOf a) (now (neighbours .exit)) (now (codes .exit))) r ⌝ }
 {
     let other = outside(n, word, party, a);
     let early = party_refusal(n, word, party, neighbours, codes, used, false, other);
@@ -213,9 +219,11 @@ fn measure_within(
     words: &mut [u64],
     bytes: &mut [u8],
 ) -> u8
-    requires { ⌜ Admitted word party (usedRecord n (now neighbours) (now codes) (now used)) (measurementOf pauli qubit outcome) ⌝ }
+    requires { ⌜ Admitted word party (usedRecord n (now neighbours) (now codes) (now used)) (measurementOf pauli qubit
+        outcome) ⌝ }
     requires { ⌜ (length (now words) ≡ 64) × (length (now bytes) ≡ 64) ⌝ }
-    ensures { λ r. ⌜ Call (partyMeasureCall word party (usedRecord n (now (neighbours .entry)) (now (codes .entry)) (now (used .entry))) pauli qubit outcome (now (answer .entry)) (now (determined .entry))
+    ensures { λ r. ⌜ Call (partyMeasureCall word party (usedRecord n (now (neighbours .entry)) (now (codes .entry))
+        (now (used .entry))) pauli qubit outcome (now (answer .entry)) (now (determined .entry))
         (now (neighbours .exit)) (now (codes .exit)) (now (used .exit)) (now (answer .exit))
         (now (determined .exit))) r ⌝ }
 {
@@ -256,7 +264,8 @@ pub fn measure(
     answer: &mut u8,
     determined: &mut u8,
 ) -> u8
-    ensures { λ r. ⌜ Call (partyMeasureCall word party (usedRecord n (now (neighbours .entry)) (now (codes .entry)) (now (used .entry))) pauli qubit outcome (now (answer .entry)) (now (determined .entry))
+    ensures { λ r. ⌜ Call (partyMeasureCall word party (usedRecord n (now (neighbours .entry)) (now (codes .entry))
+        (now (used .entry))) pauli qubit outcome (now (answer .entry)) (now (determined .entry))
         (now (neighbours .exit)) (now (codes .exit)) (now (used .exit)) (now (answer .exit))
         (now (determined .exit))) r ⌝ }
 {

@@ -32,9 +32,11 @@ fn observe_within(
     words: &mut [u64],
     bytes: &mut [u8],
 ) -> u8
-    requires { ⌜ Admitted word party (usedRecord n (now neighbours) (now codes) (now used)) (measurementOf pauli qubit bit) ⌝ }
+    requires { ⌜ Admitted word party (usedRecord n (now neighbours) (now codes) (now used)) (measurementOf pauli qubit
+        bit) ⌝ }
     requires { ⌜ (length (now words) ≡ 64) × (length (now bytes) ≡ 64) ⌝ }
-    ensures { λ r. ⌜ Call (partyObserveCall word party (usedRecord n (now (neighbours .entry)) (now (codes .entry)) (now (used .entry))) pauli qubit bit (now (answer .entry)) (now (determined .entry))
+    ensures { λ r. ⌜ Call (partyObserveCall word party (usedRecord n (now (neighbours .entry)) (now (codes .entry))
+        (now (used .entry))) pauli qubit bit (now (answer .entry)) (now (determined .entry))
         (now (neighbours .exit)) (now (codes .exit)) (now (used .exit)) (now (answer .exit))
         (now (determined .exit))) r ⌝ }
 {
@@ -75,7 +77,8 @@ pub fn observe(
     answer: &mut u8,
     determined: &mut u8,
 ) -> u8
-    ensures { λ r. ⌜ Call (partyObserveCall word party (usedRecord n (now (neighbours .entry)) (now (codes .entry)) (now (used .entry))) pauli qubit bit (now (answer .entry)) (now (determined .entry))
+    ensures { λ r. ⌜ Call (partyObserveCall word party (usedRecord n (now (neighbours .entry)) (now (codes .entry))
+        (now (used .entry))) pauli qubit bit (now (answer .entry)) (now (determined .entry))
         (now (neighbours .exit)) (now (codes .exit)) (now (used .exit)) (now (answer .exit))
         (now (determined .exit))) r ⌝ }
 {
@@ -116,7 +119,8 @@ pub fn renew(
     qubit: u64,
     code: u8,
 ) -> u8
-    ensures { λ r. ⌜ Call (partyRenewCall word party (usedRecord n (now (neighbours .entry)) (now (codes .entry)) (now (used .entry))) qubit code (now (neighbours .exit)) (now (codes .exit)) (now (used .exit))) r ⌝ }
+    ensures { λ r. ⌜ Call (partyRenewCall word party (usedRecord n (now (neighbours .entry)) (now (codes .entry))
+        (now (used .entry))) qubit code (now (neighbours .exit)) (now (codes .exit)) (now (used .exit))) r ⌝ }
 {
     let other = outside(n, word, party, qubit);
     let six = no_photon(code);

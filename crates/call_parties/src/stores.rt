@@ -40,11 +40,12 @@ fn both_refusal(
     held_neighbours: &[u64],
     held_codes: &[u8],
 ) -> u8
-    ensures { λ r. ⌜ r ≡ firstFitting (recordTests (λ m. ofRecord (usedRecord n (now (neighbours .entry)) (now (codes .entry)) used) m || holdsLine m (ownLines (inParty word party) party (record {
-      heads = now (heads .entry);
-      neighbours = now («held_neighbours» .entry);
-      codes = now («held_codes» .entry);
-    })))) ⌝ }
+    ensures { λ r. ⌜ r ≡ firstFitting (recordTests (λ m. ofRecord (usedRecord n (now (neighbours .entry))
+        (now (codes .entry)) used) m || holdsLine m (ownLines (inParty word party) party (record {
+          heads = now (heads .entry);
+          neighbours = now («held_neighbours» .entry);
+          codes = now («held_codes» .entry);
+        })))) ⌝ }
 {
     let own = used_refusal(n, neighbours, codes, used, 0, false, false);
     let held = own_refusal(word, party, heads, held_neighbours, held_codes);
@@ -63,11 +64,12 @@ fn shared_refusal(
     held_neighbours: &[u64],
     held_codes: &[u8],
 ) -> u8
-    ensures { λ r. ⌜ r ≡ firstFitting (sharedLines word party (usedRecord n (now (neighbours .entry)) (now (codes .entry)) used) (record {
-      heads = now (heads .entry);
-      neighbours = now («held_neighbours» .entry);
-      codes = now («held_codes» .entry);
-    })) ⌝ }
+    ensures { λ r. ⌜ r ≡ firstFitting (sharedLines word party (usedRecord n (now (neighbours .entry))
+        (now (codes .entry)) used) (record {
+          heads = now (heads .entry);
+          neighbours = now («held_neighbours» .entry);
+          codes = now («held_codes» .entry);
+        })) ⌝ }
 {
     if n != 64 {
         return 2;
@@ -103,11 +105,12 @@ pub fn save(
     held_neighbours: &mut [u64],
     held_codes: &mut [u8],
 ) -> u8
-    ensures { λ r. ⌜ Call (partySaveCall word party (usedRecord n (now (neighbours .entry)) (now (codes .entry)) used) name (record {
-      heads = now (heads .entry);
-      neighbours = now («held_neighbours» .entry);
-      codes = now («held_codes» .entry);
-    }) (now (heads .exit)) (now («held_neighbours» .exit)) (now («held_codes» .exit))) r ⌝ }
+    ensures { λ r. ⌜ Call (partySaveCall word party (usedRecord n (now (neighbours .entry)) (now (codes .entry)) used)
+        name (record {
+          heads = now (heads .entry);
+          neighbours = now («held_neighbours» .entry);
+          codes = now («held_codes» .entry);
+        }) (now (heads .exit)) (now («held_neighbours» .exit)) (now («held_codes» .exit))) r ⌝ }
 {
     let early = shared_refusal(
         n,
@@ -154,11 +157,12 @@ pub fn return_to(
     held_neighbours: &[u64],
     held_codes: &[u8],
 ) -> u8
-    ensures { λ r. ⌜ Call (partyReturnCall word party (usedRecord n (now (neighbours .entry)) (now (codes .entry)) (now (used .entry))) name (record {
-      heads = now (heads .entry);
-      neighbours = now («held_neighbours» .entry);
-      codes = now («held_codes» .entry);
-    }) (now (neighbours .exit)) (now (codes .exit)) (now (used .exit))) r ⌝ }
+    ensures { λ r. ⌜ Call (partyReturnCall word party (usedRecord n (now (neighbours .entry)) (now (codes .entry))
+        (now (used .entry))) name (record {
+          heads = now (heads .entry);
+          neighbours = now («held_neighbours» .entry);
+          codes = now («held_codes» .entry);
+        }) (now (neighbours .exit)) (now (codes .exit)) (now (used .exit))) r ⌝ }
 {
     let early = shared_refusal(
         n,
@@ -198,11 +202,12 @@ pub fn forget(
     held_neighbours: &[u64],
     held_codes: &[u8],
 ) -> u8
-    ensures { λ r. ⌜ Call (partyForgetCall word party (usedRecord n (now (neighbours .entry)) (now (codes .entry)) used) name (record {
-      heads = now (heads .entry);
-      neighbours = now («held_neighbours» .entry);
-      codes = now («held_codes» .entry);
-    }) (now (heads .exit))) r ⌝ }
+    ensures { λ r. ⌜ Call (partyForgetCall word party (usedRecord n (now (neighbours .entry)) (now (codes .entry))
+        used) name (record {
+          heads = now (heads .entry);
+          neighbours = now («held_neighbours» .entry);
+          codes = now («held_codes» .entry);
+        }) (now (heads .exit))) r ⌝ }
 {
     let early = shared_refusal(
         n,

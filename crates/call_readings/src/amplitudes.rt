@@ -29,7 +29,8 @@ pub fn amplitude(
     im: &mut u64,
     p: &mut u64,
 ) -> u8
-    ensures { λ r. ⌜ Call (amplitudeCall (usedRecord n (now (neighbours .entry)) (now (codes .entry)) used) y (now (re .entry)) (now (im .entry)) (now (p .entry)) (now (re .exit)) (now (im .exit)) (now (p .exit))) r ⌝ }
+    ensures { λ r. ⌜ Call (amplitudeCall (usedRecord n (now (neighbours .entry)) (now (codes .entry)) used) y
+        (now (re .entry)) (now (im .entry)) (now (p .entry)) (now (re .exit)) (now (im .exit)) (now (p .exit))) r ⌝ }
 {
     let number = used_refusal(n, neighbours, codes, used, y, false, false);
     if number != 0 {

@@ -7,7 +7,8 @@ ghost use Rattle.operations.specs.Used.{usedRecord};
 
 // The rank of the edges between the marked side and the other.
 pub fn cut(n: u64, neighbours: &[u64], codes: &[u8], used: u64, side: u64, rank: &mut u64) -> u8
-    ensures { λ r. ⌜ Call (cutCall (usedRecord n (now (neighbours .entry)) (now (codes .entry)) used) side (now (rank .entry)) (now (rank .exit))) r ⌝ }
+    ensures { λ r. ⌜ Call (cutCall (usedRecord n (now (neighbours .entry)) (now (codes .entry)) used) side
+        (now (rank .entry)) (now (rank .exit))) r ⌝ }
 {
     let number = used_refusal(n, neighbours, codes, used, side, false, false);
     if number != 0 {

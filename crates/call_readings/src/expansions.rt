@@ -16,7 +16,8 @@ pub fn expand(
     z: &mut [u64],
     x: &mut [u64],
 ) -> u8
-    ensures { λ r. ⌜ Call (expandCall (usedRecord n (now (neighbours .entry)) (now (codes .entry)) used) (now (signs .entry)) (now (z .entry)) (now (x .entry))
+    ensures { λ r. ⌜ Call (expandCall (usedRecord n (now (neighbours .entry)) (now (codes .entry)) used)
+        (now (signs .entry)) (now (z .entry)) (now (x .entry))
         (now (signs .exit)) (now (z .exit)) (now (x .exit))) r ⌝ }
 {
     let others = other_than(signs.len(), n) | (other_than(z.len(), n) | other_than(x.len(), n));

@@ -15,7 +15,8 @@ pub fn expectation(
     x: u64,
     value: &mut u8,
 ) -> u8
-    ensures { λ r. ⌜ Call (expectationCall (usedRecord n (now (neighbours .entry)) (now (codes .entry)) used) z x (now (value .entry)) (now (value .exit))) r ⌝ }
+    ensures { λ r. ⌜ Call (expectationCall (usedRecord n (now (neighbours .entry)) (now (codes .entry)) used) z x
+        (now (value .entry)) (now (value .exit))) r ⌝ }
 {
     let number = used_refusal(n, neighbours, codes, used, z | x, false, false);
     if number != 0 {

@@ -21,7 +21,7 @@ use Rattle.jobs.specs.declared.Op.the-variants.{Complement, Cz, Gate, Measure, 
 use Rattle.jobs.specs.declared.Step.{Step}
 use Rattle.operations.specs.Steps.{Operation, leaves}
 use Rattle.operations.specs.internal.InPlace.{Unrefused}
-use Rattle.record.specs.Lent.{lentRecord, recordLines}
+use Rattle.record.specs.Lent.{recordLines}
 use Rattle.operations.proofs.LeftRecords.{used-left}
 use Rattle.operations.proofs.UsedPassing.{lines-pass}
 use Rattle.operations.specs.Used.{UsedRecord, UsedUnrefused, usedAfter, usedStep}
@@ -53,7 +53,11 @@ module _ (waiting : Bool) (u : UsedRecord) (W : Standing waiting u) where
         many false t e = refl
 
         left : heldIn u words′ codes′ ≡ (usedStep v o) .after .held
-        left = λ i. lentRecord (many (eqb ((usedStep v o) .number) 0) (record { held = leaves (v .held) o; used = usedAfter v o }) refl i) (left-by-call v o C .0 i) (left-by-call v o C .1 i)
+        left = λ i. record {
+          n = many (eqb ((usedStep v o) .number) 0) (record { held = leaves (v .held) o; used = usedAfter v o }) refl i;
+          neighbours = left-by-call v o C .0 i;
+          codes = left-by-call v o C .1 i;
+        }
 
     rewritten-call : Call (usedCall (meant waiting u) o
         ((meantRecord (cond (eqb k 0) false waiting) (heldIn u words′ codes′)) .neighbours)

@@ -44,7 +44,7 @@ use Rattle.stabilizer.specs.Groups.{Proper, SameGroup}
 use Rattle.operations.proofs.AcceptedSteps.{cz-arguments, cz-list, gate-arguments, gate-proper, measure-arguments, measured-list}
 use Rattle.operations.proofs.MeasuringMarks.{marked-word}
 use Rattle.operations.proofs.UsedPassing.{lines-pass, used-passes, used-step}
-use Rattle.operations.specs.Used.{usedArgumentsOf, usedLinesOf, UsedRecord, usedRecord, UsedUnrefused}
+use Rattle.operations.specs.Used.{usedArgumentsOf, usedLinesOf, UsedRecord, UsedUnrefused}
 use Rattle.words.proofs.Flags.{same-by-both}
 use Rattle.words.specs.Bits.{isOdd}
 use Rattle.call_run.specs.internal.Waiting.{MeasuredStep, Standing, Stepped, heldIn, meant, meantRecord}
@@ -306,7 +306,14 @@ module _ (waiting : Bool) (u : UsedRecord) (W : Standing waiting u) where
   pub settled-meant : (words′ codes′ : List ℕ)
       → Rewritten (u .held .neighbours) (u .held .codes) (λ g. reduced (length (u .held .neighbours)) (rowsOf (length (u .held .neighbours)) g)) words′ codes′
       → record { held = heldIn u words′ codes′; used = u .used } ≡ meant true u
-  settled-meant words′ codes′ R = λ i. usedRecord n ((R .neighbours ∙ ap (λ m. neighbourWords m (reduced m (rowsOf m (heldRecord l)))) (accepted-held .neighbours-length)) i) ((R .numbers ∙ ap (λ m. codeNumbers m (reduced m (rowsOf m (heldRecord l)))) (accepted-held .neighbours-length)) i) (u .used)
+  settled-meant words′ codes′ R = λ i. record {
+    held = record {
+      n = n;
+      neighbours = (R .neighbours ∙ ap (λ m. neighbourWords m (reduced m (rowsOf m (heldRecord l)))) (accepted-held .neighbours-length)) i;
+      codes = (R .numbers ∙ ap (λ m. codeNumbers m (reduced m (rowsOf m (heldRecord l)))) (accepted-held .neighbours-length)) i;
+    };
+    used = u .used;
+  }
 
 -- the number of the lines of a gate, of a CZ and of a measurement's arguments
 pub numbered : (v : UsedRecord) → UsedUnrefused v → (six eight : Bool) {k : ℕ} {sixteen named : Bool}

@@ -29,7 +29,9 @@ pub fn run_refusal(
     ops: &[u8],
     others: bool,
 ) -> u8
-    ensures { λ r. ⌜ r ≡ firstFitting (line 15 (ltb 4096 (length (now (ops .entry)))) ∷ usedLines (usedRecord n (now (neighbours .entry)) (now (codes .entry)) used) others false (reaching 5 (now (ops .entry)))) ⌝ }
+    ensures { λ r. ⌜ r ≡ firstFitting (line 15 (ltb 4096 (length (now (ops .entry)))) ∷ usedLines
+        (usedRecord n (now (neighbours .entry)) (now (codes .entry)) used) others false
+        (reaching 5 (now (ops .entry)))) ⌝ }
 {
     if 4096 < ops.len() {
         return 15;

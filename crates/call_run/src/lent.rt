@@ -77,8 +77,10 @@ pub fn turn(
     k: usize,
     answers: &mut [u8],
 ) -> u64
-    requires { ⌜ (at + k < length (now answers)) × ReadyAt (at + k) (now answers) (usedRecord n (now neighbours) (now codes) used) ⌝ }
-    ensures { λ r. ⌜ WaitingRun (usedRecord n (now (neighbours .entry)) (now (codes .entry)) used) (s ∷ []) (at + k) (now (answers .entry)) (now (neighbours .exit)) (now (codes .exit)) r (now (answers .exit)) ⌝ }
+    requires { ⌜ (at + k < length (now answers)) × ReadyAt (at + k) (now answers) (usedRecord n (now neighbours)
+        (now codes) used) ⌝ }
+    ensures { λ r. ⌜ WaitingRun (usedRecord n (now (neighbours .entry)) (now (codes .entry)) used) (s ∷ []) (at + k)
+        (now (answers .entry)) (now (neighbours .exit)) (now (codes .exit)) r (now (answers .exit)) ⌝ }
 {
     let mut word = used;
     let place = at + k;
@@ -100,8 +102,10 @@ pub fn run_lent(
     at: usize,
     answers: &mut [u8],
 ) -> u64
-    requires { ⌜ (at + length (now steps) ≤ length (now answers)) × ReadyAt at (now answers) (usedRecord n (now neighbours) (now codes) used) ⌝ }
-    ensures { λ r. ⌜ WaitingRun (usedRecord n (now (neighbours .entry)) (now (codes .entry)) used) (now (steps .entry)) at (now (answers .entry)) (now (neighbours .exit)) (now (codes .exit)) r
+    requires { ⌜ (at + length (now steps) ≤ length (now answers)) × ReadyAt at (now answers)
+        (usedRecord n (now neighbours) (now codes) used) ⌝ }
+    ensures { λ r. ⌜ WaitingRun (usedRecord n (now (neighbours .entry)) (now (codes .entry)) used)
+        (now (steps .entry)) at (now (answers .entry)) (now (neighbours .exit)) (now (codes .exit)) r
         (now (answers .exit)) ⌝ }
 {
     let mut word = used;
@@ -124,8 +128,10 @@ pub fn run_block(
     at: usize,
     answers: &mut [u8],
 ) -> u64
-    requires { ⌜ (count ≤ 64) × ((at + count ≤ length (now answers)) × ReadyAt at (now answers) (usedRecord n (now neighbours) (now codes) used)) ⌝ }
-    ensures { λ r. ⌜ WaitingRun (usedRecord n (now (neighbours .entry)) (now (codes .entry)) used) (take count steps) at (now (answers .entry)) (now (neighbours .exit)) (now (codes .exit)) r
+    requires { ⌜ (count ≤ 64) × ((at + count ≤ length (now answers)) × ReadyAt at (now answers)
+        (usedRecord n (now neighbours) (now codes) used)) ⌝ }
+    ensures { λ r. ⌜ WaitingRun (usedRecord n (now (neighbours .entry)) (now (codes .entry)) used) (take count steps)
+        at (now (answers .entry)) (now (neighbours .exit)) (now (codes .exit)) r
         (now (answers .exit)) ⌝ }
 {
     run_lent(n, neighbours, codes, used, &steps[..count], at, answers)
@@ -142,8 +148,10 @@ pub fn run_steps(
     at: usize,
     answers: &mut [u8],
 ) -> u64
-    requires { ⌜ (count ≤ 4096) × ((at + count ≤ length (now answers)) × ReadyAt at (now answers) (usedRecord n (now neighbours) (now codes) used)) ⌝ }
-    ensures { λ r. ⌜ WaitingRun (usedRecord n (now (neighbours .entry)) (now (codes .entry)) used) (take count steps) at (now (answers .entry)) (now (neighbours .exit)) (now (codes .exit)) r
+    requires { ⌜ (count ≤ 4096) × ((at + count ≤ length (now answers)) × ReadyAt at (now answers)
+        (usedRecord n (now neighbours) (now codes) used)) ⌝ }
+    ensures { λ r. ⌜ WaitingRun (usedRecord n (now (neighbours .entry)) (now (codes .entry)) used) (take count steps)
+        at (now (answers .entry)) (now (neighbours .exit)) (now (codes .exit)) r
         (now (answers .exit)) ⌝ }
 {
     run_lent(n, neighbours, codes, used, &steps[..count], at, answers)
@@ -158,8 +166,10 @@ pub fn settle_last(
     place: usize,
     answers: &[u8],
 )
-    requires { ⌜ (place ≤ length (now answers)) × ReadyAt place (now answers) (usedRecord n (now neighbours) (now codes) used) ⌝ }
-    ensures { λ r. ⌜ usedRecord n (now (neighbours .exit)) (now (codes .exit)) used ≡ meant (markedBefore place (now (answers .entry))) (usedRecord n (now (neighbours .entry)) (now (codes .entry)) used) ⌝ }
+    requires { ⌜ (place ≤ length (now answers)) × ReadyAt place (now answers) (usedRecord n (now neighbours)
+        (now codes) used) ⌝ }
+    ensures { λ r. ⌜ usedRecord n (now (neighbours .exit)) (now (codes .exit)) used ≡ meant (markedBefore place
+        (now (answers .entry))) (usedRecord n (now (neighbours .entry)) (now (codes .entry)) used) ⌝ }
 {
     let waiting = marked_before(answers, place);
     settle_waiting(n, neighbours, codes, used, waiting);

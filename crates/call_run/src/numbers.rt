@@ -84,7 +84,8 @@ pub fn run_numbers(
 ) -> u64
     requires { ⌜ (count ≤ length (now ops)) × (count ≤ length (now answers))
         × OneLength (now ops) (now a) (now b) (now value) × UsedUnrefused (usedRecord n (now neighbours) (now codes) used) ⌝ }
-    ensures { λ r. ⌜ LentRun (usedRecord n (now (neighbours .entry)) (now (codes .entry)) used) (take count (stepsIn (now (ops .entry)) (now (a .entry)) (now (b .entry)) (now (value .entry)))) 0
+    ensures { λ r. ⌜ LentRun (usedRecord n (now (neighbours .entry)) (now (codes .entry)) used)
+        (take count (stepsIn (now (ops .entry)) (now (a .entry)) (now (b .entry)) (now (value .entry)))) 0
         (now (answers .entry)) (now (neighbours .exit)) (now (codes .exit)) r (now (answers .exit)) ⌝ }
 {
     let mut word = used;

@@ -26,7 +26,9 @@ fn measure_value(
 ) -> Answer
     requires { ⌜ value < 6 ⌝ }
     requires { ⌜ Standing waiting (usedRecord n (now neighbours) (now codes) (now used)) ⌝ }
-    ensures { λ r. ⌜ MeasuredStep waiting (usedRecord n (now (neighbours .entry)) (now (codes .entry)) (now (used .entry))) (value / 2 + 1) qubit (value % 2) (now (neighbours .exit)) (now (codes .exit)) (now (used .exit)) (r .outcome)
+    ensures { λ r. ⌜ MeasuredStep waiting (usedRecord n (now (neighbours .entry)) (now (codes .entry))
+        (now (used .entry))) (value / 2 + 1) qubit (value % 2) (now (neighbours .exit)) (now (codes .exit))
+        (now (used .exit)) (r .outcome)
         (r .determined) (r .refusal) ⌝ }
 {
     let pauli = (value / 2 + 1) as u8;
@@ -48,7 +50,8 @@ fn rewrite(
 ) -> u8
     requires { ⌜ Rewriting op value ⌝ }
     requires { ⌜ Standing waiting (usedRecord n (now neighbours) (now codes) used) ⌝ }
-    ensures { λ r. ⌜ WaitedCall waiting (usedRecord n (now (neighbours .entry)) (now (codes .entry)) used) op a b value (now (neighbours .exit)) (now (codes .exit)) r ⌝ }
+    ensures { λ r. ⌜ WaitedCall waiting (usedRecord n (now (neighbours .entry)) (now (codes .entry)) used) op a b
+        value (now (neighbours .exit)) (now (codes .exit)) r ⌝ }
 {
     match op {
         Op::Gate => gate_waiting(n, neighbours, codes, used, a, value as u8, waiting),
@@ -69,7 +72,8 @@ pub fn run_step(
     waiting: bool,
 ) -> Answer
     requires { ⌜ Standing waiting (usedRecord n (now neighbours) (now codes) (now used)) ⌝ }
-    ensures { λ r. ⌜ WaitedStep waiting (usedRecord n (now (neighbours .entry)) (now (codes .entry)) (now (used .entry))) s r (now (neighbours .exit)) (now (codes .exit)) (now (used .exit)) ⌝ }
+    ensures { λ r. ⌜ WaitedStep waiting (usedRecord n (now (neighbours .entry)) (now (codes .entry))
+        (now (used .entry))) s r (now (neighbours .exit)) (now (codes .exit)) (now (used .exit)) ⌝ }
 {
     let op = s.op;
     let value = s.value;

@@ -44,7 +44,8 @@ pub fn gate_waiting(
     waiting: bool,
 ) -> u8
     requires { ⌜ Standing waiting (usedRecord n (now neighbours) (now codes) used) ⌝ }
-    ensures { λ r. ⌜ Stepped waiting (usedRecord n (now (neighbours .entry)) (now (codes .entry)) used) (gateWith qubit code) (now (neighbours .entry)) (now (codes .exit)) r ⌝ }
+    ensures { λ r. ⌜ Stepped waiting (usedRecord n (now (neighbours .entry)) (now (codes .entry)) used)
+        (gateWith qubit code) (now (neighbours .entry)) (now (codes .exit)) r ⌝ }
 {
     let sixteen = bit_at(used, qubit);
     let early = argument_number(24 <= code, n <= qubit, sixteen);
@@ -66,7 +67,8 @@ pub fn cz_waiting(
     waiting: bool,
 ) -> u8
     requires { ⌜ Standing waiting (usedRecord n (now neighbours) (now codes) used) ⌝ }
-    ensures { λ r. ⌜ Stepped waiting (usedRecord n (now (neighbours .entry)) (now (codes .entry)) used) (czOn a b) (now (neighbours .exit)) (now (codes .exit)) r ⌝ }
+    ensures { λ r. ⌜ Stepped waiting (usedRecord n (now (neighbours .entry)) (now (codes .entry)) used) (czOn a b)
+        (now (neighbours .exit)) (now (codes .exit)) r ⌝ }
 {
     let eight = (n <= a) | ((n <= b) | (a == b));
     let sixteen = bit_at(used, a) | bit_at(used, b);
@@ -90,7 +92,8 @@ fn measure_number(
     waiting: bool,
 ) -> u8
     requires { ⌜ Standing waiting (usedRecord n (now neighbours) (now codes) used) ⌝ }
-    ensures { λ r. ⌜ r ≡ firstFitting (usedLinesOf (meant waiting (usedRecord n (now (neighbours .entry)) (now (codes .entry)) used)) (measurementOf pauli qubit outcome)) ⌝ }
+    ensures { λ r. ⌜ r ≡ firstFitting (usedLinesOf (meant waiting (usedRecord n (now (neighbours .entry))
+        (now (codes .entry)) used)) (measurementOf pauli qubit outcome)) ⌝ }
 {
     let six = (2 <= outcome) | ((pauli == 0) | (4 <= pauli));
     let sixteen = bit_at(used, qubit);
@@ -117,7 +120,9 @@ pub fn measure_waiting(
     waiting: bool,
 ) -> Answer
     requires { ⌜ Standing waiting (usedRecord n (now neighbours) (now codes) (now used)) ⌝ }
-    ensures { λ r. ⌜ MeasuredStep waiting (usedRecord n (now (neighbours .entry)) (now (codes .entry)) (now (used .entry))) pauli qubit outcome (now (neighbours .exit)) (now (codes .exit)) (now (used .exit)) (r .outcome)
+    ensures { λ r. ⌜ MeasuredStep waiting (usedRecord n (now (neighbours .entry)) (now (codes .entry))
+        (now (used .entry))) pauli qubit outcome (now (neighbours .exit)) (now (codes .exit)) (now (used .exit))
+        (r .outcome)
         (r .determined) (r .refusal) ⌝ }
 {
     let word = *used;
@@ -143,7 +148,8 @@ pub fn measure_waiting(
 // The record that is meant, in the buffers.
 pub fn settle_waiting(n: u64, neighbours: &mut [u64], codes: &mut [u8], used: u64, waiting: bool)
     requires { ⌜ Standing waiting (usedRecord n (now neighbours) (now codes) used) ⌝ }
-    ensures { λ r. ⌜ usedRecord n (now (neighbours .exit)) (now (codes .exit)) used ≡ meant waiting (usedRecord n (now (neighbours .entry)) (now (codes .entry)) used) ⌝ }
+    ensures { λ r. ⌜ usedRecord n (now (neighbours .exit)) (now (codes .exit)) used ≡ meant waiting
+        (usedRecord n (now (neighbours .entry)) (now (codes .entry)) used) ⌝ }
 {
     if waiting {
         normalise(neighbours, codes);
@@ -160,7 +166,8 @@ pub fn complement_waiting(
     waiting: bool,
 ) -> u8
     requires { ⌜ Standing waiting (usedRecord n (now neighbours) (now codes) used) ⌝ }
-    ensures { λ r. ⌜ Call (usedCall (meant waiting (usedRecord n (now (neighbours .entry)) (now (codes .entry)) used)) (complementOf a) (now (neighbours .exit)) (now (codes .exit))) r ⌝ }
+    ensures { λ r. ⌜ Call (usedCall (meant waiting (usedRecord n (now (neighbours .entry)) (now (codes .entry)) used))
+        (complementOf a) (now (neighbours .exit)) (now (codes .exit))) r ⌝ }
 {
     settle_waiting(n, neighbours, codes, used, waiting);
     complement_known(n, neighbours, codes, used, a, true)
@@ -177,7 +184,8 @@ pub fn pivot_waiting(
     waiting: bool,
 ) -> u8
     requires { ⌜ Standing waiting (usedRecord n (now neighbours) (now codes) used) ⌝ }
-    ensures { λ r. ⌜ Call (usedCall (meant waiting (usedRecord n (now (neighbours .entry)) (now (codes .entry)) used)) (pivotOf j k) (now (neighbours .exit)) (now (codes .exit))) r ⌝ }
+    ensures { λ r. ⌜ Call (usedCall (meant waiting (usedRecord n (now (neighbours .entry)) (now (codes .entry)) used))
+        (pivotOf j k) (now (neighbours .exit)) (now (codes .exit))) r ⌝ }
 {
     settle_waiting(n, neighbours, codes, used, waiting);
     pivot_known(n, neighbours, codes, used, j, k, true)

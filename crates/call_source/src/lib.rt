@@ -29,7 +29,8 @@ pub fn observe_known(
     known: bool,
 ) -> u8
     requires { ⌜ Known known (usedRecord n (now neighbours) (now codes) (now used)) ⌝ }
-    ensures { λ r. ⌜ Call (observeCall (usedRecord n (now (neighbours .entry)) (now (codes .entry)) (now (used .entry))) pauli qubit bit (now (answer .entry)) (now (determined .entry))
+    ensures { λ r. ⌜ Call (observeCall (usedRecord n (now (neighbours .entry)) (now (codes .entry))
+        (now (used .entry))) pauli qubit bit (now (answer .entry)) (now (determined .entry))
         (now (neighbours .exit)) (now (codes .exit)) (now (used .exit)) (now (answer .exit))
         (now (determined .exit))) r ⌝ }
 {
@@ -57,7 +58,8 @@ pub fn observe(
     answer: &mut u8,
     determined: &mut u8,
 ) -> u8
-    ensures { λ r. ⌜ Call (observeCall (usedRecord n (now (neighbours .entry)) (now (codes .entry)) (now (used .entry))) pauli qubit bit (now (answer .entry)) (now (determined .entry))
+    ensures { λ r. ⌜ Call (observeCall (usedRecord n (now (neighbours .entry)) (now (codes .entry))
+        (now (used .entry))) pauli qubit bit (now (answer .entry)) (now (determined .entry))
         (now (neighbours .exit)) (now (codes .exit)) (now (used .exit)) (now (answer .exit))
         (now (determined .exit))) r ⌝ }
 {
@@ -93,7 +95,8 @@ pub fn renew_known(
     known: bool,
 ) -> u8
     requires { ⌜ Known known (usedRecord n (now neighbours) (now codes) (now used)) ⌝ }
-    ensures { λ r. ⌜ Call (renewCall (usedRecord n (now (neighbours .entry)) (now (codes .entry)) (now (used .entry))) qubit code (now (neighbours .exit)) (now (codes .exit)) (now (used .exit))) r ⌝ }
+    ensures { λ r. ⌜ Call (renewCall (usedRecord n (now (neighbours .entry)) (now (codes .entry)) (now (used .entry)))
+        qubit code (now (neighbours .exit)) (now (codes .exit)) (now (used .exit))) r ⌝ }
 {
     let word = *used;
     let early = known_refusal(n, neighbours, codes, word, no_photon(code), known);
@@ -120,7 +123,8 @@ pub fn renew(
     qubit: u64,
     code: u8,
 ) -> u8
-    ensures { λ r. ⌜ Call (renewCall (usedRecord n (now (neighbours .entry)) (now (codes .entry)) (now (used .entry))) qubit code (now (neighbours .exit)) (now (codes .exit)) (now (used .exit))) r ⌝ }
+    ensures { λ r. ⌜ Call (renewCall (usedRecord n (now (neighbours .entry)) (now (codes .entry)) (now (used .entry)))
+        qubit code (now (neighbours .exit)) (now (codes .exit)) (now (used .exit))) r ⌝ }
 {
     renew_known(n, neighbours, codes, used, qubit, code, false)
 }

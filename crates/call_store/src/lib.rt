@@ -27,11 +27,12 @@ fn save_refusal(
     held_neighbours: &[u64],
     held_codes: &[u8],
 ) -> u8
-    ensures { λ r. ⌜ r ≡ firstFitting (recordTests (λ m. ofRecord (usedRecord n (now (neighbours .entry)) (now (codes .entry)) used) m || holdsLine m (storeLines 8 (record {
-      heads = now (heads .entry);
-      neighbours = now («held_neighbours» .entry);
-      codes = now («held_codes» .entry);
-    }) false))) ⌝ }
+    ensures { λ r. ⌜ r ≡ firstFitting (recordTests (λ m. ofRecord (usedRecord n (now (neighbours .entry))
+        (now (codes .entry)) used) m || holdsLine m (storeLines 8 (record {
+          heads = now (heads .entry);
+          neighbours = now («held_neighbours» .entry);
+          codes = now («held_codes» .entry);
+        }) false))) ⌝ }
 {
     let own = used_refusal(n, neighbours, codes, used, 0, false, false);
     let others = store_refusal(8, heads, held_neighbours, held_codes, false);

@@ -17,7 +17,7 @@ use Rattle.operations.specs.Steps.{Operation, complementOf, leaves, measurement
 use Rattle.record.proofs.Complementing.{complement-same}
 use Rattle.record.proofs.WrittenRecords.{record-back, record-passes, record-rows-back, writtenRecord}
 use Rattle.record.specs.Accepted.{AcceptedRecord}
-use Rattle.record.specs.Lent.{heldRecord, heldRows, LentRecord, lentRecord}
+use Rattle.record.specs.Lent.{heldRecord, heldRows, LentRecord}
 use Rattle.record.specs.Records.{GraphRecord, complementRecord, rowsOf}
 use Rattle.stabilizer.proofs.EqualRows.{same-group-equal}
 use Rattle.stabilizer.proofs.GroupLaws.{same-trans}
@@ -106,7 +106,11 @@ pivots-keep l j k nb′ cs′ C =
 -- what a call leaves is the step's record
 pub is-after : (u : UsedRecord) (o : Operation) (r : ℕ) (nb cs : List ℕ) → Call (usedCall u o nb cs) r
     → left (u .held) nb cs ≡ (usedStep u o) .after .held
-is-after u o r nb cs C = λ i. lentRecord (sym (step-n (eqb ((usedStep u o) .number) 0)) i) (left-by-call u o C .0 i) (left-by-call u o C .1 i)
+is-after u o r nb cs C = λ i. record {
+  n = sym (step-n (eqb ((usedStep u o) .number) 0)) i;
+  neighbours = left-by-call u o C .0 i;
+  codes = left-by-call u o C .1 i;
+}
   where
     step-n : (b : Bool) → (cond b (record { held = leaves (u .held) o; used = usedAfter u o }) u) .held .n ≡ u .held .n
     step-n true = refl

@@ -150,4 +150,11 @@ returns-give name st n nb cs used n′ nb′ cs′ used′ C =
     kept old new part e l = ap (drop n′) e ∙ drop-at part (drop (length part) old) n′ l ∙ ap (λ k. drop k old) l
 
     back : usedRecord n′ (take n′ nb′) (take n′ cs′) used′ ≡ heldUnder name st
-    back = λ i. usedRecord (C .held .0 i) (front nb nb′ ((heldUnder name st) .held .neighbours) (C .held .1 .0) words i) (front cs cs′ ((heldUnder name st) .held .codes) (C .held .1 .1 .0) codes i) (C .held .1 .1 .1 .0 i)
+    back = λ i. record {
+      held = record {
+        n = C .held .0 i;
+        neighbours = front nb nb′ ((heldUnder name st) .held .neighbours) (C .held .1 .0) words i;
+        codes = front cs cs′ ((heldUnder name st) .held .codes) (C .held .1 .1 .0) codes i;
+      };
+      used = C .held .1 .1 .1 .0 i;
+    }

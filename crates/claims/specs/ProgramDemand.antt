@@ -20,7 +20,7 @@ use Rattle.calls.specs.ListAnswers.{ResponseTo as ListResponse, listAnswer, lis
 use Rattle.operations.specs.Measurement.{pauliLetter, single}
 use Rattle.operations.specs.Steps.{Operation, complementOf, czOn, gateWith, measurementOf, pivotOf}
 use Rattle.pauli.specs.Pauli.{Pauli}
-use Rattle.record.specs.Lent.{codeNumbers, heldRows, LentRecord, lentRecord, neighbourWords}
+use Rattle.record.specs.Lent.{codeNumbers, heldRows, LentRecord, neighbourWords}
 use Rattle.record.specs.Reduced.{reduced}
 use Rattle.stabilizer.specs.Groups.{SameGroup}
 use Rattle.stabilizer.specs.Lists.{GeneratorList, rows}
@@ -33,7 +33,11 @@ use Rattle.claims.specs.OperationsDemand.{IsReduced}
 -- the reduced record of a list, in buffers
 abbrev pub reducedRecord : GeneratorList → LentRecord
 reducedRecord l =
-    lentRecord (l .n) (neighbourWords (l .n) (reduced (l .n) (rows l))) (codeNumbers (l .n) (reduced (l .n) (rows l)))
+    record {
+      n = l .n;
+      neighbours = neighbourWords (l .n) (reduced (l .n) (rows l));
+      codes = codeNumbers (l .n) (reduced (l .n) (rows l));
+    }
 
 -- an accepted list: the record printed is the reduced one, with the used word 0, and stands for the list's group
 pub record RecordPrinted (l : GeneratorList) (bytes : List ℕ) : Type 0 where

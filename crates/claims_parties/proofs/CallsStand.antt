@@ -53,7 +53,11 @@ module _ (word g : ℕ) (u : UsedRecord) (o : Operation) (G : PartyOp o)
     plain = zero ∙ sym (used-passes u o .0 (P .lines) .as-before)
 
     whole : left (u .held) nb″ cs″ ≡ leaves (u .held) o
-    whole = λ j. lentRecord (u .held .n) ((c ∙ ap (λ m. accepted m (neighbourWords (u .held .n) (made (u .held) o)) (u .held .neighbours)) plain) j) ((d ∙ ap (λ m. accepted m (codeNumbers (u .held .n) (made (u .held) o)) (u .held .codes)) plain) j)
+    whole = λ j. record {
+      n = u .held .n;
+      neighbours = (c ∙ ap (λ m. accepted m (neighbourWords (u .held .n) (made (u .held) o)) (u .held .neighbours)) plain) j;
+      codes = (d ∙ ap (λ m. accepted m (codeNumbers (u .held .n) (made (u .held) o)) (u .held .codes)) plain) j;
+    }
 
     own : left (u .held) nb′ cs′ ≡ (partyAfter word g u o) .held
     own = λ j. lentRecord (u .held .n) (a j) (b j)

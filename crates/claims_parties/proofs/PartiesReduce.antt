@@ -22,7 +22,7 @@ use Rattle.parties.specs.Masks.{inParty, masked}
 use Rattle.parties.specs.internal.Apart.{Apart, PartyOp, cz-op, gate-op, measure-op}
 use Rattle.operations.specs.Steps.{Operation, czOn, gateWith, leaves, linesOf, measurementOf}
 use Rattle.record.specs.Accepted.{AcceptedRecord}
-use Rattle.record.specs.Lent.{LentRecord, lentRecord}
+use Rattle.record.specs.Lent.{LentRecord}
 use Rattle.store.proofs.PassingStores.{held-record}
 use Rattle.operations.proofs.LeftRecords.{used-left}
 use Rattle.operations.proofs.UsedPassing.{used-step}
@@ -79,7 +79,11 @@ module _ (word g : ℕ) (u : UsedRecord) (o : Operation) (G : PartyOp o) (R : Re
 
   -- masked again it is the same
   again : (masked (inParty word g) after) .held ≡ after .held
-  again = λ j. lentRecord (after .held .n) (sym (tabulate-is (after .held .n) _ (after .held .neighbours) (A .neighbours-length) (λ q l. word-at q l (s q) refl)) j) (sym (tabulate-is (after .held .n) _ (after .held .codes) (A .codes-length) (λ q l. code-at q l (s q) refl)) j)
+  again = λ j. record {
+    n = after .held .n;
+    neighbours = sym (tabulate-is (after .held .n) _ (after .held .neighbours) (A .neighbours-length) (λ q l. word-at q l (s q) refl)) j;
+    codes = sym (tabulate-is (after .held .n) _ (after .held .codes) (A .codes-length) (λ q l. code-at q l (s q) refl)) j;
+  }
     where
       word-at : (q : ℕ) → q < after .held .n → (b : Bool) → s q ≡ b →
           getD (after .held .neighbours) q 0 ≡ cond b (getD (after .held .neighbours) q 0) 0

@@ -26,7 +26,8 @@ ghost use Rattle.comparison.specs.internal.ComparedPairs.{HoldsReduced, PairAns
 fn too_large(limited: bool, neighbours: &[u64], neighbours2: &[u64]) -> bool
     requires { ⌜ (length (now neighbours) ≤ 64) × Simple (length (now neighbours)) (graphIn (now neighbours)) ⌝ }
     requires { ⌜ (length (now neighbours2) ≤ 64) × Simple (length (now neighbours2)) (graphIn (now neighbours2)) ⌝ }
-    ensures { λ r. ⌜ r ≡ (limited && (partAbove 20 (length (now (neighbours .entry))) (graphIn (now (neighbours .entry)))
+    ensures { λ r. ⌜ r ≡ (limited && (partAbove 20 (length (now (neighbours .entry)))
+        (graphIn (now (neighbours .entry)))
         || partAbove 20 (length (now (neighbours2 .entry))) (graphIn (now (neighbours2 .entry))))) ⌝ }
 {
     if !limited {
@@ -48,7 +49,11 @@ fn induced_image(
     requires { ⌜ AcceptedRecord (lentRecord n (now neighbours) (now codes)) ⌝ }
     requires { ⌜ (length (now choice) ≡ n) × (length (now codes2) ≡ n) × (length (now induced) ≡ n) ⌝ }
     requires { ⌜ Codes (now choice) × Codes (now codes2) ⌝ }
-    ensures { λ r. ⌜ IsImage n (heldRecord (lentRecord n (now (neighbours .entry)) (tabulate n (inducedCode (now (codes .entry)) (now (choice .entry)) (now (codes2 .entry)))))) r ⌝ }
+    ensures { λ r. ⌜ IsImage n (heldRecord (record {
+      n = n;
+      neighbours = now (neighbours .entry);
+      codes = tabulate n (inducedCode (now (codes .entry)) (now (choice .entry)) (now (codes2 .entry)));
+    })) r ⌝ }
 {
     induced_codes(codes, choice, codes2, induced);
     image_answer(n, neighbours, induced)

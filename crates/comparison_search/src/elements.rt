@@ -29,7 +29,8 @@ fn times(p: Generator, g: Generator) -> Generator
 
 // An element of the second group: the row itself, or its negative, if that is one.
 pub fn element(n: usize, second: &[[u64; 3]; 64], frame: Action, p: Generator) -> Generator
-    requires { ⌜ (n ≤ 64) × ((k : ℕ → Clifford) × Framed n (generatorsOf (generatorsIn (now second))) k × ActsAs k frame) ⌝ }
+    requires { ⌜ (n ≤ 64) × ((k : ℕ → Clifford) × Framed n (generatorsOf (generatorsIn (now second))) k × ActsAs k
+        frame) ⌝ }
     ensures { λ r. ⌜ Guessed n (generatorsOf (generatorsIn (now (second .entry)))) (generatorOf p) (generatorOf r) ⌝ }
 {
     let undone = act_on(p, frame);

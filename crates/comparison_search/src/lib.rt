@@ -97,7 +97,8 @@ fn least_choice(
     frame: [u8; 64],
 ) -> Answer
     requires { ⌜ Setting n (generatorsIn (now first)) (generatorsIn (now second)) frame ⌝ }
-    ensures { λ r. ⌜ LeastAnswer n (generatorsOf (generatorsIn (now (first .entry)))) (generatorsOf (generatorsIn (now (second .entry))))
+    ensures { λ r. ⌜ LeastAnswer n (generatorsOf (generatorsIn (now (first .entry))))
+        (generatorsOf (generatorsIn (now (second .entry))))
         (r .found) (r .choice) ⌝ }
 {
     let mut table = [[0u64; 4]; 256];

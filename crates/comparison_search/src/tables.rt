@@ -73,9 +73,12 @@ pub fn sign_table(
     frame: [u8; 64],
     choice: [u8; 64],
 )
-    requires { ⌜ Setting n (generatorsIn (now first)) (generatorsIn (now second)) frame × Codes choice × NoSigns choice ⌝ }
-    requires { ⌜ SentUpToSign n (generatorsIn (now first)) (generatorsIn (now second)) (codesOf choice) × (now table ≡ emptyRows) ⌝ }
-    ensures { λ r. ⌜ SignTable n (generatorsIn (now (first .entry))) (generatorsIn (now (second .entry))) (codesOf choice) n
+    requires { ⌜ Setting n (generatorsIn (now first)) (generatorsIn (now second)) frame × Codes choice × NoSigns
+        choice ⌝ }
+    requires { ⌜ SentUpToSign n (generatorsIn (now first)) (generatorsIn (now second)) (codesOf choice) ×
+        (now table ≡ emptyRows) ⌝ }
+    ensures { λ r. ⌜ SignTable n (generatorsIn (now (first .entry))) (generatorsIn (now (second .entry)))
+        (codesOf choice) n
         (equationsIn (now (table .exit))) ⌝ }
 {
     let by = action_of(&choice);

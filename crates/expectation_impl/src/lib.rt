@@ -75,7 +75,8 @@ fn read(element: Row, row: Generator) -> u8
 pub fn row_value(n: usize, neighbours: &[u64], codes: &[u8], z: u64, x: u64) -> u8
     requires { ⌜ AcceptedRecord (lentRecord n (now neighbours) (now codes)) ⌝ }
     requires { ⌜ (z < 2 ^ n) × (x < 2 ^ n) ⌝ }
-    ensures { λ r. ⌜ r ≡ stabilizerValue n (heldRows (lentRecord n (now (neighbours .entry)) (now (codes .entry)))) (signedRow false z x) ⌝ }
+    ensures { λ r. ⌜ r ≡ stabilizerValue n (heldRows (lentRecord n (now (neighbours .entry)) (now (codes .entry))))
+        (signedRow false z x) ⌝ }
 {
     let plus = Generator {
         minus: false,

@@ -25,7 +25,7 @@ use Rattle.operations.specs.Steps.{
 }
 use Rattle.operations.specs.declared.Outcome.{Outcome}
 use Rattle.operations.specs.declared.Outcome.the-variants.{Chosen, Determined}
-use Rattle.record.specs.Lent.{codeNumbers, LentRecord, lentRecord, neighbourWords}
+use Rattle.record.specs.Lent.{codeNumbers, LentRecord, neighbourWords}
 use Rattle.record.specs.Records.{GraphRecord}
 use Rattle.operations.specs.Used.{UsedRecord, usedAfter, usedLinesOf, usedStep}
 use Rattle.words.proofs.BitLaws.{digit-lt}
@@ -59,7 +59,11 @@ module _ (n : ℕ) (l : LentRecord) (S : Sized n l) where
       new : GraphRecord
       new = made l o
 
-      go : (b : Bool) → Sized n (lentRecord (l .n) (cond b (neighbourWords (l .n) new) (l .neighbours)) (cond b (codeNumbers (l .n) new) (l .codes)))
+      go : (b : Bool) → Sized n (record {
+        n = l .n;
+        neighbours = cond b (neighbourWords (l .n) new) (l .neighbours);
+        codes = cond b (codeNumbers (l .n) new) (l .codes);
+      })
       go true =
           record {
             qubits = S .qubits;

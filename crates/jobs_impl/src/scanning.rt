@@ -114,7 +114,8 @@ fn step_of(s: Scan) -> Step
 // What is read after a block more. Where a byte ends one of the first 4,096 steps, that step is kept behind those before
 // it.
 pub fn read_block(from: Reading, block: &[u8]) -> Reading
-    ensures { λ r. ⌜ asReading (r .scan) (r .steps) ≡ fed (asReading (from .scan) (from .steps)) (now (block .entry)) ⌝ }
+    ensures { λ r. ⌜ asReading (r .scan) (r .steps) ≡ fed (asReading (from .scan) (from .steps))
+        (now (block .entry)) ⌝ }
 {
     let mut scan = from.scan;
     let mut steps = from.steps;

@@ -48,8 +48,10 @@ fn run(
     count: usize,
     answers: &mut [u8],
 ) -> u64
-    requires { ⌜ (count ≤ 4096) × (count ≤ length (now answers)) × UsedUnrefused (usedRecord n (now neighbours) (now codes) 0) ⌝ }
-    ensures { λ r. ⌜ LentRun (usedRecord n (now (neighbours .entry)) (now (codes .entry)) 0) (take count steps) 0 (now (answers .entry)) (now (neighbours .exit)) (now (codes .exit)) r
+    requires { ⌜ (count ≤ 4096) × (count ≤ length (now answers)) × UsedUnrefused (usedRecord n (now neighbours)
+        (now codes) 0) ⌝ }
+    ensures { λ r. ⌜ LentRun (usedRecord n (now (neighbours .entry)) (now (codes .entry)) 0) (take count steps) 0
+        (now (answers .entry)) (now (neighbours .exit)) (now (codes .exit)) r
         (now (answers .exit)) ⌝ }
 {
     let used = run_steps(n, neighbours, codes, 0, steps, count, 0, answers);

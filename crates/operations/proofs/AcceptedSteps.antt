@@ -41,7 +41,6 @@ use Rattle.record.specs.Lent.{
   heldRecord,
   heldRows,
   LentRecord,
-  lentRecord,
   neighbourWords,
   recordCodes,
   recordLines,
@@ -162,7 +161,11 @@ module _ (l : LentRecord) where
     -- the buffers hold what the operation makes
     pub after-made : leaves l o ≡ writtenRecord (l .n) (made l o)
     after-made =
-        ap (λ k. lentRecord (l .n) (accepted k (neighbourWords (l .n) (made l o)) (l .neighbours)) (accepted k (codeNumbers (l .n) (made l o)) (l .codes))) e
+        ap (λ k. record {
+          n = l .n;
+          neighbours = accepted k (neighbourWords (l .n) (made l o)) (l .neighbours);
+          codes = accepted k (codeNumbers (l .n) (made l o)) (l .codes);
+        }) e
 
     pub made-passes : firstFitting (recordLines (writtenRecord (l .n) (made l o)) false false) ≡ 0
     made-passes =

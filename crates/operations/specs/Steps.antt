@@ -6,15 +6,7 @@ use lib.Dec.{eqb, leb}
 use Rattle.buffers.specs.Buffers.{accepted}
 use Rattle.buffers.specs.Refusals.{Refusal, firstFitting, line}
 use Rattle.clifford.specs.Clifford.{cliffordOf}
-use Rattle.record.specs.Lent.{
-  codeNumbers,
-  heldRecord,
-  heldRows,
-  LentRecord,
-  lentRecord,
-  neighbourWords,
-  recordLines,
-}
+use Rattle.record.specs.Lent.{codeNumbers, heldRecord, heldRows, LentRecord, neighbourWords, recordLines}
 use Rattle.record.specs.Records.{GraphRecord, complementAll, complementRecord, rowsOf}
 use Rattle.record.specs.Reduced.{reduced}
 use Rattle.words.specs.Bits.{isOdd}
@@ -97,7 +89,11 @@ made l (pivotOf j k) = pivotRecord (heldRecord l) j k
 -- what the buffers hold after it: refused, the record as it was; accepted, the new one
 abbrev pub leaves : LentRecord → Operation → LentRecord
 leaves l o =
-    lentRecord (l .n) (accepted (firstFitting (linesOf l o)) (neighbourWords (l .n) (made l o)) (l .neighbours)) (accepted (firstFitting (linesOf l o)) (codeNumbers (l .n) (made l o)) (l .codes))
+    record {
+      n = l .n;
+      neighbours = accepted (firstFitting (linesOf l o)) (neighbourWords (l .n) (made l o)) (l .neighbours);
+      codes = accepted (firstFitting (linesOf l o)) (codeNumbers (l .n) (made l o)) (l .codes);
+    }
 
 -- a measurement's further answer
 abbrev pub measuredAnswer : LentRecord → ℕ → ℕ → ℕ → Outcome

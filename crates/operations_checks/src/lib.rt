@@ -55,7 +55,8 @@ pub fn used_number(
     six: bool,
 ) -> u8
     requires { ⌜ Looked looked (now codes) over ⌝ }
-    ensures { λ r. ⌜ r ≡ firstFitting (usedLines (usedRecord n (now (neighbours .entry)) (now (codes .entry)) used) others (leb (2 ^ n) word) six) ⌝ }
+    ensures { λ r. ⌜ r ≡ firstFitting (usedLines (usedRecord n (now (neighbours .entry)) (now (codes .entry)) used)
+        others (leb (2 ^ n) word) six) ⌝ }
 {
     let number = record_number(n, neighbours, codes, others, looked, over, six);
     if number == 2 {
@@ -88,7 +89,8 @@ pub fn used_refusal(
     others: bool,
     six: bool,
 ) -> u8
-    ensures { λ r. ⌜ r ≡ firstFitting (usedLines (usedRecord n (now (neighbours .entry)) (now (codes .entry)) used) others (leb (2 ^ n) word) six) ⌝ }
+    ensures { λ r. ⌜ r ≡ firstFitting (usedLines (usedRecord n (now (neighbours .entry)) (now (codes .entry)) used)
+        others (leb (2 ^ n) word) six) ⌝ }
 {
     used_number(n, neighbours, codes, used, word, others, false, false, six)
 }

@@ -14,7 +14,8 @@ ghost use Rattle.words.specs.Bits.{bit};
 // The numbers of one word of marks, from place at on. Returns the place behind them.
 fn write_word(word: u64, base: usize, list: &mut [u16], at: usize) -> usize
     requires { ⌜ (base + 64 ≤ 32768) × (at + length (selected 64 (bit word)) ≤ length (now list)) ⌝ }
-    ensures { λ r. ⌜ Printed (map (λ v. base + v) (selected 64 (bit word))) at (now (list .entry)) (now (list .exit)) r ⌝ }
+    ensures { λ r. ⌜ Printed (map (λ v. base + v) (selected 64 (bit word))) at (now (list .entry)) (now (list .exit))
+        r ⌝ }
 {
     let mut rest = word;
     let mut end = at;

@@ -6,7 +6,7 @@ use Prim.Native.Nat.{_<_, ℕ}
 use lib.ListN.{getD}
 use Rattle.buffers.proofs.Tabulate.{tabulate-at, tabulate-cong}
 use Rattle.buffers.specs.Buffers.{tabulate}
-use Rattle.operations.specs.Used.{UsedRecord, usedRecord}
+use Rattle.operations.specs.Used.{UsedRecord}
 use Rattle.words.proofs.BitLaws.{bit-wordOf, word-cong}
 use Rattle.words.specs.Bits.{Word, bit, wordOf}
 use Rattle.parties.specs.Masks.{masked, merged}
@@ -29,7 +29,14 @@ pub record SameIn (s : Word) (a b : UsedRecord) : Type 0 where
   pub used : (q : ℕ) → q < a .held .n → s q ≡ true → bit (a .used) q ≡ bit (b .used) q
 
 pub masked-same : (s : Word) (a b : UsedRecord) → SameIn s a b → masked s a ≡ masked s b
-masked-same s a b S = λ j. usedRecord (S .count j) ((tabulate-cong (a .held .n) _ _ (λ q l. where-true (s q) 0 (S .word q l)) ∙ ap (λ n. tabulate n (λ q. cond (s q) (getD (b .held .neighbours) q 0) 0)) (S .count)) j) ((tabulate-cong (a .held .n) _ _ (λ q l. where-true (s q) 8 (S .code q l)) ∙ ap (λ n. tabulate n (λ q. cond (s q) (getD (b .held .codes) q 0) 8)) (S .count)) j) ((word-cong (a .held .n) _ _ (λ q l. both-where (s q) (S .used q l)) ∙ ap (λ n. wordOf n (λ q. s q && bit (b .used) q)) (S .count)) j)
+masked-same s a b S = λ j. record {
+  held = record {
+    n = S .count j;
+    neighbours = (tabulate-cong (a .held .n) _ _ (λ q l. where-true (s q) 0 (S .word q l)) ∙ ap (λ n. tabulate n (λ q. cond (s q) (getD (b .held .neighbours) q 0) 0)) (S .count)) j;
+    codes = (tabulate-cong (a .held .n) _ _ (λ q l. where-true (s q) 8 (S .code q l)) ∙ ap (λ n. tabulate n (λ q. cond (s q) (getD (b .held .codes) q 0) 8)) (S .count)) j;
+  };
+  used = (word-cong (a .held .n) _ _ (λ q l. both-where (s q) (S .used q l)) ∙ ap (λ n. wordOf n (λ q. s q && bit (b .used) q)) (S .count)) j;
+}
 
 -- ---- a vertex of a merged record
 module _ (s : Word) (a u : UsedRecord) (q : ℕ) (l : q < u .held .n) where

@@ -10,7 +10,7 @@ use lib.Seq.{drop-append-le, drop-at, drop-drop, length-take-le, take-add, take-
 use Rattle.store.proofs.PlacedParts.{part-front, placed-long}
 use Rattle.store.specs.Kept.{placedAt, withPlace}
 use Rattle.store.specs.Places.{Store, countAt, partAt, placeAt}
-use Rattle.operations.specs.Used.{UsedRecord, usedRecord}
+use Rattle.operations.specs.Used.{UsedRecord}
 use Rattle.parties.proofs.OwnHeads.{headed-other, headed-own, own-head, part-long, side}
 use Rattle.parties.specs.PartyStores.{ownPlaces}
 
@@ -161,4 +161,11 @@ module _ (g p : ℕ) (st : Store) (lg : g < 2) (lp : p < 4) (L : EightLong st) w
   count-own = head-at (3 * (4 * g + p)) (3 * p) (omega arith) (omega (arith, lp))
 
   pub place-own : countAt ((ownPlaces g st) .heads) p ≤ 64 → placeAt st (4 * g + p) ≡ placeAt (ownPlaces g st) p
-  place-own few = λ j. usedRecord (count-own j) ((ap (λ n. partAt (4 * g + p) n (st .neighbours)) count-own ∙ part-at _ few (st .neighbours) (L .words)) j) ((ap (λ n. partAt (4 * g + p) n (st .codes)) count-own ∙ part-at _ few (st .codes) (L .codes)) j) (head-at (3 * (4 * g + p) + 2) (3 * p + 2) (omega arith) (omega (arith, lp)) j)
+  place-own few = λ j. record {
+    held = record {
+      n = count-own j;
+      neighbours = (ap (λ n. partAt (4 * g + p) n (st .neighbours)) count-own ∙ part-at _ few (st .neighbours) (L .words)) j;
+      codes = (ap (λ n. partAt (4 * g + p) n (st .codes)) count-own ∙ part-at _ few (st .codes) (L .codes)) j;
+    };
+    used = head-at (3 * (4 * g + p) + 2) (3 * p + 2) (omega arith) (omega (arith, lp)) j;
+  }

@@ -4,7 +4,7 @@ use Prim.Native.Nat.{ℕ}
 use lib.Dec.{eqb}
 use lib.ListN.{getD}
 use Rattle.buffers.specs.Buffers.{tabulate}
-use Rattle.operations.specs.Used.{UsedRecord, usedRecord}
+use Rattle.operations.specs.Used.{UsedRecord}
 use Rattle.words.specs.Bits.{Word, bit, sameBit, wordOf}
 use Rattle.words.specs.Search.{some}
 
@@ -15,12 +15,26 @@ inParty word g q = sameBit (bit word q) (eqb g 1)
 -- the record in which each vertex outside s stands alone in +Z: no neighbour, code 8, not used
 abbrev pub masked : Word → UsedRecord → UsedRecord
 masked s u =
-    usedRecord (u .held .n) (tabulate (u .held .n) (λ q. cond (s q) (getD (u .held .neighbours) q 0) 0)) (tabulate (u .held .n) (λ q. cond (s q) (getD (u .held .codes) q 0) 8)) (wordOf (u .held .n) (λ q. s q && bit (u .used) q))
+    record {
+      held = record {
+        n = u .held .n;
+        neighbours = tabulate (u .held .n) (λ q. cond (s q) (getD (u .held .neighbours) q 0) 0);
+        codes = tabulate (u .held .n) (λ q. cond (s q) (getD (u .held .codes) q 0) 8);
+      };
+      used = wordOf (u .held .n) (λ q. s q && bit (u .used) q);
+    }
 
 -- the vertices of s as a has them; "codes and neighbour words of the other stay"
 abbrev pub merged : Word → UsedRecord → UsedRecord → UsedRecord
 merged s a u =
-    usedRecord (u .held .n) (tabulate (u .held .n) (λ q. cond (s q) (getD (a .held .neighbours) q 0) (getD (u .held .neighbours) q 0))) (tabulate (u .held .n) (λ q. cond (s q) (getD (a .held .codes) q 0) (getD (u .held .codes) q 0))) (wordOf (u .held .n) (λ q. cond (s q) (bit (a .used) q) (bit (u .used) q)))
+    record {
+      held = record {
+        n = u .held .n;
+        neighbours = tabulate (u .held .n) (λ q. cond (s q) (getD (a .held .neighbours) q 0) (getD (u .held .neighbours) q 0));
+        codes = tabulate (u .held .n) (λ q. cond (s q) (getD (a .held .codes) q 0) (getD (u .held .codes) q 0));
+      };
+      used = wordOf (u .held .n) (λ q. cond (s q) (bit (a .used) q) (bit (u .used) q));
+    }
 
 -- "the record has an edge between the groups"
 unfoldable pub crosses : ℕ → UsedRecord → Bool

@@ -40,4 +40,8 @@ module _ (i own : ℕ) (nb cs : List ℕ) where
       (take (64 * i + 64 - 64 * i) (drop (64 * i) hc)) 0) (of64 nb cs 0)) .held .codes
       → _≡_ {A = LentRecord} (lentRecord 64 nb′ cs′)
       ((merged (bit own) (of64 (partAt i 64 hn) (partAt i 64 hc) 0) (of64 nb cs 0)) .held)
-  taken-at hn hc nb′ cs′ en ec = λ j. lentRecord 64 ((en ∙ ap (λ w. (merged (bit own) (of64 w cs 0) (of64 nb cs 0)) .held .neighbours) (from-place (64 * i) 64 hn)) j) ((ec ∙ ap (λ w. (merged (bit own) (of64 nb w 0) (of64 nb cs 0)) .held .codes) (from-place (64 * i) 64 hc)) j)
+  taken-at hn hc nb′ cs′ en ec = λ j. record {
+    n = 64;
+    neighbours = (en ∙ ap (λ w. (merged (bit own) (of64 w cs 0) (of64 nb cs 0)) .held .neighbours) (from-place (64 * i) 64 hn)) j;
+    codes = (ec ∙ ap (λ w. (merged (bit own) (of64 nb w 0) (of64 nb cs 0)) .held .codes) (from-place (64 * i) 64 hc)) j;
+  }

@@ -7,7 +7,7 @@ use lib.Dec.{eqb}
 use lib.ListN.{getD}
 use Rattle.buffers.proofs.Tabulate.{tabulate-cong}
 use Rattle.parties.specs.Masks.{crosses, inParty, masked, merged, reachesOut}
-use Rattle.operations.specs.Used.{UsedRecord, usedRecord}
+use Rattle.operations.specs.Used.{UsedRecord}
 use Rattle.words.proofs.Complement.{word-of}
 use Rattle.words.proofs.BitLaws.{and-lt-right, bit-and, bit-or, bit-wordOf, word-cong}
 use Rattle.words.proofs.Finite.{bits}
@@ -53,10 +53,24 @@ module _ (own : ℕ) (s : Word) (e : own ≡ wordOf 64 s) where
   at-own n z q l = own-bit q (subst (λ m. q < m) z l)
 
   pub masked-own : (u : UsedRecord) → u .held .n ≡ 64 → masked (bit own) u ≡ masked s u
-  masked-own u z = λ j. usedRecord (u .held .n) (tabulate-cong (u .held .n) _ _ (λ q l. ap (λ b. cond b (getD (u .held .neighbours) q 0) 0) (at-own _ z q l)) j) (tabulate-cong (u .held .n) _ _ (λ q l. ap (λ b. cond b (getD (u .held .codes) q 0) 8) (at-own _ z q l)) j) (word-cong (u .held .n) _ _ (λ q l. ap (λ b. b && bit (u .used) q) (at-own _ z q l)) j)
+  masked-own u z = λ j. record {
+    held = record {
+      n = u .held .n;
+      neighbours = tabulate-cong (u .held .n) _ _ (λ q l. ap (λ b. cond b (getD (u .held .neighbours) q 0) 0) (at-own _ z q l)) j;
+      codes = tabulate-cong (u .held .n) _ _ (λ q l. ap (λ b. cond b (getD (u .held .codes) q 0) 8) (at-own _ z q l)) j;
+    };
+    used = word-cong (u .held .n) _ _ (λ q l. ap (λ b. b && bit (u .used) q) (at-own _ z q l)) j;
+  }
 
   pub merged-own : (a u : UsedRecord) → u .held .n ≡ 64 → merged (bit own) a u ≡ merged s a u
-  merged-own a u z = λ j. usedRecord (u .held .n) (tabulate-cong (u .held .n) _ _ (λ q l. ap (λ b. cond b (getD (a .held .neighbours) q 0) (getD (u .held .neighbours) q 0)) (at-own _ z q l)) j) (tabulate-cong (u .held .n) _ _ (λ q l. ap (λ b. cond b (getD (a .held .codes) q 0) (getD (u .held .codes) q 0)) (at-own _ z q l)) j) (word-cong (u .held .n) _ _ (λ q l. ap (λ b. cond b (bit (a .used) q) (bit (u .used) q)) (at-own _ z q l)) j)
+  merged-own a u z = λ j. record {
+    held = record {
+      n = u .held .n;
+      neighbours = tabulate-cong (u .held .n) _ _ (λ q l. ap (λ b. cond b (getD (a .held .neighbours) q 0) (getD (u .held .neighbours) q 0)) (at-own _ z q l)) j;
+      codes = tabulate-cong (u .held .n) _ _ (λ q l. ap (λ b. cond b (getD (a .held .codes) q 0) (getD (u .held .codes) q 0)) (at-own _ z q l)) j;
+    };
+    used = word-cong (u .held .n) _ _ (λ q l. ap (λ b. cond b (bit (a .used) q) (bit (u .used) q)) (at-own _ z q l)) j;
+  }
 
   pub reaches-own : (u : UsedRecord) → u .held .n ≡ 64 → reachesOut (bit own) u ≡ reachesOut s u
   unfolding reachesOut

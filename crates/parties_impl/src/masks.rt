@@ -38,7 +38,9 @@ fn pick_byte(word: u64, q: usize, a: u8, b: u8) -> u8
 pub fn mask(own: u64, neighbours: &[u64], codes: &[u8], words: &mut [u64], bytes: &mut [u8])
     requires { ⌜ (length (now neighbours) ≡ 64) × (length (now codes) ≡ 64) ⌝ }
     requires { ⌜ (length (now words) ≡ 64) × (length (now bytes) ≡ 64) ⌝ }
-    ensures { λ r. ⌜ (now (words .exit) ≡ (masked (bit own) (usedRecord 64 (now (neighbours .entry)) (now (codes .entry)) 0)) .held .neighbours) × (now (bytes .exit) ≡ (masked (bit own) (usedRecord 64 (now (neighbours .entry)) (now (codes .entry)) 0)) .held .codes) ⌝ }
+    ensures { λ r. ⌜ (now (words .exit) ≡ (masked (bit own) (usedRecord 64 (now (neighbours .entry))
+        (now (codes .entry)) 0)) .held .neighbours) × (now (bytes .exit) ≡ (masked (bit own) (usedRecord 64
+        (now (neighbours .entry)) (now (codes .entry)) 0)) .held .codes) ⌝ }
 {
     let mut q = 0;
     while q < 64 {
@@ -52,7 +54,10 @@ pub fn mask(own: u64, neighbours: &[u64], codes: &[u8], words: &mut [u64], bytes
 pub fn merge(own: u64, words: &[u64], bytes: &[u8], neighbours: &mut [u64], codes: &mut [u8])
     requires { ⌜ (length (now words) ≡ 64) × (length (now bytes) ≡ 64) ⌝ }
     requires { ⌜ (length (now neighbours) ≡ 64) × (length (now codes) ≡ 64) ⌝ }
-    ensures { λ r. ⌜ (now (neighbours .exit) ≡ (merged (bit own) (usedRecord 64 (now (words .entry)) (now (bytes .entry)) 0) (usedRecord 64 (now (neighbours .entry)) (now (codes .entry)) 0)) .held .neighbours) × (now (codes .exit) ≡ (merged (bit own) (usedRecord 64 (now (words .entry)) (now (bytes .entry)) 0) (usedRecord 64 (now (neighbours .entry)) (now (codes .entry)) 0)) .held .codes) ⌝ }
+    ensures { λ r. ⌜ (now (neighbours .exit) ≡ (merged (bit own) (usedRecord 64 (now (words .entry))
+        (now (bytes .entry)) 0) (usedRecord 64 (now (neighbours .entry)) (now (codes .entry)) 0)) .held .neighbours) ×
+        (now (codes .exit) ≡ (merged (bit own) (usedRecord 64 (now (words .entry)) (now (bytes .entry)) 0)
+        (usedRecord 64 (now (neighbours .entry)) (now (codes .entry)) 0)) .held .codes) ⌝ }
 {
     let mut q = 0;
     while q < 64 {

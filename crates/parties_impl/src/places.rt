@@ -84,7 +84,14 @@ pub fn take_merged(
     requires { ⌜ (length (now neighbours) ≡ 64) × (length (now codes) ≡ 64) ⌝ }
     ensures { λ r. ⌜ _≡_ {A = LentRecord}
         (lentRecord 64 (now (neighbours .exit)) (now (codes .exit)))
-        ((merged (bit own) (usedRecord 64 (partAt i 64 (now («held_neighbours» .entry))) (partAt i 64 (now («held_codes» .entry))) 0) (usedRecord 64 (now (neighbours .entry)) (now (codes .entry)) 0)) .held) ⌝ }
+        ((merged (bit own) (record {
+          held = record {
+            n = 64;
+            neighbours = partAt i 64 (now («held_neighbours» .entry));
+            codes = partAt i 64 (now («held_codes» .entry));
+          };
+          used = 0;
+        }) (usedRecord 64 (now (neighbours .entry)) (now (codes .entry)) 0)) .held) ⌝ }
 {
     let at = 64 * i;
     let end = at + 64;

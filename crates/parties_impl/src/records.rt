@@ -36,7 +36,8 @@ pub fn party_refusal(
     six: bool,
     other: bool,
 ) -> u8
-    ensures { λ r. ⌜ r ≡ firstFitting (beforeEight word party (usedRecord n (now (neighbours .entry)) (now (codes .entry)) used) six other) ⌝ }
+    ensures { λ r. ⌜ r ≡ firstFitting (beforeEight word party (usedRecord n (now (neighbours .entry))
+        (now (codes .entry)) used) six other) ⌝ }
 {
     if n != 64 {
         return 2;
@@ -64,7 +65,8 @@ pub fn take_party(
 ) -> u64
     requires { ⌜ (length (now neighbours) ≡ 64) × (length (now codes) ≡ 64) ⌝ }
     requires { ⌜ (length (now words) ≡ 64) × (length (now bytes) ≡ 64) ⌝ }
-    ensures { λ r. ⌜ usedRecord 64 (now (words .exit)) (now (bytes .exit)) r ≡ masked (inParty word party) (usedRecord 64 (now (neighbours .entry)) (now (codes .entry)) used) ⌝ }
+    ensures { λ r. ⌜ usedRecord 64 (now (words .exit)) (now (bytes .exit)) r ≡ masked (inParty word party)
+        (usedRecord 64 (now (neighbours .entry)) (now (codes .entry)) used) ⌝ }
 {
     let own = own_word(word, party);
     mask(own, neighbours, codes, words, bytes);

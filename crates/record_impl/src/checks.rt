@@ -92,7 +92,8 @@ pub fn record_number(
     six: bool,
 ) -> u8
     requires { ⌜ Looked looked (now codes) over ⌝ }
-    ensures { λ r. ⌜ r ≡ firstFitting (recordLines (lentRecord n (now (neighbours .entry)) (now (codes .entry))) others six) ⌝ }
+    ensures { λ r. ⌜ r ≡ firstFitting (recordLines (lentRecord n (now (neighbours .entry)) (now (codes .entry)))
+        others six) ⌝ }
 {
     if bad_count(n) {
         return 2;
@@ -115,7 +116,8 @@ pub fn record_number(
 
 // The same, where the codes have not been looked at.
 pub fn record_refusal(n: u64, neighbours: &[u64], codes: &[u8], others: bool, six: bool) -> u8
-    ensures { λ r. ⌜ r ≡ firstFitting (recordLines (lentRecord n (now (neighbours .entry)) (now (codes .entry))) others six) ⌝ }
+    ensures { λ r. ⌜ r ≡ firstFitting (recordLines (lentRecord n (now (neighbours .entry)) (now (codes .entry)))
+        others six) ⌝ }
 {
     record_number(n, neighbours, codes, others, false, false, six)
 }

@@ -43,9 +43,12 @@ pub fn expand_into(
     requires { ⌜ (n ≤ 64) × (length (now neighbours) ≡ n) × (length (now codes) ≡ n) ⌝ }
     requires { ⌜ ((q : ℕ) → getD (now codes) q 0 < 24) × ((j : ℕ) → getD (now neighbours) j 0 < 2 ^ n) ⌝ }
     requires { ⌜ (length (now signs) ≡ n) × (length (now z) ≡ n) × (length (now x) ≡ n) ⌝ }
-    ensures { λ r. ⌜ now (signs .exit) ≡ (listOf n (heldRows (lentRecord n (now (neighbours .entry)) (now (codes .entry))))) .signs ⌝ }
-    ensures { λ r. ⌜ now (z .exit) ≡ (listOf n (heldRows (lentRecord n (now (neighbours .entry)) (now (codes .entry))))) .z ⌝ }
-    ensures { λ r. ⌜ now (x .exit) ≡ (listOf n (heldRows (lentRecord n (now (neighbours .entry)) (now (codes .entry))))) .x ⌝ }
+    ensures { λ r. ⌜ now (signs .exit) ≡ (listOf n (heldRows (lentRecord n (now (neighbours .entry))
+        (now (codes .entry))))) .signs ⌝ }
+    ensures { λ r. ⌜ now (z .exit) ≡ (listOf n (heldRows (lentRecord n (now (neighbours .entry))
+        (now (codes .entry))))) .z ⌝ }
+    ensures { λ r. ⌜ now (x .exit) ≡ (listOf n (heldRows (lentRecord n (now (neighbours .entry))
+        (now (codes .entry))))) .x ⌝ }
 {
     let by = action_of(codes);
     let mut j = 0;

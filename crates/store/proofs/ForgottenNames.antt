@@ -10,7 +10,7 @@ use lib.Dec.{eqb}
 use lib.ListN.{getD, length-set, set}
 use lib.Seq.{getD-set-other, getD-set-same}
 use Rattle.buffers.specs.Refusals.{firstFitting}
-use Rattle.operations.specs.Used.{usedLines, usedRecord}
+use Rattle.operations.specs.Used.{usedLines}
 use Rattle.words.proofs.Flags.{both-true}
 use Rattle.words.proofs.SearchLaws.{some-none, some-true}
 use Rattle.words.specs.Search.{IsFirst}
@@ -53,7 +53,14 @@ module _ (k : ℕ) (st : Store) (P : Passing k st) (name p : ℕ) (T : TakenFor 
   kept-name m i h = ap₂ (λ c n. not (eqb c 0) && eqb n m) (kept-count i h) (kept-word (3 * i + 1) (λ e. omega (arith, e)))
 
   kept-place : (i : ℕ) → (i ≡ p → ⊥) → placeAt freed i ≡ placeAt st i
-  kept-place i h = λ j. usedRecord (kept-count i h j) (partAt i (kept-count i h j) (st .neighbours)) (partAt i (kept-count i h j) (st .codes)) (kept-word (3 * i + 2) (λ e. omega (arith, e)) j)
+  kept-place i h = λ j. record {
+    held = record {
+      n = kept-count i h j;
+      neighbours = partAt i (kept-count i h j) (st .neighbours);
+      codes = partAt i (kept-count i h j) (st .codes);
+    };
+    used = kept-word (3 * i + 2) (λ e. omega (arith, e)) j;
+  }
 
   freed-lookup : (m : ℕ) → lookup k freed m ≡ cond (eqb m name) nothing (lookup k st m)
   freed-lookup m = by-name m name

@@ -10,7 +10,7 @@ use lib.ListN.{getD, length}
 use borrow.Author.Tests.{eq-eqb, ne-eqb}
 use Rattle.buffers.specs.Refusals.{firstFitting}
 use Rattle.record.specs.Accepted.{AcceptedRecord}
-use Rattle.operations.specs.Used.{usedLines, UsedRecord, usedRecord}
+use Rattle.operations.specs.Used.{usedLines, UsedRecord}
 use Rattle.words.proofs.Flags.{both-true}
 use Rattle.words.proofs.SearchLaws.{first-unique, some-in, some-true}
 use Rattle.words.specs.Search.{first, some}
@@ -114,7 +114,14 @@ module _ (k : ℕ) (st : Store) (P : Passing k st) (u : UsedRecord) (passes : fi
   count-own = headed-count p (u .held .n) name (u .used) (st .heads) head
 
   place-own : placeAt after p ≡ u
-  place-own = λ j. usedRecord (count-own j) ((ap (λ m. partAt p m (after .neighbours)) (count-own ∙ sym (A .neighbours-length)) ∙ placed-own p (u .held .neighbours) (st .neighbours) few-words words) j) ((ap (λ m. partAt p m (after .codes)) (count-own ∙ sym (A .codes-length)) ∙ placed-own p (u .held .codes) (st .codes) few-bytes bytes) j) (headed-used p (u .held .n) name (u .used) (st .heads) head j)
+  place-own = λ j. record {
+    held = record {
+      n = count-own j;
+      neighbours = (ap (λ m. partAt p m (after .neighbours)) (count-own ∙ sym (A .neighbours-length)) ∙ placed-own p (u .held .neighbours) (st .neighbours) few-words words) j;
+      codes = (ap (λ m. partAt p m (after .codes)) (count-own ∙ sym (A .codes-length)) ∙ placed-own p (u .held .codes) (st .codes) few-bytes bytes) j;
+    };
+    used = headed-used p (u .held .n) name (u .used) (st .heads) head j;
+  }
 
   held-own : isHeld (after .heads) p ≡ true
   held-own = ap not (ne-eqb (countAt (after .heads) p) 0
@@ -136,7 +143,14 @@ module _ (k : ℕ) (st : Store) (P : Passing k st) (u : UsedRecord) (passes : fi
   name-other m i h = ap₂ (λ c n. not (eqb c 0) && eqb n m) (count-other i h) (word-other i 1 (omega arith) h)
 
   place-other : (i : ℕ) → (i ≡ p → ⊥) → countAt (st .heads) i ≤ 64 → placeAt after i ≡ placeAt st i
-  place-other i h few = λ j. usedRecord (count-other i h j) ((ap (λ m. partAt i m (after .neighbours)) (count-other i h) ∙ placed-other p (u .held .neighbours) (st .neighbours) few-words words i (countAt (st .heads) i) h few) j) ((ap (λ m. partAt i m (after .codes)) (count-other i h) ∙ placed-other p (u .held .codes) (st .codes) few-bytes bytes i (countAt (st .heads) i) h few) j) (word-other i 2 (omega arith) h j)
+  place-other i h few = λ j. record {
+    held = record {
+      n = count-other i h j;
+      neighbours = (ap (λ m. partAt i m (after .neighbours)) (count-other i h) ∙ placed-other p (u .held .neighbours) (st .neighbours) few-words words i (countAt (st .heads) i) h few) j;
+      codes = (ap (λ m. partAt i m (after .codes)) (count-other i h) ∙ placed-other p (u .held .codes) (st .codes) few-bytes bytes i (countAt (st .heads) i) h few) j;
+    };
+    used = word-other i 2 (omega arith) h j;
+  }
 
   few-of : (i : ℕ) → i < k → isHeld (st .heads) i ≡ true → countAt (st .heads) i ≤ 64
   few-of i li h = held-record (placeAt st i) (P .records i li h) .upto

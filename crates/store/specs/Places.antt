@@ -4,7 +4,7 @@ use mathlib.Core.List.{List}
 use Prim.Native.Nat.{_*_, _+_, ℕ}
 use lib.Dec.{eqb}
 use lib.ListN.{drop, getD, take}
-use Rattle.operations.specs.Used.{UsedRecord, usedRecord}
+use Rattle.operations.specs.Used.{UsedRecord}
 use Rattle.words.specs.Search.{every, first, some}
 
 -- "Up to eight records are held, each under an eight-byte name". Each place has three words among the heads: its n,
@@ -33,7 +33,14 @@ partAt i n buffer = take n (drop (64 * i) buffer)
 -- "the whole record, its n and used word included"
 abbrev pub placeAt : Store → ℕ → UsedRecord
 placeAt st i =
-    usedRecord (countAt (st .heads) i) (partAt i (countAt (st .heads) i) (st .neighbours)) (partAt i (countAt (st .heads) i) (st .codes)) (getD (st .heads) (3 * i + 2) 0)
+    record {
+      held = record {
+        n = countAt (st .heads) i;
+        neighbours = partAt i (countAt (st .heads) i) (st .neighbours);
+        codes = partAt i (countAt (st .heads) i) (st .codes);
+      };
+      used = getD (st .heads) (3 * i + 2) 0;
+    }
 
 -- ---- names
 -- place i holds a record under the name

@@ -49,7 +49,9 @@ pub fn wrong_lengths(k: usize, heads: &[u64], neighbours: &[u64], codes: &[u8]) 
 // The number of the record in the first n of 64 places; 0 where n is 0.
 fn held_number(n: u64, used: u64, neighbours: &[u64], codes: &[u8]) -> u8
     requires { ⌜ (n ≤ 64) × (length (now neighbours) ≡ 64) × (length (now codes) ≡ 64) ⌝ }
-    ensures { λ r. ⌜ r ≡ cond (not (eqb n 0)) (firstFitting (usedLines (usedRecord n (take n (now (neighbours .entry))) (take n (now (codes .entry))) used) false false false)) 0 ⌝ }
+    ensures { λ r. ⌜ r ≡ cond (not (eqb n 0))
+        (firstFitting (usedLines (usedRecord n (take n (now (neighbours .entry))) (take n (now (codes .entry))) used)
+        false false false)) 0 ⌝ }
 {
     if n == 0 {
         return 0;

@@ -16,7 +16,8 @@ pub extern "C" fn sukhlent_amplitude(
     im: &mut u64,
     p: &mut u64,
 ) -> u8
-    ensures { λ r. ⌜ Call (amplitudeCall (usedRecord n (now (neighbours .entry)) (now (codes .entry)) used) y (now (re .entry)) (now (im .entry)) (now (p .entry)) (now (re .exit)) (now (im .exit)) (now (p .exit))) r ⌝ }
+    ensures { λ r. ⌜ Call (amplitudeCall (usedRecord n (now (neighbours .entry)) (now (codes .entry)) used) y
+        (now (re .entry)) (now (im .entry)) (now (p .entry)) (now (re .exit)) (now (im .exit)) (now (p .exit))) r ⌝ }
 {
     call_readings::amplitudes::amplitude(n, neighbours, codes, used, y, re, im, p)
 }

@@ -111,11 +111,12 @@ pub extern "C" fn sukhlent_group_save(
     held_neighbours: &mut [u64],
     held_codes: &mut [u8],
 ) -> u8
-    ensures { λ r. ⌜ Call (partySaveCall word group (usedRecord n (now (neighbours .entry)) (now (codes .entry)) used) name (record {
-      heads = now (heads .entry);
-      neighbours = now («held_neighbours» .entry);
-      codes = now («held_codes» .entry);
-    }) (now (heads .exit)) (now («held_neighbours» .exit)) (now («held_codes» .exit))) r ⌝ }
+    ensures { λ r. ⌜ Call (partySaveCall word group (usedRecord n (now (neighbours .entry)) (now (codes .entry)) used)
+        name (record {
+          heads = now (heads .entry);
+          neighbours = now («held_neighbours» .entry);
+          codes = now («held_codes» .entry);
+        }) (now (heads .exit)) (now («held_neighbours» .exit)) (now («held_codes» .exit))) r ⌝ }
 {
     call_parties::stores::save(
         n,
@@ -145,11 +146,12 @@ pub extern "C" fn sukhlent_group_return(
     held_neighbours: &[u64],
     held_codes: &[u8],
 ) -> u8
-    ensures { λ r. ⌜ Call (partyReturnCall word group (usedRecord n (now (neighbours .entry)) (now (codes .entry)) (now (used .entry))) name (record {
-      heads = now (heads .entry);
-      neighbours = now («held_neighbours» .entry);
-      codes = now («held_codes» .entry);
-    }) (now (neighbours .exit)) (now (codes .exit)) (now (used .exit))) r ⌝ }
+    ensures { λ r. ⌜ Call (partyReturnCall word group (usedRecord n (now (neighbours .entry)) (now (codes .entry))
+        (now (used .entry))) name (record {
+          heads = now (heads .entry);
+          neighbours = now («held_neighbours» .entry);
+          codes = now («held_codes» .entry);
+        }) (now (neighbours .exit)) (now (codes .exit)) (now (used .exit))) r ⌝ }
 {
     call_parties::stores::return_to(
         n,
@@ -179,11 +181,12 @@ pub extern "C" fn sukhlent_group_forget(
     held_neighbours: &[u64],
     held_codes: &[u8],
 ) -> u8
-    ensures { λ r. ⌜ Call (partyForgetCall word group (usedRecord n (now (neighbours .entry)) (now (codes .entry)) used) name (record {
-      heads = now (heads .entry);
-      neighbours = now («held_neighbours» .entry);
-      codes = now («held_codes» .entry);
-    }) (now (heads .exit))) r ⌝ }
+    ensures { λ r. ⌜ Call (partyForgetCall word group (usedRecord n (now (neighbours .entry)) (now (codes .entry))
+        used) name (record {
+          heads = now (heads .entry);
+          neighbours = now («held_neighbours» .entry);
+          codes = now («held_codes» .entry);
+        }) (now (heads .exit))) r ⌝ }
 {
     call_parties::stores::forget(
         n,

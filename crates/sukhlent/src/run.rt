@@ -18,15 +18,16 @@ pub extern "C" fn sukhlent_run(
     outcomes: &mut [u8],
     determined: &mut [u8],
 ) -> u8
-    ensures { λ r. ⌜ Call (runCall (usedRecord n (now (neighbours .entry)) (now (codes .entry)) (now (used .entry))) (record {
-      ops = now (ops .entry);
-      a = now (a .entry);
-      b = now (b .entry);
-      value = now (value .entry);
-      refusals = now (refusals .entry);
-      outcomes = now (outcomes .entry);
-      determined = now (determined .entry);
-    }) (now (neighbours .exit)) (now (codes .exit)) (now (used .exit))
+    ensures { λ r. ⌜ Call (runCall (usedRecord n (now (neighbours .entry)) (now (codes .entry)) (now (used .entry)))
+        (record {
+          ops = now (ops .entry);
+          a = now (a .entry);
+          b = now (b .entry);
+          value = now (value .entry);
+          refusals = now (refusals .entry);
+          outcomes = now (outcomes .entry);
+          determined = now (determined .entry);
+        }) (now (neighbours .exit)) (now (codes .exit)) (now (used .exit))
         (now (refusals .exit)) (now (outcomes .exit)) (now (determined .exit))) r ⌝ }
 {
     call_run::run(

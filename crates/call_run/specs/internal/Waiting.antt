@@ -15,7 +15,11 @@ use Rattle.operations.specs.Used.{UsedRecord, UsedUnrefused}
 -- the record that is meant: where one is waiting to be reduced, the reduced record of its group
 abbrev pub meantRecord : Bool → LentRecord → LentRecord
 meantRecord waiting l =
-    lentRecord (l .n) (cond waiting (neighbourWords (l .n) (reduced (l .n) (heldRows l))) (l .neighbours)) (cond waiting (codeNumbers (l .n) (reduced (l .n) (heldRows l))) (l .codes))
+    record {
+      n = l .n;
+      neighbours = cond waiting (neighbourWords (l .n) (reduced (l .n) (heldRows l))) (l .neighbours);
+      codes = cond waiting (codeNumbers (l .n) (reduced (l .n) (heldRows l))) (l .codes);
+    }
 
 -- with its used word
 abbrev pub meant : Bool → UsedRecord → UsedRecord

@@ -13,7 +13,8 @@ pub fn amplitude_says(
     im: &mut u64,
     p: &mut u64,
 ) -> u8
-    ensures { λ r. ⌜ AmplitudeSays (usedRecord n (now (neighbours .entry)) (now (codes .entry)) used) y (now (re .entry)) (now (im .entry)) (now (p .entry)) (now (re .exit)) (now (im .exit)) (now (p .exit)) r ⌝ }
+    ensures { λ r. ⌜ AmplitudeSays (usedRecord n (now (neighbours .entry)) (now (codes .entry)) used) y
+        (now (re .entry)) (now (im .entry)) (now (p .entry)) (now (re .exit)) (now (im .exit)) (now (p .exit)) r ⌝ }
 {
     sukhlent_amplitude(n, neighbours, codes, used, y, re, im, p)
 }

@@ -106,11 +106,12 @@ pub fn group_save_says(
     held_neighbours: &mut [u64],
     held_codes: &mut [u8],
 ) -> u8
-    ensures { λ r. ⌜ GroupSaveSays word group (usedRecord n (now (neighbours .entry)) (now (codes .entry)) used) name (record {
-      heads = now (heads .entry);
-      neighbours = now («held_neighbours» .entry);
-      codes = now («held_codes» .entry);
-    }) (now (heads .exit)) (now («held_neighbours» .exit)) (now («held_codes» .exit)) r ⌝ }
+    ensures { λ r. ⌜ GroupSaveSays word group (usedRecord n (now (neighbours .entry)) (now (codes .entry)) used) name
+        (record {
+          heads = now (heads .entry);
+          neighbours = now («held_neighbours» .entry);
+          codes = now («held_codes» .entry);
+        }) (now (heads .exit)) (now («held_neighbours» .exit)) (now («held_codes» .exit)) r ⌝ }
 {
     sukhlent_group_save(
         n,
@@ -138,11 +139,12 @@ pub fn group_return_says(
     held_neighbours: &[u64],
     held_codes: &[u8],
 ) -> u8
-    ensures { λ r. ⌜ GroupReturnSays word group (usedRecord n (now (neighbours .entry)) (now (codes .entry)) (now (used .entry))) name (record {
-      heads = now (heads .entry);
-      neighbours = now («held_neighbours» .entry);
-      codes = now («held_codes» .entry);
-    }) (now (neighbours .exit)) (now (codes .exit)) (now (used .exit)) r ⌝ }
+    ensures { λ r. ⌜ GroupReturnSays word group (usedRecord n (now (neighbours .entry)) (now (codes .entry))
+        (now (used .entry))) name (record {
+          heads = now (heads .entry);
+          neighbours = now («held_neighbours» .entry);
+          codes = now («held_codes» .entry);
+        }) (now (neighbours .exit)) (now (codes .exit)) (now (used .exit)) r ⌝ }
 {
     sukhlent_group_return(
         n,
@@ -170,11 +172,12 @@ pub fn group_forget_says(
     held_neighbours: &[u64],
     held_codes: &[u8],
 ) -> u8
-    ensures { λ r. ⌜ GroupForgetSays word group (usedRecord n (now (neighbours .entry)) (now (codes .entry)) used) name (record {
-      heads = now (heads .entry);
-      neighbours = now («held_neighbours» .entry);
-      codes = now («held_codes» .entry);
-    }) (now (heads .exit)) r ⌝ }
+    ensures { λ r. ⌜ GroupForgetSays word group (usedRecord n (now (neighbours .entry)) (now (codes .entry)) used)
+        name (record {
+          heads = now (heads .entry);
+          neighbours = now («held_neighbours» .entry);
+          codes = now («held_codes» .entry);
+        }) (now (heads .exit)) r ⌝ }
 {
     sukhlent_group_forget(
         n,

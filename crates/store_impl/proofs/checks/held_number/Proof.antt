@@ -3,7 +3,7 @@ use mathlib.Core.Path.{sym}
 use lib.ListN.{take}
 use borrow.Author.Needs.{needs}
 use Rattle.buffers.proofs.Parts.{part-long}
-use Rattle.operations.specs.Used.{UsedRecord, usedRecord}
+use Rattle.operations.specs.Used.{UsedRecord}
 use Rattle.operations_checks.proofs.UsedNumbers.{no-further}
 use Rattle.store.proofs.StoreNumbers.{free-number, held-place-number}
 use Rattle.store_impl.proofs.checks.held_number.Statement.{statement}
@@ -12,7 +12,14 @@ use Rattle.store_impl.proofs.checks.held_number.Tie as tie
 -- the record in the first n places
 abbrev lent : tie.Start → UsedRecord
 lent S =
-    usedRecord (S .args .n) (take (S .args .n) (S .args .neighbours .now)) (take (S .args .n) (S .args .codes .now)) (S .args .used)
+    record {
+      held = record {
+        n = S .args .n;
+        neighbours = take (S .args .n) (S .args .neighbours .now);
+        codes = take (S .args .n) (S .args .codes .now);
+      };
+      used = S .args .used;
+    }
 
 returns : tie.Need-returns
 returns c = let S = c .before .before .before in free-number (lent S) (c .if1 .taken)
