@@ -20,7 +20,7 @@ abbrev pub bitsOf : Float → ℕ
 bitsOf = toBits binary64
 
 -- ---- sukhlent_amplitude: "three floats, real part, imaginary part and probability"
-abbrev pub amplitudeCall : UsedRecord → ℕ → ℕ → ℕ → ℕ → ℕ → ℕ → ℕ → Contract
+abbrev pub amplitudeCall : (u : UsedRecord) (y re im p re′ im′ p′ : ℕ) → Contract
 amplitudeCall u y re im p re′ im′ p′ =
     contractOf (amplitudeLines u y)
     (number re (bitsOf ((plotAt (u .held .n) (heldRows (u .held)) y) .re)) re′

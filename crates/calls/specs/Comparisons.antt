@@ -11,7 +11,8 @@ use Rattle.buffers.specs.Calls.{Contract, buffer, contractOf, number}
 use Rattle.stabilizer.specs.Lists.{GeneratorList, rows}
 
 -- ---- sukhlent_compare: the least choice, the complementation list and its count
-abbrev pub compareCall : GeneratorList → GeneratorList → List ℕ → List ℕ → ℕ → List ℕ → List ℕ → ℕ → Contract
+abbrev pub compareCall : (l m : GeneratorList) (choice list : List ℕ) (count : ℕ) (choice′ list′ : List ℕ)
+    (count′ : ℕ) → Contract
 compareCall l m choice list count choice′ list′ count′ =
     contractOf (compareLines l m choice list)
     (buffer choice (tabulate (l .n) (leastCode (l .n) (rows l) (rows m))) choice′

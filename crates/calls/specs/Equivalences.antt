@@ -14,7 +14,8 @@ use Rattle.stabilizer.specs.Lists.{GeneratorList, rows}
 use Rattle.calls.specs.RecordComparisons.{recordsLines}
 
 -- ---- sukhlent_equivalent: the least choice, the complementation list and its count
-abbrev pub equivalentCall : GeneratorList → GeneratorList → List ℕ → List ℕ → ℕ → List ℕ → List ℕ → ℕ → Contract
+abbrev pub equivalentCall : (l m : GeneratorList) (choice list : List ℕ) (count : ℕ) (choice′ list′ : List ℕ)
+    (count′ : ℕ) → Contract
 equivalentCall l m choice list count choice′ list′ count′ =
     contractOf (equivalentLines l m choice list)
     (buffer choice (tabulate (l .n) (leastCode (l .n) (rows l) (rows m))) choice′
@@ -27,7 +28,8 @@ equivalentRecordsLines l m chosen list =
     recordsLines l m chosen list ++ (line 13 (noChoice (l .n) (heldRows l) (heldRows m)) ∷ [])
 
 -- sukhlent_equivalent_records
-abbrev pub equivalentRecordsCall : LentRecord → LentRecord → List ℕ → List ℕ → ℕ → List ℕ → List ℕ → ℕ → Contract
+abbrev pub equivalentRecordsCall : (l m : LentRecord) (choice list : List ℕ) (count : ℕ) (choice′ list′ : List ℕ)
+    (count′ : ℕ) → Contract
 equivalentRecordsCall l m choice list count choice′ list′ count′ =
     contractOf (equivalentRecordsLines l m choice list)
     (buffer choice (tabulate (l .n) (leastCode (l .n) (heldRows l) (heldRows m))) choice′

@@ -12,7 +12,8 @@ use Rattle.words.specs.Bits.{digit}
 
 -- ---- sukhlent_image: "the image graph, one minus sign bit per vertex, and the list. Its count is the number of
 -- complementations done; the list's lent bytes past it keep their values"
-abbrev pub imageCall : LentRecord → List ℕ → List ℕ → List ℕ → ℕ → List ℕ → List ℕ → List ℕ → ℕ → Contract
+abbrev pub imageCall : (l : LentRecord) (image signs list : List ℕ) (count : ℕ) (image′ signs′ list′ : List ℕ)
+    (count′ : ℕ) → Contract
 imageCall l image signs list count image′ signs′ list′ count′ =
     contractOf (imageLines l image signs list)
     (buffer image (neighbourWords (l .n) (imageRecord (l .n) (heldRecord l))) image′

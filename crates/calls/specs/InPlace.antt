@@ -15,7 +15,8 @@ recordLent l o neighbours′ codes′ =
     ∷ buffer (l .codes) (codeNumbers (l .n) (made l o)) codes′ ∷ []
 
 -- the outcome of a measurement and whether it was determined, and the record
-abbrev pub measureLent : LentRecord → ℕ → ℕ → ℕ → ℕ → ℕ → List ℕ → List ℕ → ℕ → ℕ → List Lent
+abbrev pub measureLent : (l : LentRecord) (pauli q b answer determined : ℕ) (neighbours′ codes′ : List ℕ)
+    (answer′ determined′ : ℕ) → List Lent
 measureLent l pauli q b answer determined neighbours′ codes′ answer′ determined′ =
     number answer (outcomeNumber (measuredAnswer l pauli q b)) answer′
     ∷ number determined (determinedNumber (measuredAnswer l pauli q b)) determined′
@@ -27,7 +28,8 @@ abbrev pub usedCall : UsedRecord → Operation → List ℕ → List ℕ → Con
 usedCall u o neighbours′ codes′ = contractOf (usedLinesOf u o) (recordLent (u .held) o neighbours′ codes′)
 
 -- ---- sukhlent_measure: "an accepted measurement sets the qubit's bit"
-abbrev pub usedMeasureCall : UsedRecord → ℕ → ℕ → ℕ → ℕ → ℕ → List ℕ → List ℕ → ℕ → ℕ → ℕ → Contract
+abbrev pub usedMeasureCall : (u : UsedRecord) (pauli q b answer determined : ℕ) (neighbours′ codes′ : List ℕ)
+    (used′ answer′ determined′ : ℕ) → Contract
 usedMeasureCall u pauli q b answer determined neighbours′ codes′ used′ answer′ determined′ =
     contractOf (usedLinesOf u (measurementOf pauli q b))
     (number (u .used) (usedAfter u (measurementOf pauli q b)) used′
@@ -38,7 +40,8 @@ abbrev pub inPlaceCall : LentRecord → Operation → List ℕ → List ℕ → 
 inPlaceCall l o neighbours′ codes′ = contractOf (linesOf l o) (recordLent l o neighbours′ codes′)
 
 -- a measurement on the graph and the codes: its outcome and whether it was determined besides
-abbrev pub measureCall : LentRecord → ℕ → ℕ → ℕ → ℕ → ℕ → List ℕ → List ℕ → ℕ → ℕ → Contract
+abbrev pub measureCall : (l : LentRecord) (pauli q b answer determined : ℕ) (neighbours′ codes′ : List ℕ)
+    (answer′ determined′ : ℕ) → Contract
 measureCall l pauli q b answer determined neighbours′ codes′ answer′ determined′ =
     contractOf (linesOf l (measurementOf pauli q b))
     (measureLent l pauli q b answer determined neighbours′ codes′ answer′ determined′)

@@ -20,7 +20,8 @@ partyCall word g u o neighbours′ codes′ =
     contractOf (partyLines word g u o) (partyLent word g u o neighbours′ codes′)
 
 -- ---- sukhlent_group_measure: outcome and determined are those of the whole record
-abbrev pub partyMeasureCall : ℕ → ℕ → UsedRecord → ℕ → ℕ → ℕ → ℕ → ℕ → List ℕ → List ℕ → ℕ → ℕ → ℕ → Contract
+abbrev pub partyMeasureCall : (word g : ℕ) (u : UsedRecord) (pauli q b answer determined : ℕ)
+    (neighbours′ codes′ : List ℕ) (used′ answer′ determined′ : ℕ) → Contract
 partyMeasureCall word g u pauli q b answer determined neighbours′ codes′ used′ answer′ determined′ =
     contractOf (partyLines word g u (measurementOf pauli q b))
     (number (u .used) ((partyAfter word g u (measurementOf pauli q b)) .used) used′

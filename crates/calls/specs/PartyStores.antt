@@ -8,7 +8,7 @@ use Rattle.store.specs.Places.{Store}
 use Rattle.operations.specs.Used.{UsedRecord}
 
 -- ---- sukhlent_group_save
-abbrev pub partySaveCall : ℕ → ℕ → UsedRecord → ℕ → Store → List ℕ → List ℕ → List ℕ → Contract
+abbrev pub partySaveCall : (word g : ℕ) (u : UsedRecord) (name : ℕ) (st : Store) (heads′ nb′ cs′ : List ℕ) → Contract
 partySaveCall word g u name st heads′ nb′ cs′ =
     contractOf (partySaveLines word g u name st)
     (buffer (st .heads) ((partySaved word g u name st) .heads) heads′
@@ -16,7 +16,8 @@ partySaveCall word g u name st heads′ nb′ cs′ =
     ∷ buffer (st .codes) ((partySaved word g u name st) .codes) cs′ ∷ [])
 
 -- ---- sukhlent_group_return
-abbrev pub partyReturnCall : ℕ → ℕ → UsedRecord → ℕ → Store → List ℕ → List ℕ → ℕ → Contract
+abbrev pub partyReturnCall : (word g : ℕ) (u : UsedRecord) (name : ℕ) (st : Store) (neighbours′ codes′ : List ℕ)
+    (used′ : ℕ) → Contract
 partyReturnCall word g u name st neighbours′ codes′ used′ =
     contractOf (partyNamedLines word g u name st)
     (buffer (u .held .neighbours) ((partyReturned word g u name st) .held .neighbours) neighbours′

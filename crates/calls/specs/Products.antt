@@ -23,7 +23,7 @@ abbrev pub chosenProduct : GeneratorList → ℕ → Pauli
 chosenProduct l chosen = product (l .n) (l .n) (bit chosen) (rows l)
 
 -- ---- sukhlent_product: "the answer is the product and its phase", "a power of i from 0 to 3"
-abbrev pub productCall : GeneratorList → ℕ → ℕ → ℕ → ℕ → ℕ → ℕ → ℕ → Contract
+abbrev pub productCall : (l : GeneratorList) (chosen z x phase z′ x′ phase′ : ℕ) → Contract
 productCall l chosen z x phase z′ x′ phase′ =
     contractOf (productLines l chosen)
     (number z (wordOf (l .n) ((chosenProduct l chosen) .z)) z′

@@ -46,7 +46,8 @@ compareRecordsLines l m chosen list =
     ++ (line 3 (recordLargePart l || recordLargePart m) ∷ line 13 (noChoice (l .n) (heldRows l) (heldRows m)) ∷ [])
 
 -- ---- sukhlent_compare_records: the least choice, the complementation list and its count, of the records' generators
-abbrev pub compareRecordsCall : LentRecord → LentRecord → List ℕ → List ℕ → ℕ → List ℕ → List ℕ → ℕ → Contract
+abbrev pub compareRecordsCall : (l m : LentRecord) (choice list : List ℕ) (count : ℕ) (choice′ list′ : List ℕ)
+    (count′ : ℕ) → Contract
 compareRecordsCall l m choice list count choice′ list′ count′ =
     contractOf (compareRecordsLines l m choice list)
     (buffer choice (tabulate (l .n) (leastCode (l .n) (heldRows l) (heldRows m))) choice′

@@ -52,7 +52,8 @@ answersLent s answers refusals′ outcomes′ determined′ =
 
 -- ---- sukhlent_run: "each step's number stands in refusals, and a refused step changes nothing"; the record is what the
 -- steps leave, one after the other
-abbrev pub runCall : UsedRecord → LentSteps → List ℕ → List ℕ → ℕ → List ℕ → List ℕ → List ℕ → Contract
+abbrev pub runCall : (u : UsedRecord) (s : LentSteps) (neighbours′ codes′ : List ℕ) (used′ : ℕ)
+    (refusals′ outcomes′ determined′ : List ℕ) → Contract
 runCall u s neighbours′ codes′ used′ refusals′ outcomes′ determined′ =
     contractOf (runLines u s)
     (number (u .used) ((run u (stepsOf s)) .used) used′

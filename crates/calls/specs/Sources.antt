@@ -12,7 +12,8 @@ use Rattle.calls.specs.InPlace.{measureLent}
 
 -- ---- sukhlent_observe: "as `measure`, but where the state determines the outcome the bit is ignored and the state's sign
 -- is the answer": the lines of a measurement without 14, and the same answers
-abbrev pub observeCall : UsedRecord → ℕ → ℕ → ℕ → ℕ → ℕ → List ℕ → List ℕ → ℕ → ℕ → ℕ → Contract
+abbrev pub observeCall : (u : UsedRecord) (pauli q b answer determined : ℕ) (neighbours′ codes′ : List ℕ)
+    (used′ answer′ determined′ : ℕ) → Contract
 observeCall u pauli q b answer determined neighbours′ codes′ used′ answer′ determined′ =
     contractOf (usedArgumentsOf u (measurementOf pauli q b))
     (number (u .used) (usedAfter u (measurementOf pauli q b)) used′
@@ -27,7 +28,8 @@ renewCall u q k neighbours′ codes′ used′ =
     ∷ buffer (u .held .codes) ((renewed u q k) .held .codes) codes′ ∷ [])
 
 -- ---- sukhlent_group_observe: outcome and determined are those of the whole record
-abbrev pub partyObserveCall : ℕ → ℕ → UsedRecord → ℕ → ℕ → ℕ → ℕ → ℕ → List ℕ → List ℕ → ℕ → ℕ → ℕ → Contract
+abbrev pub partyObserveCall : (word g : ℕ) (u : UsedRecord) (pauli q b answer determined : ℕ)
+    (neighbours′ codes′ : List ℕ) (used′ answer′ determined′ : ℕ) → Contract
 partyObserveCall word g u pauli q b answer determined neighbours′ codes′ used′ answer′ determined′ =
     contractOf (partyObserveLines word g u pauli q b)
     (number (u .used) ((partyObserved word g u pauli q b) .used) used′
@@ -37,7 +39,8 @@ partyObserveCall word g u pauli q b answer determined neighbours′ codes′ use
     ∷ buffer (u .held .codes) ((partyObserved word g u pauli q b) .held .codes) codes′ ∷ [])
 
 -- ---- sukhlent_group_renew
-abbrev pub partyRenewCall : ℕ → ℕ → UsedRecord → ℕ → ℕ → List ℕ → List ℕ → ℕ → Contract
+abbrev pub partyRenewCall : (word g : ℕ) (u : UsedRecord) (q k : ℕ) (neighbours′ codes′ : List ℕ) (used′ : ℕ) →
+    Contract
 partyRenewCall word g u q k neighbours′ codes′ used′ =
     contractOf (partyRenewLines word g u q k)
     (number (u .used) ((renewed u q k) .used) used′

@@ -25,7 +25,8 @@ heldUnder name st = placeAt st (placeOf 8 (st .heads) name)
 
 -- ---- sukhlent_return: "Returning brings back the whole record, its n and used word included", into buffers of 64
 -- places, so that another n fits; those past its n keep their values
-abbrev pub returnCall : ℕ → Store → ℕ → List ℕ → List ℕ → ℕ → ℕ → List ℕ → List ℕ → ℕ → Contract
+abbrev pub returnCall : (name : ℕ) (st : Store) (n : ℕ) (nb cs : List ℕ) (used n′ : ℕ) (nb′ cs′ : List ℕ) (used′ : ℕ)
+    → Contract
 returnCall name st n nb cs used n′ nb′ cs′ used′ =
     contractOf (namedLines 8 name st (otherThan 64 nb || otherThan 64 cs))
     (number n ((heldUnder name st) .held .n) n′

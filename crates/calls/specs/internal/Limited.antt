@@ -18,7 +18,8 @@ abbrev pub comparingLines : Bool → GeneratorList → GeneratorList → List Re
 comparingLines limited l m =
     limitLines limited (hasLargePart l || hasLargePart m) ++ (line 13 (noChoice (l .n) (rows l) (rows m)) ∷ [])
 
-abbrev pub comparingCall : Bool → GeneratorList → GeneratorList → List ℕ → List ℕ → ℕ → List ℕ → List ℕ → ℕ → Contract
+abbrev pub comparingCall : (limited : Bool) (l m : GeneratorList) (choice list : List ℕ) (count : ℕ)
+    (choice′ list′ : List ℕ) (count′ : ℕ) → Contract
 comparingCall limited l m choice list count choice′ list′ count′ =
     contractOf (pairLines l m choice list ++ comparingLines limited l m)
     (buffer choice (tabulate (l .n) (leastCode (l .n) (rows l) (rows m))) choice′
@@ -30,7 +31,8 @@ comparingRecordsLines limited l m =
     limitLines limited (recordLargePart l || recordLargePart m)
     ++ (line 13 (noChoice (l .n) (heldRows l) (heldRows m)) ∷ [])
 
-abbrev pub comparingRecordsCall : Bool → LentRecord → LentRecord → List ℕ → List ℕ → ℕ → List ℕ → List ℕ → ℕ → Contract
+abbrev pub comparingRecordsCall : (limited : Bool) (l m : LentRecord) (choice list : List ℕ) (count : ℕ)
+    (choice′ list′ : List ℕ) (count′ : ℕ) → Contract
 comparingRecordsCall limited l m choice list count choice′ list′ count′ =
     contractOf (recordsLines l m choice list ++ comparingRecordsLines limited l m)
     (buffer choice (tabulate (l .n) (leastCode (l .n) (heldRows l) (heldRows m))) choice′
