@@ -1,4 +1,4 @@
-"""Archives that are the same bytes each time: entries by name, one time, no owners."""
+"""Archives that are the same bytes each time: entries by name, one time, no owner of this machine."""
 
 import gzip
 import io
@@ -19,26 +19,27 @@ def _folders(entries):
     return names
 
 
-def _head(name, time, mode, kind):
+def _head(name, time, mode, kind, owner):
     head = tarfile.TarInfo(name)
     head.mtime, head.mode, head.type = time, mode, kind
+    head.uname = head.gname = owner
     return head
 
 
-def tarred(entries, time, top="", folders=False):
-    """A tar of entries, each below `top`; with the folders too where a reader wants them."""
+def tarred(entries, time, top, folders=False, owner=""):
+    """A tar of entries, each below `top`; with the folders too, and a name of their owner, where a reader wants them."""
     raw = io.BytesIO()
     with tarfile.open(fileobj=raw, mode="w", format=tarfile.GNU_FORMAT) as archive:
         for name in sorted(_folders(entries)) if folders else ():
-            archive.addfile(_head(f"{top}/{name}", time, 0o755, tarfile.DIRTYPE))
+            archive.addfile(_head(f"{top}/{name}", time, 0o755, tarfile.DIRTYPE, owner))
         for held in sorted(entries, key=lambda held: held.name):
             name = f"{top}/{held.name}"
             if held.link:
-                head = _head(name, time, 0o777, tarfile.SYMTYPE)
+                head = _head(name, time, 0o777, tarfile.SYMTYPE, owner)
                 head.linkname = held.link
                 archive.addfile(head)
             else:
-                head = _head(name, time, 0o755 if held.runs else 0o644, tarfile.REGTYPE)
+                head = _head(name, time, 0o755 if held.runs else 0o644, tarfile.REGTYPE, owner)
                 head.size = len(held.content)
                 archive.addfile(head, io.BytesIO(held.content))
     return raw.getvalue()

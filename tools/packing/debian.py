@@ -63,7 +63,7 @@ def _part(name, content, time):
 
 def packaged(files, said, time):
     """The package: the version of its form, its own data, its files."""
-    control = gzipped(tarred(_control(files, said), time, "."))
-    data = gzipped(tarred(files, time, ".", folders=True))
+    control = gzipped(tarred(_control(files, said), time, ".", owner="root"))
+    data = gzipped(tarred(files, time, ".", folders=True, owner="root"))
     parts = [("debian-binary", b"2.0\n"), ("control.tar.gz", control), ("data.tar.gz", data)]
     return b"!<arch>\n" + b"".join(_part(name, content, time) for name, content in parts)
