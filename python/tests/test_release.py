@@ -1,7 +1,9 @@
 """What `tools/release` makes: the same bytes in two folders, with sums and a manifest, and nothing of the machine in it."""
 
+import contextlib
 import importlib.machinery
 import importlib.util
+import io
 import os
 import re
 import subprocess
@@ -120,12 +122,14 @@ class Gate(unittest.TestCase):
 
     def test_it_is_run_here(self):
         self.gate_that_says("12 passed, 0 failed")
-        self.assertEqual(self.release.gate(None, True), "12 passed, 0 failed")
+        with contextlib.redirect_stderr(io.StringIO()) as said:
+            self.assertEqual(self.release.gate(None, True), "12 passed, 0 failed")
+        self.assertEqual(said.getvalue(), "some\n12 passed, 0 failed\n")
         self.assertEqual((self.root / "target" / "gate.log").read_text(), "some\n12 passed, 0 failed\n")
 
     def test_it_failed_here(self):
         self.gate_that_says("12 passed, 1 failed")
-        with self.assertRaisesRegex(self.release.Stopped, "does not end with"):
+        with self.assertRaisesRegex(self.release.Stopped, "does not end with"), contextlib.redirect_stderr(io.StringIO()):
             self.release.gate(None, True)
 
     def test_another_toolchain_than_the_one_of_the_readme_is_refused(self):

@@ -79,11 +79,12 @@ class Used(unittest.TestCase):
             self.assertEqual((top / "share/doc/sukhlent" / name).read_bytes(), (ROOT / name).read_bytes())
         self.assertIn(".TH SUKHLENT 3", (top / "share/man/man3/sukhlent.3").read_text())
 
-    def command(self, command):
+    def command(self, command, **more):
         """The command, and the programs below it."""
-        self.assertEqual(run(command, "--version", env=BARE, cwd="/"), f"sukhlent {VERSION}\n")
-        self.assertEqual(run(command, "reduce", input=STATES, env=BARE, cwd="/"), RECORD)
-        self.assertIn("y re im p", run(command, "amplitudes", input=STATES, env=BARE, cwd="/"))
+        there = {"env": {**BARE, **more}, "cwd": "/"}
+        self.assertEqual(run(command, "--version", **there), f"sukhlent {VERSION}\n")
+        self.assertEqual(run(command, "reduce", input=STATES, **there), RECORD)
+        self.assertIn("y re im p", run(command, "amplitudes", input=STATES, **there))
 
     def python(self, path, library):
         """The package on a path, with the extension and the library that is there."""
@@ -185,7 +186,8 @@ class Debian(Used):
 
     def dpkg(self, *words):
         """dpkg on an empty root, in which there is no python3 and no libc6."""
-        words = ["dpkg", f"--root={self.folder}", f"--log={self.folder}/log", "--force-depends", "--force-not-root", *words]
+        forced = ["--force-depends", "--force-not-root", "--force-script-chrootless"]
+        words = ["dpkg", f"--root={self.folder}", f"--log={self.folder}/log", *forced, *words]
         return run(*words, env={**BARE, "PATH": BARE["PATH"] + ":/usr/sbin:/sbin"})
 
     def setUp(self):
@@ -203,17 +205,19 @@ class Debian(Used):
         source = ROOT / "examples/c/record.c"
         program = self.linked("cc", source, self.usr, f"-Wl,-rpath,{self.usr}/lib")
         self.assertEqual(run(program), source.with_suffix(".out").read_text())
-        self.command(self.usr / "bin/sukhlent")
-        self.python(self.usr / "lib/python3/dist-packages", self.usr / "lib/libsukhlent.so")
+        packages = self.usr / "lib/python3/dist-packages"  # where Debian's python3 looks in its own root
+        self.command(self.usr / "bin/sukhlent", PYTHONPATH=str(packages))
+        self.python(packages, packages / "sukhlent/libsukhlent.so")
+        run(self.usr / "bin/sukhlent", "--version", env={**BARE, "PYTHONPATH": str(packages), "PYTHONDONTWRITEBYTECODE": ""})
+        self.assertTrue(list(self.usr.rglob("__pycache__")))
         self.dpkg("-r", "sukhlent")
-        left = [path for path in self.folder.rglob("*sukhlent*") if "var" not in path.parts]
-        self.assertEqual(left, [])
+        self.assertEqual([path for path in self.folder.rglob("*") if "usr" in path.relative_to(self.folder).parts], [])
 
     def test_it_says_what_it_needs_and_keeps_to_the_places_of_debian(self):
         self.assertEqual(run("dpkg-deb", "-f", self.package, "Package", "Version").split(), ["Package:", "sukhlent", "Version:", VERSION])
         self.assertRegex(run("dpkg-deb", "-f", self.package, "Depends"), r"^libc6 \(>= 2\.\d+\), python3 \(>= 3\.9\)$")
-        for name in ("share/doc/sukhlent/copyright", "share/zsh/vendor-completions/_sukhlent", "share/man/man1/sukhlent.1.gz"):
-            self.assertTrue((self.usr / name).is_file(), name)
+        for name in ("doc/sukhlent/copyright", "doc/sukhlent/changelog.gz", "zsh/vendor-completions/_sukhlent", "man/man1/sukhlent.1.gz"):
+            self.assertTrue((self.usr / "share" / name).is_file(), name)
         listed = run("dpkg-deb", "-c", self.package).splitlines()
         self.assertEqual({line.split()[1] for line in listed}, {"root/root"})
         if subprocess.run(["man", "--version"], capture_output=True, check=False).returncode == 0:

@@ -1,7 +1,7 @@
 """The files of an archive: a name, what it holds, and whether it runs, or where it points."""
 
 import os
-from dataclasses import dataclass, replace
+from dataclasses import dataclass
 
 
 @dataclass(frozen=True)
@@ -13,9 +13,6 @@ class Entry:
     runs: bool = False
     link: str = ""
 
-    def renamed(self, name):
-        return replace(self, name=name)
-
 
 def entry(name, path):
     """A file of the disk under a name."""
@@ -24,8 +21,8 @@ def entry(name, path):
     return Entry(name, path.read_bytes(), os.access(path, os.X_OK))
 
 
-def below(folder, left_out=()):
+def below(folder):
     """The files below a folder, by the names that they have there; Python's compiled ones are none."""
     found = [path for path in folder.rglob("*") if path.is_symlink() or path.is_file()]
     named = [(str(path.relative_to(folder)), path) for path in found if "__pycache__" not in path.parts]
-    return [entry(name, path) for name, path in sorted(named) if name not in left_out]
+    return [entry(name, path) for name, path in sorted(named)]
