@@ -51,11 +51,11 @@ class Session(Gates):
             of_type(start, State, "Session(path, start)")
         if whole(every, "a number of steps") < 1:
             raise ValueError(f"Session(path, start, every): a checkpoint after {every} steps, where 1 is the least")
-        self._path, self._every, self._flush = os.path.realpath(path), every, flush
+        self._path, self._called, self._every, self._flush = os.path.realpath(path), os.fspath(path), every, flush
         self._process, self._turn, self._file = os.getpid(), threading.Lock(), -1
         if start is None and not os.path.exists(self._path):
-            raise FileNotFoundError(errno.ENOENT, "no session is there, and no state to start one was given", str(path))
-        self._lock = _locked(self._path)
+            raise FileNotFoundError(errno.ENOENT, "no session is there, and no state to start one was given", self._called)
+        self._lock = _locked(self._path, self._called)
         try:
             self._open(start)
         except BaseException:
@@ -73,14 +73,14 @@ class Session(Gates):
         try:
             self._log = logs.read(raw)
         except Refusal as refusal:
-            raise Refusal(refusal.number, f"{self._path}: {refusal.where}") from None
+            raise Refusal(refusal.number, f"{self._called}: {refusal.where}") from None
         n = blocks.size(self._log.block)
         if start is not None and start.n != n:
-            raise ValueError(f"{self._path}: a session on {n} qubits, but the state to start with has {start.n}")
+            raise ValueError(f"{self._called}: a session on {n} qubits, but the state to start with has {start.n}")
         self._file = os.open(self._path, os.O_WRONLY | os.O_APPEND | os.O_CLOEXEC)
         if self._log.torn:
             os.ftruncate(self._file, self._log.length)
-            warnings.warn(f"{self._path}: the last line was torn, and is cut off: {self._log.torn!r}", RuntimeWarning, 4)
+            warnings.warn(f"{self._called}: the last line was torn, and is cut off: {self._log.torn!r}", RuntimeWarning, 4)
         files.flush(self._file)  # a process that was killed may have left lines that no disk has
         files.flush_folder(self._path)
 
@@ -359,15 +359,15 @@ class Session(Gates):
         return [tuple(answer) for answer in self._do(given)] if given else []  # type: ignore[misc]
 
 
-def _locked(path: str) -> int:
-    """The open lock file of a session; `BlockingIOError` where another has it."""
+def _locked(path: str, name: str) -> int:
+    """The open lock file of a session; `BlockingIOError` where another has it, with the name that was given."""
     file = os.open(path + ".lock", os.O_RDWR | os.O_CREAT | os.O_CLOEXEC, 0o666)
     try:
         fcntl.flock(file, fcntl.LOCK_EX | fcntl.LOCK_NB)
     except BaseException as error:
         os.close(file)
         if isinstance(error, BlockingIOError):
-            raise BlockingIOError(errno.EWOULDBLOCK, "the session is open elsewhere", path) from None
+            raise BlockingIOError(errno.EWOULDBLOCK, "the session is open elsewhere", name) from None
         raise
     return file
 
