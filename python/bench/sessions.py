@@ -2,10 +2,10 @@
 """Steps a second of a session at 64 qubits, beside a state that is kept nowhere: each step flushed, not flushed, and many
 flushed together. Prints the table of docs/SPEED.md. Needs tools/shared.
 
-    PYTHONPATH=python python3 python/bench/sessions.py FOLDER     # the folder says which disk; --quick: once, to see that it runs
+    PYTHONPATH=python python3 python/bench/sessions.py FOLDER     # the folder says which disk; --quick: once
 
 Half of the steps are gates, the others CZ, measurements with a bit by lot and new photons. Each figure is the best of five
-rounds.
+rounds, taken in turns.
 """
 
 import os
@@ -69,31 +69,33 @@ def flushes(folder, count):
     os.close(file)
 
 
-def rate(work, count):
-    """Steps a second, the best of some rounds."""
-    best = float("inf")
+def rates(works):
+    """Steps a second of each work, the best of some rounds, in which the works take turns."""
+    best = {name: 0.0 for name in works}
     for _ in range(1 if QUICK else 5):
-        with tempfile.TemporaryDirectory(dir=FOLDERS[0] if FOLDERS else None) as folder:
-            start = time.perf_counter()
-            work(folder)
-            best = min(best, time.perf_counter() - start)
-    return count / best
+        for name, (count, work) in works.items():
+            with tempfile.TemporaryDirectory(dir=FOLDERS[0] if FOLDERS else None) as folder:
+                start = time.perf_counter()
+                work(folder)
+                best[name] = max(best[name], count / (time.perf_counter() - start))
+    return best
 
 
 def main():
     many, few = (400, 40) if QUICK else (40960, 1000)
     steps = steps_of(many)
-    rows = [
-        ("a state, kept nowhere", rate(lambda folder: alone(steps), many)),
-        ("a session, not flushed", rate(lambda folder: kept(steps, folder, False, 1), many)),
-        ("a session, each step flushed", rate(lambda folder: kept(steps[:few], folder, True, 1), few)),
-        ("a session, runs of 100 steps, each run flushed", rate(lambda folder: kept(steps, folder, True, 100), many)),
-        ("a session, runs of 4,096 steps, each run flushed", rate(lambda folder: kept(steps, folder, True, 4096), many)),
-        ("a line of 40 bytes written and flushed, without the engine", rate(lambda folder: flushes(folder, few), few)),
-    ]
+    works = {
+        "a state, kept nowhere": (many, lambda folder: alone(steps)),
+        "a session, not flushed": (many, lambda folder: kept(steps, folder, False, 1)),
+        "a session, each step flushed": (few, lambda folder: kept(steps[:few], folder, True, 1)),
+        "a session, runs of 100 steps, each run flushed": (many, lambda folder: kept(steps, folder, True, 100)),
+        "a session, runs of 4,096 steps, each run flushed": (many, lambda folder: kept(steps, folder, True, 4096)),
+        "a line of 40 bytes written and flushed, without the engine": (few, lambda folder: flushes(folder, few)),
+    }
     print("| steps at 64 qubits from Python | a second |\n|---|---|")
-    for name, found in rows:
+    for name, found in rates(works).items():
         print(f"| {name} | {float(f'{found:.2g}'):,.0f} |")
+    print(f"\nload {os.getloadavg()[0]:.1f}, {os.cpu_count()} cores")
 
 
 if __name__ == "__main__":
