@@ -4,8 +4,8 @@ flushed together. Prints the table of docs/SPEED.md. Needs tools/shared.
 
     PYTHONPATH=python python3 python/bench/sessions.py FOLDER     # the folder says which disk; --quick: once
 
-Half of the steps are gates, the others CZ, measurements with a bit by lot and new photons. Each figure is the best of five
-rounds, taken in turns.
+Half of the steps are CZ, a quarter gates, the others measurements with a bit by lot and new photons. Each figure is the best
+of five rounds, taken in turns.
 """
 
 import os

@@ -5,6 +5,7 @@ from __future__ import annotations
 import fcntl
 import os
 import secrets
+from contextlib import suppress
 from pathlib import Path
 from typing import Callable, TypeVar, Union
 
@@ -52,11 +53,17 @@ def replace(path: Place, text: str, new: "str | None" = None) -> None:
         flush(file)
         os.rename(made, place)
     except BaseException:
-        os.unlink(made)
+        remove(made)
         raise
     finally:
         os.close(file)
     flush_folder(place)
+
+
+def remove(path: Place) -> None:
+    """Removes a file, where there is one."""
+    with suppress(FileNotFoundError):
+        os.unlink(path)
 
 
 def flush_folder(path: Place) -> None:

@@ -65,6 +65,7 @@ class Session(Gates):
     # ---- opening and closing
 
     def _open(self, start: "State | None") -> None:
+        files.remove(self._path + ".new")  # what a crash left of a checkpoint
         if not os.path.exists(self._path):
             assert start is not None
             files.replace(self._path, logs.head(0, 0, start._block).decode(), self._path + ".new")

@@ -51,8 +51,8 @@ def done(block: bytearray, step: Fields) -> Answer:
 
     >>> from sukhlent import blocks
     >>> block = blocks.made([0], [8], 0)
-    >>> done(block, Fields("observe", 0, 0, 1)), done(block, Fields("gate", 0, 0, 8)), done(block, Fields("renew", 0, 0, 0))
-    (Answer(refusal=0, outcome=1, determined=0), Answer(refusal=16, outcome=0, determined=0), Answer(refusal=0, outcome=0, determined=0))
+    >>> [tuple(done(block, Fields(op, 0, 0, value))) for op, value in (("observe", 1), ("gate", 8), ("renew", 0))]
+    [(0, 1, 0), (16, 0, 0), (0, 0, 0)]
     """
     unused, does = _DOES[step.op]
     return Answer(6, 0, 0) if unused(step) else does(block, step)

@@ -139,8 +139,8 @@ class Steps(InAFolder):
                          ("run", [(0, 0, 0)]), ("run", [("gate", 0, 0, 0)]), ("complement", 0.5)):  # fmt: skip
                 with self.assertRaises((TypeError, ValueError)):
                     getattr(session, call[0])(*call[1:])
-            self.assertEqual([made(session, ("run", given)) for given in ([(7, 0, 0, 0)], [(0, 0, 0, 0)] * 4097, [Step("h", 0, 0, 0)])],
-                             [6, 15, 1])  # fmt: skip
+            runs = ([(7, 0, 0, 0)], [(0, 0, 0, 0)] * 4097, [Step("h", 0, 0, 0)])
+            self.assertEqual([made(session, ("run", given)) for given in runs], [6, 15, 1])
             self.assertEqual((session.run([]), session.steps), ([], 0))
 
     def test_a_session_starts_and_goes_on(self):
@@ -157,6 +157,14 @@ class Steps(InAFolder):
             Session(self.path, 5)
         with self.assertRaises(ValueError):
             Session(self.path, start(), every=0)
+
+    def test_what_a_crash_left_of_a_checkpoint_is_removed(self):
+        with Session(self.path, start()) as session:
+            session.h(0)
+        Path(self.path + ".new").write_text("checkpoint steps qubits\n1 1")
+        with Session(self.path) as session:
+            self.assertEqual(session.steps, 1)
+        self.assertEqual(sorted(os.listdir(os.path.dirname(self.path))), ["run", "run.lock"])
 
     def test_one_session_at_a_time(self):
         with Session(self.path, start()):
