@@ -92,7 +92,8 @@ static inline sukhlent_record sukhlent_record_zeros(uint64_t n)
     return sukhlent_record_alike(n, SUKHLENT_GATE_H);
 }
 
-/* The graph state without edges: every qubit in +X. sukhlent_record_cz adds an edge. */
+/* The graph state without edges: every qubit in +X. sukhlent_record_cz on two of
+ * them joins them by an edge, and a second time takes it away. */
 static inline sukhlent_record sukhlent_record_plus(uint64_t n)
 {
     return sukhlent_record_alike(n, SUKHLENT_GATE_I);

@@ -7,7 +7,7 @@ use mathlib.Core.Path.{_≡_}
 use Prim.Native.Nat.{_<_, ℕ, _≤_}
 use lib.ListN.{getD, length, take}
 use Rattle.buffers.specs.Refusals.{firstFitting}
-use Rattle.jobs.specs.Answer.{ResponseTo as JobResponse, resultsOf}
+use Rattle.jobs.specs.Answer.{JobResponse, resultsOf}
 use Rattle.jobs.specs.Results.{Result, jobAnswer}
 use Rattle.jobs.specs.Text.{HasJobForm, JobTextOf}
 use Rattle.jobs.specs.Asked.{asked, numberOf}
@@ -16,7 +16,7 @@ use Rattle.jobs.specs.Runs.{recordAfter, run, started}
 use Rattle.jobs.specs.Standing.{StandsFor, StillRecord}
 use Rattle.jobs.specs.declared.Step.{Step}
 use Rattle.calls.specs.Lists.{checkLines}
-use Rattle.calls.specs.ListAnswers.{ResponseTo as ListResponse, listAnswer, listRead}
+use Rattle.calls.specs.ListAnswers.{ListResponse, listAnswer, listRead}
 use Rattle.operations.specs.Measurement.{pauliLetter, single}
 use Rattle.operations.specs.Steps.{Operation, complementOf, czOn, gateWith, measurementOf, pivotOf}
 use Rattle.pauli.specs.Pauli.{Pauli}

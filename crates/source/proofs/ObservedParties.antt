@@ -59,7 +59,7 @@ module _ (word g : ℕ) (u : UsedRecord) (pauli q b : ℕ) where
 
   pub record ObservedPasses : Type 0 where
     pub count : u .held .n ≡ 64
-    pub group : ltb 1 g ≡ false
+    pub party : ltb 1 g ≡ false
     pub no-crossing : crosses word u ≡ false
     pub own : outsider (inParty word g) 64 q ≡ false
     pub lines : firstFitting (usedArgumentsOf u (measurementOf pauli q b)) ≡ 0
@@ -70,10 +70,10 @@ module _ (word g : ℕ) (u : UsedRecord) (pauli q b : ℕ) where
         let P = party-passes word g u like (sym (ap firstFitting like-a-gate) ∙ z) in
         record {
           count = P .count;
-          group = P .group;
+          party = P .party;
           no-crossing = P .no-crossing;
           own = P .own;
-          lines = sym (lines-number word g u q (usedArgumentsOf u (measurementOf pauli q b)) (P .count) (P .group)
+          lines = sym (lines-number word g u q (usedArgumentsOf u (measurementOf pauli q b)) (P .count) (P .party)
               (P .no-crossing) (P .own)) ∙ z;
         }
 
@@ -81,7 +81,7 @@ module _ (word g : ℕ) (u : UsedRecord) (pauli q b : ℕ) where
     pub party-observed : firstFitting (partyLines word g u (measurementOf pauli q (answered u pauli q b))) ≡ 0
     party-observed =
         let P = observed-passes-party in
-        lines-number word g u q _ (P .count) (P .group) (P .no-crossing) (P .own)
+        lines-number word g u q _ (P .count) (P .party) (P .no-crossing) (P .own)
         ∙ observed-accepted u pauli q b (P .lines)
 
     -- the answer is that of the party's vertices alone

@@ -30,8 +30,8 @@ pub struct Record {
     pub neighbours: Vec<u64>,
     /// The code of each vertex: 4 times the class, plus 2 sx, plus sz.
     pub codes: Vec<u8>,
-    /// The used qubits, bit q for qubit q: an accepted measurement sets it, and no call may name the
-    /// qubit from then on. A used vertex has no neighbour and one of the codes 0, 2, 4, 6, 8, 10.
+    /// The used qubits, bit q for qubit q: an accepted measurement sets it, and until
+    /// `renew` no gate, cz, complement or measurement may name the qubit. A used vertex has no neighbour and one of the codes 0, 2, 4, 6, 8, 10.
     pub used: u64,
 }
 

@@ -1,11 +1,11 @@
 // Two groups on one record: what the request says of the calls of one group.
-use crate::parties::sukhlent_group_complement;
-use crate::parties::sukhlent_group_cz;
-use crate::parties::sukhlent_group_forget;
-use crate::parties::sukhlent_group_gate;
-use crate::parties::sukhlent_group_measure;
-use crate::parties::sukhlent_group_return;
-use crate::parties::sukhlent_group_save;
+use crate::groups::sukhlent_group_complement;
+use crate::groups::sukhlent_group_cz;
+use crate::groups::sukhlent_group_forget;
+use crate::groups::sukhlent_group_gate;
+use crate::groups::sukhlent_group_measure;
+use crate::groups::sukhlent_group_return;
+use crate::groups::sukhlent_group_save;
 ghost use Rattle.claims_parties.specs.Sentences.Parties.{GroupComplementSays, GroupCzSays, GroupForgetSays, GroupGateSays};
 ghost use Rattle.claims_parties.specs.Sentences.Parties.{GroupMeasureSays, GroupReturnSays, GroupSaveSays};
 ghost use Rattle.operations.specs.Used.{usedRecord};
