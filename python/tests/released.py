@@ -20,7 +20,7 @@ BUILT = ("bin", "staticlib", "cross/module.ll")
 
 def run(*command, **more):
     """What a command prints, where it ends well."""
-    done = subprocess.run([str(word) for word in command], capture_output=True, text=True, timeout=300, **more)
+    done = subprocess.run([str(word) for word in command], capture_output=True, text=True, timeout=600, **more)
     if done.returncode != 0:
         raise AssertionError(f"{command}: {done.returncode}\n{done.stdout}{done.stderr}")
     return done.stdout
