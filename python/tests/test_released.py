@@ -55,13 +55,13 @@ class Used(unittest.TestCase):
         run(compiler, source, *flags, *more, "-o", self.folder / "program")
         return self.folder / "program"
 
-    def by_cmake(self, text, top, *more):
-        """A build by CMake of what find_package finds below a folder, and first.c."""
+    def by_cmake(self, text, top, name, *more):
+        """A build by CMake, in a folder of this name, of what find_package finds below a folder, and first.c."""
         (self.folder / "first.c").write_text(SOURCE)
         (self.folder / "CMakeLists.txt").write_text(text)
-        run("cmake", "-S", self.folder, "-B", self.folder / "build", f"-DCMAKE_PREFIX_PATH={top}", *more, env=BARE)
-        run("cmake", "--build", self.folder / "build")
-        return self.folder / "build"
+        run("cmake", "-S", self.folder, "-B", self.folder / name, f"-DCMAKE_PREFIX_PATH={top}", *more, env=BARE)
+        run("cmake", "--build", self.folder / name)
+        return self.folder / name
 
     def examples(self, top, emulated, *more):
         """The examples for C and C++ print what is stored, with the shared and with the static library."""
@@ -108,12 +108,15 @@ class Archives(Used):
                 self.python(top / "share/sukhlent/python", top / "lib/libsukhlent.so")
 
     def test_each_is_found_by_cmake(self):
-        top = self.made.unpacked("-x86-64.tar.gz")
         classes = ROOT / "examples/cpp/record.cpp"
-        build = self.by_cmake(CMAKE.format(version=VERSION, classes=classes), top)
-        for name, due in (("shared", PRINTED), ("static", PRINTED), ("classes", classes.with_suffix(".out").read_text())):
-            self.assertEqual(run(build / name), due)
-        self.assertIn(str(top), run("ldd", build / "shared"))
+        due = {"shared": PRINTED, "static": PRINTED, "classes": classes.with_suffix(".out").read_text()}
+        for processor in ("x86-64", "x86-64-v3"):
+            with self.subTest(processor=processor):
+                top = self.made.unpacked(f"-{processor}.tar.gz")
+                build = self.by_cmake(CMAKE.format(version=VERSION, classes=classes), top, processor)
+                said = {name: run(ROOT / "tools/replay/emulate", processor, build / name) for name in due}
+                self.assertEqual(said, due)
+                self.assertIn(str(top), run("ldd", build / "shared"))
 
     def test_the_one_for_v3_has_another_library(self):
         plain, v3 = (self.made.unpacked(f"-{name}.tar.gz") for name in ("x86-64", "x86-64-v3"))
@@ -144,7 +147,7 @@ class Arm(Used):
 
     def test_it_is_found_by_cmake(self):
         words = ["-DCMAKE_SYSTEM_NAME=Linux", "-DCMAKE_SYSTEM_PROCESSOR=aarch64", "-DCMAKE_C_COMPILER=aarch64-linux-gnu-gcc"]
-        build = self.by_cmake(IN_C, self.top, *words)
+        build = self.by_cmake(IN_C, self.top, "aarch64", *words)
         for name in ("shared", "static"):
             self.assertEqual(run(*self.emulated, build / name), PRINTED)
 
