@@ -67,7 +67,8 @@ class Made:
 
     def file(self, ending):
         """A file of the release, by how its name ends behind the version."""
-        (found,) = (path for path in self.folders[0].iterdir() if re.fullmatch(rf"sukhlent[-_]{VERSION}{ending}", path.name))
+        name = re.compile(rf"sukhlent[-_]{re.escape(VERSION)}{ending}")
+        (found,) = (path for path in self.folders[0].iterdir() if name.fullmatch(path.name))
         return found
 
     def unpacked(self, ending):
