@@ -20,7 +20,7 @@ BUILT = ("bin", "staticlib", "cross/module.ll")
 
 def run(*command, **more):
     """What a command prints, where it ends well."""
-    done = subprocess.run([str(word) for word in command], capture_output=True, text=True, timeout=300, **more)
+    done = subprocess.run([str(word) for word in command], capture_output=True, text=True, timeout=600, **more)
     if done.returncode != 0:
         raise AssertionError(f"{command}: {done.returncode}\n{done.stdout}{done.stderr}")
     return done.stdout
@@ -67,7 +67,8 @@ class Made:
 
     def file(self, ending):
         """A file of the release, by how its name ends behind the version."""
-        (found,) = (path for path in self.folders[0].iterdir() if re.fullmatch(rf"sukhlent[-_]{VERSION}{ending}", path.name))
+        name = re.compile(rf"sukhlent[-_]{re.escape(VERSION)}{ending}")
+        (found,) = (path for path in self.folders[0].iterdir() if name.fullmatch(path.name))
         return found
 
     def unpacked(self, ending):

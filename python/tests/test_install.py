@@ -210,20 +210,23 @@ class Install(unittest.TestCase):
 
     def test_the_shells_complete_commands_options_and_files(self):
         """bash, zsh and fish, after the line that tools/install prints for each, all to the same."""
-        needed = subprocess.run([str(ROOT / "tools/needed"), "--install", "shells"], capture_output=True, text=True, timeout=600)
+        words = [str(ROOT / "tools/needed"), "--install", "shells"]
+        needed = subprocess.run(words, capture_output=True, text=True, timeout=600)
         self.assertEqual(needed.returncode, 0, needed.stdout + needed.stderr)
         folder = self.prefix.parent / "files"
         folder.mkdir()
         (folder / "only.txt").write_text("")
         for typed, due in TYPED.items():
-            words = typed.split(" ")
-            code = f"{self.next_line('bash')}; COMP_WORDS=({typed}); COMP_CWORD={len(words) - 1}; _sukhlent; echo \"${{COMPREPLY[@]}}\""
+            words = f"COMP_WORDS=({typed}); COMP_CWORD={typed.count(' ')}"
+            code = f'{self.next_line("bash")}; {words}; _sukhlent; echo "${{COMPREPLY[@]}}"'
             self.assertEqual(run("bash", "-c", code, cwd=folder).split(), [due] if due else [], typed)
             code = f"{self.next_line('fish')}; complete -C '{typed}'"
             said = [line.split("\t")[0] for line in run("fish", "-N", "-c", code, cwd=folder).splitlines()]
             self.assertEqual(said, [due] if due else [], typed)
         lines = completed_by_zsh(self.next_line("zsh"), TYPED, folder)
-        self.assertEqual(lines, {typed: " ".join([*typed.split(" ")[:-1], due or typed.split(" ")[-1]]) for typed, due in TYPED.items()})
+        for typed, due in TYPED.items():
+            whole = typed.rpartition(" ")[0] + f" {due}" if due else typed
+            self.assertEqual(lines[typed], whole)
 
     def test_the_command_and_the_package(self):
         command = self.prefix / "bin" / "sukhlent"
@@ -301,13 +304,15 @@ class Target(unittest.TestCase):
         self.assertEqual((self.prefix / "include/sukhlent.h").read_bytes(), (ROOT / "include/sukhlent.h").read_bytes())
 
     def test_x86_64_v3_has_all_that_x86_64_has(self):
-        self.assertLess(TO_COMPILE | {"lib/libsukhlent.a", "lib/libsukhlent.so", "libexec/sukhlent/job"}, self.installed("x86-64-v3"))
+        some = {"lib/libsukhlent.a", "lib/libsukhlent.so", "libexec/sukhlent/job"}
+        self.assertLess(TO_COMPILE | some, self.installed("x86-64-v3"))
         package = self.prefix / "lib" / "pkgconfig"
         self.assertIn("target=x86-64-v3\n", (package / "sukhlent.pc").read_text())
         source, program = self.prefix / "first.c", self.prefix / "first"
         source.write_text(SOURCE)
         strict = ["-std=c99", "-Wall", "-Wextra", "-pedantic", "-Werror"]
-        run("cc", *strict, source, *flags(package, "--cflags", "--libs"), f"-Wl,-rpath,{self.prefix}/lib", "-o", program)
+        words = [*flags(package, "--cflags", "--libs"), f"-Wl,-rpath,{self.prefix}/lib"]
+        run("cc", *strict, source, *words, "-o", program)
         if " avx2 " in Path("/proc/cpuinfo").read_text():
             self.assertEqual(run(program), PRINTED)
             self.assertIn("sukhlent ", run(self.prefix / "bin/sukhlent", "--version"))

@@ -1,4 +1,4 @@
-"""What `tools/release` makes: the same bytes in two folders, with sums and a manifest, and nothing of the machine in it."""
+"""What `tools/release` makes: the same bytes in two folders, with sums and a manifest, and nothing of the machine."""
 
 import contextlib
 import importlib.machinery
@@ -43,16 +43,18 @@ class Release(unittest.TestCase):
         summed = {line.split()[1] for line in (folder / "SHA256SUMS").read_text().splitlines()}
         self.assertEqual(summed, {path.name for path in folder.iterdir()} - {"SHA256SUMS"})
         manifest = (folder / "MANIFEST").read_text()
-        self.assertTrue(manifest.startswith(f"version {VERSION}\ncommit {run('git', '-C', self.made.clones[0], 'rev-parse', 'HEAD')}"))
+        commit = run("git", "-C", self.made.clones[0], "rev-parse", "HEAD")
+        self.assertTrue(manifest.startswith(f"version {VERSION}\ncommit {commit}"), manifest)
         self.assertIn(f"\ntoolchain {run('rt', 'version')}", manifest)
         self.assertIn("\ngate 3 passed, 0 failed, by the log that was named\n", manifest)
         sizes = dict(reversed(line.split()) for line in re.findall(r"^ *\d+ \S+$", manifest, re.M))
-        self.assertEqual(sizes, {path.name: str(path.stat().st_size) for path in folder.iterdir() if path.name in summed - {"MANIFEST"}})
+        self.assertEqual(sizes, {name: str((folder / name).stat().st_size) for name in summed - {"MANIFEST"}})
 
     def test_the_document_offers_what_is_made_and_its_sizes(self):
         """docs/VERSIONS.md has the table that the command beside it prints, with sizes that are a fifth off at most."""
         text = (ROOT / "docs" / "VERSIONS.md").read_text()
-        shown, made = (re.findall(r"^\| (\S+) \| (.*) \| ([\d,]+) \|$", table, re.M) for table in (text, self.made.said[0]))
+        row = re.compile(r"^\| (\S+) \| (.*) \| ([\d,]+) \|$", re.M)
+        shown, made = (row.findall(table) for table in (text, self.made.said[0]))
         self.assertIn("\n    tools/release --table\n", text)
         self.assertEqual([row[:2] for row in shown], [row[:2] for row in made])
         self.assertEqual({row[0].replace("VERSION", VERSION) for row in made} | {"MANIFEST", "SHA256SUMS"},
@@ -63,12 +65,13 @@ class Release(unittest.TestCase):
 
     def test_nothing_in_it_names_the_machine(self):
         """No file has the path of a clone, and none is a compiled one of Python."""
-        tops = [self.made.unpacked(ending) for ending in (".tar.gz", "-x86-64.tar.gz", "-x86-64-v3.tar.gz", "-aarch64.tar.gz", "-web.tar.gz")]
+        tops = [self.made.unpacked(f"{name}.tar.gz") for name in ("", "-x86-64", "-x86-64-v3", "-aarch64", "-web")]
         with tempfile.TemporaryDirectory(dir=self.made.room) as folder:
             with zipfile.ZipFile(self.made.file("-.*.whl")) as archive:
                 archive.extractall(f"{folder}/wheel")
             run("dpkg-deb", "-R", self.made.file("_amd64.deb"), f"{folder}/deb")
-            files = [path for top in (*tops, Path(folder)) for path in top.rglob("*") if path.is_file() and not path.is_symlink()]
+            paths = (path for top in (*tops, Path(folder)) for path in top.rglob("*"))
+            files = [path for path in paths if path.is_file() and not path.is_symlink()]
             self.assertGreater(len(files), 1000)
             for path in files:
                 self.assertNotIn(str(self.made.room).encode(), path.read_bytes(), path)
@@ -129,7 +132,8 @@ class Gate(unittest.TestCase):
 
     def test_it_failed_here(self):
         self.gate_that_says("12 passed, 1 failed")
-        with self.assertRaisesRegex(self.release.Stopped, "does not end with"), contextlib.redirect_stderr(io.StringIO()):
+        failed = self.assertRaisesRegex(self.release.Stopped, "does not end with")
+        with failed, contextlib.redirect_stderr(io.StringIO()):
             self.release.gate(None, True)
 
     def test_another_toolchain_than_the_one_of_the_readme_is_refused(self):

@@ -1,4 +1,4 @@
-"""What was released, unpacked into empty folders and used there: from C, C++, CMake, Python, the shell, node and chromium."""
+"""What was released, unpacked into empty folders and used there: from C, C++, Python, the shell, node and chromium."""
 
 import functools
 import http.server
@@ -23,13 +23,21 @@ target_link_libraries(shared sukhlent::sukhlent)
 add_executable(static first.c)
 target_link_libraries(static sukhlent::static)
 """
-CODE = "import sukhlent, sukhlent.calls as c, sukhlent.library as l; print(sukhlent.State.zeros(1).generators(), c.TAKEN, l.PATH, sep='')"
+CODE = """from sukhlent import State, calls, library
+print(State.zeros(1).generators(), calls.TAKEN, library.PATH, sep="")
+"""
 STATES = (ROOT / "crates/reduce/stdin").read_text()
 RECORD = (ROOT / "crates/reduce/stdout").read_text()
 
 #: nothing of the clone or of the caller's environment
-BARE = {name: value for name, value in os.environ.items() if not name.startswith(("PYTHON", "SUKHLENT", "PIP", "PKG_CONFIG"))}
+OURS = ("PYTHON", "SUKHLENT", "PIP", "PKG_CONFIG")
+BARE = {name: value for name, value in os.environ.items() if not name.startswith(OURS)}
 BARE.update(PIP_NO_INDEX="1", PIP_DISABLE_PIP_VERSION_CHECK="1", PYTHONDONTWRITEBYTECODE="1")
+
+
+def compiled(folder):
+    """The programs and libraries below a folder."""
+    return [path for path in folder.rglob("*") if path.is_file() and path.read_bytes()[:4] == b"\x7fELF"]
 
 
 class Used(unittest.TestCase):
@@ -55,13 +63,13 @@ class Used(unittest.TestCase):
         run(compiler, source, *flags, *more, "-o", self.folder / "program")
         return self.folder / "program"
 
-    def by_cmake(self, text, top, *more):
-        """A build by CMake of what find_package finds below a folder, and first.c."""
+    def by_cmake(self, text, top, name, *more):
+        """A build by CMake, in a folder of this name, of what find_package finds below a folder, and first.c."""
         (self.folder / "first.c").write_text(SOURCE)
         (self.folder / "CMakeLists.txt").write_text(text)
-        run("cmake", "-S", self.folder, "-B", self.folder / "build", f"-DCMAKE_PREFIX_PATH={top}", *more, env=BARE)
-        run("cmake", "--build", self.folder / "build")
-        return self.folder / "build"
+        run("cmake", "-S", self.folder, "-B", self.folder / name, f"-DCMAKE_PREFIX_PATH={top}", *more, env=BARE)
+        run("cmake", "--build", self.folder / name)
+        return self.folder / name
 
     def examples(self, top, emulated, *more):
         """The examples for C and C++ print what is stored, with the shared and with the static library."""
@@ -108,12 +116,15 @@ class Archives(Used):
                 self.python(top / "share/sukhlent/python", top / "lib/libsukhlent.so")
 
     def test_each_is_found_by_cmake(self):
-        top = self.made.unpacked("-x86-64.tar.gz")
         classes = ROOT / "examples/cpp/record.cpp"
-        build = self.by_cmake(CMAKE.format(version=VERSION, classes=classes), top)
-        for name, due in (("shared", PRINTED), ("static", PRINTED), ("classes", classes.with_suffix(".out").read_text())):
-            self.assertEqual(run(build / name), due)
-        self.assertIn(str(top), run("ldd", build / "shared"))
+        due = {"shared": PRINTED, "static": PRINTED, "classes": classes.with_suffix(".out").read_text()}
+        for processor in ("x86-64", "x86-64-v3"):
+            with self.subTest(processor=processor):
+                top = self.made.unpacked(f"-{processor}.tar.gz")
+                build = self.by_cmake(CMAKE.format(version=VERSION, classes=classes), top, processor)
+                said = {name: run(ROOT / "tools/replay/emulate", processor, build / name) for name in due}
+                self.assertEqual(said, due)
+                self.assertIn(str(top), run("ldd", build / "shared"))
 
     def test_the_one_for_v3_has_another_library(self):
         plain, v3 = (self.made.unpacked(f"-{name}.tar.gz") for name in ("x86-64", "x86-64-v3"))
@@ -139,12 +150,12 @@ class Arm(Used):
             program = self.linked("aarch64-linux-gnu-gcc", source, self.top, *words)
             self.assertEqual(run(*self.emulated, program), source.with_suffix(".out").read_text())
         needs = re.findall(r"\(NEEDED\).*\[(.*)\]", run("readelf", "-d", program))
-        self.assertEqual(needs[0], f"libsukhlent.so.{VERSION.rpartition('.')[0] if VERSION.startswith('0.') else VERSION.split('.')[0]}")
+        self.assertEqual(needs[0], f"libsukhlent.so.{run(ROOT / 'tools/version', '--series').strip()}")
         self.packages(self.top)
 
     def test_it_is_found_by_cmake(self):
-        words = ["-DCMAKE_SYSTEM_NAME=Linux", "-DCMAKE_SYSTEM_PROCESSOR=aarch64", "-DCMAKE_C_COMPILER=aarch64-linux-gnu-gcc"]
-        build = self.by_cmake(IN_C, self.top, *words)
+        words = ["SYSTEM_NAME=Linux", "SYSTEM_PROCESSOR=aarch64", "C_COMPILER=aarch64-linux-gnu-gcc"]
+        build = self.by_cmake(IN_C, self.top, "aarch64", *(f"-DCMAKE_{word}" for word in words))
         for name in ("shared", "static"):
             self.assertEqual(run(*self.emulated, build / name), PRINTED)
 
@@ -152,8 +163,7 @@ class Arm(Used):
         library = self.top / "lib" / f"libsukhlent.so.{VERSION}"
         self.assertIn("AArch64", run("readelf", "-h", library))
         self.assertEqual(re.findall(r"\(NEEDED\).*\[(.*)\]", run("readelf", "-d", library)), ["libc.so.6"])
-        compiled = [path.name for path in self.top.rglob("*") if path.is_file() and path.read_bytes()[:4] == b"\x7fELF"]
-        self.assertEqual(set(compiled), {library.name, "libsukhlent.so", library.name.rpartition(".")[0]})
+        self.assertEqual({path.resolve() for path in compiled(self.top)}, {library})
 
 
 class Wheel(Used):
@@ -165,7 +175,8 @@ class Wheel(Used):
         venv = self.folder / "venv"
         run(sys.executable, "-m", "venv", venv, env=BARE)
         run(venv / "bin/python", "-m", "pip", "install", "--no-compile", wheel, env=BARE, cwd="/")
-        self.assertIn("No broken requirements found.", run(venv / "bin/python", "-m", "pip", "check", env=BARE, cwd="/"))
+        checked = run(venv / "bin/python", "-m", "pip", "check", env=BARE, cwd="/")
+        self.assertIn("No broken requirements found.", checked)
         said = run(venv / "bin/python", "-c", CODE, env=BARE, cwd="/").splitlines()
         self.assertEqual(said[0], "+Z")
         self.assertTrue(said[1].startswith(f"extension{venv.resolve()}/"), said)
@@ -173,7 +184,7 @@ class Wheel(Used):
 
     def test_its_tag_names_the_c_library_that_its_files_need(self):
         run(sys.executable, "-m", "zipfile", "-e", self.made.file("-.*.whl"), self.folder)
-        named = [run("readelf", "-V", path) for path in self.folder.rglob("*") if path.is_file() and path.read_bytes()[:4] == b"\x7fELF"]
+        named = [run("readelf", "-V", path) for path in compiled(self.folder)]
         self.assertEqual(len(named), 5)  # the library, the extension, three programs
         most = max(int(number) for text in named for number in re.findall(r"Name: GLIBC_2\.(\d+)", text))
         self.assertIn(f"-manylinux_2_{most}_x86_64", self.made.file("-.*.whl").name)
@@ -208,15 +219,18 @@ class Debian(Used):
         packages = self.usr / "lib/python3/dist-packages"  # where Debian's python3 looks in its own root
         self.command(self.usr / "bin/sukhlent", PYTHONPATH=str(packages))
         self.python(packages, packages / "sukhlent/libsukhlent.so")
-        run(self.usr / "bin/sukhlent", "--version", env={**BARE, "PYTHONPATH": str(packages), "PYTHONDONTWRITEBYTECODE": ""})
+        compiling = {**BARE, "PYTHONPATH": str(packages), "PYTHONDONTWRITEBYTECODE": ""}
+        run(self.usr / "bin/sukhlent", "--version", env=compiling)
         self.assertTrue(list(self.usr.rglob("__pycache__")))
         self.dpkg("-r", "sukhlent")
         self.assertEqual([path for path in self.folder.rglob("*") if "usr" in path.relative_to(self.folder).parts], [])
 
     def test_it_says_what_it_needs_and_keeps_to_the_places_of_debian(self):
-        self.assertEqual(run("dpkg-deb", "-f", self.package, "Package", "Version").split(), ["Package:", "sukhlent", "Version:", VERSION])
+        for field, due in (("Package", "sukhlent"), ("Version", VERSION), ("Architecture", "amd64")):
+            self.assertEqual(run("dpkg-deb", "-f", self.package, field), f"{due}\n")
         self.assertRegex(run("dpkg-deb", "-f", self.package, "Depends"), r"^libc6 \(>= 2\.\d+\), python3 \(>= 3\.9\)$")
-        for name in ("doc/sukhlent/copyright", "doc/sukhlent/changelog.gz", "zsh/vendor-completions/_sukhlent", "man/man1/sukhlent.1.gz"):
+        kept = ["doc/sukhlent/copyright", "doc/sukhlent/changelog.gz", "man/man1/sukhlent.1.gz"]
+        for name in (*kept, "zsh/vendor-completions/_sukhlent", "fish/vendor_completions.d/sukhlent.fish"):
             self.assertTrue((self.usr / "share" / name).is_file(), name)
         listed = run("dpkg-deb", "-c", self.package).splitlines()
         self.assertEqual({line.split()[1] for line in listed}, {"root/root"})
@@ -246,8 +260,8 @@ class Web(Used):
         (self.folder / "examples").symlink_to(ROOT / "examples")
         page = (ROOT / "docs/PAGE.md").read_text()
         due = re.search(r"node examples/js/first\.mjs\ntarget/web\n(.*?)```", page, re.S)[1]
-        said = run("node", "--preserve-symlinks", "--preserve-symlinks-main", self.folder / "examples/js/first.mjs", env=BARE)
-        self.assertEqual(said, due)
+        links = ["--preserve-symlinks", "--preserve-symlinks-main"]
+        self.assertEqual(run("node", *links, self.folder / "examples/js/first.mjs", env=BARE), due)
 
     def test_it_is_opened_in_chromium(self):
         handler = functools.partial(Quiet, directory=str(self.top))
