@@ -5,7 +5,8 @@
  * Generator list of n generators:
  *   signs[j]       0 for plus, 1 for minus
  *   z[j], x[j]     at each qubit the bits (z, x) are 00 for I, 01 for X, 10 for Z, 11 for Y
- * The generators commute pairwise and are independent modulo 2, signs dropped.
+ * The generators commute pairwise and are independent modulo 2, signs dropped. Their group: all products of
+ * some of them, with their signs; a list or a record stands for it.
  *
  * Record of n vertices:
  *   neighbours[j]  the neighbours of vertex j; the graph is simple

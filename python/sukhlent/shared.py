@@ -5,10 +5,11 @@ from __future__ import annotations
 from pathlib import Path
 from typing import Any, Iterable, Sequence
 
-from . import blocks, calls, explain, library
+from . import beyond, blocks, calls, explain, files, forms, library
 from .arguments import qubits
 from .drawing import record_svg
 from .gates import Gates
+from .kept import Lines, fill, free_name, held_text
 from .layouts import Layout
 from .lots import Source, bits_from
 from .pictures import draw
@@ -17,6 +18,10 @@ from .rows import Row, row_words
 from .running import OBSERVE, OPS, RUN_OPS, with_bit
 from .state import PHOTONS, State
 from .stores import Buffers, held_names, name_number, not_held
+
+
+#: the first line of the text of a shared record
+_GROUPS: "list[forms.Piece]" = [("groups [0-9a-f]{16}", "'groups' and 16 lower-case hexadecimal digits")]
 
 
 class Shared:
@@ -61,6 +66,62 @@ class Shared:
 
     def __deepcopy__(self, memo: dict) -> Shared:
         return self.copy()
+
+    @classmethod
+    def read(cls, text: str) -> Shared:
+        """The record, the groups and their named states of a text, as `str` writes it.
+
+        >>> shared = Shared([1, 3])
+        >>> shared.group(1).h(3)
+        >>> shared.group(1).save("plus")
+        >>> other = Shared.read(str(shared))
+        >>> other.group(1).qubits(), other.group(1).names(), other.state() == shared.state()
+        ([1, 3], ['plus'], True)
+        """
+        shared, lines = cls(()), Lines(text)
+        shared._word = int(lines.take(_GROUPS).text[7:], 16)
+        shared._block = lines.record(64)._block
+        fill(lines, shared._store.all, shared._refusal)
+        lines.end()
+        return shared
+
+    def _refusal(self, place: int) -> int:
+        """Why the named states of the group that has a place are none; 0 where they are sound."""
+        neighbours, codes, used = blocks.parts(self._block)
+        head = (64, self._word, place // 4, library.words(neighbours), library.octets(codes), used)
+        number = library.call("group_forget", *head, free_name(self._store.all[0]), *self._store.all)
+        return 0 if number in (17, 19) else number  # 19: an edge between the groups, which comes after what is held
+
+    def _text(self) -> str:
+        return f"groups {self._word:016x}\n{beyond.record_text(self._block)}{held_text(*self._store.all)}"
+
+    def __str__(self) -> str:
+        return self._text()[:-1]
+
+    def save(self, path: files.Place) -> None:
+        """Writes the record, the groups and their named states to a file, flushed: after a power cut the file is the old one
+        or the new one, whole.
+
+        >>> import tempfile
+        >>> with tempfile.TemporaryDirectory() as folder:
+        ...     Shared([1, 3]).save(folder + "/shared.txt")
+        ...     print(files.read(folder + "/shared.txt")[:50], end="")
+        groups 000000000000000a
+        qubit code neighbours used
+        """
+        files.replace(path, self._text())
+
+    @classmethod
+    def load(cls, path: files.Place) -> Shared:
+        """The record, the groups and their named states of a file that `save` wrote.
+
+        >>> import tempfile
+        >>> with tempfile.TemporaryDirectory() as folder:
+        ...     Shared([1, 3]).save(folder + "/shared.txt")
+        ...     Shared.load(folder + "/shared.txt").word
+        10
+        """
+        return files.loaded(path, cls.read)
 
     def groups(self) -> tuple[Group, Group]:
         """The handles of groups 0 and 1.

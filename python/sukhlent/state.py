@@ -5,7 +5,7 @@ from __future__ import annotations
 import struct
 from typing import Any, Callable, Iterable
 
-from . import beyond, blocks, calls, explain, library
+from . import beyond, blocks, calls, explain, files, library
 from .answers import Measured
 from .arguments import called, listed, whole
 from .codes import code
@@ -24,6 +24,17 @@ _new = object.__new__
 
 #: the codes of a new photon, by its state
 PHOTONS = {"+X": 0, "-X": 2, "+Y": 4, "-Y": 6, "+Z": 8, "-Z": 10}
+
+
+def photon_code(photon: str) -> int:
+    """The code of a new photon.
+
+    >>> photon_code("-Y")
+    6
+    """
+    if photon not in _PHOTONS:
+        raise ValueError(f"renew(qubit, photon): a photon is {', '.join(_PHOTONS)}, not {called(photon)}")
+    return _PHOTONS[photon]
 
 
 def _judged(neighbours: Iterable[int], codes: Iterable[int], used: int) -> bytearray:
@@ -141,6 +152,29 @@ class State(Gates, Reads, Graphs, Shows):
         from .texts import read_state
 
         return read_state(text)
+
+    @classmethod
+    def read(cls, text: str) -> State:
+        """The state of a record's text, as `str` writes it.
+
+        >>> State.read(str(State.zeros(2))) == State.zeros(2)
+        True
+        """
+        from .texts import read_record
+
+        return read_record(text)
+
+    @classmethod
+    def load(cls, path: files.Place) -> State:
+        """The state of a file that `save` wrote.
+
+        >>> import tempfile
+        >>> with tempfile.TemporaryDirectory() as folder:
+        ...     State.zeros(2).save(folder + "/state.txt")
+        ...     State.load(folder + "/state.txt") == State.zeros(2)
+        True
+        """
+        return files.loaded(path, cls.read)
 
     # ---- copies
 
@@ -280,10 +314,8 @@ class State(Gates, Reads, Graphs, Shows):
             number = calls.renew(self._block, qubit, PHOTONS[photon])
         except TypeError as error:
             raise TypeError(f"renew(qubit, photon): {error}") from None
-        if number == 20:
-            raise Refusal(20, f"qubit {qubit} is not used, so that no new photon can take its place")
         if number:
-            raise explain.on_qubits(number, self.n, self.used, (qubit,), "renew")
+            raise explain.renew(number, self.n, self.used, qubit)
 
     def complement(self, vertex: int) -> None:
         """Complements the graph at a vertex and rewrites the codes: the same state, not reduced.

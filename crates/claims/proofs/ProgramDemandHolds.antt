@@ -11,7 +11,7 @@ use lib.Seq.{take-append-seam, take-length}
 use borrow.Author.Tests.{eq-eqb, le-ltb, lt-ltb, ne-eqb}
 use Rattle.buffers.proofs.Lines.{fits, none-fits, passed}
 use Rattle.buffers.specs.Refusals.{badCount, firstFitting, line}
-use Rattle.jobs.specs.Answer.{runText, noAnswer, answerText as jobPrinted, resultOf}
+use Rattle.jobs.specs.Answer.{runText, noAnswer, jobAnswerText as jobPrinted, resultOf}
 use Rattle.jobs.specs.JobLines.{jobLines}
 use Rattle.jobs.proofs.Stepwise.{answer-at}
 use Rattle.jobs.specs.GroupsAfter.{GroupAfter, StartGroup}
@@ -19,7 +19,7 @@ use Rattle.jobs.specs.Runs.{recordAfter, run, started}
 use Rattle.jobs.specs.Standing.{StandsFor}
 use Rattle.jobs.specs.declared.Step.{Step}
 use Rattle.calls.specs.Lists.{checkLines}
-use Rattle.calls.specs.ListAnswers.{answerText as listPrinted}
+use Rattle.calls.specs.ListAnswers.{listAnswer as listPrinted}
 use Rattle.record.proofs.WrittenRecords.{reduced-held-same}
 use Rattle.stabilizer.proofs.Accepted.{AcceptedList, accepted-list}
 use Rattle.stabilizer.proofs.SharedTests.{count-passes}

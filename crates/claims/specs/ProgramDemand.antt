@@ -7,7 +7,7 @@ use mathlib.Core.Path.{_≡_}
 use Prim.Native.Nat.{_<_, ℕ, _≤_}
 use lib.ListN.{getD, length, take}
 use Rattle.buffers.specs.Refusals.{firstFitting}
-use Rattle.jobs.specs.Answer.{ResponseTo as JobResponse, resultsOf}
+use Rattle.jobs.specs.Answer.{JobResponse, resultsOf}
 use Rattle.jobs.specs.Results.{Result, jobAnswer}
 use Rattle.jobs.specs.Text.{HasJobForm, JobTextOf}
 use Rattle.jobs.specs.Asked.{Request, asked, carryOut, numberOf, observationOf, renewalOf}

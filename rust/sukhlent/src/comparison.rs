@@ -46,7 +46,7 @@ fn answered<T>(call: Call<T>, n: usize, first: T, second: T) -> Result<Compariso
     Refusal::unless_accepted(number).map(|()| answer)
 }
 
-/// Compares two states: `Refusal::Comparison` where a connected part of either reduced graph has
+/// Compares two states: `Refusal::Large` where a connected part of either reduced graph has
 /// more than 20 vertices ([`equivalent`] has no such limit), `Refusal::Inequivalent` where no choice
 /// carries the first group onto the second.
 ///
@@ -99,7 +99,7 @@ pub fn compare_records(first: &Record, second: &Record) -> Result<Comparison, Re
 /// let path = expand(&Record::graph(21, &edges)?)?;
 /// edges[1] = (0, 2);
 /// let other = expand(&Record::graph(21, &edges)?)?;
-/// assert_eq!(compare(&path, &other), Err(Refusal::Comparison));
+/// assert_eq!(compare(&path, &other), Err(Refusal::Large));
 /// let answer = equivalent(&path, &other)?;
 /// assert_eq!(answer.choice[..3], [8, 8, 0]);
 /// assert_eq!(answer.complementations, [0, 1, 0]);

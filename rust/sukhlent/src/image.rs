@@ -45,7 +45,7 @@ pub struct Image {
 /// assert_eq!(found.neighbours, [0b110, 0b101, 0b011]);
 /// assert_eq!(found.complementations, [0]);
 /// star.codes = vec![codes::I, codes::I, codes::S];
-/// assert_eq!(image(&star), Err(Refusal::Loop));
+/// assert_eq!(image(&star), Err(Refusal::ImageY));
 /// # Ok::<(), Refusal>(())
 /// ```
 pub fn image(record: &Record) -> Result<Image, Refusal> {

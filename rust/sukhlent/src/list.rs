@@ -46,7 +46,7 @@ impl GeneratorList {
 /// let mut list: GeneratorList = "+XX\n+ZZ\n".parse()?;
 /// assert_eq!(check(&list), Ok(()));
 /// list.z = vec![0b00, 0b01];
-/// assert_eq!(check(&list), Err(Refusal::Anticommuting));
+/// assert_eq!(check(&list), Err(Refusal::Anticommute));
 /// # Ok::<(), Refusal>(())
 /// ```
 pub fn check(list: &GeneratorList) -> Result<(), Refusal> {

@@ -30,8 +30,8 @@ pub struct Record {
     pub neighbours: Vec<u64>,
     /// The code of each vertex: 4 times the class, plus 2 sx, plus sz.
     pub codes: Vec<u8>,
-    /// The used qubits, bit q for qubit q: an accepted measurement sets it, and no call may name the
-    /// qubit from then on. A used vertex has no neighbour and one of the codes 0, 2, 4, 6, 8, 10.
+    /// The used qubits, bit q for qubit q: an accepted measurement sets it, and until
+    /// `renew` no gate, cz, complement or measurement may name the qubit. A used vertex has no neighbour and one of the codes 0, 2, 4, 6, 8, 10.
     pub used: u64,
 }
 
@@ -64,16 +64,16 @@ impl Record {
     ///
     /// let path = Record::graph(3, &[(0, 1), (2, 1), (1, 2)])?;
     /// assert_eq!(expand(&path)?.to_string(), "+XZI\n+ZXZ\n+IZX\n");
-    /// assert_eq!(Record::graph(3, &[(0, 3)]), Err(Refusal::StrayBit));
+    /// assert_eq!(Record::graph(3, &[(0, 3)]), Err(Refusal::Stray));
     /// assert_eq!(Record::graph(3, &[(1, 1)]), Err(Refusal::Graph));
     /// # Ok::<(), Refusal>(())
     /// ```
     pub fn graph(n: usize, edges: &[(usize, usize)]) -> Result<Record, Refusal> {
         if !(1..=64).contains(&n) {
-            return Err(Refusal::Qubits);
+            return Err(Refusal::Count);
         }
         if edges.iter().any(|&(a, b)| a.max(b) >= n) {
-            return Err(Refusal::StrayBit);
+            return Err(Refusal::Stray);
         }
         if edges.iter().any(|&(a, b)| a == b) {
             return Err(Refusal::Graph);
@@ -97,6 +97,17 @@ impl Record {
     /// ```
     pub fn n(&self) -> usize {
         self.codes.len()
+    }
+
+    /// The record as the raw calls read it.
+    pub(crate) fn lent(&self) -> raw::LentRecord<'_> {
+        (self.n() as u64, &self.neighbours, &self.codes, self.used)
+    }
+
+    /// The record as the raw calls rewrite it.
+    pub(crate) fn lent_mut(&mut self) -> (u64, &mut [u64], &mut [u8], &mut u64) {
+        let n = self.n() as u64;
+        (n, &mut self.neighbours, &mut self.codes, &mut self.used)
     }
 
     /// Compares two states, as [`compare`](crate::compare) does with their generators.
@@ -131,7 +142,7 @@ impl Record {
     /// edges.push((1, 63));
     /// let chord = Record::graph(64, &edges)?;
     /// assert_eq!(ring.equivalent(&chord)?.complementations, [0]);
-    /// assert_eq!(ring.compare(&chord), Err(Refusal::Comparison));
+    /// assert_eq!(ring.compare(&chord), Err(Refusal::Large));
     /// # Ok::<(), Refusal>(())
     /// ```
     pub fn equivalent(&self, other: &Record) -> Result<Comparison, Refusal> {

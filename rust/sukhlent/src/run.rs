@@ -72,9 +72,9 @@ fn measured(pauli: Pauli, bit: u8) -> u16 {
 /// ])?;
 /// assert_eq!(answers, [
 ///     Ok(None),
-///     Err(Refusal::Contradiction),
+///     Err(Refusal::Contradicted),
 ///     Ok(Some(Measured { outcome: 0, determined: true })),
-///     Err(Refusal::Place),
+///     Err(Refusal::Qubit),
 /// ]);
 /// # Ok::<(), Refusal>(())
 /// ```

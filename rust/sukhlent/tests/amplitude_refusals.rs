@@ -84,8 +84,8 @@ fn a_word_past_the_qubits_comes_before_a_code_above_23() {
         codes: vec![0, code],
         used: 0,
     };
-    assert_eq!(edge(0).amplitude(4), Err(Refusal::StrayBit));
-    assert_eq!(edge(24).amplitude(4), Err(Refusal::StrayBit));
+    assert_eq!(edge(0).amplitude(4), Err(Refusal::Stray));
+    assert_eq!(edge(24).amplitude(4), Err(Refusal::Stray));
     assert_eq!(edge(24).amplitude(3), Err(Refusal::Value));
 }
 

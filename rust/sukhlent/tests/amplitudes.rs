@@ -106,7 +106,7 @@ fn measured(record: &mut Record, q: usize, bit: u8) -> (u8, bool) {
     match measure(record, Pauli::Z, q, bit) {
         Ok(measured) => (bit, measured.determined),
         Err(refusal) => {
-            assert_eq!(refusal, Refusal::Contradiction);
+            assert_eq!(refusal, Refusal::Contradicted);
             let other = measure(record, Pauli::Z, q, 1 - bit);
             (1 - bit, other.expect("one of the two").determined)
         }

@@ -58,8 +58,8 @@ fn twenty_one_qubits_give_3_as_one_part_and_pass_as_components() {
         assert_eq!(compare(&all(n), &all(n)).unwrap().choice, vec![0; n]);
     }
     assert_eq!(compare(&star(20), &star(20)).unwrap().choice, [0; 20]);
-    assert_eq!(compare(&star(21), &star(21)), Err(Refusal::Comparison));
-    assert_eq!(compare(&all(3), &all(4)), Err(Refusal::Qubits));
+    assert_eq!(compare(&star(21), &star(21)), Err(Refusal::Large));
+    assert_eq!(compare(&all(3), &all(4)), Err(Refusal::Count));
 }
 
 /// The place of a choice in the order: classes first, qubit 0 first, then signs likewise.

@@ -83,7 +83,7 @@ fn z_measured_twice_on_a_bell_state() {
             outcome: bit,
             determined,
         });
-        assert_eq!(answer, due.ok_or(Refusal::Contradiction));
+        assert_eq!(answer, due.ok_or(Refusal::Contradicted));
         let after = state.project(&z, bit);
         assert_eq!(
             after.is_none(),
@@ -102,7 +102,7 @@ fn z_measured_twice_on_a_bell_state() {
 fn refused_lists_fix_no_state() {
     // With whatever signs, generators that do not commute have no state in common.
     let clashing = parsed(&["XI", "ZI"]);
-    assert_eq!(check(&clashing), Err(Refusal::Anticommuting));
+    assert_eq!(check(&clashing), Err(Refusal::Anticommute));
     for signs in [[0, 0], [0, 1], [1, 0], [1, 1]] {
         let signed = GeneratorList {
             signs: signs.to_vec(),

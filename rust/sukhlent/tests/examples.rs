@@ -65,7 +65,7 @@ fn z_measured_twice_on_a_bell_state() {
     };
     assert_eq!(state, left(1));
     let forbidden = measure(&mut state, sukhlent::Pauli::Z, 1, 0);
-    assert_eq!(forbidden, Err(Refusal::Contradiction));
+    assert_eq!(forbidden, Err(Refusal::Contradicted));
     assert_eq!(state, left(1));
     let second = measure(&mut state, sukhlent::Pauli::Z, 1, 1);
     let known = Measured {
@@ -86,16 +86,16 @@ fn sixty_four_qubits_pass_and_sixty_five_give_2() {
     assert_eq!(check(&all(64)), Ok(()));
     assert_eq!(reduce(&all(64)), Ok(record(&[0; 64], &[10; 64])));
     assert_eq!(expand(&record(&[0; 64], &[10; 64])), Ok(all(64)));
-    assert_eq!(check(&all(65)), Err(Refusal::Qubits));
-    assert_eq!(reduce(&all(65)), Err(Refusal::Qubits));
-    assert_eq!(expand(&record(&[0; 65], &[0; 65])), Err(Refusal::Qubits));
-    assert_eq!(check(&GeneratorList::default()), Err(Refusal::Qubits));
-    assert_eq!(expand(&Record::default()), Err(Refusal::Qubits));
+    assert_eq!(check(&all(65)), Err(Refusal::Count));
+    assert_eq!(reduce(&all(65)), Err(Refusal::Count));
+    assert_eq!(expand(&record(&[0; 65], &[0; 65])), Err(Refusal::Count));
+    assert_eq!(check(&GeneratorList::default()), Err(Refusal::Count));
+    assert_eq!(expand(&Record::default()), Err(Refusal::Count));
 }
 
 #[test]
 fn refused_lists() {
-    assert_refused(&["XI", "ZI"], Refusal::Anticommuting);
+    assert_refused(&["XI", "ZI"], Refusal::Anticommute);
     assert_refused(&["XX", "XX"], Refusal::Dependent);
     assert_refused(&["XX", "-XX"], Refusal::Dependent);
     assert_refused(&["XX", "II"], Refusal::Dependent);
@@ -104,5 +104,5 @@ fn refused_lists() {
     assert_refused(&["-I"], Refusal::Dependent);
     assert_refused(&["XXI", "IXX", "XIX"], Refusal::Dependent);
     // Dependent and not commuting: the earlier number.
-    assert_refused(&["XII", "ZII", "ZII"], Refusal::Anticommuting);
+    assert_refused(&["XII", "ZII", "ZII"], Refusal::Anticommute);
 }

@@ -95,8 +95,8 @@ fn a_ring_of_five() {
 #[test]
 fn refusals_by_name() {
     let bell = record(&["+XX", "+ZZ"]);
-    assert_eq!(bell.expectation(0b100, 0), Err(Refusal::StrayBit));
-    assert_eq!(bell.expectation(0, 1 << 63), Err(Refusal::StrayBit));
+    assert_eq!(bell.expectation(0b100, 0), Err(Refusal::Stray));
+    assert_eq!(bell.expectation(0, 1 << 63), Err(Refusal::Stray));
     let loops = Record {
         neighbours: vec![0b01, 0],
         codes: vec![0, 0],

@@ -91,7 +91,7 @@ fn the_seed_0_gives_6() {
 #[test]
 fn the_safe_function_says_why() {
     assert_eq!(generate(64, 4097, 0), Err(Refusal::Steps));
-    assert_eq!(generate(65, 4096, 0), Err(Refusal::Qubits));
+    assert_eq!(generate(65, 4096, 0), Err(Refusal::Count));
     assert_eq!(generate(64, 4096, 0), Err(Refusal::Value));
     assert!(generate(64, 4096, 1).is_ok());
 }

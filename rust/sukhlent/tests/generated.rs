@@ -135,7 +135,7 @@ fn answered(n: usize, steps: &[Step]) -> String {
         };
         text += &match answer {
             Ok((outcome, determined)) => format!("{k} 0 {outcome} {determined}\n"),
-            Err(refusal @ (Refusal::Contradiction | Refusal::Used)) => {
+            Err(refusal @ (Refusal::Contradicted | Refusal::Used)) => {
                 format!("{k} {} 0 0\n", refusal.number())
             }
             Err(other) => panic!("{op} {a} {b} {value}: {other}"),

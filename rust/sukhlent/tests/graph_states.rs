@@ -32,14 +32,14 @@ fn an_edge_that_is_named_twice_is_one_edge() {
 #[test]
 fn the_first_fitting_number_is_given() {
     let refused = [
-        (0, vec![], Refusal::Qubits),
-        (65, vec![], Refusal::Qubits),
-        (70, vec![(0, 99), (1, 1)], Refusal::Qubits),
-        (usize::MAX, vec![(0, 0)], Refusal::Qubits),
-        (3, vec![(0, 3)], Refusal::StrayBit),
-        (64, vec![(64, 0)], Refusal::StrayBit),
-        (3, vec![(usize::MAX, usize::MAX)], Refusal::StrayBit),
-        (3, vec![(1, 1), (0, 3)], Refusal::StrayBit),
+        (0, vec![], Refusal::Count),
+        (65, vec![], Refusal::Count),
+        (70, vec![(0, 99), (1, 1)], Refusal::Count),
+        (usize::MAX, vec![(0, 0)], Refusal::Count),
+        (3, vec![(0, 3)], Refusal::Stray),
+        (64, vec![(64, 0)], Refusal::Stray),
+        (3, vec![(usize::MAX, usize::MAX)], Refusal::Stray),
+        (3, vec![(1, 1), (0, 3)], Refusal::Stray),
         (3, vec![(0, 1), (2, 2)], Refusal::Graph),
     ];
     for (n, edges, refusal) in refused {

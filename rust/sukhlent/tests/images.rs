@@ -58,8 +58,8 @@ fn star_and_edge() {
 
 #[test]
 fn refused_images() {
-    assert_eq!(image(&record(&[0], &[8])), Err(Refusal::NoGraph));
-    assert_eq!(image(&record(&[0], &[4])), Err(Refusal::Loop));
+    assert_eq!(image(&record(&[0], &[8])), Err(Refusal::ImageC));
+    assert_eq!(image(&record(&[0], &[4])), Err(Refusal::ImageY));
 }
 
 #[test]
@@ -112,7 +112,7 @@ fn refused_exactly_when_the_image_is_no_graphs_on_four_vertices() {
                     assert!(found, "{given:?}");
                     assert_image(&given, &answer);
                 }
-                Err(Refusal::NoGraph | Refusal::Loop) => assert!(!found, "{given:?}"),
+                Err(Refusal::ImageC | Refusal::ImageY) => assert!(!found, "{given:?}"),
                 Err(other) => panic!("{given:?}: {other}"),
             }
         }

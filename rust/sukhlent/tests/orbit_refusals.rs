@@ -69,9 +69,9 @@ fn stray_bits_give_5_before_loops_give_7() {
 
 #[test]
 fn the_safe_function_says_why() {
-    assert_eq!(orbit(&[]), Err(Refusal::Qubits));
-    assert_eq!(orbit(&[0; 7]), Err(Refusal::Qubits));
-    assert_eq!(orbit(&[0, 4]), Err(Refusal::StrayBit));
+    assert_eq!(orbit(&[]), Err(Refusal::Count));
+    assert_eq!(orbit(&[0; 7]), Err(Refusal::Count));
+    assert_eq!(orbit(&[0, 4]), Err(Refusal::Stray));
     assert_eq!(orbit(&[1, 0]), Err(Refusal::Graph));
     assert_eq!(orbit(&[2, 0]), Err(Refusal::Graph));
     assert!(orbit(&[2, 1]).is_ok());

@@ -90,7 +90,7 @@ fn a_part_above_20_is_refused_by_3_and_inequivalent_records_by_13() {
     let large = random_components(&mut random, &[21, 2]);
     let small = random_components(&mut random, &[20, 3]);
     for (first, second) in [(&large, &small), (&small, &large), (&large, &large)] {
-        assert_eq!(compare_records(first, second), Err(Refusal::Comparison));
+        assert_eq!(compare_records(first, second), Err(Refusal::Large));
         let due = match first == second {
             true => Ok(Comparison {
                 choice: vec![0; 23],

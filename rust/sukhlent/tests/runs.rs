@@ -178,7 +178,7 @@ fn a_run_with_its_answers() -> Result<(), Refusal> {
             Ok(None),
             Ok(Some(free)),
             Err(Refusal::Used),
-            Err(Refusal::Contradiction),
+            Err(Refusal::Contradicted),
             Ok(Some(found)),
         ]
     );
@@ -204,5 +204,5 @@ fn arguments_that_no_step_has_refuse_the_step() {
     assert_eq!(record, Record::zeros(2));
     let many = vec![Step::Complement(0); 4097];
     assert_eq!(run(&mut record, &many), Err(Refusal::Steps));
-    assert_eq!(run(&mut Record::zeros(0), &[]), Err(Refusal::Qubits));
+    assert_eq!(run(&mut Record::zeros(0), &[]), Err(Refusal::Count));
 }

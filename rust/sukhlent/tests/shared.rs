@@ -178,7 +178,7 @@ fn a_record_with_too_few_words_is_refused_and_still_seen() {
         assert_eq!(group.record().neighbours, [0; 3]);
     }
     shared.operate(|record| *record = Record::zeros(70));
-    assert_eq!(lower.gate(0, codes::H), Err(Refusal::Qubits));
+    assert_eq!(lower.gate(0, codes::H), Err(Refusal::Count));
     assert_eq!(lower.record(), Record::zeros(70));
 }
 

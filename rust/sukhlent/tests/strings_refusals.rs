@@ -177,19 +177,19 @@ fn numbers_of_qubits_out_of_range_give_2() {
 #[test]
 fn the_safe_functions_say_why() {
     assert_eq!(read_strings("+X"), Err(Refusal::Form));
-    assert_eq!(read_strings(""), Err(Refusal::Qubits));
+    assert_eq!(read_strings(""), Err(Refusal::Count));
     assert_eq!(read_strings(&"+\n".repeat(1000)), Err(Refusal::Form));
-    assert_eq!(read_strings("+XI\n+ZI\n"), Err(Refusal::Anticommuting));
+    assert_eq!(read_strings("+XI\n+ZI\n"), Err(Refusal::Anticommute));
     assert_eq!(read_strings("+XX\n-XX\n"), Err(Refusal::Dependent));
     let text = String::from_utf8(rectangle(65, 65).text).unwrap();
-    assert_eq!(read_strings(&text), Err(Refusal::Qubits));
+    assert_eq!(read_strings(&text), Err(Refusal::Count));
     let list = |n: usize, words: usize| GeneratorList {
         signs: vec![0; n],
         z: (0..words).map(|q| 1 << (q % 64)).collect(),
         x: vec![0; n],
     };
     assert_eq!(write_strings(&list(3, 2)), Err(Refusal::Length));
-    assert_eq!(write_strings(&list(0, 0)), Err(Refusal::Qubits));
-    assert_eq!(write_strings(&list(65, 65)), Err(Refusal::Qubits));
+    assert_eq!(write_strings(&list(0, 0)), Err(Refusal::Count));
+    assert_eq!(write_strings(&list(65, 65)), Err(Refusal::Count));
     assert_eq!(write_strings(&list(2, 2)).as_deref(), Ok("+ZI\n+IZ\n"));
 }

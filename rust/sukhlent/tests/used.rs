@@ -102,7 +102,7 @@ fn the_safe_calls_say_the_same() {
     assert_eq!(gate(&mut state, 0, 8), Err(Refusal::Used));
     assert_eq!(gate(&mut state, 0, 24), Err(Refusal::Value));
     assert_eq!(cz(&mut state, 0, 1), Err(Refusal::Used));
-    assert_eq!(cz(&mut state, 0, 0), Err(Refusal::Place));
+    assert_eq!(cz(&mut state, 0, 0), Err(Refusal::Qubit));
     assert_eq!(complement(&mut state, 0), Err(Refusal::Used));
     let forbidden = measure(&mut state, Pauli::Z, 0, 0);
     assert_eq!(forbidden, Err(Refusal::Used), "16 before 14");
