@@ -308,10 +308,9 @@ class State(Gates, Reads, Graphs, Shows):
         >>> state.used, state.generators().strings()
         (0, ['+Z'])
         """
-        if photon not in PHOTONS:
-            raise ValueError(f"renew(qubit, photon): a photon is {', '.join(PHOTONS)}, not {called(photon)}")
+        value = photon_code(photon)
         try:
-            number = calls.renew(self._block, qubit, PHOTONS[photon])
+            number = calls.renew(self._block, qubit, value)
         except TypeError as error:
             raise TypeError(f"renew(qubit, photon): {error}") from None
         if number:

@@ -2,8 +2,8 @@
 -- it says of the arguments. `FirstTrue` of such a list is in the record of each exported function: "a number comes back only
 -- where its line below is true", and it is the first.
 --
--- Of the calls in place: operations/specs/UsedSentences; of a store: store/specs/StoreSentences; of a group:
--- groups/specs/PartySentences.
+-- Of the calls in place: operations/specs/UsedSentences; of a store: store/specs/StoreSentences; of a party:
+-- parties/specs/PartySentences.
 use mathlib.Core.Bool.{true}
 use mathlib.Core.List.{_++_, List, [], _∷_}
 use mathlib.Core.Logic.{_≢_, _⊎_}

@@ -16,7 +16,7 @@ use Rattle.jobs.specs.Runs.{recordAfter, run, started}
 use Rattle.jobs.specs.Standing.{StandsFor, StillRecord}
 use Rattle.jobs.specs.declared.Step.{Step}
 use Rattle.calls.specs.Lists.{checkLines}
-use Rattle.calls.specs.ListAnswers.{ResponseTo as ListResponse, listAnswer, listRead}
+use Rattle.calls.specs.ListAnswers.{ListResponse, listAnswer, listRead}
 use Rattle.operations.specs.Measurement.{pauliLetter, single}
 use Rattle.operations.specs.Steps.{Operation, complementOf, czOn, gateWith, measurementOf, pivotOf}
 use Rattle.pauli.specs.Pauli.{Pauli}

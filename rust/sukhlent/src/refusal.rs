@@ -69,8 +69,10 @@ refusals! {
         "a word has a bit at or above n";
     /// A sign, outcome or group is above 1, a code above 23 or no photon's, a Pauli not 1 to 3, a
     /// seed 0, an operation above 6, or a field that a step does not use is not 0.
-    #[doc(alias = "SUKHLENT_VALUE")]
-    Value = 6,
+    Value = 6, "SUKHLENT_VALUE",
+        "a sign, outcome or group is above 1, a code above 23 or no photon's, a Pauli not 1 \
+         to 3, a seed 0, a run's operation above 6, or a field that a step does not use is \
+         not 0";
     /// A graph is not simple, a used vertex is not as a measurement leaves it, a store holds a name
     /// twice, or a group's held state has a neighbour outside it.
     Graph = 7, "SUKHLENT_GRAPH",
@@ -148,51 +150,6 @@ impl Refusal {
             (0, _) => Ok(()),
             (_, Some(refusal)) => Err(refusal),
             (_, None) => panic!("no refusal has the number {number}"),
-        }
-    }
-
-    /// What is wrong, in the words of `sukhlent_refusal_text`.
-    fn line(self) -> &'static str {
-        match self {
-            Refusal::Form => "the text does not have its form",
-            Refusal::Steps => "a job or a run has more than 4,096 steps",
-            Refusal::Qubits => {
-                "n is 0 or above the call's limit, or the two lists' or records' n differ, or a \
-                 group's call, or a state that it holds, has another n than 64"
-            }
-            Refusal::Length => "a buffer's length is not what is required",
-            Refusal::StrayBit => "a word has a bit at or above n",
-            Refusal::Value => {
-                "a sign, outcome or group is above 1, a code above 23 or no photon's, a Pauli not \
-                 1 to 3, a seed 0, a run's operation above 6, or a field that a step does not use \
-                 is not 0"
-            }
-            Refusal::Graph => {
-                "a graph is not simple, or a used vertex has a neighbour or a code that no \
-                 measurement leaves, or a store holds a name twice, or a group's held state \
-                 has a neighbour outside it"
-            }
-            Refusal::OtherGroup => {
-                "a group's call names a qubit of the other group, or the record has an edge \
-                 between the groups"
-            }
-            Refusal::Place => {
-                "a qubit number is n or more, or a qubit is named twice, or a pivot's pair \
-                 has no edge"
-            }
-            Refusal::Used => "the call names a used qubit",
-            Refusal::NotUsed => "the qubit to renew is not used",
-            Refusal::NotHeld => "a name to return to or forget is not held",
-            Refusal::Full => "a save finds eight other names held, or a group's save four",
-            Refusal::Anticommuting => "two generators do not commute",
-            Refusal::Dependent => "the generators are dependent",
-            Refusal::Comparison => "a connected part has more than 20 vertices",
-            Refusal::Contradiction => "a determined outcome contradicts the supplied bit",
-            Refusal::NoGraph => {
-                "the image is that of no graph: the image loop stops with some C = 1"
-            }
-            Refusal::Loop => "the image has Y at some vertex's own place",
-            Refusal::Inequivalent => "no choice of local Cliffords carries one group to the other",
         }
     }
 }
