@@ -32,9 +32,9 @@ def photon_code(photon: str) -> int:
     >>> photon_code("-Y")
     6
     """
-    if photon not in _PHOTONS:
-        raise ValueError(f"renew(qubit, photon): a photon is {', '.join(_PHOTONS)}, not {called(photon)}")
-    return _PHOTONS[photon]
+    if photon not in PHOTONS:
+        raise ValueError(f"renew(qubit, photon): a photon is {', '.join(PHOTONS)}, not {called(photon)}")
+    return PHOTONS[photon]
 
 
 def _judged(neighbours: Iterable[int], codes: Iterable[int], used: int) -> bytearray:
