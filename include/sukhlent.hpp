@@ -218,6 +218,14 @@ struct Step {
         const int value = 2 * (static_cast<int>(pauli) - 1) + (outcome ? 1 : 0);
         return {SUKHLENT_OP_MEASURE, qubit, 0, static_cast<std::uint16_t>(value)};
     }
+    // A measurement with a bit by lot, which plays no part where the state determines the outcome.
+    static Step observe(Pauli pauli, std::uint16_t qubit, bool bit)
+    {
+        const int value = 2 * (static_cast<int>(pauli) - 1) + (bit ? 1 : 0);
+        return {SUKHLENT_OP_OBSERVE, qubit, 0, static_cast<std::uint16_t>(value)};
+    }
+    // A new photon at a used qubit, by its code: one of the SUKHLENT_PHOTON numbers.
+    static Step renew(std::uint16_t qubit, std::uint8_t code) { return {SUKHLENT_OP_RENEW, qubit, 0, code}; }
 };
 
 // What a step of a run answered.

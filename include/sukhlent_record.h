@@ -66,6 +66,14 @@ static inline sukhlent_length sukhlent_places(uint64_t n)
     return n <= SUKHLENT_QUBITS ? n : SUKHLENT_QUBITS;
 }
 
+/* The answer of a call; where it accepts, the struct that it wrote has this n. */
+static inline uint8_t sukhlent_sized(uint8_t refusal, uint64_t *n, uint64_t size)
+{
+    if (refusal == SUKHLENT_ACCEPTED)
+        *n = size;
+    return refusal;
+}
+
 /* ---- Records to start from */
 
 /* No edge, and every vertex with this code. */
@@ -84,7 +92,8 @@ static inline sukhlent_record sukhlent_record_zeros(uint64_t n)
     return sukhlent_record_alike(n, SUKHLENT_GATE_H);
 }
 
-/* The graph state without edges: every qubit in +X. sukhlent_record_cz adds an edge. */
+/* The graph state without edges: every qubit in +X. sukhlent_record_cz on two of
+ * them joins them by an edge, and a second time takes it away. */
 static inline sukhlent_record sukhlent_record_plus(uint64_t n)
 {
     return sukhlent_record_alike(n, SUKHLENT_GATE_I);
@@ -96,9 +105,7 @@ static inline uint8_t sukhlent_record_reduce(sukhlent_record *made, const sukhle
     const sukhlent_length n = sukhlent_places(list->n);
     const uint8_t refusal = sukhlent_reduce(list->n, list->signs, n, list->z, n, list->x, n,
                                             made->neighbours, n, made->codes, n, &made->used);
-    if (refusal == SUKHLENT_ACCEPTED)
-        made->n = list->n;
-    return refusal;
+    return sukhlent_sized(refusal, &made->n, list->n);
 }
 
 /* 1 where two records are the same, vertex by vertex: two reduced ones are so exactly if their
@@ -212,9 +219,7 @@ static inline uint8_t sukhlent_record_expand(const sukhlent_record *record, sukh
     const sukhlent_length n = sukhlent_places(record->n);
     const uint8_t refusal = sukhlent_expand(record->n, record->neighbours, n, record->codes, n,
                                             record->used, list->signs, n, list->z, n, list->x, n);
-    if (refusal == SUKHLENT_ACCEPTED)
-        list->n = record->n;
-    return refusal;
+    return sukhlent_sized(refusal, &list->n, record->n);
 }
 
 static inline uint8_t sukhlent_record_image(const sukhlent_record *record, sukhlent_imaged *image)
@@ -223,9 +228,7 @@ static inline uint8_t sukhlent_record_image(const sukhlent_record *record, sukhl
     const uint8_t refusal = sukhlent_image(record->n, record->neighbours, n, record->codes, n,
                                            image->neighbours, n, image->signs, n, image->list,
                                            SUKHLENT_LIST_PLACES, &image->count);
-    if (refusal == SUKHLENT_ACCEPTED)
-        image->n = record->n;
-    return refusal;
+    return sukhlent_sized(refusal, &image->n, record->n);
 }
 
 static inline uint8_t sukhlent_record_cut(const sukhlent_record *record, uint64_t side, uint64_t *rank)
@@ -269,9 +272,7 @@ static inline uint8_t sukhlent_record_compare(const sukhlent_record *one, const 
     const uint8_t refusal = sukhlent_compare_records(
         one->n, one->neighbours, n, one->codes, n, other->n, other->neighbours, m, other->codes, m,
         carried->choice, n, carried->list, SUKHLENT_LIST_PLACES, &carried->count);
-    if (refusal == SUKHLENT_ACCEPTED)
-        carried->n = one->n;
-    return refusal;
+    return sukhlent_sized(refusal, &carried->n, one->n);
 }
 
 /* The same, of parts of any size. */
@@ -283,9 +284,7 @@ static inline uint8_t sukhlent_record_equivalent(const sukhlent_record *one,
     const uint8_t refusal = sukhlent_equivalent_records(
         one->n, one->neighbours, n, one->codes, n, other->n, other->neighbours, m, other->codes, m,
         carried->choice, n, carried->list, SUKHLENT_LIST_PLACES, &carried->count);
-    if (refusal == SUKHLENT_ACCEPTED)
-        carried->n = one->n;
-    return refusal;
+    return sukhlent_sized(refusal, &carried->n, one->n);
 }
 
 /* ---- Lists */
@@ -310,9 +309,7 @@ static inline uint8_t sukhlent_list_compare(const sukhlent_list *one, const sukh
     const uint8_t refusal = sukhlent_compare(
         one->n, one->signs, n, one->z, n, one->x, n, other->n, other->signs, m, other->z, m, other->x, m,
         carried->choice, n, carried->list, SUKHLENT_LIST_PLACES, &carried->count);
-    if (refusal == SUKHLENT_ACCEPTED)
-        carried->n = one->n;
-    return refusal;
+    return sukhlent_sized(refusal, &carried->n, one->n);
 }
 
 static inline uint8_t sukhlent_list_equivalent(const sukhlent_list *one, const sukhlent_list *other,
@@ -322,9 +319,7 @@ static inline uint8_t sukhlent_list_equivalent(const sukhlent_list *one, const s
     const uint8_t refusal = sukhlent_equivalent(
         one->n, one->signs, n, one->z, n, one->x, n, other->n, other->signs, m, other->z, m, other->x, m,
         carried->choice, n, carried->list, SUKHLENT_LIST_PLACES, &carried->count);
-    if (refusal == SUKHLENT_ACCEPTED)
-        carried->n = one->n;
-    return refusal;
+    return sukhlent_sized(refusal, &carried->n, one->n);
 }
 
 /* Reads the lines of a text, as in "+XX\n-ZZ\n", of this many bytes. */
@@ -336,9 +331,7 @@ static inline uint8_t sukhlent_list_read(sukhlent_list *made, const char *text, 
     const sukhlent_length n = sukhlent_places(lines);
     const uint8_t refusal = sukhlent_read_strings((const uint8_t *)text, bytes, made->signs, n, made->z,
                                                   n, made->x, n);
-    if (refusal == SUKHLENT_ACCEPTED)
-        made->n = lines;
-    return refusal;
+    return sukhlent_sized(refusal, &made->n, lines);
 }
 
 /* Writes the lines of a list: `text` has n * (n + 2) bytes, and no zero is put behind them. */

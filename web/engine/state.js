@@ -284,8 +284,10 @@ export class State {
   }
 
   /**
-   * Runs at most 4,096 steps in one call: each is an operation (0 gate, 1 cz, 2 measure, 3 complement, 4 pivot), two
-   * qubits and a value, as in a job. Answers refusal, outcome and determined of each; a refused step changes nothing.
+   * Runs at most 4,096 steps in one call: each is an operation (0 gate, 1 cz, 2 measure, 3 complement, 4 pivot,
+   * 5 observe, 6 renew), two qubits and a value, as in a job; an observation's value has its bit where a measurement's has
+   * the outcome, and a renewal's is the photon's code. Answers refusal, outcome and determined of each; a refused step
+   * changes nothing.
    */
   run(steps) {
     const ops = octets(steps.map(([op]) => op));

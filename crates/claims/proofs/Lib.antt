@@ -45,6 +45,7 @@ pub mod SecondDemandLists
 pub mod SentencesHold
 pub mod SessionDemandHolds
 pub mod SessionNumbers
+pub mod SourceSteps
 pub mod StepLines
 pub mod StoreDemandHolds
 pub mod StoreRefusals

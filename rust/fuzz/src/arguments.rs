@@ -55,11 +55,7 @@ pub fn product_call(random: &mut Random, n: usize) -> (ListCall, u64) {
         let words = call.z.iter_mut().chain(&mut call.x);
         words.for_each(|word| *word ^= random.word() >> (64 - n));
     }
-    let chosen = match random.below(8) {
-        0 => number(random),
-        _ => random.word() >> (64 - n),
-    };
-    (call, chosen)
+    (call, word_over(random, n))
 }
 
 /// Two lists to compare: the second is mostly an image of the first, else another list, at times of
@@ -166,22 +162,24 @@ pub fn image_call(random: &mut Random, n: usize) -> RecordCall<ImageLengths> {
     harmed(random, record, ImageLengths { image, signs, list })
 }
 
-/// A cut of a record of n vertices: mostly into sides of its own vertices, at times by any word.
-pub fn cut_call(random: &mut Random, n: usize) -> RecordCall<Side> {
-    let side = match random.below(8) {
+/// A word: mostly one over n vertices, at times any.
+fn word_over(random: &mut Random, n: usize) -> u64 {
+    match random.below(8) {
         0 => number(random),
         _ => random.word() >> (64 - n),
-    };
+    }
+}
+
+/// A cut of a record of n vertices: mostly into sides of its own vertices, at times by any word.
+pub fn cut_call(random: &mut Random, n: usize) -> RecordCall<Side> {
+    let side = word_over(random, n);
     let record = used_record(random, n);
     harmed(random, record, Side(side))
 }
 
 /// An amplitude of a record of n vertices: mostly at a word of its own qubits, at times at any word.
 pub fn amplitude_call(random: &mut Random, n: usize) -> RecordCall<At> {
-    let y = match random.below(8) {
-        0 => number(random),
-        _ => random.word() >> (64 - n),
-    };
+    let y = word_over(random, n);
     let record = used_record(random, n);
     harmed(random, record, At(y))
 }
@@ -440,11 +438,12 @@ fn run_step(random: &mut Random, n: usize, noisy: bool) -> (u8, u16, u16, u16) {
         let [op, a, b, value] = [0; 4].map(|_: u16| random.word() as u16);
         return (op as u8, a, b, value);
     }
-    let op = random.below(5) as u8;
+    let op = random.below(7) as u8;
     let [a, b] = [0, 1].map(|_| random.below(n + 1) as u16);
     match op {
         0 => (op, a, 0, random.below(25) as u16),
-        2 => (op, a, 0, random.below(7) as u16),
+        2 | 5 => (op, a, 0, random.below(7) as u16),
+        6 => (op, a, 0, random.below(13) as u16),
         3 => (op, a, 0, 0),
         _ => (op, a, b, 0),
     }

@@ -29,8 +29,8 @@ pub struct Record {
     pub neighbours: Vec<u64>,
     /// The code of each vertex: 4 times the class, plus 2 sx, plus sz.
     pub codes: Vec<u8>,
-    /// The used qubits, bit q for qubit q: an accepted measurement sets it, and no call may name the
-    /// qubit from then on. A used vertex has no neighbour and one of the codes 0, 2, 4, 6, 8, 10.
+    /// The used qubits, bit q for qubit q: an accepted measurement sets it, and until
+    /// `renew` no gate, cz, complement or measurement may name the qubit. A used vertex has no neighbour and one of the codes 0, 2, 4, 6, 8, 10.
     pub used: u64,
 }
 
@@ -96,6 +96,17 @@ impl Record {
     /// ```
     pub fn n(&self) -> usize {
         self.codes.len()
+    }
+
+    /// The record as the raw calls read it.
+    pub(crate) fn lent(&self) -> raw::LentRecord<'_> {
+        (self.n() as u64, &self.neighbours, &self.codes, self.used)
+    }
+
+    /// The record as the raw calls rewrite it.
+    pub(crate) fn lent_mut(&mut self) -> (u64, &mut [u64], &mut [u8], &mut u64) {
+        let n = self.n() as u64;
+        (n, &mut self.neighbours, &mut self.codes, &mut self.used)
     }
 
     /// Compares two states, as [`compare`](crate::compare) does with their generators.

@@ -186,6 +186,13 @@ fn source_prints_its_stored_output() {
     assert_prints_its_stored_output("source");
 }
 
+/// By runs it prints what it does by single calls.
+#[test]
+fn source_run_prints_its_stored_output() {
+    assert_prints_its_stored_output("source_run");
+    assert_eq!(stored("source_run"), stored("source"));
+}
+
 #[test]
 fn vector_prints_its_stored_output() {
     assert_prints_its_stored_output("vector");

@@ -25,6 +25,7 @@ pub mod reference;
 pub mod runs;
 pub mod seeded;
 pub mod shared;
+pub mod small;
 pub mod source;
 pub mod store;
 pub mod strings;
