@@ -261,7 +261,7 @@ fn the_table_of_calls_names_a_program_for_each() {
 fn every_call_has_an_example_in_c_and_in_rust() {
     let c = sources("examples/c", "c");
     let rust = sources("rust/sukhlent/examples", "rs");
-    assert_eq!(calls().len(), 36);
+    assert_eq!(calls().len(), 38);
     for call in calls() {
         assert!(c.contains(&format!("sukhlent_{call}(")), "{call} in C");
         let name = match call.strip_prefix("group_") {

@@ -29,7 +29,7 @@ const LOWER: raw::Whose = (!0 << 32, 0);
 const UPPER: raw::Whose = (!0 << 32, 1);
 
 /// Every public call. All arguments are accepted, so that every step is taken.
-const CALLS: [Measured; 38] = [
+const CALLS: [Measured; 40] = [
     ("check", 64, |random, n| {
         let given = list(&random_rows(random, n));
         depth(|| raw::check(n as u64, &given.signs, &given.z, &given.x))
