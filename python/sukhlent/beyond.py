@@ -4,7 +4,8 @@ was determined, or a refusal as a negative number."""
 
 from __future__ import annotations
 
-from . import blocks, calls
+from . import blocks, calls, library
+from .refusals import accept
 
 
 def look(block: bytearray, pauli: "int | str", qubit: int, bit: int) -> int:
@@ -39,5 +40,18 @@ def record_text(block: bytearray) -> str:
     'qubit code neighbours used\\n0 8 0000000000000000 1\\n'
     """
     neighbours, codes, used = blocks.parts(block)
-    lines = (f"{q} {k} {word:016x} {used >> q & 1}\n" for q, (k, word) in enumerate(zip(codes, neighbours)))
-    return "".join(["qubit code neighbours used\n", *lines])
+    text, length = library.blank_octets(1627), library.word()
+    accept(library.call("write_record", len(codes), library.words(neighbours), library.octets(codes), used, text, length))
+    return bytes(text[: length.value]).decode()
+
+
+def read_text(text: str) -> "bytearray | int":
+    """The record of a text that is byte for byte as `record_text` writes it, or the refusal.
+
+    >>> blocks.parts(read_text("qubit code neighbours used\\n0 8 0000000000000000 1\\n")), read_text("qubit")
+    (((0,), (8,), 1), 1)
+    """
+    n, words, codes, used = library.word(), library.blank_words(64), library.blank_octets(64), library.word()
+    given = library.octets(text.encode("utf-8", "surrogateescape"))
+    number = library.call("read_record", given, n, words, codes, used)
+    return number or blocks.made(words[: n.value], codes[: n.value], used.value)

@@ -53,6 +53,8 @@ _CALLS: dict[str, tuple] = {
     "equivalent": (c_uint64, *_LIST, c_uint64, *_LIST, *_IN_BYTES, *_IN_BYTES, _WORDS),
     "equivalent_records": (c_uint64, *_RECORD, c_uint64, *_RECORD, *_IN_BYTES, *_IN_BYTES, _WORDS),
     "generate": (c_uint64, c_uint64, c_uint64, *_IN_BYTES, _WORDS),
+    "write_record": (c_uint64, *_RECORD, c_uint64, *_IN_BYTES, _WORDS),
+    "read_record": (*_IN_BYTES, _WORDS, *_RECORD, _WORDS),
     "read_strings": (*_IN_BYTES, *_LIST),
     "write_strings": (c_uint64, *_LIST, *_IN_BYTES),
     "orbit": (c_uint64, *_IN_WORDS, *_IN_HALVES, _WORDS),

@@ -7,7 +7,7 @@ import { WIDE } from "./numbers.js";
 const CALLS = [
   "version", "check", "reduce", "expand", "gate", "cz", "measure", "observe", "measure_row", "renew", "complement", "run",
   "image", "cut", "amplitude", "expectation", "product", "equivalent_records", "generate", "read_strings", "write_strings",
-  "save", "return", "forget",
+  "read_record", "write_record", "save", "return", "forget",
 ];
 
 const FILE = "../sukhlent.wasm";

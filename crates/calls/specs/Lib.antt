@@ -11,6 +11,7 @@ pub mod Expectations
 pub mod Parities
 pub mod Comparisons
 pub mod RecordComparisons
+pub mod RecordTexts
 pub mod Equivalences
 pub mod Generation
 pub mod Orbits

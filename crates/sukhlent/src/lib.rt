@@ -12,5 +12,6 @@ pub mod records;
 pub mod run;
 pub mod source;
 pub mod stores;
+pub mod texts;
 mod ties;
 pub mod version;

@@ -13,4 +13,5 @@ mod records;
 mod run;
 mod source;
 mod stores;
+mod texts;
 mod version;

@@ -8,8 +8,8 @@
 //! left, and where all are used it starts anew.
 //!
 //! `pairs` makes pairs of runs of two groups on one record: what one group sees does not depend on
-//! the other's calls. `source` makes sessions that go on: a used place gets a new photon. `rows` measures
-//! Pauli rows of any weight between gates and CZ.
+//! the other's calls. `source` makes sessions that go on: a used place gets a new photon; `source_runs`
+//! makes their calls as the steps of runs. `rows` measures Pauli rows of any weight between gates and CZ.
 
 mod choice;
 mod counts;
@@ -31,7 +31,7 @@ pub use counts::Counts;
 pub use pairs::{pairs, PairCounts};
 pub use rows::{rows, RowCounts};
 pub use session::Session;
-pub use source::{source, SourceCounts};
+pub use source::{source, source_runs, SourceCounts};
 
 /// Makes so many calls on n qubits. The error names the call and what is different.
 pub fn run(

@@ -1,6 +1,6 @@
 //! Short sessions on some numbers of qubits.
 
-use sessions::{pairs, rows, run, source, Counts};
+use sessions::{pairs, rows, run, source, source_runs, Counts};
 
 fn session(n: usize, seed: u64, calls: u64) -> Counts {
     run(n, seed, calls, |_, _| ()).unwrap_or_else(|difference| panic!("{difference}"))
@@ -64,6 +64,24 @@ fn a_source_that_goes_on() {
     for n in 1..=64 {
         source(n, n as u64, 300).unwrap_or_else(|difference| panic!("{difference}"));
     }
+}
+
+/// Gates, CZ, observations and renewals as the steps of runs, which settle the record late.
+#[test]
+fn a_source_that_goes_on_in_runs() {
+    for seed in 1..=3 {
+        let counts =
+            source_runs(64, seed, 100, 400).unwrap_or_else(|difference| panic!("{difference}"));
+        let made = [counts.gates, counts.czs, counts.chosen, counts.determined];
+        let refused = [counts.used, counts.not_used];
+        let all = [&made[..], &refused, &[counts.renewed]].concat();
+        assert!(all.iter().all(|&times| times > 100), "{counts}");
+        assert!(counts.other_bits > 20 && counts.most_used > 5, "{counts}");
+    }
+    for n in 1..=64 {
+        source_runs(n, n as u64, 20, 40).unwrap_or_else(|difference| panic!("{difference}"));
+    }
+    source_runs(64, 4, 3, 4096).unwrap_or_else(|difference| panic!("{difference}"));
 }
 
 #[test]

@@ -43,6 +43,7 @@ mod program;
 mod program_input;
 mod record_comparisons;
 mod record_refusals;
+mod record_texts;
 mod rewriting;
 mod runs;
 mod rust_example;

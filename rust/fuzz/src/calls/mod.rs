@@ -6,6 +6,7 @@ mod in_place;
 mod lists;
 mod orbits;
 mod pairs;
+mod record_texts;
 mod parity;
 mod records;
 mod runs;
@@ -25,7 +26,7 @@ pub struct Call {
 }
 
 /// Every public call.
-pub const CALLS: [Call; 36] = [
+pub const CALLS: [Call; 38] = [
     Call {
         name: "check",
         once: lists::check,
@@ -117,6 +118,14 @@ pub const CALLS: [Call; 36] = [
     Call {
         name: "write_strings",
         once: strings::write,
+    },
+    Call {
+        name: "read_record",
+        once: record_texts::read,
+    },
+    Call {
+        name: "write_record",
+        once: record_texts::write,
     },
     Call {
         name: "orbit",

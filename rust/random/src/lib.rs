@@ -1,4 +1,4 @@
-//! A seeded generator of numbers.
+//! Seeded numbers, the same for a seed wherever they are drawn.
 
 /// A 64-bit xorshift generator whose output is multiplied by an odd constant.
 pub struct Random(u64);
@@ -33,5 +33,27 @@ impl Random {
     pub fn pair_below(&mut self, bound: usize) -> (usize, usize) {
         let a = self.below(bound);
         (a, (a + 1 + self.below(bound - 1)) % bound)
+    }
+}
+
+/// The draws of a seed: a word of 64 bits, xored with itself shifted left 13, right 7 and left 17.
+pub struct Draws(u64);
+
+impl Draws {
+    /// Panics where the seed is 0.
+    pub fn new(seed: u64) -> Draws {
+        assert_ne!(seed, 0, "a seed");
+        Draws(seed)
+    }
+}
+
+impl Iterator for Draws {
+    type Item = u64;
+
+    fn next(&mut self) -> Option<u64> {
+        self.0 ^= self.0 << 13;
+        self.0 ^= self.0 >> 7;
+        self.0 ^= self.0 << 17;
+        Some(self.0)
     }
 }
