@@ -13,7 +13,7 @@ use Rattle.buffers.specs.Answers.{here, later}
 use Rattle.buffers.specs.Buffers.{tabulate, written}
 use Rattle.buffers.specs.Calls.{Call}
 use Rattle.buffers.specs.Refusals.{badCount, firstFitting, otherThan}
-use Rattle.calls.specs.RecordTexts.{readRecordCall, readRecordLines, recordOf}
+use Rattle.calls.specs.RecordTexts.{readRecordCall, readRecordLines, recordInText}
 use Rattle.operations.proofs.UsedPassing.{lines-pass}
 use Rattle.operations.specs.Used.{usedLines, UsedRecord, usedRecord}
 use Rattle.record.specs.Lent.{recordLengths, recordLines}
@@ -42,7 +42,7 @@ module _ (t : List ℕ) (n : ℕ) (nb cs : List ℕ) (used : ℕ) (r : ReadRecor
 
   module _ (f : r .form ≡ true) where
     -- up to 64 lines the arrays hold what the text says
-    same-record : r .count ≤ 64 → heldBy r ≡ recordOf t
+    same-record : r .count ≤ 64 → heldBy r ≡ recordInText t
     same-record few =
         let c = T .count f in
         let words = T .neighbours f few ∙ ap (λ k. tabulate k (λ q. (lineRead t q) .word)) c in
@@ -51,19 +51,19 @@ module _ (t : List ℕ) (n : ℕ) (nb cs : List ℕ) (used : ℕ) (r : ReadRecor
         λ i. usedRecord (c i) (words i) (marks i) (bits i)
 
     same-number : (others : Bool) → firstFitting (usedLines (heldBy r) others false false)
-        ≡ firstFitting (usedLines (recordOf t) others false false)
+        ≡ firstFitting (usedLines (recordInText t) others false false)
     same-number others = go (badCount (r .count)) refl
       where
         go : (b : Bool) → badCount (r .count) ≡ b → firstFitting (usedLines (heldBy r) others false false)
-            ≡ firstFitting (usedLines (recordOf t) others false false)
-        go true h = sym (two (heldBy r) others h) ∙ two (recordOf t) others (sym (ap badCount (T .count f)) ∙ h)
+            ≡ firstFitting (usedLines (recordInText t) others false false)
+        go true h = sym (two (heldBy r) others h) ∙ two (recordInText t) others (sym (ap badCount (T .count f)) ∙ h)
         go false h =
             ap (λ u. firstFitting (usedLines u others false false)) (same-record (counted (r .count) h .1))
 
     module _ (others : Bool) (o : others ≡ (otherThan 64 nb || otherThan 64 cs)) (k : ℕ)
         (e : k ≡ firstFitting (usedLines (heldBy r) others false false)) where
-      at-record : k ≡ firstFitting (usedLines (recordOf t) (otherThan 64 nb || otherThan 64 cs) false false)
-      at-record = e ∙ same-number others ∙ ap (λ b. firstFitting (usedLines (recordOf t) b false false)) o
+      at-record : k ≡ firstFitting (usedLines (recordInText t) (otherThan 64 nb || otherThan 64 cs) false false)
+      at-record = e ∙ same-number others ∙ ap (λ b. firstFitting (usedLines (recordInText t) b false false)) o
 
       at-lines : k ≡ firstFitting (readRecordLines t nb cs)
       at-lines = first-is (later (ap not (sym (T .form) ∙ f)) (fits-at _ at-record))

@@ -27,8 +27,8 @@ writeRecordCall u text size text′ size′ =
     (buffer text (written (printOf u) text) text′ ∷ number size (length (printOf u)) size′ ∷ [])
 
 -- the record that a text stands for: what each of its lines says
-abbrev pub recordOf : List ℕ → UsedRecord
-recordOf t =
+abbrev pub recordInText : List ℕ → UsedRecord
+recordInText t =
     record {
       held = record {
         n = qubitCount t;
@@ -42,12 +42,12 @@ recordOf t =
 -- `codes` have 64 places"
 abbrev pub readRecordLines : List ℕ → List ℕ → List ℕ → List Refusal
 readRecordLines t nb cs =
-    line 1 (not (recordForm t)) ∷ usedLines (recordOf t) (otherThan 64 nb || otherThan 64 cs) false false
+    line 1 (not (recordForm t)) ∷ usedLines (recordInText t) (otherThan 64 nb || otherThan 64 cs) false false
 
 -- ---- sukhlent_read_record: "those from `*n` on keep their values"
 abbrev pub readRecordCall : (t : List ℕ) (n : ℕ) (nb cs : List ℕ) (used n′ : ℕ) (nb′ cs′ : List ℕ) (used′ : ℕ) →
     Contract
 readRecordCall t n nb cs used n′ nb′ cs′ used′ =
     contractOf (readRecordLines t nb cs)
-    (number n ((recordOf t) .held .n) n′ ∷ buffer nb (written ((recordOf t) .held .neighbours) nb) nb′
-    ∷ buffer cs (written ((recordOf t) .held .codes) cs) cs′ ∷ number used ((recordOf t) .used) used′ ∷ [])
+    (number n ((recordInText t) .held .n) n′ ∷ buffer nb (written ((recordInText t) .held .neighbours) nb) nb′
+    ∷ buffer cs (written ((recordInText t) .held .codes) cs) cs′ ∷ number used ((recordInText t) .used) used′ ∷ [])

@@ -15,7 +15,7 @@ use Rattle.buffers.proofs.Tabulate.{tabulate-at, tabulate-is}
 use Rattle.buffers.specs.Answers.{later}
 use Rattle.buffers.specs.Buffers.{tabulate}
 use Rattle.buffers.specs.Refusals.{firstFitting, otherThan}
-use Rattle.calls.specs.RecordTexts.{printOf, readRecordLines, recordOf, writeRecordLines}
+use Rattle.calls.specs.RecordTexts.{printOf, readRecordLines, recordInText, writeRecordLines}
 use Rattle.operations.specs.Used.{usedLines, UsedRecord, usedRecord}
 use Rattle.stabilizer.proofs.SharedTests.{has-length, length-passes}
 use Rattle.text.proofs.RecordForm.{count-back, form-text, lines-back, text-form}
@@ -50,8 +50,8 @@ module _ (u : UsedRecord) (R : IsRecord u) where
   pub print-form : recordForm (printOf u) ≡ true
   print-form = ap recordForm print-is ∙ text-form (u .held .n) said said-fits
 
-  pub record-back : recordOf (printOf u) ≡ u
-  record-back = ap recordOf print-is ∙ held
+  pub record-back : recordInText (printOf u) ≡ u
+  record-back = ap recordInText print-is ∙ held
     where
       t : List ℕ
       t = recordLinesText (u .held .n) said
@@ -69,7 +69,7 @@ module _ (u : UsedRecord) (R : IsRecord u) where
           ∙ sym (tabulate-is n (λ q. f (lineRead t q)) buffer e
           (λ q l. sym (ap f (lines-back n said said-fits q l) ∙ h q)))
 
-      held : recordOf t ≡ u
+      held : recordInText t ≡ u
       held =
           let words = table (λ l. l .word) (u .held .neighbours) (R .held .neighbours-length) (λ q. refl) in
           let marks = table (λ l. l .code) (u .held .codes) (R .held .codes-length) (λ q. refl) in
@@ -81,17 +81,17 @@ module _ (u : UsedRecord) (R : IsRecord u) where
           λ i. usedRecord (count i) (words i) (marks i) (bits i)
 
 -- ---- a text read and written
-pub text-back : (t : List ℕ) → recordForm t ≡ true → qubitCount t ≤ 64 → printOf (recordOf t) ≡ t
+pub text-back : (t : List ℕ) → recordForm t ≡ true → qubitCount t ≤ 64 → printOf (recordInText t) ≡ t
 text-back t form few =
-    print-lines n ((recordOf t) .held .neighbours) ((recordOf t) .held .codes) ((recordOf t) .used) (omega (arith, few))
-    ∙ same-text n (lineHeld ((recordOf t) .held .neighbours) ((recordOf t) .held .codes) ((recordOf t) .used)) (lineRead t) each
+    print-lines n ((recordInText t) .held .neighbours) ((recordInText t) .held .codes) ((recordInText t) .used) (omega (arith, few))
+    ∙ same-text n (lineHeld ((recordInText t) .held .neighbours) ((recordInText t) .held .codes) ((recordInText t) .used)) (lineRead t) each
     ∙ sym (form-text t form)
   where
     n : ℕ
     n = qubitCount t
 
     each : (q : ℕ) → q < n →
-        lineHeld ((recordOf t) .held .neighbours) ((recordOf t) .held .codes) ((recordOf t) .used) q ≡ lineRead t q
+        lineHeld ((recordInText t) .held .neighbours) ((recordInText t) .held .codes) ((recordInText t) .used) q ≡ lineRead t q
     each q l =
         let word = tabulate-at n (λ q. (lineRead t q) .word) q l in
         let code = tabulate-at n (λ q. (lineRead t q) .code) q l in
@@ -119,14 +119,14 @@ write-lines u text = (
 module _ (t nb cs : List ℕ) where
   pub record ReadParts : Type 0 where
     pub form : recordForm t ≡ true
-    pub is-record : IsRecord (recordOf t)
+    pub is-record : IsRecord (recordInText t)
     pub neighbours : length nb ≡ 64
     pub codes : length cs ≡ 64
 
   pub read-parts : firstFitting (readRecordLines t nb cs) ≡ 0 → ReadParts
   read-parts e =
       let h = not-held 0 _ _ e in
-      let k = used-exactly (recordOf t) _ false false .0 (h .1) in
+      let k = used-exactly (recordInText t) _ false false .0 (h .1) in
       let f = neither (otherThan 64 nb) (otherThan 64 cs) (k .1) in
       record {
         form = not-false (recordForm t) (h .0);
@@ -138,13 +138,13 @@ module _ (t nb cs : List ℕ) where
   pub read-lines : (firstFitting (readRecordLines t nb cs) ≡ 0) ↔ ReadRecordFits t nb cs
   read-lines = (
     (λ e. let P = read-parts e in (
-      recordOf t,
+      recordInText t,
       P .is-record,
       sym (text-back t (P .form) (P .is-record .held .upto)),
       P .neighbours,
       P .codes,
     )),
-    (λ F. let same = ap recordOf (F .2) ∙ record-back (F .0) (F .1) in
+    (λ F. let same = ap recordInText (F .2) ∙ record-back (F .0) (F .1) in
         sym (first-is (later (ap not (ap recordForm (F .2) ∙ print-form (F .0) (F .1)))
         (fits-at _ (sym (ap₂ (λ u b. firstFitting (usedLines u b false false)) same
         (ap₂ _||_ (length-passes 64 nb (F .3)) (length-passes 64 cs (F .4)))

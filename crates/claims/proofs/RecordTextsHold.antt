@@ -15,7 +15,7 @@ use Rattle.calls.specs.RecordTexts.{
   printOf,
   readRecordCall,
   readRecordLines,
-  recordOf,
+  recordInText,
   writeRecordCall,
   writeRecordLines,
 }
@@ -48,7 +48,7 @@ use Rattle.claims.specs.RecordTexts.{
   ReadRecordSays,
   RecordComesBack,
   RecordTextsDemand,
-  TextComesBack,
+  RecordTextComesBack,
   WriteRecordSays,
   readRecordSentences,
   recordRead,
@@ -65,7 +65,7 @@ read-words t nb cs = (
   refl,
   (
     not-decides (record-form-exactly t),
-    λ e. let u = recordOf t in
+    λ e. let u = recordInText t in
         used-in-words u _ false false _ _ _
         (or-decides (misfits (u .held)) (or-decides (other-length 64 nb) (other-length 64 cs)))
         (or-decides (stray-neighbour (u .held)) (or-none (stray (u .held .n) (u .used)))) (or-none (code-above-23 (u .held))),
@@ -91,9 +91,9 @@ read-conforms t n nb cs used n′ nb′ cs′ used′ =
           let A = P .is-record .held in (
             tt,
             (
-              written-fills ((recordOf t) .held .neighbours) nb (omega (arith, A .neighbours-length, A .upto, P .neighbours)),
+              written-fills ((recordInText t) .held .neighbours) nb (omega (arith, A .neighbours-length, A .upto, P .neighbours)),
               (
-                written-fills ((recordOf t) .held .codes) cs (omega (arith, A .codes-length, A .upto, P .codes)),
+                written-fills ((recordInText t) .held .codes) cs (omega (arith, A .codes-length, A .upto, P .codes)),
                 (tt, tt),
               ),
             ),
@@ -122,10 +122,10 @@ module _ (t : List ℕ) (n : ℕ) (nb cs : List ℕ) (used n′ : ℕ) (nb′ cs
   parts : ReadParts t nb cs
   parts = read-parts t nb cs (no-line C refl)
 
-  pub read-record : recordRead n′ nb′ cs′ used′ ≡ recordOf t
+  pub read-record : recordRead n′ nb′ cs′ used′ ≡ recordInText t
   read-record =
       let W = written-all C refl in
-      let u = recordOf t in
+      let u = recordInText t in
       let A = parts .is-record .held in
       let words = ap₂ take (W .0) (W .1 .0)
       ∙ take-at (u .held .neighbours) (drop (length (u .held .neighbours)) nb) (u .held .n) (A .neighbours-length) in
@@ -143,20 +143,20 @@ module _ (t : List ℕ) (n : ℕ) (nb cs : List ℕ) (used n′ : ℕ) (nb′ cs
   read-past =
       let W = written-all C refl in
       let A = parts .is-record .held in (
-        past ((recordOf t) .held .neighbours) nb nb′ (A .neighbours-length ∙ sym (W .0)) (W .1 .0),
-        past ((recordOf t) .held .codes) cs cs′ (A .codes-length ∙ sym (W .0)) (W .1 .1 .0),
+        past ((recordInText t) .held .neighbours) nb nb′ (A .neighbours-length ∙ sym (W .0)) (W .1 .0),
+        past ((recordInText t) .held .codes) cs cs′ (A .codes-length ∙ sym (W .0)) (W .1 .1 .0),
       )
 
-  pub read-text-is : t ≡ printOf (recordOf t)
+  pub read-text-is : t ≡ printOf (recordInText t)
   read-text-is = sym (text-back t (parts .form) (parts .is-record .held .upto))
 
 -- ---- each comes back
 pub comes-back : (u : UsedRecord) → IsRecord u → (t : List ℕ) → t ≡ printOf u → RecordComesBack u t
 comes-back u R t e n nb cs used n′ nb′ cs′ used′ r ln lc C =
     let z = by-lines C .1 (read-lines t nb cs .1 (u, R, e, ln, lc)) in
-    (z, read-record t n nb cs used n′ nb′ cs′ used′ (at-zero C z) ∙ ap recordOf e ∙ record-back u R)
+    (z, read-record t n nb cs used n′ nb′ cs′ used′ (at-zero C z) ∙ ap recordInText e ∙ record-back u R)
 
-text-comes-back : (t : List ℕ) (u : UsedRecord) → IsRecord u → t ≡ printOf u → TextComesBack t u
+text-comes-back : (t : List ℕ) (u : UsedRecord) → IsRecord u → t ≡ printOf u → RecordTextComesBack t u
 text-comes-back t u R e text size text′ size′ r long C =
     let z = by-lines C .1 (write-lines u text .1 (R, long)) in
     (z, written-text u text size text′ size′ (at-zero C z) ∙ sym e)
@@ -184,8 +184,8 @@ read-record-says t n nb cs used n′ nb′ cs′ used′ r C =
       numbers = in-words (readRecordSentences t nb cs) (read-words t nb cs) C;
       past = λ z. read-past t n nb cs used n′ nb′ cs′ used′ (at-zero C z);
       back = λ z. let D = at-zero C z in
-          subst (TextComesBack t) (sym (read-record t n nb cs used n′ nb′ cs′ used′ D))
-          (text-comes-back t (recordOf t) (parts t n nb cs used n′ nb′ cs′ used′ D .is-record) (read-text-is t n nb cs used n′ nb′ cs′ used′ D));
+          subst (RecordTextComesBack t) (sym (read-record t n nb cs used n′ nb′ cs′ used′ D))
+          (text-comes-back t (recordInText t) (parts t n nb cs used n′ nb′ cs′ used′ D .is-record) (read-text-is t n nb cs used n′ nb′ cs′ used′ D));
     }
 
 -- ---- of both, and of the programs
@@ -203,7 +203,7 @@ record-texts-demand =
           ∙ sym (read-text-is s m nb₂ cs₂ used₂ n′ nb″ cs″ used′ D);
       one-record = λ u v a b i j a′ b′ i′ j′ C D e.
           sym (record-back u (written-record u a i a′ i′ C))
-          ∙ ap recordOf (sym (written-text u a i a′ i′ C) ∙ e ∙ written-text v b j b′ j′ D)
+          ∙ ap recordInText (sym (written-text u a i a′ i′ C) ∙ e ∙ written-text v b j b′ j′ D)
           ∙ record-back v (written-record v b j b′ j′ D);
       reduce-prints = λ l bytes P. comes-back _ (unused-record (reducedRecord l) (P .still)) bytes (P .printed);
       job-prints = λ n steps bytes P. (

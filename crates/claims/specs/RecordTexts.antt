@@ -7,7 +7,7 @@ use Prim.Native.Nat.{ℕ}
 use lib.ListN.{drop, length, take}
 use Rattle.buffers.specs.Calls.{Call}
 use Rattle.buffers.specs.Sentences.{FirstTrue, OtherLength, Sentence, sentence}
-use Rattle.calls.specs.RecordTexts.{printOf, readRecordCall, recordOf, writeRecordCall}
+use Rattle.calls.specs.RecordTexts.{printOf, readRecordCall, recordInText, writeRecordCall}
 use Rattle.claims.specs.Arguments.{IsRecord}
 use Rattle.claims.specs.Conforming.{Answered}
 use Rattle.claims.specs.ProgramDemand.{JobPrinted, RecordPrinted, reducedRecord}
@@ -61,13 +61,13 @@ ReadRecordFits t nb cs = (u : UsedRecord) × IsRecord u × (t ≡ printOf u) × 
 abbrev pub readRecordSentences : List ℕ → List ℕ → List ℕ → List Sentence
 readRecordSentences t nb cs =
     sentence 1 (HasRecordForm t → ⊥)
-    ∷ usedSentences (recordOf t) (RecordMisfits ((recordOf t) .held) ⊎ (OtherLength 64 nb ⊎ OtherLength 64 cs))
-    (StrayBit (recordOf t)) (CodeAbove23 ((recordOf t) .held))
+    ∷ usedSentences (recordInText t) (RecordMisfits ((recordInText t) .held) ⊎ (OtherLength 64 nb ⊎ OtherLength 64 cs))
+    (StrayBit (recordInText t)) (CodeAbove23 ((recordInText t) .held))
 
 -- "each accepted text is rewritten unchanged": every write of the record into a buffer of 1,627 bytes is accepted, and
 -- leaves the text
-abbrev pub TextComesBack : List ℕ → UsedRecord → Type 0
-TextComesBack t u = (text : List ℕ) (size : ℕ) (text′ : List ℕ) (size′ r : ℕ) → length text ≡ 1627 →
+abbrev pub RecordTextComesBack : List ℕ → UsedRecord → Type 0
+RecordTextComesBack t u = (text : List ℕ) (size : ℕ) (text′ : List ℕ) (size′ r : ℕ) → length text ≡ 1627 →
     Call (writeRecordCall u text size text′ size′) r → (r ≡ 0) × (take size′ text′ ≡ t)
 
 -- sukhlent_read_record, in one record
@@ -78,7 +78,7 @@ pub record ReadRecordSays (t : List ℕ) (n : ℕ) (nb cs : List ℕ) (used n′
   pub numbers : FirstTrue (readRecordSentences t nb cs) r
   -- "those from `*n` on keep their values"
   pub past : r ≡ 0 → (drop n′ nb′ ≡ drop n′ nb) × (drop n′ cs′ ≡ drop n′ cs)
-  pub back : r ≡ 0 → TextComesBack t (recordRead n′ nb′ cs′ used′)
+  pub back : r ≡ 0 → RecordTextComesBack t (recordRead n′ nb′ cs′ used′)
 
 -- ---- of both, and of the programs
 pub record RecordTextsDemand : Type 0 where
