@@ -53,7 +53,7 @@ use Rattle.stabilizer.specs.Groups.{InGroup, Proper, SameGroup}
 use Rattle.words.proofs.BitLaws.{digit-odd, isOdd-digit}
 use Rattle.words.specs.Bits.{bit, digit, isOdd}
 use Rattle.claims_parity.specs.Parities.{
-  ActsOnUsed,
+  UsedActedOn,
   MeasureRowSays,
   RowFits,
   RowStands,
@@ -85,7 +85,7 @@ tested : {A : Type 0} (o : Bool) → (o ≡ true → A) → (o ≡ false → A) 
 tested true t f = t refl
 tested false t f = f refl
 
-acts : (u : UsedRecord) (z x : ℕ) → Decides (actsOnUsed u z x) (ActsOnUsed u z x)
+acts : (u : UsedRecord) (z x : ℕ) → Decides (actsOnUsed u z x) (UsedActedOn u z x)
 unfolding actsOnUsed
 acts u z x = some-decides (u .held .n) _ _ (λ q. and-decides (itself {a = bit (u .used) q}) (or-decides itself itself))
 
@@ -115,7 +115,7 @@ module _ (u : UsedRecord) (z x b : ℕ) where
       (usedSentences u (RecordMisfits (u .held))
       (StrayNeighbour (u .held) ⊎ (Stray (u .held .n) (u .used) ⊎ (Stray (u .held .n) z ⊎ Stray (u .held .n) x)))
       (CodeAbove23 (u .held) ⊎ (1 < b)))
-      (sentence 16 (ActsOnUsed u z x) ∷ [])
+      (sentence 16 (UsedActedOn u z x) ∷ [])
       (used-in-words u false _ _ _ _ _ (or-none (misfits (u .held)))
       (or-decides (stray-neighbour (u .held))
       (or-decides (stray (u .held .n) (u .used)) (or-decides (stray (u .held .n) z) (stray (u .held .n) x))))

@@ -37,8 +37,8 @@ pub record RowFits (u : UsedRecord) (z x b : ℕ) : Type 0 where
   pub idle : (q : ℕ) → bit (u .used) q ≡ true → (bit z q ≡ false) × (bit x q ≡ false)
 
 -- "a row that acts on a used qubit"
-abbrev pub ActsOnUsed : UsedRecord → ℕ → ℕ → Type 0
-ActsOnUsed u z x = (q : ℕ) × (q < u .held .n) × ((bit (u .used) q ≡ true) × ((bit z q ≡ true) ⊎ (bit x q ≡ true)))
+abbrev pub UsedActedOn : UsedRecord → ℕ → ℕ → Type 0
+UsedActedOn u z x = (q : ℕ) × (q < u .held .n) × ((bit (u .used) q ≡ true) × ((bit z q ≡ true) ⊎ (bit x q ≡ true)))
 
 -- its lines. 5: also of the two words of the row; 6: "A bit above 1 is 6"; 16: the row acts on a used qubit
 abbrev pub measureRowSentences : UsedRecord → ℕ → ℕ → ℕ → List Sentence
@@ -46,7 +46,7 @@ measureRowSentences u z x b =
     usedSentences u (RecordMisfits (u .held))
     (StrayNeighbour (u .held) ⊎ (Stray (u .held .n) (u .used) ⊎ (Stray (u .held .n) z ⊎ Stray (u .held .n) x)))
     (CodeAbove23 (u .held) ⊎ (1 < b))
-    ++ (sentence 16 (ActsOnUsed u z x) ∷ [])
+    ++ (sentence 16 (UsedActedOn u z x) ∷ [])
 
 -- ---- what an accepted call answers and leaves
 pub record RowStands (l : LentRecord) (z x b : ℕ) (after : LentRecord) (answer′ determined′ : ℕ) : Type 0 where
