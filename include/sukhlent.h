@@ -5,7 +5,8 @@
  * Generator list of n generators:
  *   signs[j]       0 for plus, 1 for minus
  *   z[j], x[j]     at each qubit the bits (z, x) are 00 for I, 01 for X, 10 for Z, 11 for Y
- * The generators commute pairwise and are independent modulo 2, signs dropped.
+ * The generators commute pairwise and are independent modulo 2, signs dropped. Their group: all products of
+ * some of them, with their signs; a list or a record stands for it.
  *
  * Record of n vertices:
  *   neighbours[j]  the neighbours of vertex j; the graph is simple
@@ -20,9 +21,9 @@
  *
  * Every buffer passes as a pointer and its length in elements, and has n places where its call
  * does not say otherwise. A buffer that is not const must overlap no other; const buffers may be
- * the same one. The calls on a record in place (gate, cz, measure, observe, renew, complement, run)
- * read `neighbours` and `codes` and write the new record there; measure, observe, renew and run read
- * and write *used too, and the others leave the word as it is. A group's calls do so too, and its
+ * the same one. The calls on a record in place (gate, cz, measure, observe, measure_row, renew,
+ * complement, run) read `neighbours` and `codes` and write the new record there; measure, observe,
+ * renew and run read and write *used too, and the others leave the word as it is. A group's calls do so too, and its
  * return writes the record and *used. A store is read, and written by save and forget. All other buffers that are
  * not const are lent for the answer: what they hold before the call does not matter.
  *
@@ -35,7 +36,7 @@
  *    4  a buffer's length is not what is required
  *    5  a word has a bit at or above n
  *    6  a sign, outcome or group is above 1, a code above 23, or not a photon's where a qubit is
- *       renewed, a Pauli not 1 to 3, a seed 0, a run's operation above 4, or a field that a step does
+ *       renewed, a Pauli not 1 to 3, a seed 0, a run's operation above 6, or a field that a step does
  *       not use is not 0
  *    7  a graph is not simple, or a used vertex has a neighbour or a code other than 0, 2, 4, 6, 8
  *       and 10, or a store holds a name twice, or a group's held state has a neighbour outside it
@@ -113,6 +114,8 @@ typedef uint64_t sukhlent_length;
 #define SUKHLENT_OP_MEASURE 2
 #define SUKHLENT_OP_COMPLEMENT 3
 #define SUKHLENT_OP_PIVOT 4
+#define SUKHLENT_OP_OBSERVE 5
+#define SUKHLENT_OP_RENEW 6
 
 /* Answers of sukhlent_expectation. */
 #define SUKHLENT_PLUS 0
@@ -136,6 +139,7 @@ typedef uint64_t sukhlent_length;
 #define SUKHLENT_QUBITS 64
 #define SUKHLENT_LIST_PLACES 96
 #define SUKHLENT_TEXT_PLACES 61463
+#define SUKHLENT_RECORD_PLACES 1627
 #define SUKHLENT_ORBIT_PLACES 32768
 #define SUKHLENT_HEAD_PLACES 24
 #define SUKHLENT_HELD_PLACES 512
@@ -150,9 +154,9 @@ typedef uint64_t sukhlent_length;
  * A random outcome: ask sukhlent_observe with one fair bit, which is the outcome where the state
  *   does not determine it.
  * A source that goes on: a measured photon's place is used; sukhlent_renew puts a new photon there,
- *   in one of six states (examples/c/source.c).
+ *   in one of six states (examples/c/source.c; with its steps in runs, examples/c/source_run.c).
  * Equal states: two reduced records have equal neighbours and codes exactly if their states are
- *   equal. What gate, cz, measure, observe and reduce leave is reduced, and
+ *   equal. What gate, cz, measure, observe, measure_row and reduce leave is reduced, and
  *   what renew leaves of a reduced one; any other record is reduced by sukhlent_expand and
  *   sukhlent_reduce.
  * Many steps: sukhlent_run does up to 4,096 in one call and checks the record once
@@ -186,7 +190,7 @@ static inline const char *sukhlent_refusal_text(uint8_t number)
     case SUKHLENT_COUNT: return "n is 0 or above the call's limit, or the two lists' or records' n differ, or a group's call, or a state that it holds, has another n than 64";
     case SUKHLENT_LENGTH: return "a buffer's length is not what is required";
     case SUKHLENT_STRAY: return "a word has a bit at or above n";
-    case SUKHLENT_VALUE: return "a sign, outcome or group is above 1, a code above 23 or no photon's, a Pauli not 1 to 3, a seed 0, a run's operation above 4, or a field that a step does not use is not 0";
+    case SUKHLENT_VALUE: return "a sign, outcome or group is above 1, a code above 23 or no photon's, a Pauli not 1 to 3, a seed 0, a run's operation above 6, or a field that a step does not use is not 0";
     case SUKHLENT_GRAPH: return "a graph is not simple, or a used vertex has a neighbour or a code that no measurement leaves, or a store holds a name twice, or a group's held state has a neighbour outside it";
     case SUKHLENT_OTHER_GROUP: return "a group's call names a qubit of the other group, or the record has an edge between the groups";
     case SUKHLENT_QUBIT: return "a qubit number is n or more, or a qubit is named twice, or a pivot's pair has no edge";
@@ -282,6 +286,21 @@ uint8_t sukhlent_observe(uint64_t n,
                          uint8_t pauli, uint64_t qubit, uint8_t bit,
                          uint8_t *answer, uint8_t *determined);
 
+/* Measures a Pauli row of any weight, sign plus, with a bit by lot: at each qubit its bits (z, x) are 00
+ * for I, 01 for X, 10 for Z, 11 for Y, as for sukhlent_expectation. Where the row or its negative is
+ * in the group *determined is 1, *answer the sign (1 for minus), and the group stays. Otherwise
+ * *determined is 0, *answer is `bit`, and the group becomes the elements that commute with the row,
+ * joined by the row with that sign. The reduced record is left. No qubit is used up: `used` is only
+ * read. The identity row is determined, 0.
+ * Refusals: 2, 4, 5 (also where `z` or `x` has a bit at or above n), 6 (also where `bit` is above 1),
+ * 7, 16 (the row acts on a used qubit). */
+uint8_t sukhlent_measure_row(uint64_t n,
+                             uint64_t *neighbours, sukhlent_length neighbours_len,
+                             uint8_t *codes, sukhlent_length codes_len,
+                             uint64_t used,
+                             uint64_t z, uint64_t x, uint8_t bit,
+                             uint8_t *answer, uint8_t *determined);
+
 /* Puts a new photon at a used qubit: the code at the qubit becomes `code`, one of 0, 2, 4, 6, 8 and 10
  * for the state +X, -X, +Y, -Y, +Z and -Z, its bit of *used becomes 0, and all else stays. A reduced
  * record stays reduced.
@@ -302,16 +321,18 @@ uint8_t sukhlent_complement(uint64_t n,
                             uint64_t a);
 
 /* Runs at most 4,096 steps on a record in place, one after the other, as the program job does: step
- * k has the operation ops[k] (SUKHLENT_OP_GATE to SUKHLENT_OP_PIVOT), the qubits a[k] and b[k], and
- * in value[k] a code, or for a measurement 2 * (pauli - 1) + outcome; what an operation does not use
- * is 0. A pivot complements at a, b and a, which are the ends of an edge. The record is checked once,
- * the word of used qubits is kept from step to step, and all seven slices have one length.
- * Writes of each step its refusal, or 0, to refusals[k], and of an accepted measurement what
- * sukhlent_measure answers to outcomes[k] and determined[k], where every other step has 0 and 0. A
- * step is refused by 6 (a field that it does not use is not 0, a code is above 23, or a measurement's
- * value above 5), 8, 16 or 14, and then changes nothing; the steps behind it run.
+ * k has the operation ops[k] (SUKHLENT_OP_GATE to SUKHLENT_OP_RENEW), the qubits a[k] and b[k], and
+ * in value[k] a code, for a measurement 2 * (pauli - 1) + outcome, for an observation 2 * (pauli - 1)
+ * + bit, or for a renewal the new photon's code; what an operation does not use is 0. A pivot
+ * complements at a, b and a, which are the ends of an edge. The record is checked once, the word of
+ * used qubits is kept from step to step, and all seven slices have one length.
+ * Writes of each step its refusal, or 0, to refusals[k], and of an accepted measurement or observation
+ * what sukhlent_measure or sukhlent_observe answers to outcomes[k] and determined[k], where every other
+ * step has 0 and 0. A step is refused by 6 (a field that it does not use is not 0, a code is above 23 or
+ * no photon's, or the value of a measurement or an observation above 5), 8, 16, 20 or 14, and then
+ * changes nothing; the steps behind it run. An observation is never refused by 14.
  * Refusals: 15 (`ops` has more than 4,096 places, whatever the other slices have), 2, 4, 5, 6 (also
- * where a number of `ops` is above 4), 7. */
+ * where a number of `ops` is above 6), 7. */
 uint8_t sukhlent_run(uint64_t n,
                      uint64_t *neighbours, sukhlent_length neighbours_len,
                      uint8_t *codes, sukhlent_length codes_len,
@@ -469,6 +490,24 @@ uint8_t sukhlent_write_strings(uint64_t n,
                                const uint64_t *z, sukhlent_length z_len,
                                const uint64_t *x, sukhlent_length x_len,
                                uint8_t *text, sukhlent_length text_len);
+
+/* Writes a record as a text: the names `qubit code neighbours used` and a line for each qubit, rising
+ * from 0, with its number and code in decimal, its neighbours in 16 hexadecimal digits and 1 where it
+ * is used, as the programs print it. `text` has 1,627 places; `*length` is how many of
+ * them are the text, and those past it keep their values. No zero is put behind the text.
+ * Refusals: 2, 4, 5, 6, 7. */
+uint8_t sukhlent_write_record(uint64_t n,
+                              const uint64_t *neighbours, sukhlent_length neighbours_len,
+                              const uint8_t *codes, sukhlent_length codes_len, uint64_t used,
+                              uint8_t *text, sukhlent_length text_len, uint64_t *length);
+
+/* Reads the record of a text as sukhlent_write_record writes it, byte for byte: a record has one text,
+ * and a text one record. `neighbours` and `codes` have 64 places; those from `*n` on keep their values.
+ * Refusals: 1 (also for the empty text), 2 (the names alone, or more than 64 lines), 4, 5, 6 (a code
+ * from 24 to 99), 7. */
+uint8_t sukhlent_read_record(const uint8_t *text, sukhlent_length text_len, uint64_t *n,
+                             uint64_t *neighbours, sukhlent_length neighbours_len,
+                             uint8_t *codes, sukhlent_length codes_len, uint64_t *used);
 
 /* Writes the numbers of all graphs that complementations reach from one on up to 6 vertices, the
  * graph itself among them, each once and rising. A graph's number has a bit for each pair of

@@ -218,6 +218,14 @@ struct Step {
         const int value = 2 * (static_cast<int>(pauli) - 1) + (outcome ? 1 : 0);
         return {SUKHLENT_OP_MEASURE, qubit, 0, static_cast<std::uint16_t>(value)};
     }
+    // A measurement with a bit by lot, which plays no part where the state determines the outcome.
+    static Step observe(Pauli pauli, std::uint16_t qubit, bool bit)
+    {
+        const int value = 2 * (static_cast<int>(pauli) - 1) + (bit ? 1 : 0);
+        return {SUKHLENT_OP_OBSERVE, qubit, 0, static_cast<std::uint16_t>(value)};
+    }
+    // A new photon at a used qubit, by its code: one of the SUKHLENT_PHOTON numbers.
+    static Step renew(std::uint16_t qubit, std::uint8_t code) { return {SUKHLENT_OP_RENEW, qubit, 0, code}; }
 };
 
 // What a step of a run answered.
@@ -344,6 +352,24 @@ public:
         return detail::answer(sukhlent_record_reduce(&made.record_, &list.list_), made);
     }
 
+    // From the text that text() writes and the programs print, byte for byte.
+    static Answer<Record> read(std::string_view text)
+    {
+        Record made;
+        const char *bytes = text.empty() ? "" : text.data();
+        return detail::answer(sukhlent_record_read(&made.record_, bytes, text.size()), made);
+    }
+
+    // Its text, as read takes it.
+    Answer<std::string> text() const
+    {
+        std::string made(SUKHLENT_RECORD_PLACES, ' ');
+        std::uint64_t length = 0;
+        const std::uint8_t number = sukhlent_record_write(&record_, made.data(), &length);
+        made.resize(length);
+        return detail::answer(number, std::move(made));
+    }
+
     // From words, codes and the used word; the two slices have one length.
     static Answer<Record> of(Span<const std::uint64_t> neighbours, Span<const std::uint8_t> codes, std::uint64_t used = 0)
     {
@@ -391,6 +417,14 @@ public:
         sukhlent_measured found = {0, 0};
         const std::uint8_t letter = static_cast<std::uint8_t>(pauli);
         const std::uint8_t number = sukhlent_record_observe(&record_, letter, qubit, bit ? 1 : 0, &found);
+        return detail::answer(number, Measured{found.outcome == 1, found.determined == 1});
+    }
+
+    // Measures a Pauli row of any weight, sign plus, with a bit by lot; no qubit is used up.
+    Answer<Measured> measure_row(std::uint64_t z, std::uint64_t x, bool bit)
+    {
+        sukhlent_measured found = {0, 0};
+        const std::uint8_t number = sukhlent_record_measure_row(&record_, z, x, bit ? 1 : 0, &found);
         return detail::answer(number, Measured{found.outcome == 1, found.determined == 1});
     }
 

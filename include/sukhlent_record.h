@@ -66,6 +66,14 @@ static inline sukhlent_length sukhlent_places(uint64_t n)
     return n <= SUKHLENT_QUBITS ? n : SUKHLENT_QUBITS;
 }
 
+/* The answer of a call; where it accepts, the struct that it wrote has this n. */
+static inline uint8_t sukhlent_sized(uint8_t refusal, uint64_t *n, uint64_t size)
+{
+    if (refusal == SUKHLENT_ACCEPTED)
+        *n = size;
+    return refusal;
+}
+
 /* ---- Records to start from */
 
 /* No edge, and every vertex with this code. */
@@ -84,7 +92,8 @@ static inline sukhlent_record sukhlent_record_zeros(uint64_t n)
     return sukhlent_record_alike(n, SUKHLENT_GATE_H);
 }
 
-/* The graph state without edges: every qubit in +X. sukhlent_record_cz adds an edge. */
+/* The graph state without edges: every qubit in +X. sukhlent_record_cz on two of
+ * them joins them by an edge, and a second time takes it away. */
 static inline sukhlent_record sukhlent_record_plus(uint64_t n)
 {
     return sukhlent_record_alike(n, SUKHLENT_GATE_I);
@@ -96,9 +105,7 @@ static inline uint8_t sukhlent_record_reduce(sukhlent_record *made, const sukhle
     const sukhlent_length n = sukhlent_places(list->n);
     const uint8_t refusal = sukhlent_reduce(list->n, list->signs, n, list->z, n, list->x, n,
                                             made->neighbours, n, made->codes, n, &made->used);
-    if (refusal == SUKHLENT_ACCEPTED)
-        made->n = list->n;
-    return refusal;
+    return sukhlent_sized(refusal, &made->n, list->n);
 }
 
 /* 1 where two records are the same, vertex by vertex: two reduced ones are so exactly if their
@@ -159,6 +166,15 @@ static inline uint8_t sukhlent_record_observe(sukhlent_record *record, uint8_t p
                             qubit, bit, &measured->outcome, &measured->determined);
 }
 
+/* Measures a Pauli row of any weight, sign plus, with a bit by lot; no qubit is used up. */
+static inline uint8_t sukhlent_record_measure_row(sukhlent_record *record, uint64_t z, uint64_t x,
+                                                  uint8_t bit, sukhlent_measured *measured)
+{
+    const sukhlent_length n = sukhlent_places(record->n);
+    return sukhlent_measure_row(record->n, record->neighbours, n, record->codes, n, record->used, z, x,
+                                bit, &measured->outcome, &measured->determined);
+}
+
 /* Puts a new photon at a used qubit, in the state of a code: 0, 2, 4, 6, 8, 10 are +X, -X, +Y, -Y,
  * +Z, -Z. */
 static inline uint8_t sukhlent_record_renew(sukhlent_record *record, uint64_t qubit, uint8_t code)
@@ -166,6 +182,23 @@ static inline uint8_t sukhlent_record_renew(sukhlent_record *record, uint64_t qu
     const sukhlent_length n = sukhlent_places(record->n);
     return sukhlent_renew(record->n, record->neighbours, n, record->codes, n, &record->used, qubit,
                           code);
+}
+
+/* Writes the text of a record: `text` has SUKHLENT_RECORD_PLACES bytes, of which the first `*length` are
+ * the text; no zero is put behind them. */
+static inline uint8_t sukhlent_record_write(const sukhlent_record *record, char *text, uint64_t *length)
+{
+    const sukhlent_length n = sukhlent_places(record->n);
+    return sukhlent_write_record(record->n, record->neighbours, n, record->codes, n, record->used,
+                                 (uint8_t *)text, SUKHLENT_RECORD_PLACES, length);
+}
+
+/* Reads the text of a record, of this many bytes. */
+static inline uint8_t sukhlent_record_read(sukhlent_record *record, const char *text,
+                                           sukhlent_length bytes)
+{
+    return sukhlent_read_record((const uint8_t *)text, bytes, &record->n, record->neighbours,
+                                SUKHLENT_QUBITS, record->codes, SUKHLENT_QUBITS, &record->used);
 }
 
 /* Complements at a vertex; the group stays, and the record is not reduced. */
@@ -195,9 +228,7 @@ static inline uint8_t sukhlent_record_expand(const sukhlent_record *record, sukh
     const sukhlent_length n = sukhlent_places(record->n);
     const uint8_t refusal = sukhlent_expand(record->n, record->neighbours, n, record->codes, n,
                                             record->used, list->signs, n, list->z, n, list->x, n);
-    if (refusal == SUKHLENT_ACCEPTED)
-        list->n = record->n;
-    return refusal;
+    return sukhlent_sized(refusal, &list->n, record->n);
 }
 
 static inline uint8_t sukhlent_record_image(const sukhlent_record *record, sukhlent_imaged *image)
@@ -206,9 +237,7 @@ static inline uint8_t sukhlent_record_image(const sukhlent_record *record, sukhl
     const uint8_t refusal = sukhlent_image(record->n, record->neighbours, n, record->codes, n,
                                            image->neighbours, n, image->signs, n, image->list,
                                            SUKHLENT_LIST_PLACES, &image->count);
-    if (refusal == SUKHLENT_ACCEPTED)
-        image->n = record->n;
-    return refusal;
+    return sukhlent_sized(refusal, &image->n, record->n);
 }
 
 static inline uint8_t sukhlent_record_cut(const sukhlent_record *record, uint64_t side, uint64_t *rank)
@@ -252,9 +281,7 @@ static inline uint8_t sukhlent_record_compare(const sukhlent_record *one, const 
     const uint8_t refusal = sukhlent_compare_records(
         one->n, one->neighbours, n, one->codes, n, other->n, other->neighbours, m, other->codes, m,
         carried->choice, n, carried->list, SUKHLENT_LIST_PLACES, &carried->count);
-    if (refusal == SUKHLENT_ACCEPTED)
-        carried->n = one->n;
-    return refusal;
+    return sukhlent_sized(refusal, &carried->n, one->n);
 }
 
 /* The same, of parts of any size. */
@@ -266,9 +293,7 @@ static inline uint8_t sukhlent_record_equivalent(const sukhlent_record *one,
     const uint8_t refusal = sukhlent_equivalent_records(
         one->n, one->neighbours, n, one->codes, n, other->n, other->neighbours, m, other->codes, m,
         carried->choice, n, carried->list, SUKHLENT_LIST_PLACES, &carried->count);
-    if (refusal == SUKHLENT_ACCEPTED)
-        carried->n = one->n;
-    return refusal;
+    return sukhlent_sized(refusal, &carried->n, one->n);
 }
 
 /* ---- Lists */
@@ -293,9 +318,7 @@ static inline uint8_t sukhlent_list_compare(const sukhlent_list *one, const sukh
     const uint8_t refusal = sukhlent_compare(
         one->n, one->signs, n, one->z, n, one->x, n, other->n, other->signs, m, other->z, m, other->x, m,
         carried->choice, n, carried->list, SUKHLENT_LIST_PLACES, &carried->count);
-    if (refusal == SUKHLENT_ACCEPTED)
-        carried->n = one->n;
-    return refusal;
+    return sukhlent_sized(refusal, &carried->n, one->n);
 }
 
 static inline uint8_t sukhlent_list_equivalent(const sukhlent_list *one, const sukhlent_list *other,
@@ -305,9 +328,7 @@ static inline uint8_t sukhlent_list_equivalent(const sukhlent_list *one, const s
     const uint8_t refusal = sukhlent_equivalent(
         one->n, one->signs, n, one->z, n, one->x, n, other->n, other->signs, m, other->z, m, other->x, m,
         carried->choice, n, carried->list, SUKHLENT_LIST_PLACES, &carried->count);
-    if (refusal == SUKHLENT_ACCEPTED)
-        carried->n = one->n;
-    return refusal;
+    return sukhlent_sized(refusal, &carried->n, one->n);
 }
 
 /* Reads the lines of a text, as in "+XX\n-ZZ\n", of this many bytes. */
@@ -319,9 +340,7 @@ static inline uint8_t sukhlent_list_read(sukhlent_list *made, const char *text, 
     const sukhlent_length n = sukhlent_places(lines);
     const uint8_t refusal = sukhlent_read_strings((const uint8_t *)text, bytes, made->signs, n, made->z,
                                                   n, made->x, n);
-    if (refusal == SUKHLENT_ACCEPTED)
-        made->n = lines;
-    return refusal;
+    return sukhlent_sized(refusal, &made->n, lines);
 }
 
 /* Writes the lines of a list: `text` has n * (n + 2) bytes, and no zero is put behind them. */

@@ -1,9 +1,9 @@
 #!/usr/bin/env python3
-"""The manual pages and the shell completion, made from the command's own arguments and from the header.
+"""The manual pages and the shells' completions, made from the command's own arguments and from the header.
 
-    tools/manual.py 1             sukhlent(1), the command; needs the shared library
-    tools/manual.py 3             sukhlent(3), the calls of include/sukhlent.h
-    tools/manual.py completion    for bash; needs the shared library
+    tools/manual.py 1       sukhlent(1), the command; needs the shared library
+    tools/manual.py 3       sukhlent(3), the calls of include/sukhlent.h
+    tools/manual.py bash    the completion for bash; zsh and fish too; needs the shared library
 """
 
 import argparse
@@ -95,10 +95,10 @@ def of_calls(header):
     return [*lines, ".SH SEE ALSO", ".BR sukhlent (1)", ".PP", "sukhlent_record.h has structs for C, sukhlent.hpp classes for C++."]
 
 
-# ---- bash
+# ---- completions: the commands, their options, and files
 
 
-def completion(header):
+def for_bash(header):
     _, commands, _ = command()
     cases = []
     for name, parser in commands.items():
@@ -124,8 +124,74 @@ def completion(header):
     ]
 
 
+def quoted(text):
+    """A text between single quotes, for zsh."""
+    return "'" + text.replace("'", "'\\''") + "'"
+
+
+def zsh_option(option):
+    """What _arguments of zsh takes: the names that exclude one another, one name, what is said, and what it takes."""
+    names = option.option_strings
+    about = re.sub(r"([\[\]:\\])", r"\\\1", option.help or "")
+    takes = "" if option.nargs == 0 else f":{option.dest}:" + ("_files" if option.metavar == "FILE" else "")
+    return [quoted(f"({' '.join(names)}){name}[{about}]{takes}") for name in names]
+
+
+def for_zsh(header):
+    made, commands, about = command()
+    listed = [quoted(f"{name}:{about[name]}") for name in commands]
+    cases = []
+    for name, parser in commands.items():
+        said = " ".join(word for option in options(parser) for word in zsh_option(option))
+        cases.append(f"    {name}) _arguments {said} '*:file:_files' ;;")
+    return [
+        "#compdef sukhlent",
+        f"# Completion of sukhlent {version(header)} for zsh: its commands, their options, and files.",
+        "_sukhlent() {",
+        "    local -a commands",
+        "    commands=(",
+        *(f"        {name}" for name in listed),
+        "    )",
+        "    if (( CURRENT == 2 )); then",
+        "        _describe -t commands command commands",
+        f"        _arguments {' '.join(word for option in options(made) for word in zsh_option(option))}",
+        "        return",
+        "    fi",
+        "    shift words",
+        "    (( CURRENT-- ))",
+        "    case $words[1] in",
+        *cases,
+        "    esac",
+        "}",
+        '_sukhlent "$@"',
+    ]
+
+
+def fish_words(text):
+    """A text between single quotes, for fish."""
+    return "'" + text.replace("\\", "\\\\").replace("'", "\\'") + "'"
+
+
+def fish_option(option, where):
+    """A line for an option: its names, whether something follows it, and what is said."""
+    names = " ".join(f"-l {name[2:]}" if name.startswith("--") else f"-s {name[1:]}" for name in option.option_strings)
+    takes = "" if option.nargs == 0 else " -r" + (" -F" if option.metavar == "FILE" else " -f")
+    return f"complete -c sukhlent -n {fish_words(where)} {names}{takes} -d {fish_words(option.help or '')}"
+
+
+def for_fish(header):
+    made, commands, about = command()
+    first = "__fish_use_subcommand"
+    lines = [f"# Completion of sukhlent {version(header)} for fish: its commands, their options, and files."]
+    lines += [fish_option(option, first) for option in options(made)]
+    for name, parser in commands.items():
+        lines.append(f"complete -c sukhlent -f -n {first} -a {name} -d {fish_words(about[name])}")
+        lines += [fish_option(option, f"__fish_seen_subcommand_from {name}") for option in options(parser)]
+    return lines
+
+
 def main():
-    pages = {"1": of_command, "3": of_calls, "completion": completion}
+    pages = {"1": of_command, "3": of_calls, "bash": for_bash, "zsh": for_zsh, "fish": for_fish}
     if len(sys.argv) != 2 or sys.argv[1] not in pages:
         print(__doc__, file=sys.stderr)
         return 2

@@ -29,6 +29,9 @@ PROGRAMS = ("reduce", "job", "amplitudes")
 #: from this version on Python's limited interface has buffers, and one extension serves every later Python
 LIMITED = (3, 11)
 
+#: no wheel is said to be for an older C library than 2.17, the oldest that is still met with
+OLDEST = 17
+
 
 class Missing(Exception):
     """Something that the build needs and does not find."""
@@ -129,13 +132,23 @@ def metadata():
     return "\n".join(lines)
 
 
-def tag(compiled):
-    """For which Python and machine a wheel is."""
-    machine = re.sub(r"[-.]", "_", sysconfig.get_platform())
+def glibc(contents):
+    """The least C library, the N of glibc 2.N, that programs and libraries need; None where they name none."""
+    return max((int(number) for held in contents for number in re.findall(rb"\0GLIBC_2\.(\d+)", held)), default=None)
+
+
+def machine(files):
+    """For which machine a wheel is: by the C library that its files need, where they name one (PEP 600)."""
+    here = re.sub(r"[-.]", "_", sysconfig.get_platform())
+    least = glibc(files.values())
+    return here if least is None else re.sub(r"^linux_", f"manylinux_2_{max(least, OLDEST)}_", here)
+
+
+def tag(compiled, files):
+    """For which Python and machine a wheel of these files is."""
     here = f"cp{sys.version_info[0]}{sys.version_info[1]}"
-    if not compiled:
-        return f"py3-none-{machine}"
-    return f"cp{LIMITED[0]}{LIMITED[1]}-abi3-{machine}" if limited() else f"{here}-{here}-{machine}"
+    python = "py3-none" if not compiled else f"cp{LIMITED[0]}{LIMITED[1]}-abi3" if limited() else f"{here}-{here}"
+    return f"{python}-{machine(files)}"
 
 
 def information(name):
@@ -203,7 +216,8 @@ def build_wheel(wheel_directory, config_settings=None, metadata_directory=None):
     files = {**sources(), f"sukhlent/{LIBRARY}": library().read_bytes()}
     files.update({f"sukhlent/bin/{path.name}": path.read_bytes() for path in programs()})
     made = compiled()
-    return written(wheel_directory, {**files, **made}, tag(made))
+    files.update(made)
+    return written(wheel_directory, files, tag(made, files))
 
 
 def build_editable(wheel_directory, config_settings=None, metadata_directory=None):
@@ -213,7 +227,7 @@ def build_editable(wheel_directory, config_settings=None, metadata_directory=Non
         extension(SHARED)
     except Missing as missing:
         print(f"sukhlent: no extension, the package goes through ctypes: {missing}", file=sys.stderr)
-    return written(wheel_directory, {"sukhlent.pth": f"{PACKAGE.parent}\n".encode()}, tag({}))
+    return written(wheel_directory, {"sukhlent.pth": f"{PACKAGE.parent}\n".encode()}, tag({}, {}))
 
 
 def build_sdist(sdist_directory, config_settings=None):

@@ -1,5 +1,5 @@
 /* Generator lists typed as Pauli strings: each text is read, its list reduced to a graph with
- * codes, and the generators of that record printed as a text. The last three texts are refused.
+ * codes, that record kept as a text and read back, and its generators printed as a text. The last three texts are refused.
  * rust/sukhlent/examples/strings.rs is the same in Rust. */
 #include <stdio.h>
 #include <string.h>
@@ -19,8 +19,8 @@ static int refused(uint8_t number)
 /* Reads a text of at most N lines, reduces its list and prints the record and its generators. */
 static void show(const char *text)
 {
-    uint8_t signs[N], codes[N], written[PLACES];
-    uint64_t z[N], x[N], neighbours[N], used;
+    uint8_t signs[N], codes[SUKHLENT_QUBITS], written[PLACES], kept[SUKHLENT_RECORD_PLACES];
+    uint64_t z[N], x[N], neighbours[SUKHLENT_QUBITS], used, size, count;
     size_t n = 0;
 
     for (const char *c = text; *c != '\0'; c++)
@@ -30,9 +30,12 @@ static void show(const char *text)
         return;
     if (refused(sukhlent_reduce(n, signs, n, z, n, x, n, neighbours, n, codes, n, &used)))
         return;
-    for (size_t q = 0; q < n; q++)
-        printf("vertex %zu: code %d, neighbours %016llx\n", q, codes[q],
-               (unsigned long long)neighbours[q]);
+    if (refused(sukhlent_write_record(n, neighbours, n, codes, n, used, kept, sizeof kept, &size)))
+        return;
+    printf("%.*s", (int)size, (const char *)kept);
+    if (refused(sukhlent_read_record(kept, size, &count, neighbours, SUKHLENT_QUBITS, codes,
+                                     SUKHLENT_QUBITS, &used)))
+        return;
     if (refused(sukhlent_expand(n, neighbours, n, codes, n, used, signs, n, z, n, x, n)))
         return;
     if (refused(sukhlent_write_strings(n, signs, n, z, n, x, n, written, n * (n + 2))))

@@ -14,8 +14,8 @@
 #include "sukhlent.h"
 
 #define EACH_CALL(X) \
-    X(gate) X(cz) X(measure) X(observe) X(renew) X(complement) X(run) X(cut) X(expectation) \
-    X(group_gate) X(group_cz) X(group_measure) X(group_complement)
+    X(gate) X(cz) X(measure) X(observe) X(measure_row) X(renew) X(complement) X(run) X(cut) \
+    X(expectation) X(group_gate) X(group_cz) X(group_measure) X(group_complement)
 
 #define POINTER(name) static __typeof__(sukhlent_##name) *call_##name;
 EACH_CALL(POINTER)
@@ -172,6 +172,17 @@ static PyObject *measure(PyObject *self, PyObject *const *args, Py_ssize_t count
 static PyObject *observe(PyObject *self, PyObject *const *args, Py_ssize_t count)
 {
     return measured_by(call_observe, args, count);
+}
+
+static PyObject *measure_row(PyObject *self, PyObject *const *args, Py_ssize_t count)
+{
+    Record r;
+    uint64_t z, x;
+    uint8_t bit, answer = 0, determined = 0;
+    if (!takes(count, 4) || !record_of(args[0], &r) || !place_of(args[1], &z) || !place_of(args[2], &x)) return NULL;
+    if (!octet_of(args[3], NULL, judge_bit, &bit)) return NULL;
+    uint8_t number = call_measure_row(r.n, r.neighbours, r.n, r.codes, r.n, *r.used, z, x, bit, &answer, &determined);
+    return measured(number, answer, determined);
 }
 
 static PyObject *renew(PyObject *self, PyObject *const *args, Py_ssize_t count)
@@ -504,8 +515,8 @@ static PyObject *open_library(PyObject *self, PyObject *args)
 #define METHOD(name) {#name, (PyCFunction)(void (*)(void))name, METH_FASTCALL, NULL}
 static PyMethodDef methods[] = {
     {"open", open_library, METH_VARARGS, NULL},
-    METHOD(gate), METHOD(cz), METHOD(cx), METHOD(measure), METHOD(observe), METHOD(renew), METHOD(complement),
-    METHOD(cut), METHOD(expectation), METHOD(reduce), METHOD(same), METHOD(run), METHOD(run_many), METHOD(group_gate),
+    METHOD(gate), METHOD(cz), METHOD(cx), METHOD(measure), METHOD(observe), METHOD(measure_row), METHOD(renew),
+    METHOD(complement), METHOD(cut), METHOD(expectation), METHOD(reduce), METHOD(same), METHOD(run), METHOD(run_many), METHOD(group_gate),
     METHOD(group_cz), METHOD(group_measure), METHOD(group_complement), {NULL, NULL, 0, NULL},
 };
 

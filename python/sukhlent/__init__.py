@@ -23,6 +23,7 @@ from .pictures import Unwritten
 from .plots import plot_svg, read_table, table_of
 from .refusals import TEXTS, Refusal
 from .running import Ran, run_many
+from .session import Session
 from .shared import Group, Shared
 from .state import State
 from .stores import Store
@@ -33,7 +34,7 @@ __version__ = version()
 
 __all__ = [
     "Circuit", "CircuitResult", "Equivalence", "GeneratorList", "Group", "Image", "Measured", "NAMES", "Orbit", "PlotLine",
-    "Ran", "Refusal", "Renumbered", "Result", "Shared", "State", "Step", "Store", "TEXTS", "Unwritten", "__version__",
+    "Ran", "Refusal", "Renumbered", "Result", "Session", "Shared", "State", "Step", "Store", "TEXTS", "Unwritten", "__version__",
     "circle", "code", "edges_of", "generate", "grid", "images", "job_text", "line", "number_of", "orbit", "parse_job",
     "plot_svg", "read_circuit", "read_list", "read_record", "read_state", "read_table", "run_job", "run_many", "run_step",
     "run_steps", "table_of", "version",

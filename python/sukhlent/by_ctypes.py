@@ -68,6 +68,14 @@ def observe(block: bytearray, pauli: "int | str", qubit: int, lot: int) -> int:
     return _measured_by("observe", block, pauli, qubit, lot)
 
 
+def measure_row(block: bytearray, z: int, x: int, lot: int) -> int:
+    """A Pauli row of any weight measured with a bit by lot: the outcome, and 2 more where it was determined. No qubit is
+    used up."""
+    answer, determined = library.octet(), library.octet()
+    number = _call("measure_row", block, place(z), place(x), bit(lot), answer, determined)
+    return _measured(number, answer, determined)
+
+
 def renew(block: bytearray, qubit: int, photon: int) -> int:
     """A new photon at a used qubit, in the state of a code: 0, 2, 4, 6, 8, 10 are +X, -X, +Y, -Y, +Z, -Z."""
     return library.call("renew", *_record(block), _used(block), place(qubit), code(photon))

@@ -17,11 +17,14 @@ from .codes import CODES, code
 #: the module's name in the package, and the stem of its file
 _NAME = "_calls"
 
+#: how its file may end: what is on the limited interface is for Python 3.11 and later (tools/packaged.py)
+_SUFFIXES = [suffix for suffix in EXTENSION_SUFFIXES if suffix != ".abi3.so" or sys.version_info >= (3, 11)]
+
 
 def _extension() -> "ModuleType | None":
     """The extension, opened on the library that was loaded; None where there is none for this Python and version."""
     for folder in (Path(__file__).resolve().parent, library.tree() / "target" / "shared"):
-        for suffix in EXTENSION_SUFFIXES:
+        for suffix in _SUFFIXES:
             path = folder / (_NAME + suffix)
             if path.is_file():
                 return _opened(path)
@@ -57,6 +60,7 @@ TAKEN = "ctypes" if _taken is by_ctypes else "extension"
 
 gate, cz, cx, complement = _taken.gate, _taken.cz, _taken.cx, _taken.complement
 measure, observe, renew = _taken.measure, _taken.observe, _taken.renew
+measure_row = _taken.measure_row
 cut, expectation, reduce, same = _taken.cut, _taken.expectation, _taken.reduce, _taken.same
 run, run_many = _taken.run, _taken.run_many
 group_gate, group_cz = _taken.group_gate, _taken.group_cz

@@ -69,6 +69,17 @@ def gate(number: int, n: int, used: int, qubit: int, named: "int | str") -> Refu
     return on_qubits(number, n, used, (qubit,), "gate")
 
 
+def renew(number: int, n: int, used: int, qubit: int) -> Refusal:
+    """The refusal of a renewal.
+
+    >>> renew(20, 3, 0, 1)
+    Refusal(20, 'qubit 1 is not used, so that no new photon can take its place')
+    """
+    if number == 20:
+        return Refusal(20, f"qubit {qubit} is not used, so that no new photon can take its place")
+    return on_qubits(number, n, used, (qubit,), "renew")
+
+
 def measure(number: int, n: int, used: int, pauli: "str | int", qubit: int, outcome: int) -> Refusal:
     """The refusal of a measurement.
 

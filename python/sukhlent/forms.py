@@ -5,32 +5,53 @@ from __future__ import annotations
 
 import re
 
-from .reading import plain_lines
+from .reading import Line, plain_lines
 from .rows import shown
 from .running import OPS
 
 #: a piece of a line: a pattern and what it is called
 Piece = tuple[str, str]
 
-_SPACE: Piece = (" ", "one space")
+SPACE: Piece = (" ", "one space")
 _HEX: Piece = ("[0-9a-f]{16}", "16 lower-case hexadecimal digits")
 _FIELD: Piece = ("0|[1-9][0-9]{0,2}", "a number of one to three digits without a leading zero")
 _OP: Piece = ("|".join(OPS), f"{', '.join(OPS[:-1])} or {OPS[-1]}")
 
-_GENERATOR: list[Piece] = [("[0-9]", "a sign digit"), _SPACE, _HEX, _SPACE, _HEX]
-_STEP: list[Piece] = [_OP, _SPACE, _FIELD, _SPACE, _FIELD, _SPACE, _FIELD]
+_GENERATOR: list[Piece] = [("[0-9]", "a sign digit"), SPACE, _HEX, SPACE, _HEX]
+_STEP: list[Piece] = [_OP, SPACE, _FIELD, SPACE, _FIELD, SPACE, _FIELD]
 
 
-def _literal(text: str) -> list[Piece]:
+def literal(text: str) -> list[Piece]:
+    """The pieces of a line that is always the same."""
     return [(re.escape(text), f"the line '{text}'")]
 
 
-def _vertex(number: int) -> list[Piece]:
+#: the names above a record
+RECORD = literal("qubit code neighbours used")
+
+
+def vertex(number: int) -> list[Piece]:
+    """The pieces of a record's line."""
     said = (str(number), f"{number}, the vertices rising from 0")
-    return [said, _SPACE, ("[0-9]{1,2}", "a code"), _SPACE, _HEX, _SPACE, ("[01]", "0 or 1, for a used qubit")]
+    return [said, SPACE, ("0|[1-9][0-9]?", "a code"), SPACE, _HEX, SPACE, ("[01]", "0 or 1, for a used qubit")]
 
 
-def _line_fault(line: str, pieces: list[Piece]) -> tuple[int, str] | None:
+def line_fault(line: Line, pieces: list[Piece]) -> str | None:
+    """Where a line leaves its pieces, and what was expected there.
+
+    >>> line_fault(Line(3, 1, "held 9"), [("held [0-8]", "'held' and a number up to 8")])
+    "line 3, column 1: expected 'held' and a number up to 8"
+    """
+    found = _first_fault(line.text, pieces)
+    if found is None:
+        return None
+    at, due = found
+    there = line.text[at - 1 : at]
+    strange = f" ({shown(there)} stands there)" if there and not (there.isascii() and there.isprintable()) else ""
+    return f"line {line.number}, column {line.column + at - 1}: expected {due}{strange}"
+
+
+def _first_fault(line: str, pieces: list[Piece]) -> tuple[int, str] | None:
     """The column (from 1) at which a line leaves its pieces, and what was expected there."""
     at = 0
     for pattern, name in pieces:
@@ -44,14 +65,10 @@ def _line_fault(line: str, pieces: list[Piece]) -> tuple[int, str] | None:
 def _fault(text: str, heads: list[list[Piece]], body) -> str | None:
     """The first fault of a text whose first lines are `heads` and whose line k after them is `body(k)`."""
     lines = plain_lines(text)
-    for place, (number, column, content) in enumerate(lines):
-        pieces = heads[place] if place < len(heads) else body(place - len(heads))
-        fault = _line_fault(content, pieces)
+    for place, line in enumerate(lines):
+        fault = line_fault(line, heads[place] if place < len(heads) else body(place - len(heads)))
         if fault is not None:
-            at, due = fault
-            there = content[at - 1 : at]
-            strange = f" ({shown(there)} stands there)" if there and not (there.isascii() and there.isprintable()) else ""
-            return f"line {number}, column {column + at - 1}: expected {due}{strange}"
+            return fault
     if len(lines) < len(heads):
         last = lines[-1].number if lines else 0
         return f"line {last + 1}, column 1: expected {heads[len(lines)][0][1]}"
@@ -65,7 +82,7 @@ def list_fault(text: str) -> str | None:
     'line 2, column 20: expected 16 lower-case hexadecimal digits'
     >>> list_fault("sign z x\\r\\n")
     """
-    return _fault(text, [_literal("sign z x")], lambda _: _GENERATOR)
+    return _fault(text, [literal("sign z x")], lambda _: _GENERATOR)
 
 
 def record_fault(text: str) -> str | None:
@@ -74,7 +91,7 @@ def record_fault(text: str) -> str | None:
     >>> record_fault("qubit code neighbours used\\n0 8 0000000000000000\\n")
     'line 2, column 21: expected one space'
     """
-    return _fault(text, [_literal("qubit code neighbours used")], _vertex)
+    return _fault(text, [RECORD], vertex)
 
 
 def job_fault(text: str) -> str | None:
@@ -85,4 +102,4 @@ def job_fault(text: str) -> str | None:
     >>> job_fault("qubits\\n2\\nop a b value\\ngate 0 0")
     'line 4, column 9: expected one space'
     """
-    return _fault(text, [_literal("qubits"), [_FIELD], _literal("op a b value")], lambda _: _STEP)
+    return _fault(text, [literal("qubits"), [_FIELD], literal("op a b value")], lambda _: _STEP)

@@ -10,7 +10,7 @@ TEXTS: dict[int, str] = {
     " has another n than 64",
     4: "a buffer's length is not what is required",
     5: "a word has a bit at or above n",
-    6: "a sign, outcome or group is above 1, a code above 23 or no photon's, a Pauli not 1 to 3, a seed 0, a run's operation above 4,"
+    6: "a sign, outcome or group is above 1, a code above 23 or no photon's, a Pauli not 1 to 3, a seed 0, a run's operation above 6,"
     " or a field that a step does not use is not 0",
     7: "a graph is not simple, or a used vertex has a neighbour or a code that no measurement leaves, or a store holds a name twice,"
     " or a group's held state has a neighbour outside it",

@@ -3,14 +3,21 @@
 from __future__ import annotations
 
 from array import array
-from typing import Any, Iterable, NamedTuple, Sequence
+from typing import Any, Callable, Iterable, NamedTuple, Sequence
 
 from . import calls, library
 from .arguments import called, listed, whole
+from .lots import Source, bits_from
 from .refusals import Refusal
 
-#: the names of the operations of a run, in the order of their numbers
+#: the names of the operations of a job, in the order of their numbers
 OPS = ("gate", "cz", "measure", "complement", "pivot")
+
+#: those of a run, which has two more
+RUN_OPS = (*OPS, "observe", "renew")
+
+#: the number of an observation, whose bit is by lot
+OBSERVE = RUN_OPS.index("observe")
 
 
 class Ran(NamedTuple):
@@ -28,9 +35,12 @@ class Ran(NamedTuple):
     determined: Any
 
 
-def run_tuples(block: bytearray, steps: Iterable[Sequence[int]]) -> list[tuple[int, int, int]]:
-    """Steps given one by one, as four numbers each."""
+def run_tuples(block: bytearray, steps: Iterable[Sequence[int]], source: Source = None) -> list[tuple[int, int, int]]:
+    """Steps given one by one, as four numbers each; with a source the bit of each observation is drawn from it."""
     given = _steps(steps)
+    if source is not None:
+        draw = bits_from(source)
+        given = [(op, a, b, with_bit(value, draw) if op == OBSERVE else value) for op, a, b, value in given]
     columns = list(zip(*given)) if given else [()] * 4
     try:
         slices: list[Any] = [array("B", columns[0]), *(array("H", column) for column in columns[1:])]
@@ -54,9 +64,17 @@ def _steps(steps: Iterable[Sequence[int]]) -> list[tuple[int, int, int, int]]:
         raise
 
 
-def run_buffers(block: bytearray, ops: Any, a: Any, b: Any, value: Any) -> Ran:
-    """Steps in four buffers, which are not copied; the answers in arrays of their kind."""
+def with_bit(value: Any, draw: Callable[[], int]) -> Any:
+    """An observation's value with a drawn bit in place of its own."""
+    return whole(value, "a value") & ~1 | draw()
+
+
+def run_buffers(block: bytearray, ops: Any, a: Any, b: Any, value: Any, source: Source = None) -> Ran:
+    """Steps in four buffers, which are not copied; the answers in arrays of their kind. With a source the bits of the
+    observations are drawn from it into a copy of the values."""
     slices = _buffers(ops, a, b, value)
+    if source is not None:
+        slices[3] = _drawn(slices[0], slices[3], bits_from(source))
     answers = [_like(ops, (len(memoryview(ops)),)) for _ in range(3)]
     _accept(calls.run(block, *slices, *answers), ops)
     return Ran(*answers)
@@ -94,6 +112,15 @@ def run_many(states: Iterable[Any], ops: Any, a: Any, b: Any, value: Any, thread
     flat = [_flat(given) for given in (*slices, *answers)]
     _accept(calls.run_many(records, *flat, max(1, whole(threads, "a number of threads"))), ops)
     return Ran(*answers)
+
+
+def _drawn(ops: Any, value: Any, draw: Callable[[], int]) -> Any:
+    """A copy of the values, with a drawn bit in each observation's."""
+    values = array("H", memoryview(value).cast("B").tobytes())
+    for k, op in enumerate(memoryview(ops).tobytes()[: len(values)]):
+        if op == OBSERVE:
+            values[k] = values[k] & ~1 | draw()
+    return values
 
 
 def _flat(given: Any) -> memoryview:
@@ -139,7 +166,7 @@ def _accept(number: int, ops: Any) -> None:
     if number == 15:
         raise Refusal(15, f"{found} steps, but a run has at most 4,096")
     if number == 6:
-        strange = [(k, op) for k, op in enumerate(memoryview(ops).tobytes()) if op >= len(OPS)]
+        strange = [(k, op) for k, op in enumerate(memoryview(ops).tobytes()) if op >= len(RUN_OPS)]
         if strange:
-            raise Refusal(6, f"step {strange[0][0]} has the operation {strange[0][1]}, but operations are 0 to {len(OPS) - 1}")
+            raise Refusal(6, f"step {strange[0][0]} has the operation {strange[0][1]}, but operations are 0 to {len(RUN_OPS) - 1}")
     raise Refusal(number)

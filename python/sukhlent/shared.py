@@ -5,17 +5,23 @@ from __future__ import annotations
 from pathlib import Path
 from typing import Any, Iterable, Sequence
 
-from . import blocks, calls, explain, library
+from . import beyond, blocks, calls, explain, files, forms, library
 from .arguments import qubits
 from .drawing import record_svg
 from .gates import Gates
+from .kept import Lines, fill, free_name, held_text
 from .layouts import Layout
+from .lots import Source, bits_from
 from .pictures import draw
 from .refusals import Refusal
 from .rows import Row, row_words
-from .running import OPS
-from .state import State
+from .running import OBSERVE, OPS, RUN_OPS, with_bit
+from .state import PHOTONS, State
 from .stores import Buffers, held_names, name_number, not_held
+
+
+#: the first line of the text of a shared record
+_GROUPS: "list[forms.Piece]" = [("groups [0-9a-f]{16}", "'groups' and 16 lower-case hexadecimal digits")]
 
 
 class Shared:
@@ -60,6 +66,62 @@ class Shared:
 
     def __deepcopy__(self, memo: dict) -> Shared:
         return self.copy()
+
+    @classmethod
+    def read(cls, text: str) -> Shared:
+        """The record, the groups and their named states of a text, as `str` writes it.
+
+        >>> shared = Shared([1, 3])
+        >>> shared.group(1).h(3)
+        >>> shared.group(1).save("plus")
+        >>> other = Shared.read(str(shared))
+        >>> other.group(1).qubits(), other.group(1).names(), other.state() == shared.state()
+        ([1, 3], ['plus'], True)
+        """
+        shared, lines = cls(()), Lines(text)
+        shared._word = int(lines.take(_GROUPS).text[7:], 16)
+        shared._block = lines.record(64)._block
+        fill(lines, shared._store.all, shared._refusal)
+        lines.end()
+        return shared
+
+    def _refusal(self, place: int) -> int:
+        """Why the named states of the group that has a place are none; 0 where they are sound."""
+        neighbours, codes, used = blocks.parts(self._block)
+        head = (64, self._word, place // 4, library.words(neighbours), library.octets(codes), used)
+        number = library.call("group_forget", *head, free_name(self._store.all[0]), *self._store.all)
+        return 0 if number in (17, 19) else number  # 19: an edge between the groups, which comes after what is held
+
+    def _text(self) -> str:
+        return f"groups {self._word:016x}\n{beyond.record_text(self._block)}{held_text(*self._store.all)}"
+
+    def __str__(self) -> str:
+        return self._text()[:-1]
+
+    def save(self, path: files.Place) -> None:
+        """Writes the record, the groups and their named states to a file, flushed: after a power cut the file is the old one
+        or the new one, whole.
+
+        >>> import tempfile
+        >>> with tempfile.TemporaryDirectory() as folder:
+        ...     Shared([1, 3]).save(folder + "/shared.txt")
+        ...     print(files.read(folder + "/shared.txt")[:50], end="")
+        groups 000000000000000a
+        qubit code neighbours used
+        """
+        files.replace(path, self._text())
+
+    @classmethod
+    def load(cls, path: files.Place) -> Shared:
+        """The record, the groups and their named states of a file that `save` wrote.
+
+        >>> import tempfile
+        >>> with tempfile.TemporaryDirectory() as folder:
+        ...     Shared([1, 3]).save(folder + "/shared.txt")
+        ...     Shared.load(folder + "/shared.txt").word
+        10
+        """
+        return files.loaded(path, cls.read)
 
     def groups(self) -> tuple[Group, Group]:
         """The handles of groups 0 and 1.
@@ -294,25 +356,45 @@ class Group(Gates):
                 number, 64, self._used(), (vertex,), "complement"
             )
 
-    def run(self, steps: Iterable[Sequence[int]]) -> list[tuple[int, int, int]]:
+    def run(self, steps: Iterable[Sequence[int]], source: Source = None) -> list[tuple[int, int, int]]:
         """Runs steps of the group one after the other, given as to `State.run`: an operation, two qubits and a value each.
         Answers refusal, outcome and determined of each; a refused step changes nothing. Refused as a whole by 15 where
-        there are more than 4,096, by 6 where an operation is none.
+        there are more than 4,096, by 6 where an operation is none. With a `source` the bits of observations are drawn from it.
 
         >>> lower, upper = Shared(range(32, 64)).groups()
         >>> lower.run([(0, 0, 0, 8), (0, 40, 0, 8), (2, 0, 0, 0)])
         [(0, 0, 0), (19, 0, 0), (0, 0, 1)]
+        >>> lower.run([(6, 0, 0, 8), (5, 0, 0, 5), (5, 40, 0, 4)])
+        [(0, 0, 0), (0, 0, 1), (19, 0, 0)]
         """
-        from .jobs import Step, run_step
-
+        bit = None if source is None else bits_from(source)
         given = [(op, a, b, value) for op, a, b, value in steps]
         if len(given) > 4096:
             raise Refusal(15, f"{len(given)} steps, but a run has at most 4,096")
-        strange = next(((k, step[0]) for k, step in enumerate(given) if not 0 <= step[0] < len(OPS)), None)
+        strange = next(((k, step[0]) for k, step in enumerate(given) if not 0 <= step[0] < len(RUN_OPS)), None)
         if strange is not None:
-            raise Refusal(6, f"step {strange[0]} has the operation {strange[1]}, but operations are 0 to {len(OPS) - 1}")
-        found = (run_step(self, Step(OPS[op], a, b, value)) for op, a, b, value in given)
-        return [(result.refusal, result.outcome, result.determined) for result in found]
+            raise Refusal(6, f"step {strange[0]} has the operation {strange[1]}, but operations are 0 to {len(RUN_OPS) - 1}")
+        if bit is not None:
+            given = [(op, a, b, with_bit(value, bit) if op == OBSERVE else value) for op, a, b, value in given]
+        return [self._stepped(*step) for step in given]
+
+    def _stepped(self, op: int, a: int, b: int, value: int) -> tuple[int, int, int]:
+        """What a step of a run answers."""
+        from .jobs import Step, run_step
+
+        if op < len(OPS):
+            result = run_step(self, Step(OPS[op], a, b, value))
+            return result.refusal, result.outcome, result.determined
+        try:
+            if b != 0 or value not in (range(6) if op == OBSERVE else PHOTONS.values()):
+                raise Refusal(6)
+            if op == OBSERVE:
+                found = self._observed("XYZ"[value // 2], a, value % 2)
+                return 0, found & 1, found >> 1
+            self.renew(a, next(photon for photon, code in PHOTONS.items() if code == value))
+        except Refusal as refusal:
+            return refusal.number, 0, 0
+        return 0, 0, 0
 
     def expectation(self, row: Row) -> int:
         """The expectation value of a Pauli row on the group's qubits, as `State.expectation` has it: a row of 64 letters, or

@@ -5,7 +5,7 @@ from __future__ import annotations
 from pathlib import Path
 from typing import Any
 
-from . import beyond, blocks
+from . import beyond, blocks, files
 from .drawing import record_svg
 from .layouts import Layout, lattice_of, places
 from .pictures import draw
@@ -21,6 +21,20 @@ class Shows:
 
     def __str__(self) -> str:
         return beyond.record_text(self._block)[:-1]
+
+    def save(self, path: files.Place) -> None:
+        """Writes the record's text to a file, flushed: after a power cut the file is the old one or the new one, whole. The
+        layout and the labels are not in it.
+
+        >>> import tempfile
+        >>> from sukhlent import State
+        >>> with tempfile.TemporaryDirectory() as folder:
+        ...     State.zeros(1).save(folder + "/state.txt")
+        ...     print(files.read(folder + "/state.txt"), end="")
+        qubit code neighbours used
+        0 8 0000000000000000 0
+        """
+        files.replace(path, beyond.record_text(self._block))
 
     def __repr__(self) -> str:
         neighbours, codes, used = blocks.parts(self._block)

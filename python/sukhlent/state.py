@@ -5,7 +5,7 @@ from __future__ import annotations
 import struct
 from typing import Any, Callable, Iterable
 
-from . import beyond, blocks, calls, explain, library
+from . import beyond, blocks, calls, explain, files, library
 from .answers import Measured
 from .arguments import called, listed, whole
 from .codes import code
@@ -23,7 +23,18 @@ from .shows import Shows
 _new = object.__new__
 
 #: the codes of a new photon, by its state
-_PHOTONS = {"+X": 0, "-X": 2, "+Y": 4, "-Y": 6, "+Z": 8, "-Z": 10}
+PHOTONS = {"+X": 0, "-X": 2, "+Y": 4, "-Y": 6, "+Z": 8, "-Z": 10}
+
+
+def photon_code(photon: str) -> int:
+    """The code of a new photon.
+
+    >>> photon_code("-Y")
+    6
+    """
+    if photon not in PHOTONS:
+        raise ValueError(f"renew(qubit, photon): a photon is {', '.join(PHOTONS)}, not {called(photon)}")
+    return PHOTONS[photon]
 
 
 def _judged(neighbours: Iterable[int], codes: Iterable[int], used: int) -> bytearray:
@@ -142,6 +153,29 @@ class State(Gates, Reads, Graphs, Shows):
 
         return read_state(text)
 
+    @classmethod
+    def read(cls, text: str) -> State:
+        """The state of a record as `str` and the programs print it, read by the proved reader.
+
+        >>> State.read(str(State.zeros(2))) == State.zeros(2)
+        True
+        """
+        from .texts import read_record
+
+        return read_record(text)
+
+    @classmethod
+    def load(cls, path: files.Place) -> State:
+        """The state of a file that `save` wrote.
+
+        >>> import tempfile
+        >>> with tempfile.TemporaryDirectory() as folder:
+        ...     State.zeros(2).save(folder + "/state.txt")
+        ...     State.load(folder + "/state.txt") == State.zeros(2)
+        True
+        """
+        return files.loaded(path, cls.read)
+
     # ---- copies
 
     def copy(self) -> State:
@@ -259,7 +293,7 @@ class State(Gates, Reads, Graphs, Shows):
         if outcome is not None and value < 2 and value != outcome ^ sign:
             raise Refusal(14, f"{sparse(z, x)} has the outcome {1 - outcome} in this state, not {outcome}")
         bit = bits_from(source)() if outcome is None else outcome
-        found = beyond.measure_row(self._block, z, x, bit ^ sign)
+        found = calls.measure_row(self._block, z, x, bit ^ sign)
         if found < 0:
             raise Refusal(-found)
         return MEASURED[found ^ sign]
@@ -274,16 +308,13 @@ class State(Gates, Reads, Graphs, Shows):
         >>> state.used, state.generators().strings()
         (0, ['+Z'])
         """
-        if photon not in _PHOTONS:
-            raise ValueError(f"renew(qubit, photon): a photon is {', '.join(_PHOTONS)}, not {called(photon)}")
+        value = photon_code(photon)
         try:
-            number = calls.renew(self._block, qubit, _PHOTONS[photon])
+            number = calls.renew(self._block, qubit, value)
         except TypeError as error:
             raise TypeError(f"renew(qubit, photon): {error}") from None
-        if number == 20:
-            raise Refusal(20, f"qubit {qubit} is not used, so that no new photon can take its place")
         if number:
-            raise explain.on_qubits(number, self.n, self.used, (qubit,), "renew")
+            raise explain.renew(number, self.n, self.used, qubit)
 
     def complement(self, vertex: int) -> None:
         """Complements the graph at a vertex and rewrites the codes: the same state, not reduced.
@@ -300,9 +331,12 @@ class State(Gates, Reads, Graphs, Shows):
         if number:
             raise explain.on_qubits(number, self.n, self.used, (vertex,), "complement")
 
-    def run(self, steps: Any, a: Any = None, b: Any = None, value: Any = None) -> "list[tuple[int, int, int]] | Ran":
-        """Runs at most 4,096 steps in one call: each is an operation (0 gate, 1 cz, 2 measure, 3 complement, 4 pivot), two
-        qubits and a value, as in a job. Answers refusal, outcome and determined of each; a refused step changes nothing.
+    def run(
+        self, steps: Any, a: Any = None, b: Any = None, value: Any = None, source: Source = None
+    ) -> "list[tuple[int, int, int]] | Ran":
+        """Runs at most 4,096 steps in one call: each is an operation (0 gate, 1 cz, 2 measure, 3 complement, 4 pivot,
+        5 observe, 6 renew), two qubits and a value, as in a job. Answers refusal, outcome and determined of each; a refused
+        step changes nothing.
 
         >>> state = State.zeros(2)
         >>> state.run([(0, 0, 0, 8), (2, 0, 0, 0), (1, 0, 1, 0)])
@@ -316,10 +350,16 @@ class State(Gates, Reads, Graphs, Shows):
         >>> from array import array
         >>> State.zeros(2).run(array("B", [0, 2]), array("H", [0, 0]), array("H", [0, 0]), array("H", [8, 0])).determined
         array('B', [0, 1])
+
+        An observation (value `2 * (pauli - 1) + bit`) takes its bit where the state does not determine the outcome; with a
+        `source` all bits of observations are drawn from it, those given play no part. A renewal's value is the photon's code.
+
+        >>> State.zeros(1).run([(5, 0, 0, 0), (6, 0, 0, 8), (5, 0, 0, 4)], source=5)
+        [(0, 1, 0), (0, 0, 0), (0, 0, 1)]
         """
         if a is None and b is None and value is None:
-            return run_tuples(self._block, steps)
-        return run_buffers(self._block, steps, a, b, value)
+            return run_tuples(self._block, steps, source)
+        return run_buffers(self._block, steps, a, b, value, source)
 
     def run_circuit(self, text: str, source: Source = None) -> list[Measured]:
         """Runs a circuit of Clifford gates, written for Stim or in OpenQASM 2 or 3, from this state on; answers its

@@ -4,8 +4,9 @@ from __future__ import annotations
 
 from typing import Any, Iterable, Sequence
 
-from . import library
+from . import files, library
 from .arguments import called
+from .kept import Lines, fill, free_name, held_text
 from .refusals import Refusal
 from .state import State
 
@@ -75,6 +76,11 @@ def not_held(number: int, name: "bytes | str", names: "list[str]") -> Refusal:
     return Refusal(number)
 
 
+def _unless(sound: int, number: int) -> int:
+    """A refusal, or 0 where it is the one that sound buffers give."""
+    return 0 if number == sound else number
+
+
 class Store:
     """Up to eight states under names; a store starts empty. A name is text or bytes, at most eight bytes, and shorter ones
     are filled up with spaces.
@@ -116,6 +122,55 @@ class Store:
 
     def __deepcopy__(self, memo: dict) -> Store:
         return self.copy()
+
+    @classmethod
+    def read(cls, text: str) -> Store:
+        """The store of a text, as `str` writes it.
+
+        >>> store = Store()
+        >>> store.save("start", State.zeros(1))
+        >>> print(store)
+        held 1
+        place qubits name
+        0 1 "start"
+        qubit code neighbours used
+        0 8 0000000000000000 0
+        >>> Store.read(str(store)).names()
+        ['start']
+        """
+        store, lines = cls(), Lines(text)
+        held = store._buffers.all
+        fill(lines, held, lambda place: _unless(17, library.call("forget", free_name(held[0]), *held)))
+        lines.end()
+        return store
+
+    def __str__(self) -> str:
+        return held_text(*self._buffers.all)[:-1]
+
+    def save_all(self, path: files.Place) -> None:
+        """Writes all names and states to a file, flushed: after a power cut the file is the old one or the new one, whole.
+
+        >>> import tempfile
+        >>> with tempfile.TemporaryDirectory() as folder:
+        ...     Store().save_all(folder + "/store.txt")
+        ...     Store.load(folder + "/store.txt").names()
+        []
+        """
+        files.replace(path, held_text(*self._buffers.all))
+
+    @classmethod
+    def load(cls, path: files.Place) -> Store:
+        """The store of a file that `save_all` wrote.
+
+        >>> import tempfile
+        >>> store = Store()
+        >>> store.save("start", State.zeros(2))
+        >>> with tempfile.TemporaryDirectory() as folder:
+        ...     store.save_all(folder + "/store.txt")
+        ...     Store.load(folder + "/store.txt").return_to("start") == State.zeros(2)
+        True
+        """
+        return files.loaded(path, cls.read)
 
     def save(self, name: bytes | str, state: State) -> None:
         """Holds the state under the name: in place of what is held under it, else at a free place; 18 where eight other

@@ -2,13 +2,14 @@
 
 from __future__ import annotations
 
-from . import forms
+from . import beyond, forms, logs
 from .lists import GeneratorList
 from .reading import plain_text
 from .refusals import Refusal
 from .state import State
 
 _LIST, _RECORD, _RESULTS = "sign z x", "qubit code neighbours", ("step refusal outcome", "measurement row outcome")
+_SESSION = "checkpoint steps qubits"
 
 
 def read_list(text: str) -> GeneratorList:
@@ -29,6 +30,9 @@ def read_record(text: str) -> State:
     State([0], [8], 1)
     """
     rows = _rows(text, forms.record_fault(text))
+    found = beyond.read_text("".join(["qubit code neighbours used\n", *(" ".join(row) + "\n" for row in rows)]))
+    if not isinstance(found, int):
+        return State._of(found)
     if len(rows) > 64:
         raise Refusal(2, f"{len(rows)} qubits, but a state has 1 to 64")
     used = sum(1 << q for q, row in enumerate(rows) if row[3] == "1")
@@ -44,13 +48,14 @@ def list_of(text: str) -> GeneratorList:
     plain = plain_text(text)
     if plain.startswith(_LIST):
         return read_list(text)
-    if plain.startswith((_RECORD, *_RESULTS)):
+    if plain.startswith((_RECORD, _SESSION, *_RESULTS)):
         return read_state(text).generators()
     return GeneratorList.from_text(text)
 
 
 def read_state(text: str) -> State:
-    """The state of any of these: Pauli strings, a generator list, a record, or what `sukhlent job` prints.
+    """The state of any of these: Pauli strings, a generator list, a record, what `sukhlent job` prints, or the file of a
+    session, after its last step.
 
     >>> read_state("+XX\\n-ZZ\\n")
     State([2, 1], [0, 10], 0)
@@ -58,6 +63,8 @@ def read_state(text: str) -> State:
     State([0], [10], 0)
     """
     plain = plain_text(text)
+    if plain.startswith(_SESSION):
+        return State._of(logs.read(text.encode("utf-8", "surrogateescape")).block)
     if plain.startswith(_RESULTS) and "\n" + _RECORD in plain:
         text = plain = plain[plain.index("\n" + _RECORD) + 1 :]
     if plain.startswith(_RECORD):

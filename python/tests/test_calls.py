@@ -35,7 +35,7 @@ def arguments(source, n):
         [
             ("gate", place(), gate()), ("cz", place(), place()), ("cx", place(), place()),
             ("measure", pauli(), place(), bit()), ("observe", pauli(), place(), bit()), ("renew", place(), photon()),
-            ("complement", place()), ("cut", word()),
+            ("measure_row", word(), word(), bit()), ("complement", place()), ("cut", word()),
             ("expectation", word(), word()), ("reduce",), ("group_gate", *group, place(), gate()),
             ("group_cz", *group, place(), place()), ("group_measure", *group, pauli(), place(), bit()),
             ("group_complement", *group, place()),
@@ -44,7 +44,7 @@ def arguments(source, n):
 
 
 #: the calls with an answer of their own
-ANSWERING = ("measure", "observe", "cut", "expectation", "group_measure")
+ANSWERING = ("measure", "observe", "measure_row", "cut", "expectation", "group_measure")
 
 
 @unittest.skipUnless(calls.TAKEN == "extension", "the extension is not built for this Python")
@@ -93,7 +93,7 @@ class Alike(unittest.TestCase):
         for name, given in (
             ("gate", ("H", 0)), ("gate", (0, 1.5)), ("gate", (0, "T")), ("cz", (0, None)), ("measure", ("X", "Z", 0)),
             ("measure", ("X", 0, 0.5)), ("measure", (None, 0, 0)), ("complement", ([0],)), ("observe", ("X", "Z", 0)),
-            ("observe", ("X", 0, 0.5)), ("observe", (None, 0, 0)), ("renew", ("H", 0)), ("renew", (0, "T")),
+            ("measure_row", (0, 0, 0.5)), ("observe", ("X", 0, 0.5)), ("observe", (None, 0, 0)), ("renew", ("H", 0)), ("renew", (0, "T")),
         ):  # fmt: skip
             said = []
             for module in (calls, by_ctypes):

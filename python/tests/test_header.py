@@ -29,6 +29,39 @@ def declared():
     return {name: [parts.fullmatch(one).groups() for one in parameters] for name, parameters in split.items()}
 
 
+#: a tuple that stands for several parameters of C in a signature of raw.rs: their types
+TUPLES = {
+    "Lent": ("u64", "&[u8]", "&[u64]", "&[u64]"),
+    "LentGraph": ("u64", "&[u64]", "&[u8]"),
+    "LentRecord": ("u64", "&[u64]", "&[u8]", "u64"),
+    "LentStore": ("&[u64]", "&[u64]", "&[u8]"),
+    "Whose": ("u64", "u8"),
+}
+
+
+def flat(signature):
+    """The parameters of a signature of raw.rs as (name, type), tuples field by field; a group stands behind the n of its record."""
+    fields = []
+    for names, one, kind in re.findall(r"(?:\(([^)]*)\)|(\w+)): ((?:&mut |&)?[\w\[\]]+)", signature):
+        given = list(zip(names.split(", "), TUPLES[kind])) if names else [(one, kind)]
+        at = 1 if kind == "Whose" and fields[0][0] == "n" else len(fields)
+        fields[at:at] = given
+    return fields
+
+
+def in_rust():
+    """Of each call that raw.rs declares: its parameters of C, a slice as a pointer and a length."""
+    text = "".join((ROOT / "rust/sukhlent/src" / name).read_text() for name in ("raw.rs", "raw/groups.rs"))
+    found = {}
+    for signature, name in re.findall(r"^    pub fn \w+\(((?:[^;]|\n)*?)\) = sukhlent_(\w+);", text, re.M):
+        found[name] = words = []
+        for field, kind in flat(signature):
+            mark = "*mut " if kind.startswith("&mut ") else "*const " if kind.startswith("&") else ""
+            words.append(f"{field}: {mark}{re.sub(r'[^a-z0-9]', '', kind.removeprefix('&mut '))}")
+            words += [f"{field}_len: u64"] * ("[" in kind)
+    return found
+
+
 class Header(unittest.TestCase):
     def test_a_length_has_64_bits_and_a_type_of_its_own(self):
         self.assertIn("typedef uint64_t sukhlent_length;", HEADER)
@@ -38,16 +71,14 @@ class Header(unittest.TestCase):
                 self.assertIn(kind, TYPES, f"{parameter} of {name}")
 
     def test_rust_declares_what_c_declares(self):
-        text = "".join((ROOT / "rust/sukhlent/src" / name).read_text() for name in ("raw.rs", "raw/groups.rs"))
-        found = re.findall(r"pub fn sukhlent_(\w+)\(([^)]*)\) -> u8;", text)
-        self.assertEqual(len(found), text.count("pub fn sukhlent_") - 1)  # the version answers no refusal
-        for name, said in found:
+        said = in_rust()
+        self.assertEqual(set(said), set(declared()))
+        for name, parameters in declared().items():
             words = []
-            for const, kind, pointer, parameter in declared()[name]:
+            for const, kind, pointer, parameter in parameters:
                 mark = ("*const " if const else "*mut ") if pointer else ""
                 words.append(f"{parameter}: {mark}{TYPES[kind][0]}")
-            said = [" ".join(one.split()) for one in said.split(",")]
-            self.assertEqual([one for one in said if one], words, name)
+            self.assertEqual(said[name], words, name)
 
     def test_python_declares_what_c_declares(self):
         for name, types in _CALLS.items():
@@ -59,14 +90,17 @@ class Header(unittest.TestCase):
         said = {NUMBERS[name]: text for name, text in cases if name != "ACCEPTED"}
         self.assertEqual(said, TEXTS)
 
-    def test_every_published_number_has_one_name_in_c_and_python_and_a_line_in_the_document(self):
+    def test_every_published_number_has_one_name_in_every_language_and_a_line_in_the_document(self):
         cases = re.findall(r"case SUKHLENT_(\w+): return", HEADER)
         named = [(NUMBERS[name], name) for name in cases if name != "ACCEPTED"]
         self.assertEqual(named, [(number, Refusal(number).name) for number in TEXTS])
-        rust = re.findall(r"^    (\w+) = (\d+),$", (ROOT / "rust/sukhlent/src/refusal.rs").read_text(), re.M)
-        variants = {int(number): name for name, number in rust}
+        words = {name: name.title().replace("_", "") for _, name in named}  # NOT_USED is NotUsed in Rust and C++
+        rust = re.findall(r'^    (\w+) = (\d+), "SUKHLENT_(\w+)",$', (ROOT / "rust/sukhlent/src/refusal.rs").read_text(), re.M)
+        self.assertEqual(rust, [(words[name], str(number), name) for number, name in named])
+        plus = re.findall(r"^    (\w+) = SUKHLENT_(\w+),?$", (ROOT / "include/sukhlent.hpp").read_text(), re.M)
+        self.assertEqual(plus[: len(named) + 1], [("Accepted", "ACCEPTED"), *((words[name], name) for _, name in named)])
         rows = re.findall(r"^\| (\d+) \| `(\w+)` \| `(\w+)` \| \w", (ROOT / "docs/ENGINE.md").read_text(), re.M)
-        self.assertEqual(rows, [(str(number), name, variants[number]) for number, name in named])
+        self.assertEqual(rows, [(str(number), name, words[name]) for number, name in named])
 
     def test_the_published_list_has_the_same_numbers_in_the_same_order(self):
         comment = HEADER[HEADER.index("in checking order") : HEADER.index("#ifndef")]

@@ -1,11 +1,14 @@
 """What `tools/install` installs: programs in C and C++ are compiled against it, and its command and package run."""
 
 import os
+import pty
 import re
+import select
 import shutil
 import subprocess
 import sys
 import tempfile
+import time
 import unittest
 from pathlib import Path
 
@@ -66,6 +69,45 @@ def flags(folder, *what):
     while "${" in words:
         words = re.sub(r"\$\{(\w+)\}", lambda found: names[found[1]], words)
     return words.split()
+
+
+#: what is typed, and the word that it is completed to, if there is one
+TYPED = {
+    "sukhlent equi": "equivalent",
+    "sukhlent draw --la": "--layout",
+    "sukhlent job --o": "",
+    "sukhlent reduce on": "only.txt",
+    "sukhlent nothing": "",
+}
+
+
+def completed_by_zsh(line, typed, folder):
+    """What zsh makes of each text at Tab, after a line that is typed first: printed in place of being run."""
+    child, terminal = pty.fork()
+    if child == 0:
+        os.chdir(folder)
+        os.environ.update(TERM="dumb", HOME=str(folder))
+        os.execvp("zsh", ["zsh", "-f", "-i"])
+
+    def said(keys, end):
+        os.write(terminal, keys.encode())
+        text, limit = b"", time.monotonic() + 60
+        while end not in text and time.monotonic() < limit:
+            if select.select([terminal], [], [], 1)[0]:
+                text += os.read(terminal, 4096)
+        return text.decode()
+
+    try:
+        said(f"{line}\r", b"\n")
+        said("echo rea''dy\r", b"ready\r\n")
+        found = {}
+        for keys in typed:  # to the line's begin by Ctrl+A, to its end by Ctrl+E
+            text = said(f"{keys}\t\x01echo 'line \x05' e''nd\r", b" end\r\n")
+            found[keys] = re.search(r"\nline (.*?) *end\r", text)[1]
+        return found
+    finally:
+        os.close(terminal)
+        os.waitpid(child, 0)
 
 
 class Install(unittest.TestCase):
@@ -161,12 +203,30 @@ class Install(unittest.TestCase):
             for section in "13":
                 self.assertIn("sukhlent - a proved graph-state engine", run("man", "--warnings", section, "sukhlent", env=environment))
 
-    def test_the_shell_completes_commands_and_options(self):
-        script = self.prefix / "share/bash-completion/completions/sukhlent"
-        for typed, due in (("equi", ["equivalent"]), ("draw --la", ["--layout"]), ("job --o", [])):
-            words = ["sukhlent", *typed.split()]
-            code = f"source {script}; COMP_WORDS=({' '.join(words)}); COMP_CWORD={len(words) - 1}; _sukhlent; echo \"${{COMPREPLY[@]}}\""
-            self.assertEqual(run("bash", "-c", code).split(), due, typed)
+    def next_line(self, about):
+        """A line to type next, by what it is for."""
+        (line,) = re.findall(rf"^ *(?:its completion, )?{about}: +(.*)$", self.said, re.M)
+        return line
+
+    def test_the_shells_complete_commands_options_and_files(self):
+        """bash, zsh and fish, after the line that tools/install prints for each, all to the same."""
+        words = [str(ROOT / "tools/needed"), "--install", "shells"]
+        needed = subprocess.run(words, capture_output=True, text=True, timeout=600)
+        self.assertEqual(needed.returncode, 0, needed.stdout + needed.stderr)
+        folder = self.prefix.parent / "files"
+        folder.mkdir()
+        (folder / "only.txt").write_text("")
+        for typed, due in TYPED.items():
+            words = f"COMP_WORDS=({typed}); COMP_CWORD={typed.count(' ')}"
+            code = f'{self.next_line("bash")}; {words}; _sukhlent; echo "${{COMPREPLY[@]}}"'
+            self.assertEqual(run("bash", "-c", code, cwd=folder).split(), [due] if due else [], typed)
+            code = f"{self.next_line('fish')}; complete -C '{typed}'"
+            said = [line.split("\t")[0] for line in run("fish", "-N", "-c", code, cwd=folder).splitlines()]
+            self.assertEqual(said, [due] if due else [], typed)
+        lines = completed_by_zsh(self.next_line("zsh"), TYPED, folder)
+        for typed, due in TYPED.items():
+            whole = typed.rpartition(" ")[0] + f" {due}" if due else typed
+            self.assertEqual(lines[typed], whole)
 
     def test_the_command_and_the_package(self):
         command = self.prefix / "bin" / "sukhlent"
@@ -234,20 +294,28 @@ class Target(unittest.TestCase):
 
     def installed(self, target):
         """The files below the prefix."""
-        said = run(INSTALL, "--target", target, self.prefix).splitlines()[-1]
-        self.assertTrue(said.startswith("sukhlent ") and said.endswith(f" for {target} is in {self.prefix}"), said)
+        said = run(INSTALL, "--target", target, self.prefix)
+        self.assertRegex(said, rf"(?m)^sukhlent \d+\.\d+\.\d+ for {target} is in {self.prefix}$")
+        self.assertRegex(said, r"(?m)^C.*, pkg-config: .*export PKG_CONFIG_")
         return {str(path.relative_to(self.prefix)) for path in self.prefix.rglob("*") if path.is_file()}
 
     def test_header_library_and_package_file_of_a_target(self):
-        self.assertEqual(self.installed("x86-64-v3"), TO_COMPILE | {"lib/libsukhlent.a", "share/sukhlent/installed"})
+        self.assertEqual(self.installed("riscv64"), TO_COMPILE | {"lib/libsukhlent.a", "share/sukhlent/installed"})
         self.assertEqual((self.prefix / "include/sukhlent.h").read_bytes(), (ROOT / "include/sukhlent.h").read_bytes())
+
+    def test_x86_64_v3_has_all_that_x86_64_has(self):
+        some = {"lib/libsukhlent.a", "lib/libsukhlent.so", "libexec/sukhlent/job"}
+        self.assertLess(TO_COMPILE | some, self.installed("x86-64-v3"))
         package = self.prefix / "lib" / "pkgconfig"
         self.assertIn("target=x86-64-v3\n", (package / "sukhlent.pc").read_text())
         source, program = self.prefix / "first.c", self.prefix / "first"
         source.write_text(SOURCE)
-        run("cc", "-std=c99", "-Wall", "-Wextra", "-pedantic", "-Werror", source, *flags(package, "--cflags", "--libs"), "-o", program)
+        strict = ["-std=c99", "-Wall", "-Wextra", "-pedantic", "-Werror"]
+        words = [*flags(package, "--cflags", "--libs"), f"-Wl,-rpath,{self.prefix}/lib"]
+        run("cc", *strict, source, *words, "-o", program)
         if " avx2 " in Path("/proc/cpuinfo").read_text():
             self.assertEqual(run(program), PRINTED)
+            self.assertIn("sukhlent ", run(self.prefix / "bin/sukhlent", "--version"))
 
     def test_wasm32_has_its_module(self):
         self.assertIn("lib/sukhlent.wasm", self.installed("wasm32"))

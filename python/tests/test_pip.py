@@ -94,7 +94,7 @@ class Pip(unittest.TestCase):
             self.assertEqual(done.returncode, 0, done.stderr)
             self.assertIn("there is no C compiler called no-compiler; CC names another one", done.stderr)
             (wheel,) = Path(folder).glob("*.whl")
-            self.assertIn("-py3-none-linux_", wheel.name)
+            self.assertRegex(wheel.name, r"-py3-none-(many)?linux_")
             with zipfile.ZipFile(wheel) as archive:
                 self.assertFalse([name for name in archive.namelist() if "_calls" in name])
                 archive.extractall(folder)

@@ -37,6 +37,17 @@ class Reference(unittest.TestCase):
             self.assertIn(head, run.stdout)
             self.assertIn(head, shown)
 
+    def test_the_times_of_sessions_are_measured(self):
+        command = [sys.executable, "-B", str(ROOT / "python" / "bench" / "sessions.py"), "--quick"]
+        environment = {**os.environ, "PYTHONPATH": str(ROOT / "python")}
+        run = subprocess.run(command, capture_output=True, text=True, timeout=120, env=environment)
+        self.assertEqual(run.returncode, 0, run.stderr)
+        shown = (ROOT / "docs" / "SPEED.md").read_text()
+        heads = [line.split("|")[1] for line in run.stdout.splitlines() if line.startswith("| ")]
+        self.assertEqual(len(heads), 7)
+        for head in heads:
+            self.assertIn(f"|{head}|", shown)
+
 
 if __name__ == "__main__":
     unittest.main()

@@ -3,6 +3,7 @@
 import itertools
 import os
 import random
+import runpy
 import subprocess
 import threading
 import unittest
@@ -11,6 +12,7 @@ from unittest import mock
 
 from sukhlent import Refusal, State, calls, generate, run_job, run_many
 from tests.places import ROOT
+from tests.tableau import Tableau
 from tests.vectors import Vector
 
 try:
@@ -22,9 +24,95 @@ except ImportError:
 def slices(source, n, count):
     """Steps of all kinds as four arrays."""
     return [
-        array("B", [source.randrange(5) for _ in range(count)]),
+        array("B", [source.randrange(7) for _ in range(count)]),
         *(array("H", [source.choice((0, source.randrange(n), source.randrange(24))) for _ in range(count)]) for _ in range(3)),
     ]
+
+
+def source_steps(source, n, count):
+    """Gates H, CZ, observations and renewals in which places are used and renewed, now and then against the rule."""
+    used = 0
+    for _ in range(count):
+        a, b = source.sample(range(n), 2)
+        if bool(used >> a & 1) != (source.randrange(20) == 0):
+            yield 6, a, 0, 2 * source.randrange(6)
+            used &= ~(1 << a)
+            continue
+        op = source.choice((0, 1, 1, 5, 5))
+        yield op, a, b if op == 1 else 0, {0: 8, 1: 0, 5: source.randrange(6)}[op]
+        if op == 5:
+            used |= 1 << a
+
+
+def on_tableau(tableau, used, steps):
+    """What the steps answer on a tableau: refusal, outcome and determined of each."""
+    for op, a, b, value in steps:
+        named = 1 << a | (1 << b if op == 1 else 0)
+        if op == 6 and not used & named:
+            yield 20, 0, 0
+        elif op != 6 and used & named:
+            yield 16, 0, 0
+        elif op == 5:
+            used |= named
+            yield 0, *tableau.observe(value // 2 + 1, a, value % 2)
+        else:
+            used &= ~named
+            {0: lambda: tableau.h(a), 1: lambda: tableau.cz(a, b), 6: lambda: tableau.renew(a, value)}[op]()
+            yield 0, 0, 0
+
+
+class Sources(unittest.TestCase):
+    """Observations and renewals as steps of runs."""
+
+    def test_runs_against_the_tableau(self):
+        source, refusals = random.Random(5), set()
+        for n in (2, 3, 5, 17, 64):
+            for _ in range(4):
+                steps = list(source_steps(source, n, 300))
+                answers = State.graph(n, []).run(steps)
+                self.assertEqual(answers, list(on_tableau(Tableau(n), 0, steps)))
+                refusals.update(refusal for refusal, _, _ in answers)
+        self.assertEqual(refusals, {0, 16, 20})
+
+    def test_the_example_against_the_tableau(self):
+        example = runpy.run_path(str(ROOT / "examples" / "python" / "source.py"))
+        bits = example["lot"]()
+        steps = [(op, a, b, value + next(bits) if op == 5 else value) for op, a, b, value in example["steps"](1001)]
+        due = [answer for (op, *_), answer in zip(steps, on_tableau(Tableau(64), 0, steps)) if op == 5]
+        outcomes, determined = example["source"](1001)
+        self.assertEqual(list(outcomes), [outcome for _, outcome, _ in due])
+        self.assertEqual((determined, sum(known for *_, known in due)), (1, 1))
+        self.assertEqual(outcomes[-1], sum(outcomes[:-1:2]) % 2)
+
+    def test_bits_from_a_source_are_those_of_single_calls(self):
+        for kind in (random.Random, *([numpy.random.default_rng] if numpy else [])):
+            steps = [(0, 0, 0, 8), (1, 0, 1, 0), (5, 0, 0, 4), (6, 0, 0, 8), (5, 1, 0, 0), (6, 1, 0, 2), (5, 1, 0, 0)] * 20
+            state, other, bits = State.zeros(2), State.zeros(2), kind(7)
+            answers = state.run(steps, source=kind(7))
+            for (op, a, b, value), (refusal, outcome, determined) in zip(steps, answers):
+                try:
+                    if op == 5:
+                        found = other.measure("XYZ"[value // 2], a, source=bits)
+                        self.assertEqual((refusal, outcome, determined), (0, found.outcome, found.determined))
+                    elif op == 6:
+                        other.renew(a, {8: "+Z", 2: "-X"}[value])
+                    else:
+                        other.gate(a, value) if op == 0 else other.cz(a, b)
+                except Refusal as refused:
+                    self.assertEqual(refusal, refused.number)
+            self.assertEqual(state, other)
+
+    def test_bits_from_each_kind_of_source(self):
+        steps = [(0, q, 0, 8) for q in range(6)] + [(5, q, 0, 5) for q in range(6)]
+        columns = [array("BHHH"[k], column) for k, column in enumerate(zip(*steps))]
+        for bits in ([0] * 6, [1] * 6, [0, 1, 1, 0, 1, 0]):
+            for answers in (State.zeros(6).run(steps, source=iter(bits)), list(zip(*State.zeros(6).run(*columns, source=iter(bits))))):
+                self.assertEqual([outcome for _, outcome, _ in answers[6:]], bits)
+        self.assertEqual(list(columns[3]), [8] * 6 + [5] * 6)  # what is lent is not changed
+        self.assertEqual([outcome for _, outcome, _ in State.zeros(6).run(steps)[6:]], [1] * 6)
+        for given, error in ((iter([0]), ValueError), (iter([2] * 6), ValueError), ([0] * 6, TypeError)):
+            with self.assertRaises(error):
+                State.zeros(6).run(steps, source=given)
 
 
 class Runs(unittest.TestCase):

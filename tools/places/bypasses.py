@@ -45,7 +45,7 @@ BYPASSES = [
     ]),
     ("one composition", "a complementation has a row of its own", [
         (
-            "    let around = rest | single(q);\n    let sixes = before_each(6);\n",
+            "    let around = rest | single(q);\n    let sixes = before_each(S_DAG);\n",
             "    let around = rest | single(q);\n    let sixes = row_of_six();\n",
         ),
     ]),

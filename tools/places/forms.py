@@ -4,9 +4,9 @@ import re
 
 from .calls import lines_of, parameters
 
-REDUCING = ["reduce", "compare", "equivalent", "program reduce", "program amplitudes"]
-COMPOSING = ["gate", "cz", "measure", "complement", "image", "compare", "compare_records", "run", "amplitude", "reduce",
-             "group_gate", "group_cz", "group_measure", "group_complement",
+REDUCING = ["reduce", "measure_row", "compare", "equivalent", "program reduce", "program amplitudes"]
+COMPOSING = ["gate", "cz", "measure", "measure_row", "complement", "image", "compare", "compare_records", "run",
+             "amplitude", "reduce", "group_gate", "group_cz", "group_measure", "group_complement",
              "program reduce", "program job", "program amplitudes"]
 ROWS = "[ [ u64 ; 2 ] ; 64 ]"
 ARITHMETIC = {"+", "-", "*", "/", "%", "^", "|", "<<", ">>"}

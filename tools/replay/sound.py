@@ -148,6 +148,14 @@ class Sound:
         n = text.count(10)
         self.call("read_strings", text, Lent(n), Lent(n), Lent(n))
 
+    def write_record(self):
+        record = self.record()
+        _, after = self.call("write_record", *record.lent(), record.used, Lent(1627), Lent(1))
+        return after[-2][: after[-1][0]]
+
+    def read_record(self):
+        self.call("read_record", self.write_record(), Lent(1), Lent(64), Lent(64), Lent(1))
+
     # a record in place
 
     def gate(self, record=None):

@@ -5,9 +5,9 @@ import { WIDE } from "./numbers.js";
 
 /** The calls that the package makes. */
 const CALLS = [
-  "version", "check", "reduce", "expand", "gate", "cz", "measure", "observe", "renew", "complement", "run", "image", "cut",
-  "amplitude", "expectation", "product", "equivalent_records", "generate", "read_strings", "write_strings", "save", "return",
-  "forget",
+  "version", "check", "reduce", "expand", "gate", "cz", "measure", "observe", "measure_row", "renew", "complement", "run",
+  "image", "cut", "amplitude", "expectation", "product", "equivalent_records", "generate", "read_strings", "write_strings",
+  "read_record", "write_record", "save", "return", "forget",
 ];
 
 const FILE = "../sukhlent.wasm";

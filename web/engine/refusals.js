@@ -7,7 +7,7 @@ const LIST = new Map([
   [2, ["COUNT", "n is 0 or above the call's limit, or the two lists' or records' n differ, or a group's call, or a state that it holds, has another n than 64"]],
   [4, ["LENGTH", "a buffer's length is not what is required"]],
   [5, ["STRAY", "a word has a bit at or above n"]],
-  [6, ["VALUE", "a sign, outcome or group is above 1, a code above 23 or no photon's, a Pauli not 1 to 3, a seed 0, a run's operation above 4, or a field that a step does not use is not 0"]],
+  [6, ["VALUE", "a sign, outcome or group is above 1, a code above 23 or no photon's, a Pauli not 1 to 3, a seed 0, a run's operation above 6, or a field that a step does not use is not 0"]],
   [7, ["GRAPH", "a graph is not simple, or a used vertex has a neighbour or a code that no measurement leaves, or a store holds a name twice, or a group's held state has a neighbour outside it"]],
   [19, ["OTHER_GROUP", "a group's call names a qubit of the other group, or the record has an edge between the groups"]],
   [8, ["QUBIT", "a qubit number is n or more, or a qubit is named twice, or a pivot's pair has no edge"]],

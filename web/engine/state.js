@@ -1,13 +1,13 @@
 // A stabilizer state held as a record: a graph with one local Clifford per vertex, and a word of used qubits.
-import { measureRow } from "./beyond.js";
 import { code } from "./codes.js";
-import { RECORD_NAMES, recordFault } from "./forms.js";
+import { recordFault } from "./forms.js";
 import { call, floatCell, octetCell, wordCell } from "./library.js";
 import { GeneratorList, rowWords } from "./lists.js";
 import { bits, fairBit, halves, octet, octets, place, placesOf, wordOf, words } from "./numbers.js";
 import { Refusal, accept } from "./refusals.js";
 
 const LIST_PLACES = 96;
+const RECORD_PLACES = 1627;
 const PHOTONS = ["+X", "-X", "+Y", "-Y", "+Z", "-Z"];
 
 /** The number of a Pauli by its letter, or the number itself; 0, which every call refuses, of another letter. */
@@ -79,10 +79,11 @@ export class State {
   static fromText(text) {
     const fault = recordFault(text);
     if (fault) throw new Refusal(1, fault);
-    const rows = text.split("\n").slice(1, -1).map((line) => line.split(" "));
-    if (rows.length > 64) throw new Refusal(2);
-    const used = wordOf([...rows.keys()].filter((q) => rows[q][3] === "1"));
-    return new State(rows.map((row) => BigInt(`0x${row[2]}`)), rows.map((row) => Number(row[1])), used);
+    const [n, used] = [wordCell(), wordCell()];
+    const [neighbours, codes] = [new BigUint64Array(64), new Uint8Array(64)];
+    accept(call("read_record", new TextEncoder().encode(text), n, neighbours, codes, used));
+    const count = Number(n.value);
+    return new State(neighbours.slice(0, count), codes.slice(0, count), used.value);
   }
 
   /** The same record, apart. */
@@ -263,10 +264,11 @@ export class State {
 
   /** Measures a Pauli row with a bit by lot. No qubit is used by it. */
   measureRow(row, bit = fairBit()) {
-    const { outcome, determined, record } = measureRow(this, row, bit);
-    this.#neighbours = words(record.neighbours);
-    this.#codes = octets(record.codes);
-    return { outcome, determined };
+    const { sign, z, x } = rowWords(row, this.n);
+    const [answer, determined] = [octetCell(), octetCell()];
+    const lot = bit === 0 || bit === 1 ? bit ^ sign : bit;
+    accept(call("measure_row", ...this.#record(), this.#used, z, x, octet(lot), answer, determined));
+    return { outcome: answer.value ^ sign, determined: determined.value === 1 };
   }
 
   /** A new photon at a used place, in the state +X, -X, +Y, -Y, +Z or -Z, by name or by its code 0, 2, 4, 6, 8 or 10. */
@@ -282,8 +284,10 @@ export class State {
   }
 
   /**
-   * Runs at most 4,096 steps in one call: each is an operation (0 gate, 1 cz, 2 measure, 3 complement, 4 pivot), two
-   * qubits and a value, as in a job. Answers refusal, outcome and determined of each; a refused step changes nothing.
+   * Runs at most 4,096 steps in one call: each is an operation (0 gate, 1 cz, 2 measure, 3 complement, 4 pivot,
+   * 5 observe, 6 renew), two qubits and a value, as in a job; an observation's value has its bit where a measurement's has
+   * the outcome, and a renewal's is the photon's code. Answers refusal, outcome and determined of each; a refused step
+   * changes nothing.
    */
   run(steps) {
     const ops = octets(steps.map(([op]) => op));
@@ -303,8 +307,8 @@ export class State {
 
   /** The record as programs print it. */
   toString() {
-    const line = (q) =>
-      `${q} ${this.#codes[q]} ${this.#neighbours[q].toString(16).padStart(16, "0")} ${this.isUsed(q) ? 1 : 0}\n`;
-    return `${RECORD_NAMES}\n${this.codes.map((_, q) => line(q)).join("")}`;
+    const [text, length] = [new Uint8Array(RECORD_PLACES), wordCell()];
+    accept(call("write_record", ...this.#record(), this.#used, text, length));
+    return new TextDecoder().decode(text.slice(0, Number(length.value)));
   }
 }

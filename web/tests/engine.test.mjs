@@ -192,6 +192,30 @@ test("the image of a graph, a cut, products, and a complementation that keeps th
   assert.deepEqual([phase, letters], [1, "ZI"]);
 });
 
+test("observations and renewals as steps of a run are the single calls", () => {
+  const steps = [[0, 0, 0, 8], [1, 0, 1, 0], [5, 0, 0, 5], [6, 0, 0, 2], [5, 0, 0, 0], [6, 1, 0, 8], [5, 1, 0, 4], [5, 1, 0, 4]];
+  const [state, other] = [State.zeros(2), State.zeros(2)];
+  const single = ([op, a, b, value]) => {
+    if (op === 0) other.gate(a, value);
+    else if (op === 1) other.cz(a, b);
+    else if (op === 6) other.renew(a, value);
+    else {
+      const { outcome, determined } = other.observe("XYZ"[value >> 1], a, value & 1);
+      return [0, outcome, Number(determined)];
+    }
+    return [0, 0, 0];
+  };
+  const due = steps.map((step) => {
+    let answer;
+    const refusal = number(() => { answer = single(step); });
+    return refusal ? [refusal, 0, 0] : answer;
+  });
+  assert.deepEqual(state.run(steps), due);
+  assert.deepEqual(due.map(([refusal]) => refusal), [0, 0, 0, 0, 0, 20, 0, 16]);
+  assert.equal(String(state), String(other));
+  assert.equal(number(() => state.run([[7, 0, 0, 0]])), 6);
+});
+
 test("observations ignore a bit that the state forbids, and renewal brings the place back", () => {
   const state = State.zeros(2);
   assert.deepEqual(state.observe("Z", 0, 1), { outcome: 0, determined: true });

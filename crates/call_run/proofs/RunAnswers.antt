@@ -54,7 +54,7 @@ ready u s z =
     }
   where
     h : UsedUnrefused u × (otherLengths s ≡ false)
-    h = no-further-argument u (otherLengths s) (reaching 5 (s .ops)) (after-15 _ _ z)
+    h = no-further-argument u (otherLengths s) (reaching 7 (s .ops)) (after-15 _ _ z)
 
     both : (oneOtherThan (length (s .ops)) (s .a) (s .b) (s .value) ≡ false)
         × (oneOtherThan (length (s .ops)) (s .refusals) (s .outcomes) (s .determined) ≡ false)
@@ -101,9 +101,9 @@ module _ (u : UsedRecord) (s : LentSteps) (asked answered : Bool)
     (ea : asked ≡ oneOtherThan (length (s .ops)) (s .a) (s .b) (s .value))
     (eb : answered ≡ oneOtherThan (length (s .ops)) (s .refusals) (s .outcomes) (s .determined)) (k : ℕ)
     (e : k ≡ firstFitting (line 15 (ltb 4096 (length (s .ops)))
-    ∷ usedLines u (asked || answered) false (reaching 5 (s .ops)))) where
+    ∷ usedLines u (asked || answered) false (reaching 7 (s .ops)))) where
   at-lines : k ≡ firstFitting (runLines u s)
-  at-lines = e ∙ ap (λ b. firstFitting (line 15 (ltb 4096 (length (s .ops))) ∷ usedLines u b false (reaching 5 (s .ops))))
+  at-lines = e ∙ ap (λ b. firstFitting (line 15 (ltb 4096 (length (s .ops))) ∷ usedLines u b false (reaching 7 (s .ops))))
       (ap₂ _||_ ea eb)
 
   pub run-refused : (k ≡ 0 → ⊥) → Call (runCall u s (u .held .neighbours) (u .held .codes) (u .used) (s .refusals)

@@ -14,13 +14,13 @@ use Rattle.operations_checks.proofs.UsedNumbers.{no-further}
 module _ (u : UsedRecord) (ops : List ℕ) (others : Bool) where
   -- more than 4,096 steps
   pub many-steps : 4096 < length ops
-      → 15 ≡ firstFitting (line 15 (ltb 4096 (length ops)) ∷ usedLines u others false (reaching 5 ops))
+      → 15 ≡ firstFitting (line 15 (ltb 4096 (length ops)) ∷ usedLines u others false (reaching 7 ops))
   many-steps h = sym (fits 15 _ (lt-ltb 4096 (length ops) h))
 
   -- else the record, the lengths and the operations decide
-  pub record-decides : (six : Bool) → six ≡ reaching 5 ops → {k : ℕ} → length ops ≤ 4096
+  pub record-decides : (six : Bool) → six ≡ reaching 7 ops → {k : ℕ} → length ops ≤ 4096
       → k ≡ firstFitting (usedLines u others (leb (2 ^ (u .held .n)) 0) six)
-      → k ≡ firstFitting (line 15 (ltb 4096 (length ops)) ∷ usedLines u others false (reaching 5 ops))
+      → k ≡ firstFitting (line 15 (ltb 4096 (length ops)) ∷ usedLines u others false (reaching 7 ops))
   record-decides six e few h =
       no-further u others six h ∙ ap (λ b. firstFitting (usedLines u others false b)) e
       ∙ sym (passed 15 _ (le-ltb 4096 (length ops) few))

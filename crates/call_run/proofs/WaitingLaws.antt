@@ -1,8 +1,8 @@
 -- Steps on a record that stands for a reduced one: their numbers, and the groups after them.
-use mathlib.Core.Bool.{Bool, cond, false, true}
+use mathlib.Core.Bool.{_&&_, Bool, cond, false, true}
 use mathlib.Core.List.{List}
 use mathlib.Core.Logic.{_≢_}
-use mathlib.Core.Path.{ap, refl, subst, sym, _∙_, _≡_}
+use mathlib.Core.Path.{ap, ap₂, refl, subst, sym, _∙_, _≡_}
 use Prim.Native.Nat.{_<_, ℕ, _≤_, _^_}
 use native.Mathlib.Omega.{arith}
 use lib.Bits.{bitOr}
@@ -14,6 +14,7 @@ use Rattle.calls.proofs.InPlaceLines.{gate-ready, measure-ready}
 use Rattle.calls.proofs.MeasureLines.{arguments-before, measure-passes, then-14, then-none}
 use Rattle.calls.proofs.UsedInPlace.{named-as, record-refused, then-0, then-16, then-8}
 use Rattle.calls.specs.InPlace.{usedCall, usedMeasureCall}
+use Rattle.calls.specs.Sources.{observeCall, renewCall}
 use Rattle.calls.specs.internal.InPlace.{usedInPlace}
 use Rattle.clifford.specs.Clifford.{cliffordOf}
 use Rattle.buffers.proofs.Calling.{done, refused}
@@ -25,7 +26,7 @@ use Rattle.operations.proofs.GroupAlone.{cz-of-group, determined-of-group, meas
 use Rattle.operations.proofs.UnrefusedRecords.{accepted-unrefused}
 use Rattle.operations.specs.Cz.{czRows}
 use Rattle.operations.specs.Gates.{gated}
-use Rattle.operations.specs.Measurement.{contradicts, isDetermined, outcome, determinedNumber, measuredOutcome, measuredRows, outcomeNumber, pauliLetter}
+use Rattle.operations.specs.Measurement.{contradicts, isDetermined, outcome, determinedNumber, measuredOutcome, measuredRows, outcomeNumber, pauliLetter, single}
 use Rattle.operations.specs.Steps.{Operation, argumentLines, czOn, gateWith, linesOf, made, measurementOf}
 use Rattle.operations.specs.declared.Outcome.{Outcome}
 use Rattle.operations.specs.declared.Outcome.the-variants.{Chosen, Determined}
@@ -41,13 +42,24 @@ use Rattle.record.specs.Reduced.{reduced}
 use Rattle.stabilizer.proofs.Carried.{carries-moved, carries-same}
 use Rattle.stabilizer.proofs.GroupLaws.{same-refl, same-sym, same-trans}
 use Rattle.stabilizer.specs.Groups.{Proper, SameGroup}
+use Rattle.operations.proofs.Determined.{measured-proper}
 use Rattle.operations.proofs.AcceptedSteps.{cz-arguments, cz-list, gate-arguments, gate-proper, measure-arguments, measured-list}
 use Rattle.operations.proofs.MeasuringMarks.{marked-word}
 use Rattle.operations.proofs.UsedPassing.{lines-pass, used-passes, used-step}
 use Rattle.operations.specs.Used.{usedArgumentsOf, usedLinesOf, UsedRecord, UsedUnrefused}
 use Rattle.words.proofs.Flags.{same-by-both}
-use Rattle.words.specs.Bits.{isOdd}
-use Rattle.call_run.specs.internal.Waiting.{MeasuredStep, Standing, Stepped, heldIn, meant, meantRecord}
+use Rattle.source.proofs.Observed.{answered, observed-passes}
+use Rattle.stabilizer.specs.Membership.{member}
+use Rattle.words.specs.Bits.{isOdd, _⊕_}
+use Rattle.call_run.specs.internal.Waiting.{
+  MeasuredStep,
+  ObservedStep,
+  Standing,
+  Stepped,
+  heldIn,
+  meant,
+  meantRecord,
+}
 
 -- the number of the first line, where none of the record's holds
 abbrev pub argumentNumber : Bool → Bool → Bool → ℕ
@@ -289,6 +301,86 @@ module _ (waiting : Bool) (u : UsedRecord) (W : Standing waiting u) where
           left : reduced n (heldRows (heldIn u words′ codes′)) ≡ made v (measurementOf pauli q b)
           left = reduced-after _ _ P E words′ codes′ H
 
+  -- ---- measured with a bit by lot
+  module _ (pauli q b : ℕ) {j : ℕ} (e : j ≡ firstFitting (usedArgumentsOf (meant waiting u) (measurementOf pauli q b))) where
+    pub refused-observation : (j ≡ 0 → ⊥)
+        → ObservedStep waiting u pauli q b (u .held .neighbours) (u .held .codes) (u .used) 0 0 j
+    refused-observation h =
+        record {
+          sound = W .sound;
+          call = subst (λ t. Call (observeCall (meant waiting u) pauli q b 0 0 ((meantRecord t l) .neighbours)
+              ((meantRecord t l) .codes) (u .used) 0 0) j)
+              (sym (ap (λ t. cond t true waiting) (ne-eqb j 0 h))) (refused _ e h (refl, (refl, (refl, (refl, (refl, tt))))));
+        }
+
+    module _ (z : j ≡ 0) where
+      within : q < n
+      within = subst (λ m. q < m) (accepted-held .neighbours-length) (asks-before pauli q b e z .0 .1)
+
+      pub observe-below : q < 64
+      observe-below = omega (arith, within, accepted-held .upto)
+
+      -- the outcome depends on the group alone: it is the bit, or the other where the bit is contradicted
+      by-contradiction : (rows : ℕ → Pauli) → outcome n rows (pauliLetter pauli) q (isOdd b)
+          ≡ isOdd b ⊕ contradicts n rows (pauliLetter pauli) q (isOdd b)
+      by-contradiction rows = go (isDetermined n rows (pauliLetter pauli) q) (member n rows (single (pauliLetter pauli) q true)) (isOdd b)
+        where
+          go : (d m s : Bool) → cond d m s ≡ s ⊕ (d && (cond d m s ⊕ s))
+          go true true true = refl
+          go true true false = refl
+          go true false true = refl
+          go true false false = refl
+          go false m true = refl
+          go false m false = refl
+
+      outcome-same : outcome n (heldRows l) (pauliLetter pauli) q (isOdd b) ≡ outcome n (heldRows v) (pauliLetter pauli) q (isOdd b)
+      outcome-same = by-contradiction (heldRows l) ∙ ap (λ c. isOdd b ⊕ c)
+          (sym (ap (λ m. contradicts m (rowsOf m (heldRecord l)) (pauliLetter pauli) q (isOdd b)) (accepted-held .neighbours-length))
+          ∙ contradicts-same pauli q b within)
+          ∙ sym (by-contradiction (heldRows v))
+
+      answer-same : measuredOutcome n (heldRows l) (pauliLetter pauli) q (isOdd b) ≡ measuredOutcome n (heldRows v) (pauliLetter pauli) q (isOdd b)
+      answer-same =
+          ap₂ (λ d o. cond d (Determined o) (Chosen o))
+          (determined-of-group n (pauliLetter pauli) q within (heldRows l) (heldRows v) (accepted-held .proper) (accepted-meant .proper) same)
+          outcome-same
+
+      pub observe-stepped : (words′ codes′ : List ℕ) (r : Outcome) (used′ outcome′ determined′ : ℕ)
+          → GroupHeld (length (u .held .neighbours)) (measuredRows (length (u .held .neighbours))
+          (heldRows (recordIn (u .held .neighbours) (u .held .codes))) (pauliLetter pauli) q (isOdd b)) words′ codes′
+          → r ≡ measuredOutcome (length (u .held .neighbours)) (heldRows (recordIn (u .held .neighbours) (u .held .codes)))
+          (pauliLetter pauli) q (isOdd b)
+          → used′ ≡ bitOr (u .used) (2 ^ q) → outcome′ ≡ outcomeNumber r → determined′ ≡ determinedNumber r
+          → ObservedStep waiting u pauli q b words′ codes′ used′ outcome′ determined′ 0
+      observe-stepped words′ codes′ r used′ outcome′ determined′ G er eu eo ed =
+          record {
+            sound = sound-after _ _ P E words′ codes′ H;
+            call = done _ e z (
+              eu ∙ sym (marked-word (meant waiting u) pauli q (answered (meant waiting u) pauli q b)
+                  (observed-passes (meant waiting u) pauli q b (sym e ∙ z))),
+              (
+                eo ∙ ap outcomeNumber found-as,
+                (ed ∙ ap determinedNumber found-as, (ap (neighbourWords n) left, (ap (codeNumbers n) left, tt))),
+              ),
+            );
+          }
+        where
+          found-as : r ≡ measuredOutcome n (heldRows v) (pauliLetter pauli) q (isOdd b)
+          found-as = er ∙ ap (λ m. measuredOutcome m (rowsOf m (heldRecord l)) (pauliLetter pauli) q (isOdd b)) (accepted-held .neighbours-length)
+              ∙ answer-same
+
+          H : GroupHeld n (measuredRows n (heldRows l) (pauliLetter pauli) q (isOdd b)) words′ codes′
+          H = at-n (λ m. measuredRows m (rowsOf m (heldRecord l)) (pauliLetter pauli) q (isOdd b)) words′ codes′ G
+
+          P : Proper n (measuredRows n (heldRows v) (pauliLetter pauli) q (isOdd b))
+          P = measured-proper n (heldRows v) (accepted-meant .proper) (pauliLetter pauli) q within (isOdd b)
+
+          E : SameGroup n n (measuredRows n (heldRows l) (pauliLetter pauli) q (isOdd b)) (measuredRows n (heldRows v) (pauliLetter pauli) q (isOdd b))
+          E = measured-of-group n (pauliLetter pauli) q within (heldRows l) (heldRows v) (accepted-held .proper) (accepted-meant .proper) same (isOdd b)
+
+          left : reduced n (heldRows (heldIn u words′ codes′)) ≡ made v (measurementOf pauli q b)
+          left = reduced-after _ _ P E words′ codes′ H
+
   -- the record that is meant by the one that is meant
   pub meant-again : ((meantRecord waiting (meantRecord waiting (u .held))) .neighbours ≡ (meantRecord waiting (u .held)) .neighbours)
       × ((meantRecord waiting (meantRecord waiting (u .held))) .codes ≡ (meantRecord waiting (u .held)) .codes)
@@ -324,3 +416,8 @@ numbered v U six eight {sixteen = t} e f = named-as v six eight (e ∙ argument-
 pub call-as : (u v : UsedRecord) (o : Operation) (words′ codes′ : List ℕ) (k : ℕ) → u ≡ v
     → Call (usedCall u o words′ codes′) k → Call (usedCall v o words′ codes′) k
 call-as u v o words′ codes′ k e C = subst (λ t. Call (usedCall t o words′ codes′) k) e C
+
+-- a renewal likewise
+pub renewal-as : (u v : UsedRecord) (q c : ℕ) (words′ codes′ : List ℕ) (used′ k : ℕ) → u ≡ v
+    → Call (renewCall u q c words′ codes′ used′) k → Call (renewCall v q c words′ codes′ used′) k
+renewal-as u v q c words′ codes′ used′ k e C = subst (λ t. Call (renewCall t q c words′ codes′ used′) k) e C

@@ -31,12 +31,12 @@ pub fn run_refusal(
 ) -> u8
     ensures { λ r. ⌜ r ≡ firstFitting (line 15 (ltb 4096 (length (now (ops .entry)))) ∷ usedLines
         (usedRecord n (now (neighbours .entry)) (now (codes .entry)) used) others false
-        (reaching 5 (now (ops .entry)))) ⌝ }
+        (reaching 7 (now (ops .entry)))) ⌝ }
 {
     if 4096 < ops.len() {
         return 15;
     }
-    let six = reaches(ops, 5);
+    let six = reaches(ops, 7);
     used_refusal(n, neighbours, codes, used, 0, others, six)
 }
 

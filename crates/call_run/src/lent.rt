@@ -25,6 +25,8 @@ fn leaves_reduced(op: Op) -> bool
         Op::Measure => true,
         Op::Complement => false,
         Op::Pivot => false,
+        Op::Observe => true,
+        Op::Renew => false,
     }
 }
 

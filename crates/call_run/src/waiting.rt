@@ -1,6 +1,7 @@
 // Steps on a lent record that stands for the reduced record of its group: it is reduced only where that is wanted.
 use call_gates::complement::complement_known;
 use call_gates::complement::pivot_known;
+use call_source::renew_known;
 use jobs::Answer;
 use operations::determined_number;
 use operations::outcome_number;
@@ -15,10 +16,11 @@ ghost use mathlib.Core.Bool.{cond};
 ghost use mathlib.Core.Path.{_≡_};
 ghost use Rattle.buffers.specs.Refusals.{firstFitting};
 ghost use Rattle.calls.specs.InPlace.{usedCall};
+ghost use Rattle.calls.specs.Sources.{renewCall};
 ghost use Rattle.buffers.specs.Calls.{Call};
 ghost use Rattle.operations.specs.Steps.{complementOf, czOn, gateWith, measurementOf, pivotOf};
 ghost use Rattle.operations.specs.Used.{usedLinesOf, usedRecord};
-ghost use Rattle.call_run.specs.internal.Waiting.{MeasuredStep, Standing, Stepped, meant};
+ghost use Rattle.call_run.specs.internal.Waiting.{MeasuredStep, ObservedStep, Standing, Stepped, meant};
 
 // The number of the first line of a step that holds, where none of the record's does.
 fn argument_number(six: bool, eight: bool, sixteen: bool) -> u8
@@ -145,6 +147,46 @@ pub fn measure_waiting(
     }
 }
 
+// A Pauli measured at a qubit with a bit by lot: where the state determines the outcome the bit plays no part. The qubit is
+// marked as used; a refused observation answers 0 and 0.
+pub fn observe_waiting(
+    n: u64,
+    neighbours: &mut [u64],
+    codes: &mut [u8],
+    used: &mut u64,
+    pauli: u8,
+    qubit: u64,
+    bit: u8,
+    waiting: bool,
+) -> Answer
+    requires { ⌜ Standing waiting (usedRecord n (now neighbours) (now codes) (now used)) ⌝ }
+    ensures { λ r. ⌜ ObservedStep waiting (usedRecord n (now (neighbours .entry)) (now (codes .entry))
+        (now (used .entry))) pauli qubit bit (now (neighbours .exit)) (now (codes .exit)) (now (used .exit))
+        (r .outcome)
+        (r .determined) (r .refusal) ⌝ }
+{
+    let word = *used;
+    let six = (2 <= bit) | ((pauli == 0) | (4 <= pauli));
+    let sixteen = bit_at(word, qubit);
+    let early = argument_number(six, n <= qubit, sixteen);
+    if early != 0 {
+        return Answer {
+            refusal: early,
+            outcome: 0,
+            determined: 0,
+        };
+    }
+    let measured = measure_unsettled(neighbours, codes, pauli, qubit as usize, bit % 2 == 1);
+    *used = word | single(qubit as usize);
+    let told = outcome_number(measured);
+    let known = determined_number(measured);
+    Answer {
+        refusal: 0,
+        outcome: told,
+        determined: known,
+    }
+}
+
 // The record that is meant, in the buffers.
 pub fn settle_waiting(n: u64, neighbours: &mut [u64], codes: &mut [u8], used: u64, waiting: bool)
     requires { ⌜ Standing waiting (usedRecord n (now neighbours) (now codes) used) ⌝ }
@@ -189,4 +231,23 @@ pub fn pivot_waiting(
 {
     settle_waiting(n, neighbours, codes, used, waiting);
     pivot_known(n, neighbours, codes, used, j, k, true)
+}
+
+// A new photon at a used qubit: first the record is reduced, where it waits.
+pub fn renew_waiting(
+    n: u64,
+    neighbours: &mut [u64],
+    codes: &mut [u8],
+    used: &mut u64,
+    qubit: u64,
+    code: u8,
+    waiting: bool,
+) -> u8
+    requires { ⌜ Standing waiting (usedRecord n (now neighbours) (now codes) (now used)) ⌝ }
+    ensures { λ r. ⌜ Call (renewCall (meant waiting (usedRecord n (now (neighbours .entry)) (now (codes .entry))
+        (now (used .entry)))) qubit code (now (neighbours .exit)) (now (codes .exit)) (now (used .exit))) r ⌝ }
+{
+    let word = *used;
+    settle_waiting(n, neighbours, codes, word, waiting);
+    renew_known(n, neighbours, codes, used, qubit, code, true)
 }

@@ -16,3 +16,4 @@ pub mod RunLines
 pub mod ImageLeft
 pub mod SourceCalls
 pub mod PartySourceCalls
+pub mod ParityCalls

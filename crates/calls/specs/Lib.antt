@@ -8,8 +8,10 @@ pub mod Images
 pub mod Cuts
 pub mod Amplitudes
 pub mod Expectations
+pub mod Parities
 pub mod Comparisons
 pub mod RecordComparisons
+pub mod RecordTexts
 pub mod Equivalences
 pub mod Generation
 pub mod Orbits

@@ -23,7 +23,8 @@ pub record LentSteps : Type 0 where
   pub outcomes : List ℕ
   pub determined : List ℕ
 
--- the steps: "ops 0 gate, 1 cz, 2 measure, 3 complement, 4 pivot, fields as in job texts"
+-- the steps: "ops 0 gate, 1 cz, 2 measure, 3 complement, 4 pivot, fields as in job texts", and 5 observe, "value as for
+-- measure", 6 renew, "value the code"
 abbrev pub stepsOf : LentSteps → List Step
 stepsOf s = stepsIn (s .ops) (s .a) (s .b) (s .value)
 
@@ -38,9 +39,9 @@ otherLengths s =
     || oneOtherThan (length (s .ops)) (s .refusals) (s .outcomes) (s .determined)
 
 -- 15: "at most 4,096 (else 15, before 2)"; then the lines of the record. 4: also where the slices' lengths differ; 6: also
--- "an op above 4". Anything else that is wrong with a step refuses that step alone
+-- "an op above 6". Anything else that is wrong with a step refuses that step alone
 abbrev pub runLines : UsedRecord → LentSteps → List Refusal
-runLines u s = line 15 (ltb 4096 (length (s .ops))) ∷ usedLines u (otherLengths s) false (reaching 5 (s .ops))
+runLines u s = line 15 (ltb 4096 (length (s .ops))) ∷ usedLines u (otherLengths s) false (reaching 7 (s .ops))
 
 -- refusal, outcome and determined of each step, in a slice each. "Fields without meaning" are 0, so outcome and determined
 -- of a refused step are

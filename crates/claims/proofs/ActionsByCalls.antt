@@ -3,24 +3,39 @@ use mathlib.Core.Bool.{Bool, cond, false, not, true, _||_}
 use mathlib.Core.List.{List}
 use mathlib.Core.Path.{ap, ap₂, refl, sym, _∙_, _≡_}
 use Prim.Native.Nat.{ℕ}
+use native.Mathlib.Decide.{ℕ-discrete}
 use lib.Dec.{eqb}
 use lib.ListN.{length}
 use borrow.Author.Tests.{eq-eqb, ne-eqb}
 use Rattle.buffers.specs.Buffers.{accepted}
 use Rattle.buffers.specs.Refusals.{firstFitting}
+use Rattle.buffers.proofs.Calling.{kept-all, written-all}
+use Rattle.calls.proofs.SourceCalls.{observe-as-measured}
 use Rattle.calls.specs.InPlace.{usedCall, usedMeasureCall}
+use Rattle.calls.specs.Sources.{observeCall, renewCall}
 use Rattle.calls.specs.Stores.{forgetCall, heldUnder, returnCall, saveCall}
 use Rattle.buffers.specs.Calls.{Call}
-use Rattle.jobs.proofs.Numbers.{left-by-operation}
-use Rattle.jobs.specs.Asked.{asked, unusedSet}
-use Rattle.jobs.specs.declared.Op.the-variants.{Complement, Cz, Gate, Measure}
+use Rattle.jobs.proofs.Numbers.{accepted-leaves, left-by-operation, number-of-request, refused-keeps}
+use Rattle.jobs.specs.Asked.{
+  Request,
+  asked,
+  carryOut,
+  numberOf,
+  observationOf,
+  renewalOf,
+  requestLines,
+  unusedSet,
+}
+use Rattle.jobs.specs.Runs.{afterStep, requestLeaves}
+use Rattle.jobs.specs.declared.Op.the-variants.{Complement, Cz, Gate, Measure, Observe, Renew}
 use Rattle.jobs.specs.declared.Step.{Step}
 use Rattle.operations.specs.Steps.{Operation, complementOf, czOn, gateWith, leaves, measurementOf}
 use Rattle.store.proofs.ForgottenNames.{held-lookup}
 use Rattle.store.specs.Kept.{forgotten, forgottenHeads, saved}
 use Rattle.store.specs.Places.{Store, found}
 use Rattle.store.specs.StoreLines.{namedLines, saveLines}
-use Rattle.operations.specs.Used.{UsedRecord, usedAfter, usedLinesOf, usedStep}
+use Rattle.operations.specs.Used.{usedAfter, usedLinesOf, UsedRecord, usedRecord, usedStep}
+use Rattle.source.proofs.Observed.{answered}
 use Rattle.claims.proofs.RewritingsKeep.{is-after, is-measured}
 use Rattle.claims.proofs.StoreDemandHolds.{name-held, named-passing, returns-give}
 use Rattle.claims.proofs.families.Shared.{at-zero}
@@ -28,6 +43,7 @@ use Rattle.claims.specs.ActionContracts.{
   ContractsAreActions,
   ForgetLeaves,
   MeasureLeaves,
+  ObserveLeaves,
   ReturnLeaves,
   SaveLeaves,
   StepLeaves,
@@ -40,12 +56,24 @@ use Rattle.claims.specs.StoreDemand.{storeOf}
 
 -- ---- steps
 -- a step whose unused fields are 0 leaves what the call of its operation does
-step-leaves : (u : UsedRecord) (step : Step) → unusedSet (step .op) (step .b) (step .value) ≡ false → (r : ℕ)
-    (nb′ cs′ : List ℕ) (used′ : ℕ) → Call (usedCall u (asked step) nb′ cs′) r →
-    used′ ≡ (usedStep u (asked step)) .after .used → StepLeaves u step (leftUsed u nb′ cs′ used′)
-step-leaves u step unset r nb′ cs′ used′ C e st = ap (λ v. sessionOf v st)
-    (left-by-operation u step unset
-    ∙ λ i. record { held = sym (is-after u (asked step) r nb′ cs′ C) i; used = sym e i })
+step-leaves : (u : UsedRecord) (step : Step) (o : Operation) → asked step ≡ carryOut o →
+    unusedSet (step .op) (step .b) (step .value) ≡ false → (r : ℕ) (nb′ cs′ : List ℕ) (used′ : ℕ) →
+    Call (usedCall u o nb′ cs′) r → used′ ≡ (usedStep u o) .after .used → StepLeaves u step (leftUsed u nb′ cs′ used′)
+step-leaves u step o g unset r nb′ cs′ used′ C e st = ap (λ v. sessionOf v st)
+    (left-by-operation u step o g unset ∙ λ i. record { held = sym (is-after u o r nb′ cs′ C) i; used = sym e i })
+
+-- a step that stands for any call: where it is accepted, and where it is not
+called-leaves : (u : UsedRecord) (step : Step) (t : Request) → asked step ≡ t →
+    unusedSet (step .op) (step .b) (step .value) ≡ false → (r : ℕ) → r ≡ firstFitting (requestLines u t) →
+    (after : UsedRecord) → (r ≡ 0 → after ≡ requestLeaves u t) → ((r ≡ 0 → ⊥) → after ≡ u) → StepLeaves u step after
+called-leaves u step t g unset r e after yes-left no-left st = ap (λ v. sessionOf v st) (go (ℕ-discrete r 0))
+  where
+    number : numberOf u step ≡ r
+    number = number-of-request u step unset ∙ ap (λ t. firstFitting (requestLines u t)) g ∙ sym e
+
+    go : Dec (r ≡ 0) → afterStep u step ≡ after
+    go (yes z) = accepted-leaves u step (number ∙ z) ∙ ap (requestLeaves u) g ∙ sym (yes-left z)
+    go (no h) = refused-keeps u step (λ z. h (sym number ∙ z)) ∙ sym (no-left h)
 
 -- a step that copies the used word
 copied : (u : UsedRecord) (o : Operation) → usedAfter u o ≡ u .used → u .used ≡ (usedStep u o) .after .used
@@ -60,9 +88,31 @@ measure-leaves : (u : UsedRecord) (pauli q b answer determined r : ℕ) (nb′ c
     Call (usedMeasureCall u pauli q b answer determined nb′ cs′ used′ answer′ determined′) r →
     MeasureLeaves u pauli q b (leftUsed u nb′ cs′ used′)
 measure-leaves u pauli q b answer determined r nb′ cs′ used′ answer′ determined′ C value p e st =
-    ap (λ v. sessionOf v st) (left-by-operation u (stepWith Measure q 0 value) refl
+    ap (λ v. sessionOf v st) (left-by-operation u (stepWith Measure q 0 value) _ refl refl
     ∙ ap₂ (λ p b. (usedStep u (measurementOf p q b)) .after) (sym p) (sym e)
     ∙ sym (is-measured u pauli q b answer determined r nb′ cs′ used′ answer′ determined′ C))
+
+-- an observation is the measurement with the outcome that it answers
+observe-leaves : (u : UsedRecord) (pauli q b answer determined r : ℕ) (nb′ cs′ : List ℕ)
+    (used′ answer′ determined′ : ℕ) →
+    Call (observeCall u pauli q b answer determined nb′ cs′ used′ answer′ determined′) r →
+    ObserveLeaves u pauli q b (leftUsed u nb′ cs′ used′)
+observe-leaves u pauli q b answer determined r nb′ cs′ used′ answer′ determined′ C value p e =
+    called-leaves u (stepWith Observe q 0 value) (observationOf pauli q b) (ap₂ (λ p b. observationOf p q b) (sym p) (sym e))
+    refl r (C .number) (leftUsed u nb′ cs′ used′)
+    (λ z. is-measured u pauli q (answered u pauli q b) answer determined 0 nb′ cs′ used′ answer′ determined′
+    (observe-as-measured u pauli q b (at-zero C z)))
+    (λ h. let w = kept-all C h in
+    λ i. usedRecord (u .held .n) (w .1 .1 .1 .0 i) (w .1 .1 .1 .1 .0 i) (w .0 i))
+
+renew-leaves : (u : UsedRecord) (q k r : ℕ) (nb′ cs′ : List ℕ) (used′ : ℕ) → Call (renewCall u q k nb′ cs′ used′) r →
+    StepLeaves u (stepWith Renew q 0 k) (leftUsed u nb′ cs′ used′)
+renew-leaves u q k r nb′ cs′ used′ C =
+    called-leaves u (stepWith Renew q 0 k) (renewalOf q k) refl refl r (C .number) (leftUsed u nb′ cs′ used′)
+    (λ z. let w = written-all C z in
+    λ i. usedRecord (u .held .n) (w .1 .0 i) (w .1 .1 .0 i) (w .0 i))
+    (λ h. let w = kept-all C h in
+    λ i. usedRecord (u .held .n) (w .1 .0 i) (w .1 .1 .0 i) (w .0 i))
 
 -- ---- a save
 save-leaves : (u : UsedRecord) (name : ℕ) (st : Store) (r : ℕ) (heads′ nb′ cs′ : List ℕ) →
@@ -124,11 +174,13 @@ module _ (name : ℕ) (st : Store) (n : ℕ) (nb cs : List ℕ) (used n′ : ℕ
 pub contracts-are-actions : ContractsAreActions
 contracts-are-actions =
     record {
-      gate = λ u q k r nb′ cs′ C. step-leaves u (stepWith Gate q 0 k) refl r nb′ cs′ (u .used) C (copied u (gateWith q k) refl);
-      cz = λ u a b r nb′ cs′ C. step-leaves u (stepWith Cz a b 0) refl r nb′ cs′ (u .used) C (copied u (czOn a b) refl);
+      gate = λ u q k r nb′ cs′ C. step-leaves u (stepWith Gate q 0 k) (gateWith q k) refl refl r nb′ cs′ (u .used) C (copied u (gateWith q k) refl);
+      cz = λ u a b r nb′ cs′ C. step-leaves u (stepWith Cz a b 0) (czOn a b) refl refl r nb′ cs′ (u .used) C (copied u (czOn a b) refl);
       complement = λ u a r nb′ cs′ C.
-          step-leaves u (stepWith Complement a 0 0) refl r nb′ cs′ (u .used) C (copied u (complementOf a) refl);
+          step-leaves u (stepWith Complement a 0 0) (complementOf a) refl refl r nb′ cs′ (u .used) C (copied u (complementOf a) refl);
       measure = measure-leaves;
+      observe = observe-leaves;
+      renew = renew-leaves;
       save = save-leaves;
       return-to = λ name st n nb cs used n′ nb′ cs′ used′ r long codes-long C.
           return-leaves name st n nb cs used n′ nb′ cs′ used′ r long codes-long C;

@@ -15,17 +15,37 @@ use Rattle.jobs.proofs.Numbers.{
   accepted-leaves,
   accepted-number,
   accepted-unset,
-  number-of-operation,
+  number-of-request,
   refused-keeps,
-  set-refuses-fields,
+  set-refuses-arguments,
   six-refuses,
 }
+use Rattle.jobs.proofs.KeptRequests.{request-left}
 use Rattle.jobs.proofs.Starting.{started-stands}
-use Rattle.jobs.specs.Asked.{asked, numberOf, unusedSet}
+use Rattle.jobs.specs.Asked.{
+  Request,
+  asked,
+  carryOut,
+  numberOf,
+  observationOf,
+  renewalOf,
+  requestLines,
+  unusedSet,
+}
 use Rattle.jobs.specs.GroupsAfter.GroupAfterStep.{changed, not-run}
 use Rattle.jobs.specs.GroupsAfter.Refused.{by-fields, by-group}
-use Rattle.jobs.specs.GroupsAfter.{AfterOperation, GroupAfterStep, Group, IsContradicted, Refused, StartGroup}
-use Rattle.jobs.specs.Runs.{afterStep, run, started}
+use Rattle.jobs.specs.GroupsAfter.{
+  AfterOperation,
+  AfterRequest,
+  Group,
+  GroupAfterStep,
+  IsContradicted,
+  Refused,
+  RequestContradicted,
+  StartGroup,
+  requestArguments,
+}
+use Rattle.jobs.specs.Runs.{afterStep, requestLeaves, run, started}
 use Rattle.jobs.specs.Standing.{StandsFor}
 use Rattle.jobs.specs.declared.Step.{Step}
 use Rattle.operations.specs.Measurement.{contradicts, pauliLetter}
@@ -35,11 +55,11 @@ use Rattle.record.specs.Lent.{heldRows}
 use Rattle.stabilizer.specs.Groups.{InGroup}
 use Rattle.operations.proofs.LeftRecords.{used-left}
 use Rattle.operations.proofs.UsedPassing.{in-place-counted, used-passes, used-step, with-used-passes}
-use Rattle.operations.specs.Used.{UsedRecord, namesUsed, usedArgumentsOf, usedLinesOf, usedStep}
-use Rattle.operations.specs.internal.UsedLaws.{UsedLeft}
+use Rattle.operations.specs.Used.{UsedRecord, namesUsed, usedArgumentsOf, usedLinesOf}
 use Rattle.words.specs.Bits.{isOdd}
 use Rattle.claims.proofs.Contradictions.{contradicted-by-group}
 use Rattle.claims.proofs.JobSteps.{HasGroup, operation-stands}
+use Rattle.claims.proofs.SourceSteps.{observation-stands, renewal-stands}
 use Rattle.claims.specs.JobDemand.{JobsStand, RefusedExactly, RunsStand}
 
 module _ (u : UsedRecord) (G : Group) (S : StandsFor u G) where
@@ -81,40 +101,57 @@ module _ (u : UsedRecord) (G : Group) (S : StandsFor u G) where
   impossible (complementOf a) h z = absurd (h z)
   impossible (pivotOf j k) h z = absurd (h z)
 
+  -- ---- the same of what a step asks
+  request-passes : (r : Request) → firstFitting (requestLines u r) ≡ 0
+      → (firstFitting (requestArguments u r) ≡ 0) × (RequestContradicted G r → ⊥)
+  request-passes (carryOut o) z = passes o z
+  request-passes (observationOf pauli q b) z = (z, λ h. h)
+  request-passes (renewalOf q k) z = (z, λ h. h)
+
+  request-impossible : (r : Request) → (firstFitting (requestLines u r) ≡ 0 → ⊥) → firstFitting (requestArguments u r) ≡ 0
+      → RequestContradicted G r
+  request-impossible (carryOut o) h z = impossible o h z
+  request-impossible (observationOf pauli q b) h z = absurd (h z)
+  request-impossible (renewalOf q k) h z = absurd (h z)
+
+  -- accepted, the record left has the group that the definitions give
+  request-stands : (r : Request) → firstFitting (requestLines u r) ≡ 0
+      → HasGroup ((requestLeaves u r) .held) (AfterRequest (u .held .n) G r)
+  request-stands (carryOut o) z = subst (λ r. HasGroup r (AfterOperation (u .held .n) G o)) (sym (used-left u o z .held))
+      (operation-stands (u .held) G has-group o (used-step u o z))
+  request-stands (observationOf pauli q b) z = observation-stands u G has-group pauli q b z
+  request-stands (renewalOf q k) z = renewal-stands u G has-group q k z
+
   module _ (s : Step) where
     abbrev set : Bool
     set = unusedSet (s .op) (s .b) (s .value)
 
     abbrev fields : Bool → ℕ
-    fields b = firstFitting (withTest 6 b (usedArgumentsOf u (asked s)))
+    fields b = firstFitting (withTest 6 b (requestArguments u (asked s)))
 
     -- ---- a step's number is 0: it is not refused
     module _ (z : numberOf u s ≡ 0) where
-      no-line : (usedStep u (asked s)) .number ≡ 0
+      no-line : firstFitting (requestLines u (asked s)) ≡ 0
       no-line = accepted-number u s z
 
       accepted-not-refused : Refused u G s → ⊥
       accepted-not-refused (by-fields h) =
-          h (ap fields (accepted-unset u s z) ∙ without-test 6 (usedArgumentsOf u (asked s))
-          ∙ passes (asked s) no-line .0)
-      accepted-not-refused (by-group h) = passes (asked s) no-line .1 h
+          h (ap fields (accepted-unset u s z) ∙ without-test 6 (requestArguments u (asked s))
+          ∙ request-passes (asked s) no-line .0)
+      accepted-not-refused (by-group h) = request-passes (asked s) no-line .1 h
 
       accepted-stands : StandsFor (afterStep u s) (GroupAfterStep u G s)
       accepted-stands = subst (λ r. StandsFor r (GroupAfterStep u G s)) (sym (accepted-leaves u s z))
           (record {
-            still = L .passes;
+            still = request-left u (asked s) no-line .no-line;
             elements = λ p. ((λ h. changed accepted-not-refused (O .elements p .0 h)), back);
           })
         where
           left : UsedRecord
-          left = (usedStep u (asked s)) .after
+          left = requestLeaves u (asked s)
 
-          L : UsedLeft u (asked s) left
-          L = used-left u (asked s) no-line
-
-          O : HasGroup (left .held) (AfterOperation (u .held .n) G (asked s))
-          O = subst (λ r. HasGroup r (AfterOperation (u .held .n) G (asked s))) (sym (L .held))
-              (operation-stands (u .held) G has-group (asked s) (used-step u (asked s) no-line))
+          O : HasGroup ((requestLeaves u (asked s)) .held) (AfterRequest (u .held .n) G (asked s))
+          O = request-stands (asked s) no-line
 
           back : {p : Pauli} → GroupAfterStep u G s p → InGroup (left .held .n) (left .held .n) (heldRows (left .held)) p
           back (not-run r g) = absurd (accepted-not-refused r)
@@ -127,13 +164,13 @@ module _ (u : UsedRecord) (G : Group) (S : StandsFor u G) where
         where
           by : Dec (fields set ≡ 0) → Refused u G s
           by (no f) = by-fields f
-          by (yes e) = by-group (impossible (asked s) (λ z. h (number-of-operation u s (unset-by set refl e) ∙ z))
-              (sym (without-test 6 (usedArgumentsOf u (asked s))) ∙ ap fields (sym (unset-by set refl e)) ∙ e))
+          by (yes e) = by-group (request-impossible (asked s) (λ z. h (number-of-request u s (unset-by set refl e) ∙ z))
+              (sym (without-test 6 (requestArguments u (asked s))) ∙ ap fields (sym (unset-by set refl e)) ∙ e))
             where
               unset-by : (b : Bool) → set ≡ b → fields set ≡ 0 → set ≡ false
               unset-by false t e = t
               unset-by true t e =
-                  absurd (six-refuses u (sym (set-refuses-fields u (asked s)) ∙ ap fields (sym t) ∙ e))
+                  absurd (six-refuses u (sym (set-refuses-arguments u (asked s)) ∙ ap fields (sym t) ∙ e))
 
       refused-stands : StandsFor (afterStep u s) (GroupAfterStep u G s)
       refused-stands = subst (λ r. StandsFor r (GroupAfterStep u G s)) (sym (refused-keeps u s h))

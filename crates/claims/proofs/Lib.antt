@@ -34,6 +34,8 @@ pub mod ProductDemandHolds
 pub mod ProgramDemandHolds
 pub mod ReachedStates
 pub mod RecordPairsHold
+pub mod RecordTextsExactly
+pub mod RecordTextsHold
 pub mod RecordsHold
 pub mod RenewalsHold
 pub mod RewritingsKeep
@@ -43,6 +45,7 @@ pub mod SecondDemandLists
 pub mod SentencesHold
 pub mod SessionDemandHolds
 pub mod SessionNumbers
+pub mod SourceSteps
 pub mod StepLines
 pub mod StoreDemandHolds
 pub mod StoreRefusals

@@ -92,10 +92,10 @@ module _ (u : UsedRecord) (a : ℕ) (F : ComplementFits u a) where
 
   -- as a step of a job
   as-step : afterStep u (complementStep a) ≡ complemented u a
-  as-step = left-by-operation u (complementStep a) refl
+  as-step = left-by-operation u (complementStep a) (complementOf a) refl refl
 
   step-number : numberOf u (complementStep a) ≡ 0
-  step-number = number-of-operation u (complementStep a) refl ∙ accepted
+  step-number = number-of-operation u (complementStep a) (complementOf a) refl refl ∙ accepted
 
   -- as a call
   as-call : (nb cs : List ℕ) (r : ℕ) → Call (usedCall u (complementOf a) nb cs) r
@@ -234,7 +234,7 @@ pivots-run u a b value e = (as-complements u a b value e, leaves-so u a b value 
 pub pivots-accepted : PivotsAccepted
 pivots-accepted u a b value = (
   (λ e. (eqb-true value 0 (not-false (eqb value 0) (accepted-unset u (pivotStep a b value) e)), pivot-fits u a b value e)),
-  (λ h. number-of-operation u (pivotStep a b value) (ap not (eq-eqb value 0 (h .0))) ∙ used-pivot u a b .1 (h .1)),
+  (λ h. number-of-operation u (pivotStep a b value) (pivotOf a b) refl (ap not (eq-eqb value 0 (h .0))) ∙ used-pivot u a b .1 (h .1)),
 )
 
 pub pivots-refused : PivotsRefused
@@ -265,4 +265,4 @@ pivot-never-16 u a b value e = go (not (eqb value 0)) refl
       sym (set-refuses u (pivotOf a b))
           ∙ sym (ap (λ t. firstFitting (withTest 6 t (usedLinesOf u (pivotOf a b)))) h) ∙ e,
     )
-    go false h = pivot-never u a b (sym (number-of-operation u (pivotStep a b value) h) ∙ e)
+    go false h = pivot-never u a b (sym (number-of-operation u (pivotStep a b value) (pivotOf a b) refl h) ∙ e)

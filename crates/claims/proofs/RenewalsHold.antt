@@ -90,8 +90,9 @@ module _ (u : UsedRecord) (q k : ℕ) where
     abbrev now : GraphRecord
     now = heldRecord (after .held)
 
-    group : (p : Pauli) → InGroup n n (heldRows (after .held)) p ↔ Renewed n (InGroup n n (heldRows (u .held))) q (photon q k) p
-    group p = subst (λ s. InGroup n n (rowsOf n s) p ↔ Renewed n (InGroup n n (heldRows (u .held))) q (photon q k) p)
+    pub group-renewed : (p : Pauli) → InGroup (u .held .n) (u .held .n) (heldRows ((renewed u q k) .held)) p
+        ↔ Renewed (u .held .n) (InGroup (u .held .n) (u .held .n) (heldRows (u .held))) q (photon q k) p
+    group-renewed p = subst (λ s. InGroup n n (rowsOf n s) p ↔ Renewed n (InGroup n n (heldRows (u .held))) q (photon q k) p)
         (sym (holds-recoded u q k F))
         (renewed-group n (heldRecord (u .held)) (F .held .simple) q (F .below) (alone u q k F) (cliffordOf k) p)
 
@@ -126,9 +127,9 @@ module _ (u : UsedRecord) (q k : ℕ) where
           codes = λ t d. getD-set-other (u .held .codes) q t k 0 d;
           neighbours = refl;
           free = (F .below, unmarked-bits u q k F q ∙ ap₂ (λ b e. b && not e) (F .marked) (same-place q));
-          new = group (photon q k) .1 (subst (Renewed n (InGroup n n (heldRows (u .held))) q (photon q k))
+          new = group-renewed (photon q k) .1 (subst (Renewed n (InGroup n n (heldRows (u .held))) q (photon q k))
               (identity-mul n (photon q k)) (joined (in-identity n n (heldRows (u .held))) refl));
-          group = group;
+          group = group-renewed;
           reduced = stays-reduced;
         }
 

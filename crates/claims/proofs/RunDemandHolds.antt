@@ -105,7 +105,7 @@ run-words u s = (
         (or-decides (misfits (u .held)) (or-decides (three (length (s .ops)) (s .a) (s .b) (s .value))
         (three (length (s .ops)) (s .refusals) (s .outcomes) (s .determined))))
         (or-decides (stray-neighbour (u .held)) (or-none (stray (u .held .n) (u .used))))
-        (or-decides (code-above-23 (u .held)) (some-above 4 (s .ops))),
+        (or-decides (code-above-23 (u .held)) (some-above 6 (s .ops))),
   ),
 )
 

@@ -48,13 +48,13 @@ module _ (u : UsedRecord) (s : LentSteps) where
   pub run-exactly : (firstFitting (runLines u s) ≡ 0) ↔ RunFits u s
   run-exactly = (
     (λ e. let h = not-held 14 (ltb 4096 count) _ e in
-        let x = used-exactly u (otherLengths s) false (reaching 5 (s .ops)) .0 (h .1) in
+        let x = used-exactly u (otherLengths s) false (reaching 7 (s .ops)) .0 (h .1) in
         let l = lengths-exactly .0 (x .1) in
         record {
           held = x .0;
           steps = record {
             few = ltb-false 4096 count (h .0);
-            operations = below-all 5 (s .ops) (x .3);
+            operations = below-all 7 (s .ops) (x .3);
             a-places = l .0 .0;
             b-places = l .0 .1;
             value-places = l .0 .2;
@@ -64,14 +64,14 @@ module _ (u : UsedRecord) (s : LentSteps) where
           };
         }),
     (λ F. let S = F .steps in
-        passed 15 _ (le-ltb 4096 count (S .few)) ∙ used-exactly u (otherLengths s) false (reaching 5 (s .ops)) .1 (
+        passed 15 _ (le-ltb 4096 count (S .few)) ∙ used-exactly u (otherLengths s) false (reaching 7 (s .ops)) .1 (
           F .held,
           lengths-exactly .1 (
             (S .a-places, S .b-places, S .value-places),
             (S .refusals-places, S .outcomes-places, S .determined-places),
           ),
           refl,
-          below-passes 5 (s .ops) (S .operations),
+          below-passes 7 (s .ops) (S .operations),
         )),
   )
 
@@ -132,7 +132,7 @@ pub run-buffers-unread : RunBuffersUnread
 run-buffers-unread u s t eo ea eb ev er ec ed =
     λ i. firstFitting (line 15 (ltb 4096 (length (eo i)))
     ∷ usedLines u (differ (length (eo i)) (ea i) (eb i) (ev i) || differ (length (eo i)) (er i) (ec i) (ed i)) false
-    (reaching 5 (eo i)))
+    (reaching 7 (eo i)))
   where
     differ : ℕ → ℕ → ℕ → ℕ → Bool
     differ m x y z = not (eqb x m) || (not (eqb y m) || not (eqb z m))

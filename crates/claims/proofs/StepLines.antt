@@ -10,9 +10,9 @@ use Rattle.buffers.specs.Buffers.{acceptedNumber}
 use Rattle.buffers.specs.Refusals.{firstFitting}
 use Rattle.jobs.specs.Answer.{resultOf}
 use Rattle.jobs.proofs.Numbers.{accepted-number}
-use Rattle.jobs.specs.Asked.{asked, numberOf}
+use Rattle.jobs.specs.Asked.{Request, asked, carryOut, numberOf, observationOf, renewalOf, requestLines}
 use Rattle.jobs.specs.GroupsAfter.{Group, Refused}
-use Rattle.jobs.specs.Runs.{answerOf, determinedOf, outcomeOf}
+use Rattle.jobs.specs.Runs.{answerOf, determinedOf, outcomeOf, requestDetermined, requestOutcome}
 use Rattle.jobs.specs.Standing.{StandsFor}
 use Rattle.jobs.specs.declared.Step.{Step}
 use Rattle.operations.specs.Measurement.{determinedNumber}
@@ -33,7 +33,14 @@ use Rattle.operations.proofs.UsedPassing.{used-step}
 use Rattle.operations.specs.Used.{UsedRecord}
 use Rattle.claims.proofs.JobSteps.{HasGroup, answer-stands}
 use Rattle.claims.proofs.JobsStand.{has-group, refused-exactly}
-use Rattle.claims.specs.ProgramDemand.{Determines, LineSays, OutcomeIs}
+use Rattle.claims.proofs.SourceSteps.{lot-determined, lot-outcome}
+use Rattle.claims.specs.ProgramDemand.{
+  Determines,
+  LineSays,
+  OutcomeIs,
+  RequestDetermines,
+  RequestOutcomeIs,
+}
 
 -- 0 is not 1
 differ : _≡_ {A = ℕ} 0 1 → ⊥
@@ -78,6 +85,24 @@ module _ (l : LentRecord) (G : Group) (S : HasGroup l G) where
   outcome-of (complementOf a) z = refl
   outcome-of (pivotOf j k) z = refl
 
+-- ---- what a step asks
+request-digit : (l : LentRecord) (r : Request) → (requestDetermined l r ≡ 0) ⊎ (requestDetermined l r ≡ 1)
+request-digit l (carryOut o) = digit-of l o
+request-digit l (observationOf pauli q b) = digit-of-answer (measuredAnswer l pauli q b)
+request-digit l (renewalOf q k) = inl refl
+
+module _ (u : UsedRecord) (G : Group) (S : HasGroup (u .held) G) where
+  request-determined : (r : Request) → firstFitting (requestLines u r) ≡ 0
+      → (requestDetermined (u .held) r ≡ 1) ↔ RequestDetermines G r
+  request-determined (carryOut o) z = determined-of (u .held) G S o (used-step u o z)
+  request-determined (observationOf pauli q b) z = lot-determined u G S pauli q b z
+  request-determined (renewalOf q k) z = never
+
+  request-outcome : (r : Request) → firstFitting (requestLines u r) ≡ 0 → RequestOutcomeIs G r (requestOutcome (u .held) r)
+  request-outcome (carryOut o) z = outcome-of (u .held) G S o (used-step u o z)
+  request-outcome (observationOf pauli q b) z = lot-outcome u G S pauli q b z
+  request-outcome (renewalOf q k) z = refl
+
 -- ---- a step
 module _ (u : UsedRecord) (G : Group) (S : StandsFor u G) (s : Step) where
   pub line-says : LineSays u G s (resultOf (answerOf u s))
@@ -91,23 +116,23 @@ module _ (u : UsedRecord) (G : Group) (S : StandsFor u G) (s : Step) where
           record {
             number = refl;
             refused = exactly;
-            either = subst (λ v. (v ≡ 0) ⊎ (v ≡ 1)) (sym d) (digit-of (u .held) (asked s));
+            either = subst (λ v. (v ≡ 0) ⊎ (v ≡ 1)) (sym d) (request-digit (u .held) (asked s));
             determined = (
-              (λ e. ((λ h. exactly .1 h z), determined-of (u .held) G (has-group u G S) (asked s) no-line .0 (sym d ∙ e))),
-              (λ h. d ∙ determined-of (u .held) G (has-group u G S) (asked s) no-line .1 (h .1)),
+              (λ e. ((λ h. exactly .1 h z), request-determined u G (has-group u G S) (asked s) no-line .0 (sym d ∙ e))),
+              (λ h. d ∙ request-determined u G (has-group u G S) (asked s) no-line .1 (h .1)),
             );
-            outcome = λ h. subst (OutcomeIs G (asked s)) (sym o) (outcome-of (u .held) G (has-group u G S) (asked s) no-line);
+            outcome = λ h. subst (RequestOutcomeIs G (asked s)) (sym o) (request-outcome u G (has-group u G S) (asked s) no-line);
             no-outcome = λ h. absurd (exactly .1 h z);
           }
         where
-          no-line : firstFitting (linesOf (u .held) (asked s)) ≡ 0
-          no-line = used-step u (asked s) (accepted-number u s z)
+          no-line : firstFitting (requestLines u (asked s)) ≡ 0
+          no-line = accepted-number u s z
 
-          d : acceptedNumber (numberOf u s) (determinedOf (u .held) (asked s)) 0 ≡ determinedOf (u .held) (asked s)
-          d = is-answered (numberOf u s) (determinedOf (u .held) (asked s)) z
+          d : acceptedNumber (numberOf u s) (requestDetermined (u .held) (asked s)) 0 ≡ requestDetermined (u .held) (asked s)
+          d = is-answered (numberOf u s) (requestDetermined (u .held) (asked s)) z
 
-          o : acceptedNumber (numberOf u s) (outcomeOf (u .held) (asked s)) 0 ≡ outcomeOf (u .held) (asked s)
-          o = is-answered (numberOf u s) (outcomeOf (u .held) (asked s)) z
+          o : acceptedNumber (numberOf u s) (requestOutcome (u .held) (asked s)) 0 ≡ requestOutcome (u .held) (asked s)
+          o = is-answered (numberOf u s) (requestOutcome (u .held) (asked s)) z
       go (no h) =
           record {
             number = refl;
@@ -115,8 +140,8 @@ module _ (u : UsedRecord) (G : Group) (S : StandsFor u G) (s : Step) where
             either = inl d;
             determined = ((λ e. absurd (differ (sym d ∙ e))), (λ g. absurd (g .0 (exactly .0 h))));
             outcome = λ g. absurd (g (exactly .0 h));
-            no-outcome = λ g. not-answered (numberOf u s) (outcomeOf (u .held) (asked s)) h;
+            no-outcome = λ g. not-answered (numberOf u s) (requestOutcome (u .held) (asked s)) h;
           }
         where
-          d : acceptedNumber (numberOf u s) (determinedOf (u .held) (asked s)) 0 ≡ 0
-          d = not-answered (numberOf u s) (determinedOf (u .held) (asked s)) h
+          d : acceptedNumber (numberOf u s) (requestDetermined (u .held) (asked s)) 0 ≡ 0
+          d = not-answered (numberOf u s) (requestDetermined (u .held) (asked s)) h

@@ -4,10 +4,11 @@ use mathlib.Core.Path.{_≡_}
 use Prim.Native.Nat.{_%_, _+_, _/_, ℕ}
 use lib.ListN.{length, take}
 use Rattle.calls.specs.InPlace.{usedCall, usedMeasureCall}
+use Rattle.calls.specs.Sources.{observeCall, renewCall}
 use Rattle.calls.specs.Stores.{forgetCall, returnCall, saveCall}
 use Rattle.buffers.specs.Calls.{Call}
 use Rattle.jobs.specs.declared.Op.{Op}
-use Rattle.jobs.specs.declared.Op.the-variants.{Complement, Cz, Gate, Measure}
+use Rattle.jobs.specs.declared.Op.the-variants.{Complement, Cz, Gate, Measure, Observe, Renew}
 use Rattle.jobs.specs.declared.Step.{Step}
 use Rattle.operations.specs.Steps.{complementOf, czOn, gateWith}
 use Rattle.store.specs.Places.{Store}
@@ -32,6 +33,11 @@ StepLeaves u step after = (st : Store) → afterAction (sessionOf u st) (does st
 abbrev pub MeasureLeaves : UsedRecord → ℕ → ℕ → ℕ → UsedRecord → Type 0
 MeasureLeaves u pauli q b after =
     (value : ℕ) → pauli ≡ value / 2 + 1 → b ≡ value % 2 → StepLeaves u (stepWith Measure q 0 value) after
+
+-- an observation likewise, with its bit
+abbrev pub ObserveLeaves : UsedRecord → ℕ → ℕ → ℕ → UsedRecord → Type 0
+ObserveLeaves u pauli q b after =
+    (value : ℕ) → pauli ≡ value / 2 + 1 → b ≡ value % 2 → StepLeaves u (stepWith Observe q 0 value) after
 
 -- ---- calls on the store
 -- a save leaves the record and these three buffers
@@ -67,6 +73,12 @@ pub record ContractsAreActions : Type 0 where
       (used′ answer′ determined′ : ℕ) →
       Call (usedMeasureCall u pauli q b answer determined nb′ cs′ used′ answer′ determined′) r →
       MeasureLeaves u pauli q b (leftUsed u nb′ cs′ used′)
+  pub observe : (u : UsedRecord) (pauli q b answer determined r : ℕ) (nb′ cs′ : List ℕ)
+      (used′ answer′ determined′ : ℕ) →
+      Call (observeCall u pauli q b answer determined nb′ cs′ used′ answer′ determined′) r →
+      ObserveLeaves u pauli q b (leftUsed u nb′ cs′ used′)
+  pub renew : (u : UsedRecord) (q k r : ℕ) (nb′ cs′ : List ℕ) (used′ : ℕ) → Call (renewCall u q k nb′ cs′ used′) r →
+      StepLeaves u (stepWith Renew q 0 k) (leftUsed u nb′ cs′ used′)
   pub save : (u : UsedRecord) (name : ℕ) (st : Store) (r : ℕ) (heads′ nb′ cs′ : List ℕ) →
       Call (saveCall u name st heads′ nb′ cs′) r → SaveLeaves u name st heads′ nb′ cs′
   pub return-to : (name : ℕ) (st : Store) (n : ℕ) (nb cs : List ℕ) (used n′ : ℕ) (nb′ cs′ : List ℕ) (used′ r : ℕ) →

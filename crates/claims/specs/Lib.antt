@@ -20,6 +20,7 @@ pub mod PlotDemand
 pub mod ProductDemand
 pub mod ProgramDemand
 pub mod RecordPairs
+pub mod RecordTexts
 pub mod RunDemand
 pub mod SecondDemand
 pub mod Sentences

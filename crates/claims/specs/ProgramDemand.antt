@@ -10,7 +10,7 @@ use Rattle.buffers.specs.Refusals.{firstFitting}
 use Rattle.jobs.specs.Answer.{JobResponse, resultsOf}
 use Rattle.jobs.specs.Results.{Result, jobAnswer}
 use Rattle.jobs.specs.Text.{HasJobForm, JobTextOf}
-use Rattle.jobs.specs.Asked.{asked, numberOf}
+use Rattle.jobs.specs.Asked.{Request, asked, carryOut, numberOf, observationOf, renewalOf}
 use Rattle.jobs.specs.GroupsAfter.{Group, GroupAfter, GroupDetermines, Refused, StartGroup}
 use Rattle.jobs.specs.Runs.{recordAfter, run, started}
 use Rattle.jobs.specs.Standing.{StandsFor, StillRecord}
@@ -80,6 +80,20 @@ OutcomeIs G (measurementOf pauli q b) v =
 OutcomeIs G (complementOf a) v = v ≡ 0
 OutcomeIs G (pivotOf j k) v = v ≡ 0
 
+-- the same of what a step asks: an observation has the sign where the outcome is determined, and otherwise the bit
+abbrev pub RequestDetermines : Group → Request → Type 0
+RequestDetermines G (carryOut o) = Determines G o
+RequestDetermines G (observationOf pauli q b) = GroupDetermines G (pauliLetter pauli) q
+RequestDetermines G (renewalOf q k) = ⊥
+
+-- its outcome
+abbrev pub RequestOutcomeIs : Group → Request → ℕ → Type 0
+RequestOutcomeIs G (carryOut o) v = OutcomeIs G o v
+RequestOutcomeIs G (observationOf pauli q b) v =
+    (GroupDetermines G (pauliLetter pauli) q → G (single (pauliLetter pauli) q (isOdd v)))
+    × ((GroupDetermines G (pauliLetter pauli) q → ⊥) → v ≡ b)
+RequestOutcomeIs G (renewalOf q k) v = v ≡ 0
+
 -- what is printed of the step s, which meets the group G and the record u that stands for it
 pub record LineSays (u : UsedRecord) (G : Pauli → Type 0) (s : Step) (r : Result) : Type 0 where
   -- the step's number, which is not 0 exactly if the fields or the group refuse the step
@@ -87,8 +101,8 @@ pub record LineSays (u : UsedRecord) (G : Pauli → Type 0) (s : Step) (r : Resu
   pub refused : (r .refusal ≡ 0 → ⊥) ↔ Refused u G s
   -- determined is 1 exactly if the step is an accepted measurement and the Pauli or its negative is in the group
   pub either : (r .determined ≡ 0) ⊎ (r .determined ≡ 1)
-  pub determined : (r .determined ≡ 1) ↔ ((Refused u G s → ⊥) × Determines G (asked s))
-  pub outcome : (Refused u G s → ⊥) → OutcomeIs G (asked s) (r .outcome)
+  pub determined : (r .determined ≡ 1) ↔ ((Refused u G s → ⊥) × RequestDetermines G (asked s))
+  pub outcome : (Refused u G s → ⊥) → RequestOutcomeIs G (asked s) (r .outcome)
   pub no-outcome : Refused u G s → r .outcome ≡ 0
 
 -- an accepted job: "one line per step with steps counted from 0, and then the record"

@@ -26,11 +26,11 @@ use Rattle.record.specs.RecordSentences.{CodeAbove23, RecordMisfits}
 use Rattle.operations.specs.UsedSentences.{StrayBit, usedSentences}
 use Rattle.claims.specs.Numbers.{ThreeMisfit}
 
--- at most 4,096 steps, operations from 0 to 4, and seven slices of one length; what else a step asks is not looked at
+-- at most 4,096 steps, operations from 0 to 6, and seven slices of one length; what else a step asks is not looked at
 -- before it is run
 pub record StepsFit (s : LentSteps) : Type 0 where
   pub few : length (s .ops) ≤ 4096
-  pub operations : (k : ℕ) → k < length (s .ops) → getD (s .ops) k 0 < 5
+  pub operations : (k : ℕ) → k < length (s .ops) → getD (s .ops) k 0 < 7
   pub a-places : length (s .a) ≡ length (s .ops)
   pub b-places : length (s .b) ≡ length (s .ops)
   pub value-places : length (s .value) ≡ length (s .ops)
@@ -49,11 +49,11 @@ SlicesDiffer s =
     ThreeMisfit (length (s .ops)) (s .a) (s .b) (s .value)
     ⊎ ThreeMisfit (length (s .ops)) (s .refusals) (s .outcomes) (s .determined)
 
--- its lines in words. 15: "more than 4,096 steps"; 4: "all seven slices have one length"; 6: "an op above 4"
+-- its lines in words. 15: "more than 4,096 steps"; 4: "all seven slices have one length"; 6: "an op above 6"
 abbrev pub runSentences : UsedRecord → LentSteps → List Sentence
 runSentences u s =
     sentence 15 (4096 < length (s .ops))
-    ∷ usedSentences u (RecordMisfits (u .held) ⊎ SlicesDiffer s) (StrayBit u) (CodeAbove23 (u .held) ⊎ SomeAbove 4 (s .ops))
+    ∷ usedSentences u (RecordMisfits (u .held) ⊎ SlicesDiffer s) (StrayBit u) (CodeAbove23 (u .held) ⊎ SomeAbove 6 (s .ops))
 
 -- ---- what an accepted call leaves
 -- the group of a record: the products of its generators

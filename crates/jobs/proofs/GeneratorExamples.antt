@@ -5,7 +5,8 @@ use Prim.Native.Nat.{ℕ}
 use lib.ListN.{replicate}
 use Rattle.buffers.specs.Refusals.{firstFitting}
 use Rattle.jobs.specs.declared.Op.the-variants.{Gate, Cz, Measure}
-use Rattle.jobs.specs.Text.{digits, opWord, stepText, stepsText, jobHead, jobText}
+use Rattle.text.specs.Text.{digits}
+use Rattle.jobs.specs.Text.{opWord, stepText, stepsText, jobHead, jobText}
 use Rattle.jobs.specs.Draws.{draw}
 use Rattle.jobs.specs.Drawn.{does, stepOf, drawn, generatedText}
 use Rattle.jobs.specs.GeneratedLines.{generateLines}

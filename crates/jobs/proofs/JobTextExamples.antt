@@ -6,11 +6,11 @@ use lib.ListN.{replicate}
 use Rattle.buffers.specs.Refusals.{firstFitting}
 use Rattle.jobs.specs.declared.Op.the-variants.{Gate, Cz, Measure, Complement}
 use Rattle.jobs.specs.declared.Step.{Step}
-use Rattle.text.specs.Text.{hexDigit, hexText, decimal, qubitLine, qubitLines, recordText}
+use Rattle.text.specs.Text.{digits, hexDigit, hexText, decimal, qubitLine, qubitLines, recordText}
 use Rattle.jobs.specs.JobLines.{jobLines}
 use Rattle.words.specs.Bits.{bit}
 use Rattle.jobs.specs.Results.{Result, resultLine, resultLines, jobAnswer}
-use Rattle.jobs.specs.Text.{digits, opWord, stepText, stepsText, qubitsLine, stepNames, jobHead}
+use Rattle.jobs.specs.Text.{opWord, stepText, stepsText, qubitsLine, stepNames, jobHead}
 use Rattle.jobs.specs.Text.{jobText}
 use Rattle.text.specs.internal.Feeding.{fedBytes}
 use Rattle.jobs.specs.internal.Scan.{digitValue, firstOp, firstStep, headStep, moreStep, opFor, Reading, wordStep}

@@ -9,7 +9,7 @@ use Rattle.jobs.specs.declared.Op.{Op}
 use Rattle.jobs.specs.declared.Op.the-variants.{Gate, Cz, Measure}
 use Rattle.jobs.specs.declared.Step.{Step}
 use Rattle.text.proofs.HexLaws.{length-decimal}
-use Rattle.jobs.proofs.Digits.{one-place, two-places}
+use Rattle.text.proofs.NumeralLaws.{one-place, two-places}
 use Rattle.jobs.specs.Text.{field, jobHead, jobText, opWord, stepText, stepsText}
 use Rattle.jobs.specs.Drawn.{drawn, generatedText}
 use Rattle.jobs.specs.GeneratedLines.{room}

@@ -4,6 +4,7 @@ pub mod Fields
 pub mod GeneratorExamples
 pub mod JobTextExamples
 pub mod KeptLaws
+pub mod KeptRequests
 pub mod Lengths
 pub mod Numbers
 pub mod OneByte

@@ -1,7 +1,7 @@
 -- The number of a step: by its fields alone, or the number of its operation; and the record that it leaves.
-use mathlib.Core.Bool.{Bool, cond, false, or-true, true, true≢false, _||_}
+use mathlib.Core.Bool.{Bool, cond, false, not, or-true, true, true≢false, _||_}
 use mathlib.Core.List.{_++_, List}
-use mathlib.Core.Path.{_∙_, _≡_, ap, refl, sym}
+use mathlib.Core.Path.{_∙_, _≡_, ap, ap₂, refl, sym}
 use Prim.Native.Nat.{ℕ}
 use lib.Dec.{eqb, leb}
 use lib.ListN.{drop}
@@ -25,18 +25,30 @@ use Rattle.operations.specs.Steps.{
 }
 use Rattle.record.specs.Lent.{recordCodes, recordLengths, recordLines, recordStray}
 use Rattle.operations.proofs.UsedPassing.{lines-pass}
+use Rattle.source.specs.Renewal.{renewLines}
 use Rattle.operations.specs.Used.{
   UsedRecord,
   namesUsed,
   usedArgumentsOf,
+  usedCode,
   usedLines,
   usedLinesOf,
   usedStep,
   usedStray,
   withUsed,
 }
-use Rattle.jobs.specs.Asked.{asked, numberOf, unusedSet}
-use Rattle.jobs.specs.Runs.{afterStep}
+use Rattle.jobs.specs.Asked.{
+  Request,
+  asked,
+  carryOut,
+  numberOf,
+  observationOf,
+  renewalOf,
+  requestLines,
+  unusedSet,
+}
+use Rattle.jobs.specs.GroupsAfter.{requestArguments}
+use Rattle.jobs.specs.Runs.{afterStep, requestLeaves}
 use Rattle.jobs.specs.declared.Step.{Step}
 
 -- where line 6 holds of an argument or by the further test, no later line matters
@@ -53,6 +65,27 @@ with-six u named six b rest e =
         (cond (((five || stray) || false) || false) 5 (cond ((((code || six) || false) || false) || b) 6 m)))
         ≡ cond ((two || false) || false) 2 (cond (((four || false) || false) || false) 4
         (cond ((five || (stray || false)) || false) 5 (cond (((code || true) || false) || false) 6 m′)))
+    go true four five stray code six b e m m′ = refl
+    go false true five stray code six b e m m′ = refl
+    go false false true stray code six b e m m′ = refl
+    go false false false true code six b e m m′ = refl
+    go false false false false true six b e m m′ = refl
+    go false false false false false true b e m m′ = refl
+    go false false false false false false b e m m′ = ap (λ v. cond v 6 m) e
+
+-- the same of lines behind those of the record
+pub with-six-after : (u : UsedRecord) (six b : Bool) (rest : List Refusal) → (six || b) ≡ true
+    → firstFitting (withTest 6 b (usedLines u false false six ++ rest)) ≡ firstFitting (usedLines u false false true)
+unfolding firstFitting
+with-six-after u six b rest e =
+    go (badCount (u .held .n)) (recordLengths (u .held)) (recordStray (u .held)) (usedStray u || false)
+    (recordCodes (u .held)) six b e _ _
+  where
+    go : (two four five stray code six b : Bool) → (six || b) ≡ true → (m m′ : ℕ)
+        → cond (((two || false) || false) || false) 2 (cond ((((four || false) || false) || false) || false) 4
+        (cond (((five || stray) || false) || false) 5 (cond ((((code || six) || false) || false) || b) 6 m)))
+        ≡ cond ((two || false) || false) 2 (cond (((four || false) || false) || false) 4
+        (cond ((five || stray) || false) 5 (cond (((code || true) || false) || false) 6 m′)))
     go true four five stray code six b e m m′ = refl
     go false true five stray code six b e m m′ = refl
     go false false true stray code six b e m m′ = refl
@@ -93,39 +126,58 @@ set-refuses-fields u (measurementOf pauli q b) =
 set-refuses-fields u (complementOf a) = set-refuses u (complementOf a)
 set-refuses-fields u (pivotOf j k) = set-refuses u (pivotOf j k)
 
--- ---- a step with no unused field set is its operation
+-- the same of what a step asks
+pub set-refuses-request : (u : UsedRecord) (r : Request)
+    → firstFitting (withTest 6 true (requestLines u r)) ≡ firstFitting (usedLines u false false true)
+set-refuses-request u (carryOut o) = set-refuses u o
+set-refuses-request u (observationOf pauli q b) = set-refuses-fields u (measurementOf pauli q b)
+set-refuses-request u (renewalOf q k) =
+    with-six-after u (not (usedCode k)) true (drop 5 (renewLines u q k)) (or-true (not (usedCode k)))
+
+pub set-refuses-arguments : (u : UsedRecord) (r : Request)
+    → firstFitting (withTest 6 true (requestArguments u r)) ≡ firstFitting (usedLines u false false true)
+set-refuses-arguments u (carryOut o) = set-refuses-fields u o
+set-refuses-arguments u (observationOf pauli q b) = set-refuses-fields u (measurementOf pauli q b)
+set-refuses-arguments u (renewalOf q k) = set-refuses-request u (renewalOf q k)
+
+-- ---- a step with no unused field set is what it asks
 module _ (u : UsedRecord) (s : Step) where
   abbrev set : Bool
   set = unusedSet (s .op) (s .b) (s .value)
 
-  pub number-of-operation : set ≡ false → numberOf u s ≡ (usedStep u (asked s)) .number
-  number-of-operation e =
-      ap (λ b. firstFitting (withTest 6 b (usedLinesOf u (asked s)))) e ∙ without-test 6 (usedLinesOf u (asked s))
+  pub number-of-request : set ≡ false → numberOf u s ≡ firstFitting (requestLines u (asked s))
+  number-of-request e =
+      ap (λ b. firstFitting (withTest 6 b (requestLines u (asked s)))) e ∙ without-test 6 (requestLines u (asked s))
 
-  pub left-by-operation : set ≡ false → afterStep u s ≡ (usedStep u (asked s)) .after
-  left-by-operation e =
-      ap (λ k. cond (eqb k 0) ((usedStep u (asked s)) .after) u) (number-of-operation e)
-      ∙ kept (eqb (firstFitting (usedLinesOf u (asked s))) 0) _
-    where
-      -- a refused operation leaves the record
-      kept : (b : Bool) (v : UsedRecord) → cond b (cond b v u) u ≡ cond b v u
-      kept true v = refl
-      kept false v = refl
+  -- that of an operation
+  module _ (o : Operation) (r : asked s ≡ carryOut o) (e : set ≡ false) where
+    pub number-of-operation : numberOf u s ≡ (usedStep u o) .number
+    number-of-operation = number-of-request e ∙ ap (λ r. firstFitting (requestLines u r)) r
+
+    pub left-by-operation : afterStep u s ≡ (usedStep u o) .after
+    left-by-operation =
+        ap₂ (λ k v. cond (eqb k 0) v u) number-of-operation (ap (requestLeaves u) r)
+        ∙ kept (eqb (firstFitting (usedLinesOf u o)) 0) _
+      where
+        -- a refused operation leaves the record
+        kept : (b : Bool) (v : UsedRecord) → cond b (cond b v u) u ≡ cond b v u
+        kept true v = refl
+        kept false v = refl
 
   -- "A refused step changes nothing"
   pub refused-keeps : (numberOf u s ≡ 0 → ⊥) → afterStep u s ≡ u
-  refused-keeps h = ap (λ b. cond b ((usedStep u (asked s)) .after) u) (ne-eqb (numberOf u s) 0 h)
+  refused-keeps h = ap (λ b. cond b (requestLeaves u (asked s)) u) (ne-eqb (numberOf u s) 0 h)
 
   -- an accepted one has no unused field set
   pub accepted-unset : numberOf u s ≡ 0 → set ≡ false
   accepted-unset z = go set z
     where
-      go : (b : Bool) → firstFitting (withTest 6 b (usedLinesOf u (asked s))) ≡ 0 → b ≡ false
-      go true e = absurd (six-refuses u (sym (set-refuses u (asked s)) ∙ e))
+      go : (b : Bool) → firstFitting (withTest 6 b (requestLines u (asked s))) ≡ 0 → b ≡ false
+      go true e = absurd (six-refuses u (sym (set-refuses-request u (asked s)) ∙ e))
       go false e = refl
 
-  pub accepted-number : numberOf u s ≡ 0 → (usedStep u (asked s)) .number ≡ 0
-  accepted-number z = sym (number-of-operation (accepted-unset z)) ∙ z
+  pub accepted-number : numberOf u s ≡ 0 → firstFitting (requestLines u (asked s)) ≡ 0
+  accepted-number z = sym (number-of-request (accepted-unset z)) ∙ z
 
-  pub accepted-leaves : numberOf u s ≡ 0 → afterStep u s ≡ (usedStep u (asked s)) .after
-  accepted-leaves z = ap (λ b. cond b ((usedStep u (asked s)) .after) u) (eq-eqb (numberOf u s) 0 z)
+  pub accepted-leaves : numberOf u s ≡ 0 → afterStep u s ≡ requestLeaves u (asked s)
+  accepted-leaves z = ap (λ b. cond b (requestLeaves u (asked s)) u) (eq-eqb (numberOf u s) 0 z)

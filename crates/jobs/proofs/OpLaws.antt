@@ -10,10 +10,10 @@ use lib.Dec.{eqb, lit≤}
 use lib.ListN.{length, getD, take, replicate, length-append, List·getD-append}
 use borrow.Author.Tests.{eqb-true}
 use Rattle.jobs.specs.declared.Op.{Op}
-use Rattle.jobs.specs.declared.Op.the-variants.{Gate, Cz, Measure, Complement, Pivot}
+use Rattle.jobs.specs.declared.Op.the-variants.{Gate, Cz, Measure, Complement, Pivot, Observe, Renew}
 use Rattle.text.specs.Text.{space}
 use Rattle.words.proofs.Flags.{by-test}
-use Rattle.jobs.specs.Text.{opWord}
+use Rattle.jobs.specs.Text.{inTexts, opWord}
 use Rattle.jobs.specs.internal.Scan.{letters, firstOp, afterO, opFor}
 use Rattle.jobs.proofs.Separators.{without, without-at}
 
@@ -25,6 +25,8 @@ op-without Cz = refl
 op-without Measure = refl
 op-without Complement = refl
 op-without Pivot = refl
+op-without Observe = refl
+op-without Renew = refl
 
 -- its letters are those of its word and the space
 letters-word : (op : Op) → letters op ≡ (opWord op ++ space) ++ replicate (10 - length (opWord op)) 0
@@ -34,6 +36,8 @@ letters-word Cz = refl
 letters-word Measure = refl
 letters-word Complement = refl
 letters-word Pivot = refl
+letters-word Observe = refl
+letters-word Renew = refl
 
 pub letter-at : (op : Op) (k : ℕ) → k ≤ length (opWord op)
     → getD (letters op) k 0 ≡ getD (opWord op ++ space) k 0
@@ -57,6 +61,8 @@ one-letter Cz = refl
 one-letter Measure = refl
 one-letter Complement = refl
 one-letter Pivot = refl
+one-letter Observe = refl
+one-letter Renew = refl
 
 some-letter : (op : Op) → 1 ≤ length (opWord op)
 unfolding opWord
@@ -65,6 +71,8 @@ some-letter Cz = lit≤ tt
 some-letter Measure = lit≤ tt
 some-letter Complement = lit≤ tt
 some-letter Pivot = lit≤ tt
+some-letter Observe = lit≤ tt
+some-letter Renew = lit≤ tt
 
 -- another operation that begins with the same letters
 pub same-start : (k : ℕ) (op : Op) (b : ℕ) → k ≤ length (opWord op)
@@ -83,3 +91,27 @@ same-start k op b inside =
   where
     Same : Op → Type 0
     Same o = (take k (opWord op ++ space) ≡ take k (opWord o ++ space)) × (k ≤ length (opWord o))
+
+-- the scan holds an operation of texts, whatever the next letter
+after-in-texts : (op : Op) → inTexts op ≡ true → inTexts (afterO op) ≡ true
+after-in-texts Gate e = e
+after-in-texts Cz e = refl
+after-in-texts Measure e = e
+after-in-texts Complement e = e
+after-in-texts Pivot e = e
+after-in-texts Observe e = e
+after-in-texts Renew e = e
+
+first-in-texts : (b : ℕ) → inTexts (firstOp b) ≡ true
+unfolding firstOp
+first-in-texts b =
+    by-test (λ o. inTexts o ≡ true) (eqb b 103) Gate (cond (eqb b 99) Cz (cond (eqb b 109) Measure Pivot)) (λ _. refl)
+    (λ _. by-test (λ o. inTexts o ≡ true) (eqb b 99) Cz (cond (eqb b 109) Measure Pivot) (λ _. refl)
+    (λ _. by-test (λ o. inTexts o ≡ true) (eqb b 109) Measure Pivot (λ _. refl) (λ _. refl)))
+
+pub next-in-texts : (k : ℕ) (op : Op) (b : ℕ) → inTexts op ≡ true → inTexts (opFor k op b) ≡ true
+unfolding opFor
+next-in-texts k op b e =
+    by-test (λ o. inTexts o ≡ true) (eqb k 0) (firstOp b) (cond (eqb k 1 && eqb b 111) (afterO op) op)
+    (λ _. first-in-texts b)
+    (λ _. by-test (λ o. inTexts o ≡ true) (eqb k 1 && eqb b 111) (afterO op) op (λ _. after-in-texts op e) (λ _. e))

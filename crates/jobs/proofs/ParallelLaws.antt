@@ -8,7 +8,7 @@ use native.Mathlib.Omega.{arith}
 use lib.ListN.{drop, getD, getD-replicate, length, length-drop, length-replicate, length-set, replicate, set, take}
 use lib.Seq.{ext-getD, getD-drop, getD-set-other, getD-set-same, getD-take, length-take-le}
 use Rattle.jobs.specs.declared.Op.{Op}
-use Rattle.jobs.specs.declared.Op.the-variants.{Complement, Cz, Gate, Measure, Pivot}
+use Rattle.jobs.specs.declared.Op.the-variants.{Complement, Cz, Gate, Measure, Observe, Pivot, Renew}
 use Rattle.jobs.specs.declared.Step.{Step}
 use Rattle.jobs.specs.Parallel.{stepsBelow, numbered, numberedOp, stepIn, stepsIn}
 use Rattle.jobs.specs.internal.Parallel.{opNumber}
@@ -20,6 +20,8 @@ op-back Cz = refl
 op-back Measure = refl
 op-back Complement = refl
 op-back Pivot = refl
+op-back Observe = refl
+op-back Renew = refl
 
 -- ---- stepsBelow steps
 listed-long : (n : ℕ) (f : ℕ → Step) → length (stepsBelow n f) ≡ n

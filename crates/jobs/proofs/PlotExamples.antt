@@ -8,10 +8,9 @@ use lib.ListN.{replicate}
 use Rattle.amplitude.specs.Plotting.{plotted, turned}
 use Rattle.amplitude.specs.Ratios.{isSupported, leading, plotAt, ratio}
 use Rattle.amplitude.specs.Turns.{turnsAt}
-use Rattle.jobs.specs.Text.{digits}
 use Rattle.pauli.specs.Pauli.{Pauli, identity, mul, signedRow}
 use Rattle.record.specs.Columns.{isColumnDependent}
-use Rattle.text.specs.Text.{hexDigit, hexText}
+use Rattle.text.specs.Text.{digits, hexDigit, hexText}
 use Rattle.words.specs.Bits.{bit, fold}
 use Rattle.words.specs.Search.{every, first, some}
 use Rattle.jobs.specs.Table.{plotNames, pointText, pointTexts, tableText}

@@ -3,6 +3,7 @@ use mathlib.Core.Bool.{Bool, cond, false, true}
 use mathlib.Core.List.{List, [], _∷_}
 use mathlib.Core.Path.{_∙_, _≡_, refl, subst, sym}
 use Prim.Native.Nat.{_<_, ℕ}
+use native.Mathlib.Decide.{ℕ-discrete}
 use lib.Dec.{eqb, lit<}
 use lib.ListN.{getD, getD-replicate, length, length-replicate}
 use Rattle.buffers.proofs.Lines.{AllBelow, first-below}
@@ -30,8 +31,29 @@ use Rattle.record.specs.Records.{GraphRecord}
 use Rattle.operations.specs.Used.{UsedRecord, usedAfter, usedLinesOf, usedStep}
 use Rattle.words.proofs.BitLaws.{digit-lt}
 use Rattle.words.specs.Bits.{wordOf}
-use Rattle.jobs.specs.Asked.{asked, numberOf, unusedSet}
-use Rattle.jobs.specs.Runs.{afterStep, answerOf, determinedOf, outcomeOf, run, started}
+use Rattle.jobs.specs.Asked.{
+  Request,
+  asked,
+  carryOut,
+  numberOf,
+  observationOf,
+  renewalOf,
+  requestLines,
+  unusedSet,
+}
+use Rattle.jobs.specs.Runs.{
+  afterStep,
+  answerOf,
+  determinedOf,
+  outcomeOf,
+  requestDetermined,
+  requestLeaves,
+  requestOutcome,
+  run,
+  started,
+}
+use Rattle.jobs.proofs.Numbers.{accepted-leaves, accepted-number, refused-keeps}
+use Rattle.source.proofs.RenewedRecords.{renew-passes, renewed-accepted}
 use Rattle.jobs.specs.declared.Step.{Step}
 
 -- ---- records
@@ -81,16 +103,33 @@ module _ (n : ℕ) (l : LentRecord) (S : Sized n l) where
             codes-small = S .codes-small;
           }
 
+-- what is asked, accepted
+module _ (n : ℕ) (u : UsedRecord) (S : Sized n (u .held)) where
+  used-sized : (o : Operation) → Sized n ((usedStep u o) .after .held)
+  used-sized o = go (eqb ((usedStep u o) .number) 0)
+    where
+      go : (c : Bool) → Sized n ((cond c (record { held = leaves (u .held) o; used = usedAfter u o }) u) .held)
+      go true = operation-sized n (u .held) S o
+      go false = S
+
+  request-sized : (r : Request) → firstFitting (requestLines u r) ≡ 0 → Sized n ((requestLeaves u r) .held)
+  request-sized (carryOut o) z = used-sized o
+  request-sized (observationOf pauli q b) z = used-sized (measurementOf pauli q (outcomeNumber (measuredAnswer (u .held) pauli q b)))
+  request-sized (renewalOf q k) z =
+      let A = renewed-accepted u q k (renew-passes u q k z) in
+      record {
+        qubits = S .qubits;
+        neighbours-long = S .neighbours-long;
+        codes-long = A .codes-length ∙ S .qubits;
+        codes-small = λ t h. A .codes-below t;
+      }
+
 pub step-sized : (n : ℕ) (u : UsedRecord) → Sized n (u .held) → (s : Step) → Sized n (afterStep u s .held)
-step-sized n u S s = go (eqb (numberOf u s) 0) (eqb ((usedStep u (asked s)) .number) 0)
+step-sized n u S s = go (ℕ-discrete (numberOf u s) 0)
   where
-    go : (b c : Bool) → Sized n ((cond b (cond c (record {
-      held = leaves (u .held) (asked s);
-      used = usedAfter u (asked s);
-    }) u) u) .held)
-    go true true = operation-sized n (u .held) S (asked s)
-    go true false = S
-    go false c = S
+    go : Dec (numberOf u s ≡ 0) → Sized n (afterStep u s .held)
+    go (yes z) = subst (λ v. Sized n (v .held)) (sym (accepted-leaves u s z)) (request-sized n u S (asked s) (accepted-number u s z))
+    go (no h) = subst (λ v. Sized n (v .held)) (sym (refused-keeps u s h)) S
 
 pub run-sized : (n : ℕ) (u : UsedRecord) → Sized n (u .held) → (steps : List Step) → Sized n (run u steps .held)
 unfolding run
@@ -98,18 +137,24 @@ run-sized n u S [] = S
 run-sized n u S (s ∷ rest) = run-sized n (afterStep u s) (step-sized n u S s) rest
 
 -- ---- answers
-below-20 : (u : UsedRecord) (b : Bool) (o : Operation) → AllBelow 20 (withTest 6 b (usedLinesOf u o))
-below-20 u b (gateWith q k) = (lit< tt, (lit< tt, (lit< tt, (lit< tt, (lit< tt, (lit< tt, (lit< tt, tt)))))))
-below-20 u b (czOn a c) = (lit< tt, (lit< tt, (lit< tt, (lit< tt, (lit< tt, (lit< tt, (lit< tt, tt)))))))
-below-20 u b (measurementOf pauli q c) =
+below-21 : (u : UsedRecord) (b : Bool) (o : Operation) → AllBelow 21 (withTest 6 b (usedLinesOf u o))
+below-21 u b (gateWith q k) = (lit< tt, (lit< tt, (lit< tt, (lit< tt, (lit< tt, (lit< tt, (lit< tt, tt)))))))
+below-21 u b (czOn a c) = (lit< tt, (lit< tt, (lit< tt, (lit< tt, (lit< tt, (lit< tt, (lit< tt, tt)))))))
+below-21 u b (measurementOf pauli q c) =
     (lit< tt, (lit< tt, (lit< tt, (lit< tt, (lit< tt, (lit< tt, (lit< tt, (lit< tt, tt))))))))
-below-20 u b (complementOf a) = (lit< tt, (lit< tt, (lit< tt, (lit< tt, (lit< tt, (lit< tt, (lit< tt, tt)))))))
-below-20 u b (pivotOf j k) = (lit< tt, (lit< tt, (lit< tt, (lit< tt, (lit< tt, (lit< tt, (lit< tt, tt)))))))
+below-21 u b (complementOf a) = (lit< tt, (lit< tt, (lit< tt, (lit< tt, (lit< tt, (lit< tt, (lit< tt, tt)))))))
+below-21 u b (pivotOf j k) = (lit< tt, (lit< tt, (lit< tt, (lit< tt, (lit< tt, (lit< tt, (lit< tt, tt)))))))
+
+request-below : (u : UsedRecord) (b : Bool) (r : Request) → AllBelow 21 (withTest 6 b (requestLines u r))
+request-below u b (carryOut o) = below-21 u b o
+request-below u b (observationOf pauli q c) =
+    (lit< tt, (lit< tt, (lit< tt, (lit< tt, (lit< tt, (lit< tt, (lit< tt, tt)))))))
+request-below u b (renewalOf q k) = (lit< tt, (lit< tt, (lit< tt, (lit< tt, (lit< tt, (lit< tt, (lit< tt, tt)))))))
 
 -- the refusal is one of the published numbers
-pub refusal-small : (u : UsedRecord) (s : Step) → (answerOf u s) .refusal < 20
-refusal-small u s = first-below 20 (withTest 6 (unusedSet (s .op) (s .b) (s .value)) (usedLinesOf u (asked s)))
-    (lit< tt) (below-20 u (unusedSet (s .op) (s .b) (s .value)) (asked s))
+pub refusal-small : (u : UsedRecord) (s : Step) → (answerOf u s) .refusal < 21
+refusal-small u s = first-below 21 (withTest 6 (unusedSet (s .op) (s .b) (s .value)) (requestLines u (asked s)))
+    (lit< tt) (request-below u (unusedSet (s .op) (s .b) (s .value)) (asked s))
 
 -- the outcome and determined are bits
 outcome-digit : (r : Outcome) → (outcomeNumber r < 2) × (determinedNumber r < 2)
@@ -123,10 +168,15 @@ outcomes-small l (measurementOf pauli q b) = outcome-digit (measuredAnswer l pau
 outcomes-small l (complementOf a) = (lit< tt, lit< tt)
 outcomes-small l (pivotOf j k) = (lit< tt, lit< tt)
 
+requests-small : (l : LentRecord) (r : Request) → (requestOutcome l r < 2) × (requestDetermined l r < 2)
+requests-small l (carryOut o) = outcomes-small l o
+requests-small l (observationOf pauli q b) = outcome-digit (measuredAnswer l pauli q b)
+requests-small l (renewalOf q k) = (lit< tt, lit< tt)
+
 pub outcome-small : (u : UsedRecord) (s : Step) → ((answerOf u s) .outcome < 2) × ((answerOf u s) .determined < 2)
 outcome-small u s = (
-  go (eqb (numberOf u s) 0) (outcomes-small (u .held) (asked s) .0),
-  go (eqb (numberOf u s) 0) (outcomes-small (u .held) (asked s) .1),
+  go (eqb (numberOf u s) 0) (requests-small (u .held) (asked s) .0),
+  go (eqb (numberOf u s) 0) (requests-small (u .held) (asked s) .1),
 )
   where
     go : {v : ℕ} (b : Bool) → v < 2 → cond b v 0 < 2

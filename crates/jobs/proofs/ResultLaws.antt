@@ -7,11 +7,10 @@ use native.Mathlib.Omega.{arith}
 use lib.Dec.{ltb}
 use lib.ListN.{length, length-append}
 use Rattle.text.proofs.HexLaws.{length-decimal, length-field}
-use Rattle.text.specs.Text.{decimal, space, newline}
+use Rattle.text.specs.Text.{digits, decimal, space, newline}
 use Rattle.words.proofs.Flags.{by-test}
-use Rattle.jobs.proofs.Digits.{two-places, digits-last}
+use Rattle.text.proofs.NumeralLaws.{two-places, digits-last}
 use Rattle.jobs.specs.Results.{Result, resultLine, resultLines}
-use Rattle.jobs.specs.Text.{digits}
 
 -- a number below 10,000, of two digits or of more
 pub number-short : (v : ℕ) → v < 100 → decimal v ≡ digits 4 v

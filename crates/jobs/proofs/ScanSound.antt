@@ -2,7 +2,7 @@
 -- has the form.
 use mathlib.Core.Path.{_≡_, sym, ap, ap₂, _∙_, subst}
 use mathlib.Core.Logic.{⊎-elim}
-use mathlib.Core.Bool.{_&&_, and-eq-true-iff, cond}
+use mathlib.Core.Bool.{_&&_, and-eq-true-iff, cond, true}
 use mathlib.Core.List.{List, [], _∷_, _++_, append-assoc, append-nil}
 use Prim.Native.Nat.{ℕ, _+_, _-_, _*_, _≤_, _<_, zero-le}
 use native.Mathlib.Nat.{eq-or-lt-of-le}
@@ -16,7 +16,7 @@ use Rattle.jobs.specs.declared.Step.{Step}
 use Rattle.text.specs.Text.{space, newline}
 use Rattle.words.proofs.Flags.{by-test}
 use Rattle.words.proofs.Sums.{lt-or-ge}
-use Rattle.jobs.specs.Text.{field, opWord, StepFits, stepText, qubitsLine, stepNames, jobHead}
+use Rattle.jobs.specs.Text.{field, inTexts, opWord, StepFits, stepText, qubitsLine, stepNames, jobHead}
 use Rattle.jobs.specs.Text.{jobText}
 use Rattle.jobs.specs.internal.Scan.{moved, withOp, withNumber, headBytes, headStep, letters}
 use Rattle.jobs.specs.internal.Scan.{
@@ -34,13 +34,41 @@ use Rattle.jobs.specs.declared.scan.Field.the-variants.{N, A, B, Value}
 use Rattle.jobs.specs.declared.scan.Place.{Place}
 use Rattle.jobs.specs.declared.scan.Place.the-variants.{Head, Word, First, More, Broken}
 use Rattle.jobs.specs.declared.scan.Scan.{Scan}
-use Rattle.jobs.proofs.Digits.{digit-value, one-place, digits-push}
-use Rattle.jobs.proofs.OpLaws.{letter-at, space-last, same-start}
+use Rattle.text.proofs.NumeralLaws.{one-place}
+use Rattle.jobs.proofs.Digits.{digit-value, digits-push}
+use Rattle.jobs.proofs.OpLaws.{letter-at, next-in-texts, space-last, same-start}
 use Rattle.jobs.proofs.Steps.{job-none, job-more, fit-more}
 use Rattle.jobs.proofs.Sofar.{Upto, aPart, bPart, valuePart, Before, Inside, AtHead, AtWord, Sofar}
 use Rattle.jobs.proofs.Sofar.{upto-more, upto-field}
 
-module _ (s : Scan) (t : List ℕ) (b : ℕ) where
+-- the operation that the scan holds stays one of texts
+pub stays-in-texts : (p : Place) (s : Scan) (b : ℕ) → inTexts (s .op) ≡ true → inTexts ((stepAt p s b) .op) ≡ true
+unfolding wordStep firstStep moreStep
+stays-in-texts (Head k) s b e = e
+stays-in-texts (Word k) s b e =
+    let o = opFor k (s .op) b in
+    by-test (λ r. inTexts (r .op) ≡ true) (ltb k 11 && eqb b (getD (letters o) k 0))
+    (withOp s o (cond (eqb b 32) (First A) (Word (k + 1)))) (moved s Broken) (λ _. next-in-texts k (s .op) b e) (λ _. e)
+stays-in-texts (First f) s b e =
+    by-test (λ r. inTexts (r .op) ≡ true) (ltb (digitValue b) 10) (withNumber s (digitValue b) (More f)) (moved s Broken)
+    (λ _. e) (λ _. e)
+stays-in-texts (More f) s b e =
+    let read = withNumber s (s .number * 10 + digitValue b) (More f) in
+    by-test (λ r. inTexts (r .op) ≡ true) (ltb (digitValue b) 10)
+    (cond (ltb 0 (s .number) && ltb (s .number) 100) read (moved s Broken))
+    (cond (eqb b (separator f)) (ended f s) (moved s Broken))
+    (λ _. by-test (λ r. inTexts (r .op) ≡ true) (ltb 0 (s .number) && ltb (s .number) 100) read (moved s Broken) (λ _. e)
+    (λ _. e))
+    (λ _. by-test (λ r. inTexts (r .op) ≡ true) (eqb b (separator f)) (ended f s) (moved s Broken) (λ _. kept f) (λ _. e))
+  where
+    kept : (f : Field) → inTexts ((ended f s) .op) ≡ true
+    kept N = e
+    kept A = e
+    kept B = e
+    kept Value = e
+stays-in-texts Broken s b e = e
+
+module _ (s : Scan) (t : List ℕ) (b : ℕ) (named : inTexts (s .op) ≡ true) where
   abbrev After : Scan → Type 0
   After r = Sofar (r .place) r (t ++ b ∷ [])
 
@@ -190,7 +218,7 @@ module _ (s : Scan) (t : List ℕ) (b : ℕ) where
   )
   ended-sound Value sofar byte =
       let l : Step = record { op = s .op; a = s .a; b = s .b; value = s .number } in
-      let fit : StepFits l = record { a = sofar .before .1; b = sofar .before .2; value = sofar .small } in
+      let fit : StepFits l = record { op = named; a = sofar .before .1; b = sofar .before .2; value = sofar .small } in
       let line : Upto (s .n) (t ++ b ∷ []) (stepText l) =
       subst (λ c. Upto (s .n) (t ++ b ∷ []) (valuePart (s .op) (s .a) (s .b) ++ field (s .number) ++ c ∷ [])) byte
       (upto-field (s .number) b (sofar .text) (sofar .before .0)) in

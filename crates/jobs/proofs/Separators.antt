@@ -8,7 +8,7 @@ use lib.Dec.{eqb, ltb}
 use lib.ListN.{length, getD, drop}
 use borrow.Author.Tests.{eq-eqb, ne-eqb}
 use Rattle.words.proofs.Flags.{by-test}
-use Rattle.jobs.specs.Text.{digits}
+use Rattle.text.specs.Text.{digits}
 
 -- the byte x is not in the list
 abbrev pub without : ℕ → List ℕ → Bool

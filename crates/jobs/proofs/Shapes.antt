@@ -1,6 +1,6 @@
 -- Each draw gives a gate, a CZ on two qubits or a measurement, with unused fields 0 and numbers that fit.
 use mathlib.Core.Path.{_≡_, refl, ap}
-use mathlib.Core.Bool.{false}
+use mathlib.Core.Bool.{false, true}
 use mathlib.Core.List.{List, [], _∷_}
 use Prim.Native.Nat.{ℕ, zero, suc, _+_, _*_, _/_, _%_, _≤_, _<_}
 use native.Mathlib.Nat.{mod-lt}
@@ -11,7 +11,7 @@ use borrow.Author.Tests.{eq-eqb, ne-eqb, eqb-false}
 use Rattle.jobs.specs.Asked.{unusedSet}
 use Rattle.jobs.specs.declared.Op.the-variants.{Gate, Cz, Measure}
 use Rattle.jobs.specs.declared.Step.{Step}
-use Rattle.jobs.specs.Text.{StepFits, EachStepFits}
+use Rattle.jobs.specs.Text.{StepFits, EachStepFits, inTexts}
 use Rattle.words.proofs.Flags.{by-test}
 use Rattle.jobs.specs.Draws.{draw}
 use Rattle.jobs.specs.Drawn.{does, drawn, drawnCode, drawnOutcome, qubitA, qubitB, stepOf}
@@ -75,9 +75,14 @@ module _ {n : ℕ} (few : n ≤ 64) where
   small (cz h k differ) = record { a = omega arith; b = omega arith; value = lit< tt }
   small (measure h k) = record { a = omega arith; b = lit< tt; value = omega arith }
 
+  named : {s : Step} → Drawable n s → inTexts (s .op) ≡ true
+  named (gate h k) = refl
+  named (cz h k differ) = refl
+  named (measure h k) = refl
+
   fits : {s : Step} → Drawable n s → StepFits s
   fits d = let m = small d in
-      record { a = omega (arith, m .a); b = omega (arith, m .b); value = omega (arith, m .value) }
+      record { op = named d; a = omega (arith, m .a); b = omega (arith, m .b); value = omega (arith, m .value) }
 
   pub all-fit : (ss : List Step) → AllDrawable n ss → EachStepFits ss
   all-fit [] d = tt

@@ -1,16 +1,17 @@
 -- What the scanner does with the bytes of a step's line, field by field.
 use mathlib.Core.Path.{_≡_, refl, ap, _∙_}
+use mathlib.Core.Bool.{false≢true, true}
 use mathlib.Core.List.{List, [], _∷_, _++_}
 use Prim.Native.Nat.{ℕ, zero, suc, _+_, _*_, _/_, _%_, _^_, _<_}
 use native.Mathlib.Omega.{arith}
 use lib.Dec.{ltb}
 use borrow.Author.Tests.{lt-ltb, ltb-true, ltb-false}
 use Rattle.jobs.specs.declared.Op.{Op}
-use Rattle.jobs.specs.declared.Op.the-variants.{Gate, Cz, Measure, Complement, Pivot}
+use Rattle.jobs.specs.declared.Op.the-variants.{Gate, Cz, Measure, Complement, Pivot, Observe, Renew}
 use Rattle.jobs.specs.declared.Step.{Step}
-use Rattle.text.specs.Text.{space}
+use Rattle.text.specs.Text.{digits, space}
 use Rattle.words.proofs.Flags.{by-test}
-use Rattle.jobs.specs.Text.{digits, field, opWord, StepFits, stepText}
+use Rattle.jobs.specs.Text.{field, inTexts, opWord, StepFits, stepText}
 use Rattle.text.proofs.Feeding.{fed-append, fed-one}
 use Rattle.text.specs.internal.Feeding.{fedBytes}
 use Rattle.jobs.specs.internal.Scan.{digitValue, firstOp, firstStep, moreStep, oneMore, opFor, Reading, scanByte, wordStep}
@@ -20,7 +21,8 @@ use Rattle.jobs.specs.declared.scan.Field.the-variants.{A, B, Value}
 use Rattle.jobs.specs.declared.scan.Place.{Place}
 use Rattle.jobs.specs.declared.scan.Place.the-variants.{Word, First, More}
 use Rattle.jobs.specs.declared.scan.Scan.{Scan}
-use Rattle.jobs.proofs.Digits.{value-digit, fewer-digits}
+use Rattle.text.proofs.NumeralLaws.{fewer-digits}
+use Rattle.jobs.proofs.Digits.{value-digit}
 use Rattle.jobs.proofs.OneByte.{feed-keeps, quiet-fed}
 
 -- a scan at the place p
@@ -73,23 +75,25 @@ module _ (S : List Step) (n c : ℕ) where
     field-read u v small = digits-read 2 u v small small
 
   -- an operation and the space after it
-  op-read : (op o : Op) (a b v : ℕ)
+  op-read : (op o : Op) (a b v : ℕ) → inTexts op ≡ true
       → fed (readingAt (Word 0) o a b v) (opWord op ++ space) ≡ readingAt (First A) op a b v
   unfolding opWord fedBytes scanByte wordStep opFor firstOp
-  op-read Gate o a b v =
+  op-read Gate o a b v t =
       quiet-fed (opWord Gate ++ space) (scanAt n c (Word 0) o a b v) S
       (refl, (refl, (refl, (refl, (refl, tt)))))
-  op-read Cz o a b v =
+  op-read Cz o a b v t =
       quiet-fed (opWord Cz ++ space) (scanAt n c (Word 0) o a b v) S (refl, (refl, (refl, tt)))
-  op-read Measure o a b v =
+  op-read Measure o a b v t =
       quiet-fed (opWord Measure ++ space) (scanAt n c (Word 0) o a b v) S
       (refl, (refl, (refl, (refl, (refl, (refl, (refl, (refl, tt))))))))
-  op-read Complement o a b v =
+  op-read Complement o a b v t =
       quiet-fed (opWord Complement ++ space) (scanAt n c (Word 0) o a b v) S
       (refl, (refl, (refl, (refl, (refl, (refl, (refl, (refl, (refl, (refl, (refl, tt)))))))))))
-  op-read Pivot o a b v =
+  op-read Pivot o a b v t =
       quiet-fed (opWord Pivot ++ space) (scanAt n c (Word 0) o a b v) S
       (refl, (refl, (refl, (refl, (refl, (refl, tt))))))
+  op-read Observe o a b v t = absurd (false≢true t)
+  op-read Renew o a b v t = absurd (false≢true t)
 
   a-ends : (op : Op) (a b v : ℕ) → feed (readingAt (More A) op a b v) 32 ≡ readingAt (First B) op v b v
   unfolding scanByte moreStep digitValue
@@ -117,7 +121,7 @@ module _ (S : List Step) (n c : ℕ) where
       let upto-a = upto-op ++ field (s .a) in
       let upto-b = upto-a ++ space ++ field (s .b) in
       let upto-value = upto-b ++ space ++ field (s .value) in
-      let to-op : fed w upto-op ≡ readingAt (First A) (s .op) a b v = op-read (s .op) op a b v in
+      let to-op : fed w upto-op ≡ readingAt (First A) (s .op) a b v = op-read (s .op) op a b v (fit .op) in
       let to-a : fed w upto-a ≡ readingAt (More A) (s .op) a b (s .a) =
       fed-append feed w upto-op (field (s .a)) ∙ ap (λ r. fed r (field (s .a))) to-op
       ∙ field-read A (s .op) a b v (s .a) (fit .a)

@@ -6,10 +6,11 @@ use Prim.Native.Nat.{_<_, suc, zero, ℕ}
 use native.Mathlib.Nat.{le-of-suc-le-suc, not-suc-le-zero}
 use lib.Dec.{eqb}
 use lib.ListN.{getD, length, take}
-use Rattle.operations.specs.Steps.{leaves}
+use Rattle.operations.specs.Measurement.{outcomeNumber}
+use Rattle.operations.specs.Steps.{Operation, leaves, measuredAnswer, measurementOf}
 use Rattle.operations.specs.Used.{UsedRecord, usedAfter, usedStep}
-use Rattle.jobs.specs.Asked.{asked, numberOf}
-use Rattle.jobs.specs.Runs.{afterStep, answerOf, stepAnswers, run}
+use Rattle.jobs.specs.Asked.{Request, asked, carryOut, numberOf, observationOf, renewalOf}
+use Rattle.jobs.specs.Runs.{afterStep, answerOf, requestLeaves, stepAnswers, run}
 use Rattle.jobs.specs.declared.Answer.{Answer}
 use Rattle.jobs.specs.declared.Step.{Step}
 
@@ -23,15 +24,24 @@ answer-at u (s ∷ rest) (suc k) other none h = answer-at (afterStep u s) rest k
 
 -- the number of qubits stays
 pub step-qubits : (u : UsedRecord) (s : Step) → (afterStep u s) .held .n ≡ u .held .n
-step-qubits u s = go (eqb (numberOf u s) 0) (eqb ((usedStep u (asked s)) .number) 0)
+step-qubits u s = go (requestLeaves u (asked s)) (eqb (numberOf u s) 0) (request-qubits (asked s))
   where
-    go : (b c : Bool) → (cond b (cond c (record {
-      held = leaves (u .held) (asked s);
-      used = usedAfter u (asked s);
-    }) u) u) .held .n ≡ u .held .n
-    go true true = refl
-    go true false = refl
-    go false c = refl
+    operation-qubits : (o : Operation) → (usedStep u o) .after .held .n ≡ u .held .n
+    operation-qubits o = kept (eqb ((usedStep u o) .number) 0)
+      where
+        kept : (c : Bool) → (cond c (record { held = leaves (u .held) o; used = usedAfter u o }) u) .held .n ≡ u .held .n
+        kept true = refl
+        kept false = refl
+
+    request-qubits : (r : Request) → (requestLeaves u r) .held .n ≡ u .held .n
+    request-qubits (carryOut o) = operation-qubits o
+    request-qubits (observationOf pauli q b) =
+        operation-qubits (measurementOf pauli q (outcomeNumber (measuredAnswer (u .held) pauli q b)))
+    request-qubits (renewalOf q k) = refl
+
+    go : (v : UsedRecord) (b : Bool) → v .held .n ≡ u .held .n → (cond b v u) .held .n ≡ u .held .n
+    go v true e = e
+    go v false e = refl
 
 pub run-qubits : (u : UsedRecord) (steps : List Step) → (run u steps) .held .n ≡ u .held .n
 unfolding run

@@ -8,9 +8,8 @@ use lib.Ieee.{Float, binary64, toBits}
 use lib.ListN.{length, length-append}
 use Rattle.amplitude.specs.declared.PlotLine.{PlotLine}
 use Rattle.jobs.proofs.ResultLaws.{length-step}
-use Rattle.jobs.specs.Text.{digits}
 use Rattle.text.proofs.HexLaws.{length-hex}
-use Rattle.text.specs.Text.{newline, space}
+use Rattle.text.specs.Text.{digits, newline, space}
 use Rattle.jobs.specs.Table.{floatText, pointText, pointTexts}
 
 -- a float has 16 digits, and a byte stands behind them

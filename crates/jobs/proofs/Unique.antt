@@ -1,19 +1,20 @@
 -- A text is the text of one job only.
 use mathlib.Core.Path.{_≡_, refl, sym, ap, ap₂, _∙_}
+use mathlib.Core.Bool.{false≢true, true}
 use mathlib.Core.List.{List, [], _∷_, _++_, append-assoc}
 use Prim.Native.Nat.{ℕ, _<_}
 use native.Mathlib.Omega.{arith}
 use lib.Dec.{lit<}
 use lib.ListN.{length, getD, drop, length-append}
 use Rattle.jobs.specs.declared.Op.{Op}
-use Rattle.jobs.specs.declared.Op.the-variants.{Gate, Cz, Measure, Complement, Pivot}
+use Rattle.jobs.specs.declared.Op.the-variants.{Gate, Cz, Measure, Complement, Pivot, Observe, Renew}
 use Rattle.jobs.specs.declared.Step.{Step}
 use Rattle.text.proofs.DigitLaws.{readDecimal}
 use Rattle.text.specs.Text.{space, newline}
-use Rattle.jobs.specs.Text.{field, opWord, StepFits, EachStepFits, stepText, stepsText, qubitsLine, stepNames}
+use Rattle.jobs.specs.Text.{field, inTexts, opWord, StepFits, EachStepFits, stepText, stepsText, qubitsLine, stepNames}
 use Rattle.jobs.specs.Text.{jobHead, jobText, JobTextOf}
 use Rattle.jobs.specs.internal.Scan.{firstOp, opFor}
-use Rattle.jobs.proofs.Digits.{digits-back}
+use Rattle.text.proofs.NumeralLaws.{digits-back}
 use Rattle.jobs.proofs.OpLaws.{op-without}
 use Rattle.jobs.proofs.Separators.{parts-at, digits-without}
 
@@ -21,13 +22,15 @@ use Rattle.jobs.proofs.Separators.{parts-at, digits-without}
 opOf : List ℕ → Op
 opOf w = opFor 1 (firstOp (getD w 0 0)) (getD w 1 0)
 
-op-back : (op : Op) → opOf (opWord op) ≡ op
+op-back : (op : Op) → inTexts op ≡ true → opOf (opWord op) ≡ op
 unfolding opOf opFor firstOp opWord
-op-back Gate = refl
-op-back Cz = refl
-op-back Measure = refl
-op-back Complement = refl
-op-back Pivot = refl
+op-back Gate t = refl
+op-back Cz t = refl
+op-back Measure t = refl
+op-back Complement t = refl
+op-back Pivot t = refl
+op-back Observe t = absurd (false≢true t)
+op-back Renew t = absurd (false≢true t)
 
 -- a field and the byte behind it
 field-parts : (x : ℕ) → x < 48 → (u v : ℕ) (s t : List ℕ) → u < 1000 → v < 1000
@@ -51,7 +54,7 @@ line-parts s r t u fs fr e =
     let left = field-parts 32 (lit< tt) (s .a) (r .a) _ _ (fs .a) (fr .a) (ops .1) in
     let right = field-parts 32 (lit< tt) (s .b) (r .b) _ _ (fs .b) (fr .b) (left .1) in
     let values = field-parts 10 (lit< tt) (s .value) (r .value) t u (fs .value) (fr .value) (right .1) in
-    let op = sym (op-back (s .op)) ∙ ap opOf (ops .0) ∙ op-back (r .op) in
+    let op = sym (op-back (s .op) (fs .op)) ∙ ap opOf (ops .0) ∙ op-back (r .op) (fr .op) in
     (λ i. record { op = op i; a = left .0 i; b = right .0 i; value = values .0 i }, values .1)
 
 some-bytes : (s : Step) (t : List ℕ) → 0 < length (stepText s ++ t)

@@ -12,14 +12,14 @@ use Rattle.jobs.specs.declared.Step.{Step}
 use Rattle.text.proofs.Feeding.{blocks-fed, fed-keeps}
 use Rattle.text.specs.internal.Feeding.{fedBlocks}
 use Rattle.text.specs.Text.{space}
-use Rattle.jobs.specs.Text.{EachStepFits, opWord, jobText, HasJobForm}
+use Rattle.jobs.specs.Text.{EachStepFits, inTexts, opWord, jobText, HasJobForm}
 use Rattle.jobs.specs.internal.Scan.{asReading, atLine, begin, fed, feed, feedNext, Reading, scanByte, stored}
 use Rattle.jobs.specs.internal.Scan.{StepsKept, Judged, noStep, empty}
 use Rattle.jobs.specs.declared.scan.Place.{Place}
 use Rattle.jobs.specs.declared.scan.Place.the-variants.{Head, Word, First, More, Broken}
 use Rattle.jobs.specs.declared.scan.Scan.{Scan}
 use Rattle.jobs.proofs.ScanJob.{text-read}
-use Rattle.jobs.proofs.ScanSound.{step-sound}
+use Rattle.jobs.proofs.ScanSound.{stays-in-texts, step-sound}
 use Rattle.jobs.proofs.Sofar.{AtWord, Sofar}
 
 -- the array does not change the scan
@@ -30,16 +30,20 @@ scan-next w next = go (ltb (w .scan .count) (next .count) && ltb (w .scan .count
     go true = refl
     go false = refl
 
-byte-sound : (w : Reading) (t : List ℕ) (b : ℕ) → Sofar (w .scan .place) (w .scan) t
-    → Sofar (feed w b .scan .place) (feed w b .scan) (t ++ b ∷ [])
-unfolding feed scanByte
-byte-sound w t b sofar =
-    subst (λ s. Sofar (s .place) s (t ++ b ∷ [])) (sym (scan-next w (scanByte (w .scan) b)))
-    (step-sound (w .scan) t b (w .scan .place) refl sofar)
+-- what is known of the text, and that the operation held is one of texts
+abbrev Known : Scan → List ℕ → Type 0
+Known s t = Sofar (s .place) s t × (inTexts (s .op) ≡ true)
 
-fed-sound : (u t : List ℕ) (w : Reading) → Sofar (w .scan .place) (w .scan) t
-    → Sofar (fed w u .scan .place) (fed w u .scan) (t ++ u)
-fed-sound = fed-keeps feed (λ w t. Sofar (w .scan .place) (w .scan) t) byte-sound
+byte-sound : (w : Reading) (t : List ℕ) (b : ℕ) → Known (w .scan) t → Known (feed w b .scan) (t ++ b ∷ [])
+unfolding feed scanByte
+byte-sound w t b known =
+    subst (λ s. Known s (t ++ b ∷ [])) (sym (scan-next w (scanByte (w .scan) b))) (
+      step-sound (w .scan) t b (known .1) (w .scan .place) refl (known .0),
+      stays-in-texts (w .scan .place) (w .scan) b (known .1),
+    )
+
+fed-sound : (u t : List ℕ) (w : Reading) → Known (w .scan) t → Known (fed w u .scan) (t ++ u)
+fed-sound = fed-keeps feed (λ w t. Known (w .scan) t) byte-sound
 
 -- at the start of a line
 line-sound : (k n : ℕ) (op : Op) (t : List ℕ) → AtWord k n op t → k ≡ 0 → HasJobForm t
@@ -70,7 +74,7 @@ module _ (S : List Step) (whole : length S ≡ 4096) where
       record {
         form = (
           ends-sound (w .scan .place) (w .scan) t
-              (fed-sound t [] (asReading begin S) (record { inside = lit< tt; few = lit< tt; text = refl })),
+              (fed-sound t [] (asReading begin S) (record { inside = lit< tt; few = lit< tt; text = refl }, refl) .0),
           λ has. ap atLine (text-read S whole (has .0) (has .1) t (has .2) .place),
         );
         job = λ n steps text. text-read S whole n steps t text .kept;

@@ -1,11 +1,11 @@
--- The group after the steps of a job, as the definitions give it on groups. A group is given by its elements; the
+-- The group after the steps of a run, as the definitions give it on groups. A group is given by its elements; the
 -- record beside it tells n, the edges by which a pivot is refused, and the used qubits.
 use mathlib.Core.Bool.{Bool, false, not, true}
 use mathlib.Core.List.{List, [], _∷_}
 use mathlib.Core.Logic.{_⊎_}
 use mathlib.Core.Path.{_≡_}
 use Prim.Native.Nat.{ℕ}
-use Rattle.buffers.specs.Refusals.{firstFitting, withTest}
+use Rattle.buffers.specs.Refusals.{Refusal, firstFitting, withTest}
 use Rattle.clifford.specs.Clifford.{cliffordOf}
 use Rattle.clifford.specs.Vectors.{act, only}
 use Rattle.operations.specs.Cz.{cz, zAt}
@@ -15,8 +15,9 @@ use Rattle.pauli.specs.Pauli.{Pauli, anticommute, mul}
 use Rattle.pauli.specs.declared.Letter.{Letter}
 use Rattle.stabilizer.specs.Groups.{InGroup}
 use Rattle.operations.specs.Used.{UsedRecord, usedArgumentsOf}
+use Rattle.source.specs.Renewal.{Renewed, photon, renewLines}
 use Rattle.words.specs.Bits.{isOdd}
-use Rattle.jobs.specs.Asked.{asked, unusedSet}
+use Rattle.jobs.specs.Asked.{Request, asked, carryOut, observationOf, renewalOf, unusedSet}
 use Rattle.jobs.specs.Runs.{afterStep}
 use Rattle.jobs.specs.declared.Step.{Step}
 
@@ -55,6 +56,13 @@ AfterOperation n G (measurementOf pauli q b) = AfterMeasurement n G (pauliLetter
 AfterOperation n G (complementOf a) = G
 AfterOperation n G (pivotOf j k) = G
 
+-- what an accepted step asks: the bit of an observation plays no part where the group determines the outcome; a renewal keeps
+-- "the elements with I at the qubit, joined by that Pauli with its sign"
+abbrev pub AfterRequest : ℕ → Group → Request → Group
+AfterRequest n G (carryOut o) = AfterOperation n G o
+AfterRequest n G (observationOf pauli q b) = AfterMeasurement n G (pauliLetter pauli) q (isOdd b)
+AfterRequest n G (renewalOf q k) = Renewed n G q (photon q k)
+
 -- ---- which steps are refused
 -- "a determined outcome contradicts the supplied bit": the Pauli with the other sign is in the group
 abbrev pub IsContradicted : Group → Operation → Type 0
@@ -64,18 +72,30 @@ IsContradicted G (measurementOf pauli q b) = G (single (pauliLetter pauli) q (no
 IsContradicted G (complementOf a) = ⊥
 IsContradicted G (pivotOf j k) = ⊥
 
--- a step is refused: by its fields, which give 6 or 8, or by the group, which gives 14
+-- no observation is refused by the group, and no renewal
+abbrev pub RequestContradicted : Group → Request → Type 0
+RequestContradicted G (carryOut o) = IsContradicted G o
+RequestContradicted G (observationOf pauli q b) = ⊥
+RequestContradicted G (renewalOf q k) = ⊥
+
+-- the lines of what a step asks that do not read the group
+abbrev pub requestArguments : UsedRecord → Request → List Refusal
+requestArguments u (carryOut o) = usedArgumentsOf u o
+requestArguments u (observationOf pauli q b) = usedArgumentsOf u (measurementOf pauli q b)
+requestArguments u (renewalOf q k) = renewLines u q k
+
+-- a step is refused: by its fields and the used qubits, which give 6, 8, 16 or 20, or by the group, which gives 14
 pub data Refused (u : UsedRecord) (G : Pauli → Type 0) (s : Step) : Type 0 where
-  -- 6, 8 and 16
-  by-fields : (firstFitting (withTest 6 (unusedSet (s .op) (s .b) (s .value)) (usedArgumentsOf u (asked s))) ≡ 0 → ⊥) →
+  -- 6, 8, 16 and 20
+  by-fields : (firstFitting (withTest 6 (unusedSet (s .op) (s .b) (s .value)) (requestArguments u (asked s))) ≡ 0 → ⊥) →
       Refused u G s
   -- 14
-  by-group : IsContradicted G (asked s) → Refused u G s
+  by-group : RequestContradicted G (asked s) → Refused u G s
 
 -- ---- the group after a step, "refused steps counting as no change"
 pub data GroupAfterStep (u : UsedRecord) (G : Pauli → Type 0) (s : Step) : Pauli → Type 0 where
   not-run : {p : Pauli} → Refused u G s → G p → GroupAfterStep u G s p
-  changed : {p : Pauli} → (Refused u G s → ⊥) → AfterOperation (u .held .n) G (asked s) p → GroupAfterStep u G s p
+  changed : {p : Pauli} → (Refused u G s → ⊥) → AfterRequest (u .held .n) G (asked s) p → GroupAfterStep u G s p
 
 -- and after one step after the other
 abbrev pub GroupAfter : UsedRecord → Group → List Step → Group

@@ -5,14 +5,15 @@ use Prim.Native.Nat.{suc, zero, ℕ}
 use lib.Dec.{eqb}
 use lib.ListN.{getD, length}
 use Rattle.jobs.specs.declared.Op.{Op}
-use Rattle.jobs.specs.declared.Op.the-variants.{Complement, Cz, Gate, Measure, Pivot}
+use Rattle.jobs.specs.declared.Op.the-variants.{Complement, Cz, Gate, Measure, Observe, Pivot, Renew}
 use Rattle.jobs.specs.declared.Step.{Step}
 
--- the operation of a number: 0 gate, 1 cz, 2 measure, 3 complement, 4 pivot; where numbers above 4 are not refused, they
--- are a pivot's
+-- the operation of a number: 0 gate, 1 cz, 2 measure, 3 complement, 4 pivot, 5 observe, 6 renew; where numbers above 6 are
+-- not refused, they are a renewal's
 unfoldable pub numberedOp : ℕ → Op
 numberedOp k =
-    cond (eqb k 0) Gate (cond (eqb k 1) Cz (cond (eqb k 2) Measure (cond (eqb k 3) Complement Pivot)))
+    cond (eqb k 0) Gate (cond (eqb k 1) Cz (cond (eqb k 2) Measure (cond (eqb k 3) Complement
+    (cond (eqb k 4) Pivot (cond (eqb k 5) Observe Renew)))))
 
 -- a step of four numbers
 abbrev pub numbered : ℕ → ℕ → ℕ → ℕ → Step

@@ -1,9 +1,8 @@
 -- The text that answers a job: a line for each step, and the record after the last.
 use mathlib.Core.List.{List, [], _∷_, _++_}
 use Prim.Native.Nat.{ℕ, zero, suc}
-use Rattle.text.specs.Text.{decimal, space, newline, recordText}
+use Rattle.text.specs.Text.{digits, decimal, space, newline, recordText}
 use Rattle.operations.specs.Used.{UsedRecord}
-use Rattle.jobs.specs.Text.{digits}
 
 -- what is printed of a step: the refusal's number, 0 where it is accepted, the outcome and whether it is determined.
 -- "Fields without meaning print 0"

@@ -3,8 +3,7 @@ use mathlib.Core.List.{List, [], _∷_, _++_}
 use Prim.Native.Nat.{ℕ, zero, suc}
 use lib.Ieee.{Float, binary64, toBits}
 use Rattle.amplitude.specs.declared.PlotLine.{PlotLine}
-use Rattle.jobs.specs.Text.{digits}
-use Rattle.text.specs.Text.{hexText, newline, space}
+use Rattle.text.specs.Text.{digits, hexText, newline, space}
 
 -- "under the names `y re im p`"
 abbrev pub plotNames : List ℕ

@@ -1,38 +1,45 @@
 -- The text of a job, as a list of bytes: 10 ends a line, 32 is the space, 48 the digit 0, 97 the letter a.
 use mathlib.Core.Path.{_≡_}
-use mathlib.Core.Bool.{cond}
+use mathlib.Core.Bool.{Bool, false, true}
 use mathlib.Core.List.{List, [], _∷_, _++_}
-use Prim.Native.Nat.{ℕ, zero, suc, _+_, _/_, _%_, _<_}
-use lib.Dec.{ltb}
+use Prim.Native.Nat.{ℕ, _<_}
 use Rattle.jobs.specs.declared.Op.{Op}
-use Rattle.jobs.specs.declared.Op.the-variants.{Gate, Cz, Measure, Complement, Pivot}
+use Rattle.jobs.specs.declared.Op.the-variants.{Gate, Cz, Measure, Complement, Pivot, Observe, Renew}
 use Rattle.jobs.specs.declared.Step.{Step}
-use Rattle.text.specs.Text.{space, newline}
-
--- a number's decimal digits, at most k of them, with no leading zero
-unfoldable pub digits : ℕ → ℕ → List ℕ
-digits zero v = []
-digits (suc k) v = cond (ltb v 10) ((48 + v) ∷ []) (digits k (v / 10) ++ (48 + v % 10) ∷ [])
+use Rattle.text.specs.Text.{digits, space, newline}
 
 -- "A field has one to three decimal digits and no leading zero"
 abbrev pub field : ℕ → List ℕ
 field v = digits 3 v
 
--- "The op is gate, cz, measure, complement or pivot"
+-- "The op is gate, cz, measure, complement or pivot": a text has no other
+abbrev pub inTexts : Op → Bool
+inTexts Gate = true
+inTexts Cz = true
+inTexts Measure = true
+inTexts Complement = true
+inTexts Pivot = true
+inTexts Observe = false
+inTexts Renew = false
+
+-- the name of an operation
 unfoldable pub opWord : Op → List ℕ
 opWord Gate = 103 ∷ 97 ∷ 116 ∷ 101 ∷ []
 opWord Cz = 99 ∷ 122 ∷ []
 opWord Measure = 109 ∷ 101 ∷ 97 ∷ 115 ∷ 117 ∷ 114 ∷ 101 ∷ []
 opWord Complement = 99 ∷ 111 ∷ 109 ∷ 112 ∷ 108 ∷ 101 ∷ 109 ∷ 101 ∷ 110 ∷ 116 ∷ []
 opWord Pivot = 112 ∷ 105 ∷ 118 ∷ 111 ∷ 116 ∷ []
+opWord Observe = 111 ∷ 98 ∷ 115 ∷ 101 ∷ 114 ∷ 118 ∷ 101 ∷ []
+opWord Renew = 114 ∷ 101 ∷ 110 ∷ 101 ∷ 119 ∷ []
 
--- numbers of at most three digits
+-- an operation of texts, and numbers of at most three digits
 pub record StepFits (s : Step) : Type 0 where
+  pub op : inTexts (s .op) ≡ true
   pub a : s .a < 1000
   pub b : s .b < 1000
   pub value : s .value < 1000
 
--- each step has such numbers
+-- each step has them
 abbrev pub EachStepFits : List Step → Type 0
 EachStepFits [] = Unit
 EachStepFits (s ∷ ss) = StepFits s × EachStepFits ss

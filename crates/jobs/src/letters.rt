@@ -13,5 +13,7 @@ pub fn op_letters(op: Op) -> [u8; 11]
         Op::Measure => *b"measure \0\0\0",
         Op::Complement => *b"complement ",
         Op::Pivot => *b"pivot \0\0\0\0\0",
+        Op::Observe => *b"observe \0\0\0",
+        Op::Renew => *b"renew \0\0\0\0\0",
     }
 }

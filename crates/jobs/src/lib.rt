@@ -9,12 +9,15 @@ ghost use Rattle.jobs.specs.Asked.{unusedSet};
 ghost use Rattle.jobs.specs.internal.Asked.{valueLimit, withoutB, withoutValue, wrongValue};
 ghost use Rattle.jobs.specs.Parallel.{numberedOp};
 
+// The operations of a run. A job's text has the first five.
 pub enum Op {
     Gate,
     Cz,
     Measure,
     Complement,
     Pivot,
+    Observe,
+    Renew,
 }
 
 // The fields as the text has them; what an operation does not use is 0.
@@ -43,6 +46,8 @@ fn without_b(op: Op) -> bool
         Op::Measure => true,
         Op::Complement => true,
         Op::Pivot => false,
+        Op::Observe => true,
+        Op::Renew => true,
     }
 }
 
@@ -56,6 +61,8 @@ fn without_value(op: Op) -> bool
         Op::Measure => false,
         Op::Complement => true,
         Op::Pivot => true,
+        Op::Observe => false,
+        Op::Renew => false,
     }
 }
 
@@ -69,6 +76,8 @@ fn value_limit(op: Op) -> u32
         Op::Measure => 6,
         Op::Complement => 65536,
         Op::Pivot => 65536,
+        Op::Observe => 6,
+        Op::Renew => 12,
     }
 }
 
@@ -79,7 +88,7 @@ pub fn unused_set(op: Op, b: u16, value: u16) -> bool
     (without_b(op) & (b != 0)) | (without_value(op) & (value != 0))
 }
 
-// Whether the value is no code, or for a measurement no Pauli and outcome.
+// Whether the value is no code, or for a measurement no Pauli and outcome. Of a renewal's code its parity is not looked at.
 pub fn wrong_value(op: Op, value: u16) -> bool
     ensures { λ r. ⌜ r ≡ wrongValue op value ⌝ }
 {
@@ -102,5 +111,11 @@ pub fn op_of(k: u8) -> Op
     if k == 3 {
         return Op::Complement;
     }
-    Op::Pivot
+    if k == 4 {
+        return Op::Pivot;
+    }
+    if k == 5 {
+        return Op::Observe;
+    }
+    Op::Renew
 }

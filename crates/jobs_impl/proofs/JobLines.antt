@@ -12,7 +12,7 @@ use Rattle.jobs.specs.Draws.{draw}
 use Rattle.jobs.specs.GeneratedLines.{room}
 use Rattle.jobs.specs.Shapes.{Drawable}
 use Rattle.jobs.specs.internal.Shapes.{Small}
-use Rattle.jobs.proofs.Digits.{two-places}
+use Rattle.text.proofs.NumeralLaws.{two-places}
 use Rattle.jobs.specs.Text.{field, jobHead, jobText, qubitsLine, stepNames, stepText, stepsText}
 use Rattle.jobs.specs.declared.Step.{Step}
 use Rattle.buffers.proofs.Writing.{and-then, write-none}

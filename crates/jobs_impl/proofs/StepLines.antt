@@ -6,11 +6,11 @@ use native.Mathlib.Omega.{arith}
 use lib.Dec.{lit≤, ltb}
 use lib.ListN.{length, length-append, take}
 use Rattle.jobs.specs.internal.Shapes.{Small}
-use Rattle.jobs.proofs.Digits.{two-places}
+use Rattle.text.proofs.NumeralLaws.{two-places}
 use Rattle.jobs.specs.internal.Scan.{letters}
 use Rattle.jobs.specs.Text.{opWord, stepText}
 use Rattle.jobs.specs.declared.Op.{Op}
-use Rattle.jobs.specs.declared.Op.the-variants.{Gate, Cz, Measure, Complement, Pivot}
+use Rattle.jobs.specs.declared.Op.the-variants.{Gate, Cz, Measure, Complement, Pivot, Observe, Renew}
 use Rattle.jobs.specs.declared.Step.{Step}
 use Rattle.buffers.proofs.Writing.{and-then}
 use Rattle.text.specs.Text.{decimal, newline, space}
@@ -25,6 +25,8 @@ op-taken Cz = refl
 op-taken Measure = refl
 op-taken Complement = refl
 op-taken Pivot = refl
+op-taken Observe = refl
+op-taken Renew = refl
 
 op-inside : (op : Op) → length (opWord op ++ space) ≤ length (letters op)
 unfolding opWord
@@ -33,6 +35,8 @@ op-inside Cz = lit≤ tt
 op-inside Measure = lit≤ tt
 op-inside Complement = lit≤ tt
 op-inside Pivot = lit≤ tt
+op-inside Observe = lit≤ tt
+op-inside Renew = lit≤ tt
 
 module _ (op : Op) (ls : List ℕ) (k : ℕ) (held : ls ≡ letters op) (counted : k ≡ length (opWord op ++ space)) where
   pub letters-taken : take k ls ≡ opWord op ++ space

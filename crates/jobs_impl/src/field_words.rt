@@ -45,6 +45,8 @@ fn after_o(op: Op) -> Op
         Op::Measure => Op::Measure,
         Op::Complement => Op::Complement,
         Op::Pivot => Op::Pivot,
+        Op::Observe => Op::Observe,
+        Op::Renew => Op::Renew,
     }
 }
 

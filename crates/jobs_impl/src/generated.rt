@@ -29,6 +29,8 @@ fn op_length(op: Op) -> usize
         Op::Measure => 8,
         Op::Complement => 11,
         Op::Pivot => 6,
+        Op::Observe => 8,
+        Op::Renew => 6,
     }
 }
 

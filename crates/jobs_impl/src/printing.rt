@@ -7,8 +7,7 @@ ghost use mathlib.Core.List.{_++_};
 ghost use Prim.Native.Nat.{_+_, _<_, _≤_};
 ghost use lib.ListN.{length};
 ghost use Rattle.jobs.specs.Results.{resultNames, resultLine};
-ghost use Rattle.jobs.specs.Text.{digits};
-ghost use Rattle.text.specs.Text.{space};
+ghost use Rattle.text.specs.Text.{digits, space};
 ghost use Rattle.buffers.specs.Writing.{Printed};
 
 // A decimal number below 10,000.

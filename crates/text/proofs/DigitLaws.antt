@@ -9,8 +9,8 @@ use native.Mathlib.Omega.{arith}
 use lib.Dec.{ltb, lit<}
 use borrow.Author.Tests.{lt-ltb, le-ltb, ltb-true, ltb-false}
 use Rattle.words.proofs.Flags.{by-test}
-use Rattle.text.specs.Text.{hexDigit, hexText, decimal}
-use Rattle.text.specs.internal.Scan.{hexValue, push}
+use Rattle.text.specs.Text.{hexDigit, hexText, hexValue, decimal}
+use Rattle.text.specs.internal.Scan.{push}
 
 pub value-digit : (d : ℕ) → d < 16 → hexValue (hexDigit d) ≡ d
 unfolding hexValue hexDigit

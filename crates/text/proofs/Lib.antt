@@ -7,9 +7,14 @@ pub mod FormLaws
 pub mod HexLaws
 pub mod KeptLaws
 pub mod LineLaws
+pub mod NumeralLaws
 pub mod OneByte
 pub mod Prints
+pub mod RecordExamples
+pub mod RecordForm
 pub mod RecordLaws
+pub mod RecordLines
+pub mod RecordReading
 pub mod ScanLine
 pub mod ScanList
 pub mod ScanSound

@@ -1,34 +1,44 @@
 -- The lines of a record's print: their parts and their lengths.
-use mathlib.Core.Path.{_≡_, sym, ap, subst}
+use mathlib.Core.Path.{_≡_, _∙_, sym, ap, subst}
 use mathlib.Core.Bool.{Bool}
 use mathlib.Core.List.{List, _++_, append-assoc}
 use Prim.Native.Nat.{ℕ, zero, suc, _*_, _≤_}
 use native.Mathlib.Omega.{arith}
 use lib.ListN.{length, getD, length-append}
 use Rattle.words.specs.Bits.{bit}
+use Rattle.text.specs.RecordTexts.{columns}
 use Rattle.text.specs.Text.{hexText, decimal, space, qubitLine, qubitLines, usedColumn}
+use Rattle.text.specs.declared.records.RecordLine.{RecordLine}
 use Rattle.text.proofs.HexLaws.{length-hex, length-field}
 
--- a line is two fields, the word and the column `used`
-pub line-parts : (q code w : ℕ) (used : Bool)
-    → (decimal q ++ space) ++ (decimal code ++ space) ++ hexText 16 w ++ usedColumn used ≡ qubitLine q code w used
-unfolding qubitLine
-line-parts q code w used =
-    ap (λ l. l ++ hexText 16 w ++ usedColumn used) (sym (append-assoc (decimal q ++ space) (decimal code) space))
+-- a line is the qubit's number and the columns behind it
+pub line-columns : (q : ℕ) (l : RecordLine)
+    → (decimal q ++ space) ++ columns l ≡ qubitLine q (l .code) (l .word) (l .used)
+unfolding columns qubitLine
+line-columns q l =
+    let code = decimal (l .code) in
+    let word = hexText 16 (l .word) in
+    sym (ap (λ t. t ++ usedColumn (l .used))
+    (ap (λ t. t ++ word) (append-assoc (decimal q ++ space) code space)
+    ∙ append-assoc (decimal q ++ space) (code ++ space) word)
+    ∙ append-assoc (decimal q ++ space) (code ++ space ++ word) (usedColumn (l .used)))
+
+pub length-columns : (l : RecordLine) → length (columns l) ≤ 22
+unfolding columns
+length-columns l =
+    omega (
+      arith,
+      length-append (decimal (l .code) ++ space ++ hexText 16 (l .word)) (usedColumn (l .used)),
+      length-append (decimal (l .code) ++ space) (hexText 16 (l .word)),
+      length-hex 16 (l .word),
+      length-field (l .code),
+    )
 
 pub length-line : (q code w : ℕ) (used : Bool) → length (qubitLine q code w used) ≤ 25
 length-line q code w used =
-    let fields = (decimal q ++ space) ++ (decimal code ++ space) in
-    subst (λ l. length l ≤ 25) (line-parts q code w used)
-    (omega (
-      arith,
-      length-append (fields ++ hexText 16 w) (usedColumn used),
-      length-append fields (hexText 16 w),
-      length-append (decimal q ++ space) (decimal code ++ space),
-      length-hex 16 w,
-      length-field q,
-      length-field code,
-    ))
+    let l : RecordLine = record { code = code; word = w; used = used } in
+    subst (λ t. length t ≤ 25) (line-columns q l)
+    (omega (arith, length-append (decimal q ++ space) (columns l), length-field q, length-columns l))
 
 pub length-lines : (n : ℕ) (neighbours codes : List ℕ) (used : ℕ)
     → length (qubitLines n neighbours codes used) ≤ n * 25

@@ -14,8 +14,8 @@ use lib.Seq.{take-suc}
 use borrow.Author.Tests.{ltb-true, ltb-false, eqb-true, eqb-false}
 use Rattle.words.proofs.Flags.{by-test}
 use Rattle.text.specs.Text.{hexText, space, ListLine, Fits, AllFit, lineText, linesText, listNames, listText}
-use Rattle.text.specs.Text.{HasForm}
-use Rattle.text.specs.internal.Scan.{hexValue, push, moved, namesStep, signStep, zStep, xStep, stepAt, oneMore}
+use Rattle.text.specs.Text.{HasForm, hexValue}
+use Rattle.text.specs.internal.Scan.{push, moved, namesStep, signStep, zStep, xStep, stepAt, oneMore}
 use Rattle.text.specs.declared.scan.Scan.{Scan}
 use Rattle.text.specs.declared.scan.Place.{Place}
 use Rattle.text.specs.declared.scan.Place.the-variants.{Names, Sign, Space, Z, X, Broken}

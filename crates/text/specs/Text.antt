@@ -3,7 +3,7 @@
 use mathlib.Core.Path.{_≡_}
 use mathlib.Core.Bool.{Bool, cond}
 use mathlib.Core.List.{List, [], _∷_, _++_}
-use Prim.Native.Nat.{ℕ, zero, suc, _+_, _/_, _%_, _^_, _<_}
+use Prim.Native.Nat.{ℕ, zero, suc, _+_, _-_, _/_, _%_, _^_, _<_}
 use lib.Dec.{ltb}
 use lib.ListN.{getD}
 use Rattle.words.specs.Bits.{bit, digit}
@@ -11,6 +11,14 @@ use Rattle.words.specs.Bits.{bit, digit}
 -- a lower-case hexadecimal digit
 unfoldable pub hexDigit : ℕ → ℕ
 hexDigit d = cond (ltb d 10) (48 + d) (87 + d)
+
+-- the value of a lower-case hexadecimal digit; 16 for any other byte
+unfoldable pub hexValue : ℕ → ℕ
+hexValue b =
+    cond (ltb b 48) 16
+    (cond (ltb b 58) (b - 48)
+    (cond (ltb b 97) 16
+    (cond (ltb b 103) (b - 87) 16)))
 
 -- the last k hexadecimal digits of w, the highest first
 unfoldable pub hexText : ℕ → ℕ → List ℕ
@@ -20,6 +28,11 @@ hexText (suc k) w = hexText k (w / 16) ++ hexDigit (w % 16) ∷ []
 -- a decimal number below 100, with no leading zero
 unfoldable pub decimal : ℕ → List ℕ
 decimal k = cond (ltb k 10) ((48 + k) ∷ []) ((48 + k / 10) ∷ (48 + k % 10) ∷ [])
+
+-- a number's decimal digits, at most k of them, with no leading zero
+unfoldable pub digits : ℕ → ℕ → List ℕ
+digits zero v = []
+digits (suc k) v = cond (ltb v 10) ((48 + v) ∷ []) (digits k (v / 10) ++ (48 + v % 10) ∷ [])
 
 -- "fields parted by one space"
 abbrev pub space : List ℕ

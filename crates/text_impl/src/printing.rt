@@ -4,6 +4,7 @@ ghost use mathlib.Core.Path.{_≡_};
 ghost use mathlib.Core.List.{[], _∷_, _++_};
 ghost use Prim.Native.Nat.{_+_, _<_, _≤_};
 ghost use lib.ListN.{length};
+ghost use Rattle.text.specs.RecordTexts.{columns, numeral};
 ghost use Rattle.text.specs.Text.{hexDigit, hexText, decimal, space, qubitLine, recordText, refusedText};
 ghost use Rattle.text.specs.Text.{usedColumn};
 ghost use Rattle.buffers.specs.Writing.{Printed};
@@ -48,6 +49,18 @@ pub fn put_decimal(k: u8, at: usize, out: &mut [u8]) -> usize
     put(48 + k % 10, next, out)
 }
 
+// A decimal number of any size.
+pub fn put_numeral(k: u64, at: usize, out: &mut [u8]) -> usize
+    requires { ⌜ at + length (numeral k) ≤ length (now out) ⌝ }
+    ensures { λ r. ⌜ Printed (numeral k) at (now (out .entry)) (now (out .exit)) r ⌝ }
+{
+    if k < 10 {
+        return put(48 + k as u8, at, out);
+    }
+    let next = put_numeral(k / 10, at, out);
+    put(48 + (k % 10) as u8, next, out)
+}
+
 // The word in 16 hexadecimal digits, the highest first.
 pub fn put_word(w: u64, at: usize, out: &mut [u8]) -> usize
     requires { ⌜ at + 16 ≤ length (now out) ⌝ }
@@ -83,15 +96,24 @@ fn put_used(used: bool, at: usize, out: &mut [u8]) -> usize
     }
 }
 
+// The columns behind a qubit's number.
+pub fn put_columns(code: u8, w: u64, used: bool, at: usize, out: &mut [u8]) -> usize
+    requires { ⌜ (code < 100) × (at + 22 ≤ length (now out)) ⌝ }
+    ensures { λ r. ⌜ Printed (columns (record { code = code; word = w; used = used })) at
+        (now (out .entry)) (now (out .exit)) r ⌝ }
+{
+    let after_code = put_field(code, at, out);
+    let after_w = put_word(w, after_code, out);
+    put_used(used, after_w, out)
+}
+
 // The line of qubit q.
 fn put_line(q: u8, code: u8, w: u64, used: bool, at: usize, out: &mut [u8]) -> usize
     requires { ⌜ (q < 100) × (code < 100) × (at + 25 ≤ length (now out)) ⌝ }
     ensures { λ r. ⌜ Printed (qubitLine q code w used) at (now (out .entry)) (now (out .exit)) r ⌝ }
 {
     let after_q = put_field(q, at, out);
-    let after_code = put_field(code, after_q, out);
-    let after_w = put_word(w, after_code, out);
-    put_used(used, after_w, out)
+    put_columns(code, w, used, after_q, out)
 }
 
 // The record of n qubits, from a place on: the names and a line for each qubit. Returns the place behind it.

@@ -3,7 +3,8 @@ use text::scan::Place;
 use text::scan::Scan;
 ghost use mathlib.Core.Path.{_≡_};
 ghost use Prim.Native.Nat.{_<_};
-ghost use Rattle.text.specs.internal.Scan.{hexValue, push, moved, namesStep, signStep, zStep, xStep, oneMore, scanByte};
+ghost use Rattle.text.specs.Text.{hexValue};
+ghost use Rattle.text.specs.internal.Scan.{push, moved, namesStep, signStep, zStep, xStep, oneMore, scanByte};
 
 // The digits of a word.
 const DIGITS: usize = 16;
@@ -31,7 +32,7 @@ pub fn hex_value(b: u8) -> u8
 }
 
 // A word with one more digit at its low end.
-fn pushed(w: u64, d: u8) -> u64
+pub fn pushed(w: u64, d: u8) -> u64
     requires { ⌜ d < 16 ⌝ }
     ensures { λ r. ⌜ r ≡ push w d ⌝ }
 {

@@ -56,7 +56,7 @@ class Measure:
     bit: "tuple[str, int] | None" = None
 
     def run(self, going: Going) -> None:
-        found = beyond.measure_row(going.block, self.z, self.x, going.draw())
+        found = calls.measure_row(going.block, self.z, self.x, going.draw())
         if found < 0:
             acts = [q for q in range(64) if (self.z | self.x) >> q & 1]
             raise explain.on_qubits(-found, blocks.size(going.block), blocks.used(going.block), acts, "the circuit")

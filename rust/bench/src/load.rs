@@ -1,28 +1,7 @@
 //! The load of document 02: the steps of a job, drawn from a seed.
 
 use crate::operation::Operation;
-
-/// The draws of a seed: a word of 64 bits, xored with itself shifted left 13, right 7 and left 17.
-pub struct Draws(u64);
-
-impl Draws {
-    /// Panics where the seed is 0.
-    pub fn new(seed: u64) -> Draws {
-        assert_ne!(seed, 0, "a seed");
-        Draws(seed)
-    }
-}
-
-impl Iterator for Draws {
-    type Item = u64;
-
-    fn next(&mut self) -> Option<u64> {
-        self.0 ^= self.0 << 13;
-        self.0 ^= self.0 >> 7;
-        self.0 ^= self.0 << 17;
-        Some(self.0)
-    }
-}
+use random::Draws;
 
 /// So many steps of a job on n qubits: gates, CZ and measurements.
 pub fn steps(n: u64, count: usize, seed: u64) -> Vec<Operation> {

@@ -2,7 +2,7 @@
 
 use bench::calls::{
     amplitude, compare, compare_records, generate, graphs, group_stores, groups, image, in_place,
-    orbit, product, reduce, stores, strings, values, Line,
+    orbit, parity, product, reduce, stores, strings, values, Line,
 };
 
 /// Sizes of components of the pairs of records, and what they are called.
@@ -66,6 +66,7 @@ fn main() {
     println!("{}", generate::line(64));
     println!("{}", values::expanding(64));
     println!("{}", values::expectation(64));
+    println!("{}", parity::measure_row(64));
     for n in [8, 64] {
         println!("{}", amplitude::line(n));
     }

@@ -1,8 +1,9 @@
 //! A job answers the same in every way, and leaves the same state after every step.
 
-use bench::load::{cluster, ghz, steps, unmeasured, Draws};
+use bench::load::{cluster, ghz, steps, unmeasured};
 use bench::operation::Operation;
 use bench::session::{Answer, Calls, Columns, Graph, Lists, Plain, Session};
+use random::Draws;
 use sukhlent::Record;
 
 /// A step in one way: its answer, and the state that it leaves.

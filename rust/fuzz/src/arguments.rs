@@ -2,6 +2,8 @@
 
 use crate::common::damage::{damage_list, damage_record};
 use crate::common::local::{complemented_record, sent};
+use crate::common::record_text::{plain_text, Places, ReadRecord, PLACES};
+use crate::common::parity::Joint;
 use crate::common::reference::{product, strings_text};
 use crate::common::runs::Steps;
 use crate::common::source::Source;
@@ -54,11 +56,7 @@ pub fn product_call(random: &mut Random, n: usize) -> (ListCall, u64) {
         let words = call.z.iter_mut().chain(&mut call.x);
         words.for_each(|word| *word ^= random.word() >> (64 - n));
     }
-    let chosen = match random.below(8) {
-        0 => number(random),
-        _ => random.word() >> (64 - n),
-    };
-    (call, chosen)
+    (call, word_over(random, n))
 }
 
 /// Two lists to compare: the second is mostly an image of the first, else another list, at times of
@@ -165,22 +163,24 @@ pub fn image_call(random: &mut Random, n: usize) -> RecordCall<ImageLengths> {
     harmed(random, record, ImageLengths { image, signs, list })
 }
 
-/// A cut of a record of n vertices: mostly into sides of its own vertices, at times by any word.
-pub fn cut_call(random: &mut Random, n: usize) -> RecordCall<Side> {
-    let side = match random.below(8) {
+/// A word: mostly one over n vertices, at times any.
+fn word_over(random: &mut Random, n: usize) -> u64 {
+    match random.below(8) {
         0 => number(random),
         _ => random.word() >> (64 - n),
-    };
+    }
+}
+
+/// A cut of a record of n vertices: mostly into sides of its own vertices, at times by any word.
+pub fn cut_call(random: &mut Random, n: usize) -> RecordCall<Side> {
+    let side = word_over(random, n);
     let record = used_record(random, n);
     harmed(random, record, Side(side))
 }
 
 /// An amplitude of a record of n vertices: mostly at a word of its own qubits, at times at any word.
 pub fn amplitude_call(random: &mut Random, n: usize) -> RecordCall<At> {
-    let y = match random.below(8) {
-        0 => number(random),
-        _ => random.word() >> (64 - n),
-    };
+    let y = word_over(random, n);
     let record = used_record(random, n);
     harmed(random, record, At(y))
 }
@@ -204,6 +204,29 @@ pub fn expectation_call(random: &mut Random, n: usize) -> RecordCall<Letters> {
         _ => (),
     }
     harmed(random, record, row)
+}
+
+/// A row as above, with a bit by lot: mostly one that acts on no used qubit.
+pub fn row_call(random: &mut Random, n: usize) -> RecordCall<Joint> {
+    let call = expectation_call(random, n);
+    let kept = match random.below(4) {
+        0 => u64::MAX,
+        _ => !call.used,
+    };
+    let noisy = random.below(16) == 0;
+    let byte = random.word() as u8;
+    let with = Joint {
+        z: call.with.z & kept,
+        x: call.with.x & kept,
+        bit: if noisy { byte } else { byte % 2 },
+    };
+    RecordCall {
+        n: call.n,
+        neighbours: call.neighbours,
+        codes: call.codes,
+        used: call.used,
+        with,
+    }
 }
 
 /// A job: mostly of few steps, at times near the limit, at times with any numbers or another buffer.
@@ -242,6 +265,47 @@ pub fn read_call(random: &mut Random, n: usize) -> ReadCall {
     let mut call = ReadCall::on(&text);
     if random.below(16) == 0 {
         call.lengths[random.below(3)] = random.below(200);
+    }
+    call
+}
+
+/// A record of n vertices to be written, into a buffer that mostly has its places.
+pub fn write_record_call(random: &mut Random, n: usize) -> RecordCall<Places> {
+    let places = match random.below(16) {
+        0 => random.below(2000),
+        _ => PLACES,
+    };
+    let record = used_record(random, n);
+    harmed(random, record, Places(places))
+}
+
+/// The text of a record of n vertices, with some bytes changed at times, or noise; at times of more
+/// lines than 64.
+pub fn read_record_call(random: &mut Random, n: usize) -> ReadRecord {
+    let lines = match random.below(16) {
+        0 => 65 + random.below(60),
+        _ => n.clamp(1, 64),
+    };
+    let mut text = match random.below(16) {
+        0 => noisy_text(random),
+        _ => plain_text(&Record {
+            neighbours: vec![0; lines],
+            codes: (0..lines).map(|_| 2 * random.below(14) as u8).collect(),
+            used: 0,
+        })
+        .into_bytes(),
+    };
+    if lines <= 64 && random.below(2) == 0 {
+        text = plain_text(&used_record(random, lines)).into_bytes();
+    }
+    let faults = match random.below(4) {
+        0 => 1 + random.below(3),
+        _ => 0,
+    };
+    (0..faults).for_each(|_| damage_text(random, &mut text));
+    let mut call = ReadRecord::on(&text);
+    if random.below(16) == 0 {
+        call.lengths[random.below(2)] = random.below(100);
     }
     call
 }
@@ -398,11 +462,12 @@ fn run_step(random: &mut Random, n: usize, noisy: bool) -> (u8, u16, u16, u16) {
         let [op, a, b, value] = [0; 4].map(|_: u16| random.word() as u16);
         return (op as u8, a, b, value);
     }
-    let op = random.below(5) as u8;
+    let op = random.below(7) as u8;
     let [a, b] = [0, 1].map(|_| random.below(n + 1) as u16);
     match op {
         0 => (op, a, 0, random.below(25) as u16),
-        2 => (op, a, 0, random.below(7) as u16),
+        2 | 5 => (op, a, 0, random.below(7) as u16),
+        6 => (op, a, 0, random.below(13) as u16),
         3 => (op, a, 0, 0),
         _ => (op, a, b, 0),
     }

@@ -8,12 +8,14 @@
 //! left, and where all are used it starts anew.
 //!
 //! `pairs` makes pairs of runs of two groups on one record: what one group sees does not depend on
-//! the other's calls. `source` makes sessions that go on: a used place gets a new photon.
+//! the other's calls. `source` makes sessions that go on: a used place gets a new photon; `source_runs`
+//! makes their calls as the steps of runs. `rows` measures Pauli rows of any weight between gates and CZ.
 
 mod choice;
 mod counts;
 mod marks;
 mod pairs;
+mod rows;
 mod session;
 mod source;
 mod values;
@@ -27,8 +29,9 @@ mod plain;
 
 pub use counts::Counts;
 pub use pairs::{pairs, PairCounts};
+pub use rows::{rows, RowCounts};
 pub use session::Session;
-pub use source::{source, SourceCounts};
+pub use source::{source, source_runs, SourceCounts};
 
 /// Makes so many calls on n qubits. The error names the call and what is different.
 pub fn run(

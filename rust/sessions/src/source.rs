@@ -1,5 +1,5 @@
 //! A source that goes on: gates, CZ, observations and renewals on one record, compared call by call
-//! with a plain tableau. No session starts anew: a used place gets a new photon.
+//! with a plain tableau, or as the steps of runs. No session starts anew: a used place gets a new photon.
 
 use crate::common::source::Source;
 use crate::common::{Operation, Random};
@@ -79,7 +79,87 @@ pub fn source(n: usize, seed: u64, calls: u64) -> Result<SourceCounts, String> {
     Ok(run.counts)
 }
 
+/// The same calls as the steps of runs, of up to `longest` each: every answer, and the record that each run leaves.
+pub fn source_runs(n: usize, seed: u64, runs: u64, longest: usize) -> Result<SourceCounts, String> {
+    let mut run = Run {
+        random: Random::new(seed),
+        record: start(n),
+        tableau: Tableau::zero(n),
+        used: 0,
+        counts: SourceCounts::default(),
+    };
+    for number in 1..=runs {
+        let count = run.random.below(longest + 1);
+        run.steps(count)
+            .map_err(|difference| format!("{n} qubits, seed {seed}, run {number}: {difference}"))?;
+    }
+    run.renew_all()?;
+    Ok(run.counts)
+}
+
+/// A call as the step of a run: operation, qubits and value.
+fn numbers(call: Call) -> (u8, u16, u16, u16) {
+    match call {
+        Call::On(Operation::Gate(q, code)) => (0, q as u16, 0, code.into()),
+        Call::On(Operation::Cz(a, b)) => (1, a as u16, b as u16, 0),
+        Call::On(_) => unreachable!("gates and CZ alone"),
+        Call::Of(Source::Observe(pauli, q, bit)) => {
+            (5, q as u16, 0, u16::from(2 * (pauli - 1) + bit))
+        }
+        Call::Of(Source::Renew(q, code)) => (6, q as u16, 0, code.into()),
+    }
+}
+
 impl Run {
+    /// So many random calls as the steps of one run. The error says what is different.
+    fn steps(&mut self, count: usize) -> Result<(), String> {
+        let before = self.record.clone();
+        let mut calls = Vec::new();
+        let mut due = Vec::new();
+        for _ in 0..count {
+            let call = self.next();
+            let answer = self.due(call);
+            self.count(call, answer);
+            calls.push(numbers(call));
+            due.push(answer);
+        }
+        same("the answers", self.run(&calls), Ok(due))
+            .and_then(|()| self.compare())
+            .map_err(|e| format!("{calls:?} on {before:?}: {e}"))
+    }
+
+    /// The engine's answers to steps, or the refusal of the whole.
+    #[allow(clippy::type_complexity)]
+    fn run(&mut self, steps: &[(u8, u16, u16, u16)]) -> Result<Vec<Result<(u8, u8), u8>>, u8> {
+        let ops: Vec<u8> = steps.iter().map(|step| step.0).collect();
+        let a: Vec<u16> = steps.iter().map(|step| step.1).collect();
+        let b: Vec<u16> = steps.iter().map(|step| step.2).collect();
+        let value: Vec<u16> = steps.iter().map(|step| step.3).collect();
+        let [mut refusals, mut outcomes, mut determined] =
+            [0; 3].map(|byte| vec![byte; steps.len()]);
+        let number = raw::run(
+            self.record.n() as u64,
+            &mut self.record.neighbours,
+            &mut self.record.codes,
+            &mut self.record.used,
+            &ops,
+            &a,
+            &b,
+            &value,
+            &mut refusals,
+            &mut outcomes,
+            &mut determined,
+        );
+        let told = (0..steps.len()).map(|k| match refusals[k] {
+            0 => Ok((outcomes[k], determined[k])),
+            refusal => Err(refusal),
+        });
+        match number {
+            0 => Ok(told.collect()),
+            _ => Err(number),
+        }
+    }
+
     /// A random call. Observations and renewals keep each other's pace; few name a qubit that is or
     /// is not used against the rule.
     fn next(&mut self) -> Call {

@@ -1,6 +1,6 @@
 //! Short sessions on some numbers of qubits.
 
-use sessions::{pairs, run, source, Counts};
+use sessions::{pairs, rows, run, source, source_runs, Counts};
 
 fn session(n: usize, seed: u64, calls: u64) -> Counts {
     run(n, seed, calls, |_, _| ()).unwrap_or_else(|difference| panic!("{difference}"))
@@ -63,6 +63,47 @@ fn a_source_that_goes_on() {
     }
     for n in 1..=64 {
         source(n, n as u64, 300).unwrap_or_else(|difference| panic!("{difference}"));
+    }
+}
+
+/// Gates, CZ, observations and renewals as the steps of runs, which settle the record late.
+#[test]
+fn a_source_that_goes_on_in_runs() {
+    for seed in 1..=3 {
+        let counts =
+            source_runs(64, seed, 100, 400).unwrap_or_else(|difference| panic!("{difference}"));
+        let made = [counts.gates, counts.czs, counts.chosen, counts.determined];
+        let refused = [counts.used, counts.not_used];
+        let all = [&made[..], &refused, &[counts.renewed]].concat();
+        assert!(all.iter().all(|&times| times > 100), "{counts}");
+        assert!(counts.other_bits > 20 && counts.most_used > 5, "{counts}");
+    }
+    for n in 1..=64 {
+        source_runs(n, n as u64, 20, 40).unwrap_or_else(|difference| panic!("{difference}"));
+    }
+    source_runs(64, 4, 3, 4096).unwrap_or_else(|difference| panic!("{difference}"));
+}
+
+#[test]
+fn rows_of_any_weight() {
+    let counts = rows(64, 1, 200_000).unwrap_or_else(|difference| panic!("{difference}"));
+    let made = [counts.gates, counts.czs, counts.observed, counts.used];
+    let measured = [counts.chosen, counts.determined];
+    assert_eq!(
+        [&made[..], &measured].concat().iter().sum::<u64>(),
+        200_000,
+        "{counts}"
+    );
+    assert!(
+        made.iter().all(|&times| times > 7) && measured.iter().all(|&times| times > 20_000),
+        "{counts}"
+    );
+    assert!(
+        counts.other_bits > 10_000 && counts.most_letters > 50,
+        "{counts}"
+    );
+    for n in 1..=64 {
+        rows(n, n as u64, 300).unwrap_or_else(|difference| panic!("{difference}"));
     }
 }
 

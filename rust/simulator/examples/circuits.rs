@@ -2,6 +2,7 @@
 //! (python/tests/simulated.txt): the steps, one a line, with the probability of each measured
 //! outcome, and then the signs of all 64 Paulis, 0 where the expectation is 0.
 
+use random::Draws;
 use simulator::{Matrix2, Row, State};
 use std::fmt::Write;
 
@@ -26,15 +27,13 @@ fn gates() -> Vec<(&'static str, Matrix2)> {
     ]
 }
 
-/// A plain xorshift generator.
-struct Source(u64);
+/// Numbers below a bound, of the draws of a seed.
+struct Source(Draws);
 
 impl Source {
     fn below(&mut self, n: usize) -> usize {
-        self.0 ^= self.0 << 13;
-        self.0 ^= self.0 >> 7;
-        self.0 ^= self.0 << 17;
-        (self.0 >> 20) as usize % n
+        let draw = self.0.next().expect("draws do not end");
+        (draw >> 20) as usize % n
     }
 }
 
@@ -44,7 +43,7 @@ fn main() {
 
 /// The whole text.
 pub fn circuits() -> String {
-    let mut source = Source(20_261_116);
+    let mut source = Source(Draws::new(20_261_116));
     let mut text = String::new();
     (0..48).for_each(|_| circuit(&mut source, &mut text));
     text

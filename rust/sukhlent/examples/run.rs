@@ -48,6 +48,8 @@ fn write_step(out: &mut impl Write, step: Step) -> fmt::Result {
         Step::Gate(q, _) => write!(out, "H at {q}"),
         Step::Cz(a, b) => write!(out, "CZ at {a} and {b}"),
         Step::Measure(_, q, _) => write!(out, "X at {q}"),
+        Step::Observe(pauli, q, _) => write!(out, "{pauli:?} by lot at {q}"),
+        Step::Renew(q, photon) => write!(out, "{photon:?} at {q}"),
         Step::Complement(q) | Step::Pivot(q, _) => write!(out, "the graph rewritten at {q}"),
     }
 }

@@ -3,7 +3,7 @@
 //! examples/c/strings.c is the same in C.
 
 use std::fmt::{self, Write};
-use sukhlent::{expand, read_strings, reduce, write_strings, Refusal};
+use sukhlent::{expand, read_record, read_strings, reduce, write_record, write_strings, Refusal};
 
 /// The texts that are shown.
 const TEXTS: [&str; 6] = [
@@ -33,11 +33,10 @@ pub fn show_all(out: &mut impl Write) -> fmt::Result {
     Ok(())
 }
 
-/// The reduced record of a text's list, and the generators of that record.
+/// The reduced record of a text's list, kept as a text and read back, and the generators of that
+/// record.
 fn shown(text: &str) -> Result<String, Refusal> {
-    let record = reduce(&read_strings(text)?)?;
-    let places = record.codes.iter().zip(&record.neighbours).enumerate();
-    let vertex = |(q, (code, word))| format!("vertex {q}: code {code}, neighbours {word:016x}\n");
-    let vertices: String = places.map(vertex).collect();
-    Ok(vertices + &write_strings(&expand(&record)?)?)
+    let kept = write_record(&reduce(&read_strings(text)?)?)?;
+    let record = read_record(&kept)?;
+    Ok(kept + &write_strings(&expand(&record)?)?)
 }

@@ -43,16 +43,8 @@ impl Record {
     /// ```
     pub fn amplitude(&self, y: u64) -> Result<PlotLine, Refusal> {
         let (mut re, mut im, mut p) = (0.0, 0.0, 0.0);
-        let number = raw::amplitude(
-            self.n() as u64,
-            &self.neighbours,
-            &self.codes,
-            self.used,
-            y,
-            &mut re,
-            &mut im,
-            &mut p,
-        );
+        let (n, words, codes, used) = self.lent();
+        let number = raw::amplitude(n, words, codes, used, y, &mut re, &mut im, &mut p);
         Refusal::unless_accepted(number).map(|()| PlotLine { re, im, p })
     }
 }

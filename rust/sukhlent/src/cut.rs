@@ -22,9 +22,7 @@ use crate::{raw, Record, Refusal};
 /// # Ok::<(), sukhlent::Refusal>(())
 /// ```
 pub fn cut(record: &Record, side: u64) -> Result<usize, Refusal> {
-    let n = record.n() as u64;
-    let mut rank = 0;
-    let (neighbours, codes) = (&record.neighbours, &record.codes);
-    let number = raw::cut(n, neighbours, codes, record.used, side, &mut rank);
+    let ((n, words, codes, used), mut rank) = (record.lent(), 0);
+    let number = raw::cut(n, words, codes, used, side, &mut rank);
     Refusal::unless_accepted(number).map(|()| rank as usize)
 }

@@ -22,17 +22,8 @@ impl Record {
     /// # Ok::<(), sukhlent::Refusal>(())
     /// ```
     pub fn expectation(&self, z: u64, x: u64) -> Result<i8, Refusal> {
-        let mut value = 0;
-        let (neighbours, codes) = (&self.neighbours, &self.codes);
-        let number = raw::expectation(
-            self.n() as u64,
-            neighbours,
-            codes,
-            self.used,
-            z,
-            x,
-            &mut value,
-        );
+        let ((n, words, codes, used), mut value) = (self.lent(), 0);
+        let number = raw::expectation(n, words, codes, used, z, x, &mut value);
         Refusal::unless_accepted(number).map(|()| [1, -1, 0][usize::from(value)])
     }
 }

@@ -41,6 +41,13 @@ pub struct Measured {
 }
 
 impl Measured {
+    /// What a call told that writes an outcome and whether it was determined.
+    pub(crate) fn told(call: impl FnOnce(&mut u8, &mut u8) -> u8) -> Result<Measured, Refusal> {
+        let (mut outcome, mut determined) = (0, 0);
+        let number = call(&mut outcome, &mut determined);
+        Measured::unless_refused(number, outcome, determined)
+    }
+
     /// What a measurement told, where its number is 0.
     pub(crate) fn unless_refused(
         number: u8,
@@ -67,10 +74,8 @@ impl Measured {
 /// # Ok::<(), sukhlent::Refusal>(())
 /// ```
 pub fn gate(record: &mut Record, qubit: usize, code: u8) -> Result<(), Refusal> {
-    let n = record.n() as u64;
-    let (neighbours, codes) = (&mut record.neighbours, &mut record.codes);
-    let number = raw::gate(n, neighbours, codes, record.used, qubit as u64, code);
-    Refusal::unless_accepted(number)
+    let (n, words, codes, used) = record.lent_mut();
+    Refusal::unless_accepted(raw::gate(n, words, codes, *used, qubit as u64, code))
 }
 
 /// Applies CZ to two qubits; the record becomes the reduced one.
@@ -88,10 +93,8 @@ pub fn gate(record: &mut Record, qubit: usize, code: u8) -> Result<(), Refusal> 
 /// # Ok::<(), Refusal>(())
 /// ```
 pub fn cz(record: &mut Record, a: usize, b: usize) -> Result<(), Refusal> {
-    let n = record.n() as u64;
-    let (neighbours, codes) = (&mut record.neighbours, &mut record.codes);
-    let number = raw::cz(n, neighbours, codes, record.used, a as u64, b as u64);
-    Refusal::unless_accepted(number)
+    let (n, words, codes, used) = record.lent_mut();
+    Refusal::unless_accepted(raw::cz(n, words, codes, *used, a as u64, b as u64))
 }
 
 /// Measures a Pauli at a qubit; the record becomes the reduced one, and the qubit is used.
@@ -132,20 +135,11 @@ pub fn measure(
     qubit: usize,
     bit: u8,
 ) -> Result<Measured, Refusal> {
-    let n = record.n() as u64;
-    let (mut outcome, mut determined) = (0, 0);
-    let number = raw::measure(
-        n,
-        &mut record.neighbours,
-        &mut record.codes,
-        &mut record.used,
-        pauli as u8,
-        qubit as u64,
-        bit,
-        &mut outcome,
-        &mut determined,
-    );
-    Measured::unless_refused(number, outcome, determined)
+    let (n, words, codes, used) = record.lent_mut();
+    let (pauli, at) = (pauli as u8, qubit as u64);
+    Measured::told(|outcome, known| {
+        raw::measure(n, words, codes, used, pauli, at, bit, outcome, known)
+    })
 }
 
 /// Complements the graph at a vertex and rewrites the codes so that the group stays. The record is
@@ -166,8 +160,6 @@ pub fn measure(
 /// # Ok::<(), sukhlent::Refusal>(())
 /// ```
 pub fn complement(record: &mut Record, a: usize) -> Result<(), Refusal> {
-    let n = record.n() as u64;
-    let (neighbours, codes) = (&mut record.neighbours, &mut record.codes);
-    let number = raw::complement(n, neighbours, codes, record.used, a as u64);
-    Refusal::unless_accepted(number)
+    let (n, words, codes, used) = record.lent_mut();
+    Refusal::unless_accepted(raw::complement(n, words, codes, *used, a as u64))
 }

@@ -23,8 +23,8 @@
 //! ```
 //!
 //! A session starts with [`Record::zeros`] or [`Record::graph`] and goes on by [`gate`], [`cz`] and
-//! [`measure`], or [`observe`] with a bit by lot; [`Record::renew`] puts a new photon at a measured
-//! qubit. CNOT is a Hadamard at the target, CZ, and a Hadamard at the target:
+//! [`measure`], or [`observe`] with a bit by lot; [`Record::measure_row`] measures a Pauli row of any
+//! weight, and [`Record::renew`] puts a new photon at a measured qubit. CNOT is a Hadamard at the target, CZ, and a Hadamard at the target:
 //!
 //! ```
 //! use sukhlent::{codes, cz, gate, Record};
@@ -54,9 +54,11 @@ mod image;
 mod in_place;
 mod list;
 mod orbit;
+mod parity;
 mod product;
 pub mod raw;
 mod record;
+mod record_text;
 mod refusal;
 mod run;
 mod shared;
@@ -74,6 +76,7 @@ pub use list::{check, reduce, GeneratorList};
 pub use orbit::{orbit, Orbit};
 pub use product::{product, Product};
 pub use record::{expand, Record};
+pub use record_text::{read_record, write_record};
 pub use refusal::Refusal;
 pub use run::{run, Step};
 pub use shared::{Group, Shared};

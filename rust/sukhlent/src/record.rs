@@ -1,7 +1,6 @@
 //! Records.
 
 use crate::{codes, compare_records, equivalent_records, raw, Comparison, GeneratorList, Refusal};
-use std::fmt;
 
 /// A graph with one local Clifford per vertex, one place per vertex in the first two fields, and a
 /// word of used qubits.
@@ -30,8 +29,8 @@ pub struct Record {
     pub neighbours: Vec<u64>,
     /// The code of each vertex: 4 times the class, plus 2 sx, plus sz.
     pub codes: Vec<u8>,
-    /// The used qubits, bit q for qubit q: an accepted measurement sets it, and no call may name the
-    /// qubit from then on. A used vertex has no neighbour and one of the codes 0, 2, 4, 6, 8, 10.
+    /// The used qubits, bit q for qubit q: an accepted measurement sets it, and until
+    /// `renew` no gate, cz, complement or measurement may name the qubit. A used vertex has no neighbour and one of the codes 0, 2, 4, 6, 8, 10.
     pub used: u64,
 }
 
@@ -99,6 +98,17 @@ impl Record {
         self.codes.len()
     }
 
+    /// The record as the raw calls read it.
+    pub(crate) fn lent(&self) -> raw::LentRecord<'_> {
+        (self.n() as u64, &self.neighbours, &self.codes, self.used)
+    }
+
+    /// The record as the raw calls rewrite it.
+    pub(crate) fn lent_mut(&mut self) -> (u64, &mut [u64], &mut [u8], &mut u64) {
+        let n = self.n() as u64;
+        (n, &mut self.neighbours, &mut self.codes, &mut self.used)
+    }
+
     /// Compares two states, as [`compare`](crate::compare) does with their generators.
     ///
     /// Refusals: those of [`compare_records`].
@@ -136,24 +146,6 @@ impl Record {
     /// ```
     pub fn equivalent(&self, other: &Record) -> Result<Comparison, Refusal> {
         equivalent_records(self, other)
-    }
-}
-
-impl fmt::Display for Record {
-    /// The text that the programs print: a line with the names of the columns, and a line for each
-    /// vertex.
-    ///
-    /// ```
-    /// let text = "qubit code neighbours used\n0 8 0000000000000000 0\n";
-    /// assert_eq!(sukhlent::Record::zeros(1).to_string(), text);
-    /// ```
-    fn fmt(&self, f: &mut fmt::Formatter<'_>) -> fmt::Result {
-        writeln!(f, "qubit code neighbours used")?;
-        for (q, (code, word)) in self.codes.iter().zip(&self.neighbours).enumerate() {
-            let used = self.used.checked_shr(q as u32).unwrap_or(0) & 1;
-            writeln!(f, "{q} {code} {word:016x} {used}")?;
-        }
-        Ok(())
     }
 }
 

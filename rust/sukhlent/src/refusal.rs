@@ -2,118 +2,131 @@
 
 use std::fmt;
 
-/// The reason for which a call refuses, by its number. A search for the name that the C header gives
-/// a number, as `SUKHLENT_CONTRADICTED`, finds its variant.
-///
-/// ```
-/// use sukhlent::{gate, Record, Refusal};
-///
-/// let refusal = gate(&mut Record::zeros(2), 2, 0).unwrap_err();
-/// assert_eq!((refusal, refusal.number()), (Refusal::Place, 8));
-/// ```
-#[derive(Clone, Copy, Debug, PartialEq, Eq, Hash, PartialOrd, Ord)]
-#[repr(u8)]
-pub enum Refusal {
+/// The enum of the rows, with `ALL` in their order and their words; a row is a comment, the variant
+/// and its number, the name in the C header, and the words of `sukhlent_refusal_text`.
+macro_rules! refusals {
+    ($($(#[$doc:meta])* $name:ident = $number:literal, $alias:literal, $words:literal;)*) => {
+        /// The reason for which a call refuses, by its number. A search for the name that the C header gives
+        /// a number, as `SUKHLENT_CONTRADICTED`, finds its variant.
+        ///
+        /// ```
+        /// use sukhlent::{gate, Record, Refusal};
+        ///
+        /// let refusal = gate(&mut Record::zeros(2), 2, 0).unwrap_err();
+        /// assert_eq!((refusal, refusal.number()), (Refusal::Qubit, 8));
+        /// ```
+        #[derive(Clone, Copy, Debug, PartialEq, Eq, Hash, PartialOrd, Ord)]
+        #[repr(u8)]
+        pub enum Refusal {
+            $($(#[$doc])* #[doc(alias = $alias)] $name = $number,)*
+        }
+
+        impl Refusal {
+            /// Every refusal, in checking order.
+            ///
+            /// ```
+            /// use sukhlent::Refusal;
+            ///
+            /// assert_eq!(Refusal::ALL[..2], [Refusal::Form, Refusal::Steps]);
+            /// ```
+            pub const ALL: [Refusal; 20] = [$(Refusal::$name),*];
+
+            /// What is wrong, in the words of `sukhlent_refusal_text`.
+            fn line(self) -> &'static str {
+                match self {
+                    $(Refusal::$name => $words,)*
+                }
+            }
+
+            /// The name in the C header.
+            #[cfg(test)]
+            fn name_in_c(self) -> &'static str {
+                match self {
+                    $(Refusal::$name => $alias,)*
+                }
+            }
+        }
+    };
+}
+
+refusals! {
     /// A text is not of its form.
-    #[doc(alias = "SUKHLENT_FORM")]
-    Form = 1,
+    Form = 1, "SUKHLENT_FORM",
+        "the text does not have its form";
+    /// A job or a run has more than 4,096 steps.
+    Steps = 15, "SUKHLENT_STEPS",
+        "a job or a run has more than 4,096 steps";
     /// The number of qubits is 0 or above the call's limit (64; 6 for an orbit), or differs between
     /// two lists or records, or is not 64 in a group's call or in a state that the group holds.
-    #[doc(alias = "SUKHLENT_COUNT")]
-    Qubits = 2,
-    /// A connected part of a compared state's reduced graph has more than 20 vertices.
-    #[doc(alias = "SUKHLENT_LARGE")]
-    Comparison = 3,
+    Count = 2, "SUKHLENT_COUNT",
+        "n is 0 or above the call's limit, or the two lists' or records' n differ, or a \
+         group's call, or a state that it holds, has another n than 64";
     /// A buffer has a wrong length.
-    #[doc(alias = "SUKHLENT_LENGTH")]
-    Length = 4,
+    Length = 4, "SUKHLENT_LENGTH",
+        "a buffer's length is not what is required";
     /// A word has a bit outside of the qubits.
-    #[doc(alias = "SUKHLENT_STRAY")]
-    StrayBit = 5,
+    Stray = 5, "SUKHLENT_STRAY",
+        "a word has a bit at or above n";
     /// A sign, outcome or group is above 1, a code above 23 or no photon's, a Pauli not 1 to 3, a
-    /// seed 0, an operation above 4, or a field that a step does not use is not 0.
-    #[doc(alias = "SUKHLENT_VALUE")]
-    Value = 6,
+    /// seed 0, an operation above 6, or a field that a step does not use is not 0.
+    Value = 6, "SUKHLENT_VALUE",
+        "a sign, outcome or group is above 1, a code above 23 or no photon's, a Pauli not 1 \
+         to 3, a seed 0, a run's operation above 6, or a field that a step does not use is \
+         not 0";
     /// A graph is not simple, a used vertex is not as a measurement leaves it, a store holds a name
     /// twice, or a group's held state has a neighbour outside it.
-    #[doc(alias = "SUKHLENT_GRAPH")]
-    Graph = 7,
-    /// A qubit number is n or more, a qubit is named twice, or a pivot's pair has no edge.
-    #[doc(alias = "SUKHLENT_QUBIT")]
-    Place = 8,
-    /// Two generators anticommute.
-    #[doc(alias = "SUKHLENT_ANTICOMMUTE")]
-    Anticommuting = 9,
-    /// The generators are dependent.
-    #[doc(alias = "SUKHLENT_DEPENDENT")]
-    Dependent = 10,
-    /// The image is that of no graph: its x bits do not have full rank.
-    #[doc(alias = "SUKHLENT_IMAGE_C")]
-    NoGraph = 11,
-    /// The image is that of no simple graph: it has a loop.
-    #[doc(alias = "SUKHLENT_IMAGE_Y")]
-    Loop = 12,
-    /// Two states are not locally equivalent.
-    #[doc(alias = "SUKHLENT_INEQUIVALENT")]
-    Inequivalent = 13,
-    /// A supplied outcome is one that the state forbids.
-    #[doc(alias = "SUKHLENT_CONTRADICTED")]
-    Contradiction = 14,
-    /// A job or a run has more than 4,096 steps.
-    #[doc(alias = "SUKHLENT_STEPS")]
-    Steps = 15,
-    /// A call names a used qubit.
-    #[doc(alias = "SUKHLENT_USED")]
-    Used = 16,
-    /// A name to return to or forget is not held.
-    #[doc(alias = "SUKHLENT_NOT_HELD")]
-    NotHeld = 17,
-    /// A save finds eight other names held, or a group's save four.
-    #[doc(alias = "SUKHLENT_FULL")]
-    Full = 18,
+    Graph = 7, "SUKHLENT_GRAPH",
+        "a graph is not simple, or a used vertex has a neighbour or a code that no \
+         measurement leaves, or a store holds a name twice, or a group's held state has a \
+         neighbour outside it";
     /// A group's call names a qubit of the other group, or the record has an edge between them.
-    #[doc(alias = "SUKHLENT_OTHER_GROUP")]
-    OtherGroup = 19,
+    OtherGroup = 19, "SUKHLENT_OTHER_GROUP",
+        "a group's call names a qubit of the other group, or the record has an edge between \
+         the groups";
+    /// A qubit number is n or more, a qubit is named twice, or a pivot's pair has no edge.
+    Qubit = 8, "SUKHLENT_QUBIT",
+        "a qubit number is n or more, or a qubit is named twice, or a pivot's pair has no \
+         edge";
+    /// A call names a used qubit.
+    Used = 16, "SUKHLENT_USED",
+        "the call names a used qubit";
     /// The qubit to renew is not used.
-    #[doc(alias = "SUKHLENT_NOT_USED")]
-    NotUsed = 20,
+    NotUsed = 20, "SUKHLENT_NOT_USED",
+        "the qubit to renew is not used";
+    /// A name to return to or forget is not held.
+    NotHeld = 17, "SUKHLENT_NOT_HELD",
+        "a name to return to or forget is not held";
+    /// A save finds eight other names held, or a group's save four.
+    Full = 18, "SUKHLENT_FULL",
+        "a save finds eight other names held, or a group's save four";
+    /// Two generators anticommute.
+    Anticommute = 9, "SUKHLENT_ANTICOMMUTE",
+        "two generators do not commute";
+    /// The generators are dependent.
+    Dependent = 10, "SUKHLENT_DEPENDENT",
+        "the generators are dependent";
+    /// A connected part of a compared state's reduced graph has more than 20 vertices.
+    Large = 3, "SUKHLENT_LARGE",
+        "a connected part has more than 20 vertices";
+    /// A supplied outcome is one that the state forbids.
+    Contradicted = 14, "SUKHLENT_CONTRADICTED",
+        "a determined outcome contradicts the supplied bit";
+    /// The image is that of no graph: its x bits do not have full rank.
+    ImageC = 11, "SUKHLENT_IMAGE_C",
+        "the image is that of no graph: the image loop stops with some C = 1";
+    /// The image is that of no simple graph: it has a loop.
+    ImageY = 12, "SUKHLENT_IMAGE_Y",
+        "the image has Y at some vertex's own place";
+    /// Two states are not locally equivalent.
+    Inequivalent = 13, "SUKHLENT_INEQUIVALENT",
+        "no choice of local Cliffords carries one group to the other";
 }
 
 impl Refusal {
-    /// Every refusal, in checking order.
-    ///
-    /// ```
-    /// use sukhlent::Refusal;
-    ///
-    /// assert_eq!(Refusal::ALL[..2], [Refusal::Form, Refusal::Steps]);
-    /// ```
-    pub const ALL: [Refusal; 20] = [
-        Refusal::Form,
-        Refusal::Steps,
-        Refusal::Qubits,
-        Refusal::Length,
-        Refusal::StrayBit,
-        Refusal::Value,
-        Refusal::Graph,
-        Refusal::OtherGroup,
-        Refusal::Place,
-        Refusal::Used,
-        Refusal::NotUsed,
-        Refusal::NotHeld,
-        Refusal::Full,
-        Refusal::Anticommuting,
-        Refusal::Dependent,
-        Refusal::Comparison,
-        Refusal::Contradiction,
-        Refusal::NoGraph,
-        Refusal::Loop,
-        Refusal::Inequivalent,
-    ];
-
     /// The number, 1 to 20.
     ///
     /// ```
-    /// assert_eq!(sukhlent::Refusal::Anticommuting.number(), 9);
+    /// assert_eq!(sukhlent::Refusal::Anticommute.number(), 9);
     /// ```
     pub fn number(self) -> u8 {
         self as u8
@@ -124,7 +137,7 @@ impl Refusal {
     /// ```
     /// use sukhlent::Refusal;
     ///
-    /// assert_eq!(Refusal::from_number(9), Some(Refusal::Anticommuting));
+    /// assert_eq!(Refusal::from_number(9), Some(Refusal::Anticommute));
     /// assert_eq!(Refusal::from_number(0), None);
     /// ```
     pub fn from_number(number: u8) -> Option<Refusal> {
@@ -137,51 +150,6 @@ impl Refusal {
             (0, _) => Ok(()),
             (_, Some(refusal)) => Err(refusal),
             (_, None) => panic!("no refusal has the number {number}"),
-        }
-    }
-
-    /// What is wrong, in the words of `sukhlent_refusal_text`.
-    fn line(self) -> &'static str {
-        match self {
-            Refusal::Form => "the text does not have its form",
-            Refusal::Steps => "a job or a run has more than 4,096 steps",
-            Refusal::Qubits => {
-                "n is 0 or above the call's limit, or the two lists' or records' n differ, or a \
-                 group's call, or a state that it holds, has another n than 64"
-            }
-            Refusal::Length => "a buffer's length is not what is required",
-            Refusal::StrayBit => "a word has a bit at or above n",
-            Refusal::Value => {
-                "a sign, outcome or group is above 1, a code above 23 or no photon's, a Pauli not \
-                 1 to 3, a seed 0, a run's operation above 4, or a field that a step does not use \
-                 is not 0"
-            }
-            Refusal::Graph => {
-                "a graph is not simple, or a used vertex has a neighbour or a code that no \
-                 measurement leaves, or a store holds a name twice, or a group's held state \
-                 has a neighbour outside it"
-            }
-            Refusal::OtherGroup => {
-                "a group's call names a qubit of the other group, or the record has an edge \
-                 between the groups"
-            }
-            Refusal::Place => {
-                "a qubit number is n or more, or a qubit is named twice, or a pivot's pair \
-                 has no edge"
-            }
-            Refusal::Used => "the call names a used qubit",
-            Refusal::NotUsed => "the qubit to renew is not used",
-            Refusal::NotHeld => "a name to return to or forget is not held",
-            Refusal::Full => "a save finds eight other names held, or a group's save four",
-            Refusal::Anticommuting => "two generators do not commute",
-            Refusal::Dependent => "the generators are dependent",
-            Refusal::Comparison => "a connected part has more than 20 vertices",
-            Refusal::Contradiction => "a determined outcome contradicts the supplied bit",
-            Refusal::NoGraph => {
-                "the image is that of no graph: the image loop stops with some C = 1"
-            }
-            Refusal::Loop => "the image has Y at some vertex's own place",
-            Refusal::Inequivalent => "no choice of local Cliffords carries one group to the other",
         }
     }
 }
@@ -237,14 +205,21 @@ mod tests {
     }
 
     #[test]
-    fn every_refusal_is_found_by_its_name_in_the_header() {
+    fn every_refusal_has_its_name_in_the_header_in_the_case_of_rust() {
         let header = include_str!("../../../include/sukhlent.h");
-        let source = include_str!("refusal.rs");
         for refusal in Refusal::ALL {
-            let (number, name) = (refusal.number(), name_in(header, refusal.number()));
-            let due = format!("SUKHLENT_{name}\")]\n    {refusal:?} = {number},");
-            assert!(source.contains(&due), "{due}");
+            let name = name_in(header, refusal.number());
+            assert_eq!(refusal.name_in_c(), format!("SUKHLENT_{name}"));
+            assert_eq!(format!("{refusal:?}"), in_words(name));
         }
+    }
+
+    /// NOT_USED as Rust writes it: NotUsed.
+    fn in_words(name: &str) -> String {
+        let words = name.split('_');
+        words
+            .map(|word| word[..1].to_string() + &word[1..].to_lowercase())
+            .collect()
     }
 
     /// The name of a refusal's number: of the names with that value the first, since the refusals
@@ -264,7 +239,7 @@ mod tests {
         let lines: std::collections::HashSet<_> = Refusal::ALL.map(Refusal::line).into();
         assert_eq!(lines.len(), Refusal::ALL.len());
         assert_eq!(
-            Refusal::Anticommuting.to_string(),
+            Refusal::Anticommute.to_string(),
             "refused 9: two generators do not commute"
         );
     }

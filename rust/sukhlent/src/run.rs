@@ -1,6 +1,6 @@
 //! Many steps in one call.
 
-use crate::{raw, Measured, Pauli, Record, Refusal};
+use crate::{raw, Measured, Pauli, Photon, Record, Refusal};
 
 /// A step of a run.
 ///
@@ -23,6 +23,11 @@ pub enum Step {
     Complement(usize),
     /// The ends of an edge: complementations at the first, the second and the first.
     Pivot(usize, usize),
+    /// A Pauli, the qubit at which it is measured, and a bit by lot, which is the outcome where the
+    /// state does not determine it.
+    Observe(Pauli, usize, u8),
+    /// A used qubit, and the photon that takes its place.
+    Renew(usize, Photon),
 }
 
 impl Step {
@@ -33,23 +38,27 @@ impl Step {
         match self {
             Step::Gate(q, code) => (0, place(q), 0, code.into()),
             Step::Cz(a, b) => (1, place(a), place(b), 0),
-            Step::Measure(pauli, q, bit) => {
-                let value = match bit {
-                    0 | 1 => 2 * (pauli as u16 - 1) + u16::from(bit),
-                    _ => u16::MAX,
-                };
-                (2, place(q), 0, value)
-            }
+            Step::Measure(pauli, q, bit) => (2, place(q), 0, measured(pauli, bit)),
             Step::Complement(a) => (3, place(a), 0, 0),
             Step::Pivot(a, b) => (4, place(a), place(b), 0),
+            Step::Observe(pauli, q, bit) => (5, place(q), 0, measured(pauli, bit)),
+            Step::Renew(q, photon) => (6, place(q), 0, photon as u16),
         }
+    }
+}
+
+/// The value of a measurement; of a bit above 1 one that is refused likewise.
+fn measured(pauli: Pauli, bit: u8) -> u16 {
+    match bit {
+        0 | 1 => 2 * (pauli as u16 - 1) + u16::from(bit),
+        _ => u16::MAX,
     }
 }
 
 /// Runs at most 4,096 steps on a record, one after the other, and answers of each what a measurement
 /// found, nothing, or its refusal. A refused step changes nothing. The record is checked once.
 ///
-/// Refusals of the whole: 15, 2, 4, 5, 6, 7; of a step: 6, 8, 16, 14.
+/// Refusals of the whole: 15, 2, 4, 5, 6, 7; of a step: 6, 8, 16, 20, 14.
 ///
 /// ```
 /// use sukhlent::{codes, run, Measured, Pauli, Record, Refusal, Step};
@@ -68,6 +77,25 @@ impl Step {
 ///     Err(Refusal::Qubit),
 /// ]);
 /// # Ok::<(), Refusal>(())
+/// ```
+///
+/// A source that goes on: a photon is measured with a bit by lot, and another takes its place.
+///
+/// ```
+/// use sukhlent::{run, Measured, Pauli, Photon, Record, Step};
+///
+/// let mut record = Record::zeros(1);
+/// let answers = run(&mut record, &[
+///     Step::Observe(Pauli::X, 0, 1),
+///     Step::Renew(0, Photon::MinusY),
+///     Step::Observe(Pauli::Y, 0, 0),
+/// ])?;
+/// assert_eq!(answers, [
+///     Ok(Some(Measured { outcome: 1, determined: false })),
+///     Ok(None),
+///     Ok(Some(Measured { outcome: 1, determined: true })),
+/// ]);
+/// # Ok::<(), sukhlent::Refusal>(())
 /// ```
 pub fn run(
     record: &mut Record,
@@ -95,10 +123,12 @@ pub fn run(
     Refusal::unless_accepted(number)?;
     let told = steps.iter().enumerate().map(|(k, step)| {
         Refusal::unless_accepted(refusals[k])?;
-        Ok(matches!(step, Step::Measure(..)).then_some(Measured {
-            outcome: outcomes[k],
-            determined: determined[k] == 1,
-        }))
+        Ok(
+            matches!(step, Step::Measure(..) | Step::Observe(..)).then_some(Measured {
+                outcome: outcomes[k],
+                determined: determined[k] == 1,
+            }),
+        )
     });
     Ok(told.collect())
 }

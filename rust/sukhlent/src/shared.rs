@@ -218,9 +218,8 @@ impl Group<'_> {
     /// ```
     pub fn gate(&self, qubit: usize, code: u8) -> Result<(), Refusal> {
         let record = &mut self.shared.lock().record;
-        let (n, used) = (record.n() as u64, record.used);
-        let (words, codes) = (&mut record.neighbours, &mut record.codes);
-        let number = raw::group_gate(n, self.whose(), words, codes, used, qubit as u64, code);
+        let (n, words, codes, used) = record.lent_mut();
+        let number = raw::group_gate(n, self.whose(), words, codes, *used, qubit as u64, code);
         Refusal::unless_accepted(number)
     }
 
@@ -240,9 +239,8 @@ impl Group<'_> {
     /// ```
     pub fn cz(&self, a: usize, b: usize) -> Result<(), Refusal> {
         let record = &mut self.shared.lock().record;
-        let (n, used) = (record.n() as u64, record.used);
-        let (words, codes) = (&mut record.neighbours, &mut record.codes);
-        let number = raw::group_cz(n, self.whose(), words, codes, used, a as u64, b as u64);
+        let (n, words, codes, used) = record.lent_mut();
+        let number = raw::group_cz(n, self.whose(), words, codes, *used, a as u64, b as u64);
         Refusal::unless_accepted(number)
     }
 
@@ -265,20 +263,11 @@ impl Group<'_> {
     /// ```
     pub fn measure(&self, pauli: Pauli, qubit: usize, bit: u8) -> Result<Measured, Refusal> {
         let record = &mut self.shared.lock().record;
-        let (mut outcome, mut determined) = (0, 0);
-        let number = raw::group_measure(
-            record.n() as u64,
-            self.whose(),
-            &mut record.neighbours,
-            &mut record.codes,
-            &mut record.used,
-            pauli as u8,
-            qubit as u64,
-            bit,
-            &mut outcome,
-            &mut determined,
-        );
-        Measured::unless_refused(number, outcome, determined)
+        let (n, words, codes, used) = record.lent_mut();
+        let (whose, pauli, at) = (self.whose(), pauli as u8, qubit as u64);
+        Measured::told(|outcome, known| {
+            raw::group_measure(n, whose, words, codes, used, pauli, at, bit, outcome, known)
+        })
     }
 
     /// Measures a Pauli at a qubit of the group with a bit by lot, as [`observe`](crate::observe).
@@ -297,20 +286,11 @@ impl Group<'_> {
     /// ```
     pub fn observe(&self, pauli: Pauli, qubit: usize, bit: u8) -> Result<Measured, Refusal> {
         let record = &mut self.shared.lock().record;
-        let (mut outcome, mut determined) = (0, 0);
-        let number = raw::group_observe(
-            record.n() as u64,
-            self.whose(),
-            &mut record.neighbours,
-            &mut record.codes,
-            &mut record.used,
-            pauli as u8,
-            qubit as u64,
-            bit,
-            &mut outcome,
-            &mut determined,
-        );
-        Measured::unless_refused(number, outcome, determined)
+        let (n, words, codes, used) = record.lent_mut();
+        let (whose, pauli, at) = (self.whose(), pauli as u8, qubit as u64);
+        Measured::told(|outcome, known| {
+            raw::group_observe(n, whose, words, codes, used, pauli, at, bit, outcome, known)
+        })
     }
 
     /// Puts a new photon at a used qubit of the group, as [`Record::renew`](crate::Record::renew).
@@ -330,15 +310,9 @@ impl Group<'_> {
     /// ```
     pub fn renew(&self, qubit: usize, photon: Photon) -> Result<(), Refusal> {
         let record = &mut self.shared.lock().record;
-        let number = raw::group_renew(
-            record.n() as u64,
-            self.whose(),
-            &mut record.neighbours,
-            &mut record.codes,
-            &mut record.used,
-            qubit as u64,
-            photon as u8,
-        );
+        let (n, words, codes, used) = record.lent_mut();
+        let (at, code) = (qubit as u64, photon as u8);
+        let number = raw::group_renew(n, self.whose(), words, codes, used, at, code);
         Refusal::unless_accepted(number)
     }
 
@@ -359,9 +333,8 @@ impl Group<'_> {
     /// ```
     pub fn complement(&self, a: usize) -> Result<(), Refusal> {
         let record = &mut self.shared.lock().record;
-        let (n, used) = (record.n() as u64, record.used);
-        let (words, codes) = (&mut record.neighbours, &mut record.codes);
-        let number = raw::group_complement(n, self.whose(), words, codes, used, a as u64);
+        let (n, words, codes, used) = record.lent_mut();
+        let number = raw::group_complement(n, self.whose(), words, codes, *used, a as u64);
         Refusal::unless_accepted(number)
     }
 
@@ -383,14 +356,9 @@ impl Group<'_> {
     /// ```
     pub fn save(&self, name: [u8; 8]) -> Result<(), Refusal> {
         let Held { record, store } = &mut *self.shared.lock();
-        let number = raw::group_save(
-            lent(record),
-            self.whose(),
-            u64::from_ne_bytes(name),
-            &mut store.heads,
-            &mut *store.neighbours,
-            &mut *store.codes,
-        );
+        let (heads, words, codes) = (&mut store.heads, &mut *store.neighbours, &mut *store.codes);
+        let (lent, name) = (record.lent(), u64::from_ne_bytes(name));
+        let number = raw::group_save(lent, self.whose(), name, heads, words, codes);
         Refusal::unless_accepted(number)
     }
 
@@ -413,15 +381,9 @@ impl Group<'_> {
     /// ```
     pub fn return_to(&self, name: [u8; 8]) -> Result<(), Refusal> {
         let Held { record, store } = &mut *self.shared.lock();
-        let number = raw::group_return(
-            record.n() as u64,
-            self.whose(),
-            &mut record.neighbours,
-            &mut record.codes,
-            &mut record.used,
-            u64::from_ne_bytes(name),
-            (&store.heads, &*store.neighbours, &*store.codes),
-        );
+        let (n, words, codes, used) = record.lent_mut();
+        let (name, whose) = (u64::from_ne_bytes(name), self.whose());
+        let number = raw::group_return(n, whose, words, codes, used, name, store.lent());
         Refusal::unless_accepted(number)
     }
 
@@ -441,14 +403,9 @@ impl Group<'_> {
     /// ```
     pub fn forget(&self, name: [u8; 8]) -> Result<(), Refusal> {
         let Held { record, store } = &mut *self.shared.lock();
-        let number = raw::group_forget(
-            lent(record),
-            self.whose(),
-            u64::from_ne_bytes(name),
-            &mut store.heads,
-            &*store.neighbours,
-            &*store.codes,
-        );
+        let (heads, words, codes) = (&mut store.heads, &*store.neighbours, &*store.codes);
+        let (lent, name) = (record.lent(), u64::from_ne_bytes(name));
+        let number = raw::group_forget(lent, self.whose(), name, heads, words, codes);
         Refusal::unless_accepted(number)
     }
 
@@ -468,10 +425,4 @@ impl Group<'_> {
         let held = own.chunks(3).filter(|place| place[0] != 0);
         held.map(|place| place[1].to_ne_bytes()).collect()
     }
-}
-
-/// A record as the raw calls read it.
-fn lent(record: &Record) -> raw::LentRecord<'_> {
-    let n = record.n() as u64;
-    (n, &record.neighbours, &record.codes, record.used)
 }

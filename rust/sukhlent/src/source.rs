@@ -80,20 +80,11 @@ pub fn observe(
     qubit: usize,
     bit: u8,
 ) -> Result<Measured, Refusal> {
-    let n = record.n() as u64;
-    let (mut outcome, mut determined) = (0, 0);
-    let number = raw::observe(
-        n,
-        &mut record.neighbours,
-        &mut record.codes,
-        &mut record.used,
-        pauli as u8,
-        qubit as u64,
-        bit,
-        &mut outcome,
-        &mut determined,
-    );
-    Measured::unless_refused(number, outcome, determined)
+    let (n, words, codes, used) = record.lent_mut();
+    let (pauli, at) = (pauli as u8, qubit as u64);
+    Measured::told(|outcome, known| {
+        raw::observe(n, words, codes, used, pauli, at, bit, outcome, known)
+    })
 }
 
 impl Record {
@@ -115,15 +106,8 @@ impl Record {
     /// # Ok::<(), Refusal>(())
     /// ```
     pub fn renew(&mut self, qubit: usize, photon: Photon) -> Result<(), Refusal> {
-        let n = self.n() as u64;
-        let number = raw::renew(
-            n,
-            &mut self.neighbours,
-            &mut self.codes,
-            &mut self.used,
-            qubit as u64,
-            photon as u8,
-        );
+        let (n, words, codes, used) = self.lent_mut();
+        let number = raw::renew(n, words, codes, used, qubit as u64, photon as u8);
         Refusal::unless_accepted(number)
     }
 }

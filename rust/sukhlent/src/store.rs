@@ -47,6 +47,11 @@ impl Store {
         }
     }
 
+    /// The store as the raw calls read it.
+    pub(crate) fn lent(&self) -> raw::LentStore<'_> {
+        (&self.heads, &*self.neighbours, &*self.codes)
+    }
+
     /// Saves a record under a name: replaces what is held under it, else takes a free place. Other
     /// names keep their records.
     ///
@@ -65,10 +70,8 @@ impl Store {
     /// # Ok::<(), sukhlent::Refusal>(())
     /// ```
     pub fn save(&mut self, record: &Record, name: [u8; 8]) -> Result<(), Refusal> {
-        let (neighbours, codes) = (&*record.neighbours, &*record.codes);
-        let lent = (record.n() as u64, neighbours, codes, record.used);
+        let (lent, name) = (record.lent(), u64::from_ne_bytes(name));
         let (heads, words) = (&mut self.heads, &mut *self.neighbours);
-        let name = u64::from_ne_bytes(name);
         Refusal::unless_accepted(raw::save(lent, name, heads, words, &mut *self.codes))
     }
 
@@ -82,12 +85,11 @@ impl Store {
     /// assert_eq!(Store::new().return_to([0; 8]), Err(Refusal::NotHeld));
     /// ```
     pub fn return_to(&self, name: [u8; 8]) -> Result<Record, Refusal> {
-        let store = (&self.heads[..], &self.neighbours[..], &self.codes[..]);
-        let (mut n, mut neighbours, mut codes, mut used) = (0, [0; 64], [0; 64], 0);
-        let name = u64::from_ne_bytes(name);
-        let number = raw::return_to(name, store, &mut n, &mut neighbours, &mut codes, &mut used);
+        let (mut n, mut words, mut codes, mut used) = (0, [0; 64], [0; 64], 0);
+        let (name, held) = (u64::from_ne_bytes(name), self.lent());
+        let number = raw::return_to(name, held, &mut n, &mut words, &mut codes, &mut used);
         Refusal::unless_accepted(number).map(|()| Record {
-            neighbours: neighbours[..n as usize].to_vec(),
+            neighbours: words[..n as usize].to_vec(),
             codes: codes[..n as usize].to_vec(),
             used,
         })

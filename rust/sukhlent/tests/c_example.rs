@@ -182,8 +182,20 @@ fn run_prints_its_stored_output() {
 }
 
 #[test]
+fn parity_prints_its_stored_output() {
+    assert_prints_its_stored_output("parity");
+}
+
+#[test]
 fn source_prints_its_stored_output() {
     assert_prints_its_stored_output("source");
+}
+
+/// By runs it prints what it does by single calls.
+#[test]
+fn source_run_prints_its_stored_output() {
+    assert_prints_its_stored_output("source_run");
+    assert_eq!(stored("source_run"), stored("source"));
 }
 
 #[test]
@@ -254,7 +266,7 @@ fn the_table_of_calls_names_a_program_for_each() {
 fn every_call_has_an_example_in_c_and_in_rust() {
     let c = sources("examples/c", "c");
     let rust = sources("rust/sukhlent/examples", "rs");
-    assert_eq!(calls().len(), 36);
+    assert_eq!(calls().len(), 39);
     for call in calls() {
         assert!(c.contains(&format!("sukhlent_{call}(")), "{call} in C");
         let name = match call.strip_prefix("group_") {

@@ -1,5 +1,6 @@
 //! The program `reduce`, run as a process: its texts, its refusals and their order, and its input in blocks.
 use crate::common::process::{refused, Program};
+use crate::common::Random;
 use std::time::Duration;
 
 const NAMES: &str = "sign z x\n";
@@ -83,17 +84,11 @@ fn sixty_four_lines_pass() {
 #[test]
 fn random_graphs_of_64_qubits() {
     for seed in 1..=8u64 {
-        let mut random = seed.wrapping_mul(0x9E37_79B9_7F4A_7C15);
-        let mut next = move || {
-            random ^= random << 13;
-            random ^= random >> 7;
-            random ^= random << 17;
-            random
-        };
+        let mut random = Random::new(seed);
         let mut graph = [0u64; 64];
         for j in 0..64 {
             for k in j + 1..64 {
-                if next() % 3 == 0 {
+                if random.below(3) == 0 {
                     graph[j] |= 1 << k;
                     graph[k] |= 1 << j;
                 }
@@ -102,7 +97,7 @@ fn random_graphs_of_64_qubits() {
         // i to the phase, times X to the x, times Z to the z, at each place
         let mut rows: Vec<(u32, u64, u64)> = (0..64).map(|j| (0, graph[j], 1 << j)).collect();
         for _ in 0..2000 {
-            let (i, j) = (next() as usize % 64, next() as usize % 64);
+            let (i, j) = (random.below(64), random.below(64));
             if i != j {
                 let (a, b) = (rows[i], rows[j]);
                 rows[i] = (

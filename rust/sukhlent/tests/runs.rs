@@ -8,12 +8,13 @@ use sukhlent::{codes, expand, run, Measured, Pauli, Record, Refusal, Step};
 
 /// A random step on n qubits: mostly one that may be accepted, at times with a field one too large or not 0.
 fn step(random: &mut Random, n: usize) -> (u8, u16, u16, u16) {
-    let op = random.below(5) as u8;
+    let op = random.below(7) as u8;
     let [a, b] = [0, 1].map(|_| random.below(n) as u16);
     let (b, value) = match op {
         0 => (0, random.below(24) as u16),
         1 | 4 => (b, 0),
-        2 => (0, random.below(6) as u16),
+        2 | 5 => (0, random.below(6) as u16),
+        6 => (0, 2 * random.below(6) as u16),
         _ => (0, 0),
     };
     match random.below(24) {
@@ -43,7 +44,7 @@ fn assert_as_the_calls(call: &RecordCall<Steps>) -> Vec<[u8; 3]> {
 #[test]
 fn seeded_runs_are_what_the_calls_leave_step_by_step() {
     let mut random = Random::new(23);
-    let mut numbers = [0; 19];
+    let mut numbers = [0; 21];
     for n in (1..=12).chain([31, 32, 33, 63, 64]).cycle().take(340) {
         let record = match random.below(4) {
             0 => random_used_record(&mut random, n),
@@ -56,7 +57,7 @@ fn seeded_runs_are_what_the_calls_leave_step_by_step() {
             numbers[usize::from(told[0])] += 1;
         }
     }
-    for number in [0, 6, 8, 14, 16] {
+    for number in [0, 6, 8, 14, 16, 20] {
         assert!(numbers[number] > 50, "{number}: {numbers:?}");
     }
 }
@@ -70,7 +71,7 @@ fn gates_behind_rewritings_and_refused_steps() {
         let record = random_record(&mut random, n);
         let unmeasured = |_| loop {
             let step = step(&mut random, n);
-            if step.0 != 2 {
+            if ![2, 5].contains(&step.0) {
                 break step;
             }
         };
@@ -98,7 +99,7 @@ fn more_than_4096_steps_give_15_whatever_else() {
         assert_eq!(call.run(), Err(15));
         call.n = 0;
         call.with.a.clear();
-        call.with.ops[7] = 5;
+        call.with.ops[7] = 7;
         assert_eq!(call.run(), Err(15));
     }
     // The number of the operations counts.
@@ -117,7 +118,7 @@ fn step_faults() -> Vec<Fault<RecordCall<Steps>>> {
         (4, |call| call.with.refusals = 7),
         (4, |call| call.with.outcomes = 9),
         (4, |call| call.with.determined = 0),
-        (6, |call| call.with.ops[0] = 5),
+        (6, |call| call.with.ops[0] = 7),
         (6, |call| call.with.ops[7] = 255),
     ]
 }

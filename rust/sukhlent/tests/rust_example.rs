@@ -19,6 +19,9 @@ mod generate;
 #[path = "../examples/orbits.rs"]
 #[allow(dead_code)]
 mod orbits;
+#[path = "../examples/parity.rs"]
+#[allow(dead_code)]
+mod parity;
 #[path = "../examples/recipes.rs"]
 #[allow(dead_code)]
 mod recipes;
@@ -52,6 +55,13 @@ fn session_prints_what_the_session_in_c_prints() {
     let mut text = String::new();
     session::session(&mut text).unwrap();
     assert_eq!(text, include_str!("../../../examples/c/session.out"));
+}
+
+#[test]
+fn parity_prints_what_parity_in_c_prints() {
+    let mut text = String::new();
+    parity::show(&mut text).unwrap();
+    assert_eq!(text, include_str!("../../../examples/c/parity.out"));
 }
 
 #[test]

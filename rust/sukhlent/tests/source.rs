@@ -2,30 +2,12 @@
 
 use crate::common::reference::expanded;
 use crate::common::seeded::pauli::{X, Y, Z};
+use crate::common::small::every_record;
 use crate::common::source::Source;
 use crate::common::{random_used_record, rows, Pauli, Random, RecordCall};
 use std::collections::{BTreeMap, BTreeSet};
 use sukhlent::{cz, expand, gate, measure, observe, reduce};
 use sukhlent::{Measured, Photon, Record, Refusal};
-
-/// The records of n vertices: every graph, codes 0 to 23 and one that is none, and every used word with one bit more
-/// than there are vertices.
-fn records(n: usize) -> impl Iterator<Item = Record> {
-    let codes = move |m: usize| (0..n as u32).map(move |q| (m / 25usize.pow(q) % 25) as u8);
-    let graphs: &[&[u64]] = match n {
-        1 => &[&[0]],
-        _ => &[&[0, 0], &[2, 1]],
-    };
-    graphs.iter().flat_map(move |neighbours| {
-        (0..25usize.pow(n as u32)).flat_map(move |m| {
-            (0..2 << n).map(move |used| Record {
-                neighbours: neighbours.to_vec(),
-                codes: codes(m).collect(),
-                used,
-            })
-        })
-    })
-}
 
 /// Every call on n qubits, with one argument too many of each kind.
 fn calls(n: u64) -> Vec<Source> {
@@ -78,7 +60,7 @@ fn every_call_on_every_record_with_every_used_word() {
     let mut counts: BTreeMap<(&str, u8), usize> = BTreeMap::new();
     for n in 1..=2 {
         let calls = calls(n as u64);
-        for record in records(n) {
+        for record in every_record(n) {
             for &with in &calls {
                 let call = RecordCall::with(&record, with);
                 let due = match call.due_number() {

@@ -1,28 +1,9 @@
 //! Every record on up to two qubits with every used word, and every call on it, against a plain model.
 
 use crate::common::reference::{after, cut_rank, expanded, row_value};
+use crate::common::small::every_record;
 use crate::common::{Operation, RecordCall};
 use std::collections::BTreeMap;
-use sukhlent::Record;
-
-/// The records of n vertices: every graph, codes 0 to 23 and one that is none, and every used word with one bit more
-/// than there are vertices.
-fn records(n: usize) -> impl Iterator<Item = Record> {
-    let codes = move |m: usize| (0..n as u32).map(move |q| (m / 25usize.pow(q) % 25) as u8);
-    let graphs: &[&[u64]] = match n {
-        1 => &[&[0]],
-        _ => &[&[0, 0], &[2, 1]],
-    };
-    graphs.iter().flat_map(move |neighbours| {
-        (0..25usize.pow(n as u32)).flat_map(move |m| {
-            (0..2 << n).map(move |used| Record {
-                neighbours: neighbours.to_vec(),
-                codes: codes(m).collect(),
-                used,
-            })
-        })
-    })
-}
 
 /// Every call in place on n qubits, with one argument too many of each kind.
 fn operations(n: u64) -> Vec<Operation> {
@@ -54,7 +35,7 @@ fn every_call_on_every_record_with_every_used_word() {
     let mut counts: BTreeMap<(&str, u8), usize> = BTreeMap::new();
     for n in 1..=2 {
         let operations = operations(n as u64);
-        for record in records(n) {
+        for record in every_record(n) {
             for &operation in &operations {
                 let call = RecordCall::with(&record, operation);
                 let due = match call.due() {
@@ -83,7 +64,7 @@ fn every_call_on_every_record_with_every_used_word() {
 fn everything_read_off_every_record_with_every_used_word() {
     let mut counts = [0; 8];
     for n in 1..=2 {
-        for record in records(n) {
+        for record in every_record(n) {
             let call = RecordCall::on(&record);
             let due = match call.due() {
                 0 => Ok(expanded(&record)),
@@ -117,7 +98,7 @@ fn everything_read_off_every_record_with_every_used_word() {
 #[test]
 fn the_accepted_records_of_two_vertices_by_their_used_words() {
     let mut accepted = [0; 8];
-    for record in records(2) {
+    for record in every_record(2) {
         let number = RecordCall::on(&record).expand().err().unwrap_or(0);
         accepted[record.used as usize] += usize::from(number == 0);
     }

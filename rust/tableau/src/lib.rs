@@ -84,6 +84,25 @@ impl Tableau {
         }
     }
 
+    /// Measures a row of any weight, its own sign left out, with a bit by lot: the outcome is the sign
+    /// with which it is in the group, and the bit where it is not.
+    pub fn measure_row(&mut self, row: &Row, bit: u8) -> Measured {
+        assert!(bit < 2, "bit {bit}");
+        let row = row.with_sign(row.sign());
+        if let Some(outcome) = self.value(&row) {
+            return Measured {
+                outcome,
+                determined: true,
+            };
+        }
+        let clashing = self.stabilizers.iter().position(|r| r.clashes(&row));
+        self.replace(clashing.expect("no value"), row.with_sign(bit));
+        Measured {
+            outcome: bit,
+            determined: false,
+        }
+    }
+
     /// The sign with which a row is in the group, 1 for minus; None where a generator does not commute
     /// with it. The row's own sign is left out.
     pub fn value(&self, row: &Row) -> Option<u8> {

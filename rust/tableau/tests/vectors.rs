@@ -1,19 +1,8 @@
 //! The tableau against state vectors.
 
+use random::Random;
 use simulator::{find, Complex, Matrix2, Row, State};
 use tableau::{Measured, Tableau};
-
-/// A multiplicative generator of numbers.
-struct Random(u64);
-
-impl Random {
-    fn below(&mut self, bound: usize) -> usize {
-        self.0 = (self.0)
-            .wrapping_mul(6_364_136_223_846_793_005)
-            .wrapping_add(1_442_695_040_888_963_407);
-        (self.0 >> 33) as usize % bound
-    }
-}
 
 /// The matrix of a code; letters are numbered 2z + x.
 fn matrix(code: u8) -> Matrix2 {
@@ -80,7 +69,7 @@ fn seeded_calls_against_state_vectors() {
     let matrices: Vec<Matrix2> = (0..24).map(matrix).collect();
     let mut seen = [[0; 2]; 3];
     for seed in 0..200 {
-        let mut random = Random(seed);
+        let mut random = Random::new(seed);
         let n = 1 + seed as usize % 6;
         let (mut tableau, mut state) = (Tableau::zero(n), State::zero(n));
         for _ in 0..100 {

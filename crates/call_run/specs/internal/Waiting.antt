@@ -5,6 +5,7 @@ use mathlib.Core.List.{List}
 use Prim.Native.Nat.{ℕ}
 use lib.Dec.{eqb}
 use Rattle.calls.specs.InPlace.{usedCall, usedMeasureCall}
+use Rattle.calls.specs.Sources.{observeCall}
 use Rattle.buffers.specs.Calls.{Call}
 use Rattle.operations.specs.Steps.{Operation}
 use Rattle.operations.specs.internal.InPlace.{Unrefused}
@@ -50,5 +51,13 @@ pub record MeasuredStep (waiting : Bool) (u : UsedRecord) (pauli q b : ℕ) (wor
     (used′ outcome determined k : ℕ) : Type 0 where
   pub sound : Unrefused (heldIn u words′ codes′)
   pub call : Call (usedMeasureCall (meant waiting u) pauli q b 0 0
+      ((meantRecord (thenWaiting k waiting) (heldIn u words′ codes′)) .neighbours)
+      ((meantRecord (thenWaiting k waiting) (heldIn u words′ codes′)) .codes) used′ outcome determined) k
+
+-- a measurement with a bit by lot
+pub record ObservedStep (waiting : Bool) (u : UsedRecord) (pauli q b : ℕ) (words′ codes′ : List ℕ)
+    (used′ outcome determined k : ℕ) : Type 0 where
+  pub sound : Unrefused (heldIn u words′ codes′)
+  pub call : Call (observeCall (meant waiting u) pauli q b 0 0
       ((meantRecord (thenWaiting k waiting) (heldIn u words′ codes′)) .neighbours)
       ((meantRecord (thenWaiting k waiting) (heldIn u words′ codes′)) .codes) used′ outcome determined) k

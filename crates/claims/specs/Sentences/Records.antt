@@ -1,6 +1,7 @@
 -- What the documents say of each exported function on records, in one record: demand 1, which arguments it
--- accepts, and the sentences of the demands and of the requests that speak of its answer; of a gate, a cz, a measurement
--- and a complementation, that it is a step of a job and an action of a session (`action`).
+-- accepts, and the sentences of the demands and of the requests that speak of its answer. That it answers as expanding,
+-- changing the list and reducing would, and that it is a step of a job and an action of a session, are theorems of their own
+-- (`GatesByExpanding` and the like, `ContractsAreActions`).
 use mathlib.Core.Bool.{false, _||_}
 use mathlib.Core.List.{List}
 use mathlib.Core.Logic.{_↔_}

@@ -1,6 +1,6 @@
 -- What the documents say of the exported functions of a party (02, §13), a record for each: demand 1, which arguments it
--- accepts, that it is a step of the runs of `NonInterference`, what it leaves of the other party, and that its answer
--- stands for what the whole-record call leaves.
+-- accepts, what it leaves of the other party, and that its answer stands for what the whole-record call leaves. That each is a
+-- step of the runs of `NonInterference` is a theorem of its own (`ContractsAreSteps`).
 use mathlib.Core.List.{List, [], _∷_}
 use mathlib.Core.Logic.{_↔_, _⊎_}
 use mathlib.Core.Path.{_≡_}
@@ -9,7 +9,6 @@ use Rattle.calls.specs.InPlace.{usedCall, usedMeasureCall}
 use Rattle.calls.specs.PartyStores.{partyForgetCall, partyReturnCall, partySaveCall}
 use Rattle.calls.specs.Parties.{partyCall, partyMeasureCall}
 use Rattle.calls.specs.Sources.{partyObserveCall, partyRenewCall, observeCall, renewCall}
-use Rattle.claims.specs.ActionContracts.{sessionOf}
 use Rattle.claims.specs.Conforming.{Answered}
 use Rattle.claims.specs.UsedDemand.{leftUsed}
 use Rattle.claims.specs.families.Parties.{PartyNameFits, PartySaveFits, Own, TwoParties}
@@ -24,7 +23,6 @@ use Rattle.store.specs.Places.{Store}
 use Rattle.operations.specs.Used.{UsedRecord}
 use Rattle.operations.specs.UsedSentences.{IsUsed, NoRecord, OfSix, StrayBit}
 use Rattle.record.specs.RecordSentences.{CodeAbove23, RecordMisfits}
-use Rattle.claims_parties.specs.PartyContracts.{IsStep, withRecord}
 use Rattle.claims_parties.specs.PartyKeeps.{
   PartyForgetKeeps,
   PartyFull,
@@ -34,16 +32,9 @@ use Rattle.claims_parties.specs.PartyKeeps.{
   PartyReturnGives,
   PartySaveKeeps,
 }
-use Rattle.claims_parties.specs.PartyRuns.{SharedCall}
 use Rattle.claims_parties.specs.PartiesDemand.{StandsAsWhole}
 use Rattle.buffers.specs.Sentences.{FirstTrue, Sentence, sentence}
 use Rattle.parties.specs.PartySentences.{EdgeBetween, NotSixtyFour, OtherParties, partyArgumentSentences, partyComplementSentences, partyCzSentences, partyGateSentences, partyMeasureSentences, partyNamedSentences, partySaveSentences}
-
--- a call that is not lent the store is the same step whatever the store
-abbrev pub StepOnRecord : (word g : ℕ) (u : UsedRecord) (c : SharedCall) (r : ℕ) (nb′ cs′ : List ℕ) (used′ : ℕ) →
-    Type 0
-StepOnRecord word g u c r nb′ cs′ used′ =
-    (st : Store) → IsStep word g (sessionOf u st) c r (withRecord (sessionOf u st) nb′ cs′ used′)
 
 -- "a group call leaves the group's elements as the whole-record call would"
 abbrev pub AsWhole : UsedRecord → Operation → List ℕ → List ℕ → Type 0

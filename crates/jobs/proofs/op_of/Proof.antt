@@ -32,11 +32,34 @@ returns-4 c = simp (
 returns-5 : tie.Need-returns-5
 unfolding numberedOp
 returns-5 c = simp (
-  ne-eqb _ _ (c .before .before .before .if1 .left),
-  ne-eqb _ _ (c .before .before .if2 .left),
-  ne-eqb _ _ (c .before .if3 .left),
-  ne-eqb _ _ (c .if4 .left),
+  ne-eqb _ _ (c .before .before .before .before .if1 .left),
+  ne-eqb _ _ (c .before .before .before .if2 .left),
+  ne-eqb _ _ (c .before .before .if3 .left),
+  ne-eqb _ _ (c .before .if4 .left),
+  eq-eqb _ _ (c .if5 .taken),
+)
+
+returns-6 : tie.Need-returns-6
+unfolding numberedOp
+returns-6 c = simp (
+  ne-eqb _ _ (c .before .before .before .before .before .if1 .left),
+  ne-eqb _ _ (c .before .before .before .before .if2 .left),
+  ne-eqb _ _ (c .before .before .before .if3 .left),
+  ne-eqb _ _ (c .before .before .if4 .left),
+  ne-eqb _ _ (c .before .if5 .left),
+  eq-eqb _ _ (c .if6 .taken),
+)
+
+returns-7 : tie.Need-returns-7
+unfolding numberedOp
+returns-7 c = simp (
+  ne-eqb _ _ (c .before .before .before .before .before .if1 .left),
+  ne-eqb _ _ (c .before .before .before .before .if2 .left),
+  ne-eqb _ _ (c .before .before .before .if3 .left),
+  ne-eqb _ _ (c .before .before .if4 .left),
+  ne-eqb _ _ (c .before .if5 .left),
+  ne-eqb _ _ (c .if6 .left),
 )
 
 pub op-of-spec : {M : Type 1} → statement M
-op-of-spec = tie.close (tie.spec returns returns-2 returns-3 returns-4 returns-5)
+op-of-spec = tie.close (tie.spec returns returns-2 returns-3 returns-4 returns-5 returns-6 returns-7)

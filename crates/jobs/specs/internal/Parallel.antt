@@ -4,7 +4,7 @@ use mathlib.Core.Path.{_≡_}
 use Prim.Native.Nat.{ℕ}
 use lib.ListN.{length}
 use Rattle.jobs.specs.declared.Op.{Op}
-use Rattle.jobs.specs.declared.Op.the-variants.{Complement, Cz, Gate, Measure, Pivot}
+use Rattle.jobs.specs.declared.Op.the-variants.{Complement, Cz, Gate, Measure, Observe, Pivot, Renew}
 
 -- the number of an operation
 abbrev pub opNumber : Op → ℕ
@@ -13,6 +13,8 @@ opNumber Cz = 1
 opNumber Measure = 2
 opNumber Complement = 3
 opNumber Pivot = 4
+opNumber Observe = 5
+opNumber Renew = 6
 
 -- the lists are of one length
 pub record OneLength (ops a b value : List ℕ) : Type 0 where

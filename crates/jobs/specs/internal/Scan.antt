@@ -9,7 +9,7 @@ use lib.Dec.{eqb, ltb}
 use lib.ListN.{length, getD, set, take, replicate}
 use Rattle.buffers.specs.Refusals.{firstFitting}
 use Rattle.jobs.specs.declared.Op.{Op}
-use Rattle.jobs.specs.declared.Op.the-variants.{Gate, Cz, Measure, Complement, Pivot}
+use Rattle.jobs.specs.declared.Op.the-variants.{Gate, Cz, Measure, Complement, Pivot, Observe, Renew}
 use Rattle.jobs.specs.declared.Step.{Step}
 use Rattle.text.specs.internal.Feeding.{fedBytes}
 use Rattle.jobs.specs.internal.Lines.{textLines}
@@ -56,8 +56,10 @@ letters Cz = 99 ∷ 122 ∷ 32 ∷ 0 ∷ 0 ∷ 0 ∷ 0 ∷ 0 ∷ 0 ∷ 0 ∷ 0 �
 letters Measure = 109 ∷ 101 ∷ 97 ∷ 115 ∷ 117 ∷ 114 ∷ 101 ∷ 32 ∷ 0 ∷ 0 ∷ 0 ∷ []
 letters Complement = 99 ∷ 111 ∷ 109 ∷ 112 ∷ 108 ∷ 101 ∷ 109 ∷ 101 ∷ 110 ∷ 116 ∷ 32 ∷ []
 letters Pivot = 112 ∷ 105 ∷ 118 ∷ 111 ∷ 116 ∷ 32 ∷ 0 ∷ 0 ∷ 0 ∷ 0 ∷ 0 ∷ []
+letters Observe = 111 ∷ 98 ∷ 115 ∷ 101 ∷ 114 ∷ 118 ∷ 101 ∷ 32 ∷ 0 ∷ 0 ∷ 0 ∷ []
+letters Renew = 114 ∷ 101 ∷ 110 ∷ 101 ∷ 119 ∷ 32 ∷ 0 ∷ 0 ∷ 0 ∷ 0 ∷ 0 ∷ []
 
--- the operation that can begin with the letter b
+-- the operation of texts that can begin with the letter b
 unfoldable pub firstOp : ℕ → Op
 firstOp b = cond (eqb b 103) Gate (cond (eqb b 99) Cz (cond (eqb b 109) Measure Pivot))
 
@@ -68,6 +70,8 @@ afterO Cz = Complement
 afterO Measure = Measure
 afterO Complement = Complement
 afterO Pivot = Pivot
+afterO Observe = Observe
+afterO Renew = Renew
 
 -- the operation whose letter k the byte b can be
 unfoldable pub opFor : ℕ → Op → ℕ → Op

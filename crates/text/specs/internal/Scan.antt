@@ -7,20 +7,12 @@ use mathlib.Core.List.{List, map}
 use Prim.Native.Nat.{ℕ, _+_, _-_, _*_, _%_, _^_, min}
 use lib.Dec.{eqb, ltb}
 use lib.ListN.{length, getD, set, take}
-use Rattle.text.specs.Text.{listNames, ListLine, TextOf, HasForm}
+use Rattle.text.specs.Text.{hexValue, listNames, ListLine, TextOf, HasForm}
 use Rattle.text.specs.internal.Feeding.{fedBytes}
 use Rattle.text.specs.declared.scan.Scan.{Scan}
 use Rattle.text.specs.declared.scan.Verdict.{Verdict}
 use Rattle.text.specs.declared.scan.Place.{Place}
 use Rattle.text.specs.declared.scan.Place.the-variants.{Names, Sign, Space, Z, X, Broken}
-
--- the value of a lower-case hexadecimal digit; 16 for any other byte
-unfoldable pub hexValue : ℕ → ℕ
-hexValue b =
-    cond (ltb b 48) 16
-    (cond (ltb b 58) (b - 48)
-    (cond (ltb b 97) 16
-    (cond (ltb b 103) (b - 87) 16)))
 
 -- a word of 64 bits with one more digit at its low end
 unfoldable pub push : ℕ → ℕ → ℕ

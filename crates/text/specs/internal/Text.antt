@@ -3,6 +3,8 @@
 use mathlib.Core.List.{List}
 use Prim.Native.Nat.{ℕ, _+_, _*_, _≤_, _<_}
 use lib.ListN.{length, getD}
+use Rattle.words.specs.Bits.{bit}
+use Rattle.text.specs.declared.records.RecordLine.{RecordLine}
 
 -- what a record and its buffer must be for the print from place at on
 pub record Printable (n : ℕ) (neighbours codes : List ℕ) (at : ℕ) (out : List ℕ) : Type 0 where
@@ -11,3 +13,8 @@ pub record Printable (n : ℕ) (neighbours codes : List ℕ) (at : ℕ) (out : L
   pub codes-long : n ≤ length codes
   pub codes-small : (q : ℕ) → q < n → getD codes q 0 < 24
   pub room : at + 27 + n * 25 ≤ length out
+
+-- what a record says of each qubit
+abbrev pub lineHeld : List ℕ → List ℕ → ℕ → ℕ → RecordLine
+lineHeld neighbours codes used q =
+    record { code = getD codes q 0; word = getD neighbours q 0; used = bit used q }

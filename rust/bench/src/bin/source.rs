@@ -1,6 +1,7 @@
 //! A source that goes on: a linear cluster on 64 places, grown at one end and measured at the other, by the calls of the
 //! engine and by the plain tableau. Prints the least time of a photon, of runs in turns: one renewal, one CZ, one observation.
 
+use random::Draws;
 use std::time::Instant;
 use sukhlent::{raw, Photon};
 use tableau::Tableau;
@@ -89,7 +90,7 @@ impl Source for Tableau {
 /// The outcomes of a run, as a digest, and its time in nanoseconds.
 fn run(source: &mut impl Source) -> (u64, f64) {
     let start = Instant::now();
-    let (mut lot, mut digest) = (1_u64, 0_u64);
+    let (mut lots, mut digest) = (Draws::new(1), 0_u64);
     for k in 0..PHOTONS + ALIVE {
         if k < PHOTONS {
             if k >= N {
@@ -100,9 +101,7 @@ fn run(source: &mut impl Source) -> (u64, f64) {
             }
         }
         if k >= ALIVE {
-            lot ^= lot << 13;
-            lot ^= lot >> 7;
-            lot ^= lot << 17;
+            let lot = lots.next().expect("draws do not end");
             let outcome = source.observe((k - ALIVE) % N, (lot >> 63) as u8);
             digest = digest.rotate_left(1) ^ u64::from(outcome) ^ digest >> 63;
         }

@@ -29,7 +29,7 @@ const LOWER: raw::Whose = (!0 << 32, 0);
 const UPPER: raw::Whose = (!0 << 32, 1);
 
 /// Every public call. All arguments are accepted, so that every step is taken.
-const CALLS: [Measured; 38] = [
+const CALLS: [Measured; 41] = [
     ("check", 64, |random, n| {
         let given = list(&random_rows(random, n));
         depth(|| raw::check(n as u64, &given.signs, &given.z, &given.x))
@@ -66,6 +66,25 @@ const CALLS: [Measured; 38] = [
         let (mut answer, mut determined) = (0, 0);
         in_place(random, n, |n, words, codes, used| {
             raw::observe(n, words, codes, used, 3, 0, 1, &mut answer, &mut determined)
+        })
+    }),
+    ("measure_row", 64, |random, n| {
+        let (mut answer, mut determined) = (0, 0);
+        let told = (&mut answer, &mut determined);
+        let (z, x) = (random.word(), random.word());
+        in_place(random, n, |n, words, codes, used| {
+            let kept = !*used;
+            raw::measure_row(
+                n,
+                words,
+                codes,
+                *used,
+                z & kept,
+                x & kept,
+                1,
+                told.0,
+                told.1,
+            )
         })
     }),
     ("renew", 64, |random, n| {
@@ -246,6 +265,34 @@ const CALLS: [Measured; 38] = [
         let lent = (n as u64, &*given.signs, &*given.z, &*given.x);
         let mut text = [0; 64 * 66];
         depth(|| raw::write_strings(lent, &mut text))
+    }),
+    ("write_record", 64, |random, n| {
+        let given = random_record(random, n);
+        let (mut text, mut length) = ([0; 1627], 0);
+        depth(|| {
+            raw::write_record(
+                n as u64,
+                &given.neighbours,
+                &given.codes,
+                0,
+                &mut text,
+                &mut length,
+            )
+        })
+    }),
+    ("read_record", 64, |random, n| {
+        let text = random_record(random, n).to_string();
+        let (mut count, mut used) = (0, 0);
+        let (mut neighbours, mut codes) = ([0; 64], [0; 64]);
+        depth(|| {
+            raw::read_record(
+                text.as_bytes(),
+                &mut count,
+                &mut neighbours,
+                &mut codes,
+                &mut used,
+            )
+        })
     }),
     ("orbit", 6, |random, n| {
         let graph = random_record(random, n).neighbours;

@@ -10,6 +10,7 @@ pub mod groups;
 pub mod image;
 pub mod in_place;
 pub mod orbit;
+pub mod parity;
 pub mod product;
 pub mod reduce;
 pub mod stores;

@@ -6,6 +6,8 @@ mod in_place;
 mod lists;
 mod orbits;
 mod pairs;
+mod record_texts;
+mod parity;
 mod records;
 mod runs;
 mod source;
@@ -24,7 +26,7 @@ pub struct Call {
 }
 
 /// Every public call.
-pub const CALLS: [Call; 35] = [
+pub const CALLS: [Call; 38] = [
     Call {
         name: "check",
         once: lists::check,
@@ -52,6 +54,10 @@ pub const CALLS: [Call; 35] = [
     Call {
         name: "observe",
         once: source::observe,
+    },
+    Call {
+        name: "measure_row",
+        once: parity::measure_row,
     },
     Call {
         name: "renew",
@@ -112,6 +118,14 @@ pub const CALLS: [Call; 35] = [
     Call {
         name: "write_strings",
         once: strings::write,
+    },
+    Call {
+        name: "read_record",
+        once: record_texts::read,
+    },
+    Call {
+        name: "write_record",
+        once: record_texts::write,
     },
     Call {
         name: "orbit",

@@ -107,7 +107,7 @@ impl RecordCall<Steps> {
         if steps.lengths().iter().any(|&length| length != count) {
             return 4;
         }
-        let six = steps.ops.iter().any(|&op| op > 4);
+        let six = steps.ops.iter().any(|&op| op > 6);
         match of_record {
             0 | 6 | 7 if six => 6,
             number => number,
@@ -133,13 +133,13 @@ impl RecordCall<Steps> {
 /// One step by the calls: a field that it does not use is 0, and a pivot is three complementations at the ends of an edge.
 fn one(record: &mut Record, (op, a, b, value): (u8, u16, u16, u16)) -> Told {
     let unused = match op {
-        0 | 2 => b != 0,
+        0 | 2 | 5 | 6 => b != 0,
         1 | 4 => value != 0,
         _ => b != 0 || value != 0,
     };
     let large = match op {
-        0 => value > 23,
-        2 => value > 5,
+        0 | 6 => value > 23,
+        2 | 5 => value > 5,
         _ => false,
     };
     if unused || large {
@@ -154,6 +154,8 @@ fn one(record: &mut Record, (op, a, b, value): (u8, u16, u16, u16)) -> Told {
             by_call(record, Operation::Measure(pauli, a, bit))
         }
         3 => by_call(record, Operation::Complement(a)),
+        5 => observed(record, value as u8 / 2 + 1, a, value as u8 % 2),
+        6 => [renewed(record, a, value as u8), 0, 0],
         _ => {
             let n = record.n() as u64;
             if a.max(b) >= n || a == b || record.neighbours[a as usize] >> b & 1 == 0 {
@@ -169,6 +171,35 @@ fn one(record: &mut Record, (op, a, b, value): (u8, u16, u16, u16)) -> Told {
             [0, 0, 0]
         }
     }
+}
+
+fn observed(record: &mut Record, pauli: u8, qubit: u64, bit: u8) -> Told {
+    let n = record.n() as u64;
+    let (mut outcome, mut determined) = (0, 0);
+    let number = raw::observe(
+        n,
+        &mut record.neighbours,
+        &mut record.codes,
+        &mut record.used,
+        pauli,
+        qubit,
+        bit,
+        &mut outcome,
+        &mut determined,
+    );
+    [number, outcome, determined]
+}
+
+fn renewed(record: &mut Record, qubit: u64, code: u8) -> u8 {
+    let n = record.n() as u64;
+    raw::renew(
+        n,
+        &mut record.neighbours,
+        &mut record.codes,
+        &mut record.used,
+        qubit,
+        code,
+    )
 }
 
 fn by_call(record: &mut Record, operation: Operation) -> Told {

@@ -41,6 +41,12 @@ pivot-waiting-requires c κs = search needs
 enum-told-5 : tie.Need-enum-told-5
 enum-told-5 c = search needs
 
+enum-told-6 : tie.Need-enum-told-6
+enum-told-6 c = search needs
+
+enum-told-7 : tie.Need-enum-told-7
+enum-told-7 c = search needs
+
 same-length : tie.Need-same-length
 same-length c = search needs
 
@@ -90,7 +96,13 @@ returns-4 c =
     (c .before .before .before .before .pivot-waiting .ensures)
 
 returns-5 : tie.Need-returns-5
-returns-5 c = absurd (c .before .before .before .before .pre .0 .no-outcome (c .enum-told5 .given .1))
+returns-5 c = absurd (c .before .before .before .before .pre .0 .no-measure (c .enum-told5 .given .1))
+
+returns-6 : tie.Need-returns-6
+returns-6 c = absurd (c .before .before .before .before .pre .0 .no-observe (c .enum-told6 .given .1))
+
+returns-7 : tie.Need-returns-7
+returns-7 c = absurd (c .before .before .before .before .pre .0 .no-renew (c .enum-told7 .given .1))
 
 pub rewrite-spec : {M : Type 1} → statement M
 rewrite-spec =
@@ -106,6 +118,8 @@ rewrite-spec =
     enum-told-4
     pivot-waiting-requires
     enum-told-5
+    enum-told-6
+    enum-told-7
     same-length
     same-length-2
     returns
@@ -118,4 +132,6 @@ rewrite-spec =
     same-length-7
     same-length-8
     returns-4
-    returns-5)
+    returns-5
+    returns-6
+    returns-7)

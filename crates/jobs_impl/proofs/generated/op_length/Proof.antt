@@ -24,8 +24,16 @@ returns-5 : tie.Need-returns-5
 unfolding opWord
 returns-5 c = search needs
 
+returns-6 : tie.Need-returns-6
+unfolding opWord
+returns-6 c = search needs
+
+returns-7 : tie.Need-returns-7
+unfolding opWord
+returns-7 c = search needs
+
 pub op-length-spec : {M : Type 1} → statement M
 op-length-spec =
     tie.close
     (tie.spec (λ c. search needs) (λ c. search needs) (λ c. search needs) (λ c. search needs) (λ c. search needs)
-    returns returns-2 returns-3 returns-4 returns-5)
+    (λ c. search needs) (λ c. search needs) returns returns-2 returns-3 returns-4 returns-5 returns-6 returns-7)

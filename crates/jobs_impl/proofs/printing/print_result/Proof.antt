@@ -1,10 +1,9 @@
 -- `print_result` meets its contract: the line of step k.
 use Rattle.jobs.proofs.ResultLaws.{length-step, length-three, line-parts, threeFields}
 use Rattle.jobs.specs.Results.{Result}
-use Rattle.jobs.specs.Text.{digits}
 use Rattle.text.proofs.HexLaws.{length-decimal, length-field}
 use Rattle.buffers.proofs.Writing.{and-then, same-print}
-use Rattle.text.specs.Text.{decimal, space}
+use Rattle.text.specs.Text.{digits, decimal, space}
 use borrow.Author.Needs.{needs}
 use lib.ListN.{length-append}
 use mathlib.Core.List.{_++_}

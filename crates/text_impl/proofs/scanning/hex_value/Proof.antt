@@ -1,7 +1,7 @@
 -- `hex_value` meets its contract: the value of a lower-case hexadecimal digit; 16 for any other byte.
 use borrow.Author.Tests.{lt-ltb, le-ltb}
 use borrow.Author.Needs.{needs}
-use Rattle.text.specs.internal.Scan.{hexValue}
+use Rattle.text.specs.Text.{hexValue}
 use Rattle.text_impl.proofs.scanning.hex_value.Statement.{statement}
 use Rattle.text_impl.proofs.scanning.hex_value.Tie as tie
 

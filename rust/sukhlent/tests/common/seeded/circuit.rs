@@ -1,7 +1,7 @@
 //! Clifford circuits, and what they make of basis states.
 
 use super::pauli::{letter_product, Pauli, X, Y, Z};
-use super::random::Random;
+use random::Random;
 
 /// A gate of a Clifford circuit.
 #[derive(Clone, Copy, Debug)]

@@ -1,6 +1,6 @@
 //! Records whose graphs fall into components.
 
-use super::random::Random;
+use random::Random;
 use sukhlent::Record;
 
 /// A record with components of these sizes: their vertices lie anywhere among the qubits, a path leads

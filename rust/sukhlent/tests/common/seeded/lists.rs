@@ -2,7 +2,7 @@
 
 use super::circuit::{stabilizers, Circuit};
 use super::pauli::Pauli;
-use super::random::Random;
+use random::Random;
 use sukhlent::GeneratorList;
 
 /// The list of the given generators.

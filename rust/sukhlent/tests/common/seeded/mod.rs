@@ -5,7 +5,6 @@ pub mod circuit;
 pub mod components;
 pub mod lists;
 pub mod pauli;
-pub mod random;
 pub mod records;
 
 pub use circuit::{stabilizers, Circuit, Gate};

@@ -1,6 +1,6 @@
 //! Random records.
 
-use super::random::Random;
+use random::Random;
 use sukhlent::Record;
 
 /// A record of n vertices: each edge with probability one half, and any codes.

@@ -1,0 +1,2 @@
+pub mod ReadCalls
+pub mod WriteCalls

@@ -1,0 +1,3 @@
+pub mod RowLines
+pub mod RowMeasurement
+pub mod internal

@@ -1,0 +1,3 @@
+// Texts of records judged and read.
+pub mod lines;
+pub mod reading;

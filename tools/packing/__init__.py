@@ -1,0 +1,1 @@
+"""How the files of a release are packed, the same bytes each time."""
