@@ -68,6 +68,11 @@ fn cut_prints_its_stored_output() {
 }
 
 #[test]
+fn durable_prints_its_stored_output() {
+    assert_prints_its_stored_output("durable");
+}
+
+#[test]
 fn generate_prints_its_stored_output_and_says_what_is_refused() {
     let program = compiled("generate");
     let answer = run(&program, &["64", "12", "1"]);
